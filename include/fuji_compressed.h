@@ -60,6 +60,13 @@ void fuji_write_block(const uint8_t *header, size_t header_length, const uint16_
                       size_t out_length, uint16_t *scratch, size_t scratch_length, fuji_record *records, size_t records_length,
                       size_t length[1], size_t refusal[4]);
 
+/* The length in bytes that no tight block under a lossless header exceeds: lines * 2304 * bits. Refusals 1, 2 and 8; then it is 0. */
+void fuji_length_bound(const uint8_t *header, size_t header_length, size_t length[1], size_t refusal[4]);
+
+/* The length that fuji_write_block would hand back, with no output to write to. It is refused as the writer is, but never by 13; then it is 0. */
+void fuji_measure_block(const uint8_t *header, size_t header_length, const uint16_t *samples, size_t samples_length, uint16_t *scratch,
+                        size_t scratch_length, fuji_record *records, size_t records_length, size_t length[1], size_t refusal[4]);
+
 /* The full sheet of short codes: every bit string of at most `length` bits (1 to 16) that is one tight lossless code for a depth of 12, 14 or 16 and
  * a k of 0 to 15, as 65536 * (its bits) + its value, by length and then by value. The count is that of the whole sheet, at most 32,768, and 0 where it
  * is refused (24). A list that is shorter than the sheet is left as it was, and so is the rest of a longer one. */

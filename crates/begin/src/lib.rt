@@ -10,11 +10,16 @@ ghost use Rattle.writing.specs.Sets.{setSize};
 ghost use Rattle.map.specs.Places.{widthOf};
 ghost use Rattle.begin.specs.Beginnings.{samplesNeeded, isShortScratch, withScratch, begun, withRegion, regionBegins, wholeOf, isWhole, withSize, imageBegins};
 ghost use Rattle.begin.specs.Beginnings.{withBlock, tightBegins, withSet, writingBegins, firstAbove};
+ghost use Rattle.bits.specs.BitLists.{blockBytes};
+ghost use Rattle.begin.specs.Counted.{lengthNext, nextOf};
+use bits::BitPosition;
 use region::Checked;
 use region::Rect;
+use stream::BlockLength;
 use stream::FujiHeader;
 use stream::Parsed;
 use stream::Refusal;
+use writing::Put;
 
 // How decoding begins: a refusal, nothing to do, or a stream with this header is read. The tight reading and the writer always have something to
 // do: they begin with a refusal or a header, as `Parsed` has them.
@@ -207,9 +212,48 @@ pub fn first_above(samples: &[u16], m: u32) -> usize
     i
 }
 
+// ---- a set whose bits were counted
+
+// What follows then: an answer, or the walk that stores the bits, which end here.
+pub enum Next {
+    Answer(BlockLength),
+    Store(BitPosition),
+}
+
+// The bytes of a tight block that has bits up to this position.
+pub fn block_bytes(at: BitPosition) -> usize
+    ensures { λ r. ⌜ r ≡ blockBytes (at .0) ⌝ }
+{
+    let end = at.block_bytes();
+    end.0
+}
+
 // Refusal 13, for a block of so many bytes.
-pub fn is_short(room: usize, needed: usize) -> bool
+fn is_short(room: usize, needed: usize) -> bool
     ensures { λ r. ⌜ r ≡ ltb room needed ⌝ }
 {
     room < needed
+}
+
+fn length_next(end: BitPosition, measure: bool, room: usize) -> Next
+    ensures { λ r. ⌜ r ≡ lengthNext end measure room ⌝ }
+{
+    let needed = block_bytes(end);
+    if measure {
+        return Next::Answer(BlockLength::Length(needed));
+    }
+    if is_short(room, needed) {
+        return Next::Answer(BlockLength::Refused(Refusal::ShortOutput));
+    }
+    Next::Store(end)
+}
+
+// Refusal 12 comes first. A set that is only measured needs no room for its block.
+pub fn after_counting(counted: Put, measure: bool, room: usize) -> Next
+    ensures { λ r. ⌜ r ≡ nextOf counted measure room ⌝ }
+{
+    match counted {
+        Put::Wrong(j) => Next::Answer(BlockLength::Refused(Refusal::NotPredicted(j))),
+        Put::At(end) => length_next(end, measure, room),
+    }
 }

@@ -3,9 +3,9 @@ use borrow.Author.Tests.{lt-ltb, le-ltb, le-leb, lt-leb, ltb-false}
 use mathlib.Core.Bool.{Bool, true, false, cond}
 use mathlib.Core.List.{List, [], _∷_, _++_}
 use mathlib.Core.Option.{Option, none, some}
-use mathlib.Core.Path.{_≡_, refl, sym, ap, _∙_}
+use mathlib.Core.Path.{_≡_, refl, sym, ap, _∙_, subst}
 use Prim.Native.Nat.{ℕ, zero, suc, _+_, _-_, _≤_, _<_}
-use native.Mathlib.Nat.{zero-add}
+use native.Mathlib.Nat.{zero-add, le-refl}
 use native.Mathlib.Omega.{arith}
 use lib.Dec.{ltb}
 use lib.ListN.{length, drop, replicate, length-replicate}
@@ -15,19 +15,22 @@ use Rattle.bits.specs.BitLists.{packed, bytesFor, blockBytes, filled, bytesOf}
 use Rattle.bits.proofs.PackLaws.{length-packed, packed-more}
 use Rattle.numbers.proofs.OrderLaws.{split}
 use Rattle.quantiser.specs.Quantisers.{largest}
+use Rattle.stream.specs.declared.BlockLength.{BlockLength}
+use Rattle.stream.specs.declared.BlockLength.the-variants.{Length, Refused}
+use Rattle.stream.specs.declared.Refusal.{Refusal}
 use Rattle.stream.specs.declared.Refusal.the-variants.{AboveLargest, NotPredicted, ShortOutput}
 use Rattle.map.specs.Places.{widthOf}
 use Rattle.writing.specs.Sets.{setSize}
 use Rattle.output.specs.Output.{putBits}
 use Rattle.writing.specs.Puts.{Room, Within}
 use Rattle.begin.specs.Beginnings.{firstAbove}
+use Rattle.begin.specs.Counted.{nextOf}
+use Rattle.begin.specs.declared.Next.the-variants.{Answer, Store}
 use Rattle.writing.specs.declared.Put.{Put}
 use Rattle.writing.specs.declared.Put.the-variants.{At, Wrong}
 use Rattle.block.specs.WrittenBlocks.{writeLines, tightBlock, FitSet}
-use Rattle.block.specs.WrittenAnswers.{IsSetPut, SetWritten, predictedAnswer, rangeAnswer, measuredAnswer, writtenAnswer}
+use Rattle.block.specs.WrittenAnswers.{IsSetPut, SetWritten, predictedAnswer, rangeAnswer, measuredAnswer, writtenAnswer, roomFor, outputOf}
 use Rattle.block.specs.declared.Form.{Form}
-use Rattle.block.specs.declared.Written.{Written}
-use Rattle.block.specs.declared.Written.the-variants.{Length, Refused}
 
 -- ---- samples within M
 
@@ -79,65 +82,118 @@ fill-all out l =
 clash : {X : Type 0} (at : BitPosition) (j : ℕ) → At at ≡ Wrong j → X
 clash at j e = let no : _≡_ {A = ℕ} 0 1 = cc in absurd (omega arith)
 
+-- a refusal leaves the output as it was
+pub refused-out : (measure : Bool) (x : Refusal) (block out : List ℕ) → out ≡ outputOf measure (Refused x) block out
+refused-out true x block out = refl
+refused-out false x block out = refl
+
 module _ (F : Form) (count : ℕ) (t out : List ℕ) where
-  -- a measured set with a wrong sample
-  pub measured-wrong : (out₁ : List ℕ) (r : Put) (i : ℕ) → SetWritten (writeLines F t count) false out out₁ r → r ≡ Wrong i
-      → (Refused (NotPredicted i) ≡ measuredAnswer F count t (length out)) × (out₁ ≡ out)
+  -- a set with a wrong sample, whose bits were counted
+  counted-wrong : (out₁ : List ℕ) (i room : ℕ) → SetWritten (writeLines F t count) false out out₁ (Wrong i)
+      → (Refused (NotPredicted i) ≡ measuredAnswer F count t room) × (out₁ ≡ out)
   unfolding measuredAnswer
-  measured-wrong out₁ r i s is = go ((writeLines F t count) .wrong) refl (s .are)
+  counted-wrong out₁ i room s = go ((writeLines F t count) .wrong) refl (s .are)
     where
-      go : (o : Option ℕ) → (writeLines F t count) .wrong ≡ o → IsSetPut o (writeLines F t count) false out out₁ r
-          → (Refused (NotPredicted i) ≡ measuredAnswer F count t (length out)) × (out₁ ≡ out)
-      go none e p = clash _ i (sym (p .0) ∙ is)
-      go (some j) e p = let f : Wrong j ≡ Wrong i = sym (p .0) ∙ is in let q : j ≡ i = cc in (rw (e, q), p .1 refl)
+      go : (o : Option ℕ) → (writeLines F t count) .wrong ≡ o → IsSetPut o (writeLines F t count) false out out₁ (Wrong i)
+          → (Refused (NotPredicted i) ≡ measuredAnswer F count t room) × (out₁ ≡ out)
+      go none e p = clash _ i (sym (p .0))
+      go (some j) e p = let f : Wrong i ≡ Wrong j = p .0 in let q : i ≡ j = cc in (rw (e, q), p .1 refl)
 
   -- and with none
-  pub record Measured (out₁ : List ℕ) (end : BitPosition) : Type 0 where
+  pub record Counted (out₁ : List ℕ) (end : BitPosition) : Type 0 where
     pub right : (writeLines F t count) .wrong ≡ none
     pub position : end .0 ≡ length ((writeLines F t count) .bits)
     pub kept : out₁ ≡ out
 
-  pub measured-right : (out₁ : List ℕ) (r : Put) (end : BitPosition) → SetWritten (writeLines F t count) false out out₁ r → r ≡ At end → Measured out₁ end
-  measured-right out₁ r end s is = go ((writeLines F t count) .wrong) refl (s .are)
+  counted-right : (out₁ : List ℕ) (end : BitPosition) → SetWritten (writeLines F t count) false out out₁ (At end) → Counted out₁ end
+  counted-right out₁ end s = go ((writeLines F t count) .wrong) refl (s .are)
     where
-      go : (o : Option ℕ) → (writeLines F t count) .wrong ≡ o → IsSetPut o (writeLines F t count) false out out₁ r → Measured out₁ end
+      go : (o : Option ℕ) → (writeLines F t count) .wrong ≡ o → IsSetPut o (writeLines F t count) false out out₁ (At end) → Counted out₁ end
       go none e p =
-          let f : At end ≡ At (record { 0 = length ((writeLines F t count) .bits) }) = sym is ∙ p .0 in
+          let f : At end ≡ At (record { 0 = length ((writeLines F t count) .bits) }) = p .0 in
           let q : end ≡ record { 0 = length ((writeLines F t count) .bits) } = cc in
           record { right = e; position = ap (λ (a : BitPosition). a .0) q; kept = p .1 }
-      go (some j) e p = clash end j (sym is ∙ p .0)
+      go (some j) e p = clash end j (p .0)
 
-  module _ (out₁ : List ℕ) (end : BitPosition) (k : Measured out₁ end) (n : ℕ) (en : n ≡ blockBytes (end .0)) where
-    needed : n ≡ length (tightBlock F count t)
-    needed = en ∙ rw (k .position) (sym (block-length F count t))
+  needed : (out₁ : List ℕ) (end : BitPosition) → Counted out₁ end → blockBytes (end .0) ≡ length (tightBlock F count t)
+  needed out₁ end k = rw (k .position) (sym (block-length F count t))
 
-    pub measured-short : (b : Bool) → b ≡ ltb (length out₁) n → b ≡ true → Refused ShortOutput ≡ measuredAnswer F count t (length out)
+  -- ---- what is answered after counting, for a set that is only measured or not
+
+  abbrev pub Answered : Bool → BlockLength → List ℕ → Type 0
+  Answered measure a out' =
+      (a ≡ measuredAnswer F count t (roomFor measure (tightBlock F count t) out)) × (out' ≡ outputOf measure a (tightBlock F count t) out)
+
+  module _ (out₁ : List ℕ) (end : BitPosition) (k : Counted out₁ end) where
+    -- a measured set has room for just its block
+    answered-length : Answered true (Length (blockBytes (end .0))) out₁
     unfolding measuredAnswer
-    measured-short b eb h =
-        let e : ltb (length out) (length (tightBlock F count t)) ≡ true = rw (k .kept, needed) at (sym eb ∙ h) in
-        rw (k .right, e)
+    answered-length =
+        let n : ℕ = length (tightBlock F count t) in
+        (rw (k .right, needed out₁ end k, le-ltb n n (le-refl n)), k .kept)
 
-    -- there is room for the block
-    long-enough : (b : Bool) → b ≡ ltb (length out₁) n → b ≡ false → length (tightBlock F count t) ≤ length out
-    long-enough b eb h = let e : ltb (length out₁) n ≡ false = sym eb ∙ h in omega (arith, ltb-false (length out₁) n e, needed, ap length (k .kept))
+    answered-short : ltb (length out₁) (blockBytes (end .0)) ≡ true → Answered false (Refused ShortOutput) out₁
+    unfolding measuredAnswer
+    answered-short e =
+        let f : ltb (length out) (length (tightBlock F count t)) ≡ true = rw (k .kept, needed out₁ end k) at e in
+        (rw (k .right, f), k .kept)
 
-    pub measured-room : (b : Bool) → b ≡ ltb (length out₁) n → b ≡ false → Room true out₁ 0 ((writeLines F t count) .bits)
-    measured-room b eb h e = omega (arith, long-enough b eb h, block-length F count t, ap length (k .kept))
+  pub next-answer : (out₁ : List ℕ) (r : Put) (measure : Bool) (a : BlockLength) → SetWritten (writeLines F t count) false out out₁ r
+      → nextOf r measure (length out₁) ≡ Answer a → Answered measure a out₁
+  next-answer out₁ (Wrong i) measure a s e =
+      let q : Refused (NotPredicted i) ≡ a = cc in
+      let w = counted-wrong out₁ i (roomFor measure (tightBlock F count t) out) s in
+      subst (λ (x : BlockLength). Answered measure x out₁) q (w .0, w .1 ∙ refused-out measure (NotPredicted i) (tightBlock F count t) out)
+  next-answer out₁ (At end) measure a s e = go measure (ltb (length out₁) (blockBytes (end .0))) refl e
+    where
+      k : Counted out₁ end
+      k = counted-right out₁ end s
 
-    pub measured-stored : (b : Bool) → b ≡ ltb (length out₁) n → b ≡ false → (out₂ : List ℕ) (r₂ : Put) → SetWritten (writeLines F t count) true out₁ out₂ r₂
-        → (out₃ : List ℕ) → out₃ ≡ filled (end .0) out₂ → (Length n ≡ measuredAnswer F count t (length out)) × (out₃ ≡ tightBlock F count t ++ drop n out)
+      go : (m b : Bool) → ltb (length out₁) (blockBytes (end .0)) ≡ b
+          → cond m (Answer (Length (blockBytes (end .0)))) (cond b (Answer (Refused ShortOutput)) (Store end)) ≡ Answer a → Answered m a out₁
+      go true b eb f = let q : Length (blockBytes (end .0)) ≡ a = cc in subst (λ (x : BlockLength). Answered true x out₁) q (answered-length out₁ end k)
+      go false true eb f = let q : Refused ShortOutput ≡ a = cc in subst (λ (x : BlockLength). Answered false x out₁) q (answered-short out₁ end k eb)
+      go false false eb f = let no : _≡_ {A = ℕ} 0 1 = cc in absurd (omega arith)
+
+  -- ---- what is stored then
+
+  pub record Stores (measure : Bool) (out₁ : List ℕ) (end : BitPosition) : Type 0 where
+    pub counted : Counted out₁ end
+    pub writes : measure ≡ false
+    pub room : blockBytes (end .0) ≤ length out₁
+
+  pub next-store : (out₁ : List ℕ) (r : Put) (measure : Bool) (end : BitPosition) → SetWritten (writeLines F t count) false out out₁ r
+      → nextOf r measure (length out₁) ≡ Store end → Stores measure out₁ end
+  next-store out₁ (Wrong i) measure end s e = let no : _≡_ {A = ℕ} 0 1 = cc in absurd (omega arith)
+  next-store out₁ (At at) measure end s e = go measure refl (ltb (length out₁) (blockBytes (at .0))) refl e
+    where
+      go : (m : Bool) → measure ≡ m → (b : Bool) → ltb (length out₁) (blockBytes (at .0)) ≡ b
+          → cond m (Answer (Length (blockBytes (at .0)))) (cond b (Answer (Refused ShortOutput)) (Store at)) ≡ Store end → Stores measure out₁ end
+      go true em b eb f = let no : _≡_ {A = ℕ} 0 1 = cc in absurd (omega arith)
+      go false em true eb f = let no : _≡_ {A = ℕ} 0 1 = cc in absurd (omega arith)
+      go false em false eb f =
+          let q : at ≡ end = cc in
+          subst (λ (x : BitPosition). Stores measure out₁ x) q
+          (record { counted = counted-right out₁ at s; writes = em; room = ltb-false (length out₁) (blockBytes (at .0)) eb })
+
+  module _ (measure : Bool) (out₁ : List ℕ) (end : BitPosition) (k : Stores measure out₁ end) where
+    -- there is room for the bits
+    pub store-room : Room true out₁ 0 ((writeLines F t count) .bits)
+    store-room e = omega (arith, k .room, k .counted .position)
+
+    pub stored : (out₂ : List ℕ) (r₂ : Put) → SetWritten (writeLines F t count) true out₁ out₂ r₂ → (out₃ : List ℕ) → out₃ ≡ filled (end .0) out₂
+        → (n : ℕ) → n ≡ blockBytes (end .0) → Answered measure (Length n) out₃
     unfolding measuredAnswer tightBlock
-    measured-stored b eb h out₂ r₂ s out₃ e =
+    stored out₂ r₂ s out₃ e n en =
+        let c = k .counted in
         let l : List Bool = (writeLines F t count) .bits in
-        let p : IsSetPut none (writeLines F t count) true out₁ out₂ r₂ = rw (k .right) at (s .are) in
-        let f : blockBytes (length l) ≡ n = sym (en ∙ rw (k .position)) in (
-          rw (k .right, le-ltb (length out) (length (tightBlock F count t)) (long-enough b eb h), needed),
-          e ∙ rw (k .position, p .1) (fill-all out₁ l ∙ rw (k .kept, f)),
+        let p : IsSetPut none (writeLines F t count) true out₁ out₂ r₂ = rw (c .right) at (s .are) in
+        let f : blockBytes (length l) ≡ n = sym (en ∙ rw (c .position)) in
+        let room : length (tightBlock F count t) ≤ length out = omega (arith, k .room, needed out₁ end c, ap length (c .kept)) in
+        rw (k .writes) (
+          rw (c .right, le-ltb (length out) (length (tightBlock F count t)) room, en ∙ needed out₁ end c),
+          e ∙ rw (c .position, p .1) (fill-all out₁ l ∙ rw (c .kept, f)),
         )
-
-    -- there is room for the filling too
-    pub filling-room : (b : Bool) → b ≡ ltb (length out₁) n → b ≡ false → blockBytes (end .0) ≤ length out₁
-    filling-room b eb h = let e : ltb (length out₁) n ≡ false = sym eb ∙ h in omega (arith, ltb-false (length out₁) n e)
 
 -- ---- the answer for any set
 
@@ -155,7 +211,7 @@ module _ (F : Form) (count : ℕ) (t : List ℕ) (room m i : ℕ) (em : m ≡ la
   pub set-within : length t ≤ i → Within (largest (F .bits)) t
   set-within h = none-within (largest (F .bits)) 0 t (no-first h)
 
-  pub set-answer : length t ≤ i → (a : Written) → a ≡ measuredAnswer F count t room → a ≡ writtenAnswer F count t room
+  pub set-answer : length t ≤ i → (a : BlockLength) → a ≡ measuredAnswer F count t room → a ≡ writtenAnswer F count t room
   unfolding writtenAnswer
   set-answer h a e = e ∙ rw (no-first h)
 

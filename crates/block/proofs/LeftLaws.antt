@@ -1,6 +1,6 @@
 -- What a call leaves, by how it begins; the form of its header; and scratch of which the first part is lent. Assumes nothing.
 use borrow.Rule.Slice.PartMut.{putMid}
-use mathlib.Core.Bool.{Bool}
+use mathlib.Core.Bool.{Bool, true, false}
 use mathlib.Core.List.{List}
 use mathlib.Core.Path.{_≡_, refl}
 use Prim.Native.Nat.{ℕ, _-_}
@@ -10,6 +10,8 @@ use Rattle.lines.specs.ColourLines.{zeroLines}
 use Rattle.map.specs.Places.{widthOf}
 use Rattle.steps.specs.Values.{Depth}
 use Rattle.stream.specs.Headers.{Ruled}
+use Rattle.stream.specs.declared.BlockLength.{BlockLength}
+use Rattle.stream.specs.declared.BlockLength.the-variants as Block
 use Rattle.stream.specs.declared.FujiHeader.{FujiHeader}
 use Rattle.stream.specs.declared.Parsed.{Parsed}
 use Rattle.stream.specs.declared.Parsed.the-variants as Parsing
@@ -22,12 +24,11 @@ use Rattle.block.specs.Images.{formOf, Decoding, Left}
 use Rattle.block.specs.Lent.{Buffers, Scratch, Outputs, ScratchOf, clearedLines, clearedRecords}
 use Rattle.block.specs.Records.{clearRecords}
 use Rattle.block.specs.TightReadings.{TightReading, LeftTight}
-use Rattle.block.specs.WrittenAnswers.{SetWriting, LeftWritten}
+use Rattle.block.specs.WrittenAnswers.{writtenAnswer, exactAnswer, roomFor, outputOf, LeftBy}
+use Rattle.block.specs.WrittenBlocks.{tightBlock}
 use Rattle.block.specs.declared.Decoded.{Decoded}
 use Rattle.block.specs.declared.Decoded.the-variants.{Done, Refused}
 use Rattle.block.specs.declared.Form.{Form}
-use Rattle.block.specs.declared.Written.{Written}
-use Rattle.block.specs.declared.Written.the-variants as Write
 
 -- ---- by how a call begins
 
@@ -51,12 +52,18 @@ module _ (d : List ℕ) (b : ℕ) (before : Scratch) (begins : Parsed) where
   tight-reading h e after a l = rw e l
 
 module _ (t : List ℕ) (before : Outputs) (begins : Parsed) where
-  pub written-refused : (x : Refusal) → begins ≡ Parsing.Refused x → LeftWritten t begins before before (Write.Refused x)
-  written-refused x e = rw e (refl, refl)
+  pub written-refused : (measure : Bool) (x : Refusal) → begins ≡ Parsing.Refused x → LeftBy measure t begins before before (Block.Refused x)
+  written-refused true x e = rw e ((refl, refl), refl)
+  written-refused false x e = rw e (refl, refl)
 
-  pub written-set : (h : FujiHeader) → begins ≡ Parsing.Header h → (after : Outputs) (a : Written) → SetWriting t h before after a
-      → LeftWritten t begins before after a
-  written-set h e after a l = rw e l
+  pub written-set : (measure : Bool) (h : FujiHeader) → begins ≡ Parsing.Header h → (after : Outputs) (a : BlockLength)
+      → let block = tightBlock (formOf h) (h .lines) t in
+      a ≡ writtenAnswer (formOf h) (h .lines) t (roomFor measure block (before .out)) → after .out ≡ outputOf measure a block (before .out)
+      → after .lines ≡ clearedLines (h .xtrans) (before .lines) → after .records ≡ clearedRecords (before .records) → LeftBy measure t begins before after a
+  unfolding exactAnswer
+  written-set true h e after a answered output lines records = rw e (record { answered = answered; lines = lines; records = records }, output)
+  written-set false h e after a answered output lines records =
+      rw e (record { answered = answered; output = output; lines = lines; records = records })
 
 -- ---- the form of a header
 

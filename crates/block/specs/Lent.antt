@@ -16,7 +16,7 @@ pub record Buffers : Type 0 where
   pub lines : List ℕ
   pub records : List Record
 
--- the tight reading is lent scratch alone
+-- the tight reading and measuring are lent scratch alone
 pub record Scratch : Type 0 where
   pub lines : List ℕ
   pub records : List Record
@@ -26,6 +26,9 @@ pub record Outputs : Type 0 where
   pub out : List ℕ
   pub lines : List ℕ
   pub records : List Record
+
+abbrev pub scratchOf : Outputs → Scratch
+scratchOf o = record { lines = o .lines; records = o .records }
 
 -- the part of scratch that a block is read or written with
 abbrev pub ScratchOf : Bool → List ℕ → List Record → Type 0

@@ -1,19 +1,19 @@
 -- Answers as numbers, as a caller in C gets them. Assumes nothing.
-use mathlib.Core.List.{List, [], _∷_}
+use mathlib.Core.List.{List}
 use mathlib.Core.Path.{_≡_}
 use Prim.Native.Nat.{ℕ}
 use lib.ListN.{length}
+use Rattle.stream.specs.Lengths.{lengthWord, lengthRefusal}
 use Rattle.stream.specs.Refusals.{refusalWords, noRefusal}
+use Rattle.stream.specs.declared.BlockLength.{BlockLength}
 use Rattle.region.specs.declared.Rect.{Rect}
 use Rattle.begin.specs.Beginnings.{tightBegins, writingBegins}
 use Rattle.begin.specs.declared.Beginning.{Beginning}
 use Rattle.block.specs.Images.{Left}
 use Rattle.block.specs.Lent.{Buffers, Scratch, Outputs}
 use Rattle.block.specs.TightReadings.{LeftTight}
-use Rattle.block.specs.WrittenAnswers.{LeftWritten}
+use Rattle.block.specs.WrittenAnswers.{LeftWritten, LeftMeasured}
 use Rattle.block.specs.declared.Decoded.{Decoded}
-use Rattle.block.specs.declared.Written.{Written}
-use Rattle.block.specs.declared.Written.the-variants as Write
 use Rattle.block.specs.declared.Decoded.the-variants.{Done, Refused}
 
 abbrev pub answerWords : Decoded → List ℕ
@@ -31,17 +31,15 @@ pub record ToldTight (d : List ℕ) (b : ℕ) (before after : Scratch) (words : 
   pub left : LeftTight d b (tightBegins d b (length (before .lines)) (length (before .records))) before after answer
   pub told : words ≡ answerWords answer
 
--- the writer's: the length, 0 where it is refused
-abbrev pub writtenWords : Written → List ℕ
-writtenWords (Write.Length n) = n ∷ []
-writtenWords (Write.Refused r) = 0 ∷ []
-
-abbrev pub writtenRefusal : Written → List ℕ
-writtenRefusal (Write.Length n) = noRefusal
-writtenRefusal (Write.Refused r) = refusalWords r
-
+-- the writer's, with the length, 0 where it is refused
 pub record ToldWritten (d t : List ℕ) (before after : Outputs) (size words : List ℕ) : Type 0 where
-  pub answer : Written
+  pub answer : BlockLength
   pub left : LeftWritten t (writingBegins d (length t) (length (before .lines)) (length (before .records))) before after answer
-  pub told-size : size ≡ writtenWords answer
-  pub told : words ≡ writtenRefusal answer
+  pub told-size : size ≡ lengthWord answer
+  pub told : words ≡ lengthRefusal answer
+
+pub record ToldMeasured (d t : List ℕ) (before after : Scratch) (size words : List ℕ) : Type 0 where
+  pub answer : BlockLength
+  pub left : LeftMeasured t (writingBegins d (length t) (length (before .lines)) (length (before .records))) before after answer
+  pub told-size : size ≡ lengthWord answer
+  pub told : words ≡ lengthRefusal answer

@@ -1,4 +1,4 @@
--- What a call of the writer answers and leaves. Assumes nothing.
+-- What a call of the writer answers and leaves, and a call that only measures. Assumes nothing.
 use mathlib.Core.Bool.{Bool, true, false, cond}
 use mathlib.Core.List.{List, [], _++_}
 use mathlib.Core.Option.{Option, none, some}
@@ -8,6 +8,8 @@ use lib.Dec.{ltb}
 use lib.ListN.{length, drop}
 use Rattle.statistics.specs.declared.Record.{Record}
 use Rattle.quantiser.specs.Quantisers.{largest}
+use Rattle.stream.specs.declared.BlockLength.{BlockLength}
+use Rattle.stream.specs.declared.BlockLength.the-variants.{Length, Refused}
 use Rattle.stream.specs.declared.FujiHeader.{FujiHeader}
 use Rattle.stream.specs.declared.Parsed.{Parsed}
 use Rattle.stream.specs.declared.Parsed.the-variants as Parsing
@@ -17,11 +19,9 @@ use Rattle.begin.specs.Beginnings.{firstAbove}
 use Rattle.writing.specs.declared.Put.{Put}
 use Rattle.writing.specs.declared.Put.the-variants.{At, Wrong}
 use Rattle.block.specs.Images.{formOf}
-use Rattle.block.specs.Lent.{Outputs, clearedLines, clearedRecords}
+use Rattle.block.specs.Lent.{Outputs, Scratch, scratchOf, clearedLines, clearedRecords}
 use Rattle.block.specs.WrittenBlocks.{WriteState, repeats, writePassAt, writeLines, tightBlock}
 use Rattle.block.specs.declared.Form.{Form}
-use Rattle.block.specs.declared.Written.{Written}
-use Rattle.block.specs.declared.Written.the-variants.{Length, Refused}
 
 -- ---- what the functions below the entry hand back
 
@@ -50,42 +50,72 @@ pub record SetWritten (z : WriteState) (store : Bool) (out out' : List ℕ) (r :
 -- ---- the answer
 
 -- refusal 13, or the length of the tight block
-abbrev pub lengthAnswer : ℕ → ℕ → Written
+abbrev pub lengthAnswer : ℕ → ℕ → BlockLength
 lengthAnswer n room = cond (ltb room n) (Refused ShortOutput) (Length n)
 
 -- refusal 12 before it
-abbrev pub predictedAnswer : Option ℕ → ℕ → ℕ → Written
+abbrev pub predictedAnswer : Option ℕ → ℕ → ℕ → BlockLength
 predictedAnswer none n room = lengthAnswer n room
 predictedAnswer (some j) n room = Refused (NotPredicted j)
 
 -- refusal 11 before that
-abbrev pub rangeAnswer : Option ℕ → Written → Written
+abbrev pub rangeAnswer : Option ℕ → BlockLength → BlockLength
 rangeAnswer none a = a
 rangeAnswer (some i) a = Refused (AboveLargest i)
 
 -- the answer for a set t whose samples are all in range, with so many bytes of output
-unfoldable pub measuredAnswer : Form → ℕ → List ℕ → ℕ → Written
+unfoldable pub measuredAnswer : Form → ℕ → List ℕ → ℕ → BlockLength
 measuredAnswer F lines t room = predictedAnswer ((writeLines F t lines) .wrong) (length (tightBlock F lines t)) room
 
 -- the answer for any set t of the right size
-unfoldable pub writtenAnswer : Form → ℕ → List ℕ → ℕ → Written
+unfoldable pub writtenAnswer : Form → ℕ → List ℕ → ℕ → BlockLength
 writtenAnswer F lines t room = rangeAnswer (firstAbove (largest (F .bits)) 0 t) (measuredAnswer F lines t room)
 
+-- the answer for a set that is only measured: that of the writer with an output of exactly the block's length
+unfoldable pub exactAnswer : Form → ℕ → List ℕ → BlockLength
+exactAnswer F lines t = writtenAnswer F lines t (length (tightBlock F lines t))
+
 -- the output afterwards: the tight block and what follows it, or what it was
-abbrev pub writtenOut : Written → List ℕ → List ℕ → List ℕ
+abbrev pub writtenOut : BlockLength → List ℕ → List ℕ → List ℕ
 writtenOut (Length n) block out = block ++ drop n out
 writtenOut (Refused x) block out = out
 
 -- ---- a call
 
 -- what a call leaves that writes the set t under this header
-pub record SetWriting (t : List ℕ) (h : FujiHeader) (before after : Outputs) (answer : Written) : Type 0 where
+pub record SetWriting (t : List ℕ) (h : FujiHeader) (before after : Outputs) (answer : BlockLength) : Type 0 where
   pub answered : answer ≡ writtenAnswer (formOf h) (h .lines) t (length (before .out))
   pub output : after .out ≡ writtenOut answer (tightBlock (formOf h) (h .lines) t) (before .out)
   pub lines : after .lines ≡ clearedLines (h .xtrans) (before .lines)
   pub records : after .records ≡ clearedRecords (before .records)
 
 -- what a call leaves, by how it begins
-abbrev pub LeftWritten : List ℕ → Parsed → (before after : Outputs) → Written → Type 0
+abbrev pub LeftWritten : List ℕ → Parsed → (before after : Outputs) → BlockLength → Type 0
 LeftWritten t (Parsing.Refused x) before after answer = (answer ≡ Refused x) × (after ≡ before)
 LeftWritten t (Parsing.Header h) before after answer = SetWriting t h before after answer
+
+-- ---- a call that only measures
+
+pub record SetMeasuring (t : List ℕ) (h : FujiHeader) (before after : Scratch) (answer : BlockLength) : Type 0 where
+  pub answered : answer ≡ exactAnswer (formOf h) (h .lines) t
+  pub lines : after .lines ≡ clearedLines (h .xtrans) (before .lines)
+  pub records : after .records ≡ clearedRecords (before .records)
+
+abbrev pub LeftMeasured : List ℕ → Parsed → (before after : Scratch) → BlockLength → Type 0
+LeftMeasured t (Parsing.Refused x) before after answer = (answer ≡ Refused x) × (after ≡ before)
+LeftMeasured t (Parsing.Header h) before after answer = SetMeasuring t h before after answer
+
+-- ---- the functions below both
+
+-- the room that counts for a block, and the output afterwards, where a set is only measured and where it is not
+abbrev pub roomFor : Bool → (block out : List ℕ) → ℕ
+roomFor true block out = length block
+roomFor false block out = length out
+
+abbrev pub outputOf : Bool → BlockLength → (block out : List ℕ) → List ℕ
+outputOf true answer block out = out
+outputOf false answer block out = writtenOut answer block out
+
+abbrev pub LeftBy : Bool → List ℕ → Parsed → (before after : Outputs) → BlockLength → Type 0
+LeftBy true t begins before after answer = LeftMeasured t begins (scratchOf before) (scratchOf after) answer × (after .out ≡ before .out)
+LeftBy false t begins before after answer = LeftWritten t begins before after answer

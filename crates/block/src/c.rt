@@ -4,12 +4,12 @@ ghost use lib.ListN.{length};
 ghost use Rattle.region.specs.declared.Rect.{Rect};
 ghost use Rattle.begin.specs.Beginnings.{regionBegins, wholeOf, imageBegins};
 ghost use Rattle.block.specs.Lent.{Buffers, Scratch, Outputs};
-ghost use Rattle.block.specs.Words.{answerWords, Told, ToldTight, writtenWords, writtenRefusal, ToldWritten};
+ghost use Rattle.block.specs.Words.{answerWords, Told, ToldTight, ToldWritten, ToldMeasured};
 use crate::Decoded;
-use crate::Written;
 use crate::decoding::decode;
 use crate::decoding::decode_region;
 use crate::tight::read_tight;
+use crate::writer::measure_block;
 use crate::writer::write_block;
 use region::Rect;
 use statistics::Record;
@@ -99,25 +99,6 @@ pub extern "C" fn fuji_read_tight(
     *refusal = w;
 }
 
-// The length of a block that was written, 0 where it is refused.
-fn written_words(a: Written) -> [usize; 1]
-    ensures { λ w. ⌜ w ≡ writtenWords a ⌝ }
-{
-    match a {
-        Written::Length(n) => [n],
-        Written::Refused(r) => [0],
-    }
-}
-
-fn written_refusal(a: Written) -> [usize; 4]
-    ensures { λ w. ⌜ w ≡ writtenRefusal a ⌝ }
-{
-    match a {
-        Written::Length(n) => [0; 4],
-        Written::Refused(r) => stream::refusal_words(r),
-    }
-}
-
 // `write_block` for C.
 #[no_mangle]
 pub extern "C" fn fuji_write_block(
@@ -135,8 +116,30 @@ pub extern "C" fn fuji_write_block(
         ⌜ ToldWritten (now (header .entry)) (now (samples .entry)) before after (now (size .exit)) (now (refusal .exit)) ⌝ }
 {
     let a = write_block(header, samples, out, lines, rs);
-    let n = written_words(a);
-    let w = written_refusal(a);
+    let n = stream::length_word(a);
+    let w = stream::length_refusal(a);
+    *size = n;
+    *refusal = w;
+}
+
+// `measure_block` for C.
+#[no_mangle]
+pub extern "C" fn fuji_measure_block(
+    header: &[u8],
+    samples: &[u16],
+    lines: &mut [u16],
+    rs: &mut [Record],
+    size: &mut [usize; 1],
+    refusal: &mut [usize; 4],
+)
+    ensures { λ _.
+        let before : Scratch = record { lines = now (lines .entry); records = now (rs .entry) } in
+        let after : Scratch = record { lines = now (lines .exit); records = now (rs .exit) } in
+        ⌜ ToldMeasured (now (header .entry)) (now (samples .entry)) before after (now (size .exit)) (now (refusal .exit)) ⌝ }
+{
+    let a = measure_block(header, samples, lines, rs);
+    let n = stream::length_word(a);
+    let w = stream::length_refusal(a);
     *size = n;
     *refusal = w;
 }

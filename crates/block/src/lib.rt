@@ -18,6 +18,7 @@ pub use decoding::decode_region;
 pub use decoding::decode_region_alone;
 pub use reading::walk_alone;
 pub use tight::read_tight;
+pub use writer::measure_block;
 pub use writer::write_block;
 
 pub struct Form {
@@ -41,12 +42,6 @@ pub enum Walked {
 // What decoding answers.
 pub enum Decoded {
     Done,
-    Refused(Refusal),
-}
-
-// What the writer answers: the length of the block, or a refusal.
-pub enum Written {
-    Length(usize),
     Refused(Refusal),
 }
 

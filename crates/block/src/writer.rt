@@ -1,4 +1,4 @@
-// The writer: a set of colour lines becomes the tight block.
+// The writer: a set of colour lines becomes the tight block, or is only measured.
 ghost use mathlib.Core.Path.{_≡_};
 ghost use Prim.Native.Nat.{_+_, _*_, _^_, _≤_, _<_};
 ghost use lib.ListN.{length};
@@ -6,17 +6,16 @@ ghost use Rattle.lines.specs.ColourLines.{zeroLines};
 ghost use Rattle.map.specs.Places.{widthOf};
 ghost use Rattle.steps.specs.Values.{Depth};
 ghost use Rattle.quantiser.specs.Quantisers.{largest};
-ghost use Rattle.bits.specs.BitLists.{blockBytes};
 ghost use Rattle.writing.specs.Sets.{lineSize, setSize};
 ghost use Rattle.writing.specs.Puts.{Room, Within};
 ghost use Rattle.block.specs.Records.{clearRecords};
 ghost use Rattle.block.specs.Blocks.{AllInRange};
 ghost use Rattle.begin.specs.Beginnings.{writingBegins};
-ghost use Rattle.block.specs.Lent.{Outputs, ScratchOf};
+ghost use Rattle.block.specs.Lent.{Outputs, Scratch, ScratchOf};
 ghost use Rattle.block.specs.WrittenBlocks.{writeLines, tightBlock};
-ghost use Rattle.block.specs.WrittenAnswers.{passesFrom, LineWritten, SetWritten, measuredAnswer, writtenAnswer, writtenOut, LeftWritten};
+ghost use Rattle.block.specs.WrittenAnswers.{passesFrom, LineWritten, SetWritten, measuredAnswer, writtenAnswer, roomFor, outputOf};
+ghost use Rattle.block.specs.WrittenAnswers.{LeftWritten, LeftMeasured, LeftBy};
 use crate::Form;
-use crate::Written;
 use crate::form_of;
 use crate::records::clear_records;
 use crate::records::load_set;
@@ -24,22 +23,15 @@ use crate::records::restart;
 use crate::records::start_records;
 use crate::records::store_set;
 use crate::tight::line_count;
+use begin::Next;
 use begin::first_above;
-use begin::is_short;
 use bits::BitPosition;
 use map::width;
 use statistics::Record;
+use stream::BlockLength;
 use stream::Parsed;
 use stream::Refusal;
 use writing::Put;
-
-// The bytes of a tight block that has bits up to this position.
-fn block_length(at: BitPosition) -> usize
-    ensures { λ r. ⌜ r ≡ blockBytes (at .0) ⌝ }
-{
-    let end = at.block_bytes();
-    end.0
-}
 
 // Line n: six passes, each on the records of its set.
 fn write_line(
@@ -140,33 +132,32 @@ fn write_walk(
     done
 }
 
-// A set whose samples are all in range: it is measured first, and stored only when it can be.
+// A set whose samples are all in range: its bits are counted first, and stored only where they can be and are to be.
 fn write_measured(
     samples: &[u16],
     out: &mut [u8],
+    measure: bool,
     lines: &mut [u16],
     rs: &mut [Record],
     form: Form,
     count: usize,
-) -> Written
+) -> BlockLength
     requires { ⌜ (count < 2 ^ 16) × ((length (now samples) ≡ setSize (widthOf (form .xtrans)) count) × Within (largest (form .bits)) (now samples)) ⌝ }
     requires { ⌜ Depth (form .bits) × ScratchOf (form .xtrans) (now lines) (now rs) ⌝ }
     ensures { λ r.
-        ⌜ (r ≡ measuredAnswer form count (now (samples .entry)) (length (now (out .entry))))
-        × (now (out .exit) ≡ writtenOut r (tightBlock form count (now (samples .entry))) (now (out .entry))) ⌝ }
+        let block = tightBlock form count (now (samples .entry)) in
+        ⌜ (r ≡ measuredAnswer form count (now (samples .entry)) (roomFor measure block (now (out .entry))))
+        × (now (out .exit) ≡ outputOf measure r block (now (out .entry))) ⌝ }
     ensures { λ _. ⌜ (now (lines .exit) ≡ zeroLines (widthOf (form .xtrans))) × (now (rs .exit) ≡ clearRecords) ⌝ }
 {
-    let measured = write_walk(samples, out, false, lines, rs, form, count);
-    match measured {
-        Put::Wrong(j) => Written::Refused(Refusal::NotPredicted(j)),
-        Put::At(end) => {
-            let needed = block_length(end);
-            if is_short(out.len(), needed) {
-                return Written::Refused(Refusal::ShortOutput);
-            }
+    let counted = write_walk(samples, out, false, lines, rs, form, count);
+    let next = begin::after_counting(counted, measure, out.len());
+    match next {
+        Next::Answer(a) => a,
+        Next::Store(end) => {
             write_walk(samples, out, true, lines, rs, form, count);
             bits::fill_tail(out, end);
-            Written::Length(needed)
+            BlockLength::Length(begin::block_bytes(end))
         }
     }
 }
@@ -175,16 +166,18 @@ fn write_measured(
 fn write_set(
     samples: &[u16],
     out: &mut [u8],
+    measure: bool,
     lines: &mut [u16],
     rs: &mut [Record],
     form: Form,
     count: usize,
-) -> Written
+) -> BlockLength
     requires { ⌜ (count < 2 ^ 16) × (length (now samples) ≡ setSize (widthOf (form .xtrans)) count) ⌝ }
     requires { ⌜ Depth (form .bits) × ScratchOf (form .xtrans) (now lines) (now rs) ⌝ }
     ensures { λ r.
-        ⌜ (r ≡ writtenAnswer form count (now (samples .entry)) (length (now (out .entry))))
-        × (now (out .exit) ≡ writtenOut r (tightBlock form count (now (samples .entry))) (now (out .entry))) ⌝ }
+        let block = tightBlock form count (now (samples .entry)) in
+        ⌜ (r ≡ writtenAnswer form count (now (samples .entry)) (roomFor measure block (now (out .entry))))
+        × (now (out .exit) ≡ outputOf measure r block (now (out .entry))) ⌝ }
     ensures { λ _. ⌜ (now (lines .exit) ≡ zeroLines (widthOf (form .xtrans))) × (now (rs .exit) ≡ clearRecords) ⌝ }
 {
     let m = quantiser::largest(form.bits);
@@ -192,9 +185,44 @@ fn write_set(
     if i < samples.len() {
         lines::clear(lines);
         clear_records(rs);
-        return Written::Refused(Refusal::AboveLargest(i));
+        return BlockLength::Refused(Refusal::AboveLargest(i));
     }
-    write_measured(samples, out, lines, rs, form, count)
+    write_measured(samples, out, measure, lines, rs, form, count)
+}
+
+// Writing and measuring are one call, which goes on the first part of the lent scratch.
+fn write_in(
+    header: &[u8],
+    samples: &[u16],
+    out: &mut [u8],
+    measure: bool,
+    lines: &mut [u16],
+    rs: &mut [Record],
+) -> BlockLength
+    ensures { λ a.
+        let t = now (samples .entry) in
+        let before : Outputs = record { out = now (out .entry); lines = now (lines .entry); records = now (rs .entry) } in
+        let after : Outputs = record { out = now (out .exit); lines = now (lines .exit); records = now (rs .exit) } in
+        ⌜ LeftBy measure t (writingBegins (now (header .entry)) (length t) (length (before .lines)) (length (before .records))) before after a ⌝ }
+{
+    let begins = begin::writing_begins(header, samples.len(), lines.len(), rs.len());
+    match begins {
+        Parsed::Refused(x) => BlockLength::Refused(x),
+        Parsed::Header(h) => {
+            let used = begin::samples_needed(h.xtrans);
+            let form = form_of(h);
+            let count = line_count(h);
+            write_set(
+                samples,
+                out,
+                measure,
+                &mut lines[0..used],
+                &mut rs[0..336],
+                form,
+                count,
+            )
+        }
+    }
 }
 
 // The writer: the tight block of a set of colour lines goes to the start of the output, and the answer is its length. Of the header the first
@@ -205,28 +233,29 @@ pub fn write_block(
     out: &mut [u8],
     lines: &mut [u16],
     rs: &mut [Record],
-) -> Written
+) -> BlockLength
     ensures { λ a.
         let t = now (samples .entry) in
         let before : Outputs = record { out = now (out .entry); lines = now (lines .entry); records = now (rs .entry) } in
         let after : Outputs = record { out = now (out .exit); lines = now (lines .exit); records = now (rs .exit) } in
         ⌜ LeftWritten t (writingBegins (now (header .entry)) (length t) (length (before .lines)) (length (before .records))) before after a ⌝ }
 {
-    let begins = begin::writing_begins(header, samples.len(), lines.len(), rs.len());
-    match begins {
-        Parsed::Refused(x) => Written::Refused(x),
-        Parsed::Header(h) => {
-            let used = begin::samples_needed(h.xtrans);
-            let form = form_of(h);
-            let count = line_count(h);
-            write_set(
-                samples,
-                out,
-                &mut lines[0..used],
-                &mut rs[0..336],
-                form,
-                count,
-            )
-        }
-    }
+    write_in(header, samples, out, false, lines, rs)
+}
+
+// The length that the writer would answer, with no output to write to: refused as the writer refuses, but never for a short output.
+pub fn measure_block(
+    header: &[u8],
+    samples: &[u16],
+    lines: &mut [u16],
+    rs: &mut [Record],
+) -> BlockLength
+    ensures { λ a.
+        let t = now (samples .entry) in
+        let before : Scratch = record { lines = now (lines .entry); records = now (rs .entry) } in
+        let after : Scratch = record { lines = now (lines .exit); records = now (rs .exit) } in
+        ⌜ LeftMeasured t (writingBegins (now (header .entry)) (length t) (length (before .lines)) (length (before .records))) before after a ⌝ }
+{
+    let mut nothing = [0u8; 1];
+    write_in(header, samples, &mut nothing, true, lines, rs)
 }

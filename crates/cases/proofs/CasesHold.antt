@@ -45,4 +45,9 @@ cases-hold =
       l₁ = refl;
       l₂ = refl;
       l₃ = (refl, refl);
+      bound₁ = refl;
+      bound₂ = refl;
+      bound₃ = refl;
+      bound₄ = refl;
+      bound₅ = refl;
     }

@@ -16,12 +16,14 @@ use Rattle.code.specs.declared.Coded.{Coded}
 use Rattle.code.specs.declared.Coded.the-variants.{Read}
 use Rattle.map.specs.Places.{xtransPlace}
 use Rattle.stream.specs.Headers.{parseOf}
+use Rattle.stream.specs.Lengths.{boundAnswer}
 use Rattle.stream.specs.Streams.{openOf, rangeOf}
 use Rattle.stream.specs.Refusals.{refusalNumber}
+use Rattle.stream.specs.declared.BlockLength.the-variants.{Length, Refused}
 use Rattle.stream.specs.declared.FujiHeader.{FujiHeader}
 use Rattle.stream.specs.declared.Parsed.the-variants as Parsing
 use Rattle.stream.specs.declared.Ranged.the-variants as Range
-use Rattle.stream.specs.declared.Refusal.the-variants.{BadHeader, ShortSizes}
+use Rattle.stream.specs.declared.Refusal.the-variants.{BadHeader, ShortSizes, Lossy}
 
 abbrev pub stat : ℕ → ℕ → Record
 stat sum n = record { sum = sum; n = n }
@@ -65,6 +67,11 @@ header-k =
       lines = 1;
     }
 
+-- the largest header, lossless or not: 16 blocks, 2731 lines, 16 bits
+abbrev pub bytes-largest : ℕ → List ℕ
+bytes-largest lossless =
+    0x49 ∷ 0x53 ∷ lossless ∷ 0x10 ∷ 0x10 ∷ 0x40 ∷ 0x02 ∷ 0x30 ∷ 0x00 ∷ 0x30 ∷ 0x00 ∷ 0x03 ∷ 0x00 ∷ 0x10 ∷ 0x0A ∷ 0xAB ∷ []
+
 pub record Cases : Type 0 where
   -- (a) k
   pub a₁ : kOf (stat 256 1) ≡ 8
@@ -104,3 +111,9 @@ pub record Cases : Type 0 where
   pub l₁ : openOf (bytes-k 0x0E ++ 0 ∷ 0 ∷ 0 ∷ 0 ∷ []) ≡ Parsing.Header header-k
   pub l₂ : rangeOf (bytes-k 0x0E ++ 0 ∷ 0 ∷ 0 ∷ 0 ∷ []) 0 ≡ Range.At (record { 0 = 20 }) 0
   pub l₃ : (openOf (bytes-k 0x0E ++ 0 ∷ 0 ∷ 0 ∷ []) ≡ Parsing.Refused ShortSizes) × (refusalNumber ShortSizes ≡ 3)
+  -- the length that no tight block exceeds: of one line at each depth, of the largest header, and of none that is lossy
+  pub bound₁ : boundAnswer (parseOf (bytes-k 12)) ≡ Length 27648
+  pub bound₂ : boundAnswer (parseOf (bytes-k 14)) ≡ Length 32256
+  pub bound₃ : boundAnswer (parseOf (bytes-k 16)) ≡ Length 36864
+  pub bound₄ : boundAnswer (parseOf (bytes-largest 1)) ≡ Length 100675584
+  pub bound₅ : boundAnswer (parseOf (bytes-largest 0)) ≡ Refused Lossy

@@ -1,7 +1,9 @@
-// Functions that C and Rust link to: the header, where blocks and base rows lie, the sheet of short codes, and plans of bases. Each hands back a
-// refusal's four words, all 0 where nothing is refused, and what was asked for, all 0 where it is refused. Those that decode stand in `block`.
+// Functions that C and Rust link to: the header, where blocks and base rows lie, how long a block can be, the sheet of short codes, and plans of
+// bases. Each hands back a refusal's four words, all 0 where nothing is refused, and what was asked for, all 0 where it is refused. Those that decode
+// stand in `block`.
 ghost use mathlib.Core.Path.{_≡_};
 ghost use Rattle.stream.specs.Headers.{parseOf, widthAnswer};
+ghost use Rattle.stream.specs.Lengths.{boundAnswer, lengthWord, lengthRefusal};
 ghost use Rattle.stream.specs.Streams.{openOf, rangeOf, rowOf};
 ghost use Rattle.exports.specs.Exports.{headerWords, parsedWords, parsedRefusal, rangedWords, rangedRefusal, widthWords, widthRefusal};
 ghost use Rattle.exports.specs.Exports.{listedWords, listedRefusal, ToldSheet, plannedRefusal, ToldPlan};
@@ -156,6 +158,20 @@ pub extern "C" fn fuji_base_row_range(
     let w = ranged_words(x);
     *range = w;
     let r = ranged_refusal(x);
+    *refusal = r;
+}
+
+// The length that no tight block under a header exceeds.
+#[no_mangle]
+pub extern "C" fn fuji_length_bound(header: &[u8], size: &mut [usize; 1], refusal: &mut [usize; 4])
+    ensures { λ _.
+        let answer = boundAnswer (parseOf (now (header .entry))) in
+        ⌜ (now (size .exit) ≡ lengthWord answer) × (now (refusal .exit) ≡ lengthRefusal answer) ⌝ }
+{
+    let x = stream::length_bound(header);
+    let w = stream::length_word(x);
+    *size = w;
+    let r = stream::length_refusal(x);
     *refusal = r;
 }
 

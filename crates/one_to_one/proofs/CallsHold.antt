@@ -9,8 +9,11 @@ use lib.Dec.{ltb}
 use lib.ListN.{length}
 use borrow.Author.Tests.{eq-eqb, ltb-true, ltb-false}
 use Rattle.map.specs.Places.{widthOf}
+use Rattle.stream.specs.declared.BlockLength.{BlockLength}
+use Rattle.stream.specs.declared.BlockLength.the-variants.{Length, Refused}
 use Rattle.stream.specs.declared.FujiHeader.{FujiHeader}
 use Rattle.stream.specs.Headers.{parseOf}
+use Rattle.stream.specs.Lengths.{lengthWord, lengthRefusal}
 use Rattle.stream.specs.Refusals.{refusalNumber, noRefusal}
 use Rattle.stream.specs.declared.Refusal.{Refusal}
 use Rattle.stream.specs.declared.Refusal.the-variants.{ShortScratch}
@@ -20,11 +23,8 @@ use Rattle.begin.specs.Beginnings.{samplesNeeded, recordsNeeded, withScratch, w
 use Rattle.writing.specs.Sets.{setSize}
 use Rattle.block.specs.Images.{formOf}
 use Rattle.block.specs.Lent.{Outputs}
-use Rattle.block.specs.Words.{writtenWords, writtenRefusal}
 use Rattle.block.specs.WrittenAnswers.{LeftWritten, SetWriting, writtenOut}
 use Rattle.block.specs.WrittenBlocks.{tightBlock}
-use Rattle.block.specs.declared.Written.{Written}
-use Rattle.block.specs.declared.Written.the-variants.{Length, Refused}
 use Rattle.block.proofs.AnswerLaws.{written-fits}
 use Rattle.one_to_one.specs.Correspondence.{TightBlockOf}
 use Rattle.one_to_one.specs.Calls.{LongEnough, Starts, CorrespondenceOfCalls, CorrespondenceOfCallsFromC}
@@ -35,7 +35,7 @@ clash : {X : Type 0} (r : Refusal) (n : ℕ) → Refused r ≡ Length n → X
 clash r n e = let no : _≡_ {A = ℕ} 0 1 = cc in absurd (omega arith)
 
 module _ (d : List ℕ) (h : FujiHeader) (e : parseOf d ≡ Parsing.Header h) (lossless : h .lossless ≡ true) (t : List ℕ) (b : TightBlockOf (formOf h) (h .lines) t)
-    (before after : Outputs) (answer : Written) where
+    (before after : Outputs) (answer : BlockLength) where
   abbrev n : ℕ
   n = length (b .block)
 
@@ -65,7 +65,7 @@ module _ (d : List ℕ) (h : FujiHeader) (e : parseOf d ≡ Parsing.Header h) (l
     λ l. let a = correspondence-of-writers d h e lossless .answered t (before .out) b (l .out) in
         let w = correspondence-of-writers d h e lossless .whole t (before .out) n size a in
         let is : answer ≡ Length n = L .answered ∙ a in
-        (is, L .output ∙ ap (λ (x : Written). writtenOut x (tightBlock (formOf h) (h .lines) t) (before .out)) (L .answered) ∙ w .output ∙ rw (w .only b)),
+        (is, L .output ∙ ap (λ (x : BlockLength). writtenOut x (tightBlock (formOf h) (h .lines) t) (before .out)) (L .answered) ∙ w .output ∙ rw (w .only b)),
   )
 
   go : (p q : Bool) → ltb samples (samplesNeeded (h .xtrans)) ≡ p → ltb records recordsNeeded ≡ q
@@ -83,7 +83,7 @@ correspondence-of-calls d h e lossless t b before after answer L = call d h e lo
 -- ---- from C
 
 -- a length is told by no refusal, and a refusal is not
-told-length : (a : Written) (n : ℕ) → n ∷ [] ≡ writtenWords a → noRefusal ≡ writtenRefusal a → a ≡ Length n
+told-length : (a : BlockLength) (n : ℕ) → n ∷ [] ≡ lengthWord a → noRefusal ≡ lengthRefusal a → a ≡ Length n
 told-length (Length m) n e f = let q : n ≡ m = cc in ap Length (sym q)
 told-length (Refused r) n e f = let q : 0 ≡ refusalNumber r = cc in absurd (omega (arith, number-low r))
 
@@ -91,5 +91,5 @@ pub correspondence-of-calls-from-c : CorrespondenceOfCallsFromC
 correspondence-of-calls-from-c d h e lossless t b before after size words T =
     let c = correspondence-of-calls d h e lossless t b before after (T .answer) (T .left) in (
       λ p. c .0 (told-length (T .answer) (length (b .block)) (sym (p .0) ∙ T .told-size) (sym (p .1) ∙ T .told), p .2),
-      λ l. let p = c .1 l in (T .told-size ∙ ap writtenWords (p .0), T .told ∙ ap writtenRefusal (p .0), p .1),
+      λ l. let p = c .1 l in (T .told-size ∙ ap lengthWord (p .0), T .told ∙ ap lengthRefusal (p .0), p .1),
     )

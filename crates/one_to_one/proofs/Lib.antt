@@ -16,3 +16,5 @@ pub mod PredictedLines
 pub mod PredictedBlocks
 pub mod StreamOfBlocks
 pub mod SomethingHolds
+pub mod BoundHolds
+pub mod LengthsAgree

@@ -5,12 +5,12 @@ use Prim.Native.Nat.{ℕ, _≤_}
 use lib.ListN.{length}
 use Rattle.map.specs.Places.{widthOf}
 use Rattle.writing.specs.Sets.{setSize}
+use Rattle.stream.specs.declared.BlockLength.{BlockLength}
+use Rattle.stream.specs.declared.BlockLength.the-variants.{Length}
 use Rattle.block.specs.Images.{formOf}
 use Rattle.block.specs.WrittenBlocks.{tightBlock, FitSet}
 use Rattle.block.specs.WrittenAnswers.{writtenAnswer, writtenOut}
 use Rattle.block.specs.declared.Form.{Form}
-use Rattle.block.specs.declared.Written.{Written}
-use Rattle.block.specs.declared.Written.the-variants.{Length}
 use Rattle.block.proofs.AnswerLaws.{written-fits, fits-written}
 use Rattle.one_to_one.specs.Correspondence.{Correspondence, TightBlockOf, WrittenWhole, CorrespondenceOfWriters}
 use Rattle.one_to_one.proofs.CorrespondenceHolds.{correspondence-of-headers}
@@ -29,7 +29,7 @@ module _ (F : Form) (lines : ℕ) (D : Correspondence F lines) where
       let w = written-fits F lines t (length out) n size e in
       let f : FitSet F lines t = w .0 in
       record {
-        output = ap (λ (a : Written). writtenOut a (tightBlock F lines t) out) e;
+        output = ap (λ (a : BlockLength). writtenOut a (tightBlock F lines t) out) e;
         size = w .1;
         tight = its-block t f .tight;
         reads = its-block t f .reads;

@@ -9,6 +9,8 @@ use Prim.Native.Nat.{ℕ, _≤_}
 use lib.ListN.{length, drop}
 use Rattle.stream.specs.Headers.{parseOf}
 use Rattle.stream.specs.Refusals.{noRefusal}
+use Rattle.stream.specs.declared.BlockLength.{BlockLength}
+use Rattle.stream.specs.declared.BlockLength.the-variants.{Length}
 use Rattle.stream.specs.declared.FujiHeader.{FujiHeader}
 use Rattle.stream.specs.declared.Parsed.the-variants.{Header}
 use Rattle.begin.specs.Beginnings.{samplesNeeded, recordsNeeded, writingBegins}
@@ -16,8 +18,6 @@ use Rattle.block.specs.Images.{formOf}
 use Rattle.block.specs.Lent.{Outputs}
 use Rattle.block.specs.Words.{ToldWritten}
 use Rattle.block.specs.WrittenAnswers.{LeftWritten}
-use Rattle.block.specs.declared.Written.{Written}
-use Rattle.block.specs.declared.Written.the-variants.{Length}
 use Rattle.one_to_one.specs.Correspondence.{TightBlockOf}
 
 -- the output has room for the block, and scratch is not refused by 10
@@ -33,7 +33,7 @@ Starts block before after = after .out ≡ block ++ drop (length block) (before 
 abbrev pub CorrespondenceOfCalls : Type 0
 CorrespondenceOfCalls =
     (d : List ℕ) (h : FujiHeader) → parseOf d ≡ Header h → h .lossless ≡ true
-    → (t : List ℕ) (b : TightBlockOf (formOf h) (h .lines) t) (before after : Outputs) (answer : Written)
+    → (t : List ℕ) (b : TightBlockOf (formOf h) (h .lines) t) (before after : Outputs) (answer : BlockLength)
     → LeftWritten t (writingBegins d (length t) (length (before .lines)) (length (before .records))) before after answer
     → ((answer ≡ Length (length (b .block))) × Starts (b .block) before after) ↔ LongEnough h (b .block) before
 

@@ -9,6 +9,7 @@ use lib.ListN.{length, getD, drop}
 use Rattle.map.specs.Places.{widthOf}
 use Rattle.stream.specs.Headers.{parseOf}
 use Rattle.stream.specs.Streams.{openOf}
+use Rattle.stream.specs.declared.BlockLength.the-variants.{Length}
 use Rattle.stream.specs.declared.FujiHeader.{FujiHeader}
 use Rattle.stream.specs.declared.Parsed.the-variants.{Header}
 use Rattle.writing.specs.Sets.{setSize, lineOfRank, indexIn}
@@ -19,7 +20,6 @@ use Rattle.block.specs.WrittenBlocks.{tightBlock}
 use Rattle.block.specs.WrittenAnswers.{writtenAnswer, writtenOut}
 use Rattle.block.specs.declared.Decoded.the-variants.{Done}
 use Rattle.block.specs.declared.Form.{Form}
-use Rattle.block.specs.declared.Written.the-variants.{Length}
 use Rattle.one_to_one.specs.PredictedSets.{PredictedSet}
 
 -- bytes are numbers below 256

@@ -3,3 +3,4 @@ pub mod PredictedSets
 pub mod Correspondence
 pub mod Calls
 pub mod AcceptedStreams
+pub mod Lengths

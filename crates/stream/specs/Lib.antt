@@ -2,3 +2,4 @@
 pub mod Refusals
 pub mod Headers
 pub mod Streams
+pub mod Lengths

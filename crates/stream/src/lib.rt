@@ -4,6 +4,7 @@ ghost use Prim.Native.Nat.{_+_, _*_, _^_, _≤_, _<_};
 ghost use lib.ListN.{length};
 ghost use Rattle.stream.specs.Refusals.{refusalWords};
 ghost use Rattle.stream.specs.Headers.{byteAt, be16, headerOf, within, kindRules, sizeRules, countRules, parseOf, Ruled, widthAnswer};
+ghost use Rattle.stream.specs.Lengths.{boundAnswer, lengthWord, lengthRefusal};
 ghost use Rattle.stream.specs.Streams.{padded, sizeOf, rowLength, rowStart, firstShort, openIn, openOf, Opened, sizesBefore, blockStart, cut, rangeIn, rangeOf, rowIn, rowOf, partOf, Short, Inside};
 use bits::ByteOffset;
 
@@ -89,6 +90,31 @@ pub enum Width {
 pub enum Ranged {
     At(ByteOffset, usize),
     Refused(Refusal),
+}
+
+// A block's length in bytes: its bound, as it is measured, or as it is written.
+pub enum BlockLength {
+    Length(usize),
+    Refused(Refusal),
+}
+
+// A block's length for C, 0 where it is refused.
+pub fn length_word(a: BlockLength) -> [usize; 1]
+    ensures { λ w. ⌜ w ≡ lengthWord a ⌝ }
+{
+    match a {
+        BlockLength::Length(n) => [n],
+        BlockLength::Refused(_) => [0],
+    }
+}
+
+pub fn length_refusal(a: BlockLength) -> [usize; 4]
+    ensures { λ w. ⌜ w ≡ lengthRefusal a ⌝ }
+{
+    match a {
+        BlockLength::Length(_) => [0; 4],
+        BlockLength::Refused(r) => refusal_words(r),
+    }
 }
 
 fn byte(d: &[u8], i: usize) -> u32
@@ -213,6 +239,30 @@ pub fn block_width(d: &[u8], i: u32) -> Width
     match parsed {
         Parsed::Refused(r) => Width::Refused(r),
         Parsed::Header(h) => columns(h, i),
+    }
+}
+
+fn bound_in(h: FujiHeader) -> BlockLength
+    requires { ⌜ Ruled h ⌝ }
+    ensures { λ r. ⌜ r ≡ boundAnswer (Parsed.Header h) ⌝ }
+{
+    let lossless = h.lossless;
+    let lines = h.lines as usize;
+    let bits = h.bits as usize;
+    if !lossless {
+        return BlockLength::Refused(Refusal::Lossy);
+    }
+    BlockLength::Length(lines * 2304 * bits)
+}
+
+// A length that no tight block under this header exceeds: a line has 4608 codes, and each has at most 4·bits bits.
+pub fn length_bound(d: &[u8]) -> BlockLength
+    ensures { λ r. ⌜ r ≡ boundAnswer (parseOf (now (d .entry))) ⌝ }
+{
+    let parsed = FujiHeader::parse(d);
+    match parsed {
+        Parsed::Refused(r) => BlockLength::Refused(r),
+        Parsed::Header(h) => bound_in(h),
     }
 }
 

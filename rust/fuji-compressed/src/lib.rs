@@ -100,6 +100,25 @@ impl FujiHeader {
         Refusal::answer(refusal).map(|()| width[0] as u32)
     }
 
+    /// A length in bytes that no tight block under this header exceeds, whatever its samples: lines·2304·bits. Refusal 8, and 2 for a header that
+    /// breaks a rule.
+    ///
+    /// ```
+    /// use fuji_compressed::{FujiHeader, measure_block};
+    ///
+    /// // one line of a 14-bit Bayer picture, all samples 0
+    /// let header = [0x49, 0x53, 1, 0, 14, 0, 6, 3, 0, 3, 0, 3, 0, 1, 0, 1];
+    /// assert_eq!(FujiHeader::parse(&header)?.length_bound(), Ok(32_256));
+    /// assert_eq!(measure_block(&header, &[0; 12 * 384]), Ok(848));
+    /// # Ok::<(), fuji_compressed::Refusal>(())
+    /// ```
+    pub fn length_bound(&self) -> Result<usize> {
+        let bytes = self.bytes();
+        let (mut length, mut refusal) = ([0; 1], [0; 4]);
+        unsafe { ffi::fuji_length_bound(bytes.as_ptr(), bytes.len(), &mut length, &mut refusal) };
+        Refusal::answer(refusal).map(|()| length[0])
+    }
+
     fn of(words: [usize; 9]) -> FujiHeader {
         let [lossless, xtrans, bits, height, rounded_width, width, block_size, blocks, lines] = words.map(|w| w as u32);
         FujiHeader { lossless: lossless == 1, xtrans: xtrans == 1, bits, height, rounded_width, width, block_size, blocks, lines }
@@ -273,6 +292,31 @@ pub fn write_block_with(scratch: &mut Scratch, header: &[u8], samples: &[u16], o
             samples.len(),
             out.as_mut_ptr(),
             out.len(),
+            scratch.samples.as_mut_ptr(),
+            scratch.samples.len(),
+            scratch.records.as_mut_ptr(),
+            scratch.records.len(),
+            &mut length,
+            &mut refusal,
+        )
+    };
+    Refusal::answer(refusal).map(|()| length[0])
+}
+
+/// The length that `write_block` would give, without an output: nothing is written. Refusals 1, 2, 8, 9, 11 and 12.
+pub fn measure_block(header: &[u8], samples: &[u16]) -> Result<usize> {
+    measure_block_with(&mut Scratch::new(), header, samples)
+}
+
+/// `measure_block` with lent scratch. Refusal 10 too.
+pub fn measure_block_with(scratch: &mut Scratch, header: &[u8], samples: &[u16]) -> Result<usize> {
+    let (mut length, mut refusal) = ([0; 1], [0; 4]);
+    unsafe {
+        ffi::fuji_measure_block(
+            header.as_ptr(),
+            header.len(),
+            samples.as_ptr(),
+            samples.len(),
             scratch.samples.as_mut_ptr(),
             scratch.samples.len(),
             scratch.records.as_mut_ptr(),

@@ -1,9 +1,12 @@
-//! The writer: it writes the block that the encoder for tests writes, whatever the buffers held; each refusal at its limit and together.
+//! The writer: it writes the block that the encoder for tests writes, whatever the buffers held; each refusal at its limit and together. Measuring is
+//! asked beside it: it answers the same, but for a short output.
 use common::encoder::{encode, encode_spoilt};
 use common::random::Random;
 use common::sha256::digits;
 use common::stream::{Header, stream};
-use fuji_compressed::{ColorTile, FujiCompressed, Record, Refusal, Scratch, write_block, write_block_with};
+use fuji_compressed::{
+    ColorTile, FujiCompressed, Record, Refusal, Scratch, measure_block, measure_block_with, write_block, write_block_with,
+};
 
 /// The colour lines of a set, in its order.
 const FILLED: [usize; 12] = [2, 3, 4, 7, 8, 9, 10, 11, 12, 15, 16, 17];
@@ -87,6 +90,14 @@ fn is_cleared(scratch: &Scratch, xtrans: bool) -> bool {
     samples && scratch.records.iter().enumerate().all(|(i, r)| *r == records[(i >= 336) as usize])
 }
 
+/// What measuring answers, with soiled scratch, which is cleared then.
+fn measured(header: &Header, set: &[u16]) -> Result<usize, Refusal> {
+    let mut scratch = soiled();
+    let answer = measure_block_with(&mut scratch, &header.bytes(), set);
+    assert!(is_cleared(&scratch, header.raw_type == 16));
+    answer
+}
+
 #[test]
 fn what_is_written_is_the_tight_block() {
     for (bits, xtrans) in [(12, false), (14, false), (16, false), (12, true), (14, true), (16, true)] {
@@ -104,6 +115,8 @@ fn what_is_written_is_the_tight_block() {
             let mut scratch = soiled();
             assert_eq!(write_block_with(&mut scratch, &w.header.bytes(), &w.set, &mut short), refused(13, 0));
             assert!(short.iter().all(|v| *v == 0xa5) && is_cleared(&scratch, xtrans));
+            assert_eq!(measured(&w.header, &w.set), Ok(length));
+            assert!(length <= lines * 2304 * bits as usize);
             // it is tight, and reads back
             let d = stream(&w.header, &[], &[w.block.clone()]);
             assert_eq!(FujiCompressed::new(&d).unwrap().read_tight(0), Ok(()));
@@ -147,6 +160,7 @@ fn blocks_of_known_sets() {
         let mut short = vec![0xa5; length - 1];
         assert_eq!(write_block(&header.bytes(), &set, &mut short), refused(13, 0));
         assert!(short.iter().all(|v| *v == 0xa5));
+        assert_eq!(measured(&header, &set), Ok(length));
     }
 }
 
@@ -162,10 +176,13 @@ fn samples_above_the_largest() {
         let (mut out, mut scratch) = (vec![3; 10_000], soiled());
         assert_eq!(write_block_with(&mut scratch, &w.header.bytes(), &set, &mut out), refused(11, *bad.iter().min().unwrap()));
         assert!(out.iter().all(|v| *v == 3) && is_cleared(&scratch, false));
+        assert_eq!(measured(&w.header, &set), refused(11, *bad.iter().min().unwrap()));
     }
     let mut set = w.set.clone();
     set[last] = 4095;
-    assert!(write_block(&w.header.bytes(), &set, &mut [0; 20_000]).is_ok());
+    let written = write_block(&w.header.bytes(), &set, &mut [0; 20_000]);
+    assert!(written.is_ok());
+    assert_eq!(measured(&w.header, &set), written);
 }
 
 #[test]
@@ -185,6 +202,7 @@ fn interpolated_samples_that_are_not_their_prediction() {
         let (mut out, mut scratch) = (vec![3; 60_000], soiled());
         let answer = write_block_with(&mut scratch, &w.header.bytes(), &set, &mut out);
         assert!(is_cleared(&scratch, true));
+        assert_eq!(measured(&w.header, &set), answer);
         if rule {
             seen += 1;
             assert_eq!(answer, refused(12, i));
@@ -194,6 +212,7 @@ fn interpolated_samples_that_are_not_their_prediction() {
             // a sample above the largest comes first, wherever it stands
             set[w.set.len() - 1] = 20_000;
             assert_eq!(write_block(&w.header.bytes(), &set, &mut out), refused(11, w.set.len() - 1));
+            assert_eq!(measured(&w.header, &set), refused(11, w.set.len() - 1));
         }
     }
     assert!(seen > 20);
@@ -215,6 +234,7 @@ fn the_first_wrong_sample_in_coding_order() {
         let mut out = vec![0xA5; w.block.len() + 9];
         assert_eq!(write_block(&w.header.bytes(), &set, &mut out), refused(12, first));
         assert!(out.iter().all(|&b| b == 0xA5));
+        assert_eq!(measured(&w.header, &set), refused(12, first));
     }
 }
 
@@ -255,6 +275,24 @@ fn refusals_before_the_set_is_looked_at() {
         if number != 0 {
             assert!(out.iter().all(|v| *v == 0x77));
         }
+        // measuring needs no output
+        let exact = if number == 13 { Ok(w.block.len()) } else { answer };
+        let mut lent = scratch.clone();
+        assert_eq!(measure_block_with(&mut lent, header, set), exact);
+        assert_eq!(lent == *scratch, (1..=10).contains(&number));
+    }
+}
+
+/// Bayer sets of two lines in which 0 and the largest sample take turns, measured by an independent model of the rules.
+#[test]
+fn lengths_of_loud_sets() {
+    for (bits, length) in [(12, 8928), (14, 10_192), (16, 11_568)] {
+        let header = Header::new(true, false, bits, 768, 2);
+        let largest = ((1u32 << bits) - 1) as u16;
+        let line = |line: usize| (0..384).map(move |p| if (p + line) % 2 == 0 { 0 } else { largest });
+        let set: Vec<u16> = (0..2).flat_map(|_| FILLED.into_iter().flat_map(line)).collect();
+        assert_eq!(measure_block(&header.bytes(), &set), Ok(length));
+        assert_eq!(write_block(&header.bytes(), &set, &mut vec![0; length]), Ok(length));
     }
 }
 

@@ -15,6 +15,7 @@ pub enum Call {
     Info(Vec<PathBuf>),
     Check(Vec<PathBuf>, Quiet),
     Write([PathBuf; 3]),
+    Size(PathBuf, Option<PathBuf>),
     Codes([u32; 3]),
     Plan([PathBuf; 3]),
     Decode(Decode),
@@ -88,6 +89,7 @@ pub fn read(words: Vec<OsString>) -> Result<Call, String> {
             Ok(Call::Check(streams(words, "check")?, quiet))
         }
         "write" => three(words, "write needs a header, samples and an output").map(Call::Write),
+        "size" => size(words),
         "plan" => three(words, "plan needs a header, a plan and an output").map(Call::Plan),
         "codes" => numbers(words).map(Call::Codes),
         "manual" => Ok(Call::Manual),
@@ -147,6 +149,14 @@ fn three(words: Words, needs: &str) -> Result<[PathBuf; 3], String> {
     let files: [PathBuf; 3] = words.files().try_into().map_err(|_| needs.to_string())?;
     once(&files[..2])?;
     Ok(files)
+}
+
+fn size(words: Words) -> Result<Call, String> {
+    let mut files = words.files().into_iter();
+    match (files.next(), files.next(), files.next()) {
+        (Some(header), samples, None) => Ok(Call::Size(header, samples)),
+        _ => Err("size needs a header, and samples if the length is to be exact".to_string()),
+    }
 }
 
 /// Standard input can be read only once.

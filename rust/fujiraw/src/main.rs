@@ -1,4 +1,4 @@
-//! Shows, checks, writes and decodes Fuji compressed raw streams, lists short codes, and reads plans of bases. Status 0: all was done; 1: something was refused or failed; 2: wrong usage.
+//! Shows, checks, writes, measures and decodes Fuji compressed raw streams, lists short codes, and reads plans of bases. Status 0: all was done; 1: something was refused or failed; 2: wrong usage.
 mod arguments;
 mod codes;
 mod files;
@@ -40,6 +40,7 @@ fn answer(call: Call) -> ExitCode {
             let block = stream::write(&header, samples)?;
             files::write(&[&header, samples], &out, |o| o.write_all(&block))
         }),
+        Call::Size(header, samples) => status(stream::size(&header, samples.as_deref()).and_then(|n| files::print(&format!("{n}\n")))),
         Call::Plan([header, plan, out]) => run(&[plan], |plan| {
             let bases = stream::plan(&header, plan)?;
             files::write(&[&header, plan], &out, |o| o.write_all(&bases))

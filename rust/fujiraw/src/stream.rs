@@ -3,7 +3,7 @@ use crate::files::{load, load_samples, name};
 use crate::picture::Picture;
 use crate::progress::Progress;
 use crate::tile;
-use fuji_compressed::{ColorTile, FujiCompressed, FujiHeader, Rect, Refusal, Scratch, plan_bases, write_block};
+use fuji_compressed::{ColorTile, FujiCompressed, FujiHeader, Rect, Refusal, Scratch, measure_block, plan_bases, write_block};
 use std::fmt::Write;
 use std::path::Path;
 
@@ -89,11 +89,24 @@ fn why_loose(refusal: Refusal, lines: usize) -> String {
 pub fn write(header: &Path, samples: &Path) -> Result<Vec<u8>, String> {
     let header = load(header)?;
     let set = load_samples(samples)?;
-    // No code has more than 64 bits.
-    let mut block = vec![0; 8 * set.len()];
+    // No tight block is longer.
+    let mut block = vec![0; bound(&header)?];
     let length = write_block(&header, &set, &mut block).map_err(|e| e.to_string())?;
     block.truncate(length);
     Ok(block)
+}
+
+fn bound(header: &[u8]) -> Result<usize, String> {
+    FujiHeader::parse(header).and_then(|h| h.length_bound()).map_err(|e| e.to_string())
+}
+
+/// The length of a tight block in bytes: at most, by its header alone, or exactly, for the samples in a file.
+pub fn size(header: &Path, samples: Option<&Path>) -> Result<usize, String> {
+    let header = load(header)?;
+    match samples {
+        None => bound(&header),
+        Some(samples) => measure_block(&header, &load_samples(samples)?).map_err(|e| e.to_string()),
+    }
 }
 
 /// The base bytes of a plan, one for each line of the header.

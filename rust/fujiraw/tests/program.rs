@@ -212,6 +212,40 @@ fn write_makes_the_block_of_a_set() {
 }
 
 #[test]
+fn size_is_that_of_the_block() {
+    let f = Folder::new("size");
+    // lossless Bayer, 14 bits, one block, one line
+    let mut header = [0x49, 0x53, 1, 0, 14, 0, 6, 3, 0, 3, 0, 3, 0, 1, 0, 1];
+    f.put("header", &header);
+    f.put("zeros", &[0; 2 * 12 * 384]);
+    assert_eq!(f.works("size header"), "32256\n");
+    assert_eq!(f.works("size header zeros"), "848\n");
+    f.works("write header zeros block");
+    assert_eq!(f.get("block").len(), 848);
+    assert_eq!(f.names(), ["block", "header", "zeros"]);
+    f.put("high", &[&[0, 0, 0, 64], &[0; 2 * 12 * 384 - 4][..]].concat());
+    f.put("few", &[0; 2 * 12 * 384 - 2]);
+    f.put("half", &[0; 2 * 12 * 384 - 1]);
+    f.put("empty", b"");
+    f.fails("size empty", "refusal 1: fewer than 16 bytes of header");
+    f.fails("size zeros", "refusal 2: a header rule is broken");
+    f.fails("size missing", "cannot read missing: no such file or directory");
+    f.fails("size header few", "refusal 9: the number of samples is not the block's");
+    f.fails("size header half", "half has half a sample at its end");
+    f.fails("size header missing", "cannot read missing: no such file or directory");
+    f.fails("size header high", "refusal 11: sample 1: a sample is above the largest");
+    header[2] = 0;
+    f.put("lossy", &header);
+    for line in ["size lossy", "size lossy few", "write lossy few out"] {
+        f.fails(line, "refusal 8: the stream is lossy");
+    }
+    f.is_wrong("size", "size needs a header, and samples if the length is to be exact");
+    f.is_wrong("size header zeros block", "size needs a header, and samples if the length is to be exact");
+    f.is_wrong("size - -", "standard input is there twice");
+    f.is_wrong("size header --quiet", "size takes no --quiet");
+}
+
+#[test]
 fn codes_lists_a_sheet() {
     let f = Folder::new("codes");
     assert_eq!(f.works("codes 12 0 3"), "1\t1\t1\t0\n01\t2\t1\t1\n001\t3\t1\t2\n");

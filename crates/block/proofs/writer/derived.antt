@@ -1,4 +1,6 @@
+pub mod measure_block
 pub mod write_block
+pub mod write_in
 pub mod write_line
 pub mod write_lines
 pub mod write_measured

@@ -10,8 +10,8 @@ returns c =
     record {
       answer = k .write-block .result;
       left = k .write-block .ensures;
-      told-size = c .before .written-words .ensures;
-      told = c .written-refusal .ensures;
+      told-size = c .before .length-word .ensures;
+      told = c .length-refusal .ensures;
     }
 
 pub fuji-write-block-spec : {M : Type 1} → statement M

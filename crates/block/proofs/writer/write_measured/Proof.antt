@@ -2,8 +2,9 @@
 mod derived
 use borrow.Author.Needs.{needs}
 use mathlib.Core.Bool.{false≢true}
+use mathlib.Core.Path.{sym, _∙_}
 use native.Mathlib.Omega.{arith}
-use Rattle.block.proofs.AnswerLaws.{measured-wrong, Measured, measured-right, measured-short, measured-room, measured-stored, filling-room}
+use Rattle.block.proofs.AnswerLaws.{next-answer, Stores, next-store, store-room, stored}
 use Rattle.block.proofs.writer.write_measured.Statement.{statement}
 use Rattle.block.proofs.writer.write_measured.Proof.derived.Tie as tie
 
@@ -11,91 +12,73 @@ use Rattle.block.proofs.writer.write_measured.Proof.derived.Tie as tie
 abbrev start : tie.After-write-walk → tie.Start
 start w = w .before .before .before .before .before .before .before
 
-abbrev walked : tie.After-known-told2 → tie.After-write-walk
-walked s = s .before .before .before .before .before .before .before .before
+abbrev walked : tie.After-after-counting → tie.After-write-walk
+walked s = s .before .before .before .before .before .before
 
-abbrev right : tie.After-is-short → tie.After-known-told2
-right e = e .before .before
+-- the set's bits were counted, and are to be stored
+abbrev went : tie.After-known-told2 → tie.After-after-counting
+went s = s .before .before .before
 
--- the set was measured
-measured : (e : tie.After-is-short)
-    → let w = walked (right e) in let a = start w .args in
-    Measured (a .form) (a .count) (a .samples .now) (a .out .now) (w .write-walk .last .1 .0) (right e .before .measured2 .given .0 .0)
-measured e =
-    let w = walked (right e) in
-    measured-right _ _ _ _ _ _ _ (w .write-walk .ensures .0) (right e .before .measured2 .given .1)
+stores : (s : tie.After-known-told2)
+    → let w = walked (went s) in let a = start w .args in
+    Stores (a .form) (a .count) (a .samples .now) (a .out .now) (a .measure) (w .write-walk .last .1 .0) (s .before .next2 .given .0 .0)
+stores s =
+    let w = walked (went s) in
+    next-store _ _ _ _ _ _ _ _ (w .write-walk .ensures .0) (sym (went s .after-counting .ensures) ∙ s .before .next2 .given .1)
 
 write-walk-requires : tie.Need-write-walk-requires
 write-walk-requires c κs = let a = c .before .before .before .before .before .before .pre in (a .0, (a .1, λ e. absurd (false≢true e)))
 
-returns : tie.Need-returns
-returns c =
-    let e = c .before in
-    let k = measured e in (
-      (measured-short _ _ _ _ _ _ k _ (e .before .block-length .ensures) _ (e .is-short .ensures) (c .if1 .taken), k .kept),
-      walked (right e) .write-walk .ensures .1,
-    )
-
 write-walk-requires-2 : tie.Need-write-walk-requires-2
 write-walk-requires-2 c κs =
-    let x = c .before .before .before in
-    let e = x .before in
-    let w = walked (right e) in
+    let s = c .before .before .before in
+    let w = walked (went s) in
     let a = start w .pre in (
       a .0,
       (
         (a .1 .0, (omega (arith, w .write-walk .kept, a .1 .1 .0), omega (arith, w .write-walk .kept, a .1 .1 .1))),
-        measured-room _ _ _ _ _ _ (measured e) _ (e .before .block-length .ensures) _ (e .is-short .ensures) (x .if1 .left),
+        store-room _ _ _ _ _ _ _ (stores s),
       ),
     )
 
 -- the walk that stores
-abbrev stored : tie.After-fill-tail-arg → tie.After-write-walk2
-stored f = f .before .before .before .before .before .before
+abbrev again : tie.After-fill-tail-arg → tie.After-write-walk2
+again f = f .before .before .before .before .before .before
 
 fill-tail-requires : tie.Need-fill-tail-requires
 fill-tail-requires c κs =
-    let v = stored c in
-    let x = v .before .before .before .before in
-    let e = x .before in
-    let room = filling-room _ _ _ _ _ _ (measured e) _ (e .before .block-length .ensures) _ (e .is-short .ensures) (x .if1 .left) in
-    omega (arith, v .write-walk2 .kept, room)
+    let v = again c in
+    omega (arith, v .write-walk2 .kept, stores (v .before .before .before .before) .room)
 
-returns-3 : tie.Need-returns-3
-returns-3 c =
-    let f = c .before .before in
-    let v = stored (f .before) in
-    let x = v .before .before .before .before in
-    let e = x .before in (
-      measured-stored _ _ _ _ _ _ (measured e) _ (e .before .block-length .ensures) _ (e .is-short .ensures) (x .if1 .left) _ _ (v .write-walk2 .ensures .0) _ (f .fill-tail .ensures),
-      v .write-walk2 .ensures .1,
-    )
+returns : tie.Need-returns
+returns c =
+    let n = c .before .before .before in
+    let w = walked n in
+    (next-answer _ _ _ _ _ _ _ _ (w .write-walk .ensures .0) (sym (n .after-counting .ensures) ∙ c .before .next .given .1), w .write-walk .ensures .1)
 
 returns-2 : tie.Need-returns-2
 returns-2 c =
-    let w = c .before .before .before .before .before .before .before .before in
-    (measured-wrong _ _ _ _ _ _ _ (w .write-walk .ensures .0) (c .before .measured .given .1), w .write-walk .ensures .1)
+    let f = c .before .before .before in
+    let v = again (f .before) in
+    let s = v .before .before .before .before in
+    (stored _ _ _ _ _ _ _ (stores s) _ _ (v .write-walk2 .ensures .0) _ (f .fill-tail .ensures) _ (c .block-bytes .ensures), v .write-walk2 .ensures .1)
 
 pub write-measured-spec : {M : Type 1} → statement M
 write-measured-spec =
     tie.close
     (tie.spec
     write-walk-requires
+    (λ c κs. search needs)
     (λ c. search needs)
     (λ c. search needs)
-    (λ c. search needs)
-    (λ c. search needs)
+    write-walk-requires-2
+    fill-tail-requires
+    (λ c κs. search needs)
     (λ c. search needs)
     (λ c. search needs)
     (λ c. search needs)
     returns
-    write-walk-requires-2
-    fill-tail-requires
     (λ c. search needs)
     (λ c. search needs)
     (λ c. search needs)
-    returns-2
-    (λ c. search needs)
-    (λ c. search needs)
-    (λ c. search needs)
-    returns-3)
+    returns-2)

@@ -1,10 +1,10 @@
 -- `block::writer::write_set` meets its contract: all samples are looked at before the set is measured. Assumes nothing.
 mod derived
 use borrow.Author.Needs.{needs}
-use mathlib.Core.Path.{refl, ap, _∙_}
+use mathlib.Core.Path.{ap, _∙_}
 use Prim.Native.Nat.{ℕ}
 use lib.ListN.{replicate}
-use Rattle.block.proofs.AnswerLaws.{set-above, set-within, set-answer}
+use Rattle.block.proofs.AnswerLaws.{refused-out, set-above, set-within, set-answer}
 use Rattle.block.proofs.writer.write_set.Statement.{statement}
 use Rattle.block.proofs.writer.write_set.Proof.derived.Tie as tie
 
@@ -17,7 +17,10 @@ returns c =
     let t = k .before .before in
     let f = t .before in
     let a = start f in (
-      (set-above (a .args .form) (a .args .count) (a .args .samples .now) _ _ _ (f .before .largest .ensures .0) (f .first-above .ensures) (t .if1 .taken), refl),
+      (
+        set-above (a .args .form) (a .args .count) (a .args .samples .now) _ _ _ (f .before .largest .ensures .0) (f .first-above .ensures) (t .if1 .taken),
+        refused-out (a .args .measure) _ _ _,
+      ),
       (k .clear .ensures ∙ ap (λ (n : ℕ). replicate n 0) (a .pre .1 .1 .0), c .before .clear-records .ensures),
     )
 

@@ -1,7 +1,7 @@
 -- Written by tools/lend.py from Rattle's derivation of the twin of `block`; not edited by hand. Assumes nothing.
 use Rattle.block.proofs.Element
-use Rattle.block.proofs.Written
-use Rattle.block.proofs.Written.Laws
+use Rattle.stream.proofs.BlockLength
+use Rattle.stream.proofs.BlockLength.Laws
 use borrow.Fn.Kinds
 use borrow.Kind.MutSlice
 use borrow.Kind.ShrSlice
@@ -23,20 +23,19 @@ ps = List._∷_ (ShrSlice.pShrS (Referent.rtF (Referent.fInt Syntax.w8)) 0 tt) (
 
 abbrev pub r : Kinds.RK 5
 r = Value.rVal record {
-  ty = Declared.row Written.the-type;
+  ty = Declared.row BlockLength.the-type;
   one = Path'.refl;
-  val = Laws'.val Written.the-type Laws.the-laws;
-  tells = Laws'.tells Written.the-type Laws.the-laws;
-  still = Laws'.still Written.the-type
-      Laws.the-copy Exit.yes;
-  row = Rows.whole (Declared.row Written.the-type);
+  val = Laws'.val BlockLength.the-type Laws.the-laws;
+  tells = Laws'.tells BlockLength.the-type Laws.the-laws;
+  still = Laws'.still
+      BlockLength.the-type Laws.the-copy Exit.yes;
+  row = Rows.whole (Declared.row BlockLength.the-type);
   rd = λ x. x;
   mk = λ x. x;
 } λ M 𝓤 H A W. record {
-  copies = Laws'.copy Written.the-type Laws.the-copy 𝓤 H A W;
-  lawful = Laws'.lawful Written.the-type Laws.the-laws 𝓤 H A W tt;
-  makes = Laws'.makes Written.the-type Laws.the-plain 𝓤 H A;
-  in-mem =
-      Local.mem-whole 𝓤 H A W (Declared.row Written.the-type);
-  of-mem = Local.whole-mem 𝓤 H A W (Declared.row Written.the-type);
+  copies = Laws'.copy BlockLength.the-type Laws.the-copy 𝓤 H A W;
+  lawful = Laws'.lawful BlockLength.the-type Laws.the-laws 𝓤 H A W tt;
+  makes = Laws'.makes BlockLength.the-type Laws.the-plain 𝓤 H A;
+  in-mem = Local.mem-whole 𝓤 H A W (Declared.row BlockLength.the-type);
+  of-mem = Local.whole-mem 𝓤 H A W (Declared.row BlockLength.the-type);
 }

@@ -2,8 +2,8 @@
 use Rattle.block.proofs.Element
 use Rattle.block.proofs.Form
 use Rattle.block.proofs.Form.Laws
-use Rattle.block.proofs.Written
-use Rattle.block.proofs.Written.Laws as Laws'
+use Rattle.stream.proofs.BlockLength
+use Rattle.stream.proofs.BlockLength.Laws as Laws'
 use borrow.Fn.Kinds
 use borrow.Kind.MutSlice
 use borrow.Kind.ShrSlice
@@ -22,8 +22,8 @@ use mathlib.Core.Path as Path'
 use mir.Syntax
 
 abbrev pub ps : List.List (Kinds.PK 4)
-ps = List._∷_ (ShrSlice.pShrS (Referent.rtF (Referent.fInt Syntax.w16)) 0 tt) (List._∷_ (MutSlice.pMutS (Referent.rtF (Referent.fInt Syntax.w8)) 1 tt) (List._∷_ (MutSlice.pMutS (Referent.rtF
-    (Referent.fInt Syntax.w16)) 2 tt) (List._∷_ (MutSlice.pMutS (Element.type) 3 tt) (List._∷_ (Value.pVal record {
+ps = List._∷_ (ShrSlice.pShrS (Referent.rtF (Referent.fInt Syntax.w16)) 0 tt) (List._∷_ (MutSlice.pMutS (Referent.rtF (Referent.fInt Syntax.w8)) 1 tt) (List._∷_ Kinds.pBool (List._∷_ (MutSlice.pMutS
+    (Referent.rtF (Referent.fInt Syntax.w16)) 2 tt) (List._∷_ (MutSlice.pMutS (Element.type) 3 tt) (List._∷_ (Value.pVal record {
       ty = Declared'.row Form.the-type;
       one = Path'.refl;
       val = Laws'3.val Form.the-type Laws.the-laws;
@@ -40,24 +40,24 @@ ps = List._∷_ (ShrSlice.pShrS (Referent.rtF (Referent.fInt Syntax.w16)) 0 tt) 
       in-mem =
           Local.mem-whole 𝓤 H A W (Declared'.row Form.the-type);
       of-mem = Local.whole-mem 𝓤 H A W (Declared'.row Form.the-type);
-    }) (List._∷_ (Kinds.pNum Syntax.w64) List.[])))))
+    }) (List._∷_ (Kinds.pNum Syntax.w64) List.[]))))))
 
 abbrev pub r : Kinds.RK 4
 r = Value.rVal record {
-  ty = Declared.row Written.the-type;
+  ty = Declared.row BlockLength.the-type;
   one = Path'.refl;
-  val = Laws''.val Written.the-type Laws'.the-laws;
-  tells = Laws''.tells Written.the-type Laws'.the-laws;
-  still = Laws''.still Written.the-type
-      Laws'.the-copy Exit.yes;
-  row = Rows.whole (Declared.row Written.the-type);
+  val = Laws''.val BlockLength.the-type Laws'.the-laws;
+  tells = Laws''.tells BlockLength.the-type Laws'.the-laws;
+  still = Laws''.still
+      BlockLength.the-type Laws'.the-copy Exit.yes;
+  row = Rows.whole (Declared.row BlockLength.the-type);
   rd = λ x. x;
   mk = λ x. x;
 } λ M 𝓤 H A W. record {
-  copies = Laws''.copy Written.the-type Laws'.the-copy 𝓤 H A W;
-  lawful = Laws''.lawful Written.the-type Laws'.the-laws 𝓤 H A W tt;
-  makes = Laws''.makes Written.the-type Laws'.the-plain 𝓤 H A;
-  in-mem =
-      Local.mem-whole 𝓤 H A W (Declared.row Written.the-type);
-  of-mem = Local.whole-mem 𝓤 H A W (Declared.row Written.the-type);
+  copies = Laws''.copy BlockLength.the-type Laws'.the-copy 𝓤 H A W;
+  lawful = Laws''.lawful BlockLength.the-type Laws'.the-laws 𝓤 H A W tt;
+  makes = Laws''.makes BlockLength.the-type Laws'.the-plain 𝓤 H
+      A;
+  in-mem = Local.mem-whole 𝓤 H A W (Declared.row BlockLength.the-type);
+  of-mem = Local.whole-mem 𝓤 H A W (Declared.row BlockLength.the-type);
 }

@@ -1,8 +1,8 @@
 -- Written by tools/lend.py from Rattle's derivation of the twin of `block`; not edited by hand. Assumes nothing.
 use Rattle.block.proofs.Element
 use Prim.Native.Nat
-use Rattle.block.proofs.Written
-use Rattle.block.proofs.Written.Laws
+use Rattle.stream.proofs.BlockLength
+use Rattle.stream.proofs.BlockLength.Laws
 use borrow.Author.Called
 use borrow.Fn.Any
 use borrow.Fn.Call
@@ -72,17 +72,17 @@ abbrev pub r : Kinds.RK 7
 r = Unit'.rUnit
 
 abbrev pub xs : List.List Syntax.Ty
-xs = List._∷_ (Syntax.tyEnum (List._∷_ 98 (List._∷_ 108 (List._∷_ 111 (List._∷_ 99 (List._∷_ 107 (List._∷_ 58 (List._∷_ 58 (List._∷_ 87 (List._∷_ 114 (List._∷_ 105 (List._∷_ 116 (List._∷_ 116
-    (List._∷_ 101 (List._∷_ 110 List.[])))))))))))))) (Syntax.ttcons (Syntax.tcons (Syntax.tyInt Syntax.w64) Syntax.tnil) (Syntax.ttcons (Syntax.tcons (Syntax.tyEnum (List._∷_ 115 (List._∷_ 116 (List._∷_
-    114 (List._∷_ 101 (List._∷_ 97 (List._∷_ 109 (List._∷_ 58 (List._∷_ 58 (List._∷_ 82 (List._∷_ 101 (List._∷_ 102 (List._∷_ 117 (List._∷_ 115 (List._∷_ 97 (List._∷_ 108 List.[])))))))))))))))
-    (Syntax.ttcons Syntax.tnil (Syntax.ttcons Syntax.tnil (Syntax.ttcons Syntax.tnil (Syntax.ttcons (Syntax.tcons (Syntax.tyInt Syntax.w64) Syntax.tnil) (Syntax.ttcons Syntax.tnil (Syntax.ttcons
-    Syntax.tnil (Syntax.ttcons Syntax.tnil (Syntax.ttcons Syntax.tnil (Syntax.ttcons Syntax.tnil (Syntax.ttcons Syntax.tnil (Syntax.ttcons (Syntax.tcons (Syntax.tyInt Syntax.w64) Syntax.tnil)
-    (Syntax.ttcons (Syntax.tcons (Syntax.tyInt Syntax.w64) Syntax.tnil) (Syntax.ttcons Syntax.tnil (Syntax.ttcons (Syntax.tcons (Syntax.tyInt Syntax.w64) (Syntax.tcons (Syntax.tyInt Syntax.w64)
-    Syntax.tnil)) (Syntax.ttcons (Syntax.tcons (Syntax.tyInt Syntax.w64) Syntax.tnil) (Syntax.ttcons Syntax.tnil (Syntax.ttcons Syntax.tnil (Syntax.ttcons (Syntax.tcons (Syntax.tyInt Syntax.w64)
-    Syntax.tnil) (Syntax.ttcons (Syntax.tcons (Syntax.tyInt Syntax.w64) Syntax.tnil) (Syntax.ttcons (Syntax.tcons (Syntax.tyInt Syntax.w64) Syntax.tnil) (Syntax.ttcons Syntax.tnil
-    Syntax.ttnil)))))))))))))))))))))) Syntax.tnil) Syntax.ttnil))) (List._∷_ (Syntax.tyArray (Syntax.tyInt Syntax.w64) 1) (List._∷_ (Syntax.tyArray (Syntax.tyInt Syntax.w64) 4) (List._∷_ (Syntax.tyRef
-    Syntax.erased Syntax.mut (Syntax.tyInt Syntax.w8)) (List._∷_ y1 (List._∷_ (Syntax.tyRef Syntax.erased Syntax.mut (Syntax.tyInt Syntax.w16)) (List._∷_ y0 (List._∷_ (Syntax.tyRef Syntax.erased
-    Syntax.mut Element.behind) (List._∷_ y2 List.[]))))))))
+xs = List._∷_ (Syntax.tyEnum (List._∷_ 115 (List._∷_ 116 (List._∷_ 114 (List._∷_ 101 (List._∷_ 97 (List._∷_ 109 (List._∷_ 58 (List._∷_ 58 (List._∷_ 66 (List._∷_ 108 (List._∷_ 111 (List._∷_ 99
+    (List._∷_ 107 (List._∷_ 76 (List._∷_ 101 (List._∷_ 110 (List._∷_ 103 (List._∷_ 116 (List._∷_ 104 List.[]))))))))))))))))))) (Syntax.ttcons (Syntax.tcons (Syntax.tyInt Syntax.w64) Syntax.tnil)
+    (Syntax.ttcons (Syntax.tcons (Syntax.tyEnum (List._∷_ 115 (List._∷_ 116 (List._∷_ 114 (List._∷_ 101 (List._∷_ 97 (List._∷_ 109 (List._∷_ 58 (List._∷_ 58 (List._∷_ 82 (List._∷_ 101 (List._∷_ 102
+    (List._∷_ 117 (List._∷_ 115 (List._∷_ 97 (List._∷_ 108 List.[]))))))))))))))) (Syntax.ttcons Syntax.tnil (Syntax.ttcons Syntax.tnil (Syntax.ttcons Syntax.tnil (Syntax.ttcons (Syntax.tcons
+    (Syntax.tyInt Syntax.w64) Syntax.tnil) (Syntax.ttcons Syntax.tnil (Syntax.ttcons Syntax.tnil (Syntax.ttcons Syntax.tnil (Syntax.ttcons Syntax.tnil (Syntax.ttcons Syntax.tnil (Syntax.ttcons Syntax.tnil
+    (Syntax.ttcons (Syntax.tcons (Syntax.tyInt Syntax.w64) Syntax.tnil) (Syntax.ttcons (Syntax.tcons (Syntax.tyInt Syntax.w64) Syntax.tnil) (Syntax.ttcons Syntax.tnil (Syntax.ttcons (Syntax.tcons
+    (Syntax.tyInt Syntax.w64) (Syntax.tcons (Syntax.tyInt Syntax.w64) Syntax.tnil)) (Syntax.ttcons (Syntax.tcons (Syntax.tyInt Syntax.w64) Syntax.tnil) (Syntax.ttcons Syntax.tnil (Syntax.ttcons
+    Syntax.tnil (Syntax.ttcons (Syntax.tcons (Syntax.tyInt Syntax.w64) Syntax.tnil) (Syntax.ttcons (Syntax.tcons (Syntax.tyInt Syntax.w64) Syntax.tnil) (Syntax.ttcons (Syntax.tcons (Syntax.tyInt
+    Syntax.w64) Syntax.tnil) (Syntax.ttcons Syntax.tnil Syntax.ttnil)))))))))))))))))))))) Syntax.tnil) Syntax.ttnil))) (List._∷_ (Syntax.tyArray (Syntax.tyInt Syntax.w64) 1) (List._∷_ (Syntax.tyArray
+    (Syntax.tyInt Syntax.w64) 4) (List._∷_ (Syntax.tyRef Syntax.erased Syntax.mut (Syntax.tyInt Syntax.w8)) (List._∷_ y1 (List._∷_ (Syntax.tyRef Syntax.erased Syntax.mut (Syntax.tyInt Syntax.w16))
+    (List._∷_ y0 (List._∷_ (Syntax.tyRef Syntax.erased Syntax.mut Element.behind) (List._∷_ y2 List.[]))))))))
 
 abbrev pub m : Nat.ℕ
 m = 3
@@ -93,42 +93,40 @@ ps·0 = List._∷_ (ShrSlice.pShrS (Referent.rtF (Referent.fInt Syntax.w8)) 0 tt
 
 abbrev pub r·0 : Kinds.RK 5
 r·0 = Value.rVal record {
-  ty = Declared.row Written.the-type;
+  ty = Declared.row BlockLength.the-type;
   one = Path'.refl;
-  val = Laws'.val Written.the-type Laws.the-laws;
-  tells = Laws'.tells Written.the-type Laws.the-laws;
-  still = Laws'.still Written.the-type
-      Laws.the-copy Exit.yes;
-  row = Rows'.whole (Declared.row Written.the-type);
+  val = Laws'.val BlockLength.the-type Laws.the-laws;
+  tells = Laws'.tells BlockLength.the-type Laws.the-laws;
+  still = Laws'.still
+      BlockLength.the-type Laws.the-copy Exit.yes;
+  row = Rows'.whole (Declared.row BlockLength.the-type);
   rd = λ x. x;
   mk = λ x. x;
 } λ M 𝓤 H A W. record {
-  copies = Laws'.copy Written.the-type Laws.the-copy 𝓤 H A W;
-  lawful = Laws'.lawful Written.the-type Laws.the-laws 𝓤 H A W tt;
-  makes = Laws'.makes Written.the-type Laws.the-plain 𝓤 H A;
-  in-mem =
-      Local.mem-whole 𝓤 H A W (Declared.row Written.the-type);
-  of-mem = Local.whole-mem 𝓤 H A W (Declared.row Written.the-type);
+  copies = Laws'.copy BlockLength.the-type Laws.the-copy 𝓤 H A W;
+  lawful = Laws'.lawful BlockLength.the-type Laws.the-laws 𝓤 H A W tt;
+  makes = Laws'.makes BlockLength.the-type Laws.the-plain 𝓤 H A;
+  in-mem = Local.mem-whole 𝓤 H A W (Declared.row BlockLength.the-type);
+  of-mem = Local.whole-mem 𝓤 H A W (Declared.row BlockLength.the-type);
 }
 
 abbrev pub ps·1 : List.List (Kinds.PK 0)
 ps·1 = List._∷_ (Value.pVal record {
-  ty = Declared.row Written.the-type;
+  ty = Declared.row BlockLength.the-type;
   one = Path'.refl;
-  val = Laws'.val Written.the-type Laws.the-laws;
-  tells = Laws'.tells Written.the-type Laws.the-laws;
-  still = Laws'.still Written.the-type
-      Laws.the-copy Exit.yes;
-  row = Rows'.whole (Declared.row Written.the-type);
+  val = Laws'.val BlockLength.the-type Laws.the-laws;
+  tells = Laws'.tells BlockLength.the-type Laws.the-laws;
+  still = Laws'.still
+      BlockLength.the-type Laws.the-copy Exit.yes;
+  row = Rows'.whole (Declared.row BlockLength.the-type);
   rd = λ x. x;
   mk = λ x. x;
 } λ M 𝓤 H A W. record {
-  copies = Laws'.copy Written.the-type Laws.the-copy 𝓤 H A W;
-  lawful = Laws'.lawful Written.the-type Laws.the-laws 𝓤 H A W tt;
-  makes = Laws'.makes Written.the-type Laws.the-plain 𝓤 H A;
-  in-mem =
-      Local.mem-whole 𝓤 H A W (Declared.row Written.the-type);
-  of-mem = Local.whole-mem 𝓤 H A W (Declared.row Written.the-type);
+  copies = Laws'.copy BlockLength.the-type Laws.the-copy 𝓤 H A W;
+  lawful = Laws'.lawful BlockLength.the-type Laws.the-laws 𝓤 H A W tt;
+  makes = Laws'.makes BlockLength.the-type Laws.the-plain 𝓤 H A;
+  in-mem = Local.mem-whole 𝓤 H A W (Declared.row BlockLength.the-type);
+  of-mem = Local.whole-mem 𝓤 H A W (Declared.row BlockLength.the-type);
 }) List.[]
 
 abbrev pub r·1 : Kinds.RK 0
@@ -136,22 +134,21 @@ r·1 = Array.rArr (Array.eInt Syntax.w64) (Array.eInt-laws Syntax.w64) 1
 
 abbrev pub ps·2 : List.List (Kinds.PK 0)
 ps·2 = List._∷_ (Value.pVal record {
-  ty = Declared.row Written.the-type;
+  ty = Declared.row BlockLength.the-type;
   one = Path'.refl;
-  val = Laws'.val Written.the-type Laws.the-laws;
-  tells = Laws'.tells Written.the-type Laws.the-laws;
-  still = Laws'.still Written.the-type
-      Laws.the-copy Exit.yes;
-  row = Rows'.whole (Declared.row Written.the-type);
+  val = Laws'.val BlockLength.the-type Laws.the-laws;
+  tells = Laws'.tells BlockLength.the-type Laws.the-laws;
+  still = Laws'.still
+      BlockLength.the-type Laws.the-copy Exit.yes;
+  row = Rows'.whole (Declared.row BlockLength.the-type);
   rd = λ x. x;
   mk = λ x. x;
 } λ M 𝓤 H A W. record {
-  copies = Laws'.copy Written.the-type Laws.the-copy 𝓤 H A W;
-  lawful = Laws'.lawful Written.the-type Laws.the-laws 𝓤 H A W tt;
-  makes = Laws'.makes Written.the-type Laws.the-plain 𝓤 H A;
-  in-mem =
-      Local.mem-whole 𝓤 H A W (Declared.row Written.the-type);
-  of-mem = Local.whole-mem 𝓤 H A W (Declared.row Written.the-type);
+  copies = Laws'.copy BlockLength.the-type Laws.the-copy 𝓤 H A W;
+  lawful = Laws'.lawful BlockLength.the-type Laws.the-laws 𝓤 H A W tt;
+  makes = Laws'.makes BlockLength.the-type Laws.the-plain 𝓤 H A;
+  in-mem = Local.mem-whole 𝓤 H A W (Declared.row BlockLength.the-type);
+  of-mem = Local.whole-mem 𝓤 H A W (Declared.row BlockLength.the-type);
 }) List.[]
 
 abbrev pub r·2 : Kinds.RK 0
@@ -185,10 +182,10 @@ b6 = Syntax.call "block::writer::write_block" (List._∷_ (Syntax.copy (Syntax.p
     (List._∷_ (Syntax.copy (Syntax.place 14 List.[])) (List._∷_ (Syntax.copy (Syntax.place 16 List.[])) List.[]))))) (Syntax.place 8 List.[])
 
 abbrev b7 : Syntax.Body
-b7 = Syntax.call "block::c::written_words" (List._∷_ (Syntax.copy (Syntax.place 8 List.[])) List.[]) (Syntax.place 9 List.[])
+b7 = Syntax.call "stream::length_word" (List._∷_ (Syntax.copy (Syntax.place 8 List.[])) List.[]) (Syntax.place 9 List.[])
 
 abbrev b8 : Syntax.Body
-b8 = Syntax.call "block::c::written_refusal" (List._∷_ (Syntax.copy (Syntax.place 8 List.[])) List.[]) (Syntax.place 10 List.[])
+b8 = Syntax.call "stream::length_refusal" (List._∷_ (Syntax.copy (Syntax.place 8 List.[])) List.[]) (Syntax.place 10 List.[])
 
 abbrev b9 : Syntax.Body
 b9 = Syntax.assign (Syntax.place 6 (List._∷_ (Syntax.deref (Syntax.tyArray (Syntax.tyInt Syntax.w64) 1)) List.[])) (Syntax.rvOpd (Syntax.copy (Syntax.place 9 List.[])))
@@ -322,19 +319,19 @@ e24 = (7, Rows'.mref (Array'.Array (Referent.rtF (Referent.fInt Syntax.w64)) 4) 
 abbrev pub e25 : Row.Entry
 e25 = (
   8,
-  Rows'.any-gone (Syntax.tyEnum (List._∷_ 98 (List._∷_ 108 (List._∷_ 111 (List._∷_ 99 (List._∷_ 107 (List._∷_ 58 (List._∷_ 58 (List._∷_ 87 (List._∷_ 114 (List._∷_ 105 (List._∷_ 116 (List._∷_ 116
-      (List._∷_ 101 (List._∷_ 110 List.[])))))))))))))) (Syntax.ttcons (Syntax.tcons (Syntax.tyInt Syntax.w64) Syntax.tnil) (Syntax.ttcons (Syntax.tcons (Syntax.tyEnum (List._∷_ 115 (List._∷_ 116 (List._∷_
-      114 (List._∷_ 101 (List._∷_ 97 (List._∷_ 109 (List._∷_ 58 (List._∷_ 58 (List._∷_ 82 (List._∷_ 101 (List._∷_ 102 (List._∷_ 117 (List._∷_ 115 (List._∷_ 97 (List._∷_ 108 List.[])))))))))))))))
-      (Syntax.ttcons Syntax.tnil (Syntax.ttcons Syntax.tnil (Syntax.ttcons Syntax.tnil (Syntax.ttcons (Syntax.tcons (Syntax.tyInt Syntax.w64) Syntax.tnil) (Syntax.ttcons Syntax.tnil (Syntax.ttcons
-      Syntax.tnil (Syntax.ttcons Syntax.tnil (Syntax.ttcons Syntax.tnil (Syntax.ttcons Syntax.tnil (Syntax.ttcons Syntax.tnil (Syntax.ttcons (Syntax.tcons (Syntax.tyInt Syntax.w64) Syntax.tnil)
-      (Syntax.ttcons (Syntax.tcons (Syntax.tyInt Syntax.w64) Syntax.tnil) (Syntax.ttcons Syntax.tnil (Syntax.ttcons (Syntax.tcons (Syntax.tyInt Syntax.w64) (Syntax.tcons (Syntax.tyInt Syntax.w64)
-      Syntax.tnil)) (Syntax.ttcons (Syntax.tcons (Syntax.tyInt Syntax.w64) Syntax.tnil) (Syntax.ttcons Syntax.tnil (Syntax.ttcons Syntax.tnil (Syntax.ttcons (Syntax.tcons (Syntax.tyInt Syntax.w64)
-      Syntax.tnil) (Syntax.ttcons (Syntax.tcons (Syntax.tyInt Syntax.w64) Syntax.tnil) (Syntax.ttcons (Syntax.tcons (Syntax.tyInt Syntax.w64) Syntax.tnil) (Syntax.ttcons Syntax.tnil
-      Syntax.ttnil)))))))))))))))))))))) Syntax.tnil) Syntax.ttnil))),
+  Rows'.any-gone (Syntax.tyEnum (List._∷_ 115 (List._∷_ 116 (List._∷_ 114 (List._∷_ 101 (List._∷_ 97 (List._∷_ 109 (List._∷_ 58 (List._∷_ 58 (List._∷_ 66 (List._∷_ 108 (List._∷_ 111 (List._∷_ 99
+      (List._∷_ 107 (List._∷_ 76 (List._∷_ 101 (List._∷_ 110 (List._∷_ 103 (List._∷_ 116 (List._∷_ 104 List.[]))))))))))))))))))) (Syntax.ttcons (Syntax.tcons (Syntax.tyInt Syntax.w64) Syntax.tnil)
+      (Syntax.ttcons (Syntax.tcons (Syntax.tyEnum (List._∷_ 115 (List._∷_ 116 (List._∷_ 114 (List._∷_ 101 (List._∷_ 97 (List._∷_ 109 (List._∷_ 58 (List._∷_ 58 (List._∷_ 82 (List._∷_ 101 (List._∷_ 102
+      (List._∷_ 117 (List._∷_ 115 (List._∷_ 97 (List._∷_ 108 List.[]))))))))))))))) (Syntax.ttcons Syntax.tnil (Syntax.ttcons Syntax.tnil (Syntax.ttcons Syntax.tnil (Syntax.ttcons (Syntax.tcons
+      (Syntax.tyInt Syntax.w64) Syntax.tnil) (Syntax.ttcons Syntax.tnil (Syntax.ttcons Syntax.tnil (Syntax.ttcons Syntax.tnil (Syntax.ttcons Syntax.tnil (Syntax.ttcons Syntax.tnil (Syntax.ttcons Syntax.tnil
+      (Syntax.ttcons (Syntax.tcons (Syntax.tyInt Syntax.w64) Syntax.tnil) (Syntax.ttcons (Syntax.tcons (Syntax.tyInt Syntax.w64) Syntax.tnil) (Syntax.ttcons Syntax.tnil (Syntax.ttcons (Syntax.tcons
+      (Syntax.tyInt Syntax.w64) (Syntax.tcons (Syntax.tyInt Syntax.w64) Syntax.tnil)) (Syntax.ttcons (Syntax.tcons (Syntax.tyInt Syntax.w64) Syntax.tnil) (Syntax.ttcons Syntax.tnil (Syntax.ttcons
+      Syntax.tnil (Syntax.ttcons (Syntax.tcons (Syntax.tyInt Syntax.w64) Syntax.tnil) (Syntax.ttcons (Syntax.tcons (Syntax.tyInt Syntax.w64) Syntax.tnil) (Syntax.ttcons (Syntax.tcons (Syntax.tyInt
+      Syntax.w64) Syntax.tnil) (Syntax.ttcons Syntax.tnil Syntax.ttnil)))))))))))))))))))))) Syntax.tnil) Syntax.ttnil))),
 )
 
 abbrev pub e26 : Row.Entry
-e26 = (8, Rows'.whole (Declared.row Written.the-type))
+e26 = (8, Rows'.whole (Declared.row BlockLength.the-type))
 
 abbrev pub e27 : Row.Entry
 e27 = (9, Rows'.any-gone (Syntax.tyArray (Syntax.tyInt Syntax.w64) 1))
@@ -546,15 +543,15 @@ module _ (claims· : Claims) where
       ),
     ),
   ) 8 (List._∷_ 0 (List._∷_ 1 (List._∷_ 7 (List._∷_ 8 (List._∷_ 9 List.[]))))) (Syntax.tyEnum
-      (List._∷_ 98 (List._∷_ 108 (List._∷_ 111 (List._∷_ 99 (List._∷_ 107 (List._∷_ 58 (List._∷_ 58 (List._∷_ 87 (List._∷_ 114 (List._∷_ 105 (List._∷_ 116 (List._∷_ 116 (List._∷_ 101 (List._∷_ 110
-      List.[])))))))))))))) (Syntax.ttcons (Syntax.tcons (Syntax.tyInt Syntax.w64) Syntax.tnil) (Syntax.ttcons (Syntax.tcons (Syntax.tyEnum (List._∷_ 115 (List._∷_ 116 (List._∷_ 114 (List._∷_ 101
-      (List._∷_ 97 (List._∷_ 109 (List._∷_ 58 (List._∷_ 58 (List._∷_ 82 (List._∷_ 101 (List._∷_ 102 (List._∷_ 117 (List._∷_ 115 (List._∷_ 97 (List._∷_ 108 List.[]))))))))))))))) (Syntax.ttcons Syntax.tnil
-      (Syntax.ttcons Syntax.tnil (Syntax.ttcons Syntax.tnil (Syntax.ttcons (Syntax.tcons (Syntax.tyInt Syntax.w64) Syntax.tnil) (Syntax.ttcons Syntax.tnil (Syntax.ttcons Syntax.tnil (Syntax.ttcons
-      Syntax.tnil (Syntax.ttcons Syntax.tnil (Syntax.ttcons Syntax.tnil (Syntax.ttcons Syntax.tnil (Syntax.ttcons (Syntax.tcons (Syntax.tyInt Syntax.w64) Syntax.tnil) (Syntax.ttcons (Syntax.tcons
-      (Syntax.tyInt Syntax.w64) Syntax.tnil) (Syntax.ttcons Syntax.tnil (Syntax.ttcons (Syntax.tcons (Syntax.tyInt Syntax.w64) (Syntax.tcons (Syntax.tyInt Syntax.w64) Syntax.tnil)) (Syntax.ttcons
-      (Syntax.tcons (Syntax.tyInt Syntax.w64) Syntax.tnil) (Syntax.ttcons Syntax.tnil (Syntax.ttcons Syntax.tnil (Syntax.ttcons (Syntax.tcons (Syntax.tyInt Syntax.w64) Syntax.tnil) (Syntax.ttcons
-      (Syntax.tcons (Syntax.tyInt Syntax.w64) Syntax.tnil) (Syntax.ttcons (Syntax.tcons (Syntax.tyInt Syntax.w64) Syntax.tnil) (Syntax.ttcons Syntax.tnil Syntax.ttnil)))))))))))))))))))))) Syntax.tnil)
-      Syntax.ttnil)))
+      (List._∷_ 115 (List._∷_ 116 (List._∷_ 114 (List._∷_ 101 (List._∷_ 97 (List._∷_ 109 (List._∷_ 58 (List._∷_ 58 (List._∷_ 66 (List._∷_ 108 (List._∷_ 111 (List._∷_ 99 (List._∷_ 107 (List._∷_ 76
+      (List._∷_ 101 (List._∷_ 110 (List._∷_ 103 (List._∷_ 116 (List._∷_ 104 List.[]))))))))))))))))))) (Syntax.ttcons (Syntax.tcons (Syntax.tyInt Syntax.w64) Syntax.tnil) (Syntax.ttcons (Syntax.tcons
+      (Syntax.tyEnum (List._∷_ 115 (List._∷_ 116 (List._∷_ 114 (List._∷_ 101 (List._∷_ 97 (List._∷_ 109 (List._∷_ 58 (List._∷_ 58 (List._∷_ 82 (List._∷_ 101 (List._∷_ 102 (List._∷_ 117 (List._∷_ 115
+      (List._∷_ 97 (List._∷_ 108 List.[]))))))))))))))) (Syntax.ttcons Syntax.tnil (Syntax.ttcons Syntax.tnil (Syntax.ttcons Syntax.tnil (Syntax.ttcons (Syntax.tcons (Syntax.tyInt Syntax.w64) Syntax.tnil)
+      (Syntax.ttcons Syntax.tnil (Syntax.ttcons Syntax.tnil (Syntax.ttcons Syntax.tnil (Syntax.ttcons Syntax.tnil (Syntax.ttcons Syntax.tnil (Syntax.ttcons Syntax.tnil (Syntax.ttcons (Syntax.tcons
+      (Syntax.tyInt Syntax.w64) Syntax.tnil) (Syntax.ttcons (Syntax.tcons (Syntax.tyInt Syntax.w64) Syntax.tnil) (Syntax.ttcons Syntax.tnil (Syntax.ttcons (Syntax.tcons (Syntax.tyInt Syntax.w64)
+      (Syntax.tcons (Syntax.tyInt Syntax.w64) Syntax.tnil)) (Syntax.ttcons (Syntax.tcons (Syntax.tyInt Syntax.w64) Syntax.tnil) (Syntax.ttcons Syntax.tnil (Syntax.ttcons Syntax.tnil (Syntax.ttcons
+      (Syntax.tcons (Syntax.tyInt Syntax.w64) Syntax.tnil) (Syntax.ttcons (Syntax.tcons (Syntax.tyInt Syntax.w64) Syntax.tnil) (Syntax.ttcons (Syntax.tcons (Syntax.tyInt Syntax.w64) Syntax.tnil)
+      (Syntax.ttcons Syntax.tnil Syntax.ttnil)))))))))))))))))))))) Syntax.tnil) Syntax.ttnil)))
 
   abbrev s15 : Typed.Both T15 T17
   s15 = Relend.k-back-sl (Referent.rtF (Referent.fInt Syntax.w8)) T15 12 3 2 7 (Syntax.tyRef (Syntax.named 2) Syntax.mut (Syntax.tyInt Syntax.w8)) (Syntax.tyRef Syntax.erased Syntax.mut (Syntax.tyInt
@@ -580,15 +577,15 @@ module _ (claims· : Claims) where
   s26 = Call.callB ps·2 r·2 (claims· .4) (claims· .5) T27 (record { pos = 8; st = List.[]; d = 0; at = λ x. x }, tt) 10 List.[] (Syntax.tyArray (Syntax.tyInt Syntax.w64) 4)
 
   abbrev s27 : Typed.Mo T28 → Typed.Mo T29
-  s27 = Scalar.n-room T28 8 (Syntax.tyEnum (List._∷_ 98 (List._∷_ 108 (List._∷_ 111 (List._∷_ 99 (List._∷_ 107 (List._∷_ 58 (List._∷_ 58 (List._∷_ 87 (List._∷_ 114 (List._∷_ 105 (List._∷_ 116
-      (List._∷_ 116 (List._∷_ 101 (List._∷_ 110 List.[])))))))))))))) (Syntax.ttcons (Syntax.tcons (Syntax.tyInt Syntax.w64) Syntax.tnil) (Syntax.ttcons (Syntax.tcons (Syntax.tyEnum (List._∷_ 115
-      (List._∷_ 116 (List._∷_ 114 (List._∷_ 101 (List._∷_ 97 (List._∷_ 109 (List._∷_ 58 (List._∷_ 58 (List._∷_ 82 (List._∷_ 101 (List._∷_ 102 (List._∷_ 117 (List._∷_ 115 (List._∷_ 97 (List._∷_ 108
-      List.[]))))))))))))))) (Syntax.ttcons Syntax.tnil (Syntax.ttcons Syntax.tnil (Syntax.ttcons Syntax.tnil (Syntax.ttcons (Syntax.tcons (Syntax.tyInt Syntax.w64) Syntax.tnil) (Syntax.ttcons Syntax.tnil
-      (Syntax.ttcons Syntax.tnil (Syntax.ttcons Syntax.tnil (Syntax.ttcons Syntax.tnil (Syntax.ttcons Syntax.tnil (Syntax.ttcons Syntax.tnil (Syntax.ttcons (Syntax.tcons (Syntax.tyInt Syntax.w64)
-      Syntax.tnil) (Syntax.ttcons (Syntax.tcons (Syntax.tyInt Syntax.w64) Syntax.tnil) (Syntax.ttcons Syntax.tnil (Syntax.ttcons (Syntax.tcons (Syntax.tyInt Syntax.w64) (Syntax.tcons (Syntax.tyInt
-      Syntax.w64) Syntax.tnil)) (Syntax.ttcons (Syntax.tcons (Syntax.tyInt Syntax.w64) Syntax.tnil) (Syntax.ttcons Syntax.tnil (Syntax.ttcons Syntax.tnil (Syntax.ttcons (Syntax.tcons (Syntax.tyInt
-      Syntax.w64) Syntax.tnil) (Syntax.ttcons (Syntax.tcons (Syntax.tyInt Syntax.w64) Syntax.tnil) (Syntax.ttcons (Syntax.tcons (Syntax.tyInt Syntax.w64) Syntax.tnil) (Syntax.ttcons Syntax.tnil
-      Syntax.ttnil)))))))))))))))))))))) Syntax.tnil) Syntax.ttnil)))
+  s27 = Scalar.n-room T28 8 (Syntax.tyEnum (List._∷_ 115 (List._∷_ 116 (List._∷_ 114 (List._∷_ 101 (List._∷_ 97 (List._∷_ 109 (List._∷_ 58 (List._∷_ 58 (List._∷_ 66 (List._∷_ 108 (List._∷_ 111
+      (List._∷_ 99 (List._∷_ 107 (List._∷_ 76 (List._∷_ 101 (List._∷_ 110 (List._∷_ 103 (List._∷_ 116 (List._∷_ 104 List.[]))))))))))))))))))) (Syntax.ttcons (Syntax.tcons (Syntax.tyInt Syntax.w64)
+      Syntax.tnil) (Syntax.ttcons (Syntax.tcons (Syntax.tyEnum (List._∷_ 115 (List._∷_ 116 (List._∷_ 114 (List._∷_ 101 (List._∷_ 97 (List._∷_ 109 (List._∷_ 58 (List._∷_ 58 (List._∷_ 82 (List._∷_ 101
+      (List._∷_ 102 (List._∷_ 117 (List._∷_ 115 (List._∷_ 97 (List._∷_ 108 List.[]))))))))))))))) (Syntax.ttcons Syntax.tnil (Syntax.ttcons Syntax.tnil (Syntax.ttcons Syntax.tnil (Syntax.ttcons
+      (Syntax.tcons (Syntax.tyInt Syntax.w64) Syntax.tnil) (Syntax.ttcons Syntax.tnil (Syntax.ttcons Syntax.tnil (Syntax.ttcons Syntax.tnil (Syntax.ttcons Syntax.tnil (Syntax.ttcons Syntax.tnil
+      (Syntax.ttcons Syntax.tnil (Syntax.ttcons (Syntax.tcons (Syntax.tyInt Syntax.w64) Syntax.tnil) (Syntax.ttcons (Syntax.tcons (Syntax.tyInt Syntax.w64) Syntax.tnil) (Syntax.ttcons Syntax.tnil
+      (Syntax.ttcons (Syntax.tcons (Syntax.tyInt Syntax.w64) (Syntax.tcons (Syntax.tyInt Syntax.w64) Syntax.tnil)) (Syntax.ttcons (Syntax.tcons (Syntax.tyInt Syntax.w64) Syntax.tnil) (Syntax.ttcons
+      Syntax.tnil (Syntax.ttcons Syntax.tnil (Syntax.ttcons (Syntax.tcons (Syntax.tyInt Syntax.w64) Syntax.tnil) (Syntax.ttcons (Syntax.tcons (Syntax.tyInt Syntax.w64) Syntax.tnil) (Syntax.ttcons
+      (Syntax.tcons (Syntax.tyInt Syntax.w64) Syntax.tnil) (Syntax.ttcons Syntax.tnil Syntax.ttnil)))))))))))))))))))))) Syntax.tnil) Syntax.ttnil)))
 
   abbrev s28 : Typed.Mo T29 → Typed.Mo T30
   s28 = DerefMove.n-ref-write-from T29 6 9 5 (Array'.Array (Referent.rtF (Referent.fInt Syntax.w64)) 1) (Syntax.tyRef (Syntax.named 5) Syntax.mut (Syntax.tyArray (Syntax.tyInt Syntax.w64) 1)) Row.off
@@ -611,8 +608,8 @@ module _ (claims· : Claims) where
     module _ (M : Type 1) where
       abbrev pub Closed : Type 2
       Closed = (𝓤 : URA.URA M) (H : Wp.Heap 𝓤) (A : Atoms.Atoms 𝓤) (W : Kit.Given 𝓤 H A) (𝓣 : Wp.Tables 𝓤 H) (known0 : Plain.Known 𝓤 H A W 𝓣 5 ps·0 r·0 (claims· .0) (claims· .1)
-          "block::writer::write_block") (known1 : Plain.Known 𝓤 H A W 𝓣 0 ps·1 r·1 (claims· .2) (claims· .3) "block::c::written_words") (known2 : Plain.Known 𝓤 H A W 𝓣 0 ps·2 r·2 (claims· .4) (claims· .5)
-          "block::c::written_refusal") → Statement.Triple 𝓤 (Wp.WpFn 𝓤 H (𝓣 .C) (𝓣 .Λ) (Function.fnOf 7 ps r xs m hs body)) (Function.plainOf 𝓤 H A 7 ps r Pre· Post·)
+          "block::writer::write_block") (known1 : Plain.Known 𝓤 H A W 𝓣 0 ps·1 r·1 (claims· .2) (claims· .3) "stream::length_word") (known2 : Plain.Known 𝓤 H A W 𝓣 0 ps·2 r·2 (claims· .4) (claims· .5)
+          "stream::length_refusal") → Statement.Triple 𝓤 (Wp.WpFn 𝓤 H (𝓣 .C) (𝓣 .Λ) (Function.fnOf 7 ps r xs m hs body)) (Function.plainOf 𝓤 H A 7 ps r Pre· Post·)
 
     module _ where
       abbrev at0 : Typed.TF T34 O0
@@ -722,8 +719,8 @@ module _ (claims· : Claims) where
 
       module _ {M : Type 1} (𝓤 : URA.URA M) (H : Wp.Heap 𝓤) (A : Atoms.Atoms 𝓤) (W : Kit.Given 𝓤 H A) (𝓣 : Wp.Tables 𝓤 H) where
         abbrev Knowns : Type 1
-        Knowns = Plain.Known 𝓤 H A W 𝓣 5 ps·0 r·0 (claims· .0) (claims· .1) "block::writer::write_block" × Plain.Known 𝓤 H A W 𝓣 0 ps·1 r·1 (claims· .2) (claims· .3) "block::c::written_words" ×
-            Plain.Known 𝓤 H A W 𝓣 0 ps·2 r·2 (claims· .4) (claims· .5) "block::c::written_refusal"
+        Knowns = Plain.Known 𝓤 H A W 𝓣 5 ps·0 r·0 (claims· .0) (claims· .1) "block::writer::write_block" × Plain.Known 𝓤 H A W 𝓣 0 ps·1 r·1 (claims· .2) (claims· .3) "stream::length_word" ×
+            Plain.Known 𝓤 H A W 𝓣 0 ps·2 r·2 (claims· .4) (claims· .5) "stream::length_refusal"
 
       module _ (κs : Lifetimes.Lfts 7) (qs : Lifetimes.Shares 7) where
         abbrev g3 : List.List Row.Entry
@@ -1102,42 +1099,45 @@ module _ (claims· : Claims) where
               (Referent.rtF (Referent.fInt Syntax.w64)) 1 ρ) λ ρ told. Whole.arr-mem 𝓤 H A W (Referent.rtF (Referent.fInt Syntax.w64)) 1 tt ρ) Path'.refl tt Path'.refl Path'.refl) d4
 
           d6 : Typed.Typed 𝓤 H A 𝓣 E G28 b15 Δ0 at6
-          d6 = Typed.g-pre 𝓤 H A W 𝓣 E G28 G29 b15 Δ0 (Typed.pass T28 T29 s27) at5 (Scalar.g-room 𝓤 H A W E G28 8 (Syntax.tyEnum (List._∷_ 98 (List._∷_ 108 (List._∷_ 111 (List._∷_ 99 (List._∷_ 107
-              (List._∷_ 58 (List._∷_ 58 (List._∷_ 87 (List._∷_ 114 (List._∷_ 105 (List._∷_ 116 (List._∷_ 116 (List._∷_ 101 (List._∷_ 110 List.[])))))))))))))) (Syntax.ttcons (Syntax.tcons (Syntax.tyInt
-              Syntax.w64) Syntax.tnil) (Syntax.ttcons (Syntax.tcons (Syntax.tyEnum (List._∷_ 115 (List._∷_ 116 (List._∷_ 114 (List._∷_ 101 (List._∷_ 97 (List._∷_ 109 (List._∷_ 58 (List._∷_ 58 (List._∷_ 82
-              (List._∷_ 101 (List._∷_ 102 (List._∷_ 117 (List._∷_ 115 (List._∷_ 97 (List._∷_ 108 List.[]))))))))))))))) (Syntax.ttcons Syntax.tnil (Syntax.ttcons Syntax.tnil (Syntax.ttcons Syntax.tnil
-              (Syntax.ttcons (Syntax.tcons (Syntax.tyInt Syntax.w64) Syntax.tnil) (Syntax.ttcons Syntax.tnil (Syntax.ttcons Syntax.tnil (Syntax.ttcons Syntax.tnil (Syntax.ttcons Syntax.tnil (Syntax.ttcons
-              Syntax.tnil (Syntax.ttcons Syntax.tnil (Syntax.ttcons (Syntax.tcons (Syntax.tyInt Syntax.w64) Syntax.tnil) (Syntax.ttcons (Syntax.tcons (Syntax.tyInt Syntax.w64) Syntax.tnil) (Syntax.ttcons
-              Syntax.tnil (Syntax.ttcons (Syntax.tcons (Syntax.tyInt Syntax.w64) (Syntax.tcons (Syntax.tyInt Syntax.w64) Syntax.tnil)) (Syntax.ttcons (Syntax.tcons (Syntax.tyInt Syntax.w64) Syntax.tnil)
-              (Syntax.ttcons Syntax.tnil (Syntax.ttcons Syntax.tnil (Syntax.ttcons (Syntax.tcons (Syntax.tyInt Syntax.w64) Syntax.tnil) (Syntax.ttcons (Syntax.tcons (Syntax.tyInt Syntax.w64) Syntax.tnil)
-              (Syntax.ttcons (Syntax.tcons (Syntax.tyInt Syntax.w64) Syntax.tnil) (Syntax.ttcons Syntax.tnil Syntax.ttnil)))))))))))))))))))))) Syntax.tnil) Syntax.ttnil))) (Local.room-whole 𝓤 H A W
-              (Declared.row Written.the-type) (Syntax.tyEnum (List._∷_ 98 (List._∷_ 108 (List._∷_ 111 (List._∷_ 99 (List._∷_ 107 (List._∷_ 58 (List._∷_ 58 (List._∷_ 87 (List._∷_ 114 (List._∷_ 105
-              (List._∷_ 116 (List._∷_ 116 (List._∷_ 101 (List._∷_ 110 List.[])))))))))))))) (Syntax.ttcons (Syntax.tcons (Syntax.tyInt Syntax.w64) Syntax.tnil) (Syntax.ttcons (Syntax.tcons (Syntax.tyEnum
-              (List._∷_ 115 (List._∷_ 116 (List._∷_ 114 (List._∷_ 101 (List._∷_ 97 (List._∷_ 109 (List._∷_ 58 (List._∷_ 58 (List._∷_ 82 (List._∷_ 101 (List._∷_ 102 (List._∷_ 117 (List._∷_ 115 (List._∷_ 97
-              (List._∷_ 108 List.[]))))))))))))))) (Syntax.ttcons Syntax.tnil (Syntax.ttcons Syntax.tnil (Syntax.ttcons Syntax.tnil (Syntax.ttcons (Syntax.tcons (Syntax.tyInt Syntax.w64) Syntax.tnil)
-              (Syntax.ttcons Syntax.tnil (Syntax.ttcons Syntax.tnil (Syntax.ttcons Syntax.tnil (Syntax.ttcons Syntax.tnil (Syntax.ttcons Syntax.tnil (Syntax.ttcons Syntax.tnil (Syntax.ttcons (Syntax.tcons
-              (Syntax.tyInt Syntax.w64) Syntax.tnil) (Syntax.ttcons (Syntax.tcons (Syntax.tyInt Syntax.w64) Syntax.tnil) (Syntax.ttcons Syntax.tnil (Syntax.ttcons (Syntax.tcons (Syntax.tyInt Syntax.w64)
-              (Syntax.tcons (Syntax.tyInt Syntax.w64) Syntax.tnil)) (Syntax.ttcons (Syntax.tcons (Syntax.tyInt Syntax.w64) Syntax.tnil) (Syntax.ttcons Syntax.tnil (Syntax.ttcons Syntax.tnil (Syntax.ttcons
-              (Syntax.tcons (Syntax.tyInt Syntax.w64) Syntax.tnil) (Syntax.ttcons (Syntax.tcons (Syntax.tyInt Syntax.w64) Syntax.tnil) (Syntax.ttcons (Syntax.tcons (Syntax.tyInt Syntax.w64) Syntax.tnil)
-              (Syntax.ttcons Syntax.tnil Syntax.ttnil)))))))))))))))))))))) Syntax.tnil) Syntax.ttnil))) Path'.refl)) d5
+          d6 = Typed.g-pre 𝓤 H A W 𝓣 E G28 G29 b15 Δ0 (Typed.pass T28 T29 s27) at5 (Scalar.g-room 𝓤 H A W E G28 8 (Syntax.tyEnum (List._∷_ 115 (List._∷_ 116 (List._∷_ 114 (List._∷_ 101 (List._∷_ 97
+              (List._∷_ 109 (List._∷_ 58 (List._∷_ 58 (List._∷_ 66 (List._∷_ 108 (List._∷_ 111 (List._∷_ 99 (List._∷_ 107 (List._∷_ 76 (List._∷_ 101 (List._∷_ 110 (List._∷_ 103 (List._∷_ 116 (List._∷_ 104
+              List.[]))))))))))))))))))) (Syntax.ttcons (Syntax.tcons (Syntax.tyInt Syntax.w64) Syntax.tnil) (Syntax.ttcons (Syntax.tcons (Syntax.tyEnum (List._∷_ 115 (List._∷_ 116 (List._∷_ 114 (List._∷_
+              101 (List._∷_ 97 (List._∷_ 109 (List._∷_ 58 (List._∷_ 58 (List._∷_ 82 (List._∷_ 101 (List._∷_ 102 (List._∷_ 117 (List._∷_ 115 (List._∷_ 97 (List._∷_ 108 List.[]))))))))))))))) (Syntax.ttcons
+              Syntax.tnil (Syntax.ttcons Syntax.tnil (Syntax.ttcons Syntax.tnil (Syntax.ttcons (Syntax.tcons (Syntax.tyInt Syntax.w64) Syntax.tnil) (Syntax.ttcons Syntax.tnil (Syntax.ttcons Syntax.tnil
+              (Syntax.ttcons Syntax.tnil (Syntax.ttcons Syntax.tnil (Syntax.ttcons Syntax.tnil (Syntax.ttcons Syntax.tnil (Syntax.ttcons (Syntax.tcons (Syntax.tyInt Syntax.w64) Syntax.tnil) (Syntax.ttcons
+              (Syntax.tcons (Syntax.tyInt Syntax.w64) Syntax.tnil) (Syntax.ttcons Syntax.tnil (Syntax.ttcons (Syntax.tcons (Syntax.tyInt Syntax.w64) (Syntax.tcons (Syntax.tyInt Syntax.w64) Syntax.tnil))
+              (Syntax.ttcons (Syntax.tcons (Syntax.tyInt Syntax.w64) Syntax.tnil) (Syntax.ttcons Syntax.tnil (Syntax.ttcons Syntax.tnil (Syntax.ttcons (Syntax.tcons (Syntax.tyInt Syntax.w64) Syntax.tnil)
+              (Syntax.ttcons (Syntax.tcons (Syntax.tyInt Syntax.w64) Syntax.tnil) (Syntax.ttcons (Syntax.tcons (Syntax.tyInt Syntax.w64) Syntax.tnil) (Syntax.ttcons Syntax.tnil
+              Syntax.ttnil)))))))))))))))))))))) Syntax.tnil) Syntax.ttnil))) (Local.room-whole 𝓤 H A W (Declared.row BlockLength.the-type) (Syntax.tyEnum (List._∷_ 115 (List._∷_ 116 (List._∷_ 114
+              (List._∷_ 101 (List._∷_ 97 (List._∷_ 109 (List._∷_ 58 (List._∷_ 58 (List._∷_ 66 (List._∷_ 108 (List._∷_ 111 (List._∷_ 99 (List._∷_ 107 (List._∷_ 76 (List._∷_ 101 (List._∷_ 110 (List._∷_ 103
+              (List._∷_ 116 (List._∷_ 104 List.[]))))))))))))))))))) (Syntax.ttcons (Syntax.tcons (Syntax.tyInt Syntax.w64) Syntax.tnil) (Syntax.ttcons (Syntax.tcons (Syntax.tyEnum (List._∷_ 115 (List._∷_
+              116 (List._∷_ 114 (List._∷_ 101 (List._∷_ 97 (List._∷_ 109 (List._∷_ 58 (List._∷_ 58 (List._∷_ 82 (List._∷_ 101 (List._∷_ 102 (List._∷_ 117 (List._∷_ 115 (List._∷_ 97 (List._∷_ 108
+              List.[]))))))))))))))) (Syntax.ttcons Syntax.tnil (Syntax.ttcons Syntax.tnil (Syntax.ttcons Syntax.tnil (Syntax.ttcons (Syntax.tcons (Syntax.tyInt Syntax.w64) Syntax.tnil) (Syntax.ttcons
+              Syntax.tnil (Syntax.ttcons Syntax.tnil (Syntax.ttcons Syntax.tnil (Syntax.ttcons Syntax.tnil (Syntax.ttcons Syntax.tnil (Syntax.ttcons Syntax.tnil (Syntax.ttcons (Syntax.tcons (Syntax.tyInt
+              Syntax.w64) Syntax.tnil) (Syntax.ttcons (Syntax.tcons (Syntax.tyInt Syntax.w64) Syntax.tnil) (Syntax.ttcons Syntax.tnil (Syntax.ttcons (Syntax.tcons (Syntax.tyInt Syntax.w64) (Syntax.tcons
+              (Syntax.tyInt Syntax.w64) Syntax.tnil)) (Syntax.ttcons (Syntax.tcons (Syntax.tyInt Syntax.w64) Syntax.tnil) (Syntax.ttcons Syntax.tnil (Syntax.ttcons Syntax.tnil (Syntax.ttcons (Syntax.tcons
+              (Syntax.tyInt Syntax.w64) Syntax.tnil) (Syntax.ttcons (Syntax.tcons (Syntax.tyInt Syntax.w64) Syntax.tnil) (Syntax.ttcons (Syntax.tcons (Syntax.tyInt Syntax.w64) Syntax.tnil) (Syntax.ttcons
+              Syntax.tnil Syntax.ttnil)))))))))))))))))))))) Syntax.tnil) Syntax.ttnil))) Path'.refl)) d5
 
           d7 : Typed.Typed 𝓤 H A 𝓣 E G27 b16 Δ0 at7
-          d7 = Typed.s-seq 𝓤 H A W 𝓣 E G27 G28 b8 b15 Δ0 (Typed.both s26) at6 (Plain.t-call-plain 𝓤 H A W 𝓣 0 ps·2 r·2 (claims· .4) (claims· .5) "block::c::written_refusal" (known .2) E (λ pos β. β)
-              G27 (record { pos = 8; st = List.[]; d = 0; at = λ x. x }, tt) 10 List.[] (Call.sub-id 𝓤 H A W (G27 .slots)) (
+          d7 = Typed.s-seq 𝓤 H A W 𝓣 E G27 G28 b8 b15 Δ0 (Typed.both s26) at6 (Plain.t-call-plain 𝓤 H A W 𝓣 0 ps·2 r·2 (claims· .4) (claims· .5) "stream::length_refusal" (known .2) E (λ pos β. β) G27
+              (record { pos = 8; st = List.[]; d = 0; at = λ x. x }, tt) 10 List.[] (Call.sub-id 𝓤 H A W (G27 .slots)) (
                 (
-                  Yields.yields-copy 𝓤 H A W (λ ρ. Unit) (Declared.row Written.the-type) Path'.refl (Copies.cEnum Written.the-type Laws.the-laws Laws.the-copy .copy 𝓤 H A W) (Rows'.whole (Declared.row
-                      Written.the-type)) (λ x. x) (λ x. x) (λ ρ told. Local.mem-whole 𝓤 H A W (Declared.row Written.the-type) ρ) λ ρ told. Local.whole-mem 𝓤 H A W (Declared.row Written.the-type) ρ,
+                  Yields.yields-copy 𝓤 H A W (λ ρ. Unit) (Declared.row BlockLength.the-type) Path'.refl (Copies.cEnum BlockLength.the-type Laws.the-laws Laws.the-copy .copy 𝓤 H A W) (Rows'.whole
+                      (Declared.row BlockLength.the-type)) (λ x. x) (λ x. x) (λ ρ told. Local.mem-whole 𝓤 H A W (Declared.row BlockLength.the-type) ρ) λ ρ told. Local.whole-mem 𝓤 H A W (Declared.row
+                      BlockLength.the-type) ρ,
                   Path'.refl,
                 ),
                 tt,
               ) (Reads.room-gone 𝓤 H A (Syntax.tyArray (Syntax.tyInt Syntax.w64) 4)) tt Path'.refl) d6
 
           d8 : Typed.Typed 𝓤 H A 𝓣 E G26 b17 Δ0 at8
-          d8 = Typed.s-seq 𝓤 H A W 𝓣 E G26 G27 b7 b16 Δ0 (Typed.both s25) at7 (Plain.t-call-plain 𝓤 H A W 𝓣 0 ps·1 r·1 (claims· .2) (claims· .3) "block::c::written_words" (known .1) E (λ pos β. β) G26
+          d8 = Typed.s-seq 𝓤 H A W 𝓣 E G26 G27 b7 b16 Δ0 (Typed.both s25) at7 (Plain.t-call-plain 𝓤 H A W 𝓣 0 ps·1 r·1 (claims· .2) (claims· .3) "stream::length_word" (known .1) E (λ pos β. β) G26
               (record { pos = 8; st = List.[]; d = 0; at = λ x. x }, tt) 9 List.[] (Call.sub-id 𝓤 H A W (G26 .slots)) (
                 (
-                  Yields.yields-copy 𝓤 H A W (λ ρ. Unit) (Declared.row Written.the-type) Path'.refl (Copies.cEnum Written.the-type Laws.the-laws Laws.the-copy .copy 𝓤 H A W) (Rows'.whole (Declared.row
-                      Written.the-type)) (λ x. x) (λ x. x) (λ ρ told. Local.mem-whole 𝓤 H A W (Declared.row Written.the-type) ρ) λ ρ told. Local.whole-mem 𝓤 H A W (Declared.row Written.the-type) ρ,
+                  Yields.yields-copy 𝓤 H A W (λ ρ. Unit) (Declared.row BlockLength.the-type) Path'.refl (Copies.cEnum BlockLength.the-type Laws.the-laws Laws.the-copy .copy 𝓤 H A W) (Rows'.whole
+                      (Declared.row BlockLength.the-type)) (λ x. x) (λ x. x) (λ ρ told. Local.mem-whole 𝓤 H A W (Declared.row BlockLength.the-type) ρ) λ ρ told. Local.whole-mem 𝓤 H A W (Declared.row
+                      BlockLength.the-type) ρ,
                   Path'.refl,
                 ),
                 tt,
@@ -1234,16 +1234,16 @@ module _ (claims· : Claims) where
                     ),
                   ),
                 ),
-              ) (Reads.room-gone 𝓤 H A (Syntax.tyEnum (List._∷_ 98 (List._∷_ 108 (List._∷_ 111 (List._∷_ 99 (List._∷_ 107 (List._∷_ 58 (List._∷_ 58 (List._∷_ 87
-              (List._∷_ 114 (List._∷_ 105 (List._∷_ 116 (List._∷_ 116 (List._∷_ 101 (List._∷_ 110 List.[])))))))))))))) (Syntax.ttcons (Syntax.tcons (Syntax.tyInt Syntax.w64) Syntax.tnil) (Syntax.ttcons
-              (Syntax.tcons (Syntax.tyEnum (List._∷_ 115 (List._∷_ 116 (List._∷_ 114 (List._∷_ 101 (List._∷_ 97 (List._∷_ 109 (List._∷_ 58 (List._∷_ 58 (List._∷_ 82 (List._∷_ 101 (List._∷_ 102 (List._∷_
-              117 (List._∷_ 115 (List._∷_ 97 (List._∷_ 108 List.[]))))))))))))))) (Syntax.ttcons Syntax.tnil (Syntax.ttcons Syntax.tnil (Syntax.ttcons Syntax.tnil (Syntax.ttcons (Syntax.tcons
-              (Syntax.tyInt Syntax.w64) Syntax.tnil) (Syntax.ttcons Syntax.tnil (Syntax.ttcons Syntax.tnil (Syntax.ttcons Syntax.tnil (Syntax.ttcons Syntax.tnil (Syntax.ttcons Syntax.tnil (Syntax.ttcons
-              Syntax.tnil (Syntax.ttcons (Syntax.tcons (Syntax.tyInt Syntax.w64) Syntax.tnil) (Syntax.ttcons (Syntax.tcons (Syntax.tyInt Syntax.w64) Syntax.tnil) (Syntax.ttcons Syntax.tnil (Syntax.ttcons
-              (Syntax.tcons (Syntax.tyInt Syntax.w64) (Syntax.tcons (Syntax.tyInt Syntax.w64) Syntax.tnil)) (Syntax.ttcons (Syntax.tcons (Syntax.tyInt Syntax.w64) Syntax.tnil) (Syntax.ttcons Syntax.tnil
-              (Syntax.ttcons Syntax.tnil (Syntax.ttcons (Syntax.tcons (Syntax.tyInt Syntax.w64) Syntax.tnil) (Syntax.ttcons (Syntax.tcons (Syntax.tyInt Syntax.w64) Syntax.tnil) (Syntax.ttcons
-              (Syntax.tcons (Syntax.tyInt Syntax.w64) Syntax.tnil) (Syntax.ttcons Syntax.tnil Syntax.ttnil)))))))))))))))))))))) Syntax.tnil) Syntax.ttnil)))) (tt, (tt, (tt, (tt, (tt, tt))))) Path'.refl)
-              d19
+              ) (Reads.room-gone 𝓤 H A (Syntax.tyEnum (List._∷_ 115 (List._∷_ 116 (List._∷_ 114 (List._∷_ 101 (List._∷_ 97 (List._∷_ 109 (List._∷_ 58 (List._∷_ 58
+              (List._∷_ 66 (List._∷_ 108 (List._∷_ 111 (List._∷_ 99 (List._∷_ 107 (List._∷_ 76 (List._∷_ 101 (List._∷_ 110 (List._∷_ 103 (List._∷_ 116 (List._∷_ 104 List.[])))))))))))))))))))
+              (Syntax.ttcons (Syntax.tcons (Syntax.tyInt Syntax.w64) Syntax.tnil) (Syntax.ttcons (Syntax.tcons (Syntax.tyEnum (List._∷_ 115 (List._∷_ 116 (List._∷_ 114 (List._∷_ 101 (List._∷_ 97 (List._∷_
+              109 (List._∷_ 58 (List._∷_ 58 (List._∷_ 82 (List._∷_ 101 (List._∷_ 102 (List._∷_ 117 (List._∷_ 115 (List._∷_ 97 (List._∷_ 108 List.[]))))))))))))))) (Syntax.ttcons Syntax.tnil (Syntax.ttcons
+              Syntax.tnil (Syntax.ttcons Syntax.tnil (Syntax.ttcons (Syntax.tcons (Syntax.tyInt Syntax.w64) Syntax.tnil) (Syntax.ttcons Syntax.tnil (Syntax.ttcons Syntax.tnil (Syntax.ttcons Syntax.tnil
+              (Syntax.ttcons Syntax.tnil (Syntax.ttcons Syntax.tnil (Syntax.ttcons Syntax.tnil (Syntax.ttcons (Syntax.tcons (Syntax.tyInt Syntax.w64) Syntax.tnil) (Syntax.ttcons (Syntax.tcons
+              (Syntax.tyInt Syntax.w64) Syntax.tnil) (Syntax.ttcons Syntax.tnil (Syntax.ttcons (Syntax.tcons (Syntax.tyInt Syntax.w64) (Syntax.tcons (Syntax.tyInt Syntax.w64) Syntax.tnil)) (Syntax.ttcons
+              (Syntax.tcons (Syntax.tyInt Syntax.w64) Syntax.tnil) (Syntax.ttcons Syntax.tnil (Syntax.ttcons Syntax.tnil (Syntax.ttcons (Syntax.tcons (Syntax.tyInt Syntax.w64) Syntax.tnil) (Syntax.ttcons
+              (Syntax.tcons (Syntax.tyInt Syntax.w64) Syntax.tnil) (Syntax.ttcons (Syntax.tcons (Syntax.tyInt Syntax.w64) Syntax.tnil) (Syntax.ttcons Syntax.tnil Syntax.ttnil))))))))))))))))))))))
+              Syntax.tnil) Syntax.ttnil)))) (tt, (tt, (tt, (tt, (tt, tt))))) Path'.refl) d19
 
           d21 : Typed.Typed 𝓤 H A 𝓣 E G13 b19 Δ0 at21
           d21 = Typed.s-seq 𝓤 H A W 𝓣 E G13 G14 b5 b18 Δ0 (Typed.ask s12) at20 (Relend.t-sl-aggregate 𝓤 H A W E (Element.type) 𝓣 (Relend.asMut (Element.type)) G13 15 16 9 (Syntax.tyRef Syntax.erased
@@ -1536,127 +1536,126 @@ module _ (claims· : Claims) where
         pub before : After-slice-known4
         pub rs : After-rs·own before
 
-      abbrev pub Need-written-words-requires : Type 0
-      Need-written-words-requires = (c : After-rs) → s25 .asks (m16 (c .before) (c .rs .given))
+      abbrev pub Need-length-word-requires : Type 0
+      Need-length-word-requires = (c : After-rs) → s25 .asks (m16 (c .before) (c .rs .given))
 
       abbrev pub m17 : (before : After-rs) → (given : s25 .gives (m16 (before .before) (before .rs .given))) → Typed.Mo T27
       m17 = λ before given. s25 .next (m16 (before .before) (before .rs .given)) given
 
       module _ (before· : After-rs) where
-        abbrev pub After-written-words·own : Type 0
-        After-written-words·own = Called.Called ps·1 r·1 (claims· .3) T25 (record { pos = 8; st = List.[]; d = 0; at = λ x. x }, tt) (m16 (before· .before) (before· .rs .given))
+        abbrev pub After-length-word·own : Type 0
+        After-length-word·own = Called.Called ps·1 r·1 (claims· .3) T25 (record { pos = 8; st = List.[]; d = 0; at = λ x. x }, tt) (m16 (before· .before) (before· .rs .given))
 
-      pub record After-written-words : Type 0 where
+      pub record After-length-word : Type 0 where
         pub before : After-rs
-        pub written-words : After-written-words·own before
+        pub length-word : After-length-word·own before
 
-      abbrev pub After-written-words·gave : (c : After-written-words) → s25 .gives (m16 (c .before .before) (c .before .rs .given))
-      After-written-words·gave = λ c. Called.given ps·1 r·1 (claims· .3) T25 (record { pos = 8; st = List.[]; d = 0; at = λ x. x }, tt) (m16 (c .before .before) (c .before .rs .given)) (c
-          .written-words)
+      abbrev pub After-length-word·gave : (c : After-length-word) → s25 .gives (m16 (c .before .before) (c .before .rs .given))
+      After-length-word·gave = λ c. Called.given ps·1 r·1 (claims· .3) T25 (record { pos = 8; st = List.[]; d = 0; at = λ x. x }, tt) (m16 (c .before .before) (c .before .rs .given)) (c .length-word)
 
-      abbrev pub Need-written-refusal-requires : Type 0
-      Need-written-refusal-requires = (c : After-written-words) → s26 .asks (m17 (c .before) (After-written-words·gave c))
+      abbrev pub Need-length-refusal-requires : Type 0
+      Need-length-refusal-requires = (c : After-length-word) → s26 .asks (m17 (c .before) (After-length-word·gave c))
 
-      abbrev pub m18 : (before : After-written-words) → (given : s26 .gives (m17 (before .before) (After-written-words·gave before))) → Typed.Mo T28
-      m18 = λ before given. s26 .next (m17 (before .before) (After-written-words·gave before)) given
+      abbrev pub m18 : (before : After-length-word) → (given : s26 .gives (m17 (before .before) (After-length-word·gave before))) → Typed.Mo T28
+      m18 = λ before given. s26 .next (m17 (before .before) (After-length-word·gave before)) given
 
-      module _ (before· : After-written-words) where
-        abbrev pub After-written-refusal·own : Type 0
-        After-written-refusal·own = Called.Called ps·2 r·2 (claims· .5) T27 (record { pos = 8; st = List.[]; d = 0; at = λ x. x }, tt) (m17 (before· .before) (After-written-words·gave before·))
+      module _ (before· : After-length-word) where
+        abbrev pub After-length-refusal·own : Type 0
+        After-length-refusal·own = Called.Called ps·2 r·2 (claims· .5) T27 (record { pos = 8; st = List.[]; d = 0; at = λ x. x }, tt) (m17 (before· .before) (After-length-word·gave before·))
 
-      pub record After-written-refusal : Type 0 where
-        pub before : After-written-words
-        pub written-refusal : After-written-refusal·own before
+      pub record After-length-refusal : Type 0 where
+        pub before : After-length-word
+        pub length-refusal : After-length-refusal·own before
 
-      abbrev pub After-written-refusal·gave : (c : After-written-refusal) → s26 .gives (m17 (c .before .before) (After-written-words·gave (c .before)))
-      After-written-refusal·gave = λ c. Called.given ps·2 r·2 (claims· .5) T27 (record { pos = 8; st = List.[]; d = 0; at = λ x. x }, tt) (m17 (c .before .before) (After-written-words·gave (c
-          .before))) (c .written-refusal)
+      abbrev pub After-length-refusal·gave : (c : After-length-refusal) → s26 .gives (m17 (c .before .before) (After-length-word·gave (c .before)))
+      After-length-refusal·gave = λ c. Called.given ps·2 r·2 (claims· .5) T27 (record { pos = 8; st = List.[]; d = 0; at = λ x. x }, tt) (m17 (c .before .before) (After-length-word·gave (c .before)))
+          (c .length-refusal)
 
-      abbrev pub m19 : (before : After-written-words) → (given : s26 .gives (m17 (before .before) (After-written-words·gave before))) → Typed.Mo T29
+      abbrev pub m19 : (before : After-length-word) → (given : s26 .gives (m17 (before .before) (After-length-word·gave before))) → Typed.Mo T29
       m19 = λ before given. s27 (m18 before given)
 
-      abbrev pub m20 : (before : After-written-words) → (given : s26 .gives (m17 (before .before) (After-written-words·gave before))) → Typed.Mo T30
+      abbrev pub m20 : (before : After-length-word) → (given : s26 .gives (m17 (before .before) (After-length-word·gave before))) → Typed.Mo T30
       m20 = λ before given. s28 (m19 before given)
 
-      abbrev pub m21 : (before : After-written-words) → (given : s26 .gives (m17 (before .before) (After-written-words·gave before))) → Typed.Mo T31
+      abbrev pub m21 : (before : After-length-word) → (given : s26 .gives (m17 (before .before) (After-length-word·gave before))) → Typed.Mo T31
       m21 = λ before given. s29 (m20 before given)
 
-      abbrev pub m22 : (before : After-written-words) → (given : s26 .gives (m17 (before .before) (After-written-words·gave before))) → Typed.Mo T32
+      abbrev pub m22 : (before : After-length-word) → (given : s26 .gives (m17 (before .before) (After-length-word·gave before))) → Typed.Mo T32
       m22 = λ before given. s30 (m21 before given)
 
-      abbrev pub m23 : (before : After-written-words) → (given : s26 .gives (m17 (before .before) (After-written-words·gave before))) → Typed.Mo T33
+      abbrev pub m23 : (before : After-length-word) → (given : s26 .gives (m17 (before .before) (After-length-word·gave before))) → Typed.Mo T33
       m23 = λ before given. s31 (m22 before given)
 
-      abbrev pub m24 : (before : After-written-words) → (given : s26 .gives (m17 (before .before) (After-written-words·gave before))) → Typed.Mo T34
+      abbrev pub m24 : (before : After-length-word) → (given : s26 .gives (m17 (before .before) (After-length-word·gave before))) → Typed.Mo T34
       m24 = λ before given. s32 (m23 before given)
 
       abbrev pub Need-same-length : Type 0
-      Need-same-length = (c : After-written-refusal) → MutSlice.SameLen (Row.get 3 (T34 .locals) (m24 (c .before) (After-written-refusal·gave c))) (dens (c .before .before .before .before .before
+      Need-same-length = (c : After-length-refusal) → MutSlice.SameLen (Row.get 3 (T34 .locals) (m24 (c .before) (After-length-refusal·gave c))) (dens (c .before .before .before .before .before
           .before .before .before .before .before .before .before .before .before .before .κs) (c .before .before .before .before .before .before .before .before .before .before .before .before .before
           .before .before .args) .1 .1 .0)
 
       abbrev pub Need-same-length-2 : Type 0
-      Need-same-length-2 = (c : After-written-refusal) → MutSlice.SameLen (Row.get 4 (T34 .locals) (m24 (c .before) (After-written-refusal·gave c))) (dens (c .before .before .before .before .before
+      Need-same-length-2 = (c : After-length-refusal) → MutSlice.SameLen (Row.get 4 (T34 .locals) (m24 (c .before) (After-length-refusal·gave c))) (dens (c .before .before .before .before .before
           .before .before .before .before .before .before .before .before .before .before .κs) (c .before .before .before .before .before .before .before .before .before .before .before .before .before
           .before .before .args) .1 .1 .1 .0)
 
       abbrev pub Need-same-length-3 : Type 0
-      Need-same-length-3 = (c : After-written-refusal) → MutSlice.SameLen (Row.get 5 (T34 .locals) (m24 (c .before) (After-written-refusal·gave c))) (dens (c .before .before .before .before .before
+      Need-same-length-3 = (c : After-length-refusal) → MutSlice.SameLen (Row.get 5 (T34 .locals) (m24 (c .before) (After-length-refusal·gave c))) (dens (c .before .before .before .before .before
           .before .before .before .before .before .before .before .before .before .before .κs) (c .before .before .before .before .before .before .before .before .before .before .before .before .before
           .before .before .args) .1 .1 .1 .1 .0)
 
       abbrev pub Need-returns : Type 0
-      Need-returns = (c : After-written-refusal) → Post· (c .before .before .before .before .before .before .before .before .before .before .before .before .before .before .before .κs) (dens (c
-          .before .before .before .before .before .before .before .before .before .before .before .before .before .before .before .κs) (c .before .before .before .before .before .before .before .before
-          .before .before .before .before .before .before .before .args)) (Function.resV r (c .before .before .before .before .before .before .before .before .before .before .before .before .before
-          .before .before .κs) (m24 (c .before) (After-written-refusal·gave c) .0)) (Clauses.atExit (Kinds.endedOf 7 ps r) (c .before .before .before .before .before .before .before .before .before
-          .before .before .before .before .before .before .κs) (dens (c .before .before .before .before .before .before .before .before .before .before .before .before .before .before .before .κs) (c
-          .before .before .before .before .before .before .before .before .before .before .before .before .before .before .before .args)) (Enter.lastsP (c .before .before .before .before .before .before
-          .before .before .before .before .before .before .before .before .before .κs) 1 ps xs (dens (c .before .before .before .before .before .before .before .before .before .before .before .before
-          .before .before .before .κs) (c .before .before .before .before .before .before .before .before .before .before .before .before .before .before .before .args)) (m24 (c .before)
-          (After-written-refusal·gave c) .1)))
+      Need-returns = (c : After-length-refusal) → Post· (c .before .before .before .before .before .before .before .before .before .before .before .before .before .before .before .κs) (dens (c .before
+          .before .before .before .before .before .before .before .before .before .before .before .before .before .before .κs) (c .before .before .before .before .before .before .before .before .before
+          .before .before .before .before .before .before .args)) (Function.resV r (c .before .before .before .before .before .before .before .before .before .before .before .before .before .before
+          .before .κs) (m24 (c .before) (After-length-refusal·gave c) .0)) (Clauses.atExit (Kinds.endedOf 7 ps r) (c .before .before .before .before .before .before .before .before .before .before .before
+          .before .before .before .before .κs) (dens (c .before .before .before .before .before .before .before .before .before .before .before .before .before .before .before .κs) (c .before .before
+          .before .before .before .before .before .before .before .before .before .before .before .before .before .args)) (Enter.lastsP (c .before .before .before .before .before .before .before .before
+          .before .before .before .before .before .before .before .κs) 1 ps xs (dens (c .before .before .before .before .before .before .before .before .before .before .before .before .before .before
+          .before .κs) (c .before .before .before .before .before .before .before .before .before .before .before .before .before .before .before .args)) (m24 (c .before) (After-length-refusal·gave c)
+          .1)))
 
-      module _ (write-block-requires : Need-write-block-requires) (written-words-requires : Need-written-words-requires) (written-refusal-requires : Need-written-refusal-requires) (same-length :
+      module _ (write-block-requires : Need-write-block-requires) (length-word-requires : Need-length-word-requires) (length-refusal-requires : Need-length-refusal-requires) (same-length :
           Need-same-length) (same-length-2 : Need-same-length-2) (same-length-3 : Need-same-length-3) (returns : Need-returns) where
-        lay3 : (c : After-written-refusal) → at6 (W0 (c .before .before .before .before .before .before .before .before .before .before .before .before .before .before .before .κs) (c .before .before
-            .before .before .before .before .before .before .before .before .before .before .before .before .before .args)) (m18 (c .before) (After-written-refusal·gave c))
+        lay3 : (c : After-length-refusal) → at6 (W0 (c .before .before .before .before .before .before .before .before .before .before .before .before .before .before .before .κs) (c .before .before
+            .before .before .before .before .before .before .before .before .before .before .before .before .before .args)) (m18 (c .before) (After-length-refusal·gave c))
         lay3 = λ c. (
           (
             Path'.refl,
             (
               Path'.refl,
               (
-                MutSlice.fix-len (Row.get 3 (T34 .locals) (m24 (c .before) (After-written-refusal·gave c)) .ptr) (Row.get 3 (T34 .locals) (m24 (c .before) (After-written-refusal·gave c)) .name) (Row.get 3
-                    (T34 .locals) (m24 (c .before) (After-written-refusal·gave c)) .now) (dens (c .before .before .before .before .before .before .before .before .before .before .before .before .before .before
-                    .before .κs) (c .before .before .before .before .before .before .before .before .before .before .before .before .before .before .before .args) .1 .1 .0 .now) (same-length record
-                    { before = c .before; written-refusal = c .written-refusal }),
+                MutSlice.fix-len (Row.get 3 (T34 .locals) (m24 (c .before) (After-length-refusal·gave c)) .ptr) (Row.get 3 (T34 .locals) (m24 (c .before) (After-length-refusal·gave c)) .name) (Row.get 3 (T34
+                    .locals) (m24 (c .before) (After-length-refusal·gave c)) .now) (dens (c .before .before .before .before .before .before .before .before .before .before .before .before .before .before .before
+                    .κs) (c .before .before .before .before .before .before .before .before .before .before .before .before .before .before .before .args) .1 .1 .0 .now) (same-length record
+                    { before = c .before; length-refusal = c .length-refusal }),
                 (
-                  MutSlice.fix-len (Row.get 4 (T34 .locals) (m24 (c .before) (After-written-refusal·gave c)) .ptr) (Row.get 4 (T34 .locals) (m24 (c .before) (After-written-refusal·gave c)) .name) (Row.get 4
-                      (T34 .locals) (m24 (c .before) (After-written-refusal·gave c)) .now) (dens (c .before .before .before .before .before .before .before .before .before .before .before .before .before .before
-                      .before .κs) (c .before .before .before .before .before .before .before .before .before .before .before .before .before .before .before .args) .1 .1 .1 .0 .now) (same-length-2 record
-                      { before = c .before; written-refusal = c .written-refusal }),
+                  MutSlice.fix-len (Row.get 4 (T34 .locals) (m24 (c .before) (After-length-refusal·gave c)) .ptr) (Row.get 4 (T34 .locals) (m24 (c .before) (After-length-refusal·gave c)) .name) (Row.get 4 (T34
+                      .locals) (m24 (c .before) (After-length-refusal·gave c)) .now) (dens (c .before .before .before .before .before .before .before .before .before .before .before .before .before .before .before
+                      .κs) (c .before .before .before .before .before .before .before .before .before .before .before .before .before .before .before .args) .1 .1 .1 .0 .now) (same-length-2 record
+                      { before = c .before; length-refusal = c .length-refusal }),
                   (
-                    MutSlice.fix-len (Row.get 5 (T34 .locals) (m24 (c .before) (After-written-refusal·gave c)) .ptr) (Row.get 5 (T34 .locals) (m24 (c .before) (After-written-refusal·gave c)) .name) (Row.get 5
-                        (T34 .locals) (m24 (c .before) (After-written-refusal·gave c)) .now) (dens (c .before .before .before .before .before .before .before .before .before .before .before .before .before .before
-                        .before .κs) (c .before .before .before .before .before .before .before .before .before .before .before .before .before .before .before .args) .1 .1 .1 .1 .0 .now) (same-length-3 record
-                        { before = c .before; written-refusal = c .written-refusal }),
+                    MutSlice.fix-len (Row.get 5 (T34 .locals) (m24 (c .before) (After-length-refusal·gave c)) .ptr) (Row.get 5 (T34 .locals) (m24 (c .before) (After-length-refusal·gave c)) .name) (Row.get 5 (T34
+                        .locals) (m24 (c .before) (After-length-refusal·gave c)) .now) (dens (c .before .before .before .before .before .before .before .before .before .before .before .before .before .before .before
+                        .κs) (c .before .before .before .before .before .before .before .before .before .before .before .before .before .before .before .args) .1 .1 .1 .1 .0 .now) (same-length-3 record
+                        { before = c .before; length-refusal = c .length-refusal }),
                     (Path'.refl, (Path'.refl, tt)),
                   ),
                 ),
               ),
             ),
           ),
-          returns record { before = c .before; written-refusal = c .written-refusal },
+          returns record { before = c .before; length-refusal = c .length-refusal },
         )
 
-        lay2 : (c : After-written-words) → at7 (W0 (c .before .before .before .before .before .before .before .before .before .before .before .before .before .before .κs) (c .before .before .before
-            .before .before .before .before .before .before .before .before .before .before .before .args)) (m17 (c .before) (After-written-words·gave c))
+        lay2 : (c : After-length-word) → at7 (W0 (c .before .before .before .before .before .before .before .before .before .before .before .before .before .before .κs) (c .before .before .before
+            .before .before .before .before .before .before .before .before .before .before .before .args)) (m17 (c .before) (After-length-word·gave c))
         lay2 = λ c. (
-          written-refusal-requires record { before = c .before; written-words = c .written-words },
+          length-refusal-requires record { before = c .before; length-word = c .length-word },
           λ g. lay3 record {
-            before = record { before = c .before; written-words = c .written-words };
-            written-refusal = Called.called ps·2 r·2 (claims· .5) T27 (record { pos = 8; st = List.[]; d = 0; at = λ x. x }, tt)
-                (m17 (c .before) (After-written-words·gave c)) g;
+            before = record { before = c .before; length-word = c .length-word };
+            length-refusal = Called.called ps·2 r·2 (claims· .5) T27 (record { pos = 8; st = List.[]; d = 0; at = λ x. x }, tt) (m17
+                (c .before) (After-length-word·gave c)) g;
           },
         )
 
@@ -1669,7 +1668,7 @@ module _ (claims· : Claims) where
             λ g''. λ g'3. (
               Path'.refl,
               λ g'4. (
-                written-words-requires record {
+                length-word-requires record {
                   before = record {
                     before = record {
                       before = record { before = record { before = record { before = c .before; write-block = c .write-block }; out = record { given = g } }; slice-known3 = record { given = g' } };
@@ -1692,7 +1691,7 @@ module _ (claims· : Claims) where
                     };
                     rs = record { given = g'4 };
                   };
-                  written-words = Called.called ps·1 r·1 (claims· .3) T25
+                  length-word = Called.called ps·1 r·1 (claims· .3) T25
                       (record { pos = 8; st = List.[]; d = 0; at = λ x. x }, tt) (m16 record {
                         before = record {
                           before = record { before = record { before = record { before = c .before; write-block = c .write-block }; out = record { given = g } }; slice-known3 = record { given = g' } };
@@ -1786,7 +1785,7 @@ module _ (claims· : Claims) where
           }
 
         module _ {M : Type 1} (𝓤 : URA.URA M) (H : Wp.Heap 𝓤) (A : Atoms.Atoms 𝓤) (W : Kit.Given 𝓤 H A) (𝓣 : Wp.Tables 𝓤 H) (known0 : Plain.Known 𝓤 H A W 𝓣 5 ps·0 r·0 (claims· .0) (claims· .1)
-            "block::writer::write_block") (known1 : Plain.Known 𝓤 H A W 𝓣 0 ps·1 r·1 (claims· .2) (claims· .3) "block::c::written_words") (known2 : Plain.Known 𝓤 H A W 𝓣 0 ps·2 r·2 (claims· .4) (claims·
-            .5) "block::c::written_refusal") where
+            "block::writer::write_block") (known1 : Plain.Known 𝓤 H A W 𝓣 0 ps·1 r·1 (claims· .2) (claims· .3) "stream::length_word") (known2 : Plain.Known 𝓤 H A W 𝓣 0 ps·2 r·2 (claims· .4) (claims· .5)
+            "stream::length_refusal") where
           pub spec : Statement.Triple 𝓤 (Wp.WpFn 𝓤 H (𝓣 .C) (𝓣 .Λ) (Function.fnOf 7 ps r xs m hs body)) (Function.plainOf 𝓤 H A 7 ps r Pre· Post·)
           spec = Plain.t-fn-plain 𝓤 H A W 𝓣 7 ps r xs m hs body (λ κs qs bs. Φ) (λ κs qs bs bd. typed κs qs 𝓤 H A W 𝓣 (known0, known1, known2) bs bd) Pre· Post· asked

@@ -1,13 +1,13 @@
 -- Written by tools/lend.py from Rattle's derivation of the twin of `block`; not edited by hand. Assumes nothing.
-use Rattle.begin.proofs.is_short.Met
-use Rattle.begin.proofs.is_short.Reads
-use Rattle.begin.proofs.is_short.Symbol
-use Rattle.bits.proofs.fill_tail.Met as Met'
-use Rattle.bits.proofs.fill_tail.Reads as Reads'
-use Rattle.bits.proofs.fill_tail.Symbol as Symbol'
-use Rattle.block.proofs.writer.block_length.Met as Met''
-use Rattle.block.proofs.writer.block_length.Reads as Reads''
-use Rattle.block.proofs.writer.block_length.Symbol as Symbol''
+use Rattle.begin.proofs.after_counting.Met
+use Rattle.begin.proofs.after_counting.Reads
+use Rattle.begin.proofs.after_counting.Symbol
+use Rattle.begin.proofs.block_bytes.Met as Met'
+use Rattle.begin.proofs.block_bytes.Reads as Reads'
+use Rattle.begin.proofs.block_bytes.Symbol as Symbol'
+use Rattle.bits.proofs.fill_tail.Met as Met''
+use Rattle.bits.proofs.fill_tail.Reads as Reads''
+use Rattle.bits.proofs.fill_tail.Symbol as Symbol''
 use Rattle.block.proofs.writer.write_measured.Code
 use Rattle.block.proofs.writer.write_measured.Key
 use Rattle.block.proofs.writer.derived.write_measured.Kinds
@@ -22,189 +22,170 @@ use borrow.Fn.Written
 use contract.Running
 
 abbrev pub Start : Type 0
-Start = Lts.Start (Reads'4.Asked, Reads'4.Learnt, Reads''.Asked, Reads''.Learnt, Reads.Asked, Reads.Learnt, Reads'.Asked, Reads'.Learnt) Reads'3.Pre Reads'3.Post
+Start = Lts.Start (Reads'4.Asked, Reads'4.Learnt, Reads.Asked, Reads.Learnt, Reads''.Asked, Reads''.Learnt, Reads'.Asked, Reads'.Learnt) Reads'3.Pre Reads'3.Post
 
 abbrev pub After-shared-slice-known : Type 0
-After-shared-slice-known = Lts.After-shared-slice-known (Reads'4.Asked, Reads'4.Learnt, Reads''.Asked, Reads''.Learnt, Reads.Asked, Reads.Learnt, Reads'.Asked, Reads'.Learnt) Reads'3.Pre Reads'3.Post
+After-shared-slice-known = Lts.After-shared-slice-known (Reads'4.Asked, Reads'4.Learnt, Reads.Asked, Reads.Learnt, Reads''.Asked, Reads''.Learnt, Reads'.Asked, Reads'.Learnt) Reads'3.Pre Reads'3.Post
 
 abbrev pub After-slice-known : Type 0
-After-slice-known = Lts.After-slice-known (Reads'4.Asked, Reads'4.Learnt, Reads''.Asked, Reads''.Learnt, Reads.Asked, Reads.Learnt, Reads'.Asked, Reads'.Learnt) Reads'3.Pre Reads'3.Post
+After-slice-known = Lts.After-slice-known (Reads'4.Asked, Reads'4.Learnt, Reads.Asked, Reads.Learnt, Reads''.Asked, Reads''.Learnt, Reads'.Asked, Reads'.Learnt) Reads'3.Pre Reads'3.Post
 
 abbrev pub After-slice-known2 : Type 0
-After-slice-known2 = Lts.After-slice-known2 (Reads'4.Asked, Reads'4.Learnt, Reads''.Asked, Reads''.Learnt, Reads.Asked, Reads.Learnt, Reads'.Asked, Reads'.Learnt) Reads'3.Pre Reads'3.Post
+After-slice-known2 = Lts.After-slice-known2 (Reads'4.Asked, Reads'4.Learnt, Reads.Asked, Reads.Learnt, Reads''.Asked, Reads''.Learnt, Reads'.Asked, Reads'.Learnt) Reads'3.Pre Reads'3.Post
 
 abbrev pub After-write-walk-arg : Type 0
-After-write-walk-arg = Lts.After-write-walk-arg (Reads'4.Asked, Reads'4.Learnt, Reads''.Asked, Reads''.Learnt, Reads.Asked, Reads.Learnt, Reads'.Asked, Reads'.Learnt) Reads'3.Pre Reads'3.Post
+After-write-walk-arg = Lts.After-write-walk-arg (Reads'4.Asked, Reads'4.Learnt, Reads.Asked, Reads.Learnt, Reads''.Asked, Reads''.Learnt, Reads'.Asked, Reads'.Learnt) Reads'3.Pre Reads'3.Post
 
 abbrev pub After-write-walk-arg2 : Type 0
-After-write-walk-arg2 = Lts.After-write-walk-arg2 (Reads'4.Asked, Reads'4.Learnt, Reads''.Asked, Reads''.Learnt, Reads.Asked, Reads.Learnt, Reads'.Asked, Reads'.Learnt) Reads'3.Pre Reads'3.Post
+After-write-walk-arg2 = Lts.After-write-walk-arg2 (Reads'4.Asked, Reads'4.Learnt, Reads.Asked, Reads.Learnt, Reads''.Asked, Reads''.Learnt, Reads'.Asked, Reads'.Learnt) Reads'3.Pre Reads'3.Post
 
 abbrev pub After-write-walk-arg3 : Type 0
-After-write-walk-arg3 = Lts.After-write-walk-arg3 (Reads'4.Asked, Reads'4.Learnt, Reads''.Asked, Reads''.Learnt, Reads.Asked, Reads.Learnt, Reads'.Asked, Reads'.Learnt) Reads'3.Pre Reads'3.Post
+After-write-walk-arg3 = Lts.After-write-walk-arg3 (Reads'4.Asked, Reads'4.Learnt, Reads.Asked, Reads.Learnt, Reads''.Asked, Reads''.Learnt, Reads'.Asked, Reads'.Learnt) Reads'3.Pre Reads'3.Post
 
 abbrev pub After-write-walk : Type 0
-After-write-walk = Lts.After-write-walk (Reads'4.Asked, Reads'4.Learnt, Reads''.Asked, Reads''.Learnt, Reads.Asked, Reads.Learnt, Reads'.Asked, Reads'.Learnt) Reads'3.Pre Reads'3.Post
+After-write-walk = Lts.After-write-walk (Reads'4.Asked, Reads'4.Learnt, Reads.Asked, Reads.Learnt, Reads''.Asked, Reads''.Learnt, Reads'.Asked, Reads'.Learnt) Reads'3.Pre Reads'3.Post
 
 abbrev pub After-out : Type 0
-After-out = Lts.After-out (Reads'4.Asked, Reads'4.Learnt, Reads''.Asked, Reads''.Learnt, Reads.Asked, Reads.Learnt, Reads'.Asked, Reads'.Learnt) Reads'3.Pre Reads'3.Post
+After-out = Lts.After-out (Reads'4.Asked, Reads'4.Learnt, Reads.Asked, Reads.Learnt, Reads''.Asked, Reads''.Learnt, Reads'.Asked, Reads'.Learnt) Reads'3.Pre Reads'3.Post
 
 abbrev pub After-slice-known3 : Type 0
-After-slice-known3 = Lts.After-slice-known3 (Reads'4.Asked, Reads'4.Learnt, Reads''.Asked, Reads''.Learnt, Reads.Asked, Reads.Learnt, Reads'.Asked, Reads'.Learnt) Reads'3.Pre Reads'3.Post
+After-slice-known3 = Lts.After-slice-known3 (Reads'4.Asked, Reads'4.Learnt, Reads.Asked, Reads.Learnt, Reads''.Asked, Reads''.Learnt, Reads'.Asked, Reads'.Learnt) Reads'3.Pre Reads'3.Post
 
 abbrev pub After-lines : Type 0
-After-lines = Lts.After-lines (Reads'4.Asked, Reads'4.Learnt, Reads''.Asked, Reads''.Learnt, Reads.Asked, Reads.Learnt, Reads'.Asked, Reads'.Learnt) Reads'3.Pre Reads'3.Post
+After-lines = Lts.After-lines (Reads'4.Asked, Reads'4.Learnt, Reads.Asked, Reads.Learnt, Reads''.Asked, Reads''.Learnt, Reads'.Asked, Reads'.Learnt) Reads'3.Pre Reads'3.Post
 
 abbrev pub After-slice-known4 : Type 0
-After-slice-known4 = Lts.After-slice-known4 (Reads'4.Asked, Reads'4.Learnt, Reads''.Asked, Reads''.Learnt, Reads.Asked, Reads.Learnt, Reads'.Asked, Reads'.Learnt) Reads'3.Pre Reads'3.Post
+After-slice-known4 = Lts.After-slice-known4 (Reads'4.Asked, Reads'4.Learnt, Reads.Asked, Reads.Learnt, Reads''.Asked, Reads''.Learnt, Reads'.Asked, Reads'.Learnt) Reads'3.Pre Reads'3.Post
 
 abbrev pub After-rs : Type 0
-After-rs = Lts.After-rs (Reads'4.Asked, Reads'4.Learnt, Reads''.Asked, Reads''.Learnt, Reads.Asked, Reads.Learnt, Reads'.Asked, Reads'.Learnt) Reads'3.Pre Reads'3.Post
+After-rs = Lts.After-rs (Reads'4.Asked, Reads'4.Learnt, Reads.Asked, Reads.Learnt, Reads''.Asked, Reads''.Learnt, Reads'.Asked, Reads'.Learnt) Reads'3.Pre Reads'3.Post
+
+abbrev pub After-after-counting : Type 0
+After-after-counting = Lts.After-after-counting (Reads'4.Asked, Reads'4.Learnt, Reads.Asked, Reads.Learnt, Reads''.Asked, Reads''.Learnt, Reads'.Asked, Reads'.Learnt) Reads'3.Pre Reads'3.Post
 
 abbrev pub At-match-keys1 : Type 0
-At-match-keys1 = Lts.At-match-keys1 (Reads'4.Asked, Reads'4.Learnt, Reads''.Asked, Reads''.Learnt, Reads.Asked, Reads.Learnt, Reads'.Asked, Reads'.Learnt) Reads'3.Pre Reads'3.Post
+At-match-keys1 = Lts.At-match-keys1 (Reads'4.Asked, Reads'4.Learnt, Reads.Asked, Reads.Learnt, Reads''.Asked, Reads''.Learnt, Reads'.Asked, Reads'.Learnt) Reads'3.Pre Reads'3.Post
 
-abbrev pub After-measured : Type 0
-After-measured = Lts.After-measured (Reads'4.Asked, Reads'4.Learnt, Reads''.Asked, Reads''.Learnt, Reads.Asked, Reads.Learnt, Reads'.Asked, Reads'.Learnt) Reads'3.Pre Reads'3.Post
+abbrev pub After-next : Type 0
+After-next = Lts.After-next (Reads'4.Asked, Reads'4.Learnt, Reads.Asked, Reads.Learnt, Reads''.Asked, Reads''.Learnt, Reads'.Asked, Reads'.Learnt) Reads'3.Pre Reads'3.Post
 
 abbrev pub After-known-told : Type 0
-After-known-told = Lts.After-known-told (Reads'4.Asked, Reads'4.Learnt, Reads''.Asked, Reads''.Learnt, Reads.Asked, Reads.Learnt, Reads'.Asked, Reads'.Learnt) Reads'3.Pre Reads'3.Post
+After-known-told = Lts.After-known-told (Reads'4.Asked, Reads'4.Learnt, Reads.Asked, Reads.Learnt, Reads''.Asked, Reads''.Learnt, Reads'.Asked, Reads'.Learnt) Reads'3.Pre Reads'3.Post
 
 abbrev pub At-match-keys2 : Type 0
-At-match-keys2 = Lts.At-match-keys2 (Reads'4.Asked, Reads'4.Learnt, Reads''.Asked, Reads''.Learnt, Reads.Asked, Reads.Learnt, Reads'.Asked, Reads'.Learnt) Reads'3.Pre Reads'3.Post
+At-match-keys2 = Lts.At-match-keys2 (Reads'4.Asked, Reads'4.Learnt, Reads.Asked, Reads.Learnt, Reads''.Asked, Reads''.Learnt, Reads'.Asked, Reads'.Learnt) Reads'3.Pre Reads'3.Post
 
-abbrev pub After-measured2 : Type 0
-After-measured2 = Lts.After-measured2 (Reads'4.Asked, Reads'4.Learnt, Reads''.Asked, Reads''.Learnt, Reads.Asked, Reads.Learnt, Reads'.Asked, Reads'.Learnt) Reads'3.Pre Reads'3.Post
+abbrev pub After-next2 : Type 0
+After-next2 = Lts.After-next2 (Reads'4.Asked, Reads'4.Learnt, Reads.Asked, Reads.Learnt, Reads''.Asked, Reads''.Learnt, Reads'.Asked, Reads'.Learnt) Reads'3.Pre Reads'3.Post
 
 abbrev pub After-known-told2 : Type 0
-After-known-told2 = Lts.After-known-told2 (Reads'4.Asked, Reads'4.Learnt, Reads''.Asked, Reads''.Learnt, Reads.Asked, Reads.Learnt, Reads'.Asked, Reads'.Learnt) Reads'3.Pre Reads'3.Post
-
-abbrev pub After-block-length : Type 0
-After-block-length = Lts.After-block-length (Reads'4.Asked, Reads'4.Learnt, Reads''.Asked, Reads''.Learnt, Reads.Asked, Reads.Learnt, Reads'.Asked, Reads'.Learnt) Reads'3.Pre Reads'3.Post
-
-abbrev pub After-is-short : Type 0
-After-is-short = Lts.After-is-short (Reads'4.Asked, Reads'4.Learnt, Reads''.Asked, Reads''.Learnt, Reads.Asked, Reads.Learnt, Reads'.Asked, Reads'.Learnt) Reads'3.Pre Reads'3.Post
-
-abbrev pub Then1 : Type 0
-Then1 = Lts.Then1 (Reads'4.Asked, Reads'4.Learnt, Reads''.Asked, Reads''.Learnt, Reads.Asked, Reads.Learnt, Reads'.Asked, Reads'.Learnt) Reads'3.Pre Reads'3.Post
-
-abbrev pub Else1 : Type 0
-Else1 = Lts.Else1 (Reads'4.Asked, Reads'4.Learnt, Reads''.Asked, Reads''.Learnt, Reads.Asked, Reads.Learnt, Reads'.Asked, Reads'.Learnt) Reads'3.Pre Reads'3.Post
+After-known-told2 = Lts.After-known-told2 (Reads'4.Asked, Reads'4.Learnt, Reads.Asked, Reads.Learnt, Reads''.Asked, Reads''.Learnt, Reads'.Asked, Reads'.Learnt) Reads'3.Pre Reads'3.Post
 
 abbrev pub After-write-walk-arg4 : Type 0
-After-write-walk-arg4 = Lts.After-write-walk-arg4 (Reads'4.Asked, Reads'4.Learnt, Reads''.Asked, Reads''.Learnt, Reads.Asked, Reads.Learnt, Reads'.Asked, Reads'.Learnt) Reads'3.Pre Reads'3.Post
+After-write-walk-arg4 = Lts.After-write-walk-arg4 (Reads'4.Asked, Reads'4.Learnt, Reads.Asked, Reads.Learnt, Reads''.Asked, Reads''.Learnt, Reads'.Asked, Reads'.Learnt) Reads'3.Pre Reads'3.Post
 
 abbrev pub After-write-walk-arg5 : Type 0
-After-write-walk-arg5 = Lts.After-write-walk-arg5 (Reads'4.Asked, Reads'4.Learnt, Reads''.Asked, Reads''.Learnt, Reads.Asked, Reads.Learnt, Reads'.Asked, Reads'.Learnt) Reads'3.Pre Reads'3.Post
+After-write-walk-arg5 = Lts.After-write-walk-arg5 (Reads'4.Asked, Reads'4.Learnt, Reads.Asked, Reads.Learnt, Reads''.Asked, Reads''.Learnt, Reads'.Asked, Reads'.Learnt) Reads'3.Pre Reads'3.Post
 
 abbrev pub After-write-walk-arg6 : Type 0
-After-write-walk-arg6 = Lts.After-write-walk-arg6 (Reads'4.Asked, Reads'4.Learnt, Reads''.Asked, Reads''.Learnt, Reads.Asked, Reads.Learnt, Reads'.Asked, Reads'.Learnt) Reads'3.Pre Reads'3.Post
+After-write-walk-arg6 = Lts.After-write-walk-arg6 (Reads'4.Asked, Reads'4.Learnt, Reads.Asked, Reads.Learnt, Reads''.Asked, Reads''.Learnt, Reads'.Asked, Reads'.Learnt) Reads'3.Pre Reads'3.Post
 
 abbrev pub After-write-walk2 : Type 0
-After-write-walk2 = Lts.After-write-walk2 (Reads'4.Asked, Reads'4.Learnt, Reads''.Asked, Reads''.Learnt, Reads.Asked, Reads.Learnt, Reads'.Asked, Reads'.Learnt) Reads'3.Pre Reads'3.Post
+After-write-walk2 = Lts.After-write-walk2 (Reads'4.Asked, Reads'4.Learnt, Reads.Asked, Reads.Learnt, Reads''.Asked, Reads''.Learnt, Reads'.Asked, Reads'.Learnt) Reads'3.Pre Reads'3.Post
 
 abbrev pub After-out2 : Type 0
-After-out2 = Lts.After-out2 (Reads'4.Asked, Reads'4.Learnt, Reads''.Asked, Reads''.Learnt, Reads.Asked, Reads.Learnt, Reads'.Asked, Reads'.Learnt) Reads'3.Pre Reads'3.Post
+After-out2 = Lts.After-out2 (Reads'4.Asked, Reads'4.Learnt, Reads.Asked, Reads.Learnt, Reads''.Asked, Reads''.Learnt, Reads'.Asked, Reads'.Learnt) Reads'3.Pre Reads'3.Post
 
 abbrev pub After-slice-known5 : Type 0
-After-slice-known5 = Lts.After-slice-known5 (Reads'4.Asked, Reads'4.Learnt, Reads''.Asked, Reads''.Learnt, Reads.Asked, Reads.Learnt, Reads'.Asked, Reads'.Learnt) Reads'3.Pre Reads'3.Post
+After-slice-known5 = Lts.After-slice-known5 (Reads'4.Asked, Reads'4.Learnt, Reads.Asked, Reads.Learnt, Reads''.Asked, Reads''.Learnt, Reads'.Asked, Reads'.Learnt) Reads'3.Pre Reads'3.Post
 
 abbrev pub After-lines2 : Type 0
-After-lines2 = Lts.After-lines2 (Reads'4.Asked, Reads'4.Learnt, Reads''.Asked, Reads''.Learnt, Reads.Asked, Reads.Learnt, Reads'.Asked, Reads'.Learnt) Reads'3.Pre Reads'3.Post
+After-lines2 = Lts.After-lines2 (Reads'4.Asked, Reads'4.Learnt, Reads.Asked, Reads.Learnt, Reads''.Asked, Reads''.Learnt, Reads'.Asked, Reads'.Learnt) Reads'3.Pre Reads'3.Post
 
 abbrev pub After-slice-known6 : Type 0
-After-slice-known6 = Lts.After-slice-known6 (Reads'4.Asked, Reads'4.Learnt, Reads''.Asked, Reads''.Learnt, Reads.Asked, Reads.Learnt, Reads'.Asked, Reads'.Learnt) Reads'3.Pre Reads'3.Post
+After-slice-known6 = Lts.After-slice-known6 (Reads'4.Asked, Reads'4.Learnt, Reads.Asked, Reads.Learnt, Reads''.Asked, Reads''.Learnt, Reads'.Asked, Reads'.Learnt) Reads'3.Pre Reads'3.Post
 
 abbrev pub After-rs2 : Type 0
-After-rs2 = Lts.After-rs2 (Reads'4.Asked, Reads'4.Learnt, Reads''.Asked, Reads''.Learnt, Reads.Asked, Reads.Learnt, Reads'.Asked, Reads'.Learnt) Reads'3.Pre Reads'3.Post
+After-rs2 = Lts.After-rs2 (Reads'4.Asked, Reads'4.Learnt, Reads.Asked, Reads.Learnt, Reads''.Asked, Reads''.Learnt, Reads'.Asked, Reads'.Learnt) Reads'3.Pre Reads'3.Post
 
 abbrev pub After-fill-tail-arg : Type 0
-After-fill-tail-arg = Lts.After-fill-tail-arg (Reads'4.Asked, Reads'4.Learnt, Reads''.Asked, Reads''.Learnt, Reads.Asked, Reads.Learnt, Reads'.Asked, Reads'.Learnt) Reads'3.Pre Reads'3.Post
+After-fill-tail-arg = Lts.After-fill-tail-arg (Reads'4.Asked, Reads'4.Learnt, Reads.Asked, Reads.Learnt, Reads''.Asked, Reads''.Learnt, Reads'.Asked, Reads'.Learnt) Reads'3.Pre Reads'3.Post
 
 abbrev pub After-fill-tail : Type 0
-After-fill-tail = Lts.After-fill-tail (Reads'4.Asked, Reads'4.Learnt, Reads''.Asked, Reads''.Learnt, Reads.Asked, Reads.Learnt, Reads'.Asked, Reads'.Learnt) Reads'3.Pre Reads'3.Post
+After-fill-tail = Lts.After-fill-tail (Reads'4.Asked, Reads'4.Learnt, Reads.Asked, Reads.Learnt, Reads''.Asked, Reads''.Learnt, Reads'.Asked, Reads'.Learnt) Reads'3.Pre Reads'3.Post
 
 abbrev pub After-out3 : Type 0
-After-out3 = Lts.After-out3 (Reads'4.Asked, Reads'4.Learnt, Reads''.Asked, Reads''.Learnt, Reads.Asked, Reads.Learnt, Reads'.Asked, Reads'.Learnt) Reads'3.Pre Reads'3.Post
+After-out3 = Lts.After-out3 (Reads'4.Asked, Reads'4.Learnt, Reads.Asked, Reads.Learnt, Reads''.Asked, Reads''.Learnt, Reads'.Asked, Reads'.Learnt) Reads'3.Pre Reads'3.Post
 
 abbrev pub After-slice-known7 : Type 0
-After-slice-known7 = Lts.After-slice-known7 (Reads'4.Asked, Reads'4.Learnt, Reads''.Asked, Reads''.Learnt, Reads.Asked, Reads.Learnt, Reads'.Asked, Reads'.Learnt) Reads'3.Pre Reads'3.Post
+After-slice-known7 = Lts.After-slice-known7 (Reads'4.Asked, Reads'4.Learnt, Reads.Asked, Reads.Learnt, Reads''.Asked, Reads''.Learnt, Reads'.Asked, Reads'.Learnt) Reads'3.Pre Reads'3.Post
+
+abbrev pub After-block-bytes : Type 0
+After-block-bytes = Lts.After-block-bytes (Reads'4.Asked, Reads'4.Learnt, Reads.Asked, Reads.Learnt, Reads''.Asked, Reads''.Learnt, Reads'.Asked, Reads'.Learnt) Reads'3.Pre Reads'3.Post
 
 abbrev pub Need-write-walk-requires : Type 0
-Need-write-walk-requires = Lts.Need-write-walk-requires (Reads'4.Asked, Reads'4.Learnt, Reads''.Asked, Reads''.Learnt, Reads.Asked, Reads.Learnt, Reads'.Asked, Reads'.Learnt) Reads'3.Pre Reads'3.Post
+Need-write-walk-requires = Lts.Need-write-walk-requires (Reads'4.Asked, Reads'4.Learnt, Reads.Asked, Reads.Learnt, Reads''.Asked, Reads''.Learnt, Reads'.Asked, Reads'.Learnt) Reads'3.Pre Reads'3.Post
 
-abbrev pub Need-enum-known-measured : Type 0
-Need-enum-known-measured = Lts.Need-enum-known-measured (Reads'4.Asked, Reads'4.Learnt, Reads''.Asked, Reads''.Learnt, Reads.Asked, Reads.Learnt, Reads'.Asked, Reads'.Learnt) Reads'3.Pre Reads'3.Post
-
-abbrev pub Need-enum-known-measured-2 : Type 0
-Need-enum-known-measured-2 = Lts.Need-enum-known-measured-2 (Reads'4.Asked, Reads'4.Learnt, Reads''.Asked, Reads''.Learnt, Reads.Asked, Reads.Learnt, Reads'.Asked, Reads'.Learnt) Reads'3.Pre
+abbrev pub Need-after-counting-requires : Type 0
+Need-after-counting-requires = Lts.Need-after-counting-requires (Reads'4.Asked, Reads'4.Learnt, Reads.Asked, Reads.Learnt, Reads''.Asked, Reads''.Learnt, Reads'.Asked, Reads'.Learnt) Reads'3.Pre
     Reads'3.Post
 
-abbrev pub Need-block-length-requires : Type 0
-Need-block-length-requires = Lts.Need-block-length-requires (Reads'4.Asked, Reads'4.Learnt, Reads''.Asked, Reads''.Learnt, Reads.Asked, Reads.Learnt, Reads'.Asked, Reads'.Learnt) Reads'3.Pre
-    Reads'3.Post
+abbrev pub Need-enum-known-next : Type 0
+Need-enum-known-next = Lts.Need-enum-known-next (Reads'4.Asked, Reads'4.Learnt, Reads.Asked, Reads.Learnt, Reads''.Asked, Reads''.Learnt, Reads'.Asked, Reads'.Learnt) Reads'3.Pre Reads'3.Post
 
-abbrev pub Need-is-short-requires : Type 0
-Need-is-short-requires = Lts.Need-is-short-requires (Reads'4.Asked, Reads'4.Learnt, Reads''.Asked, Reads''.Learnt, Reads.Asked, Reads.Learnt, Reads'.Asked, Reads'.Learnt) Reads'3.Pre Reads'3.Post
-
-abbrev pub Need-same-length : Type 0
-Need-same-length = Lts.Need-same-length (Reads'4.Asked, Reads'4.Learnt, Reads''.Asked, Reads''.Learnt, Reads.Asked, Reads.Learnt, Reads'.Asked, Reads'.Learnt) Reads'3.Pre Reads'3.Post
-
-abbrev pub Need-same-length-2 : Type 0
-Need-same-length-2 = Lts.Need-same-length-2 (Reads'4.Asked, Reads'4.Learnt, Reads''.Asked, Reads''.Learnt, Reads.Asked, Reads.Learnt, Reads'.Asked, Reads'.Learnt) Reads'3.Pre Reads'3.Post
-
-abbrev pub Need-same-length-3 : Type 0
-Need-same-length-3 = Lts.Need-same-length-3 (Reads'4.Asked, Reads'4.Learnt, Reads''.Asked, Reads''.Learnt, Reads.Asked, Reads.Learnt, Reads'.Asked, Reads'.Learnt) Reads'3.Pre Reads'3.Post
-
-abbrev pub Need-returns : Type 0
-Need-returns = Lts.Need-returns (Reads'4.Asked, Reads'4.Learnt, Reads''.Asked, Reads''.Learnt, Reads.Asked, Reads.Learnt, Reads'.Asked, Reads'.Learnt) Reads'3.Pre Reads'3.Post
+abbrev pub Need-enum-known-next-2 : Type 0
+Need-enum-known-next-2 = Lts.Need-enum-known-next-2 (Reads'4.Asked, Reads'4.Learnt, Reads.Asked, Reads.Learnt, Reads''.Asked, Reads''.Learnt, Reads'.Asked, Reads'.Learnt) Reads'3.Pre Reads'3.Post
 
 abbrev pub Need-write-walk-requires-2 : Type 0
-Need-write-walk-requires-2 = Lts.Need-write-walk-requires-2 (Reads'4.Asked, Reads'4.Learnt, Reads''.Asked, Reads''.Learnt, Reads.Asked, Reads.Learnt, Reads'.Asked, Reads'.Learnt) Reads'3.Pre
+Need-write-walk-requires-2 = Lts.Need-write-walk-requires-2 (Reads'4.Asked, Reads'4.Learnt, Reads.Asked, Reads.Learnt, Reads''.Asked, Reads''.Learnt, Reads'.Asked, Reads'.Learnt) Reads'3.Pre
     Reads'3.Post
 
 abbrev pub Need-fill-tail-requires : Type 0
-Need-fill-tail-requires = Lts.Need-fill-tail-requires (Reads'4.Asked, Reads'4.Learnt, Reads''.Asked, Reads''.Learnt, Reads.Asked, Reads.Learnt, Reads'.Asked, Reads'.Learnt) Reads'3.Pre Reads'3.Post
+Need-fill-tail-requires = Lts.Need-fill-tail-requires (Reads'4.Asked, Reads'4.Learnt, Reads.Asked, Reads.Learnt, Reads''.Asked, Reads''.Learnt, Reads'.Asked, Reads'.Learnt) Reads'3.Pre Reads'3.Post
+
+abbrev pub Need-block-bytes-requires : Type 0
+Need-block-bytes-requires = Lts.Need-block-bytes-requires (Reads'4.Asked, Reads'4.Learnt, Reads.Asked, Reads.Learnt, Reads''.Asked, Reads''.Learnt, Reads'.Asked, Reads'.Learnt) Reads'3.Pre
+    Reads'3.Post
+
+abbrev pub Need-same-length : Type 0
+Need-same-length = Lts.Need-same-length (Reads'4.Asked, Reads'4.Learnt, Reads.Asked, Reads.Learnt, Reads''.Asked, Reads''.Learnt, Reads'.Asked, Reads'.Learnt) Reads'3.Pre Reads'3.Post
+
+abbrev pub Need-same-length-2 : Type 0
+Need-same-length-2 = Lts.Need-same-length-2 (Reads'4.Asked, Reads'4.Learnt, Reads.Asked, Reads.Learnt, Reads''.Asked, Reads''.Learnt, Reads'.Asked, Reads'.Learnt) Reads'3.Pre Reads'3.Post
+
+abbrev pub Need-same-length-3 : Type 0
+Need-same-length-3 = Lts.Need-same-length-3 (Reads'4.Asked, Reads'4.Learnt, Reads.Asked, Reads.Learnt, Reads''.Asked, Reads''.Learnt, Reads'.Asked, Reads'.Learnt) Reads'3.Pre Reads'3.Post
+
+abbrev pub Need-returns : Type 0
+Need-returns = Lts.Need-returns (Reads'4.Asked, Reads'4.Learnt, Reads.Asked, Reads.Learnt, Reads''.Asked, Reads''.Learnt, Reads'.Asked, Reads'.Learnt) Reads'3.Pre Reads'3.Post
 
 abbrev pub Need-same-length-4 : Type 0
-Need-same-length-4 = Lts.Need-same-length-4 (Reads'4.Asked, Reads'4.Learnt, Reads''.Asked, Reads''.Learnt, Reads.Asked, Reads.Learnt, Reads'.Asked, Reads'.Learnt) Reads'3.Pre Reads'3.Post
+Need-same-length-4 = Lts.Need-same-length-4 (Reads'4.Asked, Reads'4.Learnt, Reads.Asked, Reads.Learnt, Reads''.Asked, Reads''.Learnt, Reads'.Asked, Reads'.Learnt) Reads'3.Pre Reads'3.Post
 
 abbrev pub Need-same-length-5 : Type 0
-Need-same-length-5 = Lts.Need-same-length-5 (Reads'4.Asked, Reads'4.Learnt, Reads''.Asked, Reads''.Learnt, Reads.Asked, Reads.Learnt, Reads'.Asked, Reads'.Learnt) Reads'3.Pre Reads'3.Post
+Need-same-length-5 = Lts.Need-same-length-5 (Reads'4.Asked, Reads'4.Learnt, Reads.Asked, Reads.Learnt, Reads''.Asked, Reads''.Learnt, Reads'.Asked, Reads'.Learnt) Reads'3.Pre Reads'3.Post
 
 abbrev pub Need-same-length-6 : Type 0
-Need-same-length-6 = Lts.Need-same-length-6 (Reads'4.Asked, Reads'4.Learnt, Reads''.Asked, Reads''.Learnt, Reads.Asked, Reads.Learnt, Reads'.Asked, Reads'.Learnt) Reads'3.Pre Reads'3.Post
+Need-same-length-6 = Lts.Need-same-length-6 (Reads'4.Asked, Reads'4.Learnt, Reads.Asked, Reads.Learnt, Reads''.Asked, Reads''.Learnt, Reads'.Asked, Reads'.Learnt) Reads'3.Pre Reads'3.Post
 
 abbrev pub Need-returns-2 : Type 0
-Need-returns-2 = Lts.Need-returns-2 (Reads'4.Asked, Reads'4.Learnt, Reads''.Asked, Reads''.Learnt, Reads.Asked, Reads.Learnt, Reads'.Asked, Reads'.Learnt) Reads'3.Pre Reads'3.Post
-
-abbrev pub Need-same-length-7 : Type 0
-Need-same-length-7 = Lts.Need-same-length-7 (Reads'4.Asked, Reads'4.Learnt, Reads''.Asked, Reads''.Learnt, Reads.Asked, Reads.Learnt, Reads'.Asked, Reads'.Learnt) Reads'3.Pre Reads'3.Post
-
-abbrev pub Need-same-length-8 : Type 0
-Need-same-length-8 = Lts.Need-same-length-8 (Reads'4.Asked, Reads'4.Learnt, Reads''.Asked, Reads''.Learnt, Reads.Asked, Reads.Learnt, Reads'.Asked, Reads'.Learnt) Reads'3.Pre Reads'3.Post
-
-abbrev pub Need-same-length-9 : Type 0
-Need-same-length-9 = Lts.Need-same-length-9 (Reads'4.Asked, Reads'4.Learnt, Reads''.Asked, Reads''.Learnt, Reads.Asked, Reads.Learnt, Reads'.Asked, Reads'.Learnt) Reads'3.Pre Reads'3.Post
-
-abbrev pub Need-returns-3 : Type 0
-Need-returns-3 = Lts.Need-returns-3 (Reads'4.Asked, Reads'4.Learnt, Reads''.Asked, Reads''.Learnt, Reads.Asked, Reads.Learnt, Reads'.Asked, Reads'.Learnt) Reads'3.Pre Reads'3.Post
+Need-returns-2 = Lts.Need-returns-2 (Reads'4.Asked, Reads'4.Learnt, Reads.Asked, Reads.Learnt, Reads''.Asked, Reads''.Learnt, Reads'.Asked, Reads'.Learnt) Reads'3.Pre Reads'3.Post
 
 module _ {M : Type 1} where
-  pub spec : (answer : Need-write-walk-requires) → (answer : Need-enum-known-measured) → (answer : Need-enum-known-measured-2) → (answer : Need-block-length-requires) → (answer :
-      Need-is-short-requires) → (answer : Need-same-length) → (answer : Need-same-length-2) → (answer : Need-same-length-3) → (answer : Need-returns) → (answer : Need-write-walk-requires-2) → (answer :
-      Need-fill-tail-requires) → (answer : Need-same-length-4) → (answer : Need-same-length-5) → (answer : Need-same-length-6) → (answer : Need-returns-2) → (answer : Need-same-length-7) → (answer :
-      Need-same-length-8) → (answer : Need-same-length-9) → (answer : Need-returns-3) → Lts.Closed
-      (Reads'4.Asked, Reads'4.Learnt, Reads''.Asked, Reads''.Learnt, Reads.Asked, Reads.Learnt, Reads'.Asked, Reads'.Learnt) Reads'3.Pre Reads'3.Post M
-  spec = λ answer answer' answer'' answer'3 answer'4 answer'5 answer'6 answer'7 answer'8 answer'9 answer'10 answer'11 answer'12 answer'13 answer'14 answer'15 answer'16 answer'17 answer'18. Lts.spec
-      (Reads'4.Asked, Reads'4.Learnt, Reads''.Asked, Reads''.Learnt, Reads.Asked, Reads.Learnt, Reads'.Asked, Reads'.Learnt) Reads'3.Pre Reads'3.Post answer answer' answer'' answer'3 answer'4 answer'5
-      answer'6 answer'7 answer'8 answer'9 answer'10 answer'11 answer'12 answer'13 answer'14 answer'15 answer'16 answer'17 answer'18
+  pub spec : (answer : Need-write-walk-requires) → (answer : Need-after-counting-requires) → (answer : Need-enum-known-next) → (answer : Need-enum-known-next-2) → (answer : Need-write-walk-requires-2)
+      → (answer : Need-fill-tail-requires) → (answer : Need-block-bytes-requires) → (answer : Need-same-length) → (answer : Need-same-length-2) → (answer : Need-same-length-3) → (answer : Need-returns) →
+      (answer : Need-same-length-4) → (answer : Need-same-length-5) → (answer : Need-same-length-6) → (answer : Need-returns-2) → Lts.Closed
+      (Reads'4.Asked, Reads'4.Learnt, Reads.Asked, Reads.Learnt, Reads''.Asked, Reads''.Learnt, Reads'.Asked, Reads'.Learnt) Reads'3.Pre Reads'3.Post M
+  spec = λ answer answer' answer'' answer'3 answer'4 answer'5 answer'6 answer'7 answer'8 answer'9 answer'10 answer'11 answer'12 answer'13 answer'14. Lts.spec
+      (Reads'4.Asked, Reads'4.Learnt, Reads.Asked, Reads.Learnt, Reads''.Asked, Reads''.Learnt, Reads'.Asked, Reads'.Learnt) Reads'3.Pre Reads'3.Post answer answer' answer'' answer'3 answer'4 answer'5
+      answer'6 answer'7 answer'8 answer'9 answer'10 answer'11 answer'12 answer'13 answer'14
 
-  pub close : Lts.Closed (Reads'4.Asked, Reads'4.Learnt, Reads''.Asked, Reads''.Learnt, Reads.Asked, Reads.Learnt, Reads'.Asked, Reads'.Learnt) Reads'3.Pre Reads'3.Post M → Statement.statement M
+  pub close : Lts.Closed (Reads'4.Asked, Reads'4.Learnt, Reads.Asked, Reads.Learnt, Reads''.Asked, Reads''.Learnt, Reads'.Asked, Reads'.Learnt) Reads'3.Pre Reads'3.Post M → Statement.statement M
   unfolding Code.routine Running.tablesOf
   close = λ closed 𝓤 H 𝓜 𝓖 𝓡. Written.close 4 Kinds.ps Kinds.r Reads'3.Ghost Reads'3.requires Reads'3.ensures Reads'3.pre-read Reads'3.Pinned Reads'3.Owned Reads'3.post-read record
       { M = M; 𝓤 = 𝓤; H = H; 𝓜 = 𝓜; 𝓖 = 𝓖; 𝓡 = 𝓡 } Code.env Key.name Code.function (Code.unfolded 𝓤 H 𝓜 𝓡) (λ κs a g. tt) (λ κs. Reads'3.owns κs record { M = M; 𝓤 = 𝓤; H = H; 𝓜 = 𝓜; 𝓖 = 𝓖; 𝓡 = 𝓡 })
       (Reads'3.passes record { M = M; 𝓤 = 𝓤; H = H; 𝓜 = 𝓜; 𝓖 = 𝓖; 𝓡 = 𝓡 }) λ g. closed 𝓤 H (𝓖 .A) (Running.givenOf 𝓤 H 𝓜 𝓖) (Run.Over 𝓤 H 𝓜 𝓖 𝓡 Code.env) (Reads'4.known record
-      { M = M; 𝓤 = 𝓤; H = H; 𝓜 = 𝓜; 𝓖 = 𝓖; 𝓡 = 𝓡 } Code.env Symbol'3.name Symbol'3.routine Code.calls-block·writer·write-walk (Met'3.met 𝓤 H 𝓜 𝓖 𝓡)) (Reads''.known record
-      { M = M; 𝓤 = 𝓤; H = H; 𝓜 = 𝓜; 𝓖 = 𝓖; 𝓡 = 𝓡 } Code.env Symbol''.name Symbol''.routine Code.calls-block·writer·block-length (Met''.met 𝓤 H 𝓜 𝓖 𝓡)) (Reads.known record
-      { M = M; 𝓤 = 𝓤; H = H; 𝓜 = 𝓜; 𝓖 = 𝓖; 𝓡 = 𝓡 } Code.env Symbol.name Symbol.routine Code.calls-begin·is-short (Met.met 𝓤 H 𝓜 𝓖 𝓡)) (Reads'.known record { M = M; 𝓤 = 𝓤; H = H; 𝓜 = 𝓜; 𝓖 = 𝓖; 𝓡 = 𝓡 }
-      Code.env Symbol'.name Symbol'.routine Code.calls-bits·fill-tail (Met'.met 𝓤 H 𝓜 𝓖 𝓡))
+      { M = M; 𝓤 = 𝓤; H = H; 𝓜 = 𝓜; 𝓖 = 𝓖; 𝓡 = 𝓡 } Code.env Symbol'3.name Symbol'3.routine Code.calls-block·writer·write-walk (Met'3.met 𝓤 H 𝓜 𝓖 𝓡)) (Reads.known record
+      { M = M; 𝓤 = 𝓤; H = H; 𝓜 = 𝓜; 𝓖 = 𝓖; 𝓡 = 𝓡 } Code.env Symbol.name Symbol.routine Code.calls-begin·after-counting (Met.met 𝓤 H 𝓜 𝓖 𝓡)) (Reads''.known record
+      { M = M; 𝓤 = 𝓤; H = H; 𝓜 = 𝓜; 𝓖 = 𝓖; 𝓡 = 𝓡 } Code.env Symbol''.name Symbol''.routine Code.calls-bits·fill-tail (Met''.met 𝓤 H 𝓜 𝓖 𝓡)) (Reads'.known record
+      { M = M; 𝓤 = 𝓤; H = H; 𝓜 = 𝓜; 𝓖 = 𝓖; 𝓡 = 𝓡 } Code.env Symbol'.name Symbol'.routine Code.calls-begin·block-bytes (Met'.met 𝓤 H 𝓜 𝓖 𝓡))

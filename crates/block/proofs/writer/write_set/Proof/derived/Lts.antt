@@ -3,8 +3,8 @@ use Rattle.block.proofs.Element
 use Prim.Native.Nat
 use Rattle.block.proofs.Form
 use Rattle.block.proofs.Form.Laws
-use Rattle.block.proofs.Written
-use Rattle.block.proofs.Written.Laws as Laws'
+use Rattle.stream.proofs.BlockLength
+use Rattle.stream.proofs.BlockLength.Laws as Laws'
 use Rattle.stream.proofs.Refusal
 use Rattle.stream.proofs.Refusal.Laws as Laws''
 use borrow.Author.Called
@@ -18,6 +18,7 @@ use borrow.Fn.Frame
 use borrow.Fn.Function
 use borrow.Fn.Kinds
 use borrow.Fn.Plain
+use borrow.Kind.Bool
 use borrow.Kind.MutSlice
 use borrow.Kind.Num
 use borrow.Kind.ShrSlice
@@ -78,8 +79,8 @@ y3 = Syntax.tyStruct (List._∷_ 98 (List._∷_ 108 (List._∷_ 111 (List._∷_ 
     (Syntax.tcons (Syntax.tyInt Syntax.w32) (Syntax.tcons Syntax.tyBool Syntax.tnil))
 
 abbrev pub ps : List.List (Kinds.PK 4)
-ps = List._∷_ (ShrSlice.pShrS (Referent.rtF (Referent.fInt Syntax.w16)) 0 tt) (List._∷_ (MutSlice.pMutS (Referent.rtF (Referent.fInt Syntax.w8)) 1 tt) (List._∷_ (MutSlice.pMutS (Referent.rtF
-    (Referent.fInt Syntax.w16)) 2 tt) (List._∷_ (MutSlice.pMutS (Element.type) 3 tt) (List._∷_ (Value.pVal record {
+ps = List._∷_ (ShrSlice.pShrS (Referent.rtF (Referent.fInt Syntax.w16)) 0 tt) (List._∷_ (MutSlice.pMutS (Referent.rtF (Referent.fInt Syntax.w8)) 1 tt) (List._∷_ Bool.pBool (List._∷_ (MutSlice.pMutS
+    (Referent.rtF (Referent.fInt Syntax.w16)) 2 tt) (List._∷_ (MutSlice.pMutS (Element.type) 3 tt) (List._∷_ (Value.pVal record {
       ty = Declared'.row Form.the-type;
       one = Path'.refl;
       val = Laws'4.val Form.the-type Laws.the-laws;
@@ -96,26 +97,26 @@ ps = List._∷_ (ShrSlice.pShrS (Referent.rtF (Referent.fInt Syntax.w16)) 0 tt) 
       in-mem =
           Local.mem-whole 𝓤 H A W (Declared'.row Form.the-type);
       of-mem = Local.whole-mem 𝓤 H A W (Declared'.row Form.the-type);
-    }) (List._∷_ (Num.pNum Syntax.w64) List.[])))))
+    }) (List._∷_ (Num.pNum Syntax.w64) List.[]))))))
 
 abbrev pub r : Kinds.RK 4
 r = Value.rVal record {
-  ty = Declared.row Written.the-type;
+  ty = Declared.row BlockLength.the-type;
   one = Path'.refl;
-  val = Laws'3.val Written.the-type Laws'.the-laws;
-  tells = Laws'3.tells Written.the-type Laws'.the-laws;
-  still = Laws'3.still Written.the-type
-      Laws'.the-copy Exit.yes;
-  row = Rows.whole (Declared.row Written.the-type);
+  val = Laws'3.val BlockLength.the-type Laws'.the-laws;
+  tells = Laws'3.tells BlockLength.the-type Laws'.the-laws;
+  still = Laws'3.still
+      BlockLength.the-type Laws'.the-copy Exit.yes;
+  row = Rows.whole (Declared.row BlockLength.the-type);
   rd = λ x. x;
   mk = λ x. x;
 } λ M 𝓤 H A W. record {
-  copies = Laws'3.copy Written.the-type Laws'.the-copy 𝓤 H A W;
-  lawful = Laws'3.lawful Written.the-type Laws'.the-laws 𝓤 H A W tt;
-  makes = Laws'3.makes Written.the-type Laws'.the-plain 𝓤 H A;
-  in-mem =
-      Local.mem-whole 𝓤 H A W (Declared.row Written.the-type);
-  of-mem = Local.whole-mem 𝓤 H A W (Declared.row Written.the-type);
+  copies = Laws'3.copy BlockLength.the-type Laws'.the-copy 𝓤 H A W;
+  lawful = Laws'3.lawful BlockLength.the-type Laws'.the-laws 𝓤 H A W tt;
+  makes = Laws'3.makes BlockLength.the-type Laws'.the-plain 𝓤 H
+      A;
+  in-mem = Local.mem-whole 𝓤 H A W (Declared.row BlockLength.the-type);
+  of-mem = Local.whole-mem 𝓤 H A W (Declared.row BlockLength.the-type);
 }
 
 abbrev pub xs : List.List Syntax.Ty
@@ -158,8 +159,8 @@ abbrev pub r·3 : Kinds.RK 1
 r·3 = Unit'.rUnit
 
 abbrev pub ps·4 : List.List (Kinds.PK 4)
-ps·4 = List._∷_ (ShrSlice.pShrS (Referent.rtF (Referent.fInt Syntax.w16)) 0 tt) (List._∷_ (MutSlice.pMutS (Referent.rtF (Referent.fInt Syntax.w8)) 1 tt) (List._∷_ (MutSlice.pMutS (Referent.rtF
-    (Referent.fInt Syntax.w16)) 2 tt) (List._∷_ (MutSlice.pMutS (Element.type) 3 tt) (List._∷_ (Value.pVal record {
+ps·4 = List._∷_ (ShrSlice.pShrS (Referent.rtF (Referent.fInt Syntax.w16)) 0 tt) (List._∷_ (MutSlice.pMutS (Referent.rtF (Referent.fInt Syntax.w8)) 1 tt) (List._∷_ Bool.pBool (List._∷_ (MutSlice.pMutS
+    (Referent.rtF (Referent.fInt Syntax.w16)) 2 tt) (List._∷_ (MutSlice.pMutS (Element.type) 3 tt) (List._∷_ (Value.pVal record {
       ty = Declared'.row Form.the-type;
       one = Path'.refl;
       val = Laws'4.val Form.the-type Laws.the-laws;
@@ -176,69 +177,69 @@ ps·4 = List._∷_ (ShrSlice.pShrS (Referent.rtF (Referent.fInt Syntax.w16)) 0 t
       in-mem =
           Local.mem-whole 𝓤 H A W (Declared'.row Form.the-type);
       of-mem = Local.whole-mem 𝓤 H A W (Declared'.row Form.the-type);
-    }) (List._∷_ (Num.pNum Syntax.w64) List.[])))))
+    }) (List._∷_ (Num.pNum Syntax.w64) List.[]))))))
 
 abbrev pub r·4 : Kinds.RK 4
 r·4 = Value.rVal record {
-  ty = Declared.row Written.the-type;
+  ty = Declared.row BlockLength.the-type;
   one = Path'.refl;
-  val = Laws'3.val Written.the-type Laws'.the-laws;
-  tells = Laws'3.tells Written.the-type Laws'.the-laws;
-  still = Laws'3.still Written.the-type
-      Laws'.the-copy Exit.yes;
-  row = Rows.whole (Declared.row Written.the-type);
+  val = Laws'3.val BlockLength.the-type Laws'.the-laws;
+  tells = Laws'3.tells BlockLength.the-type Laws'.the-laws;
+  still = Laws'3.still
+      BlockLength.the-type Laws'.the-copy Exit.yes;
+  row = Rows.whole (Declared.row BlockLength.the-type);
   rd = λ x. x;
   mk = λ x. x;
 } λ M 𝓤 H A W. record {
-  copies = Laws'3.copy Written.the-type Laws'.the-copy 𝓤 H A W;
-  lawful = Laws'3.lawful Written.the-type Laws'.the-laws 𝓤 H A W tt;
-  makes = Laws'3.makes Written.the-type Laws'.the-plain 𝓤 H A;
-  in-mem =
-      Local.mem-whole 𝓤 H A W (Declared.row Written.the-type);
-  of-mem = Local.whole-mem 𝓤 H A W (Declared.row Written.the-type);
+  copies = Laws'3.copy BlockLength.the-type Laws'.the-copy 𝓤 H A W;
+  lawful = Laws'3.lawful BlockLength.the-type Laws'.the-laws 𝓤 H A W tt;
+  makes = Laws'3.makes BlockLength.the-type Laws'.the-plain 𝓤 H
+      A;
+  in-mem = Local.mem-whole 𝓤 H A W (Declared.row BlockLength.the-type);
+  of-mem = Local.whole-mem 𝓤 H A W (Declared.row BlockLength.the-type);
 }
 
 abbrev pub hs : List.List Syntax.Home
 hs = List._∷_ Syntax.valueLocal (List._∷_ Syntax.valueLocal (List._∷_ Syntax.valueLocal (List._∷_ Syntax.valueLocal (List._∷_ Syntax.valueLocal (List._∷_ Syntax.valueLocal (List._∷_ Syntax.valueLocal
     (List._∷_ Syntax.valueLocal (List._∷_ Syntax.valueLocal (List._∷_ Syntax.valueLocal (List._∷_ Syntax.valueLocal (List._∷_ Syntax.valueLocal (List._∷_ Syntax.valueLocal (List._∷_ Syntax.valueLocal
     (List._∷_ Syntax.valueLocal (List._∷_ Syntax.valueLocal (List._∷_ Syntax.valueLocal (List._∷_ Syntax.valueLocal (List._∷_ Syntax.valueLocal (List._∷_ Syntax.valueLocal (List._∷_ Syntax.valueLocal
-    (List._∷_ Syntax.valueLocal (List._∷_ Syntax.valueLocal List.[]))))))))))))))))))))))
+    (List._∷_ Syntax.valueLocal (List._∷_ Syntax.valueLocal (List._∷_ Syntax.valueLocal List.[])))))))))))))))))))))))
 
 abbrev b0 : Syntax.Body
-b0 = Syntax.call "quantiser::largest" (List._∷_ (Syntax.copy (Syntax.place 5 (List._∷_ (Syntax.field 0) List.[]))) List.[]) (Syntax.place 7 List.[])
+b0 = Syntax.call "quantiser::largest" (List._∷_ (Syntax.copy (Syntax.place 6 (List._∷_ (Syntax.field 0) List.[]))) List.[]) (Syntax.place 8 List.[])
 
 abbrev b1 : Syntax.Body
-b1 = Syntax.call "begin::first_above" (List._∷_ (Syntax.copy (Syntax.place 1 List.[])) (List._∷_ (Syntax.copy (Syntax.place 7 List.[])) List.[])) (Syntax.place 8 List.[])
+b1 = Syntax.call "begin::first_above" (List._∷_ (Syntax.copy (Syntax.place 1 List.[])) (List._∷_ (Syntax.copy (Syntax.place 8 List.[])) List.[])) (Syntax.place 9 List.[])
 
 abbrev b2 : Syntax.Body
-b2 = Syntax.assign (Syntax.place 9 List.[]) (Syntax.rvOpd (Syntax.copy (Syntax.place 1 (List._∷_ (Syntax.field 1) List.[]))))
+b2 = Syntax.assign (Syntax.place 10 List.[]) (Syntax.rvOpd (Syntax.copy (Syntax.place 1 (List._∷_ (Syntax.field 1) List.[]))))
 
 abbrev b3 : Syntax.Body
-b3 = Syntax.assign (Syntax.place 10 List.[]) (Syntax.op2 (Syntax.lt Syntax.unsigned) (Syntax.copy (Syntax.place 8 List.[])) (Syntax.copy (Syntax.place 9 List.[])))
+b3 = Syntax.assign (Syntax.place 11 List.[]) (Syntax.op2 (Syntax.lt Syntax.unsigned) (Syntax.copy (Syntax.place 9 List.[])) (Syntax.copy (Syntax.place 10 List.[])))
 
 abbrev b4 : Syntax.Body
-b4 = Syntax.assign (Syntax.place 12 List.[]) (Syntax.addrOf (Syntax.place 3 (List._∷_ (Syntax.field 0) (List._∷_ (Syntax.deref (Syntax.tyInt Syntax.w16)) List.[]))))
+b4 = Syntax.assign (Syntax.place 13 List.[]) (Syntax.addrOf (Syntax.place 4 (List._∷_ (Syntax.field 0) (List._∷_ (Syntax.deref (Syntax.tyInt Syntax.w16)) List.[]))))
 
 abbrev b5 : Syntax.Body
-b5 = Syntax.assign (Syntax.place 13 List.[]) (Syntax.aggregate (List._∷_ (Syntax.copy (Syntax.place 12 List.[])) (List._∷_ (Syntax.copy (Syntax.place 3 (List._∷_ (Syntax.field 1) List.[]))) List.[])))
+b5 = Syntax.assign (Syntax.place 14 List.[]) (Syntax.aggregate (List._∷_ (Syntax.copy (Syntax.place 13 List.[])) (List._∷_ (Syntax.copy (Syntax.place 4 (List._∷_ (Syntax.field 1) List.[]))) List.[])))
 
 abbrev b6 : Syntax.Body
-b6 = Syntax.call "lines::clear" (List._∷_ (Syntax.copy (Syntax.place 13 List.[])) List.[]) (Syntax.place 11 List.[])
+b6 = Syntax.call "lines::clear" (List._∷_ (Syntax.copy (Syntax.place 14 List.[])) List.[]) (Syntax.place 12 List.[])
 
 abbrev b7 : Syntax.Body
-b7 = Syntax.assign (Syntax.place 14 List.[]) (Syntax.addrOf (Syntax.place 4 (List._∷_ (Syntax.field 0) (List._∷_ (Syntax.deref (Element.held)) List.[]))))
+b7 = Syntax.assign (Syntax.place 15 List.[]) (Syntax.addrOf (Syntax.place 5 (List._∷_ (Syntax.field 0) (List._∷_ (Syntax.deref (Element.held)) List.[]))))
 
 abbrev b8 : Syntax.Body
-b8 = Syntax.assign (Syntax.place 15 List.[]) (Syntax.aggregate (List._∷_ (Syntax.copy (Syntax.place 14 List.[])) (List._∷_ (Syntax.copy (Syntax.place 4 (List._∷_ (Syntax.field 1) List.[]))) List.[])))
+b8 = Syntax.assign (Syntax.place 16 List.[]) (Syntax.aggregate (List._∷_ (Syntax.copy (Syntax.place 15 List.[])) (List._∷_ (Syntax.copy (Syntax.place 5 (List._∷_ (Syntax.field 1) List.[]))) List.[])))
 
 abbrev b9 : Syntax.Body
-b9 = Syntax.call "block::records::clear_records" (List._∷_ (Syntax.copy (Syntax.place 15 List.[])) List.[]) (Syntax.place 11 List.[])
+b9 = Syntax.call "block::records::clear_records" (List._∷_ (Syntax.copy (Syntax.place 16 List.[])) List.[]) (Syntax.place 12 List.[])
 
 abbrev b10 : Syntax.Body
-b10 = Syntax.assign (Syntax.place 16 List.[]) (Syntax.aggregate (List._∷_ (Syntax.int Syntax.w8 10) (List._∷_ (Syntax.copy (Syntax.place 8 List.[])) List.[])))
+b10 = Syntax.assign (Syntax.place 17 List.[]) (Syntax.aggregate (List._∷_ (Syntax.int Syntax.w8 10) (List._∷_ (Syntax.copy (Syntax.place 9 List.[])) List.[])))
 
 abbrev b11 : Syntax.Body
-b11 = Syntax.assign (Syntax.place 0 List.[]) (Syntax.aggregate (List._∷_ (Syntax.int Syntax.w8 1) (List._∷_ (Syntax.copy (Syntax.place 16 List.[])) List.[])))
+b11 = Syntax.assign (Syntax.place 0 List.[]) (Syntax.aggregate (List._∷_ (Syntax.int Syntax.w8 1) (List._∷_ (Syntax.copy (Syntax.place 17 List.[])) List.[])))
 
 abbrev b12 : Syntax.Body
 b12 = Syntax.return
@@ -271,32 +272,33 @@ abbrev b21 : Syntax.Body
 b21 = Syntax.skip
 
 abbrev b22 : Syntax.Body
-b22 = Syntax.cond (Syntax.copy (Syntax.place 10 List.[])) b20 b21
+b22 = Syntax.cond (Syntax.copy (Syntax.place 11 List.[])) b20 b21
 
 abbrev b23 : Syntax.Body
-b23 = Syntax.assign (Syntax.place 17 List.[]) (Syntax.addrOf (Syntax.place 2 (List._∷_ (Syntax.field 0) (List._∷_ (Syntax.deref (Syntax.tyInt Syntax.w8)) List.[]))))
+b23 = Syntax.assign (Syntax.place 18 List.[]) (Syntax.addrOf (Syntax.place 2 (List._∷_ (Syntax.field 0) (List._∷_ (Syntax.deref (Syntax.tyInt Syntax.w8)) List.[]))))
 
 abbrev b24 : Syntax.Body
-b24 = Syntax.assign (Syntax.place 18 List.[]) (Syntax.aggregate (List._∷_ (Syntax.copy (Syntax.place 17 List.[])) (List._∷_ (Syntax.copy (Syntax.place 2 (List._∷_ (Syntax.field 1) List.[])))
+b24 = Syntax.assign (Syntax.place 19 List.[]) (Syntax.aggregate (List._∷_ (Syntax.copy (Syntax.place 18 List.[])) (List._∷_ (Syntax.copy (Syntax.place 2 (List._∷_ (Syntax.field 1) List.[])))
     List.[])))
 
 abbrev b25 : Syntax.Body
-b25 = Syntax.assign (Syntax.place 19 List.[]) (Syntax.addrOf (Syntax.place 3 (List._∷_ (Syntax.field 0) (List._∷_ (Syntax.deref (Syntax.tyInt Syntax.w16)) List.[]))))
+b25 = Syntax.assign (Syntax.place 20 List.[]) (Syntax.addrOf (Syntax.place 4 (List._∷_ (Syntax.field 0) (List._∷_ (Syntax.deref (Syntax.tyInt Syntax.w16)) List.[]))))
 
 abbrev b26 : Syntax.Body
-b26 = Syntax.assign (Syntax.place 20 List.[]) (Syntax.aggregate (List._∷_ (Syntax.copy (Syntax.place 19 List.[])) (List._∷_ (Syntax.copy (Syntax.place 3 (List._∷_ (Syntax.field 1) List.[])))
+b26 = Syntax.assign (Syntax.place 21 List.[]) (Syntax.aggregate (List._∷_ (Syntax.copy (Syntax.place 20 List.[])) (List._∷_ (Syntax.copy (Syntax.place 4 (List._∷_ (Syntax.field 1) List.[])))
     List.[])))
 
 abbrev b27 : Syntax.Body
-b27 = Syntax.assign (Syntax.place 21 List.[]) (Syntax.addrOf (Syntax.place 4 (List._∷_ (Syntax.field 0) (List._∷_ (Syntax.deref (Element.held)) List.[]))))
+b27 = Syntax.assign (Syntax.place 22 List.[]) (Syntax.addrOf (Syntax.place 5 (List._∷_ (Syntax.field 0) (List._∷_ (Syntax.deref (Element.held)) List.[]))))
 
 abbrev b28 : Syntax.Body
-b28 = Syntax.assign (Syntax.place 22 List.[]) (Syntax.aggregate (List._∷_ (Syntax.copy (Syntax.place 21 List.[])) (List._∷_ (Syntax.copy (Syntax.place 4 (List._∷_ (Syntax.field 1) List.[])))
+b28 = Syntax.assign (Syntax.place 23 List.[]) (Syntax.aggregate (List._∷_ (Syntax.copy (Syntax.place 22 List.[])) (List._∷_ (Syntax.copy (Syntax.place 5 (List._∷_ (Syntax.field 1) List.[])))
     List.[])))
 
 abbrev b29 : Syntax.Body
-b29 = Syntax.call "block::writer::write_measured" (List._∷_ (Syntax.copy (Syntax.place 1 List.[])) (List._∷_ (Syntax.copy (Syntax.place 18 List.[])) (List._∷_ (Syntax.copy (Syntax.place 20 List.[]))
-    (List._∷_ (Syntax.copy (Syntax.place 22 List.[])) (List._∷_ (Syntax.copy (Syntax.place 5 List.[])) (List._∷_ (Syntax.copy (Syntax.place 6 List.[])) List.[])))))) (Syntax.place 0 List.[])
+b29 = Syntax.call "block::writer::write_measured" (List._∷_ (Syntax.copy (Syntax.place 1 List.[])) (List._∷_ (Syntax.copy (Syntax.place 19 List.[])) (List._∷_ (Syntax.copy (Syntax.place 3 List.[]))
+    (List._∷_ (Syntax.copy (Syntax.place 21 List.[])) (List._∷_ (Syntax.copy (Syntax.place 23 List.[])) (List._∷_ (Syntax.copy (Syntax.place 6 List.[])) (List._∷_ (Syntax.copy (Syntax.place 7 List.[]))
+    List.[]))))))) (Syntax.place 0 List.[])
 
 abbrev b30 : Syntax.Body
 b30 = Syntax.return
@@ -347,68 +349,68 @@ Claims = Kinds.In 0 ps·0 × Kinds.Out 0 ps·0 r·0 × Kinds.In 1 ps·1 × Kinds
 abbrev pub e0 : Row.Entry
 e0 = (
   0,
-  Rows.any-gone (Syntax.tyEnum (List._∷_ 98 (List._∷_ 108 (List._∷_ 111 (List._∷_ 99 (List._∷_ 107 (List._∷_ 58 (List._∷_ 58 (List._∷_ 87 (List._∷_ 114 (List._∷_ 105 (List._∷_ 116 (List._∷_ 116
-      (List._∷_ 101 (List._∷_ 110 List.[])))))))))))))) (Syntax.ttcons (Syntax.tcons (Syntax.tyInt Syntax.w64) Syntax.tnil) (Syntax.ttcons (Syntax.tcons (Syntax.tyEnum (List._∷_ 115 (List._∷_ 116 (List._∷_
-      114 (List._∷_ 101 (List._∷_ 97 (List._∷_ 109 (List._∷_ 58 (List._∷_ 58 (List._∷_ 82 (List._∷_ 101 (List._∷_ 102 (List._∷_ 117 (List._∷_ 115 (List._∷_ 97 (List._∷_ 108 List.[])))))))))))))))
-      (Syntax.ttcons Syntax.tnil (Syntax.ttcons Syntax.tnil (Syntax.ttcons Syntax.tnil (Syntax.ttcons (Syntax.tcons (Syntax.tyInt Syntax.w64) Syntax.tnil) (Syntax.ttcons Syntax.tnil (Syntax.ttcons
-      Syntax.tnil (Syntax.ttcons Syntax.tnil (Syntax.ttcons Syntax.tnil (Syntax.ttcons Syntax.tnil (Syntax.ttcons Syntax.tnil (Syntax.ttcons (Syntax.tcons (Syntax.tyInt Syntax.w64) Syntax.tnil)
-      (Syntax.ttcons (Syntax.tcons (Syntax.tyInt Syntax.w64) Syntax.tnil) (Syntax.ttcons Syntax.tnil (Syntax.ttcons (Syntax.tcons (Syntax.tyInt Syntax.w64) (Syntax.tcons (Syntax.tyInt Syntax.w64)
-      Syntax.tnil)) (Syntax.ttcons (Syntax.tcons (Syntax.tyInt Syntax.w64) Syntax.tnil) (Syntax.ttcons Syntax.tnil (Syntax.ttcons Syntax.tnil (Syntax.ttcons (Syntax.tcons (Syntax.tyInt Syntax.w64)
-      Syntax.tnil) (Syntax.ttcons (Syntax.tcons (Syntax.tyInt Syntax.w64) Syntax.tnil) (Syntax.ttcons (Syntax.tcons (Syntax.tyInt Syntax.w64) Syntax.tnil) (Syntax.ttcons Syntax.tnil
-      Syntax.ttnil)))))))))))))))))))))) Syntax.tnil) Syntax.ttnil))),
+  Rows.any-gone (Syntax.tyEnum (List._∷_ 115 (List._∷_ 116 (List._∷_ 114 (List._∷_ 101 (List._∷_ 97 (List._∷_ 109 (List._∷_ 58 (List._∷_ 58 (List._∷_ 66 (List._∷_ 108 (List._∷_ 111 (List._∷_ 99
+      (List._∷_ 107 (List._∷_ 76 (List._∷_ 101 (List._∷_ 110 (List._∷_ 103 (List._∷_ 116 (List._∷_ 104 List.[]))))))))))))))))))) (Syntax.ttcons (Syntax.tcons (Syntax.tyInt Syntax.w64) Syntax.tnil)
+      (Syntax.ttcons (Syntax.tcons (Syntax.tyEnum (List._∷_ 115 (List._∷_ 116 (List._∷_ 114 (List._∷_ 101 (List._∷_ 97 (List._∷_ 109 (List._∷_ 58 (List._∷_ 58 (List._∷_ 82 (List._∷_ 101 (List._∷_ 102
+      (List._∷_ 117 (List._∷_ 115 (List._∷_ 97 (List._∷_ 108 List.[]))))))))))))))) (Syntax.ttcons Syntax.tnil (Syntax.ttcons Syntax.tnil (Syntax.ttcons Syntax.tnil (Syntax.ttcons (Syntax.tcons
+      (Syntax.tyInt Syntax.w64) Syntax.tnil) (Syntax.ttcons Syntax.tnil (Syntax.ttcons Syntax.tnil (Syntax.ttcons Syntax.tnil (Syntax.ttcons Syntax.tnil (Syntax.ttcons Syntax.tnil (Syntax.ttcons Syntax.tnil
+      (Syntax.ttcons (Syntax.tcons (Syntax.tyInt Syntax.w64) Syntax.tnil) (Syntax.ttcons (Syntax.tcons (Syntax.tyInt Syntax.w64) Syntax.tnil) (Syntax.ttcons Syntax.tnil (Syntax.ttcons (Syntax.tcons
+      (Syntax.tyInt Syntax.w64) (Syntax.tcons (Syntax.tyInt Syntax.w64) Syntax.tnil)) (Syntax.ttcons (Syntax.tcons (Syntax.tyInt Syntax.w64) Syntax.tnil) (Syntax.ttcons Syntax.tnil (Syntax.ttcons
+      Syntax.tnil (Syntax.ttcons (Syntax.tcons (Syntax.tyInt Syntax.w64) Syntax.tnil) (Syntax.ttcons (Syntax.tcons (Syntax.tyInt Syntax.w64) Syntax.tnil) (Syntax.ttcons (Syntax.tcons (Syntax.tyInt
+      Syntax.w64) Syntax.tnil) (Syntax.ttcons Syntax.tnil Syntax.ttnil)))))))))))))))))))))) Syntax.tnil) Syntax.ttnil))),
 )
 
 abbrev pub e1 : Row.Entry
-e1 = (0, Rows.whole (Declared.row Written.the-type))
+e1 = (0, Rows.whole (Declared.row BlockLength.the-type))
 
 abbrev pub e2 : Row.Entry
 e2 = (1, Rows.sslice (Referent.rtF (Referent.fInt Syntax.w16)) (Syntax.tyRef (Syntax.named 0) Syntax.imm (Syntax.tyInt Syntax.w16)) 0)
 
 abbrev pub e3 : Row.Entry
-e3 = (10, Rows.any-gone Syntax.tyBool)
+e3 = (10, Rows.any-gone (Syntax.tyInt Syntax.w64))
 
 abbrev pub e4 : Row.Entry
-e4 = (10, Rows.sc-here Row.sBool)
+e4 = (10, Rows.sc-here (Row.sInt Syntax.w64))
 
 abbrev pub e5 : Row.Entry
-e5 = (11, Rows.any-gone Syntax.tyUnit)
+e5 = (11, Rows.any-gone Syntax.tyBool)
 
 abbrev pub e6 : Row.Entry
-e6 = (11, Rows.sc-here Row.sUnit)
+e6 = (11, Rows.sc-here Row.sBool)
 
 abbrev pub e7 : Row.Entry
-e7 = (12, Relend.msptr (Referent.rtF (Referent.fInt Syntax.w16)) (Syntax.tyRef Syntax.erased Syntax.mut (Syntax.tyInt Syntax.w16)) 4)
+e7 = (12, Rows.any-gone Syntax.tyUnit)
 
 abbrev pub e8 : Row.Entry
-e8 = (12, Rows.any-gone (Syntax.tyRef Syntax.erased Syntax.mut (Syntax.tyInt Syntax.w16)))
+e8 = (12, Rows.sc-here Row.sUnit)
 
 abbrev pub e9 : Row.Entry
-e9 = (13, Mut.msleft (Referent.rtF (Referent.fInt Syntax.w16)) (Syntax.tyRef Syntax.erased Syntax.mut (Syntax.tyInt Syntax.w16)))
+e9 = (13, Relend.msptr (Referent.rtF (Referent.fInt Syntax.w16)) (Syntax.tyRef Syntax.erased Syntax.mut (Syntax.tyInt Syntax.w16)) 4)
 
 abbrev pub e10 : Row.Entry
-e10 = (13, Mut.mslice (Referent.rtF (Referent.fInt Syntax.w16)) (Syntax.tyRef Syntax.erased Syntax.mut (Syntax.tyInt Syntax.w16)) 4)
+e10 = (13, Rows.any-gone (Syntax.tyRef Syntax.erased Syntax.mut (Syntax.tyInt Syntax.w16)))
 
 abbrev pub e11 : Row.Entry
-e11 = (13, Rows.any-gone y0)
+e11 = (14, Mut.msleft (Referent.rtF (Referent.fInt Syntax.w16)) (Syntax.tyRef Syntax.erased Syntax.mut (Syntax.tyInt Syntax.w16)))
 
 abbrev pub e12 : Row.Entry
-e12 = (14, Relend.msptr (Element.type) (Syntax.tyRef Syntax.erased Syntax.mut Element.behind) 5)
+e12 = (14, Mut.mslice (Referent.rtF (Referent.fInt Syntax.w16)) (Syntax.tyRef Syntax.erased Syntax.mut (Syntax.tyInt Syntax.w16)) 4)
 
 abbrev pub e13 : Row.Entry
-e13 = (14, Rows.any-gone (Syntax.tyRef Syntax.erased Syntax.mut Element.behind))
+e13 = (14, Rows.any-gone y0)
 
 abbrev pub e14 : Row.Entry
-e14 = (15, Mut.msleft (Element.type) (Syntax.tyRef Syntax.erased Syntax.mut Element.behind))
+e14 = (15, Relend.msptr (Element.type) (Syntax.tyRef Syntax.erased Syntax.mut Element.behind) 5)
 
 abbrev pub e15 : Row.Entry
-e15 = (15, Mut.mslice (Element.type) (Syntax.tyRef Syntax.erased Syntax.mut Element.behind) 5)
+e15 = (15, Rows.any-gone (Syntax.tyRef Syntax.erased Syntax.mut Element.behind))
 
 abbrev pub e16 : Row.Entry
-e16 = (15, Rows.any-gone y2)
+e16 = (16, Rows.any-gone y2)
 
 abbrev pub e17 : Row.Entry
 e17 = (
-  16,
+  17,
   Rows.any-gone (Syntax.tyEnum (List._∷_ 115 (List._∷_ 116 (List._∷_ 114 (List._∷_ 101 (List._∷_ 97 (List._∷_ 109 (List._∷_ 58 (List._∷_ 58 (List._∷_ 82 (List._∷_ 101 (List._∷_ 102 (List._∷_ 117
       (List._∷_ 115 (List._∷_ 97 (List._∷_ 108 List.[]))))))))))))))) (Syntax.ttcons Syntax.tnil (Syntax.ttcons Syntax.tnil (Syntax.ttcons Syntax.tnil (Syntax.ttcons (Syntax.tcons (Syntax.tyInt Syntax.w64)
       Syntax.tnil) (Syntax.ttcons Syntax.tnil (Syntax.ttcons Syntax.tnil (Syntax.ttcons Syntax.tnil (Syntax.ttcons Syntax.tnil (Syntax.ttcons Syntax.tnil (Syntax.ttcons Syntax.tnil (Syntax.ttcons
@@ -419,82 +421,82 @@ e17 = (
 )
 
 abbrev pub e18 : Row.Entry
-e18 = (17, Rows.any-gone (Syntax.tyRef Syntax.erased Syntax.mut (Syntax.tyInt Syntax.w8)))
+e18 = (18, Rows.any-gone (Syntax.tyRef Syntax.erased Syntax.mut (Syntax.tyInt Syntax.w8)))
 
 abbrev pub e19 : Row.Entry
-e19 = (18, Mut.mslice (Referent.rtF (Referent.fInt Syntax.w8)) (Syntax.tyRef Syntax.erased Syntax.mut (Syntax.tyInt Syntax.w8)) 6)
+e19 = (19, Mut.mslice (Referent.rtF (Referent.fInt Syntax.w8)) (Syntax.tyRef Syntax.erased Syntax.mut (Syntax.tyInt Syntax.w8)) 6)
 
 abbrev pub e20 : Row.Entry
-e20 = (18, Rows.any-gone y1)
+e20 = (19, Rows.any-gone y1)
 
 abbrev pub e21 : Row.Entry
-e21 = (19, Rows.any-gone (Syntax.tyRef Syntax.erased Syntax.mut (Syntax.tyInt Syntax.w16)))
+e21 = (2, Mut.mslice (Referent.rtF (Referent.fInt Syntax.w8)) (Syntax.tyRef (Syntax.named 1) Syntax.mut (Syntax.tyInt Syntax.w8)) 1)
 
 abbrev pub e22 : Row.Entry
-e22 = (2, Mut.mslice (Referent.rtF (Referent.fInt Syntax.w8)) (Syntax.tyRef (Syntax.named 1) Syntax.mut (Syntax.tyInt Syntax.w8)) 1)
+e22 = (2, Relend.mslice-owed (Referent.rtF (Referent.fInt Syntax.w8)) (Syntax.tyRef (Syntax.named 1) Syntax.mut (Syntax.tyInt Syntax.w8)) 1 6 Row.off)
 
 abbrev pub e23 : Row.Entry
-e23 = (2, Relend.mslice-owed (Referent.rtF (Referent.fInt Syntax.w8)) (Syntax.tyRef (Syntax.named 1) Syntax.mut (Syntax.tyInt Syntax.w8)) 1 6 Row.off)
+e23 = (20, Rows.any-gone (Syntax.tyRef Syntax.erased Syntax.mut (Syntax.tyInt Syntax.w16)))
 
 abbrev pub e24 : Row.Entry
-e24 = (20, Mut.msleft (Referent.rtF (Referent.fInt Syntax.w16)) (Syntax.tyRef Syntax.erased Syntax.mut (Syntax.tyInt Syntax.w16)))
+e24 = (21, Mut.msleft (Referent.rtF (Referent.fInt Syntax.w16)) (Syntax.tyRef Syntax.erased Syntax.mut (Syntax.tyInt Syntax.w16)))
 
 abbrev pub e25 : Row.Entry
-e25 = (20, Mut.mslice (Referent.rtF (Referent.fInt Syntax.w16)) (Syntax.tyRef Syntax.erased Syntax.mut (Syntax.tyInt Syntax.w16)) 7)
+e25 = (21, Mut.mslice (Referent.rtF (Referent.fInt Syntax.w16)) (Syntax.tyRef Syntax.erased Syntax.mut (Syntax.tyInt Syntax.w16)) 7)
 
 abbrev pub e26 : Row.Entry
-e26 = (20, Rows.any-gone y0)
+e26 = (21, Rows.any-gone y0)
 
 abbrev pub e27 : Row.Entry
-e27 = (21, Rows.any-gone (Syntax.tyRef Syntax.erased Syntax.mut Element.behind))
+e27 = (22, Rows.any-gone (Syntax.tyRef Syntax.erased Syntax.mut Element.behind))
 
 abbrev pub e28 : Row.Entry
-e28 = (22, Mut.msleft (Element.type) (Syntax.tyRef Syntax.erased Syntax.mut Element.behind))
+e28 = (23, Mut.msleft (Element.type) (Syntax.tyRef Syntax.erased Syntax.mut Element.behind))
 
 abbrev pub e29 : Row.Entry
-e29 = (22, Rows.any-gone y2)
+e29 = (23, Rows.any-gone y2)
 
 abbrev pub e30 : Row.Entry
-e30 = (3, Mut.mslice (Referent.rtF (Referent.fInt Syntax.w16)) (Syntax.tyRef (Syntax.named 2) Syntax.mut (Syntax.tyInt Syntax.w16)) 2)
+e30 = (3, Rows.any-gone Syntax.tyBool)
 
 abbrev pub e31 : Row.Entry
-e31 = (3, Relend.mslice-owed (Referent.rtF (Referent.fInt Syntax.w16)) (Syntax.tyRef (Syntax.named 2) Syntax.mut (Syntax.tyInt Syntax.w16)) 2 4 Row.off)
+e31 = (3, Rows.sc-here Row.sBool)
 
 abbrev pub e32 : Row.Entry
-e32 = (3, Relend.mslice-owed (Referent.rtF (Referent.fInt Syntax.w16)) (Syntax.tyRef (Syntax.named 2) Syntax.mut (Syntax.tyInt Syntax.w16)) 2 7 Row.off)
+e32 = (4, Mut.mslice (Referent.rtF (Referent.fInt Syntax.w16)) (Syntax.tyRef (Syntax.named 2) Syntax.mut (Syntax.tyInt Syntax.w16)) 2)
 
 abbrev pub e33 : Row.Entry
-e33 = (4, Mut.mslice (Element.type) (Syntax.tyRef (Syntax.named 3) Syntax.mut Element.behind) 3)
+e33 = (4, Relend.mslice-owed (Referent.rtF (Referent.fInt Syntax.w16)) (Syntax.tyRef (Syntax.named 2) Syntax.mut (Syntax.tyInt Syntax.w16)) 2 4 Row.off)
 
 abbrev pub e34 : Row.Entry
-e34 = (4, Relend.mslice-owed (Element.type) (Syntax.tyRef (Syntax.named 3) Syntax.mut Element.behind) 3 5 Row.off)
+e34 = (4, Relend.mslice-owed (Referent.rtF (Referent.fInt Syntax.w16)) (Syntax.tyRef (Syntax.named 2) Syntax.mut (Syntax.tyInt Syntax.w16)) 2 7 Row.off)
 
 abbrev pub e35 : Row.Entry
-e35 = (4, Relend.mslice-owed (Element.type) (Syntax.tyRef (Syntax.named 3) Syntax.mut Element.behind) 3 8 Row.off)
+e35 = (5, Mut.mslice (Element.type) (Syntax.tyRef (Syntax.named 3) Syntax.mut Element.behind) 3)
 
 abbrev pub e36 : Row.Entry
-e36 = (5, Rows.any-gone y3)
+e36 = (5, Relend.mslice-owed (Element.type) (Syntax.tyRef (Syntax.named 3) Syntax.mut Element.behind) 3 5 Row.off)
 
 abbrev pub e37 : Row.Entry
-e37 = (5, Rows.whole (Declared'.row Form.the-type))
+e37 = (5, Relend.mslice-owed (Element.type) (Syntax.tyRef (Syntax.named 3) Syntax.mut Element.behind) 3 8 Row.off)
 
 abbrev pub e38 : Row.Entry
-e38 = (6, Rows.any-gone (Syntax.tyInt Syntax.w64))
+e38 = (6, Rows.any-gone y3)
 
 abbrev pub e39 : Row.Entry
-e39 = (6, Rows.sc-here (Row.sInt Syntax.w64))
+e39 = (6, Rows.whole (Declared'.row Form.the-type))
 
 abbrev pub e40 : Row.Entry
-e40 = (7, Rows.any-gone (Syntax.tyInt Syntax.w32))
+e40 = (7, Rows.any-gone (Syntax.tyInt Syntax.w64))
 
 abbrev pub e41 : Row.Entry
-e41 = (7, Rows.sc-here (Row.sInt Syntax.w32))
+e41 = (7, Rows.sc-here (Row.sInt Syntax.w64))
 
 abbrev pub e42 : Row.Entry
-e42 = (8, Rows.any-gone (Syntax.tyInt Syntax.w64))
+e42 = (8, Rows.any-gone (Syntax.tyInt Syntax.w32))
 
 abbrev pub e43 : Row.Entry
-e43 = (8, Rows.sc-here (Row.sInt Syntax.w64))
+e43 = (8, Rows.sc-here (Row.sInt Syntax.w32))
 
 abbrev pub e44 : Row.Entry
 e44 = (9, Rows.any-gone (Syntax.tyInt Syntax.w64))
@@ -503,162 +505,174 @@ abbrev pub e45 : Row.Entry
 e45 = (9, Rows.sc-here (Row.sInt Syntax.w64))
 
 abbrev pub t0 : List.List Row.Entry
-t0 = List._∷_ e0 (List._∷_ e2 (List._∷_ e22 (List._∷_ e30 (List._∷_ e33 (List._∷_ e37 (List._∷_ e39 (List._∷_ e40 (List._∷_ e42 (List._∷_ e44 (List._∷_ e3 (List._∷_ e5 (List._∷_ e8 (List._∷_ e11
-    (List._∷_ e13 (List._∷_ e16 List.[])))))))))))))))
+t0 = List._∷_ e0 (List._∷_ e2 (List._∷_ e21 (List._∷_ e31 (List._∷_ e32 (List._∷_ e35 (List._∷_ e39 (List._∷_ e41 (List._∷_ e42 (List._∷_ e44 (List._∷_ e3 (List._∷_ e5 (List._∷_ e7 (List._∷_ e10
+    (List._∷_ e13 (List._∷_ e15 List.[])))))))))))))))
 
 abbrev pub t1 : List.List Row.Entry
-t1 = List._∷_ e17 (List._∷_ e18 (List._∷_ e20 (List._∷_ e21 (List._∷_ e26 (List._∷_ e27 (List._∷_ e29 List.[]))))))
+t1 = List._∷_ e16 (List._∷_ e17 (List._∷_ e18 (List._∷_ e20 (List._∷_ e23 (List._∷_ e26 (List._∷_ e27 (List._∷_ e29 List.[])))))))
 
 abbrev pub t2 : List.List Row.Entry
-t2 = List._∷_ e1 (List._∷_ e2 (List._∷_ e22 (List._∷_ e30 (List._∷_ e33 (List._∷_ e36 (List._∷_ e38 (List._∷_ e40 (List._∷_ e42 (List._∷_ e44 (List._∷_ e3 (List._∷_ e5 (List._∷_ e8 (List._∷_ e11
-    (List._∷_ e13 (List._∷_ e16 List.[])))))))))))))))
+t2 = List._∷_ e1 (List._∷_ e2 (List._∷_ e21 (List._∷_ e30 (List._∷_ e32 (List._∷_ e35 (List._∷_ e38 (List._∷_ e40 (List._∷_ e42 (List._∷_ e44 (List._∷_ e3 (List._∷_ e5 (List._∷_ e7 (List._∷_ e10
+    (List._∷_ e13 (List._∷_ e15 List.[])))))))))))))))
 
 abbrev pub t3 : List.List Row.Entry
-t3 = List._∷_ e0 (List._∷_ e2 (List._∷_ e22 (List._∷_ e30 (List._∷_ e33 (List._∷_ e37 (List._∷_ e39 (List._∷_ e41 (List._∷_ e42 (List._∷_ e44 (List._∷_ e3 (List._∷_ e5 (List._∷_ e8 (List._∷_ e11
-    (List._∷_ e13 (List._∷_ e16 List.[])))))))))))))))
+t3 = List._∷_ e0 (List._∷_ e2 (List._∷_ e21 (List._∷_ e31 (List._∷_ e32 (List._∷_ e35 (List._∷_ e39 (List._∷_ e41 (List._∷_ e43 (List._∷_ e44 (List._∷_ e3 (List._∷_ e5 (List._∷_ e7 (List._∷_ e10
+    (List._∷_ e13 (List._∷_ e15 List.[])))))))))))))))
 
 abbrev pub t4 : List.List Row.Entry
-t4 = List._∷_ e0 (List._∷_ e2 (List._∷_ e22 (List._∷_ e30 (List._∷_ e33 (List._∷_ e37 (List._∷_ e39 (List._∷_ e41 (List._∷_ e43 (List._∷_ e44 (List._∷_ e3 (List._∷_ e5 (List._∷_ e8 (List._∷_ e11
-    (List._∷_ e13 (List._∷_ e16 List.[])))))))))))))))
+t4 = List._∷_ e0 (List._∷_ e2 (List._∷_ e21 (List._∷_ e31 (List._∷_ e32 (List._∷_ e35 (List._∷_ e39 (List._∷_ e41 (List._∷_ e43 (List._∷_ e45 (List._∷_ e3 (List._∷_ e5 (List._∷_ e7 (List._∷_ e10
+    (List._∷_ e13 (List._∷_ e15 List.[])))))))))))))))
 
 abbrev pub t5 : List.List Row.Entry
-t5 = List._∷_ e0 (List._∷_ e2 (List._∷_ e22 (List._∷_ e30 (List._∷_ e33 (List._∷_ e37 (List._∷_ e39 (List._∷_ e41 (List._∷_ e43 (List._∷_ e45 (List._∷_ e3 (List._∷_ e5 (List._∷_ e8 (List._∷_ e11
-    (List._∷_ e13 (List._∷_ e16 List.[])))))))))))))))
+t5 = List._∷_ e0 (List._∷_ e2 (List._∷_ e21 (List._∷_ e31 (List._∷_ e32 (List._∷_ e35 (List._∷_ e39 (List._∷_ e41 (List._∷_ e43 (List._∷_ e45 (List._∷_ e4 (List._∷_ e5 (List._∷_ e7 (List._∷_ e10
+    (List._∷_ e13 (List._∷_ e15 List.[])))))))))))))))
 
 abbrev pub t6 : List.List Row.Entry
-t6 = List._∷_ e0 (List._∷_ e2 (List._∷_ e22 (List._∷_ e30 (List._∷_ e33 (List._∷_ e37 (List._∷_ e39 (List._∷_ e41 (List._∷_ e43 (List._∷_ e45 (List._∷_ e4 (List._∷_ e5 (List._∷_ e8 (List._∷_ e11
-    (List._∷_ e13 (List._∷_ e16 List.[])))))))))))))))
+t6 = List._∷_ e0 (List._∷_ e2 (List._∷_ e21 (List._∷_ e31 (List._∷_ e32 (List._∷_ e35 (List._∷_ e39 (List._∷_ e41 (List._∷_ e43 (List._∷_ e45 (List._∷_ e4 (List._∷_ e6 (List._∷_ e7 (List._∷_ e10
+    (List._∷_ e13 (List._∷_ e15 List.[])))))))))))))))
 
 abbrev pub t7 : List.List Row.Entry
-t7 = List._∷_ e0 (List._∷_ e2 (List._∷_ e22 (List._∷_ e30 (List._∷_ e33 (List._∷_ e37 (List._∷_ e39 (List._∷_ e41 (List._∷_ e43 (List._∷_ e44 (List._∷_ e4 (List._∷_ e5 (List._∷_ e8 (List._∷_ e11
-    (List._∷_ e13 (List._∷_ e16 List.[])))))))))))))))
+t7 = List._∷_ e0 (List._∷_ e2 (List._∷_ e21 (List._∷_ e31 (List._∷_ e32 (List._∷_ e35 (List._∷_ e39 (List._∷_ e41 (List._∷_ e43 (List._∷_ e45 (List._∷_ e3 (List._∷_ e6 (List._∷_ e7 (List._∷_ e10
+    (List._∷_ e13 (List._∷_ e15 List.[])))))))))))))))
 
 abbrev pub t8 : List.List Row.Entry
-t8 = List._∷_ e0 (List._∷_ e2 (List._∷_ e22 (List._∷_ e30 (List._∷_ e33 (List._∷_ e36 (List._∷_ e39 (List._∷_ e41 (List._∷_ e43 (List._∷_ e44 (List._∷_ e4 (List._∷_ e5 (List._∷_ e8 (List._∷_ e11
-    (List._∷_ e13 (List._∷_ e16 List.[])))))))))))))))
+t8 = List._∷_ e0 (List._∷_ e2 (List._∷_ e21 (List._∷_ e31 (List._∷_ e32 (List._∷_ e35 (List._∷_ e38 (List._∷_ e41 (List._∷_ e43 (List._∷_ e45 (List._∷_ e3 (List._∷_ e6 (List._∷_ e7 (List._∷_ e10
+    (List._∷_ e13 (List._∷_ e15 List.[])))))))))))))))
 
 abbrev pub t9 : List.List Row.Entry
-t9 = List._∷_ e0 (List._∷_ e2 (List._∷_ e22 (List._∷_ e30 (List._∷_ e33 (List._∷_ e36 (List._∷_ e39 (List._∷_ e41 (List._∷_ e43 (List._∷_ e44 (List._∷_ e3 (List._∷_ e5 (List._∷_ e8 (List._∷_ e11
-    (List._∷_ e13 (List._∷_ e16 List.[])))))))))))))))
+t9 = List._∷_ e0 (List._∷_ e2 (List._∷_ e21 (List._∷_ e31 (List._∷_ e32 (List._∷_ e35 (List._∷_ e38 (List._∷_ e41 (List._∷_ e43 (List._∷_ e45 (List._∷_ e3 (List._∷_ e5 (List._∷_ e7 (List._∷_ e10
+    (List._∷_ e13 (List._∷_ e15 List.[])))))))))))))))
 
 abbrev pub t10 : List.List Row.Entry
-t10 = List._∷_ e0 (List._∷_ e2 (List._∷_ e22 (List._∷_ e31 (List._∷_ e33 (List._∷_ e36 (List._∷_ e39 (List._∷_ e41 (List._∷_ e43 (List._∷_ e44 (List._∷_ e3 (List._∷_ e5 (List._∷_ e7 (List._∷_ e11
-    (List._∷_ e13 (List._∷_ e16 List.[])))))))))))))))
+t10 = List._∷_ e0 (List._∷_ e2 (List._∷_ e21 (List._∷_ e31 (List._∷_ e33 (List._∷_ e35 (List._∷_ e38 (List._∷_ e41 (List._∷_ e43 (List._∷_ e45 (List._∷_ e3 (List._∷_ e5 (List._∷_ e7 (List._∷_ e9
+    (List._∷_ e13 (List._∷_ e15 List.[])))))))))))))))
 
 abbrev pub t11 : List.List Row.Entry
-t11 = List._∷_ e0 (List._∷_ e2 (List._∷_ e22 (List._∷_ e31 (List._∷_ e33 (List._∷_ e36 (List._∷_ e39 (List._∷_ e41 (List._∷_ e43 (List._∷_ e44 (List._∷_ e3 (List._∷_ e5 (List._∷_ e8 (List._∷_ e10
-    (List._∷_ e13 (List._∷_ e16 List.[])))))))))))))))
+t11 = List._∷_ e0 (List._∷_ e2 (List._∷_ e21 (List._∷_ e31 (List._∷_ e33 (List._∷_ e35 (List._∷_ e38 (List._∷_ e41 (List._∷_ e43 (List._∷_ e45 (List._∷_ e3 (List._∷_ e5 (List._∷_ e7 (List._∷_ e10
+    (List._∷_ e12 (List._∷_ e15 List.[])))))))))))))))
 
 abbrev pub t12 : List.List Row.Entry
-t12 = List._∷_ e0 (List._∷_ e2 (List._∷_ e22 (List._∷_ e31 (List._∷_ e33 (List._∷_ e36 (List._∷_ e39 (List._∷_ e41 (List._∷_ e43 (List._∷_ e44 (List._∷_ e3 (List._∷_ e6 (List._∷_ e8 (List._∷_ e9
-    (List._∷_ e13 (List._∷_ e16 List.[])))))))))))))))
+t12 = List._∷_ e0 (List._∷_ e2 (List._∷_ e21 (List._∷_ e31 (List._∷_ e33 (List._∷_ e35 (List._∷_ e38 (List._∷_ e41 (List._∷_ e43 (List._∷_ e45 (List._∷_ e3 (List._∷_ e5 (List._∷_ e8 (List._∷_ e10
+    (List._∷_ e11 (List._∷_ e15 List.[])))))))))))))))
 
 abbrev pub t13 : List.List Row.Entry
-t13 = List._∷_ e0 (List._∷_ e2 (List._∷_ e22 (List._∷_ e31 (List._∷_ e33 (List._∷_ e36 (List._∷_ e39 (List._∷_ e41 (List._∷_ e43 (List._∷_ e44 (List._∷_ e3 (List._∷_ e5 (List._∷_ e8 (List._∷_ e9
-    (List._∷_ e13 (List._∷_ e16 List.[])))))))))))))))
+t13 = List._∷_ e0 (List._∷_ e2 (List._∷_ e21 (List._∷_ e31 (List._∷_ e33 (List._∷_ e35 (List._∷_ e38 (List._∷_ e41 (List._∷_ e43 (List._∷_ e45 (List._∷_ e3 (List._∷_ e5 (List._∷_ e7 (List._∷_ e10
+    (List._∷_ e11 (List._∷_ e15 List.[])))))))))))))))
 
 abbrev pub t14 : List.List Row.Entry
-t14 = List._∷_ e0 (List._∷_ e2 (List._∷_ e22 (List._∷_ e30 (List._∷_ e34 (List._∷_ e36 (List._∷_ e39 (List._∷_ e41 (List._∷_ e43 (List._∷_ e44 (List._∷_ e3 (List._∷_ e5 (List._∷_ e8 (List._∷_ e11
-    (List._∷_ e12 (List._∷_ e16 List.[])))))))))))))))
+t14 = List._∷_ e0 (List._∷_ e2 (List._∷_ e21 (List._∷_ e31 (List._∷_ e32 (List._∷_ e36 (List._∷_ e38 (List._∷_ e41 (List._∷_ e43 (List._∷_ e45 (List._∷_ e3 (List._∷_ e5 (List._∷_ e7 (List._∷_ e10
+    (List._∷_ e13 (List._∷_ e14 List.[])))))))))))))))
 
 abbrev pub t15 : List.List Row.Entry
-t15 = List._∷_ e0 (List._∷_ e2 (List._∷_ e22 (List._∷_ e30 (List._∷_ e34 (List._∷_ e36 (List._∷_ e39 (List._∷_ e41 (List._∷_ e43 (List._∷_ e44 (List._∷_ e3 (List._∷_ e5 (List._∷_ e8 (List._∷_ e11
+t15 = List._∷_ e0 (List._∷_ e2 (List._∷_ e21 (List._∷_ e31 (List._∷_ e32 (List._∷_ e36 (List._∷_ e38 (List._∷_ e41 (List._∷_ e43 (List._∷_ e45 (List._∷_ e3 (List._∷_ e5 (List._∷_ e7 (List._∷_ e10
     (List._∷_ e13 (List._∷_ e15 List.[])))))))))))))))
 
 abbrev pub t16 : List.List Row.Entry
-t16 = List._∷_ e0 (List._∷_ e2 (List._∷_ e22 (List._∷_ e30 (List._∷_ e34 (List._∷_ e36 (List._∷_ e39 (List._∷_ e41 (List._∷_ e43 (List._∷_ e44 (List._∷_ e3 (List._∷_ e6 (List._∷_ e8 (List._∷_ e11
-    (List._∷_ e13 (List._∷_ e14 List.[])))))))))))))))
+t16 = List._∷_ (16, Mut.mslice (Element.type) (Syntax.tyRef Syntax.erased Syntax.mut Element.behind) 5) (List._∷_ e17 (List._∷_ e18 (List._∷_ e20 (List._∷_ e23 (List._∷_ e26 (List._∷_ e27 (List._∷_
+    e29 List.[])))))))
 
 abbrev pub t17 : List.List Row.Entry
-t17 = List._∷_ e0 (List._∷_ e2 (List._∷_ e22 (List._∷_ e30 (List._∷_ e34 (List._∷_ e36 (List._∷_ e39 (List._∷_ e41 (List._∷_ e43 (List._∷_ e44 (List._∷_ e3 (List._∷_ e5 (List._∷_ e8 (List._∷_ e11
-    (List._∷_ e13 (List._∷_ e14 List.[])))))))))))))))
+t17 = List._∷_ e0 (List._∷_ e2 (List._∷_ e21 (List._∷_ e31 (List._∷_ e32 (List._∷_ e36 (List._∷_ e38 (List._∷_ e41 (List._∷_ e43 (List._∷_ e45 (List._∷_ e3 (List._∷_ e5 (List._∷_ e8 (List._∷_ e10
+    (List._∷_ e13 (List._∷_ e15 List.[])))))))))))))))
 
 abbrev pub t18 : List.List Row.Entry
-t18 = List._∷_ (16, Rows.whole (Declared.row Refusal.the-type)) (List._∷_ e18 (List._∷_ e20 (List._∷_ e21 (List._∷_ e26 (List._∷_ e27 (List._∷_ e29 List.[]))))))
+t18 = List._∷_ (16, Mut.msleft (Element.type) (Syntax.tyRef Syntax.erased Syntax.mut Element.behind)) (List._∷_ e17 (List._∷_ e18 (List._∷_ e20 (List._∷_ e23 (List._∷_ e26 (List._∷_ e27 (List._∷_ e29
+    List.[])))))))
 
 abbrev pub t19 : List.List Row.Entry
-t19 = List._∷_ e1 (List._∷_ e2 (List._∷_ e22 (List._∷_ e30 (List._∷_ e33 (List._∷_ e36 (List._∷_ e39 (List._∷_ e41 (List._∷_ e43 (List._∷_ e44 (List._∷_ e3 (List._∷_ e5 (List._∷_ e8 (List._∷_ e11
-    (List._∷_ e13 (List._∷_ e16 List.[])))))))))))))))
+t19 = List._∷_ e16 (List._∷_ (17, Rows.whole (Declared.row Refusal.the-type)) (List._∷_ e18 (List._∷_ e20 (List._∷_ e23 (List._∷_ e26 (List._∷_ e27 (List._∷_ e29 List.[])))))))
 
 abbrev pub t20 : List.List Row.Entry
-t20 = List._∷_ e1 (List._∷_ e2 (List._∷_ e22 (List._∷_ e30 (List._∷_ e33 (List._∷_ e36 (List._∷_ e38 (List._∷_ e41 (List._∷_ e43 (List._∷_ e44 (List._∷_ e3 (List._∷_ e5 (List._∷_ e8 (List._∷_ e11
-    (List._∷_ e13 (List._∷_ e16 List.[])))))))))))))))
+t20 = List._∷_ e1 (List._∷_ e2 (List._∷_ e21 (List._∷_ e31 (List._∷_ e32 (List._∷_ e35 (List._∷_ e38 (List._∷_ e41 (List._∷_ e43 (List._∷_ e45 (List._∷_ e3 (List._∷_ e5 (List._∷_ e7 (List._∷_ e10
+    (List._∷_ e13 (List._∷_ e15 List.[])))))))))))))))
 
 abbrev pub t21 : List.List Row.Entry
-t21 = List._∷_ e1 (List._∷_ e2 (List._∷_ e22 (List._∷_ e30 (List._∷_ e33 (List._∷_ e36 (List._∷_ e38 (List._∷_ e40 (List._∷_ e43 (List._∷_ e44 (List._∷_ e3 (List._∷_ e5 (List._∷_ e8 (List._∷_ e11
-    (List._∷_ e13 (List._∷_ e16 List.[])))))))))))))))
+t21 = List._∷_ e1 (List._∷_ e2 (List._∷_ e21 (List._∷_ e30 (List._∷_ e32 (List._∷_ e35 (List._∷_ e38 (List._∷_ e41 (List._∷_ e43 (List._∷_ e45 (List._∷_ e3 (List._∷_ e5 (List._∷_ e7 (List._∷_ e10
+    (List._∷_ e13 (List._∷_ e15 List.[])))))))))))))))
 
 abbrev pub t22 : List.List Row.Entry
-t22 = List._∷_ e0 (List._∷_ e2 (List._∷_ e23 (List._∷_ e30 (List._∷_ e33 (List._∷_ e37 (List._∷_ e39 (List._∷_ e41 (List._∷_ e43 (List._∷_ e44 (List._∷_ e3 (List._∷_ e5 (List._∷_ e8 (List._∷_ e11
-    (List._∷_ e13 (List._∷_ e16 List.[])))))))))))))))
+t22 = List._∷_ e1 (List._∷_ e2 (List._∷_ e21 (List._∷_ e30 (List._∷_ e32 (List._∷_ e35 (List._∷_ e38 (List._∷_ e40 (List._∷_ e43 (List._∷_ e45 (List._∷_ e3 (List._∷_ e5 (List._∷_ e7 (List._∷_ e10
+    (List._∷_ e13 (List._∷_ e15 List.[])))))))))))))))
 
 abbrev pub t23 : List.List Row.Entry
-t23 = List._∷_ e17 (List._∷_ (17, Relend.msptr (Referent.rtF (Referent.fInt Syntax.w8)) (Syntax.tyRef Syntax.erased Syntax.mut (Syntax.tyInt Syntax.w8)) 6) (List._∷_ e20 (List._∷_ e21 (List._∷_ e26
-    (List._∷_ e27 (List._∷_ e29 List.[]))))))
+t23 = List._∷_ e1 (List._∷_ e2 (List._∷_ e21 (List._∷_ e30 (List._∷_ e32 (List._∷_ e35 (List._∷_ e38 (List._∷_ e40 (List._∷_ e42 (List._∷_ e45 (List._∷_ e3 (List._∷_ e5 (List._∷_ e7 (List._∷_ e10
+    (List._∷_ e13 (List._∷_ e15 List.[])))))))))))))))
 
 abbrev pub t24 : List.List Row.Entry
-t24 = List._∷_ e17 (List._∷_ e18 (List._∷_ e19 (List._∷_ e21 (List._∷_ e26 (List._∷_ e27 (List._∷_ e29 List.[]))))))
+t24 = List._∷_ e0 (List._∷_ e2 (List._∷_ e22 (List._∷_ e31 (List._∷_ e32 (List._∷_ e35 (List._∷_ e39 (List._∷_ e41 (List._∷_ e43 (List._∷_ e45 (List._∷_ e3 (List._∷_ e5 (List._∷_ e7 (List._∷_ e10
+    (List._∷_ e13 (List._∷_ e15 List.[])))))))))))))))
 
 abbrev pub t25 : List.List Row.Entry
-t25 = List._∷_ e0 (List._∷_ e2 (List._∷_ e23 (List._∷_ e32 (List._∷_ e33 (List._∷_ e37 (List._∷_ e39 (List._∷_ e41 (List._∷_ e43 (List._∷_ e44 (List._∷_ e3 (List._∷_ e5 (List._∷_ e8 (List._∷_ e11
-    (List._∷_ e13 (List._∷_ e16 List.[])))))))))))))))
+t25 = List._∷_ e16 (List._∷_ e17 (List._∷_ (18, Relend.msptr (Referent.rtF (Referent.fInt Syntax.w8)) (Syntax.tyRef Syntax.erased Syntax.mut (Syntax.tyInt Syntax.w8)) 6) (List._∷_ e20 (List._∷_ e23
+    (List._∷_ e26 (List._∷_ e27 (List._∷_ e29 List.[])))))))
 
 abbrev pub t26 : List.List Row.Entry
-t26 = List._∷_ e17 (List._∷_ e18 (List._∷_ e19 (List._∷_ (19, Relend.msptr (Referent.rtF (Referent.fInt Syntax.w16)) (Syntax.tyRef Syntax.erased Syntax.mut (Syntax.tyInt Syntax.w16)) 7) (List._∷_ e26
-    (List._∷_ e27 (List._∷_ e29 List.[]))))))
+t26 = List._∷_ e16 (List._∷_ e17 (List._∷_ e18 (List._∷_ e19 (List._∷_ e23 (List._∷_ e26 (List._∷_ e27 (List._∷_ e29 List.[])))))))
 
 abbrev pub t27 : List.List Row.Entry
-t27 = List._∷_ e17 (List._∷_ e18 (List._∷_ e19 (List._∷_ e21 (List._∷_ e25 (List._∷_ e27 (List._∷_ e29 List.[]))))))
+t27 = List._∷_ e0 (List._∷_ e2 (List._∷_ e22 (List._∷_ e31 (List._∷_ e34 (List._∷_ e35 (List._∷_ e39 (List._∷_ e41 (List._∷_ e43 (List._∷_ e45 (List._∷_ e3 (List._∷_ e5 (List._∷_ e7 (List._∷_ e10
+    (List._∷_ e13 (List._∷_ e15 List.[])))))))))))))))
 
 abbrev pub t28 : List.List Row.Entry
-t28 = List._∷_ e0 (List._∷_ e2 (List._∷_ e23 (List._∷_ e32 (List._∷_ e35 (List._∷_ e37 (List._∷_ e39 (List._∷_ e41 (List._∷_ e43 (List._∷_ e44 (List._∷_ e3 (List._∷_ e5 (List._∷_ e8 (List._∷_ e11
-    (List._∷_ e13 (List._∷_ e16 List.[])))))))))))))))
+t28 = List._∷_ e16 (List._∷_ e17 (List._∷_ e18 (List._∷_ e19 (List._∷_ (20, Relend.msptr (Referent.rtF (Referent.fInt Syntax.w16)) (Syntax.tyRef Syntax.erased Syntax.mut (Syntax.tyInt Syntax.w16)) 7)
+    (List._∷_ e26 (List._∷_ e27 (List._∷_ e29 List.[])))))))
 
 abbrev pub t29 : List.List Row.Entry
-t29 = List._∷_ e17 (List._∷_ e18 (List._∷_ e19 (List._∷_ e21 (List._∷_ e25 (List._∷_ (21, Relend.msptr (Element.type) (Syntax.tyRef Syntax.erased Syntax.mut Element.behind) 8) (List._∷_ e29
-    List.[]))))))
+t29 = List._∷_ e16 (List._∷_ e17 (List._∷_ e18 (List._∷_ e19 (List._∷_ e23 (List._∷_ e25 (List._∷_ e27 (List._∷_ e29 List.[])))))))
 
 abbrev pub t30 : List.List Row.Entry
-t30 = List._∷_ e17 (List._∷_ e18 (List._∷_ e19 (List._∷_ e21 (List._∷_ e25 (List._∷_ e27 (List._∷_ (22, Mut.mslice (Element.type) (Syntax.tyRef Syntax.erased Syntax.mut Element.behind) 8)
-    List.[]))))))
+t30 = List._∷_ e0 (List._∷_ e2 (List._∷_ e22 (List._∷_ e31 (List._∷_ e34 (List._∷_ e37 (List._∷_ e39 (List._∷_ e41 (List._∷_ e43 (List._∷_ e45 (List._∷_ e3 (List._∷_ e5 (List._∷_ e7 (List._∷_ e10
+    (List._∷_ e13 (List._∷_ e15 List.[])))))))))))))))
 
 abbrev pub t31 : List.List Row.Entry
-t31 = List._∷_ e1 (List._∷_ e2 (List._∷_ e23 (List._∷_ e32 (List._∷_ e35 (List._∷_ e37 (List._∷_ e39 (List._∷_ e41 (List._∷_ e43 (List._∷_ e44 (List._∷_ e3 (List._∷_ e5 (List._∷_ e8 (List._∷_ e11
-    (List._∷_ e13 (List._∷_ e16 List.[])))))))))))))))
+t31 = List._∷_ e16 (List._∷_ e17 (List._∷_ e18 (List._∷_ e19 (List._∷_ e23 (List._∷_ e25 (List._∷_ (22, Relend.msptr (Element.type) (Syntax.tyRef Syntax.erased Syntax.mut Element.behind) 8) (List._∷_
+    e29 List.[])))))))
 
 abbrev pub t32 : List.List Row.Entry
-t32 = List._∷_ e17 (List._∷_ e18 (List._∷_ (18, Mut.msleft (Referent.rtF (Referent.fInt Syntax.w8)) (Syntax.tyRef Syntax.erased Syntax.mut (Syntax.tyInt Syntax.w8))) (List._∷_ e21 (List._∷_ e24
-    (List._∷_ e27 (List._∷_ e28 List.[]))))))
+t32 = List._∷_ e16 (List._∷_ e17 (List._∷_ e18 (List._∷_ e19 (List._∷_ e23 (List._∷_ e25 (List._∷_ e27 (List._∷_
+    (23, Mut.mslice (Element.type) (Syntax.tyRef Syntax.erased Syntax.mut Element.behind) 8) List.[])))))))
 
 abbrev pub t33 : List.List Row.Entry
-t33 = List._∷_ e1 (List._∷_ e2 (List._∷_ e23 (List._∷_ e32 (List._∷_ e35 (List._∷_ e36 (List._∷_ e39 (List._∷_ e41 (List._∷_ e43 (List._∷_ e44 (List._∷_ e3 (List._∷_ e5 (List._∷_ e8 (List._∷_ e11
-    (List._∷_ e13 (List._∷_ e16 List.[])))))))))))))))
+t33 = List._∷_ e1 (List._∷_ e2 (List._∷_ e22 (List._∷_ e31 (List._∷_ e34 (List._∷_ e37 (List._∷_ e39 (List._∷_ e41 (List._∷_ e43 (List._∷_ e45 (List._∷_ e3 (List._∷_ e5 (List._∷_ e7 (List._∷_ e10
+    (List._∷_ e13 (List._∷_ e15 List.[])))))))))))))))
 
 abbrev pub t34 : List.List Row.Entry
-t34 = List._∷_ e1 (List._∷_ e2 (List._∷_ e23 (List._∷_ e32 (List._∷_ e35 (List._∷_ e36 (List._∷_ e39 (List._∷_ e40 (List._∷_ e43 (List._∷_ e44 (List._∷_ e3 (List._∷_ e5 (List._∷_ e8 (List._∷_ e11
-    (List._∷_ e13 (List._∷_ e16 List.[])))))))))))))))
+t34 = List._∷_ e16 (List._∷_ e17 (List._∷_ e18 (List._∷_ (19, Mut.msleft (Referent.rtF (Referent.fInt Syntax.w8)) (Syntax.tyRef Syntax.erased Syntax.mut (Syntax.tyInt Syntax.w8))) (List._∷_ e23
+    (List._∷_ e24 (List._∷_ e27 (List._∷_ e28 List.[])))))))
 
 abbrev pub t35 : List.List Row.Entry
-t35 = List._∷_ e1 (List._∷_ e2 (List._∷_ e23 (List._∷_ e32 (List._∷_ e35 (List._∷_ e36 (List._∷_ e39 (List._∷_ e40 (List._∷_ e42 (List._∷_ e44 (List._∷_ e3 (List._∷_ e5 (List._∷_ e8 (List._∷_ e11
-    (List._∷_ e13 (List._∷_ e16 List.[])))))))))))))))
+t35 = List._∷_ e1 (List._∷_ e2 (List._∷_ e22 (List._∷_ e31 (List._∷_ e34 (List._∷_ e37 (List._∷_ e38 (List._∷_ e41 (List._∷_ e43 (List._∷_ e45 (List._∷_ e3 (List._∷_ e5 (List._∷_ e7 (List._∷_ e10
+    (List._∷_ e13 (List._∷_ e15 List.[])))))))))))))))
 
 abbrev pub t36 : List.List Row.Entry
-t36 = List._∷_ e1 (List._∷_ e2 (List._∷_ e22 (List._∷_ e32 (List._∷_ e35 (List._∷_ e36 (List._∷_ e39 (List._∷_ e40 (List._∷_ e42 (List._∷_ e44 (List._∷_ e3 (List._∷_ e5 (List._∷_ e8 (List._∷_ e11
-    (List._∷_ e13 (List._∷_ e16 List.[])))))))))))))))
+t36 = List._∷_ e1 (List._∷_ e2 (List._∷_ e22 (List._∷_ e31 (List._∷_ e34 (List._∷_ e37 (List._∷_ e38 (List._∷_ e41 (List._∷_ e42 (List._∷_ e45 (List._∷_ e3 (List._∷_ e5 (List._∷_ e7 (List._∷_ e10
+    (List._∷_ e13 (List._∷_ e15 List.[])))))))))))))))
 
 abbrev pub t37 : List.List Row.Entry
-t37 = List._∷_ e17 (List._∷_ e18 (List._∷_ e20 (List._∷_ e21 (List._∷_ e24 (List._∷_ e27 (List._∷_ e28 List.[]))))))
+t37 = List._∷_ e1 (List._∷_ e2 (List._∷_ e22 (List._∷_ e31 (List._∷_ e34 (List._∷_ e37 (List._∷_ e38 (List._∷_ e41 (List._∷_ e42 (List._∷_ e44 (List._∷_ e3 (List._∷_ e5 (List._∷_ e7 (List._∷_ e10
+    (List._∷_ e13 (List._∷_ e15 List.[])))))))))))))))
 
 abbrev pub t38 : List.List Row.Entry
-t38 = List._∷_ e1 (List._∷_ e2 (List._∷_ e22 (List._∷_ e30 (List._∷_ e35 (List._∷_ e36 (List._∷_ e39 (List._∷_ e40 (List._∷_ e42 (List._∷_ e44 (List._∷_ e3 (List._∷_ e5 (List._∷_ e8 (List._∷_ e11
-    (List._∷_ e13 (List._∷_ e16 List.[])))))))))))))))
+t38 = List._∷_ e1 (List._∷_ e2 (List._∷_ e21 (List._∷_ e31 (List._∷_ e34 (List._∷_ e37 (List._∷_ e38 (List._∷_ e41 (List._∷_ e42 (List._∷_ e44 (List._∷_ e3 (List._∷_ e5 (List._∷_ e7 (List._∷_ e10
+    (List._∷_ e13 (List._∷_ e15 List.[])))))))))))))))
 
 abbrev pub t39 : List.List Row.Entry
-t39 = List._∷_ e17 (List._∷_ e18 (List._∷_ e20 (List._∷_ e21 (List._∷_ e26 (List._∷_ e27 (List._∷_ e28 List.[]))))))
+t39 = List._∷_ e16 (List._∷_ e17 (List._∷_ e18 (List._∷_ e20 (List._∷_ e23 (List._∷_ e24 (List._∷_ e27 (List._∷_ e28 List.[])))))))
 
 abbrev pub t40 : List.List Row.Entry
-t40 = List._∷_ e1 (List._∷_ e2 (List._∷_ e22 (List._∷_ e30 (List._∷_ e33 (List._∷_ e36 (List._∷_ e39 (List._∷_ e40 (List._∷_ e42 (List._∷_ e44 (List._∷_ e3 (List._∷_ e5 (List._∷_ e8 (List._∷_ e11
-    (List._∷_ e13 (List._∷_ e16 List.[])))))))))))))))
+t40 = List._∷_ e1 (List._∷_ e2 (List._∷_ e21 (List._∷_ e31 (List._∷_ e32 (List._∷_ e37 (List._∷_ e38 (List._∷_ e41 (List._∷_ e42 (List._∷_ e44 (List._∷_ e3 (List._∷_ e5 (List._∷_ e7 (List._∷_ e10
+    (List._∷_ e13 (List._∷_ e15 List.[])))))))))))))))
+
+abbrev pub t41 : List.List Row.Entry
+t41 = List._∷_ e16 (List._∷_ e17 (List._∷_ e18 (List._∷_ e20 (List._∷_ e23 (List._∷_ e26 (List._∷_ e27 (List._∷_ e28 List.[])))))))
+
+abbrev pub t42 : List.List Row.Entry
+t42 = List._∷_ e1 (List._∷_ e2 (List._∷_ e21 (List._∷_ e31 (List._∷_ e32 (List._∷_ e35 (List._∷_ e38 (List._∷_ e41 (List._∷_ e42 (List._∷_ e44 (List._∷_ e3 (List._∷_ e5 (List._∷_ e7 (List._∷_ e10
+    (List._∷_ e13 (List._∷_ e15 List.[])))))))))))))))
+
+abbrev pub t43 : List.List Row.Entry
+t43 = List._∷_ e1 (List._∷_ e2 (List._∷_ e21 (List._∷_ e30 (List._∷_ e32 (List._∷_ e35 (List._∷_ e38 (List._∷_ e41 (List._∷_ e42 (List._∷_ e44 (List._∷_ e3 (List._∷_ e5 (List._∷_ e7 (List._∷_ e10
+    (List._∷_ e13 (List._∷_ e15 List.[])))))))))))))))
 
 abbrev pub T0 : Row.Cx
 T0 = record { locals = List._++_ t0 t1; slots = List.[] }
@@ -721,85 +735,91 @@ abbrev pub T23 : Row.Cx
 T23 = record { locals = List._++_ t14 t1; slots = List.[] }
 
 abbrev pub T24 : Row.Cx
-T24 = record { locals = List._++_ t15 t1; slots = List.[] }
+T24 = record { locals = List._++_ t15 t16; slots = List.[] }
 
 abbrev pub T25 : Row.Cx
-T25 = record { locals = List._++_ t16 t1; slots = List.[] }
+T25 = record { locals = List._++_ t17 t18; slots = List.[] }
 
 abbrev pub T26 : Row.Cx
-T26 = record { locals = List._++_ t17 t1; slots = List.[] }
+T26 = record { locals = List._++_ t15 t18; slots = List.[] }
 
 abbrev pub T28 : Row.Cx
 T28 = record { locals = List._++_ t9 t1; slots = List.[] }
 
 abbrev pub T30 : Row.Cx
-T30 = record { locals = List._++_ t9 t18; slots = List.[] }
+T30 = record { locals = List._++_ t9 t19; slots = List.[] }
 
 abbrev pub T31 : Row.Cx
-T31 = record { locals = List._++_ t19 t18; slots = List.[] }
+T31 = record { locals = List._++_ t20 t19; slots = List.[] }
 
 abbrev pub T32 : Row.Cx
-T32 = record { locals = List._++_ t19 t1; slots = List.[] }
+T32 = record { locals = List._++_ t20 t1; slots = List.[] }
 
 abbrev pub T33 : Row.Cx
-T33 = record { locals = List._++_ t20 t1; slots = List.[] }
+T33 = record { locals = List._++_ t21 t1; slots = List.[] }
 
 abbrev pub T34 : Row.Cx
-T34 = record { locals = List._++_ t21 t1; slots = List.[] }
+T34 = record { locals = List._++_ t22 t1; slots = List.[] }
 
 abbrev pub T35 : Row.Cx
-T35 = record { locals = List._++_ t2 t1; slots = List.[] }
+T35 = record { locals = List._++_ t23 t1; slots = List.[] }
 
 abbrev pub T36 : Row.Cx
-T36 = record { locals = List._++_ t4 t1; slots = List.[] }
+T36 = record { locals = List._++_ t2 t1; slots = List.[] }
 
-abbrev pub T38 : Row.Cx
-T38 = record { locals = List._++_ t22 t23; slots = List.[] }
+abbrev pub T37 : Row.Cx
+T37 = record { locals = List._++_ t4 t1; slots = List.[] }
 
 abbrev pub T39 : Row.Cx
-T39 = record { locals = List._++_ t22 t24; slots = List.[] }
+T39 = record { locals = List._++_ t24 t25; slots = List.[] }
 
-abbrev pub T41 : Row.Cx
-T41 = record { locals = List._++_ t25 t26; slots = List.[] }
+abbrev pub T40 : Row.Cx
+T40 = record { locals = List._++_ t24 t26; slots = List.[] }
 
 abbrev pub T42 : Row.Cx
-T42 = record { locals = List._++_ t25 t27; slots = List.[] }
+T42 = record { locals = List._++_ t27 t28; slots = List.[] }
 
-abbrev pub T44 : Row.Cx
-T44 = record { locals = List._++_ t28 t29; slots = List.[] }
+abbrev pub T43 : Row.Cx
+T43 = record { locals = List._++_ t27 t29; slots = List.[] }
 
 abbrev pub T45 : Row.Cx
-T45 = record { locals = List._++_ t28 t30; slots = List.[] }
+T45 = record { locals = List._++_ t30 t31; slots = List.[] }
 
 abbrev pub T46 : Row.Cx
-T46 = record { locals = List._++_ t31 t32; slots = List.[] }
+T46 = record { locals = List._++_ t30 t32; slots = List.[] }
 
 abbrev pub T47 : Row.Cx
-T47 = record { locals = List._++_ t33 t32; slots = List.[] }
+T47 = record { locals = List._++_ t33 t34; slots = List.[] }
 
 abbrev pub T48 : Row.Cx
-T48 = record { locals = List._++_ t34 t32; slots = List.[] }
+T48 = record { locals = List._++_ t35 t34; slots = List.[] }
 
 abbrev pub T49 : Row.Cx
-T49 = record { locals = List._++_ t35 t32; slots = List.[] }
+T49 = record { locals = List._++_ t36 t34; slots = List.[] }
 
-abbrev pub T51 : Row.Cx
-T51 = record { locals = List._++_ t36 t37; slots = List.[] }
+abbrev pub T50 : Row.Cx
+T50 = record { locals = List._++_ t37 t34; slots = List.[] }
 
 abbrev pub T52 : Row.Cx
-T52 = record { locals = List._++_ t36 t37; slots = List.[] }
+T52 = record { locals = List._++_ t38 t39; slots = List.[] }
 
-abbrev pub T55 : Row.Cx
-T55 = record { locals = List._++_ t38 t39; slots = List.[] }
+abbrev pub T53 : Row.Cx
+T53 = record { locals = List._++_ t38 t39; slots = List.[] }
 
 abbrev pub T56 : Row.Cx
-T56 = record { locals = List._++_ t38 t39; slots = List.[] }
+T56 = record { locals = List._++_ t40 t41; slots = List.[] }
 
-abbrev pub T59 : Row.Cx
-T59 = record { locals = List._++_ t40 t1; slots = List.[] }
+abbrev pub T57 : Row.Cx
+T57 = record { locals = List._++_ t40 t41; slots = List.[] }
 
-abbrev pub T61 : Row.Cx
-T61 = record { locals = List._++_ t2 t1; slots = List.[] }
+abbrev pub T60 : Row.Cx
+T60 = record { locals = List._++_ t42 t1; slots = List.[] }
+
+abbrev pub T62 : Row.Cx
+T62 = record { locals = List._++_ t43 t1; slots = List.[] }
+
+abbrev pub T63 : Row.Cx
+T63 = record { locals = List._++_ t2 t1; slots = List.[] }
 
 abbrev pub O0 : Typed.Outs
 O0 = record { next = Option.none; exits = List.[]; returns = Option.some T1 }
@@ -815,78 +835,78 @@ module _ (claims· : Claims) where
   s1 = Know.k-sl-known (Referent.fInt Syntax.w8) T2 2 1 (Syntax.tyRef (Syntax.named 1) Syntax.mut (Syntax.tyInt Syntax.w8)) Row.off 0 λ x. x
 
   abbrev s2 : Typed.Gives T3 T4
-  s2 = Know.k-sl-known (Referent.fInt Syntax.w16) T3 3 2 (Syntax.tyRef (Syntax.named 2) Syntax.mut (Syntax.tyInt Syntax.w16)) Row.off 0 λ x. x
+  s2 = Know.k-sl-known (Referent.fInt Syntax.w16) T3 4 2 (Syntax.tyRef (Syntax.named 2) Syntax.mut (Syntax.tyInt Syntax.w16)) Row.off 0 λ x. x
 
   abbrev s3 : Typed.Both T4 T5
-  s3 = Call.callB ps·0 r·0 (claims· .0) (claims· .1) T4 (Num.vFld 5 (List._∷_ (Syntax.field 0) List.[]) 0 λ x. Form.struct .as-values x .0, tt) 7 List.[] (Syntax.tyInt Syntax.w32)
+  s3 = Call.callB ps·0 r·0 (claims· .0) (claims· .1) T4 (Num.vFld 6 (List._∷_ (Syntax.field 0) List.[]) 0 λ x. Form.struct .as-values x .0, tt) 8 List.[] (Syntax.tyInt Syntax.w32)
 
   abbrev s4 : Typed.Both T5 T6
-  s4 = Call.callB ps·1 r·1 (claims· .2) (claims· .3) T5 (record { pos = 1; ty = Syntax.tyRef (Syntax.named 0) Syntax.imm (Syntax.tyInt Syntax.w16); ref = λ x. x }, (Num.vAt 7 λ x. x, tt)) 8 (List._∷_
+  s4 = Call.callB ps·1 r·1 (claims· .2) (claims· .3) T5 (record { pos = 1; ty = Syntax.tyRef (Syntax.named 0) Syntax.imm (Syntax.tyInt Syntax.w16); ref = λ x. x }, (Num.vAt 8 λ x. x, tt)) 9 (List._∷_
       0 List.[]) (Syntax.tyInt Syntax.w64)
 
   abbrev s5 : Typed.Mo T6 → Typed.Mo T7
-  s5 = Scalar.n-use T6 (Scalar.oFld 1 (List._∷_ (Syntax.field 1) List.[]) (Syntax.tyInt Syntax.w64) 8 Shared.lenV) 9 (Rows.sc-here (Row.sInt Syntax.w64)) (Row.sInt Syntax.w64 .of)
+  s5 = Scalar.n-use T6 (Scalar.oFld 1 (List._∷_ (Syntax.field 1) List.[]) (Syntax.tyInt Syntax.w64) 8 Shared.lenV) 10 (Rows.sc-here (Row.sInt Syntax.w64)) (Row.sInt Syntax.w64 .of)
 
   abbrev s6 : Typed.Asks T7 T8
-  s6 = Scalar.k-op2 T7 (Syntax.lt Syntax.unsigned) (Scalar.oAt 8 (Syntax.tyInt Syntax.w64) (Row.valS (Row.sInt Syntax.w64))) (Scalar.oAt 9 (Syntax.tyInt Syntax.w64) (Row.valS (Row.sInt Syntax.w64)))
-      10 (Rows.sc-here Row.sBool) (Row.sBool .of)
+  s6 = Scalar.k-op2 T7 (Syntax.lt Syntax.unsigned) (Scalar.oAt 9 (Syntax.tyInt Syntax.w64) (Row.valS (Row.sInt Syntax.w64))) (Scalar.oAt 10 (Syntax.tyInt Syntax.w64) (Row.valS (Row.sInt Syntax.w64)))
+      11 (Rows.sc-here Row.sBool) (Row.sBool .of)
 
   abbrev s7 : Typed.Mo T8 → Typed.Mo T10
-  s7 = Scalar.n-room T8 9 (Syntax.tyInt Syntax.w64)
+  s7 = Scalar.n-room T8 10 (Syntax.tyInt Syntax.w64)
 
   abbrev s8 : Typed.Mo T10 → Typed.Mo T11
-  s8 = Scalar.n-room T10 5 y3
+  s8 = Scalar.n-room T10 6 y3
 
   abbrev s9 : Typed.Mo T11 → Typed.Mo T12
-  s9 = Scalar.n-room T11 10 Syntax.tyBool
+  s9 = Scalar.n-room T11 11 Syntax.tyBool
 
   abbrev s11 : Typed.Gives T12 T14
-  s11 = Relend.k-sl-relend (Referent.rtF (Referent.fInt Syntax.w16)) T12 3 12 2 4 (Syntax.tyRef (Syntax.named 2) Syntax.mut (Syntax.tyInt Syntax.w16)) (Syntax.tyRef Syntax.erased Syntax.mut
+  s11 = Relend.k-sl-relend (Referent.rtF (Referent.fInt Syntax.w16)) T12 4 13 2 4 (Syntax.tyRef (Syntax.named 2) Syntax.mut (Syntax.tyInt Syntax.w16)) (Syntax.tyRef Syntax.erased Syntax.mut
       (Syntax.tyInt Syntax.w16)) Row.off λ x. x
 
   abbrev s12 : Typed.Asks T14 T15
-  s12 = Relend.k-sl-aggregate (Referent.rtF (Referent.fInt Syntax.w16)) (Relend.asMut (Referent.rtF (Referent.fInt Syntax.w16))) T14 12 13 4 (Syntax.tyRef Syntax.erased Syntax.mut (Syntax.tyInt
-      Syntax.w16)) (Syntax.tyRef Syntax.erased Syntax.mut (Syntax.tyInt Syntax.w16)) (λ x. x) (Scalar.oFld 3 (List._∷_ (Syntax.field 1) List.[]) (Syntax.tyInt Syntax.w64) 8 λ v. Shared.lenV (v .0))
+  s12 = Relend.k-sl-aggregate (Referent.rtF (Referent.fInt Syntax.w16)) (Relend.asMut (Referent.rtF (Referent.fInt Syntax.w16))) T14 13 14 4 (Syntax.tyRef Syntax.erased Syntax.mut (Syntax.tyInt
+      Syntax.w16)) (Syntax.tyRef Syntax.erased Syntax.mut (Syntax.tyInt Syntax.w16)) (λ x. x) (Scalar.oFld 4 (List._∷_ (Syntax.field 1) List.[]) (Syntax.tyInt Syntax.w64) 8 λ v. Shared.lenV (v .0))
 
   abbrev s13 : Typed.Both T15 T16
-  s13 = Call.callB ps·2 r·2 (claims· .4) (claims· .5) T15 (record { pos = 13; ty = Syntax.tyRef Syntax.erased Syntax.mut (Syntax.tyInt Syntax.w16); ref = λ x. x }, tt) 11 (List._∷_ 4 List.[])
+  s13 = Call.callB ps·2 r·2 (claims· .4) (claims· .5) T15 (record { pos = 14; ty = Syntax.tyRef Syntax.erased Syntax.mut (Syntax.tyInt Syntax.w16); ref = λ x. x }, tt) 12 (List._∷_ 4 List.[])
       Syntax.tyUnit
 
   abbrev s14 : Typed.Mo T16 → Typed.Mo T17
-  s14 = Scalar.n-room T16 11 Syntax.tyUnit
+  s14 = Scalar.n-room T16 12 Syntax.tyUnit
 
   abbrev s16 : Typed.Both T17 T19
-  s16 = Relend.k-back-sl (Referent.rtF (Referent.fInt Syntax.w16)) T17 13 3 2 4 (Syntax.tyRef (Syntax.named 2) Syntax.mut (Syntax.tyInt Syntax.w16)) (Syntax.tyRef Syntax.erased Syntax.mut
+  s16 = Relend.k-back-sl (Referent.rtF (Referent.fInt Syntax.w16)) T17 14 4 2 4 (Syntax.tyRef (Syntax.named 2) Syntax.mut (Syntax.tyInt Syntax.w16)) (Syntax.tyRef Syntax.erased Syntax.mut
       (Syntax.tyInt Syntax.w16)) Row.off (λ x. x) λ x. x
 
   abbrev s17 : Typed.Gives T19 T20
-  s17 = Know.k-sl-known (Referent.fInt Syntax.w16) T19 3 2 (Syntax.tyRef (Syntax.named 2) Syntax.mut (Syntax.tyInt Syntax.w16)) Row.off 0 λ x. x
+  s17 = Know.k-sl-known (Referent.fInt Syntax.w16) T19 4 2 (Syntax.tyRef (Syntax.named 2) Syntax.mut (Syntax.tyInt Syntax.w16)) Row.off 0 λ x. x
 
   abbrev s20 : Typed.Gives T20 T23
-  s20 = Relend.k-sl-relend (Element.type) T20 4 14 3 5 (Syntax.tyRef (Syntax.named 3) Syntax.mut Element.behind) (Syntax.tyRef Syntax.erased Syntax.mut Element.behind) Row.off λ x. x
+  s20 = Relend.k-sl-relend (Element.type) T20 5 15 3 5 (Syntax.tyRef (Syntax.named 3) Syntax.mut Element.behind) (Syntax.tyRef Syntax.erased Syntax.mut Element.behind) Row.off λ x. x
 
   abbrev s21 : Typed.Asks T23 T24
-  s21 = Relend.k-sl-aggregate (Element.type) (Relend.asMut (Element.type)) T23 14 15 5 (Syntax.tyRef Syntax.erased Syntax.mut Element.behind) (Syntax.tyRef Syntax.erased Syntax.mut Element.behind) (λ
-      x. x) (Scalar.oFld 4 (List._∷_ (Syntax.field 1) List.[]) (Syntax.tyInt Syntax.w64) 8 λ v. Shared.lenV (v .0))
+  s21 = Relend.k-sl-aggregate (Element.type) (Relend.asMut (Element.type)) T23 15 16 5 (Syntax.tyRef Syntax.erased Syntax.mut Element.behind) (Syntax.tyRef Syntax.erased Syntax.mut Element.behind) (λ
+      x. x) (Scalar.oFld 5 (List._∷_ (Syntax.field 1) List.[]) (Syntax.tyInt Syntax.w64) 8 λ v. Shared.lenV (v .0))
 
   abbrev s22 : Typed.Both T24 T25
-  s22 = Call.callB ps·3 r·3 (claims· .6) (claims· .7) T24 (record { pos = 15; ty = Syntax.tyRef Syntax.erased Syntax.mut Element.behind; ref = λ x. x }, tt) 11 (List._∷_ 5 List.[]) Syntax.tyUnit
+  s22 = Call.callB ps·3 r·3 (claims· .6) (claims· .7) T24 (record { pos = 16; ty = Syntax.tyRef Syntax.erased Syntax.mut Element.behind; ref = λ x. x }, tt) 12 (List._∷_ 5 List.[]) Syntax.tyUnit
 
   abbrev s23 : Typed.Mo T25 → Typed.Mo T26
-  s23 = Scalar.n-room T25 11 Syntax.tyUnit
+  s23 = Scalar.n-room T25 12 Syntax.tyUnit
 
   abbrev s25 : Typed.Both T26 T28
-  s25 = Relend.k-back-sl (Element.type) T26 15 4 3 5 (Syntax.tyRef (Syntax.named 3) Syntax.mut Element.behind) (Syntax.tyRef Syntax.erased Syntax.mut Element.behind) Row.off (λ x. x) λ x. x
+  s25 = Relend.k-back-sl (Element.type) T26 16 5 3 5 (Syntax.tyRef (Syntax.named 3) Syntax.mut Element.behind) (Syntax.tyRef Syntax.erased Syntax.mut Element.behind) Row.off (λ x. x) λ x. x
 
   abbrev s27 : Typed.Mo T28 → Typed.Mo T30
-  s27 = Make.n-enum-make Refusal.the-type T28 16 λ m. Refusal.enum .make (Logic.inr (Logic.inr (Logic.inr (Logic.inr (Logic.inr (Logic.inr (Logic.inr (Logic.inr (Logic.inr (Logic.inr (Logic.inl
-      (m .1 .1 .1 .1 .1 .1 .1 .1 .0, tt))))))))))))
+  s27 = Make.n-enum-make Refusal.the-type T28 17 λ m. Refusal.enum .make (Logic.inr (Logic.inr (Logic.inr (Logic.inr (Logic.inr (Logic.inr (Logic.inr (Logic.inr (Logic.inr (Logic.inr (Logic.inl
+      (m .1 .1 .1 .1 .1 .1 .1 .1 .1 .0, tt))))))))))))
 
   abbrev s28 : Typed.Mo T30 → Typed.Mo T31
-  s28 = Make.n-enum-make Written.the-type T30 0 λ m. Written.enum .make (Logic.inr (Logic.inl (m .1 .1 .1 .1 .1 .1 .1 .1 .1 .1 .1 .1 .1 .1 .1 .1 .0, tt)))
+  s28 = Make.n-enum-make BlockLength.the-type T30 0 λ m. BlockLength.enum .make (Logic.inr (Logic.inl (m .1 .1 .1 .1 .1 .1 .1 .1 .1 .1 .1 .1 .1 .1 .1 .1 .1 .0, tt)))
 
   abbrev s29 : Typed.Mo T31 → Typed.Mo T32
-  s29 = Scalar.n-room T31 16 (Syntax.tyEnum (List._∷_ 115 (List._∷_ 116 (List._∷_ 114 (List._∷_ 101 (List._∷_ 97 (List._∷_ 109 (List._∷_ 58 (List._∷_ 58 (List._∷_ 82 (List._∷_ 101 (List._∷_ 102
+  s29 = Scalar.n-room T31 17 (Syntax.tyEnum (List._∷_ 115 (List._∷_ 116 (List._∷_ 114 (List._∷_ 101 (List._∷_ 97 (List._∷_ 109 (List._∷_ 58 (List._∷_ 58 (List._∷_ 82 (List._∷_ 101 (List._∷_ 102
       (List._∷_ 117 (List._∷_ 115 (List._∷_ 97 (List._∷_ 108 List.[]))))))))))))))) (Syntax.ttcons Syntax.tnil (Syntax.ttcons Syntax.tnil (Syntax.ttcons Syntax.tnil (Syntax.ttcons (Syntax.tcons
       (Syntax.tyInt Syntax.w64) Syntax.tnil) (Syntax.ttcons Syntax.tnil (Syntax.ttcons Syntax.tnil (Syntax.ttcons Syntax.tnil (Syntax.ttcons Syntax.tnil (Syntax.ttcons Syntax.tnil (Syntax.ttcons
       Syntax.tnil (Syntax.ttcons (Syntax.tcons (Syntax.tyInt Syntax.w64) Syntax.tnil) (Syntax.ttcons (Syntax.tcons (Syntax.tyInt Syntax.w64) Syntax.tnil) (Syntax.ttcons Syntax.tnil (Syntax.ttcons
@@ -895,89 +915,98 @@ module _ (claims· : Claims) where
       (Syntax.tyInt Syntax.w64) Syntax.tnil) (Syntax.ttcons Syntax.tnil Syntax.ttnil))))))))))))))))))))))
 
   abbrev s30 : Typed.Mo T32 → Typed.Mo T33
-  s30 = Scalar.n-room T32 6 (Syntax.tyInt Syntax.w64)
+  s30 = Scalar.n-room T32 3 Syntax.tyBool
 
   abbrev s31 : Typed.Mo T33 → Typed.Mo T34
-  s31 = Scalar.n-room T33 7 (Syntax.tyInt Syntax.w32)
+  s31 = Scalar.n-room T33 7 (Syntax.tyInt Syntax.w64)
 
   abbrev s32 : Typed.Mo T34 → Typed.Mo T35
-  s32 = Scalar.n-room T34 8 (Syntax.tyInt Syntax.w64)
+  s32 = Scalar.n-room T34 8 (Syntax.tyInt Syntax.w32)
 
-  abbrev s33 : Typed.Mo T10 → Typed.Mo T36
-  s33 = Scalar.n-room T10 10 Syntax.tyBool
+  abbrev s33 : Typed.Mo T35 → Typed.Mo T36
+  s33 = Scalar.n-room T35 9 (Syntax.tyInt Syntax.w64)
 
-  abbrev s35 : Typed.Gives T9 T38
-  s35 = Relend.k-sl-relend (Referent.rtF (Referent.fInt Syntax.w8)) T9 2 17 1 6 (Syntax.tyRef (Syntax.named 1) Syntax.mut (Syntax.tyInt Syntax.w8)) (Syntax.tyRef Syntax.erased Syntax.mut (Syntax.tyInt
+  abbrev s34 : Typed.Mo T10 → Typed.Mo T37
+  s34 = Scalar.n-room T10 11 Syntax.tyBool
+
+  abbrev s36 : Typed.Gives T9 T39
+  s36 = Relend.k-sl-relend (Referent.rtF (Referent.fInt Syntax.w8)) T9 2 18 1 6 (Syntax.tyRef (Syntax.named 1) Syntax.mut (Syntax.tyInt Syntax.w8)) (Syntax.tyRef Syntax.erased Syntax.mut (Syntax.tyInt
       Syntax.w8)) Row.off λ x. x
 
-  abbrev s36 : Typed.Asks T38 T39
-  s36 = Relend.k-sl-aggregate (Referent.rtF (Referent.fInt Syntax.w8)) (Relend.asMut (Referent.rtF (Referent.fInt Syntax.w8))) T38 17 18 6 (Syntax.tyRef Syntax.erased Syntax.mut (Syntax.tyInt
+  abbrev s37 : Typed.Asks T39 T40
+  s37 = Relend.k-sl-aggregate (Referent.rtF (Referent.fInt Syntax.w8)) (Relend.asMut (Referent.rtF (Referent.fInt Syntax.w8))) T39 18 19 6 (Syntax.tyRef Syntax.erased Syntax.mut (Syntax.tyInt
       Syntax.w8)) (Syntax.tyRef Syntax.erased Syntax.mut (Syntax.tyInt Syntax.w8)) (λ x. x) (Scalar.oFld 2 (List._∷_ (Syntax.field 1) List.[]) (Syntax.tyInt Syntax.w64) 8 λ v. Shared.lenV (v .0))
 
-  abbrev s38 : Typed.Gives T39 T41
-  s38 = Relend.k-sl-relend (Referent.rtF (Referent.fInt Syntax.w16)) T39 3 19 2 7 (Syntax.tyRef (Syntax.named 2) Syntax.mut (Syntax.tyInt Syntax.w16)) (Syntax.tyRef Syntax.erased Syntax.mut
+  abbrev s39 : Typed.Gives T40 T42
+  s39 = Relend.k-sl-relend (Referent.rtF (Referent.fInt Syntax.w16)) T40 4 20 2 7 (Syntax.tyRef (Syntax.named 2) Syntax.mut (Syntax.tyInt Syntax.w16)) (Syntax.tyRef Syntax.erased Syntax.mut
       (Syntax.tyInt Syntax.w16)) Row.off λ x. x
 
-  abbrev s39 : Typed.Asks T41 T42
-  s39 = Relend.k-sl-aggregate (Referent.rtF (Referent.fInt Syntax.w16)) (Relend.asMut (Referent.rtF (Referent.fInt Syntax.w16))) T41 19 20 7 (Syntax.tyRef Syntax.erased Syntax.mut (Syntax.tyInt
-      Syntax.w16)) (Syntax.tyRef Syntax.erased Syntax.mut (Syntax.tyInt Syntax.w16)) (λ x. x) (Scalar.oFld 3 (List._∷_ (Syntax.field 1) List.[]) (Syntax.tyInt Syntax.w64) 8 λ v. Shared.lenV (v .0))
+  abbrev s40 : Typed.Asks T42 T43
+  s40 = Relend.k-sl-aggregate (Referent.rtF (Referent.fInt Syntax.w16)) (Relend.asMut (Referent.rtF (Referent.fInt Syntax.w16))) T42 20 21 7 (Syntax.tyRef Syntax.erased Syntax.mut (Syntax.tyInt
+      Syntax.w16)) (Syntax.tyRef Syntax.erased Syntax.mut (Syntax.tyInt Syntax.w16)) (λ x. x) (Scalar.oFld 4 (List._∷_ (Syntax.field 1) List.[]) (Syntax.tyInt Syntax.w64) 8 λ v. Shared.lenV (v .0))
 
-  abbrev s41 : Typed.Gives T42 T44
-  s41 = Relend.k-sl-relend (Element.type) T42 4 21 3 8 (Syntax.tyRef (Syntax.named 3) Syntax.mut Element.behind) (Syntax.tyRef Syntax.erased Syntax.mut Element.behind) Row.off λ x. x
+  abbrev s42 : Typed.Gives T43 T45
+  s42 = Relend.k-sl-relend (Element.type) T43 5 22 3 8 (Syntax.tyRef (Syntax.named 3) Syntax.mut Element.behind) (Syntax.tyRef Syntax.erased Syntax.mut Element.behind) Row.off λ x. x
 
-  abbrev s42 : Typed.Asks T44 T45
-  s42 = Relend.k-sl-aggregate (Element.type) (Relend.asMut (Element.type)) T44 21 22 8 (Syntax.tyRef Syntax.erased Syntax.mut Element.behind) (Syntax.tyRef Syntax.erased Syntax.mut Element.behind) (λ
-      x. x) (Scalar.oFld 4 (List._∷_ (Syntax.field 1) List.[]) (Syntax.tyInt Syntax.w64) 8 λ v. Shared.lenV (v .0))
+  abbrev s43 : Typed.Asks T45 T46
+  s43 = Relend.k-sl-aggregate (Element.type) (Relend.asMut (Element.type)) T45 22 23 8 (Syntax.tyRef Syntax.erased Syntax.mut Element.behind) (Syntax.tyRef Syntax.erased Syntax.mut Element.behind) (λ
+      x. x) (Scalar.oFld 5 (List._∷_ (Syntax.field 1) List.[]) (Syntax.tyInt Syntax.w64) 8 λ v. Shared.lenV (v .0))
 
-  abbrev s43 : Typed.Both T45 T46
-  s43 = Call.callB ps·4 r·4 (claims· .8) (claims· .9) T45 (
+  abbrev s44 : Typed.Both T46 T47
+  s44 = Call.callB ps·4 r·4 (claims· .8) (claims· .9) T46 (
     record { pos = 1; ty = Syntax.tyRef (Syntax.named 0) Syntax.imm (Syntax.tyInt Syntax.w16); ref = λ x. x },
     (
-      record { pos = 18; ty = Syntax.tyRef Syntax.erased Syntax.mut (Syntax.tyInt Syntax.w8); ref = λ x. x },
+      record { pos = 19; ty = Syntax.tyRef Syntax.erased Syntax.mut (Syntax.tyInt Syntax.w8); ref = λ x. x },
       (
-        record { pos = 20; ty = Syntax.tyRef Syntax.erased Syntax.mut (Syntax.tyInt Syntax.w16); ref = λ x. x },
-        (record { pos = 22; ty = Syntax.tyRef Syntax.erased Syntax.mut Element.behind; ref = λ x. x }, (record { pos = 5; st = List.[]; d = 0; at = λ x. x }, (Num.vAt 6 λ x. x, tt))),
+        Bool.bAt 3 λ x. x,
+        (
+          record { pos = 21; ty = Syntax.tyRef Syntax.erased Syntax.mut (Syntax.tyInt Syntax.w16); ref = λ x. x },
+          (record { pos = 23; ty = Syntax.tyRef Syntax.erased Syntax.mut Element.behind; ref = λ x. x }, (record { pos = 6; st = List.[]; d = 0; at = λ x. x }, (Num.vAt 7 λ x. x, tt))),
+        ),
       ),
     ),
   ) 0 (List._∷_ 0
-      (List._∷_ 6 (List._∷_ 7 (List._∷_ 8 List.[])))) (Syntax.tyEnum (List._∷_ 98 (List._∷_ 108 (List._∷_ 111 (List._∷_ 99 (List._∷_ 107 (List._∷_ 58 (List._∷_ 58 (List._∷_ 87 (List._∷_ 114 (List._∷_ 105
-      (List._∷_ 116 (List._∷_ 116 (List._∷_ 101 (List._∷_ 110 List.[])))))))))))))) (Syntax.ttcons (Syntax.tcons (Syntax.tyInt Syntax.w64) Syntax.tnil) (Syntax.ttcons (Syntax.tcons (Syntax.tyEnum
-      (List._∷_ 115 (List._∷_ 116 (List._∷_ 114 (List._∷_ 101 (List._∷_ 97 (List._∷_ 109 (List._∷_ 58 (List._∷_ 58 (List._∷_ 82 (List._∷_ 101 (List._∷_ 102 (List._∷_ 117 (List._∷_ 115 (List._∷_ 97
-      (List._∷_ 108 List.[]))))))))))))))) (Syntax.ttcons Syntax.tnil (Syntax.ttcons Syntax.tnil (Syntax.ttcons Syntax.tnil (Syntax.ttcons (Syntax.tcons (Syntax.tyInt Syntax.w64) Syntax.tnil)
-      (Syntax.ttcons Syntax.tnil (Syntax.ttcons Syntax.tnil (Syntax.ttcons Syntax.tnil (Syntax.ttcons Syntax.tnil (Syntax.ttcons Syntax.tnil (Syntax.ttcons Syntax.tnil (Syntax.ttcons (Syntax.tcons
-      (Syntax.tyInt Syntax.w64) Syntax.tnil) (Syntax.ttcons (Syntax.tcons (Syntax.tyInt Syntax.w64) Syntax.tnil) (Syntax.ttcons Syntax.tnil (Syntax.ttcons (Syntax.tcons (Syntax.tyInt Syntax.w64)
-      (Syntax.tcons (Syntax.tyInt Syntax.w64) Syntax.tnil)) (Syntax.ttcons (Syntax.tcons (Syntax.tyInt Syntax.w64) Syntax.tnil) (Syntax.ttcons Syntax.tnil (Syntax.ttcons Syntax.tnil (Syntax.ttcons
-      (Syntax.tcons (Syntax.tyInt Syntax.w64) Syntax.tnil) (Syntax.ttcons (Syntax.tcons (Syntax.tyInt Syntax.w64) Syntax.tnil) (Syntax.ttcons (Syntax.tcons (Syntax.tyInt Syntax.w64) Syntax.tnil)
-      (Syntax.ttcons Syntax.tnil Syntax.ttnil)))))))))))))))))))))) Syntax.tnil) Syntax.ttnil)))
-
-  abbrev s44 : Typed.Mo T46 → Typed.Mo T47
-  s44 = Scalar.n-room T46 5 y3
+      (List._∷_ 6 (List._∷_ 7 (List._∷_ 8 List.[])))) (Syntax.tyEnum (List._∷_ 115 (List._∷_ 116 (List._∷_ 114 (List._∷_ 101 (List._∷_ 97 (List._∷_ 109 (List._∷_ 58 (List._∷_ 58 (List._∷_ 66 (List._∷_ 108
+      (List._∷_ 111 (List._∷_ 99 (List._∷_ 107 (List._∷_ 76 (List._∷_ 101 (List._∷_ 110 (List._∷_ 103 (List._∷_ 116 (List._∷_ 104 List.[]))))))))))))))))))) (Syntax.ttcons (Syntax.tcons (Syntax.tyInt
+      Syntax.w64) Syntax.tnil) (Syntax.ttcons (Syntax.tcons (Syntax.tyEnum (List._∷_ 115 (List._∷_ 116 (List._∷_ 114 (List._∷_ 101 (List._∷_ 97 (List._∷_ 109 (List._∷_ 58 (List._∷_ 58 (List._∷_ 82
+      (List._∷_ 101 (List._∷_ 102 (List._∷_ 117 (List._∷_ 115 (List._∷_ 97 (List._∷_ 108 List.[]))))))))))))))) (Syntax.ttcons Syntax.tnil (Syntax.ttcons Syntax.tnil (Syntax.ttcons Syntax.tnil
+      (Syntax.ttcons (Syntax.tcons (Syntax.tyInt Syntax.w64) Syntax.tnil) (Syntax.ttcons Syntax.tnil (Syntax.ttcons Syntax.tnil (Syntax.ttcons Syntax.tnil (Syntax.ttcons Syntax.tnil (Syntax.ttcons
+      Syntax.tnil (Syntax.ttcons Syntax.tnil (Syntax.ttcons (Syntax.tcons (Syntax.tyInt Syntax.w64) Syntax.tnil) (Syntax.ttcons (Syntax.tcons (Syntax.tyInt Syntax.w64) Syntax.tnil) (Syntax.ttcons
+      Syntax.tnil (Syntax.ttcons (Syntax.tcons (Syntax.tyInt Syntax.w64) (Syntax.tcons (Syntax.tyInt Syntax.w64) Syntax.tnil)) (Syntax.ttcons (Syntax.tcons (Syntax.tyInt Syntax.w64) Syntax.tnil)
+      (Syntax.ttcons Syntax.tnil (Syntax.ttcons Syntax.tnil (Syntax.ttcons (Syntax.tcons (Syntax.tyInt Syntax.w64) Syntax.tnil) (Syntax.ttcons (Syntax.tcons (Syntax.tyInt Syntax.w64) Syntax.tnil)
+      (Syntax.ttcons (Syntax.tcons (Syntax.tyInt Syntax.w64) Syntax.tnil) (Syntax.ttcons Syntax.tnil Syntax.ttnil)))))))))))))))))))))) Syntax.tnil) Syntax.ttnil)))
 
   abbrev s45 : Typed.Mo T47 → Typed.Mo T48
-  s45 = Scalar.n-room T47 7 (Syntax.tyInt Syntax.w32)
+  s45 = Scalar.n-room T47 6 y3
 
   abbrev s46 : Typed.Mo T48 → Typed.Mo T49
-  s46 = Scalar.n-room T48 8 (Syntax.tyInt Syntax.w64)
+  s46 = Scalar.n-room T48 8 (Syntax.tyInt Syntax.w32)
 
-  abbrev s48 : Typed.Both T49 T51
-  s48 = Relend.k-back-sl (Referent.rtF (Referent.fInt Syntax.w8)) T49 18 2 1 6 (Syntax.tyRef (Syntax.named 1) Syntax.mut (Syntax.tyInt Syntax.w8)) (Syntax.tyRef Syntax.erased Syntax.mut (Syntax.tyInt
+  abbrev s47 : Typed.Mo T49 → Typed.Mo T50
+  s47 = Scalar.n-room T49 9 (Syntax.tyInt Syntax.w64)
+
+  abbrev s49 : Typed.Both T50 T52
+  s49 = Relend.k-back-sl (Referent.rtF (Referent.fInt Syntax.w8)) T50 19 2 1 6 (Syntax.tyRef (Syntax.named 1) Syntax.mut (Syntax.tyInt Syntax.w8)) (Syntax.tyRef Syntax.erased Syntax.mut (Syntax.tyInt
       Syntax.w8)) Row.off (λ x. x) λ x. x
 
-  abbrev s49 : Typed.Gives T51 T52
-  s49 = Know.k-sl-known (Referent.fInt Syntax.w8) T51 2 1 (Syntax.tyRef (Syntax.named 1) Syntax.mut (Syntax.tyInt Syntax.w8)) Row.off 0 λ x. x
+  abbrev s50 : Typed.Gives T52 T53
+  s50 = Know.k-sl-known (Referent.fInt Syntax.w8) T52 2 1 (Syntax.tyRef (Syntax.named 1) Syntax.mut (Syntax.tyInt Syntax.w8)) Row.off 0 λ x. x
 
-  abbrev s52 : Typed.Both T52 T55
-  s52 = Relend.k-back-sl (Referent.rtF (Referent.fInt Syntax.w16)) T52 20 3 2 7 (Syntax.tyRef (Syntax.named 2) Syntax.mut (Syntax.tyInt Syntax.w16)) (Syntax.tyRef Syntax.erased Syntax.mut
+  abbrev s53 : Typed.Both T53 T56
+  s53 = Relend.k-back-sl (Referent.rtF (Referent.fInt Syntax.w16)) T53 21 4 2 7 (Syntax.tyRef (Syntax.named 2) Syntax.mut (Syntax.tyInt Syntax.w16)) (Syntax.tyRef Syntax.erased Syntax.mut
       (Syntax.tyInt Syntax.w16)) Row.off (λ x. x) λ x. x
 
-  abbrev s53 : Typed.Gives T55 T56
-  s53 = Know.k-sl-known (Referent.fInt Syntax.w16) T55 3 2 (Syntax.tyRef (Syntax.named 2) Syntax.mut (Syntax.tyInt Syntax.w16)) Row.off 0 λ x. x
+  abbrev s54 : Typed.Gives T56 T57
+  s54 = Know.k-sl-known (Referent.fInt Syntax.w16) T56 4 2 (Syntax.tyRef (Syntax.named 2) Syntax.mut (Syntax.tyInt Syntax.w16)) Row.off 0 λ x. x
 
-  abbrev s56 : Typed.Both T56 T59
-  s56 = Relend.k-back-sl (Element.type) T56 22 4 3 8 (Syntax.tyRef (Syntax.named 3) Syntax.mut Element.behind) (Syntax.tyRef Syntax.erased Syntax.mut Element.behind) Row.off (λ x. x) λ x. x
+  abbrev s57 : Typed.Both T57 T60
+  s57 = Relend.k-back-sl (Element.type) T57 23 5 3 8 (Syntax.tyRef (Syntax.named 3) Syntax.mut Element.behind) (Syntax.tyRef Syntax.erased Syntax.mut Element.behind) Row.off (λ x. x) λ x. x
 
-  abbrev s58 : Typed.Mo T59 → Typed.Mo T61
-  s58 = Scalar.n-room T59 6 (Syntax.tyInt Syntax.w64)
+  abbrev s59 : Typed.Mo T60 → Typed.Mo T62
+  s59 = Scalar.n-room T60 3 Syntax.tyBool
+
+  abbrev s60 : Typed.Mo T62 → Typed.Mo T63
+  s60 = Scalar.n-room T62 7 (Syntax.tyInt Syntax.w64)
 
   module _ (Pre· : (κs : Lifetimes.Lfts 4) → Kinds.Dens κs ps → Type 0) (Post· : (κs : Lifetimes.Lfts 4) → (a : Kinds.Dens κs ps) → Kinds.Plain 4 ps r κs) where
     module _ (M : Type 1) where
@@ -988,200 +1017,206 @@ module _ (claims· : Claims) where
           → Statement.Triple 𝓤 (Wp.WpFn 𝓤 H (𝓣 .C) (𝓣 .Λ) (Function.fnOf 4 ps r xs m hs body)) (Function.plainOf 𝓤 H A 4 ps r Pre· Post·)
 
     module _ where
-      abbrev at0 : Typed.TF T35 O1
+      abbrev at0 : Typed.TF T36 O1
       at0 = Typed.atRet O1
 
-      abbrev at1 : Typed.TF T34 O1
-      at1 = λ Ψ. Typed.pass T34 T35 s32 (at0 Ψ)
+      abbrev at1 : Typed.TF T35 O1
+      at1 = λ Ψ. Typed.pass T35 T36 s33 (at0 Ψ)
 
-      abbrev at2 : Typed.TF T33 O1
-      at2 = λ Ψ. Typed.pass T33 T34 s31 (at1 Ψ)
+      abbrev at2 : Typed.TF T34 O1
+      at2 = λ Ψ. Typed.pass T34 T35 s32 (at1 Ψ)
 
-      abbrev at3 : Typed.TF T32 O1
-      at3 = λ Ψ. Typed.pass T32 T33 s30 (at2 Ψ)
+      abbrev at3 : Typed.TF T33 O1
+      at3 = λ Ψ. Typed.pass T33 T34 s31 (at2 Ψ)
 
-      abbrev at4 : Typed.TF T31 O1
-      at4 = λ Ψ. Typed.pass T31 T32 s29 (at3 Ψ)
+      abbrev at4 : Typed.TF T32 O1
+      at4 = λ Ψ. Typed.pass T32 T33 s30 (at3 Ψ)
 
-      abbrev at5 : Typed.TF T30 O1
-      at5 = λ Ψ. Typed.pass T30 T31 s28 (at4 Ψ)
+      abbrev at5 : Typed.TF T31 O1
+      at5 = λ Ψ. Typed.pass T31 T32 s29 (at4 Ψ)
 
-      abbrev at6 : Typed.TF T28 O1
-      at6 = λ Ψ. Typed.pass T28 T30 s27 (at5 Ψ)
+      abbrev at6 : Typed.TF T30 O1
+      at6 = λ Ψ. Typed.pass T30 T31 s28 (at5 Ψ)
 
       abbrev at7 : Typed.TF T28 O1
-      at7 = λ Ψ. at6 Ψ
+      at7 = λ Ψ. Typed.pass T28 T30 s27 (at6 Ψ)
 
-      abbrev at8 : Typed.TF T26 O1
-      at8 = λ Ψ. Typed.both s25 (at7 Ψ)
+      abbrev at8 : Typed.TF T28 O1
+      at8 = λ Ψ. at7 Ψ
 
       abbrev at9 : Typed.TF T26 O1
-      at9 = λ Ψ. at8 Ψ
+      at9 = λ Ψ. Typed.both s25 (at8 Ψ)
 
-      abbrev at10 : Typed.TF T25 O1
-      at10 = λ Ψ. Typed.pass T25 T26 s23 (at9 Ψ)
+      abbrev at10 : Typed.TF T26 O1
+      at10 = λ Ψ. at9 Ψ
 
-      abbrev at11 : Typed.TF T24 O1
-      at11 = λ Ψ. Typed.both s22 (at10 Ψ)
+      abbrev at11 : Typed.TF T25 O1
+      at11 = λ Ψ. Typed.pass T25 T26 s23 (at10 Ψ)
 
-      abbrev at12 : Typed.TF T23 O1
-      at12 = λ Ψ. Typed.ask s21 (at11 Ψ)
+      abbrev at12 : Typed.TF T24 O1
+      at12 = λ Ψ. Typed.both s22 (at11 Ψ)
 
-      abbrev at13 : Typed.TF T20 O1
-      at13 = λ Ψ. Typed.give s20 (at12 Ψ)
+      abbrev at13 : Typed.TF T23 O1
+      at13 = λ Ψ. Typed.ask s21 (at12 Ψ)
 
       abbrev at14 : Typed.TF T20 O1
-      at14 = λ Ψ. at13 Ψ
+      at14 = λ Ψ. Typed.give s20 (at13 Ψ)
 
       abbrev at15 : Typed.TF T20 O1
       at15 = λ Ψ. at14 Ψ
 
-      abbrev at16 : Typed.TF T19 O1
-      at16 = λ Ψ. Typed.give s17 (at15 Ψ)
+      abbrev at16 : Typed.TF T20 O1
+      at16 = λ Ψ. at15 Ψ
 
-      abbrev at17 : Typed.TF T17 O1
-      at17 = λ Ψ. Typed.both s16 (at16 Ψ)
+      abbrev at17 : Typed.TF T19 O1
+      at17 = λ Ψ. Typed.give s17 (at16 Ψ)
 
       abbrev at18 : Typed.TF T17 O1
-      at18 = λ Ψ. at17 Ψ
+      at18 = λ Ψ. Typed.both s16 (at17 Ψ)
 
-      abbrev at19 : Typed.TF T16 O1
-      at19 = λ Ψ. Typed.pass T16 T17 s14 (at18 Ψ)
+      abbrev at19 : Typed.TF T17 O1
+      at19 = λ Ψ. at18 Ψ
 
-      abbrev at20 : Typed.TF T15 O1
-      at20 = λ Ψ. Typed.both s13 (at19 Ψ)
+      abbrev at20 : Typed.TF T16 O1
+      at20 = λ Ψ. Typed.pass T16 T17 s14 (at19 Ψ)
 
-      abbrev at21 : Typed.TF T14 O1
-      at21 = λ Ψ. Typed.ask s12 (at20 Ψ)
+      abbrev at21 : Typed.TF T15 O1
+      at21 = λ Ψ. Typed.both s13 (at20 Ψ)
 
-      abbrev at22 : Typed.TF T12 O1
-      at22 = λ Ψ. Typed.give s11 (at21 Ψ)
+      abbrev at22 : Typed.TF T14 O1
+      at22 = λ Ψ. Typed.ask s12 (at21 Ψ)
 
       abbrev at23 : Typed.TF T12 O1
-      at23 = λ Ψ. at22 Ψ
+      at23 = λ Ψ. Typed.give s11 (at22 Ψ)
 
-      abbrev at24 : Typed.TF T11 O1
-      at24 = λ Ψ. Typed.pass T11 T12 s9 (at23 Ψ)
+      abbrev at24 : Typed.TF T12 O1
+      at24 = λ Ψ. at23 Ψ
 
-      abbrev at25 : Typed.TF T10 O1
-      at25 = λ Ψ. Typed.pass T10 T11 s8 (at24 Ψ)
+      abbrev at25 : Typed.TF T11 O1
+      at25 = λ Ψ. Typed.pass T11 T12 s9 (at24 Ψ)
 
-      abbrev at26 : Typed.TF T36 O1
-      at26 = Typed.atNext O1
+      abbrev at26 : Typed.TF T10 O1
+      at26 = λ Ψ. Typed.pass T10 T11 s8 (at25 Ψ)
 
-      abbrev at27 : Typed.TF T10 O1
-      at27 = λ Ψ. Typed.pass T10 T36 s33 (at26 Ψ)
+      abbrev at27 : Typed.TF T37 O1
+      at27 = Typed.atNext O1
 
       abbrev at28 : Typed.TF T10 O1
-      at28 = Scalar.Φcond T10 O1 10 (λ x. x) at25 at27
+      at28 = λ Ψ. Typed.pass T10 T37 s34 (at27 Ψ)
 
-      abbrev at29 : Typed.TF T8 O1
-      at29 = λ Ψ. Typed.pass T8 T10 s7 (at28 Ψ)
+      abbrev at29 : Typed.TF T10 O1
+      at29 = Scalar.Φcond T10 O1 11 (λ x. x) at26 at28
 
-      abbrev at30 : Typed.TF T61 O0
-      at30 = Typed.atRet O0
+      abbrev at30 : Typed.TF T8 O1
+      at30 = λ Ψ. Typed.pass T8 T10 s7 (at29 Ψ)
 
-      abbrev at31 : Typed.TF T59 O0
-      at31 = λ Ψ. Typed.pass T59 T61 s58 (at30 Ψ)
+      abbrev at31 : Typed.TF T63 O0
+      at31 = Typed.atRet O0
 
-      abbrev at32 : Typed.TF T59 O0
-      at32 = λ Ψ. at31 Ψ
+      abbrev at32 : Typed.TF T62 O0
+      at32 = λ Ψ. Typed.pass T62 T63 s60 (at31 Ψ)
 
-      abbrev at33 : Typed.TF T56 O0
-      at33 = λ Ψ. Typed.both s56 (at32 Ψ)
+      abbrev at33 : Typed.TF T60 O0
+      at33 = λ Ψ. Typed.pass T60 T62 s59 (at32 Ψ)
 
-      abbrev at34 : Typed.TF T56 O0
+      abbrev at34 : Typed.TF T60 O0
       at34 = λ Ψ. at33 Ψ
 
-      abbrev at35 : Typed.TF T56 O0
-      at35 = λ Ψ. at34 Ψ
+      abbrev at35 : Typed.TF T57 O0
+      at35 = λ Ψ. Typed.both s57 (at34 Ψ)
 
-      abbrev at36 : Typed.TF T55 O0
-      at36 = λ Ψ. Typed.give s53 (at35 Ψ)
+      abbrev at36 : Typed.TF T57 O0
+      at36 = λ Ψ. at35 Ψ
 
-      abbrev at37 : Typed.TF T52 O0
-      at37 = λ Ψ. Typed.both s52 (at36 Ψ)
+      abbrev at37 : Typed.TF T57 O0
+      at37 = λ Ψ. at36 Ψ
 
-      abbrev at38 : Typed.TF T52 O0
-      at38 = λ Ψ. at37 Ψ
+      abbrev at38 : Typed.TF T56 O0
+      at38 = λ Ψ. Typed.give s54 (at37 Ψ)
 
-      abbrev at39 : Typed.TF T52 O0
-      at39 = λ Ψ. at38 Ψ
+      abbrev at39 : Typed.TF T53 O0
+      at39 = λ Ψ. Typed.both s53 (at38 Ψ)
 
-      abbrev at40 : Typed.TF T51 O0
-      at40 = λ Ψ. Typed.give s49 (at39 Ψ)
+      abbrev at40 : Typed.TF T53 O0
+      at40 = λ Ψ. at39 Ψ
 
-      abbrev at41 : Typed.TF T49 O0
-      at41 = λ Ψ. Typed.both s48 (at40 Ψ)
+      abbrev at41 : Typed.TF T53 O0
+      at41 = λ Ψ. at40 Ψ
 
-      abbrev at42 : Typed.TF T49 O0
-      at42 = λ Ψ. at41 Ψ
+      abbrev at42 : Typed.TF T52 O0
+      at42 = λ Ψ. Typed.give s50 (at41 Ψ)
 
-      abbrev at43 : Typed.TF T48 O0
-      at43 = λ Ψ. Typed.pass T48 T49 s46 (at42 Ψ)
+      abbrev at43 : Typed.TF T50 O0
+      at43 = λ Ψ. Typed.both s49 (at42 Ψ)
 
-      abbrev at44 : Typed.TF T47 O0
-      at44 = λ Ψ. Typed.pass T47 T48 s45 (at43 Ψ)
+      abbrev at44 : Typed.TF T50 O0
+      at44 = λ Ψ. at43 Ψ
 
-      abbrev at45 : Typed.TF T46 O0
-      at45 = λ Ψ. Typed.pass T46 T47 s44 (at44 Ψ)
+      abbrev at45 : Typed.TF T49 O0
+      at45 = λ Ψ. Typed.pass T49 T50 s47 (at44 Ψ)
 
-      abbrev at46 : Typed.TF T45 O0
-      at46 = λ Ψ. Typed.both s43 (at45 Ψ)
+      abbrev at46 : Typed.TF T48 O0
+      at46 = λ Ψ. Typed.pass T48 T49 s46 (at45 Ψ)
 
-      abbrev at47 : Typed.TF T44 O0
-      at47 = λ Ψ. Typed.ask s42 (at46 Ψ)
+      abbrev at47 : Typed.TF T47 O0
+      at47 = λ Ψ. Typed.pass T47 T48 s45 (at46 Ψ)
 
-      abbrev at48 : Typed.TF T42 O0
-      at48 = λ Ψ. Typed.give s41 (at47 Ψ)
+      abbrev at48 : Typed.TF T46 O0
+      at48 = λ Ψ. Typed.both s44 (at47 Ψ)
 
-      abbrev at49 : Typed.TF T42 O0
-      at49 = λ Ψ. at48 Ψ
+      abbrev at49 : Typed.TF T45 O0
+      at49 = λ Ψ. Typed.ask s43 (at48 Ψ)
 
-      abbrev at50 : Typed.TF T41 O0
-      at50 = λ Ψ. Typed.ask s39 (at49 Ψ)
+      abbrev at50 : Typed.TF T43 O0
+      at50 = λ Ψ. Typed.give s42 (at49 Ψ)
 
-      abbrev at51 : Typed.TF T39 O0
-      at51 = λ Ψ. Typed.give s38 (at50 Ψ)
+      abbrev at51 : Typed.TF T43 O0
+      at51 = λ Ψ. at50 Ψ
 
-      abbrev at52 : Typed.TF T39 O0
-      at52 = λ Ψ. at51 Ψ
+      abbrev at52 : Typed.TF T42 O0
+      at52 = λ Ψ. Typed.ask s40 (at51 Ψ)
 
-      abbrev at53 : Typed.TF T38 O0
-      at53 = λ Ψ. Typed.ask s36 (at52 Ψ)
+      abbrev at53 : Typed.TF T40 O0
+      at53 = λ Ψ. Typed.give s39 (at52 Ψ)
 
-      abbrev at54 : Typed.TF T9 O0
-      at54 = λ Ψ. Typed.give s35 (at53 Ψ)
+      abbrev at54 : Typed.TF T40 O0
+      at54 = λ Ψ. at53 Ψ
 
-      abbrev at55 : Typed.TF T9 O0
-      at55 = λ Ψ. at54 Ψ
+      abbrev at55 : Typed.TF T39 O0
+      at55 = λ Ψ. Typed.ask s37 (at54 Ψ)
 
-      abbrev at56 : Typed.TF T8 O0
-      at56 = λ Ψ. at29 (Typed.wantNext T9 O0 (at55 Ψ) Ψ)
+      abbrev at56 : Typed.TF T9 O0
+      at56 = λ Ψ. Typed.give s36 (at55 Ψ)
 
-      abbrev at57 : Typed.TF T7 O0
-      at57 = λ Ψ. Typed.ask s6 (at56 Ψ)
+      abbrev at57 : Typed.TF T9 O0
+      at57 = λ Ψ. at56 Ψ
 
-      abbrev at58 : Typed.TF T6 O0
-      at58 = λ Ψ. Typed.pass T6 T7 s5 (at57 Ψ)
+      abbrev at58 : Typed.TF T8 O0
+      at58 = λ Ψ. at30 (Typed.wantNext T9 O0 (at57 Ψ) Ψ)
 
-      abbrev at59 : Typed.TF T5 O0
-      at59 = λ Ψ. Typed.both s4 (at58 Ψ)
+      abbrev at59 : Typed.TF T7 O0
+      at59 = λ Ψ. Typed.ask s6 (at58 Ψ)
 
-      abbrev at60 : Typed.TF T4 O0
-      at60 = λ Ψ. Typed.both s3 (at59 Ψ)
+      abbrev at60 : Typed.TF T6 O0
+      at60 = λ Ψ. Typed.pass T6 T7 s5 (at59 Ψ)
 
-      abbrev at61 : Typed.TF T3 O0
-      at61 = λ Ψ. Typed.give s2 (at60 Ψ)
+      abbrev at61 : Typed.TF T5 O0
+      at61 = λ Ψ. Typed.both s4 (at60 Ψ)
 
-      abbrev at62 : Typed.TF T2 O0
-      at62 = λ Ψ. Typed.give s1 (at61 Ψ)
+      abbrev at62 : Typed.TF T4 O0
+      at62 = λ Ψ. Typed.both s3 (at61 Ψ)
 
-      abbrev at63 : Typed.TF T0 O0
-      at63 = λ Ψ. Typed.give s0 (at62 Ψ)
+      abbrev at63 : Typed.TF T3 O0
+      at63 = λ Ψ. Typed.give s2 (at62 Ψ)
+
+      abbrev at64 : Typed.TF T2 O0
+      at64 = λ Ψ. Typed.give s1 (at63 Ψ)
+
+      abbrev at65 : Typed.TF T0 O0
+      at65 = λ Ψ. Typed.give s0 (at64 Ψ)
 
       abbrev pub Φ : Typed.TF T0 O0
-      Φ = at63
+      Φ = at65
 
       module _ {M : Type 1} (𝓤 : URA.URA M) (H : Wp.Heap 𝓤) (A : Atoms.Atoms 𝓤) (W : Kit.Given 𝓤 H A) (𝓣 : Wp.Tables 𝓤 H) where
         abbrev Knowns : Type 1
@@ -1191,101 +1226,96 @@ module _ (claims· : Claims) where
 
       module _ (κs : Lifetimes.Lfts 4) (qs : Lifetimes.Shares 4) where
         abbrev g10 : List.List Row.Entry
-        g10 = List._∷_ e0 (List._∷_ e2 (List._∷_ e22 (List._∷_
-            (3, Relend.mslice-owed (Referent.rtF (Referent.fInt Syntax.w16)) (Syntax.tyRef (Syntax.named 2) Syntax.mut (Syntax.tyInt Syntax.w16)) 2 4 (Row.lease (κs .1 .1 .0) (qs .1 .1 .0))) (List._∷_ e33
-            (List._∷_ e36 (List._∷_ e39 (List._∷_ e41 (List._∷_ e43 (List._∷_ e44 (List._∷_ e3 (List._∷_ e5 (List._∷_ e7 (List._∷_ e11 (List._∷_ e13 (List._∷_ e16 List.[])))))))))))))))
+        g10 = List._∷_ e0 (List._∷_ e2 (List._∷_ e21 (List._∷_ e31 (List._∷_
+            (4, Relend.mslice-owed (Referent.rtF (Referent.fInt Syntax.w16)) (Syntax.tyRef (Syntax.named 2) Syntax.mut (Syntax.tyInt Syntax.w16)) 2 4 (Row.lease (κs .1 .1 .0) (qs .1 .1 .0))) (List._∷_ e35
+            (List._∷_ e38 (List._∷_ e41 (List._∷_ e43 (List._∷_ e45 (List._∷_ e3 (List._∷_ e5 (List._∷_ e7 (List._∷_ e9 (List._∷_ e13 (List._∷_ e15 List.[])))))))))))))))
 
         abbrev g11 : List.List Row.Entry
-        g11 = List._∷_ e0 (List._∷_ e2 (List._∷_ e22 (List._∷_
-            (3, Relend.mslice-owed (Referent.rtF (Referent.fInt Syntax.w16)) (Syntax.tyRef (Syntax.named 2) Syntax.mut (Syntax.tyInt Syntax.w16)) 2 4 (Row.lease (κs .1 .1 .0) (qs .1 .1 .0))) (List._∷_ e33
-            (List._∷_ e36 (List._∷_ e39 (List._∷_ e41 (List._∷_ e43 (List._∷_ e44 (List._∷_ e3 (List._∷_ e5 (List._∷_ e8 (List._∷_ e10 (List._∷_ e13 (List._∷_ e16 List.[])))))))))))))))
+        g11 = List._∷_ e0 (List._∷_ e2 (List._∷_ e21 (List._∷_ e31 (List._∷_
+            (4, Relend.mslice-owed (Referent.rtF (Referent.fInt Syntax.w16)) (Syntax.tyRef (Syntax.named 2) Syntax.mut (Syntax.tyInt Syntax.w16)) 2 4 (Row.lease (κs .1 .1 .0) (qs .1 .1 .0))) (List._∷_ e35
+            (List._∷_ e38 (List._∷_ e41 (List._∷_ e43 (List._∷_ e45 (List._∷_ e3 (List._∷_ e5 (List._∷_ e7 (List._∷_ e10 (List._∷_ e12 (List._∷_ e15 List.[])))))))))))))))
 
         abbrev g12 : List.List Row.Entry
-        g12 = List._∷_ e0 (List._∷_ e2 (List._∷_ e22 (List._∷_
-            (3, Relend.mslice-owed (Referent.rtF (Referent.fInt Syntax.w16)) (Syntax.tyRef (Syntax.named 2) Syntax.mut (Syntax.tyInt Syntax.w16)) 2 4 (Row.lease (κs .1 .1 .0) (qs .1 .1 .0))) (List._∷_ e33
-            (List._∷_ e36 (List._∷_ e39 (List._∷_ e41 (List._∷_ e43 (List._∷_ e44 (List._∷_ e3 (List._∷_ e6 (List._∷_ e8 (List._∷_ e9 (List._∷_ e13 (List._∷_ e16 List.[])))))))))))))))
+        g12 = List._∷_ e0 (List._∷_ e2 (List._∷_ e21 (List._∷_ e31 (List._∷_
+            (4, Relend.mslice-owed (Referent.rtF (Referent.fInt Syntax.w16)) (Syntax.tyRef (Syntax.named 2) Syntax.mut (Syntax.tyInt Syntax.w16)) 2 4 (Row.lease (κs .1 .1 .0) (qs .1 .1 .0))) (List._∷_ e35
+            (List._∷_ e38 (List._∷_ e41 (List._∷_ e43 (List._∷_ e45 (List._∷_ e3 (List._∷_ e5 (List._∷_ e8 (List._∷_ e10 (List._∷_ e11 (List._∷_ e15 List.[])))))))))))))))
 
         abbrev g13 : List.List Row.Entry
-        g13 = List._∷_ e0 (List._∷_ e2 (List._∷_ e22 (List._∷_
-            (3, Relend.mslice-owed (Referent.rtF (Referent.fInt Syntax.w16)) (Syntax.tyRef (Syntax.named 2) Syntax.mut (Syntax.tyInt Syntax.w16)) 2 4 (Row.lease (κs .1 .1 .0) (qs .1 .1 .0))) (List._∷_ e33
-            (List._∷_ e36 (List._∷_ e39 (List._∷_ e41 (List._∷_ e43 (List._∷_ e44 (List._∷_ e3 (List._∷_ e5 (List._∷_ e8 (List._∷_ e9 (List._∷_ e13 (List._∷_ e16 List.[])))))))))))))))
+        g13 = List._∷_ e0 (List._∷_ e2 (List._∷_ e21 (List._∷_ e31 (List._∷_
+            (4, Relend.mslice-owed (Referent.rtF (Referent.fInt Syntax.w16)) (Syntax.tyRef (Syntax.named 2) Syntax.mut (Syntax.tyInt Syntax.w16)) 2 4 (Row.lease (κs .1 .1 .0) (qs .1 .1 .0))) (List._∷_ e35
+            (List._∷_ e38 (List._∷_ e41 (List._∷_ e43 (List._∷_ e45 (List._∷_ e3 (List._∷_ e5 (List._∷_ e7 (List._∷_ e10 (List._∷_ e11 (List._∷_ e15 List.[])))))))))))))))
 
         abbrev g14 : List.List Row.Entry
-        g14 = List._∷_ e0 (List._∷_ e2 (List._∷_ e22 (List._∷_ e30 (List._∷_
-            (4, Relend.mslice-owed (Element.type) (Syntax.tyRef (Syntax.named 3) Syntax.mut Element.behind) 3 5 (Row.lease (κs .1 .1 .1 .0) (qs .1 .1 .1 .0))) (List._∷_ e36 (List._∷_ e39 (List._∷_ e41
-            (List._∷_ e43 (List._∷_ e44 (List._∷_ e3 (List._∷_ e5 (List._∷_ e8 (List._∷_ e11 (List._∷_ e12 (List._∷_ e16 List.[])))))))))))))))
+        g14 = List._∷_ e0 (List._∷_ e2 (List._∷_ e21 (List._∷_ e31 (List._∷_ e32 (List._∷_
+            (5, Relend.mslice-owed (Element.type) (Syntax.tyRef (Syntax.named 3) Syntax.mut Element.behind) 3 5 (Row.lease (κs .1 .1 .1 .0) (qs .1 .1 .1 .0))) (List._∷_ e38 (List._∷_ e41 (List._∷_ e43
+            (List._∷_ e45 (List._∷_ e3 (List._∷_ e5 (List._∷_ e7 (List._∷_ e10 (List._∷_ e13 (List._∷_ e14 List.[])))))))))))))))
 
         abbrev g15 : List.List Row.Entry
-        g15 = List._∷_ e0 (List._∷_ e2 (List._∷_ e22 (List._∷_ e30 (List._∷_
-            (4, Relend.mslice-owed (Element.type) (Syntax.tyRef (Syntax.named 3) Syntax.mut Element.behind) 3 5 (Row.lease (κs .1 .1 .1 .0) (qs .1 .1 .1 .0))) (List._∷_ e36 (List._∷_ e39 (List._∷_ e41
-            (List._∷_ e43 (List._∷_ e44 (List._∷_ e3 (List._∷_ e5 (List._∷_ e8 (List._∷_ e11 (List._∷_ e13 (List._∷_ e15 List.[])))))))))))))))
-
-        abbrev g16 : List.List Row.Entry
-        g16 = List._∷_ e0 (List._∷_ e2 (List._∷_ e22 (List._∷_ e30 (List._∷_
-            (4, Relend.mslice-owed (Element.type) (Syntax.tyRef (Syntax.named 3) Syntax.mut Element.behind) 3 5 (Row.lease (κs .1 .1 .1 .0) (qs .1 .1 .1 .0))) (List._∷_ e36 (List._∷_ e39 (List._∷_ e41
-            (List._∷_ e43 (List._∷_ e44 (List._∷_ e3 (List._∷_ e6 (List._∷_ e8 (List._∷_ e11 (List._∷_ e13 (List._∷_ e14 List.[])))))))))))))))
+        g15 = List._∷_ e0 (List._∷_ e2 (List._∷_ e21 (List._∷_ e31 (List._∷_ e32 (List._∷_
+            (5, Relend.mslice-owed (Element.type) (Syntax.tyRef (Syntax.named 3) Syntax.mut Element.behind) 3 5 (Row.lease (κs .1 .1 .1 .0) (qs .1 .1 .1 .0))) (List._∷_ e38 (List._∷_ e41 (List._∷_ e43
+            (List._∷_ e45 (List._∷_ e3 (List._∷_ e5 (List._∷_ e7 (List._∷_ e10 (List._∷_ e13 (List._∷_ e15 List.[])))))))))))))))
 
         abbrev g17 : List.List Row.Entry
-        g17 = List._∷_ e0 (List._∷_ e2 (List._∷_ e22 (List._∷_ e30 (List._∷_
-            (4, Relend.mslice-owed (Element.type) (Syntax.tyRef (Syntax.named 3) Syntax.mut Element.behind) 3 5 (Row.lease (κs .1 .1 .1 .0) (qs .1 .1 .1 .0))) (List._∷_ e36 (List._∷_ e39 (List._∷_ e41
-            (List._∷_ e43 (List._∷_ e44 (List._∷_ e3 (List._∷_ e5 (List._∷_ e8 (List._∷_ e11 (List._∷_ e13 (List._∷_ e14 List.[])))))))))))))))
+        g17 = List._∷_ e0 (List._∷_ e2 (List._∷_ e21 (List._∷_ e31 (List._∷_ e32 (List._∷_
+            (5, Relend.mslice-owed (Element.type) (Syntax.tyRef (Syntax.named 3) Syntax.mut Element.behind) 3 5 (Row.lease (κs .1 .1 .1 .0) (qs .1 .1 .1 .0))) (List._∷_ e38 (List._∷_ e41 (List._∷_ e43
+            (List._∷_ e45 (List._∷_ e3 (List._∷_ e5 (List._∷_ e8 (List._∷_ e10 (List._∷_ e13 (List._∷_ e15 List.[])))))))))))))))
 
-        abbrev g22 : List.List Row.Entry
-        g22 = List._∷_ e0 (List._∷_ e2 (List._∷_
-            (2, Relend.mslice-owed (Referent.rtF (Referent.fInt Syntax.w8)) (Syntax.tyRef (Syntax.named 1) Syntax.mut (Syntax.tyInt Syntax.w8)) 1 6 (Row.lease (κs .1 .0) (qs .1 .0))) (List._∷_ e30
-            (List._∷_ e33 (List._∷_ e37 (List._∷_ e39 (List._∷_ e41 (List._∷_ e43 (List._∷_ e44 (List._∷_ e3 (List._∷_ e5 (List._∷_ e8 (List._∷_ e11 (List._∷_ e13 (List._∷_ e16 List.[])))))))))))))))
+        abbrev g24 : List.List Row.Entry
+        g24 = List._∷_ e0 (List._∷_ e2 (List._∷_
+            (2, Relend.mslice-owed (Referent.rtF (Referent.fInt Syntax.w8)) (Syntax.tyRef (Syntax.named 1) Syntax.mut (Syntax.tyInt Syntax.w8)) 1 6 (Row.lease (κs .1 .0) (qs .1 .0))) (List._∷_ e31
+            (List._∷_ e32 (List._∷_ e35 (List._∷_ e39 (List._∷_ e41 (List._∷_ e43 (List._∷_ e45 (List._∷_ e3 (List._∷_ e5 (List._∷_ e7 (List._∷_ e10 (List._∷_ e13 (List._∷_ e15 List.[])))))))))))))))
 
-        abbrev g25 : List.List Row.Entry
-        g25 = List._∷_ e0 (List._∷_ e2 (List._∷_
-            (2, Relend.mslice-owed (Referent.rtF (Referent.fInt Syntax.w8)) (Syntax.tyRef (Syntax.named 1) Syntax.mut (Syntax.tyInt Syntax.w8)) 1 6 (Row.lease (κs .1 .0) (qs .1 .0))) (List._∷_
-            (3, Relend.mslice-owed (Referent.rtF (Referent.fInt Syntax.w16)) (Syntax.tyRef (Syntax.named 2) Syntax.mut (Syntax.tyInt Syntax.w16)) 2 7 (Row.lease (κs .1 .1 .0) (qs .1 .1 .0))) (List._∷_ e33
-            (List._∷_ e37 (List._∷_ e39 (List._∷_ e41 (List._∷_ e43 (List._∷_ e44 (List._∷_ e3 (List._∷_ e5 (List._∷_ e8 (List._∷_ e11 (List._∷_ e13 (List._∷_ e16 List.[])))))))))))))))
+        abbrev g27 : List.List Row.Entry
+        g27 = List._∷_ e0 (List._∷_ e2 (List._∷_
+            (2, Relend.mslice-owed (Referent.rtF (Referent.fInt Syntax.w8)) (Syntax.tyRef (Syntax.named 1) Syntax.mut (Syntax.tyInt Syntax.w8)) 1 6 (Row.lease (κs .1 .0) (qs .1 .0))) (List._∷_ e31
+            (List._∷_ (4, Relend.mslice-owed (Referent.rtF (Referent.fInt Syntax.w16)) (Syntax.tyRef (Syntax.named 2) Syntax.mut (Syntax.tyInt Syntax.w16)) 2 7 (Row.lease (κs .1 .1 .0) (qs .1 .1 .0)))
+            (List._∷_ e35 (List._∷_ e39 (List._∷_ e41 (List._∷_ e43 (List._∷_ e45 (List._∷_ e3 (List._∷_ e5 (List._∷_ e7 (List._∷_ e10 (List._∷_ e13 (List._∷_ e15 List.[])))))))))))))))
 
-        abbrev g28 : List.List Row.Entry
-        g28 = List._∷_ e0 (List._∷_ e2 (List._∷_
-            (2, Relend.mslice-owed (Referent.rtF (Referent.fInt Syntax.w8)) (Syntax.tyRef (Syntax.named 1) Syntax.mut (Syntax.tyInt Syntax.w8)) 1 6 (Row.lease (κs .1 .0) (qs .1 .0))) (List._∷_
-            (3, Relend.mslice-owed (Referent.rtF (Referent.fInt Syntax.w16)) (Syntax.tyRef (Syntax.named 2) Syntax.mut (Syntax.tyInt Syntax.w16)) 2 7 (Row.lease (κs .1 .1 .0) (qs .1 .1 .0))) (List._∷_
-            (4, Relend.mslice-owed (Element.type) (Syntax.tyRef (Syntax.named 3) Syntax.mut Element.behind) 3 8 (Row.lease (κs .1 .1 .1 .0) (qs .1 .1 .1 .0))) (List._∷_ e37 (List._∷_ e39 (List._∷_ e41
-            (List._∷_ e43 (List._∷_ e44 (List._∷_ e3 (List._∷_ e5 (List._∷_ e8 (List._∷_ e11 (List._∷_ e13 (List._∷_ e16 List.[])))))))))))))))
-
-        abbrev g31 : List.List Row.Entry
-        g31 = List._∷_ e1 (List._∷_ e2 (List._∷_
-            (2, Relend.mslice-owed (Referent.rtF (Referent.fInt Syntax.w8)) (Syntax.tyRef (Syntax.named 1) Syntax.mut (Syntax.tyInt Syntax.w8)) 1 6 (Row.lease (κs .1 .0) (qs .1 .0))) (List._∷_
-            (3, Relend.mslice-owed (Referent.rtF (Referent.fInt Syntax.w16)) (Syntax.tyRef (Syntax.named 2) Syntax.mut (Syntax.tyInt Syntax.w16)) 2 7 (Row.lease (κs .1 .1 .0) (qs .1 .1 .0))) (List._∷_
-            (4, Relend.mslice-owed (Element.type) (Syntax.tyRef (Syntax.named 3) Syntax.mut Element.behind) 3 8 (Row.lease (κs .1 .1 .1 .0) (qs .1 .1 .1 .0))) (List._∷_ e37 (List._∷_ e39 (List._∷_ e41
-            (List._∷_ e43 (List._∷_ e44 (List._∷_ e3 (List._∷_ e5 (List._∷_ e8 (List._∷_ e11 (List._∷_ e13 (List._∷_ e16 List.[])))))))))))))))
+        abbrev g30 : List.List Row.Entry
+        g30 = List._∷_ e0 (List._∷_ e2 (List._∷_
+            (2, Relend.mslice-owed (Referent.rtF (Referent.fInt Syntax.w8)) (Syntax.tyRef (Syntax.named 1) Syntax.mut (Syntax.tyInt Syntax.w8)) 1 6 (Row.lease (κs .1 .0) (qs .1 .0))) (List._∷_ e31
+            (List._∷_ (4, Relend.mslice-owed (Referent.rtF (Referent.fInt Syntax.w16)) (Syntax.tyRef (Syntax.named 2) Syntax.mut (Syntax.tyInt Syntax.w16)) 2 7 (Row.lease (κs .1 .1 .0) (qs .1 .1 .0)))
+            (List._∷_ (5, Relend.mslice-owed (Element.type) (Syntax.tyRef (Syntax.named 3) Syntax.mut Element.behind) 3 8 (Row.lease (κs .1 .1 .1 .0) (qs .1 .1 .1 .0))) (List._∷_ e39 (List._∷_ e41
+            (List._∷_ e43 (List._∷_ e45 (List._∷_ e3 (List._∷_ e5 (List._∷_ e7 (List._∷_ e10 (List._∷_ e13 (List._∷_ e15 List.[])))))))))))))))
 
         abbrev g33 : List.List Row.Entry
         g33 = List._∷_ e1 (List._∷_ e2 (List._∷_
-            (2, Relend.mslice-owed (Referent.rtF (Referent.fInt Syntax.w8)) (Syntax.tyRef (Syntax.named 1) Syntax.mut (Syntax.tyInt Syntax.w8)) 1 6 (Row.lease (κs .1 .0) (qs .1 .0))) (List._∷_
-            (3, Relend.mslice-owed (Referent.rtF (Referent.fInt Syntax.w16)) (Syntax.tyRef (Syntax.named 2) Syntax.mut (Syntax.tyInt Syntax.w16)) 2 7 (Row.lease (κs .1 .1 .0) (qs .1 .1 .0))) (List._∷_
-            (4, Relend.mslice-owed (Element.type) (Syntax.tyRef (Syntax.named 3) Syntax.mut Element.behind) 3 8 (Row.lease (κs .1 .1 .1 .0) (qs .1 .1 .1 .0))) (List._∷_ e36 (List._∷_ e39 (List._∷_ e41
-            (List._∷_ e43 (List._∷_ e44 (List._∷_ e3 (List._∷_ e5 (List._∷_ e8 (List._∷_ e11 (List._∷_ e13 (List._∷_ e16 List.[])))))))))))))))
-
-        abbrev g34 : List.List Row.Entry
-        g34 = List._∷_ e1 (List._∷_ e2 (List._∷_
-            (2, Relend.mslice-owed (Referent.rtF (Referent.fInt Syntax.w8)) (Syntax.tyRef (Syntax.named 1) Syntax.mut (Syntax.tyInt Syntax.w8)) 1 6 (Row.lease (κs .1 .0) (qs .1 .0))) (List._∷_
-            (3, Relend.mslice-owed (Referent.rtF (Referent.fInt Syntax.w16)) (Syntax.tyRef (Syntax.named 2) Syntax.mut (Syntax.tyInt Syntax.w16)) 2 7 (Row.lease (κs .1 .1 .0) (qs .1 .1 .0))) (List._∷_
-            (4, Relend.mslice-owed (Element.type) (Syntax.tyRef (Syntax.named 3) Syntax.mut Element.behind) 3 8 (Row.lease (κs .1 .1 .1 .0) (qs .1 .1 .1 .0))) (List._∷_ e36 (List._∷_ e39 (List._∷_ e40
-            (List._∷_ e43 (List._∷_ e44 (List._∷_ e3 (List._∷_ e5 (List._∷_ e8 (List._∷_ e11 (List._∷_ e13 (List._∷_ e16 List.[])))))))))))))))
+            (2, Relend.mslice-owed (Referent.rtF (Referent.fInt Syntax.w8)) (Syntax.tyRef (Syntax.named 1) Syntax.mut (Syntax.tyInt Syntax.w8)) 1 6 (Row.lease (κs .1 .0) (qs .1 .0))) (List._∷_ e31
+            (List._∷_ (4, Relend.mslice-owed (Referent.rtF (Referent.fInt Syntax.w16)) (Syntax.tyRef (Syntax.named 2) Syntax.mut (Syntax.tyInt Syntax.w16)) 2 7 (Row.lease (κs .1 .1 .0) (qs .1 .1 .0)))
+            (List._∷_ (5, Relend.mslice-owed (Element.type) (Syntax.tyRef (Syntax.named 3) Syntax.mut Element.behind) 3 8 (Row.lease (κs .1 .1 .1 .0) (qs .1 .1 .1 .0))) (List._∷_ e39 (List._∷_ e41
+            (List._∷_ e43 (List._∷_ e45 (List._∷_ e3 (List._∷_ e5 (List._∷_ e7 (List._∷_ e10 (List._∷_ e13 (List._∷_ e15 List.[])))))))))))))))
 
         abbrev g35 : List.List Row.Entry
         g35 = List._∷_ e1 (List._∷_ e2 (List._∷_
-            (2, Relend.mslice-owed (Referent.rtF (Referent.fInt Syntax.w8)) (Syntax.tyRef (Syntax.named 1) Syntax.mut (Syntax.tyInt Syntax.w8)) 1 6 (Row.lease (κs .1 .0) (qs .1 .0))) (List._∷_
-            (3, Relend.mslice-owed (Referent.rtF (Referent.fInt Syntax.w16)) (Syntax.tyRef (Syntax.named 2) Syntax.mut (Syntax.tyInt Syntax.w16)) 2 7 (Row.lease (κs .1 .1 .0) (qs .1 .1 .0))) (List._∷_
-            (4, Relend.mslice-owed (Element.type) (Syntax.tyRef (Syntax.named 3) Syntax.mut Element.behind) 3 8 (Row.lease (κs .1 .1 .1 .0) (qs .1 .1 .1 .0))) (List._∷_ e36 (List._∷_ e39 (List._∷_ e40
-            (List._∷_ e42 (List._∷_ e44 (List._∷_ e3 (List._∷_ e5 (List._∷_ e8 (List._∷_ e11 (List._∷_ e13 (List._∷_ e16 List.[])))))))))))))))
+            (2, Relend.mslice-owed (Referent.rtF (Referent.fInt Syntax.w8)) (Syntax.tyRef (Syntax.named 1) Syntax.mut (Syntax.tyInt Syntax.w8)) 1 6 (Row.lease (κs .1 .0) (qs .1 .0))) (List._∷_ e31
+            (List._∷_ (4, Relend.mslice-owed (Referent.rtF (Referent.fInt Syntax.w16)) (Syntax.tyRef (Syntax.named 2) Syntax.mut (Syntax.tyInt Syntax.w16)) 2 7 (Row.lease (κs .1 .1 .0) (qs .1 .1 .0)))
+            (List._∷_ (5, Relend.mslice-owed (Element.type) (Syntax.tyRef (Syntax.named 3) Syntax.mut Element.behind) 3 8 (Row.lease (κs .1 .1 .1 .0) (qs .1 .1 .1 .0))) (List._∷_ e38 (List._∷_ e41
+            (List._∷_ e43 (List._∷_ e45 (List._∷_ e3 (List._∷_ e5 (List._∷_ e7 (List._∷_ e10 (List._∷_ e13 (List._∷_ e15 List.[])))))))))))))))
 
         abbrev g36 : List.List Row.Entry
-        g36 = List._∷_ e1 (List._∷_ e2 (List._∷_ e22 (List._∷_
-            (3, Relend.mslice-owed (Referent.rtF (Referent.fInt Syntax.w16)) (Syntax.tyRef (Syntax.named 2) Syntax.mut (Syntax.tyInt Syntax.w16)) 2 7 (Row.lease (κs .1 .1 .0) (qs .1 .1 .0))) (List._∷_
-            (4, Relend.mslice-owed (Element.type) (Syntax.tyRef (Syntax.named 3) Syntax.mut Element.behind) 3 8 (Row.lease (κs .1 .1 .1 .0) (qs .1 .1 .1 .0))) (List._∷_ e36 (List._∷_ e39 (List._∷_ e40
-            (List._∷_ e42 (List._∷_ e44 (List._∷_ e3 (List._∷_ e5 (List._∷_ e8 (List._∷_ e11 (List._∷_ e13 (List._∷_ e16 List.[])))))))))))))))
+        g36 = List._∷_ e1 (List._∷_ e2 (List._∷_
+            (2, Relend.mslice-owed (Referent.rtF (Referent.fInt Syntax.w8)) (Syntax.tyRef (Syntax.named 1) Syntax.mut (Syntax.tyInt Syntax.w8)) 1 6 (Row.lease (κs .1 .0) (qs .1 .0))) (List._∷_ e31
+            (List._∷_ (4, Relend.mslice-owed (Referent.rtF (Referent.fInt Syntax.w16)) (Syntax.tyRef (Syntax.named 2) Syntax.mut (Syntax.tyInt Syntax.w16)) 2 7 (Row.lease (κs .1 .1 .0) (qs .1 .1 .0)))
+            (List._∷_ (5, Relend.mslice-owed (Element.type) (Syntax.tyRef (Syntax.named 3) Syntax.mut Element.behind) 3 8 (Row.lease (κs .1 .1 .1 .0) (qs .1 .1 .1 .0))) (List._∷_ e38 (List._∷_ e41
+            (List._∷_ e42 (List._∷_ e45 (List._∷_ e3 (List._∷_ e5 (List._∷_ e7 (List._∷_ e10 (List._∷_ e13 (List._∷_ e15 List.[])))))))))))))))
+
+        abbrev g37 : List.List Row.Entry
+        g37 = List._∷_ e1 (List._∷_ e2 (List._∷_
+            (2, Relend.mslice-owed (Referent.rtF (Referent.fInt Syntax.w8)) (Syntax.tyRef (Syntax.named 1) Syntax.mut (Syntax.tyInt Syntax.w8)) 1 6 (Row.lease (κs .1 .0) (qs .1 .0))) (List._∷_ e31
+            (List._∷_ (4, Relend.mslice-owed (Referent.rtF (Referent.fInt Syntax.w16)) (Syntax.tyRef (Syntax.named 2) Syntax.mut (Syntax.tyInt Syntax.w16)) 2 7 (Row.lease (κs .1 .1 .0) (qs .1 .1 .0)))
+            (List._∷_ (5, Relend.mslice-owed (Element.type) (Syntax.tyRef (Syntax.named 3) Syntax.mut Element.behind) 3 8 (Row.lease (κs .1 .1 .1 .0) (qs .1 .1 .1 .0))) (List._∷_ e38 (List._∷_ e41
+            (List._∷_ e42 (List._∷_ e44 (List._∷_ e3 (List._∷_ e5 (List._∷_ e7 (List._∷_ e10 (List._∷_ e13 (List._∷_ e15 List.[])))))))))))))))
 
         abbrev g38 : List.List Row.Entry
-        g38 = List._∷_ e1 (List._∷_ e2 (List._∷_ e22 (List._∷_ e30 (List._∷_
-            (4, Relend.mslice-owed (Element.type) (Syntax.tyRef (Syntax.named 3) Syntax.mut Element.behind) 3 8 (Row.lease (κs .1 .1 .1 .0) (qs .1 .1 .1 .0))) (List._∷_ e36 (List._∷_ e39 (List._∷_ e40
-            (List._∷_ e42 (List._∷_ e44 (List._∷_ e3 (List._∷_ e5 (List._∷_ e8 (List._∷_ e11 (List._∷_ e13 (List._∷_ e16 List.[])))))))))))))))
+        g38 = List._∷_ e1 (List._∷_ e2 (List._∷_ e21 (List._∷_ e31 (List._∷_
+            (4, Relend.mslice-owed (Referent.rtF (Referent.fInt Syntax.w16)) (Syntax.tyRef (Syntax.named 2) Syntax.mut (Syntax.tyInt Syntax.w16)) 2 7 (Row.lease (κs .1 .1 .0) (qs .1 .1 .0))) (List._∷_
+            (5, Relend.mslice-owed (Element.type) (Syntax.tyRef (Syntax.named 3) Syntax.mut Element.behind) 3 8 (Row.lease (κs .1 .1 .1 .0) (qs .1 .1 .1 .0))) (List._∷_ e38 (List._∷_ e41 (List._∷_ e42
+            (List._∷_ e44 (List._∷_ e3 (List._∷_ e5 (List._∷_ e7 (List._∷_ e10 (List._∷_ e13 (List._∷_ e15 List.[])))))))))))))))
+
+        abbrev g40 : List.List Row.Entry
+        g40 = List._∷_ e1 (List._∷_ e2 (List._∷_ e21 (List._∷_ e31 (List._∷_ e32 (List._∷_
+            (5, Relend.mslice-owed (Element.type) (Syntax.tyRef (Syntax.named 3) Syntax.mut Element.behind) 3 8 (Row.lease (κs .1 .1 .1 .0) (qs .1 .1 .1 .0))) (List._∷_ e38 (List._∷_ e41 (List._∷_ e42
+            (List._∷_ e44 (List._∷_ e3 (List._∷_ e5 (List._∷_ e7 (List._∷_ e10 (List._∷_ e13 (List._∷_ e15 List.[])))))))))))))))
 
         abbrev G0 : Row.Cx
         G0 = record {
@@ -1457,28 +1487,28 @@ module _ (claims· : Claims) where
 
         abbrev G24 : Row.Cx
         G24 = record {
-          locals = List._++_ g15 t1;
+          locals = List._++_ g15 t16;
           slots = List._∷_ (Row.lease (κs .0) (qs .0)) (List._∷_ (Row.lease (κs .1 .0) (qs .1 .0)) (List._∷_ (Row.lease (κs .1 .1 .0) (qs .1 .1 .0)) (List._∷_ Row.off
               (List._∷_ Row.off (List._∷_ Row.alive (List._∷_ Row.off (List._∷_ Row.off (List._∷_ Row.off List.[]))))))));
         }
 
         abbrev G25 : Row.Cx
         G25 = record {
-          locals = List._++_ g16 t1;
+          locals = List._++_ g17 t18;
           slots = List._∷_ (Row.lease (κs .0) (qs .0)) (List._∷_ (Row.lease (κs .1 .0) (qs .1 .0)) (List._∷_ (Row.lease (κs .1 .1 .0) (qs .1 .1 .0)) (List._∷_ Row.off
               (List._∷_ Row.off (List._∷_ Row.alive (List._∷_ Row.off (List._∷_ Row.off (List._∷_ Row.off List.[]))))))));
         }
 
         abbrev G26 : Row.Cx
         G26 = record {
-          locals = List._++_ g17 t1;
+          locals = List._++_ g15 t18;
           slots = List._∷_ (Row.lease (κs .0) (qs .0)) (List._∷_ (Row.lease (κs .1 .0) (qs .1 .0)) (List._∷_ (Row.lease (κs .1 .1 .0) (qs .1 .1 .0)) (List._∷_ Row.off
               (List._∷_ Row.off (List._∷_ Row.alive (List._∷_ Row.off (List._∷_ Row.off (List._∷_ Row.off List.[]))))))));
         }
 
         abbrev G27 : Row.Cx
         G27 = record {
-          locals = List._++_ g17 t1;
+          locals = List._++_ g15 t18;
           slots = List._∷_ (Row.lease (κs .0) (qs .0)) (List._∷_ (Row.lease (κs .1 .0) (qs .1 .0)) (List._∷_ (Row.lease (κs .1 .1 .0) (qs .1 .1 .0)) (List._∷_ Row.off
               (List._∷_ Row.off (List._∷_ Row.dead (List._∷_ Row.off (List._∷_ Row.off (List._∷_ Row.off List.[]))))))));
         }
@@ -1499,49 +1529,49 @@ module _ (claims· : Claims) where
 
         abbrev G30 : Row.Cx
         G30 = record {
-          locals = List._++_ t9 t18;
+          locals = List._++_ t9 t19;
           slots = List._∷_ (Row.lease (κs .0) (qs .0)) (List._∷_ (Row.lease (κs .1 .0) (qs .1 .0)) (List._∷_ (Row.lease (κs .1 .1 .0) (qs .1 .1 .0)) (List._∷_ (Row.lease (κs
               .1 .1 .1 .0) (qs .1 .1 .1 .0)) (List._∷_ Row.off (List._∷_ Row.off (List._∷_ Row.off (List._∷_ Row.off (List._∷_ Row.off List.[]))))))));
         }
 
         abbrev G31 : Row.Cx
         G31 = record {
-          locals = List._++_ t19 t18;
+          locals = List._++_ t20 t19;
           slots = List._∷_ (Row.lease (κs .0) (qs .0)) (List._∷_ (Row.lease (κs .1 .0) (qs .1 .0)) (List._∷_ (Row.lease (κs .1 .1 .0) (qs .1 .1 .0)) (List._∷_ (Row.lease
               (κs .1 .1 .1 .0) (qs .1 .1 .1 .0)) (List._∷_ Row.off (List._∷_ Row.off (List._∷_ Row.off (List._∷_ Row.off (List._∷_ Row.off List.[]))))))));
         }
 
         abbrev G32 : Row.Cx
         G32 = record {
-          locals = List._++_ t19 t1;
+          locals = List._++_ t20 t1;
           slots = List._∷_ (Row.lease (κs .0) (qs .0)) (List._∷_ (Row.lease (κs .1 .0) (qs .1 .0)) (List._∷_ (Row.lease (κs .1 .1 .0) (qs .1 .1 .0)) (List._∷_ (Row.lease (κs
               .1 .1 .1 .0) (qs .1 .1 .1 .0)) (List._∷_ Row.off (List._∷_ Row.off (List._∷_ Row.off (List._∷_ Row.off (List._∷_ Row.off List.[]))))))));
         }
 
         abbrev G33 : Row.Cx
         G33 = record {
-          locals = List._++_ t20 t1;
+          locals = List._++_ t21 t1;
           slots = List._∷_ (Row.lease (κs .0) (qs .0)) (List._∷_ (Row.lease (κs .1 .0) (qs .1 .0)) (List._∷_ (Row.lease (κs .1 .1 .0) (qs .1 .1 .0)) (List._∷_ (Row.lease (κs
               .1 .1 .1 .0) (qs .1 .1 .1 .0)) (List._∷_ Row.off (List._∷_ Row.off (List._∷_ Row.off (List._∷_ Row.off (List._∷_ Row.off List.[]))))))));
         }
 
         abbrev G34 : Row.Cx
         G34 = record {
-          locals = List._++_ t21 t1;
+          locals = List._++_ t22 t1;
           slots = List._∷_ (Row.lease (κs .0) (qs .0)) (List._∷_ (Row.lease (κs .1 .0) (qs .1 .0)) (List._∷_ (Row.lease (κs .1 .1 .0) (qs .1 .1 .0)) (List._∷_ (Row.lease (κs
               .1 .1 .1 .0) (qs .1 .1 .1 .0)) (List._∷_ Row.off (List._∷_ Row.off (List._∷_ Row.off (List._∷_ Row.off (List._∷_ Row.off List.[]))))))));
         }
 
         abbrev G35 : Row.Cx
         G35 = record {
-          locals = List._++_ t2 t1;
+          locals = List._++_ t23 t1;
           slots = List._∷_ (Row.lease (κs .0) (qs .0)) (List._∷_ (Row.lease (κs .1 .0) (qs .1 .0)) (List._∷_ (Row.lease (κs .1 .1 .0) (qs .1 .1 .0)) (List._∷_ (Row.lease (κs
               .1 .1 .1 .0) (qs .1 .1 .1 .0)) (List._∷_ Row.off (List._∷_ Row.off (List._∷_ Row.off (List._∷_ Row.off (List._∷_ Row.off List.[]))))))));
         }
 
         abbrev G36 : Row.Cx
         G36 = record {
-          locals = List._++_ t4 t1;
+          locals = List._++_ t2 t1;
           slots = List._∷_ (Row.lease (κs .0) (qs .0)) (List._∷_ (Row.lease (κs .1 .0) (qs .1 .0)) (List._∷_ (Row.lease (κs .1 .1 .0) (qs .1 .1 .0)) (List._∷_ (Row.lease (κs
               .1 .1 .1 .0) (qs .1 .1 .1 .0)) (List._∷_ Row.off (List._∷_ Row.off (List._∷_ Row.off (List._∷_ Row.off (List._∷_ Row.off List.[]))))))));
         }
@@ -1550,172 +1580,186 @@ module _ (claims· : Claims) where
         G37 = record {
           locals = List._++_ t4 t1;
           slots = List._∷_ (Row.lease (κs .0) (qs .0)) (List._∷_ (Row.lease (κs .1 .0) (qs .1 .0)) (List._∷_ (Row.lease (κs .1 .1 .0) (qs .1 .1 .0)) (List._∷_ (Row.lease (κs
-              .1 .1 .1 .0) (qs .1 .1 .1 .0)) (List._∷_ Row.off (List._∷_ Row.off (List._∷_ Row.alive (List._∷_ Row.off (List._∷_ Row.off List.[]))))))));
+              .1 .1 .1 .0) (qs .1 .1 .1 .0)) (List._∷_ Row.off (List._∷_ Row.off (List._∷_ Row.off (List._∷_ Row.off (List._∷_ Row.off List.[]))))))));
         }
 
         abbrev G38 : Row.Cx
         G38 = record {
-          locals = List._++_ g22 t23;
-          slots = List._∷_ (Row.lease (κs .0) (qs .0)) (List._∷_ Row.off (List._∷_ (Row.lease (κs .1 .1 .0) (qs .1 .1 .0)) (List._∷_ (Row.lease (κs .1 .1 .1 .0) (qs .1 .1
-              .1 .0)) (List._∷_ Row.off (List._∷_ Row.off (List._∷_ Row.alive (List._∷_ Row.off (List._∷_ Row.off List.[]))))))));
+          locals = List._++_ t4 t1;
+          slots = List._∷_ (Row.lease (κs .0) (qs .0)) (List._∷_ (Row.lease (κs .1 .0) (qs .1 .0)) (List._∷_ (Row.lease (κs .1 .1 .0) (qs .1 .1 .0)) (List._∷_ (Row.lease (κs
+              .1 .1 .1 .0) (qs .1 .1 .1 .0)) (List._∷_ Row.off (List._∷_ Row.off (List._∷_ Row.alive (List._∷_ Row.off (List._∷_ Row.off List.[]))))))));
         }
 
         abbrev G39 : Row.Cx
         G39 = record {
-          locals = List._++_ g22 t24;
+          locals = List._++_ g24 t25;
           slots = List._∷_ (Row.lease (κs .0) (qs .0)) (List._∷_ Row.off (List._∷_ (Row.lease (κs .1 .1 .0) (qs .1 .1 .0)) (List._∷_ (Row.lease (κs .1 .1 .1 .0) (qs .1 .1
               .1 .0)) (List._∷_ Row.off (List._∷_ Row.off (List._∷_ Row.alive (List._∷_ Row.off (List._∷_ Row.off List.[]))))))));
         }
 
         abbrev G40 : Row.Cx
         G40 = record {
-          locals = List._++_ g22 t24;
+          locals = List._++_ g24 t26;
           slots = List._∷_ (Row.lease (κs .0) (qs .0)) (List._∷_ Row.off (List._∷_ (Row.lease (κs .1 .1 .0) (qs .1 .1 .0)) (List._∷_ (Row.lease (κs .1 .1 .1 .0) (qs .1 .1
-              .1 .0)) (List._∷_ Row.off (List._∷_ Row.off (List._∷_ Row.alive (List._∷_ Row.alive (List._∷_ Row.off List.[]))))))));
+              .1 .0)) (List._∷_ Row.off (List._∷_ Row.off (List._∷_ Row.alive (List._∷_ Row.off (List._∷_ Row.off List.[]))))))));
         }
 
         abbrev G41 : Row.Cx
         G41 = record {
-          locals = List._++_ g25 t26;
-          slots = List._∷_ (Row.lease (κs .0) (qs .0)) (List._∷_ Row.off (List._∷_ Row.off (List._∷_ (Row.lease (κs .1 .1 .1 .0) (qs .1 .1 .1 .0)) (List._∷_ Row.off
-              (List._∷_ Row.off (List._∷_ Row.alive (List._∷_ Row.alive (List._∷_ Row.off List.[]))))))));
+          locals = List._++_ g24 t26;
+          slots = List._∷_ (Row.lease (κs .0) (qs .0)) (List._∷_ Row.off (List._∷_ (Row.lease (κs .1 .1 .0) (qs .1 .1 .0)) (List._∷_ (Row.lease (κs .1 .1 .1 .0) (qs .1 .1
+              .1 .0)) (List._∷_ Row.off (List._∷_ Row.off (List._∷_ Row.alive (List._∷_ Row.alive (List._∷_ Row.off List.[]))))))));
         }
 
         abbrev G42 : Row.Cx
         G42 = record {
-          locals = List._++_ g25 t27;
+          locals = List._++_ g27 t28;
           slots = List._∷_ (Row.lease (κs .0) (qs .0)) (List._∷_ Row.off (List._∷_ Row.off (List._∷_ (Row.lease (κs .1 .1 .1 .0) (qs .1 .1 .1 .0)) (List._∷_ Row.off
               (List._∷_ Row.off (List._∷_ Row.alive (List._∷_ Row.alive (List._∷_ Row.off List.[]))))))));
         }
 
         abbrev G43 : Row.Cx
         G43 = record {
-          locals = List._++_ g25 t27;
+          locals = List._++_ g27 t29;
           slots = List._∷_ (Row.lease (κs .0) (qs .0)) (List._∷_ Row.off (List._∷_ Row.off (List._∷_ (Row.lease (κs .1 .1 .1 .0) (qs .1 .1 .1 .0)) (List._∷_ Row.off
-              (List._∷_ Row.off (List._∷_ Row.alive (List._∷_ Row.alive (List._∷_ Row.alive List.[]))))))));
+              (List._∷_ Row.off (List._∷_ Row.alive (List._∷_ Row.alive (List._∷_ Row.off List.[]))))))));
         }
 
         abbrev G44 : Row.Cx
         G44 = record {
-          locals = List._++_ g28 t29;
-          slots = List._∷_ (Row.lease (κs .0) (qs .0)) (List._∷_ Row.off (List._∷_ Row.off (List._∷_ Row.off (List._∷_ Row.off (List._∷_ Row.off (List._∷_ Row.alive
-              (List._∷_ Row.alive (List._∷_ Row.alive List.[]))))))));
+          locals = List._++_ g27 t29;
+          slots = List._∷_ (Row.lease (κs .0) (qs .0)) (List._∷_ Row.off (List._∷_ Row.off (List._∷_ (Row.lease (κs .1 .1 .1 .0) (qs .1 .1 .1 .0)) (List._∷_ Row.off
+              (List._∷_ Row.off (List._∷_ Row.alive (List._∷_ Row.alive (List._∷_ Row.alive List.[]))))))));
         }
 
         abbrev G45 : Row.Cx
         G45 = record {
-          locals = List._++_ g28 t30;
+          locals = List._++_ g30 t31;
           slots = List._∷_ (Row.lease (κs .0) (qs .0)) (List._∷_ Row.off (List._∷_ Row.off (List._∷_ Row.off (List._∷_ Row.off (List._∷_ Row.off (List._∷_ Row.alive
               (List._∷_ Row.alive (List._∷_ Row.alive List.[]))))))));
         }
 
         abbrev G46 : Row.Cx
         G46 = record {
-          locals = List._++_ g31 t32;
+          locals = List._++_ g30 t32;
           slots = List._∷_ (Row.lease (κs .0) (qs .0)) (List._∷_ Row.off (List._∷_ Row.off (List._∷_ Row.off (List._∷_ Row.off (List._∷_ Row.off (List._∷_ Row.alive
               (List._∷_ Row.alive (List._∷_ Row.alive List.[]))))))));
         }
 
         abbrev G47 : Row.Cx
         G47 = record {
-          locals = List._++_ g33 t32;
+          locals = List._++_ g33 t34;
           slots = List._∷_ (Row.lease (κs .0) (qs .0)) (List._∷_ Row.off (List._∷_ Row.off (List._∷_ Row.off (List._∷_ Row.off (List._∷_ Row.off (List._∷_ Row.alive
               (List._∷_ Row.alive (List._∷_ Row.alive List.[]))))))));
         }
 
         abbrev G48 : Row.Cx
         G48 = record {
-          locals = List._++_ g34 t32;
+          locals = List._++_ g35 t34;
           slots = List._∷_ (Row.lease (κs .0) (qs .0)) (List._∷_ Row.off (List._∷_ Row.off (List._∷_ Row.off (List._∷_ Row.off (List._∷_ Row.off (List._∷_ Row.alive
               (List._∷_ Row.alive (List._∷_ Row.alive List.[]))))))));
         }
 
         abbrev G49 : Row.Cx
         G49 = record {
-          locals = List._++_ g35 t32;
+          locals = List._++_ g36 t34;
           slots = List._∷_ (Row.lease (κs .0) (qs .0)) (List._∷_ Row.off (List._∷_ Row.off (List._∷_ Row.off (List._∷_ Row.off (List._∷_ Row.off (List._∷_ Row.alive
               (List._∷_ Row.alive (List._∷_ Row.alive List.[]))))))));
         }
 
         abbrev G50 : Row.Cx
         G50 = record {
-          locals = List._++_ g35 t32;
-          slots = List._∷_ (Row.lease (κs .0) (qs .0)) (List._∷_ Row.off (List._∷_ Row.off (List._∷_ Row.off (List._∷_ Row.off (List._∷_ Row.off (List._∷_ Row.dead
+          locals = List._++_ g37 t34;
+          slots = List._∷_ (Row.lease (κs .0) (qs .0)) (List._∷_ Row.off (List._∷_ Row.off (List._∷_ Row.off (List._∷_ Row.off (List._∷_ Row.off (List._∷_ Row.alive
               (List._∷_ Row.alive (List._∷_ Row.alive List.[]))))))));
         }
 
         abbrev G51 : Row.Cx
         G51 = record {
-          locals = List._++_ g36 t37;
-          slots = List._∷_ (Row.lease (κs .0) (qs .0)) (List._∷_ (Row.lease (κs .1 .0) (qs .1 .0)) (List._∷_ Row.off (List._∷_ Row.off (List._∷_ Row.off (List._∷_ Row.off
-              (List._∷_ Row.dead (List._∷_ Row.alive (List._∷_ Row.alive List.[]))))))));
+          locals = List._++_ g37 t34;
+          slots = List._∷_ (Row.lease (κs .0) (qs .0)) (List._∷_ Row.off (List._∷_ Row.off (List._∷_ Row.off (List._∷_ Row.off (List._∷_ Row.off (List._∷_ Row.dead
+              (List._∷_ Row.alive (List._∷_ Row.alive List.[]))))))));
         }
 
         abbrev G52 : Row.Cx
         G52 = record {
-          locals = List._++_ g36 t37;
+          locals = List._++_ g38 t39;
           slots = List._∷_ (Row.lease (κs .0) (qs .0)) (List._∷_ (Row.lease (κs .1 .0) (qs .1 .0)) (List._∷_ Row.off (List._∷_ Row.off (List._∷_ Row.off (List._∷_ Row.off
               (List._∷_ Row.dead (List._∷_ Row.alive (List._∷_ Row.alive List.[]))))))));
         }
 
         abbrev G53 : Row.Cx
         G53 = record {
-          locals = List._++_ g36 t37;
+          locals = List._++_ g38 t39;
           slots = List._∷_ (Row.lease (κs .0) (qs .0)) (List._∷_ (Row.lease (κs .1 .0) (qs .1 .0)) (List._∷_ Row.off (List._∷_ Row.off (List._∷_ Row.off (List._∷_ Row.off
-              (List._∷_ Row.off (List._∷_ Row.alive (List._∷_ Row.alive List.[]))))))));
+              (List._∷_ Row.dead (List._∷_ Row.alive (List._∷_ Row.alive List.[]))))))));
         }
 
         abbrev G54 : Row.Cx
         G54 = record {
-          locals = List._++_ g36 t37;
+          locals = List._++_ g38 t39;
           slots = List._∷_ (Row.lease (κs .0) (qs .0)) (List._∷_ (Row.lease (κs .1 .0) (qs .1 .0)) (List._∷_ Row.off (List._∷_ Row.off (List._∷_ Row.off (List._∷_ Row.off
-              (List._∷_ Row.off (List._∷_ Row.dead (List._∷_ Row.alive List.[]))))))));
+              (List._∷_ Row.off (List._∷_ Row.alive (List._∷_ Row.alive List.[]))))))));
         }
 
         abbrev G55 : Row.Cx
         G55 = record {
           locals = List._++_ g38 t39;
-          slots = List._∷_ (Row.lease (κs .0) (qs .0)) (List._∷_ (Row.lease (κs .1 .0) (qs .1 .0)) (List._∷_ (Row.lease (κs .1 .1 .0) (qs .1 .1 .0)) (List._∷_ Row.off
-              (List._∷_ Row.off (List._∷_ Row.off (List._∷_ Row.off (List._∷_ Row.dead (List._∷_ Row.alive List.[]))))))));
+          slots = List._∷_ (Row.lease (κs .0) (qs .0)) (List._∷_ (Row.lease (κs .1 .0) (qs .1 .0)) (List._∷_ Row.off (List._∷_ Row.off (List._∷_ Row.off (List._∷_ Row.off
+              (List._∷_ Row.off (List._∷_ Row.dead (List._∷_ Row.alive List.[]))))))));
         }
 
         abbrev G56 : Row.Cx
         G56 = record {
-          locals = List._++_ g38 t39;
+          locals = List._++_ g40 t41;
           slots = List._∷_ (Row.lease (κs .0) (qs .0)) (List._∷_ (Row.lease (κs .1 .0) (qs .1 .0)) (List._∷_ (Row.lease (κs .1 .1 .0) (qs .1 .1 .0)) (List._∷_ Row.off
               (List._∷_ Row.off (List._∷_ Row.off (List._∷_ Row.off (List._∷_ Row.dead (List._∷_ Row.alive List.[]))))))));
         }
 
         abbrev G57 : Row.Cx
         G57 = record {
-          locals = List._++_ g38 t39;
+          locals = List._++_ g40 t41;
           slots = List._∷_ (Row.lease (κs .0) (qs .0)) (List._∷_ (Row.lease (κs .1 .0) (qs .1 .0)) (List._∷_ (Row.lease (κs .1 .1 .0) (qs .1 .1 .0)) (List._∷_ Row.off
-              (List._∷_ Row.off (List._∷_ Row.off (List._∷_ Row.off (List._∷_ Row.off (List._∷_ Row.alive List.[]))))))));
+              (List._∷_ Row.off (List._∷_ Row.off (List._∷_ Row.off (List._∷_ Row.dead (List._∷_ Row.alive List.[]))))))));
         }
 
         abbrev G58 : Row.Cx
         G58 = record {
-          locals = List._++_ g38 t39;
+          locals = List._++_ g40 t41;
           slots = List._∷_ (Row.lease (κs .0) (qs .0)) (List._∷_ (Row.lease (κs .1 .0) (qs .1 .0)) (List._∷_ (Row.lease (κs .1 .1 .0) (qs .1 .1 .0)) (List._∷_ Row.off
-              (List._∷_ Row.off (List._∷_ Row.off (List._∷_ Row.off (List._∷_ Row.off (List._∷_ Row.dead List.[]))))))));
+              (List._∷_ Row.off (List._∷_ Row.off (List._∷_ Row.off (List._∷_ Row.off (List._∷_ Row.alive List.[]))))))));
         }
 
         abbrev G59 : Row.Cx
         G59 = record {
-          locals = List._++_ t40 t1;
-          slots = List._∷_ (Row.lease (κs .0) (qs .0)) (List._∷_ (Row.lease (κs .1 .0) (qs .1 .0)) (List._∷_ (Row.lease (κs .1 .1 .0) (qs .1 .1 .0)) (List._∷_ (Row.lease (κs
-              .1 .1 .1 .0) (qs .1 .1 .1 .0)) (List._∷_ Row.off (List._∷_ Row.off (List._∷_ Row.off (List._∷_ Row.off (List._∷_ Row.dead List.[]))))))));
+          locals = List._++_ g40 t41;
+          slots = List._∷_ (Row.lease (κs .0) (qs .0)) (List._∷_ (Row.lease (κs .1 .0) (qs .1 .0)) (List._∷_ (Row.lease (κs .1 .1 .0) (qs .1 .1 .0)) (List._∷_ Row.off
+              (List._∷_ Row.off (List._∷_ Row.off (List._∷_ Row.off (List._∷_ Row.off (List._∷_ Row.dead List.[]))))))));
         }
 
         abbrev G60 : Row.Cx
         G60 = record {
-          locals = List._++_ t40 t1;
+          locals = List._++_ t42 t1;
           slots = List._∷_ (Row.lease (κs .0) (qs .0)) (List._∷_ (Row.lease (κs .1 .0) (qs .1 .0)) (List._∷_ (Row.lease (κs .1 .1 .0) (qs .1 .1 .0)) (List._∷_ (Row.lease (κs
-              .1 .1 .1 .0) (qs .1 .1 .1 .0)) (List._∷_ Row.off (List._∷_ Row.off (List._∷_ Row.off (List._∷_ Row.off (List._∷_ Row.off List.[]))))))));
+              .1 .1 .1 .0) (qs .1 .1 .1 .0)) (List._∷_ Row.off (List._∷_ Row.off (List._∷_ Row.off (List._∷_ Row.off (List._∷_ Row.dead List.[]))))))));
         }
 
         abbrev G61 : Row.Cx
         G61 = record {
+          locals = List._++_ t42 t1;
+          slots = List._∷_ (Row.lease (κs .0) (qs .0)) (List._∷_ (Row.lease (κs .1 .0) (qs .1 .0)) (List._∷_ (Row.lease (κs .1 .1 .0) (qs .1 .1 .0)) (List._∷_ (Row.lease (κs
+              .1 .1 .1 .0) (qs .1 .1 .1 .0)) (List._∷_ Row.off (List._∷_ Row.off (List._∷_ Row.off (List._∷_ Row.off (List._∷_ Row.off List.[]))))))));
+        }
+
+        abbrev G62 : Row.Cx
+        G62 = record {
+          locals = List._++_ t43 t1;
+          slots = List._∷_ (Row.lease (κs .0) (qs .0)) (List._∷_ (Row.lease (κs .1 .0) (qs .1 .0)) (List._∷_ (Row.lease (κs .1 .1 .0) (qs .1 .1 .0)) (List._∷_ (Row.lease (κs
+              .1 .1 .1 .0) (qs .1 .1 .1 .0)) (List._∷_ Row.off (List._∷_ Row.off (List._∷_ Row.off (List._∷_ Row.off (List._∷_ Row.off List.[]))))))));
+        }
+
+        abbrev G63 : Row.Cx
+        G63 = record {
           locals = List._++_ t2 t1;
           slots = List._∷_ (Row.lease (κs .0) (qs .0)) (List._∷_ (Row.lease (κs .1 .0) (qs .1 .0)) (List._∷_ (Row.lease (κs .1 .1 .0) (qs .1 .1 .0)) (List._∷_ (Row.lease (κs
               .1 .1 .1 .0) (qs .1 .1 .1 .0)) (List._∷_ Row.off (List._∷_ Row.off (List._∷_ Row.off (List._∷_ Row.off (List._∷_ Row.off List.[]))))))));
@@ -1732,20 +1776,23 @@ module _ (claims· : Claims) where
           abbrev E : Wp.Env 𝓤 H
           E = Frame.EnvOf 𝓤 H (List._∷_ (Kinds.tyR r) (Enter.tysP ps xs)) bs
 
-          d0 : Typed.Typed 𝓤 H A 𝓣 E G35 b12 Δ1 at0
+          d0 : Typed.Typed 𝓤 H A 𝓣 E G36 b12 Δ1 at0
           d0 = Typed.t-return 𝓤 H A W 𝓣 E Δ1 tt
 
-          d1 : Typed.Typed 𝓤 H A 𝓣 E G34 b12 Δ1 at1
-          d1 = Typed.g-pre 𝓤 H A W 𝓣 E G34 G35 b12 Δ1 (Typed.pass T34 T35 s32) at0 (Scalar.g-room 𝓤 H A W E G34 8 (Syntax.tyInt Syntax.w64) (Scalar.room-sc 𝓤 H A W (Row.sInt Syntax.w64))) d0
+          d1 : Typed.Typed 𝓤 H A 𝓣 E G35 b12 Δ1 at1
+          d1 = Typed.g-pre 𝓤 H A W 𝓣 E G35 G36 b12 Δ1 (Typed.pass T35 T36 s33) at0 (Scalar.g-room 𝓤 H A W E G35 9 (Syntax.tyInt Syntax.w64) (Scalar.room-sc 𝓤 H A W (Row.sInt Syntax.w64))) d0
 
-          d2 : Typed.Typed 𝓤 H A 𝓣 E G33 b12 Δ1 at2
-          d2 = Typed.g-pre 𝓤 H A W 𝓣 E G33 G34 b12 Δ1 (Typed.pass T33 T34 s31) at1 (Scalar.g-room 𝓤 H A W E G33 7 (Syntax.tyInt Syntax.w32) (Scalar.room-sc 𝓤 H A W (Row.sInt Syntax.w32))) d1
+          d2 : Typed.Typed 𝓤 H A 𝓣 E G34 b12 Δ1 at2
+          d2 = Typed.g-pre 𝓤 H A W 𝓣 E G34 G35 b12 Δ1 (Typed.pass T34 T35 s32) at1 (Scalar.g-room 𝓤 H A W E G34 8 (Syntax.tyInt Syntax.w32) (Scalar.room-sc 𝓤 H A W (Row.sInt Syntax.w32))) d1
 
-          d3 : Typed.Typed 𝓤 H A 𝓣 E G32 b12 Δ1 at3
-          d3 = Typed.g-pre 𝓤 H A W 𝓣 E G32 G33 b12 Δ1 (Typed.pass T32 T33 s30) at2 (Scalar.g-room 𝓤 H A W E G32 6 (Syntax.tyInt Syntax.w64) (Scalar.room-sc 𝓤 H A W (Row.sInt Syntax.w64))) d2
+          d3 : Typed.Typed 𝓤 H A 𝓣 E G33 b12 Δ1 at3
+          d3 = Typed.g-pre 𝓤 H A W 𝓣 E G33 G34 b12 Δ1 (Typed.pass T33 T34 s31) at2 (Scalar.g-room 𝓤 H A W E G33 7 (Syntax.tyInt Syntax.w64) (Scalar.room-sc 𝓤 H A W (Row.sInt Syntax.w64))) d2
 
-          d4 : Typed.Typed 𝓤 H A 𝓣 E G31 b12 Δ1 at4
-          d4 = Typed.g-pre 𝓤 H A W 𝓣 E G31 G32 b12 Δ1 (Typed.pass T31 T32 s29) at3 (Scalar.g-room 𝓤 H A W E G31 16 (Syntax.tyEnum (List._∷_ 115 (List._∷_ 116 (List._∷_ 114 (List._∷_ 101 (List._∷_ 97
+          d4 : Typed.Typed 𝓤 H A 𝓣 E G32 b12 Δ1 at4
+          d4 = Typed.g-pre 𝓤 H A W 𝓣 E G32 G33 b12 Δ1 (Typed.pass T32 T33 s30) at3 (Scalar.g-room 𝓤 H A W E G32 3 Syntax.tyBool (Scalar.room-sc 𝓤 H A W Row.sBool)) d3
+
+          d5 : Typed.Typed 𝓤 H A 𝓣 E G31 b12 Δ1 at5
+          d5 = Typed.g-pre 𝓤 H A W 𝓣 E G31 G32 b12 Δ1 (Typed.pass T31 T32 s29) at4 (Scalar.g-room 𝓤 H A W E G31 17 (Syntax.tyEnum (List._∷_ 115 (List._∷_ 116 (List._∷_ 114 (List._∷_ 101 (List._∷_ 97
               (List._∷_ 109 (List._∷_ 58 (List._∷_ 58 (List._∷_ 82 (List._∷_ 101 (List._∷_ 102 (List._∷_ 117 (List._∷_ 115 (List._∷_ 97 (List._∷_ 108 List.[]))))))))))))))) (Syntax.ttcons Syntax.tnil
               (Syntax.ttcons Syntax.tnil (Syntax.ttcons Syntax.tnil (Syntax.ttcons (Syntax.tcons (Syntax.tyInt Syntax.w64) Syntax.tnil) (Syntax.ttcons Syntax.tnil (Syntax.ttcons Syntax.tnil (Syntax.ttcons
               Syntax.tnil (Syntax.ttcons Syntax.tnil (Syntax.ttcons Syntax.tnil (Syntax.ttcons Syntax.tnil (Syntax.ttcons (Syntax.tcons (Syntax.tyInt Syntax.w64) Syntax.tnil) (Syntax.ttcons (Syntax.tcons
@@ -1758,29 +1805,29 @@ module _ (claims· : Claims) where
               (Syntax.ttcons Syntax.tnil (Syntax.ttcons Syntax.tnil (Syntax.ttcons (Syntax.tcons (Syntax.tyInt Syntax.w64) Syntax.tnil) (Syntax.ttcons (Syntax.tcons (Syntax.tyInt Syntax.w64) Syntax.tnil)
               (Syntax.ttcons Syntax.tnil (Syntax.ttcons (Syntax.tcons (Syntax.tyInt Syntax.w64) (Syntax.tcons (Syntax.tyInt Syntax.w64) Syntax.tnil)) (Syntax.ttcons (Syntax.tcons (Syntax.tyInt Syntax.w64)
               Syntax.tnil) (Syntax.ttcons Syntax.tnil (Syntax.ttcons Syntax.tnil (Syntax.ttcons (Syntax.tcons (Syntax.tyInt Syntax.w64) Syntax.tnil) (Syntax.ttcons (Syntax.tcons (Syntax.tyInt Syntax.w64)
-              Syntax.tnil) (Syntax.ttcons (Syntax.tcons (Syntax.tyInt Syntax.w64) Syntax.tnil) (Syntax.ttcons Syntax.tnil Syntax.ttnil)))))))))))))))))))))) Path'.refl)) d3
+              Syntax.tnil) (Syntax.ttcons (Syntax.tcons (Syntax.tyInt Syntax.w64) Syntax.tnil) (Syntax.ttcons Syntax.tnil Syntax.ttnil)))))))))))))))))))))) Path'.refl)) d4
 
-          d5 : Typed.Typed 𝓤 H A 𝓣 E G30 b13 Δ1 at5
-          d5 = Typed.s-seq 𝓤 H A W 𝓣 E G30 G31 b11 b12 Δ1 (Typed.pass T30 T31 s28) at4 (Make.t-enum-make-wt 𝓤 H A W E 𝓣 Written.the-type Laws'.the-laws Laws'.the-plain tt G30 0 (List._∷_ (Scalar.oInt
-              Syntax.w8 1) (List._∷_ (Scalar.oAt 16 (Syntax.tyEnum (List._∷_ 115 (List._∷_ 116 (List._∷_ 114 (List._∷_ 101 (List._∷_ 97 (List._∷_ 109 (List._∷_ 58 (List._∷_ 58 (List._∷_ 82 (List._∷_ 101
-              (List._∷_ 102 (List._∷_ 117 (List._∷_ 115 (List._∷_ 97 (List._∷_ 108 List.[]))))))))))))))) (Syntax.ttcons Syntax.tnil (Syntax.ttcons Syntax.tnil (Syntax.ttcons Syntax.tnil (Syntax.ttcons
-              (Syntax.tcons (Syntax.tyInt Syntax.w64) Syntax.tnil) (Syntax.ttcons Syntax.tnil (Syntax.ttcons Syntax.tnil (Syntax.ttcons Syntax.tnil (Syntax.ttcons Syntax.tnil (Syntax.ttcons Syntax.tnil
-              (Syntax.ttcons Syntax.tnil (Syntax.ttcons (Syntax.tcons (Syntax.tyInt Syntax.w64) Syntax.tnil) (Syntax.ttcons (Syntax.tcons (Syntax.tyInt Syntax.w64) Syntax.tnil) (Syntax.ttcons Syntax.tnil
-              (Syntax.ttcons (Syntax.tcons (Syntax.tyInt Syntax.w64) (Syntax.tcons (Syntax.tyInt Syntax.w64) Syntax.tnil)) (Syntax.ttcons (Syntax.tcons (Syntax.tyInt Syntax.w64) Syntax.tnil)
+          d6 : Typed.Typed 𝓤 H A 𝓣 E G30 b13 Δ1 at6
+          d6 = Typed.s-seq 𝓤 H A W 𝓣 E G30 G31 b11 b12 Δ1 (Typed.pass T30 T31 s28) at5 (Make.t-enum-make-wt 𝓤 H A W E 𝓣 BlockLength.the-type Laws'.the-laws Laws'.the-plain tt G30 0 (List._∷_
+              (Scalar.oInt Syntax.w8 1) (List._∷_ (Scalar.oAt 17 (Syntax.tyEnum (List._∷_ 115 (List._∷_ 116 (List._∷_ 114 (List._∷_ 101 (List._∷_ 97 (List._∷_ 109 (List._∷_ 58 (List._∷_ 58 (List._∷_ 82
+              (List._∷_ 101 (List._∷_ 102 (List._∷_ 117 (List._∷_ 115 (List._∷_ 97 (List._∷_ 108 List.[]))))))))))))))) (Syntax.ttcons Syntax.tnil (Syntax.ttcons Syntax.tnil (Syntax.ttcons Syntax.tnil
+              (Syntax.ttcons (Syntax.tcons (Syntax.tyInt Syntax.w64) Syntax.tnil) (Syntax.ttcons Syntax.tnil (Syntax.ttcons Syntax.tnil (Syntax.ttcons Syntax.tnil (Syntax.ttcons Syntax.tnil (Syntax.ttcons
+              Syntax.tnil (Syntax.ttcons Syntax.tnil (Syntax.ttcons (Syntax.tcons (Syntax.tyInt Syntax.w64) Syntax.tnil) (Syntax.ttcons (Syntax.tcons (Syntax.tyInt Syntax.w64) Syntax.tnil) (Syntax.ttcons
+              Syntax.tnil (Syntax.ttcons (Syntax.tcons (Syntax.tyInt Syntax.w64) (Syntax.tcons (Syntax.tyInt Syntax.w64) Syntax.tnil)) (Syntax.ttcons (Syntax.tcons (Syntax.tyInt Syntax.w64) Syntax.tnil)
               (Syntax.ttcons Syntax.tnil (Syntax.ttcons Syntax.tnil (Syntax.ttcons (Syntax.tcons (Syntax.tyInt Syntax.w64) Syntax.tnil) (Syntax.ttcons (Syntax.tcons (Syntax.tyInt Syntax.w64) Syntax.tnil)
               (Syntax.ttcons (Syntax.tcons (Syntax.tyInt Syntax.w64) Syntax.tnil) (Syntax.ttcons Syntax.tnil Syntax.ttnil)))))))))))))))))))))) (Laws'3.val Refusal.the-type Laws''.the-laws)) List.[])) (λ
-              m. Written.enum .make (Logic.inr (Logic.inl (m .1 .1 .1 .1 .1 .1 .1 .1 .1 .1 .1 .1 .1 .1 .1 .1 .0, tt)))) (Reads'.room-gone 𝓤 H A (Syntax.tyEnum (List._∷_ 98 (List._∷_ 108 (List._∷_ 111
-              (List._∷_ 99 (List._∷_ 107 (List._∷_ 58 (List._∷_ 58 (List._∷_ 87 (List._∷_ 114 (List._∷_ 105 (List._∷_ 116 (List._∷_ 116 (List._∷_ 101 (List._∷_ 110 List.[])))))))))))))) (Syntax.ttcons
-              (Syntax.tcons (Syntax.tyInt Syntax.w64) Syntax.tnil) (Syntax.ttcons (Syntax.tcons (Syntax.tyEnum (List._∷_ 115 (List._∷_ 116 (List._∷_ 114 (List._∷_ 101 (List._∷_ 97 (List._∷_ 109 (List._∷_
-              58 (List._∷_ 58 (List._∷_ 82 (List._∷_ 101 (List._∷_ 102 (List._∷_ 117 (List._∷_ 115 (List._∷_ 97 (List._∷_ 108 List.[]))))))))))))))) (Syntax.ttcons Syntax.tnil (Syntax.ttcons Syntax.tnil
-              (Syntax.ttcons Syntax.tnil (Syntax.ttcons (Syntax.tcons (Syntax.tyInt Syntax.w64) Syntax.tnil) (Syntax.ttcons Syntax.tnil (Syntax.ttcons Syntax.tnil (Syntax.ttcons Syntax.tnil (Syntax.ttcons
-              Syntax.tnil (Syntax.ttcons Syntax.tnil (Syntax.ttcons Syntax.tnil (Syntax.ttcons (Syntax.tcons (Syntax.tyInt Syntax.w64) Syntax.tnil) (Syntax.ttcons (Syntax.tcons (Syntax.tyInt Syntax.w64)
-              Syntax.tnil) (Syntax.ttcons Syntax.tnil (Syntax.ttcons (Syntax.tcons (Syntax.tyInt Syntax.w64) (Syntax.tcons (Syntax.tyInt Syntax.w64) Syntax.tnil)) (Syntax.ttcons (Syntax.tcons
-              (Syntax.tyInt Syntax.w64) Syntax.tnil) (Syntax.ttcons Syntax.tnil (Syntax.ttcons Syntax.tnil (Syntax.ttcons (Syntax.tcons (Syntax.tyInt Syntax.w64) Syntax.tnil) (Syntax.ttcons (Syntax.tcons
-              (Syntax.tyInt Syntax.w64) Syntax.tnil) (Syntax.ttcons (Syntax.tcons (Syntax.tyInt Syntax.w64) Syntax.tnil) (Syntax.ttcons Syntax.tnil Syntax.ttnil)))))))))))))))))))))) Syntax.tnil)
-              Syntax.ttnil)))) (tt, ((Whole.reads-enum 𝓤 H A W Refusal.the-type Laws''.the-laws, Path'.refl), tt)) Path'.refl (λ m wa. Make.made-val Written.the-type Laws'.the-laws (List._∷_ (Laws'3.val
-              Refusal.the-type Laws''.the-laws (m .1 .1 .1 .1 .1 .1 .1 .1 .1 .1 .1 .1 .1 .1 .1 .1 .0)) List.[]) (Written.enum .make (Logic.inr (Logic.inl
-              (m .1 .1 .1 .1 .1 .1 .1 .1 .1 .1 .1 .1 .1 .1 .1 .1 .0, tt)))) (
+              m. BlockLength.enum .make (Logic.inr (Logic.inl (m .1 .1 .1 .1 .1 .1 .1 .1 .1 .1 .1 .1 .1 .1 .1 .1 .1 .0, tt)))) (Reads'.room-gone 𝓤 H A (Syntax.tyEnum (List._∷_ 115 (List._∷_ 116 (List._∷_
+              114 (List._∷_ 101 (List._∷_ 97 (List._∷_ 109 (List._∷_ 58 (List._∷_ 58 (List._∷_ 66 (List._∷_ 108 (List._∷_ 111 (List._∷_ 99 (List._∷_ 107 (List._∷_ 76 (List._∷_ 101 (List._∷_ 110 (List._∷_
+              103 (List._∷_ 116 (List._∷_ 104 List.[]))))))))))))))))))) (Syntax.ttcons (Syntax.tcons (Syntax.tyInt Syntax.w64) Syntax.tnil) (Syntax.ttcons (Syntax.tcons (Syntax.tyEnum (List._∷_ 115
+              (List._∷_ 116 (List._∷_ 114 (List._∷_ 101 (List._∷_ 97 (List._∷_ 109 (List._∷_ 58 (List._∷_ 58 (List._∷_ 82 (List._∷_ 101 (List._∷_ 102 (List._∷_ 117 (List._∷_ 115 (List._∷_ 97 (List._∷_ 108
+              List.[]))))))))))))))) (Syntax.ttcons Syntax.tnil (Syntax.ttcons Syntax.tnil (Syntax.ttcons Syntax.tnil (Syntax.ttcons (Syntax.tcons (Syntax.tyInt Syntax.w64) Syntax.tnil) (Syntax.ttcons
+              Syntax.tnil (Syntax.ttcons Syntax.tnil (Syntax.ttcons Syntax.tnil (Syntax.ttcons Syntax.tnil (Syntax.ttcons Syntax.tnil (Syntax.ttcons Syntax.tnil (Syntax.ttcons (Syntax.tcons (Syntax.tyInt
+              Syntax.w64) Syntax.tnil) (Syntax.ttcons (Syntax.tcons (Syntax.tyInt Syntax.w64) Syntax.tnil) (Syntax.ttcons Syntax.tnil (Syntax.ttcons (Syntax.tcons (Syntax.tyInt Syntax.w64) (Syntax.tcons
+              (Syntax.tyInt Syntax.w64) Syntax.tnil)) (Syntax.ttcons (Syntax.tcons (Syntax.tyInt Syntax.w64) Syntax.tnil) (Syntax.ttcons Syntax.tnil (Syntax.ttcons Syntax.tnil (Syntax.ttcons (Syntax.tcons
+              (Syntax.tyInt Syntax.w64) Syntax.tnil) (Syntax.ttcons (Syntax.tcons (Syntax.tyInt Syntax.w64) Syntax.tnil) (Syntax.ttcons (Syntax.tcons (Syntax.tyInt Syntax.w64) Syntax.tnil) (Syntax.ttcons
+              Syntax.tnil Syntax.ttnil)))))))))))))))))))))) Syntax.tnil) Syntax.ttnil)))) (tt, ((Whole.reads-enum 𝓤 H A W Refusal.the-type Laws''.the-laws, Path'.refl), tt)) Path'.refl (λ m wa.
+              Make.made-val BlockLength.the-type Laws'.the-laws (List._∷_ (Laws'3.val Refusal.the-type Laws''.the-laws (m .1 .1 .1 .1 .1 .1 .1 .1 .1 .1 .1 .1 .1 .1 .1 .1 .1 .0)) List.[]) (BlockLength.enum
+              .make (Logic.inr (Logic.inl (m .1 .1 .1 .1 .1 .1 .1 .1 .1 .1 .1 .1 .1 .1 .1 .1 .1 .0, tt)))) (
                 Signed.made-wt Refusal.the-field Laws''.the-field-laws (Whole.enum-wt Refusal.the-type Laws''.the-laws (
                   tt,
                   (
@@ -1815,10 +1862,11 @@ module _ (claims· : Claims) where
                     ),
                   ),
                 ))
-                    (Refusal.the-type .to (m .1 .1 .1 .1 .1 .1 .1 .1 .1 .1 .1 .1 .1 .1 .1 .1 .0)),
+                    (Refusal.the-type .to (m .1 .1 .1 .1 .1 .1 .1 .1 .1 .1 .1 .1 .1 .1 .1 .1 .1 .0)),
                 tt,
-              ) (wa .1)) λ m wa. Make.made-is Written.the-type Laws'.the-laws (List._∷_ (Laws'3.val Refusal.the-type
-              Laws''.the-laws (m .1 .1 .1 .1 .1 .1 .1 .1 .1 .1 .1 .1 .1 .1 .1 .1 .0)) List.[]) (Written.enum .make (Logic.inr (Logic.inl (m .1 .1 .1 .1 .1 .1 .1 .1 .1 .1 .1 .1 .1 .1 .1 .1 .0, tt)))) (
+              ) (wa .1)) λ m wa. Make.made-is BlockLength.the-type Laws'.the-laws (List._∷_ (Laws'3.val Refusal.the-type
+              Laws''.the-laws (m .1 .1 .1 .1 .1 .1 .1 .1 .1 .1 .1 .1 .1 .1 .1 .1 .1 .0)) List.[]) (BlockLength.enum .make (Logic.inr (Logic.inl
+              (m .1 .1 .1 .1 .1 .1 .1 .1 .1 .1 .1 .1 .1 .1 .1 .1 .1 .0, tt)))) (
                 Signed.made-wt Refusal.the-field Laws''.the-field-laws (Whole.enum-wt Refusal.the-type Laws''.the-laws (
                   tt,
                   (
@@ -1853,211 +1901,217 @@ module _ (claims· : Claims) where
                     ),
                   ),
                 ))
-                    (Refusal.the-type .to (m .1 .1 .1 .1 .1 .1 .1 .1 .1 .1 .1 .1 .1 .1 .1 .1 .0)),
+                    (Refusal.the-type .to (m .1 .1 .1 .1 .1 .1 .1 .1 .1 .1 .1 .1 .1 .1 .1 .1 .1 .0)),
                 tt,
-              ) (wa .1)) d4
+              ) (wa .1)) d5
 
-          d6 : Typed.Typed 𝓤 H A 𝓣 E G29 b14 Δ1 at6
-          d6 = Typed.s-seq 𝓤 H A W 𝓣 E G29 G30 b10 b13 Δ1 (Typed.pass T28 T30 s27) at5 (Make.t-enum-make-wt 𝓤 H A W E 𝓣 Refusal.the-type Laws''.the-laws Laws''.the-plain tt G29 16 (List._∷_
-              (Scalar.oInt Syntax.w8 10) (List._∷_ (Scalar.oAt 8 (Syntax.tyInt Syntax.w64) (Row.valS (Row.sInt Syntax.w64))) List.[])) (λ m. Refusal.enum .make (Logic.inr (Logic.inr (Logic.inr (Logic.inr
-              (Logic.inr (Logic.inr (Logic.inr (Logic.inr (Logic.inr (Logic.inr (Logic.inl (m .1 .1 .1 .1 .1 .1 .1 .1 .0, tt))))))))))))) (Reads'.room-gone 𝓤 H A (Syntax.tyEnum (List._∷_ 115 (List._∷_ 116
-              (List._∷_ 114 (List._∷_ 101 (List._∷_ 97 (List._∷_ 109 (List._∷_ 58 (List._∷_ 58 (List._∷_ 82 (List._∷_ 101 (List._∷_ 102 (List._∷_ 117 (List._∷_ 115 (List._∷_ 97 (List._∷_ 108
+          d7 : Typed.Typed 𝓤 H A 𝓣 E G29 b14 Δ1 at7
+          d7 = Typed.s-seq 𝓤 H A W 𝓣 E G29 G30 b10 b13 Δ1 (Typed.pass T28 T30 s27) at6 (Make.t-enum-make-wt 𝓤 H A W E 𝓣 Refusal.the-type Laws''.the-laws Laws''.the-plain tt G29 17 (List._∷_
+              (Scalar.oInt Syntax.w8 10) (List._∷_ (Scalar.oAt 9 (Syntax.tyInt Syntax.w64) (Row.valS (Row.sInt Syntax.w64))) List.[])) (λ m. Refusal.enum .make (Logic.inr (Logic.inr (Logic.inr (Logic.inr
+              (Logic.inr (Logic.inr (Logic.inr (Logic.inr (Logic.inr (Logic.inr (Logic.inl (m .1 .1 .1 .1 .1 .1 .1 .1 .1 .0, tt))))))))))))) (Reads'.room-gone 𝓤 H A (Syntax.tyEnum (List._∷_ 115 (List._∷_
+              116 (List._∷_ 114 (List._∷_ 101 (List._∷_ 97 (List._∷_ 109 (List._∷_ 58 (List._∷_ 58 (List._∷_ 82 (List._∷_ 101 (List._∷_ 102 (List._∷_ 117 (List._∷_ 115 (List._∷_ 97 (List._∷_ 108
               List.[]))))))))))))))) (Syntax.ttcons Syntax.tnil (Syntax.ttcons Syntax.tnil (Syntax.ttcons Syntax.tnil (Syntax.ttcons (Syntax.tcons (Syntax.tyInt Syntax.w64) Syntax.tnil) (Syntax.ttcons
               Syntax.tnil (Syntax.ttcons Syntax.tnil (Syntax.ttcons Syntax.tnil (Syntax.ttcons Syntax.tnil (Syntax.ttcons Syntax.tnil (Syntax.ttcons Syntax.tnil (Syntax.ttcons (Syntax.tcons (Syntax.tyInt
               Syntax.w64) Syntax.tnil) (Syntax.ttcons (Syntax.tcons (Syntax.tyInt Syntax.w64) Syntax.tnil) (Syntax.ttcons Syntax.tnil (Syntax.ttcons (Syntax.tcons (Syntax.tyInt Syntax.w64) (Syntax.tcons
               (Syntax.tyInt Syntax.w64) Syntax.tnil)) (Syntax.ttcons (Syntax.tcons (Syntax.tyInt Syntax.w64) Syntax.tnil) (Syntax.ttcons Syntax.tnil (Syntax.ttcons Syntax.tnil (Syntax.ttcons (Syntax.tcons
               (Syntax.tyInt Syntax.w64) Syntax.tnil) (Syntax.ttcons (Syntax.tcons (Syntax.tyInt Syntax.w64) Syntax.tnil) (Syntax.ttcons (Syntax.tcons (Syntax.tyInt Syntax.w64) Syntax.tnil) (Syntax.ttcons
               Syntax.tnil Syntax.ttnil))))))))))))))))))))))) (tt, ((Scalar.reads-sc 𝓤 H A W (Row.sInt Syntax.w64), Path'.refl), tt)) Path'.refl (λ m wa. Make.made-val Refusal.the-type Laws''.the-laws
-              (List._∷_ (Laws''.the-laws .1 .1 .1 .1 .1 .1 .1 .1 .1 .1 .0 .0 .val (m .1 .1 .1 .1 .1 .1 .1 .1 .0)) List.[]) (Refusal.enum .make (Logic.inr (Logic.inr (Logic.inr (Logic.inr (Logic.inr
-              (Logic.inr (Logic.inr (Logic.inr (Logic.inr (Logic.inr (Logic.inl (m .1 .1 .1 .1 .1 .1 .1 .1 .0, tt)))))))))))))
-              (Signed.made-wt Field.u64-field (Laws''.the-laws .1 .1 .1 .1 .1 .1 .1 .1 .1 .1 .0 .0) Make'.u64-wt (m .1 .1 .1 .1 .1 .1 .1 .1 .0), tt) (wa .1)) λ m wa. Make.made-is Refusal.the-type
-              Laws''.the-laws (List._∷_ (Laws''.the-laws .1 .1 .1 .1 .1 .1 .1 .1 .1 .1 .0 .0 .val (m .1 .1 .1 .1 .1 .1 .1 .1 .0)) List.[]) (Refusal.enum .make (Logic.inr (Logic.inr (Logic.inr (Logic.inr
-              (Logic.inr (Logic.inr (Logic.inr (Logic.inr (Logic.inr (Logic.inr (Logic.inl (m .1 .1 .1 .1 .1 .1 .1 .1 .0, tt)))))))))))))
-              (Signed.made-wt Field.u64-field (Laws''.the-laws .1 .1 .1 .1 .1 .1 .1 .1 .1 .1 .0 .0) Make'.u64-wt (m .1 .1 .1 .1 .1 .1 .1 .1 .0), tt) (wa .1)) d5
+              (List._∷_ (Laws''.the-laws .1 .1 .1 .1 .1 .1 .1 .1 .1 .1 .0 .0 .val (m .1 .1 .1 .1 .1 .1 .1 .1 .1 .0)) List.[]) (Refusal.enum .make (Logic.inr (Logic.inr (Logic.inr (Logic.inr (Logic.inr
+              (Logic.inr (Logic.inr (Logic.inr (Logic.inr (Logic.inr (Logic.inl (m .1 .1 .1 .1 .1 .1 .1 .1 .1 .0, tt)))))))))))))
+              (Signed.made-wt Field.u64-field (Laws''.the-laws .1 .1 .1 .1 .1 .1 .1 .1 .1 .1 .0 .0) Make'.u64-wt (m .1 .1 .1 .1 .1 .1 .1 .1 .1 .0), tt) (wa .1)) λ m wa. Make.made-is Refusal.the-type
+              Laws''.the-laws (List._∷_ (Laws''.the-laws .1 .1 .1 .1 .1 .1 .1 .1 .1 .1 .0 .0 .val (m .1 .1 .1 .1 .1 .1 .1 .1 .1 .0)) List.[]) (Refusal.enum .make (Logic.inr (Logic.inr (Logic.inr
+              (Logic.inr (Logic.inr (Logic.inr (Logic.inr (Logic.inr (Logic.inr (Logic.inr (Logic.inl (m .1 .1 .1 .1 .1 .1 .1 .1 .1 .0, tt)))))))))))))
+              (Signed.made-wt Field.u64-field (Laws''.the-laws .1 .1 .1 .1 .1 .1 .1 .1 .1 .1 .0 .0) Make'.u64-wt (m .1 .1 .1 .1 .1 .1 .1 .1 .1 .0), tt) (wa .1)) d6
 
-          d7 : Typed.Typed 𝓤 H A 𝓣 E G28 b14 Δ1 at7
-          d7 = Typed.g-pre 𝓤 H A W 𝓣 E G28 G29 b14 Δ1 (λ Ψ. Ψ) at6 (Lifetime.g-forget 𝓤 H A W E G28 5 Row.dead Path'.refl) d6
+          d8 : Typed.Typed 𝓤 H A 𝓣 E G28 b14 Δ1 at8
+          d8 = Typed.g-pre 𝓤 H A W 𝓣 E G28 G29 b14 Δ1 (λ Ψ. Ψ) at7 (Lifetime.g-forget 𝓤 H A W E G28 5 Row.dead Path'.refl) d7
 
-          d8 : Typed.Typed 𝓤 H A 𝓣 E G27 b14 Δ1 at8
-          d8 = Typed.g-pre 𝓤 H A W 𝓣 E G27 G28 b14 Δ1 (Typed.both s25) at7 (Relend.g-back-sl 𝓤 H A W E (Element.type) G27 15 4 3 5 (Syntax.tyRef (Syntax.named 3) Syntax.mut Element.behind)
+          d9 : Typed.Typed 𝓤 H A 𝓣 E G27 b14 Δ1 at9
+          d9 = Typed.g-pre 𝓤 H A W 𝓣 E G27 G28 b14 Δ1 (Typed.both s25) at8 (Relend.g-back-sl 𝓤 H A W E (Element.type) G27 16 5 3 5 (Syntax.tyRef (Syntax.named 3) Syntax.mut Element.behind)
               (Syntax.tyRef Syntax.erased Syntax.mut Element.behind) (Row.lease (κs .1 .1 .1 .0) (qs .1 .1 .1 .0)) (λ x. x) (λ x. x) (Reads'.as-is 𝓤 H A (Mut.msleft (Element.type) (Syntax.tyRef
               Syntax.erased Syntax.mut Element.behind))) (Reads'.as-is 𝓤 H A (Relend.mslice-owed (Element.type) (Syntax.tyRef (Syntax.named 3) Syntax.mut Element.behind) 3 5 (Row.lease (κs .1 .1 .1 .0)
-              (qs .1 .1 .1 .0)))) Path'.refl Path'.refl) d7
+              (qs .1 .1 .1 .0)))) Path'.refl Path'.refl) d8
 
-          d9 : Typed.Typed 𝓤 H A 𝓣 E G26 b14 Δ1 at9
-          d9 = Typed.g-pre 𝓤 H A W 𝓣 E G26 G27 b14 Δ1 (λ Ψ. Ψ) at8 (Lifetime.g-end 𝓤 H A W E G26 5 Path'.refl) d8
+          d10 : Typed.Typed 𝓤 H A 𝓣 E G26 b14 Δ1 at10
+          d10 = Typed.g-pre 𝓤 H A W 𝓣 E G26 G27 b14 Δ1 (λ Ψ. Ψ) at9 (Lifetime.g-end 𝓤 H A W E G26 5 Path'.refl) d9
 
-          d10 : Typed.Typed 𝓤 H A 𝓣 E G25 b14 Δ1 at10
-          d10 = Typed.g-pre 𝓤 H A W 𝓣 E G25 G26 b14 Δ1 (Typed.pass T25 T26 s23) at9 (Scalar.g-room 𝓤 H A W E G25 11 Syntax.tyUnit (Scalar.room-sc 𝓤 H A W Row.sUnit)) d9
+          d11 : Typed.Typed 𝓤 H A 𝓣 E G25 b14 Δ1 at11
+          d11 = Typed.g-pre 𝓤 H A W 𝓣 E G25 G26 b14 Δ1 (Typed.pass T25 T26 s23) at10 (Scalar.g-room 𝓤 H A W E G25 12 Syntax.tyUnit (Scalar.room-sc 𝓤 H A W Row.sUnit)) d10
 
-          d11 : Typed.Typed 𝓤 H A 𝓣 E G24 b15 Δ1 at11
-          d11 = Typed.s-seq 𝓤 H A W 𝓣 E G24 G25 b9 b14 Δ1 (Typed.both s22) at10 (Plain.t-call-plain 𝓤 H A W 𝓣 1 ps·3 r·3 (claims· .6) (claims· .7) "block::records::clear_records" (known .3) E (λ pos
-              β. β) G24 (record { pos = 15; ty = Syntax.tyRef Syntax.erased Syntax.mut Element.behind; ref = λ x. x }, tt) 11 (List._∷_ 5 List.[]) (Call.sub-id 𝓤 H A W (G24 .slots)) (
+          d12 : Typed.Typed 𝓤 H A 𝓣 E G24 b15 Δ1 at12
+          d12 = Typed.s-seq 𝓤 H A W 𝓣 E G24 G25 b9 b14 Δ1 (Typed.both s22) at11 (Plain.t-call-plain 𝓤 H A W 𝓣 1 ps·3 r·3 (claims· .6) (claims· .7) "block::records::clear_records" (known .3) E (λ pos
+              β. β) G24 (record { pos = 16; ty = Syntax.tyRef Syntax.erased Syntax.mut Element.behind; ref = λ x. x }, tt) 12 (List._∷_ 5 List.[]) (Call.sub-id 𝓤 H A W (G24 .slots)) (
                 Reads'.as-is 𝓤 H A (Mut.mslice (Element.type) (Syntax.tyRef Syntax.erased Syntax.mut Element.behind) 5),
                 Mut.reads-mslice 𝓤 H A W (Element.type) (Syntax.tyRef Syntax.erased Syntax.mut
                     Element.behind) 5,
                 Path'.refl,
                 tt,
-              ) (Reads'.room-gone 𝓤 H A Syntax.tyUnit) (tt, tt) Path'.refl) d10
+              ) (Reads'.room-gone 𝓤 H A Syntax.tyUnit) (tt, tt) Path'.refl) d11
 
-          d12 : Typed.Typed 𝓤 H A 𝓣 E G23 b16 Δ1 at12
-          d12 = Typed.s-seq 𝓤 H A W 𝓣 E G23 G24 b8 b15 Δ1 (Typed.ask s21) at11 (Relend.t-sl-aggregate 𝓤 H A W E (Element.type) 𝓣 (Relend.asMut (Element.type)) G23 14 15 5 (Syntax.tyRef Syntax.erased
-              Syntax.mut Element.behind) (Syntax.tyRef Syntax.erased Syntax.mut Element.behind) (λ x. x) (Scalar.oFld 4 (List._∷_ (Syntax.field 1) List.[]) (Syntax.tyInt Syntax.w64) 8 λ v. Shared.lenV (v
+          d13 : Typed.Typed 𝓤 H A 𝓣 E G23 b16 Δ1 at13
+          d13 = Typed.s-seq 𝓤 H A W 𝓣 E G23 G24 b8 b15 Δ1 (Typed.ask s21) at12 (Relend.t-sl-aggregate 𝓤 H A W E (Element.type) 𝓣 (Relend.asMut (Element.type)) G23 15 16 5 (Syntax.tyRef Syntax.erased
+              Syntax.mut Element.behind) (Syntax.tyRef Syntax.erased Syntax.mut Element.behind) (λ x. x) (Scalar.oFld 5 (List._∷_ (Syntax.field 1) List.[]) (Syntax.tyInt Syntax.w64) 8 λ v. Shared.lenV (v
               .0)) (Reads'.as-is 𝓤 H A (Relend.msptr (Element.type) (Syntax.tyRef Syntax.erased Syntax.mut Element.behind) 5)) (Reads'.room-gone 𝓤 H A y2)
               (Relend.reads-owed-len 𝓤 H A W (Element.type) (Syntax.tyRef (Syntax.named 3) Syntax.mut Element.behind) 3 5 (Row.lease (κs .1 .1 .1 .0) (qs .1 .1 .1 .0)) 8 Path'.refl, Path'.refl) Path'.refl
-              Path'.refl λ b o k. tt) d11
+              Path'.refl λ b o k. tt) d12
 
-          d13 : Typed.Typed 𝓤 H A 𝓣 E G22 b17 Δ1 at13
-          d13 = Typed.s-seq 𝓤 H A W 𝓣 E G22 G23 b7 b16 Δ1 (Typed.give s20) at12 (Relend.t-sl-relend 𝓤 H A W E (Element.type) 𝓣 G22 4 14 3 5 (Syntax.tyRef (Syntax.named 3) Syntax.mut Element.behind)
+          d14 : Typed.Typed 𝓤 H A 𝓣 E G22 b17 Δ1 at14
+          d14 = Typed.s-seq 𝓤 H A W 𝓣 E G22 G23 b7 b16 Δ1 (Typed.give s20) at13 (Relend.t-sl-relend 𝓤 H A W E (Element.type) 𝓣 G22 5 15 3 5 (Syntax.tyRef (Syntax.named 3) Syntax.mut Element.behind)
               (Syntax.tyRef Syntax.erased Syntax.mut Element.behind) (Row.lease (κs .1 .1 .1 .0) (qs .1 .1 .1 .0)) 0 (λ x. x) (Reads'.as-is 𝓤 H A (Mut.mslice (Element.type) (Syntax.tyRef (Syntax.named 3)
-              Syntax.mut Element.behind) 3)) (Reads'.room-gone 𝓤 H A (Syntax.tyRef Syntax.erased Syntax.mut Element.behind)) Path'.refl tt Path'.refl Path'.refl Path'.refl λ b o. tt) d12
+              Syntax.mut Element.behind) 3)) (Reads'.room-gone 𝓤 H A (Syntax.tyRef Syntax.erased Syntax.mut Element.behind)) Path'.refl tt Path'.refl Path'.refl Path'.refl λ b o. tt) d13
 
-          d14 : Typed.Typed 𝓤 H A 𝓣 E G21 b17 Δ1 at14
-          d14 = Typed.g-pre 𝓤 H A W 𝓣 E G21 G22 b17 Δ1 (λ Ψ. Ψ) at13 (Lifetime.g-begin 𝓤 H A W E G21 5
-              (tt, (tt, (tt, (tt, (tt, (tt, (tt, (tt, (tt, (tt, (tt, (tt, (tt, (tt, (tt, (tt, (tt, (tt, (tt, (tt, (tt, (tt, (tt, tt)))))))))))))))))))))))) d13
+          d15 : Typed.Typed 𝓤 H A 𝓣 E G21 b17 Δ1 at15
+          d15 = Typed.g-pre 𝓤 H A W 𝓣 E G21 G22 b17 Δ1 (λ Ψ. Ψ) at14 (Lifetime.g-begin 𝓤 H A W E G21 5
+              (tt, (tt, (tt, (tt, (tt, (tt, (tt, (tt, (tt, (tt, (tt, (tt, (tt, (tt, (tt, (tt, (tt, (tt, (tt, (tt, (tt, (tt, (tt, (tt, tt))))))))))))))))))))))))) d14
 
-          d15 : Typed.Typed 𝓤 H A 𝓣 E G20 b17 Δ1 at15
-          d15 = Typed.g-pre 𝓤 H A W 𝓣 E G20 G21 b17 Δ1 (λ Ψ. Ψ) at14 (Lifetime.g-forget 𝓤 H A W E G20 4 Row.dead Path'.refl) d14
+          d16 : Typed.Typed 𝓤 H A 𝓣 E G20 b17 Δ1 at16
+          d16 = Typed.g-pre 𝓤 H A W 𝓣 E G20 G21 b17 Δ1 (λ Ψ. Ψ) at15 (Lifetime.g-forget 𝓤 H A W E G20 4 Row.dead Path'.refl) d15
 
-          d16 : Typed.Typed 𝓤 H A 𝓣 E G19 b17 Δ1 at16
-          d16 = Typed.g-pre 𝓤 H A W 𝓣 E G19 G20 b17 Δ1 (Typed.give s17) at15 (Know.g-sl-known 𝓤 H A W (Referent.fInt Syntax.w16) E G19 3 2 (Syntax.tyRef (Syntax.named 2) Syntax.mut (Syntax.tyInt
+          d17 : Typed.Typed 𝓤 H A 𝓣 E G19 b17 Δ1 at17
+          d17 = Typed.g-pre 𝓤 H A W 𝓣 E G19 G20 b17 Δ1 (Typed.give s17) at16 (Know.g-sl-known 𝓤 H A W (Referent.fInt Syntax.w16) E G19 4 2 (Syntax.tyRef (Syntax.named 2) Syntax.mut (Syntax.tyInt
               Syntax.w16)) (Row.lease (κs .1 .1 .0) (qs .1 .1 .0)) 0 (λ x. x) record { fits = Dec'.lit< tt } (Reads'.as-is 𝓤 H A (Mut.mslice (Referent.rtF (Referent.fInt Syntax.w16)) (Syntax.tyRef
-              (Syntax.named 2) Syntax.mut (Syntax.tyInt Syntax.w16)) 2)) Path'.refl tt) d15
+              (Syntax.named 2) Syntax.mut (Syntax.tyInt Syntax.w16)) 2)) Path'.refl tt) d16
 
-          d17 : Typed.Typed 𝓤 H A 𝓣 E G18 b17 Δ1 at17
-          d17 = Typed.g-pre 𝓤 H A W 𝓣 E G18 G19 b17 Δ1 (Typed.both s16) at16 (Relend.g-back-sl 𝓤 H A W E (Referent.rtF (Referent.fInt Syntax.w16)) G18 13 3 2 4 (Syntax.tyRef (Syntax.named 2)
+          d18 : Typed.Typed 𝓤 H A 𝓣 E G18 b17 Δ1 at18
+          d18 = Typed.g-pre 𝓤 H A W 𝓣 E G18 G19 b17 Δ1 (Typed.both s16) at17 (Relend.g-back-sl 𝓤 H A W E (Referent.rtF (Referent.fInt Syntax.w16)) G18 14 4 2 4 (Syntax.tyRef (Syntax.named 2)
               Syntax.mut (Syntax.tyInt Syntax.w16)) (Syntax.tyRef Syntax.erased Syntax.mut (Syntax.tyInt Syntax.w16)) (Row.lease (κs .1 .1 .0) (qs .1 .1 .0)) (λ x. x) (λ x. x) (Reads'.as-is 𝓤 H A
               (Mut.msleft (Referent.rtF (Referent.fInt Syntax.w16)) (Syntax.tyRef Syntax.erased Syntax.mut (Syntax.tyInt Syntax.w16)))) (Reads'.as-is 𝓤 H A (Relend.mslice-owed (Referent.rtF (Referent.fInt
-              Syntax.w16)) (Syntax.tyRef (Syntax.named 2) Syntax.mut (Syntax.tyInt Syntax.w16)) 2 4 (Row.lease (κs .1 .1 .0) (qs .1 .1 .0)))) Path'.refl Path'.refl) d16
+              Syntax.w16)) (Syntax.tyRef (Syntax.named 2) Syntax.mut (Syntax.tyInt Syntax.w16)) 2 4 (Row.lease (κs .1 .1 .0) (qs .1 .1 .0)))) Path'.refl Path'.refl) d17
 
-          d18 : Typed.Typed 𝓤 H A 𝓣 E G17 b17 Δ1 at18
-          d18 = Typed.g-pre 𝓤 H A W 𝓣 E G17 G18 b17 Δ1 (λ Ψ. Ψ) at17 (Lifetime.g-end 𝓤 H A W E G17 4 Path'.refl) d17
+          d19 : Typed.Typed 𝓤 H A 𝓣 E G17 b17 Δ1 at19
+          d19 = Typed.g-pre 𝓤 H A W 𝓣 E G17 G18 b17 Δ1 (λ Ψ. Ψ) at18 (Lifetime.g-end 𝓤 H A W E G17 4 Path'.refl) d18
 
-          d19 : Typed.Typed 𝓤 H A 𝓣 E G16 b17 Δ1 at19
-          d19 = Typed.g-pre 𝓤 H A W 𝓣 E G16 G17 b17 Δ1 (Typed.pass T16 T17 s14) at18 (Scalar.g-room 𝓤 H A W E G16 11 Syntax.tyUnit (Scalar.room-sc 𝓤 H A W Row.sUnit)) d18
+          d20 : Typed.Typed 𝓤 H A 𝓣 E G16 b17 Δ1 at20
+          d20 = Typed.g-pre 𝓤 H A W 𝓣 E G16 G17 b17 Δ1 (Typed.pass T16 T17 s14) at19 (Scalar.g-room 𝓤 H A W E G16 12 Syntax.tyUnit (Scalar.room-sc 𝓤 H A W Row.sUnit)) d19
 
-          d20 : Typed.Typed 𝓤 H A 𝓣 E G15 b18 Δ1 at20
-          d20 = Typed.s-seq 𝓤 H A W 𝓣 E G15 G16 b6 b17 Δ1 (Typed.both s13) at19 (Plain.t-call-plain 𝓤 H A W 𝓣 1 ps·2 r·2 (claims· .4) (claims· .5) "lines::clear" (known .2) E (λ pos β. β) G15
-              (record { pos = 13; ty = Syntax.tyRef Syntax.erased Syntax.mut (Syntax.tyInt Syntax.w16); ref = λ x. x }, tt) 11 (List._∷_ 4 List.[]) (Call.sub-id 𝓤 H A W (G15 .slots)) (
+          d21 : Typed.Typed 𝓤 H A 𝓣 E G15 b18 Δ1 at21
+          d21 = Typed.s-seq 𝓤 H A W 𝓣 E G15 G16 b6 b17 Δ1 (Typed.both s13) at20 (Plain.t-call-plain 𝓤 H A W 𝓣 1 ps·2 r·2 (claims· .4) (claims· .5) "lines::clear" (known .2) E (λ pos β. β) G15
+              (record { pos = 14; ty = Syntax.tyRef Syntax.erased Syntax.mut (Syntax.tyInt Syntax.w16); ref = λ x. x }, tt) 12 (List._∷_ 4 List.[]) (Call.sub-id 𝓤 H A W (G15 .slots)) (
                 Reads'.as-is 𝓤 H A (Mut.mslice (Referent.rtF (Referent.fInt Syntax.w16)) (Syntax.tyRef Syntax.erased Syntax.mut (Syntax.tyInt Syntax.w16)) 4),
                 Mut.reads-mslice 𝓤 H A W (Referent.rtF
                     (Referent.fInt Syntax.w16)) (Syntax.tyRef Syntax.erased Syntax.mut (Syntax.tyInt Syntax.w16)) 4,
                 Path'.refl,
                 tt,
-              ) (Reads'.room-gone 𝓤 H A Syntax.tyUnit) (tt, tt) Path'.refl) d19
+              ) (Reads'.room-gone 𝓤 H A Syntax.tyUnit) (tt, tt) Path'.refl) d20
 
-          d21 : Typed.Typed 𝓤 H A 𝓣 E G14 b19 Δ1 at21
-          d21 = Typed.s-seq 𝓤 H A W 𝓣 E G14 G15 b5 b18 Δ1 (Typed.ask s12) at20 (Relend.t-sl-aggregate 𝓤 H A W E (Referent.rtF (Referent.fInt Syntax.w16)) 𝓣 (Relend.asMut (Referent.rtF (Referent.fInt
-              Syntax.w16))) G14 12 13 4 (Syntax.tyRef Syntax.erased Syntax.mut (Syntax.tyInt Syntax.w16)) (Syntax.tyRef Syntax.erased Syntax.mut (Syntax.tyInt Syntax.w16)) (λ x. x) (Scalar.oFld 3
+          d22 : Typed.Typed 𝓤 H A 𝓣 E G14 b19 Δ1 at22
+          d22 = Typed.s-seq 𝓤 H A W 𝓣 E G14 G15 b5 b18 Δ1 (Typed.ask s12) at21 (Relend.t-sl-aggregate 𝓤 H A W E (Referent.rtF (Referent.fInt Syntax.w16)) 𝓣 (Relend.asMut (Referent.rtF (Referent.fInt
+              Syntax.w16))) G14 13 14 4 (Syntax.tyRef Syntax.erased Syntax.mut (Syntax.tyInt Syntax.w16)) (Syntax.tyRef Syntax.erased Syntax.mut (Syntax.tyInt Syntax.w16)) (λ x. x) (Scalar.oFld 4
               (List._∷_ (Syntax.field 1) List.[]) (Syntax.tyInt Syntax.w64) 8 λ v. Shared.lenV (v .0)) (Reads'.as-is 𝓤 H A (Relend.msptr (Referent.rtF (Referent.fInt Syntax.w16)) (Syntax.tyRef
               Syntax.erased Syntax.mut (Syntax.tyInt Syntax.w16)) 4)) (Reads'.room-gone 𝓤 H A y0) (
                 Relend.reads-owed-len 𝓤 H A W (Referent.rtF (Referent.fInt Syntax.w16)) (Syntax.tyRef (Syntax.named 2) Syntax.mut (Syntax.tyInt Syntax.w16)) 2 4 (Row.lease (κs .1 .1 .0) (qs .1 .1 .0)) 8
                     Path'.refl,
                 Path'.refl,
-              ) Path'.refl Path'.refl λ b o k. tt) d20
+              ) Path'.refl Path'.refl λ b o k. tt) d21
 
-          d22 : Typed.Typed 𝓤 H A 𝓣 E G13 b20 Δ1 at22
-          d22 = Typed.s-seq 𝓤 H A W 𝓣 E G13 G14 b4 b19 Δ1 (Typed.give s11) at21 (Relend.t-sl-relend 𝓤 H A W E (Referent.rtF (Referent.fInt Syntax.w16)) 𝓣 G13 3 12 2 4 (Syntax.tyRef (Syntax.named 2)
+          d23 : Typed.Typed 𝓤 H A 𝓣 E G13 b20 Δ1 at23
+          d23 = Typed.s-seq 𝓤 H A W 𝓣 E G13 G14 b4 b19 Δ1 (Typed.give s11) at22 (Relend.t-sl-relend 𝓤 H A W E (Referent.rtF (Referent.fInt Syntax.w16)) 𝓣 G13 4 13 2 4 (Syntax.tyRef (Syntax.named 2)
               Syntax.mut (Syntax.tyInt Syntax.w16)) (Syntax.tyRef Syntax.erased Syntax.mut (Syntax.tyInt Syntax.w16)) (Row.lease (κs .1 .1 .0) (qs .1 .1 .0)) 0 (λ x. x) (Reads'.as-is 𝓤 H A (Mut.mslice
               (Referent.rtF (Referent.fInt Syntax.w16)) (Syntax.tyRef (Syntax.named 2) Syntax.mut (Syntax.tyInt Syntax.w16)) 2)) (Reads'.room-gone 𝓤 H A (Syntax.tyRef Syntax.erased Syntax.mut
-              (Syntax.tyInt Syntax.w16))) Path'.refl tt Path'.refl Path'.refl Path'.refl λ b o. tt) d21
+              (Syntax.tyInt Syntax.w16))) Path'.refl tt Path'.refl Path'.refl Path'.refl λ b o. tt) d22
 
-          d23 : Typed.Typed 𝓤 H A 𝓣 E G12 b20 Δ1 at23
-          d23 = Typed.g-pre 𝓤 H A W 𝓣 E G12 G13 b20 Δ1 (λ Ψ. Ψ) at22 (Lifetime.g-begin 𝓤 H A W E G12 4
-              (tt, (tt, (tt, (tt, (tt, (tt, (tt, (tt, (tt, (tt, (tt, (tt, (tt, (tt, (tt, (tt, (tt, (tt, (tt, (tt, (tt, (tt, (tt, tt)))))))))))))))))))))))) d22
+          d24 : Typed.Typed 𝓤 H A 𝓣 E G12 b20 Δ1 at24
+          d24 = Typed.g-pre 𝓤 H A W 𝓣 E G12 G13 b20 Δ1 (λ Ψ. Ψ) at23 (Lifetime.g-begin 𝓤 H A W E G12 4
+              (tt, (tt, (tt, (tt, (tt, (tt, (tt, (tt, (tt, (tt, (tt, (tt, (tt, (tt, (tt, (tt, (tt, (tt, (tt, (tt, (tt, (tt, (tt, (tt, tt))))))))))))))))))))))))) d23
 
-          d24 : Typed.Typed 𝓤 H A 𝓣 E G11 b20 Δ1 at24
-          d24 = Typed.g-pre 𝓤 H A W 𝓣 E G11 G12 b20 Δ1 (Typed.pass T11 T12 s9) at23 (Scalar.g-room 𝓤 H A W E G11 10 Syntax.tyBool (Scalar.room-sc 𝓤 H A W Row.sBool)) d23
+          d25 : Typed.Typed 𝓤 H A 𝓣 E G11 b20 Δ1 at25
+          d25 = Typed.g-pre 𝓤 H A W 𝓣 E G11 G12 b20 Δ1 (Typed.pass T11 T12 s9) at24 (Scalar.g-room 𝓤 H A W E G11 11 Syntax.tyBool (Scalar.room-sc 𝓤 H A W Row.sBool)) d24
 
-          d25 : Typed.Typed 𝓤 H A 𝓣 E G10 b20 Δ1 at25
-          d25 = Typed.g-pre 𝓤 H A W 𝓣 E G10 G11 b20 Δ1 (Typed.pass T10 T11 s8) at24 (Scalar.g-room 𝓤 H A W E G10 5 y3 (Local.room-whole 𝓤 H A W (Declared'.row Form.the-type) y3 Path'.refl)) d24
+          d26 : Typed.Typed 𝓤 H A 𝓣 E G10 b20 Δ1 at26
+          d26 = Typed.g-pre 𝓤 H A W 𝓣 E G10 G11 b20 Δ1 (Typed.pass T10 T11 s8) at25 (Scalar.g-room 𝓤 H A W E G10 6 y3 (Local.room-whole 𝓤 H A W (Declared'.row Form.the-type) y3 Path'.refl)) d25
 
-          d26 : Typed.Typed 𝓤 H A 𝓣 E G36 b21 Δ1 at26
-          d26 = Typed.t-skip 𝓤 H A W 𝓣 E Δ1 tt
+          d27 : Typed.Typed 𝓤 H A 𝓣 E G37 b21 Δ1 at27
+          d27 = Typed.t-skip 𝓤 H A W 𝓣 E Δ1 tt
 
-          d27 : Typed.Typed 𝓤 H A 𝓣 E G10 b21 Δ1 at27
-          d27 = Typed.g-pre 𝓤 H A W 𝓣 E G10 G36 b21 Δ1 (Typed.pass T10 T36 s33) at26 (Scalar.g-room 𝓤 H A W E G10 10 Syntax.tyBool (Scalar.room-sc 𝓤 H A W Row.sBool)) d26
+          d28 : Typed.Typed 𝓤 H A 𝓣 E G10 b21 Δ1 at28
+          d28 = Typed.g-pre 𝓤 H A W 𝓣 E G10 G37 b21 Δ1 (Typed.pass T10 T37 s34) at27 (Scalar.g-room 𝓤 H A W E G10 11 Syntax.tyBool (Scalar.room-sc 𝓤 H A W Row.sBool)) d27
 
-          d28 : Typed.Typed 𝓤 H A 𝓣 E G10 b22 Δ1 at28
-          d28 = Scalar.t-cond 𝓤 H A W E 𝓣 G10 10 (λ x. x) b20 b21 Δ1 at25 at27 (Scalar.reads-sc 𝓤 H A W Row.sBool) Path'.refl d25 d27
+          d29 : Typed.Typed 𝓤 H A 𝓣 E G10 b22 Δ1 at29
+          d29 = Scalar.t-cond 𝓤 H A W E 𝓣 G10 11 (λ x. x) b20 b21 Δ1 at26 at28 (Scalar.reads-sc 𝓤 H A W Row.sBool) Path'.refl d26 d28
 
-          d29 : Typed.Typed 𝓤 H A 𝓣 E G8 b22 Δ1 at29
-          d29 = Typed.g-pre 𝓤 H A W 𝓣 E G8 G10 b22 Δ1 (Typed.pass T8 T10 s7) at28 (Scalar.g-room 𝓤 H A W E G8 9 (Syntax.tyInt Syntax.w64) (Scalar.room-sc 𝓤 H A W (Row.sInt Syntax.w64))) d28
+          d30 : Typed.Typed 𝓤 H A 𝓣 E G8 b22 Δ1 at30
+          d30 = Typed.g-pre 𝓤 H A W 𝓣 E G8 G10 b22 Δ1 (Typed.pass T8 T10 s7) at29 (Scalar.g-room 𝓤 H A W E G8 10 (Syntax.tyInt Syntax.w64) (Scalar.room-sc 𝓤 H A W (Row.sInt Syntax.w64))) d29
 
-          d30 : Typed.Typed 𝓤 H A 𝓣 E G61 b30 Δ0 at30
-          d30 = Typed.t-return 𝓤 H A W 𝓣 E Δ0 tt
+          d31 : Typed.Typed 𝓤 H A 𝓣 E G63 b30 Δ0 at31
+          d31 = Typed.t-return 𝓤 H A W 𝓣 E Δ0 tt
 
-          d31 : Typed.Typed 𝓤 H A 𝓣 E G60 b30 Δ0 at31
-          d31 = Typed.g-pre 𝓤 H A W 𝓣 E G60 G61 b30 Δ0 (Typed.pass T59 T61 s58) at30 (Scalar.g-room 𝓤 H A W E G60 6 (Syntax.tyInt Syntax.w64) (Scalar.room-sc 𝓤 H A W (Row.sInt Syntax.w64))) d30
+          d32 : Typed.Typed 𝓤 H A 𝓣 E G62 b30 Δ0 at32
+          d32 = Typed.g-pre 𝓤 H A W 𝓣 E G62 G63 b30 Δ0 (Typed.pass T62 T63 s60) at31 (Scalar.g-room 𝓤 H A W E G62 7 (Syntax.tyInt Syntax.w64) (Scalar.room-sc 𝓤 H A W (Row.sInt Syntax.w64))) d31
 
-          d32 : Typed.Typed 𝓤 H A 𝓣 E G59 b30 Δ0 at32
-          d32 = Typed.g-pre 𝓤 H A W 𝓣 E G59 G60 b30 Δ0 (λ Ψ. Ψ) at31 (Lifetime.g-forget 𝓤 H A W E G59 8 Row.dead Path'.refl) d31
+          d33 : Typed.Typed 𝓤 H A 𝓣 E G61 b30 Δ0 at33
+          d33 = Typed.g-pre 𝓤 H A W 𝓣 E G61 G62 b30 Δ0 (Typed.pass T60 T62 s59) at32 (Scalar.g-room 𝓤 H A W E G61 3 Syntax.tyBool (Scalar.room-sc 𝓤 H A W Row.sBool)) d32
 
-          d33 : Typed.Typed 𝓤 H A 𝓣 E G58 b30 Δ0 at33
-          d33 = Typed.g-pre 𝓤 H A W 𝓣 E G58 G59 b30 Δ0 (Typed.both s56) at32 (Relend.g-back-sl 𝓤 H A W E (Element.type) G58 22 4 3 8 (Syntax.tyRef (Syntax.named 3) Syntax.mut Element.behind)
+          d34 : Typed.Typed 𝓤 H A 𝓣 E G60 b30 Δ0 at34
+          d34 = Typed.g-pre 𝓤 H A W 𝓣 E G60 G61 b30 Δ0 (λ Ψ. Ψ) at33 (Lifetime.g-forget 𝓤 H A W E G60 8 Row.dead Path'.refl) d33
+
+          d35 : Typed.Typed 𝓤 H A 𝓣 E G59 b30 Δ0 at35
+          d35 = Typed.g-pre 𝓤 H A W 𝓣 E G59 G60 b30 Δ0 (Typed.both s57) at34 (Relend.g-back-sl 𝓤 H A W E (Element.type) G59 23 5 3 8 (Syntax.tyRef (Syntax.named 3) Syntax.mut Element.behind)
               (Syntax.tyRef Syntax.erased Syntax.mut Element.behind) (Row.lease (κs .1 .1 .1 .0) (qs .1 .1 .1 .0)) (λ x. x) (λ x. x) (Reads'.as-is 𝓤 H A (Mut.msleft (Element.type) (Syntax.tyRef
               Syntax.erased Syntax.mut Element.behind))) (Reads'.as-is 𝓤 H A (Relend.mslice-owed (Element.type) (Syntax.tyRef (Syntax.named 3) Syntax.mut Element.behind) 3 8 (Row.lease (κs .1 .1 .1 .0)
-              (qs .1 .1 .1 .0)))) Path'.refl Path'.refl) d32
+              (qs .1 .1 .1 .0)))) Path'.refl Path'.refl) d34
 
-          d34 : Typed.Typed 𝓤 H A 𝓣 E G57 b30 Δ0 at34
-          d34 = Typed.g-pre 𝓤 H A W 𝓣 E G57 G58 b30 Δ0 (λ Ψ. Ψ) at33 (Lifetime.g-end 𝓤 H A W E G57 8 Path'.refl) d33
+          d36 : Typed.Typed 𝓤 H A 𝓣 E G58 b30 Δ0 at36
+          d36 = Typed.g-pre 𝓤 H A W 𝓣 E G58 G59 b30 Δ0 (λ Ψ. Ψ) at35 (Lifetime.g-end 𝓤 H A W E G58 8 Path'.refl) d35
 
-          d35 : Typed.Typed 𝓤 H A 𝓣 E G56 b30 Δ0 at35
-          d35 = Typed.g-pre 𝓤 H A W 𝓣 E G56 G57 b30 Δ0 (λ Ψ. Ψ) at34 (Lifetime.g-forget 𝓤 H A W E G56 7 Row.dead Path'.refl) d34
+          d37 : Typed.Typed 𝓤 H A 𝓣 E G57 b30 Δ0 at37
+          d37 = Typed.g-pre 𝓤 H A W 𝓣 E G57 G58 b30 Δ0 (λ Ψ. Ψ) at36 (Lifetime.g-forget 𝓤 H A W E G57 7 Row.dead Path'.refl) d36
 
-          d36 : Typed.Typed 𝓤 H A 𝓣 E G55 b30 Δ0 at36
-          d36 = Typed.g-pre 𝓤 H A W 𝓣 E G55 G56 b30 Δ0 (Typed.give s53) at35 (Know.g-sl-known 𝓤 H A W (Referent.fInt Syntax.w16) E G55 3 2 (Syntax.tyRef (Syntax.named 2) Syntax.mut (Syntax.tyInt
+          d38 : Typed.Typed 𝓤 H A 𝓣 E G56 b30 Δ0 at38
+          d38 = Typed.g-pre 𝓤 H A W 𝓣 E G56 G57 b30 Δ0 (Typed.give s54) at37 (Know.g-sl-known 𝓤 H A W (Referent.fInt Syntax.w16) E G56 4 2 (Syntax.tyRef (Syntax.named 2) Syntax.mut (Syntax.tyInt
               Syntax.w16)) (Row.lease (κs .1 .1 .0) (qs .1 .1 .0)) 0 (λ x. x) record { fits = Dec'.lit< tt } (Reads'.as-is 𝓤 H A (Mut.mslice (Referent.rtF (Referent.fInt Syntax.w16)) (Syntax.tyRef
-              (Syntax.named 2) Syntax.mut (Syntax.tyInt Syntax.w16)) 2)) Path'.refl tt) d35
+              (Syntax.named 2) Syntax.mut (Syntax.tyInt Syntax.w16)) 2)) Path'.refl tt) d37
 
-          d37 : Typed.Typed 𝓤 H A 𝓣 E G54 b30 Δ0 at37
-          d37 = Typed.g-pre 𝓤 H A W 𝓣 E G54 G55 b30 Δ0 (Typed.both s52) at36 (Relend.g-back-sl 𝓤 H A W E (Referent.rtF (Referent.fInt Syntax.w16)) G54 20 3 2 7 (Syntax.tyRef (Syntax.named 2)
+          d39 : Typed.Typed 𝓤 H A 𝓣 E G55 b30 Δ0 at39
+          d39 = Typed.g-pre 𝓤 H A W 𝓣 E G55 G56 b30 Δ0 (Typed.both s53) at38 (Relend.g-back-sl 𝓤 H A W E (Referent.rtF (Referent.fInt Syntax.w16)) G55 21 4 2 7 (Syntax.tyRef (Syntax.named 2)
               Syntax.mut (Syntax.tyInt Syntax.w16)) (Syntax.tyRef Syntax.erased Syntax.mut (Syntax.tyInt Syntax.w16)) (Row.lease (κs .1 .1 .0) (qs .1 .1 .0)) (λ x. x) (λ x. x) (Reads'.as-is 𝓤 H A
               (Mut.msleft (Referent.rtF (Referent.fInt Syntax.w16)) (Syntax.tyRef Syntax.erased Syntax.mut (Syntax.tyInt Syntax.w16)))) (Reads'.as-is 𝓤 H A (Relend.mslice-owed (Referent.rtF (Referent.fInt
-              Syntax.w16)) (Syntax.tyRef (Syntax.named 2) Syntax.mut (Syntax.tyInt Syntax.w16)) 2 7 (Row.lease (κs .1 .1 .0) (qs .1 .1 .0)))) Path'.refl Path'.refl) d36
+              Syntax.w16)) (Syntax.tyRef (Syntax.named 2) Syntax.mut (Syntax.tyInt Syntax.w16)) 2 7 (Row.lease (κs .1 .1 .0) (qs .1 .1 .0)))) Path'.refl Path'.refl) d38
 
-          d38 : Typed.Typed 𝓤 H A 𝓣 E G53 b30 Δ0 at38
-          d38 = Typed.g-pre 𝓤 H A W 𝓣 E G53 G54 b30 Δ0 (λ Ψ. Ψ) at37 (Lifetime.g-end 𝓤 H A W E G53 7 Path'.refl) d37
+          d40 : Typed.Typed 𝓤 H A 𝓣 E G54 b30 Δ0 at40
+          d40 = Typed.g-pre 𝓤 H A W 𝓣 E G54 G55 b30 Δ0 (λ Ψ. Ψ) at39 (Lifetime.g-end 𝓤 H A W E G54 7 Path'.refl) d39
 
-          d39 : Typed.Typed 𝓤 H A 𝓣 E G52 b30 Δ0 at39
-          d39 = Typed.g-pre 𝓤 H A W 𝓣 E G52 G53 b30 Δ0 (λ Ψ. Ψ) at38 (Lifetime.g-forget 𝓤 H A W E G52 6 Row.dead Path'.refl) d38
+          d41 : Typed.Typed 𝓤 H A 𝓣 E G53 b30 Δ0 at41
+          d41 = Typed.g-pre 𝓤 H A W 𝓣 E G53 G54 b30 Δ0 (λ Ψ. Ψ) at40 (Lifetime.g-forget 𝓤 H A W E G53 6 Row.dead Path'.refl) d40
 
-          d40 : Typed.Typed 𝓤 H A 𝓣 E G51 b30 Δ0 at40
-          d40 = Typed.g-pre 𝓤 H A W 𝓣 E G51 G52 b30 Δ0 (Typed.give s49) at39 (Know.g-sl-known 𝓤 H A W (Referent.fInt Syntax.w8) E G51 2 1 (Syntax.tyRef (Syntax.named 1) Syntax.mut (Syntax.tyInt
+          d42 : Typed.Typed 𝓤 H A 𝓣 E G52 b30 Δ0 at42
+          d42 = Typed.g-pre 𝓤 H A W 𝓣 E G52 G53 b30 Δ0 (Typed.give s50) at41 (Know.g-sl-known 𝓤 H A W (Referent.fInt Syntax.w8) E G52 2 1 (Syntax.tyRef (Syntax.named 1) Syntax.mut (Syntax.tyInt
               Syntax.w8)) (Row.lease (κs .1 .0) (qs .1 .0)) 0 (λ x. x) record { fits = Dec'.lit< tt } (Reads'.as-is 𝓤 H A (Mut.mslice (Referent.rtF (Referent.fInt Syntax.w8)) (Syntax.tyRef (Syntax.named
-              1) Syntax.mut (Syntax.tyInt Syntax.w8)) 1)) Path'.refl tt) d39
+              1) Syntax.mut (Syntax.tyInt Syntax.w8)) 1)) Path'.refl tt) d41
 
-          d41 : Typed.Typed 𝓤 H A 𝓣 E G50 b30 Δ0 at41
-          d41 = Typed.g-pre 𝓤 H A W 𝓣 E G50 G51 b30 Δ0 (Typed.both s48) at40 (Relend.g-back-sl 𝓤 H A W E (Referent.rtF (Referent.fInt Syntax.w8)) G50 18 2 1 6 (Syntax.tyRef (Syntax.named 1) Syntax.mut
+          d43 : Typed.Typed 𝓤 H A 𝓣 E G51 b30 Δ0 at43
+          d43 = Typed.g-pre 𝓤 H A W 𝓣 E G51 G52 b30 Δ0 (Typed.both s49) at42 (Relend.g-back-sl 𝓤 H A W E (Referent.rtF (Referent.fInt Syntax.w8)) G51 19 2 1 6 (Syntax.tyRef (Syntax.named 1) Syntax.mut
               (Syntax.tyInt Syntax.w8)) (Syntax.tyRef Syntax.erased Syntax.mut (Syntax.tyInt Syntax.w8)) (Row.lease (κs .1 .0) (qs .1 .0)) (λ x. x) (λ x. x) (Reads'.as-is 𝓤 H A (Mut.msleft (Referent.rtF
               (Referent.fInt Syntax.w8)) (Syntax.tyRef Syntax.erased Syntax.mut (Syntax.tyInt Syntax.w8)))) (Reads'.as-is 𝓤 H A (Relend.mslice-owed (Referent.rtF (Referent.fInt Syntax.w8)) (Syntax.tyRef
-              (Syntax.named 1) Syntax.mut (Syntax.tyInt Syntax.w8)) 1 6 (Row.lease (κs .1 .0) (qs .1 .0)))) Path'.refl Path'.refl) d40
+              (Syntax.named 1) Syntax.mut (Syntax.tyInt Syntax.w8)) 1 6 (Row.lease (κs .1 .0) (qs .1 .0)))) Path'.refl Path'.refl) d42
 
-          d42 : Typed.Typed 𝓤 H A 𝓣 E G49 b30 Δ0 at42
-          d42 = Typed.g-pre 𝓤 H A W 𝓣 E G49 G50 b30 Δ0 (λ Ψ. Ψ) at41 (Lifetime.g-end 𝓤 H A W E G49 6 Path'.refl) d41
+          d44 : Typed.Typed 𝓤 H A 𝓣 E G50 b30 Δ0 at44
+          d44 = Typed.g-pre 𝓤 H A W 𝓣 E G50 G51 b30 Δ0 (λ Ψ. Ψ) at43 (Lifetime.g-end 𝓤 H A W E G50 6 Path'.refl) d43
 
-          d43 : Typed.Typed 𝓤 H A 𝓣 E G48 b30 Δ0 at43
-          d43 = Typed.g-pre 𝓤 H A W 𝓣 E G48 G49 b30 Δ0 (Typed.pass T48 T49 s46) at42 (Scalar.g-room 𝓤 H A W E G48 8 (Syntax.tyInt Syntax.w64) (Scalar.room-sc 𝓤 H A W (Row.sInt Syntax.w64))) d42
+          d45 : Typed.Typed 𝓤 H A 𝓣 E G49 b30 Δ0 at45
+          d45 = Typed.g-pre 𝓤 H A W 𝓣 E G49 G50 b30 Δ0 (Typed.pass T49 T50 s47) at44 (Scalar.g-room 𝓤 H A W E G49 9 (Syntax.tyInt Syntax.w64) (Scalar.room-sc 𝓤 H A W (Row.sInt Syntax.w64))) d44
 
-          d44 : Typed.Typed 𝓤 H A 𝓣 E G47 b30 Δ0 at44
-          d44 = Typed.g-pre 𝓤 H A W 𝓣 E G47 G48 b30 Δ0 (Typed.pass T47 T48 s45) at43 (Scalar.g-room 𝓤 H A W E G47 7 (Syntax.tyInt Syntax.w32) (Scalar.room-sc 𝓤 H A W (Row.sInt Syntax.w32))) d43
+          d46 : Typed.Typed 𝓤 H A 𝓣 E G48 b30 Δ0 at46
+          d46 = Typed.g-pre 𝓤 H A W 𝓣 E G48 G49 b30 Δ0 (Typed.pass T48 T49 s46) at45 (Scalar.g-room 𝓤 H A W E G48 8 (Syntax.tyInt Syntax.w32) (Scalar.room-sc 𝓤 H A W (Row.sInt Syntax.w32))) d45
 
-          d45 : Typed.Typed 𝓤 H A 𝓣 E G46 b30 Δ0 at45
-          d45 = Typed.g-pre 𝓤 H A W 𝓣 E G46 G47 b30 Δ0 (Typed.pass T46 T47 s44) at44 (Scalar.g-room 𝓤 H A W E G46 5 y3 (Local.room-whole 𝓤 H A W (Declared'.row Form.the-type) y3 Path'.refl)) d44
+          d47 : Typed.Typed 𝓤 H A 𝓣 E G47 b30 Δ0 at47
+          d47 = Typed.g-pre 𝓤 H A W 𝓣 E G47 G48 b30 Δ0 (Typed.pass T47 T48 s45) at46 (Scalar.g-room 𝓤 H A W E G47 6 y3 (Local.room-whole 𝓤 H A W (Declared'.row Form.the-type) y3 Path'.refl)) d46
 
-          d46 : Typed.Typed 𝓤 H A 𝓣 E G45 b31 Δ0 at46
-          d46 = Typed.s-seq 𝓤 H A W 𝓣 E G45 G46 b29 b30 Δ0 (Typed.both s43) at45 (Plain.t-call-plain 𝓤 H A W 𝓣 4 ps·4 r·4 (claims· .8) (claims· .9) "block::writer::write_measured" (known .4) E (λ pos
-              β. β) G45 (
+          d48 : Typed.Typed 𝓤 H A 𝓣 E G46 b31 Δ0 at48
+          d48 = Typed.s-seq 𝓤 H A W 𝓣 E G46 G47 b29 b30 Δ0 (Typed.both s44) at47 (Plain.t-call-plain 𝓤 H A W 𝓣 4 ps·4 r·4 (claims· .8) (claims· .9) "block::writer::write_measured" (known .4) E (λ pos
+              β. β) G46 (
                 record { pos = 1; ty = Syntax.tyRef (Syntax.named 0) Syntax.imm (Syntax.tyInt Syntax.w16); ref = λ x. x },
                 (
-                  record { pos = 18; ty = Syntax.tyRef Syntax.erased Syntax.mut (Syntax.tyInt Syntax.w8); ref = λ x. x },
+                  record { pos = 19; ty = Syntax.tyRef Syntax.erased Syntax.mut (Syntax.tyInt Syntax.w8); ref = λ x. x },
                   (
-                    record { pos = 20; ty = Syntax.tyRef Syntax.erased Syntax.mut (Syntax.tyInt Syntax.w16); ref = λ x. x },
-                    (record { pos = 22; ty = Syntax.tyRef Syntax.erased Syntax.mut Element.behind; ref = λ x. x }, (record { pos = 5; st = List.[]; d = 0; at = λ x. x }, (Num.vAt 6 λ x. x, tt))),
+                    Bool.bAt 3 λ x. x,
+                    (
+                      record { pos = 21; ty = Syntax.tyRef Syntax.erased Syntax.mut (Syntax.tyInt Syntax.w16); ref = λ x. x },
+                      (record { pos = 23; ty = Syntax.tyRef Syntax.erased Syntax.mut Element.behind; ref = λ x. x }, (record { pos = 6; st = List.[]; d = 0; at = λ x. x }, (Num.vAt 7 λ x. x, tt))),
+                    ),
                   ),
                 ),
-              ) 0 (List._∷_
-              0 (List._∷_ 6 (List._∷_ 7 (List._∷_ 8 List.[])))) (Call.sub-id 𝓤 H A W (G45 .slots)) (
+              ) 0
+              (List._∷_ 0 (List._∷_ 6 (List._∷_ 7 (List._∷_ 8 List.[])))) (Call.sub-id 𝓤 H A W (G46 .slots)) (
                 ShrSlice.spares-sslice 𝓤 H A W (Referent.rtF (Referent.fInt Syntax.w16)) (Syntax.tyRef (Syntax.named 0) Syntax.imm (Syntax.tyInt Syntax.w16)) 0,
                 Shared.reads-sslice 𝓤 H A W (Referent.rtF
                     (Referent.fInt Syntax.w16)) (Syntax.tyRef (Syntax.named 0) Syntax.imm (Syntax.tyInt Syntax.w16)) 0,
@@ -2068,146 +2122,150 @@ module _ (claims· : Claims) where
                       (Referent.fInt Syntax.w8)) (Syntax.tyRef Syntax.erased Syntax.mut (Syntax.tyInt Syntax.w8)) 6,
                   Path'.refl,
                   (
-                    Reads'.as-is 𝓤 H A (Mut.mslice (Referent.rtF (Referent.fInt Syntax.w16)) (Syntax.tyRef Syntax.erased Syntax.mut (Syntax.tyInt Syntax.w16)) 7),
-                    Mut.reads-mslice 𝓤 H A W (Referent.rtF
-                        (Referent.fInt Syntax.w16)) (Syntax.tyRef Syntax.erased Syntax.mut (Syntax.tyInt Syntax.w16)) 7,
-                    Path'.refl,
+                    (Scalar.reads-sc 𝓤 H A W Row.sBool, Path'.refl),
                     (
-                      Reads'.as-is 𝓤 H A (Mut.mslice (Element.type) (Syntax.tyRef Syntax.erased Syntax.mut Element.behind) 8),
-                      Mut.reads-mslice 𝓤 H A W (Element.type) (Syntax.tyRef Syntax.erased Syntax.mut
-                          Element.behind) 8,
+                      Reads'.as-is 𝓤 H A (Mut.mslice (Referent.rtF (Referent.fInt Syntax.w16)) (Syntax.tyRef Syntax.erased Syntax.mut (Syntax.tyInt Syntax.w16)) 7),
+                      Mut.reads-mslice 𝓤 H A W (Referent.rtF
+                          (Referent.fInt Syntax.w16)) (Syntax.tyRef Syntax.erased Syntax.mut (Syntax.tyInt Syntax.w16)) 7,
                       Path'.refl,
                       (
+                        Reads'.as-is 𝓤 H A (Mut.mslice (Element.type) (Syntax.tyRef Syntax.erased Syntax.mut Element.behind) 8),
+                        Mut.reads-mslice 𝓤 H A W (Element.type) (Syntax.tyRef Syntax.erased Syntax.mut
+                            Element.behind) 8,
+                        Path'.refl,
                         (
-                          Yields.yields-copy 𝓤 H A W (λ ρ. Unit) (Declared'.row Form.the-type) Path'.refl (Copies.cStruct Form.the-type Laws.the-laws Laws.the-copy .copy 𝓤 H A W) (Rows.whole (Declared'.row
-                              Form.the-type)) (λ x. x) (λ x. x) (λ ρ told. Local.mem-whole 𝓤 H A W (Declared'.row Form.the-type) ρ) λ ρ told. Local.whole-mem 𝓤 H A W (Declared'.row Form.the-type) ρ,
-                          Path'.refl,
+                          (
+                            Yields.yields-copy 𝓤 H A W (λ ρ. Unit) (Declared'.row Form.the-type) Path'.refl (Copies.cStruct Form.the-type Laws.the-laws Laws.the-copy .copy 𝓤 H A W) (Rows.whole (Declared'.row
+                                Form.the-type)) (λ x. x) (λ x. x) (λ ρ told. Local.mem-whole 𝓤 H A W (Declared'.row Form.the-type) ρ) λ ρ told. Local.whole-mem 𝓤 H A W (Declared'.row Form.the-type) ρ,
+                            Path'.refl,
+                          ),
+                          ((Scalar.reads-sc 𝓤 H A W (Row.sInt Syntax.w64), Path'.refl), tt),
                         ),
-                        ((Scalar.reads-sc 𝓤 H A W (Row.sInt Syntax.w64), Path'.refl), tt),
                       ),
                     ),
                   ),
                 ),
-              ) (Reads'.room-gone 𝓤 H A (Syntax.tyEnum (List._∷_ 98 (List._∷_ 108 (List._∷_ 111 (List._∷_ 99 (List._∷_ 107 (List._∷_ 58
-              (List._∷_ 58 (List._∷_ 87 (List._∷_ 114 (List._∷_ 105 (List._∷_ 116 (List._∷_ 116 (List._∷_ 101 (List._∷_ 110 List.[])))))))))))))) (Syntax.ttcons (Syntax.tcons (Syntax.tyInt Syntax.w64)
-              Syntax.tnil) (Syntax.ttcons (Syntax.tcons (Syntax.tyEnum (List._∷_ 115 (List._∷_ 116 (List._∷_ 114 (List._∷_ 101 (List._∷_ 97 (List._∷_ 109 (List._∷_ 58 (List._∷_ 58 (List._∷_ 82 (List._∷_
-              101 (List._∷_ 102 (List._∷_ 117 (List._∷_ 115 (List._∷_ 97 (List._∷_ 108 List.[]))))))))))))))) (Syntax.ttcons Syntax.tnil (Syntax.ttcons Syntax.tnil (Syntax.ttcons Syntax.tnil
-              (Syntax.ttcons (Syntax.tcons (Syntax.tyInt Syntax.w64) Syntax.tnil) (Syntax.ttcons Syntax.tnil (Syntax.ttcons Syntax.tnil (Syntax.ttcons Syntax.tnil (Syntax.ttcons Syntax.tnil (Syntax.ttcons
-              Syntax.tnil (Syntax.ttcons Syntax.tnil (Syntax.ttcons (Syntax.tcons (Syntax.tyInt Syntax.w64) Syntax.tnil) (Syntax.ttcons (Syntax.tcons (Syntax.tyInt Syntax.w64) Syntax.tnil) (Syntax.ttcons
-              Syntax.tnil (Syntax.ttcons (Syntax.tcons (Syntax.tyInt Syntax.w64) (Syntax.tcons (Syntax.tyInt Syntax.w64) Syntax.tnil)) (Syntax.ttcons (Syntax.tcons (Syntax.tyInt Syntax.w64) Syntax.tnil)
-              (Syntax.ttcons Syntax.tnil (Syntax.ttcons Syntax.tnil (Syntax.ttcons (Syntax.tcons (Syntax.tyInt Syntax.w64) Syntax.tnil) (Syntax.ttcons (Syntax.tcons (Syntax.tyInt Syntax.w64) Syntax.tnil)
-              (Syntax.ttcons (Syntax.tcons (Syntax.tyInt Syntax.w64) Syntax.tnil) (Syntax.ttcons Syntax.tnil Syntax.ttnil)))))))))))))))))))))) Syntax.tnil) Syntax.ttnil)))) (tt, (tt, (tt, (tt, tt))))
-              Path'.refl) d45
+              ) (Reads'.room-gone 𝓤 H A (Syntax.tyEnum (List._∷_ 115 (List._∷_ 116 (List._∷_ 114 (List._∷_ 101 (List._∷_ 97 (List._∷_
+              109 (List._∷_ 58 (List._∷_ 58 (List._∷_ 66 (List._∷_ 108 (List._∷_ 111 (List._∷_ 99 (List._∷_ 107 (List._∷_ 76 (List._∷_ 101 (List._∷_ 110 (List._∷_ 103 (List._∷_ 116 (List._∷_ 104
+              List.[]))))))))))))))))))) (Syntax.ttcons (Syntax.tcons (Syntax.tyInt Syntax.w64) Syntax.tnil) (Syntax.ttcons (Syntax.tcons (Syntax.tyEnum (List._∷_ 115 (List._∷_ 116 (List._∷_ 114 (List._∷_
+              101 (List._∷_ 97 (List._∷_ 109 (List._∷_ 58 (List._∷_ 58 (List._∷_ 82 (List._∷_ 101 (List._∷_ 102 (List._∷_ 117 (List._∷_ 115 (List._∷_ 97 (List._∷_ 108 List.[]))))))))))))))) (Syntax.ttcons
+              Syntax.tnil (Syntax.ttcons Syntax.tnil (Syntax.ttcons Syntax.tnil (Syntax.ttcons (Syntax.tcons (Syntax.tyInt Syntax.w64) Syntax.tnil) (Syntax.ttcons Syntax.tnil (Syntax.ttcons Syntax.tnil
+              (Syntax.ttcons Syntax.tnil (Syntax.ttcons Syntax.tnil (Syntax.ttcons Syntax.tnil (Syntax.ttcons Syntax.tnil (Syntax.ttcons (Syntax.tcons (Syntax.tyInt Syntax.w64) Syntax.tnil) (Syntax.ttcons
+              (Syntax.tcons (Syntax.tyInt Syntax.w64) Syntax.tnil) (Syntax.ttcons Syntax.tnil (Syntax.ttcons (Syntax.tcons (Syntax.tyInt Syntax.w64) (Syntax.tcons (Syntax.tyInt Syntax.w64) Syntax.tnil))
+              (Syntax.ttcons (Syntax.tcons (Syntax.tyInt Syntax.w64) Syntax.tnil) (Syntax.ttcons Syntax.tnil (Syntax.ttcons Syntax.tnil (Syntax.ttcons (Syntax.tcons (Syntax.tyInt Syntax.w64) Syntax.tnil)
+              (Syntax.ttcons (Syntax.tcons (Syntax.tyInt Syntax.w64) Syntax.tnil) (Syntax.ttcons (Syntax.tcons (Syntax.tyInt Syntax.w64) Syntax.tnil) (Syntax.ttcons Syntax.tnil
+              Syntax.ttnil)))))))))))))))))))))) Syntax.tnil) Syntax.ttnil)))) (tt, (tt, (tt, (tt, tt)))) Path'.refl) d47
 
-          d47 : Typed.Typed 𝓤 H A 𝓣 E G44 b32 Δ0 at47
-          d47 = Typed.s-seq 𝓤 H A W 𝓣 E G44 G45 b28 b31 Δ0 (Typed.ask s42) at46 (Relend.t-sl-aggregate 𝓤 H A W E (Element.type) 𝓣 (Relend.asMut (Element.type)) G44 21 22 8 (Syntax.tyRef Syntax.erased
-              Syntax.mut Element.behind) (Syntax.tyRef Syntax.erased Syntax.mut Element.behind) (λ x. x) (Scalar.oFld 4 (List._∷_ (Syntax.field 1) List.[]) (Syntax.tyInt Syntax.w64) 8 λ v. Shared.lenV (v
+          d49 : Typed.Typed 𝓤 H A 𝓣 E G45 b32 Δ0 at49
+          d49 = Typed.s-seq 𝓤 H A W 𝓣 E G45 G46 b28 b31 Δ0 (Typed.ask s43) at48 (Relend.t-sl-aggregate 𝓤 H A W E (Element.type) 𝓣 (Relend.asMut (Element.type)) G45 22 23 8 (Syntax.tyRef Syntax.erased
+              Syntax.mut Element.behind) (Syntax.tyRef Syntax.erased Syntax.mut Element.behind) (λ x. x) (Scalar.oFld 5 (List._∷_ (Syntax.field 1) List.[]) (Syntax.tyInt Syntax.w64) 8 λ v. Shared.lenV (v
               .0)) (Reads'.as-is 𝓤 H A (Relend.msptr (Element.type) (Syntax.tyRef Syntax.erased Syntax.mut Element.behind) 8)) (Reads'.room-gone 𝓤 H A y2)
               (Relend.reads-owed-len 𝓤 H A W (Element.type) (Syntax.tyRef (Syntax.named 3) Syntax.mut Element.behind) 3 8 (Row.lease (κs .1 .1 .1 .0) (qs .1 .1 .1 .0)) 8 Path'.refl, Path'.refl) Path'.refl
-              Path'.refl λ b o k. tt) d46
+              Path'.refl λ b o k. tt) d48
 
-          d48 : Typed.Typed 𝓤 H A 𝓣 E G43 b33 Δ0 at48
-          d48 = Typed.s-seq 𝓤 H A W 𝓣 E G43 G44 b27 b32 Δ0 (Typed.give s41) at47 (Relend.t-sl-relend 𝓤 H A W E (Element.type) 𝓣 G43 4 21 3 8 (Syntax.tyRef (Syntax.named 3) Syntax.mut Element.behind)
+          d50 : Typed.Typed 𝓤 H A 𝓣 E G44 b33 Δ0 at50
+          d50 = Typed.s-seq 𝓤 H A W 𝓣 E G44 G45 b27 b32 Δ0 (Typed.give s42) at49 (Relend.t-sl-relend 𝓤 H A W E (Element.type) 𝓣 G44 5 22 3 8 (Syntax.tyRef (Syntax.named 3) Syntax.mut Element.behind)
               (Syntax.tyRef Syntax.erased Syntax.mut Element.behind) (Row.lease (κs .1 .1 .1 .0) (qs .1 .1 .1 .0)) 0 (λ x. x) (Reads'.as-is 𝓤 H A (Mut.mslice (Element.type) (Syntax.tyRef (Syntax.named 3)
-              Syntax.mut Element.behind) 3)) (Reads'.room-gone 𝓤 H A (Syntax.tyRef Syntax.erased Syntax.mut Element.behind)) Path'.refl tt Path'.refl Path'.refl Path'.refl λ b o. tt) d47
+              Syntax.mut Element.behind) 3)) (Reads'.room-gone 𝓤 H A (Syntax.tyRef Syntax.erased Syntax.mut Element.behind)) Path'.refl tt Path'.refl Path'.refl Path'.refl λ b o. tt) d49
 
-          d49 : Typed.Typed 𝓤 H A 𝓣 E G42 b33 Δ0 at49
-          d49 = Typed.g-pre 𝓤 H A W 𝓣 E G42 G43 b33 Δ0 (λ Ψ. Ψ) at48 (Lifetime.g-begin 𝓤 H A W E G42 8
-              (tt, (tt, ((tt, tt), ((tt, tt), (tt, (tt, (tt, (tt, (tt, (tt, (tt, (tt, (tt, (tt, (tt, (tt, (tt, (tt, (tt, (tt, (tt, (tt, (tt, tt)))))))))))))))))))))))) d48
+          d51 : Typed.Typed 𝓤 H A 𝓣 E G43 b33 Δ0 at51
+          d51 = Typed.g-pre 𝓤 H A W 𝓣 E G43 G44 b33 Δ0 (λ Ψ. Ψ) at50 (Lifetime.g-begin 𝓤 H A W E G43 8
+              (tt, (tt, ((tt, tt), (tt, ((tt, tt), (tt, (tt, (tt, (tt, (tt, (tt, (tt, (tt, (tt, (tt, (tt, (tt, (tt, (tt, (tt, (tt, (tt, (tt, (tt, tt))))))))))))))))))))))))) d50
 
-          d50 : Typed.Typed 𝓤 H A 𝓣 E G41 b34 Δ0 at50
-          d50 = Typed.s-seq 𝓤 H A W 𝓣 E G41 G42 b26 b33 Δ0 (Typed.ask s39) at49 (Relend.t-sl-aggregate 𝓤 H A W E (Referent.rtF (Referent.fInt Syntax.w16)) 𝓣 (Relend.asMut (Referent.rtF (Referent.fInt
-              Syntax.w16))) G41 19 20 7 (Syntax.tyRef Syntax.erased Syntax.mut (Syntax.tyInt Syntax.w16)) (Syntax.tyRef Syntax.erased Syntax.mut (Syntax.tyInt Syntax.w16)) (λ x. x) (Scalar.oFld 3
+          d52 : Typed.Typed 𝓤 H A 𝓣 E G42 b34 Δ0 at52
+          d52 = Typed.s-seq 𝓤 H A W 𝓣 E G42 G43 b26 b33 Δ0 (Typed.ask s40) at51 (Relend.t-sl-aggregate 𝓤 H A W E (Referent.rtF (Referent.fInt Syntax.w16)) 𝓣 (Relend.asMut (Referent.rtF (Referent.fInt
+              Syntax.w16))) G42 20 21 7 (Syntax.tyRef Syntax.erased Syntax.mut (Syntax.tyInt Syntax.w16)) (Syntax.tyRef Syntax.erased Syntax.mut (Syntax.tyInt Syntax.w16)) (λ x. x) (Scalar.oFld 4
               (List._∷_ (Syntax.field 1) List.[]) (Syntax.tyInt Syntax.w64) 8 λ v. Shared.lenV (v .0)) (Reads'.as-is 𝓤 H A (Relend.msptr (Referent.rtF (Referent.fInt Syntax.w16)) (Syntax.tyRef
               Syntax.erased Syntax.mut (Syntax.tyInt Syntax.w16)) 7)) (Reads'.room-gone 𝓤 H A y0) (
                 Relend.reads-owed-len 𝓤 H A W (Referent.rtF (Referent.fInt Syntax.w16)) (Syntax.tyRef (Syntax.named 2) Syntax.mut (Syntax.tyInt Syntax.w16)) 2 7 (Row.lease (κs .1 .1 .0) (qs .1 .1 .0)) 8
                     Path'.refl,
                 Path'.refl,
-              ) Path'.refl Path'.refl λ b o k. tt) d49
+              ) Path'.refl Path'.refl λ b o k. tt) d51
 
-          d51 : Typed.Typed 𝓤 H A 𝓣 E G40 b35 Δ0 at51
-          d51 = Typed.s-seq 𝓤 H A W 𝓣 E G40 G41 b25 b34 Δ0 (Typed.give s38) at50 (Relend.t-sl-relend 𝓤 H A W E (Referent.rtF (Referent.fInt Syntax.w16)) 𝓣 G40 3 19 2 7 (Syntax.tyRef (Syntax.named 2)
+          d53 : Typed.Typed 𝓤 H A 𝓣 E G41 b35 Δ0 at53
+          d53 = Typed.s-seq 𝓤 H A W 𝓣 E G41 G42 b25 b34 Δ0 (Typed.give s39) at52 (Relend.t-sl-relend 𝓤 H A W E (Referent.rtF (Referent.fInt Syntax.w16)) 𝓣 G41 4 20 2 7 (Syntax.tyRef (Syntax.named 2)
               Syntax.mut (Syntax.tyInt Syntax.w16)) (Syntax.tyRef Syntax.erased Syntax.mut (Syntax.tyInt Syntax.w16)) (Row.lease (κs .1 .1 .0) (qs .1 .1 .0)) 0 (λ x. x) (Reads'.as-is 𝓤 H A (Mut.mslice
               (Referent.rtF (Referent.fInt Syntax.w16)) (Syntax.tyRef (Syntax.named 2) Syntax.mut (Syntax.tyInt Syntax.w16)) 2)) (Reads'.room-gone 𝓤 H A (Syntax.tyRef Syntax.erased Syntax.mut
-              (Syntax.tyInt Syntax.w16))) Path'.refl tt Path'.refl Path'.refl Path'.refl λ b o. tt) d50
+              (Syntax.tyInt Syntax.w16))) Path'.refl tt Path'.refl Path'.refl Path'.refl λ b o. tt) d52
 
-          d52 : Typed.Typed 𝓤 H A 𝓣 E G39 b35 Δ0 at52
-          d52 = Typed.g-pre 𝓤 H A W 𝓣 E G39 G40 b35 Δ0 (λ Ψ. Ψ) at51 (Lifetime.g-begin 𝓤 H A W E G39 7
-              (tt, (tt, ((tt, tt), (tt, (tt, (tt, (tt, (tt, (tt, (tt, (tt, (tt, (tt, (tt, (tt, (tt, (tt, (tt, (tt, (tt, (tt, (tt, (tt, tt)))))))))))))))))))))))) d51
+          d54 : Typed.Typed 𝓤 H A 𝓣 E G40 b35 Δ0 at54
+          d54 = Typed.g-pre 𝓤 H A W 𝓣 E G40 G41 b35 Δ0 (λ Ψ. Ψ) at53 (Lifetime.g-begin 𝓤 H A W E G40 7
+              (tt, (tt, ((tt, tt), (tt, (tt, (tt, (tt, (tt, (tt, (tt, (tt, (tt, (tt, (tt, (tt, (tt, (tt, (tt, (tt, (tt, (tt, (tt, (tt, (tt, tt))))))))))))))))))))))))) d53
 
-          d53 : Typed.Typed 𝓤 H A 𝓣 E G38 b36 Δ0 at53
-          d53 = Typed.s-seq 𝓤 H A W 𝓣 E G38 G39 b24 b35 Δ0 (Typed.ask s36) at52 (Relend.t-sl-aggregate 𝓤 H A W E (Referent.rtF (Referent.fInt Syntax.w8)) 𝓣 (Relend.asMut (Referent.rtF (Referent.fInt
-              Syntax.w8))) G38 17 18 6 (Syntax.tyRef Syntax.erased Syntax.mut (Syntax.tyInt Syntax.w8)) (Syntax.tyRef Syntax.erased Syntax.mut (Syntax.tyInt Syntax.w8)) (λ x. x) (Scalar.oFld 2 (List._∷_
+          d55 : Typed.Typed 𝓤 H A 𝓣 E G39 b36 Δ0 at55
+          d55 = Typed.s-seq 𝓤 H A W 𝓣 E G39 G40 b24 b35 Δ0 (Typed.ask s37) at54 (Relend.t-sl-aggregate 𝓤 H A W E (Referent.rtF (Referent.fInt Syntax.w8)) 𝓣 (Relend.asMut (Referent.rtF (Referent.fInt
+              Syntax.w8))) G39 18 19 6 (Syntax.tyRef Syntax.erased Syntax.mut (Syntax.tyInt Syntax.w8)) (Syntax.tyRef Syntax.erased Syntax.mut (Syntax.tyInt Syntax.w8)) (λ x. x) (Scalar.oFld 2 (List._∷_
               (Syntax.field 1) List.[]) (Syntax.tyInt Syntax.w64) 8 λ v. Shared.lenV (v .0)) (Reads'.as-is 𝓤 H A (Relend.msptr (Referent.rtF (Referent.fInt Syntax.w8)) (Syntax.tyRef Syntax.erased
               Syntax.mut (Syntax.tyInt Syntax.w8)) 6)) (Reads'.room-gone 𝓤 H A y1) (
                 Relend.reads-owed-len 𝓤 H A W (Referent.rtF (Referent.fInt Syntax.w8)) (Syntax.tyRef (Syntax.named 1) Syntax.mut (Syntax.tyInt Syntax.w8)) 1 6 (Row.lease (κs .1 .0) (qs .1 .0)) 8
                     Path'.refl,
                 Path'.refl,
-              ) Path'.refl Path'.refl λ b o k. tt) d52
+              ) Path'.refl Path'.refl λ b o k. tt) d54
 
-          d54 : Typed.Typed 𝓤 H A 𝓣 E G37 b37 Δ0 at54
-          d54 = Typed.s-seq 𝓤 H A W 𝓣 E G37 G38 b23 b36 Δ0 (Typed.give s35) at53 (Relend.t-sl-relend 𝓤 H A W E (Referent.rtF (Referent.fInt Syntax.w8)) 𝓣 G37 2 17 1 6 (Syntax.tyRef (Syntax.named 1)
+          d56 : Typed.Typed 𝓤 H A 𝓣 E G38 b37 Δ0 at56
+          d56 = Typed.s-seq 𝓤 H A W 𝓣 E G38 G39 b23 b36 Δ0 (Typed.give s36) at55 (Relend.t-sl-relend 𝓤 H A W E (Referent.rtF (Referent.fInt Syntax.w8)) 𝓣 G38 2 18 1 6 (Syntax.tyRef (Syntax.named 1)
               Syntax.mut (Syntax.tyInt Syntax.w8)) (Syntax.tyRef Syntax.erased Syntax.mut (Syntax.tyInt Syntax.w8)) (Row.lease (κs .1 .0) (qs .1 .0)) 0 (λ x. x) (Reads'.as-is 𝓤 H A (Mut.mslice
               (Referent.rtF (Referent.fInt Syntax.w8)) (Syntax.tyRef (Syntax.named 1) Syntax.mut (Syntax.tyInt Syntax.w8)) 1)) (Reads'.room-gone 𝓤 H A (Syntax.tyRef Syntax.erased Syntax.mut (Syntax.tyInt
-              Syntax.w8))) Path'.refl tt Path'.refl Path'.refl Path'.refl λ b o. tt) d53
+              Syntax.w8))) Path'.refl tt Path'.refl Path'.refl Path'.refl λ b o. tt) d55
 
-          d55 : Typed.Typed 𝓤 H A 𝓣 E G9 b37 Δ0 at55
-          d55 = Typed.g-pre 𝓤 H A W 𝓣 E G9 G37 b37 Δ0 (λ Ψ. Ψ) at54 (Lifetime.g-begin 𝓤 H A W E G9 6
-              (tt, (tt, (tt, (tt, (tt, (tt, (tt, (tt, (tt, (tt, (tt, (tt, (tt, (tt, (tt, (tt, (tt, (tt, (tt, (tt, (tt, (tt, (tt, tt)))))))))))))))))))))))) d54
+          d57 : Typed.Typed 𝓤 H A 𝓣 E G9 b37 Δ0 at57
+          d57 = Typed.g-pre 𝓤 H A W 𝓣 E G9 G38 b37 Δ0 (λ Ψ. Ψ) at56 (Lifetime.g-begin 𝓤 H A W E G9 6
+              (tt, (tt, (tt, (tt, (tt, (tt, (tt, (tt, (tt, (tt, (tt, (tt, (tt, (tt, (tt, (tt, (tt, (tt, (tt, (tt, (tt, (tt, (tt, (tt, tt))))))))))))))))))))))))) d56
 
-          d56 : Typed.Typed 𝓤 H A 𝓣 E G8 b38 Δ0 at56
-          d56 = Typed.t-seq 𝓤 H A W 𝓣 E G8 G9 b22 b37 Δ0 at29 at55 d29 d55
+          d58 : Typed.Typed 𝓤 H A 𝓣 E G8 b38 Δ0 at58
+          d58 = Typed.t-seq 𝓤 H A W 𝓣 E G8 G9 b22 b37 Δ0 at30 at57 d30 d57
 
-          d57 : Typed.Typed 𝓤 H A 𝓣 E G7 b39 Δ0 at57
-          d57 = Typed.s-seq 𝓤 H A W 𝓣 E G7 G8 b3 b38 Δ0 (Typed.ask s6) at56 (Scalar.t-op2 𝓤 H A W E 𝓣 G7 (Syntax.lt Syntax.unsigned) (Scalar.oAt 8 (Syntax.tyInt Syntax.w64) (Row.valS (Row.sInt
-              Syntax.w64))) (Scalar.oAt 9 (Syntax.tyInt Syntax.w64) (Row.valS (Row.sInt Syntax.w64))) 10 (Rows.sc-here Row.sBool) Syntax.tyBool (Row.valS Row.sBool) (Row.sBool .of)
+          d59 : Typed.Typed 𝓤 H A 𝓣 E G7 b39 Δ0 at59
+          d59 = Typed.s-seq 𝓤 H A W 𝓣 E G7 G8 b3 b38 Δ0 (Typed.ask s6) at58 (Scalar.t-op2 𝓤 H A W E 𝓣 G7 (Syntax.lt Syntax.unsigned) (Scalar.oAt 9 (Syntax.tyInt Syntax.w64) (Row.valS (Row.sInt
+              Syntax.w64))) (Scalar.oAt 10 (Syntax.tyInt Syntax.w64) (Row.valS (Row.sInt Syntax.w64))) 11 (Rows.sc-here Row.sBool) Syntax.tyBool (Row.valS Row.sBool) (Row.sBool .of)
               (Scalar.reads-sc 𝓤 H A W (Row.sInt Syntax.w64), Path'.refl) (Scalar.reads-sc 𝓤 H A W (Row.sInt Syntax.w64), Path'.refl) (Reads'.room-gone 𝓤 H A Syntax.tyBool) (Scalar.holds-sc 𝓤 H A W
-              Row.sBool) Path'.refl (λ u. Path'.refl) λ u. tt) d56
+              Row.sBool) Path'.refl (λ u. Path'.refl) λ u. tt) d58
 
-          d58 : Typed.Typed 𝓤 H A 𝓣 E G6 b40 Δ0 at58
-          d58 = Typed.s-seq 𝓤 H A W 𝓣 E G6 G7 b2 b39 Δ0 (Typed.pass T6 T7 s5) at57 (Scalar.t-use 𝓤 H A W E 𝓣 G6 (Scalar.oFld 1 (List._∷_ (Syntax.field 1) List.[]) (Syntax.tyInt Syntax.w64) 8
-              Shared.lenV) 9 (Rows.sc-here (Row.sInt Syntax.w64)) (Syntax.tyInt Syntax.w64) (Row.valS (Row.sInt Syntax.w64)) (Row.sInt Syntax.w64 .of)
+          d60 : Typed.Typed 𝓤 H A 𝓣 E G6 b40 Δ0 at60
+          d60 = Typed.s-seq 𝓤 H A W 𝓣 E G6 G7 b2 b39 Δ0 (Typed.pass T6 T7 s5) at59 (Scalar.t-use 𝓤 H A W E 𝓣 G6 (Scalar.oFld 1 (List._∷_ (Syntax.field 1) List.[]) (Syntax.tyInt Syntax.w64) 8
+              Shared.lenV) 10 (Rows.sc-here (Row.sInt Syntax.w64)) (Syntax.tyInt Syntax.w64) (Row.valS (Row.sInt Syntax.w64)) (Row.sInt Syntax.w64 .of)
               (Shared.reads-sslice-len 𝓤 H A W (Referent.rtF (Referent.fInt Syntax.w16)) (Syntax.tyRef (Syntax.named 0) Syntax.imm (Syntax.tyInt Syntax.w16)) 0 8 Path'.refl, Path'.refl) (Reads'.room-gone
-              𝓤 H A (Syntax.tyInt Syntax.w64)) (Scalar.holds-sc 𝓤 H A W (Row.sInt Syntax.w64)) Path'.refl (λ u. Path'.refl) λ u. tt) d57
+              𝓤 H A (Syntax.tyInt Syntax.w64)) (Scalar.holds-sc 𝓤 H A W (Row.sInt Syntax.w64)) Path'.refl (λ u. Path'.refl) λ u. tt) d59
 
-          d59 : Typed.Typed 𝓤 H A 𝓣 E G5 b41 Δ0 at59
-          d59 = Typed.s-seq 𝓤 H A W 𝓣 E G5 G6 b1 b40 Δ0 (Typed.both s4) at58 (Plain.t-call-plain 𝓤 H A W 𝓣 1 ps·1 r·1 (claims· .2) (claims· .3) "begin::first_above" (known .1) E (λ pos β. β) G5
-              (record { pos = 1; ty = Syntax.tyRef (Syntax.named 0) Syntax.imm (Syntax.tyInt Syntax.w16); ref = λ x. x }, (Num.vAt 7 λ x. x, tt)) 8 (List._∷_ 0 List.[]) (Call.sub-id 𝓤 H A W (G5 .slots)) (
+          d61 : Typed.Typed 𝓤 H A 𝓣 E G5 b41 Δ0 at61
+          d61 = Typed.s-seq 𝓤 H A W 𝓣 E G5 G6 b1 b40 Δ0 (Typed.both s4) at60 (Plain.t-call-plain 𝓤 H A W 𝓣 1 ps·1 r·1 (claims· .2) (claims· .3) "begin::first_above" (known .1) E (λ pos β. β) G5
+              (record { pos = 1; ty = Syntax.tyRef (Syntax.named 0) Syntax.imm (Syntax.tyInt Syntax.w16); ref = λ x. x }, (Num.vAt 8 λ x. x, tt)) 9 (List._∷_ 0 List.[]) (Call.sub-id 𝓤 H A W (G5 .slots)) (
                 ShrSlice.spares-sslice 𝓤 H A W (Referent.rtF (Referent.fInt Syntax.w16)) (Syntax.tyRef (Syntax.named 0) Syntax.imm (Syntax.tyInt Syntax.w16)) 0,
                 Shared.reads-sslice 𝓤 H A W (Referent.rtF
                     (Referent.fInt Syntax.w16)) (Syntax.tyRef (Syntax.named 0) Syntax.imm (Syntax.tyInt Syntax.w16)) 0,
                 Path'.refl,
                 ((Scalar.reads-sc 𝓤 H A W (Row.sInt Syntax.w32), Path'.refl), tt),
               )
-              (Reads'.room-gone 𝓤 H A (Syntax.tyInt Syntax.w64)) (tt, tt) Path'.refl) d58
+              (Reads'.room-gone 𝓤 H A (Syntax.tyInt Syntax.w64)) (tt, tt) Path'.refl) d60
 
-          d60 : Typed.Typed 𝓤 H A 𝓣 E G4 b42 Δ0 at60
-          d60 = Typed.s-seq 𝓤 H A W 𝓣 E G4 G5 b0 b41 Δ0 (Typed.both s3) at59 (Plain.t-call-plain 𝓤 H A W 𝓣 0 ps·0 r·0 (claims· .0) (claims· .1) "quantiser::largest" (known .0) E (λ pos β. β) G4
-              (Num.vFld 5 (List._∷_ (Syntax.field 0) List.[]) 0 λ x. Form.struct .as-values x .0, tt) 7 List.[] (Call.sub-id 𝓤 H A W (G4 .slots))
-              ((Reads.reads-field 𝓤 H A W Form.the-type Laws.the-laws 0 (Syntax.tyInt Syntax.w32) 0 Path'.refl, Path'.refl), tt) (Reads'.room-gone 𝓤 H A (Syntax.tyInt Syntax.w32)) tt Path'.refl) d59
+          d62 : Typed.Typed 𝓤 H A 𝓣 E G4 b42 Δ0 at62
+          d62 = Typed.s-seq 𝓤 H A W 𝓣 E G4 G5 b0 b41 Δ0 (Typed.both s3) at61 (Plain.t-call-plain 𝓤 H A W 𝓣 0 ps·0 r·0 (claims· .0) (claims· .1) "quantiser::largest" (known .0) E (λ pos β. β) G4
+              (Num.vFld 6 (List._∷_ (Syntax.field 0) List.[]) 0 λ x. Form.struct .as-values x .0, tt) 8 List.[] (Call.sub-id 𝓤 H A W (G4 .slots))
+              ((Reads.reads-field 𝓤 H A W Form.the-type Laws.the-laws 0 (Syntax.tyInt Syntax.w32) 0 Path'.refl, Path'.refl), tt) (Reads'.room-gone 𝓤 H A (Syntax.tyInt Syntax.w32)) tt Path'.refl) d61
 
-          d61 : Typed.Typed 𝓤 H A 𝓣 E G3 b42 Δ0 at61
-          d61 = Typed.g-pre 𝓤 H A W 𝓣 E G3 G4 b42 Δ0 (Typed.give s2) at60 (Know.g-sl-known 𝓤 H A W (Referent.fInt Syntax.w16) E G3 3 2 (Syntax.tyRef (Syntax.named 2) Syntax.mut (Syntax.tyInt
+          d63 : Typed.Typed 𝓤 H A 𝓣 E G3 b42 Δ0 at63
+          d63 = Typed.g-pre 𝓤 H A W 𝓣 E G3 G4 b42 Δ0 (Typed.give s2) at62 (Know.g-sl-known 𝓤 H A W (Referent.fInt Syntax.w16) E G3 4 2 (Syntax.tyRef (Syntax.named 2) Syntax.mut (Syntax.tyInt
               Syntax.w16)) (Row.lease (κs .1 .1 .0) (qs .1 .1 .0)) 0 (λ x. x) record { fits = Dec'.lit< tt } (Reads'.as-is 𝓤 H A (Mut.mslice (Referent.rtF (Referent.fInt Syntax.w16)) (Syntax.tyRef
-              (Syntax.named 2) Syntax.mut (Syntax.tyInt Syntax.w16)) 2)) Path'.refl tt) d60
+              (Syntax.named 2) Syntax.mut (Syntax.tyInt Syntax.w16)) 2)) Path'.refl tt) d62
 
-          d62 : Typed.Typed 𝓤 H A 𝓣 E G2 b42 Δ0 at62
-          d62 = Typed.g-pre 𝓤 H A W 𝓣 E G2 G3 b42 Δ0 (Typed.give s1) at61 (Know.g-sl-known 𝓤 H A W (Referent.fInt Syntax.w8) E G2 2 1 (Syntax.tyRef (Syntax.named 1) Syntax.mut (Syntax.tyInt
+          d64 : Typed.Typed 𝓤 H A 𝓣 E G2 b42 Δ0 at64
+          d64 = Typed.g-pre 𝓤 H A W 𝓣 E G2 G3 b42 Δ0 (Typed.give s1) at63 (Know.g-sl-known 𝓤 H A W (Referent.fInt Syntax.w8) E G2 2 1 (Syntax.tyRef (Syntax.named 1) Syntax.mut (Syntax.tyInt
               Syntax.w8)) (Row.lease (κs .1 .0) (qs .1 .0)) 0 (λ x. x) record { fits = Dec'.lit< tt } (Reads'.as-is 𝓤 H A (Mut.mslice (Referent.rtF (Referent.fInt Syntax.w8)) (Syntax.tyRef (Syntax.named
-              1) Syntax.mut (Syntax.tyInt Syntax.w8)) 1)) Path'.refl tt) d61
+              1) Syntax.mut (Syntax.tyInt Syntax.w8)) 1)) Path'.refl tt) d63
 
-          d63 : Typed.Typed 𝓤 H A 𝓣 E G0 b42 Δ0 at63
-          d63 = Typed.g-pre 𝓤 H A W 𝓣 E G0 G2 b42 Δ0 (Typed.give s0) at62 (Know.g-shs-known 𝓤 H A W (Referent.fInt Syntax.w16) E G0 1 0 (Syntax.tyRef (Syntax.named 0) Syntax.imm (Syntax.tyInt
+          d65 : Typed.Typed 𝓤 H A 𝓣 E G0 b42 Δ0 at65
+          d65 = Typed.g-pre 𝓤 H A W 𝓣 E G0 G2 b42 Δ0 (Typed.give s0) at64 (Know.g-shs-known 𝓤 H A W (Referent.fInt Syntax.w16) E G0 1 0 (Syntax.tyRef (Syntax.named 0) Syntax.imm (Syntax.tyInt
               Syntax.w16)) (Row.lease (κs .0) (qs .0)) 0 (λ x. x) record { fits = Dec'.lit< tt } (Reads'.as-is 𝓤 H A (Rows.sslice (Referent.rtF (Referent.fInt Syntax.w16)) (Syntax.tyRef (Syntax.named 0)
-              Syntax.imm (Syntax.tyInt Syntax.w16)) 0)) Path'.refl tt) d62
+              Syntax.imm (Syntax.tyInt Syntax.w16)) 0)) Path'.refl tt) d64
 
           pub typed : Typed.Typed 𝓤 H A 𝓣 E (Function.Γin 4 ps r xs m κs qs) b42 (Function.Δret 4 ps r xs m κs qs) Φ
-          typed = d63
+          typed = d65
 
       module _ (κs : Lifetimes.Lfts 4) where
         pub record Args : Type 0 where
           pub samples : Kinds.Den {n = 4} κs (ShrSlice.pShrS (Referent.rtF (Referent.fInt Syntax.w16)) 0 tt)
           pub out : Kinds.Den {n = 4} κs (MutSlice.pMutS (Referent.rtF (Referent.fInt Syntax.w8)) 1 tt)
+          pub measure : Kinds.Den {n = 4} κs Bool.pBool
           pub lines : Kinds.Den {n = 4} κs (MutSlice.pMutS (Referent.rtF (Referent.fInt Syntax.w16)) 2 tt)
           pub rs : Kinds.Den {n = 4} κs (MutSlice.pMutS (Element.type) 3 tt)
           pub form : Kinds.Den {n = 4} κs (Value.pVal record {
@@ -2231,7 +2289,7 @@ module _ (claims· : Claims) where
           pub count : Kinds.Den {n = 4} κs (Num.pNum Syntax.w64)
 
         abbrev pub dens : (a : Args) → Kinds.Dens κs ps
-        dens = λ a. (a .samples, (a .out, (a .lines, (a .rs, (a .form, (a .count, tt))))))
+        dens = λ a. (a .samples, (a .out, (a .measure, (a .lines, (a .rs, (a .form, (a .count, tt)))))))
 
         module _ (args· : Args) where
           pub record Ranges : Type 0 where
@@ -2296,7 +2354,7 @@ module _ (claims· : Claims) where
 
       module _ (before· : After-slice-known2) where
         abbrev pub After-largest·own : Type 0
-        After-largest·own = Called.Called ps·0 r·0 (claims· .1) T4 (Num.vFld 5 (List._∷_ (Syntax.field 0) List.[]) 0 λ x. Form.struct .as-values x .0, tt) (m3 (before· .before) (before· .slice-known2
+        After-largest·own = Called.Called ps·0 r·0 (claims· .1) T4 (Num.vFld 6 (List._∷_ (Syntax.field 0) List.[]) 0 λ x. Form.struct .as-values x .0, tt) (m3 (before· .before) (before· .slice-known2
             .given))
 
       pub record After-largest : Type 0 where
@@ -2304,7 +2362,7 @@ module _ (claims· : Claims) where
         pub largest : After-largest·own before
 
       abbrev pub After-largest·gave : (c : After-largest) → s3 .gives (m3 (c .before .before) (c .before .slice-known2 .given))
-      After-largest·gave = λ c. Called.given ps·0 r·0 (claims· .1) T4 (Num.vFld 5 (List._∷_ (Syntax.field 0) List.[]) 0 λ x. Form.struct .as-values x .0, tt) (m3 (c .before .before) (c .before
+      After-largest·gave = λ c. Called.given ps·0 r·0 (claims· .1) T4 (Num.vFld 6 (List._∷_ (Syntax.field 0) List.[]) 0 λ x. Form.struct .as-values x .0, tt) (m3 (c .before .before) (c .before
           .slice-known2 .given)) (c .largest)
 
       abbrev pub Need-first-above-requires : Type 0
@@ -2316,7 +2374,7 @@ module _ (claims· : Claims) where
       module _ (before· : After-largest) where
         abbrev pub After-first-above·own : Type 0
         After-first-above·own = Called.Called ps·1 r·1 (claims· .3) T5
-            (record { pos = 1; ty = Syntax.tyRef (Syntax.named 0) Syntax.imm (Syntax.tyInt Syntax.w16); ref = λ x. x }, (Num.vAt 7 λ x. x, tt)) (m4 (before· .before) (After-largest·gave before·))
+            (record { pos = 1; ty = Syntax.tyRef (Syntax.named 0) Syntax.imm (Syntax.tyInt Syntax.w16); ref = λ x. x }, (Num.vAt 8 λ x. x, tt)) (m4 (before· .before) (After-largest·gave before·))
 
       pub record After-first-above : Type 0 where
         pub before : After-largest
@@ -2324,7 +2382,7 @@ module _ (claims· : Claims) where
 
       abbrev pub After-first-above·gave : (c : After-first-above) → s4 .gives (m4 (c .before .before) (After-largest·gave (c .before)))
       After-first-above·gave = λ c. Called.given ps·1 r·1 (claims· .3) T5
-          (record { pos = 1; ty = Syntax.tyRef (Syntax.named 0) Syntax.imm (Syntax.tyInt Syntax.w16); ref = λ x. x }, (Num.vAt 7 λ x. x, tt)) (m4 (c .before .before) (After-largest·gave (c .before))) (c
+          (record { pos = 1; ty = Syntax.tyRef (Syntax.named 0) Syntax.imm (Syntax.tyInt Syntax.w16); ref = λ x. x }, (Num.vAt 8 λ x. x, tt)) (m4 (c .before .before) (After-largest·gave (c .before))) (c
           .first-above)
 
       abbrev pub m6 : (before : After-largest) → (given : s4 .gives (m4 (before .before) (After-largest·gave before))) → Typed.Mo T7
@@ -2334,7 +2392,7 @@ module _ (claims· : Claims) where
       m7 = λ before given. s6 .next (m6 before given)
 
       abbrev W1 : (before : After-largest) → (given : s4 .gives (m4 (before .before) (After-largest·gave before))) → Typed.Want O1
-      W1 = λ before given. Typed.wantNext T9 O0 (at55 (W0 (before .before .before .before .before .κs) (before .before .before .before .before .args))) (W0 (before .before .before .before .before .κs)
+      W1 = λ before given. Typed.wantNext T9 O0 (at57 (W0 (before .before .before .before .before .κs) (before .before .before .before .before .args))) (W0 (before .before .before .before .before .κs)
           (before .before .before .before .before .args))
 
       abbrev pub m8 : (before : After-largest) → (given : s4 .gives (m4 (before .before) (After-largest·gave before))) → Typed.Mo T10
@@ -2342,7 +2400,7 @@ module _ (claims· : Claims) where
 
       module _ (before· : After-first-above) where
         pub record Then1·own : Type 0 where
-          pub taken : Nat._<_ (Row.get 8 (T7 .locals) (m6 (before· .before) (After-first-above·gave before·))) (Row.get 9 (T7 .locals) (m6 (before· .before) (After-first-above·gave before·)))
+          pub taken : Nat._<_ (Row.get 9 (T7 .locals) (m6 (before· .before) (After-first-above·gave before·))) (Row.get 10 (T7 .locals) (m6 (before· .before) (After-first-above·gave before·)))
 
       pub record Then1 : Type 0 where
         pub before : After-first-above
@@ -2376,7 +2434,7 @@ module _ (claims· : Claims) where
 
       module _ (before· : After-clear-arg) where
         abbrev pub After-clear·own : Type 0
-        After-clear·own = Called.Called ps·2 r·2 (claims· .5) T15 (record { pos = 13; ty = Syntax.tyRef Syntax.erased Syntax.mut (Syntax.tyInt Syntax.w16); ref = λ x. x }, tt) (m12 (before· .before)
+        After-clear·own = Called.Called ps·2 r·2 (claims· .5) T15 (record { pos = 14; ty = Syntax.tyRef Syntax.erased Syntax.mut (Syntax.tyInt Syntax.w16); ref = λ x. x }, tt) (m12 (before· .before)
             (before· .clear-arg .given))
 
       pub record After-clear : Type 0 where
@@ -2384,7 +2442,7 @@ module _ (claims· : Claims) where
         pub clear : After-clear·own before
 
       abbrev pub After-clear·gave : (c : After-clear) → s13 .gives (m12 (c .before .before) (c .before .clear-arg .given))
-      After-clear·gave = λ c. Called.given ps·2 r·2 (claims· .5) T15 (record { pos = 13; ty = Syntax.tyRef Syntax.erased Syntax.mut (Syntax.tyInt Syntax.w16); ref = λ x. x }, tt) (m12 (c .before
+      After-clear·gave = λ c. Called.given ps·2 r·2 (claims· .5) T15 (record { pos = 14; ty = Syntax.tyRef Syntax.erased Syntax.mut (Syntax.tyInt Syntax.w16); ref = λ x. x }, tt) (m12 (c .before
           .before) (c .before .clear-arg .given)) (c .clear)
 
       abbrev pub m14 : (before : After-clear-arg) → (given : s13 .gives (m12 (before .before) (before .clear-arg .given))) → Typed.Mo T17
@@ -2434,7 +2492,7 @@ module _ (claims· : Claims) where
 
       module _ (before· : After-clear-records-arg) where
         abbrev pub After-clear-records·own : Type 0
-        After-clear-records·own = Called.Called ps·3 r·3 (claims· .7) T24 (record { pos = 15; ty = Syntax.tyRef Syntax.erased Syntax.mut Element.behind; ref = λ x. x }, tt) (m18 (before· .before)
+        After-clear-records·own = Called.Called ps·3 r·3 (claims· .7) T24 (record { pos = 16; ty = Syntax.tyRef Syntax.erased Syntax.mut Element.behind; ref = λ x. x }, tt) (m18 (before· .before)
             (before· .clear-records-arg .given))
 
       pub record After-clear-records : Type 0 where
@@ -2442,7 +2500,7 @@ module _ (claims· : Claims) where
         pub clear-records : After-clear-records·own before
 
       abbrev pub After-clear-records·gave : (c : After-clear-records) → s22 .gives (m18 (c .before .before) (c .before .clear-records-arg .given))
-      After-clear-records·gave = λ c. Called.given ps·3 r·3 (claims· .7) T24 (record { pos = 15; ty = Syntax.tyRef Syntax.erased Syntax.mut Element.behind; ref = λ x. x }, tt) (m18 (c .before
+      After-clear-records·gave = λ c. Called.given ps·3 r·3 (claims· .7) T24 (record { pos = 16; ty = Syntax.tyRef Syntax.erased Syntax.mut Element.behind; ref = λ x. x }, tt) (m18 (c .before
           .before) (c .before .clear-records-arg .given)) (c .clear-records)
 
       abbrev pub m20 : (before : After-clear-records-arg) → (given : s22 .gives (m18 (before .before) (before .clear-records-arg .given))) → Typed.Mo T26
@@ -2469,6 +2527,9 @@ module _ (claims· : Claims) where
       abbrev pub m27 : (before : After-clear-records) → (given : s25 .gives (m20 (before .before) (After-clear-records·gave before))) → Typed.Mo T35
       m27 = λ before given. s32 (m26 before given)
 
+      abbrev pub m28 : (before : After-clear-records) → (given : s25 .gives (m20 (before .before) (After-clear-records·gave before))) → Typed.Mo T36
+      m28 = λ before given. s33 (m27 before given)
+
       module _ (before· : After-clear-records) where
         pub record After-rs·own : Type 0 where
           pub given : s25 .gives (m20 (before· .before) (After-clear-records·gave before·))
@@ -2478,210 +2539,219 @@ module _ (claims· : Claims) where
         pub rs : After-rs·own before
 
       abbrev pub Need-same-length : Type 0
-      Need-same-length = (c : After-rs) → MutSlice.SameLen (Row.get 3 (T35 .locals) (m27 (c .before) (c .rs .given))) (dens (c .before .before .before .before .before .before .before .before .before
-          .before .before .before .before .κs) (c .before .before .before .before .before .before .before .before .before .before .before .before .before .args) .1 .1 .0)
+      Need-same-length = (c : After-rs) → MutSlice.SameLen (Row.get 4 (T36 .locals) (m28 (c .before) (c .rs .given))) (dens (c .before .before .before .before .before .before .before .before .before
+          .before .before .before .before .κs) (c .before .before .before .before .before .before .before .before .before .before .before .before .before .args) .1 .1 .1 .0)
 
       abbrev pub Need-same-length-2 : Type 0
-      Need-same-length-2 = (c : After-rs) → MutSlice.SameLen (Row.get 4 (T35 .locals) (m27 (c .before) (c .rs .given))) (dens (c .before .before .before .before .before .before .before .before .before
-          .before .before .before .before .κs) (c .before .before .before .before .before .before .before .before .before .before .before .before .before .args) .1 .1 .1 .0)
+      Need-same-length-2 = (c : After-rs) → MutSlice.SameLen (Row.get 5 (T36 .locals) (m28 (c .before) (c .rs .given))) (dens (c .before .before .before .before .before .before .before .before .before
+          .before .before .before .before .κs) (c .before .before .before .before .before .before .before .before .before .before .before .before .before .args) .1 .1 .1 .1 .0)
 
       abbrev pub Need-returns : Type 0
       Need-returns = (c : After-rs) → Post· (c .before .before .before .before .before .before .before .before .before .before .before .before .before .κs) (dens (c .before .before .before .before
           .before .before .before .before .before .before .before .before .before .κs) (c .before .before .before .before .before .before .before .before .before .before .before .before .before .args))
-          (Function.resV r (c .before .before .before .before .before .before .before .before .before .before .before .before .before .κs) (m27 (c .before) (c .rs .given) .0)) (Clauses.atExit
+          (Function.resV r (c .before .before .before .before .before .before .before .before .before .before .before .before .before .κs) (m28 (c .before) (c .rs .given) .0)) (Clauses.atExit
           (Kinds.endedOf 4 ps r) (c .before .before .before .before .before .before .before .before .before .before .before .before .before .κs) (dens (c .before .before .before .before .before .before
           .before .before .before .before .before .before .before .κs) (c .before .before .before .before .before .before .before .before .before .before .before .before .before .args)) (Enter.lastsP (c
           .before .before .before .before .before .before .before .before .before .before .before .before .before .κs) 1 ps xs (dens (c .before .before .before .before .before .before .before .before
-          .before .before .before .before .before .κs) (c .before .before .before .before .before .before .before .before .before .before .before .before .before .args)) (m27 (c .before) (c .rs .given)
+          .before .before .before .before .before .κs) (c .before .before .before .before .before .before .before .before .before .before .before .before .before .args)) (m28 (c .before) (c .rs .given)
           .1)))
 
       module _ (before· : After-first-above) where
         pub record Else1·own : Type 0 where
-          pub left : Nat._≤_ (Row.get 9 (T7 .locals) (m6 (before· .before) (After-first-above·gave before·))) (Row.get 8 (T7 .locals) (m6 (before· .before) (After-first-above·gave before·)))
+          pub left : Nat._≤_ (Row.get 10 (T7 .locals) (m6 (before· .before) (After-first-above·gave before·))) (Row.get 9 (T7 .locals) (m6 (before· .before) (After-first-above·gave before·)))
 
       pub record Else1 : Type 0 where
         pub before : After-first-above
         pub if1 : Else1·own before
 
-      abbrev pub m28 : (before : After-first-above) → Typed.Mo T36
-      m28 = λ before. s33 (m8 (before .before) (After-first-above·gave before))
+      abbrev pub m29 : (before : After-first-above) → Typed.Mo T37
+      m29 = λ before. s34 (m8 (before .before) (After-first-above·gave before))
 
-      abbrev pub m29 : (before : Else1) → (given : s35 .gives (m28 (before .before))) → Typed.Mo T38
-      m29 = λ before given. s35 .next (m28 (before .before)) given
+      abbrev pub m30 : (before : Else1) → (given : s36 .gives (m29 (before .before))) → Typed.Mo T39
+      m30 = λ before given. s36 .next (m29 (before .before)) given
 
-      abbrev pub m30 : (before : Else1) → (given : s35 .gives (m28 (before .before))) → Typed.Mo T39
-      m30 = λ before given. s36 .next (m29 before given)
+      abbrev pub m31 : (before : Else1) → (given : s36 .gives (m29 (before .before))) → Typed.Mo T40
+      m31 = λ before given. s37 .next (m30 before given)
 
       module _ (before· : Else1) where
         pub record After-write-measured-arg·own : Type 0 where
-          pub given : s35 .gives (m28 (before· .before))
+          pub given : s36 .gives (m29 (before· .before))
 
       pub record After-write-measured-arg : Type 0 where
         pub before : Else1
         pub write-measured-arg : After-write-measured-arg·own before
 
-      abbrev pub m31 : (before : After-write-measured-arg) → (given : s38 .gives (m30 (before .before) (before .write-measured-arg .given))) → Typed.Mo T41
-      m31 = λ before given. s38 .next (m30 (before .before) (before .write-measured-arg .given)) given
+      abbrev pub m32 : (before : After-write-measured-arg) → (given : s39 .gives (m31 (before .before) (before .write-measured-arg .given))) → Typed.Mo T42
+      m32 = λ before given. s39 .next (m31 (before .before) (before .write-measured-arg .given)) given
 
-      abbrev pub m32 : (before : After-write-measured-arg) → (given : s38 .gives (m30 (before .before) (before .write-measured-arg .given))) → Typed.Mo T42
-      m32 = λ before given. s39 .next (m31 before given)
+      abbrev pub m33 : (before : After-write-measured-arg) → (given : s39 .gives (m31 (before .before) (before .write-measured-arg .given))) → Typed.Mo T43
+      m33 = λ before given. s40 .next (m32 before given)
 
       module _ (before· : After-write-measured-arg) where
         pub record After-write-measured-arg2·own : Type 0 where
-          pub given : s38 .gives (m30 (before· .before) (before· .write-measured-arg .given))
+          pub given : s39 .gives (m31 (before· .before) (before· .write-measured-arg .given))
 
       pub record After-write-measured-arg2 : Type 0 where
         pub before : After-write-measured-arg
         pub write-measured-arg2 : After-write-measured-arg2·own before
 
-      abbrev pub m33 : (before : After-write-measured-arg2) → (given : s41 .gives (m32 (before .before) (before .write-measured-arg2 .given))) → Typed.Mo T44
-      m33 = λ before given. s41 .next (m32 (before .before) (before .write-measured-arg2 .given)) given
+      abbrev pub m34 : (before : After-write-measured-arg2) → (given : s42 .gives (m33 (before .before) (before .write-measured-arg2 .given))) → Typed.Mo T45
+      m34 = λ before given. s42 .next (m33 (before .before) (before .write-measured-arg2 .given)) given
 
-      abbrev pub m34 : (before : After-write-measured-arg2) → (given : s41 .gives (m32 (before .before) (before .write-measured-arg2 .given))) → Typed.Mo T45
-      m34 = λ before given. s42 .next (m33 before given)
+      abbrev pub m35 : (before : After-write-measured-arg2) → (given : s42 .gives (m33 (before .before) (before .write-measured-arg2 .given))) → Typed.Mo T46
+      m35 = λ before given. s43 .next (m34 before given)
 
       module _ (before· : After-write-measured-arg2) where
         pub record After-write-measured-arg3·own : Type 0 where
-          pub given : s41 .gives (m32 (before· .before) (before· .write-measured-arg2 .given))
+          pub given : s42 .gives (m33 (before· .before) (before· .write-measured-arg2 .given))
 
       pub record After-write-measured-arg3 : Type 0 where
         pub before : After-write-measured-arg2
         pub write-measured-arg3 : After-write-measured-arg3·own before
 
       abbrev pub Need-write-measured-requires : Type 0
-      Need-write-measured-requires = (c : After-write-measured-arg3) → s43 .asks (m34 (c .before) (c .write-measured-arg3 .given))
+      Need-write-measured-requires = (c : After-write-measured-arg3) → s44 .asks (m35 (c .before) (c .write-measured-arg3 .given))
 
-      abbrev pub m35 : (before : After-write-measured-arg3) → (given : s43 .gives (m34 (before .before) (before .write-measured-arg3 .given))) → Typed.Mo T46
-      m35 = λ before given. s43 .next (m34 (before .before) (before .write-measured-arg3 .given)) given
+      abbrev pub m36 : (before : After-write-measured-arg3) → (given : s44 .gives (m35 (before .before) (before .write-measured-arg3 .given))) → Typed.Mo T47
+      m36 = λ before given. s44 .next (m35 (before .before) (before .write-measured-arg3 .given)) given
 
       module _ (before· : After-write-measured-arg3) where
         abbrev pub After-write-measured·own : Type 0
-        After-write-measured·own = Called.Called ps·4 r·4 (claims· .9) T45 (
+        After-write-measured·own = Called.Called ps·4 r·4 (claims· .9) T46 (
           record { pos = 1; ty = Syntax.tyRef (Syntax.named 0) Syntax.imm (Syntax.tyInt Syntax.w16); ref = λ x. x },
           (
-            record { pos = 18; ty = Syntax.tyRef Syntax.erased Syntax.mut (Syntax.tyInt Syntax.w8); ref = λ x. x },
+            record { pos = 19; ty = Syntax.tyRef Syntax.erased Syntax.mut (Syntax.tyInt Syntax.w8); ref = λ x. x },
             (
-              record { pos = 20; ty = Syntax.tyRef Syntax.erased Syntax.mut (Syntax.tyInt Syntax.w16); ref = λ x. x },
-              (record { pos = 22; ty = Syntax.tyRef Syntax.erased Syntax.mut Element.behind; ref = λ x. x }, (record { pos = 5; st = List.[]; d = 0; at = λ x. x }, (Num.vAt 6 λ x. x, tt))),
+              Bool.bAt 3 λ x. x,
+              (
+                record { pos = 21; ty = Syntax.tyRef Syntax.erased Syntax.mut (Syntax.tyInt Syntax.w16); ref = λ x. x },
+                (record { pos = 23; ty = Syntax.tyRef Syntax.erased Syntax.mut Element.behind; ref = λ x. x }, (record { pos = 6; st = List.[]; d = 0; at = λ x. x }, (Num.vAt 7 λ x. x, tt))),
+              ),
             ),
           ),
-        ) (m34 (before·
-            .before) (before· .write-measured-arg3 .given))
+        ) (m35
+            (before· .before) (before· .write-measured-arg3 .given))
 
       pub record After-write-measured : Type 0 where
         pub before : After-write-measured-arg3
         pub write-measured : After-write-measured·own before
 
-      abbrev pub After-write-measured·gave : (c : After-write-measured) → s43 .gives (m34 (c .before .before) (c .before .write-measured-arg3 .given))
-      After-write-measured·gave = λ c. Called.given ps·4 r·4 (claims· .9) T45 (
+      abbrev pub After-write-measured·gave : (c : After-write-measured) → s44 .gives (m35 (c .before .before) (c .before .write-measured-arg3 .given))
+      After-write-measured·gave = λ c. Called.given ps·4 r·4 (claims· .9) T46 (
         record { pos = 1; ty = Syntax.tyRef (Syntax.named 0) Syntax.imm (Syntax.tyInt Syntax.w16); ref = λ x. x },
         (
-          record { pos = 18; ty = Syntax.tyRef Syntax.erased Syntax.mut (Syntax.tyInt Syntax.w8); ref = λ x. x },
+          record { pos = 19; ty = Syntax.tyRef Syntax.erased Syntax.mut (Syntax.tyInt Syntax.w8); ref = λ x. x },
           (
-            record { pos = 20; ty = Syntax.tyRef Syntax.erased Syntax.mut (Syntax.tyInt Syntax.w16); ref = λ x. x },
-            (record { pos = 22; ty = Syntax.tyRef Syntax.erased Syntax.mut Element.behind; ref = λ x. x }, (record { pos = 5; st = List.[]; d = 0; at = λ x. x }, (Num.vAt 6 λ x. x, tt))),
+            Bool.bAt 3 λ x. x,
+            (
+              record { pos = 21; ty = Syntax.tyRef Syntax.erased Syntax.mut (Syntax.tyInt Syntax.w16); ref = λ x. x },
+              (record { pos = 23; ty = Syntax.tyRef Syntax.erased Syntax.mut Element.behind; ref = λ x. x }, (record { pos = 6; st = List.[]; d = 0; at = λ x. x }, (Num.vAt 7 λ x. x, tt))),
+            ),
           ),
         ),
-      ) (m34 (c .before
-          .before) (c .before .write-measured-arg3 .given)) (c .write-measured)
+      ) (m35 (c
+          .before .before) (c .before .write-measured-arg3 .given)) (c .write-measured)
 
-      abbrev pub m36 : (before : After-write-measured-arg3) → (given : s43 .gives (m34 (before .before) (before .write-measured-arg3 .given))) → Typed.Mo T47
-      m36 = λ before given. s44 (m35 before given)
-
-      abbrev pub m37 : (before : After-write-measured-arg3) → (given : s43 .gives (m34 (before .before) (before .write-measured-arg3 .given))) → Typed.Mo T48
+      abbrev pub m37 : (before : After-write-measured-arg3) → (given : s44 .gives (m35 (before .before) (before .write-measured-arg3 .given))) → Typed.Mo T48
       m37 = λ before given. s45 (m36 before given)
 
-      abbrev pub m38 : (before : After-write-measured-arg3) → (given : s43 .gives (m34 (before .before) (before .write-measured-arg3 .given))) → Typed.Mo T49
+      abbrev pub m38 : (before : After-write-measured-arg3) → (given : s44 .gives (m35 (before .before) (before .write-measured-arg3 .given))) → Typed.Mo T49
       m38 = λ before given. s46 (m37 before given)
 
-      abbrev pub m39 : (before : After-write-measured) → (given : s48 .gives (m38 (before .before) (After-write-measured·gave before))) → Typed.Mo T51
-      m39 = λ before given. s48 .next (m38 (before .before) (After-write-measured·gave before)) given
+      abbrev pub m39 : (before : After-write-measured-arg3) → (given : s44 .gives (m35 (before .before) (before .write-measured-arg3 .given))) → Typed.Mo T50
+      m39 = λ before given. s47 (m38 before given)
+
+      abbrev pub m40 : (before : After-write-measured) → (given : s49 .gives (m39 (before .before) (After-write-measured·gave before))) → Typed.Mo T52
+      m40 = λ before given. s49 .next (m39 (before .before) (After-write-measured·gave before)) given
 
       module _ (before· : After-write-measured) where
         pub record After-out·own : Type 0 where
-          pub given : s48 .gives (m38 (before· .before) (After-write-measured·gave before·))
+          pub given : s49 .gives (m39 (before· .before) (After-write-measured·gave before·))
 
       pub record After-out : Type 0 where
         pub before : After-write-measured
         pub out : After-out·own before
 
-      abbrev pub m40 : (before : After-out) → (given : s49 .gives (m39 (before .before) (before .out .given))) → Typed.Mo T52
-      m40 = λ before given. s49 .next (m39 (before .before) (before .out .given)) given
+      abbrev pub m41 : (before : After-out) → (given : s50 .gives (m40 (before .before) (before .out .given))) → Typed.Mo T53
+      m41 = λ before given. s50 .next (m40 (before .before) (before .out .given)) given
 
       module _ (before· : After-out) where
         pub record After-slice-known4·own : Type 0 where
-          pub given : s49 .gives (m39 (before· .before) (before· .out .given))
+          pub given : s50 .gives (m40 (before· .before) (before· .out .given))
 
       pub record After-slice-known4 : Type 0 where
         pub before : After-out
         pub slice-known4 : After-slice-known4·own before
 
-      abbrev pub m41 : (before : After-slice-known4) → (given : s52 .gives (m40 (before .before) (before .slice-known4 .given))) → Typed.Mo T55
-      m41 = λ before given. s52 .next (m40 (before .before) (before .slice-known4 .given)) given
+      abbrev pub m42 : (before : After-slice-known4) → (given : s53 .gives (m41 (before .before) (before .slice-known4 .given))) → Typed.Mo T56
+      m42 = λ before given. s53 .next (m41 (before .before) (before .slice-known4 .given)) given
 
       module _ (before· : After-slice-known4) where
         pub record After-lines2·own : Type 0 where
-          pub given : s52 .gives (m40 (before· .before) (before· .slice-known4 .given))
+          pub given : s53 .gives (m41 (before· .before) (before· .slice-known4 .given))
 
       pub record After-lines2 : Type 0 where
         pub before : After-slice-known4
         pub lines2 : After-lines2·own before
 
-      abbrev pub m42 : (before : After-lines2) → (given : s53 .gives (m41 (before .before) (before .lines2 .given))) → Typed.Mo T56
-      m42 = λ before given. s53 .next (m41 (before .before) (before .lines2 .given)) given
+      abbrev pub m43 : (before : After-lines2) → (given : s54 .gives (m42 (before .before) (before .lines2 .given))) → Typed.Mo T57
+      m43 = λ before given. s54 .next (m42 (before .before) (before .lines2 .given)) given
 
       module _ (before· : After-lines2) where
         pub record After-slice-known5·own : Type 0 where
-          pub given : s53 .gives (m41 (before· .before) (before· .lines2 .given))
+          pub given : s54 .gives (m42 (before· .before) (before· .lines2 .given))
 
       pub record After-slice-known5 : Type 0 where
         pub before : After-lines2
         pub slice-known5 : After-slice-known5·own before
 
-      abbrev pub m43 : (before : After-slice-known5) → (given : s56 .gives (m42 (before .before) (before .slice-known5 .given))) → Typed.Mo T59
-      m43 = λ before given. s56 .next (m42 (before .before) (before .slice-known5 .given)) given
+      abbrev pub m44 : (before : After-slice-known5) → (given : s57 .gives (m43 (before .before) (before .slice-known5 .given))) → Typed.Mo T60
+      m44 = λ before given. s57 .next (m43 (before .before) (before .slice-known5 .given)) given
 
-      abbrev pub m44 : (before : After-slice-known5) → (given : s56 .gives (m42 (before .before) (before .slice-known5 .given))) → Typed.Mo T61
-      m44 = λ before given. s58 (m43 before given)
+      abbrev pub m45 : (before : After-slice-known5) → (given : s57 .gives (m43 (before .before) (before .slice-known5 .given))) → Typed.Mo T62
+      m45 = λ before given. s59 (m44 before given)
+
+      abbrev pub m46 : (before : After-slice-known5) → (given : s57 .gives (m43 (before .before) (before .slice-known5 .given))) → Typed.Mo T63
+      m46 = λ before given. s60 (m45 before given)
 
       module _ (before· : After-slice-known5) where
         pub record After-rs2·own : Type 0 where
-          pub given : s56 .gives (m42 (before· .before) (before· .slice-known5 .given))
+          pub given : s57 .gives (m43 (before· .before) (before· .slice-known5 .given))
 
       pub record After-rs2 : Type 0 where
         pub before : After-slice-known5
         pub rs2 : After-rs2·own before
 
       abbrev pub Need-same-length-3 : Type 0
-      Need-same-length-3 = (c : After-rs2) → MutSlice.SameLen (Row.get 2 (T61 .locals) (m44 (c .before) (c .rs2 .given))) (dens (c .before .before .before .before .before .before .before .before
+      Need-same-length-3 = (c : After-rs2) → MutSlice.SameLen (Row.get 2 (T63 .locals) (m46 (c .before) (c .rs2 .given))) (dens (c .before .before .before .before .before .before .before .before
           .before .before .before .before .before .before .before .κs) (c .before .before .before .before .before .before .before .before .before .before .before .before .before .before .before .args) .1
           .0)
 
       abbrev pub Need-same-length-4 : Type 0
-      Need-same-length-4 = (c : After-rs2) → MutSlice.SameLen (Row.get 3 (T61 .locals) (m44 (c .before) (c .rs2 .given))) (dens (c .before .before .before .before .before .before .before .before
-          .before .before .before .before .before .before .before .κs) (c .before .before .before .before .before .before .before .before .before .before .before .before .before .before .before .args) .1
-          .1 .0)
-
-      abbrev pub Need-same-length-5 : Type 0
-      Need-same-length-5 = (c : After-rs2) → MutSlice.SameLen (Row.get 4 (T61 .locals) (m44 (c .before) (c .rs2 .given))) (dens (c .before .before .before .before .before .before .before .before
+      Need-same-length-4 = (c : After-rs2) → MutSlice.SameLen (Row.get 4 (T63 .locals) (m46 (c .before) (c .rs2 .given))) (dens (c .before .before .before .before .before .before .before .before
           .before .before .before .before .before .before .before .κs) (c .before .before .before .before .before .before .before .before .before .before .before .before .before .before .before .args) .1
           .1 .1 .0)
+
+      abbrev pub Need-same-length-5 : Type 0
+      Need-same-length-5 = (c : After-rs2) → MutSlice.SameLen (Row.get 5 (T63 .locals) (m46 (c .before) (c .rs2 .given))) (dens (c .before .before .before .before .before .before .before .before
+          .before .before .before .before .before .before .before .κs) (c .before .before .before .before .before .before .before .before .before .before .before .before .before .before .before .args) .1
+          .1 .1 .1 .0)
 
       abbrev pub Need-returns-2 : Type 0
       Need-returns-2 = (c : After-rs2) → Post· (c .before .before .before .before .before .before .before .before .before .before .before .before .before .before .before .κs) (dens (c .before .before
           .before .before .before .before .before .before .before .before .before .before .before .before .before .κs) (c .before .before .before .before .before .before .before .before .before .before
           .before .before .before .before .before .args)) (Function.resV r (c .before .before .before .before .before .before .before .before .before .before .before .before .before .before .before .κs)
-          (m44 (c .before) (c .rs2 .given) .0)) (Clauses.atExit (Kinds.endedOf 4 ps r) (c .before .before .before .before .before .before .before .before .before .before .before .before .before .before
+          (m46 (c .before) (c .rs2 .given) .0)) (Clauses.atExit (Kinds.endedOf 4 ps r) (c .before .before .before .before .before .before .before .before .before .before .before .before .before .before
           .before .κs) (dens (c .before .before .before .before .before .before .before .before .before .before .before .before .before .before .before .κs) (c .before .before .before .before .before
           .before .before .before .before .before .before .before .before .before .before .args)) (Enter.lastsP (c .before .before .before .before .before .before .before .before .before .before .before
           .before .before .before .before .κs) 1 ps xs (dens (c .before .before .before .before .before .before .before .before .before .before .before .before .before .before .before .κs) (c .before
-          .before .before .before .before .before .before .before .before .before .before .before .before .before .before .args)) (m44 (c .before) (c .rs2 .given) .1)))
+          .before .before .before .before .before .before .before .before .before .before .before .before .before .before .args)) (m46 (c .before) (c .rs2 .given) .1)))
 
       module _ (largest-requires : Need-largest-requires) (first-above-requires : Need-first-above-requires) (clear-requires : Need-clear-requires) (clear-records-requires :
           Need-clear-records-requires) (same-length : Need-same-length) (same-length-2 : Need-same-length-2) (returns : Need-returns) (write-measured-requires : Need-write-measured-requires)
           (same-length-3 : Need-same-length-3) (same-length-4 : Need-same-length-4) (same-length-5 : Need-same-length-5) (returns-2 : Need-returns-2) where
-        lay8 : (c : After-write-measured) → at45 (W0 (c .before .before .before .before .before .before .before .before .before .before .κs) (c .before .before .before .before .before .before .before
-            .before .before .before .args)) (m35 (c .before) (After-write-measured·gave c))
+        lay8 : (c : After-write-measured) → at47 (W0 (c .before .before .before .before .before .before .before .before .before .before .κs) (c .before .before .before .before .before .before .before
+            .before .before .before .args)) (m36 (c .before) (After-write-measured·gave c))
         lay8 = λ c. (
           Path'.refl,
           λ g. λ g'. (
@@ -2692,19 +2762,19 @@ module _ (claims· : Claims) where
                 (
                   Path'.refl,
                   (
-                    MutSlice.fix-len (Row.get 2 (T61 .locals) (m44 record {
+                    MutSlice.fix-len (Row.get 2 (T63 .locals) (m46 record {
                       before = record {
                         before = record { before = record { before = record { before = c .before; write-measured = c .write-measured }; out = record { given = g } }; slice-known4 = record { given = g' } };
                         lines2 = record { given = g'' };
                       };
                       slice-known5 = record { given = g'3 };
-                    } g'4) .ptr) (Row.get 2 (T61 .locals) (m44 record {
+                    } g'4) .ptr) (Row.get 2 (T63 .locals) (m46 record {
                       before = record {
                         before = record { before = record { before = record { before = c .before; write-measured = c .write-measured }; out = record { given = g } }; slice-known4 = record { given = g' } };
                         lines2 = record { given = g'' };
                       };
                       slice-known5 = record { given = g'3 };
-                    } g'4) .name) (Row.get 2 (T61 .locals) (m44 record {
+                    } g'4) .name) (Row.get 2 (T63 .locals) (m46 record {
                       before = record {
                         before = record { before = record { before = record { before = c .before; write-measured = c .write-measured }; out = record { given = g } }; slice-known4 = record { given = g' } };
                         lines2 = record { given = g'' };
@@ -2722,56 +2792,28 @@ module _ (claims· : Claims) where
                           rs2 = record { given = g'4 };
                         }),
                     (
-                      MutSlice.fix-len (Row.get 3 (T61 .locals) (m44 record {
-                        before = record {
-                          before = record { before = record { before = record { before = c .before; write-measured = c .write-measured }; out = record { given = g } }; slice-known4 = record { given = g' } };
-                          lines2 = record { given = g'' };
-                        };
-                        slice-known5 = record { given = g'3 };
-                      } g'4) .ptr) (Row.get 3 (T61 .locals) (m44 record {
-                        before = record {
-                          before = record { before = record { before = record { before = c .before; write-measured = c .write-measured }; out = record { given = g } }; slice-known4 = record { given = g' } };
-                          lines2 = record { given = g'' };
-                        };
-                        slice-known5 = record { given = g'3 };
-                      } g'4) .name) (Row.get 3 (T61 .locals) (m44 record {
-                        before = record {
-                          before = record { before = record { before = record { before = c .before; write-measured = c .write-measured }; out = record { given = g } }; slice-known4 = record { given = g' } };
-                          lines2 = record { given = g'' };
-                        };
-                        slice-known5 = record { given = g'3 };
-                      } g'4) .now) (dens (c .before .before .before .before .before .before .before .before .before .before .κs) (c .before
-                          .before .before .before .before .before .before .before .before .before .args) .1 .1 .0 .now) (same-length-4 record {
-                            before = record {
-                              before = record {
-                                before = record { before = record { before = record { before = c .before; write-measured = c .write-measured }; out = record { given = g } }; slice-known4 = record { given = g' } };
-                                lines2 = record { given = g'' };
-                              };
-                              slice-known5 = record { given = g'3 };
-                            };
-                            rs2 = record { given = g'4 };
-                          }),
+                      tt,
                       (
-                        MutSlice.fix-len (Row.get 4 (T61 .locals) (m44 record {
+                        MutSlice.fix-len (Row.get 4 (T63 .locals) (m46 record {
                           before = record {
                             before = record { before = record { before = record { before = c .before; write-measured = c .write-measured }; out = record { given = g } }; slice-known4 = record { given = g' } };
                             lines2 = record { given = g'' };
                           };
                           slice-known5 = record { given = g'3 };
-                        } g'4) .ptr) (Row.get 4 (T61 .locals) (m44 record {
+                        } g'4) .ptr) (Row.get 4 (T63 .locals) (m46 record {
                           before = record {
                             before = record { before = record { before = record { before = c .before; write-measured = c .write-measured }; out = record { given = g } }; slice-known4 = record { given = g' } };
                             lines2 = record { given = g'' };
                           };
                           slice-known5 = record { given = g'3 };
-                        } g'4) .name) (Row.get 4 (T61 .locals) (m44 record {
+                        } g'4) .name) (Row.get 4 (T63 .locals) (m46 record {
                           before = record {
                             before = record { before = record { before = record { before = c .before; write-measured = c .write-measured }; out = record { given = g } }; slice-known4 = record { given = g' } };
                             lines2 = record { given = g'' };
                           };
                           slice-known5 = record { given = g'3 };
                         } g'4) .now) (dens (c .before .before .before .before .before .before .before .before .before .before .κs) (c .before
-                            .before .before .before .before .before .before .before .before .before .args) .1 .1 .1 .0 .now) (same-length-5 record {
+                            .before .before .before .before .before .before .before .before .before .args) .1 .1 .1 .0 .now) (same-length-4 record {
                               before = record {
                                 before = record {
                                   before = record { before = record { before = record { before = c .before; write-measured = c .write-measured }; out = record { given = g } }; slice-known4 = record { given = g' } };
@@ -2781,7 +2823,38 @@ module _ (claims· : Claims) where
                               };
                               rs2 = record { given = g'4 };
                             }),
-                        (tt, (tt, tt)),
+                        (
+                          MutSlice.fix-len (Row.get 5 (T63 .locals) (m46 record {
+                            before = record {
+                              before = record { before = record { before = record { before = c .before; write-measured = c .write-measured }; out = record { given = g } }; slice-known4 = record { given = g' } };
+                              lines2 = record { given = g'' };
+                            };
+                            slice-known5 = record { given = g'3 };
+                          } g'4) .ptr) (Row.get 5 (T63 .locals) (m46 record {
+                            before = record {
+                              before = record { before = record { before = record { before = c .before; write-measured = c .write-measured }; out = record { given = g } }; slice-known4 = record { given = g' } };
+                              lines2 = record { given = g'' };
+                            };
+                            slice-known5 = record { given = g'3 };
+                          } g'4) .name) (Row.get 5 (T63 .locals) (m46 record {
+                            before = record {
+                              before = record { before = record { before = record { before = c .before; write-measured = c .write-measured }; out = record { given = g } }; slice-known4 = record { given = g' } };
+                              lines2 = record { given = g'' };
+                            };
+                            slice-known5 = record { given = g'3 };
+                          } g'4) .now) (dens (c .before .before .before .before .before .before .before .before .before .before .κs) (c .before
+                              .before .before .before .before .before .before .before .before .before .args) .1 .1 .1 .1 .0 .now) (same-length-5 record {
+                                before = record {
+                                  before = record {
+                                    before = record { before = record { before = record { before = c .before; write-measured = c .write-measured }; out = record { given = g } }; slice-known4 = record { given = g' } };
+                                    lines2 = record { given = g'' };
+                                  };
+                                  slice-known5 = record { given = g'3 };
+                                };
+                                rs2 = record { given = g'4 };
+                              }),
+                          (tt, (tt, tt)),
+                        ),
                       ),
                     ),
                   ),
@@ -2801,7 +2874,7 @@ module _ (claims· : Claims) where
           ),
         )
 
-        lay7 : (c : Else1) → at55 (W0 (c .before .before .before .before .before .before .κs) (c .before .before .before .before .before .before .args)) (m28 (c .before))
+        lay7 : (c : Else1) → at57 (W0 (c .before .before .before .before .before .before .κs) (c .before .before .before .before .before .before .args)) (m29 (c .before))
         lay7 = λ c. λ g. (
           Path'.refl,
           λ g'. (
@@ -2818,16 +2891,19 @@ module _ (claims· : Claims) where
                     before = record { before = record { before = record { before = c .before; if1 = c .if1 }; write-measured-arg = record { given = g } }; write-measured-arg2 = record { given = g' } };
                     write-measured-arg3 = record { given = g'' };
                   };
-                  write-measured = Called.called ps·4 r·4 (claims· .9) T45 (
+                  write-measured = Called.called ps·4 r·4 (claims· .9) T46 (
                     record { pos = 1; ty = Syntax.tyRef (Syntax.named 0) Syntax.imm (Syntax.tyInt Syntax.w16); ref = λ x. x },
                     (
-                      record { pos = 18; ty = Syntax.tyRef Syntax.erased Syntax.mut (Syntax.tyInt Syntax.w8); ref = λ x. x },
+                      record { pos = 19; ty = Syntax.tyRef Syntax.erased Syntax.mut (Syntax.tyInt Syntax.w8); ref = λ x. x },
                       (
-                        record { pos = 20; ty = Syntax.tyRef Syntax.erased Syntax.mut (Syntax.tyInt Syntax.w16); ref = λ x. x },
-                        (record { pos = 22; ty = Syntax.tyRef Syntax.erased Syntax.mut Element.behind; ref = λ x. x }, (record { pos = 5; st = List.[]; d = 0; at = λ x. x }, (Num.vAt 6 λ x. x, tt))),
+                        Bool.bAt 3 λ x. x,
+                        (
+                          record { pos = 21; ty = Syntax.tyRef Syntax.erased Syntax.mut (Syntax.tyInt Syntax.w16); ref = λ x. x },
+                          (record { pos = 23; ty = Syntax.tyRef Syntax.erased Syntax.mut Element.behind; ref = λ x. x }, (record { pos = 6; st = List.[]; d = 0; at = λ x. x }, (Num.vAt 7 λ x. x, tt))),
+                        ),
                       ),
                     ),
-                  ) (m34 record
+                  ) (m35 record
                       { before = record { before = record { before = c .before; if1 = c .if1 }; write-measured-arg = record { given = g } }; write-measured-arg2 = record { given = g' } } g'') g'3;
                 },
               ),
@@ -2835,10 +2911,10 @@ module _ (claims· : Claims) where
           ),
         )
 
-        lay6 : (c : Else1) → at27 (W1 (c .before .before) (After-first-above·gave (c .before))) (m8 (c .before .before) (After-first-above·gave (c .before)))
+        lay6 : (c : Else1) → at28 (W1 (c .before .before) (After-first-above·gave (c .before))) (m8 (c .before .before) (After-first-above·gave (c .before)))
         lay6 = λ c. lay7 record { before = c .before; if1 = c .if1 }
 
-        lay5 : (c : After-clear-records) → at10 (W1 (c .before .before .before .before .before .before .before .before) (After-first-above·gave (c .before .before .before .before .before .before
+        lay5 : (c : After-clear-records) → at11 (W1 (c .before .before .before .before .before .before .before .before) (After-first-above·gave (c .before .before .before .before .before .before
             .before))) (m19 (c .before) (After-clear-records·gave c))
         lay5 = λ c. (
           Path'.refl,
@@ -2848,26 +2924,29 @@ module _ (claims· : Claims) where
               (
                 Path'.refl,
                 (
-                  MutSlice.fix-len (Row.get 3 (T35 .locals) (m27 record { before = c .before; clear-records = c .clear-records } g) .ptr) (Row.get 3 (T35 .locals) (m27 record
-                      { before = c .before; clear-records = c .clear-records } g) .name) (Row.get 3 (T35 .locals) (m27 record { before = c .before; clear-records = c .clear-records } g) .now) (dens (c .before
-                      .before .before .before .before .before .before .before .before .before .before .before .κs) (c .before .before .before .before .before .before .before .before .before .before .before .before
-                      .args) .1 .1 .0 .now) (same-length record { before = record { before = c .before; clear-records = c .clear-records }; rs = record { given = g } }),
+                  tt,
                   (
-                    MutSlice.fix-len (Row.get 4 (T35 .locals) (m27 record { before = c .before; clear-records = c .clear-records } g) .ptr) (Row.get 4 (T35 .locals) (m27 record
-                        { before = c .before; clear-records = c .clear-records } g) .name) (Row.get 4 (T35 .locals) (m27 record { before = c .before; clear-records = c .clear-records } g) .now) (dens (c .before
+                    MutSlice.fix-len (Row.get 4 (T36 .locals) (m28 record { before = c .before; clear-records = c .clear-records } g) .ptr) (Row.get 4 (T36 .locals) (m28 record
+                        { before = c .before; clear-records = c .clear-records } g) .name) (Row.get 4 (T36 .locals) (m28 record { before = c .before; clear-records = c .clear-records } g) .now) (dens (c .before
                         .before .before .before .before .before .before .before .before .before .before .before .κs) (c .before .before .before .before .before .before .before .before .before .before .before .before
-                        .args) .1 .1 .1 .0 .now) (same-length-2 record { before = record { before = c .before; clear-records = c .clear-records }; rs = record { given = g } }),
-                    (tt, (tt, tt)),
+                        .args) .1 .1 .1 .0 .now) (same-length record { before = record { before = c .before; clear-records = c .clear-records }; rs = record { given = g } }),
+                    (
+                      MutSlice.fix-len (Row.get 5 (T36 .locals) (m28 record { before = c .before; clear-records = c .clear-records } g) .ptr) (Row.get 5 (T36 .locals) (m28 record
+                          { before = c .before; clear-records = c .clear-records } g) .name) (Row.get 5 (T36 .locals) (m28 record { before = c .before; clear-records = c .clear-records } g) .now) (dens (c .before
+                          .before .before .before .before .before .before .before .before .before .before .before .κs) (c .before .before .before .before .before .before .before .before .before .before .before .before
+                          .args) .1 .1 .1 .1 .0 .now) (same-length-2 record { before = record { before = c .before; clear-records = c .clear-records }; rs = record { given = g } }),
+                      (tt, (tt, tt)),
+                    ),
                   ),
                 ),
               ),
             ),
-            returns record
-                { before = record { before = c .before; clear-records = c .clear-records }; rs = record { given = g } },
+            returns
+                record { before = record { before = c .before; clear-records = c .clear-records }; rs = record { given = g } },
           ),
         )
 
-        lay4 : (c : After-clear) → at19 (W1 (c .before .before .before .before) (After-first-above·gave (c .before .before .before))) (m13 (c .before) (After-clear·gave c))
+        lay4 : (c : After-clear) → at20 (W1 (c .before .before .before .before) (After-first-above·gave (c .before .before .before))) (m13 (c .before) (After-clear·gave c))
         lay4 = λ c. (
           Path'.refl,
           λ g. λ g'. λ g''. (
@@ -2884,14 +2963,14 @@ module _ (claims· : Claims) where
                   clear-records-arg =
                       record { given = g'' };
                 };
-                clear-records = Called.called ps·3 r·3 (claims· .7) T24 (record { pos = 15; ty = Syntax.tyRef Syntax.erased Syntax.mut Element.behind; ref = λ x. x }, tt) (m18
+                clear-records = Called.called ps·3 r·3 (claims· .7) T24 (record { pos = 16; ty = Syntax.tyRef Syntax.erased Syntax.mut Element.behind; ref = λ x. x }, tt) (m18
                     record { before = record { before = record { before = c .before; clear = c .clear }; lines = record { given = g } }; slice-known3 = record { given = g' } } g'') g'3;
               },
             ),
           ),
         )
 
-        lay3 : (c : Then1) → at25 (W1 (c .before .before) (After-first-above·gave (c .before))) (m8 (c .before .before) (After-first-above·gave (c .before)))
+        lay3 : (c : Then1) → at26 (W1 (c .before .before) (After-first-above·gave (c .before))) (m8 (c .before .before) (After-first-above·gave (c .before)))
         lay3 = λ c. λ g. (
           Path'.refl,
           (
@@ -2899,40 +2978,40 @@ module _ (claims· : Claims) where
             λ g'. lay4 record {
               before = record { before = record { before = c .before; if1 = c .if1 }; clear-arg = record { given = g } };
               clear = Called.called ps·2 r·2 (claims· .5) T15
-                  (record { pos = 13; ty = Syntax.tyRef Syntax.erased Syntax.mut (Syntax.tyInt Syntax.w16); ref = λ x. x }, tt) (m12 record { before = c .before; if1 = c .if1 } g) g';
+                  (record { pos = 14; ty = Syntax.tyRef Syntax.erased Syntax.mut (Syntax.tyInt Syntax.w16); ref = λ x. x }, tt) (m12 record { before = c .before; if1 = c .if1 } g) g';
             },
           ),
         )
 
-        lay2 : (c : After-first-above) → at58 (W0 (c .before .before .before .before .before .κs) (c .before .before .before .before .before .args)) (m5 (c .before) (After-first-above·gave c))
+        lay2 : (c : After-first-above) → at60 (W0 (c .before .before .before .before .before .κs) (c .before .before .before .before .before .args)) (m5 (c .before) (After-first-above·gave c))
         lay2 = λ c. (
           tt,
           (
             λ taken. lay3 record {
               before = record { before = c .before; first-above = c .first-above };
               if1 = record
-                  { taken = Tests.ltb-true (Row.get 8 (T7 .locals) (m6 (c .before) (After-first-above·gave c))) (Row.get 9 (T7 .locals) (m6 (c .before) (After-first-above·gave c))) taken };
+                  { taken = Tests.ltb-true (Row.get 9 (T7 .locals) (m6 (c .before) (After-first-above·gave c))) (Row.get 10 (T7 .locals) (m6 (c .before) (After-first-above·gave c))) taken };
             },
             λ left. lay6
                 record {
                   before = record { before = c .before; first-above = c .first-above };
                   if1 = record
-                      { left = Tests.ltb-false (Row.get 8 (T7 .locals) (m6 (c .before) (After-first-above·gave c))) (Row.get 9 (T7 .locals) (m6 (c .before) (After-first-above·gave c))) left };
+                      { left = Tests.ltb-false (Row.get 9 (T7 .locals) (m6 (c .before) (After-first-above·gave c))) (Row.get 10 (T7 .locals) (m6 (c .before) (After-first-above·gave c))) left };
                 },
           ),
         )
 
-        lay1 : (c : After-largest) → at59 (W0 (c .before .before .before .before .κs) (c .before .before .before .before .args)) (m4 (c .before) (After-largest·gave c))
+        lay1 : (c : After-largest) → at61 (W0 (c .before .before .before .before .κs) (c .before .before .before .before .args)) (m4 (c .before) (After-largest·gave c))
         lay1 = λ c. (
           first-above-requires record { before = c .before; largest = c .largest },
           λ g. lay2 record {
             before = record { before = c .before; largest = c .largest };
             first-above = Called.called ps·1 r·1 (claims· .3) T5
-                (record { pos = 1; ty = Syntax.tyRef (Syntax.named 0) Syntax.imm (Syntax.tyInt Syntax.w16); ref = λ x. x }, (Num.vAt 7 λ x. x, tt)) (m4 (c .before) (After-largest·gave c)) g;
+                (record { pos = 1; ty = Syntax.tyRef (Syntax.named 0) Syntax.imm (Syntax.tyInt Syntax.w16); ref = λ x. x }, (Num.vAt 8 λ x. x, tt)) (m4 (c .before) (After-largest·gave c)) g;
           },
         )
 
-        pub laid : (c : Start) → at63 (W0 (c .κs) (c .args)) (m0 (c .κs) (c .args))
+        pub laid : (c : Start) → at65 (W0 (c .κs) (c .args)) (m0 (c .κs) (c .args))
         laid = λ c. λ g. λ g'. λ g''. (
           largest-requires record
               { before = record { before = record { before = c; shared-slice-known = record { given = g } }; slice-known = record { given = g' } }; slice-known2 = record { given = g'' } },
@@ -2941,7 +3020,7 @@ module _ (claims· : Claims) where
                 before = record
                     { before = record { before = record { before = c; shared-slice-known = record { given = g } }; slice-known = record { given = g' } }; slice-known2 = record { given = g'' } };
                 largest =
-                    Called.called ps·0 r·0 (claims· .1) T4 (Num.vFld 5 (List._∷_ (Syntax.field 0) List.[]) 0 λ x. Form.struct .as-values x .0, tt) (m3 record
+                    Called.called ps·0 r·0 (claims· .1) T4 (Num.vFld 6 (List._∷_ (Syntax.field 0) List.[]) 0 λ x. Form.struct .as-values x .0, tt) (m3 record
                     { before = record { before = c; shared-slice-known = record { given = g } }; slice-known = record { given = g' } } g'') g'3;
               },
         )
@@ -2951,12 +3030,9 @@ module _ (claims· : Claims) where
               qs a)
           asked = λ a good pre bs. laid record {
             κs = κs;
-            args = record { samples = a .0; out = a .1 .0; lines = a .1 .1 .0; rs = a .1 .1 .1 .0; form = a .1 .1 .1 .1 .0; count = a .1 .1 .1 .1 .1 .0 };
+            args = record { samples = a .0; out = a .1 .0; measure = a .1 .1 .0; lines = a .1 .1 .1 .0; rs = a .1 .1 .1 .1 .0; form = a .1 .1 .1 .1 .1 .0; count = a .1 .1 .1 .1 .1 .1 .0 };
             good = good;
-            fits = record {
-              count
-                  = record { fits = good .1 .1 .1 .1 .1 .0 .1 };
-            };
+            fits = record { count = record { fits = good .1 .1 .1 .1 .1 .1 .0 .1 } };
             pre = pre;
           }
 

@@ -1,0 +1,24 @@
+-- What follows once a walk has counted the bits of a set: an answer, or the walk that stores them. Assumes nothing.
+use mathlib.Core.Bool.{Bool, cond}
+use Prim.Native.Nat.{ℕ}
+use lib.Dec.{ltb}
+use Rattle.bits.specs.BitLists.{blockBytes}
+use Rattle.bits.specs.declared.BitPosition.{BitPosition}
+use Rattle.stream.specs.declared.BlockLength.the-variants.{Length, Refused}
+use Rattle.stream.specs.declared.Refusal.the-variants.{NotPredicted, ShortOutput}
+use Rattle.writing.specs.declared.Put.{Put}
+use Rattle.writing.specs.declared.Put.the-variants.{At, Wrong}
+use Rattle.begin.specs.declared.Next.{Next}
+use Rattle.begin.specs.declared.Next.the-variants.{Answer, Store}
+
+-- the length of a set that is only measured; else refusal 13, or there is room for the block
+abbrev pub lengthNext : BitPosition → Bool → ℕ → Next
+lengthNext end measure room =
+    cond measure
+    (Answer (Length (blockBytes (end .0))))
+    (cond (ltb room (blockBytes (end .0))) (Answer (Refused ShortOutput)) (Store end))
+
+-- refusal 12 before that
+abbrev pub nextOf : Put → Bool → ℕ → Next
+nextOf (Wrong j) measure room = Answer (Refused (NotPredicted j))
+nextOf (At end) measure room = lengthNext end measure room

@@ -1,0 +1,11 @@
+-- `block::measure_block` meets its contract. Assumes nothing.
+mod derived
+use borrow.Author.Needs.{needs}
+use Rattle.block.proofs.writer.measure_block.Statement.{statement}
+use Rattle.block.proofs.writer.measure_block.Proof.derived.Tie as tie
+
+returns : tie.Need-returns
+returns c = c .before .before .before .before .write-in .ensures .0
+
+pub measure-block-spec : {M : Type 1} → statement M
+measure-block-spec = tie.close (tie.spec (λ c. search needs) (λ c κs. search needs) (λ c. search needs) (λ c. search needs) returns)

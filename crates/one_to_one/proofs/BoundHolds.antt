@@ -1,0 +1,208 @@
+-- A tight code has at most 4·bits bits, and a line 4608 codes. Assumes nothing.
+use mathlib.Core.Bool.{Bool, true, false, cond}
+use mathlib.Core.List.{List, [], _∷_, _++_}
+use mathlib.Core.Option.{Option, none, some, Option·some-injective}
+use mathlib.Core.Path.{_≡_, refl, _∙_}
+use Prim.Native.Nat.{ℕ, zero, suc, _+_, _*_, _^_, _≤_, _<_}
+use native.Mathlib.Nat.{mul-le-mul-right, pow-suc}
+use native.Mathlib.Omega.{arith}
+use lib.Dec.{leb}
+use lib.ListN.{length, getD}
+use lib.Pow.{pow-pos, pow-mono}
+use Rattle.numbers.proofs.BoolLaws.{both}
+use Rattle.numbers.proofs.OrderLaws.{split}
+use Rattle.statistics.specs.Statistics.{kOf}
+use Rattle.statistics.proofs.RecordLaws.{k-least}
+use Rattle.quantiser.specs.Quantisers.{largest, quantiserOf}
+use Rattle.prediction.specs.declared.Context.{Context}
+use Rattle.code.specs.Codes.{shortCode, longCode, codeAt}
+use Rattle.code.specs.Samples.{choiceOf}
+use Rattle.code.specs.Tight.{isTight}
+use Rattle.code.specs.declared.Code.{Code}
+use Rattle.code.specs.declared.Coded.{Coded}
+use Rattle.code.specs.declared.Coded.the-variants.{Read, Truncated}
+use Rattle.code.proofs.CodeLaws.{code-cases}
+use Rattle.code.proofs.TightLaws.{tight-small, tight-long}
+use Rattle.steps.specs.Steps.{Step, planOf, passSteps, upto}
+use Rattle.steps.specs.Contexts.{lookOf, usedQuantiser, noRecord, stepPlace, stepContext, stepLook, stepSlot}
+use Rattle.steps.specs.declared.Look.{Look}
+use Rattle.steps.specs.declared.Plan.{Plan}
+use Rattle.steps.specs.Values.{Depth}
+use Rattle.steps.proofs.ScheduleLaws.{codes, lineSteps, bayer-codes, x-trans-codes}
+use Rattle.pass.specs.Readings.{Reading, interpolate, takeCode, taken, readStep, reads, readPass}
+use Rattle.writing.proofs.LosslessLaws.{code-numbers}
+use Rattle.read_back.proofs.ListBack.{first-then}
+use Rattle.map.specs.Places.{widthOf}
+use Rattle.stream.proofs.HeaderLaws.{ruled}
+use Rattle.block.specs.Blocks.{State, runs, enter, leave, passAt, endLine, readLine, beforeLine, readLineAt, startState, readLines}
+use Rattle.block.specs.Images.{formOf}
+use Rattle.block.specs.declared.Form.{Form}
+use Rattle.block.proofs.RunLaws.{then-both, runs-last}
+use Rattle.one_to_one.specs.Lengths.{Bounds}
+use Rattle.one_to_one.proofs.BlockLaws.{tail-was}
+
+-- ---- one code
+
+module _ (M : ℕ) (s : List ℕ) (p k limit raw : ℕ) (small : M ≤ 2 ^ raw) (low : k ≤ 15) (wide : 15 ≤ limit + raw) where
+  -- a short code has fewer than limit zeros, and none where k is above raw
+  short-most : (z : ℕ) → z < limit → z * 2 ^ k ≤ M → z + 1 + k ≤ limit + 1 + raw
+  short-most z h v =
+      split k raw (λ l. omega arith)
+      (λ l. split 1 z
+      (λ g. let m : 1 * 2 ^ k ≤ z * 2 ^ k = mul-le-mul-right (2 ^ k) g in
+      let d : 2 ^ suc raw ≤ 2 ^ k = pow-mono l in
+      let e : 2 ^ suc raw ≡ 2 ^ raw * 2 = pow-suc 2 raw in
+      absurd (omega (arith, pow-pos raw)))
+      (λ g. omega arith))
+
+  code-most : (x : Code) → codeAt s p k limit raw ≡ Read x → isTight M x ≡ true → x .after .0 ≤ p + (limit + 1 + raw)
+  code-most x e t =
+      code-cases s p k limit raw {X = x .after .0 ≤ p + (limit + 1 + raw)}
+      (λ r g. let no : _≡_ {A = ℕ} 0 1 = cc in absurd (omega arith))
+      (λ z r h g.
+      let is : shortCode s p k z ≡ x = cc in
+      let v : shortCode s p k z .value ≤ M = tight-small M (shortCode s p k z) (rw (← is) at t) in
+      rw (← is) (omega (arith, short-most z h (omega (arith, v)))))
+      (λ z r h g.
+      let is : longCode s p k limit raw z ≡ x = cc in
+      let l = tight-long M s p k limit raw z (rw (← is) at t) in
+      rw (← is) (omega (arith, l .0)))
+
+-- ---- steps, passes, lines
+
+-- a reading that is tight has read tight codes alone, and went on by so many bits at most
+record Went (from at : ℕ) (was : Bool) (most : ℕ) : Type 0 where
+  tight : was ≡ true
+  within : at ≤ from + most
+
+module _ (bits W : ℕ) (s : List ℕ) (depth : Depth bits) where
+  -- limit + 1 + raw
+  four : (usedQuantiser bits 0 0) .limit + 1 + (usedQuantiser bits 0 0) .raw ≡ 4 * bits
+  unfolding quantiserOf
+  four = omega (arith, code-numbers bits (depth .0) (depth .1) .2, depth .0)
+
+  step-most : (x : Step) (r z : Reading) → readStep bits 0 W s x r ≡ some z → z .tight ≡ true
+      → Went (r .at .0) (z .at .0) (r .tight) (cond (x .coded) 1 0 * (4 * bits))
+  unfolding readStep lookOf choiceOf
+  step-most x r z e t = go (x .coded) (codeAt s (r .at .0) k limit raw) refl e
+    where
+      i : ℕ
+      i = stepPlace W x
+
+      c : Context
+      c = stepContext W x (r .lines)
+
+      h : Look
+      h = stepLook 0 W x (r .lines)
+
+      slot : ℕ
+      slot = stepSlot 0 W x (r .lines)
+
+      k : ℕ
+      k = kOf (getD (r .set) slot noRecord)
+
+      limit : ℕ
+      limit = (usedQuantiser bits 0 0) .limit
+
+      raw : ℕ
+      raw = (usedQuantiser bits 0 0) .raw
+
+      go : (b : Bool) (g : Coded) → codeAt s (r .at .0) k limit raw ≡ g
+          → cond b (taken bits 0 i slot c h r g) (some (interpolate i c r)) ≡ some z
+          → Went (r .at .0) (z .at .0) (r .tight) (cond b 1 0 * (4 * bits))
+      go true Truncated eg f = let no : _≡_ {A = ℕ} 0 1 = cc in absurd (omega arith)
+      go true (Read d) eg f =
+          let y : Reading = takeCode bits 0 i slot c h d r in
+          let is : y ≡ z = Option·some-injective y z f in
+          let ts = both (r .tight) (isTight (largest bits) d) (rw (← is) at t) in
+          let n = code-numbers bits (depth .0) (depth .1) in
+          let low = k-least (getD (r .set) slot noRecord) .capped in
+          let m = code-most (largest bits) s (r .at .0) k limit raw (n .3) low (omega (arith, four, depth .0)) d eg (ts .1) in
+          record { tight = ts .0; within = rw (← is) (omega (arith, m, four)) }
+      go false g eg f =
+          let y : Reading = interpolate i c r in
+          let is : y ≡ z = Option·some-injective y z f in
+          record { tight = rw (← is) at t; within = rw (← is) (omega arith) }
+
+  steps-most : (l : List Step) (r z : Reading) → reads bits 0 W s l r ≡ some z → z .tight ≡ true → Went (r .at .0) (z .at .0) (r .tight) (codes l * (4 * bits))
+  unfolding codes reads
+  steps-most [] r z e t = let is : r ≡ z = Option·some-injective r z e in record { tight = rw is t; within = rw is (omega arith) }
+  steps-most (x ∷ l) r z e t =
+      let f = first-then bits 0 W s x l r z e in
+      let after = steps-most l (f .0) z (f .2) t in
+      let first = step-most x r (f .0) (f .1) (after .tight) in
+      record { tight = first .tight; within = omega (arith, first .within, after .within) }
+
+codes-append : (a b : List Step) → codes (a ++ b) ≡ codes a + codes b
+unfolding codes
+codes-append [] b = omega arith
+codes-append (x ∷ a) b = omega (arith, codes-append a b)
+
+-- Bayer and X-Trans lines have as many codes
+line-codes : (xtrans : Bool) → codes (lineSteps (widthOf xtrans) xtrans) ≡ 4608
+line-codes true = x-trans-codes
+line-codes false = bayer-codes
+
+module _ (F : Form) (s : List ℕ) (depth : Depth (F .bits)) where
+  abbrev W : ℕ
+  W = widthOf (F .xtrans)
+
+  abbrev WentOn : State → State → ℕ → Type 0
+  WentOn r z n = Went (r .at .0) (z .at .0) (r .tight) (n * (4 * F .bits))
+
+  pass-most : (i : ℕ) (r z : State) → passAt F 0 s i r ≡ some z → z .tight ≡ true → WentOn r z (codes (passSteps W (planOf (F .xtrans) i)))
+  unfolding passAt readPass
+  pass-most i r z e t = go (readPass (F .bits) 0 W s P (enter F P r)) refl e
+    where
+      P : Plan
+      P = planOf (F .xtrans) i
+
+      go : (o : Option Reading) → readPass (F .bits) 0 W s P (enter F P r) ≡ o → leave P r o ≡ some z → WentOn r z (codes (passSteps W P))
+      go none eo f = let no : _≡_ {A = ℕ} 0 1 = cc in absurd (omega arith)
+      go (some y) eo f =
+          let at-is : y .at ≡ z .at = cc in
+          let tight-is : y .tight ≡ z .tight = cc in
+          let m = steps-most (F .bits) W s depth (passSteps W P) (enter F P r) y eo (tight-is ∙ t) in
+          record { tight = m .tight; within = rw (← at-is) (m .within) }
+
+  passes-most : (n : ℕ) (r z : State) → runs (passAt F 0 s) n r ≡ some z → z .tight ≡ true
+      → WentOn r z (codes (upto (λ i. passSteps W (planOf (F .xtrans) i)) n))
+  unfolding runs upto codes
+  passes-most zero r z e t = let is : r ≡ z = Option·some-injective r z e in record { tight = rw is t; within = rw is (omega arith) }
+  passes-most (suc n) r z e t =
+      let o = runs-last (passAt F 0 s) r n z e in
+      let last = pass-most n (o .0) z (o .2) t in
+      let before = passes-most n r (o .0) (o .1) (last .tight) in
+      let l : List Step = upto (λ i. passSteps W (planOf (F .xtrans) i)) n in
+      record {
+        tight = before .tight;
+        within = rw (codes-append l (passSteps W (planOf (F .xtrans) n))) (omega (arith, before .within, last .within));
+      }
+
+  line-most : (n : ℕ) (r z : State) → readLineAt F [] s n r ≡ some z → z .tight ≡ true → WentOn r z 4608
+  unfolding readLineAt readLine lineSteps
+  line-most n r z e t =
+      let o = then-both (runs (passAt F 0 s) 6 (beforeLine F [] n r)) (endLine s) z e in
+      let is : o .0 ≡ z = ended (o .0) (leb (o .0 .at .0) (8 * length s + 7)) (o .2) in
+      let m = passes-most 6 (beforeLine F [] n r) (o .0) (o .1) (rw is t) in
+      rw (line-codes (F .xtrans), is) at m
+    where
+      ended : (y : State) (b : Bool) → cond b (some y) none ≡ some z → y ≡ z
+      ended y true f = Option·some-injective y z f
+      ended y false f = let no : _≡_ {A = ℕ} 0 1 = cc in absurd (omega arith)
+
+  -- n lines
+  lines-most : (n : ℕ) (z : State) → readLines F [] s n ≡ some z → z .tight ≡ true → z .at .0 ≤ n * (4608 * (4 * F .bits))
+  unfolding readLines runs startState
+  lines-most zero z e t = let is : startState F [] ≡ z = Option·some-injective (startState F []) z e in rw (← is) (omega arith)
+  lines-most (suc n) z e t =
+      let o = runs-last (readLineAt F [] s) (startState F []) n z e in
+      let last = line-most n (o .0) z (o .2) t in
+      omega (arith, last .within, lines-most n (o .0) (o .1) (last .tight))
+
+-- the bound
+pub bounds : Bounds
+bounds d h e lossless s T =
+    let R = ruled d h e in
+    let m = lines-most (formOf h) s (R .bits-low, R .bits-high) (h .lines) (T .end) (T .read) (T .codes) in
+    omega (arith, m, tail-was s (T .end .at .0) (T .tail) .full)
