@@ -6,7 +6,13 @@ use lib.Dec.{leb, ltb}
 use lib.ListN.{replicate}
 use Rattle.numbers.specs.declared.Signed.{Signed}
 use Rattle.bits.specs.BitLists.{binary}
+use Rattle.numbers.specs.Numbers.{flag}
 use Rattle.code.specs.declared.Code.{Code}
+use Rattle.code.specs.declared.Coded.{Coded}
+use Rattle.code.specs.declared.Coded.the-variants.{Read, Truncated}
+use Rattle.code.specs.declared.Place.{Place}
+use Rattle.code.specs.declared.Taken.{Taken}
+use Rattle.code.specs.declared.Taken.the-variants as Take
 
 -- how far it is from u up to v, where 0 follows M: (v − u) modulo M + 1
 unfoldable pub stepsUp : ℕ → ℕ → ℕ → ℕ
@@ -45,3 +51,13 @@ codeLength k limit raw code = cond (ltb (code / 2 ^ k) limit) (code / 2 ^ k + 1 
 -- whether a code that was read is tight: below 2^bits, and minimal
 unfoldable pub isTight : ℕ → Code → Bool
 isTight M c = leb (c .value) M && c .minimal
+
+-- ---- what a pass takes of a code
+
+-- where a reading is after a code: behind it, still tight if the code is, and with a long code more if the code is long
+abbrev pub placeAfter : ℕ → Place → Code → Place
+placeAfter M from c = record { at = c .after; tight = from .tight && isTight M c; long = from .long + flag (c .long) }
+
+abbrev pub takenOf : ℕ → Place → Coded → Taken
+takenOf M from (Read c) = Take.Read (c .value) (placeAfter M from c)
+takenOf M from Truncated = Take.Truncated
