@@ -26,7 +26,7 @@ use Rattle.steps.specs.declared.Look.{Look}
 use Rattle.steps.specs.declared.Set.{Set}
 use Rattle.steps.proofs.TableLaws.{total-is, raw-is, limit-is, total-small, reader-small}
 use Rattle.pass.specs.Readings.{Reading, taken, readStep, reads}
-use Rattle.pass.specs.Pairs.{held, begun, placeOf, IsPair, IsPassed}
+use Rattle.pass.specs.Pairs.{readingAt, held, begun, placeOf, IsPair, IsPassed}
 use Rattle.pass.specs.declared.Pair.{Pair}
 use Rattle.pass.specs.declared.Pair.the-variants.{At, CutOff}
 use Rattle.pass.specs.declared.Passed.{Passed}
@@ -39,9 +39,9 @@ pub record Placed (W line p : ℕ) (lines : List ℕ) (i : ℕ) (x : Context) : 
   pub context : x ≡ contextAt lines (W + 2) i p
 
 -- an interpolated sample is its prediction
-pub site-interpolated : {bits q W line p i : ℕ} {s lines sums ns : List ℕ} {x : Context} {coded : Bool} {from : Place}
+pub site-interpolated : {bits q W line p i : ℕ} {s lines : List ℕ} {x : Context} {coded : Bool} {records : List Record} {from : Place}
     → Placed W line p lines i x → coded ≡ false
-    → StepGives bits q W s (stepAt line p coded) (held lines sums ns from) (some (held (set lines (i + 1) (x .prediction)) sums ns from))
+    → StepGives bits q W s (stepAt line p coded) (readingAt lines records from) (some (readingAt (set lines (i + 1) (x .prediction)) records from))
 unfolding readStep
 site-interpolated l e = record { is = rw (e, l .context, l .place) }
 
@@ -75,10 +75,14 @@ module _ {bits q W line p : ℕ} {s lines sums ns totals raws limits : List ℕ}
   used-limit : getD limits (h .choice) 0 ≡ (usedQuantiser bits q (h .choice)) .limit
   used-limit = limit-is bits q totals raws limits (t .quantisers) (h .choice) (t .four)
 
-  -- the step, by the code that is there
+  -- the code that is there
+  abbrev code : Place → ℕ → Coded
+  code from k = codeAt s (from .at .0) k (getD limits (h .choice) 0) (getD raws (h .choice) 0)
+
+  -- the step, by it
   site-got : (coded : Bool) (from : Place) (k : ℕ) → coded ≡ true → k ≡ kOf old
       → readStep bits q W s (stepAt line p coded) (held lines sums ns from)
-      ≡ taken bits q i j x h (held lines sums ns from) (codeAt s (from .at .0) k (getD limits (h .choice) 0) (getD raws (h .choice) 0))
+      ≡ taken bits q i j x h (held lines sums ns from) (code from k)
   unfolding readStep
   site-got coded from k ec ek =
       rw (ek, used-limit, used-raw, t .record-is, ec, t .slot, t .look, t .placed .context, t .placed .place)
@@ -88,27 +92,27 @@ module _ {bits q W line p : ℕ} {s lines sums ns totals raws limits : List ℕ}
   got-none from m Truncated e = refl
   got-none from m (Read c) e = let no : _≡_ {A = ℕ} 0 1 = cc in absurd (omega arith)
 
-  got-some : (from after : Place) (m v value : ℕ) (sums' ns' : List ℕ) (o : Coded) → takenOf m from o ≡ Take.Read value after → m ≡ largest bits
+  got-some : (from after : Place) (m v value : ℕ) (new : List Record) (o : Coded) → takenOf m from o ≡ Take.Read value after → m ≡ largest bits
       → v ≡ sampleOf m (h .base) (getD totals (h .choice) 0) (h .negative) (x .prediction) value
-      → zipRecords sums' ns' ≡ set (zipRecords sums ns) j (updated old ((residualOf value) .size))
-      → taken bits q i j x h (held lines sums ns from) o ≡ some (held (set lines (i + 1) v) sums' ns' after)
-  got-some from after m v value sums' ns' Truncated e em ev es = let no : _≡_ {A = ℕ} 0 1 = cc in absurd (omega arith)
-  got-some from after m v value sums' ns' (Read c) e em ev es =
+      → new ≡ set (zipRecords sums ns) j (updated old ((residualOf value) .size))
+      → taken bits q i j x h (held lines sums ns from) o ≡ some (readingAt (set lines (i + 1) v) new after)
+  got-some from after m v value new Truncated e em ev es = let no : _≡_ {A = ℕ} 0 1 = cc in absurd (omega arith)
+  got-some from after m v value new (Read c) e em ev es =
       let a : placeAfter m from c ≡ after = cc in
       let b : c .value ≡ value = cc in
       rw (es, ev, ← a, ← b, em, t .record-is, used-total)
 
-  module _ {coded : Bool} {from : Place} {m k : ℕ} {got : Taken} (ec : coded ≡ true) (ek : k ≡ kOf old)
-      (eg : got ≡ takenOf m from (codeAt s (from .at .0) k (getD limits (h .choice) 0) (getD raws (h .choice) 0))) where
+  module _ {coded : Bool} {from : Place} {k : ℕ} (m : ℕ) {got : Taken} (ec : coded ≡ true) (ek : k ≡ kOf old)
+      (eg : got ≡ takenOf m from (code from k)) where
     pub site-cut-off : got ≡ Take.Truncated → StepGives bits q W s (stepAt line p coded) (held lines sums ns from) none
-    site-cut-off e = record { is = site-got coded from k ec ek ∙ got-none from m _ (sym eg ∙ e) }
+    site-cut-off e = record { is = site-got coded from k ec ek ∙ got-none from m (code from k) (sym eg ∙ e) }
 
-    pub site-read : {value v : ℕ} {after : Place} {sums' ns' : List ℕ} → got ≡ Take.Read value after → m ≡ largest bits
+    pub site-read : {value v : ℕ} {after : Place} {new : List Record} → got ≡ Take.Read value after → m ≡ largest bits
         → v ≡ sampleOf m (h .base) (getD totals (h .choice) 0) (h .negative) (x .prediction) value
-        → zipRecords sums' ns' ≡ set (zipRecords sums ns) j (updated old ((residualOf value) .size))
-        → StepGives bits q W s (stepAt line p coded) (held lines sums ns from) (some (held (set lines (i + 1) v) sums' ns' after))
-    site-read {value} {v} {after} {sums'} {ns'} e em ev es =
-        record { is = site-got coded from k ec ek ∙ got-some from after m v value sums' ns' _ (sym eg ∙ e) em ev es }
+        → new ≡ set (zipRecords sums ns) j (updated old ((residualOf value) .size))
+        → StepGives bits q W s (stepAt line p coded) (held lines sums ns from) (some (readingAt (set lines (i + 1) v) new after))
+    site-read {value} {v} {after} {new} e em ev es =
+        record { is = site-got coded from k ec ek ∙ got-some from after m v value new (code from k) (sym eg ∙ e) em ev es }
 
 -- ---- where two ways meet, the same lists have other names
 

@@ -5,6 +5,7 @@ use mathlib.Core.Option.{Option, none, some}
 use mathlib.Core.Path.{_≡_}
 use Prim.Native.Nat.{ℕ, _+_, _*_, _%_, _^_, _≤_, _<_}
 use lib.ListN.{length}
+use Rattle.statistics.specs.declared.Record.{Record}
 use Rattle.code.specs.declared.Place.{Place}
 use Rattle.steps.specs.Steps.{Step}
 use Rattle.steps.specs.Values.{zipRecords, recordsOf, SetInRange, quantisersOf, AreQuantisers, Depth, PlanInRange}
@@ -17,13 +18,16 @@ use Rattle.pass.specs.declared.Pair.{Pair}
 use Rattle.pass.specs.declared.Pair.the-variants.{At, CutOff}
 use Rattle.pass.specs.declared.Passed.{Passed}
 
--- the reading that a program holds: colour lines, a set as two lists, and where it is
-abbrev pub held : List ℕ → List ℕ → List ℕ → Place → Reading
-held lines sums ns from = record { lines = lines; set = zipRecords sums ns; at = from .at; tight = from .tight; long = from .long }
+-- the reading that a program holds: colour lines, the records of a set, and where it is
+abbrev pub readingAt : List ℕ → List Record → Place → Reading
+readingAt lines records from = record { lines = lines; set = records; at = from .at; tight = from .tight; long = from .long }
 
--- the same where the set is one value
+-- the same where the set is two lists, and where it is one value
+abbrev pub held : List ℕ → List ℕ → List ℕ → Place → Reading
+held lines sums ns from = readingAt lines (zipRecords sums ns) from
+
 abbrev pub begun : List ℕ → Set → Place → Reading
-begun lines t from = record { lines = lines; set = recordsOf t; at = from .at; tight = from .tight; long = from .long }
+begun lines t from = readingAt lines (recordsOf t) from
 
 -- where a reading is
 abbrev pub placeOf : Reading → Place
