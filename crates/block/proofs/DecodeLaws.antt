@@ -30,7 +30,7 @@ use Rattle.block.proofs.RunLaws.{runs-stay}
 
 module _ (F : Form) (bases s : List ℕ) where
   -- after a truncated line no count of lines is read
-  stay-none : (t m : ℕ) → readLines F bases s t ≡ none → readLines F bases s (t + m) ≡ none
+  pub stay-none : (t m : ℕ) → readLines F bases s t ≡ none → readLines F bases s (t + m) ≡ none
   unfolding readLines
   stay-none t m e = runs-stay (readLineAt F bases s) (startState F bases) t m e
 

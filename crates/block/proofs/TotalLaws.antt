@@ -3,7 +3,7 @@ use mathlib.Core.Bool.{Bool, true, false, cond}
 use mathlib.Core.List.{List, [], _∷_, _++_}
 use mathlib.Core.Option.{Option, none, some}
 use mathlib.Core.Path.{_≡_, refl, sym, ap, _∙_}
-use Prim.Native.Nat.{ℕ, zero, suc, _+_}
+use Prim.Native.Nat.{ℕ, zero, suc, _+_, _-_, _≤_, _<_}
 use native.Mathlib.Omega.{arith}
 use borrow.Author.Tests.{ltb-false}
 use lib.Dec.{ltb}
@@ -23,13 +23,22 @@ use Rattle.steps.specs.declared.Look.{Look}
 use Rattle.steps.specs.declared.Plan.{Plan}
 use Rattle.pass.specs.Readings.{Reading, interpolate, taken, stepCode, readStep, andThen, reads, readPass}
 use Rattle.totals.specs.declared.Totals.{Totals}
+use Rattle.bits.specs.BitLists.{isTail}
+use Rattle.stream.specs.declared.Refusal.the-variants.{Truncated}
 use Rattle.map.specs.Places.{widthOf}
 use Rattle.block.specs.Records.{baseOf}
 use Rattle.block.specs.Blocks.{State, runs, enter, leave, passAt, endLine, readLine, beforeLine, readLineAt, startState, readLines, totalsAfter}
-use Rattle.block.specs.Totals.{LimitedCode, longCodes, usedBits, codesOf, stepCodes, gatherFrom, codesInSteps, gathered, codesInPass, codesInLine, blockCodes, sumOf, TotalsOf}
+use Rattle.block.specs.Totals.{LimitedCode, longCodes, usedBits, codesOf, stepCodes, gatherFrom, codesInSteps, gathered, codesInPass, codesInLine, blockCodes, sumOf, linesCounted, TotalsOf}
+use Rattle.block.specs.Images.{isRead, linesRead}
+use Rattle.block.specs.BadCodes.{BadCode, firstBad}
+use Rattle.block.specs.TightBlocks.{bitsRead, readAnswer, tightAnswer}
+use Rattle.block.specs.BlockReadings.{ReadTotals, TightTotals}
+use Rattle.block.specs.declared.Decoded.the-variants.{Done, Refused}
 use Rattle.block.specs.declared.Form.{Form}
-use Rattle.block.proofs.RunLaws.{then-both, runs-last}
+use Rattle.block.proofs.RunLaws.{then-both, runs-none, runs-last}
 use Rattle.block.proofs.KeepLaws.{end-same}
+use Rattle.block.proofs.DecodeLaws.{stay-none}
+use Rattle.block.proofs.BadCodeLaws.{bad-in}
 
 -- ---- sums
 
@@ -154,3 +163,62 @@ totals-true F bases s n z e =
     let bits = block-adds usedBits (λ at long. at .0) used-adds F bases s n z e in
     let long = block-adds longCodes (λ at long. long) long-adds F bases s n z e in
     rw e (record { end = z; read = e; position = refl; bits = omega (arith, bits); long = omega (arith, long) })
+
+-- ---- the totals of every answer
+
+module _ (F : Form) (bases s : List ℕ) where
+  -- the first lines of some that are read
+  first-lines : (m n : ℕ) (z : State) → m ≤ n → readLines F bases s n ≡ some z → (y : State) × (readLines F bases s m ≡ some y)
+  first-lines m n z h e = go (readLines F bases s m) refl
+    where
+      go : (o : Option State) → readLines F bases s m ≡ o → (y : State) × (o ≡ some y)
+      go none f =
+          let k : m + (n - m) ≡ n = omega arith in
+          let no : none ≡ some z = sym (rw k at (stay-none F bases s m (n - m) f)) ∙ e in
+          let not : _≡_ {A = ℕ} 0 1 = cc in
+          absurd (omega arith)
+      go (some y) f = (y, refl)
+
+  no-lines : readLines F bases s 0 ≡ some (startState F bases)
+  unfolding readLines
+  no-lines = runs-none (readLineAt F bases s) (startState F bases)
+
+  lines-read : (m count : ℕ) → m ≤ linesRead F bases s count → (y : State) × (readLines F bases s m ≡ some y)
+  unfolding linesRead
+  lines-read m zero h = first-lines m 0 (startState F bases) h no-lines
+  lines-read m (suc n) h = go (readLines F bases s (suc n)) refl (λ k. lines-read m n k) h
+    where
+      go : (o : Option State) → readLines F bases s (suc n) ≡ o → (m ≤ linesRead F bases s n → (y : State) × (readLines F bases s m ≡ some y))
+          → m ≤ cond (isRead o) (suc n) (linesRead F bases s n) → (y : State) × (readLines F bases s m ≡ some y)
+      go none f before k = before k
+      go (some z) f before k = first-lines m (suc n) z k f
+
+  true-totals : (m count : ℕ) → m ≤ linesRead F bases s count → TotalsOf F bases s m (totalsAfter F bases s m)
+  true-totals m count h = let y = lines-read m count h in totals-true F bases s m (y .0) (y .1)
+
+pub read-totals : ReadTotals
+read-totals F bases s b lines = go (ltb (linesRead F bases s lines) lines) refl
+  where
+    n : ℕ
+    n = linesRead F bases s lines
+
+    go : (t : Bool) → ltb n lines ≡ t → let answer = cond t (Refused (Truncated b n)) Done in
+        TotalsOf F bases s (linesCounted answer lines) (totalsAfter F bases s (linesCounted answer lines))
+    go true e = true-totals F bases s n lines (omega arith)
+    go false e = true-totals F bases s lines lines (ltb-false n lines e)
+
+pub tight-totals : TightTotals
+unfolding tightAnswer
+tight-totals F s b lines =
+    go (ltb (linesRead F [] s lines) lines) (firstBad F [] s lines) refl (isTail s (bitsRead (readLines F [] s lines))) (λ x e. bad-in F [] s lines x e .line-inside)
+  where
+    n : ℕ
+    n = linesRead F [] s lines
+
+    go : (t : Bool) (o : Option BadCode) → ltb n lines ≡ t → (tail : Bool) → ((x : BadCode) → o ≡ some x → x .line < lines)
+        → let answer = cond t (Refused (Truncated b n)) (readAnswer o lines tail) in
+        TotalsOf F [] s (linesCounted answer lines) (totalsAfter F [] s (linesCounted answer lines))
+    go true o e tail low = true-totals F [] s n lines (omega arith)
+    go false none e true low = true-totals F [] s lines lines (ltb-false n lines e)
+    go false none e false low = true-totals F [] s lines lines (ltb-false n lines e)
+    go false (some x) e tail low = true-totals F [] s (x .line) lines (omega (arith, low x refl, ltb-false n lines e))

@@ -10,8 +10,9 @@ use Rattle.begin.specs.Beginnings.{readBegins, tightBegins}
 use Rattle.block.specs.Images.{formOf, bytesIn, basesIn, blockAnswer}
 use Rattle.block.specs.Lent.{Scratch, clearedLines, clearedRecords}
 use Rattle.block.specs.TightBlocks.{tightAnswer}
-use Rattle.block.specs.Totals.{counted, refusedBy}
+use Rattle.block.specs.Totals.{linesCounted, counted, refusedBy, TotalsOf}
 use Rattle.block.specs.declared.Counted.{Counted}
+use Rattle.block.specs.declared.Form.{Form}
 
 -- ---- the answers for block b of a stream with this header
 
@@ -42,3 +43,15 @@ LeftRead d b before after answer =
 abbrev pub LeftTight : List ℕ → ℕ → (before after : Scratch) → Counted → Type 0
 LeftTight d b before after answer =
     LeftBlock (tightBegins d b (length (before .lines)) (length (before .records))) (tightCounted d b) before after answer
+
+-- ---- the totals of every answer are those of the lines that it counts
+
+abbrev pub ReadTotals : Type 0
+ReadTotals =
+    (F : Form) (bases s : List ℕ) (b lines : ℕ) → let answer = blockAnswer F bases s b lines in
+    TotalsOf F bases s (linesCounted answer lines) ((counted F bases s lines answer) .totals)
+
+abbrev pub TightTotals : Type 0
+TightTotals =
+    (F : Form) (s : List ℕ) (b lines : ℕ) → let answer = tightAnswer F b lines s in
+    TotalsOf F [] s (linesCounted answer lines) ((counted F [] s lines answer) .totals)
