@@ -58,5 +58,5 @@ Bounds s (Read c) = (c .value < 63 * 2 ^ 15) × (c .after .0 ≤ 8 * length s + 
 Bounds s Truncated = Unit {0}
 
 abbrev pub Small : Taken → Type 0
-Small (Take.Read value after) = value < 63 * 2 ^ 15
+Small (Take.Read value at tight long) = value < 63 * 2 ^ 15
 Small Take.Truncated = Unit {0}

@@ -10,7 +10,6 @@ use Rattle.numbers.specs.Numbers.{flag}
 use Rattle.code.specs.declared.Code.{Code}
 use Rattle.code.specs.declared.Coded.{Coded}
 use Rattle.code.specs.declared.Coded.the-variants.{Read, Truncated}
-use Rattle.code.specs.declared.Place.{Place}
 use Rattle.code.specs.declared.Taken.{Taken}
 use Rattle.code.specs.declared.Taken.the-variants as Take
 
@@ -54,10 +53,7 @@ isTight M c = leb (c .value) M && c .minimal
 
 -- ---- what a pass takes of a code
 
--- where a reading is after a code: behind it, still tight if the code is, and with a long code more if the code is long
-abbrev pub placeAfter : ℕ → Place → Code → Place
-placeAfter M from c = record { at = c .after; tight = from .tight && isTight M c; long = from .long + flag (c .long) }
-
-abbrev pub takenOf : ℕ → Place → Coded → Taken
-takenOf M from (Read c) = Take.Read (c .value) (placeAfter M from c)
-takenOf M from Truncated = Take.Truncated
+-- its value, the position after it, whether all codes are tight with it, and how many are long
+abbrev pub takenOf : ℕ → Bool → ℕ → Coded → Taken
+takenOf M tight long (Read c) = Take.Read (c .value) (c .after) (tight && isTight M c) (long + flag (c .long))
+takenOf M tight long Truncated = Take.Truncated

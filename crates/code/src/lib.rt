@@ -7,7 +7,7 @@ ghost use lib.ListN.{length};
 ghost use Rattle.bits.specs.Bits.{wordAt};
 ghost use Rattle.code.specs.Codes.{codeAt, Bounds, Small};
 ghost use Rattle.code.specs.Samples.{choiceOf, residualOf, wrap, Moved, sampleOf};
-ghost use Rattle.code.specs.Tight.{isTight, placeAfter, takenOf};
+ghost use Rattle.code.specs.Tight.{isTight, takenOf};
 use bits::BitPosition;
 use bits::BitPumpMsb;
 use bits::ZeroRun;
@@ -36,9 +36,10 @@ pub struct Place {
     pub long: u64,
 }
 
-// What a pass takes of a code: its value, and where the reading is after it.
+// What a pass takes of a code: its value, and where the reading is after it, in parts. As one struct that would go through memory, for the slow
+// reader's sake, and cost 8 of 182 instructions a code.
 pub enum Taken {
-    Read(u32, Place),
+    Read(u32, BitPosition, bool, u64),
     Truncated,
 }
 
@@ -116,42 +117,42 @@ pub fn is_tight(m: u32, code: Code) -> bool
     (code.value <= m) & code.minimal
 }
 
-// Where a reading is after a code.
-fn place_after(m: u32, from: Place, code: Code) -> Place
-    requires { ⌜ from .long < 2 ^ 63 ⌝ }
-    ensures { λ r. ⌜ r ≡ placeAfter m from code ⌝ }
-{
-    let at = code.after;
-    Place {
-        at,
-        tight: from.tight & is_tight(m, code),
-        long: from.long + numbers::flag(code.long) as u64,
-    }
-}
-
-// What a pass takes of the code at `from`, whatever it is. It is kept out of the fast reader.
-fn take_any(s: &[u8], from: Place, m: u32, k: u32, limit: u32, raw: u32) -> Taken
+// What a pass takes of the code at `at`, whatever it is. It is kept out of the fast reader.
+fn take_any(
+    s: &[u8],
+    at: BitPosition,
+    tight: bool,
+    long: u64,
+    m: u32,
+    k: u32,
+    limit: u32,
+    raw: u32,
+) -> Taken
     requires { ⌜ (length (now s) < 2 ^ 32) × ((k ≤ 15) × ((limit < 64) × (raw ≤ 16))) ⌝ }
-    requires { ⌜ from .long ≤ from .at .0 ⌝ }
-    ensures { λ r. ⌜ (r ≡ takenOf m from (codeAt (now (s .entry)) (from .at .0) k limit raw)) × Small r ⌝ }
+    requires { ⌜ long ≤ at .0 ⌝ }
+    ensures { λ r. ⌜ (r ≡ takenOf m tight long (codeAt (now (s .entry)) (at .0) k limit raw)) × Small r ⌝ }
 {
-    let at = from.at;
     let got = read_code(s, at, k, limit, raw);
     let Coded::Read(c) = got else {
         return Taken::Truncated;
     };
-    Taken::Read(c.value, place_after(m, from, c))
+    let after = c.after;
+    let still_tight = tight & is_tight(m, c);
+    let now_long = long + numbers::flag(c.long) as u64;
+    Taken::Read(c.value, after, still_tight, now_long)
 }
 
-// The same, at once in the common case: zeros, one bit and low bits stand in one word of 57 bits or more, and the value is at most m. Such a code is
-// short and tight, so that the verdict and the count go on as they are. The slow reader has two calls here, so that LLVM does not take it into
-// this function.
+// The same from a place on, and at once in the common case: zeros, one bit and low bits stand in one word of 57 bits or more, and the value is at most
+// m. Such a code is short and tight, so that the verdict and the count go on as they are. The slow reader has three calls here, so that LLVM does
+// not take it into this function.
 pub fn take_code(s: &[u8], from: Place, m: u32, k: u32, limit: u32, raw: u32) -> Taken
     requires { ⌜ (length (now s) < 2 ^ 32) × ((k ≤ 15) × ((limit < 64) × (raw ≤ 16))) ⌝ }
     requires { ⌜ from .long ≤ from .at .0 ⌝ }
-    ensures { λ r. ⌜ (r ≡ takenOf m from (codeAt (now (s .entry)) (from .at .0) k limit raw)) × Small r ⌝ }
+    ensures { λ r. ⌜ (r ≡ takenOf m (from .tight) (from .long) (codeAt (now (s .entry)) (from .at .0) k limit raw)) × Small r ⌝ }
 {
     let at = from.at;
+    let tight = from.tight;
+    let long = from.long;
     let w = next_word(s, at);
     // At most 41 zeros: with the one bit and 15 low bits they are in the word.
     if w >= 0x40_0000 {
@@ -161,18 +162,13 @@ pub fn take_code(s: &[u8], from: Place, m: u32, k: u32, limit: u32, raw: u32) ->
             let low = (w >> (64 - used)) as u32 - (1 << k);
             let value = (zeros << k) + low;
             if value <= m {
-                let after = Place {
-                    at: BitPosition(at.0 + used as u64),
-                    tight: from.tight,
-                    long: from.long,
-                };
-                return Taken::Read(value, after);
+                return Taken::Read(value, BitPosition(at.0 + used as u64), tight, long);
             }
-            return take_any(s, from, m, k, limit, raw);
+            return take_any(s, at, tight, long, m, k, limit, raw);
         }
-        return take_any(s, from, m, k, limit, raw);
+        return take_any(s, at, tight, long, m, k, limit, raw);
     }
-    take_any(s, from, m, k, limit, raw)
+    take_any(s, at, tight, long, m, k, limit, raw)
 }
 
 // The flatness from which on a quantiser is passed over: the main one is used where all three are.

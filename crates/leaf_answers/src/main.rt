@@ -233,15 +233,14 @@ fn coded_agrees(w: [u32; 12], c: Context, q: Quantiser, m: u32, coded: Coded) ->
 fn readers_agree(coded: Coded, taken: Taken) -> bool {
     let Coded::Read(got) = coded else {
         return match taken {
-            Taken::Read(_, _) => false,
+            Taken::Read(_, _, _, _) => false,
             Taken::Truncated => true,
         };
     };
-    let Taken::Read(value, place) = taken else {
+    let Taken::Read(value, at, _, _) = taken else {
         return false;
     };
     let after = got.after;
-    let at = place.at;
     (value == got.value) & (at.0 == after.0)
 }
 

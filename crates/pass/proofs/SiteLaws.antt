@@ -6,13 +6,14 @@ use mathlib.Core.Path.{_≡_, refl, sym, ap, _∙_}
 use Prim.Native.Nat.{ℕ, _+_, _*_, _^_, _≤_, _<_}
 use native.Mathlib.Omega.{arith}
 use lib.ListN.{length, getD, set}
+use Rattle.numbers.specs.Numbers.{flag}
 use Rattle.statistics.specs.Statistics.{kOf, updated}
 use Rattle.statistics.specs.declared.Record.{Record}
 use Rattle.quantiser.specs.Quantisers.{largest}
 use Rattle.prediction.specs.declared.Context.{Context}
 use Rattle.code.specs.Codes.{codeAt}
 use Rattle.code.specs.Samples.{residualOf, sampleOf}
-use Rattle.code.specs.Tight.{placeAfter, takenOf}
+use Rattle.code.specs.Tight.{isTight, takenOf}
 use Rattle.code.specs.declared.Code.{Code}
 use Rattle.code.specs.declared.Coded.{Coded}
 use Rattle.code.specs.declared.Coded.the-variants.{Read, Truncated}
@@ -88,26 +89,30 @@ module _ {bits q W line p : ℕ} {s lines sums ns totals raws limits : List ℕ}
       rw (ek, used-limit, used-raw, t .record-is, ec, t .slot, t .look, t .placed .context, t .placed .place)
 
   -- and by what was taken of it
-  got-none : (from : Place) (m : ℕ) (o : Coded) → takenOf m from o ≡ Take.Truncated → taken bits q i j x h (held lines sums ns from) o ≡ none
+  got-none : (from : Place) (m : ℕ) (o : Coded) → takenOf m (from .tight) (from .long) o ≡ Take.Truncated
+      → taken bits q i j x h (held lines sums ns from) o ≡ none
   got-none from m Truncated e = refl
   got-none from m (Read c) e = let no : _≡_ {A = ℕ} 0 1 = cc in absurd (omega arith)
 
-  got-some : (from after : Place) (m v value : ℕ) (new : List Record) (o : Coded) → takenOf m from o ≡ Take.Read value after → m ≡ largest bits
+  got-some : (from after : Place) (m v value : ℕ) (new : List Record) (o : Coded)
+      → takenOf m (from .tight) (from .long) o ≡ Take.Read value (after .at) (after .tight) (after .long) → m ≡ largest bits
       → v ≡ sampleOf m (h .base) (getD totals (h .choice) 0) (h .negative) (x .prediction) value
       → new ≡ set (zipRecords sums ns) j (updated old ((residualOf value) .size))
       → taken bits q i j x h (held lines sums ns from) o ≡ some (readingAt (set lines (i + 1) v) new after)
   got-some from after m v value new Truncated e em ev es = let no : _≡_ {A = ℕ} 0 1 = cc in absurd (omega arith)
   got-some from after m v value new (Read c) e em ev es =
-      let a : placeAfter m from c ≡ after = cc in
+      let a : c .after ≡ after .at = cc in
       let b : c .value ≡ value = cc in
-      rw (es, ev, ← a, ← b, em, t .record-is, used-total)
+      let d : from .tight && isTight m c ≡ after .tight = cc in
+      let f : from .long + flag (c .long) ≡ after .long = cc in
+      rw (es, ev, ← a, ← b, ← d, ← f, em, t .record-is, used-total)
 
   module _ {coded : Bool} {from : Place} {k : ℕ} (m : ℕ) {got : Taken} (ec : coded ≡ true) (ek : k ≡ kOf old)
-      (eg : got ≡ takenOf m from (code from k)) where
+      (eg : got ≡ takenOf m (from .tight) (from .long) (code from k)) where
     pub site-cut-off : got ≡ Take.Truncated → StepGives bits q W s (stepAt line p coded) (held lines sums ns from) none
     site-cut-off e = record { is = site-got coded from k ec ek ∙ got-none from m (code from k) (sym eg ∙ e) }
 
-    pub site-read : {value v : ℕ} {after : Place} {new : List Record} → got ≡ Take.Read value after → m ≡ largest bits
+    pub site-read : {value v : ℕ} {after : Place} {new : List Record} → got ≡ Take.Read value (after .at) (after .tight) (after .long) → m ≡ largest bits
         → v ≡ sampleOf m (h .base) (getD totals (h .choice) 0) (h .negative) (x .prediction) value
         → new ≡ set (zipRecords sums ns) j (updated old ((residualOf value) .size))
         → StepGives bits q W s (stepAt line p coded) (held lines sums ns from) (some (readingAt (set lines (i + 1) v) new after))

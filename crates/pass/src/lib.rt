@@ -66,12 +66,12 @@ fn even_pair(
         let j = steps::slot_of(p, h.place);
         let old = steps::record_at(sums, ns, j);
         let got = code::take_code(block, place, m, old.k(), limits[q], raws[q]);
-        let Taken::Read(value, after) = got else {
+        let Taken::Read(value, at, tight, long) = got else {
             return Pair::CutOff;
         };
         lines[i + 1] = sample_of(m, h.base, totals[q], h.negative, x.prediction, value) as u16;
         steps::update_at(sums, ns, j, old, value);
-        place = after;
+        place = Place { at, tight, long };
     } else {
         lines[i + 1] = x.prediction as u16;
     }
@@ -83,12 +83,12 @@ fn even_pair(
         let j = steps::slot_of(p, h.place);
         let old = steps::record_at(sums, ns, j);
         let got = code::take_code(block, place, m, old.k(), limits[q], raws[q]);
-        let Taken::Read(value, after) = got else {
+        let Taken::Read(value, at, tight, long) = got else {
             return Pair::CutOff;
         };
         lines[i + 1] = sample_of(m, h.base, totals[q], h.negative, x.prediction, value) as u16;
         steps::update_at(sums, ns, j, old, value);
-        place = after;
+        place = Place { at, tight, long };
     } else {
         lines[i + 1] = x.prediction as u16;
     }
@@ -124,7 +124,7 @@ fn odd_pair(
     let j = steps::slot_of(p, h.place);
     let old = steps::record_at(sums, ns, j);
     let got = code::take_code(block, from, m, old.k(), limits[q], raws[q]);
-    let Taken::Read(value, between) = got else {
+    let Taken::Read(value, at, tight, long) = got else {
         return Pair::CutOff;
     };
     lines[i + 1] = sample_of(m, h.base, totals[q], h.negative, x.prediction, value) as u16;
@@ -135,13 +135,14 @@ fn odd_pair(
     let q = h.choice;
     let j = steps::slot_of(p, h.place);
     let old = steps::record_at(sums, ns, j);
+    let between = Place { at, tight, long };
     let got = code::take_code(block, between, m, old.k(), limits[q], raws[q]);
-    let Taken::Read(value, after) = got else {
+    let Taken::Read(value, at, tight, long) = got else {
         return Pair::CutOff;
     };
     lines[i + 1] = sample_of(m, h.base, totals[q], h.negative, x.prediction, value) as u16;
     steps::update_at(sums, ns, j, old, value);
-    Pair::At(after)
+    Pair::At(Place { at, tight, long })
 }
 
 // A pass: at each turn an even position, and the odd one seven before it, where they are positions of the line.

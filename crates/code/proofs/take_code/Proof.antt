@@ -2,7 +2,7 @@
 -- code is short, and tight if its value is at most m. Assumes nothing.
 use borrow.Author.Needs.{needs}
 use borrow.Author.Tests.{le-leb}
-use mathlib.Core.Bool.{true, _&&_, and-true}
+use mathlib.Core.Bool.{Bool, true, _&&_, and-true}
 use mathlib.Core.Path.{_≡_, sym, _∙_}
 use mathlib.Core.List.{List}
 use Prim.Native.Nat.{ℕ, _+_, _-_, _*_, _/_, _%_, _^_, _≤_, _<_}
@@ -17,7 +17,6 @@ use Rattle.bits.proofs.RunLaws.{leading-few, window-run, run-then, run-inside}
 use Rattle.code.specs.Codes.{shortCode, codeAt, Small}
 use Rattle.code.specs.Tight.{isTight, takenOf}
 use Rattle.code.specs.declared.Coded.the-variants.{Read}
-use Rattle.code.specs.declared.Place.{Place}
 use Rattle.code.specs.declared.Taken.the-variants as Take
 use Rattle.code.proofs.CodeLaws.{code-short, short-lt, shifted}
 use Rattle.code.proofs.take_code.Statement.{statement}
@@ -53,10 +52,10 @@ window s p k w e′ h hk =
     }
 
 -- of a short code up to M the verdict and the count go on as they are
-goes-on : (M : ℕ) (from : Place) (s : List ℕ) (p k z : ℕ) → shortCode s p k z .value ≤ M
-    → takenOf M from (Read (shortCode s p k z)) ≡ Take.Read (shortCode s p k z .value) (record { at = shortCode s p k z .after; tight = from .tight; long = from .long })
+goes-on : (M : ℕ) (tight : Bool) (long : ℕ) (s : List ℕ) (p k z : ℕ) → shortCode s p k z .value ≤ M
+    → takenOf M tight long (Read (shortCode s p k z)) ≡ Take.Read (shortCode s p k z .value) (shortCode s p k z .after) tight long
 unfolding isTight
-goes-on M from s p k z h = rw (le-leb _ M h, and-true (from .tight), add-zero)
+goes-on M tight long s p k z h = rw (le-leb _ M h, and-true tight, add-zero)
 
 module _ (s : List ℕ) (p k limit raw w z : ℕ) (i : Window s p k w z) (hk : k ≤ 15) (hl : limit < 64) (h : z < limit) where
   abbrev value : ℕ
@@ -70,11 +69,11 @@ module _ (s : List ℕ) (p k limit raw w z : ℕ) (i : Window s p k w z) (hk : k
   small : value < 63 * 2 ^ 15
   small = omega (arith, value-is, short-lt s p k limit raw z hk hl h)
 
-  is : (M : ℕ) (from : Place) → value ≤ M
-      → (Take.Read value (record { at = record { 0 = p + (z + 1 + k) }; tight = from .tight; long = from .long }) ≡ takenOf M from (codeAt s p k limit raw)) × (value < 63 * 2 ^ 15)
-  is M from le =
+  is : (M : ℕ) (tight : Bool) (long : ℕ) → value ≤ M
+      → (Take.Read value (record { 0 = p + (z + 1 + k) }) tight long ≡ takenOf M tight long (codeAt s p k limit raw)) × (value < 63 * 2 ^ 15)
+  is M tight long le =
       let at : p + (z + 1 + k) ≡ p + z + 1 + k = omega arith in
-      (rw (code-short s p k limit raw z (i .run) h, goes-on M from s p k z (omega (arith, value-is)), value-is, at), small)
+      (rw (code-short s p k limit raw z (i .run) h, goes-on M tight long s p k z (omega (arith, value-is)), value-is, at), small)
 
 abbrev start : tie.Then2 → tie.Start
 start c = c .before .before .before .before .before
@@ -96,7 +95,7 @@ add-value c =
     let s = start c in
     record { fits = omega (arith, small _ _ (s .args .k) (s .args .limit) (s .args .raw) _ _ (known c) (s .pre .0 .1 .0) (s .pre .0 .1 .1 .0) (c .if2 .taken)) }
 
-add-after : tie.Need-add-t23
+add-after : tie.Need-add-t24
 add-after c =
     let t = c .before .before in
     omega (arith, known t .inside, run-inside _ _ _ (known t .run), start t .pre .0 .0)
@@ -105,7 +104,7 @@ returns : tie.Need-returns
 returns c =
     let t = c .before .before in
     let s = start t in
-    is _ _ _ _ _ _ _ (known t) (s .pre .0 .1 .0) (s .pre .0 .1 .1 .0) (t .if2 .taken) _ _ (c .before .if3 .taken)
+    is _ _ _ _ _ _ _ (known t) (s .pre .0 .1 .0) (s .pre .0 .1 .1 .0) (t .if2 .taken) _ _ _ (c .before .if3 .taken)
 
 pub take-code-spec : {M : Type 1} → statement M
 take-code-spec =

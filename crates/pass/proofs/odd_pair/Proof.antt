@@ -7,6 +7,7 @@ use mathlib.Core.Path.{refl}
 use Prim.Native.Nat.{ℕ, _+_, _^_, _≤_, _<_}
 use native.Mathlib.Omega.{arith}
 use lib.ListN.{length, set, length-set}
+use Rattle.code.specs.declared.Place.{Place}
 use Rattle.steps.specs.Steps.{stepAt}
 use Rattle.steps.specs.Values.{SetInRange}
 use Rattle.pass.specs.Readings.{Reading}
@@ -96,12 +97,16 @@ got c = c .before .before .before .before .before .before
 abbrev origin : tie.After-update-at → tie.After-look-of
 origin c = looked (kept (got c .before .before))
 
+-- where the reading is
+abbrev between : tie.After-update-at → Place
+between c = let g = got c .got .given .0 in record { at = g .1 .0; tight = g .1 .1 .0; long = g .1 .1 .1 .0 }
+
 abbrev lines₁ : tie.After-update-at → List ℕ
 lines₁ c = set (entry (origin c) .args .lines .now) (there (origin c) .left-of .result + 1) (c .before .before .before .sample-of .result)
 
 abbrev middle : tie.After-update-at → Reading
 middle c =
-    held (lines₁ c) (c .update-at .last .0) (c .update-at .last .1 .0) (got c .got .given .0 .1 .0)
+    held (lines₁ c) (c .update-at .last .0) (c .update-at .last .1 .0) (between c)
 
 first-read : (c : tie.After-update-at) → let a = entry (origin c) .args in
     StepGives (a .spot .bits) (a .base) (a .spot .w) (a .block .now) (stepAt (a .spot .plan .first) (a .spot .p) true)
@@ -115,7 +120,7 @@ in-range : (c : tie.After-update-at) → SetInRange (middle c .set)
 in-range c = c .update-at .ensures .1
 
 -- there are no more long codes than bits
-counted : (c : tie.After-update-at) → got c .got .given .0 .1 .0 .long ≤ got c .got .given .0 .1 .0 .at .0
+counted : (c : tie.After-update-at) → between c .long ≤ between c .at .0
 counted c =
     let p = entry (origin c) .pre in
     step-keeps _ _ _ _ (p .depth .1) _ _ _ (first-read c .is) .counted (p .counted)
