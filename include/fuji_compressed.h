@@ -49,9 +49,15 @@ void fuji_decode_region(const uint8_t *stream, size_t stream_length, size_t x, s
                         const uint8_t tile[36], uint16_t *image, size_t image_length, uint16_t *scratch, size_t scratch_length,
                         fuji_record *records, size_t records_length, size_t refusal[4]);
 
-/* The tight reading of a block: not refused are exactly the tight blocks of a lossless stream. */
+/* Reads a whole block, lossless or lossy, and shows nothing. `totals` are the bits of its codes and how many of them are long: of all lines where nothing is
+ * refused, of the lines before the truncated one with refusal 14, and 0 and 0 with every other refusal. */
+void fuji_read_block(const uint8_t *stream, size_t stream_length, size_t block, uint16_t *scratch, size_t scratch_length,
+                     fuji_record *records, size_t records_length, size_t totals[2], size_t refusal[4]);
+
+/* The tight reading of a block: not refused are exactly the tight blocks of a lossless stream. Totals as above; with refusal 15 those of the lines before
+ * the one that is named. */
 void fuji_read_tight(const uint8_t *stream, size_t stream_length, size_t block, uint16_t *scratch, size_t scratch_length,
-                     fuji_record *records, size_t records_length, size_t refusal[4]);
+                     fuji_record *records, size_t records_length, size_t totals[2], size_t refusal[4]);
 
 /* Writes the tight block of a set of colour lines to the start of the output: for each line of six rows red 2 to 4, green 7 to 12 and blue 15 to 17,
  * with 384 samples each (X-Trans: 512). Its length is handed back, a multiple of 16 bytes of which the last are filled with zero bits, and 0 where it is

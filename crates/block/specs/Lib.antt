@@ -7,6 +7,7 @@ pub mod Images
 pub mod BadCodes
 pub mod TightBlocks
 pub mod WrittenBlocks
-pub mod TightReadings
+pub mod Totals
+pub mod BlockReadings
 pub mod Words
 pub mod WrittenAnswers

@@ -56,7 +56,7 @@ module _ (F : Form) (Q : Lossless (F .bits)) (s : List ℕ) (i : ℕ) (r : State
   entered = enter F P r
 
   abbrev left : Reading → State
-  left y = record { lines = y .lines; records = putSet (P .set) (y .set) (r .records); at = y .at; tight = y .tight }
+  left y = record { lines = y .lines; records = putSet (P .set) (y .set) (r .records); at = y .at; tight = y .tight; long = y .long }
 
   sound : Sound (F .bits) W (entered .lines)
   sound =

@@ -79,7 +79,7 @@ impl Picture {
     /// The tight reading of the only block.
     fn time_tight(&self, scratch: &mut Scratch) -> f64 {
         let start = seconds();
-        FujiCompressed::new(black_box(&self.stream)).unwrap().read_tight_with(scratch, 0).unwrap();
+        FujiCompressed::new(black_box(&self.stream)).unwrap().read_tight_with(scratch, 0).answer.unwrap();
         seconds() - start
     }
 

@@ -73,6 +73,7 @@ struct Encoder<'a> {
     flat: [Quantiser; 3],
     out: Bits,
     codes: usize,
+    long_codes: usize,
     spoil: Option<Spoil>,
     want: &'a mut dyn FnMut(usize, usize, usize) -> u16,
 }
@@ -92,6 +93,8 @@ pub enum How {
     Zero,
     /// A code of 2^bits.
     Large,
+    /// Code 2, long, whatever the code was.
+    Two,
 }
 
 impl Encoder<'_> {
@@ -126,6 +129,7 @@ impl Encoder<'_> {
             Some(How::Zero) => limit + 1,
             Some(_) => limit,
         };
+        self.long_codes += (zeros >= limit) as usize;
         self.out.put(0, zeros as u32);
         self.out.put(1, 1);
         if zeros < limit { self.out.put((code & ((1 << k) - 1)) as u64, k) } else { self.out.put((code - 1) as u64, raw) }
@@ -165,8 +169,8 @@ impl Encoder<'_> {
         if spoilt.is_some() {
             self.spoil = None;
         }
-        if spoilt == Some(How::Large) {
-            code = 1 << self.bits;
+        if let Some(How::Large | How::Two) = spoilt {
+            code = if spoilt == Some(How::Two) { 2 } else { 1 << self.bits };
             residual = code / 2;
         }
         self.codes += 1;
@@ -215,10 +219,11 @@ pub fn encode(bits: u32, xtrans: bool, bases: &[u8], lines: usize, want: &mut dy
     encode_spoilt(bits, xtrans, bases, lines, want, None).bytes
 }
 
-/// A block, how many bits of it are used, and whether a code was spoilt.
+/// A block, how many bits of it are used, how many of its codes are long, and whether a code was spoilt.
 pub struct Encoded {
     pub bytes: Vec<u8>,
     pub used: usize,
+    pub long_codes: usize,
     pub spoilt: bool,
 }
 
@@ -251,6 +256,7 @@ pub fn encode_spoilt(
         flat,
         out: Bits::default(),
         codes: 0,
+        long_codes: 0,
         spoil,
         want,
     };
@@ -272,7 +278,8 @@ pub fn encode_spoilt(
             e.lines.copy_within(from * s..(from + 1) * s, to * s);
         }
     }
+    let long_codes = e.long_codes;
     let mut bytes = e.out.bytes;
     bytes.resize(bytes.len().next_multiple_of(16), 0);
-    Encoded { bytes, used: e.out.used, spoilt: spoil.is_some() && e.spoil.is_none() }
+    Encoded { bytes, used: e.out.used, long_codes, spoilt: spoil.is_some() && e.spoil.is_none() }
 }

@@ -1,6 +1,7 @@
 //! The program as a user calls it: what it writes, what it says, and its status.
 mod folder;
 
+use common::random::congruential;
 use common::stream::{Header, blocks, encoded};
 use folder::{Folder, sample, stream, text};
 use std::fs;
@@ -148,12 +149,14 @@ fn check_says_of_each_block_whether_it_is_tight() {
     let lines: Vec<&str> = out.lines().collect();
     assert!(!lines.is_empty());
     for (i, line) in lines.iter().enumerate() {
-        assert_eq!(*line, format!("a.fcs: block {i}: tight"));
+        assert!(line.starts_with(&format!("a.fcs: block {i}: ")) && line.ends_with(" long codes, tight"), "{line}");
     }
     f.put("cut.fcs", &stream()[..100]);
     let said = f.run("check cut.fcs");
     assert_eq!(said.status.code(), Some(1));
-    assert!(text(&said.stdout).starts_with("cut.fcs: block 0: refusal 14: block 0, line 0: a line is truncated\n"));
+    assert!(text(&said.stdout).starts_with(
+        "cut.fcs: block 0:      0 bits a line,      0 long codes, refusal 14: block 0, line 0: a line is truncated\n"
+    ));
     assert_eq!(text(&said.stderr), "1 block is truncated\n");
     // Two tight blocks: a byte more after the first, and the second cut.
     let header = Header::new(true, false, 12, 1536, 1);
@@ -161,7 +164,9 @@ fn check_says_of_each_block_whether_it_is_tight() {
     let longer = [&blocks[0][..], &[0; 16]].concat();
     let two = |a: &[u8], b: &[u8]| common::stream::stream(&header, &[], &[a.to_vec(), b.to_vec()]);
     f.put("two.fcs", &two(&blocks[0], &blocks[1]));
-    assert_eq!(f.works("check two.fcs"), "two.fcs: block 0: tight\ntwo.fcs: block 1: tight\n");
+    let checked = f.works("check two.fcs");
+    let ends: Vec<&str> = checked.lines().map(|l| l.rsplit(", ").next().unwrap()).collect();
+    assert_eq!(ends, ["tight", "tight"]);
     for (name, first, second, says) in [
         ("loose", &longer, &blocks[1][..], "1 block is not tight"),
         ("both", &longer, &longer[..], "2 blocks are not tight"),
@@ -175,6 +180,31 @@ fn check_says_of_each_block_whether_it_is_tight() {
     f.fails("check lossy", "the stream is lossy: only blocks of lossless streams can be tight");
     f.is_wrong("check", "check needs a stream");
     f.is_wrong("check a.fcs --format raw", "check takes no --format");
+}
+
+/// Sets by a generator, whose bits and long codes an independent model has counted: 68,619 bits and 25 long codes in the first line, 135,865 and
+/// 29 in both; and lossy ones.
+#[test]
+fn bits_a_line_and_long_codes() {
+    let f = Folder::new("counted");
+    let filled = [2, 3, 4, 7, 8, 9, 10, 11, 12, 15, 16, 17];
+    let made = |header: &Header, rows: &[Vec<u8>], set: &[u16]| {
+        encoded(header, rows, &mut |_, n, line, p| set[(12 * n + filled.iter().position(|l| *l == line).unwrap()) * 384 + p])
+    };
+    let whole = made(&Header::new(true, false, 14, 768, 2), &[], &congruential(2, 1 << 14, 2 * 12 * 384));
+    f.put("whole.fcs", &whole);
+    assert_eq!(f.works("check whole.fcs"), "whole.fcs: block 0:  67932 bits a line,     29 long codes, tight\n");
+    let blocks = |said: String| said.lines().filter(|l| l.starts_with("  block 0: ")).nth(1).unwrap().to_string();
+    assert_eq!(blocks(f.works("info whole.fcs --blocks")), "  block 0:  67932 bits a line,     29 long codes");
+    assert!(!f.works("info whole.fcs").contains("bits a line"));
+    f.put("cut.fcs", &whole[..32 + 12_000]);
+    let cut = "  block 0:  68619 bits a line,     25 long codes, refusal 14: block 0, line 1: a line is truncated";
+    assert_eq!(blocks(f.works("info --blocks cut.fcs")), cut);
+    let lossy = made(&Header::new(false, false, 12, 768, 2), &[vec![1, 1]], &congruential(12, 1 << 12, 2 * 12 * 384));
+    f.put("lossy.fcs", &lossy);
+    assert_eq!(blocks(f.works("info lossy.fcs --blocks")), "  block 0:  52184 bits a line,     32 long codes");
+    f.is_wrong("info whole.fcs --blocks=1", "--blocks takes no value");
+    f.is_wrong("check whole.fcs --blocks", "check takes no --blocks");
 }
 
 #[test]
@@ -196,13 +226,16 @@ fn write_makes_the_block_of_a_set() {
         whole
     };
     f.put("stream", &stream_of(&block));
-    assert_eq!(text(&f.run("check stream").stdout), "stream: block 0: tight\n");
+    assert_eq!(text(&f.run("check stream").stdout), "stream: block 0:   5328 bits a line,      0 long codes, tight\n");
     // all its codes, and a byte too many
     f.put("longer", &stream_of(&[&block[..], &[0]].concat()));
     let said = f.run("check longer");
     assert_eq!(said.status.code(), Some(1));
     let end = "all its codes are, but after them there must be zero bits up to the next 16 bytes, and no more";
-    assert_eq!(text(&said.stdout), format!("longer: block 0: refusal 15: line 1: the block is not tight: {end}\n"));
+    assert_eq!(
+        text(&said.stdout),
+        format!("longer: block 0:   5328 bits a line,      0 long codes, refusal 15: line 1: the block is not tight: {end}\n")
+    );
     f.put("few", &[0; 2 * 12 * 384 - 2]);
     f.put("half", &[0; 2 * 12 * 384 - 1]);
     f.fails("write header few out", "refusal 9: the number of samples is not the block's");

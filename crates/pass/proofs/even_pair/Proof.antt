@@ -11,15 +11,16 @@ use Rattle.steps.specs.Steps.{interpolated, stepAt}
 use Rattle.steps.specs.Values.{SetInRange}
 use Rattle.pass.specs.Readings.{Reading}
 use Rattle.pass.specs.Pairs.{held}
+use Rattle.pass.proofs.RangeLaws.{step-keeps}
 use Rattle.pass.proofs.StepLaws.{StepGives, two-steps, first-none}
-use Rattle.pass.proofs.SiteLaws.{placeOf, Placed, site-interpolated, Site, site-reader, site-total, site-cut-off, site-read, met, step-met, ranges-met, length-met, pair-cut-off, pair-at}
+use Rattle.pass.proofs.SiteLaws.{Placed, site-interpolated, Site, site-reader, site-total, site-cut-off, site-read, met, step-met, ranges-met, length-met, pair-cut-off, pair-at}
 use Rattle.pass.proofs.even_pair.Statement.{statement}
 use Rattle.pass.proofs.even_pair.Tie as tie
 
 -- ---- the first sample
 
 abbrev begin : tie.After-has-code → tie.After-largest
-begin c = c .before .before .before .before .before .before
+begin c = c .before .before .before .before .before
 
 abbrev entry : tie.After-has-code → tie.Start
 entry c = begin c .before .before .before
@@ -57,13 +58,13 @@ first c =
       quantisers = p .quantisers;
     }
 
-read-code-requires : tie.Need-read-code-requires
-read-code-requires c κs =
+take-code-requires : tie.Need-take-code-requires
+take-code-requires c κs =
     let r = c .before .before .before in
-    (entry (asked r) .pre .bytes, (c .before .before .k .ensures .1, site-reader (first r)))
+    ((entry (asked r) .pre .bytes, (c .before .before .k .ensures .1, site-reader (first r))), entry (asked r) .pre .counted)
 
 -- the record that a code was read by
-abbrev kept : tie.After-read-code → tie.After-record-at
+abbrev kept : tie.After-take-code → tie.After-record-at
 kept c = c .before .before .before .before
 
 returns : tie.Need-returns
@@ -71,7 +72,7 @@ returns c =
     let r = c .before .before in
     let o = kept r in
     let coded = sym (asked o .has-code .ensures) ∙ looked o .before .if1 .taken in
-    let cut = site-cut-off (first o) coded (r .before .before .before .k .ensures .0) (r .read-code .ensures .0) (c .enum-told .given .1) in
+    let cut = site-cut-off (first o) _ coded (r .before .before .before .k .ensures .0) (r .take-code .ensures .0) (c .enum-told .given .1) in
     record { answer = pair-cut-off _ _ _ (first-none cut); records = entry (asked o) .pre .records }
 
 sample-of-requires : tie.Need-sample-of-requires
@@ -79,11 +80,11 @@ sample-of-requires c κs =
     let r = c .before .before .before .before in
     let o = kept r in
     let t = asked o in
-    let b = rw (c .before .before .got .given .1) at (r .read-code .ensures .1) in
-    (begin t .largest .ensures .1, (looked o .look-of .ensures .1 .1 .0, (site-total (first o), (t .before .context-at .ensures .1 .prediction, b .0))))
+    let b = rw (c .before .before .got .given .1) at (r .take-code .ensures .1) in
+    (begin t .largest .ensures .1, (looked o .look-of .ensures .1 .1 .0, (site-total (first o), (t .before .context-at .ensures .1 .prediction, b))))
 
 -- a sample fits 16 bits
-small : (r : tie.After-read-code) {v : ℕ} → v ≤ begin (asked (kept r)) .largest .result → v < 2 ^ 16
+small : (r : tie.After-take-code) {v : ℕ} → v ≤ begin (asked (kept r)) .largest .result → v < 2 ^ 16
 small r h = omega (arith, begin (asked (kept r)) .largest .ensures .1)
 
 update-at-requires : tie.Need-update-at-requires
@@ -91,8 +92,8 @@ update-at-requires c κs =
     let g = c .before .before .before .before .before in
     let r = g .before .before in
     let o = kept r in
-    let b = rw (g .got .given .1) at (r .read-code .ensures .1) in
-    ((b .0, (o .before .before .before .slot-of .ensures .1, o .record-at .ensures .1)), entry (asked o) .pre .records)
+    let b = rw (g .got .given .1) at (r .take-code .ensures .1) in
+    ((b, (o .before .before .before .slot-of .ensures .1, o .record-at .ensures .1)), entry (asked o) .pre .records)
 
 abbrev taken-1 : tie.After-sample-of → tie.After-record-at
 taken-1 c = kept (c .before .before .before .before .before)
@@ -100,7 +101,7 @@ taken-1 c = kept (c .before .before .before .before .before)
 -- ---- where the two ways to it meet
 
 abbrev middle : tie.Joined1 → Reading
-middle c = held (c .if1 .lines) (c .if1 .sums) (c .if1 .ns) (placeOf (c .if1 .at) (c .if1 .tight))
+middle c = held (c .if1 .lines) (c .if1 .sums) (c .if1 .ns) (c .if1 .place)
 
 record Met (c : tie.Joined1) : Type 0 where
   read : let a = entry (c .before) .args in
@@ -118,21 +119,27 @@ one c =
     (λ w.
     let h : tie.After-look-of = record { before = record { before = t; if1 = w .0 }; look-of = w .1 } in
     let f = first (record { before = record { before = record { before = record { before = h; slot-of = w .2 }; record-at-arg = w .3 }; record-at-arg2 = w .4 }; record-at = w .5 }) in
-    let m = met (w .20) (w .21) (w .22) (w .23) (w .24) in
+    let m = met (w .18) (w .19) (w .20) (w .21) in
     let new = w .17 .ensures in
     record {
-      read = step-met m (site-read f (coded ∙ w .0 .taken) (w .6 .ensures .0) (w .9 .ensures .0) (w .11 .given .1) largest (w .14 .ensures .0) (new .0) (w .19 .ensures));
+      read = step-met m (site-read f _ (coded ∙ w .0 .taken) (w .6 .ensures .0) (w .9 .ensures .0) (w .11 .given .1) largest (w .14 .ensures .0) (new .0));
       in-range = ranges-met m (new .1);
       same = length-met m ∙ simp length-set;
     })
     (λ w.
-    let m = met (w .2) (w .3) (w .4) (w .5) (w .6) in
+    let m = met (w .2) (w .3) (w .4) (w .5) in
     record {
       read = step-met m (site-interpolated (placed t) (coded ∙ w .0 .left));
       in-range = ranges-met m (entry t .pre .records);
       same = length-met m ∙ simp length-set;
     })
     (c .if1 .came)
+
+-- there are no more long codes than bits
+counted : (c : tie.Joined1) → c .if1 .place .long ≤ c .if1 .place .at .0
+counted c =
+    let p = entry (c .before) .pre in
+    step-keeps _ _ _ _ (p .depth .1) _ _ _ (one c .read .is) .counted (p .counted)
 
 -- ---- the second sample
 
@@ -189,12 +196,12 @@ second c =
       quantisers = p .quantisers;
     }
 
-read-code-requires-2 : tie.Need-read-code-requires-2
-read-code-requires-2 c κs =
+take-code-requires-2 : tie.Need-take-code-requires-2
+take-code-requires-2 c κs =
     let r = c .before .before .before in
-    (entry (begun r .before) .pre .bytes, (c .before .before .k2 .ensures .1, site-reader (second r)))
+    ((entry (begun r .before) .pre .bytes, (c .before .before .k2 .ensures .1, site-reader (second r))), counted (begun r))
 
-abbrev kept-2 : tie.After-read-code2 → tie.After-record-at2
+abbrev kept-2 : tie.After-take-code2 → tie.After-record-at2
 kept-2 c = c .before .before .before .before
 
 returns-2 : tie.Need-returns-2
@@ -203,17 +210,17 @@ returns-2 c =
     let o = kept-2 r in
     let m = one (begun o) in
     let coded = sym (asked-2 o .has-code2 .ensures) ∙ looked-2 o .before .if2 .taken in
-    let cut = site-cut-off (second o) coded (r .before .before .before .k2 .ensures .0) (r .read-code2 .ensures .0) (c .enum-told2 .given .1) in
+    let cut = site-cut-off (second o) _ coded (r .before .before .before .k2 .ensures .0) (r .take-code2 .ensures .0) (c .enum-told2 .given .1) in
     record { answer = pair-cut-off _ _ _ (two-steps (m .read) cut); records = m .in-range }
 
 sample-of-requires-2 : tie.Need-sample-of-requires-2
 sample-of-requires-2 c κs =
     let r = c .before .before .before .before in
     let o = kept-2 r in
-    let b = rw (c .before .before .got2 .given .1) at (r .read-code2 .ensures .1) in
-    (begin (begun o .before) .largest .ensures .1, (looked-2 o .look-of2 .ensures .1 .1 .0, (site-total (second o), (asked-2 o .before .context-at2 .ensures .1 .prediction, b .0))))
+    let b = rw (c .before .before .got2 .given .1) at (r .take-code2 .ensures .1) in
+    (begin (begun o .before) .largest .ensures .1, (looked-2 o .look-of2 .ensures .1 .1 .0, (site-total (second o), (asked-2 o .before .context-at2 .ensures .1 .prediction, b))))
 
-small-2 : (r : tie.After-read-code2) {v : ℕ} → v ≤ begin (begun (kept-2 r) .before) .largest .result → v < 2 ^ 16
+small-2 : (r : tie.After-take-code2) {v : ℕ} → v ≤ begin (begun (kept-2 r) .before) .largest .result → v < 2 ^ 16
 small-2 r h = omega (arith, begin (begun (kept-2 r) .before) .largest .ensures .1)
 
 update-at-requires-2 : tie.Need-update-at-requires-2
@@ -221,24 +228,24 @@ update-at-requires-2 c κs =
     let g = c .before .before .before .before .before in
     let r = g .before .before in
     let o = kept-2 r in
-    let b = rw (g .got2 .given .1) at (r .read-code2 .ensures .1) in
-    ((b .0, (o .before .before .before .slot-of2 .ensures .1, o .record-at2 .ensures .1)), one (begun o) .in-range)
+    let b = rw (g .got2 .given .1) at (r .take-code2 .ensures .1) in
+    ((b, (o .before .before .before .slot-of2 .ensures .1, o .record-at2 .ensures .1)), one (begun o) .in-range)
 
 abbrev taken-2 : tie.After-sample-of2 → tie.After-record-at2
 taken-2 c = kept-2 (c .before .before .before .before .before)
 
 returns-3 : tie.Need-returns-3
 returns-3 c =
-    let g = c .before .before .before .before .before .before .before .before in
+    let g = c .before .before .before .before .before .before in
     let r = g .before .before in
     let o = kept-2 r in
     let coded = sym (asked-2 o .has-code2 .ensures) ∙ looked-2 o .before .if2 .taken in
-    let new = c .before .before .update-at2 .ensures in
+    let new = c .update-at2 .ensures in
     record {
       answer = pair-at _ _ _
           (two-steps (one (begun o) .read)
-          (site-read (second o) coded (r .before .before .before .k2 .ensures .0) (r .read-code2 .ensures .0) (g .got2 .given .1) (begin (begun o .before) .largest .ensures .0)
-          (c .before .before .before .before .before .sample-of2 .ensures .0) (new .0) (c .is-tight2 .ensures)));
+          (site-read (second o) _ coded (r .before .before .before .k2 .ensures .0) (r .take-code2 .ensures .0) (g .got2 .given .1) (begin (begun o .before) .largest .ensures .0)
+          (c .before .before .before .sample-of2 .ensures .0) (new .0)));
       records = new .1;
     }
 
@@ -265,7 +272,7 @@ even-pair-spec =
     (λ c. search needs)
     (λ c. search needs)
     (λ c. search needs)
-    read-code-requires
+    take-code-requires
     (λ c. search needs)
     (λ c. search needs)
     (λ c. search needs)
@@ -278,7 +285,6 @@ even-pair-spec =
     (λ c. search (needs, room (asked (taken-1 c))))
     (λ c. room (asked (taken-1 c)) .0)
     update-at-requires
-    (λ c κs. search needs)
     (λ c. search needs)
     (λ c. search needs)
     (λ c. search needs)
@@ -295,7 +301,7 @@ even-pair-spec =
     (λ c. search needs)
     (λ c. search needs)
     (λ c. search needs)
-    read-code-requires-2
+    take-code-requires-2
     (λ c. search needs)
     (λ c. search needs)
     (λ c. one (begun (kept-2 (c .before .before))) .same)
@@ -308,12 +314,11 @@ even-pair-spec =
     (λ c. search (needs, room-2 (asked-2 (taken-2 c))))
     (λ c. room-2 (asked-2 (taken-2 c)) .0)
     update-at-requires-2
-    (λ c κs. search needs)
     (λ c. search needs)
     (λ c. search (needs, room-2 (c .before .before)))
     (λ c. search (needs, room-2 (c .before .before)))
     (λ c. room-2 (c .before .before) .0)
-    (λ c. simp length-set (one (begun (kept-2 (c .before .before .before .before .before .before .before .before .before .before))) .same))
+    (λ c. simp length-set (one (begun (kept-2 (c .before .before .before .before .before .before .before .before))) .same))
     returns-3
     (λ c. simp length-set (one (joined (c .before .before)) .same))
     returns-4)

@@ -13,8 +13,9 @@ use Rattle.steps.specs.declared.Plan.{Plan}
 use Rattle.steps.proofs.TableLaws.{are-quantisers}
 use Rattle.pass.specs.Readings.{Reading}
 use Rattle.pass.specs.Pairs.{held}
+use Rattle.pass.proofs.RangeLaws.{reads-keep}
 use Rattle.pass.proofs.StepLaws.{StepsGive, no-steps, evens-here, evens-over, odds-here, odds-not-yet, turn-more, evens-cut-off, odds-cut-off, all-read}
-use Rattle.pass.proofs.SiteLaws.{placeOf, met, steps-met, ranges-met, length-met, pair-was-cut-off, pair-was-at, passed-cut-off, passed}
+use Rattle.pass.proofs.SiteLaws.{met, steps-met, ranges-met, length-met, pair-was-cut-off, pair-was-at, passed-cut-off, passed}
 use Rattle.pass.proofs.pass.Statement.{statement}
 use Rattle.pass.proofs.pass.Tie as tie
 
@@ -27,11 +28,11 @@ record Turns (bits q W : ℕ) (s : List ℕ) (P : Plan) (p : ℕ) (r₀ r : Read
   read : StepsGive bits q W s (upto (turnSteps W P) (p / 2)) r₀ (some r)
 
 abbrev Inv-loop : tie.InvT-loop
-Inv-loop block tight-before lines₀ w plan bits sums₀ ns₀ totals raws limits base at₀ tight₀ p₀ lines sums ns at tight p =
-    Turns bits base w block plan p (held lines₀ sums₀ ns₀ (placeOf at₀ tight₀)) (held lines sums ns (placeOf at tight))
+Inv-loop block lines₀ w plan bits sums₀ ns₀ totals raws limits base place₀ p₀ lines sums ns place p =
+    Turns bits base w block plan p (held lines₀ sums₀ ns₀ place₀) (held lines sums ns place)
 
 abbrev μ-loop : tie.MeasureT-loop
-μ-loop block tight-before lines₀ w plan bits sums₀ ns₀ totals raws limits base at₀ tight₀ p₀ lines sums ns at tight p = w + 8 - p
+μ-loop block lines₀ w plan bits sums₀ ns₀ totals raws limits base place₀ p₀ lines sums ns place p = w + 8 - p
 
 loop-holds : tie.Need-loop-holds Inv-loop μ-loop
 unfolding upto
@@ -39,6 +40,12 @@ loop-holds c = record { even = refl; last = omega arith; same = refl; records = 
 
 abbrev entry : tie.In-loop Inv-loop μ-loop → tie.Start Inv-loop μ-loop
 entry c = c .before .before .before .before .before .before .before .before .before
+
+-- there are no more long codes than bits
+counted : (c : tie.In-loop Inv-loop μ-loop) → c .before .loop .place .long ≤ c .before .loop .place .at .0
+counted c =
+    let p = entry c .pre in
+    reads-keep _ _ _ _ (p .depth .1) _ _ _ (c .before .loop .inv .read .are) .counted (p .counted)
 
 -- ---- the even position
 
@@ -57,6 +64,7 @@ even-pair-requires c κs =
       base = p .base;
       quantisers = are-quantisers _ _ (p .quantisers);
       records = l .records;
+      counted = counted (t .before);
     }
 
 returns : tie.Need-returns Inv-loop μ-loop
@@ -74,11 +82,11 @@ returns c =
 -- ---- where the two ways past it meet
 
 abbrev middle : tie.Joined1 Inv-loop μ-loop → Reading
-middle c = held (c .if1 .lines) (c .if1 .sums) (c .if1 .ns) (placeOf (c .if1 .at) (c .if1 .tight))
+middle c = held (c .if1 .lines) (c .if1 .sums) (c .if1 .ns) (c .if1 .place)
 
 record Met (c : tie.Joined1 Inv-loop μ-loop) : Type 0 where
   read : let a = entry (c .before) .args in let l = c .before .before .loop in
-      StepsGive (a .bits) (a .qs .base) (a .w) (a .block .now) (evenPart (a .w) (a .plan) (l .p)) (held (l .lines) (l .sums) (l .ns) (placeOf (l .at) (l .tight))) (some (middle c))
+      StepsGive (a .bits) (a .qs .base) (a .w) (a .block .now) (evenPart (a .w) (a .plan) (l .p)) (held (l .lines) (l .sums) (l .ns) (l .place)) (some (middle c))
   in-range : SetInRange (middle c .set)
   same : length (middle c .lines) ≡ length (entry (c .before) .args .lines .now)
 
@@ -88,14 +96,14 @@ evens c =
     let l = c .before .before .loop .inv in
     ⊎-elim
     (λ w.
-    let m = met (w .14) (w .15) (w .16) (w .17) (w .18) in
+    let m = met (w .13) (w .14) (w .15) (w .16) in
     record {
       read = steps-met m (evens-here P _ (w .0 .taken) (pair-was-at _ _ _ _ _ _ _ _ _ (w .7 .ensures .answer) (w .11 .given .1)));
       in-range = ranges-met m (w .7 .ensures .records);
       same = length-met m ∙ (w .7 .kept .1 .1 .0 ∙ l .same);
     })
     (λ w.
-    let m = met (w .1) (w .2) (w .3) (w .4) (w .5) in
+    let m = met (w .1) (w .2) (w .3) (w .4) in
     record {
       read = steps-met m (evens-over P _ (w .0 .left));
       in-range = ranges-met m (l .records);
@@ -121,6 +129,7 @@ odd-pair-requires c κs =
       base = p .base;
       quantisers = are-quantisers _ _ (p .quantisers);
       records = evens j .in-range;
+      counted = reads-keep _ _ _ _ (p .depth .1) _ _ _ (evens j .read .are) .counted (counted (j .before));
     }
 
 returns-2 : tie.Need-returns-2 Inv-loop μ-loop
@@ -147,7 +156,7 @@ loop-again c =
     let e = evens (c .before) in
     ⊎-elim
     (λ w.
-    let m = met (w .14) (w .15) (w .16) (w .17) (w .18) in
+    let m = met (w .13) (w .14) (w .15) (w .16) in
     let odds = odds-here P _ (w .0 .taken) (pair-was-at _ _ _ _ _ _ _ _ _ (w .7 .ensures .answer) (w .11 .given .1)) in
     record {
       even = omega (arith, l .even);
@@ -157,7 +166,7 @@ loop-again c =
       read = turn-more P _ (l .read) (l .even) (e .read) (steps-met m odds);
     })
     (λ w.
-    let m = met (w .1) (w .2) (w .3) (w .4) (w .5) in
+    let m = met (w .1) (w .2) (w .3) (w .4) in
     record {
       even = omega (arith, l .even);
       last = omega (arith, l .even, test, s .pre .even);
@@ -171,7 +180,7 @@ returns-3 : tie.Need-returns-3 Inv-loop μ-loop
 returns-3 c =
     let l = c .before .loop .inv in
     record {
-      answer = passed _ _ _ _ _ (all-read _ _ (l .read) (l .even) (omega (arith, l .last, c .loop-test .left)));
+      answer = passed _ _ _ _ (all-read _ _ (l .read) (l .even) (omega (arith, l .last, c .loop-test .left)));
       records = l .records;
     }
 
