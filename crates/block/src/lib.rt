@@ -16,8 +16,11 @@ pub use c::answer_words;
 pub use decoding::decode;
 pub use decoding::decode_region;
 pub use decoding::decode_region_alone;
+pub use reading::quantisers_of;
 pub use reading::walk_alone;
+pub use records::start_record;
 pub use tight::read_tight;
+pub use tight::tight_answer;
 pub use writer::write_block;
 
 pub struct Form {

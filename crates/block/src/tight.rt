@@ -27,7 +27,7 @@ use stream::Parsed;
 use stream::Refusal;
 
 // What the tight reading answers for block b, once a walk over its lines has said this.
-fn tight_answer(s: &[u8], form: Form, b: usize, count: usize, got: Walked) -> Decoded
+pub fn tight_answer(s: &[u8], form: Form, b: usize, count: usize, got: Walked) -> Decoded
     requires { ⌜ (length (now s) < 2 ^ 32) × IsWalked form [] (now s) count got ⌝ }
     ensures { λ r. ⌜ r ≡ tightAnswer form b count (now (s .entry)) ⌝ }
 {
