@@ -1,0 +1,3 @@
+-- Laws of the second walk.
+pub mod WayLaws
+pub mod SampleLaws
