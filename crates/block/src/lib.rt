@@ -16,7 +16,6 @@ pub use c::answer_words;
 pub use decoding::decode;
 pub use decoding::decode_region;
 pub use decoding::decode_region_alone;
-pub use reading::quantisers_of;
 pub use reading::walk_alone;
 pub use records::start_record;
 pub use tight::read_tight;

@@ -46,7 +46,7 @@ fn is_restarted(bases: &[u8], n: usize) -> bool
     base_of(bases, n) != base_of(bases, n - 1)
 }
 
-pub fn quantisers_of(bits: u32, base: u32) -> Quantisers
+fn quantisers_of(bits: u32, base: u32) -> Quantisers
     requires { ⌜ Depth bits × (base < 256) ⌝ }
     ensures { λ r. ⌜ r ≡ quantisersOf bits base ⌝ }
 {

@@ -73,7 +73,7 @@ module _ {A C : Type 0} (f : A → Way C) where
   unfolding thenWay
   cut-then o e = rw e
 
-  on-then : (o : Way A) (a : A) → o ≡ on a → thenWay o f ≡ f a
+  pub on-then : (o : Way A) (a : A) → o ≡ on a → thenWay o f ≡ f a
   unfolding thenWay
   on-then o a e = rw e
 
@@ -122,13 +122,13 @@ module _ {A : Type 0} (W : ℕ → Way A) (g : ℕ → A → Way A) (next : (n :
     pub turn-at : {at : BitPosition} → r ≡ At at → W (n + 1) ≡ on (here at)
     turn-at e = one-more ∙ was-at h e
 
-    pub turn-bad : {there : BitPosition → A} {x : BadSpot} → r ≡ Bad x → Says there (W N) (Bad x)
+    pub turn-bad : {x : BadSpot} → r ≡ Bad x → Says here (W N) (Bad x)
     turn-bad e =
         let k = was-bad h e in
         let f : n + 1 + (N - (n + 1)) ≡ N = omega arith in
         record { is = (k .0, rw f at (found-stays (n + 1) (N - (n + 1)) (k .0) (one-more ∙ k .1)), k .2) }
 
-    pub turn-cut : {there : BitPosition → A} → r ≡ CutOff → Says there (W N) CutOff
+    pub turn-cut : r ≡ CutOff → Says here (W N) CutOff
     turn-cut e =
         let f : n + 1 + (N - (n + 1)) ≡ N = omega arith in
         record { is = rw f at (cut-stays (n + 1) (N - (n + 1)) (one-more ∙ was-cut h e)) }

@@ -171,7 +171,14 @@ fn trace_step(
     match verdict {
         Verdict::Bad(reason) => Traced::Bad(bad_spot(stage, x, from, reason)),
         Verdict::Good => {
-            lines[i + 1] = code::sample(m, h.base, q.total, h.negative, here.prediction, c.value) as u16;
+            lines[i + 1] = code::sample(
+                m,
+                h.base,
+                q.total,
+                h.negative,
+                here.prediction,
+                c.value,
+            ) as u16;
             update_in(sums, ns, j, old, c.value);
             let after = c.after;
             Traced::At(after)

@@ -14,8 +14,7 @@ trace-pair-requires : tie.Need-trace-pair-requires
 trace-pair-requires c κs =
     let i = c .before .before .before in
     let s = i .before .before .before .before .before in
-    let p = s .pre .0 in
-    (
+    let p = s .pre .0 in (
       record { stage = p .stage; inside = record { low = p .plan .first-low; high = p .plan .first-high; position = omega (arith, s .pre .1, i .if1 .left) } },
       record { low = p .plan .second-low; high = p .plan .second-high; position = omega (arith, s .pre .1, i .if1 .left) },
     )

@@ -110,11 +110,13 @@ returns-3 c =
     let a = entry (seen o) .args in
     let b = was-loose _ _ (sym (v .verdict-of .ensures) ∙ w .verdict .given .1) in
     record {
-      says = record { is = (
-        badAt (a .stage .line) (a .stage .pass) (stepOf (a .x)) (clean (a .lines .now) (a .sums .now) (a .ns .now) (a .from)) (b .0),
-        step-bad _ _ (here o) (coded o) (r .before .k .ensures .0) (r .read-code .ensures .0) (v .before .before .got .given .1) (seen o .before .before .before .largest .ensures .0) (b .1),
-        spot-is _ _ _ _ _ _ _ _ (c .bad-spot .ensures) (b .2),
-      ) };
+      says = record {
+        is = (
+          badAt (a .stage .line) (a .stage .pass) (stepOf (a .x)) (clean (a .lines .now) (a .sums .now) (a .ns .now) (a .from)) (b .0),
+          step-bad _ _ (here o) (coded o) (r .before .k .ensures .0) (r .read-code .ensures .0) (v .before .before .got .given .1) (seen o .before .before .before .largest .ensures .0) (b .1),
+          spot-is _ _ _ _ _ _ _ _ (c .bad-spot .ensures) (b .2),
+        );
+      };
       records = entry (seen o) .pre .stage .records;
     }
 
@@ -127,8 +129,10 @@ returns-4 c =
     let o = kept r in
     let new = u .update-in .ensures in
     record {
-      says = record { is = step-good _ _ (here o) (coded o) (r .before .k .ensures .0) (r .read-code .ensures .0) (v .before .before .got .given .1) (seen o .before .before .before .largest .ensures .0) _ _
-          (was-good _ (sym (v .verdict-of .ensures) ∙ s .before .enum-told2 .given .1)) (s .sample .ensures .0) (new .0) };
+      says = record {
+        is = step-good _ _ (here o) (coded o) (r .before .k .ensures .0) (r .read-code .ensures .0) (v .before .before .got .given .1) (seen o .before .before .before .largest .ensures .0) _ _
+            (was-good _ (sym (v .verdict-of .ensures) ∙ s .before .enum-told2 .given .1)) (s .sample .ensures .0) (new .0);
+      };
       records = new .1;
     }
 
