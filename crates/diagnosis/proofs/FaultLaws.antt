@@ -1,5 +1,5 @@
 -- The fault of a block, by what the second walk says, and the search for the lowest block. Assumes nothing.
-use mathlib.Core.Bool.{Bool, true, false, cond}
+use mathlib.Core.Bool.{true, false}
 use mathlib.Core.List.{List, []}
 use mathlib.Core.Option.{Option, none, some}
 use mathlib.Core.Path.{_≡_, refl, sym, ap, _∙_}
@@ -17,7 +17,6 @@ use Rattle.begin.specs.Beginnings.{tightBegins}
 use Rattle.block.specs.Blocks.{State, readLines}
 use Rattle.block.specs.BadCodes.{BadCode, firstBad}
 use Rattle.block.specs.Images.{formOf, bytesIn}
-use Rattle.block.specs.TightBlocks.{tightAnswer}
 use Rattle.block.specs.declared.Decoded.{Decoded}
 use Rattle.block.specs.declared.Decoded.the-variants as Answer
 use Rattle.block.specs.declared.Form.{Form}
@@ -26,10 +25,9 @@ use Rattle.trace.specs.Traces.{Ends}
 use Rattle.trace.specs.declared.BadSpot.{BadSpot}
 use Rattle.trace.specs.declared.Traced.{Traced}
 use Rattle.trace.specs.declared.Traced.the-variants.{Bad, At, CutOff}
-use Rattle.diagnosis.specs.Faults.{gives15, whyNot, answerAt, faultAt, foundAt, orLater, lowest, findingOf, answerOf, faultOf}
+use Rattle.diagnosis.specs.Faults.{gives15, whyNot, answerAt, faultAt, foundAt, lowest, findingOf, answerOf, faultOf}
 use Rattle.diagnosis.specs.declared.Fault.{Fault}
 use Rattle.diagnosis.specs.declared.Fault.the-variants as Fault
-use Rattle.diagnosis.specs.declared.Finding.{Finding}
 use Rattle.diagnosis.specs.declared.Finding.the-variants.{Refused, Nothing, Code, Tail}
 
 -- ---- a block

@@ -2,7 +2,7 @@
 use borrow.Author.Tests.{ltb-true, ltb-false, leb-true, le-leb}
 use mathlib.Core.Bool.{Bool, true, false, cond, _&&_}
 use mathlib.Core.List.{List, []}
-use mathlib.Core.Logic.{_⊎_, inl, inr}
+use mathlib.Core.Logic.{inl, inr}
 use mathlib.Core.Option.{Option, none, some}
 use mathlib.Core.Path.{_≡_, refl, sym, _∙_, subst}
 use Prim.Native.Nat.{ℕ, zero, suc, _/_, _^_, _≤_, _<_}
@@ -28,8 +28,8 @@ use Rattle.block.proofs.BadCodeLaws.{bad-in}
 use Rattle.block.proofs.DecodeLaws.{was-read}
 use Rattle.trace.specs.Ways.{spotOf}
 use Rattle.trace.specs.declared.BadSpot.{BadSpot}
-use Rattle.diagnosis.specs.Faults.{gives15, whyNot, answerAt, faultAt, foundAt, orLater, lowest, findingIn, findingOf}
-use Rattle.diagnosis.specs.TrueFindings.{Opens, NoneBelow, Lowest15, Why, TrueCode, TrueTail, NoneFound, LossyStream, TrueFinding, FindingTrue, TruncatedPassed}
+use Rattle.diagnosis.specs.Faults.{gives15, whyNot, faultAt, foundAt, orLater, lowest, findingIn, findingOf}
+use Rattle.diagnosis.specs.TrueFindings.{Opens, NoneBelow, Why, TrueFinding, FindingTrue, TruncatedPassed}
 use Rattle.diagnosis.specs.declared.Fault.{Fault}
 use Rattle.diagnosis.specs.declared.Fault.the-variants as Fault
 use Rattle.diagnosis.specs.declared.Finding.{Finding}

@@ -1,5 +1,5 @@
--- That the finding of a stream is the true one: the statement that proofs/TrueFindingLaws.antt proves of every input. It goes by the answer of the tight reading, the
--- first bad code and the tail that the tight reading itself goes by. Assumes nothing.
+-- That the finding of a stream is the true one: the statement that proofs/TrueFindingLaws.antt proves of every input. It goes by the answer, the first
+-- bad code and the tail that the tight reading itself goes by. Assumes nothing.
 use mathlib.Core.Bool.{true, false}
 use mathlib.Core.List.{List, []}
 use mathlib.Core.Logic.{_⊎_}
@@ -98,4 +98,6 @@ FindingTrue = (d : List ℕ) → TrueFinding d (findingOf d)
 
 -- a truncated block gives 14, whatever bad code it has, and is passed over
 abbrev pub TruncatedPassed : Type 0
-TruncatedPassed = (d : List ℕ) (h : FujiHeader) (b n : ℕ) → tightAnswer (formOf h) b (h .lines) (bytesIn d b) ≡ Answer.Refused (Truncated b n) → faultAt d h b ≡ Fault.None
+TruncatedPassed =
+    (d : List ℕ) (h : FujiHeader) (b n : ℕ) → tightAnswer (formOf h) b (h .lines) (bytesIn d b) ≡ Answer.Refused (Truncated b n)
+    → faultAt d h b ≡ Fault.None

@@ -103,6 +103,12 @@ fn answer_at(d: &[u8], h: FujiHeader, b: usize) -> Decoded
     block::tight_answer(block, form, b, count, got)
 }
 
+fn tail_fault(lines: usize, end: BitPosition) -> Fault
+    ensures { λ r. ⌜ r ≡ Fault.Tail lines end ⌝ }
+{
+    Fault::Tail(lines, end)
+}
+
 // The fault of block b. Only a block that gives 15 is walked a second time.
 fn fault_at(d: &[u8], h: FujiHeader, b: usize, answer: Decoded) -> Fault
     requires { ⌜ (openOf (now d) ≡ Header h) × (answer ≡ answerAt (now d) h b) ⌝ }
@@ -115,7 +121,7 @@ fn fault_at(d: &[u8], h: FujiHeader, b: usize, answer: Decoded) -> Fault
         let got = trace::trace_block(block, form, count);
         match got {
             Traced::Bad(x) => return Fault::Code(x),
-            Traced::At(end) => return Fault::Tail(count, end),
+            Traced::At(end) => return tail_fault(count, end),
             Traced::CutOff => return Fault::None,
         }
     }

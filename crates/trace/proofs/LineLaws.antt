@@ -1,6 +1,6 @@
 -- Lines of a block: a pass on the records of its set, which is a part of two lists, and six passes. Assumes nothing.
 use borrow.Rule.Slice.PartMut.{midOf, putMid, post-is}
-use borrow.Author.Tests.{ltb-true, ltb-false, le-leb, lt-leb, ne-eqb, eq-eqb}
+use borrow.Author.Tests.{ltb-true, ltb-false, le-leb, lt-leb, ne-eqb}
 use mathlib.Core.Bool.{Bool, true, false, cond}
 use mathlib.Core.List.{List, [], _∷_, _++_, append-assoc}
 use mathlib.Core.Option.{Option, none, some}
@@ -9,7 +9,7 @@ use Prim.Native.Nat.{ℕ, zero, suc, _+_, _-_, _*_, _%_, _≤_, _<_}
 use native.Mathlib.Nat.{sub-zero}
 use native.Mathlib.Omega.{arith}
 use lib.Dec.{ltb}
-use lib.ListN.{length, getD, take, drop, replicate, length-replicate}
+use lib.ListN.{length, take, drop, replicate, length-replicate}
 use lib.Seq.{take-all, length-take-le}
 use Rattle.bits.specs.declared.BitPosition.{BitPosition}
 use Rattle.statistics.specs.declared.Record.{Record}
@@ -21,14 +21,14 @@ use Rattle.steps.specs.Steps.{planOf, passSteps}
 use Rattle.steps.specs.Values.{zipRecords, SetInRange}
 use Rattle.steps.specs.declared.Plan.{Plan}
 use Rattle.steps.proofs.ZipLaws.{zip-length}
-use Rattle.pass.specs.Readings.{Reading, andThen, reads, readPass}
+use Rattle.pass.specs.Readings.{Reading, reads, readPass}
 use Rattle.block.specs.Records.{table, startRecord, startRecords, restartedMain, setOf, putSet}
-use Rattle.block.specs.Blocks.{State, runs, enter, leave, passAt, endLine, readLine, beforeLine, readLineAt, startState, readLines, AllInRange}
+use Rattle.block.specs.Blocks.{State, runs, leave, passAt, endLine, readLine, beforeLine, readLineAt, startState, readLines, AllInRange}
 use Rattle.block.specs.BadCodes.{BadCode, badInSteps, firstFound, badInPass, badInLine, firstBad}
 use Rattle.block.specs.declared.Form.{Form}
 use Rattle.block.proofs.TableLaws.{table-getD}
 use Rattle.block.proofs.RangeLaws.{set-in-range, put-in-range}
-use Rattle.trace.specs.Ways.{Way, found, cut-off, on, wayOf, stepsWay, passesWay, lineWay, blockWay}
+use Rattle.trace.specs.Ways.{Way, cut-off, on, wayOf, stepsWay, passesWay, lineWay, blockWay}
 use Rattle.trace.specs.Traces.{Says, clean, cleanState, Ends}
 use Rattle.trace.specs.declared.Stage.{Stage}
 use Rattle.trace.specs.declared.Traced.{Traced}

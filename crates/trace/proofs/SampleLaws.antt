@@ -1,7 +1,7 @@
 -- One sample, from the answers of the leaves. A lossless sample is coded by the main quantiser. Assumes nothing.
-use mathlib.Core.Bool.{Bool, true, false, _&&_, and-true}
+use mathlib.Core.Bool.{Bool, true, false}
 use mathlib.Core.List.{List}
-use mathlib.Core.Option.{Option, none, some, Option·map}
+use mathlib.Core.Option.{Option, none, some}
 use mathlib.Core.Path.{_≡_, refl, sym, _∙_, subst}
 use Prim.Native.Nat.{ℕ, _+_, _*_, _^_, _≤_, _<_}
 use native.Mathlib.Omega.{arith}
@@ -10,7 +10,6 @@ use Rattle.bits.specs.declared.BitPosition.{BitPosition}
 use Rattle.statistics.specs.Statistics.{kOf, updated}
 use Rattle.statistics.specs.declared.Record.{Record}
 use Rattle.quantiser.specs.Quantisers.{largest, mainOf}
-use Rattle.prediction.specs.Predictions.{flatnessOf}
 use Rattle.prediction.specs.declared.Context.{Context}
 use Rattle.code.specs.Codes.{codeAt, Bounds}
 use Rattle.code.specs.Samples.{choiceOf, residualOf, sampleOf}
@@ -19,20 +18,19 @@ use Rattle.code.specs.declared.Code.{Code}
 use Rattle.code.specs.declared.Coded.{Coded}
 use Rattle.code.specs.declared.Coded.the-variants.{Read, Truncated}
 use Rattle.steps.specs.Steps.{Step, stepAt}
-use Rattle.steps.specs.Contexts.{contextAt, lookOf, slotOf, noRecord, stepContext, stepLook, stepSlot, stepPlace}
+use Rattle.steps.specs.Contexts.{contextAt, lookOf, slotOf, noRecord, stepLook}
 use Rattle.steps.specs.Values.{zipRecords}
 use Rattle.steps.specs.declared.Look.{Look}
 use Rattle.steps.proofs.TableLaws.{numbers-le}
-use Rattle.pass.specs.Readings.{Reading, readStep, stepCode, takeCode}
+use Rattle.pass.specs.Readings.{Reading, stepCode}
 use Rattle.pass.proofs.StepLaws.{step-interpolated, step-cut-off, step-read}
-use Rattle.block.specs.BadCodes.{Reason, too-large, short-fits, too-many-zeros, reasonOf, codedReason, stepReason, badAt}
+use Rattle.block.specs.BadCodes.{Reason, reasonOf, codedReason, stepReason, badAt}
 use Rattle.block.proofs.BadCodeLaws.{code-stays}
-use Rattle.trace.specs.Ways.{Way, found, cut-off, on, wayOf, namedReason, verdictOf, stepWay}
+use Rattle.trace.specs.Ways.{found, cut-off, on, namedReason, verdictOf, stepWay}
 use Rattle.trace.specs.Traces.{clean}
 use Rattle.trace.specs.declared.BadSpot.{BadSpot}
 use Rattle.trace.specs.declared.Reason as Named
 use Rattle.trace.specs.declared.Stage.{Stage}
-use Rattle.trace.specs.declared.Verdict.{Verdict}
 use Rattle.trace.specs.declared.Verdict.the-variants.{Good, Bad}
 
 -- ---- verdicts

@@ -145,8 +145,9 @@ fn trace_step(
     x: Sample,
 ) -> Traced
     requires { ⌜ StepAsks stage x (now block) (now lines) (now sums) (now ns) ⌝ }
-    ensures { λ r. ⌜ Gives (stepWay stage (now (block .entry)) (stepOf x) (clean (now (lines .entry)) (now (sums .entry)) (now (ns .entry)) from))
-        (now (lines .exit)) (now (sums .exit)) (now (ns .exit)) r ⌝ }
+    ensures { λ r.
+        let before = clean (now (lines .entry)) (now (sums .entry)) (now (ns .entry)) from in
+        ⌜ Gives (stepWay stage (now (block .entry)) (stepOf x) before) (now (lines .exit)) (now (sums .exit)) (now (ns .exit)) r ⌝ }
 {
     let w = stage.w;
     let p = x.position;
@@ -167,6 +168,7 @@ fn trace_step(
     let Coded::Read(c) = got else {
         return Traced::CutOff;
     };
+    let after = c.after;
     let verdict = verdict_of(m, k, q.limit, c);
     match verdict {
         Verdict::Bad(reason) => Traced::Bad(bad_spot(stage, x, from, reason)),
@@ -180,7 +182,6 @@ fn trace_step(
                 c.value,
             ) as u16;
             update_in(sums, ns, j, old, c.value);
-            let after = c.after;
             Traced::At(after)
         }
     }
@@ -200,8 +201,9 @@ fn trace_pair(
     y: Sample,
 ) -> Traced
     requires { ⌜ StepAsks stage x (now block) (now lines) (now sums) (now ns) × Inside stage y ⌝ }
-    ensures { λ r. ⌜ Gives (stepsWay stage (now (block .entry)) (stepOf x ∷ stepOf y ∷ []) (clean (now (lines .entry)) (now (sums .entry)) (now (ns .entry)) from))
-        (now (lines .exit)) (now (sums .exit)) (now (ns .exit)) r ⌝ }
+    ensures { λ r.
+        let before = clean (now (lines .entry)) (now (sums .entry)) (now (ns .entry)) from in
+        ⌜ Gives (stepsWay stage (now (block .entry)) (stepOf x ∷ stepOf y ∷ []) before) (now (lines .exit)) (now (sums .exit)) (now (ns .exit)) r ⌝ }
 {
     let got = trace_step(block, from, lines, sums, ns, stage, x);
     match got {
@@ -223,8 +225,9 @@ fn trace_even(
     p: usize,
 ) -> Traced
     requires { ⌜ PassAsks stage plan (now block) (now lines) (now sums) (now ns) ⌝ }
-    ensures { λ r. ⌜ Gives (stepsWay stage (now (block .entry)) (evenPart (stage .w) plan p) (clean (now (lines .entry)) (now (sums .entry)) (now (ns .entry)) from))
-        (now (lines .exit)) (now (sums .exit)) (now (ns .exit)) r ⌝ }
+    ensures { λ r.
+        let before = clean (now (lines .entry)) (now (sums .entry)) (now (ns .entry)) from in
+        ⌜ Gives (stepsWay stage (now (block .entry)) (evenPart (stage .w) plan p) before) (now (lines .exit)) (now (sums .exit)) (now (ns .exit)) r ⌝ }
 {
     let w = stage.w;
     if w <= p {
@@ -255,8 +258,9 @@ fn trace_odd(
     p: usize,
 ) -> Traced
     requires { ⌜ PassAsks stage plan (now block) (now lines) (now sums) (now ns) × (p < stage .w + 7) ⌝ }
-    ensures { λ r. ⌜ Gives (stepsWay stage (now (block .entry)) (oddPart plan p) (clean (now (lines .entry)) (now (sums .entry)) (now (ns .entry)) from))
-        (now (lines .exit)) (now (sums .exit)) (now (ns .exit)) r ⌝ }
+    ensures { λ r.
+        let before = clean (now (lines .entry)) (now (sums .entry)) (now (ns .entry)) from in
+        ⌜ Gives (stepsWay stage (now (block .entry)) (oddPart plan p) before) (now (lines .exit)) (now (sums .exit)) (now (ns .exit)) r ⌝ }
 {
     if p < 8 {
         return Traced::At(from);
@@ -286,8 +290,9 @@ fn trace_turn(
     t: usize,
 ) -> Traced
     requires { ⌜ PassAsks stage plan (now block) (now lines) (now sums) (now ns) × (t < stage .w / 2 + 4) ⌝ }
-    ensures { λ r. ⌜ Gives (stepsWay stage (now (block .entry)) (turnSteps (stage .w) plan t) (clean (now (lines .entry)) (now (sums .entry)) (now (ns .entry)) from))
-        (now (lines .exit)) (now (sums .exit)) (now (ns .exit)) r ⌝ }
+    ensures { λ r.
+        let before = clean (now (lines .entry)) (now (sums .entry)) (now (ns .entry)) from in
+        ⌜ Gives (stepsWay stage (now (block .entry)) (turnSteps (stage .w) plan t) before) (now (lines .exit)) (now (sums .exit)) (now (ns .exit)) r ⌝ }
 {
     let p = 2 * t;
     let got = trace_even(block, from, lines, sums, ns, stage, plan, p);
@@ -309,8 +314,9 @@ fn trace_pass(
     plan: Plan,
 ) -> Traced
     requires { ⌜ PassAsks stage plan (now block) (now lines) (now sums) (now ns) ⌝ }
-    ensures { λ r. ⌜ Gives (stepsWay stage (now (block .entry)) (passSteps (stage .w) plan) (clean (now (lines .entry)) (now (sums .entry)) (now (ns .entry)) from))
-        (now (lines .exit)) (now (sums .exit)) (now (ns .exit)) r ⌝ }
+    ensures { λ r.
+        let before = clean (now (lines .entry)) (now (sums .entry)) (now (ns .entry)) from in
+        ⌜ Gives (stepsWay stage (now (block .entry)) (passSteps (stage .w) plan) before) (now (lines .exit)) (now (sums .exit)) (now (ns .exit)) r ⌝ }
 {
     let turns = stage.w / 2 + 4;
     let mut at = from;
@@ -341,8 +347,9 @@ fn trace_line(
     n: usize,
 ) -> Traced
     requires { ⌜ LineAsks form q (now block) (now lines) (now sums) (now ns) ⌝ }
-    ensures { λ r. ⌜ LineGives (lineWay form (now (block .entry)) n (cleanState (now (lines .entry)) (now (sums .entry)) (now (ns .entry)) from))
-        (now (lines .exit)) (now (sums .exit)) (now (ns .exit)) r ⌝ }
+    ensures { λ r.
+        let before = cleanState (now (lines .entry)) (now (sums .entry)) (now (ns .entry)) from in
+        ⌜ LineGives (lineWay form (now (block .entry)) n before) (now (lines .exit)) (now (sums .exit)) (now (ns .exit)) r ⌝ }
 {
     let bits = form.bits;
     let xtrans = form.xtrans;

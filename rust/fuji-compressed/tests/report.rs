@@ -216,7 +216,10 @@ fn input_is_cut_before_it_is_opened() {
 fn ends_in_zeros() -> Encoded {
     let bit = |bytes: &[u8], i: usize| bytes[i / 8] >> (7 - i % 8) & 1;
     let ends = |e: &Encoded| e.used % 8 != 0 && (e.used / 8 * 8..e.used).all(|i| bit(&e.bytes, i) == 0);
-    (0..2000).map(|seed| encode_spoilt(14, false, &[], 1, &mut |_, line, p| ((seed * 31 + line * 7 + p * p) % 4096) as u16, None)).find(ends).unwrap()
+    (0..2000)
+        .map(|seed| encode_spoilt(14, false, &[], 1, &mut |_, line, p| ((seed * 31 + line * 7 + p * p) % 4096) as u16, None))
+        .find(ends)
+        .unwrap()
 }
 
 #[test]
@@ -271,10 +274,13 @@ fn library_takes_streams_of_any_length() {
     }
     let fault = Fault::Code { line: 1, pass: 6, colour_line: 17, position: 383, bit: 138_591, reason: Reason::Escape };
     assert_eq!(stream.bad_code(7), Ok(Some(fault)));
-    assert_eq!(fault.to_string(), "line 1, pass 6, colour line 17, position 383, bit 138591: escape: the code is long, and the short form fits");
+    assert_eq!(
+        fault.to_string(),
+        "line 1, pass 6, colour line 17, position 383, bit 138591: escape: the code is long, and the short form fits"
+    );
     assert_eq!(stream.bad_code(8).unwrap_err().number, 5);
     assert_eq!(stream.bad_code(usize::MAX).unwrap_err().number, 5);
-    let cut = &bytes[..bytes.len() - 9000];
+    let cut = &bytes[..bytes.len() - 5000];
     let refused = FujiCompressed::new(cut).unwrap().bad_code(7).unwrap_err();
     assert_eq!((refused.number, refused.block, refused.line), (14, 7, 1));
 }

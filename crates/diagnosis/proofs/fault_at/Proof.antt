@@ -39,7 +39,7 @@ returns : tie.Need-returns
 returns c = let t = c .before .before .before in traced-bad (t .before .before .line-count .result) _ _ _ (c .before .got .given .1) (said t)
 
 returns-2 : tie.Need-returns-2
-returns-2 c = let t = c .before .before .before in traced-at _ _ _ _ (c .before .got2 .given .1) (said t)
+returns-2 c = let g = c .before .before in let t = g .before .before in c .tail-fault .ensures ∙ traced-at _ _ _ _ (g .got2 .given .1) (said t)
 
 returns-3 : tie.Need-returns-3
 returns-3 c = let t = c .before .before in traced-cut (t .before .before .line-count .result) _ _ (c .enum-told .given .1) (said t)
@@ -62,6 +62,7 @@ fault-at-spec =
     (λ c. search needs)
     returns
     (λ c. search needs)
+    (λ c κs. search needs)
     returns-2
     (λ c. search needs)
     returns-3

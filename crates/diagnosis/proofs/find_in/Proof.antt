@@ -1,7 +1,7 @@
 -- `diagnosis::find_in` meets its contract: no block before b has a fault. Assumes nothing.
 use borrow.Author.Needs.{needs}
 use mathlib.Core.Path.{_≡_, refl}
-use Prim.Native.Nat.{_+_, _-_, _≤_}
+use Prim.Native.Nat.{_-_, _≤_}
 use native.Mathlib.Omega.{arith}
 use Rattle.stream.proofs.StreamLaws.{opened}
 use Rattle.diagnosis.specs.Faults.{lowest}

@@ -1,6 +1,5 @@
 -- `diagnosis::put_number` meets its contract. Assumes nothing.
 use borrow.Author.Needs.{needs}
-use mathlib.Core.Path.{_≡_, sym}
 use Prim.Native.Nat.{_≤_}
 use native.Mathlib.Omega.{arith}
 use Rattle.diagnosis.proofs.TextLaws.{put-same, few-digits, number-is}

@@ -1,8 +1,6 @@
 -- `trace::trace_pair` meets its contract: one step, and then the other. Assumes nothing.
 use borrow.Author.Needs.{needs}
-use mathlib.Core.Path.{_∙_}
 use native.Mathlib.Omega.{arith}
-use Rattle.trace.specs.Traces.{StageAsks}
 use Rattle.trace.proofs.WayLaws.{then-bad, then-cut, then-at, steps-two}
 use Rattle.trace.proofs.trace_pair.Statement.{statement}
 use Rattle.trace.proofs.trace_pair.Tie as tie

@@ -27,7 +27,7 @@ abbrev kept : tie.After-read-code → tie.After-record-in
 kept c = c .before .before
 
 abbrev read : tie.After-verdict-of → tie.After-read-code
-read v = v .before .before .before .before
+read v = v .before .before .before .before .before
 
 abbrev judged : tie.After-sample → tie.After-verdict-of
 judged c = c .before .before .before
@@ -86,7 +86,7 @@ sample-requires c κs =
     let r = read v in
     let o = kept r in
     let p = entry (seen o) .pre .stage in
-    let b = read-small (entry (seen o) .args .block .now) (r .read-code .result) _ (r .read-code .ensures .1) (v .before .before .got .given .1) in
+    let b = read-small (entry (seen o) .args .block .now) (r .read-code .result) _ (r .read-code .ensures .1) (v .before .before .before .got .given .1) in
     (seen o .before .before .before .largest .ensures .1, (looked o .look-of .ensures .1 .1 .0, (total-small (entry (seen o) .args .stage) (p .quantiser) (p .depth .1), (seen o .context-at .ensures .1 .prediction, b))))
 
 small : (o : tie.After-record-in) {v : ℕ} → v ≤ seen o .before .before .before .largest .result → v < 2 ^ 16
@@ -98,7 +98,7 @@ update-in-requires c κs =
     let r = read v in
     let o = kept r in
     let p = entry (seen o) .pre .stage in
-    let b = read-small (entry (seen o) .args .block .now) (r .read-code .result) _ (r .read-code .ensures .1) (v .before .before .got .given .1) in
+    let b = read-small (entry (seen o) .args .block .now) (r .read-code .result) _ (r .read-code .ensures .1) (v .before .before .before .got .given .1) in
     ((b, (o .before .before .before .slot-of .ensures .1, o .record-in .ensures .1)), ((p .for-sums, p .for-ns), p .records))
 
 returns-3 : tie.Need-returns-3
@@ -113,7 +113,7 @@ returns-3 c =
       says = record {
         is = (
           badAt (a .stage .line) (a .stage .pass) (stepOf (a .x)) (clean (a .lines .now) (a .sums .now) (a .ns .now) (a .from)) (b .0),
-          step-bad _ _ (here o) (coded o) (r .before .k .ensures .0) (r .read-code .ensures .0) (v .before .before .got .given .1) (seen o .before .before .before .largest .ensures .0) (b .1),
+          step-bad _ _ (here o) (coded o) (r .before .k .ensures .0) (r .read-code .ensures .0) (v .before .before .before .got .given .1) (seen o .before .before .before .largest .ensures .0) (b .1),
           spot-is _ _ _ _ _ _ _ _ (c .bad-spot .ensures) (b .2),
         );
       };
@@ -122,7 +122,7 @@ returns-3 c =
 
 returns-4 : tie.Need-returns-4
 returns-4 c =
-    let u = c .before .before .before .before .before in
+    let u = c .before .before .before .before in
     let s = u .before .before .before in
     let v = judged s in
     let r = read v in
@@ -130,7 +130,7 @@ returns-4 c =
     let new = u .update-in .ensures in
     record {
       says = record {
-        is = step-good _ _ (here o) (coded o) (r .before .k .ensures .0) (r .read-code .ensures .0) (v .before .before .got .given .1) (seen o .before .before .before .largest .ensures .0) _ _
+        is = step-good _ _ (here o) (coded o) (r .before .k .ensures .0) (r .read-code .ensures .0) (v .before .before .before .got .given .1) (seen o .before .before .before .largest .ensures .0) _ _
             (was-good _ (sym (v .verdict-of .ensures) ∙ s .before .enum-told2 .given .1)) (s .sample .ensures .0) (new .0);
       };
       records = new .1;
