@@ -1,4 +1,4 @@
--- The finding of a stream is the true one. Assumes nothing.
+-- The fault of a block and the finding of a stream are the true ones. Assumes nothing.
 use borrow.Author.Tests.{ltb-true, ltb-false, leb-true, le-leb}
 use mathlib.Core.Bool.{Bool, true, false, cond, _&&_}
 use mathlib.Core.List.{List, []}
@@ -29,7 +29,7 @@ use Rattle.block.proofs.DecodeLaws.{was-read}
 use Rattle.trace.specs.Ways.{spotOf}
 use Rattle.trace.specs.declared.BadSpot.{BadSpot}
 use Rattle.diagnosis.specs.Faults.{gives15, whyNot, faultAt, foundAt, orLater, lowest, findingIn, findingOf}
-use Rattle.diagnosis.specs.TrueFindings.{Opens, NoneBelow, Why, TrueFinding, FindingTrue, TruncatedPassed}
+use Rattle.diagnosis.specs.TrueFindings.{Why, TrueFault, FaultTrue, TruncatedPassed, NoneBelow, Lowest, TrueFinding, FindingTrue}
 use Rattle.diagnosis.specs.declared.Fault.{Fault}
 use Rattle.diagnosis.specs.declared.Fault.the-variants as Fault
 use Rattle.diagnosis.specs.declared.Finding.{Finding}
@@ -142,6 +142,26 @@ pub truncated-passed : TruncatedPassed
 unfolding faultAt
 truncated-passed d h b n e = rw e
 
+pub fault-true : FaultTrue
+fault-true d h b = go (faultAt d h b) refl
+  where
+    go : (f : Fault) → faultAt d h b ≡ f → TrueFault d h b f
+    go Fault.None e = λ n a. fault-none d h b n e a
+    go (Fault.Code x) e =
+        let c = fault-code d h b x e in
+        let there = bad-in (formOf h) [] (bytesIn d b) (h .lines) (c .0) (c .1) in
+        record {
+          code = c .0;
+          spot = c .2;
+          gives = c .3;
+          first = c .1;
+          stands = there;
+          why = why-holds _ _ _ (there .step .code) (c .0 .reason) (there .step .reason);
+        }
+    go (Fault.Tail n at) e =
+        let c = fault-tail d h b n at e in
+        record { all = c .4; gives = rw (c .4) (c .6); end = c .0; read = c .1; clean = c .2; tail = rw (c .1) at (c .3); bit = c .5 }
+
 -- ---- a stream
 
 module _ (d : List ℕ) (h : FujiHeader) where
@@ -168,43 +188,23 @@ module _ (d : List ℕ) (h : FujiHeader) where
   none-below : (m : ℕ) → ((c : ℕ) → c < m → faultAt d h c ≡ Fault.None) → NoneBelow d h m
   none-below m k c n l a = fault-none d h c n (k c l) a
 
-  found-true : (o : Opens d h) (f : Finding) → LowestIs (h .blocks) f → TrueFinding d f
-  unfolding LowestIs
-  found-true o (Refused x) k = absurd k
-  found-true o Nothing k = record { header = h; opens = o; none-gives = none-below (h .blocks) k }
-  found-true o (Code b x) k =
-      let c = fault-code d h b x (k .2) in
-      let there = bad-in (formOf h) [] (bytesIn d b) (h .lines) (c .0) (c .1) in
-      record {
-        header = h;
-        opens = o;
-        code = c .0;
-        spot = c .2;
-        lowest = record { inside = k .0; lower = none-below b (k .1); answer = c .3 };
-        first = c .1;
-        stands = there;
-        why = why-holds _ _ _ (there .step .code) (c .0 .reason) (there .step .reason);
-      }
-  found-true o (Tail b n at) k =
-      let c = fault-tail d h b n at (k .2) in
-      record {
-        header = h;
-        opens = o;
-        all = c .4;
-        lowest = record { inside = k .0; lower = none-below b (k .1); answer = rw (c .4) (c .6) };
-        end = c .0;
-        read = c .1;
-        clean = c .2;
-        tail = rw (c .1) at (c .3);
-        bit = c .5;
-      }
+  module _ (o : openOf d ≡ Parsing.Header h) (l : h .lossless ≡ true) where
+    lowest-true : (b : ℕ) → b < h .blocks → ((c : ℕ) → c < b → faultAt d h c ≡ Fault.None) → Lowest d h b
+    lowest-true b i k = record { opened = o; lossless = l; inside = i; lower = none-below b k }
+
+    found-true : (f : Finding) → LowestIs (h .blocks) f → TrueFinding d f
+    unfolding LowestIs
+    found-true (Refused x) k = absurd k
+    found-true Nothing k = record { header = h; opened = o; lossless = l; none-gives = none-below (h .blocks) k }
+    found-true (Code b x) k = (h, lowest-true b (k .0) (k .1), subst (TrueFault d h b) (k .2) (fault-true d h b))
+    found-true (Tail b n at) k = (h, lowest-true b (k .0) (k .1), subst (TrueFault d h b) (k .2) (fault-true d h b))
 
 pub finding-true : FindingTrue
 unfolding findingOf
 finding-true d = go (openOf d) refl
   where
     lossless : (h : FujiHeader) (b : Bool) → openOf d ≡ Parsing.Header h → h .lossless ≡ b → TrueFinding d (cond b (lowest d h (h .blocks)) (Refused Lossy))
-    lossless h true e l = found-true d h (record { opened = e; lossless = l }) (lowest d h (h .blocks)) (lowest-is d h (h .blocks))
+    lossless h true e l = found-true d h e l (lowest d h (h .blocks)) (lowest-is d h (h .blocks))
     lossless h false e l = inr (record { header = h; opened = e; lossy = l; number = refl })
 
     go : (p : Parsed) → openOf d ≡ p → TrueFinding d (findingIn d p)
