@@ -1,6 +1,7 @@
 //! The program as a user calls it: what it writes, what it says, and its status.
 mod folder;
 
+use common::encoder::{How, Spoil, encode_spoilt};
 use common::random::congruential;
 use common::stream::{Header, blocks, encoded};
 use folder::{Folder, sample, stream, text};
@@ -207,6 +208,31 @@ fn bits_a_line_and_long_codes() {
     f.is_wrong("check whole.fcs --blocks", "check takes no --blocks");
 }
 
+/// The spot and the reason of each block that is not tight; a block that is truncated has neither, whatever its codes are.
+#[test]
+fn check_names_the_first_bad_code() {
+    let f = Folder::new("bad");
+    let spoilt = |from, zeros, code| {
+        let mut want = |n, line, p| ((37 * p + 211 * line + 5 * n * p + 1000) % 16384) as u16;
+        encode_spoilt(14, false, &[], 1, &mut want, Some(Spoil { from, how: How::Long { zeros, code } })).bytes
+    };
+    let blocks = [spoilt(0, 41, 1), spoilt(0, 42, 10_496), spoilt(0, 41, 16_384), spoilt(0, 41, 10_496)];
+    let cut = blocks[0][..blocks[0].len() / 2].to_vec();
+    let header = Header::new(true, false, 14, 768 * 5, 1);
+    f.put("a.fcs", &common::stream::stream(&header, &[], &[&blocks[..], &[cut]].concat()));
+    let said = f.run("check a.fcs");
+    assert_eq!((said.status.code(), text(&said.stderr)), (Some(1), "3 blocks are not tight, 1 block is truncated\n".to_string()));
+    let spot = "refusal 15: the block is not tight: line 0, pass 1, colour line 2, position 0, bit 0";
+    let wanted = [
+        format!("a.fcs: block 0: {spot}: escape: the code is long, and the short form fits\n"),
+        format!("a.fcs: block 1: {spot}: zeros: the code has more zeros than the limit\n"),
+        format!("a.fcs: block 2: {spot}: large: the code is 2^bits or more\n"),
+        "a.fcs: block 3: tight\n".to_string(),
+        "a.fcs: block 4: refusal 14: block 4, line 0: a line is truncated\n".to_string(),
+    ];
+    assert_eq!(text(&said.stdout), wanted.concat());
+}
+
 #[test]
 fn write_makes_the_block_of_a_set() {
     let f = Folder::new("write");
@@ -231,11 +257,9 @@ fn write_makes_the_block_of_a_set() {
     f.put("longer", &stream_of(&[&block[..], &[0]].concat()));
     let said = f.run("check longer");
     assert_eq!(said.status.code(), Some(1));
-    let end = "all its codes are, but after them there must be zero bits up to the next 16 bytes, and no more";
-    assert_eq!(
-        text(&said.stdout),
-        format!("longer: block 0:   5328 bits a line,      0 long codes, refusal 15: line 1: the block is not tight: {end}\n")
-    );
+    let used = encode_spoilt(12, false, &[], 1, &mut |_, _, _| 0, None).used;
+    let end = format!("bit {used}: tail: after the last code there must be zero bits up to the next 16 bytes, and no more");
+    assert_eq!(text(&said.stdout), format!("longer: block 0:   5328 bits a line,      0 long codes, refusal 15: the block is not tight: {end}\n"));
     f.put("few", &[0; 2 * 12 * 384 - 2]);
     f.put("half", &[0; 2 * 12 * 384 - 1]);
     f.fails("write header few out", "refusal 9: the number of samples is not the block's");
