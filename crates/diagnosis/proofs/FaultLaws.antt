@@ -1,7 +1,7 @@
 -- The fault of a block, by what the second walk says, and the search for the lowest block. Assumes nothing.
 use mathlib.Core.Bool.{true, false}
 use mathlib.Core.List.{List, []}
-use mathlib.Core.Option.{Option, none, some}
+use mathlib.Core.Option.{Option, none, some, Option·map}
 use mathlib.Core.Path.{_≡_, refl, sym, ap, _∙_}
 use Prim.Native.Nat.{ℕ, zero, suc, _+_, _-_, _≤_, _<_}
 use native.Mathlib.Nat.{add-zero, add-suc}
@@ -20,7 +20,7 @@ use Rattle.block.specs.Images.{formOf, bytesIn}
 use Rattle.block.specs.declared.Decoded.{Decoded}
 use Rattle.block.specs.declared.Decoded.the-variants as Answer
 use Rattle.block.specs.declared.Form.{Form}
-use Rattle.trace.specs.Ways.{Way, found, cut-off, on, wayOf, blockWay, spotOf}
+use Rattle.trace.specs.Ways.{plainState, Way, found, cut-off, on, wayOf, blockWay, spotOf}
 use Rattle.trace.specs.Traces.{Ends}
 use Rattle.trace.specs.declared.BadSpot.{BadSpot}
 use Rattle.trace.specs.declared.Traced.{Traced}
@@ -38,7 +38,7 @@ whyWay lines (found b) = Fault.Code (spotOf b)
 whyWay lines cut-off = Fault.None
 whyWay lines (on z) = Fault.Tail lines (z .at)
 
-why-way : (lines : ℕ) (o : Option BadCode) (a : Option State) → whyNot lines o a ≡ whyWay lines (wayOf o a)
+why-way : (lines : ℕ) (o : Option BadCode) (a : Option State) → whyNot lines o a ≡ whyWay lines (wayOf o (Option·map plainState a))
 unfolding whyWay
 why-way lines (some b) none = refl
 why-way lines (some b) (some z) = refl

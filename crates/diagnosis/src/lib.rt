@@ -293,7 +293,7 @@ pub fn report(d: &[u8], out: &mut [u8; 256]) -> usize
 fn answer_of(d: &[u8], b: usize) -> Decoded
     ensures { λ a. ⌜ a ≡ answerOf (now (d .entry)) b ⌝ }
 {
-    let begins = begin::tight_begins(d, b, 9252, 336);
+    let begins = begin::block_begins(d, b, true, 9252, 336);
     match begins {
         Parsed::Refused(x) => Decoded::Refused(x),
         Parsed::Header(h) => answer_at(d, h, b),
@@ -304,7 +304,7 @@ fn fault_of(d: &[u8], b: usize, answer: Decoded) -> Fault
     requires { ⌜ answer ≡ answerOf (now d) b ⌝ }
     ensures { λ r. ⌜ r ≡ faultOf (now (d .entry)) b ⌝ }
 {
-    let begins = begin::tight_begins(d, b, 9252, 336);
+    let begins = begin::block_begins(d, b, true, 9252, 336);
     match begins {
         Parsed::Refused(_) => Fault::None,
         Parsed::Header(h) => fault_at(d, h, b, answer),

@@ -3,7 +3,7 @@ use borrow.Rule.Slice.PartMut.{midOf, putMid, post-is}
 use borrow.Author.Tests.{ltb-true, ltb-false, le-leb, lt-leb, ne-eqb}
 use mathlib.Core.Bool.{Bool, true, false, cond}
 use mathlib.Core.List.{List, [], _∷_, _++_, append-assoc}
-use mathlib.Core.Option.{Option, none, some}
+use mathlib.Core.Option.{Option, none, some, Option·map}
 use mathlib.Core.Path.{_≡_, refl, sym, ap, _∙_}
 use Prim.Native.Nat.{ℕ, zero, suc, _+_, _-_, _*_, _%_, _≤_, _<_}
 use native.Mathlib.Nat.{sub-zero}
@@ -28,12 +28,13 @@ use Rattle.block.specs.BadCodes.{BadCode, badInSteps, firstFound, badInPass, ba
 use Rattle.block.specs.declared.Form.{Form}
 use Rattle.block.proofs.TableLaws.{table-getD}
 use Rattle.block.proofs.RangeLaws.{set-in-range, put-in-range}
-use Rattle.trace.specs.Ways.{Way, cut-off, on, wayOf, stepsWay, passesWay, lineWay, blockWay}
+use Rattle.trace.specs.Ways.{plain, plainState, Way, cut-off, on, wayOf, stepsWay, passesWay, lineWay, blockWay}
 use Rattle.trace.specs.Traces.{Says, clean, cleanState, Ends}
 use Rattle.trace.specs.declared.Stage.{Stage}
 use Rattle.trace.specs.declared.Traced.{Traced}
 use Rattle.trace.specs.declared.Traced.the-variants.{Bad, At, CutOff}
-use Rattle.trace.proofs.WayLaws.{thenWay, way-then, way-end, on-then, then-bad, then-cut, was-bad, was-cut, was-at}
+use Rattle.trace.proofs.WayLaws.{thenWay, way-then-by, way-end-by, on-then, then-bad, then-cut, was-bad, was-cut, was-at}
+use Rattle.trace.proofs.PlainLaws.{pass-plain, bad-pass-plain, end-plain, line-plain, bad-line-plain}
 
 -- ---- parts of two lists
 
@@ -102,9 +103,9 @@ module _ (sums ns : List ℕ) (g a e : ℕ) (ea : a ≡ 112 * g) (ee : e ≡ a +
 
 -- the state after a pass that was read
 abbrev left : Plan → State → Reading → State
-left P r z = record { lines = z .lines; records = putSet (P .set) (z .set) (r .records); at = z .at; tight = z .tight }
+left P r z = record { lines = z .lines; records = putSet (P .set) (z .set) (r .records); at = z .at; tight = z .tight; long = 0 }
 
-way-leave : (P : Plan) (r : State) (o : Option BadCode) (a : Option Reading) → wayOf o (leave P r a) ≡ thenWay (wayOf o a) (λ z. on (left P r z))
+way-leave : (P : Plan) (r : State) (o : Option BadCode) (a : Option Reading) → wayOf o (Option·map plainState (leave P r a)) ≡ thenWay (wayOf o (Option·map plain a)) (λ z. on (left P r z))
 unfolding thenWay
 way-leave P r (some b) none = refl
 way-leave P r (some b) (some z) = refl
@@ -113,26 +114,27 @@ way-leave P r none (some z) = refl
 
 -- pass i of line n
 abbrev pub passWay : Form → List ℕ → ℕ → ℕ → State → Way State
-passWay F s n i r = wayOf (badInPass F 0 s n i r) (passAt F 0 s i r)
+passWay F s n i r = wayOf (badInPass F 0 s n i r) (Option·map plainState (passAt F 0 s i r))
 
 module _ (F : Form) (s : List ℕ) (n : ℕ) (r : State) where
-  pub passes-none : passesWay F s n 0 r ≡ on r
+  pub passes-none : passesWay F s n 0 r ≡ on (plainState r)
   unfolding passesWay firstFound runs
   passes-none = refl
 
   pub passes-next : (i : ℕ) → passesWay F s n (suc i) r ≡ thenWay (passesWay F s n i r) (passWay F s n i)
   unfolding passesWay firstFound runs
-  passes-next i = way-then (firstFound (passAt F 0 s) (badInPass F 0 s n) i r) (runs (passAt F 0 s) i r) _ _
+  passes-next i =
+      way-then-by plainState plainState (firstFound (passAt F 0 s) (badInPass F 0 s n) i r) (runs (passAt F 0 s) i r) _ _ (bad-pass-plain F 0 s n i) (pass-plain F 0 s i)
 
   -- a line is six of them, with the test at its end
-  pub line-end : (i : ℕ) → i ≡ 6 → lineWay F s n r ≡ thenWay (passesWay F s n i r) (λ z. wayOf none (endLine s z))
+  pub line-end : (i : ℕ) → i ≡ 6 → lineWay F s n r ≡ thenWay (passesWay F s n i r) (λ z. wayOf none (Option·map plainState (endLine s z)))
   unfolding lineWay passesWay
-  line-end i e = rw e (way-end (firstFound (passAt F 0 s) (badInPass F 0 s n) 6 r) (runs (passAt F 0 s) 6 r) (endLine s))
+  line-end i e = rw e (way-end-by plainState plainState (firstFound (passAt F 0 s) (badInPass F 0 s n) 6 r) (runs (passAt F 0 s) 6 r) (endLine s) (end-plain s))
 
-pub end-past : (s : List ℕ) (z : State) → ltb (8 * length s + 7) (z .at .0) ≡ true → wayOf none (endLine s z) ≡ cut-off
+pub end-past : (s : List ℕ) (z : State) → ltb (8 * length s + 7) (z .at .0) ≡ true → wayOf none (Option·map plainState (endLine s z)) ≡ cut-off
 end-past s z h = rw (lt-leb (z .at .0) (8 * length s + 7) (ltb-true _ _ h))
 
-pub end-here : (s : List ℕ) (z : State) → ltb (8 * length s + 7) (z .at .0) ≡ false → wayOf none (endLine s z) ≡ on z
+pub end-here : (s : List ℕ) (z : State) → ltb (8 * length s + 7) (z .at .0) ≡ false → wayOf none (Option·map plainState (endLine s z)) ≡ on (plainState z)
 end-here s z h = rw (le-leb (z .at .0) (8 * length s + 7) (ltb-false _ _ h))
 
 -- pass i, by what was done before it
@@ -166,7 +168,7 @@ module _ (F : Form) (s : List ℕ) (n i W : ℕ) (P : Plan) (Q : Quantiser) (l�
 
 -- line n, which begins with a turn
 abbrev pub lineAtWay : Form → List ℕ → ℕ → State → Way State
-lineAtWay F s n r = wayOf (badInLine F [] s n r) (readLineAt F [] s n r)
+lineAtWay F s n r = wayOf (badInLine F [] s n r) (Option·map plainState (readLineAt F [] s n r))
 
 line-at : (F : Form) (s : List ℕ) (n : ℕ) (r : State) → lineAtWay F s n r ≡ lineWay F s n (beforeLine F [] n r)
 unfolding badInLine readLineAt readLine lineWay
@@ -175,7 +177,9 @@ line-at F s n r = refl
 module _ (F : Form) (s : List ℕ) where
   pub lines-next : (n : ℕ) → blockWay F s (suc n) ≡ thenWay (blockWay F s n) (lineAtWay F s n)
   unfolding blockWay firstBad readLines firstFound runs
-  lines-next n = way-then (firstFound (readLineAt F [] s) (badInLine F [] s) n (startState F [])) (runs (readLineAt F [] s) n (startState F [])) _ _
+  lines-next n =
+      way-then-by plainState plainState (firstFound (readLineAt F [] s) (badInLine F [] s) n (startState F [])) (runs (readLineAt F [] s) n (startState F [])) _ _
+      (bad-line-plain F [] s n) (line-plain F [] s n)
 
   pub lines-none : (lines sums ns : List ℕ) → lines ≡ zeroLines (widthOf (F .xtrans)) → zipRecords sums ns ≡ startRecords (F .bits) 0
       → blockWay F s 0 ≡ on (cleanState lines sums ns (record { 0 = 0 }))

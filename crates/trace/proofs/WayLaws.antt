@@ -2,7 +2,7 @@
 use borrow.Author.Tests.{lt-ltb, le-ltb, le-leb, lt-leb}
 use mathlib.Core.Bool.{Bool, not}
 use mathlib.Core.List.{List, [], _∷_, _++_}
-use mathlib.Core.Option.{Option, none, some, orElse}
+use mathlib.Core.Option.{Option, none, some, orElse, Option·map}
 use mathlib.Core.Path.{_≡_, refl, sym, ap, _∙_, subst}
 use Prim.Native.Nat.{ℕ, zero, suc, _+_, _-_, _*_, _/_, _≤_, _<_}
 use native.Mathlib.Nat.{add-zero, add-suc}
@@ -12,8 +12,9 @@ use Rattle.bits.specs.declared.BitPosition.{BitPosition}
 use Rattle.steps.specs.Steps.{Step, stepAt, interpolated, evenPart, oddPart, oddSteps, turnSteps, upto, passSteps}
 use Rattle.steps.specs.declared.Plan.{Plan}
 use Rattle.pass.specs.Readings.{Reading, readStep, andThen, reads}
-use Rattle.block.specs.BadCodes.{BadCode, badInSteps}
-use Rattle.trace.specs.Ways.{Way, found, cut-off, on, wayOf, spotOf, stepWay, stepsWay}
+use Rattle.block.specs.BadCodes.{BadCode, badAt, stepReason, badInSteps}
+use Rattle.trace.specs.Ways.{Way, found, cut-off, on, wayOf, spotOf, plain, stepWay, stepsWay}
+use Rattle.trace.proofs.PlainLaws.{steps-plain, bad-plain, step-plain}
 use Rattle.trace.specs.Traces.{Said, Says}
 use Rattle.trace.specs.declared.BadSpot.{BadSpot}
 use Rattle.trace.specs.declared.Stage.{Stage}
@@ -28,27 +29,32 @@ module _ {A C : Type 0} where
   thenWay cut-off f = cut-off
   thenWay (on a) f = f a
 
-  pub way-then : (o : Option BadCode) (a : Option A) (g : A → Option BadCode) (f : A → Option C)
-      → wayOf (orElse o (andThen a g)) (andThen a f) ≡ thenWay (wayOf o a) (λ z. wayOf (g z) (f z))
-  unfolding orElse andThen thenWay
-  way-then (some b) none g f = refl
-  way-then (some b) (some a) g f = refl
-  way-then none none g f = refl
-  way-then none (some a) g f = refl
+  -- what is left out of the values does not count
+  module _ (p : A → A) (q : C → C) where
+    pub way-then-by : (o : Option BadCode) (a : Option A) (g : A → Option BadCode) (f : A → Option C)
+        → ((z : A) → g (p z) ≡ g z) → ((z : A) → Option·map q (f (p z)) ≡ Option·map q (f z))
+        → wayOf (orElse o (andThen a g)) (Option·map q (andThen a f)) ≡ thenWay (wayOf o (Option·map p a)) (λ z. wayOf (g z) (Option·map q (f z)))
+    unfolding orElse andThen thenWay
+    way-then-by (some b) none g f eg ef = refl
+    way-then-by (some b) (some a) g f eg ef = refl
+    way-then-by none none g f eg ef = refl
+    way-then-by none (some a) g f eg ef = rw (eg a, ef a)
 
-  -- no code is looked at after it
-  pub way-end : (o : Option BadCode) (a : Option A) (f : A → Option C) → wayOf o (andThen a f) ≡ thenWay (wayOf o a) (λ z. wayOf none (f z))
-  unfolding andThen thenWay
-  way-end (some b) none f = refl
-  way-end (some b) (some a) f = refl
-  way-end none none f = refl
-  way-end none (some a) f = refl
+    pub way-end-by : (o : Option BadCode) (a : Option A) (f : A → Option C) → ((z : A) → Option·map q (f (p z)) ≡ Option·map q (f z))
+        → wayOf o (Option·map q (andThen a f)) ≡ thenWay (wayOf o (Option·map p a)) (λ z. wayOf none (Option·map q (f z)))
+    unfolding andThen thenWay
+    way-end-by (some b) none f ef = refl
+    way-end-by (some b) (some a) f ef = refl
+    way-end-by none none f ef = refl
+    way-end-by none (some a) f ef = rw (ef a)
 
-then-on : {A : Type 0} (m : Way A) → thenWay m on ≡ m
+-- a reading that goes on has no count already
+way-plain : (o : Option BadCode) (a : Option Reading) → thenWay (wayOf o (Option·map plain a)) (λ w. on (plain w)) ≡ wayOf o (Option·map plain a)
 unfolding thenWay
-then-on (found b) = refl
-then-on cut-off = refl
-then-on (on a) = refl
+way-plain (some b) none = refl
+way-plain (some b) (some z) = refl
+way-plain none none = refl
+way-plain none (some z) = refl
 
 then-assoc : {A B C : Type 0} (m : Way A) (f : A → Way B) (g : B → Way C) → thenWay (thenWay m f) g ≡ thenWay m (λ a. thenWay (f a) g)
 unfolding thenWay
@@ -136,17 +142,26 @@ module _ {A : Type 0} (W : ℕ → Way A) (g : ℕ → A → Way A) (next : (n :
 -- ---- steps
 
 module _ (t : Stage) (s : List ℕ) where
-  pub steps-none : (r : Reading) → stepsWay t s [] r ≡ on r
+  pub steps-none : (r : Reading) → stepsWay t s [] r ≡ on (plain r)
   unfolding stepsWay badInSteps reads
   steps-none r = refl
 
   steps-first : (x : Step) (l : List Step) (r : Reading) → stepsWay t s (x ∷ l) r ≡ thenWay (stepWay t s x r) (λ z. stepsWay t s l z)
   unfolding stepsWay stepWay badInSteps reads
-  steps-first x l r = way-then _ (readStep (t .bits) 0 (t .w) s x r) _ _
+  steps-first x l r =
+      way-then-by plain plain _ (readStep (t .bits) 0 (t .w) s x r) _ _ (bad-plain (t .bits) 0 (t .w) s (t .line) (t .pass) l) (steps-plain (t .bits) 0 (t .w) s l)
+
+  same-plain : (l : List Step) (r : Reading) → stepsWay t s l r ≡ stepsWay t s l (plain r)
+  unfolding stepsWay
+  same-plain l r = rw (bad-plain (t .bits) 0 (t .w) s (t .line) (t .pass) l r, steps-plain (t .bits) 0 (t .w) s l r)
+
+  step-none : (x : Step) (r : Reading) → thenWay (stepWay t s x r) (λ w. on (plain w)) ≡ stepWay t s x r
+  unfolding stepWay
+  step-none x r = way-plain (Option·map (badAt (t .line) (t .pass) x r) (stepReason (t .bits) 0 (t .w) s x r)) (readStep (t .bits) 0 (t .w) s x r)
 
   pub steps-append : (k l : List Step) (r : Reading) → stepsWay t s (k ++ l) r ≡ thenWay (stepsWay t s k r) (λ z. stepsWay t s l z)
   unfolding thenWay
-  steps-append [] l r = rw (steps-none r)
+  steps-append [] l r = rw (steps-none r) (same-plain l r)
   steps-append (x ∷ k) l r =
       steps-first x (k ++ l) r
       ∙ then-same (stepWay t s x r) _ _ (λ z. steps-append k l z)
@@ -156,18 +171,18 @@ module _ (t : Stage) (s : List ℕ) where
   pub steps-two : (x y : Step) (r : Reading) → stepsWay t s (x ∷ y ∷ []) r ≡ thenWay (stepWay t s x r) (λ z. stepWay t s y z)
   steps-two x y r =
       steps-first x (y ∷ []) r
-      ∙ then-same (stepWay t s x r) _ _ (λ z. steps-first y [] z ∙ then-same (stepWay t s y z) _ _ (λ w. steps-none w) ∙ then-on (stepWay t s y z))
+      ∙ then-same (stepWay t s x r) _ _ (λ z. steps-first y [] z ∙ then-same (stepWay t s y z) _ _ (λ w. steps-none w) ∙ step-none y z)
 
   -- the parts of a turn
   module _ (W : ℕ) (P : Plan) (p : ℕ) (r : Reading) where
-    pub even-over : W ≤ p → stepsWay t s (evenPart W P p) r ≡ on r
+    pub even-over : W ≤ p → stepsWay t s (evenPart W P p) r ≡ on (plain r)
     even-over h = rw (le-ltb p W h) (steps-none r)
 
     pub even-here : (c d : Bool) → p < W → c ≡ not (interpolated (P .«first_rule») p) → d ≡ not (interpolated (P .«second_rule») p)
         → stepsWay t s (evenPart W P p) r ≡ stepsWay t s (stepAt (P .first) p c ∷ stepAt (P .second) p d ∷ []) r
     even-here c d h ec ed = rw (lt-ltb p W h, ec, ed)
 
-    pub odd-over : p < 8 → stepsWay t s (oddPart P p) r ≡ on r
+    pub odd-over : p < 8 → stepsWay t s (oddPart P p) r ≡ on (plain r)
     odd-over h = rw (lt-leb 8 p h) (steps-none r)
 
     pub odd-here : 8 ≤ p → stepsWay t s (oddPart P p) r ≡ stepsWay t s (oddSteps P (p - 7)) r

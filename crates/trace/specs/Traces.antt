@@ -33,9 +33,9 @@ pub record Says {A : Type 0} (here : BitPosition → A) (o : Way A) (r : Traced)
 
 -- ---- steps
 
--- the reading that the program holds: colour lines, a set as two lists, a bit position, and tight codes alone so far
+-- the reading that the program holds: colour lines, a set as two lists, a bit position, and tight codes alone so far; it counts no long ones
 abbrev pub clean : (lines sums ns : List ℕ) → BitPosition → Reading
-clean lines sums ns at = record { lines = lines; set = zipRecords sums ns; at = at; tight = true }
+clean lines sums ns at = record { lines = lines; set = zipRecords sums ns; at = at; tight = true; long = 0 }
 
 pub record StageAsks (t : Stage) (s lines sums ns : List ℕ) : Type 0 where
   pub bytes : length s < 2 ^ 32
@@ -71,7 +71,7 @@ pub record Gives (o : Way Reading) (lines sums ns : List ℕ) (r : Traced) : Typ
 -- ---- lines
 
 abbrev pub cleanState : (lines sums ns : List ℕ) → BitPosition → State
-cleanState lines sums ns at = record { lines = lines; records = zipRecords sums ns; at = at; tight = true }
+cleanState lines sums ns at = record { lines = lines; records = zipRecords sums ns; at = at; tight = true; long = 0 }
 
 pub record LineAsks (F : Form) (Q : Quantiser) (s lines sums ns : List ℕ) : Type 0 where
   pub bytes : length s < 2 ^ 32

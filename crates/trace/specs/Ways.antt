@@ -55,19 +55,26 @@ wayOf (some b) o = found b
 wayOf none none = cut-off
 wayOf none (some a) = on a
 
+-- the walk looks for a bad code and counts no long ones: it goes by a reading, or a state, without that count
+abbrev pub plain : Reading → Reading
+plain r = record { lines = r .lines; set = r .set; at = r .at; tight = r .tight; long = 0 }
+
+abbrev pub plainState : State → State
+plainState r = record { lines = r .lines; records = r .records; at = r .at; tight = r .tight; long = 0 }
+
 -- one step, and a list of steps, of a pass of a lossless line
 unfoldable pub stepWay : Stage → List ℕ → Step → Reading → Way Reading
-stepWay t s x r = wayOf (Option·map (badAt (t .line) (t .pass) x r) (stepReason (t .bits) 0 (t .w) s x r)) (readStep (t .bits) 0 (t .w) s x r)
+stepWay t s x r = wayOf (Option·map (badAt (t .line) (t .pass) x r) (stepReason (t .bits) 0 (t .w) s x r)) (Option·map plain (readStep (t .bits) 0 (t .w) s x r))
 
 unfoldable pub stepsWay : Stage → List ℕ → List Step → Reading → Way Reading
-stepsWay t s l r = wayOf (badInSteps (t .line) (t .pass) (t .bits) 0 (t .w) s l r) (reads (t .bits) 0 (t .w) s l r)
+stepsWay t s l r = wayOf (badInSteps (t .line) (t .pass) (t .bits) 0 (t .w) s l r) (Option·map plain (reads (t .bits) 0 (t .w) s l r))
 
 -- the first i passes of line n; all six, with the test at the line's end; and the first n lines
 unfoldable pub passesWay : Form → List ℕ → ℕ → ℕ → State → Way State
-passesWay F s n i r = wayOf (firstFound (passAt F 0 s) (badInPass F 0 s n) i r) (runs (passAt F 0 s) i r)
+passesWay F s n i r = wayOf (firstFound (passAt F 0 s) (badInPass F 0 s n) i r) (Option·map plainState (runs (passAt F 0 s) i r))
 
 unfoldable pub lineWay : Form → List ℕ → ℕ → State → Way State
-lineWay F s n r = wayOf (firstFound (passAt F 0 s) (badInPass F 0 s n) 6 r) (andThen (runs (passAt F 0 s) 6 r) (endLine s))
+lineWay F s n r = wayOf (firstFound (passAt F 0 s) (badInPass F 0 s n) 6 r) (Option·map plainState (andThen (runs (passAt F 0 s) 6 r) (endLine s)))
 
 unfoldable pub blockWay : Form → List ℕ → ℕ → Way State
-blockWay F s n = wayOf (firstBad F [] s n) (readLines F [] s n)
+blockWay F s n = wayOf (firstBad F [] s n) (Option·map plainState (readLines F [] s n))
