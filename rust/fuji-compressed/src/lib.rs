@@ -416,8 +416,7 @@ pub fn plan_bases(header: &[u8], plan: &[u8], bases: &mut [u8]) -> Result<()> {
     Refusal::answer(refusal)
 }
 
-type CountedOf =
-    unsafe extern "C" fn(*const u8, usize, usize, *mut u16, usize, *mut Record, usize, *mut [usize; 2], *mut [usize; 4]);
+type CountedOf = unsafe extern "C" fn(*const u8, usize, usize, *mut u16, usize, *mut Record, usize, *mut [usize; 2], *mut [usize; 4]);
 
 type RangeOf = unsafe extern "C" fn(*const u8, usize, usize, *mut [usize; 2], *mut [usize; 4]);
 

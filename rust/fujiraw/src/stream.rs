@@ -3,7 +3,9 @@ use crate::files::{load, load_samples, name};
 use crate::picture::Picture;
 use crate::progress::Progress;
 use crate::tile;
-use fuji_compressed::{ColorTile, Counted, FujiCompressed, FujiHeader, Rect, Refusal, Scratch, Totals, measure_block, plan_bases, write_block};
+use fuji_compressed::{
+    ColorTile, Counted, FujiCompressed, FujiHeader, Rect, Refusal, Scratch, Totals, measure_block, plan_bases, write_block,
+};
 use std::fmt::Write;
 use std::path::Path;
 

@@ -155,9 +155,10 @@ fn check_says_of_each_block_whether_it_is_tight() {
     f.put("cut.fcs", &stream()[..100]);
     let said = f.run("check cut.fcs");
     assert_eq!(said.status.code(), Some(1));
-    assert!(text(&said.stdout).starts_with(
-        "cut.fcs: block 0:      0 bits a line,      0 long codes, refusal 14: block 0, line 0: a line is truncated\n"
-    ));
+    assert!(
+        text(&said.stdout)
+            .starts_with("cut.fcs: block 0:      0 bits a line,      0 long codes, refusal 14: block 0, line 0: a line is truncated\n")
+    );
     assert_eq!(text(&said.stderr), "1 block is truncated\n");
     // Two tight blocks: a byte more after the first, and the second cut.
     let header = Header::new(true, false, 12, 1536, 1);
@@ -214,21 +215,23 @@ fn check_names_the_first_bad_code() {
     let f = Folder::new("bad");
     let spoilt = |from, zeros, code| {
         let mut want = |n, line, p| ((37 * p + 211 * line + 5 * n * p + 1000) % 16384) as u16;
-        encode_spoilt(14, false, &[], 1, &mut want, Some(Spoil { from, how: How::Long { zeros, code } })).bytes
+        encode_spoilt(14, false, &[], 1, &mut want, Some(Spoil { from, how: How::Long { zeros, code } }))
     };
-    let blocks = [spoilt(0, 41, 1), spoilt(0, 42, 10_496), spoilt(0, 41, 16_384), spoilt(0, 41, 10_496)];
+    let tight = spoilt(0, 41, 10_496);
+    let blocks = [spoilt(0, 41, 1).bytes, spoilt(0, 42, 10_496).bytes, spoilt(0, 41, 16_384).bytes, tight.bytes.clone()];
     let cut = blocks[0][..blocks[0].len() / 2].to_vec();
     let header = Header::new(true, false, 14, 768 * 5, 1);
     f.put("a.fcs", &common::stream::stream(&header, &[], &[&blocks[..], &[cut]].concat()));
     let said = f.run("check a.fcs");
     assert_eq!((said.status.code(), text(&said.stderr)), (Some(1), "3 blocks are not tight, 1 block is truncated\n".to_string()));
     let spot = "refusal 15: the block is not tight: line 0, pass 1, colour line 2, position 0, bit 0";
+    let none = "     0 bits a line,      0 long codes";
     let wanted = [
-        format!("a.fcs: block 0: {spot}: escape: the code is long, and the short form fits\n"),
-        format!("a.fcs: block 1: {spot}: zeros: the code has more zeros than the limit\n"),
-        format!("a.fcs: block 2: {spot}: large: the code is 2^bits or more\n"),
-        "a.fcs: block 3: tight\n".to_string(),
-        "a.fcs: block 4: refusal 14: block 4, line 0: a line is truncated\n".to_string(),
+        format!("a.fcs: block 0: {none}, {spot}: escape: the code is long, and the short form fits\n"),
+        format!("a.fcs: block 1: {none}, {spot}: zeros: the code has more zeros than the limit\n"),
+        format!("a.fcs: block 2: {none}, {spot}: large: the code is 2^bits or more\n"),
+        format!("a.fcs: block 3: {:>6} bits a line, {:>6} long codes, tight\n", tight.used, tight.long_codes),
+        format!("a.fcs: block 4: {none}, refusal 14: block 4, line 0: a line is truncated\n"),
     ];
     assert_eq!(text(&said.stdout), wanted.concat());
 }
@@ -259,7 +262,10 @@ fn write_makes_the_block_of_a_set() {
     assert_eq!(said.status.code(), Some(1));
     let used = encode_spoilt(12, false, &[], 1, &mut |_, _, _| 0, None).used;
     let end = format!("bit {used}: tail: after the last code there must be zero bits up to the next 16 bytes, and no more");
-    assert_eq!(text(&said.stdout), format!("longer: block 0:   5328 bits a line,      0 long codes, refusal 15: the block is not tight: {end}\n"));
+    assert_eq!(
+        text(&said.stdout),
+        format!("longer: block 0:   5328 bits a line,      0 long codes, refusal 15: the block is not tight: {end}\n")
+    );
     f.put("few", &[0; 2 * 12 * 384 - 2]);
     f.put("half", &[0; 2 * 12 * 384 - 1]);
     f.fails("write header few out", "refusal 9: the number of samples is not the block's");
