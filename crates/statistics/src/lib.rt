@@ -52,7 +52,10 @@ impl Record {
         requires { ⌜ InRange self ⌝ }
         ensures { λ r. ⌜ (r ≡ kOf self) × (r ≤ 15) ⌝ }
     {
-        let least = numbers::saturating_sub(u32::leading_zeros(self.n), u32::leading_zeros(self.sum));
+        let least = numbers::saturating_sub(
+            u32::leading_zeros(self.n),
+            u32::leading_zeros(self.sum),
+        );
         numbers::smaller(15, least + numbers::flag(self.n << least < self.sum))
     }
 
