@@ -1,7 +1,7 @@
 #!/usr/bin/env python3
 """Counts the machine instructions that decoding takes for each code, and its conditional branches that go both ways. README.md says how.
 
-usage: tools/count.py [--noise N,N..] [--kinds KIND,KIND..] [--lines N] [--side ours|rust] [--branches]
+usage: tools/count.py [--noise N,N..] [--kinds KIND,KIND..] [--lines N] [--side ours|rust] [--lines-only] [--branches]
 """
 import argparse
 import os
@@ -78,6 +78,7 @@ def main():
     words.add_argument("--kinds", default=",".join(KINDS))
     words.add_argument("--lines", type=int, default=12)
     words.add_argument("--side", choices=sorted(COUNTED), default="ours")
+    words.add_argument("--lines-only", action="store_true", help="leave out what a call takes whatever its lines are")
     words.add_argument("--branches", action="store_true")
     asked = words.parse_args()
     codes = CODES_A_LINE * asked.lines
@@ -86,6 +87,9 @@ def main():
             with tempfile.TemporaryDirectory() as folder:
                 out = os.path.join(folder, "out")
                 count = run(kind, noise, asked.lines, asked.side, out, asked.branches)
+                if asked.lines_only:
+                    # of a block of twice the lines the second half has no beginning
+                    count = run(kind, noise, 2 * asked.lines, asked.side, os.path.join(folder, "twice"), False) - count
                 print("%s, noise %s, %s: %.1f instructions a code" % (kind, noise, asked.side, count / codes))
                 if asked.branches:
                     show_branches(out, codes)
