@@ -1,20 +1,23 @@
 -- `writing::coded_as` meets its contract. Assumes nothing.
 use borrow.Author.Needs.{needs}
-use mathlib.Core.Path.{ap, _∙_}
-use Rattle.code.specs.Tight.{codeFor}
-use Rattle.steps.specs.Contexts.{slotOf}
-use Rattle.steps.specs.declared.Look.{Look}
+use Rattle.writing.proofs.ChosenLaws.{look-total, coded-is}
 use Rattle.writing.proofs.coded_as.Statement.{statement}
 use Rattle.writing.proofs.coded_as.Tie as tie
 
+choose-code-requires : tie.Need-choose-code-requires
+choose-code-requires c κs =
+    let l = c .before in
+    let p = l .before .pre in
+    let h = l .look-of .ensures in
+    ((p .depth, (h .1 .1 .0, look-total _ _ _ (l .look-of .result) (h .0) (h .1 .0) _ (p .quantisers))), (p .prediction, p .wanted))
+
 returns : tie.Need-returns
 returns c =
-    let t = c .before .before in
-    let l = t .look-of .ensures in
-    let a = t .before .args in
-    let e = c .code-for .ensures in
-    let s = c .before .slot-of .ensures in
-    ((s .0 ∙ ap (λ (h : Look). slotOf (a .p) (h .place)) (l .0), s .1), (e .0 ∙ ap (λ (h : Look). codeFor (a .m) (h .negative) (a .x .prediction) (a .v)) (l .0), e .1))
+    let d = c .before in
+    let l = d .before .before in
+    let p = l .before .pre in
+    let h = l .look-of .ensures in
+    coded-is _ _ _ (l .look-of .result) (h .0) (h .1 .0) _ (p .quantisers) _ _ _ _ _ (c .slot-of .ensures) (d .choose-code .ensures)
 
 pub coded-as-spec : {M : Type 1} → statement M
-coded-as-spec = tie.close (tie.spec (λ c κs. search needs) (λ c κs. search needs) (λ c κs. search needs) returns)
+coded-as-spec = tie.close (tie.spec (λ c κs. search needs) (λ c. search needs) (λ c. search needs) choose-code-requires (λ c κs. search needs) returns)
