@@ -5,7 +5,7 @@ use mathlib.Core.Path.{_≡_, refl, sym, _∙_}
 use Prim.Native.Nat.{ℕ, _+_, _*_, _^_, _≤_, _<_}
 use native.Mathlib.Omega.{arith}
 use lib.Dec.{eqb}
-use lib.ListN.{length, getD, set}
+use lib.ListN.{length, getD, set, length-set}
 use lib.Pow.{pow-mono}
 use Rattle.bits.specs.declared.BitPosition.{BitPosition}
 use Rattle.statistics.specs.Statistics.{kOf, updated, InRange}
@@ -40,6 +40,7 @@ pub record Done (bits q W : ℕ) (strict : Bool) (t : List ℕ) (n : ℕ) (y : S
   pub put : StepsPut bits q W strict t n (y ∷ []) store (from .0) lines sums ns out lines' sums' ns' out' (At at)
   pub records : SetInRange (zipRecords sums' ns')
   pub same : length out' ≡ length out
+  pub long : length lines' ≡ length lines
 
 -- where two ways meet, the same lists have other names
 pub met : {bits q W : ℕ} {strict : Bool} {t : List ℕ} {n : ℕ} {y : Step} {store : Bool} {from : BitPosition} {lines sums ns out lines' lines″ sums' sums″ ns' ns″ out' out″ : List ℕ} {at at″ : BitPosition}
@@ -98,13 +99,11 @@ module _ {bits q : ℕ} {totals raws limits : List ℕ} {W : ℕ} {strict : Bool
           put = sample-right (s .sample) bits q strict store coded (from .0) sums ns out from e refl (sym judged ∙ f);
           records = s .ready .records;
           same = refl;
+          long = length-set lines (i + 1) (x .prediction);
         }
 
     pub site-wrong : coded ≡ false → b ≡ true → StepsPut bits q W strict t n (stepAt line p coded ∷ []) store (from .0) lines sums ns out lines sums ns out (Wrong j)
     site-wrong e f = sample-wrong (s .sample) bits q strict store coded (from .0) sums ns out lines e (sym judged ∙ f)
-
-  pub site-prediction : x .prediction < 2 ^ 16
-  site-prediction = let p : 2 ^ bits ≤ 2 ^ 16 = pow-mono (s .ready .numbers .depth .1) in omega (arith, prediction-le (s .sample) (largest bits) (s .ready .held))
 
   -- ---- with a code
 
@@ -180,4 +179,5 @@ module _ {bits q : ℕ} {totals raws limits : List ℕ} {W : ℕ} {strict : Bool
                 put = sample-coded (s .sample) bits q strict store coded (from .0) sums ns out sums' ns' out' after (c .value) ct (g .0) (g .1) (new .0 ∙ set-is) (rw ev at (ec .value));
                 records = new .1;
                 same = same;
+                long = length-set lines (i + 1) (c .value);
               }

@@ -28,7 +28,7 @@ use Rattle.steps.proofs.ContextLaws.{context-le, stored-le}
 use Rattle.steps.proofs.TableLaws.{numbers-le}
 use Rattle.writing.specs.Sets.{indexIn}
 use Rattle.writing.specs.Writings.{Writing, orSecond, writeStep, writes}
-use Rattle.writing.specs.Puts.{putIf, Room, Within, bitsOfSample, valueOfSample, setOfSample, startOf, StepsRoom, IsPut, StepsPut}
+use Rattle.writing.specs.Puts.{putIf, Room, Within, Wanted, bitsOfSample, valueOfSample, setOfSample, startOf, StepsRoom, IsPut, StepsPut}
 use Rattle.writing.specs.declared.Put.{Put}
 use Rattle.writing.specs.declared.Put.the-variants.{At, Wrong}
 use Rattle.writing.proofs.WriteLaws.{wanted, write-coded, write-interpolated, after, writes-append, writes-after, writes-add}
@@ -297,6 +297,9 @@ module _ {bits q W : ℕ} {strict : Bool} {t : List ℕ} {n : ℕ} {k : List Ste
 pub same-room : (bits q W : ℕ) (strict : Bool) (t : List ℕ) (n : ℕ) (k l : List Step) (store : Bool) (from : ℕ) (lines sums ns out : List ℕ) → k ≡ l
     → StepsRoom bits q W strict t n l store from lines sums ns out → StepsRoom bits q W strict t n k store from lines sums ns out
 same-room bits q W strict t n k l store from lines sums ns out e h = rw e h
+
+pub same-wanted : (M W : ℕ) (t : List ℕ) (n : ℕ) (k l : List Step) → k ≡ l → Wanted M W t n l → Wanted M W t n k
+same-wanted M W t n k l e h = rw e h
 
 pub same-steps : {bits q W : ℕ} {strict : Bool} {t : List ℕ} {n : ℕ} {k l : List Step} {store : Bool} {from : ℕ} {lines sums ns out lines' sums' ns' out' : List ℕ} {r : Put} → k ≡ l
     → StepsPut bits q W strict t n k store from lines sums ns out lines' sums' ns' out' r → StepsPut bits q W strict t n l store from lines sums ns out lines' sums' ns' out' r

@@ -248,10 +248,11 @@ fn write_even(
     let v = u16_to_u32(samples[j]);
     if steps::has_code(plan.first_rule, p) {
         let c = coded_as(spot.bits, base, totals, p, x, v);
-        let old = steps::record_at(sums, ns, c.slot);
-        at = put_code(out, store, at, old.k(), limits[c.choice], raws[c.choice], c.code);
-        steps::update_at(sums, ns, c.slot, old, c.code);
         lines[i + 1] = c.value as u16;
+        let choice = c.choice;
+        let old = steps::record_at(sums, ns, c.slot);
+        at = put_code(out, store, at, old.k(), limits[choice], raws[choice], c.code);
+        steps::update_at(sums, ns, c.slot, old, c.code);
     } else {
         if is_wrong(strict, v, x.prediction) {
             return Put::Wrong(j);
@@ -264,10 +265,11 @@ fn write_even(
     let v = u16_to_u32(samples[j]);
     if steps::has_code(plan.second_rule, p) {
         let c = coded_as(spot.bits, base, totals, p, x, v);
-        let old = steps::record_at(sums, ns, c.slot);
-        at = put_code(out, store, at, old.k(), limits[c.choice], raws[c.choice], c.code);
-        steps::update_at(sums, ns, c.slot, old, c.code);
         lines[i + 1] = c.value as u16;
+        let choice = c.choice;
+        let old = steps::record_at(sums, ns, c.slot);
+        at = put_code(out, store, at, old.k(), limits[choice], raws[choice], c.code);
+        steps::update_at(sums, ns, c.slot, old, c.code);
     } else {
         if is_wrong(strict, v, x.prediction) {
             return Put::Wrong(j);
@@ -314,19 +316,21 @@ fn write_odd(
     let x = steps::context_at(lines, w + 2, i, q);
     let v = u16_to_u32(samples[j]);
     let c = coded_as(spot.bits, base, totals, q, x, v);
-    let old = steps::record_at(sums, ns, c.slot);
-    let at = put_code(out, store, from, old.k(), limits[c.choice], raws[c.choice], c.code);
-    steps::update_at(sums, ns, c.slot, old, c.code);
     lines[i + 1] = c.value as u16;
+    let choice = c.choice;
+    let old = steps::record_at(sums, ns, c.slot);
+    let at = put_code(out, store, from, old.k(), limits[choice], raws[choice], c.code);
+    steps::update_at(sums, ns, c.slot, old, c.code);
     let i = steps::left_of(w, plan.second, q);
     let j = index_in(w, n, plan.second, q);
     let x = steps::context_at(lines, w + 2, i, q);
     let v = u16_to_u32(samples[j]);
     let c = coded_as(spot.bits, base, totals, q, x, v);
-    let old = steps::record_at(sums, ns, c.slot);
-    let after = put_code(out, store, at, old.k(), limits[c.choice], raws[c.choice], c.code);
-    steps::update_at(sums, ns, c.slot, old, c.code);
     lines[i + 1] = c.value as u16;
+    let choice = c.choice;
+    let old = steps::record_at(sums, ns, c.slot);
+    let after = put_code(out, store, at, old.k(), limits[choice], raws[choice], c.code);
+    steps::update_at(sums, ns, c.slot, old, c.code);
     Put::At(after)
 }
 
