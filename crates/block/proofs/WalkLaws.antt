@@ -15,11 +15,11 @@ use Rattle.lines.specs.ColourLines.{zeroLines, guarded, turned}
 use Rattle.map.specs.Places.{widthOf}
 use Rattle.map.proofs.PlaceLaws.{width-le}
 use Rattle.steps.specs.Values.{recordsOf}
-use Rattle.steps.specs.Steps.{planOf}
+use Rattle.steps.specs.Steps.{planOf, passSteps}
 use Rattle.steps.specs.declared.Plan.{Plan}
 use Rattle.steps.specs.declared.Set.{Set}
 use Rattle.writing.specs.Sets.{lineSize, setSize}
-use Rattle.writing.specs.Puts.{putIf, Room, Within, IsPassPut}
+use Rattle.writing.specs.Puts.{putIf, Room, Within, Wanted, IsPassPut}
 use Rattle.writing.specs.Writings.{Writing, writePass}
 use Rattle.writing.specs.declared.PassPut.{PassPut}
 use Rattle.writing.specs.declared.Put.{Put}
@@ -27,7 +27,7 @@ use Rattle.writing.specs.declared.Put.the-variants.{At, Wrong}
 use Rattle.writing.proofs.PassLaws.{pass-within, pass-wrong, pass-short}
 use Rattle.output.proofs.PutLaws.{put-none, put-more}
 use Rattle.block.specs.Records.{startRecords, restartedMain, baseOf, isRestarted, setOf, putSet}
-use Rattle.block.specs.WrittenBlocks.{WriteState, repeats, enterWriting, writePassAt, beforeWriting, isStrict, writeLine, startWriting, writeLines}
+use Rattle.block.specs.WrittenBlocks.{WriteState, repeats, enterWriting, writePassAt, beforeWriting, isStrict, writeLine, startWriting, writeLines, SetWanted}
 use Rattle.block.specs.WrittenAnswers.{passesFrom, IsLinePut, LineWritten, SetWritten}
 use Rattle.block.specs.declared.Form.{Form}
 use Rattle.block.proofs.SampleLaws.{zeros-le, guarded-le, turned-le}
@@ -185,6 +185,10 @@ module _ (F : Form) (q : ℕ) (strict : Bool) (t : List ℕ) (n : ℕ) where
   unfolding writePassAt
   passAt-short h i r = pass-short (F .bits) q (widthOf (F .xtrans)) strict t n (planOf (F .xtrans) i) (enterWriting F (planOf (F .xtrans) i) r) h (width-le (F .xtrans))
 
+-- the samples of a pass that have a code
+pub pass-wanted : (F : Form) (t : List ℕ) (n i W : ℕ) (P : Plan) → W ≡ widthOf (F .xtrans) → P ≡ planOf (F .xtrans) i → SetWanted F t → Wanted (largest (F .bits)) W t n (passSteps W P)
+pass-wanted F t n i W P eW eP h = rw (eW, eP) (h n i)
+
 -- the passes of line n, from these lines and records on
 module _ (F : Form) (q : ℕ) (strict : Bool) (t : List ℕ) (n : ℕ) (lines₀ : List ℕ) (rs₀ : List Record) where
   pub passes-start : (from : BitPosition) (store : Bool) (out : List ℕ) → Sofar (passesFrom F q strict t n 0 lines₀ rs₀) (from .0) store out lines₀ rs₀ out from
@@ -324,15 +328,15 @@ module _ (F : Form) (bases t : List ℕ) where
   lines-done n count store out lines' rs' out' at e s = set-right-is (writeLines F bases t count) store out lines' rs' out' at (rw e at s)
 
   -- line n, by what was done before it
-  module _ (n m W q : ℕ) (b strict : Bool) (lt : n < m) (lines l₁ : List ℕ) (rs rs₁ : List Record) (store : Bool) (out out₁ : List ℕ) (at : BitPosition)
+  module _ (n m W q q₀ : ℕ) (b strict : Bool) (lt : n < m) (lines l₁ : List ℕ) (rs rs₁ : List Record) (store : Bool) (out out₁ : List ℕ) (at : BitPosition)
       (so-far : Sofar (writeLines F bases t n) 0 store out lines rs out₁ at) (same : length out₁ ≡ length out) (room : Room store out 0 ((writeLines F bases t m) .bits))
-      (eW : W ≡ widthOf (F .xtrans)) (eq : q ≡ baseOf bases n) (es : strict ≡ isStrict bases) (eb : b ≡ isRestarted bases n)
-      (el : l₁ ≡ turned W lines) (er : rs₁ ≡ cond b (restartedMain (F .bits) q rs) rs) where
+      (eW : W ≡ widthOf (F .xtrans)) (eq : q ≡ q₀) (eq₀ : q₀ ≡ baseOf bases n) (es : strict ≡ isStrict bases) (eb : b ≡ isRestarted bases n)
+      (el : l₁ ≡ turned W lines) (er : rs₁ ≡ cond b (restartedMain (F .bits) q₀ rs) rs) where
     line-next : writeLine F bases t n (writeLines F bases t n) ≡ afterBits ((writeLines F bases t n) .bits) (passesFrom F q strict t n 6 l₁ rs₁)
     unfolding writeLine passesFrom
     line-next =
         line-adds F bases t n (writeLines F bases t n)
-        ∙ rw (so-far .lines, so-far .records, so-far .right, ← eq, ← es, ← eb, ← er, ← eW, ← el) refl
+        ∙ rw (so-far .lines, so-far .records, so-far .right, ← eb, ← eq₀, eq, ← es, ← er, ← eW, ← el) refl
 
     pub line-room : Room store out₁ (at .0) ((passesFrom F q strict t n 6 l₁ rs₁) .bits)
     unfolding writeLines

@@ -78,7 +78,20 @@ fn write_line(
         lines::set_guards(lines, w, p.first);
         lines::set_guards(lines, w, p.second);
         let set = load_set(rs, p.set);
-        let done = writing::write_pass(samples, n, out, store, at, lines, set, w, p, qs, bits, strict);
+        let done = writing::write_pass(
+            samples,
+            n,
+            out,
+            store,
+            at,
+            lines,
+            set,
+            w,
+            p,
+            qs,
+            bits,
+            strict,
+        );
         let ok = done.ok;
         if !ok {
             return Put::Wrong(done.wrong);

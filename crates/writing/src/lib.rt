@@ -251,7 +251,15 @@ fn write_even(
         lines[i + 1] = c.value as u16;
         let choice = c.choice;
         let old = steps::record_at(sums, ns, c.slot);
-        at = put_code(out, store, at, old.k(), limits[choice], raws[choice], c.code);
+        at = put_code(
+            out,
+            store,
+            at,
+            old.k(),
+            limits[choice],
+            raws[choice],
+            c.code,
+        );
         steps::update_at(sums, ns, c.slot, old, c.code);
     } else {
         if is_wrong(strict, v, x.prediction) {
@@ -268,7 +276,15 @@ fn write_even(
         lines[i + 1] = c.value as u16;
         let choice = c.choice;
         let old = steps::record_at(sums, ns, c.slot);
-        at = put_code(out, store, at, old.k(), limits[choice], raws[choice], c.code);
+        at = put_code(
+            out,
+            store,
+            at,
+            old.k(),
+            limits[choice],
+            raws[choice],
+            c.code,
+        );
         steps::update_at(sums, ns, c.slot, old, c.code);
     } else {
         if is_wrong(strict, v, x.prediction) {
@@ -319,7 +335,15 @@ fn write_odd(
     lines[i + 1] = c.value as u16;
     let choice = c.choice;
     let old = steps::record_at(sums, ns, c.slot);
-    let at = put_code(out, store, from, old.k(), limits[choice], raws[choice], c.code);
+    let at = put_code(
+        out,
+        store,
+        from,
+        old.k(),
+        limits[choice],
+        raws[choice],
+        c.code,
+    );
     steps::update_at(sums, ns, c.slot, old, c.code);
     let i = steps::left_of(w, plan.second, q);
     let j = index_in(w, n, plan.second, q);
@@ -329,7 +353,15 @@ fn write_odd(
     lines[i + 1] = c.value as u16;
     let choice = c.choice;
     let old = steps::record_at(sums, ns, c.slot);
-    let after = put_code(out, store, at, old.k(), limits[choice], raws[choice], c.code);
+    let after = put_code(
+        out,
+        store,
+        at,
+        old.k(),
+        limits[choice],
+        raws[choice],
+        c.code,
+    );
     steps::update_at(sums, ns, c.slot, old, c.code);
     Put::At(after)
 }
