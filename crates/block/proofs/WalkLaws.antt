@@ -173,7 +173,7 @@ module _ (F : Form) (q : ℕ) (strict : Bool) (t : List ℕ) (n : ℕ) where
   pub passes-add : Adds (writePassAt F q strict t n)
   passes-add = record { stays = passAt-wrong; grows = λ i r. rw (passAt-adds F q strict t n i r, length-append) (omega arith) }
 
-  passAt-within : (i : ℕ) (r : WriteState) → Within (largest (F .bits)) (r .lines) → Within (largest (F .bits)) ((writePassAt F q strict t n i r) .lines)
+  pub passAt-within : (i : ℕ) (r : WriteState) → Within (largest (F .bits)) (r .lines) → Within (largest (F .bits)) ((writePassAt F q strict t n i r) .lines)
   unfolding writePassAt
   passAt-within i r h =
       let W : ℕ = widthOf (F .xtrans) in
