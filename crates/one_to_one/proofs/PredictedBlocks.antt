@@ -117,17 +117,15 @@ module _ (F : Form) (t : List ℕ) (range : (j : ℕ) → getD t j 0 ≤ largest
     passes-wrong : (k : ℕ) → k ≤ 6 → (repeats (writePassAt F 0 true t n) k r) .wrong ≡ none ↔ (r .wrong ≡ none) × ((i : ℕ) → i < k → PassRight n i)
     unfolding repeats
     passes-wrong zero h = (λ e. (e, λ i k. absurd (omega arith)), λ e. e .0)
-    passes-wrong (suc k) h = (
-      λ e. let w = passAt-right F 0 true t n k before-it e in let b = rest .0 w in let a = one w .0 e in
-          (b .0, λ i hi. split k i (λ u. let q : i ≡ k = omega arith in rw q (a .1)) (λ u. b .1 i u)),
-      λ e. let w = rest .1 (e .0, λ i hi. e .1 i (omega arith)) in one w .1 (w, e .1 k (omega arith)),
-    )
+    passes-wrong (suc k) h =
+        let rest = passes-wrong k (omega arith) in (
+          λ e. let w = passAt-right F 0 true t n k before-it e in let b = rest .0 w in let a = one w .0 e in
+              (b .0, λ i hi. split k i (λ u. let q : i ≡ k = omega arith in rw q (a .1)) (λ u. b .1 i u)),
+          λ e. let w = rest .1 (e .0, λ i hi. e .1 i (omega arith)) in one w .1 (w, e .1 k (omega arith)),
+        )
       where
         before-it : WriteState
         before-it = repeats (writePassAt F 0 true t n) k r
-
-        rest : (repeats (writePassAt F 0 true t n) k r) .wrong ≡ none ↔ (r .wrong ≡ none) × ((i : ℕ) → i < k → PassRight n i)
-        rest = passes-wrong k (omega arith)
 
         one : before-it .wrong ≡ none → (writePassAt F 0 true t n k before-it) .wrong ≡ none ↔ (before-it .wrong ≡ none) × PassRight n k
         one w = pass-wrong n k h before-it (passes-found k (omega arith) w)

@@ -69,7 +69,7 @@ module _ (d : List ℕ) (h : FujiHeader) (bytes : Bytes d) (e : parseOf d ≡ He
   short : length block < 2 ^ 32
   unfolding block writtenBlock
   short =
-      let l = lines-short F zeros (h .lines) (R .bits-high) in
+      let l = lines-short F [] zeros (h .lines) (R .bits-high) in
       omega (arith, length-bytesOf ((writeLines F [] zeros (h .lines)) .bits), l, R .lines-high)
 
   W : Bytes block × Tight F (h .lines) block
