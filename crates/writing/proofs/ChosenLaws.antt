@@ -1,7 +1,7 @@
 -- The code that is chosen for a wanted sample, and the sample that it gives: with base 0 by the lossless code, else by the nearest one. Assumes nothing.
 use mathlib.Core.Bool.{Bool}
 use mathlib.Core.List.{List}
-use mathlib.Core.Path.{_≡_, sym, _∙_}
+use mathlib.Core.Path.{_≡_, sym, ap, _∙_}
 use Prim.Native.Nat.{ℕ, suc, _^_, _≤_, _<_}
 use native.Mathlib.Omega.{arith}
 use lib.ListN.{getD}
@@ -17,8 +17,9 @@ use Rattle.code.proofs.NearLaws.{near-back, near-exact}
 use Rattle.steps.specs.Contexts.{usedBase, usedQuantiser, lookOf, slotOf}
 use Rattle.steps.specs.Values.{quantisersOf}
 use Rattle.steps.specs.declared.Look.{Look}
+use Rattle.steps.proofs.LookLaws.{look-lossless}
 use Rattle.steps.proofs.TableLaws.{total-at}
-use Rattle.writing.specs.Puts.{valueOfSample, CodedAs}
+use Rattle.writing.specs.Puts.{valueOfSample, CodingAsks, CodedAs}
 use Rattle.writing.specs.declared.Coding.{Coding}
 use Rattle.writing.proofs.LosslessLaws.{total-is}
 
@@ -79,3 +80,13 @@ module _ (bits q : ℕ) (x : Context) (h : Look) (eh : h ≡ lookOf q x) (four :
         value = rw (← eh, ← (d .0 .0)) (d .1 .0);
         value-le = d .1 .1;
       }
+
+-- a lossless line, with base 0
+pub coded-exact : (bits q : ℕ) (x : Context) (h : Look) (totals : List ℕ) (p v m slot code : ℕ) → q ≡ 0 → CodingAsks bits q totals x v → h ≡ lookOf 0 x → h .choice ≤ 3
+    → (slot ≡ slotOf p (h .place)) × (slot < 112) → m ≡ largest bits → code ≡ codeFor m (h .negative) (x .prediction) v
+    → CodedAs bits q p x v (record { slot = slot; choice = h .choice; code = code; value = v })
+coded-exact bits q x h totals p v m slot code e a eh four es em ec =
+    let is : h ≡ lookOf q x = rw e eh in
+    let none : h .base ≡ 0 = ap (λ (y : Look). y .base) (eh ∙ look-lossless x) in
+    coded-is bits q x h is four totals (a .quantisers) p v slot code v es
+    (chosen-exact bits (h .base) (getD totals (h .choice) 0) (h .negative) (x .prediction) v (a .depth .0) (look-total bits q x h is four totals (a .quantisers)) (a .prediction) (a .wanted) em none ec)

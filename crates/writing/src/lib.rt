@@ -185,7 +185,7 @@ struct Coding {
 }
 
 // This for a wanted sample v, at position p in the context x of a line with that base.
-fn coded_as(bits: u32, base: u32, totals: &[u32; 4], p: usize, x: Context, v: u32) -> Coding
+fn lossy_as(bits: u32, base: u32, totals: &[u32; 4], p: usize, x: Context, v: u32) -> Coding
     requires { ⌜ CodingAsks bits base (now totals) x v ⌝ }
     ensures { λ r. ⌜ CodedAs bits base p x v r ⌝ }
 {
@@ -198,6 +198,26 @@ fn coded_as(bits: u32, base: u32, totals: &[u32; 4], p: usize, x: Context, v: u3
         code: c.code,
         value: c.value,
     }
+}
+
+// The same. A lossless line, with base 0, comes first and is taken into the loop; the other way has two calls, so that LLVM keeps it out of there.
+fn coded_as(bits: u32, base: u32, totals: &[u32; 4], p: usize, x: Context, v: u32) -> Coding
+    requires { ⌜ CodingAsks bits base (now totals) x v ⌝ }
+    ensures { λ r. ⌜ CodedAs bits base p x v r ⌝ }
+{
+    if base == 0 {
+        let h = steps::look_of(0, x);
+        return Coding {
+            slot: steps::slot_of(p, h.place),
+            choice: h.choice,
+            code: code_for(quantiser::largest(bits), h.negative, x.prediction, v),
+            value: v,
+        };
+    }
+    if base == 1 {
+        return lossy_as(bits, base, totals, p, x, v);
+    }
+    lossy_as(bits, base, totals, p, x, v)
 }
 
 // Whether an interpolated sample is refused: it is not its prediction, where it must be.

@@ -1,23 +1,22 @@
--- `writing::coded_as` meets its contract. Assumes nothing.
+-- `writing::coded_as` meets its contract: a lossless line, and any other. Assumes nothing.
 use borrow.Author.Needs.{needs}
-use Rattle.writing.proofs.ChosenLaws.{look-total, coded-is}
+use Rattle.writing.proofs.ChosenLaws.{coded-exact}
 use Rattle.writing.proofs.coded_as.Statement.{statement}
 use Rattle.writing.proofs.coded_as.Tie as tie
 
-choose-code-requires : tie.Need-choose-code-requires
-choose-code-requires c κs =
-    let l = c .before in
-    let p = l .before .pre in
-    let h = l .look-of .ensures in
-    ((p .depth, (h .1 .1 .0, look-total _ _ _ (l .look-of .result) (h .0) (h .1 .0) _ (p .quantisers))), (p .prediction, p .wanted))
+code-for-requires : tie.Need-code-for-requires
+code-for-requires c κs =
+    let p = c .before .before .before .before .pre in
+    let m = c .largest .ensures in
+    (m .1, (rw (m .0) (p .prediction), rw (m .0) (p .wanted)))
 
 returns : tie.Need-returns
 returns c =
-    let d = c .before in
-    let l = d .before .before in
-    let p = l .before .pre in
-    let h = l .look-of .ensures in
-    coded-is _ _ _ (l .look-of .result) (h .0) (h .1 .0) _ (p .quantisers) _ _ _ _ _ (c .slot-of .ensures) (d .choose-code .ensures)
+    let m = c .before in
+    let l = m .before .before in
+    let s = l .before .before in
+    coded-exact _ _ _ (l .look-of .result) _ _ _ _ _ _ (l .before .if1 .taken) (s .pre) (l .look-of .ensures .0) (l .look-of .ensures .1 .0) (m .before .slot-of .ensures) (m .largest .ensures .0)
+    (c .code-for .ensures .0)
 
 pub coded-as-spec : {M : Type 1} → statement M
-coded-as-spec = tie.close (tie.spec (λ c κs. search needs) (λ c. search needs) (λ c. search needs) choose-code-requires (λ c κs. search needs) returns)
+coded-as-spec = tie.close (tie.spec (λ c κs. search needs) (λ c κs. search needs) (λ c κs. search needs) code-for-requires returns (λ c κs. search needs) (λ c. search needs) (λ c κs. search needs) (λ c. search needs))
