@@ -90,3 +90,10 @@ coded-exact bits q x h totals p v m slot code e a eh four es em ec =
     let none : h .base ≡ 0 = ap (λ (y : Look). y .base) (eh ∙ look-lossless x) in
     coded-is bits q x h is four totals (a .quantisers) p v slot code v es
     (chosen-exact bits (h .base) (getD totals (h .choice) 0) (h .negative) (x .prediction) v (a .depth .0) (look-total bits q x h is four totals (a .quantisers)) (a .prediction) (a .wanted) em none ec)
+
+-- a line with a known base
+pub asks-known : {bits q k : ℕ} {totals : List ℕ} {x : Context} {v : ℕ} → q ≡ k → CodingAsks bits q totals x v → CodingAsks bits k totals x v
+asks-known e a = rw e at a
+
+pub coded-known : {bits q k p : ℕ} {x : Context} {v : ℕ} {r : Coding} → q ≡ k → CodedAs bits k p x v r → CodedAs bits q p x v r
+coded-known e c = rw e c

@@ -200,7 +200,8 @@ fn lossy_as(bits: u32, base: u32, totals: &[u32; 4], p: usize, x: Context, v: u3
     }
 }
 
-// The same. A lossless line, with base 0, comes first and is taken into the loop; the other way has two calls, so that LLVM keeps it out of there.
+// The same. A lossless line, with base 0, comes first. The other way has two calls that differ: with one LLVM takes it in here, and then this is too
+// large to be taken into the loop.
 fn coded_as(bits: u32, base: u32, totals: &[u32; 4], p: usize, x: Context, v: u32) -> Coding
     requires { ⌜ CodingAsks bits base (now totals) x v ⌝ }
     ensures { λ r. ⌜ CodedAs bits base p x v r ⌝ }
@@ -215,7 +216,7 @@ fn coded_as(bits: u32, base: u32, totals: &[u32; 4], p: usize, x: Context, v: u3
         };
     }
     if base == 1 {
-        return lossy_as(bits, base, totals, p, x, v);
+        return lossy_as(bits, 1, totals, p, x, v);
     }
     lossy_as(bits, base, totals, p, x, v)
 }
