@@ -350,7 +350,8 @@ fn fault_words(f: Fault) -> [usize; 6]
 // it does not give 15; and the words of what the tight reading answers.
 #[no_mangle]
 pub extern "C" fn fuji_bad_code(d: &[u8], b: usize, spot: &mut [usize; 6], refusal: &mut [usize; 4])
-    ensures { λ _. ⌜ (now (spot .exit) ≡ faultWords (faultOf (now (d .entry)) b)) × (now (refusal .exit) ≡ answerWords (answerOf (now (d .entry)) b)) ⌝ }
+    ensures { λ _. ⌜ (now (spot .exit) ≡ faultWords (faultOf (now (d .entry)) b)) ×
+        (now (refusal .exit) ≡ answerWords (answerOf (now (d .entry)) b)) ⌝ }
 {
     let a = answer_of(d, b);
     let f = fault_of(d, b, a);

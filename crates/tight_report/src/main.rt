@@ -1,5 +1,5 @@
-// Reads a stream from standard input, at most its first 65,536 bytes, and writes why it is not tight: a heading and at most one record, or the number of a refusal. What is
-// written is `diagnosis::report`; a read that fails ends the input, and nothing is done about a write that fails.
+// Reads a stream from standard input, at most its first 65,536 bytes, and writes why it is not tight: a heading and at most one record, or the number of a
+// refusal. What is written is `diagnosis::report`; a read that fails ends the input, and nothing is done about a write that fails.
 use libc::STDIN_FILENO;
 use libc::STDOUT_FILENO;
 
