@@ -17,18 +17,18 @@ use Rattle.steps.specs.declared.Look.{Look}
 
 -- The colour lines stand one after the other, each of W samples with a guard at either end: place 0 of a line is its left guard, place p + 1 its
 -- position p, and place W + 1 its right guard.
-abbrev pub placeIn : ℕ → List ℕ → ℕ → ℕ → ℕ
-placeIn W lines l d = getD lines (l * (W + 2) + d) 0
+abbrev pub entryIn : ℕ → List ℕ → ℕ → ℕ → ℕ
+entryIn W lines l d = getD lines (l * (W + 2) + d) 0
 
 -- position p of line l, and what is left and right of it: the next position, or at the line's end the guard
 abbrev pub sampleIn : ℕ → List ℕ → ℕ → ℕ → ℕ
-sampleIn W lines l p = placeIn W lines l (p + 1)
+sampleIn W lines l p = entryIn W lines l (p + 1)
 
 abbrev pub leftIn : ℕ → List ℕ → ℕ → ℕ → ℕ
-leftIn W lines l p = placeIn W lines l p
+leftIn W lines l p = entryIn W lines l p
 
 abbrev pub rightIn : ℕ → List ℕ → ℕ → ℕ → ℕ
-rightIn W lines l p = placeIn W lines l (p + 2)
+rightIn W lines l p = entryIn W lines l (p + 2)
 
 -- rf two lines up; rc, rb and rd one line up; ra and rg beside it in its own line
 unfoldable pub evenIn : ℕ → List ℕ → ℕ → ℕ → Context
