@@ -95,7 +95,7 @@ module _ (s : List ℕ) (at : BitPosition) {t : Stage} {line p : ℕ} {coded : B
   main = rw (here .look) (choice-main x)
 
   look-is : stepLook 0 (t .w) step lines ≡ h
-  look-is = rw (here .look, here .context, here .place)
+  look-is = rw (here .look, here .context)
 
   code-is : stepCode (t .bits) 0 (t .w) s step reading ≡ got
   code-is = rw (look-is, main, ← here .slot, ← here .record-is, eg, ek, here .quantiser)
