@@ -9,7 +9,7 @@ use native.Mathlib.Omega.{arith}
 use lib.ListN.{length, getD, length-replicate}
 use Rattle.numbers.proofs.OrderLaws.{split}
 use Rattle.steps.specs.Steps.{planOf, passSteps}
-use Rattle.steps.specs.Contexts.{contextAt}
+use Rattle.steps.specs.Contexts.{contextIn}
 use Rattle.steps.specs.declared.Plan.{Plan}
 use Rattle.lines.specs.ColourLines.{zeroLines, guarded, turned}
 use Rattle.lines.proofs.LineLaws.{length-turned}
@@ -67,7 +67,7 @@ module _ (F : Form) (t : List ℕ) (range : (j : ℕ) → getD t j 0 ≤ largest
 
     -- a sample of one of its lines is its prediction, by the lines before the pass
     abbrev Seen : ℕ → ℕ → Type 0
-    Seen l p = isInterpolated (F .xtrans) l p ≡ true → getD t (indexIn W n l p) 0 ≡ (contextAt lines (W + 2) (l * (W + 2) + p) p) .prediction
+    Seen l p = isInterpolated (F .xtrans) l p ≡ true → getD t (indexIn W n l p) 0 ≡ (contextIn W lines l p) .prediction
 
     pass-seen : AllRight W (P .first) (P .second) (F .bits) t n lines (passSteps W P) ↔ PassRight n i
     pass-seen = (
@@ -80,7 +80,7 @@ module _ (F : Form) (t : List ℕ) (range : (j : ℕ) → getD t j 0 ≤ largest
         L : LineOf i (P .first) × LineOf i (P .second)
         L = lines-of (F .xtrans) i hi
 
-        is : (l p : ℕ) → p < W → LineOf i l → isInterpolated (F .xtrans) l p ≡ true → (contextAt lines (W + 2) (l * (W + 2) + p) p) .prediction ≡ predictionIn W t n l p
+        is : (l p : ℕ) → p < W → LineOf i l → isInterpolated (F .xtrans) l p ≡ true → (contextIn W lines l p) .prediction ≡ predictionIn W t n l p
         is l p h M e = prediction-is (F .xtrans) W even positive t n i hi (r .lines) found l p M h (interpolated-even (F .xtrans) l p e)
 
         to : (l p : ℕ) → p < W → LineOf i l → Seen l p → Right n l p

@@ -12,7 +12,7 @@ use lib.ListN.{length, getD}
 use borrow.Author.Tests.{eq-eqb, ne-eqb}
 use Rattle.numbers.proofs.OrderLaws.{split}
 use Rattle.steps.specs.Steps.{planOf, passSteps}
-use Rattle.steps.specs.Contexts.{contextAt}
+use Rattle.steps.specs.Contexts.{contextIn}
 use Rattle.steps.specs.declared.Plan.{Plan}
 use Rattle.lines.specs.ColourLines.{guarded}
 use Rattle.lines.proofs.LineLaws.{length-guarded}
@@ -52,10 +52,10 @@ module _ (xtrans : Bool) (W : ℕ) (even : W % 2 ≡ 0) (positive : 0 < W) (t : 
       let ne = not-ready xtrans W even i hi m k in
       guard-leaves W B m d (guarded W A lines) h (ne .1) ∙ guard-leaves W A m d lines h (ne .0)
 
-  pub prediction-is : (l p : ℕ) → LineOf i l → p < W → p % 2 ≡ 0 → (contextAt entered (W + 2) (l * (W + 2) + p) p) .prediction ≡ predictionIn W t n l p
+  pub prediction-is : (l p : ℕ) → LineOf i l → p < W → p % 2 ≡ 0 → (contextIn W entered l p) .prediction ≡ predictionIn W t n l p
   unfolding predictionIn
   prediction-is l p L h e =
-      even-sees W l p entered (L .low) e
+      even-sees W l p entered e
       ∙ rw (
         other (l - 2) (p + 1) (L .two-up) (omega arith) ∙ found .samples (l - 2) p (omega (arith, L .high)) (L .two-up) h,
         left,

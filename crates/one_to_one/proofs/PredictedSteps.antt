@@ -5,13 +5,12 @@ use mathlib.Core.Logic.{_≢_, _↔_}
 use mathlib.Core.Option.{Option, none, some}
 use mathlib.Core.Path.{_≡_, refl, sym, ap, _∙_}
 use Prim.Native.Nat.{ℕ, _+_, _-_, _*_, _%_, _≤_, _<_}
-use native.Mathlib.Nat.{add-mul}
 use native.Mathlib.Omega.{arith}
 use lib.ListN.{length, getD, set, length-set}
 use lib.Seq.{getD-set-other, getD-set-same}
 use borrow.Author.Tests.{eq-eqb, eqb-true}
 use Rattle.steps.specs.Steps.{Step}
-use Rattle.steps.specs.Contexts.{usedQuantiser, lookOf, evenAt, contextAt, stepPlace, stepContext}
+use Rattle.steps.specs.Contexts.{usedQuantiser, lookOf, evenIn, contextIn, stepPlace, stepContext}
 use Rattle.steps.proofs.ContextLaws.{context-le}
 use Rattle.steps.proofs.LookLaws.{look-lossless}
 use Rattle.quantiser.specs.Quantisers.{largest, quantiserOf, gradientOf}
@@ -70,7 +69,7 @@ module _ (bits W : ℕ) (t : List ℕ) (n : ℕ) (x : Step) (r : Writing) where
       go true e =
           rw (write-coded bits 0 W true t n x r e)
           (ap (λ (v : ℕ). set (r .lines) (cell W x) v)
-          (given-exact bits (wanted W t n x) (stepContext W x (r .lines)) (context-le (largest bits) (r .lines) (W + 2) (stepPlace W x) (x .position) h) small))
+          (given-exact bits (wanted W t n x) (stepContext W x (r .lines)) (context-le (largest bits) W (r .lines) (x .line) (x .position) h) small))
       go false e = rw (write-interpolated bits 0 W true t n x r e) (ap (λ (v : ℕ). set (r .lines) (cell W x) v) (sym (right e)))
 
   pub step-wrong : (writeStep bits 0 W true t n x r) .wrong ≡ none ↔ (r .wrong ≡ none) × Right (r .lines)
@@ -133,21 +132,12 @@ module _ (bits W : ℕ) (t : List ℕ) (n : ℕ) where
 abbrev pub place : ℕ → ℕ → ℕ → ℕ
 place W l d = l * (W + 2) + d
 
-pub even-sees : (W l p : ℕ) (lines : List ℕ) → 2 ≤ l → p % 2 ≡ 0
-    → (contextAt lines (W + 2) (l * (W + 2) + p) p) .prediction
-    ≡ evenPrediction (getD lines (place W (l - 2) (p + 1)) 0) (getD lines (place W (l - 1) p) 0) (getD lines (place W (l - 1) (p + 1)) 0) (getD lines (place W (l - 1) (p + 2)) 0)
-unfolding contextAt evenAt evenContext
-even-sees W l p lines low even =
-    let a : l * (W + 2) ≡ (l - 2) * (W + 2) + 2 * (W + 2) = ap (λ (m : ℕ). m * (W + 2)) (split-off 2 low) ∙ add-mul (l - 2) 2 (W + 2) in
-    let b : l * (W + 2) ≡ (l - 1) * (W + 2) + 1 * (W + 2) = ap (λ (m : ℕ). m * (W + 2)) (split-off 1 (omega arith)) ∙ add-mul (l - 1) 1 (W + 2) in
-    let e1 : l * (W + 2) + p + 1 - 2 * (W + 2) ≡ place W (l - 2) (p + 1) = omega arith in
-    let e2 : l * (W + 2) + p - (W + 2) ≡ place W (l - 1) p = omega arith in
-    let e3 : l * (W + 2) + p + 1 - (W + 2) ≡ place W (l - 1) (p + 1) = omega arith in
-    let e4 : l * (W + 2) + p + 2 - (W + 2) ≡ place W (l - 1) (p + 2) = omega arith in
-    rw (eq-eqb (p % 2) 0 even, e1, e2, e3, e4)
-  where
-    split-off : (k : ℕ) → k ≤ l → l ≡ (l - k) + k
-    split-off k h = omega arith
+pub even-sees : (W l p : ℕ) (lines : List ℕ) → p % 2 ≡ 0
+    → (contextIn W lines l p) .prediction
+    ≡ evenPrediction (getD lines (place W (l - 2) (p + 1)) 0) (getD lines (place W (l - 1) p) 0) (getD lines (place W (l - 1) (p + 1)) 0)
+      (getD lines (place W (l - 1) (p + 2)) 0)
+unfolding contextIn evenIn evenContext
+even-sees W l p lines even = rw (eq-eqb (p % 2) 0 even)
 
 -- ---- the steps of a pass whose two lines are A and B
 
@@ -167,13 +157,13 @@ module _ (W A B : ℕ) where
   same-prediction before lines x p c g =
       let a = p .above c in
       let in2 : x .position + 2 < W + 2 = omega (arith, p .inside) in
-      even-sees W (x .line) (x .position) lines (a .0) (a .5)
+      even-sees W (x .line) (x .position) lines (a .5)
       ∙ rw (
         g (x .line - 2) (x .position + 1) (a .3) (a .4) (omega arith),
         g (x .line - 1) (x .position) (a .1) (a .2) (omega arith),
         g (x .line - 1) (x .position + 1) (a .1) (a .2) (omega arith),
         g (x .line - 1) (x .position + 2) (a .1) (a .2) in2,
-      ) (sym (even-sees W (x .line) (x .position) before (a .0) (a .5)))
+      ) (sym (even-sees W (x .line) (x .position) before (a .5)))
 
   module _ (bits : ℕ) (t : List ℕ) (n : ℕ) (before : List ℕ) where
     abbrev pub AllRight : List Step → Type 0

@@ -33,7 +33,7 @@ module _ (F : Form) (t : List ℕ) (none-above : (j : ℕ) → getD t j 0 ≤ 0)
   step-inv n x r h = go (x .coded) refl
     where
       low : (stepContext W x (r .lines)) .prediction ≤ 0
-      low = context-le 0 (r .lines) (W + 2) (stepPlace W x) (x .position) (h .0)
+      low = context-le 0 W (r .lines) (x .line) (x .position) (h .0)
 
       put : (v : ℕ) → v ≤ 0 → AllLe 0 (set (r .lines) (stepPlace W x + 1) v)
       put v z = stored-le 0 (r .lines) (stepPlace W x + 1) v z (h .0)

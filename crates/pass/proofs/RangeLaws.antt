@@ -94,7 +94,7 @@ module _ (bits q W : ℕ) (s : List ℕ) (depth : bits ≤ 16) where
           })
       go false g eg f =
           same bits r _ z f (record {
-            samples = λ k. stored-le (largest bits) (r .lines) (i + 1) _ (context-le (largest bits) (r .lines) (W + 2) i (x .position) k) k;
+            samples = λ k. stored-le (largest bits) (r .lines) (i + 1) _ (context-le (largest bits) W (r .lines) (x .line) (x .position) k) k;
             lines = length-set (r .lines) (i + 1) _;
             records = refl;
             ranges = λ k. k;

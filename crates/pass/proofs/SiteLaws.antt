@@ -21,10 +21,11 @@ use Rattle.code.specs.declared.Place.{Place}
 use Rattle.code.specs.declared.Taken.{Taken}
 use Rattle.code.specs.declared.Taken.the-variants as Take
 use Rattle.steps.specs.Steps.{Step, stepAt}
-use Rattle.steps.specs.Contexts.{contextAt, usedQuantiser, lookOf, slotOf, noRecord}
-use Rattle.steps.specs.Values.{zipRecords, SetInRange, AreKs, recordsOf, AreQuantisers}
+use Rattle.steps.specs.Contexts.{contextIn, usedQuantiser, lookOf, slotOf, noRecord}
+use Rattle.steps.specs.Values.{contextAt, zipRecords, SetInRange, AreKs, recordsOf, AreQuantisers}
 use Rattle.steps.specs.declared.Look.{Look}
 use Rattle.steps.specs.declared.Set.{Set}
+use Rattle.steps.proofs.ContextLaws.{context-is}
 use Rattle.steps.proofs.TableLaws.{total-is, raw-is, limit-is, total-small, reader-small}
 use Rattle.pass.specs.Readings.{Reading, taken, readStep, reads}
 use Rattle.pass.specs.Pairs.{readingAt, held, begun, placeOf, IsPair, IsPassed}
@@ -37,7 +38,12 @@ use Rattle.pass.proofs.StepLaws.{StepGives, StepsGive}
 
 pub record Placed (W line p : ℕ) (lines : List ℕ) (i : ℕ) (x : Context) : Type 0 where
   pub place : i ≡ line * (W + 2) + p
-  pub context : x ≡ contextAt lines (W + 2) i p
+  pub context : x ≡ contextIn W lines line p
+
+-- as the program finds it
+pub placed-at : {W line p i : ℕ} {lines : List ℕ} {x : Context} → 2 ≤ line → i ≡ line * (W + 2) + p → x ≡ contextAt lines (W + 2) i p
+    → Placed W line p lines i x
+placed-at {W} {line} {p} {i} {lines} low place context = record { place = place; context = context-is W line p lines low place context }
 
 -- an interpolated sample is its prediction
 pub site-interpolated : {bits q W line p i : ℕ} {s lines : List ℕ} {x : Context} {coded : Bool} {records : List Record} {from : Place}

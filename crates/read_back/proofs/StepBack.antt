@@ -92,7 +92,7 @@ module _ (bits W : ℕ) (s t : List ℕ) (n : ℕ) (Q : Lossless bits) (x : Step
   sample value = sampleOf M 0 (suc M) (h .negative) (c .prediction) value
 
   one : OneToOne M (h .negative) (c .prediction)
-  one = one-to-one bits (Q .low) (h .negative) (c .prediction) (context-le M (r .lines) (W + 2) i (x .position) (ok .small))
+  one = one-to-one bits (Q .low) (h .negative) (c .prediction) (context-le M W (r .lines) (x .line) (x .position) (ok .small))
 
   -- a sample that is put into its place is there
   put-there : (a : ℕ) → getD (set (r .lines) (i + 1) a) (i + 1) 0 ≡ a
@@ -113,7 +113,7 @@ module _ (bits W : ℕ) (s t : List ℕ) (n : ℕ) (Q : Lossless bits) (x : Step
 
   -- the nearest sample is the wanted one itself
   exact : v ≤ M → codeNear 0 ((usedQuantiser bits 0 0) .total) (h .negative) (c .prediction) v ≡ code
-  exact small = rw (Q .total) (near-exact bits (Q .low) (h .negative) (c .prediction) v (context-le M (r .lines) (W + 2) i (x .position) (ok .small)) small)
+  exact small = rw (Q .total) (near-exact bits (Q .low) (h .negative) (c .prediction) v (context-le M W (r .lines) (x .line) (x .position) (ok .small)) small)
 
   -- the code that was read is the one that is written, with its bits
   same-code : (d : Code) → x .coded ≡ true → v ≤ M → d .value ≡ code → take (d .after .0) (bitsOf s) ≡ take p (bitsOf s) ++ codeBits k limit raw code

@@ -15,18 +15,41 @@ use Rattle.steps.specs.declared.Look.{Look}
 
 -- ---- the context of a sample
 
--- The colour lines stand one after the other, each of W samples with a guard at either end: position p of line l is at l·(W + 2) + p + 1.
--- Here i is one place before that, where its left neighbour stands, and S is W + 2.
-unfoldable pub evenAt : List ℕ → ℕ → ℕ → Context
-evenAt lines S i =
-    evenContext (getD lines (i + 1 - 2 * S) 0) (getD lines (i - S) 0) (getD lines (i + 1 - S) 0) (getD lines (i + 2 - S) 0)
+-- The colour lines stand one after the other, each of W samples with a guard at either end: place 0 of a line is its left guard, place p + 1 its
+-- position p, and place W + 1 its right guard.
+abbrev pub entryIn : ℕ → List ℕ → ℕ → ℕ → ℕ
+entryIn W lines l d = getD lines (l * (W + 2) + d) 0
 
-unfoldable pub oddAt : List ℕ → ℕ → ℕ → Context
-oddAt lines S i =
-    oddContext (getD lines i 0) (getD lines (i + 2) 0) (getD lines (i + 1 - S) 0) (getD lines (i - S) 0) (getD lines (i + 2 - S) 0)
+-- position p of line l, and what is left and right of it: the next position, or at the line's end the guard
+abbrev pub sampleIn : ℕ → List ℕ → ℕ → ℕ → ℕ
+sampleIn W lines l p = entryIn W lines l (p + 1)
 
-unfoldable pub contextAt : List ℕ → ℕ → ℕ → ℕ → Context
-contextAt lines S i p = cond (eqb (p % 2) 0) (evenAt lines S i) (oddAt lines S i)
+abbrev pub leftIn : ℕ → List ℕ → ℕ → ℕ → ℕ
+leftIn W lines l p = entryIn W lines l p
+
+abbrev pub rightIn : ℕ → List ℕ → ℕ → ℕ → ℕ
+rightIn W lines l p = entryIn W lines l (p + 2)
+
+-- rf two lines up; rc, rb and rd one line up; ra and rg beside it in its own line
+unfoldable pub evenIn : ℕ → List ℕ → ℕ → ℕ → Context
+evenIn W lines l p =
+    let rf = sampleIn W lines (l - 2) p in
+    let rc = leftIn W lines (l - 1) p in
+    let rb = sampleIn W lines (l - 1) p in
+    let rd = rightIn W lines (l - 1) p in
+    evenContext rf rc rb rd
+
+unfoldable pub oddIn : ℕ → List ℕ → ℕ → ℕ → Context
+oddIn W lines l p =
+    let ra = leftIn W lines l p in
+    let rg = rightIn W lines l p in
+    let rb = sampleIn W lines (l - 1) p in
+    let rc = leftIn W lines (l - 1) p in
+    let rd = rightIn W lines (l - 1) p in
+    oddContext ra rg rb rc rd
+
+unfoldable pub contextIn : ℕ → List ℕ → ℕ → ℕ → Context
+contextIn W lines l p = cond (eqb (p % 2) 0) (evenIn W lines l p) (oddIn W lines l p)
 
 -- ---- the quantiser and the record of a sample
 
@@ -66,7 +89,7 @@ abbrev pub stepPlace : ℕ → Step → ℕ
 stepPlace W x = x .line * (W + 2) + x .position
 
 abbrev pub stepContext : ℕ → Step → List ℕ → Context
-stepContext W x lines = contextAt lines (W + 2) (stepPlace W x) (x .position)
+stepContext W x lines = contextIn W lines (x .line) (x .position)
 
 abbrev pub stepLook : ℕ → ℕ → Step → List ℕ → Look
 stepLook q W x lines = lookOf q (stepContext W x lines)

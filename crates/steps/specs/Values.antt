@@ -1,10 +1,14 @@
 -- What the program's values stand for, and the ranges that its functions ask for. Assumes nothing.
+use mathlib.Core.Bool.{cond}
 use mathlib.Core.List.{List, [], _∷_}
 use mathlib.Core.Path.{_≡_}
-use Prim.Native.Nat.{ℕ, _≤_, _<_}
+use Prim.Native.Nat.{ℕ, _+_, _-_, _*_, _%_, _≤_, _<_}
+use lib.Dec.{eqb}
 use lib.ListN.{length, getD}
 use Rattle.statistics.specs.Statistics.{kOf, InRange}
 use Rattle.statistics.specs.declared.Record.{Record}
+use Rattle.prediction.specs.Predictions.{evenContext, oddContext}
+use Rattle.prediction.specs.declared.Context.{Context}
 use Rattle.steps.specs.Contexts.{usedQuantiser, noRecord}
 use Rattle.steps.specs.declared.Plan.{Plan}
 use Rattle.steps.specs.declared.Set.{Set}
@@ -58,3 +62,15 @@ pub record PlanInRange (P : Plan) : Type 0 where
   pub first-high : P .first ≤ 17
   pub second-low : 2 ≤ P .second
   pub second-high : P .second ≤ 17
+
+-- the context of the sample after place i, at position p, as the program finds it: in lines that are S apart
+unfoldable pub evenAt : List ℕ → ℕ → ℕ → Context
+evenAt lines S i =
+    evenContext (getD lines (i + 1 - 2 * S) 0) (getD lines (i - S) 0) (getD lines (i + 1 - S) 0) (getD lines (i + 2 - S) 0)
+
+unfoldable pub oddAt : List ℕ → ℕ → ℕ → Context
+oddAt lines S i =
+    oddContext (getD lines i 0) (getD lines (i + 2) 0) (getD lines (i + 1 - S) 0) (getD lines (i - S) 0) (getD lines (i + 2 - S) 0)
+
+unfoldable pub contextAt : List ℕ → ℕ → ℕ → ℕ → Context
+contextAt lines S i p = cond (eqb (p % 2) 0) (evenAt lines S i) (oddAt lines S i)

@@ -18,7 +18,7 @@ use Rattle.code.specs.declared.Code.{Code}
 use Rattle.code.specs.declared.Coded.{Coded}
 use Rattle.code.specs.declared.Coded.the-variants.{Read, Truncated}
 use Rattle.steps.specs.Steps.{Step, stepAt}
-use Rattle.steps.specs.Contexts.{contextAt, lookOf, slotOf, noRecord, stepLook}
+use Rattle.steps.specs.Contexts.{contextIn, lookOf, slotOf, noRecord, stepLook}
 use Rattle.steps.specs.Values.{zipRecords}
 use Rattle.steps.specs.declared.Look.{Look}
 use Rattle.steps.proofs.TableLaws.{numbers-le}
@@ -60,7 +60,7 @@ choice-main x = refl
 -- the sample at position p of a line goes after place i, in lines of w samples; it is coded as h says, by the record at j of its set
 pub record Here (t : Stage) (line p : ℕ) (lines sums ns : List ℕ) (i : ℕ) (x : Context) (h : Look) (j : ℕ) (old : Record) : Type 0 where
   pub place : i ≡ line * (t .w + 2) + p
-  pub context : x ≡ contextAt lines (t .w + 2) i p
+  pub context : x ≡ contextIn (t .w) lines line p
   pub look : h ≡ lookOf 0 x
   pub slot : j ≡ slotOf p (h .place)
   pub record-is : old ≡ getD (zipRecords sums ns) j noRecord
@@ -68,7 +68,7 @@ pub record Here (t : Stage) (line p : ℕ) (lines sums ns : List ℕ) (i : ℕ) 
 
 -- an interpolated sample is its prediction
 pub interpolated : (t : Stage) (s : List ℕ) (line p : ℕ) (coded : Bool) (lines sums ns : List ℕ) (i : ℕ) (x : Context) (at : BitPosition)
-    → i ≡ line * (t .w + 2) + p → x ≡ contextAt lines (t .w + 2) i p → coded ≡ false
+    → i ≡ line * (t .w + 2) + p → x ≡ contextIn (t .w) lines line p → coded ≡ false
     → stepWay t s (stepAt line p coded) (clean lines sums ns at) ≡ on (clean (set lines (i + 1) (x .prediction)) sums ns at)
 unfolding stepWay stepReason
 interpolated t s line p coded lines sums ns i x at ei ex ec =
@@ -95,7 +95,7 @@ module _ (s : List ℕ) (at : BitPosition) {t : Stage} {line p : ℕ} {coded : B
   main = rw (here .look) (choice-main x)
 
   look-is : stepLook 0 (t .w) step lines ≡ h
-  look-is = rw (here .look, here .context, here .place)
+  look-is = rw (here .look, here .context)
 
   code-is : stepCode (t .bits) 0 (t .w) s step reading ≡ got
   code-is = rw (look-is, main, ← here .slot, ← here .record-is, eg, ek, here .quantiser)

@@ -20,11 +20,11 @@ use Rattle.code.proofs.TightLaws.{length-codeBits, short-length, long-length}
 use Rattle.numbers.proofs.OrderLaws.{split}
 use Rattle.prediction.specs.declared.Context.{Context}
 use Rattle.steps.specs.Steps.{Step, stepAt, evenSteps, oddSteps, evenPart, oddPart}
-use Rattle.steps.specs.Contexts.{contextAt, lookOf, slotOf, noRecord, usedBase, usedWeight, stepPlace, stepContext}
-use Rattle.steps.specs.Values.{zipRecords}
+use Rattle.steps.specs.Contexts.{contextIn, lookOf, slotOf, noRecord, usedBase, usedWeight, stepPlace, stepContext}
+use Rattle.steps.specs.Values.{contextAt, zipRecords}
 use Rattle.steps.specs.declared.Look.{Look}
 use Rattle.steps.specs.declared.Plan.{Plan}
-use Rattle.steps.proofs.ContextLaws.{context-le, stored-le}
+use Rattle.steps.proofs.ContextLaws.{context-le, context-is, stored-le}
 use Rattle.steps.proofs.TableLaws.{numbers-le}
 use Rattle.writing.specs.Sets.{indexIn}
 use Rattle.writing.specs.Writings.{Writing, orSecond, writeStep, writes}
@@ -70,12 +70,18 @@ at-is at n e = ap (λ (m : ℕ). At (record { 0 = m })) e
 pub record Sample (W : ℕ) (t : List ℕ) (n line p : ℕ) (lines : List ℕ) (i j : ℕ) (x : Context) : Type 0 where
   pub place : i ≡ line * (W + 2) + p
   pub index : j ≡ indexIn W n line p
-  pub context : x ≡ contextAt lines (W + 2) i p
+  pub context : x ≡ contextIn W lines line p
+
+-- as the program finds it
+pub sample-at : {W n line p i j : ℕ} {t lines : List ℕ} {x : Context} → 2 ≤ line → i ≡ line * (W + 2) + p → j ≡ indexIn W n line p
+    → x ≡ contextAt lines (W + 2) i p → Sample W t n line p lines i j x
+sample-at {W} {n} {line} {p} {i} {j} {t} {lines} low place index context =
+    record { place = place; index = index; context = context-is W line p lines low place context }
 
 module _ {W : ℕ} {t : List ℕ} {n line p : ℕ} {lines : List ℕ} {i j : ℕ} {x : Context} (s : Sample W t n line p lines i j x)
   where
     pub prediction-le : (m : ℕ) → Within m lines → x .prediction ≤ m
-    prediction-le m h = rw (s .context) (context-le m lines (W + 2) i p h)
+    prediction-le m h = rw (s .context) (context-le m W lines line p h)
 
 module _ {W : ℕ} {t : List ℕ} {n line p : ℕ} {lines : List ℕ} {i j : ℕ} {x : Context} (s : Sample W t n line p lines i j x)
     (bits q : ℕ) (strict store coded : Bool) (from : ℕ) (sums ns out : List ℕ) where
@@ -131,7 +137,7 @@ module _ (bits q W : ℕ) (strict : Bool) (t : List ℕ) (n : ℕ) where
       go true e = rw (write-coded bits q W strict t n x r e) (stored-le (largest bits) (r .lines) (stepPlace W x + 1) _ (sample-le (largest bits) _ _ _ _ _) h)
       go false e =
           rw (write-interpolated bits q W strict t n x r e)
-          (stored-le (largest bits) (r .lines) (stepPlace W x + 1) _ (context-le (largest bits) (r .lines) (W + 2) (stepPlace W x) (x .position) h) h)
+          (stored-le (largest bits) (r .lines) (stepPlace W x + 1) _ (context-le (largest bits) W (r .lines) (x .line) (x .position) h) h)
 
   pub writes-within : (l : List Step) (r : Writing) → Within (largest bits) (r .lines) → Within (largest bits) ((writes bits q W strict t n l r) .lines)
   unfolding writes

@@ -15,7 +15,7 @@ use Rattle.pass.specs.Readings.{Reading}
 use Rattle.pass.specs.Pairs.{held}
 use Rattle.pass.proofs.RangeLaws.{step-keeps}
 use Rattle.pass.proofs.StepLaws.{StepGives, two-steps, first-none}
-use Rattle.pass.proofs.SiteLaws.{Placed, site-interpolated, Site, site-reader, site-total, site-cut-off, site-read, met, step-met, ranges-met, ks-met, length-met, pair-cut-off, pair-at}
+use Rattle.pass.proofs.SiteLaws.{Placed, placed-at, site-interpolated, Site, site-reader, site-total, site-cut-off, site-read, met, step-met, ranges-met, ks-met, length-met, pair-cut-off, pair-at}
 use Rattle.pass.proofs.even_pair.Statement.{statement}
 use Rattle.pass.proofs.even_pair.Tie as tie
 
@@ -29,7 +29,7 @@ entry c = begin c .before .before .before
 
 placed : (c : tie.After-has-code) → let a = entry c .args in
     Placed (a .spot .w) (a .spot .plan .first) (a .spot .p) (a .lines .now) (c .before .before .before .left-of .result) (c .before .context-at .result)
-placed c = record { place = c .before .before .before .left-of .ensures .0; context = c .before .context-at .ensures .0 }
+placed c = placed-at (entry c .pre .plan .first-low) (c .before .before .before .left-of .ensures .0) (c .before .context-at .ensures .0)
 
 -- it goes inside of the lines
 room : (c : tie.After-has-code) → (c .before .before .before .left-of .result + 1 < length (entry c .args .lines .now)) × (c .before .before .before .left-of .result + 1 < 2 ^ 14)
@@ -167,7 +167,8 @@ joined c = c .before .before .before .before
 
 placed-2 : (c : tie.After-has-code2) → let a = entry (joined c .before) .args in
     Placed (a .spot .w) (a .spot .plan .second) (a .spot .p) (joined c .if1 .lines) (c .before .before .before .left-of2 .result) (c .before .context-at2 .result)
-placed-2 c = record { place = c .before .before .before .left-of2 .ensures .0; context = c .before .context-at2 .ensures .0 }
+placed-2 c =
+    placed-at (entry (joined c .before) .pre .plan .second-low) (c .before .before .before .left-of2 .ensures .0) (c .before .context-at2 .ensures .0)
 
 room-2 : (c : tie.After-has-code2) → (c .before .before .before .left-of2 .result + 1 < length (joined c .if1 .lines)) × (c .before .before .before .left-of2 .result + 1 < 2 ^ 14)
 room-2 c =

@@ -16,7 +16,7 @@ use Rattle.pass.specs.Readings.{Reading}
 use Rattle.pass.specs.Pairs.{held}
 use Rattle.pass.proofs.RangeLaws.{step-keeps}
 use Rattle.pass.proofs.StepLaws.{StepGives, two-steps, first-none}
-use Rattle.pass.proofs.SiteLaws.{Site, site-reader, site-total, site-cut-off, site-read, pair-cut-off, pair-at}
+use Rattle.pass.proofs.SiteLaws.{placed-at, Site, site-reader, site-total, site-cut-off, site-read, pair-cut-off, pair-at}
 use Rattle.pass.proofs.odd_pair.Statement.{statement}
 use Rattle.pass.proofs.odd_pair.Tie as tie
 
@@ -41,7 +41,7 @@ first c =
     let h = looked c in
     let p = entry h .pre in
     record {
-      placed = record { place = there h .left-of .ensures .0; context = h .before .context-at .ensures .0 };
+      placed = placed-at (p .plan .first-low) (there h .left-of .ensures .0) (h .before .context-at .ensures .0);
       look = h .look-of .ensures .0;
       four = h .look-of .ensures .1 .0;
       slot = c .before .before .before .slot-of .ensures .0;
@@ -171,7 +171,7 @@ second c =
     let h = looked-2 c in
     let p = entry (begun h) .pre in
     record {
-      placed = record { place = there-2 h .left-of2 .ensures .0; context = h .before .context-at2 .ensures .0 };
+      placed = placed-at (p .plan .second-low) (there-2 h .left-of2 .ensures .0) (h .before .context-at2 .ensures .0);
       look = h .look-of2 .ensures .0;
       four = h .look-of2 .ensures .1 .0;
       slot = c .before .before .before .slot-of2 .ensures .0;

@@ -5,7 +5,7 @@ use mathlib.Core.List.{List}
 use mathlib.Core.Path.{_≡_, _∙_}
 use mathlib.Core.Logic.{_≢_}
 use Prim.Native.Nat.{ℕ, _%_}
-use Rattle.steps.specs.Contexts.{evenAt, oddAt, contextAt}
+use Rattle.steps.specs.Values.{evenAt, oddAt, contextAt}
 use Rattle.steps.proofs.context_at.Statement.{statement}
 use Rattle.steps.proofs.context_at.Tie as tie
 

@@ -6,7 +6,7 @@ use Prim.Native.Nat.{ℕ, _+_, _-_, _*_}
 use lib.ListN.{getD}
 use Rattle.prediction.specs.Predictions.{evenContext}
 use Rattle.prediction.specs.declared.Context.{Context}
-use Rattle.steps.specs.Contexts.{evenAt}
+use Rattle.steps.specs.Values.{evenAt}
 use Rattle.steps.proofs.even_context.Statement.{statement}
 use Rattle.steps.proofs.even_context.Tie as tie
 

@@ -6,7 +6,7 @@ use Prim.Native.Nat.{ℕ, _+_, _-_}
 use lib.ListN.{getD}
 use Rattle.prediction.specs.Predictions.{oddContext}
 use Rattle.prediction.specs.declared.Context.{Context}
-use Rattle.steps.specs.Contexts.{oddAt}
+use Rattle.steps.specs.Values.{oddAt}
 use Rattle.steps.proofs.odd_context.Statement.{statement}
 use Rattle.steps.proofs.odd_context.Tie as tie
 

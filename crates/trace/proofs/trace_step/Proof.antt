@@ -6,6 +6,8 @@ use mathlib.Core.Path.{_≡_, sym, _∙_}
 use Prim.Native.Nat.{ℕ, _+_, _^_, _≤_, _<_}
 use native.Mathlib.Omega.{arith}
 use lib.ListN.{length}
+use Rattle.steps.specs.Contexts.{contextIn}
+use Rattle.steps.proofs.ContextLaws.{context-is}
 use Rattle.block.specs.BadCodes.{badAt}
 use Rattle.trace.specs.Ways.{stepOf}
 use Rattle.trace.specs.Traces.{clean}
@@ -39,13 +41,20 @@ room c =
     let i = c .before .before .left-of .ensures .1 .1 in
     (omega (arith, i, p .room), omega (arith, i, p .width))
 
+-- the context is that of its line and position
+found : (c : tie.After-context-at) → let a = entry c .args in c .context-at .result ≡ contextIn (a .stage .w) (a .lines .now) (a .x .line) (a .x .position)
+found c =
+    let a = entry c .args in
+    context-is (a .stage .w) (a .x .line) (a .x .position) (a .lines .now) (entry c .pre .inside .low)
+    (c .before .before .left-of .ensures .0) (c .context-at .ensures .0)
+
 here : (c : tie.After-record-in) → let a = entry (seen c) .args in
     Here (a .stage) (a .x .line) (a .x .position) (a .lines .now) (a .sums .now) (a .ns .now)
     (seen c .before .before .left-of .result) (seen c .context-at .result) (looked c .look-of .result) (c .before .before .before .slot-of .result) (c .record-in .result)
 here c =
     record {
       place = seen c .before .before .left-of .ensures .0;
-      context = seen c .context-at .ensures .0;
+      context = found (seen c);
       look = looked c .look-of .ensures .0;
       slot = c .before .before .before .slot-of .ensures .0;
       record-is = c .record-in .ensures .0;
@@ -59,7 +68,7 @@ returns : tie.Need-returns
 returns c =
     let k = c .before .before in
     record {
-      says = record { is = interpolated _ _ _ _ _ _ _ _ _ _ _ (k .before .before .left-of .ensures .0) (k .context-at .ensures .0) (not-true _ (c .before .if1 .taken)) };
+      says = record { is = interpolated _ _ _ _ _ _ _ _ _ _ _ (k .before .before .left-of .ensures .0) (found k) (not-true _ (c .before .if1 .taken)) };
       records = entry k .pre .stage .records;
     }
 

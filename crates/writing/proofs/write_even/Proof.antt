@@ -9,7 +9,7 @@ use native.Mathlib.Omega.{arith}
 use lib.ListN.{length}
 use Rattle.quantiser.specs.Quantisers.{largest}
 use Rattle.steps.specs.Steps.{Step, stepAt, interpolated, evenSteps}
-use Rattle.writing.proofs.StepPuts.{same-room, same-wanted, same-steps, no-even, even-due, ends}
+use Rattle.writing.proofs.StepPuts.{sample-at, same-room, same-wanted, same-steps, no-even, even-due, ends}
 use Rattle.writing.proofs.SitePuts.{Ready, Done, met, first-ready, second-ready, two-puts, Site, site-code, site-value, site-right, site-wrong, site-record, site-update, site-room, site-done}
 use Rattle.writing.proofs.write_even.Statement.{statement}
 use Rattle.writing.proofs.write_even.Tie as tie
@@ -58,7 +58,7 @@ site : (c : tie.After-context-at) → let a = entry (begun c) .args in
 site c =
     record {
       ready = first-ready (two (begun c));
-      sample = record { place = c .before .before .before .left-of .ensures .0; index = c .before .before .index-in .ensures .0; context = c .context-at .ensures .0 };
+      sample = sample-at (entry (begun c) .pre .plan .first-low) (c .before .before .before .left-of .ensures .0) (c .before .before .index-in .ensures .0) (c .context-at .ensures .0);
       ranges = c .context-at .ensures .1;
     }
 
@@ -148,7 +148,7 @@ site-2 : (c : tie.After-context-at2) → let d = one c in let a = start d .args 
 site-2 c =
     record {
       ready = second-ready (two (begun (there (one c)))) (done (one c));
-      sample = record { place = c .before .before .before .left-of2 .ensures .0; index = c .before .before .index-in2 .ensures .0; context = c .context-at2 .ensures .0 };
+      sample = sample-at (start (one c) .pre .plan .second-low) (c .before .before .before .left-of2 .ensures .0) (c .before .before .index-in2 .ensures .0) (c .context-at2 .ensures .0);
       ranges = c .context-at2 .ensures .1;
     }
 
