@@ -68,7 +68,8 @@ bit-first x s i h =
     ∙ binary-at 8 i (7 - i) x (omega arith)
     ∙ rw (bitAt-head x s i h)
 
-bit-later : (x : ℕ) (s : List ℕ) (i j : ℕ) → i ≡ 8 + j → getD (bitsOf s) j false ≡ eqb (bitAt s j) 1 → getD (binary 8 x ++ bitsOf s) i false ≡ eqb (bitAt (x ∷ s) i) 1
+bit-later : (x : ℕ) (s : List ℕ) (i j : ℕ) → i ≡ 8 + j → getD (bitsOf s) j false ≡ eqb (bitAt s j) 1
+    → getD (binary 8 x ++ bitsOf s) i false ≡ eqb (bitAt (x ∷ s) i) 1
 bit-later x s i j e h =
     let l = getD-append-add (binary 8 x) (bitsOf s) j false in
     rw (e, bitAt-tail x s j) (rw length-binary at l ∙ h)

@@ -3,7 +3,8 @@ use mathlib.Core.Path.{_≡_, refl, sym, ap, _∙_}
 use mathlib.Core.Bool.{Bool, true, false, cond}
 use mathlib.Core.List.{List, [], _∷_, _++_, append-nil}
 use Prim.Native.Nat.{ℕ, zero, suc, _+_, _-_, _*_, _/_, _%_, _^_, _≤_, _<_}
-use native.Mathlib.Nat.{zero-div, zero-mod, zero-add, one-mul, zero-mul, suc-add, pow-suc, mod-lt, div-lt-iff-lt-mul, sub-zero, suc-sub-suc, le-of-suc-le-suc, not-suc-le-zero}
+use native.Mathlib.Nat.{zero-div, zero-mod, zero-add, one-mul, zero-mul, suc-add, pow-suc, mod-lt}
+use native.Mathlib.Nat.{div-lt-iff-lt-mul, sub-zero, suc-sub-suc, le-of-suc-le-suc, not-suc-le-zero}
 use native.Mathlib.Omega.{arith}
 use lib.Dec.{eqb, lit<}
 use lib.ListN.{length, getD, take, drop, replicate, length-drop, drop-of-length-le}

@@ -37,10 +37,13 @@ lent l δ r = record { ptr = (l, 0); name = δ; now = r }
 abbrev pub LentOwn : Lft → ℕ → ℕ → GName → BitPumpMsb → Fml
 LentOwn κ l ν δ r = MutRef (named 0) (ν ∷ κ) (Behind κ) .own (lent l δ r) (vptr l 0 ∷ [])
 
-module _ {M : Type 1} {𝓤 : URA M} {H : Heap 𝓤} {A : Atoms 𝓤} {K : Type 0} {W : Given 𝓤 H A} {Γ : List (Item 𝓤)} {G : Goal 𝓤 H} (κ : Lft) (q : Share) (l : ℕ) where
+module _ {M : Type 1} {𝓤 : URA M} {H : Heap 𝓤} {A : Atoms 𝓤} {K : Type 0} {W : Given 𝓤 H A} {Γ : List (Item 𝓤)} {G : Goal 𝓤 H} (κ : Lft) (q : Share)
+    (l : ℕ) where
   -- the callee gets the two tokens and the reference; the caller keeps the lender's part and the way back to ν's whole token
   pub lends-pump : K → Soaks G → (r : BitPumpMsb)
-      → ((ν : ℕ) (δ : GName) → Seq K W (‵ (flft (ν ∷ κ) (PosShare·right q)) ∷ ‵ (flft κ (PosShare·left q)) ∷ ‵ (LentOwn κ l ν δ r) ∷ ‵ (flent (ν ∷ κ) (Body (mem (Behind κ)) l 0 δ)) ∷ raw (wand 𝓤 (A .lft (ν ∷ []) (PosShare·right q)) (A .lft (ν ∷ []) fullShare)) ∷ Γ) G)
+      → ((ν : ℕ) (δ : GName) → Seq K W
+      (‵ (flft (ν ∷ κ) (PosShare·right q)) ∷ ‵ (flft κ (PosShare·left q)) ∷ ‵ (LentOwn κ l ν δ r) ∷ ‵ (flent (ν ∷ κ) (Body (mem (Behind κ)) l 0 δ))
+      ∷ raw (wand 𝓤 (A .lft (ν ∷ []) (PosShare·right q)) (A .lft (ν ∷ []) fullShare)) ∷ Γ) G)
       → Seq K W (‵ (partAt (Behind κ) fullShare r l 0) ∷ ‵ (flft κ q) ∷ Γ) G
   lends-pump t z r k =
       move t (1 ∷ []) $ use1 W (‵ (flft κ (PosShare·left q)) ⊛ ‵ (flft κ (PosShare·right q))) (W .lfts .lft-split κ q) $ split t $
@@ -52,7 +55,8 @@ module _ {M : Type 1} {𝓤 : URA M} {H : Heap 𝓤} {A : Atoms 𝓤} {K : Type 
 
   -- the callee has given the tokens back, and the pump's last value is g: κ's token is whole again, ν is ended, and with it the meet
   pub takes-back : K → Soaks G → (ν : ℕ) (δ : GName) (g : BitPumpMsb) → Step K W (‵ (froom (T′.mir erased) l 0) ∷ ‵ (flft κ q) ∷ Γ) G
-      (‵ (flft (ν ∷ κ) (PosShare·right q)) ∷ ‵ (flft κ (PosShare·left q)) ∷ ‵ (fres δ (Behind κ .coded .code g)) ∷ ‵ (flent (ν ∷ κ) (Body (mem (Behind κ)) l 0 δ)) ∷ raw (wand 𝓤 (A .lft (ν ∷ []) (PosShare·right q)) (A .lft (ν ∷ []) fullShare)) ∷ Γ) G
+      (‵ (flft (ν ∷ κ) (PosShare·right q)) ∷ ‵ (flft κ (PosShare·left q)) ∷ ‵ (fres δ (Behind κ .coded .code g))
+      ∷ ‵ (flent (ν ∷ κ) (Body (mem (Behind κ)) l 0 δ)) ∷ raw (wand 𝓤 (A .lft (ν ∷ []) (PosShare·right q)) (A .lft (ν ∷ []) fullShare)) ∷ Γ) G
   takes-back t z ν δ g = step (λ s.
       use1 W (‵ (flft (ν ∷ []) (PosShare·right q)) ⊛ ‵ (flft κ (PosShare·right q))) (W .lfts .lft-unmeet (ν ∷ []) κ (PosShare·right q)) $ split t $
       move t (2 ∷ 1 ∷ []) $ use2 W (‵ (flft κ q)) (W .lfts .lft-join κ q) $

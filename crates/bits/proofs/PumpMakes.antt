@@ -35,7 +35,8 @@ module _ {M : Type 1} (𝓤 : URA M) (H : Heap 𝓤) (A : Atoms 𝓤) (mem : Mem
   abbrev pub AtBit : Contract 𝓤
   AtBit = tripleOf 𝓤 H A at-bit.signature (at-bit.spec 𝓤 H A mem run)
 
-module _ {M : Type 1} (𝓤 : URA M) (H : Heap 𝓤) (A : Atoms 𝓤) (W : Given 𝓤 H A) (mem : Memory → SProp 𝓤) (run : Routine → Fun 𝓤) (κ : Lft) (q : Share) (s : RefT (List ℕ)) (p : BitPosition) where
+module _ {M : Type 1} (𝓤 : URA M) (H : Heap 𝓤) (A : Atoms 𝓤) (W : Given 𝓤 H A) (mem : Memory → SProp 𝓤) (run : Routine → Fun 𝓤) (κ : Lft) (q : Share)
+    (s : RefT (List ℕ)) (p : BitPosition) where
   abbrev pub passed : Vals at-bit.signature (κ, tt)
   passed = (sliced s ∷ [], (P′.lowered p ∷ [], tt))
 
@@ -57,5 +58,6 @@ module _ {M : Type 1} (𝓤 : URA M) (H : Heap 𝓤) (A : Atoms 𝓤) (W : Given
       nothing ! $ owned ! P.the-row (Is P.the-row) (LL.makes P.the-type P′.the-plain 𝓤 H A) p _ is $ fjoin ! $ move ! (1 ∷ 0 ∷ []) $ fjoin ! $
       move ! (2 ∷ 0 ∷ []) $ use2 W (raw (AtBit 𝓤 H A mem run .pre to-at)) asked $ frame ! $ done !
 
-  pub says-at : (r : BitPumpMsb) → ent 𝓤 (ensured 𝓤 H A at-bit.ended (at-bit.clauses 𝓤 H A mem run) (κ, tt) (s, (p, tt)) tt r) (fact 𝓤 ((r .«data» ≡ s) × (r .at ≡ p)))
+  pub says-at : (r : BitPumpMsb)
+      → ent 𝓤 (ensured 𝓤 H A at-bit.ended (at-bit.clauses 𝓤 H A mem run) (κ, tt) (s, (p, tt)) tt r) (fact 𝓤 ((r .«data» ≡ s) × (r .at ≡ p)))
   says-at r = exE 𝓤 _ (λ ws. snd∗ 𝓤 (sem 𝓤 H A (lasts at-bit.ended (κ, tt) (s, (p, tt)) ws)) (fact 𝓤 ((r .«data» ≡ s) × (r .at ≡ p))))

@@ -37,7 +37,8 @@ module _ {M : Type 1} (𝓤 : URA M) (H : Heap 𝓤) (A : Atoms 𝓤) (mem : Mem
   abbrev pub PeekAt : Contract 𝓤
   PeekAt = tripleOf 𝓤 H A at.signature (at.spec 𝓤 H A mem run)
 
-module _ {M : Type 1} (𝓤 : URA M) (H : Heap 𝓤) (A : Atoms 𝓤) (W : Given 𝓤 H A) (mem : Memory → SProp 𝓤) (run : Routine → Fun 𝓤) (α : NamedLft) (q : Share) (h : BitPumpMsb) (n : ℕ) where
+module _ {M : Type 1} (𝓤 : URA M) (H : Heap 𝓤) (A : Atoms 𝓤) (W : Given 𝓤 H A) (mem : Memory → SProp 𝓤) (run : Routine → Fun 𝓤) (α : NamedLft) (q : Share)
+    (h : BitPumpMsb) (n : ℕ) where
   abbrev pub passed : Vals at.signature (α .lft, tt)
   passed = (sliced (h .«data») ∷ [], (P′.lowered (h .at) ∷ [], (vint w32 n ∷ [], tt)))
 
@@ -48,7 +49,9 @@ module _ {M : Type 1} (𝓤 : URA M) (H : Heap 𝓤) (A : Atoms 𝓤) (W : Given
   asked =
       qed W ((‵ (flft (α .lft) q) ⊛ ‵ ftrue) ∷ ‵ (owns (ShrSlice (named 0) (α .lft) u8 ∷ P.the-row ∷ u32 ∷ []) (h .«data», (h .at, (n, tt))) passed) ∷ []) ∵ join ! $ frame ! $ done !
 
-  pub goes-peek : IsAt (h .at) → n < 2 ^ 32 → ent 𝓤 (⋆ 𝓤 H A (‵ (PumpOwn 𝓤 H A W α h) ∷ (‵ (flft (α .lft) q) ⊛ ‵ ftrue) ∷ [])) (sep 𝓤 (PeekAt 𝓤 H A mem run .pre to-peek) (sem 𝓤 H A (PumpOwn 𝓤 H A W α h)))
+  pub goes-peek : IsAt (h .at) → n < 2 ^ 32
+      → ent 𝓤 (⋆ 𝓤 H A (‵ (PumpOwn 𝓤 H A W α h) ∷ (‵ (flft (α .lft) q) ⊛ ‵ ftrue) ∷ []))
+      (sep 𝓤 (PeekAt 𝓤 H A mem run .pre to-peek) (sem 𝓤 H A (PumpOwn 𝓤 H A W α h)))
   goes-peek is fits =
       qed W (‵ (PumpOwn 𝓤 H A W α h) ∷ (‵ (flft (α .lft) q) ⊛ ‵ ftrue) ∷ []) ∵
       use1 W (‵ (SliceOwn 𝓤 H A W α (h .«data»)) ⊛ ‵ (PumpOwn 𝓤 H A W α h)) (slice-out 𝓤 H A W α h) $ split ! $
@@ -56,5 +59,6 @@ module _ {M : Type 1} (𝓤 : URA M) (H : Heap 𝓤) (A : Atoms 𝓤) (W : Given
       move ! (2 ∷ 0 ∷ []) $ use2 W (raw (PeekAt 𝓤 H A mem run .pre to-peek)) asked $ frame ! $ done !
 
   -- it has no `&mut`, so that nothing is said of last values
-  pub says-peek : (r : ℕ) → ent 𝓤 (ensured 𝓤 H A at.ended (at.clauses 𝓤 H A mem run) (α .lft, tt) (h .«data», (h .at, (n, tt))) tt r) (fact 𝓤 (r ≡ nextBits h n))
+  pub says-peek : (r : ℕ)
+      → ent 𝓤 (ensured 𝓤 H A at.ended (at.clauses 𝓤 H A mem run) (α .lft, tt) (h .«data», (h .at, (n, tt))) tt r) (fact 𝓤 (r ≡ nextBits h n))
   says-peek r = exE 𝓤 _ (λ ws. snd∗ 𝓤 (sem 𝓤 H A (lasts at.ended (α .lft, tt) (h .«data», (h .at, (n, tt))) ws)) (fact 𝓤 (r ≡ nextBits h n)))

@@ -3,7 +3,9 @@ use mathlib.Core.Path.{_≡_, refl, sym, _∙_}
 use mathlib.Core.Bool.{Bool, true, false, cond}
 use mathlib.Core.List.{List}
 use Prim.Native.Nat.{ℕ, zero, suc, _+_, _-_, _*_, _/_, _%_, _^_, _≤_, _<_}
-use native.Mathlib.Nat.{add-zero, add-suc, suc-add, zero-mul, one-mul, zero-add, not-suc-le-zero, le-mul-of-pos-right, pos-of-ne-zero, lt-of-not-le, not-le-of-lt, lt-of-le-of-lt, lt-of-lt-of-le, lt-of-mul-lt-mul-right, le-of-mul-le-mul-right, mul-le-mul-right, mul-pos, le-refl, le-of-suc-le-suc}
+use native.Mathlib.Nat.{add-zero, add-suc, suc-add, zero-mul, one-mul, zero-add, not-suc-le-zero, le-mul-of-pos-right}
+use native.Mathlib.Nat.{pos-of-ne-zero, lt-of-not-le, not-le-of-lt, lt-of-le-of-lt, lt-of-lt-of-le, lt-of-mul-lt-mul-right}
+use native.Mathlib.Nat.{le-of-mul-le-mul-right, mul-le-mul-right, mul-pos, le-refl, le-of-suc-le-suc}
 use native.Mathlib.Numerals.{add-one, one-add}
 use native.Mathlib.Omega.{arith}
 use lib.Count.{under, leadingZeros, leading-top}
@@ -50,7 +52,8 @@ zeros-one s p (suc n) (suc z) lt h b =
     let e = zero-first s p z h in
     rw (e .0, zeros-one s (suc p) n z (omega arith) (e .1) (rw (suc-add, ← add-suc) b))
 
-found : (s : List ℕ) (p m b : ℕ) → bitAt s p ≡ b → b < 2 → (b ≡ 0 → (bitsAt s (suc p) m ≡ 0) × (bitAt s (suc p + m) ≡ 1)) → (bitsAt s p (under b m) ≡ 0) × (bitAt s (p + under b m) ≡ 1)
+found : (s : List ℕ) (p m b : ℕ) → bitAt s p ≡ b → b < 2 → (b ≡ 0 → (bitsAt s (suc p) m ≡ 0) × (bitAt s (suc p + m) ≡ 1))
+    → (bitsAt s p (under b m) ≡ 0) × (bitAt s (p + under b m) ≡ 1)
 found s p m zero e lt rest =
     let r = rest refl in
     (bitsAt-first s p m ∙ rw (e, r .0, zero-mul), rw (add-suc, ← suc-add) (r .1))
@@ -81,7 +84,8 @@ top-bit s q z d hi lo =
     let no : bitAt s (q + z) ≡ 0 → ⊥ = λ b. let w : bitsAt s q (z + (1 + d)) ≡ bitsAt s (q + z + 1) d = v ∙ rw (b, zero-mul) (zero-add _) in omega arith in
     (a0, omega (arith, bitAt-lt s (q + z), pos-of-ne-zero no))
 
-leading-at : (s : List ℕ) (q n r z j : ℕ) → 0 < bitsAt s q n → z + suc j ≡ n + r → 2 ^ j ≤ bitsAt s q n * 2 ^ r → bitsAt s q n * 2 ^ r < 2 ^ suc j → (bitsAt s q z ≡ 0) × (bitAt s (q + z) ≡ 1)
+leading-at : (s : List ℕ) (q n r z j : ℕ) → 0 < bitsAt s q n → z + suc j ≡ n + r → 2 ^ j ≤ bitsAt s q n * 2 ^ r → bitsAt s q n * 2 ^ r < 2 ^ suc j
+    → (bitsAt s q z ≡ 0) × (bitAt s (q + z) ≡ 1)
 leading-at s q n r z j pos sum le lt =
     let rj : r < suc j = pow-lt-cancel (lt-of-le-of-lt (rw one-mul at (mul-le-mul-right {m = 1} (2 ^ r) pos)) lt) in
     let ej : j ≡ (j - r) + r = omega arith in
@@ -98,7 +102,8 @@ leading-few k j a le lt =
     omega (arith, t .1, pow-lt-cancel (lt-of-le-of-lt le (t .3)))
 
 -- what a count of leading zeros says of the n bits at q, which stand r places up in a word
-pub leading-bits : (s : List ℕ) (q n r : ℕ) → 0 < bitsAt s q n → (bitsAt s q (leadingZeros (n + r) (bitsAt s q n * 2 ^ r)) ≡ 0) × (bitAt s (q + leadingZeros (n + r) (bitsAt s q n * 2 ^ r)) ≡ 1)
+pub leading-bits : (s : List ℕ) (q n r : ℕ) → 0 < bitsAt s q n
+    → (bitsAt s q (leadingZeros (n + r) (bitsAt s q n * 2 ^ r)) ≡ 0) × (bitAt s (q + leadingZeros (n + r) (bitsAt s q n * 2 ^ r)) ≡ 1)
 leading-bits s q n r pos =
     let t = leading-top (n + r) (bitsAt s q n * 2 ^ r) (mul-pos pos (pow-pos r)) (shl-lt n r (bitsAt-lt s q n)) in
     leading-at s q n r (leadingZeros (n + r) (bitsAt s q n * 2 ^ r)) (t .0) pos (t .1) (t .2) (t .3)
@@ -190,7 +195,8 @@ pub none-is : (s : List ℕ) (p : ℕ) → zeroRun s p ≡ None → bitsAt s p (
 unfolding zeroRun
 none-is s p e = go (ltb (zeros s p (8 * length s - p)) (8 * length s - p)) refl e
   where
-    go : (t : Bool) → ltb (zeros s p (8 * length s - p)) (8 * length s - p) ≡ t → cond t (One (zeros s p (8 * length s - p))) None ≡ None → bitsAt s p (8 * length s - p) ≡ 0
+    go : (t : Bool) → ltb (zeros s p (8 * length s - p)) (8 * length s - p) ≡ t → cond t (One (zeros s p (8 * length s - p))) None ≡ None
+        → bitsAt s p (8 * length s - p) ≡ 0
     go true f g = let no : _≡_ {A = ℕ} 0 1 = cc in absurd (omega arith)
     go false f g = all-zeros s p (8 * length s - p) (ltb-false _ _ f)
 

@@ -51,7 +51,8 @@ none-within m i (v ∷ t) e = split (suc m) v (λ h. high h) (λ h. low h (none-
 
 -- ---- the block
 
-block-length : (F : Form) (bases : List ℕ) (count : ℕ) (t : List ℕ) → length (writtenBlock F bases count t) ≡ blockBytes (length ((writeLines F bases t count) .bits))
+block-length : (F : Form) (bases : List ℕ) (count : ℕ) (t : List ℕ)
+    → length (writtenBlock F bases count t) ≡ blockBytes (length ((writeLines F bases t count) .bits))
 unfolding writtenBlock bytesOf
 block-length F bases count t = length-packed _ _
 
@@ -236,13 +237,15 @@ module _ (F : Form) (lines : ℕ) (t : List ℕ) (room : ℕ) where
   written-fits n size e = ranged (firstAbove (largest (F .bits)) 0 t) refl e
     where
       measured : (b : Bool) → Within (largest (F .bits)) t → (writeLines F [] t lines) .wrong ≡ none → ltb room (length (tightBlock F lines t)) ≡ b
-          → cond b (Refused ShortOutput) (Length (length (tightBlock F lines t))) ≡ Length n → FitSet F lines t × (n ≡ length (tightBlock F lines t)) × (n ≤ room)
+          → cond b (Refused ShortOutput) (Length (length (tightBlock F lines t))) ≡ Length n
+          → FitSet F lines t × (n ≡ length (tightBlock F lines t)) × (n ≤ room)
       measured true r p h f = let no : _≡_ {A = ℕ} 0 1 = cc in absurd (omega arith)
       measured false r p h f =
           let k : length (tightBlock F lines t) ≡ n = cc in
           (record { size = size; range = r; predicted = p }, sym k, omega (arith, k, ltb-false room (length (tightBlock F lines t)) h))
 
-      predicted : (o : Option ℕ) → Within (largest (F .bits)) t → (writeLines F [] t lines) .wrong ≡ o → predictedAnswer o (length (tightBlock F lines t)) room ≡ Length n
+      predicted : (o : Option ℕ) → Within (largest (F .bits)) t → (writeLines F [] t lines) .wrong ≡ o
+          → predictedAnswer o (length (tightBlock F lines t)) room ≡ Length n
           → FitSet F lines t × (n ≡ length (tightBlock F lines t)) × (n ≤ room)
       predicted none r p f = measured (ltb room (length (tightBlock F lines t))) r p refl f
       predicted (some j) r p f = let no : _≡_ {A = ℕ} 0 1 = cc in absurd (omega arith)

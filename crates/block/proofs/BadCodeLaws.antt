@@ -26,7 +26,8 @@ use Rattle.steps.specs.declared.Plan.{Plan}
 use Rattle.map.specs.Places.{widthOf}
 use Rattle.block.specs.Records.{baseOf}
 use Rattle.block.specs.Blocks.{State, runs, enter, leave, passAt, endLine, readLine, beforeLine, readLineAt, startState, readLines, tightLines}
-use Rattle.block.specs.BadCodes.{Reason, too-large, too-many-zeros, short-fits, reasonOf, codedReason, stepReason, BadCode, badAt, badInSteps, firstFound, badInPass, badInLine, firstBad}
+use Rattle.block.specs.BadCodes.{Reason, too-large, too-many-zeros, short-fits, reasonOf, codedReason, stepReason}
+use Rattle.block.specs.BadCodes.{BadCode, badAt, badInSteps, firstFound, badInPass, badInLine, firstBad}
 use Rattle.block.specs.BadSpots.{stepK, stepQuantiser, BadStep, BadIn}
 use Rattle.block.specs.declared.Form.{Form}
 use Rattle.block.proofs.RunLaws.{then-both, runs-last}
@@ -97,7 +98,8 @@ abbrev reasonAt : List ℕ → Option Reason
 reasonAt s = codedReason 16383 8 41 (codeAt s 0 8 41 14)
 
 pub examples : (reasonAt (0xFF ∷ 0x80 ∷ []) ≡ none) × (reasonAt (0 ∷ 0 ∷ 0 ∷ 0 ∷ 0 ∷ 0x40 ∷ 0 ∷ []) ≡ some short-fits)
-    × (reasonAt (0 ∷ 0 ∷ 0 ∷ 0 ∷ 0 ∷ 0x20 ∷ 0 ∷ []) ≡ some short-fits) × (reasonAt (0 ∷ 0 ∷ 0 ∷ 0 ∷ 0 ∷ 0x3F ∷ 0 ∷ []) ≡ some too-many-zeros) × (reasonAt (0 ∷ 0 ∷ 0 ∷ 0 ∷ 0 ∷ 0x7F ∷ 0xFF ∷ []) ≡ some too-large)
+    × (reasonAt (0 ∷ 0 ∷ 0 ∷ 0 ∷ 0 ∷ 0x20 ∷ 0 ∷ []) ≡ some short-fits) × (reasonAt (0 ∷ 0 ∷ 0 ∷ 0 ∷ 0 ∷ 0x3F ∷ 0 ∷ []) ≡ some too-many-zeros)
+    × (reasonAt (0 ∷ 0 ∷ 0 ∷ 0 ∷ 0 ∷ 0x7F ∷ 0xFF ∷ []) ≡ some too-large)
 unfolding bitAt bitsAt zeros zeroRun codeAt reasonOf
 examples = (refl, refl, refl, refl, refl)
 
@@ -112,7 +114,8 @@ module _ (bits q W : ℕ) (s : List ℕ) where
       M = largest bits
 
       go : (b : Bool) (g : Coded) → stepCode bits q W s x r ≡ g
-          → cond b (taken bits q (stepPlace W x) (stepSlot q W x (r .lines)) (stepContext W x (r .lines)) (stepLook q W x (r .lines)) r g) (some (interpolate (stepPlace W x) (stepContext W x (r .lines)) r)) ≡ some z
+          → cond b (taken bits q (stepPlace W x) (stepSlot q W x (r .lines)) (stepContext W x (r .lines)) (stepLook q W x (r .lines)) r g)
+          (some (interpolate (stepPlace W x) (stepContext W x (r .lines)) r)) ≡ some z
           → z .tight ≡ stays (cond b (codedReason M (stepK q W x r) ((stepQuantiser bits q W x r) .limit) g) none) (r .tight)
       go true Truncated eg f = let no : _≡_ {A = ℕ} 0 1 = cc in absurd (omega arith)
       go true (Read d) eg f =
@@ -171,7 +174,8 @@ module _ (bits q W : ℕ) (s : List ℕ) where
         go false g eb eg f = let no : _≡_ {A = ℕ} 0 1 = cc in absurd (omega arith)
 
     -- or it is read, with a tight code or none, and a later one is bad
-    bad-later : (x : Step) (l : List Step) (r y : Reading) (b : BadCode) → readStep bits q W s x r ≡ some y → y .tight ≡ r .tight → BadStep bits q W s n i l y b → BadStep bits q W s n i (x ∷ l) r b
+    bad-later : (x : Step) (l : List Step) (r y : Reading) (b : BadCode) → readStep bits q W s x r ≡ some y → y .tight ≡ r .tight
+        → BadStep bits q W s n i l y b → BadStep bits q W s n i (x ∷ l) r b
     unfolding reads andThen
     bad-later x l r y b e t p =
         record {
@@ -304,7 +308,8 @@ module _ (F : Form) (bases s : List ℕ) where
     unfolding badInLine
     in-pass = found-in (passAt F (baseOf bases n) s) (badInPass F (baseOf bases n) s n) (beforeLine F bases n r) 6 b e
 
-    in-step : BadStep (F .bits) (baseOf bases n) (widthOf (F .xtrans)) s n (in-pass .index) (passSteps (widthOf (F .xtrans)) (planOf (F .xtrans) (in-pass .index)))
+    in-step : BadStep (F .bits) (baseOf bases n) (widthOf (F .xtrans)) s n (in-pass .index)
+        (passSteps (widthOf (F .xtrans)) (planOf (F .xtrans) (in-pass .index)))
         (enter F (planOf (F .xtrans) (in-pass .index)) (in-pass .state)) b
     unfolding badInPass
     in-step = bad-step (F .bits) (baseOf bases n) (widthOf (F .xtrans)) s n (in-pass .index) _ _ b (in-pass .found)

@@ -28,7 +28,8 @@ use Rattle.stream.specs.declared.Refusal.the-variants.{Truncated}
 use Rattle.map.specs.Places.{widthOf}
 use Rattle.block.specs.Records.{baseOf}
 use Rattle.block.specs.Blocks.{State, runs, enter, leave, passAt, endLine, readLine, beforeLine, readLineAt, startState, readLines, totalsAfter}
-use Rattle.block.specs.Totals.{LimitedCode, longCodes, usedBits, codesOf, stepCodes, gatherFrom, codesInSteps, gathered, codesInPass, codesInLine, blockCodes, sumOf, linesCounted, TotalsOf}
+use Rattle.block.specs.Totals.{LimitedCode, longCodes, usedBits, codesOf, stepCodes, gatherFrom, codesInSteps}
+use Rattle.block.specs.Totals.{gathered, codesInPass, codesInLine, blockCodes, sumOf, linesCounted, TotalsOf}
 use Rattle.block.specs.Images.{isRead, linesRead}
 use Rattle.block.specs.BadCodes.{BadCode, firstBad}
 use Rattle.block.specs.TightBlocks.{bitsRead, readAnswer, tightAnswer}
@@ -89,7 +90,8 @@ module _ (h : LimitedCode → ℕ) (v : BitPosition → ℕ → ℕ)
       Q : Quantiser
       Q = usedQuantiser bits q (l .choice)
 
-      go : (b : Bool) (g : Coded) → stepCode bits q W s x r ≡ g → cond b (taken bits q i slot (stepContext W x (r .lines)) l r g) (some (interpolate i (stepContext W x (r .lines)) r)) ≡ some z
+      go : (b : Bool) (g : Coded) → stepCode bits q W s x r ≡ g
+          → cond b (taken bits q i slot (stepContext W x (r .lines)) l r g) (some (interpolate i (stepContext W x (r .lines)) r)) ≡ some z
           → v (z .at) (z .long) ≡ v (r .at) (r .long) + sumOf h (cond b (codesOf (Q .limit) g) [])
       go true (Coding.Read d) eg f =
           let at : d .after ≡ z .at = cc in

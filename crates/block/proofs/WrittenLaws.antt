@@ -46,7 +46,8 @@ module _ {A : Type 0} (f : ℕ → A → A) where
 
 module _ (F : Form) (q : ℕ) (strict : Bool) (t : List ℕ) where
   -- a pass adds the same bits, whatever stands before
-  pub passAt-after : (n : ℕ) (l : List Bool) (i : ℕ) (r : WriteState) → writePassAt F q strict t n i (afterBits l r) ≡ afterBits l (writePassAt F q strict t n i r)
+  pub passAt-after : (n : ℕ) (l : List Bool) (i : ℕ) (r : WriteState)
+      → writePassAt F q strict t n i (afterBits l r) ≡ afterBits l (writePassAt F q strict t n i r)
   unfolding writePassAt
   passAt-after n l i r =
       let P : Plan = planOf (F .xtrans) i in

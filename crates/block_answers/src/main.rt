@@ -32,7 +32,7 @@ fn sizes_of(r: &[u8; 24]) -> Sizes {
     }
 }
 
-// The place of column x in a colour line, as document 01 writes it.
+// The place of column x in a colour line, as the rule writes it.
 fn place(xtrans: bool, x: usize) -> usize
     requires { ⌜ x < 768 ⌝ }
     ensures { λ r. ⌜ r < 512 ⌝ }

@@ -177,7 +177,8 @@ size-lt q d hq hd =
     let w : n ≤ n * (2 * q + 1) = le-mul-of-pos-right {m = 2 * q + 1} n (omega arith) in
     omega arith
 
-module _ (q total : ℕ) (negative : Bool) (g v : ℕ) {w : Signed} {s code : ℕ} {down : Bool} (ew : w ≡ minus v g) (es : s ≡ (w .size + q) / (2 * q + 1)) (ed : down ≡ xor negative (w .negative))
+module _ (q total : ℕ) (negative : Bool) (g v : ℕ) {w : Signed} {s code : ℕ} {down : Bool} (ew : w ≡ minus v g) (es : s ≡ (w .size + q) / (2 * q + 1))
+    (ed : down ≡ xor negative (w .negative))
     (ec : code ≡ codeOfResidual (signed down s)) where
   pub near-first : code < total → code ≡ codeNear q total negative g v
   unfolding codeNear codeWithin nearest

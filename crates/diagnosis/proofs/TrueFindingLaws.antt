@@ -64,7 +64,8 @@ module _ (M k limit : ℕ) (c : CodeRead) where
       zeros v false fits false el ef em f = clash cc
 
       large : (b : Bool) → ltb M (c .value) ≡ b
-          → cond b (some too-large) (cond (leb limit (c .zeros) && ltb (c .value / 2 ^ k) limit) (some short-fits) (cond (ltb limit (c .zeros)) (some too-many-zeros) none)) ≡ some w
+          → cond b (some too-large)
+          (cond (leb limit (c .zeros) && ltb (c .value / 2 ^ k) limit) (some short-fits) (cond (ltb limit (c .zeros)) (some too-many-zeros) none)) ≡ some w
           → Why M k limit c w
       large true eb f = let q : too-large ≡ w = cc in subst (Why M k limit c) q (ltb-true M (c .value) eb)
       large false eb f =
@@ -88,8 +89,10 @@ code-by b read lines false none true z x e = clash cc
 code-by b read lines false none false (some s) x e = clash cc
 code-by b read lines false none false none x e = clash cc
 
-tail-by : (b read lines : ℕ) (cut : Bool) (o : Option BadCode) (tail : Bool) (z : Option State) (n : ℕ) (at : BitPosition) → faultBy b read lines cut o tail z ≡ Fault.Tail n at
-    → (s : State) × (z ≡ some s) × (o ≡ none) × (tail ≡ false) × (n ≡ lines) × (at ≡ s .at) × (answerBy b read lines cut o tail ≡ Answer.Refused (NotTight lines))
+tail-by : (b read lines : ℕ) (cut : Bool) (o : Option BadCode) (tail : Bool) (z : Option State) (n : ℕ) (at : BitPosition)
+    → faultBy b read lines cut o tail z ≡ Fault.Tail n at
+    → (s : State) × (z ≡ some s) × (o ≡ none) × (tail ≡ false) × (n ≡ lines) × (at ≡ s .at)
+    × (answerBy b read lines cut o tail ≡ Answer.Refused (NotTight lines))
 tail-by b read lines true o tail z n at e = clash cc
 tail-by b read lines false (some c) tail z n at e = clash cc
 tail-by b read lines false none true z n at e = clash cc

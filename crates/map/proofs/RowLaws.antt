@@ -36,7 +36,8 @@ stored-none f left at before =
       entries = λ i. rw (outside at (left - left) i (λ h k. omega arith));
     }
 
-module _ (f : ℕ → ℕ) (left p at v : ℕ) (before after : List ℕ) (F : Stored f left p at before after) (low : left ≤ p) (room : at + (p - left) < length before) (e : v ≡ f p) where
+module _ (f : ℕ → ℕ) (left p at v : ℕ) (before after : List ℕ) (F : Stored f left p at before after) (low : left ≤ p)
+    (room : at + (p - left) < length before) (e : v ≡ f p) where
   more-here : (i : ℕ) → i ≡ at + (p - left)
       → getD (set after (at + (p - left)) v) i 0 ≡ cond (leb at i && ltb i (at + (p + 1 - left))) (f (left + (i - at))) (getD before i 0)
   more-here i h =
@@ -66,7 +67,8 @@ module _ (f : ℕ → ℕ) (left p at v : ℕ) (before after : List ℕ) (F : St
             (λ k. more-other i (λ q. omega arith) (behind-it i k));
       }
 
-pub index-by : (xtrans : Bool) (W : ℕ) (tile starts : List ℕ) (r q : ℕ) → AreStarts tile r (W + 2) starts → getD starts (q % 6) 0 + placeIn xtrans q ≡ sampleIndex xtrans W tile r q
+pub index-by : (xtrans : Bool) (W : ℕ) (tile starts : List ℕ) (r q : ℕ) → AreStarts tile r (W + 2) starts
+    → getD starts (q % 6) 0 + placeIn xtrans q ≡ sampleIndex xtrans W tile r q
 unfolding sampleIndex AreStarts
 index-by xtrans W tile starts r q S = rw (S (q % 6) (mod-lt q (lit< tt)))
 
@@ -93,12 +95,14 @@ row-emitted xtrans W tile lines starts r left right at before after S F =
     }
 
 -- one more sample, with its number and its place given otherwise
-stored-at : (f : ℕ → ℕ) (left at : ℕ) (before : List ℕ) (p p′ i : ℕ) (after : List ℕ) → Stored f left p at before after → p′ ≡ p + 1 → left ≤ p → i ≡ at + (p - left) → i < length before
+stored-at : (f : ℕ → ℕ) (left at : ℕ) (before : List ℕ) (p p′ i : ℕ) (after : List ℕ) → Stored f left p at before after → p′ ≡ p + 1 → left ≤ p
+    → i ≡ at + (p - left) → i < length before
     → Stored f left p′ at before (set after i (f p))
 stored-at f left at before p p′ i after F ep low ei room = rw (ep, ei) (stored-more f left p at (f p) before after F low (omega arith) refl)
 
 -- three samples at once
-pub stored-three : (f : ℕ → ℕ) (left at : ℕ) (before : List ℕ) (p p′ i : ℕ) (after : List ℕ) → Stored f left p at before after → p′ ≡ p + 3 → left ≤ p → i ≡ at + (p - left) → i + 3 ≤ length before
+pub stored-three : (f : ℕ → ℕ) (left at : ℕ) (before : List ℕ) (p p′ i : ℕ) (after : List ℕ) → Stored f left p at before after → p′ ≡ p + 3 → left ≤ p
+    → i ≡ at + (p - left) → i + 3 ≤ length before
     → Stored f left p′ at before (threePut f i p after)
 stored-three f left at before p p′ i after F ep low ei room =
     let s₁ = stored-at f left at before p (p + 1) i after F refl low ei (omega arith) in

@@ -24,7 +24,8 @@ refused : {X : Type 0} (r : Refusal) → Refused r ≡ Done → X
 refused r e = let no : _≡_ {A = ℕ} 0 1 = cc in absurd (omega arith)
 
 -- no test refuses
-accepted : (a : Bool) (o : Option BadCode) (c : Bool) (x : Refusal) (lines : ℕ) → cond a (Refused x) (readAnswer o lines c) ≡ Done → (a ≡ false) × (o ≡ none) × (c ≡ true)
+accepted : (a : Bool) (o : Option BadCode) (c : Bool) (x : Refusal) (lines : ℕ) → cond a (Refused x) (readAnswer o lines c) ≡ Done
+    → (a ≡ false) × (o ≡ none) × (c ≡ true)
 accepted true o c x lines e = refused x e
 accepted false (some b) c x lines e = refused (NotTight (b .line)) e
 accepted false none true x lines e = (refl, refl, refl)

@@ -34,7 +34,8 @@ use Rattle.one_to_one.proofs.WriterHolds.{correspondence-of-writers}
 clash : {X : Type 0} (r : Refusal) (n : ℕ) → Refused r ≡ Length n → X
 clash r n e = let no : _≡_ {A = ℕ} 0 1 = cc in absurd (omega arith)
 
-module _ (d : List ℕ) (h : FujiHeader) (e : parseOf d ≡ Parsing.Header h) (lossless : h .lossless ≡ true) (t : List ℕ) (b : TightBlockOf (formOf h) (h .lines) t)
+module _ (d : List ℕ) (h : FujiHeader) (e : parseOf d ≡ Parsing.Header h) (lossless : h .lossless ≡ true) (t : List ℕ)
+    (b : TightBlockOf (formOf h) (h .lines) t)
     (before after : Outputs) (answer : BlockLength) where
   abbrev n : ℕ
   n = length (b .block)

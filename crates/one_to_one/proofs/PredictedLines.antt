@@ -120,7 +120,8 @@ module _ (xtrans : Bool) (W : ℕ) (even : W % 2 ≡ 0) (positive : 0 < W) (t : 
             let z : 0 ≡ p + 1 = place-is W m 0 l (p + 1) (omega arith) (omega arith) f .1 in
             omega arith
 
-    stand : (p : ℕ) → p < W → (getD after (A * (W + 2) + p + 1) 0 ≡ getD t (indexIn W n A p) 0) × (getD after (B * (W + 2) + p + 1) 0 ≡ getD t (indexIn W n B p) 0)
+    stand : (p : ℕ) → p < W
+        → (getD after (A * (W + 2) + p + 1) 0 ≡ getD t (indexIn W n A p) 0) × (getD after (B * (W + 2) + p + 1) 0 ≡ getD t (indexIn W n B p) 0)
     stand =
         all-pass W P even (λ l p. getD after (l * (W + 2) + p + 1) 0 ≡ getD t (indexIn W n l p) 0)
         (writes-stand bits W t n range (passSteps W P) r small right

@@ -31,13 +31,15 @@ abbrev pub StateBack : List ℕ → (WriteState → WriteState) → State → St
 StateBack s g r z = Back (CleanState s) (writeStateOf s) g r z
 
 -- what only adds bits, and keeps the first wrong sample, starts from bits that stand there too
-pub stored-before : (s : List ℕ) (g : WriteState → WriteState) (w : WriteState) → g w ≡ afterBits (w .bits) (g (afreshState w)) → ((g w) .wrong ≡ none → w .wrong ≡ none)
+pub stored-before : (s : List ℕ) (g : WriteState → WriteState) (w : WriteState) → g w ≡ afterBits (w .bits) (g (afreshState w))
+    → ((g w) .wrong ≡ none → w .wrong ≡ none)
     → StoredState s (g w) → StoredState s w
 stored-before s g w e right h =
     stored-cut s (w .bits) ((g (afreshState w)) .bits) ((g (afreshState w)) .wrong) (w .wrong) (rw e at h) (λ f. right (rw e f))
 
 -- f i reads and g i writes the i-th of them, up to `most`, from r on; Sound is kept by each, and Hold i is what the i-th one leaves
-module _ (s : List ℕ) (f : ℕ → State → Option State) (g : ℕ → WriteState → WriteState) (r : State) (most : ℕ) (Sound : State → Type 0) (Hold : ℕ → State → Type 0) where
+module _ (s : List ℕ) (f : ℕ → State → Option State) (g : ℕ → WriteState → WriteState) (r : State) (most : ℕ) (Sound : State → Type 0)
+    (Hold : ℕ → State → Type 0) where
   pub record Each : Type 0 where
     pub start : Sound r
     pub sound : (i : ℕ) (y z : State) → Sound y → f i y ≡ some z → Sound z

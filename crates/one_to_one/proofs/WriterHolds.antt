@@ -23,7 +23,8 @@ module _ (F : Form) (lines : ℕ) (D : Correspondence F lines) where
       let w = D .written t (fits-is F lines t .0 f) in
       record { block = tightBlock F lines t; bytes = w .0; tight = w .1; reads = w .2 }
 
-  whole : (t out : List ℕ) (n : ℕ) → length t ≡ setSize (widthOf (F .xtrans)) lines → writtenAnswer F lines t (length out) ≡ Length n → WrittenWhole F lines t out n
+  whole : (t out : List ℕ) (n : ℕ) → length t ≡ setSize (widthOf (F .xtrans)) lines → writtenAnswer F lines t (length out) ≡ Length n
+      → WrittenWhole F lines t out n
   unfolding its-block
   whole t out n size e =
       let w = written-fits F lines t (length out) n size e in

@@ -29,7 +29,8 @@ module _ (F : Form) (t : List ℕ) (none-above : (j : ℕ) → getD t j 0 ≤ 0)
   abbrev Inv : List ℕ → Option ℕ → Type 0
   Inv lines wrong = AllLe 0 lines × (wrong ≡ none)
 
-  step-inv : (n : ℕ) (x : Step) (r : Writing) → Inv (r .lines) (r .wrong) → Inv ((writeStep (F .bits) 0 W true t n x r) .lines) ((writeStep (F .bits) 0 W true t n x r) .wrong)
+  step-inv : (n : ℕ) (x : Step) (r : Writing) → Inv (r .lines) (r .wrong)
+      → Inv ((writeStep (F .bits) 0 W true t n x r) .lines) ((writeStep (F .bits) 0 W true t n x r) .wrong)
   step-inv n x r h = go (x .coded) refl
     where
       low : (stepContext W x (r .lines)) .prediction ≤ 0
@@ -38,7 +39,8 @@ module _ (F : Form) (t : List ℕ) (none-above : (j : ℕ) → getD t j 0 ≤ 0)
       put : (v : ℕ) → v ≤ 0 → AllLe 0 (set (r .lines) (stepPlace W x + 1) v)
       put v z = stored-le 0 (r .lines) (stepPlace W x + 1) v z (h .0)
 
-      zero-given : givenSample (F .bits) 0 (wantedCode (F .bits) 0 (wanted W t n x) (stepContext W x (r .lines)) (stepLook 0 W x (r .lines))) (stepContext W x (r .lines)) (stepLook 0 W x (r .lines)) ≤ 0
+      zero-given : givenSample (F .bits) 0 (wantedCode (F .bits) 0 (wanted W t n x) (stepContext W x (r .lines)) (stepLook 0 W x (r .lines)))
+          (stepContext W x (r .lines)) (stepLook 0 W x (r .lines)) ≤ 0
       zero-given =
           rw (given-exact (F .bits) (wanted W t n x) (stepContext W x (r .lines)) (omega (arith, low)) (omega (arith, none-above (indexIn W n (x .line) (x .position)))))
           (none-above (indexIn W n (x .line) (x .position)))
@@ -50,7 +52,8 @@ module _ (F : Form) (t : List ℕ) (none-above : (j : ℕ) → getD t j 0 ≤ 0)
       go true e = rw (write-coded (F .bits) 0 W true t n x r e) (put _ zero-given, h .1)
       go false e = rw (write-interpolated (F .bits) 0 W true t n x r e) (put _ low, rw (h .1, eq-eqb (wanted W t n x) ((stepContext W x (r .lines)) .prediction) is))
 
-  steps-inv : (n : ℕ) (l : List Step) (r : Writing) → Inv (r .lines) (r .wrong) → Inv ((writes (F .bits) 0 W true t n l r) .lines) ((writes (F .bits) 0 W true t n l r) .wrong)
+  steps-inv : (n : ℕ) (l : List Step) (r : Writing) → Inv (r .lines) (r .wrong)
+      → Inv ((writes (F .bits) 0 W true t n l r) .lines) ((writes (F .bits) 0 W true t n l r) .wrong)
   unfolding writes
   steps-inv n [] r h = h
   steps-inv n (x ∷ l) r h = steps-inv n l (writeStep (F .bits) 0 W true t n x r) (step-inv n x r h)
@@ -65,7 +68,8 @@ module _ (F : Form) (t : List ℕ) (none-above : (j : ℕ) → getD t j 0 ≤ 0)
       steps-inv n (passSteps W P) (enterWriting F P r)
       (guarded-le 0 W (P .second) (guarded W (P .first) (r .lines)) (guarded-le 0 W (P .first) (r .lines) (h .0)), h .1)
 
-  all-inv : (f : ℕ → WriteState → WriteState) → ((i : ℕ) (r : WriteState) → StateInv r → StateInv (f i r)) → (n : ℕ) (r : WriteState) → StateInv r → StateInv (repeats f n r)
+  all-inv : (f : ℕ → WriteState → WriteState) → ((i : ℕ) (r : WriteState) → StateInv r → StateInv (f i r)) → (n : ℕ) (r : WriteState) → StateInv r
+      → StateInv (repeats f n r)
   unfolding repeats
   all-inv f each zero r h = h
   all-inv f each (suc n) r h = each n (repeats f n r) (all-inv f each n r h)

@@ -73,9 +73,11 @@ pub record WrittenWhole (F : Form) (lines : ℕ) (t out : List ℕ) (n : ℕ) : 
 
 pub record CorrespondenceOfWriter (F : Form) (lines : ℕ) : Type 0 where
   -- a length is answered only where all of that holds
-  pub whole : (t out : List ℕ) (n : ℕ) → length t ≡ setSize (widthOf (F .xtrans)) lines → writtenAnswer F lines t (length out) ≡ Length n → WrittenWhole F lines t out n
+  pub whole : (t out : List ℕ) (n : ℕ) → length t ≡ setSize (widthOf (F .xtrans)) lines → writtenAnswer F lines t (length out) ≡ Length n
+      → WrittenWhole F lines t out n
   -- and it is answered for every set that is read from a tight block, where the output is long enough for that block
-  pub answered : (t out : List ℕ) (b : TightBlockOf F lines t) → length (b .block) ≤ length out → writtenAnswer F lines t (length out) ≡ Length (length (b .block))
+  pub answered : (t out : List ℕ) (b : TightBlockOf F lines t)
+      → length (b .block) ≤ length out → writtenAnswer F lines t (length out) ≡ Length (length (b .block))
 
 abbrev pub CorrespondenceOfWriters : Type 0
 CorrespondenceOfWriters = (d : List ℕ) (h : FujiHeader) → parseOf d ≡ Header h → h .lossless ≡ true → CorrespondenceOfWriter (formOf h) (h .lines)

@@ -122,7 +122,8 @@ first-part x s u j k t part hx e f hp =
     let i : numberOf j (binary t part) ≡ part * 2 ^ k = rw (← f) at g in
     rw (b, take-at (binary u (x / 2 ^ j)) (binary j (x % 2 ^ j) ++ bitsOf s) u (length-binary u (x / 2 ^ j)), e, number-part u j (x / 2 ^ j) (binary t part) lt, i) refl
 
-first-byte : (x : ℕ) (s : List ℕ) (u t part : ℕ) → x < 256 → u + t ≤ 8 → part < 2 ^ t → numberOf 8 (take u (bitsOf (x ∷ s)) ++ binary t part) ≡ filledByte x u t part
+first-byte : (x : ℕ) (s : List ℕ) (u t part : ℕ) → x < 256 → u + t ≤ 8 → part < 2 ^ t
+    → numberOf 8 (take u (bitsOf (x ∷ s)) ++ binary t part) ≡ filledByte x u t part
 unfolding bitsOf
 first-byte x s u t part hx hu hp = first-part x s u (8 - u) (8 - u - t) t part hx (omega arith) (omega arith) hp
 
@@ -158,7 +159,8 @@ abbrev pub firstDigits : ℕ → ℕ → ℕ → List Bool
 firstDigits n left v = binary (n - left) (v / 2 ^ left)
 
 module _ (s out : List ℕ) (at n v left t p : ℕ) (same : out ≡ putBits s at (firstDigits n left v)) (bytes : (j : ℕ) → getD out j 0 < 256)
-    (ht : 1 ≤ t) (hl : t ≤ left) (hn : left ≤ n) (hp : p ≡ at + (n - left)) (hu : p % 8 + t ≤ 8) (long : length out ≡ length s) (h : bytesFor (at + n) ≤ length s) where
+    (ht : 1 ≤ t) (hl : t ≤ left) (hn : left ≤ n) (hp : p ≡ at + (n - left)) (hu : p % 8 + t ≤ 8) (long : length out ≡ length s)
+    (h : bytesFor (at + n) ≤ length s) where
   part-lt : v / 2 ^ (left - t) % 2 ^ t < 2 ^ t
   part-lt = mod-lt (v / 2 ^ (left - t)) (pow-pos t)
 

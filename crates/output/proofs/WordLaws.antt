@@ -131,7 +131,8 @@ word-bytes w h =
 
 -- these four, stored one after the other
 pub word-stored : (s : List ℕ) (i w : ℕ) → i + 4 ≤ length s → w < 2 ^ 32
-    → set (set (set (set s i (w / 2 ^ 24)) (i + 1) (w / 2 ^ 16 % 256)) (i + 2) (w / 2 ^ 8 % 256)) (i + 3) (w % 256) ≡ take i s ++ packed 4 (binary 32 w) ++ drop (i + 4) s
+    → set (set (set (set s i (w / 2 ^ 24)) (i + 1) (w / 2 ^ 16 % 256)) (i + 2) (w / 2 ^ 8 % 256)) (i + 3)
+    (w % 256) ≡ take i s ++ packed 4 (binary 32 w) ++ drop (i + 4) s
 word-stored s i w h hw =
     let a : i + 1 ≡ suc i = omega arith in
     let b : i + 2 ≡ suc (suc i) = omega arith in

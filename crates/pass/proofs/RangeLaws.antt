@@ -45,7 +45,8 @@ none-some : {X : Type 0} (z : Reading) → none ≡ some z → X
 none-some z e = let no : _≡_ {A = ℕ} 0 1 = cc in absurd (omega arith)
 
 -- the record of a code is updated
-updated-ranges : (bits q : ℕ) (s : List ℕ) (slot : ℕ) (h : Look) (r : Reading) (d : Code) → bits ≤ 16 → slot < 112 → codeOf bits q s slot h r ≡ Read d → SetInRange (r .set)
+updated-ranges : (bits q : ℕ) (s : List ℕ) (slot : ℕ) (h : Look) (r : Reading) (d : Code) → bits ≤ 16 → slot < 112 → codeOf bits q s slot h r ≡ Read d
+    → SetInRange (r .set)
     → SetInRange (set (r .set) slot (updated (getD (r .set) slot noRecord) ((residualOf (d .value)) .size)))
 updated-ranges bits q s slot h r d b small e ok k hk =
     let old : Record = getD (r .set) slot noRecord in

@@ -160,7 +160,8 @@ was-none : (o : Option Reading) (lines sums ns : List ℕ) (r : Pair) → IsPair
 was-none none lines sums ns r h e = refl
 was-none (some z) lines sums ns r h e = let no : _≡_ {A = ℕ} 0 1 = cc in absurd (omega arith)
 
-was-some : (o : Option Reading) (lines sums ns : List ℕ) (r : Pair) (after : Place) → IsPair o lines sums ns r → r ≡ At after → o ≡ some (held lines sums ns after)
+was-some : (o : Option Reading) (lines sums ns : List ℕ) (r : Pair) (after : Place) → IsPair o lines sums ns r → r ≡ At after
+    → o ≡ some (held lines sums ns after)
 was-some none lines sums ns r after h e = let no : _≡_ {A = ℕ} 0 1 = cc in absurd (omega arith)
 was-some (some z) lines sums ns r after h e =
     let a : placeOf z ≡ after = cc in
@@ -178,7 +179,8 @@ module _ (bits q W : ℕ) (s : List ℕ) (l : List Step) (r : Reading) (lines su
 pub passed-cut-off : (o : Option Reading) (lines : List ℕ) (r : Passed) → o ≡ none → r .ok ≡ false → IsPassed o lines r
 passed-cut-off o lines r e f = rw e f
 
-pub passed : (o : Option Reading) (lines : List ℕ) (after : Place) (t : Set) → o ≡ some (begun lines t after) → IsPassed o lines (record { ok = true; place = after; set = t })
+pub passed : (o : Option Reading) (lines : List ℕ) (after : Place) (t : Set) → o ≡ some (begun lines t after)
+    → IsPassed o lines (record { ok = true; place = after; set = t })
 passed o lines after t e = rw e (record { ok = refl; lines = refl; records = refl; place = refl })
 
 pub pass-was-cut-off : (o : Option Reading) (lines : List ℕ) (r : Passed) → IsPassed o lines r → r .ok ≡ false → o ≡ none

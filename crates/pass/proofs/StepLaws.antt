@@ -28,7 +28,8 @@ module _ (bits q W : ℕ) (s : List ℕ) (x : Step) (r : Reading) where
   step-cut-off e f = rw (e, f)
 
   pub step-read : (c : Code) → x .coded ≡ true → stepCode bits q W s x r ≡ Read c
-      → readStep bits q W s x r ≡ some (takeCode bits q (stepPlace W x) (stepSlot q W x (r .lines)) (stepContext W x (r .lines)) (stepLook q W x (r .lines)) c r)
+      → readStep bits q W s x r
+      ≡ some (takeCode bits q (stepPlace W x) (stepSlot q W x (r .lines)) (stepContext W x (r .lines)) (stepLook q W x (r .lines)) c r)
   unfolding readStep
   step-read c e f = rw (e, f)
 
@@ -41,7 +42,8 @@ pub record StepGives (bits q W : ℕ) (s : List ℕ) (x : Step) (r : Reading) (o
 pub record StepsGive (bits q W : ℕ) (s : List ℕ) (l : List Step) (r : Reading) (o : Option Reading) : Type 0 where
   pub are : reads bits q W s l r ≡ o
 
-pub reads-append : (bits q W : ℕ) (s : List ℕ) (k l : List Step) (r : Reading) → reads bits q W s (k ++ l) r ≡ andThen (reads bits q W s k r) (λ z. reads bits q W s l z)
+pub reads-append : (bits q W : ℕ) (s : List ℕ) (k l : List Step) (r : Reading)
+    → reads bits q W s (k ++ l) r ≡ andThen (reads bits q W s k r) (λ z. reads bits q W s l z)
 unfolding reads andThen
 reads-append bits q W s [] l r = refl
 reads-append bits q W s (x ∷ k) l r = go (readStep bits q W s x r) (λ z. reads-append bits q W s k l z)
@@ -57,7 +59,8 @@ module _ {bits q W : ℕ} {s : List ℕ} {r : Reading} where
   unfolding reads
   no-steps = record { are = refl }
 
-  pub two-steps : {x y : Step} {z : Reading} {o : Option Reading} → StepGives bits q W s x r (some z) → StepGives bits q W s y z o → StepsGive bits q W s (x ∷ y ∷ []) r o
+  pub two-steps : {x y : Step} {z : Reading} {o : Option Reading} → StepGives bits q W s x r (some z) → StepGives bits q W s y z o
+      → StepsGive bits q W s (x ∷ y ∷ []) r o
   unfolding reads andThen
   two-steps {y = y} {o = none} e f = record { are = rw (e .is, f .is) }
   two-steps {y = y} {o = some u} e f = record { are = rw (e .is, f .is) }
@@ -67,7 +70,8 @@ module _ {bits q W : ℕ} {s : List ℕ} {r : Reading} where
   first-none e = record { are = rw (e .is) }
 
   -- the second part goes on where the first ends
-  pub append-some : {k l : List Step} {z : Reading} {o : Option Reading} → StepsGive bits q W s k r (some z) → StepsGive bits q W s l z o → StepsGive bits q W s (k ++ l) r o
+  pub append-some : {k l : List Step} {z : Reading} {o : Option Reading} → StepsGive bits q W s k r (some z) → StepsGive bits q W s l z o
+      → StepsGive bits q W s (k ++ l) r o
   unfolding andThen
   append-some {k} {l} e f = record { are = reads-append bits q W s k l r ∙ (rw (e .are) (f .are)) }
 
@@ -120,7 +124,8 @@ module _ {bits q W : ℕ} {s : List ℕ} (P : Plan) (p : ℕ) where
     pub evens-cut-off : W % 2 ≡ 0 → p < W → StepsGive bits q W s (evenSteps P p) r none → readPass bits q W s P r₀ ≡ none
     evens-cut-off w lt e = cut-off w (omega arith) (append-none (oddPart P p) (evens-here lt e))
 
-    pub odds-cut-off : {z : Reading} → W % 2 ≡ 0 → p < W + 8 → 8 ≤ p → StepsGive bits q W s (evenPart W P p) r (some z) → StepsGive bits q W s (oddSteps P (p - 7)) z none
+    pub odds-cut-off : {z : Reading} → W % 2 ≡ 0 → p < W + 8 → 8 ≤ p → StepsGive bits q W s (evenPart W P p) r (some z)
+        → StepsGive bits q W s (oddSteps P (p - 7)) z none
         → readPass bits q W s P r₀ ≡ none
     odds-cut-off w lt le e f = cut-off w lt (append-some e (odds-here le f))
 

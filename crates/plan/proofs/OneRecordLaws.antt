@@ -161,7 +161,8 @@ module _ (d : List ℕ) (lines : ℕ) where
   done-means = go (ltb (startOf d m) (length d)) (ltb (firstTwice d lines m) lines) (ltb (firstNone d lines m) lines) refl refl refl
     where
       go : (a b c : Bool) → ltb (startOf d m) (length d) ≡ a → ltb (firstTwice d lines m) lines ≡ b → ltb (firstNone d lines m) lines ≡ c
-          → cond a (Refused (BadRecord (m + 1))) (cond b (Refused (HeldTwice (firstTwice d lines m))) (cond c (Refused (NotHeld (firstNone d lines m))) Done)) ≡ Done → Accepted
+          → cond a (Refused (BadRecord (m + 1)))
+          (cond b (Refused (HeldTwice (firstTwice d lines m))) (cond c (Refused (NotHeld (firstNone d lines m))) Done)) ≡ Done → Accepted
       go true b c ea eb ec e = absurd (let no : _≡_ {A = ℕ} 0 1 = cc in omega arith)
       go false true c ea eb ec e = absurd (let no : _≡_ {A = ℕ} 0 1 = cc in omega arith)
       go false false true ea eb ec e = absurd (let no : _≡_ {A = ℕ} 0 1 = cc in omega arith)

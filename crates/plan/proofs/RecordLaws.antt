@@ -120,7 +120,8 @@ module _ (d : List ℕ) (lines : ℕ) where
       let L = least (length d) (λ j. not (isGood d lines (startOf d j))) 0 in
       not-false (isGood d lines (startOf d k)) (L .before k (omega arith) h)
 
-  pub is-read : (m at : ℕ) → at ≡ startOf d m → goodRecords d lines ≡ goodFrom m → isGood d lines at ≡ false → m ≤ at → at ≤ length d → IsRead d lines (record { records = m; end = at })
+  pub is-read : (m at : ℕ) → at ≡ startOf d m → goodRecords d lines ≡ goodFrom m → isGood d lines at ≡ false → m ≤ at → at ≤ length d
+      → IsRead d lines (record { records = m; end = at })
   is-read m at e g b few inside = record { records = sym (g ∙ good-here m at e b); end = e; few = few; inside = inside }
 
 pub start-next : (d : List ℕ) (m at next : ℕ) → at ≡ startOf d m → next ≡ nextAt d at → next ≡ startOf d (m + 1)

@@ -41,18 +41,12 @@ struct Read {
     end: usize,
 }
 
-fn wide(x: u8) -> u32
-    ensures { λ r. ⌜ (r ≡ x) × (r < 256) ⌝ }
-{
-    x as u32
-}
-
 // The byte at i, 0 past the end.
 fn byte(d: &[u8], i: usize) -> u32
     ensures { λ r. ⌜ (r ≡ getD (now (d .entry)) i 0) × (r < 256) × (1 ≤ r → i < length (now (d .entry))) ⌝ }
 {
     if i < d.len() {
-        return wide(d[i]);
+        return numbers::u8_to_u32(d[i]);
     }
     0
 }

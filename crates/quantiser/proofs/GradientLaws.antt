@@ -76,7 +76,8 @@ minus-moved x c u d e =
     signed b n = record { negative = b; size = n }
 
 -- a sum of levels that are raised by 4 is the gradient, raised
-pub raised : (q weight : ℕ) (first second : Signed) (x y : ℕ) → x + down (levelOf q first) ≡ 4 + up (levelOf q first) → y + down (levelOf q second) ≡ 4 + up (levelOf q second)
+pub raised : (q weight : ℕ) (first second : Signed) (x y : ℕ) → x + down (levelOf q first) ≡ 4 + up (levelOf q first)
+    → y + down (levelOf q second) ≡ 4 + up (levelOf q second)
     → minus (weight * x + y) (4 * weight + 4) ≡ gradientOf q weight first second
 unfolding gradientOf
 raised q weight first second x y ex ey =

@@ -3,7 +3,8 @@ ghost use mathlib.Core.Path.{_≡_};
 ghost use Prim.Native.Nat.{_+_, _-_, _*_, _^_, _≤_, _<_};
 ghost use lib.Dec.{leb};
 ghost use Rattle.numbers.specs.Numbers.{up, down, flag, leastFrom};
-ghost use Rattle.quantiser.specs.Quantisers.{largest, quantiserOf, mainOf, flatOf, QuantiserRanges, startSum, thresholdsOf, Serves, levelSize, levelOf, gradientOf};
+ghost use Rattle.quantiser.specs.Quantisers.{largest, quantiserOf, mainOf, flatOf, QuantiserRanges, startSum};
+ghost use Rattle.quantiser.specs.Quantisers.{thresholdsOf, Serves, levelSize, levelOf, gradientOf};
 use numbers::Signed;
 
 pub struct Quantiser {

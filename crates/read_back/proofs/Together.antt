@@ -27,7 +27,8 @@ starts-cut s l m e =
     f ∙ ap (λ (r : List Bool). l ++ r) (sym (ap (drop (length l)) f ∙ drop-at l (m ++ drop (length (l ++ m)) (bitsOf s)) (length l) refl))
 
 -- where the bits up to p and then m stand at the start, m stands at p
-pub starts-at : (s : List ℕ) (p : ℕ) (m : List Bool) → p ≤ 8 * length s → Starts s (take p (bitsOf s) ++ m) → drop p (bitsOf s) ≡ m ++ drop (p + length m) (bitsOf s)
+pub starts-at : (s : List ℕ) (p : ℕ) (m : List Bool) → p ≤ 8 * length s → Starts s (take p (bitsOf s) ++ m)
+    → drop p (bitsOf s) ≡ m ++ drop (p + length m) (bitsOf s)
 starts-at s p m h e =
     let B : List Bool = bitsOf s in
     let n : length (take p B) ≡ p = length-take-le p B (rw (length-bits s) h) in

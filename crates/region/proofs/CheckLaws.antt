@@ -87,7 +87,8 @@ module _ (h : FujiHeader) (r : Rect) (n : ℕ) where
   unfolding checkedOf
   accepted s k = go (isOutside h r n) (isEmpty r) refl refl
     where
-      go : (o e : Bool) → isOutside h r n ≡ o → isEmpty r ≡ e → cond o (Refused OutsideImage) (cond e Empty (Touched (spanOf r))) ≡ Touched s → Accepted h r n × (s ≡ spanOf r)
+      go : (o e : Bool) → isOutside h r n ≡ o → isEmpty r ≡ e → cond o (Refused OutsideImage) (cond e Empty (Touched (spanOf r))) ≡ Touched s
+          → Accepted h r n × (s ≡ spanOf r)
       go true e p q g = absurd (let no : _≡_ {A = ℕ} 0 1 = cc in omega arith)
       go false true p q g = absurd (let no : _≡_ {A = ℕ} 0 1 = cc in omega arith)
       go false false p q g =

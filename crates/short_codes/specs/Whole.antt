@@ -42,7 +42,8 @@ pub record Whole (depth k n : ℕ) : Type 0 where
   -- each a single time, and in order
   pub rising : (i j : ℕ) → i < j → j < countOf depth k n → entryAt depth k i < entryAt depth k j
   -- the order of entries is by length and then by value
-  pub ordered : (l m : List Bool) → length l ≤ n → length m ≤ n → entryOf l < entryOf m → (length l < length m) ⊎ ((length l ≡ length m) × (valueOf l < valueOf m))
+  pub ordered : (l m : List Bool) → length l ≤ n → length m ≤ n → entryOf l < entryOf m
+      → (length l < length m) ⊎ ((length l ≡ length m) × (valueOf l < valueOf m))
   -- and an entry says its string
   pub told-apart : (l m : List Bool) → length l ≤ n → length m ≤ n → entryOf l ≡ entryOf m → l ≡ m
 

@@ -41,7 +41,8 @@ one-more-k {n} {k} {l} {ks} h lt e =
     }
 
 -- a record and its k are stored
-pub stored-k : {i k : ℕ} (t : Record) {l new : List Record} {ks : List ℕ} → AreKs l ks → i < 112 → new ≡ set l i t → k ≡ kOf (getD new i noRecord) → AreKs new (set ks i k)
+pub stored-k : {i k : ℕ} (t : Record) {l new : List Record} {ks : List ℕ} → AreKs l ks → i < 112 → new ≡ set l i t → k ≡ kOf (getD new i noRecord)
+    → AreKs new (set ks i k)
 stored-k {i} {k} t {l} {new} {ks} h lt e f =
     record {
       all = simp length-set (h .all);

@@ -66,6 +66,11 @@ choice-le q f = choice-cases q f (λ e. omega arith) (λ i e h k. omega arith)
 
 -- a lossless line, with base 0, has the main quantiser alone
 pub look-lossless : (x : Context)
-    → lookOf 0 x ≡ record { choice = 0; base = 0; negative = (gradientOf 0 9 (x .first) (x .second)) .negative; place = (gradientOf 0 9 (x .first) (x .second)) .size }
+    → lookOf 0 x ≡ record {
+      choice = 0;
+      base = 0;
+      negative = (gradientOf 0 9 (x .first) (x .second)) .negative;
+      place = (gradientOf 0 9 (x .first) (x .second)) .size;
+    }
 unfolding lookOf choiceOf
 look-lossless x = refl

@@ -3,7 +3,9 @@ use Prim.Native.Nat.{ℕ, _≤_}
 use lib.Dec.{lit≤}
 use Rattle.stream.specs.Refusals.{refusalNumber}
 use Rattle.stream.specs.declared.Refusal.{Refusal}
-use Rattle.stream.specs.declared.Refusal.the-variants.{ShortHeader, BadHeader, ShortSizes, ShortBases, NoBlock, WrongSize, OutsideImage, Lossy, WrongCount, ShortScratch, AboveLargest, NotPredicted, ShortOutput, Truncated, NotTight, Lossless, WrongBases, BadRecord, HeldTwice, NotHeld, OutsideSheet}
+use Rattle.stream.specs.declared.Refusal.the-variants.{ShortHeader, BadHeader, ShortSizes, ShortBases, NoBlock, WrongSize, OutsideImage, Lossy}
+use Rattle.stream.specs.declared.Refusal.the-variants.{WrongCount, ShortScratch, AboveLargest, NotPredicted, ShortOutput, Truncated, NotTight}
+use Rattle.stream.specs.declared.Refusal.the-variants.{Lossless, WrongBases, BadRecord, HeldTwice, NotHeld, OutsideSheet}
 
 -- no refusal has the number 0
 pub number-low : (r : Refusal) → 1 ≤ refusalNumber r

@@ -11,7 +11,8 @@ use borrow.Author.Tests.{lt-ltb, le-ltb, ltb-false}
 use Rattle.numbers.proofs.LeastLaws.{least}
 use Rattle.numbers.proofs.OrderLaws.{split}
 use Rattle.stream.specs.Headers.{parseOf}
-use Rattle.stream.specs.Streams.{sizesEnd, sizeOf, rowLength, rowStart, isShort, firstShort, openIn, openOf, Opened, blockStart, cut, rangeIn, rangeOf, rowIn, rowOf, partOf, Short, Inside}
+use Rattle.stream.specs.Streams.{sizesEnd, sizeOf, rowLength, rowStart, isShort, firstShort, openIn, openOf, Opened}
+use Rattle.stream.specs.Streams.{blockStart, cut, rangeIn, rangeOf, rowIn, rowOf, partOf, Short, Inside}
 use Rattle.stream.specs.declared.FujiHeader.{FujiHeader}
 use Rattle.stream.specs.declared.Parsed.{Parsed}
 use Rattle.stream.specs.declared.Parsed.the-variants.{Header, Refused}
@@ -58,7 +59,8 @@ pub opened : (d : List ℕ) (h : FujiHeader) → openOf d ≡ Header h → Opene
 unfolding openOf
 opened d h = from (parseOf d) refl
   where
-    tests : (g : FujiHeader) → parseOf d ≡ Header g → (s t : Bool) → ltb (length d) (sizesEnd g) ≡ s → (not (g .lossless) && ltb (firstShort d g) (g .blocks)) ≡ t
+    tests : (g : FujiHeader) → parseOf d ≡ Header g → (s t : Bool) → ltb (length d) (sizesEnd g) ≡ s
+        → (not (g .lossless) && ltb (firstShort d g) (g .blocks)) ≡ t
         → cond s (Refused ShortSizes) (cond t (Refused (ShortBases (firstShort d g))) (Header g)) ≡ Header h → Opened d h
     tests g e true t es et f = clash ShortSizes h f
     tests g e false true es et f = clash (ShortBases (firstShort d g)) h f

@@ -5,7 +5,8 @@ ghost use lib.ListN.{length};
 ghost use Rattle.stream.specs.Refusals.{refusalWords};
 ghost use Rattle.stream.specs.Headers.{byteAt, be16, headerOf, within, kindRules, sizeRules, countRules, parseOf, Ruled, widthAnswer};
 ghost use Rattle.stream.specs.Lengths.{boundAnswer, lengthWord, lengthRefusal};
-ghost use Rattle.stream.specs.Streams.{padded, sizeOf, rowLength, rowStart, firstShort, openIn, openOf, Opened, sizesBefore, blockStart, cut, rangeIn, rangeOf, rowIn, rowOf, partOf, Short, Inside};
+ghost use Rattle.stream.specs.Streams.{padded, sizeOf, rowLength, rowStart, firstShort, openIn, openOf, Opened, sizesBefore};
+ghost use Rattle.stream.specs.Streams.{blockStart, cut, rangeIn, rangeOf, rowIn, rowOf, partOf, Short, Inside};
 use bits::ByteOffset;
 
 // Why a call is refused. specs/Refusals.antt gives each case its number, and the values that it names.

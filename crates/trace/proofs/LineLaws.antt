@@ -94,7 +94,8 @@ module _ (sums ns : List ℕ) (g a e : ℕ) (ea : a ≡ 112 * g) (ee : e ≡ a +
     pub lent-in-range : SetInRange (zipRecords (midOf a (e - a) sums) (midOf a (e - a) ns))
     lent-in-range = rw (← set-zip) (set-in-range g (zipRecords sums ns) three all)
 
-    pub back-in-range : (p q : List ℕ) → length p ≡ 112 → length q ≡ 112 → SetInRange (zipRecords p q) → AllInRange (zipRecords (putMid a (e - a) sums p) (putMid a (e - a) ns q))
+    pub back-in-range : (p q : List ℕ) → length p ≡ 112 → length q ≡ 112 → SetInRange (zipRecords p q)
+        → AllInRange (zipRecords (putMid a (e - a) sums p) (putMid a (e - a) ns q))
     back-in-range p q lp lq new =
         let z : length (zipRecords sums ns) ≡ length sums = zip-length sums ns (ls ∙ sym ln) in
         rw (← put-zip p q ls ln three lp lq) (put-in-range g (zipRecords p q) (zipRecords sums ns) three (z ∙ ls) new all)
@@ -105,7 +106,8 @@ module _ (sums ns : List ℕ) (g a e : ℕ) (ea : a ≡ 112 * g) (ee : e ≡ a +
 abbrev left : Plan → State → Reading → State
 left P r z = record { lines = z .lines; records = putSet (P .set) (z .set) (r .records); at = z .at; tight = z .tight; long = 0 }
 
-way-leave : (P : Plan) (r : State) (o : Option BadCode) (a : Option Reading) → wayOf o (Option·map plainState (leave P r a)) ≡ thenWay (wayOf o (Option·map plain a)) (λ z. on (left P r z))
+way-leave : (P : Plan) (r : State) (o : Option BadCode) (a : Option Reading)
+    → wayOf o (Option·map plainState (leave P r a)) ≡ thenWay (wayOf o (Option·map plain a)) (λ z. on (left P r z))
 unfolding thenWay
 way-leave P r (some b) none = refl
 way-leave P r (some b) (some z) = refl
@@ -210,7 +212,8 @@ module _ (F : Form) (s : List ℕ) (n W : ℕ) (l₀ l₁ sums ns : List ℕ) (a
       go zero k = let r : zipRecords sums ns ≡ startRecords (F .bits) 0 = k refl in rw (r, restart-none (F .bits))
       go (suc n) k = rw (ne-eqb (suc n) 0 (λ q. omega arith))
 
-  pub line-says : {here : BitPosition → State} {r : Traced} → Says here (lineWay F s n (cleanState l₁ sums ns at)) r → Says here (lineAtWay F s n (cleanState l₀ sums ns at)) r
+  pub line-says : {here : BitPosition → State} {r : Traced} → Says here (lineWay F s n (cleanState l₁ sums ns at)) r
+      → Says here (lineAtWay F s n (cleanState l₀ sums ns at)) r
   line-says h = rw (line-at F s n (cleanState l₀ sums ns at), before-is) h
 
 -- ---- colour lines that begin at 0

@@ -47,7 +47,8 @@ pub was-loose : (o : Option Reason) (x : Named.Reason) → verdictOf o ≡ Bad x
 was-loose none x e = let no : _≡_ {A = ℕ} 0 1 = cc in absurd (omega arith)
 was-loose (some w) x e = (w, refl, cc)
 
-pub spot-is : (n i line p : ℕ) (at : BitPosition) (a b : Named.Reason) (z : BadSpot) → z ≡ record { line = n; pass = i; colour = line; position = p; at = at; reason = a } → a ≡ b
+pub spot-is : (n i line p : ℕ) (at : BitPosition) (a b : Named.Reason) (z : BadSpot)
+    → z ≡ record { line = n; pass = i; colour = line; position = p; at = at; reason = a } → a ≡ b
     → z ≡ record { line = n; pass = i; colour = line; position = p; at = at; reason = b }
 spot-is n i line p at a b z e f = e ∙ rw f
 
@@ -83,7 +84,8 @@ reader-small t e h = let n = numbers-le (t .bits) 0 9 h in rw e (n .2, n .1)
 pub total-small : (t : Stage) → t .q ≡ mainOf (t .bits) 0 → t .bits ≤ 16 → t .q .total ≤ 2 ^ 16
 total-small t e h = rw e (numbers-le (t .bits) 0 9 h .0)
 
-module _ (s : List ℕ) (at : BitPosition) {t : Stage} {line p : ℕ} {coded : Bool} {lines sums ns : List ℕ} {i : ℕ} {x : Context} {h : Look} {j : ℕ} {old : Record} {k : ℕ} {got : Coded}
+module _ (s : List ℕ) (at : BitPosition) {t : Stage} {line p : ℕ} {coded : Bool} {lines sums ns : List ℕ} {i : ℕ} {x : Context} {h : Look} {j : ℕ}
+    {old : Record} {k : ℕ} {got : Coded}
     (here : Here t line p lines sums ns i x h j old) (ec : coded ≡ true) (ek : k ≡ kOf old) (eg : got ≡ codeAt s (at .0) k (t .q .limit) (t .q .raw)) where
   abbrev step : Step
   step = stepAt line p coded

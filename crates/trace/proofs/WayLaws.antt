@@ -84,7 +84,8 @@ module _ {A C : Type 0} (f : A → Way C) where
   on-then o a e = rw e
 
 -- what is known of an answer
-pub was-bad : {A : Type 0} {here : BitPosition → A} {o : Way A} {r : Traced} {x : BadSpot} → Says here o r → r ≡ Bad x → (b : BadCode) × (o ≡ found b) × (x ≡ spotOf b)
+pub was-bad : {A : Type 0} {here : BitPosition → A} {o : Way A} {r : Traced} {x : BadSpot} → Says here o r → r ≡ Bad x
+    → (b : BadCode) × (o ≡ found b) × (x ≡ spotOf b)
 was-bad {here = here} {o = o} {r = r} {x = x} h e = subst (Said here o) e (h .is)
 
 pub was-cut : {A : Type 0} {here : BitPosition → A} {o : Way A} {r : Traced} → Says here o r → r ≡ CutOff → o ≡ cut-off
@@ -188,7 +189,8 @@ module _ (t : Stage) (s : List ℕ) where
     pub odd-here : 8 ≤ p → stepsWay t s (oddPart P p) r ≡ stepsWay t s (oddSteps P (p - 7)) r
     odd-here h = rw (le-leb 8 p h)
 
-  pub steps-turn : (W : ℕ) (P : Plan) (n : ℕ) (r : Reading) → stepsWay t s (turnSteps W P n) r ≡ thenWay (stepsWay t s (evenPart W P (2 * n)) r) (λ z. stepsWay t s (oddPart P (2 * n)) z)
+  pub steps-turn : (W : ℕ) (P : Plan) (n : ℕ) (r : Reading)
+      → stepsWay t s (turnSteps W P n) r ≡ thenWay (stepsWay t s (evenPart W P (2 * n)) r) (λ z. stepsWay t s (oddPart P (2 * n)) z)
   unfolding turnSteps
   steps-turn W P n r = steps-append (evenPart W P (2 * n)) (oddPart P (2 * n)) r
 

@@ -64,7 +64,8 @@ plainState r = record { lines = r .lines; records = r .records; at = r .at; tigh
 
 -- one step, and a list of steps, of a pass of a lossless line
 unfoldable pub stepWay : Stage → List ℕ → Step → Reading → Way Reading
-stepWay t s x r = wayOf (Option·map (badAt (t .line) (t .pass) x r) (stepReason (t .bits) 0 (t .w) s x r)) (Option·map plain (readStep (t .bits) 0 (t .w) s x r))
+stepWay t s x r =
+    wayOf (Option·map (badAt (t .line) (t .pass) x r) (stepReason (t .bits) 0 (t .w) s x r)) (Option·map plain (readStep (t .bits) 0 (t .w) s x r))
 
 unfoldable pub stepsWay : Stage → List ℕ → List Step → Reading → Way Reading
 stepsWay t s l r = wayOf (badInSteps (t .line) (t .pass) (t .bits) 0 (t .w) s l r) (Option·map plain (reads (t .bits) 0 (t .w) s l r))

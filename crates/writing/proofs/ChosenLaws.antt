@@ -28,7 +28,8 @@ abbrev pub Chosen : (bits base total : ℕ) → Bool → (g v code value : ℕ) 
 Chosen bits base total negative g v code value =
     ((code ≡ codeNear base total negative g v) × (code < total)) × ((value ≡ sampleOf (largest bits) base total negative g code) × (value ≤ largest bits))
 
-module _ (bits base total : ℕ) (negative : Bool) (g v : ℕ) (low : 12 ≤ bits) (et : total ≡ totalOf bits base) (hg : g ≤ largest bits) (hv : v ≤ largest bits) where
+module _ (bits base total : ℕ) (negative : Bool) (g v : ℕ) (low : 12 ≤ bits) (et : total ≡ totalOf bits base) (hg : g ≤ largest bits)
+    (hv : v ≤ largest bits) where
   -- what the leaves ask
   pub chosen-small : bits ≤ 16 → (total ≤ 2 ^ 16) × ((g < 2 ^ 16) × (v < 2 ^ 16))
   chosen-small high =
@@ -39,7 +40,8 @@ module _ (bits base total : ℕ) (negative : Bool) (g v : ℕ) (low : 12 ≤ bit
   pub near-lt : codeNear base total negative g v < total
   near-lt = near-back (largest bits) base total (rw et (total-wide bits base)) negative g v hg hv .0
 
-module _ (bits base total : ℕ) (negative : Bool) (g v : ℕ) (low : 12 ≤ bits) (et : total ≡ totalOf bits base) (hg : g ≤ largest bits) (hv : v ≤ largest bits) {m code : ℕ} (em : m ≡ largest bits) where
+module _ (bits base total : ℕ) (negative : Bool) (g v : ℕ) (low : 12 ≤ bits) (et : total ≡ totalOf bits base) (hg : g ≤ largest bits)
+    (hv : v ≤ largest bits) {m code : ℕ} (em : m ≡ largest bits) where
   pub chosen-exact : base ≡ 0 → code ≡ codeFor m negative g v → Chosen bits base total negative g v code v
   chosen-exact eb ec =
       let M : ℕ = largest bits in
@@ -48,12 +50,14 @@ module _ (bits base total : ℕ) (negative : Bool) (g v : ℕ) (low : 12 ≤ bit
       let c : code ≡ codeFor M negative g v = rw em at ec in
       rw (eb, e, c) ((sym (near-exact bits (omega arith) negative g v hg hv), omega (arith, o .codes v hv)), (sym (o .back v hv), hv))
 
-  pub chosen-near : {value : ℕ} → code ≡ codeNear base total negative g v → (value ≡ sampleOf m base total negative g code) × (value ≤ m) → Chosen bits base total negative g v code value
+  pub chosen-near : {value : ℕ} → code ≡ codeNear base total negative g v → (value ≡ sampleOf m base total negative g code) × (value ≤ m)
+      → Chosen bits base total negative g v code value
   chosen-near ec ev = ((ec, rw ec (near-lt bits base total negative g v low et hg hv)), rw em at ev)
 
 -- ---- by the quantiser that is used
 
-module _ (bits q : ℕ) (x : Context) (h : Look) (eh : h ≡ lookOf q x) (four : h .choice ≤ 3) (totals : List ℕ) (et : totals ≡ (quantisersOf bits q) .totals) where
+module _ (bits q : ℕ) (x : Context) (h : Look) (eh : h ≡ lookOf q x) (four : h .choice ≤ 3) (totals : List ℕ)
+    (et : totals ≡ (quantisersOf bits q) .totals) where
   used-total : getD totals (h .choice) 0 ≡ (usedQuantiser bits q (h .choice)) .total
   used-total = rw et (total-at bits q (h .choice) four)
 
@@ -65,7 +69,8 @@ module _ (bits q : ℕ) (x : Context) (h : Look) (eh : h ≡ lookOf q x) (four :
   unfolding quantiserOf
   look-total = rw base-is used-total
 
-  pub coded-is : (p v slot code value : ℕ) → (slot ≡ slotOf p (h .place)) × (slot < 112) → Chosen bits (h .base) (getD totals (h .choice) 0) (h .negative) (x .prediction) v code value
+  pub coded-is : (p v slot code value : ℕ) → (slot ≡ slotOf p (h .place)) × (slot < 112)
+      → Chosen bits (h .base) (getD totals (h .choice) 0) (h .negative) (x .prediction) v code value
       → CodedAs bits q p x v (record { slot = slot; choice = h .choice; code = code; value = value })
   unfolding valueOfSample
   coded-is p v slot code value es c =
@@ -82,7 +87,8 @@ module _ (bits q : ℕ) (x : Context) (h : Look) (eh : h ≡ lookOf q x) (four :
       }
 
 -- a lossless line, with base 0
-pub coded-exact : (bits q : ℕ) (x : Context) (h : Look) (totals : List ℕ) (p v m slot code : ℕ) → q ≡ 0 → CodingAsks bits q totals x v → h ≡ lookOf 0 x → h .choice ≤ 3
+pub coded-exact : (bits q : ℕ) (x : Context) (h : Look) (totals : List ℕ) (p v m slot code : ℕ) → q ≡ 0 → CodingAsks bits q totals x v → h ≡ lookOf 0 x
+    → h .choice ≤ 3
     → (slot ≡ slotOf p (h .place)) × (slot < 112) → m ≡ largest bits → code ≡ codeFor m (h .negative) (x .prediction) v
     → CodedAs bits q p x v (record { slot = slot; choice = h .choice; code = code; value = v })
 coded-exact bits q x h totals p v m slot code e a eh four es em ec =

@@ -24,11 +24,13 @@ use Rattle.writing.specs.declared.Coding.{Coding}
 use Rattle.writing.specs.declared.Put.{Put}
 use Rattle.writing.specs.declared.Put.the-variants.{At, Wrong}
 use Rattle.writing.proofs.LosslessLaws.{code-numbers}
-use Rattle.writing.proofs.StepPuts.{Sample, prediction-le, sample-room, sample-coded, sample-right, sample-wrong, first-room, room-after, goes-on, within-after, position-after}
+use Rattle.writing.proofs.StepPuts.{Sample, prediction-le, sample-room, sample-coded, sample-right, sample-wrong}
+use Rattle.writing.proofs.StepPuts.{first-room, room-after, goes-on, within-after, position-after}
 
 -- ---- what steps find, and what is known after one of them
 
-pub record Ready (bits q : ℕ) (totals raws limits : List ℕ) (W : ℕ) (strict : Bool) (t : List ℕ) (n : ℕ) (l : List Step) (store : Bool) (from : BitPosition) (lines sums ns out : List ℕ) : Type 0 where
+pub record Ready (bits q : ℕ) (totals raws limits : List ℕ) (W : ℕ) (strict : Bool) (t : List ℕ) (n : ℕ) (l : List Step) (store : Bool)
+    (from : BitPosition) (lines sums ns out : List ℕ) : Type 0 where
   pub numbers : LineNumbers bits q totals raws limits
   pub wanted : Wanted (largest bits) W t n l
   pub held : Within (largest bits) lines
@@ -36,20 +38,25 @@ pub record Ready (bits q : ℕ) (totals raws limits : List ℕ) (W : ℕ) (stric
   pub low : from .0 + 80 * length l < 2 ^ 60 + 80
   pub room : StepsRoom bits q W strict t n l store (from .0) lines sums ns out
 
-pub record Done (bits q W : ℕ) (strict : Bool) (t : List ℕ) (n : ℕ) (y : Step) (store : Bool) (from : BitPosition) (lines sums ns out lines' sums' ns' out' : List ℕ) (at : BitPosition) : Type 0 where
+pub record Done (bits q W : ℕ) (strict : Bool) (t : List ℕ) (n : ℕ) (y : Step) (store : Bool) (from : BitPosition)
+    (lines sums ns out lines' sums' ns' out' : List ℕ) (at : BitPosition) : Type 0 where
   pub put : StepsPut bits q W strict t n (y ∷ []) store (from .0) lines sums ns out lines' sums' ns' out' (At at)
   pub records : SetInRange (zipRecords sums' ns')
   pub same : length out' ≡ length out
   pub long : length lines' ≡ length lines
 
 -- where two ways meet, the same lists have other names
-pub met : {bits q W : ℕ} {strict : Bool} {t : List ℕ} {n : ℕ} {y : Step} {store : Bool} {from : BitPosition} {lines sums ns out lines' lines″ sums' sums″ ns' ns″ out' out″ : List ℕ} {at at″ : BitPosition}
-    → out″ ≡ out' → lines″ ≡ lines' → sums″ ≡ sums' → ns″ ≡ ns' → at″ ≡ at → Done bits q W strict t n y store from lines sums ns out lines' sums' ns' out' at → Done bits q W strict t n y store from lines sums ns out lines″ sums″ ns″ out″ at″
+pub met : {bits q W : ℕ} {strict : Bool} {t : List ℕ} {n : ℕ} {y : Step} {store : Bool} {from : BitPosition}
+    {lines sums ns out lines' lines″ sums' sums″ ns' ns″ out' out″ : List ℕ} {at at″ : BitPosition}
+    → out″ ≡ out' → lines″ ≡ lines' → sums″ ≡ sums' → ns″ ≡ ns' → at″ ≡ at
+    → Done bits q W strict t n y store from lines sums ns out lines' sums' ns' out' at
+    → Done bits q W strict t n y store from lines sums ns out lines″ sums″ ns″ out″ at″
 met eo el es en ea d = rw (eo, el, es, en, ea) d
 
 -- ---- two steps
 
-module _ {bits q : ℕ} {totals raws limits : List ℕ} {W : ℕ} {strict : Bool} {t : List ℕ} {n : ℕ} {y z : Step} {store : Bool} {from : BitPosition} {lines sums ns out : List ℕ}
+module _ {bits q : ℕ} {totals raws limits : List ℕ} {W : ℕ} {strict : Bool} {t : List ℕ} {n : ℕ} {y z : Step} {store : Bool} {from : BitPosition}
+    {lines sums ns out : List ℕ}
     (r : Ready bits q totals raws limits W strict t n (y ∷ z ∷ []) store from lines sums ns out) where
   pub first-ready : Ready bits q totals raws limits W strict t n (y ∷ []) store from lines sums ns out
   first-ready =
@@ -74,18 +81,21 @@ module _ {bits q : ℕ} {totals raws limits : List ℕ} {W : ℕ} {strict : Bool
           room = room-after (d .put) refl (z ∷ []) (d .same) (r .room);
         }
 
-    pub two-puts : {lines₂ sums₂ ns₂ out₂ : List ℕ} {u : Put} → StepsPut bits q W strict t n (z ∷ []) store (at .0) lines' sums' ns' out' lines₂ sums₂ ns₂ out₂ u
+    pub two-puts : {lines₂ sums₂ ns₂ out₂ : List ℕ} {u : Put}
+        → StepsPut bits q W strict t n (z ∷ []) store (at .0) lines' sums' ns' out' lines₂ sums₂ ns₂ out₂ u
         → StepsPut bits q W strict t n (y ∷ z ∷ []) store (from .0) lines sums ns out lines₂ sums₂ ns₂ out₂ u
     two-puts g = goes-on (d .put) refl (z ∷ []) (r .room) g
 
 -- ---- one step, of which the leaves have told the place, the index in the set and the context
 
-pub record Site (bits q : ℕ) (totals raws limits : List ℕ) (W : ℕ) (strict : Bool) (t : List ℕ) (n line p : ℕ) (coded store : Bool) (from : BitPosition) (lines sums ns out : List ℕ) (i j : ℕ) (x : Context) : Type 0 where
+pub record Site (bits q : ℕ) (totals raws limits : List ℕ) (W : ℕ) (strict : Bool) (t : List ℕ) (n line p : ℕ) (coded store : Bool) (from : BitPosition)
+    (lines sums ns out : List ℕ) (i j : ℕ) (x : Context) : Type 0 where
   pub ready : Ready bits q totals raws limits W strict t n (stepAt line p coded ∷ []) store from lines sums ns out
   pub sample : Sample W t n line p lines i j x
   pub ranges : ContextRanges x
 
-module _ {bits q : ℕ} {totals raws limits : List ℕ} {W : ℕ} {strict : Bool} {t : List ℕ} {n line p : ℕ} {coded store : Bool} {from : BitPosition} {lines sums ns out : List ℕ} {i j : ℕ} {x : Context}
+module _ {bits q : ℕ} {totals raws limits : List ℕ} {W : ℕ} {strict : Bool} {t : List ℕ} {n line p : ℕ} {coded store : Bool} {from : BitPosition}
+    {lines sums ns out : List ℕ} {i j : ℕ} {x : Context}
     (s : Site bits q totals raws limits W strict t n line p coded store from lines sums ns out i j x) {v : ℕ} (ev : v ≡ getD t j 0) where
   -- ---- interpolated
 
@@ -93,7 +103,8 @@ module _ {bits q : ℕ} {totals raws limits : List ℕ} {W : ℕ} {strict : Bool
     judged : b ≡ (strict && not (eqb (getD t j 0) (x .prediction)))
     judged = rw ev at eb
 
-    pub site-right : coded ≡ false → b ≡ false → Done bits q W strict t n (stepAt line p coded) store from lines sums ns out (set lines (i + 1) (x .prediction)) sums ns out from
+    pub site-right : coded ≡ false → b ≡ false
+        → Done bits q W strict t n (stepAt line p coded) store from lines sums ns out (set lines (i + 1) (x .prediction)) sums ns out from
     site-right e f =
         record {
           put = sample-right (s .sample) bits q strict store coded (from .0) sums ns out from e refl (sym judged ∙ f);
@@ -102,7 +113,8 @@ module _ {bits q : ℕ} {totals raws limits : List ℕ} {W : ℕ} {strict : Bool
           long = length-set lines (i + 1) (x .prediction);
         }
 
-    pub site-wrong : coded ≡ false → b ≡ true → StepsPut bits q W strict t n (stepAt line p coded ∷ []) store (from .0) lines sums ns out lines sums ns out (Wrong j)
+    pub site-wrong : coded ≡ false → b ≡ true
+        → StepsPut bits q W strict t n (stepAt line p coded ∷ []) store (from .0) lines sums ns out lines sums ns out (Wrong j)
     site-wrong e f = sample-wrong (s .sample) bits q strict store coded (from .0) sums ns out lines e (sym judged ∙ f)
 
   -- ---- with a code
@@ -127,7 +139,8 @@ module _ {bits q : ℕ} {totals raws limits : List ℕ} {W : ℕ} {strict : Bool
       pub site-record : (c .slot < 112) × SetInRange (zipRecords sums ns)
       site-record = (ec .slot-lt, s .ready .records)
 
-      numbers : let Q = usedQuantiser bits q (c .choice) in (1 ≤ Q .limit) × (Q .limit + Q .raw < 64) × (Q .raw ≤ 16) × (Q .total ≤ 2 ^ Q .raw) × (Q .total ≤ 2 ^ 16)
+      numbers : let Q = usedQuantiser bits q (c .choice) in
+          (1 ≤ Q .limit) × (Q .limit + Q .raw < 64) × (Q .raw ≤ 16) × (Q .total ≤ 2 ^ Q .raw) × (Q .total ≤ 2 ^ 16)
       numbers = let d = s .ready .numbers .depth in code-numbers bits (usedBase q (c .choice)) (usedWeight (c .choice)) (d .0) (d .1)
 
       pub site-value : c .value < 2 ^ 16
@@ -170,7 +183,8 @@ module _ {bits q : ℕ} {totals raws limits : List ℕ} {W : ℕ} {strict : Bool
           set-is = rw (eo .0, ec .slot, ec .code, ev)
 
           pub site-done : {after : BitPosition} {out' sums' ns' : List ℕ}
-              → (after .0 ≡ from .0 + length (codeBits k limit raw (c .code))) × (out' ≡ putIf store out (from .0) (codeBits k limit raw (c .code))) → length out' ≡ length out
+              → (after .0 ≡ from .0 + length (codeBits k limit raw (c .code))) × (out' ≡ putIf store out (from .0) (codeBits k limit raw (c .code)))
+              → length out' ≡ length out
               → (zipRecords sums' ns' ≡ set (zipRecords sums ns) (c .slot) (updated old ((residualOf (c .code)) .size))) × SetInRange (zipRecords sums' ns')
               → Done bits q W strict t n (stepAt line p coded) store from lines sums ns out (set lines (i + 1) (c .value)) sums' ns' out' after
           site-done {after} {out'} {sums'} {ns'} put same new =

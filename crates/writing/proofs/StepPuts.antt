@@ -54,7 +54,8 @@ module _ (bits q W : ℕ) (strict : Bool) (t : List ℕ) (n : ℕ) (x : Step) (r
         lines = set (r .lines) (stepPlace W x + 1) ((stepContext W x (r .lines)) .prediction);
         set = r .set;
         bits = r .bits;
-        wrong = orSecond (r .wrong) (cond (strict && not (eqb (wanted W t n x) ((stepContext W x (r .lines)) .prediction))) (some (indexIn W n (x .line) (x .position))) none);
+        wrong = orSecond (r .wrong)
+            (cond (strict && not (eqb (wanted W t n x) ((stepContext W x (r .lines)) .prediction))) (some (indexIn W n (x .line) (x .position))) none);
       }
   unfolding writes writeStep
   step-interpolated e = rw e
@@ -179,8 +180,10 @@ was-wrong (some i) z store from out lines' sums' ns' out' j h = let e : i ≡ j 
 -- ---- steps one after the other
 
 -- the second part starts where the first has ended: with the bits b before it
-join : (o : Option ℕ) (z : Writing) (b : List Bool) (store : Bool) (from at : ℕ) (out out₁ lines' sums' ns' out' : List ℕ) (r : Put) → at ≡ from + length b → out₁ ≡ putIf store out from b
-    → (store ≡ true → bytesFor (from + length (b ++ z .bits)) ≤ length out) → IsPut o z at store out₁ lines' sums' ns' out' r → IsPut o (after b z) from store out lines' sums' ns' out' r
+join : (o : Option ℕ) (z : Writing) (b : List Bool) (store : Bool) (from at : ℕ) (out out₁ lines' sums' ns' out' : List ℕ) (r : Put) → at ≡ from + length b
+    → out₁ ≡ putIf store out from b
+    → (store ≡ true → bytesFor (from + length (b ++ z .bits)) ≤ length out) → IsPut o z at store out₁ lines' sums' ns' out' r
+    → IsPut o (after b z) from store out lines' sums' ns' out' r
 join none z b true from at out out₁ lines' sums' ns' out' r ea eo h g =
     let e : at + length (z .bits) ≡ from + length (b ++ z .bits) = rw length-append (omega arith) in
     let room = rw length-append at (h refl) in
@@ -200,7 +203,8 @@ module _ (bits q W : ℕ) (strict : Bool) (t : List ℕ) (n : ℕ) (k l : List S
       omega (arith, f)
 
   module _ (lines₁ sums₁ ns₁ out₁ : List ℕ) where
-    first-wrong : (r : Put) (j : ℕ) → r ≡ Wrong j → StepsPut bits q W strict t n k store from lines sums ns out lines₁ sums₁ ns₁ out₁ r → StepsPut bits q W strict t n (k ++ l) store from lines sums ns out lines₁ sums₁ ns₁ out₁ r
+    first-wrong : (r : Put) (j : ℕ) → r ≡ Wrong j → StepsPut bits q W strict t n k store from lines sums ns out lines₁ sums₁ ns₁ out₁ r
+        → StepsPut bits q W strict t n (k ++ l) store from lines sums ns out lines₁ sums₁ ns₁ out₁ r
     first-wrong r j er h =
         let z : Writing = writes bits q W strict t n k (startOf lines sums ns) in
         let g : StepsPut bits q W strict t n k store from lines sums ns out lines₁ sums₁ ns₁ out₁ (Wrong j) = rw er at h in
@@ -212,18 +216,21 @@ module _ (bits q W : ℕ) (strict : Bool) (t : List ℕ) (n : ℕ) (k l : List S
       done : Went (writes bits q W strict t n k (startOf lines sums ns)) store from out lines₁ sums₁ ns₁ out₁ at
       done = went ((writes bits q W strict t n k (startOf lines sums ns)) .wrong) (writes bits q W strict t n k (startOf lines sums ns)) store from out lines₁ sums₁ ns₁ out₁ at refl (g .are)
 
-      both : writes bits q W strict t n (k ++ l) (startOf lines sums ns) ≡ after ((writes bits q W strict t n k (startOf lines sums ns)) .bits) (writes bits q W strict t n l (startOf lines₁ sums₁ ns₁))
+      both : writes bits q W strict t n (k ++ l) (startOf lines sums ns) ≡ after ((writes bits q W strict t n k (startOf lines sums ns)) .bits)
+          (writes bits q W strict t n l (startOf lines₁ sums₁ ns₁))
       both =
           writes-append bits q W strict t n k l (startOf lines sums ns)
           ∙ (ap (λ (z : Writing). writes bits q W strict t n l z) (done .held) ∙ writes-after bits q W strict t n ((writes bits q W strict t n k (startOf lines sums ns)) .bits) l (startOf lines₁ sums₁ ns₁))
 
-      second-room : length out₁ ≡ length out → StepsRoom bits q W strict t n (k ++ l) store from lines sums ns out → StepsRoom bits q W strict t n l store (at .0) lines₁ sums₁ ns₁ out₁
+      second-room : length out₁ ≡ length out → StepsRoom bits q W strict t n (k ++ l) store from lines sums ns out
+          → StepsRoom bits q W strict t n l store (at .0) lines₁ sums₁ ns₁ out₁
       second-room same h e =
           let f = rw (both, length-append) at (h e) in
           omega (arith, f, same, done .position)
 
       together : (lines₂ sums₂ ns₂ out₂ : List ℕ) (r : Put) → StepsRoom bits q W strict t n (k ++ l) store from lines sums ns out
-          → StepsPut bits q W strict t n l store (at .0) lines₁ sums₁ ns₁ out₁ lines₂ sums₂ ns₂ out₂ r → StepsPut bits q W strict t n (k ++ l) store from lines sums ns out lines₂ sums₂ ns₂ out₂ r
+          → StepsPut bits q W strict t n l store (at .0) lines₁ sums₁ ns₁ out₁ lines₂ sums₂ ns₂ out₂ r
+          → StepsPut bits q W strict t n (k ++ l) store from lines sums ns out lines₂ sums₂ ns₂ out₂ r
       together lines₂ sums₂ ns₂ out₂ r h g₂ =
           record {
             are = rw both (join ((writes bits q W strict t n l (startOf lines₁ sums₁ ns₁)) .wrong) (writes bits q W strict t n l (startOf lines₁ sums₁ ns₁)) _ store from (at .0) out out₁ lines₂ sums₂ ns₂ out₂ r (done .position) (done .output) (rw both at h) (g₂ .are));
@@ -236,7 +243,8 @@ module _ (bits q W : ℕ) (strict : Bool) (t : List ℕ) (n : ℕ) (k l : List S
           rw e at (writes-within bits q W strict t n k (startOf lines sums ns) hl j)
 
 -- no step
-pub no-puts : (bits q W : ℕ) (strict : Bool) (t : List ℕ) (n : ℕ) (store : Bool) (from : BitPosition) (lines sums ns out : List ℕ) → StepsPut bits q W strict t n [] store (from .0) lines sums ns out lines sums ns out (At from)
+pub no-puts : (bits q W : ℕ) (strict : Bool) (t : List ℕ) (n : ℕ) (store : Bool) (from : BitPosition) (lines sums ns out : List ℕ)
+    → StepsPut bits q W strict t n [] store (from .0) lines sums ns out lines sums ns out (At from)
 unfolding writes
 no-puts bits q W strict t n store from lines sums ns out = record { are = (at-is from _ (omega arith), refl, refl, none-put store out (from .0)) }
 
@@ -274,7 +282,8 @@ module _ (bits q W : ℕ) (strict : Bool) (t : List ℕ) (n : ℕ) (depth : bits
 
 -- ---- the same, by what the first part has answered
 
-module _ {bits q W : ℕ} {strict : Bool} {t : List ℕ} {n : ℕ} {k : List Step} {store : Bool} {from : ℕ} {lines sums ns out lines₁ sums₁ ns₁ out₁ : List ℕ} {r : Put}
+module _ {bits q W : ℕ} {strict : Bool} {t : List ℕ} {n : ℕ} {k : List Step} {store : Bool} {from : ℕ} {lines sums ns out lines₁ sums₁ ns₁ out₁ : List ℕ}
+    {r : Put}
     (g : StepsPut bits q W strict t n k store from lines sums ns out lines₁ sums₁ ns₁ out₁ r) where
   -- a wrong sample ends both
   pub ends : (l : List Step) {j : ℕ} → r ≡ Wrong j → StepsPut bits q W strict t n (k ++ l) store from lines sums ns out lines₁ sums₁ ns₁ out₁ r
@@ -285,11 +294,13 @@ module _ {bits q W : ℕ} {strict : Bool} {t : List ℕ} {n : ℕ} {k : List Ste
     well = rw e at g
 
     -- else the second part goes on
-    pub room-after : (l : List Step) → length out₁ ≡ length out → StepsRoom bits q W strict t n (k ++ l) store from lines sums ns out → StepsRoom bits q W strict t n l store (at .0) lines₁ sums₁ ns₁ out₁
+    pub room-after : (l : List Step) → length out₁ ≡ length out → StepsRoom bits q W strict t n (k ++ l) store from lines sums ns out
+        → StepsRoom bits q W strict t n l store (at .0) lines₁ sums₁ ns₁ out₁
     room-after l same h = second-room bits q W strict t n k l store from lines sums ns out lines₁ sums₁ ns₁ out₁ at well same h
 
     pub goes-on : (l : List Step) {lines₂ sums₂ ns₂ out₂ : List ℕ} {r₂ : Put} → StepsRoom bits q W strict t n (k ++ l) store from lines sums ns out
-        → StepsPut bits q W strict t n l store (at .0) lines₁ sums₁ ns₁ out₁ lines₂ sums₂ ns₂ out₂ r₂ → StepsPut bits q W strict t n (k ++ l) store from lines sums ns out lines₂ sums₂ ns₂ out₂ r₂
+        → StepsPut bits q W strict t n l store (at .0) lines₁ sums₁ ns₁ out₁ lines₂ sums₂ ns₂ out₂ r₂
+        → StepsPut bits q W strict t n (k ++ l) store from lines sums ns out lines₂ sums₂ ns₂ out₂ r₂
     goes-on l {lines₂} {sums₂} {ns₂} {out₂} {r₂} h g₂ = together bits q W strict t n k l store from lines sums ns out lines₁ sums₁ ns₁ out₁ at well lines₂ sums₂ ns₂ out₂ r₂ h g₂
 
     pub within-after : Within (largest bits) lines → Within (largest bits) lines₁
@@ -307,8 +318,10 @@ same-room bits q W strict t n k l store from lines sums ns out e h = rw e h
 pub same-wanted : (M W : ℕ) (t : List ℕ) (n : ℕ) (k l : List Step) → k ≡ l → Wanted M W t n l → Wanted M W t n k
 same-wanted M W t n k l e h = rw e h
 
-pub same-steps : {bits q W : ℕ} {strict : Bool} {t : List ℕ} {n : ℕ} {k l : List Step} {store : Bool} {from : ℕ} {lines sums ns out lines' sums' ns' out' : List ℕ} {r : Put} → k ≡ l
-    → StepsPut bits q W strict t n k store from lines sums ns out lines' sums' ns' out' r → StepsPut bits q W strict t n l store from lines sums ns out lines' sums' ns' out' r
+pub same-steps : {bits q W : ℕ} {strict : Bool} {t : List ℕ} {n : ℕ} {k l : List Step} {store : Bool} {from : ℕ}
+    {lines sums ns out lines' sums' ns' out' : List ℕ} {r : Put} → k ≡ l
+    → StepsPut bits q W strict t n k store from lines sums ns out lines' sums' ns' out' r
+    → StepsPut bits q W strict t n l store from lines sums ns out lines' sums' ns' out' r
 same-steps e g = rw e at g
 
 -- no step is due
@@ -328,6 +341,8 @@ module _ (P : Plan) (W p : ℕ) where
   odd-due h = rw (le-leb 8 p h)
 
 -- and the same answer
-pub answered : {bits q W : ℕ} {strict : Bool} {t : List ℕ} {n : ℕ} {l : List Step} {store : Bool} {from : ℕ} {lines sums ns out lines' sums' ns' out' : List ℕ} {r r' : Put} → r ≡ r'
-    → StepsPut bits q W strict t n l store from lines sums ns out lines' sums' ns' out' r → StepsPut bits q W strict t n l store from lines sums ns out lines' sums' ns' out' r'
+pub answered : {bits q W : ℕ} {strict : Bool} {t : List ℕ} {n : ℕ} {l : List Step} {store : Bool} {from : ℕ}
+    {lines sums ns out lines' sums' ns' out' : List ℕ} {r r' : Put} → r ≡ r'
+    → StepsPut bits q W strict t n l store from lines sums ns out lines' sums' ns' out' r
+    → StepsPut bits q W strict t n l store from lines sums ns out lines' sums' ns' out' r'
 answered e g = rw e at g

@@ -81,7 +81,8 @@ all-wanted M W t n (x ∷ l) h = (λ e. h (indexIn W n (x .line) (x .position)),
 -- ---- room for the turns so far, and a turn that is wrong
 
 module _ (bits q W : ℕ) (strict : Bool) (t : List ℕ) (n : ℕ) (P : Plan) (store : Bool) (from : ℕ) (lines sums ns out : List ℕ) where
-  shorter : (f : ℕ → List Step) (i m : ℕ) → StepsRoom bits q W strict t n (upto f (i + m)) store from lines sums ns out → StepsRoom bits q W strict t n (upto f i) store from lines sums ns out
+  shorter : (f : ℕ → List Step) (i m : ℕ) → StepsRoom bits q W strict t n (upto f (i + m)) store from lines sums ns out
+      → StepsRoom bits q W strict t n (upto f i) store from lines sums ns out
   unfolding upto
   shorter f i zero h = rw (add-zero i) at h
   shorter f i (suc m) h = shorter f i m (first-room bits q W strict t n (upto f (i + m)) (f (i + m)) store from lines sums ns out (rw (add-suc i m) at h))
@@ -115,14 +116,16 @@ module _ (bits q W : ℕ) (strict : Bool) (t : List ℕ) (n : ℕ) (P : Plan) (s
 
 -- ---- what a pass hands back
 
-right : (o : Option ℕ) (z : Writing) (store : Bool) (from : ℕ) (out lines' sums' ns' out' : List ℕ) (at : BitPosition) → IsPut o z from store out lines' sums' ns' out' (At at)
+right : (o : Option ℕ) (z : Writing) (store : Bool) (from : ℕ) (out lines' sums' ns' out' : List ℕ) (at : BitPosition)
+    → IsPut o z from store out lines' sums' ns' out' (At at)
     → IsPassPut o z from store out lines' out' (record { ok = true; wrong = 0; at = at; set = record { sums = sums'; ns = ns' } })
 right none z store from out lines' sums' ns' out' at g =
     let e : at ≡ record { 0 = from + length (z .bits) } = cc in
     record { ok = refl; lines = g .1; records = g .2; at = e; output = g .3 }
 right (some j) z store from out lines' sums' ns' out' at g = let no : _≡_ {A = ℕ} 0 1 = cc in absurd (omega arith)
 
-mistaken : (o : Option ℕ) (z : Writing) (store : Bool) (from : ℕ) (out lines' sums' ns' out' : List ℕ) (r : Put) (j : ℕ) (q : PassPut) → IsPut o z from store out lines' sums' ns' out' r
+mistaken : (o : Option ℕ) (z : Writing) (store : Bool) (from : ℕ) (out lines' sums' ns' out' : List ℕ) (r : Put) (j : ℕ) (q : PassPut)
+    → IsPut o z from store out lines' sums' ns' out' r
     → r ≡ Wrong j → q .ok ≡ false → q .wrong ≡ wrongAt r → IsPassPut o z from store out lines' out' q
 mistaken none z store from out lines' sums' ns' out' r j q g e f w = let no : _≡_ {A = ℕ} 0 1 = cc in absurd (omega arith)
 mistaken (some i) z store from out lines' sums' ns' out' r j q g e f w = record { ok = f; index = w ∙ ap (λ (x : Put). wrongAt x) (g .0); output = g .1 }
@@ -136,7 +139,8 @@ module _ {bits q W : ℕ} {strict : Bool} {t : List ℕ} {n : ℕ} (P : Plan) {s
       let z : Writing = writes bits q W strict t n (passSteps W P) (startOf lines sums ns) in
       right (z .wrong) z store from out lines' sums' ns' out' at (rw e at (g .are))
 
-  pub pass-wrong : {j : ℕ} (y : PassPut) → r ≡ Wrong j → y .ok ≡ false → y .wrong ≡ wrongAt r → let z = writePass bits q W strict t n P (startOf lines sums ns) in
+  pub pass-wrong : {j : ℕ} (y : PassPut) → r ≡ Wrong j → y .ok ≡ false → y .wrong ≡ wrongAt r
+      → let z = writePass bits q W strict t n P (startOf lines sums ns) in
       IsPassPut (z .wrong) z from store out lines' out' y
   unfolding writePass
   pass-wrong {j} y e f w =

@@ -106,7 +106,8 @@ pub record LineNumbers (bits q : ℕ) (totals raws limits : List ℕ) : Type 0 w
   pub quantisers : AreQuantisers bits q totals raws limits
 
 -- what some steps at a position ask for
-pub record StepsAsk (spot : Spot) (q : ℕ) (strict : Bool) (totals raws limits t : List ℕ) (n : ℕ) (l : List Step) (store : Bool) (from : BitPosition) (lines sums ns out : List ℕ) : Type 0 where
+pub record StepsAsk (spot : Spot) (q : ℕ) (strict : Bool) (totals raws limits t : List ℕ) (n : ℕ) (l : List Step) (store : Bool) (from : BitPosition)
+    (lines sums ns out : List ℕ) : Type 0 where
   pub width : spot .w ≤ 512
   pub plan : PlanInRange (spot .plan)
   pub numbers : LineNumbers (spot .bits) q totals raws limits
@@ -126,7 +127,8 @@ IsPut none z from store out lines' sums' ns' out' r =
     (r ≡ At (record { 0 = from + length (z .bits) })) × (lines' ≡ z .lines) × (zipRecords sums' ns' ≡ z .set) × (out' ≡ putIf store out from (z .bits))
 IsPut (some j) z from store out lines' sums' ns' out' r = (r ≡ Wrong j) × (store ≡ false → out' ≡ out)
 
-pub record StepsPut (bits q W : ℕ) (strict : Bool) (t : List ℕ) (n : ℕ) (l : List Step) (store : Bool) (from : ℕ) (lines sums ns out lines' sums' ns' out' : List ℕ) (r : Put) : Type 0 where
+pub record StepsPut (bits q W : ℕ) (strict : Bool) (t : List ℕ) (n : ℕ) (l : List Step) (store : Bool) (from : ℕ)
+    (lines sums ns out lines' sums' ns' out' : List ℕ) (r : Put) : Type 0 where
   pub are : let z = writes bits q W strict t n l (startOf lines sums ns) in IsPut (z .wrong) z from store out lines' sums' ns' out' r
 
 -- the index of the wrong sample, 0 where there is none
@@ -140,7 +142,8 @@ wrongAt (Wrong j) = j
 abbrev pub begunWriting : List ℕ → Set → Writing
 begunWriting lines s = record { lines = lines; set = recordsOf s; bits = []; wrong = none }
 
-pub record WriteAsks (bits W : ℕ) (P : Plan) (qs : Quantisers) (strict : Bool) (t : List ℕ) (n : ℕ) (store : Bool) (from : BitPosition) (lines : List ℕ) (s : Set) (out : List ℕ) : Type 0 where
+pub record WriteAsks (bits W : ℕ) (P : Plan) (qs : Quantisers) (strict : Bool) (t : List ℕ) (n : ℕ) (store : Bool) (from : BitPosition) (lines : List ℕ)
+    (s : Set) (out : List ℕ) : Type 0 where
   pub low : 8 ≤ W
   pub high : W ≤ 512
   pub even : W % 2 ≡ 0

@@ -28,7 +28,8 @@ room s i k w h ne e =
     rw e
     (lt-of-lt-of-le (bitsAt-lt s (8 * i) (8 * (k - 1))) (pow-mono {i = 8 * (k - 1)} {j = 56} (omega (arith, pos-of-ne-zero ne))))
 
-more : (s : List ℕ) (i k w r : ℕ) → (k ≡ 0 → ⊥) → w ≡ bitsAt s (8 * i) (8 * (k - 1)) → r ≡ getD s (i + (k - 1)) 0 → r < 256 → w * 256 + r ≡ bitsAt s (8 * i) (8 * k)
+more : (s : List ℕ) (i k w r : ℕ) → (k ≡ 0 → ⊥) → w ≡ bitsAt s (8 * i) (8 * (k - 1)) → r ≡ getD s (i + (k - 1)) 0 → r < 256
+    → w * 256 + r ≡ bitsAt s (8 * i) (8 * k)
 more s i k w r ne ew er lt =
     let e : 8 * k ≡ 8 * (k - 1) + 8 = omega (arith, pos-of-ne-zero ne) in
     rw e (omega (arith, bitsAt-more s i (k - 1) (rw (← er) lt)))

@@ -42,7 +42,8 @@ none-yet d first last =
     let e : 0 ≡ first - first = omega arith in
     paste-zero d first (zeros (last - first)) ∙ ap (λ (k : ℕ). paste d first (zeros (last - first)) k) e
 
-all : (d l : List ℕ) (n first last i : ℕ) → first ≡ bytesFor n → last ≡ blockBytes n → i ≡ last → l ≡ paste d first (zeros (last - first)) (i - first) → l ≡ filled n d
+all : (d l : List ℕ) (n first last i : ℕ) → first ≡ bytesFor n → last ≡ blockBytes n → i ≡ last → l ≡ paste d first (zeros (last - first)) (i - first)
+    → l ≡ filled n d
 all d l n first last i ef el ei e = rw (ei, ef, el) at e
 
 loop-holds : tie.Need-loop-holds Inv-loop μ-loop

@@ -25,7 +25,8 @@ use Rattle.code.proofs.next_code.Statement.{statement}
 use Rattle.code.proofs.next_code.Proof.derived.Tie as tie
 
 -- the pump is h at first, and g after a run of z
-module _ (h g : BitPumpMsb) (run : ZeroRun) (z : ℕ) (is : run ≡ One z) (er : run ≡ zeroRun (now (h .«data»)) (h .at .0)) (eg : g ≡ movedTo h (afterRun (h .at .0) run)) where
+module _ (h g : BitPumpMsb) (run : ZeroRun) (z : ℕ) (is : run ≡ One z) (er : run ≡ zeroRun (now (h .«data»)) (h .at .0))
+    (eg : g ≡ movedTo h (afterRun (h .at .0) run)) where
   abbrev s : List ℕ
   s = now (h .«data»)
 
@@ -41,7 +42,8 @@ module _ (h g : BitPumpMsb) (run : ZeroRun) (z : ℕ) (is : run ≡ One z) (er :
       let m : min n 32 ≡ n = omega arith in
       e ∙ rw (eg, is, m)
 
-  end-of : (n : ℕ) (f : BitPumpMsb) (q : BitPosition) → n ≤ 16 → length s < 2 ^ 32 → f ≡ movedTo g (ahead (g .at .0) (min n 32)) → q ≡ f .at → q ≡ record { 0 = p + z + 1 + n }
+  end-of : (n : ℕ) (f : BitPumpMsb) (q : BitPosition) → n ≤ 16 → length s < 2 ^ 32 → f ≡ movedTo g (ahead (g .at .0) (min n 32)) → q ≡ f .at
+      → q ≡ record { 0 = p + z + 1 + n }
   end-of n f q hn hs ef eq =
       let m : ahead (p + z + 1) (min n 32) ≡ p + z + 1 + n = omega (arith, run-inside s p z run-of) in
       eq ∙ rw (ef, eg, is) (ap (λ (x : ℕ). record { 0 = x }) m)
@@ -56,7 +58,8 @@ module _ (h g : BitPumpMsb) (run : ZeroRun) (z : ℕ) (is : run ≡ One z) (er :
     short-fits lt e =
         omega (arith, bits-of k low (omega arith) e, shifted z k (omega arith) hk, short-lt s p k limit raw z hk hl lt)
 
-    long : (n : Bool) (f : BitPumpMsb) (q : BitPosition) → limit ≤ z → low ≡ nextBits g raw → n ≡ (eqb z limit && leb limit ((low + 1) / 2 ^ k)) → length s < 2 ^ 32 → f ≡ movedTo g (ahead (g .at .0) (min raw 32)) → q ≡ f .at
+    long : (n : Bool) (f : BitPumpMsb) (q : BitPosition) → limit ≤ z → low ≡ nextBits g raw → n ≡ (eqb z limit && leb limit ((low + 1) / 2 ^ k))
+        → length s < 2 ^ 32 → f ≡ movedTo g (ahead (g .at .0) (min raw 32)) → q ≡ f .at
         → Read (record { zeros = z; value = low + 1; minimal = n; long = true; used = z + 1 + raw; after = q }) ≡ codeAt s p k limit raw
     long n f q le e en hs ef eq =
         rw (en, bits-of raw low hr e, end-of raw f q hr hs ef eq) (sym (code-long s p k limit raw z run-of le))

@@ -69,7 +69,8 @@ module _ {M : Type 1} (𝓤 : URA M) (H : Heap 𝓤) (A : Atoms 𝓤) (mem : Mem
   abbrev PeekWord : Contract 𝓤
   PeekWord = tripleOf 𝓤 H A peek.signature (peek.spec 𝓤 H A mem run)
 
-module _ {M : Type 1} (𝓤 : URA M) (H : Heap 𝓤) (A : Atoms 𝓤) (W : Given 𝓤 H A) (mem : Memory → SProp 𝓤) (run : Routine → Fun 𝓤) (κ : Lft) (q : Share) (s : RefT (List ℕ)) (p : BitPosition) (is-p : IsAt p) where
+module _ {M : Type 1} (𝓤 : URA M) (H : Heap 𝓤) (A : Atoms 𝓤) (W : Given 𝓤 H A) (mem : Memory → SProp 𝓤) (run : Routine → Fun 𝓤) (κ : Lft) (q : Share)
+    (s : RefT (List ℕ)) (p : BitPosition) (is-p : IsAt p) where
   abbrev v : Val
   v = sliced s
 
@@ -87,7 +88,8 @@ module _ {M : Type 1} (𝓤 : URA M) (H : Heap 𝓤) (A : Atoms 𝓤) (W : Given
   Own = ShrSlice (named 0) κ u8 .own s (v ∷ [])
 
   -- the call of `at_bit`
-  makes-at : ent 𝓤 (onEntry 𝓤 H A next-word.signature (κ, tt) (q, tt) (s, (p, tt)) vals) (sep 𝓤 (AtBit 𝓤 H A mem run .pre (to-at 𝓤 H A W mem run κ q s p)) (sem 𝓤 H A Own))
+  makes-at : ent 𝓤 (onEntry 𝓤 H A next-word.signature (κ, tt) (q, tt) (s, (p, tt)) vals)
+      (sep 𝓤 (AtBit 𝓤 H A mem run .pre (to-at 𝓤 H A W mem run κ q s p)) (sem 𝓤 H A Own))
   makes-at =
       qed W ((‵ (flft κ q) ⊛ ‵ ftrue) ∷ ‵ (owns (ShrSlice (named 0) κ u8 ∷ P.the-row ∷ []) (s, (p, tt)) vals) ∷ []) ∵
       move ! (1 ∷ []) $ fsplit ! $ keep ! (0 ∷ 2 ∷ []) $ by ! (goes-at 𝓤 H A W mem run κ q s p is-p)
@@ -96,7 +98,8 @@ module _ {M : Type 1} (𝓤 : URA M) (H : Heap 𝓤) (A : Atoms 𝓤) (W : Given
   abbrev to-peek : BitPumpMsb → Val → PeekWord 𝓤 H A mem run .Ghost
   to-peek r u = (((κ, tt), (q, tt), tt, (r, tt), (u ∷ [], tt)), tt)
 
-  goes-peek : (r : BitPumpMsb) (u : Val) → ent 𝓤 (⋆ 𝓤 H A (‵ (B (κ, tt) .own r (u ∷ [])) ∷ (‵ (flft κ q) ⊛ ‵ ftrue) ∷ [])) (PeekWord 𝓤 H A mem run .pre (to-peek r u))
+  goes-peek : (r : BitPumpMsb) (u : Val)
+      → ent 𝓤 (⋆ 𝓤 H A (‵ (B (κ, tt) .own r (u ∷ [])) ∷ (‵ (flft κ q) ⊛ ‵ ftrue) ∷ [])) (PeekWord 𝓤 H A mem run .pre (to-peek r u))
   goes-peek r u =
       qed W (‵ (B (κ, tt) .own r (u ∷ [])) ∷ (‵ (flft κ q) ⊛ ‵ ftrue) ∷ []) ∵
       nothing ! $ move ! (1 ∷ 0 ∷ []) $ fjoin ! $ move ! (1 ∷ 0 ∷ []) $ join ! $ frame ! $ done !
@@ -110,8 +113,10 @@ module _ {M : Type 1} (𝓤 : URA M) (H : Heap 𝓤) (A : Atoms 𝓤) (W : Given
       suffices ! _ (ends-at 𝓤 H A next-word.ended stayed (next-word.clauses 𝓤 H A mem run) W (((κ, tt), (q, tt), tt, (s, (p, tt)), vals), tt) u x (tt, (tt, tt)) (tt, (tt, tt))) $ says ! e $
       move ! (1 ∷ []) $ frame ! $ nothing ! $ owned ! P.the-row (Is P.the-row) (LL.makes P.the-type P′.the-plain 𝓤 H A) p _ is-p $ fjoin ! $ move ! (2 ∷ 0 ∷ []) $ fjoin ! $ frame ! $ done !
 
-  module _ (C : Calls 𝓤 H) (Λ : Loops 𝓤 H) (fm : FmC 𝓤 H (W .laws) C) (known-at : Triple 𝓤 (C #at-bit) (AtBit 𝓤 H A mem run)) (known-peek : Triple 𝓤 (C #peek-word) (PeekWord 𝓤 H A mem run)) where
-    walk : Is (ShrSlice (named 0) κ u8) s (v ∷ []) → ent 𝓤 (onEntry 𝓤 H A next-word.signature (κ, tt) (q, tt) (s, (p, tt)) vals) (WpFn 𝓤 H C Λ code.function (v ∷ P′.lowered p ∷ []) Post)
+  module _ (C : Calls 𝓤 H) (Λ : Loops 𝓤 H) (fm : FmC 𝓤 H (W .laws) C) (known-at : Triple 𝓤 (C #at-bit) (AtBit 𝓤 H A mem run))
+      (known-peek : Triple 𝓤 (C #peek-word) (PeekWord 𝓤 H A mem run)) where
+    walk : Is (ShrSlice (named 0) κ u8) s (v ∷ [])
+        → ent 𝓤 (onEntry 𝓤 H A next-word.signature (κ, tt) (q, tt) (s, (p, tt)) vals) (WpFn 𝓤 H C Λ code.function (v ∷ P′.lowered p ∷ []) Post)
     walk is-s =
         qed W (raw (onEntry 𝓤 H A next-word.signature (κ, tt) (q, tt) (s, (p, tt)) vals) ∷ []) ∵ enter ! C Λ code.function (v ∷ P′.lowered p ∷ []) _ $
         alloc1 ! (λ l₀. alloc1 ! (λ l₁. alloc1 ! (λ l₂. alloc1 ! (λ l₃. alloc0 ! $ params1 ! $
@@ -134,14 +139,16 @@ module _ {M : Type 1} (𝓤 : URA M) (H : Heap 𝓤) (A : Atoms 𝓤) (W : Given
         by ! (exits x w (e′ ∙ ap (λ (y : RefT (List ℕ)). wordAt (now y) (r .at .0)) (e .0) ∙ ap (λ (y : BitPosition). wordAt (now s) (y .0)) (e .1)))))))))))))))
 
 module _ {M : Type 1} (𝓤 : URA M) (H : Heap 𝓤) (A : Atoms 𝓤) (W : Given 𝓤 H A) (mem : Memory → SProp 𝓤) (run : Routine → Fun 𝓤) where
-  next-word-walks : (C : Calls 𝓤 H) (Λ : Loops 𝓤 H) → FmC 𝓤 H (W .laws) C → Triple 𝓤 (C #at-bit) (AtBit 𝓤 H A mem run) → Triple 𝓤 (C #peek-word) (PeekWord 𝓤 H A mem run)
+  next-word-walks : (C : Calls 𝓤 H) (Λ : Loops 𝓤 H) → FmC 𝓤 H (W .laws) C → Triple 𝓤 (C #at-bit) (AtBit 𝓤 H A mem run)
+      → Triple 𝓤 (C #peek-word) (PeekWord 𝓤 H A mem run)
       → Walks 𝓤 H A next-word.ended stayed (WpFn 𝓤 H C Λ code.function) (next-word.clauses 𝓤 H A mem run)
   next-word-walks C Λ fm known-at known-peek =
       walked 𝓤 H A next-word.ended stayed (next-word.clauses 𝓤 H A mem run) (WpFn 𝓤 H C Λ code.function) (λ κs. (slice-vals, (LL.vals P.the-type P′.the-laws, tt))) (λ κs. (shr-slice-tells (named 0) (κs .0) u8, (LL.tells P.the-type P′.the-laws, tt)))
       (λ κs qs bounds a g are. via 𝓤 _ (fst∗ 𝓤 _ (emp 𝓤)) (walk 𝓤 H A W mem run (κs .0) (qs .0) (a .0) (a .1 .0) (are .1 .0) C Λ fm known-at known-peek (are .0)))
 
 next-word-meets : {M : Type 1} (𝓤 : URA M) (H : Heap 𝓤) (A : Atoms 𝓤) (W : Given 𝓤 H A) (mem : Memory → SProp 𝓤) (run : Routine → Fun 𝓤) (𝓣 : Tables 𝓤 H)
-    → Triple 𝓤 (𝓣 .C #at-bit) (AtBit 𝓤 H A mem run) → Triple 𝓤 (𝓣 .C #peek-word) (PeekWord 𝓤 H A mem run) → Meets 𝓤 H A next-word.signature (WpFn 𝓤 H (𝓣 .C) (𝓣 .Λ) code.function) (next-word.spec 𝓤 H A mem run)
+    → Triple 𝓤 (𝓣 .C #at-bit) (AtBit 𝓤 H A mem run) → Triple 𝓤 (𝓣 .C #peek-word) (PeekWord 𝓤 H A mem run)
+    → Meets 𝓤 H A next-word.signature (WpFn 𝓤 H (𝓣 .C) (𝓣 .Λ) code.function) (next-word.spec 𝓤 H A mem run)
 next-word-meets 𝓤 H A W mem run 𝓣 known-at known-peek =
     walk-meets 𝓤 H A next-word.ended stayed W (goes-none-slice 𝓤 H A W 1 (0 ∷ []) tt (plain (λ _. u8)) yes, (goes-none 𝓤 H A W 1 (λ _. P.the-row) yes (λ κs x f. refl), tt)) (next-word.clauses 𝓤 H A mem run) (WpFn 𝓤 H (𝓣 .C) (𝓣 .Λ) code.function) (WpFn-mono 𝓤 H (W .laws) 𝓣 code.function)
     (next-word-walks 𝓤 H A W mem run (𝓣 .C) (𝓣 .Λ) (fmOf 𝓤 H (W .laws) 𝓣) known-at known-peek)

@@ -18,8 +18,10 @@ use contract.BorrowLft.{meet-⊑-right}
 use contract.Lifetimes.{Lfts}
 use contract.Monad.{Fun, fact}
 use contract.Running.{givenOf, tables, tablesOf}
-use types.Kit.{Given, ‵, raw, _⊛_, ⋆, some, later, _$_, _∵_, !, qed, by, move, keep, use1, use2, use3, split, join, pick, await, fsplit, fjoin, suffices, frame, done}
-use types.Run.{look, init, forget, stop, from, load, of-opd, addr, and-then, no-more, assigns, land, returns, enter, alloc1, alloc0, params1, pass1, pass0, free1, free0}
+use types.Kit.{Given, ‵, raw, _⊛_, ⋆, some, later, _$_, _∵_, !, qed, by, move, keep, use1, use2}
+use types.Kit.{use3, split, join, pick, await, fsplit, fjoin, suffices, frame, done}
+use types.Run.{look, init, forget, stop, from, load, of-opd, addr, and-then, no-more, assigns, land}
+use types.Run.{returns, enter, alloc1, alloc0, params1, pass1, pass0, free1, free0}
 use sound.WpLaws.{FmC, fmOf, WpFn-mono}
 use denote.RattleType.{RattleType, owns}
 use denote.Laws.{Is, shows}
@@ -84,7 +86,9 @@ module _ {M : Type 1} (𝓤 : URA M) (H : Heap 𝓤) (A : Atoms 𝓤) (mem : Mem
 abbrev Asked : List ℕ → ℕ → ℕ → ℕ → Type 0
 Asked s k limit n = (length s < 2 ^ 32) × ((k ≤ 15) × ((limit < 64) × (n ≤ 16)))
 
-module _ {M : Type 1} (𝓤 : URA M) (H : Heap 𝓤) (A : Atoms 𝓤) (W : Given 𝓤 H A) (at-mem : Memory → SProp 𝓤) (run : Routine → Fun 𝓤) (κ : Lft) (q : Share) (s : RefT (List ℕ)) (p : BitPosition) (k limit n : ℕ) (is-p : IsAt p) (k-fits : k < 2 ^ 32) (limit-fits : limit < 2 ^ 32) (n-fits : n < 2 ^ 32) (ok : Asked (now s) k limit n) where
+module _ {M : Type 1} (𝓤 : URA M) (H : Heap 𝓤) (A : Atoms 𝓤) (W : Given 𝓤 H A) (at-mem : Memory → SProp 𝓤) (run : Routine → Fun 𝓤) (κ : Lft) (q : Share)
+    (s : RefT (List ℕ)) (p : BitPosition) (k limit n : ℕ) (is-p : IsAt p) (k-fits : k < 2 ^ 32) (limit-fits : limit < 2 ^ 32) (n-fits : n < 2 ^ 32)
+    (ok : Asked (now s) k limit n) where
   abbrev v : Val
   v = sliced s
 
@@ -105,7 +109,8 @@ module _ {M : Type 1} (𝓤 : URA M) (H : Heap 𝓤) (A : Atoms 𝓤) (W : Given
   Own = ShrSlice (named 0) κ u8 .own s (v ∷ [])
 
   -- the call of `at_bit`
-  makes-at : ent 𝓤 (onEntry 𝓤 H A read-code.signature (κ, tt) (q, tt) args vals) (sep 𝓤 (AtBit 𝓤 H A at-mem run .pre (to-at 𝓤 H A W at-mem run κ q s p)) (sem 𝓤 H A Own))
+  makes-at : ent 𝓤 (onEntry 𝓤 H A read-code.signature (κ, tt) (q, tt) args vals)
+      (sep 𝓤 (AtBit 𝓤 H A at-mem run .pre (to-at 𝓤 H A W at-mem run κ q s p)) (sem 𝓤 H A Own))
   makes-at =
       qed W ((‵ (flft κ q) ⊛ ‵ ftrue) ∷ ‵ (owns (ShrSlice (named 0) κ u8 ∷ P.the-row ∷ u32 ∷ u32 ∷ u32 ∷ []) args vals) ∷ []) ∵
       move ! (1 ∷ []) $ fsplit ! $ keep ! (0 ∷ 2 ∷ []) $ by ! (goes-at 𝓤 H A W at-mem run κ q s p is-p)
@@ -120,7 +125,9 @@ module _ {M : Type 1} (𝓤 : URA M) (H : Heap 𝓤) (A : Atoms 𝓤) (W : Given
   abbrev to-next : ℕ → ℕ → GName → BitPumpMsb → Next 𝓤 H A at-mem run .Ghost
   to-next ν l δ r = ((κs ν, (PosShare·right q, (PosShare·left q, tt)), (meet-⊑-right (ν ∷ []) κ, tt), passed l δ r, (vptr l 0 ∷ [], (vint w32 k ∷ [], (vint w32 limit ∷ [], (vint w32 n ∷ [], tt))))), tt)
 
-  goes-next : (ν l : ℕ) (δ : GName) (r : BitPumpMsb) → Asked (now (r .«data»)) k limit n → ent 𝓤 (⋆ 𝓤 H A (‵ (flft (ν ∷ κ) (PosShare·right q)) ∷ ‵ (flft κ (PosShare·left q)) ∷ ‵ (LentOwn κ l ν δ r) ∷ [])) (Next 𝓤 H A at-mem run .pre (to-next ν l δ r))
+  goes-next : (ν l : ℕ) (δ : GName) (r : BitPumpMsb) → Asked (now (r .«data»)) k limit n
+      → ent 𝓤 (⋆ 𝓤 H A (‵ (flft (ν ∷ κ) (PosShare·right q)) ∷ ‵ (flft κ (PosShare·left q)) ∷ ‵ (LentOwn κ l ν δ r) ∷ []))
+      (Next 𝓤 H A at-mem run .pre (to-next ν l δ r))
   goes-next ν l δ r asked =
       qed W (‵ (flft (ν ∷ κ) (PosShare·right q)) ∷ ‵ (flft κ (PosShare·left q)) ∷ ‵ (LentOwn κ l ν δ r) ∷ []) ∵ says ! asked $
       nothing ! $ move ! (2 ∷ 0 ∷ []) $ join ! $ move ! (1 ∷ 0 ∷ []) $ join ! $ frame ! $
@@ -136,8 +143,11 @@ module _ {M : Type 1} (𝓤 : URA M) (H : Heap 𝓤) (A : Atoms 𝓤) (W : Given
       owned ! u32 (Is u32) (uint-makes 𝓤 H A W w32) k _ (refl, k-fits) $ fjoin ! $ owned ! P.the-row (Is P.the-row) (LL.makes P.the-type P′.the-plain 𝓤 H A) p _ is-p $ fjoin ! $
       move ! (2 ∷ 0 ∷ []) $ fjoin ! $ frame ! $ done !
 
-  module _ (C : Calls 𝓤 H) (Λ : Loops 𝓤 H) (fm : FmC 𝓤 H (W .laws) C) (known-at : Triple 𝓤 (C #at-bit) (AtBit 𝓤 H A at-mem run)) (known-next : Triple 𝓤 (C #next-code) (Next 𝓤 H A at-mem run)) where
-    walk : Is (ShrSlice (named 0) κ u8) s (v ∷ []) → ent 𝓤 (onEntry 𝓤 H A read-code.signature (κ, tt) (q, tt) args vals) (WpFn 𝓤 H C Λ code.function (v ∷ P′.lowered p ∷ vint w32 k ∷ vint w32 limit ∷ vint w32 n ∷ []) Post)
+  module _ (C : Calls 𝓤 H) (Λ : Loops 𝓤 H) (fm : FmC 𝓤 H (W .laws) C) (known-at : Triple 𝓤 (C #at-bit) (AtBit 𝓤 H A at-mem run))
+      (known-next : Triple 𝓤 (C #next-code) (Next 𝓤 H A at-mem run)) where
+    walk : Is (ShrSlice (named 0) κ u8) s (v ∷ [])
+        → ent 𝓤 (onEntry 𝓤 H A read-code.signature (κ, tt) (q, tt) args vals)
+        (WpFn 𝓤 H C Λ code.function (v ∷ P′.lowered p ∷ vint w32 k ∷ vint w32 limit ∷ vint w32 n ∷ []) Post)
     walk is-s =
         qed W (raw (onEntry 𝓤 H A read-code.signature (κ, tt) (q, tt) args vals) ∷ []) ∵ enter ! C Λ code.function (v ∷ P′.lowered p ∷ vint w32 k ∷ vint w32 limit ∷ vint w32 n ∷ []) _ $
         alloc1 ! (λ l₀. alloc1 ! (λ l₁. alloc1 ! (λ l₂. alloc1 ! (λ l₃. alloc1 ! (λ l₄. alloc1 ! (λ l₅. alloc1 ! (λ l₆. alloc1 ! (λ l₇. alloc1 ! (λ l₈. alloc0 ! $ params1 ! $
@@ -172,14 +182,16 @@ module _ {M : Type 1} (𝓤 : URA M) (H : Heap 𝓤) (A : Atoms 𝓤) (W : Given
         keep ! (0 ∷ 2 ∷ 5 ∷ []) $ by ! (exits t w (e′ ∙ ap (λ (x : RefT (List ℕ)). codeAt (now x) (r .at .0) k limit n) (e .0) ∙ ap (λ (x : BitPosition). codeAt (now s) (x .0) k limit n) (e .1))))))))))))))))))))))
 
 module _ {M : Type 1} (𝓤 : URA M) (H : Heap 𝓤) (A : Atoms 𝓤) (W : Given 𝓤 H A) (mem : Memory → SProp 𝓤) (run : Routine → Fun 𝓤) where
-  read-code-walks : (C : Calls 𝓤 H) (Λ : Loops 𝓤 H) → FmC 𝓤 H (W .laws) C → Triple 𝓤 (C #at-bit) (AtBit 𝓤 H A mem run) → Triple 𝓤 (C #next-code) (Next 𝓤 H A mem run)
+  read-code-walks : (C : Calls 𝓤 H) (Λ : Loops 𝓤 H) → FmC 𝓤 H (W .laws) C → Triple 𝓤 (C #at-bit) (AtBit 𝓤 H A mem run)
+      → Triple 𝓤 (C #next-code) (Next 𝓤 H A mem run)
       → Walks 𝓤 H A read-code.ended stayed (WpFn 𝓤 H C Λ code.function) (read-code.clauses 𝓤 H A mem run)
   read-code-walks C Λ fm known-at known-next =
       walked 𝓤 H A read-code.ended stayed (read-code.clauses 𝓤 H A mem run) (WpFn 𝓤 H C Λ code.function) (λ κs. (slice-vals, (LL.vals P.the-type P′.the-laws, (uint-vals w32, (uint-vals w32, (uint-vals w32, tt)))))) (λ κs. (shr-slice-tells (named 0) (κs .0) u8, (LL.tells P.the-type P′.the-laws, (uint-tells w32, (uint-tells w32, (uint-tells w32, tt))))))
       (λ κs qs bounds a g are. needs 𝓤 _ _ (λ ok. walk 𝓤 H A W mem run (κs .0) (qs .0) (a .0) (a .1 .0) (a .1 .1 .0) (a .1 .1 .1 .0) (a .1 .1 .1 .1 .0) (are .1 .0) (are .1 .1 .0 .1) (are .1 .1 .1 .0 .1) (are .1 .1 .1 .1 .0 .1) ok C Λ fm known-at known-next (are .0)))
 
 read-code-meets : {M : Type 1} (𝓤 : URA M) (H : Heap 𝓤) (A : Atoms 𝓤) (W : Given 𝓤 H A) (mem : Memory → SProp 𝓤) (run : Routine → Fun 𝓤) (𝓣 : Tables 𝓤 H)
-    → Triple 𝓤 (𝓣 .C #at-bit) (AtBit 𝓤 H A mem run) → Triple 𝓤 (𝓣 .C #next-code) (Next 𝓤 H A mem run) → Meets 𝓤 H A read-code.signature (WpFn 𝓤 H (𝓣 .C) (𝓣 .Λ) code.function) (read-code.spec 𝓤 H A mem run)
+    → Triple 𝓤 (𝓣 .C #at-bit) (AtBit 𝓤 H A mem run) → Triple 𝓤 (𝓣 .C #next-code) (Next 𝓤 H A mem run)
+    → Meets 𝓤 H A read-code.signature (WpFn 𝓤 H (𝓣 .C) (𝓣 .Λ) code.function) (read-code.spec 𝓤 H A mem run)
 read-code-meets 𝓤 H A W mem run 𝓣 known-at known-next =
     let number = goes-none 𝓤 H A W 1 (λ _. u32) yes (λ κs x f. refl) in
     walk-meets 𝓤 H A read-code.ended stayed W (goes-none-slice 𝓤 H A W 1 (0 ∷ []) tt (plain (λ _. u8)) yes, (goes-none 𝓤 H A W 1 (λ _. P.the-row) yes (λ κs x f. refl), (number, (number, (number, tt))))) (read-code.clauses 𝓤 H A mem run) (WpFn 𝓤 H (𝓣 .C) (𝓣 .Λ) code.function) (WpFn-mono 𝓤 H (W .laws) 𝓣 code.function)

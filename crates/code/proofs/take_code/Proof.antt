@@ -78,7 +78,9 @@ module _ (s : List ℕ) (p k limit raw w z : ℕ) (i : Window s p k w z) (hk : k
 abbrev start : tie.Then2 → tie.Start
 start c = c .before .before .before .before .before
 
-known : (c : tie.Then2) → Window (start c .args .s .now) (start c .args .from .at .0) (start c .args .k) (c .before .before .next-word .result) (leadingZeros 64 (c .before .before .next-word .result))
+known : (c : tie.Then2)
+    → Window (start c .args .s .now) (start c .args .from .at .0) (start c .args .k) (c .before .before .next-word .result)
+    (leadingZeros 64 (c .before .before .next-word .result))
 known c = window _ _ _ _ (c .before .before .next-word .ensures) (c .before .if1 .taken) (start c .pre .0 .1 .0)
 
 sub-low : tie.Need-sub-low

@@ -29,7 +29,8 @@ walk-alone-requires c κs =
     let k = opened (s .args .d .now) (s .args .h) (s .pre .0) .ruled in
     ((y .block-bytes .ensures .1, (form-depth _ (s .args .h) (f .form-of .ensures) k, omega (arith, k .lines-high, n .line-count .ensures))), c .no-part .ensures)
 
-without-bases : (d : List ℕ) (h : FujiHeader) (b n : ℕ) (F : Form) (bases s : List ℕ) (w : Walked) → openOf d ≡ Header h → h .lossless ≡ true → bases ≡ basesIn d b
+without-bases : (d : List ℕ) (h : FujiHeader) (b n : ℕ) (F : Form) (bases s : List ℕ) (w : Walked) → openOf d ≡ Header h → h .lossless ≡ true
+    → bases ≡ basesIn d b
     → IsWalked F bases s n w → IsWalked F [] s n w
 without-bases d h b n F bases s w e l eb p = rw (eb ∙ row-lossless d h b e l) at p
 

@@ -25,7 +25,8 @@ trace-block-requires c κs =
     (c .block-bytes .ensures .1, (form-depth _ (s .args .h) (f .form-of .ensures) k, omega (arith, k .lines-high, n .line-count .ensures)))
 
 -- what the walk says
-said : (t : tie.After-trace-block) → let s = entry (asked t) .args in tracedFault (t .before .before .line-count .result) (t .trace-block .result) ≡ faultAt (s .d .now) (s .h) (s .b)
+said : (t : tie.After-trace-block) → let s = entry (asked t) .args in
+    tracedFault (t .before .before .line-count .result) (t .trace-block .result) ≡ faultAt (s .d .now) (s .h) (s .b)
 said t =
     let y = t .before in
     let n = y .before in

@@ -9,7 +9,8 @@ use Rattle.map.specs.Rows.{sampleBy, threePut}
 use Rattle.map.proofs.emit_three.Statement.{statement}
 use Rattle.map.proofs.emit_three.Tie as tie
 
-three : (f : ℕ → ℕ) (i p : ℕ) (l₀ l₁ l₂ l₃ : List ℕ) → l₁ ≡ set l₀ i (f p) → l₂ ≡ set l₁ (i + 1) (f (p + 1)) → l₃ ≡ set l₂ (i + 2) (f (p + 2)) → l₃ ≡ threePut f i p l₀
+three : (f : ℕ → ℕ) (i p : ℕ) (l₀ l₁ l₂ l₃ : List ℕ) → l₁ ≡ set l₀ i (f p) → l₂ ≡ set l₁ (i + 1) (f (p + 1)) → l₃ ≡ set l₂ (i + 2) (f (p + 2))
+    → l₃ ≡ threePut f i p l₀
 three f i p l₀ l₁ l₂ l₃ e₁ e₂ e₃ = rw (e₃, e₂, e₁)
 
 emit-sample-requires : tie.Need-emit-sample-requires

@@ -35,7 +35,8 @@ abbrev entry : tie.After-look-of → tie.Start
 entry c = begin c .before .before .before
 
 first : (c : tie.After-record-at) → let h = looked c in let a = entry h .args in
-    Site (a .spot .bits) (a .base) (a .spot .w) (a .spot .plan .first) (a .spot .p) (a .block .now) (a .lines .now) (a .sums .now) (a .ns .now) (a .totals .now) (a .raws .now) (a .limits .now)
+    Site (a .spot .bits) (a .base) (a .spot .w) (a .spot .plan .first) (a .spot .p) (a .block .now) (a .lines .now) (a .sums .now) (a .ns .now)
+    (a .totals .now) (a .raws .now) (a .limits .now)
     (there h .left-of .result) (h .before .context-at .result) (h .look-of .result) (c .before .before .before .slot-of .result) (c .record-at .result)
 first c =
     let h = looked c in
@@ -165,7 +166,8 @@ abbrev begun : tie.After-look-of2 → tie.After-look-of
 begun c = origin (one c)
 
 second : (c : tie.After-record-at2) → let h = looked-2 c in let a = entry (begun h) .args in let z = one h .update-with-k .last in
-    Site (a .spot .bits) (a .base) (a .spot .w) (a .spot .plan .second) (a .spot .p) (a .block .now) (lines₁ (one h)) (z .0) (z .1 .0) (a .totals .now) (a .raws .now) (a .limits .now)
+    Site (a .spot .bits) (a .base) (a .spot .w) (a .spot .plan .second) (a .spot .p) (a .block .now) (lines₁ (one h)) (z .0) (z .1 .0) (a .totals .now)
+    (a .raws .now) (a .limits .now)
     (there-2 h .left-of2 .result) (h .before .context-at2 .result) (h .look-of2 .result) (c .before .before .before .slot-of2 .result) (c .record-at2 .result)
 second c =
     let h = looked-2 c in

@@ -88,7 +88,8 @@ middle c = held (c .if1 .lines) (c .if1 .sums) (c .if1 .ns) (c .if1 .place)
 
 record Met (c : tie.Joined1 Inv-loop μ-loop) : Type 0 where
   read : let a = entry (c .before) .args in let l = c .before .before .loop in
-      StepsGive (a .bits) (a .qs .base) (a .w) (a .block .now) (evenPart (a .w) (a .plan) (l .p)) (held (l .lines) (l .sums) (l .ns) (l .place)) (some (middle c))
+      StepsGive (a .bits) (a .qs .base) (a .w) (a .block .now) (evenPart (a .w) (a .plan) (l .p)) (held (l .lines) (l .sums) (l .ns) (l .place))
+      (some (middle c))
   in-range : SetInRange (middle c .set)
   ks-kept : AreKs (middle c .set) (c .if1 .ks)
   same : length (middle c .lines) ≡ length (entry (c .before) .args .lines .now)

@@ -16,7 +16,8 @@ use Rattle.plan.proofs.plan_lines.Statement.{statement}
 use Rattle.plan.proofs.plan_lines.Tie as tie
 
 -- what was read is balanced
-in-balance : (d : List ℕ) (lines : ℕ) (r : Read) (begins ends : List ℕ) → length d < 2 ^ 64 → IsRead d lines r → Marked d (r .records) begins ends → Balanced begins ends
+in-balance : (d : List ℕ) (lines : ℕ) (r : Read) (begins ends : List ℕ) → length d < 2 ^ 64 → IsRead d lines r → Marked d (r .records) begins ends
+    → Balanced begins ends
 in-balance d lines r begins ends h i k =
     balanced d (r .records) begins ends (forward d lines (r .records) (i .records)) k (omega (arith, i .few, i .inside))
 
@@ -69,7 +70,8 @@ module _ (c : tie.After-first-amiss) where
   whole : length text ≤ startOf text records
   whole = ends-after _ _ _ (read .read-records .ensures .0) (c .before .before .before .if1 .left)
 
-none-is : (c : tie.After-first-amiss2) → let f = c .before .before .before .before in c .first-amiss2 .result ≡ firstAmiss false (text f) (length (bytes f)) (records f)
+none-is : (c : tie.After-first-amiss2) → let f = c .before .before .before .before in
+    c .first-amiss2 .result ≡ firstAmiss false (text f) (length (bytes f)) (records f)
 none-is c =
     let f = c .before .before .before .before in
     c .first-amiss2 .ensures ∙ amiss-is false (text f) (length (bytes f)) (records f) _ _ (read f .read-records .ensures .0 .records) (read f .read-records .ensures .1)

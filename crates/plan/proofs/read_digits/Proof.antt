@@ -10,7 +10,8 @@ use native.Mathlib.Omega.{arith}
 use lib.Dec.{lit<}
 use lib.ListN.{length, getD}
 use Rattle.plan.specs.Records.{isDigit, digitsAt, decimal}
-use Rattle.plan.proofs.DigitLaws.{digit-range, digitsFrom, from-start, from-here, from-next, from-last, no-digits, one-digit, found, small-next, small-five}
+use Rattle.plan.proofs.DigitLaws.{digit-range, digitsFrom, from-start, from-here, from-next, from-last}
+use Rattle.plan.proofs.DigitLaws.{no-digits, one-digit, found, small-next, small-five}
 use Rattle.plan.proofs.read_digits.Statement.{statement}
 use Rattle.plan.proofs.read_digits.Tie as tie
 
@@ -53,7 +54,8 @@ add-number c =
     omega (arith, l .inv .4, small-five (l .n) (l .inv .0), digit-range (c .before .before .byte .result) (is-digit c))
 
 -- so it lies inside
-inside : (c : tie.Else1 Inv-loop μ-loop) → c .before .before .before .before .loop .at < length (c .before .before .before .before .before .before .args .d .now)
+inside : (c : tie.Else1 Inv-loop μ-loop)
+    → c .before .before .before .before .loop .at < length (c .before .before .before .before .before .before .args .d .now)
 inside c = c .before .before .byte .ensures .2 (omega (arith, digit-range (c .before .before .byte .result) (is-digit c)))
 
 add-at : tie.Need-add-at Inv-loop μ-loop

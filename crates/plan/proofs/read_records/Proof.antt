@@ -46,7 +46,8 @@ module _ (c : tie.After-known-told Inv-loop μ-loop) where
       row-good (a .d .now) (a .lines) (r .before .before .loop .at) (r .read-row .result) (r .read-row .ensures .0) _ _ _ _ (c .before .x .given .1) (r .read-row .ensures .1)
 
 -- fewer records than bytes
-few : (c : tie.After-known-told Inv-loop μ-loop) → c .before .before .before .before .before .loop .records < length (c .before .before .before .before .before .before .before .args .d .now)
+few : (c : tie.After-known-told Inv-loop μ-loop)
+    → c .before .before .before .before .before .loop .records < length (c .before .before .before .before .before .before .before .args .d .now)
 few c = let l = c .before .before .before .before .before .loop in omega (arith, l .inv .2, this c .further, this c .inside)
 
 text-fits : (c : tie.After-known-told Inv-loop μ-loop) → length (c .before .before .before .before .before .before .before .args .d .now) < 2 ^ 64
@@ -87,7 +88,8 @@ loop-less : tie.Need-loop-less Inv-loop μ-loop
 loop-less c = let k = c .before .before .before .before in omega (arith, this k .further, this k .inside)
 
 -- both counts
-counted : (d : List ℕ) (m at first last : ℕ) (begins ends begins' ends' : List ℕ) → at ≡ startOf d m → IsFirstLast d at first last → last < 2731 → first ≤ last → Marked d m begins ends
+counted : (d : List ℕ) (m at first last : ℕ) (begins ends begins' ends' : List ℕ) → at ≡ startOf d m → IsFirstLast d at first last → last < 2731
+    → first ≤ last → Marked d m begins ends
     → begins' ≡ set begins first (getD begins first 0 + 1) → ends' ≡ set ends (last + 1) (getD ends (last + 1) 0 + 1) → Marked d (m + 1) begins' ends'
 counted d m at first last begins ends begins' ends' e is h order k b g = rw (b, g) (marked-more d m at first last begins ends e (is .0) (is .1) h order k)
 

@@ -19,12 +19,16 @@ module _ (c : tie.After-known-told) where
       let x = c .before .before .before in
       field-good text (x .before .before .args .i) tab (x .read-field .result) (x .read-field .ensures .0) _ _ (c .before .a .given .1) (x .read-field .ensures .1)
 
-field-b : (c : tie.After-known-told2) → IsField (text (c .before .before .before .before)) (c .before .before .before .before .before .a .given .0 .1 .0) tab (c .before .b .given .0 .0) (c .before .b .given .0 .1 .0)
+field-b : (c : tie.After-known-told2)
+    → IsField (text (c .before .before .before .before)) (c .before .before .before .before .before .a .given .0 .1 .0) tab (c .before .b .given .0 .0)
+    (c .before .b .given .0 .1 .0)
 field-b c =
     let x = c .before .before .before in
     field-good (text (x .before)) (x .before .before .a .given .0 .1 .0) tab (x .read-field2 .result) (x .read-field2 .ensures .0) _ _ (c .before .b .given .1) (x .read-field2 .ensures .1)
 
-field-c : (c : tie.After-known-told3) → IsField (text (c .before .before .before .before .before .before .before .before)) (c .before .before .before .before .before .b .given .0 .1 .0) newline (c .before .c .given .0 .0) (c .before .c .given .0 .1 .0)
+field-c : (c : tie.After-known-told3)
+    → IsField (text (c .before .before .before .before .before .before .before .before))
+    (c .before .before .before .before .before .b .given .0 .1 .0) newline (c .before .c .given .0 .0) (c .before .c .given .0 .1 .0)
 field-c c =
     let x = c .before .before .before in
     field-good (text (x .before .before .before .before .before)) (x .before .before .b .given .0 .1 .0) newline (x .read-field3 .result) (x .read-field3 .ensures .0) _ _ (c .before .c .given .1) (x .read-field3 .ensures .1)

@@ -9,7 +9,8 @@ use Rattle.prediction.proofs.PredictionLaws.{odd-le}
 use Rattle.prediction.proofs.odd_prediction.Statement.{statement}
 use Rattle.prediction.proofs.odd_prediction.Tie as tie
 
-picked : (ra rg rb rc rd r : ℕ) (t : Bool) → ra < 2 ^ 16 → rg < 2 ^ 16 → rb < 2 ^ 16 → t ≡ extreme rb rc rd → r ≡ cond t ((ra + rg + 2 * rb) / 4) ((ra + rg) / 2)
+picked : (ra rg rb rc rd r : ℕ) (t : Bool) → ra < 2 ^ 16 → rg < 2 ^ 16 → rb < 2 ^ 16 → t ≡ extreme rb rc rd
+    → r ≡ cond t ((ra + rg + 2 * rb) / 4) ((ra + rg) / 2)
     → (r ≡ oddPrediction ra rg rb rc rd) × (r < 2 ^ 16)
 unfolding oddPrediction
 picked ra rg rb rc rd r t ha hg hb et er =

@@ -18,8 +18,10 @@ use contract.BorrowLft.{meet-⊑-right}
 use contract.Lifetimes.{Lfts}
 use contract.Monad.{Fun, fact}
 use contract.Running.{givenOf, tables, tablesOf}
-use types.Kit.{Given, ‵, raw, _⊛_, ⋆, some, later, _$_, _∵_, !, qed, by, move, keep, drop, use1, use2, use3, split, join, pick, await, fsplit, fjoin, suffices, frame, done}
-use types.Run.{look, init, forget, stop, from, load, of-opd, addr, and-then, no-more, assigns, land, returns, enter, alloc1, alloc0, params1, pass1, pass0, free1, free0}
+use types.Kit.{Given, ‵, raw, _⊛_, ⋆, some, later, _$_, _∵_, !, qed, by, move, keep, drop, use1, use2}
+use types.Kit.{use3, split, join, pick, await, fsplit, fjoin, suffices, frame, done}
+use types.Run.{look, init, forget, stop, from, load, of-opd, addr, and-then, no-more, assigns, land}
+use types.Run.{returns, enter, alloc1, alloc0, params1, pass1, pass0, free1, free0}
 use sound.WpLaws.{FmC, fmOf, WpFn-mono}
 use denote.RattleType.{RattleType, owns}
 use denote.Laws.{Is, shows}
@@ -74,7 +76,8 @@ module _ {M : Type 1} (𝓤 : URA M) (H : Heap 𝓤) (A : Atoms 𝓤) (mem : Mem
   abbrev Replay : Contract 𝓤
   Replay = tripleOf 𝓤 H A replay.signature (replay.spec 𝓤 H A mem run)
 
-module _ {M : Type 1} (𝓤 : URA M) (H : Heap 𝓤) (A : Atoms 𝓤) (W : Given 𝓤 H A) (at-mem : Memory → SProp 𝓤) (run : Routine → Fun 𝓤) (κ : Lft) (q : Share) (s : RefT (List ℕ)) (p : BitPosition) (calls : RefT (List ℕ)) (is-p : IsAt p) (ok : 480 ≤ length (now calls)) where
+module _ {M : Type 1} (𝓤 : URA M) (H : Heap 𝓤) (A : Atoms 𝓤) (W : Given 𝓤 H A) (at-mem : Memory → SProp 𝓤) (run : Routine → Fun 𝓤) (κ : Lft) (q : Share)
+    (s : RefT (List ℕ)) (p : BitPosition) (calls : RefT (List ℕ)) (is-p : IsAt p) (ok : 480 ≤ length (now calls)) where
   abbrev args : RefT (List ℕ) × (BitPosition × (RefT (List ℕ) × Unit {0}))
   args = (s, (p, (calls, tt)))
 
@@ -96,7 +99,8 @@ module _ {M : Type 1} (𝓤 : URA M) (H : Heap 𝓤) (A : Atoms 𝓤) (W : Given
   twice x = shr-slice-copy 𝓤 H A W (named 0) κ u8 .twice x (sliced x ∷ [])
 
   -- the call of `at_bit`: what it asks
-  makes-at : ent 𝓤 (onEntry 𝓤 H A differing.signature (κ, tt) (q, tt) args vals) (sep 𝓤 (AtBit 𝓤 H A at-mem run .pre (to-at 𝓤 H A W at-mem run κ q s p)) (sep 𝓤 (sem 𝓤 H A (Own s)) (sem 𝓤 H A (Own calls))))
+  makes-at : ent 𝓤 (onEntry 𝓤 H A differing.signature (κ, tt) (q, tt) args vals)
+      (sep 𝓤 (AtBit 𝓤 H A at-mem run .pre (to-at 𝓤 H A W at-mem run κ q s p)) (sep 𝓤 (sem 𝓤 H A (Own s)) (sem 𝓤 H A (Own calls))))
   makes-at =
       qed W ((‵ (flft κ q) ⊛ ‵ ftrue) ∷ ‵ (owns (ShrSlice (named 0) κ u8 ∷ P.the-row ∷ ShrSlice (named 0) κ u8 ∷ []) args vals) ∷ []) ∵
       move ! (1 ∷ []) $ fsplit ! $ move ! (1 ∷ []) $ fsplit ! $ drop ! $ fsplit ! $ move ! (2 ∷ []) $
@@ -114,7 +118,9 @@ module _ {M : Type 1} (𝓤 : URA M) (H : Heap 𝓤) (A : Atoms 𝓤) (W : Given
   abbrev to-replay : ℕ → ℕ → GName → BitPumpMsb → Replay 𝓤 H A at-mem run .Ghost
   to-replay ν l δ r = ((κs ν, (PosShare·right q, (PosShare·left q, tt)), (meet-⊑-right (ν ∷ []) κ, tt), passed l δ r, (vptr l 0 ∷ [], (sliced calls ∷ [], tt))), tt)
 
-  goes-replay : (ν l : ℕ) (δ : GName) (r : BitPumpMsb) → ent 𝓤 (⋆ 𝓤 H A (‵ (flft (ν ∷ κ) (PosShare·right q)) ∷ ‵ (flft κ (PosShare·left q)) ∷ (‵ (LentOwn κ l ν δ r) ⊛ ‵ (Own calls)) ∷ [])) (Replay 𝓤 H A at-mem run .pre (to-replay ν l δ r))
+  goes-replay : (ν l : ℕ) (δ : GName) (r : BitPumpMsb)
+      → ent 𝓤 (⋆ 𝓤 H A (‵ (flft (ν ∷ κ) (PosShare·right q)) ∷ ‵ (flft κ (PosShare·left q)) ∷ (‵ (LentOwn κ l ν δ r) ⊛ ‵ (Own calls)) ∷ []))
+      (Replay 𝓤 H A at-mem run .pre (to-replay ν l δ r))
   goes-replay ν l δ r =
       qed W (‵ (flft (ν ∷ κ) (PosShare·right q)) ∷ ‵ (flft κ (PosShare·left q)) ∷ (‵ (LentOwn κ l ν δ r) ⊛ ‵ (Own calls)) ∷ []) ∵ says ! ok $
       nothing ! $ move ! (2 ∷ 0 ∷ []) $ join ! $ move ! (1 ∷ 0 ∷ []) $ join ! $ frame ! $ split ! $ nothing ! $ move ! (2 ∷ 0 ∷ []) $ fjoin ! $ move ! (1 ∷ 0 ∷ []) $ fjoin ! $ done !
@@ -126,8 +132,10 @@ module _ {M : Type 1} (𝓤 : URA M) (H : Heap 𝓤) (A : Atoms 𝓤) (W : Given
       nothing ! $ move ! (1 ∷ 0 ∷ []) $ join ! $ frame ! $
       nothing ! $ move ! (3 ∷ 0 ∷ []) $ fjoin ! $ owned ! P.the-row (Is P.the-row) (LL.makes P.the-type P′.the-plain 𝓤 H A) p _ is-p $ fjoin ! $ move ! (2 ∷ 0 ∷ []) $ fjoin ! $ frame ! $ done !
 
-  module _ (C : Calls 𝓤 H) (Λ : Loops 𝓤 H) (fm : FmC 𝓤 H (W .laws) C) (known-at : Triple 𝓤 (C #at-bit) (AtBit 𝓤 H A at-mem run)) (known-replay : Triple 𝓤 (C #replay) (Replay 𝓤 H A at-mem run)) where
-    walk : Is (ShrSlice (named 0) κ u8) s (sliced s ∷ []) → Is (ShrSlice (named 0) κ u8) calls (sliced calls ∷ []) → ent 𝓤 (onEntry 𝓤 H A differing.signature (κ, tt) (q, tt) args vals) (WpFn 𝓤 H C Λ code.function (sliced s ∷ P′.lowered p ∷ sliced calls ∷ []) Post)
+  module _ (C : Calls 𝓤 H) (Λ : Loops 𝓤 H) (fm : FmC 𝓤 H (W .laws) C) (known-at : Triple 𝓤 (C #at-bit) (AtBit 𝓤 H A at-mem run))
+      (known-replay : Triple 𝓤 (C #replay) (Replay 𝓤 H A at-mem run)) where
+    walk : Is (ShrSlice (named 0) κ u8) s (sliced s ∷ []) → Is (ShrSlice (named 0) κ u8) calls (sliced calls ∷ [])
+        → ent 𝓤 (onEntry 𝓤 H A differing.signature (κ, tt) (q, tt) args vals) (WpFn 𝓤 H C Λ code.function (sliced s ∷ P′.lowered p ∷ sliced calls ∷ []) Post)
     walk is-s is-c =
         qed W (raw (onEntry 𝓤 H A differing.signature (κ, tt) (q, tt) args vals) ∷ []) ∵ enter ! C Λ code.function (sliced s ∷ P′.lowered p ∷ sliced calls ∷ []) _ $
         alloc1 ! (λ l₀. alloc1 ! (λ l₁. alloc1 ! (λ l₂. alloc1 ! (λ l₃. alloc1 ! (λ l₄. alloc1 ! (λ l₅. alloc1 ! (λ l₆. alloc0 ! $ params1 ! $
@@ -162,14 +170,16 @@ module _ {M : Type 1} (𝓤 : URA M) (H : Heap 𝓤) (A : Atoms 𝓤) (W : Given
         keep ! (0 ∷ 2 ∷ 6 ∷ 4 ∷ []) $ by ! (exits t w e′))))))))))))))))))
 
 module _ {M : Type 1} (𝓤 : URA M) (H : Heap 𝓤) (A : Atoms 𝓤) (W : Given 𝓤 H A) (mem : Memory → SProp 𝓤) (run : Routine → Fun 𝓤) where
-  differing-walks : (C : Calls 𝓤 H) (Λ : Loops 𝓤 H) → FmC 𝓤 H (W .laws) C → Triple 𝓤 (C #at-bit) (AtBit 𝓤 H A mem run) → Triple 𝓤 (C #replay) (Replay 𝓤 H A mem run)
+  differing-walks : (C : Calls 𝓤 H) (Λ : Loops 𝓤 H) → FmC 𝓤 H (W .laws) C → Triple 𝓤 (C #at-bit) (AtBit 𝓤 H A mem run)
+      → Triple 𝓤 (C #replay) (Replay 𝓤 H A mem run)
       → Walks 𝓤 H A differing.ended stayed (WpFn 𝓤 H C Λ code.function) (differing.clauses 𝓤 H A mem run)
   differing-walks C Λ fm known-at known-replay =
       walked 𝓤 H A differing.ended stayed (differing.clauses 𝓤 H A mem run) (WpFn 𝓤 H C Λ code.function) (λ κs. (slice-vals, (LL.vals P.the-type P′.the-laws, (slice-vals, tt)))) (λ κs. (shr-slice-tells (named 0) (κs .0) u8, (LL.tells P.the-type P′.the-laws, (shr-slice-tells (named 0) (κs .0) u8, tt))))
       (λ κs qs bounds a g are. needs 𝓤 _ _ (λ ok. walk 𝓤 H A W mem run (κs .0) (qs .0) (a .0) (a .1 .0) (a .1 .1 .0) (are .1 .0) ok C Λ fm known-at known-replay (are .0) (are .1 .1 .0)))
 
 differing-meets : {M : Type 1} (𝓤 : URA M) (H : Heap 𝓤) (A : Atoms 𝓤) (W : Given 𝓤 H A) (mem : Memory → SProp 𝓤) (run : Routine → Fun 𝓤) (𝓣 : Tables 𝓤 H)
-    → Triple 𝓤 (𝓣 .C #at-bit) (AtBit 𝓤 H A mem run) → Triple 𝓤 (𝓣 .C #replay) (Replay 𝓤 H A mem run) → Meets 𝓤 H A differing.signature (WpFn 𝓤 H (𝓣 .C) (𝓣 .Λ) code.function) (differing.spec 𝓤 H A mem run)
+    → Triple 𝓤 (𝓣 .C #at-bit) (AtBit 𝓤 H A mem run) → Triple 𝓤 (𝓣 .C #replay) (Replay 𝓤 H A mem run)
+    → Meets 𝓤 H A differing.signature (WpFn 𝓤 H (𝓣 .C) (𝓣 .Λ) code.function) (differing.spec 𝓤 H A mem run)
 differing-meets 𝓤 H A W mem run 𝓣 known-at known-replay =
     let slice = goes-none-slice 𝓤 H A W 1 (0 ∷ []) tt (plain (λ _. u8)) yes in
     walk-meets 𝓤 H A differing.ended stayed W (slice, (goes-none 𝓤 H A W 1 (λ _. P.the-row) yes (λ κs x f. refl), (slice, tt))) (differing.clauses 𝓤 H A mem run) (WpFn 𝓤 H (𝓣 .C) (𝓣 .Λ) code.function) (WpFn-mono 𝓤 H (W .laws) 𝓣 code.function)

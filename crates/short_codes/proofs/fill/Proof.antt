@@ -26,7 +26,8 @@ entry-at : (d k n count code v : ℕ) → Bounded d k n → count ≡ countOf d 
     → v ≡ 65536 * (code / 2 ^ k + 1 + k) + (2 ^ k + code % 2 ^ k) → v ≡ entryAt d k code
 entry-at d k n count code v b e h is = is ∙ sym (entry-is d k code (b .depth-low) (omega (arith, runs d k n count code b e h)))
 
-done : (d k n count code : ℕ) (l₀ l : List ℕ) → count ≡ countOf d k n → code ≤ count → count ≤ code → length l ≡ length l₀ → NewTo (entryAt d k) code l₀ l → Filled d k n l₀ l
+done : (d k n count code : ℕ) (l₀ l : List ℕ) → count ≡ countOf d k n → code ≤ count → count ≤ code → length l ≡ length l₀ → NewTo (entryAt d k) code l₀ l
+    → Filled d k n l₀ l
 done d k n count code l₀ l e a b long new =
     let same : code ≡ countOf d k n = omega arith in
     record { as-long = long; entries = rw (← same) new }

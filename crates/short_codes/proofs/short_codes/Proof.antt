@@ -38,7 +38,8 @@ module _ (d k n : ℕ) (list : List ℕ) where
         (rw (e, is), record { as-long = f .as-long; entries = λ i. rw (e, l) (f .entries i) })
 
 -- what the first test says
-inside : (c : tie.Else1) → inSheet (c .before .before .before .args .depth) (c .before .before .before .args .k) (c .before .before .before .args .longest) ≡ true
+inside : (c : tie.Else1)
+    → inSheet (c .before .before .before .args .depth) (c .before .before .before .args .k) (c .before .before .before .args .longest) ≡ true
 inside c = sym (c .before .in-sheet .ensures) ∙ not-false _ (c .if1 .left)
 
 returns : tie.Need-returns

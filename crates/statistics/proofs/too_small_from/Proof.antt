@@ -31,7 +31,8 @@ ends : (sum n k count j : ℕ) → Counted sum n k count j → from sum n j ≡ 
 ends sum n k count j inv e = (omega (arith, inv .3), omega (arith, inv .1, inv .2))
 
 -- one number more is counted where it is too small
-next : (sum n k count j f : ℕ) (b : Bool) → Counted sum n k count j → j < 15 → b ≡ enough sum n j → (f ≡ flag (not b)) × (f ≤ 1) → Counted sum n k (count + f) (j + 1)
+next : (sum n k count j f : ℕ) (b : Bool) → Counted sum n k count j → j < 15 → b ≡ enough sum n j → (f ≡ flag (not b)) × (f ≤ 1)
+    → Counted sum n k (count + f) (j + 1)
 next sum n k count j f b inv lt e g =
     let low : j + 1 ≤ from sum n (j + 1) = least (15 - (j + 1)) (enough sum n) (j + 1) .low in
     let r : ℕ = from sum n (j + 1) - (j + 1) in

@@ -13,7 +13,8 @@ inside w line p hp h2 h17 =
     let high : line * (w + 2) ≤ 17 * (w + 2) = mul-le-mul-right (w + 2) h17 in
     (omega arith, omega arith)
 
-here : (c : tie.Start) → (2 * (c .args .w + 2) ≤ c .args .line * (c .args .w + 2) + c .args .p) × (c .args .line * (c .args .w + 2) + c .args .p + 2 < 18 * (c .args .w + 2))
+here : (c : tie.Start) → (2 * (c .args .w + 2) ≤ c .args .line * (c .args .w + 2) + c .args .p)
+    × (c .args .line * (c .args .w + 2) + c .args .p + 2 < 18 * (c .args .w + 2))
 here c = inside _ _ _ (c .pre .1 .0) (c .pre .1 .1 .0) (c .pre .1 .1 .1)
 
 mul-result : tie.Need-mul-result

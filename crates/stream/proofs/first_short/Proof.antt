@@ -28,7 +28,8 @@ start : (d : List ℕ) (h : FujiHeader) → firstShort d h ≡ shortFrom d h (h 
 unfolding firstShort
 start d h = let e : h .blocks - 0 ≡ h .blocks = omega arith in rw e
 
-module _ (d : List ℕ) (h : FujiHeader) (blocks b at row : ℕ) (ea : at ≡ rowStart h b) (er : row ≡ rowLength h) (inv : firstShort d h ≡ shortFrom d h blocks b) where
+module _ (d : List ℕ) (h : FujiHeader) (blocks b at row : ℕ) (ea : at ≡ rowStart h b) (er : row ≡ rowLength h)
+    (inv : firstShort d h ≡ shortFrom d h blocks b) where
   here : length d < at + row → b ≡ firstShort d h
   here l = sym (inv ∙ least-here (blocks - b) (λ i. isShort d h i) b (lt-ltb (length d) (rowStart h b + rowLength h) (rw (← ea, ← er) l)))
 

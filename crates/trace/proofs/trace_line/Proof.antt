@@ -118,7 +118,8 @@ module _ (d : tie.After-trace-pass Inv-loop μ-loop) where
 
   -- what the pass says, as that of a line
   said : let l = looped (lent d) .loop in let a = start (looped (lent d)) .args in let e = 112 * set-of + 112 - 112 * set-of in
-      Says (cleanState (d .trace-pass .last .1 .1 .0) (putMid (112 * set-of) e (l .sums) (d .trace-pass .last .1 .1 .1 .0)) (putMid (112 * set-of) e (l .ns) (d .trace-pass .last .1 .1 .1 .1 .0)))
+      Says (cleanState (d .trace-pass .last .1 .1 .0) (putMid (112 * set-of) e (l .sums) (d .trace-pass .last .1 .1 .1 .0))
+      (putMid (112 * set-of) e (l .ns) (d .trace-pass .last .1 .1 .1 .1 .0)))
       (passWay (a .form) (a .block .now) (a .n) (l .i) (cleanState (l .lines) (l .sums) (l .ns) (l .at))) (d .trace-pass .result)
   said =
       let k = lent d in
@@ -130,7 +131,8 @@ module _ (d : tie.After-trace-pass Inv-loop μ-loop) where
       _ _ _ sums-back ns-back (d .trace-pass .ensures .says)
 
   back : let l = looped (lent d) .loop in let e = 112 * set-of + 112 - 112 * set-of in
-      AllInRange (zipRecords (putMid (112 * set-of) e (l .sums) (d .trace-pass .last .1 .1 .1 .0)) (putMid (112 * set-of) e (l .ns) (d .trace-pass .last .1 .1 .1 .1 .0)))
+      AllInRange (zipRecords (putMid (112 * set-of) e (l .sums) (d .trace-pass .last .1 .1 .1 .0))
+      (putMid (112 * set-of) e (l .ns) (d .trace-pass .last .1 .1 .1 .1 .0)))
   back =
       let l = looped (lent d) .loop in
       back-in-range (l .sums) (l .ns) set-of (112 * set-of) (112 * set-of + 112) refl refl (l .inv .2 .1) (l .inv .2 .2) (one-of-three (lent d)) (l .inv .3) _ _ sums-back ns-back (d .trace-pass .ensures .records)
@@ -141,10 +143,12 @@ module _ (d : tie.After-trace-pass Inv-loop μ-loop) where
   lines-long : length (d .trace-pass .last .1 .1 .0) ≡ length (looped (lent d) .loop .lines)
   lines-long = omega (arith, d .trace-pass .kept, ready (lent d) .set-guards2 .kept, first (ready (lent d)) .set-guards .kept)
 
-  sums-long : length (putMid (112 * set-of) (112 * set-of + 112 - 112 * set-of) (looped (lent d) .loop .sums) (d .trace-pass .last .1 .1 .1 .0)) ≡ length (looped (lent d) .loop .sums)
+  sums-long : length (putMid (112 * set-of) (112 * set-of + 112 - 112 * set-of) (looped (lent d) .loop .sums) (d .trace-pass .last .1 .1 .1 .0))
+      ≡ length (looped (lent d) .loop .sums)
   sums-long = same-len-mid (112 * set-of) (112 * set-of + 112 - 112 * set-of) (looped (lent d) .loop .sums) (d .trace-pass .last .1 .1 .1 .0) (d .trace-pass .kept .1 .1 .1 .0)
 
-  ns-long : length (putMid (112 * set-of) (112 * set-of + 112 - 112 * set-of) (looped (lent d) .loop .ns) (d .trace-pass .last .1 .1 .1 .1 .0)) ≡ length (looped (lent d) .loop .ns)
+  ns-long : length (putMid (112 * set-of) (112 * set-of + 112 - 112 * set-of) (looped (lent d) .loop .ns) (d .trace-pass .last .1 .1 .1 .1 .0))
+      ≡ length (looped (lent d) .loop .ns)
   ns-long = same-len-mid (112 * set-of) (112 * set-of + 112 - 112 * set-of) (looped (lent d) .loop .ns) (d .trace-pass .last .1 .1 .1 .1 .0) (d .trace-pass .kept .1 .1 .1 .1 .0)
 
 -- the lists have the lengths that they had

@@ -11,7 +11,8 @@ use Rattle.steps.proofs.ContextLaws.{context-is}
 use Rattle.block.specs.BadCodes.{badAt}
 use Rattle.trace.specs.Ways.{stepOf}
 use Rattle.trace.specs.Traces.{clean}
-use Rattle.trace.proofs.SampleLaws.{was-good, was-loose, read-small, spot-is, Here, interpolated, reader-small, total-small, step-cut, step-bad, step-good}
+use Rattle.trace.proofs.SampleLaws.{was-good, was-loose, read-small, spot-is, Here, interpolated}
+use Rattle.trace.proofs.SampleLaws.{reader-small, total-small, step-cut, step-bad, step-good}
 use Rattle.trace.proofs.trace_step.Statement.{statement}
 use Rattle.trace.proofs.trace_step.Tie as tie
 
@@ -35,7 +36,8 @@ abbrev judged : tie.After-sample → tie.After-verdict-of
 judged c = c .before .before .before
 
 -- it goes inside of the lines
-room : (c : tie.After-context-at) → (c .before .before .left-of .result + 1 < length (entry c .args .lines .now)) × (c .before .before .left-of .result + 1 < 2 ^ 14)
+room : (c : tie.After-context-at)
+    → (c .before .before .left-of .result + 1 < length (entry c .args .lines .now)) × (c .before .before .left-of .result + 1 < 2 ^ 14)
 room c =
     let p = entry c .pre .stage in
     let i = c .before .before .left-of .ensures .1 .1 in
@@ -50,7 +52,8 @@ found c =
 
 here : (c : tie.After-record-in) → let a = entry (seen c) .args in
     Here (a .stage) (a .x .line) (a .x .position) (a .lines .now) (a .sums .now) (a .ns .now)
-    (seen c .before .before .left-of .result) (seen c .context-at .result) (looked c .look-of .result) (c .before .before .before .slot-of .result) (c .record-in .result)
+    (seen c .before .before .left-of .result) (seen c .context-at .result) (looked c .look-of .result) (c .before .before .before .slot-of .result)
+    (c .record-in .result)
 here c =
     record {
       place = seen c .before .before .left-of .ensures .0;

@@ -15,12 +15,14 @@ use Rattle.quantiser.specs.Quantisers.{largest}
 use Rattle.writing.specs.Puts.{LineNumbers, StepsPut, StepsRoom}
 use Rattle.writing.specs.declared.Put.the-variants.{At}
 use Rattle.writing.proofs.StepPuts.{no-puts, ends, room-after, goes-on, within-after, position-after, same-steps, answered}
-use Rattle.writing.proofs.TurnPuts.{before, turn-more, all-turns, before-le, before-evens-le, wanted-even, wanted-odd, room-turn, room-evens, turn-wrong, pass-right, pass-wrong}
+use Rattle.writing.proofs.TurnPuts.{before, turn-more, all-turns, before-le, before-evens-le, wanted-even}
+use Rattle.writing.proofs.TurnPuts.{wanted-odd, room-turn, room-evens, turn-wrong, pass-right, pass-wrong}
 use Rattle.writing.proofs.write_pass.Statement.{statement}
 use Rattle.writing.proofs.write_pass.Tie as tie
 
 -- what is known before each turn: the turns before position p have put their bits
-record Turns (bits q W : ℕ) (strict : Bool) (totals raws limits t : List ℕ) (n : ℕ) (P : Plan) (store : Bool) (from : BitPosition) (lines₀ sums₀ ns₀ out₀ lines sums ns out : List ℕ) (at : BitPosition) (p : ℕ) : Type 0 where
+record Turns (bits q W : ℕ) (strict : Bool) (totals raws limits t : List ℕ) (n : ℕ) (P : Plan) (store : Bool) (from : BitPosition)
+    (lines₀ sums₀ ns₀ out₀ lines sums ns out : List ℕ) (at : BitPosition) (p : ℕ) : Type 0 where
   numbers : LineNumbers bits q totals raws limits
   even : p % 2 ≡ 0
   last : p ≤ W + 8
@@ -57,7 +59,9 @@ loop-holds c =
 
 -- there is room for it, and for the whole turn
 room : (c : tie.In-loop Inv-loop μ-loop) → let a = entry (c .before) .args in let p = c .before .loop .p in
-    StepsRoom (a .bits) (a .qs .base) (a .w) (a .strict) (a .samples .now) (a .n) ((before (a .w) (a .plan) p ++ evenPart (a .w) (a .plan) p) ++ oddPart (a .plan) p) (a .store) (a .from .0) (a .lines .now) (a .set .sums) (a .set .ns) (a .out .now)
+    StepsRoom (a .bits) (a .qs .base) (a .w) (a .strict) (a .samples .now) (a .n)
+    ((before (a .w) (a .plan) p ++ evenPart (a .w) (a .plan) p) ++ oddPart (a .plan) p) (a .store) (a .from .0) (a .lines .now) (a .set .sums) (a .set .ns)
+    (a .out .now)
 room c =
     let s = entry (c .before) in
     let a = s .args in
@@ -65,7 +69,8 @@ room c =
     (c .before .loop .inv .even) (s .pre .even) (c .loop-test .taken) (s .pre .room)
 
 room-even : (c : tie.In-loop Inv-loop μ-loop) → let a = entry (c .before) .args in let p = c .before .loop .p in
-    StepsRoom (a .bits) (a .qs .base) (a .w) (a .strict) (a .samples .now) (a .n) (before (a .w) (a .plan) p ++ evenPart (a .w) (a .plan) p) (a .store) (a .from .0) (a .lines .now) (a .set .sums) (a .set .ns) (a .out .now)
+    StepsRoom (a .bits) (a .qs .base) (a .w) (a .strict) (a .samples .now) (a .n) (before (a .w) (a .plan) p ++ evenPart (a .w) (a .plan) p) (a .store)
+    (a .from .0) (a .lines .now) (a .set .sums) (a .set .ns) (a .out .now)
 room-even c =
     let s = entry (c .before) in
     let a = s .args in
@@ -98,7 +103,8 @@ turn c = c .before .before .before .before .before .before .before .before
 
 -- what stands after it
 evens : (c : tie.After-write-even Inv-loop μ-loop) → let a = entry (turn c .before) .args in let p = turn c .before .loop .p in let z = c .write-even .last in
-    StepsPut (a .bits) (a .qs .base) (a .w) (a .strict) (a .samples .now) (a .n) (before (a .w) (a .plan) p ++ evenPart (a .w) (a .plan) p) (a .store) (a .from .0) (a .lines .now) (a .set .sums) (a .set .ns) (a .out .now)
+    StepsPut (a .bits) (a .qs .base) (a .w) (a .strict) (a .samples .now) (a .n) (before (a .w) (a .plan) p ++ evenPart (a .w) (a .plan) p) (a .store)
+    (a .from .0) (a .lines .now) (a .set .sums) (a .set .ns) (a .out .now)
     (z .1 .1 .1 .1 .1 .0) (z .1 .1 .1 .1 .1 .1 .0) (z .1 .1 .1 .1 .1 .1 .1 .0) (z .1 .1 .0) (c .write-even .result)
 evens c =
     let l = turn c in
@@ -156,8 +162,11 @@ write-odd-requires c κs =
 abbrev known : tie.After-write-odd Inv-loop μ-loop → tie.After-known-told Inv-loop μ-loop
 known c = c .before .before .before .before .before .before .before .before
 
-odds : (c : tie.After-write-odd Inv-loop μ-loop) → let l = turn (first (known c)) in let a = entry (l .before) .args in let p = l .before .loop .p in let z = c .write-odd .last in
-    StepsPut (a .bits) (a .qs .base) (a .w) (a .strict) (a .samples .now) (a .n) ((before (a .w) (a .plan) p ++ evenPart (a .w) (a .plan) p) ++ oddPart (a .plan) p) (a .store) (a .from .0) (a .lines .now) (a .set .sums) (a .set .ns) (a .out .now)
+odds : (c : tie.After-write-odd Inv-loop μ-loop) → let l = turn (first (known c)) in let a = entry (l .before) .args in let p = l .before .loop .p in
+    let z = c .write-odd .last in
+    StepsPut (a .bits) (a .qs .base) (a .w) (a .strict) (a .samples .now) (a .n)
+    ((before (a .w) (a .plan) p ++ evenPart (a .w) (a .plan) p) ++ oddPart (a .plan) p) (a .store) (a .from .0) (a .lines .now) (a .set .sums) (a .set .ns)
+    (a .out .now)
     (z .1 .1 .1 .1 .1 .0) (z .1 .1 .1 .1 .1 .1 .0) (z .1 .1 .1 .1 .1 .1 .1 .0) (z .1 .1 .0) (c .write-odd .result)
 odds c =
     let e = first (known c) in

@@ -45,7 +45,8 @@ use Rattle.bits.proofs.BitPumpMsb.at_bit.Code as code
 abbrev stayed : Stays (at-bit.ended .signature .params) (at-bit.ended .kept)
 stayed = (stay-none-slice (0 ∷ []) tt (plain (λ _. u8)) yes, (stay-none (λ _. P.the-row) yes, tt))
 
-module _ {M : Type 1} (𝓤 : URA M) (H : Heap 𝓤) (A : Atoms 𝓤) (W : Given 𝓤 H A) (mem : Memory → SProp 𝓤) (run : Routine → Fun 𝓤) (κ : Lft) (q : Share) (s : RefT (List ℕ)) (p : BitPosition) where
+module _ {M : Type 1} (𝓤 : URA M) (H : Heap 𝓤) (A : Atoms 𝓤) (W : Given 𝓤 H A) (mem : Memory → SProp 𝓤) (run : Routine → Fun 𝓤) (κ : Lft) (q : Share)
+    (s : RefT (List ℕ)) (p : BitPosition) where
   abbrev α : NamedLft
   α = namedLft 1 0 tt (κ, tt)
 
@@ -76,7 +77,8 @@ module _ {M : Type 1} (𝓤 : URA M) (H : Heap 𝓤) (A : Atoms 𝓤) (W : Given
       by ! (pump-made 𝓤 H A W α s p is)
 
   module _ (C : Calls 𝓤 H) (Λ : Loops 𝓤 H) where
-    walk : Is (ShrSlice (named 0) κ u8) s (v ∷ []) → IsAt p → ent 𝓤 (onEntry 𝓤 H A at-bit.signature (κ, tt) (q, tt) (s, (p, tt)) vals) (WpFn 𝓤 H C Λ code.function (v ∷ w ∷ []) Post)
+    walk : Is (ShrSlice (named 0) κ u8) s (v ∷ []) → IsAt p
+        → ent 𝓤 (onEntry 𝓤 H A at-bit.signature (κ, tt) (q, tt) (s, (p, tt)) vals) (WpFn 𝓤 H C Λ code.function (v ∷ w ∷ []) Post)
     walk is-s is-p =
         qed W (raw (onEntry 𝓤 H A at-bit.signature (κ, tt) (q, tt) (s, (p, tt)) vals) ∷ []) ∵ enter ! C Λ code.function (v ∷ w ∷ []) _ $
         alloc1 ! (λ l₀. alloc1 ! (λ l₁. alloc1 ! (λ l₂. alloc0 ! $ params1 ! $

@@ -57,7 +57,8 @@ behind = plain (λ κs. T.the-row (namedLft 2 1 tt κs))
 abbrev stayed : Stays (bit-position.ended .signature .params) (bit-position.ended .kept)
 stayed = (stay-none-ref (0 ∷ []) tt behind yes, tt)
 
-module _ {M : Type 1} (𝓤 : URA M) (H : Heap 𝓤) (A : Atoms 𝓤) (W : Given 𝓤 H A) (mem : Memory → SProp 𝓤) (run : Routine → Fun 𝓤) (κ κ′ : Lft) (q q′ : Share) (bounds : AllOutlive 2 (bit-position.signature .outlives) (κ, (κ′, tt))) (b o : ℕ) (γ : GName) (h : BitPumpMsb) where
+module _ {M : Type 1} (𝓤 : URA M) (H : Heap 𝓤) (A : Atoms 𝓤) (W : Given 𝓤 H A) (mem : Memory → SProp 𝓤) (run : Routine → Fun 𝓤) (κ κ′ : Lft) (q q′ : Share)
+    (bounds : AllOutlive 2 (bit-position.signature .outlives) (κ, (κ′, tt))) (b o : ℕ) (γ : GName) (h : BitPumpMsb) where
   abbrev x : RefT BitPumpMsb × Unit {0}
   x = (record { ptr = (b, o); name = γ; now = h }, tt)
 
@@ -67,7 +68,9 @@ module _ {M : Type 1} (𝓤 : URA M) (H : Heap 𝓤) (A : Atoms 𝓤) (W : Given
   abbrev Post : Val → SProp 𝓤
   Post = walkOf 𝓤 H A bit-position.ended stayed (bit-position.clauses 𝓤 H A mem run) .post (((κ, (κ′, tt)), (q, (q′, tt)), bounds, x, vals), tt)
 
-  exits : IsAt (h .at) → ent 𝓤 (⋆ 𝓤 H A (‵ (flft κ q) ∷ (‵ (flft κ′ q′) ⊛ ‵ ftrue) ∷ ‵ (fres γ (B κ′ .coded .code h)) ∷ ‵ (fshr-bor κ (λ s. partAt (B κ′) s h b o)) ∷ [])) (Post (P′.lowered (h .at)))
+  exits : IsAt (h .at) → ent 𝓤
+      (⋆ 𝓤 H A (‵ (flft κ q) ∷ (‵ (flft κ′ q′) ⊛ ‵ ftrue) ∷ ‵ (fres γ (B κ′ .coded .code h)) ∷ ‵ (fshr-bor κ (λ s. partAt (B κ′) s h b o)) ∷ []))
+      (Post (P′.lowered (h .at)))
   exits is =
       qed W (‵ (flft κ q) ∷ (‵ (flft κ′ q′) ⊛ ‵ ftrue) ∷ ‵ (fres γ (B κ′ .coded .code h)) ∷ ‵ (fshr-bor κ (λ s. partAt (B κ′) s h b o)) ∷ []) ∵
       suffices ! _ (ends-at 𝓤 H A bit-position.ended stayed (bit-position.clauses 𝓤 H A mem run) W (((κ, (κ′, tt)), (q, (q′, tt)), bounds, x, vals), tt) (P′.lowered (h .at)) (h .at) (tt, tt) (tt, tt)) $ says ! refl $

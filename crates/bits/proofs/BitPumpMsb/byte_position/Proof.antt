@@ -15,9 +15,11 @@ use ghost.Atoms.{Atoms, sem}
 use contract.Lifetimes.{AllOutlive}
 use contract.Monad.{Fun, fact}
 use contract.Running.{givenOf, tables, tablesOf}
-use types.Kit.{Given, ‵, raw, _⊛_, ⋆, some, later, _$_, _∵_, !, qed, by, move, keep, drop, use0, use1, split, join, pick, await, fsplit, fsplit3, fjoin, fjoin3, feqI, suffices, frame, done}
+use types.Kit.{Given, ‵, raw, _⊛_, ⋆, some, later, _$_, _∵_, !, qed, by, move, keep, drop, use0, use1, split}
+use types.Kit.{join, pick, await, fsplit, fsplit3, fjoin, fjoin3, feqI, suffices, frame, done}
 use types.Part.{whole, sub, look-in}
-use types.Run.{look, init, forget, stop, hop, fld, from, load, of-opd, and-then, no-more, assigns, land, returns, enter, alloc1, alloc0, params1, pass1, pass0, free1, free0}
+use types.Run.{look, init, forget, stop, hop, fld, from, load, of-opd, and-then, no-more, assigns}
+use types.Run.{land, returns, enter, alloc1, alloc0, params1, pass1, pass0, free1, free0}
 use sound.WpLaws.{FmC, fmOf, WpFn-mono}
 use denote.RattleType.{RattleType, owns}
 use denote.Laws.{Is, shows}
@@ -71,7 +73,8 @@ stayed = (stay-none-ref (0 ∷ []) tt behind yes, tt)
 abbrev Bytes : {M : Type 1} (𝓤 : URA M) (H : Heap 𝓤) (A : Atoms 𝓤) (mem : Memory → SProp 𝓤) (run : Routine → Fun 𝓤) → Contract 𝓤
 Bytes 𝓤 H A mem run = tripleOf 𝓤 H A bytes.signature (bytes.spec 𝓤 H A mem run)
 
-module _ {M : Type 1} (𝓤 : URA M) (H : Heap 𝓤) (A : Atoms 𝓤) (W : Given 𝓤 H A) (mem : Memory → SProp 𝓤) (run : Routine → Fun 𝓤) (κ κ′ : Lft) (q q′ : Share) (bounds : AllOutlive 2 (byte-position.signature .outlives) (κ, (κ′, tt))) (b o : ℕ) (γ : GName) (h : BitPumpMsb) where
+module _ {M : Type 1} (𝓤 : URA M) (H : Heap 𝓤) (A : Atoms 𝓤) (W : Given 𝓤 H A) (mem : Memory → SProp 𝓤) (run : Routine → Fun 𝓤) (κ κ′ : Lft) (q q′ : Share)
+    (bounds : AllOutlive 2 (byte-position.signature .outlives) (κ, (κ′, tt))) (b o : ℕ) (γ : GName) (h : BitPumpMsb) where
   abbrev x : RefT BitPumpMsb × Unit {0}
   x = (record { ptr = (b, o); name = γ; now = h }, tt)
 
@@ -94,7 +97,9 @@ module _ {M : Type 1} (𝓤 : URA M) (H : Heap 𝓤) (A : Atoms 𝓤) (W : Given
   said : (r : ByteOffset) → ent 𝓤 (ensured 𝓤 H A bytes.ended (bytes.clauses 𝓤 H A mem run) tt (h .at, tt) tt r) (fact 𝓤 (r .0 ≡ (h .at .0 + 7) / 8))
   said r = exE 𝓤 _ (λ ws. snd∗ 𝓤 (sem 𝓤 H A (lasts bytes.ended tt (h .at, tt) ws)) (fact 𝓤 (r .0 ≡ (h .at .0 + 7) / 8)))
 
-  exits : (r : ByteOffset) (u : Val) → r .0 ≡ (h .at .0 + 7) / 8 → ent 𝓤 (⋆ 𝓤 H A (‵ (flft κ q) ∷ (‵ (flft κ′ q′) ⊛ ‵ ftrue) ∷ ‵ (fres γ (B κ′ .coded .code h)) ∷ ‵ (fshr-bor κ (λ s. partAt (B κ′) s h b o)) ∷ ‵ (O.the-row .own r (u ∷ [])) ∷ [])) (Post u)
+  exits : (r : ByteOffset) (u : Val) → r .0 ≡ (h .at .0 + 7) / 8
+      → ent 𝓤 (⋆ 𝓤 H A (‵ (flft κ q) ∷ (‵ (flft κ′ q′) ⊛ ‵ ftrue) ∷ ‵ (fres γ (B κ′ .coded .code h)) ∷ ‵ (fshr-bor κ (λ s. partAt (B κ′) s h b o))
+      ∷ ‵ (O.the-row .own r (u ∷ [])) ∷ [])) (Post u)
   exits r u e =
       qed W (‵ (flft κ q) ∷ (‵ (flft κ′ q′) ⊛ ‵ ftrue) ∷ ‵ (fres γ (B κ′ .coded .code h)) ∷ ‵ (fshr-bor κ (λ s. partAt (B κ′) s h b o)) ∷ ‵ (O.the-row .own r (u ∷ [])) ∷ []) ∵
       suffices ! _ (ends-at 𝓤 H A byte-position.ended stayed (byte-position.clauses 𝓤 H A mem run) W (((κ, (κ′, tt)), (q, (q′, tt)), bounds, x, vals), tt) u r (tt, tt) (tt, tt)) $ says ! e $
@@ -123,12 +128,14 @@ module _ {M : Type 1} (𝓤 : URA M) (H : Heap 𝓤) (A : Atoms 𝓤) (W : Given
         keep ! (0 ∷ 4 ∷ 5 ∷ 3 ∷ 1 ∷ []) $ by ! (exits r u e))))))))))
 
 module _ {M : Type 1} (𝓤 : URA M) (H : Heap 𝓤) (A : Atoms 𝓤) (W : Given 𝓤 H A) (mem : Memory → SProp 𝓤) (run : Routine → Fun 𝓤) where
-  byte-position-walks : (C : Calls 𝓤 H) (Λ : Loops 𝓤 H) → FmC 𝓤 H (W .laws) C → Triple 𝓤 (C #bytes) (Bytes 𝓤 H A mem run) → Walks 𝓤 H A byte-position.ended stayed (WpFn 𝓤 H C Λ code.function) (byte-position.clauses 𝓤 H A mem run)
+  byte-position-walks : (C : Calls 𝓤 H) (Λ : Loops 𝓤 H) → FmC 𝓤 H (W .laws) C → Triple 𝓤 (C #bytes) (Bytes 𝓤 H A mem run)
+      → Walks 𝓤 H A byte-position.ended stayed (WpFn 𝓤 H C Λ code.function) (byte-position.clauses 𝓤 H A mem run)
   byte-position-walks C Λ fm known =
       walked 𝓤 H A byte-position.ended stayed (byte-position.clauses 𝓤 H A mem run) (WpFn 𝓤 H C Λ code.function) (λ κs. (ptr-vals, tt)) (λ κs. (shr-tells (named 0) (κs .0) (B (κs .1 .0)), tt))
       (λ κs qs bounds a _ _. via 𝓤 _ (fst∗ 𝓤 _ (emp 𝓤)) (walk 𝓤 H A W mem run (κs .0) (κs .1 .0) (qs .0) (qs .1 .0) bounds (a .0 .ptr .0) (a .0 .ptr .1) (a .0 .name) (a .0 .now) C Λ fm known))
 
-byte-position-meets : {M : Type 1} (𝓤 : URA M) (H : Heap 𝓤) (A : Atoms 𝓤) (W : Given 𝓤 H A) (mem : Memory → SProp 𝓤) (run : Routine → Fun 𝓤) (𝓣 : Tables 𝓤 H) → Triple 𝓤 (𝓣 .C #bytes) (Bytes 𝓤 H A mem run)
+byte-position-meets : {M : Type 1} (𝓤 : URA M) (H : Heap 𝓤) (A : Atoms 𝓤) (W : Given 𝓤 H A) (mem : Memory → SProp 𝓤) (run : Routine → Fun 𝓤)
+    (𝓣 : Tables 𝓤 H) → Triple 𝓤 (𝓣 .C #bytes) (Bytes 𝓤 H A mem run)
     → Meets 𝓤 H A byte-position.signature (WpFn 𝓤 H (𝓣 .C) (𝓣 .Λ) code.function) (byte-position.spec 𝓤 H A mem run)
 byte-position-meets 𝓤 H A W mem run 𝓣 known =
     walk-meets 𝓤 H A byte-position.ended stayed W (goes-none-ref 𝓤 H A W 2 (0 ∷ []) tt behind yes, tt) (byte-position.clauses 𝓤 H A mem run) (WpFn 𝓤 H (𝓣 .C) (𝓣 .Λ) code.function) (WpFn-mono 𝓤 H (W .laws) 𝓣 code.function)

@@ -16,9 +16,11 @@ use ghost.Atoms.{Atoms, sem}
 use contract.Lifetimes.{AllOutlive}
 use contract.Monad.{Fun, fact}
 use contract.Running.{givenOf, tables, tablesOf}
-use types.Kit.{Given, ‵, raw, _⊛_, ⋆, some, later, _$_, _∵_, !, qed, by, move, keep, drop, use0, use1, split, join, pick, await, rewrite, fsplit, fsplit3, fjoin, fjoin3, feqI, suffices, frame, done}
+use types.Kit.{Given, ‵, raw, _⊛_, ⋆, some, later, _$_, _∵_, !, qed, by, move, keep, drop, use0, use1, split, join}
+use types.Kit.{pick, await, rewrite, fsplit, fsplit3, fjoin, fjoin3, feqI, suffices, frame, done}
 use types.Part.{whole, sub, look-in, store-in}
-use types.Run.{look, init, forget, stop, hop, fld, from, load, unit-lit, of-opd, and-then, no-more, assigns, land, returns, enter, alloc1, alloc0, params1, pass1, pass0, free1, free0}
+use types.Run.{look, init, forget, stop, hop, fld, from, load, unit-lit, of-opd, and-then, no-more, assigns}
+use types.Run.{land, returns, enter, alloc1, alloc0, params1, pass1, pass0, free1, free0}
 use types.SemTy.{Body}
 use sound.WpLaws.{FmC, fmOf, WpFn-mono}
 use denote.RattleType.{RattleType, owns}
@@ -74,7 +76,8 @@ stayed = (stay-ref (0 ∷ []) tt behind, (stay-none (λ _. u32) yes, tt))
 abbrev Ahead : {M : Type 1} (𝓤 : URA M) (H : Heap 𝓤) (A : Atoms 𝓤) (mem : Memory → SProp 𝓤) (run : Routine → Fun 𝓤) → Contract 𝓤
 Ahead 𝓤 H A mem run = tripleOf 𝓤 H A on.signature (on.spec 𝓤 H A mem run)
 
-module _ {M : Type 1} (𝓤 : URA M) (H : Heap 𝓤) (A : Atoms 𝓤) (W : Given 𝓤 H A) (at-mem : Memory → SProp 𝓤) (run : Routine → Fun 𝓤) (κ κ′ : Lft) (q q′ : Share) (bounds : AllOutlive 2 (skip.signature .outlives) (κ, (κ′, tt))) (b o : ℕ) (γ : GName) (h : BitPumpMsb) (n : ℕ) (n-fits : n < 2 ^ 32) where
+module _ {M : Type 1} (𝓤 : URA M) (H : Heap 𝓤) (A : Atoms 𝓤) (W : Given 𝓤 H A) (at-mem : Memory → SProp 𝓤) (run : Routine → Fun 𝓤) (κ κ′ : Lft)
+    (q q′ : Share) (bounds : AllOutlive 2 (skip.signature .outlives) (κ, (κ′, tt))) (b o : ℕ) (γ : GName) (h : BitPumpMsb) (n : ℕ) (n-fits : n < 2 ^ 32) where
   abbrev x : RefT BitPumpMsb × (ℕ × Unit {0})
   x = (record { ptr = (b, o); name = γ; now = h }, (n, tt))
 
@@ -98,7 +101,9 @@ module _ {M : Type 1} (𝓤 : URA M) (H : Heap 𝓤) (A : Atoms 𝓤) (W : Given
   said : (r : BitPosition) → ent 𝓤 (ensured 𝓤 H A on.ended (on.clauses 𝓤 H A at-mem run) tt (h .at, (n, tt)) tt r) (fact 𝓤 (r .0 ≡ ahead (h .at .0) n))
   said r = exE 𝓤 _ (λ ws. snd∗ 𝓤 (sem 𝓤 H A (lasts on.ended tt (h .at, (n, tt)) ws)) (fact 𝓤 (r .0 ≡ ahead (h .at .0) n)))
 
-  exits : (p : ℕ) → p ≡ ahead (h .at .0) n → ent 𝓤 (⋆ 𝓤 H A (‵ (fobs γ (B κ′ .coded .code (movedTo h p))) ∷ ‵ (fbor κ (Body (mem (B κ′)) b o γ)) ∷ ‵ (flft κ q) ∷ (‵ (flft κ′ q′) ⊛ ‵ ftrue) ∷ [])) (Post vunit)
+  exits : (p : ℕ) → p ≡ ahead (h .at .0) n
+      → ent 𝓤 (⋆ 𝓤 H A (‵ (fobs γ (B κ′ .coded .code (movedTo h p))) ∷ ‵ (fbor κ (Body (mem (B κ′)) b o γ)) ∷ ‵ (flft κ q) ∷ (‵ (flft κ′ q′) ⊛ ‵ ftrue)
+      ∷ [])) (Post vunit)
   exits p e =
       qed W (‵ (fobs γ (B κ′ .coded .code (movedTo h p))) ∷ ‵ (fbor κ (Body (mem (B κ′)) b o γ)) ∷ ‵ (flft κ q) ∷ (‵ (flft κ′ q′) ⊛ ‵ ftrue) ∷ []) ∵
       suffices ! _ (ends-at 𝓤 H A skip.ended stayed (skip.clauses 𝓤 H A at-mem run) W (((κ, (κ′, tt)), (q, (q′, tt)), bounds, x, vals), tt) vunit tt (movedTo h p, (tt, tt)) (tt, (tt, tt))) $ says ! (ap (movedTo h) e) $
@@ -134,12 +139,14 @@ module _ {M : Type 1} (𝓤 : URA M) (H : Heap 𝓤) (A : Atoms 𝓤) (W : Given
         keep ! (0 ∷ 1 ∷ 2 ∷ 5 ∷ []) $ by ! (exits (r .0) e))))))))))))
 
 module _ {M : Type 1} (𝓤 : URA M) (H : Heap 𝓤) (A : Atoms 𝓤) (W : Given 𝓤 H A) (mem : Memory → SProp 𝓤) (run : Routine → Fun 𝓤) where
-  skip-walks : (C : Calls 𝓤 H) (Λ : Loops 𝓤 H) → FmC 𝓤 H (W .laws) C → Triple 𝓤 (C #ahead) (Ahead 𝓤 H A mem run) → Walks 𝓤 H A skip.ended stayed (WpFn 𝓤 H C Λ code.function) (skip.clauses 𝓤 H A mem run)
+  skip-walks : (C : Calls 𝓤 H) (Λ : Loops 𝓤 H) → FmC 𝓤 H (W .laws) C → Triple 𝓤 (C #ahead) (Ahead 𝓤 H A mem run)
+      → Walks 𝓤 H A skip.ended stayed (WpFn 𝓤 H C Λ code.function) (skip.clauses 𝓤 H A mem run)
   skip-walks C Λ fm known =
       walked 𝓤 H A skip.ended stayed (skip.clauses 𝓤 H A mem run) (WpFn 𝓤 H C Λ code.function) (λ κs. (ptr-vals, (uint-vals w32, tt))) (λ κs. (mut-tells (named 0) (κs .0) (B (κs .1 .0)), (uint-tells w32, tt)))
       (λ κs qs bounds a _ are. via 𝓤 _ (fst∗ 𝓤 _ (emp 𝓤)) (walk 𝓤 H A W mem run (κs .0) (κs .1 .0) (qs .0) (qs .1 .0) bounds (a .0 .ptr .0) (a .0 .ptr .1) (a .0 .name) (a .0 .now) (a .1 .0) (are .1 .0 .1) C Λ fm known))
 
-skip-meets : {M : Type 1} (𝓤 : URA M) (H : Heap 𝓤) (A : Atoms 𝓤) (W : Given 𝓤 H A) (mem : Memory → SProp 𝓤) (run : Routine → Fun 𝓤) (𝓣 : Tables 𝓤 H) → Triple 𝓤 (𝓣 .C #ahead) (Ahead 𝓤 H A mem run)
+skip-meets : {M : Type 1} (𝓤 : URA M) (H : Heap 𝓤) (A : Atoms 𝓤) (W : Given 𝓤 H A) (mem : Memory → SProp 𝓤) (run : Routine → Fun 𝓤) (𝓣 : Tables 𝓤 H)
+    → Triple 𝓤 (𝓣 .C #ahead) (Ahead 𝓤 H A mem run)
     → Meets 𝓤 H A skip.signature (WpFn 𝓤 H (𝓣 .C) (𝓣 .Λ) code.function) (skip.spec 𝓤 H A mem run)
 skip-meets 𝓤 H A W mem run 𝓣 known =
     walk-meets 𝓤 H A skip.ended stayed W (goes-ref 𝓤 H A W 2 0 tt behind, (goes-none 𝓤 H A W 2 (λ _. u32) yes (λ κs x f. refl), tt)) (skip.clauses 𝓤 H A mem run) (WpFn 𝓤 H (𝓣 .C) (𝓣 .Λ) code.function) (WpFn-mono 𝓤 H (W .laws) 𝓣 code.function)

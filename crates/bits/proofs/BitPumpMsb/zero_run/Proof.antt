@@ -19,9 +19,11 @@ use ghost.Atoms.{Atoms, sem}
 use contract.Lifetimes.{AllOutlive}
 use contract.Monad.{Fun, fact}
 use contract.Running.{givenOf, tables, tablesOf}
-use types.Kit.{Given, ‵, raw, _⊛_, ⋆, some, later, _$_, _∵_, !, qed, by, move, keep, drop, use0, use1, use2, split, join, pick, await, rewrite, fsplit, fsplit3, fjoin, fjoin3, feqI, suffices, frame, done}
+use types.Kit.{Given, ‵, raw, _⊛_, ⋆, some, later, _$_, _∵_, !, qed, by, move, keep, drop, use0, use1, use2, split}
+use types.Kit.{join, pick, await, rewrite, fsplit, fsplit3, fjoin, fjoin3, feqI, suffices, frame, done}
 use types.Part.{whole, sub, look-in, store-in}
-use types.Run.{look, init, forget, stop, hop, fld, from, load, of-opd, and-then, no-more, assigns, land, returns, enter, alloc1, alloc0, params1, pass1, pass0, free1, free0}
+use types.Run.{look, init, forget, stop, hop, fld, from, load, of-opd, and-then, no-more, assigns}
+use types.Run.{land, returns, enter, alloc1, alloc0, params1, pass1, pass0, free1, free0}
 use types.SemTy.{Body}
 use sound.WpLaws.{FmC, fmOf, WpFn-mono}
 use denote.RattleType.{RattleType, owns}
@@ -95,7 +97,9 @@ past-fits : (s : List ℕ) (p : ℕ) (r : ZeroRun) → length s < 2 ^ 58 → p <
 past-fits s p (One z) h f e = omega (arith, run-inside s p z (sym e))
 past-fits s p None h f e = f
 
-module _ {M : Type 1} (𝓤 : URA M) (H : Heap 𝓤) (A : Atoms 𝓤) (W : Given 𝓤 H A) (at-mem : Memory → SProp 𝓤) (run : Routine → Fun 𝓤) (κ κ′ : Lft) (q q′ : Share) (bounds : AllOutlive 2 (method.signature .outlives) (κ, (κ′, tt))) (b o : ℕ) (γ : GName) (h : BitPumpMsb) (short : length (now (h .«data»)) < 2 ^ 58) where
+module _ {M : Type 1} (𝓤 : URA M) (H : Heap 𝓤) (A : Atoms 𝓤) (W : Given 𝓤 H A) (at-mem : Memory → SProp 𝓤) (run : Routine → Fun 𝓤) (κ κ′ : Lft)
+    (q q′ : Share) (bounds : AllOutlive 2 (method.signature .outlives) (κ, (κ′, tt))) (b o : ℕ) (γ : GName) (h : BitPumpMsb)
+    (short : length (now (h .«data»)) < 2 ^ 58) where
   abbrev x : RefT BitPumpMsb × Unit {0}
   x = (record { ptr = (b, o); name = γ; now = h }, tt)
 
@@ -121,28 +125,33 @@ module _ {M : Type 1} (𝓤 : URA M) (H : Heap 𝓤) (A : Atoms 𝓤) (W : Given
       nothing ! $ owned ! P.the-row (Is P.the-row) (LL.makes P.the-type P′.the-plain 𝓤 H A) (h .at) _ is $ fjoin ! $ move ! (1 ∷ 0 ∷ []) $ fjoin ! $
       move ! (2 ∷ 0 ∷ []) $ use2 W (raw (Found 𝓤 H A at-mem run .pre to)) (qed W ((‵ (flft κ′ q′) ⊛ ‵ ftrue) ∷ ‵ (owns (ShrSlice (named 0) κ′ u8 ∷ P.the-row ∷ []) (h .«data», (h .at, tt)) passed) ∷ []) ∵ says ! short $ frame ! $ done !) $ frame ! $ done !
 
-  said : (r : ZeroRun) → ent 𝓤 (ensured 𝓤 H A found.ended (found.clauses 𝓤 H A at-mem run) (κ′, tt) (h .«data», (h .at, tt)) tt r) (fact 𝓤 (r ≡ zeroRun (now (h .«data»)) (h .at .0)))
+  said : (r : ZeroRun) → ent 𝓤 (ensured 𝓤 H A found.ended (found.clauses 𝓤 H A at-mem run) (κ′, tt) (h .«data», (h .at, tt)) tt r)
+      (fact 𝓤 (r ≡ zeroRun (now (h .«data»)) (h .at .0)))
   said r = exE 𝓤 _ (λ ws. snd∗ 𝓤 (sem 𝓤 H A (lasts found.ended (κ′, tt) (h .«data», (h .at, tt)) ws)) (fact 𝓤 (r ≡ zeroRun (now (h .«data»)) (h .at .0))))
 
   -- the call of `after_run`, at the run r with the machine value u
   abbrev to-past : ZeroRun → Val → Past 𝓤 H A at-mem run .Ghost
   to-past r u = ((tt, tt, tt, (h .at, (r, tt)), (P′.lowered (h .at) ∷ [], (u ∷ [], tt))), tt)
 
-  goes-past : (r : ZeroRun) (u : Val) → IsAt (h .at) → Is Z.the-row r (u ∷ []) → afterRun (h .at .0) r < 2 ^ 64 → ent 𝓤 (emp 𝓤) (Past 𝓤 H A at-mem run .pre (to-past r u))
+  goes-past : (r : ZeroRun) (u : Val) → IsAt (h .at) → Is Z.the-row r (u ∷ []) → afterRun (h .at .0) r < 2 ^ 64
+      → ent 𝓤 (emp 𝓤) (Past 𝓤 H A at-mem run .pre (to-past r u))
   goes-past r u is is′ fits =
       qed W [] ∵ says ! fits $ nothing ! $ frame ! $ nothing ! $ owned ! Z.the-row (Is Z.the-row) (EL.makes Z.the-type Z′.the-plain 𝓤 H A) r _ is′ $ fjoin ! $ owned ! P.the-row (Is P.the-row) (LL.makes P.the-type P′.the-plain 𝓤 H A) (h .at) _ is $ fjoin ! $ done !
 
-  says-past : (r : ZeroRun) (p : BitPosition) → ent 𝓤 (ensured 𝓤 H A past.ended (past.clauses 𝓤 H A at-mem run) tt (h .at, (r, tt)) tt p) (fact 𝓤 (p .0 ≡ afterRun (h .at .0) r))
+  says-past : (r : ZeroRun) (p : BitPosition)
+      → ent 𝓤 (ensured 𝓤 H A past.ended (past.clauses 𝓤 H A at-mem run) tt (h .at, (r, tt)) tt p) (fact 𝓤 (p .0 ≡ afterRun (h .at .0) r))
   says-past r p = exE 𝓤 _ (λ ws. snd∗ 𝓤 (sem 𝓤 H A (lasts past.ended tt (h .at, (r, tt)) ws)) (fact 𝓤 (p .0 ≡ afterRun (h .at .0) r)))
 
   exits : (p : ℕ) (r : ZeroRun) (u : Val) → p ≡ afterRun (h .at .0) r → r ≡ zeroRun (now (h .«data»)) (h .at .0)
-      → ent 𝓤 (⋆ 𝓤 H A (‵ (fobs γ (B κ′ .coded .code (movedTo h p))) ∷ ‵ (fbor κ (Body (mem (B κ′)) b o γ)) ∷ ‵ (flft κ q) ∷ ‵ (Z.the-row .own r (u ∷ [])) ∷ (‵ (flft κ′ q′) ⊛ ‵ ftrue) ∷ [])) (Post u)
+      → ent 𝓤 (⋆ 𝓤 H A (‵ (fobs γ (B κ′ .coded .code (movedTo h p))) ∷ ‵ (fbor κ (Body (mem (B κ′)) b o γ)) ∷ ‵ (flft κ q) ∷ ‵ (Z.the-row .own r (u ∷ []))
+      ∷ (‵ (flft κ′ q′) ⊛ ‵ ftrue) ∷ [])) (Post u)
   exits p r u e e′ =
       qed W (‵ (fobs γ (B κ′ .coded .code (movedTo h p))) ∷ ‵ (fbor κ (Body (mem (B κ′)) b o γ)) ∷ ‵ (flft κ q) ∷ ‵ (Z.the-row .own r (u ∷ [])) ∷ (‵ (flft κ′ q′) ⊛ ‵ ftrue) ∷ []) ∵
       suffices ! _ (ends-at 𝓤 H A method.ended stayed (method.clauses 𝓤 H A at-mem run) W (((κ, (κ′, tt)), (q, (q′, tt)), bounds, x, vals), tt) u r (movedTo h p, tt) (tt, tt)) $ says ! (e′, ap (movedTo h) e) $
       move ! (2 ∷ 4 ∷ []) $ join ! $ frame ! $ feqI ! (List Val) (vptr b o ∷ []) (vptr b o ∷ []) refl $ fjoin3 ! $ nothing ! $ move ! (1 ∷ 0 ∷ []) $ fjoin ! $ frame ! $ done !
 
-  module _ (C : Calls 𝓤 H) (Λ : Loops 𝓤 H) (fm : FmC 𝓤 H (W .laws) C) (known : Triple 𝓤 (C #zero-run) (Found 𝓤 H A at-mem run)) (known-past : Triple 𝓤 (C #after-run) (Past 𝓤 H A at-mem run)) where
+  module _ (C : Calls 𝓤 H) (Λ : Loops 𝓤 H) (fm : FmC 𝓤 H (W .laws) C) (known : Triple 𝓤 (C #zero-run) (Found 𝓤 H A at-mem run))
+      (known-past : Triple 𝓤 (C #after-run) (Past 𝓤 H A at-mem run)) where
     walk : ent 𝓤 (onEntry 𝓤 H A method.signature (κ, (κ′, tt)) (q, (q′, tt)) x vals) (WpFn 𝓤 H C Λ code.function (vptr b o ∷ []) Post)
     walk =
         qed W ((‵ (flft κ q) ⊛ ‵ (flft κ′ q′) ⊛ ‵ ftrue) ∷ ‵ (owns (MutRef (named 0) κ (B κ′) ∷ []) x vals) ∷ []) ∵ enter ! C Λ code.function (vptr b o ∷ []) _ $
@@ -178,14 +187,16 @@ module _ {M : Type 1} (𝓤 : URA M) (H : Heap 𝓤) (A : Atoms 𝓤) (W : Given
         keep ! (0 ∷ 1 ∷ 2 ∷ 5 ∷ 6 ∷ []) $ by ! (exits (p .0) r u e′ e)))))))))))))))))
 
 module _ {M : Type 1} (𝓤 : URA M) (H : Heap 𝓤) (A : Atoms 𝓤) (W : Given 𝓤 H A) (mem : Memory → SProp 𝓤) (run : Routine → Fun 𝓤) where
-  zero-run-walks : (C : Calls 𝓤 H) (Λ : Loops 𝓤 H) → FmC 𝓤 H (W .laws) C → Triple 𝓤 (C #zero-run) (Found 𝓤 H A mem run) → Triple 𝓤 (C #after-run) (Past 𝓤 H A mem run)
+  zero-run-walks : (C : Calls 𝓤 H) (Λ : Loops 𝓤 H) → FmC 𝓤 H (W .laws) C → Triple 𝓤 (C #zero-run) (Found 𝓤 H A mem run)
+      → Triple 𝓤 (C #after-run) (Past 𝓤 H A mem run)
       → Walks 𝓤 H A method.ended stayed (WpFn 𝓤 H C Λ code.function) (method.clauses 𝓤 H A mem run)
   zero-run-walks C Λ fm known known-past =
       walked 𝓤 H A method.ended stayed (method.clauses 𝓤 H A mem run) (WpFn 𝓤 H C Λ code.function) (λ κs. (ptr-vals, tt)) (λ κs. (mut-tells (named 0) (κs .0) (B (κs .1 .0)), tt))
       (λ κs qs bounds a _ are. needs 𝓤 _ _ (λ short. walk 𝓤 H A W mem run (κs .0) (κs .1 .0) (qs .0) (qs .1 .0) bounds (a .0 .ptr .0) (a .0 .ptr .1) (a .0 .name) (a .0 .now) short C Λ fm known known-past))
 
 zero-run-meets : {M : Type 1} (𝓤 : URA M) (H : Heap 𝓤) (A : Atoms 𝓤) (W : Given 𝓤 H A) (mem : Memory → SProp 𝓤) (run : Routine → Fun 𝓤) (𝓣 : Tables 𝓤 H)
-    → Triple 𝓤 (𝓣 .C #zero-run) (Found 𝓤 H A mem run) → Triple 𝓤 (𝓣 .C #after-run) (Past 𝓤 H A mem run) → Meets 𝓤 H A method.signature (WpFn 𝓤 H (𝓣 .C) (𝓣 .Λ) code.function) (method.spec 𝓤 H A mem run)
+    → Triple 𝓤 (𝓣 .C #zero-run) (Found 𝓤 H A mem run) → Triple 𝓤 (𝓣 .C #after-run) (Past 𝓤 H A mem run)
+    → Meets 𝓤 H A method.signature (WpFn 𝓤 H (𝓣 .C) (𝓣 .Λ) code.function) (method.spec 𝓤 H A mem run)
 zero-run-meets 𝓤 H A W mem run 𝓣 known known-past =
     walk-meets 𝓤 H A method.ended stayed W (goes-ref 𝓤 H A W 2 0 tt behind, tt) (method.clauses 𝓤 H A mem run) (WpFn 𝓤 H (𝓣 .C) (𝓣 .Λ) code.function) (WpFn-mono 𝓤 H (W .laws) 𝓣 code.function)
     (zero-run-walks 𝓤 H A W mem run (𝓣 .C) (𝓣 .Λ) (fmOf 𝓤 H (W .laws) 𝓣) known known-past)

@@ -16,7 +16,8 @@ use Rattle.block.proofs.decoding.judged.Tie as tie
 earlier : (before x : Decoded) (r : Refusal) → before ≡ Refused r → Refused r ≡ orElse before x
 earlier before x r e = rw e
 
-now-fails : (before : Decoded) (b line : ℕ) (t : Totals) (w : Walked) → before ≡ Done → w ≡ Walk.Truncated line t → Refused (Refuse.Truncated b line) ≡ orElse before (walkedAnswer b w)
+now-fails : (before : Decoded) (b line : ℕ) (t : Totals) (w : Walked) → before ≡ Done → w ≡ Walk.Truncated line t
+    → Refused (Refuse.Truncated b line) ≡ orElse before (walkedAnswer b w)
 now-fails before b line t w e f = rw (e, f)
 
 returns : tie.Need-returns

@@ -11,7 +11,8 @@ use Rattle.block.specs.Records.{startRecord}
 use Rattle.block.proofs.records.start_record.Statement.{statement}
 use Rattle.block.proofs.records.start_record.Tie as tie
 
-of-main : (bits q j s : ℕ) (Q : Quantiser) → j % 56 < 41 → Q ≡ mainOf bits q → s ≡ startSum Q → _≡_ {A = Record} (record { sum = s; n = 1 }) (startRecord bits q j)
+of-main : (bits q j s : ℕ) (Q : Quantiser) → j % 56 < 41 → Q ≡ mainOf bits q → s ≡ startSum Q
+    → _≡_ {A = Record} (record { sum = s; n = 1 }) (startRecord bits q j)
 unfolding startRecord
 of-main bits q j s Q h eq es = simp (lt-ltb (j % 56) 41 h, es, eq)
 

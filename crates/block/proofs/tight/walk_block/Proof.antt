@@ -29,7 +29,8 @@ walk-requires c κs =
       ),
     )
 
-walked : (d : List ℕ) (h : FujiHeader) (b n : ℕ) (F : Form) (bases s : List ℕ) (w : Walked) → F ≡ formOf h → bases ≡ basesIn d b → s ≡ bytesIn d b → n ≡ h .lines
+walked : (d : List ℕ) (h : FujiHeader) (b n : ℕ) (F : Form) (bases s : List ℕ) (w : Walked) → F ≡ formOf h → bases ≡ basesIn d b → s ≡ bytesIn d b
+    → n ≡ h .lines
     → IsWalked F bases s n w → IsWalked (formOf h) (basesIn d b) (bytesIn d b) (h .lines) w
 walked d h b n F bases s w ef eb es en p = rw (ef, eb, es, en) at p
 

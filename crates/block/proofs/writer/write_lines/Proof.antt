@@ -66,7 +66,8 @@ quantisers-of-requires c κs =
     (start (looped r) .pre .1 .0 .0, based r .base-of2 .ensures .1)
 
 -- whether the set is held to its predictions
-strict-is : (l : tie.At-loop Inv-loop μ-loop) → l .before .before .before .before .before .before .before .before .before .is-strict .result ≡ isStrict (start l .args .bases .now)
+strict-is : (l : tie.At-loop Inv-loop μ-loop)
+    → l .before .before .before .before .before .before .before .before .before .is-strict .result ≡ isStrict (start l .args .bases .now)
 strict-is l = l .before .before .before .before .before .before .before .before .before .is-strict .ensures
 
 write-line-requires : tie.Need-write-line-requires Inv-loop μ-loop

@@ -23,7 +23,8 @@ shl-flag c = is-near (c .before) .small
 add-smaller : tie.Need-add-smaller
 add-smaller c = record { fits = omega (arith, is-near (c .before .before .before) .small, c .flag .ensures .1) }
 
-found : (t : Record) (e f r : ℕ) → InRange t → Near (t .sum) (t .n) e → f ≡ flag (ltb ((t .n * 2 ^ e) % 2 ^ 32) (t .sum)) → r ≡ min 15 (e + f) → (r ≡ kOf t) × (r ≤ 15)
+found : (t : Record) (e f r : ℕ) → InRange t → Near (t .sum) (t .n) e → f ≡ flag (ltb ((t .n * 2 ^ e) % 2 ^ 32) (t .sum)) → r ≡ min 15 (e + f)
+    → (r ≡ kOf t) × (r ≤ 15)
 found t e f r o h ef er =
     let x : (t .n * 2 ^ e) % 2 ^ 32 ≡ t .n * 2 ^ e = mod-eq-of-lt (h .exact) in
     (rw (er, ef, x) (near-k t e _ (o .some) h refl), omega arith)
