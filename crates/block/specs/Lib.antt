@@ -11,3 +11,5 @@ pub mod Totals
 pub mod BlockReadings
 pub mod Words
 pub mod WrittenAnswers
+pub mod WindowedImages
+pub mod WindowedLines

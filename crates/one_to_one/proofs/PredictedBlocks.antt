@@ -17,7 +17,8 @@ use Rattle.lines.proofs.MoveLaws.{turned-at}
 use Rattle.map.specs.Places.{widthOf}
 use Rattle.writing.specs.Sets.{indexIn}
 use Rattle.writing.specs.Writings.{writePass}
-use Rattle.read_back.proofs.OrderLaws.{pass-all, all-pass}
+use Rattle.pass.proofs.FrameLaws.{pass-all}
+use Rattle.read_back.proofs.OrderLaws.{all-pass}
 use Rattle.block.specs.WrittenBlocks.{WriteState, repeats, enterWriting, writePassAt, beforeWriting, writeLine, startWriting, writeLines, FitSet}
 use Rattle.block.specs.declared.Form.{Form}
 use Rattle.block.proofs.LineLaws.{width-in-range}

@@ -14,7 +14,8 @@ use Rattle.steps.specs.Steps.{Step}
 use Rattle.steps.specs.Contexts.{evenAt, contextAt, stepContext}
 use Rattle.prediction.specs.Predictions.{evenPrediction, evenContext}
 use Rattle.writing.specs.Writings.{Writing, orSecond, writeStep, writes}
-use Rattle.read_back.proofs.ListBack.{All, cell, Apart}
+use Rattle.pass.proofs.FrameLaws.{All, cell}
+use Rattle.read_back.proofs.ListBack.{Apart}
 use Rattle.writing.proofs.WriteLaws.{wanted, write-coded, write-interpolated}
 
 -- ---- one step
