@@ -2,13 +2,14 @@
 use borrow.Author.Tests.{ltb-true, ltb-false, lt-ltb, le-ltb, le-leb, leb-true, eqb-true, eqb-false}
 use mathlib.Core.Bool.{Bool, true, false, cond, _&&_, and-true, and-false}
 use mathlib.Core.List.{List}
-use mathlib.Core.Option.{none, some}
+use mathlib.Core.Option.{Option, none, some}
 use mathlib.Core.Path.{_≡_, refl, sym, _∙_}
 use Prim.Native.Nat.{ℕ, zero, suc, _+_, _-_, _*_, _/_, _%_, _≤_, _<_, zero-le}
-use native.Mathlib.Nat.{add-zero, add-suc}
+use native.Mathlib.Nat.{add-zero, add-suc, le-refl}
 use native.Mathlib.Omega.{arith}
 use lib.Dec.{ltb, eqb}
 use lib.ListN.{getD}
+use Rattle.numbers.proofs.OrderLaws.{cond-le}
 use Rattle.map.specs.Places.{pictureRow, imageColumn, inRows, emittedSample}
 use Rattle.map.specs.declared.Part.{Part}
 use Rattle.map.proofs.PartLaws.{by-test, not-in}
@@ -17,8 +18,8 @@ use Rattle.stream.specs.declared.Refusal.the-variants.{Truncated}
 use Rattle.region.specs.Regions.{blockOf, firstBlock, lastBlock, bottomOf, partIn, lineCount, Accepted}
 use Rattle.region.specs.declared.Rect.{Rect}
 use Rattle.region.proofs.RegionLaws.{InColumns, one-block, row-inside}
-use Rattle.block.specs.Blocks.{State, readLineAt, startState, readLines, shownSample, Shown, shownLines, IsWalked}
-use Rattle.block.specs.Images.{formOf, bytesIn, basesIn, linesRead, readIn, lineOf, isDecoded, pictureSample, decodedSample, Pictured, orElse, walkedAnswer, blockAnswer, answerOf}
+use Rattle.block.specs.Blocks.{State, runs, readLineAt, startState, readLines, shownSample, Shown, shownLines, IsWalked}
+use Rattle.block.specs.Images.{formOf, bytesIn, basesIn, isRead, linesRead, readIn, lineOf, isDecoded, pictureSample, decodedSample, Pictured, orElse, walkedAnswer, blockAnswer, answerOf}
 use Rattle.block.specs.declared.Form.{Form}
 use Rattle.block.specs.declared.Walked.{Walked}
 use Rattle.block.specs.declared.Walked.the-variants as Walk
@@ -50,6 +51,25 @@ module _ (F : Form) (bases s : List ℕ) where
   pub all-read : (n : ℕ) (z : State) → readLines F bases s n ≡ some z → linesRead F bases s n ≡ n
   all-read zero z e = read-none
   all-read (suc n) z e = read-last n z e
+
+  start-read : readLines F bases s 0 ≡ some (startState F bases)
+  unfolding readLines runs
+  start-read = refl
+
+  read-at-most : (n : ℕ) → linesRead F bases s n ≤ n
+  unfolding linesRead
+  read-at-most zero = le-refl 0
+  read-at-most (suc n) =
+      cond-le (suc n) (isRead (readLines F bases s (suc n))) (suc n) (linesRead F bases s n) (le-refl (suc n)) (omega (arith, read-at-most n))
+
+  pub was-read : (n : ℕ) → n ≤ linesRead F bases s n → (z : State) × (readLines F bases s n ≡ some z)
+  unfolding linesRead
+  was-read zero h = (startState F bases, start-read)
+  was-read (suc n) h = go (readLines F bases s (suc n)) refl h
+    where
+      go : (o : Option State) → readLines F bases s (suc n) ≡ o → suc n ≤ cond (isRead o) (suc n) (linesRead F bases s n) → (z : State) × (readLines F bases s (suc n) ≡ some z)
+      go none e k = absurd (omega (arith, read-at-most n))
+      go (some z) e k = (z, e)
 
   -- or those before line m
   some-read : (m : ℕ) (z : State) → readLines F bases s m ≡ some z → readLines F bases s (suc m) ≡ none

@@ -5,6 +5,7 @@ pub mod Blocks
 pub mod Lent
 pub mod Images
 pub mod BadCodes
+pub mod BadSpots
 pub mod TightBlocks
 pub mod WrittenBlocks
 pub mod Totals

@@ -20,8 +20,10 @@ pub use decoding::decode_region;
 pub use decoding::decode_region_alone;
 pub use decoding::decode_region_windowed;
 pub use reading::walk_alone;
+pub use records::start_record;
 pub use tight::read_block;
 pub use tight::read_tight;
+pub use tight::tight_answer;
 pub use writer::measure_block;
 pub use writer::write_block;
 

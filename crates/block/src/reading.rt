@@ -30,7 +30,7 @@ use totals::TightLines;
 use totals::Totals;
 
 // The base of line n; a lossless block has none, and base 0 in each line.
-fn base_of(bases: &[u8], n: usize) -> u32
+pub(crate) fn base_of(bases: &[u8], n: usize) -> u32
     ensures { λ r. ⌜ (r ≡ baseOf (now (bases .entry)) n) × (r < 256) ⌝ }
 {
     if n < bases.len() {
@@ -39,7 +39,7 @@ fn base_of(bases: &[u8], n: usize) -> u32
     0
 }
 
-fn is_restarted(bases: &[u8], n: usize) -> bool
+pub(crate) fn is_restarted(bases: &[u8], n: usize) -> bool
     ensures { λ r. ⌜ r ≡ isRestarted (now (bases .entry)) n ⌝ }
 {
     if n == 0 {
@@ -48,7 +48,7 @@ fn is_restarted(bases: &[u8], n: usize) -> bool
     base_of(bases, n) != base_of(bases, n - 1)
 }
 
-fn quantisers_of(bits: u32, base: u32) -> Quantisers
+pub(crate) fn quantisers_of(bits: u32, base: u32) -> Quantisers
     requires { ⌜ Depth bits × (base < 256) ⌝ }
     ensures { λ r. ⌜ r ≡ quantisersOf bits base ⌝ }
 {

@@ -54,7 +54,7 @@ fn read_answer(b: usize, got: Walked) -> Counted
 }
 
 // What the tight reading answers for block b with the bytes s, once a walk over its lines has said this.
-fn tight_answer(s: &[u8], form: Form, b: usize, count: usize, got: Walked) -> Counted
+pub fn tight_answer(s: &[u8], form: Form, b: usize, count: usize, got: Walked) -> Counted
     requires { ⌜ (length (now s) < 2 ^ 32) × IsWalked form [] (now s) count got ⌝ }
     ensures { λ r. ⌜ r ≡ counted form [] (now (s .entry)) count (tightAnswer form b count (now (s .entry))) ⌝ }
 {

@@ -1,13 +1,14 @@
 // One code of a block, and the sample that it gives.
 ghost use mathlib.Core.Path.{_≡_};
 ghost use mathlib.Core.Bool.{cond, _&&_};
-ghost use Prim.Native.Nat.{_*_, _/_, _^_, _≤_, _<_};
+ghost use Prim.Native.Nat.{_+_, _*_, _/_, _^_, _≤_, _<_};
 ghost use lib.Dec.{leb, ltb, eqb};
 ghost use lib.ListN.{length};
 ghost use Rattle.bits.specs.Bits.{wordAt};
 ghost use Rattle.code.specs.Codes.{codeAt, Bounds, Small};
 ghost use Rattle.code.specs.Samples.{choiceOf, residualOf, wrap, Moved, sampleOf};
-ghost use Rattle.code.specs.Tight.{isTight, takenOf};
+ghost use Rattle.code.specs.Tight.{codeOfResidual, isTight, takenOf};
+ghost use Rattle.code.specs.Nearest.{codeNear};
 use bits::BitPosition;
 use bits::BitPumpMsb;
 use bits::ZeroRun;
@@ -250,4 +251,40 @@ pub fn sample(m: u32, base: u32, total: u32, negative: bool, prediction: u32, co
         return wrap(m, base, total * step, prediction, d);
     }
     wrap(m, base, total * step, prediction + d, 0)
+}
+
+// ---- the other way: the code of a wanted sample
+
+// The code of a residual: twice its size, less 1 if it is negative.
+fn code_of_residual(negative: bool, size: u32) -> u32
+    requires { ⌜ size ≤ 2 ^ 17 ⌝ }
+    ensures { λ r. ⌜ r ≡ codeOfResidual (record { negative = negative; size = size }) ⌝ }
+{
+    if negative {
+        return numbers::saturating_sub(2 * size, 1);
+    }
+    2 * size
+}
+
+// How many steps of 2 * base + 1 come nearest to a distance.
+fn nearest_size(base: u32, distance: u32) -> u32
+    requires { ⌜ (base < 256) × (distance < 2 ^ 16) ⌝ }
+    ensures { λ r. ⌜ (r ≡ (distance + base) / (2 * base + 1)) × (r < 2 ^ 17) ⌝ }
+{
+    (distance + base) / (2 * base + 1)
+}
+
+// The code, among the total code values of a quantiser with that base, of the sample nearest to v.
+pub fn code_near(base: u32, total: u32, negative: bool, prediction: u32, v: u32) -> u32
+    requires { ⌜ (base < 256) × ((total ≤ 2 ^ 16) × ((prediction < 2 ^ 16) × (v < 2 ^ 16))) ⌝ }
+    ensures { λ r. ⌜ r ≡ codeNear base total negative prediction v ⌝ }
+{
+    let wanted = numbers::difference(v, prediction);
+    let size = nearest_size(base, wanted.size);
+    let down = numbers::differ(negative, wanted.negative);
+    let code = code_of_residual(down, size);
+    if code < total {
+        return code;
+    }
+    code_of_residual(!down, numbers::saturating_sub(total, size))
 }

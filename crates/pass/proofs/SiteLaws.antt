@@ -22,7 +22,7 @@ use Rattle.code.specs.declared.Taken.{Taken}
 use Rattle.code.specs.declared.Taken.the-variants as Take
 use Rattle.steps.specs.Steps.{Step, stepAt}
 use Rattle.steps.specs.Contexts.{contextAt, usedQuantiser, lookOf, slotOf, noRecord}
-use Rattle.steps.specs.Values.{zipRecords, SetInRange, recordsOf, AreQuantisers}
+use Rattle.steps.specs.Values.{zipRecords, SetInRange, AreKs, recordsOf, AreQuantisers}
 use Rattle.steps.specs.declared.Look.{Look}
 use Rattle.steps.specs.declared.Set.{Set}
 use Rattle.steps.proofs.TableLaws.{total-is, raw-is, limit-is, total-small, reader-small}
@@ -138,6 +138,9 @@ module _ {y z : Reading} (e : y ≡ z) where
 
   pub ranges-met : SetInRange (z .set) → SetInRange (y .set)
   ranges-met g = rw e g
+
+  pub ks-met : {ks ks′ : List ℕ} → ks ≡ ks′ → AreKs (z .set) ks′ → AreKs (y .set) ks
+  ks-met f g = rw (e, f) g
 
   pub length-met : length (y .lines) ≡ length (z .lines)
   length-met = ap (λ (r : Reading). length (r .lines)) e

@@ -8,7 +8,7 @@ use lib.ListN.{length}
 use Rattle.statistics.specs.declared.Record.{Record}
 use Rattle.code.specs.declared.Place.{Place}
 use Rattle.steps.specs.Steps.{Step}
-use Rattle.steps.specs.Values.{zipRecords, recordsOf, SetInRange, quantisersOf, AreQuantisers, Depth, PlanInRange}
+use Rattle.steps.specs.Values.{zipRecords, recordsOf, SetInRange, AreKs, quantisersOf, AreQuantisers, Depth, PlanInRange}
 use Rattle.steps.specs.declared.Plan.{Plan}
 use Rattle.steps.specs.declared.Quantisers.{Quantisers}
 use Rattle.steps.specs.declared.Set.{Set}
@@ -39,7 +39,7 @@ PlanFits W P lines = ((P .first + 1) * (W + 2) ≤ length lines) × ((P .second 
 
 -- ---- the two samples of a position
 
-pub record PairAsks (spot : Spot) (q : ℕ) (from : Place) (s lines sums ns totals raws limits : List ℕ) : Type 0 where
+pub record PairAsks (spot : Spot) (q : ℕ) (from : Place) (s lines sums ns ks totals raws limits : List ℕ) : Type 0 where
   pub bytes : length s < 2 ^ 32
   pub width : spot .w ≤ 512
   pub inside : spot .p < spot .w
@@ -49,6 +49,7 @@ pub record PairAsks (spot : Spot) (q : ℕ) (from : Place) (s lines sums ns tota
   pub base : q < 256
   pub quantisers : AreQuantisers (spot .bits) q totals raws limits
   pub records : SetInRange (zipRecords sums ns)
+  pub ks-kept : AreKs (zipRecords sums ns) ks
   pub counted : from .long ≤ from .at .0
 
 -- the answer, the colour lines and the set, by what their steps read. Where they are cut off the lists are left free
@@ -57,9 +58,10 @@ IsPair none lines sums ns r = r ≡ CutOff
 IsPair (some z) lines sums ns r =
     (r ≡ At (placeOf z)) × (lines ≡ z .lines) × (zipRecords sums ns ≡ z .set)
 
-pub record PairGives (spot : Spot) (q : ℕ) (s : List ℕ) (l : List Step) (from : Reading) (lines sums ns : List ℕ) (r : Pair) : Type 0 where
+pub record PairGives (spot : Spot) (q : ℕ) (s : List ℕ) (l : List Step) (from : Reading) (lines sums ns ks : List ℕ) (r : Pair) : Type 0 where
   pub answer : IsPair (reads (spot .bits) q (spot .w) s l from) lines sums ns r
   pub records : SetInRange (zipRecords sums ns)
+  pub ks-kept : AreKs (zipRecords sums ns) ks
 
 -- ---- a pass
 

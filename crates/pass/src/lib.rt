@@ -72,16 +72,17 @@ fn even_pair(
     lines: &mut [u16],
     sums: &mut [u32; 112],
     ns: &mut [u32; 112],
+    ks: &mut [u32; 112],
     spot: Spot,
     base: u32,
     totals: &[u32; 4],
     raws: &[u32; 4],
     limits: &[u32; 4],
 ) -> Pair
-    requires { ⌜ PairAsks spot base from (now block) (now lines) (now sums) (now ns) (now totals) (now raws) (now limits) ⌝ }
+    requires { ⌜ PairAsks spot base from (now block) (now lines) (now sums) (now ns) (now ks) (now totals) (now raws) (now limits) ⌝ }
     ensures { λ r. ⌜ PairGives spot base (now (block .entry)) (evenSteps (spot .plan) (spot .p))
         (held (now (lines .entry)) (now (sums .entry)) (now (ns .entry)) from)
-        (now (lines .exit)) (now (sums .exit)) (now (ns .exit)) r ⌝ }
+        (now (lines .exit)) (now (sums .exit)) (now (ns .exit)) (now (ks .exit)) r ⌝ }
 {
     let m = quantiser::largest(spot.bits);
     let w = spot.w;
@@ -95,12 +96,12 @@ fn even_pair(
         let q = h.choice;
         let j = steps::slot_of(p, h.place);
         let old = steps::record_at(sums, ns, j);
-        let got = code::take_code(block, place, m, old.k(), limits[q], raws[q]);
+        let got = code::take_code(block, place, m, steps::k_at(ks, j), limits[q], raws[q]);
         let Taken::Read(value, at, tight, long) = got else {
             return Pair::CutOff;
         };
         lines[i + 1] = sample_of(m, h.base, totals[q], h.negative, x.prediction, value) as u16;
-        steps::update_at(sums, ns, j, old, value);
+        steps::update_with_k(sums, ns, ks, j, old, value);
         place = Place { at, tight, long };
     } else {
         lines[i + 1] = x.prediction as u16;
@@ -112,12 +113,12 @@ fn even_pair(
         let q = h.choice;
         let j = steps::slot_of(p, h.place);
         let old = steps::record_at(sums, ns, j);
-        let got = code::take_code(block, place, m, old.k(), limits[q], raws[q]);
+        let got = code::take_code(block, place, m, steps::k_at(ks, j), limits[q], raws[q]);
         let Taken::Read(value, at, tight, long) = got else {
             return Pair::CutOff;
         };
         lines[i + 1] = sample_of(m, h.base, totals[q], h.negative, x.prediction, value) as u16;
-        steps::update_at(sums, ns, j, old, value);
+        steps::update_with_k(sums, ns, ks, j, old, value);
         place = Place { at, tight, long };
     } else {
         lines[i + 1] = x.prediction as u16;
@@ -132,16 +133,17 @@ fn odd_pair(
     lines: &mut [u16],
     sums: &mut [u32; 112],
     ns: &mut [u32; 112],
+    ks: &mut [u32; 112],
     spot: Spot,
     base: u32,
     totals: &[u32; 4],
     raws: &[u32; 4],
     limits: &[u32; 4],
 ) -> Pair
-    requires { ⌜ PairAsks spot base from (now block) (now lines) (now sums) (now ns) (now totals) (now raws) (now limits) ⌝ }
+    requires { ⌜ PairAsks spot base from (now block) (now lines) (now sums) (now ns) (now ks) (now totals) (now raws) (now limits) ⌝ }
     ensures { λ r. ⌜ PairGives spot base (now (block .entry)) (oddSteps (spot .plan) (spot .p))
         (held (now (lines .entry)) (now (sums .entry)) (now (ns .entry)) from)
-        (now (lines .exit)) (now (sums .exit)) (now (ns .exit)) r ⌝ }
+        (now (lines .exit)) (now (sums .exit)) (now (ns .exit)) (now (ks .exit)) r ⌝ }
 {
     let m = quantiser::largest(spot.bits);
     let w = spot.w;
@@ -153,12 +155,12 @@ fn odd_pair(
     let q = h.choice;
     let j = steps::slot_of(p, h.place);
     let old = steps::record_at(sums, ns, j);
-    let got = code::take_code(block, from, m, old.k(), limits[q], raws[q]);
+    let got = code::take_code(block, from, m, steps::k_at(ks, j), limits[q], raws[q]);
     let Taken::Read(value, at, tight, long) = got else {
         return Pair::CutOff;
     };
     lines[i + 1] = sample_of(m, h.base, totals[q], h.negative, x.prediction, value) as u16;
-    steps::update_at(sums, ns, j, old, value);
+    steps::update_with_k(sums, ns, ks, j, old, value);
     let i = steps::left_of(w, plan.second, p);
     let x = steps::context_at(lines, w + 2, i, p);
     let h = steps::look_of(base, x);
@@ -166,12 +168,12 @@ fn odd_pair(
     let j = steps::slot_of(p, h.place);
     let old = steps::record_at(sums, ns, j);
     let between = Place { at, tight, long };
-    let got = code::take_code(block, between, m, old.k(), limits[q], raws[q]);
+    let got = code::take_code(block, between, m, steps::k_at(ks, j), limits[q], raws[q]);
     let Taken::Read(value, at, tight, long) = got else {
         return Pair::CutOff;
     };
     lines[i + 1] = sample_of(m, h.base, totals[q], h.negative, x.prediction, value) as u16;
-    steps::update_at(sums, ns, j, old, value);
+    steps::update_with_k(sums, ns, ks, j, old, value);
     Pair::At(Place { at, tight, long })
 }
 
@@ -191,6 +193,7 @@ pub fn pass(
 {
     let mut sums = set.sums;
     let mut ns = set.ns;
+    let mut ks = steps::ks_of(&sums, &ns);
     let totals = qs.totals;
     let raws = qs.raws;
     let limits = qs.limits;
@@ -205,6 +208,7 @@ pub fn pass(
                 lines,
                 &mut sums,
                 &mut ns,
+                &mut ks,
                 Spot { w, bits, plan, p },
                 base,
                 &totals,
@@ -227,6 +231,7 @@ pub fn pass(
                 lines,
                 &mut sums,
                 &mut ns,
+                &mut ks,
                 Spot {
                     w,
                     bits,

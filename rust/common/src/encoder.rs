@@ -95,6 +95,8 @@ pub enum How {
     Large,
     /// Code 2, long, whatever the code was.
     Two,
+    /// This long code, with so many zeros, in the place of code number `from` itself.
+    Long { zeros: u32, code: u32 },
 }
 
 impl Encoder<'_> {
@@ -127,6 +129,7 @@ impl Encoder<'_> {
         let zeros = match spoilt {
             None => (code >> k).min(limit),
             Some(How::Zero) => limit + 1,
+            Some(How::Long { zeros, .. }) => zeros as i32,
             Some(_) => limit,
         };
         self.long_codes += (zeros >= limit) as usize;
@@ -165,13 +168,21 @@ impl Encoder<'_> {
             residual += q.total;
         }
         let mut code = if residual >= 0 { 2 * residual } else { -2 * residual - 1 };
-        let spoilt = self.spoil.filter(|s| s.from <= self.codes && code > 0).map(|s| s.how);
+        let here = |s: &Spoil| match s.how {
+            How::Long { .. } => s.from == self.codes,
+            _ => s.from <= self.codes && code > 0,
+        };
+        let spoilt = self.spoil.filter(here).map(|s| s.how);
         if spoilt.is_some() {
             self.spoil = None;
         }
         if let Some(How::Large | How::Two) = spoilt {
             code = if spoilt == Some(How::Two) { 2 } else { 1 << self.bits };
             residual = code / 2;
+        }
+        if let Some(How::Long { code: long, .. }) = spoilt {
+            code = long as i32;
+            residual = if code % 2 == 0 { code / 2 } else { -(code + 1) / 2 };
         }
         self.codes += 1;
         let mut value = prediction + if gradient < 0 { -residual } else { residual } * step;

@@ -59,6 +59,7 @@ unsafe extern "C" {
         totals: *mut [usize; 2],
         refusal: *mut [usize; 4],
     );
+    pub fn fuji_bad_code(stream: *const u8, stream_length: usize, block: usize, spot: *mut [usize; 6], refusal: *mut [usize; 4]);
     pub fn fuji_write_block(
         header: *const u8,
         header_length: usize,

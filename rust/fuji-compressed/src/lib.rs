@@ -8,9 +8,11 @@
 //! assert_eq!(refused.number, 2);
 //! assert_eq!(refused.to_string(), "refusal 2: a header rule is broken");
 //! ```
+mod fault;
 mod ffi;
 mod refusal;
 
+pub use fault::{Fault, Reason};
 pub use refusal::Refusal;
 
 /// The size of a stream's header in bytes.
@@ -309,6 +311,17 @@ impl<'a> FujiCompressed<'a> {
         Counted { answer: Refusal::answer(refusal), totals: Totals { bits, long_codes } }
     }
 
+    /// Why block i is not tight, `None` if it is: its first bad code, or its tail. A block that the tight reading refuses with 14 is refused here too, whatever bad code
+    /// it has. Refusals 5, 8 and 14.
+    pub fn bad_code(&self, i: usize) -> Result<Option<Fault>> {
+        let (mut spot, mut refusal) = ([0; 6], [0; 4]);
+        unsafe { ffi::fuji_bad_code(self.stream.as_ptr(), self.stream.len(), i, &mut spot, &mut refusal) };
+        match (Fault::of(spot), Refusal::answer(refusal)) {
+            (Some(fault), _) => Ok(Some(fault)),
+            (None, answer) => answer.map(|()| None),
+        }
+    }
+
     fn range(&self, of: RangeOf, i: usize) -> Result<(usize, usize)> {
         let (mut range, mut refusal) = ([0; 2], [0; 4]);
         unsafe { of(self.stream.as_ptr(), self.stream.len(), i, &mut range, &mut refusal) };
@@ -403,8 +416,7 @@ pub fn plan_bases(header: &[u8], plan: &[u8], bases: &mut [u8]) -> Result<()> {
     Refusal::answer(refusal)
 }
 
-type CountedOf =
-    unsafe extern "C" fn(*const u8, usize, usize, *mut u16, usize, *mut Record, usize, *mut [usize; 2], *mut [usize; 4]);
+type CountedOf = unsafe extern "C" fn(*const u8, usize, usize, *mut u16, usize, *mut Record, usize, *mut [usize; 2], *mut [usize; 4]);
 
 type RangeOf = unsafe extern "C" fn(*const u8, usize, usize, *mut [usize; 2], *mut [usize; 4]);
 

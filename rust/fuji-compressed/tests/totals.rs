@@ -141,7 +141,11 @@ fn as_the_encoder_counts() {
             for how in [How::Escape, How::Zero, How::Large, How::Two] {
                 let bad = block(2, Some(Spoil { from: 4608, how }));
                 if bad.spoilt {
-                    assert_eq!(read(bits, xtrans, &[], 2, &bad.bytes), [of(Ok(()), &bad), of(refused(15, 1), &one)], "{bits} {xtrans} {kind} {how:?}");
+                    assert_eq!(
+                        read(bits, xtrans, &[], 2, &bad.bytes),
+                        [of(Ok(()), &bad), of(refused(15, 1), &one)],
+                        "{bits} {xtrans} {kind} {how:?}"
+                    );
                 }
             }
         }
@@ -207,17 +211,7 @@ fn told(tight: bool, d: &[u8], block: usize, scratch: &mut Scratch) -> ([usize; 
     let of = if tight { fuji_read_tight } else { fuji_read_block };
     let (samples, records) = (&mut scratch.samples, &mut scratch.records);
     unsafe {
-        of(
-            d.as_ptr(),
-            d.len(),
-            block,
-            samples.as_mut_ptr(),
-            samples.len(),
-            records.as_mut_ptr(),
-            records.len(),
-            &mut totals,
-            &mut refusal,
-        )
+        of(d.as_ptr(), d.len(), block, samples.as_mut_ptr(), samples.len(), records.as_mut_ptr(), records.len(), &mut totals, &mut refusal)
     };
     (totals, refusal)
 }

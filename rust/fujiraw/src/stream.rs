@@ -3,7 +3,9 @@ use crate::files::{load, load_samples, name};
 use crate::picture::Picture;
 use crate::progress::Progress;
 use crate::tile;
-use fuji_compressed::{ColorTile, Counted, FujiCompressed, FujiHeader, Rect, Refusal, Scratch, Totals, measure_block, plan_bases, write_block};
+use fuji_compressed::{
+    ColorTile, Counted, FujiCompressed, FujiHeader, Rect, Refusal, Scratch, Totals, measure_block, plan_bases, write_block,
+};
 use std::fmt::Write;
 use std::path::Path;
 
@@ -78,7 +80,7 @@ pub fn check(file: &Path, quiet: bool) -> Result<(String, Option<String>), Strin
         let number = answer.as_ref().map_or_else(|e| e.number, |()| 0);
         loose += (number == 15) as usize;
         cut += (number == 14) as usize;
-        let said = answer.map_or_else(|e| why_loose(e, h.lines as usize), |()| "tight".to_string());
+        let said = answer.map_or_else(|e| why_loose(e, &stream, i), |()| "tight".to_string());
         let _ = writeln!(text, "{}: block {i}: {}, {said}", name(file), in_columns(&counted, h.lines));
         progress.at(i + 1, h.blocks as usize, (i + 1) * 768 * h.height as usize);
     }
@@ -91,10 +93,10 @@ fn are(n: usize) -> String {
     if n == 1 { "1 block is".to_string() } else { format!("{n} blocks are") }
 }
 
-/// Why a block is not tight. Refusal 15 with the number of lines is about its end alone.
-fn why_loose(refusal: Refusal, lines: usize) -> String {
-    match (refusal.number, refusal.line == lines) {
-        (15, true) => format!("{refusal}: all its codes are, but after them there must be zero bits up to the next 16 bytes, and no more"),
+/// Why a block is not tight: the spot and the reason, as the library finds them.
+fn why_loose(refusal: Refusal, stream: &FujiCompressed, block: usize) -> String {
+    match stream.bad_code(block) {
+        Ok(Some(fault)) => format!("refusal {}: {}: {fault}", refusal.number, refusal.words()),
         _ => refusal.to_string(),
     }
 }

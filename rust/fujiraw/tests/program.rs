@@ -1,6 +1,7 @@
 //! The program as a user calls it: what it writes, what it says, and its status.
 mod folder;
 
+use common::encoder::{How, Spoil, encode_spoilt};
 use common::random::congruential;
 use common::stream::{Header, blocks, encoded};
 use folder::{Folder, sample, stream, text};
@@ -154,9 +155,10 @@ fn check_says_of_each_block_whether_it_is_tight() {
     f.put("cut.fcs", &stream()[..100]);
     let said = f.run("check cut.fcs");
     assert_eq!(said.status.code(), Some(1));
-    assert!(text(&said.stdout).starts_with(
-        "cut.fcs: block 0:      0 bits a line,      0 long codes, refusal 14: block 0, line 0: a line is truncated\n"
-    ));
+    assert!(
+        text(&said.stdout)
+            .starts_with("cut.fcs: block 0:      0 bits a line,      0 long codes, refusal 14: block 0, line 0: a line is truncated\n")
+    );
     assert_eq!(text(&said.stderr), "1 block is truncated\n");
     // Two tight blocks: a byte more after the first, and the second cut.
     let header = Header::new(true, false, 12, 1536, 1);
@@ -207,6 +209,33 @@ fn bits_a_line_and_long_codes() {
     f.is_wrong("check whole.fcs --blocks", "check takes no --blocks");
 }
 
+/// The spot and the reason of each block that is not tight; a block that is truncated has neither, whatever its codes are.
+#[test]
+fn check_names_the_first_bad_code() {
+    let f = Folder::new("bad");
+    let spoilt = |from, zeros, code| {
+        let mut want = |n, line, p| ((37 * p + 211 * line + 5 * n * p + 1000) % 16384) as u16;
+        encode_spoilt(14, false, &[], 1, &mut want, Some(Spoil { from, how: How::Long { zeros, code } }))
+    };
+    let tight = spoilt(0, 41, 10_496);
+    let blocks = [spoilt(0, 41, 1).bytes, spoilt(0, 42, 10_496).bytes, spoilt(0, 41, 16_384).bytes, tight.bytes.clone()];
+    let cut = blocks[0][..blocks[0].len() / 2].to_vec();
+    let header = Header::new(true, false, 14, 768 * 5, 1);
+    f.put("a.fcs", &common::stream::stream(&header, &[], &[&blocks[..], &[cut]].concat()));
+    let said = f.run("check a.fcs");
+    assert_eq!((said.status.code(), text(&said.stderr)), (Some(1), "3 blocks are not tight, 1 block is truncated\n".to_string()));
+    let spot = "refusal 15: the block is not tight: line 0, pass 1, colour line 2, position 0, bit 0";
+    let none = "     0 bits a line,      0 long codes";
+    let wanted = [
+        format!("a.fcs: block 0: {none}, {spot}: escape: the code is long, and the short form fits\n"),
+        format!("a.fcs: block 1: {none}, {spot}: zeros: the code has more zeros than the limit\n"),
+        format!("a.fcs: block 2: {none}, {spot}: large: the code is 2^bits or more\n"),
+        format!("a.fcs: block 3: {:>6} bits a line, {:>6} long codes, tight\n", tight.used, tight.long_codes),
+        format!("a.fcs: block 4: {none}, refusal 14: block 4, line 0: a line is truncated\n"),
+    ];
+    assert_eq!(text(&said.stdout), wanted.concat());
+}
+
 #[test]
 fn write_makes_the_block_of_a_set() {
     let f = Folder::new("write");
@@ -231,10 +260,11 @@ fn write_makes_the_block_of_a_set() {
     f.put("longer", &stream_of(&[&block[..], &[0]].concat()));
     let said = f.run("check longer");
     assert_eq!(said.status.code(), Some(1));
-    let end = "all its codes are, but after them there must be zero bits up to the next 16 bytes, and no more";
+    let used = encode_spoilt(12, false, &[], 1, &mut |_, _, _| 0, None).used;
+    let end = format!("bit {used}: tail: after the last code there must be zero bits up to the next 16 bytes, and no more");
     assert_eq!(
         text(&said.stdout),
-        format!("longer: block 0:   5328 bits a line,      0 long codes, refusal 15: line 1: the block is not tight: {end}\n")
+        format!("longer: block 0:   5328 bits a line,      0 long codes, refusal 15: the block is not tight: {end}\n")
     );
     f.put("few", &[0; 2 * 12 * 384 - 2]);
     f.put("half", &[0; 2 * 12 * 384 - 1]);
