@@ -19,3 +19,4 @@ pub mod ImageLaws
 pub mod LeftLaws
 pub mod WindowTwins
 pub mod PlacedLines
+pub mod AgreementHolds

@@ -14,3 +14,4 @@ pub mod Words
 pub mod WrittenAnswers
 pub mod WindowedImages
 pub mod WindowedLines
+pub mod WindowedAgreement
