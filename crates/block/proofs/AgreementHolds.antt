@@ -92,13 +92,13 @@ module _ (d : List ℕ) (r : Rect) (tile : List ℕ) (before after before' after
     checked g o Check.Empty l l' = neither _ l l'
     checked g o (Check.Touched s) l l' = scratched g o (isShortScratch (g .xtrans) n m) (isShortScratch (g .xtrans) n' m') l l'
 
-    opened : (k : ℕ) (p : Parsed) → openOf d ≡ p → Left d r tile (withStream p r k n m) before after answer
-        → LeftWindowed d r tile (withStream p r k n' m') before' after' answer' → Agree
-    opened k (Parsing.Refused x) o l l' = neither (Refused x) l l'
-    opened k (Parsing.Header g) o l l' = checked g o (checkedOf g r k) l l'
+    opened : (k k' : ℕ) → k' ≡ k → (p : Parsed) → openOf d ≡ p → Left d r tile (withStream p r k n m) before after answer
+        → LeftWindowed d r tile (withStream p r k' n' m') before' after' answer' → Agree
+    opened k k' e (Parsing.Refused x) o l l' = neither (Refused x) l l'
+    opened k k' e (Parsing.Header g) o l l' = checked g o (checkedOf g r k) l (rw e at l')
 
 pub entries-agree : EntriesAgree
 unfolding regionBegins
 entries-agree d r tile before after before' after' answer answer' same l l' long long' =
     opened d r tile before after before' after' answer answer' same long long' (length (before .lines)) (2 * length (before' .lines)) (length (before .records))
-    (length (before' .records)) (length (before .image)) (openOf d) refl l (rw same at l')
+    (length (before' .records)) (length (before .image)) (length (before' .image)) (ap length same) (openOf d) refl l l'

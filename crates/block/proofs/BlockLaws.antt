@@ -1,18 +1,21 @@
 -- A block as lines, each of which goes by what `line` says of it. Assumes nothing.
-use mathlib.Core.Bool.{Bool, true, false, cond, _&&_}
+use mathlib.Core.Bool.{Bool, true, false, cond, not, _&&_}
 use mathlib.Core.List.{List}
 use mathlib.Core.Option.{Option, none, some}
 use mathlib.Core.Path.{_≡_, refl, sym, _∙_}
-use Prim.Native.Nat.{ℕ, suc, _+_, _-_, _*_, _<_}
+use Prim.Native.Nat.{ℕ, suc, _+_, _-_, _*_, _≤_, _<_}
+use native.Mathlib.Nat.{le-refl}
 use native.Mathlib.Numerals.{add-one}
 use native.Mathlib.Omega.{arith}
 use lib.Dec.{eqb}
+use lib.ListN.{length}
 use Rattle.code.specs.declared.Place.{Place}
 use Rattle.totals.specs.Totals.{noTotals, withLine}
 use Rattle.totals.specs.declared.Totals.{Totals}
 use Rattle.totals.specs.declared.TightLines.{TightLines}
 use Rattle.statistics.specs.declared.Record.{Record}
 use Rattle.lines.specs.ColourLines.{zeroLines, turned}
+use Rattle.lines.proofs.LineLaws.{length-turned}
 use Rattle.map.specs.Places.{widthOf, inRows, emittedSample, Changed}
 use Rattle.map.specs.declared.Part.{Part}
 use Rattle.steps.specs.Values.{quantisersOf}
@@ -20,11 +23,13 @@ use Rattle.steps.specs.declared.Quantisers.{Quantisers}
 use Rattle.block.specs.Blocks.{State, runs, readLine, readLineAt, beforeLine, startState, readLines, tightLines, totalsIn, totalsAfter, tightBefore, startPlace, stateAt, ReadAll, CutAt}
 use Rattle.block.specs.Records.{startRecords, restartedMain, baseOf, isRestarted}
 use Rattle.block.specs.Lent.{Buffers}
-use Rattle.block.specs.WindowedLines.{Held, IsLinedIn}
+use Rattle.block.specs.WindowedLines.{samplesIn, zerosIn, Held, IsLinedIn, LineReadIn}
 use Rattle.block.specs.declared.Form.{Form}
 use Rattle.block.specs.declared.Lined.{Lined}
 use Rattle.block.specs.declared.Lined.the-variants.{Read, Truncated}
 use Rattle.block.proofs.RunLaws.{runs-none, runs-more}
+use Rattle.block.proofs.KeepLaws.{lines-long}
+use Rattle.block.proofs.WindowTwins.{held-turn, held-start}
 
 -- the quantisers of a line have its base
 pub base-known : (bits q : ℕ) (Q : Quantisers) → Q ≡ quantisersOf bits q → (Q .base ≡ q) × (Q ≡ quantisersOf bits (Q .base))
@@ -56,30 +61,60 @@ module _ (windowed xtrans : Bool) (W : ℕ) (tile : List ℕ) (a : Part) (n : �
 
 -- ---- the loop over the lines
 
-pub block-starts : (F : Form) (bases s : List ℕ) (records : List Record) (from : Place) → records ≡ startRecords (F .bits) (baseOf bases 0)
+block-starts : (F : Form) (bases s : List ℕ) (records : List Record) (from : Place) → records ≡ startRecords (F .bits) (baseOf bases 0)
     → from ≡ startPlace → readLines F bases s 0 ≡ some (stateAt (zeroLines (widthOf (F .xtrans))) records from)
 unfolding readLines startState
 block-starts F bases s records from er ef = runs-none (readLineAt F bases s) (startState F bases) ∙ rw (er, ef)
 
--- line n, by what was done before it: the 18 lines that the kept ones stand for are turned
-module _ (windowed : Bool) (F : Form) (bases s tile : List ℕ) (a : Part) (n W q : ℕ) (b : Bool) (Q : Quantisers) (l : List ℕ) (rs₀ rs₁ : List Record) (from : Place)
-    (so-far : readLines F bases s n ≡ some (stateAt l rs₀ from)) (eW : W ≡ widthOf (F .xtrans))
-    (eq : q ≡ baseOf bases n) (eb : b ≡ isRestarted bases n) (eQ : Q ≡ quantisersOf (F .bits) q)
-    (er : rs₁ ≡ cond b (restartedMain (F .bits) q rs₀) rs₀) (before after : Buffers) (d : Lined)
-    (answer : IsLinedIn windowed (F .xtrans) W tile a n (readLine F (Q .base) s (stateAt (turned W l) rs₁ from)) before after d) where
-  line-is : (o : Option State) → readLine F (Q .base) s (stateAt (turned W l) rs₁ from) ≡ o → readLines F bases s (n + 1) ≡ o
+-- n lines were read, and the lines that are kept, v, stand for the 18
+pub record LinesRead (windowed : Bool) (F : Form) (bases s : List ℕ) (n : ℕ) (v : List ℕ) (records : List Record) (from : Place) : Type 0 where
+  pub lines : List ℕ
+  pub read : readLines F bases s n ≡ some (stateAt lines records from)
+  pub held : Held windowed (widthOf (F .xtrans)) 6 lines v
+
+pub none-read : (windowed : Bool) (F : Form) (bases s v : List ℕ) (records : List Record) (from : Place) → v ≡ zerosIn windowed (F .xtrans)
+    → records ≡ startRecords (F .bits) (baseOf bases 0) → from ≡ startPlace → LinesRead windowed F bases s 0 v records from
+none-read windowed F bases s v records from ev er ef =
+    record { lines = zeroLines (widthOf (F .xtrans)); read = block-starts F bases s records from er ef; held = held-start windowed (F .xtrans) v ev }
+
+-- all 18 are kept where they are to be turned, or to be put into the image
+pub all-kept-lines : (windowed xtrans : Bool) (W n : ℕ) → W ≡ widthOf xtrans → n ≡ samplesIn windowed xtrans → not windowed ≡ true → 18 * (W + 2) ≤ n
+all-kept-lines false xtrans W n eW en t = rw (eW, en) (le-refl _)
+all-kept-lines true xtrans W n eW en t = absurd (let no : _≡_ {A = ℕ} 0 1 = cc in omega arith)
+
+-- line n, by what was done before it: the 18 lines are turned
+module _ (windowed : Bool) (F : Form) (bases s tile : List ℕ) (a : Part) (n q : ℕ) (b : Bool) (Q : Quantisers) (v₀ : List ℕ) (rs₀ rs₁ : List Record) (from : Place)
+    (so-far : LinesRead windowed F bases s n v₀ rs₀ from) (depth : F .bits ≤ 16) (eq : q ≡ baseOf bases n) (eb : b ≡ isRestarted bases n)
+    (eQ : Q ≡ quantisersOf (F .bits) q) (er : rs₁ ≡ cond b (restartedMain (F .bits) q rs₀) rs₀) (W : ℕ) (eW : W ≡ widthOf (F .xtrans))
+    (before after : Buffers) (ev : before .lines ≡ cond (not windowed) (turned W v₀) v₀) (er₁ : before .records ≡ rs₁) (d : Lined)
+    (answer : LineReadIn windowed F Q s from tile a n before after d) where
+  abbrev U : ℕ
+  U = widthOf (F .xtrans)
+
+  abbrev l : List ℕ
+  l = turned U (so-far .lines)
+
+  long : length (so-far .lines) ≡ 18 * (U + 2)
+  long = lines-long F depth s bases n _ (so-far .read)
+
+  answered : IsLinedIn windowed (F .xtrans) U tile a n (readLine F (Q .base) s (stateAt l rs₁ from)) before after d
+  answered =
+      rw (← er₁) (answer l (length-turned U (so-far .lines) (omega (arith, long)) ∙ long)
+      (held-turn windowed U (so-far .lines) v₀ (before .lines) (omega (arith, long)) (rw eW at ev) (so-far .held)))
+
+  line-is : (o : Option State) → readLine F (Q .base) s (stateAt l rs₁ from) ≡ o → readLines F bases s (n + 1) ≡ o
   unfolding readLines readLineAt
   line-is o e =
-      let g : beforeLine F bases n (stateAt l rs₀ from) ≡ stateAt (turned W l) rs₁ from = rw (er, eb, eW, eq) in
-      runs-more (readLineAt F bases s) (startState F bases) n _ so-far ∙ rw (g, ← eq, ← base-known (F .bits) q Q eQ .0) e
+      let g : beforeLine F bases n (stateAt (so-far .lines) rs₀ from) ≡ stateAt l rs₁ from = rw (er, eb, eq) in
+      runs-more (readLineAt F bases s) (startState F bases) n _ (so-far .read) ∙ rw (g, ← eq, ← base-known (F .bits) q Q eQ .0) e
 
-  pub line-more : (to : Place) → d ≡ Read to → Gave windowed (F .xtrans) W tile a n before after (readLines F bases s (n + 1)) to
+  pub line-more : (to : Place) → d ≡ Read to → Gave windowed (F .xtrans) U tile a n before after (readLines F bases s (n + 1)) to
   line-more to ok =
-      let g = lined-some windowed (F .xtrans) W tile a n before after _ d to answer ok in
+      let g = lined-some windowed (F .xtrans) U tile a n before after _ d to answered ok in
       (g .0, line-is _ (g .1), g .2, g .3)
 
   pub line-cut : d ≡ Truncated → readLines F bases s (n + 1) ≡ none
-  line-cut ok = line-is _ (lined-none windowed (F .xtrans) W tile a n before after _ d answer ok)
+  line-cut ok = line-is _ (lined-none windowed (F .xtrans) U tile a n before after _ d answered ok)
 
 -- the lines that have only tight codes
 pub tight-none : (F : Form) (bases s : List ℕ) → record { lines = 0; totals = noTotals } ≡ tightBefore F bases s 0

@@ -8,7 +8,7 @@ use Prim.Native.Nat.{ℕ, zero, suc, _+_, _-_, _*_, _/_, _%_, _≤_, _<_, zero-l
 use native.Mathlib.Nat.{add-zero, add-suc, le-refl}
 use native.Mathlib.Omega.{arith}
 use lib.Dec.{ltb, leb, eqb}
-use lib.ListN.{getD}
+use lib.ListN.{length, getD}
 use Rattle.numbers.proofs.OrderLaws.{cond-le}
 use Rattle.map.specs.Places.{pictureRow, imageColumn, inRows, emittedSample, Changed}
 use Rattle.map.specs.declared.Part.{Part}
@@ -237,6 +237,11 @@ module _ (d : List ℕ) (h : FujiHeader) (r : Rect) (tile : List ℕ) (b : ℕ) 
   unfolding emittedSample pictureSample
   same-sample i e = rw (part-column i e, part-row r b i, e)
 
+  same-or-zero : (i : ℕ) → blockOf r i ≡ b → cond (ltb (pictureRow (partIn r b) i / 6) (readIn d h r b)) (sample i) 0
+      ≡ cond (ltb (lineOf r i) (readIn d h r (blockOf r i))) (decodedSample d h r tile i) 0
+  same-or-zero i e =
+      ap (λ (v : ℕ). cond (ltb (pictureRow (partIn r b) i / 6) (readIn d h r b)) v 0) (same-sample i e) ∙ rw (part-row r b i, e)
+
 -- the image, by the test of a line and by what an entry shows; one block more has shown m lines
 module _ (h : FujiHeader) (r : Rect) (n b m : ℕ) (test : ℕ → Bool) (sample shows : ℕ → ℕ) (x y z : List ℕ) (ok : Accepted h r n)
     (done : Changed (λ i. reached r i (test i) b) sample x y) (shown : Changed (inRows (partIn r b) 0 (6 * m)) shows y z)
@@ -262,6 +267,11 @@ unfolding isDecoded isReached
 pictured-none false d h r tile b image e = record { kept = refl; entries = λ i. rw (not-reached r i _ b (omega arith)) }
 pictured-none true d h r tile b image e = record { kept = refl; entries = λ i. rw (not-reached r i _ b (omega arith)) }
 
+pub pictured-kept : (windowed : Bool) (d : List ℕ) (h : FujiHeader) (r : Rect) (tile : List ℕ) (b : ℕ) (x y : List ℕ) → PicturedIn windowed d h r tile b x y
+    → length y ≡ length x
+pictured-kept false d h r tile b x y p = p .kept
+pictured-kept true d h r tile b x y p = p .kept
+
 -- the lines whose rows a walk has changed, in windows
 reached-lines : (d : List ℕ) (h : FujiHeader) (r : Rect) (n i b : ℕ) (w : Walked) → Accepted h r n → IsWalked (formOf h) (basesIn d b) (bytesIn d b) (lineCount r) w
     → ltb i (r .width * r .height) && ltb (lineOf r i) (reachedLines w (lineCount r)) ≡ ltb i (r .width * r .height) && leb (lineOf r i) (readIn d h r b)
@@ -285,4 +295,4 @@ pictured-more true d h r tile n b a w x y z ok e p done shown =
     one-more h r n b (reachedLines w (lineCount r)) (λ i. leb (lineOf r i) (readIn d h r (blockOf r i)))
     (λ i. cond (ltb (lineOf r i) (readIn d h r (blockOf r i))) (decodedSample d h r tile i) 0)
     (λ i. cond (ltb (pictureRow (partIn r b) i / 6) (readIn d h r b)) (sample d h r tile b i) 0) x y z ok done
-    (rw (e, m) at shown) (λ i f. rw f (reached-lines d h r n i b w ok p)) (λ i f. rw (part-row r b i, f, same-sample d h r tile b i f))
+    (rw (e, m) at shown) (λ i f. rw f (reached-lines d h r n i b w ok p)) (same-or-zero d h r tile b)

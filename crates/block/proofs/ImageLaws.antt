@@ -24,34 +24,37 @@ pub shown-none : (F : Form) (bases s tile : List ℕ) (a : Part) (image : List �
 shown-none F bases s tile a image = put-none (shownSample F bases s tile a) a 0 (6 * 0) image (λ i h. omega (arith, h .last))
 
 -- line n goes to the image pass by pass in windows, and all at once elsewhere
-line-put : (windowed xtrans : Bool) (W : ℕ) (tile l v : List ℕ) (a : Part) (n : ℕ) (x y z : List ℕ) → Held windowed W 6 l v
-    → Changed (λ i. windowed && inRows a (6 * n) (6 * n + 6) i) (emittedSample xtrans W tile l a) x y
-    → Changed (λ i. not windowed && inRows a (6 * n) (6 * n + 6) i) (emittedSample xtrans W tile v a) y z → Emitted xtrans W tile l a n x z
-line-put true xtrans W tile l v a n x y z held p q = record { kept = q .kept ∙ p .kept; entries = λ i. q .entries i ∙ p .entries i }
-line-put false xtrans W tile l v a n x y z held p q =
-    record { kept = q .kept ∙ p .kept; entries = λ i. (rw held at (q .entries i)) ∙ rw (p .entries i) }
+line-put : (windowed xtrans : Bool) (W : ℕ) (tile l v : List ℕ) (a : Part) (n : ℕ) (x y z : List ℕ) → let U = widthOf xtrans in
+    W ≡ U → Held windowed U 6 l v → Changed (λ i. windowed && inRows a (6 * n) (6 * n + 6) i) (emittedSample xtrans U tile l a) x y
+    → Changed (λ i. not windowed && inRows a (6 * n) (6 * n + 6) i) (emittedSample xtrans W tile v a) y z → Emitted xtrans U tile l a n x z
+line-put true xtrans W tile l v a n x y z eW held p q = record { kept = q .kept ∙ p .kept; entries = λ i. q .entries i ∙ p .entries i }
+line-put false xtrans W tile l v a n x y z eW held p q =
+    record { kept = q .kept ∙ p .kept; entries = λ i. q .entries i ∙ rw (eW, held, p .entries i) }
 
 -- with one line more
-module _ (F : Form) (bases s tile : List ℕ) (a : Part) (n W : ℕ) (x y z lines : List ℕ) (eW : W ≡ widthOf (F .xtrans))
-    (now : linesOf (readLines F bases s (n + 1)) ≡ lines) (shown : Shown F bases s tile a n x y) (put : Emitted (F .xtrans) W tile lines a n y z) where
-  of-line : (i : ℕ) → InRows a (6 * n) (6 * n + 6) i → emittedSample (F .xtrans) W tile lines a i ≡ shownSample F bases s tile a i
+module _ (F : Form) (bases s tile : List ℕ) (a : Part) (n : ℕ) (x y z lines : List ℕ) (now : linesOf (readLines F bases s (n + 1)) ≡ lines)
+    (shown : Shown F bases s tile a n x y) (put : Emitted (F .xtrans) (widthOf (F .xtrans)) tile lines a n y z) where
+  abbrev sample : ℕ → ℕ
+  sample = emittedSample (F .xtrans) (widthOf (F .xtrans)) tile lines a
+
+  of-line : (i : ℕ) → InRows a (6 * n) (6 * n + 6) i → sample i ≡ shownSample F bases s tile a i
   of-line i h =
       let e : pictureRow a i / 6 ≡ n = omega (arith, h .first, h .last) in
       let f : linesOf (readLines F bases s (suc n)) ≡ lines = rw add-one at now in
-      rw (e, f, eW)
+      rw (e, f)
 
   shown-with : Shown F bases s tile a (n + 1) x z
   shown-with =
       let e : 6 * (n + 1) ≡ 6 * n + 6 = omega arith in
       rw e (put-join (shownSample F bases s tile a) a 0 (6 * n) (6 * n + 6) x y z (omega arith) (omega arith) shown
-      (put-same (emittedSample (F .xtrans) W tile lines a) (shownSample F bases s tile a) a (6 * n) (6 * n + 6) y z of-line put))
+      (put-same sample (shownSample F bases s tile a) a (6 * n) (6 * n + 6) y z of-line put))
 
-pub shown-more : (windowed : Bool) (F : Form) (bases s tile : List ℕ) (a : Part) (n W : ℕ) (x y y' z l v : List ℕ) → W ≡ widthOf (F .xtrans)
-    → linesOf (readLines F bases s (n + 1)) ≡ l → Shown F bases s tile a n x y → Held windowed W 6 l v
-    → Changed (λ i. windowed && inRows a (6 * n) (6 * n + 6) i) (emittedSample (F .xtrans) W tile l a) y y'
+pub shown-more : (windowed : Bool) (F : Form) (bases s tile : List ℕ) (a : Part) (n W : ℕ) (x y y' z l v : List ℕ) → let U = widthOf (F .xtrans) in
+    W ≡ U → linesOf (readLines F bases s (n + 1)) ≡ l → Shown F bases s tile a n x y → Held windowed U 6 l v
+    → Changed (λ i. windowed && inRows a (6 * n) (6 * n + 6) i) (emittedSample (F .xtrans) U tile l a) y y'
     → Changed (λ i. not windowed && inRows a (6 * n) (6 * n + 6) i) (emittedSample (F .xtrans) W tile v a) y' z → Shown F bases s tile a (n + 1) x z
 shown-more windowed F bases s tile a n W x y y' z l v eW now shown held p q =
-    shown-with F bases s tile a n W x y z l eW now shown (line-put windowed (F .xtrans) W tile l v a n y y' z held p q)
+    shown-with F bases s tile a n x y z l now shown (line-put windowed (F .xtrans) W tile l v a n y y' z eW held p q)
 
 -- ---- what a walk leaves
 

@@ -23,7 +23,8 @@ use Rattle.begin.specs.declared.Beginning.{Beginning}
 use Rattle.begin.specs.declared.Beginning.the-variants as Begin
 use Rattle.block.specs.Images.{formOf, Decoding, Left}
 use Rattle.block.specs.WindowedImages.{windowSize, WindowedDecoding, LeftWindowed}
-use Rattle.block.specs.Lent.{Buffers, Scratch, Outputs, ScratchOf, clearedLines, clearedRecords}
+use Rattle.block.specs.WindowedLines.{ScratchIn, zerosIn}
+use Rattle.block.specs.Lent.{Buffers, Scratch, Outputs, clearedLines, clearedRecords}
 use Rattle.block.specs.Records.{clearRecords}
 use Rattle.block.specs.Totals.{refusedBy}
 use Rattle.block.specs.BlockReadings.{BlockReading, LeftBlock}
@@ -84,8 +85,9 @@ module _ (t : List ℕ) (before : Outputs) (begins : Parsed) where
 -- ---- the form of a header
 
 module _ (F : Form) (h : FujiHeader) (e : F ≡ formOf h) where
-  pub form-scratch : (lines : List ℕ) (records : List Record) → ScratchOf (h .xtrans) lines records → ScratchOf (F .xtrans) lines records
-  form-scratch lines records s = rw e s
+  pub form-scratch : (windowed : Bool) (lines : List ℕ) (records : List Record) → ScratchIn windowed (h .xtrans) lines records
+      → ScratchIn windowed (F .xtrans) lines records
+  form-scratch windowed lines records s = rw e s
 
   pub form-samples : (n : ℕ) → n ≡ samplesNeeded (h .xtrans) → n ≡ samplesNeeded (F .xtrans)
   form-samples n s = rw e s
@@ -95,6 +97,9 @@ module _ (F : Form) (h : FujiHeader) (e : F ≡ formOf h) where
 
   pub form-zero : (lines : List ℕ) → lines ≡ zeroLines (widthOf (F .xtrans)) → lines ≡ zeroLines (widthOf (h .xtrans))
   form-zero lines z = rw e at z
+
+  pub form-zeros : (windowed : Bool) (lines : List ℕ) → lines ≡ zerosIn windowed (F .xtrans) → lines ≡ zerosIn windowed (h .xtrans)
+  form-zeros windowed lines z = rw e at z
 
 -- ---- the lent part goes back, with what follows it as it was
 
