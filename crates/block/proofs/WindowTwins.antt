@@ -211,11 +211,13 @@ module _ (W : ℕ) (l v : List ℕ) (A C a c : ℕ) (low : 2 ≤ A) (far : A + 3
         room' = omega (arith, three-lines W a 9 low' (omega (arith, far', high')), long', length-v₁);
         two-up =
             λ p h. let e : A - 1 - 1 ≡ A - 2 = omega (arith, low) in
-            l-stays (A - 2) (p + 1) (omega (arith, h)) (λ x. omega (arith, low)) (λ x. omega (arith, low, far)) ∙ (rw e at (L .above p h)) ∙ sym (a-two (p + 1) (omega (arith, h)));
+            l-stays (A - 2) (p + 1) (omega (arith, h)) (λ x. omega (arith, low)) (λ x. omega (arith, low, far)) ∙ (rw e at (L .above p h))
+            ∙ sym (a-two (p + 1) (omega (arith, h)));
         one-up =
             λ j h. rw (at-above W A j low, at-above W a j low')
             (l-stays (A - 1) j h (λ x. omega (arith, low)) (λ x. omega (arith, low, far)) ∙ L .line j h ∙ sym (a-one j h));
-        left = rw (sym (line-two W A low), sym (line-two W a low')) (rw (zero-place A) at left-of-first ∙ L .line 1 (omega arith) ∙ sym (rw (zero-place a) at left-of-a ∙ v₀-a 1 (omega arith)));
+        left = rw (sym (line-two W A low), sym (line-two W a low')) (rw (zero-place A) at left-of-first ∙ L .line 1 (omega arith)
+            ∙ sym (rw (zero-place a) at left-of-a ∙ v₀-a 1 (omega arith)));
         right =
             rw (at-line W A (W + 1) low, at-line W a (W + 1) low')
             (right-of-first ∙ L .line W (omega arith) ∙ sym (right-of-a ∙ v₀-a W (omega arith)));
@@ -231,11 +233,13 @@ module _ (W : ℕ) (l v : List ℕ) (A C a c : ℕ) (low : 2 ≤ A) (far : A + 3
         room' = omega (arith, three-lines W c 9 low-c (omega (arith, high')), long', length-v₁);
         two-up =
             λ p h. let e : C - 1 - 1 ≡ C - 2 = omega (arith, low, far) in
-            l-stays (C - 2) (p + 1) (omega (arith, h)) (λ x. omega (arith, low, far)) (λ x. omega (arith, low, far)) ∙ (rw e at (L .above p h)) ∙ sym (c-two (p + 1) (omega (arith, h)));
+            l-stays (C - 2) (p + 1) (omega (arith, h)) (λ x. omega (arith, low, far)) (λ x. omega (arith, low, far)) ∙ (rw e at (L .above p h))
+            ∙ sym (c-two (p + 1) (omega (arith, h)));
         one-up =
             λ j h. rw (at-above W C j low-C, at-above W c j low-c)
             (l-stays (C - 1) j h (λ x. omega (arith, low, far)) (λ x. omega (arith, low, far)) ∙ L .line j h ∙ sym (c-one j h));
-        left = rw (sym (line-two W C low-C), sym (line-two W c low-c)) (rw (zero-place C) at left-of-second ∙ L .line 1 (omega arith) ∙ sym (rw (zero-place c) at left-of-c ∙ v₀-c 1 (omega arith)));
+        left = rw (sym (line-two W C low-C), sym (line-two W c low-c)) (rw (zero-place C) at left-of-second ∙ L .line 1 (omega arith)
+            ∙ sym (rw (zero-place c) at left-of-c ∙ v₀-c 1 (omega arith)));
         right =
             rw (at-line W C (W + 1) low-C, at-line W c (W + 1) low-c)
             (right-of-second ∙ L .line W (omega arith) ∙ sym (right-of-c ∙ v₀-c W (omega arith)));
@@ -319,7 +323,8 @@ module _ (bits q W : ℕ) (s : List ℕ) (P : Plan) (a c : ℕ) (l v : List ℕ)
         upper =
             λ m d h k. pass-frame bits q W s (placed P a c) (readingAt enter9 set from) y' m d even h (λ x. omega (arith, k)) (λ x. omega (arith, k, far')) e'
             ∙ third-above W l v (P .first) (P .second) a c low far high low' far' high' long long' m d h k;
-        length18 = pass-keeps bits q W s depth P (readingAt enter18 set from) y e .lines ∙ length-l₁ W l v (P .first) (P .second) a c low far high low' far' high' long long';
+        length18 = pass-keeps bits q W s depth P (readingAt enter18 set from) y e .lines
+            ∙ length-l₁ W l v (P .first) (P .second) a c low far high low' far' high' long long';
         sets = t .sets;
         ats = t .ats;
         tights = t .tights;
@@ -365,15 +370,18 @@ pub record Stepped (windowed : Bool) (W i : ℕ) (P : Plan) (a c : ℕ) (l : Lis
   pub longs : y .long ≡ y' .long
 
 -- the window of the colour that a pass does not read
-latest-stays : (W T k : ℕ) (l v y y' : List ℕ) → Latest W T k l v → ((m d : ℕ) → d < W + 2 → m ≤ T → T ≤ m + 1 → getD y (m * (W + 2) + d) 0 ≡ getD l (m * (W + 2) + d) 0)
+latest-stays : (W T k : ℕ) (l v y y' : List ℕ) → Latest W T k l v → ((m d : ℕ) → d < W + 2 → m ≤ T → T ≤ m + 1
+    → getD y (m * (W + 2) + d) 0 ≡ getD l (m * (W + 2) + d) 0)
     → ((m d : ℕ) → d < W + 2 → m ≤ k → k ≤ m + 1 → getD y' (m * (W + 2) + d) 0 ≡ getD v (m * (W + 2) + d) 0) → Latest W T k y y'
 latest-stays W T k l v y y' L f g =
     record {
-      above = λ p h. f (T - 1) (p + 1) (omega (arith, h)) (omega arith) (omega arith) ∙ L .above p h ∙ sym (g (k - 1) (p + 1) (omega (arith, h)) (omega arith) (omega arith));
+      above = λ p h. f (T - 1) (p + 1) (omega (arith, h)) (omega arith) (omega arith) ∙ L .above p h
+          ∙ sym (g (k - 1) (p + 1) (omega (arith, h)) (omega arith) (omega arith));
       line = λ d h. f T d h (omega arith) (omega arith) ∙ L .line d h ∙ sym (g k d h (omega arith) (omega arith));
     }
 
-module _ (bits q W : ℕ) (s : List ℕ) (P : Plan) (i : ℕ) (l v : List ℕ) (set : List Record) (from : Place) (depth : bits ≤ 16) (even : W % 2 ≡ 0) (hi : i < 6) (T : Two P i)
+module _ (bits q W : ℕ) (s : List ℕ) (P : Plan) (i : ℕ) (l v : List ℕ) (set : List Record) (from : Place) (depth : bits ≤ 16) (even : W % 2 ≡ 0)
+    (hi : i < 6) (T : Two P i)
     (long : length l ≡ 18 * (W + 2)) (long' : length v ≡ 9 * (W + 2)) (H : Windows W i l v) where
   abbrev on18 : Option Reading
   on18 = readPass bits q W s P (readingAt (guarded W (P .second) (guarded W (P .first) l)) set from)
@@ -390,7 +398,8 @@ module _ (bits q W : ℕ) (s : List ℕ) (P : Plan) (i : ℕ) (l v : List ℕ) (
       let r : 1 + (i + 1) / 2 ≡ P .first - 1 = omega (arith, ev, ef) in
       let g : 6 + i ≡ P .second - 1 = omega (arith, es) in
       alike-with (After W P 2 5 l v) (Stepped true W i P 2 5 l) on18 (on9 2 5)
-      (windows-pass bits q W s P 2 5 l v set from depth even (omega (arith, ef)) (omega (arith, ef, es)) (omega (arith, es, hi)) (lit≤ tt) (lit≤ tt) (lit≤ tt) long long'
+      (windows-pass bits q W s P 2 5 l v set from depth even (omega (arith, ef)) (omega (arith, ef, es)) (omega (arith, es, hi)) (lit≤ tt) (lit≤ tt)
+      (lit≤ tt) long long'
       (rw r at (H .red)) (rw g at (H .green)))
       (λ y y' e e' t.
       record {
@@ -422,7 +431,8 @@ module _ (bits q W : ℕ) (s : List ℕ) (P : Plan) (i : ℕ) (l v : List ℕ) (
       let g : 6 + i ≡ P .first - 1 = omega (arith, ef) in
       let b : 14 + i / 2 ≡ P .second - 1 = omega (arith, es) in
       alike-with (After W P 5 8 l v) (Stepped true W i P 5 8 l) on18 (on9 5 8)
-      (windows-pass bits q W s P 5 8 l v set from depth even (omega (arith, ef)) (omega (arith, ef, es, hi)) (omega (arith, es, hi)) (lit≤ tt) (lit≤ tt) (lit≤ tt) long long'
+      (windows-pass bits q W s P 5 8 l v set from depth even (omega (arith, ef)) (omega (arith, ef, es, hi)) (omega (arith, es, hi)) (lit≤ tt) (lit≤ tt)
+      (lit≤ tt) long long'
       (rw g at (H .green)) (rw b at (H .blue)))
       (λ y y' e e' t.
       record {
@@ -455,7 +465,8 @@ module _ (bits q W : ℕ) (s : List ℕ) (P : Plan) (i : ℕ) (l v : List ℕ) (
       (λ t. rw (T .first-window, T .second-window, t) (green-blue (eqb-false (i % 2) 0 t) (T .first ∙ rw t) (T .second ∙ rw t)))
 
 -- pass i, in either way
-pub held-pass : (windowed : Bool) (F : Form) (q : ℕ) (s : List ℕ) (i : ℕ) (l v : List ℕ) (set : List Record) (from : Place) → F .bits ≤ 16 → widthOf (F .xtrans) % 2 ≡ 0 → i < 6
+pub held-pass : (windowed : Bool) (F : Form) (q : ℕ) (s : List ℕ) (i : ℕ) (l v : List ℕ) (set : List Record) (from : Place) → F .bits ≤ 16
+    → widthOf (F .xtrans) % 2 ≡ 0 → i < 6
     → length l ≡ 18 * (widthOf (F .xtrans) + 2) → length v ≡ samplesIn windowed (F .xtrans) → Held windowed (widthOf (F .xtrans)) i l v
     → let W = widthOf (F .xtrans) in let P = planOf (F .xtrans) i in let Q = windowPlan windowed P in
     Alike (Stepped windowed W i P (Q .first) (Q .second) l) (readPass (F .bits) q W s P (readingAt (linesEntered F P l) set from))
@@ -488,13 +499,26 @@ held-pass false F q s i l v set from depth even hi long long' H =
 -- ---- between lines
 
 -- the turn to the next line does not move the windows
-pub held-turn : (windowed : Bool) (W : ℕ) (l v v' : List ℕ) → 18 * (W + 2) ≤ length l → v' ≡ cond (not windowed) (turned W v) v → Held windowed W 6 l v → Held windowed W 0 (turned W l) v'
+pub held-turn : (windowed : Bool) (W : ℕ) (l v v' : List ℕ) → 18 * (W + 2) ≤ length l → v' ≡ cond (not windowed) (turned W v) v → Held windowed W 6 l v
+    → Held windowed W 0 (turned W l) v'
 held-turn false W l v v' long e H = e ∙ rw H
 held-turn true W l v v' long e H =
     rw e (record {
-      red = record { above = λ p h. turned-at W l long (p + 1) (omega (arith, h)) .0 ∙ H .red .above p h; line = λ d h. turned-at W l long d h .1 ∙ H .red .line d h };
-      green = record { above = λ p h. turned-at W l long (p + 1) (omega (arith, h)) .2 ∙ H .green .above p h; line = λ d h. turned-at W l long d h .3 ∙ H .green .line d h };
-      blue = record { above = λ p h. turned-at W l long (p + 1) (omega (arith, h)) .4 ∙ H .blue .above p h; line = λ d h. turned-at W l long d h .5 ∙ H .blue .line d h };
+      red = record {
+        above = λ p h. turned-at W l long (p + 1) (omega (arith, h)) .0 ∙ H .red .above p h;
+        line = λ d h. turned-at W l long d h .1
+            ∙ H .red .line d h;
+      };
+      green = record {
+        above = λ p h. turned-at W l long (p + 1) (omega (arith, h)) .2 ∙ H .green .above p h;
+        line = λ d h. turned-at W l long d h .3
+            ∙ H .green .line d h;
+      };
+      blue = record {
+        above = λ p h. turned-at W l long (p + 1) (omega (arith, h)) .4 ∙ H .blue .above p h;
+        line = λ d h. turned-at W l long d h .5
+            ∙ H .blue .line d h;
+      };
     })
 
 -- a block starts with 0 everywhere
@@ -505,4 +529,9 @@ pub held-start : (windowed xtrans : Bool) (v : List ℕ) → v ≡ zerosIn windo
 held-start false xtrans v e = e
 held-start true xtrans v e =
     let W : ℕ = widthOf xtrans in
-    rw e (record { red = zeros-same W 4 2 (18 * (W + 2)) (9 * (W + 2)); green = zeros-same W 12 5 (18 * (W + 2)) (9 * (W + 2)); blue = zeros-same W 17 8 (18 * (W + 2)) (9 * (W + 2)) })
+    rw e (record {
+      red = zeros-same W 4 2 (18 * (W + 2)) (9 * (W + 2));
+      green = zeros-same W 12 5 (18 * (W + 2)) (9 * (W + 2));
+      blue = zeros-same W 17 8
+          (18 * (W + 2)) (9 * (W + 2));
+    })
