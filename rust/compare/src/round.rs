@@ -185,7 +185,15 @@ impl Round {
     }
 
     /// The same region in windows: the same answer, and the original's image but for the rows of truncated lines.
-    fn windowed(&mut self, bytes: &[u8], region: Rect, tile: &ColorTile, before: Vec<u16>, theirs: Vec<u16>, want: Result<(), Refusal>) -> Checked {
+    fn windowed(
+        &mut self,
+        bytes: &[u8],
+        region: Rect,
+        tile: &ColorTile,
+        before: Vec<u16>,
+        theirs: Vec<u16>,
+        want: Result<(), Refusal>,
+    ) -> Checked {
         let mut mine = before;
         let got = FujiCompressed::new(bytes).and_then(|s| s.decode_region_windowed_with(&mut self.windows, &mut mine, region, tile));
         self.tally.count("decode_region_windowed", got.map_or_else(|r| r.number, |()| 0));

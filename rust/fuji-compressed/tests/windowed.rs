@@ -38,9 +38,7 @@ impl Buffers {
         let (i, s, r) = (&mut self.image, &mut self.samples, &mut self.records);
         let of = if windowed { ffi::fuji_decode_region_windowed } else { ffi::fuji_decode_region };
         let (image, samples, records) = (i.as_mut_ptr(), s.as_mut_ptr(), r.as_mut_ptr());
-        unsafe {
-            of(d.as_ptr(), d.len(), x, y, width, height, tile, image, i.len(), samples, s.len(), records, r.len(), &mut refusal)
-        };
+        unsafe { of(d.as_ptr(), d.len(), x, y, width, height, tile, image, i.len(), samples, s.len(), records, r.len(), &mut refusal) };
         refusal
     }
 
