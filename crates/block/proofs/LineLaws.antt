@@ -31,7 +31,7 @@ use Rattle.block.specs.Blocks.{State, runs, enter, leave, passAt, readLi
 use Rattle.block.specs.Records.{setOf, putSet}
 use Rattle.block.specs.declared.Form.{Form}
 use Rattle.block.specs.Lent.{Buffers}
-use Rattle.block.specs.WindowedLines.{samplesIn, Held, OnlyLine, IsLinedIn}
+use Rattle.block.specs.WindowedLines.{samplesIn, Held, OnlyLine, PassPlaced, IsLinedIn}
 use Rattle.block.specs.declared.Lined.the-variants.{Read}
 use Rattle.block.proofs.WindowTwins.{Stepped, held-pass, Two, two-lines}
 use Rattle.block.proofs.PlacedLines.{Placed, placed-none, pass-shown, line-shown}
@@ -147,12 +147,11 @@ module _ (windowed : Bool) (F : Form) (q : ℕ) (s tile : List ℕ) (a : Part) (
             (S .second-line) (so-far .shown w) j h p;
       }
 
-  pub pass-more : d .ok ≡ true → (image' : List ℕ) → Fits a image
-      → PassEmitted windowed (F .xtrans) W tile v' a n (P .first) (Q .first) (P .second) (Q .second) image image'
+  pub pass-more : d .ok ≡ true → (image' : List ℕ) → Fits a image → PassPlaced windowed (F .xtrans) W tile v' a n i image image'
       → SoFar windowed F q W s tile a n (i + 1) r₀ v' (putSet (P .set) (recordsOf (d .set)) rs) (d .place) image'
   pass-more ok image' fits put =
       let k = alike-some _ here _ _ both (pass-was-read _ v' d answer ok) in
-      step-with (k .0) (k .1) (k .2) image' fits put
+      step-with (k .0) (k .1) (k .2) image' fits (rw (eQ, eP) put)
 
 -- ---- the end of a line
 

@@ -10,7 +10,10 @@ use lib.ListN.{length, getD, replicate}
 use Rattle.code.specs.declared.Place.{Place}
 use Rattle.statistics.specs.declared.Record.{Record}
 use Rattle.map.specs.Places.{widthOf, pictureRow, inRows, emittedSample, Changed}
+use Rattle.map.specs.Windows.{PassEmitted}
 use Rattle.map.specs.declared.Part.{Part}
+use Rattle.pass.specs.Windows.{windowPlan}
+use Rattle.steps.specs.Steps.{planOf}
 use Rattle.steps.specs.declared.Quantisers.{Quantisers}
 use Rattle.stream.specs.declared.FujiHeader.{FujiHeader}
 use Rattle.region.specs.declared.Rect.{Rect}
@@ -56,6 +59,13 @@ Held false W i l v = v ≡ l
 Held true W i l v = Windows W i l v
 
 -- ---- a line
+
+-- the two colour lines of pass i have gone to the image, in windows
+abbrev pub PassPlaced : Bool → Bool → ℕ → (tile lines : List ℕ) → Part → (n i : ℕ) → (before after : List ℕ) → Type 0
+PassPlaced windowed xtrans W tile lines a n i before after =
+    let P = planOf xtrans i in
+    let Q = windowPlan windowed P in
+    PassEmitted windowed xtrans W tile lines a n (P .first) (Q .first) (P .second) (Q .second) before after
 
 -- only the rows of line n may be other than they were
 abbrev pub OnlyLine : Bool → Part → ℕ → (before after : List ℕ) → Type 0

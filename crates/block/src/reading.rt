@@ -2,13 +2,13 @@
 ghost use mathlib.Core.Path.{_≡_};
 ghost use Prim.Native.Nat.{_+_, _^_, _≤_, _<_};
 ghost use lib.ListN.{length};
-ghost use Rattle.map.specs.Places.{ArePlaces, Fits};
+ghost use Rattle.map.specs.Places.{widthOf, ArePlaces, Fits};
 ghost use Rattle.steps.specs.Values.{quantisersOf, Depth};
 ghost use Rattle.totals.specs.Totals.{noTotals};
 ghost use Rattle.block.specs.Lent.{Buffers};
 ghost use Rattle.block.specs.Records.{baseOf, isRestarted, clearRecords};
 ghost use Rattle.block.specs.Blocks.{startPlace, totalsAt, AllInRange, Shown, shownLines, IsWalked};
-ghost use Rattle.block.specs.WindowedLines.{ScratchIn, zerosIn, LineReadIn, OnlyLine, ShownIn};
+ghost use Rattle.block.specs.WindowedLines.{samplesIn, ScratchIn, zerosIn, PassPlaced, LineReadIn, OnlyLine, ShownIn};
 use crate::Form;
 use crate::Lined;
 use crate::Walked;
@@ -94,6 +94,43 @@ fn no_lines() -> TightLines
     TightLines { lines: 0, totals }
 }
 
+// The two colour lines of pass i of line n, to the image, in windows. The plan is asked for again, since what is kept of it through the pass costs the pass a
+// register.
+fn emit_pass_at(
+    lines: &[u16],
+    image: &mut [u16],
+    w: usize,
+    xtrans: bool,
+    places: &[u16; 768],
+    tile: [u8; 36],
+    part: Part,
+    n: usize,
+    i: usize,
+    windowed: bool,
+)
+    requires { ⌜ (n < 2 ^ 16) × ((i < 6) × ((w ≡ widthOf xtrans) × (length (now lines) ≡ samplesIn windowed xtrans))) ⌝ }
+    requires { ⌜ ArePlaces (now places) × Fits part (now image) ⌝ }
+    ensures { λ _. ⌜ PassPlaced windowed xtrans w tile (now (lines .entry)) part n i (now (image .entry)) (now (image .exit)) ⌝ }
+{
+    let p = steps::plan_at(i, xtrans);
+    let h = pass::window_plan(p, windowed);
+    map::emit_pass(
+        lines,
+        image,
+        w,
+        xtrans,
+        places,
+        tile,
+        part,
+        n,
+        p.first,
+        h.first,
+        p.second,
+        h.second,
+        windowed,
+    );
+}
+
 // Line n: six passes, each on the records of its set. In windows each colour line goes to the image when its pass has ended.
 fn line(
     block: &[u8],
@@ -137,21 +174,7 @@ fn line(
         let new = done.set;
         store_set(rs, p.set, new);
         place = done.place;
-        map::emit_pass(
-            lines,
-            image,
-            w,
-            xtrans,
-            places,
-            tile,
-            part,
-            n,
-            p.first,
-            h.first,
-            p.second,
-            h.second,
-            windowed,
-        );
+        emit_pass_at(lines, image, w, xtrans, places, tile, part, n, i, windowed);
         i = i + 1;
     }
     let at = place.at;

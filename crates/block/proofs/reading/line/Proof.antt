@@ -178,16 +178,20 @@ counted d ok =
     let l = looped (windowed-at (loaded d)) in
     pass-keeps _ _ _ _ (start l .pre .1 .0 .0 .1) _ _ _ (pass-was-read _ _ (d .pass .result) (d .pass .ensures .answer) ok) .counted (l .loop .inv .5)
 
-emit-pass-requires : tie.Need-emit-pass-requires Inv-loop μ-loop
-emit-pass-requires c κs =
+emit-pass-at-requires : tie.Need-emit-pass-at-requires Inv-loop μ-loop
+emit-pass-at-requires c κs =
     let d = passed (c .before .before) in
     let h = windowed-at (loaded d) in
     let l = looped h in
-    let a = start l .pre in
-    let t = there h in
-    let k = entered-at (loaded d) .enter .kept in (
-      (a .1 .1 .1 .0, (l .loop .inv .1 .0, (t .0 .first-high, omega (arith, t .1, k, d .pass .kept)))),
-      ((t .0 .second-high, omega (arith, t .2, k, d .pass .kept)), (a .1 .1 .1 .1 .0, l .loop .inv .6 .0)),
+    let a = start l .pre in (
+      (
+        a .1 .1 .1 .0,
+        (
+          h .before .before .loop-test .taken,
+          (l .loop .inv .1 .0, omega (arith, d .pass .kept, entered-at (loaded d) .enter .kept, l .loop .inv .2)),
+        ),
+      ),
+      (a .1 .1 .1 .1 .0, l .loop .inv .6 .0),
     )
 
 abbrev placed-at : tie.After-slice-known5 Inv-loop μ-loop → tie.After-place Inv-loop μ-loop
@@ -211,7 +215,7 @@ loop-again c =
     let g = planned _ (l .loop .i) _ (h .before .before .loop-test .taken) (h .before .plan-at .ensures) .1 in
     let e = t .ensures ∙ ap (putSet (h .before .plan-at .result .set) (recordsOf (d .pass .result .set))) (s .load-set .ensures .1) in
     let ok = not-false _ (p .before .before .before .before .before .if1 .left) in
-    let put = c .before .before .emit-pass .ensures in (
+    let put = c .before .before .emit-pass-at .ensures in (
       omega (arith, h .before .before .loop-test .taken),
       l .loop .inv .1,
       omega (arith, d .pass .kept, entered-at s .enter .kept, l .loop .inv .2),
@@ -274,7 +278,7 @@ line-spec =
     same-length-3
     returns
     store-set-requires
-    emit-pass-requires
+    emit-pass-at-requires
     add-i
     loop-less
     loop-again

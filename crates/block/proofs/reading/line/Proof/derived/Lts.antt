@@ -472,7 +472,7 @@ ps·7 = List._∷_ (ShrSlice.pShrS (Referent.rtF (Referent.fInt Syntax.w16)) 0 t
           Local.mem-whole 𝓤 H A W (Declared'.row Part.the-type);
       of-mem = Local.whole-mem 𝓤 H A W (Declared'.row Part.the-type);
     }) (List._∷_ (Num.pNum Syntax.w64) (List._∷_ (Num.pNum Syntax.w64) (List._∷_
-    (Num.pNum Syntax.w64) (List._∷_ (Num.pNum Syntax.w64) (List._∷_ (Num.pNum Syntax.w64) (List._∷_ Bool.pBool List.[]))))))))))))
+    Bool.pBool List.[])))))))))
 
 abbrev pub r·7 : Kinds.RK 3
 r·7 = Unit'.rUnit
@@ -627,11 +627,9 @@ b35 = Syntax.assign (Syntax.place 38 List.[]) (Syntax.aggregate (List._∷_ (Syn
     List.[])))
 
 abbrev b36 : Syntax.Body
-b36 = Syntax.call "map::windows::emit_pass" (List._∷_ (Syntax.copy (Syntax.place 36 List.[])) (List._∷_ (Syntax.copy (Syntax.place 38 List.[])) (List._∷_ (Syntax.copy (Syntax.place 15 List.[]))
+b36 = Syntax.call "block::reading::emit_pass_at" (List._∷_ (Syntax.copy (Syntax.place 36 List.[])) (List._∷_ (Syntax.copy (Syntax.place 38 List.[])) (List._∷_ (Syntax.copy (Syntax.place 15 List.[]))
     (List._∷_ (Syntax.copy (Syntax.place 14 List.[])) (List._∷_ (Syntax.copy (Syntax.place 8 List.[])) (List._∷_ (Syntax.copy (Syntax.place 9 List.[])) (List._∷_ (Syntax.copy (Syntax.place 10 List.[]))
-    (List._∷_ (Syntax.copy (Syntax.place 11 List.[])) (List._∷_ (Syntax.copy (Syntax.place 18 (List._∷_ (Syntax.field 0) List.[]))) (List._∷_ (Syntax.copy (Syntax.place 19 (List._∷_ (Syntax.field 0)
-    List.[]))) (List._∷_ (Syntax.copy (Syntax.place 18 (List._∷_ (Syntax.field 1) List.[]))) (List._∷_ (Syntax.copy (Syntax.place 19 (List._∷_ (Syntax.field 1) List.[]))) (List._∷_ (Syntax.copy
-    (Syntax.place 12 List.[])) List.[]))))))))))))) (Syntax.place 26 List.[])
+    (List._∷_ (Syntax.copy (Syntax.place 11 List.[])) (List._∷_ (Syntax.copy (Syntax.place 17 List.[])) (List._∷_ (Syntax.copy (Syntax.place 12 List.[])) List.[])))))))))) (Syntax.place 26 List.[])
 
 abbrev b37 : Syntax.Body
 b37 = Syntax.assign (Syntax.place 17 List.[]) (Syntax.op2 (Syntax.add Syntax.unsigned) (Syntax.copy (Syntax.place 17 List.[])) (Syntax.int Syntax.w64 1))
@@ -1121,19 +1119,19 @@ t32 = List._∷_ e15 (List._∷_ e18 (List._∷_ e20 (List._∷_ e22 (List._∷_
     (List._∷_ e44 (List._∷_ e45 List.[])))))))))))))))
 
 abbrev pub t33 : List.List Row.Entry
-t33 = List._∷_ e15 (List._∷_ e18 (List._∷_ e20 (List._∷_ e22 (List._∷_ e25 (List._∷_ e28 (List._∷_ e29 (List._∷_ e31 (List._∷_ e33 (List._∷_ e34 (List._∷_ e36 (List._∷_ e38 (List._∷_ e40 (List._∷_ e41
+t33 = List._∷_ e15 (List._∷_ e18 (List._∷_ e20 (List._∷_ e21 (List._∷_ e26 (List._∷_ e28 (List._∷_ e29 (List._∷_ e31 (List._∷_ e33 (List._∷_ e34 (List._∷_ e36 (List._∷_ e38 (List._∷_ e40 (List._∷_ e41
     (List._∷_ e44 (List._∷_ e45 List.[])))))))))))))))
 
 abbrev pub t34 : List.List Row.Entry
-t34 = List._∷_ e15 (List._∷_ e18 (List._∷_ e20 (List._∷_ e22 (List._∷_ e25 (List._∷_ e28 (List._∷_ e30 (List._∷_ e31 (List._∷_ e33 (List._∷_ e34 (List._∷_ e36 (List._∷_ e38 (List._∷_ e40 (List._∷_ e41
+t34 = List._∷_ e15 (List._∷_ e18 (List._∷_ e20 (List._∷_ e21 (List._∷_ e25 (List._∷_ e28 (List._∷_ e29 (List._∷_ e31 (List._∷_ e33 (List._∷_ e34 (List._∷_ e36 (List._∷_ e38 (List._∷_ e40 (List._∷_ e41
     (List._∷_ e44 (List._∷_ e45 List.[])))))))))))))))
 
 abbrev pub t35 : List.List Row.Entry
-t35 = List._∷_ e15 (List._∷_ e18 (List._∷_ e20 (List._∷_ e22 (List._∷_ e25 (List._∷_ e28 (List._∷_ e30 (List._∷_ e31 (List._∷_ e33 (List._∷_ e35 (List._∷_ e36 (List._∷_ e38 (List._∷_ e40 (List._∷_ e41
+t35 = List._∷_ e15 (List._∷_ e18 (List._∷_ e20 (List._∷_ e21 (List._∷_ e25 (List._∷_ e28 (List._∷_ e30 (List._∷_ e31 (List._∷_ e33 (List._∷_ e34 (List._∷_ e36 (List._∷_ e38 (List._∷_ e40 (List._∷_ e41
     (List._∷_ e44 (List._∷_ e45 List.[])))))))))))))))
 
 abbrev pub t36 : List.List Row.Entry
-t36 = List._∷_ e15 (List._∷_ e18 (List._∷_ e19 (List._∷_ e22 (List._∷_ e25 (List._∷_ e28 (List._∷_ e30 (List._∷_ e31 (List._∷_ e33 (List._∷_ e35 (List._∷_ e36 (List._∷_ e38 (List._∷_ e40 (List._∷_ e41
+t36 = List._∷_ e15 (List._∷_ e18 (List._∷_ e20 (List._∷_ e21 (List._∷_ e25 (List._∷_ e28 (List._∷_ e30 (List._∷_ e31 (List._∷_ e33 (List._∷_ e35 (List._∷_ e36 (List._∷_ e38 (List._∷_ e40 (List._∷_ e41
     (List._∷_ e44 (List._∷_ e45 List.[])))))))))))))))
 
 abbrev pub t37 : List.List Row.Entry
@@ -1173,7 +1171,7 @@ t45 = List._∷_ e15 (List._∷_ e17 (List._∷_ e19 (List._∷_ e21 (List._∷_
     (List._∷_ e44 (List._∷_ e45 List.[])))))))))))))))
 
 abbrev pub t46 : List.List Row.Entry
-t46 = List._∷_ e15 (List._∷_ e18 (List._∷_ e20 (List._∷_ e22 (List._∷_ e25 (List._∷_ e28 (List._∷_ e30 (List._∷_ e32 (List._∷_ e33 (List._∷_ e34 (List._∷_ e36 (List._∷_ e38 (List._∷_ e40 (List._∷_ e41
+t46 = List._∷_ e15 (List._∷_ e18 (List._∷_ e20 (List._∷_ e21 (List._∷_ e25 (List._∷_ e28 (List._∷_ e30 (List._∷_ e32 (List._∷_ e33 (List._∷_ e34 (List._∷_ e36 (List._∷_ e38 (List._∷_ e40 (List._∷_ e41
     (List._∷_ e44 (List._∷_ e45 List.[])))))))))))))))
 
 abbrev pub t47 : List.List Row.Entry
@@ -1189,7 +1187,7 @@ t49 = List._∷_ e46 (List._∷_ e47 (List._∷_ (34, Mut.mslice (Element.type) 
     e55 List.[])))))))
 
 abbrev pub t50 : List.List Row.Entry
-t50 = List._∷_ e15 (List._∷_ e18 (List._∷_ e20 (List._∷_ e22 (List._∷_ e25 (List._∷_ e28 (List._∷_ e30 (List._∷_ e32 (List._∷_ e33 (List._∷_ e34 (List._∷_ e37 (List._∷_ e38 (List._∷_ e40 (List._∷_ e41
+t50 = List._∷_ e15 (List._∷_ e18 (List._∷_ e20 (List._∷_ e21 (List._∷_ e25 (List._∷_ e28 (List._∷_ e30 (List._∷_ e32 (List._∷_ e33 (List._∷_ e34 (List._∷_ e37 (List._∷_ e38 (List._∷_ e40 (List._∷_ e41
     (List._∷_ e44 (List._∷_ e45 List.[])))))))))))))))
 
 abbrev pub t51 : List.List Row.Entry
@@ -1197,91 +1195,87 @@ t51 = List._∷_ e46 (List._∷_ e47 (List._∷_ (34, Mut.msleft (Element.type) 
     List.[])))))))
 
 abbrev pub t52 : List.List Row.Entry
-t52 = List._∷_ e15 (List._∷_ e18 (List._∷_ e20 (List._∷_ e22 (List._∷_ e25 (List._∷_ e28 (List._∷_ e30 (List._∷_ e31 (List._∷_ e33 (List._∷_ e34 (List._∷_ e37 (List._∷_ e38 (List._∷_ e40 (List._∷_ e41
+t52 = List._∷_ e15 (List._∷_ e18 (List._∷_ e19 (List._∷_ e21 (List._∷_ e25 (List._∷_ e28 (List._∷_ e30 (List._∷_ e32 (List._∷_ e33 (List._∷_ e34 (List._∷_ e37 (List._∷_ e38 (List._∷_ e40 (List._∷_ e41
     (List._∷_ e44 (List._∷_ e45 List.[])))))))))))))))
 
 abbrev pub t53 : List.List Row.Entry
-t53 = List._∷_ e16 (List._∷_ e18 (List._∷_ e20 (List._∷_ e22 (List._∷_ e25 (List._∷_ e28 (List._∷_ e30 (List._∷_ e31 (List._∷_ e33 (List._∷_ e34 (List._∷_ e36 (List._∷_ e38 (List._∷_ e40 (List._∷_ e41
+t53 = List._∷_ e15 (List._∷_ e18 (List._∷_ e19 (List._∷_ e21 (List._∷_ e25 (List._∷_ e28 (List._∷_ e30 (List._∷_ e31 (List._∷_ e33 (List._∷_ e34 (List._∷_ e37 (List._∷_ e38 (List._∷_ e40 (List._∷_ e41
     (List._∷_ e44 (List._∷_ e45 List.[])))))))))))))))
 
 abbrev pub t54 : List.List Row.Entry
-t54 = List._∷_ e16 (List._∷_ e18 (List._∷_ e20 (List._∷_ e22 (List._∷_ e25 (List._∷_ e27 (List._∷_ e30 (List._∷_ e31 (List._∷_ e33 (List._∷_ e34 (List._∷_ e36 (List._∷_ e38 (List._∷_ e40 (List._∷_ e41
+t54 = List._∷_ e15 (List._∷_ e18 (List._∷_ e19 (List._∷_ e21 (List._∷_ e25 (List._∷_ e28 (List._∷_ e30 (List._∷_ e31 (List._∷_ e33 (List._∷_ e34 (List._∷_ e36 (List._∷_ e38 (List._∷_ e40 (List._∷_ e41
     (List._∷_ e44 (List._∷_ e45 List.[])))))))))))))))
 
 abbrev pub t55 : List.List Row.Entry
-t55 = List._∷_ e0 (List._∷_ e2 (List._∷_ e23 (List._∷_ e43 (List._∷_ e56 (List._∷_ e57 (List._∷_ e59 (List._∷_ e62 (List._∷_ e63 (List._∷_ e65 (List._∷_ e4 (List._∷_ e6 (List._∷_ e8 (List._∷_ e10
-    (List._∷_ e12 (List._∷_ e14 List.[])))))))))))))))
+t55 = List._∷_ e16 (List._∷_ e18 (List._∷_ e19 (List._∷_ e21 (List._∷_ e25 (List._∷_ e28 (List._∷_ e30 (List._∷_ e31 (List._∷_ e33 (List._∷_ e34 (List._∷_ e36 (List._∷_ e38 (List._∷_ e40 (List._∷_ e41
+    (List._∷_ e44 (List._∷_ e45 List.[])))))))))))))))
 
 abbrev pub t56 : List.List Row.Entry
-t56 = List._∷_ e46 (List._∷_ e47 (List._∷_ e48 (List._∷_ (35, Relend.ssptr (Referent.rtF (Referent.fInt Syntax.w16)) (Syntax.tyRef Syntax.erased Syntax.imm (Syntax.tyInt Syntax.w16)) 9) (List._∷_ e50
-    (List._∷_ e52 (List._∷_ e54 (List._∷_ e55 List.[])))))))
+t56 = List._∷_ e16 (List._∷_ e18 (List._∷_ e19 (List._∷_ e21 (List._∷_ e25 (List._∷_ e27 (List._∷_ e30 (List._∷_ e31 (List._∷_ e33 (List._∷_ e34 (List._∷_ e36 (List._∷_ e38 (List._∷_ e40 (List._∷_ e41
+    (List._∷_ e44 (List._∷_ e45 List.[])))))))))))))))
 
 abbrev pub t57 : List.List Row.Entry
-t57 = List._∷_ e46 (List._∷_ e47 (List._∷_ e48 (List._∷_ e49 (List._∷_ e51 (List._∷_ e52 (List._∷_ e54 (List._∷_ e55 List.[])))))))
+t57 = List._∷_ e0 (List._∷_ e2 (List._∷_ e23 (List._∷_ e43 (List._∷_ e56 (List._∷_ e57 (List._∷_ e59 (List._∷_ e62 (List._∷_ e63 (List._∷_ e65 (List._∷_ e4 (List._∷_ e6 (List._∷_ e8 (List._∷_ e10
+    (List._∷_ e12 (List._∷_ e14 List.[])))))))))))))))
 
 abbrev pub t58 : List.List Row.Entry
-t58 = List._∷_ e0 (List._∷_ e2 (List._∷_ e23 (List._∷_ e43 (List._∷_ e56 (List._∷_ e58 (List._∷_ e59 (List._∷_ e62 (List._∷_ e63 (List._∷_ e65 (List._∷_ e4 (List._∷_ e6 (List._∷_ e8 (List._∷_ e10
-    (List._∷_ e12 (List._∷_ e14 List.[])))))))))))))))
+t58 = List._∷_ e46 (List._∷_ e47 (List._∷_ e48 (List._∷_ (35, Relend.ssptr (Referent.rtF (Referent.fInt Syntax.w16)) (Syntax.tyRef Syntax.erased Syntax.imm (Syntax.tyInt Syntax.w16)) 9) (List._∷_ e50
+    (List._∷_ e52 (List._∷_ e54 (List._∷_ e55 List.[])))))))
 
 abbrev pub t59 : List.List Row.Entry
-t59 = List._∷_ e46 (List._∷_ e47 (List._∷_ e48 (List._∷_ e49 (List._∷_ e51 (List._∷_
-    (37, Relend.msptr (Referent.rtF (Referent.fInt Syntax.w16)) (Syntax.tyRef Syntax.erased Syntax.mut (Syntax.tyInt Syntax.w16)) 10) (List._∷_ e54 (List._∷_ e55 List.[])))))))
+t59 = List._∷_ e46 (List._∷_ e47 (List._∷_ e48 (List._∷_ e49 (List._∷_ e51 (List._∷_ e52 (List._∷_ e54 (List._∷_ e55 List.[])))))))
 
 abbrev pub t60 : List.List Row.Entry
-t60 = List._∷_ e46 (List._∷_ e47 (List._∷_ e48 (List._∷_ e49 (List._∷_ e51 (List._∷_ e52 (List._∷_
-    (38, Mut.mslice (Referent.rtF (Referent.fInt Syntax.w16)) (Syntax.tyRef Syntax.erased Syntax.mut (Syntax.tyInt Syntax.w16)) 10) (List._∷_ e55 List.[])))))))
-
-abbrev pub t61 : List.List Row.Entry
-t61 = List._∷_ e16 (List._∷_ e18 (List._∷_ e20 (List._∷_ e22 (List._∷_ e25 (List._∷_ e27 (List._∷_ e30 (List._∷_ e31 (List._∷_ e33 (List._∷_ e34 (List._∷_ e37 (List._∷_ e38 (List._∷_ e40 (List._∷_ e41
-    (List._∷_ e44 (List._∷_ e45 List.[])))))))))))))))
-
-abbrev pub t62 : List.List Row.Entry
-t62 = List._∷_ e46 (List._∷_ e47 (List._∷_ e48 (List._∷_ e49 (List._∷_ e51 (List._∷_ e52 (List._∷_ e53 (List._∷_ e55 List.[])))))))
-
-abbrev pub t63 : List.List Row.Entry
-t63 = List._∷_ e46 (List._∷_ e47 (List._∷_ e48 (List._∷_ e49 (List._∷_ e50 (List._∷_ e52 (List._∷_ e53 (List._∷_ e55 List.[])))))))
-
-abbrev pub t64 : List.List Row.Entry
-t64 = List._∷_ e16 (List._∷_ e18 (List._∷_ e19 (List._∷_ e22 (List._∷_ e25 (List._∷_ e27 (List._∷_ e30 (List._∷_ e31 (List._∷_ e33 (List._∷_ e34 (List._∷_ e37 (List._∷_ e38 (List._∷_ e40 (List._∷_ e41
-    (List._∷_ e44 (List._∷_ e45 List.[])))))))))))))))
-
-abbrev pub t65 : List.List Row.Entry
-t65 = List._∷_ e16 (List._∷_ e18 (List._∷_ e19 (List._∷_ e21 (List._∷_ e25 (List._∷_ e27 (List._∷_ e30 (List._∷_ e31 (List._∷_ e33 (List._∷_ e34 (List._∷_ e37 (List._∷_ e38 (List._∷_ e40 (List._∷_ e41
-    (List._∷_ e44 (List._∷_ e45 List.[])))))))))))))))
-
-abbrev pub t66 : List.List Row.Entry
-t66 = List._∷_ e16 (List._∷_ e18 (List._∷_ e19 (List._∷_ e21 (List._∷_ e25 (List._∷_ e27 (List._∷_ e30 (List._∷_ e31 (List._∷_ e33 (List._∷_ e34 (List._∷_ e36 (List._∷_ e38 (List._∷_ e40 (List._∷_ e41
-    (List._∷_ e44 (List._∷_ e45 List.[])))))))))))))))
-
-abbrev pub t67 : List.List Row.Entry
-t67 = List._∷_ e0 (List._∷_ e2 (List._∷_ e23 (List._∷_ e42 (List._∷_ e56 (List._∷_ e58 (List._∷_ e59 (List._∷_ e62 (List._∷_ e63 (List._∷_ e65 (List._∷_ e4 (List._∷_ e6 (List._∷_ e8 (List._∷_ e10
+t60 = List._∷_ e0 (List._∷_ e2 (List._∷_ e23 (List._∷_ e43 (List._∷_ e56 (List._∷_ e58 (List._∷_ e59 (List._∷_ e62 (List._∷_ e63 (List._∷_ e65 (List._∷_ e4 (List._∷_ e6 (List._∷_ e8 (List._∷_ e10
     (List._∷_ e12 (List._∷_ e14 List.[])))))))))))))))
 
-abbrev pub t68 : List.List Row.Entry
-t68 = List._∷_ e16 (List._∷_ e18 (List._∷_ e19 (List._∷_ e21 (List._∷_ e25 (List._∷_ e27 (List._∷_ e29 (List._∷_ e31 (List._∷_ (24, Rows'.whole (Declared'.row BitPosition.the-type)) (List._∷_ e34
+abbrev pub t61 : List.List Row.Entry
+t61 = List._∷_ e46 (List._∷_ e47 (List._∷_ e48 (List._∷_ e49 (List._∷_ e51 (List._∷_
+    (37, Relend.msptr (Referent.rtF (Referent.fInt Syntax.w16)) (Syntax.tyRef Syntax.erased Syntax.mut (Syntax.tyInt Syntax.w16)) 10) (List._∷_ e54 (List._∷_ e55 List.[])))))))
+
+abbrev pub t62 : List.List Row.Entry
+t62 = List._∷_ e46 (List._∷_ e47 (List._∷_ e48 (List._∷_ e49 (List._∷_ e51 (List._∷_ e52 (List._∷_
+    (38, Mut.mslice (Referent.rtF (Referent.fInt Syntax.w16)) (Syntax.tyRef Syntax.erased Syntax.mut (Syntax.tyInt Syntax.w16)) 10) (List._∷_ e55 List.[])))))))
+
+abbrev pub t63 : List.List Row.Entry
+t63 = List._∷_ e16 (List._∷_ e18 (List._∷_ e19 (List._∷_ e21 (List._∷_ e25 (List._∷_ e27 (List._∷_ e30 (List._∷_ e31 (List._∷_ e33 (List._∷_ e34 (List._∷_ e37 (List._∷_ e38 (List._∷_ e40 (List._∷_ e41
+    (List._∷_ e44 (List._∷_ e45 List.[])))))))))))))))
+
+abbrev pub t64 : List.List Row.Entry
+t64 = List._∷_ e46 (List._∷_ e47 (List._∷_ e48 (List._∷_ e49 (List._∷_ e51 (List._∷_ e52 (List._∷_ e53 (List._∷_ e55 List.[])))))))
+
+abbrev pub t65 : List.List Row.Entry
+t65 = List._∷_ e46 (List._∷_ e47 (List._∷_ e48 (List._∷_ e49 (List._∷_ e50 (List._∷_ e52 (List._∷_ e53 (List._∷_ e55 List.[])))))))
+
+abbrev pub t66 : List.List Row.Entry
+t66 = List._∷_ e0 (List._∷_ e2 (List._∷_ e23 (List._∷_ e42 (List._∷_ e56 (List._∷_ e58 (List._∷_ e59 (List._∷_ e62 (List._∷_ e63 (List._∷_ e65 (List._∷_ e4 (List._∷_ e6 (List._∷_ e8 (List._∷_ e10
+    (List._∷_ e12 (List._∷_ e14 List.[])))))))))))))))
+
+abbrev pub t67 : List.List Row.Entry
+t67 = List._∷_ e16 (List._∷_ e18 (List._∷_ e19 (List._∷_ e21 (List._∷_ e25 (List._∷_ e27 (List._∷_ e29 (List._∷_ e31 (List._∷_ (24, Rows'.whole (Declared'.row BitPosition.the-type)) (List._∷_ e34
     (List._∷_ e36 (List._∷_ e38 (List._∷_ e40 (List._∷_ e41 (List._∷_ e44 (List._∷_ e45 List.[])))))))))))))))
 
+abbrev pub t68 : List.List Row.Entry
+t68 = List._∷_ e46 (List._∷_ e47 (List._∷_ e48 (List._∷_ e49 (List._∷_ e50 (List._∷_ e52 (List._∷_ e54 (List._∷_ (39, Rows'.sc-here Row.sBool) List.[])))))))
+
 abbrev pub t69 : List.List Row.Entry
-t69 = List._∷_ e46 (List._∷_ e47 (List._∷_ e48 (List._∷_ e49 (List._∷_ e50 (List._∷_ e52 (List._∷_ e54 (List._∷_ (39, Rows'.sc-here Row.sBool) List.[])))))))
+t69 = List._∷_ e15 (List._∷_ e18 (List._∷_ e19 (List._∷_ e21 (List._∷_ e25 (List._∷_ e27 (List._∷_ e29 (List._∷_ e31 (List._∷_ e33 (List._∷_ e34 (List._∷_ e36 (List._∷_ e38 (List._∷_ e40 (List._∷_ e41
+    (List._∷_ e44 (List._∷_ e45 List.[])))))))))))))))
 
 abbrev pub t70 : List.List Row.Entry
-t70 = List._∷_ e15 (List._∷_ e18 (List._∷_ e19 (List._∷_ e21 (List._∷_ e25 (List._∷_ e27 (List._∷_ e29 (List._∷_ e31 (List._∷_ e33 (List._∷_ e34 (List._∷_ e36 (List._∷_ e38 (List._∷_ e40 (List._∷_ e41
-    (List._∷_ e44 (List._∷_ e45 List.[])))))))))))))))
+t70 = List._∷_ e1 (List._∷_ e2 (List._∷_ e23 (List._∷_ e42 (List._∷_ e56 (List._∷_ e57 (List._∷_ e59 (List._∷_ e61 (List._∷_ e63 (List._∷_ e64 (List._∷_ e3 (List._∷_ e6 (List._∷_ e8 (List._∷_ e9
+    (List._∷_ e12 (List._∷_ e14 List.[])))))))))))))))
 
 abbrev pub t71 : List.List Row.Entry
 t71 = List._∷_ e1 (List._∷_ e2 (List._∷_ e23 (List._∷_ e42 (List._∷_ e56 (List._∷_ e57 (List._∷_ e59 (List._∷_ e61 (List._∷_ e63 (List._∷_ e64 (List._∷_ e3 (List._∷_ e6 (List._∷_ e8 (List._∷_ e9
-    (List._∷_ e12 (List._∷_ e14 List.[])))))))))))))))
+    (List._∷_ e11 (List._∷_ e14 List.[])))))))))))))))
 
 abbrev pub t72 : List.List Row.Entry
 t72 = List._∷_ e1 (List._∷_ e2 (List._∷_ e23 (List._∷_ e42 (List._∷_ e56 (List._∷_ e57 (List._∷_ e59 (List._∷_ e61 (List._∷_ e63 (List._∷_ e64 (List._∷_ e3 (List._∷_ e6 (List._∷_ e8 (List._∷_ e9
-    (List._∷_ e11 (List._∷_ e14 List.[])))))))))))))))
-
-abbrev pub t73 : List.List Row.Entry
-t73 = List._∷_ e1 (List._∷_ e2 (List._∷_ e23 (List._∷_ e42 (List._∷_ e56 (List._∷_ e57 (List._∷_ e59 (List._∷_ e61 (List._∷_ e63 (List._∷_ e64 (List._∷_ e3 (List._∷_ e6 (List._∷_ e8 (List._∷_ e9
     (List._∷_ e11 (List._∷_ e13 List.[])))))))))))))))
 
-abbrev pub t74 : List.List Row.Entry
-t74 = List._∷_ e1 (List._∷_ e2 (List._∷_ e23 (List._∷_ e42 (List._∷_ e56 (List._∷_ e57 (List._∷_ e59 (List._∷_ e61 (List._∷_ e63 (List._∷_ e64 (List._∷_ e3 (List._∷_ e5 (List._∷_ e8 (List._∷_ e9
+abbrev pub t73 : List.List Row.Entry
+t73 = List._∷_ e1 (List._∷_ e2 (List._∷_ e23 (List._∷_ e42 (List._∷_ e56 (List._∷_ e57 (List._∷_ e59 (List._∷_ e61 (List._∷_ e63 (List._∷_ e64 (List._∷_ e3 (List._∷_ e5 (List._∷_ e8 (List._∷_ e9
     (List._∷_ e11 (List._∷_ e13 List.[])))))))))))))))
 
 abbrev pub T0 : Row.Cx
@@ -1395,29 +1389,29 @@ T42 = record { locals = List._++_ t27 (List._++_ t32 t31); slots = List.[] }
 abbrev pub T43 : Row.Cx
 T43 = record { locals = List._++_ t27 (List._++_ t33 t31); slots = List.[] }
 
-abbrev pub T45 : Row.Cx
-T45 = record { locals = List._++_ t9 (List._++_ t33 t2); slots = List.[] }
+abbrev pub T44 : Row.Cx
+T44 = record { locals = List._++_ t27 (List._++_ t34 t31); slots = List.[] }
 
 abbrev pub T46 : Row.Cx
-T46 = record { locals = List._++_ t9 (List._++_ t33 t2); slots = List.[] }
+T46 = record { locals = List._++_ t9 (List._++_ t34 t2); slots = List.[] }
 
-abbrev pub T48 : Row.Cx
-T48 = record { locals = List._++_ t9 (List._++_ t34 t2); slots = List.[] }
+abbrev pub T47 : Row.Cx
+T47 = record { locals = List._++_ t9 (List._++_ t34 t2); slots = List.[] }
 
 abbrev pub T49 : Row.Cx
 T49 = record { locals = List._++_ t9 (List._++_ t35 t2); slots = List.[] }
 
 abbrev pub T50 : Row.Cx
-T50 = record { locals = List._++_ t9 (List._++_ t34 t2); slots = List.[] }
+T50 = record { locals = List._++_ t9 (List._++_ t36 t2); slots = List.[] }
 
 abbrev pub T51 : Row.Cx
-T51 = record { locals = List._++_ t13 (List._++_ t35 t2); slots = List.[] }
+T51 = record { locals = List._++_ t9 (List._++_ t35 t2); slots = List.[] }
 
 abbrev pub T52 : Row.Cx
-T52 = record { locals = List._++_ t14 (List._++_ t35 t2); slots = List.[] }
+T52 = record { locals = List._++_ t13 (List._++_ t36 t2); slots = List.[] }
 
 abbrev pub T53 : Row.Cx
-T53 = record { locals = List._++_ t11 (List._++_ t35 t2); slots = List.[] }
+T53 = record { locals = List._++_ t14 (List._++_ t36 t2); slots = List.[] }
 
 abbrev pub T54 : Row.Cx
 T54 = record { locals = List._++_ t11 (List._++_ t36 t2); slots = List.[] }
@@ -1456,7 +1450,7 @@ abbrev pub T65 : Row.Cx
 T65 = record { locals = List._++_ t3 (List._++_ t1 t2); slots = List.[] }
 
 abbrev pub T66 : Row.Cx
-T66 = record { locals = List._++_ t9 (List._++_ t34 t2); slots = List.[] }
+T66 = record { locals = List._++_ t9 (List._++_ t35 t2); slots = List.[] }
 
 abbrev pub T67 : Row.Cx
 T67 = record { locals = List._++_ t9 (List._++_ t46 t2); slots = List.[] }
@@ -1474,103 +1468,103 @@ abbrev pub T72 : Row.Cx
 T72 = record { locals = List._++_ t47 (List._++_ t52 t51); slots = List.[] }
 
 abbrev pub T73 : Row.Cx
-T73 = record { locals = List._++_ t47 (List._++_ t34 t51); slots = List.[] }
+T73 = record { locals = List._++_ t47 (List._++_ t53 t51); slots = List.[] }
 
-abbrev pub T75 : Row.Cx
-T75 = record { locals = List._++_ t9 (List._++_ t34 t2); slots = List.[] }
+abbrev pub T74 : Row.Cx
+T74 = record { locals = List._++_ t47 (List._++_ t54 t51); slots = List.[] }
 
-abbrev pub T77 : Row.Cx
-T77 = record { locals = List._++_ t9 (List._++_ t53 t2); slots = List.[] }
+abbrev pub T76 : Row.Cx
+T76 = record { locals = List._++_ t9 (List._++_ t54 t2); slots = List.[] }
 
 abbrev pub T78 : Row.Cx
-T78 = record { locals = List._++_ t9 (List._++_ t54 t2); slots = List.[] }
+T78 = record { locals = List._++_ t9 (List._++_ t55 t2); slots = List.[] }
 
-abbrev pub T80 : Row.Cx
-T80 = record { locals = List._++_ t55 (List._++_ t54 t56); slots = List.[] }
+abbrev pub T79 : Row.Cx
+T79 = record { locals = List._++_ t9 (List._++_ t56 t2); slots = List.[] }
 
 abbrev pub T81 : Row.Cx
-T81 = record { locals = List._++_ t55 (List._++_ t54 t57); slots = List.[] }
+T81 = record { locals = List._++_ t57 (List._++_ t56 t58); slots = List.[] }
 
-abbrev pub T83 : Row.Cx
-T83 = record { locals = List._++_ t58 (List._++_ t54 t59); slots = List.[] }
+abbrev pub T82 : Row.Cx
+T82 = record { locals = List._++_ t57 (List._++_ t56 t59); slots = List.[] }
 
 abbrev pub T84 : Row.Cx
-T84 = record { locals = List._++_ t58 (List._++_ t54 t60); slots = List.[] }
+T84 = record { locals = List._++_ t60 (List._++_ t56 t61); slots = List.[] }
 
 abbrev pub T85 : Row.Cx
-T85 = record { locals = List._++_ t58 (List._++_ t61 t62); slots = List.[] }
+T85 = record { locals = List._++_ t60 (List._++_ t56 t62); slots = List.[] }
 
 abbrev pub T86 : Row.Cx
-T86 = record { locals = List._++_ t58 (List._++_ t61 t63); slots = List.[] }
+T86 = record { locals = List._++_ t60 (List._++_ t63 t64); slots = List.[] }
 
 abbrev pub T87 : Row.Cx
-T87 = record { locals = List._++_ t58 (List._++_ t64 t63); slots = List.[] }
+T87 = record { locals = List._++_ t60 (List._++_ t63 t65); slots = List.[] }
 
 abbrev pub T88 : Row.Cx
-T88 = record { locals = List._++_ t58 (List._++_ t65 t63); slots = List.[] }
+T88 = record { locals = List._++_ t60 (List._++_ t56 t65); slots = List.[] }
 
-abbrev pub T89 : Row.Cx
-T89 = record { locals = List._++_ t58 (List._++_ t66 t63); slots = List.[] }
+abbrev pub T90 : Row.Cx
+T90 = record { locals = List._++_ t66 (List._++_ t56 t65); slots = List.[] }
 
-abbrev pub T91 : Row.Cx
-T91 = record { locals = List._++_ t67 (List._++_ t66 t63); slots = List.[] }
+abbrev pub T93 : Row.Cx
+T93 = record { locals = List._++_ t9 (List._++_ t56 t2); slots = List.[] }
 
 abbrev pub T94 : Row.Cx
-T94 = record { locals = List._++_ t9 (List._++_ t66 t2); slots = List.[] }
+T94 = record { locals = List._++_ t9 (List._++_ t56 t2); slots = List.[] }
 
-abbrev pub T95 : Row.Cx
-T95 = record { locals = List._++_ t9 (List._++_ t66 t2); slots = List.[] }
+abbrev pub T96 : Row.Cx
+T96 = record { locals = List._++_ t9 (List._++_ t56 t2); slots = List.[] }
 
 abbrev pub T97 : Row.Cx
-T97 = record { locals = List._++_ t9 (List._++_ t66 t2); slots = List.[] }
+T97 = record { locals = List._++_ t9 (List._++_ t10 t2); slots = List.[] }
 
 abbrev pub T98 : Row.Cx
-T98 = record { locals = List._++_ t9 (List._++_ t10 t2); slots = List.[] }
+T98 = record { locals = List._++_ t11 (List._++_ t67 t2); slots = List.[] }
 
 abbrev pub T99 : Row.Cx
-T99 = record { locals = List._++_ t11 (List._++_ t68 t2); slots = List.[] }
+T99 = record { locals = List._++_ t11 (List._++_ t67 t68); slots = List.[] }
 
 abbrev pub T100 : Row.Cx
-T100 = record { locals = List._++_ t11 (List._++_ t68 t69); slots = List.[] }
+T100 = record { locals = List._++_ t11 (List._++_ t10 t2); slots = List.[] }
 
 abbrev pub T101 : Row.Cx
-T101 = record { locals = List._++_ t11 (List._++_ t10 t2); slots = List.[] }
+T101 = record { locals = List._++_ t11 (List._++_ t10 t68); slots = List.[] }
 
 abbrev pub T102 : Row.Cx
-T102 = record { locals = List._++_ t11 (List._++_ t10 t69); slots = List.[] }
+T102 = record { locals = List._++_ t11 (List._++_ t69 t68); slots = List.[] }
 
 abbrev pub T103 : Row.Cx
-T103 = record { locals = List._++_ t11 (List._++_ t70 t69); slots = List.[] }
+T103 = record { locals = List._++_ t11 (List._++_ t69 t2); slots = List.[] }
 
 abbrev pub T104 : Row.Cx
-T104 = record { locals = List._++_ t11 (List._++_ t70 t2); slots = List.[] }
+T104 = record { locals = List._++_ t40 (List._++_ t69 t2); slots = List.[] }
 
 abbrev pub T105 : Row.Cx
-T105 = record { locals = List._++_ t40 (List._++_ t70 t2); slots = List.[] }
+T105 = record { locals = List._++_ t41 (List._++_ t69 t2); slots = List.[] }
 
 abbrev pub T106 : Row.Cx
-T106 = record { locals = List._++_ t41 (List._++_ t70 t2); slots = List.[] }
+T106 = record { locals = List._++_ t42 (List._++_ t69 t2); slots = List.[] }
 
 abbrev pub T107 : Row.Cx
-T107 = record { locals = List._++_ t42 (List._++_ t70 t2); slots = List.[] }
+T107 = record { locals = List._++_ t43 (List._++_ t69 t2); slots = List.[] }
 
 abbrev pub T108 : Row.Cx
-T108 = record { locals = List._++_ t43 (List._++_ t70 t2); slots = List.[] }
+T108 = record { locals = List._++_ t44 (List._++_ t69 t2); slots = List.[] }
 
 abbrev pub T109 : Row.Cx
-T109 = record { locals = List._++_ t44 (List._++_ t70 t2); slots = List.[] }
+T109 = record { locals = List._++_ t3 (List._++_ t69 t2); slots = List.[] }
 
 abbrev pub T110 : Row.Cx
-T110 = record { locals = List._++_ t3 (List._++_ t70 t2); slots = List.[] }
+T110 = record { locals = List._++_ t3 (List._++_ t1 t2); slots = List.[] }
 
 abbrev pub T111 : Row.Cx
-T111 = record { locals = List._++_ t3 (List._++_ t1 t2); slots = List.[] }
+T111 = record { locals = List._++_ t11 (List._++_ t10 t2); slots = List.[] }
 
 abbrev pub T112 : Row.Cx
-T112 = record { locals = List._++_ t11 (List._++_ t10 t2); slots = List.[] }
+T112 = record { locals = List._++_ t40 (List._++_ t10 t2); slots = List.[] }
 
 abbrev pub T113 : Row.Cx
-T113 = record { locals = List._++_ t40 (List._++_ t10 t2); slots = List.[] }
+T113 = record { locals = List._++_ t70 (List._++_ t10 t2); slots = List.[] }
 
 abbrev pub T114 : Row.Cx
 T114 = record { locals = List._++_ t71 (List._++_ t10 t2); slots = List.[] }
@@ -1579,19 +1573,16 @@ abbrev pub T115 : Row.Cx
 T115 = record { locals = List._++_ t72 (List._++_ t10 t2); slots = List.[] }
 
 abbrev pub T116 : Row.Cx
-T116 = record { locals = List._++_ t73 (List._++_ t10 t2); slots = List.[] }
+T116 = record { locals = List._++_ t72 (List._++_ t69 t2); slots = List.[] }
 
 abbrev pub T117 : Row.Cx
-T117 = record { locals = List._++_ t73 (List._++_ t70 t2); slots = List.[] }
+T117 = record { locals = List._++_ t72 (List._++_ t1 t2); slots = List.[] }
 
 abbrev pub T118 : Row.Cx
 T118 = record { locals = List._++_ t73 (List._++_ t1 t2); slots = List.[] }
 
 abbrev pub T119 : Row.Cx
-T119 = record { locals = List._++_ t74 (List._++_ t1 t2); slots = List.[] }
-
-abbrev pub T120 : Row.Cx
-T120 = record { locals = List._++_ t3 (List._++_ t1 t2); slots = List.[] }
+T119 = record { locals = List._++_ t3 (List._++_ t1 t2); slots = List.[] }
 
 abbrev pub O0 : Typed.Outs
 O0 = record { next = Option.none; exits = List.[]; returns = Option.some T1 }
@@ -1609,10 +1600,10 @@ abbrev pub O4 : Typed.Outs
 O4 = Typed.withNext (Option.some T14) O3
 
 abbrev pub O5 : Typed.Outs
-O5 = Typed.withNext (Option.some T50) O3
+O5 = Typed.withNext (Option.some T51) O3
 
 abbrev pub O6 : Typed.Outs
-O6 = Typed.withNext (Option.some T101) O0
+O6 = Typed.withNext (Option.some T100) O0
 
 abbrev pub InvT-loop : Type 1
 InvT-loop = List.List (Referent.rtF (Referent.fInt Syntax.w8) .Denot) → List.List (Referent.rtF (Referent.fInt Syntax.w16) .Denot) → List.List (Element.type .Denot) → List.List (Referent.rtF
@@ -1760,35 +1751,35 @@ module _ (claims· : Claims) where
   s38 = λ bs. Scalar.n-room T41 16 y9
 
   abbrev s39 : (bs : List.List Nat.ℕ) → Typed.Mo T42 → Typed.Mo T43
-  s39 = λ bs. Scalar.n-room T42 20 y3
+  s39 = λ bs. Scalar.n-room T42 19 y1
 
-  abbrev s41 : (bs : List.List Nat.ℕ) → Typed.Both T43 T45
-  s41 = λ bs. Relend.k-back-sl (Referent.rtF (Referent.fInt Syntax.w16)) T43 32 3 1 7 (Syntax.tyRef (Syntax.named 1) Syntax.mut (Syntax.tyInt Syntax.w16)) (Syntax.tyRef Syntax.erased Syntax.mut
+  abbrev s40 : (bs : List.List Nat.ℕ) → Typed.Mo T43 → Typed.Mo T44
+  s40 = λ bs. Scalar.n-room T43 20 y3
+
+  abbrev s42 : (bs : List.List Nat.ℕ) → Typed.Both T44 T46
+  s42 = λ bs. Relend.k-back-sl (Referent.rtF (Referent.fInt Syntax.w16)) T44 32 3 1 7 (Syntax.tyRef (Syntax.named 1) Syntax.mut (Syntax.tyInt Syntax.w16)) (Syntax.tyRef Syntax.erased Syntax.mut
       (Syntax.tyInt Syntax.w16)) Row.off (λ x. x) λ x. x
 
-  abbrev s42 : (bs : List.List Nat.ℕ) → Typed.Gives T45 T46
-  s42 = λ bs. Know.k-sl-known (Referent.fInt Syntax.w16) T45 3 1 (Syntax.tyRef (Syntax.named 1) Syntax.mut (Syntax.tyInt Syntax.w16)) Row.off 0 λ x. x
+  abbrev s43 : (bs : List.List Nat.ℕ) → Typed.Gives T46 T47
+  s43 = λ bs. Know.k-sl-known (Referent.fInt Syntax.w16) T46 3 1 (Syntax.tyRef (Syntax.named 1) Syntax.mut (Syntax.tyInt Syntax.w16)) Row.off 0 λ x. x
 
-  abbrev s44 : (bs : List.List Nat.ℕ) → Typed.Mo T46 → Typed.Mo T48
-  s44 = λ bs. Scalar.n-use T46 (Scalar.oFld 21 (List._∷_ (Syntax.field 0) List.[]) Syntax.tyBool 0 (Reads.fieldV Passed.the-type Laws'5.the-laws 0)) 22 (Rows'.sc-here Row.sBool) (Row.sBool .of)
+  abbrev s45 : (bs : List.List Nat.ℕ) → Typed.Mo T47 → Typed.Mo T49
+  s45 = λ bs. Scalar.n-use T47 (Scalar.oFld 21 (List._∷_ (Syntax.field 0) List.[]) Syntax.tyBool 0 (Reads.fieldV Passed.the-type Laws'5.the-laws 0)) 22 (Rows'.sc-here Row.sBool) (Row.sBool .of)
 
-  abbrev s45 : (bs : List.List Nat.ℕ) → Typed.Asks T48 T49
-  s45 = λ bs. Scalar.k-op1 T48 Syntax.bitNot (Scalar.oAt 22 Syntax.tyBool (Row.valS Row.sBool)) 25 (Rows'.sc-here Row.sBool) (Row.sBool .of)
+  abbrev s46 : (bs : List.List Nat.ℕ) → Typed.Asks T49 T50
+  s46 = λ bs. Scalar.k-op1 T49 Syntax.bitNot (Scalar.oAt 22 Syntax.tyBool (Row.valS Row.sBool)) 25 (Rows'.sc-here Row.sBool) (Row.sBool .of)
 
-  abbrev s46 : (bs : List.List Nat.ℕ) → Typed.Mo T49 → Typed.Mo T51
-  s46 = λ bs. Scalar.n-room T49 7 y2
-
-  abbrev s47 : (bs : List.List Nat.ℕ) → Typed.Mo T51 → Typed.Mo T52
-  s47 = λ bs. Scalar.n-room T51 9 (Syntax.tyArray (Syntax.tyInt Syntax.w8) 36)
+  abbrev s47 : (bs : List.List Nat.ℕ) → Typed.Mo T50 → Typed.Mo T52
+  s47 = λ bs. Scalar.n-room T50 7 y2
 
   abbrev s48 : (bs : List.List Nat.ℕ) → Typed.Mo T52 → Typed.Mo T53
-  s48 = λ bs. Scalar.n-room T52 10 y0
+  s48 = λ bs. Scalar.n-room T52 9 (Syntax.tyArray (Syntax.tyInt Syntax.w8) 36)
 
   abbrev s49 : (bs : List.List Nat.ℕ) → Typed.Mo T53 → Typed.Mo T54
-  s49 = λ bs. Scalar.n-room T53 18 y1
+  s49 = λ bs. Scalar.n-room T53 10 y0
 
   abbrev s50 : (bs : List.List Nat.ℕ) → Typed.Mo T54 → Typed.Mo T55
-  s50 = λ bs. Scalar.n-room T54 19 y1
+  s50 = λ bs. Scalar.n-room T54 18 y1
 
   abbrev s51 : (bs : List.List Nat.ℕ) → Typed.Mo T55 → Typed.Mo T56
   s51 = λ bs. Scalar.n-room T55 21 y10
@@ -1820,11 +1811,11 @@ module _ (claims· : Claims) where
   abbrev s60 : (bs : List.List Nat.ℕ) → Typed.Mo T64 → Typed.Mo T65
   s60 = λ bs. Scalar.n-room T64 22 Syntax.tyBool
 
-  abbrev s61 : (bs : List.List Nat.ℕ) → Typed.Mo T49 → Typed.Mo T66
-  s61 = λ bs. Scalar.n-room T49 25 Syntax.tyBool
+  abbrev s61 : (bs : List.List Nat.ℕ) → Typed.Mo T50 → Typed.Mo T66
+  s61 = λ bs. Scalar.n-room T50 25 Syntax.tyBool
 
-  abbrev s62 : (bs : List.List Nat.ℕ) → Typed.Both T50 T67
-  s62 = λ bs. WayStmt.k-way-copy-out T50 (Row.out 21 (T50 .locals)) (λ u. Row.drop 21 (T50 .locals) u) 23 (Rows'.whole (Declared'.row Set.the-type)) (λ u. At.getAt (Passed.the-type .parts) 2
+  abbrev s62 : (bs : List.List Nat.ℕ) → Typed.Both T51 T67
+  s62 = λ bs. WayStmt.k-way-copy-out T51 (Row.out 21 (T51 .locals)) (λ u. Row.drop 21 (T51 .locals) u) 23 (Rows'.whole (Declared'.row Set.the-type)) (λ u. At.getAt (Passed.the-type .parts) 2
       (Passed.struct .as-values (u .1 .1 .1 .1 .1 .1 .1 .1 .1 .1 .1 .1 .1 .1 .1 .1 .1 .1 .1 .1 .1 .0))) (λ T′. record
       { locals = Row.setRow 21 (21, Rows'.whole (Declared'.row Passed.the-type)) T′; slots = List.[] }) (λ u T′ m′. Row.set 21 (21, Rows'.whole (Declared'.row Passed.the-type)) (u .1 .1 .1 .1 .1 .1 .1 .1
       .1 .1 .1 .1 .1 .1 .1 .1 .1 .1 .1 .1 .1 .0) T′ m′) (λ u. Unit) λ u. Unit
@@ -1843,41 +1834,44 @@ module _ (claims· : Claims) where
   ) 26 (List._∷_ 8 List.[]) Syntax.tyUnit
 
   abbrev s67 : (bs : List.List Nat.ℕ) → Typed.Mo T71 → Typed.Mo T72
-  s67 = λ bs. Scalar.n-room T71 23 y3
+  s67 = λ bs. Scalar.n-room T71 18 y1
 
   abbrev s68 : (bs : List.List Nat.ℕ) → Typed.Mo T72 → Typed.Mo T73
-  s68 = λ bs. Scalar.n-room T72 26 Syntax.tyUnit
+  s68 = λ bs. Scalar.n-room T72 23 y3
 
-  abbrev s70 : (bs : List.List Nat.ℕ) → Typed.Both T73 T75
-  s70 = λ bs. Relend.k-back-sl (Element.type) T73 34 4 2 8 (Syntax.tyRef (Syntax.named 2) Syntax.mut Element.behind) (Syntax.tyRef Syntax.erased Syntax.mut Element.behind) Row.off (λ x. x) λ x. x
+  abbrev s69 : (bs : List.List Nat.ℕ) → Typed.Mo T73 → Typed.Mo T74
+  s69 = λ bs. Scalar.n-room T73 26 Syntax.tyUnit
 
-  abbrev s72 : (bs : List.List Nat.ℕ) → Typed.Both T75 T77
-  s72 = λ bs. WayStmt.k-way-copy-out T75 (Row.out 21 (T75 .locals)) (λ u. Row.drop 21 (T75 .locals) u) 16 (Rows'.whole (Declared'.row Place.the-type)) (λ u. At.getAt (Passed.the-type .parts) 1
+  abbrev s71 : (bs : List.List Nat.ℕ) → Typed.Both T74 T76
+  s71 = λ bs. Relend.k-back-sl (Element.type) T74 34 4 2 8 (Syntax.tyRef (Syntax.named 2) Syntax.mut Element.behind) (Syntax.tyRef Syntax.erased Syntax.mut Element.behind) Row.off (λ x. x) λ x. x
+
+  abbrev s73 : (bs : List.List Nat.ℕ) → Typed.Both T76 T78
+  s73 = λ bs. WayStmt.k-way-copy-out T76 (Row.out 21 (T76 .locals)) (λ u. Row.drop 21 (T76 .locals) u) 16 (Rows'.whole (Declared'.row Place.the-type)) (λ u. At.getAt (Passed.the-type .parts) 1
       (Passed.struct .as-values (u .1 .1 .1 .1 .1 .1 .1 .1 .1 .1 .1 .1 .1 .1 .1 .1 .1 .1 .1 .1 .1 .0))) (λ T′. record
       { locals = Row.setRow 21 (21, Rows'.whole (Declared'.row Passed.the-type)) T′; slots = List.[] }) (λ u T′ m′. Row.set 21 (21, Rows'.whole (Declared'.row Passed.the-type)) (u .1 .1 .1 .1 .1 .1 .1 .1
       .1 .1 .1 .1 .1 .1 .1 .1 .1 .1 .1 .1 .1 .0) T′ m′) (λ u. Unit) λ u. Unit
 
-  abbrev s73 : (bs : List.List Nat.ℕ) → Typed.Mo T77 → Typed.Mo T78
-  s73 = λ bs. Scalar.n-room T77 21 y10
+  abbrev s74 : (bs : List.List Nat.ℕ) → Typed.Mo T78 → Typed.Mo T79
+  s74 = λ bs. Scalar.n-room T78 21 y10
 
-  abbrev s75 : (bs : List.List Nat.ℕ) → Typed.Gives T78 T80
-  s75 = λ bs. Reshare.k-sl-reshare (Referent.rtF (Referent.fInt Syntax.w16)) T78 3 35 1 9 (Syntax.tyRef (Syntax.named 1) Syntax.mut (Syntax.tyInt Syntax.w16)) (Syntax.tyRef Syntax.erased Syntax.imm
+  abbrev s76 : (bs : List.List Nat.ℕ) → Typed.Gives T79 T81
+  s76 = λ bs. Reshare.k-sl-reshare (Referent.rtF (Referent.fInt Syntax.w16)) T79 3 35 1 9 (Syntax.tyRef (Syntax.named 1) Syntax.mut (Syntax.tyInt Syntax.w16)) (Syntax.tyRef Syntax.erased Syntax.imm
       (Syntax.tyInt Syntax.w16)) Row.off λ x. x
 
-  abbrev s76 : (bs : List.List Nat.ℕ) → Typed.Asks T80 T81
-  s76 = λ bs. Relend.k-sl-aggregate (Referent.rtF (Referent.fInt Syntax.w16)) (Relend.asShr (Referent.rtF (Referent.fInt Syntax.w16))) T80 35 36 9 (Syntax.tyRef Syntax.erased Syntax.imm (Syntax.tyInt
+  abbrev s77 : (bs : List.List Nat.ℕ) → Typed.Asks T81 T82
+  s77 = λ bs. Relend.k-sl-aggregate (Referent.rtF (Referent.fInt Syntax.w16)) (Relend.asShr (Referent.rtF (Referent.fInt Syntax.w16))) T81 35 36 9 (Syntax.tyRef Syntax.erased Syntax.imm (Syntax.tyInt
       Syntax.w16)) (Syntax.tyRef Syntax.erased Syntax.imm (Syntax.tyInt Syntax.w16)) (λ x. x) (Scalar.oFld 3 (List._∷_ (Syntax.field 1) List.[]) (Syntax.tyInt Syntax.w64) 8 λ v. Shared.lenV (v .0))
 
-  abbrev s78 : (bs : List.List Nat.ℕ) → Typed.Gives T81 T83
-  s78 = λ bs. Relend.k-sl-relend (Referent.rtF (Referent.fInt Syntax.w16)) T81 5 37 3 10 (Syntax.tyRef (Syntax.named 3) Syntax.mut (Syntax.tyInt Syntax.w16)) (Syntax.tyRef Syntax.erased Syntax.mut
+  abbrev s79 : (bs : List.List Nat.ℕ) → Typed.Gives T82 T84
+  s79 = λ bs. Relend.k-sl-relend (Referent.rtF (Referent.fInt Syntax.w16)) T82 5 37 3 10 (Syntax.tyRef (Syntax.named 3) Syntax.mut (Syntax.tyInt Syntax.w16)) (Syntax.tyRef Syntax.erased Syntax.mut
       (Syntax.tyInt Syntax.w16)) Row.off λ x. x
 
-  abbrev s79 : (bs : List.List Nat.ℕ) → Typed.Asks T83 T84
-  s79 = λ bs. Relend.k-sl-aggregate (Referent.rtF (Referent.fInt Syntax.w16)) (Relend.asMut (Referent.rtF (Referent.fInt Syntax.w16))) T83 37 38 10 (Syntax.tyRef Syntax.erased Syntax.mut (Syntax.tyInt
+  abbrev s80 : (bs : List.List Nat.ℕ) → Typed.Asks T84 T85
+  s80 = λ bs. Relend.k-sl-aggregate (Referent.rtF (Referent.fInt Syntax.w16)) (Relend.asMut (Referent.rtF (Referent.fInt Syntax.w16))) T84 37 38 10 (Syntax.tyRef Syntax.erased Syntax.mut (Syntax.tyInt
       Syntax.w16)) (Syntax.tyRef Syntax.erased Syntax.mut (Syntax.tyInt Syntax.w16)) (λ x. x) (Scalar.oFld 5 (List._∷_ (Syntax.field 1) List.[]) (Syntax.tyInt Syntax.w64) 8 λ v. Shared.lenV (v .0))
 
-  abbrev s80 : (bs : List.List Nat.ℕ) → Typed.Both T84 T85
-  s80 = λ bs. Call.callB ps·7 r·7 (claims· .14) (claims· .15) T84 (
+  abbrev s81 : (bs : List.List Nat.ℕ) → Typed.Both T85 T86
+  s81 = λ bs. Call.callB ps·7 r·7 (claims· .14) (claims· .15) T85 (
     record { pos = 36; ty = Syntax.tyRef Syntax.erased Syntax.imm (Syntax.tyInt Syntax.w16); ref = λ x. x },
     (
       record { pos = 38; ty = Syntax.tyRef Syntax.erased Syntax.mut (Syntax.tyInt Syntax.w16); ref = λ x. x },
@@ -1887,126 +1881,103 @@ module _ (claims· : Claims) where
           Bool.bAt 14 λ x. x,
           (
             record { pos = 8; ty = Syntax.tyRef (Syntax.named 4) Syntax.imm (Syntax.tyArray (Syntax.tyInt Syntax.w16) 768); ref = λ x. x },
-            (
-              record { pos = 9; st = List.[]; d = 0; at = λ x. x },
-              (
-                record { pos = 10; st = List.[]; d = 0; at = λ x. x },
-                (
-                  Num.vAt 11 λ x. x,
-                  (
-                    Num.vFld 18 (List._∷_ (Syntax.field 0) List.[]) 0 λ x. Plan.struct .as-values x .0,
-                    (
-                      Num.vFld 19 (List._∷_ (Syntax.field 0) List.[]) 0 λ x. Plan.struct .as-values x .0,
-                      (
-                        Num.vFld 18 (List._∷_ (Syntax.field 1) List.[]) 8 λ x. Plan.struct .as-values x .1 .0,
-                        (Num.vFld 19 (List._∷_ (Syntax.field 1) List.[]) 8 λ x. Plan.struct .as-values x .1 .0, (Bool.bAt 12 λ x. x, tt)),
-                      ),
-                    ),
-                  ),
-                ),
-              ),
-            ),
+            (record { pos = 9; st = List.[]; d = 0; at = λ x. x }, (record { pos = 10; st = List.[]; d = 0; at = λ x. x }, (Num.vAt 11 λ x. x, (Num.vAt 17 λ x. x, (Bool.bAt 12 λ x. x, tt))))),
           ),
         ),
       ),
     ),
-  ) 26 (List._∷_ 9 (List._∷_ 10 (List._∷_ 4 List.[]))) Syntax.tyUnit
-
-  abbrev s81 : (bs : List.List Nat.ℕ) → Typed.Mo T85 → Typed.Mo T86
-  s81 = λ bs. Scalar.n-room T85 36 y4
+  ) 26 (List._∷_
+      9 (List._∷_ 10 (List._∷_ 4 List.[]))) Syntax.tyUnit
 
   abbrev s82 : (bs : List.List Nat.ℕ) → Typed.Mo T86 → Typed.Mo T87
-  s82 = λ bs. Scalar.n-room T86 18 y1
+  s82 = λ bs. Scalar.n-room T86 36 y4
 
   abbrev s83 : (bs : List.List Nat.ℕ) → Typed.Mo T87 → Typed.Mo T88
-  s83 = λ bs. Scalar.n-room T87 19 y1
+  s83 = λ bs. Scalar.n-room T87 26 Syntax.tyUnit
 
-  abbrev s84 : (bs : List.List Nat.ℕ) → Typed.Mo T88 → Typed.Mo T89
-  s84 = λ bs. Scalar.n-room T88 26 Syntax.tyUnit
+  abbrev s85 : (bs : List.List Nat.ℕ) → Typed.Mo T88 → Typed.Mo T90
+  s85 = λ bs. Reshare.n-back-sl-shr (Referent.rtF (Referent.fInt Syntax.w16)) T88 3 1 9 (Syntax.tyRef (Syntax.named 1) Syntax.mut (Syntax.tyInt Syntax.w16)) Row.off λ x. x
 
-  abbrev s86 : (bs : List.List Nat.ℕ) → Typed.Mo T89 → Typed.Mo T91
-  s86 = λ bs. Reshare.n-back-sl-shr (Referent.rtF (Referent.fInt Syntax.w16)) T89 3 1 9 (Syntax.tyRef (Syntax.named 1) Syntax.mut (Syntax.tyInt Syntax.w16)) Row.off λ x. x
-
-  abbrev s89 : (bs : List.List Nat.ℕ) → Typed.Both T91 T94
-  s89 = λ bs. Relend.k-back-sl (Referent.rtF (Referent.fInt Syntax.w16)) T91 38 5 3 10 (Syntax.tyRef (Syntax.named 3) Syntax.mut (Syntax.tyInt Syntax.w16)) (Syntax.tyRef Syntax.erased Syntax.mut
+  abbrev s88 : (bs : List.List Nat.ℕ) → Typed.Both T90 T93
+  s88 = λ bs. Relend.k-back-sl (Referent.rtF (Referent.fInt Syntax.w16)) T90 38 5 3 10 (Syntax.tyRef (Syntax.named 3) Syntax.mut (Syntax.tyInt Syntax.w16)) (Syntax.tyRef Syntax.erased Syntax.mut
       (Syntax.tyInt Syntax.w16)) Row.off (λ x. x) λ x. x
 
-  abbrev s90 : (bs : List.List Nat.ℕ) → Typed.Gives T94 T95
-  s90 = λ bs. Know.k-sl-known (Referent.fInt Syntax.w16) T94 5 3 (Syntax.tyRef (Syntax.named 3) Syntax.mut (Syntax.tyInt Syntax.w16)) Row.off 0 λ x. x
+  abbrev s89 : (bs : List.List Nat.ℕ) → Typed.Gives T93 T94
+  s89 = λ bs. Know.k-sl-known (Referent.fInt Syntax.w16) T93 5 3 (Syntax.tyRef (Syntax.named 3) Syntax.mut (Syntax.tyInt Syntax.w16)) Row.off 0 λ x. x
 
-  abbrev s92 : (bs : List.List Nat.ℕ) → Typed.Asks T95 T97
-  s92 = λ bs. Scalar.k-op2 T95 (Syntax.add Syntax.unsigned) (Scalar.oAt 17 (Syntax.tyInt Syntax.w64) (Row.valS (Row.sInt Syntax.w64))) (Scalar.oInt Syntax.w64 1) 17 (Rows'.sc-here (Row.sInt
+  abbrev s91 : (bs : List.List Nat.ℕ) → Typed.Asks T94 T96
+  s91 = λ bs. Scalar.k-op2 T94 (Syntax.add Syntax.unsigned) (Scalar.oAt 17 (Syntax.tyInt Syntax.w64) (Row.valS (Row.sInt Syntax.w64))) (Scalar.oInt Syntax.w64 1) 17 (Rows'.sc-here (Row.sInt
       Syntax.w64)) (Row.sInt Syntax.w64 .of)
 
-  abbrev s93 : (bs : List.List Nat.ℕ) → Typed.Mo T97 → Typed.Mo T98
-  s93 = λ bs. Scalar.n-room T97 22 Syntax.tyBool
+  abbrev s92 : (bs : List.List Nat.ℕ) → Typed.Mo T96 → Typed.Mo T97
+  s92 = λ bs. Scalar.n-room T96 22 Syntax.tyBool
 
-  abbrev s94 : (bs : List.List Nat.ℕ) → Typed.Both T12 T99
-  s94 = λ bs. WayStmt.k-way-copy-out T12 (Row.out 16 (T12 .locals)) (λ u. Row.drop 16 (T12 .locals) u) 24 (Rows'.whole (Declared'.row BitPosition.the-type)) (λ u. At.getAt (Place.the-type .parts) 0
+  abbrev s93 : (bs : List.List Nat.ℕ) → Typed.Both T12 T98
+  s93 = λ bs. WayStmt.k-way-copy-out T12 (Row.out 16 (T12 .locals)) (λ u. Row.drop 16 (T12 .locals) u) 24 (Rows'.whole (Declared'.row BitPosition.the-type)) (λ u. At.getAt (Place.the-type .parts) 0
       (Place.struct .as-values (u .1 .1 .1 .1 .1 .1 .1 .1 .1 .1 .1 .1 .1 .1 .1 .1 .0))) (λ T′. record { locals = Row.setRow 16 (16, Rows'.whole (Declared'.row Place.the-type)) T′; slots = List.[] }) (λ u
       T′ m′. Row.set 16 (16, Rows'.whole (Declared'.row Place.the-type)) (u .1 .1 .1 .1 .1 .1 .1 .1 .1 .1 .1 .1 .1 .1 .1 .1 .0) T′ m′) (λ u. Unit) λ u. Unit
 
-  abbrev s95 : (bs : List.List Nat.ℕ) → Typed.Both T99 T100
-  s95 = λ bs. Call.callB ps·8 r·8 (claims· .16) (claims· .17) T99
+  abbrev s94 : (bs : List.List Nat.ℕ) → Typed.Both T98 T99
+  s94 = λ bs. Call.callB ps·8 r·8 (claims· .16) (claims· .17) T98
       (record { pos = 1; ty = Syntax.tyRef (Syntax.named 0) Syntax.imm (Syntax.tyInt Syntax.w8); ref = λ x. x }, (record { pos = 24; st = List.[]; d = 0; at = λ x. x }, tt)) 39 (List._∷_ 0 List.[])
       Syntax.tyBool
 
-  abbrev s96 : (bs : List.List Nat.ℕ) → Typed.Mo T100 → Typed.Mo T102
-  s96 = λ bs. Scalar.n-room T100 24 y7
+  abbrev s95 : (bs : List.List Nat.ℕ) → Typed.Mo T99 → Typed.Mo T101
+  s95 = λ bs. Scalar.n-room T99 24 y7
+
+  abbrev s96 : (bs : List.List Nat.ℕ) → Typed.Mo T101 → Typed.Mo T102
+  s96 = λ bs. Scalar.n-room T101 16 y9
 
   abbrev s97 : (bs : List.List Nat.ℕ) → Typed.Mo T102 → Typed.Mo T103
-  s97 = λ bs. Scalar.n-room T102 16 y9
+  s97 = λ bs. Scalar.n-room T102 39 Syntax.tyBool
 
   abbrev s98 : (bs : List.List Nat.ℕ) → Typed.Mo T103 → Typed.Mo T104
-  s98 = λ bs. Scalar.n-room T103 39 Syntax.tyBool
+  s98 = λ bs. Make.n-enum-make Lined.the-type T103 0 λ m. Lined.enum .make (Logic.inr (Logic.inl tt))
 
   abbrev s99 : (bs : List.List Nat.ℕ) → Typed.Mo T104 → Typed.Mo T105
-  s99 = λ bs. Make.n-enum-make Lined.the-type T104 0 λ m. Lined.enum .make (Logic.inr (Logic.inl tt))
+  s99 = λ bs. Scalar.n-room T104 11 (Syntax.tyInt Syntax.w64)
 
   abbrev s100 : (bs : List.List Nat.ℕ) → Typed.Mo T105 → Typed.Mo T106
-  s100 = λ bs. Scalar.n-room T105 11 (Syntax.tyInt Syntax.w64)
+  s100 = λ bs. Scalar.n-room T105 12 Syntax.tyBool
 
   abbrev s101 : (bs : List.List Nat.ℕ) → Typed.Mo T106 → Typed.Mo T107
-  s101 = λ bs. Scalar.n-room T106 12 Syntax.tyBool
+  s101 = λ bs. Scalar.n-room T106 13 (Syntax.tyInt Syntax.w32)
 
   abbrev s102 : (bs : List.List Nat.ℕ) → Typed.Mo T107 → Typed.Mo T108
-  s102 = λ bs. Scalar.n-room T107 13 (Syntax.tyInt Syntax.w32)
+  s102 = λ bs. Scalar.n-room T107 14 Syntax.tyBool
 
   abbrev s103 : (bs : List.List Nat.ℕ) → Typed.Mo T108 → Typed.Mo T109
-  s103 = λ bs. Scalar.n-room T108 14 Syntax.tyBool
+  s103 = λ bs. Scalar.n-room T108 15 (Syntax.tyInt Syntax.w64)
 
   abbrev s104 : (bs : List.List Nat.ℕ) → Typed.Mo T109 → Typed.Mo T110
-  s104 = λ bs. Scalar.n-room T109 15 (Syntax.tyInt Syntax.w64)
+  s104 = λ bs. Scalar.n-room T109 17 (Syntax.tyInt Syntax.w64)
 
-  abbrev s105 : (bs : List.List Nat.ℕ) → Typed.Mo T110 → Typed.Mo T111
-  s105 = λ bs. Scalar.n-room T110 17 (Syntax.tyInt Syntax.w64)
+  abbrev s105 : (bs : List.List Nat.ℕ) → Typed.Mo T101 → Typed.Mo T111
+  s105 = λ bs. Scalar.n-room T101 39 Syntax.tyBool
 
-  abbrev s106 : (bs : List.List Nat.ℕ) → Typed.Mo T102 → Typed.Mo T112
-  s106 = λ bs. Scalar.n-room T102 39 Syntax.tyBool
+  abbrev s106 : (bs : List.List Nat.ℕ) → Typed.Mo T100 → Typed.Mo T112
+  s106 = λ bs. Make.n-enum-make Lined.the-type T100 0 λ m. Lined.enum .make (Logic.inl (m .1 .1 .1 .1 .1 .1 .1 .1 .1 .1 .1 .1 .1 .1 .1 .1 .0, tt))
 
-  abbrev s107 : (bs : List.List Nat.ℕ) → Typed.Mo T101 → Typed.Mo T113
-  s107 = λ bs. Make.n-enum-make Lined.the-type T101 0 λ m. Lined.enum .make (Logic.inl (m .1 .1 .1 .1 .1 .1 .1 .1 .1 .1 .1 .1 .1 .1 .1 .1 .0, tt))
+  abbrev s107 : (bs : List.List Nat.ℕ) → Typed.Mo T112 → Typed.Mo T113
+  s107 = λ bs. Scalar.n-room T112 13 (Syntax.tyInt Syntax.w32)
 
   abbrev s108 : (bs : List.List Nat.ℕ) → Typed.Mo T113 → Typed.Mo T114
-  s108 = λ bs. Scalar.n-room T113 13 (Syntax.tyInt Syntax.w32)
+  s108 = λ bs. Scalar.n-room T113 14 Syntax.tyBool
 
   abbrev s109 : (bs : List.List Nat.ℕ) → Typed.Mo T114 → Typed.Mo T115
-  s109 = λ bs. Scalar.n-room T114 14 Syntax.tyBool
+  s109 = λ bs. Scalar.n-room T114 15 (Syntax.tyInt Syntax.w64)
 
   abbrev s110 : (bs : List.List Nat.ℕ) → Typed.Mo T115 → Typed.Mo T116
-  s110 = λ bs. Scalar.n-room T115 15 (Syntax.tyInt Syntax.w64)
+  s110 = λ bs. Scalar.n-room T115 16 y9
 
   abbrev s111 : (bs : List.List Nat.ℕ) → Typed.Mo T116 → Typed.Mo T117
-  s111 = λ bs. Scalar.n-room T116 16 y9
+  s111 = λ bs. Scalar.n-room T116 17 (Syntax.tyInt Syntax.w64)
 
   abbrev s112 : (bs : List.List Nat.ℕ) → Typed.Mo T117 → Typed.Mo T118
-  s112 = λ bs. Scalar.n-room T117 17 (Syntax.tyInt Syntax.w64)
+  s112 = λ bs. Scalar.n-room T117 11 (Syntax.tyInt Syntax.w64)
 
   abbrev s113 : (bs : List.List Nat.ℕ) → Typed.Mo T118 → Typed.Mo T119
-  s113 = λ bs. Scalar.n-room T118 11 (Syntax.tyInt Syntax.w64)
-
-  abbrev s114 : (bs : List.List Nat.ℕ) → Typed.Mo T119 → Typed.Mo T120
-  s114 = λ bs. Scalar.n-room T119 12 Syntax.tyBool
+  s113 = λ bs. Scalar.n-room T118 12 Syntax.tyBool
 
   abbrev put0 : List.List (Referent.rtF (Referent.fInt Syntax.w16) .Denot) × List.List (Element.type .Denot) × List.List (Referent.rtF (Referent.fInt Syntax.w16) .Denot) × Rows'.whole (Declared'.row
       Place.the-type) .Mod × Rows'.sc-here (Row.sInt Syntax.w64) .Mod → Typed.Mo T11 → Typed.Mo T11
@@ -2024,8 +1995,8 @@ module _ (claims· : Claims) where
           : Plain.Known 𝓤 H A W 𝓣 0 ps·1 r·1 (claims· .2) (claims· .3) "steps::plan_at") (known2 : Plain.Known 𝓤 H A W 𝓣 0 ps·2 r·2 (claims· .4) (claims· .5) "pass::window_plan") (known3 : Plain.Known 𝓤 H
           A W 𝓣 1 ps·3 r·3 (claims· .6) (claims· .7) "lines::enter") (known4 : Plain.Known 𝓤 H A W 𝓣 1 ps·4 r·4 (claims· .8) (claims· .9) "block::records::load_set") (known5 : Plain.Known 𝓤 H A W 𝓣 2 ps·5
           r·5 (claims· .10) (claims· .11) "pass::pass") (known6 : Plain.Known 𝓤 H A W 𝓣 1 ps·6 r·6 (claims· .12) (claims· .13) "block::records::store_set") (known7 : Plain.Known 𝓤 H A W 𝓣 3 ps·7 r·7
-          (claims· .14) (claims· .15) "map::windows::emit_pass") (known8 : Plain.Known 𝓤 H A W 𝓣 1 ps·8 r·8 (claims· .16) (claims· .17) "bits::is_past") → Statement.Triple 𝓤 (Wp.WpFn 𝓤 H (𝓣 .C) (𝓣 .Λ)
-          (Function.fnOf 5 ps r xs m hs body)) (Function.plainOf 𝓤 H A 5 ps r Pre· Post·)
+          (claims· .14) (claims· .15) "block::reading::emit_pass_at") (known8 : Plain.Known 𝓤 H A W 𝓣 1 ps·8 r·8 (claims· .16) (claims· .17) "bits::is_past") → Statement.Triple 𝓤 (Wp.WpFn 𝓤 H (𝓣 .C) (𝓣
+          .Λ) (Function.fnOf 5 ps r xs m hs body)) (Function.plainOf 𝓤 H A 5 ps r Pre· Post·)
 
     module _ (Inv·0 : InvT-loop) (μ·0 : MeasureT-loop) where
       abbrev at0 : (bs : List.List Nat.ℕ) → Typed.TF T15 O4
@@ -2094,344 +2065,341 @@ module _ (claims· : Claims) where
       abbrev at21 : (bs : List.List Nat.ℕ) → Typed.TF T52 O5
       at21 = λ bs. λ Ψ. Typed.pass T52 T53 (s48 bs) (at20 bs Ψ)
 
-      abbrev at22 : (bs : List.List Nat.ℕ) → Typed.TF T51 O5
-      at22 = λ bs. λ Ψ. Typed.pass T51 T52 (s47 bs) (at21 bs Ψ)
+      abbrev at22 : (bs : List.List Nat.ℕ) → Typed.TF T50 O5
+      at22 = λ bs. λ Ψ. Typed.pass T50 T52 (s47 bs) (at21 bs Ψ)
 
-      abbrev at23 : (bs : List.List Nat.ℕ) → Typed.TF T49 O5
-      at23 = λ bs. λ Ψ. Typed.pass T49 T51 (s46 bs) (at22 bs Ψ)
+      abbrev at23 : (bs : List.List Nat.ℕ) → Typed.TF T66 O5
+      at23 = λ bs. Typed.atNext O5
 
-      abbrev at24 : (bs : List.List Nat.ℕ) → Typed.TF T66 O5
-      at24 = λ bs. Typed.atNext O5
+      abbrev at24 : (bs : List.List Nat.ℕ) → Typed.TF T50 O5
+      at24 = λ bs. λ Ψ. Typed.pass T50 T66 (s61 bs) (at23 bs Ψ)
 
-      abbrev at25 : (bs : List.List Nat.ℕ) → Typed.TF T49 O5
-      at25 = λ bs. λ Ψ. Typed.pass T49 T66 (s61 bs) (at24 bs Ψ)
+      abbrev at25 : (bs : List.List Nat.ℕ) → Typed.TF T50 O5
+      at25 = λ bs. Scalar.Φcond T50 O5 25 (λ x. x) (at22 bs) (at24 bs)
 
-      abbrev at26 : (bs : List.List Nat.ℕ) → Typed.TF T49 O5
-      at26 = λ bs. Scalar.Φcond T49 O5 25 (λ x. x) (at23 bs) (at25 bs)
+      abbrev at26 : (bs : List.List Nat.ℕ) → Typed.TF T94 O3
+      at26 = λ bs. λ Ψ. Typed.ask (s91 bs) (Typed.pass T96 T97 (s92 bs) (Typed.atNext O3 Ψ))
 
-      abbrev at27 : (bs : List.List Nat.ℕ) → Typed.TF T95 O3
-      at27 = λ bs. λ Ψ. Typed.ask (s92 bs) (Typed.pass T97 T98 (s93 bs) (Typed.atNext O3 Ψ))
+      abbrev at27 : (bs : List.List Nat.ℕ) → Typed.TF T94 O3
+      at27 = λ bs. λ Ψ. at26 bs Ψ
 
-      abbrev at28 : (bs : List.List Nat.ℕ) → Typed.TF T95 O3
-      at28 = λ bs. λ Ψ. at27 bs Ψ
+      abbrev at28 : (bs : List.List Nat.ℕ) → Typed.TF T93 O3
+      at28 = λ bs. λ Ψ. Typed.give (s89 bs) (at27 bs Ψ)
 
-      abbrev at29 : (bs : List.List Nat.ℕ) → Typed.TF T94 O3
-      at29 = λ bs. λ Ψ. Typed.give (s90 bs) (at28 bs Ψ)
+      abbrev at29 : (bs : List.List Nat.ℕ) → Typed.TF T90 O3
+      at29 = λ bs. λ Ψ. Typed.both (s88 bs) (at28 bs Ψ)
 
-      abbrev at30 : (bs : List.List Nat.ℕ) → Typed.TF T91 O3
-      at30 = λ bs. λ Ψ. Typed.both (s89 bs) (at29 bs Ψ)
+      abbrev at30 : (bs : List.List Nat.ℕ) → Typed.TF T90 O3
+      at30 = λ bs. λ Ψ. at29 bs Ψ
 
-      abbrev at31 : (bs : List.List Nat.ℕ) → Typed.TF T91 O3
+      abbrev at31 : (bs : List.List Nat.ℕ) → Typed.TF T90 O3
       at31 = λ bs. λ Ψ. at30 bs Ψ
 
-      abbrev at32 : (bs : List.List Nat.ℕ) → Typed.TF T91 O3
-      at32 = λ bs. λ Ψ. at31 bs Ψ
+      abbrev at32 : (bs : List.List Nat.ℕ) → Typed.TF T88 O3
+      at32 = λ bs. λ Ψ. Typed.pass T88 T90 (s85 bs) (at31 bs Ψ)
 
-      abbrev at33 : (bs : List.List Nat.ℕ) → Typed.TF T89 O3
-      at33 = λ bs. λ Ψ. Typed.pass T89 T91 (s86 bs) (at32 bs Ψ)
+      abbrev at33 : (bs : List.List Nat.ℕ) → Typed.TF T88 O3
+      at33 = λ bs. λ Ψ. at32 bs Ψ
 
-      abbrev at34 : (bs : List.List Nat.ℕ) → Typed.TF T89 O3
-      at34 = λ bs. λ Ψ. at33 bs Ψ
+      abbrev at34 : (bs : List.List Nat.ℕ) → Typed.TF T87 O3
+      at34 = λ bs. λ Ψ. Typed.pass T87 T88 (s83 bs) (at33 bs Ψ)
 
-      abbrev at35 : (bs : List.List Nat.ℕ) → Typed.TF T88 O3
-      at35 = λ bs. λ Ψ. Typed.pass T88 T89 (s84 bs) (at34 bs Ψ)
+      abbrev at35 : (bs : List.List Nat.ℕ) → Typed.TF T86 O3
+      at35 = λ bs. λ Ψ. Typed.pass T86 T87 (s82 bs) (at34 bs Ψ)
 
-      abbrev at36 : (bs : List.List Nat.ℕ) → Typed.TF T87 O3
-      at36 = λ bs. λ Ψ. Typed.pass T87 T88 (s83 bs) (at35 bs Ψ)
+      abbrev at36 : (bs : List.List Nat.ℕ) → Typed.TF T85 O3
+      at36 = λ bs. λ Ψ. Typed.both (s81 bs) (at35 bs Ψ)
 
-      abbrev at37 : (bs : List.List Nat.ℕ) → Typed.TF T86 O3
-      at37 = λ bs. λ Ψ. Typed.pass T86 T87 (s82 bs) (at36 bs Ψ)
+      abbrev at37 : (bs : List.List Nat.ℕ) → Typed.TF T84 O3
+      at37 = λ bs. λ Ψ. Typed.ask (s80 bs) (at36 bs Ψ)
 
-      abbrev at38 : (bs : List.List Nat.ℕ) → Typed.TF T85 O3
-      at38 = λ bs. λ Ψ. Typed.pass T85 T86 (s81 bs) (at37 bs Ψ)
+      abbrev at38 : (bs : List.List Nat.ℕ) → Typed.TF T82 O3
+      at38 = λ bs. λ Ψ. Typed.give (s79 bs) (at37 bs Ψ)
 
-      abbrev at39 : (bs : List.List Nat.ℕ) → Typed.TF T84 O3
-      at39 = λ bs. λ Ψ. Typed.both (s80 bs) (at38 bs Ψ)
+      abbrev at39 : (bs : List.List Nat.ℕ) → Typed.TF T82 O3
+      at39 = λ bs. λ Ψ. at38 bs Ψ
 
-      abbrev at40 : (bs : List.List Nat.ℕ) → Typed.TF T83 O3
-      at40 = λ bs. λ Ψ. Typed.ask (s79 bs) (at39 bs Ψ)
+      abbrev at40 : (bs : List.List Nat.ℕ) → Typed.TF T81 O3
+      at40 = λ bs. λ Ψ. Typed.ask (s77 bs) (at39 bs Ψ)
 
-      abbrev at41 : (bs : List.List Nat.ℕ) → Typed.TF T81 O3
-      at41 = λ bs. λ Ψ. Typed.give (s78 bs) (at40 bs Ψ)
+      abbrev at41 : (bs : List.List Nat.ℕ) → Typed.TF T79 O3
+      at41 = λ bs. λ Ψ. Typed.give (s76 bs) (at40 bs Ψ)
 
-      abbrev at42 : (bs : List.List Nat.ℕ) → Typed.TF T81 O3
+      abbrev at42 : (bs : List.List Nat.ℕ) → Typed.TF T79 O3
       at42 = λ bs. λ Ψ. at41 bs Ψ
 
-      abbrev at43 : (bs : List.List Nat.ℕ) → Typed.TF T80 O3
-      at43 = λ bs. λ Ψ. Typed.ask (s76 bs) (at42 bs Ψ)
+      abbrev at43 : (bs : List.List Nat.ℕ) → Typed.TF T78 O3
+      at43 = λ bs. λ Ψ. Typed.pass T78 T79 (s74 bs) (at42 bs Ψ)
 
-      abbrev at44 : (bs : List.List Nat.ℕ) → Typed.TF T78 O3
-      at44 = λ bs. λ Ψ. Typed.give (s75 bs) (at43 bs Ψ)
+      abbrev at44 : (bs : List.List Nat.ℕ) → Typed.TF T76 O3
+      at44 = λ bs. λ Ψ. Typed.both (s73 bs) (at43 bs Ψ)
 
-      abbrev at45 : (bs : List.List Nat.ℕ) → Typed.TF T78 O3
+      abbrev at45 : (bs : List.List Nat.ℕ) → Typed.TF T76 O3
       at45 = λ bs. λ Ψ. at44 bs Ψ
 
-      abbrev at46 : (bs : List.List Nat.ℕ) → Typed.TF T77 O3
-      at46 = λ bs. λ Ψ. Typed.pass T77 T78 (s73 bs) (at45 bs Ψ)
+      abbrev at46 : (bs : List.List Nat.ℕ) → Typed.TF T74 O3
+      at46 = λ bs. λ Ψ. Typed.both (s71 bs) (at45 bs Ψ)
 
-      abbrev at47 : (bs : List.List Nat.ℕ) → Typed.TF T75 O3
-      at47 = λ bs. λ Ψ. Typed.both (s72 bs) (at46 bs Ψ)
+      abbrev at47 : (bs : List.List Nat.ℕ) → Typed.TF T74 O3
+      at47 = λ bs. λ Ψ. at46 bs Ψ
 
-      abbrev at48 : (bs : List.List Nat.ℕ) → Typed.TF T75 O3
-      at48 = λ bs. λ Ψ. at47 bs Ψ
+      abbrev at48 : (bs : List.List Nat.ℕ) → Typed.TF T73 O3
+      at48 = λ bs. λ Ψ. Typed.pass T73 T74 (s69 bs) (at47 bs Ψ)
 
-      abbrev at49 : (bs : List.List Nat.ℕ) → Typed.TF T73 O3
-      at49 = λ bs. λ Ψ. Typed.both (s70 bs) (at48 bs Ψ)
+      abbrev at49 : (bs : List.List Nat.ℕ) → Typed.TF T72 O3
+      at49 = λ bs. λ Ψ. Typed.pass T72 T73 (s68 bs) (at48 bs Ψ)
 
-      abbrev at50 : (bs : List.List Nat.ℕ) → Typed.TF T73 O3
-      at50 = λ bs. λ Ψ. at49 bs Ψ
+      abbrev at50 : (bs : List.List Nat.ℕ) → Typed.TF T71 O3
+      at50 = λ bs. λ Ψ. Typed.pass T71 T72 (s67 bs) (at49 bs Ψ)
 
-      abbrev at51 : (bs : List.List Nat.ℕ) → Typed.TF T72 O3
-      at51 = λ bs. λ Ψ. Typed.pass T72 T73 (s68 bs) (at50 bs Ψ)
+      abbrev at51 : (bs : List.List Nat.ℕ) → Typed.TF T70 O3
+      at51 = λ bs. λ Ψ. Typed.both (s66 bs) (at50 bs Ψ)
 
-      abbrev at52 : (bs : List.List Nat.ℕ) → Typed.TF T71 O3
-      at52 = λ bs. λ Ψ. Typed.pass T71 T72 (s67 bs) (at51 bs Ψ)
+      abbrev at52 : (bs : List.List Nat.ℕ) → Typed.TF T69 O3
+      at52 = λ bs. λ Ψ. Typed.ask (s65 bs) (at51 bs Ψ)
 
-      abbrev at53 : (bs : List.List Nat.ℕ) → Typed.TF T70 O3
-      at53 = λ bs. λ Ψ. Typed.both (s66 bs) (at52 bs Ψ)
+      abbrev at53 : (bs : List.List Nat.ℕ) → Typed.TF T67 O3
+      at53 = λ bs. λ Ψ. Typed.give (s64 bs) (at52 bs Ψ)
 
-      abbrev at54 : (bs : List.List Nat.ℕ) → Typed.TF T69 O3
-      at54 = λ bs. λ Ψ. Typed.ask (s65 bs) (at53 bs Ψ)
+      abbrev at54 : (bs : List.List Nat.ℕ) → Typed.TF T67 O3
+      at54 = λ bs. λ Ψ. at53 bs Ψ
 
-      abbrev at55 : (bs : List.List Nat.ℕ) → Typed.TF T67 O3
-      at55 = λ bs. λ Ψ. Typed.give (s64 bs) (at54 bs Ψ)
+      abbrev at55 : (bs : List.List Nat.ℕ) → Typed.TF T51 O3
+      at55 = λ bs. λ Ψ. Typed.both (s62 bs) (at54 bs Ψ)
 
-      abbrev at56 : (bs : List.List Nat.ℕ) → Typed.TF T67 O3
-      at56 = λ bs. λ Ψ. at55 bs Ψ
+      abbrev at56 : (bs : List.List Nat.ℕ) → Typed.TF T50 O3
+      at56 = λ bs. λ Ψ. at25 bs (Typed.wantNext T51 O3 (at55 bs Ψ) Ψ)
 
-      abbrev at57 : (bs : List.List Nat.ℕ) → Typed.TF T50 O3
-      at57 = λ bs. λ Ψ. Typed.both (s62 bs) (at56 bs Ψ)
+      abbrev at57 : (bs : List.List Nat.ℕ) → Typed.TF T49 O3
+      at57 = λ bs. λ Ψ. Typed.ask (s46 bs) (at56 bs Ψ)
 
-      abbrev at58 : (bs : List.List Nat.ℕ) → Typed.TF T49 O3
-      at58 = λ bs. λ Ψ. at26 bs (Typed.wantNext T50 O3 (at57 bs Ψ) Ψ)
+      abbrev at58 : (bs : List.List Nat.ℕ) → Typed.TF T47 O3
+      at58 = λ bs. λ Ψ. Typed.pass T47 T49 (s45 bs) (at57 bs Ψ)
 
-      abbrev at59 : (bs : List.List Nat.ℕ) → Typed.TF T48 O3
-      at59 = λ bs. λ Ψ. Typed.ask (s45 bs) (at58 bs Ψ)
+      abbrev at59 : (bs : List.List Nat.ℕ) → Typed.TF T47 O3
+      at59 = λ bs. λ Ψ. at58 bs Ψ
 
       abbrev at60 : (bs : List.List Nat.ℕ) → Typed.TF T46 O3
-      at60 = λ bs. λ Ψ. Typed.pass T46 T48 (s44 bs) (at59 bs Ψ)
+      at60 = λ bs. λ Ψ. Typed.give (s43 bs) (at59 bs Ψ)
 
-      abbrev at61 : (bs : List.List Nat.ℕ) → Typed.TF T46 O3
-      at61 = λ bs. λ Ψ. at60 bs Ψ
+      abbrev at61 : (bs : List.List Nat.ℕ) → Typed.TF T44 O3
+      at61 = λ bs. λ Ψ. Typed.both (s42 bs) (at60 bs Ψ)
 
-      abbrev at62 : (bs : List.List Nat.ℕ) → Typed.TF T45 O3
-      at62 = λ bs. λ Ψ. Typed.give (s42 bs) (at61 bs Ψ)
+      abbrev at62 : (bs : List.List Nat.ℕ) → Typed.TF T44 O3
+      at62 = λ bs. λ Ψ. at61 bs Ψ
 
       abbrev at63 : (bs : List.List Nat.ℕ) → Typed.TF T43 O3
-      at63 = λ bs. λ Ψ. Typed.both (s41 bs) (at62 bs Ψ)
+      at63 = λ bs. λ Ψ. Typed.pass T43 T44 (s40 bs) (at62 bs Ψ)
 
-      abbrev at64 : (bs : List.List Nat.ℕ) → Typed.TF T43 O3
-      at64 = λ bs. λ Ψ. at63 bs Ψ
+      abbrev at64 : (bs : List.List Nat.ℕ) → Typed.TF T42 O3
+      at64 = λ bs. λ Ψ. Typed.pass T42 T43 (s39 bs) (at63 bs Ψ)
 
-      abbrev at65 : (bs : List.List Nat.ℕ) → Typed.TF T42 O3
-      at65 = λ bs. λ Ψ. Typed.pass T42 T43 (s39 bs) (at64 bs Ψ)
+      abbrev at65 : (bs : List.List Nat.ℕ) → Typed.TF T41 O3
+      at65 = λ bs. λ Ψ. Typed.pass T41 T42 (s38 bs) (at64 bs Ψ)
 
-      abbrev at66 : (bs : List.List Nat.ℕ) → Typed.TF T41 O3
-      at66 = λ bs. λ Ψ. Typed.pass T41 T42 (s38 bs) (at65 bs Ψ)
+      abbrev at66 : (bs : List.List Nat.ℕ) → Typed.TF T40 O3
+      at66 = λ bs. λ Ψ. Typed.both (s37 bs) (at65 bs Ψ)
 
-      abbrev at67 : (bs : List.List Nat.ℕ) → Typed.TF T40 O3
-      at67 = λ bs. λ Ψ. Typed.both (s37 bs) (at66 bs Ψ)
+      abbrev at67 : (bs : List.List Nat.ℕ) → Typed.TF T39 O3
+      at67 = λ bs. λ Ψ. Typed.ask (s36 bs) (at66 bs Ψ)
 
-      abbrev at68 : (bs : List.List Nat.ℕ) → Typed.TF T39 O3
-      at68 = λ bs. λ Ψ. Typed.ask (s36 bs) (at67 bs Ψ)
+      abbrev at68 : (bs : List.List Nat.ℕ) → Typed.TF T36 O3
+      at68 = λ bs. λ Ψ. Typed.give (s35 bs) (at67 bs Ψ)
 
       abbrev at69 : (bs : List.List Nat.ℕ) → Typed.TF T36 O3
-      at69 = λ bs. λ Ψ. Typed.give (s35 bs) (at68 bs Ψ)
+      at69 = λ bs. λ Ψ. at68 bs Ψ
 
       abbrev at70 : (bs : List.List Nat.ℕ) → Typed.TF T36 O3
       at70 = λ bs. λ Ψ. at69 bs Ψ
 
-      abbrev at71 : (bs : List.List Nat.ℕ) → Typed.TF T36 O3
-      at71 = λ bs. λ Ψ. at70 bs Ψ
+      abbrev at71 : (bs : List.List Nat.ℕ) → Typed.TF T34 O3
+      at71 = λ bs. λ Ψ. Typed.both (s32 bs) (at70 bs Ψ)
 
       abbrev at72 : (bs : List.List Nat.ℕ) → Typed.TF T34 O3
-      at72 = λ bs. λ Ψ. Typed.both (s32 bs) (at71 bs Ψ)
+      at72 = λ bs. λ Ψ. at71 bs Ψ
 
-      abbrev at73 : (bs : List.List Nat.ℕ) → Typed.TF T34 O3
-      at73 = λ bs. λ Ψ. at72 bs Ψ
+      abbrev at73 : (bs : List.List Nat.ℕ) → Typed.TF T33 O3
+      at73 = λ bs. λ Ψ. Typed.both (s30 bs) (at72 bs Ψ)
 
-      abbrev at74 : (bs : List.List Nat.ℕ) → Typed.TF T33 O3
-      at74 = λ bs. λ Ψ. Typed.both (s30 bs) (at73 bs Ψ)
+      abbrev at74 : (bs : List.List Nat.ℕ) → Typed.TF T32 O3
+      at74 = λ bs. λ Ψ. Typed.ask (s29 bs) (at73 bs Ψ)
 
-      abbrev at75 : (bs : List.List Nat.ℕ) → Typed.TF T32 O3
-      at75 = λ bs. λ Ψ. Typed.ask (s29 bs) (at74 bs Ψ)
+      abbrev at75 : (bs : List.List Nat.ℕ) → Typed.TF T29 O3
+      at75 = λ bs. λ Ψ. Typed.give (s28 bs) (at74 bs Ψ)
 
       abbrev at76 : (bs : List.List Nat.ℕ) → Typed.TF T29 O3
-      at76 = λ bs. λ Ψ. Typed.give (s28 bs) (at75 bs Ψ)
+      at76 = λ bs. λ Ψ. at75 bs Ψ
 
       abbrev at77 : (bs : List.List Nat.ℕ) → Typed.TF T29 O3
       at77 = λ bs. λ Ψ. at76 bs Ψ
 
-      abbrev at78 : (bs : List.List Nat.ℕ) → Typed.TF T29 O3
-      at78 = λ bs. λ Ψ. at77 bs Ψ
+      abbrev at78 : (bs : List.List Nat.ℕ) → Typed.TF T28 O3
+      at78 = λ bs. λ Ψ. Typed.give (s25 bs) (at77 bs Ψ)
 
-      abbrev at79 : (bs : List.List Nat.ℕ) → Typed.TF T28 O3
-      at79 = λ bs. λ Ψ. Typed.give (s25 bs) (at78 bs Ψ)
+      abbrev at79 : (bs : List.List Nat.ℕ) → Typed.TF T26 O3
+      at79 = λ bs. λ Ψ. Typed.both (s24 bs) (at78 bs Ψ)
 
       abbrev at80 : (bs : List.List Nat.ℕ) → Typed.TF T26 O3
-      at80 = λ bs. λ Ψ. Typed.both (s24 bs) (at79 bs Ψ)
+      at80 = λ bs. λ Ψ. at79 bs Ψ
 
-      abbrev at81 : (bs : List.List Nat.ℕ) → Typed.TF T26 O3
-      at81 = λ bs. λ Ψ. at80 bs Ψ
+      abbrev at81 : (bs : List.List Nat.ℕ) → Typed.TF T25 O3
+      at81 = λ bs. λ Ψ. Typed.pass T25 T26 (s22 bs) (at80 bs Ψ)
 
-      abbrev at82 : (bs : List.List Nat.ℕ) → Typed.TF T25 O3
-      at82 = λ bs. λ Ψ. Typed.pass T25 T26 (s22 bs) (at81 bs Ψ)
+      abbrev at82 : (bs : List.List Nat.ℕ) → Typed.TF T24 O3
+      at82 = λ bs. λ Ψ. Typed.both (s21 bs) (at81 bs Ψ)
 
-      abbrev at83 : (bs : List.List Nat.ℕ) → Typed.TF T24 O3
-      at83 = λ bs. λ Ψ. Typed.both (s21 bs) (at82 bs Ψ)
+      abbrev at83 : (bs : List.List Nat.ℕ) → Typed.TF T23 O3
+      at83 = λ bs. λ Ψ. Typed.ask (s20 bs) (at82 bs Ψ)
 
-      abbrev at84 : (bs : List.List Nat.ℕ) → Typed.TF T23 O3
-      at84 = λ bs. λ Ψ. Typed.ask (s20 bs) (at83 bs Ψ)
+      abbrev at84 : (bs : List.List Nat.ℕ) → Typed.TF T21 O3
+      at84 = λ bs. λ Ψ. Typed.give (s19 bs) (at83 bs Ψ)
 
       abbrev at85 : (bs : List.List Nat.ℕ) → Typed.TF T21 O3
-      at85 = λ bs. λ Ψ. Typed.give (s19 bs) (at84 bs Ψ)
+      at85 = λ bs. λ Ψ. at84 bs Ψ
 
-      abbrev at86 : (bs : List.List Nat.ℕ) → Typed.TF T21 O3
-      at86 = λ bs. λ Ψ. at85 bs Ψ
+      abbrev at86 : (bs : List.List Nat.ℕ) → Typed.TF T20 O3
+      at86 = λ bs. λ Ψ. Typed.both (s17 bs) (at85 bs Ψ)
 
-      abbrev at87 : (bs : List.List Nat.ℕ) → Typed.TF T20 O3
-      at87 = λ bs. λ Ψ. Typed.both (s17 bs) (at86 bs Ψ)
+      abbrev at87 : (bs : List.List Nat.ℕ) → Typed.TF T14 O3
+      at87 = λ bs. λ Ψ. Typed.both (s16 bs) (at86 bs Ψ)
 
-      abbrev at88 : (bs : List.List Nat.ℕ) → Typed.TF T14 O3
-      at88 = λ bs. λ Ψ. Typed.both (s16 bs) (at87 bs Ψ)
+      abbrev at88 : (bs : List.List Nat.ℕ) → Typed.TF T13 O3
+      at88 = λ bs. λ Ψ. at7 bs (Typed.wantNext T14 O3 (at87 bs Ψ) Ψ)
 
-      abbrev at89 : (bs : List.List Nat.ℕ) → Typed.TF T13 O3
-      at89 = λ bs. λ Ψ. at7 bs (Typed.wantNext T14 O3 (at88 bs Ψ) Ψ)
+      abbrev at89 : (bs : List.List Nat.ℕ) → Typed.TF T11 O3
+      at89 = λ bs. λ Ψ. Typed.ask (s10 bs) (at88 bs Ψ)
 
-      abbrev at90 : (bs : List.List Nat.ℕ) → Typed.TF T11 O3
-      at90 = λ bs. λ Ψ. Typed.ask (s10 bs) (at89 bs Ψ)
-
-      abbrev at91 : (bs : List.List Nat.ℕ) → Typed.TF T11 O2
-      at91 = λ bs. Typed.LoopBy T11 O2 put0 (λ u vs. Inv·0 (Row.get 1 (T11 .locals) u .now) (Row.get 3 (T11 .locals) u .now) (Row.get 4 (T11 .locals) u .now) (Row.get 5 (T11 .locals) u .now) (Row.get
+      abbrev at90 : (bs : List.List Nat.ℕ) → Typed.TF T11 O2
+      at90 = λ bs. Typed.LoopBy T11 O2 put0 (λ u vs. Inv·0 (Row.get 1 (T11 .locals) u .now) (Row.get 3 (T11 .locals) u .now) (Row.get 4 (T11 .locals) u .now) (Row.get 5 (T11 .locals) u .now) (Row.get
           7 (T11 .locals) u) (Row.get 8 (T11 .locals) u .now) (Row.get 9 (T11 .locals) u) (Row.get 10 (T11 .locals) u) (Row.get 11 (T11 .locals) u) (Row.get 12 (T11 .locals) u) (Row.get 13 (T11 .locals)
           u) (Row.get 14 (T11 .locals) u) (Row.get 15 (T11 .locals) u) (Row.get 16 (T11 .locals) u) (Row.get 17 (T11 .locals) u) (vs .0) (vs .1) (vs .2) (vs .3) (vs .4)) (λ u vs. μ·0 (Row.get 1 (T11
           .locals) u .now) (Row.get 3 (T11 .locals) u .now) (Row.get 4 (T11 .locals) u .now) (Row.get 5 (T11 .locals) u .now) (Row.get 7 (T11 .locals) u) (Row.get 8 (T11 .locals) u .now) (Row.get 9 (T11
           .locals) u) (Row.get 10 (T11 .locals) u) (Row.get 11 (T11 .locals) u) (Row.get 12 (T11 .locals) u) (Row.get 13 (T11 .locals) u) (Row.get 14 (T11 .locals) u) (Row.get 15 (T11 .locals) u) (Row.get
-          16 (T11 .locals) u) (Row.get 17 (T11 .locals) u) (vs .0) (vs .1) (vs .2) (vs .3) (vs .4)) (at90 bs)
+          16 (T11 .locals) u) (Row.get 17 (T11 .locals) u) (vs .0) (vs .1) (vs .2) (vs .3) (vs .4)) (at89 bs)
 
-      abbrev at92 : (bs : List.List Nat.ℕ) → Typed.TF T11 O1
-      at92 = λ bs. λ Ψ. at91 bs (Typed.inBlock O1 Ψ)
+      abbrev at91 : (bs : List.List Nat.ℕ) → Typed.TF T11 O1
+      at91 = λ bs. λ Ψ. at90 bs (Typed.inBlock O1 Ψ)
 
-      abbrev at93 : (bs : List.List Nat.ℕ) → Typed.TF T111 O6
-      at93 = λ bs. Typed.atRet O6
+      abbrev at92 : (bs : List.List Nat.ℕ) → Typed.TF T110 O6
+      at92 = λ bs. Typed.atRet O6
 
-      abbrev at94 : (bs : List.List Nat.ℕ) → Typed.TF T110 O6
-      at94 = λ bs. λ Ψ. Typed.pass T110 T111 (s105 bs) (at93 bs Ψ)
+      abbrev at93 : (bs : List.List Nat.ℕ) → Typed.TF T109 O6
+      at93 = λ bs. λ Ψ. Typed.pass T109 T110 (s104 bs) (at92 bs Ψ)
 
-      abbrev at95 : (bs : List.List Nat.ℕ) → Typed.TF T109 O6
-      at95 = λ bs. λ Ψ. Typed.pass T109 T110 (s104 bs) (at94 bs Ψ)
+      abbrev at94 : (bs : List.List Nat.ℕ) → Typed.TF T108 O6
+      at94 = λ bs. λ Ψ. Typed.pass T108 T109 (s103 bs) (at93 bs Ψ)
 
-      abbrev at96 : (bs : List.List Nat.ℕ) → Typed.TF T108 O6
-      at96 = λ bs. λ Ψ. Typed.pass T108 T109 (s103 bs) (at95 bs Ψ)
+      abbrev at95 : (bs : List.List Nat.ℕ) → Typed.TF T107 O6
+      at95 = λ bs. λ Ψ. Typed.pass T107 T108 (s102 bs) (at94 bs Ψ)
 
-      abbrev at97 : (bs : List.List Nat.ℕ) → Typed.TF T107 O6
-      at97 = λ bs. λ Ψ. Typed.pass T107 T108 (s102 bs) (at96 bs Ψ)
+      abbrev at96 : (bs : List.List Nat.ℕ) → Typed.TF T106 O6
+      at96 = λ bs. λ Ψ. Typed.pass T106 T107 (s101 bs) (at95 bs Ψ)
 
-      abbrev at98 : (bs : List.List Nat.ℕ) → Typed.TF T106 O6
-      at98 = λ bs. λ Ψ. Typed.pass T106 T107 (s101 bs) (at97 bs Ψ)
+      abbrev at97 : (bs : List.List Nat.ℕ) → Typed.TF T105 O6
+      at97 = λ bs. λ Ψ. Typed.pass T105 T106 (s100 bs) (at96 bs Ψ)
 
-      abbrev at99 : (bs : List.List Nat.ℕ) → Typed.TF T105 O6
-      at99 = λ bs. λ Ψ. Typed.pass T105 T106 (s100 bs) (at98 bs Ψ)
+      abbrev at98 : (bs : List.List Nat.ℕ) → Typed.TF T104 O6
+      at98 = λ bs. λ Ψ. Typed.pass T104 T105 (s99 bs) (at97 bs Ψ)
 
-      abbrev at100 : (bs : List.List Nat.ℕ) → Typed.TF T104 O6
-      at100 = λ bs. λ Ψ. Typed.pass T104 T105 (s99 bs) (at99 bs Ψ)
+      abbrev at99 : (bs : List.List Nat.ℕ) → Typed.TF T103 O6
+      at99 = λ bs. λ Ψ. Typed.pass T103 T104 (s98 bs) (at98 bs Ψ)
 
-      abbrev at101 : (bs : List.List Nat.ℕ) → Typed.TF T103 O6
-      at101 = λ bs. λ Ψ. Typed.pass T103 T104 (s98 bs) (at100 bs Ψ)
+      abbrev at100 : (bs : List.List Nat.ℕ) → Typed.TF T102 O6
+      at100 = λ bs. λ Ψ. Typed.pass T102 T103 (s97 bs) (at99 bs Ψ)
 
-      abbrev at102 : (bs : List.List Nat.ℕ) → Typed.TF T102 O6
-      at102 = λ bs. λ Ψ. Typed.pass T102 T103 (s97 bs) (at101 bs Ψ)
+      abbrev at101 : (bs : List.List Nat.ℕ) → Typed.TF T101 O6
+      at101 = λ bs. λ Ψ. Typed.pass T101 T102 (s96 bs) (at100 bs Ψ)
 
-      abbrev at103 : (bs : List.List Nat.ℕ) → Typed.TF T112 O6
-      at103 = λ bs. Typed.atNext O6
+      abbrev at102 : (bs : List.List Nat.ℕ) → Typed.TF T111 O6
+      at102 = λ bs. Typed.atNext O6
 
-      abbrev at104 : (bs : List.List Nat.ℕ) → Typed.TF T102 O6
-      at104 = λ bs. λ Ψ. Typed.pass T102 T112 (s106 bs) (at103 bs Ψ)
+      abbrev at103 : (bs : List.List Nat.ℕ) → Typed.TF T101 O6
+      at103 = λ bs. λ Ψ. Typed.pass T101 T111 (s105 bs) (at102 bs Ψ)
 
-      abbrev at105 : (bs : List.List Nat.ℕ) → Typed.TF T102 O6
-      at105 = λ bs. Scalar.Φcond T102 O6 39 (λ x. x) (at102 bs) (at104 bs)
+      abbrev at104 : (bs : List.List Nat.ℕ) → Typed.TF T101 O6
+      at104 = λ bs. Scalar.Φcond T101 O6 39 (λ x. x) (at101 bs) (at103 bs)
 
-      abbrev at106 : (bs : List.List Nat.ℕ) → Typed.TF T100 O6
-      at106 = λ bs. λ Ψ. Typed.pass T100 T102 (s96 bs) (at105 bs Ψ)
+      abbrev at105 : (bs : List.List Nat.ℕ) → Typed.TF T99 O6
+      at105 = λ bs. λ Ψ. Typed.pass T99 T101 (s95 bs) (at104 bs Ψ)
 
-      abbrev at107 : (bs : List.List Nat.ℕ) → Typed.TF T120 O0
-      at107 = λ bs. Typed.atRet O0
+      abbrev at106 : (bs : List.List Nat.ℕ) → Typed.TF T119 O0
+      at106 = λ bs. Typed.atRet O0
 
-      abbrev at108 : (bs : List.List Nat.ℕ) → Typed.TF T119 O0
-      at108 = λ bs. λ Ψ. Typed.pass T119 T120 (s114 bs) (at107 bs Ψ)
+      abbrev at107 : (bs : List.List Nat.ℕ) → Typed.TF T118 O0
+      at107 = λ bs. λ Ψ. Typed.pass T118 T119 (s113 bs) (at106 bs Ψ)
 
-      abbrev at109 : (bs : List.List Nat.ℕ) → Typed.TF T118 O0
-      at109 = λ bs. λ Ψ. Typed.pass T118 T119 (s113 bs) (at108 bs Ψ)
+      abbrev at108 : (bs : List.List Nat.ℕ) → Typed.TF T117 O0
+      at108 = λ bs. λ Ψ. Typed.pass T117 T118 (s112 bs) (at107 bs Ψ)
 
-      abbrev at110 : (bs : List.List Nat.ℕ) → Typed.TF T117 O0
-      at110 = λ bs. λ Ψ. Typed.pass T117 T118 (s112 bs) (at109 bs Ψ)
+      abbrev at109 : (bs : List.List Nat.ℕ) → Typed.TF T116 O0
+      at109 = λ bs. λ Ψ. Typed.pass T116 T117 (s111 bs) (at108 bs Ψ)
 
-      abbrev at111 : (bs : List.List Nat.ℕ) → Typed.TF T116 O0
-      at111 = λ bs. λ Ψ. Typed.pass T116 T117 (s111 bs) (at110 bs Ψ)
+      abbrev at110 : (bs : List.List Nat.ℕ) → Typed.TF T115 O0
+      at110 = λ bs. λ Ψ. Typed.pass T115 T116 (s110 bs) (at109 bs Ψ)
 
-      abbrev at112 : (bs : List.List Nat.ℕ) → Typed.TF T115 O0
-      at112 = λ bs. λ Ψ. Typed.pass T115 T116 (s110 bs) (at111 bs Ψ)
+      abbrev at111 : (bs : List.List Nat.ℕ) → Typed.TF T114 O0
+      at111 = λ bs. λ Ψ. Typed.pass T114 T115 (s109 bs) (at110 bs Ψ)
 
-      abbrev at113 : (bs : List.List Nat.ℕ) → Typed.TF T114 O0
-      at113 = λ bs. λ Ψ. Typed.pass T114 T115 (s109 bs) (at112 bs Ψ)
+      abbrev at112 : (bs : List.List Nat.ℕ) → Typed.TF T113 O0
+      at112 = λ bs. λ Ψ. Typed.pass T113 T114 (s108 bs) (at111 bs Ψ)
 
-      abbrev at114 : (bs : List.List Nat.ℕ) → Typed.TF T113 O0
-      at114 = λ bs. λ Ψ. Typed.pass T113 T114 (s108 bs) (at113 bs Ψ)
+      abbrev at113 : (bs : List.List Nat.ℕ) → Typed.TF T112 O0
+      at113 = λ bs. λ Ψ. Typed.pass T112 T113 (s107 bs) (at112 bs Ψ)
 
-      abbrev at115 : (bs : List.List Nat.ℕ) → Typed.TF T101 O0
-      at115 = λ bs. λ Ψ. Typed.pass T101 T113 (s107 bs) (at114 bs Ψ)
+      abbrev at114 : (bs : List.List Nat.ℕ) → Typed.TF T100 O0
+      at114 = λ bs. λ Ψ. Typed.pass T100 T112 (s106 bs) (at113 bs Ψ)
 
-      abbrev at116 : (bs : List.List Nat.ℕ) → Typed.TF T100 O0
-      at116 = λ bs. λ Ψ. at106 bs (Typed.wantNext T101 O0 (at115 bs Ψ) Ψ)
+      abbrev at115 : (bs : List.List Nat.ℕ) → Typed.TF T99 O0
+      at115 = λ bs. λ Ψ. at105 bs (Typed.wantNext T100 O0 (at114 bs Ψ) Ψ)
 
-      abbrev at117 : (bs : List.List Nat.ℕ) → Typed.TF T99 O0
-      at117 = λ bs. λ Ψ. Typed.both (s95 bs) (at116 bs Ψ)
+      abbrev at116 : (bs : List.List Nat.ℕ) → Typed.TF T98 O0
+      at116 = λ bs. λ Ψ. Typed.both (s94 bs) (at115 bs Ψ)
 
-      abbrev at118 : (bs : List.List Nat.ℕ) → Typed.TF T12 O0
-      at118 = λ bs. λ Ψ. Typed.both (s94 bs) (at117 bs Ψ)
+      abbrev at117 : (bs : List.List Nat.ℕ) → Typed.TF T12 O0
+      at117 = λ bs. λ Ψ. Typed.both (s93 bs) (at116 bs Ψ)
 
-      abbrev at119 : (bs : List.List Nat.ℕ) → Typed.TF T11 O0
-      at119 = λ bs. λ Ψ. at92 bs (Typed.wantNext T12 O0 (at118 bs Ψ) Ψ)
+      abbrev at118 : (bs : List.List Nat.ℕ) → Typed.TF T11 O0
+      at118 = λ bs. λ Ψ. at91 bs (Typed.wantNext T12 O0 (at117 bs Ψ) Ψ)
 
-      abbrev at120 : (bs : List.List Nat.ℕ) → Typed.TF T10 O0
-      at120 = λ bs. λ Ψ. Typed.pass T10 T11 (s9 bs) (at119 bs Ψ)
+      abbrev at119 : (bs : List.List Nat.ℕ) → Typed.TF T10 O0
+      at119 = λ bs. λ Ψ. Typed.pass T10 T11 (s9 bs) (at118 bs Ψ)
 
-      abbrev at121 : (bs : List.List Nat.ℕ) → Typed.TF T9 O0
-      at121 = λ bs. λ Ψ. Typed.pass T9 T10 (s8 bs) (at120 bs Ψ)
+      abbrev at120 : (bs : List.List Nat.ℕ) → Typed.TF T9 O0
+      at120 = λ bs. λ Ψ. Typed.pass T9 T10 (s8 bs) (at119 bs Ψ)
 
-      abbrev at122 : (bs : List.List Nat.ℕ) → Typed.TF T8 O0
-      at122 = λ bs. λ Ψ. Typed.pass T8 T9 (s7 bs) (at121 bs Ψ)
+      abbrev at121 : (bs : List.List Nat.ℕ) → Typed.TF T8 O0
+      at121 = λ bs. λ Ψ. Typed.pass T8 T9 (s7 bs) (at120 bs Ψ)
 
-      abbrev at123 : (bs : List.List Nat.ℕ) → Typed.TF T7 O0
-      at123 = λ bs. λ Ψ. Typed.both (s6 bs) (at122 bs Ψ)
+      abbrev at122 : (bs : List.List Nat.ℕ) → Typed.TF T7 O0
+      at122 = λ bs. λ Ψ. Typed.both (s6 bs) (at121 bs Ψ)
 
-      abbrev at124 : (bs : List.List Nat.ℕ) → Typed.TF T6 O0
-      at124 = λ bs. λ Ψ. Typed.pass T6 T7 (s5 bs) (at123 bs Ψ)
+      abbrev at123 : (bs : List.List Nat.ℕ) → Typed.TF T6 O0
+      at123 = λ bs. λ Ψ. Typed.pass T6 T7 (s5 bs) (at122 bs Ψ)
 
-      abbrev at125 : (bs : List.List Nat.ℕ) → Typed.TF T5 O0
-      at125 = λ bs. λ Ψ. Typed.pass T5 T6 (s4 bs) (at124 bs Ψ)
+      abbrev at124 : (bs : List.List Nat.ℕ) → Typed.TF T5 O0
+      at124 = λ bs. λ Ψ. Typed.pass T5 T6 (s4 bs) (at123 bs Ψ)
 
-      abbrev at126 : (bs : List.List Nat.ℕ) → Typed.TF T4 O0
-      at126 = λ bs. λ Ψ. Typed.pass T4 T5 (s3 bs) (at125 bs Ψ)
+      abbrev at125 : (bs : List.List Nat.ℕ) → Typed.TF T4 O0
+      at125 = λ bs. λ Ψ. Typed.pass T4 T5 (s3 bs) (at124 bs Ψ)
 
-      abbrev at127 : (bs : List.List Nat.ℕ) → Typed.TF T3 O0
-      at127 = λ bs. λ Ψ. Typed.give (s2 bs) (at126 bs Ψ)
+      abbrev at126 : (bs : List.List Nat.ℕ) → Typed.TF T3 O0
+      at126 = λ bs. λ Ψ. Typed.give (s2 bs) (at125 bs Ψ)
 
-      abbrev at128 : (bs : List.List Nat.ℕ) → Typed.TF T2 O0
-      at128 = λ bs. λ Ψ. Typed.give (s1 bs) (at127 bs Ψ)
+      abbrev at127 : (bs : List.List Nat.ℕ) → Typed.TF T2 O0
+      at127 = λ bs. λ Ψ. Typed.give (s1 bs) (at126 bs Ψ)
 
-      abbrev at129 : (bs : List.List Nat.ℕ) → Typed.TF T0 O0
-      at129 = λ bs. λ Ψ. Typed.give (s0 bs) (at128 bs Ψ)
+      abbrev at128 : (bs : List.List Nat.ℕ) → Typed.TF T0 O0
+      at128 = λ bs. λ Ψ. Typed.give (s0 bs) (at127 bs Ψ)
 
       abbrev pub Φ : (bs : List.List Nat.ℕ) → Typed.TF T0 O0
-      Φ = λ bs. at129 bs
+      Φ = λ bs. at128 bs
 
       module _ {M : Type 1} (𝓤 : URA.URA M) (H : Wp.Heap 𝓤) (A : Atoms.Atoms 𝓤) (W : Kit.Given 𝓤 H A) (𝓣 : Wp.Tables 𝓤 H) where
         abbrev Knowns : Type 1
         Knowns = Plain.Known 𝓤 H A W 𝓣 0 ps·0 r·0 (claims· .0) (claims· .1) "map::width" × Plain.Known 𝓤 H A W 𝓣 0 ps·1 r·1 (claims· .2) (claims· .3) "steps::plan_at" × Plain.Known 𝓤 H A W 𝓣 0 ps·2
             r·2 (claims· .4) (claims· .5) "pass::window_plan" × Plain.Known 𝓤 H A W 𝓣 1 ps·3 r·3 (claims· .6) (claims· .7) "lines::enter" × Plain.Known 𝓤 H A W 𝓣 1 ps·4 r·4 (claims· .8) (claims· .9)
             "block::records::load_set" × Plain.Known 𝓤 H A W 𝓣 2 ps·5 r·5 (claims· .10) (claims· .11) "pass::pass" × Plain.Known 𝓤 H A W 𝓣 1 ps·6 r·6 (claims· .12) (claims· .13)
-            "block::records::store_set" × Plain.Known 𝓤 H A W 𝓣 3 ps·7 r·7 (claims· .14) (claims· .15) "map::windows::emit_pass" × Plain.Known 𝓤 H A W 𝓣 1 ps·8 r·8 (claims· .16) (claims· .17)
+            "block::records::store_set" × Plain.Known 𝓤 H A W 𝓣 3 ps·7 r·7 (claims· .14) (claims· .15) "block::reading::emit_pass_at" × Plain.Known 𝓤 H A W 𝓣 1 ps·8 r·8 (claims· .16) (claims· .17)
             "bits::is_past"
 
       module _ (κs : Lifetimes.Lfts 5) (qs : Lifetimes.Shares 5) where
@@ -2455,20 +2423,20 @@ module _ (claims· : Claims) where
             (4, Relend.mslice-owed (Element.type) (Syntax.tyRef (Syntax.named 2) Syntax.mut Element.behind) 2 8 (Row.lease (κs .1 .1 .0) (qs .1 .1 .0))) (List._∷_ e57 (List._∷_ e59 (List._∷_ e62 (List._∷_
             e63 (List._∷_ e65 (List._∷_ e4 (List._∷_ e6 (List._∷_ e8 (List._∷_ e10 (List._∷_ e12 (List._∷_ e14 List.[])))))))))))))))
 
-        abbrev g55 : List.List Row.Entry
-        g55 = List._∷_ e0 (List._∷_ e2 (List._∷_ e23 (List._∷_
+        abbrev g57 : List.List Row.Entry
+        g57 = List._∷_ e0 (List._∷_ e2 (List._∷_ e23 (List._∷_
             (3, Reshare.mslice-owedS (Referent.rtF (Referent.fInt Syntax.w16)) (Syntax.tyRef (Syntax.named 1) Syntax.mut (Syntax.tyInt Syntax.w16)) 1 9 (Row.lease (κs .1 .0) (qs .1 .0))) (List._∷_ e56
             (List._∷_ e57 (List._∷_ e59 (List._∷_ e62 (List._∷_ e63 (List._∷_ e65 (List._∷_ e4 (List._∷_ e6 (List._∷_ e8 (List._∷_ e10 (List._∷_ e12 (List._∷_ e14 List.[])))))))))))))))
 
-        abbrev g58 : List.List Row.Entry
-        g58 = List._∷_ e0 (List._∷_ e2 (List._∷_ e23 (List._∷_
+        abbrev g60 : List.List Row.Entry
+        g60 = List._∷_ e0 (List._∷_ e2 (List._∷_ e23 (List._∷_
             (3, Reshare.mslice-owedS (Referent.rtF (Referent.fInt Syntax.w16)) (Syntax.tyRef (Syntax.named 1) Syntax.mut (Syntax.tyInt Syntax.w16)) 1 9 (Row.lease (κs .1 .0) (qs .1 .0))) (List._∷_ e56
             (List._∷_
             (5, Relend.mslice-owed (Referent.rtF (Referent.fInt Syntax.w16)) (Syntax.tyRef (Syntax.named 3) Syntax.mut (Syntax.tyInt Syntax.w16)) 3 10 (Row.lease (κs .1 .1 .1 .0) (qs .1 .1 .1 .0)))
             (List._∷_ e59 (List._∷_ e62 (List._∷_ e63 (List._∷_ e65 (List._∷_ e4 (List._∷_ e6 (List._∷_ e8 (List._∷_ e10 (List._∷_ e12 (List._∷_ e14 List.[])))))))))))))))
 
-        abbrev g67 : List.List Row.Entry
-        g67 = List._∷_ e0 (List._∷_ e2 (List._∷_ e23 (List._∷_ e42 (List._∷_ e56 (List._∷_
+        abbrev g66 : List.List Row.Entry
+        g66 = List._∷_ e0 (List._∷_ e2 (List._∷_ e23 (List._∷_ e42 (List._∷_ e56 (List._∷_
             (5, Relend.mslice-owed (Referent.rtF (Referent.fInt Syntax.w16)) (Syntax.tyRef (Syntax.named 3) Syntax.mut (Syntax.tyInt Syntax.w16)) 3 10 (Row.lease (κs .1 .1 .1 .0) (qs .1 .1 .1 .0)))
             (List._∷_ e59 (List._∷_ e62 (List._∷_ e63 (List._∷_ e65 (List._∷_ e4 (List._∷_ e6 (List._∷_ e8 (List._∷_ e10 (List._∷_ e12 (List._∷_ e14 List.[])))))))))))))))
 
@@ -2826,23 +2794,23 @@ module _ (claims· : Claims) where
 
         abbrev G44 : Row.Cx
         G44 = record {
-          locals = List._++_ g27 (List._++_ t33 t31);
+          locals = List._++_ g27 (List._++_ t34 t31);
+          slots = List._∷_ (Row.lease (κs .0) (qs .0)) (List._∷_ Row.off (List._∷_ (Row.lease (κs .1 .1 .0) (qs .1 .1 .0)) (List._∷_ (Row.lease (κs .1 .1 .1
+              .0) (qs .1 .1 .1 .0)) (List._∷_ (Row.lease (κs .1 .1 .1 .1 .0) (qs .1 .1 .1 .1 .0)) (List._∷_ Row.off (List._∷_ Row.off (List._∷_ Row.alive (List._∷_ Row.off (List._∷_ Row.off (List._∷_
+              Row.off List.[]))))))))));
+        }
+
+        abbrev G45 : Row.Cx
+        G45 = record {
+          locals = List._++_ g27 (List._++_ t34 t31);
           slots = List._∷_ (Row.lease (κs .0) (qs .0)) (List._∷_ Row.off (List._∷_ (Row.lease (κs .1 .1 .0) (qs .1 .1 .0)) (List._∷_ (Row.lease (κs .1 .1 .1
               .0) (qs .1 .1 .1 .0)) (List._∷_ (Row.lease (κs .1 .1 .1 .1 .0) (qs .1 .1 .1 .1 .0)) (List._∷_ Row.off (List._∷_ Row.off (List._∷_ Row.dead (List._∷_ Row.off (List._∷_ Row.off (List._∷_ Row.off
               List.[]))))))))));
         }
 
-        abbrev G45 : Row.Cx
-        G45 = record {
-          locals = List._++_ t9 (List._++_ t33 t2);
-          slots = List._∷_ (Row.lease (κs .0) (qs .0)) (List._∷_ (Row.lease (κs .1 .0) (qs .1 .0)) (List._∷_ (Row.lease (κs .1 .1 .0) (qs .1 .1 .0)) (List._∷_
-              (Row.lease (κs .1 .1 .1 .0) (qs .1 .1 .1 .0)) (List._∷_ (Row.lease (κs .1 .1 .1 .1 .0) (qs .1 .1 .1 .1 .0)) (List._∷_ Row.off (List._∷_ Row.off (List._∷_ Row.dead (List._∷_ Row.off (List._∷_
-              Row.off (List._∷_ Row.off List.[]))))))))));
-        }
-
         abbrev G46 : Row.Cx
         G46 = record {
-          locals = List._++_ t9 (List._++_ t33 t2);
+          locals = List._++_ t9 (List._++_ t34 t2);
           slots = List._∷_ (Row.lease (κs .0) (qs .0)) (List._∷_ (Row.lease (κs .1 .0) (qs .1 .0)) (List._∷_ (Row.lease (κs .1 .1 .0) (qs .1 .1 .0)) (List._∷_
               (Row.lease (κs .1 .1 .1 .0) (qs .1 .1 .1 .0)) (List._∷_ (Row.lease (κs .1 .1 .1 .1 .0) (qs .1 .1 .1 .1 .0)) (List._∷_ Row.off (List._∷_ Row.off (List._∷_ Row.dead (List._∷_ Row.off (List._∷_
               Row.off (List._∷_ Row.off List.[]))))))))));
@@ -2850,9 +2818,9 @@ module _ (claims· : Claims) where
 
         abbrev G47 : Row.Cx
         G47 = record {
-          locals = List._++_ t9 (List._++_ t33 t2);
+          locals = List._++_ t9 (List._++_ t34 t2);
           slots = List._∷_ (Row.lease (κs .0) (qs .0)) (List._∷_ (Row.lease (κs .1 .0) (qs .1 .0)) (List._∷_ (Row.lease (κs .1 .1 .0) (qs .1 .1 .0)) (List._∷_
-              (Row.lease (κs .1 .1 .1 .0) (qs .1 .1 .1 .0)) (List._∷_ (Row.lease (κs .1 .1 .1 .1 .0) (qs .1 .1 .1 .1 .0)) (List._∷_ Row.off (List._∷_ Row.off (List._∷_ Row.off (List._∷_ Row.off (List._∷_
+              (Row.lease (κs .1 .1 .1 .0) (qs .1 .1 .1 .0)) (List._∷_ (Row.lease (κs .1 .1 .1 .1 .0) (qs .1 .1 .1 .1 .0)) (List._∷_ Row.off (List._∷_ Row.off (List._∷_ Row.dead (List._∷_ Row.off (List._∷_
               Row.off (List._∷_ Row.off List.[]))))))))));
         }
 
@@ -2874,7 +2842,7 @@ module _ (claims· : Claims) where
 
         abbrev G50 : Row.Cx
         G50 = record {
-          locals = List._++_ t9 (List._++_ t34 t2);
+          locals = List._++_ t9 (List._++_ t36 t2);
           slots = List._∷_ (Row.lease (κs .0) (qs .0)) (List._∷_ (Row.lease (κs .1 .0) (qs .1 .0)) (List._∷_ (Row.lease (κs .1 .1 .0) (qs .1 .1 .0)) (List._∷_
               (Row.lease (κs .1 .1 .1 .0) (qs .1 .1 .1 .0)) (List._∷_ (Row.lease (κs .1 .1 .1 .1 .0) (qs .1 .1 .1 .1 .0)) (List._∷_ Row.off (List._∷_ Row.off (List._∷_ Row.off (List._∷_ Row.off (List._∷_
               Row.off (List._∷_ Row.off List.[]))))))))));
@@ -2882,15 +2850,15 @@ module _ (claims· : Claims) where
 
         abbrev G51 : Row.Cx
         G51 = record {
-          locals = List._++_ t13 (List._++_ t35 t2);
-          slots = List._∷_ (Row.lease (κs .0) (qs .0)) (List._∷_ (Row.lease (κs .1 .0) (qs .1 .0)) (List._∷_ (Row.lease (κs .1 .1 .0) (qs .1 .1 .0))
-              (List._∷_ (Row.lease (κs .1 .1 .1 .0) (qs .1 .1 .1 .0)) (List._∷_ (Row.lease (κs .1 .1 .1 .1 .0) (qs .1 .1 .1 .1 .0)) (List._∷_ Row.off (List._∷_ Row.off (List._∷_ Row.off (List._∷_ Row.off
-              (List._∷_ Row.off (List._∷_ Row.off List.[]))))))))));
+          locals = List._++_ t9 (List._++_ t35 t2);
+          slots = List._∷_ (Row.lease (κs .0) (qs .0)) (List._∷_ (Row.lease (κs .1 .0) (qs .1 .0)) (List._∷_ (Row.lease (κs .1 .1 .0) (qs .1 .1 .0)) (List._∷_
+              (Row.lease (κs .1 .1 .1 .0) (qs .1 .1 .1 .0)) (List._∷_ (Row.lease (κs .1 .1 .1 .1 .0) (qs .1 .1 .1 .1 .0)) (List._∷_ Row.off (List._∷_ Row.off (List._∷_ Row.off (List._∷_ Row.off (List._∷_
+              Row.off (List._∷_ Row.off List.[]))))))))));
         }
 
         abbrev G52 : Row.Cx
         G52 = record {
-          locals = List._++_ t14 (List._++_ t35 t2);
+          locals = List._++_ t13 (List._++_ t36 t2);
           slots = List._∷_ (Row.lease (κs .0) (qs .0)) (List._∷_ (Row.lease (κs .1 .0) (qs .1 .0)) (List._∷_ (Row.lease (κs .1 .1 .0) (qs .1 .1 .0))
               (List._∷_ (Row.lease (κs .1 .1 .1 .0) (qs .1 .1 .1 .0)) (List._∷_ (Row.lease (κs .1 .1 .1 .1 .0) (qs .1 .1 .1 .1 .0)) (List._∷_ Row.off (List._∷_ Row.off (List._∷_ Row.off (List._∷_ Row.off
               (List._∷_ Row.off (List._∷_ Row.off List.[]))))))))));
@@ -2898,7 +2866,7 @@ module _ (claims· : Claims) where
 
         abbrev G53 : Row.Cx
         G53 = record {
-          locals = List._++_ t11 (List._++_ t35 t2);
+          locals = List._++_ t14 (List._++_ t36 t2);
           slots = List._∷_ (Row.lease (κs .0) (qs .0)) (List._∷_ (Row.lease (κs .1 .0) (qs .1 .0)) (List._∷_ (Row.lease (κs .1 .1 .0) (qs .1 .1 .0))
               (List._∷_ (Row.lease (κs .1 .1 .1 .0) (qs .1 .1 .1 .0)) (List._∷_ (Row.lease (κs .1 .1 .1 .1 .0) (qs .1 .1 .1 .1 .0)) (List._∷_ Row.off (List._∷_ Row.off (List._∷_ Row.off (List._∷_ Row.off
               (List._∷_ Row.off (List._∷_ Row.off List.[]))))))))));
@@ -3002,7 +2970,7 @@ module _ (claims· : Claims) where
 
         abbrev G66 : Row.Cx
         G66 = record {
-          locals = List._++_ t9 (List._++_ t34 t2);
+          locals = List._++_ t9 (List._++_ t35 t2);
           slots = List._∷_ (Row.lease (κs .0) (qs .0)) (List._∷_ (Row.lease (κs .1 .0) (qs .1 .0)) (List._∷_ (Row.lease (κs .1 .1 .0) (qs .1 .1 .0)) (List._∷_
               (Row.lease (κs .1 .1 .1 .0) (qs .1 .1 .1 .0)) (List._∷_ (Row.lease (κs .1 .1 .1 .1 .0) (qs .1 .1 .1 .1 .0)) (List._∷_ Row.off (List._∷_ Row.off (List._∷_ Row.off (List._∷_ Row.off (List._∷_
               Row.off (List._∷_ Row.off List.[]))))))))));
@@ -3058,7 +3026,7 @@ module _ (claims· : Claims) where
 
         abbrev G73 : Row.Cx
         G73 = record {
-          locals = List._++_ g47 (List._++_ t34 t51);
+          locals = List._++_ g47 (List._++_ t53 t51);
           slots = List._∷_ (Row.lease (κs .0) (qs .0)) (List._∷_ (Row.lease (κs .1 .0) (qs .1 .0)) (List._∷_ Row.off (List._∷_ (Row.lease (κs .1 .1 .1 .0)
               (qs .1 .1 .1 .0)) (List._∷_ (Row.lease (κs .1 .1 .1 .1 .0) (qs .1 .1 .1 .1 .0)) (List._∷_ Row.off (List._∷_ Row.off (List._∷_ Row.off (List._∷_ Row.alive (List._∷_ Row.off (List._∷_ Row.off
               List.[]))))))))));
@@ -3066,31 +3034,31 @@ module _ (claims· : Claims) where
 
         abbrev G74 : Row.Cx
         G74 = record {
-          locals = List._++_ g47 (List._++_ t34 t51);
+          locals = List._++_ g47 (List._++_ t54 t51);
           slots = List._∷_ (Row.lease (κs .0) (qs .0)) (List._∷_ (Row.lease (κs .1 .0) (qs .1 .0)) (List._∷_ Row.off (List._∷_ (Row.lease (κs .1 .1 .1 .0)
-              (qs .1 .1 .1 .0)) (List._∷_ (Row.lease (κs .1 .1 .1 .1 .0) (qs .1 .1 .1 .1 .0)) (List._∷_ Row.off (List._∷_ Row.off (List._∷_ Row.off (List._∷_ Row.dead (List._∷_ Row.off (List._∷_ Row.off
+              (qs .1 .1 .1 .0)) (List._∷_ (Row.lease (κs .1 .1 .1 .1 .0) (qs .1 .1 .1 .1 .0)) (List._∷_ Row.off (List._∷_ Row.off (List._∷_ Row.off (List._∷_ Row.alive (List._∷_ Row.off (List._∷_ Row.off
               List.[]))))))))));
         }
 
         abbrev G75 : Row.Cx
         G75 = record {
-          locals = List._++_ t9 (List._++_ t34 t2);
+          locals = List._++_ g47 (List._++_ t54 t51);
+          slots = List._∷_ (Row.lease (κs .0) (qs .0)) (List._∷_ (Row.lease (κs .1 .0) (qs .1 .0)) (List._∷_ Row.off (List._∷_ (Row.lease (κs .1 .1 .1 .0)
+              (qs .1 .1 .1 .0)) (List._∷_ (Row.lease (κs .1 .1 .1 .1 .0) (qs .1 .1 .1 .1 .0)) (List._∷_ Row.off (List._∷_ Row.off (List._∷_ Row.off (List._∷_ Row.dead (List._∷_ Row.off (List._∷_ Row.off
+              List.[]))))))))));
+        }
+
+        abbrev G76 : Row.Cx
+        G76 = record {
+          locals = List._++_ t9 (List._++_ t54 t2);
           slots = List._∷_ (Row.lease (κs .0) (qs .0)) (List._∷_ (Row.lease (κs .1 .0) (qs .1 .0)) (List._∷_ (Row.lease (κs .1 .1 .0) (qs .1 .1 .0)) (List._∷_
               (Row.lease (κs .1 .1 .1 .0) (qs .1 .1 .1 .0)) (List._∷_ (Row.lease (κs .1 .1 .1 .1 .0) (qs .1 .1 .1 .1 .0)) (List._∷_ Row.off (List._∷_ Row.off (List._∷_ Row.off (List._∷_ Row.dead (List._∷_
               Row.off (List._∷_ Row.off List.[]))))))))));
         }
 
-        abbrev G76 : Row.Cx
-        G76 = record {
-          locals = List._++_ t9 (List._++_ t34 t2);
-          slots = List._∷_ (Row.lease (κs .0) (qs .0)) (List._∷_ (Row.lease (κs .1 .0) (qs .1 .0)) (List._∷_ (Row.lease (κs .1 .1 .0) (qs .1 .1 .0)) (List._∷_
-              (Row.lease (κs .1 .1 .1 .0) (qs .1 .1 .1 .0)) (List._∷_ (Row.lease (κs .1 .1 .1 .1 .0) (qs .1 .1 .1 .1 .0)) (List._∷_ Row.off (List._∷_ Row.off (List._∷_ Row.off (List._∷_ Row.off (List._∷_
-              Row.off (List._∷_ Row.off List.[]))))))))));
-        }
-
         abbrev G77 : Row.Cx
         G77 = record {
-          locals = List._++_ t9 (List._++_ t53 t2);
+          locals = List._++_ t9 (List._++_ t54 t2);
           slots = List._∷_ (Row.lease (κs .0) (qs .0)) (List._∷_ (Row.lease (κs .1 .0) (qs .1 .0)) (List._∷_ (Row.lease (κs .1 .1 .0) (qs .1 .1 .0)) (List._∷_
               (Row.lease (κs .1 .1 .1 .0) (qs .1 .1 .1 .0)) (List._∷_ (Row.lease (κs .1 .1 .1 .1 .0) (qs .1 .1 .1 .1 .0)) (List._∷_ Row.off (List._∷_ Row.off (List._∷_ Row.off (List._∷_ Row.off (List._∷_
               Row.off (List._∷_ Row.off List.[]))))))))));
@@ -3098,7 +3066,7 @@ module _ (claims· : Claims) where
 
         abbrev G78 : Row.Cx
         G78 = record {
-          locals = List._++_ t9 (List._++_ t54 t2);
+          locals = List._++_ t9 (List._++_ t55 t2);
           slots = List._∷_ (Row.lease (κs .0) (qs .0)) (List._∷_ (Row.lease (κs .1 .0) (qs .1 .0)) (List._∷_ (Row.lease (κs .1 .1 .0) (qs .1 .1 .0)) (List._∷_
               (Row.lease (κs .1 .1 .1 .0) (qs .1 .1 .1 .0)) (List._∷_ (Row.lease (κs .1 .1 .1 .1 .0) (qs .1 .1 .1 .1 .0)) (List._∷_ Row.off (List._∷_ Row.off (List._∷_ Row.off (List._∷_ Row.off (List._∷_
               Row.off (List._∷_ Row.off List.[]))))))))));
@@ -3106,23 +3074,23 @@ module _ (claims· : Claims) where
 
         abbrev G79 : Row.Cx
         G79 = record {
-          locals = List._++_ t9 (List._++_ t54 t2);
+          locals = List._++_ t9 (List._++_ t56 t2);
+          slots = List._∷_ (Row.lease (κs .0) (qs .0)) (List._∷_ (Row.lease (κs .1 .0) (qs .1 .0)) (List._∷_ (Row.lease (κs .1 .1 .0) (qs .1 .1 .0)) (List._∷_
+              (Row.lease (κs .1 .1 .1 .0) (qs .1 .1 .1 .0)) (List._∷_ (Row.lease (κs .1 .1 .1 .1 .0) (qs .1 .1 .1 .1 .0)) (List._∷_ Row.off (List._∷_ Row.off (List._∷_ Row.off (List._∷_ Row.off (List._∷_
+              Row.off (List._∷_ Row.off List.[]))))))))));
+        }
+
+        abbrev G80 : Row.Cx
+        G80 = record {
+          locals = List._++_ t9 (List._++_ t56 t2);
           slots = List._∷_ (Row.lease (κs .0) (qs .0)) (List._∷_ (Row.lease (κs .1 .0) (qs .1 .0)) (List._∷_ (Row.lease (κs .1 .1 .0) (qs .1 .1 .0)) (List._∷_
               (Row.lease (κs .1 .1 .1 .0) (qs .1 .1 .1 .0)) (List._∷_ (Row.lease (κs .1 .1 .1 .1 .0) (qs .1 .1 .1 .1 .0)) (List._∷_ Row.off (List._∷_ Row.off (List._∷_ Row.off (List._∷_ Row.off (List._∷_
               Row.alive (List._∷_ Row.off List.[]))))))))));
         }
 
-        abbrev G80 : Row.Cx
-        G80 = record {
-          locals = List._++_ g55 (List._++_ t54 t56);
-          slots = List._∷_ (Row.lease (κs .0) (qs .0)) (List._∷_ Row.off (List._∷_ (Row.lease (κs .1 .1 .0) (qs .1 .1 .0)) (List._∷_ (Row.lease (κs .1 .1 .1
-              .0) (qs .1 .1 .1 .0)) (List._∷_ (Row.lease (κs .1 .1 .1 .1 .0) (qs .1 .1 .1 .1 .0)) (List._∷_ Row.off (List._∷_ Row.off (List._∷_ Row.off (List._∷_ Row.off (List._∷_ Row.alive (List._∷_
-              Row.off List.[]))))))))));
-        }
-
         abbrev G81 : Row.Cx
         G81 = record {
-          locals = List._++_ g55 (List._++_ t54 t57);
+          locals = List._++_ g57 (List._++_ t56 t58);
           slots = List._∷_ (Row.lease (κs .0) (qs .0)) (List._∷_ Row.off (List._∷_ (Row.lease (κs .1 .1 .0) (qs .1 .1 .0)) (List._∷_ (Row.lease (κs .1 .1 .1
               .0) (qs .1 .1 .1 .0)) (List._∷_ (Row.lease (κs .1 .1 .1 .1 .0) (qs .1 .1 .1 .1 .0)) (List._∷_ Row.off (List._∷_ Row.off (List._∷_ Row.off (List._∷_ Row.off (List._∷_ Row.alive (List._∷_
               Row.off List.[]))))))))));
@@ -3130,95 +3098,97 @@ module _ (claims· : Claims) where
 
         abbrev G82 : Row.Cx
         G82 = record {
-          locals = List._++_ g55 (List._++_ t54 t57);
+          locals = List._++_ g57 (List._++_ t56 t59);
+          slots = List._∷_ (Row.lease (κs .0) (qs .0)) (List._∷_ Row.off (List._∷_ (Row.lease (κs .1 .1 .0) (qs .1 .1 .0)) (List._∷_ (Row.lease (κs .1 .1 .1
+              .0) (qs .1 .1 .1 .0)) (List._∷_ (Row.lease (κs .1 .1 .1 .1 .0) (qs .1 .1 .1 .1 .0)) (List._∷_ Row.off (List._∷_ Row.off (List._∷_ Row.off (List._∷_ Row.off (List._∷_ Row.alive (List._∷_
+              Row.off List.[]))))))))));
+        }
+
+        abbrev G83 : Row.Cx
+        G83 = record {
+          locals = List._++_ g57 (List._++_ t56 t59);
           slots = List._∷_ (Row.lease (κs .0) (qs .0)) (List._∷_ Row.off (List._∷_ (Row.lease (κs .1 .1 .0) (qs .1 .1 .0)) (List._∷_ (Row.lease (κs .1 .1 .1
               .0) (qs .1 .1 .1 .0)) (List._∷_ (Row.lease (κs .1 .1 .1 .1 .0) (qs .1 .1 .1 .1 .0)) (List._∷_ Row.off (List._∷_ Row.off (List._∷_ Row.off (List._∷_ Row.off (List._∷_ Row.alive (List._∷_
               Row.alive List.[]))))))))));
         }
 
-        abbrev G83 : Row.Cx
-        G83 = record {
-          locals = List._++_ g58 (List._++_ t54 t59);
-          slots = List._∷_ (Row.lease (κs .0) (qs .0)) (List._∷_ Row.off (List._∷_ (Row.lease (κs .1 .1 .0) (qs .1 .1 .0)) (List._∷_ Row.off (List._∷_
-              (Row.lease (κs .1 .1 .1 .1 .0) (qs .1 .1 .1 .1 .0)) (List._∷_ Row.off (List._∷_ Row.off (List._∷_ Row.off (List._∷_ Row.off (List._∷_ Row.alive (List._∷_ Row.alive List.[]))))))))));
-        }
-
         abbrev G84 : Row.Cx
         G84 = record {
-          locals = List._++_ g58 (List._++_ t54 t60);
+          locals = List._++_ g60 (List._++_ t56 t61);
           slots = List._∷_ (Row.lease (κs .0) (qs .0)) (List._∷_ Row.off (List._∷_ (Row.lease (κs .1 .1 .0) (qs .1 .1 .0)) (List._∷_ Row.off (List._∷_
               (Row.lease (κs .1 .1 .1 .1 .0) (qs .1 .1 .1 .1 .0)) (List._∷_ Row.off (List._∷_ Row.off (List._∷_ Row.off (List._∷_ Row.off (List._∷_ Row.alive (List._∷_ Row.alive List.[]))))))))));
         }
 
         abbrev G85 : Row.Cx
         G85 = record {
-          locals = List._++_ g58 (List._++_ t61 t62);
+          locals = List._++_ g60 (List._++_ t56 t62);
           slots = List._∷_ (Row.lease (κs .0) (qs .0)) (List._∷_ Row.off (List._∷_ (Row.lease (κs .1 .1 .0) (qs .1 .1 .0)) (List._∷_ Row.off (List._∷_
               (Row.lease (κs .1 .1 .1 .1 .0) (qs .1 .1 .1 .1 .0)) (List._∷_ Row.off (List._∷_ Row.off (List._∷_ Row.off (List._∷_ Row.off (List._∷_ Row.alive (List._∷_ Row.alive List.[]))))))))));
         }
 
         abbrev G86 : Row.Cx
         G86 = record {
-          locals = List._++_ g58 (List._++_ t61 t63);
+          locals = List._++_ g60 (List._++_ t63 t64);
           slots = List._∷_ (Row.lease (κs .0) (qs .0)) (List._∷_ Row.off (List._∷_ (Row.lease (κs .1 .1 .0) (qs .1 .1 .0)) (List._∷_ Row.off (List._∷_
               (Row.lease (κs .1 .1 .1 .1 .0) (qs .1 .1 .1 .1 .0)) (List._∷_ Row.off (List._∷_ Row.off (List._∷_ Row.off (List._∷_ Row.off (List._∷_ Row.alive (List._∷_ Row.alive List.[]))))))))));
         }
 
         abbrev G87 : Row.Cx
         G87 = record {
-          locals = List._++_ g58 (List._++_ t64 t63);
+          locals = List._++_ g60 (List._++_ t63 t65);
           slots = List._∷_ (Row.lease (κs .0) (qs .0)) (List._∷_ Row.off (List._∷_ (Row.lease (κs .1 .1 .0) (qs .1 .1 .0)) (List._∷_ Row.off (List._∷_
               (Row.lease (κs .1 .1 .1 .1 .0) (qs .1 .1 .1 .1 .0)) (List._∷_ Row.off (List._∷_ Row.off (List._∷_ Row.off (List._∷_ Row.off (List._∷_ Row.alive (List._∷_ Row.alive List.[]))))))))));
         }
 
         abbrev G88 : Row.Cx
         G88 = record {
-          locals = List._++_ g58 (List._++_ t65 t63);
+          locals = List._++_ g60 (List._++_ t56 t65);
           slots = List._∷_ (Row.lease (κs .0) (qs .0)) (List._∷_ Row.off (List._∷_ (Row.lease (κs .1 .1 .0) (qs .1 .1 .0)) (List._∷_ Row.off (List._∷_
               (Row.lease (κs .1 .1 .1 .1 .0) (qs .1 .1 .1 .1 .0)) (List._∷_ Row.off (List._∷_ Row.off (List._∷_ Row.off (List._∷_ Row.off (List._∷_ Row.alive (List._∷_ Row.alive List.[]))))))))));
         }
 
         abbrev G89 : Row.Cx
         G89 = record {
-          locals = List._++_ g58 (List._++_ t66 t63);
-          slots = List._∷_ (Row.lease (κs .0) (qs .0)) (List._∷_ Row.off (List._∷_ (Row.lease (κs .1 .1 .0) (qs .1 .1 .0)) (List._∷_ Row.off (List._∷_
-              (Row.lease (κs .1 .1 .1 .1 .0) (qs .1 .1 .1 .1 .0)) (List._∷_ Row.off (List._∷_ Row.off (List._∷_ Row.off (List._∷_ Row.off (List._∷_ Row.alive (List._∷_ Row.alive List.[]))))))))));
-        }
-
-        abbrev G90 : Row.Cx
-        G90 = record {
-          locals = List._++_ g58 (List._++_ t66 t63);
+          locals = List._++_ g60 (List._++_ t56 t65);
           slots = List._∷_ (Row.lease (κs .0) (qs .0)) (List._∷_ Row.off (List._∷_ (Row.lease (κs .1 .1 .0) (qs .1 .1 .0)) (List._∷_ Row.off (List._∷_
               (Row.lease (κs .1 .1 .1 .1 .0) (qs .1 .1 .1 .1 .0)) (List._∷_ Row.off (List._∷_ Row.off (List._∷_ Row.off (List._∷_ Row.off (List._∷_ Row.dead (List._∷_ Row.alive List.[]))))))))));
         }
 
-        abbrev G91 : Row.Cx
-        G91 = record {
-          locals = List._++_ g67 (List._++_ t66 t63);
+        abbrev G90 : Row.Cx
+        G90 = record {
+          locals = List._++_ g66 (List._++_ t56 t65);
           slots = List._∷_ (Row.lease (κs .0) (qs .0)) (List._∷_ (Row.lease (κs .1 .0) (qs .1 .0)) (List._∷_ (Row.lease (κs .1 .1 .0) (qs .1 .1 .0))
               (List._∷_ Row.off (List._∷_ (Row.lease (κs .1 .1 .1 .1 .0) (qs .1 .1 .1 .1 .0)) (List._∷_ Row.off (List._∷_ Row.off (List._∷_ Row.off (List._∷_ Row.off (List._∷_ Row.dead (List._∷_ Row.alive
               List.[]))))))))));
         }
 
-        abbrev G92 : Row.Cx
-        G92 = record {
-          locals = List._++_ g67 (List._++_ t66 t63);
+        abbrev G91 : Row.Cx
+        G91 = record {
+          locals = List._++_ g66 (List._++_ t56 t65);
           slots = List._∷_ (Row.lease (κs .0) (qs .0)) (List._∷_ (Row.lease (κs .1 .0) (qs .1 .0)) (List._∷_ (Row.lease (κs .1 .1 .0) (qs .1 .1 .0))
               (List._∷_ Row.off (List._∷_ (Row.lease (κs .1 .1 .1 .1 .0) (qs .1 .1 .1 .1 .0)) (List._∷_ Row.off (List._∷_ Row.off (List._∷_ Row.off (List._∷_ Row.off (List._∷_ Row.off (List._∷_ Row.alive
               List.[]))))))))));
         }
 
-        abbrev G93 : Row.Cx
-        G93 = record {
-          locals = List._++_ g67 (List._++_ t66 t63);
+        abbrev G92 : Row.Cx
+        G92 = record {
+          locals = List._++_ g66 (List._++_ t56 t65);
           slots = List._∷_ (Row.lease (κs .0) (qs .0)) (List._∷_ (Row.lease (κs .1 .0) (qs .1 .0)) (List._∷_ (Row.lease (κs .1 .1 .0) (qs .1 .1 .0))
               (List._∷_ Row.off (List._∷_ (Row.lease (κs .1 .1 .1 .1 .0) (qs .1 .1 .1 .1 .0)) (List._∷_ Row.off (List._∷_ Row.off (List._∷_ Row.off (List._∷_ Row.off (List._∷_ Row.off (List._∷_ Row.dead
               List.[]))))))))));
         }
 
+        abbrev G93 : Row.Cx
+        G93 = record {
+          locals = List._++_ t9 (List._++_ t56 t2);
+          slots = List._∷_ (Row.lease (κs .0) (qs .0)) (List._∷_ (Row.lease (κs .1 .0) (qs .1 .0)) (List._∷_ (Row.lease (κs .1 .1 .0) (qs .1 .1 .0)) (List._∷_
+              (Row.lease (κs .1 .1 .1 .0) (qs .1 .1 .1 .0)) (List._∷_ (Row.lease (κs .1 .1 .1 .1 .0) (qs .1 .1 .1 .1 .0)) (List._∷_ Row.off (List._∷_ Row.off (List._∷_ Row.off (List._∷_ Row.off (List._∷_
+              Row.off (List._∷_ Row.dead List.[]))))))))));
+        }
+
         abbrev G94 : Row.Cx
         G94 = record {
-          locals = List._++_ t9 (List._++_ t66 t2);
+          locals = List._++_ t9 (List._++_ t56 t2);
           slots = List._∷_ (Row.lease (κs .0) (qs .0)) (List._∷_ (Row.lease (κs .1 .0) (qs .1 .0)) (List._∷_ (Row.lease (κs .1 .1 .0) (qs .1 .1 .0)) (List._∷_
               (Row.lease (κs .1 .1 .1 .0) (qs .1 .1 .1 .0)) (List._∷_ (Row.lease (κs .1 .1 .1 .1 .0) (qs .1 .1 .1 .1 .0)) (List._∷_ Row.off (List._∷_ Row.off (List._∷_ Row.off (List._∷_ Row.off (List._∷_
               Row.off (List._∷_ Row.dead List.[]))))))))));
@@ -3226,15 +3196,15 @@ module _ (claims· : Claims) where
 
         abbrev G95 : Row.Cx
         G95 = record {
-          locals = List._++_ t9 (List._++_ t66 t2);
+          locals = List._++_ t9 (List._++_ t56 t2);
           slots = List._∷_ (Row.lease (κs .0) (qs .0)) (List._∷_ (Row.lease (κs .1 .0) (qs .1 .0)) (List._∷_ (Row.lease (κs .1 .1 .0) (qs .1 .1 .0)) (List._∷_
               (Row.lease (κs .1 .1 .1 .0) (qs .1 .1 .1 .0)) (List._∷_ (Row.lease (κs .1 .1 .1 .1 .0) (qs .1 .1 .1 .1 .0)) (List._∷_ Row.off (List._∷_ Row.off (List._∷_ Row.off (List._∷_ Row.off (List._∷_
-              Row.off (List._∷_ Row.dead List.[]))))))))));
+              Row.off (List._∷_ Row.off List.[]))))))))));
         }
 
         abbrev G96 : Row.Cx
         G96 = record {
-          locals = List._++_ t9 (List._++_ t66 t2);
+          locals = List._++_ t9 (List._++_ t56 t2);
           slots = List._∷_ (Row.lease (κs .0) (qs .0)) (List._∷_ (Row.lease (κs .1 .0) (qs .1 .0)) (List._∷_ (Row.lease (κs .1 .1 .0) (qs .1 .1 .0)) (List._∷_
               (Row.lease (κs .1 .1 .1 .0) (qs .1 .1 .1 .0)) (List._∷_ (Row.lease (κs .1 .1 .1 .1 .0) (qs .1 .1 .1 .1 .0)) (List._∷_ Row.off (List._∷_ Row.off (List._∷_ Row.off (List._∷_ Row.off (List._∷_
               Row.off (List._∷_ Row.off List.[]))))))))));
@@ -3242,7 +3212,7 @@ module _ (claims· : Claims) where
 
         abbrev G97 : Row.Cx
         G97 = record {
-          locals = List._++_ t9 (List._++_ t66 t2);
+          locals = List._++_ t9 (List._++_ t10 t2);
           slots = List._∷_ (Row.lease (κs .0) (qs .0)) (List._∷_ (Row.lease (κs .1 .0) (qs .1 .0)) (List._∷_ (Row.lease (κs .1 .1 .0) (qs .1 .1 .0)) (List._∷_
               (Row.lease (κs .1 .1 .1 .0) (qs .1 .1 .1 .0)) (List._∷_ (Row.lease (κs .1 .1 .1 .1 .0) (qs .1 .1 .1 .1 .0)) (List._∷_ Row.off (List._∷_ Row.off (List._∷_ Row.off (List._∷_ Row.off (List._∷_
               Row.off (List._∷_ Row.off List.[]))))))))));
@@ -3250,15 +3220,15 @@ module _ (claims· : Claims) where
 
         abbrev G98 : Row.Cx
         G98 = record {
-          locals = List._++_ t9 (List._++_ t10 t2);
-          slots = List._∷_ (Row.lease (κs .0) (qs .0)) (List._∷_ (Row.lease (κs .1 .0) (qs .1 .0)) (List._∷_ (Row.lease (κs .1 .1 .0) (qs .1 .1 .0)) (List._∷_
-              (Row.lease (κs .1 .1 .1 .0) (qs .1 .1 .1 .0)) (List._∷_ (Row.lease (κs .1 .1 .1 .1 .0) (qs .1 .1 .1 .1 .0)) (List._∷_ Row.off (List._∷_ Row.off (List._∷_ Row.off (List._∷_ Row.off (List._∷_
-              Row.off (List._∷_ Row.off List.[]))))))))));
+          locals = List._++_ t11 (List._++_ t67 t2);
+          slots = List._∷_ (Row.lease (κs .0) (qs .0)) (List._∷_ (Row.lease (κs .1 .0) (qs .1 .0)) (List._∷_ (Row.lease (κs .1 .1 .0) (qs .1 .1 .0))
+              (List._∷_ (Row.lease (κs .1 .1 .1 .0) (qs .1 .1 .1 .0)) (List._∷_ (Row.lease (κs .1 .1 .1 .1 .0) (qs .1 .1 .1 .1 .0)) (List._∷_ Row.off (List._∷_ Row.off (List._∷_ Row.off (List._∷_ Row.off
+              (List._∷_ Row.off (List._∷_ Row.off List.[]))))))))));
         }
 
         abbrev G99 : Row.Cx
         G99 = record {
-          locals = List._++_ t11 (List._++_ t68 t2);
+          locals = List._++_ t11 (List._++_ t67 t68);
           slots = List._∷_ (Row.lease (κs .0) (qs .0)) (List._∷_ (Row.lease (κs .1 .0) (qs .1 .0)) (List._∷_ (Row.lease (κs .1 .1 .0) (qs .1 .1 .0))
               (List._∷_ (Row.lease (κs .1 .1 .1 .0) (qs .1 .1 .1 .0)) (List._∷_ (Row.lease (κs .1 .1 .1 .1 .0) (qs .1 .1 .1 .1 .0)) (List._∷_ Row.off (List._∷_ Row.off (List._∷_ Row.off (List._∷_ Row.off
               (List._∷_ Row.off (List._∷_ Row.off List.[]))))))))));
@@ -3266,7 +3236,7 @@ module _ (claims· : Claims) where
 
         abbrev G100 : Row.Cx
         G100 = record {
-          locals = List._++_ t11 (List._++_ t68 t69);
+          locals = List._++_ t11 (List._++_ t10 t2);
           slots = List._∷_ (Row.lease (κs .0) (qs .0)) (List._∷_ (Row.lease (κs .1 .0) (qs .1 .0)) (List._∷_ (Row.lease (κs .1 .1 .0) (qs .1 .1 .0))
               (List._∷_ (Row.lease (κs .1 .1 .1 .0) (qs .1 .1 .1 .0)) (List._∷_ (Row.lease (κs .1 .1 .1 .1 .0) (qs .1 .1 .1 .1 .0)) (List._∷_ Row.off (List._∷_ Row.off (List._∷_ Row.off (List._∷_ Row.off
               (List._∷_ Row.off (List._∷_ Row.off List.[]))))))))));
@@ -3274,7 +3244,7 @@ module _ (claims· : Claims) where
 
         abbrev G101 : Row.Cx
         G101 = record {
-          locals = List._++_ t11 (List._++_ t10 t2);
+          locals = List._++_ t11 (List._++_ t10 t68);
           slots = List._∷_ (Row.lease (κs .0) (qs .0)) (List._∷_ (Row.lease (κs .1 .0) (qs .1 .0)) (List._∷_ (Row.lease (κs .1 .1 .0) (qs .1 .1 .0))
               (List._∷_ (Row.lease (κs .1 .1 .1 .0) (qs .1 .1 .1 .0)) (List._∷_ (Row.lease (κs .1 .1 .1 .1 .0) (qs .1 .1 .1 .1 .0)) (List._∷_ Row.off (List._∷_ Row.off (List._∷_ Row.off (List._∷_ Row.off
               (List._∷_ Row.off (List._∷_ Row.off List.[]))))))))));
@@ -3282,7 +3252,7 @@ module _ (claims· : Claims) where
 
         abbrev G102 : Row.Cx
         G102 = record {
-          locals = List._++_ t11 (List._++_ t10 t69);
+          locals = List._++_ t11 (List._++_ t69 t68);
           slots = List._∷_ (Row.lease (κs .0) (qs .0)) (List._∷_ (Row.lease (κs .1 .0) (qs .1 .0)) (List._∷_ (Row.lease (κs .1 .1 .0) (qs .1 .1 .0))
               (List._∷_ (Row.lease (κs .1 .1 .1 .0) (qs .1 .1 .1 .0)) (List._∷_ (Row.lease (κs .1 .1 .1 .1 .0) (qs .1 .1 .1 .1 .0)) (List._∷_ Row.off (List._∷_ Row.off (List._∷_ Row.off (List._∷_ Row.off
               (List._∷_ Row.off (List._∷_ Row.off List.[]))))))))));
@@ -3290,7 +3260,7 @@ module _ (claims· : Claims) where
 
         abbrev G103 : Row.Cx
         G103 = record {
-          locals = List._++_ t11 (List._++_ t70 t69);
+          locals = List._++_ t11 (List._++_ t69 t2);
           slots = List._∷_ (Row.lease (κs .0) (qs .0)) (List._∷_ (Row.lease (κs .1 .0) (qs .1 .0)) (List._∷_ (Row.lease (κs .1 .1 .0) (qs .1 .1 .0))
               (List._∷_ (Row.lease (κs .1 .1 .1 .0) (qs .1 .1 .1 .0)) (List._∷_ (Row.lease (κs .1 .1 .1 .1 .0) (qs .1 .1 .1 .1 .0)) (List._∷_ Row.off (List._∷_ Row.off (List._∷_ Row.off (List._∷_ Row.off
               (List._∷_ Row.off (List._∷_ Row.off List.[]))))))))));
@@ -3298,7 +3268,7 @@ module _ (claims· : Claims) where
 
         abbrev G104 : Row.Cx
         G104 = record {
-          locals = List._++_ t11 (List._++_ t70 t2);
+          locals = List._++_ t40 (List._++_ t69 t2);
           slots = List._∷_ (Row.lease (κs .0) (qs .0)) (List._∷_ (Row.lease (κs .1 .0) (qs .1 .0)) (List._∷_ (Row.lease (κs .1 .1 .0) (qs .1 .1 .0))
               (List._∷_ (Row.lease (κs .1 .1 .1 .0) (qs .1 .1 .1 .0)) (List._∷_ (Row.lease (κs .1 .1 .1 .1 .0) (qs .1 .1 .1 .1 .0)) (List._∷_ Row.off (List._∷_ Row.off (List._∷_ Row.off (List._∷_ Row.off
               (List._∷_ Row.off (List._∷_ Row.off List.[]))))))))));
@@ -3306,7 +3276,7 @@ module _ (claims· : Claims) where
 
         abbrev G105 : Row.Cx
         G105 = record {
-          locals = List._++_ t40 (List._++_ t70 t2);
+          locals = List._++_ t41 (List._++_ t69 t2);
           slots = List._∷_ (Row.lease (κs .0) (qs .0)) (List._∷_ (Row.lease (κs .1 .0) (qs .1 .0)) (List._∷_ (Row.lease (κs .1 .1 .0) (qs .1 .1 .0))
               (List._∷_ (Row.lease (κs .1 .1 .1 .0) (qs .1 .1 .1 .0)) (List._∷_ (Row.lease (κs .1 .1 .1 .1 .0) (qs .1 .1 .1 .1 .0)) (List._∷_ Row.off (List._∷_ Row.off (List._∷_ Row.off (List._∷_ Row.off
               (List._∷_ Row.off (List._∷_ Row.off List.[]))))))))));
@@ -3314,7 +3284,7 @@ module _ (claims· : Claims) where
 
         abbrev G106 : Row.Cx
         G106 = record {
-          locals = List._++_ t41 (List._++_ t70 t2);
+          locals = List._++_ t42 (List._++_ t69 t2);
           slots = List._∷_ (Row.lease (κs .0) (qs .0)) (List._∷_ (Row.lease (κs .1 .0) (qs .1 .0)) (List._∷_ (Row.lease (κs .1 .1 .0) (qs .1 .1 .0))
               (List._∷_ (Row.lease (κs .1 .1 .1 .0) (qs .1 .1 .1 .0)) (List._∷_ (Row.lease (κs .1 .1 .1 .1 .0) (qs .1 .1 .1 .1 .0)) (List._∷_ Row.off (List._∷_ Row.off (List._∷_ Row.off (List._∷_ Row.off
               (List._∷_ Row.off (List._∷_ Row.off List.[]))))))))));
@@ -3322,7 +3292,7 @@ module _ (claims· : Claims) where
 
         abbrev G107 : Row.Cx
         G107 = record {
-          locals = List._++_ t42 (List._++_ t70 t2);
+          locals = List._++_ t43 (List._++_ t69 t2);
           slots = List._∷_ (Row.lease (κs .0) (qs .0)) (List._∷_ (Row.lease (κs .1 .0) (qs .1 .0)) (List._∷_ (Row.lease (κs .1 .1 .0) (qs .1 .1 .0))
               (List._∷_ (Row.lease (κs .1 .1 .1 .0) (qs .1 .1 .1 .0)) (List._∷_ (Row.lease (κs .1 .1 .1 .1 .0) (qs .1 .1 .1 .1 .0)) (List._∷_ Row.off (List._∷_ Row.off (List._∷_ Row.off (List._∷_ Row.off
               (List._∷_ Row.off (List._∷_ Row.off List.[]))))))))));
@@ -3330,7 +3300,7 @@ module _ (claims· : Claims) where
 
         abbrev G108 : Row.Cx
         G108 = record {
-          locals = List._++_ t43 (List._++_ t70 t2);
+          locals = List._++_ t44 (List._++_ t69 t2);
           slots = List._∷_ (Row.lease (κs .0) (qs .0)) (List._∷_ (Row.lease (κs .1 .0) (qs .1 .0)) (List._∷_ (Row.lease (κs .1 .1 .0) (qs .1 .1 .0))
               (List._∷_ (Row.lease (κs .1 .1 .1 .0) (qs .1 .1 .1 .0)) (List._∷_ (Row.lease (κs .1 .1 .1 .1 .0) (qs .1 .1 .1 .1 .0)) (List._∷_ Row.off (List._∷_ Row.off (List._∷_ Row.off (List._∷_ Row.off
               (List._∷_ Row.off (List._∷_ Row.off List.[]))))))))));
@@ -3338,15 +3308,15 @@ module _ (claims· : Claims) where
 
         abbrev G109 : Row.Cx
         G109 = record {
-          locals = List._++_ t44 (List._++_ t70 t2);
-          slots = List._∷_ (Row.lease (κs .0) (qs .0)) (List._∷_ (Row.lease (κs .1 .0) (qs .1 .0)) (List._∷_ (Row.lease (κs .1 .1 .0) (qs .1 .1 .0))
-              (List._∷_ (Row.lease (κs .1 .1 .1 .0) (qs .1 .1 .1 .0)) (List._∷_ (Row.lease (κs .1 .1 .1 .1 .0) (qs .1 .1 .1 .1 .0)) (List._∷_ Row.off (List._∷_ Row.off (List._∷_ Row.off (List._∷_ Row.off
-              (List._∷_ Row.off (List._∷_ Row.off List.[]))))))))));
+          locals = List._++_ t3 (List._++_ t69 t2);
+          slots = List._∷_ (Row.lease (κs .0) (qs .0)) (List._∷_ (Row.lease (κs .1 .0) (qs .1 .0)) (List._∷_ (Row.lease (κs .1 .1 .0) (qs .1 .1 .0)) (List._∷_
+              (Row.lease (κs .1 .1 .1 .0) (qs .1 .1 .1 .0)) (List._∷_ (Row.lease (κs .1 .1 .1 .1 .0) (qs .1 .1 .1 .1 .0)) (List._∷_ Row.off (List._∷_ Row.off (List._∷_ Row.off (List._∷_ Row.off (List._∷_
+              Row.off (List._∷_ Row.off List.[]))))))))));
         }
 
         abbrev G110 : Row.Cx
         G110 = record {
-          locals = List._++_ t3 (List._++_ t70 t2);
+          locals = List._++_ t3 (List._++_ t1 t2);
           slots = List._∷_ (Row.lease (κs .0) (qs .0)) (List._∷_ (Row.lease (κs .1 .0) (qs .1 .0)) (List._∷_ (Row.lease (κs .1 .1 .0) (qs .1 .1 .0)) (List._∷_
               (Row.lease (κs .1 .1 .1 .0) (qs .1 .1 .1 .0)) (List._∷_ (Row.lease (κs .1 .1 .1 .1 .0) (qs .1 .1 .1 .1 .0)) (List._∷_ Row.off (List._∷_ Row.off (List._∷_ Row.off (List._∷_ Row.off (List._∷_
               Row.off (List._∷_ Row.off List.[]))))))))));
@@ -3354,15 +3324,15 @@ module _ (claims· : Claims) where
 
         abbrev G111 : Row.Cx
         G111 = record {
-          locals = List._++_ t3 (List._++_ t1 t2);
-          slots = List._∷_ (Row.lease (κs .0) (qs .0)) (List._∷_ (Row.lease (κs .1 .0) (qs .1 .0)) (List._∷_ (Row.lease (κs .1 .1 .0) (qs .1 .1 .0)) (List._∷_
-              (Row.lease (κs .1 .1 .1 .0) (qs .1 .1 .1 .0)) (List._∷_ (Row.lease (κs .1 .1 .1 .1 .0) (qs .1 .1 .1 .1 .0)) (List._∷_ Row.off (List._∷_ Row.off (List._∷_ Row.off (List._∷_ Row.off (List._∷_
-              Row.off (List._∷_ Row.off List.[]))))))))));
+          locals = List._++_ t11 (List._++_ t10 t2);
+          slots = List._∷_ (Row.lease (κs .0) (qs .0)) (List._∷_ (Row.lease (κs .1 .0) (qs .1 .0)) (List._∷_ (Row.lease (κs .1 .1 .0) (qs .1 .1 .0))
+              (List._∷_ (Row.lease (κs .1 .1 .1 .0) (qs .1 .1 .1 .0)) (List._∷_ (Row.lease (κs .1 .1 .1 .1 .0) (qs .1 .1 .1 .1 .0)) (List._∷_ Row.off (List._∷_ Row.off (List._∷_ Row.off (List._∷_ Row.off
+              (List._∷_ Row.off (List._∷_ Row.off List.[]))))))))));
         }
 
         abbrev G112 : Row.Cx
         G112 = record {
-          locals = List._++_ t11 (List._++_ t10 t2);
+          locals = List._++_ t40 (List._++_ t10 t2);
           slots = List._∷_ (Row.lease (κs .0) (qs .0)) (List._∷_ (Row.lease (κs .1 .0) (qs .1 .0)) (List._∷_ (Row.lease (κs .1 .1 .0) (qs .1 .1 .0))
               (List._∷_ (Row.lease (κs .1 .1 .1 .0) (qs .1 .1 .1 .0)) (List._∷_ (Row.lease (κs .1 .1 .1 .1 .0) (qs .1 .1 .1 .1 .0)) (List._∷_ Row.off (List._∷_ Row.off (List._∷_ Row.off (List._∷_ Row.off
               (List._∷_ Row.off (List._∷_ Row.off List.[]))))))))));
@@ -3370,7 +3340,7 @@ module _ (claims· : Claims) where
 
         abbrev G113 : Row.Cx
         G113 = record {
-          locals = List._++_ t40 (List._++_ t10 t2);
+          locals = List._++_ t70 (List._++_ t10 t2);
           slots = List._∷_ (Row.lease (κs .0) (qs .0)) (List._∷_ (Row.lease (κs .1 .0) (qs .1 .0)) (List._∷_ (Row.lease (κs .1 .1 .0) (qs .1 .1 .0))
               (List._∷_ (Row.lease (κs .1 .1 .1 .0) (qs .1 .1 .1 .0)) (List._∷_ (Row.lease (κs .1 .1 .1 .1 .0) (qs .1 .1 .1 .1 .0)) (List._∷_ Row.off (List._∷_ Row.off (List._∷_ Row.off (List._∷_ Row.off
               (List._∷_ Row.off (List._∷_ Row.off List.[]))))))))));
@@ -3394,7 +3364,7 @@ module _ (claims· : Claims) where
 
         abbrev G116 : Row.Cx
         G116 = record {
-          locals = List._++_ t73 (List._++_ t10 t2);
+          locals = List._++_ t72 (List._++_ t69 t2);
           slots = List._∷_ (Row.lease (κs .0) (qs .0)) (List._∷_ (Row.lease (κs .1 .0) (qs .1 .0)) (List._∷_ (Row.lease (κs .1 .1 .0) (qs .1 .1 .0))
               (List._∷_ (Row.lease (κs .1 .1 .1 .0) (qs .1 .1 .1 .0)) (List._∷_ (Row.lease (κs .1 .1 .1 .1 .0) (qs .1 .1 .1 .1 .0)) (List._∷_ Row.off (List._∷_ Row.off (List._∷_ Row.off (List._∷_ Row.off
               (List._∷_ Row.off (List._∷_ Row.off List.[]))))))))));
@@ -3402,10 +3372,10 @@ module _ (claims· : Claims) where
 
         abbrev G117 : Row.Cx
         G117 = record {
-          locals = List._++_ t73 (List._++_ t70 t2);
-          slots = List._∷_ (Row.lease (κs .0) (qs .0)) (List._∷_ (Row.lease (κs .1 .0) (qs .1 .0)) (List._∷_ (Row.lease (κs .1 .1 .0) (qs .1 .1 .0))
-              (List._∷_ (Row.lease (κs .1 .1 .1 .0) (qs .1 .1 .1 .0)) (List._∷_ (Row.lease (κs .1 .1 .1 .1 .0) (qs .1 .1 .1 .1 .0)) (List._∷_ Row.off (List._∷_ Row.off (List._∷_ Row.off (List._∷_ Row.off
-              (List._∷_ Row.off (List._∷_ Row.off List.[]))))))))));
+          locals = List._++_ t72 (List._++_ t1 t2);
+          slots = List._∷_ (Row.lease (κs .0) (qs .0)) (List._∷_ (Row.lease (κs .1 .0) (qs .1 .0)) (List._∷_ (Row.lease (κs .1 .1 .0) (qs .1 .1 .0)) (List._∷_
+              (Row.lease (κs .1 .1 .1 .0) (qs .1 .1 .1 .0)) (List._∷_ (Row.lease (κs .1 .1 .1 .1 .0) (qs .1 .1 .1 .1 .0)) (List._∷_ Row.off (List._∷_ Row.off (List._∷_ Row.off (List._∷_ Row.off (List._∷_
+              Row.off (List._∷_ Row.off List.[]))))))))));
         }
 
         abbrev G118 : Row.Cx
@@ -3418,14 +3388,6 @@ module _ (claims· : Claims) where
 
         abbrev G119 : Row.Cx
         G119 = record {
-          locals = List._++_ t74 (List._++_ t1 t2);
-          slots = List._∷_ (Row.lease (κs .0) (qs .0)) (List._∷_ (Row.lease (κs .1 .0) (qs .1 .0)) (List._∷_ (Row.lease (κs .1 .1 .0) (qs .1 .1 .0)) (List._∷_
-              (Row.lease (κs .1 .1 .1 .0) (qs .1 .1 .1 .0)) (List._∷_ (Row.lease (κs .1 .1 .1 .1 .0) (qs .1 .1 .1 .1 .0)) (List._∷_ Row.off (List._∷_ Row.off (List._∷_ Row.off (List._∷_ Row.off (List._∷_
-              Row.off (List._∷_ Row.off List.[]))))))))));
-        }
-
-        abbrev G120 : Row.Cx
-        G120 = record {
           locals = List._++_ t3 (List._++_ t1 t2);
           slots = List._∷_ (Row.lease (κs .0) (qs .0)) (List._∷_ (Row.lease (κs .1 .0) (qs .1 .0)) (List._∷_ (Row.lease (κs .1 .1 .0) (qs .1 .1 .0)) (List._∷_
               (Row.lease (κs .1 .1 .1 .0) (qs .1 .1 .1 .0)) (List._∷_ (Row.lease (κs .1 .1 .1 .1 .0) (qs .1 .1 .1 .1 .0)) (List._∷_ Row.off (List._∷_ Row.off (List._∷_ Row.off (List._∷_ Row.off (List._∷_
@@ -3448,10 +3410,10 @@ module _ (claims· : Claims) where
         Δ4 = Typed.withNext (Option.some G14) Δ3
 
         abbrev Δ5 : Typed.Outs
-        Δ5 = Typed.withNext (Option.some G50) Δ3
+        Δ5 = Typed.withNext (Option.some G51) Δ3
 
         abbrev Δ6 : Typed.Outs
-        Δ6 = Typed.withNext (Option.some G101) Δ0
+        Δ6 = Typed.withNext (Option.some G100) Δ0
 
         module _ {M : Type 1} (𝓤 : URA.URA M) (H : Wp.Heap 𝓤) (A : Atoms.Atoms 𝓤) (W : Kit.Given 𝓤 H A) (𝓣 : Wp.Tables 𝓤 H) (known : Knowns 𝓤 H A W 𝓣) (bs : List.List Nat.ℕ) (bd : Lifetimes.AllOutlive
             5 (Kinds.osR r) κs) where
@@ -3528,87 +3490,75 @@ module _ (claims· : Claims) where
               Path'.refl)) d17
 
           d19 : Typed.Typed 𝓤 H A 𝓣 E G54 b24 Δ5 (at19 bs)
-          d19 = Typed.g-pre 𝓤 H A W 𝓣 E G54 G55 b24 Δ5 (Typed.pass T54 T55 (s50 bs)) (at18 bs) (Scalar.g-room 𝓤 H A W E G54 19 y1 (Local.room-whole 𝓤 H A W (Declared'.row Plan.the-type) y1
+          d19 = Typed.g-pre 𝓤 H A W 𝓣 E G54 G55 b24 Δ5 (Typed.pass T54 T55 (s50 bs)) (at18 bs) (Scalar.g-room 𝓤 H A W E G54 18 y1 (Local.room-whole 𝓤 H A W (Declared'.row Plan.the-type) y1
               Path'.refl)) d18
 
           d20 : Typed.Typed 𝓤 H A 𝓣 E G53 b24 Δ5 (at20 bs)
-          d20 = Typed.g-pre 𝓤 H A W 𝓣 E G53 G54 b24 Δ5 (Typed.pass T53 T54 (s49 bs)) (at19 bs) (Scalar.g-room 𝓤 H A W E G53 18 y1 (Local.room-whole 𝓤 H A W (Declared'.row Plan.the-type) y1
+          d20 = Typed.g-pre 𝓤 H A W 𝓣 E G53 G54 b24 Δ5 (Typed.pass T53 T54 (s49 bs)) (at19 bs) (Scalar.g-room 𝓤 H A W E G53 10 y0 (Local.room-whole 𝓤 H A W (Declared'.row Part.the-type) y0
               Path'.refl)) d19
 
           d21 : Typed.Typed 𝓤 H A 𝓣 E G52 b24 Δ5 (at21 bs)
-          d21 = Typed.g-pre 𝓤 H A W 𝓣 E G52 G53 b24 Δ5 (Typed.pass T52 T53 (s48 bs)) (at20 bs) (Scalar.g-room 𝓤 H A W E G52 10 y0 (Local.room-whole 𝓤 H A W (Declared'.row Part.the-type) y0
-              Path'.refl)) d20
+          d21 = Typed.g-pre 𝓤 H A W 𝓣 E G52 G53 b24 Δ5 (Typed.pass T52 T53 (s48 bs)) (at20 bs) (Scalar.g-room 𝓤 H A W E G52 9 (Syntax.tyArray (Syntax.tyInt Syntax.w8) 36) (Init.room-arr 𝓤 H A W
+              (Referent.rtF (Referent.fInt Syntax.w8)) 36 0 36 Path'.refl)) d20
 
-          d22 : Typed.Typed 𝓤 H A 𝓣 E G51 b24 Δ5 (at22 bs)
-          d22 = Typed.g-pre 𝓤 H A W 𝓣 E G51 G52 b24 Δ5 (Typed.pass T51 T52 (s47 bs)) (at21 bs) (Scalar.g-room 𝓤 H A W E G51 9 (Syntax.tyArray (Syntax.tyInt Syntax.w8) 36) (Init.room-arr 𝓤 H A W
-              (Referent.rtF (Referent.fInt Syntax.w8)) 36 0 36 Path'.refl)) d21
+          d22 : Typed.Typed 𝓤 H A 𝓣 E G50 b24 Δ5 (at22 bs)
+          d22 = Typed.g-pre 𝓤 H A W 𝓣 E G50 G52 b24 Δ5 (Typed.pass T50 T52 (s47 bs)) (at21 bs) (Scalar.g-room 𝓤 H A W E G50 7 y2 (Local.room-whole 𝓤 H A W (Declared'.row Quantisers.the-type) y2
+              Path'.refl)) d21
 
-          d23 : Typed.Typed 𝓤 H A 𝓣 E G49 b24 Δ5 (at23 bs)
-          d23 = Typed.g-pre 𝓤 H A W 𝓣 E G49 G51 b24 Δ5 (Typed.pass T49 T51 (s46 bs)) (at22 bs) (Scalar.g-room 𝓤 H A W E G49 7 y2 (Local.room-whole 𝓤 H A W (Declared'.row Quantisers.the-type) y2
-              Path'.refl)) d22
+          d23 : Typed.Typed 𝓤 H A 𝓣 E G66 b25 Δ5 (at23 bs)
+          d23 = Typed.t-skip 𝓤 H A W 𝓣 E Δ5 tt
 
-          d24 : Typed.Typed 𝓤 H A 𝓣 E G66 b25 Δ5 (at24 bs)
-          d24 = Typed.t-skip 𝓤 H A W 𝓣 E Δ5 tt
+          d24 : Typed.Typed 𝓤 H A 𝓣 E G50 b25 Δ5 (at24 bs)
+          d24 = Typed.g-pre 𝓤 H A W 𝓣 E G50 G66 b25 Δ5 (Typed.pass T50 T66 (s61 bs)) (at23 bs) (Scalar.g-room 𝓤 H A W E G50 25 Syntax.tyBool (Scalar.room-sc 𝓤 H A W Row.sBool)) d23
 
-          d25 : Typed.Typed 𝓤 H A 𝓣 E G49 b25 Δ5 (at25 bs)
-          d25 = Typed.g-pre 𝓤 H A W 𝓣 E G49 G66 b25 Δ5 (Typed.pass T49 T66 (s61 bs)) (at24 bs) (Scalar.g-room 𝓤 H A W E G49 25 Syntax.tyBool (Scalar.room-sc 𝓤 H A W Row.sBool)) d24
+          d25 : Typed.Typed 𝓤 H A 𝓣 E G50 b26 Δ5 (at25 bs)
+          d25 = Scalar.t-cond 𝓤 H A W E 𝓣 G50 25 (λ x. x) b24 b25 Δ5 (at22 bs) (at24 bs) (Scalar.reads-sc 𝓤 H A W Row.sBool) Path'.refl d22 d24
 
-          d26 : Typed.Typed 𝓤 H A 𝓣 E G49 b26 Δ5 (at26 bs)
-          d26 = Scalar.t-cond 𝓤 H A W E 𝓣 G49 25 (λ x. x) b24 b25 Δ5 (at23 bs) (at25 bs) (Scalar.reads-sc 𝓤 H A W Row.sBool) Path'.refl d23 d25
-
-          d27 : Typed.Typed 𝓤 H A 𝓣 E G96 b37 Δ3 (at27 bs)
-          d27 = Typed.s-typed 𝓤 H A W 𝓣 E G96 b37 Δ3 (λ Ψ. Typed.ask (s92 bs) (Typed.pass T97 T98 (s93 bs) Ψ)) tt (Typed.g-post 𝓤 H A W 𝓣 E G96 G97 G98 b37 (Typed.ask (s92 bs)) (Typed.pass T97 T98
-              (s93 bs)) (Scalar.t-op2 𝓤 H A W E 𝓣 G96 (Syntax.add Syntax.unsigned) (Scalar.oAt 17 (Syntax.tyInt Syntax.w64) (Row.valS (Row.sInt Syntax.w64))) (Scalar.oInt Syntax.w64 1) 17 (Rows'.sc-here
+          d26 : Typed.Typed 𝓤 H A 𝓣 E G95 b37 Δ3 (at26 bs)
+          d26 = Typed.s-typed 𝓤 H A W 𝓣 E G95 b37 Δ3 (λ Ψ. Typed.ask (s91 bs) (Typed.pass T96 T97 (s92 bs) Ψ)) tt (Typed.g-post 𝓤 H A W 𝓣 E G95 G96 G97 b37 (Typed.ask (s91 bs)) (Typed.pass T96 T97
+              (s92 bs)) (Scalar.t-op2 𝓤 H A W E 𝓣 G95 (Syntax.add Syntax.unsigned) (Scalar.oAt 17 (Syntax.tyInt Syntax.w64) (Row.valS (Row.sInt Syntax.w64))) (Scalar.oInt Syntax.w64 1) 17 (Rows'.sc-here
               (Row.sInt Syntax.w64)) (Syntax.tyInt Syntax.w64) (Row.valS (Row.sInt Syntax.w64)) (Row.sInt Syntax.w64 .of) (Scalar.reads-sc 𝓤 H A W (Row.sInt Syntax.w64), Path'.refl) tt (Scalar.room-sc 𝓤 H
-              A W (Row.sInt Syntax.w64)) (Scalar.holds-sc 𝓤 H A W (Row.sInt Syntax.w64)) Path'.refl (λ u. Path'.refl) λ u. tt) (Scalar.g-room 𝓤 H A W E G97 22 Syntax.tyBool (Scalar.room-sc 𝓤 H A W
+              A W (Row.sInt Syntax.w64)) (Scalar.holds-sc 𝓤 H A W (Row.sInt Syntax.w64)) Path'.refl (λ u. Path'.refl) λ u. tt) (Scalar.g-room 𝓤 H A W E G96 22 Syntax.tyBool (Scalar.room-sc 𝓤 H A W
               Row.sBool)))
 
-          d28 : Typed.Typed 𝓤 H A 𝓣 E G95 b37 Δ3 (at28 bs)
-          d28 = Typed.g-pre 𝓤 H A W 𝓣 E G95 G96 b37 Δ3 (λ Ψ. Ψ) (at27 bs) (Lifetime.g-forget 𝓤 H A W E G95 10 Row.dead Path'.refl) d27
+          d27 : Typed.Typed 𝓤 H A 𝓣 E G94 b37 Δ3 (at27 bs)
+          d27 = Typed.g-pre 𝓤 H A W 𝓣 E G94 G95 b37 Δ3 (λ Ψ. Ψ) (at26 bs) (Lifetime.g-forget 𝓤 H A W E G94 10 Row.dead Path'.refl) d26
 
-          d29 : Typed.Typed 𝓤 H A 𝓣 E G94 b37 Δ3 (at29 bs)
-          d29 = Typed.g-pre 𝓤 H A W 𝓣 E G94 G95 b37 Δ3 (Typed.give (s90 bs)) (at28 bs) (Know.g-sl-known 𝓤 H A W (Referent.fInt Syntax.w16) E G94 5 3 (Syntax.tyRef (Syntax.named 3) Syntax.mut
+          d28 : Typed.Typed 𝓤 H A 𝓣 E G93 b37 Δ3 (at28 bs)
+          d28 = Typed.g-pre 𝓤 H A W 𝓣 E G93 G94 b37 Δ3 (Typed.give (s89 bs)) (at27 bs) (Know.g-sl-known 𝓤 H A W (Referent.fInt Syntax.w16) E G93 5 3 (Syntax.tyRef (Syntax.named 3) Syntax.mut
               (Syntax.tyInt Syntax.w16)) (Row.lease (κs .1 .1 .1 .0) (qs .1 .1 .1 .0)) 0 (λ x. x) record { fits = Dec'.lit< tt } (Reads'.as-is 𝓤 H A (Mut.mslice (Referent.rtF (Referent.fInt Syntax.w16))
-              (Syntax.tyRef (Syntax.named 3) Syntax.mut (Syntax.tyInt Syntax.w16)) 3)) Path'.refl tt) d28
+              (Syntax.tyRef (Syntax.named 3) Syntax.mut (Syntax.tyInt Syntax.w16)) 3)) Path'.refl tt) d27
 
-          d30 : Typed.Typed 𝓤 H A 𝓣 E G93 b37 Δ3 (at30 bs)
-          d30 = Typed.g-pre 𝓤 H A W 𝓣 E G93 G94 b37 Δ3 (Typed.both (s89 bs)) (at29 bs) (Relend.g-back-sl 𝓤 H A W E (Referent.rtF (Referent.fInt Syntax.w16)) G93 38 5 3 10 (Syntax.tyRef (Syntax.named
+          d29 : Typed.Typed 𝓤 H A 𝓣 E G92 b37 Δ3 (at29 bs)
+          d29 = Typed.g-pre 𝓤 H A W 𝓣 E G92 G93 b37 Δ3 (Typed.both (s88 bs)) (at28 bs) (Relend.g-back-sl 𝓤 H A W E (Referent.rtF (Referent.fInt Syntax.w16)) G92 38 5 3 10 (Syntax.tyRef (Syntax.named
               3) Syntax.mut (Syntax.tyInt Syntax.w16)) (Syntax.tyRef Syntax.erased Syntax.mut (Syntax.tyInt Syntax.w16)) (Row.lease (κs .1 .1 .1 .0) (qs .1 .1 .1 .0)) (λ x. x) (λ x. x) (Reads'.as-is 𝓤 H A
               (Mut.msleft (Referent.rtF (Referent.fInt Syntax.w16)) (Syntax.tyRef Syntax.erased Syntax.mut (Syntax.tyInt Syntax.w16)))) (Reads'.as-is 𝓤 H A (Relend.mslice-owed (Referent.rtF (Referent.fInt
-              Syntax.w16)) (Syntax.tyRef (Syntax.named 3) Syntax.mut (Syntax.tyInt Syntax.w16)) 3 10 (Row.lease (κs .1 .1 .1 .0) (qs .1 .1 .1 .0)))) Path'.refl Path'.refl) d29
+              Syntax.w16)) (Syntax.tyRef (Syntax.named 3) Syntax.mut (Syntax.tyInt Syntax.w16)) 3 10 (Row.lease (κs .1 .1 .1 .0) (qs .1 .1 .1 .0)))) Path'.refl Path'.refl) d28
 
-          d31 : Typed.Typed 𝓤 H A 𝓣 E G92 b37 Δ3 (at31 bs)
-          d31 = Typed.g-pre 𝓤 H A W 𝓣 E G92 G93 b37 Δ3 (λ Ψ. Ψ) (at30 bs) (Lifetime.g-end 𝓤 H A W E G92 10 Path'.refl) d30
+          d30 : Typed.Typed 𝓤 H A 𝓣 E G91 b37 Δ3 (at30 bs)
+          d30 = Typed.g-pre 𝓤 H A W 𝓣 E G91 G92 b37 Δ3 (λ Ψ. Ψ) (at29 bs) (Lifetime.g-end 𝓤 H A W E G91 10 Path'.refl) d29
 
-          d32 : Typed.Typed 𝓤 H A 𝓣 E G91 b37 Δ3 (at32 bs)
-          d32 = Typed.g-pre 𝓤 H A W 𝓣 E G91 G92 b37 Δ3 (λ Ψ. Ψ) (at31 bs) (Lifetime.g-forget 𝓤 H A W E G91 9 Row.dead Path'.refl) d31
+          d31 : Typed.Typed 𝓤 H A 𝓣 E G90 b37 Δ3 (at31 bs)
+          d31 = Typed.g-pre 𝓤 H A W 𝓣 E G90 G91 b37 Δ3 (λ Ψ. Ψ) (at30 bs) (Lifetime.g-forget 𝓤 H A W E G90 9 Row.dead Path'.refl) d30
 
-          d33 : Typed.Typed 𝓤 H A 𝓣 E G90 b37 Δ3 (at33 bs)
-          d33 = Typed.g-pre 𝓤 H A W 𝓣 E G90 G91 b37 Δ3 (Typed.pass T89 T91 (s86 bs)) (at32 bs) (Reshare.g-back-sl-shr 𝓤 H A W E (Referent.rtF (Referent.fInt Syntax.w16)) G90 3 1 9 (Syntax.tyRef
+          d32 : Typed.Typed 𝓤 H A 𝓣 E G89 b37 Δ3 (at32 bs)
+          d32 = Typed.g-pre 𝓤 H A W 𝓣 E G89 G90 b37 Δ3 (Typed.pass T88 T90 (s85 bs)) (at31 bs) (Reshare.g-back-sl-shr 𝓤 H A W E (Referent.rtF (Referent.fInt Syntax.w16)) G89 3 1 9 (Syntax.tyRef
               (Syntax.named 1) Syntax.mut (Syntax.tyInt Syntax.w16)) (Row.lease (κs .1 .0) (qs .1 .0)) (λ x. x) (Reads'.as-is 𝓤 H A (Reshare.mslice-owedS (Referent.rtF (Referent.fInt Syntax.w16))
-              (Syntax.tyRef (Syntax.named 1) Syntax.mut (Syntax.tyInt Syntax.w16)) 1 9 (Row.lease (κs .1 .0) (qs .1 .0)))) Path'.refl Path'.refl) d32
+              (Syntax.tyRef (Syntax.named 1) Syntax.mut (Syntax.tyInt Syntax.w16)) 1 9 (Row.lease (κs .1 .0) (qs .1 .0)))) Path'.refl Path'.refl) d31
 
-          d34 : Typed.Typed 𝓤 H A 𝓣 E G89 b37 Δ3 (at34 bs)
-          d34 = Typed.g-pre 𝓤 H A W 𝓣 E G89 G90 b37 Δ3 (λ Ψ. Ψ) (at33 bs) (Lifetime.g-end 𝓤 H A W E G89 9 Path'.refl) d33
+          d33 : Typed.Typed 𝓤 H A 𝓣 E G88 b37 Δ3 (at33 bs)
+          d33 = Typed.g-pre 𝓤 H A W 𝓣 E G88 G89 b37 Δ3 (λ Ψ. Ψ) (at32 bs) (Lifetime.g-end 𝓤 H A W E G88 9 Path'.refl) d32
 
-          d35 : Typed.Typed 𝓤 H A 𝓣 E G88 b37 Δ3 (at35 bs)
-          d35 = Typed.g-pre 𝓤 H A W 𝓣 E G88 G89 b37 Δ3 (Typed.pass T88 T89 (s84 bs)) (at34 bs) (Scalar.g-room 𝓤 H A W E G88 26 Syntax.tyUnit (Scalar.room-sc 𝓤 H A W Row.sUnit)) d34
+          d34 : Typed.Typed 𝓤 H A 𝓣 E G87 b37 Δ3 (at34 bs)
+          d34 = Typed.g-pre 𝓤 H A W 𝓣 E G87 G88 b37 Δ3 (Typed.pass T87 T88 (s83 bs)) (at33 bs) (Scalar.g-room 𝓤 H A W E G87 26 Syntax.tyUnit (Scalar.room-sc 𝓤 H A W Row.sUnit)) d33
 
-          d36 : Typed.Typed 𝓤 H A 𝓣 E G87 b37 Δ3 (at36 bs)
-          d36 = Typed.g-pre 𝓤 H A W 𝓣 E G87 G88 b37 Δ3 (Typed.pass T87 T88 (s83 bs)) (at35 bs) (Scalar.g-room 𝓤 H A W E G87 19 y1 (Local.room-whole 𝓤 H A W (Declared'.row Plan.the-type) y1
-              Path'.refl)) d35
+          d35 : Typed.Typed 𝓤 H A 𝓣 E G86 b37 Δ3 (at35 bs)
+          d35 = Typed.g-pre 𝓤 H A W 𝓣 E G86 G87 b37 Δ3 (Typed.pass T86 T87 (s82 bs)) (at34 bs) (Scalar.g-room 𝓤 H A W E G86 36 y4 (Shared.room-sslice 𝓤 H A W (Referent.rtF (Referent.fInt Syntax.w16))
+              (Syntax.tyRef Syntax.erased Syntax.imm (Syntax.tyInt Syntax.w16)) 9)) d34
 
-          d37 : Typed.Typed 𝓤 H A 𝓣 E G86 b37 Δ3 (at37 bs)
-          d37 = Typed.g-pre 𝓤 H A W 𝓣 E G86 G87 b37 Δ3 (Typed.pass T86 T87 (s82 bs)) (at36 bs) (Scalar.g-room 𝓤 H A W E G86 18 y1 (Local.room-whole 𝓤 H A W (Declared'.row Plan.the-type) y1
-              Path'.refl)) d36
-
-          d38 : Typed.Typed 𝓤 H A 𝓣 E G85 b37 Δ3 (at38 bs)
-          d38 = Typed.g-pre 𝓤 H A W 𝓣 E G85 G86 b37 Δ3 (Typed.pass T85 T86 (s81 bs)) (at37 bs) (Scalar.g-room 𝓤 H A W E G85 36 y4 (Shared.room-sslice 𝓤 H A W (Referent.rtF (Referent.fInt Syntax.w16))
-              (Syntax.tyRef Syntax.erased Syntax.imm (Syntax.tyInt Syntax.w16)) 9)) d37
-
-          d39 : Typed.Typed 𝓤 H A 𝓣 E G84 b38 Δ3 (at39 bs)
-          d39 = Typed.s-seq 𝓤 H A W 𝓣 E G84 G85 b36 b37 Δ3 (Typed.both (s80 bs)) (at38 bs) (Plain.t-call-plain 𝓤 H A W 𝓣 3 ps·7 r·7 (claims· .14) (claims· .15) "map::windows::emit_pass" (known .7) E
-              (λ pos β. β) G84 (
+          d36 : Typed.Typed 𝓤 H A 𝓣 E G85 b38 Δ3 (at36 bs)
+          d36 = Typed.s-seq 𝓤 H A W 𝓣 E G85 G86 b36 b37 Δ3 (Typed.both (s81 bs)) (at35 bs) (Plain.t-call-plain 𝓤 H A W 𝓣 3 ps·7 r·7 (claims· .14) (claims· .15) "block::reading::emit_pass_at" (known
+              .7) E (λ pos β. β) G85 (
                 record { pos = 36; ty = Syntax.tyRef Syntax.erased Syntax.imm (Syntax.tyInt Syntax.w16); ref = λ x. x },
                 (
                   record { pos = 38; ty = Syntax.tyRef Syntax.erased Syntax.mut (Syntax.tyInt Syntax.w16); ref = λ x. x },
@@ -3618,31 +3568,13 @@ module _ (claims· : Claims) where
                       Bool.bAt 14 λ x. x,
                       (
                         record { pos = 8; ty = Syntax.tyRef (Syntax.named 4) Syntax.imm (Syntax.tyArray (Syntax.tyInt Syntax.w16) 768); ref = λ x. x },
-                        (
-                          record { pos = 9; st = List.[]; d = 0; at = λ x. x },
-                          (
-                            record { pos = 10; st = List.[]; d = 0; at = λ x. x },
-                            (
-                              Num.vAt 11 λ x. x,
-                              (
-                                Num.vFld 18 (List._∷_ (Syntax.field 0) List.[]) 0 λ x. Plan.struct .as-values x .0,
-                                (
-                                  Num.vFld 19 (List._∷_ (Syntax.field 0) List.[]) 0 λ x. Plan.struct .as-values x .0,
-                                  (
-                                    Num.vFld 18 (List._∷_ (Syntax.field 1) List.[]) 8 λ x. Plan.struct .as-values x .1 .0,
-                                    (Num.vFld 19 (List._∷_ (Syntax.field 1) List.[]) 8 λ x. Plan.struct .as-values x .1 .0, (Bool.bAt 12 λ x. x, tt)),
-                                  ),
-                                ),
-                              ),
-                            ),
-                          ),
-                        ),
+                        (record { pos = 9; st = List.[]; d = 0; at = λ x. x }, (record { pos = 10; st = List.[]; d = 0; at = λ x. x }, (Num.vAt 11 λ x. x, (Num.vAt 17 λ x. x, (Bool.bAt 12 λ x. x, tt))))),
                       ),
                     ),
                   ),
                 ),
-              ) 26 (List._∷_ 9 (List._∷_ 10 (List._∷_ 4 List.[]))) (Call.sub-id 𝓤
-              H A W (G84 .slots)) (
+              ) 26
+              (List._∷_ 9 (List._∷_ 10 (List._∷_ 4 List.[]))) (Call.sub-id 𝓤 H A W (G85 .slots)) (
                 ShrSlice.spares-sslice 𝓤 H A W (Referent.rtF (Referent.fInt Syntax.w16)) (Syntax.tyRef Syntax.erased Syntax.imm (Syntax.tyInt Syntax.w16)) 9,
                 Shared.reads-sslice 𝓤 H A W (Referent.rtF
                     (Referent.fInt Syntax.w16)) (Syntax.tyRef Syntax.erased Syntax.imm (Syntax.tyInt Syntax.w16)) 9,
@@ -3668,19 +3600,7 @@ module _ (claims· : Claims) where
                                   Part.the-type)) (λ x. x) (λ x. x) (λ ρ told. Local.mem-whole 𝓤 H A W (Declared'.row Part.the-type) ρ) λ ρ told. Local.whole-mem 𝓤 H A W (Declared'.row Part.the-type) ρ,
                               Path'.refl,
                             ),
-                            (
-                              (Scalar.reads-sc 𝓤 H A W (Row.sInt Syntax.w64), Path'.refl),
-                              (
-                                (Reads.reads-field 𝓤 H A W Plan.the-type Laws'6.the-laws 0 (Syntax.tyInt Syntax.w64) 0 Path'.refl, Path'.refl),
-                                (
-                                  (Reads.reads-field 𝓤 H A W Plan.the-type Laws'6.the-laws 0 (Syntax.tyInt Syntax.w64) 0 Path'.refl, Path'.refl),
-                                  (
-                                    (Reads.reads-field 𝓤 H A W Plan.the-type Laws'6.the-laws 1 (Syntax.tyInt Syntax.w64) 8 Path'.refl, Path'.refl),
-                                    ((Reads.reads-field 𝓤 H A W Plan.the-type Laws'6.the-laws 1 (Syntax.tyInt Syntax.w64) 8 Path'.refl, Path'.refl), ((Scalar.reads-sc 𝓤 H A W Row.sBool, Path'.refl), tt)),
-                                  ),
-                                ),
-                              ),
-                            ),
+                            ((Scalar.reads-sc 𝓤 H A W (Row.sInt Syntax.w64), Path'.refl), ((Scalar.reads-sc 𝓤 H A W (Row.sInt Syntax.w64), Path'.refl), ((Scalar.reads-sc 𝓤 H A W Row.sBool, Path'.refl), tt))),
                           ),
                         ),
                       ),
@@ -3688,26 +3608,26 @@ module _ (claims· : Claims) where
                   ),
                 ),
               )
-              (Reads'.room-gone 𝓤 H A Syntax.tyUnit) (tt, (tt, (tt, tt))) Path'.refl) d38
+              (Reads'.room-gone 𝓤 H A Syntax.tyUnit) (tt, (tt, (tt, tt))) Path'.refl) d35
 
-          d40 : Typed.Typed 𝓤 H A 𝓣 E G83 b39 Δ3 (at40 bs)
-          d40 = Typed.s-seq 𝓤 H A W 𝓣 E G83 G84 b35 b38 Δ3 (Typed.ask (s79 bs)) (at39 bs) (Relend.t-sl-aggregate 𝓤 H A W E (Referent.rtF (Referent.fInt Syntax.w16)) 𝓣 (Relend.asMut (Referent.rtF
-              (Referent.fInt Syntax.w16))) G83 37 38 10 (Syntax.tyRef Syntax.erased Syntax.mut (Syntax.tyInt Syntax.w16)) (Syntax.tyRef Syntax.erased Syntax.mut (Syntax.tyInt Syntax.w16)) (λ x. x)
+          d37 : Typed.Typed 𝓤 H A 𝓣 E G84 b39 Δ3 (at37 bs)
+          d37 = Typed.s-seq 𝓤 H A W 𝓣 E G84 G85 b35 b38 Δ3 (Typed.ask (s80 bs)) (at36 bs) (Relend.t-sl-aggregate 𝓤 H A W E (Referent.rtF (Referent.fInt Syntax.w16)) 𝓣 (Relend.asMut (Referent.rtF
+              (Referent.fInt Syntax.w16))) G84 37 38 10 (Syntax.tyRef Syntax.erased Syntax.mut (Syntax.tyInt Syntax.w16)) (Syntax.tyRef Syntax.erased Syntax.mut (Syntax.tyInt Syntax.w16)) (λ x. x)
               (Scalar.oFld 5 (List._∷_ (Syntax.field 1) List.[]) (Syntax.tyInt Syntax.w64) 8 λ v. Shared.lenV (v .0)) (Reads'.as-is 𝓤 H A (Relend.msptr (Referent.rtF (Referent.fInt Syntax.w16))
               (Syntax.tyRef Syntax.erased Syntax.mut (Syntax.tyInt Syntax.w16)) 10)) (Reads'.room-gone 𝓤 H A y5) (
                 Relend.reads-owed-len 𝓤 H A W (Referent.rtF (Referent.fInt Syntax.w16)) (Syntax.tyRef (Syntax.named 3) Syntax.mut (Syntax.tyInt Syntax.w16)) 3 10 (Row.lease (κs .1 .1 .1 .0) (qs .1 .1 .1
                     .0)) 8 Path'.refl,
                 Path'.refl,
-              ) Path'.refl Path'.refl λ b o k. tt) d39
+              ) Path'.refl Path'.refl λ b o k. tt) d36
 
-          d41 : Typed.Typed 𝓤 H A 𝓣 E G82 b40 Δ3 (at41 bs)
-          d41 = Typed.s-seq 𝓤 H A W 𝓣 E G82 G83 b34 b39 Δ3 (Typed.give (s78 bs)) (at40 bs) (Relend.t-sl-relend 𝓤 H A W E (Referent.rtF (Referent.fInt Syntax.w16)) 𝓣 G82 5 37 3 10 (Syntax.tyRef
+          d38 : Typed.Typed 𝓤 H A 𝓣 E G83 b40 Δ3 (at38 bs)
+          d38 = Typed.s-seq 𝓤 H A W 𝓣 E G83 G84 b34 b39 Δ3 (Typed.give (s79 bs)) (at37 bs) (Relend.t-sl-relend 𝓤 H A W E (Referent.rtF (Referent.fInt Syntax.w16)) 𝓣 G83 5 37 3 10 (Syntax.tyRef
               (Syntax.named 3) Syntax.mut (Syntax.tyInt Syntax.w16)) (Syntax.tyRef Syntax.erased Syntax.mut (Syntax.tyInt Syntax.w16)) (Row.lease (κs .1 .1 .1 .0) (qs .1 .1 .1 .0)) 0 (λ x. x)
               (Reads'.as-is 𝓤 H A (Mut.mslice (Referent.rtF (Referent.fInt Syntax.w16)) (Syntax.tyRef (Syntax.named 3) Syntax.mut (Syntax.tyInt Syntax.w16)) 3)) (Reads'.room-gone 𝓤 H A (Syntax.tyRef
-              Syntax.erased Syntax.mut (Syntax.tyInt Syntax.w16))) Path'.refl tt Path'.refl Path'.refl Path'.refl λ b o. tt) d40
+              Syntax.erased Syntax.mut (Syntax.tyInt Syntax.w16))) Path'.refl tt Path'.refl Path'.refl Path'.refl λ b o. tt) d37
 
-          d42 : Typed.Typed 𝓤 H A 𝓣 E G81 b40 Δ3 (at42 bs)
-          d42 = Typed.g-pre 𝓤 H A W 𝓣 E G81 G82 b40 Δ3 (λ Ψ. Ψ) (at41 bs) (Lifetime.g-begin 𝓤 H A W E G81 10 (
+          d39 : Typed.Typed 𝓤 H A 𝓣 E G82 b40 Δ3 (at39 bs)
+          d39 = Typed.g-pre 𝓤 H A W 𝓣 E G82 G83 b40 Δ3 (λ Ψ. Ψ) (at38 bs) (Lifetime.g-begin 𝓤 H A W E G82 10 (
             tt,
             (
               tt,
@@ -3741,26 +3661,26 @@ module _ (claims· : Claims) where
               ),
             ),
           ))
-              d41
+              d38
 
-          d43 : Typed.Typed 𝓤 H A 𝓣 E G80 b41 Δ3 (at43 bs)
-          d43 = Typed.s-seq 𝓤 H A W 𝓣 E G80 G81 b33 b40 Δ3 (Typed.ask (s76 bs)) (at42 bs) (Relend.t-sl-aggregate 𝓤 H A W E (Referent.rtF (Referent.fInt Syntax.w16)) 𝓣 (Relend.asShr (Referent.rtF
-              (Referent.fInt Syntax.w16))) G80 35 36 9 (Syntax.tyRef Syntax.erased Syntax.imm (Syntax.tyInt Syntax.w16)) (Syntax.tyRef Syntax.erased Syntax.imm (Syntax.tyInt Syntax.w16)) (λ x. x)
+          d40 : Typed.Typed 𝓤 H A 𝓣 E G81 b41 Δ3 (at40 bs)
+          d40 = Typed.s-seq 𝓤 H A W 𝓣 E G81 G82 b33 b40 Δ3 (Typed.ask (s77 bs)) (at39 bs) (Relend.t-sl-aggregate 𝓤 H A W E (Referent.rtF (Referent.fInt Syntax.w16)) 𝓣 (Relend.asShr (Referent.rtF
+              (Referent.fInt Syntax.w16))) G81 35 36 9 (Syntax.tyRef Syntax.erased Syntax.imm (Syntax.tyInt Syntax.w16)) (Syntax.tyRef Syntax.erased Syntax.imm (Syntax.tyInt Syntax.w16)) (λ x. x)
               (Scalar.oFld 3 (List._∷_ (Syntax.field 1) List.[]) (Syntax.tyInt Syntax.w64) 8 λ v. Shared.lenV (v .0)) (Reads'.as-is 𝓤 H A (Relend.ssptr (Referent.rtF (Referent.fInt Syntax.w16))
               (Syntax.tyRef Syntax.erased Syntax.imm (Syntax.tyInt Syntax.w16)) 9)) (Reads'.room-gone 𝓤 H A y4) (
                 Reshare.reads-owedS-len 𝓤 H A W (Referent.rtF (Referent.fInt Syntax.w16)) (Syntax.tyRef (Syntax.named 1) Syntax.mut (Syntax.tyInt Syntax.w16)) 1 9 (Row.lease (κs .1 .0) (qs .1 .0)) 8
                     Path'.refl,
                 Path'.refl,
-              ) Path'.refl Path'.refl λ b o k. tt) d42
+              ) Path'.refl Path'.refl λ b o k. tt) d39
 
-          d44 : Typed.Typed 𝓤 H A 𝓣 E G79 b42 Δ3 (at44 bs)
-          d44 = Typed.s-seq 𝓤 H A W 𝓣 E G79 G80 b32 b41 Δ3 (Typed.give (s75 bs)) (at43 bs) (Reshare.t-sl-reshare 𝓤 H A W E (Referent.rtF (Referent.fInt Syntax.w16)) 𝓣 G79 3 35 1 9 (Syntax.tyRef
+          d41 : Typed.Typed 𝓤 H A 𝓣 E G80 b42 Δ3 (at41 bs)
+          d41 = Typed.s-seq 𝓤 H A W 𝓣 E G80 G81 b32 b41 Δ3 (Typed.give (s76 bs)) (at40 bs) (Reshare.t-sl-reshare 𝓤 H A W E (Referent.rtF (Referent.fInt Syntax.w16)) 𝓣 G80 3 35 1 9 (Syntax.tyRef
               (Syntax.named 1) Syntax.mut (Syntax.tyInt Syntax.w16)) (Syntax.tyRef Syntax.erased Syntax.imm (Syntax.tyInt Syntax.w16)) (Row.lease (κs .1 .0) (qs .1 .0)) 0 (λ x. x) (Reads'.as-is 𝓤 H A
               (Mut.mslice (Referent.rtF (Referent.fInt Syntax.w16)) (Syntax.tyRef (Syntax.named 1) Syntax.mut (Syntax.tyInt Syntax.w16)) 1)) (Reads'.room-gone 𝓤 H A (Syntax.tyRef Syntax.erased Syntax.imm
-              (Syntax.tyInt Syntax.w16))) Path'.refl tt Path'.refl Path'.refl Path'.refl λ b o. tt) d43
+              (Syntax.tyInt Syntax.w16))) Path'.refl tt Path'.refl Path'.refl Path'.refl λ b o. tt) d40
 
-          d45 : Typed.Typed 𝓤 H A 𝓣 E G78 b42 Δ3 (at45 bs)
-          d45 = Typed.g-pre 𝓤 H A W 𝓣 E G78 G79 b42 Δ3 (λ Ψ. Ψ) (at44 bs) (Lifetime.g-begin 𝓤 H A W E G78 9 (
+          d42 : Typed.Typed 𝓤 H A 𝓣 E G79 b42 Δ3 (at42 bs)
+          d42 = Typed.g-pre 𝓤 H A W 𝓣 E G79 G80 b42 Δ3 (λ Ψ. Ψ) (at41 bs) (Lifetime.g-begin 𝓤 H A W E G79 9 (
             tt,
             (
               tt,
@@ -3794,29 +3714,29 @@ module _ (claims· : Claims) where
               ),
             ),
           ))
-              d44
+              d41
 
-          d46 : Typed.Typed 𝓤 H A 𝓣 E G77 b42 Δ3 (at46 bs)
-          d46 = Typed.g-pre 𝓤 H A W 𝓣 E G77 G78 b42 Δ3 (Typed.pass T77 T78 (s73 bs)) (at45 bs) (Scalar.g-room 𝓤 H A W E G77 21 y10 (Local.room-whole 𝓤 H A W (Declared'.row Passed.the-type) y10
-              Path'.refl)) d45
+          d43 : Typed.Typed 𝓤 H A 𝓣 E G78 b42 Δ3 (at43 bs)
+          d43 = Typed.g-pre 𝓤 H A W 𝓣 E G78 G79 b42 Δ3 (Typed.pass T78 T79 (s74 bs)) (at42 bs) (Scalar.g-room 𝓤 H A W E G78 21 y10 (Local.room-whole 𝓤 H A W (Declared'.row Passed.the-type) y10
+              Path'.refl)) d42
 
-          d47 : Typed.Typed 𝓤 H A 𝓣 E G76 b43 Δ3 (at47 bs)
-          d47 = Typed.s-seq 𝓤 H A W 𝓣 E G76 G77 b31 b42 Δ3 (Typed.both (s72 bs)) (at46 bs) (WayStmt.t-way-copy-out 𝓤 H A W E 𝓣 (Declared'.row Place.the-type) Path'.refl (Copies.cStruct Place.the-type
-              Laws'3.the-laws Laws'3.the-copy .copy 𝓤 H A W) (λ ρ. Unit) G76 (Row.out 21 (G76 .locals)) (λ u. Row.drop 21 (G76 .locals) u) (G76 .slots) 21 (λ t. List._∷_ (Syntax.field 1) t) y9 y9 16
+          d44 : Typed.Typed 𝓤 H A 𝓣 E G77 b43 Δ3 (at44 bs)
+          d44 = Typed.s-seq 𝓤 H A W 𝓣 E G77 G78 b31 b42 Δ3 (Typed.both (s73 bs)) (at43 bs) (WayStmt.t-way-copy-out 𝓤 H A W E 𝓣 (Declared'.row Place.the-type) Path'.refl (Copies.cStruct Place.the-type
+              Laws'3.the-laws Laws'3.the-copy .copy 𝓤 H A W) (λ ρ. Unit) G77 (Row.out 21 (G77 .locals)) (λ u. Row.drop 21 (G77 .locals) u) (G77 .slots) 21 (λ t. List._∷_ (Syntax.field 1) t) y9 y9 16
               (Rows'.whole (Declared'.row Place.the-type)) (λ x. x) (λ u. At.getAt (Passed.the-type .parts) 1 (Passed.struct .as-values (u .1 .1 .1 .1 .1 .1 .1 .1 .1 .1 .1 .1 .1 .1 .1 .1 .1 .1 .1 .1 .1
               .0))) (λ u. (
                 Row.hd 0 (Row.tl (Row.tl (Row.tl (Row.tl (Row.tl (Row.tl (Row.tl (Row.tl (Row.tl (Row.tl (Row.tl (Row.tl (Row.tl (Row.tl (Row.tl (Row.tl (Row.tl (Row.tl (Row.tl (Row.tl (Row.tl
                     bs))))))))))))))))))))),
                 Nat._+_ 0 8,
-              )) (λ T′. record { locals = Row.setRow 21 (21, Rows'.whole (Declared'.row Passed.the-type)) T′; slots = G76 .slots }) (λ u T′ m′. Row.set 21
-              (21, Rows'.whole (Declared'.row Passed.the-type)) (u .1 .1 .1 .1 .1 .1 .1 .1 .1 .1 .1 .1 .1 .1 .1 .1 .1 .1 .1 .1 .1 .0) T′ m′) (λ u. Unit) (λ x. Unit) (Own.told-none 𝓤 H A (G76 .slots))
+              )) (λ T′. record { locals = Row.setRow 21 (21, Rows'.whole (Declared'.row Passed.the-type)) T′; slots = G77 .slots }) (λ u T′ m′. Row.set 21
+              (21, Rows'.whole (Declared'.row Passed.the-type)) (u .1 .1 .1 .1 .1 .1 .1 .1 .1 .1 .1 .1 .1 .1 .1 .1 .1 .1 .1 .1 .1 .0) T′ m′) (λ u. Unit) (λ x. Unit) (Own.told-none 𝓤 H A (G77 .slots))
               (DerefMove.learns-nothing 𝓤 H A (Declared'.row Place.the-type)) (λ ρ told u asked. Way'.w-partˢ 𝓤 H A W E (Declared'.row Passed.the-type) (Declared'.row Place.the-type) y10 y9 1 8 (u .1 .1
               .1 .1 .1 .1 .1 .1 .1 .1 .1 .1 .1 .1 .1 .1 .1 .1 .1 .1 .1 .0) (At.getAt (Passed.the-type .parts) 1 (Passed.struct .as-values (u .1 .1 .1 .1 .1 .1 .1 .1 .1 .1 .1 .1 .1 .1 .1 .1 .1 .1 .1 .1 .1
               .0))) (
                 Row.hd 0 (Row.tl (Row.tl (Row.tl (Row.tl (Row.tl (Row.tl (Row.tl (Row.tl (Row.tl (Row.tl (Row.tl (Row.tl (Row.tl (Row.tl (Row.tl (Row.tl (Row.tl (Row.tl (Row.tl (Row.tl (Row.tl
                     bs))))))))))))))))))))),
                 0,
-              ) (Way.w-look 𝓤 H A W E (Way.w-local 𝓤 H A W E G76 ρ u (G76 .slots) 21 (Declared'.row Passed.the-type) (Rows'.whole (Declared'.row Passed.the-type)) (λ x. x) (λ x.
+              ) (Way.w-look 𝓤 H A W E (Way.w-local 𝓤 H A W E G77 ρ u (G77 .slots) 21 (Declared'.row Passed.the-type) (Rows'.whole (Declared'.row Passed.the-type)) (λ x. x) (λ x.
               x) (u .1 .1 .1 .1 .1 .1 .1 .1 .1 .1 .1 .1 .1 .1 .1 .1 .1 .1 .1 .1 .1 .0) (Local.mem-whole 𝓤 H A W (Declared'.row Passed.the-type) ρ (u .1 .1 .1 .1 .1 .1 .1 .1 .1 .1 .1 .1 .1 .1 .1 .1 .1 .1
               .1 .1 .1 .0) (Row.hd 0 (Row.tl (Row.tl (Row.tl (Row.tl (Row.tl (Row.tl (Row.tl (Row.tl (Row.tl (Row.tl (Row.tl (Row.tl (Row.tl (Row.tl (Row.tl (Row.tl (Row.tl (Row.tl (Row.tl (Row.tl (Row.tl
               bs))))))))))))))))))))))) (Local.whole-mem 𝓤 H A W (Declared'.row Passed.the-type) ρ (u .1 .1 .1 .1 .1 .1 .1 .1 .1 .1 .1 .1 .1 .1 .1 .1 .1 .1 .1 .1 .1 .0) (Row.hd 0 (Row.tl (Row.tl (Row.tl
@@ -3833,29 +3753,33 @@ module _ (claims· : Claims) where
                 0,
               ) (u .1 .1 .1 .1 .1 .1 .1 .1 .1 .1 .1 .1 .1 .1 .1 .1 .1 .1 .1 .1 .1 .0) (Passed.struct .as-values (u .1 .1 .1 .1 .1 .1 .1 .1 .1 .1 .1 .1 .1 .1 .1 .1 .1 .1 .1 .1 .1
               .0)) Path'.refl)) (Reads'.room-gone 𝓤 H A y9) (Yields.makes-mem 𝓤 H A W (λ ρ. Unit) (Declared'.row Place.the-type) Path'.refl (Rows'.whole (Declared'.row Place.the-type)) (λ x. x) λ ρ told.
-              Local.whole-mem 𝓤 H A W (Declared'.row Place.the-type) ρ) Path'.refl Path'.refl Path'.refl) d46
+              Local.whole-mem 𝓤 H A W (Declared'.row Place.the-type) ρ) Path'.refl Path'.refl Path'.refl) d43
 
-          d48 : Typed.Typed 𝓤 H A 𝓣 E G75 b43 Δ3 (at48 bs)
-          d48 = Typed.g-pre 𝓤 H A W 𝓣 E G75 G76 b43 Δ3 (λ Ψ. Ψ) (at47 bs) (Lifetime.g-forget 𝓤 H A W E G75 8 Row.dead Path'.refl) d47
+          d45 : Typed.Typed 𝓤 H A 𝓣 E G76 b43 Δ3 (at45 bs)
+          d45 = Typed.g-pre 𝓤 H A W 𝓣 E G76 G77 b43 Δ3 (λ Ψ. Ψ) (at44 bs) (Lifetime.g-forget 𝓤 H A W E G76 8 Row.dead Path'.refl) d44
 
-          d49 : Typed.Typed 𝓤 H A 𝓣 E G74 b43 Δ3 (at49 bs)
-          d49 = Typed.g-pre 𝓤 H A W 𝓣 E G74 G75 b43 Δ3 (Typed.both (s70 bs)) (at48 bs) (Relend.g-back-sl 𝓤 H A W E (Element.type) G74 34 4 2 8 (Syntax.tyRef (Syntax.named 2) Syntax.mut Element.behind)
+          d46 : Typed.Typed 𝓤 H A 𝓣 E G75 b43 Δ3 (at46 bs)
+          d46 = Typed.g-pre 𝓤 H A W 𝓣 E G75 G76 b43 Δ3 (Typed.both (s71 bs)) (at45 bs) (Relend.g-back-sl 𝓤 H A W E (Element.type) G75 34 4 2 8 (Syntax.tyRef (Syntax.named 2) Syntax.mut Element.behind)
               (Syntax.tyRef Syntax.erased Syntax.mut Element.behind) (Row.lease (κs .1 .1 .0) (qs .1 .1 .0)) (λ x. x) (λ x. x) (Reads'.as-is 𝓤 H A (Mut.msleft (Element.type) (Syntax.tyRef Syntax.erased
               Syntax.mut Element.behind))) (Reads'.as-is 𝓤 H A (Relend.mslice-owed (Element.type) (Syntax.tyRef (Syntax.named 2) Syntax.mut Element.behind) 2 8 (Row.lease (κs .1 .1 .0) (qs .1 .1 .0))))
-              Path'.refl Path'.refl) d48
+              Path'.refl Path'.refl) d45
 
-          d50 : Typed.Typed 𝓤 H A 𝓣 E G73 b43 Δ3 (at50 bs)
-          d50 = Typed.g-pre 𝓤 H A W 𝓣 E G73 G74 b43 Δ3 (λ Ψ. Ψ) (at49 bs) (Lifetime.g-end 𝓤 H A W E G73 8 Path'.refl) d49
+          d47 : Typed.Typed 𝓤 H A 𝓣 E G74 b43 Δ3 (at47 bs)
+          d47 = Typed.g-pre 𝓤 H A W 𝓣 E G74 G75 b43 Δ3 (λ Ψ. Ψ) (at46 bs) (Lifetime.g-end 𝓤 H A W E G74 8 Path'.refl) d46
 
-          d51 : Typed.Typed 𝓤 H A 𝓣 E G72 b43 Δ3 (at51 bs)
-          d51 = Typed.g-pre 𝓤 H A W 𝓣 E G72 G73 b43 Δ3 (Typed.pass T72 T73 (s68 bs)) (at50 bs) (Scalar.g-room 𝓤 H A W E G72 26 Syntax.tyUnit (Scalar.room-sc 𝓤 H A W Row.sUnit)) d50
+          d48 : Typed.Typed 𝓤 H A 𝓣 E G73 b43 Δ3 (at48 bs)
+          d48 = Typed.g-pre 𝓤 H A W 𝓣 E G73 G74 b43 Δ3 (Typed.pass T73 T74 (s69 bs)) (at47 bs) (Scalar.g-room 𝓤 H A W E G73 26 Syntax.tyUnit (Scalar.room-sc 𝓤 H A W Row.sUnit)) d47
 
-          d52 : Typed.Typed 𝓤 H A 𝓣 E G71 b43 Δ3 (at52 bs)
-          d52 = Typed.g-pre 𝓤 H A W 𝓣 E G71 G72 b43 Δ3 (Typed.pass T71 T72 (s67 bs)) (at51 bs) (Scalar.g-room 𝓤 H A W E G71 23 y3 (Local.room-whole 𝓤 H A W (Declared'.row Set.the-type) y3 Path'.refl))
-              d51
+          d49 : Typed.Typed 𝓤 H A 𝓣 E G72 b43 Δ3 (at49 bs)
+          d49 = Typed.g-pre 𝓤 H A W 𝓣 E G72 G73 b43 Δ3 (Typed.pass T72 T73 (s68 bs)) (at48 bs) (Scalar.g-room 𝓤 H A W E G72 23 y3 (Local.room-whole 𝓤 H A W (Declared'.row Set.the-type) y3 Path'.refl))
+              d48
 
-          d53 : Typed.Typed 𝓤 H A 𝓣 E G70 b44 Δ3 (at53 bs)
-          d53 = Typed.s-seq 𝓤 H A W 𝓣 E G70 G71 b30 b43 Δ3 (Typed.both (s66 bs)) (at52 bs) (Plain.t-call-plain 𝓤 H A W 𝓣 1 ps·6 r·6 (claims· .12) (claims· .13) "block::records::store_set" (known .6) E
+          d50 : Typed.Typed 𝓤 H A 𝓣 E G71 b43 Δ3 (at50 bs)
+          d50 = Typed.g-pre 𝓤 H A W 𝓣 E G71 G72 b43 Δ3 (Typed.pass T71 T72 (s67 bs)) (at49 bs) (Scalar.g-room 𝓤 H A W E G71 18 y1 (Local.room-whole 𝓤 H A W (Declared'.row Plan.the-type) y1
+              Path'.refl)) d49
+
+          d51 : Typed.Typed 𝓤 H A 𝓣 E G70 b44 Δ3 (at51 bs)
+          d51 = Typed.s-seq 𝓤 H A W 𝓣 E G70 G71 b30 b43 Δ3 (Typed.both (s66 bs)) (at50 bs) (Plain.t-call-plain 𝓤 H A W 𝓣 1 ps·6 r·6 (claims· .12) (claims· .13) "block::records::store_set" (known .6) E
               (λ pos β. β) G70 (
                 record { pos = 34; ty = Syntax.tyRef Syntax.erased Syntax.mut Element.behind; ref = λ x. x },
                 (Num.vFld 18 (List._∷_ (Syntax.field 2) List.[]) 16 λ x. Plan.struct .as-values x .1 .1 .0, (record { pos = 23; st = List.[]; d = 0; at = λ x. x }, tt)),
@@ -3877,22 +3801,22 @@ module _ (claims· : Claims) where
                   ),
                 ),
               )
-              (Reads'.room-gone 𝓤 H A Syntax.tyUnit) (tt, tt) Path'.refl) d52
+              (Reads'.room-gone 𝓤 H A Syntax.tyUnit) (tt, tt) Path'.refl) d50
 
-          d54 : Typed.Typed 𝓤 H A 𝓣 E G69 b45 Δ3 (at54 bs)
-          d54 = Typed.s-seq 𝓤 H A W 𝓣 E G69 G70 b29 b44 Δ3 (Typed.ask (s65 bs)) (at53 bs) (Relend.t-sl-aggregate 𝓤 H A W E (Element.type) 𝓣 (Relend.asMut (Element.type)) G69 33 34 8 (Syntax.tyRef
+          d52 : Typed.Typed 𝓤 H A 𝓣 E G69 b45 Δ3 (at52 bs)
+          d52 = Typed.s-seq 𝓤 H A W 𝓣 E G69 G70 b29 b44 Δ3 (Typed.ask (s65 bs)) (at51 bs) (Relend.t-sl-aggregate 𝓤 H A W E (Element.type) 𝓣 (Relend.asMut (Element.type)) G69 33 34 8 (Syntax.tyRef
               Syntax.erased Syntax.mut Element.behind) (Syntax.tyRef Syntax.erased Syntax.mut Element.behind) (λ x. x) (Scalar.oFld 4 (List._∷_ (Syntax.field 1) List.[]) (Syntax.tyInt Syntax.w64) 8 λ v.
               Shared.lenV (v .0)) (Reads'.as-is 𝓤 H A (Relend.msptr (Element.type) (Syntax.tyRef Syntax.erased Syntax.mut Element.behind) 8)) (Reads'.room-gone 𝓤 H A y6)
               (Relend.reads-owed-len 𝓤 H A W (Element.type) (Syntax.tyRef (Syntax.named 2) Syntax.mut Element.behind) 2 8 (Row.lease (κs .1 .1 .0) (qs .1 .1 .0)) 8 Path'.refl, Path'.refl) Path'.refl
-              Path'.refl λ b o k. tt) d53
+              Path'.refl λ b o k. tt) d51
 
-          d55 : Typed.Typed 𝓤 H A 𝓣 E G68 b46 Δ3 (at55 bs)
-          d55 = Typed.s-seq 𝓤 H A W 𝓣 E G68 G69 b28 b45 Δ3 (Typed.give (s64 bs)) (at54 bs) (Relend.t-sl-relend 𝓤 H A W E (Element.type) 𝓣 G68 4 33 2 8 (Syntax.tyRef (Syntax.named 2) Syntax.mut
+          d53 : Typed.Typed 𝓤 H A 𝓣 E G68 b46 Δ3 (at53 bs)
+          d53 = Typed.s-seq 𝓤 H A W 𝓣 E G68 G69 b28 b45 Δ3 (Typed.give (s64 bs)) (at52 bs) (Relend.t-sl-relend 𝓤 H A W E (Element.type) 𝓣 G68 4 33 2 8 (Syntax.tyRef (Syntax.named 2) Syntax.mut
               Element.behind) (Syntax.tyRef Syntax.erased Syntax.mut Element.behind) (Row.lease (κs .1 .1 .0) (qs .1 .1 .0)) 0 (λ x. x) (Reads'.as-is 𝓤 H A (Mut.mslice (Element.type) (Syntax.tyRef
-              (Syntax.named 2) Syntax.mut Element.behind) 2)) (Reads'.room-gone 𝓤 H A (Syntax.tyRef Syntax.erased Syntax.mut Element.behind)) Path'.refl tt Path'.refl Path'.refl Path'.refl λ b o. tt) d54
+              (Syntax.named 2) Syntax.mut Element.behind) 2)) (Reads'.room-gone 𝓤 H A (Syntax.tyRef Syntax.erased Syntax.mut Element.behind)) Path'.refl tt Path'.refl Path'.refl Path'.refl λ b o. tt) d52
 
-          d56 : Typed.Typed 𝓤 H A 𝓣 E G67 b46 Δ3 (at56 bs)
-          d56 = Typed.g-pre 𝓤 H A W 𝓣 E G67 G68 b46 Δ3 (λ Ψ. Ψ) (at55 bs) (Lifetime.g-begin 𝓤 H A W E G67 8 (
+          d54 : Typed.Typed 𝓤 H A 𝓣 E G67 b46 Δ3 (at54 bs)
+          d54 = Typed.g-pre 𝓤 H A W 𝓣 E G67 G68 b46 Δ3 (λ Ψ. Ψ) (at53 bs) (Lifetime.g-begin 𝓤 H A W E G67 8 (
             tt,
             (
               tt,
@@ -3926,25 +3850,25 @@ module _ (claims· : Claims) where
               ),
             ),
           ))
-              d55
+              d53
 
-          d57 : Typed.Typed 𝓤 H A 𝓣 E G50 b47 Δ3 (at57 bs)
-          d57 = Typed.s-seq 𝓤 H A W 𝓣 E G50 G67 b27 b46 Δ3 (Typed.both (s62 bs)) (at56 bs) (WayStmt.t-way-copy-out 𝓤 H A W E 𝓣 (Declared'.row Set.the-type) Path'.refl (Copies.cStruct Set.the-type
-              Laws'8.the-laws Laws'8.the-copy .copy 𝓤 H A W) (λ ρ. Unit) G50 (Row.out 21 (G50 .locals)) (λ u. Row.drop 21 (G50 .locals) u) (G50 .slots) 21 (λ t. List._∷_ (Syntax.field 2) t) y3 y3 23
+          d55 : Typed.Typed 𝓤 H A 𝓣 E G51 b47 Δ3 (at55 bs)
+          d55 = Typed.s-seq 𝓤 H A W 𝓣 E G51 G67 b27 b46 Δ3 (Typed.both (s62 bs)) (at54 bs) (WayStmt.t-way-copy-out 𝓤 H A W E 𝓣 (Declared'.row Set.the-type) Path'.refl (Copies.cStruct Set.the-type
+              Laws'8.the-laws Laws'8.the-copy .copy 𝓤 H A W) (λ ρ. Unit) G51 (Row.out 21 (G51 .locals)) (λ u. Row.drop 21 (G51 .locals) u) (G51 .slots) 21 (λ t. List._∷_ (Syntax.field 2) t) y3 y3 23
               (Rows'.whole (Declared'.row Set.the-type)) (λ x. x) (λ u. At.getAt (Passed.the-type .parts) 2 (Passed.struct .as-values (u .1 .1 .1 .1 .1 .1 .1 .1 .1 .1 .1 .1 .1 .1 .1 .1 .1 .1 .1 .1 .1
               .0))) (λ u. (
                 Row.hd 0 (Row.tl (Row.tl (Row.tl (Row.tl (Row.tl (Row.tl (Row.tl (Row.tl (Row.tl (Row.tl (Row.tl (Row.tl (Row.tl (Row.tl (Row.tl (Row.tl (Row.tl (Row.tl (Row.tl (Row.tl (Row.tl
                     bs))))))))))))))))))))),
                 Nat._+_ 0 32,
-              )) (λ T′. record { locals = Row.setRow 21 (21, Rows'.whole (Declared'.row Passed.the-type)) T′; slots = G50 .slots }) (λ u T′ m′. Row.set 21
-              (21, Rows'.whole (Declared'.row Passed.the-type)) (u .1 .1 .1 .1 .1 .1 .1 .1 .1 .1 .1 .1 .1 .1 .1 .1 .1 .1 .1 .1 .1 .0) T′ m′) (λ u. Unit) (λ x. Unit) (Own.told-none 𝓤 H A (G50 .slots))
+              )) (λ T′. record { locals = Row.setRow 21 (21, Rows'.whole (Declared'.row Passed.the-type)) T′; slots = G51 .slots }) (λ u T′ m′. Row.set 21
+              (21, Rows'.whole (Declared'.row Passed.the-type)) (u .1 .1 .1 .1 .1 .1 .1 .1 .1 .1 .1 .1 .1 .1 .1 .1 .1 .1 .1 .1 .1 .0) T′ m′) (λ u. Unit) (λ x. Unit) (Own.told-none 𝓤 H A (G51 .slots))
               (DerefMove.learns-nothing 𝓤 H A (Declared'.row Set.the-type)) (λ ρ told u asked. Way'.w-partˢ 𝓤 H A W E (Declared'.row Passed.the-type) (Declared'.row Set.the-type) y10 y3 2 32 (u .1 .1 .1
               .1 .1 .1 .1 .1 .1 .1 .1 .1 .1 .1 .1 .1 .1 .1 .1 .1 .1 .0) (At.getAt (Passed.the-type .parts) 2 (Passed.struct .as-values (u .1 .1 .1 .1 .1 .1 .1 .1 .1 .1 .1 .1 .1 .1 .1 .1 .1 .1 .1 .1 .1
               .0))) (
                 Row.hd 0 (Row.tl (Row.tl (Row.tl (Row.tl (Row.tl (Row.tl (Row.tl (Row.tl (Row.tl (Row.tl (Row.tl (Row.tl (Row.tl (Row.tl (Row.tl (Row.tl (Row.tl (Row.tl (Row.tl (Row.tl (Row.tl
                     bs))))))))))))))))))))),
                 0,
-              ) (Way.w-look 𝓤 H A W E (Way.w-local 𝓤 H A W E G50 ρ u (G50 .slots) 21 (Declared'.row Passed.the-type) (Rows'.whole (Declared'.row Passed.the-type)) (λ x. x) (λ x.
+              ) (Way.w-look 𝓤 H A W E (Way.w-local 𝓤 H A W E G51 ρ u (G51 .slots) 21 (Declared'.row Passed.the-type) (Rows'.whole (Declared'.row Passed.the-type)) (λ x. x) (λ x.
               x) (u .1 .1 .1 .1 .1 .1 .1 .1 .1 .1 .1 .1 .1 .1 .1 .1 .1 .1 .1 .1 .1 .0) (Local.mem-whole 𝓤 H A W (Declared'.row Passed.the-type) ρ (u .1 .1 .1 .1 .1 .1 .1 .1 .1 .1 .1 .1 .1 .1 .1 .1 .1 .1
               .1 .1 .1 .0) (Row.hd 0 (Row.tl (Row.tl (Row.tl (Row.tl (Row.tl (Row.tl (Row.tl (Row.tl (Row.tl (Row.tl (Row.tl (Row.tl (Row.tl (Row.tl (Row.tl (Row.tl (Row.tl (Row.tl (Row.tl (Row.tl (Row.tl
               bs))))))))))))))))))))))) (Local.whole-mem 𝓤 H A W (Declared'.row Passed.the-type) ρ (u .1 .1 .1 .1 .1 .1 .1 .1 .1 .1 .1 .1 .1 .1 .1 .1 .1 .1 .1 .1 .1 .0) (Row.hd 0 (Row.tl (Row.tl (Row.tl
@@ -3961,49 +3885,53 @@ module _ (claims· : Claims) where
                 0,
               ) (u .1 .1 .1 .1 .1 .1 .1 .1 .1 .1 .1 .1 .1 .1 .1 .1 .1 .1 .1 .1 .1 .0) (Passed.struct .as-values (u .1 .1 .1 .1 .1 .1 .1 .1 .1 .1 .1 .1 .1 .1 .1 .1 .1 .1 .1 .1 .1
               .0)) Path'.refl)) (Reads'.room-gone 𝓤 H A y3) (Yields.makes-mem 𝓤 H A W (λ ρ. Unit) (Declared'.row Set.the-type) Path'.refl (Rows'.whole (Declared'.row Set.the-type)) (λ x. x) λ ρ told.
-              Local.whole-mem 𝓤 H A W (Declared'.row Set.the-type) ρ) Path'.refl Path'.refl Path'.refl) d56
+              Local.whole-mem 𝓤 H A W (Declared'.row Set.the-type) ρ) Path'.refl Path'.refl Path'.refl) d54
 
-          d58 : Typed.Typed 𝓤 H A 𝓣 E G49 b48 Δ3 (at58 bs)
-          d58 = Typed.t-seq 𝓤 H A W 𝓣 E G49 G50 b26 b47 Δ3 (at26 bs) (at57 bs) d26 d57
+          d56 : Typed.Typed 𝓤 H A 𝓣 E G50 b48 Δ3 (at56 bs)
+          d56 = Typed.t-seq 𝓤 H A W 𝓣 E G50 G51 b26 b47 Δ3 (at25 bs) (at55 bs) d25 d55
 
-          d59 : Typed.Typed 𝓤 H A 𝓣 E G48 b49 Δ3 (at59 bs)
-          d59 = Typed.s-seq 𝓤 H A W 𝓣 E G48 G49 b21 b48 Δ3 (Typed.ask (s45 bs)) (at58 bs) (Scalar.t-op1 𝓤 H A W E 𝓣 G48 Syntax.bitNot (Scalar.oAt 22 Syntax.tyBool (Row.valS Row.sBool)) 25
+          d57 : Typed.Typed 𝓤 H A 𝓣 E G49 b49 Δ3 (at57 bs)
+          d57 = Typed.s-seq 𝓤 H A W 𝓣 E G49 G50 b21 b48 Δ3 (Typed.ask (s46 bs)) (at56 bs) (Scalar.t-op1 𝓤 H A W E 𝓣 G49 Syntax.bitNot (Scalar.oAt 22 Syntax.tyBool (Row.valS Row.sBool)) 25
               (Rows'.sc-here Row.sBool) Syntax.tyBool (Row.valS Row.sBool) (Row.sBool .of) (Scalar.reads-sc 𝓤 H A W Row.sBool, Path'.refl) (Reads'.room-gone 𝓤 H A Syntax.tyBool) (Scalar.holds-sc 𝓤 H A W
-              Row.sBool) Path'.refl (λ u. Path'.refl) λ u. tt) d58
+              Row.sBool) Path'.refl (λ u. Path'.refl) λ u. tt) d56
 
-          d60 : Typed.Typed 𝓤 H A 𝓣 E G47 b50 Δ3 (at60 bs)
-          d60 = Typed.s-seq 𝓤 H A W 𝓣 E G47 G48 b20 b49 Δ3 (Typed.pass T46 T48 (s44 bs)) (at59 bs) (Scalar.t-use 𝓤 H A W E 𝓣 G47 (Scalar.oFld 21 (List._∷_ (Syntax.field 0) List.[]) Syntax.tyBool 0
+          d58 : Typed.Typed 𝓤 H A 𝓣 E G48 b50 Δ3 (at58 bs)
+          d58 = Typed.s-seq 𝓤 H A W 𝓣 E G48 G49 b20 b49 Δ3 (Typed.pass T47 T49 (s45 bs)) (at57 bs) (Scalar.t-use 𝓤 H A W E 𝓣 G48 (Scalar.oFld 21 (List._∷_ (Syntax.field 0) List.[]) Syntax.tyBool 0
               (Reads.fieldV Passed.the-type Laws'5.the-laws 0)) 22 (Rows'.sc-here Row.sBool) Syntax.tyBool (Row.valS Row.sBool) (Row.sBool .of)
               (Reads.reads-field 𝓤 H A W Passed.the-type Laws'5.the-laws 0 Syntax.tyBool 0 Path'.refl, Path'.refl) (Reads'.room-gone 𝓤 H A Syntax.tyBool) (Scalar.holds-sc 𝓤 H A W Row.sBool) Path'.refl (λ
-              u. Path'.refl) λ u. tt) d59
+              u. Path'.refl) λ u. tt) d57
 
-          d61 : Typed.Typed 𝓤 H A 𝓣 E G46 b50 Δ3 (at61 bs)
-          d61 = Typed.g-pre 𝓤 H A W 𝓣 E G46 G47 b50 Δ3 (λ Ψ. Ψ) (at60 bs) (Lifetime.g-forget 𝓤 H A W E G46 7 Row.dead Path'.refl) d60
+          d59 : Typed.Typed 𝓤 H A 𝓣 E G47 b50 Δ3 (at59 bs)
+          d59 = Typed.g-pre 𝓤 H A W 𝓣 E G47 G48 b50 Δ3 (λ Ψ. Ψ) (at58 bs) (Lifetime.g-forget 𝓤 H A W E G47 7 Row.dead Path'.refl) d58
 
-          d62 : Typed.Typed 𝓤 H A 𝓣 E G45 b50 Δ3 (at62 bs)
-          d62 = Typed.g-pre 𝓤 H A W 𝓣 E G45 G46 b50 Δ3 (Typed.give (s42 bs)) (at61 bs) (Know.g-sl-known 𝓤 H A W (Referent.fInt Syntax.w16) E G45 3 1 (Syntax.tyRef (Syntax.named 1) Syntax.mut
+          d60 : Typed.Typed 𝓤 H A 𝓣 E G46 b50 Δ3 (at60 bs)
+          d60 = Typed.g-pre 𝓤 H A W 𝓣 E G46 G47 b50 Δ3 (Typed.give (s43 bs)) (at59 bs) (Know.g-sl-known 𝓤 H A W (Referent.fInt Syntax.w16) E G46 3 1 (Syntax.tyRef (Syntax.named 1) Syntax.mut
               (Syntax.tyInt Syntax.w16)) (Row.lease (κs .1 .0) (qs .1 .0)) 0 (λ x. x) record { fits = Dec'.lit< tt } (Reads'.as-is 𝓤 H A (Mut.mslice (Referent.rtF (Referent.fInt Syntax.w16)) (Syntax.tyRef
-              (Syntax.named 1) Syntax.mut (Syntax.tyInt Syntax.w16)) 1)) Path'.refl tt) d61
+              (Syntax.named 1) Syntax.mut (Syntax.tyInt Syntax.w16)) 1)) Path'.refl tt) d59
 
-          d63 : Typed.Typed 𝓤 H A 𝓣 E G44 b50 Δ3 (at63 bs)
-          d63 = Typed.g-pre 𝓤 H A W 𝓣 E G44 G45 b50 Δ3 (Typed.both (s41 bs)) (at62 bs) (Relend.g-back-sl 𝓤 H A W E (Referent.rtF (Referent.fInt Syntax.w16)) G44 32 3 1 7 (Syntax.tyRef (Syntax.named 1)
+          d61 : Typed.Typed 𝓤 H A 𝓣 E G45 b50 Δ3 (at61 bs)
+          d61 = Typed.g-pre 𝓤 H A W 𝓣 E G45 G46 b50 Δ3 (Typed.both (s42 bs)) (at60 bs) (Relend.g-back-sl 𝓤 H A W E (Referent.rtF (Referent.fInt Syntax.w16)) G45 32 3 1 7 (Syntax.tyRef (Syntax.named 1)
               Syntax.mut (Syntax.tyInt Syntax.w16)) (Syntax.tyRef Syntax.erased Syntax.mut (Syntax.tyInt Syntax.w16)) (Row.lease (κs .1 .0) (qs .1 .0)) (λ x. x) (λ x. x) (Reads'.as-is 𝓤 H A (Mut.msleft
               (Referent.rtF (Referent.fInt Syntax.w16)) (Syntax.tyRef Syntax.erased Syntax.mut (Syntax.tyInt Syntax.w16)))) (Reads'.as-is 𝓤 H A (Relend.mslice-owed (Referent.rtF (Referent.fInt
-              Syntax.w16)) (Syntax.tyRef (Syntax.named 1) Syntax.mut (Syntax.tyInt Syntax.w16)) 1 7 (Row.lease (κs .1 .0) (qs .1 .0)))) Path'.refl Path'.refl) d62
+              Syntax.w16)) (Syntax.tyRef (Syntax.named 1) Syntax.mut (Syntax.tyInt Syntax.w16)) 1 7 (Row.lease (κs .1 .0) (qs .1 .0)))) Path'.refl Path'.refl) d60
 
-          d64 : Typed.Typed 𝓤 H A 𝓣 E G43 b50 Δ3 (at64 bs)
-          d64 = Typed.g-pre 𝓤 H A W 𝓣 E G43 G44 b50 Δ3 (λ Ψ. Ψ) (at63 bs) (Lifetime.g-end 𝓤 H A W E G43 7 Path'.refl) d63
+          d62 : Typed.Typed 𝓤 H A 𝓣 E G44 b50 Δ3 (at62 bs)
+          d62 = Typed.g-pre 𝓤 H A W 𝓣 E G44 G45 b50 Δ3 (λ Ψ. Ψ) (at61 bs) (Lifetime.g-end 𝓤 H A W E G44 7 Path'.refl) d61
 
-          d65 : Typed.Typed 𝓤 H A 𝓣 E G42 b50 Δ3 (at65 bs)
-          d65 = Typed.g-pre 𝓤 H A W 𝓣 E G42 G43 b50 Δ3 (Typed.pass T42 T43 (s39 bs)) (at64 bs) (Scalar.g-room 𝓤 H A W E G42 20 y3 (Local.room-whole 𝓤 H A W (Declared'.row Set.the-type) y3 Path'.refl))
-              d64
+          d63 : Typed.Typed 𝓤 H A 𝓣 E G43 b50 Δ3 (at63 bs)
+          d63 = Typed.g-pre 𝓤 H A W 𝓣 E G43 G44 b50 Δ3 (Typed.pass T43 T44 (s40 bs)) (at62 bs) (Scalar.g-room 𝓤 H A W E G43 20 y3 (Local.room-whole 𝓤 H A W (Declared'.row Set.the-type) y3 Path'.refl))
+              d62
 
-          d66 : Typed.Typed 𝓤 H A 𝓣 E G41 b50 Δ3 (at66 bs)
-          d66 = Typed.g-pre 𝓤 H A W 𝓣 E G41 G42 b50 Δ3 (Typed.pass T41 T42 (s38 bs)) (at65 bs) (Scalar.g-room 𝓤 H A W E G41 16 y9 (Local.room-whole 𝓤 H A W (Declared'.row Place.the-type) y9
-              Path'.refl)) d65
+          d64 : Typed.Typed 𝓤 H A 𝓣 E G42 b50 Δ3 (at64 bs)
+          d64 = Typed.g-pre 𝓤 H A W 𝓣 E G42 G43 b50 Δ3 (Typed.pass T42 T43 (s39 bs)) (at63 bs) (Scalar.g-room 𝓤 H A W E G42 19 y1 (Local.room-whole 𝓤 H A W (Declared'.row Plan.the-type) y1
+              Path'.refl)) d63
 
-          d67 : Typed.Typed 𝓤 H A 𝓣 E G40 b51 Δ3 (at67 bs)
-          d67 = Typed.s-seq 𝓤 H A W 𝓣 E G40 G41 b19 b50 Δ3 (Typed.both (s37 bs)) (at66 bs) (Plain.t-call-plain 𝓤 H A W 𝓣 2 ps·5 r·5 (claims· .10) (claims· .11) "pass::pass" (known .5) E (λ pos β. β)
+          d65 : Typed.Typed 𝓤 H A 𝓣 E G41 b50 Δ3 (at65 bs)
+          d65 = Typed.g-pre 𝓤 H A W 𝓣 E G41 G42 b50 Δ3 (Typed.pass T41 T42 (s38 bs)) (at64 bs) (Scalar.g-room 𝓤 H A W E G41 16 y9 (Local.room-whole 𝓤 H A W (Declared'.row Place.the-type) y9
+              Path'.refl)) d64
+
+          d66 : Typed.Typed 𝓤 H A 𝓣 E G40 b51 Δ3 (at66 bs)
+          d66 = Typed.s-seq 𝓤 H A W 𝓣 E G40 G41 b19 b50 Δ3 (Typed.both (s37 bs)) (at65 bs) (Plain.t-call-plain 𝓤 H A W 𝓣 2 ps·5 r·5 (claims· .10) (claims· .11) "pass::pass" (known .5) E (λ pos β. β)
               G40 (
                 record { pos = 1; ty = Syntax.tyRef (Syntax.named 0) Syntax.imm (Syntax.tyInt Syntax.w8); ref = λ x. x },
                 (
@@ -4061,26 +3989,26 @@ module _ (claims· : Claims) where
                     ),
                   ),
                 ),
-              ) (Reads'.room-gone 𝓤 H A y10) (tt, (tt, tt)) Path'.refl) d66
+              ) (Reads'.room-gone 𝓤 H A y10) (tt, (tt, tt)) Path'.refl) d65
 
-          d68 : Typed.Typed 𝓤 H A 𝓣 E G39 b52 Δ3 (at68 bs)
-          d68 = Typed.s-seq 𝓤 H A W 𝓣 E G39 G40 b18 b51 Δ3 (Typed.ask (s36 bs)) (at67 bs) (Relend.t-sl-aggregate 𝓤 H A W E (Referent.rtF (Referent.fInt Syntax.w16)) 𝓣 (Relend.asMut (Referent.rtF
+          d67 : Typed.Typed 𝓤 H A 𝓣 E G39 b52 Δ3 (at67 bs)
+          d67 = Typed.s-seq 𝓤 H A W 𝓣 E G39 G40 b18 b51 Δ3 (Typed.ask (s36 bs)) (at66 bs) (Relend.t-sl-aggregate 𝓤 H A W E (Referent.rtF (Referent.fInt Syntax.w16)) 𝓣 (Relend.asMut (Referent.rtF
               (Referent.fInt Syntax.w16))) G39 31 32 7 (Syntax.tyRef Syntax.erased Syntax.mut (Syntax.tyInt Syntax.w16)) (Syntax.tyRef Syntax.erased Syntax.mut (Syntax.tyInt Syntax.w16)) (λ x. x)
               (Scalar.oFld 3 (List._∷_ (Syntax.field 1) List.[]) (Syntax.tyInt Syntax.w64) 8 λ v. Shared.lenV (v .0)) (Reads'.as-is 𝓤 H A (Relend.msptr (Referent.rtF (Referent.fInt Syntax.w16))
               (Syntax.tyRef Syntax.erased Syntax.mut (Syntax.tyInt Syntax.w16)) 7)) (Reads'.room-gone 𝓤 H A y5) (
                 Relend.reads-owed-len 𝓤 H A W (Referent.rtF (Referent.fInt Syntax.w16)) (Syntax.tyRef (Syntax.named 1) Syntax.mut (Syntax.tyInt Syntax.w16)) 1 7 (Row.lease (κs .1 .0) (qs .1 .0)) 8
                     Path'.refl,
                 Path'.refl,
-              ) Path'.refl Path'.refl λ b o k. tt) d67
+              ) Path'.refl Path'.refl λ b o k. tt) d66
 
-          d69 : Typed.Typed 𝓤 H A 𝓣 E G38 b53 Δ3 (at69 bs)
-          d69 = Typed.s-seq 𝓤 H A W 𝓣 E G38 G39 b17 b52 Δ3 (Typed.give (s35 bs)) (at68 bs) (Relend.t-sl-relend 𝓤 H A W E (Referent.rtF (Referent.fInt Syntax.w16)) 𝓣 G38 3 31 1 7 (Syntax.tyRef
+          d68 : Typed.Typed 𝓤 H A 𝓣 E G38 b53 Δ3 (at68 bs)
+          d68 = Typed.s-seq 𝓤 H A W 𝓣 E G38 G39 b17 b52 Δ3 (Typed.give (s35 bs)) (at67 bs) (Relend.t-sl-relend 𝓤 H A W E (Referent.rtF (Referent.fInt Syntax.w16)) 𝓣 G38 3 31 1 7 (Syntax.tyRef
               (Syntax.named 1) Syntax.mut (Syntax.tyInt Syntax.w16)) (Syntax.tyRef Syntax.erased Syntax.mut (Syntax.tyInt Syntax.w16)) (Row.lease (κs .1 .0) (qs .1 .0)) 0 (λ x. x) (Reads'.as-is 𝓤 H A
               (Mut.mslice (Referent.rtF (Referent.fInt Syntax.w16)) (Syntax.tyRef (Syntax.named 1) Syntax.mut (Syntax.tyInt Syntax.w16)) 1)) (Reads'.room-gone 𝓤 H A (Syntax.tyRef Syntax.erased Syntax.mut
-              (Syntax.tyInt Syntax.w16))) Path'.refl tt Path'.refl Path'.refl Path'.refl λ b o. tt) d68
+              (Syntax.tyInt Syntax.w16))) Path'.refl tt Path'.refl Path'.refl Path'.refl λ b o. tt) d67
 
-          d70 : Typed.Typed 𝓤 H A 𝓣 E G37 b53 Δ3 (at70 bs)
-          d70 = Typed.g-pre 𝓤 H A W 𝓣 E G37 G38 b53 Δ3 (λ Ψ. Ψ) (at69 bs) (Lifetime.g-begin 𝓤 H A W E G37 7 (
+          d69 : Typed.Typed 𝓤 H A 𝓣 E G37 b53 Δ3 (at69 bs)
+          d69 = Typed.g-pre 𝓤 H A W 𝓣 E G37 G38 b53 Δ3 (λ Ψ. Ψ) (at68 bs) (Lifetime.g-begin 𝓤 H A W E G37 7 (
             tt,
             (
               tt,
@@ -4114,22 +4042,22 @@ module _ (claims· : Claims) where
               ),
             ),
           ))
-              d69
+              d68
 
-          d71 : Typed.Typed 𝓤 H A 𝓣 E G36 b53 Δ3 (at71 bs)
-          d71 = Typed.g-pre 𝓤 H A W 𝓣 E G36 G37 b53 Δ3 (λ Ψ. Ψ) (at70 bs) (Lifetime.g-forget 𝓤 H A W E G36 6 Row.dead Path'.refl) d70
+          d70 : Typed.Typed 𝓤 H A 𝓣 E G36 b53 Δ3 (at70 bs)
+          d70 = Typed.g-pre 𝓤 H A W 𝓣 E G36 G37 b53 Δ3 (λ Ψ. Ψ) (at69 bs) (Lifetime.g-forget 𝓤 H A W E G36 6 Row.dead Path'.refl) d69
 
-          d72 : Typed.Typed 𝓤 H A 𝓣 E G35 b53 Δ3 (at72 bs)
-          d72 = Typed.g-pre 𝓤 H A W 𝓣 E G35 G36 b53 Δ3 (Typed.both (s32 bs)) (at71 bs) (Relend.g-back-sl 𝓤 H A W E (Element.type) G35 30 4 2 6 (Syntax.tyRef (Syntax.named 2) Syntax.mut Element.behind)
+          d71 : Typed.Typed 𝓤 H A 𝓣 E G35 b53 Δ3 (at71 bs)
+          d71 = Typed.g-pre 𝓤 H A W 𝓣 E G35 G36 b53 Δ3 (Typed.both (s32 bs)) (at70 bs) (Relend.g-back-sl 𝓤 H A W E (Element.type) G35 30 4 2 6 (Syntax.tyRef (Syntax.named 2) Syntax.mut Element.behind)
               (Syntax.tyRef Syntax.erased Syntax.mut Element.behind) (Row.lease (κs .1 .1 .0) (qs .1 .1 .0)) (λ x. x) (λ x. x) (Reads'.as-is 𝓤 H A (Mut.msleft (Element.type) (Syntax.tyRef Syntax.erased
               Syntax.mut Element.behind))) (Reads'.as-is 𝓤 H A (Relend.mslice-owed (Element.type) (Syntax.tyRef (Syntax.named 2) Syntax.mut Element.behind) 2 6 (Row.lease (κs .1 .1 .0) (qs .1 .1 .0))))
-              Path'.refl Path'.refl) d71
+              Path'.refl Path'.refl) d70
 
-          d73 : Typed.Typed 𝓤 H A 𝓣 E G34 b53 Δ3 (at73 bs)
-          d73 = Typed.g-pre 𝓤 H A W 𝓣 E G34 G35 b53 Δ3 (λ Ψ. Ψ) (at72 bs) (Lifetime.g-end 𝓤 H A W E G34 6 Path'.refl) d72
+          d72 : Typed.Typed 𝓤 H A 𝓣 E G34 b53 Δ3 (at72 bs)
+          d72 = Typed.g-pre 𝓤 H A W 𝓣 E G34 G35 b53 Δ3 (λ Ψ. Ψ) (at71 bs) (Lifetime.g-end 𝓤 H A W E G34 6 Path'.refl) d71
 
-          d74 : Typed.Typed 𝓤 H A 𝓣 E G33 b54 Δ3 (at74 bs)
-          d74 = Typed.s-seq 𝓤 H A W 𝓣 E G33 G34 b16 b53 Δ3 (Typed.both (s30 bs)) (at73 bs) (Plain.t-call-plain 𝓤 H A W 𝓣 1 ps·4 r·4 (claims· .8) (claims· .9) "block::records::load_set" (known .4) E (λ
+          d73 : Typed.Typed 𝓤 H A 𝓣 E G33 b54 Δ3 (at73 bs)
+          d73 = Typed.s-seq 𝓤 H A W 𝓣 E G33 G34 b16 b53 Δ3 (Typed.both (s30 bs)) (at72 bs) (Plain.t-call-plain 𝓤 H A W 𝓣 1 ps·4 r·4 (claims· .8) (claims· .9) "block::records::load_set" (known .4) E (λ
               pos β. β) G33 (
                 record { pos = 30; ty = Syntax.tyRef Syntax.erased Syntax.mut Element.behind; ref = λ x. x },
                 (Num.vFld 18 (List._∷_ (Syntax.field 2) List.[]) 16 λ x. Plan.struct .as-values x .1 .1 .0, tt),
@@ -4140,22 +4068,22 @@ module _ (claims· : Claims) where
                 Path'.refl,
                 ((Reads.reads-field 𝓤 H A W Plan.the-type Laws'6.the-laws 2 (Syntax.tyInt Syntax.w64) 16 Path'.refl, Path'.refl), tt),
               ) (Reads'.room-gone 𝓤 H A y3) (tt, tt)
-              Path'.refl) d73
+              Path'.refl) d72
 
-          d75 : Typed.Typed 𝓤 H A 𝓣 E G32 b55 Δ3 (at75 bs)
-          d75 = Typed.s-seq 𝓤 H A W 𝓣 E G32 G33 b15 b54 Δ3 (Typed.ask (s29 bs)) (at74 bs) (Relend.t-sl-aggregate 𝓤 H A W E (Element.type) 𝓣 (Relend.asMut (Element.type)) G32 29 30 6 (Syntax.tyRef
+          d74 : Typed.Typed 𝓤 H A 𝓣 E G32 b55 Δ3 (at74 bs)
+          d74 = Typed.s-seq 𝓤 H A W 𝓣 E G32 G33 b15 b54 Δ3 (Typed.ask (s29 bs)) (at73 bs) (Relend.t-sl-aggregate 𝓤 H A W E (Element.type) 𝓣 (Relend.asMut (Element.type)) G32 29 30 6 (Syntax.tyRef
               Syntax.erased Syntax.mut Element.behind) (Syntax.tyRef Syntax.erased Syntax.mut Element.behind) (λ x. x) (Scalar.oFld 4 (List._∷_ (Syntax.field 1) List.[]) (Syntax.tyInt Syntax.w64) 8 λ v.
               Shared.lenV (v .0)) (Reads'.as-is 𝓤 H A (Relend.msptr (Element.type) (Syntax.tyRef Syntax.erased Syntax.mut Element.behind) 6)) (Reads'.room-gone 𝓤 H A y6)
               (Relend.reads-owed-len 𝓤 H A W (Element.type) (Syntax.tyRef (Syntax.named 2) Syntax.mut Element.behind) 2 6 (Row.lease (κs .1 .1 .0) (qs .1 .1 .0)) 8 Path'.refl, Path'.refl) Path'.refl
-              Path'.refl λ b o k. tt) d74
+              Path'.refl λ b o k. tt) d73
 
-          d76 : Typed.Typed 𝓤 H A 𝓣 E G31 b56 Δ3 (at76 bs)
-          d76 = Typed.s-seq 𝓤 H A W 𝓣 E G31 G32 b14 b55 Δ3 (Typed.give (s28 bs)) (at75 bs) (Relend.t-sl-relend 𝓤 H A W E (Element.type) 𝓣 G31 4 29 2 6 (Syntax.tyRef (Syntax.named 2) Syntax.mut
+          d75 : Typed.Typed 𝓤 H A 𝓣 E G31 b56 Δ3 (at75 bs)
+          d75 = Typed.s-seq 𝓤 H A W 𝓣 E G31 G32 b14 b55 Δ3 (Typed.give (s28 bs)) (at74 bs) (Relend.t-sl-relend 𝓤 H A W E (Element.type) 𝓣 G31 4 29 2 6 (Syntax.tyRef (Syntax.named 2) Syntax.mut
               Element.behind) (Syntax.tyRef Syntax.erased Syntax.mut Element.behind) (Row.lease (κs .1 .1 .0) (qs .1 .1 .0)) 0 (λ x. x) (Reads'.as-is 𝓤 H A (Mut.mslice (Element.type) (Syntax.tyRef
-              (Syntax.named 2) Syntax.mut Element.behind) 2)) (Reads'.room-gone 𝓤 H A (Syntax.tyRef Syntax.erased Syntax.mut Element.behind)) Path'.refl tt Path'.refl Path'.refl Path'.refl λ b o. tt) d75
+              (Syntax.named 2) Syntax.mut Element.behind) 2)) (Reads'.room-gone 𝓤 H A (Syntax.tyRef Syntax.erased Syntax.mut Element.behind)) Path'.refl tt Path'.refl Path'.refl Path'.refl λ b o. tt) d74
 
-          d77 : Typed.Typed 𝓤 H A 𝓣 E G30 b56 Δ3 (at77 bs)
-          d77 = Typed.g-pre 𝓤 H A W 𝓣 E G30 G31 b56 Δ3 (λ Ψ. Ψ) (at76 bs) (Lifetime.g-begin 𝓤 H A W E G30 6 (
+          d76 : Typed.Typed 𝓤 H A 𝓣 E G30 b56 Δ3 (at76 bs)
+          d76 = Typed.g-pre 𝓤 H A W 𝓣 E G30 G31 b56 Δ3 (λ Ψ. Ψ) (at75 bs) (Lifetime.g-begin 𝓤 H A W E G30 6 (
             tt,
             (
               tt,
@@ -4189,30 +4117,30 @@ module _ (claims· : Claims) where
               ),
             ),
           ))
-              d76
+              d75
 
-          d78 : Typed.Typed 𝓤 H A 𝓣 E G29 b56 Δ3 (at78 bs)
-          d78 = Typed.g-pre 𝓤 H A W 𝓣 E G29 G30 b56 Δ3 (λ Ψ. Ψ) (at77 bs) (Lifetime.g-forget 𝓤 H A W E G29 5 Row.dead Path'.refl) d77
+          d77 : Typed.Typed 𝓤 H A 𝓣 E G29 b56 Δ3 (at77 bs)
+          d77 = Typed.g-pre 𝓤 H A W 𝓣 E G29 G30 b56 Δ3 (λ Ψ. Ψ) (at76 bs) (Lifetime.g-forget 𝓤 H A W E G29 5 Row.dead Path'.refl) d76
 
-          d79 : Typed.Typed 𝓤 H A 𝓣 E G28 b56 Δ3 (at79 bs)
-          d79 = Typed.g-pre 𝓤 H A W 𝓣 E G28 G29 b56 Δ3 (Typed.give (s25 bs)) (at78 bs) (Know.g-sl-known 𝓤 H A W (Referent.fInt Syntax.w16) E G28 3 1 (Syntax.tyRef (Syntax.named 1) Syntax.mut
+          d78 : Typed.Typed 𝓤 H A 𝓣 E G28 b56 Δ3 (at78 bs)
+          d78 = Typed.g-pre 𝓤 H A W 𝓣 E G28 G29 b56 Δ3 (Typed.give (s25 bs)) (at77 bs) (Know.g-sl-known 𝓤 H A W (Referent.fInt Syntax.w16) E G28 3 1 (Syntax.tyRef (Syntax.named 1) Syntax.mut
               (Syntax.tyInt Syntax.w16)) (Row.lease (κs .1 .0) (qs .1 .0)) 0 (λ x. x) record { fits = Dec'.lit< tt } (Reads'.as-is 𝓤 H A (Mut.mslice (Referent.rtF (Referent.fInt Syntax.w16)) (Syntax.tyRef
-              (Syntax.named 1) Syntax.mut (Syntax.tyInt Syntax.w16)) 1)) Path'.refl tt) d78
+              (Syntax.named 1) Syntax.mut (Syntax.tyInt Syntax.w16)) 1)) Path'.refl tt) d77
 
-          d80 : Typed.Typed 𝓤 H A 𝓣 E G27 b56 Δ3 (at80 bs)
-          d80 = Typed.g-pre 𝓤 H A W 𝓣 E G27 G28 b56 Δ3 (Typed.both (s24 bs)) (at79 bs) (Relend.g-back-sl 𝓤 H A W E (Referent.rtF (Referent.fInt Syntax.w16)) G27 28 3 1 5 (Syntax.tyRef (Syntax.named 1)
+          d79 : Typed.Typed 𝓤 H A 𝓣 E G27 b56 Δ3 (at79 bs)
+          d79 = Typed.g-pre 𝓤 H A W 𝓣 E G27 G28 b56 Δ3 (Typed.both (s24 bs)) (at78 bs) (Relend.g-back-sl 𝓤 H A W E (Referent.rtF (Referent.fInt Syntax.w16)) G27 28 3 1 5 (Syntax.tyRef (Syntax.named 1)
               Syntax.mut (Syntax.tyInt Syntax.w16)) (Syntax.tyRef Syntax.erased Syntax.mut (Syntax.tyInt Syntax.w16)) (Row.lease (κs .1 .0) (qs .1 .0)) (λ x. x) (λ x. x) (Reads'.as-is 𝓤 H A (Mut.msleft
               (Referent.rtF (Referent.fInt Syntax.w16)) (Syntax.tyRef Syntax.erased Syntax.mut (Syntax.tyInt Syntax.w16)))) (Reads'.as-is 𝓤 H A (Relend.mslice-owed (Referent.rtF (Referent.fInt
-              Syntax.w16)) (Syntax.tyRef (Syntax.named 1) Syntax.mut (Syntax.tyInt Syntax.w16)) 1 5 (Row.lease (κs .1 .0) (qs .1 .0)))) Path'.refl Path'.refl) d79
+              Syntax.w16)) (Syntax.tyRef (Syntax.named 1) Syntax.mut (Syntax.tyInt Syntax.w16)) 1 5 (Row.lease (κs .1 .0) (qs .1 .0)))) Path'.refl Path'.refl) d78
 
-          d81 : Typed.Typed 𝓤 H A 𝓣 E G26 b56 Δ3 (at81 bs)
-          d81 = Typed.g-pre 𝓤 H A W 𝓣 E G26 G27 b56 Δ3 (λ Ψ. Ψ) (at80 bs) (Lifetime.g-end 𝓤 H A W E G26 5 Path'.refl) d80
+          d80 : Typed.Typed 𝓤 H A 𝓣 E G26 b56 Δ3 (at80 bs)
+          d80 = Typed.g-pre 𝓤 H A W 𝓣 E G26 G27 b56 Δ3 (λ Ψ. Ψ) (at79 bs) (Lifetime.g-end 𝓤 H A W E G26 5 Path'.refl) d79
 
-          d82 : Typed.Typed 𝓤 H A 𝓣 E G25 b56 Δ3 (at82 bs)
-          d82 = Typed.g-pre 𝓤 H A W 𝓣 E G25 G26 b56 Δ3 (Typed.pass T25 T26 (s22 bs)) (at81 bs) (Scalar.g-room 𝓤 H A W E G25 26 Syntax.tyUnit (Scalar.room-sc 𝓤 H A W Row.sUnit)) d81
+          d81 : Typed.Typed 𝓤 H A 𝓣 E G25 b56 Δ3 (at81 bs)
+          d81 = Typed.g-pre 𝓤 H A W 𝓣 E G25 G26 b56 Δ3 (Typed.pass T25 T26 (s22 bs)) (at80 bs) (Scalar.g-room 𝓤 H A W E G25 26 Syntax.tyUnit (Scalar.room-sc 𝓤 H A W Row.sUnit)) d80
 
-          d83 : Typed.Typed 𝓤 H A 𝓣 E G24 b57 Δ3 (at83 bs)
-          d83 = Typed.s-seq 𝓤 H A W 𝓣 E G24 G25 b13 b56 Δ3 (Typed.both (s21 bs)) (at82 bs) (Plain.t-call-plain 𝓤 H A W 𝓣 1 ps·3 r·3 (claims· .6) (claims· .7) "lines::enter" (known .3) E (λ pos β. β)
+          d82 : Typed.Typed 𝓤 H A 𝓣 E G24 b57 Δ3 (at82 bs)
+          d82 = Typed.s-seq 𝓤 H A W 𝓣 E G24 G25 b13 b56 Δ3 (Typed.both (s21 bs)) (at81 bs) (Plain.t-call-plain 𝓤 H A W 𝓣 1 ps·3 r·3 (claims· .6) (claims· .7) "lines::enter" (known .3) E (λ pos β. β)
               G24 (
                 record { pos = 28; ty = Syntax.tyRef Syntax.erased Syntax.mut (Syntax.tyInt Syntax.w16); ref = λ x. x },
                 (
@@ -4235,26 +4163,26 @@ module _ (claims· : Claims) where
                   ),
                 ),
               ) (Reads'.room-gone 𝓤
-              H A Syntax.tyUnit) (tt, tt) Path'.refl) d82
+              H A Syntax.tyUnit) (tt, tt) Path'.refl) d81
 
-          d84 : Typed.Typed 𝓤 H A 𝓣 E G23 b58 Δ3 (at84 bs)
-          d84 = Typed.s-seq 𝓤 H A W 𝓣 E G23 G24 b12 b57 Δ3 (Typed.ask (s20 bs)) (at83 bs) (Relend.t-sl-aggregate 𝓤 H A W E (Referent.rtF (Referent.fInt Syntax.w16)) 𝓣 (Relend.asMut (Referent.rtF
+          d83 : Typed.Typed 𝓤 H A 𝓣 E G23 b58 Δ3 (at83 bs)
+          d83 = Typed.s-seq 𝓤 H A W 𝓣 E G23 G24 b12 b57 Δ3 (Typed.ask (s20 bs)) (at82 bs) (Relend.t-sl-aggregate 𝓤 H A W E (Referent.rtF (Referent.fInt Syntax.w16)) 𝓣 (Relend.asMut (Referent.rtF
               (Referent.fInt Syntax.w16))) G23 27 28 5 (Syntax.tyRef Syntax.erased Syntax.mut (Syntax.tyInt Syntax.w16)) (Syntax.tyRef Syntax.erased Syntax.mut (Syntax.tyInt Syntax.w16)) (λ x. x)
               (Scalar.oFld 3 (List._∷_ (Syntax.field 1) List.[]) (Syntax.tyInt Syntax.w64) 8 λ v. Shared.lenV (v .0)) (Reads'.as-is 𝓤 H A (Relend.msptr (Referent.rtF (Referent.fInt Syntax.w16))
               (Syntax.tyRef Syntax.erased Syntax.mut (Syntax.tyInt Syntax.w16)) 5)) (Reads'.room-gone 𝓤 H A y5) (
                 Relend.reads-owed-len 𝓤 H A W (Referent.rtF (Referent.fInt Syntax.w16)) (Syntax.tyRef (Syntax.named 1) Syntax.mut (Syntax.tyInt Syntax.w16)) 1 5 (Row.lease (κs .1 .0) (qs .1 .0)) 8
                     Path'.refl,
                 Path'.refl,
-              ) Path'.refl Path'.refl λ b o k. tt) d83
+              ) Path'.refl Path'.refl λ b o k. tt) d82
 
-          d85 : Typed.Typed 𝓤 H A 𝓣 E G22 b59 Δ3 (at85 bs)
-          d85 = Typed.s-seq 𝓤 H A W 𝓣 E G22 G23 b11 b58 Δ3 (Typed.give (s19 bs)) (at84 bs) (Relend.t-sl-relend 𝓤 H A W E (Referent.rtF (Referent.fInt Syntax.w16)) 𝓣 G22 3 27 1 5 (Syntax.tyRef
+          d84 : Typed.Typed 𝓤 H A 𝓣 E G22 b59 Δ3 (at84 bs)
+          d84 = Typed.s-seq 𝓤 H A W 𝓣 E G22 G23 b11 b58 Δ3 (Typed.give (s19 bs)) (at83 bs) (Relend.t-sl-relend 𝓤 H A W E (Referent.rtF (Referent.fInt Syntax.w16)) 𝓣 G22 3 27 1 5 (Syntax.tyRef
               (Syntax.named 1) Syntax.mut (Syntax.tyInt Syntax.w16)) (Syntax.tyRef Syntax.erased Syntax.mut (Syntax.tyInt Syntax.w16)) (Row.lease (κs .1 .0) (qs .1 .0)) 0 (λ x. x) (Reads'.as-is 𝓤 H A
               (Mut.mslice (Referent.rtF (Referent.fInt Syntax.w16)) (Syntax.tyRef (Syntax.named 1) Syntax.mut (Syntax.tyInt Syntax.w16)) 1)) (Reads'.room-gone 𝓤 H A (Syntax.tyRef Syntax.erased Syntax.mut
-              (Syntax.tyInt Syntax.w16))) Path'.refl tt Path'.refl Path'.refl Path'.refl λ b o. tt) d84
+              (Syntax.tyInt Syntax.w16))) Path'.refl tt Path'.refl Path'.refl Path'.refl λ b o. tt) d83
 
-          d86 : Typed.Typed 𝓤 H A 𝓣 E G21 b59 Δ3 (at86 bs)
-          d86 = Typed.g-pre 𝓤 H A W 𝓣 E G21 G22 b59 Δ3 (λ Ψ. Ψ) (at85 bs) (Lifetime.g-begin 𝓤 H A W E G21 5 (
+          d85 : Typed.Typed 𝓤 H A 𝓣 E G21 b59 Δ3 (at85 bs)
+          d85 = Typed.g-pre 𝓤 H A W 𝓣 E G21 G22 b59 Δ3 (λ Ψ. Ψ) (at84 bs) (Lifetime.g-begin 𝓤 H A W E G21 5 (
             tt,
             (
               tt,
@@ -4288,10 +4216,10 @@ module _ (claims· : Claims) where
               ),
             ),
           ))
-              d85
+              d84
 
-          d87 : Typed.Typed 𝓤 H A 𝓣 E G20 b60 Δ3 (at87 bs)
-          d87 = Typed.s-seq 𝓤 H A W 𝓣 E G20 G21 b10 b59 Δ3 (Typed.both (s17 bs)) (at86 bs) (Plain.t-call-plain 𝓤 H A W 𝓣 0 ps·2 r·2 (claims· .4) (claims· .5) "pass::window_plan" (known .2) E (λ pos β.
+          d86 : Typed.Typed 𝓤 H A 𝓣 E G20 b60 Δ3 (at86 bs)
+          d86 = Typed.s-seq 𝓤 H A W 𝓣 E G20 G21 b10 b59 Δ3 (Typed.both (s17 bs)) (at85 bs) (Plain.t-call-plain 𝓤 H A W 𝓣 0 ps·2 r·2 (claims· .4) (claims· .5) "pass::window_plan" (known .2) E (λ pos β.
               β) G20 (record { pos = 18; st = List.[]; d = 0; at = λ x. x }, (Bool.bAt 12 λ x. x, tt)) 19 List.[] (Call.sub-id 𝓤 H A W (G20 .slots)) (
                 (
                   Yields.yields-copy 𝓤 H A W (λ ρ. Unit) (Declared'.row Plan.the-type) Path'.refl (Copies.cStruct Plan.the-type Laws'6.the-laws Laws'6.the-copy .copy 𝓤 H A W) (Rows'.whole (Declared'.row
@@ -4299,115 +4227,115 @@ module _ (claims· : Claims) where
                   Path'.refl,
                 ),
                 ((Scalar.reads-sc 𝓤 H A W Row.sBool, Path'.refl), tt),
-              ) (Reads'.room-gone 𝓤 H A y1) tt Path'.refl) d86
+              ) (Reads'.room-gone 𝓤 H A y1) tt Path'.refl) d85
 
-          d88 : Typed.Typed 𝓤 H A 𝓣 E G14 b61 Δ3 (at88 bs)
-          d88 = Typed.s-seq 𝓤 H A W 𝓣 E G14 G20 b9 b60 Δ3 (Typed.both (s16 bs)) (at87 bs) (Plain.t-call-plain 𝓤 H A W 𝓣 0 ps·1 r·1 (claims· .2) (claims· .3) "steps::plan_at" (known .1) E (λ pos β. β)
+          d87 : Typed.Typed 𝓤 H A 𝓣 E G14 b61 Δ3 (at87 bs)
+          d87 = Typed.s-seq 𝓤 H A W 𝓣 E G14 G20 b9 b60 Δ3 (Typed.both (s16 bs)) (at86 bs) (Plain.t-call-plain 𝓤 H A W 𝓣 0 ps·1 r·1 (claims· .2) (claims· .3) "steps::plan_at" (known .1) E (λ pos β. β)
               G14 (Num.vAt 17 λ x. x, (Bool.bAt 14 λ x. x, tt)) 18 List.[] (Call.sub-id 𝓤 H A W (G14 .slots))
-              ((Scalar.reads-sc 𝓤 H A W (Row.sInt Syntax.w64), Path'.refl), ((Scalar.reads-sc 𝓤 H A W Row.sBool, Path'.refl), tt)) (Reads'.room-gone 𝓤 H A y1) tt Path'.refl) d87
+              ((Scalar.reads-sc 𝓤 H A W (Row.sInt Syntax.w64), Path'.refl), ((Scalar.reads-sc 𝓤 H A W Row.sBool, Path'.refl), tt)) (Reads'.room-gone 𝓤 H A y1) tt Path'.refl) d86
 
-          d89 : Typed.Typed 𝓤 H A 𝓣 E G13 b62 Δ3 (at89 bs)
-          d89 = Typed.t-seq 𝓤 H A W 𝓣 E G13 G14 b8 b61 Δ3 (at7 bs) (at88 bs) d7 d88
+          d88 : Typed.Typed 𝓤 H A 𝓣 E G13 b62 Δ3 (at88 bs)
+          d88 = Typed.t-seq 𝓤 H A W 𝓣 E G13 G14 b8 b61 Δ3 (at7 bs) (at87 bs) d7 d87
 
-          d90 : Typed.Typed 𝓤 H A 𝓣 E G11 b63 Δ3 (at90 bs)
-          d90 = Typed.s-seq 𝓤 H A W 𝓣 E G11 G13 b5 b62 Δ3 (Typed.ask (s10 bs)) (at89 bs) (Scalar.t-op2 𝓤 H A W E 𝓣 G11 (Syntax.lt Syntax.unsigned) (Scalar.oAt 17 (Syntax.tyInt Syntax.w64) (Row.valS
+          d89 : Typed.Typed 𝓤 H A 𝓣 E G11 b63 Δ3 (at89 bs)
+          d89 = Typed.s-seq 𝓤 H A W 𝓣 E G11 G13 b5 b62 Δ3 (Typed.ask (s10 bs)) (at88 bs) (Scalar.t-op2 𝓤 H A W E 𝓣 G11 (Syntax.lt Syntax.unsigned) (Scalar.oAt 17 (Syntax.tyInt Syntax.w64) (Row.valS
               (Row.sInt Syntax.w64))) (Scalar.oInt Syntax.w64 6) 25 (Rows'.sc-here Row.sBool) Syntax.tyBool (Row.valS Row.sBool) (Row.sBool .of) (Scalar.reads-sc 𝓤 H A W (Row.sInt Syntax.w64), Path'.refl)
-              tt (Reads'.room-gone 𝓤 H A Syntax.tyBool) (Scalar.holds-sc 𝓤 H A W Row.sBool) Path'.refl (λ u. Path'.refl) λ u. tt) d89
+              tt (Reads'.room-gone 𝓤 H A Syntax.tyBool) (Scalar.holds-sc 𝓤 H A W Row.sBool) Path'.refl (λ u. Path'.refl) λ u. tt) d88
 
-          d91 : Typed.Typed 𝓤 H A 𝓣 E G11 b64 Δ2 (at91 bs)
-          d91 = Typed.t-loop-by 𝓤 H A W 𝓣 E G11 b63 Δ2 put0 (λ u vs. Inv·0 (Row.get 1 (T11 .locals) u .now) (Row.get 3 (T11 .locals) u .now) (Row.get 4 (T11 .locals) u .now) (Row.get 5 (T11 .locals) u
+          d90 : Typed.Typed 𝓤 H A 𝓣 E G11 b64 Δ2 (at90 bs)
+          d90 = Typed.t-loop-by 𝓤 H A W 𝓣 E G11 b63 Δ2 put0 (λ u vs. Inv·0 (Row.get 1 (T11 .locals) u .now) (Row.get 3 (T11 .locals) u .now) (Row.get 4 (T11 .locals) u .now) (Row.get 5 (T11 .locals) u
               .now) (Row.get 7 (T11 .locals) u) (Row.get 8 (T11 .locals) u .now) (Row.get 9 (T11 .locals) u) (Row.get 10 (T11 .locals) u) (Row.get 11 (T11 .locals) u) (Row.get 12 (T11 .locals) u) (Row.get
               13 (T11 .locals) u) (Row.get 14 (T11 .locals) u) (Row.get 15 (T11 .locals) u) (Row.get 16 (T11 .locals) u) (Row.get 17 (T11 .locals) u) (vs .0) (vs .1) (vs .2) (vs .3) (vs .4)) (λ u vs. μ·0
               (Row.get 1 (T11 .locals) u .now) (Row.get 3 (T11 .locals) u .now) (Row.get 4 (T11 .locals) u .now) (Row.get 5 (T11 .locals) u .now) (Row.get 7 (T11 .locals) u) (Row.get 8 (T11 .locals) u
               .now) (Row.get 9 (T11 .locals) u) (Row.get 10 (T11 .locals) u) (Row.get 11 (T11 .locals) u) (Row.get 12 (T11 .locals) u) (Row.get 13 (T11 .locals) u) (Row.get 14 (T11 .locals) u) (Row.get 15
-              (T11 .locals) u) (Row.get 16 (T11 .locals) u) (Row.get 17 (T11 .locals) u) (vs .0) (vs .1) (vs .2) (vs .3) (vs .4)) (at90 bs) d90
+              (T11 .locals) u) (Row.get 16 (T11 .locals) u) (Row.get 17 (T11 .locals) u) (vs .0) (vs .1) (vs .2) (vs .3) (vs .4)) (at89 bs) d89
 
-          d92 : Typed.Typed 𝓤 H A 𝓣 E G11 b65 Δ1 (at92 bs)
-          d92 = Typed.t-block 𝓤 H A W 𝓣 E G11 b64 Δ1 (at91 bs) d91
+          d91 : Typed.Typed 𝓤 H A 𝓣 E G11 b65 Δ1 (at91 bs)
+          d91 = Typed.t-block 𝓤 H A W 𝓣 E G11 b64 Δ1 (at90 bs) d90
 
-          d93 : Typed.Typed 𝓤 H A 𝓣 E G111 b69 Δ6 (at93 bs)
-          d93 = Typed.t-return 𝓤 H A W 𝓣 E Δ6 tt
+          d92 : Typed.Typed 𝓤 H A 𝓣 E G110 b69 Δ6 (at92 bs)
+          d92 = Typed.t-return 𝓤 H A W 𝓣 E Δ6 tt
 
-          d94 : Typed.Typed 𝓤 H A 𝓣 E G110 b69 Δ6 (at94 bs)
-          d94 = Typed.g-pre 𝓤 H A W 𝓣 E G110 G111 b69 Δ6 (Typed.pass T110 T111 (s105 bs)) (at93 bs) (Scalar.g-room 𝓤 H A W E G110 17 (Syntax.tyInt Syntax.w64) (Scalar.room-sc 𝓤 H A W (Row.sInt
+          d93 : Typed.Typed 𝓤 H A 𝓣 E G109 b69 Δ6 (at93 bs)
+          d93 = Typed.g-pre 𝓤 H A W 𝓣 E G109 G110 b69 Δ6 (Typed.pass T109 T110 (s104 bs)) (at92 bs) (Scalar.g-room 𝓤 H A W E G109 17 (Syntax.tyInt Syntax.w64) (Scalar.room-sc 𝓤 H A W (Row.sInt
+              Syntax.w64))) d92
+
+          d94 : Typed.Typed 𝓤 H A 𝓣 E G108 b69 Δ6 (at94 bs)
+          d94 = Typed.g-pre 𝓤 H A W 𝓣 E G108 G109 b69 Δ6 (Typed.pass T108 T109 (s103 bs)) (at93 bs) (Scalar.g-room 𝓤 H A W E G108 15 (Syntax.tyInt Syntax.w64) (Scalar.room-sc 𝓤 H A W (Row.sInt
               Syntax.w64))) d93
 
-          d95 : Typed.Typed 𝓤 H A 𝓣 E G109 b69 Δ6 (at95 bs)
-          d95 = Typed.g-pre 𝓤 H A W 𝓣 E G109 G110 b69 Δ6 (Typed.pass T109 T110 (s104 bs)) (at94 bs) (Scalar.g-room 𝓤 H A W E G109 15 (Syntax.tyInt Syntax.w64) (Scalar.room-sc 𝓤 H A W (Row.sInt
-              Syntax.w64))) d94
+          d95 : Typed.Typed 𝓤 H A 𝓣 E G107 b69 Δ6 (at95 bs)
+          d95 = Typed.g-pre 𝓤 H A W 𝓣 E G107 G108 b69 Δ6 (Typed.pass T107 T108 (s102 bs)) (at94 bs) (Scalar.g-room 𝓤 H A W E G107 14 Syntax.tyBool (Scalar.room-sc 𝓤 H A W Row.sBool)) d94
 
-          d96 : Typed.Typed 𝓤 H A 𝓣 E G108 b69 Δ6 (at96 bs)
-          d96 = Typed.g-pre 𝓤 H A W 𝓣 E G108 G109 b69 Δ6 (Typed.pass T108 T109 (s103 bs)) (at95 bs) (Scalar.g-room 𝓤 H A W E G108 14 Syntax.tyBool (Scalar.room-sc 𝓤 H A W Row.sBool)) d95
+          d96 : Typed.Typed 𝓤 H A 𝓣 E G106 b69 Δ6 (at96 bs)
+          d96 = Typed.g-pre 𝓤 H A W 𝓣 E G106 G107 b69 Δ6 (Typed.pass T106 T107 (s101 bs)) (at95 bs) (Scalar.g-room 𝓤 H A W E G106 13 (Syntax.tyInt Syntax.w32) (Scalar.room-sc 𝓤 H A W (Row.sInt
+              Syntax.w32))) d95
 
-          d97 : Typed.Typed 𝓤 H A 𝓣 E G107 b69 Δ6 (at97 bs)
-          d97 = Typed.g-pre 𝓤 H A W 𝓣 E G107 G108 b69 Δ6 (Typed.pass T107 T108 (s102 bs)) (at96 bs) (Scalar.g-room 𝓤 H A W E G107 13 (Syntax.tyInt Syntax.w32) (Scalar.room-sc 𝓤 H A W (Row.sInt
-              Syntax.w32))) d96
+          d97 : Typed.Typed 𝓤 H A 𝓣 E G105 b69 Δ6 (at97 bs)
+          d97 = Typed.g-pre 𝓤 H A W 𝓣 E G105 G106 b69 Δ6 (Typed.pass T105 T106 (s100 bs)) (at96 bs) (Scalar.g-room 𝓤 H A W E G105 12 Syntax.tyBool (Scalar.room-sc 𝓤 H A W Row.sBool)) d96
 
-          d98 : Typed.Typed 𝓤 H A 𝓣 E G106 b69 Δ6 (at98 bs)
-          d98 = Typed.g-pre 𝓤 H A W 𝓣 E G106 G107 b69 Δ6 (Typed.pass T106 T107 (s101 bs)) (at97 bs) (Scalar.g-room 𝓤 H A W E G106 12 Syntax.tyBool (Scalar.room-sc 𝓤 H A W Row.sBool)) d97
+          d98 : Typed.Typed 𝓤 H A 𝓣 E G104 b69 Δ6 (at98 bs)
+          d98 = Typed.g-pre 𝓤 H A W 𝓣 E G104 G105 b69 Δ6 (Typed.pass T104 T105 (s99 bs)) (at97 bs) (Scalar.g-room 𝓤 H A W E G104 11 (Syntax.tyInt Syntax.w64) (Scalar.room-sc 𝓤 H A W (Row.sInt
+              Syntax.w64))) d97
 
-          d99 : Typed.Typed 𝓤 H A 𝓣 E G105 b69 Δ6 (at99 bs)
-          d99 = Typed.g-pre 𝓤 H A W 𝓣 E G105 G106 b69 Δ6 (Typed.pass T105 T106 (s100 bs)) (at98 bs) (Scalar.g-room 𝓤 H A W E G105 11 (Syntax.tyInt Syntax.w64) (Scalar.room-sc 𝓤 H A W (Row.sInt
-              Syntax.w64))) d98
-
-          d100 : Typed.Typed 𝓤 H A 𝓣 E G104 b70 Δ6 (at100 bs)
-          d100 = Typed.s-seq 𝓤 H A W 𝓣 E G104 G105 b68 b69 Δ6 (Typed.pass T104 T105 (s99 bs)) (at99 bs) (Make.t-enum-make-wt 𝓤 H A W E 𝓣 Lined.the-type Laws''.the-laws Laws''.the-plain tt G104 0
+          d99 : Typed.Typed 𝓤 H A 𝓣 E G103 b70 Δ6 (at99 bs)
+          d99 = Typed.s-seq 𝓤 H A W 𝓣 E G103 G104 b68 b69 Δ6 (Typed.pass T103 T104 (s98 bs)) (at98 bs) (Make.t-enum-make-wt 𝓤 H A W E 𝓣 Lined.the-type Laws''.the-laws Laws''.the-plain tt G103 0
               (List._∷_ (Scalar.oInt Syntax.w8 1) List.[]) (λ m. Lined.enum .make (Logic.inr (Logic.inl tt))) (Reads'.room-gone 𝓤 H A (Syntax.tyEnum (List._∷_ 98 (List._∷_ 108 (List._∷_ 111 (List._∷_ 99
               (List._∷_ 107 (List._∷_ 58 (List._∷_ 58 (List._∷_ 76 (List._∷_ 105 (List._∷_ 110 (List._∷_ 101 (List._∷_ 100 List.[])))))))))))) (Syntax.ttcons (Syntax.tcons y9 Syntax.tnil) (Syntax.ttcons
               Syntax.tnil Syntax.ttnil)))) (tt, tt) Path'.refl (λ m wa. Make.made-val Lined.the-type Laws''.the-laws List.[] (Lined.enum .make (Logic.inr (Logic.inl tt))) tt (wa .1)) λ m wa. Make.made-is
-              Lined.the-type Laws''.the-laws List.[] (Lined.enum .make (Logic.inr (Logic.inl tt))) tt (wa .1)) d99
+              Lined.the-type Laws''.the-laws List.[] (Lined.enum .make (Logic.inr (Logic.inl tt))) tt (wa .1)) d98
 
-          d101 : Typed.Typed 𝓤 H A 𝓣 E G103 b70 Δ6 (at101 bs)
-          d101 = Typed.g-pre 𝓤 H A W 𝓣 E G103 G104 b70 Δ6 (Typed.pass T103 T104 (s98 bs)) (at100 bs) (Scalar.g-room 𝓤 H A W E G103 39 Syntax.tyBool (Scalar.room-sc 𝓤 H A W Row.sBool)) d100
+          d100 : Typed.Typed 𝓤 H A 𝓣 E G102 b70 Δ6 (at100 bs)
+          d100 = Typed.g-pre 𝓤 H A W 𝓣 E G102 G103 b70 Δ6 (Typed.pass T102 T103 (s97 bs)) (at99 bs) (Scalar.g-room 𝓤 H A W E G102 39 Syntax.tyBool (Scalar.room-sc 𝓤 H A W Row.sBool)) d99
 
-          d102 : Typed.Typed 𝓤 H A 𝓣 E G102 b70 Δ6 (at102 bs)
-          d102 = Typed.g-pre 𝓤 H A W 𝓣 E G102 G103 b70 Δ6 (Typed.pass T102 T103 (s97 bs)) (at101 bs) (Scalar.g-room 𝓤 H A W E G102 16 y9 (Local.room-whole 𝓤 H A W (Declared'.row Place.the-type) y9
-              Path'.refl)) d101
+          d101 : Typed.Typed 𝓤 H A 𝓣 E G101 b70 Δ6 (at101 bs)
+          d101 = Typed.g-pre 𝓤 H A W 𝓣 E G101 G102 b70 Δ6 (Typed.pass T101 T102 (s96 bs)) (at100 bs) (Scalar.g-room 𝓤 H A W E G101 16 y9 (Local.room-whole 𝓤 H A W (Declared'.row Place.the-type) y9
+              Path'.refl)) d100
 
-          d103 : Typed.Typed 𝓤 H A 𝓣 E G112 b71 Δ6 (at103 bs)
-          d103 = Typed.t-skip 𝓤 H A W 𝓣 E Δ6 tt
+          d102 : Typed.Typed 𝓤 H A 𝓣 E G111 b71 Δ6 (at102 bs)
+          d102 = Typed.t-skip 𝓤 H A W 𝓣 E Δ6 tt
 
-          d104 : Typed.Typed 𝓤 H A 𝓣 E G102 b71 Δ6 (at104 bs)
-          d104 = Typed.g-pre 𝓤 H A W 𝓣 E G102 G112 b71 Δ6 (Typed.pass T102 T112 (s106 bs)) (at103 bs) (Scalar.g-room 𝓤 H A W E G102 39 Syntax.tyBool (Scalar.room-sc 𝓤 H A W Row.sBool)) d103
+          d103 : Typed.Typed 𝓤 H A 𝓣 E G101 b71 Δ6 (at103 bs)
+          d103 = Typed.g-pre 𝓤 H A W 𝓣 E G101 G111 b71 Δ6 (Typed.pass T101 T111 (s105 bs)) (at102 bs) (Scalar.g-room 𝓤 H A W E G101 39 Syntax.tyBool (Scalar.room-sc 𝓤 H A W Row.sBool)) d102
 
-          d105 : Typed.Typed 𝓤 H A 𝓣 E G102 b72 Δ6 (at105 bs)
-          d105 = Scalar.t-cond 𝓤 H A W E 𝓣 G102 39 (λ x. x) b70 b71 Δ6 (at102 bs) (at104 bs) (Scalar.reads-sc 𝓤 H A W Row.sBool) Path'.refl d102 d104
+          d104 : Typed.Typed 𝓤 H A 𝓣 E G101 b72 Δ6 (at104 bs)
+          d104 = Scalar.t-cond 𝓤 H A W E 𝓣 G101 39 (λ x. x) b70 b71 Δ6 (at101 bs) (at103 bs) (Scalar.reads-sc 𝓤 H A W Row.sBool) Path'.refl d101 d103
 
-          d106 : Typed.Typed 𝓤 H A 𝓣 E G100 b72 Δ6 (at106 bs)
-          d106 = Typed.g-pre 𝓤 H A W 𝓣 E G100 G102 b72 Δ6 (Typed.pass T100 T102 (s96 bs)) (at105 bs) (Scalar.g-room 𝓤 H A W E G100 24 y7 (Local.room-whole 𝓤 H A W (Declared'.row BitPosition.the-type)
-              y7 Path'.refl)) d105
+          d105 : Typed.Typed 𝓤 H A 𝓣 E G99 b72 Δ6 (at105 bs)
+          d105 = Typed.g-pre 𝓤 H A W 𝓣 E G99 G101 b72 Δ6 (Typed.pass T99 T101 (s95 bs)) (at104 bs) (Scalar.g-room 𝓤 H A W E G99 24 y7 (Local.room-whole 𝓤 H A W (Declared'.row BitPosition.the-type) y7
+              Path'.refl)) d104
 
-          d107 : Typed.Typed 𝓤 H A 𝓣 E G120 b74 Δ0 (at107 bs)
-          d107 = Typed.t-return 𝓤 H A W 𝓣 E Δ0 tt
+          d106 : Typed.Typed 𝓤 H A 𝓣 E G119 b74 Δ0 (at106 bs)
+          d106 = Typed.t-return 𝓤 H A W 𝓣 E Δ0 tt
 
-          d108 : Typed.Typed 𝓤 H A 𝓣 E G119 b74 Δ0 (at108 bs)
-          d108 = Typed.g-pre 𝓤 H A W 𝓣 E G119 G120 b74 Δ0 (Typed.pass T119 T120 (s114 bs)) (at107 bs) (Scalar.g-room 𝓤 H A W E G119 12 Syntax.tyBool (Scalar.room-sc 𝓤 H A W Row.sBool)) d107
+          d107 : Typed.Typed 𝓤 H A 𝓣 E G118 b74 Δ0 (at107 bs)
+          d107 = Typed.g-pre 𝓤 H A W 𝓣 E G118 G119 b74 Δ0 (Typed.pass T118 T119 (s113 bs)) (at106 bs) (Scalar.g-room 𝓤 H A W E G118 12 Syntax.tyBool (Scalar.room-sc 𝓤 H A W Row.sBool)) d106
 
-          d109 : Typed.Typed 𝓤 H A 𝓣 E G118 b74 Δ0 (at109 bs)
-          d109 = Typed.g-pre 𝓤 H A W 𝓣 E G118 G119 b74 Δ0 (Typed.pass T118 T119 (s113 bs)) (at108 bs) (Scalar.g-room 𝓤 H A W E G118 11 (Syntax.tyInt Syntax.w64) (Scalar.room-sc 𝓤 H A W (Row.sInt
+          d108 : Typed.Typed 𝓤 H A 𝓣 E G117 b74 Δ0 (at108 bs)
+          d108 = Typed.g-pre 𝓤 H A W 𝓣 E G117 G118 b74 Δ0 (Typed.pass T117 T118 (s112 bs)) (at107 bs) (Scalar.g-room 𝓤 H A W E G117 11 (Syntax.tyInt Syntax.w64) (Scalar.room-sc 𝓤 H A W (Row.sInt
+              Syntax.w64))) d107
+
+          d109 : Typed.Typed 𝓤 H A 𝓣 E G116 b74 Δ0 (at109 bs)
+          d109 = Typed.g-pre 𝓤 H A W 𝓣 E G116 G117 b74 Δ0 (Typed.pass T116 T117 (s111 bs)) (at108 bs) (Scalar.g-room 𝓤 H A W E G116 17 (Syntax.tyInt Syntax.w64) (Scalar.room-sc 𝓤 H A W (Row.sInt
               Syntax.w64))) d108
 
-          d110 : Typed.Typed 𝓤 H A 𝓣 E G117 b74 Δ0 (at110 bs)
-          d110 = Typed.g-pre 𝓤 H A W 𝓣 E G117 G118 b74 Δ0 (Typed.pass T117 T118 (s112 bs)) (at109 bs) (Scalar.g-room 𝓤 H A W E G117 17 (Syntax.tyInt Syntax.w64) (Scalar.room-sc 𝓤 H A W (Row.sInt
-              Syntax.w64))) d109
+          d110 : Typed.Typed 𝓤 H A 𝓣 E G115 b74 Δ0 (at110 bs)
+          d110 = Typed.g-pre 𝓤 H A W 𝓣 E G115 G116 b74 Δ0 (Typed.pass T115 T116 (s110 bs)) (at109 bs) (Scalar.g-room 𝓤 H A W E G115 16 y9 (Local.room-whole 𝓤 H A W (Declared'.row Place.the-type) y9
+              Path'.refl)) d109
 
-          d111 : Typed.Typed 𝓤 H A 𝓣 E G116 b74 Δ0 (at111 bs)
-          d111 = Typed.g-pre 𝓤 H A W 𝓣 E G116 G117 b74 Δ0 (Typed.pass T116 T117 (s111 bs)) (at110 bs) (Scalar.g-room 𝓤 H A W E G116 16 y9 (Local.room-whole 𝓤 H A W (Declared'.row Place.the-type) y9
-              Path'.refl)) d110
+          d111 : Typed.Typed 𝓤 H A 𝓣 E G114 b74 Δ0 (at111 bs)
+          d111 = Typed.g-pre 𝓤 H A W 𝓣 E G114 G115 b74 Δ0 (Typed.pass T114 T115 (s109 bs)) (at110 bs) (Scalar.g-room 𝓤 H A W E G114 15 (Syntax.tyInt Syntax.w64) (Scalar.room-sc 𝓤 H A W (Row.sInt
+              Syntax.w64))) d110
 
-          d112 : Typed.Typed 𝓤 H A 𝓣 E G115 b74 Δ0 (at112 bs)
-          d112 = Typed.g-pre 𝓤 H A W 𝓣 E G115 G116 b74 Δ0 (Typed.pass T115 T116 (s110 bs)) (at111 bs) (Scalar.g-room 𝓤 H A W E G115 15 (Syntax.tyInt Syntax.w64) (Scalar.room-sc 𝓤 H A W (Row.sInt
-              Syntax.w64))) d111
+          d112 : Typed.Typed 𝓤 H A 𝓣 E G113 b74 Δ0 (at112 bs)
+          d112 = Typed.g-pre 𝓤 H A W 𝓣 E G113 G114 b74 Δ0 (Typed.pass T113 T114 (s108 bs)) (at111 bs) (Scalar.g-room 𝓤 H A W E G113 14 Syntax.tyBool (Scalar.room-sc 𝓤 H A W Row.sBool)) d111
 
-          d113 : Typed.Typed 𝓤 H A 𝓣 E G114 b74 Δ0 (at113 bs)
-          d113 = Typed.g-pre 𝓤 H A W 𝓣 E G114 G115 b74 Δ0 (Typed.pass T114 T115 (s109 bs)) (at112 bs) (Scalar.g-room 𝓤 H A W E G114 14 Syntax.tyBool (Scalar.room-sc 𝓤 H A W Row.sBool)) d112
+          d113 : Typed.Typed 𝓤 H A 𝓣 E G112 b74 Δ0 (at113 bs)
+          d113 = Typed.g-pre 𝓤 H A W 𝓣 E G112 G113 b74 Δ0 (Typed.pass T112 T113 (s107 bs)) (at112 bs) (Scalar.g-room 𝓤 H A W E G112 13 (Syntax.tyInt Syntax.w32) (Scalar.room-sc 𝓤 H A W (Row.sInt
+              Syntax.w32))) d112
 
-          d114 : Typed.Typed 𝓤 H A 𝓣 E G113 b74 Δ0 (at114 bs)
-          d114 = Typed.g-pre 𝓤 H A W 𝓣 E G113 G114 b74 Δ0 (Typed.pass T113 T114 (s108 bs)) (at113 bs) (Scalar.g-room 𝓤 H A W E G113 13 (Syntax.tyInt Syntax.w32) (Scalar.room-sc 𝓤 H A W (Row.sInt
-              Syntax.w32))) d113
-
-          d115 : Typed.Typed 𝓤 H A 𝓣 E G101 b75 Δ0 (at115 bs)
-          d115 = Typed.s-seq 𝓤 H A W 𝓣 E G101 G113 b73 b74 Δ0 (Typed.pass T101 T113 (s107 bs)) (at114 bs) (Make.t-enum-make-wt 𝓤 H A W E 𝓣 Lined.the-type Laws''.the-laws Laws''.the-plain tt G101 0
+          d114 : Typed.Typed 𝓤 H A 𝓣 E G100 b75 Δ0 (at114 bs)
+          d114 = Typed.s-seq 𝓤 H A W 𝓣 E G100 G112 b73 b74 Δ0 (Typed.pass T100 T112 (s106 bs)) (at113 bs) (Make.t-enum-make-wt 𝓤 H A W E 𝓣 Lined.the-type Laws''.the-laws Laws''.the-plain tt G100 0
               (List._∷_ (Scalar.oInt Syntax.w8 0) (List._∷_ (Scalar.oAt 16 y9 (Laws'10.val Place.the-type Laws'3.the-laws)) List.[])) (λ m. Lined.enum .make (Logic.inl
               (m .1 .1 .1 .1 .1 .1 .1 .1 .1 .1 .1 .1 .1 .1 .1 .1 .0, tt))) (Reads'.room-gone 𝓤 H A (Syntax.tyEnum (List._∷_ 98 (List._∷_ 108 (List._∷_ 111 (List._∷_ 99 (List._∷_ 107 (List._∷_ 58 (List._∷_
               58 (List._∷_ 76 (List._∷_ 105 (List._∷_ 110 (List._∷_ 101 (List._∷_ 100 List.[])))))))))))) (Syntax.ttcons (Syntax.tcons y9 Syntax.tnil) (Syntax.ttcons Syntax.tnil Syntax.ttnil))))
@@ -4423,15 +4351,15 @@ module _ (claims· : Claims) where
                     (Make'.struct-wt BitPosition.the-type Laws.the-laws (Make'.u64-wt, tt), (Make'.bool-wt, (Make'.u64-wt, tt)))) (Place.the-type .to (m .1 .1 .1 .1 .1 .1 .1 .1 .1 .1 .1 .1 .1 .1 .1 .1 .0)),
                 tt,
               )
-              (wa .1)) d114
+              (wa .1)) d113
 
-          d116 : Typed.Typed 𝓤 H A 𝓣 E G100 b76 Δ0 (at116 bs)
-          d116 = Typed.t-seq 𝓤 H A W 𝓣 E G100 G101 b72 b75 Δ0 (at106 bs) (at115 bs) d106 d115
+          d115 : Typed.Typed 𝓤 H A 𝓣 E G99 b76 Δ0 (at115 bs)
+          d115 = Typed.t-seq 𝓤 H A W 𝓣 E G99 G100 b72 b75 Δ0 (at105 bs) (at114 bs) d105 d114
 
-          d117 : Typed.Typed 𝓤 H A 𝓣 E G99 b77 Δ0 (at117 bs)
-          d117 = Typed.s-seq 𝓤 H A W 𝓣 E G99 G100 b67 b76 Δ0 (Typed.both (s95 bs)) (at116 bs) (Plain.t-call-plain 𝓤 H A W 𝓣 1 ps·8 r·8 (claims· .16) (claims· .17) "bits::is_past" (known .8) E (λ pos
-              β. β) G99 (record { pos = 1; ty = Syntax.tyRef (Syntax.named 0) Syntax.imm (Syntax.tyInt Syntax.w8); ref = λ x. x }, (record { pos = 24; st = List.[]; d = 0; at = λ x. x }, tt)) 39
-              (List._∷_ 0 List.[]) (Call.sub-id 𝓤 H A W (G99 .slots)) (
+          d116 : Typed.Typed 𝓤 H A 𝓣 E G98 b77 Δ0 (at116 bs)
+          d116 = Typed.s-seq 𝓤 H A W 𝓣 E G98 G99 b67 b76 Δ0 (Typed.both (s94 bs)) (at115 bs) (Plain.t-call-plain 𝓤 H A W 𝓣 1 ps·8 r·8 (claims· .16) (claims· .17) "bits::is_past" (known .8) E (λ pos β.
+              β) G98 (record { pos = 1; ty = Syntax.tyRef (Syntax.named 0) Syntax.imm (Syntax.tyInt Syntax.w8); ref = λ x. x }, (record { pos = 24; st = List.[]; d = 0; at = λ x. x }, tt)) 39 (List._∷_ 0
+              List.[]) (Call.sub-id 𝓤 H A W (G98 .slots)) (
                 ShrSlice.spares-sslice 𝓤 H A W (Referent.rtF (Referent.fInt Syntax.w8)) (Syntax.tyRef (Syntax.named 0) Syntax.imm (Syntax.tyInt Syntax.w8)) 0,
                 Shared.reads-sslice 𝓤 H A W (Referent.rtF
                     (Referent.fInt Syntax.w8)) (Syntax.tyRef (Syntax.named 0) Syntax.imm (Syntax.tyInt Syntax.w8)) 0,
@@ -4445,10 +4373,10 @@ module _ (claims· : Claims) where
                   ),
                   tt,
                 ),
-              ) (Reads'.room-gone 𝓤 H A Syntax.tyBool) (tt, tt) Path'.refl) d116
+              ) (Reads'.room-gone 𝓤 H A Syntax.tyBool) (tt, tt) Path'.refl) d115
 
-          d118 : Typed.Typed 𝓤 H A 𝓣 E G12 b78 Δ0 (at118 bs)
-          d118 = Typed.s-seq 𝓤 H A W 𝓣 E G12 G99 b66 b77 Δ0 (Typed.both (s94 bs)) (at117 bs) (WayStmt.t-way-copy-out 𝓤 H A W E 𝓣 (Declared'.row BitPosition.the-type) Path'.refl (Copies.cStruct
+          d117 : Typed.Typed 𝓤 H A 𝓣 E G12 b78 Δ0 (at117 bs)
+          d117 = Typed.s-seq 𝓤 H A W 𝓣 E G12 G98 b66 b77 Δ0 (Typed.both (s93 bs)) (at116 bs) (WayStmt.t-way-copy-out 𝓤 H A W E 𝓣 (Declared'.row BitPosition.the-type) Path'.refl (Copies.cStruct
               BitPosition.the-type Laws.the-laws Laws.the-copy .copy 𝓤 H A W) (λ ρ. Unit) G12 (Row.out 16 (G12 .locals)) (λ u. Row.drop 16 (G12 .locals) u) (G12 .slots) 16 (λ t. List._∷_ (Syntax.field 0)
               t) y7 y7 24 (Rows'.whole (Declared'.row BitPosition.the-type)) (λ x. x) (λ u. At.getAt (Place.the-type .parts) 0 (Place.struct .as-values (u .1 .1 .1 .1 .1 .1 .1 .1 .1 .1 .1 .1 .1 .1 .1 .1
               .0))) (λ u. (Row.hd 0 (Row.tl (Row.tl (Row.tl (Row.tl (Row.tl (Row.tl (Row.tl (Row.tl (Row.tl (Row.tl (Row.tl (Row.tl (Row.tl (Row.tl (Row.tl (Row.tl bs)))))))))))))))), Nat._+_ 0 0)) (λ T′.
@@ -4469,66 +4397,66 @@ module _ (claims· : Claims) where
               (Row.hd 0 (Row.tl (Row.tl (Row.tl (Row.tl (Row.tl (Row.tl (Row.tl (Row.tl (Row.tl (Row.tl (Row.tl (Row.tl (Row.tl (Row.tl (Row.tl (Row.tl bs)))))))))))))))), 0) (u .1 .1 .1 .1 .1 .1 .1 .1 .1
               .1 .1 .1 .1 .1 .1 .1 .0) (Place.struct .as-values (u .1 .1 .1 .1 .1 .1 .1 .1 .1 .1 .1 .1 .1 .1 .1 .1 .0)) Path'.refl)) (Reads'.room-gone 𝓤 H A y7) (Yields.makes-mem 𝓤 H A W (λ ρ. Unit)
               (Declared'.row BitPosition.the-type) Path'.refl (Rows'.whole (Declared'.row BitPosition.the-type)) (λ x. x) λ ρ told. Local.whole-mem 𝓤 H A W (Declared'.row BitPosition.the-type) ρ)
-              Path'.refl Path'.refl Path'.refl) d117
+              Path'.refl Path'.refl Path'.refl) d116
 
-          d119 : Typed.Typed 𝓤 H A 𝓣 E G11 b79 Δ0 (at119 bs)
-          d119 = Typed.t-seq 𝓤 H A W 𝓣 E G11 G12 b65 b78 Δ0 (at92 bs) (at118 bs) d92 d118
+          d118 : Typed.Typed 𝓤 H A 𝓣 E G11 b79 Δ0 (at118 bs)
+          d118 = Typed.t-seq 𝓤 H A W 𝓣 E G11 G12 b65 b78 Δ0 (at91 bs) (at117 bs) d91 d117
 
-          d120 : Typed.Typed 𝓤 H A 𝓣 E G10 b80 Δ0 (at120 bs)
-          d120 = Typed.s-seq 𝓤 H A W 𝓣 E G10 G11 b4 b79 Δ0 (Typed.pass T10 T11 (s9 bs)) (at119 bs) (Scalar.t-use 𝓤 H A W E 𝓣 G10 (Scalar.oInt Syntax.w64 0) 17 (Rows'.sc-here (Row.sInt Syntax.w64))
+          d119 : Typed.Typed 𝓤 H A 𝓣 E G10 b80 Δ0 (at119 bs)
+          d119 = Typed.s-seq 𝓤 H A W 𝓣 E G10 G11 b4 b79 Δ0 (Typed.pass T10 T11 (s9 bs)) (at118 bs) (Scalar.t-use 𝓤 H A W E 𝓣 G10 (Scalar.oInt Syntax.w64 0) 17 (Rows'.sc-here (Row.sInt Syntax.w64))
               (Syntax.tyInt Syntax.w64) (Row.valS (Row.sInt Syntax.w64)) (Row.sInt Syntax.w64 .of) tt (Reads'.room-gone 𝓤 H A (Syntax.tyInt Syntax.w64)) (Scalar.holds-sc 𝓤 H A W (Row.sInt Syntax.w64))
-              Path'.refl (λ u. Path'.refl) λ u. tt) d119
+              Path'.refl (λ u. Path'.refl) λ u. tt) d118
 
-          d121 : Typed.Typed 𝓤 H A 𝓣 E G9 b80 Δ0 (at121 bs)
-          d121 = Typed.g-pre 𝓤 H A W 𝓣 E G9 G10 b80 Δ0 (Typed.pass T9 T10 (s8 bs)) (at120 bs) (Scalar.g-room 𝓤 H A W E G9 2 y9 (Local.room-whole 𝓤 H A W (Declared'.row Place.the-type) y9 Path'.refl))
-              d120
+          d120 : Typed.Typed 𝓤 H A 𝓣 E G9 b80 Δ0 (at120 bs)
+          d120 = Typed.g-pre 𝓤 H A W 𝓣 E G9 G10 b80 Δ0 (Typed.pass T9 T10 (s8 bs)) (at119 bs) (Scalar.g-room 𝓤 H A W E G9 2 y9 (Local.room-whole 𝓤 H A W (Declared'.row Place.the-type) y9 Path'.refl))
+              d119
 
-          d122 : Typed.Typed 𝓤 H A 𝓣 E G8 b81 Δ0 (at122 bs)
-          d122 = Typed.s-seq 𝓤 H A W 𝓣 E G8 G9 b3 b80 Δ0 (Typed.pass T8 T9 (s7 bs)) (at121 bs) (LocalCopy.t-val-copy 𝓤 H A W E 𝓣 (λ ρ. Unit) G8 2 16 (Declared'.row Place.the-type) y9 y9 (Rows'.whole
+          d121 : Typed.Typed 𝓤 H A 𝓣 E G8 b81 Δ0 (at121 bs)
+          d121 = Typed.s-seq 𝓤 H A W 𝓣 E G8 G9 b3 b80 Δ0 (Typed.pass T8 T9 (s7 bs)) (at120 bs) (LocalCopy.t-val-copy 𝓤 H A W E 𝓣 (λ ρ. Unit) G8 2 16 (Declared'.row Place.the-type) y9 y9 (Rows'.whole
               (Declared'.row Place.the-type)) (Rows'.whole (Declared'.row Place.the-type)) (λ x. x) (λ x. x) (λ x. x) Path'.refl (Own.told-none 𝓤 H A (G8 .slots)) (Yields.yields-copy 𝓤 H A W (λ ρ. Unit)
               (Declared'.row Place.the-type) Path'.refl (Copies.cStruct Place.the-type Laws'3.the-laws Laws'3.the-copy .copy 𝓤 H A W) (Rows'.whole (Declared'.row Place.the-type)) (λ x. x) (λ x. x) (λ ρ
               told. Local.mem-whole 𝓤 H A W (Declared'.row Place.the-type) ρ) λ ρ told. Local.whole-mem 𝓤 H A W (Declared'.row Place.the-type) ρ) (Reads'.room-gone 𝓤 H A y9) (Yields.makes-mem 𝓤 H A W (λ
               ρ. Unit) (Declared'.row Place.the-type) Path'.refl (Rows'.whole (Declared'.row Place.the-type)) (λ x. x) λ ρ told. Local.whole-mem 𝓤 H A W (Declared'.row Place.the-type) ρ) Path'.refl
-              Path'.refl) d121
+              Path'.refl) d120
 
-          d123 : Typed.Typed 𝓤 H A 𝓣 E G7 b82 Δ0 (at123 bs)
-          d123 = Typed.s-seq 𝓤 H A W 𝓣 E G7 G8 b2 b81 Δ0 (Typed.both (s6 bs)) (at122 bs) (Plain.t-call-plain 𝓤 H A W 𝓣 0 ps·0 r·0 (claims· .0) (claims· .1) "map::width" (known .0) E (λ pos β. β) G7
+          d122 : Typed.Typed 𝓤 H A 𝓣 E G7 b82 Δ0 (at122 bs)
+          d122 = Typed.s-seq 𝓤 H A W 𝓣 E G7 G8 b2 b81 Δ0 (Typed.both (s6 bs)) (at121 bs) (Plain.t-call-plain 𝓤 H A W 𝓣 0 ps·0 r·0 (claims· .0) (claims· .1) "map::width" (known .0) E (λ pos β. β) G7
               (Bool.bAt 14 λ x. x, tt) 15 List.[] (Call.sub-id 𝓤 H A W (G7 .slots)) ((Scalar.reads-sc 𝓤 H A W Row.sBool, Path'.refl), tt) (Reads'.room-gone 𝓤 H A (Syntax.tyInt Syntax.w64)) tt Path'.refl)
+              d121
+
+          d123 : Typed.Typed 𝓤 H A 𝓣 E G6 b82 Δ0 (at123 bs)
+          d123 = Typed.g-pre 𝓤 H A W 𝓣 E G6 G7 b82 Δ0 (Typed.pass T6 T7 (s5 bs)) (at122 bs) (Scalar.g-room 𝓤 H A W E G6 6 y8 (Local.room-whole 𝓤 H A W (Declared'.row Form.the-type) y8 Path'.refl))
               d122
 
-          d124 : Typed.Typed 𝓤 H A 𝓣 E G6 b82 Δ0 (at124 bs)
-          d124 = Typed.g-pre 𝓤 H A W 𝓣 E G6 G7 b82 Δ0 (Typed.pass T6 T7 (s5 bs)) (at123 bs) (Scalar.g-room 𝓤 H A W E G6 6 y8 (Local.room-whole 𝓤 H A W (Declared'.row Form.the-type) y8 Path'.refl))
-              d123
-
-          d125 : Typed.Typed 𝓤 H A 𝓣 E G5 b83 Δ0 (at125 bs)
-          d125 = Typed.s-seq 𝓤 H A W 𝓣 E G5 G6 b1 b82 Δ0 (Typed.pass T5 T6 (s4 bs)) (at124 bs) (Scalar.t-use 𝓤 H A W E 𝓣 G5 (Scalar.oFld 6 (List._∷_ (Syntax.field 1) List.[]) Syntax.tyBool 4
+          d124 : Typed.Typed 𝓤 H A 𝓣 E G5 b83 Δ0 (at124 bs)
+          d124 = Typed.s-seq 𝓤 H A W 𝓣 E G5 G6 b1 b82 Δ0 (Typed.pass T5 T6 (s4 bs)) (at123 bs) (Scalar.t-use 𝓤 H A W E 𝓣 G5 (Scalar.oFld 6 (List._∷_ (Syntax.field 1) List.[]) Syntax.tyBool 4
               (Reads.fieldV Form.the-type Laws'.the-laws 1)) 14 (Rows'.sc-here Row.sBool) Syntax.tyBool (Row.valS Row.sBool) (Row.sBool .of)
               (Reads.reads-field 𝓤 H A W Form.the-type Laws'.the-laws 1 Syntax.tyBool 4 Path'.refl, Path'.refl) (Reads'.room-gone 𝓤 H A Syntax.tyBool) (Scalar.holds-sc 𝓤 H A W Row.sBool) Path'.refl (λ u.
-              Path'.refl) λ u. tt) d124
+              Path'.refl) λ u. tt) d123
 
-          d126 : Typed.Typed 𝓤 H A 𝓣 E G4 b84 Δ0 (at126 bs)
-          d126 = Typed.s-seq 𝓤 H A W 𝓣 E G4 G5 b0 b83 Δ0 (Typed.pass T4 T5 (s3 bs)) (at125 bs) (Scalar.t-use 𝓤 H A W E 𝓣 G4 (Scalar.oFld 6 (List._∷_ (Syntax.field 0) List.[]) (Syntax.tyInt Syntax.w32)
+          d125 : Typed.Typed 𝓤 H A 𝓣 E G4 b84 Δ0 (at125 bs)
+          d125 = Typed.s-seq 𝓤 H A W 𝓣 E G4 G5 b0 b83 Δ0 (Typed.pass T4 T5 (s3 bs)) (at124 bs) (Scalar.t-use 𝓤 H A W E 𝓣 G4 (Scalar.oFld 6 (List._∷_ (Syntax.field 0) List.[]) (Syntax.tyInt Syntax.w32)
               0 (Reads.fieldV Form.the-type Laws'.the-laws 0)) 13 (Rows'.sc-here (Row.sInt Syntax.w32)) (Syntax.tyInt Syntax.w32) (Row.valS (Row.sInt Syntax.w32)) (Row.sInt Syntax.w32 .of)
               (Reads.reads-field 𝓤 H A W Form.the-type Laws'.the-laws 0 (Syntax.tyInt Syntax.w32) 0 Path'.refl, Path'.refl) (Reads'.room-gone 𝓤 H A (Syntax.tyInt Syntax.w32)) (Scalar.holds-sc 𝓤 H A W
-              (Row.sInt Syntax.w32)) Path'.refl (λ u. Path'.refl) λ u. tt) d125
+              (Row.sInt Syntax.w32)) Path'.refl (λ u. Path'.refl) λ u. tt) d124
 
-          d127 : Typed.Typed 𝓤 H A 𝓣 E G3 b84 Δ0 (at127 bs)
-          d127 = Typed.g-pre 𝓤 H A W 𝓣 E G3 G4 b84 Δ0 (Typed.give (s2 bs)) (at126 bs) (Know.g-sl-known 𝓤 H A W (Referent.fInt Syntax.w16) E G3 5 3 (Syntax.tyRef (Syntax.named 3) Syntax.mut
+          d126 : Typed.Typed 𝓤 H A 𝓣 E G3 b84 Δ0 (at126 bs)
+          d126 = Typed.g-pre 𝓤 H A W 𝓣 E G3 G4 b84 Δ0 (Typed.give (s2 bs)) (at125 bs) (Know.g-sl-known 𝓤 H A W (Referent.fInt Syntax.w16) E G3 5 3 (Syntax.tyRef (Syntax.named 3) Syntax.mut
               (Syntax.tyInt Syntax.w16)) (Row.lease (κs .1 .1 .1 .0) (qs .1 .1 .1 .0)) 0 (λ x. x) record { fits = Dec'.lit< tt } (Reads'.as-is 𝓤 H A (Mut.mslice (Referent.rtF (Referent.fInt Syntax.w16))
-              (Syntax.tyRef (Syntax.named 3) Syntax.mut (Syntax.tyInt Syntax.w16)) 3)) Path'.refl tt) d126
+              (Syntax.tyRef (Syntax.named 3) Syntax.mut (Syntax.tyInt Syntax.w16)) 3)) Path'.refl tt) d125
 
-          d128 : Typed.Typed 𝓤 H A 𝓣 E G2 b84 Δ0 (at128 bs)
-          d128 = Typed.g-pre 𝓤 H A W 𝓣 E G2 G3 b84 Δ0 (Typed.give (s1 bs)) (at127 bs) (Know.g-sl-known 𝓤 H A W (Referent.fInt Syntax.w16) E G2 3 1 (Syntax.tyRef (Syntax.named 1) Syntax.mut
+          d127 : Typed.Typed 𝓤 H A 𝓣 E G2 b84 Δ0 (at127 bs)
+          d127 = Typed.g-pre 𝓤 H A W 𝓣 E G2 G3 b84 Δ0 (Typed.give (s1 bs)) (at126 bs) (Know.g-sl-known 𝓤 H A W (Referent.fInt Syntax.w16) E G2 3 1 (Syntax.tyRef (Syntax.named 1) Syntax.mut
               (Syntax.tyInt Syntax.w16)) (Row.lease (κs .1 .0) (qs .1 .0)) 0 (λ x. x) record { fits = Dec'.lit< tt } (Reads'.as-is 𝓤 H A (Mut.mslice (Referent.rtF (Referent.fInt Syntax.w16)) (Syntax.tyRef
-              (Syntax.named 1) Syntax.mut (Syntax.tyInt Syntax.w16)) 1)) Path'.refl tt) d127
+              (Syntax.named 1) Syntax.mut (Syntax.tyInt Syntax.w16)) 1)) Path'.refl tt) d126
 
-          d129 : Typed.Typed 𝓤 H A 𝓣 E G0 b84 Δ0 (at129 bs)
-          d129 = Typed.g-pre 𝓤 H A W 𝓣 E G0 G2 b84 Δ0 (Typed.give (s0 bs)) (at128 bs) (Know.g-shs-known 𝓤 H A W (Referent.fInt Syntax.w8) E G0 1 0 (Syntax.tyRef (Syntax.named 0) Syntax.imm
+          d128 : Typed.Typed 𝓤 H A 𝓣 E G0 b84 Δ0 (at128 bs)
+          d128 = Typed.g-pre 𝓤 H A W 𝓣 E G0 G2 b84 Δ0 (Typed.give (s0 bs)) (at127 bs) (Know.g-shs-known 𝓤 H A W (Referent.fInt Syntax.w8) E G0 1 0 (Syntax.tyRef (Syntax.named 0) Syntax.imm
               (Syntax.tyInt Syntax.w8)) (Row.lease (κs .0) (qs .0)) 0 (λ x. x) record { fits = Dec'.lit< tt } (Reads'.as-is 𝓤 H A (Rows'.sslice (Referent.rtF (Referent.fInt Syntax.w8)) (Syntax.tyRef
-              (Syntax.named 0) Syntax.imm (Syntax.tyInt Syntax.w8)) 0)) Path'.refl tt) d128
+              (Syntax.named 0) Syntax.imm (Syntax.tyInt Syntax.w8)) 0)) Path'.refl tt) d127
 
           pub typed : Typed.Typed 𝓤 H A 𝓣 E (Function.Γin 5 ps r xs m κs qs) b84 (Function.Δret 5 ps r xs m κs qs) (Φ bs)
-          typed = d129
+          typed = d128
 
       module _ (κs : Lifetimes.Lfts 5) where
         pub record Args : Type 0 where
@@ -4706,7 +4634,7 @@ module _ (claims· : Claims) where
       m10 = λ before given. s9 (before .before .before .before .blocks) (m9 before given)
 
       abbrev W1 : (before : After-slice-known2) → (given : s6 (before .before .before .before .blocks) .gives (m6 (before .before) (before .slice-known2 .given))) → Typed.Want O1
-      W1 = λ before given. Typed.wantNext T12 O0 (at118 (before .before .before .before .blocks) (W0 (before .before .before .before .κs) (before .before .before .before .args) (before .before .before
+      W1 = λ before given. Typed.wantNext T12 O0 (at117 (before .before .before .before .blocks) (W0 (before .before .before .before .κs) (before .before .before .before .args) (before .before .before
           .before .blocks))) (W0 (before .before .before .before .κs) (before .before .before .before .args) (before .before .before .before .blocks))
 
       abbrev W2 : (before : After-slice-known2) → (given : s6 (before .before .before .before .blocks) .gives (m6 (before .before) (before .slice-known2 .given))) → Typed.Want O2
@@ -4750,7 +4678,7 @@ module _ (claims· : Claims) where
           12 (T11 .locals) u) (Row.get 13 (T11 .locals) u) (Row.get 14 (T11 .locals) u) (Row.get 15 (T11 .locals) u) (Row.get 16 (T11 .locals) u) (Row.get 17 (T11 .locals) u) (vs .0) (vs .1) (vs .2) (vs
           .3) (vs .4)) (λ u vs. μ·0 (Row.get 1 (T11 .locals) u .now) (Row.get 3 (T11 .locals) u .now) (Row.get 4 (T11 .locals) u .now) (Row.get 5 (T11 .locals) u .now) (Row.get 7 (T11 .locals) u) (Row.get
           8 (T11 .locals) u .now) (Row.get 9 (T11 .locals) u) (Row.get 10 (T11 .locals) u) (Row.get 11 (T11 .locals) u) (Row.get 12 (T11 .locals) u) (Row.get 13 (T11 .locals) u) (Row.get 14 (T11 .locals)
-          u) (Row.get 15 (T11 .locals) u) (Row.get 16 (T11 .locals) u) (Row.get 17 (T11 .locals) u) (vs .0) (vs .1) (vs .2) (vs .3) (vs .4)) (at90 (before .before .before .before .before .blocks)) (m10
+          u) (Row.get 15 (T11 .locals) u) (Row.get 16 (T11 .locals) u) (Row.get 17 (T11 .locals) u) (vs .0) (vs .1) (vs .2) (vs .3) (vs .4)) (at89 (before .before .before .before .before .blocks)) (m10
           (before .before) (After-width·gave before)) (lines, rs, image, place, i)) (W2 (before .before) (After-width·gave before))
 
       abbrev pub m12 : (before : After-width) → (lines : List.List (Referent.rtF (Referent.fInt Syntax.w16) .Denot)) → (rs : List.List (Element.type .Denot)) → (image : List.List (Referent.rtF
@@ -4759,7 +4687,7 @@ module _ (claims· : Claims) where
 
       abbrev W4 : (before : After-width) → (lines : List.List (Referent.rtF (Referent.fInt Syntax.w16) .Denot)) → (rs : List.List (Element.type .Denot)) → (image : List.List (Referent.rtF
           (Referent.fInt Syntax.w16) .Denot)) → (place : Rows'.whole (Declared'.row Place.the-type) .Mod) → (i : Rows'.sc-here (Row.sInt Syntax.w64) .Mod) → Typed.Want O4
-      W4 = λ before lines rs image place i. Typed.wantNext T14 O3 (at88 (before .before .before .before .before .blocks) (W3 before lines rs image place i)) (W3 before lines rs image place i)
+      W4 = λ before lines rs image place i. Typed.wantNext T14 O3 (at87 (before .before .before .before .before .blocks) (W3 before lines rs image place i)) (W3 before lines rs image place i)
 
       module _ (before· : After-width) where
         pub record At-loop·own : Type 0 where
@@ -5062,38 +4990,42 @@ module _ (claims· : Claims) where
           .blocks) .gives (m31 (before .before) (before .pass-arg .given))) → Typed.Mo T43
       m34 = λ before given. s39 (before .before .before .before .before .before .before .before .before .before .before .before .before .before .before .before .before .blocks) (m33 before given)
 
-      abbrev pub m35 : (before : After-pass) → (given : s41 (before .before .before .before .before .before .before .before .before .before .before .before .before .before .before .before .before
-          .before .blocks) .gives (m34 (before .before) (After-pass·gave before))) → Typed.Mo T45
-      m35 = λ before given. s41 (before .before .before .before .before .before .before .before .before .before .before .before .before .before .before .before .before .before .blocks) .next (m34
+      abbrev pub m35 : (before : After-pass-arg) → (given : s37 (before .before .before .before .before .before .before .before .before .before .before .before .before .before .before .before .before
+          .blocks) .gives (m31 (before .before) (before .pass-arg .given))) → Typed.Mo T44
+      m35 = λ before given. s40 (before .before .before .before .before .before .before .before .before .before .before .before .before .before .before .before .before .blocks) (m34 before given)
+
+      abbrev pub m36 : (before : After-pass) → (given : s42 (before .before .before .before .before .before .before .before .before .before .before .before .before .before .before .before .before
+          .before .blocks) .gives (m35 (before .before) (After-pass·gave before))) → Typed.Mo T46
+      m36 = λ before given. s42 (before .before .before .before .before .before .before .before .before .before .before .before .before .before .before .before .before .before .blocks) .next (m35
           (before .before) (After-pass·gave before)) given
 
       module _ (before· : After-pass) where
         pub record After-lines2·own : Type 0 where
-          pub given : s41 (before· .before .before .before .before .before .before .before .before .before .before .before .before .before .before .before .before .before .blocks) .gives (m34 (before·
+          pub given : s42 (before· .before .before .before .before .before .before .before .before .before .before .before .before .before .before .before .before .before .blocks) .gives (m35 (before·
               .before) (After-pass·gave before·))
 
       pub record After-lines2 : Type 0 where
         pub before : After-pass
         pub lines2 : After-lines2·own before
 
-      abbrev pub m36 : (before : After-lines2) → (given : s42 (before .before .before .before .before .before .before .before .before .before .before .before .before .before .before .before .before
-          .before .before .blocks) .gives (m35 (before .before) (before .lines2 .given))) → Typed.Mo T46
-      m36 = λ before given. s42 (before .before .before .before .before .before .before .before .before .before .before .before .before .before .before .before .before .before .before .blocks) .next
-          (m35 (before .before) (before .lines2 .given)) given
+      abbrev pub m37 : (before : After-lines2) → (given : s43 (before .before .before .before .before .before .before .before .before .before .before .before .before .before .before .before .before
+          .before .before .blocks) .gives (m36 (before .before) (before .lines2 .given))) → Typed.Mo T47
+      m37 = λ before given. s43 (before .before .before .before .before .before .before .before .before .before .before .before .before .before .before .before .before .before .before .blocks) .next
+          (m36 (before .before) (before .lines2 .given)) given
 
-      abbrev pub m37 : (before : After-lines2) → (given : s42 (before .before .before .before .before .before .before .before .before .before .before .before .before .before .before .before .before
-          .before .before .blocks) .gives (m35 (before .before) (before .lines2 .given))) → Typed.Mo T48
-      m37 = λ before given. s44 (before .before .before .before .before .before .before .before .before .before .before .before .before .before .before .before .before .before .before .blocks) (m36
+      abbrev pub m38 : (before : After-lines2) → (given : s43 (before .before .before .before .before .before .before .before .before .before .before .before .before .before .before .before .before
+          .before .before .blocks) .gives (m36 (before .before) (before .lines2 .given))) → Typed.Mo T49
+      m38 = λ before given. s45 (before .before .before .before .before .before .before .before .before .before .before .before .before .before .before .before .before .before .before .blocks) (m37
           before given)
 
-      abbrev pub m38 : (before : After-lines2) → (given : s42 (before .before .before .before .before .before .before .before .before .before .before .before .before .before .before .before .before
-          .before .before .blocks) .gives (m35 (before .before) (before .lines2 .given))) → Typed.Mo T49
-      m38 = λ before given. s45 (before .before .before .before .before .before .before .before .before .before .before .before .before .before .before .before .before .before .before .blocks) .next
-          (m37 before given)
+      abbrev pub m39 : (before : After-lines2) → (given : s43 (before .before .before .before .before .before .before .before .before .before .before .before .before .before .before .before .before
+          .before .before .blocks) .gives (m36 (before .before) (before .lines2 .given))) → Typed.Mo T50
+      m39 = λ before given. s46 (before .before .before .before .before .before .before .before .before .before .before .before .before .before .before .before .before .before .before .blocks) .next
+          (m38 before given)
 
-      abbrev W5 : (before : After-lines2) → (given : s42 (before .before .before .before .before .before .before .before .before .before .before .before .before .before .before .before .before .before
-          .before .blocks) .gives (m35 (before .before) (before .lines2 .given))) → Typed.Want O5
-      W5 = λ before given. Typed.wantNext T50 O3 (at57 (before .before .before .before .before .before .before .before .before .before .before .before .before .before .before .before .before .before
+      abbrev W5 : (before : After-lines2) → (given : s43 (before .before .before .before .before .before .before .before .before .before .before .before .before .before .before .before .before .before
+          .before .blocks) .gives (m36 (before .before) (before .lines2 .given))) → Typed.Want O5
+      W5 = λ before given. Typed.wantNext T51 O3 (at55 (before .before .before .before .before .before .before .before .before .before .before .before .before .before .before .before .before .before
           .before .blocks) (W3 (before .before .before .before .before .before .before .before .before .before .before .before .before .before .before) (before .before .before .before .before .before
           .before .before .before .before .before .before .before .before .loop .lines) (before .before .before .before .before .before .before .before .before .before .before .before .before .before
           .loop .rs) (before .before .before .before .before .before .before .before .before .before .before .before .before .before .loop .image) (before .before .before .before .before .before .before
@@ -5105,20 +5037,16 @@ module _ (claims· : Claims) where
 
       module _ (before· : After-lines2) where
         pub record After-slice-known4·own : Type 0 where
-          pub given : s42 (before· .before .before .before .before .before .before .before .before .before .before .before .before .before .before .before .before .before .before .blocks) .gives (m35
+          pub given : s43 (before· .before .before .before .before .before .before .before .before .before .before .before .before .before .before .before .before .before .before .blocks) .gives (m36
               (before· .before) (before· .lines2 .given))
 
       pub record After-slice-known4 : Type 0 where
         pub before : After-lines2
         pub slice-known4 : After-slice-known4·own before
 
-      abbrev pub m39 : (before : After-slice-known4) → Typed.Mo T51
-      m39 = λ before. s46 (before .before .before .before .before .before .before .before .before .before .before .before .before .before .before .before .before .before .before .before .blocks) (m38
-          (before .before) (before .slice-known4 .given))
-
       abbrev pub m40 : (before : After-slice-known4) → Typed.Mo T52
       m40 = λ before. s47 (before .before .before .before .before .before .before .before .before .before .before .before .before .before .before .before .before .before .before .before .blocks) (m39
-          before)
+          (before .before) (before .slice-known4 .given))
 
       abbrev pub m41 : (before : After-slice-known4) → Typed.Mo T53
       m41 = λ before. s48 (before .before .before .before .before .before .before .before .before .before .before .before .before .before .before .before .before .before .before .before .blocks) (m40
@@ -5174,7 +5102,7 @@ module _ (claims· : Claims) where
 
       module _ (before· : After-slice-known4) where
         pub record Then1·own : Type 0 where
-          pub taken : Path'._≡_ (Row.get 25 (T49 .locals) (m38 (before· .before) (before· .slice-known4 .given))) Bool'.true
+          pub taken : Path'._≡_ (Row.get 25 (T50 .locals) (m39 (before· .before) (before· .slice-known4 .given))) Bool'.true
 
       pub record Then1 : Type 0 where
         pub before : After-slice-known4
@@ -5208,12 +5136,12 @@ module _ (claims· : Claims) where
           .before .before .before .before .before .before .before .before .before .before .before .before .before .before .before .args)) (m53 (c .before) .1)))
 
       abbrev pub m54 : (before : After-slice-known4) → Typed.Mo T66
-      m54 = λ before. s61 (before .before .before .before .before .before .before .before .before .before .before .before .before .before .before .before .before .before .before .before .blocks) (m38
+      m54 = λ before. s61 (before .before .before .before .before .before .before .before .before .before .before .before .before .before .before .before .before .before .before .before .blocks) (m39
           (before .before) (before .slice-known4 .given))
 
       module _ (before· : After-slice-known4) where
         pub record Else1·own : Type 0 where
-          pub left : Path'._≡_ (Row.get 25 (T49 .locals) (m38 (before· .before) (before· .slice-known4 .given))) Bool'.false
+          pub left : Path'._≡_ (Row.get 25 (T50 .locals) (m39 (before· .before) (before· .slice-known4 .given))) Bool'.false
 
       pub record Else1 : Type 0 where
         pub before : After-slice-known4
@@ -5291,89 +5219,94 @@ module _ (claims· : Claims) where
       m60 = λ before given. s68 (before .before .before .before .before .before .before .before .before .before .before .before .before .before .before .before .before .before .before .before .before
           .before .before .blocks) (m59 before given)
 
-      abbrev pub m61 : (before : After-store-set) → (given : s70 (before .before .before .before .before .before .before .before .before .before .before .before .before .before .before .before .before
-          .before .before .before .before .before .before .before .blocks) .gives (m60 (before .before) (After-store-set·gave before))) → Typed.Mo T75
-      m61 = λ before given. s70 (before .before .before .before .before .before .before .before .before .before .before .before .before .before .before .before .before .before .before .before .before
-          .before .before .before .blocks) .next (m60 (before .before) (After-store-set·gave before)) given
+      abbrev pub m61 : (before : After-store-set-arg) → (given : s66 (before .before .before .before .before .before .before .before .before .before .before .before .before .before .before .before
+          .before .before .before .before .before .before .before .blocks) .gives (m57 (before .before) (before .store-set-arg .given))) → Typed.Mo T74
+      m61 = λ before given. s69 (before .before .before .before .before .before .before .before .before .before .before .before .before .before .before .before .before .before .before .before .before
+          .before .before .blocks) (m60 before given)
+
+      abbrev pub m62 : (before : After-store-set) → (given : s71 (before .before .before .before .before .before .before .before .before .before .before .before .before .before .before .before .before
+          .before .before .before .before .before .before .before .blocks) .gives (m61 (before .before) (After-store-set·gave before))) → Typed.Mo T76
+      m62 = λ before given. s71 (before .before .before .before .before .before .before .before .before .before .before .before .before .before .before .before .before .before .before .before .before
+          .before .before .before .blocks) .next (m61 (before .before) (After-store-set·gave before)) given
 
       module _ (before· : After-store-set) where
         pub record After-rs2·own : Type 0 where
-          pub given : s70 (before· .before .before .before .before .before .before .before .before .before .before .before .before .before .before .before .before .before .before .before .before
-              .before .before .before .blocks) .gives (m60 (before· .before) (After-store-set·gave before·))
+          pub given : s71 (before· .before .before .before .before .before .before .before .before .before .before .before .before .before .before .before .before .before .before .before .before
+              .before .before .before .blocks) .gives (m61 (before· .before) (After-store-set·gave before·))
 
       pub record After-rs2 : Type 0 where
         pub before : After-store-set
         pub rs2 : After-rs2·own before
 
-      abbrev pub m62 : (before : After-rs2) → (given : s72 (before .before .before .before .before .before .before .before .before .before .before .before .before .before .before .before .before
-          .before .before .before .before .before .before .before .before .blocks) .gives (m61 (before .before) (before .rs2 .given))) → Typed.Mo T77
-      m62 = λ before given. s72 (before .before .before .before .before .before .before .before .before .before .before .before .before .before .before .before .before .before .before .before .before
-          .before .before .before .before .blocks) .next (m61 (before .before) (before .rs2 .given)) given
-
-      abbrev pub m63 : (before : After-rs2) → (given : s72 (before .before .before .before .before .before .before .before .before .before .before .before .before .before .before .before .before
-          .before .before .before .before .before .before .before .before .blocks) .gives (m61 (before .before) (before .rs2 .given))) → Typed.Mo T78
+      abbrev pub m63 : (before : After-rs2) → (given : s73 (before .before .before .before .before .before .before .before .before .before .before .before .before .before .before .before .before
+          .before .before .before .before .before .before .before .before .blocks) .gives (m62 (before .before) (before .rs2 .given))) → Typed.Mo T78
       m63 = λ before given. s73 (before .before .before .before .before .before .before .before .before .before .before .before .before .before .before .before .before .before .before .before .before
-          .before .before .before .before .blocks) (m62 before given)
+          .before .before .before .before .blocks) .next (m62 (before .before) (before .rs2 .given)) given
+
+      abbrev pub m64 : (before : After-rs2) → (given : s73 (before .before .before .before .before .before .before .before .before .before .before .before .before .before .before .before .before
+          .before .before .before .before .before .before .before .before .blocks) .gives (m62 (before .before) (before .rs2 .given))) → Typed.Mo T79
+      m64 = λ before given. s74 (before .before .before .before .before .before .before .before .before .before .before .before .before .before .before .before .before .before .before .before .before
+          .before .before .before .before .blocks) (m63 before given)
 
       module _ (before· : After-rs2) where
         pub record After-place·own : Type 0 where
-          pub given : s72 (before· .before .before .before .before .before .before .before .before .before .before .before .before .before .before .before .before .before .before .before .before
-              .before .before .before .before .blocks) .gives (m61 (before· .before) (before· .rs2 .given))
+          pub given : s73 (before· .before .before .before .before .before .before .before .before .before .before .before .before .before .before .before .before .before .before .before .before
+              .before .before .before .before .blocks) .gives (m62 (before· .before) (before· .rs2 .given))
 
       pub record After-place : Type 0 where
         pub before : After-rs2
         pub place : After-place·own before
 
-      abbrev pub m64 : (before : After-place) → (given : s75 (before .before .before .before .before .before .before .before .before .before .before .before .before .before .before .before .before
-          .before .before .before .before .before .before .before .before .before .blocks) .gives (m63 (before .before) (before .place .given))) → Typed.Mo T80
-      m64 = λ before given. s75 (before .before .before .before .before .before .before .before .before .before .before .before .before .before .before .before .before .before .before .before .before
-          .before .before .before .before .before .blocks) .next (m63 (before .before) (before .place .given)) given
-
-      abbrev pub m65 : (before : After-place) → (given : s75 (before .before .before .before .before .before .before .before .before .before .before .before .before .before .before .before .before
-          .before .before .before .before .before .before .before .before .before .blocks) .gives (m63 (before .before) (before .place .given))) → Typed.Mo T81
+      abbrev pub m65 : (before : After-place) → (given : s76 (before .before .before .before .before .before .before .before .before .before .before .before .before .before .before .before .before
+          .before .before .before .before .before .before .before .before .before .blocks) .gives (m64 (before .before) (before .place .given))) → Typed.Mo T81
       m65 = λ before given. s76 (before .before .before .before .before .before .before .before .before .before .before .before .before .before .before .before .before .before .before .before .before
-          .before .before .before .before .before .blocks) .next (m64 before given)
+          .before .before .before .before .before .blocks) .next (m64 (before .before) (before .place .given)) given
+
+      abbrev pub m66 : (before : After-place) → (given : s76 (before .before .before .before .before .before .before .before .before .before .before .before .before .before .before .before .before
+          .before .before .before .before .before .before .before .before .before .blocks) .gives (m64 (before .before) (before .place .given))) → Typed.Mo T82
+      m66 = λ before given. s77 (before .before .before .before .before .before .before .before .before .before .before .before .before .before .before .before .before .before .before .before .before
+          .before .before .before .before .before .blocks) .next (m65 before given)
 
       module _ (before· : After-place) where
-        pub record After-emit-pass-arg·own : Type 0 where
-          pub given : s75 (before· .before .before .before .before .before .before .before .before .before .before .before .before .before .before .before .before .before .before .before .before
-              .before .before .before .before .before .blocks) .gives (m63 (before· .before) (before· .place .given))
+        pub record After-emit-pass-at-arg·own : Type 0 where
+          pub given : s76 (before· .before .before .before .before .before .before .before .before .before .before .before .before .before .before .before .before .before .before .before .before
+              .before .before .before .before .before .blocks) .gives (m64 (before· .before) (before· .place .given))
 
-      pub record After-emit-pass-arg : Type 0 where
+      pub record After-emit-pass-at-arg : Type 0 where
         pub before : After-place
-        pub emit-pass-arg : After-emit-pass-arg·own before
+        pub emit-pass-at-arg : After-emit-pass-at-arg·own before
 
-      abbrev pub m66 : (before : After-emit-pass-arg) → (given : s78 (before .before .before .before .before .before .before .before .before .before .before .before .before .before .before .before
-          .before .before .before .before .before .before .before .before .before .before .before .blocks) .gives (m65 (before .before) (before .emit-pass-arg .given))) → Typed.Mo T83
-      m66 = λ before given. s78 (before .before .before .before .before .before .before .before .before .before .before .before .before .before .before .before .before .before .before .before .before
-          .before .before .before .before .before .before .blocks) .next (m65 (before .before) (before .emit-pass-arg .given)) given
-
-      abbrev pub m67 : (before : After-emit-pass-arg) → (given : s78 (before .before .before .before .before .before .before .before .before .before .before .before .before .before .before .before
-          .before .before .before .before .before .before .before .before .before .before .before .blocks) .gives (m65 (before .before) (before .emit-pass-arg .given))) → Typed.Mo T84
+      abbrev pub m67 : (before : After-emit-pass-at-arg) → (given : s79 (before .before .before .before .before .before .before .before .before .before .before .before .before .before .before .before
+          .before .before .before .before .before .before .before .before .before .before .before .blocks) .gives (m66 (before .before) (before .emit-pass-at-arg .given))) → Typed.Mo T84
       m67 = λ before given. s79 (before .before .before .before .before .before .before .before .before .before .before .before .before .before .before .before .before .before .before .before .before
-          .before .before .before .before .before .before .blocks) .next (m66 before given)
+          .before .before .before .before .before .before .blocks) .next (m66 (before .before) (before .emit-pass-at-arg .given)) given
 
-      module _ (before· : After-emit-pass-arg) where
-        pub record After-emit-pass-arg2·own : Type 0 where
-          pub given : s78 (before· .before .before .before .before .before .before .before .before .before .before .before .before .before .before .before .before .before .before .before .before
-              .before .before .before .before .before .before .blocks) .gives (m65 (before· .before) (before· .emit-pass-arg .given))
-
-      pub record After-emit-pass-arg2 : Type 0 where
-        pub before : After-emit-pass-arg
-        pub emit-pass-arg2 : After-emit-pass-arg2·own before
-
-      abbrev pub Need-emit-pass-requires : Type 0
-      Need-emit-pass-requires = (c : After-emit-pass-arg2) → s80 (c .before .before .before .before .before .before .before .before .before .before .before .before .before .before .before .before
-          .before .before .before .before .before .before .before .before .before .before .before .blocks) .asks (m67 (c .before) (c .emit-pass-arg2 .given))
-
-      abbrev pub m68 : (before : After-emit-pass-arg2) → (given : s80 (before .before .before .before .before .before .before .before .before .before .before .before .before .before .before .before
-          .before .before .before .before .before .before .before .before .before .before .before .before .blocks) .gives (m67 (before .before) (before .emit-pass-arg2 .given))) → Typed.Mo T85
+      abbrev pub m68 : (before : After-emit-pass-at-arg) → (given : s79 (before .before .before .before .before .before .before .before .before .before .before .before .before .before .before .before
+          .before .before .before .before .before .before .before .before .before .before .before .blocks) .gives (m66 (before .before) (before .emit-pass-at-arg .given))) → Typed.Mo T85
       m68 = λ before given. s80 (before .before .before .before .before .before .before .before .before .before .before .before .before .before .before .before .before .before .before .before .before
-          .before .before .before .before .before .before .before .blocks) .next (m67 (before .before) (before .emit-pass-arg2 .given)) given
+          .before .before .before .before .before .before .blocks) .next (m67 before given)
 
-      module _ (before· : After-emit-pass-arg2) where
-        abbrev pub After-emit-pass·own : Type 0
-        After-emit-pass·own = Called.Called ps·7 r·7 (claims· .15) T84 (
+      module _ (before· : After-emit-pass-at-arg) where
+        pub record After-emit-pass-at-arg2·own : Type 0 where
+          pub given : s79 (before· .before .before .before .before .before .before .before .before .before .before .before .before .before .before .before .before .before .before .before .before
+              .before .before .before .before .before .before .blocks) .gives (m66 (before· .before) (before· .emit-pass-at-arg .given))
+
+      pub record After-emit-pass-at-arg2 : Type 0 where
+        pub before : After-emit-pass-at-arg
+        pub emit-pass-at-arg2 : After-emit-pass-at-arg2·own before
+
+      abbrev pub Need-emit-pass-at-requires : Type 0
+      Need-emit-pass-at-requires = (c : After-emit-pass-at-arg2) → s81 (c .before .before .before .before .before .before .before .before .before .before .before .before .before .before .before
+          .before .before .before .before .before .before .before .before .before .before .before .before .blocks) .asks (m68 (c .before) (c .emit-pass-at-arg2 .given))
+
+      abbrev pub m69 : (before : After-emit-pass-at-arg2) → (given : s81 (before .before .before .before .before .before .before .before .before .before .before .before .before .before .before .before
+          .before .before .before .before .before .before .before .before .before .before .before .before .blocks) .gives (m68 (before .before) (before .emit-pass-at-arg2 .given))) → Typed.Mo T86
+      m69 = λ before given. s81 (before .before .before .before .before .before .before .before .before .before .before .before .before .before .before .before .before .before .before .before .before
+          .before .before .before .before .before .before .before .blocks) .next (m68 (before .before) (before .emit-pass-at-arg2 .given)) given
+
+      module _ (before· : After-emit-pass-at-arg2) where
+        abbrev pub After-emit-pass-at·own : Type 0
+        After-emit-pass-at·own = Called.Called ps·7 r·7 (claims· .15) T85 (
           record { pos = 36; ty = Syntax.tyRef Syntax.erased Syntax.imm (Syntax.tyInt Syntax.w16); ref = λ x. x },
           (
             record { pos = 38; ty = Syntax.tyRef Syntax.erased Syntax.mut (Syntax.tyInt Syntax.w16); ref = λ x. x },
@@ -5383,38 +5316,21 @@ module _ (claims· : Claims) where
                 Bool.bAt 14 λ x. x,
                 (
                   record { pos = 8; ty = Syntax.tyRef (Syntax.named 4) Syntax.imm (Syntax.tyArray (Syntax.tyInt Syntax.w16) 768); ref = λ x. x },
-                  (
-                    record { pos = 9; st = List.[]; d = 0; at = λ x. x },
-                    (
-                      record { pos = 10; st = List.[]; d = 0; at = λ x. x },
-                      (
-                        Num.vAt 11 λ x. x,
-                        (
-                          Num.vFld 18 (List._∷_ (Syntax.field 0) List.[]) 0 λ x. Plan.struct .as-values x .0,
-                          (
-                            Num.vFld 19 (List._∷_ (Syntax.field 0) List.[]) 0 λ x. Plan.struct .as-values x .0,
-                            (
-                              Num.vFld 18 (List._∷_ (Syntax.field 1) List.[]) 8 λ x. Plan.struct .as-values x .1 .0,
-                              (Num.vFld 19 (List._∷_ (Syntax.field 1) List.[]) 8 λ x. Plan.struct .as-values x .1 .0, (Bool.bAt 12 λ x. x, tt)),
-                            ),
-                          ),
-                        ),
-                      ),
-                    ),
-                  ),
+                  (record { pos = 9; st = List.[]; d = 0; at = λ x. x }, (record { pos = 10; st = List.[]; d = 0; at = λ x. x }, (Num.vAt 11 λ x. x, (Num.vAt 17 λ x. x, (Bool.bAt 12 λ x. x, tt))))),
                 ),
               ),
             ),
           ),
-        ) (m67 (before· .before) (before· .emit-pass-arg2 .given))
+        ) (m68
+            (before· .before) (before· .emit-pass-at-arg2 .given))
 
-      pub record After-emit-pass : Type 0 where
-        pub before : After-emit-pass-arg2
-        pub emit-pass : After-emit-pass·own before
+      pub record After-emit-pass-at : Type 0 where
+        pub before : After-emit-pass-at-arg2
+        pub emit-pass-at : After-emit-pass-at·own before
 
-      abbrev pub After-emit-pass·gave : (c : After-emit-pass) → s80 (c .before .before .before .before .before .before .before .before .before .before .before .before .before .before .before .before
-          .before .before .before .before .before .before .before .before .before .before .before .before .blocks) .gives (m67 (c .before .before) (c .before .emit-pass-arg2 .given))
-      After-emit-pass·gave = λ c. Called.given ps·7 r·7 (claims· .15) T84 (
+      abbrev pub After-emit-pass-at·gave : (c : After-emit-pass-at) → s81 (c .before .before .before .before .before .before .before .before .before .before .before .before .before .before .before
+          .before .before .before .before .before .before .before .before .before .before .before .before .before .blocks) .gives (m68 (c .before .before) (c .before .emit-pass-at-arg2 .given))
+      After-emit-pass-at·gave = λ c. Called.given ps·7 r·7 (claims· .15) T85 (
         record { pos = 36; ty = Syntax.tyRef Syntax.erased Syntax.imm (Syntax.tyInt Syntax.w16); ref = λ x. x },
         (
           record { pos = 38; ty = Syntax.tyRef Syntax.erased Syntax.mut (Syntax.tyInt Syntax.w16); ref = λ x. x },
@@ -5424,98 +5340,70 @@ module _ (claims· : Claims) where
               Bool.bAt 14 λ x. x,
               (
                 record { pos = 8; ty = Syntax.tyRef (Syntax.named 4) Syntax.imm (Syntax.tyArray (Syntax.tyInt Syntax.w16) 768); ref = λ x. x },
-                (
-                  record { pos = 9; st = List.[]; d = 0; at = λ x. x },
-                  (
-                    record { pos = 10; st = List.[]; d = 0; at = λ x. x },
-                    (
-                      Num.vAt 11 λ x. x,
-                      (
-                        Num.vFld 18 (List._∷_ (Syntax.field 0) List.[]) 0 λ x. Plan.struct .as-values x .0,
-                        (
-                          Num.vFld 19 (List._∷_ (Syntax.field 0) List.[]) 0 λ x. Plan.struct .as-values x .0,
-                          (
-                            Num.vFld 18 (List._∷_ (Syntax.field 1) List.[]) 8 λ x. Plan.struct .as-values x .1 .0,
-                            (Num.vFld 19 (List._∷_ (Syntax.field 1) List.[]) 8 λ x. Plan.struct .as-values x .1 .0, (Bool.bAt 12 λ x. x, tt)),
-                          ),
-                        ),
-                      ),
-                    ),
-                  ),
-                ),
+                (record { pos = 9; st = List.[]; d = 0; at = λ x. x }, (record { pos = 10; st = List.[]; d = 0; at = λ x. x }, (Num.vAt 11 λ x. x, (Num.vAt 17 λ x. x, (Bool.bAt 12 λ x. x, tt))))),
               ),
             ),
           ),
         ),
-      ) (m67 (c .before .before) (c .before .emit-pass-arg2 .given)) (c
-          .emit-pass)
+      ) (m68 (c
+          .before .before) (c .before .emit-pass-at-arg2 .given)) (c .emit-pass-at)
 
-      abbrev pub m69 : (before : After-emit-pass-arg2) → (given : s80 (before .before .before .before .before .before .before .before .before .before .before .before .before .before .before .before
-          .before .before .before .before .before .before .before .before .before .before .before .before .blocks) .gives (m67 (before .before) (before .emit-pass-arg2 .given))) → Typed.Mo T86
-      m69 = λ before given. s81 (before .before .before .before .before .before .before .before .before .before .before .before .before .before .before .before .before .before .before .before .before
-          .before .before .before .before .before .before .before .blocks) (m68 before given)
-
-      abbrev pub m70 : (before : After-emit-pass-arg2) → (given : s80 (before .before .before .before .before .before .before .before .before .before .before .before .before .before .before .before
-          .before .before .before .before .before .before .before .before .before .before .before .before .blocks) .gives (m67 (before .before) (before .emit-pass-arg2 .given))) → Typed.Mo T87
+      abbrev pub m70 : (before : After-emit-pass-at-arg2) → (given : s81 (before .before .before .before .before .before .before .before .before .before .before .before .before .before .before .before
+          .before .before .before .before .before .before .before .before .before .before .before .before .blocks) .gives (m68 (before .before) (before .emit-pass-at-arg2 .given))) → Typed.Mo T87
       m70 = λ before given. s82 (before .before .before .before .before .before .before .before .before .before .before .before .before .before .before .before .before .before .before .before .before
           .before .before .before .before .before .before .before .blocks) (m69 before given)
 
-      abbrev pub m71 : (before : After-emit-pass-arg2) → (given : s80 (before .before .before .before .before .before .before .before .before .before .before .before .before .before .before .before
-          .before .before .before .before .before .before .before .before .before .before .before .before .blocks) .gives (m67 (before .before) (before .emit-pass-arg2 .given))) → Typed.Mo T88
+      abbrev pub m71 : (before : After-emit-pass-at-arg2) → (given : s81 (before .before .before .before .before .before .before .before .before .before .before .before .before .before .before .before
+          .before .before .before .before .before .before .before .before .before .before .before .before .blocks) .gives (m68 (before .before) (before .emit-pass-at-arg2 .given))) → Typed.Mo T88
       m71 = λ before given. s83 (before .before .before .before .before .before .before .before .before .before .before .before .before .before .before .before .before .before .before .before .before
           .before .before .before .before .before .before .before .blocks) (m70 before given)
 
-      abbrev pub m72 : (before : After-emit-pass-arg2) → (given : s80 (before .before .before .before .before .before .before .before .before .before .before .before .before .before .before .before
-          .before .before .before .before .before .before .before .before .before .before .before .before .blocks) .gives (m67 (before .before) (before .emit-pass-arg2 .given))) → Typed.Mo T89
-      m72 = λ before given. s84 (before .before .before .before .before .before .before .before .before .before .before .before .before .before .before .before .before .before .before .before .before
+      abbrev pub m72 : (before : After-emit-pass-at-arg2) → (given : s81 (before .before .before .before .before .before .before .before .before .before .before .before .before .before .before .before
+          .before .before .before .before .before .before .before .before .before .before .before .before .blocks) .gives (m68 (before .before) (before .emit-pass-at-arg2 .given))) → Typed.Mo T90
+      m72 = λ before given. s85 (before .before .before .before .before .before .before .before .before .before .before .before .before .before .before .before .before .before .before .before .before
           .before .before .before .before .before .before .before .blocks) (m71 before given)
 
-      abbrev pub m73 : (before : After-emit-pass-arg2) → (given : s80 (before .before .before .before .before .before .before .before .before .before .before .before .before .before .before .before
-          .before .before .before .before .before .before .before .before .before .before .before .before .blocks) .gives (m67 (before .before) (before .emit-pass-arg2 .given))) → Typed.Mo T91
-      m73 = λ before given. s86 (before .before .before .before .before .before .before .before .before .before .before .before .before .before .before .before .before .before .before .before .before
-          .before .before .before .before .before .before .before .blocks) (m72 before given)
+      abbrev pub m73 : (before : After-emit-pass-at) → (given : s88 (before .before .before .before .before .before .before .before .before .before .before .before .before .before .before .before
+          .before .before .before .before .before .before .before .before .before .before .before .before .before .blocks) .gives (m72 (before .before) (After-emit-pass-at·gave before))) → Typed.Mo T93
+      m73 = λ before given. s88 (before .before .before .before .before .before .before .before .before .before .before .before .before .before .before .before .before .before .before .before .before
+          .before .before .before .before .before .before .before .before .blocks) .next (m72 (before .before) (After-emit-pass-at·gave before)) given
 
-      abbrev pub m74 : (before : After-emit-pass) → (given : s89 (before .before .before .before .before .before .before .before .before .before .before .before .before .before .before .before .before
-          .before .before .before .before .before .before .before .before .before .before .before .before .blocks) .gives (m73 (before .before) (After-emit-pass·gave before))) → Typed.Mo T94
-      m74 = λ before given. s89 (before .before .before .before .before .before .before .before .before .before .before .before .before .before .before .before .before .before .before .before .before
-          .before .before .before .before .before .before .before .before .blocks) .next (m73 (before .before) (After-emit-pass·gave before)) given
-
-      module _ (before· : After-emit-pass) where
+      module _ (before· : After-emit-pass-at) where
         pub record After-image·own : Type 0 where
-          pub given : s89 (before· .before .before .before .before .before .before .before .before .before .before .before .before .before .before .before .before .before .before .before .before
-              .before .before .before .before .before .before .before .before .blocks) .gives (m73 (before· .before) (After-emit-pass·gave before·))
+          pub given : s88 (before· .before .before .before .before .before .before .before .before .before .before .before .before .before .before .before .before .before .before .before .before
+              .before .before .before .before .before .before .before .before .blocks) .gives (m72 (before· .before) (After-emit-pass-at·gave before·))
 
       pub record After-image : Type 0 where
-        pub before : After-emit-pass
+        pub before : After-emit-pass-at
         pub image : After-image·own before
 
-      abbrev pub m75 : (before : After-image) → (given : s90 (before .before .before .before .before .before .before .before .before .before .before .before .before .before .before .before .before
-          .before .before .before .before .before .before .before .before .before .before .before .before .before .blocks) .gives (m74 (before .before) (before .image .given))) → Typed.Mo T95
-      m75 = λ before given. s90 (before .before .before .before .before .before .before .before .before .before .before .before .before .before .before .before .before .before .before .before .before
-          .before .before .before .before .before .before .before .before .before .blocks) .next (m74 (before .before) (before .image .given)) given
+      abbrev pub m74 : (before : After-image) → (given : s89 (before .before .before .before .before .before .before .before .before .before .before .before .before .before .before .before .before
+          .before .before .before .before .before .before .before .before .before .before .before .before .before .blocks) .gives (m73 (before .before) (before .image .given))) → Typed.Mo T94
+      m74 = λ before given. s89 (before .before .before .before .before .before .before .before .before .before .before .before .before .before .before .before .before .before .before .before .before
+          .before .before .before .before .before .before .before .before .before .blocks) .next (m73 (before .before) (before .image .given)) given
 
       module _ (before· : After-image) where
         pub record After-slice-known5·own : Type 0 where
-          pub given : s90 (before· .before .before .before .before .before .before .before .before .before .before .before .before .before .before .before .before .before .before .before .before
-              .before .before .before .before .before .before .before .before .before .blocks) .gives (m74 (before· .before) (before· .image .given))
+          pub given : s89 (before· .before .before .before .before .before .before .before .before .before .before .before .before .before .before .before .before .before .before .before .before
+              .before .before .before .before .before .before .before .before .before .blocks) .gives (m73 (before· .before) (before· .image .given))
 
       pub record After-slice-known5 : Type 0 where
         pub before : After-image
         pub slice-known5 : After-slice-known5·own before
 
       abbrev pub Need-add-i : Type 0
-      Need-add-i = (c : After-slice-known5) → s92 (c .before .before .before .before .before .before .before .before .before .before .before .before .before .before .before .before .before .before
-          .before .before .before .before .before .before .before .before .before .before .before .before .blocks) .asks (m75 (c .before) (c .slice-known5 .given))
+      Need-add-i = (c : After-slice-known5) → s91 (c .before .before .before .before .before .before .before .before .before .before .before .before .before .before .before .before .before .before
+          .before .before .before .before .before .before .before .before .before .before .before .before .blocks) .asks (m74 (c .before) (c .slice-known5 .given))
 
-      abbrev pub m76 : (before : After-image) → (given : s90 (before .before .before .before .before .before .before .before .before .before .before .before .before .before .before .before .before
-          .before .before .before .before .before .before .before .before .before .before .before .before .before .blocks) .gives (m74 (before .before) (before .image .given))) → Typed.Mo T97
+      abbrev pub m75 : (before : After-image) → (given : s89 (before .before .before .before .before .before .before .before .before .before .before .before .before .before .before .before .before
+          .before .before .before .before .before .before .before .before .before .before .before .before .before .blocks) .gives (m73 (before .before) (before .image .given))) → Typed.Mo T96
+      m75 = λ before given. s91 (before .before .before .before .before .before .before .before .before .before .before .before .before .before .before .before .before .before .before .before .before
+          .before .before .before .before .before .before .before .before .before .blocks) .next (m74 before given)
+
+      abbrev pub m76 : (before : After-image) → (given : s89 (before .before .before .before .before .before .before .before .before .before .before .before .before .before .before .before .before
+          .before .before .before .before .before .before .before .before .before .before .before .before .before .blocks) .gives (m73 (before .before) (before .image .given))) → Typed.Mo T97
       m76 = λ before given. s92 (before .before .before .before .before .before .before .before .before .before .before .before .before .before .before .before .before .before .before .before .before
-          .before .before .before .before .before .before .before .before .before .blocks) .next (m75 before given)
-
-      abbrev pub m77 : (before : After-image) → (given : s90 (before .before .before .before .before .before .before .before .before .before .before .before .before .before .before .before .before
-          .before .before .before .before .before .before .before .before .before .before .before .before .before .blocks) .gives (m74 (before .before) (before .image .given))) → Typed.Mo T98
-      m77 = λ before given. s93 (before .before .before .before .before .before .before .before .before .before .before .before .before .before .before .before .before .before .before .before .before
-          .before .before .before .before .before .before .before .before .before .blocks) (m76 before given)
+          .before .before .before .before .before .before .before .before .before .blocks) (m75 before given)
 
       abbrev pub Need-loop-less : Type 0
       Need-loop-less = (c : After-slice-known5) → Nat._<_ (μ·0 (Row.get 1 (T11 .locals) (m10 (c .before .before .before .before .before .before .before .before .before .before .before .before .before
@@ -5556,9 +5444,9 @@ module _ (claims· : Claims) where
           .before .before .before .before .before .before .before .before .before .before .before .before .before .before .before .before .before .before .before .before)))) (Row.get 17 (T11 .locals) (m10
           (c .before .before .before .before .before .before .before .before .before .before .before .before .before .before .before .before .before .before .before .before .before .before .before .before
           .before .before .before) (After-width·gave (c .before .before .before .before .before .before .before .before .before .before .before .before .before .before .before .before .before .before
-          .before .before .before .before .before .before .before .before)))) (Row.get 3 (T11 .locals) (m77 (c .before) (c .slice-known5 .given)) .now) (Row.get 4 (T11 .locals) (m77 (c .before) (c
-          .slice-known5 .given)) .now) (Row.get 5 (T11 .locals) (m77 (c .before) (c .slice-known5 .given)) .now) (Row.get 16 (T11 .locals) (m77 (c .before) (c .slice-known5 .given))) (Row.get 17 (T11
-          .locals) (m77 (c .before) (c .slice-known5 .given)))) (μ·0 (Row.get 1 (T11 .locals) (m10 (c .before .before .before .before .before .before .before .before .before .before .before .before
+          .before .before .before .before .before .before .before .before)))) (Row.get 3 (T11 .locals) (m76 (c .before) (c .slice-known5 .given)) .now) (Row.get 4 (T11 .locals) (m76 (c .before) (c
+          .slice-known5 .given)) .now) (Row.get 5 (T11 .locals) (m76 (c .before) (c .slice-known5 .given)) .now) (Row.get 16 (T11 .locals) (m76 (c .before) (c .slice-known5 .given))) (Row.get 17 (T11
+          .locals) (m76 (c .before) (c .slice-known5 .given)))) (μ·0 (Row.get 1 (T11 .locals) (m10 (c .before .before .before .before .before .before .before .before .before .before .before .before
           .before .before .before .before .before .before .before .before .before .before .before .before .before .before .before) (After-width·gave (c .before .before .before .before .before .before
           .before .before .before .before .before .before .before .before .before .before .before .before .before .before .before .before .before .before .before .before))) .now) (Row.get 3 (T11 .locals)
           (m10 (c .before .before .before .before .before .before .before .before .before .before .before .before .before .before .before .before .before .before .before .before .before .before .before
@@ -5643,52 +5531,55 @@ module _ (claims· : Claims) where
           .before .before .before .before .before .before .before .before .before .before .before .before .before .before .before .before .before .before .before .before)))) (Row.get 17 (T11 .locals) (m10
           (c .before .before .before .before .before .before .before .before .before .before .before .before .before .before .before .before .before .before .before .before .before .before .before .before
           .before .before .before) (After-width·gave (c .before .before .before .before .before .before .before .before .before .before .before .before .before .before .before .before .before .before
-          .before .before .before .before .before .before .before .before)))) (Row.get 3 (T11 .locals) (m77 (c .before) (c .slice-known5 .given)) .now) (Row.get 4 (T11 .locals) (m77 (c .before) (c
-          .slice-known5 .given)) .now) (Row.get 5 (T11 .locals) (m77 (c .before) (c .slice-known5 .given)) .now) (Row.get 16 (T11 .locals) (m77 (c .before) (c .slice-known5 .given))) (Row.get 17 (T11
-          .locals) (m77 (c .before) (c .slice-known5 .given)))
+          .before .before .before .before .before .before .before .before)))) (Row.get 3 (T11 .locals) (m76 (c .before) (c .slice-known5 .given)) .now) (Row.get 4 (T11 .locals) (m76 (c .before) (c
+          .slice-known5 .given)) .now) (Row.get 5 (T11 .locals) (m76 (c .before) (c .slice-known5 .given)) .now) (Row.get 16 (T11 .locals) (m76 (c .before) (c .slice-known5 .given))) (Row.get 17 (T11
+          .locals) (m76 (c .before) (c .slice-known5 .given)))
 
-      abbrev pub m78 : (before : After-loop) → (given : s94 (before .before .before .before .before .before .before .blocks) .gives (m17 (before .before))) → Typed.Mo T99
-      m78 = λ before given. s94 (before .before .before .before .before .before .before .blocks) .next (m17 (before .before)) given
+      abbrev pub m77 : (before : After-loop) → (given : s93 (before .before .before .before .before .before .before .blocks) .gives (m17 (before .before))) → Typed.Mo T98
+      m77 = λ before given. s93 (before .before .before .before .before .before .before .blocks) .next (m17 (before .before)) given
 
       module _ (before· : After-loop) where
         pub record After-at·own : Type 0 where
-          pub given : s94 (before· .before .before .before .before .before .before .blocks) .gives (m17 (before· .before))
+          pub given : s93 (before· .before .before .before .before .before .before .blocks) .gives (m17 (before· .before))
 
       pub record After-at : Type 0 where
         pub before : After-loop
         pub at : After-at·own before
 
       abbrev pub Need-is-past-requires : Type 0
-      Need-is-past-requires = (c : After-at) → s95 (c .before .before .before .before .before .before .before .blocks) .asks (m78 (c .before) (c .at .given))
+      Need-is-past-requires = (c : After-at) → s94 (c .before .before .before .before .before .before .before .blocks) .asks (m77 (c .before) (c .at .given))
 
-      abbrev pub m79 : (before : After-at) → (given : s95 (before .before .before .before .before .before .before .before .blocks) .gives (m78 (before .before) (before .at .given))) → Typed.Mo T100
-      m79 = λ before given. s95 (before .before .before .before .before .before .before .before .blocks) .next (m78 (before .before) (before .at .given)) given
+      abbrev pub m78 : (before : After-at) → (given : s94 (before .before .before .before .before .before .before .before .blocks) .gives (m77 (before .before) (before .at .given))) → Typed.Mo T99
+      m78 = λ before given. s94 (before .before .before .before .before .before .before .before .blocks) .next (m77 (before .before) (before .at .given)) given
 
       module _ (before· : After-at) where
         abbrev pub After-is-past·own : Type 0
-        After-is-past·own = Called.Called ps·8 r·8 (claims· .17) T99
-            (record { pos = 1; ty = Syntax.tyRef (Syntax.named 0) Syntax.imm (Syntax.tyInt Syntax.w8); ref = λ x. x }, (record { pos = 24; st = List.[]; d = 0; at = λ x. x }, tt)) (m78 (before· .before)
+        After-is-past·own = Called.Called ps·8 r·8 (claims· .17) T98
+            (record { pos = 1; ty = Syntax.tyRef (Syntax.named 0) Syntax.imm (Syntax.tyInt Syntax.w8); ref = λ x. x }, (record { pos = 24; st = List.[]; d = 0; at = λ x. x }, tt)) (m77 (before· .before)
             (before· .at .given))
 
       pub record After-is-past : Type 0 where
         pub before : After-at
         pub is-past : After-is-past·own before
 
-      abbrev pub After-is-past·gave : (c : After-is-past) → s95 (c .before .before .before .before .before .before .before .before .blocks) .gives (m78 (c .before .before) (c .before .at .given))
-      After-is-past·gave = λ c. Called.given ps·8 r·8 (claims· .17) T99
-          (record { pos = 1; ty = Syntax.tyRef (Syntax.named 0) Syntax.imm (Syntax.tyInt Syntax.w8); ref = λ x. x }, (record { pos = 24; st = List.[]; d = 0; at = λ x. x }, tt)) (m78 (c .before .before)
+      abbrev pub After-is-past·gave : (c : After-is-past) → s94 (c .before .before .before .before .before .before .before .before .blocks) .gives (m77 (c .before .before) (c .before .at .given))
+      After-is-past·gave = λ c. Called.given ps·8 r·8 (claims· .17) T98
+          (record { pos = 1; ty = Syntax.tyRef (Syntax.named 0) Syntax.imm (Syntax.tyInt Syntax.w8); ref = λ x. x }, (record { pos = 24; st = List.[]; d = 0; at = λ x. x }, tt)) (m77 (c .before .before)
           (c .before .at .given)) (c .is-past)
 
-      abbrev W6 : (before : After-at) → (given : s95 (before .before .before .before .before .before .before .before .blocks) .gives (m78 (before .before) (before .at .given))) → Typed.Want O6
-      W6 = λ before given. Typed.wantNext T101 O0 (at115 (before .before .before .before .before .before .before .before .blocks) (W0 (before .before .before .before .before .before .before .before
+      abbrev W6 : (before : After-at) → (given : s94 (before .before .before .before .before .before .before .before .blocks) .gives (m77 (before .before) (before .at .given))) → Typed.Want O6
+      W6 = λ before given. Typed.wantNext T100 O0 (at114 (before .before .before .before .before .before .before .before .blocks) (W0 (before .before .before .before .before .before .before .before
           .κs) (before .before .before .before .before .before .before .before .args) (before .before .before .before .before .before .before .before .blocks))) (W0 (before .before .before .before .before
           .before .before .before .κs) (before .before .before .before .before .before .before .before .args) (before .before .before .before .before .before .before .before .blocks))
 
-      abbrev pub m80 : (before : After-at) → (given : s95 (before .before .before .before .before .before .before .before .blocks) .gives (m78 (before .before) (before .at .given))) → Typed.Mo T102
-      m80 = λ before given. s96 (before .before .before .before .before .before .before .before .blocks) (m79 before given)
+      abbrev pub m79 : (before : After-at) → (given : s94 (before .before .before .before .before .before .before .before .blocks) .gives (m77 (before .before) (before .at .given))) → Typed.Mo T101
+      m79 = λ before given. s95 (before .before .before .before .before .before .before .before .blocks) (m78 before given)
+
+      abbrev pub m80 : (before : After-is-past) → Typed.Mo T102
+      m80 = λ before. s96 (before .before .before .before .before .before .before .before .before .blocks) (m79 (before .before) (After-is-past·gave before))
 
       abbrev pub m81 : (before : After-is-past) → Typed.Mo T103
-      m81 = λ before. s97 (before .before .before .before .before .before .before .before .before .blocks) (m80 (before .before) (After-is-past·gave before))
+      m81 = λ before. s97 (before .before .before .before .before .before .before .before .before .blocks) (m80 before)
 
       abbrev pub m82 : (before : After-is-past) → Typed.Mo T104
       m82 = λ before. s98 (before .before .before .before .before .before .before .before .before .blocks) (m81 before)
@@ -5711,47 +5602,47 @@ module _ (claims· : Claims) where
       abbrev pub m88 : (before : After-is-past) → Typed.Mo T110
       m88 = λ before. s104 (before .before .before .before .before .before .before .before .before .blocks) (m87 before)
 
-      abbrev pub m89 : (before : After-is-past) → Typed.Mo T111
-      m89 = λ before. s105 (before .before .before .before .before .before .before .before .before .blocks) (m88 before)
-
       module _ (before· : After-is-past) where
         pub record Then2·own : Type 0 where
-          pub taken : Path'._≡_ (Row.get 39 (T102 .locals) (m80 (before· .before) (After-is-past·gave before·))) Bool'.true
+          pub taken : Path'._≡_ (Row.get 39 (T101 .locals) (m79 (before· .before) (After-is-past·gave before·))) Bool'.true
 
       pub record Then2 : Type 0 where
         pub before : After-is-past
         pub if2 : Then2·own before
 
       abbrev pub Need-same-length-4 : Type 0
-      Need-same-length-4 = (c : Then2) → MutSlice.SameLen (Row.get 3 (T111 .locals) (m89 (c .before))) (dens (c .before .before .before .before .before .before .before .before .before .κs) (c .before
+      Need-same-length-4 = (c : Then2) → MutSlice.SameLen (Row.get 3 (T110 .locals) (m88 (c .before))) (dens (c .before .before .before .before .before .before .before .before .before .κs) (c .before
           .before .before .before .before .before .before .before .before .args) .1 .1 .0)
 
       abbrev pub Need-same-length-5 : Type 0
-      Need-same-length-5 = (c : Then2) → MutSlice.SameLen (Row.get 4 (T111 .locals) (m89 (c .before))) (dens (c .before .before .before .before .before .before .before .before .before .κs) (c .before
+      Need-same-length-5 = (c : Then2) → MutSlice.SameLen (Row.get 4 (T110 .locals) (m88 (c .before))) (dens (c .before .before .before .before .before .before .before .before .before .κs) (c .before
           .before .before .before .before .before .before .before .before .args) .1 .1 .1 .0)
 
       abbrev pub Need-same-length-6 : Type 0
-      Need-same-length-6 = (c : Then2) → MutSlice.SameLen (Row.get 5 (T111 .locals) (m89 (c .before))) (dens (c .before .before .before .before .before .before .before .before .before .κs) (c .before
+      Need-same-length-6 = (c : Then2) → MutSlice.SameLen (Row.get 5 (T110 .locals) (m88 (c .before))) (dens (c .before .before .before .before .before .before .before .before .before .κs) (c .before
           .before .before .before .before .before .before .before .before .args) .1 .1 .1 .1 .0)
 
       abbrev pub Need-returns-2 : Type 0
       Need-returns-2 = (c : Then2) → Post· (c .before .before .before .before .before .before .before .before .before .κs) (dens (c .before .before .before .before .before .before .before .before
           .before .κs) (c .before .before .before .before .before .before .before .before .before .args)) (Function.resV r (c .before .before .before .before .before .before .before .before .before .κs)
-          (m89 (c .before) .0)) (Clauses.atExit (Kinds.endedOf 5 ps r) (c .before .before .before .before .before .before .before .before .before .κs) (dens (c .before .before .before .before .before
+          (m88 (c .before) .0)) (Clauses.atExit (Kinds.endedOf 5 ps r) (c .before .before .before .before .before .before .before .before .before .κs) (dens (c .before .before .before .before .before
           .before .before .before .before .κs) (c .before .before .before .before .before .before .before .before .before .args)) (Enter.lastsP (c .before .before .before .before .before .before .before
           .before .before .κs) 1 ps xs (dens (c .before .before .before .before .before .before .before .before .before .κs) (c .before .before .before .before .before .before .before .before .before
-          .args)) (m89 (c .before) .1)))
+          .args)) (m88 (c .before) .1)))
 
-      abbrev pub m90 : (before : After-is-past) → Typed.Mo T112
-      m90 = λ before. s106 (before .before .before .before .before .before .before .before .before .blocks) (m80 (before .before) (After-is-past·gave before))
+      abbrev pub m89 : (before : After-is-past) → Typed.Mo T111
+      m89 = λ before. s105 (before .before .before .before .before .before .before .before .before .blocks) (m79 (before .before) (After-is-past·gave before))
 
       module _ (before· : After-is-past) where
         pub record Else2·own : Type 0 where
-          pub left : Path'._≡_ (Row.get 39 (T102 .locals) (m80 (before· .before) (After-is-past·gave before·))) Bool'.false
+          pub left : Path'._≡_ (Row.get 39 (T101 .locals) (m79 (before· .before) (After-is-past·gave before·))) Bool'.false
 
       pub record Else2 : Type 0 where
         pub before : After-is-past
         pub if2 : Else2·own before
+
+      abbrev pub m90 : (before : After-is-past) → Typed.Mo T112
+      m90 = λ before. s106 (before .before .before .before .before .before .before .before .before .blocks) (m89 before)
 
       abbrev pub m91 : (before : After-is-past) → Typed.Mo T113
       m91 = λ before. s107 (before .before .before .before .before .before .before .before .before .blocks) (m90 before)
@@ -5774,51 +5665,48 @@ module _ (claims· : Claims) where
       abbrev pub m97 : (before : After-is-past) → Typed.Mo T119
       m97 = λ before. s113 (before .before .before .before .before .before .before .before .before .blocks) (m96 before)
 
-      abbrev pub m98 : (before : After-is-past) → Typed.Mo T120
-      m98 = λ before. s114 (before .before .before .before .before .before .before .before .before .blocks) (m97 before)
-
       abbrev pub Need-same-length-7 : Type 0
-      Need-same-length-7 = (c : Else2) → MutSlice.SameLen (Row.get 3 (T120 .locals) (m98 (c .before))) (dens (c .before .before .before .before .before .before .before .before .before .κs) (c .before
+      Need-same-length-7 = (c : Else2) → MutSlice.SameLen (Row.get 3 (T119 .locals) (m97 (c .before))) (dens (c .before .before .before .before .before .before .before .before .before .κs) (c .before
           .before .before .before .before .before .before .before .before .args) .1 .1 .0)
 
       abbrev pub Need-same-length-8 : Type 0
-      Need-same-length-8 = (c : Else2) → MutSlice.SameLen (Row.get 4 (T120 .locals) (m98 (c .before))) (dens (c .before .before .before .before .before .before .before .before .before .κs) (c .before
+      Need-same-length-8 = (c : Else2) → MutSlice.SameLen (Row.get 4 (T119 .locals) (m97 (c .before))) (dens (c .before .before .before .before .before .before .before .before .before .κs) (c .before
           .before .before .before .before .before .before .before .before .args) .1 .1 .1 .0)
 
       abbrev pub Need-same-length-9 : Type 0
-      Need-same-length-9 = (c : Else2) → MutSlice.SameLen (Row.get 5 (T120 .locals) (m98 (c .before))) (dens (c .before .before .before .before .before .before .before .before .before .κs) (c .before
+      Need-same-length-9 = (c : Else2) → MutSlice.SameLen (Row.get 5 (T119 .locals) (m97 (c .before))) (dens (c .before .before .before .before .before .before .before .before .before .κs) (c .before
           .before .before .before .before .before .before .before .before .args) .1 .1 .1 .1 .0)
 
       abbrev pub Need-returns-3 : Type 0
       Need-returns-3 = (c : Else2) → Post· (c .before .before .before .before .before .before .before .before .before .κs) (dens (c .before .before .before .before .before .before .before .before
           .before .κs) (c .before .before .before .before .before .before .before .before .before .args)) (Function.resV r (c .before .before .before .before .before .before .before .before .before .κs)
-          (m98 (c .before) .0)) (Clauses.atExit (Kinds.endedOf 5 ps r) (c .before .before .before .before .before .before .before .before .before .κs) (dens (c .before .before .before .before .before
+          (m97 (c .before) .0)) (Clauses.atExit (Kinds.endedOf 5 ps r) (c .before .before .before .before .before .before .before .before .before .κs) (dens (c .before .before .before .before .before
           .before .before .before .before .κs) (c .before .before .before .before .before .before .before .before .before .args)) (Enter.lastsP (c .before .before .before .before .before .before .before
           .before .before .κs) 1 ps xs (dens (c .before .before .before .before .before .before .before .before .before .κs) (c .before .before .before .before .before .before .before .before .before
-          .args)) (m98 (c .before) .1)))
+          .args)) (m97 (c .before) .1)))
 
       module _ (width-requires : Need-width-requires) (loop-holds : Need-loop-holds) (plan-at-requires : Need-plan-at-requires) (window-plan-requires : Need-window-plan-requires) (enter-requires :
           Need-enter-requires) (load-set-requires : Need-load-set-requires) (pass-requires : Need-pass-requires) (same-length : Need-same-length) (same-length-2 : Need-same-length-2) (same-length-3 :
-          Need-same-length-3) (returns : Need-returns) (store-set-requires : Need-store-set-requires) (emit-pass-requires : Need-emit-pass-requires) (add-i : Need-add-i) (loop-less : Need-loop-less)
+          Need-same-length-3) (returns : Need-returns) (store-set-requires : Need-store-set-requires) (emit-pass-at-requires : Need-emit-pass-at-requires) (add-i : Need-add-i) (loop-less : Need-loop-less)
           (loop-again : Need-loop-again) (is-past-requires : Need-is-past-requires) (same-length-4 : Need-same-length-4) (same-length-5 : Need-same-length-5) (same-length-6 : Need-same-length-6)
           (returns-2 : Need-returns-2) (same-length-7 : Need-same-length-7) (same-length-8 : Need-same-length-8) (same-length-9 : Need-same-length-9) (returns-3 : Need-returns-3) where
-        lay15 : (c : Else2) → at115 (c .before .before .before .before .before .before .before .before .before .blocks) (W0 (c .before .before .before .before .before .before .before .before .before
-            .κs) (c .before .before .before .before .before .before .before .before .before .args) (c .before .before .before .before .before .before .before .before .before .blocks)) (m90 (c .before))
+        lay15 : (c : Else2) → at114 (c .before .before .before .before .before .before .before .before .before .blocks) (W0 (c .before .before .before .before .before .before .before .before .before
+            .κs) (c .before .before .before .before .before .before .before .before .before .args) (c .before .before .before .before .before .before .before .before .before .blocks)) (m89 (c .before))
         lay15 = λ c. (
           (
             Path'.refl,
             (
               tt,
               (
-                MutSlice.fix-len (Row.get 3 (T120 .locals) (m98 (c .before)) .ptr) (Row.get 3 (T120 .locals) (m98 (c .before)) .name) (Row.get 3 (T120 .locals) (m98 (c .before)) .now) (dens (c .before
+                MutSlice.fix-len (Row.get 3 (T119 .locals) (m97 (c .before)) .ptr) (Row.get 3 (T119 .locals) (m97 (c .before)) .name) (Row.get 3 (T119 .locals) (m97 (c .before)) .now) (dens (c .before
                     .before .before .before .before .before .before .before .before .κs) (c .before .before .before .before .before .before .before .before .before .args) .1 .1 .0 .now) (same-length-7 record
                     { before = c .before; if2 = c .if2 }),
                 (
-                  MutSlice.fix-len (Row.get 4 (T120 .locals) (m98 (c .before)) .ptr) (Row.get 4 (T120 .locals) (m98 (c .before)) .name) (Row.get 4 (T120 .locals) (m98 (c .before)) .now) (dens (c .before
+                  MutSlice.fix-len (Row.get 4 (T119 .locals) (m97 (c .before)) .ptr) (Row.get 4 (T119 .locals) (m97 (c .before)) .name) (Row.get 4 (T119 .locals) (m97 (c .before)) .now) (dens (c .before
                       .before .before .before .before .before .before .before .before .κs) (c .before .before .before .before .before .before .before .before .before .args) .1 .1 .1 .0 .now) (same-length-8 record
                       { before = c .before; if2 = c .if2 }),
                   (
-                    MutSlice.fix-len (Row.get 5 (T120 .locals) (m98 (c .before)) .ptr) (Row.get 5 (T120 .locals) (m98 (c .before)) .name) (Row.get 5 (T120 .locals) (m98 (c .before)) .now) (dens (c .before
+                    MutSlice.fix-len (Row.get 5 (T119 .locals) (m97 (c .before)) .ptr) (Row.get 5 (T119 .locals) (m97 (c .before)) .name) (Row.get 5 (T119 .locals) (m97 (c .before)) .now) (dens (c .before
                         .before .before .before .before .before .before .before .before .κs) (c .before .before .before .before .before .before .before .before .before .args) .1 .1 .1 .1 .0 .now) (same-length-9
                         record { before = c .before; if2 = c .if2 }),
                     (tt, (tt, (Path'.refl, (tt, (tt, (tt, (tt, tt))))))),
@@ -5830,8 +5718,8 @@ module _ (claims· : Claims) where
           returns-3 record { before = c .before; if2 = c .if2 },
         )
 
-        lay14 : (c : After-is-past) → at116 (c .before .before .before .before .before .before .before .before .blocks) (W0 (c .before .before .before .before .before .before .before .before .κs) (c
-            .before .before .before .before .before .before .before .before .args) (c .before .before .before .before .before .before .before .before .blocks)) (m79 (c .before) (After-is-past·gave c))
+        lay14 : (c : After-is-past) → at115 (c .before .before .before .before .before .before .before .before .blocks) (W0 (c .before .before .before .before .before .before .before .before .κs) (c
+            .before .before .before .before .before .before .before .before .args) (c .before .before .before .before .before .before .before .before .blocks)) (m78 (c .before) (After-is-past·gave c))
         lay14 = λ c. (
           λ taken. (
             (
@@ -5839,18 +5727,18 @@ module _ (claims· : Claims) where
               (
                 tt,
                 (
-                  MutSlice.fix-len (Row.get 3 (T111 .locals) (m89 record { before = c .before; is-past = c .is-past }) .ptr) (Row.get 3 (T111 .locals) (m89 record
-                      { before = c .before; is-past = c .is-past }) .name) (Row.get 3 (T111 .locals) (m89 record { before = c .before; is-past = c .is-past }) .now) (dens (c .before .before .before .before
+                  MutSlice.fix-len (Row.get 3 (T110 .locals) (m88 record { before = c .before; is-past = c .is-past }) .ptr) (Row.get 3 (T110 .locals) (m88 record
+                      { before = c .before; is-past = c .is-past }) .name) (Row.get 3 (T110 .locals) (m88 record { before = c .before; is-past = c .is-past }) .now) (dens (c .before .before .before .before
                       .before .before .before .before .κs) (c .before .before .before .before .before .before .before .before .args) .1 .1 .0 .now) (same-length-4 record
                       { before = record { before = c .before; is-past = c .is-past }; if2 = record { taken = taken } }),
                   (
-                    MutSlice.fix-len (Row.get 4 (T111 .locals) (m89 record { before = c .before; is-past = c .is-past }) .ptr) (Row.get 4 (T111 .locals) (m89 record
-                        { before = c .before; is-past = c .is-past }) .name) (Row.get 4 (T111 .locals) (m89 record { before = c .before; is-past = c .is-past }) .now) (dens (c .before .before .before .before
+                    MutSlice.fix-len (Row.get 4 (T110 .locals) (m88 record { before = c .before; is-past = c .is-past }) .ptr) (Row.get 4 (T110 .locals) (m88 record
+                        { before = c .before; is-past = c .is-past }) .name) (Row.get 4 (T110 .locals) (m88 record { before = c .before; is-past = c .is-past }) .now) (dens (c .before .before .before .before
                         .before .before .before .before .κs) (c .before .before .before .before .before .before .before .before .args) .1 .1 .1 .0 .now) (same-length-5 record
                         { before = record { before = c .before; is-past = c .is-past }; if2 = record { taken = taken } }),
                     (
-                      MutSlice.fix-len (Row.get 5 (T111 .locals) (m89 record { before = c .before; is-past = c .is-past }) .ptr) (Row.get 5 (T111 .locals) (m89 record
-                          { before = c .before; is-past = c .is-past }) .name) (Row.get 5 (T111 .locals) (m89 record { before = c .before; is-past = c .is-past }) .now) (dens (c .before .before .before .before
+                      MutSlice.fix-len (Row.get 5 (T110 .locals) (m88 record { before = c .before; is-past = c .is-past }) .ptr) (Row.get 5 (T110 .locals) (m88 record
+                          { before = c .before; is-past = c .is-past }) .name) (Row.get 5 (T110 .locals) (m88 record { before = c .before; is-past = c .is-past }) .now) (dens (c .before .before .before .before
                           .before .before .before .before .κs) (c .before .before .before .before .before .before .before .before .args) .1 .1 .1 .1 .0 .now) (same-length-6 record
                           { before = record { before = c .before; is-past = c .is-past }; if2 = record { taken = taken } }),
                       (tt, (tt, (Path'.refl, (tt, (tt, (tt, (tt, tt))))))),
@@ -5866,7 +5754,7 @@ module _ (claims· : Claims) where
               { before = record { before = c .before; is-past = c .is-past }; if2 = record { left = left } },
         )
 
-        lay13 : (c : After-loop) → at118 (c .before .before .before .before .before .before .blocks) (W0 (c .before .before .before .before .before .before .κs) (c .before .before .before .before
+        lay13 : (c : After-loop) → at117 (c .before .before .before .before .before .before .blocks) (W0 (c .before .before .before .before .before .before .κs) (c .before .before .before .before
             .before .before .args) (c .before .before .before .before .before .before .blocks)) (m17 (c .before))
         lay13 = λ c. (
           tt,
@@ -5874,25 +5762,25 @@ module _ (claims· : Claims) where
             is-past-requires record { before = record { before = c .before; loop-test = c .loop-test }; at = record { given = g } },
             λ g'. lay14 record {
               before = record { before = record { before = c .before; loop-test = c .loop-test }; at = record { given = g } };
-              is-past = Called.called ps·8 r·8 (claims· .17) T99
-                  (record { pos = 1; ty = Syntax.tyRef (Syntax.named 0) Syntax.imm (Syntax.tyInt Syntax.w8); ref = λ x. x }, (record { pos = 24; st = List.[]; d = 0; at = λ x. x }, tt)) (m78 record
+              is-past = Called.called ps·8 r·8 (claims· .17) T98
+                  (record { pos = 1; ty = Syntax.tyRef (Syntax.named 0) Syntax.imm (Syntax.tyInt Syntax.w8); ref = λ x. x }, (record { pos = 24; st = List.[]; d = 0; at = λ x. x }, tt)) (m77 record
                   { before = c .before; loop-test = c .loop-test } g) g';
             },
           ),
         )
 
-        lay12 : (c : After-emit-pass) → at38 (c .before .before .before .before .before .before .before .before .before .before .before .before .before .before .before .before .before .before .before
-            .before .before .before .before .before .before .before .before .before .blocks) (W3 (c .before .before .before .before .before .before .before .before .before .before .before .before .before
-            .before .before .before .before .before .before .before .before .before .before .before) (c .before .before .before .before .before .before .before .before .before .before .before .before
-            .before .before .before .before .before .before .before .before .before .before .before .loop .lines) (c .before .before .before .before .before .before .before .before .before .before .before
-            .before .before .before .before .before .before .before .before .before .before .before .before .loop .rs) (c .before .before .before .before .before .before .before .before .before .before
-            .before .before .before .before .before .before .before .before .before .before .before .before .before .loop .image) (c .before .before .before .before .before .before .before .before .before
-            .before .before .before .before .before .before .before .before .before .before .before .before .before .before .loop .place) (c .before .before .before .before .before .before .before .before
-            .before .before .before .before .before .before .before .before .before .before .before .before .before .before .before .loop .i)) (m68 (c .before) (After-emit-pass·gave c))
+        lay12 : (c : After-emit-pass-at) → at35 (c .before .before .before .before .before .before .before .before .before .before .before .before .before .before .before .before .before .before
+            .before .before .before .before .before .before .before .before .before .before .blocks) (W3 (c .before .before .before .before .before .before .before .before .before .before .before .before
+            .before .before .before .before .before .before .before .before .before .before .before .before) (c .before .before .before .before .before .before .before .before .before .before .before
+            .before .before .before .before .before .before .before .before .before .before .before .before .loop .lines) (c .before .before .before .before .before .before .before .before .before .before
+            .before .before .before .before .before .before .before .before .before .before .before .before .before .loop .rs) (c .before .before .before .before .before .before .before .before .before
+            .before .before .before .before .before .before .before .before .before .before .before .before .before .before .loop .image) (c .before .before .before .before .before .before .before .before
+            .before .before .before .before .before .before .before .before .before .before .before .before .before .before .before .loop .place) (c .before .before .before .before .before .before .before
+            .before .before .before .before .before .before .before .before .before .before .before .before .before .before .before .before .loop .i)) (m69 (c .before) (After-emit-pass-at·gave c))
         lay12 = λ c. (
           Path'.refl,
           λ g. λ g'. (
-            add-i record { before = record { before = record { before = c .before; emit-pass = c .emit-pass }; image = record { given = g } }; slice-known5 = record { given = g' } },
+            add-i record { before = record { before = record { before = c .before; emit-pass-at = c .emit-pass-at }; image = record { given = g } }; slice-known5 = record { given = g' } },
             (
               μ·0 (Row.get 1 (T11 .locals) (m10 (c .before .before .before .before .before .before .before .before .before .before .before .before .before .before .before .before .before .before .before
                   .before .before .before .before .before .before) (After-width·gave (c .before .before .before .before .before .before .before .before .before .before .before .before .before .before .before
@@ -5930,77 +5818,77 @@ module _ (claims· : Claims) where
                   .before .before .before .before .before .before .before .before .before .before .before .before .before .before .before)))) (Row.get 17 (T11 .locals) (m10 (c .before .before .before .before
                   .before .before .before .before .before .before .before .before .before .before .before .before .before .before .before .before .before .before .before .before .before) (After-width·gave (c
                   .before .before .before .before .before .before .before .before .before .before .before .before .before .before .before .before .before .before .before .before .before .before .before
-                  .before)))) (Row.get 3 (T11 .locals) (m77 record { before = record { before = c .before; emit-pass = c .emit-pass }; image = record { given = g } } g') .now) (Row.get 4 (T11 .locals) (m77
-                  record { before = record { before = c .before; emit-pass = c .emit-pass }; image = record { given = g } } g') .now) (Row.get 5 (T11 .locals) (m77 record
-                  { before = record { before = c .before; emit-pass = c .emit-pass }; image = record { given = g } } g') .now) (Row.get 16 (T11 .locals) (m77 record
-                  { before = record { before = c .before; emit-pass = c .emit-pass }; image = record { given = g } } g')) (Row.get 17 (T11 .locals) (m77 record
-                  { before = record { before = c .before; emit-pass = c .emit-pass }; image = record { given = g } } g')),
+                  .before)))) (Row.get 3 (T11 .locals) (m76 record { before = record { before = c .before; emit-pass-at = c .emit-pass-at }; image = record { given = g } } g') .now) (Row.get 4 (T11 .locals)
+                  (m76 record { before = record { before = c .before; emit-pass-at = c .emit-pass-at }; image = record { given = g } } g') .now) (Row.get 5 (T11 .locals) (m76 record
+                  { before = record { before = c .before; emit-pass-at = c .emit-pass-at }; image = record { given = g } } g') .now) (Row.get 16 (T11 .locals) (m76 record
+                  { before = record { before = c .before; emit-pass-at = c .emit-pass-at }; image = record { given = g } } g')) (Row.get 17 (T11 .locals) (m76 record
+                  { before = record { before = c .before; emit-pass-at = c .emit-pass-at }; image = record { given = g } } g')),
               loop-less record
-                  { before = record { before = record { before = c .before; emit-pass = c .emit-pass }; image = record { given = g } }; slice-known5 = record { given = g' } },
+                  { before = record { before = record { before = c .before; emit-pass-at = c .emit-pass-at }; image = record { given = g } }; slice-known5 = record { given = g' } },
               (
                 (
-                  Row.get 3 (T11 .locals) (m77 record { before = record { before = c .before; emit-pass = c .emit-pass }; image = record { given = g } } g') .now,
-                  Row.get 4 (T11 .locals) (m77 record
-                      { before = record { before = c .before; emit-pass = c .emit-pass }; image = record { given = g } } g') .now,
-                  Row.get 5 (T11 .locals) (m77 record
-                      { before = record { before = c .before; emit-pass = c .emit-pass }; image = record { given = g } } g') .now,
-                  Row.get 16 (T11 .locals) (m77 record
-                      { before = record { before = c .before; emit-pass = c .emit-pass }; image = record { given = g } } g'),
-                  Row.get 17 (T11 .locals) (m77 record
-                      { before = record { before = c .before; emit-pass = c .emit-pass }; image = record { given = g } } g'),
+                  Row.get 3 (T11 .locals) (m76 record { before = record { before = c .before; emit-pass-at = c .emit-pass-at }; image = record { given = g } } g') .now,
+                  Row.get 4 (T11 .locals) (m76 record
+                      { before = record { before = c .before; emit-pass-at = c .emit-pass-at }; image = record { given = g } } g') .now,
+                  Row.get 5 (T11 .locals) (m76 record
+                      { before = record { before = c .before; emit-pass-at = c .emit-pass-at }; image = record { given = g } } g') .now,
+                  Row.get 16 (T11 .locals) (m76 record
+                      { before = record { before = c .before; emit-pass-at = c .emit-pass-at }; image = record { given = g } } g'),
+                  Row.get 17 (T11 .locals) (m76 record
+                      { before = record { before = c .before; emit-pass-at = c .emit-pass-at }; image = record { given = g } } g'),
                 ),
-                Path'.refl {a = m77 record
-                    { before = record { before = c .before; emit-pass = c .emit-pass }; image = record { given = g } } g'},
+                Path'.refl {a = m76 record
+                    { before = record { before = c .before; emit-pass-at = c .emit-pass-at }; image = record { given = g } } g'},
                 loop-again record
-                    { before = record { before = record { before = c .before; emit-pass = c .emit-pass }; image = record { given = g } }; slice-known5 = record { given = g' } },
-                Path'.refl {a = μ·0 (Row.get 1
-                    (T11 .locals) (m10 (c .before .before .before .before .before .before .before .before .before .before .before .before .before .before .before .before .before .before .before .before .before
-                    .before .before .before .before) (After-width·gave (c .before .before .before .before .before .before .before .before .before .before .before .before .before .before .before .before .before
-                    .before .before .before .before .before .before .before))) .now) (Row.get 3 (T11 .locals) (m10 (c .before .before .before .before .before .before .before .before .before .before .before
-                    .before .before .before .before .before .before .before .before .before .before .before .before .before .before) (After-width·gave (c .before .before .before .before .before .before .before
-                    .before .before .before .before .before .before .before .before .before .before .before .before .before .before .before .before .before))) .now) (Row.get 4 (T11 .locals) (m10 (c .before
-                    .before .before .before .before .before .before .before .before .before .before .before .before .before .before .before .before .before .before .before .before .before .before .before .before)
-                    (After-width·gave (c .before .before .before .before .before .before .before .before .before .before .before .before .before .before .before .before .before .before .before .before .before
-                    .before .before .before))) .now) (Row.get 5 (T11 .locals) (m10 (c .before .before .before .before .before .before .before .before .before .before .before .before .before .before .before
-                    .before .before .before .before .before .before .before .before .before .before) (After-width·gave (c .before .before .before .before .before .before .before .before .before .before .before
-                    .before .before .before .before .before .before .before .before .before .before .before .before .before))) .now) (Row.get 7 (T11 .locals) (m10 (c .before .before .before .before .before
-                    .before .before .before .before .before .before .before .before .before .before .before .before .before .before .before .before .before .before .before .before) (After-width·gave (c .before
-                    .before .before .before .before .before .before .before .before .before .before .before .before .before .before .before .before .before .before .before .before .before .before .before))))
-                    (Row.get 8 (T11 .locals) (m10 (c .before .before .before .before .before .before .before .before .before .before .before .before .before .before .before .before .before .before .before .before
+                    { before = record { before = record { before = c .before; emit-pass-at = c .emit-pass-at }; image = record { given = g } }; slice-known5 = record { given = g' } },
+                Path'.refl {a = μ·0
+                    (Row.get 1 (T11 .locals) (m10 (c .before .before .before .before .before .before .before .before .before .before .before .before .before .before .before .before .before .before .before .before
                     .before .before .before .before .before) (After-width·gave (c .before .before .before .before .before .before .before .before .before .before .before .before .before .before .before .before
-                    .before .before .before .before .before .before .before .before))) .now) (Row.get 9 (T11 .locals) (m10 (c .before .before .before .before .before .before .before .before .before .before
+                    .before .before .before .before .before .before .before .before))) .now) (Row.get 3 (T11 .locals) (m10 (c .before .before .before .before .before .before .before .before .before .before
                     .before .before .before .before .before .before .before .before .before .before .before .before .before .before .before) (After-width·gave (c .before .before .before .before .before .before
-                    .before .before .before .before .before .before .before .before .before .before .before .before .before .before .before .before .before .before)))) (Row.get 10 (T11 .locals) (m10 (c .before
-                    .before .before .before .before .before .before .before .before .before .before .before .before .before .before .before .before .before .before .before .before .before .before .before .before)
-                    (After-width·gave (c .before .before .before .before .before .before .before .before .before .before .before .before .before .before .before .before .before .before .before .before .before
-                    .before .before .before)))) (Row.get 11 (T11 .locals) (m10 (c .before .before .before .before .before .before .before .before .before .before .before .before .before .before .before .before
-                    .before .before .before .before .before .before .before .before .before) (After-width·gave (c .before .before .before .before .before .before .before .before .before .before .before .before
-                    .before .before .before .before .before .before .before .before .before .before .before .before)))) (Row.get 12 (T11 .locals) (m10 (c .before .before .before .before .before .before .before
-                    .before .before .before .before .before .before .before .before .before .before .before .before .before .before .before .before .before .before) (After-width·gave (c .before .before .before
-                    .before .before .before .before .before .before .before .before .before .before .before .before .before .before .before .before .before .before .before .before .before)))) (Row.get 13 (T11
-                    .locals) (m10 (c .before .before .before .before .before .before .before .before .before .before .before .before .before .before .before .before .before .before .before .before .before .before
-                    .before .before .before) (After-width·gave (c .before .before .before .before .before .before .before .before .before .before .before .before .before .before .before .before .before .before
-                    .before .before .before .before .before .before)))) (Row.get 14 (T11 .locals) (m10 (c .before .before .before .before .before .before .before .before .before .before .before .before .before
-                    .before .before .before .before .before .before .before .before .before .before .before .before) (After-width·gave (c .before .before .before .before .before .before .before .before .before
-                    .before .before .before .before .before .before .before .before .before .before .before .before .before .before .before)))) (Row.get 15 (T11 .locals) (m10 (c .before .before .before .before
+                    .before .before .before .before .before .before .before .before .before .before .before .before .before .before .before .before .before .before))) .now) (Row.get 4 (T11 .locals) (m10 (c
+                    .before .before .before .before .before .before .before .before .before .before .before .before .before .before .before .before .before .before .before .before .before .before .before .before
+                    .before) (After-width·gave (c .before .before .before .before .before .before .before .before .before .before .before .before .before .before .before .before .before .before .before .before
+                    .before .before .before .before))) .now) (Row.get 5 (T11 .locals) (m10 (c .before .before .before .before .before .before .before .before .before .before .before .before .before .before
+                    .before .before .before .before .before .before .before .before .before .before .before) (After-width·gave (c .before .before .before .before .before .before .before .before .before .before
+                    .before .before .before .before .before .before .before .before .before .before .before .before .before .before))) .now) (Row.get 7 (T11 .locals) (m10 (c .before .before .before .before
                     .before .before .before .before .before .before .before .before .before .before .before .before .before .before .before .before .before .before .before .before .before) (After-width·gave (c
                     .before .before .before .before .before .before .before .before .before .before .before .before .before .before .before .before .before .before .before .before .before .before .before
-                    .before)))) (Row.get 16 (T11 .locals) (m10 (c .before .before .before .before .before .before .before .before .before .before .before .before .before .before .before .before .before .before
+                    .before)))) (Row.get 8 (T11 .locals) (m10 (c .before .before .before .before .before .before .before .before .before .before .before .before .before .before .before .before .before .before
                     .before .before .before .before .before .before .before) (After-width·gave (c .before .before .before .before .before .before .before .before .before .before .before .before .before .before
-                    .before .before .before .before .before .before .before .before .before .before)))) (Row.get 17 (T11 .locals) (m10 (c .before .before .before .before .before .before .before .before .before
-                    .before .before .before .before .before .before .before .before .before .before .before .before .before .before .before .before) (After-width·gave (c .before .before .before .before .before
-                    .before .before .before .before .before .before .before .before .before .before .before .before .before .before .before .before .before .before .before)))) (Row.get 3 (T11 .locals) (m77 record
-                    { before = record { before = c .before; emit-pass = c .emit-pass }; image = record { given = g } } g') .now) (Row.get 4 (T11 .locals) (m77 record
-                    { before = record { before = c .before; emit-pass = c .emit-pass }; image = record { given = g } } g') .now) (Row.get 5 (T11 .locals) (m77 record
-                    { before = record { before = c .before; emit-pass = c .emit-pass }; image = record { given = g } } g') .now) (Row.get 16 (T11 .locals) (m77 record
-                    { before = record { before = c .before; emit-pass = c .emit-pass }; image = record { given = g } } g')) (Row.get 17 (T11 .locals) (m77 record
-                    { before = record { before = c .before; emit-pass = c .emit-pass }; image = record { given = g } } g'))},
+                    .before .before .before .before .before .before .before .before .before .before))) .now) (Row.get 9 (T11 .locals) (m10 (c .before .before .before .before .before .before .before .before
+                    .before .before .before .before .before .before .before .before .before .before .before .before .before .before .before .before .before) (After-width·gave (c .before .before .before .before
+                    .before .before .before .before .before .before .before .before .before .before .before .before .before .before .before .before .before .before .before .before)))) (Row.get 10 (T11 .locals)
+                    (m10 (c .before .before .before .before .before .before .before .before .before .before .before .before .before .before .before .before .before .before .before .before .before .before .before
+                    .before .before) (After-width·gave (c .before .before .before .before .before .before .before .before .before .before .before .before .before .before .before .before .before .before .before
+                    .before .before .before .before .before)))) (Row.get 11 (T11 .locals) (m10 (c .before .before .before .before .before .before .before .before .before .before .before .before .before .before
+                    .before .before .before .before .before .before .before .before .before .before .before) (After-width·gave (c .before .before .before .before .before .before .before .before .before .before
+                    .before .before .before .before .before .before .before .before .before .before .before .before .before .before)))) (Row.get 12 (T11 .locals) (m10 (c .before .before .before .before .before
+                    .before .before .before .before .before .before .before .before .before .before .before .before .before .before .before .before .before .before .before .before) (After-width·gave (c .before
+                    .before .before .before .before .before .before .before .before .before .before .before .before .before .before .before .before .before .before .before .before .before .before .before))))
+                    (Row.get 13 (T11 .locals) (m10 (c .before .before .before .before .before .before .before .before .before .before .before .before .before .before .before .before .before .before .before
+                    .before .before .before .before .before .before) (After-width·gave (c .before .before .before .before .before .before .before .before .before .before .before .before .before .before .before
+                    .before .before .before .before .before .before .before .before .before)))) (Row.get 14 (T11 .locals) (m10 (c .before .before .before .before .before .before .before .before .before .before
+                    .before .before .before .before .before .before .before .before .before .before .before .before .before .before .before) (After-width·gave (c .before .before .before .before .before .before
+                    .before .before .before .before .before .before .before .before .before .before .before .before .before .before .before .before .before .before)))) (Row.get 15 (T11 .locals) (m10 (c .before
+                    .before .before .before .before .before .before .before .before .before .before .before .before .before .before .before .before .before .before .before .before .before .before .before .before)
+                    (After-width·gave (c .before .before .before .before .before .before .before .before .before .before .before .before .before .before .before .before .before .before .before .before .before
+                    .before .before .before)))) (Row.get 16 (T11 .locals) (m10 (c .before .before .before .before .before .before .before .before .before .before .before .before .before .before .before .before
+                    .before .before .before .before .before .before .before .before .before) (After-width·gave (c .before .before .before .before .before .before .before .before .before .before .before .before
+                    .before .before .before .before .before .before .before .before .before .before .before .before)))) (Row.get 17 (T11 .locals) (m10 (c .before .before .before .before .before .before .before
+                    .before .before .before .before .before .before .before .before .before .before .before .before .before .before .before .before .before .before) (After-width·gave (c .before .before .before
+                    .before .before .before .before .before .before .before .before .before .before .before .before .before .before .before .before .before .before .before .before .before)))) (Row.get 3 (T11
+                    .locals) (m76 record { before = record { before = c .before; emit-pass-at = c .emit-pass-at }; image = record { given = g } } g') .now) (Row.get 4 (T11 .locals) (m76 record
+                    { before = record { before = c .before; emit-pass-at = c .emit-pass-at }; image = record { given = g } } g') .now) (Row.get 5 (T11 .locals) (m76 record
+                    { before = record { before = c .before; emit-pass-at = c .emit-pass-at }; image = record { given = g } } g') .now) (Row.get 16 (T11 .locals) (m76 record
+                    { before = record { before = c .before; emit-pass-at = c .emit-pass-at }; image = record { given = g } } g')) (Row.get 17 (T11 .locals) (m76 record
+                    { before = record { before = c .before; emit-pass-at = c .emit-pass-at }; image = record { given = g } } g'))},
               ),
             ),
           ),
         )
 
-        lay11 : (c : After-store-set) → at52 (c .before .before .before .before .before .before .before .before .before .before .before .before .before .before .before .before .before .before .before
+        lay11 : (c : After-store-set) → at50 (c .before .before .before .before .before .before .before .before .before .before .before .before .before .before .before .before .before .before .before
             .before .before .before .before .blocks) (W3 (c .before .before .before .before .before .before .before .before .before .before .before .before .before .before .before .before .before .before
             .before) (c .before .before .before .before .before .before .before .before .before .before .before .before .before .before .before .before .before .before .loop .lines) (c .before .before
             .before .before .before .before .before .before .before .before .before .before .before .before .before .before .before .before .loop .rs) (c .before .before .before .before .before .before
@@ -6016,24 +5904,24 @@ module _ (claims· : Claims) where
               λ g'3. (
                 Path'.refl,
                 (
-                  emit-pass-requires record {
+                  emit-pass-at-requires record {
                     before = record {
                       before = record { before = record { before = record { before = c .before; store-set = c .store-set }; rs2 = record { given = g } }; place = record { given = g' } };
-                      emit-pass-arg = record
-                          { given = g'' };
+                      emit-pass-at-arg =
+                          record { given = g'' };
                     };
-                    emit-pass-arg2 = record { given = g'3 };
+                    emit-pass-at-arg2 = record { given = g'3 };
                   },
                   λ g'4. lay12 record {
                     before = record {
                       before = record {
                         before = record { before = record { before = record { before = c .before; store-set = c .store-set }; rs2 = record { given = g } }; place = record { given = g' } };
-                        emit-pass-arg = record
-                            { given = g'' };
+                        emit-pass-at-arg =
+                            record { given = g'' };
                       };
-                      emit-pass-arg2 = record { given = g'3 };
+                      emit-pass-at-arg2 = record { given = g'3 };
                     };
-                    emit-pass = Called.called ps·7 r·7 (claims· .15) T84 (
+                    emit-pass-at = Called.called ps·7 r·7 (claims· .15) T85 (
                       record { pos = 36; ty = Syntax.tyRef Syntax.erased Syntax.imm (Syntax.tyInt Syntax.w16); ref = λ x. x },
                       (
                         record { pos = 38; ty = Syntax.tyRef Syntax.erased Syntax.mut (Syntax.tyInt Syntax.w16); ref = λ x. x },
@@ -6043,34 +5931,17 @@ module _ (claims· : Claims) where
                             Bool.bAt 14 λ x. x,
                             (
                               record { pos = 8; ty = Syntax.tyRef (Syntax.named 4) Syntax.imm (Syntax.tyArray (Syntax.tyInt Syntax.w16) 768); ref = λ x. x },
-                              (
-                                record { pos = 9; st = List.[]; d = 0; at = λ x. x },
-                                (
-                                  record { pos = 10; st = List.[]; d = 0; at = λ x. x },
-                                  (
-                                    Num.vAt 11 λ x. x,
-                                    (
-                                      Num.vFld 18 (List._∷_ (Syntax.field 0) List.[]) 0 λ x. Plan.struct .as-values x .0,
-                                      (
-                                        Num.vFld 19 (List._∷_ (Syntax.field 0) List.[]) 0 λ x. Plan.struct .as-values x .0,
-                                        (
-                                          Num.vFld 18 (List._∷_ (Syntax.field 1) List.[]) 8 λ x. Plan.struct .as-values x .1 .0,
-                                          (Num.vFld 19 (List._∷_ (Syntax.field 1) List.[]) 8 λ x. Plan.struct .as-values x .1 .0, (Bool.bAt 12 λ x. x, tt)),
-                                        ),
-                                      ),
-                                    ),
-                                  ),
-                                ),
-                              ),
+                              (record { pos = 9; st = List.[]; d = 0; at = λ x. x }, (record { pos = 10; st = List.[]; d = 0; at = λ x. x }, (Num.vAt 11 λ x. x, (Num.vAt 17 λ x. x, (Bool.bAt 12 λ x. x, tt))))),
                             ),
                           ),
                         ),
                       ),
-                    ) (m67 record {
-                      before = record { before = record { before = record { before = c .before; store-set = c .store-set }; rs2 = record { given = g } }; place = record { given = g' } };
-                      emit-pass-arg = record
-                          { given = g'' };
-                    } g'3) g'4;
+                    ) (m68
+                        record {
+                          before = record { before = record { before = record { before = c .before; store-set = c .store-set }; rs2 = record { given = g } }; place = record { given = g' } };
+                          emit-pass-at-arg =
+                              record { given = g'' };
+                        } g'3) g'4;
                   },
                 ),
               ),
@@ -6078,7 +5949,7 @@ module _ (claims· : Claims) where
           ),
         )
 
-        lay10 : (c : Else1) → at57 (c .before .before .before .before .before .before .before .before .before .before .before .before .before .before .before .before .before .before .before .before
+        lay10 : (c : Else1) → at55 (c .before .before .before .before .before .before .before .before .before .before .before .before .before .before .before .before .before .before .before .before
             .blocks) (W3 (c .before .before .before .before .before .before .before .before .before .before .before .before .before .before .before .before) (c .before .before .before .before .before
             .before .before .before .before .before .before .before .before .before .before .loop .lines) (c .before .before .before .before .before .before .before .before .before .before .before .before
             .before .before .before .loop .rs) (c .before .before .before .before .before .before .before .before .before .before .before .before .before .before .before .loop .image) (c .before .before
@@ -6104,7 +5975,7 @@ module _ (claims· : Claims) where
           ),
         )
 
-        lay9 : (c : After-pass) → at66 (c .before .before .before .before .before .before .before .before .before .before .before .before .before .before .before .before .before .blocks) (W3 (c
+        lay9 : (c : After-pass) → at65 (c .before .before .before .before .before .before .before .before .before .before .before .before .before .before .before .before .before .blocks) (W3 (c
             .before .before .before .before .before .before .before .before .before .before .before .before .before) (c .before .before .before .before .before .before .before .before .before .before
             .before .before .loop .lines) (c .before .before .before .before .before .before .before .before .before .before .before .before .loop .rs) (c .before .before .before .before .before .before
             .before .before .before .before .before .before .loop .image) (c .before .before .before .before .before .before .before .before .before .before .before .before .loop .place) (c .before
@@ -6183,7 +6054,7 @@ module _ (claims· : Claims) where
           ),
         )
 
-        lay8 : (c : After-load-set) → at73 (c .before .before .before .before .before .before .before .before .before .before .before .before .before .before .blocks) (W3 (c .before .before .before
+        lay8 : (c : After-load-set) → at72 (c .before .before .before .before .before .before .before .before .before .before .before .before .before .before .blocks) (W3 (c .before .before .before
             .before .before .before .before .before .before .before) (c .before .before .before .before .before .before .before .before .before .loop .lines) (c .before .before .before .before .before
             .before .before .before .before .loop .rs) (c .before .before .before .before .before .before .before .before .before .loop .image) (c .before .before .before .before .before .before .before
             .before .before .loop .place) (c .before .before .before .before .before .before .before .before .before .loop .i)) (m28 (c .before) (After-load-set·gave c))
@@ -6215,7 +6086,7 @@ module _ (claims· : Claims) where
           ),
         )
 
-        lay7 : (c : After-enter) → at82 (c .before .before .before .before .before .before .before .before .before .before .blocks) (W3 (c .before .before .before .before .before .before) (c .before
+        lay7 : (c : After-enter) → at81 (c .before .before .before .before .before .before .before .before .before .before .blocks) (W3 (c .before .before .before .before .before .before) (c .before
             .before .before .before .before .loop .lines) (c .before .before .before .before .before .loop .rs) (c .before .before .before .before .before .loop .image) (c .before .before .before .before
             .before .loop .place) (c .before .before .before .before .before .loop .i)) (m22 (c .before) (After-enter·gave c))
         lay7 = λ c. (
@@ -6242,7 +6113,7 @@ module _ (claims· : Claims) where
           ),
         )
 
-        lay6 : (c : After-window-plan) → at86 (c .before .before .before .before .before .before .before .before .blocks) (W3 (c .before .before .before .before) (c .before .before .before .loop
+        lay6 : (c : After-window-plan) → at85 (c .before .before .before .before .before .before .before .before .blocks) (W3 (c .before .before .before .before) (c .before .before .before .loop
             .lines) (c .before .before .before .loop .rs) (c .before .before .before .loop .image) (c .before .before .before .loop .place) (c .before .before .before .loop .i)) (m19 (c .before)
             (After-window-plan·gave c))
         lay6 = λ c. λ g. (
@@ -6265,7 +6136,7 @@ module _ (claims· : Claims) where
           ),
         )
 
-        lay5 : (c : After-plan-at) → at87 (c .before .before .before .before .before .before .before .blocks) (W3 (c .before .before .before) (c .before .before .loop .lines) (c .before .before .loop
+        lay5 : (c : After-plan-at) → at86 (c .before .before .before .before .before .before .before .blocks) (W3 (c .before .before .before) (c .before .before .loop .lines) (c .before .before .loop
             .rs) (c .before .before .loop .image) (c .before .before .loop .place) (c .before .before .loop .i)) (m18 (c .before) (After-plan-at·gave c))
         lay5 = λ c. (
           window-plan-requires record { before = c .before; plan-at = c .plan-at },
@@ -6276,7 +6147,7 @@ module _ (claims· : Claims) where
           },
         )
 
-        lay4 : (c : In-loop) → at88 (c .before .before .before .before .before .before .blocks) (W3 (c .before .before) (c .before .loop .lines) (c .before .loop .rs) (c .before .loop .image) (c
+        lay4 : (c : In-loop) → at87 (c .before .before .before .before .before .before .blocks) (W3 (c .before .before) (c .before .loop .lines) (c .before .loop .rs) (c .before .loop .image) (c
             .before .loop .place) (c .before .loop .i)) (m13 (c .before))
         lay4 = λ c. (
           plan-at-requires record { before = c .before; loop-test = c .loop-test },
@@ -6292,7 +6163,7 @@ module _ (claims· : Claims) where
             .before .loop .place) (c .before .loop .i)) (m12 (c .before .before) (c .before .loop .lines) (c .before .loop .rs) (c .before .loop .image) (c .before .loop .place) (c .before .loop .i))
         lay2 = λ c. lay4 record { before = c .before; loop-test = c .loop-test }
 
-        lay1 : (c : After-width) → at122 (c .before .before .before .before .blocks) (W0 (c .before .before .before .before .κs) (c .before .before .before .before .args) (c .before .before .before
+        lay1 : (c : After-width) → at121 (c .before .before .before .before .blocks) (W0 (c .before .before .before .before .κs) (c .before .before .before .before .args) (c .before .before .before
             .before .blocks)) (m7 (c .before) (After-width·gave c))
         lay1 = λ c. (
           (
@@ -6325,7 +6196,7 @@ module _ (claims· : Claims) where
           ),
         )
 
-        pub laid : (c : Start) → at129 (c .blocks) (W0 (c .κs) (c .args) (c .blocks)) (m0 (c .κs) (c .args) (c .blocks))
+        pub laid : (c : Start) → at128 (c .blocks) (W0 (c .κs) (c .args) (c .blocks)) (m0 (c .κs) (c .args) (c .blocks))
         laid = λ c. λ g. λ g'. λ g''. (
           width-requires record
               { before = record { before = record { before = c; shared-slice-known = record { given = g } }; slice-known = record { given = g' } }; slice-known2 = record { given = g'' } },
@@ -6369,7 +6240,7 @@ module _ (claims· : Claims) where
             "map::width") (known1 : Plain.Known 𝓤 H A W 𝓣 0 ps·1 r·1 (claims· .2) (claims· .3) "steps::plan_at") (known2 : Plain.Known 𝓤 H A W 𝓣 0 ps·2 r·2 (claims· .4) (claims· .5) "pass::window_plan")
             (known3 : Plain.Known 𝓤 H A W 𝓣 1 ps·3 r·3 (claims· .6) (claims· .7) "lines::enter") (known4 : Plain.Known 𝓤 H A W 𝓣 1 ps·4 r·4 (claims· .8) (claims· .9) "block::records::load_set") (known5 :
             Plain.Known 𝓤 H A W 𝓣 2 ps·5 r·5 (claims· .10) (claims· .11) "pass::pass") (known6 : Plain.Known 𝓤 H A W 𝓣 1 ps·6 r·6 (claims· .12) (claims· .13) "block::records::store_set") (known7 :
-            Plain.Known 𝓤 H A W 𝓣 3 ps·7 r·7 (claims· .14) (claims· .15) "map::windows::emit_pass") (known8 : Plain.Known 𝓤 H A W 𝓣 1 ps·8 r·8 (claims· .16) (claims· .17) "bits::is_past") where
+            Plain.Known 𝓤 H A W 𝓣 3 ps·7 r·7 (claims· .14) (claims· .15) "block::reading::emit_pass_at") (known8 : Plain.Known 𝓤 H A W 𝓣 1 ps·8 r·8 (claims· .16) (claims· .17) "bits::is_past") where
           pub spec : Statement.Triple 𝓤 (Wp.WpFn 𝓤 H (𝓣 .C) (𝓣 .Λ) (Function.fnOf 5 ps r xs m hs body)) (Function.plainOf 𝓤 H A 5 ps r Pre· Post·)
           spec = Plain.t-fn-plain 𝓤 H A W 𝓣 5 ps r xs m hs body (λ κs qs bs. Φ bs) (λ κs qs bs bd. typed κs qs 𝓤 H A W 𝓣 (known0, known1, known2, known3, known4, known5, known6, known7, known8) bs bd)
               Pre· Post· asked

@@ -2,24 +2,24 @@
 use Rattle.bits.proofs.is_past.Met
 use Rattle.bits.proofs.is_past.Reads
 use Rattle.bits.proofs.is_past.Symbol
+use Rattle.block.proofs.reading.emit_pass_at.Met as Met'
+use Rattle.block.proofs.reading.emit_pass_at.Reads as Reads'
+use Rattle.block.proofs.reading.emit_pass_at.Symbol as Symbol'
 use Rattle.block.proofs.reading.line.Code
 use Rattle.block.proofs.reading.line.Key
 use Rattle.block.proofs.reading.derived.line.Kinds
 use Rattle.block.proofs.reading.line.Proof.derived.Lts
-use Rattle.block.proofs.reading.derived.line.Reads as Reads'
+use Rattle.block.proofs.reading.derived.line.Reads as Reads''
 use Rattle.block.proofs.reading.line.Statement
-use Rattle.block.proofs.records.load_set.Met as Met'
-use Rattle.block.proofs.records.derived.load_set.Reads as Reads''
-use Rattle.block.proofs.records.load_set.Symbol as Symbol'
-use Rattle.block.proofs.records.store_set.Met as Met''
-use Rattle.block.proofs.records.derived.store_set.Reads as Reads'3
-use Rattle.block.proofs.records.store_set.Symbol as Symbol''
-use Rattle.lines.proofs.enter.Met as Met'3
-use Rattle.lines.proofs.enter.Reads as Reads'4
-use Rattle.lines.proofs.enter.Symbol as Symbol'3
-use Rattle.map.proofs.emit_pass.Met as Met'4
-use Rattle.map.proofs.emit_pass.Reads as Reads'5
-use Rattle.map.proofs.emit_pass.Symbol as Symbol'4
+use Rattle.block.proofs.records.load_set.Met as Met''
+use Rattle.block.proofs.records.derived.load_set.Reads as Reads'3
+use Rattle.block.proofs.records.load_set.Symbol as Symbol''
+use Rattle.block.proofs.records.store_set.Met as Met'3
+use Rattle.block.proofs.records.derived.store_set.Reads as Reads'4
+use Rattle.block.proofs.records.store_set.Symbol as Symbol'3
+use Rattle.lines.proofs.enter.Met as Met'4
+use Rattle.lines.proofs.enter.Reads as Reads'5
+use Rattle.lines.proofs.enter.Symbol as Symbol'4
 use Rattle.map.proofs.width.Met as Met'5
 use Rattle.map.proofs.width.Reads as Reads'6
 use Rattle.map.proofs.width.Symbol as Symbol'5
@@ -50,19 +50,19 @@ Start = λ Inv μ. Lts.Start (
   Reads'9.Learnt,
   Reads'8.Asked,
   Reads'8.Learnt,
-  Reads'4.Asked,
-  Reads'4.Learnt,
-  Reads''.Asked,
-  Reads''.Learnt,
-  Reads'7.Asked,
-  Reads'7.Learnt,
-  Reads'3.Asked,
-  Reads'3.Learnt,
   Reads'5.Asked,
   Reads'5.Learnt,
+  Reads'3.Asked,
+  Reads'3.Learnt,
+  Reads'7.Asked,
+  Reads'7.Learnt,
+  Reads'4.Asked,
+  Reads'4.Learnt,
+  Reads'.Asked,
+  Reads'.Learnt,
   Reads.Asked,
   Reads.Learnt,
-) Reads'.Pre Reads'.Post Inv μ
+) Reads''.Pre Reads''.Post Inv μ
 
 abbrev pub After-shared-slice-known : (Inv : InvT-loop) → (μ : MeasureT-loop) → Type 0
 After-shared-slice-known = λ Inv μ. Lts.After-shared-slice-known (
@@ -72,19 +72,19 @@ After-shared-slice-known = λ Inv μ. Lts.After-shared-slice-known (
   Reads'9.Learnt,
   Reads'8.Asked,
   Reads'8.Learnt,
-  Reads'4.Asked,
-  Reads'4.Learnt,
-  Reads''.Asked,
-  Reads''.Learnt,
-  Reads'7.Asked,
-  Reads'7.Learnt,
-  Reads'3.Asked,
-  Reads'3.Learnt,
   Reads'5.Asked,
   Reads'5.Learnt,
+  Reads'3.Asked,
+  Reads'3.Learnt,
+  Reads'7.Asked,
+  Reads'7.Learnt,
+  Reads'4.Asked,
+  Reads'4.Learnt,
+  Reads'.Asked,
+  Reads'.Learnt,
   Reads.Asked,
   Reads.Learnt,
-) Reads'.Pre Reads'.Post Inv μ
+) Reads''.Pre Reads''.Post Inv μ
 
 abbrev pub After-slice-known : (Inv : InvT-loop) → (μ : MeasureT-loop) → Type 0
 After-slice-known = λ Inv μ. Lts.After-slice-known (
@@ -94,19 +94,19 @@ After-slice-known = λ Inv μ. Lts.After-slice-known (
   Reads'9.Learnt,
   Reads'8.Asked,
   Reads'8.Learnt,
-  Reads'4.Asked,
-  Reads'4.Learnt,
-  Reads''.Asked,
-  Reads''.Learnt,
-  Reads'7.Asked,
-  Reads'7.Learnt,
-  Reads'3.Asked,
-  Reads'3.Learnt,
   Reads'5.Asked,
   Reads'5.Learnt,
+  Reads'3.Asked,
+  Reads'3.Learnt,
+  Reads'7.Asked,
+  Reads'7.Learnt,
+  Reads'4.Asked,
+  Reads'4.Learnt,
+  Reads'.Asked,
+  Reads'.Learnt,
   Reads.Asked,
   Reads.Learnt,
-) Reads'.Pre Reads'.Post Inv μ
+) Reads''.Pre Reads''.Post Inv μ
 
 abbrev pub After-slice-known2 : (Inv : InvT-loop) → (μ : MeasureT-loop) → Type 0
 After-slice-known2 = λ Inv μ. Lts.After-slice-known2 (
@@ -116,19 +116,19 @@ After-slice-known2 = λ Inv μ. Lts.After-slice-known2 (
   Reads'9.Learnt,
   Reads'8.Asked,
   Reads'8.Learnt,
-  Reads'4.Asked,
-  Reads'4.Learnt,
-  Reads''.Asked,
-  Reads''.Learnt,
-  Reads'7.Asked,
-  Reads'7.Learnt,
-  Reads'3.Asked,
-  Reads'3.Learnt,
   Reads'5.Asked,
   Reads'5.Learnt,
+  Reads'3.Asked,
+  Reads'3.Learnt,
+  Reads'7.Asked,
+  Reads'7.Learnt,
+  Reads'4.Asked,
+  Reads'4.Learnt,
+  Reads'.Asked,
+  Reads'.Learnt,
   Reads.Asked,
   Reads.Learnt,
-) Reads'.Pre Reads'.Post Inv μ
+) Reads''.Pre Reads''.Post Inv μ
 
 abbrev pub After-width : (Inv : InvT-loop) → (μ : MeasureT-loop) → Type 0
 After-width = λ Inv μ. Lts.After-width (
@@ -138,19 +138,19 @@ After-width = λ Inv μ. Lts.After-width (
   Reads'9.Learnt,
   Reads'8.Asked,
   Reads'8.Learnt,
-  Reads'4.Asked,
-  Reads'4.Learnt,
-  Reads''.Asked,
-  Reads''.Learnt,
-  Reads'7.Asked,
-  Reads'7.Learnt,
-  Reads'3.Asked,
-  Reads'3.Learnt,
   Reads'5.Asked,
   Reads'5.Learnt,
+  Reads'3.Asked,
+  Reads'3.Learnt,
+  Reads'7.Asked,
+  Reads'7.Learnt,
+  Reads'4.Asked,
+  Reads'4.Learnt,
+  Reads'.Asked,
+  Reads'.Learnt,
   Reads.Asked,
   Reads.Learnt,
-) Reads'.Pre Reads'.Post Inv μ
+) Reads''.Pre Reads''.Post Inv μ
 
 abbrev pub At-loop : (Inv : InvT-loop) → (μ : MeasureT-loop) → Type 0
 At-loop = λ Inv μ. Lts.At-loop (
@@ -160,19 +160,19 @@ At-loop = λ Inv μ. Lts.At-loop (
   Reads'9.Learnt,
   Reads'8.Asked,
   Reads'8.Learnt,
-  Reads'4.Asked,
-  Reads'4.Learnt,
-  Reads''.Asked,
-  Reads''.Learnt,
-  Reads'7.Asked,
-  Reads'7.Learnt,
-  Reads'3.Asked,
-  Reads'3.Learnt,
   Reads'5.Asked,
   Reads'5.Learnt,
+  Reads'3.Asked,
+  Reads'3.Learnt,
+  Reads'7.Asked,
+  Reads'7.Learnt,
+  Reads'4.Asked,
+  Reads'4.Learnt,
+  Reads'.Asked,
+  Reads'.Learnt,
   Reads.Asked,
   Reads.Learnt,
-) Reads'.Pre Reads'.Post Inv μ
+) Reads''.Pre Reads''.Post Inv μ
 
 abbrev pub In-loop : (Inv : InvT-loop) → (μ : MeasureT-loop) → Type 0
 In-loop = λ Inv μ. Lts.In-loop (
@@ -182,19 +182,19 @@ In-loop = λ Inv μ. Lts.In-loop (
   Reads'9.Learnt,
   Reads'8.Asked,
   Reads'8.Learnt,
-  Reads'4.Asked,
-  Reads'4.Learnt,
-  Reads''.Asked,
-  Reads''.Learnt,
-  Reads'7.Asked,
-  Reads'7.Learnt,
-  Reads'3.Asked,
-  Reads'3.Learnt,
   Reads'5.Asked,
   Reads'5.Learnt,
+  Reads'3.Asked,
+  Reads'3.Learnt,
+  Reads'7.Asked,
+  Reads'7.Learnt,
+  Reads'4.Asked,
+  Reads'4.Learnt,
+  Reads'.Asked,
+  Reads'.Learnt,
   Reads.Asked,
   Reads.Learnt,
-) Reads'.Pre Reads'.Post Inv μ
+) Reads''.Pre Reads''.Post Inv μ
 
 abbrev pub After-loop : (Inv : InvT-loop) → (μ : MeasureT-loop) → Type 0
 After-loop = λ Inv μ. Lts.After-loop (
@@ -204,19 +204,19 @@ After-loop = λ Inv μ. Lts.After-loop (
   Reads'9.Learnt,
   Reads'8.Asked,
   Reads'8.Learnt,
-  Reads'4.Asked,
-  Reads'4.Learnt,
-  Reads''.Asked,
-  Reads''.Learnt,
-  Reads'7.Asked,
-  Reads'7.Learnt,
-  Reads'3.Asked,
-  Reads'3.Learnt,
   Reads'5.Asked,
   Reads'5.Learnt,
+  Reads'3.Asked,
+  Reads'3.Learnt,
+  Reads'7.Asked,
+  Reads'7.Learnt,
+  Reads'4.Asked,
+  Reads'4.Learnt,
+  Reads'.Asked,
+  Reads'.Learnt,
   Reads.Asked,
   Reads.Learnt,
-) Reads'.Pre Reads'.Post Inv μ
+) Reads''.Pre Reads''.Post Inv μ
 
 abbrev pub After-plan-at : (Inv : InvT-loop) → (μ : MeasureT-loop) → Type 0
 After-plan-at = λ Inv μ. Lts.After-plan-at (
@@ -226,19 +226,19 @@ After-plan-at = λ Inv μ. Lts.After-plan-at (
   Reads'9.Learnt,
   Reads'8.Asked,
   Reads'8.Learnt,
-  Reads'4.Asked,
-  Reads'4.Learnt,
-  Reads''.Asked,
-  Reads''.Learnt,
-  Reads'7.Asked,
-  Reads'7.Learnt,
-  Reads'3.Asked,
-  Reads'3.Learnt,
   Reads'5.Asked,
   Reads'5.Learnt,
+  Reads'3.Asked,
+  Reads'3.Learnt,
+  Reads'7.Asked,
+  Reads'7.Learnt,
+  Reads'4.Asked,
+  Reads'4.Learnt,
+  Reads'.Asked,
+  Reads'.Learnt,
   Reads.Asked,
   Reads.Learnt,
-) Reads'.Pre Reads'.Post Inv μ
+) Reads''.Pre Reads''.Post Inv μ
 
 abbrev pub After-window-plan : (Inv : InvT-loop) → (μ : MeasureT-loop) → Type 0
 After-window-plan = λ Inv μ. Lts.After-window-plan (
@@ -248,19 +248,19 @@ After-window-plan = λ Inv μ. Lts.After-window-plan (
   Reads'9.Learnt,
   Reads'8.Asked,
   Reads'8.Learnt,
-  Reads'4.Asked,
-  Reads'4.Learnt,
-  Reads''.Asked,
-  Reads''.Learnt,
-  Reads'7.Asked,
-  Reads'7.Learnt,
-  Reads'3.Asked,
-  Reads'3.Learnt,
   Reads'5.Asked,
   Reads'5.Learnt,
+  Reads'3.Asked,
+  Reads'3.Learnt,
+  Reads'7.Asked,
+  Reads'7.Learnt,
+  Reads'4.Asked,
+  Reads'4.Learnt,
+  Reads'.Asked,
+  Reads'.Learnt,
   Reads.Asked,
   Reads.Learnt,
-) Reads'.Pre Reads'.Post Inv μ
+) Reads''.Pre Reads''.Post Inv μ
 
 abbrev pub After-enter-arg : (Inv : InvT-loop) → (μ : MeasureT-loop) → Type 0
 After-enter-arg = λ Inv μ. Lts.After-enter-arg (
@@ -270,19 +270,19 @@ After-enter-arg = λ Inv μ. Lts.After-enter-arg (
   Reads'9.Learnt,
   Reads'8.Asked,
   Reads'8.Learnt,
-  Reads'4.Asked,
-  Reads'4.Learnt,
-  Reads''.Asked,
-  Reads''.Learnt,
-  Reads'7.Asked,
-  Reads'7.Learnt,
-  Reads'3.Asked,
-  Reads'3.Learnt,
   Reads'5.Asked,
   Reads'5.Learnt,
+  Reads'3.Asked,
+  Reads'3.Learnt,
+  Reads'7.Asked,
+  Reads'7.Learnt,
+  Reads'4.Asked,
+  Reads'4.Learnt,
+  Reads'.Asked,
+  Reads'.Learnt,
   Reads.Asked,
   Reads.Learnt,
-) Reads'.Pre Reads'.Post Inv μ
+) Reads''.Pre Reads''.Post Inv μ
 
 abbrev pub After-enter : (Inv : InvT-loop) → (μ : MeasureT-loop) → Type 0
 After-enter = λ Inv μ. Lts.After-enter (
@@ -292,19 +292,19 @@ After-enter = λ Inv μ. Lts.After-enter (
   Reads'9.Learnt,
   Reads'8.Asked,
   Reads'8.Learnt,
-  Reads'4.Asked,
-  Reads'4.Learnt,
-  Reads''.Asked,
-  Reads''.Learnt,
-  Reads'7.Asked,
-  Reads'7.Learnt,
-  Reads'3.Asked,
-  Reads'3.Learnt,
   Reads'5.Asked,
   Reads'5.Learnt,
+  Reads'3.Asked,
+  Reads'3.Learnt,
+  Reads'7.Asked,
+  Reads'7.Learnt,
+  Reads'4.Asked,
+  Reads'4.Learnt,
+  Reads'.Asked,
+  Reads'.Learnt,
   Reads.Asked,
   Reads.Learnt,
-) Reads'.Pre Reads'.Post Inv μ
+) Reads''.Pre Reads''.Post Inv μ
 
 abbrev pub After-lines : (Inv : InvT-loop) → (μ : MeasureT-loop) → Type 0
 After-lines = λ Inv μ. Lts.After-lines (
@@ -314,19 +314,19 @@ After-lines = λ Inv μ. Lts.After-lines (
   Reads'9.Learnt,
   Reads'8.Asked,
   Reads'8.Learnt,
-  Reads'4.Asked,
-  Reads'4.Learnt,
-  Reads''.Asked,
-  Reads''.Learnt,
-  Reads'7.Asked,
-  Reads'7.Learnt,
-  Reads'3.Asked,
-  Reads'3.Learnt,
   Reads'5.Asked,
   Reads'5.Learnt,
+  Reads'3.Asked,
+  Reads'3.Learnt,
+  Reads'7.Asked,
+  Reads'7.Learnt,
+  Reads'4.Asked,
+  Reads'4.Learnt,
+  Reads'.Asked,
+  Reads'.Learnt,
   Reads.Asked,
   Reads.Learnt,
-) Reads'.Pre Reads'.Post Inv μ
+) Reads''.Pre Reads''.Post Inv μ
 
 abbrev pub After-slice-known3 : (Inv : InvT-loop) → (μ : MeasureT-loop) → Type 0
 After-slice-known3 = λ Inv μ. Lts.After-slice-known3 (
@@ -336,19 +336,19 @@ After-slice-known3 = λ Inv μ. Lts.After-slice-known3 (
   Reads'9.Learnt,
   Reads'8.Asked,
   Reads'8.Learnt,
-  Reads'4.Asked,
-  Reads'4.Learnt,
-  Reads''.Asked,
-  Reads''.Learnt,
-  Reads'7.Asked,
-  Reads'7.Learnt,
-  Reads'3.Asked,
-  Reads'3.Learnt,
   Reads'5.Asked,
   Reads'5.Learnt,
+  Reads'3.Asked,
+  Reads'3.Learnt,
+  Reads'7.Asked,
+  Reads'7.Learnt,
+  Reads'4.Asked,
+  Reads'4.Learnt,
+  Reads'.Asked,
+  Reads'.Learnt,
   Reads.Asked,
   Reads.Learnt,
-) Reads'.Pre Reads'.Post Inv μ
+) Reads''.Pre Reads''.Post Inv μ
 
 abbrev pub After-load-set-arg : (Inv : InvT-loop) → (μ : MeasureT-loop) → Type 0
 After-load-set-arg = λ Inv μ. Lts.After-load-set-arg (
@@ -358,19 +358,19 @@ After-load-set-arg = λ Inv μ. Lts.After-load-set-arg (
   Reads'9.Learnt,
   Reads'8.Asked,
   Reads'8.Learnt,
-  Reads'4.Asked,
-  Reads'4.Learnt,
-  Reads''.Asked,
-  Reads''.Learnt,
-  Reads'7.Asked,
-  Reads'7.Learnt,
-  Reads'3.Asked,
-  Reads'3.Learnt,
   Reads'5.Asked,
   Reads'5.Learnt,
+  Reads'3.Asked,
+  Reads'3.Learnt,
+  Reads'7.Asked,
+  Reads'7.Learnt,
+  Reads'4.Asked,
+  Reads'4.Learnt,
+  Reads'.Asked,
+  Reads'.Learnt,
   Reads.Asked,
   Reads.Learnt,
-) Reads'.Pre Reads'.Post Inv μ
+) Reads''.Pre Reads''.Post Inv μ
 
 abbrev pub After-load-set : (Inv : InvT-loop) → (μ : MeasureT-loop) → Type 0
 After-load-set = λ Inv μ. Lts.After-load-set (
@@ -380,19 +380,19 @@ After-load-set = λ Inv μ. Lts.After-load-set (
   Reads'9.Learnt,
   Reads'8.Asked,
   Reads'8.Learnt,
-  Reads'4.Asked,
-  Reads'4.Learnt,
-  Reads''.Asked,
-  Reads''.Learnt,
-  Reads'7.Asked,
-  Reads'7.Learnt,
-  Reads'3.Asked,
-  Reads'3.Learnt,
   Reads'5.Asked,
   Reads'5.Learnt,
+  Reads'3.Asked,
+  Reads'3.Learnt,
+  Reads'7.Asked,
+  Reads'7.Learnt,
+  Reads'4.Asked,
+  Reads'4.Learnt,
+  Reads'.Asked,
+  Reads'.Learnt,
   Reads.Asked,
   Reads.Learnt,
-) Reads'.Pre Reads'.Post Inv μ
+) Reads''.Pre Reads''.Post Inv μ
 
 abbrev pub After-rs : (Inv : InvT-loop) → (μ : MeasureT-loop) → Type 0
 After-rs = λ Inv μ. Lts.After-rs (
@@ -402,19 +402,19 @@ After-rs = λ Inv μ. Lts.After-rs (
   Reads'9.Learnt,
   Reads'8.Asked,
   Reads'8.Learnt,
-  Reads'4.Asked,
-  Reads'4.Learnt,
-  Reads''.Asked,
-  Reads''.Learnt,
-  Reads'7.Asked,
-  Reads'7.Learnt,
-  Reads'3.Asked,
-  Reads'3.Learnt,
   Reads'5.Asked,
   Reads'5.Learnt,
+  Reads'3.Asked,
+  Reads'3.Learnt,
+  Reads'7.Asked,
+  Reads'7.Learnt,
+  Reads'4.Asked,
+  Reads'4.Learnt,
+  Reads'.Asked,
+  Reads'.Learnt,
   Reads.Asked,
   Reads.Learnt,
-) Reads'.Pre Reads'.Post Inv μ
+) Reads''.Pre Reads''.Post Inv μ
 
 abbrev pub After-pass-arg : (Inv : InvT-loop) → (μ : MeasureT-loop) → Type 0
 After-pass-arg = λ Inv μ. Lts.After-pass-arg (
@@ -424,19 +424,19 @@ After-pass-arg = λ Inv μ. Lts.After-pass-arg (
   Reads'9.Learnt,
   Reads'8.Asked,
   Reads'8.Learnt,
-  Reads'4.Asked,
-  Reads'4.Learnt,
-  Reads''.Asked,
-  Reads''.Learnt,
-  Reads'7.Asked,
-  Reads'7.Learnt,
-  Reads'3.Asked,
-  Reads'3.Learnt,
   Reads'5.Asked,
   Reads'5.Learnt,
+  Reads'3.Asked,
+  Reads'3.Learnt,
+  Reads'7.Asked,
+  Reads'7.Learnt,
+  Reads'4.Asked,
+  Reads'4.Learnt,
+  Reads'.Asked,
+  Reads'.Learnt,
   Reads.Asked,
   Reads.Learnt,
-) Reads'.Pre Reads'.Post Inv μ
+) Reads''.Pre Reads''.Post Inv μ
 
 abbrev pub After-pass : (Inv : InvT-loop) → (μ : MeasureT-loop) → Type 0
 After-pass = λ Inv μ. Lts.After-pass (
@@ -446,19 +446,19 @@ After-pass = λ Inv μ. Lts.After-pass (
   Reads'9.Learnt,
   Reads'8.Asked,
   Reads'8.Learnt,
-  Reads'4.Asked,
-  Reads'4.Learnt,
-  Reads''.Asked,
-  Reads''.Learnt,
-  Reads'7.Asked,
-  Reads'7.Learnt,
-  Reads'3.Asked,
-  Reads'3.Learnt,
   Reads'5.Asked,
   Reads'5.Learnt,
+  Reads'3.Asked,
+  Reads'3.Learnt,
+  Reads'7.Asked,
+  Reads'7.Learnt,
+  Reads'4.Asked,
+  Reads'4.Learnt,
+  Reads'.Asked,
+  Reads'.Learnt,
   Reads.Asked,
   Reads.Learnt,
-) Reads'.Pre Reads'.Post Inv μ
+) Reads''.Pre Reads''.Post Inv μ
 
 abbrev pub After-lines2 : (Inv : InvT-loop) → (μ : MeasureT-loop) → Type 0
 After-lines2 = λ Inv μ. Lts.After-lines2 (
@@ -468,19 +468,19 @@ After-lines2 = λ Inv μ. Lts.After-lines2 (
   Reads'9.Learnt,
   Reads'8.Asked,
   Reads'8.Learnt,
-  Reads'4.Asked,
-  Reads'4.Learnt,
-  Reads''.Asked,
-  Reads''.Learnt,
-  Reads'7.Asked,
-  Reads'7.Learnt,
-  Reads'3.Asked,
-  Reads'3.Learnt,
   Reads'5.Asked,
   Reads'5.Learnt,
+  Reads'3.Asked,
+  Reads'3.Learnt,
+  Reads'7.Asked,
+  Reads'7.Learnt,
+  Reads'4.Asked,
+  Reads'4.Learnt,
+  Reads'.Asked,
+  Reads'.Learnt,
   Reads.Asked,
   Reads.Learnt,
-) Reads'.Pre Reads'.Post Inv μ
+) Reads''.Pre Reads''.Post Inv μ
 
 abbrev pub After-slice-known4 : (Inv : InvT-loop) → (μ : MeasureT-loop) → Type 0
 After-slice-known4 = λ Inv μ. Lts.After-slice-known4 (
@@ -490,19 +490,19 @@ After-slice-known4 = λ Inv μ. Lts.After-slice-known4 (
   Reads'9.Learnt,
   Reads'8.Asked,
   Reads'8.Learnt,
-  Reads'4.Asked,
-  Reads'4.Learnt,
-  Reads''.Asked,
-  Reads''.Learnt,
-  Reads'7.Asked,
-  Reads'7.Learnt,
-  Reads'3.Asked,
-  Reads'3.Learnt,
   Reads'5.Asked,
   Reads'5.Learnt,
+  Reads'3.Asked,
+  Reads'3.Learnt,
+  Reads'7.Asked,
+  Reads'7.Learnt,
+  Reads'4.Asked,
+  Reads'4.Learnt,
+  Reads'.Asked,
+  Reads'.Learnt,
   Reads.Asked,
   Reads.Learnt,
-) Reads'.Pre Reads'.Post Inv μ
+) Reads''.Pre Reads''.Post Inv μ
 
 abbrev pub Then1 : (Inv : InvT-loop) → (μ : MeasureT-loop) → Type 0
 Then1 = λ Inv μ. Lts.Then1 (
@@ -512,19 +512,19 @@ Then1 = λ Inv μ. Lts.Then1 (
   Reads'9.Learnt,
   Reads'8.Asked,
   Reads'8.Learnt,
-  Reads'4.Asked,
-  Reads'4.Learnt,
-  Reads''.Asked,
-  Reads''.Learnt,
-  Reads'7.Asked,
-  Reads'7.Learnt,
-  Reads'3.Asked,
-  Reads'3.Learnt,
   Reads'5.Asked,
   Reads'5.Learnt,
+  Reads'3.Asked,
+  Reads'3.Learnt,
+  Reads'7.Asked,
+  Reads'7.Learnt,
+  Reads'4.Asked,
+  Reads'4.Learnt,
+  Reads'.Asked,
+  Reads'.Learnt,
   Reads.Asked,
   Reads.Learnt,
-) Reads'.Pre Reads'.Post Inv μ
+) Reads''.Pre Reads''.Post Inv μ
 
 abbrev pub Else1 : (Inv : InvT-loop) → (μ : MeasureT-loop) → Type 0
 Else1 = λ Inv μ. Lts.Else1 (
@@ -534,19 +534,19 @@ Else1 = λ Inv μ. Lts.Else1 (
   Reads'9.Learnt,
   Reads'8.Asked,
   Reads'8.Learnt,
-  Reads'4.Asked,
-  Reads'4.Learnt,
-  Reads''.Asked,
-  Reads''.Learnt,
-  Reads'7.Asked,
-  Reads'7.Learnt,
-  Reads'3.Asked,
-  Reads'3.Learnt,
   Reads'5.Asked,
   Reads'5.Learnt,
+  Reads'3.Asked,
+  Reads'3.Learnt,
+  Reads'7.Asked,
+  Reads'7.Learnt,
+  Reads'4.Asked,
+  Reads'4.Learnt,
+  Reads'.Asked,
+  Reads'.Learnt,
   Reads.Asked,
   Reads.Learnt,
-) Reads'.Pre Reads'.Post Inv μ
+) Reads''.Pre Reads''.Post Inv μ
 
 abbrev pub After-new : (Inv : InvT-loop) → (μ : MeasureT-loop) → Type 0
 After-new = λ Inv μ. Lts.After-new (
@@ -556,19 +556,19 @@ After-new = λ Inv μ. Lts.After-new (
   Reads'9.Learnt,
   Reads'8.Asked,
   Reads'8.Learnt,
-  Reads'4.Asked,
-  Reads'4.Learnt,
-  Reads''.Asked,
-  Reads''.Learnt,
-  Reads'7.Asked,
-  Reads'7.Learnt,
-  Reads'3.Asked,
-  Reads'3.Learnt,
   Reads'5.Asked,
   Reads'5.Learnt,
+  Reads'3.Asked,
+  Reads'3.Learnt,
+  Reads'7.Asked,
+  Reads'7.Learnt,
+  Reads'4.Asked,
+  Reads'4.Learnt,
+  Reads'.Asked,
+  Reads'.Learnt,
   Reads.Asked,
   Reads.Learnt,
-) Reads'.Pre Reads'.Post Inv μ
+) Reads''.Pre Reads''.Post Inv μ
 
 abbrev pub After-store-set-arg : (Inv : InvT-loop) → (μ : MeasureT-loop) → Type 0
 After-store-set-arg = λ Inv μ. Lts.After-store-set-arg (
@@ -578,19 +578,19 @@ After-store-set-arg = λ Inv μ. Lts.After-store-set-arg (
   Reads'9.Learnt,
   Reads'8.Asked,
   Reads'8.Learnt,
-  Reads'4.Asked,
-  Reads'4.Learnt,
-  Reads''.Asked,
-  Reads''.Learnt,
-  Reads'7.Asked,
-  Reads'7.Learnt,
-  Reads'3.Asked,
-  Reads'3.Learnt,
   Reads'5.Asked,
   Reads'5.Learnt,
+  Reads'3.Asked,
+  Reads'3.Learnt,
+  Reads'7.Asked,
+  Reads'7.Learnt,
+  Reads'4.Asked,
+  Reads'4.Learnt,
+  Reads'.Asked,
+  Reads'.Learnt,
   Reads.Asked,
   Reads.Learnt,
-) Reads'.Pre Reads'.Post Inv μ
+) Reads''.Pre Reads''.Post Inv μ
 
 abbrev pub After-store-set : (Inv : InvT-loop) → (μ : MeasureT-loop) → Type 0
 After-store-set = λ Inv μ. Lts.After-store-set (
@@ -600,19 +600,19 @@ After-store-set = λ Inv μ. Lts.After-store-set (
   Reads'9.Learnt,
   Reads'8.Asked,
   Reads'8.Learnt,
-  Reads'4.Asked,
-  Reads'4.Learnt,
-  Reads''.Asked,
-  Reads''.Learnt,
-  Reads'7.Asked,
-  Reads'7.Learnt,
-  Reads'3.Asked,
-  Reads'3.Learnt,
   Reads'5.Asked,
   Reads'5.Learnt,
+  Reads'3.Asked,
+  Reads'3.Learnt,
+  Reads'7.Asked,
+  Reads'7.Learnt,
+  Reads'4.Asked,
+  Reads'4.Learnt,
+  Reads'.Asked,
+  Reads'.Learnt,
   Reads.Asked,
   Reads.Learnt,
-) Reads'.Pre Reads'.Post Inv μ
+) Reads''.Pre Reads''.Post Inv μ
 
 abbrev pub After-rs2 : (Inv : InvT-loop) → (μ : MeasureT-loop) → Type 0
 After-rs2 = λ Inv μ. Lts.After-rs2 (
@@ -622,19 +622,19 @@ After-rs2 = λ Inv μ. Lts.After-rs2 (
   Reads'9.Learnt,
   Reads'8.Asked,
   Reads'8.Learnt,
-  Reads'4.Asked,
-  Reads'4.Learnt,
-  Reads''.Asked,
-  Reads''.Learnt,
-  Reads'7.Asked,
-  Reads'7.Learnt,
-  Reads'3.Asked,
-  Reads'3.Learnt,
   Reads'5.Asked,
   Reads'5.Learnt,
+  Reads'3.Asked,
+  Reads'3.Learnt,
+  Reads'7.Asked,
+  Reads'7.Learnt,
+  Reads'4.Asked,
+  Reads'4.Learnt,
+  Reads'.Asked,
+  Reads'.Learnt,
   Reads.Asked,
   Reads.Learnt,
-) Reads'.Pre Reads'.Post Inv μ
+) Reads''.Pre Reads''.Post Inv μ
 
 abbrev pub After-place : (Inv : InvT-loop) → (μ : MeasureT-loop) → Type 0
 After-place = λ Inv μ. Lts.After-place (
@@ -644,85 +644,85 @@ After-place = λ Inv μ. Lts.After-place (
   Reads'9.Learnt,
   Reads'8.Asked,
   Reads'8.Learnt,
-  Reads'4.Asked,
-  Reads'4.Learnt,
-  Reads''.Asked,
-  Reads''.Learnt,
-  Reads'7.Asked,
-  Reads'7.Learnt,
-  Reads'3.Asked,
-  Reads'3.Learnt,
   Reads'5.Asked,
   Reads'5.Learnt,
+  Reads'3.Asked,
+  Reads'3.Learnt,
+  Reads'7.Asked,
+  Reads'7.Learnt,
+  Reads'4.Asked,
+  Reads'4.Learnt,
+  Reads'.Asked,
+  Reads'.Learnt,
   Reads.Asked,
   Reads.Learnt,
-) Reads'.Pre Reads'.Post Inv μ
+) Reads''.Pre Reads''.Post Inv μ
 
-abbrev pub After-emit-pass-arg : (Inv : InvT-loop) → (μ : MeasureT-loop) → Type 0
-After-emit-pass-arg = λ Inv μ. Lts.After-emit-pass-arg (
+abbrev pub After-emit-pass-at-arg : (Inv : InvT-loop) → (μ : MeasureT-loop) → Type 0
+After-emit-pass-at-arg = λ Inv μ. Lts.After-emit-pass-at-arg (
   Reads'6.Asked,
   Reads'6.Learnt,
   Reads'9.Asked,
   Reads'9.Learnt,
   Reads'8.Asked,
   Reads'8.Learnt,
-  Reads'4.Asked,
-  Reads'4.Learnt,
-  Reads''.Asked,
-  Reads''.Learnt,
-  Reads'7.Asked,
-  Reads'7.Learnt,
-  Reads'3.Asked,
-  Reads'3.Learnt,
   Reads'5.Asked,
   Reads'5.Learnt,
+  Reads'3.Asked,
+  Reads'3.Learnt,
+  Reads'7.Asked,
+  Reads'7.Learnt,
+  Reads'4.Asked,
+  Reads'4.Learnt,
+  Reads'.Asked,
+  Reads'.Learnt,
   Reads.Asked,
   Reads.Learnt,
-) Reads'.Pre Reads'.Post Inv μ
+) Reads''.Pre Reads''.Post Inv μ
 
-abbrev pub After-emit-pass-arg2 : (Inv : InvT-loop) → (μ : MeasureT-loop) → Type 0
-After-emit-pass-arg2 = λ Inv μ. Lts.After-emit-pass-arg2 (
+abbrev pub After-emit-pass-at-arg2 : (Inv : InvT-loop) → (μ : MeasureT-loop) → Type 0
+After-emit-pass-at-arg2 = λ Inv μ. Lts.After-emit-pass-at-arg2 (
   Reads'6.Asked,
   Reads'6.Learnt,
   Reads'9.Asked,
   Reads'9.Learnt,
   Reads'8.Asked,
   Reads'8.Learnt,
-  Reads'4.Asked,
-  Reads'4.Learnt,
-  Reads''.Asked,
-  Reads''.Learnt,
-  Reads'7.Asked,
-  Reads'7.Learnt,
-  Reads'3.Asked,
-  Reads'3.Learnt,
   Reads'5.Asked,
   Reads'5.Learnt,
+  Reads'3.Asked,
+  Reads'3.Learnt,
+  Reads'7.Asked,
+  Reads'7.Learnt,
+  Reads'4.Asked,
+  Reads'4.Learnt,
+  Reads'.Asked,
+  Reads'.Learnt,
   Reads.Asked,
   Reads.Learnt,
-) Reads'.Pre Reads'.Post Inv μ
+) Reads''.Pre Reads''.Post Inv μ
 
-abbrev pub After-emit-pass : (Inv : InvT-loop) → (μ : MeasureT-loop) → Type 0
-After-emit-pass = λ Inv μ. Lts.After-emit-pass (
+abbrev pub After-emit-pass-at : (Inv : InvT-loop) → (μ : MeasureT-loop) → Type 0
+After-emit-pass-at = λ Inv μ. Lts.After-emit-pass-at (
   Reads'6.Asked,
   Reads'6.Learnt,
   Reads'9.Asked,
   Reads'9.Learnt,
   Reads'8.Asked,
   Reads'8.Learnt,
-  Reads'4.Asked,
-  Reads'4.Learnt,
-  Reads''.Asked,
-  Reads''.Learnt,
-  Reads'7.Asked,
-  Reads'7.Learnt,
-  Reads'3.Asked,
-  Reads'3.Learnt,
   Reads'5.Asked,
   Reads'5.Learnt,
+  Reads'3.Asked,
+  Reads'3.Learnt,
+  Reads'7.Asked,
+  Reads'7.Learnt,
+  Reads'4.Asked,
+  Reads'4.Learnt,
+  Reads'.Asked,
+  Reads'.Learnt,
   Reads.Asked,
   Reads.Learnt,
-) Reads'.Pre Reads'.Post Inv μ
+) Reads''.Pre Reads''.Post Inv μ
 
 abbrev pub After-image : (Inv : InvT-loop) → (μ : MeasureT-loop) → Type 0
 After-image = λ Inv μ. Lts.After-image (
@@ -732,19 +732,19 @@ After-image = λ Inv μ. Lts.After-image (
   Reads'9.Learnt,
   Reads'8.Asked,
   Reads'8.Learnt,
-  Reads'4.Asked,
-  Reads'4.Learnt,
-  Reads''.Asked,
-  Reads''.Learnt,
-  Reads'7.Asked,
-  Reads'7.Learnt,
-  Reads'3.Asked,
-  Reads'3.Learnt,
   Reads'5.Asked,
   Reads'5.Learnt,
+  Reads'3.Asked,
+  Reads'3.Learnt,
+  Reads'7.Asked,
+  Reads'7.Learnt,
+  Reads'4.Asked,
+  Reads'4.Learnt,
+  Reads'.Asked,
+  Reads'.Learnt,
   Reads.Asked,
   Reads.Learnt,
-) Reads'.Pre Reads'.Post Inv μ
+) Reads''.Pre Reads''.Post Inv μ
 
 abbrev pub After-slice-known5 : (Inv : InvT-loop) → (μ : MeasureT-loop) → Type 0
 After-slice-known5 = λ Inv μ. Lts.After-slice-known5 (
@@ -754,19 +754,19 @@ After-slice-known5 = λ Inv μ. Lts.After-slice-known5 (
   Reads'9.Learnt,
   Reads'8.Asked,
   Reads'8.Learnt,
-  Reads'4.Asked,
-  Reads'4.Learnt,
-  Reads''.Asked,
-  Reads''.Learnt,
-  Reads'7.Asked,
-  Reads'7.Learnt,
-  Reads'3.Asked,
-  Reads'3.Learnt,
   Reads'5.Asked,
   Reads'5.Learnt,
+  Reads'3.Asked,
+  Reads'3.Learnt,
+  Reads'7.Asked,
+  Reads'7.Learnt,
+  Reads'4.Asked,
+  Reads'4.Learnt,
+  Reads'.Asked,
+  Reads'.Learnt,
   Reads.Asked,
   Reads.Learnt,
-) Reads'.Pre Reads'.Post Inv μ
+) Reads''.Pre Reads''.Post Inv μ
 
 abbrev pub After-at : (Inv : InvT-loop) → (μ : MeasureT-loop) → Type 0
 After-at = λ Inv μ. Lts.After-at (
@@ -776,19 +776,19 @@ After-at = λ Inv μ. Lts.After-at (
   Reads'9.Learnt,
   Reads'8.Asked,
   Reads'8.Learnt,
-  Reads'4.Asked,
-  Reads'4.Learnt,
-  Reads''.Asked,
-  Reads''.Learnt,
-  Reads'7.Asked,
-  Reads'7.Learnt,
-  Reads'3.Asked,
-  Reads'3.Learnt,
   Reads'5.Asked,
   Reads'5.Learnt,
+  Reads'3.Asked,
+  Reads'3.Learnt,
+  Reads'7.Asked,
+  Reads'7.Learnt,
+  Reads'4.Asked,
+  Reads'4.Learnt,
+  Reads'.Asked,
+  Reads'.Learnt,
   Reads.Asked,
   Reads.Learnt,
-) Reads'.Pre Reads'.Post Inv μ
+) Reads''.Pre Reads''.Post Inv μ
 
 abbrev pub After-is-past : (Inv : InvT-loop) → (μ : MeasureT-loop) → Type 0
 After-is-past = λ Inv μ. Lts.After-is-past (
@@ -798,19 +798,19 @@ After-is-past = λ Inv μ. Lts.After-is-past (
   Reads'9.Learnt,
   Reads'8.Asked,
   Reads'8.Learnt,
-  Reads'4.Asked,
-  Reads'4.Learnt,
-  Reads''.Asked,
-  Reads''.Learnt,
-  Reads'7.Asked,
-  Reads'7.Learnt,
-  Reads'3.Asked,
-  Reads'3.Learnt,
   Reads'5.Asked,
   Reads'5.Learnt,
+  Reads'3.Asked,
+  Reads'3.Learnt,
+  Reads'7.Asked,
+  Reads'7.Learnt,
+  Reads'4.Asked,
+  Reads'4.Learnt,
+  Reads'.Asked,
+  Reads'.Learnt,
   Reads.Asked,
   Reads.Learnt,
-) Reads'.Pre Reads'.Post Inv μ
+) Reads''.Pre Reads''.Post Inv μ
 
 abbrev pub Then2 : (Inv : InvT-loop) → (μ : MeasureT-loop) → Type 0
 Then2 = λ Inv μ. Lts.Then2 (
@@ -820,19 +820,19 @@ Then2 = λ Inv μ. Lts.Then2 (
   Reads'9.Learnt,
   Reads'8.Asked,
   Reads'8.Learnt,
-  Reads'4.Asked,
-  Reads'4.Learnt,
-  Reads''.Asked,
-  Reads''.Learnt,
-  Reads'7.Asked,
-  Reads'7.Learnt,
-  Reads'3.Asked,
-  Reads'3.Learnt,
   Reads'5.Asked,
   Reads'5.Learnt,
+  Reads'3.Asked,
+  Reads'3.Learnt,
+  Reads'7.Asked,
+  Reads'7.Learnt,
+  Reads'4.Asked,
+  Reads'4.Learnt,
+  Reads'.Asked,
+  Reads'.Learnt,
   Reads.Asked,
   Reads.Learnt,
-) Reads'.Pre Reads'.Post Inv μ
+) Reads''.Pre Reads''.Post Inv μ
 
 abbrev pub Else2 : (Inv : InvT-loop) → (μ : MeasureT-loop) → Type 0
 Else2 = λ Inv μ. Lts.Else2 (
@@ -842,19 +842,19 @@ Else2 = λ Inv μ. Lts.Else2 (
   Reads'9.Learnt,
   Reads'8.Asked,
   Reads'8.Learnt,
-  Reads'4.Asked,
-  Reads'4.Learnt,
-  Reads''.Asked,
-  Reads''.Learnt,
-  Reads'7.Asked,
-  Reads'7.Learnt,
-  Reads'3.Asked,
-  Reads'3.Learnt,
   Reads'5.Asked,
   Reads'5.Learnt,
+  Reads'3.Asked,
+  Reads'3.Learnt,
+  Reads'7.Asked,
+  Reads'7.Learnt,
+  Reads'4.Asked,
+  Reads'4.Learnt,
+  Reads'.Asked,
+  Reads'.Learnt,
   Reads.Asked,
   Reads.Learnt,
-) Reads'.Pre Reads'.Post Inv μ
+) Reads''.Pre Reads''.Post Inv μ
 
 abbrev pub Need-width-requires : (Inv : InvT-loop) → (μ : MeasureT-loop) → Type 0
 Need-width-requires = λ Inv μ. Lts.Need-width-requires (
@@ -864,19 +864,19 @@ Need-width-requires = λ Inv μ. Lts.Need-width-requires (
   Reads'9.Learnt,
   Reads'8.Asked,
   Reads'8.Learnt,
-  Reads'4.Asked,
-  Reads'4.Learnt,
-  Reads''.Asked,
-  Reads''.Learnt,
-  Reads'7.Asked,
-  Reads'7.Learnt,
-  Reads'3.Asked,
-  Reads'3.Learnt,
   Reads'5.Asked,
   Reads'5.Learnt,
+  Reads'3.Asked,
+  Reads'3.Learnt,
+  Reads'7.Asked,
+  Reads'7.Learnt,
+  Reads'4.Asked,
+  Reads'4.Learnt,
+  Reads'.Asked,
+  Reads'.Learnt,
   Reads.Asked,
   Reads.Learnt,
-) Reads'.Pre Reads'.Post Inv μ
+) Reads''.Pre Reads''.Post Inv μ
 
 abbrev pub Need-loop-holds : (Inv : InvT-loop) → (μ : MeasureT-loop) → Type 0
 Need-loop-holds = λ Inv μ. Lts.Need-loop-holds (
@@ -886,19 +886,19 @@ Need-loop-holds = λ Inv μ. Lts.Need-loop-holds (
   Reads'9.Learnt,
   Reads'8.Asked,
   Reads'8.Learnt,
-  Reads'4.Asked,
-  Reads'4.Learnt,
-  Reads''.Asked,
-  Reads''.Learnt,
-  Reads'7.Asked,
-  Reads'7.Learnt,
-  Reads'3.Asked,
-  Reads'3.Learnt,
   Reads'5.Asked,
   Reads'5.Learnt,
+  Reads'3.Asked,
+  Reads'3.Learnt,
+  Reads'7.Asked,
+  Reads'7.Learnt,
+  Reads'4.Asked,
+  Reads'4.Learnt,
+  Reads'.Asked,
+  Reads'.Learnt,
   Reads.Asked,
   Reads.Learnt,
-) Reads'.Pre Reads'.Post Inv μ
+) Reads''.Pre Reads''.Post Inv μ
 
 abbrev pub Need-plan-at-requires : (Inv : InvT-loop) → (μ : MeasureT-loop) → Type 0
 Need-plan-at-requires = λ Inv μ. Lts.Need-plan-at-requires (
@@ -908,19 +908,19 @@ Need-plan-at-requires = λ Inv μ. Lts.Need-plan-at-requires (
   Reads'9.Learnt,
   Reads'8.Asked,
   Reads'8.Learnt,
-  Reads'4.Asked,
-  Reads'4.Learnt,
-  Reads''.Asked,
-  Reads''.Learnt,
-  Reads'7.Asked,
-  Reads'7.Learnt,
-  Reads'3.Asked,
-  Reads'3.Learnt,
   Reads'5.Asked,
   Reads'5.Learnt,
+  Reads'3.Asked,
+  Reads'3.Learnt,
+  Reads'7.Asked,
+  Reads'7.Learnt,
+  Reads'4.Asked,
+  Reads'4.Learnt,
+  Reads'.Asked,
+  Reads'.Learnt,
   Reads.Asked,
   Reads.Learnt,
-) Reads'.Pre Reads'.Post Inv μ
+) Reads''.Pre Reads''.Post Inv μ
 
 abbrev pub Need-window-plan-requires : (Inv : InvT-loop) → (μ : MeasureT-loop) → Type 0
 Need-window-plan-requires = λ Inv μ. Lts.Need-window-plan-requires (
@@ -930,19 +930,19 @@ Need-window-plan-requires = λ Inv μ. Lts.Need-window-plan-requires (
   Reads'9.Learnt,
   Reads'8.Asked,
   Reads'8.Learnt,
-  Reads'4.Asked,
-  Reads'4.Learnt,
-  Reads''.Asked,
-  Reads''.Learnt,
-  Reads'7.Asked,
-  Reads'7.Learnt,
-  Reads'3.Asked,
-  Reads'3.Learnt,
   Reads'5.Asked,
   Reads'5.Learnt,
+  Reads'3.Asked,
+  Reads'3.Learnt,
+  Reads'7.Asked,
+  Reads'7.Learnt,
+  Reads'4.Asked,
+  Reads'4.Learnt,
+  Reads'.Asked,
+  Reads'.Learnt,
   Reads.Asked,
   Reads.Learnt,
-) Reads'.Pre Reads'.Post Inv μ
+) Reads''.Pre Reads''.Post Inv μ
 
 abbrev pub Need-enter-requires : (Inv : InvT-loop) → (μ : MeasureT-loop) → Type 0
 Need-enter-requires = λ Inv μ. Lts.Need-enter-requires (
@@ -952,19 +952,19 @@ Need-enter-requires = λ Inv μ. Lts.Need-enter-requires (
   Reads'9.Learnt,
   Reads'8.Asked,
   Reads'8.Learnt,
-  Reads'4.Asked,
-  Reads'4.Learnt,
-  Reads''.Asked,
-  Reads''.Learnt,
-  Reads'7.Asked,
-  Reads'7.Learnt,
-  Reads'3.Asked,
-  Reads'3.Learnt,
   Reads'5.Asked,
   Reads'5.Learnt,
+  Reads'3.Asked,
+  Reads'3.Learnt,
+  Reads'7.Asked,
+  Reads'7.Learnt,
+  Reads'4.Asked,
+  Reads'4.Learnt,
+  Reads'.Asked,
+  Reads'.Learnt,
   Reads.Asked,
   Reads.Learnt,
-) Reads'.Pre Reads'.Post Inv μ
+) Reads''.Pre Reads''.Post Inv μ
 
 abbrev pub Need-load-set-requires : (Inv : InvT-loop) → (μ : MeasureT-loop) → Type 0
 Need-load-set-requires = λ Inv μ. Lts.Need-load-set-requires (
@@ -974,19 +974,19 @@ Need-load-set-requires = λ Inv μ. Lts.Need-load-set-requires (
   Reads'9.Learnt,
   Reads'8.Asked,
   Reads'8.Learnt,
-  Reads'4.Asked,
-  Reads'4.Learnt,
-  Reads''.Asked,
-  Reads''.Learnt,
-  Reads'7.Asked,
-  Reads'7.Learnt,
-  Reads'3.Asked,
-  Reads'3.Learnt,
   Reads'5.Asked,
   Reads'5.Learnt,
+  Reads'3.Asked,
+  Reads'3.Learnt,
+  Reads'7.Asked,
+  Reads'7.Learnt,
+  Reads'4.Asked,
+  Reads'4.Learnt,
+  Reads'.Asked,
+  Reads'.Learnt,
   Reads.Asked,
   Reads.Learnt,
-) Reads'.Pre Reads'.Post Inv μ
+) Reads''.Pre Reads''.Post Inv μ
 
 abbrev pub Need-pass-requires : (Inv : InvT-loop) → (μ : MeasureT-loop) → Type 0
 Need-pass-requires = λ Inv μ. Lts.Need-pass-requires (
@@ -996,19 +996,19 @@ Need-pass-requires = λ Inv μ. Lts.Need-pass-requires (
   Reads'9.Learnt,
   Reads'8.Asked,
   Reads'8.Learnt,
-  Reads'4.Asked,
-  Reads'4.Learnt,
-  Reads''.Asked,
-  Reads''.Learnt,
-  Reads'7.Asked,
-  Reads'7.Learnt,
-  Reads'3.Asked,
-  Reads'3.Learnt,
   Reads'5.Asked,
   Reads'5.Learnt,
+  Reads'3.Asked,
+  Reads'3.Learnt,
+  Reads'7.Asked,
+  Reads'7.Learnt,
+  Reads'4.Asked,
+  Reads'4.Learnt,
+  Reads'.Asked,
+  Reads'.Learnt,
   Reads.Asked,
   Reads.Learnt,
-) Reads'.Pre Reads'.Post Inv μ
+) Reads''.Pre Reads''.Post Inv μ
 
 abbrev pub Need-same-length : (Inv : InvT-loop) → (μ : MeasureT-loop) → Type 0
 Need-same-length = λ Inv μ. Lts.Need-same-length (
@@ -1018,19 +1018,19 @@ Need-same-length = λ Inv μ. Lts.Need-same-length (
   Reads'9.Learnt,
   Reads'8.Asked,
   Reads'8.Learnt,
-  Reads'4.Asked,
-  Reads'4.Learnt,
-  Reads''.Asked,
-  Reads''.Learnt,
-  Reads'7.Asked,
-  Reads'7.Learnt,
-  Reads'3.Asked,
-  Reads'3.Learnt,
   Reads'5.Asked,
   Reads'5.Learnt,
+  Reads'3.Asked,
+  Reads'3.Learnt,
+  Reads'7.Asked,
+  Reads'7.Learnt,
+  Reads'4.Asked,
+  Reads'4.Learnt,
+  Reads'.Asked,
+  Reads'.Learnt,
   Reads.Asked,
   Reads.Learnt,
-) Reads'.Pre Reads'.Post Inv μ
+) Reads''.Pre Reads''.Post Inv μ
 
 abbrev pub Need-same-length-2 : (Inv : InvT-loop) → (μ : MeasureT-loop) → Type 0
 Need-same-length-2 = λ Inv μ. Lts.Need-same-length-2 (
@@ -1040,19 +1040,19 @@ Need-same-length-2 = λ Inv μ. Lts.Need-same-length-2 (
   Reads'9.Learnt,
   Reads'8.Asked,
   Reads'8.Learnt,
-  Reads'4.Asked,
-  Reads'4.Learnt,
-  Reads''.Asked,
-  Reads''.Learnt,
-  Reads'7.Asked,
-  Reads'7.Learnt,
-  Reads'3.Asked,
-  Reads'3.Learnt,
   Reads'5.Asked,
   Reads'5.Learnt,
+  Reads'3.Asked,
+  Reads'3.Learnt,
+  Reads'7.Asked,
+  Reads'7.Learnt,
+  Reads'4.Asked,
+  Reads'4.Learnt,
+  Reads'.Asked,
+  Reads'.Learnt,
   Reads.Asked,
   Reads.Learnt,
-) Reads'.Pre Reads'.Post Inv μ
+) Reads''.Pre Reads''.Post Inv μ
 
 abbrev pub Need-same-length-3 : (Inv : InvT-loop) → (μ : MeasureT-loop) → Type 0
 Need-same-length-3 = λ Inv μ. Lts.Need-same-length-3 (
@@ -1062,19 +1062,19 @@ Need-same-length-3 = λ Inv μ. Lts.Need-same-length-3 (
   Reads'9.Learnt,
   Reads'8.Asked,
   Reads'8.Learnt,
-  Reads'4.Asked,
-  Reads'4.Learnt,
-  Reads''.Asked,
-  Reads''.Learnt,
-  Reads'7.Asked,
-  Reads'7.Learnt,
-  Reads'3.Asked,
-  Reads'3.Learnt,
   Reads'5.Asked,
   Reads'5.Learnt,
+  Reads'3.Asked,
+  Reads'3.Learnt,
+  Reads'7.Asked,
+  Reads'7.Learnt,
+  Reads'4.Asked,
+  Reads'4.Learnt,
+  Reads'.Asked,
+  Reads'.Learnt,
   Reads.Asked,
   Reads.Learnt,
-) Reads'.Pre Reads'.Post Inv μ
+) Reads''.Pre Reads''.Post Inv μ
 
 abbrev pub Need-returns : (Inv : InvT-loop) → (μ : MeasureT-loop) → Type 0
 Need-returns = λ Inv μ. Lts.Need-returns (
@@ -1084,19 +1084,19 @@ Need-returns = λ Inv μ. Lts.Need-returns (
   Reads'9.Learnt,
   Reads'8.Asked,
   Reads'8.Learnt,
-  Reads'4.Asked,
-  Reads'4.Learnt,
-  Reads''.Asked,
-  Reads''.Learnt,
-  Reads'7.Asked,
-  Reads'7.Learnt,
-  Reads'3.Asked,
-  Reads'3.Learnt,
   Reads'5.Asked,
   Reads'5.Learnt,
+  Reads'3.Asked,
+  Reads'3.Learnt,
+  Reads'7.Asked,
+  Reads'7.Learnt,
+  Reads'4.Asked,
+  Reads'4.Learnt,
+  Reads'.Asked,
+  Reads'.Learnt,
   Reads.Asked,
   Reads.Learnt,
-) Reads'.Pre Reads'.Post Inv μ
+) Reads''.Pre Reads''.Post Inv μ
 
 abbrev pub Need-store-set-requires : (Inv : InvT-loop) → (μ : MeasureT-loop) → Type 0
 Need-store-set-requires = λ Inv μ. Lts.Need-store-set-requires (
@@ -1106,41 +1106,41 @@ Need-store-set-requires = λ Inv μ. Lts.Need-store-set-requires (
   Reads'9.Learnt,
   Reads'8.Asked,
   Reads'8.Learnt,
-  Reads'4.Asked,
-  Reads'4.Learnt,
-  Reads''.Asked,
-  Reads''.Learnt,
-  Reads'7.Asked,
-  Reads'7.Learnt,
-  Reads'3.Asked,
-  Reads'3.Learnt,
   Reads'5.Asked,
   Reads'5.Learnt,
+  Reads'3.Asked,
+  Reads'3.Learnt,
+  Reads'7.Asked,
+  Reads'7.Learnt,
+  Reads'4.Asked,
+  Reads'4.Learnt,
+  Reads'.Asked,
+  Reads'.Learnt,
   Reads.Asked,
   Reads.Learnt,
-) Reads'.Pre Reads'.Post Inv μ
+) Reads''.Pre Reads''.Post Inv μ
 
-abbrev pub Need-emit-pass-requires : (Inv : InvT-loop) → (μ : MeasureT-loop) → Type 0
-Need-emit-pass-requires = λ Inv μ. Lts.Need-emit-pass-requires (
+abbrev pub Need-emit-pass-at-requires : (Inv : InvT-loop) → (μ : MeasureT-loop) → Type 0
+Need-emit-pass-at-requires = λ Inv μ. Lts.Need-emit-pass-at-requires (
   Reads'6.Asked,
   Reads'6.Learnt,
   Reads'9.Asked,
   Reads'9.Learnt,
   Reads'8.Asked,
   Reads'8.Learnt,
-  Reads'4.Asked,
-  Reads'4.Learnt,
-  Reads''.Asked,
-  Reads''.Learnt,
-  Reads'7.Asked,
-  Reads'7.Learnt,
-  Reads'3.Asked,
-  Reads'3.Learnt,
   Reads'5.Asked,
   Reads'5.Learnt,
+  Reads'3.Asked,
+  Reads'3.Learnt,
+  Reads'7.Asked,
+  Reads'7.Learnt,
+  Reads'4.Asked,
+  Reads'4.Learnt,
+  Reads'.Asked,
+  Reads'.Learnt,
   Reads.Asked,
   Reads.Learnt,
-) Reads'.Pre Reads'.Post Inv μ
+) Reads''.Pre Reads''.Post Inv μ
 
 abbrev pub Need-add-i : (Inv : InvT-loop) → (μ : MeasureT-loop) → Type 0
 Need-add-i = λ Inv μ. Lts.Need-add-i (
@@ -1150,19 +1150,19 @@ Need-add-i = λ Inv μ. Lts.Need-add-i (
   Reads'9.Learnt,
   Reads'8.Asked,
   Reads'8.Learnt,
-  Reads'4.Asked,
-  Reads'4.Learnt,
-  Reads''.Asked,
-  Reads''.Learnt,
-  Reads'7.Asked,
-  Reads'7.Learnt,
-  Reads'3.Asked,
-  Reads'3.Learnt,
   Reads'5.Asked,
   Reads'5.Learnt,
+  Reads'3.Asked,
+  Reads'3.Learnt,
+  Reads'7.Asked,
+  Reads'7.Learnt,
+  Reads'4.Asked,
+  Reads'4.Learnt,
+  Reads'.Asked,
+  Reads'.Learnt,
   Reads.Asked,
   Reads.Learnt,
-) Reads'.Pre Reads'.Post Inv μ
+) Reads''.Pre Reads''.Post Inv μ
 
 abbrev pub Need-loop-less : (Inv : InvT-loop) → (μ : MeasureT-loop) → Type 0
 Need-loop-less = λ Inv μ. Lts.Need-loop-less (
@@ -1172,19 +1172,19 @@ Need-loop-less = λ Inv μ. Lts.Need-loop-less (
   Reads'9.Learnt,
   Reads'8.Asked,
   Reads'8.Learnt,
-  Reads'4.Asked,
-  Reads'4.Learnt,
-  Reads''.Asked,
-  Reads''.Learnt,
-  Reads'7.Asked,
-  Reads'7.Learnt,
-  Reads'3.Asked,
-  Reads'3.Learnt,
   Reads'5.Asked,
   Reads'5.Learnt,
+  Reads'3.Asked,
+  Reads'3.Learnt,
+  Reads'7.Asked,
+  Reads'7.Learnt,
+  Reads'4.Asked,
+  Reads'4.Learnt,
+  Reads'.Asked,
+  Reads'.Learnt,
   Reads.Asked,
   Reads.Learnt,
-) Reads'.Pre Reads'.Post Inv μ
+) Reads''.Pre Reads''.Post Inv μ
 
 abbrev pub Need-loop-again : (Inv : InvT-loop) → (μ : MeasureT-loop) → Type 0
 Need-loop-again = λ Inv μ. Lts.Need-loop-again (
@@ -1194,19 +1194,19 @@ Need-loop-again = λ Inv μ. Lts.Need-loop-again (
   Reads'9.Learnt,
   Reads'8.Asked,
   Reads'8.Learnt,
-  Reads'4.Asked,
-  Reads'4.Learnt,
-  Reads''.Asked,
-  Reads''.Learnt,
-  Reads'7.Asked,
-  Reads'7.Learnt,
-  Reads'3.Asked,
-  Reads'3.Learnt,
   Reads'5.Asked,
   Reads'5.Learnt,
+  Reads'3.Asked,
+  Reads'3.Learnt,
+  Reads'7.Asked,
+  Reads'7.Learnt,
+  Reads'4.Asked,
+  Reads'4.Learnt,
+  Reads'.Asked,
+  Reads'.Learnt,
   Reads.Asked,
   Reads.Learnt,
-) Reads'.Pre Reads'.Post Inv μ
+) Reads''.Pre Reads''.Post Inv μ
 
 abbrev pub Need-is-past-requires : (Inv : InvT-loop) → (μ : MeasureT-loop) → Type 0
 Need-is-past-requires = λ Inv μ. Lts.Need-is-past-requires (
@@ -1216,19 +1216,19 @@ Need-is-past-requires = λ Inv μ. Lts.Need-is-past-requires (
   Reads'9.Learnt,
   Reads'8.Asked,
   Reads'8.Learnt,
-  Reads'4.Asked,
-  Reads'4.Learnt,
-  Reads''.Asked,
-  Reads''.Learnt,
-  Reads'7.Asked,
-  Reads'7.Learnt,
-  Reads'3.Asked,
-  Reads'3.Learnt,
   Reads'5.Asked,
   Reads'5.Learnt,
+  Reads'3.Asked,
+  Reads'3.Learnt,
+  Reads'7.Asked,
+  Reads'7.Learnt,
+  Reads'4.Asked,
+  Reads'4.Learnt,
+  Reads'.Asked,
+  Reads'.Learnt,
   Reads.Asked,
   Reads.Learnt,
-) Reads'.Pre Reads'.Post Inv μ
+) Reads''.Pre Reads''.Post Inv μ
 
 abbrev pub Need-same-length-4 : (Inv : InvT-loop) → (μ : MeasureT-loop) → Type 0
 Need-same-length-4 = λ Inv μ. Lts.Need-same-length-4 (
@@ -1238,19 +1238,19 @@ Need-same-length-4 = λ Inv μ. Lts.Need-same-length-4 (
   Reads'9.Learnt,
   Reads'8.Asked,
   Reads'8.Learnt,
-  Reads'4.Asked,
-  Reads'4.Learnt,
-  Reads''.Asked,
-  Reads''.Learnt,
-  Reads'7.Asked,
-  Reads'7.Learnt,
-  Reads'3.Asked,
-  Reads'3.Learnt,
   Reads'5.Asked,
   Reads'5.Learnt,
+  Reads'3.Asked,
+  Reads'3.Learnt,
+  Reads'7.Asked,
+  Reads'7.Learnt,
+  Reads'4.Asked,
+  Reads'4.Learnt,
+  Reads'.Asked,
+  Reads'.Learnt,
   Reads.Asked,
   Reads.Learnt,
-) Reads'.Pre Reads'.Post Inv μ
+) Reads''.Pre Reads''.Post Inv μ
 
 abbrev pub Need-same-length-5 : (Inv : InvT-loop) → (μ : MeasureT-loop) → Type 0
 Need-same-length-5 = λ Inv μ. Lts.Need-same-length-5 (
@@ -1260,19 +1260,19 @@ Need-same-length-5 = λ Inv μ. Lts.Need-same-length-5 (
   Reads'9.Learnt,
   Reads'8.Asked,
   Reads'8.Learnt,
-  Reads'4.Asked,
-  Reads'4.Learnt,
-  Reads''.Asked,
-  Reads''.Learnt,
-  Reads'7.Asked,
-  Reads'7.Learnt,
-  Reads'3.Asked,
-  Reads'3.Learnt,
   Reads'5.Asked,
   Reads'5.Learnt,
+  Reads'3.Asked,
+  Reads'3.Learnt,
+  Reads'7.Asked,
+  Reads'7.Learnt,
+  Reads'4.Asked,
+  Reads'4.Learnt,
+  Reads'.Asked,
+  Reads'.Learnt,
   Reads.Asked,
   Reads.Learnt,
-) Reads'.Pre Reads'.Post Inv μ
+) Reads''.Pre Reads''.Post Inv μ
 
 abbrev pub Need-same-length-6 : (Inv : InvT-loop) → (μ : MeasureT-loop) → Type 0
 Need-same-length-6 = λ Inv μ. Lts.Need-same-length-6 (
@@ -1282,19 +1282,19 @@ Need-same-length-6 = λ Inv μ. Lts.Need-same-length-6 (
   Reads'9.Learnt,
   Reads'8.Asked,
   Reads'8.Learnt,
-  Reads'4.Asked,
-  Reads'4.Learnt,
-  Reads''.Asked,
-  Reads''.Learnt,
-  Reads'7.Asked,
-  Reads'7.Learnt,
-  Reads'3.Asked,
-  Reads'3.Learnt,
   Reads'5.Asked,
   Reads'5.Learnt,
+  Reads'3.Asked,
+  Reads'3.Learnt,
+  Reads'7.Asked,
+  Reads'7.Learnt,
+  Reads'4.Asked,
+  Reads'4.Learnt,
+  Reads'.Asked,
+  Reads'.Learnt,
   Reads.Asked,
   Reads.Learnt,
-) Reads'.Pre Reads'.Post Inv μ
+) Reads''.Pre Reads''.Post Inv μ
 
 abbrev pub Need-returns-2 : (Inv : InvT-loop) → (μ : MeasureT-loop) → Type 0
 Need-returns-2 = λ Inv μ. Lts.Need-returns-2 (
@@ -1304,19 +1304,19 @@ Need-returns-2 = λ Inv μ. Lts.Need-returns-2 (
   Reads'9.Learnt,
   Reads'8.Asked,
   Reads'8.Learnt,
-  Reads'4.Asked,
-  Reads'4.Learnt,
-  Reads''.Asked,
-  Reads''.Learnt,
-  Reads'7.Asked,
-  Reads'7.Learnt,
-  Reads'3.Asked,
-  Reads'3.Learnt,
   Reads'5.Asked,
   Reads'5.Learnt,
+  Reads'3.Asked,
+  Reads'3.Learnt,
+  Reads'7.Asked,
+  Reads'7.Learnt,
+  Reads'4.Asked,
+  Reads'4.Learnt,
+  Reads'.Asked,
+  Reads'.Learnt,
   Reads.Asked,
   Reads.Learnt,
-) Reads'.Pre Reads'.Post Inv μ
+) Reads''.Pre Reads''.Post Inv μ
 
 abbrev pub Need-same-length-7 : (Inv : InvT-loop) → (μ : MeasureT-loop) → Type 0
 Need-same-length-7 = λ Inv μ. Lts.Need-same-length-7 (
@@ -1326,19 +1326,19 @@ Need-same-length-7 = λ Inv μ. Lts.Need-same-length-7 (
   Reads'9.Learnt,
   Reads'8.Asked,
   Reads'8.Learnt,
-  Reads'4.Asked,
-  Reads'4.Learnt,
-  Reads''.Asked,
-  Reads''.Learnt,
-  Reads'7.Asked,
-  Reads'7.Learnt,
-  Reads'3.Asked,
-  Reads'3.Learnt,
   Reads'5.Asked,
   Reads'5.Learnt,
+  Reads'3.Asked,
+  Reads'3.Learnt,
+  Reads'7.Asked,
+  Reads'7.Learnt,
+  Reads'4.Asked,
+  Reads'4.Learnt,
+  Reads'.Asked,
+  Reads'.Learnt,
   Reads.Asked,
   Reads.Learnt,
-) Reads'.Pre Reads'.Post Inv μ
+) Reads''.Pre Reads''.Post Inv μ
 
 abbrev pub Need-same-length-8 : (Inv : InvT-loop) → (μ : MeasureT-loop) → Type 0
 Need-same-length-8 = λ Inv μ. Lts.Need-same-length-8 (
@@ -1348,19 +1348,19 @@ Need-same-length-8 = λ Inv μ. Lts.Need-same-length-8 (
   Reads'9.Learnt,
   Reads'8.Asked,
   Reads'8.Learnt,
-  Reads'4.Asked,
-  Reads'4.Learnt,
-  Reads''.Asked,
-  Reads''.Learnt,
-  Reads'7.Asked,
-  Reads'7.Learnt,
-  Reads'3.Asked,
-  Reads'3.Learnt,
   Reads'5.Asked,
   Reads'5.Learnt,
+  Reads'3.Asked,
+  Reads'3.Learnt,
+  Reads'7.Asked,
+  Reads'7.Learnt,
+  Reads'4.Asked,
+  Reads'4.Learnt,
+  Reads'.Asked,
+  Reads'.Learnt,
   Reads.Asked,
   Reads.Learnt,
-) Reads'.Pre Reads'.Post Inv μ
+) Reads''.Pre Reads''.Post Inv μ
 
 abbrev pub Need-same-length-9 : (Inv : InvT-loop) → (μ : MeasureT-loop) → Type 0
 Need-same-length-9 = λ Inv μ. Lts.Need-same-length-9 (
@@ -1370,19 +1370,19 @@ Need-same-length-9 = λ Inv μ. Lts.Need-same-length-9 (
   Reads'9.Learnt,
   Reads'8.Asked,
   Reads'8.Learnt,
-  Reads'4.Asked,
-  Reads'4.Learnt,
-  Reads''.Asked,
-  Reads''.Learnt,
-  Reads'7.Asked,
-  Reads'7.Learnt,
-  Reads'3.Asked,
-  Reads'3.Learnt,
   Reads'5.Asked,
   Reads'5.Learnt,
+  Reads'3.Asked,
+  Reads'3.Learnt,
+  Reads'7.Asked,
+  Reads'7.Learnt,
+  Reads'4.Asked,
+  Reads'4.Learnt,
+  Reads'.Asked,
+  Reads'.Learnt,
   Reads.Asked,
   Reads.Learnt,
-) Reads'.Pre Reads'.Post Inv μ
+) Reads''.Pre Reads''.Post Inv μ
 
 abbrev pub Need-returns-3 : (Inv : InvT-loop) → (μ : MeasureT-loop) → Type 0
 Need-returns-3 = λ Inv μ. Lts.Need-returns-3 (
@@ -1392,24 +1392,24 @@ Need-returns-3 = λ Inv μ. Lts.Need-returns-3 (
   Reads'9.Learnt,
   Reads'8.Asked,
   Reads'8.Learnt,
-  Reads'4.Asked,
-  Reads'4.Learnt,
-  Reads''.Asked,
-  Reads''.Learnt,
-  Reads'7.Asked,
-  Reads'7.Learnt,
-  Reads'3.Asked,
-  Reads'3.Learnt,
   Reads'5.Asked,
   Reads'5.Learnt,
+  Reads'3.Asked,
+  Reads'3.Learnt,
+  Reads'7.Asked,
+  Reads'7.Learnt,
+  Reads'4.Asked,
+  Reads'4.Learnt,
+  Reads'.Asked,
+  Reads'.Learnt,
   Reads.Asked,
   Reads.Learnt,
-) Reads'.Pre Reads'.Post Inv μ
+) Reads''.Pre Reads''.Post Inv μ
 
 module _ {M : Type 1} where
   pub spec : (Inv : InvT-loop) → (μ : MeasureT-loop) → (answer : Need-width-requires Inv μ) → (answer : Need-loop-holds Inv μ) → (answer : Need-plan-at-requires Inv μ) → (answer :
       Need-window-plan-requires Inv μ) → (answer : Need-enter-requires Inv μ) → (answer : Need-load-set-requires Inv μ) → (answer : Need-pass-requires Inv μ) → (answer : Need-same-length Inv μ) → (answer
-      : Need-same-length-2 Inv μ) → (answer : Need-same-length-3 Inv μ) → (answer : Need-returns Inv μ) → (answer : Need-store-set-requires Inv μ) → (answer : Need-emit-pass-requires Inv μ) → (answer :
+      : Need-same-length-2 Inv μ) → (answer : Need-same-length-3 Inv μ) → (answer : Need-returns Inv μ) → (answer : Need-store-set-requires Inv μ) → (answer : Need-emit-pass-at-requires Inv μ) → (answer :
       Need-add-i Inv μ) → (answer : Need-loop-less Inv μ) → (answer : Need-loop-again Inv μ) → (answer : Need-is-past-requires Inv μ) → (answer : Need-same-length-4 Inv μ) → (answer : Need-same-length-5
       Inv μ) → (answer : Need-same-length-6 Inv μ) → (answer : Need-returns-2 Inv μ) → (answer : Need-same-length-7 Inv μ) → (answer : Need-same-length-8 Inv μ) → (answer : Need-same-length-9 Inv μ) →
       (answer : Need-returns-3 Inv μ) → Lts.Closed (
@@ -1419,19 +1419,19 @@ module _ {M : Type 1} where
         Reads'9.Learnt,
         Reads'8.Asked,
         Reads'8.Learnt,
-        Reads'4.Asked,
-        Reads'4.Learnt,
-        Reads''.Asked,
-        Reads''.Learnt,
-        Reads'7.Asked,
-        Reads'7.Learnt,
-        Reads'3.Asked,
-        Reads'3.Learnt,
         Reads'5.Asked,
         Reads'5.Learnt,
+        Reads'3.Asked,
+        Reads'3.Learnt,
+        Reads'7.Asked,
+        Reads'7.Learnt,
+        Reads'4.Asked,
+        Reads'4.Learnt,
+        Reads'.Asked,
+        Reads'.Learnt,
         Reads.Asked,
         Reads.Learnt,
-      ) Reads'.Pre Reads'.Post M
+      ) Reads''.Pre Reads''.Post M
   spec = λ Inv μ answer answer' answer'' answer'3 answer'4 answer'5 answer'6 answer'7 answer'8 answer'9 answer'10 answer'11 answer'12 answer'13 answer'14 answer'15 answer'16 answer'17 answer'18
       answer'19 answer'20 answer'21 answer'22 answer'23 answer'24. Lts.spec (
         Reads'6.Asked,
@@ -1440,19 +1440,19 @@ module _ {M : Type 1} where
         Reads'9.Learnt,
         Reads'8.Asked,
         Reads'8.Learnt,
-        Reads'4.Asked,
-        Reads'4.Learnt,
-        Reads''.Asked,
-        Reads''.Learnt,
-        Reads'7.Asked,
-        Reads'7.Learnt,
-        Reads'3.Asked,
-        Reads'3.Learnt,
         Reads'5.Asked,
         Reads'5.Learnt,
+        Reads'3.Asked,
+        Reads'3.Learnt,
+        Reads'7.Asked,
+        Reads'7.Learnt,
+        Reads'4.Asked,
+        Reads'4.Learnt,
+        Reads'.Asked,
+        Reads'.Learnt,
         Reads.Asked,
         Reads.Learnt,
-      ) Reads'.Pre Reads'.Post Inv μ answer answer' answer'' answer'3 answer'4 answer'5 answer'6 answer'7 answer'8
+      ) Reads''.Pre Reads''.Post Inv μ answer answer' answer'' answer'3 answer'4 answer'5 answer'6 answer'7 answer'8
       answer'9 answer'10 answer'11 answer'12 answer'13 answer'14 answer'15 answer'16 answer'17 answer'18 answer'19 answer'20 answer'21 answer'22 answer'23 answer'24
 
   pub close : Lts.Closed (
@@ -1462,28 +1462,28 @@ module _ {M : Type 1} where
     Reads'9.Learnt,
     Reads'8.Asked,
     Reads'8.Learnt,
-    Reads'4.Asked,
-    Reads'4.Learnt,
-    Reads''.Asked,
-    Reads''.Learnt,
-    Reads'7.Asked,
-    Reads'7.Learnt,
-    Reads'3.Asked,
-    Reads'3.Learnt,
     Reads'5.Asked,
     Reads'5.Learnt,
+    Reads'3.Asked,
+    Reads'3.Learnt,
+    Reads'7.Asked,
+    Reads'7.Learnt,
+    Reads'4.Asked,
+    Reads'4.Learnt,
+    Reads'.Asked,
+    Reads'.Learnt,
     Reads.Asked,
     Reads.Learnt,
-  ) Reads'.Pre Reads'.Post M → Statement.statement M
+  ) Reads''.Pre Reads''.Post M → Statement.statement M
   unfolding Code.routine Running.tablesOf
-  close = λ closed 𝓤 H 𝓜 𝓖 𝓡. Written.close 5 Kinds.ps Kinds.r Reads'.Ghost Reads'.requires Reads'.ensures Reads'.pre-read Reads'.Pinned Reads'.Owned Reads'.post-read record
-      { M = M; 𝓤 = 𝓤; H = H; 𝓜 = 𝓜; 𝓖 = 𝓖; 𝓡 = 𝓡 } Code.env Key.name Code.function (Code.unfolded 𝓤 H 𝓜 𝓡) (λ κs a g. tt) (λ κs. Reads'.owns κs record { M = M; 𝓤 = 𝓤; H = H; 𝓜 = 𝓜; 𝓖 = 𝓖; 𝓡 = 𝓡 })
-      (Reads'.passes record { M = M; 𝓤 = 𝓤; H = H; 𝓜 = 𝓜; 𝓖 = 𝓖; 𝓡 = 𝓡 }) λ g. closed 𝓤 H (𝓖 .A) (Running.givenOf 𝓤 H 𝓜 𝓖) (Run.Over 𝓤 H 𝓜 𝓖 𝓡 Code.env) (Reads'6.known record
+  close = λ closed 𝓤 H 𝓜 𝓖 𝓡. Written.close 5 Kinds.ps Kinds.r Reads''.Ghost Reads''.requires Reads''.ensures Reads''.pre-read Reads''.Pinned Reads''.Owned Reads''.post-read record
+      { M = M; 𝓤 = 𝓤; H = H; 𝓜 = 𝓜; 𝓖 = 𝓖; 𝓡 = 𝓡 } Code.env Key.name Code.function (Code.unfolded 𝓤 H 𝓜 𝓡) (λ κs a g. tt) (λ κs. Reads''.owns κs record { M = M; 𝓤 = 𝓤; H = H; 𝓜 = 𝓜; 𝓖 = 𝓖; 𝓡 = 𝓡 })
+      (Reads''.passes record { M = M; 𝓤 = 𝓤; H = H; 𝓜 = 𝓜; 𝓖 = 𝓖; 𝓡 = 𝓡 }) λ g. closed 𝓤 H (𝓖 .A) (Running.givenOf 𝓤 H 𝓜 𝓖) (Run.Over 𝓤 H 𝓜 𝓖 𝓡 Code.env) (Reads'6.known record
       { M = M; 𝓤 = 𝓤; H = H; 𝓜 = 𝓜; 𝓖 = 𝓖; 𝓡 = 𝓡 } Code.env Symbol'5.name Symbol'5.routine Code.calls-map·width (Met'5.met 𝓤 H 𝓜 𝓖 𝓡)) (Reads'9.known record { M = M; 𝓤 = 𝓤; H = H; 𝓜 = 𝓜; 𝓖 = 𝓖; 𝓡 = 𝓡 }
       Code.env Symbol'8.name Symbol'8.routine Code.calls-steps·plan-at (Met'8.met 𝓤 H 𝓜 𝓖 𝓡)) (Reads'8.known record { M = M; 𝓤 = 𝓤; H = H; 𝓜 = 𝓜; 𝓖 = 𝓖; 𝓡 = 𝓡 } Code.env Symbol'7.name Symbol'7.routine
-      Code.calls-pass·window-plan (Met'7.met 𝓤 H 𝓜 𝓖 𝓡)) (Reads'4.known record { M = M; 𝓤 = 𝓤; H = H; 𝓜 = 𝓜; 𝓖 = 𝓖; 𝓡 = 𝓡 } Code.env Symbol'3.name Symbol'3.routine Code.calls-lines·enter (Met'3.met 𝓤 H 𝓜
-      𝓖 𝓡)) (Reads''.known record { M = M; 𝓤 = 𝓤; H = H; 𝓜 = 𝓜; 𝓖 = 𝓖; 𝓡 = 𝓡 } Code.env Symbol'.name Symbol'.routine Code.calls-block·records·load-set (Met'.met 𝓤 H 𝓜 𝓖 𝓡)) (Reads'7.known record
-      { M = M; 𝓤 = 𝓤; H = H; 𝓜 = 𝓜; 𝓖 = 𝓖; 𝓡 = 𝓡 } Code.env Symbol'6.name Symbol'6.routine Code.calls-pass·pass (Met'6.met 𝓤 H 𝓜 𝓖 𝓡)) (Reads'3.known record { M = M; 𝓤 = 𝓤; H = H; 𝓜 = 𝓜; 𝓖 = 𝓖; 𝓡 = 𝓡 }
-      Code.env Symbol''.name Symbol''.routine Code.calls-block·records·store-set (Met''.met 𝓤 H 𝓜 𝓖 𝓡)) (Reads'5.known record { M = M; 𝓤 = 𝓤; H = H; 𝓜 = 𝓜; 𝓖 = 𝓖; 𝓡 = 𝓡 } Code.env Symbol'4.name
-      Symbol'4.routine Code.calls-map·emit-pass (Met'4.met 𝓤 H 𝓜 𝓖 𝓡)) (Reads.known record { M = M; 𝓤 = 𝓤; H = H; 𝓜 = 𝓜; 𝓖 = 𝓖; 𝓡 = 𝓡 } Code.env Symbol.name Symbol.routine Code.calls-bits·is-past (Met.met
-      𝓤 H 𝓜 𝓖 𝓡))
+      Code.calls-pass·window-plan (Met'7.met 𝓤 H 𝓜 𝓖 𝓡)) (Reads'5.known record { M = M; 𝓤 = 𝓤; H = H; 𝓜 = 𝓜; 𝓖 = 𝓖; 𝓡 = 𝓡 } Code.env Symbol'4.name Symbol'4.routine Code.calls-lines·enter (Met'4.met 𝓤 H 𝓜
+      𝓖 𝓡)) (Reads'3.known record { M = M; 𝓤 = 𝓤; H = H; 𝓜 = 𝓜; 𝓖 = 𝓖; 𝓡 = 𝓡 } Code.env Symbol''.name Symbol''.routine Code.calls-block·records·load-set (Met''.met 𝓤 H 𝓜 𝓖 𝓡)) (Reads'7.known record
+      { M = M; 𝓤 = 𝓤; H = H; 𝓜 = 𝓜; 𝓖 = 𝓖; 𝓡 = 𝓡 } Code.env Symbol'6.name Symbol'6.routine Code.calls-pass·pass (Met'6.met 𝓤 H 𝓜 𝓖 𝓡)) (Reads'4.known record { M = M; 𝓤 = 𝓤; H = H; 𝓜 = 𝓜; 𝓖 = 𝓖; 𝓡 = 𝓡 }
+      Code.env Symbol'3.name Symbol'3.routine Code.calls-block·records·store-set (Met'3.met 𝓤 H 𝓜 𝓖 𝓡)) (Reads'.known record { M = M; 𝓤 = 𝓤; H = H; 𝓜 = 𝓜; 𝓖 = 𝓖; 𝓡 = 𝓡 } Code.env Symbol'.name
+      Symbol'.routine Code.calls-block·reading·emit-pass-at (Met'.met 𝓤 H 𝓜 𝓖 𝓡)) (Reads.known record { M = M; 𝓤 = 𝓤; H = H; 𝓜 = 𝓜; 𝓖 = 𝓖; 𝓡 = 𝓡 } Code.env Symbol.name Symbol.routine
+      Code.calls-bits·is-past (Met.met 𝓤 H 𝓜 𝓖 𝓡))
