@@ -23,7 +23,8 @@ use Rattle.region.specs.declared.Checked.{Checked}
 use Rattle.region.specs.declared.Checked.the-variants as Check
 use Rattle.region.proofs.CheckLaws.{accepted}
 use Rattle.writing.specs.Sets.{setSize}
-use Rattle.begin.specs.Beginnings.{samplesNeeded, recordsNeeded, isShortScratch, withScratch, begun, withRegion, withStream, regionBegins, wholeOf, isWhole, withPicture}
+use Rattle.begin.specs.Beginnings.{samplesNeeded, recordsNeeded, isShortScratch, withScratch, begun, withRegion, withStream, regionBegins}
+use Rattle.begin.specs.Beginnings.{wholeOf, isWhole, withPicture}
 use Rattle.begin.specs.Beginnings.{imageBegins, withOpened, blockBegins, withParsed, writingBegins}
 use Rattle.begin.specs.declared.Beginning.the-variants.{Refused, Reading}
 
