@@ -10,7 +10,9 @@ emit-pass-requires c κs =
     let p = h .before in
     let s = p .before .before .before in
     let a = s .pre .0 in
-    let t = planned-in (s .args .windowed) (s .args .xtrans) (s .args .i) _ _ _ _ (a .1 .0) (p .plan-at .ensures) (h .window-plan .ensures) (a .1 .1 .0) (a .1 .1 .1) in
+    let t =
+    planned-in (s .args .windowed) (s .args .xtrans) (s .args .i) _ _ _ _ (a .1 .0) (p .plan-at .ensures) (h .window-plan .ensures) (a .1 .1 .0)
+    (a .1 .1 .1) in
     ((a .0, (a .1 .1 .0, (t .0 .first-high, t .1))), ((t .0 .second-high, t .2), s .pre .1))
 
 returns : tie.Need-returns
