@@ -94,8 +94,8 @@ fn no_lines() -> TightLines
     TightLines { lines: 0, totals }
 }
 
-// The two colour lines of pass i of line n, to the image, in windows. The plan is asked for again, since what is kept of it through the pass costs the pass a
-// register.
+// The two colour lines of pass i of line n, to the image, in windows. The plan is asked for again: what is kept of it through the pass makes the pass
+// longer.
 fn emit_pass_at(
     lines: &[u16],
     image: &mut [u16],
