@@ -70,7 +70,7 @@ fn sample_file(name: &str) -> Vec<u8> {
     std::fs::read(file).unwrap()
 }
 
-// ---- the table of known answers, by an independent model; the original's image with 0 in the rows of the truncated line has the same hashes
+// ---- the table of known answers: by an independent model for Bayer, and for both kinds from the original's images, with 0 in the rows of the truncated line
 
 #[test]
 fn a_block_without_bytes() {
