@@ -5,6 +5,7 @@ use common::stream::{Header, encoded};
 use fuji_compressed::{ColorTile, FujiCompressed, Scratch, measure_block_with, write_block_with};
 use original::fuji_compressed as theirs;
 use std::hint::black_box;
+use std::time::Instant;
 
 const SEED: u64 = 0x0bad_5eed_0bad_5eed;
 const ROUNDS: usize = 31;
@@ -147,6 +148,28 @@ impl Picture {
         rounds(|| [self.time_theirs(&mut want), self.time_ours(&mut got, &mut scratch), self.time_theirs(&mut want)])
     }
 
+    /// Rounds of Rust, ours, Rust, each by as many threads as there are processors, by the clock on the wall.
+    fn parallel_against_theirs(&self) -> Rounds {
+        let threads = std::thread::available_parallelism().map_or(1, |n| n.get());
+        let (mut want, mut got) = (self.image(), self.image());
+        let theirs = |image: &mut [u16]| {
+            let start = Instant::now();
+            let stream = theirs::FujiCompressed::new(black_box(&self.stream)).unwrap();
+            stream.decode(image, self.width, self.height, &TILE, true).unwrap();
+            start.elapsed().as_secs_f64()
+        };
+        let ours = |image: &mut [u16]| {
+            let start = Instant::now();
+            let stream = FujiCompressed::new(black_box(&self.stream)).unwrap();
+            stream.decode_parallel(threads, image, self.width, self.height, &TILE).unwrap();
+            start.elapsed().as_secs_f64()
+        };
+        theirs(&mut want);
+        ours(&mut got);
+        assert!(want == got, "the two pictures differ");
+        rounds(|| [theirs(&mut want), ours(&mut got), theirs(&mut want)])
+    }
+
     /// Rounds of the ordinary reading, the tight reading, the ordinary reading; all ours.
     fn tight_against_ordinary(&self) -> Rounds {
         let (mut image, mut scratch) = (self.image(), Scratch::new());
@@ -236,6 +259,8 @@ fn main() {
         let whole = Picture::new(blocks, lines, xtrans, lossy, noise);
         let title = format!("{name}, {blocks} blocks of {lines} lines");
         say(name, measure(&title, ["rust", "ours"], &whole, whole.against_theirs()));
+        let title = format!("{name}, {blocks} blocks of {lines} lines, in parallel");
+        say(&format!("parallel-{name}"), measure(&title, ["rust", "ours"], &whole, whole.parallel_against_theirs()));
         if !lossy {
             let tight = if xtrans { "tight-xtrans" } else { "tight-bayer" };
             let title = format!("{tight}, one block of 480 lines");

@@ -9,6 +9,7 @@
 //! assert_eq!(refused.to_string(), "refusal 2: a header rule is broken");
 //! ```
 mod ffi;
+mod parallel;
 mod refusal;
 
 pub use refusal::Refusal;

@@ -6,6 +6,7 @@ use crate::tile;
 use fuji_compressed::{ColorTile, FujiCompressed, FujiHeader, Rect, Refusal, Scratch, measure_block, plan_bases, write_block};
 use std::fmt::Write;
 use std::path::Path;
+use std::sync::Mutex;
 
 /// The header and the ranges, in lines.
 pub fn info(file: &Path) -> Result<String, String> {
@@ -119,8 +120,14 @@ pub fn plan(header: &Path, plan: &Path) -> Result<Vec<u8>, String> {
     Ok(bases)
 }
 
-/// A picture, or a region of it, one block's columns after the other, and the tile that was used.
-pub fn decode(file: &Path, region: Option<Rect>, tile: Option<&ColorTile>, quiet: bool) -> Result<(Picture, ColorTile), String> {
+/// A picture, or a region of it, by so many threads, and the tile that was used.
+pub fn decode(
+    file: &Path,
+    region: Option<Rect>,
+    tile: Option<&ColorTile>,
+    threads: usize,
+    quiet: bool,
+) -> Result<(Picture, ColorTile), String> {
     let bytes = load(file)?;
     let stream = FujiCompressed::new(&bytes).map_err(|e| e.to_string())?;
     let h = stream.header;
@@ -136,27 +143,15 @@ pub fn decode(file: &Path, region: Option<Rect>, tile: Option<&ColorTile>, quiet
         stream.decode_region(&mut [0], Rect::new(region.x, 0, 1, 1), &tile).map_err(|e| e.to_string())?;
     }
     let mut samples = room(region.width, region.height)?;
-    let mut columns = room(region.width.min(768), region.height)?;
-    let (mut scratch, progress) = (Scratch::new(), Progress::new(quiet, name(file)));
-    for block in first..=last {
-        let part = part_in(region, block);
-        let columns = &mut columns[..part.width as usize * part.height as usize];
-        stream.decode_region_with(&mut scratch, columns, part, &tile).map_err(|e| e.to_string())?;
-        let at = (part.x - region.x) as usize;
-        for (row, from) in samples.chunks_mut(region.width as usize).zip(columns.chunks(part.width as usize)) {
-            row[at..at + part.width as usize].copy_from_slice(from);
-        }
-        let done = (block + 1 - first) as usize;
-        progress.at(done, (last + 1 - first) as usize, done * 768 * region.height as usize);
-    }
+    let (blocks, progress) = ((last + 1 - first) as usize, Progress::new(quiet, name(file)));
+    let done = Mutex::new(0);
+    let one_more = || {
+        let mut done = done.lock().unwrap();
+        *done += 1;
+        progress.at(*done, blocks, *done * 768 * region.height as usize);
+    };
+    stream.decode_region_parallel(threads, &mut samples, region, &tile, &one_more).map_err(|e| e.to_string())?;
     Ok((Picture { width: region.width, height: region.height, bits: h.bits, samples }, tile))
-}
-
-/// The part of a region that lies in a block's columns.
-fn part_in(region: Rect, block: u32) -> Rect {
-    let x = region.x.max(768 * block);
-    let end = (region.x + region.width).min(768 * block + 768);
-    Rect::new(x, region.y, end - x, region.height)
 }
 
 /// Samples for a picture, if there is memory for them.
