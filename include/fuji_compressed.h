@@ -1,6 +1,6 @@
 /* Fuji compressed raw streams: the functions of libfuji_compressed.a (rust/library makes it). x86-64 Linux.
  *
- * Each function meets a proved contract; crates/exports and crates/block have them. None asks anything of its numbers, but every pointer
+ * Each function meets a proved contract; crates/exports, crates/block and crates/diagnosis have them. None asks anything of its numbers, but every pointer
  * must point to as many items as it says, and what is written to must not overlap with anything else.
  *
  * `refusal` is handed back by every function: the refusal's number, 0 where nothing is refused, then the block, the line and the index that it
@@ -49,9 +49,21 @@ void fuji_decode_region(const uint8_t *stream, size_t stream_length, size_t x, s
                         const uint8_t tile[36], uint16_t *image, size_t image_length, uint16_t *scratch, size_t scratch_length,
                         fuji_record *records, size_t records_length, size_t refusal[4]);
 
-/* The tight reading of a block: not refused are exactly the tight blocks of a lossless stream. */
+/* Reads a whole block, lossless or lossy, and shows nothing. `totals` are the bits of its codes and how many of them are long: of all lines where nothing is
+ * refused, of the lines before the truncated one with refusal 14, and 0 and 0 with every other refusal. */
+void fuji_read_block(const uint8_t *stream, size_t stream_length, size_t block, uint16_t *scratch, size_t scratch_length,
+                     fuji_record *records, size_t records_length, size_t totals[2], size_t refusal[4]);
+
+/* The tight reading of a block: not refused are exactly the tight blocks of a lossless stream. Totals as above; with refusal 15 those of the lines before
+ * the one that is named. */
 void fuji_read_tight(const uint8_t *stream, size_t stream_length, size_t block, uint16_t *scratch, size_t scratch_length,
-                     fuji_record *records, size_t records_length, size_t refusal[4]);
+                     fuji_record *records, size_t records_length, size_t totals[2], size_t refusal[4]);
+
+/* Why a block is not tight: of its first bad code in coding order the line of six rows, the pass (1 to 6), the colour line (2 to 17), the position, the first bit, counted
+ * from the block's first, and the reason: 1 large, the code is 2^bits or more; 2 escape, it is long where the short form fits; 3 zeros, it has more zeros than the limit.
+ * If every code is tight but the tail is not: the number of lines, 0, 0, 0, the first bit after the last code, and 4. All 0 where the refusal is not 15. `refusal` is what
+ * fuji_read_tight gives with scratch that is long enough; none is needed here. */
+void fuji_bad_code(const uint8_t *stream, size_t stream_length, size_t block, size_t spot[6], size_t refusal[4]);
 
 /* Writes the tight block of a set of colour lines to the start of the output: for each line of six rows red 2 to 4, green 7 to 12 and blue 15 to 17,
  * with 384 samples each (X-Trans: 512). Its length is handed back, a multiple of 16 bytes of which the last are filled with zero bits, and 0 where it is

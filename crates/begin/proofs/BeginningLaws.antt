@@ -1,6 +1,6 @@
 -- How a call begins, step by step, and what holds of one that goes on. Assumes nothing.
 use borrow.Author.Tests.{le-ltb, lt-ltb, eq-eqb, ne-eqb}
-use mathlib.Core.Bool.{Bool, true, false, cond}
+use mathlib.Core.Bool.{Bool, true, false, cond, not, _&&_}
 use mathlib.Core.List.{List}
 use mathlib.Core.Logic.{_≢_}
 use mathlib.Core.Path.{_≡_, sym, ap, _∙_}
@@ -17,7 +17,7 @@ use Rattle.region.specs.Regions.{checkedOf}
 use Rattle.region.specs.declared.Rect.{Rect}
 use Rattle.writing.specs.Sets.{setSize}
 use Rattle.begin.specs.Beginnings.{isShortScratch, withScratch, withRegion, withStream, regionBegins, wholeOf, isWhole, withSize, withPicture, imageBegins}
-use Rattle.begin.specs.Beginnings.{withBlock, withOpened, tightBegins, withSet, withParsed, writingBegins}
+use Rattle.begin.specs.Beginnings.{withBlock, withOpened, blockBegins, withSet, withParsed, writingBegins}
 use Rattle.begin.specs.declared.Beginning.the-variants.{Refused}
 
 -- the width is at most 512
@@ -36,9 +36,9 @@ module _ (d : List ℕ) (p : Parsed) (e : openOf d ≡ p) where
   unfolding imageBegins
   image-is w h n a b = rw e
 
-  pub tight-is : (k a b : ℕ) → withOpened p k a b ≡ tightBegins d k a b
-  unfolding tightBegins
-  tight-is k a b = rw e
+  pub block-is : (tight : Bool) (k a b : ℕ) → withOpened tight p k a b ≡ blockBegins tight d k a b
+  unfolding blockBegins
+  block-is tight k a b = rw e
 
 pub writing-is : (d : List ℕ) (p : Parsed) → parseOf d ≡ p → (n a b : ℕ) → withParsed p n a b ≡ writingBegins d n a b
 unfolding writingBegins
@@ -53,16 +53,16 @@ module _ (h : FujiHeader) (a b : ℕ) where
   pub scratch-fits : isShortScratch (h .xtrans) a b ≡ false → Parsing.Header h ≡ withScratch h a b
   scratch-fits e = rw e
 
-  pub no-block : (k : ℕ) → h .blocks ≤ k → Parsing.Refused NoBlock ≡ withBlock h k a b
-  no-block k s = rw (le-ltb k (h .blocks) s)
+  pub no-block : (tight : Bool) (k : ℕ) → h .blocks ≤ k → Parsing.Refused NoBlock ≡ withBlock tight h k a b
+  no-block tight k s = rw (le-ltb k (h .blocks) s)
 
-  pub lossy-block : (k : ℕ) → k < h .blocks → h .lossless ≡ false → Parsing.Refused Lossy ≡ withBlock h k a b
-  lossy-block k s e = rw (lt-ltb k (h .blocks) s, e)
+  pub lossy-block : (tight : Bool) (k : ℕ) → k < h .blocks → tight && not (h .lossless) ≡ true → Parsing.Refused Lossy ≡ withBlock tight h k a b
+  lossy-block tight k s e = rw (lt-ltb k (h .blocks) s, e)
 
-  pub a-block : (k : ℕ) → k < h .blocks → h .lossless ≡ true → withScratch h a b ≡ withBlock h k a b
-  a-block k s e =
-      let inner = cond (h .lossless) (withScratch h a b) (Parsing.Refused Lossy) in
-      sym (ap (λ (x : Bool). cond x inner (Parsing.Refused NoBlock)) (lt-ltb k (h .blocks) s) ∙ ap (λ (x : Bool). cond x (withScratch h a b) (Parsing.Refused Lossy)) e)
+  pub a-block : (tight : Bool) (k : ℕ) → k < h .blocks → tight && not (h .lossless) ≡ false → withScratch h a b ≡ withBlock tight h k a b
+  a-block tight k s e =
+      let inner = cond (tight && not (h .lossless)) (Parsing.Refused Lossy) (withScratch h a b) in
+      sym (ap (λ (x : Bool). cond x inner (Parsing.Refused NoBlock)) (lt-ltb k (h .blocks) s) ∙ ap (λ (x : Bool). cond x (Parsing.Refused Lossy) (withScratch h a b)) e)
 
   pub lossy-set : (n : ℕ) → h .lossless ≡ false → Parsing.Refused Lossy ≡ withSet h n a b
   lossy-set n e = rw e

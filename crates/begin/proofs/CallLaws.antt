@@ -1,8 +1,8 @@
 -- What holds of a call that is neither refused nor empty. Assumes nothing.
 use borrow.Author.Tests.{ltb-false, ltb-true, eqb-true}
-use mathlib.Core.Bool.{Bool, true, false, cond, _||_}
+use mathlib.Core.Bool.{Bool, true, false, cond, not, _&&_, _||_}
 use mathlib.Core.List.{List}
-use mathlib.Core.Path.{_≡_, refl, ap, _∙_, subst}
+use mathlib.Core.Path.{_≡_, refl, sym, ap, _∙_, subst}
 use Prim.Native.Nat.{ℕ, _≤_, _<_}
 use native.Mathlib.Omega.{arith}
 use lib.Dec.{ltb, eqb}
@@ -23,7 +23,7 @@ use Rattle.region.specs.declared.Checked.the-variants as Check
 use Rattle.region.proofs.CheckLaws.{accepted}
 use Rattle.writing.specs.Sets.{setSize}
 use Rattle.begin.specs.Beginnings.{samplesNeeded, recordsNeeded, withScratch, begun, withRegion, withStream, regionBegins, wholeOf, isWhole, withPicture}
-use Rattle.begin.specs.Beginnings.{imageBegins, withOpened, tightBegins, withParsed, writingBegins}
+use Rattle.begin.specs.Beginnings.{imageBegins, withOpened, blockBegins, withParsed, writingBegins}
 use Rattle.begin.specs.declared.Beginning.the-variants.{Refused, Reading}
 
 -- ---- scratch is long enough
@@ -86,31 +86,36 @@ image-reads d w k n a b h = from (openOf d) refl
     from (Parsing.Refused x) o e = absurd (let no : _≡_ {A = ℕ} 0 1 = cc in omega arith)
     from (Parsing.Header g) o e = sized g o (isWhole g w k) e
 
--- ---- the tight reading
+-- ---- the reading of one block
 
-pub record BlockAccepted (d : List ℕ) (b samples records : ℕ) (h : FujiHeader) : Type 0 where
+pub record BlockAccepted (tight : Bool) (d : List ℕ) (b samples records : ℕ) (h : FujiHeader) : Type 0 where
   pub opens : openOf d ≡ Parsing.Header h
-  pub lossless : h .lossless ≡ true
   pub block : b < h .blocks
+  pub lossless : tight ≡ true → h .lossless ≡ true
   pub fits : ScratchFits h samples records
 
-module _ (d : List ℕ) (k a b : ℕ) (h : FujiHeader) where
-  block-reads : (g : FujiHeader) → openOf d ≡ Parsing.Header g → (s t : Bool) → ltb k (g .blocks) ≡ s → g .lossless ≡ t
-      → cond s (cond t (withScratch g a b) (Parsing.Refused Lossy)) (Parsing.Refused NoBlock) ≡ Parsing.Header h → BlockAccepted d k a b h
-  block-reads g o false t p q e = clash NoBlock h e
-  block-reads g o true false p q e = clash Lossy h e
-  block-reads g o true true p q e =
-      let f = scratch-fits g h a b e in
-      subst (λ (x : FujiHeader). BlockAccepted d k a b x) (f .0)
-      (record { opens = o; lossless = q; block = ltb-true k (g .blocks) p; fits = f .1 })
+module _ (tight : Bool) (d : List ℕ) (k a b : ℕ) (h : FujiHeader) where
+  not-lossy : (t l : Bool) → t && not l ≡ false → t ≡ true → l ≡ true
+  not-lossy t true e f = refl
+  not-lossy true false e f = sym e
+  not-lossy false false e f = f
 
-  pub tight-reads : tightBegins d k a b ≡ Parsing.Header h → BlockAccepted d k a b h
-  unfolding tightBegins
-  tight-reads = from (openOf d) refl
+  block-from : (g : FujiHeader) → openOf d ≡ Parsing.Header g → (s t : Bool) → ltb k (g .blocks) ≡ s → tight && not (g .lossless) ≡ t
+      → cond s (cond t (Parsing.Refused Lossy) (withScratch g a b)) (Parsing.Refused NoBlock) ≡ Parsing.Header h → BlockAccepted tight d k a b h
+  block-from g o false t p q e = clash NoBlock h e
+  block-from g o true true p q e = clash Lossy h e
+  block-from g o true false p q e =
+      let f = scratch-fits g h a b e in
+      subst (λ (x : FujiHeader). BlockAccepted tight d k a b x) (f .0)
+      (record { opens = o; block = ltb-true k (g .blocks) p; lossless = not-lossy tight (g .lossless) q; fits = f .1 })
+
+  pub block-reads : blockBegins tight d k a b ≡ Parsing.Header h → BlockAccepted tight d k a b h
+  unfolding blockBegins
+  block-reads = from (openOf d) refl
     where
-      from : (p : Parsed) → openOf d ≡ p → withOpened p k a b ≡ Parsing.Header h → BlockAccepted d k a b h
+      from : (p : Parsed) → openOf d ≡ p → withOpened tight p k a b ≡ Parsing.Header h → BlockAccepted tight d k a b h
       from (Parsing.Refused x) o e = clash x h e
-      from (Parsing.Header g) o e = block-reads g o (ltb k (g .blocks)) (g .lossless) refl refl e
+      from (Parsing.Header g) o e = block-from g o (ltb k (g .blocks)) (tight && not (g .lossless)) refl refl e
 
 -- ---- the writer
 

@@ -1,6 +1,6 @@
 -- How a call begins: a refusal, nothing to do, or a header to go by. A call that is refused touches no buffer. Refusals come in the order of their
 -- numbers. Assumes nothing.
-use mathlib.Core.Bool.{Bool, cond, _&&_, _||_}
+use mathlib.Core.Bool.{Bool, true, false, cond, not, _&&_, _||_}
 use mathlib.Core.List.{List, [], _∷_}
 use mathlib.Core.Option.{Option, none, some}
 use Prim.Native.Nat.{ℕ, suc, _+_, _*_}
@@ -78,22 +78,28 @@ withPicture (Parsing.Header h) width height image samples records = withSize h w
 unfoldable pub imageBegins : List ℕ → ℕ → ℕ → ℕ → ℕ → ℕ → Beginning
 imageBegins d width height image samples records = withPicture (openOf d) width height image samples records
 
--- ---- the tight reading of block b
+-- ---- the reading of block b, the ordinary one or the tight one
 
--- refusals 5, 8 and 10
-abbrev pub withBlock : FujiHeader → ℕ → ℕ → ℕ → Parsed
-withBlock h b samples records =
+-- refusals 5, 8 and 10. The ordinary reading takes lossy streams too
+abbrev pub withBlock : Bool → FujiHeader → ℕ → ℕ → ℕ → Parsed
+withBlock tight h b samples records =
     cond (ltb b (h .blocks))
-    (cond (h .lossless) (withScratch h samples records) (Parsing.Refused Lossy))
+    (cond (tight && not (h .lossless)) (Parsing.Refused Lossy) (withScratch h samples records))
     (Parsing.Refused NoBlock)
 
 -- after refusals 1 to 4
-abbrev pub withOpened : Parsed → ℕ → ℕ → ℕ → Parsed
-withOpened (Parsing.Refused x) b samples records = Parsing.Refused x
-withOpened (Parsing.Header h) b samples records = withBlock h b samples records
+abbrev pub withOpened : Bool → Parsed → ℕ → ℕ → ℕ → Parsed
+withOpened tight (Parsing.Refused x) b samples records = Parsing.Refused x
+withOpened tight (Parsing.Header h) b samples records = withBlock tight h b samples records
 
-unfoldable pub tightBegins : List ℕ → ℕ → ℕ → ℕ → Parsed
-tightBegins d b samples records = withOpened (openOf d) b samples records
+unfoldable pub blockBegins : Bool → List ℕ → ℕ → ℕ → ℕ → Parsed
+blockBegins tight d b samples records = withOpened tight (openOf d) b samples records
+
+abbrev pub readBegins : List ℕ → ℕ → ℕ → ℕ → Parsed
+readBegins d b samples records = blockBegins false d b samples records
+
+abbrev pub tightBegins : List ℕ → ℕ → ℕ → ℕ → Parsed
+tightBegins d b samples records = blockBegins true d b samples records
 
 -- ---- the writer, for a set of so many samples
 

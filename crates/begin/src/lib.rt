@@ -9,7 +9,7 @@ ghost use Rattle.region.specs.Regions.{checkedOf};
 ghost use Rattle.writing.specs.Sets.{setSize};
 ghost use Rattle.map.specs.Places.{widthOf};
 ghost use Rattle.begin.specs.Beginnings.{samplesNeeded, isShortScratch, withScratch, begun, withRegion, regionBegins, wholeOf, isWhole, withSize, imageBegins};
-ghost use Rattle.begin.specs.Beginnings.{withBlock, tightBegins, withSet, writingBegins, firstAbove};
+ghost use Rattle.begin.specs.Beginnings.{withBlock, blockBegins, withSet, writingBegins, firstAbove};
 ghost use Rattle.bits.specs.BitLists.{blockBytes};
 ghost use Rattle.begin.specs.Counted.{lengthNext, nextOf};
 use bits::BitPosition;
@@ -21,8 +21,8 @@ use stream::Parsed;
 use stream::Refusal;
 use writing::Put;
 
-// How decoding begins: a refusal, nothing to do, or a stream with this header is read. The tight reading and the writer always have something to
-// do: they begin with a refusal or a header, as `Parsed` has them.
+// How decoding begins: a refusal, nothing to do, or a stream with this header is read. The reading of one block and the writer always have something
+// to do: they begin with a refusal or a header, as `Parsed` has them.
 pub enum Beginning {
     Refused(Refusal),
     Nothing,
@@ -137,30 +137,30 @@ pub fn image_begins(
     }
 }
 
-// ---- the tight reading
+// ---- the reading of one block
 
-fn tight_in(h: FujiHeader, b: usize, samples: usize, records: usize) -> Parsed
-    ensures { λ a. ⌜ a ≡ withBlock h b samples records ⌝ }
+fn block_in(h: FujiHeader, b: usize, tight: bool, samples: usize, records: usize) -> Parsed
+    ensures { λ a. ⌜ a ≡ withBlock tight h b samples records ⌝ }
 {
     let blocks = h.blocks as usize;
     let lossless = h.lossless;
     if blocks <= b {
         return Parsed::Refused(Refusal::NoBlock);
     }
-    if !lossless {
+    if tight & !lossless {
         return Parsed::Refused(Refusal::Lossy);
     }
     with_scratch(h, samples, records)
 }
 
-// The tight reading of block b of the stream d.
-pub fn tight_begins(d: &[u8], b: usize, samples: usize, records: usize) -> Parsed
-    ensures { λ a. ⌜ a ≡ tightBegins (now (d .entry)) b samples records ⌝ }
+// The ordinary reading, or the tight one, of block b of the stream d.
+pub fn block_begins(d: &[u8], b: usize, tight: bool, samples: usize, records: usize) -> Parsed
+    ensures { λ a. ⌜ a ≡ blockBegins tight (now (d .entry)) b samples records ⌝ }
 {
     let opened = stream::open(d);
     match opened {
         Parsed::Refused(x) => Parsed::Refused(x),
-        Parsed::Header(h) => tight_in(h, b, samples, records),
+        Parsed::Header(h) => block_in(h, b, tight, samples, records),
     }
 }
 

@@ -23,12 +23,14 @@ use Rattle.map.specs.Places.{widthOf}
 use Rattle.writing.specs.Sets.{setSize}
 use Rattle.output.specs.Output.{putBits}
 use Rattle.writing.specs.Puts.{Room, Within}
+use Rattle.writing.proofs.TurnPuts.{all-wanted}
+use Rattle.steps.specs.Steps.{planOf, passSteps}
 use Rattle.begin.specs.Beginnings.{firstAbove}
 use Rattle.begin.specs.Counted.{nextOf}
 use Rattle.begin.specs.declared.Next.the-variants.{Answer, Store}
 use Rattle.writing.specs.declared.Put.{Put}
 use Rattle.writing.specs.declared.Put.the-variants.{At, Wrong}
-use Rattle.block.specs.WrittenBlocks.{writeLines, tightBlock, FitSet}
+use Rattle.block.specs.WrittenBlocks.{writeLines, writtenBlock, tightBlock, SetWanted, FitSet}
 use Rattle.block.specs.WrittenAnswers.{IsSetPut, SetWritten, predictedAnswer, rangeAnswer, measuredAnswer, writtenAnswer, roomFor, outputOf}
 use Rattle.block.specs.declared.Form.{Form}
 
@@ -49,9 +51,9 @@ none-within m i (v ∷ t) e = split (suc m) v (λ h. high h) (λ h. low h (none-
 
 -- ---- the block
 
-block-length : (F : Form) (count : ℕ) (t : List ℕ) → length (tightBlock F count t) ≡ blockBytes (length ((writeLines F t count) .bits))
-unfolding tightBlock bytesOf
-block-length F count t = length-packed _ _
+block-length : (F : Form) (bases : List ℕ) (count : ℕ) (t : List ℕ) → length (writtenBlock F bases count t) ≡ blockBytes (length ((writeLines F bases t count) .bits))
+unfolding writtenBlock bytesOf
+block-length F bases count t = length-packed _ _
 
 -- bits that are put at the start: their bytes, and what follows these
 put-all : (out : List ℕ) (l : List Bool) → putBits out 0 l ≡ packed (bytesFor (length l)) l ++ drop (bytesFor (length l)) out
@@ -87,63 +89,63 @@ pub refused-out : (measure : Bool) (x : Refusal) (block out : List ℕ) → out 
 refused-out true x block out = refl
 refused-out false x block out = refl
 
-module _ (F : Form) (count : ℕ) (t out : List ℕ) where
+module _ (F : Form) (bases : List ℕ) (count : ℕ) (t out : List ℕ) where
   -- a set with a wrong sample, whose bits were counted
-  counted-wrong : (out₁ : List ℕ) (i room : ℕ) → SetWritten (writeLines F t count) false out out₁ (Wrong i)
-      → (Refused (NotPredicted i) ≡ measuredAnswer F count t room) × (out₁ ≡ out)
+  counted-wrong : (out₁ : List ℕ) (i room : ℕ) → SetWritten (writeLines F bases t count) false out out₁ (Wrong i)
+      → (Refused (NotPredicted i) ≡ measuredAnswer F bases count t room) × (out₁ ≡ out)
   unfolding measuredAnswer
-  counted-wrong out₁ i room s = go ((writeLines F t count) .wrong) refl (s .are)
+  counted-wrong out₁ i room s = go ((writeLines F bases t count) .wrong) refl (s .are)
     where
-      go : (o : Option ℕ) → (writeLines F t count) .wrong ≡ o → IsSetPut o (writeLines F t count) false out out₁ (Wrong i)
-          → (Refused (NotPredicted i) ≡ measuredAnswer F count t room) × (out₁ ≡ out)
+      go : (o : Option ℕ) → (writeLines F bases t count) .wrong ≡ o → IsSetPut o (writeLines F bases t count) false out out₁ (Wrong i)
+          → (Refused (NotPredicted i) ≡ measuredAnswer F bases count t room) × (out₁ ≡ out)
       go none e p = clash _ i (sym (p .0))
       go (some j) e p = let f : Wrong i ≡ Wrong j = p .0 in let q : i ≡ j = cc in (rw (e, q), p .1 refl)
 
   -- and with none
   pub record Counted (out₁ : List ℕ) (end : BitPosition) : Type 0 where
-    pub right : (writeLines F t count) .wrong ≡ none
-    pub position : end .0 ≡ length ((writeLines F t count) .bits)
+    pub right : (writeLines F bases t count) .wrong ≡ none
+    pub position : end .0 ≡ length ((writeLines F bases t count) .bits)
     pub kept : out₁ ≡ out
 
-  counted-right : (out₁ : List ℕ) (end : BitPosition) → SetWritten (writeLines F t count) false out out₁ (At end) → Counted out₁ end
-  counted-right out₁ end s = go ((writeLines F t count) .wrong) refl (s .are)
+  counted-right : (out₁ : List ℕ) (end : BitPosition) → SetWritten (writeLines F bases t count) false out out₁ (At end) → Counted out₁ end
+  counted-right out₁ end s = go ((writeLines F bases t count) .wrong) refl (s .are)
     where
-      go : (o : Option ℕ) → (writeLines F t count) .wrong ≡ o → IsSetPut o (writeLines F t count) false out out₁ (At end) → Counted out₁ end
+      go : (o : Option ℕ) → (writeLines F bases t count) .wrong ≡ o → IsSetPut o (writeLines F bases t count) false out out₁ (At end) → Counted out₁ end
       go none e p =
-          let f : At end ≡ At (record { 0 = length ((writeLines F t count) .bits) }) = p .0 in
-          let q : end ≡ record { 0 = length ((writeLines F t count) .bits) } = cc in
+          let f : At end ≡ At (record { 0 = length ((writeLines F bases t count) .bits) }) = p .0 in
+          let q : end ≡ record { 0 = length ((writeLines F bases t count) .bits) } = cc in
           record { right = e; position = ap (λ (a : BitPosition). a .0) q; kept = p .1 }
       go (some j) e p = clash end j (p .0)
 
-  needed : (out₁ : List ℕ) (end : BitPosition) → Counted out₁ end → blockBytes (end .0) ≡ length (tightBlock F count t)
-  needed out₁ end k = rw (k .position) (sym (block-length F count t))
+  needed : (out₁ : List ℕ) (end : BitPosition) → Counted out₁ end → blockBytes (end .0) ≡ length (writtenBlock F bases count t)
+  needed out₁ end k = rw (k .position) (sym (block-length F bases count t))
 
   -- ---- what is answered after counting, for a set that is only measured or not
 
   abbrev pub Answered : Bool → BlockLength → List ℕ → Type 0
   Answered measure a out' =
-      (a ≡ measuredAnswer F count t (roomFor measure (tightBlock F count t) out)) × (out' ≡ outputOf measure a (tightBlock F count t) out)
+      (a ≡ measuredAnswer F bases count t (roomFor measure (writtenBlock F bases count t) out)) × (out' ≡ outputOf measure a (writtenBlock F bases count t) out)
 
   module _ (out₁ : List ℕ) (end : BitPosition) (k : Counted out₁ end) where
     -- a measured set has room for just its block
     answered-length : Answered true (Length (blockBytes (end .0))) out₁
     unfolding measuredAnswer
     answered-length =
-        let n : ℕ = length (tightBlock F count t) in
+        let n : ℕ = length (writtenBlock F bases count t) in
         (rw (k .right, needed out₁ end k, le-ltb n n (le-refl n)), k .kept)
 
     answered-short : ltb (length out₁) (blockBytes (end .0)) ≡ true → Answered false (Refused ShortOutput) out₁
     unfolding measuredAnswer
     answered-short e =
-        let f : ltb (length out) (length (tightBlock F count t)) ≡ true = rw (k .kept, needed out₁ end k) at e in
+        let f : ltb (length out) (length (writtenBlock F bases count t)) ≡ true = rw (k .kept, needed out₁ end k) at e in
         (rw (k .right, f), k .kept)
 
-  pub next-answer : (out₁ : List ℕ) (r : Put) (measure : Bool) (a : BlockLength) → SetWritten (writeLines F t count) false out out₁ r
+  pub next-answer : (out₁ : List ℕ) (r : Put) (measure : Bool) (a : BlockLength) → SetWritten (writeLines F bases t count) false out out₁ r
       → nextOf r measure (length out₁) ≡ Answer a → Answered measure a out₁
   next-answer out₁ (Wrong i) measure a s e =
       let q : Refused (NotPredicted i) ≡ a = cc in
-      let w = counted-wrong out₁ i (roomFor measure (tightBlock F count t) out) s in
-      subst (λ (x : BlockLength). Answered measure x out₁) q (w .0, w .1 ∙ refused-out measure (NotPredicted i) (tightBlock F count t) out)
+      let w = counted-wrong out₁ i (roomFor measure (writtenBlock F bases count t) out) s in
+      subst (λ (x : BlockLength). Answered measure x out₁) q (w .0, w .1 ∙ refused-out measure (NotPredicted i) (writtenBlock F bases count t) out)
   next-answer out₁ (At end) measure a s e = go measure (ltb (length out₁) (blockBytes (end .0))) refl e
     where
       k : Counted out₁ end
@@ -162,7 +164,7 @@ module _ (F : Form) (count : ℕ) (t out : List ℕ) where
     pub writes : measure ≡ false
     pub room : blockBytes (end .0) ≤ length out₁
 
-  pub next-store : (out₁ : List ℕ) (r : Put) (measure : Bool) (end : BitPosition) → SetWritten (writeLines F t count) false out out₁ r
+  pub next-store : (out₁ : List ℕ) (r : Put) (measure : Bool) (end : BitPosition) → SetWritten (writeLines F bases t count) false out out₁ r
       → nextOf r measure (length out₁) ≡ Store end → Stores measure out₁ end
   next-store out₁ (Wrong i) measure end s e = let no : _≡_ {A = ℕ} 0 1 = cc in absurd (omega arith)
   next-store out₁ (At at) measure end s e = go measure refl (ltb (length out₁) (blockBytes (at .0))) refl e
@@ -178,20 +180,20 @@ module _ (F : Form) (count : ℕ) (t out : List ℕ) where
 
   module _ (measure : Bool) (out₁ : List ℕ) (end : BitPosition) (k : Stores measure out₁ end) where
     -- there is room for the bits
-    pub store-room : Room true out₁ 0 ((writeLines F t count) .bits)
+    pub store-room : Room true out₁ 0 ((writeLines F bases t count) .bits)
     store-room e = omega (arith, k .room, k .counted .position)
 
-    pub stored : (out₂ : List ℕ) (r₂ : Put) → SetWritten (writeLines F t count) true out₁ out₂ r₂ → (out₃ : List ℕ) → out₃ ≡ filled (end .0) out₂
+    pub stored : (out₂ : List ℕ) (r₂ : Put) → SetWritten (writeLines F bases t count) true out₁ out₂ r₂ → (out₃ : List ℕ) → out₃ ≡ filled (end .0) out₂
         → (n : ℕ) → n ≡ blockBytes (end .0) → Answered measure (Length n) out₃
-    unfolding measuredAnswer tightBlock
+    unfolding measuredAnswer writtenBlock
     stored out₂ r₂ s out₃ e n en =
         let c = k .counted in
-        let l : List Bool = (writeLines F t count) .bits in
-        let p : IsSetPut none (writeLines F t count) true out₁ out₂ r₂ = rw (c .right) at (s .are) in
+        let l : List Bool = (writeLines F bases t count) .bits in
+        let p : IsSetPut none (writeLines F bases t count) true out₁ out₂ r₂ = rw (c .right) at (s .are) in
         let f : blockBytes (length l) ≡ n = sym (en ∙ rw (c .position)) in
-        let room : length (tightBlock F count t) ≤ length out = omega (arith, k .room, needed out₁ end c, ap length (c .kept)) in
+        let room : length (writtenBlock F bases count t) ≤ length out = omega (arith, k .room, needed out₁ end c, ap length (c .kept)) in
         rw (k .writes) (
-          rw (c .right, le-ltb (length out) (length (tightBlock F count t)) room, en ∙ needed out₁ end c),
+          rw (c .right, le-ltb (length out) (length (writtenBlock F bases count t)) room, en ∙ needed out₁ end c),
           e ∙ rw (c .position, p .1) (fill-all out₁ l ∙ rw (c .kept, f)),
         )
 
@@ -208,10 +210,11 @@ module _ (F : Form) (count : ℕ) (t : List ℕ) (room m i : ℕ) (em : m ≡ la
   no-first : length t ≤ i → firstAbove (largest (F .bits)) 0 t ≡ none
   no-first h = first-is ∙ rw (le-ltb i (length t) h)
 
-  pub set-within : length t ≤ i → Within (largest (F .bits)) t
-  set-within h = none-within (largest (F .bits)) 0 t (no-first h)
+  pub set-wanted : length t ≤ i → SetWanted F t
+  set-wanted h n j =
+      all-wanted (largest (F .bits)) (widthOf (F .xtrans)) t n (passSteps (widthOf (F .xtrans)) (planOf (F .xtrans) j)) (none-within (largest (F .bits)) 0 t (no-first h))
 
-  pub set-answer : length t ≤ i → (a : BlockLength) → a ≡ measuredAnswer F count t room → a ≡ writtenAnswer F count t room
+  pub set-answer : length t ≤ i → (a : BlockLength) → a ≡ measuredAnswer F [] count t room → a ≡ writtenAnswer F count t room
   unfolding writtenAnswer
   set-answer h a e = e ∙ rw (no-first h)
 
@@ -232,19 +235,19 @@ module _ (F : Form) (lines : ℕ) (t : List ℕ) (room : ℕ) where
   unfolding writtenAnswer measuredAnswer
   written-fits n size e = ranged (firstAbove (largest (F .bits)) 0 t) refl e
     where
-      measured : (b : Bool) → Within (largest (F .bits)) t → (writeLines F t lines) .wrong ≡ none → ltb room (length (tightBlock F lines t)) ≡ b
+      measured : (b : Bool) → Within (largest (F .bits)) t → (writeLines F [] t lines) .wrong ≡ none → ltb room (length (tightBlock F lines t)) ≡ b
           → cond b (Refused ShortOutput) (Length (length (tightBlock F lines t))) ≡ Length n → FitSet F lines t × (n ≡ length (tightBlock F lines t)) × (n ≤ room)
       measured true r p h f = let no : _≡_ {A = ℕ} 0 1 = cc in absurd (omega arith)
       measured false r p h f =
           let k : length (tightBlock F lines t) ≡ n = cc in
           (record { size = size; range = r; predicted = p }, sym k, omega (arith, k, ltb-false room (length (tightBlock F lines t)) h))
 
-      predicted : (o : Option ℕ) → Within (largest (F .bits)) t → (writeLines F t lines) .wrong ≡ o → predictedAnswer o (length (tightBlock F lines t)) room ≡ Length n
+      predicted : (o : Option ℕ) → Within (largest (F .bits)) t → (writeLines F [] t lines) .wrong ≡ o → predictedAnswer o (length (tightBlock F lines t)) room ≡ Length n
           → FitSet F lines t × (n ≡ length (tightBlock F lines t)) × (n ≤ room)
       predicted none r p f = measured (ltb room (length (tightBlock F lines t))) r p refl f
       predicted (some j) r p f = let no : _≡_ {A = ℕ} 0 1 = cc in absurd (omega arith)
 
-      ranged : (o : Option ℕ) → firstAbove (largest (F .bits)) 0 t ≡ o → rangeAnswer o (measuredAnswer F lines t room) ≡ Length n
+      ranged : (o : Option ℕ) → firstAbove (largest (F .bits)) 0 t ≡ o → rangeAnswer o (measuredAnswer F [] lines t room) ≡ Length n
           → FitSet F lines t × (n ≡ length (tightBlock F lines t)) × (n ≤ room)
-      ranged none g f = predicted ((writeLines F t lines) .wrong) (none-within (largest (F .bits)) 0 t g) refl f
+      ranged none g f = predicted ((writeLines F [] t lines) .wrong) (none-within (largest (F .bits)) 0 t g) refl f
       ranged (some i) g f = let no : _≡_ {A = ℕ} 0 1 = cc in absurd (omega arith)

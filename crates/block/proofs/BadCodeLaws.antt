@@ -1,6 +1,6 @@
 -- The first bad code: it is inside, it is not tight, and there is none exactly where all codes are tight. Assumes nothing.
 use mathlib.Core.Bool.{Bool, true, false, cond, _&&_, and-true, and-false, false≢true}
-use mathlib.Core.List.{List, [], _∷_, _++_}
+use mathlib.Core.List.{List, [], _∷_}
 use mathlib.Core.Logic.{_↔_}
 use mathlib.Core.Option.{Option, none, some, Option·map, orElse, Option·some-injective}
 use mathlib.Core.Path.{_≡_, refl, sym, ap, _∙_, subst}
@@ -8,10 +8,9 @@ use Prim.Native.Nat.{ℕ, zero, suc, _+_, _*_, _/_, _^_, _≤_, _<_}
 use native.Mathlib.Omega.{arith}
 use borrow.Author.Tests.{lt-ltb, le-ltb, le-leb, lt-leb, eq-eqb, ne-eqb}
 use lib.Dec.{leb, eqb}
-use lib.ListN.{length, getD}
+use lib.ListN.{length}
 use Rattle.numbers.proofs.OrderLaws.{split}
 use Rattle.bits.specs.Bits.{bitAt, bitsAt, zeros, zeroRun}
-use Rattle.statistics.specs.Statistics.{kOf}
 use Rattle.quantiser.specs.Quantisers.{largest}
 use Rattle.quantiser.specs.declared.Quantiser.{Quantiser}
 use Rattle.code.specs.Codes.{shortCode, longCode, codeAt}
@@ -21,13 +20,14 @@ use Rattle.code.specs.declared.Coded.{Coded}
 use Rattle.code.specs.declared.Coded.the-variants.{Read, Truncated}
 use Rattle.code.proofs.CodeLaws.{code-cases}
 use Rattle.steps.specs.Steps.{Step, planOf, passSteps}
-use Rattle.steps.specs.Contexts.{usedQuantiser, noRecord, stepPlace, stepContext, stepLook, stepSlot}
+use Rattle.steps.specs.Contexts.{stepPlace, stepContext, stepLook, stepSlot}
 use Rattle.pass.specs.Readings.{Reading, interpolate, takeCode, taken, readStep, andThen, reads, readPass, stepCode}
 use Rattle.steps.specs.declared.Plan.{Plan}
 use Rattle.map.specs.Places.{widthOf}
 use Rattle.block.specs.Records.{baseOf}
 use Rattle.block.specs.Blocks.{State, runs, enter, leave, passAt, endLine, readLine, beforeLine, readLineAt, startState, readLines, tightLines}
 use Rattle.block.specs.BadCodes.{Reason, too-large, too-many-zeros, short-fits, reasonOf, codedReason, stepReason, BadCode, badAt, badInSteps, firstFound, badInPass, badInLine, firstBad}
+use Rattle.block.specs.BadSpots.{stepK, stepQuantiser, BadStep, BadIn}
 use Rattle.block.specs.declared.Form.{Form}
 use Rattle.block.proofs.RunLaws.{then-both, runs-last}
 
@@ -104,14 +104,7 @@ examples = (refl, refl, refl, refl, refl)
 -- ---- the steps of a pass
 
 module _ (bits q W : ℕ) (s : List ℕ) where
-  -- the k of a step's code, and its quantiser
-  abbrev pub stepK : Step → Reading → ℕ
-  stepK x r = kOf (getD (r .set) (stepSlot q W x (r .lines)) noRecord)
-
-  abbrev pub stepQuantiser : Step → Reading → Quantiser
-  stepQuantiser x r = usedQuantiser bits q ((stepLook q W x (r .lines)) .choice)
-
-  step-stays : (x : Step) (r z : Reading) → readStep bits q W s x r ≡ some z → z .tight ≡ stays (stepReason bits q W s x r) (r .tight)
+  pub step-stays : (x : Step) (r z : Reading) → readStep bits q W s x r ≡ some z → z .tight ≡ stays (stepReason bits q W s x r) (r .tight)
   unfolding readStep stepReason
   step-stays x r z e = go (x .coded) (stepCode bits q W s x r) refl e
     where
@@ -120,12 +113,12 @@ module _ (bits q W : ℕ) (s : List ℕ) where
 
       go : (b : Bool) (g : Coded) → stepCode bits q W s x r ≡ g
           → cond b (taken bits q (stepPlace W x) (stepSlot q W x (r .lines)) (stepContext W x (r .lines)) (stepLook q W x (r .lines)) r g) (some (interpolate (stepPlace W x) (stepContext W x (r .lines)) r)) ≡ some z
-          → z .tight ≡ stays (cond b (codedReason M (stepK x r) ((stepQuantiser x r) .limit) g) none) (r .tight)
+          → z .tight ≡ stays (cond b (codedReason M (stepK q W x r) ((stepQuantiser bits q W x r) .limit) g) none) (r .tight)
       go true Truncated eg f = let no : _≡_ {A = ℕ} 0 1 = cc in absurd (omega arith)
       go true (Read d) eg f =
           let y : Reading = takeCode bits q (stepPlace W x) (stepSlot q W x (r .lines)) (stepContext W x (r .lines)) (stepLook q W x (r .lines)) d r in
           ap (λ (w : Reading). w .tight) (sym (Option·some-injective y z f))
-          ∙ code-stays M s (r .at .0) (stepK x r) ((stepQuantiser x r) .limit) ((stepQuantiser x r) .raw) d (r .tight) eg
+          ∙ code-stays M s (r .at .0) (stepK q W x r) ((stepQuantiser bits q W x r) .limit) ((stepQuantiser bits q W x r) .raw) d (r .tight) eg
       go false g eg f =
           let y : Reading = interpolate (stepPlace W x) (stepContext W x (r .lines)) r in
           ap (λ (w : Reading). w .tight) (sym (Option·some-injective y z f))
@@ -141,25 +134,8 @@ module _ (bits q W : ℕ) (s : List ℕ) where
         (steps-stay l (b .0) z (b .2) ∙ ap (stays (badInSteps n i bits q W s l (b .0))) first
         ∙ sym (stays-else (Option·map (badAt n i x r) (stepReason bits q W s x r)) (badInSteps n i bits q W s l (b .0)) (r .tight)))
 
-    -- where the bad code b stands among steps: those before it were read, with tight codes alone, and its own code was read at its first bit
-    pub record BadStep (l : List Step) (r : Reading) (b : BadCode) : Type 0 where
-      pub line : b .line ≡ n
-      pub pass : b .pass ≡ i
-      pub before : List Step
-      pub after : List Step
-      pub among : l ≡ before ++ b .step ∷ after
-      pub reading : Reading
-      pub read : reads bits q W s before r ≡ some reading
-      pub clean : reading .tight ≡ r .tight
-      pub coded : b .step .coded ≡ true
-      pub at : b .at ≡ reading .at
-      pub code : Code
-      pub code-read : codeAt s (b .at .0) (stepK (b .step) reading) ((stepQuantiser (b .step) reading) .limit) ((stepQuantiser (b .step) reading) .raw) ≡ Read code
-      pub loose : isTight (largest bits) code ≡ false
-      pub reason : reasonOf (largest bits) (stepK (b .step) reading) ((stepQuantiser (b .step) reading) .limit) code ≡ some (b .reason)
-
     -- the first of some steps is bad
-    bad-here : (x : Step) (l : List Step) (r : Reading) (w : Reason) → stepReason bits q W s x r ≡ some w → BadStep (x ∷ l) r (badAt n i x r w)
+    bad-here : (x : Step) (l : List Step) (r : Reading) (w : Reason) → stepReason bits q W s x r ≡ some w → BadStep bits q W s n i (x ∷ l) r (badAt n i x r w)
     unfolding stepReason reads
     bad-here x l r w e = go (x .coded) (stepCode bits q W s x r) refl refl e
       where
@@ -167,13 +143,13 @@ module _ (bits q W : ℕ) (s : List ℕ) where
         M = largest bits
 
         k : ℕ
-        k = stepK x r
+        k = stepK q W x r
 
         Q : Quantiser
-        Q = stepQuantiser x r
+        Q = stepQuantiser bits q W x r
 
         go : (b : Bool) (g : Coded) → x .coded ≡ b → stepCode bits q W s x r ≡ g → cond b (codedReason M k (Q .limit) g) none ≡ some w
-            → BadStep (x ∷ l) r (badAt n i x r w)
+            → BadStep bits q W s n i (x ∷ l) r (badAt n i x r w)
         go true (Read c) eb eg f =
             record {
               line = refl;
@@ -195,7 +171,7 @@ module _ (bits q W : ℕ) (s : List ℕ) where
         go false g eb eg f = let no : _≡_ {A = ℕ} 0 1 = cc in absurd (omega arith)
 
     -- or it is read, with a tight code or none, and a later one is bad
-    bad-later : (x : Step) (l : List Step) (r y : Reading) (b : BadCode) → readStep bits q W s x r ≡ some y → y .tight ≡ r .tight → BadStep l y b → BadStep (x ∷ l) r b
+    bad-later : (x : Step) (l : List Step) (r y : Reading) (b : BadCode) → readStep bits q W s x r ≡ some y → y .tight ≡ r .tight → BadStep bits q W s n i l y b → BadStep bits q W s n i (x ∷ l) r b
     unfolding reads andThen
     bad-later x l r y b e t p =
         record {
@@ -215,7 +191,7 @@ module _ (bits q W : ℕ) (s : List ℕ) where
           reason = p .reason;
         }
 
-    bad-step : (l : List Step) (r : Reading) (b : BadCode) → badInSteps n i bits q W s l r ≡ some b → BadStep l r b
+    bad-step : (l : List Step) (r : Reading) (b : BadCode) → badInSteps n i bits q W s l r ≡ some b → BadStep bits q W s n i l r b
     unfolding badInSteps orElse andThen
     bad-step [] r b e = let no : _≡_ {A = ℕ} 0 1 = cc in absurd (omega arith)
     bad-step (x ∷ l) r b e =
@@ -223,9 +199,9 @@ module _ (bits q W : ℕ) (s : List ℕ) where
       where
         go : (o : Option Reason) (p : Option Reading) → stepReason bits q W s x r ≡ o → readStep bits q W s x r ≡ p
             → ((y : Reading) → readStep bits q W s x r ≡ some y → y .tight ≡ stays (stepReason bits q W s x r) (r .tight))
-            → ((y : Reading) → badInSteps n i bits q W s l y ≡ some b → BadStep l y b)
-            → orElse (Option·map (badAt n i x r) o) (andThen p (λ z. badInSteps n i bits q W s l z)) ≡ some b → BadStep (x ∷ l) r b
-        go (some w) p eo ep tight next h = subst (BadStep (x ∷ l) r) (Option·some-injective (badAt n i x r w) b h) (bad-here x l r w eo)
+            → ((y : Reading) → badInSteps n i bits q W s l y ≡ some b → BadStep bits q W s n i l y b)
+            → orElse (Option·map (badAt n i x r) o) (andThen p (λ z. badInSteps n i bits q W s l z)) ≡ some b → BadStep bits q W s n i (x ∷ l) r b
+        go (some w) p eo ep tight next h = subst (BadStep bits q W s n i (x ∷ l) r) (Option·some-injective (badAt n i x r w) b h) (bad-here x l r w eo)
         go none none eo ep tight next h = let no : _≡_ {A = ℕ} 0 1 = cc in absurd (omega arith)
         go none (some y) eo ep tight next h = bad-later x l r y b ep (rw eo at (tight y ep)) (next y h)
 
@@ -323,17 +299,6 @@ module _ (F : Form) (bases s : List ℕ) where
 
   -- ---- where it stands
 
-  -- the bad code b stands in pass i of line n, one of the first lines: those before it were read, with tight codes alone
-  pub record BadIn (lines n i : ℕ) (b : BadCode) : Type 0 where
-    pub line-inside : n < lines
-    pub pass-inside : i < 6
-    pub start : State
-    pub started : readLines F bases s n ≡ some start
-    pub entry : State
-    pub entered : runs (passAt F (baseOf bases n) s) i (beforeLine F bases n start) ≡ some entry
-    pub step : BadStep (F .bits) (baseOf bases n) (widthOf (F .xtrans)) s n i (passSteps (widthOf (F .xtrans)) (planOf (F .xtrans) i)) (enter F (planOf (F .xtrans) i) entry) b
-    pub clean : step .reading .tight ≡ true
-
   module _ (n : ℕ) (r : State) (b : BadCode) (e : badInLine F bases s n r ≡ some b) where
     in-pass : FoundIn (passAt F (baseOf bases n) s) (badInPass F (baseOf bases n) s n) (beforeLine F bases n r) 6 b
     unfolding badInLine
@@ -355,13 +320,13 @@ module _ (F : Form) (bases s : List ℕ) where
   unfolding firstBad
   in-line lines b e = found-in (readLineAt F bases s) (badInLine F bases s) (startState F bases) lines b e
 
-  pub bad-in : (lines : ℕ) (b : BadCode) → firstBad F bases s lines ≡ some b → BadIn lines (b .line) (b .pass) b
+  pub bad-in : (lines : ℕ) (b : BadCode) → firstBad F bases s lines ≡ some b → BadIn F bases s lines (b .line) (b .pass) b
   unfolding readLines firstBad
   bad-in lines b e =
       let l = in-line lines b e in
       let p = in-pass (l .index) (l .state) b (l .found) in
       let x = in-step (l .index) (l .state) b (l .found) in
-      let there : BadIn lines (l .index) (p .index) b =
+      let there : BadIn F bases s lines (l .index) (p .index) b =
       record {
         line-inside = l .inside;
         pass-inside = p .inside;
@@ -372,7 +337,7 @@ module _ (F : Form) (bases s : List ℕ) where
         step = x;
         clean = x .clean ∙ entry-tight (l .index) (l .state) b (l .found) ∙ (rw (l .first) at (block-stays (l .index) (l .state) (l .run)));
       } in
-      subst (λ (k : ℕ). BadIn lines k (b .pass) b) (sym (x .line)) (subst (λ (k : ℕ). BadIn lines (l .index) k b) (sym (x .pass)) there)
+      subst (λ (k : ℕ). BadIn F bases s lines k (b .pass) b) (sym (x .line)) (subst (λ (k : ℕ). BadIn F bases s lines (l .index) k b) (sym (x .pass)) there)
 
   -- ---- how many lines are tight
 

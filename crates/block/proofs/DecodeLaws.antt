@@ -2,13 +2,14 @@
 use borrow.Author.Tests.{ltb-true, ltb-false, lt-ltb, le-ltb, le-leb, leb-true, eqb-true, eqb-false}
 use mathlib.Core.Bool.{Bool, true, false, cond, _&&_, and-true, and-false}
 use mathlib.Core.List.{List}
-use mathlib.Core.Option.{none, some}
+use mathlib.Core.Option.{Option, none, some}
 use mathlib.Core.Path.{_≡_, refl, sym, _∙_}
 use Prim.Native.Nat.{ℕ, zero, suc, _+_, _-_, _*_, _/_, _%_, _≤_, _<_, zero-le}
-use native.Mathlib.Nat.{add-zero, add-suc}
+use native.Mathlib.Nat.{add-zero, add-suc, le-refl}
 use native.Mathlib.Omega.{arith}
 use lib.Dec.{ltb, eqb}
 use lib.ListN.{getD}
+use Rattle.numbers.proofs.OrderLaws.{cond-le}
 use Rattle.map.specs.Places.{pictureRow, imageColumn, inRows, emittedSample}
 use Rattle.map.specs.declared.Part.{Part}
 use Rattle.map.proofs.PartLaws.{by-test, not-in}
@@ -17,8 +18,8 @@ use Rattle.stream.specs.declared.Refusal.the-variants.{Truncated}
 use Rattle.region.specs.Regions.{blockOf, firstBlock, lastBlock, bottomOf, partIn, lineCount, Accepted}
 use Rattle.region.specs.declared.Rect.{Rect}
 use Rattle.region.proofs.RegionLaws.{InColumns, one-block, row-inside}
-use Rattle.block.specs.Blocks.{State, readLineAt, startState, readLines, shownSample, Shown, shownLines, IsWalked}
-use Rattle.block.specs.Images.{formOf, bytesIn, basesIn, linesRead, readIn, lineOf, isDecoded, pictureSample, decodedSample, Pictured, orElse, walkedAnswer, answerOf}
+use Rattle.block.specs.Blocks.{State, runs, readLineAt, startState, readLines, shownSample, Shown, shownLines, IsWalked}
+use Rattle.block.specs.Images.{formOf, bytesIn, basesIn, isRead, linesRead, readIn, lineOf, isDecoded, pictureSample, decodedSample, Pictured, orElse, walkedAnswer, blockAnswer, answerOf}
 use Rattle.block.specs.declared.Form.{Form}
 use Rattle.block.specs.declared.Walked.{Walked}
 use Rattle.block.specs.declared.Walked.the-variants as Walk
@@ -30,7 +31,7 @@ use Rattle.block.proofs.RunLaws.{runs-stay}
 
 module _ (F : Form) (bases s : List ℕ) where
   -- after a truncated line no count of lines is read
-  stay-none : (t m : ℕ) → readLines F bases s t ≡ none → readLines F bases s (t + m) ≡ none
+  pub stay-none : (t m : ℕ) → readLines F bases s t ≡ none → readLines F bases s (t + m) ≡ none
   unfolding readLines
   stay-none t m e = runs-stay (readLineAt F bases s) (startState F bases) t m e
 
@@ -51,6 +52,25 @@ module _ (F : Form) (bases s : List ℕ) where
   all-read zero z e = read-none
   all-read (suc n) z e = read-last n z e
 
+  start-read : readLines F bases s 0 ≡ some (startState F bases)
+  unfolding readLines runs
+  start-read = refl
+
+  read-at-most : (n : ℕ) → linesRead F bases s n ≤ n
+  unfolding linesRead
+  read-at-most zero = le-refl 0
+  read-at-most (suc n) =
+      cond-le (suc n) (isRead (readLines F bases s (suc n))) (suc n) (linesRead F bases s n) (le-refl (suc n)) (omega (arith, read-at-most n))
+
+  pub was-read : (n : ℕ) → n ≤ linesRead F bases s n → (z : State) × (readLines F bases s n ≡ some z)
+  unfolding linesRead
+  was-read zero h = (startState F bases, start-read)
+  was-read (suc n) h = go (readLines F bases s (suc n)) refl h
+    where
+      go : (o : Option State) → readLines F bases s (suc n) ≡ o → suc n ≤ cond (isRead o) (suc n) (linesRead F bases s n) → (z : State) × (readLines F bases s (suc n) ≡ some z)
+      go none e k = absurd (omega (arith, read-at-most n))
+      go (some z) e k = (z, e)
+
   -- or those before line m
   some-read : (m : ℕ) (z : State) → readLines F bases s m ≡ some z → readLines F bases s (suc m) ≡ none
       → (k : ℕ) → linesRead F bases s (m + k) ≡ m
@@ -69,8 +89,8 @@ module _ (F : Form) (bases s : List ℕ) where
 -- by what a walk answered
 pub walked-lines : (F : Form) (bases s : List ℕ) (count : ℕ) (w : Walked) → IsWalked F bases s count w
     → shownLines w count ≡ linesRead F bases s count
-walked-lines F bases s count (Walk.Read at tight) p = sym (all-read F bases s count (p .end) (p .read))
-walked-lines F bases s count (Walk.Truncated line) p = cut-lines F bases s line count (p .before) (p .inside) (p .read) (p .cut)
+walked-lines F bases s count (Walk.Read all tight) p = sym (all-read F bases s count (p .end) (p .read))
+walked-lines F bases s count (Walk.Truncated line before) p = cut-lines F bases s line count (p .before) (p .inside) (p .read) (p .cut)
 
 -- ---- the answer
 
@@ -79,17 +99,16 @@ unfolding answerOf
 answer-none d h r b e = let f : b - firstBlock r ≡ 0 = omega arith in rw f
 
 -- a walk that was not cut read all lines, and one that was cut read fewer
-judged-by : (F : Form) (bases s : List ℕ) (count b : ℕ) (w : Walked) → IsWalked F bases s count w
-    → walkedAnswer b w ≡ cond (ltb (linesRead F bases s count) count) (Refused (Truncated b (linesRead F bases s count))) Done
-judged-by F bases s count b (Walk.Read at tight) p =
+pub judged-by : (F : Form) (bases s : List ℕ) (count b : ℕ) (w : Walked) → IsWalked F bases s count w → walkedAnswer b w ≡ blockAnswer F bases s b count
+judged-by F bases s count b (Walk.Read all tight) p =
     let e : linesRead F bases s count ≡ count = all-read F bases s count (p .end) (p .read) in
     rw (e, le-ltb count count (omega arith))
-judged-by F bases s count b (Walk.Truncated line) p =
-    let e : line ≡ linesRead F bases s count = walked-lines F bases s count (Walk.Truncated line) p in
+judged-by F bases s count b (Walk.Truncated line before) p =
+    let e : line ≡ linesRead F bases s count = walked-lines F bases s count (Walk.Truncated line before) p in
     rw (← e, lt-ltb line count (p .inside))
 
 answer-step : (d : List ℕ) (h : FujiHeader) (r : Rect) (n b : ℕ) → b ≡ firstBlock r + n → answerOf d h r (suc n)
-    ≡ orElse (answerOf d h r n) (cond (ltb (readIn d h r b) (lineCount r)) (Refused (Truncated b (readIn d h r b))) Done)
+    ≡ orElse (answerOf d h r n) (blockAnswer (formOf h) (basesIn d b) (bytesIn d b) b (lineCount r))
 unfolding answerOf
 answer-step d h r n b e = rw e
 

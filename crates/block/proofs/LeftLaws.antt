@@ -23,9 +23,11 @@ use Rattle.begin.specs.declared.Beginning.the-variants as Begin
 use Rattle.block.specs.Images.{formOf, Decoding, Left}
 use Rattle.block.specs.Lent.{Buffers, Scratch, Outputs, ScratchOf, clearedLines, clearedRecords}
 use Rattle.block.specs.Records.{clearRecords}
-use Rattle.block.specs.TightReadings.{TightReading, LeftTight}
+use Rattle.block.specs.Totals.{refusedBy}
+use Rattle.block.specs.BlockReadings.{BlockReading, LeftBlock}
 use Rattle.block.specs.WrittenAnswers.{writtenAnswer, exactAnswer, roomFor, outputOf, LeftBy}
 use Rattle.block.specs.WrittenBlocks.{tightBlock}
+use Rattle.block.specs.declared.Counted.{Counted}
 use Rattle.block.specs.declared.Decoded.{Decoded}
 use Rattle.block.specs.declared.Decoded.the-variants.{Done, Refused}
 use Rattle.block.specs.declared.Form.{Form}
@@ -43,13 +45,13 @@ module _ (d : List ℕ) (r : Rect) (tile : List ℕ) (before : Buffers) (begins 
       → Left d r tile begins before after a
   left-reading h e after a l = rw e l
 
-module _ (d : List ℕ) (b : ℕ) (before : Scratch) (begins : Parsed) where
-  pub tight-refused : (x : Refusal) → begins ≡ Parsing.Refused x → LeftTight d b begins before before (Refused x)
-  tight-refused x e = rw e (refl, refl)
+module _ (expected : FujiHeader → Counted) (before : Scratch) (begins : Parsed) where
+  pub block-refused : (x : Refusal) → begins ≡ Parsing.Refused x → (a : Counted) → a ≡ refusedBy x → LeftBlock begins expected before before a
+  block-refused x e a f = rw e (f, refl)
 
-  pub tight-reading : (h : FujiHeader) → begins ≡ Parsing.Header h → (after : Scratch) (a : Decoded) → TightReading d b h before after a
-      → LeftTight d b begins before after a
-  tight-reading h e after a l = rw e l
+  pub block-read : (h : FujiHeader) → begins ≡ Parsing.Header h → (after : Scratch) (a : Counted) → BlockReading h (expected h) before after a
+      → LeftBlock begins expected before after a
+  block-read h e after a l = rw e l
 
 module _ (t : List ℕ) (before : Outputs) (begins : Parsed) where
   pub written-refused : (measure : Bool) (x : Refusal) → begins ≡ Parsing.Refused x → LeftBy measure t begins before before (Block.Refused x)

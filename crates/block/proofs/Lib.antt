@@ -6,6 +6,7 @@ pub mod RangeLaws
 pub mod RunLaws
 pub mod LineLaws
 pub mod BlockLaws
+pub mod KeepLaws
 pub mod SampleLaws
 pub mod WrittenLaws
 pub mod WalkLaws
@@ -13,5 +14,6 @@ pub mod AnswerLaws
 pub mod DecodeLaws
 pub mod BadCodeLaws
 pub mod TightLaws
+pub mod TotalLaws
 pub mod ImageLaws
 pub mod LeftLaws

@@ -17,10 +17,9 @@ use Rattle.steps.specs.declared.Plan.{Plan}
 use Rattle.steps.proofs.ContextLaws.{AllLe}
 use Rattle.pass.proofs.RangeLaws.{pass-keeps}
 use Rattle.steps.proofs.ZipLaws.{set-keeps}
-use Rattle.block.specs.Blocks.{State, runs, enter, leave, passAt, endLine, readLine, beforeLine, readLineAt, startState, readLines}
-use Rattle.block.specs.Records.{baseOf}
+use Rattle.block.specs.Blocks.{State, enter, leave, passAt, startState, readLines}
 use Rattle.block.specs.declared.Form.{Form}
-use Rattle.block.proofs.RunLaws.{then-keeps, runs-keep}
+use Rattle.block.proofs.KeepLaws.{lines-keep}
 
 -- ---- lists of numbers that are at most m
 
@@ -97,27 +96,6 @@ module _ (F : Form) (depth : F .bits ≤ 16) where
       go none k f = let no : _≡_ {A = ℕ} 0 1 = cc in absurd (omega arith)
       go (some y) k f = let same : y .lines ≡ z .lines = cc in rw same at (k y refl)
 
-  -- the test at a line's end leaves them as they are
-  end-within : (s : List ℕ) (r z : State) → Within F r → endLine s r ≡ some z → Within F z
-  end-within s r z h e = go (leb (r .at .0) (8 * length s + 7)) e
-    where
-      go : (b : Bool) → cond b (some r) none ≡ some z → Within F z
-      go true f = let same : r ≡ z = cc in rw same at h
-      go false f = let no : _≡_ {A = ℕ} 0 1 = cc in absurd (omega arith)
-
-  -- a line keeps them so: six passes and the test
-  line-within : (q : ℕ) (s : List ℕ) (r z : State) → Within F r → readLine F q s r ≡ some z → Within F z
-  unfolding readLine
-  line-within q s r z h e =
-      then-keeps (Within F) (runs (passAt F q s) 6 r) (endLine s) z (runs-keep (passAt F q s) r (Within F) h (pass-within q s) 6)
-      (λ y k f. end-within s y z k f) e
-
-  -- line n of a block does too, with the turn before it
-  lineAt-within : (bases s : List ℕ) (n : ℕ) (r z : State) → Within F r → readLineAt F bases s n r ≡ some z → Within F z
-  unfolding readLineAt
-  lineAt-within bases s n r z h e =
-      line-within (baseOf bases n) s (beforeLine F bases n r) z (turned-le (largest (F .bits)) (widthOf (F .xtrans)) (r .lines) h) e
-
   -- and a block starts so
   start-within : (bases : List ℕ) → Within F (startState F bases)
   unfolding startState
@@ -126,6 +104,6 @@ module _ (F : Form) (depth : F .bits ≤ 16) where
 -- after any number of lines of any block, every sample of the colour lines, guards too, is at most M
 pub samples-in-range : (F : Form) (bases s : List ℕ) (n : ℕ) (z : State) → F .bits ≤ 16 → readLines F bases s n ≡ some z
     → AllLe (largest (F .bits)) (z .lines)
-unfolding readLines
 samples-in-range F bases s n z depth e =
-    runs-keep (readLineAt F bases s) (startState F bases) (Within F) (start-within F depth bases) (lineAt-within F depth bases s) n z e
+    lines-keep F s (Within F) (λ q i r y h f. pass-within F depth q s i r y h f) bases
+    (λ m r h. turned-le (largest (F .bits)) (widthOf (F .xtrans)) (r .lines) h) (start-within F depth bases) n z e

@@ -1,4 +1,4 @@
--- The answer of the tight reading, by what a walk says. Assumes nothing.
+-- The answers of the readings of one block, by what a walk says. Assumes nothing.
 use mathlib.Core.Bool.{Bool, true, false, cond}
 use mathlib.Core.List.{List, []}
 use mathlib.Core.Option.{Option, none, some}
@@ -7,17 +7,20 @@ use Prim.Native.Nat.{ℕ, _-_, _≤_, _<_}
 use native.Mathlib.Omega.{arith}
 use borrow.Author.Tests.{lt-ltb, le-ltb}
 use Rattle.bits.specs.BitLists.{isTail}
-use Rattle.bits.specs.declared.BitPosition.{BitPosition}
+use Rattle.totals.specs.declared.Totals.{Totals}
+use Rattle.totals.specs.declared.TightLines.{TightLines}
 use Rattle.stream.specs.declared.Refusal.the-variants.{Truncated, NotTight}
-use Rattle.block.specs.Blocks.{ReadAll, CutAt, IsWalked, readLines}
-use Rattle.block.specs.Images.{linesRead}
+use Rattle.block.specs.Blocks.{ReadAll, CutAt, IsWalked, readLines, totalsAfter}
+use Rattle.block.specs.Images.{linesRead, blockAnswer}
 use Rattle.block.specs.BadCodes.{BadCode, firstBad}
 use Rattle.block.specs.TightBlocks.{bitsRead, readAnswer, tightAnswer}
+use Rattle.block.specs.Totals.{linesCounted, counted, walkedCounted}
+use Rattle.block.specs.declared.Decoded.{Decoded}
 use Rattle.block.specs.declared.Decoded.the-variants.{Done, Refused}
 use Rattle.block.specs.declared.Form.{Form}
 use Rattle.block.specs.declared.Walked.{Walked}
 use Rattle.block.specs.declared.Walked.the-variants as Walk
-use Rattle.block.proofs.DecodeLaws.{walked-lines}
+use Rattle.block.proofs.DecodeLaws.{walked-lines, judged-by}
 use Rattle.block.proofs.BadCodeLaws.{lineOr, bad-in, tight-lines}
 
 -- ---- the answer
@@ -32,35 +35,63 @@ ends-by : (o : Option BadCode) (lines m : ℕ) (tail : Bool) → m ≡ lineOr li
 ends-by none lines m tail e h low = refl
 ends-by (some x) lines m tail e h low = absurd (omega (arith, low x refl))
 
+-- ---- with its totals
+
+-- an answer x and the totals of the lines that it counts
+told : (F : Form) (bases s : List ℕ) (count : ℕ) (x y : Decoded) (t : Totals) → x ≡ y → t ≡ totalsAfter F bases s (linesCounted x count)
+    → record { answer = x; totals = t } ≡ counted F bases s count y
+told F bases s count x y t e f = rw (← e, f)
+
+-- the ordinary reading
+pub read-told : (F : Form) (bases s : List ℕ) (count b : ℕ) (w : Walked) → IsWalked F bases s count w
+    → walkedCounted b w ≡ counted F bases s count (blockAnswer F bases s b count)
+read-told F bases s count b (Walk.Read all tight) p =
+    told F bases s count Done (blockAnswer F bases s b count) all (judged-by F bases s count b (Walk.Read all tight) p) (p .all-is)
+read-told F bases s count b (Walk.Truncated line t) p =
+    told F bases s count (Refused (Truncated b line)) (blockAnswer F bases s b count) t (judged-by F bases s count b (Walk.Truncated line t) p) (p .totals-are)
+
 -- a line is truncated
-pub cut-off : (F : Form) (s : List ℕ) (b count line : ℕ) (w : Walked) → IsWalked F [] s count w → w ≡ Walk.Truncated line
-    → Refused (Truncated b line) ≡ tightAnswer F b count s
+pub cut-off : (F : Form) (s : List ℕ) (b count line : ℕ) (t : Totals) (w : Walked) → IsWalked F [] s count w → w ≡ Walk.Truncated line t
+    → record { answer = Refused (Truncated b line); totals = t } ≡ counted F [] s count (tightAnswer F b count s)
 unfolding tightAnswer
-cut-off F s b count line w p e =
-    let c : CutAt F [] s count line = rw e at p in
-    let l : line ≡ linesRead F [] s count = walked-lines F [] s count (Walk.Truncated line) c in
-    rw (← l, lt-ltb line count (c .inside))
+cut-off F s b count line t w p e =
+    let c : CutAt F [] s count line t = rw e at p in
+    let l : line ≡ linesRead F [] s count = walked-lines F [] s count (Walk.Truncated line t) c in
+    told F [] s count (Refused (Truncated b line)) (tightAnswer F b count s) t (rw (← l, lt-ltb line count (c .inside))) (c .totals-are)
 
 -- all lines were read
-module _ (F : Form) (s : List ℕ) (b count : ℕ) (at : BitPosition) (tight : ℕ) (w : Walked) (p : IsWalked F [] s count w) (e : w ≡ Walk.Read at tight) where
-  all : ReadAll F [] s count at tight
+module _ (F : Form) (s : List ℕ) (b count : ℕ) (t : Totals) (tight : TightLines) (w : Walked) (p : IsWalked F [] s count w) (e : w ≡ Walk.Read t tight) where
+  all : ReadAll F [] s count t tight
   all = rw e at p
 
   complete : linesRead F [] s count ≡ count
-  complete = sym (walked-lines F [] s count (Walk.Read at tight) all)
+  complete = sym (walked-lines F [] s count (Walk.Read t tight) all)
 
-  tight-count : tight ≡ lineOr count (firstBad F [] s count)
-  tight-count = all .tight-is ∙ tight-lines F [] s count (all .end) (all .read)
+  tight-count : tight .lines ≡ lineOr count (firstBad F [] s count)
+  tight-count = ap (λ (x : TightLines). x .lines) (all .tight-is) ∙ tight-lines F [] s count (all .end) (all .read)
 
-  pub loose : tight < count → Refused (NotTight tight) ≡ tightAnswer F b count s
+  tight-totals : tight .totals ≡ totalsAfter F [] s (tight .lines)
+  tight-totals = rw (all .tight-is) refl
+
+  pub loose : tight .lines < count
+      → record { answer = Refused (NotTight (tight .lines)); totals = tight .totals } ≡ counted F [] s count (tightAnswer F b count s)
   unfolding tightAnswer
-  loose h = rw (complete, le-ltb count count (omega arith)) (loose-by (firstBad F [] s count) count tight _ tight-count h)
+  loose h =
+      told F [] s count (Refused (NotTight (tight .lines))) (tightAnswer F b count s) (tight .totals)
+      (rw (complete, le-ltb count count (omega arith)) (loose-by (firstBad F [] s count) count (tight .lines) _ tight-count h)) tight-totals
 
-  last : isTail s (at .0) ≡ isTail s (bitsRead (readLines F [] s count))
-  last = rw (all .read) (ap (λ (x : BitPosition). isTail s (x .0)) (all .at-end))
+  last : isTail s (t .bits) ≡ isTail s (bitsRead (readLines F [] s count))
+  last = rw (all .all-is, all .read)
 
-  pub ends : count ≤ tight → (t : Bool) → t ≡ isTail s (at .0) → cond t Done (Refused (NotTight count)) ≡ tightAnswer F b count s
+  ends : count ≤ tight .lines → (b′ : Bool) → b′ ≡ isTail s (t .bits) → cond b′ Done (Refused (NotTight count)) ≡ tightAnswer F b count s
   unfolding tightAnswer
-  ends h t f =
+  ends h b′ f =
       rw (complete, le-ltb count count (omega arith), ← last, f)
-      (ends-by (firstBad F [] s count) count tight (isTail s (at .0)) tight-count h (λ x g. bad-in F [] s count x g .line-inside))
+      (ends-by (firstBad F [] s count) count (tight .lines) (isTail s (t .bits)) tight-count h (λ x g. bad-in F [] s count x g .line-inside))
+
+  pub accepted : count ≤ tight .lines → true ≡ isTail s (t .bits) → record { answer = Done; totals = t } ≡ counted F [] s count (tightAnswer F b count s)
+  accepted h f = told F [] s count Done (tightAnswer F b count s) t (ends h true f) (all .all-is)
+
+  pub wrong-tail : count ≤ tight .lines → false ≡ isTail s (t .bits)
+      → record { answer = Refused (NotTight count); totals = t } ≡ counted F [] s count (tightAnswer F b count s)
+  wrong-tail h f = told F [] s count (Refused (NotTight count)) (tightAnswer F b count s) t (ends h false f) (all .all-is)

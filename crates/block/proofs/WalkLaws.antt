@@ -1,5 +1,5 @@
 -- The writer's walk: parts of a writing one after the other, passes that make a line, and lines that make a block. Assumes nothing.
-use mathlib.Core.Bool.{Bool, true, false, cond, _||_, false≢true}
+use mathlib.Core.Bool.{Bool, true, false, cond, false≢true}
 use mathlib.Core.List.{List, [], _++_}
 use mathlib.Core.Option.{Option, none, some}
 use mathlib.Core.Path.{_≡_, refl, sym, ap, _∙_}
@@ -7,7 +7,6 @@ use Prim.Native.Nat.{ℕ, zero, suc, _+_, _-_, _*_, _^_, _≤_, _<_}
 use native.Mathlib.Nat.{add-zero, add-suc, mul-le-mul-right}
 use native.Mathlib.Numerals.{add-one}
 use native.Mathlib.Omega.{arith}
-use lib.Dec.{eqb}
 use lib.ListN.{length, length-append}
 use Rattle.bits.specs.declared.BitPosition.{BitPosition}
 use Rattle.statistics.specs.declared.Record.{Record}
@@ -16,19 +15,19 @@ use Rattle.lines.specs.ColourLines.{zeroLines, guarded, turned}
 use Rattle.map.specs.Places.{widthOf}
 use Rattle.map.proofs.PlaceLaws.{width-le}
 use Rattle.steps.specs.Values.{recordsOf}
-use Rattle.steps.specs.Steps.{planOf}
+use Rattle.steps.specs.Steps.{planOf, passSteps}
 use Rattle.steps.specs.declared.Plan.{Plan}
 use Rattle.steps.specs.declared.Set.{Set}
 use Rattle.writing.specs.Sets.{lineSize, setSize}
-use Rattle.writing.specs.Puts.{putIf, Room, Within, IsPassPut}
+use Rattle.writing.specs.Puts.{putIf, Room, Within, Wanted, IsPassPut}
 use Rattle.writing.specs.Writings.{Writing, writePass}
 use Rattle.writing.specs.declared.PassPut.{PassPut}
 use Rattle.writing.specs.declared.Put.{Put}
 use Rattle.writing.specs.declared.Put.the-variants.{At, Wrong}
 use Rattle.writing.proofs.PassLaws.{pass-within, pass-wrong, pass-short}
 use Rattle.output.proofs.PutLaws.{put-none, put-more}
-use Rattle.block.specs.Records.{startRecords, restartedMain, isRestarted, setOf, putSet}
-use Rattle.block.specs.WrittenBlocks.{WriteState, repeats, enterWriting, writePassAt, beforeWriting, writeLine, startWriting, writeLines}
+use Rattle.block.specs.Records.{startRecords, restartedMain, baseOf, isRestarted, setOf, putSet}
+use Rattle.block.specs.WrittenBlocks.{WriteState, repeats, enterWriting, writePassAt, beforeWriting, isStrict, writeLine, startWriting, writeLines, SetWanted}
 use Rattle.block.specs.WrittenAnswers.{passesFrom, IsLinePut, LineWritten, SetWritten}
 use Rattle.block.specs.declared.Form.{Form}
 use Rattle.block.proofs.SampleLaws.{zeros-le, guarded-le, turned-le}
@@ -166,78 +165,82 @@ module _ (f : ℕ → WriteState → WriteState) (adds : Adds f) (r₀ : WriteSt
 
 -- ---- passes
 
-module _ (F : Form) (t : List ℕ) (n : ℕ) where
-  passAt-wrong : (i : ℕ) (r : WriteState) (j : ℕ) → r .wrong ≡ some j → (writePassAt F t n i r) .wrong ≡ some j
+module _ (F : Form) (q : ℕ) (strict : Bool) (t : List ℕ) (n : ℕ) where
+  passAt-wrong : (i : ℕ) (r : WriteState) (j : ℕ) → r .wrong ≡ some j → (writePassAt F q strict t n i r) .wrong ≡ some j
   unfolding writePassAt
-  passAt-wrong i r j e = pass-wrong (F .bits) (widthOf (F .xtrans)) t n (planOf (F .xtrans) i) (enterWriting F (planOf (F .xtrans) i) r) j e
+  passAt-wrong i r j e = pass-wrong (F .bits) q (widthOf (F .xtrans)) strict t n (planOf (F .xtrans) i) (enterWriting F (planOf (F .xtrans) i) r) j e
 
-  pub passes-add : Adds (writePassAt F t n)
-  passes-add = record { stays = passAt-wrong; grows = λ i r. rw (passAt-adds F t n i r, length-append) (omega arith) }
+  pub passes-add : Adds (writePassAt F q strict t n)
+  passes-add = record { stays = passAt-wrong; grows = λ i r. rw (passAt-adds F q strict t n i r, length-append) (omega arith) }
 
-  passAt-within : Within (largest (F .bits)) t → (i : ℕ) (r : WriteState) → Within (largest (F .bits)) (r .lines) → Within (largest (F .bits)) ((writePassAt F t n i r) .lines)
+  pub passAt-within : (i : ℕ) (r : WriteState) → Within (largest (F .bits)) (r .lines) → Within (largest (F .bits)) ((writePassAt F q strict t n i r) .lines)
   unfolding writePassAt
-  passAt-within ht i r h =
+  passAt-within i r h =
       let W : ℕ = widthOf (F .xtrans) in
       let P : Plan = planOf (F .xtrans) i in
       let M : ℕ = largest (F .bits) in
-      pass-within (F .bits) W t n P (enterWriting F P r) M ht (guarded-le M W (P .second) (guarded W (P .first) (r .lines)) (guarded-le M W (P .first) (r .lines) h))
+      pass-within (F .bits) q W strict t n P (enterWriting F P r) (guarded-le M W (P .second) (guarded W (P .first) (r .lines)) (guarded-le M W (P .first) (r .lines) h))
 
-  passAt-short : F .bits ≤ 16 → (i : ℕ) (r : WriteState) → length ((writePassAt F t n i r) .bits) ≤ length (r .bits) + 2 ^ 17
+  passAt-short : F .bits ≤ 16 → (i : ℕ) (r : WriteState) → length ((writePassAt F q strict t n i r) .bits) ≤ length (r .bits) + 2 ^ 17
   unfolding writePassAt
-  passAt-short h i r = pass-short (F .bits) (widthOf (F .xtrans)) t n (planOf (F .xtrans) i) (enterWriting F (planOf (F .xtrans) i) r) h (width-le (F .xtrans))
+  passAt-short h i r = pass-short (F .bits) q (widthOf (F .xtrans)) strict t n (planOf (F .xtrans) i) (enterWriting F (planOf (F .xtrans) i) r) h (width-le (F .xtrans))
+
+-- the samples of a pass that have a code
+pub pass-wanted : (F : Form) (t : List ℕ) (n i W : ℕ) (P : Plan) → W ≡ widthOf (F .xtrans) → P ≡ planOf (F .xtrans) i → SetWanted F t → Wanted (largest (F .bits)) W t n (passSteps W P)
+pass-wanted F t n i W P eW eP h = rw (eW, eP) (h n i)
 
 -- the passes of line n, from these lines and records on
-module _ (F : Form) (t : List ℕ) (n : ℕ) (lines₀ : List ℕ) (rs₀ : List Record) where
-  pub passes-start : (from : BitPosition) (store : Bool) (out : List ℕ) → Sofar (passesFrom F t n 0 lines₀ rs₀) (from .0) store out lines₀ rs₀ out from
+module _ (F : Form) (q : ℕ) (strict : Bool) (t : List ℕ) (n : ℕ) (lines₀ : List ℕ) (rs₀ : List Record) where
+  pub passes-start : (from : BitPosition) (store : Bool) (out : List ℕ) → Sofar (passesFrom F q strict t n 0 lines₀ rs₀) (from .0) store out lines₀ rs₀ out from
   unfolding passesFrom repeats
   passes-start from store out =
       record { lines = refl; records = refl; right = refl; position = omega arith; output = none-put store out (from .0) }
 
-  pub passes-within : (i : ℕ) → Within (largest (F .bits)) t → Within (largest (F .bits)) lines₀ → Within (largest (F .bits)) ((passesFrom F t n i lines₀ rs₀) .lines)
+  pub passes-within : (i : ℕ) → Within (largest (F .bits)) lines₀ → Within (largest (F .bits)) ((passesFrom F q strict t n i lines₀ rs₀) .lines)
   unfolding passesFrom repeats
-  passes-within zero ht h = h
-  passes-within (suc i) ht h = passAt-within F t n ht i (passesFrom F t n i lines₀ rs₀) (passes-within i ht h)
+  passes-within zero h = h
+  passes-within (suc i) h = passAt-within F q strict t n i (passesFrom F q strict t n i lines₀ rs₀) (passes-within i h)
 
-  pub passes-short : (i : ℕ) → F .bits ≤ 16 → length ((passesFrom F t n i lines₀ rs₀) .bits) ≤ i * 2 ^ 17
+  pub passes-short : (i : ℕ) → F .bits ≤ 16 → length ((passesFrom F q strict t n i lines₀ rs₀) .bits) ≤ i * 2 ^ 17
   unfolding passesFrom
   passes-short i h =
-      let e : length ((passesFrom F t n i lines₀ rs₀) .bits) ≤ 0 + i * 2 ^ 17 =
-      repeats-short (writePassAt F t n) (record { lines = lines₀; records = rs₀; bits = []; wrong = none }) (2 ^ 17) (passAt-short F t n h) i in
+      let e : length ((passesFrom F q strict t n i lines₀ rs₀) .bits) ≤ 0 + i * 2 ^ 17 =
+      repeats-short (writePassAt F q strict t n) (record { lines = lines₀; records = rs₀; bits = []; wrong = none }) (2 ^ 17) (passAt-short F q strict t n h) i in
       omega (arith, e)
 
   pub passes-done : (i from : ℕ) (store : Bool) (out lines' : List ℕ) (rs' : List Record) (out' : List ℕ) (at : BitPosition) → i ≡ 6
-      → Sofar (passesFrom F t n i lines₀ rs₀) from store out lines' rs' out' at
-      → LineWritten (passesFrom F t n 6 lines₀ rs₀) from store out lines' rs' out' (At at)
+      → Sofar (passesFrom F q strict t n i lines₀ rs₀) from store out lines' rs' out' at
+      → LineWritten (passesFrom F q strict t n 6 lines₀ rs₀) from store out lines' rs' out' (At at)
   passes-done i from store out lines' rs' out' at e s =
-      line-right-is (passesFrom F t n 6 lines₀ rs₀) from store out lines' rs' out' at (rw e at s)
+      line-right-is (passesFrom F q strict t n 6 lines₀ rs₀) from store out lines' rs' out' at (rw e at s)
 
   -- pass i, by what was done before it
   module _ (i W : ℕ) (P : Plan) (lt : i < 6) (lines l₁ l₂ : List ℕ) (rs : List Record) (S : Set) (from : ℕ) (store : Bool) (out out₁ : List ℕ) (at : BitPosition)
-      (so-far : Sofar (passesFrom F t n i lines₀ rs₀) from store out lines rs out₁ at) (same : length out₁ ≡ length out)
-      (room : Room store out from ((passesFrom F t n 6 lines₀ rs₀) .bits))
+      (so-far : Sofar (passesFrom F q strict t n i lines₀ rs₀) from store out lines rs out₁ at) (same : length out₁ ≡ length out)
+      (room : Room store out from ((passesFrom F q strict t n 6 lines₀ rs₀) .bits))
       (eW : W ≡ widthOf (F .xtrans)) (eP : P ≡ planOf (F .xtrans) i) (e₁ : l₁ ≡ guarded W (P .first) lines) (e₂ : l₂ ≡ guarded W (P .second) l₁)
       (eS : recordsOf S ≡ setOf (P .set) rs) where
     abbrev own : Writing
-    own = writePass (F .bits) W t n P (record { lines = l₂; set = recordsOf S; bits = []; wrong = none })
+    own = writePass (F .bits) q W strict t n P (record { lines = l₂; set = recordsOf S; bits = []; wrong = none })
 
     abbrev part : WriteState
     part = record { lines = own .lines; records = putSet (P .set) (own .set) rs; bits = own .bits; wrong = own .wrong }
 
-    pass-next : writePassAt F t n i (passesFrom F t n i lines₀ rs₀) ≡ afterBits ((passesFrom F t n i lines₀ rs₀) .bits) part
+    pass-next : writePassAt F q strict t n i (passesFrom F q strict t n i lines₀ rs₀) ≡ afterBits ((passesFrom F q strict t n i lines₀ rs₀) .bits) part
     unfolding writePassAt
     pass-next =
-        passAt-adds F t n i (passesFrom F t n i lines₀ rs₀)
+        passAt-adds F q strict t n i (passesFrom F q strict t n i lines₀ rs₀)
         ∙ rw (so-far .lines, so-far .records, so-far .right, ← eP, ← eW, ← e₁, ← e₂, ← eS) refl
 
     pub pass-room : Room store out₁ (at .0) (own .bits)
     unfolding passesFrom
     pass-room =
-        turn-room (writePassAt F t n) (passes-add F t n) (record { lines = lines₀; records = rs₀; bits = []; wrong = none }) i 6 lt part from store out lines rs out₁ at so-far same pass-next room
+        turn-room (writePassAt F q strict t n) (passes-add F q strict t n) (record { lines = lines₀; records = rs₀; bits = []; wrong = none }) i 6 lt part from store out lines rs out₁ at so-far same pass-next room
 
-    pub pass-samples : Within (largest (F .bits)) t → Within (largest (F .bits)) lines₀ → Within (largest (F .bits)) l₂
-    pass-samples ht h =
+    pub pass-samples : Within (largest (F .bits)) lines₀ → Within (largest (F .bits)) l₂
+    pass-samples h =
         let M : ℕ = largest (F .bits) in
-        let k : Within M lines = rw (so-far .lines) at (passes-within i ht h) in
+        let k : Within M lines = rw (so-far .lines) at (passes-within i h) in
         rw (e₂, e₁) (guarded-le M W (P .second) (guarded W (P .first) lines) (guarded-le M W (P .first) lines k))
 
     pub pass-position : F .bits ≤ 16 → from < 2 ^ 58 → at .0 < 2 ^ 59
@@ -265,106 +268,99 @@ module _ (F : Form) (t : List ℕ) (n : ℕ) (lines₀ : List ℕ) (rs₀ : List
       unfolding told
       told-wrong ok = rw ok
 
-      pub pass-more : d .ok ≡ true → Sofar (passesFrom F t n (i + 1) lines₀ rs₀) from store out lines' (putSet (P .set) (recordsOf (d .set)) rs) out' (d .at)
+      pub pass-more : d .ok ≡ true → Sofar (passesFrom F q strict t n (i + 1) lines₀ rs₀) from store out lines' (putSet (P .set) (recordsOf (d .set)) rs) out' (d .at)
       unfolding passesFrom
       pass-more ok =
-          turn-more (writePassAt F t n) (passes-add F t n) (record { lines = lines₀; records = rs₀; bits = []; wrong = none }) i 6 lt part from store out lines rs out₁ at so-far same pass-next room
+          turn-more (writePassAt F q strict t n) (passes-add F q strict t n) (record { lines = lines₀; records = rs₀; bits = []; wrong = none }) i 6 lt part from store out lines rs out₁ at so-far same pass-next room
           lines' _ out' told pass-answer (d .at) (told-right ok)
 
       pub pass-failed : (rs' : List Record) → d .ok ≡ false
-          → LineWritten (passesFrom F t n 6 lines₀ rs₀) from store out lines' rs' out' (Wrong (d .wrong))
+          → LineWritten (passesFrom F q strict t n 6 lines₀ rs₀) from store out lines' rs' out' (Wrong (d .wrong))
       unfolding passesFrom
       pass-failed rs' ok =
-          line-wrong-is (passesFrom F t n 6 lines₀ rs₀) from store out lines' rs' out' (d .wrong)
-          (turn-wrong (writePassAt F t n) (passes-add F t n) (record { lines = lines₀; records = rs₀; bits = []; wrong = none }) i 6 lt part from store out lines rs out₁ at so-far same pass-next room
+          line-wrong-is (passesFrom F q strict t n 6 lines₀ rs₀) from store out lines' rs' out' (d .wrong)
+          (turn-wrong (writePassAt F q strict t n) (passes-add F q strict t n) (record { lines = lines₀; records = rs₀; bits = []; wrong = none }) i 6 lt part from store out lines rs out₁ at so-far same pass-next room
           lines' _ out' told pass-answer (d .wrong) (told-wrong ok))
 
 -- ---- lines
 
-module _ (F : Form) (t : List ℕ) where
-  passes-keep : (n : ℕ) (Q : WriteState → Type 0) → ((i : ℕ) (z : WriteState) → Q z → Q (writePassAt F t n i z)) → (r : WriteState) → Q r → Q (repeats (writePassAt F t n) 6 r)
+module _ (F : Form) (bases t : List ℕ) where
+  passes-keep : (n : ℕ) (Q : WriteState → Type 0) → ((i : ℕ) (z : WriteState) → Q z → Q (writePassAt F (baseOf bases n) (isStrict bases) t n i z)) → (r : WriteState) → Q r → Q (repeats (writePassAt F (baseOf bases n) (isStrict bases) t n) 6 r)
   unfolding repeats
-  passes-keep n Q each r q = repeats-keep (writePassAt F t n) r Q each 0 6 q
+  passes-keep n Q each r q = repeats-keep (writePassAt F (baseOf bases n) (isStrict bases) t n) r Q each 0 6 q
 
-  line-wrong : (n : ℕ) (r : WriteState) (j : ℕ) → r .wrong ≡ some j → (writeLine F t n r) .wrong ≡ some j
+  line-wrong : (n : ℕ) (r : WriteState) (j : ℕ) → r .wrong ≡ some j → (writeLine F bases t n r) .wrong ≡ some j
   unfolding writeLine
-  line-wrong n r j e = passes-keep n (λ (z : WriteState). z .wrong ≡ some j) (λ i z h. passes-add F t n .stays i z j h) (beforeWriting F n r) e
+  line-wrong n r j e = passes-keep n (λ (z : WriteState). z .wrong ≡ some j) (λ i z h. passes-add F (baseOf bases n) (isStrict bases) t n .stays i z j h) (beforeWriting F bases n r) e
 
-  pub lines-add : Adds (writeLine F t)
-  lines-add = record { stays = line-wrong; grows = λ n r. rw (line-adds F t n r, length-append) (omega arith) }
+  pub lines-add : Adds (writeLine F bases t)
+  lines-add = record { stays = line-wrong; grows = λ n r. rw (line-adds F bases t n r, length-append) (omega arith) }
 
-  pub lines-start : (store : Bool) (out lines : List ℕ) (rs : List Record) → lines ≡ zeroLines (widthOf (F .xtrans)) → rs ≡ startRecords (F .bits) 0
-      → Sofar (writeLines F t 0) 0 store out lines rs out (record { 0 = 0 })
+  pub lines-start : (store : Bool) (out lines : List ℕ) (rs : List Record) → lines ≡ zeroLines (widthOf (F .xtrans)) → rs ≡ startRecords (F .bits) (baseOf bases 0)
+      → Sofar (writeLines F bases t 0) 0 store out lines rs out (record { 0 = 0 })
   unfolding writeLines repeats startWriting
   lines-start store out lines rs el er =
       record { lines = sym el; records = sym er; right = refl; position = refl; output = none-put store out 0 }
 
-  line-within : Within (largest (F .bits)) t → (n : ℕ) (r : WriteState) → Within (largest (F .bits)) (r .lines) → Within (largest (F .bits)) ((writeLine F t n r) .lines)
+  line-within : (n : ℕ) (r : WriteState) → Within (largest (F .bits)) (r .lines) → Within (largest (F .bits)) ((writeLine F bases t n r) .lines)
   unfolding writeLine
-  line-within ht n r h =
-      passes-keep n (λ (z : WriteState). Within (largest (F .bits)) (z .lines)) (λ i z k. passAt-within F t n ht i z k) (beforeWriting F n r)
+  line-within n r h =
+      passes-keep n (λ (z : WriteState). Within (largest (F .bits)) (z .lines)) (λ i z k. passAt-within F (baseOf bases n) (isStrict bases) t n i z k) (beforeWriting F bases n r)
       (turned-le (largest (F .bits)) (widthOf (F .xtrans)) (r .lines) h)
 
-  line-short : F .bits ≤ 16 → (n : ℕ) (r : WriteState) → length ((writeLine F t n r) .bits) ≤ length (r .bits) + 2 ^ 20
+  line-short : F .bits ≤ 16 → (n : ℕ) (r : WriteState) → length ((writeLine F bases t n r) .bits) ≤ length (r .bits) + 2 ^ 20
   unfolding writeLine
-  line-short h n r = omega (arith, repeats-short (writePassAt F t n) (beforeWriting F n r) (2 ^ 17) (passAt-short F t n h) 6)
+  line-short h n r = omega (arith, repeats-short (writePassAt F (baseOf bases n) (isStrict bases) t n) (beforeWriting F bases n r) (2 ^ 17) (passAt-short F (baseOf bases n) (isStrict bases) t n h) 6)
 
-  pub lines-within : (n : ℕ) → Within (largest (F .bits)) t → Within (largest (F .bits)) ((writeLines F t n) .lines)
+  pub lines-within : (n : ℕ) → Within (largest (F .bits)) ((writeLines F bases t n) .lines)
   unfolding writeLines repeats startWriting
-  lines-within zero ht = zeros-le (largest (F .bits)) (18 * (widthOf (F .xtrans) + 2))
-  lines-within (suc n) ht = line-within ht n (writeLines F t n) (lines-within n ht)
+  lines-within zero = zeros-le (largest (F .bits)) (18 * (widthOf (F .xtrans) + 2))
+  lines-within (suc n) = line-within n (writeLines F bases t n) (lines-within n)
 
-  pub lines-short : (n : ℕ) → F .bits ≤ 16 → length ((writeLines F t n) .bits) ≤ n * 2 ^ 20
+  pub lines-short : (n : ℕ) → F .bits ≤ 16 → length ((writeLines F bases t n) .bits) ≤ n * 2 ^ 20
   unfolding writeLines startWriting
   lines-short n h =
-      let e : length ((writeLines F t n) .bits) ≤ 0 + n * 2 ^ 20 = repeats-short (writeLine F t) (startWriting F) (2 ^ 20) (line-short h) n in
+      let e : length ((writeLines F bases t n) .bits) ≤ 0 + n * 2 ^ 20 = repeats-short (writeLine F bases t) (startWriting F bases) (2 ^ 20) (line-short h) n in
       omega (arith, e)
 
   pub lines-done : (n count : ℕ) (store : Bool) (out lines' : List ℕ) (rs' : List Record) (out' : List ℕ) (at : BitPosition) → n ≡ count
-      → Sofar (writeLines F t n) 0 store out lines' rs' out' at → SetWritten (writeLines F t count) store out out' (At at)
-  lines-done n count store out lines' rs' out' at e s = set-right-is (writeLines F t count) store out lines' rs' out' at (rw e at s)
-
-  -- without bases only line 0 starts the records anew
-  restarted-is : (n : ℕ) → isRestarted [] n ≡ eqb n 0
-  restarted-is n = go (eqb n 0)
-    where
-      go : (b : Bool) → b || false ≡ b
-      go true = refl
-      go false = refl
+      → Sofar (writeLines F bases t n) 0 store out lines' rs' out' at → SetWritten (writeLines F bases t count) store out out' (At at)
+  lines-done n count store out lines' rs' out' at e s = set-right-is (writeLines F bases t count) store out lines' rs' out' at (rw e at s)
 
   -- line n, by what was done before it
-  module _ (n m W : ℕ) (b : Bool) (lt : n < m) (lines l₁ : List ℕ) (rs rs₁ : List Record) (store : Bool) (out out₁ : List ℕ) (at : BitPosition)
-      (so-far : Sofar (writeLines F t n) 0 store out lines rs out₁ at) (same : length out₁ ≡ length out) (room : Room store out 0 ((writeLines F t m) .bits))
-      (eW : W ≡ widthOf (F .xtrans)) (eb : b ≡ eqb n 0) (el : l₁ ≡ turned W lines) (er : rs₁ ≡ cond b (restartedMain (F .bits) 0 rs) rs) where
-    line-next : writeLine F t n (writeLines F t n) ≡ afterBits ((writeLines F t n) .bits) (passesFrom F t n 6 l₁ rs₁)
+  module _ (n m W q q₀ : ℕ) (b strict : Bool) (lt : n < m) (lines l₁ : List ℕ) (rs rs₁ : List Record) (store : Bool) (out out₁ : List ℕ) (at : BitPosition)
+      (so-far : Sofar (writeLines F bases t n) 0 store out lines rs out₁ at) (same : length out₁ ≡ length out) (room : Room store out 0 ((writeLines F bases t m) .bits))
+      (eW : W ≡ widthOf (F .xtrans)) (eq : q ≡ q₀) (eq₀ : q₀ ≡ baseOf bases n) (es : strict ≡ isStrict bases) (eb : b ≡ isRestarted bases n)
+      (el : l₁ ≡ turned W lines) (er : rs₁ ≡ cond b (restartedMain (F .bits) q₀ rs) rs) where
+    line-next : writeLine F bases t n (writeLines F bases t n) ≡ afterBits ((writeLines F bases t n) .bits) (passesFrom F q strict t n 6 l₁ rs₁)
     unfolding writeLine passesFrom
     line-next =
-        line-adds F t n (writeLines F t n)
-        ∙ rw (so-far .lines, so-far .records, so-far .right, restarted-is n, ← eb, ← er, ← eW, ← el) refl
+        line-adds F bases t n (writeLines F bases t n)
+        ∙ rw (so-far .lines, so-far .records, so-far .right, ← eb, ← eq₀, eq, ← es, ← er, ← eW, ← el) refl
 
-    pub line-room : Room store out₁ (at .0) ((passesFrom F t n 6 l₁ rs₁) .bits)
+    pub line-room : Room store out₁ (at .0) ((passesFrom F q strict t n 6 l₁ rs₁) .bits)
     unfolding writeLines
-    line-room = turn-room (writeLine F t) lines-add (startWriting F) n m lt (passesFrom F t n 6 l₁ rs₁) 0 store out lines rs out₁ at so-far same line-next room
+    line-room = turn-room (writeLine F bases t) lines-add (startWriting F bases) n m lt (passesFrom F q strict t n 6 l₁ rs₁) 0 store out lines rs out₁ at so-far same line-next room
 
-    pub line-samples : Within (largest (F .bits)) t → Within (largest (F .bits)) l₁
-    line-samples ht =
-        let k : Within (largest (F .bits)) lines = rw (so-far .lines) at (lines-within n ht) in
+    pub line-samples : Within (largest (F .bits)) l₁
+    line-samples =
+        let k : Within (largest (F .bits)) lines = rw (so-far .lines) at (lines-within n) in
         rw el (turned-le (largest (F .bits)) W lines k)
 
     pub line-position : F .bits ≤ 16 → m < 2 ^ 16 → at .0 < 2 ^ 58
     line-position h small = omega (arith, so-far .position, lines-short n h)
 
-    module _ (lines' : List ℕ) (rs' : List Record) (out' : List ℕ) (d : Put) (answer : LineWritten (passesFrom F t n 6 l₁ rs₁) (at .0) store out₁ lines' rs' out' d) where
-      pub line-more : (at' : BitPosition) → d ≡ At at' → Sofar (writeLines F t (n + 1)) 0 store out lines' rs' out' at'
+    module _ (lines' : List ℕ) (rs' : List Record) (out' : List ℕ) (d : Put) (answer : LineWritten (passesFrom F q strict t n 6 l₁ rs₁) (at .0) store out₁ lines' rs' out' d) where
+      pub line-more : (at' : BitPosition) → d ≡ At at' → Sofar (writeLines F bases t (n + 1)) 0 store out lines' rs' out' at'
       unfolding writeLines
       line-more =
-          turn-more (writeLine F t) lines-add (startWriting F) n m lt (passesFrom F t n 6 l₁ rs₁) 0 store out lines rs out₁ at so-far same line-next room lines' rs' out' d (answer .are)
+          turn-more (writeLine F bases t) lines-add (startWriting F bases) n m lt (passesFrom F q strict t n 6 l₁ rs₁) 0 store out lines rs out₁ at so-far same line-next room lines' rs' out' d (answer .are)
 
-      pub line-failed : (j : ℕ) → d ≡ Wrong j → SetWritten (writeLines F t m) store out out' d
+      pub line-failed : (j : ℕ) → d ≡ Wrong j → SetWritten (writeLines F bases t m) store out out' d
       unfolding writeLines
       line-failed j ok =
-          rw ok (set-wrong-is (writeLines F t m) store out out' j
-          (turn-wrong (writeLine F t) lines-add (startWriting F) n m lt (passesFrom F t n 6 l₁ rs₁) 0 store out lines rs out₁ at so-far same line-next room lines' rs' out' d (answer .are) j ok))
+          rw ok (set-wrong-is (writeLines F bases t m) store out out' j
+          (turn-wrong (writeLine F bases t) lines-add (startWriting F bases) n m lt (passesFrom F q strict t n 6 l₁ rs₁) 0 store out lines rs out₁ at so-far same line-next room lines' rs' out' d (answer .are) j ok))
 
 -- a line of a set lies inside it
 pub line-size : (W n count : ℕ) (t : List ℕ) → n < count → length t ≡ setSize W count → (n + 1) * lineSize W ≤ length t

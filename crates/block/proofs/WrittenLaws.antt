@@ -9,7 +9,8 @@ use Rattle.steps.specs.Steps.{planOf, passSteps}
 use Rattle.steps.specs.declared.Plan.{Plan}
 use Rattle.writing.specs.Writings.{writePass}
 use Rattle.writing.proofs.WriteLaws.{pass-after, writes-right}
-use Rattle.block.specs.WrittenBlocks.{WriteState, repeats, enterWriting, leaveWriting, writePassAt, beforeWriting, writeLine, writeLines}
+use Rattle.block.specs.Records.{baseOf}
+use Rattle.block.specs.WrittenBlocks.{WriteState, repeats, enterWriting, leaveWriting, writePassAt, beforeWriting, isStrict, writeLine, writeLines}
 use Rattle.block.specs.declared.Form.{Form}
 
 -- bits that stand before those of a state, and a state with no bits yet
@@ -43,37 +44,42 @@ module _ {A : Type 0} (f : ℕ → A → A) where
 
 -- ---- passes and lines
 
-module _ (F : Form) (t : List ℕ) where
-  -- they add the same bits, whatever stands before
-  pub passAt-after : (n : ℕ) (l : List Bool) (i : ℕ) (r : WriteState) → writePassAt F t n i (afterBits l r) ≡ afterBits l (writePassAt F t n i r)
+module _ (F : Form) (q : ℕ) (strict : Bool) (t : List ℕ) where
+  -- a pass adds the same bits, whatever stands before
+  pub passAt-after : (n : ℕ) (l : List Bool) (i : ℕ) (r : WriteState) → writePassAt F q strict t n i (afterBits l r) ≡ afterBits l (writePassAt F q strict t n i r)
   unfolding writePassAt
   passAt-after n l i r =
       let P : Plan = planOf (F .xtrans) i in
-      ap (leaveWriting P r) (pass-after (F .bits) (widthOf (F .xtrans)) t n l P (enterWriting F P r))
+      ap (leaveWriting P r) (pass-after (F .bits) q (widthOf (F .xtrans)) strict t n l P (enterWriting F P r))
 
-  pub line-after : (l : List Bool) (n : ℕ) (r : WriteState) → writeLine F t n (afterBits l r) ≡ afterBits l (writeLine F t n r)
-  unfolding writeLine
-  line-after l n r = repeats-after (writePassAt F t n) (afterBits l) (passAt-after n l) 6 (beforeWriting F n r)
-
-  -- so what they write is what was there, and their own bits
-  pub passAt-adds : (n i : ℕ) (r : WriteState) → writePassAt F t n i r ≡ afterBits (r .bits) (writePassAt F t n i (afreshState r))
-  passAt-adds n i = adds (writePassAt F t n i) (λ l. passAt-after n l i)
-
-  pub line-adds : (n : ℕ) (r : WriteState) → writeLine F t n r ≡ afterBits (r .bits) (writeLine F t n (afreshState r))
-  line-adds n = adds (writeLine F t n) (λ l. line-after l n)
+  -- so what it writes is what was there, and its own bits
+  pub passAt-adds : (n i : ℕ) (r : WriteState) → writePassAt F q strict t n i r ≡ afterBits (r .bits) (writePassAt F q strict t n i (afreshState r))
+  passAt-adds n i = adds (writePassAt F q strict t n i) (λ l. passAt-after n l i)
 
   -- where no sample is wrong in the end, none was before
-  pub passAt-right : (n i : ℕ) (r : WriteState) → (writePassAt F t n i r) .wrong ≡ none → r .wrong ≡ none
+  pub passAt-right : (n i : ℕ) (r : WriteState) → (writePassAt F q strict t n i r) .wrong ≡ none → r .wrong ≡ none
   unfolding writePassAt writePass
   passAt-right n i r e =
       let P : Plan = planOf (F .xtrans) i in
-      writes-right (F .bits) (widthOf (F .xtrans)) t n (passSteps (widthOf (F .xtrans)) P) (enterWriting F P r) e
+      writes-right (F .bits) q (widthOf (F .xtrans)) strict t n (passSteps (widthOf (F .xtrans)) P) (enterWriting F P r) e
 
-  pub line-right : (n : ℕ) (r : WriteState) → (writeLine F t n r) .wrong ≡ none → r .wrong ≡ none
+-- the same of lines
+module _ (F : Form) (bases t : List ℕ) where
+  pub line-after : (l : List Bool) (n : ℕ) (r : WriteState) → writeLine F bases t n (afterBits l r) ≡ afterBits l (writeLine F bases t n r)
   unfolding writeLine
-  line-right n r e = repeats-back (writePassAt F t n) (λ (z : WriteState). z .wrong ≡ none) (passAt-right n) 6 (beforeWriting F n r) e
+  line-after l n r =
+      repeats-after (writePassAt F (baseOf bases n) (isStrict bases) t n) (afterBits l) (passAt-after F (baseOf bases n) (isStrict bases) t n l) 6 (beforeWriting F bases n r)
+
+  pub line-adds : (n : ℕ) (r : WriteState) → writeLine F bases t n r ≡ afterBits (r .bits) (writeLine F bases t n (afreshState r))
+  line-adds n = adds (writeLine F bases t n) (λ l. line-after l n)
+
+  pub line-right : (n : ℕ) (r : WriteState) → (writeLine F bases t n r) .wrong ≡ none → r .wrong ≡ none
+  unfolding writeLine
+  line-right n r e =
+      repeats-back (writePassAt F (baseOf bases n) (isStrict bases) t n) (λ (z : WriteState). z .wrong ≡ none) (passAt-right F (baseOf bases n) (isStrict bases) t n) 6
+      (beforeWriting F bases n r) e
 
   -- one line more
-  pub lines-more : (n : ℕ) → writeLines F t (suc n) ≡ writeLine F t n (writeLines F t n)
+  pub lines-more : (n : ℕ) → writeLines F bases t (suc n) ≡ writeLine F bases t n (writeLines F bases t n)
   unfolding writeLines repeats
   lines-more n = refl

@@ -10,6 +10,10 @@ use Rattle.bits.specs.declared.BitPosition.{BitPosition}
 use Rattle.statistics.specs.Statistics.{InRange}
 use Rattle.statistics.specs.declared.Record.{Record}
 use Rattle.steps.specs.Steps.{planOf}
+use Rattle.code.specs.declared.Place.{Place}
+use Rattle.totals.specs.Totals.{noTotals}
+use Rattle.totals.specs.declared.Totals.{Totals}
+use Rattle.totals.specs.declared.TightLines.{TightLines}
 use Rattle.pass.specs.Readings.{Reading, readPass, andThen}
 use Rattle.steps.specs.Contexts.{noRecord}
 use Rattle.steps.specs.declared.Plan.{Plan}
@@ -24,12 +28,14 @@ use Rattle.block.specs.declared.Lined.the-variants as Line
 use Rattle.block.specs.declared.Walked.{Walked}
 use Rattle.block.specs.declared.Walked.the-variants as Walk
 
--- what reading a block goes on: the colour lines, the records, the bit position, and whether all codes so far were tight
+-- what reading a block goes on: the colour lines, the records, the bit position, whether all codes so far were tight, and how many of them were
+-- long
 pub record State : Type 0 where
   pub lines : List ℕ
   pub records : List Record
   pub at : BitPosition
   pub tight : Bool
+  pub long : ℕ
 
 -- f 0, f 1, .. one after the other, n of them, until one fails
 unfoldable pub runs : {A : Type 0} → (ℕ → A → Option A) → ℕ → A → Option A
@@ -46,12 +52,13 @@ enter F P r =
       set = setOf (P .set) (r .records);
       at = r .at;
       tight = r .tight;
+      long = r .long;
     }
 
 -- and its set goes back
 abbrev pub leave : Plan → State → Option Reading → Option State
 leave P r none = none
-leave P r (some z) = some (record { lines = z .lines; records = putSet (P .set) (z .set) (r .records); at = z .at; tight = z .tight })
+leave P r (some z) = some (record { lines = z .lines; records = putSet (P .set) (z .set) (r .records); at = z .at; tight = z .tight; long = z .long })
 
 -- pass i of a line with base q
 unfoldable pub passAt : Form → ℕ → List ℕ → ℕ → State → Option State
@@ -77,6 +84,7 @@ beforeLine F bases n r =
       records = recordsBefore F bases n (r .records);
       at = r .at;
       tight = r .tight;
+      long = r .long;
     }
 
 -- line n
@@ -91,6 +99,7 @@ startState F bases =
       records = recordsAtStart F bases;
       at = record { 0 = 0 };
       tight = true;
+      long = 0;
     }
 
 -- the state after n lines of the block with the bytes s; none if one of them is truncated
@@ -113,6 +122,21 @@ tightLines F bases s (suc n) =
     let m = tightLines F bases s n in
     cond (eqb m n && isTightState (readLines F bases s (suc n))) (suc n) m
 
+-- ---- what is counted
+
+-- the bits and the long codes of lines that were read; nothing where one of them is truncated
+abbrev pub totalsIn : Option State → Totals
+totalsIn none = noTotals
+totalsIn (some r) = record { bits = r .at .0; long = r .long }
+
+-- of the first n lines
+abbrev pub totalsAfter : Form → List ℕ → List ℕ → ℕ → Totals
+totalsAfter F bases s n = totalsIn (readLines F bases s n)
+
+-- of the lines, from the first on, that have only tight codes
+abbrev pub tightBefore : Form → List ℕ → List ℕ → ℕ → TightLines
+tightBefore F bases s n = record { lines = tightLines F bases s n; totals = totalsAfter F bases s (tightLines F bases s n) }
+
 -- ---- the image
 
 -- the sample that entry i of the image shows: that of its line
@@ -132,33 +156,44 @@ AllInRange l = (j : ℕ) → j < 336 → InRange (getD l j noRecord)
 
 -- the lines that go to the image: all of them, or those before the truncated one
 abbrev pub shownLines : Walked → ℕ → ℕ
-shownLines (Walk.Read at tight) count = count
-shownLines (Walk.Truncated line) count = line
+shownLines (Walk.Read all tight) count = count
+shownLines (Walk.Truncated line before) count = line
+
+-- where a block starts, the state at a place, and what was counted up to it
+abbrev pub startPlace : Place
+startPlace = record { at = record { 0 = 0 }; tight = true; long = 0 }
+
+abbrev pub stateAt : List ℕ → List Record → Place → State
+stateAt lines records from = record { lines = lines; records = records; at = from .at; tight = from .tight; long = from .long }
+
+abbrev pub totalsAt : Place → Totals
+totalsAt from = record { bits = from .at .0; long = from .long }
 
 -- what a line hands back. Where it is truncated the colour lines and the records are left free
 abbrev pub IsLined : Option State → List ℕ → List Record → Lined → Type 0
 IsLined none lines records r = r ≡ Line.Truncated
-IsLined (some z) lines records r = (r ≡ Line.Read (z .at) (z .tight)) × (lines ≡ z .lines) × (records ≡ z .records)
+IsLined (some z) lines records r =
+    (r ≡ Line.Read (record { at = z .at; tight = z .tight; long = z .long })) × (lines ≡ z .lines) × (records ≡ z .records)
 
--- a line with these quantisers, from this bit on, with these lines and records before it and those after it
-abbrev pub LineRead : Form → Quantisers → List ℕ → BitPosition → Bool → (lines : List ℕ) → List Record → (lines' : List ℕ) → List Record → Lined → Type 0
-LineRead F Q s from tight lines records lines' records' r =
-    IsLined (readLine F (Q .base) s (record { lines = lines; records = records; at = from; tight = tight })) lines' records' r
+-- a line with these quantisers, from this place on, with these lines and records before it and those after it
+abbrev pub LineRead : Form → Quantisers → List ℕ → Place → (lines : List ℕ) → List Record → (lines' : List ℕ) → List Record → Lined → Type 0
+LineRead F Q s from lines records lines' records' r = IsLined (readLine F (Q .base) s (stateAt lines records from)) lines' records' r
 
--- what a walk over the first `count` lines of a block says: all were read, up to this bit, and so many had only tight codes
-pub record ReadAll (F : Form) (bases s : List ℕ) (count : ℕ) (at : BitPosition) (tight : ℕ) : Type 0 where
+-- what a walk over the first `count` lines of a block says: all were read, with these totals, and so many had only tight codes
+pub record ReadAll (F : Form) (bases s : List ℕ) (count : ℕ) (all : Totals) (tight : TightLines) : Type 0 where
   pub end : State
   pub read : readLines F bases s count ≡ some end
-  pub at-end : at ≡ end .at
-  pub tight-is : tight ≡ tightLines F bases s count
+  pub all-is : all ≡ totalsAfter F bases s count
+  pub tight-is : tight ≡ tightBefore F bases s count
 
 -- or this line is the first that is truncated
-pub record CutAt (F : Form) (bases s : List ℕ) (count line : ℕ) : Type 0 where
+pub record CutAt (F : Form) (bases s : List ℕ) (count line : ℕ) (totals : Totals) : Type 0 where
   pub before : State
   pub inside : suc line ≤ count
   pub read : readLines F bases s line ≡ some before
   pub cut : readLines F bases s (suc line) ≡ none
+  pub totals-are : totals ≡ totalsAfter F bases s line
 
 abbrev pub IsWalked : Form → List ℕ → List ℕ → ℕ → Walked → Type 0
-IsWalked F bases s count (Walk.Read at tight) = ReadAll F bases s count at tight
-IsWalked F bases s count (Walk.Truncated line) = CutAt F bases s count line
+IsWalked F bases s count (Walk.Read all tight) = ReadAll F bases s count all tight
+IsWalked F bases s count (Walk.Truncated line before) = CutAt F bases s count line before

@@ -81,15 +81,19 @@ orElse (Refused r) x = Refused r
 
 -- what a walk over block b answers
 abbrev pub walkedAnswer : ℕ → Walked → Decoded
-walkedAnswer b (Walk.Read at tight) = Done
-walkedAnswer b (Walk.Truncated line) = Refused (Truncated b line)
+walkedAnswer b (Walk.Read all tight) = Done
+walkedAnswer b (Walk.Truncated line before) = Refused (Truncated b line)
+
+-- what the first n lines of block b give, with the bytes s: refusal 14 with the first truncated line
+abbrev pub blockAnswer : Form → (bases s : List ℕ) → ℕ → ℕ → Decoded
+blockAnswer F bases s b n = cond (ltb (linesRead F bases s n) n) (Refused (Truncated b (linesRead F bases s n))) Done
 
 -- refusal 14 of the lowest failing block among n, from the region's first on, with its line
 unfoldable pub answerOf : List ℕ → FujiHeader → Rect → ℕ → Decoded
 answerOf d h r zero = Done
 answerOf d h r (suc n) =
     let b = firstBlock r + n in
-    orElse (answerOf d h r n) (cond (ltb (readIn d h r b) (lineCount r)) (Refused (Truncated b (readIn d h r b))) Done)
+    orElse (answerOf d h r n) (blockAnswer (formOf h) (basesIn d b) (bytesIn d b) b (lineCount r))
 
 -- ---- a call
 

@@ -16,7 +16,7 @@ pub record Buffers : Type 0 where
   pub lines : List ℕ
   pub records : List Record
 
--- the tight reading and measuring are lent scratch alone
+-- the reading of one block and measuring are lent scratch alone
 pub record Scratch : Type 0 where
   pub lines : List ℕ
   pub records : List Record

@@ -5,8 +5,10 @@ pub mod Blocks
 pub mod Lent
 pub mod Images
 pub mod BadCodes
+pub mod BadSpots
 pub mod TightBlocks
 pub mod WrittenBlocks
-pub mod TightReadings
+pub mod Totals
+pub mod BlockReadings
 pub mod Words
 pub mod WrittenAnswers

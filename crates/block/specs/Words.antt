@@ -1,5 +1,5 @@
 -- Answers as numbers, as a caller in C gets them. Assumes nothing.
-use mathlib.Core.List.{List}
+use mathlib.Core.List.{List, [], _∷_}
 use mathlib.Core.Path.{_≡_}
 use Prim.Native.Nat.{ℕ}
 use lib.ListN.{length}
@@ -7,12 +7,14 @@ use Rattle.stream.specs.Lengths.{lengthWord, lengthRefusal}
 use Rattle.stream.specs.Refusals.{refusalWords, noRefusal}
 use Rattle.stream.specs.declared.BlockLength.{BlockLength}
 use Rattle.region.specs.declared.Rect.{Rect}
-use Rattle.begin.specs.Beginnings.{tightBegins, writingBegins}
+use Rattle.totals.specs.declared.Totals.{Totals}
+use Rattle.begin.specs.Beginnings.{writingBegins}
 use Rattle.begin.specs.declared.Beginning.{Beginning}
 use Rattle.block.specs.Images.{Left}
 use Rattle.block.specs.Lent.{Buffers, Scratch, Outputs}
-use Rattle.block.specs.TightReadings.{LeftTight}
+use Rattle.block.specs.BlockReadings.{LeftRead, LeftTight}
 use Rattle.block.specs.WrittenAnswers.{LeftWritten, LeftMeasured}
+use Rattle.block.specs.declared.Counted.{Counted}
 use Rattle.block.specs.declared.Decoded.{Decoded}
 use Rattle.block.specs.declared.Decoded.the-variants.{Done, Refused}
 
@@ -26,10 +28,21 @@ pub record Told (d : List ℕ) (r : Rect) (tile : List ℕ) (begins : Beginning)
   pub left : Left d r tile begins before after answer
   pub told : words ≡ answerWords answer
 
-pub record ToldTight (d : List ℕ) (b : ℕ) (before after : Scratch) (words : List ℕ) : Type 0 where
-  pub answer : Decoded
-  pub left : LeftTight d b (tightBegins d b (length (before .lines)) (length (before .records))) before after answer
-  pub told : words ≡ answerWords answer
+-- bits and long codes
+abbrev pub totalsWords : Totals → List ℕ
+totalsWords t = t .bits ∷ t .long ∷ []
+
+pub record ToldRead (d : List ℕ) (b : ℕ) (before after : Scratch) (totals words : List ℕ) : Type 0 where
+  pub answer : Counted
+  pub left : LeftRead d b before after answer
+  pub told-totals : totals ≡ totalsWords (answer .totals)
+  pub told : words ≡ answerWords (answer .answer)
+
+pub record ToldTight (d : List ℕ) (b : ℕ) (before after : Scratch) (totals words : List ℕ) : Type 0 where
+  pub answer : Counted
+  pub left : LeftTight d b before after answer
+  pub told-totals : totals ≡ totalsWords (answer .totals)
+  pub told : words ≡ answerWords (answer .answer)
 
 -- the writer's, with the length, 0 where it is refused
 pub record ToldWritten (d t : List ℕ) (before after : Outputs) (size words : List ℕ) : Type 0 where

@@ -20,14 +20,14 @@ use Rattle.writing.specs.declared.Put.{Put}
 use Rattle.writing.specs.declared.Put.the-variants.{At, Wrong}
 use Rattle.block.specs.Images.{formOf}
 use Rattle.block.specs.Lent.{Outputs, Scratch, scratchOf, clearedLines, clearedRecords}
-use Rattle.block.specs.WrittenBlocks.{WriteState, repeats, writePassAt, writeLines, tightBlock}
+use Rattle.block.specs.WrittenBlocks.{WriteState, repeats, writePassAt, writeLines, writtenBlock, tightBlock}
 use Rattle.block.specs.declared.Form.{Form}
 
 -- ---- what the functions below the entry hand back
 
--- the first i passes of line n, from these lines and records on and with no bits yet
-unfoldable pub passesFrom : Form → List ℕ → ℕ → ℕ → List ℕ → List Record → WriteState
-passesFrom F t n i lines rs = repeats (writePassAt F t n) i (record { lines = lines; records = rs; bits = []; wrong = none })
+-- the first i passes of line n, whose base is q, from these lines and records on and with no bits yet
+unfoldable pub passesFrom : Form → ℕ → Bool → List ℕ → ℕ → ℕ → List ℕ → List Record → WriteState
+passesFrom F q strict t n i lines rs = repeats (writePassAt F q strict t n) i (record { lines = lines; records = rs; bits = []; wrong = none })
 
 -- lines that were written up to the state z, from no bits on: the position after their bits, or the first interpolated sample that is not its
 -- prediction; then lines and records are left free, and so is the output where it is stored
@@ -49,7 +49,7 @@ pub record SetWritten (z : WriteState) (store : Bool) (out out' : List ℕ) (r :
 
 -- ---- the answer
 
--- refusal 13, or the length of the tight block
+-- refusal 13, or the length of the block
 abbrev pub lengthAnswer : ℕ → ℕ → BlockLength
 lengthAnswer n room = cond (ltb room n) (Refused ShortOutput) (Length n)
 
@@ -63,13 +63,13 @@ abbrev pub rangeAnswer : Option ℕ → BlockLength → BlockLength
 rangeAnswer none a = a
 rangeAnswer (some i) a = Refused (AboveLargest i)
 
--- the answer for a set t whose samples are all in range, with so many bytes of output
-unfoldable pub measuredAnswer : Form → ℕ → List ℕ → ℕ → BlockLength
-measuredAnswer F lines t room = predictedAnswer ((writeLines F t lines) .wrong) (length (tightBlock F lines t)) room
+-- the answer for a set t whose samples are all in range, with these bases and so many bytes of output
+unfoldable pub measuredAnswer : Form → List ℕ → ℕ → List ℕ → ℕ → BlockLength
+measuredAnswer F bases lines t room = predictedAnswer ((writeLines F bases t lines) .wrong) (length (writtenBlock F bases lines t)) room
 
--- the answer for any set t of the right size
+-- the answer for any set t of the right size, lossless
 unfoldable pub writtenAnswer : Form → ℕ → List ℕ → ℕ → BlockLength
-writtenAnswer F lines t room = rangeAnswer (firstAbove (largest (F .bits)) 0 t) (measuredAnswer F lines t room)
+writtenAnswer F lines t room = rangeAnswer (firstAbove (largest (F .bits)) 0 t) (measuredAnswer F [] lines t room)
 
 -- the answer for a set that is only measured: that of the writer with an output of exactly the block's length
 unfoldable pub exactAnswer : Form → ℕ → List ℕ → BlockLength

@@ -1,19 +1,21 @@
--- The tight block of a set of colour lines: line after line, by the rules of reading, from the set's own samples. Assumes nothing.
+-- The block of a set of colour lines: line after line, by the rules of reading, each with its base; the tight block has no bases. Assumes nothing.
 use mathlib.Core.Bool.{Bool}
 use mathlib.Core.List.{List, []}
 use mathlib.Core.Option.{Option, none}
 use mathlib.Core.Path.{_≡_}
 use Prim.Native.Nat.{ℕ, zero, suc, _≤_}
+use lib.Dec.{eqb}
 use lib.ListN.{length, getD}
 use Rattle.bits.specs.BitLists.{bytesOf}
 use Rattle.statistics.specs.declared.Record.{Record}
 use Rattle.quantiser.specs.Quantisers.{largest}
-use Rattle.steps.specs.Steps.{planOf}
+use Rattle.steps.specs.Steps.{planOf, passSteps}
 use Rattle.steps.specs.declared.Plan.{Plan}
 use Rattle.map.specs.Places.{widthOf}
 use Rattle.writing.specs.Sets.{setSize}
 use Rattle.writing.specs.Writings.{Writing, writePass}
-use Rattle.block.specs.Records.{setOf, putSet}
+use Rattle.writing.specs.Puts.{Wanted}
+use Rattle.block.specs.Records.{baseOf, setOf, putSet}
 use Rattle.block.specs.Between.{linesAtStart, recordsAtStart, linesBefore, recordsBefore, linesEntered}
 use Rattle.block.specs.declared.Form.{Form}
 
@@ -43,40 +45,52 @@ enterWriting F P r =
 abbrev pub leaveWriting : Plan → WriteState → Writing → WriteState
 leaveWriting P r z = record { lines = z .lines; records = putSet (P .set) (z .set) (r .records); bits = z .bits; wrong = z .wrong }
 
--- pass i of line n
-unfoldable pub writePassAt : Form → List ℕ → ℕ → ℕ → WriteState → WriteState
-writePassAt F t n i r =
+-- pass i of line n, whose base is q
+unfoldable pub writePassAt : Form → ℕ → Bool → List ℕ → ℕ → ℕ → WriteState → WriteState
+writePassAt F q strict t n i r =
     let P = planOf (F .xtrans) i in
-    leaveWriting P r (writePass (F .bits) (widthOf (F .xtrans)) t n P (enterWriting F P r))
+    leaveWriting P r (writePass (F .bits) q (widthOf (F .xtrans)) strict t n P (enterWriting F P r))
 
--- before line n the colour lines are turned, and at line 0 the main records start anew
-abbrev pub beforeWriting : Form → ℕ → WriteState → WriteState
-beforeWriting F n r =
+-- before line n the colour lines are turned, and the main records may start anew
+abbrev pub beforeWriting : Form → List ℕ → ℕ → WriteState → WriteState
+beforeWriting F bases n r =
     record {
       lines = linesBefore F (r .lines);
-      records = recordsBefore F [] n (r .records);
+      records = recordsBefore F bases n (r .records);
       bits = r .bits;
       wrong = r .wrong;
     }
 
+-- a lossless block has no bases, and its set is held to the predictions of interpolated samples
+abbrev pub isStrict : List ℕ → Bool
+isStrict bases = eqb (length bases) 0
+
 -- line n: six passes
-unfoldable pub writeLine : Form → List ℕ → ℕ → WriteState → WriteState
-writeLine F t n r = repeats (writePassAt F t n) 6 (beforeWriting F n r)
+unfoldable pub writeLine : Form → List ℕ → List ℕ → ℕ → WriteState → WriteState
+writeLine F bases t n r = repeats (writePassAt F (baseOf bases n) (isStrict bases) t n) 6 (beforeWriting F bases n r)
 
 -- a block starts with lines of 0, start records, and no bits
-unfoldable pub startWriting : Form → WriteState
-startWriting F = record { lines = linesAtStart F; records = recordsAtStart F []; bits = []; wrong = none }
+unfoldable pub startWriting : Form → List ℕ → WriteState
+startWriting F bases = record { lines = linesAtStart F; records = recordsAtStart F bases; bits = []; wrong = none }
 
 -- the state after n lines
-unfoldable pub writeLines : Form → List ℕ → ℕ → WriteState
-writeLines F t n = repeats (writeLine F t) n (startWriting F)
+unfoldable pub writeLines : Form → List ℕ → List ℕ → ℕ → WriteState
+writeLines F bases t n = repeats (writeLine F bases t) n (startWriting F bases)
 
--- the tight block of the set t
-unfoldable pub tightBlock : Form → ℕ → List ℕ → List ℕ
-tightBlock F lines t = bytesOf ((writeLines F t lines) .bits)
+-- the block of the set t with these bases
+unfoldable pub writtenBlock : Form → List ℕ → ℕ → List ℕ → List ℕ
+writtenBlock F bases lines t = bytesOf ((writeLines F bases t lines) .bits)
+
+-- the tight block of the set t: it is lossless
+abbrev pub tightBlock : Form → ℕ → List ℕ → List ℕ
+tightBlock F lines t = writtenBlock F [] lines t
+
+-- the samples of a set that have a code are in 0..M
+abbrev pub SetWanted : Form → List ℕ → Type 0
+SetWanted F t = (n i : ℕ) → Wanted (largest (F .bits)) (widthOf (F .xtrans)) t n (passSteps (widthOf (F .xtrans)) (planOf (F .xtrans) i))
 
 -- a set that fits: it has all samples, each in 0..M, and each interpolated position has its prediction
 pub record FitSet (F : Form) (lines : ℕ) (t : List ℕ) : Type 0 where
   pub size : length t ≡ setSize (widthOf (F .xtrans)) lines
   pub range : (j : ℕ) → getD t j 0 ≤ largest (F .bits)
-  pub predicted : (writeLines F t lines) .wrong ≡ none
+  pub predicted : (writeLines F [] t lines) .wrong ≡ none

@@ -4,10 +4,12 @@ ghost use lib.ListN.{length};
 ghost use Rattle.region.specs.declared.Rect.{Rect};
 ghost use Rattle.begin.specs.Beginnings.{regionBegins, wholeOf, imageBegins};
 ghost use Rattle.block.specs.Lent.{Buffers, Scratch, Outputs};
-ghost use Rattle.block.specs.Words.{answerWords, Told, ToldTight, ToldWritten, ToldMeasured};
+ghost use Rattle.block.specs.Words.{answerWords, Told, totalsWords, ToldRead, ToldTight, ToldWritten, ToldMeasured};
+use crate::Counted;
 use crate::Decoded;
 use crate::decoding::decode;
 use crate::decoding::decode_region;
+use crate::tight::read_block;
 use crate::tight::read_tight;
 use crate::writer::measure_block;
 use crate::writer::write_block;
@@ -80,6 +82,43 @@ pub extern "C" fn fuji_decode(
     *refusal = w;
 }
 
+// Bits and long codes.
+fn totals_words(a: Counted) -> [usize; 2]
+    ensures { λ w. ⌜ w ≡ totalsWords (a .totals) ⌝ }
+{
+    let totals = a.totals;
+    [totals.bits as usize, totals.long as usize]
+}
+
+fn counted_refusal(a: Counted) -> [usize; 4]
+    ensures { λ w. ⌜ w ≡ answerWords (a .answer) ⌝ }
+{
+    let answer = a.answer;
+    answer_words(answer)
+}
+
+// `read_block` for C.
+#[no_mangle]
+pub extern "C" fn fuji_read_block(
+    d: &[u8],
+    b: usize,
+    lines: &mut [u16],
+    rs: &mut [Record],
+    totals: &mut [usize; 2],
+    refusal: &mut [usize; 4],
+)
+    ensures { λ _.
+        let before : Scratch = record { lines = now (lines .entry); records = now (rs .entry) } in
+        let after : Scratch = record { lines = now (lines .exit); records = now (rs .exit) } in
+        ⌜ ToldRead (now (d .entry)) b before after (now (totals .exit)) (now (refusal .exit)) ⌝ }
+{
+    let a = read_block(d, b, lines, rs);
+    let t = totals_words(a);
+    let w = counted_refusal(a);
+    *totals = t;
+    *refusal = w;
+}
+
 // `read_tight` for C.
 #[no_mangle]
 pub extern "C" fn fuji_read_tight(
@@ -87,15 +126,18 @@ pub extern "C" fn fuji_read_tight(
     b: usize,
     lines: &mut [u16],
     rs: &mut [Record],
+    totals: &mut [usize; 2],
     refusal: &mut [usize; 4],
 )
     ensures { λ _.
         let before : Scratch = record { lines = now (lines .entry); records = now (rs .entry) } in
         let after : Scratch = record { lines = now (lines .exit); records = now (rs .exit) } in
-        ⌜ ToldTight (now (d .entry)) b before after (now (refusal .exit)) ⌝ }
+        ⌜ ToldTight (now (d .entry)) b before after (now (totals .exit)) (now (refusal .exit)) ⌝ }
 {
     let a = read_tight(d, b, lines, rs);
-    let w = answer_words(a);
+    let t = totals_words(a);
+    let w = counted_refusal(a);
+    *totals = t;
     *refusal = w;
 }
 

@@ -31,7 +31,7 @@ fn judged(before: Decoded, b: usize, got: Walked) -> Decoded
         Decoded::Refused(r) => Decoded::Refused(r),
         Decoded::Done => match got {
             Walked::Read(_, _) => Decoded::Done,
-            Walked::Truncated(n) => Decoded::Refused(Refusal::Truncated(b, n)),
+            Walked::Truncated(n, _) => Decoded::Refused(Refusal::Truncated(b, n)),
         },
     }
 }

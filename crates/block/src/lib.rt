@@ -1,9 +1,11 @@
 // Blocks: read, decoded, read tightly, and written. The types of the answers are here, the functions in a module for each role.
 ghost use mathlib.Core.Path.{_≡_};
 ghost use Rattle.block.specs.Images.{formOf};
-use bits::BitPosition;
+use code::Place;
 use stream::FujiHeader;
 use stream::Refusal;
+use totals::TightLines;
+use totals::Totals;
 
 mod c;
 mod decoding;
@@ -17,7 +19,10 @@ pub use decoding::decode;
 pub use decoding::decode_region;
 pub use decoding::decode_region_alone;
 pub use reading::walk_alone;
+pub use records::start_record;
+pub use tight::read_block;
 pub use tight::read_tight;
+pub use tight::tight_answer;
 pub use writer::measure_block;
 pub use writer::write_block;
 
@@ -26,23 +31,29 @@ pub struct Form {
     pub xtrans: bool,
 }
 
-// A line that was read, with the position after it, and whether all codes up to there were tight; or a line that is truncated.
+// Where the reading is after a line; or the line is truncated.
 pub enum Lined {
-    Read(BitPosition, bool),
+    Read(Place),
     Truncated,
 }
 
-// All lines were read, up to this bit, and so many of them, from the first on, have only tight codes; or this line is the first that is
-// truncated.
+// What was counted of all lines, and of those, from the first on, that have only tight codes; or the first line that is truncated, and what was
+// counted before it.
 pub enum Walked {
-    Read(BitPosition, usize),
-    Truncated(usize),
+    Read(Totals, TightLines),
+    Truncated(usize, Totals),
 }
 
 // What decoding answers.
 pub enum Decoded {
     Done,
     Refused(Refusal),
+}
+
+// What the reading of one block answers, and what it counted.
+pub struct Counted {
+    pub answer: Decoded,
+    pub totals: Totals,
 }
 
 pub(crate) fn form_of(h: FujiHeader) -> Form

@@ -1,15 +1,14 @@
 // Reading a block: six passes make a line, and lines make a block.
 ghost use mathlib.Core.Path.{_≡_};
-ghost use mathlib.Core.Bool.{cond, _&&_};
 ghost use Prim.Native.Nat.{_+_, _^_, _≤_, _<_};
-ghost use lib.Dec.{eqb};
 ghost use lib.ListN.{length};
 ghost use Rattle.lines.specs.ColourLines.{zeroLines};
 ghost use Rattle.map.specs.Places.{widthOf, ArePlaces, Fits};
 ghost use Rattle.steps.specs.Values.{quantisersOf, Depth};
+ghost use Rattle.totals.specs.Totals.{noTotals};
 ghost use Rattle.block.specs.Lent.{ScratchOf};
 ghost use Rattle.block.specs.Records.{baseOf, isRestarted, clearRecords};
-ghost use Rattle.block.specs.Blocks.{AllInRange, LineRead, Shown, shownLines, IsWalked};
+ghost use Rattle.block.specs.Blocks.{startPlace, totalsAt, AllInRange, LineRead, Shown, shownLines, IsWalked};
 use crate::Form;
 use crate::Lined;
 use crate::Walked;
@@ -21,14 +20,17 @@ use crate::records::start_records;
 use crate::records::store_set;
 use bits::BitPosition;
 use bits::is_past;
+use code::Place;
 use map::Part;
 use map::width;
 use quantiser::Quantiser;
 use statistics::Record;
 use steps::Quantisers;
+use totals::TightLines;
+use totals::Totals;
 
 // The base of line n; a lossless block has none, and base 0 in each line.
-fn base_of(bases: &[u8], n: usize) -> u32
+pub(crate) fn base_of(bases: &[u8], n: usize) -> u32
     ensures { λ r. ⌜ (r ≡ baseOf (now (bases .entry)) n) × (r < 256) ⌝ }
 {
     if n < bases.len() {
@@ -37,7 +39,7 @@ fn base_of(bases: &[u8], n: usize) -> u32
     0
 }
 
-fn is_restarted(bases: &[u8], n: usize) -> bool
+pub(crate) fn is_restarted(bases: &[u8], n: usize) -> bool
     ensures { λ r. ⌜ r ≡ isRestarted (now (bases .entry)) n ⌝ }
 {
     if n == 0 {
@@ -46,7 +48,7 @@ fn is_restarted(bases: &[u8], n: usize) -> bool
     base_of(bases, n) != base_of(bases, n - 1)
 }
 
-fn quantisers_of(bits: u32, base: u32) -> Quantisers
+pub(crate) fn quantisers_of(bits: u32, base: u32) -> Quantisers
     requires { ⌜ Depth bits × (base < 256) ⌝ }
     ensures { λ r. ⌜ r ≡ quantisersOf bits base ⌝ }
 {
@@ -62,24 +64,40 @@ fn quantisers_of(bits: u32, base: u32) -> Quantisers
     }
 }
 
-// How many lines have only tight codes, after line n.
-fn tight_count(m: usize, n: usize, tight: bool) -> usize
-    requires { ⌜ (m ≤ n) × (n < 2 ^ 16) ⌝ }
-    ensures { λ r. ⌜ (r ≡ cond (eqb m n && tight) (n + 1) m) × (r ≤ n + 1) ⌝ }
+// Where a block starts.
+fn start_place() -> Place
+    ensures { λ r. ⌜ r ≡ startPlace ⌝ }
 {
-    if tight {
-        if m == n {
-            return n + 1;
-        }
+    let at = BitPosition(0);
+    Place {
+        at,
+        tight: true,
+        long: 0,
     }
-    m
+}
+
+// What was counted up to there.
+fn totals_at(place: Place) -> Totals
+    ensures { λ r. ⌜ r ≡ totalsAt place ⌝ }
+{
+    let at = place.at;
+    Totals {
+        bits: at.0,
+        long: place.long,
+    }
+}
+
+fn no_lines() -> TightLines
+    ensures { λ r. ⌜ r ≡ record { lines = 0; totals = noTotals } ⌝ }
+{
+    let totals = totals::none();
+    TightLines { lines: 0, totals }
 }
 
 // One line: six passes, each on the records of its set.
 fn line(
     block: &[u8],
-    from: BitPosition,
-    tight_before: bool,
+    from: Place,
     lines: &mut [u16],
     rs: &mut [Record],
     form: Form,
@@ -87,36 +105,35 @@ fn line(
 ) -> Lined
     requires { ⌜ (length (now block) < 2 ^ 32) × ScratchOf (form .xtrans) (now lines) (now rs) ⌝ }
     requires { ⌜ Depth (form .bits) × ((qs .base < 256) × (qs ≡ quantisersOf (form .bits) (qs .base))) ⌝ }
-    requires { ⌜ AllInRange (now rs) ⌝ }
-    ensures { λ r. ⌜ LineRead form qs (now (block .entry)) from «tight_before» (now (lines .entry)) (now (rs .entry)) (now (lines .exit)) (now (rs .exit)) r ⌝ }
+    requires { ⌜ AllInRange (now rs) × (from .long ≤ from .at .0) ⌝ }
+    ensures { λ r. ⌜ LineRead form qs (now (block .entry)) from (now (lines .entry)) (now (rs .entry)) (now (lines .exit)) (now (rs .exit)) r ⌝ }
     ensures { λ _. ⌜ AllInRange (now (rs .exit)) ⌝ }
 {
     let bits = form.bits;
     let xtrans = form.xtrans;
     let w = width(xtrans);
-    let mut at = from;
-    let mut tight = tight_before;
+    let mut place = from;
     let mut i: usize = 0;
     while i < 6 {
         let p = steps::plan_at(i, xtrans);
         lines::set_guards(lines, w, p.first);
         lines::set_guards(lines, w, p.second);
         let set = load_set(rs, p.set);
-        let done = pass::pass(block, at, tight, lines, set, w, p, qs, bits);
+        let done = pass::pass(block, place, lines, set, w, p, qs, bits);
         let ok = done.ok;
         if !ok {
             return Lined::Truncated;
         }
         let new = done.set;
         store_set(rs, p.set, new);
-        at = done.at;
-        tight = done.tight;
+        place = done.place;
         i = i + 1;
     }
+    let at = place.at;
     if is_past(block, at) {
         return Lined::Truncated;
     }
-    Lined::Read(at, tight)
+    Lined::Read(place)
 }
 
 // The first `count` lines of a block, each put into the image as soon as it is read. Scratch is left as it is then.
@@ -143,25 +160,23 @@ fn read_lines(
     let w = width(xtrans);
     lines::clear(lines);
     start_records(rs, bits, base_of(bases, 0));
-    let mut at = BitPosition(0);
-    let mut tight = true;
-    let mut tight_lines: usize = 0;
+    let mut place = start_place();
+    let mut tight_lines = no_lines();
     let mut n: usize = 0;
     while n < count {
         lines::turn(lines, w);
         let base = base_of(bases, n);
         restart(rs, bits, base, is_restarted(bases, n));
-        let got = line(block, at, tight, lines, rs, form, quantisers_of(bits, base));
-        let Lined::Read(after, all_tight) = got else {
-            return Walked::Truncated(n);
+        let got = line(block, place, lines, rs, form, quantisers_of(bits, base));
+        let Lined::Read(after) = got else {
+            return Walked::Truncated(n, totals_at(place));
         };
-        at = after;
-        tight = all_tight;
-        tight_lines = tight_count(tight_lines, n, tight);
+        place = after;
+        tight_lines = totals::with_line(tight_lines, n, place.tight, totals_at(place));
         map::emit_line(lines, image, w, xtrans, places, tile, part, n);
         n = n + 1;
     }
-    Walked::Read(at, tight_lines)
+    Walked::Read(totals_at(place), tight_lines)
 }
 
 // A walk over the first `count` lines of a block: the one reading that decoding and the tight reading share. Lines that are read go to the

@@ -13,7 +13,7 @@ use statistics::Record;
 use steps::Set;
 
 // What record j starts with.
-fn start_record(bits: u32, base: u32, j: usize) -> Record
+pub fn start_record(bits: u32, base: u32, j: usize) -> Record
     requires { ⌜ Depth bits × (base < 256) ⌝ }
     ensures { λ r. ⌜ r ≡ startRecord bits base j ⌝ }
 {

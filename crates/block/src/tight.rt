@@ -1,4 +1,4 @@
-// The tight reading of a block.
+// Readings of one block that show nothing: the ordinary one, of lossless and of lossy blocks, and the tight one.
 ghost use mathlib.Core.Path.{_≡_};
 ghost use mathlib.Core.Bool.{true};
 ghost use mathlib.Core.List.{[], _∷_};
@@ -6,41 +6,76 @@ ghost use Prim.Native.Nat.{_^_, _<_};
 ghost use lib.ListN.{length};
 ghost use Rattle.lines.specs.ColourLines.{zeroLines};
 ghost use Rattle.map.specs.Places.{widthOf, Fits};
-ghost use Rattle.block.specs.Records.{clearRecords};
-ghost use Rattle.block.specs.Blocks.{IsWalked};
-ghost use Rattle.begin.specs.Beginnings.{tightBegins};
-ghost use Rattle.block.specs.Images.{formOf, bytesIn};
-ghost use Rattle.block.specs.Lent.{Scratch, ScratchOf};
-ghost use Rattle.block.specs.TightBlocks.{tightAnswer};
-ghost use Rattle.block.specs.TightReadings.{LeftTight};
 ghost use Rattle.stream.specs.Streams.{openOf};
 ghost use Rattle.stream.specs.declared.Parsed.the-variants.{Header};
+ghost use Rattle.block.specs.Records.{clearRecords};
+ghost use Rattle.block.specs.Blocks.{IsWalked};
+ghost use Rattle.block.specs.Images.{formOf, bytesIn, basesIn};
+ghost use Rattle.block.specs.Lent.{Scratch, ScratchOf};
+ghost use Rattle.block.specs.TightBlocks.{tightAnswer};
+ghost use Rattle.block.specs.Totals.{counted, refusedBy, walkedCounted};
+ghost use Rattle.block.specs.BlockReadings.{tightCounted, LeftRead, LeftTight};
+use crate::Counted;
 use crate::Decoded;
 use crate::Form;
 use crate::Walked;
 use crate::form_of;
 use crate::reading::walk;
+use bits::BitPosition;
 use map::Part;
 use statistics::Record;
 use stream::FujiHeader;
 use stream::Parsed;
 use stream::Refusal;
 
-// What the tight reading answers for block b, once a walk over its lines has said this.
-fn tight_answer(s: &[u8], form: Form, b: usize, count: usize, got: Walked) -> Decoded
-    requires { ⌜ (length (now s) < 2 ^ 32) × IsWalked form [] (now s) count got ⌝ }
-    ensures { λ r. ⌜ r ≡ tightAnswer form b count (now (s .entry)) ⌝ }
+// A call that is refused before it reads has counted nothing.
+fn refused(x: Refusal) -> Counted
+    ensures { λ r. ⌜ r ≡ refusedBy x ⌝ }
+{
+    let answer = Decoded::Refused(x);
+    let totals = totals::none();
+    Counted { answer, totals }
+}
+
+// What the ordinary reading answers for block b, once a walk over its lines has said this.
+fn read_answer(b: usize, got: Walked) -> Counted
+    ensures { λ r. ⌜ r ≡ walkedCounted b got ⌝ }
 {
     match got {
-        Walked::Truncated(n) => Decoded::Refused(Refusal::Truncated(b, n)),
-        Walked::Read(at, tight) => {
-            if tight < count {
-                return Decoded::Refused(Refusal::NotTight(tight));
+        Walked::Truncated(n, totals) => {
+            let answer = Decoded::Refused(Refusal::Truncated(b, n));
+            Counted { answer, totals }
+        }
+        Walked::Read(totals, _) => {
+            let answer = Decoded::Done;
+            Counted { answer, totals }
+        }
+    }
+}
+
+// What the tight reading answers for block b with the bytes s, once a walk over its lines has said this.
+pub fn tight_answer(s: &[u8], form: Form, b: usize, count: usize, got: Walked) -> Counted
+    requires { ⌜ (length (now s) < 2 ^ 32) × IsWalked form [] (now s) count got ⌝ }
+    ensures { λ r. ⌜ r ≡ counted form [] (now (s .entry)) count (tightAnswer form b count (now (s .entry))) ⌝ }
+{
+    match got {
+        Walked::Truncated(n, totals) => {
+            let answer = Decoded::Refused(Refusal::Truncated(b, n));
+            Counted { answer, totals }
+        }
+        Walked::Read(totals, tight) => {
+            if tight.lines < count {
+                let answer = Decoded::Refused(Refusal::NotTight(tight.lines));
+                let totals = tight.totals;
+                return Counted { answer, totals };
             }
+            let at = BitPosition(totals.bits);
             if bits::is_tail(s, at) {
-                return Decoded::Done;
+                let answer = Decoded::Done;
+                return Counted { answer, totals };
             }
-            Decoded::Refused(Refusal::NotTight(count))
+            let answer = Decoded::Refused(Refusal::NotTight(count));
+            Counted { answer, totals }
         }
     }
 }
@@ -66,16 +101,10 @@ pub(crate) fn line_count(h: FujiHeader) -> usize
 }
 
 // One walk over block b, which shows nothing.
-fn read_tight_block(
-    d: &[u8],
-    h: FujiHeader,
-    b: usize,
-    lines: &mut [u16],
-    rs: &mut [Record],
-) -> Decoded
-    requires { ⌜ (openOf (now d) ≡ Header h) × (h .lossless ≡ true) ⌝ }
+fn walk_block(d: &[u8], h: FujiHeader, b: usize, lines: &mut [u16], rs: &mut [Record]) -> Walked
+    requires { ⌜ openOf (now d) ≡ Header h ⌝ }
     requires { ⌜ ScratchOf (h .xtrans) (now lines) (now rs) ⌝ }
-    ensures { λ a. ⌜ a ≡ tightAnswer (formOf h) b (h .lines) (bytesIn (now (d .entry)) b) ⌝ }
+    ensures { λ r. ⌜ IsWalked (formOf h) (basesIn (now (d .entry)) b) (bytesIn (now (d .entry)) b) (h .lines) r ⌝ }
     ensures { λ _. ⌜ (now (lines .exit) ≡ zeroLines (widthOf (h .xtrans))) × (now (rs .exit) ≡ clearRecords) ⌝ }
 {
     let form = form_of(h);
@@ -84,7 +113,7 @@ fn read_tight_block(
     let bases = stream::base_row(d, b);
     let places = map::xtrans_places();
     let mut nothing = [0u16; 1];
-    let got = walk(
+    walk(
         block,
         bases,
         lines,
@@ -95,24 +124,53 @@ fn read_tight_block(
         [0u8; 36],
         no_part(),
         count,
-    );
-    tight_answer(block, form, b, count, got)
+    )
 }
 
-// The tight reading of block b of the stream d: it accepts exactly the tight blocks, and writes nothing but scratch, of which only the first part
-// is used.
-pub fn read_tight(d: &[u8], b: usize, lines: &mut [u16], rs: &mut [Record]) -> Decoded
+// The ordinary reading of block b of the stream d, lossless or lossy. It writes nothing but scratch, of which only the first part is used.
+pub fn read_block(d: &[u8], b: usize, lines: &mut [u16], rs: &mut [Record]) -> Counted
     ensures { λ a.
         let before : Scratch = record { lines = now (lines .entry); records = now (rs .entry) } in
         let after : Scratch = record { lines = now (lines .exit); records = now (rs .exit) } in
-        ⌜ LeftTight (now (d .entry)) b (tightBegins (now (d .entry)) b (length (before .lines)) (length (before .records))) before after a ⌝ }
+        ⌜ LeftRead (now (d .entry)) b before after a ⌝ }
 {
-    let begins = begin::tight_begins(d, b, lines.len(), rs.len());
+    let begins = begin::block_begins(d, b, false, lines.len(), rs.len());
     match begins {
-        Parsed::Refused(x) => Decoded::Refused(x),
+        Parsed::Refused(x) => refused(x),
         Parsed::Header(h) => {
             let used = begin::samples_needed(h.xtrans);
-            read_tight_block(d, h, b, &mut lines[0..used], &mut rs[0..336])
+            let got = walk_block(d, h, b, &mut lines[0..used], &mut rs[0..336]);
+            read_answer(b, got)
+        }
+    }
+}
+
+// What the tight reading answers for block b of the stream d.
+fn tight_in(d: &[u8], h: FujiHeader, b: usize, got: Walked) -> Counted
+    requires { ⌜ (openOf (now d) ≡ Header h) × (h .lossless ≡ true) ⌝ }
+    requires { ⌜ IsWalked (formOf h) (basesIn (now d) b) (bytesIn (now d) b) (h .lines) got ⌝ }
+    ensures { λ r. ⌜ r ≡ tightCounted (now (d .entry)) b h ⌝ }
+{
+    let form = form_of(h);
+    let count = line_count(h);
+    let block = stream::block_bytes(d, b);
+    tight_answer(block, form, b, count, got)
+}
+
+// The tight reading of block b: it accepts exactly the tight blocks. It writes nothing but scratch too.
+pub fn read_tight(d: &[u8], b: usize, lines: &mut [u16], rs: &mut [Record]) -> Counted
+    ensures { λ a.
+        let before : Scratch = record { lines = now (lines .entry); records = now (rs .entry) } in
+        let after : Scratch = record { lines = now (lines .exit); records = now (rs .exit) } in
+        ⌜ LeftTight (now (d .entry)) b before after a ⌝ }
+{
+    let begins = begin::block_begins(d, b, true, lines.len(), rs.len());
+    match begins {
+        Parsed::Refused(x) => refused(x),
+        Parsed::Header(h) => {
+            let used = begin::samples_needed(h.xtrans);
+            let got = walk_block(d, h, b, &mut lines[0..used], &mut rs[0..336]);
+            tight_in(d, h, b, got)
         }
     }
 }

@@ -1,10 +1,11 @@
 // The writer: a set of colour lines becomes the tight block, or is only measured.
 ghost use mathlib.Core.Path.{_≡_};
+ghost use mathlib.Core.List.{[]};
 ghost use Prim.Native.Nat.{_+_, _*_, _^_, _≤_, _<_};
 ghost use lib.ListN.{length};
 ghost use Rattle.lines.specs.ColourLines.{zeroLines};
 ghost use Rattle.map.specs.Places.{widthOf};
-ghost use Rattle.steps.specs.Values.{Depth};
+ghost use Rattle.steps.specs.Values.{quantisersOf, Depth};
 ghost use Rattle.quantiser.specs.Quantisers.{largest};
 ghost use Rattle.writing.specs.Sets.{lineSize, setSize};
 ghost use Rattle.writing.specs.Puts.{Room, Within};
@@ -12,11 +13,14 @@ ghost use Rattle.block.specs.Records.{clearRecords};
 ghost use Rattle.block.specs.Blocks.{AllInRange};
 ghost use Rattle.begin.specs.Beginnings.{writingBegins};
 ghost use Rattle.block.specs.Lent.{Outputs, Scratch, ScratchOf};
-ghost use Rattle.block.specs.WrittenBlocks.{writeLines, tightBlock};
+ghost use Rattle.block.specs.WrittenBlocks.{isStrict, writeLines, SetWanted, writtenBlock, tightBlock};
 ghost use Rattle.block.specs.WrittenAnswers.{passesFrom, LineWritten, SetWritten, measuredAnswer, writtenAnswer, roomFor, outputOf};
 ghost use Rattle.block.specs.WrittenAnswers.{LeftWritten, LeftMeasured, LeftBy};
 use crate::Form;
 use crate::form_of;
+use crate::reading::base_of;
+use crate::reading::is_restarted;
+use crate::reading::quantisers_of;
 use crate::records::clear_records;
 use crate::records::load_set;
 use crate::records::restart;
@@ -28,10 +32,18 @@ use begin::first_above;
 use bits::BitPosition;
 use map::width;
 use statistics::Record;
+use steps::Quantisers;
 use stream::BlockLength;
 use stream::Parsed;
 use stream::Refusal;
 use writing::Put;
+
+// A lossless block has no bases, and its set is held to the predictions of interpolated samples.
+fn is_strict(bases: &[u8]) -> bool
+    ensures { λ r. ⌜ r ≡ isStrict (now (bases .entry)) ⌝ }
+{
+    bases.len() == 0
+}
 
 // Line n: six passes, each on the records of its set.
 fn write_line(
@@ -43,13 +55,16 @@ fn write_line(
     lines: &mut [u16],
     rs: &mut [Record],
     form: Form,
+    qs: Quantisers,
+    strict: bool,
 ) -> Put
-    requires { ⌜ (n < 2 ^ 16) × (((n + 1) * lineSize (widthOf (form .xtrans)) ≤ length (now samples)) × Within (largest (form .bits)) (now samples)) ⌝ }
+    requires { ⌜ (n < 2 ^ 16) × (((n + 1) * lineSize (widthOf (form .xtrans)) ≤ length (now samples)) × SetWanted form (now samples)) ⌝ }
     requires { ⌜ Depth (form .bits) × ScratchOf (form .xtrans) (now lines) (now rs) ⌝ }
     requires { ⌜ Within (largest (form .bits)) (now lines) × AllInRange (now rs) ⌝ }
-    requires { ⌜ (from .0 < 2 ^ 58) × Room store (now out) (from .0) ((passesFrom form (now samples) n 6 (now lines) (now rs)) .bits) ⌝ }
+    requires { ⌜ (from .0 < 2 ^ 58) × Room store (now out) (from .0) ((passesFrom form (qs .base) strict (now samples) n 6 (now lines) (now rs)) .bits) ⌝ }
+    requires { ⌜ (qs .base < 256) × (qs ≡ quantisersOf (form .bits) (qs .base)) ⌝ }
     ensures { λ r.
-        let written = passesFrom form (now (samples .entry)) n 6 (now (lines .entry)) (now (rs .entry)) in
+        let written = passesFrom form (qs .base) strict (now (samples .entry)) n 6 (now (lines .entry)) (now (rs .entry)) in
         ⌜ LineWritten written (from .0) store (now (out .entry)) (now (lines .exit)) (now (rs .exit)) (now (out .exit)) r ⌝ }
     ensures { λ _. ⌜ AllInRange (now (rs .exit)) ⌝ }
 {
@@ -63,7 +78,20 @@ fn write_line(
         lines::set_guards(lines, w, p.first);
         lines::set_guards(lines, w, p.second);
         let set = load_set(rs, p.set);
-        let done = writing::write_pass(samples, n, out, store, at, lines, set, w, p, bits);
+        let done = writing::write_pass(
+            samples,
+            n,
+            out,
+            store,
+            at,
+            lines,
+            set,
+            w,
+            p,
+            qs,
+            bits,
+            strict,
+        );
         let ok = done.ok;
         if !ok {
             return Put::Wrong(done.wrong);
@@ -84,23 +112,37 @@ fn write_lines(
     lines: &mut [u16],
     rs: &mut [Record],
     form: Form,
+    bases: &[u8],
     count: usize,
 ) -> Put
-    requires { ⌜ (count < 2 ^ 16) × ((length (now samples) ≡ setSize (widthOf (form .xtrans)) count) × Within (largest (form .bits)) (now samples)) ⌝ }
+    requires { ⌜ (count < 2 ^ 16) × ((length (now samples) ≡ setSize (widthOf (form .xtrans)) count) × SetWanted form (now samples)) ⌝ }
     requires { ⌜ Depth (form .bits) × ScratchOf (form .xtrans) (now lines) (now rs) ⌝ }
-    requires { ⌜ Room store (now out) 0 ((writeLines form (now samples) count) .bits) ⌝ }
-    ensures { λ r. ⌜ SetWritten (writeLines form (now (samples .entry)) count) store (now (out .entry)) (now (out .exit)) r ⌝ }
+    requires { ⌜ Room store (now out) 0 ((writeLines form (now bases) (now samples) count) .bits) ⌝ }
+    ensures { λ r. ⌜ SetWritten (writeLines form (now (bases .entry)) (now (samples .entry)) count) store (now (out .entry)) (now (out .exit)) r ⌝ }
 {
     let bits = form.bits;
     let w = width(form.xtrans);
+    let strict = is_strict(bases);
     lines::clear(lines);
-    start_records(rs, bits, 0);
+    start_records(rs, bits, base_of(bases, 0));
     let mut at = BitPosition(0);
     let mut n: usize = 0;
     while n < count {
         lines::turn(lines, w);
-        restart(rs, bits, 0, n == 0);
-        let got = write_line(samples, n, out, store, at, lines, rs, form);
+        let base = base_of(bases, n);
+        restart(rs, bits, base, is_restarted(bases, n));
+        let got = write_line(
+            samples,
+            n,
+            out,
+            store,
+            at,
+            lines,
+            rs,
+            form,
+            quantisers_of(bits, base),
+            strict,
+        );
         let Put::At(after) = got else {
             return got;
         };
@@ -118,15 +160,16 @@ fn write_walk(
     lines: &mut [u16],
     rs: &mut [Record],
     form: Form,
+    bases: &[u8],
     count: usize,
 ) -> Put
-    requires { ⌜ (count < 2 ^ 16) × ((length (now samples) ≡ setSize (widthOf (form .xtrans)) count) × Within (largest (form .bits)) (now samples)) ⌝ }
+    requires { ⌜ (count < 2 ^ 16) × ((length (now samples) ≡ setSize (widthOf (form .xtrans)) count) × SetWanted form (now samples)) ⌝ }
     requires { ⌜ Depth (form .bits) × ScratchOf (form .xtrans) (now lines) (now rs) ⌝ }
-    requires { ⌜ Room store (now out) 0 ((writeLines form (now samples) count) .bits) ⌝ }
-    ensures { λ r. ⌜ SetWritten (writeLines form (now (samples .entry)) count) store (now (out .entry)) (now (out .exit)) r ⌝ }
+    requires { ⌜ Room store (now out) 0 ((writeLines form (now bases) (now samples) count) .bits) ⌝ }
+    ensures { λ r. ⌜ SetWritten (writeLines form (now (bases .entry)) (now (samples .entry)) count) store (now (out .entry)) (now (out .exit)) r ⌝ }
     ensures { λ _. ⌜ (now (lines .exit) ≡ zeroLines (widthOf (form .xtrans))) × (now (rs .exit) ≡ clearRecords) ⌝ }
 {
-    let done = write_lines(samples, out, store, lines, rs, form, count);
+    let done = write_lines(samples, out, store, lines, rs, form, bases, count);
     lines::clear(lines);
     clear_records(rs);
     done
@@ -140,29 +183,30 @@ fn write_measured(
     lines: &mut [u16],
     rs: &mut [Record],
     form: Form,
+    bases: &[u8],
     count: usize,
 ) -> BlockLength
-    requires { ⌜ (count < 2 ^ 16) × ((length (now samples) ≡ setSize (widthOf (form .xtrans)) count) × Within (largest (form .bits)) (now samples)) ⌝ }
+    requires { ⌜ (count < 2 ^ 16) × ((length (now samples) ≡ setSize (widthOf (form .xtrans)) count) × SetWanted form (now samples)) ⌝ }
     requires { ⌜ Depth (form .bits) × ScratchOf (form .xtrans) (now lines) (now rs) ⌝ }
     ensures { λ r.
-        let block = tightBlock form count (now (samples .entry)) in
-        ⌜ (r ≡ measuredAnswer form count (now (samples .entry)) (roomFor measure block (now (out .entry))))
+        let block = writtenBlock form (now (bases .entry)) count (now (samples .entry)) in
+        ⌜ (r ≡ measuredAnswer form (now (bases .entry)) count (now (samples .entry)) (roomFor measure block (now (out .entry))))
         × (now (out .exit) ≡ outputOf measure r block (now (out .entry))) ⌝ }
     ensures { λ _. ⌜ (now (lines .exit) ≡ zeroLines (widthOf (form .xtrans))) × (now (rs .exit) ≡ clearRecords) ⌝ }
 {
-    let counted = write_walk(samples, out, false, lines, rs, form, count);
+    let counted = write_walk(samples, out, false, lines, rs, form, bases, count);
     let next = begin::after_counting(counted, measure, out.len());
     match next {
         Next::Answer(a) => a,
         Next::Store(end) => {
-            write_walk(samples, out, true, lines, rs, form, count);
+            write_walk(samples, out, true, lines, rs, form, bases, count);
             bits::fill_tail(out, end);
             BlockLength::Length(begin::block_bytes(end))
         }
     }
 }
 
-// A set of the right size. Samples are looked at first, all of them.
+// A set of the right size, to be written without bases. Samples are looked at first, all of them.
 fn write_set(
     samples: &[u16],
     out: &mut [u8],
@@ -170,10 +214,12 @@ fn write_set(
     lines: &mut [u16],
     rs: &mut [Record],
     form: Form,
+    bases: &[u8],
     count: usize,
 ) -> BlockLength
     requires { ⌜ (count < 2 ^ 16) × (length (now samples) ≡ setSize (widthOf (form .xtrans)) count) ⌝ }
     requires { ⌜ Depth (form .bits) × ScratchOf (form .xtrans) (now lines) (now rs) ⌝ }
+    requires { ⌜ now bases ≡ [] ⌝ }
     ensures { λ r.
         let block = tightBlock form count (now (samples .entry)) in
         ⌜ (r ≡ writtenAnswer form count (now (samples .entry)) (roomFor measure block (now (out .entry))))
@@ -187,7 +233,7 @@ fn write_set(
         clear_records(rs);
         return BlockLength::Refused(Refusal::AboveLargest(i));
     }
-    write_measured(samples, out, measure, lines, rs, form, count)
+    write_measured(samples, out, measure, lines, rs, form, bases, count)
 }
 
 // Writing and measuring are one call, which goes on the first part of the lent scratch.
@@ -219,6 +265,7 @@ fn write_in(
                 &mut lines[0..used],
                 &mut rs[0..336],
                 form,
+                &header[0..0],
                 count,
             )
         }

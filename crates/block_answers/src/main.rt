@@ -99,7 +99,7 @@ fn image_agrees(image: &[u16; 13824], want: &[u8; 36864], s: Sizes, colour: u8) 
 fn answer_agrees(r: Walked, s: Sizes) -> bool {
     match r {
         Walked::Read(_, _) => s.read == s.lines,
-        Walked::Truncated(line) => (s.read < s.lines) & (line == s.read),
+        Walked::Truncated(line, _) => (s.read < s.lines) & (line == s.read),
     }
 }
 

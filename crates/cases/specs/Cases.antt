@@ -39,14 +39,14 @@ abbrev pub bytes-h : List ℕ
 bytes-h = 0xFF ∷ 0x80 ∷ []
 
 abbrev pub code-h : Code
-code-h = record { zeros = 0; value = 255; minimal = true; after = record { 0 = 9 } }
+code-h = record { zeros = 0; value = 255; minimal = true; long = false; used = 9; after = record { 0 = 9 } }
 
 -- case i: 41 zeros, a one bit, 14 zeros
 abbrev pub bytes-i : List ℕ
 bytes-i = 0 ∷ 0 ∷ 0 ∷ 0 ∷ 0 ∷ 0x40 ∷ 0 ∷ []
 
 abbrev pub code-i : Code
-code-i = record { zeros = 41; value = 1; minimal = false; after = record { 0 = 56 } }
+code-i = record { zeros = 41; value = 1; minimal = false; long = true; used = 56; after = record { 0 = 56 } }
 
 -- cases k and l: a header, with that depth
 abbrev pub bytes-k : ℕ → List ℕ

@@ -1,18 +1,20 @@
 -- What a code that is read is, and how large it can be. Assumes nothing.
-use mathlib.Core.Path.{_≡_, refl}
+use mathlib.Core.Path.{_≡_, refl, sym}
 use mathlib.Core.List.{List}
 use Prim.Native.Nat.{ℕ, _+_, _*_, _%_, _^_, _≤_, _<_}
 use native.Mathlib.Omega.{arith}
 use lib.Arith.{digits-lt}
 use lib.Pow.{pow-mono, shl-exact}
-use borrow.Author.Tests.{lt-ltb, le-ltb}
+use lib.ListN.{length}
+use borrow.Author.Tests.{lt-ltb, le-ltb, le-leb, lt-leb}
 use Rattle.bits.specs.Bits.{bitsAt, zeroRun}
 use Rattle.bits.specs.declared.ZeroRun.{ZeroRun}
 use Rattle.bits.specs.declared.ZeroRun.the-variants.{One, None}
 use Rattle.bits.proofs.BitLaws.{bitsAt-lt}
 use Rattle.bits.proofs.RunLaws.{run-inside}
 use Rattle.numbers.proofs.OrderLaws.{split}
-use Rattle.code.specs.Codes.{shortCode, longCode, codeAt, Bounds}
+use Rattle.code.specs.Codes.{shortCode, longCode, codeAt, Counts, Bounds}
+use Rattle.code.specs.declared.Code.{Code}
 use Rattle.code.specs.declared.Coded.the-variants.{Read, Truncated}
 
 module _ (s : List ℕ) (p k limit raw : ℕ) where
@@ -58,6 +60,31 @@ module _ (s : List ℕ) (p k limit raw : ℕ) where
       (λ r e. rw e tt)
       (λ z r h e. rw e (short-lt z hk hl h, omega (arith, run-inside s p z r)))
       (λ z r h e. rw e (omega (arith, long-le z hr), omega (arith, run-inside s p z r)))
+
+  -- a code starts inside the block, has a bit or more, and is counted by its bits and its zeros
+  pub record Shape (c : Code) : Type 0 where
+    pub inside : p < 8 * length s
+    pub some-bits : 1 ≤ c .used
+    pub counts : Counts p limit c
+
+  pub code-shape : (c : Code) → codeAt s p k limit raw ≡ Read c → Shape c
+  code-shape c e =
+      code-cases
+      (λ r g. let no : _≡_ {A = ℕ} 0 1 = cc in absurd (omega arith))
+      (λ z r h g.
+      let is : shortCode s p k z ≡ c = cc in
+      rw is at (shape-short z r h))
+      (λ z r h g.
+      let is : longCode s p k limit raw z ≡ c = cc in
+      rw is at (shape-long z r h))
+    where
+      shape-short : (z : ℕ) → zeroRun s p ≡ One z → z < limit → Shape (shortCode s p k z)
+      shape-short z r h =
+          record { inside = omega (arith, run-inside s p z r); some-bits = omega arith; counts = record { bits = omega arith; long = sym (lt-leb limit z h) } }
+
+      shape-long : (z : ℕ) → zeroRun s p ≡ One z → limit ≤ z → Shape (longCode s p k limit raw z)
+      shape-long z r h =
+          record { inside = omega (arith, run-inside s p z r); some-bits = omega arith; counts = record { bits = omega arith; long = sym (le-leb limit z h) } }
 
 -- a count of zeros below the limit, shifted, loses nothing
 pub shifted : (z k : ℕ) → z < 64 → k ≤ 15 → (z * 2 ^ k) % 2 ^ 32 ≡ z * 2 ^ k

@@ -3,3 +3,4 @@ pub mod CodeLaws
 pub mod derived
 pub mod SampleLaws
 pub mod TightLaws
+pub mod NearLaws

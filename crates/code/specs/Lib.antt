@@ -2,3 +2,4 @@
 pub mod Codes
 pub mod Samples
 pub mod Tight
+pub mod Nearest

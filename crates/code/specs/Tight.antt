@@ -6,7 +6,12 @@ use lib.Dec.{leb, ltb}
 use lib.ListN.{replicate}
 use Rattle.numbers.specs.declared.Signed.{Signed}
 use Rattle.bits.specs.BitLists.{binary}
+use Rattle.numbers.specs.Numbers.{flag}
 use Rattle.code.specs.declared.Code.{Code}
+use Rattle.code.specs.declared.Coded.{Coded}
+use Rattle.code.specs.declared.Coded.the-variants.{Read, Truncated}
+use Rattle.code.specs.declared.Taken.{Taken}
+use Rattle.code.specs.declared.Taken.the-variants as Take
 
 -- how far it is from u up to v, where 0 follows M: (v − u) modulo M + 1
 unfoldable pub stepsUp : ℕ → ℕ → ℕ → ℕ
@@ -45,3 +50,10 @@ codeLength k limit raw code = cond (ltb (code / 2 ^ k) limit) (code / 2 ^ k + 1 
 -- whether a code that was read is tight: below 2^bits, and minimal
 unfoldable pub isTight : ℕ → Code → Bool
 isTight M c = leb (c .value) M && c .minimal
+
+-- ---- what a pass takes of a code
+
+-- its value, the position after it, whether all codes are tight with it, and how many are long
+abbrev pub takenOf : ℕ → Bool → ℕ → Coded → Taken
+takenOf M tight long (Read c) = Take.Read (c .value) (c .after) (tight && isTight M c) (long + flag (c .long))
+takenOf M tight long Truncated = Take.Truncated

@@ -1,23 +1,26 @@
 // One code of a block, and the sample that it gives.
 ghost use mathlib.Core.Path.{_≡_};
 ghost use mathlib.Core.Bool.{cond, _&&_};
-ghost use Prim.Native.Nat.{_*_, _/_, _^_, _≤_, _<_};
+ghost use Prim.Native.Nat.{_+_, _*_, _/_, _^_, _≤_, _<_};
 ghost use lib.Dec.{leb, ltb, eqb};
 ghost use lib.ListN.{length};
 ghost use Rattle.bits.specs.Bits.{wordAt};
-ghost use Rattle.code.specs.Codes.{codeAt, Bounds};
+ghost use Rattle.code.specs.Codes.{codeAt, Bounds, Small};
 ghost use Rattle.code.specs.Samples.{choiceOf, residualOf, wrap, Moved, sampleOf};
-ghost use Rattle.code.specs.Tight.{isTight};
+ghost use Rattle.code.specs.Tight.{codeOfResidual, isTight, takenOf};
+ghost use Rattle.code.specs.Nearest.{codeNear};
 use bits::BitPosition;
 use bits::BitPumpMsb;
 use bits::ZeroRun;
 
-// A code that was read: the zeros before its one bit, its value, whether it has no bit that it could do without, and the position after it.
-// It is long if the zeros reach the limit.
+// A code that was read: the zeros before its one bit, its value, whether it has no bit that it could do without, whether it is long, how many
+// bits it used, and the position after it.
 pub struct Code {
     pub zeros: u64,
     pub value: u32,
     pub minimal: bool,
+    pub long: bool,
+    pub used: u64,
     pub after: BitPosition,
 }
 
@@ -25,6 +28,27 @@ pub enum Coded {
     Read(Code),
     // No one bit is left in the block's bytes.
     Truncated,
+}
+
+// Where a reading is: the next bit, whether all codes so far were tight, and how many of them were long.
+pub struct Place {
+    pub at: BitPosition,
+    pub tight: bool,
+    pub long: u64,
+}
+
+// What a pass takes of a code: its value, and where the reading is after it, in parts. As one struct that would go through memory, for the slow
+// reader's sake, and cost 8 of 182 instructions a code.
+pub enum Taken {
+    Read(u32, BitPosition, bool, u64),
+    Truncated,
+}
+
+// Whether a code with so many zeros is long.
+fn is_long(limit: u32, zeros: u64) -> bool
+    ensures { λ r. ⌜ r ≡ leb limit zeros ⌝ }
+{
+    limit as u64 <= zeros
 }
 
 // Whether a long code with so many zeros is needed for that value: a short code would have as many zeros or more.
@@ -47,30 +71,34 @@ fn next_code<'s, 'a>(p: &'s mut BitPumpMsb<'a>, k: u32, limit: u32, raw: u32) ->
     let ZeroRun::One(zeros) = run else {
         return Coded::Truncated;
     };
-    if zeros < limit as u64 {
-        let low = p.get(k);
+    if is_long(limit, zeros) {
+        let value = p.get(raw) + 1;
         let after = p.bit_position();
         return Coded::Read(Code {
             zeros,
-            value: ((zeros as u32) << k) + low,
-            minimal: true,
+            value,
+            minimal: is_needed(k, limit, zeros, value),
+            long: true,
+            used: zeros + 1 + raw as u64,
             after,
         });
     }
-    let value = p.get(raw) + 1;
+    let low = p.get(k);
     let after = p.bit_position();
     Coded::Read(Code {
         zeros,
-        value,
-        minimal: is_needed(k, limit, zeros, value),
+        value: ((zeros as u32) << k) + low,
+        minimal: true,
+        long: false,
+        used: zeros + 1 + k as u64,
         after,
     })
 }
 
-// The code at `at`, by a pump. It is kept out of the fast reader.
-fn read_any(s: &[u8], at: BitPosition, k: u32, limit: u32, raw: u32) -> Coded
+// The code at `at`, by a pump.
+pub fn read_code(s: &[u8], at: BitPosition, k: u32, limit: u32, raw: u32) -> Coded
     requires { ⌜ (length (now s) < 2 ^ 32) × ((k ≤ 15) × ((limit < 64) × (raw ≤ 16))) ⌝ }
-    ensures { λ r. ⌜ r ≡ codeAt (now (s .entry)) (at .0) k limit raw ⌝ }
+    ensures { λ r. ⌜ (r ≡ codeAt (now (s .entry)) (at .0) k limit raw) × Bounds (now (s .entry)) r ⌝ }
 {
     let mut p = BitPumpMsb::at_bit(s, at);
     next_code(&mut p, k, limit, raw)
@@ -83,12 +111,49 @@ fn next_word(s: &[u8], at: BitPosition) -> u64
     BitPumpMsb::at_bit(s, at).peek_word()
 }
 
-// The code at `at`. In the common case its zeros, its one bit and its low bits stand in one word of 57 bits or more. The slow reader has two
-// calls here, so that LLVM does not take it into this function.
-pub fn read_code(s: &[u8], at: BitPosition, k: u32, limit: u32, raw: u32) -> Coded
-    requires { ⌜ (length (now s) < 2 ^ 32) × ((k ≤ 15) × ((limit < 64) × (raw ≤ 16))) ⌝ }
-    ensures { λ r. ⌜ (r ≡ codeAt (now (s .entry)) (at .0) k limit raw) × Bounds (now (s .entry)) r ⌝ }
+// Whether a code is tight.
+pub fn is_tight(m: u32, code: Code) -> bool
+    ensures { λ r. ⌜ r ≡ isTight m code ⌝ }
 {
+    (code.value <= m) & code.minimal
+}
+
+// What a pass takes of the code at `at`, whatever it is. It is kept out of the fast reader.
+fn take_any(
+    s: &[u8],
+    at: BitPosition,
+    tight: bool,
+    long: u64,
+    m: u32,
+    k: u32,
+    limit: u32,
+    raw: u32,
+) -> Taken
+    requires { ⌜ (length (now s) < 2 ^ 32) × ((k ≤ 15) × ((limit < 64) × (raw ≤ 16))) ⌝ }
+    requires { ⌜ long ≤ at .0 ⌝ }
+    ensures { λ r. ⌜ (r ≡ takenOf m tight long (codeAt (now (s .entry)) (at .0) k limit raw)) × Small r ⌝ }
+{
+    let got = read_code(s, at, k, limit, raw);
+    let Coded::Read(c) = got else {
+        return Taken::Truncated;
+    };
+    let after = c.after;
+    let still_tight = tight & is_tight(m, c);
+    let now_long = long + numbers::flag(c.long) as u64;
+    Taken::Read(c.value, after, still_tight, now_long)
+}
+
+// The same from a place on, and at once in the common case: zeros, one bit and low bits stand in one word of 57 bits or more, and the value is at most
+// m. Such a code is short and tight, so that the verdict and the count go on as they are. The slow reader has three calls here, so that LLVM does
+// not take it into this function.
+pub fn take_code(s: &[u8], from: Place, m: u32, k: u32, limit: u32, raw: u32) -> Taken
+    requires { ⌜ (length (now s) < 2 ^ 32) × ((k ≤ 15) × ((limit < 64) × (raw ≤ 16))) ⌝ }
+    requires { ⌜ from .long ≤ from .at .0 ⌝ }
+    ensures { λ r. ⌜ (r ≡ takenOf m (from .tight) (from .long) (codeAt (now (s .entry)) (from .at .0) k limit raw)) × Small r ⌝ }
+{
+    let at = from.at;
+    let tight = from.tight;
+    let long = from.long;
     let w = next_word(s, at);
     // At most 41 zeros: with the one bit and 15 low bits they are in the word.
     if w >= 0x40_0000 {
@@ -96,16 +161,15 @@ pub fn read_code(s: &[u8], at: BitPosition, k: u32, limit: u32, raw: u32) -> Cod
         if zeros < limit {
             let used = zeros + 1 + k;
             let low = (w >> (64 - used)) as u32 - (1 << k);
-            return Coded::Read(Code {
-                zeros: zeros as u64,
-                value: (zeros << k) + low,
-                minimal: true,
-                after: BitPosition(at.0 + used as u64),
-            });
+            let value = (zeros << k) + low;
+            if value <= m {
+                return Taken::Read(value, BitPosition(at.0 + used as u64), tight, long);
+            }
+            return take_any(s, at, tight, long, m, k, limit, raw);
         }
-        return read_any(s, at, k, limit, raw);
+        return take_any(s, at, tight, long, m, k, limit, raw);
     }
-    read_any(s, at, k, limit, raw)
+    take_any(s, at, tight, long, m, k, limit, raw)
 }
 
 // The flatness from which on a quantiser is passed over: the main one is used where all three are.
@@ -189,9 +253,38 @@ pub fn sample(m: u32, base: u32, total: u32, negative: bool, prediction: u32, co
     wrap(m, base, total * step, prediction + d, 0)
 }
 
-// Whether a code is tight.
-pub fn is_tight(m: u32, code: Code) -> bool
-    ensures { λ r. ⌜ r ≡ isTight m code ⌝ }
+// ---- the other way: the code of a wanted sample
+
+// The code of a residual: twice its size, less 1 if it is negative.
+fn code_of_residual(negative: bool, size: u32) -> u32
+    requires { ⌜ size ≤ 2 ^ 17 ⌝ }
+    ensures { λ r. ⌜ r ≡ codeOfResidual (record { negative = negative; size = size }) ⌝ }
 {
-    (code.value <= m) & code.minimal
+    if negative {
+        return numbers::saturating_sub(2 * size, 1);
+    }
+    2 * size
+}
+
+// How many steps of 2 * base + 1 come nearest to a distance.
+fn nearest_size(base: u32, distance: u32) -> u32
+    requires { ⌜ (base < 256) × (distance < 2 ^ 16) ⌝ }
+    ensures { λ r. ⌜ (r ≡ (distance + base) / (2 * base + 1)) × (r < 2 ^ 17) ⌝ }
+{
+    (distance + base) / (2 * base + 1)
+}
+
+// The code, among the total code values of a quantiser with that base, of the sample nearest to v.
+pub fn code_near(base: u32, total: u32, negative: bool, prediction: u32, v: u32) -> u32
+    requires { ⌜ (base < 256) × ((total ≤ 2 ^ 16) × ((prediction < 2 ^ 16) × (v < 2 ^ 16))) ⌝ }
+    ensures { λ r. ⌜ r ≡ codeNear base total negative prediction v ⌝ }
+{
+    let wanted = numbers::difference(v, prediction);
+    let size = nearest_size(base, wanted.size);
+    let down = numbers::differ(negative, wanted.negative);
+    let code = code_of_residual(down, size);
+    if code < total {
+        return code;
+    }
+    code_of_residual(!down, numbers::saturating_sub(total, size))
 }

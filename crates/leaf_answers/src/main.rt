@@ -9,6 +9,8 @@ use answers::Tally;
 use answers::word;
 use bits::BitPosition;
 use code::Coded;
+use code::Place;
+use code::Taken;
 use numbers::Signed;
 use prediction::Context;
 use quantiser::Quantiser;
@@ -227,6 +229,21 @@ fn coded_agrees(w: [u32; 12], c: Context, q: Quantiser, m: u32, coded: Coded) ->
     (overrun == 0) & (after.0 == w[11] as u64) & sample & record_agrees(w, value)
 }
 
+// Whether a pass takes the code that was read.
+fn readers_agree(coded: Coded, taken: Taken) -> bool {
+    let Coded::Read(got) = coded else {
+        return match taken {
+            Taken::Read(_, _, _, _) => false,
+            Taken::Truncated => true,
+        };
+    };
+    let Taken::Read(value, at, _, _) = taken else {
+        return false;
+    };
+    let after = got.after;
+    (value == got.value) & (at.0 == after.0)
+}
+
 // Kind 6, from the reading of the code on.
 fn reading_agrees(w: [u32; 12], s: &[u8], c: Context, q: Quantiser, m: u32) -> bool
     requires { ⌜ (length (now s) < 2 ^ 32) × (ContextRanges c × (QuantiserRanges q × (m < 2 ^ 16))) ⌝ }
@@ -240,8 +257,14 @@ fn reading_agrees(w: [u32; 12], s: &[u8], c: Context, q: Quantiser, m: u32) -> b
     }
     let record = Record { sum: w[7], n };
     let at = BitPosition(w[2] as u64);
+    let from = Place {
+        at,
+        tight: true,
+        long: 0,
+    };
     let coded = code::read_code(s, at, record.k(), q.limit, q.raw);
-    coded_agrees(w, c, q, m, coded)
+    let taken = code::take_code(s, from, m, record.k(), q.limit, q.raw);
+    coded_agrees(w, c, q, m, coded) & readers_agree(coded, taken)
 }
 
 // Kind 6, from the flatness on.

@@ -3,22 +3,21 @@ use mathlib.Core.Bool.{Bool, true, false, cond}
 use mathlib.Core.List.{List, []}
 use mathlib.Core.Option.{Option, none, some}
 use mathlib.Core.Path.{_≡_, refl}
-use Prim.Native.Nat.{ℕ, zero, suc, _≤_}
+use Prim.Native.Nat.{ℕ}
 use native.Mathlib.Nat.{le-refl}
 use native.Mathlib.Omega.{arith}
 use lib.Dec.{ltb}
 use borrow.Author.Tests.{le-ltb, ltb-false}
 use Rattle.bits.specs.BitLists.{isTail}
-use Rattle.numbers.proofs.OrderLaws.{cond-le}
 use Rattle.stream.specs.declared.Refusal.{Refusal}
 use Rattle.stream.specs.declared.Refusal.the-variants.{Truncated, NotTight}
-use Rattle.block.specs.Blocks.{State, runs, startState, readLines}
-use Rattle.block.specs.Images.{isRead, linesRead}
+use Rattle.block.specs.Blocks.{readLines}
+use Rattle.block.specs.Images.{linesRead}
 use Rattle.block.specs.BadCodes.{BadCode, firstBad}
 use Rattle.block.specs.TightBlocks.{Tight, bitsRead, readAnswer, tightAnswer}
 use Rattle.block.specs.declared.Decoded.the-variants.{Done, Refused}
 use Rattle.block.specs.declared.Form.{Form}
-use Rattle.block.proofs.DecodeLaws.{all-read}
+use Rattle.block.proofs.DecodeLaws.{all-read, was-read}
 use Rattle.block.proofs.BadCodeLaws.{no-bad}
 
 refused : {X : Type 0} (r : Refusal) → Refused r ≡ Done → X
@@ -32,35 +31,13 @@ accepted false none true x lines e = (refl, refl, refl)
 accepted false none false x lines e = refused (NotTight lines) e
 
 module _ (F : Form) (s : List ℕ) where
-  start-read : readLines F [] s 0 ≡ some (startState F [])
-  unfolding readLines runs
-  start-read = refl
-
-  -- how many lines are read
-  read-at-most : (n : ℕ) → linesRead F [] s n ≤ n
-  unfolding linesRead
-  read-at-most zero = le-refl 0
-  read-at-most (suc n) =
-      cond-le (suc n) (isRead (readLines F [] s (suc n))) (suc n) (linesRead F [] s n) (le-refl (suc n)) (omega (arith, read-at-most n))
-
-  was-read : (n : ℕ) → n ≤ linesRead F [] s n → (z : State) × (readLines F [] s n ≡ some z)
-  unfolding linesRead
-  was-read zero h = (startState F [], start-read)
-  was-read (suc n) h = go (readLines F [] s (suc n)) refl h
-    where
-      go : (o : Option State) → readLines F [] s (suc n) ≡ o → suc n ≤ cond (isRead o) (suc n) (linesRead F [] s n) → (z : State) × (readLines F [] s (suc n) ≡ some z)
-      go none e k = absurd (omega (arith, read-at-most n))
-      go (some z) e k = (z, e)
-
-  -- ---- the answer
-
   pub done-tight : (b lines : ℕ) → tightAnswer F b lines s ≡ Done → Tight F lines s
   unfolding tightAnswer
   done-tight b lines e =
       let read : ℕ = linesRead F [] s lines in
       let a =
       accepted (ltb read lines) (firstBad F [] s lines) (isTail s (bitsRead (readLines F [] s lines))) (Truncated b read) lines e in
-      let z = was-read lines (ltb-false read lines (a .0)) in
+      let z = was-read F [] s lines (ltb-false read lines (a .0)) in
       record { end = z .0; read = z .1; codes = no-bad F [] s lines (z .0) (z .1) .1 (a .1); tail = rw (z .1) at (a .2) }
 
   pub tight-done : (b lines : ℕ) (T : Tight F lines s) → tightAnswer F b lines s ≡ Done

@@ -30,7 +30,7 @@ use Rattle.steps.specs.declared.Plan.{Plan}
 use Rattle.steps.specs.Values.{Depth}
 use Rattle.steps.proofs.ScheduleLaws.{codes, lineSteps, bayer-codes, x-trans-codes}
 use Rattle.pass.specs.Readings.{Reading, interpolate, takeCode, taken, readStep, reads, readPass}
-use Rattle.writing.proofs.LosslessLaws.{code-numbers}
+use Rattle.writing.proofs.LosslessLaws.{code-numbers, lossless}
 use Rattle.read_back.proofs.ListBack.{first-then}
 use Rattle.map.specs.Places.{widthOf}
 use Rattle.stream.proofs.HeaderLaws.{ruled}
@@ -79,7 +79,7 @@ module _ (bits W : ℕ) (s : List ℕ) (depth : Depth bits) where
   -- limit + 1 + raw
   four : (usedQuantiser bits 0 0) .limit + 1 + (usedQuantiser bits 0 0) .raw ≡ 4 * bits
   unfolding quantiserOf
-  four = omega (arith, code-numbers bits (depth .0) (depth .1) .2, depth .0)
+  four = omega (arith, code-numbers bits 0 9 (depth .0) (depth .1) .2, depth .0)
 
   step-most : (x : Step) (r z : Reading) → readStep bits 0 W s x r ≡ some z → z .tight ≡ true
       → Went (r .at .0) (z .at .0) (r .tight) (cond (x .coded) 1 0 * (4 * bits))
@@ -115,9 +115,9 @@ module _ (bits W : ℕ) (s : List ℕ) (depth : Depth bits) where
           let y : Reading = takeCode bits 0 i slot c h d r in
           let is : y ≡ z = Option·some-injective y z f in
           let ts = both (r .tight) (isTight (largest bits) d) (rw (← is) at t) in
-          let n = code-numbers bits (depth .0) (depth .1) in
+          let n = lossless bits (omega (arith, depth .0)) (depth .1) .raw in
           let low = k-least (getD (r .set) slot noRecord) .capped in
-          let m = code-most (largest bits) s (r .at .0) k limit raw (n .3) low (omega (arith, four, depth .0)) d eg (ts .1) in
+          let m = code-most (largest bits) s (r .at .0) k limit raw n low (omega (arith, four, depth .0)) d eg (ts .1) in
           record { tight = ts .0; within = rw (← is) (omega (arith, m, four)) }
       go false g eg f =
           let y : Reading = interpolate i c r in

@@ -21,7 +21,7 @@ use Rattle.writing.proofs.SetLaws.{line-lt, rank-lt, position-lt, index-at}
 use Rattle.block.specs.Blocks.{State, readLines}
 use Rattle.block.specs.Images.{formOf}
 use Rattle.block.specs.TightBlocks.{Tight, setRead}
-use Rattle.block.specs.WrittenBlocks.{WriteState, writeLines, tightBlock, FitSet}
+use Rattle.block.specs.WrittenBlocks.{WriteState, writeLines, writtenBlock, tightBlock, FitSet}
 use Rattle.block.specs.declared.Form.{Form}
 use Rattle.block.proofs.LineLaws.{width-in-range}
 use Rattle.one_to_one.specs.Correspondence.{Bytes, TightBlockOf, Correspondence, CorrespondenceOfHeaders, NoBases}
@@ -39,36 +39,36 @@ module _ (F : Form) (Q : Lossless (F .bits)) (lines : ℕ) where
 
   module _ (t : List ℕ) (fit : FitSet F lines t) where
     abbrev bits : List Bool
-    bits = (writeLines F t lines) .bits
+    bits = (writeLines F [] t lines) .bits
 
     s : List ℕ
     s = tightBlock F lines t
 
     s-bits : bitsOf s ≡ bits ++ replicate (8 * blockBytes (length bits) - length bits) false
-    unfolding s tightBlock
+    unfolding s writtenBlock
     s-bits = bits-bytesOf bits
 
     s-length : length s ≡ blockBytes (length bits)
-    unfolding s tightBlock
+    unfolding s writtenBlock
     s-length = length-bytesOf bits
 
     rest : drop (length bits) (bitsOf s) ≡ replicate (8 * blockBytes (length bits) - length bits) false
     rest = ap (drop (length bits)) s-bits ∙ drop-at bits (replicate (8 * blockBytes (length bits) - length bits) false) (length bits) refl
 
-    stored : StoredState s (writeLines F t lines)
+    stored : StoredState s (writeLines F [] t lines)
     stored = record { starts = s-bits ∙ ap (λ (l : List Bool). bits ++ l) (sym rest); right = fit .predicted }
 
     -- it is read, up to as many bits as were written
-    read : (z : State) × ((readLines F [] s lines ≡ some z) × CleanState s z × (writeLines F t lines ≡ writeStateOf s z) × ((m : ℕ) → m < lines → Shows F Q s t m))
+    read : (z : State) × ((readLines F [] s lines ≡ some z) × CleanState s z × (writeLines F [] t lines ≡ writeStateOf s z) × ((m : ℕ) → m < lines → Shows F Q s t m))
     read = lines-forward F Q s t (fit .range) lines stored
 
-    tail : (z : State) → CleanState s z → writeLines F t lines ≡ writeStateOf s z → Tail s (z .at .0)
+    tail : (z : State) → CleanState s z → writeLines F [] t lines ≡ writeStateOf s z → Tail s (z .at .0)
     tail z clean same =
         let e : length bits ≡ z .at .0 = ap (λ (w : WriteState). length (w .bits)) same ∙ length-take-le (z .at .0) (bitsOf s) (rw (length-bits s) (clean .inside)) in
         record { full = rw (← e) s-length; inside = clean .inside; zeros = rw (← e, s-length) rest }
 
     pub written-bytes : Bytes (tightBlock F lines t)
-    unfolding tightBlock
+    unfolding writtenBlock
     written-bytes = bytes-bytesOf bits
 
     pub written-tight : Tight F lines (tightBlock F lines t)
@@ -100,7 +100,7 @@ module _ (F : Form) (Q : Lossless (F .bits)) (lines : ℕ) where
     end : Tail s (z .at .0)
     end = tail-was s (z .at .0) (T .tail)
 
-    written : writeLines F t lines ≡ writeStateOf s z
+    written : writeLines F [] t lines ≡ writeStateOf s z
     written =
         lines-backward F Q s t lines z (T .read) (record { tight = T .codes; inside = end .inside })
         (λ n hn c hc p hp. sym (set-shown F lines s n c p hn hc hp))
@@ -114,7 +114,7 @@ module _ (F : Form) (Q : Lossless (F .bits)) (lines : ℕ) where
         }
 
     pub block-is : Bytes s → tightBlock F lines (setRead F lines s) ≡ s
-    unfolding tightBlock
+    unfolding writtenBlock
     block-is bytes =
         let l : List Bool = take (z .at .0) (bitsOf s) in
         let long : length l ≡ z .at .0 = length-take-le (z .at .0) (bitsOf s) (rw (length-bits s) (end .inside)) in

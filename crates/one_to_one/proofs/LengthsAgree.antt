@@ -1,6 +1,6 @@
 -- Measuring and writing, held against each other. Assumes nothing.
 use mathlib.Core.Bool.{Bool, true, false, cond}
-use mathlib.Core.List.{List}
+use mathlib.Core.List.{List, []}
 use mathlib.Core.Logic.{_≢_}
 use mathlib.Core.Option.{Option, none, some}
 use mathlib.Core.Path.{_≡_, refl, sym, ap, _∙_}
@@ -77,7 +77,7 @@ measured-length room n = go (ltb room n) refl
 
 agree : (F : Form) (lines : ℕ) (t : List ℕ) (room : ℕ) → Agrees room (exactAnswer F lines t) (writtenAnswer F lines t room)
 unfolding exactAnswer writtenAnswer measuredAnswer
-agree F lines t room = go (firstAbove (largest (F .bits)) 0 t) ((writeLines F t lines) .wrong) (length (tightBlock F lines t))
+agree F lines t room = go (firstAbove (largest (F .bits)) 0 t) ((writeLines F [] t lines) .wrong) (length (tightBlock F lines t))
   where
     go : (o p : Option ℕ) (n : ℕ) → Agrees room (rangeAnswer o (predictedAnswer p n n)) (rangeAnswer o (predictedAnswer p n room))
     go (some i) p n = both-refused room (AboveLargest i) (lit< tt)

@@ -49,12 +49,12 @@ module _ (F : Form) (Q : Lossless (F .bits)) (s t : List ℕ) (n : ℕ) where
     was : PassHolds F t n c z → PassHolds F t n c y
     was h = (λ p k. sym (same-line _ p k (apart .0)) ∙ h .0 p k, λ p k. sym (same-line _ p k (apart .1)) ∙ h .1 p k)
 
-  passes : (r : State) → SoundState F r → Each s (passAt F 0 s) (writePassAt F t n) r 6 (SoundState F) (PassHolds F t n)
+  passes : (r : State) → SoundState F r → Each s (passAt F 0 s) (writePassAt F 0 true t n) r 6 (SoundState F) (PassHolds F t n)
   passes r ok =
       record {
         start = ok;
         sound = λ i y z q e. pass-sound F Q s i y q z e;
-        stored = λ i w. stored-before s (writePassAt F t n i) w (passAt-adds F t n i w) (passAt-right F t n i w);
+        stored = λ i w. stored-before s (writePassAt F 0 true t n i) w (passAt-adds F 0 true t n i w) (passAt-right F 0 true t n i w);
         still = still;
         was = was;
       }
@@ -97,25 +97,25 @@ module _ (F : Form) (Q : Lossless (F .bits)) (s t : List ℕ) (n : ℕ) where
 
   pub line-sound : (r z : State) → SoundState F r → readLineAt F [] s n r ≡ some z → SoundState F z
   line-sound r z ok e =
-      sound-after s (passAt F 0 s) (writePassAt F t n) (before r) 6 (SoundState F) (PassHolds F t n) (passes (before r) (before-sound r ok)) 6 z (line-was r z e)
+      sound-after s (passAt F 0 s) (writePassAt F 0 true t n) (before r) 6 (SoundState F) (PassHolds F t n) (passes (before r) (before-sound r ok)) 6 z (line-was r z e)
 
   -- where the bits of a line stand, the line is read
-  pub line-forward : ((j : ℕ) → getD t j 0 ≤ largest (F .bits)) → (r : State) → SoundState F r → CleanState s r → StoredState s (writeLine F t n (writeStateOf s r))
-      → (z : State) × (StateForward s (readLineAt F [] s n) (writeLine F t n) r z × LineHolds W t n (z .lines))
+  pub line-forward : ((j : ℕ) → getD t j 0 ≤ largest (F .bits)) → (r : State) → SoundState F r → CleanState s r → StoredState s (writeLine F [] t n (writeStateOf s r))
+      → (z : State) × (StateForward s (readLineAt F [] s n) (writeLine F [] t n) r z × LineHolds W t n (z .lines))
   unfolding writeLine
   line-forward range r ok clean stored =
       let all =
-      runs-forward s (passAt F 0 s) (writePassAt F t n) (before r) 6 (SoundState F) (PassHolds F t n) (passes (before r) (before-sound r ok)) clean
+      runs-forward s (passAt F 0 s) (writePassAt F 0 true t n) (before r) 6 (SoundState F) (PassHolds F t n) (passes (before r) (before-sound r ok)) clean
       (λ i y h e q c. passAt-forward F Q s i y q h t n range c) 6 (omega arith) stored in
       let z : State = all .0 in
       let T = all .1 .0 in
       (z, (record { read = line-is r z (T .read) (T .clean); clean = T .clean; same = T .same }, passes-lines (F .xtrans) (Holds W t n (z .lines)) (all .1 .1)))
 
   -- where a line was read, its bits stand
-  pub line-backward : (r z : State) → SoundState F r → readLineAt F [] s n r ≡ some z → CleanState s z → LineHolds W t n (z .lines) → StateBack s (writeLine F t n) r z
+  pub line-backward : (r z : State) → SoundState F r → readLineAt F [] s n r ≡ some z → CleanState s z → LineHolds W t n (z .lines) → StateBack s (writeLine F [] t n) r z
   unfolding writeLine
   line-backward r z ok e clean holds =
       let all =
-      runs-backward s (passAt F 0 s) (writePassAt F t n) (before r) 6 (SoundState F) (PassHolds F t n) (passes (before r) (before-sound r ok))
+      runs-backward s (passAt F 0 s) (writePassAt F 0 true t n) (before r) 6 (SoundState F) (PassHolds F t n) (passes (before r) (before-sound r ok))
       (λ i y x h f q g c k. passAt-backward F Q s i y q h t n x g c k) 6 z (omega arith) (line-was r z e) clean (lines-passes (F .xtrans) (Holds W t n (z .lines)) holds) in
       record { clean = all .clean; same = all .same }

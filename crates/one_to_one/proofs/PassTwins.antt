@@ -1,4 +1,5 @@
 -- A pass of a block, read and written. Assumes nothing.
+use mathlib.Core.Bool.{true}
 use mathlib.Core.List.{List}
 use mathlib.Core.Logic.{_≢_}
 use mathlib.Core.Option.{Option, none, some}
@@ -56,7 +57,7 @@ module _ (F : Form) (Q : Lossless (F .bits)) (s : List ℕ) (i : ℕ) (r : State
   entered = enter F P r
 
   abbrev left : Reading → State
-  left y = record { lines = y .lines; records = putSet (P .set) (y .set) (r .records); at = y .at; tight = y .tight }
+  left y = record { lines = y .lines; records = putSet (P .set) (y .set) (r .records); at = y .at; tight = y .tight; long = y .long }
 
   sound : Sound (F .bits) W (entered .lines)
   sound =
@@ -105,8 +106,8 @@ module _ (F : Form) (Q : Lossless (F .bits)) (s : List ℕ) (i : ℕ) (r : State
     abbrev two : P .first ≢ P .second
     two = two-lines (F .xtrans) i below
 
-    pub passAt-forward : ((j : ℕ) → getD t j 0 ≤ largest (F .bits)) → CleanState s r → StoredState s (writePassAt F t n i (writeStateOf s r))
-        → (z : State) × (StateForward s (passAt F 0 s i) (writePassAt F t n i) r z × PassHolds F t n i z)
+    pub passAt-forward : ((j : ℕ) → getD t j 0 ≤ largest (F .bits)) → CleanState s r → StoredState s (writePassAt F 0 true t n i (writeStateOf s r))
+        → (z : State) × (StateForward s (passAt F 0 s i) (writePassAt F 0 true t n i) r z × PassHolds F t n i z)
     unfolding writePassAt
     passAt-forward range clean stored =
         let one = pass-forward (F .bits) W s t n Q P even in-range two entered sound range clean stored in
@@ -114,13 +115,13 @@ module _ (F : Form) (Q : Lossless (F .bits)) (s : List ℕ) (i : ℕ) (r : State
         let T = one .1 .0 in
         (left y, (record { read = pass-is y (T .read); clean = T .clean; same = ap (leaveWriting P (writeStateOf s r)) (T .same) }, (one .1 .1, one .1 .2)))
 
-    pub passAt-backward : (z : State) → passAt F 0 s i r ≡ some z → CleanState s z → PassHolds F t n i z → StateBack s (writePassAt F t n i) r z
+    pub passAt-backward : (z : State) → passAt F 0 s i r ≡ some z → CleanState s z → PassHolds F t n i z → StateBack s (writePassAt F 0 true t n i) r z
     unfolding writePassAt
     passAt-backward z e clean holds =
         let f = pass-was z e in
         go (f .0) z (f .1) (f .2) clean holds
       where
-        go : (y : Reading) (z : State) → readPass (F .bits) 0 W s P entered ≡ some y → left y ≡ z → CleanState s z → PassHolds F t n i z → StateBack s (writePassAt F t n i) r z
+        go : (y : Reading) (z : State) → readPass (F .bits) 0 W s P entered ≡ some y → left y ≡ z → CleanState s z → PassHolds F t n i z → StateBack s (writePassAt F 0 true t n i) r z
         go y z f is clean holds =
             let B = pass-backward (F .bits) W s t n Q P even in-range two entered sound y f (rw (← is) at clean) (rw (← is) at (holds .0)) (rw (← is) at (holds .1)) in
             record { clean = B .clean; same = ap (leaveWriting P (writeStateOf s r)) (B .same) ∙ ap (writeStateOf s) is }

@@ -1,6 +1,6 @@
 -- Sets of colour lines fit, by the writer's rules, exactly when each interpolated position has its prediction. Assumes nothing.
 use mathlib.Core.Bool.{Bool, true, false, not}
-use mathlib.Core.List.{List}
+use mathlib.Core.List.{List, []}
 use mathlib.Core.Logic.{_≢_, _↔_}
 use mathlib.Core.Option.{none}
 use mathlib.Core.Path.{_≡_, refl, sym, _∙_}
@@ -11,23 +11,27 @@ use Rattle.numbers.proofs.OrderLaws.{split}
 use Rattle.steps.specs.Steps.{planOf, passSteps}
 use Rattle.steps.specs.Contexts.{contextAt}
 use Rattle.steps.specs.declared.Plan.{Plan}
-use Rattle.lines.specs.ColourLines.{zeroLines, turned}
+use Rattle.lines.specs.ColourLines.{zeroLines, guarded, turned}
 use Rattle.lines.proofs.LineLaws.{length-turned}
 use Rattle.lines.proofs.MoveLaws.{turned-at}
 use Rattle.map.specs.Places.{widthOf}
 use Rattle.writing.specs.Sets.{indexIn}
+use Rattle.quantiser.specs.Quantisers.{largest}
+use Rattle.writing.specs.Puts.{Within}
 use Rattle.writing.specs.Writings.{writePass}
 use Rattle.read_back.proofs.OrderLaws.{pass-all, all-pass}
 use Rattle.block.specs.WrittenBlocks.{WriteState, repeats, enterWriting, writePassAt, beforeWriting, writeLine, startWriting, writeLines, FitSet}
 use Rattle.block.specs.declared.Form.{Form}
 use Rattle.block.proofs.LineLaws.{width-in-range}
-use Rattle.block.proofs.SampleLaws.{zeros-le, turned-le}
+use Rattle.block.proofs.SampleLaws.{zeros-le, guarded-le, turned-le}
+use Rattle.block.proofs.WalkLaws.{passAt-within, lines-within}
+use Rattle.block.proofs.WrittenLaws.{passAt-right, line-right}
 use Rattle.one_to_one.specs.PredictedSets.{sampleAt, predictionIn, isInterpolated, PredictedSet}
 use Rattle.one_to_one.proofs.PredictedSteps.{place, AllRight, writes-wrong}
 use Rattle.one_to_one.proofs.PredictedPasses.{all-both, interpolated-even, steps-coded, ready, LineOf, lines-of, each-before, early-coded, Owner, before, first, second, owner, all-in-pass}
 use Rattle.one_to_one.proofs.PredictedLines.{Found, entered, found-next, prediction-is}
 
-module _ (F : Form) (t : List ℕ) where
+module _ (F : Form) (t : List ℕ) (range : (j : ℕ) → getD t j 0 ≤ largest (F .bits)) where
   abbrev W : ℕ
   W = widthOf (F .xtrans)
 
@@ -47,9 +51,13 @@ module _ (F : Form) (t : List ℕ) where
   -- ---- a pass
 
   module _ (n i : ℕ) (hi : i < 6) (r : WriteState) (found : Found W t n i (r .lines)) where
-    pub pass-found : Found W t n (suc i) ((writePassAt F t n i r) .lines)
+    pub pass-found : Within (largest (F .bits)) (r .lines) → (writePassAt F 0 true t n i r) .wrong ≡ none → Found W t n (suc i) ((writePassAt F 0 true t n i r) .lines)
     unfolding writePassAt writePass
-    pass-found = found-next (F .xtrans) W even positive t n i hi (r .lines) found (F .bits) (enterWriting F (planOf (F .xtrans) i) r) refl
+    pass-found small w =
+        let Q : Plan = planOf (F .xtrans) i in
+        let M : ℕ = largest (F .bits) in
+        found-next (F .xtrans) W even positive t n i hi (r .lines) found (F .bits) (enterWriting F Q r) refl range
+        (guarded-le M W (Q .second) (guarded W (Q .first) (r .lines)) (guarded-le M W (Q .first) (r .lines) small)) w
 
     abbrev P : Plan
     P = planOf (F .xtrans) i
@@ -85,7 +93,7 @@ module _ (F : Form) (t : List ℕ) where
         was true q = refl
         was false q = sym q
 
-    pub pass-wrong : (writePassAt F t n i r) .wrong ≡ none ↔ (r .wrong ≡ none) × PassRight n i
+    pub pass-wrong : (writePassAt F 0 true t n i r) .wrong ≡ none ↔ (r .wrong ≡ none) × PassRight n i
     unfolding writePassAt writePass
     pass-wrong =
         let w = writes-wrong W (P .first) (P .second) (F .bits) t n lines (passSteps W P) (enterWriting F P r) (all-in-pass (F .xtrans) W even i hi) (λ m d a b h. refl) in
@@ -93,22 +101,34 @@ module _ (F : Form) (t : List ℕ) where
 
   -- ---- a line: six passes
 
-  module _ (n : ℕ) (r : WriteState) (found : Found W t n 0 (r .lines)) where
-    passes-found : (k : ℕ) → k ≤ 6 → Found W t n k ((repeats (writePassAt F t n) k r) .lines)
+  module _ (n : ℕ) (r : WriteState) (found : Found W t n 0 (r .lines)) (small : Within (largest (F .bits)) (r .lines)) where
+    passes-small : (k : ℕ) → Within (largest (F .bits)) ((repeats (writePassAt F 0 true t n) k r) .lines)
     unfolding repeats
-    passes-found zero h = found
-    passes-found (suc k) h = pass-found n k h (repeats (writePassAt F t n) k r) (passes-found k (omega arith))
+    passes-small zero = small
+    passes-small (suc k) = passAt-within F 0 true t n k (repeats (writePassAt F 0 true t n) k r) (passes-small k)
 
-    passes-wrong : (k : ℕ) → k ≤ 6 → (repeats (writePassAt F t n) k r) .wrong ≡ none ↔ (r .wrong ≡ none) × ((i : ℕ) → i < k → PassRight n i)
+    passes-found : (k : ℕ) → k ≤ 6 → (repeats (writePassAt F 0 true t n) k r) .wrong ≡ none → Found W t n k ((repeats (writePassAt F 0 true t n) k r) .lines)
+    unfolding repeats
+    passes-found zero h w = found
+    passes-found (suc k) h w =
+        let z : WriteState = repeats (writePassAt F 0 true t n) k r in
+        pass-found n k h z (passes-found k (omega arith) (passAt-right F 0 true t n k z w)) (passes-small k) w
+
+    passes-wrong : (k : ℕ) → k ≤ 6 → (repeats (writePassAt F 0 true t n) k r) .wrong ≡ none ↔ (r .wrong ≡ none) × ((i : ℕ) → i < k → PassRight n i)
     unfolding repeats
     passes-wrong zero h = (λ e. (e, λ i k. absurd (omega arith)), λ e. e .0)
     passes-wrong (suc k) h =
-        let one = pass-wrong n k h (repeats (writePassAt F t n) k r) (passes-found k (omega arith)) in
         let rest = passes-wrong k (omega arith) in (
-          λ e. let a = one .0 e in let b = rest .0 (a .0) in
+          λ e. let w = passAt-right F 0 true t n k before-it e in let b = rest .0 w in let a = one w .0 e in
               (b .0, λ i hi. split k i (λ u. let q : i ≡ k = omega arith in rw q (a .1)) (λ u. b .1 i u)),
-          λ e. one .1 (rest .1 (e .0, λ i hi. e .1 i (omega arith)), e .1 k (omega arith)),
+          λ e. let w = rest .1 (e .0, λ i hi. e .1 i (omega arith)) in one w .1 (w, e .1 k (omega arith)),
         )
+      where
+        before-it : WriteState
+        before-it = repeats (writePassAt F 0 true t n) k r
+
+        one : before-it .wrong ≡ none → (writePassAt F 0 true t n k before-it) .wrong ≡ none ↔ (before-it .wrong ≡ none) × PassRight n k
+        one w = pass-wrong n k h before-it (passes-found k (omega arith) w)
 
   -- ---- the lines of a block
 
@@ -160,22 +180,33 @@ module _ (F : Form) (t : List ℕ) where
   abbrev LinesRight : ℕ → Type 0
   LinesRight n = (m i : ℕ) → m < n → i < 6 → PassRight m i
 
-  lines-found : (n : ℕ) → Found W t n 0 ((beforeWriting F n (writeLines F t n)) .lines)
+  before-small : (n : ℕ) → Within (largest (F .bits)) ((beforeWriting F [] n (writeLines F [] t n)) .lines)
+  before-small n = turned-le (largest (F .bits)) W ((writeLines F [] t n) .lines) (lines-within F [] t n)
+
+  lines-found : (n : ℕ) → (writeLines F [] t n) .wrong ≡ none → Found W t n 0 ((beforeWriting F [] n (writeLines F [] t n)) .lines)
   unfolding writeLines repeats startWriting writeLine
-  lines-found zero =
+  lines-found zero w =
       let long : length (zeroLines W) ≡ 18 * (W + 2) = length-replicate (18 * (W + 2)) 0 in
       zeros-found (turned W (zeroLines W)) (length-turned W (zeroLines W) (omega arith) ∙ long) (turned-le 0 W (zeroLines W) (zeros-le 0 (18 * (W + 2))))
-  lines-found (suc n) = turned-found n _ (passes-found n (beforeWriting F n (writeLines F t n)) (lines-found n) 6 (omega arith))
+  lines-found (suc n) w =
+      turned-found n _
+      (passes-found n (beforeWriting F [] n (writeLines F [] t n)) (lines-found n (line-right F [] t n (writeLines F [] t n) w)) (before-small n) 6 (omega arith) w)
 
-  lines-wrong : (n : ℕ) → (writeLines F t n) .wrong ≡ none ↔ LinesRight n
+  lines-wrong : (n : ℕ) → (writeLines F [] t n) .wrong ≡ none ↔ LinesRight n
   unfolding writeLines repeats startWriting writeLine
   lines-wrong zero = (λ e m i h k. absurd (omega arith), λ e. refl)
   lines-wrong (suc n) =
-      let one = passes-wrong n (beforeWriting F n (writeLines F t n)) (lines-found n) 6 (omega arith) in
       let rest = lines-wrong n in (
-        λ e. let a = one .0 e in λ m i h k. split n m (λ u. let q : m ≡ n = omega arith in rw q (a .1 i k)) (λ u. rest .0 (a .0) m i u k),
-        λ e. one .1 (rest .1 (λ m i h k. e m i (omega arith) k), λ i k. e n i (omega arith) k),
+        λ e. let w = line-right F [] t n (writeLines F [] t n) e in let a = one w .0 e in
+            λ m i h k. split n m (λ u. let q : m ≡ n = omega arith in rw q (a .1 i k)) (λ u. rest .0 w m i u k),
+        λ e. let w = rest .1 (λ m i h k. e m i (omega arith) k) in one w .1 (w, λ i k. e n i (omega arith) k),
       )
+    where
+      start : WriteState
+      start = beforeWriting F [] n (writeLines F [] t n)
+
+      one : (writeLines F [] t n) .wrong ≡ none → (repeats (writePassAt F 0 true t n) 6 start) .wrong ≡ none ↔ (start .wrong ≡ none) × ((i : ℕ) → i < 6 → PassRight n i)
+      one w = passes-wrong n start (lines-found n w) (before-small n) 6 (omega arith)
 
   -- ---- a set that fits
 
@@ -209,4 +240,4 @@ module _ (F : Form) (t : List ℕ) where
         }
 
 pub fits-is : (F : Form) (lines : ℕ) (t : List ℕ) → FitSet F lines t ↔ PredictedSet F lines t
-fits-is F lines t = (to-predicted F t lines, from-predicted F t lines)
+fits-is F lines t = (λ f. to-predicted F t (f .range) lines f, λ f. from-predicted F t (f .range) lines f)

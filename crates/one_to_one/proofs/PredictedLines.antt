@@ -1,7 +1,8 @@
 -- Lines by the samples of a set: what each pass finds in the colour lines, and the predictions that come from it. Assumes nothing.
-use mathlib.Core.Bool.{Bool, cond}
+use mathlib.Core.Bool.{Bool, true, cond}
 use mathlib.Core.List.{List}
 use mathlib.Core.Logic.{_≢_}
+use mathlib.Core.Option.{none}
 use mathlib.Core.Path.{_≡_, ap, _∙_}
 use Prim.Native.Nat.{ℕ, zero, suc, _+_, _-_, _*_, _%_, _≤_, _<_}
 use native.Mathlib.Nat.{mul-le-mul-right}
@@ -17,6 +18,8 @@ use Rattle.lines.specs.ColourLines.{guarded}
 use Rattle.lines.proofs.LineLaws.{length-guarded}
 use Rattle.lines.proofs.MoveLaws.{place-is, samples-stay, guard-leaves, left-guard}
 use Rattle.writing.specs.Sets.{indexIn}
+use Rattle.quantiser.specs.Quantisers.{largest}
+use Rattle.writing.specs.Puts.{Within}
 use Rattle.writing.specs.Writings.{Writing, writes}
 use Rattle.read_back.proofs.OrderLaws.{pass-all, all-pass, pass-apart}
 use Rattle.one_to_one.specs.PredictedSets.{sampleAt, predictionIn}
@@ -81,9 +84,10 @@ module _ (xtrans : Bool) (W : ℕ) (even : W % 2 ≡ 0) (positive : 0 < W) (t : 
 
   -- ---- after the pass
 
-  module _ (bits : ℕ) (r : Writing) (is : r .lines ≡ entered) where
+  module _ (bits : ℕ) (r : Writing) (is : r .lines ≡ entered) (range : (j : ℕ) → getD t j 0 ≤ largest bits) (small : Within (largest bits) (r .lines))
+      (right : (writes bits 0 W true t n (passSteps W (planOf xtrans i)) r) .wrong ≡ none) where
     abbrev after : List ℕ
-    after = (writes bits W t n (passSteps W (planOf xtrans i)) r) .lines
+    after = (writes bits 0 W true t n (passSteps W (planOf xtrans i)) r) .lines
 
     L : LineOf i A × LineOf i B
     L = lines-of xtrans i hi
@@ -119,7 +123,7 @@ module _ (xtrans : Bool) (W : ℕ) (even : W % 2 ≡ 0) (positive : 0 < W) (t : 
     stand : (p : ℕ) → p < W → (getD after (A * (W + 2) + p + 1) 0 ≡ getD t (indexIn W n A p) 0) × (getD after (B * (W + 2) + p + 1) 0 ≡ getD t (indexIn W n B p) 0)
     stand =
         all-pass W P even (λ l p. getD after (l * (W + 2) + p + 1) 0 ≡ getD t (indexIn W n l p) 0)
-        (writes-stand bits W t n (passSteps W P) r
+        (writes-stand bits W t n range (passSteps W P) r small right
         (rw is (pass-all W P even (λ l p. l * (W + 2) + p + 1 < length entered) (λ p h. (room A p (L .0 .high) h, room B p (L .1 .high) h))))
         (pass-apart W P even (two-lines xtrans i hi)))
       where

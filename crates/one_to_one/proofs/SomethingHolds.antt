@@ -24,7 +24,7 @@ use Rattle.begin.proofs.CallLaws.{region-reads}
 use Rattle.block.specs.Images.{formOf, bytesIn, linesRead, readIn, answerOf, Decoding, Left}
 use Rattle.block.specs.Lent.{Buffers}
 use Rattle.block.specs.TightBlocks.{Tight}
-use Rattle.block.specs.WrittenBlocks.{writeLines, tightBlock}
+use Rattle.block.specs.WrittenBlocks.{writeLines, writtenBlock, tightBlock}
 use Rattle.block.specs.declared.Decoded.{Decoded}
 use Rattle.block.specs.declared.Decoded.the-variants.{Done}
 use Rattle.block.specs.declared.Form.{Form}
@@ -67,10 +67,10 @@ module _ (d : List ℕ) (h : FujiHeader) (bytes : Bytes d) (e : parseOf d ≡ He
   R = ruled d h e
 
   short : length block < 2 ^ 32
-  unfolding block tightBlock
+  unfolding block writtenBlock
   short =
-      let l = lines-short F zeros (h .lines) (R .bits-high) in
-      omega (arith, length-bytesOf ((writeLines F zeros (h .lines)) .bits), l, R .lines-high)
+      let l = lines-short F [] zeros (h .lines) (R .bits-high) in
+      omega (arith, length-bytesOf ((writeLines F [] zeros (h .lines)) .bits), l, R .lines-high)
 
   W : Bytes block × Tight F (h .lines) block
   unfolding block

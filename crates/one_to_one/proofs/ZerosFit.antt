@@ -9,18 +9,18 @@ use lib.ListN.{getD, set, replicate, length-replicate}
 use borrow.Author.Tests.{eq-eqb}
 use Rattle.quantiser.specs.Quantisers.{largest}
 use Rattle.steps.specs.Steps.{Step, planOf, passSteps}
-use Rattle.steps.specs.Contexts.{stepPlace, stepContext}
+use Rattle.steps.specs.Contexts.{stepPlace, stepContext, stepLook}
 use Rattle.steps.specs.declared.Plan.{Plan}
-use Rattle.steps.proofs.ContextLaws.{AllLe, context-le}
-use Rattle.steps.proofs.ZipLaws.{set-keeps}
+use Rattle.steps.proofs.ContextLaws.{AllLe, context-le, stored-le}
 use Rattle.map.specs.Places.{widthOf}
 use Rattle.lines.specs.ColourLines.{guarded}
 use Rattle.writing.specs.Sets.{setSize, indexIn}
-use Rattle.writing.specs.Writings.{Writing, writeStep, writes, writePass}
+use Rattle.writing.specs.Writings.{Writing, wantedCode, givenSample, writeStep, writes, writePass}
 use Rattle.writing.proofs.WriteLaws.{wanted, write-coded, write-interpolated}
 use Rattle.block.specs.WrittenBlocks.{WriteState, repeats, enterWriting, writePassAt, beforeWriting, writeLine, startWriting, writeLines, FitSet}
 use Rattle.block.specs.declared.Form.{Form}
 use Rattle.block.proofs.SampleLaws.{zeros-le, guarded-le, turned-le}
+use Rattle.one_to_one.proofs.PredictedSteps.{given-exact}
 
 module _ (F : Form) (t : List ℕ) (none-above : (j : ℕ) → getD t j 0 ≤ 0) where
   abbrev W : ℕ
@@ -29,28 +29,36 @@ module _ (F : Form) (t : List ℕ) (none-above : (j : ℕ) → getD t j 0 ≤ 0)
   abbrev Inv : List ℕ → Option ℕ → Type 0
   Inv lines wrong = AllLe 0 lines × (wrong ≡ none)
 
-  step-inv : (n : ℕ) (x : Step) (r : Writing) → Inv (r .lines) (r .wrong) → Inv ((writeStep (F .bits) W t n x r) .lines) ((writeStep (F .bits) W t n x r) .wrong)
+  step-inv : (n : ℕ) (x : Step) (r : Writing) → Inv (r .lines) (r .wrong) → Inv ((writeStep (F .bits) 0 W true t n x r) .lines) ((writeStep (F .bits) 0 W true t n x r) .wrong)
   step-inv n x r h = go (x .coded) refl
     where
-      put : AllLe 0 (set (r .lines) (stepPlace W x + 1) (wanted W t n x))
-      put j = set-keeps (λ (m : ℕ). m ≤ 0) (r .lines) 0 (stepPlace W x + 1) (wanted W t n x) j (h .0 j) (none-above (indexIn W n (x .line) (x .position)))
+      low : (stepContext W x (r .lines)) .prediction ≤ 0
+      low = context-le 0 (r .lines) (W + 2) (stepPlace W x) (x .position) (h .0)
+
+      put : (v : ℕ) → v ≤ 0 → AllLe 0 (set (r .lines) (stepPlace W x + 1) v)
+      put v z = stored-le 0 (r .lines) (stepPlace W x + 1) v z (h .0)
+
+      zero-given : givenSample (F .bits) 0 (wantedCode (F .bits) 0 (wanted W t n x) (stepContext W x (r .lines)) (stepLook 0 W x (r .lines))) (stepContext W x (r .lines)) (stepLook 0 W x (r .lines)) ≤ 0
+      zero-given =
+          rw (given-exact (F .bits) (wanted W t n x) (stepContext W x (r .lines)) (omega (arith, low)) (omega (arith, none-above (indexIn W n (x .line) (x .position)))))
+          (none-above (indexIn W n (x .line) (x .position)))
 
       is : wanted W t n x ≡ (stepContext W x (r .lines)) .prediction
-      is = omega (arith, none-above (indexIn W n (x .line) (x .position)), context-le 0 (r .lines) (W + 2) (stepPlace W x) (x .position) (h .0))
+      is = omega (arith, none-above (indexIn W n (x .line) (x .position)), low)
 
-      go : (b : Bool) → x .coded ≡ b → Inv ((writeStep (F .bits) W t n x r) .lines) ((writeStep (F .bits) W t n x r) .wrong)
-      go true e = rw (write-coded (F .bits) W t n x r e) (put, h .1)
-      go false e = rw (write-interpolated (F .bits) W t n x r e) (put, rw (h .1, eq-eqb (wanted W t n x) ((stepContext W x (r .lines)) .prediction) is))
+      go : (b : Bool) → x .coded ≡ b → Inv ((writeStep (F .bits) 0 W true t n x r) .lines) ((writeStep (F .bits) 0 W true t n x r) .wrong)
+      go true e = rw (write-coded (F .bits) 0 W true t n x r e) (put _ zero-given, h .1)
+      go false e = rw (write-interpolated (F .bits) 0 W true t n x r e) (put _ low, rw (h .1, eq-eqb (wanted W t n x) ((stepContext W x (r .lines)) .prediction) is))
 
-  steps-inv : (n : ℕ) (l : List Step) (r : Writing) → Inv (r .lines) (r .wrong) → Inv ((writes (F .bits) W t n l r) .lines) ((writes (F .bits) W t n l r) .wrong)
+  steps-inv : (n : ℕ) (l : List Step) (r : Writing) → Inv (r .lines) (r .wrong) → Inv ((writes (F .bits) 0 W true t n l r) .lines) ((writes (F .bits) 0 W true t n l r) .wrong)
   unfolding writes
   steps-inv n [] r h = h
-  steps-inv n (x ∷ l) r h = steps-inv n l (writeStep (F .bits) W t n x r) (step-inv n x r h)
+  steps-inv n (x ∷ l) r h = steps-inv n l (writeStep (F .bits) 0 W true t n x r) (step-inv n x r h)
 
   abbrev StateInv : WriteState → Type 0
   StateInv r = Inv (r .lines) (r .wrong)
 
-  pass-inv : (n i : ℕ) (r : WriteState) → StateInv r → StateInv (writePassAt F t n i r)
+  pass-inv : (n i : ℕ) (r : WriteState) → StateInv r → StateInv (writePassAt F 0 true t n i r)
   unfolding writePassAt writePass
   pass-inv n i r h =
       let P : Plan = planOf (F .xtrans) i in
@@ -62,13 +70,13 @@ module _ (F : Form) (t : List ℕ) (none-above : (j : ℕ) → getD t j 0 ≤ 0)
   all-inv f each zero r h = h
   all-inv f each (suc n) r h = each n (repeats f n r) (all-inv f each n r h)
 
-  line-inv : (n : ℕ) (r : WriteState) → StateInv r → StateInv (writeLine F t n r)
+  line-inv : (n : ℕ) (r : WriteState) → StateInv r → StateInv (writeLine F [] t n r)
   unfolding writeLine
-  line-inv n r h = all-inv (writePassAt F t n) (pass-inv n) 6 (beforeWriting F n r) (turned-le 0 W (r .lines) (h .0), h .1)
+  line-inv n r h = all-inv (writePassAt F 0 true t n) (pass-inv n) 6 (beforeWriting F [] n r) (turned-le 0 W (r .lines) (h .0), h .1)
 
-  lines-inv : (n : ℕ) → StateInv (writeLines F t n)
+  lines-inv : (n : ℕ) → StateInv (writeLines F [] t n)
   unfolding writeLines startWriting
-  lines-inv n = all-inv (writeLine F t) line-inv n (startWriting F) (zeros-le 0 (18 * (W + 2)), refl)
+  lines-inv n = all-inv (writeLine F [] t) line-inv n (startWriting F []) (zeros-le 0 (18 * (W + 2)), refl)
 
 pub zeros-fit : (F : Form) (lines : ℕ) → FitSet F lines (replicate (setSize (widthOf (F .xtrans)) lines) 0)
 zeros-fit F lines =

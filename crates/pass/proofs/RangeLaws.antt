@@ -1,4 +1,5 @@
--- What a reading keeps: samples stay within 0..M, records stay in range, and the lists keep their lengths. Assumes nothing.
+-- What a reading keeps: samples stay within 0..M, records stay in range, the lists keep their lengths, and there are no more long codes than bits.
+-- Assumes nothing.
 use mathlib.Core.Bool.{Bool, true, false, cond}
 use mathlib.Core.List.{List, [], _∷_}
 use mathlib.Core.Option.{Option, none, some}
@@ -6,6 +7,7 @@ use mathlib.Core.Path.{_≡_, refl, _∙_}
 use Prim.Native.Nat.{ℕ, _+_, _≤_, _<_}
 use native.Mathlib.Omega.{arith}
 use lib.ListN.{length, getD, set, length-set}
+use Rattle.numbers.specs.Numbers.{flag}
 use Rattle.statistics.specs.Statistics.{kOf, updated, InRange}
 use Rattle.statistics.specs.declared.Record.{Record}
 use Rattle.statistics.proofs.RecordLaws.{k-least, updated-in-range}
@@ -16,7 +18,7 @@ use Rattle.code.specs.Samples.{residualOf}
 use Rattle.code.specs.declared.Code.{Code}
 use Rattle.code.specs.declared.Coded.{Coded}
 use Rattle.code.specs.declared.Coded.the-variants.{Read, Truncated}
-use Rattle.code.proofs.CodeLaws.{code-bounds}
+use Rattle.code.proofs.CodeLaws.{code-bounds, code-shape}
 use Rattle.code.proofs.SampleLaws.{residual-size, sample-le}
 use Rattle.steps.specs.Steps.{Step, passSteps}
 use Rattle.steps.specs.Contexts.{usedBase, usedWeight, usedQuantiser, noRecord, stepPlace, stepContext, stepLook, stepSlot}
@@ -34,6 +36,7 @@ pub record Kept (bits : ℕ) (r z : Reading) : Type 0 where
   pub lines : length (z .lines) ≡ length (r .lines)
   pub records : length (z .set) ≡ length (r .set)
   pub ranges : SetInRange (r .set) → SetInRange (z .set)
+  pub counted : r .long ≤ r .at .0 → z .long ≤ z .at .0
 
 same : (bits : ℕ) (r y z : Reading) → some y ≡ some z → Kept bits r y → Kept bits r z
 same bits r y z e k = let f : y ≡ z = cc in rw f at k
@@ -49,6 +52,18 @@ updated-ranges bits q s slot h r d b small e ok k hk =
     let n = numbers-le bits (usedBase q (h .choice)) (usedWeight (h .choice)) b in
     let v = rw e at (code-bounds s (r .at .0) (kOf old) ((usedQuantiser bits q (h .choice)) .limit) ((usedQuantiser bits q (h .choice)) .raw) (k-least old .capped) (n .2) (n .1)) in
     set-keeps InRange (r .set) noRecord slot _ k (ok k hk) (updated-in-range old _ (ok slot small) (omega (arith, v .0, residual-size (d .value))))
+
+-- a code has a bit or more, so that there are no more long codes than bits
+flag-le : (b : Bool) → flag b ≤ 1
+flag-le true = omega arith
+flag-le false = omega arith
+
+code-counted : (bits q : ℕ) (s : List ℕ) (slot : ℕ) (h : Look) (r : Reading) (d : Code) → codeOf bits q s slot h r ≡ Read d → r .long ≤ r .at .0
+    → r .long + flag (d .long) ≤ d .after .0
+code-counted bits q s slot h r d e k =
+    let Q = usedQuantiser bits q (h .choice) in
+    let shape = code-shape s (r .at .0) (kOf (getD (r .set) slot noRecord)) (Q .limit) (Q .raw) d e in
+    omega (arith, shape .some-bits, shape .counts .bits, flag-le (d .long))
 
 module _ (bits q W : ℕ) (s : List ℕ) (depth : bits ≤ 16) where
   pub step-keeps : (x : Step) (r z : Reading) → readStep bits q W s x r ≡ some z → Kept bits r z
@@ -75,6 +90,7 @@ module _ (bits q W : ℕ) (s : List ℕ) (depth : bits ≤ 16) where
             lines = length-set (r .lines) (i + 1) _;
             records = length-set (r .set) slot _;
             ranges = updated-ranges bits q s slot h r d depth (slot-lt (x .position) q c) eg;
+            counted = code-counted bits q s slot h r d eg;
           })
       go false g eg f =
           same bits r _ z f (record {
@@ -82,12 +98,13 @@ module _ (bits q W : ℕ) (s : List ℕ) (depth : bits ≤ 16) where
             lines = length-set (r .lines) (i + 1) _;
             records = refl;
             ranges = λ k. k;
+            counted = λ k. k;
           })
 
   -- what a list of steps keeps
   pub reads-keep : (l : List Step) (r z : Reading) → reads bits q W s l r ≡ some z → Kept bits r z
   unfolding reads andThen
-  reads-keep [] r z e = same bits r r z e (record { samples = λ h. h; lines = refl; records = refl; ranges = λ h. h })
+  reads-keep [] r z e = same bits r r z e (record { samples = λ h. h; lines = refl; records = refl; ranges = λ h. h; counted = λ h. h })
   reads-keep (x ∷ l) r z e = go (readStep bits q W s x r) (λ y f. step-keeps x r y f) (λ y f. reads-keep l y z f) e
     where
       go : (o : Option Reading) → ((y : Reading) → o ≡ some y → Kept bits r y) → ((y : Reading) → reads bits q W s l y ≡ some z → Kept bits y z)
@@ -96,7 +113,13 @@ module _ (bits q W : ℕ) (s : List ℕ) (depth : bits ≤ 16) where
       go (some y) a b f =
           let k = a y refl in
           let m = b y f in
-          record { samples = λ h. m .samples (k .samples h); lines = m .lines ∙ k .lines; records = m .records ∙ k .records; ranges = λ h. m .ranges (k .ranges h) }
+          record {
+            samples = λ h. m .samples (k .samples h);
+            lines = m .lines ∙ k .lines;
+            records = m .records ∙ k .records;
+            ranges = λ h. m .ranges (k .ranges h);
+            counted = λ h. m .counted (k .counted h);
+          }
 
   pub pass-keeps : (P : Plan) (r z : Reading) → readPass bits q W s P r ≡ some z → Kept bits r z
   unfolding readPass

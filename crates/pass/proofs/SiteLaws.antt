@@ -6,33 +6,32 @@ use mathlib.Core.Path.{_≡_, refl, sym, ap, _∙_}
 use Prim.Native.Nat.{ℕ, _+_, _*_, _^_, _≤_, _<_}
 use native.Mathlib.Omega.{arith}
 use lib.ListN.{length, getD, set}
-use Rattle.bits.specs.declared.BitPosition.{BitPosition}
+use Rattle.numbers.specs.Numbers.{flag}
 use Rattle.statistics.specs.Statistics.{kOf, updated}
 use Rattle.statistics.specs.declared.Record.{Record}
 use Rattle.quantiser.specs.Quantisers.{largest}
 use Rattle.prediction.specs.declared.Context.{Context}
 use Rattle.code.specs.Codes.{codeAt}
 use Rattle.code.specs.Samples.{residualOf, sampleOf}
-use Rattle.code.specs.Tight.{isTight}
+use Rattle.code.specs.Tight.{isTight, takenOf}
 use Rattle.code.specs.declared.Code.{Code}
 use Rattle.code.specs.declared.Coded.{Coded}
 use Rattle.code.specs.declared.Coded.the-variants.{Read, Truncated}
+use Rattle.code.specs.declared.Place.{Place}
+use Rattle.code.specs.declared.Taken.{Taken}
+use Rattle.code.specs.declared.Taken.the-variants as Take
 use Rattle.steps.specs.Steps.{Step, stepAt}
 use Rattle.steps.specs.Contexts.{contextAt, usedQuantiser, lookOf, slotOf, noRecord}
-use Rattle.steps.specs.Values.{zipRecords, SetInRange, recordsOf, AreQuantisers}
+use Rattle.steps.specs.Values.{zipRecords, SetInRange, AreKs, recordsOf, AreQuantisers}
 use Rattle.steps.specs.declared.Look.{Look}
 use Rattle.steps.specs.declared.Set.{Set}
 use Rattle.steps.proofs.TableLaws.{total-is, raw-is, limit-is, total-small, reader-small}
 use Rattle.pass.specs.Readings.{Reading, taken, readStep, reads}
-use Rattle.pass.specs.Pairs.{held, IsPair, IsPassed}
-use Rattle.pass.specs.declared.Place.{Place}
+use Rattle.pass.specs.Pairs.{readingAt, held, begun, placeOf, IsPair, IsPassed}
 use Rattle.pass.specs.declared.Pair.{Pair}
 use Rattle.pass.specs.declared.Pair.the-variants.{At, CutOff}
 use Rattle.pass.specs.declared.Passed.{Passed}
 use Rattle.pass.proofs.StepLaws.{StepGives, StepsGive}
-
-abbrev pub placeOf : BitPosition → Bool → Place
-placeOf at tight = record { at = at; tight = tight }
 
 -- ---- the context of a sample at position p of a line: it goes after place i
 
@@ -41,9 +40,9 @@ pub record Placed (W line p : ℕ) (lines : List ℕ) (i : ℕ) (x : Context) : 
   pub context : x ≡ contextAt lines (W + 2) i p
 
 -- an interpolated sample is its prediction
-pub site-interpolated : {bits q W line p i : ℕ} {s lines : List ℕ} {x : Context} {coded : Bool} {records : List Record} {at : BitPosition} {tight : Bool}
-    → Placed W line p lines i x → coded ≡ false → StepGives bits q W s (stepAt line p coded) (record { lines = lines; set = records; at = at; tight = tight })
-    (some (record { lines = set lines (i + 1) (x .prediction); set = records; at = at; tight = tight }))
+pub site-interpolated : {bits q W line p i : ℕ} {s lines : List ℕ} {x : Context} {coded : Bool} {records : List Record} {from : Place}
+    → Placed W line p lines i x → coded ≡ false
+    → StepGives bits q W s (stepAt line p coded) (readingAt lines records from) (some (readingAt (set lines (i + 1) (x .prediction)) records from))
 unfolding readStep
 site-interpolated l e = record { is = rw (e, l .context, l .place) }
 
@@ -77,33 +76,54 @@ module _ {bits q W line p : ℕ} {s lines sums ns totals raws limits : List ℕ}
   used-limit : getD limits (h .choice) 0 ≡ (usedQuantiser bits q (h .choice)) .limit
   used-limit = limit-is bits q totals raws limits (t .quantisers) (h .choice) (t .four)
 
-  -- the step, by the answer of the reader
-  site-got : (coded : Bool) (at : BitPosition) (tight : Bool) (k : ℕ) (got : Coded) → coded ≡ true → k ≡ kOf old
-      → got ≡ codeAt s (at .0) k (getD limits (h .choice) 0) (getD raws (h .choice) 0)
-      → readStep bits q W s (stepAt line p coded) (held lines sums ns (placeOf at tight)) ≡ taken bits q i j x h (held lines sums ns (placeOf at tight)) got
+  -- the code that is there
+  abbrev code : Place → ℕ → Coded
+  code from k = codeAt s (from .at .0) k (getD limits (h .choice) 0) (getD raws (h .choice) 0)
+
+  -- the step, by it
+  site-got : (coded : Bool) (from : Place) (k : ℕ) → coded ≡ true → k ≡ kOf old
+      → readStep bits q W s (stepAt line p coded) (held lines sums ns from)
+      ≡ taken bits q i j x h (held lines sums ns from) (code from k)
   unfolding readStep
-  site-got coded at tight k got ec ek eg =
-      rw (eg, ek, used-limit, used-raw, t .record-is, ec, t .slot, t .look, t .placed .context, t .placed .place)
+  site-got coded from k ec ek =
+      rw (ek, used-limit, used-raw, t .record-is, ec, t .slot, t .look, t .placed .context, t .placed .place)
 
-  module _ {coded : Bool} {at : BitPosition} {tight : Bool} {k : ℕ} {got : Coded} (ec : coded ≡ true) (ek : k ≡ kOf old)
-      (eg : got ≡ codeAt s (at .0) k (getD limits (h .choice) 0) (getD raws (h .choice) 0)) where
-    pub site-cut-off : got ≡ Truncated → StepGives bits q W s (stepAt line p coded) (held lines sums ns (placeOf at tight)) none
-    site-cut-off e = let g = site-got coded at tight k got ec ek eg in record { is = g ∙ (rw e) }
+  -- and by what was taken of it
+  got-none : (from : Place) (m : ℕ) (o : Coded) → takenOf m (from .tight) (from .long) o ≡ Take.Truncated
+      → taken bits q i j x h (held lines sums ns from) o ≡ none
+  got-none from m Truncated e = refl
+  got-none from m (Read c) e = let no : _≡_ {A = ℕ} 0 1 = cc in absurd (omega arith)
 
-    pub site-read : {c : Code} {m v : ℕ} {new : List Record} {good : Bool} → got ≡ Read c → m ≡ largest bits
-        → v ≡ sampleOf m (h .base) (getD totals (h .choice) 0) (h .negative) (x .prediction) (c .value)
-        → new ≡ set (zipRecords sums ns) j (updated old ((residualOf (c .value)) .size)) → good ≡ isTight m c
-        → StepGives bits q W s (stepAt line p coded) (held lines sums ns (placeOf at tight))
-        (some (record { lines = set lines (i + 1) v; set = new; at = c .after; tight = tight && good }))
-    site-read e em ev es eq =
-        let g = site-got coded at tight k got ec ek eg in
-        record { is = g ∙ (rw (e, es, t .record-is, ev, eq, em, used-total)) }
+  got-some : (from after : Place) (m v value : ℕ) (new : List Record) (o : Coded)
+      → takenOf m (from .tight) (from .long) o ≡ Take.Read value (after .at) (after .tight) (after .long) → m ≡ largest bits
+      → v ≡ sampleOf m (h .base) (getD totals (h .choice) 0) (h .negative) (x .prediction) value
+      → new ≡ set (zipRecords sums ns) j (updated old ((residualOf value) .size))
+      → taken bits q i j x h (held lines sums ns from) o ≡ some (readingAt (set lines (i + 1) v) new after)
+  got-some from after m v value new Truncated e em ev es = let no : _≡_ {A = ℕ} 0 1 = cc in absurd (omega arith)
+  got-some from after m v value new (Read c) e em ev es =
+      let a : c .after ≡ after .at = cc in
+      let b : c .value ≡ value = cc in
+      let d : from .tight && isTight m c ≡ after .tight = cc in
+      let f : from .long + flag (c .long) ≡ after .long = cc in
+      rw (es, ev, ← a, ← b, ← d, ← f, em, t .record-is, used-total)
+
+  module _ {coded : Bool} {from : Place} {k : ℕ} (m : ℕ) {got : Taken} (ec : coded ≡ true) (ek : k ≡ kOf old)
+      (eg : got ≡ takenOf m (from .tight) (from .long) (code from k)) where
+    pub site-cut-off : got ≡ Take.Truncated → StepGives bits q W s (stepAt line p coded) (held lines sums ns from) none
+    site-cut-off e = record { is = site-got coded from k ec ek ∙ got-none from m (code from k) (sym eg ∙ e) }
+
+    pub site-read : {value v : ℕ} {after : Place} {new : List Record} → got ≡ Take.Read value (after .at) (after .tight) (after .long) → m ≡ largest bits
+        → v ≡ sampleOf m (h .base) (getD totals (h .choice) 0) (h .negative) (x .prediction) value
+        → new ≡ set (zipRecords sums ns) j (updated old ((residualOf value) .size))
+        → StepGives bits q W s (stepAt line p coded) (held lines sums ns from) (some (readingAt (set lines (i + 1) v) new after))
+    site-read {value} {v} {after} {new} e em ev es =
+        record { is = site-got coded from k ec ek ∙ got-some from after m v value new (code from k) (sym eg ∙ e) em ev es }
 
 -- ---- where two ways meet, the same lists have other names
 
-pub met : {lines lines′ sums sums′ ns ns′ : List ℕ} {at at′ : BitPosition} {tight tight′ : Bool} → lines ≡ lines′ → sums ≡ sums′ → ns ≡ ns′ → at ≡ at′ → tight ≡ tight′
-    → held lines sums ns (placeOf at tight) ≡ held lines′ sums′ ns′ (placeOf at′ tight′)
-met el es en ea et = rw (el, es, en, ea, et)
+pub met : {lines lines′ sums sums′ ns ns′ : List ℕ} {from from′ : Place} → lines ≡ lines′ → sums ≡ sums′ → ns ≡ ns′ → from ≡ from′
+    → held lines sums ns from ≡ held lines′ sums′ ns′ from′
+met el es en ef = rw (el, es, en, ef)
 
 module _ {y z : Reading} (e : y ≡ z) where
   pub step-met : {bits q W : ℕ} {s : List ℕ} {x : Step} {r : Reading} → StepGives bits q W s x r (some z) → StepGives bits q W s x r (some y)
@@ -115,6 +135,9 @@ module _ {y z : Reading} (e : y ≡ z) where
   pub ranges-met : SetInRange (z .set) → SetInRange (y .set)
   ranges-met g = rw e g
 
+  pub ks-met : {ks ks′ : List ℕ} → ks ≡ ks′ → AreKs (z .set) ks′ → AreKs (y .set) ks
+  ks-met f g = rw (e, f) g
+
   pub length-met : length (y .lines) ≡ length (z .lines)
   length-met = ap (λ (r : Reading). length (r .lines)) e
 
@@ -124,8 +147,7 @@ module _ {bits q W : ℕ} {s : List ℕ} {l : List Step} {r : Reading} (lines su
   pub pair-cut-off : StepsGive bits q W s l r none → IsPair (reads bits q W s l r) lines sums ns CutOff
   pair-cut-off e = rw (e .are) refl
 
-  pub pair-at : {at : BitPosition} {tight : Bool} → StepsGive bits q W s l r (some (held lines sums ns (placeOf at tight)))
-      → IsPair (reads bits q W s l r) lines sums ns (At (placeOf at tight))
+  pub pair-at : {after : Place} → StepsGive bits q W s l r (some (held lines sums ns after)) → IsPair (reads bits q W s l r) lines sums ns (At after)
   pair-at e = rw (e .are) (refl, refl, refl)
 
 was-none : (o : Option Reading) (lines sums ns : List ℕ) (r : Pair) → IsPair o lines sums ns r → r ≡ CutOff → o ≡ none
@@ -135,10 +157,8 @@ was-none (some z) lines sums ns r h e = let no : _≡_ {A = ℕ} 0 1 = cc in abs
 was-some : (o : Option Reading) (lines sums ns : List ℕ) (r : Pair) (after : Place) → IsPair o lines sums ns r → r ≡ At after → o ≡ some (held lines sums ns after)
 was-some none lines sums ns r after h e = let no : _≡_ {A = ℕ} 0 1 = cc in absurd (omega arith)
 was-some (some z) lines sums ns r after h e =
-    let a : placeOf (z .at) (z .tight) ≡ after = cc in
-    let at : z .at ≡ after .at = ap (λ (p : Place). p .at) a in
-    let tight : z .tight ≡ after .tight = ap (λ (p : Place). p .tight) a in
-    rw (h .1, h .2, at, tight)
+    let a : placeOf z ≡ after = cc in
+    rw (h .1, h .2, ← a)
 
 module _ (bits q W : ℕ) (s : List ℕ) (l : List Step) (r : Reading) (lines sums ns : List ℕ) {k : Pair} (h : IsPair (reads bits q W s l r) lines sums ns k) where
   pub pair-was-cut-off : k ≡ CutOff → StepsGive bits q W s l r none
@@ -152,15 +172,14 @@ module _ (bits q W : ℕ) (s : List ℕ) (l : List Step) (r : Reading) (lines su
 pub passed-cut-off : (o : Option Reading) (lines : List ℕ) (r : Passed) → o ≡ none → r .ok ≡ false → IsPassed o lines r
 passed-cut-off o lines r e f = rw e f
 
-pub passed : (o : Option Reading) (lines : List ℕ) (at : BitPosition) (tight : Bool) (t : Set)
-    → o ≡ some (record { lines = lines; set = recordsOf t; at = at; tight = tight }) → IsPassed o lines (record { ok = true; tight = tight; at = at; set = t })
-passed o lines at tight t e = rw e (record { ok = refl; lines = refl; records = refl; at = refl; tight = refl })
+pub passed : (o : Option Reading) (lines : List ℕ) (after : Place) (t : Set) → o ≡ some (begun lines t after) → IsPassed o lines (record { ok = true; place = after; set = t })
+passed o lines after t e = rw e (record { ok = refl; lines = refl; records = refl; place = refl })
 
 pub pass-was-cut-off : (o : Option Reading) (lines : List ℕ) (r : Passed) → IsPassed o lines r → r .ok ≡ false → o ≡ none
 pass-was-cut-off none lines r h e = refl
 pass-was-cut-off (some z) lines r h e = absurd (false≢true (sym e ∙ h .ok))
 
 pub pass-was-read : (o : Option Reading) (lines : List ℕ) (r : Passed) → IsPassed o lines r → r .ok ≡ true
-    → o ≡ some (record { lines = lines; set = recordsOf (r .set); at = r .at; tight = r .tight })
+    → o ≡ some (begun lines (r .set) (r .place))
 pass-was-read none lines r h e = absurd (false≢true (sym h ∙ e))
-pass-was-read (some z) lines r h e = rw (h .lines, h .records, h .at, h .tight)
+pass-was-read (some z) lines r h e = rw (h .lines, h .records, h .place)

@@ -1,9 +1,11 @@
--- Reading: what a step makes of the colour lines, the records of its set, the bit position and the verdict. Assumes nothing.
+-- Reading: what a step makes of the colour lines, the records of its set, the bit position, the verdict and the count of long codes. Assumes
+-- nothing.
 use mathlib.Core.Bool.{Bool, cond, _&&_}
 use mathlib.Core.List.{List, [], _∷_}
 use mathlib.Core.Option.{Option, none, some}
 use Prim.Native.Nat.{ℕ, _+_}
 use lib.ListN.{getD, set}
+use Rattle.numbers.specs.Numbers.{flag}
 use Rattle.bits.specs.declared.BitPosition.{BitPosition}
 use Rattle.statistics.specs.Statistics.{kOf, updated}
 use Rattle.statistics.specs.declared.Record.{Record}
@@ -20,16 +22,18 @@ use Rattle.steps.specs.Contexts.{usedQuantiser, noRecord, stepPlace, stepContex
 use Rattle.steps.specs.declared.Look.{Look}
 use Rattle.steps.specs.declared.Plan.{Plan}
 
--- what a pass reads and changes: the colour lines, the records of its set, the bit position, and whether all codes so far were tight
+-- what a pass reads and changes: the colour lines, the records of its set, the bit position, whether all codes so far were tight, and how many
+-- of them were long
 pub record Reading : Type 0 where
   pub lines : List ℕ
   pub set : List Record
   pub at : BitPosition
   pub tight : Bool
+  pub long : ℕ
 
 -- an interpolated sample is its prediction
 abbrev pub interpolate : ℕ → Context → Reading → Reading
-interpolate i x r = record { lines = set (r .lines) (i + 1) (x .prediction); set = r .set; at = r .at; tight = r .tight }
+interpolate i x r = record { lines = set (r .lines) (i + 1) (x .prediction); set = r .set; at = r .at; tight = r .tight; long = r .long }
 
 -- a sample with a code c, of which h says how it is coded
 abbrev pub takeCode : ℕ → ℕ → ℕ → ℕ → Context → Look → Code → Reading → Reading
@@ -39,6 +43,7 @@ takeCode bits q i slot x h c r =
       set = set (r .set) slot (updated (getD (r .set) slot noRecord) ((residualOf (c .value)) .size));
       at = c .after;
       tight = r .tight && isTight (largest bits) c;
+      long = r .long + flag (c .long);
     }
 
 abbrev pub taken : ℕ → ℕ → ℕ → ℕ → Context → Look → Reading → Coded → Option Reading

@@ -4,18 +4,12 @@ ghost use Prim.Native.Nat.{_*_, _^_, _≤_, _<_};
 ghost use Rattle.code.specs.Samples.{sampleOf};
 ghost use Rattle.steps.specs.Steps.{evenSteps, oddSteps};
 ghost use Rattle.pass.specs.Pairs.{PairAsks, PairGives, PassAsks, PassGives, held, begun};
-use bits::BitPosition;
-use code::Coded;
+use code::Place;
+use code::Taken;
 use steps::Plan;
 use steps::Quantisers;
 use steps::Set;
 use steps::Spot;
-
-// Where a reading is: the next bit, and whether all codes so far were tight.
-pub struct Place {
-    pub at: BitPosition,
-    pub tight: bool,
-}
 
 // Where the reading is after two samples; or that no one bit was left.
 pub enum Pair {
@@ -26,8 +20,7 @@ pub enum Pair {
 // What a pass hands back. Where it was cut off, all but `ok` means nothing.
 pub struct Passed {
     pub ok: bool,
-    pub tight: bool,
-    pub at: BitPosition,
+    pub place: Place,
     pub set: Set,
 }
 
@@ -49,23 +42,23 @@ fn even_pair(
     lines: &mut [u16],
     sums: &mut [u32; 112],
     ns: &mut [u32; 112],
+    ks: &mut [u32; 112],
     spot: Spot,
     base: u32,
     totals: &[u32; 4],
     raws: &[u32; 4],
     limits: &[u32; 4],
 ) -> Pair
-    requires { ⌜ PairAsks spot base (now block) (now lines) (now sums) (now ns) (now totals) (now raws) (now limits) ⌝ }
+    requires { ⌜ PairAsks spot base from (now block) (now lines) (now sums) (now ns) (now ks) (now totals) (now raws) (now limits) ⌝ }
     ensures { λ r. ⌜ PairGives spot base (now (block .entry)) (evenSteps (spot .plan) (spot .p))
         (held (now (lines .entry)) (now (sums .entry)) (now (ns .entry)) from)
-        (now (lines .exit)) (now (sums .exit)) (now (ns .exit)) r ⌝ }
+        (now (lines .exit)) (now (sums .exit)) (now (ns .exit)) (now (ks .exit)) r ⌝ }
 {
     let m = quantiser::largest(spot.bits);
     let w = spot.w;
     let p = spot.p;
     let plan = spot.plan;
-    let mut at = from.at;
-    let mut tight = from.tight;
+    let mut place = from;
     let i = steps::left_of(w, plan.first, p);
     let x = steps::context_at(lines, w + 2, i, p);
     if steps::has_code(plan.first_rule, p) {
@@ -73,14 +66,13 @@ fn even_pair(
         let q = h.choice;
         let j = steps::slot_of(p, h.place);
         let old = steps::record_at(sums, ns, j);
-        let got = code::read_code(block, at, old.k(), limits[q], raws[q]);
-        let Coded::Read(c) = got else {
+        let got = code::take_code(block, place, m, steps::k_at(ks, j), limits[q], raws[q]);
+        let Taken::Read(value, at, tight, long) = got else {
             return Pair::CutOff;
         };
-        lines[i + 1] = sample_of(m, h.base, totals[q], h.negative, x.prediction, c.value) as u16;
-        steps::update_at(sums, ns, j, old, c.value);
-        at = c.after;
-        tight = tight & code::is_tight(m, c);
+        lines[i + 1] = sample_of(m, h.base, totals[q], h.negative, x.prediction, value) as u16;
+        steps::update_with_k(sums, ns, ks, j, old, value);
+        place = Place { at, tight, long };
     } else {
         lines[i + 1] = x.prediction as u16;
     }
@@ -91,18 +83,17 @@ fn even_pair(
         let q = h.choice;
         let j = steps::slot_of(p, h.place);
         let old = steps::record_at(sums, ns, j);
-        let got = code::read_code(block, at, old.k(), limits[q], raws[q]);
-        let Coded::Read(c) = got else {
+        let got = code::take_code(block, place, m, steps::k_at(ks, j), limits[q], raws[q]);
+        let Taken::Read(value, at, tight, long) = got else {
             return Pair::CutOff;
         };
-        lines[i + 1] = sample_of(m, h.base, totals[q], h.negative, x.prediction, c.value) as u16;
-        steps::update_at(sums, ns, j, old, c.value);
-        at = c.after;
-        tight = tight & code::is_tight(m, c);
+        lines[i + 1] = sample_of(m, h.base, totals[q], h.negative, x.prediction, value) as u16;
+        steps::update_with_k(sums, ns, ks, j, old, value);
+        place = Place { at, tight, long };
     } else {
         lines[i + 1] = x.prediction as u16;
     }
-    Pair::At(Place { at, tight })
+    Pair::At(place)
 }
 
 // The two samples at an odd position p.
@@ -112,16 +103,17 @@ fn odd_pair(
     lines: &mut [u16],
     sums: &mut [u32; 112],
     ns: &mut [u32; 112],
+    ks: &mut [u32; 112],
     spot: Spot,
     base: u32,
     totals: &[u32; 4],
     raws: &[u32; 4],
     limits: &[u32; 4],
 ) -> Pair
-    requires { ⌜ PairAsks spot base (now block) (now lines) (now sums) (now ns) (now totals) (now raws) (now limits) ⌝ }
+    requires { ⌜ PairAsks spot base from (now block) (now lines) (now sums) (now ns) (now ks) (now totals) (now raws) (now limits) ⌝ }
     ensures { λ r. ⌜ PairGives spot base (now (block .entry)) (oddSteps (spot .plan) (spot .p))
         (held (now (lines .entry)) (now (sums .entry)) (now (ns .entry)) from)
-        (now (lines .exit)) (now (sums .exit)) (now (ns .exit)) r ⌝ }
+        (now (lines .exit)) (now (sums .exit)) (now (ns .exit)) (now (ks .exit)) r ⌝ }
 {
     let m = quantiser::largest(spot.bits);
     let w = spot.w;
@@ -133,38 +125,32 @@ fn odd_pair(
     let q = h.choice;
     let j = steps::slot_of(p, h.place);
     let old = steps::record_at(sums, ns, j);
-    let got = code::read_code(block, from.at, old.k(), limits[q], raws[q]);
-    let Coded::Read(c) = got else {
+    let got = code::take_code(block, from, m, steps::k_at(ks, j), limits[q], raws[q]);
+    let Taken::Read(value, at, tight, long) = got else {
         return Pair::CutOff;
     };
-    lines[i + 1] = sample_of(m, h.base, totals[q], h.negative, x.prediction, c.value) as u16;
-    steps::update_at(sums, ns, j, old, c.value);
-    let tight = from.tight & code::is_tight(m, c);
-    let at = c.after;
+    lines[i + 1] = sample_of(m, h.base, totals[q], h.negative, x.prediction, value) as u16;
+    steps::update_with_k(sums, ns, ks, j, old, value);
     let i = steps::left_of(w, plan.second, p);
     let x = steps::context_at(lines, w + 2, i, p);
     let h = steps::look_of(base, x);
     let q = h.choice;
     let j = steps::slot_of(p, h.place);
     let old = steps::record_at(sums, ns, j);
-    let got = code::read_code(block, at, old.k(), limits[q], raws[q]);
-    let Coded::Read(d) = got else {
+    let between = Place { at, tight, long };
+    let got = code::take_code(block, between, m, steps::k_at(ks, j), limits[q], raws[q]);
+    let Taken::Read(value, at, tight, long) = got else {
         return Pair::CutOff;
     };
-    lines[i + 1] = sample_of(m, h.base, totals[q], h.negative, x.prediction, d.value) as u16;
-    steps::update_at(sums, ns, j, old, d.value);
-    let after = d.after;
-    Pair::At(Place {
-        at: after,
-        tight: tight & code::is_tight(m, d),
-    })
+    lines[i + 1] = sample_of(m, h.base, totals[q], h.negative, x.prediction, value) as u16;
+    steps::update_with_k(sums, ns, ks, j, old, value);
+    Pair::At(Place { at, tight, long })
 }
 
 // A pass: at each turn an even position, and the odd one seven before it, where they are positions of the line.
 pub fn pass(
     block: &[u8],
-    from: BitPosition,
-    tight_before: bool,
+    from: Place,
     lines: &mut [u16],
     set: Set,
     w: usize,
@@ -172,26 +158,27 @@ pub fn pass(
     qs: Quantisers,
     bits: u32,
 ) -> Passed
-    requires { ⌜ PassAsks bits w plan qs (now block) (now lines) set ⌝ }
-    ensures { λ r. ⌜ PassGives bits w plan qs (now (block .entry)) (begun (now (lines .entry)) set from «tight_before») (now (lines .exit)) r ⌝ }
+    requires { ⌜ PassAsks bits w plan qs from (now block) (now lines) set ⌝ }
+    ensures { λ r. ⌜ PassGives bits w plan qs (now (block .entry)) (begun (now (lines .entry)) set from) (now (lines .exit)) r ⌝ }
 {
     let mut sums = set.sums;
     let mut ns = set.ns;
+    let mut ks = steps::ks_of(&sums, &ns);
     let totals = qs.totals;
     let raws = qs.raws;
     let limits = qs.limits;
     let base = qs.base;
-    let mut at = from;
-    let mut tight = tight_before;
+    let mut place = from;
     let mut p = 0usize;
     while p < w + 8 {
         if p < w {
             let got = even_pair(
                 block,
-                Place { at, tight },
+                place,
                 lines,
                 &mut sums,
                 &mut ns,
+                &mut ks,
                 Spot { w, bits, plan, p },
                 base,
                 &totals,
@@ -201,21 +188,20 @@ pub fn pass(
             let Pair::At(after) = got else {
                 return Passed {
                     ok: false,
-                    tight,
-                    at,
+                    place,
                     set: Set { sums, ns },
                 };
             };
-            at = after.at;
-            tight = after.tight;
+            place = after;
         }
         if p >= 8 {
             let got = odd_pair(
                 block,
-                Place { at, tight },
+                place,
                 lines,
                 &mut sums,
                 &mut ns,
+                &mut ks,
                 Spot {
                     w,
                     bits,
@@ -230,20 +216,17 @@ pub fn pass(
             let Pair::At(after) = got else {
                 return Passed {
                     ok: false,
-                    tight,
-                    at,
+                    place,
                     set: Set { sums, ns },
                 };
             };
-            at = after.at;
-            tight = after.tight;
+            place = after;
         }
         p += 2;
     }
     Passed {
         ok: true,
-        tight,
-        at,
+        place,
         set: Set { sums, ns },
     }
 }

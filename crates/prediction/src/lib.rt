@@ -23,7 +23,8 @@ fn even_prediction(rf: u32, rc: u32, rb: u32, rd: u32) -> u32
     requires { ⌜ (rf < 2 ^ 16) × ((rc < 2 ^ 16) × ((rb < 2 ^ 16) × (rd < 2 ^ 16))) ⌝ }
     ensures { λ r. ⌜ (r ≡ evenPrediction rf rc rb rd) × (r < 2 ^ 16) ⌝ }
 {
-    let f = numbers::distance(rf, rb);
+    // In the order of the context's difference, so that LLVM makes the distance once.
+    let f = numbers::distance(rb, rf);
     let c = numbers::distance(rc, rb);
     let d = numbers::distance(rd, rb);
     (rf + rc + rd - dropped(rf, rc, rd, f, c, d) + 2 * rb) / 4

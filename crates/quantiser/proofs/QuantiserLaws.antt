@@ -1,14 +1,15 @@
 -- What raw is, and how large total is. Assumes nothing.
 use mathlib.Core.Path.{_≡_, sym, _∙_}
 use Prim.Native.Nat.{ℕ, zero, suc, _+_, _-_, _*_, _/_, _^_, _≤_, _<_, zero-le}
-use native.Mathlib.Nat.{div-lt-iff-lt-mul, le-mul-of-pos-right, lt-of-lt-of-le, not-le-of-lt, lt-of-not-le}
+use native.Mathlib.Nat.{div-add-mod', mod-lt, add-mul, div-lt-iff-lt-mul, le-mul-of-pos-right, lt-of-lt-of-le, not-le-of-lt, lt-of-not-le}
 use native.Mathlib.Omega.{arith}
 use lib.Count.{leadingZeros, leading-length}
 use lib.Dec.{leb}
 use lib.Pow.{pow-pos, pow-mono}
-use borrow.Author.Tests.{le-leb, lt-leb}
+use borrow.Author.Tests.{le-leb, lt-leb, leb-true}
 use Rattle.numbers.specs.Numbers.{leastFrom}
 use Rattle.numbers.proofs.LeastLaws.{least, least-is}
+use Rattle.numbers.proofs.OrderLaws.{split}
 use Rattle.quantiser.specs.Quantisers.{largest, totalOf, rawOf}
 
 -- total is at most 2^bits, and not 0
@@ -25,6 +26,16 @@ total-le bits q =
 pub total-pos : (bits q : ℕ) → 1 ≤ totalOf bits q
 unfolding totalOf
 total-pos bits q = omega arith
+
+-- so many steps of 2q + 1 reach over all samples and q to either side
+pub total-wide : (bits q : ℕ) → largest bits + 2 * q < totalOf bits q * (2 * q + 1)
+unfolding totalOf
+total-wide bits q =
+    let n : ℕ = largest bits + 2 * q in
+    let d = div-add-mod' n (2 * q + 1) in
+    let m = mod-lt n {m = 2 * q + 1} (omega arith) in
+    let e = add-mul (n / (2 * q + 1)) 1 (2 * q + 1) in
+    omega arith
 
 -- the least number whose power of 2 reaches v, by the length of v - 1
 log2-by-length : (v m : ℕ) → 1 ≤ v → v - 1 < 2 ^ m → 2 ^ m ≤ 2 * (v - 1) + 1 → m ≤ 16 → leastFrom 16 (λ j. leb v (2 ^ j)) 0 ≡ m
@@ -51,3 +62,15 @@ log2-is v one le =
 
 pub log2-le : (v : ℕ) → leastFrom 16 (λ j. leb v (2 ^ j)) 0 ≤ 16
 log2-le v = least 16 (λ j. leb v (2 ^ j)) 0 .high
+
+-- the codes below total fit the long form
+pub raw-fits : (bits q : ℕ) → bits ≤ 16 → totalOf bits q ≤ 2 ^ rawOf bits q
+unfolding rawOf
+raw-fits bits q h =
+    let p : 2 ^ bits ≤ 2 ^ 16 = pow-mono h in
+    let v : ℕ = totalOf bits q in
+    let r : ℕ = leastFrom 16 (λ j. leb v (2 ^ j)) 0 in
+    let L = least 16 (λ j. leb v (2 ^ j)) 0 in
+    split 16 r
+    (λ g. let e : r ≡ 16 = omega (arith, L .high) in rw e (omega (arith, total-le bits q)))
+    (λ g. leb-true v (2 ^ r) (L .holds g))

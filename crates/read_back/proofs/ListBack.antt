@@ -82,10 +82,10 @@ module _ (bits W : ℕ) (s t : List ℕ) (n : ℕ) (Q : Lossless bits) where
   Stand l z = All (λ x. getD (z .lines) (cell W x) 0 ≡ wanted W t n x) l
 
   abbrev pub StepsForward : List Step → Reading → Reading → Type 0
-  StepsForward l r z = Together (CleanReading s) (writingOf s) (reads bits 0 W s l) (writes bits W t n l) r z × Stand l z
+  StepsForward l r z = Together (CleanReading s) (writingOf s) (reads bits 0 W s l) (writes bits 0 W true t n l) r z × Stand l z
 
   abbrev pub StepsBack : List Step → Reading → Reading → Type 0
-  StepsBack l r z = Back (CleanReading s) (writingOf s) (writes bits W t n l) r z
+  StepsBack l r z = Back (CleanReading s) (writingOf s) (writes bits 0 W true t n l) r z
 
   sound-next : (x : Step) (r z : Reading) → Sound bits W (r .lines) → readStep bits 0 W s x r ≡ some z → Sound bits W (z .lines)
   sound-next x r z ok e =
@@ -93,19 +93,19 @@ module _ (bits W : ℕ) (s t : List ℕ) (n : ℕ) (Q : Lossless bits) where
       record { long = k .lines ∙ ok .long; small = k .samples (ok .small) }
 
   -- what is written goes on with the steps that follow
-  stored-first : (l : List Step) (w : Writing) → StoredWriting s (writes bits W t n l w) → StoredWriting s w
+  stored-first : (l : List Step) (w : Writing) → StoredWriting s (writes bits 0 W true t n l w) → StoredWriting s w
   stored-first l w h =
-      stored-cut s (w .bits) ((writes bits W t n l (afresh w)) .bits) _ (w .wrong) (rw (writes-add bits W t n l w) at h)
-      (λ e. writes-right bits W t n l w (rw (writes-add bits W t n l w) e))
+      stored-cut s (w .bits) ((writes bits 0 W true t n l (afresh w)) .bits) _ (w .wrong) (rw (writes-add bits 0 W true t n l w) at h)
+      (λ e. writes-right bits 0 W true t n l w (rw (writes-add bits 0 W true t n l w) e))
 
   -- where the bits of the steps stand, the steps are read
   pub steps-forward : ((j : ℕ) → getD t j 0 ≤ largest bits) → (l : List Step) (r : Reading) → Sound bits W (r .lines) → All (InLines W) l → Apart W l → CleanReading s r
-      → StoredWriting s (writes bits W t n l (writingOf s r)) → (z : Reading) × StepsForward l r z
+      → StoredWriting s (writes bits 0 W true t n l (writingOf s r)) → (z : Reading) × StepsForward l r z
   unfolding reads writes
   steps-forward range [] r ok in-lines apart clean stored = (r, (record { read = refl; clean = clean; same = refl }, tt))
   steps-forward range (x ∷ l) r ok in-lines apart clean stored =
-      let w : Writing = writeStep bits W t n x (writingOf s r) in
-      let after : StoredWriting s (writes bits W t n l w) = stored in
+      let w : Writing = writeStep bits 0 W true t n x (writingOf s r) in
+      let after : StoredWriting s (writes bits 0 W true t n l w) = stored in
       let one = step-forward bits W s t n Q x r ok (in-lines .0) clean (range _) (stored-first l w after) in
       let y : Reading = one .0 in
       let T = one .1 .0 in
@@ -114,7 +114,7 @@ module _ (bits W : ℕ) (s t : List ℕ) (n : ℕ) (Q : Lossless bits) where
       let U = rest .1 .0 in (
         z,
         (
-          together-then (CleanReading s) (writingOf s) (readStep bits 0 W s x) (reads bits 0 W s l) (writeStep bits W t n x) (writes bits W t n l) r y z T U,
+          together-then (CleanReading s) (writingOf s) (readStep bits 0 W s x) (reads bits 0 W s l) (writeStep bits 0 W true t n x) (writes bits 0 W true t n l) r y z T U,
           (steps-leave bits 0 W s (cell W x) l y z (apart .0) (U .read) ∙ one .1 .1, rest .1 .1),
         ),
       )
@@ -131,5 +131,5 @@ module _ (bits W : ℕ) (s t : List ℕ) (n : ℕ) (Q : Lossless bits) where
       let y : Reading = f .0 in
       let rest : StepsBack l y z = steps-backward l y z (sound-next x r y ok (f .1)) (in-lines .1) (apart .1) (f .2) clean (stand .1) in
       let there : getD (y .lines) (cell W x) 0 ≡ wanted W t n x = sym (steps-leave bits 0 W s (cell W x) l y z (apart .0) (f .2)) ∙ stand .0 in
-      back-then (CleanReading s) (writingOf s) (writeStep bits W t n x) (writes bits W t n l) r y z
+      back-then (CleanReading s) (writingOf s) (writeStep bits 0 W true t n x) (writes bits 0 W true t n l) r y z
       (step-backward bits W s t n Q x r ok (in-lines .0) y (f .1) (rest .clean) there) rest

@@ -1,4 +1,5 @@
 -- A pass, read and written, by the samples of its two lines. Assumes nothing.
+use mathlib.Core.Bool.{true}
 use mathlib.Core.List.{List}
 use mathlib.Core.Logic.{_≢_}
 use mathlib.Core.Option.{some}
@@ -37,13 +38,13 @@ module _ (bits W : ℕ) (s t : List ℕ) (n : ℕ) (Q : Lossless bits) (P : Plan
 
   abbrev pub PassForward : Reading → Type 0
   PassForward z =
-      Together (CleanReading s) (writingOf s) (readPass bits 0 W s P) (writePass bits W t n P) r z × Holds W t n (z .lines) (P .first) × Holds W t n (z .lines) (P .second)
+      Together (CleanReading s) (writingOf s) (readPass bits 0 W s P) (writePass bits 0 W true t n P) r z × Holds W t n (z .lines) (P .first) × Holds W t n (z .lines) (P .second)
 
   abbrev pub PassBack : Reading → Type 0
-  PassBack z = Back (CleanReading s) (writingOf s) (writePass bits W t n P) r z
+  PassBack z = Back (CleanReading s) (writingOf s) (writePass bits 0 W true t n P) r z
 
   -- where the bits of a pass stand, the pass is read
-  pub pass-forward : Sound bits W (r .lines) → ((j : ℕ) → getD t j 0 ≤ largest bits) → CleanReading s r → StoredWriting s (writePass bits W t n P (writingOf s r))
+  pub pass-forward : Sound bits W (r .lines) → ((j : ℕ) → getD t j 0 ≤ largest bits) → CleanReading s r → StoredWriting s (writePass bits 0 W true t n P (writingOf s r))
       → (z : Reading) × PassForward z
   unfolding readPass writePass
   pass-forward ok range clean stored =

@@ -1,5 +1,5 @@
 -- One step, read and written: a tight code is read where its bits were written, and its bits are written where it was read. Assumes nothing.
-use mathlib.Core.Bool.{Bool, true, false, cond, _&&_}
+use mathlib.Core.Bool.{Bool, true, false, cond, not, _&&_}
 use mathlib.Core.List.{List, _++_}
 use mathlib.Core.Option.{none, some}
 use mathlib.Core.Path.{_≡_, refl, sym, _∙_, subst}
@@ -17,10 +17,12 @@ use Rattle.prediction.specs.declared.Context.{Context}
 use Rattle.code.specs.Codes.{codeAt}
 use Rattle.code.specs.Samples.{choiceOf, sampleOf}
 use Rattle.code.specs.Tight.{codeFor, codeBits, codeLength, isTight}
+use Rattle.code.specs.Nearest.{codeNear}
 use Rattle.code.specs.declared.Code.{Code}
 use Rattle.code.specs.declared.Coded.{Coded}
 use Rattle.code.specs.declared.Coded.the-variants.{Read, Truncated}
-use Rattle.code.proofs.SampleLaws.{OneToOne, one-to-one}
+use Rattle.code.proofs.SampleLaws.{OneToOne, one-to-one, sample-le}
+use Rattle.code.proofs.NearLaws.{near-exact}
 use Rattle.code.proofs.TightLaws.{length-codeBits, ReadBack, read-back, Stands, stands-there}
 use Rattle.steps.specs.Steps.{Step}
 use Rattle.steps.specs.Contexts.{lookOf, usedQuantiser, noRecord, stepPlace, stepContext, stepLook, stepSlot}
@@ -45,7 +47,7 @@ cell-lt W x h = let m : suc (x .line) * (W + 2) ≤ 18 * (W + 2) = mul-le-mul-ri
 and : (a b : Bool) → a ≡ true → b ≡ true → (a && b) ≡ true
 and a b e f = rw (e, f)
 
-told : (b : Bool) (j : ℕ) → cond b none (some j) ≡ none → b ≡ true
+told : (b : Bool) (j : ℕ) → cond (not b) (some j) none ≡ none → b ≡ true
 told true j e = refl
 told false j e = let no : _≡_ {A = ℕ} 0 1 = cc in absurd (omega arith)
 
@@ -99,22 +101,26 @@ module _ (bits W : ℕ) (s t : List ℕ) (n : ℕ) (Q : Lossless bits) (x : Step
   -- the step is read, it is written, and its sample stands
   abbrev pub StepForward : Reading → Type 0
   StepForward z =
-      Together (CleanReading s) (writingOf s) (readStep bits 0 W s x) (writeStep bits W t n x) r z × (getD (z .lines) (stepPlace W x + 1) 0 ≡ wanted W t n x)
+      Together (CleanReading s) (writingOf s) (readStep bits 0 W s x) (writeStep bits 0 W true t n x) r z × (getD (z .lines) (stepPlace W x + 1) 0 ≡ wanted W t n x)
 
   abbrev pub StepBack : Reading → Type 0
-  StepBack z = Back (CleanReading s) (writingOf s) (writeStep bits W t n x) r z
+  StepBack z = Back (CleanReading s) (writingOf s) (writeStep bits 0 W true t n x) r z
 
   -- ---- with a code
 
   abbrev after : Code → Reading
   after d = takeCode bits 0 i slot c h d r
 
+  -- the nearest sample is the wanted one itself
+  exact : v ≤ M → codeNear 0 ((usedQuantiser bits 0 0) .total) (h .negative) (c .prediction) v ≡ code
+  exact small = rw (Q .total) (near-exact bits (Q .low) (h .negative) (c .prediction) v (context-le M (r .lines) (W + 2) i (x .position) (ok .small)) small)
+
   -- the code that was read is the one that is written, with its bits
-  same-code : (d : Code) → x .coded ≡ true → d .value ≡ code → sample (d .value) ≡ v → take (d .after .0) (bitsOf s) ≡ take p (bitsOf s) ++ codeBits k limit raw code
-      → writeStep bits W t n x (writingOf s r) ≡ writingOf s (after d)
+  same-code : (d : Code) → x .coded ≡ true → v ≤ M → d .value ≡ code → take (d .after .0) (bitsOf s) ≡ take p (bitsOf s) ++ codeBits k limit raw code
+      → writeStep bits 0 W true t n x (writingOf s r) ≡ writingOf s (after d)
   unfolding lookOf choiceOf
-  same-code d e value is bits-are =
-      write-coded bits W t n x (writingOf s r) e ∙ rw (Q .total, is, value, bits-are)
+  same-code d e small value bits-are =
+      write-coded bits 0 W true t n x (writingOf s r) e ∙ rw (exact small, value, bits-are)
 
   -- its bits are read where they stand
   coded-forward : x .coded ≡ true → CleanReading s r → v ≤ M → Starts s (take p (bitsOf s) ++ codeBits k limit raw code) → (z : Reading) × StepForward z
@@ -132,7 +138,7 @@ module _ (bits W : ℕ) (s t : List ℕ) (n : ℕ) (Q : Lossless bits) (x : Step
           record {
             read = step-read bits 0 W s x r (b .code) e (b .read);
             clean = record { tight = and (r .tight) (isTight M (b .code)) (clean .tight) (b .tight); inside = omega (arith, b .after) };
-            same = same-code (b .code) e (b .value) is (taken-more s p (b .code .after .0) m (clean .inside) (omega (arith, b .after)) (rw (b .rest-after) d));
+            same = same-code (b .code) e small (b .value) (taken-more s p (b .code .after .0) m (clean .inside) (omega (arith, b .after)) (rw (b .rest-after) d));
           },
           put-there _ ∙ rw (Q .total) is,
         ),
@@ -151,7 +157,7 @@ module _ (bits W : ℕ) (s t : List ℕ) (n : ℕ) (Q : Lossless bits) (x : Step
       let before : p ≤ 8 * length s = omega (arith, b .after, clean .inside) in
       record {
         clean = record { tight = ts .0; inside = before };
-        same = same-code d e value is (rw (← value) (taken-more s p (d .after .0) m before (omega (arith, b .after)) (b .there)));
+        same = same-code d e (rw (← is) (sample-le M 0 (suc M) (h .negative) (c .prediction) (d .value))) value (rw (← value) (taken-more s p (d .after .0) m before (omega (arith, b .after)) (b .there)));
       }
 
   -- ---- without a code
@@ -159,11 +165,11 @@ module _ (bits W : ℕ) (s t : List ℕ) (n : ℕ) (Q : Lossless bits) (x : Step
   abbrev between : Reading
   between = interpolate i c r
 
-  same-interpolated : x .coded ≡ false → v ≡ c .prediction → writeStep bits W t n x (writingOf s r) ≡ writingOf s between
+  same-interpolated : x .coded ≡ false → v ≡ c .prediction → writeStep bits 0 W true t n x (writingOf s r) ≡ writingOf s between
   same-interpolated e is =
-      write-interpolated bits W t n x (writingOf s r) e ∙ rw (eq-eqb v (c .prediction) is, is)
+      write-interpolated bits 0 W true t n x (writingOf s r) e ∙ rw (eq-eqb v (c .prediction) is)
 
-  interpolated-forward : x .coded ≡ false → CleanReading s r → cond (eqb v (c .prediction)) none (some (indexIn W n (x .line) (x .position))) ≡ none → (z : Reading) × StepForward z
+  interpolated-forward : x .coded ≡ false → CleanReading s r → cond (not (eqb v (c .prediction))) (some (indexIn W n (x .line) (x .position))) none ≡ none → (z : Reading) × StepForward z
   interpolated-forward e clean right =
       let is : v ≡ c .prediction = eqb-true v (c .prediction) (told (eqb v (c .prediction)) (indexIn W n (x .line) (x .position)) right) in (
         between,
@@ -174,13 +180,13 @@ module _ (bits W : ℕ) (s t : List ℕ) (n : ℕ) (Q : Lossless bits) (x : Step
 
   -- where the bits of a step stand, the step is read
   pub step-forward : CleanReading s r → wanted W t n x ≤ largest bits
-      → StoredWriting s (writeStep bits W t n x (writingOf s r)) → (z : Reading) × StepForward z
+      → StoredWriting s (writeStep bits 0 W true t n x (writingOf s r)) → (z : Reading) × StepForward z
   unfolding lookOf choiceOf
   step-forward clean small stored = go (x .coded) refl
     where
       go : (b : Bool) → x .coded ≡ b → (z : Reading) × StepForward z
-      go true e = coded-forward e clean small (rw (write-coded bits W t n x (writingOf s r) e) at (stored .starts))
-      go false e = interpolated-forward e clean (rw (write-interpolated bits W t n x (writingOf s r) e) at (stored .right))
+      go true e = coded-forward e clean small (rw (exact small) at (rw (write-coded bits 0 W true t n x (writingOf s r) e) at (stored .starts)))
+      go false e = interpolated-forward e clean (rw (write-interpolated bits 0 W true t n x (writingOf s r) e) at (stored .right))
 
   -- where a step was read, its bits stand
   pub step-backward : (z : Reading) → readStep bits 0 W s x r ≡ some z → CleanReading s z → getD (z .lines) (stepPlace W x + 1) 0 ≡ wanted W t n x → StepBack z

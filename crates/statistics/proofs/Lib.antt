@@ -1,2 +1,3 @@
 -- Laws about the definitions of statistics.
 pub mod RecordLaws
+pub mod LengthLaws

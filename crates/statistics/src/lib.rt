@@ -47,6 +47,18 @@ impl Record {
         too_small_from(self.sum, self.n, 0)
     }
 
+    // The same k without a search: the lengths of sum and n in binary digits tell it but for one.
+    pub fn k_by_lengths(self) -> u32
+        requires { ⌜ InRange self ⌝ }
+        ensures { λ r. ⌜ (r ≡ kOf self) × (r ≤ 15) ⌝ }
+    {
+        let least = numbers::saturating_sub(
+            u32::leading_zeros(self.n),
+            u32::leading_zeros(self.sum),
+        );
+        numbers::smaller(15, least + numbers::flag(self.n << least < self.sum))
+    }
+
     // The record after a residual of that size. `halved` is 1 where both are to be halved, so that there is no branch.
     pub fn update(self, size: u32) -> Record
         requires { ⌜ InRange self × (size ≤ largestResidual) ⌝ }

@@ -5,3 +5,4 @@ pub mod ZipLaws
 pub mod ContextLaws
 pub mod TurnLaws
 pub mod ScheduleLaws
+pub mod KLaws

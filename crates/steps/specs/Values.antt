@@ -2,8 +2,8 @@
 use mathlib.Core.List.{List, [], _∷_}
 use mathlib.Core.Path.{_≡_}
 use Prim.Native.Nat.{ℕ, _≤_, _<_}
-use lib.ListN.{getD}
-use Rattle.statistics.specs.Statistics.{InRange}
+use lib.ListN.{length, getD}
+use Rattle.statistics.specs.Statistics.{kOf, InRange}
 use Rattle.statistics.specs.declared.Record.{Record}
 use Rattle.steps.specs.Contexts.{usedQuantiser, noRecord}
 use Rattle.steps.specs.declared.Plan.{Plan}
@@ -22,6 +22,11 @@ recordsOf t = zipRecords (t .sums) (t .ns)
 -- every record of a set is in range
 abbrev pub SetInRange : List Record → Type 0
 SetInRange l = (j : ℕ) → j < 112 → InRange (getD l j noRecord)
+
+-- the k of each record of a set, as a pass keeps them beside it
+pub record AreKs (l : List Record) (ks : List ℕ) : Type 0 where
+  pub all : length ks ≡ 112
+  pub each : (j : ℕ) → j < 112 → getD ks j 0 ≡ kOf (getD l j noRecord)
 
 -- the quantisers of a line with base q: the main one, then the flat ones
 unfoldable pub quantisersOf : ℕ → ℕ → Quantisers

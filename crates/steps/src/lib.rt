@@ -8,7 +8,7 @@ ghost use Rattle.prediction.specs.Predictions.{ContextRanges};
 ghost use Rattle.code.specs.Samples.{residualOf};
 ghost use Rattle.steps.specs.Steps.{interpolated, planOf};
 ghost use Rattle.steps.specs.Contexts.{evenAt, oddAt, contextAt, usedBase, usedWeight, placeOf, lookOf, slotOf, noRecord};
-ghost use Rattle.steps.specs.Values.{zipRecords, SetInRange};
+ghost use Rattle.steps.specs.Values.{zipRecords, SetInRange, AreKs};
 use numbers::u16_to_u32;
 use prediction::Context;
 use statistics::Record;
@@ -261,4 +261,47 @@ pub fn update_at(sums: &mut [u32; 112], ns: &mut [u32; 112], slot: usize, old: R
     let new = old.update(code::residual_size(code));
     sums[slot] = new.sum;
     ns[slot] = new.n;
+}
+
+// The k of each record of a set. Reading keeps them beside the set: it needs one for each code, and finding it then would hold the code up.
+pub fn ks_of(sums: &[u32; 112], ns: &[u32; 112]) -> [u32; 112]
+    requires { ⌜ SetInRange (zipRecords (now sums) (now ns)) ⌝ }
+    ensures { λ r. ⌜ AreKs (zipRecords (now (sums .entry)) (now (ns .entry))) r ⌝ }
+{
+    let mut ks = [0u32; 112];
+    let mut j = 0usize;
+    while j < 112 {
+        ks[j] = record_at(sums, ns, j).k_by_lengths();
+        j += 1;
+    }
+    ks
+}
+
+// The k at a place of a set.
+pub fn k_at(ks: &[u32; 112], slot: usize) -> u32
+    requires { ⌜ slot < 112 ⌝ }
+    ensures { λ r. ⌜ r ≡ getD (now (ks .entry)) slot 0 ⌝ }
+{
+    ks[slot]
+}
+
+// `update_at` for a set that has its ks beside it.
+pub fn update_with_k(
+    sums: &mut [u32; 112],
+    ns: &mut [u32; 112],
+    ks: &mut [u32; 112],
+    slot: usize,
+    old: Record,
+    code: u32,
+)
+    requires { ⌜ (code < 63 * 2 ^ 15) × ((slot < 112) × InRange old) ⌝ }
+    requires { ⌜ SetInRange (zipRecords (now sums) (now ns)) ⌝ }
+    requires { ⌜ AreKs (zipRecords (now sums) (now ns)) (now ks) ⌝ }
+    ensures { λ _. ⌜ zipRecords (now (sums .exit)) (now (ns .exit))
+        ≡ set (zipRecords (now (sums .entry)) (now (ns .entry))) slot (updated old ((residualOf code) .size)) ⌝ }
+    ensures { λ _. ⌜ SetInRange (zipRecords (now (sums .exit)) (now (ns .exit))) ⌝ }
+    ensures { λ _. ⌜ AreKs (zipRecords (now (sums .exit)) (now (ns .exit))) (now (ks .exit)) ⌝ }
+{
+    update_at(sums, ns, slot, old, code);
+    ks[slot] = record_at(sums, ns, slot).k_by_lengths();
 }

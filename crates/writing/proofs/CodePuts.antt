@@ -3,11 +3,11 @@ use mathlib.Core.Bool.{Bool, true, false}
 use mathlib.Core.List.{List, _∷_}
 use mathlib.Core.Path.{_≡_, refl}
 use Prim.Native.Nat.{ℕ, _+_, _-_, _*_, _/_, _%_, _^_, _≤_, _<_}
-use native.Mathlib.Nat.{zero-add, zero-mul, one-mul, add-assoc, mod-lt}
+use native.Mathlib.Nat.{zero-add, zero-mul, one-mul, add-assoc, mod-lt, div-lt-iff-lt-mul}
 use native.Mathlib.Numerals.{one-add}
 use native.Mathlib.Omega.{arith}
 use lib.ListN.{length}
-use lib.Pow.{pow-pos, pow-add, high, low}
+use lib.Pow.{pow-pos, pow-add, pow-mono, high, low}
 use borrow.Author.Tests.{lt-ltb, le-ltb}
 use Rattle.numbers.proofs.OrderLaws.{split}
 use Rattle.bits.specs.BitLists.{binary, bytesFor}
@@ -42,6 +42,15 @@ code-digits k limit raw c hl hc =
     split limit (c / 2 ^ k)
     (λ h. rw (le-ltb (c / 2 ^ k) limit h) (run-number limit raw (c - 1) (omega (arith, pow-pos raw))))
     (λ h. rw (lt-ltb (c / 2 ^ k) limit h) (run-number (c / 2 ^ k) k (c % 2 ^ k) (mod-lt c (pow-pos k))))
+
+-- a short code has at most 64 bits too: its zeros stay below limit, and where k is raw or more there is at most one
+pub short-le : (k limit raw c : ℕ) → k ≤ 15 → limit + raw < 64 → c ≤ 2 ^ raw → c / 2 ^ k < limit → c / 2 ^ k + 1 + k ≤ 64
+short-le k limit raw c hk hl hc h =
+    split raw k
+    (λ g. let p : 2 ^ raw ≤ 2 ^ k = pow-mono g in
+    let z : c / 2 ^ k < 2 = div-lt-iff-lt-mul {k = 2 ^ k} (pow-pos k) .1 (omega (arith, pow-pos k)) in
+    omega arith)
+    (λ g. omega arith)
 
 -- ---- in the output
 

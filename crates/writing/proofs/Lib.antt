@@ -2,6 +2,7 @@
 pub mod SetLaws
 pub mod WriteLaws
 pub mod LosslessLaws
+pub mod ChosenLaws
 pub mod CodePuts
 pub mod StepPuts
 pub mod SitePuts

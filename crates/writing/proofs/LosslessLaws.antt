@@ -1,12 +1,13 @@
--- The quantiser of a lossless block. Assumes nothing.
+-- The quantiser of a lossless block, and the numbers of any other. Assumes nothing.
 use mathlib.Core.Path.{_≡_}
-use Prim.Native.Nat.{ℕ, suc, _^_, _≤_, _<_, zero-le}
+use Prim.Native.Nat.{ℕ, suc, _+_, _^_, _≤_, _<_, zero-le}
 use native.Mathlib.Omega.{arith}
 use lib.Dec.{leb}
 use lib.Pow.{pow-pos, pow-mono}
 use borrow.Author.Tests.{le-leb, lt-leb}
 use Rattle.numbers.proofs.LeastLaws.{least-is}
 use Rattle.quantiser.specs.Quantisers.{largest, totalOf, rawOf, quantiserOf}
+use Rattle.quantiser.proofs.QuantiserLaws.{total-le, raw-fits, log2-le}
 use Rattle.steps.specs.Contexts.{usedQuantiser}
 
 -- total is M + 1, and the codes of all samples fit the long form
@@ -17,7 +18,7 @@ pub record Lossless (bits : ℕ) : Type 0 where
   pub raw : largest bits ≤ 2 ^ (usedQuantiser bits 0 0) .raw
   pub limit : 0 < (usedQuantiser bits 0 0) .limit
 
-total-is : (bits : ℕ) → totalOf bits 0 ≡ 2 ^ bits
+pub total-is : (bits : ℕ) → totalOf bits 0 ≡ 2 ^ bits
 unfolding totalOf
 total-is bits = omega (arith, pow-pos bits)
 
@@ -28,10 +29,18 @@ raw-is bits h =
     (λ j a b. rw (total-is bits) (let p : 2 ^ suc j ≤ 2 ^ bits = pow-mono b in lt-leb (2 ^ bits) (2 ^ j) (omega (arith, pow-pos j))))
     (rw (total-is bits) (le-leb (2 ^ bits) (2 ^ bits) (omega arith)))
 
--- the numbers of its codes
-pub code-numbers : (bits : ℕ) → 12 ≤ bits → bits ≤ 16 → let Q = usedQuantiser bits 0 0 in (1 ≤ Q .limit) × (Q .limit ≤ 47) × (Q .raw ≤ 16) × (largest bits ≤ 2 ^ Q .raw)
+raw-le : (bits q : ℕ) → rawOf bits q ≤ 16
+unfolding rawOf
+raw-le bits q = log2-le (totalOf bits q)
+
+-- the numbers by which any quantiser's codes are put
+pub code-numbers : (bits q weight : ℕ) → 12 ≤ bits → bits ≤ 16 → let Q = quantiserOf bits q weight in
+    (1 ≤ Q .limit) × (Q .limit + Q .raw < 64) × (Q .raw ≤ 16) × (Q .total ≤ 2 ^ Q .raw) × (Q .total ≤ 2 ^ 16)
 unfolding quantiserOf
-code-numbers bits low high = rw (raw-is bits high) (omega arith, omega arith, high, omega arith)
+code-numbers bits q weight low high =
+    let n = raw-le bits q in
+    let p : 2 ^ bits ≤ 2 ^ 16 = pow-mono high in
+    (omega arith, omega arith, n, raw-fits bits q high, omega (arith, total-le bits q))
 
 pub lossless : (bits : ℕ) → 1 ≤ bits → bits ≤ 16 → Lossless bits
 unfolding quantiserOf

@@ -1,6 +1,6 @@
 -- The turns of a pass that puts its bits, and what the pass hands back. Assumes nothing.
 use mathlib.Core.Bool.{Bool, true, false}
-use mathlib.Core.List.{List, _++_, append-assoc}
+use mathlib.Core.List.{List, [], _∷_, _++_, append-assoc}
 use mathlib.Core.Option.{Option, none, some}
 use mathlib.Core.Path.{_≡_, refl, ap, _∙_}
 use Prim.Native.Nat.{ℕ, zero, suc, _+_, _-_, _*_, _/_, _%_, _≤_, _<_}
@@ -11,8 +11,9 @@ use Rattle.bits.specs.declared.BitPosition.{BitPosition}
 use Rattle.steps.specs.Steps.{Step, evenPart, oddPart, turnSteps, upto, passSteps}
 use Rattle.steps.specs.declared.Plan.{Plan}
 use Rattle.steps.proofs.TurnLaws.{turn-is, evens-le, turns-le}
+use Rattle.writing.specs.Sets.{indexIn}
 use Rattle.writing.specs.Writings.{Writing, writes, writePass}
-use Rattle.writing.specs.Puts.{Room, startOf, StepsRoom, IsPut, StepsPut, wrongAt, IsPassPut}
+use Rattle.writing.specs.Puts.{Room, Within, Wanted, startOf, StepsRoom, IsPut, StepsPut, wrongAt, IsPassPut}
 use Rattle.writing.specs.declared.Put.{Put}
 use Rattle.writing.specs.declared.Put.the-variants.{At, Wrong}
 use Rattle.writing.specs.declared.PassPut.{PassPut}
@@ -43,38 +44,72 @@ before-le W P p = omega (arith, turns-le W P (p / 2))
 pub before-evens-le : (W : ℕ) (P : Plan) (p : ℕ) → length (before W P p ++ evenPart W P p) ≤ 2 * p + 2
 before-evens-le W P p = rw length-append (omega (arith, before-le W P p, evens-le W P p))
 
+-- ---- the samples with a code, of the steps of a turn
+
+module _ (M W : ℕ) (t : List ℕ) (n : ℕ) where
+  wanted-left : (k l : List Step) → Wanted M W t n (k ++ l) → Wanted M W t n k
+  wanted-left [] l h = tt
+  wanted-left (x ∷ k) l h = (h .0, wanted-left k l (h .1))
+
+  wanted-right : (k l : List Step) → Wanted M W t n (k ++ l) → Wanted M W t n l
+  wanted-right [] l h = h
+  wanted-right (x ∷ k) l h = wanted-right k l (h .1)
+
+  wanted-upto : (f : ℕ → List Step) (i m : ℕ) → Wanted M W t n (upto f (i + m)) → Wanted M W t n (upto f i)
+  unfolding upto
+  wanted-upto f i zero h = rw (add-zero i) at h
+  wanted-upto f i (suc m) h = wanted-upto f i m (wanted-left (upto f (i + m)) (f (i + m)) (rw (add-suc i m) at h))
+
+  module _ (P : Plan) (p : ℕ) (even : p % 2 ≡ 0) (width : W % 2 ≡ 0) (h : p < W + 8) (wanted : Wanted M W t n (passSteps W P)) where
+    wanted-turn : Wanted M W t n ((before W P p ++ evenPart W P p) ++ oddPart P p)
+    unfolding passSteps
+    wanted-turn =
+        let count : W / 2 + 4 ≡ suc (p / 2) + (W / 2 + 3 - p / 2) = omega arith in
+        rw (turn-next W P p even) (wanted-upto (turnSteps W P) (suc (p / 2)) (W / 2 + 3 - p / 2) (rw count at wanted))
+
+    pub wanted-even : Wanted M W t n (evenPart W P p)
+    wanted-even = wanted-right (before W P p) (evenPart W P p) (wanted-left (before W P p ++ evenPart W P p) (oddPart P p) wanted-turn)
+
+    pub wanted-odd : Wanted M W t n (oddPart P p)
+    wanted-odd = wanted-right (before W P p ++ evenPart W P p) (oddPart P p) wanted-turn
+
+-- where all samples of a set are up to M, those of any steps are
+pub all-wanted : (M W : ℕ) (t : List ℕ) (n : ℕ) (l : List Step) → Within M t → Wanted M W t n l
+all-wanted M W t n [] h = tt
+all-wanted M W t n (x ∷ l) h = (λ e. h (indexIn W n (x .line) (x .position)), all-wanted M W t n l h)
+
 -- ---- room for the turns so far, and a turn that is wrong
 
-module _ (bits W : ℕ) (t : List ℕ) (n : ℕ) (P : Plan) (store : Bool) (from : ℕ) (lines sums ns out : List ℕ) where
-  shorter : (f : ℕ → List Step) (i m : ℕ) → StepsRoom bits W t n (upto f (i + m)) store from lines sums ns out → StepsRoom bits W t n (upto f i) store from lines sums ns out
+module _ (bits q W : ℕ) (strict : Bool) (t : List ℕ) (n : ℕ) (P : Plan) (store : Bool) (from : ℕ) (lines sums ns out : List ℕ) where
+  shorter : (f : ℕ → List Step) (i m : ℕ) → StepsRoom bits q W strict t n (upto f (i + m)) store from lines sums ns out → StepsRoom bits q W strict t n (upto f i) store from lines sums ns out
   unfolding upto
   shorter f i zero h = rw (add-zero i) at h
-  shorter f i (suc m) h = shorter f i m (first-room bits W t n (upto f (i + m)) (f (i + m)) store from lines sums ns out (rw (add-suc i m) at h))
+  shorter f i (suc m) h = shorter f i m (first-room bits q W strict t n (upto f (i + m)) (f (i + m)) store from lines sums ns out (rw (add-suc i m) at h))
 
   -- there is room for a pass
   abbrev pub PassRoom : Type 0
-  PassRoom = Room store out from ((writePass bits W t n P (startOf lines sums ns)) .bits)
+  PassRoom = Room store out from ((writePass bits q W strict t n P (startOf lines sums ns)) .bits)
 
   module _ (p : ℕ) (even : p % 2 ≡ 0) (width : W % 2 ≡ 0) (h : p < W + 8) where
     count : W / 2 + 4 ≡ suc (p / 2) + (W / 2 + 3 - p / 2)
     count = omega arith
 
-    pub room-turn : PassRoom → StepsRoom bits W t n ((before W P p ++ evenPart W P p) ++ oddPart P p) store from lines sums ns out
+    pub room-turn : PassRoom → StepsRoom bits q W strict t n ((before W P p ++ evenPart W P p) ++ oddPart P p) store from lines sums ns out
     unfolding writePass passSteps
     room-turn r = rw (turn-next W P p even) (shorter (turnSteps W P) (suc (p / 2)) (W / 2 + 3 - p / 2) (rw count at r))
 
-    pub room-evens : PassRoom → StepsRoom bits W t n (before W P p ++ evenPart W P p) store from lines sums ns out
-    room-evens r = first-room bits W t n (before W P p ++ evenPart W P p) (oddPart P p) store from lines sums ns out (room-turn r)
+    pub room-evens : PassRoom → StepsRoom bits q W strict t n (before W P p ++ evenPart W P p) store from lines sums ns out
+    room-evens r = first-room bits q W strict t n (before W P p ++ evenPart W P p) (oddPart P p) store from lines sums ns out (room-turn r)
 
     module _ (lines' sums' ns' out' : List ℕ) (r : Put) (j : ℕ) (e : r ≡ Wrong j) where
-      longer : (f : ℕ → List Step) (i m : ℕ) → StepsPut bits W t n (upto f i) store from lines sums ns out lines' sums' ns' out' r
-          → StepsPut bits W t n (upto f (i + m)) store from lines sums ns out lines' sums' ns' out' r
+      longer : (f : ℕ → List Step) (i m : ℕ) → StepsPut bits q W strict t n (upto f i) store from lines sums ns out lines' sums' ns' out' r
+          → StepsPut bits q W strict t n (upto f (i + m)) store from lines sums ns out lines' sums' ns' out' r
       unfolding upto
       longer f i zero g = rw (add-zero i) g
       longer f i (suc m) g = rw (add-suc i m) (ends (longer f i m g) (f (i + m)) e)
 
-      pub turn-wrong : StepsPut bits W t n ((before W P p ++ evenPart W P p) ++ oddPart P p) store from lines sums ns out lines' sums' ns' out' r
-          → StepsPut bits W t n (passSteps W P) store from lines sums ns out lines' sums' ns' out' r
+      pub turn-wrong : StepsPut bits q W strict t n ((before W P p ++ evenPart W P p) ++ oddPart P p) store from lines sums ns out lines' sums' ns' out' r
+          → StepsPut bits q W strict t n (passSteps W P) store from lines sums ns out lines' sums' ns' out' r
       unfolding passSteps
       turn-wrong g = rw count (longer (turnSteps W P) (suc (p / 2)) (W / 2 + 3 - p / 2) (rw (turn-next W P p even) at g))
 
@@ -92,18 +127,18 @@ mistaken : (o : Option ℕ) (z : Writing) (store : Bool) (from : ℕ) (out lines
 mistaken none z store from out lines' sums' ns' out' r j q g e f w = let no : _≡_ {A = ℕ} 0 1 = cc in absurd (omega arith)
 mistaken (some i) z store from out lines' sums' ns' out' r j q g e f w = record { ok = f; index = w ∙ ap (λ (x : Put). wrongAt x) (g .0); output = g .1 }
 
-module _ {bits W : ℕ} {t : List ℕ} {n : ℕ} (P : Plan) {store : Bool} {from : ℕ} {lines sums ns out lines' sums' ns' out' : List ℕ} {r : Put}
-    (g : StepsPut bits W t n (passSteps W P) store from lines sums ns out lines' sums' ns' out' r) where
-  pub pass-right : {at : BitPosition} → r ≡ At at → let z = writePass bits W t n P (startOf lines sums ns) in
+module _ {bits q W : ℕ} {strict : Bool} {t : List ℕ} {n : ℕ} (P : Plan) {store : Bool} {from : ℕ} {lines sums ns out lines' sums' ns' out' : List ℕ} {r : Put}
+    (g : StepsPut bits q W strict t n (passSteps W P) store from lines sums ns out lines' sums' ns' out' r) where
+  pub pass-right : {at : BitPosition} → r ≡ At at → let z = writePass bits q W strict t n P (startOf lines sums ns) in
       IsPassPut (z .wrong) z from store out lines' out' (record { ok = true; wrong = 0; at = at; set = record { sums = sums'; ns = ns' } })
   unfolding writePass
   pass-right {at} e =
-      let z : Writing = writes bits W t n (passSteps W P) (startOf lines sums ns) in
+      let z : Writing = writes bits q W strict t n (passSteps W P) (startOf lines sums ns) in
       right (z .wrong) z store from out lines' sums' ns' out' at (rw e at (g .are))
 
-  pub pass-wrong : {j : ℕ} (q : PassPut) → r ≡ Wrong j → q .ok ≡ false → q .wrong ≡ wrongAt r → let z = writePass bits W t n P (startOf lines sums ns) in
-      IsPassPut (z .wrong) z from store out lines' out' q
+  pub pass-wrong : {j : ℕ} (y : PassPut) → r ≡ Wrong j → y .ok ≡ false → y .wrong ≡ wrongAt r → let z = writePass bits q W strict t n P (startOf lines sums ns) in
+      IsPassPut (z .wrong) z from store out lines' out' y
   unfolding writePass
-  pass-wrong {j} q e f w =
-      let z : Writing = writes bits W t n (passSteps W P) (startOf lines sums ns) in
-      mistaken (z .wrong) z store from out lines' sums' ns' out' r j q (g .are) e f w
+  pass-wrong {j} y e f w =
+      let z : Writing = writes bits q W strict t n (passSteps W P) (startOf lines sums ns) in
+      mistaken (z .wrong) z store from out lines' sums' ns' out' r j y (g .are) e f w

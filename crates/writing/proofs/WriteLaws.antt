@@ -18,16 +18,16 @@ use Rattle.writing.specs.Writings.{Writing, orSecond, passOver, putCode,
 abbrev pub wanted : ℕ → List ℕ → ℕ → Step → ℕ
 wanted W t n x = getD t (indexIn W n (x .line) (x .position)) 0
 
-module _ (bits W : ℕ) (t : List ℕ) (n : ℕ) (x : Step) (r : Writing) where
+module _ (bits q W : ℕ) (strict : Bool) (t : List ℕ) (n : ℕ) (x : Step) (r : Writing) where
   pub write-coded : x .coded ≡ true
-      → writeStep bits W t n x r
-      ≡ putCode bits (stepPlace W x) (stepSlot 0 W x (r .lines)) (wanted W t n x) (stepContext W x (r .lines)) (stepLook 0 W x (r .lines)) r
+      → writeStep bits q W strict t n x r
+      ≡ putCode bits q (stepPlace W x) (stepSlot q W x (r .lines)) (wanted W t n x) (stepContext W x (r .lines)) (stepLook q W x (r .lines)) r
   unfolding writeStep
   write-coded e = rw e
 
   pub write-interpolated : x .coded ≡ false
-      → writeStep bits W t n x r
-      ≡ passOver (stepPlace W x) (indexIn W n (x .line) (x .position)) (wanted W t n x) (stepContext W x (r .lines)) r
+      → writeStep bits q W strict t n x r
+      ≡ passOver strict (stepPlace W x) (indexIn W n (x .line) (x .position)) (wanted W t n x) (stepContext W x (r .lines)) r
   unfolding writeStep
   write-interpolated e = rw e
 
@@ -40,9 +40,9 @@ after l r = record { lines = r .lines; set = r .set; bits = l ++ r .bits; wrong 
 abbrev pub afresh : Writing → Writing
 afresh r = record { lines = r .lines; set = r .set; bits = []; wrong = r .wrong }
 
-module _ (bits W : ℕ) (t : List ℕ) (n : ℕ) (l : List Bool) where
+module _ (bits q W : ℕ) (strict : Bool) (t : List ℕ) (n : ℕ) (l : List Bool) where
   -- a step adds the same bits, whatever stands before
-  pub step-after : (x : Step) (r : Writing) → writeStep bits W t n x (after l r) ≡ after l (writeStep bits W t n x r)
+  pub step-after : (x : Step) (r : Writing) → writeStep bits q W strict t n x (after l r) ≡ after l (writeStep bits q W strict t n x r)
   unfolding writeStep
   step-after x r = go (x .coded)
     where
@@ -50,36 +50,36 @@ module _ (bits W : ℕ) (t : List ℕ) (n : ℕ) (l : List Bool) where
       c = stepContext W x (r .lines)
 
       put : Writing → Writing
-      put y = putCode bits (stepPlace W x) (stepSlot 0 W x (r .lines)) (wanted W t n x) c (stepLook 0 W x (r .lines)) y
+      put y = putCode bits q (stepPlace W x) (stepSlot q W x (r .lines)) (wanted W t n x) c (stepLook q W x (r .lines)) y
 
       pass : Writing → Writing
-      pass y = passOver (stepPlace W x) (indexIn W n (x .line) (x .position)) (wanted W t n x) c y
+      pass y = passOver strict (stepPlace W x) (indexIn W n (x .line) (x .position)) (wanted W t n x) c y
 
       go : (b : Bool) → cond b (put (after l r)) (pass (after l r)) ≡ after l (cond b (put r) (pass r))
       go true = rw (append-assoc l (r .bits) _)
       go false = refl
 
-  pub writes-after : (k : List Step) (r : Writing) → writes bits W t n k (after l r) ≡ after l (writes bits W t n k r)
+  pub writes-after : (k : List Step) (r : Writing) → writes bits q W strict t n k (after l r) ≡ after l (writes bits q W strict t n k r)
   unfolding writes
   writes-after [] r = refl
-  writes-after (x ∷ k) r = rw (step-after x r) (writes-after k (writeStep bits W t n x r))
+  writes-after (x ∷ k) r = rw (step-after x r) (writes-after k (writeStep bits q W strict t n x r))
 
-  pub pass-after : (P : Plan) (r : Writing) → writePass bits W t n P (after l r) ≡ after l (writePass bits W t n P r)
+  pub pass-after : (P : Plan) (r : Writing) → writePass bits q W strict t n P (after l r) ≡ after l (writePass bits q W strict t n P r)
   unfolding writePass
   pass-after P r = writes-after (passSteps W P) r
 
-module _ (bits W : ℕ) (t : List ℕ) (n : ℕ) where
+module _ (bits q W : ℕ) (strict : Bool) (t : List ℕ) (n : ℕ) where
   -- so what a list of steps writes is what was there, and the bits of the steps alone
-  pub writes-add : (k : List Step) (r : Writing) → writes bits W t n k r ≡ after (r .bits) (writes bits W t n k (afresh r))
+  pub writes-add : (k : List Step) (r : Writing) → writes bits q W strict t n k r ≡ after (r .bits) (writes bits q W strict t n k (afresh r))
   writes-add k r =
       let e : after (r .bits) (afresh r) ≡ r = rw (append-nil (r .bits)) in
-      rw e at (writes-after bits W t n (r .bits) k (afresh r))
+      rw e at (writes-after bits q W strict t n (r .bits) k (afresh r))
 
   -- the second part goes on where the first ends
-  pub writes-append : (k l : List Step) (r : Writing) → writes bits W t n (k ++ l) r ≡ writes bits W t n l (writes bits W t n k r)
+  pub writes-append : (k l : List Step) (r : Writing) → writes bits q W strict t n (k ++ l) r ≡ writes bits q W strict t n l (writes bits q W strict t n k r)
   unfolding writes
   writes-append [] l r = refl
-  writes-append (x ∷ k) l r = writes-append k l (writeStep bits W t n x r)
+  writes-append (x ∷ k) l r = writes-append k l (writeStep bits q W strict t n x r)
 
   -- ---- the first wrong sample stays
 
@@ -87,14 +87,14 @@ module _ (bits W : ℕ) (t : List ℕ) (n : ℕ) where
   first-none none b e = refl
   first-none (some i) b e = e
 
-  pub step-right : (x : Step) (r : Writing) → (writeStep bits W t n x r) .wrong ≡ none → r .wrong ≡ none
+  pub step-right : (x : Step) (r : Writing) → (writeStep bits q W strict t n x r) .wrong ≡ none → r .wrong ≡ none
   step-right x r e = go (x .coded) refl
     where
       go : (b : Bool) → x .coded ≡ b → r .wrong ≡ none
-      go true c = rw (write-coded bits W t n x r c) at e
-      go false c = first-none (r .wrong) _ (rw (write-interpolated bits W t n x r c) at e)
+      go true c = rw (write-coded bits q W strict t n x r c) at e
+      go false c = first-none (r .wrong) _ (rw (write-interpolated bits q W strict t n x r c) at e)
 
-  pub writes-right : (k : List Step) (r : Writing) → (writes bits W t n k r) .wrong ≡ none → r .wrong ≡ none
+  pub writes-right : (k : List Step) (r : Writing) → (writes bits q W strict t n k r) .wrong ≡ none → r .wrong ≡ none
   unfolding writes
   writes-right [] r e = e
-  writes-right (x ∷ k) r e = step-right x r (writes-right k (writeStep bits W t n x r) e)
+  writes-right (x ∷ k) r e = step-right x r (writes-right k (writeStep bits q W strict t n x r) e)

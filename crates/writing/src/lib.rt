@@ -1,20 +1,23 @@
-// Writing one pass over two colour lines, lossless: the samples are those of a set, and their tight codes are counted or stored.
+// Writing one pass over two colour lines: the samples wanted are those of a set, and their tight codes are counted or stored. A lossless line has base 0.
 ghost use mathlib.Core.Path.{_≡_};
 ghost use Prim.Native.Nat.{_+_, _*_, _^_, _≤_, _<_};
 ghost use lib.ListN.{length};
-ghost use Rattle.prediction.specs.Predictions.{ContextRanges};
+ghost use mathlib.Core.Bool.{not, _&&_};
+ghost use lib.Dec.{eqb};
+ghost use Rattle.quantiser.specs.Quantisers.{largest, totalOf};
+ghost use Rattle.code.specs.Samples.{sampleOf};
 ghost use Rattle.code.specs.Tight.{stepsUp, residualUp, codeOfResidual, codeFor, codeBits, codeLength};
+ghost use Rattle.code.specs.Nearest.{codeNear};
 ghost use Rattle.steps.specs.Steps.{evenPart, oddPart};
-ghost use Rattle.steps.specs.Contexts.{lookOf, slotOf};
-ghost use Rattle.steps.specs.Values.{zipRecords, SetInRange};
+ghost use Rattle.steps.specs.Values.{zipRecords, SetInRange, Depth};
 ghost use Rattle.writing.specs.Sets.{rankOf, indexIn, lineSize};
 ghost use Rattle.writing.specs.Writings.{writePass};
-ghost use Rattle.writing.specs.Puts.{codeNumber, putIf, Room, StepsAsk, StepsPut, wrongAt, begunWriting, WriteAsks, WriteGives};
+ghost use Rattle.writing.specs.Puts.{codeNumber, putIf, Room, CodingAsks, CodedAs, StepsAsk, StepsPut, wrongAt, begunWriting, WriteAsks, WriteGives};
 use bits::BitPosition;
 use numbers::u16_to_u32;
 use prediction::Context;
-use quantiser::Quantiser;
 use steps::Plan;
+use steps::Quantisers;
 use steps::Set;
 use steps::Spot;
 
@@ -77,7 +80,7 @@ fn code_for(m: u32, negative: bool, prediction: u32, v: u32) -> u32
 
 // How many bits its tight code has.
 fn code_length(k: u32, limit: u32, raw: u32, code: u32) -> u32
-    requires { ⌜ (k ≤ 15) × ((limit ≤ 47) × (raw ≤ 16)) ⌝ }
+    requires { ⌜ (k ≤ 15) × ((limit + raw < 64) × (code ≤ 2 ^ raw)) ⌝ }
     ensures { λ r. ⌜ (r ≡ codeLength k limit raw code) × ((1 ≤ r) × (r ≤ 64)) ⌝ }
 {
     let zeros = code >> k;
@@ -109,7 +112,7 @@ fn put_code(
     raw: u32,
     code: u32,
 ) -> BitPosition
-    requires { ⌜ (k ≤ 15) × ((1 ≤ limit) × ((limit ≤ 47) × ((raw ≤ 16) × ((code < 2 ^ 16) × (code ≤ 2 ^ raw))))) ⌝ }
+    requires { ⌜ (k ≤ 15) × ((1 ≤ limit) × ((limit + raw < 64) × ((raw ≤ 16) × ((code < 2 ^ 16) × (code ≤ 2 ^ raw))))) ⌝ }
     requires { ⌜ (at .0 < 2 ^ 60) × Room store (now out) (at .0) (codeBits k limit raw code) ⌝ }
     ensures { λ r. ⌜ r .0 ≡ at .0 + length (codeBits k limit raw code) ⌝ }
     ensures { λ _. ⌜ now (out .exit) ≡ putIf store (now (out .entry)) (at .0) (codeBits k limit raw code) ⌝ }
@@ -146,24 +149,86 @@ fn index_in(w: usize, n: usize, line: usize, p: usize) -> usize
     n * (12 * w) + rank_of(line) * w + p
 }
 
-// How a sample with a code is put: the place of its record in the set, and its code.
-struct Coding {
-    slot: usize,
+// A code that was chosen for a wanted sample, and the sample that it gives.
+struct Chosen {
     code: u32,
+    value: u32,
 }
 
-// This for a wanted sample v, at position p in the context x.
-fn coded_as(m: u32, p: usize, x: Context, v: u32) -> Coding
-    requires { ⌜ (m < 2 ^ 16) × ((x .prediction ≤ m) × (v ≤ m)) ⌝ }
-    requires { ⌜ ContextRanges x ⌝ }
-    ensures { λ r. ⌜ (r .slot ≡ slotOf p ((lookOf 0 x) .place)) × (r .slot < 112) ⌝ }
-    ensures { λ r. ⌜ (r .code ≡ codeFor m ((lookOf 0 x) .negative) (x .prediction) v) × (r .code ≤ m) ⌝ }
+// The code of the sample nearest to v, and that sample, by a quantiser with that base. With base 0, which comes first, it is v itself.
+fn choose_code(bits: u32, base: u32, total: u32, negative: bool, prediction: u32, v: u32) -> Chosen
+    requires { ⌜ Depth bits × ((base < 256) × (total ≡ totalOf bits base)) ⌝ }
+    requires { ⌜ (prediction ≤ largest bits) × (v ≤ largest bits) ⌝ }
+    ensures { λ r. ⌜ (r .code ≡ codeNear base total negative prediction v) × (r .code < total) ⌝ }
+    ensures { λ r. ⌜ (r .value ≡ sampleOf (largest bits) base total negative prediction (r .code)) × (r .value ≤ largest bits) ⌝ }
 {
-    let h = steps::look_of(0, x);
+    let m = quantiser::largest(bits);
+    if base == 0 {
+        return Chosen {
+            code: code_for(m, negative, prediction, v),
+            value: v,
+        };
+    }
+    let code = code::code_near(base, total, negative, prediction, v);
+    Chosen {
+        code,
+        value: code::sample(m, base, total, negative, prediction, code),
+    }
+}
+
+// How a sample with a code is put: the place of its record in the set, the quantiser, the code, and the sample as it reads back.
+struct Coding {
+    slot: usize,
+    choice: usize,
+    code: u32,
+    value: u32,
+}
+
+// This for a wanted sample v, at position p in the context x of a line with that base.
+fn lossy_as(bits: u32, base: u32, totals: &[u32; 4], p: usize, x: Context, v: u32) -> Coding
+    requires { ⌜ CodingAsks bits base (now totals) x v ⌝ }
+    ensures { λ r. ⌜ CodedAs bits base p x v r ⌝ }
+{
+    let h = steps::look_of(base, x);
+    let choice = h.choice;
+    let c = choose_code(bits, h.base, totals[choice], h.negative, x.prediction, v);
     Coding {
         slot: steps::slot_of(p, h.place),
-        code: code_for(m, h.negative, x.prediction, v),
+        choice,
+        code: c.code,
+        value: c.value,
     }
+}
+
+// The same. A lossless line, with base 0, comes first. The other way has two calls that differ: with one LLVM takes it in here, and then this is too
+// large to be taken into the loop.
+fn coded_as(bits: u32, base: u32, totals: &[u32; 4], p: usize, x: Context, v: u32) -> Coding
+    requires { ⌜ CodingAsks bits base (now totals) x v ⌝ }
+    ensures { λ r. ⌜ CodedAs bits base p x v r ⌝ }
+{
+    if base == 0 {
+        let h = steps::look_of(0, x);
+        return Coding {
+            slot: steps::slot_of(p, h.place),
+            choice: h.choice,
+            code: code_for(quantiser::largest(bits), h.negative, x.prediction, v),
+            value: v,
+        };
+    }
+    if base == 1 {
+        return lossy_as(bits, 1, totals, p, x, v);
+    }
+    lossy_as(bits, base, totals, p, x, v)
+}
+
+// Whether an interpolated sample is refused: it is not its prediction, where it must be.
+fn is_wrong(strict: bool, v: u32, prediction: u32) -> bool
+    ensures { λ r. ⌜ r ≡ (strict && not (eqb v prediction)) ⌝ }
+{
+    if strict {
+        return v != prediction;
+    }
+    false
 }
 
 // The two samples at the even position p, where it is one of the line. As in reading, the leaves are called here, and this from one place only: so
@@ -178,12 +243,15 @@ fn write_even(
     sums: &mut [u32; 112],
     ns: &mut [u32; 112],
     spot: Spot,
-    limit: u32,
-    raw: u32,
+    strict: bool,
+    base: u32,
+    totals: &[u32; 4],
+    raws: &[u32; 4],
+    limits: &[u32; 4],
 ) -> Put
-    requires { ⌜ StepsAsk spot limit raw (now samples) n (evenPart (spot .w) (spot .plan) (spot .p)) store from
+    requires { ⌜ StepsAsk spot base strict (now totals) (now raws) (now limits) (now samples) n (evenPart (spot .w) (spot .plan) (spot .p)) store from
         (now lines) (now sums) (now ns) (now out) ⌝ }
-    ensures { λ r. ⌜ StepsPut (spot .bits) (spot .w) (now (samples .entry)) n (evenPart (spot .w) (spot .plan) (spot .p)) store (from .0)
+    ensures { λ r. ⌜ StepsPut (spot .bits) base (spot .w) strict (now (samples .entry)) n (evenPart (spot .w) (spot .plan) (spot .p)) store (from .0)
         (now (lines .entry)) (now (sums .entry)) (now (ns .entry)) (now (out .entry))
         (now (lines .exit)) (now (sums .exit)) (now (ns .exit)) (now (out .exit)) r ⌝ }
     ensures { λ _. ⌜ SetInRange (zipRecords (now (sums .exit)) (now (ns .exit))) ⌝ }
@@ -194,33 +262,56 @@ fn write_even(
         return Put::At(from);
     }
     let plan = spot.plan;
-    let m = quantiser::largest(spot.bits);
     let mut at = from;
     let i = steps::left_of(w, plan.first, p);
     let j = index_in(w, n, plan.first, p);
     let x = steps::context_at(lines, w + 2, i, p);
-    let v = samples[j];
-    lines[i + 1] = v;
+    let v = u16_to_u32(samples[j]);
     if steps::has_code(plan.first_rule, p) {
-        let c = coded_as(m, p, x, u16_to_u32(v));
+        let c = coded_as(spot.bits, base, totals, p, x, v);
+        lines[i + 1] = c.value as u16;
+        let choice = c.choice;
         let old = steps::record_at(sums, ns, c.slot);
-        at = put_code(out, store, at, old.k(), limit, raw, c.code);
+        at = put_code(
+            out,
+            store,
+            at,
+            old.k(),
+            limits[choice],
+            raws[choice],
+            c.code,
+        );
         steps::update_at(sums, ns, c.slot, old, c.code);
-    } else if u16_to_u32(v) != x.prediction {
-        return Put::Wrong(j);
+    } else {
+        if is_wrong(strict, v, x.prediction) {
+            return Put::Wrong(j);
+        }
+        lines[i + 1] = x.prediction as u16;
     }
     let i = steps::left_of(w, plan.second, p);
     let j = index_in(w, n, plan.second, p);
     let x = steps::context_at(lines, w + 2, i, p);
-    let v = samples[j];
-    lines[i + 1] = v;
+    let v = u16_to_u32(samples[j]);
     if steps::has_code(plan.second_rule, p) {
-        let c = coded_as(m, p, x, u16_to_u32(v));
+        let c = coded_as(spot.bits, base, totals, p, x, v);
+        lines[i + 1] = c.value as u16;
+        let choice = c.choice;
         let old = steps::record_at(sums, ns, c.slot);
-        at = put_code(out, store, at, old.k(), limit, raw, c.code);
+        at = put_code(
+            out,
+            store,
+            at,
+            old.k(),
+            limits[choice],
+            raws[choice],
+            c.code,
+        );
         steps::update_at(sums, ns, c.slot, old, c.code);
-    } else if u16_to_u32(v) != x.prediction {
-        return Put::Wrong(j);
+    } else {
+        if is_wrong(strict, v, x.prediction) {
+            return Put::Wrong(j);
+        }
+        lines[i + 1] = x.prediction as u16;
     }
     Put::At(at)
 }
@@ -236,13 +327,16 @@ fn write_odd(
     sums: &mut [u32; 112],
     ns: &mut [u32; 112],
     spot: Spot,
-    limit: u32,
-    raw: u32,
+    strict: bool,
+    base: u32,
+    totals: &[u32; 4],
+    raws: &[u32; 4],
+    limits: &[u32; 4],
 ) -> Put
-    requires { ⌜ StepsAsk spot limit raw (now samples) n (oddPart (spot .plan) (spot .p)) store from
+    requires { ⌜ StepsAsk spot base strict (now totals) (now raws) (now limits) (now samples) n (oddPart (spot .plan) (spot .p)) store from
         (now lines) (now sums) (now ns) (now out) ⌝ }
     requires { ⌜ spot .p < spot .w + 7 ⌝ }
-    ensures { λ r. ⌜ StepsPut (spot .bits) (spot .w) (now (samples .entry)) n (oddPart (spot .plan) (spot .p)) store (from .0)
+    ensures { λ r. ⌜ StepsPut (spot .bits) base (spot .w) strict (now (samples .entry)) n (oddPart (spot .plan) (spot .p)) store (from .0)
         (now (lines .entry)) (now (sums .entry)) (now (ns .entry)) (now (out .entry))
         (now (lines .exit)) (now (sums .exit)) (now (ns .exit)) (now (out .exit)) r ⌝ }
     ensures { λ _. ⌜ SetInRange (zipRecords (now (sums .exit)) (now (ns .exit))) ⌝ }
@@ -254,24 +348,41 @@ fn write_odd(
     }
     let q = p - 7;
     let plan = spot.plan;
-    let m = quantiser::largest(spot.bits);
     let i = steps::left_of(w, plan.first, q);
     let j = index_in(w, n, plan.first, q);
     let x = steps::context_at(lines, w + 2, i, q);
-    let v = samples[j];
-    lines[i + 1] = v;
-    let c = coded_as(m, q, x, u16_to_u32(v));
+    let v = u16_to_u32(samples[j]);
+    let c = coded_as(spot.bits, base, totals, q, x, v);
+    lines[i + 1] = c.value as u16;
+    let choice = c.choice;
     let old = steps::record_at(sums, ns, c.slot);
-    let at = put_code(out, store, from, old.k(), limit, raw, c.code);
+    let at = put_code(
+        out,
+        store,
+        from,
+        old.k(),
+        limits[choice],
+        raws[choice],
+        c.code,
+    );
     steps::update_at(sums, ns, c.slot, old, c.code);
     let i = steps::left_of(w, plan.second, q);
     let j = index_in(w, n, plan.second, q);
     let x = steps::context_at(lines, w + 2, i, q);
-    let v = samples[j];
-    lines[i + 1] = v;
-    let c = coded_as(m, q, x, u16_to_u32(v));
+    let v = u16_to_u32(samples[j]);
+    let c = coded_as(spot.bits, base, totals, q, x, v);
+    lines[i + 1] = c.value as u16;
+    let choice = c.choice;
     let old = steps::record_at(sums, ns, c.slot);
-    let after = put_code(out, store, at, old.k(), limit, raw, c.code);
+    let after = put_code(
+        out,
+        store,
+        at,
+        old.k(),
+        limits[choice],
+        raws[choice],
+        c.code,
+    );
     steps::update_at(sums, ns, c.slot, old, c.code);
     Put::At(after)
 }
@@ -287,15 +398,18 @@ pub fn write_pass(
     set: Set,
     w: usize,
     plan: Plan,
+    qs: Quantisers,
     bits: u32,
+    strict: bool,
 ) -> PassPut
-    requires { ⌜ WriteAsks bits w plan (now samples) n store from (now lines) set (now out) ⌝ }
-    ensures { λ r. ⌜ WriteGives (writePass bits w (now (samples .entry)) n plan (begunWriting (now (lines .entry)) set)) store from
+    requires { ⌜ WriteAsks bits w plan qs strict (now samples) n store from (now lines) set (now out) ⌝ }
+    ensures { λ r. ⌜ WriteGives (writePass bits (qs .base) w strict (now (samples .entry)) n plan (begunWriting (now (lines .entry)) set)) store from
         (now (out .entry)) (now (lines .exit)) (now (out .exit)) r ⌝ }
 {
-    let q = Quantiser::main(bits, 0);
-    let limit = q.limit;
-    let raw = q.raw;
+    let totals = qs.totals;
+    let raws = qs.raws;
+    let limits = qs.limits;
+    let base = qs.base;
     let mut sums = set.sums;
     let mut ns = set.ns;
     let mut at = from;
@@ -311,8 +425,11 @@ pub fn write_pass(
             &mut sums,
             &mut ns,
             Spot { w, bits, plan, p },
-            limit,
-            raw,
+            strict,
+            base,
+            &totals,
+            &raws,
+            &limits,
         );
         let Put::At(between) = evens else {
             return PassPut {
@@ -332,8 +449,11 @@ pub fn write_pass(
             &mut sums,
             &mut ns,
             Spot { w, bits, plan, p },
-            limit,
-            raw,
+            strict,
+            base,
+            &totals,
+            &raws,
+            &limits,
         );
         let Put::At(after) = odds else {
             return PassPut {

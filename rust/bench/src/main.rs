@@ -15,6 +15,10 @@ const FEWEST_KEPT: usize = 9;
 const QUIET: f64 = 1.12;
 const TILE: ColorTile =
     [[0, 1, 0, 1, 0, 1], [1, 2, 1, 2, 1, 2], [0, 1, 0, 1, 0, 1], [1, 2, 1, 2, 1, 2], [0, 1, 0, 1, 0, 1], [1, 2, 1, 2, 1, 2]];
+/// What each of the four even numbers of the noise is below, where BENCH_NOISE does not say: a quiet picture, a usual one, a loud one.
+const NOISES: [u64; 3] = [4, 25, 200];
+/// The one whose lines for a script have no word for the noise.
+const USUAL_NOISE: u64 = 25;
 /// Name, X-Trans, lossy.
 const KINDS: [(&str, bool, bool); 4] =
     [("bayer-lossless", false, false), ("xtrans-lossless", true, false), ("bayer-lossy", false, true), ("xtrans-lossy", true, true)];
@@ -59,6 +63,7 @@ impl Picture {
         vec![0x5a5a; self.width as usize * self.height as usize]
     }
 
+    #[inline(never)]
     fn time_theirs(&self, image: &mut [u16]) -> f64 {
         let start = seconds();
         let stream = theirs::FujiCompressed::new(black_box(&self.stream)).unwrap();
@@ -68,6 +73,7 @@ impl Picture {
         time
     }
 
+    #[inline(never)]
     fn time_ours(&self, image: &mut [u16], scratch: &mut Scratch) -> f64 {
         let start = seconds();
         let stream = FujiCompressed::new(black_box(&self.stream)).unwrap();
@@ -80,7 +86,7 @@ impl Picture {
     /// The tight reading of the only block.
     fn time_tight(&self, scratch: &mut Scratch) -> f64 {
         let start = seconds();
-        FujiCompressed::new(black_box(&self.stream)).unwrap().read_tight_with(scratch, 0).unwrap();
+        FujiCompressed::new(black_box(&self.stream)).unwrap().read_tight_with(scratch, 0).answer.unwrap();
         seconds() - start
     }
 
@@ -241,36 +247,71 @@ fn measure(name: &str, names: [&str; 2], picture: &Picture, Rounds { kept, all, 
     Some(ratio.median)
 }
 
+/// The name of a line for a script: that of the kind, and what is not usual about the picture.
+fn script_name(kind: &str, part: &str, noise: u64) -> String {
+    if noise == USUAL_NOISE { format!("{kind}{part}") } else { format!("{kind}{part}-noise-{noise}") }
+}
+
+fn say(name: &str, ratio: Option<f64>) {
+    if let Some(ratio) = ratio {
+        println!("ratio {name} {ratio:.2}");
+    }
+}
+
+/// Decodes one block once, so that a tool can count its instructions (tools/count.py): KIND NOISE LINES ours|rust.
+fn count(words: &[String]) {
+    let [kind, noise, lines, side] = words else { panic!("count KIND NOISE LINES ours|rust") };
+    let (_, xtrans, lossy) = KINDS.into_iter().find(|(name, ..)| name == kind).expect("a kind");
+    let picture = Picture::new(1, lines.parse().expect("lines"), xtrans, lossy, noise.parse().expect("a noise"));
+    let mut image = picture.image();
+    match side.as_str() {
+        "ours" => picture.time_ours(&mut image, &mut Scratch::new()),
+        "rust" => picture.time_theirs(&mut image),
+        _ => panic!("ours or rust"),
+    };
+}
+
+/// The pictures of one kind with that noise, and for the usual noise our own entries against our own decoding.
+fn measure_kind((name, xtrans, lossy): (&str, bool, bool), blocks: u16, lines: u16, noise: u64) {
+    let one = Picture::new(1, 480, xtrans, lossy, noise);
+    let title = format!("{name}, noise {noise}, one block of 480 lines");
+    say(&script_name(name, "-block", noise), measure(&title, ["rust", "ours"], &one, one.against_theirs()));
+    let whole = Picture::new(blocks, lines, xtrans, lossy, noise);
+    let title = format!("{name}, noise {noise}, {blocks} blocks of {lines} lines");
+    say(&script_name(name, "", noise), measure(&title, ["rust", "ours"], &whole, whole.against_theirs()));
+    if noise != USUAL_NOISE {
+        return;
+    }
+    let title = format!("{name}, {blocks} blocks of {lines} lines, in parallel by the clock on the wall");
+    say(&format!("parallel-{name}"), measure(&title, ["rust", "ours"], &whole, whole.parallel_against_theirs()));
+    if lossy {
+        return;
+    }
+    let colours = if xtrans { "xtrans" } else { "bayer" };
+    for (entry, function, rounds) in [
+        ("tight", "read_tight", one.tight_against_ordinary()),
+        ("write", "write_block", one.write_against_read(xtrans)),
+        ("measure", "measure_block", one.measure_against_read(xtrans)),
+    ] {
+        let name = format!("{entry}-{colours}");
+        say(&name, measure(&format!("{name}, one block of 480 lines"), ["decode", function], &one, rounds));
+    }
+}
+
 fn main() {
-    let words: Vec<u16> = std::env::args().skip(1).map(|w| w.parse().expect("a number of blocks and a number of lines")).collect();
-    let (blocks, lines) = (*words.first().unwrap_or(&6), *words.get(1).unwrap_or(&300));
-    let noise = std::env::var("BENCH_NOISE").map_or(25, |n| n.parse().expect("a number for BENCH_NOISE"));
+    let words: Vec<String> = std::env::args().skip(1).collect();
+    if words.first().is_some_and(|word| word == "count") {
+        return count(&words[1..]);
+    }
+    let size = |i: usize, usual: u16| words.get(i).map_or(usual, |w| w.parse().expect("a number of blocks and a number of lines"));
+    let (blocks, lines) = (size(0, 6), size(1, 300));
+    let noises = std::env::var("BENCH_NOISE").map_or(NOISES.to_vec(), |n| vec![n.parse().expect("a number for BENCH_NOISE")]);
     println!(
         "images are written over from run to run, and not cleared before; times are processor times of one thread, medians (least to most)"
     );
-    let say = |name: &str, ratio: Option<f64>| {
-        if let Some(ratio) = ratio {
-            println!("ratio {name} {ratio:.2}");
-        }
-    };
-    for (name, xtrans, lossy) in KINDS {
-        let one = Picture::new(1, 480, xtrans, lossy, noise);
-        measure(&format!("{name}, one block of 480 lines"), ["rust", "ours"], &one, one.against_theirs());
-        let whole = Picture::new(blocks, lines, xtrans, lossy, noise);
-        let title = format!("{name}, {blocks} blocks of {lines} lines");
-        say(name, measure(&title, ["rust", "ours"], &whole, whole.against_theirs()));
-        let title = format!("{name}, {blocks} blocks of {lines} lines, in parallel");
-        say(&format!("parallel-{name}"), measure(&title, ["rust", "ours"], &whole, whole.parallel_against_theirs()));
-        if !lossy {
-            let tight = if xtrans { "tight-xtrans" } else { "tight-bayer" };
-            let title = format!("{tight}, one block of 480 lines");
-            say(tight, measure(&title, ["decode", "read_tight"], &one, one.tight_against_ordinary()));
-            let write = if xtrans { "write-xtrans" } else { "write-bayer" };
-            let title = format!("{write}, one block of 480 lines");
-            say(write, measure(&title, ["decode", "write_block"], &one, one.write_against_read(xtrans)));
-            let length = if xtrans { "measure-xtrans" } else { "measure-bayer" };
-            let title = format!("{length}, one block of 480 lines");
-            say(length, measure(&title, ["decode", "measure_block"], &one, one.measure_against_read(xtrans)));
+    for noise in noises {
+        for kind in KINDS {
+            measure_kind(kind, blocks, lines, noise);
         }
     }
 }

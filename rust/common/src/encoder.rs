@@ -73,6 +73,7 @@ struct Encoder<'a> {
     flat: [Quantiser; 3],
     out: Bits,
     codes: usize,
+    long_codes: usize,
     spoil: Option<Spoil>,
     want: &'a mut dyn FnMut(usize, usize, usize) -> u16,
 }
@@ -92,6 +93,10 @@ pub enum How {
     Zero,
     /// A code of 2^bits.
     Large,
+    /// Code 2, long, whatever the code was.
+    Two,
+    /// This long code, with so many zeros, in the place of code number `from` itself.
+    Long { zeros: u32, code: u32 },
 }
 
 impl Encoder<'_> {
@@ -124,8 +129,10 @@ impl Encoder<'_> {
         let zeros = match spoilt {
             None => (code >> k).min(limit),
             Some(How::Zero) => limit + 1,
+            Some(How::Long { zeros, .. }) => zeros as i32,
             Some(_) => limit,
         };
+        self.long_codes += (zeros >= limit) as usize;
         self.out.put(0, zeros as u32);
         self.out.put(1, 1);
         if zeros < limit { self.out.put((code & ((1 << k) - 1)) as u64, k) } else { self.out.put((code - 1) as u64, raw) }
@@ -161,13 +168,21 @@ impl Encoder<'_> {
             residual += q.total;
         }
         let mut code = if residual >= 0 { 2 * residual } else { -2 * residual - 1 };
-        let spoilt = self.spoil.filter(|s| s.from <= self.codes && code > 0).map(|s| s.how);
+        let here = |s: &Spoil| match s.how {
+            How::Long { .. } => s.from == self.codes,
+            _ => s.from <= self.codes && code > 0,
+        };
+        let spoilt = self.spoil.filter(here).map(|s| s.how);
         if spoilt.is_some() {
             self.spoil = None;
         }
-        if spoilt == Some(How::Large) {
-            code = 1 << self.bits;
+        if let Some(How::Large | How::Two) = spoilt {
+            code = if spoilt == Some(How::Two) { 2 } else { 1 << self.bits };
             residual = code / 2;
+        }
+        if let Some(How::Long { code: long, .. }) = spoilt {
+            code = long as i32;
+            residual = if code % 2 == 0 { code / 2 } else { -(code + 1) / 2 };
         }
         self.codes += 1;
         let mut value = prediction + if gradient < 0 { -residual } else { residual } * step;
@@ -215,10 +230,11 @@ pub fn encode(bits: u32, xtrans: bool, bases: &[u8], lines: usize, want: &mut dy
     encode_spoilt(bits, xtrans, bases, lines, want, None).bytes
 }
 
-/// A block, how many bits of it are used, and whether a code was spoilt.
+/// A block, how many bits of it are used, how many of its codes are long, and whether a code was spoilt.
 pub struct Encoded {
     pub bytes: Vec<u8>,
     pub used: usize,
+    pub long_codes: usize,
     pub spoilt: bool,
 }
 
@@ -251,6 +267,7 @@ pub fn encode_spoilt(
         flat,
         out: Bits::default(),
         codes: 0,
+        long_codes: 0,
         spoil,
         want,
     };
@@ -272,7 +289,8 @@ pub fn encode_spoilt(
             e.lines.copy_within(from * s..(from + 1) * s, to * s);
         }
     }
+    let long_codes = e.long_codes;
     let mut bytes = e.out.bytes;
     bytes.resize(bytes.len().next_multiple_of(16), 0);
-    Encoded { bytes, used: e.out.used, spoilt: spoil.is_some() && e.spoil.is_none() }
+    Encoded { bytes, used: e.out.used, long_codes, spoilt: spoil.is_some() && e.spoil.is_none() }
 }

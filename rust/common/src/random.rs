@@ -40,3 +40,13 @@ impl Random {
         self.below(one_in) == 0
     }
 }
+
+/// `count` samples below `below`, by the linear congruential generator that the tables of known sets go by.
+pub fn congruential(seed: u32, below: u32, count: usize) -> Vec<u16> {
+    let mut x = seed;
+    let mut next = || {
+        x = x.wrapping_mul(1_664_525).wrapping_add(1_013_904_223);
+        ((x >> 8) % below) as u16
+    };
+    (0..count).map(|_| next()).collect()
+}

@@ -37,6 +37,17 @@ unsafe extern "C" {
         records_length: usize,
         refusal: *mut [usize; 4],
     );
+    pub fn fuji_read_block(
+        stream: *const u8,
+        stream_length: usize,
+        block: usize,
+        scratch: *mut u16,
+        scratch_length: usize,
+        records: *mut Record,
+        records_length: usize,
+        totals: *mut [usize; 2],
+        refusal: *mut [usize; 4],
+    );
     pub fn fuji_read_tight(
         stream: *const u8,
         stream_length: usize,
@@ -45,8 +56,10 @@ unsafe extern "C" {
         scratch_length: usize,
         records: *mut Record,
         records_length: usize,
+        totals: *mut [usize; 2],
         refusal: *mut [usize; 4],
     );
+    pub fn fuji_bad_code(stream: *const u8, stream_length: usize, block: usize, spot: *mut [usize; 6], refusal: *mut [usize; 4]);
     pub fn fuji_write_block(
         header: *const u8,
         header_length: usize,

@@ -8,10 +8,12 @@
 //! assert_eq!(refused.number, 2);
 //! assert_eq!(refused.to_string(), "refusal 2: a header rule is broken");
 //! ```
+mod fault;
 mod ffi;
 mod parallel;
 mod refusal;
 
+pub use fault::{Fault, Reason};
 pub use refusal::Refusal;
 
 /// The size of a stream's header in bytes.
@@ -153,6 +155,32 @@ impl FujiHeader {
     }
 }
 
+/// What is counted of the lines of a block: the bits of their codes, and how many of these codes are long, with no fewer zeros than the limit.
+#[derive(Debug, Clone, Copy, PartialEq, Eq, Default)]
+pub struct Totals {
+    pub bits: u64,
+    pub long_codes: u64,
+}
+
+/// What the reading of one block answers. Its totals are those of all lines if the block is accepted, of the lines before the one that the refusal
+/// names, and 0 if it names none.
+///
+/// ```
+/// use fuji_compressed::{FujiCompressed, Totals};
+///
+/// // A header of one line of six rows, and a block without bytes.
+/// let header = [0x49, 0x53, 1, 0, 14, 0, 6, 3, 0, 3, 0, 3, 0, 1, 0, 1];
+/// let stream = [&header[..], &[0; 16]].concat();
+/// let counted = FujiCompressed::new(&stream).unwrap().read_block(0);
+/// assert_eq!(counted.answer.unwrap_err().to_string(), "refusal 14: block 0, line 0: a line is truncated");
+/// assert_eq!(counted.totals, Totals { bits: 0, long_codes: 0 });
+/// ```
+#[derive(Debug, Clone, Copy, PartialEq, Eq)]
+pub struct Counted {
+    pub answer: Result<()>,
+    pub totals: Totals,
+}
+
 /// A stream that opened, ready to decode.
 #[derive(Debug, Clone, Copy)]
 pub struct FujiCompressed<'a> {
@@ -245,16 +273,30 @@ impl<'a> FujiCompressed<'a> {
         Refusal::answer(refusal)
     }
 
+    /// Reads block i, of a lossless or a lossy stream, and shows nothing. Refusals 5 and 14.
+    pub fn read_block(&self, i: usize) -> Counted {
+        self.read_block_with(&mut Scratch::new(), i)
+    }
+
+    /// `read_block` with lent scratch. Refusal 10 too.
+    pub fn read_block_with(&self, scratch: &mut Scratch, i: usize) -> Counted {
+        self.counted(ffi::fuji_read_block, scratch, i)
+    }
+
     /// The tight reading of block i: accepted are exactly the tight blocks. Refusals 5, 8, 14 and 15.
-    pub fn read_tight(&self, i: usize) -> Result<()> {
+    pub fn read_tight(&self, i: usize) -> Counted {
         self.read_tight_with(&mut Scratch::new(), i)
     }
 
     /// `read_tight` with lent scratch. Refusal 10 too.
-    pub fn read_tight_with(&self, scratch: &mut Scratch, i: usize) -> Result<()> {
-        let mut refusal = [0; 4];
+    pub fn read_tight_with(&self, scratch: &mut Scratch, i: usize) -> Counted {
+        self.counted(ffi::fuji_read_tight, scratch, i)
+    }
+
+    fn counted(&self, of: CountedOf, scratch: &mut Scratch, i: usize) -> Counted {
+        let (mut totals, mut refusal) = ([0; 2], [0; 4]);
         unsafe {
-            ffi::fuji_read_tight(
+            of(
                 self.stream.as_ptr(),
                 self.stream.len(),
                 i,
@@ -262,10 +304,23 @@ impl<'a> FujiCompressed<'a> {
                 scratch.samples.len(),
                 scratch.records.as_mut_ptr(),
                 scratch.records.len(),
+                &mut totals,
                 &mut refusal,
             )
         };
-        Refusal::answer(refusal)
+        let [bits, long_codes] = totals.map(|n| n as u64);
+        Counted { answer: Refusal::answer(refusal), totals: Totals { bits, long_codes } }
+    }
+
+    /// Why block i is not tight, `None` if it is: its first bad code, or its tail. A block that the tight reading refuses with 14 is refused here too, whatever bad code
+    /// it has. Refusals 5, 8 and 14.
+    pub fn bad_code(&self, i: usize) -> Result<Option<Fault>> {
+        let (mut spot, mut refusal) = ([0; 6], [0; 4]);
+        unsafe { ffi::fuji_bad_code(self.stream.as_ptr(), self.stream.len(), i, &mut spot, &mut refusal) };
+        match (Fault::of(spot), Refusal::answer(refusal)) {
+            (Some(fault), _) => Ok(Some(fault)),
+            (None, answer) => answer.map(|()| None),
+        }
     }
 
     fn range(&self, of: RangeOf, i: usize) -> Result<(usize, usize)> {
@@ -361,6 +416,8 @@ pub fn plan_bases(header: &[u8], plan: &[u8], bases: &mut [u8]) -> Result<()> {
     };
     Refusal::answer(refusal)
 }
+
+type CountedOf = unsafe extern "C" fn(*const u8, usize, usize, *mut u16, usize, *mut Record, usize, *mut [usize; 2], *mut [usize; 4]);
 
 type RangeOf = unsafe extern "C" fn(*const u8, usize, usize, *mut [usize; 2], *mut [usize; 4]);
 

@@ -83,7 +83,7 @@ fn header_types(parameter: &str) -> Vec<String> {
 }
 
 fn proved() -> Vec<Function> {
-    let sources = text("crates/block/src/c.rt") + &text("crates/exports/src/lib.rt");
+    let sources = text("crates/block/src/c.rt") + &text("crates/exports/src/lib.rt") + &text("crates/diagnosis/src/lib.rt");
     let heads = between(&sources, "#[no_mangle]\npub extern \"C\" fn ", ")\n");
     sorted(heads.iter().map(|h| function(h, proved_types)).collect())
 }

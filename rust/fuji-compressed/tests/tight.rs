@@ -37,7 +37,7 @@ fn read(bits: u8, xtrans: bool, block: &[u8]) -> Result<(), Refusal> {
     scratch.samples.fill(77);
     scratch.records.resize(340, Record::default());
     scratch.records.fill(Record { sum: 3, n: 0 });
-    let answer = FujiCompressed::new(&bytes).unwrap().read_tight_with(&mut scratch, 0);
+    let answer = FujiCompressed::new(&bytes).unwrap().read_tight_with(&mut scratch, 0).answer;
     let used = if xtrans { 9252 } else { 6948 };
     assert!(scratch.samples.iter().enumerate().all(|(i, v)| *v == if i < used { 0 } else { 77 }));
     assert!(scratch.records.iter().enumerate().all(|(i, r)| *r == if i < 336 { Record { sum: 0, n: 1 } } else { Record { sum: 3, n: 0 } }));
@@ -104,7 +104,7 @@ fn one_line(bits: u8, want: &mut dyn FnMut(usize, usize, usize) -> u16) -> (Head
 
 fn ask(header: &Header, block: &[u8]) -> Result<(), Refusal> {
     let d = stream(header, &[], &[block.to_vec()]);
-    FujiCompressed::new(&d).unwrap().read_tight(0)
+    FujiCompressed::new(&d).unwrap().read_tight(0).answer
 }
 
 /// A line of zeros at 14 bits has 6,660 bits: 833 bytes, and 848 with the filling.
@@ -195,20 +195,20 @@ fn truncation_comes_before_a_bad_code() {
 fn refusals_of_the_tight_reading() {
     let lossless = stream_of(14, false, block(14, false, 0, None));
     let opened = FujiCompressed::new(&lossless).unwrap();
-    assert_eq!((opened.read_tight(0), opened.read_tight(1)), (Ok(()), refused(5, 0, 0)));
+    assert_eq!((opened.read_tight(0).answer, opened.read_tight(1).answer), (Ok(()), refused(5, 0, 0)));
     let lossy = stream(&Header::new(false, false, 14, 768, LINES as u16), &[vec![0; LINES]], &[vec![]]);
     let opened_lossy = FujiCompressed::new(&lossy).unwrap();
-    assert_eq!((opened_lossy.read_tight(0), opened_lossy.read_tight(1)), (refused(8, 0, 0), refused(5, 0, 0)));
+    assert_eq!((opened_lossy.read_tight(0).answer, opened_lossy.read_tight(1).answer), (refused(8, 0, 0), refused(5, 0, 0)));
     for (samples, records, answer) in
         [(6948, 336, Ok(())), (6947, 336, refused(10, 0, 0)), (6948, 335, refused(10, 0, 0)), (0, 0, refused(10, 0, 0))]
     {
         let before = Scratch { samples: vec![9; samples], records: vec![Record { sum: 5, n: 5 }; records] };
         let mut scratch = before.clone();
-        assert_eq!(opened.read_tight_with(&mut scratch, 0), answer);
+        assert_eq!(opened.read_tight_with(&mut scratch, 0).answer, answer);
         assert_eq!(scratch == before, answer.is_err());
         // a lossy stream is refused before scratch is looked at
         let mut scratch = before.clone();
-        assert_eq!(opened_lossy.read_tight_with(&mut scratch, 0), refused(8, 0, 0));
+        assert_eq!(opened_lossy.read_tight_with(&mut scratch, 0).answer, refused(8, 0, 0));
         assert!(scratch == before);
     }
 }
@@ -223,7 +223,7 @@ fn every_flipped_bit() {
         let set = |block: &[u8]| {
             let d = stream(&header, &[], &[block.to_vec()]);
             let opened = FujiCompressed::new(&d).unwrap();
-            opened.read_tight(0).ok().map(|()| {
+            opened.read_tight(0).answer.ok().map(|()| {
                 let mut images = vec![0; 3 * 4608];
                 for (colour, image) in images.chunks_mut(4608).enumerate() {
                     let tile: ColorTile = [[colour as u8; 6]; 6];

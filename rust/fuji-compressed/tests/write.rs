@@ -1,7 +1,7 @@
 //! The writer: it writes the block that the encoder for tests writes, whatever the buffers held; each refusal at its limit and together. Measuring is
 //! asked beside it: it answers the same, but for a short output.
 use common::encoder::{encode, encode_spoilt};
-use common::random::Random;
+use common::random::{Random, congruential};
 use common::sha256::digits;
 use common::stream::{Header, stream};
 use fuji_compressed::{
@@ -119,7 +119,7 @@ fn what_is_written_is_the_tight_block() {
             assert!(length <= lines * 2304 * bits as usize);
             // it is tight, and reads back
             let d = stream(&w.header, &[], &[w.block.clone()]);
-            assert_eq!(FujiCompressed::new(&d).unwrap().read_tight(0), Ok(()));
+            assert_eq!(FujiCompressed::new(&d).unwrap().read_tight(0).answer, Ok(()));
         }
     }
 }
@@ -140,13 +140,8 @@ fn blocks_of_known_sets() {
     ];
     for (bits, xtrans, lines, seed, below, used, length, digest) in known {
         let width = if xtrans { 512 } else { 384 };
-        let mut x = seed.unwrap_or(0);
-        let samples: Vec<u16> = (0..12 * width * lines)
-            .map(|_| {
-                x = x.wrapping_mul(1_664_525).wrapping_add(1_013_904_223);
-                if seed.is_some() { ((x >> 8) % below) as u16 } else { 0 }
-            })
-            .collect();
+        let count = 12 * width * lines;
+        let samples = seed.map_or_else(|| vec![0; count], |seed| congruential(seed, below, count));
         // the encoder puts predictions where samples are interpolated
         let mut want = |n: usize, line: usize, p: usize| samples[(12 * n + FILLED.iter().position(|&l| l == line).unwrap()) * width + p];
         let made = encode_spoilt(bits as u32, xtrans, &[], lines, &mut want, None);
@@ -308,7 +303,7 @@ fn tight_blocks_are_written_back() {
             let mut block = good.clone();
             block[bit / 8] ^= 1 << (bit % 8);
             let d = stream(&header, &[], &[block.clone()]);
-            if FujiCompressed::new(&d).unwrap().read_tight(0).is_err() {
+            if FujiCompressed::new(&d).unwrap().read_tight(0).answer.is_err() {
                 continue;
             }
             found += 1;

@@ -12,7 +12,7 @@ pub enum Call {
     Help,
     Version,
     Manual,
-    Info(Vec<PathBuf>),
+    Info(Vec<PathBuf>, Blocks),
     Check(Vec<PathBuf>, Quiet),
     Write([PathBuf; 3]),
     Size(PathBuf, Option<PathBuf>),
@@ -24,6 +24,10 @@ pub enum Call {
 /// Nothing is said of how far the work is.
 #[derive(Clone, Copy)]
 pub struct Quiet(pub bool);
+
+/// Each block is read too.
+#[derive(Clone, Copy)]
+pub struct Blocks(pub bool);
 
 pub struct Decode {
     pub streams: Vec<PathBuf>,
@@ -84,7 +88,10 @@ pub fn read(words: Vec<OsString>) -> Result<Call, String> {
     }
     let words = split(&command, rest)?;
     match command.as_str() {
-        "info" => streams(words, "info").map(Call::Info),
+        "info" => {
+            let blocks = Blocks(words.has("--blocks"));
+            Ok(Call::Info(streams(words, "info")?, blocks))
+        }
         "check" => {
             let quiet = Quiet(words.has("--quiet"));
             Ok(Call::Check(streams(words, "check")?, quiet))

@@ -34,7 +34,7 @@ fn answer(call: Call) -> ExitCode {
         Call::Help => status(files::print(HELP)),
         Call::Version => status(files::print(&format!("fujiraw {VERSION}\n"))),
         Call::Manual => status(files::print(&manual::page(HELP, VERSION))),
-        Call::Info(streams) => run(&streams, |file| files::print(&stream::info(file)?)),
+        Call::Info(streams, blocks) => run(&streams, |file| files::print(&stream::info(file, blocks.0)?)),
         Call::Check(streams, quiet) => run(&streams, |file| check(file, quiet.0)),
         Call::Write([header, samples, out]) => run(&[samples], |samples| {
             let block = stream::write(&header, samples)?;

@@ -3,13 +3,15 @@ use crate::files::{load, load_samples, name};
 use crate::picture::Picture;
 use crate::progress::Progress;
 use crate::tile;
-use fuji_compressed::{ColorTile, FujiCompressed, FujiHeader, Rect, Refusal, Scratch, measure_block, plan_bases, write_block};
+use fuji_compressed::{
+    ColorTile, Counted, FujiCompressed, FujiHeader, Rect, Refusal, Scratch, Totals, measure_block, plan_bases, write_block,
+};
 use std::fmt::Write;
 use std::path::Path;
 use std::sync::Mutex;
 
-/// The header and the ranges, in lines.
-pub fn info(file: &Path) -> Result<String, String> {
+/// The header and the ranges, in lines; and what is counted of each block, if that is wanted.
+pub fn info(file: &Path, read: bool) -> Result<String, String> {
     let bytes = load(file)?;
     let stream = FujiCompressed::new(&bytes).map_err(|e| e.to_string())?;
     let h = stream.header;
@@ -19,7 +21,7 @@ pub fn info(file: &Path) -> Result<String, String> {
     let (blocks, lines) = (count(h.blocks as usize, "block"), count(h.lines as usize, "line"));
     let _ = writeln!(text, "  {blocks} of {} columns (rounded width {}), {lines}", h.block_size, h.rounded_width);
     let _ = writeln!(text, "  tile {}, if none is named", tile::name(&tile::usual(h.xtrans)));
-    let mut end = 0;
+    let (mut end, mut scratch) = (0, Scratch::new());
     for (i, (offset, length)) in stream.block_ranges().into_iter().enumerate() {
         let columns = h.block_width(i as u32).map_err(|e| e.to_string())?;
         let _ = write!(text, "  block {i}: {columns} columns, offset {offset}, {}", count(length, "byte"));
@@ -33,6 +35,11 @@ pub fn info(file: &Path) -> Result<String, String> {
         }
         text.push('\n');
         end = offset + length;
+        if read {
+            let counted = stream.read_block_with(&mut scratch, i);
+            let cut = counted.answer.map_or_else(|e| format!(", {e}"), |()| String::new());
+            let _ = writeln!(text, "  block {i}: {}{cut}", in_columns(&counted, h.lines));
+        }
     }
     let follow = bytes.len() - end;
     let _ = writeln!(text, "  {} after the last block", count(follow, "byte"));
@@ -50,6 +57,14 @@ fn count(n: usize, what: &str) -> String {
     if n == 1 { format!("1 {what}") } else { format!("{n} {what}s") }
 }
 
+/// Bits a line and long codes of the lines that were counted, with room for the numbers of other blocks.
+fn in_columns(counted: &Counted, lines: u32) -> String {
+    // 14 and 15 name the line up to which was counted, and no other refusal counts.
+    let lines = counted.answer.map_or_else(|e| e.line as u64, |()| lines as u64);
+    let Totals { bits, long_codes } = counted.totals;
+    format!("{:>6} bits a line, {long_codes:>6} long codes", bits / lines.max(1))
+}
+
 /// What the tight reading says of each block, in lines, and what is wrong with some, if anything is.
 pub fn check(file: &Path, quiet: bool) -> Result<(String, Option<String>), String> {
     let bytes = load(file)?;
@@ -61,12 +76,13 @@ pub fn check(file: &Path, quiet: bool) -> Result<(String, Option<String>), Strin
     let (mut text, mut loose, mut cut, mut scratch) = (String::new(), 0, 0, Scratch::new());
     let progress = Progress::new(quiet, name(file));
     for i in 0..h.blocks as usize {
-        let answer = stream.read_tight_with(&mut scratch, i);
+        let counted = stream.read_tight_with(&mut scratch, i);
+        let answer = counted.answer;
         let number = answer.as_ref().map_or_else(|e| e.number, |()| 0);
         loose += (number == 15) as usize;
         cut += (number == 14) as usize;
-        let said = answer.map_or_else(|e| why_loose(e, h.lines as usize), |()| "tight".to_string());
-        let _ = writeln!(text, "{}: block {i}: {said}", name(file));
+        let said = answer.map_or_else(|e| why_loose(e, &stream, i), |()| "tight".to_string());
+        let _ = writeln!(text, "{}: block {i}: {}, {said}", name(file), in_columns(&counted, h.lines));
         progress.at(i + 1, h.blocks as usize, (i + 1) * 768 * h.height as usize);
     }
     let wrong = [(loose, "not tight"), (cut, "truncated")];
@@ -78,10 +94,10 @@ fn are(n: usize) -> String {
     if n == 1 { "1 block is".to_string() } else { format!("{n} blocks are") }
 }
 
-/// Why a block is not tight. Refusal 15 with the number of lines is about its end alone.
-fn why_loose(refusal: Refusal, lines: usize) -> String {
-    match (refusal.number, refusal.line == lines) {
-        (15, true) => format!("{refusal}: all its codes are, but after them there must be zero bits up to the next 16 bytes, and no more"),
+/// Why a block is not tight: the spot and the reason, as the library finds them.
+fn why_loose(refusal: Refusal, stream: &FujiCompressed, block: usize) -> String {
+    match stream.bad_code(block) {
+        Ok(Some(fault)) => format!("refusal {}: {}: {fault}", refusal.number, refusal.words()),
         _ => refusal.to_string(),
     }
 }

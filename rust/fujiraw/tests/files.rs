@@ -32,7 +32,8 @@ fn standard_input_and_output() {
     assert_eq!(text(&shell(&f, "fujiraw decode - out < a.fcs").stdout), "out/stdin.pgm: 768 x 12 samples, 12 bits, tile rggb\n");
     assert_eq!(f.get("out/stdin.pgm"), f.get("a.pgm"));
     assert!(text(&shell(&f, "fujiraw info - < a.fcs").stdout).starts_with("standard input: "));
-    assert_eq!(text(&shell(&f, "fujiraw check - < a.fcs").stdout), "standard input: block 0: tight\n");
+    let checked = text(&shell(&f, "fujiraw check - < a.fcs").stdout);
+    assert!(checked.starts_with("standard input: block 0: ") && checked.ends_with(", tight\n"), "{checked}");
     assert_eq!(says(&shell(&f, "fujiraw info - < /dev/null")), (Some(1), "refusal 1: fewer than 16 bytes of header\n".to_string()));
     // A set and a plan.
     f.put("header", &stream()[..16]);

@@ -1,6 +1,8 @@
 //! The program as a user calls it: what it writes, what it says, and its status.
 mod folder;
 
+use common::encoder::{How, Spoil, encode_spoilt};
+use common::random::congruential;
 use common::stream::{Header, blocks, encoded};
 use folder::{Folder, sample, stream, text};
 use std::fs;
@@ -148,12 +150,15 @@ fn check_says_of_each_block_whether_it_is_tight() {
     let lines: Vec<&str> = out.lines().collect();
     assert!(!lines.is_empty());
     for (i, line) in lines.iter().enumerate() {
-        assert_eq!(*line, format!("a.fcs: block {i}: tight"));
+        assert!(line.starts_with(&format!("a.fcs: block {i}: ")) && line.ends_with(" long codes, tight"), "{line}");
     }
     f.put("cut.fcs", &stream()[..100]);
     let said = f.run("check cut.fcs");
     assert_eq!(said.status.code(), Some(1));
-    assert!(text(&said.stdout).starts_with("cut.fcs: block 0: refusal 14: block 0, line 0: a line is truncated\n"));
+    assert!(
+        text(&said.stdout)
+            .starts_with("cut.fcs: block 0:      0 bits a line,      0 long codes, refusal 14: block 0, line 0: a line is truncated\n")
+    );
     assert_eq!(text(&said.stderr), "1 block is truncated\n");
     // Two tight blocks: a byte more after the first, and the second cut.
     let header = Header::new(true, false, 12, 1536, 1);
@@ -161,7 +166,9 @@ fn check_says_of_each_block_whether_it_is_tight() {
     let longer = [&blocks[0][..], &[0; 16]].concat();
     let two = |a: &[u8], b: &[u8]| common::stream::stream(&header, &[], &[a.to_vec(), b.to_vec()]);
     f.put("two.fcs", &two(&blocks[0], &blocks[1]));
-    assert_eq!(f.works("check two.fcs"), "two.fcs: block 0: tight\ntwo.fcs: block 1: tight\n");
+    let checked = f.works("check two.fcs");
+    let ends: Vec<&str> = checked.lines().map(|l| l.rsplit(", ").next().unwrap()).collect();
+    assert_eq!(ends, ["tight", "tight"]);
     for (name, first, second, says) in [
         ("loose", &longer, &blocks[1][..], "1 block is not tight"),
         ("both", &longer, &longer[..], "2 blocks are not tight"),
@@ -175,6 +182,58 @@ fn check_says_of_each_block_whether_it_is_tight() {
     f.fails("check lossy", "the stream is lossy: only blocks of lossless streams can be tight");
     f.is_wrong("check", "check needs a stream");
     f.is_wrong("check a.fcs --format raw", "check takes no --format");
+}
+
+/// Sets by a generator, whose bits and long codes an independent model has counted: 68,619 bits and 25 long codes in the first line, 135,865 and
+/// 29 in both; and lossy ones.
+#[test]
+fn bits_a_line_and_long_codes() {
+    let f = Folder::new("counted");
+    let filled = [2, 3, 4, 7, 8, 9, 10, 11, 12, 15, 16, 17];
+    let made = |header: &Header, rows: &[Vec<u8>], set: &[u16]| {
+        encoded(header, rows, &mut |_, n, line, p| set[(12 * n + filled.iter().position(|l| *l == line).unwrap()) * 384 + p])
+    };
+    let whole = made(&Header::new(true, false, 14, 768, 2), &[], &congruential(2, 1 << 14, 2 * 12 * 384));
+    f.put("whole.fcs", &whole);
+    assert_eq!(f.works("check whole.fcs"), "whole.fcs: block 0:  67932 bits a line,     29 long codes, tight\n");
+    let blocks = |said: String| said.lines().filter(|l| l.starts_with("  block 0: ")).nth(1).unwrap().to_string();
+    assert_eq!(blocks(f.works("info whole.fcs --blocks")), "  block 0:  67932 bits a line,     29 long codes");
+    assert!(!f.works("info whole.fcs").contains("bits a line"));
+    f.put("cut.fcs", &whole[..32 + 12_000]);
+    let cut = "  block 0:  68619 bits a line,     25 long codes, refusal 14: block 0, line 1: a line is truncated";
+    assert_eq!(blocks(f.works("info --blocks cut.fcs")), cut);
+    let lossy = made(&Header::new(false, false, 12, 768, 2), &[vec![1, 1]], &congruential(12, 1 << 12, 2 * 12 * 384));
+    f.put("lossy.fcs", &lossy);
+    assert_eq!(blocks(f.works("info lossy.fcs --blocks")), "  block 0:  52184 bits a line,     32 long codes");
+    f.is_wrong("info whole.fcs --blocks=1", "--blocks takes no value");
+    f.is_wrong("check whole.fcs --blocks", "check takes no --blocks");
+}
+
+/// The spot and the reason of each block that is not tight; a block that is truncated has neither, whatever its codes are.
+#[test]
+fn check_names_the_first_bad_code() {
+    let f = Folder::new("bad");
+    let spoilt = |from, zeros, code| {
+        let mut want = |n, line, p| ((37 * p + 211 * line + 5 * n * p + 1000) % 16384) as u16;
+        encode_spoilt(14, false, &[], 1, &mut want, Some(Spoil { from, how: How::Long { zeros, code } }))
+    };
+    let tight = spoilt(0, 41, 10_496);
+    let blocks = [spoilt(0, 41, 1).bytes, spoilt(0, 42, 10_496).bytes, spoilt(0, 41, 16_384).bytes, tight.bytes.clone()];
+    let cut = blocks[0][..blocks[0].len() / 2].to_vec();
+    let header = Header::new(true, false, 14, 768 * 5, 1);
+    f.put("a.fcs", &common::stream::stream(&header, &[], &[&blocks[..], &[cut]].concat()));
+    let said = f.run("check a.fcs");
+    assert_eq!((said.status.code(), text(&said.stderr)), (Some(1), "3 blocks are not tight, 1 block is truncated\n".to_string()));
+    let spot = "refusal 15: the block is not tight: line 0, pass 1, colour line 2, position 0, bit 0";
+    let none = "     0 bits a line,      0 long codes";
+    let wanted = [
+        format!("a.fcs: block 0: {none}, {spot}: escape: the code is long, and the short form fits\n"),
+        format!("a.fcs: block 1: {none}, {spot}: zeros: the code has more zeros than the limit\n"),
+        format!("a.fcs: block 2: {none}, {spot}: large: the code is 2^bits or more\n"),
+        format!("a.fcs: block 3: {:>6} bits a line, {:>6} long codes, tight\n", tight.used, tight.long_codes),
+        format!("a.fcs: block 4: {none}, refusal 14: block 4, line 0: a line is truncated\n"),
+    ];
+    assert_eq!(text(&said.stdout), wanted.concat());
 }
 
 #[test]
@@ -196,13 +255,17 @@ fn write_makes_the_block_of_a_set() {
         whole
     };
     f.put("stream", &stream_of(&block));
-    assert_eq!(text(&f.run("check stream").stdout), "stream: block 0: tight\n");
+    assert_eq!(text(&f.run("check stream").stdout), "stream: block 0:   5328 bits a line,      0 long codes, tight\n");
     // all its codes, and a byte too many
     f.put("longer", &stream_of(&[&block[..], &[0]].concat()));
     let said = f.run("check longer");
     assert_eq!(said.status.code(), Some(1));
-    let end = "all its codes are, but after them there must be zero bits up to the next 16 bytes, and no more";
-    assert_eq!(text(&said.stdout), format!("longer: block 0: refusal 15: line 1: the block is not tight: {end}\n"));
+    let used = encode_spoilt(12, false, &[], 1, &mut |_, _, _| 0, None).used;
+    let end = format!("bit {used}: tail: after the last code there must be zero bits up to the next 16 bytes, and no more");
+    assert_eq!(
+        text(&said.stdout),
+        format!("longer: block 0:   5328 bits a line,      0 long codes, refusal 15: the block is not tight: {end}\n")
+    );
     f.put("few", &[0; 2 * 12 * 384 - 2]);
     f.put("half", &[0; 2 * 12 * 384 - 1]);
     f.fails("write header few out", "refusal 9: the number of samples is not the block's");

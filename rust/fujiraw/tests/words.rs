@@ -88,6 +88,8 @@ fn script_answers_as_the_program_does_without_building() {
         "--version",
         "show a.fcs",
         "info a --quiet",
+        "info a --blocks=1",
+        "check a --blocks",
         "decode a b --speed 3",
         "decode a b --format",
         "decode a b --quiet --quiet",

@@ -1,5 +1,6 @@
 //! The sample streams: a page with some letters and a disc, as a Bayer and as an X-Trans sensor sees it.
-use common::stream::{Header, encoded};
+use common::encoder::{How, Spoil, encode_spoilt};
+use common::stream::{Header, encoded, stream};
 
 pub const WIDTH: u16 = 768;
 pub const LINES: u16 = 24;
@@ -82,7 +83,14 @@ fn sample(xtrans: bool, tile: &Tile, base: Option<u8>) -> Vec<u8> {
     encoded(&header, &rows, &mut |_, n, line, p| lines[n][line][p])
 }
 
+/// A Bayer block of 14 bits and one line that begins with marked case i, a long code that need not be one, and goes on tightly.
+fn escape() -> Vec<u8> {
+    let spoil = Spoil { from: 0, how: How::Long { zeros: 41, code: 1 } };
+    let mut want = |n, line, p| ((37 * p + 211 * line + 5 * n * p + 1000) % 16384) as u16;
+    stream(&Header::new(true, false, 14, WIDTH, 1), &[], &[encode_spoilt(14, false, &[], 1, &mut want, Some(spoil)).bytes])
+}
+
 /// The names of the files, and what they hold.
-pub fn samples() -> [(&'static str, Vec<u8>); 2] {
-    [("bayer.fcs", sample(false, &BAYER, None)), ("xtrans.fcs", sample(true, &XTRANS, Some(2)))]
+pub fn samples() -> [(&'static str, Vec<u8>); 3] {
+    [("bayer.fcs", sample(false, &BAYER, None)), ("xtrans.fcs", sample(true, &XTRANS, Some(2))), ("escape.fcs", escape())]
 }

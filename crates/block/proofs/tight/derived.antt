@@ -1,2 +1,3 @@
+pub mod read_block
 pub mod read_tight
-pub mod read_tight_block
+pub mod walk_block

@@ -2,7 +2,8 @@
 -- Assumes nothing.
 mod derived
 use borrow.Author.Needs.{needs}
-use mathlib.Core.Bool.{Bool, true, _&&_}
+use borrow.Author.Tests.{leb-true, leb-false}
+use mathlib.Core.Bool.{Bool, true, false, _&&_}
 use mathlib.Core.Path.{_≡_, sym, ap, _∙_}
 use mathlib.Core.List.{List}
 use Prim.Native.Nat.{ℕ, _+_, _*_, _/_, _%_, _^_, _≤_, _<_, min}
@@ -47,7 +48,7 @@ module _ (h g : BitPumpMsb) (run : ZeroRun) (z : ℕ) (is : run ≡ One z) (er :
 
   module _ (low k limit raw : ℕ) (hk : k ≤ 15) (hl : limit < 64) (hr : raw ≤ 16) where
     short : (f : BitPumpMsb) (q : BitPosition) → z < limit → low ≡ nextBits g k → length s < 2 ^ 32 → f ≡ movedTo g (ahead (g .at .0) (min k 32)) → q ≡ f .at
-        → Read (record { zeros = z; value = (z * 2 ^ k) % 2 ^ 32 + low; minimal = true; after = q }) ≡ codeAt s p k limit raw
+        → Read (record { zeros = z; value = (z * 2 ^ k) % 2 ^ 32 + low; minimal = true; long = false; used = z + 1 + k; after = q }) ≡ codeAt s p k limit raw
     short f q lt e hs ef eq =
         rw (shifted z k (omega arith) hk, bits-of k low (omega arith) e, end-of k f q (omega arith) hs ef eq) (sym (code-short s p k limit raw z run-of lt))
 
@@ -56,7 +57,7 @@ module _ (h g : BitPumpMsb) (run : ZeroRun) (z : ℕ) (is : run ≡ One z) (er :
         omega (arith, bits-of k low (omega arith) e, shifted z k (omega arith) hk, short-lt s p k limit raw z hk hl lt)
 
     long : (n : Bool) (f : BitPumpMsb) (q : BitPosition) → limit ≤ z → low ≡ nextBits g raw → n ≡ (eqb z limit && leb limit ((low + 1) / 2 ^ k)) → length s < 2 ^ 32 → f ≡ movedTo g (ahead (g .at .0) (min raw 32)) → q ≡ f .at
-        → Read (record { zeros = z; value = low + 1; minimal = n; after = q }) ≡ codeAt s p k limit raw
+        → Read (record { zeros = z; value = low + 1; minimal = n; long = true; used = z + 1 + raw; after = q }) ≡ codeAt s p k limit raw
     long n f q le e en hs ef eq =
         rw (en, bits-of raw low hr e, end-of raw f q hr hs ef eq) (sym (code-long s p k limit raw z run-of le))
 
@@ -67,34 +68,65 @@ returns : tie.Need-returns
 returns c =
     sym (code-none _ _ _ _ _ (sym (c .before .before .zero-run .ensures .0) ∙ c .enum-told .given .1))
 
-add-t18 : tie.Need-add-t18
-add-t18 c =
-    let t = c .before .before .before .before .before in
-    let r = t .before .before .before in
-    let s = r .before .before in
-    record { fits = short-fits _ _ _ _ (t .before .run .given .1) (r .zero-run .ensures .0) (r .zero-run .ensures .1) _ _ (s .args .limit) (s .args .raw) (s .pre .1 .0) (s .pre .1 .1 .0) (s .pre .1 .1 .1) (c .before .before .before .before .if1 .taken) (c .before .before .get .ensures .0) }
+-- what is known once the test is made
+abbrev told : tie.After-is-long → tie.After-known-told
+told c = c .before
 
-returns-2 : tie.Need-returns-2
-returns-2 c =
-    let t = c .before .before .before .before .before in
-    let r = t .before .before .before in
-    let s = r .before .before in
-    short _ _ _ _ (t .before .run .given .1) (r .zero-run .ensures .0) (r .zero-run .ensures .1) _ _ (s .args .limit) (s .args .raw) (s .pre .1 .0) (s .pre .1 .1 .0) (s .pre .1 .1 .1) _ _ (c .before .before .before .before .if1 .taken) (c .before .before .get .ensures .0) (s .pre .0) (c .before .before .get .ensures .1) (c .bit-position .ensures)
+abbrev ran : tie.After-is-long → tie.After-zero-run
+ran c = told c .before .before .before
+
+abbrev start : tie.After-is-long → tie.Start
+start c = ran c .before .before
+
+-- a run is short enough for a sum
+run-small : (c : tie.After-is-long) → told c .before .run .given .0 .0 < 2 ^ 36
+run-small c =
+    let r = ran c .zero-run .ensures .0 in
+    omega (arith, run-inside _ _ _ (sym r ∙ told c .before .run .given .1), start c .pre .0)
+
+-- ---- long
+
+is-long : (c : tie.Then1) → start (c .before) .args .limit ≤ told (c .before) .before .run .given .0 .0
+is-long c = leb-true _ _ (sym (c .before .is-long .ensures) ∙ c .if1 .taken)
 
 add-value : tie.Need-add-value
 add-value c =
-    let t = c .before .before .before in
-    let r = t .before .before .before in
-    let s = r .before .before in
-    record { fits = long-fits _ _ _ _ (t .before .run .given .1) (r .zero-run .ensures .0) (r .zero-run .ensures .1) _ (s .args .k) (s .args .limit) _ (s .pre .1 .0) (s .pre .1 .1 .0) (s .pre .1 .1 .1) (c .get2 .ensures .0) }
+    let l = c .before .before .before in
+    let s = start l in
+    record { fits = long-fits _ _ _ _ (told l .before .run .given .1) (ran l .zero-run .ensures .0) (ran l .zero-run .ensures .1) _ (s .args .k) (s .args .limit) _ (s .pre .1 .0) (s .pre .1 .1 .0) (s .pre .1 .1 .1) (c .get .ensures .0) }
+
+returns-2 : tie.Need-returns-2
+returns-2 c =
+    let g = c .before .before .before in
+    let l = g .before .before .before in
+    let s = start l in
+    long _ _ _ _ (told l .before .run .given .1) (ran l .zero-run .ensures .0) (ran l .zero-run .ensures .1) _ _ _ _ (s .pre .1 .0) (s .pre .1 .1 .0) (s .pre .1 .1 .1) (c .is-needed .result) _ _ (is-long (g .before .before)) (g .get .ensures .0) (c .is-needed .ensures) (s .pre .0) (g .get .ensures .1) (c .before .bit-position .ensures)
+
+-- ---- short
+
+is-short : (c : tie.Else1) → told (c .before) .before .run .given .0 .0 < start (c .before) .args .limit
+is-short c = leb-false _ _ (sym (c .before .is-long .ensures) ∙ c .if1 .left)
+
+cast-zeros : tie.Need-cast-t23
+cast-zeros c =
+    let e = c .before .before .before .before in
+    omega (arith, is-short e, start (e .before) .pre .1 .1 .0)
+
+add-low : tie.Need-add-t25
+add-low c =
+    let g = c .before .before in
+    let e = g .before .before in
+    let l = e .before in
+    let s = start l in
+    record { fits = short-fits _ _ _ _ (told l .before .run .given .1) (ran l .zero-run .ensures .0) (ran l .zero-run .ensures .1) _ _ (s .args .limit) (s .args .raw) (s .pre .1 .0) (s .pre .1 .1 .0) (s .pre .1 .1 .1) (is-short e) (g .get2 .ensures .0) }
 
 returns-3 : tie.Need-returns-3
 returns-3 c =
-    let g = c .before .before .before in
-    let t = g .before .before .before in
-    let r = t .before .before .before in
-    let s = r .before .before in
-    long _ _ _ _ (t .before .run .given .1) (r .zero-run .ensures .0) (r .zero-run .ensures .1) _ _ _ _ (s .pre .1 .0) (s .pre .1 .1 .0) (s .pre .1 .1 .1) (c .is-needed .result) _ _ (g .before .before .if1 .left) (g .get2 .ensures .0) (c .is-needed .ensures) (s .pre .0) (g .get2 .ensures .1) (c .before .bit-position2 .ensures)
+    let g = c .before .before in
+    let e = g .before .before in
+    let l = e .before in
+    let s = start l in
+    short _ _ _ _ (told l .before .run .given .1) (ran l .zero-run .ensures .0) (ran l .zero-run .ensures .1) _ _ (s .args .limit) (s .args .raw) (s .pre .1 .0) (s .pre .1 .1 .0) (s .pre .1 .1 .1) _ _ (is-short e) (g .get2 .ensures .0) (s .pre .0) (g .get2 .ensures .1) (c .bit-position2 .ensures)
 
 pub next-code-spec : {M : Type 1} → statement M
 next-code-spec =
@@ -104,14 +136,19 @@ next-code-spec =
     (λ c. search needs)
     (λ c. search needs)
     returns
-    (λ c. search needs)
-    (λ c. search needs)
-    (λ c. search needs)
-    (λ c. search needs)
-    add-t18
-    returns-2
+    (λ c κs. search needs)
     (λ c. search needs)
     add-value
     (λ c. search needs)
     (λ c κs. search needs)
+    (λ c. omega (arith, run-small (c .before .before .before .before .before .before)))
+    (λ c. omega (arith, run-small (c .before .before .before .before .before .before), start (c .before .before .before .before .before .before) .pre .1 .1 .1))
+    returns-2
+    (λ c. search needs)
+    (λ c. search needs)
+    cast-zeros
+    (λ c. search needs)
+    add-low
+    (λ c. omega (arith, run-small (c .before .before .before .before .before)))
+    (λ c. omega (arith, run-small (c .before .before .before .before .before), start (c .before .before .before .before .before) .pre .1 .0))
     returns-3)

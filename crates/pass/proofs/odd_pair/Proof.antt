@@ -1,18 +1,22 @@
 -- `pass::odd_pair` meets its contract: two steps, each by the answers of the leaves. Assumes nothing.
 use borrow.Author.Needs.{needs}
-use mathlib.Core.Bool.{true, _&&_}
+use mathlib.Core.Bool.{true}
 use mathlib.Core.List.{List}
 use mathlib.Core.Option.{some}
-use mathlib.Core.Path.{refl}
+use mathlib.Core.Path.{_≡_, refl}
 use Prim.Native.Nat.{ℕ, _+_, _^_, _≤_, _<_}
 use native.Mathlib.Omega.{arith}
 use lib.ListN.{length, set, length-set}
+use Rattle.statistics.specs.Statistics.{kOf}
+use Rattle.code.specs.declared.Place.{Place}
 use Rattle.steps.specs.Steps.{stepAt}
-use Rattle.steps.specs.Values.{SetInRange}
+use Rattle.steps.specs.Values.{SetInRange, AreKs}
+use Rattle.steps.proofs.KLaws.{kept-k}
 use Rattle.pass.specs.Readings.{Reading}
 use Rattle.pass.specs.Pairs.{held}
+use Rattle.pass.proofs.RangeLaws.{step-keeps}
 use Rattle.pass.proofs.StepLaws.{StepGives, two-steps, first-none}
-use Rattle.pass.proofs.SiteLaws.{placeOf, Site, site-reader, site-total, site-cut-off, site-read, pair-cut-off, pair-at}
+use Rattle.pass.proofs.SiteLaws.{Site, site-reader, site-total, site-cut-off, site-read, pair-cut-off, pair-at}
 use Rattle.pass.proofs.odd_pair.Statement.{statement}
 use Rattle.pass.proofs.odd_pair.Tie as tie
 
@@ -53,82 +57,100 @@ room c =
     let i = there c .left-of .ensures .1 .1 in
     (omega (arith, i, p .room), omega (arith, i, p .width))
 
-read-code-requires : tie.Need-read-code-requires
-read-code-requires c κs =
-    let r = c .before .before .before in
-    (entry (looked r) .pre .bytes, (c .before .before .k .ensures .1, site-reader (first r)))
+-- its k is the one that is kept
+is-k : (c : tie.After-k-at) → let k = c .k-at .result in (k ≡ kOf (c .before .before .record-at .result)) × (k ≤ 15)
+is-k c =
+    let r = c .before .before in
+    kept-k (entry (looked r) .pre .ks-kept) (r .before .before .before .slot-of .ensures .1) (r .record-at .ensures .0) (c .k-at .ensures)
+
+take-code-requires : tie.Need-take-code-requires
+take-code-requires c κs =
+    let r = c .before .before .before .before in
+    ((entry (looked r) .pre .bytes, (is-k (c .before .before) .1, site-reader (first r))), entry (looked r) .pre .counted)
 
 -- the record that a code was read by
-abbrev kept : tie.After-read-code → tie.After-record-at
-kept c = c .before .before .before .before
+abbrev kept : tie.After-take-code → tie.After-record-at
+kept c = c .before .before .before .before .before
 
 returns : tie.Need-returns
 returns c =
     let r = c .before .before in
-    let cut = site-cut-off (first (kept r)) refl (r .before .before .before .k .ensures .0) (r .read-code .ensures .0) (c .enum-told .given .1) in
-    record { answer = pair-cut-off _ _ _ (first-none cut); records = entry (looked (kept r)) .pre .records }
+    let cut = site-cut-off (first (kept r)) _ refl (is-k (r .before .before .before) .0) (r .take-code .ensures .0) (c .enum-told .given .1) in
+    record { answer = pair-cut-off _ _ _ (first-none cut); records = entry (looked (kept r)) .pre .records; ks-kept = entry (looked (kept r)) .pre .ks-kept }
 
 sample-of-requires : tie.Need-sample-of-requires
 sample-of-requires c κs =
     let r = c .before .before .before .before in
     let h = looked (kept r) in
-    let b = rw (c .before .before .got .given .1) at (r .read-code .ensures .1) in
-    (begin h .largest .ensures .1, (h .look-of .ensures .1 .1 .0, (site-total (first (kept r)), (h .before .context-at .ensures .1 .prediction, b .0))))
+    let b = rw (c .before .before .got .given .1) at (r .take-code .ensures .1) in
+    (begin h .largest .ensures .1, (h .look-of .ensures .1 .1 .0, (site-total (first (kept r)), (h .before .context-at .ensures .1 .prediction, b))))
 
 -- a sample fits 16 bits
-small : (r : tie.After-read-code) {v : ℕ} → v ≤ begin (looked (kept r)) .largest .result → v < 2 ^ 16
+small : (r : tie.After-take-code) {v : ℕ} → v ≤ begin (looked (kept r)) .largest .result → v < 2 ^ 16
 small r h = omega (arith, begin (looked (kept r)) .largest .ensures .1)
 
-update-at-requires : tie.Need-update-at-requires
-update-at-requires c κs =
-    let g = c .before .before .before .before .before in
+update-with-k-requires : tie.Need-update-with-k-requires
+update-with-k-requires c κs =
+    let g = c .before .before .before .before .before .before in
     let r = g .before .before in
     let o = kept r in
-    let b = rw (g .got .given .1) at (r .read-code .ensures .1) in
-    ((b .0, (o .before .before .before .slot-of .ensures .1, o .record-at .ensures .1)), entry (looked o) .pre .records)
+    let b = rw (g .got .given .1) at (r .take-code .ensures .1) in
+    ((b, (o .before .before .before .slot-of .ensures .1, o .record-at .ensures .1)), (entry (looked o) .pre .records, entry (looked o) .pre .ks-kept))
 
 -- ---- what is held after it
 
-abbrev got : tie.After-is-tight → tie.After-got
+abbrev got : tie.After-update-with-k → tie.After-got
 got c = c .before .before .before .before .before .before .before
 
-abbrev origin : tie.After-is-tight → tie.After-look-of
+abbrev origin : tie.After-update-with-k → tie.After-look-of
 origin c = looked (kept (got c .before .before))
 
-abbrev lines₁ : tie.After-is-tight → List ℕ
+-- where the reading is
+abbrev between : tie.After-update-with-k → Place
+between c = let g = got c .got .given .0 in record { at = g .1 .0; tight = g .1 .1 .0; long = g .1 .1 .1 .0 }
+
+abbrev lines₁ : tie.After-update-with-k → List ℕ
 lines₁ c = set (entry (origin c) .args .lines .now) (there (origin c) .left-of .result + 1) (c .before .before .before .before .sample-of .result)
 
-abbrev middle : tie.After-is-tight → Reading
+abbrev middle : tie.After-update-with-k → Reading
 middle c =
-    held (lines₁ c) (c .before .update-at .last .0) (c .before .update-at .last .1 .0)
-    (placeOf (got c .got .given .0 .0 .after) (entry (origin c) .args .from .tight && c .is-tight .result))
+    held (lines₁ c) (c .update-with-k .last .0) (c .update-with-k .last .1 .0) (between c)
 
-first-read : (c : tie.After-is-tight) → let a = entry (origin c) .args in
+first-read : (c : tie.After-update-with-k) → let a = entry (origin c) .args in
     StepGives (a .spot .bits) (a .base) (a .spot .w) (a .block .now) (stepAt (a .spot .plan .first) (a .spot .p) true)
     (held (a .lines .now) (a .sums .now) (a .ns .now) (a .from)) (some (middle c))
 first-read c =
     let r = got c .before .before in
-    site-read (first (kept r)) refl (r .before .before .before .k .ensures .0) (r .read-code .ensures .0) (got c .got .given .1) (begin (origin c) .largest .ensures .0)
-    (c .before .before .before .before .sample-of .ensures .0) (c .before .update-at .ensures .0) (c .is-tight .ensures)
+    site-read (first (kept r)) _ refl (is-k (r .before .before .before) .0) (r .take-code .ensures .0) (got c .got .given .1) (begin (origin c) .largest .ensures .0)
+    (c .before .before .before .before .sample-of .ensures .0) (c .update-with-k .ensures .0)
 
-in-range : (c : tie.After-is-tight) → SetInRange (middle c .set)
-in-range c = c .before .update-at .ensures .1
+in-range : (c : tie.After-update-with-k) → SetInRange (middle c .set)
+in-range c = c .update-with-k .ensures .1 .0
+
+ks-kept : (c : tie.After-update-with-k) → AreKs (middle c .set) (c .update-with-k .last .1 .1 .0)
+ks-kept c = c .update-with-k .ensures .1 .1
+
+-- there are no more long codes than bits
+counted : (c : tie.After-update-with-k) → between c .long ≤ between c .at .0
+counted c =
+    let p = entry (origin c) .pre in
+    step-keeps _ _ _ _ (p .depth .1) _ _ _ (first-read c .is) .counted (p .counted)
 
 -- ---- the second sample
 
 left-of-requires-2 : tie.Need-left-of-requires-2
 left-of-requires-2 c κs =
-    let p = entry (origin (c .before .before)) .pre in
+    let p = entry (origin c) .pre in
     (p .width, (p .inside, (p .plan .second-low, p .plan .second-high)))
 
 context-at-requires-2 : tie.Need-context-at-requires-2
 context-at-requires-2 c κs =
-    let p = entry (origin (c .before .before .before .before)) .pre in
+    let p = entry (origin (c .before .before)) .pre in
     let i = c .before .left-of2 .ensures .1 in
     (omega (arith, p .width), (i .0, simp length-set (omega (arith, i .1, p .room))))
 
 look-of-requires-2 : tie.Need-look-of-requires-2
-look-of-requires-2 c κs = (entry (origin (c .before .before .before .before .before)) .pre .base, c .context-at2 .ensures .1)
+look-of-requires-2 c κs = (entry (origin (c .before .before .before)) .pre .base, c .context-at2 .ensures .1)
 
 abbrev looked-2 : tie.After-record-at2 → tie.After-look-of2
 looked-2 c = c .before .before .before .before
@@ -136,13 +158,13 @@ looked-2 c = c .before .before .before .before
 abbrev there-2 : tie.After-look-of2 → tie.After-left-of2
 there-2 c = c .before .before .before
 
-abbrev one : tie.After-look-of2 → tie.After-is-tight
-one c = there-2 c .before .before .before
+abbrev one : tie.After-look-of2 → tie.After-update-with-k
+one c = there-2 c .before
 
 abbrev begun : tie.After-look-of2 → tie.After-look-of
 begun c = origin (one c)
 
-second : (c : tie.After-record-at2) → let h = looked-2 c in let a = entry (begun h) .args in let z = one h .before .update-at .last in
+second : (c : tie.After-record-at2) → let h = looked-2 c in let a = entry (begun h) .args in let z = one h .update-with-k .last in
     Site (a .spot .bits) (a .base) (a .spot .w) (a .spot .plan .second) (a .spot .p) (a .block .now) (lines₁ (one h)) (z .0) (z .1 .0) (a .totals .now) (a .raws .now) (a .limits .now)
     (there-2 h .left-of2 .result) (h .before .context-at2 .result) (h .look-of2 .result) (c .before .before .before .slot-of2 .result) (c .record-at2 .result)
 second c =
@@ -164,53 +186,59 @@ room-2 c =
     let i = there-2 c .left-of2 .ensures .1 .1 in
     (simp length-set (omega (arith, i, p .room)), omega (arith, i, p .width))
 
-read-code-requires-2 : tie.Need-read-code-requires-2
-read-code-requires-2 c κs =
-    let r = c .before .before .before in
-    (entry (begun (looked-2 r)) .pre .bytes, (c .before .before .k2 .ensures .1, site-reader (second r)))
+is-k-2 : (c : tie.After-k-at2) → let k = c .k-at2 .result in (k ≡ kOf (c .before .before .record-at2 .result)) × (k ≤ 15)
+is-k-2 c =
+    let r = c .before .before in
+    kept-k (ks-kept (one (looked-2 r))) (r .before .before .before .slot-of2 .ensures .1) (r .record-at2 .ensures .0) (c .k-at2 .ensures)
 
-abbrev kept-2 : tie.After-read-code2 → tie.After-record-at2
-kept-2 c = c .before .before .before .before
+take-code-requires-2 : tie.Need-take-code-requires-2
+take-code-requires-2 c κs =
+    let r = c .before .before .before .before in
+    ((entry (begun (looked-2 r)) .pre .bytes, (is-k-2 (c .before .before) .1, site-reader (second r))), counted (one (looked-2 r)))
+
+abbrev kept-2 : tie.After-take-code2 → tie.After-record-at2
+kept-2 c = c .before .before .before .before .before
 
 returns-2 : tie.Need-returns-2
 returns-2 c =
     let r = c .before .before in
     let o = kept-2 r in
     let i = one (looked-2 o) in
-    let cut = site-cut-off (second o) refl (r .before .before .before .k2 .ensures .0) (r .read-code2 .ensures .0) (c .enum-told2 .given .1) in
-    record { answer = pair-cut-off _ _ _ (two-steps (first-read i) cut); records = in-range i }
+    let cut = site-cut-off (second o) _ refl (is-k-2 (r .before .before .before) .0) (r .take-code2 .ensures .0) (c .enum-told2 .given .1) in
+    record { answer = pair-cut-off _ _ _ (two-steps (first-read i) cut); records = in-range i; ks-kept = ks-kept i }
 
 sample-of-requires-2 : tie.Need-sample-of-requires-2
 sample-of-requires-2 c κs =
     let r = c .before .before .before .before in
     let h = looked-2 (kept-2 r) in
-    let b = rw (c .before .before .got2 .given .1) at (r .read-code2 .ensures .1) in
-    (begin (begun h) .largest .ensures .1, (h .look-of2 .ensures .1 .1 .0, (site-total (second (kept-2 r)), (h .before .context-at2 .ensures .1 .prediction, b .0))))
+    let b = rw (c .before .before .got2 .given .1) at (r .take-code2 .ensures .1) in
+    (begin (begun h) .largest .ensures .1, (h .look-of2 .ensures .1 .1 .0, (site-total (second (kept-2 r)), (h .before .context-at2 .ensures .1 .prediction, b))))
 
-small-2 : (r : tie.After-read-code2) {v : ℕ} → v ≤ begin (begun (looked-2 (kept-2 r))) .largest .result → v < 2 ^ 16
+small-2 : (r : tie.After-take-code2) {v : ℕ} → v ≤ begin (begun (looked-2 (kept-2 r))) .largest .result → v < 2 ^ 16
 small-2 r h = omega (arith, begin (begun (looked-2 (kept-2 r))) .largest .ensures .1)
 
-update-at-requires-2 : tie.Need-update-at-requires-2
-update-at-requires-2 c κs =
-    let g = c .before .before .before .before .before in
+update-with-k-requires-2 : tie.Need-update-with-k-requires-2
+update-with-k-requires-2 c κs =
+    let g = c .before .before .before .before .before .before in
     let r = g .before .before in
     let o = kept-2 r in
-    let b = rw (g .got2 .given .1) at (r .read-code2 .ensures .1) in
-    ((b .0, (o .before .before .before .slot-of2 .ensures .1, o .record-at2 .ensures .1)), in-range (one (looked-2 o)))
+    let b = rw (g .got2 .given .1) at (r .take-code2 .ensures .1) in
+    ((b, (o .before .before .before .slot-of2 .ensures .1, o .record-at2 .ensures .1)), (in-range (one (looked-2 o)), ks-kept (one (looked-2 o))))
 
 returns-3 : tie.Need-returns-3
 returns-3 c =
-    let g = c .before .before .before .before .before .before .before .before in
+    let g = c .before .before .before .before .before .before .before in
     let r = g .before .before in
     let o = kept-2 r in
     let h = looked-2 o in
-    let new = c .before .before .update-at2 .ensures in
+    let new = c .update-with-k2 .ensures in
     record {
       answer = pair-at _ _ _
           (two-steps (first-read (one h))
-          (site-read (second o) refl (r .before .before .before .k2 .ensures .0) (r .read-code2 .ensures .0) (g .got2 .given .1) (begin (begun h) .largest .ensures .0)
-          (c .before .before .before .before .before .sample-of2 .ensures .0) (new .0) (c .is-tight2 .ensures)));
-      records = new .1;
+          (site-read (second o) _ refl (is-k-2 (r .before .before .before) .0) (r .take-code2 .ensures .0) (g .got2 .given .1) (begin (begun h) .largest .ensures .0)
+          (c .before .before .before .before .sample-of2 .ensures .0) (new .0)));
+      records = new .1 .0;
+      ks-kept = new .1 .1;
     }
 
 pub odd-pair-spec : {M : Type 1} → statement M
@@ -229,7 +257,7 @@ odd-pair-spec =
     (λ c. search needs)
     (λ c. search needs)
     (λ c. search needs)
-    read-code-requires
+    take-code-requires
     (λ c. search needs)
     (λ c. search needs)
     (λ c. search needs)
@@ -241,8 +269,7 @@ odd-pair-spec =
     (λ c. search (needs, room (looked (kept (c .before .before .before .before .before)))))
     (λ c. search (needs, room (looked (kept (c .before .before .before .before .before)))))
     (λ c. room (looked (kept (c .before .before .before .before .before))) .0)
-    update-at-requires
-    (λ c κs. search needs)
+    update-with-k-requires
     left-of-requires-2
     (λ c. search needs)
     context-at-requires-2
@@ -254,7 +281,7 @@ odd-pair-spec =
     (λ c. search needs)
     (λ c. search needs)
     (λ c. search needs)
-    read-code-requires-2
+    take-code-requires-2
     (λ c. search needs)
     (λ c. search needs)
     (λ c. search needs)
@@ -266,7 +293,6 @@ odd-pair-spec =
     (λ c. search (needs, room-2 (looked-2 (kept-2 (c .before .before .before .before .before)))))
     (λ c. search (needs, room-2 (looked-2 (kept-2 (c .before .before .before .before .before)))))
     (λ c. room-2 (looked-2 (kept-2 (c .before .before .before .before .before))) .0)
-    update-at-requires-2
-    (λ c κs. search needs)
+    update-with-k-requires-2
     (λ c. search needs)
     returns-3)

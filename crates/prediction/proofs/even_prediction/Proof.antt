@@ -10,10 +10,10 @@ use Rattle.prediction.proofs.PredictionLaws.{even-le}
 use Rattle.prediction.proofs.even_prediction.Statement.{statement}
 use Rattle.prediction.proofs.even_prediction.Tie as tie
 
-made : (rf rc rb rd f c d x : ℕ) → f ≡ distance rf rb → c ≡ distance rc rb → d ≡ distance rd rb → x ≡ droppedOf rf rc rd f c d
+made : (rf rc rb rd f c d x : ℕ) → f ≡ distance rb rf → c ≡ distance rc rb → d ≡ distance rd rb → x ≡ droppedOf rf rc rd f c d
     → (rf + rc + rd - x + 2 * rb) / 4 ≡ evenPrediction rf rc rb rd
 unfolding evenPrediction
-made rf rc rb rd f c d x ef ec ed ex = rw (ex, ef, ec, ed)
+made rf rc rb rd f c d x ef ec ed ex = let turned : f ≡ distance rf rb = omega arith in rw (ex, turned, ec, ed)
 
 sum-fits : (rf rc rb rd x : ℕ) → rf < 2 ^ 16 → rc < 2 ^ 16 → rb < 2 ^ 16 → rd < 2 ^ 16 → rf + rc + rd - x + 2 * rb < 2 ^ 32
 sum-fits rf rc rb rd x hf hc hb hd = omega arith

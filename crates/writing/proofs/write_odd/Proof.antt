@@ -5,10 +5,12 @@ use mathlib.Core.List.{List}
 use mathlib.Core.Path.{refl, _∙_}
 use Prim.Native.Nat.{ℕ, _+_, _-_, _^_, _≤_, _<_}
 use native.Mathlib.Omega.{arith}
-use lib.ListN.{length, getD, set, length-set}
+use lib.ListN.{length, set, length-set}
 use Rattle.steps.specs.Steps.{stepAt, oddSteps}
-use Rattle.writing.proofs.StepPuts.{same-room, same-steps, no-odd, odd-due}
-use Rattle.writing.proofs.SitePuts.{Ready, Done, first-ready, second-ready, two-puts, Site, site-code, site-record, site-update, site-room, site-done}
+use Rattle.writing.specs.Puts.{Wanted}
+use Rattle.quantiser.specs.Quantisers.{largest}
+use Rattle.writing.proofs.StepPuts.{same-room, same-wanted, same-steps, no-odd, odd-due}
+use Rattle.writing.proofs.SitePuts.{Ready, Done, first-ready, second-ready, two-puts, Site, site-code, site-value, site-record, site-update, site-room, site-done}
 use Rattle.writing.proofs.write_odd.Statement.{statement}
 use Rattle.writing.proofs.write_odd.Tie as tie
 
@@ -16,7 +18,7 @@ returns : tie.Need-returns
 returns c =
     let s = c .before .before .before .before in
     let a = s .args in
-    (no-odd (a .spot .bits) (a .spot .w) (a .samples .now) (a .n) (a .spot .plan) (a .spot .p) (a .store) (a .from) (a .lines .now) (a .sums .now) (a .ns .now) (a .out .now) (c .if1 .taken), s .pre .0 .records)
+    (no-odd (a .spot .bits) (a .base) (a .spot .w) (a .strict) (a .samples .now) (a .n) (a .spot .plan) (a .spot .p) (a .store) (a .from) (a .lines .now) (a .sums .now) (a .ns .now) (a .out .now) (c .if1 .taken), s .pre .0 .records)
 
 -- ---- the first sample
 
@@ -24,107 +26,117 @@ abbrev entry : tie.Else1 → tie.Start
 entry c = c .before .before .before .before
 
 two : (c : tie.Else1) → let a = entry c .args in
-    Ready (a .spot .bits) (a .limit) (a .raw) (a .spot .w) (a .samples .now) (a .n) (oddSteps (a .spot .plan) (a .spot .p - 7)) (a .store) (a .from) (a .lines .now) (a .sums .now) (a .ns .now) (a .out .now)
+    Ready (a .spot .bits) (a .base) (a .totals .now) (a .raws .now) (a .limits .now) (a .spot .w) (a .strict) (a .samples .now) (a .n) (oddSteps (a .spot .plan) (a .spot .p - 7)) (a .store) (a .from) (a .lines .now) (a .sums .now) (a .ns .now) (a .out .now)
 two c =
     let a = entry c .args in
     let p = entry c .pre .0 in
+    let due = odd-due (a .spot .plan) (a .spot .w) (a .spot .p) (c .if1 .left) in
     record {
       numbers = p .numbers;
-      wanted = p .wanted;
+      wanted = same-wanted (largest (a .spot .bits)) (a .spot .w) (a .samples .now) (a .n) _ _ due (p .wanted);
       held = p .held;
       records = p .records;
       low = omega (arith, p .low);
-      room = same-room (a .spot .bits) (a .spot .w) (a .samples .now) (a .n) _ _ (a .store) (a .from .0) (a .lines .now) (a .sums .now) (a .ns .now) (a .out .now)
-          (odd-due (a .spot .plan) (a .spot .w) (a .spot .p) (c .if1 .left)) (p .room);
+      room = same-room (a .spot .bits) (a .base) (a .spot .w) (a .strict) (a .samples .now) (a .n) _ _ (a .store) (a .from .0) (a .lines .now) (a .sums .now) (a .ns .now) (a .out .now) due (p .room);
     }
 
 abbrev begun : tie.After-context-at → tie.Else1
-begun c = c .before .before .before .before .before .before
+begun c = c .before .before .before .before .before
 
 site : (c : tie.After-context-at) → let a = entry (begun c) .args in
-    Site (a .spot .bits) (a .limit) (a .raw) (a .spot .w) (a .samples .now) (a .n) (a .spot .plan .first) (a .spot .p - 7) true (a .store) (a .from) (a .lines .now) (a .sums .now) (a .ns .now) (a .out .now)
+    Site (a .spot .bits) (a .base) (a .totals .now) (a .raws .now) (a .limits .now) (a .spot .w) (a .strict) (a .samples .now) (a .n) (a .spot .plan .first) (a .spot .p - 7) true (a .store) (a .from) (a .lines .now) (a .sums .now) (a .ns .now) (a .out .now)
     (c .before .before .before .left-of .result) (c .before .before .index-in .result) (c .context-at .result)
 site c =
     record {
       ready = first-ready (two (begun c));
       sample = record { place = c .before .before .before .left-of .ensures .0; index = c .before .before .index-in .ensures .0; context = c .context-at .ensures .0 };
+      ranges = c .context-at .ensures .1;
     }
 
 abbrev placed : tie.After-u16-to-u32 → tie.After-context-at
 placed c = c .before .before
 
 coded-as-requires : tie.Need-coded-as-requires
-coded-as-requires c κs =
-    let x = placed c in
-    (site-code (site x) (c .u16-to-u32 .ensures .0) (x .before .before .before .before .largest .ensures), x .context-at .ensures .1)
+coded-as-requires c κs = site-code (site (placed c)) (c .u16-to-u32 .ensures .0) refl
+
+abbrev place : tie.After-coded-as → tie.After-context-at
+place c = placed (c .before)
+
+-- it goes inside of the lines
+room : (c : tie.After-coded-as) → let i = place c .before .before .before .left-of .result in (i + 1 < length (entry (begun (place c)) .args .lines .now)) × (i + 1 < 2 ^ 14)
+room c =
+    let x = place c in
+    let p = entry (begun x) .pre .0 in
+    let i = x .before .before .before .left-of .ensures .1 .1 in
+    (omega (arith, i, p .long), omega (arith, i, p .width))
+
+small : (c : tie.After-coded-as) → c .coded-as .result .value < 2 ^ 16
+small c = site-value (site (place c)) (c .before .u16-to-u32 .ensures .0) refl (c .coded-as .ensures)
 
 record-at-requires : tie.Need-record-at-requires
 record-at-requires c κs =
-    let d = c .before .before in
-    let x = placed (d .before) in
-    site-record (site x) (d .before .u16-to-u32 .ensures .0) (x .before .before .before .before .largest .ensures) (d .coded-as .ensures)
+    let d = c .before .before .before in
+    site-record (site (place d)) (d .before .u16-to-u32 .ensures .0) refl (d .coded-as .ensures)
 
 abbrev coded : tie.After-k → tie.After-coded-as
-coded c = c .before .before .before .before .before
+coded c = c .before .before .before .before .before .before
 
 put-code-requires : tie.Need-put-code-requires
 put-code-requires c κs =
-    let d = coded c in
-    let x = placed (d .before) in
-    site-room (site x) (d .before .u16-to-u32 .ensures .0) (x .before .before .before .before .largest .ensures) (d .coded-as .ensures) (c .before .before .record-at .ensures) refl (c .k .ensures)
+    let k = c .before .before in
+    let d = coded k in
+    site-room (site (place d)) (d .before .u16-to-u32 .ensures .0) refl (d .coded-as .ensures) (k .before .before .record-at .ensures) (k .k .ensures)
+
+abbrev kept : tie.After-put-code → tie.After-k
+kept c = c .before .before .before
 
 update-at-requires : tie.Need-update-at-requires
 update-at-requires c κs =
-    let k = c .before .before .before .before .before in
+    let k = kept (c .before .before .before .before) in
     let d = coded k in
-    let x = placed (d .before) in
-    site-update (site x) (d .before .u16-to-u32 .ensures .0) (x .before .before .before .before .largest .ensures) (d .coded-as .ensures) (k .before .before .record-at .ensures)
+    site-update (site (place d)) (d .before .u16-to-u32 .ensures .0) refl (d .coded-as .ensures) (k .before .before .record-at .ensures)
 
 -- ---- what is held after it
 
-abbrev counted : tie.After-update-at → tie.After-k
-counted c = c .before .before .before .before .before .before
+abbrev put : tie.After-update-at → tie.After-put-code
+put c = c .before .before .before .before .before
 
-abbrev there : tie.After-update-at → tie.After-context-at
-there c = placed (coded (counted c) .before)
+abbrev there : tie.After-update-at → tie.After-coded-as
+there c = coded (kept (put c))
 
 abbrev start : tie.After-update-at → tie.Start
-start c = entry (begun (there c))
+start c = entry (begun (place (there c)))
 
 abbrev lines₁ : tie.After-update-at → List ℕ
-lines₁ c =
-    let x = there c in
-    let a = start c .args in
-    set (a .lines .now) (x .before .before .before .left-of .result + 1) (getD (a .samples .now) (x .before .before .index-in .result) 0)
+lines₁ c = set (start c .args .lines .now) (place (there c) .before .before .before .left-of .result + 1) (there c .coded-as .result .value)
 
-done : (c : tie.After-update-at) → let a = start c .args in let put = c .before .before .before .before .before .put-code in let new = c .update-at .last in
-    Done (a .spot .bits) (a .spot .w) (a .samples .now) (a .n) (stepAt (a .spot .plan .first) (a .spot .p - 7) true) (a .store) (a .from) (a .lines .now) (a .sums .now) (a .ns .now) (a .out .now)
-    (lines₁ c) (new .0) (new .1 .0) (put .last .0) (put .result)
+done : (c : tie.After-update-at) → let a = start c .args in let new = c .update-at .last in
+    Done (a .spot .bits) (a .base) (a .spot .w) (a .strict) (a .samples .now) (a .n) (stepAt (a .spot .plan .first) (a .spot .p - 7) true) (a .store) (a .from) (a .lines .now) (a .sums .now) (a .ns .now) (a .out .now)
+    (lines₁ c) (new .0) (new .1 .0) (put c .put-code .last .0) (put c .put-code .result)
 done c =
-    let k = counted c in
+    let k = kept (put c) in
     let d = coded k in
-    let x = placed (d .before) in
-    let put = c .before .before .before .before .before .put-code in
-    site-done (site x) (d .before .u16-to-u32 .ensures .0) (x .before .before .before .before .largest .ensures) (d .coded-as .ensures) (k .before .before .record-at .ensures) refl (k .k .ensures)
-    (put .ensures) (put .kept .0) (c .update-at .ensures)
+    site-done (site (place d)) (d .before .u16-to-u32 .ensures .0) refl (d .coded-as .ensures) (k .before .before .record-at .ensures) (k .k .ensures)
+    (put c .put-code .ensures) (put c .put-code .kept .0) (c .update-at .ensures)
 
 -- ---- the second sample
 
 line-in : (c : tie.After-update-at) → let a = start c .args .spot in (a .w ≤ 512) × ((a .p - 7 < a .w) × ((2 ≤ a .plan .second) × (a .plan .second ≤ 17)))
 line-in c =
     let p = start c .pre in
-    (p .0 .width, (omega (arith, p .1, begun (there c) .if1 .left), (p .0 .plan .second-low, p .0 .plan .second-high)))
+    (p .0 .width, (omega (arith, p .1, begun (place (there c)) .if1 .left), (p .0 .plan .second-low, p .0 .plan .second-high)))
 
 abbrev one : tie.After-context-at2 → tie.After-update-at
 one c = c .before .before .before .before
 
-site-2 : (c : tie.After-context-at2) → let d = one c in let a = start d .args in let put = d .before .before .before .before .before .put-code in let new = d .update-at .last in
-    Site (a .spot .bits) (a .limit) (a .raw) (a .spot .w) (a .samples .now) (a .n) (a .spot .plan .second) (a .spot .p - 7) true (a .store) (put .result) (lines₁ d) (new .0) (new .1 .0) (put .last .0)
+site-2 : (c : tie.After-context-at2) → let d = one c in let a = start d .args in let new = d .update-at .last in
+    Site (a .spot .bits) (a .base) (a .totals .now) (a .raws .now) (a .limits .now) (a .spot .w) (a .strict) (a .samples .now) (a .n) (a .spot .plan .second) (a .spot .p - 7) true (a .store) (put d .put-code .result) (lines₁ d) (new .0) (new .1 .0) (put d .put-code .last .0)
     (c .before .before .before .left-of2 .result) (c .before .before .index-in2 .result) (c .context-at2 .result)
 site-2 c =
     record {
-      ready = second-ready (two (begun (there (one c)))) (done (one c));
+      ready = second-ready (two (begun (place (there (one c))))) (done (one c));
       sample = record { place = c .before .before .before .left-of2 .ensures .0; index = c .before .before .index-in2 .ensures .0; context = c .context-at2 .ensures .0 };
+      ranges = c .context-at2 .ensures .1;
     }
 
 -- it goes inside of the lines, and comes from inside of the set
@@ -151,48 +163,54 @@ context-at-requires-2 c κs =
 abbrev placed-2 : tie.After-u16-to-u322 → tie.After-context-at2
 placed-2 c = c .before .before
 
-abbrev largest-2 : tie.After-context-at2 → tie.After-largest
-largest-2 c = there (one c) .before .before .before .before
-
 coded-as-requires-2 : tie.Need-coded-as-requires-2
-coded-as-requires-2 c κs =
-    let x = placed-2 c in
-    (site-code (site-2 x) (c .u16-to-u322 .ensures .0) (largest-2 x .largest .ensures), x .context-at2 .ensures .1)
+coded-as-requires-2 c κs = site-code (site-2 (placed-2 c)) (c .u16-to-u322 .ensures .0) refl
+
+abbrev place-2 : tie.After-coded-as2 → tie.After-context-at2
+place-2 c = placed-2 (c .before)
+
+small-2 : (c : tie.After-coded-as2) → c .coded-as2 .result .value < 2 ^ 16
+small-2 c = site-value (site-2 (place-2 c)) (c .before .u16-to-u322 .ensures .0) refl (c .coded-as2 .ensures)
 
 record-at-requires-2 : tie.Need-record-at-requires-2
 record-at-requires-2 c κs =
-    let d = c .before .before in
-    let x = placed-2 (d .before) in
-    site-record (site-2 x) (d .before .u16-to-u322 .ensures .0) (largest-2 x .largest .ensures) (d .coded-as2 .ensures)
+    let d = c .before .before .before in
+    site-record (site-2 (place-2 d)) (d .before .u16-to-u322 .ensures .0) refl (d .coded-as2 .ensures)
 
 abbrev coded-2 : tie.After-k2 → tie.After-coded-as2
-coded-2 c = c .before .before .before .before .before
+coded-2 c = c .before .before .before .before .before .before
 
 put-code-requires-2 : tie.Need-put-code-requires-2
 put-code-requires-2 c κs =
-    let d = coded-2 c in
-    let x = placed-2 (d .before) in
-    site-room (site-2 x) (d .before .u16-to-u322 .ensures .0) (largest-2 x .largest .ensures) (d .coded-as2 .ensures) (c .before .before .record-at2 .ensures) refl (c .k2 .ensures)
+    let k = c .before .before in
+    let d = coded-2 k in
+    site-room (site-2 (place-2 d)) (d .before .u16-to-u322 .ensures .0) refl (d .coded-as2 .ensures) (k .before .before .record-at2 .ensures) (k .k2 .ensures)
+
+abbrev kept-2 : tie.After-put-code2 → tie.After-k2
+kept-2 c = c .before .before .before
 
 update-at-requires-2 : tie.Need-update-at-requires-2
 update-at-requires-2 c κs =
-    let k = c .before .before .before .before .before in
+    let k = kept-2 (c .before .before .before .before) in
     let d = coded-2 k in
-    let x = placed-2 (d .before) in
-    site-update (site-2 x) (d .before .u16-to-u322 .ensures .0) (largest-2 x .largest .ensures) (d .coded-as2 .ensures) (k .before .before .record-at2 .ensures)
+    site-update (site-2 (place-2 d)) (d .before .u16-to-u322 .ensures .0) refl (d .coded-as2 .ensures) (k .before .before .record-at2 .ensures)
+
+abbrev put-2 : tie.After-update-at2 → tie.After-put-code2
+put-2 c = c .before .before .before .before .before
+
+abbrev first : tie.After-update-at2 → tie.After-update-at
+first c = one (place-2 (coded-2 (kept-2 (put-2 c))))
 
 returns-2 : tie.Need-returns-2
 returns-2 c =
-    let k = c .before .before .before .before .before .before in
+    let k = kept-2 (put-2 c) in
     let d = coded-2 k in
-    let x = placed-2 (d .before) in
-    let o = one x in
+    let o = first c in
     let a = start o .args in
-    let put = c .before .before .before .before .before .put-code2 in
     let e =
-    site-done (site-2 x) (d .before .u16-to-u322 .ensures .0) (largest-2 x .largest .ensures) (d .coded-as2 .ensures) (k .before .before .record-at2 .ensures) refl (k .k2 .ensures)
-    (put .ensures) (put .kept .0) (c .update-at2 .ensures) in
-    (same-steps (odd-due (a .spot .plan) (a .spot .w) (a .spot .p) (begun (there o) .if1 .left)) (two-puts (two (begun (there o))) (done o) (e .put)), e .records)
+    site-done (site-2 (place-2 d)) (d .before .u16-to-u322 .ensures .0) refl (d .coded-as2 .ensures) (k .before .before .record-at2 .ensures) (k .k2 .ensures)
+    (put-2 c .put-code2 .ensures) (put-2 c .put-code2 .kept .0) (c .update-at2 .ensures) in
+    (same-steps (odd-due (a .spot .plan) (a .spot .w) (a .spot .p) (begun (place (there o)) .if1 .left)) (two-puts (two (begun (place (there o)))) (done o) (e .put)), e .records)
 
 pub write-odd-spec : {M : Type 1} → statement M
 write-odd-spec =
@@ -202,18 +220,22 @@ write-odd-spec =
     (λ c. search needs)
     (λ c κs. search needs)
     (λ c κs. search needs)
-    (λ c κs. search needs)
     (λ c. search needs)
     (λ c κs. search needs)
-    (λ c. search needs)
-    (λ c. search needs)
-    (λ c. search needs)
     (λ c. search needs)
     (λ c. search needs)
     (λ c κs. search needs)
     coded-as-requires
+    (λ c. search (needs, small (c .before)))
+    (λ c. search (needs, room (c .before)))
+    (λ c. search (needs, room (c .before)))
+    (λ c. room (c .before) .0)
     record-at-requires
     (λ c κs. search needs)
+    (λ c. search needs)
+    (λ c. search needs)
+    (λ c. search needs)
+    (λ c. search needs)
     put-code-requires
     update-at-requires
     left-of-requires-2
@@ -222,15 +244,20 @@ write-odd-spec =
     context-at-requires-2
     (λ c. search (needs, inside (c .before .before), start (one c) .good))
     (λ c. inside (c .before .before .before) .2)
-    (λ c. search (needs, inside (c .before .before .before)))
-    (λ c. search (needs, inside (c .before .before .before)))
-    (λ c. omega (arith, inside (c .before .before .before) .0))
     (λ c κs. search needs)
     coded-as-requires-2
+    (λ c. search (needs, small-2 (c .before)))
+    (λ c. search (needs, inside (place-2 (c .before) .before .before)))
+    (λ c. search (needs, inside (place-2 (c .before) .before .before)))
+    (λ c. omega (arith, inside (place-2 (c .before) .before .before) .0))
     record-at-requires-2
     (λ c κs. search needs)
+    (λ c. search needs)
+    (λ c. search needs)
+    (λ c. search needs)
+    (λ c. search needs)
     put-code-requires-2
     update-at-requires-2
-    (λ c. c .before .before .before .before .before .put-code2 .kept .0 ∙ done (one (placed-2 (coded-2 (c .before .before .before .before .before .before) .before))) .same)
+    (λ c. put-2 c .put-code2 .kept .0 ∙ done (first c) .same)
     (λ c. search needs)
     returns-2)

@@ -2,7 +2,7 @@
 use borrow.Author.Needs.{needs}
 use mathlib.Core.Bool.{Bool}
 use mathlib.Core.List.{List, _++_}
-use mathlib.Core.Path.{_≡_, refl, ap, _∙_}
+use mathlib.Core.Path.{_≡_, refl, _∙_}
 use Prim.Native.Nat.{ℕ, _+_, _-_, _/_, _%_, _≤_}
 use native.Mathlib.Omega.{arith}
 use lib.ListN.{length}
@@ -10,72 +10,71 @@ use Rattle.bits.specs.declared.BitPosition.{BitPosition}
 use Rattle.steps.specs.Steps.{evenPart, oddPart, turnSteps, upto}
 use Rattle.steps.specs.Values.{zipRecords, SetInRange}
 use Rattle.steps.specs.declared.Plan.{Plan}
-use Rattle.quantiser.specs.declared.Quantiser.{Quantiser}
-use Rattle.writing.specs.Puts.{IsMain, StepsPut, StepsRoom}
+use Rattle.steps.proofs.TableLaws.{are-quantisers}
+use Rattle.quantiser.specs.Quantisers.{largest}
+use Rattle.writing.specs.Puts.{LineNumbers, StepsPut, StepsRoom}
 use Rattle.writing.specs.declared.Put.the-variants.{At}
 use Rattle.writing.proofs.StepPuts.{no-puts, ends, room-after, goes-on, within-after, position-after, same-steps, answered}
-use Rattle.writing.proofs.TurnPuts.{before, turn-more, all-turns, before-le, before-evens-le, room-turn, room-evens, turn-wrong, pass-right, pass-wrong}
+use Rattle.writing.proofs.TurnPuts.{before, turn-more, all-turns, before-le, before-evens-le, wanted-even, wanted-odd, room-turn, room-evens, turn-wrong, pass-right, pass-wrong}
 use Rattle.writing.proofs.write_pass.Statement.{statement}
 use Rattle.writing.proofs.write_pass.Tie as tie
 
 -- what is known before each turn: the turns before position p have put their bits
-record Turns (bits W : ℕ) (t : List ℕ) (n : ℕ) (P : Plan) (store : Bool) (from : BitPosition) (lines₀ sums₀ ns₀ out₀ lines sums ns out : List ℕ) (at : BitPosition) (p limit raw : ℕ) : Type 0 where
-  numbers : IsMain bits limit raw
+record Turns (bits q W : ℕ) (strict : Bool) (totals raws limits t : List ℕ) (n : ℕ) (P : Plan) (store : Bool) (from : BitPosition) (lines₀ sums₀ ns₀ out₀ lines sums ns out : List ℕ) (at : BitPosition) (p : ℕ) : Type 0 where
+  numbers : LineNumbers bits q totals raws limits
   even : p % 2 ≡ 0
   last : p ≤ W + 8
   same-lines : length lines ≡ length lines₀
   same-output : length out ≡ length out₀
   records : SetInRange (zipRecords sums ns)
-  put : StepsPut bits W t n (upto (turnSteps W P) (p / 2)) store (from .0) lines₀ sums₀ ns₀ out₀ lines sums ns out (At at)
+  put : StepsPut bits q W strict t n (upto (turnSteps W P) (p / 2)) store (from .0) lines₀ sums₀ ns₀ out₀ lines sums ns out (At at)
 
 abbrev Inv-loop : tie.InvT-loop
-Inv-loop samples n out₀ store lines₀ w plan bits limit raw sums₀ ns₀ at₀ p₀ out lines sums ns at p =
-    Turns bits w samples n plan store at₀ lines₀ sums₀ ns₀ out₀ lines sums ns out at p limit raw
+Inv-loop samples n out₀ store lines₀ w plan bits strict totals raws limits base sums₀ ns₀ at₀ p₀ out lines sums ns at p =
+    Turns bits base w strict totals raws limits samples n plan store at₀ lines₀ sums₀ ns₀ out₀ lines sums ns out at p
 
 abbrev μ-loop : tie.MeasureT-loop
-μ-loop samples n out₀ store lines₀ w plan bits limit raw sums₀ ns₀ at₀ p₀ out lines sums ns at p = w + 8 - p
+μ-loop samples n out₀ store lines₀ w plan bits strict totals raws limits base sums₀ ns₀ at₀ p₀ out lines sums ns at p = w + 8 - p
 
 abbrev entry : tie.At-loop Inv-loop μ-loop → tie.Start Inv-loop μ-loop
-entry c = c .before .before .before .before .before .before .before
+entry c = c .before .before .before .before .before .before .before .before .before
 
 loop-holds : tie.Need-loop-holds Inv-loop μ-loop
 unfolding upto
 loop-holds c =
-    let m = c .before .before in
-    let main = m .main .ensures .0 in
-    let s = m .before .before .before .before in
+    let s = c .before .before .before .before .before .before .before .before in
     record {
-      numbers = record { depth = s .pre .depth; limit-is = ap (λ (q : Quantiser). q .limit) main; raw-is = ap (λ (q : Quantiser). q .raw) main };
+      numbers = record { depth = s .pre .depth; base = s .pre .base; quantisers = are-quantisers (s .args .bits) (s .args .qs) (s .pre .quantisers) };
       even = refl;
       last = omega arith;
       same-lines = refl;
       same-output = refl;
       records = s .pre .records;
-      put = no-puts _ _ _ _ _ _ _ _ _ _;
+      put = no-puts _ _ _ _ _ _ _ _ _ _ _ _;
     }
 
 -- ---- the even position
 
 -- there is room for it, and for the whole turn
 room : (c : tie.In-loop Inv-loop μ-loop) → let a = entry (c .before) .args in let p = c .before .loop .p in
-    StepsRoom (a .bits) (a .w) (a .samples .now) (a .n) ((before (a .w) (a .plan) p ++ evenPart (a .w) (a .plan) p) ++ oddPart (a .plan) p) (a .store) (a .from .0) (a .lines .now) (a .set .sums) (a .set .ns) (a .out .now)
+    StepsRoom (a .bits) (a .qs .base) (a .w) (a .strict) (a .samples .now) (a .n) ((before (a .w) (a .plan) p ++ evenPart (a .w) (a .plan) p) ++ oddPart (a .plan) p) (a .store) (a .from .0) (a .lines .now) (a .set .sums) (a .set .ns) (a .out .now)
 room c =
     let s = entry (c .before) in
     let a = s .args in
-    room-turn (a .bits) (a .w) (a .samples .now) (a .n) (a .plan) (a .store) (a .from .0) (a .lines .now) (a .set .sums) (a .set .ns) (a .out .now) (c .before .loop .p)
+    room-turn (a .bits) (a .qs .base) (a .w) (a .strict) (a .samples .now) (a .n) (a .plan) (a .store) (a .from .0) (a .lines .now) (a .set .sums) (a .set .ns) (a .out .now) (c .before .loop .p)
     (c .before .loop .inv .even) (s .pre .even) (c .loop-test .taken) (s .pre .room)
 
 room-even : (c : tie.In-loop Inv-loop μ-loop) → let a = entry (c .before) .args in let p = c .before .loop .p in
-    StepsRoom (a .bits) (a .w) (a .samples .now) (a .n) (before (a .w) (a .plan) p ++ evenPart (a .w) (a .plan) p) (a .store) (a .from .0) (a .lines .now) (a .set .sums) (a .set .ns) (a .out .now)
+    StepsRoom (a .bits) (a .qs .base) (a .w) (a .strict) (a .samples .now) (a .n) (before (a .w) (a .plan) p ++ evenPart (a .w) (a .plan) p) (a .store) (a .from .0) (a .lines .now) (a .set .sums) (a .set .ns) (a .out .now)
 room-even c =
     let s = entry (c .before) in
     let a = s .args in
-    room-evens (a .bits) (a .w) (a .samples .now) (a .n) (a .plan) (a .store) (a .from .0) (a .lines .now) (a .set .sums) (a .set .ns) (a .out .now) (c .before .loop .p)
+    room-evens (a .bits) (a .qs .base) (a .w) (a .strict) (a .samples .now) (a .n) (a .plan) (a .store) (a .from .0) (a .lines .now) (a .set .sums) (a .set .ns) (a .out .now) (c .before .loop .p)
     (c .before .loop .inv .even) (s .pre .even) (c .loop-test .taken) (s .pre .room)
 
 write-even-requires : tie.Need-write-even-requires Inv-loop μ-loop
 write-even-requires c κs =
-    let l = c .before .before .before .before in
+    let l = c .before .before .before .before .before .before .before in
     let v = l .before .loop .inv in
     let s = entry (l .before) in
     let a = s .args in
@@ -86,20 +85,20 @@ write-even-requires c κs =
       numbers = v .numbers;
       line = p .line;
       samples = p .samples;
-      wanted = p .wanted;
+      wanted = wanted-even (largest (a .bits)) (a .w) (a .samples .now) (a .n) (a .plan) (l .before .loop .p) (v .even) (p .even) (l .loop-test .taken) (p .wanted);
       long = omega (arith, p .long, v .same-lines);
-      held = within-after (v .put) refl _ (p .wanted) (p .held);
+      held = within-after (v .put) refl (p .held);
       records = v .records;
       low = omega (arith, p .position, position-after (v .put) refl (p .depth .1), before-le (a .w) (a .plan) (l .before .loop .p), l .loop-test .taken, p .high);
       room = room-after (v .put) refl (evenPart (a .w) (a .plan) (l .before .loop .p)) (v .same-output) (room-even l);
     }
 
 abbrev turn : tie.After-write-even Inv-loop μ-loop → tie.In-loop Inv-loop μ-loop
-turn c = c .before .before .before .before .before
+turn c = c .before .before .before .before .before .before .before .before
 
 -- what stands after it
 evens : (c : tie.After-write-even Inv-loop μ-loop) → let a = entry (turn c .before) .args in let p = turn c .before .loop .p in let z = c .write-even .last in
-    StepsPut (a .bits) (a .w) (a .samples .now) (a .n) (before (a .w) (a .plan) p ++ evenPart (a .w) (a .plan) p) (a .store) (a .from .0) (a .lines .now) (a .set .sums) (a .set .ns) (a .out .now)
+    StepsPut (a .bits) (a .qs .base) (a .w) (a .strict) (a .samples .now) (a .n) (before (a .w) (a .plan) p ++ evenPart (a .w) (a .plan) p) (a .store) (a .from .0) (a .lines .now) (a .set .sums) (a .set .ns) (a .out .now)
     (z .1 .1 .1 .1 .1 .0) (z .1 .1 .1 .1 .1 .1 .0) (z .1 .1 .1 .1 .1 .1 .1 .0) (z .1 .1 .0) (c .write-even .result)
 evens c =
     let l = turn c in
@@ -115,7 +114,7 @@ returns c =
     let w = c .before .enum-told .given .1 in
     record {
       answer = pass-wrong (a .plan)
-          (turn-wrong (a .bits) (a .w) (a .samples .now) (a .n) (a .plan) (a .store) (a .from .0) (a .lines .now) (a .set .sums) (a .set .ns) (a .out .now) (l .before .loop .p)
+          (turn-wrong (a .bits) (a .qs .base) (a .w) (a .strict) (a .samples .now) (a .n) (a .plan) (a .store) (a .from .0) (a .lines .now) (a .set .sums) (a .set .ns) (a .out .now) (l .before .loop .p)
           (l .before .loop .inv .even) (s .pre .even) (l .loop-test .taken) _ _ _ _ _ _ w (ends (evens e) (oddPart (a .plan) (l .before .loop .p)) w))
           _ w refl (c .wrong-at .ensures);
       records = e .write-even .ensures .1;
@@ -128,7 +127,7 @@ first c = c .before .before .before .before .before .before .before
 
 write-odd-requires : tie.Need-write-odd-requires Inv-loop μ-loop
 write-odd-requires c κs =
-    let k = c .before .before .before .before in
+    let k = c .before .before .before .before .before .before .before in
     let e = first k in
     let l = turn e in
     let v = l .before .loop .inv in
@@ -144,9 +143,9 @@ write-odd-requires c κs =
         numbers = v .numbers;
         line = p .line;
         samples = p .samples;
-        wanted = p .wanted;
+        wanted = wanted-odd (largest (a .bits)) (a .w) (a .samples .now) (a .n) (a .plan) (l .before .loop .p) (v .even) (p .even) lt (p .wanted);
         long = omega (arith, p .long, v .same-lines, kept .1 .1 .1 .1 .1 .0);
-        held = within-after (evens e) at _ (p .wanted) (p .held);
+        held = within-after (evens e) at (p .held);
         records = e .write-even .ensures .1;
         low = omega (arith, p .position, position-after (evens e) at (p .depth .1), before-evens-le (a .w) (a .plan) (l .before .loop .p), lt, p .high);
         room = room-after (evens e) at (oddPart (a .plan) (l .before .loop .p)) (kept .1 .1 .0 ∙ v .same-output) (room l);
@@ -155,10 +154,10 @@ write-odd-requires c κs =
     )
 
 abbrev known : tie.After-write-odd Inv-loop μ-loop → tie.After-known-told Inv-loop μ-loop
-known c = c .before .before .before .before .before
+known c = c .before .before .before .before .before .before .before .before
 
 odds : (c : tie.After-write-odd Inv-loop μ-loop) → let l = turn (first (known c)) in let a = entry (l .before) .args in let p = l .before .loop .p in let z = c .write-odd .last in
-    StepsPut (a .bits) (a .w) (a .samples .now) (a .n) ((before (a .w) (a .plan) p ++ evenPart (a .w) (a .plan) p) ++ oddPart (a .plan) p) (a .store) (a .from .0) (a .lines .now) (a .set .sums) (a .set .ns) (a .out .now)
+    StepsPut (a .bits) (a .qs .base) (a .w) (a .strict) (a .samples .now) (a .n) ((before (a .w) (a .plan) p ++ evenPart (a .w) (a .plan) p) ++ oddPart (a .plan) p) (a .store) (a .from .0) (a .lines .now) (a .set .sums) (a .set .ns) (a .out .now)
     (z .1 .1 .1 .1 .1 .0) (z .1 .1 .1 .1 .1 .1 .0) (z .1 .1 .1 .1 .1 .1 .1 .0) (z .1 .1 .0) (c .write-odd .result)
 odds c =
     let e = first (known c) in
@@ -175,7 +174,7 @@ returns-2 c =
     let w = c .before .enum-told2 .given .1 in
     record {
       answer = pass-wrong (a .plan)
-          (turn-wrong (a .bits) (a .w) (a .samples .now) (a .n) (a .plan) (a .store) (a .from .0) (a .lines .now) (a .set .sums) (a .set .ns) (a .out .now) (l .before .loop .p)
+          (turn-wrong (a .bits) (a .qs .base) (a .w) (a .strict) (a .samples .now) (a .n) (a .plan) (a .store) (a .from .0) (a .lines .now) (a .set .sums) (a .set .ns) (a .out .now) (l .before .loop .p)
           (l .before .loop .inv .even) (s .pre .even) (l .loop-test .taken) _ _ _ _ _ _ w (odds o))
           _ w refl (c .wrong-at2 .ensures);
       records = o .write-odd .ensures .1;
@@ -235,7 +234,6 @@ write-pass-spec =
     (tie.spec
     Inv-loop
     μ-loop
-    (λ c κs. search needs)
     loop-holds
     (λ c. search needs)
     write-even-requires

@@ -6,9 +6,10 @@ use Rattle.block.proofs.c.fuji_read_tight.Proof.derived.Tie as tie
 
 returns : tie.Need-returns
 returns c =
-    let k = c .before .before .before .before in
-    record { answer = k .read-tight .result; left = k .read-tight .ensures; told = c .answer-words .ensures }
+    let t = c .before in
+    let k = t .before .before .before .before in
+    record { answer = k .read-tight .result; left = k .read-tight .ensures; told-totals = t .totals-words .ensures; told = c .counted-refusal .ensures }
 
 pub fuji-read-tight-spec : {M : Type 1} → statement M
 fuji-read-tight-spec =
-    tie.close (tie.spec (λ c κs. search needs) (λ c κs. search needs) (λ c. search needs) (λ c. search needs) returns)
+    tie.close (tie.spec (λ c κs. search needs) (λ c κs. search needs) (λ c κs. search needs) (λ c. search needs) (λ c. search needs) returns)

@@ -9,22 +9,23 @@ use native.Mathlib.Omega.{arith}
 use lib.ListN.{length}
 use Rattle.map.specs.Places.{widthOf}
 use Rattle.steps.specs.Values.{recordsOf}
-use Rattle.block.specs.Blocks.{AllInRange, runs, passAt}
+use Rattle.block.specs.Blocks.{AllInRange, runs, passAt, stateAt}
 use Rattle.block.specs.Records.{putSet}
 use Rattle.block.proofs.LineLaws.{planned, width-in-range, pass-read, pass-cut, line-past, line-read}
+use Rattle.block.proofs.KeepLaws.{passes-few}
 use Rattle.block.proofs.RangeLaws.{set-in-range, put-in-range}
 use Rattle.block.proofs.RunLaws.{runs-none}
 use Rattle.block.proofs.reading.line.Statement.{statement}
 use Rattle.block.proofs.reading.line.Proof.derived.Tie as tie
 
 abbrev Inv-loop : tie.InvT-loop
-Inv-loop block tight-before lines₀ rs₀ qs bits xtrans w at₀ tight₀ i₀ lines rs at tight i =
+Inv-loop block lines₀ rs₀ qs bits xtrans w place₀ i₀ lines rs place i =
     (i ≤ 6) × ((w ≡ widthOf xtrans) × (8 ≤ w) × (w ≤ 512) × (w % 2 ≡ 0)) × (length lines ≡ 18 * (w + 2)) × (length rs ≡ 336) × AllInRange rs
-    × (runs (passAt (record { bits = bits; xtrans = xtrans }) (qs .base) block) i (record { lines = lines₀; records = rs₀; at = at₀; tight = tight₀ })
-    ≡ some (record { lines = lines; records = rs; at = at; tight = tight }))
+    × (runs (passAt (record { bits = bits; xtrans = xtrans }) (qs .base) block) i (stateAt lines₀ rs₀ place₀)
+    ≡ some (stateAt lines rs place))
 
 abbrev μ-loop : tie.MeasureT-loop
-μ-loop block tight-before lines₀ rs₀ qs bits xtrans w at₀ tight₀ i₀ lines rs at tight i = 6 - i
+μ-loop block lines₀ rs₀ qs bits xtrans w place₀ i₀ lines rs place i = 6 - i
 
 -- places before a place
 abbrev start : tie.At-loop Inv-loop μ-loop → tie.Start Inv-loop μ-loop
@@ -42,14 +43,14 @@ plan-of s = first (second s) .before .before
 abbrev loaded : tie.After-pass Inv-loop μ-loop → tie.After-load-set Inv-loop μ-loop
 loaded d = d .before .before .before
 
-abbrev passed : tie.After-at Inv-loop μ-loop → tie.After-pass Inv-loop μ-loop
+abbrev passed : tie.After-place Inv-loop μ-loop → tie.After-pass Inv-loop μ-loop
 passed c = c .before .before .before .before .before .before .before .before
 
 loop-holds : tie.Need-loop-holds Inv-loop μ-loop
 loop-holds c =
     let a = c .before .before .before in
     let w = width-in-range (a .args .form .xtrans) _ (c .width .ensures) in
-    (search needs, (c .width .ensures, w .0, w .1, w .2), rw (c .width .ensures) (a .pre .0 .1 .0), a .pre .0 .1 .1, a .pre .1 .1, runs-none _ _)
+    (search needs, (c .width .ensures, w .0, w .1, w .2), rw (c .width .ensures) (a .pre .0 .1 .0), a .pre .0 .1 .1, a .pre .1 .1 .0, runs-none _ _)
 
 set-guards-requires : tie.Need-set-guards-requires Inv-loop μ-loop
 set-guards-requires c κs =
@@ -91,6 +92,7 @@ pass-requires c κs =
       base = a .1 .0 .1 .0;
       quantisers = a .1 .0 .1 .1;
       records = rw (s .load-set .ensures .0) (set-in-range _ _ (r .1) (l .inv .4));
+      counted = passes-few _ (a .1 .0 .0 .1) _ _ _ _ _ (a .1 .1 .1) (l .inv .5);
     }
 
 same-length : tie.Need-same-length Inv-loop μ-loop
@@ -113,7 +115,7 @@ returns c =
     let s = loaded d in
     let p = plan-of s in
     let l = p .before .before .loop in (
-      rw (pass-cut _ _ _ _ _ _ _ _ _ _ _ _ _ _ (l .inv .5) (l .inv .1 .0) (p .plan-at .ensures) (first (second s) .set-guards .ensures)
+      rw (pass-cut _ _ _ _ _ _ _ _ _ _ _ _ _ (l .inv .5) (l .inv .1 .0) (p .plan-at .ensures) (first (second s) .set-guards .ensures)
           (second s .set-guards2 .ensures) (s .load-set .ensures .0) _ (d .pass .result) (d .pass .ensures .answer) (p .before .loop-test .taken)
           (not-true _ (c .if1 .taken))) refl,
       rw (s .load-set .ensures .1) (l .inv .4),
@@ -147,20 +149,20 @@ loop-again c =
       omega (arith, t .kept, s .load-set .kept, l .inv .3),
       rw e (put-in-range _ _ _ (r .1) (l .inv .3) (d .pass .ensures .records) (l .inv .4)),
       rw e
-          (pass-read _ _ _ _ _ _ _ _ _ _ _ _ _ _ (l .inv .5) (l .inv .1 .0) (p .plan-at .ensures) (first (second s) .set-guards .ensures)
+          (pass-read _ _ _ _ _ _ _ _ _ _ _ _ _ (l .inv .5) (l .inv .1 .0) (p .plan-at .ensures) (first (second s) .set-guards .ensures)
           (second s .set-guards2 .ensures) (s .load-set .ensures .0) _ (d .pass .result) (d .pass .ensures .answer)
           (not-false _ (c .before .before .before .before .before .if1 .left))),
     )
 
 returns-2 : tie.Need-returns-2 Inv-loop μ-loop
 returns-2 c =
-    let l = c .before .before .before .loop in
+    let l = c .before .before .before .before .loop in
     let past = sym (c .before .is-past .ensures) ∙ c .if2 .taken in
     (rw (line-past _ _ _ (l .i) _ _ (omega arith) (l .inv .0) (l .inv .5) past) refl, l .inv .4)
 
 returns-3 : tie.Need-returns-3 Inv-loop μ-loop
 returns-3 c =
-    let l = c .before .before .before .loop in
+    let l = c .before .before .before .before .loop in
     let past = sym (c .before .is-past .ensures) ∙ c .if2 .left in
     (rw (line-read _ _ _ (l .i) _ _ (omega arith) (l .inv .0) (l .inv .5) past) (refl, refl, refl), l .inv .4)
 

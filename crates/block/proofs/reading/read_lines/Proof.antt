@@ -9,7 +9,8 @@ use lib.ListN.{length}
 use Rattle.map.specs.Places.{widthOf, Fits}
 use Rattle.map.proofs.PartLaws.{fits-kept}
 use Rattle.map.proofs.PlaceLaws.{width-le}
-use Rattle.block.specs.Blocks.{AllInRange, readLines, linesOf, tightLines, Shown}
+use Rattle.block.specs.Blocks.{AllInRange, readLines, linesOf, tightBefore, stateAt, Shown}
+use Rattle.block.proofs.KeepLaws.{lines-few}
 use Rattle.block.proofs.RangeLaws.{all-started, all-kept}
 use Rattle.block.proofs.BlockLaws.{base-known, block-starts, line-more, line-cut, tight-none, tight-more, read-all, cut-at}
 use Rattle.block.proofs.ImageLaws.{shown-none, shown-more}
@@ -17,18 +18,18 @@ use Rattle.block.proofs.reading.read_lines.Statement.{statement}
 use Rattle.block.proofs.reading.read_lines.Proof.derived.Tie as tie
 
 abbrev Inv-loop : tie.InvT-loop
-Inv-loop block bases lines₀ rs₀ image₀ form places tile part count bits xtrans w at₀ tight₀ tight-lines₀ n₀ lines rs image at tight tight-lines n =
+Inv-loop block bases lines₀ rs₀ image₀ form places tile part count bits xtrans w place₀ tight-lines₀ n₀ lines rs image place tight-lines n =
     (n ≤ count) × ((w ≡ widthOf (form .xtrans)) × (w ≤ 512)) × (length lines ≡ 18 * (w + 2)) × (length rs ≡ 336) × AllInRange rs
-    × ((tight-lines ≡ tightLines form bases block n) × (tight-lines ≤ n))
+    × ((tight-lines ≡ tightBefore form bases block n) × (tight-lines .lines ≤ n))
     × (Fits part image × Shown form bases block tile part n image₀ image)
-    × (readLines form bases block n ≡ some (record { lines = lines; records = rs; at = at; tight = tight }))
+    × (readLines form bases block n ≡ some (stateAt lines rs place))
 
 abbrev μ-loop : tie.MeasureT-loop
-μ-loop block bases lines₀ rs₀ image₀ form places tile part count bits xtrans w at₀ tight₀ tight-lines₀ n₀ lines rs image at tight tight-lines n = count - n
+μ-loop block bases lines₀ rs₀ image₀ form places tile part count bits xtrans w place₀ tight-lines₀ n₀ lines rs image place tight-lines n = count - n
 
 -- places before a place
 abbrev start : tie.At-loop Inv-loop μ-loop → tie.Start Inv-loop μ-loop
-start l = l .before .before .before .before .before .before .before .before .before .before .before .before .before .before
+start l = l .before .before .before .before .before .before .before .before .before .before .before .before .before .before .before .before
 
 abbrev based : tie.After-restart Inv-loop μ-loop → tie.After-base-of2 Inv-loop μ-loop
 based r = r .before .before .before
@@ -43,15 +44,16 @@ abbrev looped : tie.After-restart Inv-loop μ-loop → tie.At-loop Inv-loop μ-l
 looped r = turned r .before .before .before
 
 abbrev lined : tie.After-slice-known6 Inv-loop μ-loop → tie.After-line Inv-loop μ-loop
-lined c = c .before .before .before .before .before .before .before .before .before .before .before .before
+lined c = c .before .before .before .before .before .before .before .before .before .before .before .before .before
 
-abbrev cut : tie.After-enum-told Inv-loop μ-loop → tie.After-line Inv-loop μ-loop
-cut c = c .before .before .before .before .before
+abbrev cut : tie.After-totals-at Inv-loop μ-loop → tie.After-line Inv-loop μ-loop
+cut c = c .before .before .before .before .before .before
 
 loop-holds : tie.Need-loop-holds Inv-loop μ-loop
 loop-holds c =
-    let s = c .before .start-records in
-    let k = c .before .before .before .before .before .before in
+    let r = c .before .before .before in
+    let s = r .start-records in
+    let k = r .before .before .before .before .before in
     let w = k .before .before in
     let a = w .before .before .before .before .before in (
       search needs,
@@ -59,10 +61,16 @@ loop-holds c =
       omega (arith, k .clear .kept, a .pre .0, w .width .ensures),
       omega (arith, s .kept, a .pre .0),
       rw (s .ensures) (all-started _ _ (a .pre .1 .0 .0 .1)),
-      (tight-none _ _ _, search needs),
+      (c .no-lines .ensures ∙ tight-none _ _ _, rw (c .no-lines .ensures) (omega arith)),
       (a .pre .1 .1 .1, shown-none _ _ _ _ _ _),
-      block-starts _ _ _ _ _ (k .clear .ensures ∙ rw (a .pre .0 .1 .0)) (s .ensures ∙ rw (c .before .before .base-of .ensures .0)),
+      block-starts _ _ _ _ _ _ (k .clear .ensures ∙ rw (a .pre .0 .1 .0)) (s .ensures ∙ rw (r .before .base-of .ensures .0)) (c .before .start-place .ensures),
     )
+
+restart-requires : tie.Need-restart-requires Inv-loop μ-loop
+restart-requires c κs =
+    let b = c .before .before in
+    let l = b .before .before .before .before .before .before in
+    search (needs, start l .pre .1 .0 .0, l .loop .inv .3, b .base-of2 .ensures .1)
 
 quantisers-of-requires : tie.Need-quantisers-of-requires Inv-loop μ-loop
 quantisers-of-requires c κs =
@@ -79,7 +87,10 @@ line-requires c κs =
       (a .0 .0, (omega (arith, turned r .turn .kept, l .inv .1 .0, l .inv .2), omega (arith, r .restart .kept, l .inv .3))),
       (
         (a .1 .0 .0, (omega (arith, Q .0, b .ensures .1), Q .1)),
-        all-kept (r .before .is-restarted .result) _ (b .result) (l .rs) _ (a .1 .0 .0 .1) (r .restart .ensures) (l .inv .4),
+        (
+          all-kept (r .before .is-restarted .result) _ (b .result) (l .rs) _ (a .1 .0 .0 .1) (r .restart .ensures) (l .inv .4),
+          lines-few _ (a .1 .0 .0 .1) _ _ _ _ (l .inv .7),
+        ),
       ),
     )
 
@@ -105,21 +116,21 @@ returns c =
     let d = cut c in
     let r = restarted d in
     let l = looped r .loop in (
-      cut-at _ _ _ _ _ _ (turned r .before .before .loop-test .taken) (l .inv .7)
-          (line-cut _ _ _ _ _ _ _ _ _ _ _ _ _ _ (l .inv .7) (l .inv .1 .0) (based r .base-of2 .ensures .0) (r .before .is-restarted .ensures)
+      cut-at _ _ _ _ _ _ _ (turned r .before .before .loop-test .taken) (l .inv .7) (c .totals-at .ensures)
+          (line-cut _ _ _ _ _ _ _ _ _ _ _ _ _ (l .inv .7) (l .inv .1 .0) (based r .base-of2 .ensures .0) (r .before .is-restarted .ensures)
           (d .before .quantisers-of .ensures) (turned r .turn .ensures) (r .restart .ensures) _ _ (d .line .result) (d .line .ensures .0)
-          (c .enum-told .given .1)),
+          (c .before .enum-told .given .1)),
       l .inv .6 .1,
     )
 
-tight-count-requires : tie.Need-tight-count-requires Inv-loop μ-loop
-tight-count-requires c κs =
-    let r = restarted (c .before .before .before .before .before .before) in
+with-line-requires : tie.Need-with-line-requires Inv-loop μ-loop
+with-line-requires c κs =
+    let r = restarted (c .before .before .before .before .before .before .before) in
     (looped r .loop .inv .5 .1, omega (arith, turned r .before .before .loop-test .taken, start (looped r) .pre .1 .0 .1))
 
 emit-line-requires : tie.Need-emit-line-requires Inv-loop μ-loop
 emit-line-requires c κs =
-    let d = c .before .before .before .before .before .before .before .before .before in
+    let d = c .before .before .before .before .before .before .before .before .before .before in
     let r = restarted d in
     let l = looped r .loop in
     let a = start (looped r) .pre in (
@@ -138,20 +149,21 @@ loop-less c = omega (arith, turned (restarted (lined c)) .before .before .loop-t
 loop-again : tie.Need-loop-again Inv-loop μ-loop
 loop-again c =
     let e = c .before .before .emit-line in
-    let k = c .before .before .before .before .before .tight-count in
+    let k = c .before .before .before .before .before .with-line in
+    let total = c .before .before .before .before .before .before .totals-at2 .ensures in
     let d = lined c in
     let r = restarted d in
     let l = looped r .loop in
     let more =
-    line-more _ _ _ _ _ _ _ _ _ _ _ _ _ _ (l .inv .7) (l .inv .1 .0) (based r .base-of2 .ensures .0) (r .before .is-restarted .ensures)
-    (d .before .quantisers-of .ensures) (turned r .turn .ensures) (r .restart .ensures) _ _ (d .line .result) (d .line .ensures .0) _ _
-    (c .before .before .before .before .before .before .before .got .given .1) in (
+    line-more _ _ _ _ _ _ _ _ _ _ _ _ _ (l .inv .7) (l .inv .1 .0) (based r .base-of2 .ensures .0) (r .before .is-restarted .ensures)
+    (d .before .quantisers-of .ensures) (turned r .turn .ensures) (r .restart .ensures) _ _ (d .line .result) (d .line .ensures .0) _
+    (c .before .before .before .before .before .before .before .before .got .given .1) in (
       omega (arith, turned r .before .before .loop-test .taken),
       l .inv .1,
       omega (arith, d .line .kept, turned r .turn .kept, l .inv .2),
       omega (arith, d .line .kept, r .restart .kept, l .inv .3),
       d .line .ensures .1,
-      (tight-more _ _ _ _ _ _ _ (l .inv .5 .0) more (k .ensures .0), k .ensures .1),
+      (tight-more _ _ _ _ _ more _ _ _ (l .inv .5 .0) total (k .ensures .0), k .ensures .1),
       (
         fits-kept _ _ _ (e .ensures .kept) (l .inv .6 .0),
         shown-more _ _ _ _ _ _ _ _ _ _ _ (l .inv .1 .0) (ap linesOf more) (l .inv .6 .1) (e .ensures),
@@ -159,14 +171,24 @@ loop-again c =
       more,
     )
 
+same-length-4 : tie.Need-same-length-4 Inv-loop μ-loop
+same-length-4 c =
+    let l = c .before .before in
+    omega (arith, l .loop .inv .1 .0, l .loop .inv .2, start l .pre .0)
+
+same-length-5 : tie.Need-same-length-5 Inv-loop μ-loop
+same-length-5 c =
+    let l = c .before .before in
+    omega (arith, l .loop .inv .3, start l .pre .0)
+
 same-length-6 : tie.Need-same-length-6 Inv-loop μ-loop
-same-length-6 c = c .before .loop .inv .6 .1 .kept
+same-length-6 c = c .before .before .loop .inv .6 .1 .kept
 
 returns-2 : tie.Need-returns-2 Inv-loop μ-loop
 returns-2 c =
-    let l = c .before .loop in
-    let e : l .n ≡ start (c .before) .args .count = omega arith in
-    (read-all _ _ _ (l .n) _ _ _ e (l .inv .7) (l .inv .5 .0), rw e at (l .inv .6 .1))
+    let l = c .before .before .loop in
+    let e : l .n ≡ start (c .before .before) .args .count = omega arith in
+    (read-all _ _ _ (l .n) _ _ _ _ e (l .inv .7) (c .totals-at3 .ensures) (l .inv .5 .0), rw e at (l .inv .6 .1))
 
 pub read-lines-spec : {M : Type 1} → statement M
 read-lines-spec =
@@ -178,25 +200,30 @@ read-lines-spec =
     (λ c. search needs)
     (λ c. search needs)
     (λ c. search needs)
+    (λ c. search needs)
+    (λ c. search needs)
     loop-holds
     (λ c. search needs)
     (λ c. search needs)
     (λ c. search needs)
-    (λ c. search needs)
+    restart-requires
     quantisers-of-requires
     line-requires
+    (λ c. search needs)
     (λ c. search needs)
     (λ c. search needs)
     same-length
     same-length-2
     same-length-3
     returns
-    tight-count-requires
+    (λ c. search needs)
+    with-line-requires
     emit-line-requires
     add-n
     loop-less
     loop-again
     (λ c. search needs)
-    (λ c. search needs)
+    same-length-4
+    same-length-5
     same-length-6
     returns-2)

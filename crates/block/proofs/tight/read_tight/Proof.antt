@@ -1,10 +1,10 @@
 -- `block::read_tight` meets its contract, by the two ways in which a call begins. Assumes nothing.
 mod derived
 use borrow.Author.Needs.{needs}
-use mathlib.Core.Path.{sym, _∙_}
-use Rattle.begin.proofs.CallLaws.{tight-reads}
+use mathlib.Core.Path.{refl, sym, _∙_}
+use Rattle.begin.proofs.CallLaws.{block-reads}
 use Rattle.block.specs.Lent.{Scratch}
-use Rattle.block.proofs.LeftLaws.{tight-refused, tight-reading, lines-back, records-back}
+use Rattle.block.proofs.LeftLaws.{block-refused, block-read, lines-back, records-back}
 use Rattle.block.proofs.tight.read_tight.Statement.{statement}
 use Rattle.block.proofs.tight.read_tight.Proof.derived.Tie as tie
 
@@ -13,40 +13,47 @@ lent s = record { lines = s .args .lines .now; records = s .args .rs .now }
 
 returns : tie.Need-returns
 returns c =
-    let k = c .before .before .before in
+    let k = c .before .before .before .before in
     let s = k .before .before .before in
-    tight-refused (s .args .d .now) (s .args .b) (lent s) _ _ (sym (k .tight-begins .ensures) ∙ c .before .begins .given .1)
+    block-refused _ (lent s) _ _ (sym (k .block-begins .ensures) ∙ c .before .before .begins .given .1) _ (c .refused .ensures)
 
-part-end : tie.Need-part-read-tight-block-end
+part-end : tie.Need-part-walk-block-end
 part-end c =
     let m = c .before .before in
-    let k = tight-reads _ _ _ _ _ (sym (m .before .before .tight-begins .ensures) ∙ m .begins2 .given .1) in
+    let k = block-reads _ _ _ _ _ _ (sym (m .before .before .block-begins .ensures) ∙ m .begins2 .given .1) in
     search (needs, k .fits .for-lines)
 
-part-end-2 : tie.Need-part-read-tight-block-end-2
+part-end-2 : tie.Need-part-walk-block-end-2
 part-end-2 c =
     let m = c .before .before .before in
-    let k = tight-reads _ _ _ _ _ (sym (m .before .before .tight-begins .ensures) ∙ m .begins2 .given .1) in
+    let k = block-reads _ _ _ _ _ _ (sym (m .before .before .block-begins .ensures) ∙ m .begins2 .given .1) in
     search (needs, k .fits .for-records)
 
-read-tight-block-requires : tie.Need-read-tight-block-requires
-read-tight-block-requires c κs =
+walk-block-requires : tie.Need-walk-block-requires
+walk-block-requires c κs =
     let m = c .before .before .before .before in
-    let k = tight-reads _ _ _ _ _ (sym (m .before .before .tight-begins .ensures) ∙ m .begins2 .given .1) in
-    ((k .opens, k .lossless), (search needs, search needs))
+    let k = block-reads _ _ _ _ _ _ (sym (m .before .before .block-begins .ensures) ∙ m .begins2 .given .1) in
+    (k .opens, (search needs, search needs))
+
+tight-in-requires : tie.Need-tight-in-requires
+tight-in-requires c κs =
+    let x = c .before .before .before in
+    let m = x .before .before .before .before .before in
+    let k = block-reads _ _ _ _ _ _ (sym (m .before .before .block-begins .ensures) ∙ m .begins2 .given .1) in
+    ((k .opens, k .lossless refl), x .walk-block .ensures .0)
 
 returns-2 : tie.Need-returns-2
 returns-2 c =
-    let x = c .before .before .before in
+    let x = c .before .before .before .before in
     let n = x .before .before .before in
     let m = n .before .before in
     let s = m .before .before .before .before .before in
     let h = m .begins2 .given .0 .0 in
-    tight-reading (s .args .d .now) (s .args .b) (lent s) _ h (sym (m .before .before .tight-begins .ensures) ∙ m .begins2 .given .1) _ _
+    block-read _ (lent s) _ h (sym (m .before .before .block-begins .ensures) ∙ m .begins2 .given .1) _ _
     (record {
-      answered = x .read-tight-block .ensures .0;
-      lines = lines-back (h .xtrans) (n .samples-needed .result) (s .args .lines .now) _ (n .samples-needed .ensures .0) (x .read-tight-block .ensures .1 .0);
-      records = records-back (s .args .rs .now) _ (x .read-tight-block .ensures .1 .1);
+      answered = c .tight-in .ensures;
+      lines = lines-back (h .xtrans) (n .samples-needed .result) (s .args .lines .now) _ (n .samples-needed .ensures .0) (x .walk-block .ensures .1 .0);
+      records = records-back (s .args .rs .now) _ (x .walk-block .ensures .1 .1);
     })
 
 pub read-tight-spec : {M : Type 1} → statement M
@@ -55,6 +62,7 @@ read-tight-spec =
     (tie.spec
     (λ c κs. search needs)
     (λ c. search needs)
+    (λ c κs. search needs)
     (λ c. search needs)
     (λ c κs. search needs)
     (λ c. search needs)
@@ -63,7 +71,8 @@ read-tight-spec =
     (λ c. search needs)
     (λ c. search needs)
     part-end-2
-    read-tight-block-requires
+    walk-block-requires
+    tight-in-requires
     returns
     (λ c. search needs)
     (λ c. search needs)

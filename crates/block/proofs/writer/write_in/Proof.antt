@@ -3,7 +3,7 @@ mod derived
 use borrow.Author.Needs.{needs}
 use mathlib.Core.Bool.{Bool}
 use mathlib.Core.List.{List}
-use mathlib.Core.Path.{_≡_, sym, _∙_}
+use mathlib.Core.Path.{_≡_, refl, sym, _∙_}
 use Prim.Native.Nat.{ℕ}
 use native.Mathlib.Omega.{arith}
 use lib.ListN.{length}
@@ -48,14 +48,14 @@ sized F h n t e en s = rw (e, en) s
 
 write-set-requires : tie.Need-write-set-requires
 write-set-requires c κs =
-    let n = c .before .before .before in
+    let n = c .before .before .before .before in
     let f = n .before in
     let m = f .before .before .before in
     let s = m .before .before .before .before .before .before .before in
     let h = m .begins2 .given .0 .0 in
     let k = writing-goes _ _ _ _ _ (sym (m .before .before .writing-begins .ensures) ∙ m .begins2 .given .1) in (
       (omega (arith, n .line-count .ensures, k .is-ruled .lines-high), sized _ h _ (s .args .samples .now) (f .form-of .ensures) (n .line-count .ensures) (k .size)),
-      (form-depth _ h (f .form-of .ensures) (k .is-ruled), (form-samples _ h (f .form-of .ensures) _ (search needs), search needs)),
+      ((form-depth _ h (f .form-of .ensures) (k .is-ruled), (form-samples _ h (f .form-of .ensures) _ (search needs), search needs)), refl),
     )
 
 -- what the set answers, under the header
@@ -70,7 +70,7 @@ answered F h n measure t out out' a e en p = rw (e, en) at p
 returns-2 : tie.Need-returns-2
 returns-2 c =
     let x = c .before .before .before .before .before in
-    let n = x .before .before .before .before in
+    let n = x .before .before .before .before .before in
     let f = n .before in
     let u = f .before in
     let m = u .before .before in
@@ -101,6 +101,9 @@ write-in-spec =
     (λ c. search needs)
     (λ c. search needs)
     part-end-2
+    (λ c. search needs)
+    (λ c. search needs)
+    (λ c. search needs)
     write-set-requires
     returns
     (λ c. search needs)

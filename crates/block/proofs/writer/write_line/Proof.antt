@@ -13,18 +13,18 @@ use Rattle.block.specs.Records.{putSet}
 use Rattle.block.specs.WrittenAnswers.{passesFrom}
 use Rattle.block.proofs.LineLaws.{planned, width-in-range}
 use Rattle.block.proofs.RangeLaws.{set-in-range, put-in-range}
-use Rattle.block.proofs.WalkLaws.{Sofar, passes-start, pass-samples, pass-position, pass-room, pass-more, pass-failed, passes-done}
+use Rattle.block.proofs.WalkLaws.{Sofar, pass-wanted, passes-start, pass-samples, pass-position, pass-room, pass-more, pass-failed, passes-done}
 use Rattle.block.proofs.writer.write_line.Statement.{statement}
 use Rattle.block.proofs.writer.write_line.Proof.derived.Tie as tie
 
 abbrev Inv-loop : tie.InvT-loop
-Inv-loop samples n out₀ store lines₀ rs₀ bits xtrans w at₀ i₀ out lines rs at i =
+Inv-loop samples n out₀ store lines₀ rs₀ qs strict bits xtrans w at₀ i₀ out lines rs at i =
     (i ≤ 6) × ((w ≡ widthOf xtrans) × (8 ≤ w) × (w ≤ 512) × (w % 2 ≡ 0)) × (length lines ≡ 18 * (w + 2)) × (length rs ≡ 336) × AllInRange rs
     × (length out ≡ length out₀)
-    × Sofar (passesFrom (record { bits = bits; xtrans = xtrans }) samples n i lines₀ rs₀) (at₀ .0) store out₀ lines rs out at
+    × Sofar (passesFrom (record { bits = bits; xtrans = xtrans }) (qs .base) strict samples n i lines₀ rs₀) (at₀ .0) store out₀ lines rs out at
 
 abbrev μ-loop : tie.MeasureT-loop
-μ-loop samples n out₀ store lines₀ rs₀ bits xtrans w at₀ i₀ out lines rs at i = 6 - i
+μ-loop samples n out₀ store lines₀ rs₀ qs strict bits xtrans w at₀ i₀ out lines rs at i = 6 - i
 
 -- places before a place
 abbrev start : tie.At-loop Inv-loop μ-loop → tie.Start Inv-loop μ-loop
@@ -55,7 +55,7 @@ loop-holds c =
       a .pre .1 .0 .1 .1,
       a .pre .1 .1 .0 .1,
       refl,
-      passes-start _ _ _ _ _ _ _ _,
+      passes-start _ _ _ _ _ _ _ _ _ _,
     )
 
 set-guards-requires : tie.Need-set-guards-requires Inv-loop μ-loop
@@ -98,14 +98,16 @@ write-pass-requires c κs =
       depth = a .pre .1 .0 .0;
       line = a .pre .0 .0;
       samples = rw (w .0) (a .pre .0 .1 .0);
-      wanted = a .pre .0 .1 .1;
+      base = a .pre .1 .1 .1 .1 .0;
+      quantisers = a .pre .1 .1 .1 .1 .1;
+      wanted = pass-wanted (a .args .form) _ _ (l .i) _ _ (w .0) (p .plan-at .ensures) (a .pre .0 .1 .1);
       long = omega (arith, second s .set-guards2 .kept, first (second s) .set-guards .kept, l .inv .2);
-      held = pass-samples _ _ _ _ _ (l .i) _ _ t _ _ _ _ _ _ _ _ _ _ (l .inv .6) (l .inv .5) (a .pre .1 .1 .1 .1) (w .0) (p .plan-at .ensures) g₁ g₂ (s .load-set .ensures .0)
-          (a .pre .0 .1 .1) (a .pre .1 .1 .0 .0);
+      held = pass-samples _ _ _ _ _ _ _ (l .i) _ _ t _ _ _ _ _ _ _ _ _ _ (l .inv .6) (l .inv .5) (a .pre .1 .1 .1 .0 .1) (w .0) (p .plan-at .ensures) g₁ g₂ (s .load-set .ensures .0)
+          (a .pre .1 .1 .0 .0);
       records = rw (s .load-set .ensures .0) (set-in-range _ _ (r .1) (l .inv .4));
-      position = pass-position _ _ _ _ _ (l .i) _ _ t _ _ _ _ _ _ _ _ _ _ (l .inv .6) (l .inv .5) (a .pre .1 .1 .1 .1) (w .0) (p .plan-at .ensures) g₁ g₂ (s .load-set .ensures .0)
-          (a .pre .1 .0 .0 .1) (a .pre .1 .1 .1 .0);
-      room = pass-room _ _ _ _ _ (l .i) _ _ t _ _ _ _ _ _ _ _ _ _ (l .inv .6) (l .inv .5) (a .pre .1 .1 .1 .1) (w .0) (p .plan-at .ensures) g₁ g₂ (s .load-set .ensures .0);
+      position = pass-position _ _ _ _ _ _ _ (l .i) _ _ t _ _ _ _ _ _ _ _ _ _ (l .inv .6) (l .inv .5) (a .pre .1 .1 .1 .0 .1) (w .0) (p .plan-at .ensures) g₁ g₂ (s .load-set .ensures .0)
+          (a .pre .1 .0 .0 .1) (a .pre .1 .1 .1 .0 .0);
+      room = pass-room _ _ _ _ _ _ _ (l .i) _ _ t _ _ _ _ _ _ _ _ _ _ (l .inv .6) (l .inv .5) (a .pre .1 .1 .1 .0 .1) (w .0) (p .plan-at .ensures) g₁ g₂ (s .load-set .ensures .0);
     }
 
 same-length : tie.Need-same-length Inv-loop μ-loop
@@ -135,7 +137,7 @@ returns c =
     let p = plan-of s in
     let l = p .before .before .loop in
     let a = start (p .before .before) in (
-      pass-failed _ _ _ _ _ (l .i) _ _ (p .before .loop-test .taken) _ _ _ _ _ _ _ _ _ _ (l .inv .6) (l .inv .5) (a .pre .1 .1 .1 .1) (l .inv .1 .0) (p .plan-at .ensures)
+      pass-failed _ _ _ _ _ _ _ (l .i) _ _ (p .before .loop-test .taken) _ _ _ _ _ _ _ _ _ _ (l .inv .6) (l .inv .5) (a .pre .1 .1 .1 .0 .1) (l .inv .1 .0) (p .plan-at .ensures)
           (first (second s) .set-guards .ensures) (second s .set-guards2 .ensures) (s .load-set .ensures .0) _ _ (d .write-pass .result) (d .write-pass .ensures .answer) _
           (not-true _ (c .if1 .taken)),
       rw (s .load-set .ensures .1) (l .inv .4),
@@ -171,7 +173,7 @@ loop-again c =
       rw e (put-in-range _ _ _ (r .1) (l .inv .3) (d .write-pass .ensures .records) (l .inv .4)),
       omega (arith, d .write-pass .kept, l .inv .5),
       rw e
-          (pass-more _ _ _ _ _ (l .i) _ _ (p .before .loop-test .taken) _ _ _ _ _ _ _ _ _ _ (l .inv .6) (l .inv .5) (a .pre .1 .1 .1 .1) (l .inv .1 .0) (p .plan-at .ensures)
+          (pass-more _ _ _ _ _ _ _ (l .i) _ _ (p .before .loop-test .taken) _ _ _ _ _ _ _ _ _ _ (l .inv .6) (l .inv .5) (a .pre .1 .1 .1 .0 .1) (l .inv .1 .0) (p .plan-at .ensures)
           (first (second s) .set-guards .ensures) (second s .set-guards2 .ensures) (s .load-set .ensures .0) _ _ (d .write-pass .result) (d .write-pass .ensures .answer)
           (not-false _ (c .before .before .before .before .before .if1 .left))),
     )
@@ -179,7 +181,7 @@ loop-again c =
 returns-2 : tie.Need-returns-2 Inv-loop μ-loop
 returns-2 c =
     let l = c .before .loop in
-    (passes-done _ _ _ _ _ (l .i) _ _ _ _ _ _ _ (omega arith) (l .inv .6), l .inv .4)
+    (passes-done _ _ _ _ _ _ _ (l .i) _ _ _ _ _ _ _ (omega arith) (l .inv .6), l .inv .4)
 
 pub write-line-spec : {M : Type 1} → statement M
 write-line-spec =

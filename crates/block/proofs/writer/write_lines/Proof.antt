@@ -4,37 +4,40 @@ use borrow.Author.Needs.{needs}
 use mathlib.Core.Path.{_≡_, refl, _∙_}
 use Prim.Native.Nat.{_+_, _-_, _*_, _≤_}
 use native.Mathlib.Omega.{arith}
-use lib.Dec.{eqb}
 use lib.ListN.{length}
 use Rattle.map.specs.Places.{widthOf}
 use Rattle.map.proofs.PlaceLaws.{width-le}
 use Rattle.block.specs.Blocks.{AllInRange}
-use Rattle.block.specs.WrittenBlocks.{writeLines}
+use Rattle.block.specs.WrittenBlocks.{isStrict, writeLines}
+use Rattle.block.proofs.BlockLaws.{base-known}
 use Rattle.block.proofs.RangeLaws.{all-started, all-kept}
 use Rattle.block.proofs.WalkLaws.{Sofar, lines-start, lines-done, line-room, line-samples, line-position, line-more, line-failed, line-size}
 use Rattle.block.proofs.writer.write_lines.Statement.{statement}
 use Rattle.block.proofs.writer.write_lines.Proof.derived.Tie as tie
 
 abbrev Inv-loop : tie.InvT-loop
-Inv-loop samples out₀ store lines₀ rs₀ form count bits w at₀ n₀ out lines rs at n =
+Inv-loop samples out₀ store lines₀ rs₀ form bases count bits w strict at₀ n₀ out lines rs at n =
     (n ≤ count) × ((w ≡ widthOf (form .xtrans)) × (w ≤ 512)) × (length lines ≡ 18 * (w + 2)) × (length rs ≡ 336) × AllInRange rs
-    × (length out ≡ length out₀) × Sofar (writeLines form samples n) 0 store out₀ lines rs out at
+    × (length out ≡ length out₀) × Sofar (writeLines form bases samples n) 0 store out₀ lines rs out at
 
 abbrev μ-loop : tie.MeasureT-loop
-μ-loop samples out₀ store lines₀ rs₀ form count bits w at₀ n₀ out lines rs at n = count - n
+μ-loop samples out₀ store lines₀ rs₀ form bases count bits w strict at₀ n₀ out lines rs at n = count - n
 
 -- places before a place
 abbrev start : tie.At-loop Inv-loop μ-loop → tie.Start Inv-loop μ-loop
-start l = l .before .before .before .before .before .before .before .before .before .before .before .before
+start l = l .before .before .before .before .before .before .before .before .before .before .before .before .before .before .before
+
+abbrev based : tie.After-restart Inv-loop μ-loop → tie.After-base-of2 Inv-loop μ-loop
+based r = r .before .before .before
 
 abbrev turned : tie.After-restart Inv-loop μ-loop → tie.After-turn Inv-loop μ-loop
-turned r = r .before .before .before .before
+turned r = based r .before .before .before
 
 abbrev looped : tie.After-restart Inv-loop μ-loop → tie.At-loop Inv-loop μ-loop
 looped r = turned r .before .before .before
 
 abbrev restarted : tie.After-write-line Inv-loop μ-loop → tie.After-restart Inv-loop μ-loop
-restarted d = d .before .before .before .before .before
+restarted d = d .before .before .before .before .before .before
 
 abbrev lined : tie.After-known-told Inv-loop μ-loop → tie.After-write-line Inv-loop μ-loop
 lined c = c .before .before .before .before .before .before .before .before
@@ -45,24 +48,35 @@ failed c = c .before .before .before .before .before .before .before
 loop-holds : tie.Need-loop-holds Inv-loop μ-loop
 loop-holds c =
     let s = c .before .start-records in
-    let k = c .before .before .before .before .before in
-    let w = k .before .before in
-    let a = w .before .before .before .before in (
+    let k = c .before .before .before .before .before .before in
+    let w = k .before .before .before in
+    let a = w .before .before .before .before .before in (
       search needs,
       (w .width .ensures, rw (w .width .ensures) (width-le (a .args .form .xtrans))),
       omega (arith, k .clear .kept, a .pre .1 .0 .1 .0, w .width .ensures),
       omega (arith, s .kept, a .pre .1 .0 .1 .1),
       rw (s .ensures) (all-started _ _ (a .pre .1 .0 .0 .1)),
       refl,
-      lines-start _ _ _ _ _ _ (k .clear .ensures ∙ rw (a .pre .1 .0 .1 .0)) (s .ensures),
+      lines-start _ _ _ _ _ _ _ (k .clear .ensures ∙ rw (a .pre .1 .0 .1 .0)) (s .ensures ∙ rw (c .before .before .base-of .ensures .0)),
     )
+
+quantisers-of-requires : tie.Need-quantisers-of-requires Inv-loop μ-loop
+quantisers-of-requires c κs =
+    let r = c .before .before .before .before in
+    (start (looped r) .pre .1 .0 .0, based r .base-of2 .ensures .1)
+
+-- whether the set is held to its predictions
+strict-is : (l : tie.At-loop Inv-loop μ-loop) → l .before .before .before .before .before .before .before .before .before .is-strict .result ≡ isStrict (start l .args .bases .now)
+strict-is l = l .before .before .before .before .before .before .before .before .before .is-strict .ensures
 
 write-line-requires : tie.Need-write-line-requires Inv-loop μ-loop
 write-line-requires c κs =
-    let r = c .before .before .before .before in
+    let r = c .before .before .before .before .before in
+    let b = based r .base-of2 .ensures in
     let l = looped r .loop in
     let a = start (looped r) in
-    let t = turned r .before .before .loop-test .taken in (
+    let t = turned r .before .before .loop-test .taken in
+    let Q = base-known _ _ _ (c .quantisers-of .ensures) in (
       (
         omega (arith, t, a .pre .0 .0),
         (line-size (widthOf (a .args .form .xtrans)) (l .n) (a .args .count) (a .args .samples .now) t (a .pre .0 .1 .0), a .pre .0 .1 .1),
@@ -71,12 +85,18 @@ write-line-requires c κs =
         (a .pre .1 .0 .0, (omega (arith, turned r .turn .kept, l .inv .1 .0, l .inv .2), omega (arith, r .restart .kept, l .inv .3))),
         (
           (
-            line-samples _ _ (l .n) _ _ _ t _ _ _ _ _ _ _ _ (l .inv .6) (l .inv .5) (a .pre .1 .1) (l .inv .1 .0) refl (turned r .turn .ensures) (r .restart .ensures) (a .pre .0 .1 .1),
-            all-kept (eqb (l .n) 0) _ 0 (l .rs) _ (a .pre .1 .0 .0 .1) (r .restart .ensures) (l .inv .4),
+            line-samples _ _ _ (l .n) _ _ _ _ _ _ t _ _ _ _ _ _ _ _ (l .inv .6) (l .inv .5) (a .pre .1 .1) (l .inv .1 .0) (Q .0) (b .0) (strict-is (looped r)) (r .before .is-restarted .ensures)
+                (turned r .turn .ensures) (r .restart .ensures),
+            all-kept (r .before .is-restarted .result) _ (based r .base-of2 .result) (l .rs) _ (a .pre .1 .0 .0 .1) (r .restart .ensures) (l .inv .4),
           ),
           (
-            line-position _ _ (l .n) _ _ _ t _ _ _ _ _ _ _ _ (l .inv .6) (l .inv .5) (a .pre .1 .1) (l .inv .1 .0) refl (turned r .turn .ensures) (r .restart .ensures) (a .pre .1 .0 .0 .1) (a .pre .0 .0),
-            line-room _ _ (l .n) _ _ _ t _ _ _ _ _ _ _ _ (l .inv .6) (l .inv .5) (a .pre .1 .1) (l .inv .1 .0) refl (turned r .turn .ensures) (r .restart .ensures),
+            (
+              line-position _ _ _ (l .n) _ _ _ _ _ _ t _ _ _ _ _ _ _ _ (l .inv .6) (l .inv .5) (a .pre .1 .1) (l .inv .1 .0) (Q .0) (b .0) (strict-is (looped r)) (r .before .is-restarted .ensures)
+                  (turned r .turn .ensures) (r .restart .ensures) (a .pre .1 .0 .0 .1) (a .pre .0 .0),
+              line-room _ _ _ (l .n) _ _ _ _ _ _ t _ _ _ _ _ _ _ _ (l .inv .6) (l .inv .5) (a .pre .1 .1) (l .inv .1 .0) (Q .0) (b .0) (strict-is (looped r)) (r .before .is-restarted .ensures)
+                  (turned r .turn .ensures) (r .restart .ensures),
+            ),
+            (omega (arith, Q .0, b .1), Q .1),
           ),
         ),
       ),
@@ -107,7 +127,8 @@ returns c =
     let r = restarted d in
     let l = looped r .loop in
     let a = start (looped r) in
-    line-failed _ _ (l .n) _ _ _ (turned r .before .before .loop-test .taken) _ _ _ _ _ _ _ _ (l .inv .6) (l .inv .5) (a .pre .1 .1) (l .inv .1 .0) refl (turned r .turn .ensures)
+    line-failed _ _ _ (l .n) _ _ _ _ _ _ (turned r .before .before .loop-test .taken) _ _ _ _ _ _ _ _ (l .inv .6) (l .inv .5) (a .pre .1 .1) (l .inv .1 .0)
+    (base-known _ _ _ (d .before .quantisers-of .ensures) .0) (based r .base-of2 .ensures .0) (strict-is (looped r)) (r .before .is-restarted .ensures) (turned r .turn .ensures)
     (r .restart .ensures) _ _ _ (d .write-line .result) (d .write-line .ensures .0) _ (c .enum-told .given .1)
 
 add-n : tie.Need-add-n Inv-loop μ-loop
@@ -131,7 +152,8 @@ loop-again c =
       omega (arith, d .write-line .kept, r .restart .kept, l .inv .3),
       d .write-line .ensures .1,
       omega (arith, d .write-line .kept, l .inv .5),
-      line-more _ _ (l .n) _ _ _ t _ _ _ _ _ _ _ _ (l .inv .6) (l .inv .5) (a .pre .1 .1) (l .inv .1 .0) refl (turned r .turn .ensures) (r .restart .ensures) _ _ _
+      line-more _ _ _ (l .n) _ _ _ _ _ _ t _ _ _ _ _ _ _ _ (l .inv .6) (l .inv .5) (a .pre .1 .1) (l .inv .1 .0) (base-known _ _ _ (d .before .quantisers-of .ensures) .0)
+          (based r .base-of2 .ensures .0) (strict-is (looped r)) (r .before .is-restarted .ensures) (turned r .turn .ensures) (r .restart .ensures) _ _ _
           (d .write-line .result) (d .write-line .ensures .0) _ (c .before .got .given .1),
     )
 
@@ -148,7 +170,7 @@ same-length-6 c =
 returns-2 : tie.Need-returns-2 Inv-loop μ-loop
 returns-2 c =
     let l = c .before .loop in
-    lines-done _ _ (l .n) _ _ _ _ _ _ _ (omega arith) (l .inv .6)
+    lines-done _ _ _ (l .n) _ _ _ _ _ _ _ (omega arith) (l .inv .6)
 
 pub write-lines-spec : {M : Type 1} → statement M
 write-lines-spec =
@@ -159,9 +181,14 @@ write-lines-spec =
     (λ c. search needs)
     (λ c. search needs)
     (λ c. search needs)
+    (λ c. search needs)
+    (λ c. search needs)
     loop-holds
     (λ c. search needs)
     (λ c. search needs)
+    (λ c. search needs)
+    (λ c. search needs)
+    quantisers-of-requires
     write-line-requires
     (λ c. search needs)
     (λ c. search needs)

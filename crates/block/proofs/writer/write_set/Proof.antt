@@ -4,12 +4,12 @@ use borrow.Author.Needs.{needs}
 use mathlib.Core.Path.{ap, _∙_}
 use Prim.Native.Nat.{ℕ}
 use lib.ListN.{replicate}
-use Rattle.block.proofs.AnswerLaws.{refused-out, set-above, set-within, set-answer}
+use Rattle.block.proofs.AnswerLaws.{refused-out, set-above, set-wanted, set-answer}
 use Rattle.block.proofs.writer.write_set.Statement.{statement}
 use Rattle.block.proofs.writer.write_set.Proof.derived.Tie as tie
 
 abbrev start : tie.After-first-above → tie.Start
-start f = f .before .before .before .before .before
+start f = f .before .before .before .before .before .before
 
 returns : tie.Need-returns
 returns c =
@@ -21,7 +21,7 @@ returns c =
         set-above (a .args .form) (a .args .count) (a .args .samples .now) _ _ _ (f .before .largest .ensures .0) (f .first-above .ensures) (t .if1 .taken),
         refused-out (a .args .measure) _ _ _,
       ),
-      (k .clear .ensures ∙ ap (λ (n : ℕ). replicate n 0) (a .pre .1 .1 .0), c .before .clear-records .ensures),
+      (k .clear .ensures ∙ ap (λ (n : ℕ). replicate n 0) (a .pre .1 .0 .1 .0), c .before .clear-records .ensures),
     )
 
 write-measured-requires : tie.Need-write-measured-requires
@@ -33,10 +33,10 @@ write-measured-requires c κs =
         a .pre .0 .0,
         (
           a .pre .0 .1,
-          set-within (a .args .form) (a .args .count) (a .args .samples .now) 0 _ _ (f .before .largest .ensures .0) (f .first-above .ensures) (s .if1 .left),
+          set-wanted (a .args .form) (a .args .count) (a .args .samples .now) 0 _ _ (f .before .largest .ensures .0) (f .first-above .ensures) (s .if1 .left),
         ),
       ),
-      a .pre .1,
+      a .pre .1 .0,
     )
 
 returns-2 : tie.Need-returns-2
@@ -44,10 +44,11 @@ returns-2 c =
     let v = c .before .before .before .before .before in
     let s = v .before .before .before .before in
     let f = s .before in
-    let a = start f in (
+    let a = start f in
+    let e = rw (a .pre .1 .1) at (v .write-measured .ensures .0) in (
       (
-        set-answer (a .args .form) (a .args .count) (a .args .samples .now) _ _ _ (f .before .largest .ensures .0) (f .first-above .ensures) (s .if1 .left) _ (v .write-measured .ensures .0 .0),
-        v .write-measured .ensures .0 .1,
+        set-answer (a .args .form) (a .args .count) (a .args .samples .now) _ _ _ (f .before .largest .ensures .0) (f .first-above .ensures) (s .if1 .left) _ (e .0),
+        e .1,
       ),
       v .write-measured .ensures .1,
     )

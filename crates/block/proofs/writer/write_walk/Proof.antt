@@ -10,13 +10,13 @@ use Rattle.block.proofs.writer.write_walk.Statement.{statement}
 use Rattle.block.proofs.writer.write_walk.Proof.derived.Tie as tie
 
 write-lines-requires : tie.Need-write-lines-requires
-write-lines-requires c κs = c .before .before .before .before .before .before .pre
+write-lines-requires c κs = c .before .before .before .before .before .before .before .pre
 
 returns : tie.Need-returns
 returns c =
     let k = c .before .before .before .before .before .clear in
     let d = c .before .before .before .before .before .before .before .before .before .before .before .before in
-    let a = d .before .before .before .before .before .before .before in
+    let a = d .before .before .before .before .before .before .before .before in
     let e : length (d .write-lines .last .1 .1 .1 .0) ≡ 18 * (widthOf (a .args .form .xtrans) + 2) = omega (arith, d .write-lines .kept, a .pre .1 .0 .1 .0) in
     (d .write-lines .ensures, (k .ensures ∙ ap (λ (n : ℕ). replicate n 0) e, c .before .clear-records .ensures))
 

@@ -1,7 +1,7 @@
 -- Written by tools/lend.py from Rattle's derivation of the twin of `block`; not edited by hand. Assumes nothing.
 use Rattle.block.proofs.Element
-use Rattle.block.proofs.Decoded
-use Rattle.block.proofs.Decoded.Laws
+use Rattle.block.proofs.Counted
+use Rattle.block.proofs.Counted.Laws
 use borrow.Fn.Kinds
 use borrow.Kind.MutSlice
 use borrow.Kind.ShrSlice
@@ -10,9 +10,9 @@ use borrow.Rule.Local
 use borrow.Table.Referent
 use borrow.Table.Rows
 use denote.Array
-use denote.Enum.Declared
-use denote.Enum.Laws as Laws'
 use denote.Exit
+use denote.Struct.Declared
+use denote.Struct.Laws as Laws'
 use mathlib.Core.List
 use mathlib.Core.Path as Path'
 use mir.Syntax
@@ -23,20 +23,20 @@ ps = List._∷_ (ShrSlice.pShrS (Referent.rtF (Referent.fInt Syntax.w8)) 0 tt) (
 
 abbrev pub r : Kinds.RK 3
 r = Value.rVal record {
-  ty = Declared.row Decoded.the-type;
+  ty = Declared.row Counted.the-type;
   one = Path'.refl;
-  val = Laws'.val Decoded.the-type Laws.the-laws;
-  tells = Laws'.tells Decoded.the-type Laws.the-laws;
-  still = Laws'.still Decoded.the-type
+  val = Laws'.val Counted.the-type Laws.the-laws;
+  tells = Laws'.tells Counted.the-type Laws.the-laws;
+  still = Laws'.still Counted.the-type
       Laws.the-copy Exit.yes;
-  row = Rows.whole (Declared.row Decoded.the-type);
+  row = Rows.whole (Declared.row Counted.the-type);
   rd = λ x. x;
   mk = λ x. x;
 } λ M 𝓤 H A W. record {
-  copies = Laws'.copy Decoded.the-type Laws.the-copy 𝓤 H A W;
-  lawful = Laws'.lawful Decoded.the-type Laws.the-laws 𝓤 H A W tt;
-  makes = Laws'.makes Decoded.the-type Laws.the-plain 𝓤 H A;
+  copies = Laws'.copy Counted.the-type Laws.the-copy 𝓤 H A W;
+  lawful = Laws'.lawful Counted.the-type Laws.the-laws 𝓤 H A W;
+  makes = Laws'.makes Counted.the-type Laws.the-plain 𝓤 H A;
   in-mem =
-      Local.mem-whole 𝓤 H A W (Declared.row Decoded.the-type);
-  of-mem = Local.whole-mem 𝓤 H A W (Declared.row Decoded.the-type);
+      Local.mem-whole 𝓤 H A W (Declared.row Counted.the-type);
+  of-mem = Local.whole-mem 𝓤 H A W (Declared.row Counted.the-type);
 }

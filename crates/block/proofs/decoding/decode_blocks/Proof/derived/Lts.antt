@@ -92,23 +92,27 @@ y3 = Syntax.tyStruct (List._∷_ 115 (List._∷_ 116 (List._∷_ 114 (List._∷_
     (Syntax.tcons (Syntax.tyInt Syntax.w32) Syntax.tnil)))))))))
 
 abbrev pub y4 : Syntax.Ty
-y4 = Syntax.tyStruct (List._∷_ 38 (List._∷_ 91 (List._∷_ 93 List.[]))) (Syntax.tcons (Syntax.tyRef Syntax.erased Syntax.imm (Syntax.tyInt Syntax.w8)) (Syntax.tcons (Syntax.tyInt Syntax.w64)
-    Syntax.tnil))
+y4 = Syntax.tyStruct (List._∷_ 116 (List._∷_ 111 (List._∷_ 116 (List._∷_ 97 (List._∷_ 108 (List._∷_ 115 (List._∷_ 58 (List._∷_ 58 (List._∷_ 84 (List._∷_ 111 (List._∷_ 116 (List._∷_ 97 (List._∷_ 108
+    (List._∷_ 115 List.[])))))))))))))) (Syntax.tcons (Syntax.tyInt Syntax.w64) (Syntax.tcons (Syntax.tyInt Syntax.w64) Syntax.tnil))
 
 abbrev pub y5 : Syntax.Ty
-y5 = Syntax.tyStruct (List._∷_ 38 (List._∷_ 91 (List._∷_ 93 List.[]))) (Syntax.tcons (Syntax.tyRef Syntax.erased Syntax.mut (Syntax.tyInt Syntax.w16)) (Syntax.tcons (Syntax.tyInt Syntax.w64)
+y5 = Syntax.tyStruct (List._∷_ 38 (List._∷_ 91 (List._∷_ 93 List.[]))) (Syntax.tcons (Syntax.tyRef Syntax.erased Syntax.imm (Syntax.tyInt Syntax.w8)) (Syntax.tcons (Syntax.tyInt Syntax.w64)
     Syntax.tnil))
 
 abbrev pub y6 : Syntax.Ty
-y6 = Syntax.tyStruct (List._∷_ 38 (List._∷_ 91 (List._∷_ 93 List.[]))) (Syntax.tcons (Syntax.tyRef Syntax.erased Syntax.mut Element.behind) (Syntax.tcons (Syntax.tyInt Syntax.w64) Syntax.tnil))
+y6 = Syntax.tyStruct (List._∷_ 38 (List._∷_ 91 (List._∷_ 93 List.[]))) (Syntax.tcons (Syntax.tyRef Syntax.erased Syntax.mut (Syntax.tyInt Syntax.w16)) (Syntax.tcons (Syntax.tyInt Syntax.w64)
+    Syntax.tnil))
 
 abbrev pub y7 : Syntax.Ty
-y7 = Syntax.tyStruct (List._∷_ 98 (List._∷_ 105 (List._∷_ 116 (List._∷_ 115 (List._∷_ 58 (List._∷_ 58 (List._∷_ 66 (List._∷_ 105 (List._∷_ 116 (List._∷_ 80 (List._∷_ 111 (List._∷_ 115 (List._∷_ 105
-    (List._∷_ 116 (List._∷_ 105 (List._∷_ 111 (List._∷_ 110 List.[]))))))))))))))))) (Syntax.tcons (Syntax.tyInt Syntax.w64) Syntax.tnil)
+y7 = Syntax.tyStruct (List._∷_ 38 (List._∷_ 91 (List._∷_ 93 List.[]))) (Syntax.tcons (Syntax.tyRef Syntax.erased Syntax.mut Element.behind) (Syntax.tcons (Syntax.tyInt Syntax.w64) Syntax.tnil))
 
 abbrev pub y8 : Syntax.Ty
 y8 = Syntax.tyStruct (List._∷_ 98 (List._∷_ 108 (List._∷_ 111 (List._∷_ 99 (List._∷_ 107 (List._∷_ 58 (List._∷_ 58 (List._∷_ 70 (List._∷_ 111 (List._∷_ 114 (List._∷_ 109 List.[])))))))))))
     (Syntax.tcons (Syntax.tyInt Syntax.w32) (Syntax.tcons Syntax.tyBool Syntax.tnil))
+
+abbrev pub y9 : Syntax.Ty
+y9 = Syntax.tyStruct (List._∷_ 116 (List._∷_ 111 (List._∷_ 116 (List._∷_ 97 (List._∷_ 108 (List._∷_ 115 (List._∷_ 58 (List._∷_ 58 (List._∷_ 84 (List._∷_ 105 (List._∷_ 103 (List._∷_ 104 (List._∷_ 116
+    (List._∷_ 76 (List._∷_ 105 (List._∷_ 110 (List._∷_ 101 (List._∷_ 115 List.[])))))))))))))))))) (Syntax.tcons (Syntax.tyInt Syntax.w64) (Syntax.tcons y4 Syntax.tnil))
 
 abbrev pub ps : List.List (Kinds.PK 4)
 ps = List._∷_ (ShrSlice.pShrS (Referent.rtF (Referent.fInt Syntax.w8)) 0 tt) (List._∷_ (Value.pVal record {
@@ -178,11 +182,11 @@ xs = List._∷_ y2 (List._∷_ (Syntax.tyInt Syntax.w64) (List._∷_ (Syntax.tyI
     (Syntax.ttcons (Syntax.tcons (Syntax.tyInt Syntax.w64) (Syntax.tcons (Syntax.tyInt Syntax.w64) Syntax.tnil)) (Syntax.ttcons (Syntax.tcons (Syntax.tyInt Syntax.w64) Syntax.tnil) (Syntax.ttcons
     Syntax.tnil (Syntax.ttcons Syntax.tnil (Syntax.ttcons (Syntax.tcons (Syntax.tyInt Syntax.w64) Syntax.tnil) (Syntax.ttcons (Syntax.tcons (Syntax.tyInt Syntax.w64) Syntax.tnil) (Syntax.ttcons
     (Syntax.tcons (Syntax.tyInt Syntax.w64) Syntax.tnil) (Syntax.ttcons Syntax.tnil Syntax.ttnil)))))))))))))))))))))) Syntax.tnil) Syntax.ttnil))) (List._∷_ (Syntax.tyInt Syntax.w64) (List._∷_ y8
-    (List._∷_ y4 (List._∷_ y4 (List._∷_ y0 (List._∷_ (Syntax.tyEnum (List._∷_ 98 (List._∷_ 108 (List._∷_ 111 (List._∷_ 99 (List._∷_ 107 (List._∷_ 58 (List._∷_ 58 (List._∷_ 87 (List._∷_ 97 (List._∷_ 108
-    (List._∷_ 107 (List._∷_ 101 (List._∷_ 100 List.[]))))))))))))) (Syntax.ttcons (Syntax.tcons y7 (Syntax.tcons (Syntax.tyInt Syntax.w64) Syntax.tnil)) (Syntax.ttcons (Syntax.tcons (Syntax.tyInt
-    Syntax.w64) Syntax.tnil) Syntax.ttnil))) (List._∷_ (Syntax.tyArray (Syntax.tyInt Syntax.w16) 768) (List._∷_ Syntax.tyBool (List._∷_ (Syntax.tyRef Syntax.erased Syntax.mut (Syntax.tyInt Syntax.w16))
-    (List._∷_ y5 (List._∷_ (Syntax.tyRef Syntax.erased Syntax.mut Element.behind) (List._∷_ y6 (List._∷_ (Syntax.tyRef Syntax.erased Syntax.mut (Syntax.tyInt Syntax.w16)) (List._∷_ y5 (List._∷_
-    (Syntax.tyRef Syntax.erased Syntax.imm (Syntax.tyArray (Syntax.tyInt Syntax.w16) 768)) List.[])))))))))))))))))))
+    (List._∷_ y5 (List._∷_ y5 (List._∷_ y0 (List._∷_ (Syntax.tyEnum (List._∷_ 98 (List._∷_ 108 (List._∷_ 111 (List._∷_ 99 (List._∷_ 107 (List._∷_ 58 (List._∷_ 58 (List._∷_ 87 (List._∷_ 97 (List._∷_ 108
+    (List._∷_ 107 (List._∷_ 101 (List._∷_ 100 List.[]))))))))))))) (Syntax.ttcons (Syntax.tcons y4 (Syntax.tcons y9 Syntax.tnil)) (Syntax.ttcons (Syntax.tcons (Syntax.tyInt Syntax.w64) (Syntax.tcons y4
+    Syntax.tnil)) Syntax.ttnil))) (List._∷_ (Syntax.tyArray (Syntax.tyInt Syntax.w16) 768) (List._∷_ Syntax.tyBool (List._∷_ (Syntax.tyRef Syntax.erased Syntax.mut (Syntax.tyInt Syntax.w16)) (List._∷_ y6
+    (List._∷_ (Syntax.tyRef Syntax.erased Syntax.mut Element.behind) (List._∷_ y7 (List._∷_ (Syntax.tyRef Syntax.erased Syntax.mut (Syntax.tyInt Syntax.w16)) (List._∷_ y6 (List._∷_ (Syntax.tyRef
+    Syntax.erased Syntax.imm (Syntax.tyArray (Syntax.tyInt Syntax.w16) 768)) List.[])))))))))))))))))))
 
 abbrev pub m : Nat.ℕ
 m = 4
@@ -682,13 +686,13 @@ abbrev pub e13 : Row.Entry
 e13 = (14, Rows'.whole (Declared'.row Form.the-type))
 
 abbrev pub e14 : Row.Entry
-e14 = (15, Rows'.any-gone y4)
+e14 = (15, Rows'.any-gone y5)
 
 abbrev pub e15 : Row.Entry
 e15 = (15, Rows'.sslice (Referent.rtF (Referent.fInt Syntax.w8)) (Syntax.tyRef Syntax.erased Syntax.imm (Syntax.tyInt Syntax.w8)) 0)
 
 abbrev pub e16 : Row.Entry
-e16 = (16, Rows'.any-gone y4)
+e16 = (16, Rows'.any-gone y5)
 
 abbrev pub e17 : Row.Entry
 e17 = (16, Rows'.sslice (Referent.rtF (Referent.fInt Syntax.w8)) (Syntax.tyRef Syntax.erased Syntax.imm (Syntax.tyInt Syntax.w8)) 0)
@@ -703,8 +707,7 @@ abbrev pub e20 : Row.Entry
 e20 = (
   18,
   Rows'.any-gone (Syntax.tyEnum (List._∷_ 98 (List._∷_ 108 (List._∷_ 111 (List._∷_ 99 (List._∷_ 107 (List._∷_ 58 (List._∷_ 58 (List._∷_ 87 (List._∷_ 97 (List._∷_ 108 (List._∷_ 107 (List._∷_ 101
-      (List._∷_ 100 List.[]))))))))))))) (Syntax.ttcons (Syntax.tcons y7 (Syntax.tcons (Syntax.tyInt Syntax.w64) Syntax.tnil)) (Syntax.ttcons (Syntax.tcons (Syntax.tyInt Syntax.w64) Syntax.tnil)
-      Syntax.ttnil))),
+      (List._∷_ 100 List.[]))))))))))))) (Syntax.ttcons (Syntax.tcons y4 (Syntax.tcons y9 Syntax.tnil)) (Syntax.ttcons (Syntax.tcons (Syntax.tyInt Syntax.w64) (Syntax.tcons y4 Syntax.tnil)) Syntax.ttnil))),
 )
 
 abbrev pub e21 : Row.Entry
@@ -732,7 +735,7 @@ abbrev pub e28 : Row.Entry
 e28 = (22, Mut.mslice (Referent.rtF (Referent.fInt Syntax.w16)) (Syntax.tyRef Syntax.erased Syntax.mut (Syntax.tyInt Syntax.w16)) 4)
 
 abbrev pub e29 : Row.Entry
-e29 = (22, Rows'.any-gone y5)
+e29 = (22, Rows'.any-gone y6)
 
 abbrev pub e30 : Row.Entry
 e30 = (23, Rows'.any-gone (Syntax.tyRef Syntax.erased Syntax.mut Element.behind))
@@ -744,7 +747,7 @@ abbrev pub e32 : Row.Entry
 e32 = (24, Mut.mslice (Element.type) (Syntax.tyRef Syntax.erased Syntax.mut Element.behind) 5)
 
 abbrev pub e33 : Row.Entry
-e33 = (24, Rows'.any-gone y6)
+e33 = (24, Rows'.any-gone y7)
 
 abbrev pub e34 : Row.Entry
 e34 = (25, Rows'.any-gone (Syntax.tyRef Syntax.erased Syntax.mut (Syntax.tyInt Syntax.w16)))
@@ -756,7 +759,7 @@ abbrev pub e36 : Row.Entry
 e36 = (26, Mut.mslice (Referent.rtF (Referent.fInt Syntax.w16)) (Syntax.tyRef Syntax.erased Syntax.mut (Syntax.tyInt Syntax.w16)) 6)
 
 abbrev pub e37 : Row.Entry
-e37 = (26, Rows'.any-gone y5)
+e37 = (26, Rows'.any-gone y6)
 
 abbrev pub e38 : Row.Entry
 e38 = (27, Rows'.any-gone (Syntax.tyRef Syntax.erased Syntax.imm (Syntax.tyArray (Syntax.tyInt Syntax.w16) 768)))
@@ -1246,11 +1249,11 @@ module _ (claims· : Claims) where
 
   abbrev s21 : Typed.Both T24 T25
   s21 = Call.callB ps·3 r·3 (claims· .6) (claims· .7) T24 (record { pos = 1; ty = Syntax.tyRef (Syntax.named 0) Syntax.imm (Syntax.tyInt Syntax.w8); ref = λ x. x }, (Num.vAt 13 λ x. x, tt)) 15
-      (List._∷_ 0 List.[]) y4
+      (List._∷_ 0 List.[]) y5
 
   abbrev s22 : Typed.Both T25 T26
   s22 = Call.callB ps·4 r·4 (claims· .8) (claims· .9) T25 (record { pos = 1; ty = Syntax.tyRef (Syntax.named 0) Syntax.imm (Syntax.tyInt Syntax.w8); ref = λ x. x }, (Num.vAt 13 λ x. x, tt)) 16
-      (List._∷_ 0 List.[]) y4
+      (List._∷_ 0 List.[]) y5
 
   abbrev s23 : Typed.Both T26 T27
   s23 = Call.callB ps·5 r·5 (claims· .10) (claims· .11) T26 (record { pos = 3; st = List.[]; d = 0; at = λ x. x }, (Num.vAt 13 λ x. x, tt)) 17 List.[] y0
@@ -1305,14 +1308,14 @@ module _ (claims· : Claims) where
     ),
   ) 18 (List._∷_ 0 (List._∷_ 0 (List._∷_ 4 (List._∷_ 5
       (List._∷_ 6 (List._∷_ 7 List.[])))))) (Syntax.tyEnum (List._∷_ 98 (List._∷_ 108 (List._∷_ 111 (List._∷_ 99 (List._∷_ 107 (List._∷_ 58 (List._∷_ 58 (List._∷_ 87 (List._∷_ 97 (List._∷_ 108 (List._∷_
-      107 (List._∷_ 101 (List._∷_ 100 List.[]))))))))))))) (Syntax.ttcons (Syntax.tcons y7 (Syntax.tcons (Syntax.tyInt Syntax.w64) Syntax.tnil)) (Syntax.ttcons (Syntax.tcons (Syntax.tyInt Syntax.w64)
-      Syntax.tnil) Syntax.ttnil)))
+      107 (List._∷_ 101 (List._∷_ 100 List.[]))))))))))))) (Syntax.ttcons (Syntax.tcons y4 (Syntax.tcons y9 Syntax.tnil)) (Syntax.ttcons (Syntax.tcons (Syntax.tyInt Syntax.w64) (Syntax.tcons y4
+      Syntax.tnil)) Syntax.ttnil)))
 
   abbrev s36 : Typed.Mo T39 → Typed.Mo T40
-  s36 = Scalar.n-room T39 15 y4
+  s36 = Scalar.n-room T39 15 y5
 
   abbrev s37 : Typed.Mo T40 → Typed.Mo T41
-  s37 = Scalar.n-room T40 16 y4
+  s37 = Scalar.n-room T40 16 y5
 
   abbrev s38 : Typed.Mo T41 → Typed.Mo T42
   s38 = Scalar.n-room T41 27 (Syntax.tyRef Syntax.erased Syntax.imm (Syntax.tyArray (Syntax.tyInt Syntax.w16) 768))
@@ -1356,8 +1359,8 @@ module _ (claims· : Claims) where
 
   abbrev s56 : Typed.Mo T59 → Typed.Mo T60
   s56 = Scalar.n-room T59 18 (Syntax.tyEnum (List._∷_ 98 (List._∷_ 108 (List._∷_ 111 (List._∷_ 99 (List._∷_ 107 (List._∷_ 58 (List._∷_ 58 (List._∷_ 87 (List._∷_ 97 (List._∷_ 108 (List._∷_ 107
-      (List._∷_ 101 (List._∷_ 100 List.[]))))))))))))) (Syntax.ttcons (Syntax.tcons y7 (Syntax.tcons (Syntax.tyInt Syntax.w64) Syntax.tnil)) (Syntax.ttcons (Syntax.tcons (Syntax.tyInt Syntax.w64)
-      Syntax.tnil) Syntax.ttnil)))
+      (List._∷_ 101 (List._∷_ 100 List.[]))))))))))))) (Syntax.ttcons (Syntax.tcons y4 (Syntax.tcons y9 Syntax.tnil)) (Syntax.ttcons (Syntax.tcons (Syntax.tyInt Syntax.w64) (Syntax.tcons y4 Syntax.tnil))
+      Syntax.ttnil)))
 
   abbrev s57 : Typed.Asks T60 T61
   s57 = Scalar.k-op2 T60 (Syntax.add Syntax.unsigned) (Scalar.oAt 13 (Syntax.tyInt Syntax.w64) (Row.valS (Row.sInt Syntax.w64))) (Scalar.oInt Syntax.w64 1) 13 (Rows'.sc-here (Row.sInt Syntax.w64))
@@ -2209,10 +2212,10 @@ module _ (claims· : Claims) where
 
           d10 : Typed.Typed 𝓤 H A 𝓣 E G59 b24 Δ3 at10
           d10 = Typed.g-pre 𝓤 H A W 𝓣 E G59 G60 b24 Δ3 (Typed.pass T59 T60 s56) at9 (Scalar.g-room 𝓤 H A W E G59 18 (Syntax.tyEnum (List._∷_ 98 (List._∷_ 108 (List._∷_ 111 (List._∷_ 99 (List._∷_ 107
-              (List._∷_ 58 (List._∷_ 58 (List._∷_ 87 (List._∷_ 97 (List._∷_ 108 (List._∷_ 107 (List._∷_ 101 (List._∷_ 100 List.[]))))))))))))) (Syntax.ttcons (Syntax.tcons y7 (Syntax.tcons (Syntax.tyInt
-              Syntax.w64) Syntax.tnil)) (Syntax.ttcons (Syntax.tcons (Syntax.tyInt Syntax.w64) Syntax.tnil) Syntax.ttnil))) (Local.room-whole 𝓤 H A W (Declared.row Walked.the-type) (Syntax.tyEnum
+              (List._∷_ 58 (List._∷_ 58 (List._∷_ 87 (List._∷_ 97 (List._∷_ 108 (List._∷_ 107 (List._∷_ 101 (List._∷_ 100 List.[]))))))))))))) (Syntax.ttcons (Syntax.tcons y4 (Syntax.tcons y9
+              Syntax.tnil)) (Syntax.ttcons (Syntax.tcons (Syntax.tyInt Syntax.w64) (Syntax.tcons y4 Syntax.tnil)) Syntax.ttnil))) (Local.room-whole 𝓤 H A W (Declared.row Walked.the-type) (Syntax.tyEnum
               (List._∷_ 98 (List._∷_ 108 (List._∷_ 111 (List._∷_ 99 (List._∷_ 107 (List._∷_ 58 (List._∷_ 58 (List._∷_ 87 (List._∷_ 97 (List._∷_ 108 (List._∷_ 107 (List._∷_ 101 (List._∷_ 100
-              List.[]))))))))))))) (Syntax.ttcons (Syntax.tcons y7 (Syntax.tcons (Syntax.tyInt Syntax.w64) Syntax.tnil)) (Syntax.ttcons (Syntax.tcons (Syntax.tyInt Syntax.w64) Syntax.tnil) Syntax.ttnil)))
+              List.[]))))))))))))) (Syntax.ttcons (Syntax.tcons y4 (Syntax.tcons y9 Syntax.tnil)) (Syntax.ttcons (Syntax.tcons (Syntax.tyInt Syntax.w64) (Syntax.tcons y4 Syntax.tnil)) Syntax.ttnil)))
               Path'.refl)) d9
 
           d11 : Typed.Typed 𝓤 H A 𝓣 E G58 b25 Δ3 at11
@@ -2314,11 +2317,11 @@ module _ (claims· : Claims) where
               Syntax.erased Syntax.imm (Syntax.tyArray (Syntax.tyInt Syntax.w16) 768)) 7))) d27
 
           d29 : Typed.Typed 𝓤 H A 𝓣 E G40 b25 Δ3 at29
-          d29 = Typed.g-pre 𝓤 H A W 𝓣 E G40 G41 b25 Δ3 (Typed.pass T40 T41 s37) at28 (Scalar.g-room 𝓤 H A W E G40 16 y4 (Shared.room-sslice 𝓤 H A W (Referent.rtF (Referent.fInt Syntax.w8))
+          d29 = Typed.g-pre 𝓤 H A W 𝓣 E G40 G41 b25 Δ3 (Typed.pass T40 T41 s37) at28 (Scalar.g-room 𝓤 H A W E G40 16 y5 (Shared.room-sslice 𝓤 H A W (Referent.rtF (Referent.fInt Syntax.w8))
               (Syntax.tyRef Syntax.erased Syntax.imm (Syntax.tyInt Syntax.w8)) 0)) d28
 
           d30 : Typed.Typed 𝓤 H A 𝓣 E G39 b25 Δ3 at30
-          d30 = Typed.g-pre 𝓤 H A W 𝓣 E G39 G40 b25 Δ3 (Typed.pass T39 T40 s36) at29 (Scalar.g-room 𝓤 H A W E G39 15 y4 (Shared.room-sslice 𝓤 H A W (Referent.rtF (Referent.fInt Syntax.w8))
+          d30 = Typed.g-pre 𝓤 H A W 𝓣 E G39 G40 b25 Δ3 (Typed.pass T39 T40 s36) at29 (Scalar.g-room 𝓤 H A W E G39 15 y5 (Shared.room-sslice 𝓤 H A W (Referent.rtF (Referent.fInt Syntax.w8))
               (Syntax.tyRef Syntax.erased Syntax.imm (Syntax.tyInt Syntax.w8)) 0)) d29
 
           d31 : Typed.Typed 𝓤 H A 𝓣 E G38 b26 Δ3 at31
@@ -2398,8 +2401,8 @@ module _ (claims· : Claims) where
                   ),
                 ),
               ) (Reads'.room-gone 𝓤 H A (Syntax.tyEnum (List._∷_ 98 (List._∷_ 108 (List._∷_ 111 (List._∷_ 99 (List._∷_ 107
-              (List._∷_ 58 (List._∷_ 58 (List._∷_ 87 (List._∷_ 97 (List._∷_ 108 (List._∷_ 107 (List._∷_ 101 (List._∷_ 100 List.[]))))))))))))) (Syntax.ttcons (Syntax.tcons y7 (Syntax.tcons (Syntax.tyInt
-              Syntax.w64) Syntax.tnil)) (Syntax.ttcons (Syntax.tcons (Syntax.tyInt Syntax.w64) Syntax.tnil) Syntax.ttnil)))) (tt, (tt, (tt, (tt, (tt, (tt, tt)))))) Path'.refl) d30
+              (List._∷_ 58 (List._∷_ 58 (List._∷_ 87 (List._∷_ 97 (List._∷_ 108 (List._∷_ 107 (List._∷_ 101 (List._∷_ 100 List.[]))))))))))))) (Syntax.ttcons (Syntax.tcons y4 (Syntax.tcons y9
+              Syntax.tnil)) (Syntax.ttcons (Syntax.tcons (Syntax.tyInt Syntax.w64) (Syntax.tcons y4 Syntax.tnil)) Syntax.ttnil)))) (tt, (tt, (tt, (tt, (tt, (tt, tt)))))) Path'.refl) d30
 
           d32 : Typed.Typed 𝓤 H A 𝓣 E G37 b27 Δ3 at32
           d32 = Typed.s-seq 𝓤 H A W 𝓣 E G37 G38 b21 b26 Δ3 (Typed.give s34) at31 (Local.t-sc-share 𝓤 H A W E 𝓣 G37 11 27 7 (Array'.Array (Referent.rtF (Referent.fInt Syntax.w16)) 768) (Syntax.tyRef
@@ -2415,7 +2418,7 @@ module _ (claims· : Claims) where
           d34 = Typed.s-seq 𝓤 H A W 𝓣 E G35 G36 b20 b27 Δ3 (Typed.ask s32) at33 (Relend.t-sl-aggregate 𝓤 H A W E (Referent.rtF (Referent.fInt Syntax.w16)) 𝓣 (Relend.asMut (Referent.rtF (Referent.fInt
               Syntax.w16))) G35 25 26 6 (Syntax.tyRef Syntax.erased Syntax.mut (Syntax.tyInt Syntax.w16)) (Syntax.tyRef Syntax.erased Syntax.mut (Syntax.tyInt Syntax.w16)) (λ x. x) (Scalar.oFld 5
               (List._∷_ (Syntax.field 1) List.[]) (Syntax.tyInt Syntax.w64) 8 λ v. Shared.lenV (v .0)) (Reads'.as-is 𝓤 H A (Relend.msptr (Referent.rtF (Referent.fInt Syntax.w16)) (Syntax.tyRef
-              Syntax.erased Syntax.mut (Syntax.tyInt Syntax.w16)) 6)) (Reads'.room-gone 𝓤 H A y5) (
+              Syntax.erased Syntax.mut (Syntax.tyInt Syntax.w16)) 6)) (Reads'.room-gone 𝓤 H A y6) (
                 Relend.reads-owed-len 𝓤 H A W (Referent.rtF (Referent.fInt Syntax.w16)) (Syntax.tyRef (Syntax.named 1) Syntax.mut (Syntax.tyInt Syntax.w16)) 1 6 (Row.lease (κs .1 .0) (qs .1 .0)) 8
                     Path'.refl,
                 Path'.refl,
@@ -2434,7 +2437,7 @@ module _ (claims· : Claims) where
           d37 : Typed.Typed 𝓤 H A 𝓣 E G32 b30 Δ3 at37
           d37 = Typed.s-seq 𝓤 H A W 𝓣 E G32 G33 b18 b29 Δ3 (Typed.ask s29) at36 (Relend.t-sl-aggregate 𝓤 H A W E (Element.type) 𝓣 (Relend.asMut (Element.type)) G32 23 24 5 (Syntax.tyRef Syntax.erased
               Syntax.mut Element.behind) (Syntax.tyRef Syntax.erased Syntax.mut Element.behind) (λ x. x) (Scalar.oFld 7 (List._∷_ (Syntax.field 1) List.[]) (Syntax.tyInt Syntax.w64) 8 λ v. Shared.lenV (v
-              .0)) (Reads'.as-is 𝓤 H A (Relend.msptr (Element.type) (Syntax.tyRef Syntax.erased Syntax.mut Element.behind) 5)) (Reads'.room-gone 𝓤 H A y6)
+              .0)) (Reads'.as-is 𝓤 H A (Relend.msptr (Element.type) (Syntax.tyRef Syntax.erased Syntax.mut Element.behind) 5)) (Reads'.room-gone 𝓤 H A y7)
               (Relend.reads-owed-len 𝓤 H A W (Element.type) (Syntax.tyRef (Syntax.named 3) Syntax.mut Element.behind) 3 5 (Row.lease (κs .1 .1 .1 .0) (qs .1 .1 .1 .0)) 8 Path'.refl, Path'.refl) Path'.refl
               Path'.refl λ b o k. tt) d36
 
@@ -2451,7 +2454,7 @@ module _ (claims· : Claims) where
           d40 = Typed.s-seq 𝓤 H A W 𝓣 E G29 G30 b16 b31 Δ3 (Typed.ask s26) at39 (Relend.t-sl-aggregate 𝓤 H A W E (Referent.rtF (Referent.fInt Syntax.w16)) 𝓣 (Relend.asMut (Referent.rtF (Referent.fInt
               Syntax.w16))) G29 21 22 4 (Syntax.tyRef Syntax.erased Syntax.mut (Syntax.tyInt Syntax.w16)) (Syntax.tyRef Syntax.erased Syntax.mut (Syntax.tyInt Syntax.w16)) (λ x. x) (Scalar.oFld 6
               (List._∷_ (Syntax.field 1) List.[]) (Syntax.tyInt Syntax.w64) 8 λ v. Shared.lenV (v .0)) (Reads'.as-is 𝓤 H A (Relend.msptr (Referent.rtF (Referent.fInt Syntax.w16)) (Syntax.tyRef
-              Syntax.erased Syntax.mut (Syntax.tyInt Syntax.w16)) 4)) (Reads'.room-gone 𝓤 H A y5) (
+              Syntax.erased Syntax.mut (Syntax.tyInt Syntax.w16)) 4)) (Reads'.room-gone 𝓤 H A y6) (
                 Relend.reads-owed-len 𝓤 H A W (Referent.rtF (Referent.fInt Syntax.w16)) (Syntax.tyRef (Syntax.named 2) Syntax.mut (Syntax.tyInt Syntax.w16)) 2 4 (Row.lease (κs .1 .1 .0) (qs .1 .1 .0)) 8
                     Path'.refl,
                 Path'.refl,
@@ -2488,7 +2491,7 @@ module _ (claims· : Claims) where
                 Path'.refl,
                 ((Scalar.reads-sc 𝓤 H A W (Row.sInt Syntax.w64), Path'.refl), tt),
               )
-              (Reads'.room-gone 𝓤 H A y4) (tt, tt) (Path'.refl, λ b o k. tt)) d43
+              (Reads'.room-gone 𝓤 H A y5) (tt, tt) (Path'.refl, λ b o k. tt)) d43
 
           d45 : Typed.Typed 𝓤 H A 𝓣 E G24 b36 Δ3 at45
           d45 = Typed.s-seq 𝓤 H A W 𝓣 E G24 G25 b12 b35 Δ3 (Typed.both s21) at44 (Plain.t-call-plain 𝓤 H A W 𝓣 1 ps·3 r·3 (claims· .6) (claims· .7) "stream::block_bytes" (known .3) E (λ pos β. β) G24
@@ -2500,7 +2503,7 @@ module _ (claims· : Claims) where
                 Path'.refl,
                 ((Scalar.reads-sc 𝓤 H A W (Row.sInt Syntax.w64), Path'.refl), tt),
               )
-              (Reads'.room-gone 𝓤 H A y4) (tt, tt) (Path'.refl, λ b o k. tt)) d44
+              (Reads'.room-gone 𝓤 H A y5) (tt, tt) (Path'.refl, λ b o k. tt)) d44
 
           d46 : Typed.Typed 𝓤 H A 𝓣 E G17 b37 Δ3 at46
           d46 = Typed.s-seq 𝓤 H A W 𝓣 E G17 G24 b11 b36 Δ3 (Typed.both s20) at45 (Plain.t-call-plain 𝓤 H A W 𝓣 0 ps·2 r·2 (claims· .4) (claims· .5) "block::form_of" (known .2) E (λ pos β. β) G17

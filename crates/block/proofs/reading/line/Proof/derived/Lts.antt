@@ -7,14 +7,16 @@ use Rattle.block.proofs.Form
 use Rattle.block.proofs.Form.Laws as Laws'
 use Rattle.block.proofs.Lined
 use Rattle.block.proofs.Lined.Laws as Laws''
+use Rattle.code.proofs.Place
+use Rattle.code.proofs.Place.Laws as Laws'3
 use Rattle.pass.proofs.Passed
-use Rattle.pass.proofs.Passed.Laws as Laws'3
+use Rattle.pass.proofs.Passed.Laws as Laws'4
 use Rattle.steps.proofs.Plan
-use Rattle.steps.proofs.Plan.Laws as Laws'4
+use Rattle.steps.proofs.Plan.Laws as Laws'5
 use Rattle.steps.proofs.Quantisers
-use Rattle.steps.proofs.Quantisers.Laws as Laws'5
+use Rattle.steps.proofs.Quantisers.Laws as Laws'6
 use Rattle.steps.proofs.Set
-use Rattle.steps.proofs.Set.Laws as Laws'6
+use Rattle.steps.proofs.Set.Laws as Laws'7
 use borrow.Author.Called
 use borrow.Author.Tests
 use borrow.Enum.Make
@@ -59,12 +61,11 @@ use borrow.Table.Typed
 use contract.Lifetimes
 use denote.Array
 use denote.Enum.Declared
-use denote.Enum.Laws as Laws'7
+use denote.Enum.Laws as Laws'8
 use denote.Exit
 use denote.Struct.At
 use denote.Struct.Declared as Declared'
-use denote.Struct.Field
-use denote.Struct.Laws as Laws'8
+use denote.Struct.Laws as Laws'9
 use denote.Triple.Clauses
 use denote.Triple.Statement
 use ghost.Atoms
@@ -109,87 +110,92 @@ y6 = Syntax.tyStruct (List._∷_ 98 (List._∷_ 108 (List._∷_ 111 (List._∷_ 
     (Syntax.tcons (Syntax.tyInt Syntax.w32) (Syntax.tcons Syntax.tyBool Syntax.tnil))
 
 abbrev pub y7 : Syntax.Ty
-y7 = Syntax.tyStruct (List._∷_ 112 (List._∷_ 97 (List._∷_ 115 (List._∷_ 115 (List._∷_ 58 (List._∷_ 58 (List._∷_ 80 (List._∷_ 97 (List._∷_ 115 (List._∷_ 115 (List._∷_ 101 (List._∷_ 100
-    List.[])))))))))))) (Syntax.tcons Syntax.tyBool (Syntax.tcons Syntax.tyBool (Syntax.tcons y5 (Syntax.tcons y2 Syntax.tnil))))
+y7 = Syntax.tyStruct (List._∷_ 99 (List._∷_ 111 (List._∷_ 100 (List._∷_ 101 (List._∷_ 58 (List._∷_ 58 (List._∷_ 80 (List._∷_ 108 (List._∷_ 97 (List._∷_ 99 (List._∷_ 101 List.[])))))))))))
+    (Syntax.tcons y5 (Syntax.tcons Syntax.tyBool (Syntax.tcons (Syntax.tyInt Syntax.w64) Syntax.tnil)))
+
+abbrev pub y8 : Syntax.Ty
+y8 = Syntax.tyStruct (List._∷_ 112 (List._∷_ 97 (List._∷_ 115 (List._∷_ 115 (List._∷_ 58 (List._∷_ 58 (List._∷_ 80 (List._∷_ 97 (List._∷_ 115 (List._∷_ 115 (List._∷_ 101 (List._∷_ 100
+    List.[])))))))))))) (Syntax.tcons Syntax.tyBool (Syntax.tcons y7 (Syntax.tcons y2 Syntax.tnil)))
 
 abbrev pub ps : List.List (Kinds.PK 3)
 ps = List._∷_ (ShrSlice.pShrS (Referent.rtF (Referent.fInt Syntax.w8)) 0 tt) (List._∷_ (Value.pVal record {
-  ty = Declared'.row BitPosition.the-type;
+  ty = Declared'.row Place.the-type;
   one = Path'.refl;
-  val = Laws'8.val BitPosition.the-type Laws.the-laws;
-  tells = Laws'8.tells BitPosition.the-type Laws.the-laws;
-  still = Laws'8.still
-      BitPosition.the-type Laws.the-copy Exit.yes;
-  row = Rows.whole (Declared'.row BitPosition.the-type);
+  val = Laws'9.val Place.the-type Laws'3.the-laws;
+  tells = Laws'9.tells Place.the-type Laws'3.the-laws;
+  still = Laws'9.still Place.the-type
+      Laws'3.the-copy Exit.yes;
+  row = Rows.whole (Declared'.row Place.the-type);
   rd = λ x. x;
   mk = λ x. x;
 } λ M 𝓤 H A W. record {
-  copies = Laws'8.copy BitPosition.the-type Laws.the-copy 𝓤 H A W;
-  lawful = Laws'8.lawful BitPosition.the-type Laws.the-laws 𝓤 H A W;
-  makes = Laws'8.makes BitPosition.the-type Laws.the-plain 𝓤 H A;
-  in-mem = Local.mem-whole 𝓤 H A W (Declared'.row BitPosition.the-type);
-  of-mem = Local.whole-mem 𝓤 H A W (Declared'.row BitPosition.the-type);
-}) (List._∷_ Bool.pBool (List._∷_ (MutSlice.pMutS
-    (Referent.rtF (Referent.fInt Syntax.w16)) 1 tt) (List._∷_ (MutSlice.pMutS (Element.type) 2 tt) (List._∷_ (Value.pVal record {
+  copies = Laws'9.copy Place.the-type Laws'3.the-copy 𝓤 H A W;
+  lawful = Laws'9.lawful Place.the-type Laws'3.the-laws 𝓤 H A W;
+  makes = Laws'9.makes Place.the-type Laws'3.the-plain 𝓤 H A;
+  in-mem =
+      Local.mem-whole 𝓤 H A W (Declared'.row Place.the-type);
+  of-mem = Local.whole-mem 𝓤 H A W (Declared'.row Place.the-type);
+}) (List._∷_ (MutSlice.pMutS (Referent.rtF (Referent.fInt Syntax.w16)) 1 tt)
+    (List._∷_ (MutSlice.pMutS (Element.type) 2 tt) (List._∷_ (Value.pVal record {
       ty = Declared'.row Form.the-type;
       one = Path'.refl;
-      val = Laws'8.val Form.the-type Laws'.the-laws;
-      tells = Laws'8.tells Form.the-type Laws'.the-laws;
-      still = Laws'8.still Form.the-type
+      val = Laws'9.val Form.the-type Laws'.the-laws;
+      tells = Laws'9.tells Form.the-type Laws'.the-laws;
+      still = Laws'9.still Form.the-type
           Laws'.the-copy Exit.yes;
       row = Rows.whole (Declared'.row Form.the-type);
       rd = λ x. x;
       mk = λ x. x;
     } λ M 𝓤 H A W. record {
-      copies = Laws'8.copy Form.the-type Laws'.the-copy 𝓤 H A W;
-      lawful = Laws'8.lawful Form.the-type Laws'.the-laws 𝓤 H A W;
-      makes = Laws'8.makes Form.the-type Laws'.the-plain 𝓤 H A;
+      copies = Laws'9.copy Form.the-type Laws'.the-copy 𝓤 H A W;
+      lawful = Laws'9.lawful Form.the-type Laws'.the-laws 𝓤 H A W;
+      makes = Laws'9.makes Form.the-type Laws'.the-plain 𝓤 H A;
       in-mem =
           Local.mem-whole 𝓤 H A W (Declared'.row Form.the-type);
       of-mem = Local.whole-mem 𝓤 H A W (Declared'.row Form.the-type);
     }) (List._∷_ (Value.pVal record {
       ty = Declared'.row Quantisers.the-type;
       one = Path'.refl;
-      val = Laws'8.val Quantisers.the-type Laws'5.the-laws;
-      tells = Laws'8.tells Quantisers.the-type Laws'5.the-laws;
-      still = Laws'8.still
-          Quantisers.the-type Laws'5.the-copy Exit.yes;
+      val = Laws'9.val Quantisers.the-type Laws'6.the-laws;
+      tells = Laws'9.tells Quantisers.the-type Laws'6.the-laws;
+      still = Laws'9.still
+          Quantisers.the-type Laws'6.the-copy Exit.yes;
       row = Rows.whole (Declared'.row Quantisers.the-type);
       rd = λ x. x;
       mk = λ x. x;
     } λ M 𝓤 H A W. record {
-      copies = Laws'8.copy Quantisers.the-type Laws'5.the-copy 𝓤 H A W;
-      lawful = Laws'8.lawful Quantisers.the-type Laws'5.the-laws 𝓤 H A W;
-      makes = Laws'8.makes Quantisers.the-type Laws'5.the-plain 𝓤 H A;
+      copies = Laws'9.copy Quantisers.the-type Laws'6.the-copy 𝓤 H A W;
+      lawful = Laws'9.lawful Quantisers.the-type Laws'6.the-laws 𝓤 H A W;
+      makes = Laws'9.makes Quantisers.the-type Laws'6.the-plain 𝓤 H A;
       in-mem = Local.mem-whole 𝓤 H A W (Declared'.row Quantisers.the-type);
       of-mem = Local.whole-mem 𝓤 H A W (Declared'.row Quantisers.the-type);
-    }) List.[]))))))
+    }) List.[])))))
 
 abbrev pub r : Kinds.RK 3
 r = Value.rVal record {
   ty = Declared.row Lined.the-type;
   one = Path'.refl;
-  val = Laws'7.val Lined.the-type Laws''.the-laws;
-  tells = Laws'7.tells Lined.the-type Laws''.the-laws;
-  still = Laws'7.still Lined.the-type
+  val = Laws'8.val Lined.the-type Laws''.the-laws;
+  tells = Laws'8.tells Lined.the-type Laws''.the-laws;
+  still = Laws'8.still Lined.the-type
       Laws''.the-copy Exit.yes;
   row = Rows.whole (Declared.row Lined.the-type);
   rd = λ x. x;
   mk = λ x. x;
 } λ M 𝓤 H A W. record {
-  copies = Laws'7.copy Lined.the-type Laws''.the-copy 𝓤 H A W;
-  lawful = Laws'7.lawful Lined.the-type Laws''.the-laws 𝓤 H A W tt;
-  makes = Laws'7.makes Lined.the-type Laws''.the-plain 𝓤 H A;
+  copies = Laws'8.copy Lined.the-type Laws''.the-copy 𝓤 H A W;
+  lawful = Laws'8.lawful Lined.the-type Laws''.the-laws 𝓤 H A W tt;
+  makes = Laws'8.makes Lined.the-type Laws''.the-plain 𝓤 H A;
   in-mem =
       Local.mem-whole 𝓤 H A W (Declared.row Lined.the-type);
   of-mem = Local.whole-mem 𝓤 H A W (Declared.row Lined.the-type);
 }
 
 abbrev pub xs : List.List Syntax.Ty
-xs = List._∷_ (Syntax.tyInt Syntax.w32) (List._∷_ Syntax.tyBool (List._∷_ (Syntax.tyInt Syntax.w64) (List._∷_ y5 (List._∷_ Syntax.tyBool (List._∷_ (Syntax.tyInt Syntax.w64) (List._∷_ y0 (List._∷_ y2
-    (List._∷_ y7 (List._∷_ Syntax.tyBool (List._∷_ y2 (List._∷_ Syntax.tyBool (List._∷_ Syntax.tyUnit (List._∷_ (Syntax.tyRef Syntax.erased Syntax.mut (Syntax.tyInt Syntax.w16)) (List._∷_ y3 (List._∷_
-    (Syntax.tyRef Syntax.erased Syntax.mut (Syntax.tyInt Syntax.w16)) (List._∷_ y3 (List._∷_ (Syntax.tyRef Syntax.erased Syntax.mut Element.behind) (List._∷_ y4 (List._∷_ (Syntax.tyRef Syntax.erased
-    Syntax.mut (Syntax.tyInt Syntax.w16)) (List._∷_ y3 (List._∷_ (Syntax.tyRef Syntax.erased Syntax.mut Element.behind) (List._∷_ y4 (List._∷_ Syntax.tyBool List.[])))))))))))))))))))))))
+xs = List._∷_ (Syntax.tyInt Syntax.w32) (List._∷_ Syntax.tyBool (List._∷_ (Syntax.tyInt Syntax.w64) (List._∷_ y7 (List._∷_ (Syntax.tyInt Syntax.w64) (List._∷_ y0 (List._∷_ y2 (List._∷_ y8 (List._∷_
+    Syntax.tyBool (List._∷_ y2 (List._∷_ y5 (List._∷_ Syntax.tyBool (List._∷_ Syntax.tyUnit (List._∷_ (Syntax.tyRef Syntax.erased Syntax.mut (Syntax.tyInt Syntax.w16)) (List._∷_ y3 (List._∷_ (Syntax.tyRef
+    Syntax.erased Syntax.mut (Syntax.tyInt Syntax.w16)) (List._∷_ y3 (List._∷_ (Syntax.tyRef Syntax.erased Syntax.mut Element.behind) (List._∷_ y4 (List._∷_ (Syntax.tyRef Syntax.erased Syntax.mut
+    (Syntax.tyInt Syntax.w16)) (List._∷_ y3 (List._∷_ (Syntax.tyRef Syntax.erased Syntax.mut Element.behind) (List._∷_ y4 (List._∷_ Syntax.tyBool List.[])))))))))))))))))))))))
 
 abbrev pub m : Nat.ℕ
 m = 5
@@ -207,17 +213,17 @@ abbrev pub r·1 : Kinds.RK 0
 r·1 = Value.rVal record {
   ty = Declared'.row Plan.the-type;
   one = Path'.refl;
-  val = Laws'8.val Plan.the-type Laws'4.the-laws;
-  tells = Laws'8.tells Plan.the-type Laws'4.the-laws;
-  still = Laws'8.still Plan.the-type
-      Laws'4.the-copy Exit.yes;
+  val = Laws'9.val Plan.the-type Laws'5.the-laws;
+  tells = Laws'9.tells Plan.the-type Laws'5.the-laws;
+  still = Laws'9.still Plan.the-type
+      Laws'5.the-copy Exit.yes;
   row = Rows.whole (Declared'.row Plan.the-type);
   rd = λ x. x;
   mk = λ x. x;
 } λ M 𝓤 H A W. record {
-  copies = Laws'8.copy Plan.the-type Laws'4.the-copy 𝓤 H A W;
-  lawful = Laws'8.lawful Plan.the-type Laws'4.the-laws 𝓤 H A W;
-  makes = Laws'8.makes Plan.the-type Laws'4.the-plain 𝓤 H A;
+  copies = Laws'9.copy Plan.the-type Laws'5.the-copy 𝓤 H A W;
+  lawful = Laws'9.lawful Plan.the-type Laws'5.the-laws 𝓤 H A W;
+  makes = Laws'9.makes Plan.the-type Laws'5.the-plain 𝓤 H A;
   in-mem =
       Local.mem-whole 𝓤 H A W (Declared'.row Plan.the-type);
   of-mem = Local.whole-mem 𝓤 H A W (Declared'.row Plan.the-type);
@@ -236,17 +242,17 @@ abbrev pub r·3 : Kinds.RK 1
 r·3 = Value.rVal record {
   ty = Declared'.row Set.the-type;
   one = Path'.refl;
-  val = Laws'8.val Set.the-type Laws'6.the-laws;
-  tells = Laws'8.tells Set.the-type Laws'6.the-laws;
-  still = Laws'8.still Set.the-type Laws'6.the-copy
+  val = Laws'9.val Set.the-type Laws'7.the-laws;
+  tells = Laws'9.tells Set.the-type Laws'7.the-laws;
+  still = Laws'9.still Set.the-type Laws'7.the-copy
       Exit.yes;
   row = Rows.whole (Declared'.row Set.the-type);
   rd = λ x. x;
   mk = λ x. x;
 } λ M 𝓤 H A W. record {
-  copies = Laws'8.copy Set.the-type Laws'6.the-copy 𝓤 H A W;
-  lawful = Laws'8.lawful Set.the-type Laws'6.the-laws 𝓤 H A W;
-  makes = Laws'8.makes Set.the-type Laws'6.the-plain 𝓤 H A;
+  copies = Laws'9.copy Set.the-type Laws'7.the-copy 𝓤 H A W;
+  lawful = Laws'9.lawful Set.the-type Laws'7.the-laws 𝓤 H A W;
+  makes = Laws'9.makes Set.the-type Laws'7.the-plain 𝓤 H A;
   in-mem =
       Local.mem-whole 𝓤 H A W (Declared'.row Set.the-type);
   of-mem = Local.whole-mem 𝓤 H A W (Declared'.row Set.the-type);
@@ -254,89 +260,90 @@ r·3 = Value.rVal record {
 
 abbrev pub ps·4 : List.List (Kinds.PK 2)
 ps·4 = List._∷_ (ShrSlice.pShrS (Referent.rtF (Referent.fInt Syntax.w8)) 0 tt) (List._∷_ (Value.pVal record {
-  ty = Declared'.row BitPosition.the-type;
+  ty = Declared'.row Place.the-type;
   one = Path'.refl;
-  val = Laws'8.val BitPosition.the-type Laws.the-laws;
-  tells = Laws'8.tells BitPosition.the-type Laws.the-laws;
-  still = Laws'8.still
-      BitPosition.the-type Laws.the-copy Exit.yes;
-  row = Rows.whole (Declared'.row BitPosition.the-type);
+  val = Laws'9.val Place.the-type Laws'3.the-laws;
+  tells = Laws'9.tells Place.the-type Laws'3.the-laws;
+  still = Laws'9.still Place.the-type
+      Laws'3.the-copy Exit.yes;
+  row = Rows.whole (Declared'.row Place.the-type);
   rd = λ x. x;
   mk = λ x. x;
 } λ M 𝓤 H A W. record {
-  copies = Laws'8.copy BitPosition.the-type Laws.the-copy 𝓤 H A W;
-  lawful = Laws'8.lawful BitPosition.the-type Laws.the-laws 𝓤 H A W;
-  makes = Laws'8.makes BitPosition.the-type Laws.the-plain 𝓤 H A;
-  in-mem = Local.mem-whole 𝓤 H A W (Declared'.row BitPosition.the-type);
-  of-mem = Local.whole-mem 𝓤 H A W (Declared'.row BitPosition.the-type);
-}) (List._∷_ Bool.pBool (List._∷_ (MutSlice.pMutS
-    (Referent.rtF (Referent.fInt Syntax.w16)) 1 tt) (List._∷_ (Value.pVal record {
+  copies = Laws'9.copy Place.the-type Laws'3.the-copy 𝓤 H A W;
+  lawful = Laws'9.lawful Place.the-type Laws'3.the-laws 𝓤 H A W;
+  makes = Laws'9.makes Place.the-type Laws'3.the-plain 𝓤 H A;
+  in-mem =
+      Local.mem-whole 𝓤 H A W (Declared'.row Place.the-type);
+  of-mem = Local.whole-mem 𝓤 H A W (Declared'.row Place.the-type);
+}) (List._∷_ (MutSlice.pMutS (Referent.rtF (Referent.fInt Syntax.w16)) 1 tt)
+    (List._∷_ (Value.pVal record {
       ty = Declared'.row Set.the-type;
       one = Path'.refl;
-      val = Laws'8.val Set.the-type Laws'6.the-laws;
-      tells = Laws'8.tells Set.the-type Laws'6.the-laws;
-      still = Laws'8.still Set.the-type Laws'6.the-copy
+      val = Laws'9.val Set.the-type Laws'7.the-laws;
+      tells = Laws'9.tells Set.the-type Laws'7.the-laws;
+      still = Laws'9.still Set.the-type Laws'7.the-copy
           Exit.yes;
       row = Rows.whole (Declared'.row Set.the-type);
       rd = λ x. x;
       mk = λ x. x;
     } λ M 𝓤 H A W. record {
-      copies = Laws'8.copy Set.the-type Laws'6.the-copy 𝓤 H A W;
-      lawful = Laws'8.lawful Set.the-type Laws'6.the-laws 𝓤 H A W;
-      makes = Laws'8.makes Set.the-type Laws'6.the-plain 𝓤 H A;
+      copies = Laws'9.copy Set.the-type Laws'7.the-copy 𝓤 H A W;
+      lawful = Laws'9.lawful Set.the-type Laws'7.the-laws 𝓤 H A W;
+      makes = Laws'9.makes Set.the-type Laws'7.the-plain 𝓤 H A;
       in-mem =
           Local.mem-whole 𝓤 H A W (Declared'.row Set.the-type);
       of-mem = Local.whole-mem 𝓤 H A W (Declared'.row Set.the-type);
     }) (List._∷_ (Num.pNum Syntax.w64) (List._∷_ (Value.pVal record {
       ty = Declared'.row Plan.the-type;
       one = Path'.refl;
-      val = Laws'8.val Plan.the-type Laws'4.the-laws;
-      tells = Laws'8.tells Plan.the-type Laws'4.the-laws;
-      still = Laws'8.still Plan.the-type
-          Laws'4.the-copy Exit.yes;
+      val = Laws'9.val Plan.the-type Laws'5.the-laws;
+      tells = Laws'9.tells Plan.the-type Laws'5.the-laws;
+      still = Laws'9.still Plan.the-type
+          Laws'5.the-copy Exit.yes;
       row = Rows.whole (Declared'.row Plan.the-type);
       rd = λ x. x;
       mk = λ x. x;
     } λ M 𝓤 H A W. record {
-      copies = Laws'8.copy Plan.the-type Laws'4.the-copy 𝓤 H A W;
-      lawful = Laws'8.lawful Plan.the-type Laws'4.the-laws 𝓤 H A W;
-      makes = Laws'8.makes Plan.the-type Laws'4.the-plain 𝓤 H A;
+      copies = Laws'9.copy Plan.the-type Laws'5.the-copy 𝓤 H A W;
+      lawful = Laws'9.lawful Plan.the-type Laws'5.the-laws 𝓤 H A W;
+      makes = Laws'9.makes Plan.the-type Laws'5.the-plain 𝓤 H A;
       in-mem =
           Local.mem-whole 𝓤 H A W (Declared'.row Plan.the-type);
       of-mem = Local.whole-mem 𝓤 H A W (Declared'.row Plan.the-type);
     }) (List._∷_ (Value.pVal record {
       ty = Declared'.row Quantisers.the-type;
       one = Path'.refl;
-      val = Laws'8.val Quantisers.the-type Laws'5.the-laws;
-      tells = Laws'8.tells Quantisers.the-type Laws'5.the-laws;
-      still = Laws'8.still
-          Quantisers.the-type Laws'5.the-copy Exit.yes;
+      val = Laws'9.val Quantisers.the-type Laws'6.the-laws;
+      tells = Laws'9.tells Quantisers.the-type Laws'6.the-laws;
+      still = Laws'9.still
+          Quantisers.the-type Laws'6.the-copy Exit.yes;
       row = Rows.whole (Declared'.row Quantisers.the-type);
       rd = λ x. x;
       mk = λ x. x;
     } λ M 𝓤 H A W. record {
-      copies = Laws'8.copy Quantisers.the-type Laws'5.the-copy 𝓤 H A W;
-      lawful = Laws'8.lawful Quantisers.the-type Laws'5.the-laws 𝓤 H A W;
-      makes = Laws'8.makes Quantisers.the-type Laws'5.the-plain 𝓤 H A;
+      copies = Laws'9.copy Quantisers.the-type Laws'6.the-copy 𝓤 H A W;
+      lawful = Laws'9.lawful Quantisers.the-type Laws'6.the-laws 𝓤 H A W;
+      makes = Laws'9.makes Quantisers.the-type Laws'6.the-plain 𝓤 H A;
       in-mem = Local.mem-whole 𝓤 H A W (Declared'.row Quantisers.the-type);
       of-mem = Local.whole-mem 𝓤 H A W (Declared'.row Quantisers.the-type);
-    }) (List._∷_ (Num.pNum Syntax.w32) List.[]))))))))
+    }) (List._∷_ (Num.pNum Syntax.w32) List.[])))))))
 
 abbrev pub r·4 : Kinds.RK 2
 r·4 = Value.rVal record {
   ty = Declared'.row Passed.the-type;
   one = Path'.refl;
-  val = Laws'8.val Passed.the-type Laws'3.the-laws;
-  tells = Laws'8.tells Passed.the-type Laws'3.the-laws;
-  still = Laws'8.still Passed.the-type
-      Laws'3.the-copy Exit.yes;
+  val = Laws'9.val Passed.the-type Laws'4.the-laws;
+  tells = Laws'9.tells Passed.the-type Laws'4.the-laws;
+  still = Laws'9.still Passed.the-type
+      Laws'4.the-copy Exit.yes;
   row = Rows.whole (Declared'.row Passed.the-type);
   rd = λ x. x;
   mk = λ x. x;
 } λ M 𝓤 H A W. record {
-  copies = Laws'8.copy Passed.the-type Laws'3.the-copy 𝓤 H A W;
-  lawful = Laws'8.lawful Passed.the-type Laws'3.the-laws 𝓤 H A W;
-  makes = Laws'8.makes Passed.the-type Laws'3.the-plain 𝓤 H A;
+  copies = Laws'9.copy Passed.the-type Laws'4.the-copy 𝓤 H A W;
+  lawful = Laws'9.lawful Passed.the-type Laws'4.the-laws 𝓤 H A W;
+  makes = Laws'9.makes Passed.the-type Laws'4.the-plain 𝓤 H A;
   in-mem =
       Local.mem-whole 𝓤 H A W (Declared'.row Passed.the-type);
   of-mem = Local.whole-mem 𝓤 H A W (Declared'.row Passed.the-type);
@@ -346,17 +353,17 @@ abbrev pub ps·5 : List.List (Kinds.PK 1)
 ps·5 = List._∷_ (MutSlice.pMutS (Element.type) 0 tt) (List._∷_ (Num.pNum Syntax.w64) (List._∷_ (Value.pVal record {
   ty = Declared'.row Set.the-type;
   one = Path'.refl;
-  val = Laws'8.val Set.the-type Laws'6.the-laws;
-  tells = Laws'8.tells Set.the-type Laws'6.the-laws;
-  still = Laws'8.still Set.the-type Laws'6.the-copy
+  val = Laws'9.val Set.the-type Laws'7.the-laws;
+  tells = Laws'9.tells Set.the-type Laws'7.the-laws;
+  still = Laws'9.still Set.the-type Laws'7.the-copy
       Exit.yes;
   row = Rows.whole (Declared'.row Set.the-type);
   rd = λ x. x;
   mk = λ x. x;
 } λ M 𝓤 H A W. record {
-  copies = Laws'8.copy Set.the-type Laws'6.the-copy 𝓤 H A W;
-  lawful = Laws'8.lawful Set.the-type Laws'6.the-laws 𝓤 H A W;
-  makes = Laws'8.makes Set.the-type Laws'6.the-plain 𝓤 H A;
+  copies = Laws'9.copy Set.the-type Laws'7.the-copy 𝓤 H A W;
+  lawful = Laws'9.lawful Set.the-type Laws'7.the-laws 𝓤 H A W;
+  makes = Laws'9.makes Set.the-type Laws'7.the-plain 𝓤 H A;
   in-mem =
       Local.mem-whole 𝓤 H A W (Declared'.row Set.the-type);
   of-mem = Local.whole-mem 𝓤 H A W (Declared'.row Set.the-type);
@@ -369,17 +376,17 @@ abbrev pub ps·6 : List.List (Kinds.PK 1)
 ps·6 = List._∷_ (ShrSlice.pShrS (Referent.rtF (Referent.fInt Syntax.w8)) 0 tt) (List._∷_ (Value.pVal record {
   ty = Declared'.row BitPosition.the-type;
   one = Path'.refl;
-  val = Laws'8.val BitPosition.the-type Laws.the-laws;
-  tells = Laws'8.tells BitPosition.the-type Laws.the-laws;
-  still = Laws'8.still
+  val = Laws'9.val BitPosition.the-type Laws.the-laws;
+  tells = Laws'9.tells BitPosition.the-type Laws.the-laws;
+  still = Laws'9.still
       BitPosition.the-type Laws.the-copy Exit.yes;
   row = Rows.whole (Declared'.row BitPosition.the-type);
   rd = λ x. x;
   mk = λ x. x;
 } λ M 𝓤 H A W. record {
-  copies = Laws'8.copy BitPosition.the-type Laws.the-copy 𝓤 H A W;
-  lawful = Laws'8.lawful BitPosition.the-type Laws.the-laws 𝓤 H A W;
-  makes = Laws'8.makes BitPosition.the-type Laws.the-plain 𝓤 H A;
+  copies = Laws'9.copy BitPosition.the-type Laws.the-copy 𝓤 H A W;
+  lawful = Laws'9.lawful BitPosition.the-type Laws.the-laws 𝓤 H A W;
+  makes = Laws'9.makes BitPosition.the-type Laws.the-plain 𝓤 H A;
   in-mem = Local.mem-whole 𝓤 H A W (Declared'.row BitPosition.the-type);
   of-mem = Local.whole-mem 𝓤 H A W (Declared'.row BitPosition.the-type);
 }) List.[])
@@ -392,265 +399,258 @@ hs = List._∷_ Syntax.valueLocal (List._∷_ Syntax.valueLocal (List._∷_ Synt
     (List._∷_ Syntax.valueLocal (List._∷_ Syntax.valueLocal (List._∷_ Syntax.valueLocal (List._∷_ Syntax.valueLocal (List._∷_ Syntax.valueLocal (List._∷_ Syntax.valueLocal (List._∷_ Syntax.valueLocal
     (List._∷_ Syntax.valueLocal (List._∷_ Syntax.valueLocal (List._∷_ Syntax.valueLocal (List._∷_ Syntax.valueLocal (List._∷_ Syntax.valueLocal (List._∷_ Syntax.valueLocal (List._∷_ Syntax.valueLocal
     (List._∷_ Syntax.valueLocal (List._∷_ Syntax.valueLocal (List._∷_ Syntax.valueLocal (List._∷_ Syntax.valueLocal (List._∷_ Syntax.valueLocal (List._∷_ Syntax.valueLocal (List._∷_ Syntax.valueLocal
-    (List._∷_ Syntax.valueLocal (List._∷_ Syntax.valueLocal (List._∷_ Syntax.valueLocal (List._∷_ Syntax.valueLocal List.[])))))))))))))))))))))))))))))))
+    (List._∷_ Syntax.valueLocal (List._∷_ Syntax.valueLocal (List._∷_ Syntax.valueLocal List.[]))))))))))))))))))))))))))))))
 
 abbrev b0 : Syntax.Body
-b0 = Syntax.assign (Syntax.place 8 List.[]) (Syntax.rvOpd (Syntax.copy (Syntax.place 6 (List._∷_ (Syntax.field 0) List.[]))))
+b0 = Syntax.assign (Syntax.place 7 List.[]) (Syntax.rvOpd (Syntax.copy (Syntax.place 5 (List._∷_ (Syntax.field 0) List.[]))))
 
 abbrev b1 : Syntax.Body
-b1 = Syntax.assign (Syntax.place 9 List.[]) (Syntax.rvOpd (Syntax.copy (Syntax.place 6 (List._∷_ (Syntax.field 1) List.[]))))
+b1 = Syntax.assign (Syntax.place 8 List.[]) (Syntax.rvOpd (Syntax.copy (Syntax.place 5 (List._∷_ (Syntax.field 1) List.[]))))
 
 abbrev b2 : Syntax.Body
-b2 = Syntax.call "map::width" (List._∷_ (Syntax.copy (Syntax.place 9 List.[])) List.[]) (Syntax.place 10 List.[])
+b2 = Syntax.call "map::width" (List._∷_ (Syntax.copy (Syntax.place 8 List.[])) List.[]) (Syntax.place 9 List.[])
 
 abbrev b3 : Syntax.Body
-b3 = Syntax.assign (Syntax.place 11 List.[]) (Syntax.rvOpd (Syntax.copy (Syntax.place 2 List.[])))
+b3 = Syntax.assign (Syntax.place 10 List.[]) (Syntax.rvOpd (Syntax.copy (Syntax.place 2 List.[])))
 
 abbrev b4 : Syntax.Body
-b4 = Syntax.assign (Syntax.place 12 List.[]) (Syntax.rvOpd (Syntax.copy (Syntax.place 3 List.[])))
+b4 = Syntax.assign (Syntax.place 11 List.[]) (Syntax.rvOpd (Syntax.int Syntax.w64 0))
 
 abbrev b5 : Syntax.Body
-b5 = Syntax.assign (Syntax.place 13 List.[]) (Syntax.rvOpd (Syntax.int Syntax.w64 0))
+b5 = Syntax.assign (Syntax.place 18 List.[]) (Syntax.op2 (Syntax.lt Syntax.unsigned) (Syntax.copy (Syntax.place 11 List.[])) (Syntax.int Syntax.w64 6))
 
 abbrev b6 : Syntax.Body
-b6 = Syntax.assign (Syntax.place 19 List.[]) (Syntax.op2 (Syntax.lt Syntax.unsigned) (Syntax.copy (Syntax.place 13 List.[])) (Syntax.int Syntax.w64 6))
+b6 = Syntax.skip
 
 abbrev b7 : Syntax.Body
-b7 = Syntax.skip
+b7 = Syntax.exit 1
 
 abbrev b8 : Syntax.Body
-b8 = Syntax.exit 1
+b8 = Syntax.cond (Syntax.copy (Syntax.place 18 List.[])) b6 b7
 
 abbrev b9 : Syntax.Body
-b9 = Syntax.cond (Syntax.copy (Syntax.place 19 List.[])) b7 b8
+b9 = Syntax.call "steps::plan_at" (List._∷_ (Syntax.copy (Syntax.place 11 List.[])) (List._∷_ (Syntax.copy (Syntax.place 8 List.[])) List.[])) (Syntax.place 12 List.[])
 
 abbrev b10 : Syntax.Body
-b10 = Syntax.call "steps::plan_at" (List._∷_ (Syntax.copy (Syntax.place 13 List.[])) (List._∷_ (Syntax.copy (Syntax.place 9 List.[])) List.[])) (Syntax.place 14 List.[])
+b10 = Syntax.assign (Syntax.place 20 List.[]) (Syntax.addrOf (Syntax.place 3 (List._∷_ (Syntax.field 0) (List._∷_ (Syntax.deref (Syntax.tyInt Syntax.w16)) List.[]))))
 
 abbrev b11 : Syntax.Body
-b11 = Syntax.assign (Syntax.place 21 List.[]) (Syntax.addrOf (Syntax.place 4 (List._∷_ (Syntax.field 0) (List._∷_ (Syntax.deref (Syntax.tyInt Syntax.w16)) List.[]))))
+b11 = Syntax.assign (Syntax.place 21 List.[]) (Syntax.aggregate (List._∷_ (Syntax.copy (Syntax.place 20 List.[])) (List._∷_ (Syntax.copy (Syntax.place 3 (List._∷_ (Syntax.field 1) List.[])))
+    List.[])))
 
 abbrev b12 : Syntax.Body
-b12 = Syntax.assign (Syntax.place 22 List.[]) (Syntax.aggregate (List._∷_ (Syntax.copy (Syntax.place 21 List.[])) (List._∷_ (Syntax.copy (Syntax.place 4 (List._∷_ (Syntax.field 1) List.[])))
-    List.[])))
+b12 = Syntax.call "lines::set_guards" (List._∷_ (Syntax.copy (Syntax.place 21 List.[])) (List._∷_ (Syntax.copy (Syntax.place 9 List.[])) (List._∷_ (Syntax.copy (Syntax.place 12 (List._∷_ (Syntax.field
+    0) List.[]))) List.[]))) (Syntax.place 19 List.[])
 
 abbrev b13 : Syntax.Body
-b13 = Syntax.call "lines::set_guards" (List._∷_ (Syntax.copy (Syntax.place 22 List.[])) (List._∷_ (Syntax.copy (Syntax.place 10 List.[])) (List._∷_ (Syntax.copy (Syntax.place 14 (List._∷_
-    (Syntax.field 0) List.[]))) List.[]))) (Syntax.place 20 List.[])
+b13 = Syntax.assign (Syntax.place 22 List.[]) (Syntax.addrOf (Syntax.place 3 (List._∷_ (Syntax.field 0) (List._∷_ (Syntax.deref (Syntax.tyInt Syntax.w16)) List.[]))))
 
 abbrev b14 : Syntax.Body
-b14 = Syntax.assign (Syntax.place 23 List.[]) (Syntax.addrOf (Syntax.place 4 (List._∷_ (Syntax.field 0) (List._∷_ (Syntax.deref (Syntax.tyInt Syntax.w16)) List.[]))))
+b14 = Syntax.assign (Syntax.place 23 List.[]) (Syntax.aggregate (List._∷_ (Syntax.copy (Syntax.place 22 List.[])) (List._∷_ (Syntax.copy (Syntax.place 3 (List._∷_ (Syntax.field 1) List.[])))
+    List.[])))
 
 abbrev b15 : Syntax.Body
-b15 = Syntax.assign (Syntax.place 24 List.[]) (Syntax.aggregate (List._∷_ (Syntax.copy (Syntax.place 23 List.[])) (List._∷_ (Syntax.copy (Syntax.place 4 (List._∷_ (Syntax.field 1) List.[])))
-    List.[])))
+b15 = Syntax.call "lines::set_guards" (List._∷_ (Syntax.copy (Syntax.place 23 List.[])) (List._∷_ (Syntax.copy (Syntax.place 9 List.[])) (List._∷_ (Syntax.copy (Syntax.place 12 (List._∷_ (Syntax.field
+    1) List.[]))) List.[]))) (Syntax.place 19 List.[])
 
 abbrev b16 : Syntax.Body
-b16 = Syntax.call "lines::set_guards" (List._∷_ (Syntax.copy (Syntax.place 24 List.[])) (List._∷_ (Syntax.copy (Syntax.place 10 List.[])) (List._∷_ (Syntax.copy (Syntax.place 14 (List._∷_
-    (Syntax.field 1) List.[]))) List.[]))) (Syntax.place 20 List.[])
+b16 = Syntax.assign (Syntax.place 24 List.[]) (Syntax.addrOf (Syntax.place 4 (List._∷_ (Syntax.field 0) (List._∷_ (Syntax.deref (Element.held)) List.[]))))
 
 abbrev b17 : Syntax.Body
-b17 = Syntax.assign (Syntax.place 25 List.[]) (Syntax.addrOf (Syntax.place 5 (List._∷_ (Syntax.field 0) (List._∷_ (Syntax.deref (Element.held)) List.[]))))
+b17 = Syntax.assign (Syntax.place 25 List.[]) (Syntax.aggregate (List._∷_ (Syntax.copy (Syntax.place 24 List.[])) (List._∷_ (Syntax.copy (Syntax.place 4 (List._∷_ (Syntax.field 1) List.[])))
+    List.[])))
 
 abbrev b18 : Syntax.Body
-b18 = Syntax.assign (Syntax.place 26 List.[]) (Syntax.aggregate (List._∷_ (Syntax.copy (Syntax.place 25 List.[])) (List._∷_ (Syntax.copy (Syntax.place 5 (List._∷_ (Syntax.field 1) List.[])))
-    List.[])))
-
-abbrev b19 : Syntax.Body
-b19 = Syntax.call "block::records::load_set" (List._∷_ (Syntax.copy (Syntax.place 26 List.[])) (List._∷_ (Syntax.copy (Syntax.place 14 (List._∷_ (Syntax.field 2) List.[]))) List.[])) (Syntax.place 15
+b18 = Syntax.call "block::records::load_set" (List._∷_ (Syntax.copy (Syntax.place 25 List.[])) (List._∷_ (Syntax.copy (Syntax.place 12 (List._∷_ (Syntax.field 2) List.[]))) List.[])) (Syntax.place 13
     List.[])
 
+abbrev b19 : Syntax.Body
+b19 = Syntax.assign (Syntax.place 26 List.[]) (Syntax.addrOf (Syntax.place 3 (List._∷_ (Syntax.field 0) (List._∷_ (Syntax.deref (Syntax.tyInt Syntax.w16)) List.[]))))
+
 abbrev b20 : Syntax.Body
-b20 = Syntax.assign (Syntax.place 27 List.[]) (Syntax.addrOf (Syntax.place 4 (List._∷_ (Syntax.field 0) (List._∷_ (Syntax.deref (Syntax.tyInt Syntax.w16)) List.[]))))
+b20 = Syntax.assign (Syntax.place 27 List.[]) (Syntax.aggregate (List._∷_ (Syntax.copy (Syntax.place 26 List.[])) (List._∷_ (Syntax.copy (Syntax.place 3 (List._∷_ (Syntax.field 1) List.[])))
+    List.[])))
 
 abbrev b21 : Syntax.Body
-b21 = Syntax.assign (Syntax.place 28 List.[]) (Syntax.aggregate (List._∷_ (Syntax.copy (Syntax.place 27 List.[])) (List._∷_ (Syntax.copy (Syntax.place 4 (List._∷_ (Syntax.field 1) List.[])))
-    List.[])))
+b21 = Syntax.call "pass::pass" (List._∷_ (Syntax.copy (Syntax.place 1 List.[])) (List._∷_ (Syntax.copy (Syntax.place 10 List.[])) (List._∷_ (Syntax.copy (Syntax.place 27 List.[])) (List._∷_
+    (Syntax.copy (Syntax.place 13 List.[])) (List._∷_ (Syntax.copy (Syntax.place 9 List.[])) (List._∷_ (Syntax.copy (Syntax.place 12 List.[])) (List._∷_ (Syntax.copy (Syntax.place 6 List.[])) (List._∷_
+    (Syntax.copy (Syntax.place 7 List.[])) List.[])))))))) (Syntax.place 14 List.[])
 
 abbrev b22 : Syntax.Body
-b22 = Syntax.call "pass::pass" (List._∷_ (Syntax.copy (Syntax.place 1 List.[])) (List._∷_ (Syntax.copy (Syntax.place 11 List.[])) (List._∷_ (Syntax.copy (Syntax.place 12 List.[])) (List._∷_
-    (Syntax.copy (Syntax.place 28 List.[])) (List._∷_ (Syntax.copy (Syntax.place 15 List.[])) (List._∷_ (Syntax.copy (Syntax.place 10 List.[])) (List._∷_ (Syntax.copy (Syntax.place 14 List.[])) (List._∷_
-    (Syntax.copy (Syntax.place 7 List.[])) (List._∷_ (Syntax.copy (Syntax.place 8 List.[])) List.[]))))))))) (Syntax.place 16 List.[])
+b22 = Syntax.assign (Syntax.place 15 List.[]) (Syntax.rvOpd (Syntax.copy (Syntax.place 14 (List._∷_ (Syntax.field 0) List.[]))))
 
 abbrev b23 : Syntax.Body
-b23 = Syntax.assign (Syntax.place 17 List.[]) (Syntax.rvOpd (Syntax.copy (Syntax.place 16 (List._∷_ (Syntax.field 0) List.[]))))
+b23 = Syntax.assign (Syntax.place 18 List.[]) (Syntax.op1 Syntax.bitNot (Syntax.copy (Syntax.place 15 List.[])))
 
 abbrev b24 : Syntax.Body
-b24 = Syntax.assign (Syntax.place 19 List.[]) (Syntax.op1 Syntax.bitNot (Syntax.copy (Syntax.place 17 List.[])))
+b24 = Syntax.assign (Syntax.place 0 List.[]) (Syntax.aggregate (List._∷_ (Syntax.int Syntax.w8 1) List.[]))
 
 abbrev b25 : Syntax.Body
-b25 = Syntax.assign (Syntax.place 0 List.[]) (Syntax.aggregate (List._∷_ (Syntax.int Syntax.w8 1) List.[]))
+b25 = Syntax.return
 
 abbrev b26 : Syntax.Body
-b26 = Syntax.return
+b26 = Syntax.seq b24 b25
 
 abbrev b27 : Syntax.Body
-b27 = Syntax.seq b25 b26
+b27 = Syntax.skip
 
 abbrev b28 : Syntax.Body
-b28 = Syntax.skip
+b28 = Syntax.cond (Syntax.copy (Syntax.place 18 List.[])) b26 b27
 
 abbrev b29 : Syntax.Body
-b29 = Syntax.cond (Syntax.copy (Syntax.place 19 List.[])) b27 b28
+b29 = Syntax.assign (Syntax.place 16 List.[]) (Syntax.rvOpd (Syntax.copy (Syntax.place 14 (List._∷_ (Syntax.field 2) List.[]))))
 
 abbrev b30 : Syntax.Body
-b30 = Syntax.assign (Syntax.place 18 List.[]) (Syntax.rvOpd (Syntax.copy (Syntax.place 16 (List._∷_ (Syntax.field 3) List.[]))))
+b30 = Syntax.assign (Syntax.place 28 List.[]) (Syntax.addrOf (Syntax.place 4 (List._∷_ (Syntax.field 0) (List._∷_ (Syntax.deref (Element.held)) List.[]))))
 
 abbrev b31 : Syntax.Body
-b31 = Syntax.assign (Syntax.place 29 List.[]) (Syntax.addrOf (Syntax.place 5 (List._∷_ (Syntax.field 0) (List._∷_ (Syntax.deref (Element.held)) List.[]))))
-
-abbrev b32 : Syntax.Body
-b32 = Syntax.assign (Syntax.place 30 List.[]) (Syntax.aggregate (List._∷_ (Syntax.copy (Syntax.place 29 List.[])) (List._∷_ (Syntax.copy (Syntax.place 5 (List._∷_ (Syntax.field 1) List.[])))
+b31 = Syntax.assign (Syntax.place 29 List.[]) (Syntax.aggregate (List._∷_ (Syntax.copy (Syntax.place 28 List.[])) (List._∷_ (Syntax.copy (Syntax.place 4 (List._∷_ (Syntax.field 1) List.[])))
     List.[])))
 
+abbrev b32 : Syntax.Body
+b32 = Syntax.call "block::records::store_set" (List._∷_ (Syntax.copy (Syntax.place 29 List.[])) (List._∷_ (Syntax.copy (Syntax.place 12 (List._∷_ (Syntax.field 2) List.[]))) (List._∷_ (Syntax.copy
+    (Syntax.place 16 List.[])) List.[]))) (Syntax.place 19 List.[])
+
 abbrev b33 : Syntax.Body
-b33 = Syntax.call "block::records::store_set" (List._∷_ (Syntax.copy (Syntax.place 30 List.[])) (List._∷_ (Syntax.copy (Syntax.place 14 (List._∷_ (Syntax.field 2) List.[]))) (List._∷_ (Syntax.copy
-    (Syntax.place 18 List.[])) List.[]))) (Syntax.place 20 List.[])
+b33 = Syntax.assign (Syntax.place 10 List.[]) (Syntax.rvOpd (Syntax.copy (Syntax.place 14 (List._∷_ (Syntax.field 1) List.[]))))
 
 abbrev b34 : Syntax.Body
-b34 = Syntax.assign (Syntax.place 11 List.[]) (Syntax.rvOpd (Syntax.copy (Syntax.place 16 (List._∷_ (Syntax.field 2) List.[]))))
+b34 = Syntax.assign (Syntax.place 11 List.[]) (Syntax.op2 (Syntax.add Syntax.unsigned) (Syntax.copy (Syntax.place 11 List.[])) (Syntax.int Syntax.w64 1))
 
 abbrev b35 : Syntax.Body
-b35 = Syntax.assign (Syntax.place 12 List.[]) (Syntax.rvOpd (Syntax.copy (Syntax.place 16 (List._∷_ (Syntax.field 1) List.[]))))
+b35 = Syntax.seq b33 b34
 
 abbrev b36 : Syntax.Body
-b36 = Syntax.assign (Syntax.place 13 List.[]) (Syntax.op2 (Syntax.add Syntax.unsigned) (Syntax.copy (Syntax.place 13 List.[])) (Syntax.int Syntax.w64 1))
+b36 = Syntax.seq b32 b35
 
 abbrev b37 : Syntax.Body
-b37 = Syntax.seq b35 b36
+b37 = Syntax.seq b31 b36
 
 abbrev b38 : Syntax.Body
-b38 = Syntax.seq b34 b37
+b38 = Syntax.seq b30 b37
 
 abbrev b39 : Syntax.Body
-b39 = Syntax.seq b33 b38
+b39 = Syntax.seq b29 b38
 
 abbrev b40 : Syntax.Body
-b40 = Syntax.seq b32 b39
+b40 = Syntax.seq b28 b39
 
 abbrev b41 : Syntax.Body
-b41 = Syntax.seq b31 b40
+b41 = Syntax.seq b23 b40
 
 abbrev b42 : Syntax.Body
-b42 = Syntax.seq b30 b41
+b42 = Syntax.seq b22 b41
 
 abbrev b43 : Syntax.Body
-b43 = Syntax.seq b29 b42
+b43 = Syntax.seq b21 b42
 
 abbrev b44 : Syntax.Body
-b44 = Syntax.seq b24 b43
+b44 = Syntax.seq b20 b43
 
 abbrev b45 : Syntax.Body
-b45 = Syntax.seq b23 b44
+b45 = Syntax.seq b19 b44
 
 abbrev b46 : Syntax.Body
-b46 = Syntax.seq b22 b45
+b46 = Syntax.seq b18 b45
 
 abbrev b47 : Syntax.Body
-b47 = Syntax.seq b21 b46
+b47 = Syntax.seq b17 b46
 
 abbrev b48 : Syntax.Body
-b48 = Syntax.seq b20 b47
+b48 = Syntax.seq b16 b47
 
 abbrev b49 : Syntax.Body
-b49 = Syntax.seq b19 b48
+b49 = Syntax.seq b15 b48
 
 abbrev b50 : Syntax.Body
-b50 = Syntax.seq b18 b49
+b50 = Syntax.seq b14 b49
 
 abbrev b51 : Syntax.Body
-b51 = Syntax.seq b17 b50
+b51 = Syntax.seq b13 b50
 
 abbrev b52 : Syntax.Body
-b52 = Syntax.seq b16 b51
+b52 = Syntax.seq b12 b51
 
 abbrev b53 : Syntax.Body
-b53 = Syntax.seq b15 b52
+b53 = Syntax.seq b11 b52
 
 abbrev b54 : Syntax.Body
-b54 = Syntax.seq b14 b53
+b54 = Syntax.seq b10 b53
 
 abbrev b55 : Syntax.Body
-b55 = Syntax.seq b13 b54
+b55 = Syntax.seq b9 b54
 
 abbrev b56 : Syntax.Body
-b56 = Syntax.seq b12 b55
+b56 = Syntax.seq b8 b55
 
 abbrev b57 : Syntax.Body
-b57 = Syntax.seq b11 b56
+b57 = Syntax.seq b5 b56
 
 abbrev b58 : Syntax.Body
-b58 = Syntax.seq b10 b57
+b58 = Syntax.loop b57
 
 abbrev b59 : Syntax.Body
-b59 = Syntax.seq b9 b58
+b59 = Syntax.block b58
 
 abbrev b60 : Syntax.Body
-b60 = Syntax.seq b6 b59
+b60 = Syntax.assign (Syntax.place 17 List.[]) (Syntax.rvOpd (Syntax.copy (Syntax.place 10 (List._∷_ (Syntax.field 0) List.[]))))
 
 abbrev b61 : Syntax.Body
-b61 = Syntax.loop b60
+b61 = Syntax.call "bits::is_past" (List._∷_ (Syntax.copy (Syntax.place 1 List.[])) (List._∷_ (Syntax.copy (Syntax.place 17 List.[])) List.[])) (Syntax.place 30 List.[])
 
 abbrev b62 : Syntax.Body
-b62 = Syntax.block b61
+b62 = Syntax.assign (Syntax.place 0 List.[]) (Syntax.aggregate (List._∷_ (Syntax.int Syntax.w8 1) List.[]))
 
 abbrev b63 : Syntax.Body
-b63 = Syntax.call "bits::is_past" (List._∷_ (Syntax.copy (Syntax.place 1 List.[])) (List._∷_ (Syntax.copy (Syntax.place 11 List.[])) List.[])) (Syntax.place 31 List.[])
+b63 = Syntax.return
 
 abbrev b64 : Syntax.Body
-b64 = Syntax.assign (Syntax.place 0 List.[]) (Syntax.aggregate (List._∷_ (Syntax.int Syntax.w8 1) List.[]))
+b64 = Syntax.seq b62 b63
 
 abbrev b65 : Syntax.Body
-b65 = Syntax.return
+b65 = Syntax.skip
 
 abbrev b66 : Syntax.Body
-b66 = Syntax.seq b64 b65
+b66 = Syntax.cond (Syntax.copy (Syntax.place 30 List.[])) b64 b65
 
 abbrev b67 : Syntax.Body
-b67 = Syntax.skip
+b67 = Syntax.assign (Syntax.place 0 List.[]) (Syntax.aggregate (List._∷_ (Syntax.int Syntax.w8 0) (List._∷_ (Syntax.copy (Syntax.place 10 List.[])) List.[])))
 
 abbrev b68 : Syntax.Body
-b68 = Syntax.cond (Syntax.copy (Syntax.place 31 List.[])) b66 b67
+b68 = Syntax.return
 
 abbrev b69 : Syntax.Body
-b69 = Syntax.assign (Syntax.place 0 List.[]) (Syntax.aggregate (List._∷_ (Syntax.int Syntax.w8 0) (List._∷_ (Syntax.copy (Syntax.place 11 List.[])) (List._∷_ (Syntax.copy (Syntax.place 12 List.[]))
-    List.[]))))
+b69 = Syntax.seq b67 b68
 
 abbrev b70 : Syntax.Body
-b70 = Syntax.return
+b70 = Syntax.seq b66 b69
 
 abbrev b71 : Syntax.Body
-b71 = Syntax.seq b69 b70
+b71 = Syntax.seq b61 b70
 
 abbrev b72 : Syntax.Body
-b72 = Syntax.seq b68 b71
+b72 = Syntax.seq b60 b71
 
 abbrev b73 : Syntax.Body
-b73 = Syntax.seq b63 b72
+b73 = Syntax.seq b59 b72
 
 abbrev b74 : Syntax.Body
-b74 = Syntax.seq b62 b73
+b74 = Syntax.seq b4 b73
 
 abbrev b75 : Syntax.Body
-b75 = Syntax.seq b5 b74
+b75 = Syntax.seq b3 b74
 
 abbrev b76 : Syntax.Body
-b76 = Syntax.seq b4 b75
+b76 = Syntax.seq b2 b75
 
 abbrev b77 : Syntax.Body
-b77 = Syntax.seq b3 b76
+b77 = Syntax.seq b1 b76
 
 abbrev b78 : Syntax.Body
-b78 = Syntax.seq b2 b77
-
-abbrev b79 : Syntax.Body
-b79 = Syntax.seq b1 b78
-
-abbrev b80 : Syntax.Body
-b80 = Syntax.seq b0 b79
+b78 = Syntax.seq b0 b77
 
 abbrev pub body : Syntax.Body
-body = b80
+body = b78
 
 abbrev pub Claims : Type 1
 Claims = Kinds.In 0 ps·0 × Kinds.Out 0 ps·0 r·0 × Kinds.In 0 ps·1 × Kinds.Out 0 ps·1 r·1 × Kinds.In 1 ps·2 × Kinds.Out 1 ps·2 r·2 × Kinds.In 1 ps·3 × Kinds.Out 1 ps·3 r·3 × Kinds.In 2 ps·4 × Kinds.Out
@@ -660,7 +660,7 @@ abbrev pub e0 : Row.Entry
 e0 = (
   0,
   Rows.any-gone (Syntax.tyEnum (List._∷_ 98 (List._∷_ 108 (List._∷_ 111 (List._∷_ 99 (List._∷_ 107 (List._∷_ 58 (List._∷_ 58 (List._∷_ 76 (List._∷_ 105 (List._∷_ 110 (List._∷_ 101 (List._∷_ 100
-      List.[])))))))))))) (Syntax.ttcons (Syntax.tcons y5 (Syntax.tcons Syntax.tyBool Syntax.tnil)) (Syntax.ttcons Syntax.tnil Syntax.ttnil))),
+      List.[])))))))))))) (Syntax.ttcons (Syntax.tcons y7 Syntax.tnil) (Syntax.ttcons Syntax.tnil Syntax.ttnil))),
 )
 
 abbrev pub e1 : Row.Entry
@@ -670,445 +670,438 @@ abbrev pub e2 : Row.Entry
 e2 = (1, Rows.sslice (Referent.rtF (Referent.fInt Syntax.w8)) (Syntax.tyRef (Syntax.named 0) Syntax.imm (Syntax.tyInt Syntax.w8)) 0)
 
 abbrev pub e3 : Row.Entry
-e3 = (10, Rows.any-gone (Syntax.tyInt Syntax.w64))
+e3 = (10, Rows.any-gone y7)
 
 abbrev pub e4 : Row.Entry
-e4 = (10, Rows.sc-here (Row.sInt Syntax.w64))
+e4 = (10, Rows.whole (Declared'.row Place.the-type))
 
 abbrev pub e5 : Row.Entry
-e5 = (11, Rows.any-gone y5)
+e5 = (11, Rows.any-gone (Syntax.tyInt Syntax.w64))
 
 abbrev pub e6 : Row.Entry
-e6 = (11, Rows.whole (Declared'.row BitPosition.the-type))
+e6 = (11, Rows.sc-here (Row.sInt Syntax.w64))
 
 abbrev pub e7 : Row.Entry
-e7 = (12, Rows.any-gone Syntax.tyBool)
+e7 = (12, Rows.any-gone y0)
 
 abbrev pub e8 : Row.Entry
-e8 = (12, Rows.sc-here Row.sBool)
+e8 = (12, Rows.whole (Declared'.row Plan.the-type))
 
 abbrev pub e9 : Row.Entry
-e9 = (13, Rows.any-gone (Syntax.tyInt Syntax.w64))
+e9 = (13, Rows.any-gone y2)
 
 abbrev pub e10 : Row.Entry
-e10 = (13, Rows.sc-here (Row.sInt Syntax.w64))
+e10 = (13, Rows.whole (Declared'.row Set.the-type))
 
 abbrev pub e11 : Row.Entry
-e11 = (14, Rows.any-gone y0)
+e11 = (14, Rows.any-gone y8)
 
 abbrev pub e12 : Row.Entry
-e12 = (14, Rows.whole (Declared'.row Plan.the-type))
+e12 = (14, Rows.whole (Declared'.row Passed.the-type))
 
 abbrev pub e13 : Row.Entry
-e13 = (15, Rows.any-gone y2)
+e13 = (15, Rows.any-gone Syntax.tyBool)
 
 abbrev pub e14 : Row.Entry
-e14 = (15, Rows.whole (Declared'.row Set.the-type))
+e14 = (15, Rows.sc-here Row.sBool)
 
 abbrev pub e15 : Row.Entry
-e15 = (16, Rows.any-gone y7)
+e15 = (16, Rows.any-gone y2)
 
 abbrev pub e16 : Row.Entry
-e16 = (16, Rows.whole (Declared'.row Passed.the-type))
+e16 = (16, Rows.whole (Declared'.row Set.the-type))
 
 abbrev pub e17 : Row.Entry
-e17 = (17, Rows.any-gone Syntax.tyBool)
+e17 = (17, Rows.any-gone y5)
 
 abbrev pub e18 : Row.Entry
-e18 = (17, Rows.sc-here Row.sBool)
+e18 = (17, Rows.whole (Declared'.row BitPosition.the-type))
 
 abbrev pub e19 : Row.Entry
-e19 = (18, Rows.any-gone y2)
+e19 = (18, Rows.any-gone Syntax.tyBool)
 
 abbrev pub e20 : Row.Entry
-e20 = (18, Rows.whole (Declared'.row Set.the-type))
+e20 = (19, Rows.any-gone Syntax.tyUnit)
 
 abbrev pub e21 : Row.Entry
-e21 = (19, Rows.any-gone Syntax.tyBool)
+e21 = (19, Rows.sc-here Row.sUnit)
 
 abbrev pub e22 : Row.Entry
-e22 = (19, Rows.sc-here Row.sBool)
+e22 = (2, Rows.any-gone y7)
 
 abbrev pub e23 : Row.Entry
-e23 = (2, Rows.any-gone y5)
+e23 = (2, Rows.whole (Declared'.row Place.the-type))
 
 abbrev pub e24 : Row.Entry
-e24 = (2, Rows.whole (Declared'.row BitPosition.the-type))
+e24 = (20, Rows.any-gone (Syntax.tyRef Syntax.erased Syntax.mut (Syntax.tyInt Syntax.w16)))
 
 abbrev pub e25 : Row.Entry
-e25 = (20, Rows.any-gone Syntax.tyUnit)
+e25 = (21, Mut.msleft (Referent.rtF (Referent.fInt Syntax.w16)) (Syntax.tyRef Syntax.erased Syntax.mut (Syntax.tyInt Syntax.w16)))
 
 abbrev pub e26 : Row.Entry
-e26 = (20, Rows.sc-here Row.sUnit)
+e26 = (21, Rows.any-gone y3)
 
 abbrev pub e27 : Row.Entry
-e27 = (21, Rows.any-gone (Syntax.tyRef Syntax.erased Syntax.mut (Syntax.tyInt Syntax.w16)))
+e27 = (22, Rows.any-gone (Syntax.tyRef Syntax.erased Syntax.mut (Syntax.tyInt Syntax.w16)))
 
 abbrev pub e28 : Row.Entry
-e28 = (22, Mut.msleft (Referent.rtF (Referent.fInt Syntax.w16)) (Syntax.tyRef Syntax.erased Syntax.mut (Syntax.tyInt Syntax.w16)))
+e28 = (23, Mut.msleft (Referent.rtF (Referent.fInt Syntax.w16)) (Syntax.tyRef Syntax.erased Syntax.mut (Syntax.tyInt Syntax.w16)))
 
 abbrev pub e29 : Row.Entry
-e29 = (22, Rows.any-gone y3)
+e29 = (23, Rows.any-gone y3)
 
 abbrev pub e30 : Row.Entry
-e30 = (23, Rows.any-gone (Syntax.tyRef Syntax.erased Syntax.mut (Syntax.tyInt Syntax.w16)))
+e30 = (24, Rows.any-gone (Syntax.tyRef Syntax.erased Syntax.mut Element.behind))
 
 abbrev pub e31 : Row.Entry
-e31 = (24, Mut.msleft (Referent.rtF (Referent.fInt Syntax.w16)) (Syntax.tyRef Syntax.erased Syntax.mut (Syntax.tyInt Syntax.w16)))
+e31 = (25, Rows.any-gone y4)
 
 abbrev pub e32 : Row.Entry
-e32 = (24, Rows.any-gone y3)
+e32 = (26, Rows.any-gone (Syntax.tyRef Syntax.erased Syntax.mut (Syntax.tyInt Syntax.w16)))
 
 abbrev pub e33 : Row.Entry
-e33 = (25, Rows.any-gone (Syntax.tyRef Syntax.erased Syntax.mut Element.behind))
+e33 = (27, Rows.any-gone y3)
 
 abbrev pub e34 : Row.Entry
-e34 = (26, Rows.any-gone y4)
+e34 = (28, Rows.any-gone (Syntax.tyRef Syntax.erased Syntax.mut Element.behind))
 
 abbrev pub e35 : Row.Entry
-e35 = (27, Rows.any-gone (Syntax.tyRef Syntax.erased Syntax.mut (Syntax.tyInt Syntax.w16)))
+e35 = (29, Mut.msleft (Element.type) (Syntax.tyRef Syntax.erased Syntax.mut Element.behind))
 
 abbrev pub e36 : Row.Entry
-e36 = (28, Rows.any-gone y3)
+e36 = (29, Rows.any-gone y4)
 
 abbrev pub e37 : Row.Entry
-e37 = (29, Rows.any-gone (Syntax.tyRef Syntax.erased Syntax.mut Element.behind))
+e37 = (3, Mut.mslice (Referent.rtF (Referent.fInt Syntax.w16)) (Syntax.tyRef (Syntax.named 1) Syntax.mut (Syntax.tyInt Syntax.w16)) 1)
 
 abbrev pub e38 : Row.Entry
-e38 = (3, Rows.any-gone Syntax.tyBool)
+e38 = (3, Relend.mslice-owed (Referent.rtF (Referent.fInt Syntax.w16)) (Syntax.tyRef (Syntax.named 1) Syntax.mut (Syntax.tyInt Syntax.w16)) 1 6 Row.off)
 
 abbrev pub e39 : Row.Entry
-e39 = (3, Rows.sc-here Row.sBool)
+e39 = (30, Rows.any-gone Syntax.tyBool)
 
 abbrev pub e40 : Row.Entry
-e40 = (30, Mut.msleft (Element.type) (Syntax.tyRef Syntax.erased Syntax.mut Element.behind))
+e40 = (30, Rows.sc-here Row.sBool)
 
 abbrev pub e41 : Row.Entry
-e41 = (30, Rows.any-gone y4)
+e41 = (4, Mut.mslice (Element.type) (Syntax.tyRef (Syntax.named 2) Syntax.mut Element.behind) 2)
 
 abbrev pub e42 : Row.Entry
-e42 = (31, Rows.any-gone Syntax.tyBool)
+e42 = (4, Relend.mslice-owed (Element.type) (Syntax.tyRef (Syntax.named 2) Syntax.mut Element.behind) 2 5 Row.off)
 
 abbrev pub e43 : Row.Entry
-e43 = (4, Mut.mslice (Referent.rtF (Referent.fInt Syntax.w16)) (Syntax.tyRef (Syntax.named 1) Syntax.mut (Syntax.tyInt Syntax.w16)) 1)
+e43 = (4, Relend.mslice-owed (Element.type) (Syntax.tyRef (Syntax.named 2) Syntax.mut Element.behind) 2 7 Row.off)
 
 abbrev pub e44 : Row.Entry
-e44 = (4, Relend.mslice-owed (Referent.rtF (Referent.fInt Syntax.w16)) (Syntax.tyRef (Syntax.named 1) Syntax.mut (Syntax.tyInt Syntax.w16)) 1 6 Row.off)
+e44 = (5, Rows.any-gone y6)
 
 abbrev pub e45 : Row.Entry
-e45 = (5, Mut.mslice (Element.type) (Syntax.tyRef (Syntax.named 2) Syntax.mut Element.behind) 2)
+e45 = (5, Rows.whole (Declared'.row Form.the-type))
 
 abbrev pub e46 : Row.Entry
-e46 = (5, Relend.mslice-owed (Element.type) (Syntax.tyRef (Syntax.named 2) Syntax.mut Element.behind) 2 5 Row.off)
+e46 = (6, Rows.any-gone y1)
 
 abbrev pub e47 : Row.Entry
-e47 = (5, Relend.mslice-owed (Element.type) (Syntax.tyRef (Syntax.named 2) Syntax.mut Element.behind) 2 7 Row.off)
+e47 = (6, Rows.whole (Declared'.row Quantisers.the-type))
 
 abbrev pub e48 : Row.Entry
-e48 = (6, Rows.any-gone y6)
+e48 = (7, Rows.any-gone (Syntax.tyInt Syntax.w32))
 
 abbrev pub e49 : Row.Entry
-e49 = (6, Rows.whole (Declared'.row Form.the-type))
+e49 = (7, Rows.sc-here (Row.sInt Syntax.w32))
 
 abbrev pub e50 : Row.Entry
-e50 = (7, Rows.any-gone y1)
+e50 = (8, Rows.any-gone Syntax.tyBool)
 
 abbrev pub e51 : Row.Entry
-e51 = (7, Rows.whole (Declared'.row Quantisers.the-type))
+e51 = (8, Rows.sc-here Row.sBool)
 
 abbrev pub e52 : Row.Entry
-e52 = (8, Rows.any-gone (Syntax.tyInt Syntax.w32))
+e52 = (9, Rows.any-gone (Syntax.tyInt Syntax.w64))
 
 abbrev pub e53 : Row.Entry
-e53 = (8, Rows.sc-here (Row.sInt Syntax.w32))
-
-abbrev pub e54 : Row.Entry
-e54 = (9, Rows.any-gone Syntax.tyBool)
-
-abbrev pub e55 : Row.Entry
-e55 = (9, Rows.sc-here Row.sBool)
+e53 = (9, Rows.sc-here (Row.sInt Syntax.w64))
 
 abbrev pub t0 : List.List Row.Entry
-t0 = List._∷_ e0 (List._∷_ e2 (List._∷_ e24 (List._∷_ e39 (List._∷_ e43 (List._∷_ e45 (List._∷_ e49 (List._∷_ e51 (List._∷_ e52 (List._∷_ e54 (List._∷_ e3 (List._∷_ e5 (List._∷_ e7 (List._∷_ e9
+t0 = List._∷_ e0 (List._∷_ e2 (List._∷_ e23 (List._∷_ e37 (List._∷_ e41 (List._∷_ e45 (List._∷_ e47 (List._∷_ e48 (List._∷_ e50 (List._∷_ e52 (List._∷_ e3 (List._∷_ e5 (List._∷_ e7 (List._∷_ e9
     (List._∷_ e11 (List._∷_ e13 List.[])))))))))))))))
 
 abbrev pub t1 : List.List Row.Entry
-t1 = List._∷_ e15 (List._∷_ e17 (List._∷_ e19 (List._∷_ e21 (List._∷_ e25 (List._∷_ e27 (List._∷_ e29 (List._∷_ e30 (List._∷_ e32 (List._∷_ e33 (List._∷_ e34 (List._∷_ e35 (List._∷_ e36 (List._∷_ e37
-    (List._∷_ e41 (List._∷_ e42 List.[])))))))))))))))
+t1 = List._∷_ e15 (List._∷_ e17 (List._∷_ e19 (List._∷_ e20 (List._∷_ e24 (List._∷_ e26 (List._∷_ e27 (List._∷_ e29 (List._∷_ e30 (List._∷_ e31 (List._∷_ e32 (List._∷_ e33 (List._∷_ e34 (List._∷_ e36
+    (List._∷_ e39 List.[]))))))))))))))
 
 abbrev pub t2 : List.List Row.Entry
-t2 = List._∷_ e1 (List._∷_ e2 (List._∷_ e23 (List._∷_ e38 (List._∷_ e43 (List._∷_ e45 (List._∷_ e48 (List._∷_ e50 (List._∷_ e52 (List._∷_ e54 (List._∷_ e3 (List._∷_ e5 (List._∷_ e7 (List._∷_ e9
+t2 = List._∷_ e1 (List._∷_ e2 (List._∷_ e22 (List._∷_ e37 (List._∷_ e41 (List._∷_ e44 (List._∷_ e46 (List._∷_ e48 (List._∷_ e50 (List._∷_ e52 (List._∷_ e3 (List._∷_ e5 (List._∷_ e7 (List._∷_ e9
     (List._∷_ e11 (List._∷_ e13 List.[])))))))))))))))
 
 abbrev pub t3 : List.List Row.Entry
-t3 = List._∷_ e0 (List._∷_ e2 (List._∷_ e24 (List._∷_ e39 (List._∷_ e43 (List._∷_ e45 (List._∷_ e49 (List._∷_ e51 (List._∷_ e53 (List._∷_ e54 (List._∷_ e3 (List._∷_ e5 (List._∷_ e7 (List._∷_ e9
+t3 = List._∷_ e0 (List._∷_ e2 (List._∷_ e23 (List._∷_ e37 (List._∷_ e41 (List._∷_ e45 (List._∷_ e47 (List._∷_ e49 (List._∷_ e50 (List._∷_ e52 (List._∷_ e3 (List._∷_ e5 (List._∷_ e7 (List._∷_ e9
     (List._∷_ e11 (List._∷_ e13 List.[])))))))))))))))
 
 abbrev pub t4 : List.List Row.Entry
-t4 = List._∷_ e0 (List._∷_ e2 (List._∷_ e24 (List._∷_ e39 (List._∷_ e43 (List._∷_ e45 (List._∷_ e49 (List._∷_ e51 (List._∷_ e53 (List._∷_ e55 (List._∷_ e3 (List._∷_ e5 (List._∷_ e7 (List._∷_ e9
+t4 = List._∷_ e0 (List._∷_ e2 (List._∷_ e23 (List._∷_ e37 (List._∷_ e41 (List._∷_ e45 (List._∷_ e47 (List._∷_ e49 (List._∷_ e51 (List._∷_ e52 (List._∷_ e3 (List._∷_ e5 (List._∷_ e7 (List._∷_ e9
     (List._∷_ e11 (List._∷_ e13 List.[])))))))))))))))
 
 abbrev pub t5 : List.List Row.Entry
-t5 = List._∷_ e0 (List._∷_ e2 (List._∷_ e24 (List._∷_ e39 (List._∷_ e43 (List._∷_ e45 (List._∷_ e48 (List._∷_ e51 (List._∷_ e53 (List._∷_ e55 (List._∷_ e3 (List._∷_ e5 (List._∷_ e7 (List._∷_ e9
+t5 = List._∷_ e0 (List._∷_ e2 (List._∷_ e23 (List._∷_ e37 (List._∷_ e41 (List._∷_ e44 (List._∷_ e47 (List._∷_ e49 (List._∷_ e51 (List._∷_ e52 (List._∷_ e3 (List._∷_ e5 (List._∷_ e7 (List._∷_ e9
     (List._∷_ e11 (List._∷_ e13 List.[])))))))))))))))
 
 abbrev pub t6 : List.List Row.Entry
-t6 = List._∷_ e0 (List._∷_ e2 (List._∷_ e24 (List._∷_ e39 (List._∷_ e43 (List._∷_ e45 (List._∷_ e48 (List._∷_ e51 (List._∷_ e53 (List._∷_ e55 (List._∷_ e4 (List._∷_ e5 (List._∷_ e7 (List._∷_ e9
+t6 = List._∷_ e0 (List._∷_ e2 (List._∷_ e23 (List._∷_ e37 (List._∷_ e41 (List._∷_ e44 (List._∷_ e47 (List._∷_ e49 (List._∷_ e51 (List._∷_ e53 (List._∷_ e3 (List._∷_ e5 (List._∷_ e7 (List._∷_ e9
     (List._∷_ e11 (List._∷_ e13 List.[])))))))))))))))
 
 abbrev pub t7 : List.List Row.Entry
-t7 = List._∷_ e0 (List._∷_ e2 (List._∷_ e24 (List._∷_ e39 (List._∷_ e43 (List._∷_ e45 (List._∷_ e48 (List._∷_ e51 (List._∷_ e53 (List._∷_ e55 (List._∷_ e4 (List._∷_ e6 (List._∷_ e7 (List._∷_ e9
+t7 = List._∷_ e0 (List._∷_ e2 (List._∷_ e23 (List._∷_ e37 (List._∷_ e41 (List._∷_ e44 (List._∷_ e47 (List._∷_ e49 (List._∷_ e51 (List._∷_ e53 (List._∷_ e4 (List._∷_ e5 (List._∷_ e7 (List._∷_ e9
     (List._∷_ e11 (List._∷_ e13 List.[])))))))))))))))
 
 abbrev pub t8 : List.List Row.Entry
-t8 = List._∷_ e0 (List._∷_ e2 (List._∷_ e23 (List._∷_ e39 (List._∷_ e43 (List._∷_ e45 (List._∷_ e48 (List._∷_ e51 (List._∷_ e53 (List._∷_ e55 (List._∷_ e4 (List._∷_ e6 (List._∷_ e7 (List._∷_ e9
+t8 = List._∷_ e0 (List._∷_ e2 (List._∷_ e22 (List._∷_ e37 (List._∷_ e41 (List._∷_ e44 (List._∷_ e47 (List._∷_ e49 (List._∷_ e51 (List._∷_ e53 (List._∷_ e4 (List._∷_ e5 (List._∷_ e7 (List._∷_ e9
     (List._∷_ e11 (List._∷_ e13 List.[])))))))))))))))
 
 abbrev pub t9 : List.List Row.Entry
-t9 = List._∷_ e0 (List._∷_ e2 (List._∷_ e23 (List._∷_ e39 (List._∷_ e43 (List._∷_ e45 (List._∷_ e48 (List._∷_ e51 (List._∷_ e53 (List._∷_ e55 (List._∷_ e4 (List._∷_ e6 (List._∷_ e8 (List._∷_ e9
+t9 = List._∷_ e0 (List._∷_ e2 (List._∷_ e22 (List._∷_ e37 (List._∷_ e41 (List._∷_ e44 (List._∷_ e47 (List._∷_ e49 (List._∷_ e51 (List._∷_ e53 (List._∷_ e4 (List._∷_ e6 (List._∷_ e7 (List._∷_ e9
     (List._∷_ e11 (List._∷_ e13 List.[])))))))))))))))
 
 abbrev pub t10 : List.List Row.Entry
-t10 = List._∷_ e0 (List._∷_ e2 (List._∷_ e23 (List._∷_ e39 (List._∷_ e43 (List._∷_ e45 (List._∷_ e48 (List._∷_ e51 (List._∷_ e53 (List._∷_ e55 (List._∷_ e4 (List._∷_ e6 (List._∷_ e8 (List._∷_ e10
+t10 = List._∷_ e0 (List._∷_ e2 (List._∷_ e22 (List._∷_ e37 (List._∷_ e41 (List._∷_ e44 (List._∷_ e46 (List._∷_ e49 (List._∷_ e51 (List._∷_ e53 (List._∷_ e4 (List._∷_ e6 (List._∷_ e7 (List._∷_ e9
     (List._∷_ e11 (List._∷_ e13 List.[])))))))))))))))
 
 abbrev pub t11 : List.List Row.Entry
-t11 = List._∷_ e0 (List._∷_ e2 (List._∷_ e23 (List._∷_ e39 (List._∷_ e43 (List._∷_ e45 (List._∷_ e48 (List._∷_ e50 (List._∷_ e53 (List._∷_ e55 (List._∷_ e4 (List._∷_ e6 (List._∷_ e8 (List._∷_ e10
-    (List._∷_ e11 (List._∷_ e13 List.[])))))))))))))))
+t11 = List._∷_ e15 (List._∷_ e17 (List._∷_ (18, Rows.sc-here Row.sBool) (List._∷_ e20 (List._∷_ e24 (List._∷_ e26 (List._∷_ e27 (List._∷_ e29 (List._∷_ e30 (List._∷_ e31 (List._∷_ e32 (List._∷_ e33
+    (List._∷_ e34 (List._∷_ e36 (List._∷_ e39 List.[]))))))))))))))
 
 abbrev pub t12 : List.List Row.Entry
-t12 = List._∷_ e15 (List._∷_ e17 (List._∷_ e19 (List._∷_ e22 (List._∷_ e25 (List._∷_ e27 (List._∷_ e29 (List._∷_ e30 (List._∷_ e32 (List._∷_ e33 (List._∷_ e34 (List._∷_ e35 (List._∷_ e36 (List._∷_ e37
-    (List._∷_ e41 (List._∷_ e42 List.[])))))))))))))))
+t12 = List._∷_ e0 (List._∷_ e2 (List._∷_ e22 (List._∷_ e37 (List._∷_ e41 (List._∷_ e44 (List._∷_ e47 (List._∷_ e49 (List._∷_ e51 (List._∷_ e53 (List._∷_ e4 (List._∷_ e6 (List._∷_ e8 (List._∷_ e9
+    (List._∷_ e11 (List._∷_ e13 List.[])))))))))))))))
 
 abbrev pub t13 : List.List Row.Entry
-t13 = List._∷_ e0 (List._∷_ e2 (List._∷_ e23 (List._∷_ e39 (List._∷_ e43 (List._∷_ e45 (List._∷_ e48 (List._∷_ e51 (List._∷_ e53 (List._∷_ e55 (List._∷_ e4 (List._∷_ e6 (List._∷_ e8 (List._∷_ e10
-    (List._∷_ e12 (List._∷_ e13 List.[])))))))))))))))
+t13 = List._∷_ e0 (List._∷_ e2 (List._∷_ e22 (List._∷_
+    (3, Relend.mslice-owed (Referent.rtF (Referent.fInt Syntax.w16)) (Syntax.tyRef (Syntax.named 1) Syntax.mut (Syntax.tyInt Syntax.w16)) 1 3 Row.off) (List._∷_ e41 (List._∷_ e44 (List._∷_ e47 (List._∷_
+    e49 (List._∷_ e51 (List._∷_ e53 (List._∷_ e4 (List._∷_ e6 (List._∷_ e8 (List._∷_ e9 (List._∷_ e11 (List._∷_ e13 List.[])))))))))))))))
 
 abbrev pub t14 : List.List Row.Entry
-t14 = List._∷_ e0 (List._∷_ e2 (List._∷_ e23 (List._∷_ e39 (List._∷_
-    (4, Relend.mslice-owed (Referent.rtF (Referent.fInt Syntax.w16)) (Syntax.tyRef (Syntax.named 1) Syntax.mut (Syntax.tyInt Syntax.w16)) 1 3 Row.off) (List._∷_ e45 (List._∷_ e48 (List._∷_ e51 (List._∷_
-    e53 (List._∷_ e55 (List._∷_ e4 (List._∷_ e6 (List._∷_ e8 (List._∷_ e10 (List._∷_ e12 (List._∷_ e13 List.[])))))))))))))))
+t14 = List._∷_ e15 (List._∷_ e17 (List._∷_ e19 (List._∷_ e20 (List._∷_ (20, Relend.msptr (Referent.rtF (Referent.fInt Syntax.w16)) (Syntax.tyRef Syntax.erased Syntax.mut (Syntax.tyInt Syntax.w16)) 3)
+    (List._∷_ e26 (List._∷_ e27 (List._∷_ e29 (List._∷_ e30 (List._∷_ e31 (List._∷_ e32 (List._∷_ e33 (List._∷_ e34 (List._∷_ e36 (List._∷_ e39 List.[]))))))))))))))
 
 abbrev pub t15 : List.List Row.Entry
-t15 = List._∷_ e15 (List._∷_ e17 (List._∷_ e19 (List._∷_ e21 (List._∷_ e25 (List._∷_
-    (21, Relend.msptr (Referent.rtF (Referent.fInt Syntax.w16)) (Syntax.tyRef Syntax.erased Syntax.mut (Syntax.tyInt Syntax.w16)) 3) (List._∷_ e29 (List._∷_ e30 (List._∷_ e32 (List._∷_ e33 (List._∷_ e34
-    (List._∷_ e35 (List._∷_ e36 (List._∷_ e37 (List._∷_ e41 (List._∷_ e42 List.[])))))))))))))))
+t15 = List._∷_ e15 (List._∷_ e17 (List._∷_ e19 (List._∷_ e20 (List._∷_ e24 (List._∷_
+    (21, Mut.mslice (Referent.rtF (Referent.fInt Syntax.w16)) (Syntax.tyRef Syntax.erased Syntax.mut (Syntax.tyInt Syntax.w16)) 3) (List._∷_ e27 (List._∷_ e29 (List._∷_ e30 (List._∷_ e31 (List._∷_ e32
+    (List._∷_ e33 (List._∷_ e34 (List._∷_ e36 (List._∷_ e39 List.[]))))))))))))))
 
 abbrev pub t16 : List.List Row.Entry
-t16 = List._∷_ e15 (List._∷_ e17 (List._∷_ e19 (List._∷_ e21 (List._∷_ e25 (List._∷_ e27 (List._∷_
-    (22, Mut.mslice (Referent.rtF (Referent.fInt Syntax.w16)) (Syntax.tyRef Syntax.erased Syntax.mut (Syntax.tyInt Syntax.w16)) 3) (List._∷_ e30 (List._∷_ e32 (List._∷_ e33 (List._∷_ e34 (List._∷_ e35
-    (List._∷_ e36 (List._∷_ e37 (List._∷_ e41 (List._∷_ e42 List.[])))))))))))))))
+t16 = List._∷_ e15 (List._∷_ e17 (List._∷_ e19 (List._∷_ e21 (List._∷_ e24 (List._∷_ e25 (List._∷_ e27 (List._∷_ e29 (List._∷_ e30 (List._∷_ e31 (List._∷_ e32 (List._∷_ e33 (List._∷_ e34 (List._∷_ e36
+    (List._∷_ e39 List.[]))))))))))))))
 
 abbrev pub t17 : List.List Row.Entry
-t17 = List._∷_ e15 (List._∷_ e17 (List._∷_ e19 (List._∷_ e21 (List._∷_ e26 (List._∷_ e27 (List._∷_ e28 (List._∷_ e30 (List._∷_ e32 (List._∷_ e33 (List._∷_ e34 (List._∷_ e35 (List._∷_ e36 (List._∷_ e37
-    (List._∷_ e41 (List._∷_ e42 List.[])))))))))))))))
+t17 = List._∷_ e15 (List._∷_ e17 (List._∷_ e19 (List._∷_ e20 (List._∷_ e24 (List._∷_ e25 (List._∷_ e27 (List._∷_ e29 (List._∷_ e30 (List._∷_ e31 (List._∷_ e32 (List._∷_ e33 (List._∷_ e34 (List._∷_ e36
+    (List._∷_ e39 List.[]))))))))))))))
 
 abbrev pub t18 : List.List Row.Entry
-t18 = List._∷_ e15 (List._∷_ e17 (List._∷_ e19 (List._∷_ e21 (List._∷_ e25 (List._∷_ e27 (List._∷_ e28 (List._∷_ e30 (List._∷_ e32 (List._∷_ e33 (List._∷_ e34 (List._∷_ e35 (List._∷_ e36 (List._∷_ e37
-    (List._∷_ e41 (List._∷_ e42 List.[])))))))))))))))
+t18 = List._∷_ e0 (List._∷_ e2 (List._∷_ e22 (List._∷_
+    (3, Relend.mslice-owed (Referent.rtF (Referent.fInt Syntax.w16)) (Syntax.tyRef (Syntax.named 1) Syntax.mut (Syntax.tyInt Syntax.w16)) 1 4 Row.off) (List._∷_ e41 (List._∷_ e44 (List._∷_ e47 (List._∷_
+    e49 (List._∷_ e51 (List._∷_ e53 (List._∷_ e4 (List._∷_ e6 (List._∷_ e8 (List._∷_ e9 (List._∷_ e11 (List._∷_ e13 List.[])))))))))))))))
 
 abbrev pub t19 : List.List Row.Entry
-t19 = List._∷_ e0 (List._∷_ e2 (List._∷_ e23 (List._∷_ e39 (List._∷_
-    (4, Relend.mslice-owed (Referent.rtF (Referent.fInt Syntax.w16)) (Syntax.tyRef (Syntax.named 1) Syntax.mut (Syntax.tyInt Syntax.w16)) 1 4 Row.off) (List._∷_ e45 (List._∷_ e48 (List._∷_ e51 (List._∷_
-    e53 (List._∷_ e55 (List._∷_ e4 (List._∷_ e6 (List._∷_ e8 (List._∷_ e10 (List._∷_ e12 (List._∷_ e13 List.[])))))))))))))))
+t19 = List._∷_ e15 (List._∷_ e17 (List._∷_ e19 (List._∷_ e20 (List._∷_ e24 (List._∷_ e26 (List._∷_
+    (22, Relend.msptr (Referent.rtF (Referent.fInt Syntax.w16)) (Syntax.tyRef Syntax.erased Syntax.mut (Syntax.tyInt Syntax.w16)) 4) (List._∷_ e29 (List._∷_ e30 (List._∷_ e31 (List._∷_ e32 (List._∷_ e33
+    (List._∷_ e34 (List._∷_ e36 (List._∷_ e39 List.[]))))))))))))))
 
 abbrev pub t20 : List.List Row.Entry
-t20 = List._∷_ e15 (List._∷_ e17 (List._∷_ e19 (List._∷_ e21 (List._∷_ e25 (List._∷_ e27 (List._∷_ e29 (List._∷_
-    (23, Relend.msptr (Referent.rtF (Referent.fInt Syntax.w16)) (Syntax.tyRef Syntax.erased Syntax.mut (Syntax.tyInt Syntax.w16)) 4) (List._∷_ e32 (List._∷_ e33 (List._∷_ e34 (List._∷_ e35 (List._∷_ e36
-    (List._∷_ e37 (List._∷_ e41 (List._∷_ e42 List.[])))))))))))))))
+t20 = List._∷_ e15 (List._∷_ e17 (List._∷_ e19 (List._∷_ e20 (List._∷_ e24 (List._∷_ e26 (List._∷_ e27 (List._∷_
+    (23, Mut.mslice (Referent.rtF (Referent.fInt Syntax.w16)) (Syntax.tyRef Syntax.erased Syntax.mut (Syntax.tyInt Syntax.w16)) 4) (List._∷_ e30 (List._∷_ e31 (List._∷_ e32 (List._∷_ e33 (List._∷_ e34
+    (List._∷_ e36 (List._∷_ e39 List.[]))))))))))))))
 
 abbrev pub t21 : List.List Row.Entry
-t21 = List._∷_ e15 (List._∷_ e17 (List._∷_ e19 (List._∷_ e21 (List._∷_ e25 (List._∷_ e27 (List._∷_ e29 (List._∷_ e30 (List._∷_
-    (24, Mut.mslice (Referent.rtF (Referent.fInt Syntax.w16)) (Syntax.tyRef Syntax.erased Syntax.mut (Syntax.tyInt Syntax.w16)) 4) (List._∷_ e33 (List._∷_ e34 (List._∷_ e35 (List._∷_ e36 (List._∷_ e37
-    (List._∷_ e41 (List._∷_ e42 List.[])))))))))))))))
+t21 = List._∷_ e15 (List._∷_ e17 (List._∷_ e19 (List._∷_ e21 (List._∷_ e24 (List._∷_ e26 (List._∷_ e27 (List._∷_ e28 (List._∷_ e30 (List._∷_ e31 (List._∷_ e32 (List._∷_ e33 (List._∷_ e34 (List._∷_ e36
+    (List._∷_ e39 List.[]))))))))))))))
 
 abbrev pub t22 : List.List Row.Entry
-t22 = List._∷_ e15 (List._∷_ e17 (List._∷_ e19 (List._∷_ e21 (List._∷_ e26 (List._∷_ e27 (List._∷_ e29 (List._∷_ e30 (List._∷_ e31 (List._∷_ e33 (List._∷_ e34 (List._∷_ e35 (List._∷_ e36 (List._∷_ e37
-    (List._∷_ e41 (List._∷_ e42 List.[])))))))))))))))
+t22 = List._∷_ e15 (List._∷_ e17 (List._∷_ e19 (List._∷_ e20 (List._∷_ e24 (List._∷_ e26 (List._∷_ e27 (List._∷_ e28 (List._∷_ e30 (List._∷_ e31 (List._∷_ e32 (List._∷_ e33 (List._∷_ e34 (List._∷_ e36
+    (List._∷_ e39 List.[]))))))))))))))
 
 abbrev pub t23 : List.List Row.Entry
-t23 = List._∷_ e15 (List._∷_ e17 (List._∷_ e19 (List._∷_ e21 (List._∷_ e25 (List._∷_ e27 (List._∷_ e29 (List._∷_ e30 (List._∷_ e31 (List._∷_ e33 (List._∷_ e34 (List._∷_ e35 (List._∷_ e36 (List._∷_ e37
-    (List._∷_ e41 (List._∷_ e42 List.[])))))))))))))))
+t23 = List._∷_ e0 (List._∷_ e2 (List._∷_ e22 (List._∷_ e37 (List._∷_ e42 (List._∷_ e44 (List._∷_ e47 (List._∷_ e49 (List._∷_ e51 (List._∷_ e53 (List._∷_ e4 (List._∷_ e6 (List._∷_ e8 (List._∷_ e9
+    (List._∷_ e11 (List._∷_ e13 List.[])))))))))))))))
 
 abbrev pub t24 : List.List Row.Entry
-t24 = List._∷_ e0 (List._∷_ e2 (List._∷_ e23 (List._∷_ e39 (List._∷_ e43 (List._∷_ e46 (List._∷_ e48 (List._∷_ e51 (List._∷_ e53 (List._∷_ e55 (List._∷_ e4 (List._∷_ e6 (List._∷_ e8 (List._∷_ e10
-    (List._∷_ e12 (List._∷_ e13 List.[])))))))))))))))
+t24 = List._∷_ e15 (List._∷_ e17 (List._∷_ e19 (List._∷_ e20 (List._∷_ e24 (List._∷_ e26 (List._∷_ e27 (List._∷_ e29 (List._∷_
+    (24, Relend.msptr (Element.type) (Syntax.tyRef Syntax.erased Syntax.mut Element.behind) 5) (List._∷_ e31 (List._∷_ e32 (List._∷_ e33 (List._∷_ e34 (List._∷_ e36 (List._∷_ e39 List.[]))))))))))))))
 
 abbrev pub t25 : List.List Row.Entry
-t25 = List._∷_ e15 (List._∷_ e17 (List._∷_ e19 (List._∷_ e21 (List._∷_ e25 (List._∷_ e27 (List._∷_ e29 (List._∷_ e30 (List._∷_ e32 (List._∷_
-    (25, Relend.msptr (Element.type) (Syntax.tyRef Syntax.erased Syntax.mut Element.behind) 5) (List._∷_ e34 (List._∷_ e35 (List._∷_ e36 (List._∷_ e37 (List._∷_ e41 (List._∷_ e42 List.[])))))))))))))))
+t25 = List._∷_ e15 (List._∷_ e17 (List._∷_ e19 (List._∷_ e20 (List._∷_ e24 (List._∷_ e26 (List._∷_ e27 (List._∷_ e29 (List._∷_ e30 (List._∷_
+    (25, Mut.mslice (Element.type) (Syntax.tyRef Syntax.erased Syntax.mut Element.behind) 5) (List._∷_ e32 (List._∷_ e33 (List._∷_ e34 (List._∷_ e36 (List._∷_ e39 List.[]))))))))))))))
 
 abbrev pub t26 : List.List Row.Entry
-t26 = List._∷_ e15 (List._∷_ e17 (List._∷_ e19 (List._∷_ e21 (List._∷_ e25 (List._∷_ e27 (List._∷_ e29 (List._∷_ e30 (List._∷_ e32 (List._∷_ e33 (List._∷_
-    (26, Mut.mslice (Element.type) (Syntax.tyRef Syntax.erased Syntax.mut Element.behind) 5) (List._∷_ e35 (List._∷_ e36 (List._∷_ e37 (List._∷_ e41 (List._∷_ e42 List.[])))))))))))))))
+t26 = List._∷_ e0 (List._∷_ e2 (List._∷_ e22 (List._∷_ e37 (List._∷_ e42 (List._∷_ e44 (List._∷_ e47 (List._∷_ e49 (List._∷_ e51 (List._∷_ e53 (List._∷_ e4 (List._∷_ e6 (List._∷_ e8 (List._∷_ e10
+    (List._∷_ e11 (List._∷_ e13 List.[])))))))))))))))
 
 abbrev pub t27 : List.List Row.Entry
-t27 = List._∷_ e0 (List._∷_ e2 (List._∷_ e23 (List._∷_ e39 (List._∷_ e43 (List._∷_ e46 (List._∷_ e48 (List._∷_ e51 (List._∷_ e53 (List._∷_ e55 (List._∷_ e4 (List._∷_ e6 (List._∷_ e8 (List._∷_ e10
-    (List._∷_ e12 (List._∷_ e14 List.[])))))))))))))))
+t27 = List._∷_ e15 (List._∷_ e17 (List._∷_ e19 (List._∷_ e20 (List._∷_ e24 (List._∷_ e26 (List._∷_ e27 (List._∷_ e29 (List._∷_ e30 (List._∷_
+    (25, Mut.msleft (Element.type) (Syntax.tyRef Syntax.erased Syntax.mut Element.behind)) (List._∷_ e32 (List._∷_ e33 (List._∷_ e34 (List._∷_ e36 (List._∷_ e39 List.[]))))))))))))))
 
 abbrev pub t28 : List.List Row.Entry
-t28 = List._∷_ e15 (List._∷_ e17 (List._∷_ e19 (List._∷_ e21 (List._∷_ e25 (List._∷_ e27 (List._∷_ e29 (List._∷_ e30 (List._∷_ e32 (List._∷_ e33 (List._∷_
-    (26, Mut.msleft (Element.type) (Syntax.tyRef Syntax.erased Syntax.mut Element.behind)) (List._∷_ e35 (List._∷_ e36 (List._∷_ e37 (List._∷_ e41 (List._∷_ e42 List.[])))))))))))))))
+t28 = List._∷_ e0 (List._∷_ e2 (List._∷_ e22 (List._∷_ e37 (List._∷_ e41 (List._∷_ e44 (List._∷_ e47 (List._∷_ e49 (List._∷_ e51 (List._∷_ e53 (List._∷_ e4 (List._∷_ e6 (List._∷_ e8 (List._∷_ e10
+    (List._∷_ e11 (List._∷_ e13 List.[])))))))))))))))
 
 abbrev pub t29 : List.List Row.Entry
-t29 = List._∷_ e0 (List._∷_ e2 (List._∷_ e23 (List._∷_ e39 (List._∷_ e43 (List._∷_ e45 (List._∷_ e48 (List._∷_ e51 (List._∷_ e53 (List._∷_ e55 (List._∷_ e4 (List._∷_ e6 (List._∷_ e8 (List._∷_ e10
-    (List._∷_ e12 (List._∷_ e14 List.[])))))))))))))))
+t29 = List._∷_ e0 (List._∷_ e2 (List._∷_ e22 (List._∷_ e38 (List._∷_ e41 (List._∷_ e44 (List._∷_ e47 (List._∷_ e49 (List._∷_ e51 (List._∷_ e53 (List._∷_ e4 (List._∷_ e6 (List._∷_ e8 (List._∷_ e10
+    (List._∷_ e11 (List._∷_ e13 List.[])))))))))))))))
 
 abbrev pub t30 : List.List Row.Entry
-t30 = List._∷_ e0 (List._∷_ e2 (List._∷_ e23 (List._∷_ e39 (List._∷_ e44 (List._∷_ e45 (List._∷_ e48 (List._∷_ e51 (List._∷_ e53 (List._∷_ e55 (List._∷_ e4 (List._∷_ e6 (List._∷_ e8 (List._∷_ e10
-    (List._∷_ e12 (List._∷_ e14 List.[])))))))))))))))
+t30 = List._∷_ e15 (List._∷_ e17 (List._∷_ e19 (List._∷_ e20 (List._∷_ e24 (List._∷_ e26 (List._∷_ e27 (List._∷_ e29 (List._∷_ e30 (List._∷_ e31 (List._∷_
+    (26, Relend.msptr (Referent.rtF (Referent.fInt Syntax.w16)) (Syntax.tyRef Syntax.erased Syntax.mut (Syntax.tyInt Syntax.w16)) 6) (List._∷_ e33 (List._∷_ e34 (List._∷_ e36 (List._∷_ e39
+    List.[]))))))))))))))
 
 abbrev pub t31 : List.List Row.Entry
-t31 = List._∷_ e15 (List._∷_ e17 (List._∷_ e19 (List._∷_ e21 (List._∷_ e25 (List._∷_ e27 (List._∷_ e29 (List._∷_ e30 (List._∷_ e32 (List._∷_ e33 (List._∷_ e34 (List._∷_
-    (27, Relend.msptr (Referent.rtF (Referent.fInt Syntax.w16)) (Syntax.tyRef Syntax.erased Syntax.mut (Syntax.tyInt Syntax.w16)) 6) (List._∷_ e36 (List._∷_ e37 (List._∷_ e41 (List._∷_ e42
-    List.[])))))))))))))))
+t31 = List._∷_ e15 (List._∷_ e17 (List._∷_ e19 (List._∷_ e20 (List._∷_ e24 (List._∷_ e26 (List._∷_ e27 (List._∷_ e29 (List._∷_ e30 (List._∷_ e31 (List._∷_ e32 (List._∷_
+    (27, Mut.mslice (Referent.rtF (Referent.fInt Syntax.w16)) (Syntax.tyRef Syntax.erased Syntax.mut (Syntax.tyInt Syntax.w16)) 6) (List._∷_ e34 (List._∷_ e36 (List._∷_ e39 List.[]))))))))))))))
 
 abbrev pub t32 : List.List Row.Entry
-t32 = List._∷_ e15 (List._∷_ e17 (List._∷_ e19 (List._∷_ e21 (List._∷_ e25 (List._∷_ e27 (List._∷_ e29 (List._∷_ e30 (List._∷_ e32 (List._∷_ e33 (List._∷_ e34 (List._∷_ e35 (List._∷_
-    (28, Mut.mslice (Referent.rtF (Referent.fInt Syntax.w16)) (Syntax.tyRef Syntax.erased Syntax.mut (Syntax.tyInt Syntax.w16)) 6) (List._∷_ e37 (List._∷_ e41 (List._∷_ e42 List.[])))))))))))))))
+t32 = List._∷_ e0 (List._∷_ e2 (List._∷_ e22 (List._∷_ e38 (List._∷_ e41 (List._∷_ e44 (List._∷_ e47 (List._∷_ e49 (List._∷_ e51 (List._∷_ e53 (List._∷_ e4 (List._∷_ e6 (List._∷_ e8 (List._∷_ e10
+    (List._∷_ e12 (List._∷_ e13 List.[])))))))))))))))
 
 abbrev pub t33 : List.List Row.Entry
-t33 = List._∷_ e16 (List._∷_ e17 (List._∷_ e19 (List._∷_ e21 (List._∷_ e25 (List._∷_ e27 (List._∷_ e29 (List._∷_ e30 (List._∷_ e32 (List._∷_ e33 (List._∷_ e34 (List._∷_ e35 (List._∷_
-    (28, Mut.msleft (Referent.rtF (Referent.fInt Syntax.w16)) (Syntax.tyRef Syntax.erased Syntax.mut (Syntax.tyInt Syntax.w16))) (List._∷_ e37 (List._∷_ e41 (List._∷_ e42 List.[])))))))))))))))
+t33 = List._∷_ e15 (List._∷_ e17 (List._∷_ e19 (List._∷_ e20 (List._∷_ e24 (List._∷_ e26 (List._∷_ e27 (List._∷_ e29 (List._∷_ e30 (List._∷_ e31 (List._∷_ e32 (List._∷_
+    (27, Mut.msleft (Referent.rtF (Referent.fInt Syntax.w16)) (Syntax.tyRef Syntax.erased Syntax.mut (Syntax.tyInt Syntax.w16))) (List._∷_ e34 (List._∷_ e36 (List._∷_ e39 List.[]))))))))))))))
 
 abbrev pub t34 : List.List Row.Entry
-t34 = List._∷_ e0 (List._∷_ e2 (List._∷_ e23 (List._∷_ e39 (List._∷_ e44 (List._∷_ e45 (List._∷_ e48 (List._∷_ e51 (List._∷_ e53 (List._∷_ e55 (List._∷_ e4 (List._∷_ e5 (List._∷_ e8 (List._∷_ e10
-    (List._∷_ e12 (List._∷_ e14 List.[])))))))))))))))
+t34 = List._∷_ e0 (List._∷_ e2 (List._∷_ e22 (List._∷_ e38 (List._∷_ e41 (List._∷_ e44 (List._∷_ e47 (List._∷_ e49 (List._∷_ e51 (List._∷_ e53 (List._∷_ e3 (List._∷_ e6 (List._∷_ e8 (List._∷_ e10
+    (List._∷_ e12 (List._∷_ e13 List.[])))))))))))))))
 
 abbrev pub t35 : List.List Row.Entry
-t35 = List._∷_ e0 (List._∷_ e2 (List._∷_ e23 (List._∷_ e39 (List._∷_ e44 (List._∷_ e45 (List._∷_ e48 (List._∷_ e51 (List._∷_ e53 (List._∷_ e55 (List._∷_ e4 (List._∷_ e5 (List._∷_ e8 (List._∷_ e10
+t35 = List._∷_ e0 (List._∷_ e2 (List._∷_ e22 (List._∷_ e38 (List._∷_ e41 (List._∷_ e44 (List._∷_ e47 (List._∷_ e49 (List._∷_ e51 (List._∷_ e53 (List._∷_ e3 (List._∷_ e6 (List._∷_ e8 (List._∷_ e9
     (List._∷_ e12 (List._∷_ e13 List.[])))))))))))))))
 
 abbrev pub t36 : List.List Row.Entry
-t36 = List._∷_ e0 (List._∷_ e2 (List._∷_ e23 (List._∷_ e39 (List._∷_ e43 (List._∷_ e45 (List._∷_ e48 (List._∷_ e51 (List._∷_ e53 (List._∷_ e55 (List._∷_ e4 (List._∷_ e5 (List._∷_ e8 (List._∷_ e10
+t36 = List._∷_ e0 (List._∷_ e2 (List._∷_ e22 (List._∷_ e37 (List._∷_ e41 (List._∷_ e44 (List._∷_ e47 (List._∷_ e49 (List._∷_ e51 (List._∷_ e53 (List._∷_ e3 (List._∷_ e6 (List._∷_ e8 (List._∷_ e9
     (List._∷_ e12 (List._∷_ e13 List.[])))))))))))))))
 
 abbrev pub t37 : List.List Row.Entry
-t37 = List._∷_ e16 (List._∷_ e17 (List._∷_ e19 (List._∷_ e21 (List._∷_ e25 (List._∷_ e27 (List._∷_ e29 (List._∷_ e30 (List._∷_ e32 (List._∷_ e33 (List._∷_ e34 (List._∷_ e35 (List._∷_ e36 (List._∷_ e37
-    (List._∷_ e41 (List._∷_ e42 List.[])))))))))))))))
+t37 = List._∷_ e0 (List._∷_ e2 (List._∷_ e22 (List._∷_ e37 (List._∷_ e41 (List._∷_ e44 (List._∷_ e47 (List._∷_ e49 (List._∷_ e51 (List._∷_ e53 (List._∷_ e3 (List._∷_ e6 (List._∷_ e8 (List._∷_ e9
+    (List._∷_ e12 (List._∷_ e14 List.[])))))))))))))))
 
 abbrev pub t38 : List.List Row.Entry
-t38 = List._∷_ e16 (List._∷_ e18 (List._∷_ e19 (List._∷_ e21 (List._∷_ e25 (List._∷_ e27 (List._∷_ e29 (List._∷_ e30 (List._∷_ e32 (List._∷_ e33 (List._∷_ e34 (List._∷_ e35 (List._∷_ e36 (List._∷_ e37
-    (List._∷_ e41 (List._∷_ e42 List.[])))))))))))))))
+t38 = List._∷_ e0 (List._∷_ e2 (List._∷_ e22 (List._∷_ e37 (List._∷_ e41 (List._∷_ e44 (List._∷_ e46 (List._∷_ e49 (List._∷_ e51 (List._∷_ e53 (List._∷_ e3 (List._∷_ e6 (List._∷_ e8 (List._∷_ e9
+    (List._∷_ e12 (List._∷_ e14 List.[])))))))))))))))
 
 abbrev pub t39 : List.List Row.Entry
-t39 = List._∷_ e16 (List._∷_ e18 (List._∷_ e19 (List._∷_ e22 (List._∷_ e25 (List._∷_ e27 (List._∷_ e29 (List._∷_ e30 (List._∷_ e32 (List._∷_ e33 (List._∷_ e34 (List._∷_ e35 (List._∷_ e36 (List._∷_ e37
-    (List._∷_ e41 (List._∷_ e42 List.[])))))))))))))))
+t39 = List._∷_ e0 (List._∷_ e2 (List._∷_ e22 (List._∷_ e37 (List._∷_ e41 (List._∷_ e44 (List._∷_ e46 (List._∷_ e49 (List._∷_ e51 (List._∷_ e53 (List._∷_ e3 (List._∷_ e6 (List._∷_ e7 (List._∷_ e9
+    (List._∷_ e12 (List._∷_ e14 List.[])))))))))))))))
 
 abbrev pub t40 : List.List Row.Entry
-t40 = List._∷_ e0 (List._∷_ e2 (List._∷_ e23 (List._∷_ e39 (List._∷_ e43 (List._∷_ e45 (List._∷_ e48 (List._∷_ e51 (List._∷_ e53 (List._∷_ e55 (List._∷_ e4 (List._∷_ e5 (List._∷_ e7 (List._∷_ e10
-    (List._∷_ e12 (List._∷_ e13 List.[])))))))))))))))
+t40 = List._∷_ e0 (List._∷_ e2 (List._∷_ e22 (List._∷_ e37 (List._∷_ e41 (List._∷_ e44 (List._∷_ e46 (List._∷_ e49 (List._∷_ e51 (List._∷_ e53 (List._∷_ e3 (List._∷_ e6 (List._∷_ e7 (List._∷_ e9
+    (List._∷_ e11 (List._∷_ e14 List.[])))))))))))))))
 
 abbrev pub t41 : List.List Row.Entry
-t41 = List._∷_ e0 (List._∷_ e2 (List._∷_ e23 (List._∷_ e39 (List._∷_ e43 (List._∷_ e45 (List._∷_ e48 (List._∷_ e50 (List._∷_ e53 (List._∷_ e55 (List._∷_ e4 (List._∷_ e5 (List._∷_ e8 (List._∷_ e10
-    (List._∷_ e12 (List._∷_ e13 List.[])))))))))))))))
+t41 = List._∷_ e1 (List._∷_ e2 (List._∷_ e22 (List._∷_ e37 (List._∷_ e41 (List._∷_ e44 (List._∷_ e46 (List._∷_ e49 (List._∷_ e51 (List._∷_ e53 (List._∷_ e3 (List._∷_ e6 (List._∷_ e7 (List._∷_ e9
+    (List._∷_ e11 (List._∷_ e14 List.[])))))))))))))))
 
 abbrev pub t42 : List.List Row.Entry
-t42 = List._∷_ e0 (List._∷_ e2 (List._∷_ e23 (List._∷_ e39 (List._∷_ e43 (List._∷_ e45 (List._∷_ e48 (List._∷_ e50 (List._∷_ e53 (List._∷_ e55 (List._∷_ e4 (List._∷_ e5 (List._∷_ e8 (List._∷_ e10
-    (List._∷_ e11 (List._∷_ e13 List.[])))))))))))))))
+t42 = List._∷_ e1 (List._∷_ e2 (List._∷_ e22 (List._∷_ e37 (List._∷_ e41 (List._∷_ e44 (List._∷_ e46 (List._∷_ e48 (List._∷_ e51 (List._∷_ e53 (List._∷_ e3 (List._∷_ e6 (List._∷_ e7 (List._∷_ e9
+    (List._∷_ e11 (List._∷_ e14 List.[])))))))))))))))
 
 abbrev pub t43 : List.List Row.Entry
-t43 = List._∷_ e15 (List._∷_ e18 (List._∷_ e19 (List._∷_ e22 (List._∷_ e25 (List._∷_ e27 (List._∷_ e29 (List._∷_ e30 (List._∷_ e32 (List._∷_ e33 (List._∷_ e34 (List._∷_ e35 (List._∷_ e36 (List._∷_ e37
-    (List._∷_ e41 (List._∷_ e42 List.[])))))))))))))))
+t43 = List._∷_ e1 (List._∷_ e2 (List._∷_ e22 (List._∷_ e37 (List._∷_ e41 (List._∷_ e44 (List._∷_ e46 (List._∷_ e48 (List._∷_ e50 (List._∷_ e53 (List._∷_ e3 (List._∷_ e6 (List._∷_ e7 (List._∷_ e9
+    (List._∷_ e11 (List._∷_ e14 List.[])))))))))))))))
 
 abbrev pub t44 : List.List Row.Entry
-t44 = List._∷_ e15 (List._∷_ e18 (List._∷_ e19 (List._∷_ e21 (List._∷_ e25 (List._∷_ e27 (List._∷_ e29 (List._∷_ e30 (List._∷_ e32 (List._∷_ e33 (List._∷_ e34 (List._∷_ e35 (List._∷_ e36 (List._∷_ e37
-    (List._∷_ e41 (List._∷_ e42 List.[])))))))))))))))
+t44 = List._∷_ e1 (List._∷_ e2 (List._∷_ e22 (List._∷_ e37 (List._∷_ e41 (List._∷_ e44 (List._∷_ e46 (List._∷_ e48 (List._∷_ e50 (List._∷_ e52 (List._∷_ e3 (List._∷_ e6 (List._∷_ e7 (List._∷_ e9
+    (List._∷_ e11 (List._∷_ e14 List.[])))))))))))))))
 
 abbrev pub t45 : List.List Row.Entry
-t45 = List._∷_ e1 (List._∷_ e2 (List._∷_ e23 (List._∷_ e39 (List._∷_ e43 (List._∷_ e45 (List._∷_ e48 (List._∷_ e50 (List._∷_ e53 (List._∷_ e55 (List._∷_ e4 (List._∷_ e5 (List._∷_ e8 (List._∷_ e10
-    (List._∷_ e11 (List._∷_ e13 List.[])))))))))))))))
+t45 = List._∷_ e1 (List._∷_ e2 (List._∷_ e22 (List._∷_ e37 (List._∷_ e41 (List._∷_ e44 (List._∷_ e46 (List._∷_ e48 (List._∷_ e50 (List._∷_ e52 (List._∷_ e3 (List._∷_ e5 (List._∷_ e7 (List._∷_ e9
+    (List._∷_ e11 (List._∷_ e14 List.[])))))))))))))))
 
 abbrev pub t46 : List.List Row.Entry
-t46 = List._∷_ e1 (List._∷_ e2 (List._∷_ e23 (List._∷_ e38 (List._∷_ e43 (List._∷_ e45 (List._∷_ e48 (List._∷_ e50 (List._∷_ e53 (List._∷_ e55 (List._∷_ e4 (List._∷_ e5 (List._∷_ e8 (List._∷_ e10
-    (List._∷_ e11 (List._∷_ e13 List.[])))))))))))))))
+t46 = List._∷_ e16 (List._∷_ e17 (List._∷_ e19 (List._∷_ e20 (List._∷_ e24 (List._∷_ e26 (List._∷_ e27 (List._∷_ e29 (List._∷_ e30 (List._∷_ e31 (List._∷_ e32 (List._∷_ e33 (List._∷_ e34 (List._∷_ e36
+    (List._∷_ e39 List.[]))))))))))))))
 
 abbrev pub t47 : List.List Row.Entry
-t47 = List._∷_ e1 (List._∷_ e2 (List._∷_ e23 (List._∷_ e38 (List._∷_ e43 (List._∷_ e45 (List._∷_ e48 (List._∷_ e50 (List._∷_ e52 (List._∷_ e55 (List._∷_ e4 (List._∷_ e5 (List._∷_ e8 (List._∷_ e10
-    (List._∷_ e11 (List._∷_ e13 List.[])))))))))))))))
+t47 = List._∷_ e0 (List._∷_ e2 (List._∷_ e22 (List._∷_ e37 (List._∷_ e43 (List._∷_ e44 (List._∷_ e47 (List._∷_ e49 (List._∷_ e51 (List._∷_ e53 (List._∷_ e3 (List._∷_ e6 (List._∷_ e8 (List._∷_ e9
+    (List._∷_ e12 (List._∷_ e14 List.[])))))))))))))))
 
 abbrev pub t48 : List.List Row.Entry
-t48 = List._∷_ e1 (List._∷_ e2 (List._∷_ e23 (List._∷_ e38 (List._∷_ e43 (List._∷_ e45 (List._∷_ e48 (List._∷_ e50 (List._∷_ e52 (List._∷_ e54 (List._∷_ e4 (List._∷_ e5 (List._∷_ e8 (List._∷_ e10
-    (List._∷_ e11 (List._∷_ e13 List.[])))))))))))))))
+t48 = List._∷_ e16 (List._∷_ e17 (List._∷_ e19 (List._∷_ e20 (List._∷_ e24 (List._∷_ e26 (List._∷_ e27 (List._∷_ e29 (List._∷_ e30 (List._∷_ e31 (List._∷_ e32 (List._∷_ e33 (List._∷_
+    (28, Relend.msptr (Element.type) (Syntax.tyRef Syntax.erased Syntax.mut Element.behind) 7) (List._∷_ e36 (List._∷_ e39 List.[]))))))))))))))
 
 abbrev pub t49 : List.List Row.Entry
-t49 = List._∷_ e1 (List._∷_ e2 (List._∷_ e23 (List._∷_ e38 (List._∷_ e43 (List._∷_ e45 (List._∷_ e48 (List._∷_ e50 (List._∷_ e52 (List._∷_ e54 (List._∷_ e3 (List._∷_ e5 (List._∷_ e8 (List._∷_ e10
-    (List._∷_ e11 (List._∷_ e13 List.[])))))))))))))))
+t49 = List._∷_ e16 (List._∷_ e17 (List._∷_ e19 (List._∷_ e20 (List._∷_ e24 (List._∷_ e26 (List._∷_ e27 (List._∷_ e29 (List._∷_ e30 (List._∷_ e31 (List._∷_ e32 (List._∷_ e33 (List._∷_ e34 (List._∷_
+    (29, Mut.mslice (Element.type) (Syntax.tyRef Syntax.erased Syntax.mut Element.behind) 7) (List._∷_ e39 List.[]))))))))))))))
 
 abbrev pub t50 : List.List Row.Entry
-t50 = List._∷_ e1 (List._∷_ e2 (List._∷_ e23 (List._∷_ e38 (List._∷_ e43 (List._∷_ e45 (List._∷_ e48 (List._∷_ e50 (List._∷_ e52 (List._∷_ e54 (List._∷_ e3 (List._∷_ e5 (List._∷_ e7 (List._∷_ e10
-    (List._∷_ e11 (List._∷_ e13 List.[])))))))))))))))
+t50 = List._∷_ e16 (List._∷_ e17 (List._∷_ e19 (List._∷_ e21 (List._∷_ e24 (List._∷_ e26 (List._∷_ e27 (List._∷_ e29 (List._∷_ e30 (List._∷_ e31 (List._∷_ e32 (List._∷_ e33 (List._∷_ e34 (List._∷_ e35
+    (List._∷_ e39 List.[]))))))))))))))
 
 abbrev pub t51 : List.List Row.Entry
-t51 = List._∷_ e16 (List._∷_ e18 (List._∷_ e20 (List._∷_ e21 (List._∷_ e25 (List._∷_ e27 (List._∷_ e29 (List._∷_ e30 (List._∷_ e32 (List._∷_ e33 (List._∷_ e34 (List._∷_ e35 (List._∷_ e36 (List._∷_ e37
-    (List._∷_ e41 (List._∷_ e42 List.[])))))))))))))))
+t51 = List._∷_ e0 (List._∷_ e2 (List._∷_ e22 (List._∷_ e37 (List._∷_ e43 (List._∷_ e44 (List._∷_ e47 (List._∷_ e49 (List._∷_ e51 (List._∷_ e53 (List._∷_ e3 (List._∷_ e6 (List._∷_ e7 (List._∷_ e9
+    (List._∷_ e12 (List._∷_ e14 List.[])))))))))))))))
 
 abbrev pub t52 : List.List Row.Entry
-t52 = List._∷_ e0 (List._∷_ e2 (List._∷_ e23 (List._∷_ e39 (List._∷_ e43 (List._∷_ e47 (List._∷_ e48 (List._∷_ e51 (List._∷_ e53 (List._∷_ e55 (List._∷_ e4 (List._∷_ e5 (List._∷_ e7 (List._∷_ e10
-    (List._∷_ e12 (List._∷_ e13 List.[])))))))))))))))
+t52 = List._∷_ e15 (List._∷_ e17 (List._∷_ e19 (List._∷_ e21 (List._∷_ e24 (List._∷_ e26 (List._∷_ e27 (List._∷_ e29 (List._∷_ e30 (List._∷_ e31 (List._∷_ e32 (List._∷_ e33 (List._∷_ e34 (List._∷_ e35
+    (List._∷_ e39 List.[]))))))))))))))
 
 abbrev pub t53 : List.List Row.Entry
-t53 = List._∷_ e16 (List._∷_ e18 (List._∷_ e20 (List._∷_ e21 (List._∷_ e25 (List._∷_ e27 (List._∷_ e29 (List._∷_ e30 (List._∷_ e32 (List._∷_ e33 (List._∷_ e34 (List._∷_ e35 (List._∷_ e36 (List._∷_
-    (29, Relend.msptr (Element.type) (Syntax.tyRef Syntax.erased Syntax.mut Element.behind) 7) (List._∷_ e41 (List._∷_ e42 List.[])))))))))))))))
+t53 = List._∷_ e15 (List._∷_ e17 (List._∷_ e19 (List._∷_ e20 (List._∷_ e24 (List._∷_ e26 (List._∷_ e27 (List._∷_ e29 (List._∷_ e30 (List._∷_ e31 (List._∷_ e32 (List._∷_ e33 (List._∷_ e34 (List._∷_ e35
+    (List._∷_ e39 List.[]))))))))))))))
 
 abbrev pub t54 : List.List Row.Entry
-t54 = List._∷_ e16 (List._∷_ e18 (List._∷_ e20 (List._∷_ e21 (List._∷_ e25 (List._∷_ e27 (List._∷_ e29 (List._∷_ e30 (List._∷_ e32 (List._∷_ e33 (List._∷_ e34 (List._∷_ e35 (List._∷_ e36 (List._∷_ e37
-    (List._∷_ (30, Mut.mslice (Element.type) (Syntax.tyRef Syntax.erased Syntax.mut Element.behind) 7) (List._∷_ e42 List.[])))))))))))))))
+t54 = List._∷_ e0 (List._∷_ e2 (List._∷_ e22 (List._∷_ e37 (List._∷_ e41 (List._∷_ e44 (List._∷_ e47 (List._∷_ e49 (List._∷_ e51 (List._∷_ e53 (List._∷_ e3 (List._∷_ e6 (List._∷_ e7 (List._∷_ e9
+    (List._∷_ e12 (List._∷_ e14 List.[])))))))))))))))
 
 abbrev pub t55 : List.List Row.Entry
-t55 = List._∷_ e16 (List._∷_ e18 (List._∷_ e20 (List._∷_ e21 (List._∷_ e26 (List._∷_ e27 (List._∷_ e29 (List._∷_ e30 (List._∷_ e32 (List._∷_ e33 (List._∷_ e34 (List._∷_ e35 (List._∷_ e36 (List._∷_ e37
-    (List._∷_ e40 (List._∷_ e42 List.[])))))))))))))))
+t55 = List._∷_ e0 (List._∷_ e2 (List._∷_ e22 (List._∷_ e37 (List._∷_ e41 (List._∷_ e44 (List._∷_ e47 (List._∷_ e49 (List._∷_ e51 (List._∷_ e53 (List._∷_ e4 (List._∷_ e6 (List._∷_ e7 (List._∷_ e9
+    (List._∷_ e12 (List._∷_ e14 List.[])))))))))))))))
 
 abbrev pub t56 : List.List Row.Entry
-t56 = List._∷_ e0 (List._∷_ e2 (List._∷_ e23 (List._∷_ e39 (List._∷_ e43 (List._∷_ e47 (List._∷_ e48 (List._∷_ e51 (List._∷_ e53 (List._∷_ e55 (List._∷_ e4 (List._∷_ e5 (List._∷_ e7 (List._∷_ e10
-    (List._∷_ e11 (List._∷_ e13 List.[])))))))))))))))
+t56 = List._∷_ e0 (List._∷_ e2 (List._∷_ e22 (List._∷_ e37 (List._∷_ e41 (List._∷_ e44 (List._∷_ e47 (List._∷_ e49 (List._∷_ e51 (List._∷_ e53 (List._∷_ e4 (List._∷_ e6 (List._∷_ e7 (List._∷_ e9
+    (List._∷_ e11 (List._∷_ e14 List.[])))))))))))))))
 
 abbrev pub t57 : List.List Row.Entry
-t57 = List._∷_ e16 (List._∷_ e18 (List._∷_ e19 (List._∷_ e21 (List._∷_ e26 (List._∷_ e27 (List._∷_ e29 (List._∷_ e30 (List._∷_ e32 (List._∷_ e33 (List._∷_ e34 (List._∷_ e35 (List._∷_ e36 (List._∷_ e37
-    (List._∷_ e40 (List._∷_ e42 List.[])))))))))))))))
+t57 = List._∷_ e15 (List._∷_ e18 (List._∷_ e19 (List._∷_ e20 (List._∷_ e24 (List._∷_ e26 (List._∷_ e27 (List._∷_ e29 (List._∷_ e30 (List._∷_ e31 (List._∷_ e32 (List._∷_ e33 (List._∷_ e34 (List._∷_ e36
+    (List._∷_ e39 List.[]))))))))))))))
 
 abbrev pub t58 : List.List Row.Entry
-t58 = List._∷_ e16 (List._∷_ e18 (List._∷_ e19 (List._∷_ e21 (List._∷_ e25 (List._∷_ e27 (List._∷_ e29 (List._∷_ e30 (List._∷_ e32 (List._∷_ e33 (List._∷_ e34 (List._∷_ e35 (List._∷_ e36 (List._∷_ e37
-    (List._∷_ e40 (List._∷_ e42 List.[])))))))))))))))
+t58 = List._∷_ e15 (List._∷_ e18 (List._∷_ e19 (List._∷_ e20 (List._∷_ e24 (List._∷_ e26 (List._∷_ e27 (List._∷_ e29 (List._∷_ e30 (List._∷_ e31 (List._∷_ e32 (List._∷_ e33 (List._∷_ e34 (List._∷_ e36
+    (List._∷_ e40 List.[]))))))))))))))
 
 abbrev pub t59 : List.List Row.Entry
-t59 = List._∷_ e0 (List._∷_ e2 (List._∷_ e23 (List._∷_ e39 (List._∷_ e43 (List._∷_ e45 (List._∷_ e48 (List._∷_ e51 (List._∷_ e53 (List._∷_ e55 (List._∷_ e4 (List._∷_ e5 (List._∷_ e7 (List._∷_ e10
-    (List._∷_ e11 (List._∷_ e13 List.[])))))))))))))))
+t59 = List._∷_ e15 (List._∷_ e17 (List._∷_ e19 (List._∷_ e20 (List._∷_ e24 (List._∷_ e26 (List._∷_ e27 (List._∷_ e29 (List._∷_ e30 (List._∷_ e31 (List._∷_ e32 (List._∷_ e33 (List._∷_ e34 (List._∷_ e36
+    (List._∷_ e40 List.[]))))))))))))))
 
 abbrev pub t60 : List.List Row.Entry
-t60 = List._∷_ e0 (List._∷_ e2 (List._∷_ e23 (List._∷_ e39 (List._∷_ e43 (List._∷_ e45 (List._∷_ e48 (List._∷_ e51 (List._∷_ e53 (List._∷_ e55 (List._∷_ e4 (List._∷_ e6 (List._∷_ e7 (List._∷_ e10
+t60 = List._∷_ e0 (List._∷_ e2 (List._∷_ e22 (List._∷_ e37 (List._∷_ e41 (List._∷_ e44 (List._∷_ e46 (List._∷_ e49 (List._∷_ e51 (List._∷_ e53 (List._∷_ e3 (List._∷_ e6 (List._∷_ e7 (List._∷_ e9
     (List._∷_ e11 (List._∷_ e13 List.[])))))))))))))))
 
 abbrev pub t61 : List.List Row.Entry
-t61 = List._∷_ e15 (List._∷_ e17 (List._∷_ e19 (List._∷_ e21 (List._∷_ e25 (List._∷_ e27 (List._∷_ e29 (List._∷_ e30 (List._∷_ e32 (List._∷_ e33 (List._∷_ e34 (List._∷_ e35 (List._∷_ e36 (List._∷_ e37
-    (List._∷_ e41 (List._∷_ (31, Rows.sc-here Row.sBool) List.[])))))))))))))))
+t61 = List._∷_ e1 (List._∷_ e2 (List._∷_ e22 (List._∷_ e37 (List._∷_ e41 (List._∷_ e44 (List._∷_ e46 (List._∷_ e49 (List._∷_ e51 (List._∷_ e53 (List._∷_ e3 (List._∷_ e6 (List._∷_ e7 (List._∷_ e9
+    (List._∷_ e11 (List._∷_ e13 List.[])))))))))))))))
 
 abbrev pub t62 : List.List Row.Entry
-t62 = List._∷_ e1 (List._∷_ e2 (List._∷_ e23 (List._∷_ e39 (List._∷_ e43 (List._∷_ e45 (List._∷_ e48 (List._∷_ e50 (List._∷_ e53 (List._∷_ e55 (List._∷_ e4 (List._∷_ e6 (List._∷_ e8 (List._∷_ e10
+t62 = List._∷_ e1 (List._∷_ e2 (List._∷_ e22 (List._∷_ e37 (List._∷_ e41 (List._∷_ e44 (List._∷_ e46 (List._∷_ e48 (List._∷_ e51 (List._∷_ e53 (List._∷_ e3 (List._∷_ e6 (List._∷_ e7 (List._∷_ e9
     (List._∷_ e11 (List._∷_ e13 List.[])))))))))))))))
 
 abbrev pub t63 : List.List Row.Entry
-t63 = List._∷_ e1 (List._∷_ e2 (List._∷_ e23 (List._∷_ e39 (List._∷_ e43 (List._∷_ e45 (List._∷_ e48 (List._∷_ e50 (List._∷_ e52 (List._∷_ e55 (List._∷_ e4 (List._∷_ e6 (List._∷_ e8 (List._∷_ e10
+t63 = List._∷_ e1 (List._∷_ e2 (List._∷_ e22 (List._∷_ e37 (List._∷_ e41 (List._∷_ e44 (List._∷_ e46 (List._∷_ e48 (List._∷_ e50 (List._∷_ e53 (List._∷_ e3 (List._∷_ e6 (List._∷_ e7 (List._∷_ e9
     (List._∷_ e11 (List._∷_ e13 List.[])))))))))))))))
 
 abbrev pub t64 : List.List Row.Entry
-t64 = List._∷_ e1 (List._∷_ e2 (List._∷_ e23 (List._∷_ e39 (List._∷_ e43 (List._∷_ e45 (List._∷_ e48 (List._∷_ e50 (List._∷_ e52 (List._∷_ e54 (List._∷_ e4 (List._∷_ e6 (List._∷_ e8 (List._∷_ e10
+t64 = List._∷_ e1 (List._∷_ e2 (List._∷_ e22 (List._∷_ e37 (List._∷_ e41 (List._∷_ e44 (List._∷_ e46 (List._∷_ e48 (List._∷_ e50 (List._∷_ e52 (List._∷_ e3 (List._∷_ e6 (List._∷_ e7 (List._∷_ e9
     (List._∷_ e11 (List._∷_ e13 List.[])))))))))))))))
 
 abbrev pub t65 : List.List Row.Entry
-t65 = List._∷_ e1 (List._∷_ e2 (List._∷_ e23 (List._∷_ e39 (List._∷_ e43 (List._∷_ e45 (List._∷_ e48 (List._∷_ e50 (List._∷_ e52 (List._∷_ e54 (List._∷_ e3 (List._∷_ e6 (List._∷_ e8 (List._∷_ e10
+t65 = List._∷_ e1 (List._∷_ e2 (List._∷_ e22 (List._∷_ e37 (List._∷_ e41 (List._∷_ e44 (List._∷_ e46 (List._∷_ e49 (List._∷_ e51 (List._∷_ e53 (List._∷_ e4 (List._∷_ e6 (List._∷_ e7 (List._∷_ e9
     (List._∷_ e11 (List._∷_ e13 List.[])))))))))))))))
 
 abbrev pub t66 : List.List Row.Entry
-t66 = List._∷_ e1 (List._∷_ e2 (List._∷_ e23 (List._∷_ e39 (List._∷_ e43 (List._∷_ e45 (List._∷_ e48 (List._∷_ e50 (List._∷_ e52 (List._∷_ e54 (List._∷_ e3 (List._∷_ e5 (List._∷_ e8 (List._∷_ e10
+t66 = List._∷_ e1 (List._∷_ e2 (List._∷_ e22 (List._∷_ e37 (List._∷_ e41 (List._∷_ e44 (List._∷_ e46 (List._∷_ e48 (List._∷_ e51 (List._∷_ e53 (List._∷_ e4 (List._∷_ e6 (List._∷_ e7 (List._∷_ e9
     (List._∷_ e11 (List._∷_ e13 List.[])))))))))))))))
 
 abbrev pub t67 : List.List Row.Entry
-t67 = List._∷_ e1 (List._∷_ e2 (List._∷_ e23 (List._∷_ e39 (List._∷_ e43 (List._∷_ e45 (List._∷_ e48 (List._∷_ e50 (List._∷_ e52 (List._∷_ e54 (List._∷_ e3 (List._∷_ e5 (List._∷_ e7 (List._∷_ e10
+t67 = List._∷_ e1 (List._∷_ e2 (List._∷_ e22 (List._∷_ e37 (List._∷_ e41 (List._∷_ e44 (List._∷_ e46 (List._∷_ e48 (List._∷_ e50 (List._∷_ e53 (List._∷_ e4 (List._∷_ e6 (List._∷_ e7 (List._∷_ e9
     (List._∷_ e11 (List._∷_ e13 List.[])))))))))))))))
 
 abbrev pub t68 : List.List Row.Entry
-t68 = List._∷_ e1 (List._∷_ e2 (List._∷_ e23 (List._∷_ e39 (List._∷_ e43 (List._∷_ e45 (List._∷_ e48 (List._∷_ e50 (List._∷_ e52 (List._∷_ e54 (List._∷_ e3 (List._∷_ e5 (List._∷_ e7 (List._∷_ e9
+t68 = List._∷_ e1 (List._∷_ e2 (List._∷_ e22 (List._∷_ e37 (List._∷_ e41 (List._∷_ e44 (List._∷_ e46 (List._∷_ e48 (List._∷_ e50 (List._∷_ e52 (List._∷_ e4 (List._∷_ e6 (List._∷_ e7 (List._∷_ e9
     (List._∷_ e11 (List._∷_ e13 List.[])))))))))))))))
 
 abbrev pub T0 : Row.Cx
@@ -1148,592 +1141,547 @@ abbrev pub T11 : Row.Cx
 T11 = record { locals = List._++_ t10 t1; slots = List.[] }
 
 abbrev pub T12 : Row.Cx
-T12 = record { locals = List._++_ t11 t1; slots = List.[] }
+T12 = record { locals = List._++_ t9 t11; slots = List.[] }
 
 abbrev pub T13 : Row.Cx
-T13 = record { locals = List._++_ t10 t12; slots = List.[] }
+T13 = record { locals = List._++_ t9 t1; slots = List.[] }
 
 abbrev pub T14 : Row.Cx
-T14 = record { locals = List._++_ t10 t1; slots = List.[] }
+T14 = record { locals = List._++_ t9 t1; slots = List.[] }
 
 abbrev pub T15 : Row.Cx
-T15 = record { locals = List._++_ t10 t1; slots = List.[] }
+T15 = record { locals = List._++_ t10 t11; slots = List.[] }
 
 abbrev pub T16 : Row.Cx
-T16 = record { locals = List._++_ t11 t12; slots = List.[] }
+T16 = record { locals = List._++_ t10 t1; slots = List.[] }
 
 abbrev pub T17 : Row.Cx
-T17 = record { locals = List._++_ t11 t1; slots = List.[] }
+T17 = record { locals = List._++_ t12 t1; slots = List.[] }
 
-abbrev pub T18 : Row.Cx
-T18 = record { locals = List._++_ t13 t1; slots = List.[] }
+abbrev pub T19 : Row.Cx
+T19 = record { locals = List._++_ t13 t14; slots = List.[] }
 
 abbrev pub T20 : Row.Cx
-T20 = record { locals = List._++_ t14 t15; slots = List.[] }
+T20 = record { locals = List._++_ t13 t15; slots = List.[] }
 
 abbrev pub T21 : Row.Cx
-T21 = record { locals = List._++_ t14 t16; slots = List.[] }
+T21 = record { locals = List._++_ t13 t16; slots = List.[] }
 
 abbrev pub T22 : Row.Cx
-T22 = record { locals = List._++_ t14 t17; slots = List.[] }
+T22 = record { locals = List._++_ t13 t17; slots = List.[] }
 
-abbrev pub T23 : Row.Cx
-T23 = record { locals = List._++_ t14 t18; slots = List.[] }
+abbrev pub T24 : Row.Cx
+T24 = record { locals = List._++_ t12 t1; slots = List.[] }
 
 abbrev pub T25 : Row.Cx
-T25 = record { locals = List._++_ t13 t1; slots = List.[] }
+T25 = record { locals = List._++_ t12 t1; slots = List.[] }
 
-abbrev pub T26 : Row.Cx
-T26 = record { locals = List._++_ t13 t1; slots = List.[] }
+abbrev pub T28 : Row.Cx
+T28 = record { locals = List._++_ t18 t19; slots = List.[] }
 
 abbrev pub T29 : Row.Cx
-T29 = record { locals = List._++_ t19 t20; slots = List.[] }
+T29 = record { locals = List._++_ t18 t20; slots = List.[] }
 
 abbrev pub T30 : Row.Cx
-T30 = record { locals = List._++_ t19 t21; slots = List.[] }
+T30 = record { locals = List._++_ t18 t21; slots = List.[] }
 
 abbrev pub T31 : Row.Cx
-T31 = record { locals = List._++_ t19 t22; slots = List.[] }
+T31 = record { locals = List._++_ t18 t22; slots = List.[] }
 
-abbrev pub T32 : Row.Cx
-T32 = record { locals = List._++_ t19 t23; slots = List.[] }
+abbrev pub T33 : Row.Cx
+T33 = record { locals = List._++_ t12 t1; slots = List.[] }
 
 abbrev pub T34 : Row.Cx
-T34 = record { locals = List._++_ t13 t1; slots = List.[] }
+T34 = record { locals = List._++_ t12 t1; slots = List.[] }
 
-abbrev pub T35 : Row.Cx
-T35 = record { locals = List._++_ t13 t1; slots = List.[] }
+abbrev pub T37 : Row.Cx
+T37 = record { locals = List._++_ t23 t24; slots = List.[] }
 
 abbrev pub T38 : Row.Cx
-T38 = record { locals = List._++_ t24 t25; slots = List.[] }
+T38 = record { locals = List._++_ t23 t25; slots = List.[] }
 
 abbrev pub T39 : Row.Cx
-T39 = record { locals = List._++_ t24 t26; slots = List.[] }
+T39 = record { locals = List._++_ t26 t27; slots = List.[] }
 
-abbrev pub T40 : Row.Cx
-T40 = record { locals = List._++_ t27 t28; slots = List.[] }
+abbrev pub T41 : Row.Cx
+T41 = record { locals = List._++_ t28 t1; slots = List.[] }
 
-abbrev pub T42 : Row.Cx
-T42 = record { locals = List._++_ t29 t1; slots = List.[] }
+abbrev pub T44 : Row.Cx
+T44 = record { locals = List._++_ t29 t30; slots = List.[] }
 
 abbrev pub T45 : Row.Cx
-T45 = record { locals = List._++_ t30 t31; slots = List.[] }
+T45 = record { locals = List._++_ t29 t31; slots = List.[] }
 
 abbrev pub T46 : Row.Cx
-T46 = record { locals = List._++_ t30 t32; slots = List.[] }
+T46 = record { locals = List._++_ t32 t33; slots = List.[] }
 
 abbrev pub T47 : Row.Cx
-T47 = record { locals = List._++_ t30 t33; slots = List.[] }
+T47 = record { locals = List._++_ t34 t33; slots = List.[] }
 
 abbrev pub T48 : Row.Cx
-T48 = record { locals = List._++_ t34 t33; slots = List.[] }
+T48 = record { locals = List._++_ t35 t33; slots = List.[] }
 
-abbrev pub T49 : Row.Cx
-T49 = record { locals = List._++_ t35 t33; slots = List.[] }
+abbrev pub T50 : Row.Cx
+T50 = record { locals = List._++_ t36 t1; slots = List.[] }
 
 abbrev pub T51 : Row.Cx
-T51 = record { locals = List._++_ t36 t37; slots = List.[] }
+T51 = record { locals = List._++_ t36 t1; slots = List.[] }
 
-abbrev pub T52 : Row.Cx
-T52 = record { locals = List._++_ t36 t37; slots = List.[] }
+abbrev pub T53 : Row.Cx
+T53 = record { locals = List._++_ t37 t1; slots = List.[] }
 
 abbrev pub T54 : Row.Cx
-T54 = record { locals = List._++_ t36 t38; slots = List.[] }
+T54 = record { locals = List._++_ t37 t11; slots = List.[] }
 
 abbrev pub T55 : Row.Cx
-T55 = record { locals = List._++_ t36 t39; slots = List.[] }
+T55 = record { locals = List._++_ t37 t1; slots = List.[] }
 
 abbrev pub T56 : Row.Cx
-T56 = record { locals = List._++_ t40 t38; slots = List.[] }
+T56 = record { locals = List._++_ t38 t11; slots = List.[] }
 
 abbrev pub T57 : Row.Cx
-T57 = record { locals = List._++_ t41 t39; slots = List.[] }
+T57 = record { locals = List._++_ t39 t11; slots = List.[] }
 
 abbrev pub T58 : Row.Cx
-T58 = record { locals = List._++_ t42 t39; slots = List.[] }
+T58 = record { locals = List._++_ t40 t11; slots = List.[] }
 
 abbrev pub T59 : Row.Cx
-T59 = record { locals = List._++_ t42 t43; slots = List.[] }
+T59 = record { locals = List._++_ t40 t1; slots = List.[] }
 
 abbrev pub T60 : Row.Cx
-T60 = record { locals = List._++_ t42 t44; slots = List.[] }
+T60 = record { locals = List._++_ t41 t1; slots = List.[] }
 
 abbrev pub T61 : Row.Cx
-T61 = record { locals = List._++_ t45 t44; slots = List.[] }
+T61 = record { locals = List._++_ t42 t1; slots = List.[] }
 
 abbrev pub T62 : Row.Cx
-T62 = record { locals = List._++_ t46 t44; slots = List.[] }
+T62 = record { locals = List._++_ t43 t1; slots = List.[] }
 
 abbrev pub T63 : Row.Cx
-T63 = record { locals = List._++_ t47 t44; slots = List.[] }
+T63 = record { locals = List._++_ t44 t1; slots = List.[] }
 
 abbrev pub T64 : Row.Cx
-T64 = record { locals = List._++_ t48 t44; slots = List.[] }
+T64 = record { locals = List._++_ t45 t1; slots = List.[] }
 
 abbrev pub T65 : Row.Cx
-T65 = record { locals = List._++_ t49 t44; slots = List.[] }
+T65 = record { locals = List._++_ t2 t1; slots = List.[] }
 
 abbrev pub T66 : Row.Cx
-T66 = record { locals = List._++_ t50 t44; slots = List.[] }
+T66 = record { locals = List._++_ t37 t1; slots = List.[] }
 
 abbrev pub T67 : Row.Cx
-T67 = record { locals = List._++_ t2 t44; slots = List.[] }
-
-abbrev pub T68 : Row.Cx
-T68 = record { locals = List._++_ t2 t1; slots = List.[] }
+T67 = record { locals = List._++_ t37 t46; slots = List.[] }
 
 abbrev pub T69 : Row.Cx
-T69 = record { locals = List._++_ t40 t39; slots = List.[] }
+T69 = record { locals = List._++_ t47 t48; slots = List.[] }
 
 abbrev pub T70 : Row.Cx
-T70 = record { locals = List._++_ t40 t38; slots = List.[] }
+T70 = record { locals = List._++_ t47 t49; slots = List.[] }
 
 abbrev pub T71 : Row.Cx
-T71 = record { locals = List._++_ t40 t51; slots = List.[] }
+T71 = record { locals = List._++_ t47 t50; slots = List.[] }
+
+abbrev pub T72 : Row.Cx
+T72 = record { locals = List._++_ t51 t50; slots = List.[] }
 
 abbrev pub T73 : Row.Cx
-T73 = record { locals = List._++_ t52 t53; slots = List.[] }
+T73 = record { locals = List._++_ t51 t52; slots = List.[] }
 
 abbrev pub T74 : Row.Cx
-T74 = record { locals = List._++_ t52 t54; slots = List.[] }
-
-abbrev pub T75 : Row.Cx
-T75 = record { locals = List._++_ t52 t55; slots = List.[] }
+T74 = record { locals = List._++_ t51 t53; slots = List.[] }
 
 abbrev pub T76 : Row.Cx
-T76 = record { locals = List._++_ t56 t55; slots = List.[] }
-
-abbrev pub T77 : Row.Cx
-T77 = record { locals = List._++_ t56 t57; slots = List.[] }
+T76 = record { locals = List._++_ t54 t1; slots = List.[] }
 
 abbrev pub T78 : Row.Cx
-T78 = record { locals = List._++_ t56 t58; slots = List.[] }
+T78 = record { locals = List._++_ t55 t1; slots = List.[] }
+
+abbrev pub T79 : Row.Cx
+T79 = record { locals = List._++_ t56 t1; slots = List.[] }
 
 abbrev pub T80 : Row.Cx
-T80 = record { locals = List._++_ t59 t38; slots = List.[] }
+T80 = record { locals = List._++_ t56 t1; slots = List.[] }
+
+abbrev pub T81 : Row.Cx
+T81 = record { locals = List._++_ t9 t1; slots = List.[] }
 
 abbrev pub T82 : Row.Cx
-T82 = record { locals = List._++_ t60 t38; slots = List.[] }
+T82 = record { locals = List._++_ t10 t57; slots = List.[] }
 
 abbrev pub T83 : Row.Cx
-T83 = record { locals = List._++_ t10 t38; slots = List.[] }
+T83 = record { locals = List._++_ t10 t58; slots = List.[] }
 
 abbrev pub T84 : Row.Cx
-T84 = record { locals = List._++_ t10 t44; slots = List.[] }
+T84 = record { locals = List._++_ t10 t1; slots = List.[] }
 
 abbrev pub T85 : Row.Cx
-T85 = record { locals = List._++_ t10 t44; slots = List.[] }
+T85 = record { locals = List._++_ t10 t59; slots = List.[] }
 
 abbrev pub T86 : Row.Cx
-T86 = record { locals = List._++_ t10 t1; slots = List.[] }
+T86 = record { locals = List._++_ t60 t59; slots = List.[] }
 
 abbrev pub T87 : Row.Cx
-T87 = record { locals = List._++_ t11 t61; slots = List.[] }
+T87 = record { locals = List._++_ t60 t1; slots = List.[] }
 
 abbrev pub T88 : Row.Cx
-T88 = record { locals = List._++_ t11 t1; slots = List.[] }
+T88 = record { locals = List._++_ t61 t1; slots = List.[] }
 
 abbrev pub T89 : Row.Cx
-T89 = record { locals = List._++_ t42 t61; slots = List.[] }
+T89 = record { locals = List._++_ t62 t1; slots = List.[] }
 
 abbrev pub T90 : Row.Cx
-T90 = record { locals = List._++_ t42 t1; slots = List.[] }
+T90 = record { locals = List._++_ t63 t1; slots = List.[] }
 
 abbrev pub T91 : Row.Cx
-T91 = record { locals = List._++_ t45 t1; slots = List.[] }
+T91 = record { locals = List._++_ t64 t1; slots = List.[] }
 
 abbrev pub T92 : Row.Cx
-T92 = record { locals = List._++_ t46 t1; slots = List.[] }
+T92 = record { locals = List._++_ t2 t1; slots = List.[] }
 
 abbrev pub T93 : Row.Cx
-T93 = record { locals = List._++_ t47 t1; slots = List.[] }
+T93 = record { locals = List._++_ t10 t1; slots = List.[] }
 
 abbrev pub T94 : Row.Cx
-T94 = record { locals = List._++_ t48 t1; slots = List.[] }
+T94 = record { locals = List._++_ t65 t1; slots = List.[] }
 
 abbrev pub T95 : Row.Cx
-T95 = record { locals = List._++_ t49 t1; slots = List.[] }
+T95 = record { locals = List._++_ t66 t1; slots = List.[] }
 
 abbrev pub T96 : Row.Cx
-T96 = record { locals = List._++_ t50 t1; slots = List.[] }
+T96 = record { locals = List._++_ t67 t1; slots = List.[] }
 
 abbrev pub T97 : Row.Cx
-T97 = record { locals = List._++_ t2 t1; slots = List.[] }
+T97 = record { locals = List._++_ t68 t1; slots = List.[] }
 
 abbrev pub T98 : Row.Cx
-T98 = record { locals = List._++_ t11 t1; slots = List.[] }
+T98 = record { locals = List._++_ t64 t1; slots = List.[] }
 
 abbrev pub T99 : Row.Cx
-T99 = record { locals = List._++_ t62 t1; slots = List.[] }
-
-abbrev pub T100 : Row.Cx
-T100 = record { locals = List._++_ t63 t1; slots = List.[] }
-
-abbrev pub T101 : Row.Cx
-T101 = record { locals = List._++_ t64 t1; slots = List.[] }
-
-abbrev pub T102 : Row.Cx
-T102 = record { locals = List._++_ t65 t1; slots = List.[] }
-
-abbrev pub T103 : Row.Cx
-T103 = record { locals = List._++_ t66 t1; slots = List.[] }
-
-abbrev pub T104 : Row.Cx
-T104 = record { locals = List._++_ t67 t1; slots = List.[] }
-
-abbrev pub T105 : Row.Cx
-T105 = record { locals = List._++_ t68 t1; slots = List.[] }
-
-abbrev pub T106 : Row.Cx
-T106 = record { locals = List._++_ t2 t1; slots = List.[] }
+T99 = record { locals = List._++_ t2 t1; slots = List.[] }
 
 abbrev pub O0 : Typed.Outs
 O0 = record { next = Option.none; exits = List.[]; returns = Option.some T1 }
 
 abbrev pub O1 : Typed.Outs
-O1 = Typed.withNext (Option.some T12) O0
+O1 = Typed.withNext (Option.some T11) O0
 
 abbrev pub O2 : Typed.Outs
 O2 = Typed.inBlock₀ O1
 
 abbrev pub O3 : Typed.Outs
-O3 = Typed.inLoop₀ T11 O2
+O3 = Typed.inLoop₀ T10 O2
 
 abbrev pub O4 : Typed.Outs
-O4 = Typed.withNext (Option.some T14) O3
+O4 = Typed.withNext (Option.some T13) O3
 
 abbrev pub O5 : Typed.Outs
-O5 = Typed.withNext (Option.some T56) O3
+O5 = Typed.withNext (Option.some T55) O3
 
 abbrev pub O6 : Typed.Outs
-O6 = Typed.withNext (Option.some T88) O0
+O6 = Typed.withNext (Option.some T84) O0
 
 abbrev pub InvT-loop : Type 1
-InvT-loop = List.List (Referent.rtF (Referent.fInt Syntax.w8) .Denot) → Rows.sc-here Row.sBool .Mod → List.List (Referent.rtF (Referent.fInt Syntax.w16) .Denot) → List.List (Element.type .Denot) →
-    Rows.whole (Declared'.row Quantisers.the-type) .Mod → Rows.sc-here (Row.sInt Syntax.w32) .Mod → Rows.sc-here Row.sBool .Mod → Rows.sc-here (Row.sInt Syntax.w64) .Mod → Rows.whole (Declared'.row
-    BitPosition.the-type) .Mod → Rows.sc-here Row.sBool .Mod → Rows.sc-here (Row.sInt Syntax.w64) .Mod → List.List (Referent.rtF (Referent.fInt Syntax.w16) .Denot) → List.List (Element.type .Denot) →
-    Rows.whole (Declared'.row BitPosition.the-type) .Mod → Rows.sc-here Row.sBool .Mod → Rows.sc-here (Row.sInt Syntax.w64) .Mod → Type 0
+InvT-loop = List.List (Referent.rtF (Referent.fInt Syntax.w8) .Denot) → List.List (Referent.rtF (Referent.fInt Syntax.w16) .Denot) → List.List (Element.type .Denot) → Rows.whole (Declared'.row
+    Quantisers.the-type) .Mod → Rows.sc-here (Row.sInt Syntax.w32) .Mod → Rows.sc-here Row.sBool .Mod → Rows.sc-here (Row.sInt Syntax.w64) .Mod → Rows.whole (Declared'.row Place.the-type) .Mod →
+    Rows.sc-here (Row.sInt Syntax.w64) .Mod → List.List (Referent.rtF (Referent.fInt Syntax.w16) .Denot) → List.List (Element.type .Denot) → Rows.whole (Declared'.row Place.the-type) .Mod → Rows.sc-here
+    (Row.sInt Syntax.w64) .Mod → Type 0
 
 abbrev pub MeasureT-loop : Type 0
-MeasureT-loop = List.List (Referent.rtF (Referent.fInt Syntax.w8) .Denot) → Rows.sc-here Row.sBool .Mod → List.List (Referent.rtF (Referent.fInt Syntax.w16) .Denot) → List.List (Element.type .Denot) →
-    Rows.whole (Declared'.row Quantisers.the-type) .Mod → Rows.sc-here (Row.sInt Syntax.w32) .Mod → Rows.sc-here Row.sBool .Mod → Rows.sc-here (Row.sInt Syntax.w64) .Mod → Rows.whole (Declared'.row
-    BitPosition.the-type) .Mod → Rows.sc-here Row.sBool .Mod → Rows.sc-here (Row.sInt Syntax.w64) .Mod → List.List (Referent.rtF (Referent.fInt Syntax.w16) .Denot) → List.List (Element.type .Denot) →
-    Rows.whole (Declared'.row BitPosition.the-type) .Mod → Rows.sc-here Row.sBool .Mod → Rows.sc-here (Row.sInt Syntax.w64) .Mod → Nat.ℕ
+MeasureT-loop = List.List (Referent.rtF (Referent.fInt Syntax.w8) .Denot) → List.List (Referent.rtF (Referent.fInt Syntax.w16) .Denot) → List.List (Element.type .Denot) → Rows.whole (Declared'.row
+    Quantisers.the-type) .Mod → Rows.sc-here (Row.sInt Syntax.w32) .Mod → Rows.sc-here Row.sBool .Mod → Rows.sc-here (Row.sInt Syntax.w64) .Mod → Rows.whole (Declared'.row Place.the-type) .Mod →
+    Rows.sc-here (Row.sInt Syntax.w64) .Mod → List.List (Referent.rtF (Referent.fInt Syntax.w16) .Denot) → List.List (Element.type .Denot) → Rows.whole (Declared'.row Place.the-type) .Mod → Rows.sc-here
+    (Row.sInt Syntax.w64) .Mod → Nat.ℕ
 
 module _ (claims· : Claims) where
   abbrev s0 : (bs : List.List Nat.ℕ) → Typed.Gives T0 T2
   s0 = λ bs. Know.k-shs-known (Referent.fInt Syntax.w8) T0 1 0 (Syntax.tyRef (Syntax.named 0) Syntax.imm (Syntax.tyInt Syntax.w8)) Row.off 0 λ x. x
 
   abbrev s1 : (bs : List.List Nat.ℕ) → Typed.Gives T2 T3
-  s1 = λ bs. Know.k-sl-known (Referent.fInt Syntax.w16) T2 4 1 (Syntax.tyRef (Syntax.named 1) Syntax.mut (Syntax.tyInt Syntax.w16)) Row.off 0 λ x. x
+  s1 = λ bs. Know.k-sl-known (Referent.fInt Syntax.w16) T2 3 1 (Syntax.tyRef (Syntax.named 1) Syntax.mut (Syntax.tyInt Syntax.w16)) Row.off 0 λ x. x
 
   abbrev s2 : (bs : List.List Nat.ℕ) → Typed.Mo T3 → Typed.Mo T4
-  s2 = λ bs. Scalar.n-use T3 (Scalar.oFld 6 (List._∷_ (Syntax.field 0) List.[]) (Syntax.tyInt Syntax.w32) 0 (Reads.fieldV Form.the-type Laws'.the-laws 0)) 8 (Rows.sc-here (Row.sInt Syntax.w32))
+  s2 = λ bs. Scalar.n-use T3 (Scalar.oFld 5 (List._∷_ (Syntax.field 0) List.[]) (Syntax.tyInt Syntax.w32) 0 (Reads.fieldV Form.the-type Laws'.the-laws 0)) 7 (Rows.sc-here (Row.sInt Syntax.w32))
       (Row.sInt Syntax.w32 .of)
 
   abbrev s3 : (bs : List.List Nat.ℕ) → Typed.Mo T4 → Typed.Mo T5
-  s3 = λ bs. Scalar.n-use T4 (Scalar.oFld 6 (List._∷_ (Syntax.field 1) List.[]) Syntax.tyBool 4 (Reads.fieldV Form.the-type Laws'.the-laws 1)) 9 (Rows.sc-here Row.sBool) (Row.sBool .of)
+  s3 = λ bs. Scalar.n-use T4 (Scalar.oFld 5 (List._∷_ (Syntax.field 1) List.[]) Syntax.tyBool 4 (Reads.fieldV Form.the-type Laws'.the-laws 1)) 8 (Rows.sc-here Row.sBool) (Row.sBool .of)
 
   abbrev s4 : (bs : List.List Nat.ℕ) → Typed.Mo T5 → Typed.Mo T6
-  s4 = λ bs. Scalar.n-room T5 6 y6
+  s4 = λ bs. Scalar.n-room T5 5 y6
 
   abbrev s5 : (bs : List.List Nat.ℕ) → Typed.Both T6 T7
-  s5 = λ bs. Call.callB ps·0 r·0 (claims· .0) (claims· .1) T6 (Bool.bAt 9 λ x. x, tt) 10 List.[] (Syntax.tyInt Syntax.w64)
+  s5 = λ bs. Call.callB ps·0 r·0 (claims· .0) (claims· .1) T6 (Bool.bAt 8 λ x. x, tt) 9 List.[] (Syntax.tyInt Syntax.w64)
 
   abbrev s6 : (bs : List.List Nat.ℕ) → Typed.Mo T7 → Typed.Mo T8
-  s6 = λ bs. LocalCopy.n-val-copy T7 2 11 (Declared'.row BitPosition.the-type) (Rows.whole (Declared'.row BitPosition.the-type)) (Rows.whole (Declared'.row BitPosition.the-type)) (λ x. x) (λ x. x) λ
-      x. x
+  s6 = λ bs. LocalCopy.n-val-copy T7 2 10 (Declared'.row Place.the-type) (Rows.whole (Declared'.row Place.the-type)) (Rows.whole (Declared'.row Place.the-type)) (λ x. x) (λ x. x) λ x. x
 
   abbrev s7 : (bs : List.List Nat.ℕ) → Typed.Mo T8 → Typed.Mo T9
-  s7 = λ bs. Scalar.n-room T8 2 y5
+  s7 = λ bs. Scalar.n-room T8 2 y7
 
   abbrev s8 : (bs : List.List Nat.ℕ) → Typed.Mo T9 → Typed.Mo T10
-  s8 = λ bs. Scalar.n-use T9 (Scalar.oAt 3 Syntax.tyBool (Row.valS Row.sBool)) 12 (Rows.sc-here Row.sBool) (Row.sBool .of)
+  s8 = λ bs. Scalar.n-use T9 (Scalar.oInt Syntax.w64 0) 11 (Rows.sc-here (Row.sInt Syntax.w64)) (Row.sInt Syntax.w64 .of)
 
-  abbrev s9 : (bs : List.List Nat.ℕ) → Typed.Mo T10 → Typed.Mo T11
-  s9 = λ bs. Scalar.n-use T10 (Scalar.oInt Syntax.w64 0) 13 (Rows.sc-here (Row.sInt Syntax.w64)) (Row.sInt Syntax.w64 .of)
-
-  abbrev s10 : (bs : List.List Nat.ℕ) → Typed.Asks T11 T13
-  s10 = λ bs. Scalar.k-op2 T11 (Syntax.lt Syntax.unsigned) (Scalar.oAt 13 (Syntax.tyInt Syntax.w64) (Row.valS (Row.sInt Syntax.w64))) (Scalar.oInt Syntax.w64 6) 19 (Rows.sc-here Row.sBool) (Row.sBool
+  abbrev s9 : (bs : List.List Nat.ℕ) → Typed.Asks T10 T12
+  s9 = λ bs. Scalar.k-op2 T10 (Syntax.lt Syntax.unsigned) (Scalar.oAt 11 (Syntax.tyInt Syntax.w64) (Row.valS (Row.sInt Syntax.w64))) (Scalar.oInt Syntax.w64 6) 18 (Rows.sc-here Row.sBool) (Row.sBool
       .of)
 
-  abbrev s11 : (bs : List.List Nat.ℕ) → Typed.Mo T13 → Typed.Mo T15
-  s11 = λ bs. Scalar.n-room T13 19 Syntax.tyBool
+  abbrev s10 : (bs : List.List Nat.ℕ) → Typed.Mo T12 → Typed.Mo T14
+  s10 = λ bs. Scalar.n-room T12 18 Syntax.tyBool
 
-  abbrev s12 : (bs : List.List Nat.ℕ) → Typed.Mo T13 → Typed.Mo T16
-  s12 = λ bs. Scalar.n-room T13 7 y1
+  abbrev s11 : (bs : List.List Nat.ℕ) → Typed.Mo T12 → Typed.Mo T15
+  s11 = λ bs. Scalar.n-room T12 6 y1
 
-  abbrev s13 : (bs : List.List Nat.ℕ) → Typed.Mo T16 → Typed.Mo T17
-  s13 = λ bs. Scalar.n-room T16 19 Syntax.tyBool
+  abbrev s12 : (bs : List.List Nat.ℕ) → Typed.Mo T15 → Typed.Mo T16
+  s12 = λ bs. Scalar.n-room T15 18 Syntax.tyBool
 
-  abbrev s14 : (bs : List.List Nat.ℕ) → Typed.Both T14 T18
-  s14 = λ bs. Call.callB ps·1 r·1 (claims· .2) (claims· .3) T14 (Num.vAt 13 λ x. x, (Bool.bAt 9 λ x. x, tt)) 14 List.[] y0
+  abbrev s13 : (bs : List.List Nat.ℕ) → Typed.Both T13 T17
+  s13 = λ bs. Call.callB ps·1 r·1 (claims· .2) (claims· .3) T13 (Num.vAt 11 λ x. x, (Bool.bAt 8 λ x. x, tt)) 12 List.[] y0
 
-  abbrev s16 : (bs : List.List Nat.ℕ) → Typed.Gives T18 T20
-  s16 = λ bs. Relend.k-sl-relend (Referent.rtF (Referent.fInt Syntax.w16)) T18 4 21 1 3 (Syntax.tyRef (Syntax.named 1) Syntax.mut (Syntax.tyInt Syntax.w16)) (Syntax.tyRef Syntax.erased Syntax.mut
+  abbrev s15 : (bs : List.List Nat.ℕ) → Typed.Gives T17 T19
+  s15 = λ bs. Relend.k-sl-relend (Referent.rtF (Referent.fInt Syntax.w16)) T17 3 20 1 3 (Syntax.tyRef (Syntax.named 1) Syntax.mut (Syntax.tyInt Syntax.w16)) (Syntax.tyRef Syntax.erased Syntax.mut
       (Syntax.tyInt Syntax.w16)) Row.off λ x. x
 
-  abbrev s17 : (bs : List.List Nat.ℕ) → Typed.Asks T20 T21
-  s17 = λ bs. Relend.k-sl-aggregate (Referent.rtF (Referent.fInt Syntax.w16)) (Relend.asMut (Referent.rtF (Referent.fInt Syntax.w16))) T20 21 22 3 (Syntax.tyRef Syntax.erased Syntax.mut (Syntax.tyInt
-      Syntax.w16)) (Syntax.tyRef Syntax.erased Syntax.mut (Syntax.tyInt Syntax.w16)) (λ x. x) (Scalar.oFld 4 (List._∷_ (Syntax.field 1) List.[]) (Syntax.tyInt Syntax.w64) 8 λ v. Shared.lenV (v .0))
+  abbrev s16 : (bs : List.List Nat.ℕ) → Typed.Asks T19 T20
+  s16 = λ bs. Relend.k-sl-aggregate (Referent.rtF (Referent.fInt Syntax.w16)) (Relend.asMut (Referent.rtF (Referent.fInt Syntax.w16))) T19 20 21 3 (Syntax.tyRef Syntax.erased Syntax.mut (Syntax.tyInt
+      Syntax.w16)) (Syntax.tyRef Syntax.erased Syntax.mut (Syntax.tyInt Syntax.w16)) (λ x. x) (Scalar.oFld 3 (List._∷_ (Syntax.field 1) List.[]) (Syntax.tyInt Syntax.w64) 8 λ v. Shared.lenV (v .0))
 
-  abbrev s18 : (bs : List.List Nat.ℕ) → Typed.Both T21 T22
-  s18 = λ bs. Call.callB ps·2 r·2 (claims· .4) (claims· .5) T21 (
-    record { pos = 22; ty = Syntax.tyRef Syntax.erased Syntax.mut (Syntax.tyInt Syntax.w16); ref = λ x. x },
-    (Num.vAt 10 λ x. x, (Num.vFld 14 (List._∷_ (Syntax.field 0) List.[]) 0 λ x. Plan.struct .as-values x .0, tt)),
-  ) 20 (List._∷_ 3 List.[]) Syntax.tyUnit
+  abbrev s17 : (bs : List.List Nat.ℕ) → Typed.Both T20 T21
+  s17 = λ bs. Call.callB ps·2 r·2 (claims· .4) (claims· .5) T20 (
+    record { pos = 21; ty = Syntax.tyRef Syntax.erased Syntax.mut (Syntax.tyInt Syntax.w16); ref = λ x. x },
+    (Num.vAt 9 λ x. x, (Num.vFld 12 (List._∷_ (Syntax.field 0) List.[]) 0 λ x. Plan.struct .as-values x .0, tt)),
+  ) 19 (List._∷_ 3 List.[]) Syntax.tyUnit
 
-  abbrev s19 : (bs : List.List Nat.ℕ) → Typed.Mo T22 → Typed.Mo T23
-  s19 = λ bs. Scalar.n-room T22 20 Syntax.tyUnit
+  abbrev s18 : (bs : List.List Nat.ℕ) → Typed.Mo T21 → Typed.Mo T22
+  s18 = λ bs. Scalar.n-room T21 19 Syntax.tyUnit
 
-  abbrev s21 : (bs : List.List Nat.ℕ) → Typed.Both T23 T25
-  s21 = λ bs. Relend.k-back-sl (Referent.rtF (Referent.fInt Syntax.w16)) T23 22 4 1 3 (Syntax.tyRef (Syntax.named 1) Syntax.mut (Syntax.tyInt Syntax.w16)) (Syntax.tyRef Syntax.erased Syntax.mut
+  abbrev s20 : (bs : List.List Nat.ℕ) → Typed.Both T22 T24
+  s20 = λ bs. Relend.k-back-sl (Referent.rtF (Referent.fInt Syntax.w16)) T22 21 3 1 3 (Syntax.tyRef (Syntax.named 1) Syntax.mut (Syntax.tyInt Syntax.w16)) (Syntax.tyRef Syntax.erased Syntax.mut
       (Syntax.tyInt Syntax.w16)) Row.off (λ x. x) λ x. x
 
-  abbrev s22 : (bs : List.List Nat.ℕ) → Typed.Gives T25 T26
-  s22 = λ bs. Know.k-sl-known (Referent.fInt Syntax.w16) T25 4 1 (Syntax.tyRef (Syntax.named 1) Syntax.mut (Syntax.tyInt Syntax.w16)) Row.off 0 λ x. x
+  abbrev s21 : (bs : List.List Nat.ℕ) → Typed.Gives T24 T25
+  s21 = λ bs. Know.k-sl-known (Referent.fInt Syntax.w16) T24 3 1 (Syntax.tyRef (Syntax.named 1) Syntax.mut (Syntax.tyInt Syntax.w16)) Row.off 0 λ x. x
 
-  abbrev s25 : (bs : List.List Nat.ℕ) → Typed.Gives T26 T29
-  s25 = λ bs. Relend.k-sl-relend (Referent.rtF (Referent.fInt Syntax.w16)) T26 4 23 1 4 (Syntax.tyRef (Syntax.named 1) Syntax.mut (Syntax.tyInt Syntax.w16)) (Syntax.tyRef Syntax.erased Syntax.mut
+  abbrev s24 : (bs : List.List Nat.ℕ) → Typed.Gives T25 T28
+  s24 = λ bs. Relend.k-sl-relend (Referent.rtF (Referent.fInt Syntax.w16)) T25 3 22 1 4 (Syntax.tyRef (Syntax.named 1) Syntax.mut (Syntax.tyInt Syntax.w16)) (Syntax.tyRef Syntax.erased Syntax.mut
       (Syntax.tyInt Syntax.w16)) Row.off λ x. x
 
-  abbrev s26 : (bs : List.List Nat.ℕ) → Typed.Asks T29 T30
-  s26 = λ bs. Relend.k-sl-aggregate (Referent.rtF (Referent.fInt Syntax.w16)) (Relend.asMut (Referent.rtF (Referent.fInt Syntax.w16))) T29 23 24 4 (Syntax.tyRef Syntax.erased Syntax.mut (Syntax.tyInt
-      Syntax.w16)) (Syntax.tyRef Syntax.erased Syntax.mut (Syntax.tyInt Syntax.w16)) (λ x. x) (Scalar.oFld 4 (List._∷_ (Syntax.field 1) List.[]) (Syntax.tyInt Syntax.w64) 8 λ v. Shared.lenV (v .0))
+  abbrev s25 : (bs : List.List Nat.ℕ) → Typed.Asks T28 T29
+  s25 = λ bs. Relend.k-sl-aggregate (Referent.rtF (Referent.fInt Syntax.w16)) (Relend.asMut (Referent.rtF (Referent.fInt Syntax.w16))) T28 22 23 4 (Syntax.tyRef Syntax.erased Syntax.mut (Syntax.tyInt
+      Syntax.w16)) (Syntax.tyRef Syntax.erased Syntax.mut (Syntax.tyInt Syntax.w16)) (λ x. x) (Scalar.oFld 3 (List._∷_ (Syntax.field 1) List.[]) (Syntax.tyInt Syntax.w64) 8 λ v. Shared.lenV (v .0))
 
-  abbrev s27 : (bs : List.List Nat.ℕ) → Typed.Both T30 T31
-  s27 = λ bs. Call.callB ps·2 r·2 (claims· .4) (claims· .5) T30 (
-    record { pos = 24; ty = Syntax.tyRef Syntax.erased Syntax.mut (Syntax.tyInt Syntax.w16); ref = λ x. x },
-    (Num.vAt 10 λ x. x, (Num.vFld 14 (List._∷_ (Syntax.field 1) List.[]) 8 λ x. Plan.struct .as-values x .1 .0, tt)),
-  ) 20 (List._∷_ 4 List.[]) Syntax.tyUnit
+  abbrev s26 : (bs : List.List Nat.ℕ) → Typed.Both T29 T30
+  s26 = λ bs. Call.callB ps·2 r·2 (claims· .4) (claims· .5) T29 (
+    record { pos = 23; ty = Syntax.tyRef Syntax.erased Syntax.mut (Syntax.tyInt Syntax.w16); ref = λ x. x },
+    (Num.vAt 9 λ x. x, (Num.vFld 12 (List._∷_ (Syntax.field 1) List.[]) 8 λ x. Plan.struct .as-values x .1 .0, tt)),
+  ) 19 (List._∷_ 4 List.[]) Syntax.tyUnit
 
-  abbrev s28 : (bs : List.List Nat.ℕ) → Typed.Mo T31 → Typed.Mo T32
-  s28 = λ bs. Scalar.n-room T31 20 Syntax.tyUnit
+  abbrev s27 : (bs : List.List Nat.ℕ) → Typed.Mo T30 → Typed.Mo T31
+  s27 = λ bs. Scalar.n-room T30 19 Syntax.tyUnit
 
-  abbrev s30 : (bs : List.List Nat.ℕ) → Typed.Both T32 T34
-  s30 = λ bs. Relend.k-back-sl (Referent.rtF (Referent.fInt Syntax.w16)) T32 24 4 1 4 (Syntax.tyRef (Syntax.named 1) Syntax.mut (Syntax.tyInt Syntax.w16)) (Syntax.tyRef Syntax.erased Syntax.mut
+  abbrev s29 : (bs : List.List Nat.ℕ) → Typed.Both T31 T33
+  s29 = λ bs. Relend.k-back-sl (Referent.rtF (Referent.fInt Syntax.w16)) T31 23 3 1 4 (Syntax.tyRef (Syntax.named 1) Syntax.mut (Syntax.tyInt Syntax.w16)) (Syntax.tyRef Syntax.erased Syntax.mut
       (Syntax.tyInt Syntax.w16)) Row.off (λ x. x) λ x. x
 
-  abbrev s31 : (bs : List.List Nat.ℕ) → Typed.Gives T34 T35
-  s31 = λ bs. Know.k-sl-known (Referent.fInt Syntax.w16) T34 4 1 (Syntax.tyRef (Syntax.named 1) Syntax.mut (Syntax.tyInt Syntax.w16)) Row.off 0 λ x. x
+  abbrev s30 : (bs : List.List Nat.ℕ) → Typed.Gives T33 T34
+  s30 = λ bs. Know.k-sl-known (Referent.fInt Syntax.w16) T33 3 1 (Syntax.tyRef (Syntax.named 1) Syntax.mut (Syntax.tyInt Syntax.w16)) Row.off 0 λ x. x
 
-  abbrev s34 : (bs : List.List Nat.ℕ) → Typed.Gives T35 T38
-  s34 = λ bs. Relend.k-sl-relend (Element.type) T35 5 25 2 5 (Syntax.tyRef (Syntax.named 2) Syntax.mut Element.behind) (Syntax.tyRef Syntax.erased Syntax.mut Element.behind) Row.off λ x. x
+  abbrev s33 : (bs : List.List Nat.ℕ) → Typed.Gives T34 T37
+  s33 = λ bs. Relend.k-sl-relend (Element.type) T34 4 24 2 5 (Syntax.tyRef (Syntax.named 2) Syntax.mut Element.behind) (Syntax.tyRef Syntax.erased Syntax.mut Element.behind) Row.off λ x. x
 
-  abbrev s35 : (bs : List.List Nat.ℕ) → Typed.Asks T38 T39
-  s35 = λ bs. Relend.k-sl-aggregate (Element.type) (Relend.asMut (Element.type)) T38 25 26 5 (Syntax.tyRef Syntax.erased Syntax.mut Element.behind) (Syntax.tyRef Syntax.erased Syntax.mut
-      Element.behind) (λ x. x) (Scalar.oFld 5 (List._∷_ (Syntax.field 1) List.[]) (Syntax.tyInt Syntax.w64) 8 λ v. Shared.lenV (v .0))
+  abbrev s34 : (bs : List.List Nat.ℕ) → Typed.Asks T37 T38
+  s34 = λ bs. Relend.k-sl-aggregate (Element.type) (Relend.asMut (Element.type)) T37 24 25 5 (Syntax.tyRef Syntax.erased Syntax.mut Element.behind) (Syntax.tyRef Syntax.erased Syntax.mut
+      Element.behind) (λ x. x) (Scalar.oFld 4 (List._∷_ (Syntax.field 1) List.[]) (Syntax.tyInt Syntax.w64) 8 λ v. Shared.lenV (v .0))
 
-  abbrev s36 : (bs : List.List Nat.ℕ) → Typed.Both T39 T40
-  s36 = λ bs. Call.callB ps·3 r·3 (claims· .6) (claims· .7) T39
-      (record { pos = 26; ty = Syntax.tyRef Syntax.erased Syntax.mut Element.behind; ref = λ x. x }, (Num.vFld 14 (List._∷_ (Syntax.field 2) List.[]) 16 λ x. Plan.struct .as-values x .1 .1 .0, tt)) 15
+  abbrev s35 : (bs : List.List Nat.ℕ) → Typed.Both T38 T39
+  s35 = λ bs. Call.callB ps·3 r·3 (claims· .6) (claims· .7) T38
+      (record { pos = 25; ty = Syntax.tyRef Syntax.erased Syntax.mut Element.behind; ref = λ x. x }, (Num.vFld 12 (List._∷_ (Syntax.field 2) List.[]) 16 λ x. Plan.struct .as-values x .1 .1 .0, tt)) 13
       (List._∷_ 5 List.[]) y2
 
-  abbrev s38 : (bs : List.List Nat.ℕ) → Typed.Both T40 T42
-  s38 = λ bs. Relend.k-back-sl (Element.type) T40 26 5 2 5 (Syntax.tyRef (Syntax.named 2) Syntax.mut Element.behind) (Syntax.tyRef Syntax.erased Syntax.mut Element.behind) Row.off (λ x. x) λ x. x
+  abbrev s37 : (bs : List.List Nat.ℕ) → Typed.Both T39 T41
+  s37 = λ bs. Relend.k-back-sl (Element.type) T39 25 4 2 5 (Syntax.tyRef (Syntax.named 2) Syntax.mut Element.behind) (Syntax.tyRef Syntax.erased Syntax.mut Element.behind) Row.off (λ x. x) λ x. x
 
-  abbrev s41 : (bs : List.List Nat.ℕ) → Typed.Gives T42 T45
-  s41 = λ bs. Relend.k-sl-relend (Referent.rtF (Referent.fInt Syntax.w16)) T42 4 27 1 6 (Syntax.tyRef (Syntax.named 1) Syntax.mut (Syntax.tyInt Syntax.w16)) (Syntax.tyRef Syntax.erased Syntax.mut
+  abbrev s40 : (bs : List.List Nat.ℕ) → Typed.Gives T41 T44
+  s40 = λ bs. Relend.k-sl-relend (Referent.rtF (Referent.fInt Syntax.w16)) T41 3 26 1 6 (Syntax.tyRef (Syntax.named 1) Syntax.mut (Syntax.tyInt Syntax.w16)) (Syntax.tyRef Syntax.erased Syntax.mut
       (Syntax.tyInt Syntax.w16)) Row.off λ x. x
 
-  abbrev s42 : (bs : List.List Nat.ℕ) → Typed.Asks T45 T46
-  s42 = λ bs. Relend.k-sl-aggregate (Referent.rtF (Referent.fInt Syntax.w16)) (Relend.asMut (Referent.rtF (Referent.fInt Syntax.w16))) T45 27 28 6 (Syntax.tyRef Syntax.erased Syntax.mut (Syntax.tyInt
-      Syntax.w16)) (Syntax.tyRef Syntax.erased Syntax.mut (Syntax.tyInt Syntax.w16)) (λ x. x) (Scalar.oFld 4 (List._∷_ (Syntax.field 1) List.[]) (Syntax.tyInt Syntax.w64) 8 λ v. Shared.lenV (v .0))
+  abbrev s41 : (bs : List.List Nat.ℕ) → Typed.Asks T44 T45
+  s41 = λ bs. Relend.k-sl-aggregate (Referent.rtF (Referent.fInt Syntax.w16)) (Relend.asMut (Referent.rtF (Referent.fInt Syntax.w16))) T44 26 27 6 (Syntax.tyRef Syntax.erased Syntax.mut (Syntax.tyInt
+      Syntax.w16)) (Syntax.tyRef Syntax.erased Syntax.mut (Syntax.tyInt Syntax.w16)) (λ x. x) (Scalar.oFld 3 (List._∷_ (Syntax.field 1) List.[]) (Syntax.tyInt Syntax.w64) 8 λ v. Shared.lenV (v .0))
 
-  abbrev s43 : (bs : List.List Nat.ℕ) → Typed.Both T46 T47
-  s43 = λ bs. Call.callB ps·4 r·4 (claims· .8) (claims· .9) T46 (
+  abbrev s42 : (bs : List.List Nat.ℕ) → Typed.Both T45 T46
+  s42 = λ bs. Call.callB ps·4 r·4 (claims· .8) (claims· .9) T45 (
     record { pos = 1; ty = Syntax.tyRef (Syntax.named 0) Syntax.imm (Syntax.tyInt Syntax.w8); ref = λ x. x },
     (
-      record { pos = 11; st = List.[]; d = 0; at = λ x. x },
+      record { pos = 10; st = List.[]; d = 0; at = λ x. x },
       (
-        Bool.bAt 12 λ x. x,
+        record { pos = 27; ty = Syntax.tyRef Syntax.erased Syntax.mut (Syntax.tyInt Syntax.w16); ref = λ x. x },
         (
-          record { pos = 28; ty = Syntax.tyRef Syntax.erased Syntax.mut (Syntax.tyInt Syntax.w16); ref = λ x. x },
-          (
-            record { pos = 15; st = List.[]; d = 0; at = λ x. x },
-            (Num.vAt 10 λ x. x, (record { pos = 14; st = List.[]; d = 0; at = λ x. x }, (record { pos = 7; st = List.[]; d = 0; at = λ x. x }, (Num.vAt 8 λ x. x, tt)))),
-          ),
+          record { pos = 13; st = List.[]; d = 0; at = λ x. x },
+          (Num.vAt 9 λ x. x, (record { pos = 12; st = List.[]; d = 0; at = λ x. x }, (record { pos = 6; st = List.[]; d = 0; at = λ x. x }, (Num.vAt 7 λ x. x, tt)))),
         ),
       ),
     ),
-  ) 16 (List._∷_ 0 (List._∷_ 6 List.[]))
-      y7
+  ) 14 (List._∷_ 0 (List._∷_ 6 List.[]))
+      y8
+
+  abbrev s43 : (bs : List.List Nat.ℕ) → Typed.Mo T46 → Typed.Mo T47
+  s43 = λ bs. Scalar.n-room T46 10 y7
 
   abbrev s44 : (bs : List.List Nat.ℕ) → Typed.Mo T47 → Typed.Mo T48
-  s44 = λ bs. Scalar.n-room T47 11 y5
+  s44 = λ bs. Scalar.n-room T47 13 y2
 
-  abbrev s45 : (bs : List.List Nat.ℕ) → Typed.Mo T48 → Typed.Mo T49
-  s45 = λ bs. Scalar.n-room T48 15 y2
-
-  abbrev s47 : (bs : List.List Nat.ℕ) → Typed.Both T49 T51
-  s47 = λ bs. Relend.k-back-sl (Referent.rtF (Referent.fInt Syntax.w16)) T49 28 4 1 6 (Syntax.tyRef (Syntax.named 1) Syntax.mut (Syntax.tyInt Syntax.w16)) (Syntax.tyRef Syntax.erased Syntax.mut
+  abbrev s46 : (bs : List.List Nat.ℕ) → Typed.Both T48 T50
+  s46 = λ bs. Relend.k-back-sl (Referent.rtF (Referent.fInt Syntax.w16)) T48 27 3 1 6 (Syntax.tyRef (Syntax.named 1) Syntax.mut (Syntax.tyInt Syntax.w16)) (Syntax.tyRef Syntax.erased Syntax.mut
       (Syntax.tyInt Syntax.w16)) Row.off (λ x. x) λ x. x
 
-  abbrev s48 : (bs : List.List Nat.ℕ) → Typed.Gives T51 T52
-  s48 = λ bs. Know.k-sl-known (Referent.fInt Syntax.w16) T51 4 1 (Syntax.tyRef (Syntax.named 1) Syntax.mut (Syntax.tyInt Syntax.w16)) Row.off 0 λ x. x
+  abbrev s47 : (bs : List.List Nat.ℕ) → Typed.Gives T50 T51
+  s47 = λ bs. Know.k-sl-known (Referent.fInt Syntax.w16) T50 3 1 (Syntax.tyRef (Syntax.named 1) Syntax.mut (Syntax.tyInt Syntax.w16)) Row.off 0 λ x. x
 
-  abbrev s50 : (bs : List.List Nat.ℕ) → Typed.Mo T52 → Typed.Mo T54
-  s50 = λ bs. Scalar.n-use T52 (Scalar.oFld 16 (List._∷_ (Syntax.field 0) List.[]) Syntax.tyBool 0 (Reads.fieldV Passed.the-type Laws'3.the-laws 0)) 17 (Rows.sc-here Row.sBool) (Row.sBool .of)
+  abbrev s49 : (bs : List.List Nat.ℕ) → Typed.Mo T51 → Typed.Mo T53
+  s49 = λ bs. Scalar.n-use T51 (Scalar.oFld 14 (List._∷_ (Syntax.field 0) List.[]) Syntax.tyBool 0 (Reads.fieldV Passed.the-type Laws'4.the-laws 0)) 15 (Rows.sc-here Row.sBool) (Row.sBool .of)
 
-  abbrev s51 : (bs : List.List Nat.ℕ) → Typed.Asks T54 T55
-  s51 = λ bs. Scalar.k-op1 T54 Syntax.bitNot (Scalar.oAt 17 Syntax.tyBool (Row.valS Row.sBool)) 19 (Rows.sc-here Row.sBool) (Row.sBool .of)
+  abbrev s50 : (bs : List.List Nat.ℕ) → Typed.Asks T53 T54
+  s50 = λ bs. Scalar.k-op1 T53 Syntax.bitNot (Scalar.oAt 15 Syntax.tyBool (Row.valS Row.sBool)) 18 (Rows.sc-here Row.sBool) (Row.sBool .of)
 
-  abbrev s52 : (bs : List.List Nat.ℕ) → Typed.Mo T55 → Typed.Mo T57
-  s52 = λ bs. Scalar.n-room T55 7 y1
+  abbrev s51 : (bs : List.List Nat.ℕ) → Typed.Mo T54 → Typed.Mo T56
+  s51 = λ bs. Scalar.n-room T54 6 y1
+
+  abbrev s52 : (bs : List.List Nat.ℕ) → Typed.Mo T56 → Typed.Mo T57
+  s52 = λ bs. Scalar.n-room T56 12 y0
 
   abbrev s53 : (bs : List.List Nat.ℕ) → Typed.Mo T57 → Typed.Mo T58
-  s53 = λ bs. Scalar.n-room T57 14 y0
+  s53 = λ bs. Scalar.n-room T57 14 y8
 
   abbrev s54 : (bs : List.List Nat.ℕ) → Typed.Mo T58 → Typed.Mo T59
-  s54 = λ bs. Scalar.n-room T58 16 y7
+  s54 = λ bs. Scalar.n-room T58 18 Syntax.tyBool
 
   abbrev s55 : (bs : List.List Nat.ℕ) → Typed.Mo T59 → Typed.Mo T60
-  s55 = λ bs. Scalar.n-room T59 19 Syntax.tyBool
+  s55 = λ bs. Make.n-enum-make Lined.the-type T59 0 λ m. Lined.enum .make (Logic.inr (Logic.inl tt))
 
   abbrev s56 : (bs : List.List Nat.ℕ) → Typed.Mo T60 → Typed.Mo T61
-  s56 = λ bs. Make.n-enum-make Lined.the-type T60 0 λ m. Lined.enum .make (Logic.inr (Logic.inl tt))
+  s56 = λ bs. Scalar.n-room T60 7 (Syntax.tyInt Syntax.w32)
 
   abbrev s57 : (bs : List.List Nat.ℕ) → Typed.Mo T61 → Typed.Mo T62
-  s57 = λ bs. Scalar.n-room T61 3 Syntax.tyBool
+  s57 = λ bs. Scalar.n-room T61 8 Syntax.tyBool
 
   abbrev s58 : (bs : List.List Nat.ℕ) → Typed.Mo T62 → Typed.Mo T63
-  s58 = λ bs. Scalar.n-room T62 8 (Syntax.tyInt Syntax.w32)
+  s58 = λ bs. Scalar.n-room T62 9 (Syntax.tyInt Syntax.w64)
 
   abbrev s59 : (bs : List.List Nat.ℕ) → Typed.Mo T63 → Typed.Mo T64
-  s59 = λ bs. Scalar.n-room T63 9 Syntax.tyBool
+  s59 = λ bs. Scalar.n-room T63 11 (Syntax.tyInt Syntax.w64)
 
   abbrev s60 : (bs : List.List Nat.ℕ) → Typed.Mo T64 → Typed.Mo T65
-  s60 = λ bs. Scalar.n-room T64 10 (Syntax.tyInt Syntax.w64)
+  s60 = λ bs. Scalar.n-room T64 15 Syntax.tyBool
 
-  abbrev s61 : (bs : List.List Nat.ℕ) → Typed.Mo T65 → Typed.Mo T66
-  s61 = λ bs. Scalar.n-room T65 12 Syntax.tyBool
+  abbrev s61 : (bs : List.List Nat.ℕ) → Typed.Mo T54 → Typed.Mo T66
+  s61 = λ bs. Scalar.n-room T54 18 Syntax.tyBool
 
-  abbrev s62 : (bs : List.List Nat.ℕ) → Typed.Mo T66 → Typed.Mo T67
-  s62 = λ bs. Scalar.n-room T66 13 (Syntax.tyInt Syntax.w64)
+  abbrev s62 : (bs : List.List Nat.ℕ) → Typed.Both T55 T67
+  s62 = λ bs. WayStmt.k-way-copy-out T55 (Row.out 14 (T55 .locals)) (λ u. Row.drop 14 (T55 .locals) u) 16 (Rows.whole (Declared'.row Set.the-type)) (λ u. At.getAt (Passed.the-type .parts) 2
+      (Passed.struct .as-values (u .1 .1 .1 .1 .1 .1 .1 .1 .1 .1 .1 .1 .1 .1 .0))) (λ T′. record { locals = Row.setRow 14 (14, Rows.whole (Declared'.row Passed.the-type)) T′; slots = List.[] }) (λ u T′
+      m′. Row.set 14 (14, Rows.whole (Declared'.row Passed.the-type)) (u .1 .1 .1 .1 .1 .1 .1 .1 .1 .1 .1 .1 .1 .1 .0) T′ m′) (λ u. Unit) λ u. Unit
 
-  abbrev s63 : (bs : List.List Nat.ℕ) → Typed.Mo T67 → Typed.Mo T68
-  s63 = λ bs. Scalar.n-room T67 17 Syntax.tyBool
+  abbrev s64 : (bs : List.List Nat.ℕ) → Typed.Gives T67 T69
+  s64 = λ bs. Relend.k-sl-relend (Element.type) T67 4 28 2 7 (Syntax.tyRef (Syntax.named 2) Syntax.mut Element.behind) (Syntax.tyRef Syntax.erased Syntax.mut Element.behind) Row.off λ x. x
 
-  abbrev s64 : (bs : List.List Nat.ℕ) → Typed.Mo T55 → Typed.Mo T69
-  s64 = λ bs. Scalar.n-room T55 12 Syntax.tyBool
+  abbrev s65 : (bs : List.List Nat.ℕ) → Typed.Asks T69 T70
+  s65 = λ bs. Relend.k-sl-aggregate (Element.type) (Relend.asMut (Element.type)) T69 28 29 7 (Syntax.tyRef Syntax.erased Syntax.mut Element.behind) (Syntax.tyRef Syntax.erased Syntax.mut
+      Element.behind) (λ x. x) (Scalar.oFld 4 (List._∷_ (Syntax.field 1) List.[]) (Syntax.tyInt Syntax.w64) 8 λ v. Shared.lenV (v .0))
 
-  abbrev s65 : (bs : List.List Nat.ℕ) → Typed.Mo T69 → Typed.Mo T70
-  s65 = λ bs. Scalar.n-room T69 19 Syntax.tyBool
+  abbrev s66 : (bs : List.List Nat.ℕ) → Typed.Both T70 T71
+  s66 = λ bs. Call.callB ps·5 r·5 (claims· .10) (claims· .11) T70 (
+    record { pos = 29; ty = Syntax.tyRef Syntax.erased Syntax.mut Element.behind; ref = λ x. x },
+    (Num.vFld 12 (List._∷_ (Syntax.field 2) List.[]) 16 λ x. Plan.struct .as-values x .1 .1 .0, (record { pos = 16; st = List.[]; d = 0; at = λ x. x }, tt)),
+  ) 19 (List._∷_ 7 List.[]) Syntax.tyUnit
 
-  abbrev s66 : (bs : List.List Nat.ℕ) → Typed.Both T56 T71
-  s66 = λ bs. WayStmt.k-way-copy-out T56 (Row.out 16 (T56 .locals)) (λ u. Row.drop 16 (T56 .locals) u) 18 (Rows.whole (Declared'.row Set.the-type)) (λ u. At.getAt (Passed.the-type .parts) 3
-      (Passed.struct .as-values (u .1 .1 .1 .1 .1 .1 .1 .1 .1 .1 .1 .1 .1 .1 .1 .1 .0))) (λ T′. record { locals = Row.setRow 16 (16, Rows.whole (Declared'.row Passed.the-type)) T′; slots = List.[] }) (λ
-      u T′ m′. Row.set 16 (16, Rows.whole (Declared'.row Passed.the-type)) (u .1 .1 .1 .1 .1 .1 .1 .1 .1 .1 .1 .1 .1 .1 .1 .1 .0) T′ m′) (λ u. Unit) λ u. Unit
+  abbrev s67 : (bs : List.List Nat.ℕ) → Typed.Mo T71 → Typed.Mo T72
+  s67 = λ bs. Scalar.n-room T71 12 y0
 
-  abbrev s68 : (bs : List.List Nat.ℕ) → Typed.Gives T71 T73
-  s68 = λ bs. Relend.k-sl-relend (Element.type) T71 5 29 2 7 (Syntax.tyRef (Syntax.named 2) Syntax.mut Element.behind) (Syntax.tyRef Syntax.erased Syntax.mut Element.behind) Row.off λ x. x
+  abbrev s68 : (bs : List.List Nat.ℕ) → Typed.Mo T72 → Typed.Mo T73
+  s68 = λ bs. Scalar.n-room T72 16 y2
 
-  abbrev s69 : (bs : List.List Nat.ℕ) → Typed.Asks T73 T74
-  s69 = λ bs. Relend.k-sl-aggregate (Element.type) (Relend.asMut (Element.type)) T73 29 30 7 (Syntax.tyRef Syntax.erased Syntax.mut Element.behind) (Syntax.tyRef Syntax.erased Syntax.mut
-      Element.behind) (λ x. x) (Scalar.oFld 5 (List._∷_ (Syntax.field 1) List.[]) (Syntax.tyInt Syntax.w64) 8 λ v. Shared.lenV (v .0))
+  abbrev s69 : (bs : List.List Nat.ℕ) → Typed.Mo T73 → Typed.Mo T74
+  s69 = λ bs. Scalar.n-room T73 19 Syntax.tyUnit
 
-  abbrev s70 : (bs : List.List Nat.ℕ) → Typed.Both T74 T75
-  s70 = λ bs. Call.callB ps·5 r·5 (claims· .10) (claims· .11) T74 (
-    record { pos = 30; ty = Syntax.tyRef Syntax.erased Syntax.mut Element.behind; ref = λ x. x },
-    (Num.vFld 14 (List._∷_ (Syntax.field 2) List.[]) 16 λ x. Plan.struct .as-values x .1 .1 .0, (record { pos = 18; st = List.[]; d = 0; at = λ x. x }, tt)),
-  ) 20 (List._∷_ 7 List.[]) Syntax.tyUnit
+  abbrev s71 : (bs : List.List Nat.ℕ) → Typed.Both T74 T76
+  s71 = λ bs. Relend.k-back-sl (Element.type) T74 29 4 2 7 (Syntax.tyRef (Syntax.named 2) Syntax.mut Element.behind) (Syntax.tyRef Syntax.erased Syntax.mut Element.behind) Row.off (λ x. x) λ x. x
 
-  abbrev s71 : (bs : List.List Nat.ℕ) → Typed.Mo T75 → Typed.Mo T76
-  s71 = λ bs. Scalar.n-room T75 14 y0
+  abbrev s73 : (bs : List.List Nat.ℕ) → Typed.Both T76 T78
+  s73 = λ bs. WayStmt.k-way-copy-out T76 (Row.out 14 (T76 .locals)) (λ u. Row.drop 14 (T76 .locals) u) 10 (Rows.whole (Declared'.row Place.the-type)) (λ u. At.getAt (Passed.the-type .parts) 1
+      (Passed.struct .as-values (u .1 .1 .1 .1 .1 .1 .1 .1 .1 .1 .1 .1 .1 .1 .0))) (λ T′. record { locals = Row.setRow 14 (14, Rows.whole (Declared'.row Passed.the-type)) T′; slots = List.[] }) (λ u T′
+      m′. Row.set 14 (14, Rows.whole (Declared'.row Passed.the-type)) (u .1 .1 .1 .1 .1 .1 .1 .1 .1 .1 .1 .1 .1 .1 .0) T′ m′) (λ u. Unit) λ u. Unit
 
-  abbrev s72 : (bs : List.List Nat.ℕ) → Typed.Mo T76 → Typed.Mo T77
-  s72 = λ bs. Scalar.n-room T76 18 y2
+  abbrev s74 : (bs : List.List Nat.ℕ) → Typed.Mo T78 → Typed.Mo T79
+  s74 = λ bs. Scalar.n-room T78 14 y8
 
-  abbrev s73 : (bs : List.List Nat.ℕ) → Typed.Mo T77 → Typed.Mo T78
-  s73 = λ bs. Scalar.n-room T77 20 Syntax.tyUnit
-
-  abbrev s75 : (bs : List.List Nat.ℕ) → Typed.Both T78 T80
-  s75 = λ bs. Relend.k-back-sl (Element.type) T78 30 5 2 7 (Syntax.tyRef (Syntax.named 2) Syntax.mut Element.behind) (Syntax.tyRef Syntax.erased Syntax.mut Element.behind) Row.off (λ x. x) λ x. x
-
-  abbrev s77 : (bs : List.List Nat.ℕ) → Typed.Both T80 T82
-  s77 = λ bs. WayStmt.k-way-copy-out T80 (Row.out 16 (T80 .locals)) (λ u. Row.drop 16 (T80 .locals) u) 11 (Rows.whole (Declared'.row BitPosition.the-type)) (λ u. At.getAt (Passed.the-type .parts) 2
-      (Passed.struct .as-values (u .1 .1 .1 .1 .1 .1 .1 .1 .1 .1 .1 .1 .1 .1 .1 .1 .0))) (λ T′. record { locals = Row.setRow 16 (16, Rows.whole (Declared'.row Passed.the-type)) T′; slots = List.[] }) (λ
-      u T′ m′. Row.set 16 (16, Rows.whole (Declared'.row Passed.the-type)) (u .1 .1 .1 .1 .1 .1 .1 .1 .1 .1 .1 .1 .1 .1 .1 .1 .0) T′ m′) (λ u. Unit) λ u. Unit
-
-  abbrev s78 : (bs : List.List Nat.ℕ) → Typed.Mo T82 → Typed.Mo T83
-  s78 = λ bs. Scalar.n-use T82 (Scalar.oFld 16 (List._∷_ (Syntax.field 1) List.[]) Syntax.tyBool 1 (Reads.fieldV Passed.the-type Laws'3.the-laws 1)) 12 (Rows.sc-here Row.sBool) (Row.sBool .of)
-
-  abbrev s79 : (bs : List.List Nat.ℕ) → Typed.Mo T83 → Typed.Mo T84
-  s79 = λ bs. Scalar.n-room T83 16 y7
-
-  abbrev s80 : (bs : List.List Nat.ℕ) → Typed.Asks T84 T85
-  s80 = λ bs. Scalar.k-op2 T84 (Syntax.add Syntax.unsigned) (Scalar.oAt 13 (Syntax.tyInt Syntax.w64) (Row.valS (Row.sInt Syntax.w64))) (Scalar.oInt Syntax.w64 1) 13 (Rows.sc-here (Row.sInt
+  abbrev s75 : (bs : List.List Nat.ℕ) → Typed.Asks T79 T80
+  s75 = λ bs. Scalar.k-op2 T79 (Syntax.add Syntax.unsigned) (Scalar.oAt 11 (Syntax.tyInt Syntax.w64) (Row.valS (Row.sInt Syntax.w64))) (Scalar.oInt Syntax.w64 1) 11 (Rows.sc-here (Row.sInt
       Syntax.w64)) (Row.sInt Syntax.w64 .of)
 
-  abbrev s81 : (bs : List.List Nat.ℕ) → Typed.Mo T85 → Typed.Mo T86
-  s81 = λ bs. Scalar.n-room T85 17 Syntax.tyBool
+  abbrev s76 : (bs : List.List Nat.ℕ) → Typed.Mo T80 → Typed.Mo T81
+  s76 = λ bs. Scalar.n-room T80 15 Syntax.tyBool
 
-  abbrev s82 : (bs : List.List Nat.ℕ) → Typed.Both T12 T87
-  s82 = λ bs. Call.callB ps·6 r·6 (claims· .12) (claims· .13) T12
-      (record { pos = 1; ty = Syntax.tyRef (Syntax.named 0) Syntax.imm (Syntax.tyInt Syntax.w8); ref = λ x. x }, (record { pos = 11; st = List.[]; d = 0; at = λ x. x }, tt)) 31 (List._∷_ 0 List.[])
+  abbrev s77 : (bs : List.List Nat.ℕ) → Typed.Both T11 T82
+  s77 = λ bs. WayStmt.k-way-copy-out T11 (Row.out 10 (T11 .locals)) (λ u. Row.drop 10 (T11 .locals) u) 17 (Rows.whole (Declared'.row BitPosition.the-type)) (λ u. At.getAt (Place.the-type .parts) 0
+      (Place.struct .as-values (u .1 .1 .1 .1 .1 .1 .1 .1 .1 .1 .0))) (λ T′. record { locals = Row.setRow 10 (10, Rows.whole (Declared'.row Place.the-type)) T′; slots = List.[] }) (λ u T′ m′. Row.set 10
+      (10, Rows.whole (Declared'.row Place.the-type)) (u .1 .1 .1 .1 .1 .1 .1 .1 .1 .1 .0) T′ m′) (λ u. Unit) λ u. Unit
+
+  abbrev s78 : (bs : List.List Nat.ℕ) → Typed.Both T82 T83
+  s78 = λ bs. Call.callB ps·6 r·6 (claims· .12) (claims· .13) T82
+      (record { pos = 1; ty = Syntax.tyRef (Syntax.named 0) Syntax.imm (Syntax.tyInt Syntax.w8); ref = λ x. x }, (record { pos = 17; st = List.[]; d = 0; at = λ x. x }, tt)) 30 (List._∷_ 0 List.[])
       Syntax.tyBool
 
-  abbrev s83 : (bs : List.List Nat.ℕ) → Typed.Mo T87 → Typed.Mo T89
-  s83 = λ bs. Scalar.n-room T87 11 y5
+  abbrev s79 : (bs : List.List Nat.ℕ) → Typed.Mo T83 → Typed.Mo T85
+  s79 = λ bs. Scalar.n-room T83 17 y5
+
+  abbrev s80 : (bs : List.List Nat.ℕ) → Typed.Mo T85 → Typed.Mo T86
+  s80 = λ bs. Scalar.n-room T85 10 y7
+
+  abbrev s81 : (bs : List.List Nat.ℕ) → Typed.Mo T86 → Typed.Mo T87
+  s81 = λ bs. Scalar.n-room T86 30 Syntax.tyBool
+
+  abbrev s82 : (bs : List.List Nat.ℕ) → Typed.Mo T87 → Typed.Mo T88
+  s82 = λ bs. Make.n-enum-make Lined.the-type T87 0 λ m. Lined.enum .make (Logic.inr (Logic.inl tt))
+
+  abbrev s83 : (bs : List.List Nat.ℕ) → Typed.Mo T88 → Typed.Mo T89
+  s83 = λ bs. Scalar.n-room T88 7 (Syntax.tyInt Syntax.w32)
 
   abbrev s84 : (bs : List.List Nat.ℕ) → Typed.Mo T89 → Typed.Mo T90
-  s84 = λ bs. Scalar.n-room T89 31 Syntax.tyBool
+  s84 = λ bs. Scalar.n-room T89 8 Syntax.tyBool
 
   abbrev s85 : (bs : List.List Nat.ℕ) → Typed.Mo T90 → Typed.Mo T91
-  s85 = λ bs. Make.n-enum-make Lined.the-type T90 0 λ m. Lined.enum .make (Logic.inr (Logic.inl tt))
+  s85 = λ bs. Scalar.n-room T90 9 (Syntax.tyInt Syntax.w64)
 
   abbrev s86 : (bs : List.List Nat.ℕ) → Typed.Mo T91 → Typed.Mo T92
-  s86 = λ bs. Scalar.n-room T91 3 Syntax.tyBool
+  s86 = λ bs. Scalar.n-room T91 11 (Syntax.tyInt Syntax.w64)
 
-  abbrev s87 : (bs : List.List Nat.ℕ) → Typed.Mo T92 → Typed.Mo T93
-  s87 = λ bs. Scalar.n-room T92 8 (Syntax.tyInt Syntax.w32)
+  abbrev s87 : (bs : List.List Nat.ℕ) → Typed.Mo T85 → Typed.Mo T93
+  s87 = λ bs. Scalar.n-room T85 30 Syntax.tyBool
 
-  abbrev s88 : (bs : List.List Nat.ℕ) → Typed.Mo T93 → Typed.Mo T94
-  s88 = λ bs. Scalar.n-room T93 9 Syntax.tyBool
+  abbrev s88 : (bs : List.List Nat.ℕ) → Typed.Mo T84 → Typed.Mo T94
+  s88 = λ bs. Make.n-enum-make Lined.the-type T84 0 λ m. Lined.enum .make (Logic.inl (m .1 .1 .1 .1 .1 .1 .1 .1 .1 .1 .0, tt))
 
   abbrev s89 : (bs : List.List Nat.ℕ) → Typed.Mo T94 → Typed.Mo T95
-  s89 = λ bs. Scalar.n-room T94 10 (Syntax.tyInt Syntax.w64)
+  s89 = λ bs. Scalar.n-room T94 7 (Syntax.tyInt Syntax.w32)
 
   abbrev s90 : (bs : List.List Nat.ℕ) → Typed.Mo T95 → Typed.Mo T96
-  s90 = λ bs. Scalar.n-room T95 12 Syntax.tyBool
+  s90 = λ bs. Scalar.n-room T95 8 Syntax.tyBool
 
   abbrev s91 : (bs : List.List Nat.ℕ) → Typed.Mo T96 → Typed.Mo T97
-  s91 = λ bs. Scalar.n-room T96 13 (Syntax.tyInt Syntax.w64)
+  s91 = λ bs. Scalar.n-room T96 9 (Syntax.tyInt Syntax.w64)
 
-  abbrev s92 : (bs : List.List Nat.ℕ) → Typed.Mo T87 → Typed.Mo T98
-  s92 = λ bs. Scalar.n-room T87 31 Syntax.tyBool
+  abbrev s92 : (bs : List.List Nat.ℕ) → Typed.Mo T97 → Typed.Mo T98
+  s92 = λ bs. Scalar.n-room T97 10 y7
 
-  abbrev s93 : (bs : List.List Nat.ℕ) → Typed.Mo T88 → Typed.Mo T99
-  s93 = λ bs. Make.n-enum-make Lined.the-type T88 0 λ m. Lined.enum .make (Logic.inl (m .1 .1 .1 .1 .1 .1 .1 .1 .1 .1 .1 .0, (m .1 .1 .1 .1 .1 .1 .1 .1 .1 .1 .1 .1 .0, tt)))
+  abbrev s93 : (bs : List.List Nat.ℕ) → Typed.Mo T98 → Typed.Mo T99
+  s93 = λ bs. Scalar.n-room T98 11 (Syntax.tyInt Syntax.w64)
 
-  abbrev s94 : (bs : List.List Nat.ℕ) → Typed.Mo T99 → Typed.Mo T100
-  s94 = λ bs. Scalar.n-room T99 8 (Syntax.tyInt Syntax.w32)
-
-  abbrev s95 : (bs : List.List Nat.ℕ) → Typed.Mo T100 → Typed.Mo T101
-  s95 = λ bs. Scalar.n-room T100 9 Syntax.tyBool
-
-  abbrev s96 : (bs : List.List Nat.ℕ) → Typed.Mo T101 → Typed.Mo T102
-  s96 = λ bs. Scalar.n-room T101 10 (Syntax.tyInt Syntax.w64)
-
-  abbrev s97 : (bs : List.List Nat.ℕ) → Typed.Mo T102 → Typed.Mo T103
-  s97 = λ bs. Scalar.n-room T102 11 y5
-
-  abbrev s98 : (bs : List.List Nat.ℕ) → Typed.Mo T103 → Typed.Mo T104
-  s98 = λ bs. Scalar.n-room T103 12 Syntax.tyBool
-
-  abbrev s99 : (bs : List.List Nat.ℕ) → Typed.Mo T104 → Typed.Mo T105
-  s99 = λ bs. Scalar.n-room T104 13 (Syntax.tyInt Syntax.w64)
-
-  abbrev s100 : (bs : List.List Nat.ℕ) → Typed.Mo T105 → Typed.Mo T106
-  s100 = λ bs. Scalar.n-room T105 3 Syntax.tyBool
-
-  abbrev put0 : List.List (Referent.rtF (Referent.fInt Syntax.w16) .Denot) × List.List (Element.type .Denot) × Rows.whole (Declared'.row BitPosition.the-type) .Mod × Rows.sc-here Row.sBool .Mod ×
-      Rows.sc-here (Row.sInt Syntax.w64) .Mod → Typed.Mo T11 → Typed.Mo T11
-  put0 = λ vs u. Row.set 13 (13, Rows.sc-here (Row.sInt Syntax.w64)) (vs .4) (T11 .locals) (Row.set 12 (12, Rows.sc-here Row.sBool) (vs .3) (T11 .locals) (Row.set 11
-      (11, Rows.whole (Declared'.row BitPosition.the-type)) (vs .2) (T11 .locals) (Row.set 5 (5, Mut.mslice (Element.type) (Syntax.tyRef (Syntax.named 2) Syntax.mut Element.behind) 2) record
-      { ptr = Row.get 5 (T11 .locals) u .ptr; name = Row.get 5 (T11 .locals) u .name; now = vs .1 } (T11 .locals) (Row.set 4
-      (4, Mut.mslice (Referent.rtF (Referent.fInt Syntax.w16)) (Syntax.tyRef (Syntax.named 1) Syntax.mut (Syntax.tyInt Syntax.w16)) 1) record
-      { ptr = Row.get 4 (T11 .locals) u .ptr; name = Row.get 4 (T11 .locals) u .name; now = vs .0 } (T11 .locals) u))))
+  abbrev put0 : List.List (Referent.rtF (Referent.fInt Syntax.w16) .Denot) × List.List (Element.type .Denot) × Rows.whole (Declared'.row Place.the-type) .Mod × Rows.sc-here (Row.sInt Syntax.w64) .Mod
+      → Typed.Mo T10 → Typed.Mo T10
+  put0 = λ vs u. Row.set 11 (11, Rows.sc-here (Row.sInt Syntax.w64)) (vs .3) (T10 .locals) (Row.set 10 (10, Rows.whole (Declared'.row Place.the-type)) (vs .2) (T10 .locals) (Row.set 4
+      (4, Mut.mslice (Element.type) (Syntax.tyRef (Syntax.named 2) Syntax.mut Element.behind) 2) record { ptr = Row.get 4 (T10 .locals) u .ptr; name = Row.get 4 (T10 .locals) u .name; now = vs .1 } (T10
+      .locals) (Row.set 3 (3, Mut.mslice (Referent.rtF (Referent.fInt Syntax.w16)) (Syntax.tyRef (Syntax.named 1) Syntax.mut (Syntax.tyInt Syntax.w16)) 1) record
+      { ptr = Row.get 3 (T10 .locals) u .ptr; name = Row.get 3 (T10 .locals) u .name; now = vs .0 } (T10 .locals) u)))
 
   module _ (Pre· : (κs : Lifetimes.Lfts 3) → Kinds.Dens κs ps → Type 0) (Post· : (κs : Lifetimes.Lfts 3) → (a : Kinds.Dens κs ps) → Kinds.Plain 3 ps r κs) where
     module _ (M : Type 1) where
@@ -1745,360 +1693,338 @@ module _ (claims· : Claims) where
           .Λ) (Function.fnOf 3 ps r xs m hs body)) (Function.plainOf 𝓤 H A 3 ps r Pre· Post·)
 
     module _ (Inv·0 : InvT-loop) (μ·0 : MeasureT-loop) where
-      abbrev at0 : (bs : List.List Nat.ℕ) → Typed.TF T15 O4
+      abbrev at0 : (bs : List.List Nat.ℕ) → Typed.TF T14 O4
       at0 = λ bs. Typed.atNext O4
 
-      abbrev at1 : (bs : List.List Nat.ℕ) → Typed.TF T13 O4
-      at1 = λ bs. λ Ψ. Typed.pass T13 T15 (s11 bs) (at0 bs Ψ)
+      abbrev at1 : (bs : List.List Nat.ℕ) → Typed.TF T12 O4
+      at1 = λ bs. λ Ψ. Typed.pass T12 T14 (s10 bs) (at0 bs Ψ)
 
-      abbrev at2 : (bs : List.List Nat.ℕ) → Typed.TF T17 O4
+      abbrev at2 : (bs : List.List Nat.ℕ) → Typed.TF T16 O4
       at2 = λ bs. Typed.atExit 1 O4
 
-      abbrev at3 : (bs : List.List Nat.ℕ) → Typed.TF T16 O4
-      at3 = λ bs. λ Ψ. Typed.pass T16 T17 (s13 bs) (at2 bs Ψ)
+      abbrev at3 : (bs : List.List Nat.ℕ) → Typed.TF T15 O4
+      at3 = λ bs. λ Ψ. Typed.pass T15 T16 (s12 bs) (at2 bs Ψ)
 
-      abbrev at4 : (bs : List.List Nat.ℕ) → Typed.TF T13 O4
-      at4 = λ bs. λ Ψ. Typed.pass T13 T16 (s12 bs) (at3 bs Ψ)
+      abbrev at4 : (bs : List.List Nat.ℕ) → Typed.TF T12 O4
+      at4 = λ bs. λ Ψ. Typed.pass T12 T15 (s11 bs) (at3 bs Ψ)
 
-      abbrev at5 : (bs : List.List Nat.ℕ) → Typed.TF T13 O4
-      at5 = λ bs. Scalar.Φcond T13 O4 19 (λ x. x) (at1 bs) (at4 bs)
+      abbrev at5 : (bs : List.List Nat.ℕ) → Typed.TF T12 O4
+      at5 = λ bs. Scalar.Φcond T12 O4 18 (λ x. x) (at1 bs) (at4 bs)
 
-      abbrev at6 : (bs : List.List Nat.ℕ) → Typed.TF T68 O5
+      abbrev at6 : (bs : List.List Nat.ℕ) → Typed.TF T65 O5
       at6 = λ bs. Typed.atRet O5
 
-      abbrev at7 : (bs : List.List Nat.ℕ) → Typed.TF T67 O5
-      at7 = λ bs. λ Ψ. Typed.pass T67 T68 (s63 bs) (at6 bs Ψ)
+      abbrev at7 : (bs : List.List Nat.ℕ) → Typed.TF T64 O5
+      at7 = λ bs. λ Ψ. Typed.pass T64 T65 (s60 bs) (at6 bs Ψ)
 
-      abbrev at8 : (bs : List.List Nat.ℕ) → Typed.TF T66 O5
-      at8 = λ bs. λ Ψ. Typed.pass T66 T67 (s62 bs) (at7 bs Ψ)
+      abbrev at8 : (bs : List.List Nat.ℕ) → Typed.TF T63 O5
+      at8 = λ bs. λ Ψ. Typed.pass T63 T64 (s59 bs) (at7 bs Ψ)
 
-      abbrev at9 : (bs : List.List Nat.ℕ) → Typed.TF T65 O5
-      at9 = λ bs. λ Ψ. Typed.pass T65 T66 (s61 bs) (at8 bs Ψ)
+      abbrev at9 : (bs : List.List Nat.ℕ) → Typed.TF T62 O5
+      at9 = λ bs. λ Ψ. Typed.pass T62 T63 (s58 bs) (at8 bs Ψ)
 
-      abbrev at10 : (bs : List.List Nat.ℕ) → Typed.TF T64 O5
-      at10 = λ bs. λ Ψ. Typed.pass T64 T65 (s60 bs) (at9 bs Ψ)
+      abbrev at10 : (bs : List.List Nat.ℕ) → Typed.TF T61 O5
+      at10 = λ bs. λ Ψ. Typed.pass T61 T62 (s57 bs) (at9 bs Ψ)
 
-      abbrev at11 : (bs : List.List Nat.ℕ) → Typed.TF T63 O5
-      at11 = λ bs. λ Ψ. Typed.pass T63 T64 (s59 bs) (at10 bs Ψ)
+      abbrev at11 : (bs : List.List Nat.ℕ) → Typed.TF T60 O5
+      at11 = λ bs. λ Ψ. Typed.pass T60 T61 (s56 bs) (at10 bs Ψ)
 
-      abbrev at12 : (bs : List.List Nat.ℕ) → Typed.TF T62 O5
-      at12 = λ bs. λ Ψ. Typed.pass T62 T63 (s58 bs) (at11 bs Ψ)
+      abbrev at12 : (bs : List.List Nat.ℕ) → Typed.TF T59 O5
+      at12 = λ bs. λ Ψ. Typed.pass T59 T60 (s55 bs) (at11 bs Ψ)
 
-      abbrev at13 : (bs : List.List Nat.ℕ) → Typed.TF T61 O5
-      at13 = λ bs. λ Ψ. Typed.pass T61 T62 (s57 bs) (at12 bs Ψ)
+      abbrev at13 : (bs : List.List Nat.ℕ) → Typed.TF T58 O5
+      at13 = λ bs. λ Ψ. Typed.pass T58 T59 (s54 bs) (at12 bs Ψ)
 
-      abbrev at14 : (bs : List.List Nat.ℕ) → Typed.TF T60 O5
-      at14 = λ bs. λ Ψ. Typed.pass T60 T61 (s56 bs) (at13 bs Ψ)
+      abbrev at14 : (bs : List.List Nat.ℕ) → Typed.TF T57 O5
+      at14 = λ bs. λ Ψ. Typed.pass T57 T58 (s53 bs) (at13 bs Ψ)
 
-      abbrev at15 : (bs : List.List Nat.ℕ) → Typed.TF T59 O5
-      at15 = λ bs. λ Ψ. Typed.pass T59 T60 (s55 bs) (at14 bs Ψ)
+      abbrev at15 : (bs : List.List Nat.ℕ) → Typed.TF T56 O5
+      at15 = λ bs. λ Ψ. Typed.pass T56 T57 (s52 bs) (at14 bs Ψ)
 
-      abbrev at16 : (bs : List.List Nat.ℕ) → Typed.TF T58 O5
-      at16 = λ bs. λ Ψ. Typed.pass T58 T59 (s54 bs) (at15 bs Ψ)
+      abbrev at16 : (bs : List.List Nat.ℕ) → Typed.TF T54 O5
+      at16 = λ bs. λ Ψ. Typed.pass T54 T56 (s51 bs) (at15 bs Ψ)
 
-      abbrev at17 : (bs : List.List Nat.ℕ) → Typed.TF T57 O5
-      at17 = λ bs. λ Ψ. Typed.pass T57 T58 (s53 bs) (at16 bs Ψ)
+      abbrev at17 : (bs : List.List Nat.ℕ) → Typed.TF T66 O5
+      at17 = λ bs. Typed.atNext O5
 
-      abbrev at18 : (bs : List.List Nat.ℕ) → Typed.TF T55 O5
-      at18 = λ bs. λ Ψ. Typed.pass T55 T57 (s52 bs) (at17 bs Ψ)
+      abbrev at18 : (bs : List.List Nat.ℕ) → Typed.TF T54 O5
+      at18 = λ bs. λ Ψ. Typed.pass T54 T66 (s61 bs) (at17 bs Ψ)
 
-      abbrev at19 : (bs : List.List Nat.ℕ) → Typed.TF T70 O5
-      at19 = λ bs. Typed.atNext O5
+      abbrev at19 : (bs : List.List Nat.ℕ) → Typed.TF T54 O5
+      at19 = λ bs. Scalar.Φcond T54 O5 18 (λ x. x) (at16 bs) (at18 bs)
 
-      abbrev at20 : (bs : List.List Nat.ℕ) → Typed.TF T69 O5
-      at20 = λ bs. λ Ψ. Typed.pass T69 T70 (s65 bs) (at19 bs Ψ)
+      abbrev at20 : (bs : List.List Nat.ℕ) → Typed.TF T79 O3
+      at20 = λ bs. λ Ψ. Typed.ask (s75 bs) (Typed.pass T80 T81 (s76 bs) (Typed.atNext O3 Ψ))
 
-      abbrev at21 : (bs : List.List Nat.ℕ) → Typed.TF T55 O5
-      at21 = λ bs. λ Ψ. Typed.pass T55 T69 (s64 bs) (at20 bs Ψ)
+      abbrev at21 : (bs : List.List Nat.ℕ) → Typed.TF T78 O3
+      at21 = λ bs. λ Ψ. Typed.pass T78 T79 (s74 bs) (at20 bs Ψ)
 
-      abbrev at22 : (bs : List.List Nat.ℕ) → Typed.TF T55 O5
-      at22 = λ bs. Scalar.Φcond T55 O5 19 (λ x. x) (at18 bs) (at21 bs)
+      abbrev at22 : (bs : List.List Nat.ℕ) → Typed.TF T76 O3
+      at22 = λ bs. λ Ψ. Typed.both (s73 bs) (at21 bs Ψ)
 
-      abbrev at23 : (bs : List.List Nat.ℕ) → Typed.TF T84 O3
-      at23 = λ bs. λ Ψ. Typed.ask (s80 bs) (Typed.pass T85 T86 (s81 bs) (Typed.atNext O3 Ψ))
+      abbrev at23 : (bs : List.List Nat.ℕ) → Typed.TF T76 O3
+      at23 = λ bs. λ Ψ. at22 bs Ψ
 
-      abbrev at24 : (bs : List.List Nat.ℕ) → Typed.TF T83 O3
-      at24 = λ bs. λ Ψ. Typed.pass T83 T84 (s79 bs) (at23 bs Ψ)
+      abbrev at24 : (bs : List.List Nat.ℕ) → Typed.TF T74 O3
+      at24 = λ bs. λ Ψ. Typed.both (s71 bs) (at23 bs Ψ)
 
-      abbrev at25 : (bs : List.List Nat.ℕ) → Typed.TF T82 O3
-      at25 = λ bs. λ Ψ. Typed.pass T82 T83 (s78 bs) (at24 bs Ψ)
+      abbrev at25 : (bs : List.List Nat.ℕ) → Typed.TF T74 O3
+      at25 = λ bs. λ Ψ. at24 bs Ψ
 
-      abbrev at26 : (bs : List.List Nat.ℕ) → Typed.TF T80 O3
-      at26 = λ bs. λ Ψ. Typed.both (s77 bs) (at25 bs Ψ)
+      abbrev at26 : (bs : List.List Nat.ℕ) → Typed.TF T73 O3
+      at26 = λ bs. λ Ψ. Typed.pass T73 T74 (s69 bs) (at25 bs Ψ)
 
-      abbrev at27 : (bs : List.List Nat.ℕ) → Typed.TF T80 O3
-      at27 = λ bs. λ Ψ. at26 bs Ψ
+      abbrev at27 : (bs : List.List Nat.ℕ) → Typed.TF T72 O3
+      at27 = λ bs. λ Ψ. Typed.pass T72 T73 (s68 bs) (at26 bs Ψ)
 
-      abbrev at28 : (bs : List.List Nat.ℕ) → Typed.TF T78 O3
-      at28 = λ bs. λ Ψ. Typed.both (s75 bs) (at27 bs Ψ)
+      abbrev at28 : (bs : List.List Nat.ℕ) → Typed.TF T71 O3
+      at28 = λ bs. λ Ψ. Typed.pass T71 T72 (s67 bs) (at27 bs Ψ)
 
-      abbrev at29 : (bs : List.List Nat.ℕ) → Typed.TF T78 O3
-      at29 = λ bs. λ Ψ. at28 bs Ψ
+      abbrev at29 : (bs : List.List Nat.ℕ) → Typed.TF T70 O3
+      at29 = λ bs. λ Ψ. Typed.both (s66 bs) (at28 bs Ψ)
 
-      abbrev at30 : (bs : List.List Nat.ℕ) → Typed.TF T77 O3
-      at30 = λ bs. λ Ψ. Typed.pass T77 T78 (s73 bs) (at29 bs Ψ)
+      abbrev at30 : (bs : List.List Nat.ℕ) → Typed.TF T69 O3
+      at30 = λ bs. λ Ψ. Typed.ask (s65 bs) (at29 bs Ψ)
 
-      abbrev at31 : (bs : List.List Nat.ℕ) → Typed.TF T76 O3
-      at31 = λ bs. λ Ψ. Typed.pass T76 T77 (s72 bs) (at30 bs Ψ)
+      abbrev at31 : (bs : List.List Nat.ℕ) → Typed.TF T67 O3
+      at31 = λ bs. λ Ψ. Typed.give (s64 bs) (at30 bs Ψ)
 
-      abbrev at32 : (bs : List.List Nat.ℕ) → Typed.TF T75 O3
-      at32 = λ bs. λ Ψ. Typed.pass T75 T76 (s71 bs) (at31 bs Ψ)
+      abbrev at32 : (bs : List.List Nat.ℕ) → Typed.TF T67 O3
+      at32 = λ bs. λ Ψ. at31 bs Ψ
 
-      abbrev at33 : (bs : List.List Nat.ℕ) → Typed.TF T74 O3
-      at33 = λ bs. λ Ψ. Typed.both (s70 bs) (at32 bs Ψ)
+      abbrev at33 : (bs : List.List Nat.ℕ) → Typed.TF T55 O3
+      at33 = λ bs. λ Ψ. Typed.both (s62 bs) (at32 bs Ψ)
 
-      abbrev at34 : (bs : List.List Nat.ℕ) → Typed.TF T73 O3
-      at34 = λ bs. λ Ψ. Typed.ask (s69 bs) (at33 bs Ψ)
+      abbrev at34 : (bs : List.List Nat.ℕ) → Typed.TF T54 O3
+      at34 = λ bs. λ Ψ. at19 bs (Typed.wantNext T55 O3 (at33 bs Ψ) Ψ)
 
-      abbrev at35 : (bs : List.List Nat.ℕ) → Typed.TF T71 O3
-      at35 = λ bs. λ Ψ. Typed.give (s68 bs) (at34 bs Ψ)
+      abbrev at35 : (bs : List.List Nat.ℕ) → Typed.TF T53 O3
+      at35 = λ bs. λ Ψ. Typed.ask (s50 bs) (at34 bs Ψ)
 
-      abbrev at36 : (bs : List.List Nat.ℕ) → Typed.TF T71 O3
-      at36 = λ bs. λ Ψ. at35 bs Ψ
+      abbrev at36 : (bs : List.List Nat.ℕ) → Typed.TF T51 O3
+      at36 = λ bs. λ Ψ. Typed.pass T51 T53 (s49 bs) (at35 bs Ψ)
 
-      abbrev at37 : (bs : List.List Nat.ℕ) → Typed.TF T56 O3
-      at37 = λ bs. λ Ψ. Typed.both (s66 bs) (at36 bs Ψ)
+      abbrev at37 : (bs : List.List Nat.ℕ) → Typed.TF T51 O3
+      at37 = λ bs. λ Ψ. at36 bs Ψ
 
-      abbrev at38 : (bs : List.List Nat.ℕ) → Typed.TF T55 O3
-      at38 = λ bs. λ Ψ. at22 bs (Typed.wantNext T56 O3 (at37 bs Ψ) Ψ)
+      abbrev at38 : (bs : List.List Nat.ℕ) → Typed.TF T50 O3
+      at38 = λ bs. λ Ψ. Typed.give (s47 bs) (at37 bs Ψ)
 
-      abbrev at39 : (bs : List.List Nat.ℕ) → Typed.TF T54 O3
-      at39 = λ bs. λ Ψ. Typed.ask (s51 bs) (at38 bs Ψ)
+      abbrev at39 : (bs : List.List Nat.ℕ) → Typed.TF T48 O3
+      at39 = λ bs. λ Ψ. Typed.both (s46 bs) (at38 bs Ψ)
 
-      abbrev at40 : (bs : List.List Nat.ℕ) → Typed.TF T52 O3
-      at40 = λ bs. λ Ψ. Typed.pass T52 T54 (s50 bs) (at39 bs Ψ)
+      abbrev at40 : (bs : List.List Nat.ℕ) → Typed.TF T48 O3
+      at40 = λ bs. λ Ψ. at39 bs Ψ
 
-      abbrev at41 : (bs : List.List Nat.ℕ) → Typed.TF T52 O3
-      at41 = λ bs. λ Ψ. at40 bs Ψ
+      abbrev at41 : (bs : List.List Nat.ℕ) → Typed.TF T47 O3
+      at41 = λ bs. λ Ψ. Typed.pass T47 T48 (s44 bs) (at40 bs Ψ)
 
-      abbrev at42 : (bs : List.List Nat.ℕ) → Typed.TF T51 O3
-      at42 = λ bs. λ Ψ. Typed.give (s48 bs) (at41 bs Ψ)
+      abbrev at42 : (bs : List.List Nat.ℕ) → Typed.TF T46 O3
+      at42 = λ bs. λ Ψ. Typed.pass T46 T47 (s43 bs) (at41 bs Ψ)
 
-      abbrev at43 : (bs : List.List Nat.ℕ) → Typed.TF T49 O3
-      at43 = λ bs. λ Ψ. Typed.both (s47 bs) (at42 bs Ψ)
+      abbrev at43 : (bs : List.List Nat.ℕ) → Typed.TF T45 O3
+      at43 = λ bs. λ Ψ. Typed.both (s42 bs) (at42 bs Ψ)
 
-      abbrev at44 : (bs : List.List Nat.ℕ) → Typed.TF T49 O3
-      at44 = λ bs. λ Ψ. at43 bs Ψ
+      abbrev at44 : (bs : List.List Nat.ℕ) → Typed.TF T44 O3
+      at44 = λ bs. λ Ψ. Typed.ask (s41 bs) (at43 bs Ψ)
 
-      abbrev at45 : (bs : List.List Nat.ℕ) → Typed.TF T48 O3
-      at45 = λ bs. λ Ψ. Typed.pass T48 T49 (s45 bs) (at44 bs Ψ)
+      abbrev at45 : (bs : List.List Nat.ℕ) → Typed.TF T41 O3
+      at45 = λ bs. λ Ψ. Typed.give (s40 bs) (at44 bs Ψ)
 
-      abbrev at46 : (bs : List.List Nat.ℕ) → Typed.TF T47 O3
-      at46 = λ bs. λ Ψ. Typed.pass T47 T48 (s44 bs) (at45 bs Ψ)
+      abbrev at46 : (bs : List.List Nat.ℕ) → Typed.TF T41 O3
+      at46 = λ bs. λ Ψ. at45 bs Ψ
 
-      abbrev at47 : (bs : List.List Nat.ℕ) → Typed.TF T46 O3
-      at47 = λ bs. λ Ψ. Typed.both (s43 bs) (at46 bs Ψ)
+      abbrev at47 : (bs : List.List Nat.ℕ) → Typed.TF T41 O3
+      at47 = λ bs. λ Ψ. at46 bs Ψ
 
-      abbrev at48 : (bs : List.List Nat.ℕ) → Typed.TF T45 O3
-      at48 = λ bs. λ Ψ. Typed.ask (s42 bs) (at47 bs Ψ)
+      abbrev at48 : (bs : List.List Nat.ℕ) → Typed.TF T39 O3
+      at48 = λ bs. λ Ψ. Typed.both (s37 bs) (at47 bs Ψ)
 
-      abbrev at49 : (bs : List.List Nat.ℕ) → Typed.TF T42 O3
-      at49 = λ bs. λ Ψ. Typed.give (s41 bs) (at48 bs Ψ)
+      abbrev at49 : (bs : List.List Nat.ℕ) → Typed.TF T39 O3
+      at49 = λ bs. λ Ψ. at48 bs Ψ
 
-      abbrev at50 : (bs : List.List Nat.ℕ) → Typed.TF T42 O3
-      at50 = λ bs. λ Ψ. at49 bs Ψ
+      abbrev at50 : (bs : List.List Nat.ℕ) → Typed.TF T38 O3
+      at50 = λ bs. λ Ψ. Typed.both (s35 bs) (at49 bs Ψ)
 
-      abbrev at51 : (bs : List.List Nat.ℕ) → Typed.TF T42 O3
-      at51 = λ bs. λ Ψ. at50 bs Ψ
+      abbrev at51 : (bs : List.List Nat.ℕ) → Typed.TF T37 O3
+      at51 = λ bs. λ Ψ. Typed.ask (s34 bs) (at50 bs Ψ)
 
-      abbrev at52 : (bs : List.List Nat.ℕ) → Typed.TF T40 O3
-      at52 = λ bs. λ Ψ. Typed.both (s38 bs) (at51 bs Ψ)
+      abbrev at52 : (bs : List.List Nat.ℕ) → Typed.TF T34 O3
+      at52 = λ bs. λ Ψ. Typed.give (s33 bs) (at51 bs Ψ)
 
-      abbrev at53 : (bs : List.List Nat.ℕ) → Typed.TF T40 O3
+      abbrev at53 : (bs : List.List Nat.ℕ) → Typed.TF T34 O3
       at53 = λ bs. λ Ψ. at52 bs Ψ
 
-      abbrev at54 : (bs : List.List Nat.ℕ) → Typed.TF T39 O3
-      at54 = λ bs. λ Ψ. Typed.both (s36 bs) (at53 bs Ψ)
+      abbrev at54 : (bs : List.List Nat.ℕ) → Typed.TF T34 O3
+      at54 = λ bs. λ Ψ. at53 bs Ψ
 
-      abbrev at55 : (bs : List.List Nat.ℕ) → Typed.TF T38 O3
-      at55 = λ bs. λ Ψ. Typed.ask (s35 bs) (at54 bs Ψ)
+      abbrev at55 : (bs : List.List Nat.ℕ) → Typed.TF T33 O3
+      at55 = λ bs. λ Ψ. Typed.give (s30 bs) (at54 bs Ψ)
 
-      abbrev at56 : (bs : List.List Nat.ℕ) → Typed.TF T35 O3
-      at56 = λ bs. λ Ψ. Typed.give (s34 bs) (at55 bs Ψ)
+      abbrev at56 : (bs : List.List Nat.ℕ) → Typed.TF T31 O3
+      at56 = λ bs. λ Ψ. Typed.both (s29 bs) (at55 bs Ψ)
 
-      abbrev at57 : (bs : List.List Nat.ℕ) → Typed.TF T35 O3
+      abbrev at57 : (bs : List.List Nat.ℕ) → Typed.TF T31 O3
       at57 = λ bs. λ Ψ. at56 bs Ψ
 
-      abbrev at58 : (bs : List.List Nat.ℕ) → Typed.TF T35 O3
-      at58 = λ bs. λ Ψ. at57 bs Ψ
+      abbrev at58 : (bs : List.List Nat.ℕ) → Typed.TF T30 O3
+      at58 = λ bs. λ Ψ. Typed.pass T30 T31 (s27 bs) (at57 bs Ψ)
 
-      abbrev at59 : (bs : List.List Nat.ℕ) → Typed.TF T34 O3
-      at59 = λ bs. λ Ψ. Typed.give (s31 bs) (at58 bs Ψ)
+      abbrev at59 : (bs : List.List Nat.ℕ) → Typed.TF T29 O3
+      at59 = λ bs. λ Ψ. Typed.both (s26 bs) (at58 bs Ψ)
 
-      abbrev at60 : (bs : List.List Nat.ℕ) → Typed.TF T32 O3
-      at60 = λ bs. λ Ψ. Typed.both (s30 bs) (at59 bs Ψ)
+      abbrev at60 : (bs : List.List Nat.ℕ) → Typed.TF T28 O3
+      at60 = λ bs. λ Ψ. Typed.ask (s25 bs) (at59 bs Ψ)
 
-      abbrev at61 : (bs : List.List Nat.ℕ) → Typed.TF T32 O3
-      at61 = λ bs. λ Ψ. at60 bs Ψ
+      abbrev at61 : (bs : List.List Nat.ℕ) → Typed.TF T25 O3
+      at61 = λ bs. λ Ψ. Typed.give (s24 bs) (at60 bs Ψ)
 
-      abbrev at62 : (bs : List.List Nat.ℕ) → Typed.TF T31 O3
-      at62 = λ bs. λ Ψ. Typed.pass T31 T32 (s28 bs) (at61 bs Ψ)
+      abbrev at62 : (bs : List.List Nat.ℕ) → Typed.TF T25 O3
+      at62 = λ bs. λ Ψ. at61 bs Ψ
 
-      abbrev at63 : (bs : List.List Nat.ℕ) → Typed.TF T30 O3
-      at63 = λ bs. λ Ψ. Typed.both (s27 bs) (at62 bs Ψ)
+      abbrev at63 : (bs : List.List Nat.ℕ) → Typed.TF T25 O3
+      at63 = λ bs. λ Ψ. at62 bs Ψ
 
-      abbrev at64 : (bs : List.List Nat.ℕ) → Typed.TF T29 O3
-      at64 = λ bs. λ Ψ. Typed.ask (s26 bs) (at63 bs Ψ)
+      abbrev at64 : (bs : List.List Nat.ℕ) → Typed.TF T24 O3
+      at64 = λ bs. λ Ψ. Typed.give (s21 bs) (at63 bs Ψ)
 
-      abbrev at65 : (bs : List.List Nat.ℕ) → Typed.TF T26 O3
-      at65 = λ bs. λ Ψ. Typed.give (s25 bs) (at64 bs Ψ)
+      abbrev at65 : (bs : List.List Nat.ℕ) → Typed.TF T22 O3
+      at65 = λ bs. λ Ψ. Typed.both (s20 bs) (at64 bs Ψ)
 
-      abbrev at66 : (bs : List.List Nat.ℕ) → Typed.TF T26 O3
+      abbrev at66 : (bs : List.List Nat.ℕ) → Typed.TF T22 O3
       at66 = λ bs. λ Ψ. at65 bs Ψ
 
-      abbrev at67 : (bs : List.List Nat.ℕ) → Typed.TF T26 O3
-      at67 = λ bs. λ Ψ. at66 bs Ψ
+      abbrev at67 : (bs : List.List Nat.ℕ) → Typed.TF T21 O3
+      at67 = λ bs. λ Ψ. Typed.pass T21 T22 (s18 bs) (at66 bs Ψ)
 
-      abbrev at68 : (bs : List.List Nat.ℕ) → Typed.TF T25 O3
-      at68 = λ bs. λ Ψ. Typed.give (s22 bs) (at67 bs Ψ)
+      abbrev at68 : (bs : List.List Nat.ℕ) → Typed.TF T20 O3
+      at68 = λ bs. λ Ψ. Typed.both (s17 bs) (at67 bs Ψ)
 
-      abbrev at69 : (bs : List.List Nat.ℕ) → Typed.TF T23 O3
-      at69 = λ bs. λ Ψ. Typed.both (s21 bs) (at68 bs Ψ)
+      abbrev at69 : (bs : List.List Nat.ℕ) → Typed.TF T19 O3
+      at69 = λ bs. λ Ψ. Typed.ask (s16 bs) (at68 bs Ψ)
 
-      abbrev at70 : (bs : List.List Nat.ℕ) → Typed.TF T23 O3
-      at70 = λ bs. λ Ψ. at69 bs Ψ
+      abbrev at70 : (bs : List.List Nat.ℕ) → Typed.TF T17 O3
+      at70 = λ bs. λ Ψ. Typed.give (s15 bs) (at69 bs Ψ)
 
-      abbrev at71 : (bs : List.List Nat.ℕ) → Typed.TF T22 O3
-      at71 = λ bs. λ Ψ. Typed.pass T22 T23 (s19 bs) (at70 bs Ψ)
+      abbrev at71 : (bs : List.List Nat.ℕ) → Typed.TF T17 O3
+      at71 = λ bs. λ Ψ. at70 bs Ψ
 
-      abbrev at72 : (bs : List.List Nat.ℕ) → Typed.TF T21 O3
-      at72 = λ bs. λ Ψ. Typed.both (s18 bs) (at71 bs Ψ)
+      abbrev at72 : (bs : List.List Nat.ℕ) → Typed.TF T13 O3
+      at72 = λ bs. λ Ψ. Typed.both (s13 bs) (at71 bs Ψ)
 
-      abbrev at73 : (bs : List.List Nat.ℕ) → Typed.TF T20 O3
-      at73 = λ bs. λ Ψ. Typed.ask (s17 bs) (at72 bs Ψ)
+      abbrev at73 : (bs : List.List Nat.ℕ) → Typed.TF T12 O3
+      at73 = λ bs. λ Ψ. at5 bs (Typed.wantNext T13 O3 (at72 bs Ψ) Ψ)
 
-      abbrev at74 : (bs : List.List Nat.ℕ) → Typed.TF T18 O3
-      at74 = λ bs. λ Ψ. Typed.give (s16 bs) (at73 bs Ψ)
+      abbrev at74 : (bs : List.List Nat.ℕ) → Typed.TF T10 O3
+      at74 = λ bs. λ Ψ. Typed.ask (s9 bs) (at73 bs Ψ)
 
-      abbrev at75 : (bs : List.List Nat.ℕ) → Typed.TF T18 O3
-      at75 = λ bs. λ Ψ. at74 bs Ψ
+      abbrev at75 : (bs : List.List Nat.ℕ) → Typed.TF T10 O2
+      at75 = λ bs. Typed.LoopBy T10 O2 put0 (λ u vs. Inv·0 (Row.get 1 (T10 .locals) u .now) (Row.get 3 (T10 .locals) u .now) (Row.get 4 (T10 .locals) u .now) (Row.get 6 (T10 .locals) u) (Row.get 7
+          (T10 .locals) u) (Row.get 8 (T10 .locals) u) (Row.get 9 (T10 .locals) u) (Row.get 10 (T10 .locals) u) (Row.get 11 (T10 .locals) u) (vs .0) (vs .1) (vs .2) (vs .3)) (λ u vs. μ·0 (Row.get 1 (T10
+          .locals) u .now) (Row.get 3 (T10 .locals) u .now) (Row.get 4 (T10 .locals) u .now) (Row.get 6 (T10 .locals) u) (Row.get 7 (T10 .locals) u) (Row.get 8 (T10 .locals) u) (Row.get 9 (T10 .locals) u)
+          (Row.get 10 (T10 .locals) u) (Row.get 11 (T10 .locals) u) (vs .0) (vs .1) (vs .2) (vs .3)) (at74 bs)
 
-      abbrev at76 : (bs : List.List Nat.ℕ) → Typed.TF T14 O3
-      at76 = λ bs. λ Ψ. Typed.both (s14 bs) (at75 bs Ψ)
+      abbrev at76 : (bs : List.List Nat.ℕ) → Typed.TF T10 O1
+      at76 = λ bs. λ Ψ. at75 bs (Typed.inBlock O1 Ψ)
 
-      abbrev at77 : (bs : List.List Nat.ℕ) → Typed.TF T13 O3
-      at77 = λ bs. λ Ψ. at5 bs (Typed.wantNext T14 O3 (at76 bs Ψ) Ψ)
+      abbrev at77 : (bs : List.List Nat.ℕ) → Typed.TF T92 O6
+      at77 = λ bs. Typed.atRet O6
 
-      abbrev at78 : (bs : List.List Nat.ℕ) → Typed.TF T11 O3
-      at78 = λ bs. λ Ψ. Typed.ask (s10 bs) (at77 bs Ψ)
+      abbrev at78 : (bs : List.List Nat.ℕ) → Typed.TF T91 O6
+      at78 = λ bs. λ Ψ. Typed.pass T91 T92 (s86 bs) (at77 bs Ψ)
 
-      abbrev at79 : (bs : List.List Nat.ℕ) → Typed.TF T11 O2
-      at79 = λ bs. Typed.LoopBy T11 O2 put0 (λ u vs. Inv·0 (Row.get 1 (T11 .locals) u .now) (Row.get 3 (T11 .locals) u) (Row.get 4 (T11 .locals) u .now) (Row.get 5 (T11 .locals) u .now) (Row.get 7
-          (T11 .locals) u) (Row.get 8 (T11 .locals) u) (Row.get 9 (T11 .locals) u) (Row.get 10 (T11 .locals) u) (Row.get 11 (T11 .locals) u) (Row.get 12 (T11 .locals) u) (Row.get 13 (T11 .locals) u) (vs
-          .0) (vs .1) (vs .2) (vs .3) (vs .4)) (λ u vs. μ·0 (Row.get 1 (T11 .locals) u .now) (Row.get 3 (T11 .locals) u) (Row.get 4 (T11 .locals) u .now) (Row.get 5 (T11 .locals) u .now) (Row.get 7 (T11
-          .locals) u) (Row.get 8 (T11 .locals) u) (Row.get 9 (T11 .locals) u) (Row.get 10 (T11 .locals) u) (Row.get 11 (T11 .locals) u) (Row.get 12 (T11 .locals) u) (Row.get 13 (T11 .locals) u) (vs .0)
-          (vs .1) (vs .2) (vs .3) (vs .4)) (at78 bs)
+      abbrev at79 : (bs : List.List Nat.ℕ) → Typed.TF T90 O6
+      at79 = λ bs. λ Ψ. Typed.pass T90 T91 (s85 bs) (at78 bs Ψ)
 
-      abbrev at80 : (bs : List.List Nat.ℕ) → Typed.TF T11 O1
-      at80 = λ bs. λ Ψ. at79 bs (Typed.inBlock O1 Ψ)
+      abbrev at80 : (bs : List.List Nat.ℕ) → Typed.TF T89 O6
+      at80 = λ bs. λ Ψ. Typed.pass T89 T90 (s84 bs) (at79 bs Ψ)
 
-      abbrev at81 : (bs : List.List Nat.ℕ) → Typed.TF T97 O6
-      at81 = λ bs. Typed.atRet O6
+      abbrev at81 : (bs : List.List Nat.ℕ) → Typed.TF T88 O6
+      at81 = λ bs. λ Ψ. Typed.pass T88 T89 (s83 bs) (at80 bs Ψ)
 
-      abbrev at82 : (bs : List.List Nat.ℕ) → Typed.TF T96 O6
-      at82 = λ bs. λ Ψ. Typed.pass T96 T97 (s91 bs) (at81 bs Ψ)
+      abbrev at82 : (bs : List.List Nat.ℕ) → Typed.TF T87 O6
+      at82 = λ bs. λ Ψ. Typed.pass T87 T88 (s82 bs) (at81 bs Ψ)
 
-      abbrev at83 : (bs : List.List Nat.ℕ) → Typed.TF T95 O6
-      at83 = λ bs. λ Ψ. Typed.pass T95 T96 (s90 bs) (at82 bs Ψ)
+      abbrev at83 : (bs : List.List Nat.ℕ) → Typed.TF T86 O6
+      at83 = λ bs. λ Ψ. Typed.pass T86 T87 (s81 bs) (at82 bs Ψ)
 
-      abbrev at84 : (bs : List.List Nat.ℕ) → Typed.TF T94 O6
-      at84 = λ bs. λ Ψ. Typed.pass T94 T95 (s89 bs) (at83 bs Ψ)
+      abbrev at84 : (bs : List.List Nat.ℕ) → Typed.TF T85 O6
+      at84 = λ bs. λ Ψ. Typed.pass T85 T86 (s80 bs) (at83 bs Ψ)
 
       abbrev at85 : (bs : List.List Nat.ℕ) → Typed.TF T93 O6
-      at85 = λ bs. λ Ψ. Typed.pass T93 T94 (s88 bs) (at84 bs Ψ)
+      at85 = λ bs. Typed.atNext O6
 
-      abbrev at86 : (bs : List.List Nat.ℕ) → Typed.TF T92 O6
-      at86 = λ bs. λ Ψ. Typed.pass T92 T93 (s87 bs) (at85 bs Ψ)
+      abbrev at86 : (bs : List.List Nat.ℕ) → Typed.TF T85 O6
+      at86 = λ bs. λ Ψ. Typed.pass T85 T93 (s87 bs) (at85 bs Ψ)
 
-      abbrev at87 : (bs : List.List Nat.ℕ) → Typed.TF T91 O6
-      at87 = λ bs. λ Ψ. Typed.pass T91 T92 (s86 bs) (at86 bs Ψ)
+      abbrev at87 : (bs : List.List Nat.ℕ) → Typed.TF T85 O6
+      at87 = λ bs. Scalar.Φcond T85 O6 30 (λ x. x) (at84 bs) (at86 bs)
 
-      abbrev at88 : (bs : List.List Nat.ℕ) → Typed.TF T90 O6
-      at88 = λ bs. λ Ψ. Typed.pass T90 T91 (s85 bs) (at87 bs Ψ)
+      abbrev at88 : (bs : List.List Nat.ℕ) → Typed.TF T83 O6
+      at88 = λ bs. λ Ψ. Typed.pass T83 T85 (s79 bs) (at87 bs Ψ)
 
-      abbrev at89 : (bs : List.List Nat.ℕ) → Typed.TF T89 O6
-      at89 = λ bs. λ Ψ. Typed.pass T89 T90 (s84 bs) (at88 bs Ψ)
+      abbrev at89 : (bs : List.List Nat.ℕ) → Typed.TF T99 O0
+      at89 = λ bs. Typed.atRet O0
 
-      abbrev at90 : (bs : List.List Nat.ℕ) → Typed.TF T87 O6
-      at90 = λ bs. λ Ψ. Typed.pass T87 T89 (s83 bs) (at89 bs Ψ)
+      abbrev at90 : (bs : List.List Nat.ℕ) → Typed.TF T98 O0
+      at90 = λ bs. λ Ψ. Typed.pass T98 T99 (s93 bs) (at89 bs Ψ)
 
-      abbrev at91 : (bs : List.List Nat.ℕ) → Typed.TF T98 O6
-      at91 = λ bs. Typed.atNext O6
+      abbrev at91 : (bs : List.List Nat.ℕ) → Typed.TF T97 O0
+      at91 = λ bs. λ Ψ. Typed.pass T97 T98 (s92 bs) (at90 bs Ψ)
 
-      abbrev at92 : (bs : List.List Nat.ℕ) → Typed.TF T87 O6
-      at92 = λ bs. λ Ψ. Typed.pass T87 T98 (s92 bs) (at91 bs Ψ)
+      abbrev at92 : (bs : List.List Nat.ℕ) → Typed.TF T96 O0
+      at92 = λ bs. λ Ψ. Typed.pass T96 T97 (s91 bs) (at91 bs Ψ)
 
-      abbrev at93 : (bs : List.List Nat.ℕ) → Typed.TF T87 O6
-      at93 = λ bs. Scalar.Φcond T87 O6 31 (λ x. x) (at90 bs) (at92 bs)
+      abbrev at93 : (bs : List.List Nat.ℕ) → Typed.TF T95 O0
+      at93 = λ bs. λ Ψ. Typed.pass T95 T96 (s90 bs) (at92 bs Ψ)
 
-      abbrev at94 : (bs : List.List Nat.ℕ) → Typed.TF T106 O0
-      at94 = λ bs. Typed.atRet O0
+      abbrev at94 : (bs : List.List Nat.ℕ) → Typed.TF T94 O0
+      at94 = λ bs. λ Ψ. Typed.pass T94 T95 (s89 bs) (at93 bs Ψ)
 
-      abbrev at95 : (bs : List.List Nat.ℕ) → Typed.TF T105 O0
-      at95 = λ bs. λ Ψ. Typed.pass T105 T106 (s100 bs) (at94 bs Ψ)
+      abbrev at95 : (bs : List.List Nat.ℕ) → Typed.TF T84 O0
+      at95 = λ bs. λ Ψ. Typed.pass T84 T94 (s88 bs) (at94 bs Ψ)
 
-      abbrev at96 : (bs : List.List Nat.ℕ) → Typed.TF T104 O0
-      at96 = λ bs. λ Ψ. Typed.pass T104 T105 (s99 bs) (at95 bs Ψ)
+      abbrev at96 : (bs : List.List Nat.ℕ) → Typed.TF T83 O0
+      at96 = λ bs. λ Ψ. at88 bs (Typed.wantNext T84 O0 (at95 bs Ψ) Ψ)
 
-      abbrev at97 : (bs : List.List Nat.ℕ) → Typed.TF T103 O0
-      at97 = λ bs. λ Ψ. Typed.pass T103 T104 (s98 bs) (at96 bs Ψ)
+      abbrev at97 : (bs : List.List Nat.ℕ) → Typed.TF T82 O0
+      at97 = λ bs. λ Ψ. Typed.both (s78 bs) (at96 bs Ψ)
 
-      abbrev at98 : (bs : List.List Nat.ℕ) → Typed.TF T102 O0
-      at98 = λ bs. λ Ψ. Typed.pass T102 T103 (s97 bs) (at97 bs Ψ)
+      abbrev at98 : (bs : List.List Nat.ℕ) → Typed.TF T11 O0
+      at98 = λ bs. λ Ψ. Typed.both (s77 bs) (at97 bs Ψ)
 
-      abbrev at99 : (bs : List.List Nat.ℕ) → Typed.TF T101 O0
-      at99 = λ bs. λ Ψ. Typed.pass T101 T102 (s96 bs) (at98 bs Ψ)
+      abbrev at99 : (bs : List.List Nat.ℕ) → Typed.TF T10 O0
+      at99 = λ bs. λ Ψ. at76 bs (Typed.wantNext T11 O0 (at98 bs Ψ) Ψ)
 
-      abbrev at100 : (bs : List.List Nat.ℕ) → Typed.TF T100 O0
-      at100 = λ bs. λ Ψ. Typed.pass T100 T101 (s95 bs) (at99 bs Ψ)
+      abbrev at100 : (bs : List.List Nat.ℕ) → Typed.TF T9 O0
+      at100 = λ bs. λ Ψ. Typed.pass T9 T10 (s8 bs) (at99 bs Ψ)
 
-      abbrev at101 : (bs : List.List Nat.ℕ) → Typed.TF T99 O0
-      at101 = λ bs. λ Ψ. Typed.pass T99 T100 (s94 bs) (at100 bs Ψ)
+      abbrev at101 : (bs : List.List Nat.ℕ) → Typed.TF T8 O0
+      at101 = λ bs. λ Ψ. Typed.pass T8 T9 (s7 bs) (at100 bs Ψ)
 
-      abbrev at102 : (bs : List.List Nat.ℕ) → Typed.TF T88 O0
-      at102 = λ bs. λ Ψ. Typed.pass T88 T99 (s93 bs) (at101 bs Ψ)
+      abbrev at102 : (bs : List.List Nat.ℕ) → Typed.TF T7 O0
+      at102 = λ bs. λ Ψ. Typed.pass T7 T8 (s6 bs) (at101 bs Ψ)
 
-      abbrev at103 : (bs : List.List Nat.ℕ) → Typed.TF T87 O0
-      at103 = λ bs. λ Ψ. at93 bs (Typed.wantNext T88 O0 (at102 bs Ψ) Ψ)
+      abbrev at103 : (bs : List.List Nat.ℕ) → Typed.TF T6 O0
+      at103 = λ bs. λ Ψ. Typed.both (s5 bs) (at102 bs Ψ)
 
-      abbrev at104 : (bs : List.List Nat.ℕ) → Typed.TF T12 O0
-      at104 = λ bs. λ Ψ. Typed.both (s82 bs) (at103 bs Ψ)
+      abbrev at104 : (bs : List.List Nat.ℕ) → Typed.TF T5 O0
+      at104 = λ bs. λ Ψ. Typed.pass T5 T6 (s4 bs) (at103 bs Ψ)
 
-      abbrev at105 : (bs : List.List Nat.ℕ) → Typed.TF T11 O0
-      at105 = λ bs. λ Ψ. at80 bs (Typed.wantNext T12 O0 (at104 bs Ψ) Ψ)
+      abbrev at105 : (bs : List.List Nat.ℕ) → Typed.TF T4 O0
+      at105 = λ bs. λ Ψ. Typed.pass T4 T5 (s3 bs) (at104 bs Ψ)
 
-      abbrev at106 : (bs : List.List Nat.ℕ) → Typed.TF T10 O0
-      at106 = λ bs. λ Ψ. Typed.pass T10 T11 (s9 bs) (at105 bs Ψ)
+      abbrev at106 : (bs : List.List Nat.ℕ) → Typed.TF T3 O0
+      at106 = λ bs. λ Ψ. Typed.pass T3 T4 (s2 bs) (at105 bs Ψ)
 
-      abbrev at107 : (bs : List.List Nat.ℕ) → Typed.TF T9 O0
-      at107 = λ bs. λ Ψ. Typed.pass T9 T10 (s8 bs) (at106 bs Ψ)
+      abbrev at107 : (bs : List.List Nat.ℕ) → Typed.TF T2 O0
+      at107 = λ bs. λ Ψ. Typed.give (s1 bs) (at106 bs Ψ)
 
-      abbrev at108 : (bs : List.List Nat.ℕ) → Typed.TF T8 O0
-      at108 = λ bs. λ Ψ. Typed.pass T8 T9 (s7 bs) (at107 bs Ψ)
-
-      abbrev at109 : (bs : List.List Nat.ℕ) → Typed.TF T7 O0
-      at109 = λ bs. λ Ψ. Typed.pass T7 T8 (s6 bs) (at108 bs Ψ)
-
-      abbrev at110 : (bs : List.List Nat.ℕ) → Typed.TF T6 O0
-      at110 = λ bs. λ Ψ. Typed.both (s5 bs) (at109 bs Ψ)
-
-      abbrev at111 : (bs : List.List Nat.ℕ) → Typed.TF T5 O0
-      at111 = λ bs. λ Ψ. Typed.pass T5 T6 (s4 bs) (at110 bs Ψ)
-
-      abbrev at112 : (bs : List.List Nat.ℕ) → Typed.TF T4 O0
-      at112 = λ bs. λ Ψ. Typed.pass T4 T5 (s3 bs) (at111 bs Ψ)
-
-      abbrev at113 : (bs : List.List Nat.ℕ) → Typed.TF T3 O0
-      at113 = λ bs. λ Ψ. Typed.pass T3 T4 (s2 bs) (at112 bs Ψ)
-
-      abbrev at114 : (bs : List.List Nat.ℕ) → Typed.TF T2 O0
-      at114 = λ bs. λ Ψ. Typed.give (s1 bs) (at113 bs Ψ)
-
-      abbrev at115 : (bs : List.List Nat.ℕ) → Typed.TF T0 O0
-      at115 = λ bs. λ Ψ. Typed.give (s0 bs) (at114 bs Ψ)
+      abbrev at108 : (bs : List.List Nat.ℕ) → Typed.TF T0 O0
+      at108 = λ bs. λ Ψ. Typed.give (s0 bs) (at107 bs Ψ)
 
       abbrev pub Φ : (bs : List.List Nat.ℕ) → Typed.TF T0 O0
-      Φ = λ bs. at115 bs
+      Φ = λ bs. at108 bs
 
       module _ {M : Type 1} (𝓤 : URA.URA M) (H : Wp.Heap 𝓤) (A : Atoms.Atoms 𝓤) (W : Kit.Given 𝓤 H A) (𝓣 : Wp.Tables 𝓤 H) where
         abbrev Knowns : Type 1
@@ -2108,50 +2034,55 @@ module _ (claims· : Claims) where
             "bits::is_past"
 
       module _ (κs : Lifetimes.Lfts 3) (qs : Lifetimes.Shares 3) where
-        abbrev g14 : List.List Row.Entry
-        g14 = List._∷_ e0 (List._∷_ e2 (List._∷_ e23 (List._∷_ e39 (List._∷_
-            (4, Relend.mslice-owed (Referent.rtF (Referent.fInt Syntax.w16)) (Syntax.tyRef (Syntax.named 1) Syntax.mut (Syntax.tyInt Syntax.w16)) 1 3 (Row.lease (κs .1 .0) (qs .1 .0))) (List._∷_ e45
-            (List._∷_ e48 (List._∷_ e51 (List._∷_ e53 (List._∷_ e55 (List._∷_ e4 (List._∷_ e6 (List._∷_ e8 (List._∷_ e10 (List._∷_ e12 (List._∷_ e13 List.[])))))))))))))))
+        abbrev g13 : List.List Row.Entry
+        g13 = List._∷_ e0 (List._∷_ e2 (List._∷_ e22 (List._∷_
+            (3, Relend.mslice-owed (Referent.rtF (Referent.fInt Syntax.w16)) (Syntax.tyRef (Syntax.named 1) Syntax.mut (Syntax.tyInt Syntax.w16)) 1 3 (Row.lease (κs .1 .0) (qs .1 .0))) (List._∷_ e41
+            (List._∷_ e44 (List._∷_ e47 (List._∷_ e49 (List._∷_ e51 (List._∷_ e53 (List._∷_ e4 (List._∷_ e6 (List._∷_ e8 (List._∷_ e9 (List._∷_ e11 (List._∷_ e13 List.[])))))))))))))))
 
-        abbrev g19 : List.List Row.Entry
-        g19 = List._∷_ e0 (List._∷_ e2 (List._∷_ e23 (List._∷_ e39 (List._∷_
-            (4, Relend.mslice-owed (Referent.rtF (Referent.fInt Syntax.w16)) (Syntax.tyRef (Syntax.named 1) Syntax.mut (Syntax.tyInt Syntax.w16)) 1 4 (Row.lease (κs .1 .0) (qs .1 .0))) (List._∷_ e45
-            (List._∷_ e48 (List._∷_ e51 (List._∷_ e53 (List._∷_ e55 (List._∷_ e4 (List._∷_ e6 (List._∷_ e8 (List._∷_ e10 (List._∷_ e12 (List._∷_ e13 List.[])))))))))))))))
+        abbrev g18 : List.List Row.Entry
+        g18 = List._∷_ e0 (List._∷_ e2 (List._∷_ e22 (List._∷_
+            (3, Relend.mslice-owed (Referent.rtF (Referent.fInt Syntax.w16)) (Syntax.tyRef (Syntax.named 1) Syntax.mut (Syntax.tyInt Syntax.w16)) 1 4 (Row.lease (κs .1 .0) (qs .1 .0))) (List._∷_ e41
+            (List._∷_ e44 (List._∷_ e47 (List._∷_ e49 (List._∷_ e51 (List._∷_ e53 (List._∷_ e4 (List._∷_ e6 (List._∷_ e8 (List._∷_ e9 (List._∷_ e11 (List._∷_ e13 List.[])))))))))))))))
 
-        abbrev g24 : List.List Row.Entry
-        g24 = List._∷_ e0 (List._∷_ e2 (List._∷_ e23 (List._∷_ e39 (List._∷_ e43 (List._∷_
-            (5, Relend.mslice-owed (Element.type) (Syntax.tyRef (Syntax.named 2) Syntax.mut Element.behind) 2 5 (Row.lease (κs .1 .1 .0) (qs .1 .1 .0))) (List._∷_ e48 (List._∷_ e51 (List._∷_ e53 (List._∷_
-            e55 (List._∷_ e4 (List._∷_ e6 (List._∷_ e8 (List._∷_ e10 (List._∷_ e12 (List._∷_ e13 List.[])))))))))))))))
+        abbrev g23 : List.List Row.Entry
+        g23 = List._∷_ e0 (List._∷_ e2 (List._∷_ e22 (List._∷_ e37 (List._∷_
+            (4, Relend.mslice-owed (Element.type) (Syntax.tyRef (Syntax.named 2) Syntax.mut Element.behind) 2 5 (Row.lease (κs .1 .1 .0) (qs .1 .1 .0))) (List._∷_ e44 (List._∷_ e47 (List._∷_ e49 (List._∷_
+            e51 (List._∷_ e53 (List._∷_ e4 (List._∷_ e6 (List._∷_ e8 (List._∷_ e9 (List._∷_ e11 (List._∷_ e13 List.[])))))))))))))))
 
-        abbrev g27 : List.List Row.Entry
-        g27 = List._∷_ e0 (List._∷_ e2 (List._∷_ e23 (List._∷_ e39 (List._∷_ e43 (List._∷_
-            (5, Relend.mslice-owed (Element.type) (Syntax.tyRef (Syntax.named 2) Syntax.mut Element.behind) 2 5 (Row.lease (κs .1 .1 .0) (qs .1 .1 .0))) (List._∷_ e48 (List._∷_ e51 (List._∷_ e53 (List._∷_
-            e55 (List._∷_ e4 (List._∷_ e6 (List._∷_ e8 (List._∷_ e10 (List._∷_ e12 (List._∷_ e14 List.[])))))))))))))))
+        abbrev g26 : List.List Row.Entry
+        g26 = List._∷_ e0 (List._∷_ e2 (List._∷_ e22 (List._∷_ e37 (List._∷_
+            (4, Relend.mslice-owed (Element.type) (Syntax.tyRef (Syntax.named 2) Syntax.mut Element.behind) 2 5 (Row.lease (κs .1 .1 .0) (qs .1 .1 .0))) (List._∷_ e44 (List._∷_ e47 (List._∷_ e49 (List._∷_
+            e51 (List._∷_ e53 (List._∷_ e4 (List._∷_ e6 (List._∷_ e8 (List._∷_ e10 (List._∷_ e11 (List._∷_ e13 List.[])))))))))))))))
 
-        abbrev g30 : List.List Row.Entry
-        g30 = List._∷_ e0 (List._∷_ e2 (List._∷_ e23 (List._∷_ e39 (List._∷_
-            (4, Relend.mslice-owed (Referent.rtF (Referent.fInt Syntax.w16)) (Syntax.tyRef (Syntax.named 1) Syntax.mut (Syntax.tyInt Syntax.w16)) 1 6 (Row.lease (κs .1 .0) (qs .1 .0))) (List._∷_ e45
-            (List._∷_ e48 (List._∷_ e51 (List._∷_ e53 (List._∷_ e55 (List._∷_ e4 (List._∷_ e6 (List._∷_ e8 (List._∷_ e10 (List._∷_ e12 (List._∷_ e14 List.[])))))))))))))))
+        abbrev g29 : List.List Row.Entry
+        g29 = List._∷_ e0 (List._∷_ e2 (List._∷_ e22 (List._∷_
+            (3, Relend.mslice-owed (Referent.rtF (Referent.fInt Syntax.w16)) (Syntax.tyRef (Syntax.named 1) Syntax.mut (Syntax.tyInt Syntax.w16)) 1 6 (Row.lease (κs .1 .0) (qs .1 .0))) (List._∷_ e41
+            (List._∷_ e44 (List._∷_ e47 (List._∷_ e49 (List._∷_ e51 (List._∷_ e53 (List._∷_ e4 (List._∷_ e6 (List._∷_ e8 (List._∷_ e10 (List._∷_ e11 (List._∷_ e13 List.[])))))))))))))))
+
+        abbrev g32 : List.List Row.Entry
+        g32 = List._∷_ e0 (List._∷_ e2 (List._∷_ e22 (List._∷_
+            (3, Relend.mslice-owed (Referent.rtF (Referent.fInt Syntax.w16)) (Syntax.tyRef (Syntax.named 1) Syntax.mut (Syntax.tyInt Syntax.w16)) 1 6 (Row.lease (κs .1 .0) (qs .1 .0))) (List._∷_ e41
+            (List._∷_ e44 (List._∷_ e47 (List._∷_ e49 (List._∷_ e51 (List._∷_ e53 (List._∷_ e4 (List._∷_ e6 (List._∷_ e8 (List._∷_ e10 (List._∷_ e12 (List._∷_ e13 List.[])))))))))))))))
 
         abbrev g34 : List.List Row.Entry
-        g34 = List._∷_ e0 (List._∷_ e2 (List._∷_ e23 (List._∷_ e39 (List._∷_
-            (4, Relend.mslice-owed (Referent.rtF (Referent.fInt Syntax.w16)) (Syntax.tyRef (Syntax.named 1) Syntax.mut (Syntax.tyInt Syntax.w16)) 1 6 (Row.lease (κs .1 .0) (qs .1 .0))) (List._∷_ e45
-            (List._∷_ e48 (List._∷_ e51 (List._∷_ e53 (List._∷_ e55 (List._∷_ e4 (List._∷_ e5 (List._∷_ e8 (List._∷_ e10 (List._∷_ e12 (List._∷_ e14 List.[])))))))))))))))
+        g34 = List._∷_ e0 (List._∷_ e2 (List._∷_ e22 (List._∷_
+            (3, Relend.mslice-owed (Referent.rtF (Referent.fInt Syntax.w16)) (Syntax.tyRef (Syntax.named 1) Syntax.mut (Syntax.tyInt Syntax.w16)) 1 6 (Row.lease (κs .1 .0) (qs .1 .0))) (List._∷_ e41
+            (List._∷_ e44 (List._∷_ e47 (List._∷_ e49 (List._∷_ e51 (List._∷_ e53 (List._∷_ e3 (List._∷_ e6 (List._∷_ e8 (List._∷_ e10 (List._∷_ e12 (List._∷_ e13 List.[])))))))))))))))
 
         abbrev g35 : List.List Row.Entry
-        g35 = List._∷_ e0 (List._∷_ e2 (List._∷_ e23 (List._∷_ e39 (List._∷_
-            (4, Relend.mslice-owed (Referent.rtF (Referent.fInt Syntax.w16)) (Syntax.tyRef (Syntax.named 1) Syntax.mut (Syntax.tyInt Syntax.w16)) 1 6 (Row.lease (κs .1 .0) (qs .1 .0))) (List._∷_ e45
-            (List._∷_ e48 (List._∷_ e51 (List._∷_ e53 (List._∷_ e55 (List._∷_ e4 (List._∷_ e5 (List._∷_ e8 (List._∷_ e10 (List._∷_ e12 (List._∷_ e13 List.[])))))))))))))))
+        g35 = List._∷_ e0 (List._∷_ e2 (List._∷_ e22 (List._∷_
+            (3, Relend.mslice-owed (Referent.rtF (Referent.fInt Syntax.w16)) (Syntax.tyRef (Syntax.named 1) Syntax.mut (Syntax.tyInt Syntax.w16)) 1 6 (Row.lease (κs .1 .0) (qs .1 .0))) (List._∷_ e41
+            (List._∷_ e44 (List._∷_ e47 (List._∷_ e49 (List._∷_ e51 (List._∷_ e53 (List._∷_ e3 (List._∷_ e6 (List._∷_ e8 (List._∷_ e9 (List._∷_ e12 (List._∷_ e13 List.[])))))))))))))))
 
-        abbrev g52 : List.List Row.Entry
-        g52 = List._∷_ e0 (List._∷_ e2 (List._∷_ e23 (List._∷_ e39 (List._∷_ e43 (List._∷_
-            (5, Relend.mslice-owed (Element.type) (Syntax.tyRef (Syntax.named 2) Syntax.mut Element.behind) 2 7 (Row.lease (κs .1 .1 .0) (qs .1 .1 .0))) (List._∷_ e48 (List._∷_ e51 (List._∷_ e53 (List._∷_
-            e55 (List._∷_ e4 (List._∷_ e5 (List._∷_ e7 (List._∷_ e10 (List._∷_ e12 (List._∷_ e13 List.[])))))))))))))))
+        abbrev g47 : List.List Row.Entry
+        g47 = List._∷_ e0 (List._∷_ e2 (List._∷_ e22 (List._∷_ e37 (List._∷_
+            (4, Relend.mslice-owed (Element.type) (Syntax.tyRef (Syntax.named 2) Syntax.mut Element.behind) 2 7 (Row.lease (κs .1 .1 .0) (qs .1 .1 .0))) (List._∷_ e44 (List._∷_ e47 (List._∷_ e49 (List._∷_
+            e51 (List._∷_ e53 (List._∷_ e3 (List._∷_ e6 (List._∷_ e8 (List._∷_ e9 (List._∷_ e12 (List._∷_ e14 List.[])))))))))))))))
 
-        abbrev g56 : List.List Row.Entry
-        g56 = List._∷_ e0 (List._∷_ e2 (List._∷_ e23 (List._∷_ e39 (List._∷_ e43 (List._∷_
-            (5, Relend.mslice-owed (Element.type) (Syntax.tyRef (Syntax.named 2) Syntax.mut Element.behind) 2 7 (Row.lease (κs .1 .1 .0) (qs .1 .1 .0))) (List._∷_ e48 (List._∷_ e51 (List._∷_ e53 (List._∷_
-            e55 (List._∷_ e4 (List._∷_ e5 (List._∷_ e7 (List._∷_ e10 (List._∷_ e11 (List._∷_ e13 List.[])))))))))))))))
+        abbrev g51 : List.List Row.Entry
+        g51 = List._∷_ e0 (List._∷_ e2 (List._∷_ e22 (List._∷_ e37 (List._∷_
+            (4, Relend.mslice-owed (Element.type) (Syntax.tyRef (Syntax.named 2) Syntax.mut Element.behind) 2 7 (Row.lease (κs .1 .1 .0) (qs .1 .1 .0))) (List._∷_ e44 (List._∷_ e47 (List._∷_ e49 (List._∷_
+            e51 (List._∷_ e53 (List._∷_ e3 (List._∷_ e6 (List._∷_ e7 (List._∷_ e9 (List._∷_ e12 (List._∷_ e14 List.[])))))))))))))))
 
         abbrev G0 : Row.Cx
         G0 = record {
@@ -2239,259 +2170,259 @@ module _ (claims· : Claims) where
 
         abbrev G12 : Row.Cx
         G12 = record {
-          locals = List._++_ t11 t1;
+          locals = List._++_ t9 t11;
           slots = List._∷_ (Row.lease (κs .0) (qs .0)) (List._∷_ (Row.lease (κs .1 .0) (qs .1 .0)) (List._∷_ (Row.lease (κs .1 .1 .0) (qs .1 .1 .0)) (List._∷_ Row.off
               (List._∷_ Row.off (List._∷_ Row.off (List._∷_ Row.off (List._∷_ Row.off List.[])))))));
         }
 
         abbrev G13 : Row.Cx
         G13 = record {
-          locals = List._++_ t10 t12;
+          locals = List._++_ t9 t1;
           slots = List._∷_ (Row.lease (κs .0) (qs .0)) (List._∷_ (Row.lease (κs .1 .0) (qs .1 .0)) (List._∷_ (Row.lease (κs .1 .1 .0) (qs .1 .1 .0)) (List._∷_ Row.off
               (List._∷_ Row.off (List._∷_ Row.off (List._∷_ Row.off (List._∷_ Row.off List.[])))))));
         }
 
         abbrev G14 : Row.Cx
         G14 = record {
-          locals = List._++_ t10 t1;
+          locals = List._++_ t9 t1;
           slots = List._∷_ (Row.lease (κs .0) (qs .0)) (List._∷_ (Row.lease (κs .1 .0) (qs .1 .0)) (List._∷_ (Row.lease (κs .1 .1 .0) (qs .1 .1 .0)) (List._∷_ Row.off
               (List._∷_ Row.off (List._∷_ Row.off (List._∷_ Row.off (List._∷_ Row.off List.[])))))));
         }
 
         abbrev G15 : Row.Cx
         G15 = record {
-          locals = List._++_ t10 t1;
+          locals = List._++_ t10 t11;
           slots = List._∷_ (Row.lease (κs .0) (qs .0)) (List._∷_ (Row.lease (κs .1 .0) (qs .1 .0)) (List._∷_ (Row.lease (κs .1 .1 .0) (qs .1 .1 .0)) (List._∷_ Row.off
               (List._∷_ Row.off (List._∷_ Row.off (List._∷_ Row.off (List._∷_ Row.off List.[])))))));
         }
 
         abbrev G16 : Row.Cx
         G16 = record {
-          locals = List._++_ t11 t12;
+          locals = List._++_ t10 t1;
           slots = List._∷_ (Row.lease (κs .0) (qs .0)) (List._∷_ (Row.lease (κs .1 .0) (qs .1 .0)) (List._∷_ (Row.lease (κs .1 .1 .0) (qs .1 .1 .0)) (List._∷_ Row.off
               (List._∷_ Row.off (List._∷_ Row.off (List._∷_ Row.off (List._∷_ Row.off List.[])))))));
         }
 
         abbrev G17 : Row.Cx
         G17 = record {
-          locals = List._++_ t11 t1;
+          locals = List._++_ t12 t1;
           slots = List._∷_ (Row.lease (κs .0) (qs .0)) (List._∷_ (Row.lease (κs .1 .0) (qs .1 .0)) (List._∷_ (Row.lease (κs .1 .1 .0) (qs .1 .1 .0)) (List._∷_ Row.off
               (List._∷_ Row.off (List._∷_ Row.off (List._∷_ Row.off (List._∷_ Row.off List.[])))))));
         }
 
         abbrev G18 : Row.Cx
         G18 = record {
-          locals = List._++_ t13 t1;
-          slots = List._∷_ (Row.lease (κs .0) (qs .0)) (List._∷_ (Row.lease (κs .1 .0) (qs .1 .0)) (List._∷_ (Row.lease (κs .1 .1 .0) (qs .1 .1 .0)) (List._∷_ Row.off
+          locals = List._++_ t12 t1;
+          slots = List._∷_ (Row.lease (κs .0) (qs .0)) (List._∷_ (Row.lease (κs .1 .0) (qs .1 .0)) (List._∷_ (Row.lease (κs .1 .1 .0) (qs .1 .1 .0)) (List._∷_ Row.alive
               (List._∷_ Row.off (List._∷_ Row.off (List._∷_ Row.off (List._∷_ Row.off List.[])))))));
         }
 
         abbrev G19 : Row.Cx
         G19 = record {
-          locals = List._++_ t13 t1;
-          slots = List._∷_ (Row.lease (κs .0) (qs .0)) (List._∷_ (Row.lease (κs .1 .0) (qs .1 .0)) (List._∷_ (Row.lease (κs .1 .1 .0) (qs .1 .1 .0)) (List._∷_ Row.alive
-              (List._∷_ Row.off (List._∷_ Row.off (List._∷_ Row.off (List._∷_ Row.off List.[])))))));
+          locals = List._++_ g13 t14;
+          slots = List._∷_ (Row.lease (κs .0) (qs .0)) (List._∷_ Row.off (List._∷_ (Row.lease (κs .1 .1 .0) (qs .1 .1 .0)) (List._∷_ Row.alive (List._∷_ Row.off (List._∷_
+              Row.off (List._∷_ Row.off (List._∷_ Row.off List.[])))))));
         }
 
         abbrev G20 : Row.Cx
         G20 = record {
-          locals = List._++_ g14 t15;
+          locals = List._++_ g13 t15;
           slots = List._∷_ (Row.lease (κs .0) (qs .0)) (List._∷_ Row.off (List._∷_ (Row.lease (κs .1 .1 .0) (qs .1 .1 .0)) (List._∷_ Row.alive (List._∷_ Row.off (List._∷_
               Row.off (List._∷_ Row.off (List._∷_ Row.off List.[])))))));
         }
 
         abbrev G21 : Row.Cx
         G21 = record {
-          locals = List._++_ g14 t16;
+          locals = List._++_ g13 t16;
           slots = List._∷_ (Row.lease (κs .0) (qs .0)) (List._∷_ Row.off (List._∷_ (Row.lease (κs .1 .1 .0) (qs .1 .1 .0)) (List._∷_ Row.alive (List._∷_ Row.off (List._∷_
               Row.off (List._∷_ Row.off (List._∷_ Row.off List.[])))))));
         }
 
         abbrev G22 : Row.Cx
         G22 = record {
-          locals = List._++_ g14 t17;
+          locals = List._++_ g13 t17;
           slots = List._∷_ (Row.lease (κs .0) (qs .0)) (List._∷_ Row.off (List._∷_ (Row.lease (κs .1 .1 .0) (qs .1 .1 .0)) (List._∷_ Row.alive (List._∷_ Row.off (List._∷_
               Row.off (List._∷_ Row.off (List._∷_ Row.off List.[])))))));
         }
 
         abbrev G23 : Row.Cx
         G23 = record {
-          locals = List._++_ g14 t18;
-          slots = List._∷_ (Row.lease (κs .0) (qs .0)) (List._∷_ Row.off (List._∷_ (Row.lease (κs .1 .1 .0) (qs .1 .1 .0)) (List._∷_ Row.alive (List._∷_ Row.off (List._∷_
+          locals = List._++_ g13 t17;
+          slots = List._∷_ (Row.lease (κs .0) (qs .0)) (List._∷_ Row.off (List._∷_ (Row.lease (κs .1 .1 .0) (qs .1 .1 .0)) (List._∷_ Row.dead (List._∷_ Row.off (List._∷_
               Row.off (List._∷_ Row.off (List._∷_ Row.off List.[])))))));
         }
 
         abbrev G24 : Row.Cx
         G24 = record {
-          locals = List._++_ g14 t18;
-          slots = List._∷_ (Row.lease (κs .0) (qs .0)) (List._∷_ Row.off (List._∷_ (Row.lease (κs .1 .1 .0) (qs .1 .1 .0)) (List._∷_ Row.dead (List._∷_ Row.off (List._∷_
-              Row.off (List._∷_ Row.off (List._∷_ Row.off List.[])))))));
+          locals = List._++_ t12 t1;
+          slots = List._∷_ (Row.lease (κs .0) (qs .0)) (List._∷_ (Row.lease (κs .1 .0) (qs .1 .0)) (List._∷_ (Row.lease (κs .1 .1 .0) (qs .1 .1 .0)) (List._∷_ Row.dead
+              (List._∷_ Row.off (List._∷_ Row.off (List._∷_ Row.off (List._∷_ Row.off List.[])))))));
         }
 
         abbrev G25 : Row.Cx
         G25 = record {
-          locals = List._++_ t13 t1;
+          locals = List._++_ t12 t1;
           slots = List._∷_ (Row.lease (κs .0) (qs .0)) (List._∷_ (Row.lease (κs .1 .0) (qs .1 .0)) (List._∷_ (Row.lease (κs .1 .1 .0) (qs .1 .1 .0)) (List._∷_ Row.dead
               (List._∷_ Row.off (List._∷_ Row.off (List._∷_ Row.off (List._∷_ Row.off List.[])))))));
         }
 
         abbrev G26 : Row.Cx
         G26 = record {
-          locals = List._++_ t13 t1;
-          slots = List._∷_ (Row.lease (κs .0) (qs .0)) (List._∷_ (Row.lease (κs .1 .0) (qs .1 .0)) (List._∷_ (Row.lease (κs .1 .1 .0) (qs .1 .1 .0)) (List._∷_ Row.dead
+          locals = List._++_ t12 t1;
+          slots = List._∷_ (Row.lease (κs .0) (qs .0)) (List._∷_ (Row.lease (κs .1 .0) (qs .1 .0)) (List._∷_ (Row.lease (κs .1 .1 .0) (qs .1 .1 .0)) (List._∷_ Row.off
               (List._∷_ Row.off (List._∷_ Row.off (List._∷_ Row.off (List._∷_ Row.off List.[])))))));
         }
 
         abbrev G27 : Row.Cx
         G27 = record {
-          locals = List._++_ t13 t1;
-          slots = List._∷_ (Row.lease (κs .0) (qs .0)) (List._∷_ (Row.lease (κs .1 .0) (qs .1 .0)) (List._∷_ (Row.lease (κs .1 .1 .0) (qs .1 .1 .0)) (List._∷_ Row.off
-              (List._∷_ Row.off (List._∷_ Row.off (List._∷_ Row.off (List._∷_ Row.off List.[])))))));
-        }
-
-        abbrev G28 : Row.Cx
-        G28 = record {
-          locals = List._++_ t13 t1;
+          locals = List._++_ t12 t1;
           slots = List._∷_ (Row.lease (κs .0) (qs .0)) (List._∷_ (Row.lease (κs .1 .0) (qs .1 .0)) (List._∷_ (Row.lease (κs .1 .1 .0) (qs .1 .1 .0)) (List._∷_ Row.off
               (List._∷_ Row.alive (List._∷_ Row.off (List._∷_ Row.off (List._∷_ Row.off List.[])))))));
         }
 
+        abbrev G28 : Row.Cx
+        G28 = record {
+          locals = List._++_ g18 t19;
+          slots = List._∷_ (Row.lease (κs .0) (qs .0)) (List._∷_ Row.off (List._∷_ (Row.lease (κs .1 .1 .0) (qs .1 .1 .0)) (List._∷_ Row.off (List._∷_ Row.alive (List._∷_
+              Row.off (List._∷_ Row.off (List._∷_ Row.off List.[])))))));
+        }
+
         abbrev G29 : Row.Cx
         G29 = record {
-          locals = List._++_ g19 t20;
+          locals = List._++_ g18 t20;
           slots = List._∷_ (Row.lease (κs .0) (qs .0)) (List._∷_ Row.off (List._∷_ (Row.lease (κs .1 .1 .0) (qs .1 .1 .0)) (List._∷_ Row.off (List._∷_ Row.alive (List._∷_
               Row.off (List._∷_ Row.off (List._∷_ Row.off List.[])))))));
         }
 
         abbrev G30 : Row.Cx
         G30 = record {
-          locals = List._++_ g19 t21;
+          locals = List._++_ g18 t21;
           slots = List._∷_ (Row.lease (κs .0) (qs .0)) (List._∷_ Row.off (List._∷_ (Row.lease (κs .1 .1 .0) (qs .1 .1 .0)) (List._∷_ Row.off (List._∷_ Row.alive (List._∷_
               Row.off (List._∷_ Row.off (List._∷_ Row.off List.[])))))));
         }
 
         abbrev G31 : Row.Cx
         G31 = record {
-          locals = List._++_ g19 t22;
+          locals = List._++_ g18 t22;
           slots = List._∷_ (Row.lease (κs .0) (qs .0)) (List._∷_ Row.off (List._∷_ (Row.lease (κs .1 .1 .0) (qs .1 .1 .0)) (List._∷_ Row.off (List._∷_ Row.alive (List._∷_
               Row.off (List._∷_ Row.off (List._∷_ Row.off List.[])))))));
         }
 
         abbrev G32 : Row.Cx
         G32 = record {
-          locals = List._++_ g19 t23;
-          slots = List._∷_ (Row.lease (κs .0) (qs .0)) (List._∷_ Row.off (List._∷_ (Row.lease (κs .1 .1 .0) (qs .1 .1 .0)) (List._∷_ Row.off (List._∷_ Row.alive (List._∷_
+          locals = List._++_ g18 t22;
+          slots = List._∷_ (Row.lease (κs .0) (qs .0)) (List._∷_ Row.off (List._∷_ (Row.lease (κs .1 .1 .0) (qs .1 .1 .0)) (List._∷_ Row.off (List._∷_ Row.dead (List._∷_
               Row.off (List._∷_ Row.off (List._∷_ Row.off List.[])))))));
         }
 
         abbrev G33 : Row.Cx
         G33 = record {
-          locals = List._++_ g19 t23;
-          slots = List._∷_ (Row.lease (κs .0) (qs .0)) (List._∷_ Row.off (List._∷_ (Row.lease (κs .1 .1 .0) (qs .1 .1 .0)) (List._∷_ Row.off (List._∷_ Row.dead (List._∷_
-              Row.off (List._∷_ Row.off (List._∷_ Row.off List.[])))))));
+          locals = List._++_ t12 t1;
+          slots = List._∷_ (Row.lease (κs .0) (qs .0)) (List._∷_ (Row.lease (κs .1 .0) (qs .1 .0)) (List._∷_ (Row.lease (κs .1 .1 .0) (qs .1 .1 .0)) (List._∷_ Row.off
+              (List._∷_ Row.dead (List._∷_ Row.off (List._∷_ Row.off (List._∷_ Row.off List.[])))))));
         }
 
         abbrev G34 : Row.Cx
         G34 = record {
-          locals = List._++_ t13 t1;
+          locals = List._++_ t12 t1;
           slots = List._∷_ (Row.lease (κs .0) (qs .0)) (List._∷_ (Row.lease (κs .1 .0) (qs .1 .0)) (List._∷_ (Row.lease (κs .1 .1 .0) (qs .1 .1 .0)) (List._∷_ Row.off
               (List._∷_ Row.dead (List._∷_ Row.off (List._∷_ Row.off (List._∷_ Row.off List.[])))))));
         }
 
         abbrev G35 : Row.Cx
         G35 = record {
-          locals = List._++_ t13 t1;
-          slots = List._∷_ (Row.lease (κs .0) (qs .0)) (List._∷_ (Row.lease (κs .1 .0) (qs .1 .0)) (List._∷_ (Row.lease (κs .1 .1 .0) (qs .1 .1 .0)) (List._∷_ Row.off
-              (List._∷_ Row.dead (List._∷_ Row.off (List._∷_ Row.off (List._∷_ Row.off List.[])))))));
-        }
-
-        abbrev G36 : Row.Cx
-        G36 = record {
-          locals = List._++_ t13 t1;
+          locals = List._++_ t12 t1;
           slots = List._∷_ (Row.lease (κs .0) (qs .0)) (List._∷_ (Row.lease (κs .1 .0) (qs .1 .0)) (List._∷_ (Row.lease (κs .1 .1 .0) (qs .1 .1 .0)) (List._∷_ Row.off
               (List._∷_ Row.off (List._∷_ Row.off (List._∷_ Row.off (List._∷_ Row.off List.[])))))));
         }
 
-        abbrev G37 : Row.Cx
-        G37 = record {
-          locals = List._++_ t13 t1;
+        abbrev G36 : Row.Cx
+        G36 = record {
+          locals = List._++_ t12 t1;
           slots = List._∷_ (Row.lease (κs .0) (qs .0)) (List._∷_ (Row.lease (κs .1 .0) (qs .1 .0)) (List._∷_ (Row.lease (κs .1 .1 .0) (qs .1 .1 .0)) (List._∷_ Row.off
               (List._∷_ Row.off (List._∷_ Row.alive (List._∷_ Row.off (List._∷_ Row.off List.[])))))));
         }
 
+        abbrev G37 : Row.Cx
+        G37 = record {
+          locals = List._++_ g23 t24;
+          slots = List._∷_ (Row.lease (κs .0) (qs .0)) (List._∷_ (Row.lease (κs .1 .0) (qs .1 .0)) (List._∷_ Row.off (List._∷_ Row.off (List._∷_ Row.off (List._∷_ Row.alive
+              (List._∷_ Row.off (List._∷_ Row.off List.[])))))));
+        }
+
         abbrev G38 : Row.Cx
         G38 = record {
-          locals = List._++_ g24 t25;
+          locals = List._++_ g23 t25;
           slots = List._∷_ (Row.lease (κs .0) (qs .0)) (List._∷_ (Row.lease (κs .1 .0) (qs .1 .0)) (List._∷_ Row.off (List._∷_ Row.off (List._∷_ Row.off (List._∷_ Row.alive
               (List._∷_ Row.off (List._∷_ Row.off List.[])))))));
         }
 
         abbrev G39 : Row.Cx
         G39 = record {
-          locals = List._++_ g24 t26;
+          locals = List._++_ g26 t27;
           slots = List._∷_ (Row.lease (κs .0) (qs .0)) (List._∷_ (Row.lease (κs .1 .0) (qs .1 .0)) (List._∷_ Row.off (List._∷_ Row.off (List._∷_ Row.off (List._∷_ Row.alive
               (List._∷_ Row.off (List._∷_ Row.off List.[])))))));
         }
 
         abbrev G40 : Row.Cx
         G40 = record {
-          locals = List._++_ g27 t28;
-          slots = List._∷_ (Row.lease (κs .0) (qs .0)) (List._∷_ (Row.lease (κs .1 .0) (qs .1 .0)) (List._∷_ Row.off (List._∷_ Row.off (List._∷_ Row.off (List._∷_ Row.alive
+          locals = List._++_ g26 t27;
+          slots = List._∷_ (Row.lease (κs .0) (qs .0)) (List._∷_ (Row.lease (κs .1 .0) (qs .1 .0)) (List._∷_ Row.off (List._∷_ Row.off (List._∷_ Row.off (List._∷_ Row.dead
               (List._∷_ Row.off (List._∷_ Row.off List.[])))))));
         }
 
         abbrev G41 : Row.Cx
         G41 = record {
-          locals = List._++_ g27 t28;
-          slots = List._∷_ (Row.lease (κs .0) (qs .0)) (List._∷_ (Row.lease (κs .1 .0) (qs .1 .0)) (List._∷_ Row.off (List._∷_ Row.off (List._∷_ Row.off (List._∷_ Row.dead
-              (List._∷_ Row.off (List._∷_ Row.off List.[])))))));
-        }
-
-        abbrev G42 : Row.Cx
-        G42 = record {
-          locals = List._++_ t29 t1;
+          locals = List._++_ t28 t1;
           slots = List._∷_ (Row.lease (κs .0) (qs .0)) (List._∷_ (Row.lease (κs .1 .0) (qs .1 .0)) (List._∷_ (Row.lease (κs .1 .1 .0) (qs .1 .1 .0)) (List._∷_ Row.off
               (List._∷_ Row.off (List._∷_ Row.dead (List._∷_ Row.off (List._∷_ Row.off List.[])))))));
         }
 
-        abbrev G43 : Row.Cx
-        G43 = record {
-          locals = List._++_ t29 t1;
+        abbrev G42 : Row.Cx
+        G42 = record {
+          locals = List._++_ t28 t1;
           slots = List._∷_ (Row.lease (κs .0) (qs .0)) (List._∷_ (Row.lease (κs .1 .0) (qs .1 .0)) (List._∷_ (Row.lease (κs .1 .1 .0) (qs .1 .1 .0)) (List._∷_ Row.off
               (List._∷_ Row.off (List._∷_ Row.off (List._∷_ Row.off (List._∷_ Row.off List.[])))))));
         }
 
-        abbrev G44 : Row.Cx
-        G44 = record {
-          locals = List._++_ t29 t1;
+        abbrev G43 : Row.Cx
+        G43 = record {
+          locals = List._++_ t28 t1;
           slots = List._∷_ (Row.lease (κs .0) (qs .0)) (List._∷_ (Row.lease (κs .1 .0) (qs .1 .0)) (List._∷_ (Row.lease (κs .1 .1 .0) (qs .1 .1 .0)) (List._∷_ Row.off
               (List._∷_ Row.off (List._∷_ Row.off (List._∷_ Row.alive (List._∷_ Row.off List.[])))))));
         }
 
+        abbrev G44 : Row.Cx
+        G44 = record {
+          locals = List._++_ g29 t30;
+          slots = List._∷_ (Row.lease (κs .0) (qs .0)) (List._∷_ Row.off (List._∷_ (Row.lease (κs .1 .1 .0) (qs .1 .1 .0)) (List._∷_ Row.off (List._∷_ Row.off (List._∷_
+              Row.off (List._∷_ Row.alive (List._∷_ Row.off List.[])))))));
+        }
+
         abbrev G45 : Row.Cx
         G45 = record {
-          locals = List._++_ g30 t31;
+          locals = List._++_ g29 t31;
           slots = List._∷_ (Row.lease (κs .0) (qs .0)) (List._∷_ Row.off (List._∷_ (Row.lease (κs .1 .1 .0) (qs .1 .1 .0)) (List._∷_ Row.off (List._∷_ Row.off (List._∷_
               Row.off (List._∷_ Row.alive (List._∷_ Row.off List.[])))))));
         }
 
         abbrev G46 : Row.Cx
         G46 = record {
-          locals = List._++_ g30 t32;
+          locals = List._++_ g32 t33;
           slots = List._∷_ (Row.lease (κs .0) (qs .0)) (List._∷_ Row.off (List._∷_ (Row.lease (κs .1 .1 .0) (qs .1 .1 .0)) (List._∷_ Row.off (List._∷_ Row.off (List._∷_
               Row.off (List._∷_ Row.alive (List._∷_ Row.off List.[])))))));
         }
 
         abbrev G47 : Row.Cx
         G47 = record {
-          locals = List._++_ g30 t33;
+          locals = List._++_ g34 t33;
           slots = List._∷_ (Row.lease (κs .0) (qs .0)) (List._∷_ Row.off (List._∷_ (Row.lease (κs .1 .1 .0) (qs .1 .1 .0)) (List._∷_ Row.off (List._∷_ Row.off (List._∷_
               Row.off (List._∷_ Row.alive (List._∷_ Row.off List.[])))))));
         }
 
         abbrev G48 : Row.Cx
         G48 = record {
-          locals = List._++_ g34 t33;
+          locals = List._++_ g35 t33;
           slots = List._∷_ (Row.lease (κs .0) (qs .0)) (List._∷_ Row.off (List._∷_ (Row.lease (κs .1 .1 .0) (qs .1 .1 .0)) (List._∷_ Row.off (List._∷_ Row.off (List._∷_
               Row.off (List._∷_ Row.alive (List._∷_ Row.off List.[])))))));
         }
@@ -2500,403 +2431,354 @@ module _ (claims· : Claims) where
         G49 = record {
           locals = List._++_ g35 t33;
           slots = List._∷_ (Row.lease (κs .0) (qs .0)) (List._∷_ Row.off (List._∷_ (Row.lease (κs .1 .1 .0) (qs .1 .1 .0)) (List._∷_ Row.off (List._∷_ Row.off (List._∷_
-              Row.off (List._∷_ Row.alive (List._∷_ Row.off List.[])))))));
+              Row.off (List._∷_ Row.dead (List._∷_ Row.off List.[])))))));
         }
 
         abbrev G50 : Row.Cx
         G50 = record {
-          locals = List._++_ g35 t33;
-          slots = List._∷_ (Row.lease (κs .0) (qs .0)) (List._∷_ Row.off (List._∷_ (Row.lease (κs .1 .1 .0) (qs .1 .1 .0)) (List._∷_ Row.off (List._∷_ Row.off (List._∷_
-              Row.off (List._∷_ Row.dead (List._∷_ Row.off List.[])))))));
+          locals = List._++_ t36 t1;
+          slots = List._∷_ (Row.lease (κs .0) (qs .0)) (List._∷_ (Row.lease (κs .1 .0) (qs .1 .0)) (List._∷_ (Row.lease (κs .1 .1 .0) (qs .1 .1 .0)) (List._∷_ Row.off
+              (List._∷_ Row.off (List._∷_ Row.off (List._∷_ Row.dead (List._∷_ Row.off List.[])))))));
         }
 
         abbrev G51 : Row.Cx
         G51 = record {
-          locals = List._++_ t36 t37;
+          locals = List._++_ t36 t1;
           slots = List._∷_ (Row.lease (κs .0) (qs .0)) (List._∷_ (Row.lease (κs .1 .0) (qs .1 .0)) (List._∷_ (Row.lease (κs .1 .1 .0) (qs .1 .1 .0)) (List._∷_ Row.off
               (List._∷_ Row.off (List._∷_ Row.off (List._∷_ Row.dead (List._∷_ Row.off List.[])))))));
         }
 
         abbrev G52 : Row.Cx
         G52 = record {
-          locals = List._++_ t36 t37;
+          locals = List._++_ t36 t1;
           slots = List._∷_ (Row.lease (κs .0) (qs .0)) (List._∷_ (Row.lease (κs .1 .0) (qs .1 .0)) (List._∷_ (Row.lease (κs .1 .1 .0) (qs .1 .1 .0)) (List._∷_ Row.off
-              (List._∷_ Row.off (List._∷_ Row.off (List._∷_ Row.dead (List._∷_ Row.off List.[])))))));
+              (List._∷_ Row.off (List._∷_ Row.off (List._∷_ Row.off (List._∷_ Row.off List.[])))))));
         }
 
         abbrev G53 : Row.Cx
         G53 = record {
-          locals = List._++_ t36 t37;
+          locals = List._++_ t37 t1;
           slots = List._∷_ (Row.lease (κs .0) (qs .0)) (List._∷_ (Row.lease (κs .1 .0) (qs .1 .0)) (List._∷_ (Row.lease (κs .1 .1 .0) (qs .1 .1 .0)) (List._∷_ Row.off
               (List._∷_ Row.off (List._∷_ Row.off (List._∷_ Row.off (List._∷_ Row.off List.[])))))));
         }
 
         abbrev G54 : Row.Cx
         G54 = record {
-          locals = List._++_ t36 t38;
+          locals = List._++_ t37 t11;
           slots = List._∷_ (Row.lease (κs .0) (qs .0)) (List._∷_ (Row.lease (κs .1 .0) (qs .1 .0)) (List._∷_ (Row.lease (κs .1 .1 .0) (qs .1 .1 .0)) (List._∷_ Row.off
               (List._∷_ Row.off (List._∷_ Row.off (List._∷_ Row.off (List._∷_ Row.off List.[])))))));
         }
 
         abbrev G55 : Row.Cx
         G55 = record {
-          locals = List._++_ t36 t39;
+          locals = List._++_ t37 t1;
           slots = List._∷_ (Row.lease (κs .0) (qs .0)) (List._∷_ (Row.lease (κs .1 .0) (qs .1 .0)) (List._∷_ (Row.lease (κs .1 .1 .0) (qs .1 .1 .0)) (List._∷_ Row.off
               (List._∷_ Row.off (List._∷_ Row.off (List._∷_ Row.off (List._∷_ Row.off List.[])))))));
         }
 
         abbrev G56 : Row.Cx
         G56 = record {
-          locals = List._++_ t40 t38;
+          locals = List._++_ t38 t11;
           slots = List._∷_ (Row.lease (κs .0) (qs .0)) (List._∷_ (Row.lease (κs .1 .0) (qs .1 .0)) (List._∷_ (Row.lease (κs .1 .1 .0) (qs .1 .1 .0)) (List._∷_ Row.off
               (List._∷_ Row.off (List._∷_ Row.off (List._∷_ Row.off (List._∷_ Row.off List.[])))))));
         }
 
         abbrev G57 : Row.Cx
         G57 = record {
-          locals = List._++_ t41 t39;
+          locals = List._++_ t39 t11;
           slots = List._∷_ (Row.lease (κs .0) (qs .0)) (List._∷_ (Row.lease (κs .1 .0) (qs .1 .0)) (List._∷_ (Row.lease (κs .1 .1 .0) (qs .1 .1 .0)) (List._∷_ Row.off
               (List._∷_ Row.off (List._∷_ Row.off (List._∷_ Row.off (List._∷_ Row.off List.[])))))));
         }
 
         abbrev G58 : Row.Cx
         G58 = record {
-          locals = List._++_ t42 t39;
+          locals = List._++_ t40 t11;
           slots = List._∷_ (Row.lease (κs .0) (qs .0)) (List._∷_ (Row.lease (κs .1 .0) (qs .1 .0)) (List._∷_ (Row.lease (κs .1 .1 .0) (qs .1 .1 .0)) (List._∷_ Row.off
               (List._∷_ Row.off (List._∷_ Row.off (List._∷_ Row.off (List._∷_ Row.off List.[])))))));
         }
 
         abbrev G59 : Row.Cx
         G59 = record {
-          locals = List._++_ t42 t43;
+          locals = List._++_ t40 t1;
           slots = List._∷_ (Row.lease (κs .0) (qs .0)) (List._∷_ (Row.lease (κs .1 .0) (qs .1 .0)) (List._∷_ (Row.lease (κs .1 .1 .0) (qs .1 .1 .0)) (List._∷_ Row.off
               (List._∷_ Row.off (List._∷_ Row.off (List._∷_ Row.off (List._∷_ Row.off List.[])))))));
         }
 
         abbrev G60 : Row.Cx
         G60 = record {
-          locals = List._++_ t42 t44;
+          locals = List._++_ t41 t1;
           slots = List._∷_ (Row.lease (κs .0) (qs .0)) (List._∷_ (Row.lease (κs .1 .0) (qs .1 .0)) (List._∷_ (Row.lease (κs .1 .1 .0) (qs .1 .1 .0)) (List._∷_ Row.off
               (List._∷_ Row.off (List._∷_ Row.off (List._∷_ Row.off (List._∷_ Row.off List.[])))))));
         }
 
         abbrev G61 : Row.Cx
         G61 = record {
-          locals = List._++_ t45 t44;
+          locals = List._++_ t42 t1;
           slots = List._∷_ (Row.lease (κs .0) (qs .0)) (List._∷_ (Row.lease (κs .1 .0) (qs .1 .0)) (List._∷_ (Row.lease (κs .1 .1 .0) (qs .1 .1 .0)) (List._∷_ Row.off
               (List._∷_ Row.off (List._∷_ Row.off (List._∷_ Row.off (List._∷_ Row.off List.[])))))));
         }
 
         abbrev G62 : Row.Cx
         G62 = record {
-          locals = List._++_ t46 t44;
+          locals = List._++_ t43 t1;
           slots = List._∷_ (Row.lease (κs .0) (qs .0)) (List._∷_ (Row.lease (κs .1 .0) (qs .1 .0)) (List._∷_ (Row.lease (κs .1 .1 .0) (qs .1 .1 .0)) (List._∷_ Row.off
               (List._∷_ Row.off (List._∷_ Row.off (List._∷_ Row.off (List._∷_ Row.off List.[])))))));
         }
 
         abbrev G63 : Row.Cx
         G63 = record {
-          locals = List._++_ t47 t44;
+          locals = List._++_ t44 t1;
           slots = List._∷_ (Row.lease (κs .0) (qs .0)) (List._∷_ (Row.lease (κs .1 .0) (qs .1 .0)) (List._∷_ (Row.lease (κs .1 .1 .0) (qs .1 .1 .0)) (List._∷_ Row.off
               (List._∷_ Row.off (List._∷_ Row.off (List._∷_ Row.off (List._∷_ Row.off List.[])))))));
         }
 
         abbrev G64 : Row.Cx
         G64 = record {
-          locals = List._++_ t48 t44;
+          locals = List._++_ t45 t1;
           slots = List._∷_ (Row.lease (κs .0) (qs .0)) (List._∷_ (Row.lease (κs .1 .0) (qs .1 .0)) (List._∷_ (Row.lease (κs .1 .1 .0) (qs .1 .1 .0)) (List._∷_ Row.off
               (List._∷_ Row.off (List._∷_ Row.off (List._∷_ Row.off (List._∷_ Row.off List.[])))))));
         }
 
         abbrev G65 : Row.Cx
         G65 = record {
-          locals = List._++_ t49 t44;
+          locals = List._++_ t2 t1;
           slots = List._∷_ (Row.lease (κs .0) (qs .0)) (List._∷_ (Row.lease (κs .1 .0) (qs .1 .0)) (List._∷_ (Row.lease (κs .1 .1 .0) (qs .1 .1 .0)) (List._∷_ Row.off
               (List._∷_ Row.off (List._∷_ Row.off (List._∷_ Row.off (List._∷_ Row.off List.[])))))));
         }
 
         abbrev G66 : Row.Cx
         G66 = record {
-          locals = List._++_ t50 t44;
+          locals = List._++_ t37 t1;
           slots = List._∷_ (Row.lease (κs .0) (qs .0)) (List._∷_ (Row.lease (κs .1 .0) (qs .1 .0)) (List._∷_ (Row.lease (κs .1 .1 .0) (qs .1 .1 .0)) (List._∷_ Row.off
               (List._∷_ Row.off (List._∷_ Row.off (List._∷_ Row.off (List._∷_ Row.off List.[])))))));
         }
 
         abbrev G67 : Row.Cx
         G67 = record {
-          locals = List._++_ t2 t44;
+          locals = List._++_ t37 t46;
           slots = List._∷_ (Row.lease (κs .0) (qs .0)) (List._∷_ (Row.lease (κs .1 .0) (qs .1 .0)) (List._∷_ (Row.lease (κs .1 .1 .0) (qs .1 .1 .0)) (List._∷_ Row.off
               (List._∷_ Row.off (List._∷_ Row.off (List._∷_ Row.off (List._∷_ Row.off List.[])))))));
         }
 
         abbrev G68 : Row.Cx
         G68 = record {
-          locals = List._++_ t2 t1;
-          slots = List._∷_ (Row.lease (κs .0) (qs .0)) (List._∷_ (Row.lease (κs .1 .0) (qs .1 .0)) (List._∷_ (Row.lease (κs .1 .1 .0) (qs .1 .1 .0)) (List._∷_ Row.off
-              (List._∷_ Row.off (List._∷_ Row.off (List._∷_ Row.off (List._∷_ Row.off List.[])))))));
-        }
-
-        abbrev G69 : Row.Cx
-        G69 = record {
-          locals = List._++_ t40 t39;
-          slots = List._∷_ (Row.lease (κs .0) (qs .0)) (List._∷_ (Row.lease (κs .1 .0) (qs .1 .0)) (List._∷_ (Row.lease (κs .1 .1 .0) (qs .1 .1 .0)) (List._∷_ Row.off
-              (List._∷_ Row.off (List._∷_ Row.off (List._∷_ Row.off (List._∷_ Row.off List.[])))))));
-        }
-
-        abbrev G70 : Row.Cx
-        G70 = record {
-          locals = List._++_ t40 t38;
-          slots = List._∷_ (Row.lease (κs .0) (qs .0)) (List._∷_ (Row.lease (κs .1 .0) (qs .1 .0)) (List._∷_ (Row.lease (κs .1 .1 .0) (qs .1 .1 .0)) (List._∷_ Row.off
-              (List._∷_ Row.off (List._∷_ Row.off (List._∷_ Row.off (List._∷_ Row.off List.[])))))));
-        }
-
-        abbrev G71 : Row.Cx
-        G71 = record {
-          locals = List._++_ t40 t51;
-          slots = List._∷_ (Row.lease (κs .0) (qs .0)) (List._∷_ (Row.lease (κs .1 .0) (qs .1 .0)) (List._∷_ (Row.lease (κs .1 .1 .0) (qs .1 .1 .0)) (List._∷_ Row.off
-              (List._∷_ Row.off (List._∷_ Row.off (List._∷_ Row.off (List._∷_ Row.off List.[])))))));
-        }
-
-        abbrev G72 : Row.Cx
-        G72 = record {
-          locals = List._++_ t40 t51;
+          locals = List._++_ t37 t46;
           slots = List._∷_ (Row.lease (κs .0) (qs .0)) (List._∷_ (Row.lease (κs .1 .0) (qs .1 .0)) (List._∷_ (Row.lease (κs .1 .1 .0) (qs .1 .1 .0)) (List._∷_ Row.off
               (List._∷_ Row.off (List._∷_ Row.off (List._∷_ Row.off (List._∷_ Row.alive List.[])))))));
         }
 
+        abbrev G69 : Row.Cx
+        G69 = record {
+          locals = List._++_ g47 t48;
+          slots = List._∷_ (Row.lease (κs .0) (qs .0)) (List._∷_ (Row.lease (κs .1 .0) (qs .1 .0)) (List._∷_ Row.off (List._∷_ Row.off (List._∷_ Row.off (List._∷_ Row.off
+              (List._∷_ Row.off (List._∷_ Row.alive List.[])))))));
+        }
+
+        abbrev G70 : Row.Cx
+        G70 = record {
+          locals = List._++_ g47 t49;
+          slots = List._∷_ (Row.lease (κs .0) (qs .0)) (List._∷_ (Row.lease (κs .1 .0) (qs .1 .0)) (List._∷_ Row.off (List._∷_ Row.off (List._∷_ Row.off (List._∷_ Row.off
+              (List._∷_ Row.off (List._∷_ Row.alive List.[])))))));
+        }
+
+        abbrev G71 : Row.Cx
+        G71 = record {
+          locals = List._++_ g47 t50;
+          slots = List._∷_ (Row.lease (κs .0) (qs .0)) (List._∷_ (Row.lease (κs .1 .0) (qs .1 .0)) (List._∷_ Row.off (List._∷_ Row.off (List._∷_ Row.off (List._∷_ Row.off
+              (List._∷_ Row.off (List._∷_ Row.alive List.[])))))));
+        }
+
+        abbrev G72 : Row.Cx
+        G72 = record {
+          locals = List._++_ g51 t50;
+          slots = List._∷_ (Row.lease (κs .0) (qs .0)) (List._∷_ (Row.lease (κs .1 .0) (qs .1 .0)) (List._∷_ Row.off (List._∷_ Row.off (List._∷_ Row.off (List._∷_ Row.off
+              (List._∷_ Row.off (List._∷_ Row.alive List.[])))))));
+        }
+
         abbrev G73 : Row.Cx
         G73 = record {
-          locals = List._++_ g52 t53;
+          locals = List._++_ g51 t52;
           slots = List._∷_ (Row.lease (κs .0) (qs .0)) (List._∷_ (Row.lease (κs .1 .0) (qs .1 .0)) (List._∷_ Row.off (List._∷_ Row.off (List._∷_ Row.off (List._∷_ Row.off
               (List._∷_ Row.off (List._∷_ Row.alive List.[])))))));
         }
 
         abbrev G74 : Row.Cx
         G74 = record {
-          locals = List._++_ g52 t54;
+          locals = List._++_ g51 t53;
           slots = List._∷_ (Row.lease (κs .0) (qs .0)) (List._∷_ (Row.lease (κs .1 .0) (qs .1 .0)) (List._∷_ Row.off (List._∷_ Row.off (List._∷_ Row.off (List._∷_ Row.off
               (List._∷_ Row.off (List._∷_ Row.alive List.[])))))));
         }
 
         abbrev G75 : Row.Cx
         G75 = record {
-          locals = List._++_ g52 t55;
-          slots = List._∷_ (Row.lease (κs .0) (qs .0)) (List._∷_ (Row.lease (κs .1 .0) (qs .1 .0)) (List._∷_ Row.off (List._∷_ Row.off (List._∷_ Row.off (List._∷_ Row.off
-              (List._∷_ Row.off (List._∷_ Row.alive List.[])))))));
-        }
-
-        abbrev G76 : Row.Cx
-        G76 = record {
-          locals = List._++_ g56 t55;
-          slots = List._∷_ (Row.lease (κs .0) (qs .0)) (List._∷_ (Row.lease (κs .1 .0) (qs .1 .0)) (List._∷_ Row.off (List._∷_ Row.off (List._∷_ Row.off (List._∷_ Row.off
-              (List._∷_ Row.off (List._∷_ Row.alive List.[])))))));
-        }
-
-        abbrev G77 : Row.Cx
-        G77 = record {
-          locals = List._++_ g56 t57;
-          slots = List._∷_ (Row.lease (κs .0) (qs .0)) (List._∷_ (Row.lease (κs .1 .0) (qs .1 .0)) (List._∷_ Row.off (List._∷_ Row.off (List._∷_ Row.off (List._∷_ Row.off
-              (List._∷_ Row.off (List._∷_ Row.alive List.[])))))));
-        }
-
-        abbrev G78 : Row.Cx
-        G78 = record {
-          locals = List._++_ g56 t58;
-          slots = List._∷_ (Row.lease (κs .0) (qs .0)) (List._∷_ (Row.lease (κs .1 .0) (qs .1 .0)) (List._∷_ Row.off (List._∷_ Row.off (List._∷_ Row.off (List._∷_ Row.off
-              (List._∷_ Row.off (List._∷_ Row.alive List.[])))))));
-        }
-
-        abbrev G79 : Row.Cx
-        G79 = record {
-          locals = List._++_ g56 t58;
+          locals = List._++_ g51 t53;
           slots = List._∷_ (Row.lease (κs .0) (qs .0)) (List._∷_ (Row.lease (κs .1 .0) (qs .1 .0)) (List._∷_ Row.off (List._∷_ Row.off (List._∷_ Row.off (List._∷_ Row.off
               (List._∷_ Row.off (List._∷_ Row.dead List.[])))))));
         }
 
-        abbrev G80 : Row.Cx
-        G80 = record {
-          locals = List._++_ t59 t38;
+        abbrev G76 : Row.Cx
+        G76 = record {
+          locals = List._++_ t54 t1;
           slots = List._∷_ (Row.lease (κs .0) (qs .0)) (List._∷_ (Row.lease (κs .1 .0) (qs .1 .0)) (List._∷_ (Row.lease (κs .1 .1 .0) (qs .1 .1 .0)) (List._∷_ Row.off
               (List._∷_ Row.off (List._∷_ Row.off (List._∷_ Row.off (List._∷_ Row.dead List.[])))))));
         }
 
+        abbrev G77 : Row.Cx
+        G77 = record {
+          locals = List._++_ t54 t1;
+          slots = List._∷_ (Row.lease (κs .0) (qs .0)) (List._∷_ (Row.lease (κs .1 .0) (qs .1 .0)) (List._∷_ (Row.lease (κs .1 .1 .0) (qs .1 .1 .0)) (List._∷_ Row.off
+              (List._∷_ Row.off (List._∷_ Row.off (List._∷_ Row.off (List._∷_ Row.off List.[])))))));
+        }
+
+        abbrev G78 : Row.Cx
+        G78 = record {
+          locals = List._++_ t55 t1;
+          slots = List._∷_ (Row.lease (κs .0) (qs .0)) (List._∷_ (Row.lease (κs .1 .0) (qs .1 .0)) (List._∷_ (Row.lease (κs .1 .1 .0) (qs .1 .1 .0)) (List._∷_ Row.off
+              (List._∷_ Row.off (List._∷_ Row.off (List._∷_ Row.off (List._∷_ Row.off List.[])))))));
+        }
+
+        abbrev G79 : Row.Cx
+        G79 = record {
+          locals = List._++_ t56 t1;
+          slots = List._∷_ (Row.lease (κs .0) (qs .0)) (List._∷_ (Row.lease (κs .1 .0) (qs .1 .0)) (List._∷_ (Row.lease (κs .1 .1 .0) (qs .1 .1 .0)) (List._∷_ Row.off
+              (List._∷_ Row.off (List._∷_ Row.off (List._∷_ Row.off (List._∷_ Row.off List.[])))))));
+        }
+
+        abbrev G80 : Row.Cx
+        G80 = record {
+          locals = List._++_ t56 t1;
+          slots = List._∷_ (Row.lease (κs .0) (qs .0)) (List._∷_ (Row.lease (κs .1 .0) (qs .1 .0)) (List._∷_ (Row.lease (κs .1 .1 .0) (qs .1 .1 .0)) (List._∷_ Row.off
+              (List._∷_ Row.off (List._∷_ Row.off (List._∷_ Row.off (List._∷_ Row.off List.[])))))));
+        }
+
         abbrev G81 : Row.Cx
         G81 = record {
-          locals = List._++_ t59 t38;
+          locals = List._++_ t9 t1;
           slots = List._∷_ (Row.lease (κs .0) (qs .0)) (List._∷_ (Row.lease (κs .1 .0) (qs .1 .0)) (List._∷_ (Row.lease (κs .1 .1 .0) (qs .1 .1 .0)) (List._∷_ Row.off
               (List._∷_ Row.off (List._∷_ Row.off (List._∷_ Row.off (List._∷_ Row.off List.[])))))));
         }
 
         abbrev G82 : Row.Cx
         G82 = record {
-          locals = List._++_ t60 t38;
+          locals = List._++_ t10 t57;
           slots = List._∷_ (Row.lease (κs .0) (qs .0)) (List._∷_ (Row.lease (κs .1 .0) (qs .1 .0)) (List._∷_ (Row.lease (κs .1 .1 .0) (qs .1 .1 .0)) (List._∷_ Row.off
               (List._∷_ Row.off (List._∷_ Row.off (List._∷_ Row.off (List._∷_ Row.off List.[])))))));
         }
 
         abbrev G83 : Row.Cx
         G83 = record {
-          locals = List._++_ t10 t38;
+          locals = List._++_ t10 t58;
           slots = List._∷_ (Row.lease (κs .0) (qs .0)) (List._∷_ (Row.lease (κs .1 .0) (qs .1 .0)) (List._∷_ (Row.lease (κs .1 .1 .0) (qs .1 .1 .0)) (List._∷_ Row.off
               (List._∷_ Row.off (List._∷_ Row.off (List._∷_ Row.off (List._∷_ Row.off List.[])))))));
         }
 
         abbrev G84 : Row.Cx
         G84 = record {
-          locals = List._++_ t10 t44;
+          locals = List._++_ t10 t1;
           slots = List._∷_ (Row.lease (κs .0) (qs .0)) (List._∷_ (Row.lease (κs .1 .0) (qs .1 .0)) (List._∷_ (Row.lease (κs .1 .1 .0) (qs .1 .1 .0)) (List._∷_ Row.off
               (List._∷_ Row.off (List._∷_ Row.off (List._∷_ Row.off (List._∷_ Row.off List.[])))))));
         }
 
         abbrev G85 : Row.Cx
         G85 = record {
-          locals = List._++_ t10 t44;
+          locals = List._++_ t10 t59;
           slots = List._∷_ (Row.lease (κs .0) (qs .0)) (List._∷_ (Row.lease (κs .1 .0) (qs .1 .0)) (List._∷_ (Row.lease (κs .1 .1 .0) (qs .1 .1 .0)) (List._∷_ Row.off
               (List._∷_ Row.off (List._∷_ Row.off (List._∷_ Row.off (List._∷_ Row.off List.[])))))));
         }
 
         abbrev G86 : Row.Cx
         G86 = record {
-          locals = List._++_ t10 t1;
+          locals = List._++_ t60 t59;
           slots = List._∷_ (Row.lease (κs .0) (qs .0)) (List._∷_ (Row.lease (κs .1 .0) (qs .1 .0)) (List._∷_ (Row.lease (κs .1 .1 .0) (qs .1 .1 .0)) (List._∷_ Row.off
               (List._∷_ Row.off (List._∷_ Row.off (List._∷_ Row.off (List._∷_ Row.off List.[])))))));
         }
 
         abbrev G87 : Row.Cx
         G87 = record {
-          locals = List._++_ t11 t61;
+          locals = List._++_ t60 t1;
           slots = List._∷_ (Row.lease (κs .0) (qs .0)) (List._∷_ (Row.lease (κs .1 .0) (qs .1 .0)) (List._∷_ (Row.lease (κs .1 .1 .0) (qs .1 .1 .0)) (List._∷_ Row.off
               (List._∷_ Row.off (List._∷_ Row.off (List._∷_ Row.off (List._∷_ Row.off List.[])))))));
         }
 
         abbrev G88 : Row.Cx
         G88 = record {
-          locals = List._++_ t11 t1;
+          locals = List._++_ t61 t1;
           slots = List._∷_ (Row.lease (κs .0) (qs .0)) (List._∷_ (Row.lease (κs .1 .0) (qs .1 .0)) (List._∷_ (Row.lease (κs .1 .1 .0) (qs .1 .1 .0)) (List._∷_ Row.off
               (List._∷_ Row.off (List._∷_ Row.off (List._∷_ Row.off (List._∷_ Row.off List.[])))))));
         }
 
         abbrev G89 : Row.Cx
         G89 = record {
-          locals = List._++_ t42 t61;
+          locals = List._++_ t62 t1;
           slots = List._∷_ (Row.lease (κs .0) (qs .0)) (List._∷_ (Row.lease (κs .1 .0) (qs .1 .0)) (List._∷_ (Row.lease (κs .1 .1 .0) (qs .1 .1 .0)) (List._∷_ Row.off
               (List._∷_ Row.off (List._∷_ Row.off (List._∷_ Row.off (List._∷_ Row.off List.[])))))));
         }
 
         abbrev G90 : Row.Cx
         G90 = record {
-          locals = List._++_ t42 t1;
+          locals = List._++_ t63 t1;
           slots = List._∷_ (Row.lease (κs .0) (qs .0)) (List._∷_ (Row.lease (κs .1 .0) (qs .1 .0)) (List._∷_ (Row.lease (κs .1 .1 .0) (qs .1 .1 .0)) (List._∷_ Row.off
               (List._∷_ Row.off (List._∷_ Row.off (List._∷_ Row.off (List._∷_ Row.off List.[])))))));
         }
 
         abbrev G91 : Row.Cx
         G91 = record {
-          locals = List._++_ t45 t1;
+          locals = List._++_ t64 t1;
           slots = List._∷_ (Row.lease (κs .0) (qs .0)) (List._∷_ (Row.lease (κs .1 .0) (qs .1 .0)) (List._∷_ (Row.lease (κs .1 .1 .0) (qs .1 .1 .0)) (List._∷_ Row.off
               (List._∷_ Row.off (List._∷_ Row.off (List._∷_ Row.off (List._∷_ Row.off List.[])))))));
         }
 
         abbrev G92 : Row.Cx
         G92 = record {
-          locals = List._++_ t46 t1;
+          locals = List._++_ t2 t1;
           slots = List._∷_ (Row.lease (κs .0) (qs .0)) (List._∷_ (Row.lease (κs .1 .0) (qs .1 .0)) (List._∷_ (Row.lease (κs .1 .1 .0) (qs .1 .1 .0)) (List._∷_ Row.off
               (List._∷_ Row.off (List._∷_ Row.off (List._∷_ Row.off (List._∷_ Row.off List.[])))))));
         }
 
         abbrev G93 : Row.Cx
         G93 = record {
-          locals = List._++_ t47 t1;
+          locals = List._++_ t10 t1;
           slots = List._∷_ (Row.lease (κs .0) (qs .0)) (List._∷_ (Row.lease (κs .1 .0) (qs .1 .0)) (List._∷_ (Row.lease (κs .1 .1 .0) (qs .1 .1 .0)) (List._∷_ Row.off
               (List._∷_ Row.off (List._∷_ Row.off (List._∷_ Row.off (List._∷_ Row.off List.[])))))));
         }
 
         abbrev G94 : Row.Cx
         G94 = record {
-          locals = List._++_ t48 t1;
+          locals = List._++_ t65 t1;
           slots = List._∷_ (Row.lease (κs .0) (qs .0)) (List._∷_ (Row.lease (κs .1 .0) (qs .1 .0)) (List._∷_ (Row.lease (κs .1 .1 .0) (qs .1 .1 .0)) (List._∷_ Row.off
               (List._∷_ Row.off (List._∷_ Row.off (List._∷_ Row.off (List._∷_ Row.off List.[])))))));
         }
 
         abbrev G95 : Row.Cx
         G95 = record {
-          locals = List._++_ t49 t1;
+          locals = List._++_ t66 t1;
           slots = List._∷_ (Row.lease (κs .0) (qs .0)) (List._∷_ (Row.lease (κs .1 .0) (qs .1 .0)) (List._∷_ (Row.lease (κs .1 .1 .0) (qs .1 .1 .0)) (List._∷_ Row.off
               (List._∷_ Row.off (List._∷_ Row.off (List._∷_ Row.off (List._∷_ Row.off List.[])))))));
         }
 
         abbrev G96 : Row.Cx
         G96 = record {
-          locals = List._++_ t50 t1;
+          locals = List._++_ t67 t1;
           slots = List._∷_ (Row.lease (κs .0) (qs .0)) (List._∷_ (Row.lease (κs .1 .0) (qs .1 .0)) (List._∷_ (Row.lease (κs .1 .1 .0) (qs .1 .1 .0)) (List._∷_ Row.off
               (List._∷_ Row.off (List._∷_ Row.off (List._∷_ Row.off (List._∷_ Row.off List.[])))))));
         }
 
         abbrev G97 : Row.Cx
         G97 = record {
-          locals = List._++_ t2 t1;
+          locals = List._++_ t68 t1;
           slots = List._∷_ (Row.lease (κs .0) (qs .0)) (List._∷_ (Row.lease (κs .1 .0) (qs .1 .0)) (List._∷_ (Row.lease (κs .1 .1 .0) (qs .1 .1 .0)) (List._∷_ Row.off
               (List._∷_ Row.off (List._∷_ Row.off (List._∷_ Row.off (List._∷_ Row.off List.[])))))));
         }
 
         abbrev G98 : Row.Cx
         G98 = record {
-          locals = List._++_ t11 t1;
+          locals = List._++_ t64 t1;
           slots = List._∷_ (Row.lease (κs .0) (qs .0)) (List._∷_ (Row.lease (κs .1 .0) (qs .1 .0)) (List._∷_ (Row.lease (κs .1 .1 .0) (qs .1 .1 .0)) (List._∷_ Row.off
               (List._∷_ Row.off (List._∷_ Row.off (List._∷_ Row.off (List._∷_ Row.off List.[])))))));
         }
 
         abbrev G99 : Row.Cx
         G99 = record {
-          locals = List._++_ t62 t1;
-          slots = List._∷_ (Row.lease (κs .0) (qs .0)) (List._∷_ (Row.lease (κs .1 .0) (qs .1 .0)) (List._∷_ (Row.lease (κs .1 .1 .0) (qs .1 .1 .0)) (List._∷_ Row.off
-              (List._∷_ Row.off (List._∷_ Row.off (List._∷_ Row.off (List._∷_ Row.off List.[])))))));
-        }
-
-        abbrev G100 : Row.Cx
-        G100 = record {
-          locals = List._++_ t63 t1;
-          slots = List._∷_ (Row.lease (κs .0) (qs .0)) (List._∷_ (Row.lease (κs .1 .0) (qs .1 .0)) (List._∷_ (Row.lease (κs .1 .1 .0) (qs .1 .1 .0)) (List._∷_ Row.off
-              (List._∷_ Row.off (List._∷_ Row.off (List._∷_ Row.off (List._∷_ Row.off List.[])))))));
-        }
-
-        abbrev G101 : Row.Cx
-        G101 = record {
-          locals = List._++_ t64 t1;
-          slots = List._∷_ (Row.lease (κs .0) (qs .0)) (List._∷_ (Row.lease (κs .1 .0) (qs .1 .0)) (List._∷_ (Row.lease (κs .1 .1 .0) (qs .1 .1 .0)) (List._∷_ Row.off
-              (List._∷_ Row.off (List._∷_ Row.off (List._∷_ Row.off (List._∷_ Row.off List.[])))))));
-        }
-
-        abbrev G102 : Row.Cx
-        G102 = record {
-          locals = List._++_ t65 t1;
-          slots = List._∷_ (Row.lease (κs .0) (qs .0)) (List._∷_ (Row.lease (κs .1 .0) (qs .1 .0)) (List._∷_ (Row.lease (κs .1 .1 .0) (qs .1 .1 .0)) (List._∷_ Row.off
-              (List._∷_ Row.off (List._∷_ Row.off (List._∷_ Row.off (List._∷_ Row.off List.[])))))));
-        }
-
-        abbrev G103 : Row.Cx
-        G103 = record {
-          locals = List._++_ t66 t1;
-          slots = List._∷_ (Row.lease (κs .0) (qs .0)) (List._∷_ (Row.lease (κs .1 .0) (qs .1 .0)) (List._∷_ (Row.lease (κs .1 .1 .0) (qs .1 .1 .0)) (List._∷_ Row.off
-              (List._∷_ Row.off (List._∷_ Row.off (List._∷_ Row.off (List._∷_ Row.off List.[])))))));
-        }
-
-        abbrev G104 : Row.Cx
-        G104 = record {
-          locals = List._++_ t67 t1;
-          slots = List._∷_ (Row.lease (κs .0) (qs .0)) (List._∷_ (Row.lease (κs .1 .0) (qs .1 .0)) (List._∷_ (Row.lease (κs .1 .1 .0) (qs .1 .1 .0)) (List._∷_ Row.off
-              (List._∷_ Row.off (List._∷_ Row.off (List._∷_ Row.off (List._∷_ Row.off List.[])))))));
-        }
-
-        abbrev G105 : Row.Cx
-        G105 = record {
-          locals = List._++_ t68 t1;
-          slots = List._∷_ (Row.lease (κs .0) (qs .0)) (List._∷_ (Row.lease (κs .1 .0) (qs .1 .0)) (List._∷_ (Row.lease (κs .1 .1 .0) (qs .1 .1 .0)) (List._∷_ Row.off
-              (List._∷_ Row.off (List._∷_ Row.off (List._∷_ Row.off (List._∷_ Row.off List.[])))))));
-        }
-
-        abbrev G106 : Row.Cx
-        G106 = record {
           locals = List._++_ t2 t1;
           slots = List._∷_ (Row.lease (κs .0) (qs .0)) (List._∷_ (Row.lease (κs .1 .0) (qs .1 .0)) (List._∷_ (Row.lease (κs .1 .1 .0) (qs .1 .1 .0)) (List._∷_ Row.off
               (List._∷_ Row.off (List._∷_ Row.off (List._∷_ Row.off (List._∷_ Row.off List.[])))))));
@@ -2906,188 +2788,170 @@ module _ (claims· : Claims) where
         Δ0 = record { next = Option.none; exits = List.[]; returns = Option.some G1 }
 
         abbrev Δ1 : Typed.Outs
-        Δ1 = Typed.withNext (Option.some G12) Δ0
+        Δ1 = Typed.withNext (Option.some G11) Δ0
 
         abbrev Δ2 : Typed.Outs
         Δ2 = Typed.inBlock₀ Δ1
 
         abbrev Δ3 : Typed.Outs
-        Δ3 = Typed.inLoop₀ G11 Δ2
+        Δ3 = Typed.inLoop₀ G10 Δ2
 
         abbrev Δ4 : Typed.Outs
-        Δ4 = Typed.withNext (Option.some G14) Δ3
+        Δ4 = Typed.withNext (Option.some G13) Δ3
 
         abbrev Δ5 : Typed.Outs
-        Δ5 = Typed.withNext (Option.some G56) Δ3
+        Δ5 = Typed.withNext (Option.some G55) Δ3
 
         abbrev Δ6 : Typed.Outs
-        Δ6 = Typed.withNext (Option.some G88) Δ0
+        Δ6 = Typed.withNext (Option.some G84) Δ0
 
         module _ {M : Type 1} (𝓤 : URA.URA M) (H : Wp.Heap 𝓤) (A : Atoms.Atoms 𝓤) (W : Kit.Given 𝓤 H A) (𝓣 : Wp.Tables 𝓤 H) (known : Knowns 𝓤 H A W 𝓣) (bs : List.List Nat.ℕ) (bd : Lifetimes.AllOutlive
             3 (Kinds.osR r) κs) where
           abbrev E : Wp.Env 𝓤 H
           E = Frame.EnvOf 𝓤 H (List._∷_ (Kinds.tyR r) (Enter.tysP ps xs)) bs
 
-          d0 : Typed.Typed 𝓤 H A 𝓣 E G15 b7 Δ4 (at0 bs)
+          d0 : Typed.Typed 𝓤 H A 𝓣 E G14 b6 Δ4 (at0 bs)
           d0 = Typed.t-skip 𝓤 H A W 𝓣 E Δ4 tt
 
-          d1 : Typed.Typed 𝓤 H A 𝓣 E G13 b7 Δ4 (at1 bs)
-          d1 = Typed.g-pre 𝓤 H A W 𝓣 E G13 G15 b7 Δ4 (Typed.pass T13 T15 (s11 bs)) (at0 bs) (Scalar.g-room 𝓤 H A W E G13 19 Syntax.tyBool (Scalar.room-sc 𝓤 H A W Row.sBool)) d0
+          d1 : Typed.Typed 𝓤 H A 𝓣 E G12 b6 Δ4 (at1 bs)
+          d1 = Typed.g-pre 𝓤 H A W 𝓣 E G12 G14 b6 Δ4 (Typed.pass T12 T14 (s10 bs)) (at0 bs) (Scalar.g-room 𝓤 H A W E G12 18 Syntax.tyBool (Scalar.room-sc 𝓤 H A W Row.sBool)) d0
 
-          d2 : Typed.Typed 𝓤 H A 𝓣 E G17 b8 Δ4 (at2 bs)
+          d2 : Typed.Typed 𝓤 H A 𝓣 E G16 b7 Δ4 (at2 bs)
           d2 = Typed.t-exit 𝓤 H A W 𝓣 E 1 Δ4 tt
 
-          d3 : Typed.Typed 𝓤 H A 𝓣 E G16 b8 Δ4 (at3 bs)
-          d3 = Typed.g-pre 𝓤 H A W 𝓣 E G16 G17 b8 Δ4 (Typed.pass T16 T17 (s13 bs)) (at2 bs) (Scalar.g-room 𝓤 H A W E G16 19 Syntax.tyBool (Scalar.room-sc 𝓤 H A W Row.sBool)) d2
+          d3 : Typed.Typed 𝓤 H A 𝓣 E G15 b7 Δ4 (at3 bs)
+          d3 = Typed.g-pre 𝓤 H A W 𝓣 E G15 G16 b7 Δ4 (Typed.pass T15 T16 (s12 bs)) (at2 bs) (Scalar.g-room 𝓤 H A W E G15 18 Syntax.tyBool (Scalar.room-sc 𝓤 H A W Row.sBool)) d2
 
-          d4 : Typed.Typed 𝓤 H A 𝓣 E G13 b8 Δ4 (at4 bs)
-          d4 = Typed.g-pre 𝓤 H A W 𝓣 E G13 G16 b8 Δ4 (Typed.pass T13 T16 (s12 bs)) (at3 bs) (Scalar.g-room 𝓤 H A W E G13 7 y1 (Local.room-whole 𝓤 H A W (Declared'.row Quantisers.the-type) y1
+          d4 : Typed.Typed 𝓤 H A 𝓣 E G12 b7 Δ4 (at4 bs)
+          d4 = Typed.g-pre 𝓤 H A W 𝓣 E G12 G15 b7 Δ4 (Typed.pass T12 T15 (s11 bs)) (at3 bs) (Scalar.g-room 𝓤 H A W E G12 6 y1 (Local.room-whole 𝓤 H A W (Declared'.row Quantisers.the-type) y1
               Path'.refl)) d3
 
-          d5 : Typed.Typed 𝓤 H A 𝓣 E G13 b9 Δ4 (at5 bs)
-          d5 = Scalar.t-cond 𝓤 H A W E 𝓣 G13 19 (λ x. x) b7 b8 Δ4 (at1 bs) (at4 bs) (Scalar.reads-sc 𝓤 H A W Row.sBool) Path'.refl d1 d4
+          d5 : Typed.Typed 𝓤 H A 𝓣 E G12 b8 Δ4 (at5 bs)
+          d5 = Scalar.t-cond 𝓤 H A W E 𝓣 G12 18 (λ x. x) b6 b7 Δ4 (at1 bs) (at4 bs) (Scalar.reads-sc 𝓤 H A W Row.sBool) Path'.refl d1 d4
 
-          d6 : Typed.Typed 𝓤 H A 𝓣 E G68 b26 Δ5 (at6 bs)
+          d6 : Typed.Typed 𝓤 H A 𝓣 E G65 b25 Δ5 (at6 bs)
           d6 = Typed.t-return 𝓤 H A W 𝓣 E Δ5 tt
 
-          d7 : Typed.Typed 𝓤 H A 𝓣 E G67 b26 Δ5 (at7 bs)
-          d7 = Typed.g-pre 𝓤 H A W 𝓣 E G67 G68 b26 Δ5 (Typed.pass T67 T68 (s63 bs)) (at6 bs) (Scalar.g-room 𝓤 H A W E G67 17 Syntax.tyBool (Scalar.room-sc 𝓤 H A W Row.sBool)) d6
+          d7 : Typed.Typed 𝓤 H A 𝓣 E G64 b25 Δ5 (at7 bs)
+          d7 = Typed.g-pre 𝓤 H A W 𝓣 E G64 G65 b25 Δ5 (Typed.pass T64 T65 (s60 bs)) (at6 bs) (Scalar.g-room 𝓤 H A W E G64 15 Syntax.tyBool (Scalar.room-sc 𝓤 H A W Row.sBool)) d6
 
-          d8 : Typed.Typed 𝓤 H A 𝓣 E G66 b26 Δ5 (at8 bs)
-          d8 = Typed.g-pre 𝓤 H A W 𝓣 E G66 G67 b26 Δ5 (Typed.pass T66 T67 (s62 bs)) (at7 bs) (Scalar.g-room 𝓤 H A W E G66 13 (Syntax.tyInt Syntax.w64) (Scalar.room-sc 𝓤 H A W (Row.sInt Syntax.w64)))
+          d8 : Typed.Typed 𝓤 H A 𝓣 E G63 b25 Δ5 (at8 bs)
+          d8 = Typed.g-pre 𝓤 H A W 𝓣 E G63 G64 b25 Δ5 (Typed.pass T63 T64 (s59 bs)) (at7 bs) (Scalar.g-room 𝓤 H A W E G63 11 (Syntax.tyInt Syntax.w64) (Scalar.room-sc 𝓤 H A W (Row.sInt Syntax.w64)))
               d7
 
-          d9 : Typed.Typed 𝓤 H A 𝓣 E G65 b26 Δ5 (at9 bs)
-          d9 = Typed.g-pre 𝓤 H A W 𝓣 E G65 G66 b26 Δ5 (Typed.pass T65 T66 (s61 bs)) (at8 bs) (Scalar.g-room 𝓤 H A W E G65 12 Syntax.tyBool (Scalar.room-sc 𝓤 H A W Row.sBool)) d8
+          d9 : Typed.Typed 𝓤 H A 𝓣 E G62 b25 Δ5 (at9 bs)
+          d9 = Typed.g-pre 𝓤 H A W 𝓣 E G62 G63 b25 Δ5 (Typed.pass T62 T63 (s58 bs)) (at8 bs) (Scalar.g-room 𝓤 H A W E G62 9 (Syntax.tyInt Syntax.w64) (Scalar.room-sc 𝓤 H A W (Row.sInt Syntax.w64))) d8
 
-          d10 : Typed.Typed 𝓤 H A 𝓣 E G64 b26 Δ5 (at10 bs)
-          d10 = Typed.g-pre 𝓤 H A W 𝓣 E G64 G65 b26 Δ5 (Typed.pass T64 T65 (s60 bs)) (at9 bs) (Scalar.g-room 𝓤 H A W E G64 10 (Syntax.tyInt Syntax.w64) (Scalar.room-sc 𝓤 H A W (Row.sInt Syntax.w64)))
-              d9
+          d10 : Typed.Typed 𝓤 H A 𝓣 E G61 b25 Δ5 (at10 bs)
+          d10 = Typed.g-pre 𝓤 H A W 𝓣 E G61 G62 b25 Δ5 (Typed.pass T61 T62 (s57 bs)) (at9 bs) (Scalar.g-room 𝓤 H A W E G61 8 Syntax.tyBool (Scalar.room-sc 𝓤 H A W Row.sBool)) d9
 
-          d11 : Typed.Typed 𝓤 H A 𝓣 E G63 b26 Δ5 (at11 bs)
-          d11 = Typed.g-pre 𝓤 H A W 𝓣 E G63 G64 b26 Δ5 (Typed.pass T63 T64 (s59 bs)) (at10 bs) (Scalar.g-room 𝓤 H A W E G63 9 Syntax.tyBool (Scalar.room-sc 𝓤 H A W Row.sBool)) d10
+          d11 : Typed.Typed 𝓤 H A 𝓣 E G60 b25 Δ5 (at11 bs)
+          d11 = Typed.g-pre 𝓤 H A W 𝓣 E G60 G61 b25 Δ5 (Typed.pass T60 T61 (s56 bs)) (at10 bs) (Scalar.g-room 𝓤 H A W E G60 7 (Syntax.tyInt Syntax.w32) (Scalar.room-sc 𝓤 H A W (Row.sInt Syntax.w32)))
+              d10
 
-          d12 : Typed.Typed 𝓤 H A 𝓣 E G62 b26 Δ5 (at12 bs)
-          d12 = Typed.g-pre 𝓤 H A W 𝓣 E G62 G63 b26 Δ5 (Typed.pass T62 T63 (s58 bs)) (at11 bs) (Scalar.g-room 𝓤 H A W E G62 8 (Syntax.tyInt Syntax.w32) (Scalar.room-sc 𝓤 H A W (Row.sInt Syntax.w32)))
-              d11
-
-          d13 : Typed.Typed 𝓤 H A 𝓣 E G61 b26 Δ5 (at13 bs)
-          d13 = Typed.g-pre 𝓤 H A W 𝓣 E G61 G62 b26 Δ5 (Typed.pass T61 T62 (s57 bs)) (at12 bs) (Scalar.g-room 𝓤 H A W E G61 3 Syntax.tyBool (Scalar.room-sc 𝓤 H A W Row.sBool)) d12
-
-          d14 : Typed.Typed 𝓤 H A 𝓣 E G60 b27 Δ5 (at14 bs)
-          d14 = Typed.s-seq 𝓤 H A W 𝓣 E G60 G61 b25 b26 Δ5 (Typed.pass T60 T61 (s56 bs)) (at13 bs) (Make.t-enum-make-wt 𝓤 H A W E 𝓣 Lined.the-type Laws''.the-laws Laws''.the-plain tt G60 0 (List._∷_
+          d12 : Typed.Typed 𝓤 H A 𝓣 E G59 b26 Δ5 (at12 bs)
+          d12 = Typed.s-seq 𝓤 H A W 𝓣 E G59 G60 b24 b25 Δ5 (Typed.pass T59 T60 (s55 bs)) (at11 bs) (Make.t-enum-make-wt 𝓤 H A W E 𝓣 Lined.the-type Laws''.the-laws Laws''.the-plain tt G59 0 (List._∷_
               (Scalar.oInt Syntax.w8 1) List.[]) (λ m. Lined.enum .make (Logic.inr (Logic.inl tt))) (Reads'.room-gone 𝓤 H A (Syntax.tyEnum (List._∷_ 98 (List._∷_ 108 (List._∷_ 111 (List._∷_ 99 (List._∷_
-              107 (List._∷_ 58 (List._∷_ 58 (List._∷_ 76 (List._∷_ 105 (List._∷_ 110 (List._∷_ 101 (List._∷_ 100 List.[])))))))))))) (Syntax.ttcons (Syntax.tcons y5 (Syntax.tcons Syntax.tyBool
-              Syntax.tnil)) (Syntax.ttcons Syntax.tnil Syntax.ttnil)))) (tt, tt) Path'.refl (λ m wa. Make.made-val Lined.the-type Laws''.the-laws List.[] (Lined.enum .make (Logic.inr (Logic.inl tt))) tt
-              (wa .1)) λ m wa. Make.made-is Lined.the-type Laws''.the-laws List.[] (Lined.enum .make (Logic.inr (Logic.inl tt))) tt (wa .1)) d13
+              107 (List._∷_ 58 (List._∷_ 58 (List._∷_ 76 (List._∷_ 105 (List._∷_ 110 (List._∷_ 101 (List._∷_ 100 List.[])))))))))))) (Syntax.ttcons (Syntax.tcons y7 Syntax.tnil) (Syntax.ttcons Syntax.tnil
+              Syntax.ttnil)))) (tt, tt) Path'.refl (λ m wa. Make.made-val Lined.the-type Laws''.the-laws List.[] (Lined.enum .make (Logic.inr (Logic.inl tt))) tt (wa .1)) λ m wa. Make.made-is
+              Lined.the-type Laws''.the-laws List.[] (Lined.enum .make (Logic.inr (Logic.inl tt))) tt (wa .1)) d11
 
-          d15 : Typed.Typed 𝓤 H A 𝓣 E G59 b27 Δ5 (at15 bs)
-          d15 = Typed.g-pre 𝓤 H A W 𝓣 E G59 G60 b27 Δ5 (Typed.pass T59 T60 (s55 bs)) (at14 bs) (Scalar.g-room 𝓤 H A W E G59 19 Syntax.tyBool (Scalar.room-sc 𝓤 H A W Row.sBool)) d14
+          d13 : Typed.Typed 𝓤 H A 𝓣 E G58 b26 Δ5 (at13 bs)
+          d13 = Typed.g-pre 𝓤 H A W 𝓣 E G58 G59 b26 Δ5 (Typed.pass T58 T59 (s54 bs)) (at12 bs) (Scalar.g-room 𝓤 H A W E G58 18 Syntax.tyBool (Scalar.room-sc 𝓤 H A W Row.sBool)) d12
 
-          d16 : Typed.Typed 𝓤 H A 𝓣 E G58 b27 Δ5 (at16 bs)
-          d16 = Typed.g-pre 𝓤 H A W 𝓣 E G58 G59 b27 Δ5 (Typed.pass T58 T59 (s54 bs)) (at15 bs) (Scalar.g-room 𝓤 H A W E G58 16 y7 (Local.room-whole 𝓤 H A W (Declared'.row Passed.the-type) y7
+          d14 : Typed.Typed 𝓤 H A 𝓣 E G57 b26 Δ5 (at14 bs)
+          d14 = Typed.g-pre 𝓤 H A W 𝓣 E G57 G58 b26 Δ5 (Typed.pass T57 T58 (s53 bs)) (at13 bs) (Scalar.g-room 𝓤 H A W E G57 14 y8 (Local.room-whole 𝓤 H A W (Declared'.row Passed.the-type) y8
+              Path'.refl)) d13
+
+          d15 : Typed.Typed 𝓤 H A 𝓣 E G56 b26 Δ5 (at15 bs)
+          d15 = Typed.g-pre 𝓤 H A W 𝓣 E G56 G57 b26 Δ5 (Typed.pass T56 T57 (s52 bs)) (at14 bs) (Scalar.g-room 𝓤 H A W E G56 12 y0 (Local.room-whole 𝓤 H A W (Declared'.row Plan.the-type) y0
+              Path'.refl)) d14
+
+          d16 : Typed.Typed 𝓤 H A 𝓣 E G54 b26 Δ5 (at16 bs)
+          d16 = Typed.g-pre 𝓤 H A W 𝓣 E G54 G56 b26 Δ5 (Typed.pass T54 T56 (s51 bs)) (at15 bs) (Scalar.g-room 𝓤 H A W E G54 6 y1 (Local.room-whole 𝓤 H A W (Declared'.row Quantisers.the-type) y1
               Path'.refl)) d15
 
-          d17 : Typed.Typed 𝓤 H A 𝓣 E G57 b27 Δ5 (at17 bs)
-          d17 = Typed.g-pre 𝓤 H A W 𝓣 E G57 G58 b27 Δ5 (Typed.pass T57 T58 (s53 bs)) (at16 bs) (Scalar.g-room 𝓤 H A W E G57 14 y0 (Local.room-whole 𝓤 H A W (Declared'.row Plan.the-type) y0
-              Path'.refl)) d16
+          d17 : Typed.Typed 𝓤 H A 𝓣 E G66 b27 Δ5 (at17 bs)
+          d17 = Typed.t-skip 𝓤 H A W 𝓣 E Δ5 tt
 
-          d18 : Typed.Typed 𝓤 H A 𝓣 E G55 b27 Δ5 (at18 bs)
-          d18 = Typed.g-pre 𝓤 H A W 𝓣 E G55 G57 b27 Δ5 (Typed.pass T55 T57 (s52 bs)) (at17 bs) (Scalar.g-room 𝓤 H A W E G55 7 y1 (Local.room-whole 𝓤 H A W (Declared'.row Quantisers.the-type) y1
-              Path'.refl)) d17
+          d18 : Typed.Typed 𝓤 H A 𝓣 E G54 b27 Δ5 (at18 bs)
+          d18 = Typed.g-pre 𝓤 H A W 𝓣 E G54 G66 b27 Δ5 (Typed.pass T54 T66 (s61 bs)) (at17 bs) (Scalar.g-room 𝓤 H A W E G54 18 Syntax.tyBool (Scalar.room-sc 𝓤 H A W Row.sBool)) d17
 
-          d19 : Typed.Typed 𝓤 H A 𝓣 E G70 b28 Δ5 (at19 bs)
-          d19 = Typed.t-skip 𝓤 H A W 𝓣 E Δ5 tt
+          d19 : Typed.Typed 𝓤 H A 𝓣 E G54 b28 Δ5 (at19 bs)
+          d19 = Scalar.t-cond 𝓤 H A W E 𝓣 G54 18 (λ x. x) b26 b27 Δ5 (at16 bs) (at18 bs) (Scalar.reads-sc 𝓤 H A W Row.sBool) Path'.refl d16 d18
 
-          d20 : Typed.Typed 𝓤 H A 𝓣 E G69 b28 Δ5 (at20 bs)
-          d20 = Typed.g-pre 𝓤 H A W 𝓣 E G69 G70 b28 Δ5 (Typed.pass T69 T70 (s65 bs)) (at19 bs) (Scalar.g-room 𝓤 H A W E G69 19 Syntax.tyBool (Scalar.room-sc 𝓤 H A W Row.sBool)) d19
-
-          d21 : Typed.Typed 𝓤 H A 𝓣 E G55 b28 Δ5 (at21 bs)
-          d21 = Typed.g-pre 𝓤 H A W 𝓣 E G55 G69 b28 Δ5 (Typed.pass T55 T69 (s64 bs)) (at20 bs) (Scalar.g-room 𝓤 H A W E G55 12 Syntax.tyBool (Scalar.room-sc 𝓤 H A W Row.sBool)) d20
-
-          d22 : Typed.Typed 𝓤 H A 𝓣 E G55 b29 Δ5 (at22 bs)
-          d22 = Scalar.t-cond 𝓤 H A W E 𝓣 G55 19 (λ x. x) b27 b28 Δ5 (at18 bs) (at21 bs) (Scalar.reads-sc 𝓤 H A W Row.sBool) Path'.refl d18 d21
-
-          d23 : Typed.Typed 𝓤 H A 𝓣 E G84 b36 Δ3 (at23 bs)
-          d23 = Typed.s-typed 𝓤 H A W 𝓣 E G84 b36 Δ3 (λ Ψ. Typed.ask (s80 bs) (Typed.pass T85 T86 (s81 bs) Ψ)) tt (Typed.g-post 𝓤 H A W 𝓣 E G84 G85 G86 b36 (Typed.ask (s80 bs)) (Typed.pass T85 T86
-              (s81 bs)) (Scalar.t-op2 𝓤 H A W E 𝓣 G84 (Syntax.add Syntax.unsigned) (Scalar.oAt 13 (Syntax.tyInt Syntax.w64) (Row.valS (Row.sInt Syntax.w64))) (Scalar.oInt Syntax.w64 1) 13 (Rows.sc-here
+          d20 : Typed.Typed 𝓤 H A 𝓣 E G79 b34 Δ3 (at20 bs)
+          d20 = Typed.s-typed 𝓤 H A W 𝓣 E G79 b34 Δ3 (λ Ψ. Typed.ask (s75 bs) (Typed.pass T80 T81 (s76 bs) Ψ)) tt (Typed.g-post 𝓤 H A W 𝓣 E G79 G80 G81 b34 (Typed.ask (s75 bs)) (Typed.pass T80 T81
+              (s76 bs)) (Scalar.t-op2 𝓤 H A W E 𝓣 G79 (Syntax.add Syntax.unsigned) (Scalar.oAt 11 (Syntax.tyInt Syntax.w64) (Row.valS (Row.sInt Syntax.w64))) (Scalar.oInt Syntax.w64 1) 11 (Rows.sc-here
               (Row.sInt Syntax.w64)) (Syntax.tyInt Syntax.w64) (Row.valS (Row.sInt Syntax.w64)) (Row.sInt Syntax.w64 .of) (Scalar.reads-sc 𝓤 H A W (Row.sInt Syntax.w64), Path'.refl) tt (Scalar.room-sc 𝓤 H
-              A W (Row.sInt Syntax.w64)) (Scalar.holds-sc 𝓤 H A W (Row.sInt Syntax.w64)) Path'.refl (λ u. Path'.refl) λ u. tt) (Scalar.g-room 𝓤 H A W E G85 17 Syntax.tyBool (Scalar.room-sc 𝓤 H A W
+              A W (Row.sInt Syntax.w64)) (Scalar.holds-sc 𝓤 H A W (Row.sInt Syntax.w64)) Path'.refl (λ u. Path'.refl) λ u. tt) (Scalar.g-room 𝓤 H A W E G80 15 Syntax.tyBool (Scalar.room-sc 𝓤 H A W
               Row.sBool)))
 
-          d24 : Typed.Typed 𝓤 H A 𝓣 E G83 b36 Δ3 (at24 bs)
-          d24 = Typed.g-pre 𝓤 H A W 𝓣 E G83 G84 b36 Δ3 (Typed.pass T83 T84 (s79 bs)) (at23 bs) (Scalar.g-room 𝓤 H A W E G83 16 y7 (Local.room-whole 𝓤 H A W (Declared'.row Passed.the-type) y7
-              Path'.refl)) d23
+          d21 : Typed.Typed 𝓤 H A 𝓣 E G78 b34 Δ3 (at21 bs)
+          d21 = Typed.g-pre 𝓤 H A W 𝓣 E G78 G79 b34 Δ3 (Typed.pass T78 T79 (s74 bs)) (at20 bs) (Scalar.g-room 𝓤 H A W E G78 14 y8 (Local.room-whole 𝓤 H A W (Declared'.row Passed.the-type) y8
+              Path'.refl)) d20
 
-          d25 : Typed.Typed 𝓤 H A 𝓣 E G82 b37 Δ3 (at25 bs)
-          d25 = Typed.s-seq 𝓤 H A W 𝓣 E G82 G83 b35 b36 Δ3 (Typed.pass T82 T83 (s78 bs)) (at24 bs) (Scalar.t-use 𝓤 H A W E 𝓣 G82 (Scalar.oFld 16 (List._∷_ (Syntax.field 1) List.[]) Syntax.tyBool 1
-              (Reads.fieldV Passed.the-type Laws'3.the-laws 1)) 12 (Rows.sc-here Row.sBool) Syntax.tyBool (Row.valS Row.sBool) (Row.sBool .of)
-              (Reads.reads-field 𝓤 H A W Passed.the-type Laws'3.the-laws 1 Syntax.tyBool 1 Path'.refl, Path'.refl) (Reads'.room-gone 𝓤 H A Syntax.tyBool) (Scalar.holds-sc 𝓤 H A W Row.sBool) Path'.refl (λ
-              u. Path'.refl) λ u. tt) d24
+          d22 : Typed.Typed 𝓤 H A 𝓣 E G77 b35 Δ3 (at22 bs)
+          d22 = Typed.s-seq 𝓤 H A W 𝓣 E G77 G78 b33 b34 Δ3 (Typed.both (s73 bs)) (at21 bs) (WayStmt.t-way-copy-out 𝓤 H A W E 𝓣 (Declared'.row Place.the-type) Path'.refl (Copies.cStruct Place.the-type
+              Laws'3.the-laws Laws'3.the-copy .copy 𝓤 H A W) (λ ρ. Unit) G77 (Row.out 14 (G77 .locals)) (λ u. Row.drop 14 (G77 .locals) u) (G77 .slots) 14 (λ t. List._∷_ (Syntax.field 1) t) y7 y7 10
+              (Rows.whole (Declared'.row Place.the-type)) (λ x. x) (λ u. At.getAt (Passed.the-type .parts) 1 (Passed.struct .as-values (u .1 .1 .1 .1 .1 .1 .1 .1 .1 .1 .1 .1 .1 .1 .0))) (λ u.
+              (Row.hd 0 (Row.tl (Row.tl (Row.tl (Row.tl (Row.tl (Row.tl (Row.tl (Row.tl (Row.tl (Row.tl (Row.tl (Row.tl (Row.tl (Row.tl bs)))))))))))))), Nat._+_ 0 8)) (λ T′. record
+              { locals = Row.setRow 14 (14, Rows.whole (Declared'.row Passed.the-type)) T′; slots = G77 .slots }) (λ u T′ m′. Row.set 14 (14, Rows.whole (Declared'.row Passed.the-type)) (u .1 .1 .1 .1 .1
+              .1 .1 .1 .1 .1 .1 .1 .1 .1 .0) T′ m′) (λ u. Unit) (λ x. Unit) (Own.told-none 𝓤 H A (G77 .slots)) (DerefMove.learns-nothing 𝓤 H A (Declared'.row Place.the-type)) (λ ρ told u asked.
+              Way'.w-partˢ 𝓤 H A W E (Declared'.row Passed.the-type) (Declared'.row Place.the-type) y8 y7 1 8 (u .1 .1 .1 .1 .1 .1 .1 .1 .1 .1 .1 .1 .1 .1 .0) (At.getAt (Passed.the-type .parts) 1
+              (Passed.struct .as-values (u .1 .1 .1 .1 .1 .1 .1 .1 .1 .1 .1 .1 .1 .1 .0)))
+              (Row.hd 0 (Row.tl (Row.tl (Row.tl (Row.tl (Row.tl (Row.tl (Row.tl (Row.tl (Row.tl (Row.tl (Row.tl (Row.tl (Row.tl (Row.tl bs)))))))))))))), 0) (Way.w-look 𝓤 H A W E (Way.w-local 𝓤 H A W E
+              G77 ρ u (G77 .slots) 14 (Declared'.row Passed.the-type) (Rows.whole (Declared'.row Passed.the-type)) (λ x. x) (λ x. x) (u .1 .1 .1 .1 .1 .1 .1 .1 .1 .1 .1 .1 .1 .1 .0) (Local.mem-whole 𝓤 H A
+              W (Declared'.row Passed.the-type) ρ (u .1 .1 .1 .1 .1 .1 .1 .1 .1 .1 .1 .1 .1 .1 .0) (Row.hd 0 (Row.tl (Row.tl (Row.tl (Row.tl (Row.tl (Row.tl (Row.tl (Row.tl (Row.tl (Row.tl (Row.tl (Row.tl
+              (Row.tl (Row.tl bs)))))))))))))))) (Local.whole-mem 𝓤 H A W (Declared'.row Passed.the-type) ρ (u .1 .1 .1 .1 .1 .1 .1 .1 .1 .1 .1 .1 .1 .1 .0) (Row.hd 0 (Row.tl (Row.tl (Row.tl (Row.tl
+              (Row.tl (Row.tl (Row.tl (Row.tl (Row.tl (Row.tl (Row.tl (Row.tl (Row.tl (Row.tl bs)))))))))))))))))) Path'.refl λ q. Inner.cut-record 𝓤 H A q (Declared'.row Passed.the-type) Place.the-type 8
+              (u .1 .1 .1 .1 .1 .1 .1 .1 .1 .1 .1 .1 .1 .1 .0) (u .1 .1 .1 .1 .1 .1 .1 .1 .1 .1 .1 .1 .1 .1 .0) (At.getAt (Passed.the-type .parts) 1 (Passed.struct .as-values (u .1 .1 .1 .1 .1 .1 .1 .1 .1
+              .1 .1 .1 .1 .1 .0))) (At.getAt (Passed.the-type .parts) 1 (Passed.struct .as-values (u .1 .1 .1 .1 .1 .1 .1 .1 .1 .1 .1 .1 .1 .1 .0)))
+              (Row.hd 0 (Row.tl (Row.tl (Row.tl (Row.tl (Row.tl (Row.tl (Row.tl (Row.tl (Row.tl (Row.tl (Row.tl (Row.tl (Row.tl (Row.tl bs)))))))))))))), 0) (Behind.look-at 𝓤 H A W q Passed.the-type
+              Laws'4.the-laws 1 8 Path'.refl Path'.refl (Row.hd 0 (Row.tl (Row.tl (Row.tl (Row.tl (Row.tl (Row.tl (Row.tl (Row.tl (Row.tl (Row.tl (Row.tl (Row.tl (Row.tl (Row.tl bs)))))))))))))), 0) (u .1
+              .1 .1 .1 .1 .1 .1 .1 .1 .1 .1 .1 .1 .1 .0) (Passed.struct .as-values (u .1 .1 .1 .1 .1 .1 .1 .1 .1 .1 .1 .1 .1 .1 .0)) Path'.refl)) (Reads'.room-gone 𝓤 H A y7) (Yields.makes-mem 𝓤 H A W (λ
+              ρ. Unit) (Declared'.row Place.the-type) Path'.refl (Rows.whole (Declared'.row Place.the-type)) (λ x. x) λ ρ told. Local.whole-mem 𝓤 H A W (Declared'.row Place.the-type) ρ) Path'.refl
+              Path'.refl Path'.refl) d21
 
-          d26 : Typed.Typed 𝓤 H A 𝓣 E G81 b38 Δ3 (at26 bs)
-          d26 = Typed.s-seq 𝓤 H A W 𝓣 E G81 G82 b34 b37 Δ3 (Typed.both (s77 bs)) (at25 bs) (WayStmt.t-way-copy-out 𝓤 H A W E 𝓣 (Declared'.row BitPosition.the-type) Path'.refl (Copies.cStruct
-              BitPosition.the-type Laws.the-laws Laws.the-copy .copy 𝓤 H A W) (λ ρ. Unit) G81 (Row.out 16 (G81 .locals)) (λ u. Row.drop 16 (G81 .locals) u) (G81 .slots) 16 (λ t. List._∷_ (Syntax.field 2)
-              t) y5 y5 11 (Rows.whole (Declared'.row BitPosition.the-type)) (λ x. x) (λ u. At.getAt (Passed.the-type .parts) 2 (Passed.struct .as-values (u .1 .1 .1 .1 .1 .1 .1 .1 .1 .1 .1 .1 .1 .1 .1 .1
-              .0))) (λ u. (Row.hd 0 (Row.tl (Row.tl (Row.tl (Row.tl (Row.tl (Row.tl (Row.tl (Row.tl (Row.tl (Row.tl (Row.tl (Row.tl (Row.tl (Row.tl (Row.tl (Row.tl bs)))))))))))))))), Nat._+_ 0 8)) (λ T′.
-              record { locals = Row.setRow 16 (16, Rows.whole (Declared'.row Passed.the-type)) T′; slots = G81 .slots }) (λ u T′ m′. Row.set 16 (16, Rows.whole (Declared'.row Passed.the-type)) (u .1 .1
-              .1 .1 .1 .1 .1 .1 .1 .1 .1 .1 .1 .1 .1 .1 .0) T′ m′) (λ u. Unit) (λ x. Unit) (Own.told-none 𝓤 H A (G81 .slots)) (DerefMove.learns-nothing 𝓤 H A (Declared'.row BitPosition.the-type)) (λ ρ
-              told u asked. Way'.w-partˢ 𝓤 H A W E (Declared'.row Passed.the-type) (Declared'.row BitPosition.the-type) y7 y5 2 8 (u .1 .1 .1 .1 .1 .1 .1 .1 .1 .1 .1 .1 .1 .1 .1 .1 .0) (At.getAt
-              (Passed.the-type .parts) 2 (Passed.struct .as-values (u .1 .1 .1 .1 .1 .1 .1 .1 .1 .1 .1 .1 .1 .1 .1 .1 .0)))
-              (Row.hd 0 (Row.tl (Row.tl (Row.tl (Row.tl (Row.tl (Row.tl (Row.tl (Row.tl (Row.tl (Row.tl (Row.tl (Row.tl (Row.tl (Row.tl (Row.tl (Row.tl bs)))))))))))))))), 0) (Way.w-look 𝓤 H A W E
-              (Way.w-local 𝓤 H A W E G81 ρ u (G81 .slots) 16 (Declared'.row Passed.the-type) (Rows.whole (Declared'.row Passed.the-type)) (λ x. x) (λ x. x) (u .1 .1 .1 .1 .1 .1 .1 .1 .1 .1 .1 .1 .1 .1 .1
-              .1 .0) (Local.mem-whole 𝓤 H A W (Declared'.row Passed.the-type) ρ (u .1 .1 .1 .1 .1 .1 .1 .1 .1 .1 .1 .1 .1 .1 .1 .1 .0) (Row.hd 0 (Row.tl (Row.tl (Row.tl (Row.tl (Row.tl (Row.tl (Row.tl
-              (Row.tl (Row.tl (Row.tl (Row.tl (Row.tl (Row.tl (Row.tl (Row.tl (Row.tl bs)))))))))))))))))) (Local.whole-mem 𝓤 H A W (Declared'.row Passed.the-type) ρ (u .1 .1 .1 .1 .1 .1 .1 .1 .1 .1 .1 .1
-              .1 .1 .1 .1 .0) (Row.hd 0 (Row.tl (Row.tl (Row.tl (Row.tl (Row.tl (Row.tl (Row.tl (Row.tl (Row.tl (Row.tl (Row.tl (Row.tl (Row.tl (Row.tl (Row.tl (Row.tl bs)))))))))))))))))))) Path'.refl λ
-              q. Inner.cut-record 𝓤 H A q (Declared'.row Passed.the-type) BitPosition.the-type 8 (u .1 .1 .1 .1 .1 .1 .1 .1 .1 .1 .1 .1 .1 .1 .1 .1 .0) (u .1 .1 .1 .1 .1 .1 .1 .1 .1 .1 .1 .1 .1 .1 .1 .1
-              .0) (At.getAt (Passed.the-type .parts) 2 (Passed.struct .as-values (u .1 .1 .1 .1 .1 .1 .1 .1 .1 .1 .1 .1 .1 .1 .1 .1 .0))) (At.getAt (Passed.the-type .parts) 2 (Passed.struct .as-values (u
-              .1 .1 .1 .1 .1 .1 .1 .1 .1 .1 .1 .1 .1 .1 .1 .1 .0)))
-              (Row.hd 0 (Row.tl (Row.tl (Row.tl (Row.tl (Row.tl (Row.tl (Row.tl (Row.tl (Row.tl (Row.tl (Row.tl (Row.tl (Row.tl (Row.tl (Row.tl (Row.tl bs)))))))))))))))), 0) (Behind.look-at 𝓤 H A W q
-              Passed.the-type Laws'3.the-laws 2 8 Path'.refl Path'.refl
-              (Row.hd 0 (Row.tl (Row.tl (Row.tl (Row.tl (Row.tl (Row.tl (Row.tl (Row.tl (Row.tl (Row.tl (Row.tl (Row.tl (Row.tl (Row.tl (Row.tl (Row.tl bs)))))))))))))))), 0) (u .1 .1 .1 .1 .1 .1 .1 .1 .1
-              .1 .1 .1 .1 .1 .1 .1 .0) (Passed.struct .as-values (u .1 .1 .1 .1 .1 .1 .1 .1 .1 .1 .1 .1 .1 .1 .1 .1 .0)) Path'.refl)) (Reads'.room-gone 𝓤 H A y5) (Yields.makes-mem 𝓤 H A W (λ ρ. Unit)
-              (Declared'.row BitPosition.the-type) Path'.refl (Rows.whole (Declared'.row BitPosition.the-type)) (λ x. x) λ ρ told. Local.whole-mem 𝓤 H A W (Declared'.row BitPosition.the-type) ρ)
-              Path'.refl Path'.refl Path'.refl) d25
+          d23 : Typed.Typed 𝓤 H A 𝓣 E G76 b35 Δ3 (at23 bs)
+          d23 = Typed.g-pre 𝓤 H A W 𝓣 E G76 G77 b35 Δ3 (λ Ψ. Ψ) (at22 bs) (Lifetime.g-forget 𝓤 H A W E G76 7 Row.dead Path'.refl) d22
 
-          d27 : Typed.Typed 𝓤 H A 𝓣 E G80 b38 Δ3 (at27 bs)
-          d27 = Typed.g-pre 𝓤 H A W 𝓣 E G80 G81 b38 Δ3 (λ Ψ. Ψ) (at26 bs) (Lifetime.g-forget 𝓤 H A W E G80 7 Row.dead Path'.refl) d26
-
-          d28 : Typed.Typed 𝓤 H A 𝓣 E G79 b38 Δ3 (at28 bs)
-          d28 = Typed.g-pre 𝓤 H A W 𝓣 E G79 G80 b38 Δ3 (Typed.both (s75 bs)) (at27 bs) (Relend.g-back-sl 𝓤 H A W E (Element.type) G79 30 5 2 7 (Syntax.tyRef (Syntax.named 2) Syntax.mut Element.behind)
+          d24 : Typed.Typed 𝓤 H A 𝓣 E G75 b35 Δ3 (at24 bs)
+          d24 = Typed.g-pre 𝓤 H A W 𝓣 E G75 G76 b35 Δ3 (Typed.both (s71 bs)) (at23 bs) (Relend.g-back-sl 𝓤 H A W E (Element.type) G75 29 4 2 7 (Syntax.tyRef (Syntax.named 2) Syntax.mut Element.behind)
               (Syntax.tyRef Syntax.erased Syntax.mut Element.behind) (Row.lease (κs .1 .1 .0) (qs .1 .1 .0)) (λ x. x) (λ x. x) (Reads'.as-is 𝓤 H A (Mut.msleft (Element.type) (Syntax.tyRef Syntax.erased
               Syntax.mut Element.behind))) (Reads'.as-is 𝓤 H A (Relend.mslice-owed (Element.type) (Syntax.tyRef (Syntax.named 2) Syntax.mut Element.behind) 2 7 (Row.lease (κs .1 .1 .0) (qs .1 .1 .0))))
-              Path'.refl Path'.refl) d27
+              Path'.refl Path'.refl) d23
 
-          d29 : Typed.Typed 𝓤 H A 𝓣 E G78 b38 Δ3 (at29 bs)
-          d29 = Typed.g-pre 𝓤 H A W 𝓣 E G78 G79 b38 Δ3 (λ Ψ. Ψ) (at28 bs) (Lifetime.g-end 𝓤 H A W E G78 7 Path'.refl) d28
+          d25 : Typed.Typed 𝓤 H A 𝓣 E G74 b35 Δ3 (at25 bs)
+          d25 = Typed.g-pre 𝓤 H A W 𝓣 E G74 G75 b35 Δ3 (λ Ψ. Ψ) (at24 bs) (Lifetime.g-end 𝓤 H A W E G74 7 Path'.refl) d24
 
-          d30 : Typed.Typed 𝓤 H A 𝓣 E G77 b38 Δ3 (at30 bs)
-          d30 = Typed.g-pre 𝓤 H A W 𝓣 E G77 G78 b38 Δ3 (Typed.pass T77 T78 (s73 bs)) (at29 bs) (Scalar.g-room 𝓤 H A W E G77 20 Syntax.tyUnit (Scalar.room-sc 𝓤 H A W Row.sUnit)) d29
+          d26 : Typed.Typed 𝓤 H A 𝓣 E G73 b35 Δ3 (at26 bs)
+          d26 = Typed.g-pre 𝓤 H A W 𝓣 E G73 G74 b35 Δ3 (Typed.pass T73 T74 (s69 bs)) (at25 bs) (Scalar.g-room 𝓤 H A W E G73 19 Syntax.tyUnit (Scalar.room-sc 𝓤 H A W Row.sUnit)) d25
 
-          d31 : Typed.Typed 𝓤 H A 𝓣 E G76 b38 Δ3 (at31 bs)
-          d31 = Typed.g-pre 𝓤 H A W 𝓣 E G76 G77 b38 Δ3 (Typed.pass T76 T77 (s72 bs)) (at30 bs) (Scalar.g-room 𝓤 H A W E G76 18 y2 (Local.room-whole 𝓤 H A W (Declared'.row Set.the-type) y2 Path'.refl))
-              d30
+          d27 : Typed.Typed 𝓤 H A 𝓣 E G72 b35 Δ3 (at27 bs)
+          d27 = Typed.g-pre 𝓤 H A W 𝓣 E G72 G73 b35 Δ3 (Typed.pass T72 T73 (s68 bs)) (at26 bs) (Scalar.g-room 𝓤 H A W E G72 16 y2 (Local.room-whole 𝓤 H A W (Declared'.row Set.the-type) y2 Path'.refl))
+              d26
 
-          d32 : Typed.Typed 𝓤 H A 𝓣 E G75 b38 Δ3 (at32 bs)
-          d32 = Typed.g-pre 𝓤 H A W 𝓣 E G75 G76 b38 Δ3 (Typed.pass T75 T76 (s71 bs)) (at31 bs) (Scalar.g-room 𝓤 H A W E G75 14 y0 (Local.room-whole 𝓤 H A W (Declared'.row Plan.the-type) y0
-              Path'.refl)) d31
+          d28 : Typed.Typed 𝓤 H A 𝓣 E G71 b35 Δ3 (at28 bs)
+          d28 = Typed.g-pre 𝓤 H A W 𝓣 E G71 G72 b35 Δ3 (Typed.pass T71 T72 (s67 bs)) (at27 bs) (Scalar.g-room 𝓤 H A W E G71 12 y0 (Local.room-whole 𝓤 H A W (Declared'.row Plan.the-type) y0
+              Path'.refl)) d27
 
-          d33 : Typed.Typed 𝓤 H A 𝓣 E G74 b39 Δ3 (at33 bs)
-          d33 = Typed.s-seq 𝓤 H A W 𝓣 E G74 G75 b33 b38 Δ3 (Typed.both (s70 bs)) (at32 bs) (Plain.t-call-plain 𝓤 H A W 𝓣 1 ps·5 r·5 (claims· .10) (claims· .11) "block::records::store_set" (known .5) E
-              (λ pos β. β) G74 (
-                record { pos = 30; ty = Syntax.tyRef Syntax.erased Syntax.mut Element.behind; ref = λ x. x },
-                (Num.vFld 14 (List._∷_ (Syntax.field 2) List.[]) 16 λ x. Plan.struct .as-values x .1 .1 .0, (record { pos = 18; st = List.[]; d = 0; at = λ x. x }, tt)),
-              ) 20 (List._∷_ 7 List.[]) (Call.sub-id
-              𝓤 H A W (G74 .slots)) (
+          d29 : Typed.Typed 𝓤 H A 𝓣 E G70 b36 Δ3 (at29 bs)
+          d29 = Typed.s-seq 𝓤 H A W 𝓣 E G70 G71 b32 b35 Δ3 (Typed.both (s66 bs)) (at28 bs) (Plain.t-call-plain 𝓤 H A W 𝓣 1 ps·5 r·5 (claims· .10) (claims· .11) "block::records::store_set" (known .5) E
+              (λ pos β. β) G70 (
+                record { pos = 29; ty = Syntax.tyRef Syntax.erased Syntax.mut Element.behind; ref = λ x. x },
+                (Num.vFld 12 (List._∷_ (Syntax.field 2) List.[]) 16 λ x. Plan.struct .as-values x .1 .1 .0, (record { pos = 16; st = List.[]; d = 0; at = λ x. x }, tt)),
+              ) 19 (List._∷_ 7 List.[]) (Call.sub-id
+              𝓤 H A W (G70 .slots)) (
                 Reads'.as-is 𝓤 H A (Mut.mslice (Element.type) (Syntax.tyRef Syntax.erased Syntax.mut Element.behind) 7),
                 Mut.reads-mslice 𝓤 H A W (Element.type) (Syntax.tyRef Syntax.erased Syntax.mut
                     Element.behind) 7,
                 Path'.refl,
                 (
-                  (Reads.reads-field 𝓤 H A W Plan.the-type Laws'4.the-laws 2 (Syntax.tyInt Syntax.w64) 16 Path'.refl, Path'.refl),
+                  (Reads.reads-field 𝓤 H A W Plan.the-type Laws'5.the-laws 2 (Syntax.tyInt Syntax.w64) 16 Path'.refl, Path'.refl),
                   (
                     (
-                      Yields.yields-copy 𝓤 H A W (λ ρ. Unit) (Declared'.row Set.the-type) Path'.refl (Copies.cStruct Set.the-type Laws'6.the-laws Laws'6.the-copy .copy 𝓤 H A W) (Rows.whole (Declared'.row
+                      Yields.yields-copy 𝓤 H A W (λ ρ. Unit) (Declared'.row Set.the-type) Path'.refl (Copies.cStruct Set.the-type Laws'7.the-laws Laws'7.the-copy .copy 𝓤 H A W) (Rows.whole (Declared'.row
                           Set.the-type)) (λ x. x) (λ x. x) (λ ρ told. Local.mem-whole 𝓤 H A W (Declared'.row Set.the-type) ρ) λ ρ told. Local.whole-mem 𝓤 H A W (Declared'.row Set.the-type) ρ,
                       Path'.refl,
                     ),
@@ -3095,464 +2959,434 @@ module _ (claims· : Claims) where
                   ),
                 ),
               )
-              (Reads'.room-gone 𝓤 H A Syntax.tyUnit) (tt, tt) Path'.refl) d32
+              (Reads'.room-gone 𝓤 H A Syntax.tyUnit) (tt, tt) Path'.refl) d28
 
-          d34 : Typed.Typed 𝓤 H A 𝓣 E G73 b40 Δ3 (at34 bs)
-          d34 = Typed.s-seq 𝓤 H A W 𝓣 E G73 G74 b32 b39 Δ3 (Typed.ask (s69 bs)) (at33 bs) (Relend.t-sl-aggregate 𝓤 H A W E (Element.type) 𝓣 (Relend.asMut (Element.type)) G73 29 30 7 (Syntax.tyRef
-              Syntax.erased Syntax.mut Element.behind) (Syntax.tyRef Syntax.erased Syntax.mut Element.behind) (λ x. x) (Scalar.oFld 5 (List._∷_ (Syntax.field 1) List.[]) (Syntax.tyInt Syntax.w64) 8 λ v.
+          d30 : Typed.Typed 𝓤 H A 𝓣 E G69 b37 Δ3 (at30 bs)
+          d30 = Typed.s-seq 𝓤 H A W 𝓣 E G69 G70 b31 b36 Δ3 (Typed.ask (s65 bs)) (at29 bs) (Relend.t-sl-aggregate 𝓤 H A W E (Element.type) 𝓣 (Relend.asMut (Element.type)) G69 28 29 7 (Syntax.tyRef
+              Syntax.erased Syntax.mut Element.behind) (Syntax.tyRef Syntax.erased Syntax.mut Element.behind) (λ x. x) (Scalar.oFld 4 (List._∷_ (Syntax.field 1) List.[]) (Syntax.tyInt Syntax.w64) 8 λ v.
               Shared.lenV (v .0)) (Reads'.as-is 𝓤 H A (Relend.msptr (Element.type) (Syntax.tyRef Syntax.erased Syntax.mut Element.behind) 7)) (Reads'.room-gone 𝓤 H A y4)
               (Relend.reads-owed-len 𝓤 H A W (Element.type) (Syntax.tyRef (Syntax.named 2) Syntax.mut Element.behind) 2 7 (Row.lease (κs .1 .1 .0) (qs .1 .1 .0)) 8 Path'.refl, Path'.refl) Path'.refl
-              Path'.refl λ b o k. tt) d33
+              Path'.refl λ b o k. tt) d29
 
-          d35 : Typed.Typed 𝓤 H A 𝓣 E G72 b41 Δ3 (at35 bs)
-          d35 = Typed.s-seq 𝓤 H A W 𝓣 E G72 G73 b31 b40 Δ3 (Typed.give (s68 bs)) (at34 bs) (Relend.t-sl-relend 𝓤 H A W E (Element.type) 𝓣 G72 5 29 2 7 (Syntax.tyRef (Syntax.named 2) Syntax.mut
+          d31 : Typed.Typed 𝓤 H A 𝓣 E G68 b38 Δ3 (at31 bs)
+          d31 = Typed.s-seq 𝓤 H A W 𝓣 E G68 G69 b30 b37 Δ3 (Typed.give (s64 bs)) (at30 bs) (Relend.t-sl-relend 𝓤 H A W E (Element.type) 𝓣 G68 4 28 2 7 (Syntax.tyRef (Syntax.named 2) Syntax.mut
               Element.behind) (Syntax.tyRef Syntax.erased Syntax.mut Element.behind) (Row.lease (κs .1 .1 .0) (qs .1 .1 .0)) 0 (λ x. x) (Reads'.as-is 𝓤 H A (Mut.mslice (Element.type) (Syntax.tyRef
-              (Syntax.named 2) Syntax.mut Element.behind) 2)) (Reads'.room-gone 𝓤 H A (Syntax.tyRef Syntax.erased Syntax.mut Element.behind)) Path'.refl tt Path'.refl Path'.refl Path'.refl λ b o. tt) d34
+              (Syntax.named 2) Syntax.mut Element.behind) 2)) (Reads'.room-gone 𝓤 H A (Syntax.tyRef Syntax.erased Syntax.mut Element.behind)) Path'.refl tt Path'.refl Path'.refl Path'.refl λ b o. tt) d30
 
-          d36 : Typed.Typed 𝓤 H A 𝓣 E G71 b41 Δ3 (at36 bs)
-          d36 = Typed.g-pre 𝓤 H A W 𝓣 E G71 G72 b41 Δ3 (λ Ψ. Ψ) (at35 bs) (Lifetime.g-begin 𝓤 H A W E G71 7 (
-            tt,
-            (tt, (tt, (tt, (tt, (tt, (tt, (tt, (tt, (tt, (tt, (tt, (tt, (tt, (tt, (tt, (tt, (tt, (tt, (tt, (tt, (tt, (tt, (tt, (tt, (tt, (tt, (tt, (tt, (tt, (tt, (tt, tt))))))))))))))))))))))))))))))),
-          ))
-              d35
+          d32 : Typed.Typed 𝓤 H A 𝓣 E G67 b38 Δ3 (at32 bs)
+          d32 = Typed.g-pre 𝓤 H A W 𝓣 E G67 G68 b38 Δ3 (λ Ψ. Ψ) (at31 bs) (Lifetime.g-begin 𝓤 H A W E G67 7
+              (tt, (tt, (tt, (tt, (tt, (tt, (tt, (tt, (tt, (tt, (tt, (tt, (tt, (tt, (tt, (tt, (tt, (tt, (tt, (tt, (tt, (tt, (tt, (tt, (tt, (tt, (tt, (tt, (tt, (tt, (tt, tt))))))))))))))))))))))))))))))))
+              d31
 
-          d37 : Typed.Typed 𝓤 H A 𝓣 E G56 b42 Δ3 (at37 bs)
-          d37 = Typed.s-seq 𝓤 H A W 𝓣 E G56 G71 b30 b41 Δ3 (Typed.both (s66 bs)) (at36 bs) (WayStmt.t-way-copy-out 𝓤 H A W E 𝓣 (Declared'.row Set.the-type) Path'.refl (Copies.cStruct Set.the-type
-              Laws'6.the-laws Laws'6.the-copy .copy 𝓤 H A W) (λ ρ. Unit) G56 (Row.out 16 (G56 .locals)) (λ u. Row.drop 16 (G56 .locals) u) (G56 .slots) 16 (λ t. List._∷_ (Syntax.field 3) t) y2 y2 18
-              (Rows.whole (Declared'.row Set.the-type)) (λ x. x) (λ u. At.getAt (Passed.the-type .parts) 3 (Passed.struct .as-values (u .1 .1 .1 .1 .1 .1 .1 .1 .1 .1 .1 .1 .1 .1 .1 .1 .0))) (λ u.
-              (Row.hd 0 (Row.tl (Row.tl (Row.tl (Row.tl (Row.tl (Row.tl (Row.tl (Row.tl (Row.tl (Row.tl (Row.tl (Row.tl (Row.tl (Row.tl (Row.tl (Row.tl bs)))))))))))))))), Nat._+_ 0 16)) (λ T′. record
-              { locals = Row.setRow 16 (16, Rows.whole (Declared'.row Passed.the-type)) T′; slots = G56 .slots }) (λ u T′ m′. Row.set 16 (16, Rows.whole (Declared'.row Passed.the-type)) (u .1 .1 .1 .1 .1
-              .1 .1 .1 .1 .1 .1 .1 .1 .1 .1 .1 .0) T′ m′) (λ u. Unit) (λ x. Unit) (Own.told-none 𝓤 H A (G56 .slots)) (DerefMove.learns-nothing 𝓤 H A (Declared'.row Set.the-type)) (λ ρ told u asked.
-              Way'.w-partˢ 𝓤 H A W E (Declared'.row Passed.the-type) (Declared'.row Set.the-type) y7 y2 3 16 (u .1 .1 .1 .1 .1 .1 .1 .1 .1 .1 .1 .1 .1 .1 .1 .1 .0) (At.getAt (Passed.the-type .parts) 3
-              (Passed.struct .as-values (u .1 .1 .1 .1 .1 .1 .1 .1 .1 .1 .1 .1 .1 .1 .1 .1 .0)))
-              (Row.hd 0 (Row.tl (Row.tl (Row.tl (Row.tl (Row.tl (Row.tl (Row.tl (Row.tl (Row.tl (Row.tl (Row.tl (Row.tl (Row.tl (Row.tl (Row.tl (Row.tl bs)))))))))))))))), 0) (Way.w-look 𝓤 H A W E
-              (Way.w-local 𝓤 H A W E G56 ρ u (G56 .slots) 16 (Declared'.row Passed.the-type) (Rows.whole (Declared'.row Passed.the-type)) (λ x. x) (λ x. x) (u .1 .1 .1 .1 .1 .1 .1 .1 .1 .1 .1 .1 .1 .1 .1
-              .1 .0) (Local.mem-whole 𝓤 H A W (Declared'.row Passed.the-type) ρ (u .1 .1 .1 .1 .1 .1 .1 .1 .1 .1 .1 .1 .1 .1 .1 .1 .0) (Row.hd 0 (Row.tl (Row.tl (Row.tl (Row.tl (Row.tl (Row.tl (Row.tl
-              (Row.tl (Row.tl (Row.tl (Row.tl (Row.tl (Row.tl (Row.tl (Row.tl (Row.tl bs)))))))))))))))))) (Local.whole-mem 𝓤 H A W (Declared'.row Passed.the-type) ρ (u .1 .1 .1 .1 .1 .1 .1 .1 .1 .1 .1 .1
-              .1 .1 .1 .1 .0) (Row.hd 0 (Row.tl (Row.tl (Row.tl (Row.tl (Row.tl (Row.tl (Row.tl (Row.tl (Row.tl (Row.tl (Row.tl (Row.tl (Row.tl (Row.tl (Row.tl (Row.tl bs)))))))))))))))))))) Path'.refl λ
-              q. Inner.cut-record 𝓤 H A q (Declared'.row Passed.the-type) Set.the-type 16 (u .1 .1 .1 .1 .1 .1 .1 .1 .1 .1 .1 .1 .1 .1 .1 .1 .0) (u .1 .1 .1 .1 .1 .1 .1 .1 .1 .1 .1 .1 .1 .1 .1 .1 .0)
-              (At.getAt (Passed.the-type .parts) 3 (Passed.struct .as-values (u .1 .1 .1 .1 .1 .1 .1 .1 .1 .1 .1 .1 .1 .1 .1 .1 .0))) (At.getAt (Passed.the-type .parts) 3 (Passed.struct .as-values (u .1
-              .1 .1 .1 .1 .1 .1 .1 .1 .1 .1 .1 .1 .1 .1 .1 .0)))
-              (Row.hd 0 (Row.tl (Row.tl (Row.tl (Row.tl (Row.tl (Row.tl (Row.tl (Row.tl (Row.tl (Row.tl (Row.tl (Row.tl (Row.tl (Row.tl (Row.tl (Row.tl bs)))))))))))))))), 0) (Behind.look-at 𝓤 H A W q
-              Passed.the-type Laws'3.the-laws 3 16 Path'.refl Path'.refl
-              (Row.hd 0 (Row.tl (Row.tl (Row.tl (Row.tl (Row.tl (Row.tl (Row.tl (Row.tl (Row.tl (Row.tl (Row.tl (Row.tl (Row.tl (Row.tl (Row.tl (Row.tl bs)))))))))))))))), 0) (u .1 .1 .1 .1 .1 .1 .1 .1 .1
-              .1 .1 .1 .1 .1 .1 .1 .0) (Passed.struct .as-values (u .1 .1 .1 .1 .1 .1 .1 .1 .1 .1 .1 .1 .1 .1 .1 .1 .0)) Path'.refl)) (Reads'.room-gone 𝓤 H A y2) (Yields.makes-mem 𝓤 H A W (λ ρ. Unit)
-              (Declared'.row Set.the-type) Path'.refl (Rows.whole (Declared'.row Set.the-type)) (λ x. x) λ ρ told. Local.whole-mem 𝓤 H A W (Declared'.row Set.the-type) ρ) Path'.refl Path'.refl Path'.refl)
-              d36
+          d33 : Typed.Typed 𝓤 H A 𝓣 E G55 b39 Δ3 (at33 bs)
+          d33 = Typed.s-seq 𝓤 H A W 𝓣 E G55 G67 b29 b38 Δ3 (Typed.both (s62 bs)) (at32 bs) (WayStmt.t-way-copy-out 𝓤 H A W E 𝓣 (Declared'.row Set.the-type) Path'.refl (Copies.cStruct Set.the-type
+              Laws'7.the-laws Laws'7.the-copy .copy 𝓤 H A W) (λ ρ. Unit) G55 (Row.out 14 (G55 .locals)) (λ u. Row.drop 14 (G55 .locals) u) (G55 .slots) 14 (λ t. List._∷_ (Syntax.field 2) t) y2 y2 16
+              (Rows.whole (Declared'.row Set.the-type)) (λ x. x) (λ u. At.getAt (Passed.the-type .parts) 2 (Passed.struct .as-values (u .1 .1 .1 .1 .1 .1 .1 .1 .1 .1 .1 .1 .1 .1 .0))) (λ u.
+              (Row.hd 0 (Row.tl (Row.tl (Row.tl (Row.tl (Row.tl (Row.tl (Row.tl (Row.tl (Row.tl (Row.tl (Row.tl (Row.tl (Row.tl (Row.tl bs)))))))))))))), Nat._+_ 0 32)) (λ T′. record
+              { locals = Row.setRow 14 (14, Rows.whole (Declared'.row Passed.the-type)) T′; slots = G55 .slots }) (λ u T′ m′. Row.set 14 (14, Rows.whole (Declared'.row Passed.the-type)) (u .1 .1 .1 .1 .1
+              .1 .1 .1 .1 .1 .1 .1 .1 .1 .0) T′ m′) (λ u. Unit) (λ x. Unit) (Own.told-none 𝓤 H A (G55 .slots)) (DerefMove.learns-nothing 𝓤 H A (Declared'.row Set.the-type)) (λ ρ told u asked. Way'.w-partˢ
+              𝓤 H A W E (Declared'.row Passed.the-type) (Declared'.row Set.the-type) y8 y2 2 32 (u .1 .1 .1 .1 .1 .1 .1 .1 .1 .1 .1 .1 .1 .1 .0) (At.getAt (Passed.the-type .parts) 2 (Passed.struct
+              .as-values (u .1 .1 .1 .1 .1 .1 .1 .1 .1 .1 .1 .1 .1 .1 .0)))
+              (Row.hd 0 (Row.tl (Row.tl (Row.tl (Row.tl (Row.tl (Row.tl (Row.tl (Row.tl (Row.tl (Row.tl (Row.tl (Row.tl (Row.tl (Row.tl bs)))))))))))))), 0) (Way.w-look 𝓤 H A W E (Way.w-local 𝓤 H A W E
+              G55 ρ u (G55 .slots) 14 (Declared'.row Passed.the-type) (Rows.whole (Declared'.row Passed.the-type)) (λ x. x) (λ x. x) (u .1 .1 .1 .1 .1 .1 .1 .1 .1 .1 .1 .1 .1 .1 .0) (Local.mem-whole 𝓤 H A
+              W (Declared'.row Passed.the-type) ρ (u .1 .1 .1 .1 .1 .1 .1 .1 .1 .1 .1 .1 .1 .1 .0) (Row.hd 0 (Row.tl (Row.tl (Row.tl (Row.tl (Row.tl (Row.tl (Row.tl (Row.tl (Row.tl (Row.tl (Row.tl (Row.tl
+              (Row.tl (Row.tl bs)))))))))))))))) (Local.whole-mem 𝓤 H A W (Declared'.row Passed.the-type) ρ (u .1 .1 .1 .1 .1 .1 .1 .1 .1 .1 .1 .1 .1 .1 .0) (Row.hd 0 (Row.tl (Row.tl (Row.tl (Row.tl
+              (Row.tl (Row.tl (Row.tl (Row.tl (Row.tl (Row.tl (Row.tl (Row.tl (Row.tl (Row.tl bs)))))))))))))))))) Path'.refl λ q. Inner.cut-record 𝓤 H A q (Declared'.row Passed.the-type) Set.the-type 32
+              (u .1 .1 .1 .1 .1 .1 .1 .1 .1 .1 .1 .1 .1 .1 .0) (u .1 .1 .1 .1 .1 .1 .1 .1 .1 .1 .1 .1 .1 .1 .0) (At.getAt (Passed.the-type .parts) 2 (Passed.struct .as-values (u .1 .1 .1 .1 .1 .1 .1 .1 .1
+              .1 .1 .1 .1 .1 .0))) (At.getAt (Passed.the-type .parts) 2 (Passed.struct .as-values (u .1 .1 .1 .1 .1 .1 .1 .1 .1 .1 .1 .1 .1 .1 .0)))
+              (Row.hd 0 (Row.tl (Row.tl (Row.tl (Row.tl (Row.tl (Row.tl (Row.tl (Row.tl (Row.tl (Row.tl (Row.tl (Row.tl (Row.tl (Row.tl bs)))))))))))))), 0) (Behind.look-at 𝓤 H A W q Passed.the-type
+              Laws'4.the-laws 2 32 Path'.refl Path'.refl (Row.hd 0 (Row.tl (Row.tl (Row.tl (Row.tl (Row.tl (Row.tl (Row.tl (Row.tl (Row.tl (Row.tl (Row.tl (Row.tl (Row.tl (Row.tl bs)))))))))))))), 0) (u
+              .1 .1 .1 .1 .1 .1 .1 .1 .1 .1 .1 .1 .1 .1 .0) (Passed.struct .as-values (u .1 .1 .1 .1 .1 .1 .1 .1 .1 .1 .1 .1 .1 .1 .0)) Path'.refl)) (Reads'.room-gone 𝓤 H A y2) (Yields.makes-mem 𝓤 H A W
+              (λ ρ. Unit) (Declared'.row Set.the-type) Path'.refl (Rows.whole (Declared'.row Set.the-type)) (λ x. x) λ ρ told. Local.whole-mem 𝓤 H A W (Declared'.row Set.the-type) ρ) Path'.refl Path'.refl
+              Path'.refl) d32
 
-          d38 : Typed.Typed 𝓤 H A 𝓣 E G55 b43 Δ3 (at38 bs)
-          d38 = Typed.t-seq 𝓤 H A W 𝓣 E G55 G56 b29 b42 Δ3 (at22 bs) (at37 bs) d22 d37
+          d34 : Typed.Typed 𝓤 H A 𝓣 E G54 b40 Δ3 (at34 bs)
+          d34 = Typed.t-seq 𝓤 H A W 𝓣 E G54 G55 b28 b39 Δ3 (at19 bs) (at33 bs) d19 d33
 
-          d39 : Typed.Typed 𝓤 H A 𝓣 E G54 b44 Δ3 (at39 bs)
-          d39 = Typed.s-seq 𝓤 H A W 𝓣 E G54 G55 b24 b43 Δ3 (Typed.ask (s51 bs)) (at38 bs) (Scalar.t-op1 𝓤 H A W E 𝓣 G54 Syntax.bitNot (Scalar.oAt 17 Syntax.tyBool (Row.valS Row.sBool)) 19
+          d35 : Typed.Typed 𝓤 H A 𝓣 E G53 b41 Δ3 (at35 bs)
+          d35 = Typed.s-seq 𝓤 H A W 𝓣 E G53 G54 b23 b40 Δ3 (Typed.ask (s50 bs)) (at34 bs) (Scalar.t-op1 𝓤 H A W E 𝓣 G53 Syntax.bitNot (Scalar.oAt 15 Syntax.tyBool (Row.valS Row.sBool)) 18
               (Rows.sc-here Row.sBool) Syntax.tyBool (Row.valS Row.sBool) (Row.sBool .of) (Scalar.reads-sc 𝓤 H A W Row.sBool, Path'.refl) (Reads'.room-gone 𝓤 H A Syntax.tyBool) (Scalar.holds-sc 𝓤 H A W
-              Row.sBool) Path'.refl (λ u. Path'.refl) λ u. tt) d38
+              Row.sBool) Path'.refl (λ u. Path'.refl) λ u. tt) d34
 
-          d40 : Typed.Typed 𝓤 H A 𝓣 E G53 b45 Δ3 (at40 bs)
-          d40 = Typed.s-seq 𝓤 H A W 𝓣 E G53 G54 b23 b44 Δ3 (Typed.pass T52 T54 (s50 bs)) (at39 bs) (Scalar.t-use 𝓤 H A W E 𝓣 G53 (Scalar.oFld 16 (List._∷_ (Syntax.field 0) List.[]) Syntax.tyBool 0
-              (Reads.fieldV Passed.the-type Laws'3.the-laws 0)) 17 (Rows.sc-here Row.sBool) Syntax.tyBool (Row.valS Row.sBool) (Row.sBool .of)
-              (Reads.reads-field 𝓤 H A W Passed.the-type Laws'3.the-laws 0 Syntax.tyBool 0 Path'.refl, Path'.refl) (Reads'.room-gone 𝓤 H A Syntax.tyBool) (Scalar.holds-sc 𝓤 H A W Row.sBool) Path'.refl (λ
-              u. Path'.refl) λ u. tt) d39
+          d36 : Typed.Typed 𝓤 H A 𝓣 E G52 b42 Δ3 (at36 bs)
+          d36 = Typed.s-seq 𝓤 H A W 𝓣 E G52 G53 b22 b41 Δ3 (Typed.pass T51 T53 (s49 bs)) (at35 bs) (Scalar.t-use 𝓤 H A W E 𝓣 G52 (Scalar.oFld 14 (List._∷_ (Syntax.field 0) List.[]) Syntax.tyBool 0
+              (Reads.fieldV Passed.the-type Laws'4.the-laws 0)) 15 (Rows.sc-here Row.sBool) Syntax.tyBool (Row.valS Row.sBool) (Row.sBool .of)
+              (Reads.reads-field 𝓤 H A W Passed.the-type Laws'4.the-laws 0 Syntax.tyBool 0 Path'.refl, Path'.refl) (Reads'.room-gone 𝓤 H A Syntax.tyBool) (Scalar.holds-sc 𝓤 H A W Row.sBool) Path'.refl (λ
+              u. Path'.refl) λ u. tt) d35
 
-          d41 : Typed.Typed 𝓤 H A 𝓣 E G52 b45 Δ3 (at41 bs)
-          d41 = Typed.g-pre 𝓤 H A W 𝓣 E G52 G53 b45 Δ3 (λ Ψ. Ψ) (at40 bs) (Lifetime.g-forget 𝓤 H A W E G52 6 Row.dead Path'.refl) d40
+          d37 : Typed.Typed 𝓤 H A 𝓣 E G51 b42 Δ3 (at37 bs)
+          d37 = Typed.g-pre 𝓤 H A W 𝓣 E G51 G52 b42 Δ3 (λ Ψ. Ψ) (at36 bs) (Lifetime.g-forget 𝓤 H A W E G51 6 Row.dead Path'.refl) d36
 
-          d42 : Typed.Typed 𝓤 H A 𝓣 E G51 b45 Δ3 (at42 bs)
-          d42 = Typed.g-pre 𝓤 H A W 𝓣 E G51 G52 b45 Δ3 (Typed.give (s48 bs)) (at41 bs) (Know.g-sl-known 𝓤 H A W (Referent.fInt Syntax.w16) E G51 4 1 (Syntax.tyRef (Syntax.named 1) Syntax.mut
+          d38 : Typed.Typed 𝓤 H A 𝓣 E G50 b42 Δ3 (at38 bs)
+          d38 = Typed.g-pre 𝓤 H A W 𝓣 E G50 G51 b42 Δ3 (Typed.give (s47 bs)) (at37 bs) (Know.g-sl-known 𝓤 H A W (Referent.fInt Syntax.w16) E G50 3 1 (Syntax.tyRef (Syntax.named 1) Syntax.mut
               (Syntax.tyInt Syntax.w16)) (Row.lease (κs .1 .0) (qs .1 .0)) 0 (λ x. x) record { fits = Dec'.lit< tt } (Reads'.as-is 𝓤 H A (Mut.mslice (Referent.rtF (Referent.fInt Syntax.w16)) (Syntax.tyRef
-              (Syntax.named 1) Syntax.mut (Syntax.tyInt Syntax.w16)) 1)) Path'.refl tt) d41
+              (Syntax.named 1) Syntax.mut (Syntax.tyInt Syntax.w16)) 1)) Path'.refl tt) d37
 
-          d43 : Typed.Typed 𝓤 H A 𝓣 E G50 b45 Δ3 (at43 bs)
-          d43 = Typed.g-pre 𝓤 H A W 𝓣 E G50 G51 b45 Δ3 (Typed.both (s47 bs)) (at42 bs) (Relend.g-back-sl 𝓤 H A W E (Referent.rtF (Referent.fInt Syntax.w16)) G50 28 4 1 6 (Syntax.tyRef (Syntax.named 1)
+          d39 : Typed.Typed 𝓤 H A 𝓣 E G49 b42 Δ3 (at39 bs)
+          d39 = Typed.g-pre 𝓤 H A W 𝓣 E G49 G50 b42 Δ3 (Typed.both (s46 bs)) (at38 bs) (Relend.g-back-sl 𝓤 H A W E (Referent.rtF (Referent.fInt Syntax.w16)) G49 27 3 1 6 (Syntax.tyRef (Syntax.named 1)
               Syntax.mut (Syntax.tyInt Syntax.w16)) (Syntax.tyRef Syntax.erased Syntax.mut (Syntax.tyInt Syntax.w16)) (Row.lease (κs .1 .0) (qs .1 .0)) (λ x. x) (λ x. x) (Reads'.as-is 𝓤 H A (Mut.msleft
               (Referent.rtF (Referent.fInt Syntax.w16)) (Syntax.tyRef Syntax.erased Syntax.mut (Syntax.tyInt Syntax.w16)))) (Reads'.as-is 𝓤 H A (Relend.mslice-owed (Referent.rtF (Referent.fInt
-              Syntax.w16)) (Syntax.tyRef (Syntax.named 1) Syntax.mut (Syntax.tyInt Syntax.w16)) 1 6 (Row.lease (κs .1 .0) (qs .1 .0)))) Path'.refl Path'.refl) d42
+              Syntax.w16)) (Syntax.tyRef (Syntax.named 1) Syntax.mut (Syntax.tyInt Syntax.w16)) 1 6 (Row.lease (κs .1 .0) (qs .1 .0)))) Path'.refl Path'.refl) d38
 
-          d44 : Typed.Typed 𝓤 H A 𝓣 E G49 b45 Δ3 (at44 bs)
-          d44 = Typed.g-pre 𝓤 H A W 𝓣 E G49 G50 b45 Δ3 (λ Ψ. Ψ) (at43 bs) (Lifetime.g-end 𝓤 H A W E G49 6 Path'.refl) d43
+          d40 : Typed.Typed 𝓤 H A 𝓣 E G48 b42 Δ3 (at40 bs)
+          d40 = Typed.g-pre 𝓤 H A W 𝓣 E G48 G49 b42 Δ3 (λ Ψ. Ψ) (at39 bs) (Lifetime.g-end 𝓤 H A W E G48 6 Path'.refl) d39
 
-          d45 : Typed.Typed 𝓤 H A 𝓣 E G48 b45 Δ3 (at45 bs)
-          d45 = Typed.g-pre 𝓤 H A W 𝓣 E G48 G49 b45 Δ3 (Typed.pass T48 T49 (s45 bs)) (at44 bs) (Scalar.g-room 𝓤 H A W E G48 15 y2 (Local.room-whole 𝓤 H A W (Declared'.row Set.the-type) y2 Path'.refl))
-              d44
+          d41 : Typed.Typed 𝓤 H A 𝓣 E G47 b42 Δ3 (at41 bs)
+          d41 = Typed.g-pre 𝓤 H A W 𝓣 E G47 G48 b42 Δ3 (Typed.pass T47 T48 (s44 bs)) (at40 bs) (Scalar.g-room 𝓤 H A W E G47 13 y2 (Local.room-whole 𝓤 H A W (Declared'.row Set.the-type) y2 Path'.refl))
+              d40
 
-          d46 : Typed.Typed 𝓤 H A 𝓣 E G47 b45 Δ3 (at46 bs)
-          d46 = Typed.g-pre 𝓤 H A W 𝓣 E G47 G48 b45 Δ3 (Typed.pass T47 T48 (s44 bs)) (at45 bs) (Scalar.g-room 𝓤 H A W E G47 11 y5 (Local.room-whole 𝓤 H A W (Declared'.row BitPosition.the-type) y5
-              Path'.refl)) d45
+          d42 : Typed.Typed 𝓤 H A 𝓣 E G46 b42 Δ3 (at42 bs)
+          d42 = Typed.g-pre 𝓤 H A W 𝓣 E G46 G47 b42 Δ3 (Typed.pass T46 T47 (s43 bs)) (at41 bs) (Scalar.g-room 𝓤 H A W E G46 10 y7 (Local.room-whole 𝓤 H A W (Declared'.row Place.the-type) y7
+              Path'.refl)) d41
 
-          d47 : Typed.Typed 𝓤 H A 𝓣 E G46 b46 Δ3 (at47 bs)
-          d47 = Typed.s-seq 𝓤 H A W 𝓣 E G46 G47 b22 b45 Δ3 (Typed.both (s43 bs)) (at46 bs) (Plain.t-call-plain 𝓤 H A W 𝓣 2 ps·4 r·4 (claims· .8) (claims· .9) "pass::pass" (known .4) E (λ pos β. β) G46 (
+          d43 : Typed.Typed 𝓤 H A 𝓣 E G45 b43 Δ3 (at43 bs)
+          d43 = Typed.s-seq 𝓤 H A W 𝓣 E G45 G46 b21 b42 Δ3 (Typed.both (s42 bs)) (at42 bs) (Plain.t-call-plain 𝓤 H A W 𝓣 2 ps·4 r·4 (claims· .8) (claims· .9) "pass::pass" (known .4) E (λ pos β. β) G45 (
             record { pos = 1; ty = Syntax.tyRef (Syntax.named 0) Syntax.imm (Syntax.tyInt Syntax.w8); ref = λ x. x },
             (
-              record { pos = 11; st = List.[]; d = 0; at = λ x. x },
+              record { pos = 10; st = List.[]; d = 0; at = λ x. x },
               (
-                Bool.bAt 12 λ x. x,
+                record { pos = 27; ty = Syntax.tyRef Syntax.erased Syntax.mut (Syntax.tyInt Syntax.w16); ref = λ x. x },
                 (
-                  record { pos = 28; ty = Syntax.tyRef Syntax.erased Syntax.mut (Syntax.tyInt Syntax.w16); ref = λ x. x },
-                  (
-                    record { pos = 15; st = List.[]; d = 0; at = λ x. x },
-                    (Num.vAt 10 λ x. x, (record { pos = 14; st = List.[]; d = 0; at = λ x. x }, (record { pos = 7; st = List.[]; d = 0; at = λ x. x }, (Num.vAt 8 λ x. x, tt)))),
-                  ),
+                  record { pos = 13; st = List.[]; d = 0; at = λ x. x },
+                  (Num.vAt 9 λ x. x, (record { pos = 12; st = List.[]; d = 0; at = λ x. x }, (record { pos = 6; st = List.[]; d = 0; at = λ x. x }, (Num.vAt 7 λ x. x, tt)))),
                 ),
               ),
             ),
-          ) 16 (List._∷_ 0 (List._∷_ 6
-              List.[])) (Call.sub-id 𝓤 H A W (G46 .slots)) (
+          ) 14 (List._∷_ 0 (List._∷_ 6
+              List.[])) (Call.sub-id 𝓤 H A W (G45 .slots)) (
                 ShrSlice.spares-sslice 𝓤 H A W (Referent.rtF (Referent.fInt Syntax.w8)) (Syntax.tyRef (Syntax.named 0) Syntax.imm (Syntax.tyInt Syntax.w8)) 0,
                 Shared.reads-sslice 𝓤 H A W (Referent.rtF
                     (Referent.fInt Syntax.w8)) (Syntax.tyRef (Syntax.named 0) Syntax.imm (Syntax.tyInt Syntax.w8)) 0,
                 Path'.refl,
                 (
                   (
-                    Yields.yields-copy 𝓤 H A W (λ ρ. Unit) (Declared'.row BitPosition.the-type) Path'.refl (Copies.cStruct BitPosition.the-type Laws.the-laws Laws.the-copy .copy 𝓤 H A W) (Rows.whole
-                        (Declared'.row BitPosition.the-type)) (λ x. x) (λ x. x) (λ ρ told. Local.mem-whole 𝓤 H A W (Declared'.row BitPosition.the-type) ρ) λ ρ told. Local.whole-mem 𝓤 H A W (Declared'.row
-                        BitPosition.the-type) ρ,
+                    Yields.yields-copy 𝓤 H A W (λ ρ. Unit) (Declared'.row Place.the-type) Path'.refl (Copies.cStruct Place.the-type Laws'3.the-laws Laws'3.the-copy .copy 𝓤 H A W) (Rows.whole (Declared'.row
+                        Place.the-type)) (λ x. x) (λ x. x) (λ ρ told. Local.mem-whole 𝓤 H A W (Declared'.row Place.the-type) ρ) λ ρ told. Local.whole-mem 𝓤 H A W (Declared'.row Place.the-type) ρ,
                     Path'.refl,
                   ),
                   (
-                    (Scalar.reads-sc 𝓤 H A W Row.sBool, Path'.refl),
+                    Reads'.as-is 𝓤 H A (Mut.mslice (Referent.rtF (Referent.fInt Syntax.w16)) (Syntax.tyRef Syntax.erased Syntax.mut (Syntax.tyInt Syntax.w16)) 6),
+                    Mut.reads-mslice 𝓤 H A W (Referent.rtF
+                        (Referent.fInt Syntax.w16)) (Syntax.tyRef Syntax.erased Syntax.mut (Syntax.tyInt Syntax.w16)) 6,
+                    Path'.refl,
                     (
-                      Reads'.as-is 𝓤 H A (Mut.mslice (Referent.rtF (Referent.fInt Syntax.w16)) (Syntax.tyRef Syntax.erased Syntax.mut (Syntax.tyInt Syntax.w16)) 6),
-                      Mut.reads-mslice 𝓤 H A W (Referent.rtF
-                          (Referent.fInt Syntax.w16)) (Syntax.tyRef Syntax.erased Syntax.mut (Syntax.tyInt Syntax.w16)) 6,
-                      Path'.refl,
                       (
+                        Yields.yields-copy 𝓤 H A W (λ ρ. Unit) (Declared'.row Set.the-type) Path'.refl (Copies.cStruct Set.the-type Laws'7.the-laws Laws'7.the-copy .copy 𝓤 H A W) (Rows.whole (Declared'.row
+                            Set.the-type)) (λ x. x) (λ x. x) (λ ρ told. Local.mem-whole 𝓤 H A W (Declared'.row Set.the-type) ρ) λ ρ told. Local.whole-mem 𝓤 H A W (Declared'.row Set.the-type) ρ,
+                        Path'.refl,
+                      ),
+                      (
+                        (Scalar.reads-sc 𝓤 H A W (Row.sInt Syntax.w64), Path'.refl),
                         (
-                          Yields.yields-copy 𝓤 H A W (λ ρ. Unit) (Declared'.row Set.the-type) Path'.refl (Copies.cStruct Set.the-type Laws'6.the-laws Laws'6.the-copy .copy 𝓤 H A W) (Rows.whole (Declared'.row
-                              Set.the-type)) (λ x. x) (λ x. x) (λ ρ told. Local.mem-whole 𝓤 H A W (Declared'.row Set.the-type) ρ) λ ρ told. Local.whole-mem 𝓤 H A W (Declared'.row Set.the-type) ρ,
-                          Path'.refl,
-                        ),
-                        (
-                          (Scalar.reads-sc 𝓤 H A W (Row.sInt Syntax.w64), Path'.refl),
+                          (
+                            Yields.yields-copy 𝓤 H A W (λ ρ. Unit) (Declared'.row Plan.the-type) Path'.refl (Copies.cStruct Plan.the-type Laws'5.the-laws Laws'5.the-copy .copy 𝓤 H A W) (Rows.whole (Declared'.row
+                                Plan.the-type)) (λ x. x) (λ x. x) (λ ρ told. Local.mem-whole 𝓤 H A W (Declared'.row Plan.the-type) ρ) λ ρ told. Local.whole-mem 𝓤 H A W (Declared'.row Plan.the-type) ρ,
+                            Path'.refl,
+                          ),
                           (
                             (
-                              Yields.yields-copy 𝓤 H A W (λ ρ. Unit) (Declared'.row Plan.the-type) Path'.refl (Copies.cStruct Plan.the-type Laws'4.the-laws Laws'4.the-copy .copy 𝓤 H A W) (Rows.whole (Declared'.row
-                                  Plan.the-type)) (λ x. x) (λ x. x) (λ ρ told. Local.mem-whole 𝓤 H A W (Declared'.row Plan.the-type) ρ) λ ρ told. Local.whole-mem 𝓤 H A W (Declared'.row Plan.the-type) ρ,
+                              Yields.yields-copy 𝓤 H A W (λ ρ. Unit) (Declared'.row Quantisers.the-type) Path'.refl (Copies.cStruct Quantisers.the-type Laws'6.the-laws Laws'6.the-copy .copy 𝓤 H A W) (Rows.whole
+                                  (Declared'.row Quantisers.the-type)) (λ x. x) (λ x. x) (λ ρ told. Local.mem-whole 𝓤 H A W (Declared'.row Quantisers.the-type) ρ) λ ρ told. Local.whole-mem 𝓤 H A W (Declared'.row
+                                  Quantisers.the-type) ρ,
                               Path'.refl,
                             ),
-                            (
-                              (
-                                Yields.yields-copy 𝓤 H A W (λ ρ. Unit) (Declared'.row Quantisers.the-type) Path'.refl (Copies.cStruct Quantisers.the-type Laws'5.the-laws Laws'5.the-copy .copy 𝓤 H A W) (Rows.whole
-                                    (Declared'.row Quantisers.the-type)) (λ x. x) (λ x. x) (λ ρ told. Local.mem-whole 𝓤 H A W (Declared'.row Quantisers.the-type) ρ) λ ρ told. Local.whole-mem 𝓤 H A W (Declared'.row
-                                    Quantisers.the-type) ρ,
-                                Path'.refl,
-                              ),
-                              ((Scalar.reads-sc 𝓤 H A W (Row.sInt Syntax.w32), Path'.refl), tt),
-                            ),
+                            ((Scalar.reads-sc 𝓤 H A W (Row.sInt Syntax.w32), Path'.refl), tt),
                           ),
                         ),
                       ),
                     ),
                   ),
                 ),
-              ) (Reads'.room-gone 𝓤 H A y7) (tt, (tt, tt)) Path'.refl) d46
+              ) (Reads'.room-gone 𝓤 H A y8) (tt, (tt, tt)) Path'.refl) d42
 
-          d48 : Typed.Typed 𝓤 H A 𝓣 E G45 b47 Δ3 (at48 bs)
-          d48 = Typed.s-seq 𝓤 H A W 𝓣 E G45 G46 b21 b46 Δ3 (Typed.ask (s42 bs)) (at47 bs) (Relend.t-sl-aggregate 𝓤 H A W E (Referent.rtF (Referent.fInt Syntax.w16)) 𝓣 (Relend.asMut (Referent.rtF
-              (Referent.fInt Syntax.w16))) G45 27 28 6 (Syntax.tyRef Syntax.erased Syntax.mut (Syntax.tyInt Syntax.w16)) (Syntax.tyRef Syntax.erased Syntax.mut (Syntax.tyInt Syntax.w16)) (λ x. x)
-              (Scalar.oFld 4 (List._∷_ (Syntax.field 1) List.[]) (Syntax.tyInt Syntax.w64) 8 λ v. Shared.lenV (v .0)) (Reads'.as-is 𝓤 H A (Relend.msptr (Referent.rtF (Referent.fInt Syntax.w16))
+          d44 : Typed.Typed 𝓤 H A 𝓣 E G44 b44 Δ3 (at44 bs)
+          d44 = Typed.s-seq 𝓤 H A W 𝓣 E G44 G45 b20 b43 Δ3 (Typed.ask (s41 bs)) (at43 bs) (Relend.t-sl-aggregate 𝓤 H A W E (Referent.rtF (Referent.fInt Syntax.w16)) 𝓣 (Relend.asMut (Referent.rtF
+              (Referent.fInt Syntax.w16))) G44 26 27 6 (Syntax.tyRef Syntax.erased Syntax.mut (Syntax.tyInt Syntax.w16)) (Syntax.tyRef Syntax.erased Syntax.mut (Syntax.tyInt Syntax.w16)) (λ x. x)
+              (Scalar.oFld 3 (List._∷_ (Syntax.field 1) List.[]) (Syntax.tyInt Syntax.w64) 8 λ v. Shared.lenV (v .0)) (Reads'.as-is 𝓤 H A (Relend.msptr (Referent.rtF (Referent.fInt Syntax.w16))
               (Syntax.tyRef Syntax.erased Syntax.mut (Syntax.tyInt Syntax.w16)) 6)) (Reads'.room-gone 𝓤 H A y3) (
                 Relend.reads-owed-len 𝓤 H A W (Referent.rtF (Referent.fInt Syntax.w16)) (Syntax.tyRef (Syntax.named 1) Syntax.mut (Syntax.tyInt Syntax.w16)) 1 6 (Row.lease (κs .1 .0) (qs .1 .0)) 8
                     Path'.refl,
                 Path'.refl,
-              ) Path'.refl Path'.refl λ b o k. tt) d47
+              ) Path'.refl Path'.refl λ b o k. tt) d43
 
-          d49 : Typed.Typed 𝓤 H A 𝓣 E G44 b48 Δ3 (at49 bs)
-          d49 = Typed.s-seq 𝓤 H A W 𝓣 E G44 G45 b20 b47 Δ3 (Typed.give (s41 bs)) (at48 bs) (Relend.t-sl-relend 𝓤 H A W E (Referent.rtF (Referent.fInt Syntax.w16)) 𝓣 G44 4 27 1 6 (Syntax.tyRef
+          d45 : Typed.Typed 𝓤 H A 𝓣 E G43 b45 Δ3 (at45 bs)
+          d45 = Typed.s-seq 𝓤 H A W 𝓣 E G43 G44 b19 b44 Δ3 (Typed.give (s40 bs)) (at44 bs) (Relend.t-sl-relend 𝓤 H A W E (Referent.rtF (Referent.fInt Syntax.w16)) 𝓣 G43 3 26 1 6 (Syntax.tyRef
               (Syntax.named 1) Syntax.mut (Syntax.tyInt Syntax.w16)) (Syntax.tyRef Syntax.erased Syntax.mut (Syntax.tyInt Syntax.w16)) (Row.lease (κs .1 .0) (qs .1 .0)) 0 (λ x. x) (Reads'.as-is 𝓤 H A
               (Mut.mslice (Referent.rtF (Referent.fInt Syntax.w16)) (Syntax.tyRef (Syntax.named 1) Syntax.mut (Syntax.tyInt Syntax.w16)) 1)) (Reads'.room-gone 𝓤 H A (Syntax.tyRef Syntax.erased Syntax.mut
-              (Syntax.tyInt Syntax.w16))) Path'.refl tt Path'.refl Path'.refl Path'.refl λ b o. tt) d48
+              (Syntax.tyInt Syntax.w16))) Path'.refl tt Path'.refl Path'.refl Path'.refl λ b o. tt) d44
 
-          d50 : Typed.Typed 𝓤 H A 𝓣 E G43 b48 Δ3 (at50 bs)
-          d50 = Typed.g-pre 𝓤 H A W 𝓣 E G43 G44 b48 Δ3 (λ Ψ. Ψ) (at49 bs) (Lifetime.g-begin 𝓤 H A W E G43 6 (
-            tt,
-            (tt, (tt, (tt, (tt, (tt, (tt, (tt, (tt, (tt, (tt, (tt, (tt, (tt, (tt, (tt, (tt, (tt, (tt, (tt, (tt, (tt, (tt, (tt, (tt, (tt, (tt, (tt, (tt, (tt, (tt, (tt, tt))))))))))))))))))))))))))))))),
-          ))
-              d49
+          d46 : Typed.Typed 𝓤 H A 𝓣 E G42 b45 Δ3 (at46 bs)
+          d46 = Typed.g-pre 𝓤 H A W 𝓣 E G42 G43 b45 Δ3 (λ Ψ. Ψ) (at45 bs) (Lifetime.g-begin 𝓤 H A W E G42 6
+              (tt, (tt, (tt, (tt, (tt, (tt, (tt, (tt, (tt, (tt, (tt, (tt, (tt, (tt, (tt, (tt, (tt, (tt, (tt, (tt, (tt, (tt, (tt, (tt, (tt, (tt, (tt, (tt, (tt, (tt, (tt, tt))))))))))))))))))))))))))))))))
+              d45
 
-          d51 : Typed.Typed 𝓤 H A 𝓣 E G42 b48 Δ3 (at51 bs)
-          d51 = Typed.g-pre 𝓤 H A W 𝓣 E G42 G43 b48 Δ3 (λ Ψ. Ψ) (at50 bs) (Lifetime.g-forget 𝓤 H A W E G42 5 Row.dead Path'.refl) d50
+          d47 : Typed.Typed 𝓤 H A 𝓣 E G41 b45 Δ3 (at47 bs)
+          d47 = Typed.g-pre 𝓤 H A W 𝓣 E G41 G42 b45 Δ3 (λ Ψ. Ψ) (at46 bs) (Lifetime.g-forget 𝓤 H A W E G41 5 Row.dead Path'.refl) d46
 
-          d52 : Typed.Typed 𝓤 H A 𝓣 E G41 b48 Δ3 (at52 bs)
-          d52 = Typed.g-pre 𝓤 H A W 𝓣 E G41 G42 b48 Δ3 (Typed.both (s38 bs)) (at51 bs) (Relend.g-back-sl 𝓤 H A W E (Element.type) G41 26 5 2 5 (Syntax.tyRef (Syntax.named 2) Syntax.mut Element.behind)
+          d48 : Typed.Typed 𝓤 H A 𝓣 E G40 b45 Δ3 (at48 bs)
+          d48 = Typed.g-pre 𝓤 H A W 𝓣 E G40 G41 b45 Δ3 (Typed.both (s37 bs)) (at47 bs) (Relend.g-back-sl 𝓤 H A W E (Element.type) G40 25 4 2 5 (Syntax.tyRef (Syntax.named 2) Syntax.mut Element.behind)
               (Syntax.tyRef Syntax.erased Syntax.mut Element.behind) (Row.lease (κs .1 .1 .0) (qs .1 .1 .0)) (λ x. x) (λ x. x) (Reads'.as-is 𝓤 H A (Mut.msleft (Element.type) (Syntax.tyRef Syntax.erased
               Syntax.mut Element.behind))) (Reads'.as-is 𝓤 H A (Relend.mslice-owed (Element.type) (Syntax.tyRef (Syntax.named 2) Syntax.mut Element.behind) 2 5 (Row.lease (κs .1 .1 .0) (qs .1 .1 .0))))
-              Path'.refl Path'.refl) d51
+              Path'.refl Path'.refl) d47
 
-          d53 : Typed.Typed 𝓤 H A 𝓣 E G40 b48 Δ3 (at53 bs)
-          d53 = Typed.g-pre 𝓤 H A W 𝓣 E G40 G41 b48 Δ3 (λ Ψ. Ψ) (at52 bs) (Lifetime.g-end 𝓤 H A W E G40 5 Path'.refl) d52
+          d49 : Typed.Typed 𝓤 H A 𝓣 E G39 b45 Δ3 (at49 bs)
+          d49 = Typed.g-pre 𝓤 H A W 𝓣 E G39 G40 b45 Δ3 (λ Ψ. Ψ) (at48 bs) (Lifetime.g-end 𝓤 H A W E G39 5 Path'.refl) d48
 
-          d54 : Typed.Typed 𝓤 H A 𝓣 E G39 b49 Δ3 (at54 bs)
-          d54 = Typed.s-seq 𝓤 H A W 𝓣 E G39 G40 b19 b48 Δ3 (Typed.both (s36 bs)) (at53 bs) (Plain.t-call-plain 𝓤 H A W 𝓣 1 ps·3 r·3 (claims· .6) (claims· .7) "block::records::load_set" (known .3) E (λ
-              pos β. β) G39 (
-                record { pos = 26; ty = Syntax.tyRef Syntax.erased Syntax.mut Element.behind; ref = λ x. x },
-                (Num.vFld 14 (List._∷_ (Syntax.field 2) List.[]) 16 λ x. Plan.struct .as-values x .1 .1 .0, tt),
-              ) 15 (List._∷_ 5 List.[]) (Call.sub-id 𝓤 H A W (G39 .slots)) (
+          d50 : Typed.Typed 𝓤 H A 𝓣 E G38 b46 Δ3 (at50 bs)
+          d50 = Typed.s-seq 𝓤 H A W 𝓣 E G38 G39 b18 b45 Δ3 (Typed.both (s35 bs)) (at49 bs) (Plain.t-call-plain 𝓤 H A W 𝓣 1 ps·3 r·3 (claims· .6) (claims· .7) "block::records::load_set" (known .3) E (λ
+              pos β. β) G38 (
+                record { pos = 25; ty = Syntax.tyRef Syntax.erased Syntax.mut Element.behind; ref = λ x. x },
+                (Num.vFld 12 (List._∷_ (Syntax.field 2) List.[]) 16 λ x. Plan.struct .as-values x .1 .1 .0, tt),
+              ) 13 (List._∷_ 5 List.[]) (Call.sub-id 𝓤 H A W (G38 .slots)) (
                 Reads'.as-is 𝓤 H A (Mut.mslice (Element.type) (Syntax.tyRef Syntax.erased Syntax.mut Element.behind) 5),
                 Mut.reads-mslice 𝓤 H A W (Element.type) (Syntax.tyRef Syntax.erased Syntax.mut
                     Element.behind) 5,
                 Path'.refl,
-                ((Reads.reads-field 𝓤 H A W Plan.the-type Laws'4.the-laws 2 (Syntax.tyInt Syntax.w64) 16 Path'.refl, Path'.refl), tt),
+                ((Reads.reads-field 𝓤 H A W Plan.the-type Laws'5.the-laws 2 (Syntax.tyInt Syntax.w64) 16 Path'.refl, Path'.refl), tt),
               ) (Reads'.room-gone 𝓤 H A y2) (tt, tt)
-              Path'.refl) d53
+              Path'.refl) d49
 
-          d55 : Typed.Typed 𝓤 H A 𝓣 E G38 b50 Δ3 (at55 bs)
-          d55 = Typed.s-seq 𝓤 H A W 𝓣 E G38 G39 b18 b49 Δ3 (Typed.ask (s35 bs)) (at54 bs) (Relend.t-sl-aggregate 𝓤 H A W E (Element.type) 𝓣 (Relend.asMut (Element.type)) G38 25 26 5 (Syntax.tyRef
-              Syntax.erased Syntax.mut Element.behind) (Syntax.tyRef Syntax.erased Syntax.mut Element.behind) (λ x. x) (Scalar.oFld 5 (List._∷_ (Syntax.field 1) List.[]) (Syntax.tyInt Syntax.w64) 8 λ v.
+          d51 : Typed.Typed 𝓤 H A 𝓣 E G37 b47 Δ3 (at51 bs)
+          d51 = Typed.s-seq 𝓤 H A W 𝓣 E G37 G38 b17 b46 Δ3 (Typed.ask (s34 bs)) (at50 bs) (Relend.t-sl-aggregate 𝓤 H A W E (Element.type) 𝓣 (Relend.asMut (Element.type)) G37 24 25 5 (Syntax.tyRef
+              Syntax.erased Syntax.mut Element.behind) (Syntax.tyRef Syntax.erased Syntax.mut Element.behind) (λ x. x) (Scalar.oFld 4 (List._∷_ (Syntax.field 1) List.[]) (Syntax.tyInt Syntax.w64) 8 λ v.
               Shared.lenV (v .0)) (Reads'.as-is 𝓤 H A (Relend.msptr (Element.type) (Syntax.tyRef Syntax.erased Syntax.mut Element.behind) 5)) (Reads'.room-gone 𝓤 H A y4)
               (Relend.reads-owed-len 𝓤 H A W (Element.type) (Syntax.tyRef (Syntax.named 2) Syntax.mut Element.behind) 2 5 (Row.lease (κs .1 .1 .0) (qs .1 .1 .0)) 8 Path'.refl, Path'.refl) Path'.refl
-              Path'.refl λ b o k. tt) d54
+              Path'.refl λ b o k. tt) d50
 
-          d56 : Typed.Typed 𝓤 H A 𝓣 E G37 b51 Δ3 (at56 bs)
-          d56 = Typed.s-seq 𝓤 H A W 𝓣 E G37 G38 b17 b50 Δ3 (Typed.give (s34 bs)) (at55 bs) (Relend.t-sl-relend 𝓤 H A W E (Element.type) 𝓣 G37 5 25 2 5 (Syntax.tyRef (Syntax.named 2) Syntax.mut
+          d52 : Typed.Typed 𝓤 H A 𝓣 E G36 b48 Δ3 (at52 bs)
+          d52 = Typed.s-seq 𝓤 H A W 𝓣 E G36 G37 b16 b47 Δ3 (Typed.give (s33 bs)) (at51 bs) (Relend.t-sl-relend 𝓤 H A W E (Element.type) 𝓣 G36 4 24 2 5 (Syntax.tyRef (Syntax.named 2) Syntax.mut
               Element.behind) (Syntax.tyRef Syntax.erased Syntax.mut Element.behind) (Row.lease (κs .1 .1 .0) (qs .1 .1 .0)) 0 (λ x. x) (Reads'.as-is 𝓤 H A (Mut.mslice (Element.type) (Syntax.tyRef
-              (Syntax.named 2) Syntax.mut Element.behind) 2)) (Reads'.room-gone 𝓤 H A (Syntax.tyRef Syntax.erased Syntax.mut Element.behind)) Path'.refl tt Path'.refl Path'.refl Path'.refl λ b o. tt) d55
+              (Syntax.named 2) Syntax.mut Element.behind) 2)) (Reads'.room-gone 𝓤 H A (Syntax.tyRef Syntax.erased Syntax.mut Element.behind)) Path'.refl tt Path'.refl Path'.refl Path'.refl λ b o. tt) d51
 
-          d57 : Typed.Typed 𝓤 H A 𝓣 E G36 b51 Δ3 (at57 bs)
-          d57 = Typed.g-pre 𝓤 H A W 𝓣 E G36 G37 b51 Δ3 (λ Ψ. Ψ) (at56 bs) (Lifetime.g-begin 𝓤 H A W E G36 5 (
-            tt,
-            (tt, (tt, (tt, (tt, (tt, (tt, (tt, (tt, (tt, (tt, (tt, (tt, (tt, (tt, (tt, (tt, (tt, (tt, (tt, (tt, (tt, (tt, (tt, (tt, (tt, (tt, (tt, (tt, (tt, (tt, (tt, tt))))))))))))))))))))))))))))))),
-          ))
-              d56
+          d53 : Typed.Typed 𝓤 H A 𝓣 E G35 b48 Δ3 (at53 bs)
+          d53 = Typed.g-pre 𝓤 H A W 𝓣 E G35 G36 b48 Δ3 (λ Ψ. Ψ) (at52 bs) (Lifetime.g-begin 𝓤 H A W E G35 5
+              (tt, (tt, (tt, (tt, (tt, (tt, (tt, (tt, (tt, (tt, (tt, (tt, (tt, (tt, (tt, (tt, (tt, (tt, (tt, (tt, (tt, (tt, (tt, (tt, (tt, (tt, (tt, (tt, (tt, (tt, (tt, tt))))))))))))))))))))))))))))))))
+              d52
 
-          d58 : Typed.Typed 𝓤 H A 𝓣 E G35 b51 Δ3 (at58 bs)
-          d58 = Typed.g-pre 𝓤 H A W 𝓣 E G35 G36 b51 Δ3 (λ Ψ. Ψ) (at57 bs) (Lifetime.g-forget 𝓤 H A W E G35 4 Row.dead Path'.refl) d57
+          d54 : Typed.Typed 𝓤 H A 𝓣 E G34 b48 Δ3 (at54 bs)
+          d54 = Typed.g-pre 𝓤 H A W 𝓣 E G34 G35 b48 Δ3 (λ Ψ. Ψ) (at53 bs) (Lifetime.g-forget 𝓤 H A W E G34 4 Row.dead Path'.refl) d53
 
-          d59 : Typed.Typed 𝓤 H A 𝓣 E G34 b51 Δ3 (at59 bs)
-          d59 = Typed.g-pre 𝓤 H A W 𝓣 E G34 G35 b51 Δ3 (Typed.give (s31 bs)) (at58 bs) (Know.g-sl-known 𝓤 H A W (Referent.fInt Syntax.w16) E G34 4 1 (Syntax.tyRef (Syntax.named 1) Syntax.mut
+          d55 : Typed.Typed 𝓤 H A 𝓣 E G33 b48 Δ3 (at55 bs)
+          d55 = Typed.g-pre 𝓤 H A W 𝓣 E G33 G34 b48 Δ3 (Typed.give (s30 bs)) (at54 bs) (Know.g-sl-known 𝓤 H A W (Referent.fInt Syntax.w16) E G33 3 1 (Syntax.tyRef (Syntax.named 1) Syntax.mut
               (Syntax.tyInt Syntax.w16)) (Row.lease (κs .1 .0) (qs .1 .0)) 0 (λ x. x) record { fits = Dec'.lit< tt } (Reads'.as-is 𝓤 H A (Mut.mslice (Referent.rtF (Referent.fInt Syntax.w16)) (Syntax.tyRef
-              (Syntax.named 1) Syntax.mut (Syntax.tyInt Syntax.w16)) 1)) Path'.refl tt) d58
+              (Syntax.named 1) Syntax.mut (Syntax.tyInt Syntax.w16)) 1)) Path'.refl tt) d54
 
-          d60 : Typed.Typed 𝓤 H A 𝓣 E G33 b51 Δ3 (at60 bs)
-          d60 = Typed.g-pre 𝓤 H A W 𝓣 E G33 G34 b51 Δ3 (Typed.both (s30 bs)) (at59 bs) (Relend.g-back-sl 𝓤 H A W E (Referent.rtF (Referent.fInt Syntax.w16)) G33 24 4 1 4 (Syntax.tyRef (Syntax.named 1)
+          d56 : Typed.Typed 𝓤 H A 𝓣 E G32 b48 Δ3 (at56 bs)
+          d56 = Typed.g-pre 𝓤 H A W 𝓣 E G32 G33 b48 Δ3 (Typed.both (s29 bs)) (at55 bs) (Relend.g-back-sl 𝓤 H A W E (Referent.rtF (Referent.fInt Syntax.w16)) G32 23 3 1 4 (Syntax.tyRef (Syntax.named 1)
               Syntax.mut (Syntax.tyInt Syntax.w16)) (Syntax.tyRef Syntax.erased Syntax.mut (Syntax.tyInt Syntax.w16)) (Row.lease (κs .1 .0) (qs .1 .0)) (λ x. x) (λ x. x) (Reads'.as-is 𝓤 H A (Mut.msleft
               (Referent.rtF (Referent.fInt Syntax.w16)) (Syntax.tyRef Syntax.erased Syntax.mut (Syntax.tyInt Syntax.w16)))) (Reads'.as-is 𝓤 H A (Relend.mslice-owed (Referent.rtF (Referent.fInt
-              Syntax.w16)) (Syntax.tyRef (Syntax.named 1) Syntax.mut (Syntax.tyInt Syntax.w16)) 1 4 (Row.lease (κs .1 .0) (qs .1 .0)))) Path'.refl Path'.refl) d59
+              Syntax.w16)) (Syntax.tyRef (Syntax.named 1) Syntax.mut (Syntax.tyInt Syntax.w16)) 1 4 (Row.lease (κs .1 .0) (qs .1 .0)))) Path'.refl Path'.refl) d55
 
-          d61 : Typed.Typed 𝓤 H A 𝓣 E G32 b51 Δ3 (at61 bs)
-          d61 = Typed.g-pre 𝓤 H A W 𝓣 E G32 G33 b51 Δ3 (λ Ψ. Ψ) (at60 bs) (Lifetime.g-end 𝓤 H A W E G32 4 Path'.refl) d60
+          d57 : Typed.Typed 𝓤 H A 𝓣 E G31 b48 Δ3 (at57 bs)
+          d57 = Typed.g-pre 𝓤 H A W 𝓣 E G31 G32 b48 Δ3 (λ Ψ. Ψ) (at56 bs) (Lifetime.g-end 𝓤 H A W E G31 4 Path'.refl) d56
 
-          d62 : Typed.Typed 𝓤 H A 𝓣 E G31 b51 Δ3 (at62 bs)
-          d62 = Typed.g-pre 𝓤 H A W 𝓣 E G31 G32 b51 Δ3 (Typed.pass T31 T32 (s28 bs)) (at61 bs) (Scalar.g-room 𝓤 H A W E G31 20 Syntax.tyUnit (Scalar.room-sc 𝓤 H A W Row.sUnit)) d61
+          d58 : Typed.Typed 𝓤 H A 𝓣 E G30 b48 Δ3 (at58 bs)
+          d58 = Typed.g-pre 𝓤 H A W 𝓣 E G30 G31 b48 Δ3 (Typed.pass T30 T31 (s27 bs)) (at57 bs) (Scalar.g-room 𝓤 H A W E G30 19 Syntax.tyUnit (Scalar.room-sc 𝓤 H A W Row.sUnit)) d57
 
-          d63 : Typed.Typed 𝓤 H A 𝓣 E G30 b52 Δ3 (at63 bs)
-          d63 = Typed.s-seq 𝓤 H A W 𝓣 E G30 G31 b16 b51 Δ3 (Typed.both (s27 bs)) (at62 bs) (Plain.t-call-plain 𝓤 H A W 𝓣 1 ps·2 r·2 (claims· .4) (claims· .5) "lines::set_guards" (known .2) E (λ pos β.
-              β) G30 (
-                record { pos = 24; ty = Syntax.tyRef Syntax.erased Syntax.mut (Syntax.tyInt Syntax.w16); ref = λ x. x },
-                (Num.vAt 10 λ x. x, (Num.vFld 14 (List._∷_ (Syntax.field 1) List.[]) 8 λ x. Plan.struct .as-values x .1 .0, tt)),
-              ) 20 (List._∷_ 4 List.[]) (Call.sub-id 𝓤 H A W (G30 .slots)) (
+          d59 : Typed.Typed 𝓤 H A 𝓣 E G29 b49 Δ3 (at59 bs)
+          d59 = Typed.s-seq 𝓤 H A W 𝓣 E G29 G30 b15 b48 Δ3 (Typed.both (s26 bs)) (at58 bs) (Plain.t-call-plain 𝓤 H A W 𝓣 1 ps·2 r·2 (claims· .4) (claims· .5) "lines::set_guards" (known .2) E (λ pos β.
+              β) G29 (
+                record { pos = 23; ty = Syntax.tyRef Syntax.erased Syntax.mut (Syntax.tyInt Syntax.w16); ref = λ x. x },
+                (Num.vAt 9 λ x. x, (Num.vFld 12 (List._∷_ (Syntax.field 1) List.[]) 8 λ x. Plan.struct .as-values x .1 .0, tt)),
+              ) 19 (List._∷_ 4 List.[]) (Call.sub-id 𝓤 H A W (G29 .slots)) (
                 Reads'.as-is 𝓤 H A (Mut.mslice (Referent.rtF (Referent.fInt Syntax.w16)) (Syntax.tyRef Syntax.erased Syntax.mut (Syntax.tyInt Syntax.w16)) 4),
                 Mut.reads-mslice 𝓤 H A W (Referent.rtF
                     (Referent.fInt Syntax.w16)) (Syntax.tyRef Syntax.erased Syntax.mut (Syntax.tyInt Syntax.w16)) 4,
                 Path'.refl,
-                ((Scalar.reads-sc 𝓤 H A W (Row.sInt Syntax.w64), Path'.refl), ((Reads.reads-field 𝓤 H A W Plan.the-type Laws'4.the-laws 1 (Syntax.tyInt Syntax.w64) 8 Path'.refl, Path'.refl), tt)),
+                ((Scalar.reads-sc 𝓤 H A W (Row.sInt Syntax.w64), Path'.refl), ((Reads.reads-field 𝓤 H A W Plan.the-type Laws'5.the-laws 1 (Syntax.tyInt Syntax.w64) 8 Path'.refl, Path'.refl), tt)),
               )
-              (Reads'.room-gone 𝓤 H A Syntax.tyUnit) (tt, tt) Path'.refl) d62
+              (Reads'.room-gone 𝓤 H A Syntax.tyUnit) (tt, tt) Path'.refl) d58
 
-          d64 : Typed.Typed 𝓤 H A 𝓣 E G29 b53 Δ3 (at64 bs)
-          d64 = Typed.s-seq 𝓤 H A W 𝓣 E G29 G30 b15 b52 Δ3 (Typed.ask (s26 bs)) (at63 bs) (Relend.t-sl-aggregate 𝓤 H A W E (Referent.rtF (Referent.fInt Syntax.w16)) 𝓣 (Relend.asMut (Referent.rtF
-              (Referent.fInt Syntax.w16))) G29 23 24 4 (Syntax.tyRef Syntax.erased Syntax.mut (Syntax.tyInt Syntax.w16)) (Syntax.tyRef Syntax.erased Syntax.mut (Syntax.tyInt Syntax.w16)) (λ x. x)
-              (Scalar.oFld 4 (List._∷_ (Syntax.field 1) List.[]) (Syntax.tyInt Syntax.w64) 8 λ v. Shared.lenV (v .0)) (Reads'.as-is 𝓤 H A (Relend.msptr (Referent.rtF (Referent.fInt Syntax.w16))
+          d60 : Typed.Typed 𝓤 H A 𝓣 E G28 b50 Δ3 (at60 bs)
+          d60 = Typed.s-seq 𝓤 H A W 𝓣 E G28 G29 b14 b49 Δ3 (Typed.ask (s25 bs)) (at59 bs) (Relend.t-sl-aggregate 𝓤 H A W E (Referent.rtF (Referent.fInt Syntax.w16)) 𝓣 (Relend.asMut (Referent.rtF
+              (Referent.fInt Syntax.w16))) G28 22 23 4 (Syntax.tyRef Syntax.erased Syntax.mut (Syntax.tyInt Syntax.w16)) (Syntax.tyRef Syntax.erased Syntax.mut (Syntax.tyInt Syntax.w16)) (λ x. x)
+              (Scalar.oFld 3 (List._∷_ (Syntax.field 1) List.[]) (Syntax.tyInt Syntax.w64) 8 λ v. Shared.lenV (v .0)) (Reads'.as-is 𝓤 H A (Relend.msptr (Referent.rtF (Referent.fInt Syntax.w16))
               (Syntax.tyRef Syntax.erased Syntax.mut (Syntax.tyInt Syntax.w16)) 4)) (Reads'.room-gone 𝓤 H A y3) (
                 Relend.reads-owed-len 𝓤 H A W (Referent.rtF (Referent.fInt Syntax.w16)) (Syntax.tyRef (Syntax.named 1) Syntax.mut (Syntax.tyInt Syntax.w16)) 1 4 (Row.lease (κs .1 .0) (qs .1 .0)) 8
                     Path'.refl,
                 Path'.refl,
-              ) Path'.refl Path'.refl λ b o k. tt) d63
+              ) Path'.refl Path'.refl λ b o k. tt) d59
 
-          d65 : Typed.Typed 𝓤 H A 𝓣 E G28 b54 Δ3 (at65 bs)
-          d65 = Typed.s-seq 𝓤 H A W 𝓣 E G28 G29 b14 b53 Δ3 (Typed.give (s25 bs)) (at64 bs) (Relend.t-sl-relend 𝓤 H A W E (Referent.rtF (Referent.fInt Syntax.w16)) 𝓣 G28 4 23 1 4 (Syntax.tyRef
+          d61 : Typed.Typed 𝓤 H A 𝓣 E G27 b51 Δ3 (at61 bs)
+          d61 = Typed.s-seq 𝓤 H A W 𝓣 E G27 G28 b13 b50 Δ3 (Typed.give (s24 bs)) (at60 bs) (Relend.t-sl-relend 𝓤 H A W E (Referent.rtF (Referent.fInt Syntax.w16)) 𝓣 G27 3 22 1 4 (Syntax.tyRef
               (Syntax.named 1) Syntax.mut (Syntax.tyInt Syntax.w16)) (Syntax.tyRef Syntax.erased Syntax.mut (Syntax.tyInt Syntax.w16)) (Row.lease (κs .1 .0) (qs .1 .0)) 0 (λ x. x) (Reads'.as-is 𝓤 H A
               (Mut.mslice (Referent.rtF (Referent.fInt Syntax.w16)) (Syntax.tyRef (Syntax.named 1) Syntax.mut (Syntax.tyInt Syntax.w16)) 1)) (Reads'.room-gone 𝓤 H A (Syntax.tyRef Syntax.erased Syntax.mut
-              (Syntax.tyInt Syntax.w16))) Path'.refl tt Path'.refl Path'.refl Path'.refl λ b o. tt) d64
+              (Syntax.tyInt Syntax.w16))) Path'.refl tt Path'.refl Path'.refl Path'.refl λ b o. tt) d60
 
-          d66 : Typed.Typed 𝓤 H A 𝓣 E G27 b54 Δ3 (at66 bs)
-          d66 = Typed.g-pre 𝓤 H A W 𝓣 E G27 G28 b54 Δ3 (λ Ψ. Ψ) (at65 bs) (Lifetime.g-begin 𝓤 H A W E G27 4 (
-            tt,
-            (tt, (tt, (tt, (tt, (tt, (tt, (tt, (tt, (tt, (tt, (tt, (tt, (tt, (tt, (tt, (tt, (tt, (tt, (tt, (tt, (tt, (tt, (tt, (tt, (tt, (tt, (tt, (tt, (tt, (tt, (tt, tt))))))))))))))))))))))))))))))),
-          ))
-              d65
+          d62 : Typed.Typed 𝓤 H A 𝓣 E G26 b51 Δ3 (at62 bs)
+          d62 = Typed.g-pre 𝓤 H A W 𝓣 E G26 G27 b51 Δ3 (λ Ψ. Ψ) (at61 bs) (Lifetime.g-begin 𝓤 H A W E G26 4
+              (tt, (tt, (tt, (tt, (tt, (tt, (tt, (tt, (tt, (tt, (tt, (tt, (tt, (tt, (tt, (tt, (tt, (tt, (tt, (tt, (tt, (tt, (tt, (tt, (tt, (tt, (tt, (tt, (tt, (tt, (tt, tt))))))))))))))))))))))))))))))))
+              d61
 
-          d67 : Typed.Typed 𝓤 H A 𝓣 E G26 b54 Δ3 (at67 bs)
-          d67 = Typed.g-pre 𝓤 H A W 𝓣 E G26 G27 b54 Δ3 (λ Ψ. Ψ) (at66 bs) (Lifetime.g-forget 𝓤 H A W E G26 3 Row.dead Path'.refl) d66
+          d63 : Typed.Typed 𝓤 H A 𝓣 E G25 b51 Δ3 (at63 bs)
+          d63 = Typed.g-pre 𝓤 H A W 𝓣 E G25 G26 b51 Δ3 (λ Ψ. Ψ) (at62 bs) (Lifetime.g-forget 𝓤 H A W E G25 3 Row.dead Path'.refl) d62
 
-          d68 : Typed.Typed 𝓤 H A 𝓣 E G25 b54 Δ3 (at68 bs)
-          d68 = Typed.g-pre 𝓤 H A W 𝓣 E G25 G26 b54 Δ3 (Typed.give (s22 bs)) (at67 bs) (Know.g-sl-known 𝓤 H A W (Referent.fInt Syntax.w16) E G25 4 1 (Syntax.tyRef (Syntax.named 1) Syntax.mut
+          d64 : Typed.Typed 𝓤 H A 𝓣 E G24 b51 Δ3 (at64 bs)
+          d64 = Typed.g-pre 𝓤 H A W 𝓣 E G24 G25 b51 Δ3 (Typed.give (s21 bs)) (at63 bs) (Know.g-sl-known 𝓤 H A W (Referent.fInt Syntax.w16) E G24 3 1 (Syntax.tyRef (Syntax.named 1) Syntax.mut
               (Syntax.tyInt Syntax.w16)) (Row.lease (κs .1 .0) (qs .1 .0)) 0 (λ x. x) record { fits = Dec'.lit< tt } (Reads'.as-is 𝓤 H A (Mut.mslice (Referent.rtF (Referent.fInt Syntax.w16)) (Syntax.tyRef
-              (Syntax.named 1) Syntax.mut (Syntax.tyInt Syntax.w16)) 1)) Path'.refl tt) d67
+              (Syntax.named 1) Syntax.mut (Syntax.tyInt Syntax.w16)) 1)) Path'.refl tt) d63
 
-          d69 : Typed.Typed 𝓤 H A 𝓣 E G24 b54 Δ3 (at69 bs)
-          d69 = Typed.g-pre 𝓤 H A W 𝓣 E G24 G25 b54 Δ3 (Typed.both (s21 bs)) (at68 bs) (Relend.g-back-sl 𝓤 H A W E (Referent.rtF (Referent.fInt Syntax.w16)) G24 22 4 1 3 (Syntax.tyRef (Syntax.named 1)
+          d65 : Typed.Typed 𝓤 H A 𝓣 E G23 b51 Δ3 (at65 bs)
+          d65 = Typed.g-pre 𝓤 H A W 𝓣 E G23 G24 b51 Δ3 (Typed.both (s20 bs)) (at64 bs) (Relend.g-back-sl 𝓤 H A W E (Referent.rtF (Referent.fInt Syntax.w16)) G23 21 3 1 3 (Syntax.tyRef (Syntax.named 1)
               Syntax.mut (Syntax.tyInt Syntax.w16)) (Syntax.tyRef Syntax.erased Syntax.mut (Syntax.tyInt Syntax.w16)) (Row.lease (κs .1 .0) (qs .1 .0)) (λ x. x) (λ x. x) (Reads'.as-is 𝓤 H A (Mut.msleft
               (Referent.rtF (Referent.fInt Syntax.w16)) (Syntax.tyRef Syntax.erased Syntax.mut (Syntax.tyInt Syntax.w16)))) (Reads'.as-is 𝓤 H A (Relend.mslice-owed (Referent.rtF (Referent.fInt
-              Syntax.w16)) (Syntax.tyRef (Syntax.named 1) Syntax.mut (Syntax.tyInt Syntax.w16)) 1 3 (Row.lease (κs .1 .0) (qs .1 .0)))) Path'.refl Path'.refl) d68
+              Syntax.w16)) (Syntax.tyRef (Syntax.named 1) Syntax.mut (Syntax.tyInt Syntax.w16)) 1 3 (Row.lease (κs .1 .0) (qs .1 .0)))) Path'.refl Path'.refl) d64
 
-          d70 : Typed.Typed 𝓤 H A 𝓣 E G23 b54 Δ3 (at70 bs)
-          d70 = Typed.g-pre 𝓤 H A W 𝓣 E G23 G24 b54 Δ3 (λ Ψ. Ψ) (at69 bs) (Lifetime.g-end 𝓤 H A W E G23 3 Path'.refl) d69
+          d66 : Typed.Typed 𝓤 H A 𝓣 E G22 b51 Δ3 (at66 bs)
+          d66 = Typed.g-pre 𝓤 H A W 𝓣 E G22 G23 b51 Δ3 (λ Ψ. Ψ) (at65 bs) (Lifetime.g-end 𝓤 H A W E G22 3 Path'.refl) d65
 
-          d71 : Typed.Typed 𝓤 H A 𝓣 E G22 b54 Δ3 (at71 bs)
-          d71 = Typed.g-pre 𝓤 H A W 𝓣 E G22 G23 b54 Δ3 (Typed.pass T22 T23 (s19 bs)) (at70 bs) (Scalar.g-room 𝓤 H A W E G22 20 Syntax.tyUnit (Scalar.room-sc 𝓤 H A W Row.sUnit)) d70
+          d67 : Typed.Typed 𝓤 H A 𝓣 E G21 b51 Δ3 (at67 bs)
+          d67 = Typed.g-pre 𝓤 H A W 𝓣 E G21 G22 b51 Δ3 (Typed.pass T21 T22 (s18 bs)) (at66 bs) (Scalar.g-room 𝓤 H A W E G21 19 Syntax.tyUnit (Scalar.room-sc 𝓤 H A W Row.sUnit)) d66
 
-          d72 : Typed.Typed 𝓤 H A 𝓣 E G21 b55 Δ3 (at72 bs)
-          d72 = Typed.s-seq 𝓤 H A W 𝓣 E G21 G22 b13 b54 Δ3 (Typed.both (s18 bs)) (at71 bs) (Plain.t-call-plain 𝓤 H A W 𝓣 1 ps·2 r·2 (claims· .4) (claims· .5) "lines::set_guards" (known .2) E (λ pos β.
-              β) G21 (
-                record { pos = 22; ty = Syntax.tyRef Syntax.erased Syntax.mut (Syntax.tyInt Syntax.w16); ref = λ x. x },
-                (Num.vAt 10 λ x. x, (Num.vFld 14 (List._∷_ (Syntax.field 0) List.[]) 0 λ x. Plan.struct .as-values x .0, tt)),
-              ) 20 (List._∷_ 3 List.[]) (Call.sub-id 𝓤 H A W (G21 .slots)) (
+          d68 : Typed.Typed 𝓤 H A 𝓣 E G20 b52 Δ3 (at68 bs)
+          d68 = Typed.s-seq 𝓤 H A W 𝓣 E G20 G21 b12 b51 Δ3 (Typed.both (s17 bs)) (at67 bs) (Plain.t-call-plain 𝓤 H A W 𝓣 1 ps·2 r·2 (claims· .4) (claims· .5) "lines::set_guards" (known .2) E (λ pos β.
+              β) G20 (
+                record { pos = 21; ty = Syntax.tyRef Syntax.erased Syntax.mut (Syntax.tyInt Syntax.w16); ref = λ x. x },
+                (Num.vAt 9 λ x. x, (Num.vFld 12 (List._∷_ (Syntax.field 0) List.[]) 0 λ x. Plan.struct .as-values x .0, tt)),
+              ) 19 (List._∷_ 3 List.[]) (Call.sub-id 𝓤 H A W (G20 .slots)) (
                 Reads'.as-is 𝓤 H A (Mut.mslice (Referent.rtF (Referent.fInt Syntax.w16)) (Syntax.tyRef Syntax.erased Syntax.mut (Syntax.tyInt Syntax.w16)) 3),
                 Mut.reads-mslice 𝓤 H A W (Referent.rtF
                     (Referent.fInt Syntax.w16)) (Syntax.tyRef Syntax.erased Syntax.mut (Syntax.tyInt Syntax.w16)) 3,
                 Path'.refl,
-                ((Scalar.reads-sc 𝓤 H A W (Row.sInt Syntax.w64), Path'.refl), ((Reads.reads-field 𝓤 H A W Plan.the-type Laws'4.the-laws 0 (Syntax.tyInt Syntax.w64) 0 Path'.refl, Path'.refl), tt)),
+                ((Scalar.reads-sc 𝓤 H A W (Row.sInt Syntax.w64), Path'.refl), ((Reads.reads-field 𝓤 H A W Plan.the-type Laws'5.the-laws 0 (Syntax.tyInt Syntax.w64) 0 Path'.refl, Path'.refl), tt)),
               )
-              (Reads'.room-gone 𝓤 H A Syntax.tyUnit) (tt, tt) Path'.refl) d71
+              (Reads'.room-gone 𝓤 H A Syntax.tyUnit) (tt, tt) Path'.refl) d67
 
-          d73 : Typed.Typed 𝓤 H A 𝓣 E G20 b56 Δ3 (at73 bs)
-          d73 = Typed.s-seq 𝓤 H A W 𝓣 E G20 G21 b12 b55 Δ3 (Typed.ask (s17 bs)) (at72 bs) (Relend.t-sl-aggregate 𝓤 H A W E (Referent.rtF (Referent.fInt Syntax.w16)) 𝓣 (Relend.asMut (Referent.rtF
-              (Referent.fInt Syntax.w16))) G20 21 22 3 (Syntax.tyRef Syntax.erased Syntax.mut (Syntax.tyInt Syntax.w16)) (Syntax.tyRef Syntax.erased Syntax.mut (Syntax.tyInt Syntax.w16)) (λ x. x)
-              (Scalar.oFld 4 (List._∷_ (Syntax.field 1) List.[]) (Syntax.tyInt Syntax.w64) 8 λ v. Shared.lenV (v .0)) (Reads'.as-is 𝓤 H A (Relend.msptr (Referent.rtF (Referent.fInt Syntax.w16))
+          d69 : Typed.Typed 𝓤 H A 𝓣 E G19 b53 Δ3 (at69 bs)
+          d69 = Typed.s-seq 𝓤 H A W 𝓣 E G19 G20 b11 b52 Δ3 (Typed.ask (s16 bs)) (at68 bs) (Relend.t-sl-aggregate 𝓤 H A W E (Referent.rtF (Referent.fInt Syntax.w16)) 𝓣 (Relend.asMut (Referent.rtF
+              (Referent.fInt Syntax.w16))) G19 20 21 3 (Syntax.tyRef Syntax.erased Syntax.mut (Syntax.tyInt Syntax.w16)) (Syntax.tyRef Syntax.erased Syntax.mut (Syntax.tyInt Syntax.w16)) (λ x. x)
+              (Scalar.oFld 3 (List._∷_ (Syntax.field 1) List.[]) (Syntax.tyInt Syntax.w64) 8 λ v. Shared.lenV (v .0)) (Reads'.as-is 𝓤 H A (Relend.msptr (Referent.rtF (Referent.fInt Syntax.w16))
               (Syntax.tyRef Syntax.erased Syntax.mut (Syntax.tyInt Syntax.w16)) 3)) (Reads'.room-gone 𝓤 H A y3) (
                 Relend.reads-owed-len 𝓤 H A W (Referent.rtF (Referent.fInt Syntax.w16)) (Syntax.tyRef (Syntax.named 1) Syntax.mut (Syntax.tyInt Syntax.w16)) 1 3 (Row.lease (κs .1 .0) (qs .1 .0)) 8
                     Path'.refl,
                 Path'.refl,
-              ) Path'.refl Path'.refl λ b o k. tt) d72
+              ) Path'.refl Path'.refl λ b o k. tt) d68
 
-          d74 : Typed.Typed 𝓤 H A 𝓣 E G19 b57 Δ3 (at74 bs)
-          d74 = Typed.s-seq 𝓤 H A W 𝓣 E G19 G20 b11 b56 Δ3 (Typed.give (s16 bs)) (at73 bs) (Relend.t-sl-relend 𝓤 H A W E (Referent.rtF (Referent.fInt Syntax.w16)) 𝓣 G19 4 21 1 3 (Syntax.tyRef
+          d70 : Typed.Typed 𝓤 H A 𝓣 E G18 b54 Δ3 (at70 bs)
+          d70 = Typed.s-seq 𝓤 H A W 𝓣 E G18 G19 b10 b53 Δ3 (Typed.give (s15 bs)) (at69 bs) (Relend.t-sl-relend 𝓤 H A W E (Referent.rtF (Referent.fInt Syntax.w16)) 𝓣 G18 3 20 1 3 (Syntax.tyRef
               (Syntax.named 1) Syntax.mut (Syntax.tyInt Syntax.w16)) (Syntax.tyRef Syntax.erased Syntax.mut (Syntax.tyInt Syntax.w16)) (Row.lease (κs .1 .0) (qs .1 .0)) 0 (λ x. x) (Reads'.as-is 𝓤 H A
               (Mut.mslice (Referent.rtF (Referent.fInt Syntax.w16)) (Syntax.tyRef (Syntax.named 1) Syntax.mut (Syntax.tyInt Syntax.w16)) 1)) (Reads'.room-gone 𝓤 H A (Syntax.tyRef Syntax.erased Syntax.mut
-              (Syntax.tyInt Syntax.w16))) Path'.refl tt Path'.refl Path'.refl Path'.refl λ b o. tt) d73
+              (Syntax.tyInt Syntax.w16))) Path'.refl tt Path'.refl Path'.refl Path'.refl λ b o. tt) d69
 
-          d75 : Typed.Typed 𝓤 H A 𝓣 E G18 b57 Δ3 (at75 bs)
-          d75 = Typed.g-pre 𝓤 H A W 𝓣 E G18 G19 b57 Δ3 (λ Ψ. Ψ) (at74 bs) (Lifetime.g-begin 𝓤 H A W E G18 3 (
-            tt,
-            (tt, (tt, (tt, (tt, (tt, (tt, (tt, (tt, (tt, (tt, (tt, (tt, (tt, (tt, (tt, (tt, (tt, (tt, (tt, (tt, (tt, (tt, (tt, (tt, (tt, (tt, (tt, (tt, (tt, (tt, (tt, tt))))))))))))))))))))))))))))))),
-          ))
-              d74
+          d71 : Typed.Typed 𝓤 H A 𝓣 E G17 b54 Δ3 (at71 bs)
+          d71 = Typed.g-pre 𝓤 H A W 𝓣 E G17 G18 b54 Δ3 (λ Ψ. Ψ) (at70 bs) (Lifetime.g-begin 𝓤 H A W E G17 3
+              (tt, (tt, (tt, (tt, (tt, (tt, (tt, (tt, (tt, (tt, (tt, (tt, (tt, (tt, (tt, (tt, (tt, (tt, (tt, (tt, (tt, (tt, (tt, (tt, (tt, (tt, (tt, (tt, (tt, (tt, (tt, tt))))))))))))))))))))))))))))))))
+              d70
 
-          d76 : Typed.Typed 𝓤 H A 𝓣 E G14 b58 Δ3 (at76 bs)
-          d76 = Typed.s-seq 𝓤 H A W 𝓣 E G14 G18 b10 b57 Δ3 (Typed.both (s14 bs)) (at75 bs) (Plain.t-call-plain 𝓤 H A W 𝓣 0 ps·1 r·1 (claims· .2) (claims· .3) "steps::plan_at" (known .1) E (λ pos β. β)
-              G14 (Num.vAt 13 λ x. x, (Bool.bAt 9 λ x. x, tt)) 14 List.[] (Call.sub-id 𝓤 H A W (G14 .slots))
-              ((Scalar.reads-sc 𝓤 H A W (Row.sInt Syntax.w64), Path'.refl), ((Scalar.reads-sc 𝓤 H A W Row.sBool, Path'.refl), tt)) (Reads'.room-gone 𝓤 H A y0) tt Path'.refl) d75
+          d72 : Typed.Typed 𝓤 H A 𝓣 E G13 b55 Δ3 (at72 bs)
+          d72 = Typed.s-seq 𝓤 H A W 𝓣 E G13 G17 b9 b54 Δ3 (Typed.both (s13 bs)) (at71 bs) (Plain.t-call-plain 𝓤 H A W 𝓣 0 ps·1 r·1 (claims· .2) (claims· .3) "steps::plan_at" (known .1) E (λ pos β. β)
+              G13 (Num.vAt 11 λ x. x, (Bool.bAt 8 λ x. x, tt)) 12 List.[] (Call.sub-id 𝓤 H A W (G13 .slots))
+              ((Scalar.reads-sc 𝓤 H A W (Row.sInt Syntax.w64), Path'.refl), ((Scalar.reads-sc 𝓤 H A W Row.sBool, Path'.refl), tt)) (Reads'.room-gone 𝓤 H A y0) tt Path'.refl) d71
 
-          d77 : Typed.Typed 𝓤 H A 𝓣 E G13 b59 Δ3 (at77 bs)
-          d77 = Typed.t-seq 𝓤 H A W 𝓣 E G13 G14 b9 b58 Δ3 (at5 bs) (at76 bs) d5 d76
+          d73 : Typed.Typed 𝓤 H A 𝓣 E G12 b56 Δ3 (at73 bs)
+          d73 = Typed.t-seq 𝓤 H A W 𝓣 E G12 G13 b8 b55 Δ3 (at5 bs) (at72 bs) d5 d72
 
-          d78 : Typed.Typed 𝓤 H A 𝓣 E G11 b60 Δ3 (at78 bs)
-          d78 = Typed.s-seq 𝓤 H A W 𝓣 E G11 G13 b6 b59 Δ3 (Typed.ask (s10 bs)) (at77 bs) (Scalar.t-op2 𝓤 H A W E 𝓣 G11 (Syntax.lt Syntax.unsigned) (Scalar.oAt 13 (Syntax.tyInt Syntax.w64) (Row.valS
-              (Row.sInt Syntax.w64))) (Scalar.oInt Syntax.w64 6) 19 (Rows.sc-here Row.sBool) Syntax.tyBool (Row.valS Row.sBool) (Row.sBool .of) (Scalar.reads-sc 𝓤 H A W (Row.sInt Syntax.w64), Path'.refl)
-              tt (Reads'.room-gone 𝓤 H A Syntax.tyBool) (Scalar.holds-sc 𝓤 H A W Row.sBool) Path'.refl (λ u. Path'.refl) λ u. tt) d77
+          d74 : Typed.Typed 𝓤 H A 𝓣 E G10 b57 Δ3 (at74 bs)
+          d74 = Typed.s-seq 𝓤 H A W 𝓣 E G10 G12 b5 b56 Δ3 (Typed.ask (s9 bs)) (at73 bs) (Scalar.t-op2 𝓤 H A W E 𝓣 G10 (Syntax.lt Syntax.unsigned) (Scalar.oAt 11 (Syntax.tyInt Syntax.w64) (Row.valS
+              (Row.sInt Syntax.w64))) (Scalar.oInt Syntax.w64 6) 18 (Rows.sc-here Row.sBool) Syntax.tyBool (Row.valS Row.sBool) (Row.sBool .of) (Scalar.reads-sc 𝓤 H A W (Row.sInt Syntax.w64), Path'.refl)
+              tt (Reads'.room-gone 𝓤 H A Syntax.tyBool) (Scalar.holds-sc 𝓤 H A W Row.sBool) Path'.refl (λ u. Path'.refl) λ u. tt) d73
 
-          d79 : Typed.Typed 𝓤 H A 𝓣 E G11 b61 Δ2 (at79 bs)
-          d79 = Typed.t-loop-by 𝓤 H A W 𝓣 E G11 b60 Δ2 put0 (λ u vs. Inv·0 (Row.get 1 (T11 .locals) u .now) (Row.get 3 (T11 .locals) u) (Row.get 4 (T11 .locals) u .now) (Row.get 5 (T11 .locals) u
-              .now) (Row.get 7 (T11 .locals) u) (Row.get 8 (T11 .locals) u) (Row.get 9 (T11 .locals) u) (Row.get 10 (T11 .locals) u) (Row.get 11 (T11 .locals) u) (Row.get 12 (T11 .locals) u) (Row.get 13
-              (T11 .locals) u) (vs .0) (vs .1) (vs .2) (vs .3) (vs .4)) (λ u vs. μ·0 (Row.get 1 (T11 .locals) u .now) (Row.get 3 (T11 .locals) u) (Row.get 4 (T11 .locals) u .now) (Row.get 5 (T11 .locals)
-              u .now) (Row.get 7 (T11 .locals) u) (Row.get 8 (T11 .locals) u) (Row.get 9 (T11 .locals) u) (Row.get 10 (T11 .locals) u) (Row.get 11 (T11 .locals) u) (Row.get 12 (T11 .locals) u) (Row.get 13
-              (T11 .locals) u) (vs .0) (vs .1) (vs .2) (vs .3) (vs .4)) (at78 bs) d78
+          d75 : Typed.Typed 𝓤 H A 𝓣 E G10 b58 Δ2 (at75 bs)
+          d75 = Typed.t-loop-by 𝓤 H A W 𝓣 E G10 b57 Δ2 put0 (λ u vs. Inv·0 (Row.get 1 (T10 .locals) u .now) (Row.get 3 (T10 .locals) u .now) (Row.get 4 (T10 .locals) u .now) (Row.get 6 (T10 .locals)
+              u) (Row.get 7 (T10 .locals) u) (Row.get 8 (T10 .locals) u) (Row.get 9 (T10 .locals) u) (Row.get 10 (T10 .locals) u) (Row.get 11 (T10 .locals) u) (vs .0) (vs .1) (vs .2) (vs .3)) (λ u vs. μ·0
+              (Row.get 1 (T10 .locals) u .now) (Row.get 3 (T10 .locals) u .now) (Row.get 4 (T10 .locals) u .now) (Row.get 6 (T10 .locals) u) (Row.get 7 (T10 .locals) u) (Row.get 8 (T10 .locals) u)
+              (Row.get 9 (T10 .locals) u) (Row.get 10 (T10 .locals) u) (Row.get 11 (T10 .locals) u) (vs .0) (vs .1) (vs .2) (vs .3)) (at74 bs) d74
 
-          d80 : Typed.Typed 𝓤 H A 𝓣 E G11 b62 Δ1 (at80 bs)
-          d80 = Typed.t-block 𝓤 H A W 𝓣 E G11 b61 Δ1 (at79 bs) d79
+          d76 : Typed.Typed 𝓤 H A 𝓣 E G10 b59 Δ1 (at76 bs)
+          d76 = Typed.t-block 𝓤 H A W 𝓣 E G10 b58 Δ1 (at75 bs) d75
 
-          d81 : Typed.Typed 𝓤 H A 𝓣 E G97 b65 Δ6 (at81 bs)
-          d81 = Typed.t-return 𝓤 H A W 𝓣 E Δ6 tt
+          d77 : Typed.Typed 𝓤 H A 𝓣 E G92 b63 Δ6 (at77 bs)
+          d77 = Typed.t-return 𝓤 H A W 𝓣 E Δ6 tt
 
-          d82 : Typed.Typed 𝓤 H A 𝓣 E G96 b65 Δ6 (at82 bs)
-          d82 = Typed.g-pre 𝓤 H A W 𝓣 E G96 G97 b65 Δ6 (Typed.pass T96 T97 (s91 bs)) (at81 bs) (Scalar.g-room 𝓤 H A W E G96 13 (Syntax.tyInt Syntax.w64) (Scalar.room-sc 𝓤 H A W (Row.sInt Syntax.w64)))
-              d81
+          d78 : Typed.Typed 𝓤 H A 𝓣 E G91 b63 Δ6 (at78 bs)
+          d78 = Typed.g-pre 𝓤 H A W 𝓣 E G91 G92 b63 Δ6 (Typed.pass T91 T92 (s86 bs)) (at77 bs) (Scalar.g-room 𝓤 H A W E G91 11 (Syntax.tyInt Syntax.w64) (Scalar.room-sc 𝓤 H A W (Row.sInt Syntax.w64)))
+              d77
 
-          d83 : Typed.Typed 𝓤 H A 𝓣 E G95 b65 Δ6 (at83 bs)
-          d83 = Typed.g-pre 𝓤 H A W 𝓣 E G95 G96 b65 Δ6 (Typed.pass T95 T96 (s90 bs)) (at82 bs) (Scalar.g-room 𝓤 H A W E G95 12 Syntax.tyBool (Scalar.room-sc 𝓤 H A W Row.sBool)) d82
+          d79 : Typed.Typed 𝓤 H A 𝓣 E G90 b63 Δ6 (at79 bs)
+          d79 = Typed.g-pre 𝓤 H A W 𝓣 E G90 G91 b63 Δ6 (Typed.pass T90 T91 (s85 bs)) (at78 bs) (Scalar.g-room 𝓤 H A W E G90 9 (Syntax.tyInt Syntax.w64) (Scalar.room-sc 𝓤 H A W (Row.sInt Syntax.w64)))
+              d78
 
-          d84 : Typed.Typed 𝓤 H A 𝓣 E G94 b65 Δ6 (at84 bs)
-          d84 = Typed.g-pre 𝓤 H A W 𝓣 E G94 G95 b65 Δ6 (Typed.pass T94 T95 (s89 bs)) (at83 bs) (Scalar.g-room 𝓤 H A W E G94 10 (Syntax.tyInt Syntax.w64) (Scalar.room-sc 𝓤 H A W (Row.sInt Syntax.w64)))
-              d83
+          d80 : Typed.Typed 𝓤 H A 𝓣 E G89 b63 Δ6 (at80 bs)
+          d80 = Typed.g-pre 𝓤 H A W 𝓣 E G89 G90 b63 Δ6 (Typed.pass T89 T90 (s84 bs)) (at79 bs) (Scalar.g-room 𝓤 H A W E G89 8 Syntax.tyBool (Scalar.room-sc 𝓤 H A W Row.sBool)) d79
+
+          d81 : Typed.Typed 𝓤 H A 𝓣 E G88 b63 Δ6 (at81 bs)
+          d81 = Typed.g-pre 𝓤 H A W 𝓣 E G88 G89 b63 Δ6 (Typed.pass T88 T89 (s83 bs)) (at80 bs) (Scalar.g-room 𝓤 H A W E G88 7 (Syntax.tyInt Syntax.w32) (Scalar.room-sc 𝓤 H A W (Row.sInt Syntax.w32)))
+              d80
+
+          d82 : Typed.Typed 𝓤 H A 𝓣 E G87 b64 Δ6 (at82 bs)
+          d82 = Typed.s-seq 𝓤 H A W 𝓣 E G87 G88 b62 b63 Δ6 (Typed.pass T87 T88 (s82 bs)) (at81 bs) (Make.t-enum-make-wt 𝓤 H A W E 𝓣 Lined.the-type Laws''.the-laws Laws''.the-plain tt G87 0 (List._∷_
+              (Scalar.oInt Syntax.w8 1) List.[]) (λ m. Lined.enum .make (Logic.inr (Logic.inl tt))) (Reads'.room-gone 𝓤 H A (Syntax.tyEnum (List._∷_ 98 (List._∷_ 108 (List._∷_ 111 (List._∷_ 99 (List._∷_
+              107 (List._∷_ 58 (List._∷_ 58 (List._∷_ 76 (List._∷_ 105 (List._∷_ 110 (List._∷_ 101 (List._∷_ 100 List.[])))))))))))) (Syntax.ttcons (Syntax.tcons y7 Syntax.tnil) (Syntax.ttcons Syntax.tnil
+              Syntax.ttnil)))) (tt, tt) Path'.refl (λ m wa. Make.made-val Lined.the-type Laws''.the-laws List.[] (Lined.enum .make (Logic.inr (Logic.inl tt))) tt (wa .1)) λ m wa. Make.made-is
+              Lined.the-type Laws''.the-laws List.[] (Lined.enum .make (Logic.inr (Logic.inl tt))) tt (wa .1)) d81
+
+          d83 : Typed.Typed 𝓤 H A 𝓣 E G86 b64 Δ6 (at83 bs)
+          d83 = Typed.g-pre 𝓤 H A W 𝓣 E G86 G87 b64 Δ6 (Typed.pass T86 T87 (s81 bs)) (at82 bs) (Scalar.g-room 𝓤 H A W E G86 30 Syntax.tyBool (Scalar.room-sc 𝓤 H A W Row.sBool)) d82
+
+          d84 : Typed.Typed 𝓤 H A 𝓣 E G85 b64 Δ6 (at84 bs)
+          d84 = Typed.g-pre 𝓤 H A W 𝓣 E G85 G86 b64 Δ6 (Typed.pass T85 T86 (s80 bs)) (at83 bs) (Scalar.g-room 𝓤 H A W E G85 10 y7 (Local.room-whole 𝓤 H A W (Declared'.row Place.the-type) y7
+              Path'.refl)) d83
 
           d85 : Typed.Typed 𝓤 H A 𝓣 E G93 b65 Δ6 (at85 bs)
-          d85 = Typed.g-pre 𝓤 H A W 𝓣 E G93 G94 b65 Δ6 (Typed.pass T93 T94 (s88 bs)) (at84 bs) (Scalar.g-room 𝓤 H A W E G93 9 Syntax.tyBool (Scalar.room-sc 𝓤 H A W Row.sBool)) d84
+          d85 = Typed.t-skip 𝓤 H A W 𝓣 E Δ6 tt
 
-          d86 : Typed.Typed 𝓤 H A 𝓣 E G92 b65 Δ6 (at86 bs)
-          d86 = Typed.g-pre 𝓤 H A W 𝓣 E G92 G93 b65 Δ6 (Typed.pass T92 T93 (s87 bs)) (at85 bs) (Scalar.g-room 𝓤 H A W E G92 8 (Syntax.tyInt Syntax.w32) (Scalar.room-sc 𝓤 H A W (Row.sInt Syntax.w32)))
-              d85
+          d86 : Typed.Typed 𝓤 H A 𝓣 E G85 b65 Δ6 (at86 bs)
+          d86 = Typed.g-pre 𝓤 H A W 𝓣 E G85 G93 b65 Δ6 (Typed.pass T85 T93 (s87 bs)) (at85 bs) (Scalar.g-room 𝓤 H A W E G85 30 Syntax.tyBool (Scalar.room-sc 𝓤 H A W Row.sBool)) d85
 
-          d87 : Typed.Typed 𝓤 H A 𝓣 E G91 b65 Δ6 (at87 bs)
-          d87 = Typed.g-pre 𝓤 H A W 𝓣 E G91 G92 b65 Δ6 (Typed.pass T91 T92 (s86 bs)) (at86 bs) (Scalar.g-room 𝓤 H A W E G91 3 Syntax.tyBool (Scalar.room-sc 𝓤 H A W Row.sBool)) d86
+          d87 : Typed.Typed 𝓤 H A 𝓣 E G85 b66 Δ6 (at87 bs)
+          d87 = Scalar.t-cond 𝓤 H A W E 𝓣 G85 30 (λ x. x) b64 b65 Δ6 (at84 bs) (at86 bs) (Scalar.reads-sc 𝓤 H A W Row.sBool) Path'.refl d84 d86
 
-          d88 : Typed.Typed 𝓤 H A 𝓣 E G90 b66 Δ6 (at88 bs)
-          d88 = Typed.s-seq 𝓤 H A W 𝓣 E G90 G91 b64 b65 Δ6 (Typed.pass T90 T91 (s85 bs)) (at87 bs) (Make.t-enum-make-wt 𝓤 H A W E 𝓣 Lined.the-type Laws''.the-laws Laws''.the-plain tt G90 0 (List._∷_
-              (Scalar.oInt Syntax.w8 1) List.[]) (λ m. Lined.enum .make (Logic.inr (Logic.inl tt))) (Reads'.room-gone 𝓤 H A (Syntax.tyEnum (List._∷_ 98 (List._∷_ 108 (List._∷_ 111 (List._∷_ 99 (List._∷_
-              107 (List._∷_ 58 (List._∷_ 58 (List._∷_ 76 (List._∷_ 105 (List._∷_ 110 (List._∷_ 101 (List._∷_ 100 List.[])))))))))))) (Syntax.ttcons (Syntax.tcons y5 (Syntax.tcons Syntax.tyBool
-              Syntax.tnil)) (Syntax.ttcons Syntax.tnil Syntax.ttnil)))) (tt, tt) Path'.refl (λ m wa. Make.made-val Lined.the-type Laws''.the-laws List.[] (Lined.enum .make (Logic.inr (Logic.inl tt))) tt
-              (wa .1)) λ m wa. Make.made-is Lined.the-type Laws''.the-laws List.[] (Lined.enum .make (Logic.inr (Logic.inl tt))) tt (wa .1)) d87
+          d88 : Typed.Typed 𝓤 H A 𝓣 E G83 b66 Δ6 (at88 bs)
+          d88 = Typed.g-pre 𝓤 H A W 𝓣 E G83 G85 b66 Δ6 (Typed.pass T83 T85 (s79 bs)) (at87 bs) (Scalar.g-room 𝓤 H A W E G83 17 y5 (Local.room-whole 𝓤 H A W (Declared'.row BitPosition.the-type) y5
+              Path'.refl)) d87
 
-          d89 : Typed.Typed 𝓤 H A 𝓣 E G89 b66 Δ6 (at89 bs)
-          d89 = Typed.g-pre 𝓤 H A W 𝓣 E G89 G90 b66 Δ6 (Typed.pass T89 T90 (s84 bs)) (at88 bs) (Scalar.g-room 𝓤 H A W E G89 31 Syntax.tyBool (Scalar.room-sc 𝓤 H A W Row.sBool)) d88
+          d89 : Typed.Typed 𝓤 H A 𝓣 E G99 b68 Δ0 (at89 bs)
+          d89 = Typed.t-return 𝓤 H A W 𝓣 E Δ0 tt
 
-          d90 : Typed.Typed 𝓤 H A 𝓣 E G87 b66 Δ6 (at90 bs)
-          d90 = Typed.g-pre 𝓤 H A W 𝓣 E G87 G89 b66 Δ6 (Typed.pass T87 T89 (s83 bs)) (at89 bs) (Scalar.g-room 𝓤 H A W E G87 11 y5 (Local.room-whole 𝓤 H A W (Declared'.row BitPosition.the-type) y5
-              Path'.refl)) d89
+          d90 : Typed.Typed 𝓤 H A 𝓣 E G98 b68 Δ0 (at90 bs)
+          d90 = Typed.g-pre 𝓤 H A W 𝓣 E G98 G99 b68 Δ0 (Typed.pass T98 T99 (s93 bs)) (at89 bs) (Scalar.g-room 𝓤 H A W E G98 11 (Syntax.tyInt Syntax.w64) (Scalar.room-sc 𝓤 H A W (Row.sInt Syntax.w64)))
+              d89
 
-          d91 : Typed.Typed 𝓤 H A 𝓣 E G98 b67 Δ6 (at91 bs)
-          d91 = Typed.t-skip 𝓤 H A W 𝓣 E Δ6 tt
+          d91 : Typed.Typed 𝓤 H A 𝓣 E G97 b68 Δ0 (at91 bs)
+          d91 = Typed.g-pre 𝓤 H A W 𝓣 E G97 G98 b68 Δ0 (Typed.pass T97 T98 (s92 bs)) (at90 bs) (Scalar.g-room 𝓤 H A W E G97 10 y7 (Local.room-whole 𝓤 H A W (Declared'.row Place.the-type) y7
+              Path'.refl)) d90
 
-          d92 : Typed.Typed 𝓤 H A 𝓣 E G87 b67 Δ6 (at92 bs)
-          d92 = Typed.g-pre 𝓤 H A W 𝓣 E G87 G98 b67 Δ6 (Typed.pass T87 T98 (s92 bs)) (at91 bs) (Scalar.g-room 𝓤 H A W E G87 31 Syntax.tyBool (Scalar.room-sc 𝓤 H A W Row.sBool)) d91
+          d92 : Typed.Typed 𝓤 H A 𝓣 E G96 b68 Δ0 (at92 bs)
+          d92 = Typed.g-pre 𝓤 H A W 𝓣 E G96 G97 b68 Δ0 (Typed.pass T96 T97 (s91 bs)) (at91 bs) (Scalar.g-room 𝓤 H A W E G96 9 (Syntax.tyInt Syntax.w64) (Scalar.room-sc 𝓤 H A W (Row.sInt Syntax.w64)))
+              d91
 
-          d93 : Typed.Typed 𝓤 H A 𝓣 E G87 b68 Δ6 (at93 bs)
-          d93 = Scalar.t-cond 𝓤 H A W E 𝓣 G87 31 (λ x. x) b66 b67 Δ6 (at90 bs) (at92 bs) (Scalar.reads-sc 𝓤 H A W Row.sBool) Path'.refl d90 d92
+          d93 : Typed.Typed 𝓤 H A 𝓣 E G95 b68 Δ0 (at93 bs)
+          d93 = Typed.g-pre 𝓤 H A W 𝓣 E G95 G96 b68 Δ0 (Typed.pass T95 T96 (s90 bs)) (at92 bs) (Scalar.g-room 𝓤 H A W E G95 8 Syntax.tyBool (Scalar.room-sc 𝓤 H A W Row.sBool)) d92
 
-          d94 : Typed.Typed 𝓤 H A 𝓣 E G106 b70 Δ0 (at94 bs)
-          d94 = Typed.t-return 𝓤 H A W 𝓣 E Δ0 tt
+          d94 : Typed.Typed 𝓤 H A 𝓣 E G94 b68 Δ0 (at94 bs)
+          d94 = Typed.g-pre 𝓤 H A W 𝓣 E G94 G95 b68 Δ0 (Typed.pass T94 T95 (s89 bs)) (at93 bs) (Scalar.g-room 𝓤 H A W E G94 7 (Syntax.tyInt Syntax.w32) (Scalar.room-sc 𝓤 H A W (Row.sInt Syntax.w32)))
+              d93
 
-          d95 : Typed.Typed 𝓤 H A 𝓣 E G105 b70 Δ0 (at95 bs)
-          d95 = Typed.g-pre 𝓤 H A W 𝓣 E G105 G106 b70 Δ0 (Typed.pass T105 T106 (s100 bs)) (at94 bs) (Scalar.g-room 𝓤 H A W E G105 3 Syntax.tyBool (Scalar.room-sc 𝓤 H A W Row.sBool)) d94
+          d95 : Typed.Typed 𝓤 H A 𝓣 E G84 b69 Δ0 (at95 bs)
+          d95 = Typed.s-seq 𝓤 H A W 𝓣 E G84 G94 b67 b68 Δ0 (Typed.pass T84 T94 (s88 bs)) (at94 bs) (Make.t-enum-make-wt 𝓤 H A W E 𝓣 Lined.the-type Laws''.the-laws Laws''.the-plain tt G84 0 (List._∷_
+              (Scalar.oInt Syntax.w8 0) (List._∷_ (Scalar.oAt 10 y7 (Laws'9.val Place.the-type Laws'3.the-laws)) List.[])) (λ m. Lined.enum .make (Logic.inl (m .1 .1 .1 .1 .1 .1 .1 .1 .1 .1 .0, tt)))
+              (Reads'.room-gone 𝓤 H A (Syntax.tyEnum (List._∷_ 98 (List._∷_ 108 (List._∷_ 111 (List._∷_ 99 (List._∷_ 107 (List._∷_ 58 (List._∷_ 58 (List._∷_ 76 (List._∷_ 105 (List._∷_ 110 (List._∷_ 101
+              (List._∷_ 100 List.[])))))))))))) (Syntax.ttcons (Syntax.tcons y7 Syntax.tnil) (Syntax.ttcons Syntax.tnil Syntax.ttnil))))
+              (tt, ((Reads.reads-struct 𝓤 H A W Place.the-type Laws'3.the-laws, Path'.refl), tt)) Path'.refl (λ m wa. Make.made-val Lined.the-type Laws''.the-laws (List._∷_ (Laws'9.val Place.the-type
+              Laws'3.the-laws (m .1 .1 .1 .1 .1 .1 .1 .1 .1 .1 .0)) List.[]) (Lined.enum .make (Logic.inl (m .1 .1 .1 .1 .1 .1 .1 .1 .1 .1 .0, tt))) (
+                Signed.made-wt Place.the-field Laws'3.the-field-laws (Make'.struct-wt Place.the-type Laws'3.the-laws
+                    (Make'.struct-wt BitPosition.the-type Laws.the-laws (Make'.u64-wt, tt), (Make'.bool-wt, (Make'.u64-wt, tt)))) (Place.the-type .to (m .1 .1 .1 .1 .1 .1 .1 .1 .1 .1 .0)),
+                tt,
+              ) (wa .1)) λ m wa.
+              Make.made-is Lined.the-type Laws''.the-laws (List._∷_ (Laws'9.val Place.the-type Laws'3.the-laws (m .1 .1 .1 .1 .1 .1 .1 .1 .1 .1 .0)) List.[]) (Lined.enum .make (Logic.inl
+              (m .1 .1 .1 .1 .1 .1 .1 .1 .1 .1 .0, tt))) (
+                Signed.made-wt Place.the-field Laws'3.the-field-laws (Make'.struct-wt Place.the-type Laws'3.the-laws
+                    (Make'.struct-wt BitPosition.the-type Laws.the-laws (Make'.u64-wt, tt), (Make'.bool-wt, (Make'.u64-wt, tt)))) (Place.the-type .to (m .1 .1 .1 .1 .1 .1 .1 .1 .1 .1 .0)),
+                tt,
+              ) (wa .1)) d94
 
-          d96 : Typed.Typed 𝓤 H A 𝓣 E G104 b70 Δ0 (at96 bs)
-          d96 = Typed.g-pre 𝓤 H A W 𝓣 E G104 G105 b70 Δ0 (Typed.pass T104 T105 (s99 bs)) (at95 bs) (Scalar.g-room 𝓤 H A W E G104 13 (Syntax.tyInt Syntax.w64) (Scalar.room-sc 𝓤 H A W (Row.sInt
-              Syntax.w64))) d95
+          d96 : Typed.Typed 𝓤 H A 𝓣 E G83 b70 Δ0 (at96 bs)
+          d96 = Typed.t-seq 𝓤 H A W 𝓣 E G83 G84 b66 b69 Δ0 (at88 bs) (at95 bs) d88 d95
 
-          d97 : Typed.Typed 𝓤 H A 𝓣 E G103 b70 Δ0 (at97 bs)
-          d97 = Typed.g-pre 𝓤 H A W 𝓣 E G103 G104 b70 Δ0 (Typed.pass T103 T104 (s98 bs)) (at96 bs) (Scalar.g-room 𝓤 H A W E G103 12 Syntax.tyBool (Scalar.room-sc 𝓤 H A W Row.sBool)) d96
-
-          d98 : Typed.Typed 𝓤 H A 𝓣 E G102 b70 Δ0 (at98 bs)
-          d98 = Typed.g-pre 𝓤 H A W 𝓣 E G102 G103 b70 Δ0 (Typed.pass T102 T103 (s97 bs)) (at97 bs) (Scalar.g-room 𝓤 H A W E G102 11 y5 (Local.room-whole 𝓤 H A W (Declared'.row BitPosition.the-type) y5
-              Path'.refl)) d97
-
-          d99 : Typed.Typed 𝓤 H A 𝓣 E G101 b70 Δ0 (at99 bs)
-          d99 = Typed.g-pre 𝓤 H A W 𝓣 E G101 G102 b70 Δ0 (Typed.pass T101 T102 (s96 bs)) (at98 bs) (Scalar.g-room 𝓤 H A W E G101 10 (Syntax.tyInt Syntax.w64) (Scalar.room-sc 𝓤 H A W (Row.sInt
-              Syntax.w64))) d98
-
-          d100 : Typed.Typed 𝓤 H A 𝓣 E G100 b70 Δ0 (at100 bs)
-          d100 = Typed.g-pre 𝓤 H A W 𝓣 E G100 G101 b70 Δ0 (Typed.pass T100 T101 (s95 bs)) (at99 bs) (Scalar.g-room 𝓤 H A W E G100 9 Syntax.tyBool (Scalar.room-sc 𝓤 H A W Row.sBool)) d99
-
-          d101 : Typed.Typed 𝓤 H A 𝓣 E G99 b70 Δ0 (at101 bs)
-          d101 = Typed.g-pre 𝓤 H A W 𝓣 E G99 G100 b70 Δ0 (Typed.pass T99 T100 (s94 bs)) (at100 bs) (Scalar.g-room 𝓤 H A W E G99 8 (Syntax.tyInt Syntax.w32) (Scalar.room-sc 𝓤 H A W (Row.sInt
-              Syntax.w32))) d100
-
-          d102 : Typed.Typed 𝓤 H A 𝓣 E G88 b71 Δ0 (at102 bs)
-          d102 = Typed.s-seq 𝓤 H A W 𝓣 E G88 G99 b69 b70 Δ0 (Typed.pass T88 T99 (s93 bs)) (at101 bs) (Make.t-enum-make-wt 𝓤 H A W E 𝓣 Lined.the-type Laws''.the-laws Laws''.the-plain tt G88 0 (List._∷_
-              (Scalar.oInt Syntax.w8 0) (List._∷_ (Scalar.oAt 11 y5 (Laws'8.val BitPosition.the-type Laws.the-laws)) (List._∷_ (Scalar.oAt 12 Syntax.tyBool (Row.valS Row.sBool)) List.[]))) (λ m.
-              Lined.enum .make (Logic.inl (m .1 .1 .1 .1 .1 .1 .1 .1 .1 .1 .1 .0, (m .1 .1 .1 .1 .1 .1 .1 .1 .1 .1 .1 .1 .0, tt)))) (Reads'.room-gone 𝓤 H A (Syntax.tyEnum (List._∷_ 98 (List._∷_ 108
-              (List._∷_ 111 (List._∷_ 99 (List._∷_ 107 (List._∷_ 58 (List._∷_ 58 (List._∷_ 76 (List._∷_ 105 (List._∷_ 110 (List._∷_ 101 (List._∷_ 100 List.[])))))))))))) (Syntax.ttcons (Syntax.tcons y5
-              (Syntax.tcons Syntax.tyBool Syntax.tnil)) (Syntax.ttcons Syntax.tnil Syntax.ttnil))))
-              (tt, ((Reads.reads-struct 𝓤 H A W BitPosition.the-type Laws.the-laws, Path'.refl), ((Scalar.reads-sc 𝓤 H A W Row.sBool, Path'.refl), tt))) Path'.refl (λ m wa. Make.made-val Lined.the-type
-              Laws''.the-laws (List._∷_ (Laws'8.val BitPosition.the-type Laws.the-laws (m .1 .1 .1 .1 .1 .1 .1 .1 .1 .1 .1 .0)) (List._∷_ (Laws''.the-laws .0 .1 .0 .val (m .1 .1 .1 .1 .1 .1 .1 .1 .1 .1 .1
-              .1 .0)) List.[])) (Lined.enum .make (Logic.inl (m .1 .1 .1 .1 .1 .1 .1 .1 .1 .1 .1 .0, (m .1 .1 .1 .1 .1 .1 .1 .1 .1 .1 .1 .1 .0, tt)))) (
-                Signed.made-wt BitPosition.the-field Laws.the-field-laws (Make'.struct-wt BitPosition.the-type Laws.the-laws (Make'.u64-wt, tt)) (BitPosition.the-type .to (m .1 .1 .1 .1 .1 .1 .1 .1 .1 .1
-                    .1 .0)),
-                (Signed.made-wt Field.bool-field (Laws''.the-laws .0 .1 .0) Make'.bool-wt (m .1 .1 .1 .1 .1 .1 .1 .1 .1 .1 .1 .1 .0), tt),
-              ) (wa .1)) λ m wa. Make.made-is Lined.the-type
-              Laws''.the-laws (List._∷_ (Laws'8.val BitPosition.the-type Laws.the-laws (m .1 .1 .1 .1 .1 .1 .1 .1 .1 .1 .1 .0)) (List._∷_ (Laws''.the-laws .0 .1 .0 .val (m .1 .1 .1 .1 .1 .1 .1 .1 .1 .1 .1
-              .1 .0)) List.[])) (Lined.enum .make (Logic.inl (m .1 .1 .1 .1 .1 .1 .1 .1 .1 .1 .1 .0, (m .1 .1 .1 .1 .1 .1 .1 .1 .1 .1 .1 .1 .0, tt)))) (
-                Signed.made-wt BitPosition.the-field Laws.the-field-laws (Make'.struct-wt BitPosition.the-type Laws.the-laws (Make'.u64-wt, tt)) (BitPosition.the-type .to (m .1 .1 .1 .1 .1 .1 .1 .1 .1 .1
-                    .1 .0)),
-                (Signed.made-wt Field.bool-field (Laws''.the-laws .0 .1 .0) Make'.bool-wt (m .1 .1 .1 .1 .1 .1 .1 .1 .1 .1 .1 .1 .0), tt),
-              ) (wa .1)) d101
-
-          d103 : Typed.Typed 𝓤 H A 𝓣 E G87 b72 Δ0 (at103 bs)
-          d103 = Typed.t-seq 𝓤 H A W 𝓣 E G87 G88 b68 b71 Δ0 (at93 bs) (at102 bs) d93 d102
-
-          d104 : Typed.Typed 𝓤 H A 𝓣 E G12 b73 Δ0 (at104 bs)
-          d104 = Typed.s-seq 𝓤 H A W 𝓣 E G12 G87 b63 b72 Δ0 (Typed.both (s82 bs)) (at103 bs) (Plain.t-call-plain 𝓤 H A W 𝓣 1 ps·6 r·6 (claims· .12) (claims· .13) "bits::is_past" (known .6) E (λ pos β.
-              β) G12 (record { pos = 1; ty = Syntax.tyRef (Syntax.named 0) Syntax.imm (Syntax.tyInt Syntax.w8); ref = λ x. x }, (record { pos = 11; st = List.[]; d = 0; at = λ x. x }, tt)) 31 (List._∷_ 0
-              List.[]) (Call.sub-id 𝓤 H A W (G12 .slots)) (
+          d97 : Typed.Typed 𝓤 H A 𝓣 E G82 b71 Δ0 (at97 bs)
+          d97 = Typed.s-seq 𝓤 H A W 𝓣 E G82 G83 b61 b70 Δ0 (Typed.both (s78 bs)) (at96 bs) (Plain.t-call-plain 𝓤 H A W 𝓣 1 ps·6 r·6 (claims· .12) (claims· .13) "bits::is_past" (known .6) E (λ pos β.
+              β) G82 (record { pos = 1; ty = Syntax.tyRef (Syntax.named 0) Syntax.imm (Syntax.tyInt Syntax.w8); ref = λ x. x }, (record { pos = 17; st = List.[]; d = 0; at = λ x. x }, tt)) 30 (List._∷_ 0
+              List.[]) (Call.sub-id 𝓤 H A W (G82 .slots)) (
                 ShrSlice.spares-sslice 𝓤 H A W (Referent.rtF (Referent.fInt Syntax.w8)) (Syntax.tyRef (Syntax.named 0) Syntax.imm (Syntax.tyInt Syntax.w8)) 0,
                 Shared.reads-sslice 𝓤 H A W (Referent.rtF
                     (Referent.fInt Syntax.w8)) (Syntax.tyRef (Syntax.named 0) Syntax.imm (Syntax.tyInt Syntax.w8)) 0,
@@ -3566,105 +3400,117 @@ module _ (claims· : Claims) where
                   ),
                   tt,
                 ),
-              ) (Reads'.room-gone 𝓤 H A Syntax.tyBool) (tt, tt) Path'.refl) d103
+              ) (Reads'.room-gone 𝓤 H A Syntax.tyBool) (tt, tt) Path'.refl) d96
 
-          d105 : Typed.Typed 𝓤 H A 𝓣 E G11 b74 Δ0 (at105 bs)
-          d105 = Typed.t-seq 𝓤 H A W 𝓣 E G11 G12 b62 b73 Δ0 (at80 bs) (at104 bs) d80 d104
+          d98 : Typed.Typed 𝓤 H A 𝓣 E G11 b72 Δ0 (at98 bs)
+          d98 = Typed.s-seq 𝓤 H A W 𝓣 E G11 G82 b60 b71 Δ0 (Typed.both (s77 bs)) (at97 bs) (WayStmt.t-way-copy-out 𝓤 H A W E 𝓣 (Declared'.row BitPosition.the-type) Path'.refl (Copies.cStruct
+              BitPosition.the-type Laws.the-laws Laws.the-copy .copy 𝓤 H A W) (λ ρ. Unit) G11 (Row.out 10 (G11 .locals)) (λ u. Row.drop 10 (G11 .locals) u) (G11 .slots) 10 (λ t. List._∷_ (Syntax.field 0)
+              t) y5 y5 17 (Rows.whole (Declared'.row BitPosition.the-type)) (λ x. x) (λ u. At.getAt (Place.the-type .parts) 0 (Place.struct .as-values (u .1 .1 .1 .1 .1 .1 .1 .1 .1 .1 .0))) (λ u.
+              (Row.hd 0 (Row.tl (Row.tl (Row.tl (Row.tl (Row.tl (Row.tl (Row.tl (Row.tl (Row.tl (Row.tl bs)))))))))), Nat._+_ 0 0)) (λ T′. record
+              { locals = Row.setRow 10 (10, Rows.whole (Declared'.row Place.the-type)) T′; slots = G11 .slots }) (λ u T′ m′. Row.set 10 (10, Rows.whole (Declared'.row Place.the-type)) (u .1 .1 .1 .1 .1
+              .1 .1 .1 .1 .1 .0) T′ m′) (λ u. Unit) (λ x. Unit) (Own.told-none 𝓤 H A (G11 .slots)) (DerefMove.learns-nothing 𝓤 H A (Declared'.row BitPosition.the-type)) (λ ρ told u asked. Way'.w-partˢ 𝓤 H
+              A W E (Declared'.row Place.the-type) (Declared'.row BitPosition.the-type) y7 y5 0 0 (u .1 .1 .1 .1 .1 .1 .1 .1 .1 .1 .0) (At.getAt (Place.the-type .parts) 0 (Place.struct .as-values (u .1 .1
+              .1 .1 .1 .1 .1 .1 .1 .1 .0))) (Row.hd 0 (Row.tl (Row.tl (Row.tl (Row.tl (Row.tl (Row.tl (Row.tl (Row.tl (Row.tl (Row.tl bs)))))))))), 0) (Way.w-look 𝓤 H A W E (Way.w-local 𝓤 H A W E G11 ρ u
+              (G11 .slots) 10 (Declared'.row Place.the-type) (Rows.whole (Declared'.row Place.the-type)) (λ x. x) (λ x. x) (u .1 .1 .1 .1 .1 .1 .1 .1 .1 .1 .0) (Local.mem-whole 𝓤 H A W (Declared'.row
+              Place.the-type) ρ (u .1 .1 .1 .1 .1 .1 .1 .1 .1 .1 .0) (Row.hd 0 (Row.tl (Row.tl (Row.tl (Row.tl (Row.tl (Row.tl (Row.tl (Row.tl (Row.tl (Row.tl bs)))))))))))) (Local.whole-mem 𝓤 H A W
+              (Declared'.row Place.the-type) ρ (u .1 .1 .1 .1 .1 .1 .1 .1 .1 .1 .0) (Row.hd 0 (Row.tl (Row.tl (Row.tl (Row.tl (Row.tl (Row.tl (Row.tl (Row.tl (Row.tl (Row.tl bs)))))))))))))) Path'.refl λ
+              q. Inner.cut-record 𝓤 H A q (Declared'.row Place.the-type) BitPosition.the-type 0 (u .1 .1 .1 .1 .1 .1 .1 .1 .1 .1 .0) (u .1 .1 .1 .1 .1 .1 .1 .1 .1 .1 .0) (At.getAt (Place.the-type .parts)
+              0 (Place.struct .as-values (u .1 .1 .1 .1 .1 .1 .1 .1 .1 .1 .0))) (At.getAt (Place.the-type .parts) 0 (Place.struct .as-values (u .1 .1 .1 .1 .1 .1 .1 .1 .1 .1 .0)))
+              (Row.hd 0 (Row.tl (Row.tl (Row.tl (Row.tl (Row.tl (Row.tl (Row.tl (Row.tl (Row.tl (Row.tl bs)))))))))), 0) (Behind.look-at 𝓤 H A W q Place.the-type Laws'3.the-laws 0 0 Path'.refl Path'.refl
+              (Row.hd 0 (Row.tl (Row.tl (Row.tl (Row.tl (Row.tl (Row.tl (Row.tl (Row.tl (Row.tl (Row.tl bs)))))))))), 0) (u .1 .1 .1 .1 .1 .1 .1 .1 .1 .1 .0) (Place.struct .as-values (u .1 .1 .1 .1 .1 .1
+              .1 .1 .1 .1 .0)) Path'.refl)) (Reads'.room-gone 𝓤 H A y5) (Yields.makes-mem 𝓤 H A W (λ ρ. Unit) (Declared'.row BitPosition.the-type) Path'.refl (Rows.whole (Declared'.row
+              BitPosition.the-type)) (λ x. x) λ ρ told. Local.whole-mem 𝓤 H A W (Declared'.row BitPosition.the-type) ρ) Path'.refl Path'.refl Path'.refl) d97
 
-          d106 : Typed.Typed 𝓤 H A 𝓣 E G10 b75 Δ0 (at106 bs)
-          d106 = Typed.s-seq 𝓤 H A W 𝓣 E G10 G11 b5 b74 Δ0 (Typed.pass T10 T11 (s9 bs)) (at105 bs) (Scalar.t-use 𝓤 H A W E 𝓣 G10 (Scalar.oInt Syntax.w64 0) 13 (Rows.sc-here (Row.sInt Syntax.w64))
+          d99 : Typed.Typed 𝓤 H A 𝓣 E G10 b73 Δ0 (at99 bs)
+          d99 = Typed.t-seq 𝓤 H A W 𝓣 E G10 G11 b59 b72 Δ0 (at76 bs) (at98 bs) d76 d98
+
+          d100 : Typed.Typed 𝓤 H A 𝓣 E G9 b74 Δ0 (at100 bs)
+          d100 = Typed.s-seq 𝓤 H A W 𝓣 E G9 G10 b4 b73 Δ0 (Typed.pass T9 T10 (s8 bs)) (at99 bs) (Scalar.t-use 𝓤 H A W E 𝓣 G9 (Scalar.oInt Syntax.w64 0) 11 (Rows.sc-here (Row.sInt Syntax.w64))
               (Syntax.tyInt Syntax.w64) (Row.valS (Row.sInt Syntax.w64)) (Row.sInt Syntax.w64 .of) tt (Reads'.room-gone 𝓤 H A (Syntax.tyInt Syntax.w64)) (Scalar.holds-sc 𝓤 H A W (Row.sInt Syntax.w64))
-              Path'.refl (λ u. Path'.refl) λ u. tt) d105
+              Path'.refl (λ u. Path'.refl) λ u. tt) d99
 
-          d107 : Typed.Typed 𝓤 H A 𝓣 E G9 b76 Δ0 (at107 bs)
-          d107 = Typed.s-seq 𝓤 H A W 𝓣 E G9 G10 b4 b75 Δ0 (Typed.pass T9 T10 (s8 bs)) (at106 bs) (Scalar.t-use 𝓤 H A W E 𝓣 G9 (Scalar.oAt 3 Syntax.tyBool (Row.valS Row.sBool)) 12 (Rows.sc-here
-              Row.sBool) Syntax.tyBool (Row.valS Row.sBool) (Row.sBool .of) (Scalar.reads-sc 𝓤 H A W Row.sBool, Path'.refl) (Reads'.room-gone 𝓤 H A Syntax.tyBool) (Scalar.holds-sc 𝓤 H A W Row.sBool)
-              Path'.refl (λ u. Path'.refl) λ u. tt) d106
+          d101 : Typed.Typed 𝓤 H A 𝓣 E G8 b74 Δ0 (at101 bs)
+          d101 = Typed.g-pre 𝓤 H A W 𝓣 E G8 G9 b74 Δ0 (Typed.pass T8 T9 (s7 bs)) (at100 bs) (Scalar.g-room 𝓤 H A W E G8 2 y7 (Local.room-whole 𝓤 H A W (Declared'.row Place.the-type) y7 Path'.refl))
+              d100
 
-          d108 : Typed.Typed 𝓤 H A 𝓣 E G8 b76 Δ0 (at108 bs)
-          d108 = Typed.g-pre 𝓤 H A W 𝓣 E G8 G9 b76 Δ0 (Typed.pass T8 T9 (s7 bs)) (at107 bs) (Scalar.g-room 𝓤 H A W E G8 2 y5 (Local.room-whole 𝓤 H A W (Declared'.row BitPosition.the-type) y5
-              Path'.refl)) d107
+          d102 : Typed.Typed 𝓤 H A 𝓣 E G7 b75 Δ0 (at102 bs)
+          d102 = Typed.s-seq 𝓤 H A W 𝓣 E G7 G8 b3 b74 Δ0 (Typed.pass T7 T8 (s6 bs)) (at101 bs) (LocalCopy.t-val-copy 𝓤 H A W E 𝓣 (λ ρ. Unit) G7 2 10 (Declared'.row Place.the-type) y7 y7 (Rows.whole
+              (Declared'.row Place.the-type)) (Rows.whole (Declared'.row Place.the-type)) (λ x. x) (λ x. x) (λ x. x) Path'.refl (Own.told-none 𝓤 H A (G7 .slots)) (Yields.yields-copy 𝓤 H A W (λ ρ. Unit)
+              (Declared'.row Place.the-type) Path'.refl (Copies.cStruct Place.the-type Laws'3.the-laws Laws'3.the-copy .copy 𝓤 H A W) (Rows.whole (Declared'.row Place.the-type)) (λ x. x) (λ x. x) (λ ρ
+              told. Local.mem-whole 𝓤 H A W (Declared'.row Place.the-type) ρ) λ ρ told. Local.whole-mem 𝓤 H A W (Declared'.row Place.the-type) ρ) (Reads'.room-gone 𝓤 H A y7) (Yields.makes-mem 𝓤 H A W (λ
+              ρ. Unit) (Declared'.row Place.the-type) Path'.refl (Rows.whole (Declared'.row Place.the-type)) (λ x. x) λ ρ told. Local.whole-mem 𝓤 H A W (Declared'.row Place.the-type) ρ) Path'.refl
+              Path'.refl) d101
 
-          d109 : Typed.Typed 𝓤 H A 𝓣 E G7 b77 Δ0 (at109 bs)
-          d109 = Typed.s-seq 𝓤 H A W 𝓣 E G7 G8 b3 b76 Δ0 (Typed.pass T7 T8 (s6 bs)) (at108 bs) (LocalCopy.t-val-copy 𝓤 H A W E 𝓣 (λ ρ. Unit) G7 2 11 (Declared'.row BitPosition.the-type) y5 y5
-              (Rows.whole (Declared'.row BitPosition.the-type)) (Rows.whole (Declared'.row BitPosition.the-type)) (λ x. x) (λ x. x) (λ x. x) Path'.refl (Own.told-none 𝓤 H A (G7 .slots))
-              (Yields.yields-copy 𝓤 H A W (λ ρ. Unit) (Declared'.row BitPosition.the-type) Path'.refl (Copies.cStruct BitPosition.the-type Laws.the-laws Laws.the-copy .copy 𝓤 H A W) (Rows.whole
-              (Declared'.row BitPosition.the-type)) (λ x. x) (λ x. x) (λ ρ told. Local.mem-whole 𝓤 H A W (Declared'.row BitPosition.the-type) ρ) λ ρ told. Local.whole-mem 𝓤 H A W (Declared'.row
-              BitPosition.the-type) ρ) (Reads'.room-gone 𝓤 H A y5) (Yields.makes-mem 𝓤 H A W (λ ρ. Unit) (Declared'.row BitPosition.the-type) Path'.refl (Rows.whole (Declared'.row BitPosition.the-type))
-              (λ x. x) λ ρ told. Local.whole-mem 𝓤 H A W (Declared'.row BitPosition.the-type) ρ) Path'.refl Path'.refl) d108
+          d103 : Typed.Typed 𝓤 H A 𝓣 E G6 b76 Δ0 (at103 bs)
+          d103 = Typed.s-seq 𝓤 H A W 𝓣 E G6 G7 b2 b75 Δ0 (Typed.both (s5 bs)) (at102 bs) (Plain.t-call-plain 𝓤 H A W 𝓣 0 ps·0 r·0 (claims· .0) (claims· .1) "map::width" (known .0) E (λ pos β. β) G6
+              (Bool.bAt 8 λ x. x, tt) 9 List.[] (Call.sub-id 𝓤 H A W (G6 .slots)) ((Scalar.reads-sc 𝓤 H A W Row.sBool, Path'.refl), tt) (Reads'.room-gone 𝓤 H A (Syntax.tyInt Syntax.w64)) tt Path'.refl)
+              d102
 
-          d110 : Typed.Typed 𝓤 H A 𝓣 E G6 b78 Δ0 (at110 bs)
-          d110 = Typed.s-seq 𝓤 H A W 𝓣 E G6 G7 b2 b77 Δ0 (Typed.both (s5 bs)) (at109 bs) (Plain.t-call-plain 𝓤 H A W 𝓣 0 ps·0 r·0 (claims· .0) (claims· .1) "map::width" (known .0) E (λ pos β. β) G6
-              (Bool.bAt 9 λ x. x, tt) 10 List.[] (Call.sub-id 𝓤 H A W (G6 .slots)) ((Scalar.reads-sc 𝓤 H A W Row.sBool, Path'.refl), tt) (Reads'.room-gone 𝓤 H A (Syntax.tyInt Syntax.w64)) tt Path'.refl)
-              d109
+          d104 : Typed.Typed 𝓤 H A 𝓣 E G5 b76 Δ0 (at104 bs)
+          d104 = Typed.g-pre 𝓤 H A W 𝓣 E G5 G6 b76 Δ0 (Typed.pass T5 T6 (s4 bs)) (at103 bs) (Scalar.g-room 𝓤 H A W E G5 5 y6 (Local.room-whole 𝓤 H A W (Declared'.row Form.the-type) y6 Path'.refl))
+              d103
 
-          d111 : Typed.Typed 𝓤 H A 𝓣 E G5 b78 Δ0 (at111 bs)
-          d111 = Typed.g-pre 𝓤 H A W 𝓣 E G5 G6 b78 Δ0 (Typed.pass T5 T6 (s4 bs)) (at110 bs) (Scalar.g-room 𝓤 H A W E G5 6 y6 (Local.room-whole 𝓤 H A W (Declared'.row Form.the-type) y6 Path'.refl))
-              d110
-
-          d112 : Typed.Typed 𝓤 H A 𝓣 E G4 b79 Δ0 (at112 bs)
-          d112 = Typed.s-seq 𝓤 H A W 𝓣 E G4 G5 b1 b78 Δ0 (Typed.pass T4 T5 (s3 bs)) (at111 bs) (Scalar.t-use 𝓤 H A W E 𝓣 G4 (Scalar.oFld 6 (List._∷_ (Syntax.field 1) List.[]) Syntax.tyBool 4
-              (Reads.fieldV Form.the-type Laws'.the-laws 1)) 9 (Rows.sc-here Row.sBool) Syntax.tyBool (Row.valS Row.sBool) (Row.sBool .of)
+          d105 : Typed.Typed 𝓤 H A 𝓣 E G4 b77 Δ0 (at105 bs)
+          d105 = Typed.s-seq 𝓤 H A W 𝓣 E G4 G5 b1 b76 Δ0 (Typed.pass T4 T5 (s3 bs)) (at104 bs) (Scalar.t-use 𝓤 H A W E 𝓣 G4 (Scalar.oFld 5 (List._∷_ (Syntax.field 1) List.[]) Syntax.tyBool 4
+              (Reads.fieldV Form.the-type Laws'.the-laws 1)) 8 (Rows.sc-here Row.sBool) Syntax.tyBool (Row.valS Row.sBool) (Row.sBool .of)
               (Reads.reads-field 𝓤 H A W Form.the-type Laws'.the-laws 1 Syntax.tyBool 4 Path'.refl, Path'.refl) (Reads'.room-gone 𝓤 H A Syntax.tyBool) (Scalar.holds-sc 𝓤 H A W Row.sBool) Path'.refl (λ u.
-              Path'.refl) λ u. tt) d111
+              Path'.refl) λ u. tt) d104
 
-          d113 : Typed.Typed 𝓤 H A 𝓣 E G3 b80 Δ0 (at113 bs)
-          d113 = Typed.s-seq 𝓤 H A W 𝓣 E G3 G4 b0 b79 Δ0 (Typed.pass T3 T4 (s2 bs)) (at112 bs) (Scalar.t-use 𝓤 H A W E 𝓣 G3 (Scalar.oFld 6 (List._∷_ (Syntax.field 0) List.[]) (Syntax.tyInt Syntax.w32)
-              0 (Reads.fieldV Form.the-type Laws'.the-laws 0)) 8 (Rows.sc-here (Row.sInt Syntax.w32)) (Syntax.tyInt Syntax.w32) (Row.valS (Row.sInt Syntax.w32)) (Row.sInt Syntax.w32 .of)
+          d106 : Typed.Typed 𝓤 H A 𝓣 E G3 b78 Δ0 (at106 bs)
+          d106 = Typed.s-seq 𝓤 H A W 𝓣 E G3 G4 b0 b77 Δ0 (Typed.pass T3 T4 (s2 bs)) (at105 bs) (Scalar.t-use 𝓤 H A W E 𝓣 G3 (Scalar.oFld 5 (List._∷_ (Syntax.field 0) List.[]) (Syntax.tyInt Syntax.w32)
+              0 (Reads.fieldV Form.the-type Laws'.the-laws 0)) 7 (Rows.sc-here (Row.sInt Syntax.w32)) (Syntax.tyInt Syntax.w32) (Row.valS (Row.sInt Syntax.w32)) (Row.sInt Syntax.w32 .of)
               (Reads.reads-field 𝓤 H A W Form.the-type Laws'.the-laws 0 (Syntax.tyInt Syntax.w32) 0 Path'.refl, Path'.refl) (Reads'.room-gone 𝓤 H A (Syntax.tyInt Syntax.w32)) (Scalar.holds-sc 𝓤 H A W
-              (Row.sInt Syntax.w32)) Path'.refl (λ u. Path'.refl) λ u. tt) d112
+              (Row.sInt Syntax.w32)) Path'.refl (λ u. Path'.refl) λ u. tt) d105
 
-          d114 : Typed.Typed 𝓤 H A 𝓣 E G2 b80 Δ0 (at114 bs)
-          d114 = Typed.g-pre 𝓤 H A W 𝓣 E G2 G3 b80 Δ0 (Typed.give (s1 bs)) (at113 bs) (Know.g-sl-known 𝓤 H A W (Referent.fInt Syntax.w16) E G2 4 1 (Syntax.tyRef (Syntax.named 1) Syntax.mut
+          d107 : Typed.Typed 𝓤 H A 𝓣 E G2 b78 Δ0 (at107 bs)
+          d107 = Typed.g-pre 𝓤 H A W 𝓣 E G2 G3 b78 Δ0 (Typed.give (s1 bs)) (at106 bs) (Know.g-sl-known 𝓤 H A W (Referent.fInt Syntax.w16) E G2 3 1 (Syntax.tyRef (Syntax.named 1) Syntax.mut
               (Syntax.tyInt Syntax.w16)) (Row.lease (κs .1 .0) (qs .1 .0)) 0 (λ x. x) record { fits = Dec'.lit< tt } (Reads'.as-is 𝓤 H A (Mut.mslice (Referent.rtF (Referent.fInt Syntax.w16)) (Syntax.tyRef
-              (Syntax.named 1) Syntax.mut (Syntax.tyInt Syntax.w16)) 1)) Path'.refl tt) d113
+              (Syntax.named 1) Syntax.mut (Syntax.tyInt Syntax.w16)) 1)) Path'.refl tt) d106
 
-          d115 : Typed.Typed 𝓤 H A 𝓣 E G0 b80 Δ0 (at115 bs)
-          d115 = Typed.g-pre 𝓤 H A W 𝓣 E G0 G2 b80 Δ0 (Typed.give (s0 bs)) (at114 bs) (Know.g-shs-known 𝓤 H A W (Referent.fInt Syntax.w8) E G0 1 0 (Syntax.tyRef (Syntax.named 0) Syntax.imm
+          d108 : Typed.Typed 𝓤 H A 𝓣 E G0 b78 Δ0 (at108 bs)
+          d108 = Typed.g-pre 𝓤 H A W 𝓣 E G0 G2 b78 Δ0 (Typed.give (s0 bs)) (at107 bs) (Know.g-shs-known 𝓤 H A W (Referent.fInt Syntax.w8) E G0 1 0 (Syntax.tyRef (Syntax.named 0) Syntax.imm
               (Syntax.tyInt Syntax.w8)) (Row.lease (κs .0) (qs .0)) 0 (λ x. x) record { fits = Dec'.lit< tt } (Reads'.as-is 𝓤 H A (Rows.sslice (Referent.rtF (Referent.fInt Syntax.w8)) (Syntax.tyRef
-              (Syntax.named 0) Syntax.imm (Syntax.tyInt Syntax.w8)) 0)) Path'.refl tt) d114
+              (Syntax.named 0) Syntax.imm (Syntax.tyInt Syntax.w8)) 0)) Path'.refl tt) d107
 
-          pub typed : Typed.Typed 𝓤 H A 𝓣 E (Function.Γin 3 ps r xs m κs qs) b80 (Function.Δret 3 ps r xs m κs qs) (Φ bs)
-          typed = d115
+          pub typed : Typed.Typed 𝓤 H A 𝓣 E (Function.Γin 3 ps r xs m κs qs) b78 (Function.Δret 3 ps r xs m κs qs) (Φ bs)
+          typed = d108
 
       module _ (κs : Lifetimes.Lfts 3) where
         pub record Args : Type 0 where
           pub block : Kinds.Den {n = 3} κs (ShrSlice.pShrS (Referent.rtF (Referent.fInt Syntax.w8)) 0 tt)
           pub from : Kinds.Den {n = 3} κs (Value.pVal record {
-            ty = Declared'.row BitPosition.the-type;
+            ty = Declared'.row Place.the-type;
             one = Path'.refl;
-            val = Laws'8.val BitPosition.the-type Laws.the-laws;
-            tells = Laws'8.tells BitPosition.the-type Laws.the-laws;
-            still =
-                Laws'8.still BitPosition.the-type Laws.the-copy Exit.yes;
-            row = Rows.whole (Declared'.row BitPosition.the-type);
+            val = Laws'9.val Place.the-type Laws'3.the-laws;
+            tells = Laws'9.tells Place.the-type Laws'3.the-laws;
+            still = Laws'9.still
+                Place.the-type Laws'3.the-copy Exit.yes;
+            row = Rows.whole (Declared'.row Place.the-type);
             rd = λ x. x;
             mk = λ x. x;
           } λ M 𝓤 H A W. record {
-            copies = Laws'8.copy BitPosition.the-type Laws.the-copy 𝓤 H A W;
-            lawful = Laws'8.lawful BitPosition.the-type Laws.the-laws 𝓤 H A W;
-            makes = Laws'8.makes BitPosition.the-type Laws.the-plain
-                𝓤 H A;
-            in-mem = Local.mem-whole 𝓤 H A W (Declared'.row BitPosition.the-type);
-            of-mem = Local.whole-mem 𝓤 H A W (Declared'.row BitPosition.the-type);
+            copies = Laws'9.copy Place.the-type Laws'3.the-copy 𝓤 H A W;
+            lawful = Laws'9.lawful Place.the-type Laws'3.the-laws 𝓤 H A W;
+            makes = Laws'9.makes Place.the-type Laws'3.the-plain 𝓤 H A;
+            in-mem = Local.mem-whole 𝓤 H A W (Declared'.row Place.the-type);
+            of-mem = Local.whole-mem 𝓤 H A W (Declared'.row Place.the-type);
           })
-          pub tight-before : Kinds.Den {n = 3} κs Bool.pBool
           pub lines : Kinds.Den {n = 3} κs (MutSlice.pMutS (Referent.rtF (Referent.fInt Syntax.w16)) 1 tt)
           pub rs : Kinds.Den {n = 3} κs (MutSlice.pMutS (Element.type) 2 tt)
           pub form : Kinds.Den {n = 3} κs (Value.pVal record {
             ty = Declared'.row Form.the-type;
             one = Path'.refl;
-            val = Laws'8.val Form.the-type Laws'.the-laws;
-            tells = Laws'8.tells Form.the-type Laws'.the-laws;
-            still = Laws'8.still Form.the-type
+            val = Laws'9.val Form.the-type Laws'.the-laws;
+            tells = Laws'9.tells Form.the-type Laws'.the-laws;
+            still = Laws'9.still Form.the-type
                 Laws'.the-copy Exit.yes;
             row = Rows.whole (Declared'.row Form.the-type);
             rd = λ x. x;
             mk = λ x. x;
           } λ M 𝓤 H A W. record {
-            copies = Laws'8.copy Form.the-type Laws'.the-copy 𝓤 H A W;
-            lawful = Laws'8.lawful Form.the-type Laws'.the-laws 𝓤 H A W;
-            makes = Laws'8.makes Form.the-type Laws'.the-plain 𝓤 H A;
+            copies = Laws'9.copy Form.the-type Laws'.the-copy 𝓤 H A W;
+            lawful = Laws'9.lawful Form.the-type Laws'.the-laws 𝓤 H A W;
+            makes = Laws'9.makes Form.the-type Laws'.the-plain 𝓤 H A;
             in-mem =
                 Local.mem-whole 𝓤 H A W (Declared'.row Form.the-type);
             of-mem = Local.whole-mem 𝓤 H A W (Declared'.row Form.the-type);
@@ -3672,24 +3518,24 @@ module _ (claims· : Claims) where
           pub qs : Kinds.Den {n = 3} κs (Value.pVal record {
             ty = Declared'.row Quantisers.the-type;
             one = Path'.refl;
-            val = Laws'8.val Quantisers.the-type Laws'5.the-laws;
-            tells = Laws'8.tells Quantisers.the-type Laws'5.the-laws;
+            val = Laws'9.val Quantisers.the-type Laws'6.the-laws;
+            tells = Laws'9.tells Quantisers.the-type Laws'6.the-laws;
             still =
-                Laws'8.still Quantisers.the-type Laws'5.the-copy Exit.yes;
+                Laws'9.still Quantisers.the-type Laws'6.the-copy Exit.yes;
             row = Rows.whole (Declared'.row Quantisers.the-type);
             rd = λ x. x;
             mk = λ x. x;
           } λ M 𝓤 H A W. record {
-            copies = Laws'8.copy Quantisers.the-type Laws'5.the-copy 𝓤 H A W;
-            lawful = Laws'8.lawful Quantisers.the-type Laws'5.the-laws 𝓤 H A W;
-            makes = Laws'8.makes Quantisers.the-type
-                Laws'5.the-plain 𝓤 H A;
+            copies = Laws'9.copy Quantisers.the-type Laws'6.the-copy 𝓤 H A W;
+            lawful = Laws'9.lawful Quantisers.the-type Laws'6.the-laws 𝓤 H A W;
+            makes = Laws'9.makes Quantisers.the-type
+                Laws'6.the-plain 𝓤 H A;
             in-mem = Local.mem-whole 𝓤 H A W (Declared'.row Quantisers.the-type);
             of-mem = Local.whole-mem 𝓤 H A W (Declared'.row Quantisers.the-type);
           })
 
         abbrev pub dens : (a : Args) → Kinds.Dens κs ps
-        dens = λ a. (a .block, (a .from, (a .tight-before, (a .lines, (a .rs, (a .form, (a .qs, tt)))))))
+        dens = λ a. (a .block, (a .from, (a .lines, (a .rs, (a .form, (a .qs, tt))))))
 
       abbrev pub m0 : (κs : Lifetimes.Lfts 3) → (args : Args κs) → (blocks : List.List Nat.ℕ) → Typed.Mo T0
       m0 = λ κs args blocks. (tt, Enter.partsP κs 1 ps xs (dens κs args))
@@ -3748,14 +3594,14 @@ module _ (claims· : Claims) where
 
       module _ (before· : After-slice-known) where
         abbrev pub After-width·own : Type 0
-        After-width·own = Called.Called ps·0 r·0 (claims· .1) T6 (Bool.bAt 9 λ x. x, tt) (m5 (before· .before) (before· .slice-known .given))
+        After-width·own = Called.Called ps·0 r·0 (claims· .1) T6 (Bool.bAt 8 λ x. x, tt) (m5 (before· .before) (before· .slice-known .given))
 
       pub record After-width : Type 0 where
         pub before : After-slice-known
         pub width : After-width·own before
 
       abbrev pub After-width·gave : (c : After-width) → s5 (c .before .before .before .blocks) .gives (m5 (c .before .before) (c .before .slice-known .given))
-      After-width·gave = λ c. Called.given ps·0 r·0 (claims· .1) T6 (Bool.bAt 9 λ x. x, tt) (m5 (c .before .before) (c .before .slice-known .given)) (c .width)
+      After-width·gave = λ c. Called.given ps·0 r·0 (claims· .1) T6 (Bool.bAt 8 λ x. x, tt) (m5 (c .before .before) (c .before .slice-known .given)) (c .width)
 
       abbrev pub m7 : (before : After-slice-known) → (given : s5 (before .before .before .blocks) .gives (m5 (before .before) (before .slice-known .given))) → Typed.Mo T8
       m7 = λ before given. s6 (before .before .before .blocks) (m6 before given)
@@ -3766,69 +3612,60 @@ module _ (claims· : Claims) where
       abbrev pub m9 : (before : After-slice-known) → (given : s5 (before .before .before .blocks) .gives (m5 (before .before) (before .slice-known .given))) → Typed.Mo T10
       m9 = λ before given. s8 (before .before .before .blocks) (m8 before given)
 
-      abbrev pub m10 : (before : After-slice-known) → (given : s5 (before .before .before .blocks) .gives (m5 (before .before) (before .slice-known .given))) → Typed.Mo T11
-      m10 = λ before given. s9 (before .before .before .blocks) (m9 before given)
-
       abbrev W1 : (before : After-slice-known) → (given : s5 (before .before .before .blocks) .gives (m5 (before .before) (before .slice-known .given))) → Typed.Want O1
-      W1 = λ before given. Typed.wantNext T12 O0 (at104 (before .before .before .blocks) (W0 (before .before .before .κs) (before .before .before .args) (before .before .before .blocks))) (W0 (before
+      W1 = λ before given. Typed.wantNext T11 O0 (at98 (before .before .before .blocks) (W0 (before .before .before .κs) (before .before .before .args) (before .before .before .blocks))) (W0 (before
           .before .before .κs) (before .before .before .args) (before .before .before .blocks))
 
       abbrev W2 : (before : After-slice-known) → (given : s5 (before .before .before .blocks) .gives (m5 (before .before) (before .slice-known .given))) → Typed.Want O2
       W2 = λ before given. Typed.inBlock O1 (W1 before given)
 
       abbrev pub Need-loop-holds : Type 0
-      Need-loop-holds = (c : After-width) → Inv·0 (Row.get 1 (T11 .locals) (m10 (c .before) (After-width·gave c)) .now) (Row.get 3 (T11 .locals) (m10 (c .before) (After-width·gave c))) (Row.get 4 (T11
-          .locals) (m10 (c .before) (After-width·gave c)) .now) (Row.get 5 (T11 .locals) (m10 (c .before) (After-width·gave c)) .now) (Row.get 7 (T11 .locals) (m10 (c .before) (After-width·gave c)))
-          (Row.get 8 (T11 .locals) (m10 (c .before) (After-width·gave c))) (Row.get 9 (T11 .locals) (m10 (c .before) (After-width·gave c))) (Row.get 10 (T11 .locals) (m10 (c .before) (After-width·gave
-          c))) (Row.get 11 (T11 .locals) (m10 (c .before) (After-width·gave c))) (Row.get 12 (T11 .locals) (m10 (c .before) (After-width·gave c))) (Row.get 13 (T11 .locals) (m10 (c .before)
-          (After-width·gave c))) (Row.get 4 (T11 .locals) (m10 (c .before) (After-width·gave c)) .now) (Row.get 5 (T11 .locals) (m10 (c .before) (After-width·gave c)) .now) (Row.get 11 (T11 .locals) (m10
-          (c .before) (After-width·gave c))) (Row.get 12 (T11 .locals) (m10 (c .before) (After-width·gave c))) (Row.get 13 (T11 .locals) (m10 (c .before) (After-width·gave c)))
+      Need-loop-holds = (c : After-width) → Inv·0 (Row.get 1 (T10 .locals) (m9 (c .before) (After-width·gave c)) .now) (Row.get 3 (T10 .locals) (m9 (c .before) (After-width·gave c)) .now) (Row.get 4
+          (T10 .locals) (m9 (c .before) (After-width·gave c)) .now) (Row.get 6 (T10 .locals) (m9 (c .before) (After-width·gave c))) (Row.get 7 (T10 .locals) (m9 (c .before) (After-width·gave c))) (Row.get
+          8 (T10 .locals) (m9 (c .before) (After-width·gave c))) (Row.get 9 (T10 .locals) (m9 (c .before) (After-width·gave c))) (Row.get 10 (T10 .locals) (m9 (c .before) (After-width·gave c))) (Row.get
+          11 (T10 .locals) (m9 (c .before) (After-width·gave c))) (Row.get 3 (T10 .locals) (m9 (c .before) (After-width·gave c)) .now) (Row.get 4 (T10 .locals) (m9 (c .before) (After-width·gave c)) .now)
+          (Row.get 10 (T10 .locals) (m9 (c .before) (After-width·gave c))) (Row.get 11 (T10 .locals) (m9 (c .before) (After-width·gave c)))
 
-      abbrev pub m11 : (before : After-width) → (lines : List.List (Referent.rtF (Referent.fInt Syntax.w16) .Denot)) → (rs : List.List (Element.type .Denot)) → (at : Rows.whole (Declared'.row
-          BitPosition.the-type) .Mod) → (tight : Rows.sc-here Row.sBool .Mod) → (i : Rows.sc-here (Row.sInt Syntax.w64) .Mod) → Typed.Mo T11
-      m11 = λ before lines rs at tight i. Row.set 13 (13, Rows.sc-here (Row.sInt Syntax.w64)) i (Row.setRow 12 (12, Rows.sc-here Row.sBool) (Row.setRow 11
-          (11, Rows.whole (Declared'.row BitPosition.the-type)) (Row.setRow 5 (5, Mut.mslice (Element.type) (Syntax.tyRef (Syntax.named 2) Syntax.mut Element.behind) 2) (Row.setRow 4
-          (4, Mut.mslice (Referent.rtF (Referent.fInt Syntax.w16)) (Syntax.tyRef (Syntax.named 1) Syntax.mut (Syntax.tyInt Syntax.w16)) 1) (T11 .locals))))) (Row.set 12 (12, Rows.sc-here Row.sBool) tight
-          (Row.setRow 11 (11, Rows.whole (Declared'.row BitPosition.the-type)) (Row.setRow 5 (5, Mut.mslice (Element.type) (Syntax.tyRef (Syntax.named 2) Syntax.mut Element.behind) 2) (Row.setRow 4
-          (4, Mut.mslice (Referent.rtF (Referent.fInt Syntax.w16)) (Syntax.tyRef (Syntax.named 1) Syntax.mut (Syntax.tyInt Syntax.w16)) 1) (T11 .locals)))) (Row.set 11
-          (11, Rows.whole (Declared'.row BitPosition.the-type)) at (Row.setRow 5 (5, Mut.mslice (Element.type) (Syntax.tyRef (Syntax.named 2) Syntax.mut Element.behind) 2) (Row.setRow 4
-          (4, Mut.mslice (Referent.rtF (Referent.fInt Syntax.w16)) (Syntax.tyRef (Syntax.named 1) Syntax.mut (Syntax.tyInt Syntax.w16)) 1) (T11 .locals))) (Row.set 5
-          (5, Mut.mslice (Element.type) (Syntax.tyRef (Syntax.named 2) Syntax.mut Element.behind) 2) record
-          { ptr = Row.get 5 (T11 .locals) (m10 (before .before) (After-width·gave before)) .ptr; name = Row.get 5 (T11 .locals) (m10 (before .before) (After-width·gave before)) .name; now = rs }
-          (Row.setRow 4 (4, Mut.mslice (Referent.rtF (Referent.fInt Syntax.w16)) (Syntax.tyRef (Syntax.named 1) Syntax.mut (Syntax.tyInt Syntax.w16)) 1) (T11 .locals)) (Row.set 4
-          (4, Mut.mslice (Referent.rtF (Referent.fInt Syntax.w16)) (Syntax.tyRef (Syntax.named 1) Syntax.mut (Syntax.tyInt Syntax.w16)) 1) record
-          { ptr = Row.get 4 (T11 .locals) (m10 (before .before) (After-width·gave before)) .ptr; name = Row.get 4 (T11 .locals) (m10 (before .before) (After-width·gave before)) .name; now = lines } (T11
-          .locals) (m10 (before .before) (After-width·gave before))))))
+      abbrev pub m10 : (before : After-width) → (lines : List.List (Referent.rtF (Referent.fInt Syntax.w16) .Denot)) → (rs : List.List (Element.type .Denot)) → (place : Rows.whole (Declared'.row
+          Place.the-type) .Mod) → (i : Rows.sc-here (Row.sInt Syntax.w64) .Mod) → Typed.Mo T10
+      m10 = λ before lines rs place i. Row.set 11 (11, Rows.sc-here (Row.sInt Syntax.w64)) i (Row.setRow 10 (10, Rows.whole (Declared'.row Place.the-type)) (Row.setRow 4
+          (4, Mut.mslice (Element.type) (Syntax.tyRef (Syntax.named 2) Syntax.mut Element.behind) 2) (Row.setRow 3
+          (3, Mut.mslice (Referent.rtF (Referent.fInt Syntax.w16)) (Syntax.tyRef (Syntax.named 1) Syntax.mut (Syntax.tyInt Syntax.w16)) 1) (T10 .locals)))) (Row.set 10
+          (10, Rows.whole (Declared'.row Place.the-type)) place (Row.setRow 4 (4, Mut.mslice (Element.type) (Syntax.tyRef (Syntax.named 2) Syntax.mut Element.behind) 2) (Row.setRow 3
+          (3, Mut.mslice (Referent.rtF (Referent.fInt Syntax.w16)) (Syntax.tyRef (Syntax.named 1) Syntax.mut (Syntax.tyInt Syntax.w16)) 1) (T10 .locals))) (Row.set 4
+          (4, Mut.mslice (Element.type) (Syntax.tyRef (Syntax.named 2) Syntax.mut Element.behind) 2) record
+          { ptr = Row.get 4 (T10 .locals) (m9 (before .before) (After-width·gave before)) .ptr; name = Row.get 4 (T10 .locals) (m9 (before .before) (After-width·gave before)) .name; now = rs }
+          (Row.setRow 3 (3, Mut.mslice (Referent.rtF (Referent.fInt Syntax.w16)) (Syntax.tyRef (Syntax.named 1) Syntax.mut (Syntax.tyInt Syntax.w16)) 1) (T10 .locals)) (Row.set 3
+          (3, Mut.mslice (Referent.rtF (Referent.fInt Syntax.w16)) (Syntax.tyRef (Syntax.named 1) Syntax.mut (Syntax.tyInt Syntax.w16)) 1) record
+          { ptr = Row.get 3 (T10 .locals) (m9 (before .before) (After-width·gave before)) .ptr; name = Row.get 3 (T10 .locals) (m9 (before .before) (After-width·gave before)) .name; now = lines } (T10
+          .locals) (m9 (before .before) (After-width·gave before)))))
 
-      abbrev W3 : (before : After-width) → (lines : List.List (Referent.rtF (Referent.fInt Syntax.w16) .Denot)) → (rs : List.List (Element.type .Denot)) → (at : Rows.whole (Declared'.row
-          BitPosition.the-type) .Mod) → (tight : Rows.sc-here Row.sBool .Mod) → (i : Rows.sc-here (Row.sInt Syntax.w64) .Mod) → Typed.Want O3
-      W3 = λ before lines rs at tight i. Typed.inLoop T11 O2 (Typed.Round T11 O2 put0 (λ u vs. Inv·0 (Row.get 1 (T11 .locals) u .now) (Row.get 3 (T11 .locals) u) (Row.get 4 (T11 .locals) u .now)
-          (Row.get 5 (T11 .locals) u .now) (Row.get 7 (T11 .locals) u) (Row.get 8 (T11 .locals) u) (Row.get 9 (T11 .locals) u) (Row.get 10 (T11 .locals) u) (Row.get 11 (T11 .locals) u) (Row.get 12 (T11
-          .locals) u) (Row.get 13 (T11 .locals) u) (vs .0) (vs .1) (vs .2) (vs .3) (vs .4)) (λ u vs. μ·0 (Row.get 1 (T11 .locals) u .now) (Row.get 3 (T11 .locals) u) (Row.get 4 (T11 .locals) u .now)
-          (Row.get 5 (T11 .locals) u .now) (Row.get 7 (T11 .locals) u) (Row.get 8 (T11 .locals) u) (Row.get 9 (T11 .locals) u) (Row.get 10 (T11 .locals) u) (Row.get 11 (T11 .locals) u) (Row.get 12 (T11
-          .locals) u) (Row.get 13 (T11 .locals) u) (vs .0) (vs .1) (vs .2) (vs .3) (vs .4)) (at78 (before .before .before .before .blocks)) (m10 (before .before) (After-width·gave before))
-          (lines, rs, at, tight, i)) (W2 (before .before) (After-width·gave before))
+      abbrev W3 : (before : After-width) → (lines : List.List (Referent.rtF (Referent.fInt Syntax.w16) .Denot)) → (rs : List.List (Element.type .Denot)) → (place : Rows.whole (Declared'.row
+          Place.the-type) .Mod) → (i : Rows.sc-here (Row.sInt Syntax.w64) .Mod) → Typed.Want O3
+      W3 = λ before lines rs place i. Typed.inLoop T10 O2 (Typed.Round T10 O2 put0 (λ u vs. Inv·0 (Row.get 1 (T10 .locals) u .now) (Row.get 3 (T10 .locals) u .now) (Row.get 4 (T10 .locals) u .now)
+          (Row.get 6 (T10 .locals) u) (Row.get 7 (T10 .locals) u) (Row.get 8 (T10 .locals) u) (Row.get 9 (T10 .locals) u) (Row.get 10 (T10 .locals) u) (Row.get 11 (T10 .locals) u) (vs .0) (vs .1) (vs .2)
+          (vs .3)) (λ u vs. μ·0 (Row.get 1 (T10 .locals) u .now) (Row.get 3 (T10 .locals) u .now) (Row.get 4 (T10 .locals) u .now) (Row.get 6 (T10 .locals) u) (Row.get 7 (T10 .locals) u) (Row.get 8 (T10
+          .locals) u) (Row.get 9 (T10 .locals) u) (Row.get 10 (T10 .locals) u) (Row.get 11 (T10 .locals) u) (vs .0) (vs .1) (vs .2) (vs .3)) (at74 (before .before .before .before .blocks)) (m9 (before
+          .before) (After-width·gave before)) (lines, rs, place, i)) (W2 (before .before) (After-width·gave before))
 
-      abbrev pub m12 : (before : After-width) → (lines : List.List (Referent.rtF (Referent.fInt Syntax.w16) .Denot)) → (rs : List.List (Element.type .Denot)) → (at : Rows.whole (Declared'.row
-          BitPosition.the-type) .Mod) → (tight : Rows.sc-here Row.sBool .Mod) → (i : Rows.sc-here (Row.sInt Syntax.w64) .Mod) → Typed.Mo T13
-      m12 = λ before lines rs at tight i. s10 (before .before .before .before .blocks) .next (m11 before lines rs at tight i)
+      abbrev pub m11 : (before : After-width) → (lines : List.List (Referent.rtF (Referent.fInt Syntax.w16) .Denot)) → (rs : List.List (Element.type .Denot)) → (place : Rows.whole (Declared'.row
+          Place.the-type) .Mod) → (i : Rows.sc-here (Row.sInt Syntax.w64) .Mod) → Typed.Mo T12
+      m11 = λ before lines rs place i. s9 (before .before .before .before .blocks) .next (m10 before lines rs place i)
 
-      abbrev W4 : (before : After-width) → (lines : List.List (Referent.rtF (Referent.fInt Syntax.w16) .Denot)) → (rs : List.List (Element.type .Denot)) → (at : Rows.whole (Declared'.row
-          BitPosition.the-type) .Mod) → (tight : Rows.sc-here Row.sBool .Mod) → (i : Rows.sc-here (Row.sInt Syntax.w64) .Mod) → Typed.Want O4
-      W4 = λ before lines rs at tight i. Typed.wantNext T14 O3 (at76 (before .before .before .before .blocks) (W3 before lines rs at tight i)) (W3 before lines rs at tight i)
+      abbrev W4 : (before : After-width) → (lines : List.List (Referent.rtF (Referent.fInt Syntax.w16) .Denot)) → (rs : List.List (Element.type .Denot)) → (place : Rows.whole (Declared'.row
+          Place.the-type) .Mod) → (i : Rows.sc-here (Row.sInt Syntax.w64) .Mod) → Typed.Want O4
+      W4 = λ before lines rs place i. Typed.wantNext T13 O3 (at72 (before .before .before .before .blocks) (W3 before lines rs place i)) (W3 before lines rs place i)
 
       module _ (before· : After-width) where
         pub record At-loop·own : Type 0 where
           pub lines : List.List (Referent.rtF (Referent.fInt Syntax.w16) .Denot)
           pub rs : List.List (Element.type .Denot)
-          pub at : Rows.whole (Declared'.row BitPosition.the-type) .Mod
-          pub tight : Rows.sc-here Row.sBool .Mod
+          pub place : Rows.whole (Declared'.row Place.the-type) .Mod
           pub i : Rows.sc-here (Row.sInt Syntax.w64) .Mod
-          pub inv : Inv·0 (Row.get 1 (T11 .locals) (m10 (before· .before) (After-width·gave before·)) .now) (Row.get 3 (T11 .locals) (m10 (before· .before) (After-width·gave before·))) (Row.get 4 (T11
-              .locals) (m10 (before· .before) (After-width·gave before·)) .now) (Row.get 5 (T11 .locals) (m10 (before· .before) (After-width·gave before·)) .now) (Row.get 7 (T11 .locals) (m10 (before·
-              .before) (After-width·gave before·))) (Row.get 8 (T11 .locals) (m10 (before· .before) (After-width·gave before·))) (Row.get 9 (T11 .locals) (m10 (before· .before) (After-width·gave
-              before·))) (Row.get 10 (T11 .locals) (m10 (before· .before) (After-width·gave before·))) (Row.get 11 (T11 .locals) (m10 (before· .before) (After-width·gave before·))) (Row.get 12 (T11
-              .locals) (m10 (before· .before) (After-width·gave before·))) (Row.get 13 (T11 .locals) (m10 (before· .before) (After-width·gave before·))) lines rs at tight i
+          pub inv : Inv·0 (Row.get 1 (T10 .locals) (m9 (before· .before) (After-width·gave before·)) .now) (Row.get 3 (T10 .locals) (m9 (before· .before) (After-width·gave before·)) .now) (Row.get 4
+              (T10 .locals) (m9 (before· .before) (After-width·gave before·)) .now) (Row.get 6 (T10 .locals) (m9 (before· .before) (After-width·gave before·))) (Row.get 7 (T10 .locals) (m9 (before·
+              .before) (After-width·gave before·))) (Row.get 8 (T10 .locals) (m9 (before· .before) (After-width·gave before·))) (Row.get 9 (T10 .locals) (m9 (before· .before) (After-width·gave before·)))
+              (Row.get 10 (T10 .locals) (m9 (before· .before) (After-width·gave before·))) (Row.get 11 (T10 .locals) (m9 (before· .before) (After-width·gave before·))) lines rs place i
 
       pub record At-loop : Type 0 where
         pub before : After-width
@@ -3836,202 +3673,202 @@ module _ (claims· : Claims) where
 
       module _ (before· : At-loop) where
         pub record In-loop·own : Type 0 where
-          pub taken : Nat._<_ (Row.get 13 (T11 .locals) (m11 (before· .before) (before· .loop .lines) (before· .loop .rs) (before· .loop .at) (before· .loop .tight) (before· .loop .i))) 6
+          pub taken : Nat._<_ (Row.get 11 (T10 .locals) (m10 (before· .before) (before· .loop .lines) (before· .loop .rs) (before· .loop .place) (before· .loop .i))) 6
 
       pub record In-loop : Type 0 where
         pub before : At-loop
         pub loop-test : In-loop·own before
 
-      abbrev pub m13 : (before : At-loop) → Typed.Mo T15
-      m13 = λ before. s11 (before .before .before .before .before .blocks) (m12 (before .before) (before .loop .lines) (before .loop .rs) (before .loop .at) (before .loop .tight) (before .loop .i))
+      abbrev pub m12 : (before : At-loop) → Typed.Mo T14
+      m12 = λ before. s10 (before .before .before .before .before .blocks) (m11 (before .before) (before .loop .lines) (before .loop .rs) (before .loop .place) (before .loop .i))
 
       module _ (before· : At-loop) where
         pub record After-loop·own : Type 0 where
-          pub left : Nat._≤_ 6 (Row.get 13 (T11 .locals) (m11 (before· .before) (before· .loop .lines) (before· .loop .rs) (before· .loop .at) (before· .loop .tight) (before· .loop .i)))
+          pub left : Nat._≤_ 6 (Row.get 11 (T10 .locals) (m10 (before· .before) (before· .loop .lines) (before· .loop .rs) (before· .loop .place) (before· .loop .i)))
 
       pub record After-loop : Type 0 where
         pub before : At-loop
         pub loop-test : After-loop·own before
 
-      abbrev pub m14 : (before : At-loop) → Typed.Mo T16
-      m14 = λ before. s12 (before .before .before .before .before .blocks) (m12 (before .before) (before .loop .lines) (before .loop .rs) (before .loop .at) (before .loop .tight) (before .loop .i))
+      abbrev pub m13 : (before : At-loop) → Typed.Mo T15
+      m13 = λ before. s11 (before .before .before .before .before .blocks) (m11 (before .before) (before .loop .lines) (before .loop .rs) (before .loop .place) (before .loop .i))
 
-      abbrev pub m15 : (before : At-loop) → Typed.Mo T17
-      m15 = λ before. s13 (before .before .before .before .before .blocks) (m14 before)
+      abbrev pub m14 : (before : At-loop) → Typed.Mo T16
+      m14 = λ before. s12 (before .before .before .before .before .blocks) (m13 before)
 
       abbrev pub Need-plan-at-requires : Type 0
-      Need-plan-at-requires = (c : In-loop) → s14 (c .before .before .before .before .before .blocks) .asks (m13 (c .before))
+      Need-plan-at-requires = (c : In-loop) → s13 (c .before .before .before .before .before .blocks) .asks (m12 (c .before))
 
-      abbrev pub m16 : (before : In-loop) → (given : s14 (before .before .before .before .before .before .blocks) .gives (m13 (before .before))) → Typed.Mo T18
-      m16 = λ before given. s14 (before .before .before .before .before .before .blocks) .next (m13 (before .before)) given
+      abbrev pub m15 : (before : In-loop) → (given : s13 (before .before .before .before .before .before .blocks) .gives (m12 (before .before))) → Typed.Mo T17
+      m15 = λ before given. s13 (before .before .before .before .before .before .blocks) .next (m12 (before .before)) given
 
       module _ (before· : In-loop) where
         abbrev pub After-plan-at·own : Type 0
-        After-plan-at·own = Called.Called ps·1 r·1 (claims· .3) T14 (Num.vAt 13 λ x. x, (Bool.bAt 9 λ x. x, tt)) (m13 (before· .before))
+        After-plan-at·own = Called.Called ps·1 r·1 (claims· .3) T13 (Num.vAt 11 λ x. x, (Bool.bAt 8 λ x. x, tt)) (m12 (before· .before))
 
       pub record After-plan-at : Type 0 where
         pub before : In-loop
         pub plan-at : After-plan-at·own before
 
-      abbrev pub After-plan-at·gave : (c : After-plan-at) → s14 (c .before .before .before .before .before .before .blocks) .gives (m13 (c .before .before))
-      After-plan-at·gave = λ c. Called.given ps·1 r·1 (claims· .3) T14 (Num.vAt 13 λ x. x, (Bool.bAt 9 λ x. x, tt)) (m13 (c .before .before)) (c .plan-at)
+      abbrev pub After-plan-at·gave : (c : After-plan-at) → s13 (c .before .before .before .before .before .before .blocks) .gives (m12 (c .before .before))
+      After-plan-at·gave = λ c. Called.given ps·1 r·1 (claims· .3) T13 (Num.vAt 11 λ x. x, (Bool.bAt 8 λ x. x, tt)) (m12 (c .before .before)) (c .plan-at)
 
-      abbrev pub m17 : (before : After-plan-at) → (given : s16 (before .before .before .before .before .before .before .blocks) .gives (m16 (before .before) (After-plan-at·gave before))) → Typed.Mo
+      abbrev pub m16 : (before : After-plan-at) → (given : s15 (before .before .before .before .before .before .before .blocks) .gives (m15 (before .before) (After-plan-at·gave before))) → Typed.Mo
+          T19
+      m16 = λ before given. s15 (before .before .before .before .before .before .before .blocks) .next (m15 (before .before) (After-plan-at·gave before)) given
+
+      abbrev pub m17 : (before : After-plan-at) → (given : s15 (before .before .before .before .before .before .before .blocks) .gives (m15 (before .before) (After-plan-at·gave before))) → Typed.Mo
           T20
-      m17 = λ before given. s16 (before .before .before .before .before .before .before .blocks) .next (m16 (before .before) (After-plan-at·gave before)) given
-
-      abbrev pub m18 : (before : After-plan-at) → (given : s16 (before .before .before .before .before .before .before .blocks) .gives (m16 (before .before) (After-plan-at·gave before))) → Typed.Mo
-          T21
-      m18 = λ before given. s17 (before .before .before .before .before .before .before .blocks) .next (m17 before given)
+      m17 = λ before given. s16 (before .before .before .before .before .before .before .blocks) .next (m16 before given)
 
       module _ (before· : After-plan-at) where
         pub record After-set-guards-arg·own : Type 0 where
-          pub given : s16 (before· .before .before .before .before .before .before .blocks) .gives (m16 (before· .before) (After-plan-at·gave before·))
+          pub given : s15 (before· .before .before .before .before .before .before .blocks) .gives (m15 (before· .before) (After-plan-at·gave before·))
 
       pub record After-set-guards-arg : Type 0 where
         pub before : After-plan-at
         pub set-guards-arg : After-set-guards-arg·own before
 
       abbrev pub Need-set-guards-requires : Type 0
-      Need-set-guards-requires = (c : After-set-guards-arg) → s18 (c .before .before .before .before .before .before .before .blocks) .asks (m18 (c .before) (c .set-guards-arg .given))
+      Need-set-guards-requires = (c : After-set-guards-arg) → s17 (c .before .before .before .before .before .before .before .blocks) .asks (m17 (c .before) (c .set-guards-arg .given))
 
-      abbrev pub m19 : (before : After-set-guards-arg) → (given : s18 (before .before .before .before .before .before .before .before .blocks) .gives (m18 (before .before) (before .set-guards-arg
-          .given))) → Typed.Mo T22
-      m19 = λ before given. s18 (before .before .before .before .before .before .before .before .blocks) .next (m18 (before .before) (before .set-guards-arg .given)) given
+      abbrev pub m18 : (before : After-set-guards-arg) → (given : s17 (before .before .before .before .before .before .before .before .blocks) .gives (m17 (before .before) (before .set-guards-arg
+          .given))) → Typed.Mo T21
+      m18 = λ before given. s17 (before .before .before .before .before .before .before .before .blocks) .next (m17 (before .before) (before .set-guards-arg .given)) given
 
       module _ (before· : After-set-guards-arg) where
         abbrev pub After-set-guards·own : Type 0
-        After-set-guards·own = Called.Called ps·2 r·2 (claims· .5) T21 (
-          record { pos = 22; ty = Syntax.tyRef Syntax.erased Syntax.mut (Syntax.tyInt Syntax.w16); ref = λ x. x },
-          (Num.vAt 10 λ x. x, (Num.vFld 14 (List._∷_ (Syntax.field 0) List.[]) 0 λ x. Plan.struct .as-values x .0, tt)),
-        ) (m18 (before· .before) (before· .set-guards-arg .given))
+        After-set-guards·own = Called.Called ps·2 r·2 (claims· .5) T20 (
+          record { pos = 21; ty = Syntax.tyRef Syntax.erased Syntax.mut (Syntax.tyInt Syntax.w16); ref = λ x. x },
+          (Num.vAt 9 λ x. x, (Num.vFld 12 (List._∷_ (Syntax.field 0) List.[]) 0 λ x. Plan.struct .as-values x .0, tt)),
+        ) (m17 (before· .before) (before· .set-guards-arg .given))
 
       pub record After-set-guards : Type 0 where
         pub before : After-set-guards-arg
         pub set-guards : After-set-guards·own before
 
-      abbrev pub After-set-guards·gave : (c : After-set-guards) → s18 (c .before .before .before .before .before .before .before .before .blocks) .gives (m18 (c .before .before) (c .before
+      abbrev pub After-set-guards·gave : (c : After-set-guards) → s17 (c .before .before .before .before .before .before .before .before .blocks) .gives (m17 (c .before .before) (c .before
           .set-guards-arg .given))
-      After-set-guards·gave = λ c. Called.given ps·2 r·2 (claims· .5) T21 (
-        record { pos = 22; ty = Syntax.tyRef Syntax.erased Syntax.mut (Syntax.tyInt Syntax.w16); ref = λ x. x },
-        (Num.vAt 10 λ x. x, (Num.vFld 14 (List._∷_ (Syntax.field 0) List.[]) 0 λ x. Plan.struct .as-values x .0, tt)),
-      ) (m18 (c .before .before) (c .before .set-guards-arg .given)) (c .set-guards)
+      After-set-guards·gave = λ c. Called.given ps·2 r·2 (claims· .5) T20 (
+        record { pos = 21; ty = Syntax.tyRef Syntax.erased Syntax.mut (Syntax.tyInt Syntax.w16); ref = λ x. x },
+        (Num.vAt 9 λ x. x, (Num.vFld 12 (List._∷_ (Syntax.field 0) List.[]) 0 λ x. Plan.struct .as-values x .0, tt)),
+      ) (m17 (c .before .before) (c .before .set-guards-arg .given)) (c .set-guards)
 
-      abbrev pub m20 : (before : After-set-guards-arg) → (given : s18 (before .before .before .before .before .before .before .before .blocks) .gives (m18 (before .before) (before .set-guards-arg
-          .given))) → Typed.Mo T23
-      m20 = λ before given. s19 (before .before .before .before .before .before .before .before .blocks) (m19 before given)
+      abbrev pub m19 : (before : After-set-guards-arg) → (given : s17 (before .before .before .before .before .before .before .before .blocks) .gives (m17 (before .before) (before .set-guards-arg
+          .given))) → Typed.Mo T22
+      m19 = λ before given. s18 (before .before .before .before .before .before .before .before .blocks) (m18 before given)
 
-      abbrev pub m21 : (before : After-set-guards) → (given : s21 (before .before .before .before .before .before .before .before .before .blocks) .gives (m20 (before .before) (After-set-guards·gave
-          before))) → Typed.Mo T25
-      m21 = λ before given. s21 (before .before .before .before .before .before .before .before .before .blocks) .next (m20 (before .before) (After-set-guards·gave before)) given
+      abbrev pub m20 : (before : After-set-guards) → (given : s20 (before .before .before .before .before .before .before .before .before .blocks) .gives (m19 (before .before) (After-set-guards·gave
+          before))) → Typed.Mo T24
+      m20 = λ before given. s20 (before .before .before .before .before .before .before .before .before .blocks) .next (m19 (before .before) (After-set-guards·gave before)) given
 
       module _ (before· : After-set-guards) where
         pub record After-lines·own : Type 0 where
-          pub given : s21 (before· .before .before .before .before .before .before .before .before .blocks) .gives (m20 (before· .before) (After-set-guards·gave before·))
+          pub given : s20 (before· .before .before .before .before .before .before .before .before .blocks) .gives (m19 (before· .before) (After-set-guards·gave before·))
 
       pub record After-lines : Type 0 where
         pub before : After-set-guards
         pub lines : After-lines·own before
 
-      abbrev pub m22 : (before : After-lines) → (given : s22 (before .before .before .before .before .before .before .before .before .before .blocks) .gives (m21 (before .before) (before .lines
-          .given))) → Typed.Mo T26
-      m22 = λ before given. s22 (before .before .before .before .before .before .before .before .before .before .blocks) .next (m21 (before .before) (before .lines .given)) given
+      abbrev pub m21 : (before : After-lines) → (given : s21 (before .before .before .before .before .before .before .before .before .before .blocks) .gives (m20 (before .before) (before .lines
+          .given))) → Typed.Mo T25
+      m21 = λ before given. s21 (before .before .before .before .before .before .before .before .before .before .blocks) .next (m20 (before .before) (before .lines .given)) given
 
       module _ (before· : After-lines) where
         pub record After-slice-known2·own : Type 0 where
-          pub given : s22 (before· .before .before .before .before .before .before .before .before .before .blocks) .gives (m21 (before· .before) (before· .lines .given))
+          pub given : s21 (before· .before .before .before .before .before .before .before .before .before .blocks) .gives (m20 (before· .before) (before· .lines .given))
 
       pub record After-slice-known2 : Type 0 where
         pub before : After-lines
         pub slice-known2 : After-slice-known2·own before
 
-      abbrev pub m23 : (before : After-slice-known2) → (given : s25 (before .before .before .before .before .before .before .before .before .before .before .blocks) .gives (m22 (before .before)
-          (before .slice-known2 .given))) → Typed.Mo T29
-      m23 = λ before given. s25 (before .before .before .before .before .before .before .before .before .before .before .blocks) .next (m22 (before .before) (before .slice-known2 .given)) given
+      abbrev pub m22 : (before : After-slice-known2) → (given : s24 (before .before .before .before .before .before .before .before .before .before .before .blocks) .gives (m21 (before .before)
+          (before .slice-known2 .given))) → Typed.Mo T28
+      m22 = λ before given. s24 (before .before .before .before .before .before .before .before .before .before .before .blocks) .next (m21 (before .before) (before .slice-known2 .given)) given
 
-      abbrev pub m24 : (before : After-slice-known2) → (given : s25 (before .before .before .before .before .before .before .before .before .before .before .blocks) .gives (m22 (before .before)
-          (before .slice-known2 .given))) → Typed.Mo T30
-      m24 = λ before given. s26 (before .before .before .before .before .before .before .before .before .before .before .blocks) .next (m23 before given)
+      abbrev pub m23 : (before : After-slice-known2) → (given : s24 (before .before .before .before .before .before .before .before .before .before .before .blocks) .gives (m21 (before .before)
+          (before .slice-known2 .given))) → Typed.Mo T29
+      m23 = λ before given. s25 (before .before .before .before .before .before .before .before .before .before .before .blocks) .next (m22 before given)
 
       module _ (before· : After-slice-known2) where
         pub record After-set-guards-arg2·own : Type 0 where
-          pub given : s25 (before· .before .before .before .before .before .before .before .before .before .before .blocks) .gives (m22 (before· .before) (before· .slice-known2 .given))
+          pub given : s24 (before· .before .before .before .before .before .before .before .before .before .before .blocks) .gives (m21 (before· .before) (before· .slice-known2 .given))
 
       pub record After-set-guards-arg2 : Type 0 where
         pub before : After-slice-known2
         pub set-guards-arg2 : After-set-guards-arg2·own before
 
       abbrev pub Need-set-guards-requires-2 : Type 0
-      Need-set-guards-requires-2 = (c : After-set-guards-arg2) → s27 (c .before .before .before .before .before .before .before .before .before .before .before .blocks) .asks (m24 (c .before) (c
+      Need-set-guards-requires-2 = (c : After-set-guards-arg2) → s26 (c .before .before .before .before .before .before .before .before .before .before .before .blocks) .asks (m23 (c .before) (c
           .set-guards-arg2 .given))
 
-      abbrev pub m25 : (before : After-set-guards-arg2) → (given : s27 (before .before .before .before .before .before .before .before .before .before .before .before .blocks) .gives (m24 (before
-          .before) (before .set-guards-arg2 .given))) → Typed.Mo T31
-      m25 = λ before given. s27 (before .before .before .before .before .before .before .before .before .before .before .before .blocks) .next (m24 (before .before) (before .set-guards-arg2 .given))
+      abbrev pub m24 : (before : After-set-guards-arg2) → (given : s26 (before .before .before .before .before .before .before .before .before .before .before .before .blocks) .gives (m23 (before
+          .before) (before .set-guards-arg2 .given))) → Typed.Mo T30
+      m24 = λ before given. s26 (before .before .before .before .before .before .before .before .before .before .before .before .blocks) .next (m23 (before .before) (before .set-guards-arg2 .given))
           given
 
       module _ (before· : After-set-guards-arg2) where
         abbrev pub After-set-guards2·own : Type 0
-        After-set-guards2·own = Called.Called ps·2 r·2 (claims· .5) T30 (
-          record { pos = 24; ty = Syntax.tyRef Syntax.erased Syntax.mut (Syntax.tyInt Syntax.w16); ref = λ x. x },
-          (Num.vAt 10 λ x. x, (Num.vFld 14 (List._∷_ (Syntax.field 1) List.[]) 8 λ x. Plan.struct .as-values x .1 .0, tt)),
-        ) (m24 (before· .before) (before· .set-guards-arg2 .given))
+        After-set-guards2·own = Called.Called ps·2 r·2 (claims· .5) T29 (
+          record { pos = 23; ty = Syntax.tyRef Syntax.erased Syntax.mut (Syntax.tyInt Syntax.w16); ref = λ x. x },
+          (Num.vAt 9 λ x. x, (Num.vFld 12 (List._∷_ (Syntax.field 1) List.[]) 8 λ x. Plan.struct .as-values x .1 .0, tt)),
+        ) (m23 (before· .before) (before· .set-guards-arg2 .given))
 
       pub record After-set-guards2 : Type 0 where
         pub before : After-set-guards-arg2
         pub set-guards2 : After-set-guards2·own before
 
-      abbrev pub After-set-guards2·gave : (c : After-set-guards2) → s27 (c .before .before .before .before .before .before .before .before .before .before .before .before .blocks) .gives (m24 (c
+      abbrev pub After-set-guards2·gave : (c : After-set-guards2) → s26 (c .before .before .before .before .before .before .before .before .before .before .before .before .blocks) .gives (m23 (c
           .before .before) (c .before .set-guards-arg2 .given))
-      After-set-guards2·gave = λ c. Called.given ps·2 r·2 (claims· .5) T30 (
-        record { pos = 24; ty = Syntax.tyRef Syntax.erased Syntax.mut (Syntax.tyInt Syntax.w16); ref = λ x. x },
-        (Num.vAt 10 λ x. x, (Num.vFld 14 (List._∷_ (Syntax.field 1) List.[]) 8 λ x. Plan.struct .as-values x .1 .0, tt)),
-      ) (m24 (c .before .before) (c .before .set-guards-arg2 .given)) (c .set-guards2)
+      After-set-guards2·gave = λ c. Called.given ps·2 r·2 (claims· .5) T29 (
+        record { pos = 23; ty = Syntax.tyRef Syntax.erased Syntax.mut (Syntax.tyInt Syntax.w16); ref = λ x. x },
+        (Num.vAt 9 λ x. x, (Num.vFld 12 (List._∷_ (Syntax.field 1) List.[]) 8 λ x. Plan.struct .as-values x .1 .0, tt)),
+      ) (m23 (c .before .before) (c .before .set-guards-arg2 .given)) (c .set-guards2)
 
-      abbrev pub m26 : (before : After-set-guards-arg2) → (given : s27 (before .before .before .before .before .before .before .before .before .before .before .before .blocks) .gives (m24 (before
-          .before) (before .set-guards-arg2 .given))) → Typed.Mo T32
-      m26 = λ before given. s28 (before .before .before .before .before .before .before .before .before .before .before .before .blocks) (m25 before given)
+      abbrev pub m25 : (before : After-set-guards-arg2) → (given : s26 (before .before .before .before .before .before .before .before .before .before .before .before .blocks) .gives (m23 (before
+          .before) (before .set-guards-arg2 .given))) → Typed.Mo T31
+      m25 = λ before given. s27 (before .before .before .before .before .before .before .before .before .before .before .before .blocks) (m24 before given)
 
-      abbrev pub m27 : (before : After-set-guards2) → (given : s30 (before .before .before .before .before .before .before .before .before .before .before .before .before .blocks) .gives (m26 (before
-          .before) (After-set-guards2·gave before))) → Typed.Mo T34
-      m27 = λ before given. s30 (before .before .before .before .before .before .before .before .before .before .before .before .before .blocks) .next (m26 (before .before) (After-set-guards2·gave
+      abbrev pub m26 : (before : After-set-guards2) → (given : s29 (before .before .before .before .before .before .before .before .before .before .before .before .before .blocks) .gives (m25 (before
+          .before) (After-set-guards2·gave before))) → Typed.Mo T33
+      m26 = λ before given. s29 (before .before .before .before .before .before .before .before .before .before .before .before .before .blocks) .next (m25 (before .before) (After-set-guards2·gave
           before)) given
 
       module _ (before· : After-set-guards2) where
         pub record After-lines2·own : Type 0 where
-          pub given : s30 (before· .before .before .before .before .before .before .before .before .before .before .before .before .blocks) .gives (m26 (before· .before) (After-set-guards2·gave
+          pub given : s29 (before· .before .before .before .before .before .before .before .before .before .before .before .before .blocks) .gives (m25 (before· .before) (After-set-guards2·gave
               before·))
 
       pub record After-lines2 : Type 0 where
         pub before : After-set-guards2
         pub lines2 : After-lines2·own before
 
-      abbrev pub m28 : (before : After-lines2) → (given : s31 (before .before .before .before .before .before .before .before .before .before .before .before .before .before .blocks) .gives (m27
-          (before .before) (before .lines2 .given))) → Typed.Mo T35
-      m28 = λ before given. s31 (before .before .before .before .before .before .before .before .before .before .before .before .before .before .blocks) .next (m27 (before .before) (before .lines2
+      abbrev pub m27 : (before : After-lines2) → (given : s30 (before .before .before .before .before .before .before .before .before .before .before .before .before .before .blocks) .gives (m26
+          (before .before) (before .lines2 .given))) → Typed.Mo T34
+      m27 = λ before given. s30 (before .before .before .before .before .before .before .before .before .before .before .before .before .before .blocks) .next (m26 (before .before) (before .lines2
           .given)) given
 
       module _ (before· : After-lines2) where
         pub record After-slice-known3·own : Type 0 where
-          pub given : s31 (before· .before .before .before .before .before .before .before .before .before .before .before .before .before .blocks) .gives (m27 (before· .before) (before· .lines2
+          pub given : s30 (before· .before .before .before .before .before .before .before .before .before .before .before .before .before .blocks) .gives (m26 (before· .before) (before· .lines2
               .given))
 
       pub record After-slice-known3 : Type 0 where
         pub before : After-lines2
         pub slice-known3 : After-slice-known3·own before
 
-      abbrev pub m29 : (before : After-slice-known3) → (given : s34 (before .before .before .before .before .before .before .before .before .before .before .before .before .before .before .blocks)
-          .gives (m28 (before .before) (before .slice-known3 .given))) → Typed.Mo T38
-      m29 = λ before given. s34 (before .before .before .before .before .before .before .before .before .before .before .before .before .before .before .blocks) .next (m28 (before .before) (before
+      abbrev pub m28 : (before : After-slice-known3) → (given : s33 (before .before .before .before .before .before .before .before .before .before .before .before .before .before .before .blocks)
+          .gives (m27 (before .before) (before .slice-known3 .given))) → Typed.Mo T37
+      m28 = λ before given. s33 (before .before .before .before .before .before .before .before .before .before .before .before .before .before .before .blocks) .next (m27 (before .before) (before
           .slice-known3 .given)) given
 
-      abbrev pub m30 : (before : After-slice-known3) → (given : s34 (before .before .before .before .before .before .before .before .before .before .before .before .before .before .before .blocks)
-          .gives (m28 (before .before) (before .slice-known3 .given))) → Typed.Mo T39
-      m30 = λ before given. s35 (before .before .before .before .before .before .before .before .before .before .before .before .before .before .before .blocks) .next (m29 before given)
+      abbrev pub m29 : (before : After-slice-known3) → (given : s33 (before .before .before .before .before .before .before .before .before .before .before .before .before .before .before .blocks)
+          .gives (m27 (before .before) (before .slice-known3 .given))) → Typed.Mo T38
+      m29 = λ before given. s34 (before .before .before .before .before .before .before .before .before .before .before .before .before .before .before .blocks) .next (m28 before given)
 
       module _ (before· : After-slice-known3) where
         pub record After-load-set-arg·own : Type 0 where
-          pub given : s34 (before· .before .before .before .before .before .before .before .before .before .before .before .before .before .before .blocks) .gives (m28 (before· .before) (before·
+          pub given : s33 (before· .before .before .before .before .before .before .before .before .before .before .before .before .before .before .blocks) .gives (m27 (before· .before) (before·
               .slice-known3 .given))
 
       pub record After-load-set-arg : Type 0 where
@@ -4039,57 +3876,57 @@ module _ (claims· : Claims) where
         pub load-set-arg : After-load-set-arg·own before
 
       abbrev pub Need-load-set-requires : Type 0
-      Need-load-set-requires = (c : After-load-set-arg) → s36 (c .before .before .before .before .before .before .before .before .before .before .before .before .before .before .before .blocks) .asks
-          (m30 (c .before) (c .load-set-arg .given))
+      Need-load-set-requires = (c : After-load-set-arg) → s35 (c .before .before .before .before .before .before .before .before .before .before .before .before .before .before .before .blocks) .asks
+          (m29 (c .before) (c .load-set-arg .given))
 
-      abbrev pub m31 : (before : After-load-set-arg) → (given : s36 (before .before .before .before .before .before .before .before .before .before .before .before .before .before .before .before
-          .blocks) .gives (m30 (before .before) (before .load-set-arg .given))) → Typed.Mo T40
-      m31 = λ before given. s36 (before .before .before .before .before .before .before .before .before .before .before .before .before .before .before .before .blocks) .next (m30 (before .before)
+      abbrev pub m30 : (before : After-load-set-arg) → (given : s35 (before .before .before .before .before .before .before .before .before .before .before .before .before .before .before .before
+          .blocks) .gives (m29 (before .before) (before .load-set-arg .given))) → Typed.Mo T39
+      m30 = λ before given. s35 (before .before .before .before .before .before .before .before .before .before .before .before .before .before .before .before .blocks) .next (m29 (before .before)
           (before .load-set-arg .given)) given
 
       module _ (before· : After-load-set-arg) where
         abbrev pub After-load-set·own : Type 0
-        After-load-set·own = Called.Called ps·3 r·3 (claims· .7) T39
-            (record { pos = 26; ty = Syntax.tyRef Syntax.erased Syntax.mut Element.behind; ref = λ x. x }, (Num.vFld 14 (List._∷_ (Syntax.field 2) List.[]) 16 λ x. Plan.struct .as-values x .1 .1 .0, tt))
-            (m30 (before· .before) (before· .load-set-arg .given))
+        After-load-set·own = Called.Called ps·3 r·3 (claims· .7) T38
+            (record { pos = 25; ty = Syntax.tyRef Syntax.erased Syntax.mut Element.behind; ref = λ x. x }, (Num.vFld 12 (List._∷_ (Syntax.field 2) List.[]) 16 λ x. Plan.struct .as-values x .1 .1 .0, tt))
+            (m29 (before· .before) (before· .load-set-arg .given))
 
       pub record After-load-set : Type 0 where
         pub before : After-load-set-arg
         pub load-set : After-load-set·own before
 
-      abbrev pub After-load-set·gave : (c : After-load-set) → s36 (c .before .before .before .before .before .before .before .before .before .before .before .before .before .before .before .before
-          .blocks) .gives (m30 (c .before .before) (c .before .load-set-arg .given))
-      After-load-set·gave = λ c. Called.given ps·3 r·3 (claims· .7) T39
-          (record { pos = 26; ty = Syntax.tyRef Syntax.erased Syntax.mut Element.behind; ref = λ x. x }, (Num.vFld 14 (List._∷_ (Syntax.field 2) List.[]) 16 λ x. Plan.struct .as-values x .1 .1 .0, tt))
-          (m30 (c .before .before) (c .before .load-set-arg .given)) (c .load-set)
+      abbrev pub After-load-set·gave : (c : After-load-set) → s35 (c .before .before .before .before .before .before .before .before .before .before .before .before .before .before .before .before
+          .blocks) .gives (m29 (c .before .before) (c .before .load-set-arg .given))
+      After-load-set·gave = λ c. Called.given ps·3 r·3 (claims· .7) T38
+          (record { pos = 25; ty = Syntax.tyRef Syntax.erased Syntax.mut Element.behind; ref = λ x. x }, (Num.vFld 12 (List._∷_ (Syntax.field 2) List.[]) 16 λ x. Plan.struct .as-values x .1 .1 .0, tt))
+          (m29 (c .before .before) (c .before .load-set-arg .given)) (c .load-set)
 
-      abbrev pub m32 : (before : After-load-set) → (given : s38 (before .before .before .before .before .before .before .before .before .before .before .before .before .before .before .before .before
-          .blocks) .gives (m31 (before .before) (After-load-set·gave before))) → Typed.Mo T42
-      m32 = λ before given. s38 (before .before .before .before .before .before .before .before .before .before .before .before .before .before .before .before .before .blocks) .next (m31 (before
+      abbrev pub m31 : (before : After-load-set) → (given : s37 (before .before .before .before .before .before .before .before .before .before .before .before .before .before .before .before .before
+          .blocks) .gives (m30 (before .before) (After-load-set·gave before))) → Typed.Mo T41
+      m31 = λ before given. s37 (before .before .before .before .before .before .before .before .before .before .before .before .before .before .before .before .before .blocks) .next (m30 (before
           .before) (After-load-set·gave before)) given
 
       module _ (before· : After-load-set) where
         pub record After-rs·own : Type 0 where
-          pub given : s38 (before· .before .before .before .before .before .before .before .before .before .before .before .before .before .before .before .before .blocks) .gives (m31 (before·
+          pub given : s37 (before· .before .before .before .before .before .before .before .before .before .before .before .before .before .before .before .before .blocks) .gives (m30 (before·
               .before) (After-load-set·gave before·))
 
       pub record After-rs : Type 0 where
         pub before : After-load-set
         pub rs : After-rs·own before
 
-      abbrev pub m33 : (before : After-rs) → (given : s41 (before .before .before .before .before .before .before .before .before .before .before .before .before .before .before .before .before
-          .before .blocks) .gives (m32 (before .before) (before .rs .given))) → Typed.Mo T45
-      m33 = λ before given. s41 (before .before .before .before .before .before .before .before .before .before .before .before .before .before .before .before .before .before .blocks) .next (m32
+      abbrev pub m32 : (before : After-rs) → (given : s40 (before .before .before .before .before .before .before .before .before .before .before .before .before .before .before .before .before
+          .before .blocks) .gives (m31 (before .before) (before .rs .given))) → Typed.Mo T44
+      m32 = λ before given. s40 (before .before .before .before .before .before .before .before .before .before .before .before .before .before .before .before .before .before .blocks) .next (m31
           (before .before) (before .rs .given)) given
 
-      abbrev pub m34 : (before : After-rs) → (given : s41 (before .before .before .before .before .before .before .before .before .before .before .before .before .before .before .before .before
-          .before .blocks) .gives (m32 (before .before) (before .rs .given))) → Typed.Mo T46
-      m34 = λ before given. s42 (before .before .before .before .before .before .before .before .before .before .before .before .before .before .before .before .before .before .blocks) .next (m33
+      abbrev pub m33 : (before : After-rs) → (given : s40 (before .before .before .before .before .before .before .before .before .before .before .before .before .before .before .before .before
+          .before .blocks) .gives (m31 (before .before) (before .rs .given))) → Typed.Mo T45
+      m33 = λ before given. s41 (before .before .before .before .before .before .before .before .before .before .before .before .before .before .before .before .before .before .blocks) .next (m32
           before given)
 
       module _ (before· : After-rs) where
         pub record After-pass-arg·own : Type 0 where
-          pub given : s41 (before· .before .before .before .before .before .before .before .before .before .before .before .before .before .before .before .before .before .blocks) .gives (m32 (before·
+          pub given : s40 (before· .before .before .before .before .before .before .before .before .before .before .before .before .before .before .before .before .before .blocks) .gives (m31 (before·
               .before) (before· .rs .given))
 
       pub record After-pass-arg : Type 0 where
@@ -4097,123 +3934,119 @@ module _ (claims· : Claims) where
         pub pass-arg : After-pass-arg·own before
 
       abbrev pub Need-pass-requires : Type 0
-      Need-pass-requires = (c : After-pass-arg) → s43 (c .before .before .before .before .before .before .before .before .before .before .before .before .before .before .before .before .before .before
-          .blocks) .asks (m34 (c .before) (c .pass-arg .given))
+      Need-pass-requires = (c : After-pass-arg) → s42 (c .before .before .before .before .before .before .before .before .before .before .before .before .before .before .before .before .before .before
+          .blocks) .asks (m33 (c .before) (c .pass-arg .given))
 
-      abbrev pub m35 : (before : After-pass-arg) → (given : s43 (before .before .before .before .before .before .before .before .before .before .before .before .before .before .before .before .before
-          .before .before .blocks) .gives (m34 (before .before) (before .pass-arg .given))) → Typed.Mo T47
-      m35 = λ before given. s43 (before .before .before .before .before .before .before .before .before .before .before .before .before .before .before .before .before .before .before .blocks) .next
-          (m34 (before .before) (before .pass-arg .given)) given
+      abbrev pub m34 : (before : After-pass-arg) → (given : s42 (before .before .before .before .before .before .before .before .before .before .before .before .before .before .before .before .before
+          .before .before .blocks) .gives (m33 (before .before) (before .pass-arg .given))) → Typed.Mo T46
+      m34 = λ before given. s42 (before .before .before .before .before .before .before .before .before .before .before .before .before .before .before .before .before .before .before .blocks) .next
+          (m33 (before .before) (before .pass-arg .given)) given
 
       module _ (before· : After-pass-arg) where
         abbrev pub After-pass·own : Type 0
-        After-pass·own = Called.Called ps·4 r·4 (claims· .9) T46 (
+        After-pass·own = Called.Called ps·4 r·4 (claims· .9) T45 (
           record { pos = 1; ty = Syntax.tyRef (Syntax.named 0) Syntax.imm (Syntax.tyInt Syntax.w8); ref = λ x. x },
           (
-            record { pos = 11; st = List.[]; d = 0; at = λ x. x },
+            record { pos = 10; st = List.[]; d = 0; at = λ x. x },
             (
-              Bool.bAt 12 λ x. x,
+              record { pos = 27; ty = Syntax.tyRef Syntax.erased Syntax.mut (Syntax.tyInt Syntax.w16); ref = λ x. x },
               (
-                record { pos = 28; ty = Syntax.tyRef Syntax.erased Syntax.mut (Syntax.tyInt Syntax.w16); ref = λ x. x },
-                (
-                  record { pos = 15; st = List.[]; d = 0; at = λ x. x },
-                  (Num.vAt 10 λ x. x, (record { pos = 14; st = List.[]; d = 0; at = λ x. x }, (record { pos = 7; st = List.[]; d = 0; at = λ x. x }, (Num.vAt 8 λ x. x, tt)))),
-                ),
+                record { pos = 13; st = List.[]; d = 0; at = λ x. x },
+                (Num.vAt 9 λ x. x, (record { pos = 12; st = List.[]; d = 0; at = λ x. x }, (record { pos = 6; st = List.[]; d = 0; at = λ x. x }, (Num.vAt 7 λ x. x, tt)))),
               ),
             ),
           ),
-        ) (m34 (before· .before)
-            (before· .pass-arg .given))
+        ) (m33 (before· .before) (before·
+            .pass-arg .given))
 
       pub record After-pass : Type 0 where
         pub before : After-pass-arg
         pub pass : After-pass·own before
 
-      abbrev pub After-pass·gave : (c : After-pass) → s43 (c .before .before .before .before .before .before .before .before .before .before .before .before .before .before .before .before .before
-          .before .before .blocks) .gives (m34 (c .before .before) (c .before .pass-arg .given))
-      After-pass·gave = λ c. Called.given ps·4 r·4 (claims· .9) T46 (
+      abbrev pub After-pass·gave : (c : After-pass) → s42 (c .before .before .before .before .before .before .before .before .before .before .before .before .before .before .before .before .before
+          .before .before .blocks) .gives (m33 (c .before .before) (c .before .pass-arg .given))
+      After-pass·gave = λ c. Called.given ps·4 r·4 (claims· .9) T45 (
         record { pos = 1; ty = Syntax.tyRef (Syntax.named 0) Syntax.imm (Syntax.tyInt Syntax.w8); ref = λ x. x },
         (
-          record { pos = 11; st = List.[]; d = 0; at = λ x. x },
+          record { pos = 10; st = List.[]; d = 0; at = λ x. x },
           (
-            Bool.bAt 12 λ x. x,
+            record { pos = 27; ty = Syntax.tyRef Syntax.erased Syntax.mut (Syntax.tyInt Syntax.w16); ref = λ x. x },
             (
-              record { pos = 28; ty = Syntax.tyRef Syntax.erased Syntax.mut (Syntax.tyInt Syntax.w16); ref = λ x. x },
-              (
-                record { pos = 15; st = List.[]; d = 0; at = λ x. x },
-                (Num.vAt 10 λ x. x, (record { pos = 14; st = List.[]; d = 0; at = λ x. x }, (record { pos = 7; st = List.[]; d = 0; at = λ x. x }, (Num.vAt 8 λ x. x, tt)))),
-              ),
+              record { pos = 13; st = List.[]; d = 0; at = λ x. x },
+              (Num.vAt 9 λ x. x, (record { pos = 12; st = List.[]; d = 0; at = λ x. x }, (record { pos = 6; st = List.[]; d = 0; at = λ x. x }, (Num.vAt 7 λ x. x, tt)))),
             ),
           ),
         ),
-      ) (m34 (c .before .before) (c
+      ) (m33 (c .before .before) (c
           .before .pass-arg .given)) (c .pass)
 
-      abbrev pub m36 : (before : After-pass-arg) → (given : s43 (before .before .before .before .before .before .before .before .before .before .before .before .before .before .before .before .before
-          .before .before .blocks) .gives (m34 (before .before) (before .pass-arg .given))) → Typed.Mo T48
+      abbrev pub m35 : (before : After-pass-arg) → (given : s42 (before .before .before .before .before .before .before .before .before .before .before .before .before .before .before .before .before
+          .before .before .blocks) .gives (m33 (before .before) (before .pass-arg .given))) → Typed.Mo T47
+      m35 = λ before given. s43 (before .before .before .before .before .before .before .before .before .before .before .before .before .before .before .before .before .before .before .blocks) (m34
+          before given)
+
+      abbrev pub m36 : (before : After-pass-arg) → (given : s42 (before .before .before .before .before .before .before .before .before .before .before .before .before .before .before .before .before
+          .before .before .blocks) .gives (m33 (before .before) (before .pass-arg .given))) → Typed.Mo T48
       m36 = λ before given. s44 (before .before .before .before .before .before .before .before .before .before .before .before .before .before .before .before .before .before .before .blocks) (m35
           before given)
 
-      abbrev pub m37 : (before : After-pass-arg) → (given : s43 (before .before .before .before .before .before .before .before .before .before .before .before .before .before .before .before .before
-          .before .before .blocks) .gives (m34 (before .before) (before .pass-arg .given))) → Typed.Mo T49
-      m37 = λ before given. s45 (before .before .before .before .before .before .before .before .before .before .before .before .before .before .before .before .before .before .before .blocks) (m36
-          before given)
-
-      abbrev pub m38 : (before : After-pass) → (given : s47 (before .before .before .before .before .before .before .before .before .before .before .before .before .before .before .before .before
-          .before .before .before .blocks) .gives (m37 (before .before) (After-pass·gave before))) → Typed.Mo T51
-      m38 = λ before given. s47 (before .before .before .before .before .before .before .before .before .before .before .before .before .before .before .before .before .before .before .before .blocks)
-          .next (m37 (before .before) (After-pass·gave before)) given
+      abbrev pub m37 : (before : After-pass) → (given : s46 (before .before .before .before .before .before .before .before .before .before .before .before .before .before .before .before .before
+          .before .before .before .blocks) .gives (m36 (before .before) (After-pass·gave before))) → Typed.Mo T50
+      m37 = λ before given. s46 (before .before .before .before .before .before .before .before .before .before .before .before .before .before .before .before .before .before .before .before .blocks)
+          .next (m36 (before .before) (After-pass·gave before)) given
 
       module _ (before· : After-pass) where
         pub record After-lines3·own : Type 0 where
-          pub given : s47 (before· .before .before .before .before .before .before .before .before .before .before .before .before .before .before .before .before .before .before .before .blocks)
-              .gives (m37 (before· .before) (After-pass·gave before·))
+          pub given : s46 (before· .before .before .before .before .before .before .before .before .before .before .before .before .before .before .before .before .before .before .before .blocks)
+              .gives (m36 (before· .before) (After-pass·gave before·))
 
       pub record After-lines3 : Type 0 where
         pub before : After-pass
         pub lines3 : After-lines3·own before
 
-      abbrev pub m39 : (before : After-lines3) → (given : s48 (before .before .before .before .before .before .before .before .before .before .before .before .before .before .before .before .before
-          .before .before .before .before .blocks) .gives (m38 (before .before) (before .lines3 .given))) → Typed.Mo T52
-      m39 = λ before given. s48 (before .before .before .before .before .before .before .before .before .before .before .before .before .before .before .before .before .before .before .before .before
-          .blocks) .next (m38 (before .before) (before .lines3 .given)) given
+      abbrev pub m38 : (before : After-lines3) → (given : s47 (before .before .before .before .before .before .before .before .before .before .before .before .before .before .before .before .before
+          .before .before .before .before .blocks) .gives (m37 (before .before) (before .lines3 .given))) → Typed.Mo T51
+      m38 = λ before given. s47 (before .before .before .before .before .before .before .before .before .before .before .before .before .before .before .before .before .before .before .before .before
+          .blocks) .next (m37 (before .before) (before .lines3 .given)) given
 
-      abbrev pub m40 : (before : After-lines3) → (given : s48 (before .before .before .before .before .before .before .before .before .before .before .before .before .before .before .before .before
-          .before .before .before .before .blocks) .gives (m38 (before .before) (before .lines3 .given))) → Typed.Mo T54
+      abbrev pub m39 : (before : After-lines3) → (given : s47 (before .before .before .before .before .before .before .before .before .before .before .before .before .before .before .before .before
+          .before .before .before .before .blocks) .gives (m37 (before .before) (before .lines3 .given))) → Typed.Mo T53
+      m39 = λ before given. s49 (before .before .before .before .before .before .before .before .before .before .before .before .before .before .before .before .before .before .before .before .before
+          .blocks) (m38 before given)
+
+      abbrev pub m40 : (before : After-lines3) → (given : s47 (before .before .before .before .before .before .before .before .before .before .before .before .before .before .before .before .before
+          .before .before .before .before .blocks) .gives (m37 (before .before) (before .lines3 .given))) → Typed.Mo T54
       m40 = λ before given. s50 (before .before .before .before .before .before .before .before .before .before .before .before .before .before .before .before .before .before .before .before .before
-          .blocks) (m39 before given)
+          .blocks) .next (m39 before given)
 
-      abbrev pub m41 : (before : After-lines3) → (given : s48 (before .before .before .before .before .before .before .before .before .before .before .before .before .before .before .before .before
-          .before .before .before .before .blocks) .gives (m38 (before .before) (before .lines3 .given))) → Typed.Mo T55
-      m41 = λ before given. s51 (before .before .before .before .before .before .before .before .before .before .before .before .before .before .before .before .before .before .before .before .before
-          .blocks) .next (m40 before given)
-
-      abbrev W5 : (before : After-lines3) → (given : s48 (before .before .before .before .before .before .before .before .before .before .before .before .before .before .before .before .before .before
-          .before .before .before .blocks) .gives (m38 (before .before) (before .lines3 .given))) → Typed.Want O5
-      W5 = λ before given. Typed.wantNext T56 O3 (at37 (before .before .before .before .before .before .before .before .before .before .before .before .before .before .before .before .before .before
+      abbrev W5 : (before : After-lines3) → (given : s47 (before .before .before .before .before .before .before .before .before .before .before .before .before .before .before .before .before .before
+          .before .before .before .blocks) .gives (m37 (before .before) (before .lines3 .given))) → Typed.Want O5
+      W5 = λ before given. Typed.wantNext T55 O3 (at33 (before .before .before .before .before .before .before .before .before .before .before .before .before .before .before .before .before .before
           .before .before .before .blocks) (W3 (before .before .before .before .before .before .before .before .before .before .before .before .before .before .before .before .before .before) (before
           .before .before .before .before .before .before .before .before .before .before .before .before .before .before .before .before .loop .lines) (before .before .before .before .before .before
           .before .before .before .before .before .before .before .before .before .before .before .loop .rs) (before .before .before .before .before .before .before .before .before .before .before .before
-          .before .before .before .before .before .loop .at) (before .before .before .before .before .before .before .before .before .before .before .before .before .before .before .before .before .loop
-          .tight) (before .before .before .before .before .before .before .before .before .before .before .before .before .before .before .before .before .loop .i))) (W3 (before .before .before .before
-          .before .before .before .before .before .before .before .before .before .before .before .before .before .before) (before .before .before .before .before .before .before .before .before .before
-          .before .before .before .before .before .before .before .loop .lines) (before .before .before .before .before .before .before .before .before .before .before .before .before .before .before
-          .before .before .loop .rs) (before .before .before .before .before .before .before .before .before .before .before .before .before .before .before .before .before .loop .at) (before .before
-          .before .before .before .before .before .before .before .before .before .before .before .before .before .before .before .loop .tight) (before .before .before .before .before .before .before
-          .before .before .before .before .before .before .before .before .before .before .loop .i))
+          .before .before .before .before .before .loop .place) (before .before .before .before .before .before .before .before .before .before .before .before .before .before .before .before .before
+          .loop .i))) (W3 (before .before .before .before .before .before .before .before .before .before .before .before .before .before .before .before .before .before) (before .before .before .before
+          .before .before .before .before .before .before .before .before .before .before .before .before .before .loop .lines) (before .before .before .before .before .before .before .before .before
+          .before .before .before .before .before .before .before .before .loop .rs) (before .before .before .before .before .before .before .before .before .before .before .before .before .before .before
+          .before .before .loop .place) (before .before .before .before .before .before .before .before .before .before .before .before .before .before .before .before .before .loop .i))
 
       module _ (before· : After-lines3) where
         pub record After-slice-known4·own : Type 0 where
-          pub given : s48 (before· .before .before .before .before .before .before .before .before .before .before .before .before .before .before .before .before .before .before .before .before
-              .blocks) .gives (m38 (before· .before) (before· .lines3 .given))
+          pub given : s47 (before· .before .before .before .before .before .before .before .before .before .before .before .before .before .before .before .before .before .before .before .before
+              .blocks) .gives (m37 (before· .before) (before· .lines3 .given))
 
       pub record After-slice-known4 : Type 0 where
         pub before : After-lines3
         pub slice-known4 : After-slice-known4·own before
 
+      abbrev pub m41 : (before : After-slice-known4) → Typed.Mo T56
+      m41 = λ before. s51 (before .before .before .before .before .before .before .before .before .before .before .before .before .before .before .before .before .before .before .before .before
+          .before .blocks) (m40 (before .before) (before .slice-known4 .given))
+
       abbrev pub m42 : (before : After-slice-known4) → Typed.Mo T57
       m42 = λ before. s52 (before .before .before .before .before .before .before .before .before .before .before .before .before .before .before .before .before .before .before .before .before
-          .before .blocks) (m41 (before .before) (before .slice-known4 .given))
+          .before .blocks) (m41 before)
 
       abbrev pub m43 : (before : After-slice-known4) → Typed.Mo T58
       m43 = λ before. s53 (before .before .before .before .before .before .before .before .before .before .before .before .before .before .before .before .before .before .before .before .before
@@ -4247,435 +4080,398 @@ module _ (claims· : Claims) where
       m50 = λ before. s60 (before .before .before .before .before .before .before .before .before .before .before .before .before .before .before .before .before .before .before .before .before
           .before .blocks) (m49 before)
 
-      abbrev pub m51 : (before : After-slice-known4) → Typed.Mo T66
-      m51 = λ before. s61 (before .before .before .before .before .before .before .before .before .before .before .before .before .before .before .before .before .before .before .before .before
-          .before .blocks) (m50 before)
-
-      abbrev pub m52 : (before : After-slice-known4) → Typed.Mo T67
-      m52 = λ before. s62 (before .before .before .before .before .before .before .before .before .before .before .before .before .before .before .before .before .before .before .before .before
-          .before .blocks) (m51 before)
-
-      abbrev pub m53 : (before : After-slice-known4) → Typed.Mo T68
-      m53 = λ before. s63 (before .before .before .before .before .before .before .before .before .before .before .before .before .before .before .before .before .before .before .before .before
-          .before .blocks) (m52 before)
-
       module _ (before· : After-slice-known4) where
         pub record Then1·own : Type 0 where
-          pub taken : Path'._≡_ (Row.get 19 (T55 .locals) (m41 (before· .before) (before· .slice-known4 .given))) Bool'.true
+          pub taken : Path'._≡_ (Row.get 18 (T54 .locals) (m40 (before· .before) (before· .slice-known4 .given))) Bool'.true
 
       pub record Then1 : Type 0 where
         pub before : After-slice-known4
         pub if1 : Then1·own before
 
       abbrev pub Need-same-length : Type 0
-      Need-same-length = (c : Then1) → MutSlice.SameLen (Row.get 4 (T68 .locals) (m53 (c .before))) (dens (c .before .before .before .before .before .before .before .before .before .before .before
+      Need-same-length = (c : Then1) → MutSlice.SameLen (Row.get 3 (T65 .locals) (m50 (c .before))) (dens (c .before .before .before .before .before .before .before .before .before .before .before
           .before .before .before .before .before .before .before .before .before .before .before .κs) (c .before .before .before .before .before .before .before .before .before .before .before .before
-          .before .before .before .before .before .before .before .before .before .before .args) .1 .1 .1 .0)
+          .before .before .before .before .before .before .before .before .before .before .args) .1 .1 .0)
 
       abbrev pub Need-same-length-2 : Type 0
-      Need-same-length-2 = (c : Then1) → MutSlice.SameLen (Row.get 5 (T68 .locals) (m53 (c .before))) (dens (c .before .before .before .before .before .before .before .before .before .before .before
+      Need-same-length-2 = (c : Then1) → MutSlice.SameLen (Row.get 4 (T65 .locals) (m50 (c .before))) (dens (c .before .before .before .before .before .before .before .before .before .before .before
           .before .before .before .before .before .before .before .before .before .before .before .κs) (c .before .before .before .before .before .before .before .before .before .before .before .before
-          .before .before .before .before .before .before .before .before .before .before .args) .1 .1 .1 .1 .0)
+          .before .before .before .before .before .before .before .before .before .before .args) .1 .1 .1 .0)
 
       abbrev pub Need-returns : Type 0
       Need-returns = (c : Then1) → Post· (c .before .before .before .before .before .before .before .before .before .before .before .before .before .before .before .before .before .before .before
           .before .before .before .κs) (dens (c .before .before .before .before .before .before .before .before .before .before .before .before .before .before .before .before .before .before .before
           .before .before .before .κs) (c .before .before .before .before .before .before .before .before .before .before .before .before .before .before .before .before .before .before .before .before
           .before .before .args)) (Function.resV r (c .before .before .before .before .before .before .before .before .before .before .before .before .before .before .before .before .before .before
-          .before .before .before .before .κs) (m53 (c .before) .0)) (Clauses.atExit (Kinds.endedOf 3 ps r) (c .before .before .before .before .before .before .before .before .before .before .before
+          .before .before .before .before .κs) (m50 (c .before) .0)) (Clauses.atExit (Kinds.endedOf 3 ps r) (c .before .before .before .before .before .before .before .before .before .before .before
           .before .before .before .before .before .before .before .before .before .before .before .κs) (dens (c .before .before .before .before .before .before .before .before .before .before .before
           .before .before .before .before .before .before .before .before .before .before .before .κs) (c .before .before .before .before .before .before .before .before .before .before .before .before
           .before .before .before .before .before .before .before .before .before .before .args)) (Enter.lastsP (c .before .before .before .before .before .before .before .before .before .before .before
           .before .before .before .before .before .before .before .before .before .before .before .κs) 1 ps xs (dens (c .before .before .before .before .before .before .before .before .before .before
           .before .before .before .before .before .before .before .before .before .before .before .before .κs) (c .before .before .before .before .before .before .before .before .before .before .before
-          .before .before .before .before .before .before .before .before .before .before .before .args)) (m53 (c .before) .1)))
+          .before .before .before .before .before .before .before .before .before .before .before .args)) (m50 (c .before) .1)))
 
-      abbrev pub m54 : (before : After-slice-known4) → Typed.Mo T69
-      m54 = λ before. s64 (before .before .before .before .before .before .before .before .before .before .before .before .before .before .before .before .before .before .before .before .before
-          .before .blocks) (m41 (before .before) (before .slice-known4 .given))
-
-      abbrev pub m55 : (before : After-slice-known4) → Typed.Mo T70
-      m55 = λ before. s65 (before .before .before .before .before .before .before .before .before .before .before .before .before .before .before .before .before .before .before .before .before
-          .before .blocks) (m54 before)
+      abbrev pub m51 : (before : After-slice-known4) → Typed.Mo T66
+      m51 = λ before. s61 (before .before .before .before .before .before .before .before .before .before .before .before .before .before .before .before .before .before .before .before .before
+          .before .blocks) (m40 (before .before) (before .slice-known4 .given))
 
       module _ (before· : After-slice-known4) where
         pub record Else1·own : Type 0 where
-          pub left : Path'._≡_ (Row.get 19 (T55 .locals) (m41 (before· .before) (before· .slice-known4 .given))) Bool'.false
+          pub left : Path'._≡_ (Row.get 18 (T54 .locals) (m40 (before· .before) (before· .slice-known4 .given))) Bool'.false
 
       pub record Else1 : Type 0 where
         pub before : After-slice-known4
         pub if1 : Else1·own before
 
-      abbrev pub m56 : (before : Else1) → (given : s66 (before .before .before .before .before .before .before .before .before .before .before .before .before .before .before .before .before .before
-          .before .before .before .before .before .blocks) .gives (m55 (before .before))) → Typed.Mo T71
-      m56 = λ before given. s66 (before .before .before .before .before .before .before .before .before .before .before .before .before .before .before .before .before .before .before .before .before
-          .before .before .blocks) .next (m55 (before .before)) given
+      abbrev pub m52 : (before : Else1) → (given : s62 (before .before .before .before .before .before .before .before .before .before .before .before .before .before .before .before .before .before
+          .before .before .before .before .before .blocks) .gives (m51 (before .before))) → Typed.Mo T67
+      m52 = λ before given. s62 (before .before .before .before .before .before .before .before .before .before .before .before .before .before .before .before .before .before .before .before .before
+          .before .before .blocks) .next (m51 (before .before)) given
 
       module _ (before· : Else1) where
         pub record After-new·own : Type 0 where
-          pub given : s66 (before· .before .before .before .before .before .before .before .before .before .before .before .before .before .before .before .before .before .before .before .before
-              .before .before .blocks) .gives (m55 (before· .before))
+          pub given : s62 (before· .before .before .before .before .before .before .before .before .before .before .before .before .before .before .before .before .before .before .before .before
+              .before .before .blocks) .gives (m51 (before· .before))
 
       pub record After-new : Type 0 where
         pub before : Else1
         pub new : After-new·own before
 
-      abbrev pub m57 : (before : After-new) → (given : s68 (before .before .before .before .before .before .before .before .before .before .before .before .before .before .before .before .before
-          .before .before .before .before .before .before .before .blocks) .gives (m56 (before .before) (before .new .given))) → Typed.Mo T73
-      m57 = λ before given. s68 (before .before .before .before .before .before .before .before .before .before .before .before .before .before .before .before .before .before .before .before .before
-          .before .before .before .blocks) .next (m56 (before .before) (before .new .given)) given
+      abbrev pub m53 : (before : After-new) → (given : s64 (before .before .before .before .before .before .before .before .before .before .before .before .before .before .before .before .before
+          .before .before .before .before .before .before .before .blocks) .gives (m52 (before .before) (before .new .given))) → Typed.Mo T69
+      m53 = λ before given. s64 (before .before .before .before .before .before .before .before .before .before .before .before .before .before .before .before .before .before .before .before .before
+          .before .before .before .blocks) .next (m52 (before .before) (before .new .given)) given
 
-      abbrev pub m58 : (before : After-new) → (given : s68 (before .before .before .before .before .before .before .before .before .before .before .before .before .before .before .before .before
-          .before .before .before .before .before .before .before .blocks) .gives (m56 (before .before) (before .new .given))) → Typed.Mo T74
-      m58 = λ before given. s69 (before .before .before .before .before .before .before .before .before .before .before .before .before .before .before .before .before .before .before .before .before
-          .before .before .before .blocks) .next (m57 before given)
+      abbrev pub m54 : (before : After-new) → (given : s64 (before .before .before .before .before .before .before .before .before .before .before .before .before .before .before .before .before
+          .before .before .before .before .before .before .before .blocks) .gives (m52 (before .before) (before .new .given))) → Typed.Mo T70
+      m54 = λ before given. s65 (before .before .before .before .before .before .before .before .before .before .before .before .before .before .before .before .before .before .before .before .before
+          .before .before .before .blocks) .next (m53 before given)
 
       module _ (before· : After-new) where
         pub record After-store-set-arg·own : Type 0 where
-          pub given : s68 (before· .before .before .before .before .before .before .before .before .before .before .before .before .before .before .before .before .before .before .before .before
-              .before .before .before .blocks) .gives (m56 (before· .before) (before· .new .given))
+          pub given : s64 (before· .before .before .before .before .before .before .before .before .before .before .before .before .before .before .before .before .before .before .before .before
+              .before .before .before .blocks) .gives (m52 (before· .before) (before· .new .given))
 
       pub record After-store-set-arg : Type 0 where
         pub before : After-new
         pub store-set-arg : After-store-set-arg·own before
 
       abbrev pub Need-store-set-requires : Type 0
-      Need-store-set-requires = (c : After-store-set-arg) → s70 (c .before .before .before .before .before .before .before .before .before .before .before .before .before .before .before .before
-          .before .before .before .before .before .before .before .before .blocks) .asks (m58 (c .before) (c .store-set-arg .given))
+      Need-store-set-requires = (c : After-store-set-arg) → s66 (c .before .before .before .before .before .before .before .before .before .before .before .before .before .before .before .before
+          .before .before .before .before .before .before .before .before .blocks) .asks (m54 (c .before) (c .store-set-arg .given))
 
-      abbrev pub m59 : (before : After-store-set-arg) → (given : s70 (before .before .before .before .before .before .before .before .before .before .before .before .before .before .before .before
-          .before .before .before .before .before .before .before .before .before .blocks) .gives (m58 (before .before) (before .store-set-arg .given))) → Typed.Mo T75
-      m59 = λ before given. s70 (before .before .before .before .before .before .before .before .before .before .before .before .before .before .before .before .before .before .before .before .before
-          .before .before .before .before .blocks) .next (m58 (before .before) (before .store-set-arg .given)) given
+      abbrev pub m55 : (before : After-store-set-arg) → (given : s66 (before .before .before .before .before .before .before .before .before .before .before .before .before .before .before .before
+          .before .before .before .before .before .before .before .before .before .blocks) .gives (m54 (before .before) (before .store-set-arg .given))) → Typed.Mo T71
+      m55 = λ before given. s66 (before .before .before .before .before .before .before .before .before .before .before .before .before .before .before .before .before .before .before .before .before
+          .before .before .before .before .blocks) .next (m54 (before .before) (before .store-set-arg .given)) given
 
       module _ (before· : After-store-set-arg) where
         abbrev pub After-store-set·own : Type 0
-        After-store-set·own = Called.Called ps·5 r·5 (claims· .11) T74 (
-          record { pos = 30; ty = Syntax.tyRef Syntax.erased Syntax.mut Element.behind; ref = λ x. x },
-          (Num.vFld 14 (List._∷_ (Syntax.field 2) List.[]) 16 λ x. Plan.struct .as-values x .1 .1 .0, (record { pos = 18; st = List.[]; d = 0; at = λ x. x }, tt)),
-        ) (m58 (before· .before) (before·
+        After-store-set·own = Called.Called ps·5 r·5 (claims· .11) T70 (
+          record { pos = 29; ty = Syntax.tyRef Syntax.erased Syntax.mut Element.behind; ref = λ x. x },
+          (Num.vFld 12 (List._∷_ (Syntax.field 2) List.[]) 16 λ x. Plan.struct .as-values x .1 .1 .0, (record { pos = 16; st = List.[]; d = 0; at = λ x. x }, tt)),
+        ) (m54 (before· .before) (before·
             .store-set-arg .given))
 
       pub record After-store-set : Type 0 where
         pub before : After-store-set-arg
         pub store-set : After-store-set·own before
 
-      abbrev pub After-store-set·gave : (c : After-store-set) → s70 (c .before .before .before .before .before .before .before .before .before .before .before .before .before .before .before .before
-          .before .before .before .before .before .before .before .before .before .blocks) .gives (m58 (c .before .before) (c .before .store-set-arg .given))
-      After-store-set·gave = λ c. Called.given ps·5 r·5 (claims· .11) T74 (
-        record { pos = 30; ty = Syntax.tyRef Syntax.erased Syntax.mut Element.behind; ref = λ x. x },
-        (Num.vFld 14 (List._∷_ (Syntax.field 2) List.[]) 16 λ x. Plan.struct .as-values x .1 .1 .0, (record { pos = 18; st = List.[]; d = 0; at = λ x. x }, tt)),
-      ) (m58 (c .before .before) (c .before
+      abbrev pub After-store-set·gave : (c : After-store-set) → s66 (c .before .before .before .before .before .before .before .before .before .before .before .before .before .before .before .before
+          .before .before .before .before .before .before .before .before .before .blocks) .gives (m54 (c .before .before) (c .before .store-set-arg .given))
+      After-store-set·gave = λ c. Called.given ps·5 r·5 (claims· .11) T70 (
+        record { pos = 29; ty = Syntax.tyRef Syntax.erased Syntax.mut Element.behind; ref = λ x. x },
+        (Num.vFld 12 (List._∷_ (Syntax.field 2) List.[]) 16 λ x. Plan.struct .as-values x .1 .1 .0, (record { pos = 16; st = List.[]; d = 0; at = λ x. x }, tt)),
+      ) (m54 (c .before .before) (c .before
           .store-set-arg .given)) (c .store-set)
 
-      abbrev pub m60 : (before : After-store-set-arg) → (given : s70 (before .before .before .before .before .before .before .before .before .before .before .before .before .before .before .before
-          .before .before .before .before .before .before .before .before .before .blocks) .gives (m58 (before .before) (before .store-set-arg .given))) → Typed.Mo T76
-      m60 = λ before given. s71 (before .before .before .before .before .before .before .before .before .before .before .before .before .before .before .before .before .before .before .before .before
-          .before .before .before .before .blocks) (m59 before given)
+      abbrev pub m56 : (before : After-store-set-arg) → (given : s66 (before .before .before .before .before .before .before .before .before .before .before .before .before .before .before .before
+          .before .before .before .before .before .before .before .before .before .blocks) .gives (m54 (before .before) (before .store-set-arg .given))) → Typed.Mo T72
+      m56 = λ before given. s67 (before .before .before .before .before .before .before .before .before .before .before .before .before .before .before .before .before .before .before .before .before
+          .before .before .before .before .blocks) (m55 before given)
 
-      abbrev pub m61 : (before : After-store-set-arg) → (given : s70 (before .before .before .before .before .before .before .before .before .before .before .before .before .before .before .before
-          .before .before .before .before .before .before .before .before .before .blocks) .gives (m58 (before .before) (before .store-set-arg .given))) → Typed.Mo T77
-      m61 = λ before given. s72 (before .before .before .before .before .before .before .before .before .before .before .before .before .before .before .before .before .before .before .before .before
-          .before .before .before .before .blocks) (m60 before given)
+      abbrev pub m57 : (before : After-store-set-arg) → (given : s66 (before .before .before .before .before .before .before .before .before .before .before .before .before .before .before .before
+          .before .before .before .before .before .before .before .before .before .blocks) .gives (m54 (before .before) (before .store-set-arg .given))) → Typed.Mo T73
+      m57 = λ before given. s68 (before .before .before .before .before .before .before .before .before .before .before .before .before .before .before .before .before .before .before .before .before
+          .before .before .before .before .blocks) (m56 before given)
 
-      abbrev pub m62 : (before : After-store-set-arg) → (given : s70 (before .before .before .before .before .before .before .before .before .before .before .before .before .before .before .before
-          .before .before .before .before .before .before .before .before .before .blocks) .gives (m58 (before .before) (before .store-set-arg .given))) → Typed.Mo T78
-      m62 = λ before given. s73 (before .before .before .before .before .before .before .before .before .before .before .before .before .before .before .before .before .before .before .before .before
-          .before .before .before .before .blocks) (m61 before given)
+      abbrev pub m58 : (before : After-store-set-arg) → (given : s66 (before .before .before .before .before .before .before .before .before .before .before .before .before .before .before .before
+          .before .before .before .before .before .before .before .before .before .blocks) .gives (m54 (before .before) (before .store-set-arg .given))) → Typed.Mo T74
+      m58 = λ before given. s69 (before .before .before .before .before .before .before .before .before .before .before .before .before .before .before .before .before .before .before .before .before
+          .before .before .before .before .blocks) (m57 before given)
 
-      abbrev pub m63 : (before : After-store-set) → (given : s75 (before .before .before .before .before .before .before .before .before .before .before .before .before .before .before .before .before
-          .before .before .before .before .before .before .before .before .before .blocks) .gives (m62 (before .before) (After-store-set·gave before))) → Typed.Mo T80
-      m63 = λ before given. s75 (before .before .before .before .before .before .before .before .before .before .before .before .before .before .before .before .before .before .before .before .before
-          .before .before .before .before .before .blocks) .next (m62 (before .before) (After-store-set·gave before)) given
+      abbrev pub m59 : (before : After-store-set) → (given : s71 (before .before .before .before .before .before .before .before .before .before .before .before .before .before .before .before .before
+          .before .before .before .before .before .before .before .before .before .blocks) .gives (m58 (before .before) (After-store-set·gave before))) → Typed.Mo T76
+      m59 = λ before given. s71 (before .before .before .before .before .before .before .before .before .before .before .before .before .before .before .before .before .before .before .before .before
+          .before .before .before .before .before .blocks) .next (m58 (before .before) (After-store-set·gave before)) given
 
       module _ (before· : After-store-set) where
         pub record After-rs2·own : Type 0 where
-          pub given : s75 (before· .before .before .before .before .before .before .before .before .before .before .before .before .before .before .before .before .before .before .before .before
-              .before .before .before .before .before .blocks) .gives (m62 (before· .before) (After-store-set·gave before·))
+          pub given : s71 (before· .before .before .before .before .before .before .before .before .before .before .before .before .before .before .before .before .before .before .before .before
+              .before .before .before .before .before .blocks) .gives (m58 (before· .before) (After-store-set·gave before·))
 
       pub record After-rs2 : Type 0 where
         pub before : After-store-set
         pub rs2 : After-rs2·own before
 
-      abbrev pub m64 : (before : After-rs2) → (given : s77 (before .before .before .before .before .before .before .before .before .before .before .before .before .before .before .before .before
-          .before .before .before .before .before .before .before .before .before .before .blocks) .gives (m63 (before .before) (before .rs2 .given))) → Typed.Mo T82
-      m64 = λ before given. s77 (before .before .before .before .before .before .before .before .before .before .before .before .before .before .before .before .before .before .before .before .before
-          .before .before .before .before .before .before .blocks) .next (m63 (before .before) (before .rs2 .given)) given
+      abbrev pub m60 : (before : After-rs2) → (given : s73 (before .before .before .before .before .before .before .before .before .before .before .before .before .before .before .before .before
+          .before .before .before .before .before .before .before .before .before .before .blocks) .gives (m59 (before .before) (before .rs2 .given))) → Typed.Mo T78
+      m60 = λ before given. s73 (before .before .before .before .before .before .before .before .before .before .before .before .before .before .before .before .before .before .before .before .before
+          .before .before .before .before .before .before .blocks) .next (m59 (before .before) (before .rs2 .given)) given
 
-      abbrev pub m65 : (before : After-rs2) → (given : s77 (before .before .before .before .before .before .before .before .before .before .before .before .before .before .before .before .before
-          .before .before .before .before .before .before .before .before .before .before .blocks) .gives (m63 (before .before) (before .rs2 .given))) → Typed.Mo T83
-      m65 = λ before given. s78 (before .before .before .before .before .before .before .before .before .before .before .before .before .before .before .before .before .before .before .before .before
-          .before .before .before .before .before .before .blocks) (m64 before given)
-
-      abbrev pub m66 : (before : After-rs2) → (given : s77 (before .before .before .before .before .before .before .before .before .before .before .before .before .before .before .before .before
-          .before .before .before .before .before .before .before .before .before .before .blocks) .gives (m63 (before .before) (before .rs2 .given))) → Typed.Mo T84
-      m66 = λ before given. s79 (before .before .before .before .before .before .before .before .before .before .before .before .before .before .before .before .before .before .before .before .before
-          .before .before .before .before .before .before .blocks) (m65 before given)
+      abbrev pub m61 : (before : After-rs2) → (given : s73 (before .before .before .before .before .before .before .before .before .before .before .before .before .before .before .before .before
+          .before .before .before .before .before .before .before .before .before .before .blocks) .gives (m59 (before .before) (before .rs2 .given))) → Typed.Mo T79
+      m61 = λ before given. s74 (before .before .before .before .before .before .before .before .before .before .before .before .before .before .before .before .before .before .before .before .before
+          .before .before .before .before .before .before .blocks) (m60 before given)
 
       module _ (before· : After-rs2) where
-        pub record After-at·own : Type 0 where
-          pub given : s77 (before· .before .before .before .before .before .before .before .before .before .before .before .before .before .before .before .before .before .before .before .before
-              .before .before .before .before .before .before .blocks) .gives (m63 (before· .before) (before· .rs2 .given))
+        pub record After-place·own : Type 0 where
+          pub given : s73 (before· .before .before .before .before .before .before .before .before .before .before .before .before .before .before .before .before .before .before .before .before
+              .before .before .before .before .before .before .blocks) .gives (m59 (before· .before) (before· .rs2 .given))
 
-      pub record After-at : Type 0 where
+      pub record After-place : Type 0 where
         pub before : After-rs2
-        pub at : After-at·own before
+        pub place : After-place·own before
 
       abbrev pub Need-add-i : Type 0
-      Need-add-i = (c : After-at) → s80 (c .before .before .before .before .before .before .before .before .before .before .before .before .before .before .before .before .before .before .before
-          .before .before .before .before .before .before .before .before .blocks) .asks (m66 (c .before) (c .at .given))
+      Need-add-i = (c : After-place) → s75 (c .before .before .before .before .before .before .before .before .before .before .before .before .before .before .before .before .before .before .before
+          .before .before .before .before .before .before .before .before .blocks) .asks (m61 (c .before) (c .place .given))
 
-      abbrev pub m67 : (before : After-rs2) → (given : s77 (before .before .before .before .before .before .before .before .before .before .before .before .before .before .before .before .before
-          .before .before .before .before .before .before .before .before .before .before .blocks) .gives (m63 (before .before) (before .rs2 .given))) → Typed.Mo T85
-      m67 = λ before given. s80 (before .before .before .before .before .before .before .before .before .before .before .before .before .before .before .before .before .before .before .before .before
-          .before .before .before .before .before .before .blocks) .next (m66 before given)
+      abbrev pub m62 : (before : After-rs2) → (given : s73 (before .before .before .before .before .before .before .before .before .before .before .before .before .before .before .before .before
+          .before .before .before .before .before .before .before .before .before .before .blocks) .gives (m59 (before .before) (before .rs2 .given))) → Typed.Mo T80
+      m62 = λ before given. s75 (before .before .before .before .before .before .before .before .before .before .before .before .before .before .before .before .before .before .before .before .before
+          .before .before .before .before .before .before .blocks) .next (m61 before given)
 
-      abbrev pub m68 : (before : After-rs2) → (given : s77 (before .before .before .before .before .before .before .before .before .before .before .before .before .before .before .before .before
-          .before .before .before .before .before .before .before .before .before .before .blocks) .gives (m63 (before .before) (before .rs2 .given))) → Typed.Mo T86
-      m68 = λ before given. s81 (before .before .before .before .before .before .before .before .before .before .before .before .before .before .before .before .before .before .before .before .before
-          .before .before .before .before .before .before .blocks) (m67 before given)
+      abbrev pub m63 : (before : After-rs2) → (given : s73 (before .before .before .before .before .before .before .before .before .before .before .before .before .before .before .before .before
+          .before .before .before .before .before .before .before .before .before .before .blocks) .gives (m59 (before .before) (before .rs2 .given))) → Typed.Mo T81
+      m63 = λ before given. s76 (before .before .before .before .before .before .before .before .before .before .before .before .before .before .before .before .before .before .before .before .before
+          .before .before .before .before .before .before .blocks) (m62 before given)
 
       abbrev pub Need-loop-less : Type 0
-      Need-loop-less = (c : After-at) → Nat._<_ (μ·0 (Row.get 1 (T11 .locals) (m10 (c .before .before .before .before .before .before .before .before .before .before .before .before .before .before
+      Need-loop-less = (c : After-place) → Nat._<_ (μ·0 (Row.get 1 (T10 .locals) (m9 (c .before .before .before .before .before .before .before .before .before .before .before .before .before .before
           .before .before .before .before .before .before .before .before .before .before .before) (After-width·gave (c .before .before .before .before .before .before .before .before .before .before
-          .before .before .before .before .before .before .before .before .before .before .before .before .before .before))) .now) (Row.get 3 (T11 .locals) (m10 (c .before .before .before .before .before
+          .before .before .before .before .before .before .before .before .before .before .before .before .before .before))) .now) (Row.get 3 (T10 .locals) (m9 (c .before .before .before .before .before
           .before .before .before .before .before .before .before .before .before .before .before .before .before .before .before .before .before .before .before .before) (After-width·gave (c .before
-          .before .before .before .before .before .before .before .before .before .before .before .before .before .before .before .before .before .before .before .before .before .before .before))))
-          (Row.get 4 (T11 .locals) (m10 (c .before .before .before .before .before .before .before .before .before .before .before .before .before .before .before .before .before .before .before .before
+          .before .before .before .before .before .before .before .before .before .before .before .before .before .before .before .before .before .before .before .before .before .before .before))) .now)
+          (Row.get 4 (T10 .locals) (m9 (c .before .before .before .before .before .before .before .before .before .before .before .before .before .before .before .before .before .before .before .before
           .before .before .before .before .before) (After-width·gave (c .before .before .before .before .before .before .before .before .before .before .before .before .before .before .before .before
-          .before .before .before .before .before .before .before .before))) .now) (Row.get 5 (T11 .locals) (m10 (c .before .before .before .before .before .before .before .before .before .before .before
+          .before .before .before .before .before .before .before .before))) .now) (Row.get 6 (T10 .locals) (m9 (c .before .before .before .before .before .before .before .before .before .before .before
           .before .before .before .before .before .before .before .before .before .before .before .before .before .before) (After-width·gave (c .before .before .before .before .before .before .before
-          .before .before .before .before .before .before .before .before .before .before .before .before .before .before .before .before .before))) .now) (Row.get 7 (T11 .locals) (m10 (c .before .before
+          .before .before .before .before .before .before .before .before .before .before .before .before .before .before .before .before .before)))) (Row.get 7 (T10 .locals) (m9 (c .before .before
           .before .before .before .before .before .before .before .before .before .before .before .before .before .before .before .before .before .before .before .before .before .before .before)
           (After-width·gave (c .before .before .before .before .before .before .before .before .before .before .before .before .before .before .before .before .before .before .before .before .before
-          .before .before .before)))) (Row.get 8 (T11 .locals) (m10 (c .before .before .before .before .before .before .before .before .before .before .before .before .before .before .before .before
+          .before .before .before)))) (Row.get 8 (T10 .locals) (m9 (c .before .before .before .before .before .before .before .before .before .before .before .before .before .before .before .before
           .before .before .before .before .before .before .before .before .before) (After-width·gave (c .before .before .before .before .before .before .before .before .before .before .before .before
-          .before .before .before .before .before .before .before .before .before .before .before .before)))) (Row.get 9 (T11 .locals) (m10 (c .before .before .before .before .before .before .before
+          .before .before .before .before .before .before .before .before .before .before .before .before)))) (Row.get 9 (T10 .locals) (m9 (c .before .before .before .before .before .before .before
           .before .before .before .before .before .before .before .before .before .before .before .before .before .before .before .before .before .before) (After-width·gave (c .before .before .before
-          .before .before .before .before .before .before .before .before .before .before .before .before .before .before .before .before .before .before .before .before .before)))) (Row.get 10 (T11
-          .locals) (m10 (c .before .before .before .before .before .before .before .before .before .before .before .before .before .before .before .before .before .before .before .before .before .before
+          .before .before .before .before .before .before .before .before .before .before .before .before .before .before .before .before .before .before .before .before .before)))) (Row.get 10 (T10
+          .locals) (m9 (c .before .before .before .before .before .before .before .before .before .before .before .before .before .before .before .before .before .before .before .before .before .before
           .before .before .before) (After-width·gave (c .before .before .before .before .before .before .before .before .before .before .before .before .before .before .before .before .before .before
-          .before .before .before .before .before .before)))) (Row.get 11 (T11 .locals) (m10 (c .before .before .before .before .before .before .before .before .before .before .before .before .before
+          .before .before .before .before .before .before)))) (Row.get 11 (T10 .locals) (m9 (c .before .before .before .before .before .before .before .before .before .before .before .before .before
           .before .before .before .before .before .before .before .before .before .before .before .before) (After-width·gave (c .before .before .before .before .before .before .before .before .before
-          .before .before .before .before .before .before .before .before .before .before .before .before .before .before .before)))) (Row.get 12 (T11 .locals) (m10 (c .before .before .before .before
+          .before .before .before .before .before .before .before .before .before .before .before .before .before .before .before)))) (Row.get 3 (T10 .locals) (m63 (c .before) (c .place .given)) .now)
+          (Row.get 4 (T10 .locals) (m63 (c .before) (c .place .given)) .now) (Row.get 10 (T10 .locals) (m63 (c .before) (c .place .given))) (Row.get 11 (T10 .locals) (m63 (c .before) (c .place .given))))
+          (μ·0 (Row.get 1 (T10 .locals) (m9 (c .before .before .before .before .before .before .before .before .before .before .before .before .before .before .before .before .before .before .before
+          .before .before .before .before .before .before) (After-width·gave (c .before .before .before .before .before .before .before .before .before .before .before .before .before .before .before
+          .before .before .before .before .before .before .before .before .before))) .now) (Row.get 3 (T10 .locals) (m9 (c .before .before .before .before .before .before .before .before .before .before
+          .before .before .before .before .before .before .before .before .before .before .before .before .before .before .before) (After-width·gave (c .before .before .before .before .before .before
+          .before .before .before .before .before .before .before .before .before .before .before .before .before .before .before .before .before .before))) .now) (Row.get 4 (T10 .locals) (m9 (c .before
+          .before .before .before .before .before .before .before .before .before .before .before .before .before .before .before .before .before .before .before .before .before .before .before .before)
+          (After-width·gave (c .before .before .before .before .before .before .before .before .before .before .before .before .before .before .before .before .before .before .before .before .before
+          .before .before .before))) .now) (Row.get 6 (T10 .locals) (m9 (c .before .before .before .before .before .before .before .before .before .before .before .before .before .before .before .before
+          .before .before .before .before .before .before .before .before .before) (After-width·gave (c .before .before .before .before .before .before .before .before .before .before .before .before
+          .before .before .before .before .before .before .before .before .before .before .before .before)))) (Row.get 7 (T10 .locals) (m9 (c .before .before .before .before .before .before .before
+          .before .before .before .before .before .before .before .before .before .before .before .before .before .before .before .before .before .before) (After-width·gave (c .before .before .before
+          .before .before .before .before .before .before .before .before .before .before .before .before .before .before .before .before .before .before .before .before .before)))) (Row.get 8 (T10
+          .locals) (m9 (c .before .before .before .before .before .before .before .before .before .before .before .before .before .before .before .before .before .before .before .before .before .before
+          .before .before .before) (After-width·gave (c .before .before .before .before .before .before .before .before .before .before .before .before .before .before .before .before .before .before
+          .before .before .before .before .before .before)))) (Row.get 9 (T10 .locals) (m9 (c .before .before .before .before .before .before .before .before .before .before .before .before .before
+          .before .before .before .before .before .before .before .before .before .before .before .before) (After-width·gave (c .before .before .before .before .before .before .before .before .before
+          .before .before .before .before .before .before .before .before .before .before .before .before .before .before .before)))) (Row.get 10 (T10 .locals) (m9 (c .before .before .before .before
           .before .before .before .before .before .before .before .before .before .before .before .before .before .before .before .before .before .before .before .before .before) (After-width·gave (c
           .before .before .before .before .before .before .before .before .before .before .before .before .before .before .before .before .before .before .before .before .before .before .before
-          .before)))) (Row.get 13 (T11 .locals) (m10 (c .before .before .before .before .before .before .before .before .before .before .before .before .before .before .before .before .before .before
+          .before)))) (Row.get 11 (T10 .locals) (m9 (c .before .before .before .before .before .before .before .before .before .before .before .before .before .before .before .before .before .before
           .before .before .before .before .before .before .before) (After-width·gave (c .before .before .before .before .before .before .before .before .before .before .before .before .before .before
-          .before .before .before .before .before .before .before .before .before .before)))) (Row.get 4 (T11 .locals) (m68 (c .before) (c .at .given)) .now) (Row.get 5 (T11 .locals) (m68 (c .before) (c
-          .at .given)) .now) (Row.get 11 (T11 .locals) (m68 (c .before) (c .at .given))) (Row.get 12 (T11 .locals) (m68 (c .before) (c .at .given))) (Row.get 13 (T11 .locals) (m68 (c .before) (c .at
-          .given)))) (μ·0 (Row.get 1 (T11 .locals) (m10 (c .before .before .before .before .before .before .before .before .before .before .before .before .before .before .before .before .before .before
-          .before .before .before .before .before .before .before) (After-width·gave (c .before .before .before .before .before .before .before .before .before .before .before .before .before .before
-          .before .before .before .before .before .before .before .before .before .before))) .now) (Row.get 3 (T11 .locals) (m10 (c .before .before .before .before .before .before .before .before .before
-          .before .before .before .before .before .before .before .before .before .before .before .before .before .before .before .before) (After-width·gave (c .before .before .before .before .before
-          .before .before .before .before .before .before .before .before .before .before .before .before .before .before .before .before .before .before .before)))) (Row.get 4 (T11 .locals) (m10 (c
-          .before .before .before .before .before .before .before .before .before .before .before .before .before .before .before .before .before .before .before .before .before .before .before .before
-          .before) (After-width·gave (c .before .before .before .before .before .before .before .before .before .before .before .before .before .before .before .before .before .before .before .before
-          .before .before .before .before))) .now) (Row.get 5 (T11 .locals) (m10 (c .before .before .before .before .before .before .before .before .before .before .before .before .before .before .before
-          .before .before .before .before .before .before .before .before .before .before) (After-width·gave (c .before .before .before .before .before .before .before .before .before .before .before
-          .before .before .before .before .before .before .before .before .before .before .before .before .before))) .now) (Row.get 7 (T11 .locals) (m10 (c .before .before .before .before .before .before
-          .before .before .before .before .before .before .before .before .before .before .before .before .before .before .before .before .before .before .before) (After-width·gave (c .before .before
-          .before .before .before .before .before .before .before .before .before .before .before .before .before .before .before .before .before .before .before .before .before .before)))) (Row.get 8
-          (T11 .locals) (m10 (c .before .before .before .before .before .before .before .before .before .before .before .before .before .before .before .before .before .before .before .before .before
-          .before .before .before .before) (After-width·gave (c .before .before .before .before .before .before .before .before .before .before .before .before .before .before .before .before .before
-          .before .before .before .before .before .before .before)))) (Row.get 9 (T11 .locals) (m10 (c .before .before .before .before .before .before .before .before .before .before .before .before
-          .before .before .before .before .before .before .before .before .before .before .before .before .before) (After-width·gave (c .before .before .before .before .before .before .before .before
-          .before .before .before .before .before .before .before .before .before .before .before .before .before .before .before .before)))) (Row.get 10 (T11 .locals) (m10 (c .before .before .before
-          .before .before .before .before .before .before .before .before .before .before .before .before .before .before .before .before .before .before .before .before .before .before) (After-width·gave
-          (c .before .before .before .before .before .before .before .before .before .before .before .before .before .before .before .before .before .before .before .before .before .before .before
-          .before)))) (Row.get 11 (T11 .locals) (m10 (c .before .before .before .before .before .before .before .before .before .before .before .before .before .before .before .before .before .before
-          .before .before .before .before .before .before .before) (After-width·gave (c .before .before .before .before .before .before .before .before .before .before .before .before .before .before
-          .before .before .before .before .before .before .before .before .before .before)))) (Row.get 12 (T11 .locals) (m10 (c .before .before .before .before .before .before .before .before .before
-          .before .before .before .before .before .before .before .before .before .before .before .before .before .before .before .before) (After-width·gave (c .before .before .before .before .before
-          .before .before .before .before .before .before .before .before .before .before .before .before .before .before .before .before .before .before .before)))) (Row.get 13 (T11 .locals) (m10 (c
-          .before .before .before .before .before .before .before .before .before .before .before .before .before .before .before .before .before .before .before .before .before .before .before .before
-          .before) (After-width·gave (c .before .before .before .before .before .before .before .before .before .before .before .before .before .before .before .before .before .before .before .before
-          .before .before .before .before)))) (c .before .before .before .before .before .before .before .before .before .before .before .before .before .before .before .before .before .before .before
-          .before .before .before .before .loop .lines) (c .before .before .before .before .before .before .before .before .before .before .before .before .before .before .before .before .before .before
-          .before .before .before .before .before .loop .rs) (c .before .before .before .before .before .before .before .before .before .before .before .before .before .before .before .before .before
-          .before .before .before .before .before .before .loop .at) (c .before .before .before .before .before .before .before .before .before .before .before .before .before .before .before .before
-          .before .before .before .before .before .before .before .loop .tight) (c .before .before .before .before .before .before .before .before .before .before .before .before .before .before .before
-          .before .before .before .before .before .before .before .before .loop .i))
+          .before .before .before .before .before .before .before .before .before .before)))) (c .before .before .before .before .before .before .before .before .before .before .before .before .before
+          .before .before .before .before .before .before .before .before .before .before .loop .lines) (c .before .before .before .before .before .before .before .before .before .before .before .before
+          .before .before .before .before .before .before .before .before .before .before .before .loop .rs) (c .before .before .before .before .before .before .before .before .before .before .before
+          .before .before .before .before .before .before .before .before .before .before .before .before .loop .place) (c .before .before .before .before .before .before .before .before .before .before
+          .before .before .before .before .before .before .before .before .before .before .before .before .before .loop .i))
 
       abbrev pub Need-loop-again : Type 0
-      Need-loop-again = (c : After-at) → Inv·0 (Row.get 1 (T11 .locals) (m10 (c .before .before .before .before .before .before .before .before .before .before .before .before .before .before .before
-          .before .before .before .before .before .before .before .before .before .before) (After-width·gave (c .before .before .before .before .before .before .before .before .before .before .before
-          .before .before .before .before .before .before .before .before .before .before .before .before .before))) .now) (Row.get 3 (T11 .locals) (m10 (c .before .before .before .before .before .before
-          .before .before .before .before .before .before .before .before .before .before .before .before .before .before .before .before .before .before .before) (After-width·gave (c .before .before
-          .before .before .before .before .before .before .before .before .before .before .before .before .before .before .before .before .before .before .before .before .before .before)))) (Row.get 4
-          (T11 .locals) (m10 (c .before .before .before .before .before .before .before .before .before .before .before .before .before .before .before .before .before .before .before .before .before
-          .before .before .before .before) (After-width·gave (c .before .before .before .before .before .before .before .before .before .before .before .before .before .before .before .before .before
-          .before .before .before .before .before .before .before))) .now) (Row.get 5 (T11 .locals) (m10 (c .before .before .before .before .before .before .before .before .before .before .before .before
-          .before .before .before .before .before .before .before .before .before .before .before .before .before) (After-width·gave (c .before .before .before .before .before .before .before .before
-          .before .before .before .before .before .before .before .before .before .before .before .before .before .before .before .before))) .now) (Row.get 7 (T11 .locals) (m10 (c .before .before .before
-          .before .before .before .before .before .before .before .before .before .before .before .before .before .before .before .before .before .before .before .before .before .before) (After-width·gave
-          (c .before .before .before .before .before .before .before .before .before .before .before .before .before .before .before .before .before .before .before .before .before .before .before
-          .before)))) (Row.get 8 (T11 .locals) (m10 (c .before .before .before .before .before .before .before .before .before .before .before .before .before .before .before .before .before .before
-          .before .before .before .before .before .before .before) (After-width·gave (c .before .before .before .before .before .before .before .before .before .before .before .before .before .before
-          .before .before .before .before .before .before .before .before .before .before)))) (Row.get 9 (T11 .locals) (m10 (c .before .before .before .before .before .before .before .before .before
-          .before .before .before .before .before .before .before .before .before .before .before .before .before .before .before .before) (After-width·gave (c .before .before .before .before .before
-          .before .before .before .before .before .before .before .before .before .before .before .before .before .before .before .before .before .before .before)))) (Row.get 10 (T11 .locals) (m10 (c
-          .before .before .before .before .before .before .before .before .before .before .before .before .before .before .before .before .before .before .before .before .before .before .before .before
-          .before) (After-width·gave (c .before .before .before .before .before .before .before .before .before .before .before .before .before .before .before .before .before .before .before .before
-          .before .before .before .before)))) (Row.get 11 (T11 .locals) (m10 (c .before .before .before .before .before .before .before .before .before .before .before .before .before .before .before
-          .before .before .before .before .before .before .before .before .before .before) (After-width·gave (c .before .before .before .before .before .before .before .before .before .before .before
-          .before .before .before .before .before .before .before .before .before .before .before .before .before)))) (Row.get 12 (T11 .locals) (m10 (c .before .before .before .before .before .before
-          .before .before .before .before .before .before .before .before .before .before .before .before .before .before .before .before .before .before .before) (After-width·gave (c .before .before
-          .before .before .before .before .before .before .before .before .before .before .before .before .before .before .before .before .before .before .before .before .before .before)))) (Row.get 13
-          (T11 .locals) (m10 (c .before .before .before .before .before .before .before .before .before .before .before .before .before .before .before .before .before .before .before .before .before
-          .before .before .before .before) (After-width·gave (c .before .before .before .before .before .before .before .before .before .before .before .before .before .before .before .before .before
-          .before .before .before .before .before .before .before)))) (Row.get 4 (T11 .locals) (m68 (c .before) (c .at .given)) .now) (Row.get 5 (T11 .locals) (m68 (c .before) (c .at .given)) .now)
-          (Row.get 11 (T11 .locals) (m68 (c .before) (c .at .given))) (Row.get 12 (T11 .locals) (m68 (c .before) (c .at .given))) (Row.get 13 (T11 .locals) (m68 (c .before) (c .at .given)))
+      Need-loop-again = (c : After-place) → Inv·0 (Row.get 1 (T10 .locals) (m9 (c .before .before .before .before .before .before .before .before .before .before .before .before .before .before
+          .before .before .before .before .before .before .before .before .before .before .before) (After-width·gave (c .before .before .before .before .before .before .before .before .before .before
+          .before .before .before .before .before .before .before .before .before .before .before .before .before .before))) .now) (Row.get 3 (T10 .locals) (m9 (c .before .before .before .before .before
+          .before .before .before .before .before .before .before .before .before .before .before .before .before .before .before .before .before .before .before .before) (After-width·gave (c .before
+          .before .before .before .before .before .before .before .before .before .before .before .before .before .before .before .before .before .before .before .before .before .before .before))) .now)
+          (Row.get 4 (T10 .locals) (m9 (c .before .before .before .before .before .before .before .before .before .before .before .before .before .before .before .before .before .before .before .before
+          .before .before .before .before .before) (After-width·gave (c .before .before .before .before .before .before .before .before .before .before .before .before .before .before .before .before
+          .before .before .before .before .before .before .before .before))) .now) (Row.get 6 (T10 .locals) (m9 (c .before .before .before .before .before .before .before .before .before .before .before
+          .before .before .before .before .before .before .before .before .before .before .before .before .before .before) (After-width·gave (c .before .before .before .before .before .before .before
+          .before .before .before .before .before .before .before .before .before .before .before .before .before .before .before .before .before)))) (Row.get 7 (T10 .locals) (m9 (c .before .before
+          .before .before .before .before .before .before .before .before .before .before .before .before .before .before .before .before .before .before .before .before .before .before .before)
+          (After-width·gave (c .before .before .before .before .before .before .before .before .before .before .before .before .before .before .before .before .before .before .before .before .before
+          .before .before .before)))) (Row.get 8 (T10 .locals) (m9 (c .before .before .before .before .before .before .before .before .before .before .before .before .before .before .before .before
+          .before .before .before .before .before .before .before .before .before) (After-width·gave (c .before .before .before .before .before .before .before .before .before .before .before .before
+          .before .before .before .before .before .before .before .before .before .before .before .before)))) (Row.get 9 (T10 .locals) (m9 (c .before .before .before .before .before .before .before
+          .before .before .before .before .before .before .before .before .before .before .before .before .before .before .before .before .before .before) (After-width·gave (c .before .before .before
+          .before .before .before .before .before .before .before .before .before .before .before .before .before .before .before .before .before .before .before .before .before)))) (Row.get 10 (T10
+          .locals) (m9 (c .before .before .before .before .before .before .before .before .before .before .before .before .before .before .before .before .before .before .before .before .before .before
+          .before .before .before) (After-width·gave (c .before .before .before .before .before .before .before .before .before .before .before .before .before .before .before .before .before .before
+          .before .before .before .before .before .before)))) (Row.get 11 (T10 .locals) (m9 (c .before .before .before .before .before .before .before .before .before .before .before .before .before
+          .before .before .before .before .before .before .before .before .before .before .before .before) (After-width·gave (c .before .before .before .before .before .before .before .before .before
+          .before .before .before .before .before .before .before .before .before .before .before .before .before .before .before)))) (Row.get 3 (T10 .locals) (m63 (c .before) (c .place .given)) .now)
+          (Row.get 4 (T10 .locals) (m63 (c .before) (c .place .given)) .now) (Row.get 10 (T10 .locals) (m63 (c .before) (c .place .given))) (Row.get 11 (T10 .locals) (m63 (c .before) (c .place .given)))
 
-      abbrev pub Need-is-past-requires : Type 0
-      Need-is-past-requires = (c : After-loop) → s82 (c .before .before .before .before .before .blocks) .asks (m15 (c .before))
-
-      abbrev pub m69 : (before : After-loop) → (given : s82 (before .before .before .before .before .before .blocks) .gives (m15 (before .before))) → Typed.Mo T87
-      m69 = λ before given. s82 (before .before .before .before .before .before .blocks) .next (m15 (before .before)) given
+      abbrev pub m64 : (before : After-loop) → (given : s77 (before .before .before .before .before .before .blocks) .gives (m14 (before .before))) → Typed.Mo T82
+      m64 = λ before given. s77 (before .before .before .before .before .before .blocks) .next (m14 (before .before)) given
 
       module _ (before· : After-loop) where
+        pub record After-at·own : Type 0 where
+          pub given : s77 (before· .before .before .before .before .before .blocks) .gives (m14 (before· .before))
+
+      pub record After-at : Type 0 where
+        pub before : After-loop
+        pub at : After-at·own before
+
+      abbrev pub Need-is-past-requires : Type 0
+      Need-is-past-requires = (c : After-at) → s78 (c .before .before .before .before .before .before .blocks) .asks (m64 (c .before) (c .at .given))
+
+      abbrev pub m65 : (before : After-at) → (given : s78 (before .before .before .before .before .before .before .blocks) .gives (m64 (before .before) (before .at .given))) → Typed.Mo T83
+      m65 = λ before given. s78 (before .before .before .before .before .before .before .blocks) .next (m64 (before .before) (before .at .given)) given
+
+      module _ (before· : After-at) where
         abbrev pub After-is-past·own : Type 0
-        After-is-past·own = Called.Called ps·6 r·6 (claims· .13) T12
-            (record { pos = 1; ty = Syntax.tyRef (Syntax.named 0) Syntax.imm (Syntax.tyInt Syntax.w8); ref = λ x. x }, (record { pos = 11; st = List.[]; d = 0; at = λ x. x }, tt)) (m15 (before· .before))
+        After-is-past·own = Called.Called ps·6 r·6 (claims· .13) T82
+            (record { pos = 1; ty = Syntax.tyRef (Syntax.named 0) Syntax.imm (Syntax.tyInt Syntax.w8); ref = λ x. x }, (record { pos = 17; st = List.[]; d = 0; at = λ x. x }, tt)) (m64 (before· .before)
+            (before· .at .given))
 
       pub record After-is-past : Type 0 where
-        pub before : After-loop
+        pub before : After-at
         pub is-past : After-is-past·own before
 
-      abbrev pub After-is-past·gave : (c : After-is-past) → s82 (c .before .before .before .before .before .before .blocks) .gives (m15 (c .before .before))
-      After-is-past·gave = λ c. Called.given ps·6 r·6 (claims· .13) T12
-          (record { pos = 1; ty = Syntax.tyRef (Syntax.named 0) Syntax.imm (Syntax.tyInt Syntax.w8); ref = λ x. x }, (record { pos = 11; st = List.[]; d = 0; at = λ x. x }, tt)) (m15 (c .before .before))
-          (c .is-past)
+      abbrev pub After-is-past·gave : (c : After-is-past) → s78 (c .before .before .before .before .before .before .before .blocks) .gives (m64 (c .before .before) (c .before .at .given))
+      After-is-past·gave = λ c. Called.given ps·6 r·6 (claims· .13) T82
+          (record { pos = 1; ty = Syntax.tyRef (Syntax.named 0) Syntax.imm (Syntax.tyInt Syntax.w8); ref = λ x. x }, (record { pos = 17; st = List.[]; d = 0; at = λ x. x }, tt)) (m64 (c .before .before)
+          (c .before .at .given)) (c .is-past)
 
-      abbrev W6 : (before : After-loop) → (given : s82 (before .before .before .before .before .before .blocks) .gives (m15 (before .before))) → Typed.Want O6
-      W6 = λ before given. Typed.wantNext T88 O0 (at102 (before .before .before .before .before .before .blocks) (W0 (before .before .before .before .before .before .κs) (before .before .before
-          .before .before .before .args) (before .before .before .before .before .before .blocks))) (W0 (before .before .before .before .before .before .κs) (before .before .before .before .before .before
-          .args) (before .before .before .before .before .before .blocks))
+      abbrev W6 : (before : After-at) → (given : s78 (before .before .before .before .before .before .before .blocks) .gives (m64 (before .before) (before .at .given))) → Typed.Want O6
+      W6 = λ before given. Typed.wantNext T84 O0 (at95 (before .before .before .before .before .before .before .blocks) (W0 (before .before .before .before .before .before .before .κs) (before .before
+          .before .before .before .before .before .args) (before .before .before .before .before .before .before .blocks))) (W0 (before .before .before .before .before .before .before .κs) (before .before
+          .before .before .before .before .before .args) (before .before .before .before .before .before .before .blocks))
+
+      abbrev pub m66 : (before : After-at) → (given : s78 (before .before .before .before .before .before .before .blocks) .gives (m64 (before .before) (before .at .given))) → Typed.Mo T85
+      m66 = λ before given. s79 (before .before .before .before .before .before .before .blocks) (m65 before given)
+
+      abbrev pub m67 : (before : After-is-past) → Typed.Mo T86
+      m67 = λ before. s80 (before .before .before .before .before .before .before .before .blocks) (m66 (before .before) (After-is-past·gave before))
+
+      abbrev pub m68 : (before : After-is-past) → Typed.Mo T87
+      m68 = λ before. s81 (before .before .before .before .before .before .before .before .blocks) (m67 before)
+
+      abbrev pub m69 : (before : After-is-past) → Typed.Mo T88
+      m69 = λ before. s82 (before .before .before .before .before .before .before .before .blocks) (m68 before)
 
       abbrev pub m70 : (before : After-is-past) → Typed.Mo T89
-      m70 = λ before. s83 (before .before .before .before .before .before .before .blocks) (m69 (before .before) (After-is-past·gave before))
+      m70 = λ before. s83 (before .before .before .before .before .before .before .before .blocks) (m69 before)
 
       abbrev pub m71 : (before : After-is-past) → Typed.Mo T90
-      m71 = λ before. s84 (before .before .before .before .before .before .before .blocks) (m70 before)
+      m71 = λ before. s84 (before .before .before .before .before .before .before .before .blocks) (m70 before)
 
       abbrev pub m72 : (before : After-is-past) → Typed.Mo T91
-      m72 = λ before. s85 (before .before .before .before .before .before .before .blocks) (m71 before)
+      m72 = λ before. s85 (before .before .before .before .before .before .before .before .blocks) (m71 before)
 
       abbrev pub m73 : (before : After-is-past) → Typed.Mo T92
-      m73 = λ before. s86 (before .before .before .before .before .before .before .blocks) (m72 before)
-
-      abbrev pub m74 : (before : After-is-past) → Typed.Mo T93
-      m74 = λ before. s87 (before .before .before .before .before .before .before .blocks) (m73 before)
-
-      abbrev pub m75 : (before : After-is-past) → Typed.Mo T94
-      m75 = λ before. s88 (before .before .before .before .before .before .before .blocks) (m74 before)
-
-      abbrev pub m76 : (before : After-is-past) → Typed.Mo T95
-      m76 = λ before. s89 (before .before .before .before .before .before .before .blocks) (m75 before)
-
-      abbrev pub m77 : (before : After-is-past) → Typed.Mo T96
-      m77 = λ before. s90 (before .before .before .before .before .before .before .blocks) (m76 before)
-
-      abbrev pub m78 : (before : After-is-past) → Typed.Mo T97
-      m78 = λ before. s91 (before .before .before .before .before .before .before .blocks) (m77 before)
+      m73 = λ before. s86 (before .before .before .before .before .before .before .before .blocks) (m72 before)
 
       module _ (before· : After-is-past) where
         pub record Then2·own : Type 0 where
-          pub taken : Path'._≡_ (Row.get 31 (T87 .locals) (m69 (before· .before) (After-is-past·gave before·))) Bool'.true
+          pub taken : Path'._≡_ (Row.get 30 (T85 .locals) (m66 (before· .before) (After-is-past·gave before·))) Bool'.true
 
       pub record Then2 : Type 0 where
         pub before : After-is-past
         pub if2 : Then2·own before
 
       abbrev pub Need-same-length-3 : Type 0
-      Need-same-length-3 = (c : Then2) → MutSlice.SameLen (Row.get 4 (T97 .locals) (m78 (c .before))) (dens (c .before .before .before .before .before .before .before .κs) (c .before .before .before
-          .before .before .before .before .args) .1 .1 .1 .0)
+      Need-same-length-3 = (c : Then2) → MutSlice.SameLen (Row.get 3 (T92 .locals) (m73 (c .before))) (dens (c .before .before .before .before .before .before .before .before .κs) (c .before .before
+          .before .before .before .before .before .before .args) .1 .1 .0)
 
       abbrev pub Need-same-length-4 : Type 0
-      Need-same-length-4 = (c : Then2) → MutSlice.SameLen (Row.get 5 (T97 .locals) (m78 (c .before))) (dens (c .before .before .before .before .before .before .before .κs) (c .before .before .before
-          .before .before .before .before .args) .1 .1 .1 .1 .0)
+      Need-same-length-4 = (c : Then2) → MutSlice.SameLen (Row.get 4 (T92 .locals) (m73 (c .before))) (dens (c .before .before .before .before .before .before .before .before .κs) (c .before .before
+          .before .before .before .before .before .before .args) .1 .1 .1 .0)
 
       abbrev pub Need-returns-2 : Type 0
-      Need-returns-2 = (c : Then2) → Post· (c .before .before .before .before .before .before .before .κs) (dens (c .before .before .before .before .before .before .before .κs) (c .before .before
-          .before .before .before .before .before .args)) (Function.resV r (c .before .before .before .before .before .before .before .κs) (m78 (c .before) .0)) (Clauses.atExit (Kinds.endedOf 3 ps r) (c
-          .before .before .before .before .before .before .before .κs) (dens (c .before .before .before .before .before .before .before .κs) (c .before .before .before .before .before .before .before
-          .args)) (Enter.lastsP (c .before .before .before .before .before .before .before .κs) 1 ps xs (dens (c .before .before .before .before .before .before .before .κs) (c .before .before .before
-          .before .before .before .before .args)) (m78 (c .before) .1)))
+      Need-returns-2 = (c : Then2) → Post· (c .before .before .before .before .before .before .before .before .κs) (dens (c .before .before .before .before .before .before .before .before .κs) (c
+          .before .before .before .before .before .before .before .before .args)) (Function.resV r (c .before .before .before .before .before .before .before .before .κs) (m73 (c .before) .0))
+          (Clauses.atExit (Kinds.endedOf 3 ps r) (c .before .before .before .before .before .before .before .before .κs) (dens (c .before .before .before .before .before .before .before .before .κs) (c
+          .before .before .before .before .before .before .before .before .args)) (Enter.lastsP (c .before .before .before .before .before .before .before .before .κs) 1 ps xs (dens (c .before .before
+          .before .before .before .before .before .before .κs) (c .before .before .before .before .before .before .before .before .args)) (m73 (c .before) .1)))
 
-      abbrev pub m79 : (before : After-is-past) → Typed.Mo T98
-      m79 = λ before. s92 (before .before .before .before .before .before .before .blocks) (m69 (before .before) (After-is-past·gave before))
+      abbrev pub m74 : (before : After-is-past) → Typed.Mo T93
+      m74 = λ before. s87 (before .before .before .before .before .before .before .before .blocks) (m66 (before .before) (After-is-past·gave before))
 
       module _ (before· : After-is-past) where
         pub record Else2·own : Type 0 where
-          pub left : Path'._≡_ (Row.get 31 (T87 .locals) (m69 (before· .before) (After-is-past·gave before·))) Bool'.false
+          pub left : Path'._≡_ (Row.get 30 (T85 .locals) (m66 (before· .before) (After-is-past·gave before·))) Bool'.false
 
       pub record Else2 : Type 0 where
         pub before : After-is-past
         pub if2 : Else2·own before
 
+      abbrev pub m75 : (before : After-is-past) → Typed.Mo T94
+      m75 = λ before. s88 (before .before .before .before .before .before .before .before .blocks) (m74 before)
+
+      abbrev pub m76 : (before : After-is-past) → Typed.Mo T95
+      m76 = λ before. s89 (before .before .before .before .before .before .before .before .blocks) (m75 before)
+
+      abbrev pub m77 : (before : After-is-past) → Typed.Mo T96
+      m77 = λ before. s90 (before .before .before .before .before .before .before .before .blocks) (m76 before)
+
+      abbrev pub m78 : (before : After-is-past) → Typed.Mo T97
+      m78 = λ before. s91 (before .before .before .before .before .before .before .before .blocks) (m77 before)
+
+      abbrev pub m79 : (before : After-is-past) → Typed.Mo T98
+      m79 = λ before. s92 (before .before .before .before .before .before .before .before .blocks) (m78 before)
+
       abbrev pub m80 : (before : After-is-past) → Typed.Mo T99
-      m80 = λ before. s93 (before .before .before .before .before .before .before .blocks) (m79 before)
-
-      abbrev pub m81 : (before : After-is-past) → Typed.Mo T100
-      m81 = λ before. s94 (before .before .before .before .before .before .before .blocks) (m80 before)
-
-      abbrev pub m82 : (before : After-is-past) → Typed.Mo T101
-      m82 = λ before. s95 (before .before .before .before .before .before .before .blocks) (m81 before)
-
-      abbrev pub m83 : (before : After-is-past) → Typed.Mo T102
-      m83 = λ before. s96 (before .before .before .before .before .before .before .blocks) (m82 before)
-
-      abbrev pub m84 : (before : After-is-past) → Typed.Mo T103
-      m84 = λ before. s97 (before .before .before .before .before .before .before .blocks) (m83 before)
-
-      abbrev pub m85 : (before : After-is-past) → Typed.Mo T104
-      m85 = λ before. s98 (before .before .before .before .before .before .before .blocks) (m84 before)
-
-      abbrev pub m86 : (before : After-is-past) → Typed.Mo T105
-      m86 = λ before. s99 (before .before .before .before .before .before .before .blocks) (m85 before)
-
-      abbrev pub m87 : (before : After-is-past) → Typed.Mo T106
-      m87 = λ before. s100 (before .before .before .before .before .before .before .blocks) (m86 before)
+      m80 = λ before. s93 (before .before .before .before .before .before .before .before .blocks) (m79 before)
 
       abbrev pub Need-same-length-5 : Type 0
-      Need-same-length-5 = (c : Else2) → MutSlice.SameLen (Row.get 4 (T106 .locals) (m87 (c .before))) (dens (c .before .before .before .before .before .before .before .κs) (c .before .before .before
-          .before .before .before .before .args) .1 .1 .1 .0)
+      Need-same-length-5 = (c : Else2) → MutSlice.SameLen (Row.get 3 (T99 .locals) (m80 (c .before))) (dens (c .before .before .before .before .before .before .before .before .κs) (c .before .before
+          .before .before .before .before .before .before .args) .1 .1 .0)
 
       abbrev pub Need-same-length-6 : Type 0
-      Need-same-length-6 = (c : Else2) → MutSlice.SameLen (Row.get 5 (T106 .locals) (m87 (c .before))) (dens (c .before .before .before .before .before .before .before .κs) (c .before .before .before
-          .before .before .before .before .args) .1 .1 .1 .1 .0)
+      Need-same-length-6 = (c : Else2) → MutSlice.SameLen (Row.get 4 (T99 .locals) (m80 (c .before))) (dens (c .before .before .before .before .before .before .before .before .κs) (c .before .before
+          .before .before .before .before .before .before .args) .1 .1 .1 .0)
 
       abbrev pub Need-returns-3 : Type 0
-      Need-returns-3 = (c : Else2) → Post· (c .before .before .before .before .before .before .before .κs) (dens (c .before .before .before .before .before .before .before .κs) (c .before .before
-          .before .before .before .before .before .args)) (Function.resV r (c .before .before .before .before .before .before .before .κs) (m87 (c .before) .0)) (Clauses.atExit (Kinds.endedOf 3 ps r) (c
-          .before .before .before .before .before .before .before .κs) (dens (c .before .before .before .before .before .before .before .κs) (c .before .before .before .before .before .before .before
-          .args)) (Enter.lastsP (c .before .before .before .before .before .before .before .κs) 1 ps xs (dens (c .before .before .before .before .before .before .before .κs) (c .before .before .before
-          .before .before .before .before .args)) (m87 (c .before) .1)))
+      Need-returns-3 = (c : Else2) → Post· (c .before .before .before .before .before .before .before .before .κs) (dens (c .before .before .before .before .before .before .before .before .κs) (c
+          .before .before .before .before .before .before .before .before .args)) (Function.resV r (c .before .before .before .before .before .before .before .before .κs) (m80 (c .before) .0))
+          (Clauses.atExit (Kinds.endedOf 3 ps r) (c .before .before .before .before .before .before .before .before .κs) (dens (c .before .before .before .before .before .before .before .before .κs) (c
+          .before .before .before .before .before .before .before .before .args)) (Enter.lastsP (c .before .before .before .before .before .before .before .before .κs) 1 ps xs (dens (c .before .before
+          .before .before .before .before .before .before .κs) (c .before .before .before .before .before .before .before .before .args)) (m80 (c .before) .1)))
 
       module _ (width-requires : Need-width-requires) (loop-holds : Need-loop-holds) (plan-at-requires : Need-plan-at-requires) (set-guards-requires : Need-set-guards-requires) (set-guards-requires-2
           : Need-set-guards-requires-2) (load-set-requires : Need-load-set-requires) (pass-requires : Need-pass-requires) (same-length : Need-same-length) (same-length-2 : Need-same-length-2) (returns :
           Need-returns) (store-set-requires : Need-store-set-requires) (add-i : Need-add-i) (loop-less : Need-loop-less) (loop-again : Need-loop-again) (is-past-requires : Need-is-past-requires)
           (same-length-3 : Need-same-length-3) (same-length-4 : Need-same-length-4) (returns-2 : Need-returns-2) (same-length-5 : Need-same-length-5) (same-length-6 : Need-same-length-6) (returns-3 :
           Need-returns-3) where
-        lay14 : (c : Else2) → at102 (c .before .before .before .before .before .before .before .blocks) (W0 (c .before .before .before .before .before .before .before .κs) (c .before .before .before
-            .before .before .before .before .args) (c .before .before .before .before .before .before .before .blocks)) (m79 (c .before))
+        lay14 : (c : Else2) → at95 (c .before .before .before .before .before .before .before .before .blocks) (W0 (c .before .before .before .before .before .before .before .before .κs) (c .before
+            .before .before .before .before .before .before .before .args) (c .before .before .before .before .before .before .before .before .blocks)) (m74 (c .before))
         lay14 = λ c. (
           (
             Path'.refl,
             (
               tt,
               (
-                tt,
+                MutSlice.fix-len (Row.get 3 (T99 .locals) (m80 (c .before)) .ptr) (Row.get 3 (T99 .locals) (m80 (c .before)) .name) (Row.get 3 (T99 .locals) (m80 (c .before)) .now) (dens (c .before .before
+                    .before .before .before .before .before .before .κs) (c .before .before .before .before .before .before .before .before .args) .1 .1 .0 .now) (same-length-5 record
+                    { before = c .before; if2 = c .if2 }),
                 (
-                  MutSlice.fix-len (Row.get 4 (T106 .locals) (m87 (c .before)) .ptr) (Row.get 4 (T106 .locals) (m87 (c .before)) .name) (Row.get 4 (T106 .locals) (m87 (c .before)) .now) (dens (c .before
-                      .before .before .before .before .before .before .κs) (c .before .before .before .before .before .before .before .args) .1 .1 .1 .0 .now) (same-length-5 record
+                  MutSlice.fix-len (Row.get 4 (T99 .locals) (m80 (c .before)) .ptr) (Row.get 4 (T99 .locals) (m80 (c .before)) .name) (Row.get 4 (T99 .locals) (m80 (c .before)) .now) (dens (c .before .before
+                      .before .before .before .before .before .before .κs) (c .before .before .before .before .before .before .before .before .args) .1 .1 .1 .0 .now) (same-length-6 record
                       { before = c .before; if2 = c .if2 }),
-                  (
-                    MutSlice.fix-len (Row.get 5 (T106 .locals) (m87 (c .before)) .ptr) (Row.get 5 (T106 .locals) (m87 (c .before)) .name) (Row.get 5 (T106 .locals) (m87 (c .before)) .now) (dens (c .before
-                        .before .before .before .before .before .before .κs) (c .before .before .before .before .before .before .before .args) .1 .1 .1 .1 .0 .now) (same-length-6 record
-                        { before = c .before; if2 = c .if2 }),
-                    (tt, (tt, tt)),
-                  ),
+                  (tt, (tt, tt)),
                 ),
               ),
             ),
@@ -4683,8 +4479,8 @@ module _ (claims· : Claims) where
           returns-3 record { before = c .before; if2 = c .if2 },
         )
 
-        lay13 : (c : After-is-past) → at103 (c .before .before .before .before .before .before .blocks) (W0 (c .before .before .before .before .before .before .κs) (c .before .before .before .before
-            .before .before .args) (c .before .before .before .before .before .before .blocks)) (m69 (c .before) (After-is-past·gave c))
+        lay13 : (c : After-is-past) → at96 (c .before .before .before .before .before .before .before .blocks) (W0 (c .before .before .before .before .before .before .before .κs) (c .before .before
+            .before .before .before .before .before .args) (c .before .before .before .before .before .before .before .blocks)) (m65 (c .before) (After-is-past·gave c))
         lay13 = λ c. (
           λ taken. (
             (
@@ -4692,17 +4488,14 @@ module _ (claims· : Claims) where
               (
                 tt,
                 (
-                  tt,
+                  MutSlice.fix-len (Row.get 3 (T92 .locals) (m73 record { before = c .before; is-past = c .is-past }) .ptr) (Row.get 3 (T92 .locals) (m73 record { before = c .before; is-past = c .is-past })
+                      .name) (Row.get 3 (T92 .locals) (m73 record { before = c .before; is-past = c .is-past }) .now) (dens (c .before .before .before .before .before .before .before .κs) (c .before .before
+                      .before .before .before .before .before .args) .1 .1 .0 .now) (same-length-3 record { before = record { before = c .before; is-past = c .is-past }; if2 = record { taken = taken } }),
                   (
-                    MutSlice.fix-len (Row.get 4 (T97 .locals) (m78 record { before = c .before; is-past = c .is-past }) .ptr) (Row.get 4 (T97 .locals) (m78 record { before = c .before; is-past = c .is-past })
-                        .name) (Row.get 4 (T97 .locals) (m78 record { before = c .before; is-past = c .is-past }) .now) (dens (c .before .before .before .before .before .before .κs) (c .before .before .before
-                        .before .before .before .args) .1 .1 .1 .0 .now) (same-length-3 record { before = record { before = c .before; is-past = c .is-past }; if2 = record { taken = taken } }),
-                    (
-                      MutSlice.fix-len (Row.get 5 (T97 .locals) (m78 record { before = c .before; is-past = c .is-past }) .ptr) (Row.get 5 (T97 .locals) (m78 record { before = c .before; is-past = c .is-past })
-                          .name) (Row.get 5 (T97 .locals) (m78 record { before = c .before; is-past = c .is-past }) .now) (dens (c .before .before .before .before .before .before .κs) (c .before .before .before
-                          .before .before .before .args) .1 .1 .1 .1 .0 .now) (same-length-4 record { before = record { before = c .before; is-past = c .is-past }; if2 = record { taken = taken } }),
-                      (tt, (tt, tt)),
-                    ),
+                    MutSlice.fix-len (Row.get 4 (T92 .locals) (m73 record { before = c .before; is-past = c .is-past }) .ptr) (Row.get 4 (T92 .locals) (m73 record { before = c .before; is-past = c .is-past })
+                        .name) (Row.get 4 (T92 .locals) (m73 record { before = c .before; is-past = c .is-past }) .now) (dens (c .before .before .before .before .before .before .before .κs) (c .before .before
+                        .before .before .before .before .before .args) .1 .1 .1 .0 .now) (same-length-4 record { before = record { before = c .before; is-past = c .is-past }; if2 = record { taken = taken } }),
+                    (tt, (tt, tt)),
                   ),
                 ),
               ),
@@ -4713,110 +4506,99 @@ module _ (claims· : Claims) where
               { before = record { before = c .before; is-past = c .is-past }; if2 = record { left = left } },
         )
 
-        lay12 : (c : After-loop) → at104 (c .before .before .before .before .before .blocks) (W0 (c .before .before .before .before .before .κs) (c .before .before .before .before .before .args) (c
-            .before .before .before .before .before .blocks)) (m15 (c .before))
+        lay12 : (c : After-loop) → at98 (c .before .before .before .before .before .blocks) (W0 (c .before .before .before .before .before .κs) (c .before .before .before .before .before .args) (c
+            .before .before .before .before .before .blocks)) (m14 (c .before))
         lay12 = λ c. (
-          is-past-requires record { before = c .before; loop-test = c .loop-test },
-          λ g. lay13 record {
-            before = record { before = c .before; loop-test = c .loop-test };
-            is-past = Called.called ps·6 r·6 (claims· .13) T12
-                (record { pos = 1; ty = Syntax.tyRef (Syntax.named 0) Syntax.imm (Syntax.tyInt Syntax.w8); ref = λ x. x }, (record { pos = 11; st = List.[]; d = 0; at = λ x. x }, tt)) (m15 (c .before)) g;
-          },
+          tt,
+          λ g. (
+            is-past-requires record { before = record { before = c .before; loop-test = c .loop-test }; at = record { given = g } },
+            λ g'. lay13 record {
+              before = record { before = record { before = c .before; loop-test = c .loop-test }; at = record { given = g } };
+              is-past = Called.called ps·6 r·6 (claims· .13) T82
+                  (record { pos = 1; ty = Syntax.tyRef (Syntax.named 0) Syntax.imm (Syntax.tyInt Syntax.w8); ref = λ x. x }, (record { pos = 17; st = List.[]; d = 0; at = λ x. x }, tt)) (m64 record
+                  { before = c .before; loop-test = c .loop-test } g) g';
+            },
+          ),
         )
 
-        lay11 : (c : After-store-set) → at32 (c .before .before .before .before .before .before .before .before .before .before .before .before .before .before .before .before .before .before .before
+        lay11 : (c : After-store-set) → at28 (c .before .before .before .before .before .before .before .before .before .before .before .before .before .before .before .before .before .before .before
             .before .before .before .before .before .before .blocks) (W3 (c .before .before .before .before .before .before .before .before .before .before .before .before .before .before .before .before
             .before .before .before .before .before .before) (c .before .before .before .before .before .before .before .before .before .before .before .before .before .before .before .before .before
             .before .before .before .before .loop .lines) (c .before .before .before .before .before .before .before .before .before .before .before .before .before .before .before .before .before .before
             .before .before .before .loop .rs) (c .before .before .before .before .before .before .before .before .before .before .before .before .before .before .before .before .before .before .before
-            .before .before .loop .at) (c .before .before .before .before .before .before .before .before .before .before .before .before .before .before .before .before .before .before .before .before
-            .before .loop .tight) (c .before .before .before .before .before .before .before .before .before .before .before .before .before .before .before .before .before .before .before .before .before
-            .loop .i)) (m59 (c .before) (After-store-set·gave c))
+            .before .before .loop .place) (c .before .before .before .before .before .before .before .before .before .before .before .before .before .before .before .before .before .before .before .before
+            .before .loop .i)) (m55 (c .before) (After-store-set·gave c))
         lay11 = λ c. (
           Path'.refl,
           λ g. (
             tt,
             λ g'. (
-              add-i record { before = record { before = record { before = c .before; store-set = c .store-set }; rs2 = record { given = g } }; at = record { given = g' } },
+              add-i record { before = record { before = record { before = c .before; store-set = c .store-set }; rs2 = record { given = g } }; place = record { given = g' } },
               (
-                μ·0 (Row.get 1 (T11 .locals) (m10 (c .before .before .before .before .before .before .before .before .before .before .before .before .before .before .before .before .before .before .before
+                μ·0 (Row.get 1 (T10 .locals) (m9 (c .before .before .before .before .before .before .before .before .before .before .before .before .before .before .before .before .before .before .before
                     .before .before .before .before) (After-width·gave (c .before .before .before .before .before .before .before .before .before .before .before .before .before .before .before .before .before
-                    .before .before .before .before .before))) .now) (Row.get 3 (T11 .locals) (m10 (c .before .before .before .before .before .before .before .before .before .before .before .before .before
-                    .before .before .before .before .before .before .before .before .before .before) (After-width·gave (c .before .before .before .before .before .before .before .before .before .before .before
-                    .before .before .before .before .before .before .before .before .before .before .before)))) (Row.get 4 (T11 .locals) (m10 (c .before .before .before .before .before .before .before .before
-                    .before .before .before .before .before .before .before .before .before .before .before .before .before .before .before) (After-width·gave (c .before .before .before .before .before .before
-                    .before .before .before .before .before .before .before .before .before .before .before .before .before .before .before .before))) .now) (Row.get 5 (T11 .locals) (m10 (c .before .before
-                    .before .before .before .before .before .before .before .before .before .before .before .before .before .before .before .before .before .before .before .before .before) (After-width·gave (c
-                    .before .before .before .before .before .before .before .before .before .before .before .before .before .before .before .before .before .before .before .before .before .before))) .now)
-                    (Row.get 7 (T11 .locals) (m10 (c .before .before .before .before .before .before .before .before .before .before .before .before .before .before .before .before .before .before .before .before
-                    .before .before .before) (After-width·gave (c .before .before .before .before .before .before .before .before .before .before .before .before .before .before .before .before .before .before
-                    .before .before .before .before)))) (Row.get 8 (T11 .locals) (m10 (c .before .before .before .before .before .before .before .before .before .before .before .before .before .before .before
-                    .before .before .before .before .before .before .before .before) (After-width·gave (c .before .before .before .before .before .before .before .before .before .before .before .before .before
-                    .before .before .before .before .before .before .before .before .before)))) (Row.get 9 (T11 .locals) (m10 (c .before .before .before .before .before .before .before .before .before .before
-                    .before .before .before .before .before .before .before .before .before .before .before .before .before) (After-width·gave (c .before .before .before .before .before .before .before .before
-                    .before .before .before .before .before .before .before .before .before .before .before .before .before .before)))) (Row.get 10 (T11 .locals) (m10 (c .before .before .before .before .before
-                    .before .before .before .before .before .before .before .before .before .before .before .before .before .before .before .before .before .before) (After-width·gave (c .before .before .before
-                    .before .before .before .before .before .before .before .before .before .before .before .before .before .before .before .before .before .before .before)))) (Row.get 11 (T11 .locals) (m10 (c
-                    .before .before .before .before .before .before .before .before .before .before .before .before .before .before .before .before .before .before .before .before .before .before .before)
+                    .before .before .before .before .before))) .now) (Row.get 3 (T10 .locals) (m9 (c .before .before .before .before .before .before .before .before .before .before .before .before .before .before
+                    .before .before .before .before .before .before .before .before .before) (After-width·gave (c .before .before .before .before .before .before .before .before .before .before .before .before
+                    .before .before .before .before .before .before .before .before .before .before))) .now) (Row.get 4 (T10 .locals) (m9 (c .before .before .before .before .before .before .before .before .before
+                    .before .before .before .before .before .before .before .before .before .before .before .before .before .before) (After-width·gave (c .before .before .before .before .before .before .before
+                    .before .before .before .before .before .before .before .before .before .before .before .before .before .before .before))) .now) (Row.get 6 (T10 .locals) (m9 (c .before .before .before .before
+                    .before .before .before .before .before .before .before .before .before .before .before .before .before .before .before .before .before .before .before) (After-width·gave (c .before .before
+                    .before .before .before .before .before .before .before .before .before .before .before .before .before .before .before .before .before .before .before .before)))) (Row.get 7 (T10 .locals) (m9
+                    (c .before .before .before .before .before .before .before .before .before .before .before .before .before .before .before .before .before .before .before .before .before .before .before)
                     (After-width·gave (c .before .before .before .before .before .before .before .before .before .before .before .before .before .before .before .before .before .before .before .before .before
-                    .before)))) (Row.get 12 (T11 .locals) (m10 (c .before .before .before .before .before .before .before .before .before .before .before .before .before .before .before .before .before .before
+                    .before)))) (Row.get 8 (T10 .locals) (m9 (c .before .before .before .before .before .before .before .before .before .before .before .before .before .before .before .before .before .before
                     .before .before .before .before .before) (After-width·gave (c .before .before .before .before .before .before .before .before .before .before .before .before .before .before .before .before
-                    .before .before .before .before .before .before)))) (Row.get 13 (T11 .locals) (m10 (c .before .before .before .before .before .before .before .before .before .before .before .before .before
+                    .before .before .before .before .before .before)))) (Row.get 9 (T10 .locals) (m9 (c .before .before .before .before .before .before .before .before .before .before .before .before .before
                     .before .before .before .before .before .before .before .before .before .before) (After-width·gave (c .before .before .before .before .before .before .before .before .before .before .before
-                    .before .before .before .before .before .before .before .before .before .before .before)))) (Row.get 4 (T11 .locals) (m68 record
-                    { before = record { before = c .before; store-set = c .store-set }; rs2 = record { given = g } } g') .now) (Row.get 5 (T11 .locals) (m68 record
-                    { before = record { before = c .before; store-set = c .store-set }; rs2 = record { given = g } } g') .now) (Row.get 11 (T11 .locals) (m68 record
-                    { before = record { before = c .before; store-set = c .store-set }; rs2 = record { given = g } } g')) (Row.get 12 (T11 .locals) (m68 record
-                    { before = record { before = c .before; store-set = c .store-set }; rs2 = record { given = g } } g')) (Row.get 13 (T11 .locals) (m68 record
+                    .before .before .before .before .before .before .before .before .before .before .before)))) (Row.get 10 (T10 .locals) (m9 (c .before .before .before .before .before .before .before .before
+                    .before .before .before .before .before .before .before .before .before .before .before .before .before .before .before) (After-width·gave (c .before .before .before .before .before .before
+                    .before .before .before .before .before .before .before .before .before .before .before .before .before .before .before .before)))) (Row.get 11 (T10 .locals) (m9 (c .before .before .before
+                    .before .before .before .before .before .before .before .before .before .before .before .before .before .before .before .before .before .before .before .before) (After-width·gave (c .before
+                    .before .before .before .before .before .before .before .before .before .before .before .before .before .before .before .before .before .before .before .before .before)))) (Row.get 3 (T10
+                    .locals) (m63 record { before = record { before = c .before; store-set = c .store-set }; rs2 = record { given = g } } g') .now) (Row.get 4 (T10 .locals) (m63 record
+                    { before = record { before = c .before; store-set = c .store-set }; rs2 = record { given = g } } g') .now) (Row.get 10 (T10 .locals) (m63 record
+                    { before = record { before = c .before; store-set = c .store-set }; rs2 = record { given = g } } g')) (Row.get 11 (T10 .locals) (m63 record
                     { before = record { before = c .before; store-set = c .store-set }; rs2 = record { given = g } } g')),
                 loop-less record
-                    { before = record { before = record { before = c .before; store-set = c .store-set }; rs2 = record { given = g } }; at = record { given = g' } },
+                    { before = record { before = record { before = c .before; store-set = c .store-set }; rs2 = record { given = g } }; place = record { given = g' } },
                 (
                   (
-                    Row.get 4 (T11 .locals) (m68 record { before = record { before = c .before; store-set = c .store-set }; rs2 = record { given = g } } g') .now,
-                    Row.get 5 (T11 .locals) (m68 record
+                    Row.get 3 (T10 .locals) (m63 record { before = record { before = c .before; store-set = c .store-set }; rs2 = record { given = g } } g') .now,
+                    Row.get 4 (T10 .locals) (m63 record
                         { before = record { before = c .before; store-set = c .store-set }; rs2 = record { given = g } } g') .now,
-                    Row.get 11 (T11 .locals) (m68 record
+                    Row.get 10 (T10 .locals) (m63 record
                         { before = record { before = c .before; store-set = c .store-set }; rs2 = record { given = g } } g'),
-                    Row.get 12 (T11 .locals) (m68 record
-                        { before = record { before = c .before; store-set = c .store-set }; rs2 = record { given = g } } g'),
-                    Row.get 13 (T11 .locals) (m68 record
+                    Row.get 11 (T10 .locals) (m63 record
                         { before = record { before = c .before; store-set = c .store-set }; rs2 = record { given = g } } g'),
                   ),
-                  Path'.refl {a = m68 record
+                  Path'.refl {a = m63 record
                       { before = record { before = c .before; store-set = c .store-set }; rs2 = record { given = g } } g'},
                   loop-again record
-                      { before = record { before = record { before = c .before; store-set = c .store-set }; rs2 = record { given = g } }; at = record { given = g' } },
-                  Path'.refl {a = μ·0 (Row.get 1 (T11 .locals)
-                      (m10 (c .before .before .before .before .before .before .before .before .before .before .before .before .before .before .before .before .before .before .before .before .before .before .before)
-                      (After-width·gave (c .before .before .before .before .before .before .before .before .before .before .before .before .before .before .before .before .before .before .before .before .before
-                      .before))) .now) (Row.get 3 (T11 .locals) (m10 (c .before .before .before .before .before .before .before .before .before .before .before .before .before .before .before .before .before
-                      .before .before .before .before .before .before) (After-width·gave (c .before .before .before .before .before .before .before .before .before .before .before .before .before .before .before
-                      .before .before .before .before .before .before .before)))) (Row.get 4 (T11 .locals) (m10 (c .before .before .before .before .before .before .before .before .before .before .before .before
-                      .before .before .before .before .before .before .before .before .before .before .before) (After-width·gave (c .before .before .before .before .before .before .before .before .before .before
-                      .before .before .before .before .before .before .before .before .before .before .before .before))) .now) (Row.get 5 (T11 .locals) (m10 (c .before .before .before .before .before .before
-                      .before .before .before .before .before .before .before .before .before .before .before .before .before .before .before .before .before) (After-width·gave (c .before .before .before .before
-                      .before .before .before .before .before .before .before .before .before .before .before .before .before .before .before .before .before .before))) .now) (Row.get 7 (T11 .locals) (m10 (c
-                      .before .before .before .before .before .before .before .before .before .before .before .before .before .before .before .before .before .before .before .before .before .before .before)
-                      (After-width·gave (c .before .before .before .before .before .before .before .before .before .before .before .before .before .before .before .before .before .before .before .before .before
-                      .before)))) (Row.get 8 (T11 .locals) (m10 (c .before .before .before .before .before .before .before .before .before .before .before .before .before .before .before .before .before .before
-                      .before .before .before .before .before) (After-width·gave (c .before .before .before .before .before .before .before .before .before .before .before .before .before .before .before .before
-                      .before .before .before .before .before .before)))) (Row.get 9 (T11 .locals) (m10 (c .before .before .before .before .before .before .before .before .before .before .before .before .before
-                      .before .before .before .before .before .before .before .before .before .before) (After-width·gave (c .before .before .before .before .before .before .before .before .before .before .before
-                      .before .before .before .before .before .before .before .before .before .before .before)))) (Row.get 10 (T11 .locals) (m10 (c .before .before .before .before .before .before .before .before
-                      .before .before .before .before .before .before .before .before .before .before .before .before .before .before .before) (After-width·gave (c .before .before .before .before .before .before
-                      .before .before .before .before .before .before .before .before .before .before .before .before .before .before .before .before)))) (Row.get 11 (T11 .locals) (m10 (c .before .before .before
-                      .before .before .before .before .before .before .before .before .before .before .before .before .before .before .before .before .before .before .before .before) (After-width·gave (c .before
-                      .before .before .before .before .before .before .before .before .before .before .before .before .before .before .before .before .before .before .before .before .before)))) (Row.get 12 (T11
-                      .locals) (m10 (c .before .before .before .before .before .before .before .before .before .before .before .before .before .before .before .before .before .before .before .before .before .before
+                      { before = record { before = record { before = c .before; store-set = c .store-set }; rs2 = record { given = g } }; place = record { given = g' } },
+                  Path'.refl {a = μ·0 (Row.get 1 (T10
+                      .locals) (m9 (c .before .before .before .before .before .before .before .before .before .before .before .before .before .before .before .before .before .before .before .before .before .before
                       .before) (After-width·gave (c .before .before .before .before .before .before .before .before .before .before .before .before .before .before .before .before .before .before .before .before
-                      .before .before)))) (Row.get 13 (T11 .locals) (m10 (c .before .before .before .before .before .before .before .before .before .before .before .before .before .before .before .before .before
+                      .before .before))) .now) (Row.get 3 (T10 .locals) (m9 (c .before .before .before .before .before .before .before .before .before .before .before .before .before .before .before .before .before
                       .before .before .before .before .before .before) (After-width·gave (c .before .before .before .before .before .before .before .before .before .before .before .before .before .before .before
-                      .before .before .before .before .before .before .before)))) (Row.get 4 (T11 .locals) (m68 record
-                      { before = record { before = c .before; store-set = c .store-set }; rs2 = record { given = g } } g') .now) (Row.get 5 (T11 .locals) (m68 record
-                      { before = record { before = c .before; store-set = c .store-set }; rs2 = record { given = g } } g') .now) (Row.get 11 (T11 .locals) (m68 record
-                      { before = record { before = c .before; store-set = c .store-set }; rs2 = record { given = g } } g')) (Row.get 12 (T11 .locals) (m68 record
-                      { before = record { before = c .before; store-set = c .store-set }; rs2 = record { given = g } } g')) (Row.get 13 (T11 .locals) (m68 record
+                      .before .before .before .before .before .before .before))) .now) (Row.get 4 (T10 .locals) (m9 (c .before .before .before .before .before .before .before .before .before .before .before .before
+                      .before .before .before .before .before .before .before .before .before .before .before) (After-width·gave (c .before .before .before .before .before .before .before .before .before .before
+                      .before .before .before .before .before .before .before .before .before .before .before .before))) .now) (Row.get 6 (T10 .locals) (m9 (c .before .before .before .before .before .before .before
+                      .before .before .before .before .before .before .before .before .before .before .before .before .before .before .before .before) (After-width·gave (c .before .before .before .before .before
+                      .before .before .before .before .before .before .before .before .before .before .before .before .before .before .before .before .before)))) (Row.get 7 (T10 .locals) (m9 (c .before .before
+                      .before .before .before .before .before .before .before .before .before .before .before .before .before .before .before .before .before .before .before .before .before) (After-width·gave (c
+                      .before .before .before .before .before .before .before .before .before .before .before .before .before .before .before .before .before .before .before .before .before .before)))) (Row.get 8
+                      (T10 .locals) (m9 (c .before .before .before .before .before .before .before .before .before .before .before .before .before .before .before .before .before .before .before .before .before
+                      .before .before) (After-width·gave (c .before .before .before .before .before .before .before .before .before .before .before .before .before .before .before .before .before .before .before
+                      .before .before .before)))) (Row.get 9 (T10 .locals) (m9 (c .before .before .before .before .before .before .before .before .before .before .before .before .before .before .before .before
+                      .before .before .before .before .before .before .before) (After-width·gave (c .before .before .before .before .before .before .before .before .before .before .before .before .before .before
+                      .before .before .before .before .before .before .before .before)))) (Row.get 10 (T10 .locals) (m9 (c .before .before .before .before .before .before .before .before .before .before .before
+                      .before .before .before .before .before .before .before .before .before .before .before .before) (After-width·gave (c .before .before .before .before .before .before .before .before .before
+                      .before .before .before .before .before .before .before .before .before .before .before .before .before)))) (Row.get 11 (T10 .locals) (m9 (c .before .before .before .before .before .before
+                      .before .before .before .before .before .before .before .before .before .before .before .before .before .before .before .before .before) (After-width·gave (c .before .before .before .before
+                      .before .before .before .before .before .before .before .before .before .before .before .before .before .before .before .before .before .before)))) (Row.get 3 (T10 .locals) (m63 record
+                      { before = record { before = c .before; store-set = c .store-set }; rs2 = record { given = g } } g') .now) (Row.get 4 (T10 .locals) (m63 record
+                      { before = record { before = c .before; store-set = c .store-set }; rs2 = record { given = g } } g') .now) (Row.get 10 (T10 .locals) (m63 record
+                      { before = record { before = c .before; store-set = c .store-set }; rs2 = record { given = g } } g')) (Row.get 11 (T10 .locals) (m63 record
                       { before = record { before = c .before; store-set = c .store-set }; rs2 = record { given = g } } g'))},
                 ),
               ),
@@ -4824,13 +4606,12 @@ module _ (claims· : Claims) where
           ),
         )
 
-        lay10 : (c : Else1) → at37 (c .before .before .before .before .before .before .before .before .before .before .before .before .before .before .before .before .before .before .before .before
+        lay10 : (c : Else1) → at33 (c .before .before .before .before .before .before .before .before .before .before .before .before .before .before .before .before .before .before .before .before
             .before .before .blocks) (W3 (c .before .before .before .before .before .before .before .before .before .before .before .before .before .before .before .before .before .before .before) (c
             .before .before .before .before .before .before .before .before .before .before .before .before .before .before .before .before .before .before .loop .lines) (c .before .before .before .before
             .before .before .before .before .before .before .before .before .before .before .before .before .before .before .loop .rs) (c .before .before .before .before .before .before .before .before
-            .before .before .before .before .before .before .before .before .before .before .loop .at) (c .before .before .before .before .before .before .before .before .before .before .before .before
-            .before .before .before .before .before .before .loop .tight) (c .before .before .before .before .before .before .before .before .before .before .before .before .before .before .before .before
-            .before .before .loop .i)) (m55 (c .before))
+            .before .before .before .before .before .before .before .before .before .before .loop .place) (c .before .before .before .before .before .before .before .before .before .before .before .before
+            .before .before .before .before .before .before .loop .i)) (m51 (c .before))
         lay10 = λ c. (
           tt,
           λ g. λ g'. (
@@ -4841,22 +4622,21 @@ module _ (claims· : Claims) where
                   record {
                     before = record { before = record { before = record { before = c .before; if1 = c .if1 }; new = record { given = g } }; store-set-arg = record { given = g' } };
                     store-set = Called.called
-                        ps·5 r·5 (claims· .11) T74 (
-                          record { pos = 30; ty = Syntax.tyRef Syntax.erased Syntax.mut Element.behind; ref = λ x. x },
-                          (Num.vFld 14 (List._∷_ (Syntax.field 2) List.[]) 16 λ x. Plan.struct .as-values x .1 .1 .0, (record { pos = 18; st = List.[]; d = 0; at = λ x. x }, tt)),
-                        ) (m58 record
+                        ps·5 r·5 (claims· .11) T70 (
+                          record { pos = 29; ty = Syntax.tyRef Syntax.erased Syntax.mut Element.behind; ref = λ x. x },
+                          (Num.vFld 12 (List._∷_ (Syntax.field 2) List.[]) 16 λ x. Plan.struct .as-values x .1 .1 .0, (record { pos = 16; st = List.[]; d = 0; at = λ x. x }, tt)),
+                        ) (m54 record
                         { before = record { before = c .before; if1 = c .if1 }; new = record { given = g } } g') g'';
                   },
             ),
           ),
         )
 
-        lay9 : (c : After-pass) → at46 (c .before .before .before .before .before .before .before .before .before .before .before .before .before .before .before .before .before .before .before
+        lay9 : (c : After-pass) → at42 (c .before .before .before .before .before .before .before .before .before .before .before .before .before .before .before .before .before .before .before
             .blocks) (W3 (c .before .before .before .before .before .before .before .before .before .before .before .before .before .before .before .before) (c .before .before .before .before .before
             .before .before .before .before .before .before .before .before .before .before .loop .lines) (c .before .before .before .before .before .before .before .before .before .before .before .before
-            .before .before .before .loop .rs) (c .before .before .before .before .before .before .before .before .before .before .before .before .before .before .before .loop .at) (c .before .before
-            .before .before .before .before .before .before .before .before .before .before .before .before .before .loop .tight) (c .before .before .before .before .before .before .before .before .before
-            .before .before .before .before .before .before .loop .i)) (m35 (c .before) (After-pass·gave c))
+            .before .before .before .loop .rs) (c .before .before .before .before .before .before .before .before .before .before .before .before .before .before .before .loop .place) (c .before .before
+            .before .before .before .before .before .before .before .before .before .before .before .before .before .loop .i)) (m34 (c .before) (After-pass·gave c))
         lay9 = λ c. (
           Path'.refl,
           λ g. λ g'. (
@@ -4868,35 +4648,32 @@ module _ (claims· : Claims) where
                   (
                     tt,
                     (
-                      tt,
+                      MutSlice.fix-len (Row.get 3 (T65 .locals) (m50 record
+                          { before = record { before = record { before = c .before; pass = c .pass }; lines3 = record { given = g } }; slice-known4 = record { given = g' } }) .ptr) (Row.get 3 (T65 .locals) (m50
+                          record { before = record { before = record { before = c .before; pass = c .pass }; lines3 = record { given = g } }; slice-known4 = record { given = g' } }) .name) (Row.get 3 (T65 .locals)
+                          (m50 record { before = record { before = record { before = c .before; pass = c .pass }; lines3 = record { given = g } }; slice-known4 = record { given = g' } }) .now) (dens (c .before
+                          .before .before .before .before .before .before .before .before .before .before .before .before .before .before .before .before .before .before .κs) (c .before .before .before .before .before
+                          .before .before .before .before .before .before .before .before .before .before .before .before .before .before .args) .1 .1 .0 .now) (same-length record {
+                            before = record { before = record { before = record { before = c .before; pass = c .pass }; lines3 = record { given = g } }; slice-known4 = record { given = g' } };
+                            if1 = record {
+                              taken =
+                                  taken;
+                            };
+                          }),
                       (
-                        MutSlice.fix-len (Row.get 4 (T68 .locals) (m53 record
-                            { before = record { before = record { before = c .before; pass = c .pass }; lines3 = record { given = g } }; slice-known4 = record { given = g' } }) .ptr) (Row.get 4 (T68 .locals) (m53
-                            record { before = record { before = record { before = c .before; pass = c .pass }; lines3 = record { given = g } }; slice-known4 = record { given = g' } }) .name) (Row.get 4 (T68 .locals)
-                            (m53 record { before = record { before = record { before = c .before; pass = c .pass }; lines3 = record { given = g } }; slice-known4 = record { given = g' } }) .now) (dens (c .before
+                        MutSlice.fix-len (Row.get 4 (T65 .locals) (m50 record
+                            { before = record { before = record { before = c .before; pass = c .pass }; lines3 = record { given = g } }; slice-known4 = record { given = g' } }) .ptr) (Row.get 4 (T65 .locals) (m50
+                            record { before = record { before = record { before = c .before; pass = c .pass }; lines3 = record { given = g } }; slice-known4 = record { given = g' } }) .name) (Row.get 4 (T65 .locals)
+                            (m50 record { before = record { before = record { before = c .before; pass = c .pass }; lines3 = record { given = g } }; slice-known4 = record { given = g' } }) .now) (dens (c .before
                             .before .before .before .before .before .before .before .before .before .before .before .before .before .before .before .before .before .before .κs) (c .before .before .before .before .before
-                            .before .before .before .before .before .before .before .before .before .before .before .before .before .before .args) .1 .1 .1 .0 .now) (same-length record {
+                            .before .before .before .before .before .before .before .before .before .before .before .before .before .before .args) .1 .1 .1 .0 .now) (same-length-2 record {
                               before = record { before = record { before = record { before = c .before; pass = c .pass }; lines3 = record { given = g } }; slice-known4 = record { given = g' } };
                               if1 = record {
                                 taken =
                                     taken;
                               };
                             }),
-                        (
-                          MutSlice.fix-len (Row.get 5 (T68 .locals) (m53 record
-                              { before = record { before = record { before = c .before; pass = c .pass }; lines3 = record { given = g } }; slice-known4 = record { given = g' } }) .ptr) (Row.get 5 (T68 .locals) (m53
-                              record { before = record { before = record { before = c .before; pass = c .pass }; lines3 = record { given = g } }; slice-known4 = record { given = g' } }) .name) (Row.get 5 (T68 .locals)
-                              (m53 record { before = record { before = record { before = c .before; pass = c .pass }; lines3 = record { given = g } }; slice-known4 = record { given = g' } }) .now) (dens (c .before
-                              .before .before .before .before .before .before .before .before .before .before .before .before .before .before .before .before .before .before .κs) (c .before .before .before .before .before
-                              .before .before .before .before .before .before .before .before .before .before .before .before .before .before .args) .1 .1 .1 .1 .0 .now) (same-length-2 record {
-                                before = record { before = record { before = record { before = c .before; pass = c .pass }; lines3 = record { given = g } }; slice-known4 = record { given = g' } };
-                                if1 = record {
-                                  taken =
-                                      taken;
-                                };
-                              }),
-                          (tt, (tt, tt)),
-                        ),
+                        (tt, (tt, tt)),
                       ),
                     ),
                   ),
@@ -4920,11 +4697,11 @@ module _ (claims· : Claims) where
           ),
         )
 
-        lay8 : (c : After-load-set) → at53 (c .before .before .before .before .before .before .before .before .before .before .before .before .before .before .before .before .blocks) (W3 (c .before
+        lay8 : (c : After-load-set) → at49 (c .before .before .before .before .before .before .before .before .before .before .before .before .before .before .before .before .blocks) (W3 (c .before
             .before .before .before .before .before .before .before .before .before .before .before .before) (c .before .before .before .before .before .before .before .before .before .before .before
             .before .loop .lines) (c .before .before .before .before .before .before .before .before .before .before .before .before .loop .rs) (c .before .before .before .before .before .before .before
-            .before .before .before .before .before .loop .at) (c .before .before .before .before .before .before .before .before .before .before .before .before .loop .tight) (c .before .before .before
-            .before .before .before .before .before .before .before .before .before .loop .i)) (m31 (c .before) (After-load-set·gave c))
+            .before .before .before .before .before .loop .place) (c .before .before .before .before .before .before .before .before .before .before .before .before .loop .i)) (m30 (c .before)
+            (After-load-set·gave c))
         lay8 = λ c. (
           Path'.refl,
           λ g. λ g'. (
@@ -4934,32 +4711,29 @@ module _ (claims· : Claims) where
               λ g''. lay9 record {
                 before = record { before = record { before = record { before = c .before; load-set = c .load-set }; rs = record { given = g } }; pass-arg = record { given = g' } };
                 pass = Called.called
-                    ps·4 r·4 (claims· .9) T46 (
+                    ps·4 r·4 (claims· .9) T45 (
                       record { pos = 1; ty = Syntax.tyRef (Syntax.named 0) Syntax.imm (Syntax.tyInt Syntax.w8); ref = λ x. x },
                       (
-                        record { pos = 11; st = List.[]; d = 0; at = λ x. x },
+                        record { pos = 10; st = List.[]; d = 0; at = λ x. x },
                         (
-                          Bool.bAt 12 λ x. x,
+                          record { pos = 27; ty = Syntax.tyRef Syntax.erased Syntax.mut (Syntax.tyInt Syntax.w16); ref = λ x. x },
                           (
-                            record { pos = 28; ty = Syntax.tyRef Syntax.erased Syntax.mut (Syntax.tyInt Syntax.w16); ref = λ x. x },
-                            (
-                              record { pos = 15; st = List.[]; d = 0; at = λ x. x },
-                              (Num.vAt 10 λ x. x, (record { pos = 14; st = List.[]; d = 0; at = λ x. x }, (record { pos = 7; st = List.[]; d = 0; at = λ x. x }, (Num.vAt 8 λ x. x, tt)))),
-                            ),
+                            record { pos = 13; st = List.[]; d = 0; at = λ x. x },
+                            (Num.vAt 9 λ x. x, (record { pos = 12; st = List.[]; d = 0; at = λ x. x }, (record { pos = 6; st = List.[]; d = 0; at = λ x. x }, (Num.vAt 7 λ x. x, tt)))),
                           ),
                         ),
                       ),
-                    ) (m34 record
+                    ) (m33 record
                     { before = record { before = c .before; load-set = c .load-set }; rs = record { given = g } } g') g'';
               },
             ),
           ),
         )
 
-        lay7 : (c : After-set-guards2) → at62 (c .before .before .before .before .before .before .before .before .before .before .before .before .blocks) (W3 (c .before .before .before .before .before
+        lay7 : (c : After-set-guards2) → at58 (c .before .before .before .before .before .before .before .before .before .before .before .before .blocks) (W3 (c .before .before .before .before .before
             .before .before .before .before) (c .before .before .before .before .before .before .before .before .loop .lines) (c .before .before .before .before .before .before .before .before .loop .rs)
-            (c .before .before .before .before .before .before .before .before .loop .at) (c .before .before .before .before .before .before .before .before .loop .tight) (c .before .before .before
-            .before .before .before .before .before .loop .i)) (m25 (c .before) (After-set-guards2·gave c))
+            (c .before .before .before .before .before .before .before .before .loop .place) (c .before .before .before .before .before .before .before .before .loop .i)) (m24 (c .before)
+            (After-set-guards2·gave c))
         lay7 = λ c. (
           Path'.refl,
           λ g. λ g'. λ g''. (
@@ -4974,17 +4748,17 @@ module _ (claims· : Claims) where
                   before = record { before = record { before = record { before = c .before; set-guards2 = c .set-guards2 }; lines2 = record { given = g } }; slice-known3 = record { given = g' } };
                   load-set-arg = record { given = g'' };
                 };
-                load-set = Called.called ps·3 r·3 (claims· .7) T39
-                    (record { pos = 26; ty = Syntax.tyRef Syntax.erased Syntax.mut Element.behind; ref = λ x. x }, (Num.vFld 14 (List._∷_ (Syntax.field 2) List.[]) 16 λ x. Plan.struct .as-values x .1 .1 .0, tt))
-                    (m30 record { before = record { before = record { before = c .before; set-guards2 = c .set-guards2 }; lines2 = record { given = g } }; slice-known3 = record { given = g' } } g'') g'3;
+                load-set = Called.called ps·3 r·3 (claims· .7) T38
+                    (record { pos = 25; ty = Syntax.tyRef Syntax.erased Syntax.mut Element.behind; ref = λ x. x }, (Num.vFld 12 (List._∷_ (Syntax.field 2) List.[]) 16 λ x. Plan.struct .as-values x .1 .1 .0, tt))
+                    (m29 record { before = record { before = record { before = c .before; set-guards2 = c .set-guards2 }; lines2 = record { given = g } }; slice-known3 = record { given = g' } } g'') g'3;
               },
             ),
           ),
         )
 
-        lay6 : (c : After-set-guards) → at71 (c .before .before .before .before .before .before .before .before .blocks) (W3 (c .before .before .before .before .before) (c .before .before .before
-            .before .loop .lines) (c .before .before .before .before .loop .rs) (c .before .before .before .before .loop .at) (c .before .before .before .before .loop .tight) (c .before .before .before
-            .before .loop .i)) (m19 (c .before) (After-set-guards·gave c))
+        lay6 : (c : After-set-guards) → at67 (c .before .before .before .before .before .before .before .before .blocks) (W3 (c .before .before .before .before .before) (c .before .before .before
+            .before .loop .lines) (c .before .before .before .before .loop .rs) (c .before .before .before .before .loop .place) (c .before .before .before .before .loop .i)) (m18 (c .before)
+            (After-set-guards·gave c))
         lay6 = λ c. (
           Path'.refl,
           λ g. λ g'. λ g''. (
@@ -4999,101 +4773,95 @@ module _ (claims· : Claims) where
                   before = record { before = record { before = record { before = c .before; set-guards = c .set-guards }; lines = record { given = g } }; slice-known2 = record { given = g' } };
                   set-guards-arg2 = record { given = g'' };
                 };
-                set-guards2 = Called.called ps·2 r·2 (claims· .5) T30 (
-                  record { pos = 24; ty = Syntax.tyRef Syntax.erased Syntax.mut (Syntax.tyInt Syntax.w16); ref = λ x. x },
-                  (Num.vAt 10 λ x. x, (Num.vFld 14 (List._∷_ (Syntax.field 1) List.[]) 8 λ x. Plan.struct .as-values x .1 .0, tt)),
-                ) (m24 record
+                set-guards2 = Called.called ps·2 r·2 (claims· .5) T29 (
+                  record { pos = 23; ty = Syntax.tyRef Syntax.erased Syntax.mut (Syntax.tyInt Syntax.w16); ref = λ x. x },
+                  (Num.vAt 9 λ x. x, (Num.vFld 12 (List._∷_ (Syntax.field 1) List.[]) 8 λ x. Plan.struct .as-values x .1 .0, tt)),
+                ) (m23 record
                     { before = record { before = record { before = c .before; set-guards = c .set-guards }; lines = record { given = g } }; slice-known2 = record { given = g' } } g'') g'3;
               },
             ),
           ),
         )
 
-        lay5 : (c : After-plan-at) → at75 (c .before .before .before .before .before .before .blocks) (W3 (c .before .before .before) (c .before .before .loop .lines) (c .before .before .loop .rs) (c
-            .before .before .loop .at) (c .before .before .loop .tight) (c .before .before .loop .i)) (m16 (c .before) (After-plan-at·gave c))
+        lay5 : (c : After-plan-at) → at71 (c .before .before .before .before .before .before .blocks) (W3 (c .before .before .before) (c .before .before .loop .lines) (c .before .before .loop .rs) (c
+            .before .before .loop .place) (c .before .before .loop .i)) (m15 (c .before) (After-plan-at·gave c))
         lay5 = λ c. λ g. (
           Path'.refl,
           (
             set-guards-requires record { before = record { before = c .before; plan-at = c .plan-at }; set-guards-arg = record { given = g } },
             λ g'. lay6 record {
               before = record { before = record { before = c .before; plan-at = c .plan-at }; set-guards-arg = record { given = g } };
-              set-guards = Called.called ps·2 r·2 (claims· .5) T21 (
-                record { pos = 22; ty = Syntax.tyRef Syntax.erased Syntax.mut (Syntax.tyInt Syntax.w16); ref = λ x. x },
-                (Num.vAt 10 λ x. x, (Num.vFld 14 (List._∷_ (Syntax.field 0) List.[]) 0 λ x. Plan.struct .as-values x .0, tt)),
-              ) (m18 record { before = c .before; plan-at = c .plan-at } g) g';
+              set-guards = Called.called ps·2 r·2 (claims· .5) T20 (
+                record { pos = 21; ty = Syntax.tyRef Syntax.erased Syntax.mut (Syntax.tyInt Syntax.w16); ref = λ x. x },
+                (Num.vAt 9 λ x. x, (Num.vFld 12 (List._∷_ (Syntax.field 0) List.[]) 0 λ x. Plan.struct .as-values x .0, tt)),
+              ) (m17 record { before = c .before; plan-at = c .plan-at } g) g';
             },
           ),
         )
 
-        lay4 : (c : In-loop) → at76 (c .before .before .before .before .before .blocks) (W3 (c .before .before) (c .before .loop .lines) (c .before .loop .rs) (c .before .loop .at) (c .before .loop
-            .tight) (c .before .loop .i)) (m13 (c .before))
+        lay4 : (c : In-loop) → at72 (c .before .before .before .before .before .blocks) (W3 (c .before .before) (c .before .loop .lines) (c .before .loop .rs) (c .before .loop .place) (c .before .loop
+            .i)) (m12 (c .before))
         lay4 = λ c. (
           plan-at-requires record { before = c .before; loop-test = c .loop-test },
           λ g. lay5 record
-              { before = record { before = c .before; loop-test = c .loop-test }; plan-at = Called.called ps·1 r·1 (claims· .3) T14 (Num.vAt 13 λ x. x, (Bool.bAt 9 λ x. x, tt)) (m13 (c .before)) g },
+              { before = record { before = c .before; loop-test = c .loop-test }; plan-at = Called.called ps·1 r·1 (claims· .3) T13 (Num.vAt 11 λ x. x, (Bool.bAt 8 λ x. x, tt)) (m12 (c .before)) g },
         )
 
-        lay3 : (c : After-loop) → at4 (c .before .before .before .before .before .blocks) (W4 (c .before .before) (c .before .loop .lines) (c .before .loop .rs) (c .before .loop .at) (c .before .loop
-            .tight) (c .before .loop .i)) (m12 (c .before .before) (c .before .loop .lines) (c .before .loop .rs) (c .before .loop .at) (c .before .loop .tight) (c .before .loop .i))
+        lay3 : (c : After-loop) → at4 (c .before .before .before .before .before .blocks) (W4 (c .before .before) (c .before .loop .lines) (c .before .loop .rs) (c .before .loop .place) (c .before
+            .loop .i)) (m11 (c .before .before) (c .before .loop .lines) (c .before .loop .rs) (c .before .loop .place) (c .before .loop .i))
         lay3 = λ c. lay12 record { before = c .before; loop-test = c .loop-test }
 
-        lay2 : (c : In-loop) → at1 (c .before .before .before .before .before .blocks) (W4 (c .before .before) (c .before .loop .lines) (c .before .loop .rs) (c .before .loop .at) (c .before .loop
-            .tight) (c .before .loop .i)) (m12 (c .before .before) (c .before .loop .lines) (c .before .loop .rs) (c .before .loop .at) (c .before .loop .tight) (c .before .loop .i))
+        lay2 : (c : In-loop) → at1 (c .before .before .before .before .before .blocks) (W4 (c .before .before) (c .before .loop .lines) (c .before .loop .rs) (c .before .loop .place) (c .before .loop
+            .i)) (m11 (c .before .before) (c .before .loop .lines) (c .before .loop .rs) (c .before .loop .place) (c .before .loop .i))
         lay2 = λ c. lay4 record { before = c .before; loop-test = c .loop-test }
 
-        lay1 : (c : After-width) → at109 (c .before .before .before .blocks) (W0 (c .before .before .before .κs) (c .before .before .before .args) (c .before .before .before .blocks)) (m6 (c .before)
+        lay1 : (c : After-width) → at102 (c .before .before .before .blocks) (W0 (c .before .before .before .κs) (c .before .before .before .args) (c .before .before .before .blocks)) (m6 (c .before)
             (After-width·gave c))
         lay1 = λ c. (
           (
             (
-              Row.get 4 (T11 .locals) (m10 (c .before) (After-width·gave c)) .now,
-              Row.get 5 (T11 .locals) (m10 (c .before) (After-width·gave c)) .now,
-              Row.get 11 (T11 .locals) (m10 (c .before)
+              Row.get 3 (T10 .locals) (m9 (c .before) (After-width·gave c)) .now,
+              Row.get 4 (T10 .locals) (m9 (c .before) (After-width·gave c)) .now,
+              Row.get 10 (T10 .locals) (m9 (c .before)
                   (After-width·gave c)),
-              Row.get 12 (T11 .locals) (m10 (c .before) (After-width·gave c)),
-              Row.get 13 (T11 .locals) (m10 (c .before) (After-width·gave c)),
+              Row.get 11 (T10 .locals) (m9 (c .before) (After-width·gave c)),
             ),
-            Path'.refl {a = m10 (c .before)
-                (After-width·gave c)},
-            loop-holds record { before = c .before; width = c .width },
+            Path'.refl {a = m9 (c .before) (After-width·gave c)},
+            loop-holds record
+                { before = c .before; width = c .width },
           ),
           λ vs inv. (
             tt,
             (
               λ taken. lay2 record {
-                before = record { before = record { before = c .before; width = c .width }; loop = record { lines = vs .0; rs = vs .1; at = vs .2; tight = vs .3; i = vs .4; inv = inv } };
-                loop-test =
-                    record { taken = Tests.ltb-true (Row.get 13 (T11 .locals) (m11 record { before = c .before; width = c .width } (vs .0) (vs .1) (vs .2) (vs .3) (vs .4))) 6 taken };
+                before = record { before = record { before = c .before; width = c .width }; loop = record { lines = vs .0; rs = vs .1; place = vs .2; i = vs .3; inv = inv } };
+                loop-test = record
+                    { taken = Tests.ltb-true (Row.get 11 (T10 .locals) (m10 record { before = c .before; width = c .width } (vs .0) (vs .1) (vs .2) (vs .3))) 6 taken };
               },
               λ left. lay3 record {
-                before = record { before = record { before = c .before; width = c .width }; loop = record { lines = vs .0; rs = vs .1; at = vs .2; tight = vs .3; i = vs .4; inv = inv } };
-                loop-test =
-                    record { left = Tests.ltb-false (Row.get 13 (T11 .locals) (m11 record { before = c .before; width = c .width } (vs .0) (vs .1) (vs .2) (vs .3) (vs .4))) 6 left };
+                before = record { before = record { before = c .before; width = c .width }; loop = record { lines = vs .0; rs = vs .1; place = vs .2; i = vs .3; inv = inv } };
+                loop-test = record
+                    { left = Tests.ltb-false (Row.get 11 (T10 .locals) (m10 record { before = c .before; width = c .width } (vs .0) (vs .1) (vs .2) (vs .3))) 6 left };
               },
             ),
           ),
         )
 
-        pub laid : (c : Start) → at115 (c .blocks) (W0 (c .κs) (c .args) (c .blocks)) (m0 (c .κs) (c .args) (c .blocks))
+        pub laid : (c : Start) → at108 (c .blocks) (W0 (c .κs) (c .args) (c .blocks)) (m0 (c .κs) (c .args) (c .blocks))
         laid = λ c. λ g. λ g'. (
           width-requires record { before = record { before = c; shared-slice-known = record { given = g } }; slice-known = record { given = g' } },
           λ g''. lay1 record {
             before = record { before = record { before = c; shared-slice-known = record { given = g } }; slice-known = record { given = g' } };
             width = Called.called ps·0 r·0 (claims· .1) T6
-                (Bool.bAt 9 λ x. x, tt) (m5 record { before = c; shared-slice-known = record { given = g } } g') g'';
+                (Bool.bAt 8 λ x. x, tt) (m5 record { before = c; shared-slice-known = record { given = g } } g') g'';
           },
         )
 
         module _ (κs : Lifetimes.Lfts 3) (qs : Lifetimes.Shares 3) where
           pub asked : (a : Kinds.Dens κs ps) → (good : Kinds.GoodsP κs ps a) → (pre : Pre· κs a) → (bs : List.List Nat.ℕ) → Φ bs (Any.wantQ 3 ps r xs m κs qs a (Post· κs a)) (Function.init 3 ps r xs m
               κs qs a)
-          asked = λ a good pre bs. laid record {
-            κs = κs;
-            args = record { block = a .0; from = a .1 .0; tight-before = a .1 .1 .0; lines = a .1 .1 .1 .0; rs = a .1 .1 .1 .1 .0; form = a .1 .1 .1 .1 .1 .0; qs = a .1 .1 .1 .1 .1 .1 .0 };
-            blocks = bs;
-            good = good;
-            pre = pre;
-          }
+          asked = λ a good pre bs. laid record
+              { κs = κs; args = record { block = a .0; from = a .1 .0; lines = a .1 .1 .0; rs = a .1 .1 .1 .0; form = a .1 .1 .1 .1 .0; qs = a .1 .1 .1 .1 .1 .0 }; blocks = bs; good = good; pre = pre }
 
         module _ {M : Type 1} (𝓤 : URA.URA M) (H : Wp.Heap 𝓤) (A : Atoms.Atoms 𝓤) (W : Kit.Given 𝓤 H A) (𝓣 : Wp.Tables 𝓤 H) (known0 : Plain.Known 𝓤 H A W 𝓣 0 ps·0 r·0 (claims· .0) (claims· .1)
             "map::width") (known1 : Plain.Known 𝓤 H A W 𝓣 0 ps·1 r·1 (claims· .2) (claims· .3) "steps::plan_at") (known2 : Plain.Known 𝓤 H A W 𝓣 1 ps·2 r·2 (claims· .4) (claims· .5) "lines::set_guards")

@@ -558,6 +558,24 @@ After-rs2 = λ Inv μ. Lts.After-rs2 (
   Reads.Learnt,
 ) Reads'.Pre Reads'.Post Inv μ
 
+abbrev pub After-place : (Inv : InvT-loop) → (μ : MeasureT-loop) → Type 0
+After-place = λ Inv μ. Lts.After-place (
+  Reads'5.Asked,
+  Reads'5.Learnt,
+  Reads'7.Asked,
+  Reads'7.Learnt,
+  Reads'4.Asked,
+  Reads'4.Learnt,
+  Reads''.Asked,
+  Reads''.Learnt,
+  Reads'6.Asked,
+  Reads'6.Learnt,
+  Reads'3.Asked,
+  Reads'3.Learnt,
+  Reads.Asked,
+  Reads.Learnt,
+) Reads'.Pre Reads'.Post Inv μ
+
 abbrev pub After-at : (Inv : InvT-loop) → (μ : MeasureT-loop) → Type 0
 After-at = λ Inv μ. Lts.After-at (
   Reads'5.Asked,

@@ -66,19 +66,23 @@ y0 = Syntax.tyStruct (List._∷_ 109 (List._∷_ 97 (List._∷_ 112 (List._∷_ 
     Syntax.tnil))))))
 
 abbrev pub y1 : Syntax.Ty
-y1 = Syntax.tyStruct (List._∷_ 38 (List._∷_ 91 (List._∷_ 93 List.[]))) (Syntax.tcons (Syntax.tyRef Syntax.erased Syntax.mut (Syntax.tyInt Syntax.w16)) (Syntax.tcons (Syntax.tyInt Syntax.w64)
-    Syntax.tnil))
+y1 = Syntax.tyStruct (List._∷_ 116 (List._∷_ 111 (List._∷_ 116 (List._∷_ 97 (List._∷_ 108 (List._∷_ 115 (List._∷_ 58 (List._∷_ 58 (List._∷_ 84 (List._∷_ 111 (List._∷_ 116 (List._∷_ 97 (List._∷_ 108
+    (List._∷_ 115 List.[])))))))))))))) (Syntax.tcons (Syntax.tyInt Syntax.w64) (Syntax.tcons (Syntax.tyInt Syntax.w64) Syntax.tnil))
 
 abbrev pub y2 : Syntax.Ty
-y2 = Syntax.tyStruct (List._∷_ 38 (List._∷_ 91 (List._∷_ 93 List.[]))) (Syntax.tcons (Syntax.tyRef Syntax.erased Syntax.mut Element.behind) (Syntax.tcons (Syntax.tyInt Syntax.w64) Syntax.tnil))
+y2 = Syntax.tyStruct (List._∷_ 38 (List._∷_ 91 (List._∷_ 93 List.[]))) (Syntax.tcons (Syntax.tyRef Syntax.erased Syntax.mut (Syntax.tyInt Syntax.w16)) (Syntax.tcons (Syntax.tyInt Syntax.w64)
+    Syntax.tnil))
 
 abbrev pub y3 : Syntax.Ty
-y3 = Syntax.tyStruct (List._∷_ 98 (List._∷_ 105 (List._∷_ 116 (List._∷_ 115 (List._∷_ 58 (List._∷_ 58 (List._∷_ 66 (List._∷_ 105 (List._∷_ 116 (List._∷_ 80 (List._∷_ 111 (List._∷_ 115 (List._∷_ 105
-    (List._∷_ 116 (List._∷_ 105 (List._∷_ 111 (List._∷_ 110 List.[]))))))))))))))))) (Syntax.tcons (Syntax.tyInt Syntax.w64) Syntax.tnil)
+y3 = Syntax.tyStruct (List._∷_ 38 (List._∷_ 91 (List._∷_ 93 List.[]))) (Syntax.tcons (Syntax.tyRef Syntax.erased Syntax.mut Element.behind) (Syntax.tcons (Syntax.tyInt Syntax.w64) Syntax.tnil))
 
 abbrev pub y4 : Syntax.Ty
 y4 = Syntax.tyStruct (List._∷_ 98 (List._∷_ 108 (List._∷_ 111 (List._∷_ 99 (List._∷_ 107 (List._∷_ 58 (List._∷_ 58 (List._∷_ 70 (List._∷_ 111 (List._∷_ 114 (List._∷_ 109 List.[])))))))))))
     (Syntax.tcons (Syntax.tyInt Syntax.w32) (Syntax.tcons Syntax.tyBool Syntax.tnil))
+
+abbrev pub y5 : Syntax.Ty
+y5 = Syntax.tyStruct (List._∷_ 116 (List._∷_ 111 (List._∷_ 116 (List._∷_ 97 (List._∷_ 108 (List._∷_ 115 (List._∷_ 58 (List._∷_ 58 (List._∷_ 84 (List._∷_ 105 (List._∷_ 103 (List._∷_ 104 (List._∷_ 116
+    (List._∷_ 76 (List._∷_ 105 (List._∷_ 110 (List._∷_ 101 (List._∷_ 115 List.[])))))))))))))))))) (Syntax.tcons (Syntax.tyInt Syntax.w64) (Syntax.tcons y1 Syntax.tnil))
 
 abbrev pub ps : List.List (Kinds.PK 6)
 ps = List._∷_ (ShrSlice.pShrS (Referent.rtF (Referent.fInt Syntax.w8)) 0 tt) (List._∷_ (ShrSlice.pShrS (Referent.rtF (Referent.fInt Syntax.w8)) 1 tt) (List._∷_ (MutSlice.pMutS (Referent.rtF
@@ -141,10 +145,10 @@ r = Value.rVal record {
 
 abbrev pub xs : List.List Syntax.Ty
 xs = List._∷_ (Syntax.tyEnum (List._∷_ 98 (List._∷_ 108 (List._∷_ 111 (List._∷_ 99 (List._∷_ 107 (List._∷_ 58 (List._∷_ 58 (List._∷_ 87 (List._∷_ 97 (List._∷_ 108 (List._∷_ 107 (List._∷_ 101 (List._∷_
-    100 List.[]))))))))))))) (Syntax.ttcons (Syntax.tcons y3 (Syntax.tcons (Syntax.tyInt Syntax.w64) Syntax.tnil)) (Syntax.ttcons (Syntax.tcons (Syntax.tyInt Syntax.w64) Syntax.tnil) Syntax.ttnil)))
-    (List._∷_ (Syntax.tyRef Syntax.erased Syntax.mut (Syntax.tyInt Syntax.w16)) (List._∷_ y1 (List._∷_ (Syntax.tyRef Syntax.erased Syntax.mut Element.behind) (List._∷_ y2 (List._∷_ (Syntax.tyRef
-    Syntax.erased Syntax.mut (Syntax.tyInt Syntax.w16)) (List._∷_ y1 (List._∷_ Syntax.tyUnit (List._∷_ (Syntax.tyRef Syntax.erased Syntax.mut (Syntax.tyInt Syntax.w16)) (List._∷_ y1 (List._∷_
-    (Syntax.tyRef Syntax.erased Syntax.mut Element.behind) (List._∷_ y2 List.[])))))))))))
+    100 List.[]))))))))))))) (Syntax.ttcons (Syntax.tcons y1 (Syntax.tcons y5 Syntax.tnil)) (Syntax.ttcons (Syntax.tcons (Syntax.tyInt Syntax.w64) (Syntax.tcons y1 Syntax.tnil)) Syntax.ttnil))) (List._∷_
+    (Syntax.tyRef Syntax.erased Syntax.mut (Syntax.tyInt Syntax.w16)) (List._∷_ y2 (List._∷_ (Syntax.tyRef Syntax.erased Syntax.mut Element.behind) (List._∷_ y3 (List._∷_ (Syntax.tyRef Syntax.erased
+    Syntax.mut (Syntax.tyInt Syntax.w16)) (List._∷_ y2 (List._∷_ Syntax.tyUnit (List._∷_ (Syntax.tyRef Syntax.erased Syntax.mut (Syntax.tyInt Syntax.w16)) (List._∷_ y2 (List._∷_ (Syntax.tyRef
+    Syntax.erased Syntax.mut Element.behind) (List._∷_ y3 List.[])))))))))))
 
 abbrev pub m : Nat.ℕ
 m = 5
@@ -326,8 +330,7 @@ abbrev pub e0 : Row.Entry
 e0 = (
   0,
   Rows'.any-gone (Syntax.tyEnum (List._∷_ 98 (List._∷_ 108 (List._∷_ 111 (List._∷_ 99 (List._∷_ 107 (List._∷_ 58 (List._∷_ 58 (List._∷_ 87 (List._∷_ 97 (List._∷_ 108 (List._∷_ 107 (List._∷_ 101
-      (List._∷_ 100 List.[]))))))))))))) (Syntax.ttcons (Syntax.tcons y3 (Syntax.tcons (Syntax.tyInt Syntax.w64) Syntax.tnil)) (Syntax.ttcons (Syntax.tcons (Syntax.tyInt Syntax.w64) Syntax.tnil)
-      Syntax.ttnil))),
+      (List._∷_ 100 List.[]))))))))))))) (Syntax.ttcons (Syntax.tcons y1 (Syntax.tcons y5 Syntax.tnil)) (Syntax.ttcons (Syntax.tcons (Syntax.tyInt Syntax.w64) (Syntax.tcons y1 Syntax.tnil)) Syntax.ttnil))),
 )
 
 abbrev pub e1 : Row.Entry
@@ -343,8 +346,7 @@ abbrev pub e4 : Row.Entry
 e4 = (
   11,
   Rows'.any-gone (Syntax.tyEnum (List._∷_ 98 (List._∷_ 108 (List._∷_ 111 (List._∷_ 99 (List._∷_ 107 (List._∷_ 58 (List._∷_ 58 (List._∷_ 87 (List._∷_ 97 (List._∷_ 108 (List._∷_ 107 (List._∷_ 101
-      (List._∷_ 100 List.[]))))))))))))) (Syntax.ttcons (Syntax.tcons y3 (Syntax.tcons (Syntax.tyInt Syntax.w64) Syntax.tnil)) (Syntax.ttcons (Syntax.tcons (Syntax.tyInt Syntax.w64) Syntax.tnil)
-      Syntax.ttnil))),
+      (List._∷_ 100 List.[]))))))))))))) (Syntax.ttcons (Syntax.tcons y1 (Syntax.tcons y5 Syntax.tnil)) (Syntax.ttcons (Syntax.tcons (Syntax.tyInt Syntax.w64) (Syntax.tcons y1 Syntax.tnil)) Syntax.ttnil))),
 )
 
 abbrev pub e5 : Row.Entry
@@ -363,7 +365,7 @@ abbrev pub e9 : Row.Entry
 e9 = (13, Mut.mslice (Referent.rtF (Referent.fInt Syntax.w16)) (Syntax.tyRef Syntax.erased Syntax.mut (Syntax.tyInt Syntax.w16)) 6)
 
 abbrev pub e10 : Row.Entry
-e10 = (13, Rows'.any-gone y1)
+e10 = (13, Rows'.any-gone y2)
 
 abbrev pub e11 : Row.Entry
 e11 = (14, Relend.msptr (Element.type) (Syntax.tyRef Syntax.erased Syntax.mut Element.behind) 7)
@@ -378,13 +380,13 @@ abbrev pub e14 : Row.Entry
 e14 = (15, Mut.mslice (Element.type) (Syntax.tyRef Syntax.erased Syntax.mut Element.behind) 7)
 
 abbrev pub e15 : Row.Entry
-e15 = (15, Rows'.any-gone y2)
+e15 = (15, Rows'.any-gone y3)
 
 abbrev pub e16 : Row.Entry
 e16 = (16, Rows'.any-gone (Syntax.tyRef Syntax.erased Syntax.mut (Syntax.tyInt Syntax.w16)))
 
 abbrev pub e17 : Row.Entry
-e17 = (17, Rows'.any-gone y1)
+e17 = (17, Rows'.any-gone y2)
 
 abbrev pub e18 : Row.Entry
 e18 = (18, Rows'.any-gone Syntax.tyUnit)
@@ -402,7 +404,7 @@ abbrev pub e22 : Row.Entry
 e22 = (20, Mut.msleft (Referent.rtF (Referent.fInt Syntax.w16)) (Syntax.tyRef Syntax.erased Syntax.mut (Syntax.tyInt Syntax.w16)))
 
 abbrev pub e23 : Row.Entry
-e23 = (20, Rows'.any-gone y1)
+e23 = (20, Rows'.any-gone y2)
 
 abbrev pub e24 : Row.Entry
 e24 = (21, Rows'.any-gone (Syntax.tyRef Syntax.erased Syntax.mut Element.behind))
@@ -411,7 +413,7 @@ abbrev pub e25 : Row.Entry
 e25 = (22, Mut.msleft (Element.type) (Syntax.tyRef Syntax.erased Syntax.mut Element.behind))
 
 abbrev pub e26 : Row.Entry
-e26 = (22, Rows'.any-gone y2)
+e26 = (22, Rows'.any-gone y3)
 
 abbrev pub e27 : Row.Entry
 e27 = (3, Mut.mslice (Referent.rtF (Referent.fInt Syntax.w16)) (Syntax.tyRef (Syntax.named 2) Syntax.mut (Syntax.tyInt Syntax.w16)) 2)
@@ -736,8 +738,8 @@ module _ (claims· : Claims) where
     ),
   ) 11 (List._∷_ 0 (List._∷_ 1 (List._∷_ 6 (List._∷_ 7
       (List._∷_ 8 (List._∷_ 5 List.[])))))) (Syntax.tyEnum (List._∷_ 98 (List._∷_ 108 (List._∷_ 111 (List._∷_ 99 (List._∷_ 107 (List._∷_ 58 (List._∷_ 58 (List._∷_ 87 (List._∷_ 97 (List._∷_ 108 (List._∷_
-      107 (List._∷_ 101 (List._∷_ 100 List.[]))))))))))))) (Syntax.ttcons (Syntax.tcons y3 (Syntax.tcons (Syntax.tyInt Syntax.w64) Syntax.tnil)) (Syntax.ttcons (Syntax.tcons (Syntax.tyInt Syntax.w64)
-      Syntax.tnil) Syntax.ttnil)))
+      107 (List._∷_ 101 (List._∷_ 100 List.[]))))))))))))) (Syntax.ttcons (Syntax.tcons y1 (Syntax.tcons y5 Syntax.tnil)) (Syntax.ttcons (Syntax.tcons (Syntax.tyInt Syntax.w64) (Syntax.tcons y1
+      Syntax.tnil)) Syntax.ttnil)))
 
   abbrev s14 : Typed.Mo T15 → Typed.Mo T16
   s14 = Scalar.n-room T15 6 y4
@@ -808,8 +810,8 @@ module _ (claims· : Claims) where
 
   abbrev s46 : Typed.Mo T47 → Typed.Mo T48
   s46 = Scalar.n-room T47 11 (Syntax.tyEnum (List._∷_ 98 (List._∷_ 108 (List._∷_ 111 (List._∷_ 99 (List._∷_ 107 (List._∷_ 58 (List._∷_ 58 (List._∷_ 87 (List._∷_ 97 (List._∷_ 108 (List._∷_ 107
-      (List._∷_ 101 (List._∷_ 100 List.[]))))))))))))) (Syntax.ttcons (Syntax.tcons y3 (Syntax.tcons (Syntax.tyInt Syntax.w64) Syntax.tnil)) (Syntax.ttcons (Syntax.tcons (Syntax.tyInt Syntax.w64)
-      Syntax.tnil) Syntax.ttnil)))
+      (List._∷_ 101 (List._∷_ 100 List.[]))))))))))))) (Syntax.ttcons (Syntax.tcons y1 (Syntax.tcons y5 Syntax.tnil)) (Syntax.ttcons (Syntax.tcons (Syntax.tyInt Syntax.w64) (Syntax.tcons y1 Syntax.tnil))
+      Syntax.ttnil)))
 
   abbrev s47 : Typed.Mo T48 → Typed.Mo T49
   s47 = Scalar.n-room T48 10 (Syntax.tyInt Syntax.w64)
@@ -1465,25 +1467,24 @@ module _ (claims· : Claims) where
 
           d2 : Typed.Typed 𝓤 H A 𝓣 E G47 b14 Δ0 at2
           d2 = Typed.g-pre 𝓤 H A W 𝓣 E G47 G48 b14 Δ0 (Typed.pass T47 T48 s46) at1 (Scalar.g-room 𝓤 H A W E G47 11 (Syntax.tyEnum (List._∷_ 98 (List._∷_ 108 (List._∷_ 111 (List._∷_ 99 (List._∷_ 107
-              (List._∷_ 58 (List._∷_ 58 (List._∷_ 87 (List._∷_ 97 (List._∷_ 108 (List._∷_ 107 (List._∷_ 101 (List._∷_ 100 List.[]))))))))))))) (Syntax.ttcons (Syntax.tcons y3 (Syntax.tcons (Syntax.tyInt
-              Syntax.w64) Syntax.tnil)) (Syntax.ttcons (Syntax.tcons (Syntax.tyInt Syntax.w64) Syntax.tnil) Syntax.ttnil))) (Local.room-whole 𝓤 H A W (Declared.row Walked.the-type) (Syntax.tyEnum
+              (List._∷_ 58 (List._∷_ 58 (List._∷_ 87 (List._∷_ 97 (List._∷_ 108 (List._∷_ 107 (List._∷_ 101 (List._∷_ 100 List.[]))))))))))))) (Syntax.ttcons (Syntax.tcons y1 (Syntax.tcons y5
+              Syntax.tnil)) (Syntax.ttcons (Syntax.tcons (Syntax.tyInt Syntax.w64) (Syntax.tcons y1 Syntax.tnil)) Syntax.ttnil))) (Local.room-whole 𝓤 H A W (Declared.row Walked.the-type) (Syntax.tyEnum
               (List._∷_ 98 (List._∷_ 108 (List._∷_ 111 (List._∷_ 99 (List._∷_ 107 (List._∷_ 58 (List._∷_ 58 (List._∷_ 87 (List._∷_ 97 (List._∷_ 108 (List._∷_ 107 (List._∷_ 101 (List._∷_ 100
-              List.[]))))))))))))) (Syntax.ttcons (Syntax.tcons y3 (Syntax.tcons (Syntax.tyInt Syntax.w64) Syntax.tnil)) (Syntax.ttcons (Syntax.tcons (Syntax.tyInt Syntax.w64) Syntax.tnil) Syntax.ttnil)))
+              List.[]))))))))))))) (Syntax.ttcons (Syntax.tcons y1 (Syntax.tcons y5 Syntax.tnil)) (Syntax.ttcons (Syntax.tcons (Syntax.tyInt Syntax.w64) (Syntax.tcons y1 Syntax.tnil)) Syntax.ttnil)))
               Path'.refl)) d1
 
           d3 : Typed.Typed 𝓤 H A 𝓣 E G46 b15 Δ0 at3
           d3 = Typed.s-seq 𝓤 H A W 𝓣 E G46 G47 b13 b14 Δ0 (Typed.pass T45 T47 s45) at2 (LocalCopy.t-val-copy 𝓤 H A W E 𝓣 (λ ρ. Unit) G46 11 0 (Declared.row Walked.the-type) (Syntax.tyEnum (List._∷_ 98
               (List._∷_ 108 (List._∷_ 111 (List._∷_ 99 (List._∷_ 107 (List._∷_ 58 (List._∷_ 58 (List._∷_ 87 (List._∷_ 97 (List._∷_ 108 (List._∷_ 107 (List._∷_ 101 (List._∷_ 100 List.[])))))))))))))
-              (Syntax.ttcons (Syntax.tcons y3 (Syntax.tcons (Syntax.tyInt Syntax.w64) Syntax.tnil)) (Syntax.ttcons (Syntax.tcons (Syntax.tyInt Syntax.w64) Syntax.tnil) Syntax.ttnil))) (Syntax.tyEnum
-              (List._∷_ 98 (List._∷_ 108 (List._∷_ 111 (List._∷_ 99 (List._∷_ 107 (List._∷_ 58 (List._∷_ 58 (List._∷_ 87 (List._∷_ 97 (List._∷_ 108 (List._∷_ 107 (List._∷_ 101 (List._∷_ 100
-              List.[]))))))))))))) (Syntax.ttcons (Syntax.tcons y3 (Syntax.tcons (Syntax.tyInt Syntax.w64) Syntax.tnil)) (Syntax.ttcons (Syntax.tcons (Syntax.tyInt Syntax.w64) Syntax.tnil) Syntax.ttnil)))
-              (Rows'.whole (Declared.row Walked.the-type)) (Rows'.whole (Declared.row Walked.the-type)) (λ x. x) (λ x. x) (λ x. x) Path'.refl (Own.told-none 𝓤 H A (G46 .slots)) (Yields.yields-copy 𝓤 H A W
-              (λ ρ. Unit) (Declared.row Walked.the-type) Path'.refl (Copies.cEnum Walked.the-type Laws'.the-laws Laws'.the-copy .copy 𝓤 H A W) (Rows'.whole (Declared.row Walked.the-type)) (λ x. x) (λ x.
-              x) (λ ρ told. Local.mem-whole 𝓤 H A W (Declared.row Walked.the-type) ρ) λ ρ told. Local.whole-mem 𝓤 H A W (Declared.row Walked.the-type) ρ) (Reads.room-gone 𝓤 H A (Syntax.tyEnum (List._∷_ 98
-              (List._∷_ 108 (List._∷_ 111 (List._∷_ 99 (List._∷_ 107 (List._∷_ 58 (List._∷_ 58 (List._∷_ 87 (List._∷_ 97 (List._∷_ 108 (List._∷_ 107 (List._∷_ 101 (List._∷_ 100 List.[])))))))))))))
-              (Syntax.ttcons (Syntax.tcons y3 (Syntax.tcons (Syntax.tyInt Syntax.w64) Syntax.tnil)) (Syntax.ttcons (Syntax.tcons (Syntax.tyInt Syntax.w64) Syntax.tnil) Syntax.ttnil)))) (Yields.makes-mem 𝓤
-              H A W (λ ρ. Unit) (Declared.row Walked.the-type) Path'.refl (Rows'.whole (Declared.row Walked.the-type)) (λ x. x) λ ρ told. Local.whole-mem 𝓤 H A W (Declared.row Walked.the-type) ρ)
-              Path'.refl Path'.refl) d2
+              (Syntax.ttcons (Syntax.tcons y1 (Syntax.tcons y5 Syntax.tnil)) (Syntax.ttcons (Syntax.tcons (Syntax.tyInt Syntax.w64) (Syntax.tcons y1 Syntax.tnil)) Syntax.ttnil))) (Syntax.tyEnum (List._∷_
+              98 (List._∷_ 108 (List._∷_ 111 (List._∷_ 99 (List._∷_ 107 (List._∷_ 58 (List._∷_ 58 (List._∷_ 87 (List._∷_ 97 (List._∷_ 108 (List._∷_ 107 (List._∷_ 101 (List._∷_ 100 List.[])))))))))))))
+              (Syntax.ttcons (Syntax.tcons y1 (Syntax.tcons y5 Syntax.tnil)) (Syntax.ttcons (Syntax.tcons (Syntax.tyInt Syntax.w64) (Syntax.tcons y1 Syntax.tnil)) Syntax.ttnil))) (Rows'.whole
+              (Declared.row Walked.the-type)) (Rows'.whole (Declared.row Walked.the-type)) (λ x. x) (λ x. x) (λ x. x) Path'.refl (Own.told-none 𝓤 H A (G46 .slots)) (Yields.yields-copy 𝓤 H A W (λ ρ. Unit)
+              (Declared.row Walked.the-type) Path'.refl (Copies.cEnum Walked.the-type Laws'.the-laws Laws'.the-copy .copy 𝓤 H A W) (Rows'.whole (Declared.row Walked.the-type)) (λ x. x) (λ x. x) (λ ρ told.
+              Local.mem-whole 𝓤 H A W (Declared.row Walked.the-type) ρ) λ ρ told. Local.whole-mem 𝓤 H A W (Declared.row Walked.the-type) ρ) (Reads.room-gone 𝓤 H A (Syntax.tyEnum (List._∷_ 98 (List._∷_ 108
+              (List._∷_ 111 (List._∷_ 99 (List._∷_ 107 (List._∷_ 58 (List._∷_ 58 (List._∷_ 87 (List._∷_ 97 (List._∷_ 108 (List._∷_ 107 (List._∷_ 101 (List._∷_ 100 List.[]))))))))))))) (Syntax.ttcons
+              (Syntax.tcons y1 (Syntax.tcons y5 Syntax.tnil)) (Syntax.ttcons (Syntax.tcons (Syntax.tyInt Syntax.w64) (Syntax.tcons y1 Syntax.tnil)) Syntax.ttnil)))) (Yields.makes-mem 𝓤 H A W (λ ρ. Unit)
+              (Declared.row Walked.the-type) Path'.refl (Rows'.whole (Declared.row Walked.the-type)) (λ x. x) λ ρ told. Local.whole-mem 𝓤 H A W (Declared.row Walked.the-type) ρ) Path'.refl Path'.refl) d2
 
           d4 : Typed.Typed 𝓤 H A 𝓣 E G45 b15 Δ0 at4
           d4 = Typed.g-pre 𝓤 H A W 𝓣 E G45 G46 b15 Δ0 (λ Ψ. Ψ) at3 (Lifetime.g-forget 𝓤 H A W E G45 10 Row.dead Path'.refl) d3
@@ -1513,7 +1514,7 @@ module _ (claims· : Claims) where
           d9 : Typed.Typed 𝓤 H A 𝓣 E G40 b17 Δ0 at9
           d9 = Typed.s-seq 𝓤 H A W 𝓣 E G40 G41 b11 b16 Δ0 (Typed.ask s39) at8 (Relend.t-sl-aggregate 𝓤 H A W E (Element.type) 𝓣 (Relend.asMut (Element.type)) G40 21 22 10 (Syntax.tyRef Syntax.erased
               Syntax.mut Element.behind) (Syntax.tyRef Syntax.erased Syntax.mut Element.behind) (λ x. x) (Scalar.oFld 4 (List._∷_ (Syntax.field 1) List.[]) (Syntax.tyInt Syntax.w64) 8 λ v. Shared.lenV (v
-              .0)) (Reads.as-is 𝓤 H A (Relend.msptr (Element.type) (Syntax.tyRef Syntax.erased Syntax.mut Element.behind) 10)) (Reads.room-gone 𝓤 H A y2)
+              .0)) (Reads.as-is 𝓤 H A (Relend.msptr (Element.type) (Syntax.tyRef Syntax.erased Syntax.mut Element.behind) 10)) (Reads.room-gone 𝓤 H A y3)
               (Relend.reads-owed-len 𝓤 H A W (Element.type) (Syntax.tyRef (Syntax.named 3) Syntax.mut Element.behind) 3 10 (Row.lease (κs .1 .1 .1 .0) (qs .1 .1 .1 .0)) 8 Path'.refl, Path'.refl)
               Path'.refl Path'.refl λ b o k. tt) d8
 
@@ -1560,7 +1561,7 @@ module _ (claims· : Claims) where
           d18 = Typed.s-seq 𝓤 H A W 𝓣 E G31 G32 b8 b19 Δ0 (Typed.ask s30) at17 (Relend.t-sl-aggregate 𝓤 H A W E (Referent.rtF (Referent.fInt Syntax.w16)) 𝓣 (Relend.asMut (Referent.rtF (Referent.fInt
               Syntax.w16))) G31 19 20 9 (Syntax.tyRef Syntax.erased Syntax.mut (Syntax.tyInt Syntax.w16)) (Syntax.tyRef Syntax.erased Syntax.mut (Syntax.tyInt Syntax.w16)) (λ x. x) (Scalar.oFld 3
               (List._∷_ (Syntax.field 1) List.[]) (Syntax.tyInt Syntax.w64) 8 λ v. Shared.lenV (v .0)) (Reads.as-is 𝓤 H A (Relend.msptr (Referent.rtF (Referent.fInt Syntax.w16)) (Syntax.tyRef
-              Syntax.erased Syntax.mut (Syntax.tyInt Syntax.w16)) 9)) (Reads.room-gone 𝓤 H A y1) (
+              Syntax.erased Syntax.mut (Syntax.tyInt Syntax.w16)) 9)) (Reads.room-gone 𝓤 H A y2) (
                 Relend.reads-owed-len 𝓤 H A W (Referent.rtF (Referent.fInt Syntax.w16)) (Syntax.tyRef (Syntax.named 2) Syntax.mut (Syntax.tyInt Syntax.w16)) 2 9 (Row.lease (κs .1 .1 .0) (qs .1 .1 .0)) 8
                     Path'.refl,
                 Path'.refl,
@@ -1709,14 +1710,14 @@ module _ (claims· : Claims) where
                   ),
                 ),
               ) (Reads.room-gone 𝓤 H A (Syntax.tyEnum (List._∷_ 98 (List._∷_ 108 (List._∷_ 111 (List._∷_ 99 (List._∷_ 107 (List._∷_
-              58 (List._∷_ 58 (List._∷_ 87 (List._∷_ 97 (List._∷_ 108 (List._∷_ 107 (List._∷_ 101 (List._∷_ 100 List.[]))))))))))))) (Syntax.ttcons (Syntax.tcons y3 (Syntax.tcons (Syntax.tyInt Syntax.w64)
-              Syntax.tnil)) (Syntax.ttcons (Syntax.tcons (Syntax.tyInt Syntax.w64) Syntax.tnil) Syntax.ttnil)))) (tt, (tt, (tt, (tt, (tt, (tt, tt)))))) Path'.refl) d34
+              58 (List._∷_ 58 (List._∷_ 87 (List._∷_ 97 (List._∷_ 108 (List._∷_ 107 (List._∷_ 101 (List._∷_ 100 List.[]))))))))))))) (Syntax.ttcons (Syntax.tcons y1 (Syntax.tcons y5 Syntax.tnil))
+              (Syntax.ttcons (Syntax.tcons (Syntax.tyInt Syntax.w64) (Syntax.tcons y1 Syntax.tnil)) Syntax.ttnil)))) (tt, (tt, (tt, (tt, (tt, (tt, tt)))))) Path'.refl) d34
 
           d36 : Typed.Typed 𝓤 H A 𝓣 E G13 b23 Δ0 at36
           d36 = Typed.s-seq 𝓤 H A W 𝓣 E G13 G14 b5 b22 Δ0 (Typed.ask s12) at35 (Relend.t-sl-aggregate 𝓤 H A W E (Referent.rtF (Referent.fInt Syntax.w16)) 𝓣 (Relend.asMut (Referent.rtF (Referent.fInt
               Syntax.w16))) G13 16 17 8 (Syntax.tyRef Syntax.erased Syntax.mut (Syntax.tyInt Syntax.w16)) (Syntax.tyRef Syntax.erased Syntax.mut (Syntax.tyInt Syntax.w16)) (λ x. x) (Scalar.oFld 5
               (List._∷_ (Syntax.field 1) List.[]) (Syntax.tyInt Syntax.w64) 8 λ v. Shared.lenV (v .0)) (Reads.as-is 𝓤 H A (Relend.msptr (Referent.rtF (Referent.fInt Syntax.w16)) (Syntax.tyRef
-              Syntax.erased Syntax.mut (Syntax.tyInt Syntax.w16)) 8)) (Reads.room-gone 𝓤 H A y1) (
+              Syntax.erased Syntax.mut (Syntax.tyInt Syntax.w16)) 8)) (Reads.room-gone 𝓤 H A y2) (
                 Relend.reads-owed-len 𝓤 H A W (Referent.rtF (Referent.fInt Syntax.w16)) (Syntax.tyRef (Syntax.named 4) Syntax.mut (Syntax.tyInt Syntax.w16)) 4 8 (Row.lease (κs .1 .1 .1 .1 .0) (qs .1 .1 .1
                     .1 .0)) 8 Path'.refl,
                 Path'.refl,
@@ -1735,7 +1736,7 @@ module _ (claims· : Claims) where
           d39 : Typed.Typed 𝓤 H A 𝓣 E G10 b25 Δ0 at39
           d39 = Typed.s-seq 𝓤 H A W 𝓣 E G10 G11 b3 b24 Δ0 (Typed.ask s9) at38 (Relend.t-sl-aggregate 𝓤 H A W E (Element.type) 𝓣 (Relend.asMut (Element.type)) G10 14 15 7 (Syntax.tyRef Syntax.erased
               Syntax.mut Element.behind) (Syntax.tyRef Syntax.erased Syntax.mut Element.behind) (λ x. x) (Scalar.oFld 4 (List._∷_ (Syntax.field 1) List.[]) (Syntax.tyInt Syntax.w64) 8 λ v. Shared.lenV (v
-              .0)) (Reads.as-is 𝓤 H A (Relend.msptr (Element.type) (Syntax.tyRef Syntax.erased Syntax.mut Element.behind) 7)) (Reads.room-gone 𝓤 H A y2)
+              .0)) (Reads.as-is 𝓤 H A (Relend.msptr (Element.type) (Syntax.tyRef Syntax.erased Syntax.mut Element.behind) 7)) (Reads.room-gone 𝓤 H A y3)
               (Relend.reads-owed-len 𝓤 H A W (Element.type) (Syntax.tyRef (Syntax.named 3) Syntax.mut Element.behind) 3 7 (Row.lease (κs .1 .1 .1 .0) (qs .1 .1 .1 .0)) 8 Path'.refl, Path'.refl) Path'.refl
               Path'.refl λ b o k. tt) d38
 
@@ -1752,7 +1753,7 @@ module _ (claims· : Claims) where
           d42 = Typed.s-seq 𝓤 H A W 𝓣 E G7 G8 b1 b26 Δ0 (Typed.ask s6) at41 (Relend.t-sl-aggregate 𝓤 H A W E (Referent.rtF (Referent.fInt Syntax.w16)) 𝓣 (Relend.asMut (Referent.rtF (Referent.fInt
               Syntax.w16))) G7 12 13 6 (Syntax.tyRef Syntax.erased Syntax.mut (Syntax.tyInt Syntax.w16)) (Syntax.tyRef Syntax.erased Syntax.mut (Syntax.tyInt Syntax.w16)) (λ x. x) (Scalar.oFld 3 (List._∷_
               (Syntax.field 1) List.[]) (Syntax.tyInt Syntax.w64) 8 λ v. Shared.lenV (v .0)) (Reads.as-is 𝓤 H A (Relend.msptr (Referent.rtF (Referent.fInt Syntax.w16)) (Syntax.tyRef Syntax.erased
-              Syntax.mut (Syntax.tyInt Syntax.w16)) 6)) (Reads.room-gone 𝓤 H A y1) (
+              Syntax.mut (Syntax.tyInt Syntax.w16)) 6)) (Reads.room-gone 𝓤 H A y2) (
                 Relend.reads-owed-len 𝓤 H A W (Referent.rtF (Referent.fInt Syntax.w16)) (Syntax.tyRef (Syntax.named 2) Syntax.mut (Syntax.tyInt Syntax.w16)) 2 6 (Row.lease (κs .1 .1 .0) (qs .1 .1 .0)) 8
                     Path'.refl,
                 Path'.refl,

@@ -77,19 +77,23 @@ y0 = Syntax.tyStruct (List._∷_ 109 (List._∷_ 97 (List._∷_ 112 (List._∷_ 
     Syntax.tnil))))))
 
 abbrev pub y1 : Syntax.Ty
-y1 = Syntax.tyStruct (List._∷_ 38 (List._∷_ 91 (List._∷_ 93 List.[]))) (Syntax.tcons (Syntax.tyRef Syntax.erased Syntax.mut (Syntax.tyInt Syntax.w16)) (Syntax.tcons (Syntax.tyInt Syntax.w64)
-    Syntax.tnil))
+y1 = Syntax.tyStruct (List._∷_ 116 (List._∷_ 111 (List._∷_ 116 (List._∷_ 97 (List._∷_ 108 (List._∷_ 115 (List._∷_ 58 (List._∷_ 58 (List._∷_ 84 (List._∷_ 111 (List._∷_ 116 (List._∷_ 97 (List._∷_ 108
+    (List._∷_ 115 List.[])))))))))))))) (Syntax.tcons (Syntax.tyInt Syntax.w64) (Syntax.tcons (Syntax.tyInt Syntax.w64) Syntax.tnil))
 
 abbrev pub y2 : Syntax.Ty
-y2 = Syntax.tyStruct (List._∷_ 38 (List._∷_ 91 (List._∷_ 93 List.[]))) (Syntax.tcons (Syntax.tyRef Syntax.erased Syntax.mut Element.behind) (Syntax.tcons (Syntax.tyInt Syntax.w64) Syntax.tnil))
+y2 = Syntax.tyStruct (List._∷_ 38 (List._∷_ 91 (List._∷_ 93 List.[]))) (Syntax.tcons (Syntax.tyRef Syntax.erased Syntax.mut (Syntax.tyInt Syntax.w16)) (Syntax.tcons (Syntax.tyInt Syntax.w64)
+    Syntax.tnil))
 
 abbrev pub y3 : Syntax.Ty
-y3 = Syntax.tyStruct (List._∷_ 98 (List._∷_ 105 (List._∷_ 116 (List._∷_ 115 (List._∷_ 58 (List._∷_ 58 (List._∷_ 66 (List._∷_ 105 (List._∷_ 116 (List._∷_ 80 (List._∷_ 111 (List._∷_ 115 (List._∷_ 105
-    (List._∷_ 116 (List._∷_ 105 (List._∷_ 111 (List._∷_ 110 List.[]))))))))))))))))) (Syntax.tcons (Syntax.tyInt Syntax.w64) Syntax.tnil)
+y3 = Syntax.tyStruct (List._∷_ 38 (List._∷_ 91 (List._∷_ 93 List.[]))) (Syntax.tcons (Syntax.tyRef Syntax.erased Syntax.mut Element.behind) (Syntax.tcons (Syntax.tyInt Syntax.w64) Syntax.tnil))
 
 abbrev pub y4 : Syntax.Ty
 y4 = Syntax.tyStruct (List._∷_ 98 (List._∷_ 108 (List._∷_ 111 (List._∷_ 99 (List._∷_ 107 (List._∷_ 58 (List._∷_ 58 (List._∷_ 70 (List._∷_ 111 (List._∷_ 114 (List._∷_ 109 List.[])))))))))))
     (Syntax.tcons (Syntax.tyInt Syntax.w32) (Syntax.tcons Syntax.tyBool Syntax.tnil))
+
+abbrev pub y5 : Syntax.Ty
+y5 = Syntax.tyStruct (List._∷_ 116 (List._∷_ 111 (List._∷_ 116 (List._∷_ 97 (List._∷_ 108 (List._∷_ 115 (List._∷_ 58 (List._∷_ 58 (List._∷_ 84 (List._∷_ 105 (List._∷_ 103 (List._∷_ 104 (List._∷_ 116
+    (List._∷_ 76 (List._∷_ 105 (List._∷_ 110 (List._∷_ 101 (List._∷_ 115 List.[])))))))))))))))))) (Syntax.tcons (Syntax.tyInt Syntax.w64) (Syntax.tcons y1 Syntax.tnil))
 
 abbrev pub ps : List.List (Kinds.PK 3)
 ps = List._∷_ (ShrSlice.pShrS (Referent.rtF (Referent.fInt Syntax.w8)) 0 tt) (List._∷_ (ShrSlice.pShrS (Referent.rtF (Referent.fInt Syntax.w8)) 1 tt) (List._∷_ (MutSlice.pMutS (Referent.rtF
@@ -153,8 +157,8 @@ r = Value.rVal record {
 abbrev pub xs : List.List Syntax.Ty
 xs = List._∷_ (Syntax.tyArray (Syntax.tyInt Syntax.w16) 768) (List._∷_ (Syntax.tyArray (Syntax.tyInt Syntax.w16) 9252) (List._∷_ (Syntax.tyArray (Element.held) 336) (List._∷_ (Syntax.tyInt Syntax.w64)
     (List._∷_ (Syntax.tyArray (Syntax.tyInt Syntax.w16) 768) (List._∷_ (Element.held) (List._∷_ Syntax.tyPtr (List._∷_ Syntax.tyPtr (List._∷_ (Syntax.tyInt Syntax.w64) (List._∷_ (Syntax.tyRef
-    Syntax.erased Syntax.mut (Syntax.tyInt Syntax.w16)) (List._∷_ y1 (List._∷_ (Syntax.tyRef Syntax.erased Syntax.mut (Syntax.tyArray Element.behind 336)) (List._∷_ y2 (List._∷_ (Syntax.tyRef
-    Syntax.erased Syntax.mut (Syntax.tyInt Syntax.w16)) (List._∷_ y1 (List._∷_ (Syntax.tyRef Syntax.erased Syntax.imm (Syntax.tyArray (Syntax.tyInt Syntax.w16) 768)) List.[])))))))))))))))
+    Syntax.erased Syntax.mut (Syntax.tyInt Syntax.w16)) (List._∷_ y2 (List._∷_ (Syntax.tyRef Syntax.erased Syntax.mut (Syntax.tyArray Element.behind 336)) (List._∷_ y3 (List._∷_ (Syntax.tyRef
+    Syntax.erased Syntax.mut (Syntax.tyInt Syntax.w16)) (List._∷_ y2 (List._∷_ (Syntax.tyRef Syntax.erased Syntax.imm (Syntax.tyArray (Syntax.tyInt Syntax.w16) 768)) List.[])))))))))))))))
 
 abbrev pub m : Nat.ℕ
 m = 4
@@ -360,8 +364,7 @@ abbrev pub e0 : Row.Entry
 e0 = (
   0,
   Rows'.any-gone (Syntax.tyEnum (List._∷_ 98 (List._∷_ 108 (List._∷_ 111 (List._∷_ 99 (List._∷_ 107 (List._∷_ 58 (List._∷_ 58 (List._∷_ 87 (List._∷_ 97 (List._∷_ 108 (List._∷_ 107 (List._∷_ 101
-      (List._∷_ 100 List.[]))))))))))))) (Syntax.ttcons (Syntax.tcons y3 (Syntax.tcons (Syntax.tyInt Syntax.w64) Syntax.tnil)) (Syntax.ttcons (Syntax.tcons (Syntax.tyInt Syntax.w64) Syntax.tnil)
-      Syntax.ttnil))),
+      (List._∷_ 100 List.[]))))))))))))) (Syntax.ttcons (Syntax.tcons y1 (Syntax.tcons y5 Syntax.tnil)) (Syntax.ttcons (Syntax.tcons (Syntax.tyInt Syntax.w64) (Syntax.tcons y1 Syntax.tnil)) Syntax.ttnil))),
 )
 
 abbrev pub e1 : Row.Entry
@@ -425,7 +428,7 @@ abbrev pub e20 : Row.Entry
 e20 = (18, Mut.mslice (Referent.rtF (Referent.fInt Syntax.w16)) (Syntax.tyRef Syntax.erased Syntax.mut (Syntax.tyInt Syntax.w16)) 3)
 
 abbrev pub e21 : Row.Entry
-e21 = (18, Rows'.any-gone y1)
+e21 = (18, Rows'.any-gone y2)
 
 abbrev pub e22 : Row.Entry
 e22 = (19, Rows'.any-gone (Syntax.tyRef Syntax.erased Syntax.mut (Syntax.tyArray Element.behind 336)))
@@ -440,7 +443,7 @@ abbrev pub e25 : Row.Entry
 e25 = (20, Mut.mslice (Element.type) (Syntax.tyRef Syntax.erased Syntax.mut Element.behind) 4)
 
 abbrev pub e26 : Row.Entry
-e26 = (20, Rows'.any-gone y2)
+e26 = (20, Rows'.any-gone y3)
 
 abbrev pub e27 : Row.Entry
 e27 = (21, Rows'.any-gone (Syntax.tyRef Syntax.erased Syntax.mut (Syntax.tyInt Syntax.w16)))
@@ -452,7 +455,7 @@ abbrev pub e29 : Row.Entry
 e29 = (22, Mut.mslice (Referent.rtF (Referent.fInt Syntax.w16)) (Syntax.tyRef Syntax.erased Syntax.mut (Syntax.tyInt Syntax.w16)) 5)
 
 abbrev pub e30 : Row.Entry
-e30 = (22, Rows'.any-gone y1)
+e30 = (22, Rows'.any-gone y2)
 
 abbrev pub e31 : Row.Entry
 e31 = (23, Rows'.any-gone (Syntax.tyRef Syntax.erased Syntax.imm (Syntax.tyArray (Syntax.tyInt Syntax.w16) 768)))
@@ -921,8 +924,8 @@ module _ (claims· : Claims) where
     ),
   ) 0 (List._∷_ 0 (List._∷_ 1 (List._∷_ 3 (List._∷_ 4
       (List._∷_ 5 (List._∷_ 6 List.[])))))) (Syntax.tyEnum (List._∷_ 98 (List._∷_ 108 (List._∷_ 111 (List._∷_ 99 (List._∷_ 107 (List._∷_ 58 (List._∷_ 58 (List._∷_ 87 (List._∷_ 97 (List._∷_ 108 (List._∷_
-      107 (List._∷_ 101 (List._∷_ 100 List.[]))))))))))))) (Syntax.ttcons (Syntax.tcons y3 (Syntax.tcons (Syntax.tyInt Syntax.w64) Syntax.tnil)) (Syntax.ttcons (Syntax.tcons (Syntax.tyInt Syntax.w64)
-      Syntax.tnil) Syntax.ttnil)))
+      107 (List._∷_ 101 (List._∷_ 100 List.[]))))))))))))) (Syntax.ttcons (Syntax.tcons y1 (Syntax.tcons y5 Syntax.tnil)) (Syntax.ttcons (Syntax.tcons (Syntax.tyInt Syntax.w64) (Syntax.tcons y1
+      Syntax.tnil)) Syntax.ttnil)))
 
   abbrev s31 : (bs : List.List Nat.ℕ) → Typed.Mo T32 → Typed.Mo T33
   s31 = λ bs. Scalar.n-room T32 23 (Syntax.tyRef Syntax.erased Syntax.imm (Syntax.tyArray (Syntax.tyInt Syntax.w16) 768))
@@ -1762,8 +1765,8 @@ module _ (claims· : Claims) where
                   ),
                 ),
               ) (Reads'.room-gone 𝓤 H A (Syntax.tyEnum (List._∷_ 98 (List._∷_ 108 (List._∷_ 111 (List._∷_ 99 (List._∷_ 107
-              (List._∷_ 58 (List._∷_ 58 (List._∷_ 87 (List._∷_ 97 (List._∷_ 108 (List._∷_ 107 (List._∷_ 101 (List._∷_ 100 List.[]))))))))))))) (Syntax.ttcons (Syntax.tcons y3 (Syntax.tcons (Syntax.tyInt
-              Syntax.w64) Syntax.tnil)) (Syntax.ttcons (Syntax.tcons (Syntax.tyInt Syntax.w64) Syntax.tnil) Syntax.ttnil)))) (tt, (tt, (tt, (tt, (tt, (tt, tt)))))) Path'.refl) d22
+              (List._∷_ 58 (List._∷_ 58 (List._∷_ 87 (List._∷_ 97 (List._∷_ 108 (List._∷_ 107 (List._∷_ 101 (List._∷_ 100 List.[]))))))))))))) (Syntax.ttcons (Syntax.tcons y1 (Syntax.tcons y5
+              Syntax.tnil)) (Syntax.ttcons (Syntax.tcons (Syntax.tyInt Syntax.w64) (Syntax.tcons y1 Syntax.tnil)) Syntax.ttnil)))) (tt, (tt, (tt, (tt, (tt, (tt, tt)))))) Path'.refl) d22
 
           d24 : Typed.Typed 𝓤 H A 𝓣 E G30 b19 Δ0 (at24 bs)
           d24 = Typed.s-seq 𝓤 H A W 𝓣 E G30 G31 b15 b18 Δ0 (Typed.give (s29 bs)) (at23 bs) (Local.t-sc-share 𝓤 H A W E 𝓣 G30 8 23 6 (Array'.Array (Referent.rtF (Referent.fInt Syntax.w16)) 768)
@@ -1778,7 +1781,7 @@ module _ (claims· : Claims) where
           d26 = Typed.s-seq 𝓤 H A W 𝓣 E G28 G29 b14 b19 Δ0 (Typed.ask (s27 bs)) (at25 bs) (Relend.t-sl-aggregate 𝓤 H A W E (Referent.rtF (Referent.fInt Syntax.w16)) 𝓣 (Relend.asMut (Referent.rtF
               (Referent.fInt Syntax.w16))) G28 21 22 5 (Syntax.tyRef Syntax.erased Syntax.mut (Syntax.tyInt Syntax.w16)) (Syntax.tyRef Syntax.erased Syntax.mut (Syntax.tyInt Syntax.w16)) (λ x. x)
               (Scalar.oFld 3 (List._∷_ (Syntax.field 1) List.[]) (Syntax.tyInt Syntax.w64) 8 λ v. Shared.lenV (v .0)) (Reads'.as-is 𝓤 H A (Relend.msptr (Referent.rtF (Referent.fInt Syntax.w16))
-              (Syntax.tyRef Syntax.erased Syntax.mut (Syntax.tyInt Syntax.w16)) 5)) (Reads'.room-gone 𝓤 H A y1) (
+              (Syntax.tyRef Syntax.erased Syntax.mut (Syntax.tyInt Syntax.w16)) 5)) (Reads'.room-gone 𝓤 H A y2) (
                 Relend.reads-owed-len 𝓤 H A W (Referent.rtF (Referent.fInt Syntax.w16)) (Syntax.tyRef (Syntax.named 2) Syntax.mut (Syntax.tyInt Syntax.w16)) 2 5 (Row.lease (κs .1 .1 .0) (qs .1 .1 .0)) 8
                     Path'.refl,
                 Path'.refl,
@@ -1797,7 +1800,7 @@ module _ (claims· : Claims) where
           d29 : Typed.Typed 𝓤 H A 𝓣 E G25 b22 Δ0 (at29 bs)
           d29 = Typed.s-seq 𝓤 H A W 𝓣 E G25 G26 b12 b21 Δ0 (Typed.ask (s24 bs)) (at28 bs) (Relend.t-sl-aggregate 𝓤 H A W E (Element.type) 𝓣 (Relend.asMut (Element.type)) G25 19 20 4 (Syntax.tyRef
               Syntax.erased Syntax.mut (Syntax.tyArray Element.behind 336)) (Syntax.tyRef Syntax.erased Syntax.mut Element.behind) (λ x. x) (Scalar.oInt Syntax.w64 336) (Reads'.as-is 𝓤 H A (Relend.msptr
-              (Element.type) (Syntax.tyRef Syntax.erased Syntax.mut (Syntax.tyArray Element.behind 336)) 4)) (Reads'.room-gone 𝓤 H A y2) tt Path'.refl Path'.refl λ b o k. tt) d28
+              (Element.type) (Syntax.tyRef Syntax.erased Syntax.mut (Syntax.tyArray Element.behind 336)) 4)) (Reads'.room-gone 𝓤 H A y3) tt Path'.refl Path'.refl λ b o k. tt) d28
 
           d30 : Typed.Typed 𝓤 H A 𝓣 E G24 b23 Δ0 (at30 bs)
           d30 = Typed.s-seq 𝓤 H A W 𝓣 E G24 G25 b11 b22 Δ0 (Typed.give (s23 bs)) (at29 bs) (Borrow.t-arr-borrow 𝓤 H A W E 𝓣 (Element.type) G24 10 19 336 4 (Syntax.tyRef Syntax.erased Syntax.mut
@@ -1816,7 +1819,7 @@ module _ (claims· : Claims) where
           d33 = Typed.s-seq 𝓤 H A W 𝓣 E G21 G22 b10 b23 Δ0 (Typed.ask (s20 bs)) (at32 bs) (Relend.t-sl-aggregate 𝓤 H A W E (Referent.rtF (Referent.fInt Syntax.w16)) 𝓣 (Relend.asMut (Referent.rtF
               (Referent.fInt Syntax.w16))) G21 17 18 3 (Syntax.tyRef Syntax.erased Syntax.mut (Syntax.tyInt Syntax.w16)) (Syntax.tyRef Syntax.erased Syntax.mut (Syntax.tyInt Syntax.w16)) (λ x. x)
               (Scalar.oAt 16 (Syntax.tyInt Syntax.w64) (Row.valS (Row.sInt Syntax.w64))) (Reads'.as-is 𝓤 H A (Relend.msptr (Referent.rtF (Referent.fInt Syntax.w16)) (Syntax.tyRef Syntax.erased Syntax.mut
-              (Syntax.tyInt Syntax.w16)) 3)) (Reads'.room-gone 𝓤 H A y1) (Scalar.reads-sc 𝓤 H A W (Row.sInt Syntax.w64), Path'.refl) Path'.refl Path'.refl λ b o k. tt) d32
+              (Syntax.tyInt Syntax.w16)) 3)) (Reads'.room-gone 𝓤 H A y2) (Scalar.reads-sc 𝓤 H A W (Row.sInt Syntax.w64), Path'.refl) Path'.refl Path'.refl λ b o k. tt) d32
 
           d34 : Typed.Typed 𝓤 H A 𝓣 E G20 b24 Δ0 (at34 bs)
           d34 = Typed.g-pre 𝓤 H A W 𝓣 E G20 G21 b24 Δ0 (Typed.pass T20 T21 (s19 bs)) (at33 bs) (Scalar.g-room 𝓤 H A W E G20 15 Syntax.tyPtr (Scalar.room-sc 𝓤 H A W Row.sPtr)) d33

@@ -81,18 +81,22 @@ y0 = Syntax.tyStruct (List._∷_ 115 (List._∷_ 116 (List._∷_ 114 (List._∷_
     (Syntax.tcons (Syntax.tyInt Syntax.w32) Syntax.tnil)))))))))
 
 abbrev pub y1 : Syntax.Ty
-y1 = Syntax.tyStruct (List._∷_ 38 (List._∷_ 91 (List._∷_ 93 List.[]))) (Syntax.tcons (Syntax.tyRef Syntax.erased Syntax.mut (Syntax.tyInt Syntax.w16)) (Syntax.tcons (Syntax.tyInt Syntax.w64)
+y1 = Syntax.tyStruct (List._∷_ 38 (List._∷_ 91 (List._∷_ 93 List.[]))) (Syntax.tcons (Syntax.tyRef Syntax.erased Syntax.imm (Syntax.tyInt Syntax.w8)) (Syntax.tcons (Syntax.tyInt Syntax.w64)
     Syntax.tnil))
 
 abbrev pub y2 : Syntax.Ty
-y2 = Syntax.tyStruct (List._∷_ 38 (List._∷_ 91 (List._∷_ 93 List.[]))) (Syntax.tcons (Syntax.tyRef Syntax.erased Syntax.mut (Syntax.tyInt Syntax.w8)) (Syntax.tcons (Syntax.tyInt Syntax.w64)
+y2 = Syntax.tyStruct (List._∷_ 38 (List._∷_ 91 (List._∷_ 93 List.[]))) (Syntax.tcons (Syntax.tyRef Syntax.erased Syntax.mut (Syntax.tyInt Syntax.w16)) (Syntax.tcons (Syntax.tyInt Syntax.w64)
     Syntax.tnil))
 
 abbrev pub y3 : Syntax.Ty
-y3 = Syntax.tyStruct (List._∷_ 38 (List._∷_ 91 (List._∷_ 93 List.[]))) (Syntax.tcons (Syntax.tyRef Syntax.erased Syntax.mut Element.behind) (Syntax.tcons (Syntax.tyInt Syntax.w64) Syntax.tnil))
+y3 = Syntax.tyStruct (List._∷_ 38 (List._∷_ 91 (List._∷_ 93 List.[]))) (Syntax.tcons (Syntax.tyRef Syntax.erased Syntax.mut (Syntax.tyInt Syntax.w8)) (Syntax.tcons (Syntax.tyInt Syntax.w64)
+    Syntax.tnil))
 
 abbrev pub y4 : Syntax.Ty
-y4 = Syntax.tyStruct (List._∷_ 98 (List._∷_ 108 (List._∷_ 111 (List._∷_ 99 (List._∷_ 107 (List._∷_ 58 (List._∷_ 58 (List._∷_ 70 (List._∷_ 111 (List._∷_ 114 (List._∷_ 109 List.[])))))))))))
+y4 = Syntax.tyStruct (List._∷_ 38 (List._∷_ 91 (List._∷_ 93 List.[]))) (Syntax.tcons (Syntax.tyRef Syntax.erased Syntax.mut Element.behind) (Syntax.tcons (Syntax.tyInt Syntax.w64) Syntax.tnil))
+
+abbrev pub y5 : Syntax.Ty
+y5 = Syntax.tyStruct (List._∷_ 98 (List._∷_ 108 (List._∷_ 111 (List._∷_ 99 (List._∷_ 107 (List._∷_ 58 (List._∷_ 58 (List._∷_ 70 (List._∷_ 111 (List._∷_ 114 (List._∷_ 109 List.[])))))))))))
     (Syntax.tcons (Syntax.tyInt Syntax.w32) (Syntax.tcons Syntax.tyBool Syntax.tnil))
 
 abbrev pub ps : List.List (Kinds.PK 5)
@@ -134,7 +138,7 @@ xs = List._∷_ (Syntax.tyEnum (List._∷_ 115 (List._∷_ 116 (List._∷_ 114 (
     (Syntax.ttcons (Syntax.tcons (Syntax.tyInt Syntax.w64) Syntax.tnil) (Syntax.ttcons (Syntax.tcons (Syntax.tyInt Syntax.w64) Syntax.tnil) (Syntax.ttcons Syntax.tnil (Syntax.ttcons (Syntax.tcons
     (Syntax.tyInt Syntax.w64) (Syntax.tcons (Syntax.tyInt Syntax.w64) Syntax.tnil)) (Syntax.ttcons (Syntax.tcons (Syntax.tyInt Syntax.w64) Syntax.tnil) (Syntax.ttcons Syntax.tnil (Syntax.ttcons
     Syntax.tnil (Syntax.ttcons (Syntax.tcons (Syntax.tyInt Syntax.w64) Syntax.tnil) (Syntax.ttcons (Syntax.tcons (Syntax.tyInt Syntax.w64) Syntax.tnil) (Syntax.ttcons (Syntax.tcons (Syntax.tyInt
-    Syntax.w64) Syntax.tnil) (Syntax.ttcons Syntax.tnil Syntax.ttnil)))))))))))))))))))))) (List._∷_ y0 (List._∷_ (Syntax.tyInt Syntax.w64) (List._∷_ y4 (List._∷_ (Syntax.tyInt Syntax.w64) (List._∷_
+    Syntax.w64) Syntax.tnil) (Syntax.ttcons Syntax.tnil Syntax.ttnil)))))))))))))))))))))) (List._∷_ y0 (List._∷_ (Syntax.tyInt Syntax.w64) (List._∷_ y5 (List._∷_ (Syntax.tyInt Syntax.w64) (List._∷_
     (Syntax.tyInt Syntax.w64) (List._∷_ (Syntax.tyInt Syntax.w64) (List._∷_ (Syntax.tyInt Syntax.w64) (List._∷_ (Syntax.tyEnum (List._∷_ 115 (List._∷_ 116 (List._∷_ 114 (List._∷_ 101 (List._∷_ 97
     (List._∷_ 109 (List._∷_ 58 (List._∷_ 58 (List._∷_ 66 (List._∷_ 108 (List._∷_ 111 (List._∷_ 99 (List._∷_ 107 (List._∷_ 76 (List._∷_ 101 (List._∷_ 110 (List._∷_ 103 (List._∷_ 116 (List._∷_ 104
     List.[]))))))))))))))))))) (Syntax.ttcons (Syntax.tcons (Syntax.tyInt Syntax.w64) Syntax.tnil) (Syntax.ttcons (Syntax.tcons (Syntax.tyEnum (List._∷_ 115 (List._∷_ 116 (List._∷_ 114 (List._∷_ 101
@@ -144,9 +148,9 @@ xs = List._∷_ (Syntax.tyEnum (List._∷_ 115 (List._∷_ 116 (List._∷_ 114 (
     (Syntax.tyInt Syntax.w64) Syntax.tnil) (Syntax.ttcons Syntax.tnil (Syntax.ttcons (Syntax.tcons (Syntax.tyInt Syntax.w64) (Syntax.tcons (Syntax.tyInt Syntax.w64) Syntax.tnil)) (Syntax.ttcons
     (Syntax.tcons (Syntax.tyInt Syntax.w64) Syntax.tnil) (Syntax.ttcons Syntax.tnil (Syntax.ttcons Syntax.tnil (Syntax.ttcons (Syntax.tcons (Syntax.tyInt Syntax.w64) Syntax.tnil) (Syntax.ttcons
     (Syntax.tcons (Syntax.tyInt Syntax.w64) Syntax.tnil) (Syntax.ttcons (Syntax.tcons (Syntax.tyInt Syntax.w64) Syntax.tnil) (Syntax.ttcons Syntax.tnil Syntax.ttnil)))))))))))))))))))))) Syntax.tnil)
-    Syntax.ttnil))) (List._∷_ (Syntax.tyRef Syntax.erased Syntax.mut (Syntax.tyInt Syntax.w8)) (List._∷_ y2 (List._∷_ Syntax.tyPtr (List._∷_ (Syntax.tyInt Syntax.w64) (List._∷_ (Syntax.tyRef Syntax.erased
-    Syntax.mut (Syntax.tyInt Syntax.w16)) (List._∷_ y1 (List._∷_ Syntax.tyPtr (List._∷_ (Syntax.tyInt Syntax.w64) (List._∷_ (Syntax.tyRef Syntax.erased Syntax.mut Element.behind) (List._∷_ y3
-    List.[])))))))))))))))))))
+    Syntax.ttnil))) (List._∷_ (Syntax.tyRef Syntax.erased Syntax.mut (Syntax.tyInt Syntax.w8)) (List._∷_ y3 (List._∷_ Syntax.tyPtr (List._∷_ (Syntax.tyInt Syntax.w64) (List._∷_ (Syntax.tyRef Syntax.erased
+    Syntax.mut (Syntax.tyInt Syntax.w16)) (List._∷_ y2 (List._∷_ Syntax.tyPtr (List._∷_ (Syntax.tyInt Syntax.w64) (List._∷_ (Syntax.tyRef Syntax.erased Syntax.mut Element.behind) (List._∷_ y4 (List._∷_
+    Syntax.tyPtr (List._∷_ (Syntax.tyInt Syntax.w64) (List._∷_ (Syntax.tyRef Syntax.erased Syntax.imm (Syntax.tyInt Syntax.w8)) (List._∷_ y1 List.[])))))))))))))))))))))))
 
 abbrev pub m : Nat.ℕ
 m = 3
@@ -241,7 +245,7 @@ ps·3 = List._∷_ (Value.pVal record {
 abbrev pub r·3 : Kinds.RK 0
 r·3 = Num.rNum Syntax.w64
 
-abbrev pub ps·4 : List.List (Kinds.PK 4)
+abbrev pub ps·4 : List.List (Kinds.PK 5)
 ps·4 = List._∷_ (ShrSlice.pShrS (Referent.rtF (Referent.fInt Syntax.w16)) 0 tt) (List._∷_ (MutSlice.pMutS (Referent.rtF (Referent.fInt Syntax.w8)) 1 tt) (List._∷_ Bool.pBool (List._∷_ (MutSlice.pMutS
     (Referent.rtF (Referent.fInt Syntax.w16)) 2 tt) (List._∷_ (MutSlice.pMutS (Element.type) 3 tt) (List._∷_ (Value.pVal record {
       ty = Declared'.row Form.the-type;
@@ -260,9 +264,10 @@ ps·4 = List._∷_ (ShrSlice.pShrS (Referent.rtF (Referent.fInt Syntax.w16)) 0 t
       in-mem =
           Local.mem-whole 𝓤 H A W (Declared'.row Form.the-type);
       of-mem = Local.whole-mem 𝓤 H A W (Declared'.row Form.the-type);
-    }) (List._∷_ (Num.pNum Syntax.w64) List.[]))))))
+    }) (List._∷_ (ShrSlice.pShrS (Referent.rtF (Referent.fInt Syntax.w8)) 4 tt)
+    (List._∷_ (Num.pNum Syntax.w64) List.[])))))))
 
-abbrev pub r·4 : Kinds.RK 4
+abbrev pub r·4 : Kinds.RK 5
 r·4 = Value.rVal record {
   ty = Declared.row BlockLength.the-type;
   one = Path'.refl;
@@ -286,8 +291,8 @@ abbrev pub hs : List.List Syntax.Home
 hs = List._∷_ Syntax.valueLocal (List._∷_ Syntax.valueLocal (List._∷_ Syntax.valueLocal (List._∷_ Syntax.valueLocal (List._∷_ Syntax.valueLocal (List._∷_ Syntax.valueLocal (List._∷_ Syntax.valueLocal
     (List._∷_ Syntax.valueLocal (List._∷_ Syntax.valueLocal (List._∷_ Syntax.valueLocal (List._∷_ Syntax.valueLocal (List._∷_ Syntax.valueLocal (List._∷_ Syntax.valueLocal (List._∷_ Syntax.valueLocal
     (List._∷_ Syntax.valueLocal (List._∷_ Syntax.valueLocal (List._∷_ Syntax.valueLocal (List._∷_ Syntax.valueLocal (List._∷_ Syntax.valueLocal (List._∷_ Syntax.valueLocal (List._∷_ Syntax.valueLocal
-    (List._∷_ Syntax.valueLocal (List._∷_ Syntax.valueLocal (List._∷_ Syntax.valueLocal (List._∷_ Syntax.valueLocal (List._∷_ Syntax.valueLocal (List._∷_ Syntax.valueLocal
-    List.[]))))))))))))))))))))))))))
+    (List._∷_ Syntax.valueLocal (List._∷_ Syntax.valueLocal (List._∷_ Syntax.valueLocal (List._∷_ Syntax.valueLocal (List._∷_ Syntax.valueLocal (List._∷_ Syntax.valueLocal (List._∷_ Syntax.valueLocal
+    (List._∷_ Syntax.valueLocal (List._∷_ Syntax.valueLocal (List._∷_ Syntax.valueLocal List.[]))))))))))))))))))))))))))))))
 
 abbrev b0 : Syntax.Body
 b0 = Syntax.assign (Syntax.place 13 List.[]) (Syntax.rvOpd (Syntax.copy (Syntax.place 2 (List._∷_ (Syntax.field 1) List.[]))))
@@ -355,86 +360,110 @@ abbrev b20 : Syntax.Body
 b20 = Syntax.assign (Syntax.place 26 List.[]) (Syntax.aggregate (List._∷_ (Syntax.copy (Syntax.place 25 List.[])) (List._∷_ (Syntax.copy (Syntax.place 24 List.[])) List.[])))
 
 abbrev b21 : Syntax.Body
-b21 = Syntax.call "block::writer::write_set" (List._∷_ (Syntax.copy (Syntax.place 2 List.[])) (List._∷_ (Syntax.copy (Syntax.place 18 List.[])) (List._∷_ (Syntax.copy (Syntax.place 4 List.[]))
-    (List._∷_ (Syntax.copy (Syntax.place 22 List.[])) (List._∷_ (Syntax.copy (Syntax.place 26 List.[])) (List._∷_ (Syntax.copy (Syntax.place 11 List.[])) (List._∷_ (Syntax.copy (Syntax.place 12 List.[]))
-    List.[]))))))) (Syntax.place 16 List.[])
+b21 = Syntax.assign (Syntax.place 27 List.[]) (Syntax.op2 Syntax.offset (Syntax.copy (Syntax.place 1 (List._∷_ (Syntax.field 0) List.[]))) (Syntax.int Syntax.w64 0))
 
 abbrev b22 : Syntax.Body
-b22 = Syntax.seq b20 b21
+b22 = Syntax.assign (Syntax.place 28 List.[]) (Syntax.op2 (Syntax.sub Syntax.unsigned) (Syntax.int Syntax.w64 0) (Syntax.int Syntax.w64 0))
 
 abbrev b23 : Syntax.Body
-b23 = Syntax.seq b19 b22
+b23 = Syntax.assign (Syntax.place 29 List.[]) (Syntax.addrOf (Syntax.place 27 (List._∷_ (Syntax.deref (Syntax.tyInt Syntax.w8)) List.[])))
 
 abbrev b24 : Syntax.Body
-b24 = Syntax.seq b18 b23
+b24 = Syntax.assign (Syntax.place 30 List.[]) (Syntax.aggregate (List._∷_ (Syntax.copy (Syntax.place 29 List.[])) (List._∷_ (Syntax.copy (Syntax.place 28 List.[])) List.[])))
 
 abbrev b25 : Syntax.Body
-b25 = Syntax.seq b17 b24
+b25 = Syntax.call "block::writer::write_set" (List._∷_ (Syntax.copy (Syntax.place 2 List.[])) (List._∷_ (Syntax.copy (Syntax.place 18 List.[])) (List._∷_ (Syntax.copy (Syntax.place 4 List.[]))
+    (List._∷_ (Syntax.copy (Syntax.place 22 List.[])) (List._∷_ (Syntax.copy (Syntax.place 26 List.[])) (List._∷_ (Syntax.copy (Syntax.place 11 List.[])) (List._∷_ (Syntax.copy (Syntax.place 30 List.[]))
+    (List._∷_ (Syntax.copy (Syntax.place 12 List.[])) List.[])))))))) (Syntax.place 16 List.[])
 
 abbrev b26 : Syntax.Body
-b26 = Syntax.seq b16 b25
+b26 = Syntax.seq b24 b25
 
 abbrev b27 : Syntax.Body
-b27 = Syntax.seq b15 b26
+b27 = Syntax.seq b23 b26
 
 abbrev b28 : Syntax.Body
-b28 = Syntax.seq b14 b27
+b28 = Syntax.seq b22 b27
 
 abbrev b29 : Syntax.Body
-b29 = Syntax.seq b13 b28
+b29 = Syntax.seq b21 b28
 
 abbrev b30 : Syntax.Body
-b30 = Syntax.seq b12 b29
+b30 = Syntax.seq b20 b29
 
 abbrev b31 : Syntax.Body
-b31 = Syntax.seq b11 b30
+b31 = Syntax.seq b19 b30
 
 abbrev b32 : Syntax.Body
-b32 = Syntax.seq b10 b31
+b32 = Syntax.seq b18 b31
 
 abbrev b33 : Syntax.Body
-b33 = Syntax.seq b9 b32
+b33 = Syntax.seq b17 b32
 
 abbrev b34 : Syntax.Body
-b34 = Syntax.seq b8 b33
+b34 = Syntax.seq b16 b33
 
 abbrev b35 : Syntax.Body
-b35 = Syntax.seq b7 b34
+b35 = Syntax.seq b15 b34
 
 abbrev b36 : Syntax.Body
-b36 = Syntax.switch (Syntax.copy (Syntax.place 7 (List._∷_ (Syntax.variant 0) (List._∷_ (Syntax.field 0) List.[])))) (Syntax.arm (List._∷_ 1 List.[]) b6 (Syntax.arm (List._∷_ 0 List.[]) b35
-    Syntax.noDefault))
+b36 = Syntax.seq b14 b35
 
 abbrev b37 : Syntax.Body
-b37 = Syntax.assign (Syntax.place 0 List.[]) (Syntax.rvOpd (Syntax.copy (Syntax.place 16 List.[])))
+b37 = Syntax.seq b13 b36
 
 abbrev b38 : Syntax.Body
-b38 = Syntax.return
+b38 = Syntax.seq b12 b37
 
 abbrev b39 : Syntax.Body
-b39 = Syntax.seq b37 b38
+b39 = Syntax.seq b11 b38
 
 abbrev b40 : Syntax.Body
-b40 = Syntax.seq b36 b39
+b40 = Syntax.seq b10 b39
 
 abbrev b41 : Syntax.Body
-b41 = Syntax.seq b3 b40
+b41 = Syntax.seq b9 b40
 
 abbrev b42 : Syntax.Body
-b42 = Syntax.seq b2 b41
+b42 = Syntax.seq b8 b41
 
 abbrev b43 : Syntax.Body
-b43 = Syntax.seq b1 b42
+b43 = Syntax.seq b7 b42
 
 abbrev b44 : Syntax.Body
-b44 = Syntax.seq b0 b43
+b44 = Syntax.switch (Syntax.copy (Syntax.place 7 (List._∷_ (Syntax.variant 0) (List._∷_ (Syntax.field 0) List.[])))) (Syntax.arm (List._∷_ 1 List.[]) b6 (Syntax.arm (List._∷_ 0 List.[]) b43
+    Syntax.noDefault))
+
+abbrev b45 : Syntax.Body
+b45 = Syntax.assign (Syntax.place 0 List.[]) (Syntax.rvOpd (Syntax.copy (Syntax.place 16 List.[])))
+
+abbrev b46 : Syntax.Body
+b46 = Syntax.return
+
+abbrev b47 : Syntax.Body
+b47 = Syntax.seq b45 b46
+
+abbrev b48 : Syntax.Body
+b48 = Syntax.seq b44 b47
+
+abbrev b49 : Syntax.Body
+b49 = Syntax.seq b3 b48
+
+abbrev b50 : Syntax.Body
+b50 = Syntax.seq b2 b49
+
+abbrev b51 : Syntax.Body
+b51 = Syntax.seq b1 b50
+
+abbrev b52 : Syntax.Body
+b52 = Syntax.seq b0 b51
 
 abbrev pub body : Syntax.Body
-body = b44
+body = b52
 
 abbrev pub Claims : Type 1
-Claims = Kinds.In 1 ps·0 × Kinds.Out 1 ps·0 r·0 × Kinds.In 0 ps·1 × Kinds.Out 0 ps·1 r·1 × Kinds.In 0 ps·2 × Kinds.Out 0 ps·2 r·2 × Kinds.In 0 ps·3 × Kinds.Out 0 ps·3 r·3 × Kinds.In 4 ps·4 × Kinds.Out
-    4 ps·4 r·4
+Claims = Kinds.In 1 ps·0 × Kinds.Out 1 ps·0 r·0 × Kinds.In 0 ps·1 × Kinds.Out 0 ps·1 r·1 × Kinds.In 0 ps·2 × Kinds.Out 0 ps·2 r·2 × Kinds.In 0 ps·3 × Kinds.Out 0 ps·3 r·3 × Kinds.In 5 ps·4 × Kinds.Out
+    5 ps·4 r·4
 
 abbrev pub e0 : Row.Entry
 e0 = (
@@ -463,7 +492,7 @@ abbrev pub e4 : Row.Entry
 e4 = (10, Rows.sc-here (Row.sInt Syntax.w64))
 
 abbrev pub e5 : Row.Entry
-e5 = (11, Rows.any-gone y4)
+e5 = (11, Rows.any-gone y5)
 
 abbrev pub e6 : Row.Entry
 e6 = (11, Rows.whole (Declared'.row Form.the-type))
@@ -513,91 +542,118 @@ abbrev pub e17 : Row.Entry
 e17 = (17, Rows.any-gone (Syntax.tyRef Syntax.erased Syntax.mut (Syntax.tyInt Syntax.w8)))
 
 abbrev pub e18 : Row.Entry
-e18 = (18, Mut.mslice (Referent.rtF (Referent.fInt Syntax.w8)) (Syntax.tyRef Syntax.erased Syntax.mut (Syntax.tyInt Syntax.w8)) 5)
+e18 = (18, Mut.msleft (Referent.rtF (Referent.fInt Syntax.w8)) (Syntax.tyRef Syntax.erased Syntax.mut (Syntax.tyInt Syntax.w8)))
 
 abbrev pub e19 : Row.Entry
-e19 = (18, Rows.any-gone y2)
+e19 = (18, Mut.mslice (Referent.rtF (Referent.fInt Syntax.w8)) (Syntax.tyRef Syntax.erased Syntax.mut (Syntax.tyInt Syntax.w8)) 5)
 
 abbrev pub e20 : Row.Entry
-e20 = (19, Rows.any-gone Syntax.tyPtr)
+e20 = (18, Rows.any-gone y3)
 
 abbrev pub e21 : Row.Entry
-e21 = (19, Rows.sc-here Row.sPtr)
+e21 = (19, Rows.any-gone Syntax.tyPtr)
 
 abbrev pub e22 : Row.Entry
-e22 = (2, Rows.sslice (Referent.rtF (Referent.fInt Syntax.w16)) (Syntax.tyRef (Syntax.named 1) Syntax.imm (Syntax.tyInt Syntax.w16)) 1)
+e22 = (19, Rows.sc-here Row.sPtr)
 
 abbrev pub e23 : Row.Entry
-e23 = (20, Rows.any-gone (Syntax.tyInt Syntax.w64))
+e23 = (2, Rows.sslice (Referent.rtF (Referent.fInt Syntax.w16)) (Syntax.tyRef (Syntax.named 1) Syntax.imm (Syntax.tyInt Syntax.w16)) 1)
 
 abbrev pub e24 : Row.Entry
-e24 = (20, Rows.sc-here (Row.sInt Syntax.w64))
+e24 = (20, Rows.any-gone (Syntax.tyInt Syntax.w64))
 
 abbrev pub e25 : Row.Entry
-e25 = (21, Relend.msptr (Referent.rtF (Referent.fInt Syntax.w16)) (Syntax.tyRef Syntax.erased Syntax.mut (Syntax.tyInt Syntax.w16)) 6)
+e25 = (20, Rows.sc-here (Row.sInt Syntax.w64))
 
 abbrev pub e26 : Row.Entry
-e26 = (21, Rows.any-gone (Syntax.tyRef Syntax.erased Syntax.mut (Syntax.tyInt Syntax.w16)))
+e26 = (21, Relend.msptr (Referent.rtF (Referent.fInt Syntax.w16)) (Syntax.tyRef Syntax.erased Syntax.mut (Syntax.tyInt Syntax.w16)) 6)
 
 abbrev pub e27 : Row.Entry
-e27 = (22, Mut.msleft (Referent.rtF (Referent.fInt Syntax.w16)) (Syntax.tyRef Syntax.erased Syntax.mut (Syntax.tyInt Syntax.w16)))
+e27 = (21, Rows.any-gone (Syntax.tyRef Syntax.erased Syntax.mut (Syntax.tyInt Syntax.w16)))
 
 abbrev pub e28 : Row.Entry
-e28 = (22, Mut.mslice (Referent.rtF (Referent.fInt Syntax.w16)) (Syntax.tyRef Syntax.erased Syntax.mut (Syntax.tyInt Syntax.w16)) 6)
+e28 = (22, Mut.msleft (Referent.rtF (Referent.fInt Syntax.w16)) (Syntax.tyRef Syntax.erased Syntax.mut (Syntax.tyInt Syntax.w16)))
 
 abbrev pub e29 : Row.Entry
-e29 = (22, Rows.any-gone y1)
+e29 = (22, Mut.mslice (Referent.rtF (Referent.fInt Syntax.w16)) (Syntax.tyRef Syntax.erased Syntax.mut (Syntax.tyInt Syntax.w16)) 6)
 
 abbrev pub e30 : Row.Entry
-e30 = (23, Rows.any-gone Syntax.tyPtr)
+e30 = (22, Rows.any-gone y2)
 
 abbrev pub e31 : Row.Entry
-e31 = (23, Rows.sc-here Row.sPtr)
+e31 = (23, Rows.any-gone Syntax.tyPtr)
 
 abbrev pub e32 : Row.Entry
-e32 = (24, Rows.any-gone (Syntax.tyInt Syntax.w64))
+e32 = (23, Rows.sc-here Row.sPtr)
 
 abbrev pub e33 : Row.Entry
-e33 = (24, Rows.sc-here (Row.sInt Syntax.w64))
+e33 = (24, Rows.any-gone (Syntax.tyInt Syntax.w64))
 
 abbrev pub e34 : Row.Entry
-e34 = (25, Relend.msptr (Element.type) (Syntax.tyRef Syntax.erased Syntax.mut Element.behind) 7)
+e34 = (24, Rows.sc-here (Row.sInt Syntax.w64))
 
 abbrev pub e35 : Row.Entry
-e35 = (25, Rows.any-gone (Syntax.tyRef Syntax.erased Syntax.mut Element.behind))
+e35 = (25, Relend.msptr (Element.type) (Syntax.tyRef Syntax.erased Syntax.mut Element.behind) 7)
 
 abbrev pub e36 : Row.Entry
-e36 = (26, Mut.msleft (Element.type) (Syntax.tyRef Syntax.erased Syntax.mut Element.behind))
+e36 = (25, Rows.any-gone (Syntax.tyRef Syntax.erased Syntax.mut Element.behind))
 
 abbrev pub e37 : Row.Entry
-e37 = (26, Mut.mslice (Element.type) (Syntax.tyRef Syntax.erased Syntax.mut Element.behind) 7)
+e37 = (26, Mut.msleft (Element.type) (Syntax.tyRef Syntax.erased Syntax.mut Element.behind))
 
 abbrev pub e38 : Row.Entry
-e38 = (26, Rows.any-gone y3)
+e38 = (26, Mut.mslice (Element.type) (Syntax.tyRef Syntax.erased Syntax.mut Element.behind) 7)
 
 abbrev pub e39 : Row.Entry
-e39 = (3, Mut.mslice (Referent.rtF (Referent.fInt Syntax.w8)) (Syntax.tyRef (Syntax.named 2) Syntax.mut (Syntax.tyInt Syntax.w8)) 2)
+e39 = (26, Rows.any-gone y4)
 
 abbrev pub e40 : Row.Entry
-e40 = (3, Relend.mslice-owed (Referent.rtF (Referent.fInt Syntax.w8)) (Syntax.tyRef (Syntax.named 2) Syntax.mut (Syntax.tyInt Syntax.w8)) 2 5 Row.off)
+e40 = (27, Rows.any-gone Syntax.tyPtr)
 
 abbrev pub e41 : Row.Entry
-e41 = (4, Rows.sc-here Row.sBool)
+e41 = (27, Rows.sc-here Row.sPtr)
 
 abbrev pub e42 : Row.Entry
-e42 = (5, Mut.mslice (Referent.rtF (Referent.fInt Syntax.w16)) (Syntax.tyRef (Syntax.named 3) Syntax.mut (Syntax.tyInt Syntax.w16)) 3)
+e42 = (28, Rows.any-gone (Syntax.tyInt Syntax.w64))
 
 abbrev pub e43 : Row.Entry
-e43 = (5, PartMut.mslice-owedM (Referent.rtF (Referent.fInt Syntax.w16)) (Syntax.tyRef (Syntax.named 3) Syntax.mut (Syntax.tyInt Syntax.w16)) 3 6 Row.off)
+e43 = (28, Rows.sc-here (Row.sInt Syntax.w64))
 
 abbrev pub e44 : Row.Entry
-e44 = (6, Mut.mslice (Element.type) (Syntax.tyRef (Syntax.named 4) Syntax.mut Element.behind) 4)
+e44 = (29, Relend.ssptr (Referent.rtF (Referent.fInt Syntax.w8)) (Syntax.tyRef Syntax.erased Syntax.imm (Syntax.tyInt Syntax.w8)) 0)
 
 abbrev pub e45 : Row.Entry
-e45 = (6, PartMut.mslice-owedM (Element.type) (Syntax.tyRef (Syntax.named 4) Syntax.mut Element.behind) 4 7 Row.off)
+e45 = (29, Rows.any-gone (Syntax.tyRef Syntax.erased Syntax.imm (Syntax.tyInt Syntax.w8)))
 
 abbrev pub e46 : Row.Entry
-e46 = (
+e46 = (3, Mut.mslice (Referent.rtF (Referent.fInt Syntax.w8)) (Syntax.tyRef (Syntax.named 2) Syntax.mut (Syntax.tyInt Syntax.w8)) 2)
+
+abbrev pub e47 : Row.Entry
+e47 = (3, Relend.mslice-owed (Referent.rtF (Referent.fInt Syntax.w8)) (Syntax.tyRef (Syntax.named 2) Syntax.mut (Syntax.tyInt Syntax.w8)) 2 5 Row.off)
+
+abbrev pub e48 : Row.Entry
+e48 = (30, Rows.any-gone y1)
+
+abbrev pub e49 : Row.Entry
+e49 = (30, Rows.sslice (Referent.rtF (Referent.fInt Syntax.w8)) (Syntax.tyRef Syntax.erased Syntax.imm (Syntax.tyInt Syntax.w8)) 0)
+
+abbrev pub e50 : Row.Entry
+e50 = (4, Rows.sc-here Row.sBool)
+
+abbrev pub e51 : Row.Entry
+e51 = (5, Mut.mslice (Referent.rtF (Referent.fInt Syntax.w16)) (Syntax.tyRef (Syntax.named 3) Syntax.mut (Syntax.tyInt Syntax.w16)) 3)
+
+abbrev pub e52 : Row.Entry
+e52 = (5, PartMut.mslice-owedM (Referent.rtF (Referent.fInt Syntax.w16)) (Syntax.tyRef (Syntax.named 3) Syntax.mut (Syntax.tyInt Syntax.w16)) 3 6 Row.off)
+
+abbrev pub e53 : Row.Entry
+e53 = (6, Mut.mslice (Element.type) (Syntax.tyRef (Syntax.named 4) Syntax.mut Element.behind) 4)
+
+abbrev pub e54 : Row.Entry
+e54 = (6, PartMut.mslice-owedM (Element.type) (Syntax.tyRef (Syntax.named 4) Syntax.mut Element.behind) 4 7 Row.off)
+
+abbrev pub e55 : Row.Entry
+e55 = (
   7,
   Rows.any-gone (Syntax.tyEnum (List._∷_ 115 (List._∷_ 116 (List._∷_ 114 (List._∷_ 101 (List._∷_ 97 (List._∷_ 109 (List._∷_ 58 (List._∷_ 58 (List._∷_ 80 (List._∷_ 97 (List._∷_ 114 (List._∷_ 115
       (List._∷_ 101 (List._∷_ 100 List.[])))))))))))))) (Syntax.ttcons (Syntax.tcons y0 Syntax.tnil) (Syntax.ttcons (Syntax.tcons (Syntax.tyEnum (List._∷_ 115 (List._∷_ 116 (List._∷_ 114 (List._∷_ 101
@@ -610,17 +666,17 @@ e46 = (
       Syntax.ttnil))),
 )
 
-abbrev pub e47 : Row.Entry
-e47 = (7, Rows.whole (Declared.row Parsed.the-type))
+abbrev pub e56 : Row.Entry
+e56 = (7, Rows.whole (Declared.row Parsed.the-type))
 
-abbrev pub e48 : Row.Entry
-e48 = (7, Rows.whole (Known.Known Parsed.enum 0))
+abbrev pub e57 : Row.Entry
+e57 = (7, Rows.whole (Known.Known Parsed.enum 0))
 
-abbrev pub e49 : Row.Entry
-e49 = (7, Rows.whole (Known.Known Parsed.enum 1))
+abbrev pub e58 : Row.Entry
+e58 = (7, Rows.whole (Known.Known Parsed.enum 1))
 
-abbrev pub e50 : Row.Entry
-e50 = (
+abbrev pub e59 : Row.Entry
+e59 = (
   8,
   Rows.any-gone (Syntax.tyEnum (List._∷_ 115 (List._∷_ 116 (List._∷_ 114 (List._∷_ 101 (List._∷_ 97 (List._∷_ 109 (List._∷_ 58 (List._∷_ 58 (List._∷_ 82 (List._∷_ 101 (List._∷_ 102 (List._∷_ 117
       (List._∷_ 115 (List._∷_ 97 (List._∷_ 108 List.[]))))))))))))))) (Syntax.ttcons Syntax.tnil (Syntax.ttcons Syntax.tnil (Syntax.ttcons Syntax.tnil (Syntax.ttcons (Syntax.tcons (Syntax.tyInt Syntax.w64)
@@ -631,184 +687,229 @@ e50 = (
       Syntax.tnil) (Syntax.ttcons Syntax.tnil Syntax.ttnil)))))))))))))))))))))),
 )
 
-abbrev pub e51 : Row.Entry
-e51 = (8, Rows.whole (Declared.row Refusal.the-type))
+abbrev pub e60 : Row.Entry
+e60 = (8, Rows.whole (Declared.row Refusal.the-type))
 
-abbrev pub e52 : Row.Entry
-e52 = (9, Rows.any-gone y0)
+abbrev pub e61 : Row.Entry
+e61 = (9, Rows.any-gone y0)
 
-abbrev pub e53 : Row.Entry
-e53 = (9, Rows.whole (Declared'.row FujiHeader.the-type))
+abbrev pub e62 : Row.Entry
+e62 = (9, Rows.whole (Declared'.row FujiHeader.the-type))
 
 abbrev pub t0 : List.List Row.Entry
-t0 = List._∷_ e0 (List._∷_ e2 (List._∷_ e22 (List._∷_ e39 (List._∷_ e41 (List._∷_ e42 (List._∷_ e44 (List._∷_ e46 (List._∷_ e50 (List._∷_ e52 (List._∷_ e3 (List._∷_ e5 (List._∷_ e7 (List._∷_ e9
+t0 = List._∷_ e0 (List._∷_ e2 (List._∷_ e23 (List._∷_ e46 (List._∷_ e50 (List._∷_ e51 (List._∷_ e53 (List._∷_ e55 (List._∷_ e59 (List._∷_ e61 (List._∷_ e3 (List._∷_ e5 (List._∷_ e7 (List._∷_ e9
     (List._∷_ e11 (List._∷_ e13 List.[])))))))))))))))
 
 abbrev pub t1 : List.List Row.Entry
-t1 = List._∷_ e15 (List._∷_ e17 (List._∷_ e19 (List._∷_ e20 (List._∷_ e23 (List._∷_ e26 (List._∷_ e29 (List._∷_ e30 (List._∷_ e32 (List._∷_ e35 (List._∷_ e38 List.[]))))))))))
+t1 = List._∷_ e15 (List._∷_ e17 (List._∷_ e20 (List._∷_ e21 (List._∷_ e24 (List._∷_ e27 (List._∷_ e30 (List._∷_ e31 (List._∷_ e33 (List._∷_ e36 (List._∷_ e39 (List._∷_ e40 (List._∷_ e42 (List._∷_ e45
+    (List._∷_ e48 List.[]))))))))))))))
 
 abbrev pub t2 : List.List Row.Entry
-t2 = List._∷_ e1 (List._∷_ e2 (List._∷_ e22 (List._∷_ e39 (List._∷_ (4, Rows.any-gone Syntax.tyBool) (List._∷_ e42 (List._∷_ e44 (List._∷_ e46 (List._∷_ e50 (List._∷_ e52 (List._∷_ e3 (List._∷_ e5
+t2 = List._∷_ e1 (List._∷_ e2 (List._∷_ e23 (List._∷_ e46 (List._∷_ (4, Rows.any-gone Syntax.tyBool) (List._∷_ e51 (List._∷_ e53 (List._∷_ e55 (List._∷_ e59 (List._∷_ e61 (List._∷_ e3 (List._∷_ e5
     (List._∷_ e7 (List._∷_ e9 (List._∷_ e11 (List._∷_ e13 List.[])))))))))))))))
 
 abbrev pub t3 : List.List Row.Entry
-t3 = List._∷_ e0 (List._∷_ e2 (List._∷_ e22 (List._∷_ e39 (List._∷_ e41 (List._∷_ e42 (List._∷_ e44 (List._∷_ e46 (List._∷_ e50 (List._∷_ e52 (List._∷_ e3 (List._∷_ e5 (List._∷_ e7 (List._∷_ e10
+t3 = List._∷_ e0 (List._∷_ e2 (List._∷_ e23 (List._∷_ e46 (List._∷_ e50 (List._∷_ e51 (List._∷_ e53 (List._∷_ e55 (List._∷_ e59 (List._∷_ e61 (List._∷_ e3 (List._∷_ e5 (List._∷_ e7 (List._∷_ e10
     (List._∷_ e11 (List._∷_ e13 List.[])))))))))))))))
 
 abbrev pub t4 : List.List Row.Entry
-t4 = List._∷_ e0 (List._∷_ e2 (List._∷_ e22 (List._∷_ e39 (List._∷_ e41 (List._∷_ e42 (List._∷_ e44 (List._∷_ e46 (List._∷_ e50 (List._∷_ e52 (List._∷_ e3 (List._∷_ e5 (List._∷_ e7 (List._∷_ e10
+t4 = List._∷_ e0 (List._∷_ e2 (List._∷_ e23 (List._∷_ e46 (List._∷_ e50 (List._∷_ e51 (List._∷_ e53 (List._∷_ e55 (List._∷_ e59 (List._∷_ e61 (List._∷_ e3 (List._∷_ e5 (List._∷_ e7 (List._∷_ e10
     (List._∷_ e12 (List._∷_ e13 List.[])))))))))))))))
 
 abbrev pub t5 : List.List Row.Entry
-t5 = List._∷_ e0 (List._∷_ e2 (List._∷_ e22 (List._∷_ e39 (List._∷_ e41 (List._∷_ e42 (List._∷_ e44 (List._∷_ e46 (List._∷_ e50 (List._∷_ e52 (List._∷_ e3 (List._∷_ e5 (List._∷_ e7 (List._∷_ e10
+t5 = List._∷_ e0 (List._∷_ e2 (List._∷_ e23 (List._∷_ e46 (List._∷_ e50 (List._∷_ e51 (List._∷_ e53 (List._∷_ e55 (List._∷_ e59 (List._∷_ e61 (List._∷_ e3 (List._∷_ e5 (List._∷_ e7 (List._∷_ e10
     (List._∷_ e12 (List._∷_ e14 List.[])))))))))))))))
 
 abbrev pub t6 : List.List Row.Entry
-t6 = List._∷_ e0 (List._∷_ e2 (List._∷_ e22 (List._∷_ e39 (List._∷_ e41 (List._∷_ e42 (List._∷_ e44 (List._∷_ e47 (List._∷_ e50 (List._∷_ e52 (List._∷_ e3 (List._∷_ e5 (List._∷_ e7 (List._∷_ e10
+t6 = List._∷_ e0 (List._∷_ e2 (List._∷_ e23 (List._∷_ e46 (List._∷_ e50 (List._∷_ e51 (List._∷_ e53 (List._∷_ e56 (List._∷_ e59 (List._∷_ e61 (List._∷_ e3 (List._∷_ e5 (List._∷_ e7 (List._∷_ e10
     (List._∷_ e12 (List._∷_ e14 List.[])))))))))))))))
 
 abbrev pub t7 : List.List Row.Entry
-t7 = List._∷_ e16 (List._∷_ e17 (List._∷_ e19 (List._∷_ e20 (List._∷_ e23 (List._∷_ e26 (List._∷_ e29 (List._∷_ e30 (List._∷_ e32 (List._∷_ e35 (List._∷_ e38 List.[]))))))))))
+t7 = List._∷_ e16 (List._∷_ e17 (List._∷_ e20 (List._∷_ e21 (List._∷_ e24 (List._∷_ e27 (List._∷_ e30 (List._∷_ e31 (List._∷_ e33 (List._∷_ e36 (List._∷_ e39 (List._∷_ e40 (List._∷_ e42 (List._∷_ e45
+    (List._∷_ e48 List.[]))))))))))))))
 
 abbrev pub t8 : List.List Row.Entry
-t8 = List._∷_ e0 (List._∷_ e2 (List._∷_ e22 (List._∷_ e39 (List._∷_ e41 (List._∷_ e42 (List._∷_ e44 (List._∷_ e47 (List._∷_ e50 (List._∷_ e52 (List._∷_ e3 (List._∷_ e5 (List._∷_ e7 (List._∷_ e9
+t8 = List._∷_ e0 (List._∷_ e2 (List._∷_ e23 (List._∷_ e46 (List._∷_ e50 (List._∷_ e51 (List._∷_ e53 (List._∷_ e56 (List._∷_ e59 (List._∷_ e61 (List._∷_ e3 (List._∷_ e5 (List._∷_ e7 (List._∷_ e9
     (List._∷_ e12 (List._∷_ e14 List.[])))))))))))))))
 
 abbrev pub t9 : List.List Row.Entry
-t9 = List._∷_ e0 (List._∷_ e2 (List._∷_ e22 (List._∷_ e39 (List._∷_ e41 (List._∷_ e42 (List._∷_ e44 (List._∷_ e47 (List._∷_ e50 (List._∷_ e52 (List._∷_ e3 (List._∷_ e5 (List._∷_ e7 (List._∷_ e9
+t9 = List._∷_ e0 (List._∷_ e2 (List._∷_ e23 (List._∷_ e46 (List._∷_ e50 (List._∷_ e51 (List._∷_ e53 (List._∷_ e56 (List._∷_ e59 (List._∷_ e61 (List._∷_ e3 (List._∷_ e5 (List._∷_ e7 (List._∷_ e9
     (List._∷_ e11 (List._∷_ e14 List.[])))))))))))))))
 
 abbrev pub t10 : List.List Row.Entry
-t10 = List._∷_ e0 (List._∷_ e2 (List._∷_ e22 (List._∷_ e39 (List._∷_ e41 (List._∷_ e42 (List._∷_ e44 (List._∷_ e47 (List._∷_ e50 (List._∷_ e52 (List._∷_ e3 (List._∷_ e5 (List._∷_ e7 (List._∷_ e9
+t10 = List._∷_ e0 (List._∷_ e2 (List._∷_ e23 (List._∷_ e46 (List._∷_ e50 (List._∷_ e51 (List._∷_ e53 (List._∷_ e56 (List._∷_ e59 (List._∷_ e61 (List._∷_ e3 (List._∷_ e5 (List._∷_ e7 (List._∷_ e9
     (List._∷_ e11 (List._∷_ e13 List.[])))))))))))))))
 
 abbrev pub t11 : List.List Row.Entry
-t11 = List._∷_ e0 (List._∷_ e2 (List._∷_ e22 (List._∷_ e39 (List._∷_ e41 (List._∷_ e42 (List._∷_ e44 (List._∷_ e49 (List._∷_ e50 (List._∷_ e52 (List._∷_ e3 (List._∷_ e5 (List._∷_ e7 (List._∷_ e9
+t11 = List._∷_ e0 (List._∷_ e2 (List._∷_ e23 (List._∷_ e46 (List._∷_ e50 (List._∷_ e51 (List._∷_ e53 (List._∷_ e58 (List._∷_ e59 (List._∷_ e61 (List._∷_ e3 (List._∷_ e5 (List._∷_ e7 (List._∷_ e9
     (List._∷_ e11 (List._∷_ e13 List.[])))))))))))))))
 
 abbrev pub t12 : List.List Row.Entry
-t12 = List._∷_ e0 (List._∷_ e2 (List._∷_ e22 (List._∷_ e39 (List._∷_ e41 (List._∷_ e42 (List._∷_ e44 (List._∷_ e49 (List._∷_ e51 (List._∷_ e52 (List._∷_ e3 (List._∷_ e5 (List._∷_ e7 (List._∷_ e9
+t12 = List._∷_ e0 (List._∷_ e2 (List._∷_ e23 (List._∷_ e46 (List._∷_ e50 (List._∷_ e51 (List._∷_ e53 (List._∷_ e58 (List._∷_ e60 (List._∷_ e61 (List._∷_ e3 (List._∷_ e5 (List._∷_ e7 (List._∷_ e9
     (List._∷_ e11 (List._∷_ e13 List.[])))))))))))))))
 
 abbrev pub t13 : List.List Row.Entry
-t13 = List._∷_ e0 (List._∷_ e2 (List._∷_ e22 (List._∷_ e39 (List._∷_ e41 (List._∷_ e42 (List._∷_ e44 (List._∷_ e46 (List._∷_ e51 (List._∷_ e52 (List._∷_ e3 (List._∷_ e5 (List._∷_ e7 (List._∷_ e9
+t13 = List._∷_ e0 (List._∷_ e2 (List._∷_ e23 (List._∷_ e46 (List._∷_ e50 (List._∷_ e51 (List._∷_ e53 (List._∷_ e55 (List._∷_ e60 (List._∷_ e61 (List._∷_ e3 (List._∷_ e5 (List._∷_ e7 (List._∷_ e9
     (List._∷_ e11 (List._∷_ e13 List.[])))))))))))))))
 
 abbrev pub t14 : List.List Row.Entry
-t14 = List._∷_ e0 (List._∷_ e2 (List._∷_ e22 (List._∷_ e39 (List._∷_ e41 (List._∷_ e42 (List._∷_ e44 (List._∷_ e48 (List._∷_ e50 (List._∷_ e52 (List._∷_ e3 (List._∷_ e5 (List._∷_ e7 (List._∷_ e9
+t14 = List._∷_ e0 (List._∷_ e2 (List._∷_ e23 (List._∷_ e46 (List._∷_ e50 (List._∷_ e51 (List._∷_ e53 (List._∷_ e57 (List._∷_ e59 (List._∷_ e61 (List._∷_ e3 (List._∷_ e5 (List._∷_ e7 (List._∷_ e9
     (List._∷_ e11 (List._∷_ e13 List.[])))))))))))))))
 
 abbrev pub t15 : List.List Row.Entry
-t15 = List._∷_ e0 (List._∷_ e2 (List._∷_ e22 (List._∷_ e39 (List._∷_ e41 (List._∷_ e42 (List._∷_ e44 (List._∷_ e48 (List._∷_ e50 (List._∷_ e53 (List._∷_ e3 (List._∷_ e5 (List._∷_ e7 (List._∷_ e9
+t15 = List._∷_ e0 (List._∷_ e2 (List._∷_ e23 (List._∷_ e46 (List._∷_ e50 (List._∷_ e51 (List._∷_ e53 (List._∷_ e57 (List._∷_ e59 (List._∷_ e62 (List._∷_ e3 (List._∷_ e5 (List._∷_ e7 (List._∷_ e9
     (List._∷_ e11 (List._∷_ e13 List.[])))))))))))))))
 
 abbrev pub t16 : List.List Row.Entry
-t16 = List._∷_ e0 (List._∷_ e2 (List._∷_ e22 (List._∷_ e39 (List._∷_ e41 (List._∷_ e42 (List._∷_ e44 (List._∷_ e46 (List._∷_ e50 (List._∷_ e53 (List._∷_ e3 (List._∷_ e5 (List._∷_ e7 (List._∷_ e9
+t16 = List._∷_ e0 (List._∷_ e2 (List._∷_ e23 (List._∷_ e46 (List._∷_ e50 (List._∷_ e51 (List._∷_ e53 (List._∷_ e55 (List._∷_ e59 (List._∷_ e62 (List._∷_ e3 (List._∷_ e5 (List._∷_ e7 (List._∷_ e9
     (List._∷_ e11 (List._∷_ e13 List.[])))))))))))))))
 
 abbrev pub t17 : List.List Row.Entry
-t17 = List._∷_ e0 (List._∷_ e2 (List._∷_ e22 (List._∷_ e39 (List._∷_ e41 (List._∷_ e42 (List._∷_ e44 (List._∷_ e46 (List._∷_ e50 (List._∷_ e53 (List._∷_ e4 (List._∷_ e5 (List._∷_ e7 (List._∷_ e9
+t17 = List._∷_ e0 (List._∷_ e2 (List._∷_ e23 (List._∷_ e46 (List._∷_ e50 (List._∷_ e51 (List._∷_ e53 (List._∷_ e55 (List._∷_ e59 (List._∷_ e62 (List._∷_ e4 (List._∷_ e5 (List._∷_ e7 (List._∷_ e9
     (List._∷_ e11 (List._∷_ e13 List.[])))))))))))))))
 
 abbrev pub t18 : List.List Row.Entry
-t18 = List._∷_ e0 (List._∷_ e2 (List._∷_ e22 (List._∷_ e39 (List._∷_ e41 (List._∷_ e42 (List._∷_ e44 (List._∷_ e46 (List._∷_ e50 (List._∷_ e53 (List._∷_ e4 (List._∷_ e6 (List._∷_ e7 (List._∷_ e9
+t18 = List._∷_ e0 (List._∷_ e2 (List._∷_ e23 (List._∷_ e46 (List._∷_ e50 (List._∷_ e51 (List._∷_ e53 (List._∷_ e55 (List._∷_ e59 (List._∷_ e62 (List._∷_ e4 (List._∷_ e6 (List._∷_ e7 (List._∷_ e9
     (List._∷_ e11 (List._∷_ e13 List.[])))))))))))))))
 
 abbrev pub t19 : List.List Row.Entry
-t19 = List._∷_ e0 (List._∷_ e2 (List._∷_ e22 (List._∷_ e39 (List._∷_ e41 (List._∷_ e42 (List._∷_ e44 (List._∷_ e46 (List._∷_ e50 (List._∷_ e53 (List._∷_ e4 (List._∷_ e6 (List._∷_ e8 (List._∷_ e9
+t19 = List._∷_ e0 (List._∷_ e2 (List._∷_ e23 (List._∷_ e46 (List._∷_ e50 (List._∷_ e51 (List._∷_ e53 (List._∷_ e55 (List._∷_ e59 (List._∷_ e62 (List._∷_ e4 (List._∷_ e6 (List._∷_ e8 (List._∷_ e9
     (List._∷_ e11 (List._∷_ e13 List.[])))))))))))))))
 
 abbrev pub t20 : List.List Row.Entry
-t20 = List._∷_ e0 (List._∷_ e2 (List._∷_ e22 (List._∷_ e39 (List._∷_ e41 (List._∷_ e42 (List._∷_ e44 (List._∷_ e46 (List._∷_ e50 (List._∷_ e52 (List._∷_ e4 (List._∷_ e6 (List._∷_ e8 (List._∷_ e9
+t20 = List._∷_ e0 (List._∷_ e2 (List._∷_ e23 (List._∷_ e46 (List._∷_ e50 (List._∷_ e51 (List._∷_ e53 (List._∷_ e55 (List._∷_ e59 (List._∷_ e61 (List._∷_ e4 (List._∷_ e6 (List._∷_ e8 (List._∷_ e9
     (List._∷_ e11 (List._∷_ e13 List.[])))))))))))))))
 
 abbrev pub t21 : List.List Row.Entry
-t21 = List._∷_ e0 (List._∷_ e2 (List._∷_ e22 (List._∷_ e40 (List._∷_ e41 (List._∷_ e42 (List._∷_ e44 (List._∷_ e46 (List._∷_ e50 (List._∷_ e52 (List._∷_ e4 (List._∷_ e6 (List._∷_ e8 (List._∷_ e9
+t21 = List._∷_ e0 (List._∷_ e2 (List._∷_ e23 (List._∷_ e47 (List._∷_ e50 (List._∷_ e51 (List._∷_ e53 (List._∷_ e55 (List._∷_ e59 (List._∷_ e61 (List._∷_ e4 (List._∷_ e6 (List._∷_ e8 (List._∷_ e9
     (List._∷_ e11 (List._∷_ e13 List.[])))))))))))))))
 
 abbrev pub t22 : List.List Row.Entry
-t22 = List._∷_ e15 (List._∷_ (17, Relend.msptr (Referent.rtF (Referent.fInt Syntax.w8)) (Syntax.tyRef Syntax.erased Syntax.mut (Syntax.tyInt Syntax.w8)) 5) (List._∷_ e19 (List._∷_ e20 (List._∷_ e23
-    (List._∷_ e26 (List._∷_ e29 (List._∷_ e30 (List._∷_ e32 (List._∷_ e35 (List._∷_ e38 List.[]))))))))))
+t22 = List._∷_ e15 (List._∷_ (17, Relend.msptr (Referent.rtF (Referent.fInt Syntax.w8)) (Syntax.tyRef Syntax.erased Syntax.mut (Syntax.tyInt Syntax.w8)) 5) (List._∷_ e20 (List._∷_ e21 (List._∷_ e24
+    (List._∷_ e27 (List._∷_ e30 (List._∷_ e31 (List._∷_ e33 (List._∷_ e36 (List._∷_ e39 (List._∷_ e40 (List._∷_ e42 (List._∷_ e45 (List._∷_ e48 List.[]))))))))))))))
 
 abbrev pub t23 : List.List Row.Entry
-t23 = List._∷_ e15 (List._∷_ e17 (List._∷_ e18 (List._∷_ e20 (List._∷_ e23 (List._∷_ e26 (List._∷_ e29 (List._∷_ e30 (List._∷_ e32 (List._∷_ e35 (List._∷_ e38 List.[]))))))))))
+t23 = List._∷_ e15 (List._∷_ e17 (List._∷_ e19 (List._∷_ e21 (List._∷_ e24 (List._∷_ e27 (List._∷_ e30 (List._∷_ e31 (List._∷_ e33 (List._∷_ e36 (List._∷_ e39 (List._∷_ e40 (List._∷_ e42 (List._∷_ e45
+    (List._∷_ e48 List.[]))))))))))))))
 
 abbrev pub t24 : List.List Row.Entry
-t24 = List._∷_ e15 (List._∷_ e17 (List._∷_ e18 (List._∷_ e21 (List._∷_ e23 (List._∷_ e26 (List._∷_ e29 (List._∷_ e30 (List._∷_ e32 (List._∷_ e35 (List._∷_ e38 List.[]))))))))))
+t24 = List._∷_ e15 (List._∷_ e17 (List._∷_ e19 (List._∷_ e22 (List._∷_ e24 (List._∷_ e27 (List._∷_ e30 (List._∷_ e31 (List._∷_ e33 (List._∷_ e36 (List._∷_ e39 (List._∷_ e40 (List._∷_ e42 (List._∷_ e45
+    (List._∷_ e48 List.[]))))))))))))))
 
 abbrev pub t25 : List.List Row.Entry
-t25 = List._∷_ e15 (List._∷_ e17 (List._∷_ e18 (List._∷_ e21 (List._∷_ e24 (List._∷_ e26 (List._∷_ e29 (List._∷_ e30 (List._∷_ e32 (List._∷_ e35 (List._∷_ e38 List.[]))))))))))
+t25 = List._∷_ e15 (List._∷_ e17 (List._∷_ e19 (List._∷_ e22 (List._∷_ e25 (List._∷_ e27 (List._∷_ e30 (List._∷_ e31 (List._∷_ e33 (List._∷_ e36 (List._∷_ e39 (List._∷_ e40 (List._∷_ e42 (List._∷_ e45
+    (List._∷_ e48 List.[]))))))))))))))
 
 abbrev pub t26 : List.List Row.Entry
-t26 = List._∷_ e0 (List._∷_ e2 (List._∷_ e22 (List._∷_ e40 (List._∷_ e41 (List._∷_ e43 (List._∷_ e44 (List._∷_ e46 (List._∷_ e50 (List._∷_ e52 (List._∷_ e4 (List._∷_ e6 (List._∷_ e8 (List._∷_ e9
+t26 = List._∷_ e0 (List._∷_ e2 (List._∷_ e23 (List._∷_ e47 (List._∷_ e50 (List._∷_ e52 (List._∷_ e53 (List._∷_ e55 (List._∷_ e59 (List._∷_ e61 (List._∷_ e4 (List._∷_ e6 (List._∷_ e8 (List._∷_ e9
     (List._∷_ e11 (List._∷_ e13 List.[])))))))))))))))
 
 abbrev pub t27 : List.List Row.Entry
-t27 = List._∷_ e15 (List._∷_ e17 (List._∷_ e18 (List._∷_ e21 (List._∷_ e24 (List._∷_ e25 (List._∷_ e29 (List._∷_ e30 (List._∷_ e32 (List._∷_ e35 (List._∷_ e38 List.[]))))))))))
+t27 = List._∷_ e15 (List._∷_ e17 (List._∷_ e19 (List._∷_ e22 (List._∷_ e25 (List._∷_ e26 (List._∷_ e30 (List._∷_ e31 (List._∷_ e33 (List._∷_ e36 (List._∷_ e39 (List._∷_ e40 (List._∷_ e42 (List._∷_ e45
+    (List._∷_ e48 List.[]))))))))))))))
 
 abbrev pub t28 : List.List Row.Entry
-t28 = List._∷_ e15 (List._∷_ e17 (List._∷_ e18 (List._∷_ e20 (List._∷_ e24 (List._∷_ e25 (List._∷_ e29 (List._∷_ e30 (List._∷_ e32 (List._∷_ e35 (List._∷_ e38 List.[]))))))))))
+t28 = List._∷_ e15 (List._∷_ e17 (List._∷_ e19 (List._∷_ e21 (List._∷_ e25 (List._∷_ e26 (List._∷_ e30 (List._∷_ e31 (List._∷_ e33 (List._∷_ e36 (List._∷_ e39 (List._∷_ e40 (List._∷_ e42 (List._∷_ e45
+    (List._∷_ e48 List.[]))))))))))))))
 
 abbrev pub t29 : List.List Row.Entry
-t29 = List._∷_ e15 (List._∷_ e17 (List._∷_ e18 (List._∷_ e20 (List._∷_ e24 (List._∷_ e26 (List._∷_ e28 (List._∷_ e30 (List._∷_ e32 (List._∷_ e35 (List._∷_ e38 List.[]))))))))))
+t29 = List._∷_ e15 (List._∷_ e17 (List._∷_ e19 (List._∷_ e21 (List._∷_ e25 (List._∷_ e27 (List._∷_ e29 (List._∷_ e31 (List._∷_ e33 (List._∷_ e36 (List._∷_ e39 (List._∷_ e40 (List._∷_ e42 (List._∷_ e45
+    (List._∷_ e48 List.[]))))))))))))))
 
 abbrev pub t30 : List.List Row.Entry
-t30 = List._∷_ e15 (List._∷_ e17 (List._∷_ e18 (List._∷_ e20 (List._∷_ e23 (List._∷_ e26 (List._∷_ e28 (List._∷_ e30 (List._∷_ e32 (List._∷_ e35 (List._∷_ e38 List.[]))))))))))
+t30 = List._∷_ e15 (List._∷_ e17 (List._∷_ e19 (List._∷_ e21 (List._∷_ e24 (List._∷_ e27 (List._∷_ e29 (List._∷_ e31 (List._∷_ e33 (List._∷_ e36 (List._∷_ e39 (List._∷_ e40 (List._∷_ e42 (List._∷_ e45
+    (List._∷_ e48 List.[]))))))))))))))
 
 abbrev pub t31 : List.List Row.Entry
-t31 = List._∷_ e15 (List._∷_ e17 (List._∷_ e18 (List._∷_ e20 (List._∷_ e23 (List._∷_ e26 (List._∷_ e28 (List._∷_ e31 (List._∷_ e32 (List._∷_ e35 (List._∷_ e38 List.[]))))))))))
+t31 = List._∷_ e15 (List._∷_ e17 (List._∷_ e19 (List._∷_ e21 (List._∷_ e24 (List._∷_ e27 (List._∷_ e29 (List._∷_ e32 (List._∷_ e33 (List._∷_ e36 (List._∷_ e39 (List._∷_ e40 (List._∷_ e42 (List._∷_ e45
+    (List._∷_ e48 List.[]))))))))))))))
 
 abbrev pub t32 : List.List Row.Entry
-t32 = List._∷_ e15 (List._∷_ e17 (List._∷_ e18 (List._∷_ e20 (List._∷_ e23 (List._∷_ e26 (List._∷_ e28 (List._∷_ e31 (List._∷_ e33 (List._∷_ e35 (List._∷_ e38 List.[]))))))))))
+t32 = List._∷_ e15 (List._∷_ e17 (List._∷_ e19 (List._∷_ e21 (List._∷_ e24 (List._∷_ e27 (List._∷_ e29 (List._∷_ e32 (List._∷_ e34 (List._∷_ e36 (List._∷_ e39 (List._∷_ e40 (List._∷_ e42 (List._∷_ e45
+    (List._∷_ e48 List.[]))))))))))))))
 
 abbrev pub t33 : List.List Row.Entry
-t33 = List._∷_ e0 (List._∷_ e2 (List._∷_ e22 (List._∷_ e40 (List._∷_ e41 (List._∷_ e43 (List._∷_ e45 (List._∷_ e46 (List._∷_ e50 (List._∷_ e52 (List._∷_ e4 (List._∷_ e6 (List._∷_ e8 (List._∷_ e9
+t33 = List._∷_ e0 (List._∷_ e2 (List._∷_ e23 (List._∷_ e47 (List._∷_ e50 (List._∷_ e52 (List._∷_ e54 (List._∷_ e55 (List._∷_ e59 (List._∷_ e61 (List._∷_ e4 (List._∷_ e6 (List._∷_ e8 (List._∷_ e9
     (List._∷_ e11 (List._∷_ e13 List.[])))))))))))))))
 
 abbrev pub t34 : List.List Row.Entry
-t34 = List._∷_ e15 (List._∷_ e17 (List._∷_ e18 (List._∷_ e20 (List._∷_ e23 (List._∷_ e26 (List._∷_ e28 (List._∷_ e31 (List._∷_ e33 (List._∷_ e34 (List._∷_ e38 List.[]))))))))))
+t34 = List._∷_ e15 (List._∷_ e17 (List._∷_ e19 (List._∷_ e21 (List._∷_ e24 (List._∷_ e27 (List._∷_ e29 (List._∷_ e32 (List._∷_ e34 (List._∷_ e35 (List._∷_ e39 (List._∷_ e40 (List._∷_ e42 (List._∷_ e45
+    (List._∷_ e48 List.[]))))))))))))))
 
 abbrev pub t35 : List.List Row.Entry
-t35 = List._∷_ e15 (List._∷_ e17 (List._∷_ e18 (List._∷_ e20 (List._∷_ e23 (List._∷_ e26 (List._∷_ e28 (List._∷_ e30 (List._∷_ e33 (List._∷_ e34 (List._∷_ e38 List.[]))))))))))
+t35 = List._∷_ e15 (List._∷_ e17 (List._∷_ e19 (List._∷_ e21 (List._∷_ e24 (List._∷_ e27 (List._∷_ e29 (List._∷_ e31 (List._∷_ e34 (List._∷_ e35 (List._∷_ e39 (List._∷_ e40 (List._∷_ e42 (List._∷_ e45
+    (List._∷_ e48 List.[]))))))))))))))
 
 abbrev pub t36 : List.List Row.Entry
-t36 = List._∷_ e15 (List._∷_ e17 (List._∷_ e18 (List._∷_ e20 (List._∷_ e23 (List._∷_ e26 (List._∷_ e28 (List._∷_ e30 (List._∷_ e33 (List._∷_ e35 (List._∷_ e37 List.[]))))))))))
+t36 = List._∷_ e15 (List._∷_ e17 (List._∷_ e19 (List._∷_ e21 (List._∷_ e24 (List._∷_ e27 (List._∷_ e29 (List._∷_ e31 (List._∷_ e34 (List._∷_ e36 (List._∷_ e38 (List._∷_ e40 (List._∷_ e42 (List._∷_ e45
+    (List._∷_ e48 List.[]))))))))))))))
 
 abbrev pub t37 : List.List Row.Entry
-t37 = List._∷_ e15 (List._∷_ e17 (List._∷_ e18 (List._∷_ e20 (List._∷_ e23 (List._∷_ e26 (List._∷_ e28 (List._∷_ e30 (List._∷_ e32 (List._∷_ e35 (List._∷_ e37 List.[]))))))))))
+t37 = List._∷_ e15 (List._∷_ e17 (List._∷_ e19 (List._∷_ e21 (List._∷_ e24 (List._∷_ e27 (List._∷_ e29 (List._∷_ e31 (List._∷_ e33 (List._∷_ e36 (List._∷_ e38 (List._∷_ e40 (List._∷_ e42 (List._∷_ e45
+    (List._∷_ e48 List.[]))))))))))))))
 
 abbrev pub t38 : List.List Row.Entry
-t38 = List._∷_ e16 (List._∷_ e17 (List._∷_ (18, Mut.msleft (Referent.rtF (Referent.fInt Syntax.w8)) (Syntax.tyRef Syntax.erased Syntax.mut (Syntax.tyInt Syntax.w8))) (List._∷_ e20 (List._∷_ e23
-    (List._∷_ e26 (List._∷_ e27 (List._∷_ e30 (List._∷_ e32 (List._∷_ e35 (List._∷_ e36 List.[]))))))))))
+t38 = List._∷_ e15 (List._∷_ e17 (List._∷_ e19 (List._∷_ e21 (List._∷_ e24 (List._∷_ e27 (List._∷_ e29 (List._∷_ e31 (List._∷_ e33 (List._∷_ e36 (List._∷_ e38 (List._∷_ e41 (List._∷_ e42 (List._∷_ e45
+    (List._∷_ e48 List.[]))))))))))))))
 
 abbrev pub t39 : List.List Row.Entry
-t39 = List._∷_ e0 (List._∷_ e2 (List._∷_ e22 (List._∷_ e40 (List._∷_ e41 (List._∷_ e43 (List._∷_ e45 (List._∷_ e46 (List._∷_ e50 (List._∷_ e52 (List._∷_ e3 (List._∷_ e6 (List._∷_ e8 (List._∷_ e9
-    (List._∷_ e11 (List._∷_ e13 List.[])))))))))))))))
+t39 = List._∷_ e15 (List._∷_ e17 (List._∷_ e19 (List._∷_ e21 (List._∷_ e24 (List._∷_ e27 (List._∷_ e29 (List._∷_ e31 (List._∷_ e33 (List._∷_ e36 (List._∷_ e38 (List._∷_ e41 (List._∷_ e43 (List._∷_ e45
+    (List._∷_ e48 List.[]))))))))))))))
 
 abbrev pub t40 : List.List Row.Entry
-t40 = List._∷_ e0 (List._∷_ e2 (List._∷_ e22 (List._∷_ e40 (List._∷_ e41 (List._∷_ e43 (List._∷_ e45 (List._∷_ e46 (List._∷_ e50 (List._∷_ e52 (List._∷_ e3 (List._∷_ e5 (List._∷_ e8 (List._∷_ e9
-    (List._∷_ e11 (List._∷_ e13 List.[])))))))))))))))
+t40 = List._∷_ e15 (List._∷_ e17 (List._∷_ e19 (List._∷_ e21 (List._∷_ e24 (List._∷_ e27 (List._∷_ e29 (List._∷_ e31 (List._∷_ e33 (List._∷_ e36 (List._∷_ e38 (List._∷_ e41 (List._∷_ e43 (List._∷_ e44
+    (List._∷_ e48 List.[]))))))))))))))
 
 abbrev pub t41 : List.List Row.Entry
-t41 = List._∷_ e0 (List._∷_ e2 (List._∷_ e22 (List._∷_ e40 (List._∷_ e41 (List._∷_ e43 (List._∷_ e45 (List._∷_ e46 (List._∷_ e50 (List._∷_ e52 (List._∷_ e3 (List._∷_ e5 (List._∷_ e7 (List._∷_ e9
-    (List._∷_ e11 (List._∷_ e13 List.[])))))))))))))))
+t41 = List._∷_ e15 (List._∷_ e17 (List._∷_ e19 (List._∷_ e21 (List._∷_ e24 (List._∷_ e27 (List._∷_ e29 (List._∷_ e31 (List._∷_ e33 (List._∷_ e36 (List._∷_ e38 (List._∷_ e40 (List._∷_ e43 (List._∷_ e44
+    (List._∷_ e48 List.[]))))))))))))))
 
 abbrev pub t42 : List.List Row.Entry
-t42 = List._∷_ e0 (List._∷_ e2 (List._∷_ e22 (List._∷_ e39 (List._∷_ e41 (List._∷_ e43 (List._∷_ e45 (List._∷_ e46 (List._∷_ e50 (List._∷_ e52 (List._∷_ e3 (List._∷_ e5 (List._∷_ e7 (List._∷_ e9
-    (List._∷_ e11 (List._∷_ e13 List.[])))))))))))))))
+t42 = List._∷_ e15 (List._∷_ e17 (List._∷_ e19 (List._∷_ e21 (List._∷_ e24 (List._∷_ e27 (List._∷_ e29 (List._∷_ e31 (List._∷_ e33 (List._∷_ e36 (List._∷_ e38 (List._∷_ e40 (List._∷_ e43 (List._∷_ e45
+    (List._∷_ e49 List.[]))))))))))))))
 
 abbrev pub t43 : List.List Row.Entry
-t43 = List._∷_ e16 (List._∷_ e17 (List._∷_ e19 (List._∷_ e20 (List._∷_ e23 (List._∷_ e26 (List._∷_ e27 (List._∷_ e30 (List._∷_ e32 (List._∷_ e35 (List._∷_ e36 List.[]))))))))))
+t43 = List._∷_ e15 (List._∷_ e17 (List._∷_ e19 (List._∷_ e21 (List._∷_ e24 (List._∷_ e27 (List._∷_ e29 (List._∷_ e31 (List._∷_ e33 (List._∷_ e36 (List._∷_ e38 (List._∷_ e40 (List._∷_ e42 (List._∷_ e45
+    (List._∷_ e49 List.[]))))))))))))))
 
 abbrev pub t44 : List.List Row.Entry
-t44 = List._∷_ e0 (List._∷_ e2 (List._∷_ e22 (List._∷_ e39 (List._∷_ e41 (List._∷_ e42 (List._∷_ e45 (List._∷_ e46 (List._∷_ e50 (List._∷_ e52 (List._∷_ e3 (List._∷_ e5 (List._∷_ e7 (List._∷_ e9
-    (List._∷_ e11 (List._∷_ e13 List.[])))))))))))))))
+t44 = List._∷_ e16 (List._∷_ e17 (List._∷_ e18 (List._∷_ e21 (List._∷_ e24 (List._∷_ e27 (List._∷_ e28 (List._∷_ e31 (List._∷_ e33 (List._∷_ e36 (List._∷_ e37 (List._∷_ e40 (List._∷_ e42 (List._∷_ e45
+    (List._∷_ e49 List.[]))))))))))))))
 
 abbrev pub t45 : List.List Row.Entry
-t45 = List._∷_ e16 (List._∷_ e17 (List._∷_ e19 (List._∷_ e20 (List._∷_ e23 (List._∷_ e26 (List._∷_ e29 (List._∷_ e30 (List._∷_ e32 (List._∷_ e35 (List._∷_ e36 List.[]))))))))))
+t45 = List._∷_ e16 (List._∷_ e17 (List._∷_ e18 (List._∷_ e21 (List._∷_ e24 (List._∷_ e27 (List._∷_ e28 (List._∷_ e31 (List._∷_ e33 (List._∷_ e36 (List._∷_ e37 (List._∷_ e40 (List._∷_ e42 (List._∷_ e45
+    (List._∷_ e48 List.[]))))))))))))))
 
 abbrev pub t46 : List.List Row.Entry
-t46 = List._∷_ e1 (List._∷_ e2 (List._∷_ e22 (List._∷_ e39 (List._∷_ e41 (List._∷_ e42 (List._∷_ e44 (List._∷_ e46 (List._∷_ e50 (List._∷_ e52 (List._∷_ e3 (List._∷_ e5 (List._∷_ e7 (List._∷_ e9
+t46 = List._∷_ e0 (List._∷_ e2 (List._∷_ e23 (List._∷_ e47 (List._∷_ e50 (List._∷_ e52 (List._∷_ e54 (List._∷_ e55 (List._∷_ e59 (List._∷_ e61 (List._∷_ e3 (List._∷_ e6 (List._∷_ e8 (List._∷_ e9
+    (List._∷_ e11 (List._∷_ e13 List.[])))))))))))))))
+
+abbrev pub t47 : List.List Row.Entry
+t47 = List._∷_ e0 (List._∷_ e2 (List._∷_ e23 (List._∷_ e47 (List._∷_ e50 (List._∷_ e52 (List._∷_ e54 (List._∷_ e55 (List._∷_ e59 (List._∷_ e61 (List._∷_ e3 (List._∷_ e5 (List._∷_ e8 (List._∷_ e9
+    (List._∷_ e11 (List._∷_ e13 List.[])))))))))))))))
+
+abbrev pub t48 : List.List Row.Entry
+t48 = List._∷_ e0 (List._∷_ e2 (List._∷_ e23 (List._∷_ e47 (List._∷_ e50 (List._∷_ e52 (List._∷_ e54 (List._∷_ e55 (List._∷_ e59 (List._∷_ e61 (List._∷_ e3 (List._∷_ e5 (List._∷_ e7 (List._∷_ e9
+    (List._∷_ e11 (List._∷_ e13 List.[])))))))))))))))
+
+abbrev pub t49 : List.List Row.Entry
+t49 = List._∷_ e0 (List._∷_ e2 (List._∷_ e23 (List._∷_ e46 (List._∷_ e50 (List._∷_ e52 (List._∷_ e54 (List._∷_ e55 (List._∷_ e59 (List._∷_ e61 (List._∷_ e3 (List._∷_ e5 (List._∷_ e7 (List._∷_ e9
+    (List._∷_ e11 (List._∷_ e13 List.[])))))))))))))))
+
+abbrev pub t50 : List.List Row.Entry
+t50 = List._∷_ e16 (List._∷_ e17 (List._∷_ e20 (List._∷_ e21 (List._∷_ e24 (List._∷_ e27 (List._∷_ e28 (List._∷_ e31 (List._∷_ e33 (List._∷_ e36 (List._∷_ e37 (List._∷_ e40 (List._∷_ e42 (List._∷_ e45
+    (List._∷_ e48 List.[]))))))))))))))
+
+abbrev pub t51 : List.List Row.Entry
+t51 = List._∷_ e0 (List._∷_ e2 (List._∷_ e23 (List._∷_ e46 (List._∷_ e50 (List._∷_ e51 (List._∷_ e54 (List._∷_ e55 (List._∷_ e59 (List._∷_ e61 (List._∷_ e3 (List._∷_ e5 (List._∷_ e7 (List._∷_ e9
+    (List._∷_ e11 (List._∷_ e13 List.[])))))))))))))))
+
+abbrev pub t52 : List.List Row.Entry
+t52 = List._∷_ e16 (List._∷_ e17 (List._∷_ e20 (List._∷_ e21 (List._∷_ e24 (List._∷_ e27 (List._∷_ e30 (List._∷_ e31 (List._∷_ e33 (List._∷_ e36 (List._∷_ e37 (List._∷_ e40 (List._∷_ e42 (List._∷_ e45
+    (List._∷_ e48 List.[]))))))))))))))
+
+abbrev pub t53 : List.List Row.Entry
+t53 = List._∷_ e1 (List._∷_ e2 (List._∷_ e23 (List._∷_ e46 (List._∷_ e50 (List._∷_ e51 (List._∷_ e53 (List._∷_ e55 (List._∷_ e59 (List._∷_ e61 (List._∷_ e3 (List._∷_ e5 (List._∷_ e7 (List._∷_ e9
     (List._∷_ e11 (List._∷_ e13 List.[])))))))))))))))
 
 abbrev pub T0 : Row.Cx
@@ -941,37 +1042,58 @@ abbrev pub T45 : Row.Cx
 T45 = record { locals = List._++_ t33 t38; slots = List.[] }
 
 abbrev pub T46 : Row.Cx
-T46 = record { locals = List._++_ t39 t38; slots = List.[] }
+T46 = record { locals = List._++_ t33 t39; slots = List.[] }
 
 abbrev pub T47 : Row.Cx
-T47 = record { locals = List._++_ t40 t38; slots = List.[] }
+T47 = record { locals = List._++_ t33 t40; slots = List.[] }
 
 abbrev pub T48 : Row.Cx
-T48 = record { locals = List._++_ t41 t38; slots = List.[] }
+T48 = record { locals = List._++_ t33 t41; slots = List.[] }
+
+abbrev pub T49 : Row.Cx
+T49 = record { locals = List._++_ t33 t42; slots = List.[] }
 
 abbrev pub T50 : Row.Cx
-T50 = record { locals = List._++_ t42 t43; slots = List.[] }
+T50 = record { locals = List._++_ t33 t43; slots = List.[] }
 
 abbrev pub T51 : Row.Cx
-T51 = record { locals = List._++_ t42 t43; slots = List.[] }
+T51 = record { locals = List._++_ t33 t44; slots = List.[] }
+
+abbrev pub T52 : Row.Cx
+T52 = record { locals = List._++_ t33 t45; slots = List.[] }
+
+abbrev pub T53 : Row.Cx
+T53 = record { locals = List._++_ t46 t45; slots = List.[] }
 
 abbrev pub T54 : Row.Cx
-T54 = record { locals = List._++_ t44 t45; slots = List.[] }
+T54 = record { locals = List._++_ t47 t45; slots = List.[] }
 
 abbrev pub T55 : Row.Cx
-T55 = record { locals = List._++_ t44 t45; slots = List.[] }
+T55 = record { locals = List._++_ t48 t45; slots = List.[] }
+
+abbrev pub T57 : Row.Cx
+T57 = record { locals = List._++_ t49 t50; slots = List.[] }
 
 abbrev pub T58 : Row.Cx
-T58 = record { locals = List._++_ t0 t7; slots = List.[] }
-
-abbrev pub T60 : Row.Cx
-T60 = record { locals = List._++_ t46 t7; slots = List.[] }
+T58 = record { locals = List._++_ t49 t50; slots = List.[] }
 
 abbrev pub T61 : Row.Cx
-T61 = record { locals = List._++_ t46 t1; slots = List.[] }
+T61 = record { locals = List._++_ t51 t52; slots = List.[] }
 
 abbrev pub T62 : Row.Cx
-T62 = record { locals = List._++_ t2 t1; slots = List.[] }
+T62 = record { locals = List._++_ t51 t52; slots = List.[] }
+
+abbrev pub T65 : Row.Cx
+T65 = record { locals = List._++_ t0 t7; slots = List.[] }
+
+abbrev pub T67 : Row.Cx
+T67 = record { locals = List._++_ t53 t7; slots = List.[] }
+
+abbrev pub T68 : Row.Cx
+T68 = record { locals = List._++_ t53 t1; slots = List.[] }
+
+abbrev pub T69 : Row.Cx
+T69 = record { locals = List._++_ t2 t1; slots = List.[] }
 
 abbrev pub O0 : Typed.Outs
 O0 = record { next = Option.none; exits = List.[]; returns = Option.some T1 }
@@ -1079,7 +1201,7 @@ module _ (claims· : Claims) where
   s21 = Call.callB ps·1 r·1 (claims· .2) (claims· .3) T23 (Bool.bFld 9 (List._∷_ (Syntax.field 1) List.[]) 1 λ x. FujiHeader.struct .as-values x .1 .0, tt) 10 List.[] (Syntax.tyInt Syntax.w64)
 
   abbrev s22 : Typed.Both T24 T25
-  s22 = Call.callB ps·2 r·2 (claims· .4) (claims· .5) T24 (record { pos = 9; st = List.[]; d = 0; at = λ x. x }, tt) 11 List.[] y4
+  s22 = Call.callB ps·2 r·2 (claims· .4) (claims· .5) T24 (record { pos = 9; st = List.[]; d = 0; at = λ x. x }, tt) 11 List.[] y5
 
   abbrev s23 : Typed.Both T25 T26
   s23 = Call.callB ps·3 r·3 (claims· .6) (claims· .7) T25 (record { pos = 9; st = List.[]; d = 0; at = λ x. x }, tt) 12 List.[] (Syntax.tyInt Syntax.w64)
@@ -1138,8 +1260,29 @@ module _ (claims· : Claims) where
   abbrev s41 : Typed.Mo T43 → Typed.Mo T44
   s41 = Scalar.n-room T43 24 (Syntax.tyInt Syntax.w64)
 
-  abbrev s42 : Typed.Both T44 T45
-  s42 = Call.callB ps·4 r·4 (claims· .8) (claims· .9) T44 (
+  abbrev s42 : Typed.Asks T44 T45
+  s42 = Scalar.k-op2 T44 Syntax.offset (Scalar.oFld 1 (List._∷_ (Syntax.field 0) List.[]) (Syntax.tyRef (Syntax.named 0) Syntax.imm (Syntax.tyInt Syntax.w8)) 0 Reads'.ptrVal) (Scalar.oInt Syntax.w64
+      0) 27 (Rows.sc-here Row.sPtr) (Row.sPtr .of)
+
+  abbrev s43 : Typed.Asks T45 T46
+  s43 = Scalar.k-op2 T45 (Syntax.sub Syntax.unsigned) (Scalar.oInt Syntax.w64 0) (Scalar.oInt Syntax.w64 0) 28 (Rows.sc-here (Row.sInt Syntax.w64)) (Row.sInt Syntax.w64 .of)
+
+  abbrev s44 : Typed.Both T46 T47
+  s44 = PartAt.k-shs-part-same (Referent.rtF (Referent.fInt Syntax.w8)) T46 1 27 29 0 (Syntax.tyRef (Syntax.named 0) Syntax.imm (Syntax.tyInt Syntax.w8)) (Syntax.tyRef Syntax.erased Syntax.imm
+      (Syntax.tyInt Syntax.w8)) Row.off Shared.byByte (λ x. x) (λ x. x) (λ u. 0) λ u. 0
+
+  abbrev s45 : Typed.Mo T47 → Typed.Mo T48
+  s45 = Scalar.n-room T47 27 Syntax.tyPtr
+
+  abbrev s46 : Typed.Asks T48 T49
+  s46 = Relend.k-sl-aggregate (Referent.rtF (Referent.fInt Syntax.w8)) (Relend.asShr (Referent.rtF (Referent.fInt Syntax.w8))) T48 29 30 0 (Syntax.tyRef Syntax.erased Syntax.imm (Syntax.tyInt
+      Syntax.w8)) (Syntax.tyRef Syntax.erased Syntax.imm (Syntax.tyInt Syntax.w8)) (λ x. x) (Scalar.oAt 28 (Syntax.tyInt Syntax.w64) (Row.valS (Row.sInt Syntax.w64)))
+
+  abbrev s47 : Typed.Mo T49 → Typed.Mo T50
+  s47 = Scalar.n-room T49 28 (Syntax.tyInt Syntax.w64)
+
+  abbrev s48 : Typed.Both T50 T51
+  s48 = Call.callB ps·4 r·4 (claims· .8) (claims· .9) T50 (
     record { pos = 2; ty = Syntax.tyRef (Syntax.named 1) Syntax.imm (Syntax.tyInt Syntax.w16); ref = λ x. x },
     (
       record { pos = 18; ty = Syntax.tyRef Syntax.erased Syntax.mut (Syntax.tyInt Syntax.w8); ref = λ x. x },
@@ -1147,52 +1290,58 @@ module _ (claims· : Claims) where
         Bool.bAt 4 λ x. x,
         (
           record { pos = 22; ty = Syntax.tyRef Syntax.erased Syntax.mut (Syntax.tyInt Syntax.w16); ref = λ x. x },
-          (record { pos = 26; ty = Syntax.tyRef Syntax.erased Syntax.mut Element.behind; ref = λ x. x }, (record { pos = 11; st = List.[]; d = 0; at = λ x. x }, (Num.vAt 12 λ x. x, tt))),
+          (
+            record { pos = 26; ty = Syntax.tyRef Syntax.erased Syntax.mut Element.behind; ref = λ x. x },
+            (record { pos = 11; st = List.[]; d = 0; at = λ x. x }, (record { pos = 30; ty = Syntax.tyRef Syntax.erased Syntax.imm (Syntax.tyInt Syntax.w8); ref = λ x. x }, (Num.vAt 12 λ x. x, tt))),
+          ),
         ),
       ),
     ),
-  ) 16 (List._∷_ 1
-      (List._∷_ 5 (List._∷_ 6 (List._∷_ 7 List.[])))) (Syntax.tyEnum (List._∷_ 115 (List._∷_ 116 (List._∷_ 114 (List._∷_ 101 (List._∷_ 97 (List._∷_ 109 (List._∷_ 58 (List._∷_ 58 (List._∷_ 66 (List._∷_ 108
-      (List._∷_ 111 (List._∷_ 99 (List._∷_ 107 (List._∷_ 76 (List._∷_ 101 (List._∷_ 110 (List._∷_ 103 (List._∷_ 116 (List._∷_ 104 List.[]))))))))))))))))))) (Syntax.ttcons (Syntax.tcons (Syntax.tyInt
-      Syntax.w64) Syntax.tnil) (Syntax.ttcons (Syntax.tcons (Syntax.tyEnum (List._∷_ 115 (List._∷_ 116 (List._∷_ 114 (List._∷_ 101 (List._∷_ 97 (List._∷_ 109 (List._∷_ 58 (List._∷_ 58 (List._∷_ 82
-      (List._∷_ 101 (List._∷_ 102 (List._∷_ 117 (List._∷_ 115 (List._∷_ 97 (List._∷_ 108 List.[]))))))))))))))) (Syntax.ttcons Syntax.tnil (Syntax.ttcons Syntax.tnil (Syntax.ttcons Syntax.tnil
-      (Syntax.ttcons (Syntax.tcons (Syntax.tyInt Syntax.w64) Syntax.tnil) (Syntax.ttcons Syntax.tnil (Syntax.ttcons Syntax.tnil (Syntax.ttcons Syntax.tnil (Syntax.ttcons Syntax.tnil (Syntax.ttcons
-      Syntax.tnil (Syntax.ttcons Syntax.tnil (Syntax.ttcons (Syntax.tcons (Syntax.tyInt Syntax.w64) Syntax.tnil) (Syntax.ttcons (Syntax.tcons (Syntax.tyInt Syntax.w64) Syntax.tnil) (Syntax.ttcons
-      Syntax.tnil (Syntax.ttcons (Syntax.tcons (Syntax.tyInt Syntax.w64) (Syntax.tcons (Syntax.tyInt Syntax.w64) Syntax.tnil)) (Syntax.ttcons (Syntax.tcons (Syntax.tyInt Syntax.w64) Syntax.tnil)
-      (Syntax.ttcons Syntax.tnil (Syntax.ttcons Syntax.tnil (Syntax.ttcons (Syntax.tcons (Syntax.tyInt Syntax.w64) Syntax.tnil) (Syntax.ttcons (Syntax.tcons (Syntax.tyInt Syntax.w64) Syntax.tnil)
-      (Syntax.ttcons (Syntax.tcons (Syntax.tyInt Syntax.w64) Syntax.tnil) (Syntax.ttcons Syntax.tnil Syntax.ttnil)))))))))))))))))))))) Syntax.tnil) Syntax.ttnil)))
+  ) 16
+      (List._∷_ 1 (List._∷_ 5 (List._∷_ 6 (List._∷_ 7 (List._∷_ 0 List.[]))))) (Syntax.tyEnum (List._∷_ 115 (List._∷_ 116 (List._∷_ 114 (List._∷_ 101 (List._∷_ 97 (List._∷_ 109 (List._∷_ 58 (List._∷_ 58
+      (List._∷_ 66 (List._∷_ 108 (List._∷_ 111 (List._∷_ 99 (List._∷_ 107 (List._∷_ 76 (List._∷_ 101 (List._∷_ 110 (List._∷_ 103 (List._∷_ 116 (List._∷_ 104 List.[]))))))))))))))))))) (Syntax.ttcons
+      (Syntax.tcons (Syntax.tyInt Syntax.w64) Syntax.tnil) (Syntax.ttcons (Syntax.tcons (Syntax.tyEnum (List._∷_ 115 (List._∷_ 116 (List._∷_ 114 (List._∷_ 101 (List._∷_ 97 (List._∷_ 109 (List._∷_ 58
+      (List._∷_ 58 (List._∷_ 82 (List._∷_ 101 (List._∷_ 102 (List._∷_ 117 (List._∷_ 115 (List._∷_ 97 (List._∷_ 108 List.[]))))))))))))))) (Syntax.ttcons Syntax.tnil (Syntax.ttcons Syntax.tnil
+      (Syntax.ttcons Syntax.tnil (Syntax.ttcons (Syntax.tcons (Syntax.tyInt Syntax.w64) Syntax.tnil) (Syntax.ttcons Syntax.tnil (Syntax.ttcons Syntax.tnil (Syntax.ttcons Syntax.tnil (Syntax.ttcons
+      Syntax.tnil (Syntax.ttcons Syntax.tnil (Syntax.ttcons Syntax.tnil (Syntax.ttcons (Syntax.tcons (Syntax.tyInt Syntax.w64) Syntax.tnil) (Syntax.ttcons (Syntax.tcons (Syntax.tyInt Syntax.w64)
+      Syntax.tnil) (Syntax.ttcons Syntax.tnil (Syntax.ttcons (Syntax.tcons (Syntax.tyInt Syntax.w64) (Syntax.tcons (Syntax.tyInt Syntax.w64) Syntax.tnil)) (Syntax.ttcons (Syntax.tcons (Syntax.tyInt
+      Syntax.w64) Syntax.tnil) (Syntax.ttcons Syntax.tnil (Syntax.ttcons Syntax.tnil (Syntax.ttcons (Syntax.tcons (Syntax.tyInt Syntax.w64) Syntax.tnil) (Syntax.ttcons (Syntax.tcons (Syntax.tyInt
+      Syntax.w64) Syntax.tnil) (Syntax.ttcons (Syntax.tcons (Syntax.tyInt Syntax.w64) Syntax.tnil) (Syntax.ttcons Syntax.tnil Syntax.ttnil)))))))))))))))))))))) Syntax.tnil) Syntax.ttnil)))
 
-  abbrev s43 : Typed.Mo T45 → Typed.Mo T46
-  s43 = Scalar.n-room T45 10 (Syntax.tyInt Syntax.w64)
+  abbrev s49 : Typed.Mo T51 → Typed.Mo T52
+  s49 = Scalar.n-room T51 30 y1
 
-  abbrev s44 : Typed.Mo T46 → Typed.Mo T47
-  s44 = Scalar.n-room T46 11 y4
+  abbrev s50 : Typed.Mo T52 → Typed.Mo T53
+  s50 = Scalar.n-room T52 10 (Syntax.tyInt Syntax.w64)
 
-  abbrev s45 : Typed.Mo T47 → Typed.Mo T48
-  s45 = Scalar.n-room T47 12 (Syntax.tyInt Syntax.w64)
+  abbrev s51 : Typed.Mo T53 → Typed.Mo T54
+  s51 = Scalar.n-room T53 11 y5
 
-  abbrev s47 : Typed.Both T48 T50
-  s47 = Relend.k-back-sl (Referent.rtF (Referent.fInt Syntax.w8)) T48 18 3 2 5 (Syntax.tyRef (Syntax.named 2) Syntax.mut (Syntax.tyInt Syntax.w8)) (Syntax.tyRef Syntax.erased Syntax.mut (Syntax.tyInt
+  abbrev s52 : Typed.Mo T54 → Typed.Mo T55
+  s52 = Scalar.n-room T54 12 (Syntax.tyInt Syntax.w64)
+
+  abbrev s54 : Typed.Both T55 T57
+  s54 = Relend.k-back-sl (Referent.rtF (Referent.fInt Syntax.w8)) T55 18 3 2 5 (Syntax.tyRef (Syntax.named 2) Syntax.mut (Syntax.tyInt Syntax.w8)) (Syntax.tyRef Syntax.erased Syntax.mut (Syntax.tyInt
       Syntax.w8)) Row.off (λ x. x) λ x. x
 
-  abbrev s48 : Typed.Gives T50 T51
-  s48 = Know.k-sl-known (Referent.fInt Syntax.w8) T50 3 2 (Syntax.tyRef (Syntax.named 2) Syntax.mut (Syntax.tyInt Syntax.w8)) Row.off 0 λ x. x
+  abbrev s55 : Typed.Gives T57 T58
+  s55 = Know.k-sl-known (Referent.fInt Syntax.w8) T57 3 2 (Syntax.tyRef (Syntax.named 2) Syntax.mut (Syntax.tyInt Syntax.w8)) Row.off 0 λ x. x
 
-  abbrev s51 : Typed.Both T51 T54
-  s51 = PartMut.k-back-slᵐ (Referent.rtF (Referent.fInt Syntax.w16)) T51 22 5 3 6 (Syntax.tyRef (Syntax.named 3) Syntax.mut (Syntax.tyInt Syntax.w16)) (Syntax.tyRef Syntax.erased Syntax.mut
+  abbrev s58 : Typed.Both T58 T61
+  s58 = PartMut.k-back-slᵐ (Referent.rtF (Referent.fInt Syntax.w16)) T58 22 5 3 6 (Syntax.tyRef (Syntax.named 3) Syntax.mut (Syntax.tyInt Syntax.w16)) (Syntax.tyRef Syntax.erased Syntax.mut
       (Syntax.tyInt Syntax.w16)) Row.off (λ x. x) λ x. x
 
-  abbrev s52 : Typed.Gives T54 T55
-  s52 = Know.k-sl-known (Referent.fInt Syntax.w16) T54 5 3 (Syntax.tyRef (Syntax.named 3) Syntax.mut (Syntax.tyInt Syntax.w16)) Row.off 0 λ x. x
+  abbrev s59 : Typed.Gives T61 T62
+  s59 = Know.k-sl-known (Referent.fInt Syntax.w16) T61 5 3 (Syntax.tyRef (Syntax.named 3) Syntax.mut (Syntax.tyInt Syntax.w16)) Row.off 0 λ x. x
 
-  abbrev s55 : Typed.Both T55 T58
-  s55 = PartMut.k-back-slᵐ (Element.type) T55 26 6 4 7 (Syntax.tyRef (Syntax.named 4) Syntax.mut Element.behind) (Syntax.tyRef Syntax.erased Syntax.mut Element.behind) Row.off (λ x. x) λ x. x
+  abbrev s62 : Typed.Both T62 T65
+  s62 = PartMut.k-back-slᵐ (Element.type) T62 26 6 4 7 (Syntax.tyRef (Syntax.named 4) Syntax.mut Element.behind) (Syntax.tyRef Syntax.erased Syntax.mut Element.behind) Row.off (λ x. x) λ x. x
 
-  abbrev s57 : Typed.Mo T10 → Typed.Mo T60
-  s57 = LocalCopy.n-val-copy T10 16 0 (Declared.row BlockLength.the-type) (Rows.whole (Declared.row BlockLength.the-type)) (Rows.whole (Declared.row BlockLength.the-type)) (λ x. x) (λ x. x) λ x. x
+  abbrev s64 : Typed.Mo T10 → Typed.Mo T67
+  s64 = LocalCopy.n-val-copy T10 16 0 (Declared.row BlockLength.the-type) (Rows.whole (Declared.row BlockLength.the-type)) (Rows.whole (Declared.row BlockLength.the-type)) (λ x. x) (λ x. x) λ x. x
 
-  abbrev s58 : Typed.Mo T60 → Typed.Mo T61
-  s58 = Scalar.n-room T60 16 (Syntax.tyEnum (List._∷_ 115 (List._∷_ 116 (List._∷_ 114 (List._∷_ 101 (List._∷_ 97 (List._∷_ 109 (List._∷_ 58 (List._∷_ 58 (List._∷_ 66 (List._∷_ 108 (List._∷_ 111
+  abbrev s65 : Typed.Mo T67 → Typed.Mo T68
+  s65 = Scalar.n-room T67 16 (Syntax.tyEnum (List._∷_ 115 (List._∷_ 116 (List._∷_ 114 (List._∷_ 101 (List._∷_ 97 (List._∷_ 109 (List._∷_ 58 (List._∷_ 58 (List._∷_ 66 (List._∷_ 108 (List._∷_ 111
       (List._∷_ 99 (List._∷_ 107 (List._∷_ 76 (List._∷_ 101 (List._∷_ 110 (List._∷_ 103 (List._∷_ 116 (List._∷_ 104 List.[]))))))))))))))))))) (Syntax.ttcons (Syntax.tcons (Syntax.tyInt Syntax.w64)
       Syntax.tnil) (Syntax.ttcons (Syntax.tcons (Syntax.tyEnum (List._∷_ 115 (List._∷_ 116 (List._∷_ 114 (List._∷_ 101 (List._∷_ 97 (List._∷_ 109 (List._∷_ 58 (List._∷_ 58 (List._∷_ 82 (List._∷_ 101
       (List._∷_ 102 (List._∷_ 117 (List._∷_ 115 (List._∷_ 97 (List._∷_ 108 List.[]))))))))))))))) (Syntax.ttcons Syntax.tnil (Syntax.ttcons Syntax.tnil (Syntax.ttcons Syntax.tnil (Syntax.ttcons
@@ -1202,15 +1351,15 @@ module _ (claims· : Claims) where
       Syntax.tnil (Syntax.ttcons Syntax.tnil (Syntax.ttcons (Syntax.tcons (Syntax.tyInt Syntax.w64) Syntax.tnil) (Syntax.ttcons (Syntax.tcons (Syntax.tyInt Syntax.w64) Syntax.tnil) (Syntax.ttcons
       (Syntax.tcons (Syntax.tyInt Syntax.w64) Syntax.tnil) (Syntax.ttcons Syntax.tnil Syntax.ttnil)))))))))))))))))))))) Syntax.tnil) Syntax.ttnil)))
 
-  abbrev s59 : Typed.Mo T61 → Typed.Mo T62
-  s59 = Scalar.n-room T61 4 Syntax.tyBool
+  abbrev s66 : Typed.Mo T68 → Typed.Mo T69
+  s66 = Scalar.n-room T68 4 Syntax.tyBool
 
   module _ (Pre· : (κs : Lifetimes.Lfts 5) → Kinds.Dens κs ps → Type 0) (Post· : (κs : Lifetimes.Lfts 5) → (a : Kinds.Dens κs ps) → Kinds.Plain 5 ps r κs) where
     module _ (M : Type 1) where
       abbrev pub Closed : Type 2
       Closed = (𝓤 : URA.URA M) (H : Wp.Heap 𝓤) (A : Atoms.Atoms 𝓤) (W : Kit.Given 𝓤 H A) (𝓣 : Wp.Tables 𝓤 H) (known0 : Plain.Known 𝓤 H A W 𝓣 1 ps·0 r·0 (claims· .0) (claims· .1)
           "begin::writing_begins") (known1 : Plain.Known 𝓤 H A W 𝓣 0 ps·1 r·1 (claims· .2) (claims· .3) "begin::samples_needed") (known2 : Plain.Known 𝓤 H A W 𝓣 0 ps·2 r·2 (claims· .4) (claims· .5)
-          "block::form_of") (known3 : Plain.Known 𝓤 H A W 𝓣 0 ps·3 r·3 (claims· .6) (claims· .7) "block::tight::line_count") (known4 : Plain.Known 𝓤 H A W 𝓣 4 ps·4 r·4 (claims· .8) (claims· .9)
+          "block::form_of") (known3 : Plain.Known 𝓤 H A W 𝓣 0 ps·3 r·3 (claims· .6) (claims· .7) "block::tight::line_count") (known4 : Plain.Known 𝓤 H A W 𝓣 5 ps·4 r·4 (claims· .8) (claims· .9)
           "block::writer::write_set") → Statement.Triple 𝓤 (Wp.WpFn 𝓤 H (𝓣 .C) (𝓣 .Λ) (Function.fnOf 5 ps r xs m hs body)) (Function.plainOf 𝓤 H A 5 ps r Pre· Post·)
 
     module _ where
@@ -1229,200 +1378,218 @@ module _ (claims· : Claims) where
       abbrev at4 : Typed.TF T13 O1
       at4 = λ Ψ. Typed.both s11 (at3 Ψ)
 
-      abbrev at5 : Typed.TF T44 O1
-      at5 = λ Ψ. Typed.both s42 (Typed.pass T45 T46 s43 (Typed.pass T46 T47 s44 (Typed.pass T47 T48 s45 (Typed.both s47 (Typed.give s48 (Typed.both s51 (Typed.give s52 (Typed.both s55 (Typed.atNext O1
-          Ψ)))))))))
+      abbrev at5 : Typed.TF T50 O1
+      at5 = λ Ψ. Typed.both s48 (Typed.pass T51 T52 s49 (Typed.pass T52 T53 s50 (Typed.pass T53 T54 s51 (Typed.pass T54 T55 s52 (Typed.both s54 (Typed.give s55 (Typed.both s58 (Typed.give s59
+          (Typed.both s62 (Typed.atNext O1 Ψ))))))))))
 
-      abbrev at6 : Typed.TF T43 O1
-      at6 = λ Ψ. Typed.pass T43 T44 s41 (at5 Ψ)
+      abbrev at6 : Typed.TF T49 O1
+      at6 = λ Ψ. Typed.pass T49 T50 s47 (at5 Ψ)
 
-      abbrev at7 : Typed.TF T42 O1
-      at7 = λ Ψ. Typed.ask s40 (at6 Ψ)
+      abbrev at7 : Typed.TF T48 O1
+      at7 = λ Ψ. Typed.ask s46 (at6 Ψ)
 
-      abbrev at8 : Typed.TF T41 O1
-      at8 = λ Ψ. Typed.pass T41 T42 s39 (at7 Ψ)
+      abbrev at8 : Typed.TF T47 O1
+      at8 = λ Ψ. Typed.pass T47 T48 s45 (at7 Ψ)
 
-      abbrev at9 : Typed.TF T39 O1
-      at9 = λ Ψ. Typed.both s38 (at8 Ψ)
+      abbrev at9 : Typed.TF T46 O1
+      at9 = λ Ψ. Typed.both s44 (at8 Ψ)
 
-      abbrev at10 : Typed.TF T39 O1
-      at10 = λ Ψ. at9 Ψ
+      abbrev at10 : Typed.TF T45 O1
+      at10 = λ Ψ. Typed.ask s43 (at9 Ψ)
 
-      abbrev at11 : Typed.TF T38 O1
-      at11 = λ Ψ. Typed.ask s36 (at10 Ψ)
+      abbrev at11 : Typed.TF T44 O1
+      at11 = λ Ψ. Typed.ask s42 (at10 Ψ)
 
-      abbrev at12 : Typed.TF T37 O1
-      at12 = λ Ψ. Typed.ask s35 (at11 Ψ)
+      abbrev at12 : Typed.TF T43 O1
+      at12 = λ Ψ. Typed.pass T43 T44 s41 (at11 Ψ)
 
-      abbrev at13 : Typed.TF T36 O1
-      at13 = λ Ψ. Typed.pass T36 T37 s34 (at12 Ψ)
+      abbrev at13 : Typed.TF T42 O1
+      at13 = λ Ψ. Typed.ask s40 (at12 Ψ)
 
-      abbrev at14 : Typed.TF T35 O1
-      at14 = λ Ψ. Typed.ask s33 (at13 Ψ)
+      abbrev at14 : Typed.TF T41 O1
+      at14 = λ Ψ. Typed.pass T41 T42 s39 (at13 Ψ)
 
-      abbrev at15 : Typed.TF T34 O1
-      at15 = λ Ψ. Typed.pass T34 T35 s32 (at14 Ψ)
+      abbrev at15 : Typed.TF T39 O1
+      at15 = λ Ψ. Typed.both s38 (at14 Ψ)
 
-      abbrev at16 : Typed.TF T32 O1
-      at16 = λ Ψ. Typed.both s31 (at15 Ψ)
+      abbrev at16 : Typed.TF T39 O1
+      at16 = λ Ψ. at15 Ψ
 
-      abbrev at17 : Typed.TF T32 O1
-      at17 = λ Ψ. at16 Ψ
+      abbrev at17 : Typed.TF T38 O1
+      at17 = λ Ψ. Typed.ask s36 (at16 Ψ)
 
-      abbrev at18 : Typed.TF T31 O1
-      at18 = λ Ψ. Typed.ask s29 (at17 Ψ)
+      abbrev at18 : Typed.TF T37 O1
+      at18 = λ Ψ. Typed.ask s35 (at17 Ψ)
 
-      abbrev at19 : Typed.TF T30 O1
-      at19 = λ Ψ. Typed.ask s28 (at18 Ψ)
+      abbrev at19 : Typed.TF T36 O1
+      at19 = λ Ψ. Typed.pass T36 T37 s34 (at18 Ψ)
 
-      abbrev at20 : Typed.TF T29 O1
-      at20 = λ Ψ. Typed.ask s27 (at19 Ψ)
+      abbrev at20 : Typed.TF T35 O1
+      at20 = λ Ψ. Typed.ask s33 (at19 Ψ)
 
-      abbrev at21 : Typed.TF T27 O1
-      at21 = λ Ψ. Typed.give s26 (at20 Ψ)
+      abbrev at21 : Typed.TF T34 O1
+      at21 = λ Ψ. Typed.pass T34 T35 s32 (at20 Ψ)
 
-      abbrev at22 : Typed.TF T27 O1
-      at22 = λ Ψ. at21 Ψ
+      abbrev at22 : Typed.TF T32 O1
+      at22 = λ Ψ. Typed.both s31 (at21 Ψ)
 
-      abbrev at23 : Typed.TF T26 O1
-      at23 = λ Ψ. Typed.pass T26 T27 s24 (at22 Ψ)
+      abbrev at23 : Typed.TF T32 O1
+      at23 = λ Ψ. at22 Ψ
 
-      abbrev at24 : Typed.TF T25 O1
-      at24 = λ Ψ. Typed.both s23 (at23 Ψ)
+      abbrev at24 : Typed.TF T31 O1
+      at24 = λ Ψ. Typed.ask s29 (at23 Ψ)
 
-      abbrev at25 : Typed.TF T24 O1
-      at25 = λ Ψ. Typed.both s22 (at24 Ψ)
+      abbrev at25 : Typed.TF T30 O1
+      at25 = λ Ψ. Typed.ask s28 (at24 Ψ)
 
-      abbrev at26 : Typed.TF T23 O1
-      at26 = λ Ψ. Typed.both s21 (at25 Ψ)
+      abbrev at26 : Typed.TF T29 O1
+      at26 = λ Ψ. Typed.ask s27 (at25 Ψ)
 
-      abbrev at27 : Typed.TF T22 O1
-      at27 = λ Ψ. Typed.pass T22 T23 s20 (at26 Ψ)
+      abbrev at27 : Typed.TF T27 O1
+      at27 = λ Ψ. Typed.give s26 (at26 Ψ)
 
-      abbrev at28 : Typed.TF T21 O1
-      at28 = λ Ψ. Typed.pass T21 T22 s19 (at27 Ψ)
+      abbrev at28 : Typed.TF T27 O1
+      at28 = λ Ψ. at27 Ψ
 
-      abbrev at29 : Typed.TF T20 O1
-      at29 = λ Ψ. Typed.give s18 (at28 Ψ)
+      abbrev at29 : Typed.TF T26 O1
+      at29 = λ Ψ. Typed.pass T26 T27 s24 (at28 Ψ)
 
-      abbrev at30 : Typed.TF T13 O1
-      at30 = λ Ψ. Typed.both s17 (at29 Ψ)
+      abbrev at30 : Typed.TF T25 O1
+      at30 = λ Ψ. Typed.both s23 (at29 Ψ)
 
-      abbrev at31 : Typed.TF T13 O1
-      at31 = Switch.Φswitch T13 O1 7 (λ x. Declared.tagOf Parsed.the-type x) (Syntax.arm (List._∷_ 1 List.[]) b6 (Syntax.arm (List._∷_ 0 List.[]) b35 Syntax.noDefault)) (at4, (at30, tt))
+      abbrev at31 : Typed.TF T24 O1
+      at31 = λ Ψ. Typed.both s22 (at30 Ψ)
 
-      abbrev at32 : Typed.TF T12 O1
-      at32 = λ Ψ. Typed.pass T12 T13 s10 (at31 Ψ)
+      abbrev at32 : Typed.TF T23 O1
+      at32 = λ Ψ. Typed.both s21 (at31 Ψ)
 
-      abbrev at33 : Typed.TF T11 O1
-      at33 = λ Ψ. Typed.pass T11 T12 s9 (at32 Ψ)
+      abbrev at33 : Typed.TF T22 O1
+      at33 = λ Ψ. Typed.pass T22 T23 s20 (at32 Ψ)
 
-      abbrev at34 : Typed.TF T9 O1
-      at34 = λ Ψ. Typed.pass T9 T11 s8 (at33 Ψ)
+      abbrev at34 : Typed.TF T21 O1
+      at34 = λ Ψ. Typed.pass T21 T22 s19 (at33 Ψ)
 
-      abbrev at35 : Typed.TF T62 O0
-      at35 = Typed.atRet O0
+      abbrev at35 : Typed.TF T20 O1
+      at35 = λ Ψ. Typed.give s18 (at34 Ψ)
 
-      abbrev at36 : Typed.TF T61 O0
-      at36 = λ Ψ. Typed.pass T61 T62 s59 (at35 Ψ)
+      abbrev at36 : Typed.TF T13 O1
+      at36 = λ Ψ. Typed.both s17 (at35 Ψ)
 
-      abbrev at37 : Typed.TF T60 O0
-      at37 = λ Ψ. Typed.pass T60 T61 s58 (at36 Ψ)
+      abbrev at37 : Typed.TF T13 O1
+      at37 = Switch.Φswitch T13 O1 7 (λ x. Declared.tagOf Parsed.the-type x) (Syntax.arm (List._∷_ 1 List.[]) b6 (Syntax.arm (List._∷_ 0 List.[]) b43 Syntax.noDefault)) (at4, (at36, tt))
 
-      abbrev at38 : Typed.TF T10 O0
-      at38 = λ Ψ. Typed.pass T10 T60 s57 (at37 Ψ)
+      abbrev at38 : Typed.TF T12 O1
+      at38 = λ Ψ. Typed.pass T12 T13 s10 (at37 Ψ)
 
-      abbrev at39 : Typed.TF T9 O0
-      at39 = λ Ψ. at34 (Typed.wantNext T10 O0 (at38 Ψ) Ψ)
+      abbrev at39 : Typed.TF T11 O1
+      at39 = λ Ψ. Typed.pass T11 T12 s9 (at38 Ψ)
 
-      abbrev at40 : Typed.TF T8 O0
-      at40 = λ Ψ. Typed.both s7 (at39 Ψ)
+      abbrev at40 : Typed.TF T9 O1
+      at40 = λ Ψ. Typed.pass T9 T11 s8 (at39 Ψ)
 
-      abbrev at41 : Typed.TF T7 O0
-      at41 = λ Ψ. Typed.pass T7 T8 s6 (at40 Ψ)
+      abbrev at41 : Typed.TF T69 O0
+      at41 = Typed.atRet O0
 
-      abbrev at42 : Typed.TF T6 O0
-      at42 = λ Ψ. Typed.pass T6 T7 s5 (at41 Ψ)
+      abbrev at42 : Typed.TF T68 O0
+      at42 = λ Ψ. Typed.pass T68 T69 s66 (at41 Ψ)
 
-      abbrev at43 : Typed.TF T5 O0
-      at43 = λ Ψ. Typed.pass T5 T6 s4 (at42 Ψ)
+      abbrev at43 : Typed.TF T67 O0
+      at43 = λ Ψ. Typed.pass T67 T68 s65 (at42 Ψ)
 
-      abbrev at44 : Typed.TF T4 O0
-      at44 = λ Ψ. Typed.give s3 (at43 Ψ)
+      abbrev at44 : Typed.TF T10 O0
+      at44 = λ Ψ. Typed.pass T10 T67 s64 (at43 Ψ)
 
-      abbrev at45 : Typed.TF T3 O0
-      at45 = λ Ψ. Typed.give s2 (at44 Ψ)
+      abbrev at45 : Typed.TF T9 O0
+      at45 = λ Ψ. at40 (Typed.wantNext T10 O0 (at44 Ψ) Ψ)
 
-      abbrev at46 : Typed.TF T2 O0
-      at46 = λ Ψ. Typed.give s1 (at45 Ψ)
+      abbrev at46 : Typed.TF T8 O0
+      at46 = λ Ψ. Typed.both s7 (at45 Ψ)
 
-      abbrev at47 : Typed.TF T0 O0
-      at47 = λ Ψ. Typed.give s0 (at46 Ψ)
+      abbrev at47 : Typed.TF T7 O0
+      at47 = λ Ψ. Typed.pass T7 T8 s6 (at46 Ψ)
+
+      abbrev at48 : Typed.TF T6 O0
+      at48 = λ Ψ. Typed.pass T6 T7 s5 (at47 Ψ)
+
+      abbrev at49 : Typed.TF T5 O0
+      at49 = λ Ψ. Typed.pass T5 T6 s4 (at48 Ψ)
+
+      abbrev at50 : Typed.TF T4 O0
+      at50 = λ Ψ. Typed.give s3 (at49 Ψ)
+
+      abbrev at51 : Typed.TF T3 O0
+      at51 = λ Ψ. Typed.give s2 (at50 Ψ)
+
+      abbrev at52 : Typed.TF T2 O0
+      at52 = λ Ψ. Typed.give s1 (at51 Ψ)
+
+      abbrev at53 : Typed.TF T0 O0
+      at53 = λ Ψ. Typed.give s0 (at52 Ψ)
 
       abbrev pub Φ : Typed.TF T0 O0
-      Φ = at47
+      Φ = at53
 
       module _ {M : Type 1} (𝓤 : URA.URA M) (H : Wp.Heap 𝓤) (A : Atoms.Atoms 𝓤) (W : Kit.Given 𝓤 H A) (𝓣 : Wp.Tables 𝓤 H) where
         abbrev Knowns : Type 1
         Knowns = Plain.Known 𝓤 H A W 𝓣 1 ps·0 r·0 (claims· .0) (claims· .1) "begin::writing_begins" × Plain.Known 𝓤 H A W 𝓣 0 ps·1 r·1 (claims· .2) (claims· .3) "begin::samples_needed" × Plain.Known 𝓤
-            H A W 𝓣 0 ps·2 r·2 (claims· .4) (claims· .5) "block::form_of" × Plain.Known 𝓤 H A W 𝓣 0 ps·3 r·3 (claims· .6) (claims· .7) "block::tight::line_count" × Plain.Known 𝓤 H A W 𝓣 4 ps·4 r·4
+            H A W 𝓣 0 ps·2 r·2 (claims· .4) (claims· .5) "block::form_of" × Plain.Known 𝓤 H A W 𝓣 0 ps·3 r·3 (claims· .6) (claims· .7) "block::tight::line_count" × Plain.Known 𝓤 H A W 𝓣 5 ps·4 r·4
             (claims· .8) (claims· .9) "block::writer::write_set"
 
       module _ (κs : Lifetimes.Lfts 5) (qs : Lifetimes.Shares 5) where
         abbrev g21 : List.List Row.Entry
-        g21 = List._∷_ e0 (List._∷_ e2 (List._∷_ e22 (List._∷_
-            (3, Relend.mslice-owed (Referent.rtF (Referent.fInt Syntax.w8)) (Syntax.tyRef (Syntax.named 2) Syntax.mut (Syntax.tyInt Syntax.w8)) 2 5 (Row.lease (κs .1 .1 .0) (qs .1 .1 .0))) (List._∷_ e41
-            (List._∷_ e42 (List._∷_ e44 (List._∷_ e46 (List._∷_ e50 (List._∷_ e52 (List._∷_ e4 (List._∷_ e6 (List._∷_ e8 (List._∷_ e9 (List._∷_ e11 (List._∷_ e13 List.[])))))))))))))))
+        g21 = List._∷_ e0 (List._∷_ e2 (List._∷_ e23 (List._∷_
+            (3, Relend.mslice-owed (Referent.rtF (Referent.fInt Syntax.w8)) (Syntax.tyRef (Syntax.named 2) Syntax.mut (Syntax.tyInt Syntax.w8)) 2 5 (Row.lease (κs .1 .1 .0) (qs .1 .1 .0))) (List._∷_ e50
+            (List._∷_ e51 (List._∷_ e53 (List._∷_ e55 (List._∷_ e59 (List._∷_ e61 (List._∷_ e4 (List._∷_ e6 (List._∷_ e8 (List._∷_ e9 (List._∷_ e11 (List._∷_ e13 List.[])))))))))))))))
 
         abbrev g26 : List.List Row.Entry
-        g26 = List._∷_ e0 (List._∷_ e2 (List._∷_ e22 (List._∷_
-            (3, Relend.mslice-owed (Referent.rtF (Referent.fInt Syntax.w8)) (Syntax.tyRef (Syntax.named 2) Syntax.mut (Syntax.tyInt Syntax.w8)) 2 5 (Row.lease (κs .1 .1 .0) (qs .1 .1 .0))) (List._∷_ e41
+        g26 = List._∷_ e0 (List._∷_ e2 (List._∷_ e23 (List._∷_
+            (3, Relend.mslice-owed (Referent.rtF (Referent.fInt Syntax.w8)) (Syntax.tyRef (Syntax.named 2) Syntax.mut (Syntax.tyInt Syntax.w8)) 2 5 (Row.lease (κs .1 .1 .0) (qs .1 .1 .0))) (List._∷_ e50
             (List._∷_
             (5, PartMut.mslice-owedM (Referent.rtF (Referent.fInt Syntax.w16)) (Syntax.tyRef (Syntax.named 3) Syntax.mut (Syntax.tyInt Syntax.w16)) 3 6 (Row.lease (κs .1 .1 .1 .0) (qs .1 .1 .1 .0)))
-            (List._∷_ e44 (List._∷_ e46 (List._∷_ e50 (List._∷_ e52 (List._∷_ e4 (List._∷_ e6 (List._∷_ e8 (List._∷_ e9 (List._∷_ e11 (List._∷_ e13 List.[])))))))))))))))
+            (List._∷_ e53 (List._∷_ e55 (List._∷_ e59 (List._∷_ e61 (List._∷_ e4 (List._∷_ e6 (List._∷_ e8 (List._∷_ e9 (List._∷_ e11 (List._∷_ e13 List.[])))))))))))))))
 
         abbrev g33 : List.List Row.Entry
-        g33 = List._∷_ e0 (List._∷_ e2 (List._∷_ e22 (List._∷_
-            (3, Relend.mslice-owed (Referent.rtF (Referent.fInt Syntax.w8)) (Syntax.tyRef (Syntax.named 2) Syntax.mut (Syntax.tyInt Syntax.w8)) 2 5 (Row.lease (κs .1 .1 .0) (qs .1 .1 .0))) (List._∷_ e41
+        g33 = List._∷_ e0 (List._∷_ e2 (List._∷_ e23 (List._∷_
+            (3, Relend.mslice-owed (Referent.rtF (Referent.fInt Syntax.w8)) (Syntax.tyRef (Syntax.named 2) Syntax.mut (Syntax.tyInt Syntax.w8)) 2 5 (Row.lease (κs .1 .1 .0) (qs .1 .1 .0))) (List._∷_ e50
             (List._∷_
             (5, PartMut.mslice-owedM (Referent.rtF (Referent.fInt Syntax.w16)) (Syntax.tyRef (Syntax.named 3) Syntax.mut (Syntax.tyInt Syntax.w16)) 3 6 (Row.lease (κs .1 .1 .1 .0) (qs .1 .1 .1 .0)))
-            (List._∷_ (6, PartMut.mslice-owedM (Element.type) (Syntax.tyRef (Syntax.named 4) Syntax.mut Element.behind) 4 7 (Row.lease (κs .1 .1 .1 .1 .0) (qs .1 .1 .1 .1 .0))) (List._∷_ e46 (List._∷_ e50
-            (List._∷_ e52 (List._∷_ e4 (List._∷_ e6 (List._∷_ e8 (List._∷_ e9 (List._∷_ e11 (List._∷_ e13 List.[])))))))))))))))
+            (List._∷_ (6, PartMut.mslice-owedM (Element.type) (Syntax.tyRef (Syntax.named 4) Syntax.mut Element.behind) 4 7 (Row.lease (κs .1 .1 .1 .1 .0) (qs .1 .1 .1 .1 .0))) (List._∷_ e55 (List._∷_ e59
+            (List._∷_ e61 (List._∷_ e4 (List._∷_ e6 (List._∷_ e8 (List._∷_ e9 (List._∷_ e11 (List._∷_ e13 List.[])))))))))))))))
 
-        abbrev g39 : List.List Row.Entry
-        g39 = List._∷_ e0 (List._∷_ e2 (List._∷_ e22 (List._∷_
-            (3, Relend.mslice-owed (Referent.rtF (Referent.fInt Syntax.w8)) (Syntax.tyRef (Syntax.named 2) Syntax.mut (Syntax.tyInt Syntax.w8)) 2 5 (Row.lease (κs .1 .1 .0) (qs .1 .1 .0))) (List._∷_ e41
+        abbrev g46 : List.List Row.Entry
+        g46 = List._∷_ e0 (List._∷_ e2 (List._∷_ e23 (List._∷_
+            (3, Relend.mslice-owed (Referent.rtF (Referent.fInt Syntax.w8)) (Syntax.tyRef (Syntax.named 2) Syntax.mut (Syntax.tyInt Syntax.w8)) 2 5 (Row.lease (κs .1 .1 .0) (qs .1 .1 .0))) (List._∷_ e50
             (List._∷_
             (5, PartMut.mslice-owedM (Referent.rtF (Referent.fInt Syntax.w16)) (Syntax.tyRef (Syntax.named 3) Syntax.mut (Syntax.tyInt Syntax.w16)) 3 6 (Row.lease (κs .1 .1 .1 .0) (qs .1 .1 .1 .0)))
-            (List._∷_ (6, PartMut.mslice-owedM (Element.type) (Syntax.tyRef (Syntax.named 4) Syntax.mut Element.behind) 4 7 (Row.lease (κs .1 .1 .1 .1 .0) (qs .1 .1 .1 .1 .0))) (List._∷_ e46 (List._∷_ e50
-            (List._∷_ e52 (List._∷_ e3 (List._∷_ e6 (List._∷_ e8 (List._∷_ e9 (List._∷_ e11 (List._∷_ e13 List.[])))))))))))))))
+            (List._∷_ (6, PartMut.mslice-owedM (Element.type) (Syntax.tyRef (Syntax.named 4) Syntax.mut Element.behind) 4 7 (Row.lease (κs .1 .1 .1 .1 .0) (qs .1 .1 .1 .1 .0))) (List._∷_ e55 (List._∷_ e59
+            (List._∷_ e61 (List._∷_ e3 (List._∷_ e6 (List._∷_ e8 (List._∷_ e9 (List._∷_ e11 (List._∷_ e13 List.[])))))))))))))))
 
-        abbrev g40 : List.List Row.Entry
-        g40 = List._∷_ e0 (List._∷_ e2 (List._∷_ e22 (List._∷_
-            (3, Relend.mslice-owed (Referent.rtF (Referent.fInt Syntax.w8)) (Syntax.tyRef (Syntax.named 2) Syntax.mut (Syntax.tyInt Syntax.w8)) 2 5 (Row.lease (κs .1 .1 .0) (qs .1 .1 .0))) (List._∷_ e41
+        abbrev g47 : List.List Row.Entry
+        g47 = List._∷_ e0 (List._∷_ e2 (List._∷_ e23 (List._∷_
+            (3, Relend.mslice-owed (Referent.rtF (Referent.fInt Syntax.w8)) (Syntax.tyRef (Syntax.named 2) Syntax.mut (Syntax.tyInt Syntax.w8)) 2 5 (Row.lease (κs .1 .1 .0) (qs .1 .1 .0))) (List._∷_ e50
             (List._∷_
             (5, PartMut.mslice-owedM (Referent.rtF (Referent.fInt Syntax.w16)) (Syntax.tyRef (Syntax.named 3) Syntax.mut (Syntax.tyInt Syntax.w16)) 3 6 (Row.lease (κs .1 .1 .1 .0) (qs .1 .1 .1 .0)))
-            (List._∷_ (6, PartMut.mslice-owedM (Element.type) (Syntax.tyRef (Syntax.named 4) Syntax.mut Element.behind) 4 7 (Row.lease (κs .1 .1 .1 .1 .0) (qs .1 .1 .1 .1 .0))) (List._∷_ e46 (List._∷_ e50
-            (List._∷_ e52 (List._∷_ e3 (List._∷_ e5 (List._∷_ e8 (List._∷_ e9 (List._∷_ e11 (List._∷_ e13 List.[])))))))))))))))
+            (List._∷_ (6, PartMut.mslice-owedM (Element.type) (Syntax.tyRef (Syntax.named 4) Syntax.mut Element.behind) 4 7 (Row.lease (κs .1 .1 .1 .1 .0) (qs .1 .1 .1 .1 .0))) (List._∷_ e55 (List._∷_ e59
+            (List._∷_ e61 (List._∷_ e3 (List._∷_ e5 (List._∷_ e8 (List._∷_ e9 (List._∷_ e11 (List._∷_ e13 List.[])))))))))))))))
 
-        abbrev g41 : List.List Row.Entry
-        g41 = List._∷_ e0 (List._∷_ e2 (List._∷_ e22 (List._∷_
-            (3, Relend.mslice-owed (Referent.rtF (Referent.fInt Syntax.w8)) (Syntax.tyRef (Syntax.named 2) Syntax.mut (Syntax.tyInt Syntax.w8)) 2 5 (Row.lease (κs .1 .1 .0) (qs .1 .1 .0))) (List._∷_ e41
+        abbrev g48 : List.List Row.Entry
+        g48 = List._∷_ e0 (List._∷_ e2 (List._∷_ e23 (List._∷_
+            (3, Relend.mslice-owed (Referent.rtF (Referent.fInt Syntax.w8)) (Syntax.tyRef (Syntax.named 2) Syntax.mut (Syntax.tyInt Syntax.w8)) 2 5 (Row.lease (κs .1 .1 .0) (qs .1 .1 .0))) (List._∷_ e50
             (List._∷_
             (5, PartMut.mslice-owedM (Referent.rtF (Referent.fInt Syntax.w16)) (Syntax.tyRef (Syntax.named 3) Syntax.mut (Syntax.tyInt Syntax.w16)) 3 6 (Row.lease (κs .1 .1 .1 .0) (qs .1 .1 .1 .0)))
-            (List._∷_ (6, PartMut.mslice-owedM (Element.type) (Syntax.tyRef (Syntax.named 4) Syntax.mut Element.behind) 4 7 (Row.lease (κs .1 .1 .1 .1 .0) (qs .1 .1 .1 .1 .0))) (List._∷_ e46 (List._∷_ e50
-            (List._∷_ e52 (List._∷_ e3 (List._∷_ e5 (List._∷_ e7 (List._∷_ e9 (List._∷_ e11 (List._∷_ e13 List.[])))))))))))))))
+            (List._∷_ (6, PartMut.mslice-owedM (Element.type) (Syntax.tyRef (Syntax.named 4) Syntax.mut Element.behind) 4 7 (Row.lease (κs .1 .1 .1 .1 .0) (qs .1 .1 .1 .1 .0))) (List._∷_ e55 (List._∷_ e59
+            (List._∷_ e61 (List._∷_ e3 (List._∷_ e5 (List._∷_ e7 (List._∷_ e9 (List._∷_ e11 (List._∷_ e13 List.[])))))))))))))))
 
-        abbrev g42 : List.List Row.Entry
-        g42 = List._∷_ e0 (List._∷_ e2 (List._∷_ e22 (List._∷_ e39 (List._∷_ e41 (List._∷_
+        abbrev g49 : List.List Row.Entry
+        g49 = List._∷_ e0 (List._∷_ e2 (List._∷_ e23 (List._∷_ e46 (List._∷_ e50 (List._∷_
             (5, PartMut.mslice-owedM (Referent.rtF (Referent.fInt Syntax.w16)) (Syntax.tyRef (Syntax.named 3) Syntax.mut (Syntax.tyInt Syntax.w16)) 3 6 (Row.lease (κs .1 .1 .1 .0) (qs .1 .1 .1 .0)))
-            (List._∷_ (6, PartMut.mslice-owedM (Element.type) (Syntax.tyRef (Syntax.named 4) Syntax.mut Element.behind) 4 7 (Row.lease (κs .1 .1 .1 .1 .0) (qs .1 .1 .1 .1 .0))) (List._∷_ e46 (List._∷_ e50
-            (List._∷_ e52 (List._∷_ e3 (List._∷_ e5 (List._∷_ e7 (List._∷_ e9 (List._∷_ e11 (List._∷_ e13 List.[])))))))))))))))
+            (List._∷_ (6, PartMut.mslice-owedM (Element.type) (Syntax.tyRef (Syntax.named 4) Syntax.mut Element.behind) 4 7 (Row.lease (κs .1 .1 .1 .1 .0) (qs .1 .1 .1 .1 .0))) (List._∷_ e55 (List._∷_ e59
+            (List._∷_ e61 (List._∷_ e3 (List._∷_ e5 (List._∷_ e7 (List._∷_ e9 (List._∷_ e11 (List._∷_ e13 List.[])))))))))))))))
 
-        abbrev g44 : List.List Row.Entry
-        g44 = List._∷_ e0 (List._∷_ e2 (List._∷_ e22 (List._∷_ e39 (List._∷_ e41 (List._∷_ e42 (List._∷_
-            (6, PartMut.mslice-owedM (Element.type) (Syntax.tyRef (Syntax.named 4) Syntax.mut Element.behind) 4 7 (Row.lease (κs .1 .1 .1 .1 .0) (qs .1 .1 .1 .1 .0))) (List._∷_ e46 (List._∷_ e50 (List._∷_
-            e52 (List._∷_ e3 (List._∷_ e5 (List._∷_ e7 (List._∷_ e9 (List._∷_ e11 (List._∷_ e13 List.[])))))))))))))))
+        abbrev g51 : List.List Row.Entry
+        g51 = List._∷_ e0 (List._∷_ e2 (List._∷_ e23 (List._∷_ e46 (List._∷_ e50 (List._∷_ e51 (List._∷_
+            (6, PartMut.mslice-owedM (Element.type) (Syntax.tyRef (Syntax.named 4) Syntax.mut Element.behind) 4 7 (Row.lease (κs .1 .1 .1 .1 .0) (qs .1 .1 .1 .1 .0))) (List._∷_ e55 (List._∷_ e59 (List._∷_
+            e61 (List._∷_ e3 (List._∷_ e5 (List._∷_ e7 (List._∷_ e9 (List._∷_ e11 (List._∷_ e13 List.[])))))))))))))))
 
         abbrev G0 : Row.Cx
         G0 = record {
@@ -1748,118 +1915,167 @@ module _ (claims· : Claims) where
 
         abbrev G46 : Row.Cx
         G46 = record {
-          locals = List._++_ g39 t38;
+          locals = List._++_ g33 t39;
           slots = List._∷_ (Row.lease (κs .0) (qs .0)) (List._∷_ (Row.lease (κs .1 .0) (qs .1 .0)) (List._∷_ Row.off (List._∷_ Row.off (List._∷_ Row.off (List._∷_ Row.alive
               (List._∷_ Row.alive (List._∷_ Row.alive List.[])))))));
         }
 
         abbrev G47 : Row.Cx
         G47 = record {
-          locals = List._++_ g40 t38;
+          locals = List._++_ g33 t40;
           slots = List._∷_ (Row.lease (κs .0) (qs .0)) (List._∷_ (Row.lease (κs .1 .0) (qs .1 .0)) (List._∷_ Row.off (List._∷_ Row.off (List._∷_ Row.off (List._∷_ Row.alive
               (List._∷_ Row.alive (List._∷_ Row.alive List.[])))))));
         }
 
         abbrev G48 : Row.Cx
         G48 = record {
-          locals = List._++_ g41 t38;
+          locals = List._++_ g33 t41;
           slots = List._∷_ (Row.lease (κs .0) (qs .0)) (List._∷_ (Row.lease (κs .1 .0) (qs .1 .0)) (List._∷_ Row.off (List._∷_ Row.off (List._∷_ Row.off (List._∷_ Row.alive
               (List._∷_ Row.alive (List._∷_ Row.alive List.[])))))));
         }
 
         abbrev G49 : Row.Cx
         G49 = record {
-          locals = List._++_ g41 t38;
-          slots = List._∷_ (Row.lease (κs .0) (qs .0)) (List._∷_ (Row.lease (κs .1 .0) (qs .1 .0)) (List._∷_ Row.off (List._∷_ Row.off (List._∷_ Row.off (List._∷_ Row.dead
+          locals = List._++_ g33 t42;
+          slots = List._∷_ (Row.lease (κs .0) (qs .0)) (List._∷_ (Row.lease (κs .1 .0) (qs .1 .0)) (List._∷_ Row.off (List._∷_ Row.off (List._∷_ Row.off (List._∷_ Row.alive
               (List._∷_ Row.alive (List._∷_ Row.alive List.[])))))));
         }
 
         abbrev G50 : Row.Cx
         G50 = record {
-          locals = List._++_ g42 t43;
-          slots = List._∷_ (Row.lease (κs .0) (qs .0)) (List._∷_ (Row.lease (κs .1 .0) (qs .1 .0)) (List._∷_ (Row.lease (κs .1 .1 .0) (qs .1 .1 .0)) (List._∷_ Row.off
-              (List._∷_ Row.off (List._∷_ Row.dead (List._∷_ Row.alive (List._∷_ Row.alive List.[])))))));
+          locals = List._++_ g33 t43;
+          slots = List._∷_ (Row.lease (κs .0) (qs .0)) (List._∷_ (Row.lease (κs .1 .0) (qs .1 .0)) (List._∷_ Row.off (List._∷_ Row.off (List._∷_ Row.off (List._∷_ Row.alive
+              (List._∷_ Row.alive (List._∷_ Row.alive List.[])))))));
         }
 
         abbrev G51 : Row.Cx
         G51 = record {
-          locals = List._++_ g42 t43;
-          slots = List._∷_ (Row.lease (κs .0) (qs .0)) (List._∷_ (Row.lease (κs .1 .0) (qs .1 .0)) (List._∷_ (Row.lease (κs .1 .1 .0) (qs .1 .1 .0)) (List._∷_ Row.off
-              (List._∷_ Row.off (List._∷_ Row.dead (List._∷_ Row.alive (List._∷_ Row.alive List.[])))))));
+          locals = List._++_ g33 t44;
+          slots = List._∷_ (Row.lease (κs .0) (qs .0)) (List._∷_ (Row.lease (κs .1 .0) (qs .1 .0)) (List._∷_ Row.off (List._∷_ Row.off (List._∷_ Row.off (List._∷_ Row.alive
+              (List._∷_ Row.alive (List._∷_ Row.alive List.[])))))));
         }
 
         abbrev G52 : Row.Cx
         G52 = record {
-          locals = List._++_ g42 t43;
-          slots = List._∷_ (Row.lease (κs .0) (qs .0)) (List._∷_ (Row.lease (κs .1 .0) (qs .1 .0)) (List._∷_ (Row.lease (κs .1 .1 .0) (qs .1 .1 .0)) (List._∷_ Row.off
-              (List._∷_ Row.off (List._∷_ Row.off (List._∷_ Row.alive (List._∷_ Row.alive List.[])))))));
+          locals = List._++_ g33 t45;
+          slots = List._∷_ (Row.lease (κs .0) (qs .0)) (List._∷_ (Row.lease (κs .1 .0) (qs .1 .0)) (List._∷_ Row.off (List._∷_ Row.off (List._∷_ Row.off (List._∷_ Row.alive
+              (List._∷_ Row.alive (List._∷_ Row.alive List.[])))))));
         }
 
         abbrev G53 : Row.Cx
         G53 = record {
-          locals = List._++_ g42 t43;
-          slots = List._∷_ (Row.lease (κs .0) (qs .0)) (List._∷_ (Row.lease (κs .1 .0) (qs .1 .0)) (List._∷_ (Row.lease (κs .1 .1 .0) (qs .1 .1 .0)) (List._∷_ Row.off
-              (List._∷_ Row.off (List._∷_ Row.off (List._∷_ Row.dead (List._∷_ Row.alive List.[])))))));
+          locals = List._++_ g46 t45;
+          slots = List._∷_ (Row.lease (κs .0) (qs .0)) (List._∷_ (Row.lease (κs .1 .0) (qs .1 .0)) (List._∷_ Row.off (List._∷_ Row.off (List._∷_ Row.off (List._∷_ Row.alive
+              (List._∷_ Row.alive (List._∷_ Row.alive List.[])))))));
         }
 
         abbrev G54 : Row.Cx
         G54 = record {
-          locals = List._++_ g44 t45;
-          slots = List._∷_ (Row.lease (κs .0) (qs .0)) (List._∷_ (Row.lease (κs .1 .0) (qs .1 .0)) (List._∷_ (Row.lease (κs .1 .1 .0) (qs .1 .1 .0)) (List._∷_ (Row.lease
-              (κs .1 .1 .1 .0) (qs .1 .1 .1 .0)) (List._∷_ Row.off (List._∷_ Row.off (List._∷_ Row.dead (List._∷_ Row.alive List.[])))))));
+          locals = List._++_ g47 t45;
+          slots = List._∷_ (Row.lease (κs .0) (qs .0)) (List._∷_ (Row.lease (κs .1 .0) (qs .1 .0)) (List._∷_ Row.off (List._∷_ Row.off (List._∷_ Row.off (List._∷_ Row.alive
+              (List._∷_ Row.alive (List._∷_ Row.alive List.[])))))));
         }
 
         abbrev G55 : Row.Cx
         G55 = record {
-          locals = List._++_ g44 t45;
-          slots = List._∷_ (Row.lease (κs .0) (qs .0)) (List._∷_ (Row.lease (κs .1 .0) (qs .1 .0)) (List._∷_ (Row.lease (κs .1 .1 .0) (qs .1 .1 .0)) (List._∷_ (Row.lease
-              (κs .1 .1 .1 .0) (qs .1 .1 .1 .0)) (List._∷_ Row.off (List._∷_ Row.off (List._∷_ Row.dead (List._∷_ Row.alive List.[])))))));
+          locals = List._++_ g48 t45;
+          slots = List._∷_ (Row.lease (κs .0) (qs .0)) (List._∷_ (Row.lease (κs .1 .0) (qs .1 .0)) (List._∷_ Row.off (List._∷_ Row.off (List._∷_ Row.off (List._∷_ Row.alive
+              (List._∷_ Row.alive (List._∷_ Row.alive List.[])))))));
         }
 
         abbrev G56 : Row.Cx
         G56 = record {
-          locals = List._++_ g44 t45;
-          slots = List._∷_ (Row.lease (κs .0) (qs .0)) (List._∷_ (Row.lease (κs .1 .0) (qs .1 .0)) (List._∷_ (Row.lease (κs .1 .1 .0) (qs .1 .1 .0)) (List._∷_ (Row.lease
-              (κs .1 .1 .1 .0) (qs .1 .1 .1 .0)) (List._∷_ Row.off (List._∷_ Row.off (List._∷_ Row.off (List._∷_ Row.alive List.[])))))));
+          locals = List._++_ g48 t45;
+          slots = List._∷_ (Row.lease (κs .0) (qs .0)) (List._∷_ (Row.lease (κs .1 .0) (qs .1 .0)) (List._∷_ Row.off (List._∷_ Row.off (List._∷_ Row.off (List._∷_ Row.dead
+              (List._∷_ Row.alive (List._∷_ Row.alive List.[])))))));
         }
 
         abbrev G57 : Row.Cx
         G57 = record {
-          locals = List._++_ g44 t45;
-          slots = List._∷_ (Row.lease (κs .0) (qs .0)) (List._∷_ (Row.lease (κs .1 .0) (qs .1 .0)) (List._∷_ (Row.lease (κs .1 .1 .0) (qs .1 .1 .0)) (List._∷_ (Row.lease
-              (κs .1 .1 .1 .0) (qs .1 .1 .1 .0)) (List._∷_ Row.off (List._∷_ Row.off (List._∷_ Row.off (List._∷_ Row.dead List.[])))))));
+          locals = List._++_ g49 t50;
+          slots = List._∷_ (Row.lease (κs .0) (qs .0)) (List._∷_ (Row.lease (κs .1 .0) (qs .1 .0)) (List._∷_ (Row.lease (κs .1 .1 .0) (qs .1 .1 .0)) (List._∷_ Row.off
+              (List._∷_ Row.off (List._∷_ Row.dead (List._∷_ Row.alive (List._∷_ Row.alive List.[])))))));
         }
 
         abbrev G58 : Row.Cx
         G58 = record {
+          locals = List._++_ g49 t50;
+          slots = List._∷_ (Row.lease (κs .0) (qs .0)) (List._∷_ (Row.lease (κs .1 .0) (qs .1 .0)) (List._∷_ (Row.lease (κs .1 .1 .0) (qs .1 .1 .0)) (List._∷_ Row.off
+              (List._∷_ Row.off (List._∷_ Row.dead (List._∷_ Row.alive (List._∷_ Row.alive List.[])))))));
+        }
+
+        abbrev G59 : Row.Cx
+        G59 = record {
+          locals = List._++_ g49 t50;
+          slots = List._∷_ (Row.lease (κs .0) (qs .0)) (List._∷_ (Row.lease (κs .1 .0) (qs .1 .0)) (List._∷_ (Row.lease (κs .1 .1 .0) (qs .1 .1 .0)) (List._∷_ Row.off
+              (List._∷_ Row.off (List._∷_ Row.off (List._∷_ Row.alive (List._∷_ Row.alive List.[])))))));
+        }
+
+        abbrev G60 : Row.Cx
+        G60 = record {
+          locals = List._++_ g49 t50;
+          slots = List._∷_ (Row.lease (κs .0) (qs .0)) (List._∷_ (Row.lease (κs .1 .0) (qs .1 .0)) (List._∷_ (Row.lease (κs .1 .1 .0) (qs .1 .1 .0)) (List._∷_ Row.off
+              (List._∷_ Row.off (List._∷_ Row.off (List._∷_ Row.dead (List._∷_ Row.alive List.[])))))));
+        }
+
+        abbrev G61 : Row.Cx
+        G61 = record {
+          locals = List._++_ g51 t52;
+          slots = List._∷_ (Row.lease (κs .0) (qs .0)) (List._∷_ (Row.lease (κs .1 .0) (qs .1 .0)) (List._∷_ (Row.lease (κs .1 .1 .0) (qs .1 .1 .0)) (List._∷_ (Row.lease
+              (κs .1 .1 .1 .0) (qs .1 .1 .1 .0)) (List._∷_ Row.off (List._∷_ Row.off (List._∷_ Row.dead (List._∷_ Row.alive List.[])))))));
+        }
+
+        abbrev G62 : Row.Cx
+        G62 = record {
+          locals = List._++_ g51 t52;
+          slots = List._∷_ (Row.lease (κs .0) (qs .0)) (List._∷_ (Row.lease (κs .1 .0) (qs .1 .0)) (List._∷_ (Row.lease (κs .1 .1 .0) (qs .1 .1 .0)) (List._∷_ (Row.lease
+              (κs .1 .1 .1 .0) (qs .1 .1 .1 .0)) (List._∷_ Row.off (List._∷_ Row.off (List._∷_ Row.dead (List._∷_ Row.alive List.[])))))));
+        }
+
+        abbrev G63 : Row.Cx
+        G63 = record {
+          locals = List._++_ g51 t52;
+          slots = List._∷_ (Row.lease (κs .0) (qs .0)) (List._∷_ (Row.lease (κs .1 .0) (qs .1 .0)) (List._∷_ (Row.lease (κs .1 .1 .0) (qs .1 .1 .0)) (List._∷_ (Row.lease
+              (κs .1 .1 .1 .0) (qs .1 .1 .1 .0)) (List._∷_ Row.off (List._∷_ Row.off (List._∷_ Row.off (List._∷_ Row.alive List.[])))))));
+        }
+
+        abbrev G64 : Row.Cx
+        G64 = record {
+          locals = List._++_ g51 t52;
+          slots = List._∷_ (Row.lease (κs .0) (qs .0)) (List._∷_ (Row.lease (κs .1 .0) (qs .1 .0)) (List._∷_ (Row.lease (κs .1 .1 .0) (qs .1 .1 .0)) (List._∷_ (Row.lease
+              (κs .1 .1 .1 .0) (qs .1 .1 .1 .0)) (List._∷_ Row.off (List._∷_ Row.off (List._∷_ Row.off (List._∷_ Row.dead List.[])))))));
+        }
+
+        abbrev G65 : Row.Cx
+        G65 = record {
           locals = List._++_ t0 t7;
           slots = List._∷_ (Row.lease (κs .0) (qs .0)) (List._∷_ (Row.lease (κs .1 .0) (qs .1 .0)) (List._∷_ (Row.lease (κs .1 .1 .0) (qs .1 .1 .0)) (List._∷_ (Row.lease (κs
               .1 .1 .1 .0) (qs .1 .1 .1 .0)) (List._∷_ (Row.lease (κs .1 .1 .1 .1 .0) (qs .1 .1 .1 .1 .0)) (List._∷_ Row.off (List._∷_ Row.off (List._∷_ Row.dead List.[])))))));
         }
 
-        abbrev G59 : Row.Cx
-        G59 = record {
+        abbrev G66 : Row.Cx
+        G66 = record {
           locals = List._++_ t0 t7;
           slots = List._∷_ (Row.lease (κs .0) (qs .0)) (List._∷_ (Row.lease (κs .1 .0) (qs .1 .0)) (List._∷_ (Row.lease (κs .1 .1 .0) (qs .1 .1 .0)) (List._∷_ (Row.lease (κs
               .1 .1 .1 .0) (qs .1 .1 .1 .0)) (List._∷_ (Row.lease (κs .1 .1 .1 .1 .0) (qs .1 .1 .1 .1 .0)) (List._∷_ Row.off (List._∷_ Row.off (List._∷_ Row.off List.[])))))));
         }
 
-        abbrev G60 : Row.Cx
-        G60 = record {
-          locals = List._++_ t46 t7;
+        abbrev G67 : Row.Cx
+        G67 = record {
+          locals = List._++_ t53 t7;
           slots = List._∷_ (Row.lease (κs .0) (qs .0)) (List._∷_ (Row.lease (κs .1 .0) (qs .1 .0)) (List._∷_ (Row.lease (κs .1 .1 .0) (qs .1 .1 .0)) (List._∷_ (Row.lease (κs
               .1 .1 .1 .0) (qs .1 .1 .1 .0)) (List._∷_ (Row.lease (κs .1 .1 .1 .1 .0) (qs .1 .1 .1 .1 .0)) (List._∷_ Row.off (List._∷_ Row.off (List._∷_ Row.off List.[])))))));
         }
 
-        abbrev G61 : Row.Cx
-        G61 = record {
-          locals = List._++_ t46 t1;
+        abbrev G68 : Row.Cx
+        G68 = record {
+          locals = List._++_ t53 t1;
           slots = List._∷_ (Row.lease (κs .0) (qs .0)) (List._∷_ (Row.lease (κs .1 .0) (qs .1 .0)) (List._∷_ (Row.lease (κs .1 .1 .0) (qs .1 .1 .0)) (List._∷_ (Row.lease (κs
               .1 .1 .1 .0) (qs .1 .1 .1 .0)) (List._∷_ (Row.lease (κs .1 .1 .1 .1 .0) (qs .1 .1 .1 .1 .0)) (List._∷_ Row.off (List._∷_ Row.off (List._∷_ Row.off List.[])))))));
         }
 
-        abbrev G62 : Row.Cx
-        G62 = record {
+        abbrev G69 : Row.Cx
+        G69 = record {
           locals = List._++_ t2 t1;
           slots = List._∷_ (Row.lease (κs .0) (qs .0)) (List._∷_ (Row.lease (κs .1 .0) (qs .1 .0)) (List._∷_ (Row.lease (κs .1 .1 .0) (qs .1 .1 .0)) (List._∷_ (Row.lease (κs
               .1 .1 .1 .0) (qs .1 .1 .1 .0)) (List._∷_ (Row.lease (κs .1 .1 .1 .1 .0) (qs .1 .1 .1 .1 .0)) (List._∷_ Row.off (List._∷_ Row.off (List._∷_ Row.off List.[])))))));
@@ -2045,23 +2261,25 @@ module _ (claims· : Claims) where
           d4 = Typed.g-pre 𝓤 H A W 𝓣 E G13 G14 b6 Δ1 (Typed.both s11) at3 (Known.g-enum-known 𝓤 H A W E Parsed.enum 1 G13 7 (λ x. x) (Reads'.as-is 𝓤 H A (Rows.whole (Declared.row Parsed.the-type))))
               d3
 
-          d5 : Typed.Typed 𝓤 H A 𝓣 E G44 b21 Δ1 at5
-          d5 = Typed.s-typed 𝓤 H A W 𝓣 E G44 b21 Δ1 (λ Ψ. Typed.both s42 (Typed.pass T45 T46 s43 (Typed.pass T46 T47 s44 (Typed.pass T47 T48 s45 (Typed.both s47 (Typed.give s48 (Typed.both s51
-              (Typed.give s52 (Typed.both s55 Ψ))))))))) tt (Typed.g-post 𝓤 H A W 𝓣 E G44 G58 G59 b21 (λ Ψ. Typed.both s42 (Typed.pass T45 T46 s43 (Typed.pass T46 T47 s44 (Typed.pass T47 T48 s45
-              (Typed.both s47 (Typed.give s48 (Typed.both s51 (Typed.give s52 (Typed.both s55 Ψ))))))))) (λ Ψ. Ψ) (Typed.g-post 𝓤 H A W 𝓣 E G44 G57 G58 b21 (λ Ψ. Typed.both s42 (Typed.pass T45 T46 s43
-              (Typed.pass T46 T47 s44 (Typed.pass T47 T48 s45 (Typed.both s47 (Typed.give s48 (Typed.both s51 (Typed.give s52 Ψ)))))))) (Typed.both s55) (Typed.g-post 𝓤 H A W 𝓣 E G44 G56 G57 b21 (λ Ψ.
-              Typed.both s42 (Typed.pass T45 T46 s43 (Typed.pass T46 T47 s44 (Typed.pass T47 T48 s45 (Typed.both s47 (Typed.give s48 (Typed.both s51 (Typed.give s52 Ψ)))))))) (λ Ψ. Ψ) (Typed.g-post 𝓤 H A
-              W 𝓣 E G44 G55 G56 b21 (λ Ψ. Typed.both s42 (Typed.pass T45 T46 s43 (Typed.pass T46 T47 s44 (Typed.pass T47 T48 s45 (Typed.both s47 (Typed.give s48 (Typed.both s51 (Typed.give s52 Ψ))))))))
-              (λ Ψ. Ψ) (Typed.g-post 𝓤 H A W 𝓣 E G44 G54 G55 b21 (λ Ψ. Typed.both s42 (Typed.pass T45 T46 s43 (Typed.pass T46 T47 s44 (Typed.pass T47 T48 s45 (Typed.both s47 (Typed.give s48 (Typed.both
-              s51 Ψ))))))) (Typed.give s52) (Typed.g-post 𝓤 H A W 𝓣 E G44 G53 G54 b21 (λ Ψ. Typed.both s42 (Typed.pass T45 T46 s43 (Typed.pass T46 T47 s44 (Typed.pass T47 T48 s45 (Typed.both s47
-              (Typed.give s48 Ψ)))))) (Typed.both s51) (Typed.g-post 𝓤 H A W 𝓣 E G44 G52 G53 b21 (λ Ψ. Typed.both s42 (Typed.pass T45 T46 s43 (Typed.pass T46 T47 s44 (Typed.pass T47 T48 s45 (Typed.both
-              s47 (Typed.give s48 Ψ)))))) (λ Ψ. Ψ) (Typed.g-post 𝓤 H A W 𝓣 E G44 G51 G52 b21 (λ Ψ. Typed.both s42 (Typed.pass T45 T46 s43 (Typed.pass T46 T47 s44 (Typed.pass T47 T48 s45 (Typed.both s47
-              (Typed.give s48 Ψ)))))) (λ Ψ. Ψ) (Typed.g-post 𝓤 H A W 𝓣 E G44 G50 G51 b21 (λ Ψ. Typed.both s42 (Typed.pass T45 T46 s43 (Typed.pass T46 T47 s44 (Typed.pass T47 T48 s45 (Typed.both s47 Ψ)))))
-              (Typed.give s48) (Typed.g-post 𝓤 H A W 𝓣 E G44 G49 G50 b21 (λ Ψ. Typed.both s42 (Typed.pass T45 T46 s43 (Typed.pass T46 T47 s44 (Typed.pass T47 T48 s45 Ψ)))) (Typed.both s47) (Typed.g-post 𝓤
-              H A W 𝓣 E G44 G48 G49 b21 (λ Ψ. Typed.both s42 (Typed.pass T45 T46 s43 (Typed.pass T46 T47 s44 (Typed.pass T47 T48 s45 Ψ)))) (λ Ψ. Ψ) (Typed.g-post 𝓤 H A W 𝓣 E G44 G47 G48 b21 (λ Ψ.
-              Typed.both s42 (Typed.pass T45 T46 s43 (Typed.pass T46 T47 s44 Ψ))) (Typed.pass T47 T48 s45) (Typed.g-post 𝓤 H A W 𝓣 E G44 G46 G47 b21 (λ Ψ. Typed.both s42 (Typed.pass T45 T46 s43 Ψ))
-              (Typed.pass T46 T47 s44) (Typed.g-post 𝓤 H A W 𝓣 E G44 G45 G46 b21 (Typed.both s42) (Typed.pass T45 T46 s43) (Plain.t-call-plain 𝓤 H A W 𝓣 4 ps·4 r·4 (claims· .8) (claims· .9)
-              "block::writer::write_set" (known .4) E (λ pos β. β) G44 (
+          d5 : Typed.Typed 𝓤 H A 𝓣 E G50 b25 Δ1 at5
+          d5 = Typed.s-typed 𝓤 H A W 𝓣 E G50 b25 Δ1 (λ Ψ. Typed.both s48 (Typed.pass T51 T52 s49 (Typed.pass T52 T53 s50 (Typed.pass T53 T54 s51 (Typed.pass T54 T55 s52 (Typed.both s54 (Typed.give s55
+              (Typed.both s58 (Typed.give s59 (Typed.both s62 Ψ)))))))))) tt (Typed.g-post 𝓤 H A W 𝓣 E G50 G65 G66 b25 (λ Ψ. Typed.both s48 (Typed.pass T51 T52 s49 (Typed.pass T52 T53 s50 (Typed.pass T53
+              T54 s51 (Typed.pass T54 T55 s52 (Typed.both s54 (Typed.give s55 (Typed.both s58 (Typed.give s59 (Typed.both s62 Ψ)))))))))) (λ Ψ. Ψ) (Typed.g-post 𝓤 H A W 𝓣 E G50 G64 G65 b25 (λ Ψ.
+              Typed.both s48 (Typed.pass T51 T52 s49 (Typed.pass T52 T53 s50 (Typed.pass T53 T54 s51 (Typed.pass T54 T55 s52 (Typed.both s54 (Typed.give s55 (Typed.both s58 (Typed.give s59 Ψ)))))))))
+              (Typed.both s62) (Typed.g-post 𝓤 H A W 𝓣 E G50 G63 G64 b25 (λ Ψ. Typed.both s48 (Typed.pass T51 T52 s49 (Typed.pass T52 T53 s50 (Typed.pass T53 T54 s51 (Typed.pass T54 T55 s52 (Typed.both
+              s54 (Typed.give s55 (Typed.both s58 (Typed.give s59 Ψ))))))))) (λ Ψ. Ψ) (Typed.g-post 𝓤 H A W 𝓣 E G50 G62 G63 b25 (λ Ψ. Typed.both s48 (Typed.pass T51 T52 s49 (Typed.pass T52 T53 s50
+              (Typed.pass T53 T54 s51 (Typed.pass T54 T55 s52 (Typed.both s54 (Typed.give s55 (Typed.both s58 (Typed.give s59 Ψ))))))))) (λ Ψ. Ψ) (Typed.g-post 𝓤 H A W 𝓣 E G50 G61 G62 b25 (λ Ψ. Typed.both
+              s48 (Typed.pass T51 T52 s49 (Typed.pass T52 T53 s50 (Typed.pass T53 T54 s51 (Typed.pass T54 T55 s52 (Typed.both s54 (Typed.give s55 (Typed.both s58 Ψ)))))))) (Typed.give s59) (Typed.g-post 𝓤
+              H A W 𝓣 E G50 G60 G61 b25 (λ Ψ. Typed.both s48 (Typed.pass T51 T52 s49 (Typed.pass T52 T53 s50 (Typed.pass T53 T54 s51 (Typed.pass T54 T55 s52 (Typed.both s54 (Typed.give s55 Ψ)))))))
+              (Typed.both s58) (Typed.g-post 𝓤 H A W 𝓣 E G50 G59 G60 b25 (λ Ψ. Typed.both s48 (Typed.pass T51 T52 s49 (Typed.pass T52 T53 s50 (Typed.pass T53 T54 s51 (Typed.pass T54 T55 s52 (Typed.both
+              s54 (Typed.give s55 Ψ))))))) (λ Ψ. Ψ) (Typed.g-post 𝓤 H A W 𝓣 E G50 G58 G59 b25 (λ Ψ. Typed.both s48 (Typed.pass T51 T52 s49 (Typed.pass T52 T53 s50 (Typed.pass T53 T54 s51 (Typed.pass T54
+              T55 s52 (Typed.both s54 (Typed.give s55 Ψ))))))) (λ Ψ. Ψ) (Typed.g-post 𝓤 H A W 𝓣 E G50 G57 G58 b25 (λ Ψ. Typed.both s48 (Typed.pass T51 T52 s49 (Typed.pass T52 T53 s50 (Typed.pass T53 T54
+              s51 (Typed.pass T54 T55 s52 (Typed.both s54 Ψ)))))) (Typed.give s55) (Typed.g-post 𝓤 H A W 𝓣 E G50 G56 G57 b25 (λ Ψ. Typed.both s48 (Typed.pass T51 T52 s49 (Typed.pass T52 T53 s50
+              (Typed.pass T53 T54 s51 (Typed.pass T54 T55 s52 Ψ))))) (Typed.both s54) (Typed.g-post 𝓤 H A W 𝓣 E G50 G55 G56 b25 (λ Ψ. Typed.both s48 (Typed.pass T51 T52 s49 (Typed.pass T52 T53 s50
+              (Typed.pass T53 T54 s51 (Typed.pass T54 T55 s52 Ψ))))) (λ Ψ. Ψ) (Typed.g-post 𝓤 H A W 𝓣 E G50 G54 G55 b25 (λ Ψ. Typed.both s48 (Typed.pass T51 T52 s49 (Typed.pass T52 T53 s50 (Typed.pass T53
+              T54 s51 Ψ)))) (Typed.pass T54 T55 s52) (Typed.g-post 𝓤 H A W 𝓣 E G50 G53 G54 b25 (λ Ψ. Typed.both s48 (Typed.pass T51 T52 s49 (Typed.pass T52 T53 s50 Ψ))) (Typed.pass T53 T54 s51)
+              (Typed.g-post 𝓤 H A W 𝓣 E G50 G52 G53 b25 (λ Ψ. Typed.both s48 (Typed.pass T51 T52 s49 Ψ)) (Typed.pass T52 T53 s50) (Typed.g-post 𝓤 H A W 𝓣 E G50 G51 G52 b25 (Typed.both s48) (Typed.pass T51
+              T52 s49) (Plain.t-call-plain 𝓤 H A W 𝓣 5 ps·4 r·4 (claims· .8) (claims· .9) "block::writer::write_set" (known .4) E (λ pos β. β) G50 (
                 record { pos = 2; ty = Syntax.tyRef (Syntax.named 1) Syntax.imm (Syntax.tyInt Syntax.w16); ref = λ x. x },
                 (
                   record { pos = 18; ty = Syntax.tyRef Syntax.erased Syntax.mut (Syntax.tyInt Syntax.w8); ref = λ x. x },
@@ -2069,12 +2287,18 @@ module _ (claims· : Claims) where
                     Bool.bAt 4 λ x. x,
                     (
                       record { pos = 22; ty = Syntax.tyRef Syntax.erased Syntax.mut (Syntax.tyInt Syntax.w16); ref = λ x. x },
-                      (record { pos = 26; ty = Syntax.tyRef Syntax.erased Syntax.mut Element.behind; ref = λ x. x }, (record { pos = 11; st = List.[]; d = 0; at = λ x. x }, (Num.vAt 12 λ x. x, tt))),
+                      (
+                        record { pos = 26; ty = Syntax.tyRef Syntax.erased Syntax.mut Element.behind; ref = λ x. x },
+                        (
+                          record { pos = 11; st = List.[]; d = 0; at = λ x. x },
+                          (record { pos = 30; ty = Syntax.tyRef Syntax.erased Syntax.imm (Syntax.tyInt Syntax.w8); ref = λ x. x }, (Num.vAt 12 λ x. x, tt)),
+                        ),
+                      ),
                     ),
                   ),
                 ),
-              ) 16
-              (List._∷_ 1 (List._∷_ 5 (List._∷_ 6 (List._∷_ 7 List.[])))) (Call.sub-id 𝓤 H A W (G44 .slots)) (
+              ) 16 (List._∷_ 1 (List._∷_ 5 (List._∷_ 6 (List._∷_ 7
+              (List._∷_ 0 List.[]))))) (Call.sub-id 𝓤 H A W (G50 .slots)) (
                 ShrSlice.spares-sslice 𝓤 H A W (Referent.rtF (Referent.fInt Syntax.w16)) (Syntax.tyRef (Syntax.named 1) Syntax.imm (Syntax.tyInt Syntax.w16)) 1,
                 Shared.reads-sslice 𝓤 H A W (Referent.rtF
                     (Referent.fInt Syntax.w16)) (Syntax.tyRef (Syntax.named 1) Syntax.imm (Syntax.tyInt Syntax.w16)) 1,
@@ -2102,135 +2326,183 @@ module _ (claims· : Claims) where
                                 Form.the-type)) (λ x. x) (λ x. x) (λ ρ told. Local.mem-whole 𝓤 H A W (Declared'.row Form.the-type) ρ) λ ρ told. Local.whole-mem 𝓤 H A W (Declared'.row Form.the-type) ρ,
                             Path'.refl,
                           ),
-                          ((Scalar.reads-sc 𝓤 H A W (Row.sInt Syntax.w64), Path'.refl), tt),
+                          (
+                            ShrSlice.spares-sslice 𝓤 H A W (Referent.rtF (Referent.fInt Syntax.w8)) (Syntax.tyRef Syntax.erased Syntax.imm (Syntax.tyInt Syntax.w8)) 0,
+                            Shared.reads-sslice 𝓤 H A W (Referent.rtF
+                                (Referent.fInt Syntax.w8)) (Syntax.tyRef Syntax.erased Syntax.imm (Syntax.tyInt Syntax.w8)) 0,
+                            Path'.refl,
+                            ((Scalar.reads-sc 𝓤 H A W (Row.sInt Syntax.w64), Path'.refl), tt),
+                          ),
                         ),
                       ),
                     ),
                   ),
                 ),
-              ) (Reads'.room-gone 𝓤 H A (Syntax.tyEnum (List._∷_ 115 (List._∷_ 116 (List._∷_ 114 (List._∷_ 101 (List._∷_ 97 (List._∷_
-              109 (List._∷_ 58 (List._∷_ 58 (List._∷_ 66 (List._∷_ 108 (List._∷_ 111 (List._∷_ 99 (List._∷_ 107 (List._∷_ 76 (List._∷_ 101 (List._∷_ 110 (List._∷_ 103 (List._∷_ 116 (List._∷_ 104
-              List.[]))))))))))))))))))) (Syntax.ttcons (Syntax.tcons (Syntax.tyInt Syntax.w64) Syntax.tnil) (Syntax.ttcons (Syntax.tcons (Syntax.tyEnum (List._∷_ 115 (List._∷_ 116 (List._∷_ 114 (List._∷_
-              101 (List._∷_ 97 (List._∷_ 109 (List._∷_ 58 (List._∷_ 58 (List._∷_ 82 (List._∷_ 101 (List._∷_ 102 (List._∷_ 117 (List._∷_ 115 (List._∷_ 97 (List._∷_ 108 List.[]))))))))))))))) (Syntax.ttcons
-              Syntax.tnil (Syntax.ttcons Syntax.tnil (Syntax.ttcons Syntax.tnil (Syntax.ttcons (Syntax.tcons (Syntax.tyInt Syntax.w64) Syntax.tnil) (Syntax.ttcons Syntax.tnil (Syntax.ttcons Syntax.tnil
-              (Syntax.ttcons Syntax.tnil (Syntax.ttcons Syntax.tnil (Syntax.ttcons Syntax.tnil (Syntax.ttcons Syntax.tnil (Syntax.ttcons (Syntax.tcons (Syntax.tyInt Syntax.w64) Syntax.tnil) (Syntax.ttcons
-              (Syntax.tcons (Syntax.tyInt Syntax.w64) Syntax.tnil) (Syntax.ttcons Syntax.tnil (Syntax.ttcons (Syntax.tcons (Syntax.tyInt Syntax.w64) (Syntax.tcons (Syntax.tyInt Syntax.w64) Syntax.tnil))
-              (Syntax.ttcons (Syntax.tcons (Syntax.tyInt Syntax.w64) Syntax.tnil) (Syntax.ttcons Syntax.tnil (Syntax.ttcons Syntax.tnil (Syntax.ttcons (Syntax.tcons (Syntax.tyInt Syntax.w64) Syntax.tnil)
-              (Syntax.ttcons (Syntax.tcons (Syntax.tyInt Syntax.w64) Syntax.tnil) (Syntax.ttcons (Syntax.tcons (Syntax.tyInt Syntax.w64) Syntax.tnil) (Syntax.ttcons Syntax.tnil
-              Syntax.ttnil)))))))))))))))))))))) Syntax.tnil) Syntax.ttnil)))) (tt, (tt, (tt, (tt, tt)))) Path'.refl) (Scalar.g-room 𝓤 H A W E G45 10 (Syntax.tyInt Syntax.w64) (Scalar.room-sc 𝓤 H A W
-              (Row.sInt Syntax.w64)))) (Scalar.g-room 𝓤 H A W E G46 11 y4 (Local.room-whole 𝓤 H A W (Declared'.row Form.the-type) y4 Path'.refl))) (Scalar.g-room 𝓤 H A W E G47 12 (Syntax.tyInt Syntax.w64)
-              (Scalar.room-sc 𝓤 H A W (Row.sInt Syntax.w64)))) (Lifetime.g-end 𝓤 H A W E G48 5 Path'.refl)) (Relend.g-back-sl 𝓤 H A W E (Referent.rtF (Referent.fInt Syntax.w8)) G49 18 3 2 5 (Syntax.tyRef
-              (Syntax.named 2) Syntax.mut (Syntax.tyInt Syntax.w8)) (Syntax.tyRef Syntax.erased Syntax.mut (Syntax.tyInt Syntax.w8)) (Row.lease (κs .1 .1 .0) (qs .1 .1 .0)) (λ x. x) (λ x. x) (Reads'.as-is
-              𝓤 H A (Mut.msleft (Referent.rtF (Referent.fInt Syntax.w8)) (Syntax.tyRef Syntax.erased Syntax.mut (Syntax.tyInt Syntax.w8)))) (Reads'.as-is 𝓤 H A (Relend.mslice-owed (Referent.rtF
-              (Referent.fInt Syntax.w8)) (Syntax.tyRef (Syntax.named 2) Syntax.mut (Syntax.tyInt Syntax.w8)) 2 5 (Row.lease (κs .1 .1 .0) (qs .1 .1 .0)))) Path'.refl Path'.refl)) (Know.g-sl-known 𝓤 H A W
-              (Referent.fInt Syntax.w8) E G50 3 2 (Syntax.tyRef (Syntax.named 2) Syntax.mut (Syntax.tyInt Syntax.w8)) (Row.lease (κs .1 .1 .0) (qs .1 .1 .0)) 0 (λ x. x) record { fits = Dec'.lit< tt }
-              (Reads'.as-is 𝓤 H A (Mut.mslice (Referent.rtF (Referent.fInt Syntax.w8)) (Syntax.tyRef (Syntax.named 2) Syntax.mut (Syntax.tyInt Syntax.w8)) 2)) Path'.refl tt)) (Lifetime.g-forget 𝓤 H A W E
-              G51 5 Row.dead Path'.refl)) (Lifetime.g-end 𝓤 H A W E G52 6 Path'.refl)) (PartMut.g-back-slᵐ 𝓤 H A W E (Referent.rtF (Referent.fInt Syntax.w16)) G53 22 5 3 6 (Syntax.tyRef (Syntax.named 3)
-              Syntax.mut (Syntax.tyInt Syntax.w16)) (Syntax.tyRef Syntax.erased Syntax.mut (Syntax.tyInt Syntax.w16)) (Row.lease (κs .1 .1 .1 .0) (qs .1 .1 .1 .0)) (λ x. x) (λ x. x) (Reads'.as-is 𝓤 H A
-              (Mut.msleft (Referent.rtF (Referent.fInt Syntax.w16)) (Syntax.tyRef Syntax.erased Syntax.mut (Syntax.tyInt Syntax.w16)))) (Reads'.as-is 𝓤 H A (PartMut.mslice-owedM (Referent.rtF
-              (Referent.fInt Syntax.w16)) (Syntax.tyRef (Syntax.named 3) Syntax.mut (Syntax.tyInt Syntax.w16)) 3 6 (Row.lease (κs .1 .1 .1 .0) (qs .1 .1 .1 .0)))) Path'.refl Path'.refl)) (Know.g-sl-known
-              𝓤 H A W (Referent.fInt Syntax.w16) E G54 5 3 (Syntax.tyRef (Syntax.named 3) Syntax.mut (Syntax.tyInt Syntax.w16)) (Row.lease (κs .1 .1 .1 .0) (qs .1 .1 .1 .0)) 0 (λ x. x) record {
-                fits =
-                    Dec'.lit< tt;
-              } (Reads'.as-is 𝓤 H A (Mut.mslice (Referent.rtF (Referent.fInt Syntax.w16)) (Syntax.tyRef (Syntax.named 3) Syntax.mut (Syntax.tyInt Syntax.w16)) 3)) Path'.refl tt))
-              (Lifetime.g-forget 𝓤 H A W E G55 6 Row.dead Path'.refl)) (Lifetime.g-end 𝓤 H A W E G56 7 Path'.refl)) (PartMut.g-back-slᵐ 𝓤 H A W E (Element.type) G57 26 6 4 7 (Syntax.tyRef (Syntax.named 4)
-              Syntax.mut Element.behind) (Syntax.tyRef Syntax.erased Syntax.mut Element.behind) (Row.lease (κs .1 .1 .1 .1 .0) (qs .1 .1 .1 .1 .0)) (λ x. x) (λ x. x) (Reads'.as-is 𝓤 H A (Mut.msleft
-              (Element.type) (Syntax.tyRef Syntax.erased Syntax.mut Element.behind))) (Reads'.as-is 𝓤 H A (PartMut.mslice-owedM (Element.type) (Syntax.tyRef (Syntax.named 4) Syntax.mut Element.behind) 4 7
-              (Row.lease (κs .1 .1 .1 .1 .0) (qs .1 .1 .1 .1 .0)))) Path'.refl Path'.refl)) (Lifetime.g-forget 𝓤 H A W E G58 7 Row.dead Path'.refl))
+              )
+              (Reads'.room-gone 𝓤 H A (Syntax.tyEnum (List._∷_ 115 (List._∷_ 116 (List._∷_ 114 (List._∷_ 101 (List._∷_ 97 (List._∷_ 109 (List._∷_ 58 (List._∷_ 58 (List._∷_ 66 (List._∷_ 108 (List._∷_ 111
+              (List._∷_ 99 (List._∷_ 107 (List._∷_ 76 (List._∷_ 101 (List._∷_ 110 (List._∷_ 103 (List._∷_ 116 (List._∷_ 104 List.[]))))))))))))))))))) (Syntax.ttcons (Syntax.tcons (Syntax.tyInt
+              Syntax.w64) Syntax.tnil) (Syntax.ttcons (Syntax.tcons (Syntax.tyEnum (List._∷_ 115 (List._∷_ 116 (List._∷_ 114 (List._∷_ 101 (List._∷_ 97 (List._∷_ 109 (List._∷_ 58 (List._∷_ 58 (List._∷_ 82
+              (List._∷_ 101 (List._∷_ 102 (List._∷_ 117 (List._∷_ 115 (List._∷_ 97 (List._∷_ 108 List.[]))))))))))))))) (Syntax.ttcons Syntax.tnil (Syntax.ttcons Syntax.tnil (Syntax.ttcons Syntax.tnil
+              (Syntax.ttcons (Syntax.tcons (Syntax.tyInt Syntax.w64) Syntax.tnil) (Syntax.ttcons Syntax.tnil (Syntax.ttcons Syntax.tnil (Syntax.ttcons Syntax.tnil (Syntax.ttcons Syntax.tnil (Syntax.ttcons
+              Syntax.tnil (Syntax.ttcons Syntax.tnil (Syntax.ttcons (Syntax.tcons (Syntax.tyInt Syntax.w64) Syntax.tnil) (Syntax.ttcons (Syntax.tcons (Syntax.tyInt Syntax.w64) Syntax.tnil) (Syntax.ttcons
+              Syntax.tnil (Syntax.ttcons (Syntax.tcons (Syntax.tyInt Syntax.w64) (Syntax.tcons (Syntax.tyInt Syntax.w64) Syntax.tnil)) (Syntax.ttcons (Syntax.tcons (Syntax.tyInt Syntax.w64) Syntax.tnil)
+              (Syntax.ttcons Syntax.tnil (Syntax.ttcons Syntax.tnil (Syntax.ttcons (Syntax.tcons (Syntax.tyInt Syntax.w64) Syntax.tnil) (Syntax.ttcons (Syntax.tcons (Syntax.tyInt Syntax.w64) Syntax.tnil)
+              (Syntax.ttcons (Syntax.tcons (Syntax.tyInt Syntax.w64) Syntax.tnil) (Syntax.ttcons Syntax.tnil Syntax.ttnil)))))))))))))))))))))) Syntax.tnil) Syntax.ttnil))))
+              (tt, (tt, (tt, (tt, (tt, tt))))) Path'.refl) (Scalar.g-room 𝓤 H A W E G51 30 y1 (Shared.room-sslice 𝓤 H A W (Referent.rtF (Referent.fInt Syntax.w8)) (Syntax.tyRef Syntax.erased Syntax.imm
+              (Syntax.tyInt Syntax.w8)) 0))) (Scalar.g-room 𝓤 H A W E G52 10 (Syntax.tyInt Syntax.w64) (Scalar.room-sc 𝓤 H A W (Row.sInt Syntax.w64)))) (Scalar.g-room 𝓤 H A W E G53 11 y5 (Local.room-whole
+              𝓤 H A W (Declared'.row Form.the-type) y5 Path'.refl))) (Scalar.g-room 𝓤 H A W E G54 12 (Syntax.tyInt Syntax.w64) (Scalar.room-sc 𝓤 H A W (Row.sInt Syntax.w64)))) (Lifetime.g-end 𝓤 H A W E
+              G55 5 Path'.refl)) (Relend.g-back-sl 𝓤 H A W E (Referent.rtF (Referent.fInt Syntax.w8)) G56 18 3 2 5 (Syntax.tyRef (Syntax.named 2) Syntax.mut (Syntax.tyInt Syntax.w8)) (Syntax.tyRef
+              Syntax.erased Syntax.mut (Syntax.tyInt Syntax.w8)) (Row.lease (κs .1 .1 .0) (qs .1 .1 .0)) (λ x. x) (λ x. x) (Reads'.as-is 𝓤 H A (Mut.msleft (Referent.rtF (Referent.fInt Syntax.w8))
+              (Syntax.tyRef Syntax.erased Syntax.mut (Syntax.tyInt Syntax.w8)))) (Reads'.as-is 𝓤 H A (Relend.mslice-owed (Referent.rtF (Referent.fInt Syntax.w8)) (Syntax.tyRef (Syntax.named 2) Syntax.mut
+              (Syntax.tyInt Syntax.w8)) 2 5 (Row.lease (κs .1 .1 .0) (qs .1 .1 .0)))) Path'.refl Path'.refl)) (Know.g-sl-known 𝓤 H A W (Referent.fInt Syntax.w8) E G57 3 2 (Syntax.tyRef (Syntax.named 2)
+              Syntax.mut (Syntax.tyInt Syntax.w8)) (Row.lease (κs .1 .1 .0) (qs .1 .1 .0)) 0 (λ x. x) record { fits = Dec'.lit< tt } (Reads'.as-is 𝓤 H A (Mut.mslice (Referent.rtF (Referent.fInt
+              Syntax.w8)) (Syntax.tyRef (Syntax.named 2) Syntax.mut (Syntax.tyInt Syntax.w8)) 2)) Path'.refl tt)) (Lifetime.g-forget 𝓤 H A W E G58 5 Row.dead Path'.refl)) (Lifetime.g-end 𝓤 H A W E G59 6
+              Path'.refl)) (PartMut.g-back-slᵐ 𝓤 H A W E (Referent.rtF (Referent.fInt Syntax.w16)) G60 22 5 3 6 (Syntax.tyRef (Syntax.named 3) Syntax.mut (Syntax.tyInt Syntax.w16)) (Syntax.tyRef
+              Syntax.erased Syntax.mut (Syntax.tyInt Syntax.w16)) (Row.lease (κs .1 .1 .1 .0) (qs .1 .1 .1 .0)) (λ x. x) (λ x. x) (Reads'.as-is 𝓤 H A (Mut.msleft (Referent.rtF (Referent.fInt Syntax.w16))
+              (Syntax.tyRef Syntax.erased Syntax.mut (Syntax.tyInt Syntax.w16)))) (Reads'.as-is 𝓤 H A (PartMut.mslice-owedM (Referent.rtF (Referent.fInt Syntax.w16)) (Syntax.tyRef (Syntax.named 3)
+              Syntax.mut (Syntax.tyInt Syntax.w16)) 3 6 (Row.lease (κs .1 .1 .1 .0) (qs .1 .1 .1 .0)))) Path'.refl Path'.refl)) (Know.g-sl-known 𝓤 H A W (Referent.fInt Syntax.w16) E G61 5 3 (Syntax.tyRef
+              (Syntax.named 3) Syntax.mut (Syntax.tyInt Syntax.w16)) (Row.lease (κs .1 .1 .1 .0) (qs .1 .1 .1 .0)) 0 (λ x. x) record { fits = Dec'.lit< tt } (Reads'.as-is 𝓤 H A (Mut.mslice (Referent.rtF
+              (Referent.fInt Syntax.w16)) (Syntax.tyRef (Syntax.named 3) Syntax.mut (Syntax.tyInt Syntax.w16)) 3)) Path'.refl tt)) (Lifetime.g-forget 𝓤 H A W E G62 6 Row.dead Path'.refl)) (Lifetime.g-end
+              𝓤 H A W E G63 7 Path'.refl)) (PartMut.g-back-slᵐ 𝓤 H A W E (Element.type) G64 26 6 4 7 (Syntax.tyRef (Syntax.named 4) Syntax.mut Element.behind) (Syntax.tyRef Syntax.erased Syntax.mut
+              Element.behind) (Row.lease (κs .1 .1 .1 .1 .0) (qs .1 .1 .1 .1 .0)) (λ x. x) (λ x. x) (Reads'.as-is 𝓤 H A (Mut.msleft (Element.type) (Syntax.tyRef Syntax.erased Syntax.mut Element.behind)))
+              (Reads'.as-is 𝓤 H A (PartMut.mslice-owedM (Element.type) (Syntax.tyRef (Syntax.named 4) Syntax.mut Element.behind) 4 7 (Row.lease (κs .1 .1 .1 .1 .0) (qs .1 .1 .1 .1 .0)))) Path'.refl
+              Path'.refl)) (Lifetime.g-forget 𝓤 H A W E G65 7 Row.dead Path'.refl))
 
-          d6 : Typed.Typed 𝓤 H A 𝓣 E G43 b21 Δ1 at6
-          d6 = Typed.g-pre 𝓤 H A W 𝓣 E G43 G44 b21 Δ1 (Typed.pass T43 T44 s41) at5 (Scalar.g-room 𝓤 H A W E G43 24 (Syntax.tyInt Syntax.w64) (Scalar.room-sc 𝓤 H A W (Row.sInt Syntax.w64))) d5
+          d6 : Typed.Typed 𝓤 H A 𝓣 E G49 b25 Δ1 at6
+          d6 = Typed.g-pre 𝓤 H A W 𝓣 E G49 G50 b25 Δ1 (Typed.pass T49 T50 s47) at5 (Scalar.g-room 𝓤 H A W E G49 28 (Syntax.tyInt Syntax.w64) (Scalar.room-sc 𝓤 H A W (Row.sInt Syntax.w64))) d5
 
-          d7 : Typed.Typed 𝓤 H A 𝓣 E G42 b22 Δ1 at7
-          d7 = Typed.s-seq 𝓤 H A W 𝓣 E G42 G43 b20 b21 Δ1 (Typed.ask s40) at6 (Relend.t-sl-aggregate 𝓤 H A W E (Element.type) 𝓣 (Relend.asMut (Element.type)) G42 25 26 7 (Syntax.tyRef Syntax.erased
-              Syntax.mut Element.behind) (Syntax.tyRef Syntax.erased Syntax.mut Element.behind) (λ x. x) (Scalar.oAt 24 (Syntax.tyInt Syntax.w64) (Row.valS (Row.sInt Syntax.w64))) (Reads'.as-is 𝓤 H A
-              (Relend.msptr (Element.type) (Syntax.tyRef Syntax.erased Syntax.mut Element.behind) 7)) (Reads'.room-gone 𝓤 H A y3) (Scalar.reads-sc 𝓤 H A W (Row.sInt Syntax.w64), Path'.refl) Path'.refl
-              Path'.refl λ b o k. tt) d6
+          d7 : Typed.Typed 𝓤 H A 𝓣 E G48 b26 Δ1 at7
+          d7 = Typed.s-seq 𝓤 H A W 𝓣 E G48 G49 b24 b25 Δ1 (Typed.ask s46) at6 (Relend.t-sl-aggregate 𝓤 H A W E (Referent.rtF (Referent.fInt Syntax.w8)) 𝓣 (Relend.asShr (Referent.rtF (Referent.fInt
+              Syntax.w8))) G48 29 30 0 (Syntax.tyRef Syntax.erased Syntax.imm (Syntax.tyInt Syntax.w8)) (Syntax.tyRef Syntax.erased Syntax.imm (Syntax.tyInt Syntax.w8)) (λ x. x) (Scalar.oAt 28
+              (Syntax.tyInt Syntax.w64) (Row.valS (Row.sInt Syntax.w64))) (Reads'.as-is 𝓤 H A (Relend.ssptr (Referent.rtF (Referent.fInt Syntax.w8)) (Syntax.tyRef Syntax.erased Syntax.imm (Syntax.tyInt
+              Syntax.w8)) 0)) (Reads'.room-gone 𝓤 H A y1) (Scalar.reads-sc 𝓤 H A W (Row.sInt Syntax.w64), Path'.refl) Path'.refl Path'.refl λ b o k. tt) d6
 
-          d8 : Typed.Typed 𝓤 H A 𝓣 E G41 b22 Δ1 at8
-          d8 = Typed.g-pre 𝓤 H A W 𝓣 E G41 G42 b22 Δ1 (Typed.pass T41 T42 s39) at7 (Scalar.g-room 𝓤 H A W E G41 23 Syntax.tyPtr (Scalar.room-sc 𝓤 H A W Row.sPtr)) d7
+          d8 : Typed.Typed 𝓤 H A 𝓣 E G47 b26 Δ1 at8
+          d8 = Typed.g-pre 𝓤 H A W 𝓣 E G47 G48 b26 Δ1 (Typed.pass T47 T48 s45) at7 (Scalar.g-room 𝓤 H A W E G47 27 Syntax.tyPtr (Scalar.room-sc 𝓤 H A W Row.sPtr)) d7
 
-          d9 : Typed.Typed 𝓤 H A 𝓣 E G40 b23 Δ1 at9
-          d9 = Typed.s-seq 𝓤 H A W 𝓣 E G40 G41 b19 b22 Δ1 (Typed.both s38) at8 (PartMut.t-sl-relendᵐ 𝓤 H A W E (Element.type) 𝓣 G40 6 23 25 4 7 (Element.held) (Syntax.tyRef (Syntax.named 4) Syntax.mut
-              Element.behind) (Syntax.tyRef Syntax.erased Syntax.mut Element.behind) (Row.lease (κs .1 .1 .1 .1 .0) (qs .1 .1 .1 .1 .0)) (Shared.bySize 8) (λ x. x) (λ x. x) (λ u. 0) (λ u. 336) (λ i o.
-              Elements.at-mul o 8 i) (Reads'.as-is 𝓤 H A (Mut.mslice (Element.type) (Syntax.tyRef (Syntax.named 4) Syntax.mut Element.behind) 4)) (Reads'.as-is 𝓤 H A (Rows.sc-here Row.sPtr))
-              (Reads'.room-gone 𝓤 H A (Syntax.tyRef Syntax.erased Syntax.mut Element.behind)) Path'.refl tt Path'.refl Path'.refl λ b o. tt) d8
+          d9 : Typed.Typed 𝓤 H A 𝓣 E G46 b27 Δ1 at9
+          d9 = Typed.s-seq 𝓤 H A W 𝓣 E G46 G47 b23 b26 Δ1 (Typed.both s44) at8 (PartAt.t-shs-part-same 𝓤 H A W E (Referent.rtF (Referent.fInt Syntax.w8)) 𝓣 (Copies.halved 𝓤 H A W (Copies.cRf
+              (Referent.fInt Syntax.w8))) G46 1 27 29 0 (Syntax.tyInt Syntax.w8) (Syntax.tyRef (Syntax.named 0) Syntax.imm (Syntax.tyInt Syntax.w8)) (Syntax.tyRef Syntax.erased Syntax.imm (Syntax.tyInt
+              Syntax.w8)) (Row.lease (κs .0) (qs .0)) Shared.byByte (λ x. x) (λ x. x) (λ u. 0) (λ u. 0) (λ i o. Elements.at-byte o i) (Reads'.as-is 𝓤 H A (Rows.sslice (Referent.rtF (Referent.fInt
+              Syntax.w8)) (Syntax.tyRef (Syntax.named 0) Syntax.imm (Syntax.tyInt Syntax.w8)) 0)) (Reads'.as-is 𝓤 H A (Rows.sc-here Row.sPtr)) (Reads'.room-gone 𝓤 H A (Syntax.tyRef Syntax.erased
+              Syntax.imm (Syntax.tyInt Syntax.w8))) Path'.refl tt Path'.refl Path'.refl λ b o. tt) d8
 
-          d10 : Typed.Typed 𝓤 H A 𝓣 E G39 b23 Δ1 at10
-          d10 = Typed.g-pre 𝓤 H A W 𝓣 E G39 G40 b23 Δ1 (λ Ψ. Ψ) at9 (Lifetime.g-begin 𝓤 H A W E G39 7
-              (tt, (tt, (tt, ((tt, tt), (tt, ((tt, tt), (tt, (tt, (tt, (tt, (tt, (tt, (tt, (tt, (tt, (tt, (tt, (tt, (tt, (tt, (tt, (tt, (tt, (tt, (tt, (tt, (tt, tt)))))))))))))))))))))))))))) d9
-
-          d11 : Typed.Typed 𝓤 H A 𝓣 E G38 b24 Δ1 at11
-          d11 = Typed.s-seq 𝓤 H A W 𝓣 E G38 G39 b18 b23 Δ1 (Typed.ask s36) at10 (Scalar.t-op2 𝓤 H A W E 𝓣 G38 (Syntax.sub Syntax.unsigned) (Scalar.oInt Syntax.w64 336) (Scalar.oInt Syntax.w64 0) 24
+          d10 : Typed.Typed 𝓤 H A 𝓣 E G45 b28 Δ1 at10
+          d10 = Typed.s-seq 𝓤 H A W 𝓣 E G45 G46 b22 b27 Δ1 (Typed.ask s43) at9 (Scalar.t-op2 𝓤 H A W E 𝓣 G45 (Syntax.sub Syntax.unsigned) (Scalar.oInt Syntax.w64 0) (Scalar.oInt Syntax.w64 0) 28
               (Rows.sc-here (Row.sInt Syntax.w64)) (Syntax.tyInt Syntax.w64) (Row.valS (Row.sInt Syntax.w64)) (Row.sInt Syntax.w64 .of) tt tt (Reads'.room-gone 𝓤 H A (Syntax.tyInt Syntax.w64))
-              (Scalar.holds-sc 𝓤 H A W (Row.sInt Syntax.w64)) Path'.refl (λ u. Path'.refl) λ u. tt) d10
+              (Scalar.holds-sc 𝓤 H A W (Row.sInt Syntax.w64)) Path'.refl (λ u. Path'.refl) λ u. tt) d9
 
-          d12 : Typed.Typed 𝓤 H A 𝓣 E G37 b25 Δ1 at12
-          d12 = Typed.s-seq 𝓤 H A W 𝓣 E G37 G38 b17 b24 Δ1 (Typed.ask s35) at11 (Scalar.t-op2 𝓤 H A W E 𝓣 G37 Syntax.offset (Scalar.oFld 6 (List._∷_ (Syntax.field 0) List.[]) (Syntax.tyRef
+          d11 : Typed.Typed 𝓤 H A 𝓣 E G44 b29 Δ1 at11
+          d11 = Typed.s-seq 𝓤 H A W 𝓣 E G44 G45 b21 b28 Δ1 (Typed.ask s42) at10 (Scalar.t-op2 𝓤 H A W E 𝓣 G44 Syntax.offset (Scalar.oFld 1 (List._∷_ (Syntax.field 0) List.[]) (Syntax.tyRef
+              (Syntax.named 0) Syntax.imm (Syntax.tyInt Syntax.w8)) 0 Reads'.ptrVal) (Scalar.oInt Syntax.w64 0) 27 (Rows.sc-here Row.sPtr) Syntax.tyPtr (Row.valS Row.sPtr) (Row.sPtr .of)
+              (Shared.reads-sslice-ptr 𝓤 H A W (Referent.rtF (Referent.fInt Syntax.w8)) (Syntax.tyRef (Syntax.named 0) Syntax.imm (Syntax.tyInt Syntax.w8)) 0 0 Path'.refl, Path'.refl) tt (Reads'.room-gone
+              𝓤 H A Syntax.tyPtr) (Scalar.holds-sc 𝓤 H A W Row.sPtr) Path'.refl (λ u. Path'.refl) λ u. tt) d10
+
+          d12 : Typed.Typed 𝓤 H A 𝓣 E G43 b29 Δ1 at12
+          d12 = Typed.g-pre 𝓤 H A W 𝓣 E G43 G44 b29 Δ1 (Typed.pass T43 T44 s41) at11 (Scalar.g-room 𝓤 H A W E G43 24 (Syntax.tyInt Syntax.w64) (Scalar.room-sc 𝓤 H A W (Row.sInt Syntax.w64))) d11
+
+          d13 : Typed.Typed 𝓤 H A 𝓣 E G42 b30 Δ1 at13
+          d13 = Typed.s-seq 𝓤 H A W 𝓣 E G42 G43 b20 b29 Δ1 (Typed.ask s40) at12 (Relend.t-sl-aggregate 𝓤 H A W E (Element.type) 𝓣 (Relend.asMut (Element.type)) G42 25 26 7 (Syntax.tyRef Syntax.erased
+              Syntax.mut Element.behind) (Syntax.tyRef Syntax.erased Syntax.mut Element.behind) (λ x. x) (Scalar.oAt 24 (Syntax.tyInt Syntax.w64) (Row.valS (Row.sInt Syntax.w64))) (Reads'.as-is 𝓤 H A
+              (Relend.msptr (Element.type) (Syntax.tyRef Syntax.erased Syntax.mut Element.behind) 7)) (Reads'.room-gone 𝓤 H A y4) (Scalar.reads-sc 𝓤 H A W (Row.sInt Syntax.w64), Path'.refl) Path'.refl
+              Path'.refl λ b o k. tt) d12
+
+          d14 : Typed.Typed 𝓤 H A 𝓣 E G41 b30 Δ1 at14
+          d14 = Typed.g-pre 𝓤 H A W 𝓣 E G41 G42 b30 Δ1 (Typed.pass T41 T42 s39) at13 (Scalar.g-room 𝓤 H A W E G41 23 Syntax.tyPtr (Scalar.room-sc 𝓤 H A W Row.sPtr)) d13
+
+          d15 : Typed.Typed 𝓤 H A 𝓣 E G40 b31 Δ1 at15
+          d15 = Typed.s-seq 𝓤 H A W 𝓣 E G40 G41 b19 b30 Δ1 (Typed.both s38) at14 (PartMut.t-sl-relendᵐ 𝓤 H A W E (Element.type) 𝓣 G40 6 23 25 4 7 (Element.held) (Syntax.tyRef (Syntax.named 4)
+              Syntax.mut Element.behind) (Syntax.tyRef Syntax.erased Syntax.mut Element.behind) (Row.lease (κs .1 .1 .1 .1 .0) (qs .1 .1 .1 .1 .0)) (Shared.bySize 8) (λ x. x) (λ x. x) (λ u. 0) (λ u. 336)
+              (λ i o. Elements.at-mul o 8 i) (Reads'.as-is 𝓤 H A (Mut.mslice (Element.type) (Syntax.tyRef (Syntax.named 4) Syntax.mut Element.behind) 4)) (Reads'.as-is 𝓤 H A (Rows.sc-here Row.sPtr))
+              (Reads'.room-gone 𝓤 H A (Syntax.tyRef Syntax.erased Syntax.mut Element.behind)) Path'.refl tt Path'.refl Path'.refl λ b o. tt) d14
+
+          d16 : Typed.Typed 𝓤 H A 𝓣 E G39 b31 Δ1 at16
+          d16 = Typed.g-pre 𝓤 H A W 𝓣 E G39 G40 b31 Δ1 (λ Ψ. Ψ) at15 (Lifetime.g-begin 𝓤 H A W E G39 7 (
+            tt,
+            (
+              tt,
+              (
+                tt,
+                ((tt, tt), (tt, ((tt, tt), (tt, (tt, (tt, (tt, (tt, (tt, (tt, (tt, (tt, (tt, (tt, (tt, (tt, (tt, (tt, (tt, (tt, (tt, (tt, (tt, (tt, (tt, (tt, (tt, (tt, tt)))))))))))))))))))))))))))),
+              ),
+            ),
+          )) d15
+
+          d17 : Typed.Typed 𝓤 H A 𝓣 E G38 b32 Δ1 at17
+          d17 = Typed.s-seq 𝓤 H A W 𝓣 E G38 G39 b18 b31 Δ1 (Typed.ask s36) at16 (Scalar.t-op2 𝓤 H A W E 𝓣 G38 (Syntax.sub Syntax.unsigned) (Scalar.oInt Syntax.w64 336) (Scalar.oInt Syntax.w64 0) 24
+              (Rows.sc-here (Row.sInt Syntax.w64)) (Syntax.tyInt Syntax.w64) (Row.valS (Row.sInt Syntax.w64)) (Row.sInt Syntax.w64 .of) tt tt (Reads'.room-gone 𝓤 H A (Syntax.tyInt Syntax.w64))
+              (Scalar.holds-sc 𝓤 H A W (Row.sInt Syntax.w64)) Path'.refl (λ u. Path'.refl) λ u. tt) d16
+
+          d18 : Typed.Typed 𝓤 H A 𝓣 E G37 b33 Δ1 at18
+          d18 = Typed.s-seq 𝓤 H A W 𝓣 E G37 G38 b17 b32 Δ1 (Typed.ask s35) at17 (Scalar.t-op2 𝓤 H A W E 𝓣 G37 Syntax.offset (Scalar.oFld 6 (List._∷_ (Syntax.field 0) List.[]) (Syntax.tyRef
               (Syntax.named 4) Syntax.mut Element.behind) 0 Reads'.ptrVal) (Scalar.oInt Syntax.w64 0) 23 (Rows.sc-here Row.sPtr) Syntax.tyPtr (Row.valS Row.sPtr) (Row.sPtr .of)
               (Mut.reads-mslice-ptr 𝓤 H A W (Element.type) (Syntax.tyRef (Syntax.named 4) Syntax.mut Element.behind) 4 0 Path'.refl, Path'.refl) tt (Reads'.room-gone 𝓤 H A Syntax.tyPtr) (Scalar.holds-sc 𝓤
-              H A W Row.sPtr) Path'.refl (λ u. Path'.refl) λ u. tt) d11
+              H A W Row.sPtr) Path'.refl (λ u. Path'.refl) λ u. tt) d17
 
-          d13 : Typed.Typed 𝓤 H A 𝓣 E G36 b25 Δ1 at13
-          d13 = Typed.g-pre 𝓤 H A W 𝓣 E G36 G37 b25 Δ1 (Typed.pass T36 T37 s34) at12 (Scalar.g-room 𝓤 H A W E G36 20 (Syntax.tyInt Syntax.w64) (Scalar.room-sc 𝓤 H A W (Row.sInt Syntax.w64))) d12
+          d19 : Typed.Typed 𝓤 H A 𝓣 E G36 b33 Δ1 at19
+          d19 = Typed.g-pre 𝓤 H A W 𝓣 E G36 G37 b33 Δ1 (Typed.pass T36 T37 s34) at18 (Scalar.g-room 𝓤 H A W E G36 20 (Syntax.tyInt Syntax.w64) (Scalar.room-sc 𝓤 H A W (Row.sInt Syntax.w64))) d18
 
-          d14 : Typed.Typed 𝓤 H A 𝓣 E G35 b26 Δ1 at14
-          d14 = Typed.s-seq 𝓤 H A W 𝓣 E G35 G36 b16 b25 Δ1 (Typed.ask s33) at13 (Relend.t-sl-aggregate 𝓤 H A W E (Referent.rtF (Referent.fInt Syntax.w16)) 𝓣 (Relend.asMut (Referent.rtF (Referent.fInt
+          d20 : Typed.Typed 𝓤 H A 𝓣 E G35 b34 Δ1 at20
+          d20 = Typed.s-seq 𝓤 H A W 𝓣 E G35 G36 b16 b33 Δ1 (Typed.ask s33) at19 (Relend.t-sl-aggregate 𝓤 H A W E (Referent.rtF (Referent.fInt Syntax.w16)) 𝓣 (Relend.asMut (Referent.rtF (Referent.fInt
               Syntax.w16))) G35 21 22 6 (Syntax.tyRef Syntax.erased Syntax.mut (Syntax.tyInt Syntax.w16)) (Syntax.tyRef Syntax.erased Syntax.mut (Syntax.tyInt Syntax.w16)) (λ x. x) (Scalar.oAt 20
               (Syntax.tyInt Syntax.w64) (Row.valS (Row.sInt Syntax.w64))) (Reads'.as-is 𝓤 H A (Relend.msptr (Referent.rtF (Referent.fInt Syntax.w16)) (Syntax.tyRef Syntax.erased Syntax.mut (Syntax.tyInt
-              Syntax.w16)) 6)) (Reads'.room-gone 𝓤 H A y1) (Scalar.reads-sc 𝓤 H A W (Row.sInt Syntax.w64), Path'.refl) Path'.refl Path'.refl λ b o k. tt) d13
+              Syntax.w16)) 6)) (Reads'.room-gone 𝓤 H A y2) (Scalar.reads-sc 𝓤 H A W (Row.sInt Syntax.w64), Path'.refl) Path'.refl Path'.refl λ b o k. tt) d19
 
-          d15 : Typed.Typed 𝓤 H A 𝓣 E G34 b26 Δ1 at15
-          d15 = Typed.g-pre 𝓤 H A W 𝓣 E G34 G35 b26 Δ1 (Typed.pass T34 T35 s32) at14 (Scalar.g-room 𝓤 H A W E G34 19 Syntax.tyPtr (Scalar.room-sc 𝓤 H A W Row.sPtr)) d14
+          d21 : Typed.Typed 𝓤 H A 𝓣 E G34 b34 Δ1 at21
+          d21 = Typed.g-pre 𝓤 H A W 𝓣 E G34 G35 b34 Δ1 (Typed.pass T34 T35 s32) at20 (Scalar.g-room 𝓤 H A W E G34 19 Syntax.tyPtr (Scalar.room-sc 𝓤 H A W Row.sPtr)) d20
 
-          d16 : Typed.Typed 𝓤 H A 𝓣 E G33 b27 Δ1 at16
-          d16 = Typed.s-seq 𝓤 H A W 𝓣 E G33 G34 b15 b26 Δ1 (Typed.both s31) at15 (PartMut.t-sl-relendᵐ 𝓤 H A W E (Referent.rtF (Referent.fInt Syntax.w16)) 𝓣 G33 5 19 21 3 6 (Syntax.tyInt Syntax.w16)
+          d22 : Typed.Typed 𝓤 H A 𝓣 E G33 b35 Δ1 at22
+          d22 = Typed.s-seq 𝓤 H A W 𝓣 E G33 G34 b15 b34 Δ1 (Typed.both s31) at21 (PartMut.t-sl-relendᵐ 𝓤 H A W E (Referent.rtF (Referent.fInt Syntax.w16)) 𝓣 G33 5 19 21 3 6 (Syntax.tyInt Syntax.w16)
               (Syntax.tyRef (Syntax.named 3) Syntax.mut (Syntax.tyInt Syntax.w16)) (Syntax.tyRef Syntax.erased Syntax.mut (Syntax.tyInt Syntax.w16)) (Row.lease (κs .1 .1 .1 .0) (qs .1 .1 .1 .0))
               (Shared.bySize 2) (λ x. x) (λ x. x) (λ u. 0) (λ u. u .1 .1 .1 .1 .1 .1 .1 .1 .1 .1 .0) (λ i o. Elements.at-mul o 2 i) (Reads'.as-is 𝓤 H A (Mut.mslice (Referent.rtF (Referent.fInt
               Syntax.w16)) (Syntax.tyRef (Syntax.named 3) Syntax.mut (Syntax.tyInt Syntax.w16)) 3)) (Reads'.as-is 𝓤 H A (Rows.sc-here Row.sPtr)) (Reads'.room-gone 𝓤 H A (Syntax.tyRef Syntax.erased
-              Syntax.mut (Syntax.tyInt Syntax.w16))) Path'.refl tt Path'.refl Path'.refl λ b o. tt) d15
+              Syntax.mut (Syntax.tyInt Syntax.w16))) Path'.refl tt Path'.refl Path'.refl λ b o. tt) d21
 
-          d17 : Typed.Typed 𝓤 H A 𝓣 E G32 b27 Δ1 at17
-          d17 = Typed.g-pre 𝓤 H A W 𝓣 E G32 G33 b27 Δ1 (λ Ψ. Ψ) at16 (Lifetime.g-begin 𝓤 H A W E G32 6
-              (tt, (tt, (tt, ((tt, tt), (tt, (tt, (tt, (tt, (tt, (tt, (tt, (tt, (tt, (tt, (tt, (tt, (tt, (tt, (tt, (tt, (tt, (tt, (tt, (tt, (tt, (tt, (tt, tt)))))))))))))))))))))))))))) d16
+          d23 : Typed.Typed 𝓤 H A 𝓣 E G32 b35 Δ1 at23
+          d23 = Typed.g-pre 𝓤 H A W 𝓣 E G32 G33 b35 Δ1 (λ Ψ. Ψ) at22 (Lifetime.g-begin 𝓤 H A W E G32 6 (
+            tt,
+            (tt, (tt, ((tt, tt), (tt, (tt, (tt, (tt, (tt, (tt, (tt, (tt, (tt, (tt, (tt, (tt, (tt, (tt, (tt, (tt, (tt, (tt, (tt, (tt, (tt, (tt, (tt, (tt, (tt, (tt, (tt, tt)))))))))))))))))))))))))))))),
+          ))
+              d22
 
-          d18 : Typed.Typed 𝓤 H A 𝓣 E G31 b28 Δ1 at18
-          d18 = Typed.s-seq 𝓤 H A W 𝓣 E G31 G32 b14 b27 Δ1 (Typed.ask s29) at17 (Scalar.t-op2 𝓤 H A W E 𝓣 G31 (Syntax.sub Syntax.unsigned) (Scalar.oAt 10 (Syntax.tyInt Syntax.w64) (Row.valS (Row.sInt
+          d24 : Typed.Typed 𝓤 H A 𝓣 E G31 b36 Δ1 at24
+          d24 = Typed.s-seq 𝓤 H A W 𝓣 E G31 G32 b14 b35 Δ1 (Typed.ask s29) at23 (Scalar.t-op2 𝓤 H A W E 𝓣 G31 (Syntax.sub Syntax.unsigned) (Scalar.oAt 10 (Syntax.tyInt Syntax.w64) (Row.valS (Row.sInt
               Syntax.w64))) (Scalar.oInt Syntax.w64 0) 20 (Rows.sc-here (Row.sInt Syntax.w64)) (Syntax.tyInt Syntax.w64) (Row.valS (Row.sInt Syntax.w64)) (Row.sInt Syntax.w64 .of)
               (Scalar.reads-sc 𝓤 H A W (Row.sInt Syntax.w64), Path'.refl) tt (Reads'.room-gone 𝓤 H A (Syntax.tyInt Syntax.w64)) (Scalar.holds-sc 𝓤 H A W (Row.sInt Syntax.w64)) Path'.refl (λ u. Path'.refl)
-              λ u. tt) d17
+              λ u. tt) d23
 
-          d19 : Typed.Typed 𝓤 H A 𝓣 E G30 b29 Δ1 at19
-          d19 = Typed.s-seq 𝓤 H A W 𝓣 E G30 G31 b13 b28 Δ1 (Typed.ask s28) at18 (Scalar.t-op2 𝓤 H A W E 𝓣 G30 Syntax.offset (Scalar.oFld 5 (List._∷_ (Syntax.field 0) List.[]) (Syntax.tyRef
+          d25 : Typed.Typed 𝓤 H A 𝓣 E G30 b37 Δ1 at25
+          d25 = Typed.s-seq 𝓤 H A W 𝓣 E G30 G31 b13 b36 Δ1 (Typed.ask s28) at24 (Scalar.t-op2 𝓤 H A W E 𝓣 G30 Syntax.offset (Scalar.oFld 5 (List._∷_ (Syntax.field 0) List.[]) (Syntax.tyRef
               (Syntax.named 3) Syntax.mut (Syntax.tyInt Syntax.w16)) 0 Reads'.ptrVal) (Scalar.oInt Syntax.w64 0) 19 (Rows.sc-here Row.sPtr) Syntax.tyPtr (Row.valS Row.sPtr) (Row.sPtr .of)
               (Mut.reads-mslice-ptr 𝓤 H A W (Referent.rtF (Referent.fInt Syntax.w16)) (Syntax.tyRef (Syntax.named 3) Syntax.mut (Syntax.tyInt Syntax.w16)) 3 0 Path'.refl, Path'.refl) tt (Reads'.room-gone
-              𝓤 H A Syntax.tyPtr) (Scalar.holds-sc 𝓤 H A W Row.sPtr) Path'.refl (λ u. Path'.refl) λ u. tt) d18
+              𝓤 H A Syntax.tyPtr) (Scalar.holds-sc 𝓤 H A W Row.sPtr) Path'.refl (λ u. Path'.refl) λ u. tt) d24
 
-          d20 : Typed.Typed 𝓤 H A 𝓣 E G29 b30 Δ1 at20
-          d20 = Typed.s-seq 𝓤 H A W 𝓣 E G29 G30 b12 b29 Δ1 (Typed.ask s27) at19 (Relend.t-sl-aggregate 𝓤 H A W E (Referent.rtF (Referent.fInt Syntax.w8)) 𝓣 (Relend.asMut (Referent.rtF (Referent.fInt
+          d26 : Typed.Typed 𝓤 H A 𝓣 E G29 b38 Δ1 at26
+          d26 = Typed.s-seq 𝓤 H A W 𝓣 E G29 G30 b12 b37 Δ1 (Typed.ask s27) at25 (Relend.t-sl-aggregate 𝓤 H A W E (Referent.rtF (Referent.fInt Syntax.w8)) 𝓣 (Relend.asMut (Referent.rtF (Referent.fInt
               Syntax.w8))) G29 17 18 5 (Syntax.tyRef Syntax.erased Syntax.mut (Syntax.tyInt Syntax.w8)) (Syntax.tyRef Syntax.erased Syntax.mut (Syntax.tyInt Syntax.w8)) (λ x. x) (Scalar.oFld 3 (List._∷_
               (Syntax.field 1) List.[]) (Syntax.tyInt Syntax.w64) 8 λ v. Shared.lenV (v .0)) (Reads'.as-is 𝓤 H A (Relend.msptr (Referent.rtF (Referent.fInt Syntax.w8)) (Syntax.tyRef Syntax.erased
-              Syntax.mut (Syntax.tyInt Syntax.w8)) 5)) (Reads'.room-gone 𝓤 H A y2) (
+              Syntax.mut (Syntax.tyInt Syntax.w8)) 5)) (Reads'.room-gone 𝓤 H A y3) (
                 Relend.reads-owed-len 𝓤 H A W (Referent.rtF (Referent.fInt Syntax.w8)) (Syntax.tyRef (Syntax.named 2) Syntax.mut (Syntax.tyInt Syntax.w8)) 2 5 (Row.lease (κs .1 .1 .0) (qs .1 .1 .0)) 8
                     Path'.refl,
                 Path'.refl,
-              ) Path'.refl Path'.refl λ b o k. tt) d19
+              ) Path'.refl Path'.refl λ b o k. tt) d25
 
-          d21 : Typed.Typed 𝓤 H A 𝓣 E G28 b31 Δ1 at21
-          d21 = Typed.s-seq 𝓤 H A W 𝓣 E G28 G29 b11 b30 Δ1 (Typed.give s26) at20 (Relend.t-sl-relend 𝓤 H A W E (Referent.rtF (Referent.fInt Syntax.w8)) 𝓣 G28 3 17 2 5 (Syntax.tyRef (Syntax.named 2)
+          d27 : Typed.Typed 𝓤 H A 𝓣 E G28 b39 Δ1 at27
+          d27 = Typed.s-seq 𝓤 H A W 𝓣 E G28 G29 b11 b38 Δ1 (Typed.give s26) at26 (Relend.t-sl-relend 𝓤 H A W E (Referent.rtF (Referent.fInt Syntax.w8)) 𝓣 G28 3 17 2 5 (Syntax.tyRef (Syntax.named 2)
               Syntax.mut (Syntax.tyInt Syntax.w8)) (Syntax.tyRef Syntax.erased Syntax.mut (Syntax.tyInt Syntax.w8)) (Row.lease (κs .1 .1 .0) (qs .1 .1 .0)) 0 (λ x. x) (Reads'.as-is 𝓤 H A (Mut.mslice
               (Referent.rtF (Referent.fInt Syntax.w8)) (Syntax.tyRef (Syntax.named 2) Syntax.mut (Syntax.tyInt Syntax.w8)) 2)) (Reads'.room-gone 𝓤 H A (Syntax.tyRef Syntax.erased Syntax.mut (Syntax.tyInt
-              Syntax.w8))) Path'.refl tt Path'.refl Path'.refl Path'.refl λ b o. tt) d20
+              Syntax.w8))) Path'.refl tt Path'.refl Path'.refl Path'.refl λ b o. tt) d26
 
-          d22 : Typed.Typed 𝓤 H A 𝓣 E G27 b31 Δ1 at22
-          d22 = Typed.g-pre 𝓤 H A W 𝓣 E G27 G28 b31 Δ1 (λ Ψ. Ψ) at21 (Lifetime.g-begin 𝓤 H A W E G27 5
-              (tt, (tt, (tt, (tt, (tt, (tt, (tt, (tt, (tt, (tt, (tt, (tt, (tt, (tt, (tt, (tt, (tt, (tt, (tt, (tt, (tt, (tt, (tt, (tt, (tt, (tt, (tt, tt)))))))))))))))))))))))))))) d21
+          d28 : Typed.Typed 𝓤 H A 𝓣 E G27 b39 Δ1 at28
+          d28 = Typed.g-pre 𝓤 H A W 𝓣 E G27 G28 b39 Δ1 (λ Ψ. Ψ) at27 (Lifetime.g-begin 𝓤 H A W E G27 5
+              (tt, (tt, (tt, (tt, (tt, (tt, (tt, (tt, (tt, (tt, (tt, (tt, (tt, (tt, (tt, (tt, (tt, (tt, (tt, (tt, (tt, (tt, (tt, (tt, (tt, (tt, (tt, (tt, (tt, (tt, (tt, tt))))))))))))))))))))))))))))))))
+              d27
 
-          d23 : Typed.Typed 𝓤 H A 𝓣 E G26 b31 Δ1 at23
-          d23 = Typed.g-pre 𝓤 H A W 𝓣 E G26 G27 b31 Δ1 (Typed.pass T26 T27 s24) at22 (Scalar.g-room 𝓤 H A W E G26 9 y0 (Local.room-whole 𝓤 H A W (Declared'.row FujiHeader.the-type) y0 Path'.refl)) d22
+          d29 : Typed.Typed 𝓤 H A 𝓣 E G26 b39 Δ1 at29
+          d29 = Typed.g-pre 𝓤 H A W 𝓣 E G26 G27 b39 Δ1 (Typed.pass T26 T27 s24) at28 (Scalar.g-room 𝓤 H A W E G26 9 y0 (Local.room-whole 𝓤 H A W (Declared'.row FujiHeader.the-type) y0 Path'.refl)) d28
 
-          d24 : Typed.Typed 𝓤 H A 𝓣 E G25 b32 Δ1 at24
-          d24 = Typed.s-seq 𝓤 H A W 𝓣 E G25 G26 b10 b31 Δ1 (Typed.both s23) at23 (Plain.t-call-plain 𝓤 H A W 𝓣 0 ps·3 r·3 (claims· .6) (claims· .7) "block::tight::line_count" (known .3) E (λ pos β. β)
+          d30 : Typed.Typed 𝓤 H A 𝓣 E G25 b40 Δ1 at30
+          d30 = Typed.s-seq 𝓤 H A W 𝓣 E G25 G26 b10 b39 Δ1 (Typed.both s23) at29 (Plain.t-call-plain 𝓤 H A W 𝓣 0 ps·3 r·3 (claims· .6) (claims· .7) "block::tight::line_count" (known .3) E (λ pos β. β)
               G25 (record { pos = 9; st = List.[]; d = 0; at = λ x. x }, tt) 12 List.[] (Call.sub-id 𝓤 H A W (G25 .slots)) (
                 (
                   Yields.yields-copy 𝓤 H A W (λ ρ. Unit) (Declared'.row FujiHeader.the-type) Path'.refl (Copies.cStruct FujiHeader.the-type Laws''.the-laws Laws''.the-copy .copy 𝓤 H A W) (Rows.whole
@@ -2239,10 +2511,10 @@ module _ (claims· : Claims) where
                   Path'.refl,
                 ),
                 tt,
-              ) (Reads'.room-gone 𝓤 H A (Syntax.tyInt Syntax.w64)) tt Path'.refl) d23
+              ) (Reads'.room-gone 𝓤 H A (Syntax.tyInt Syntax.w64)) tt Path'.refl) d29
 
-          d25 : Typed.Typed 𝓤 H A 𝓣 E G24 b33 Δ1 at25
-          d25 = Typed.s-seq 𝓤 H A W 𝓣 E G24 G25 b9 b32 Δ1 (Typed.both s22) at24 (Plain.t-call-plain 𝓤 H A W 𝓣 0 ps·2 r·2 (claims· .4) (claims· .5) "block::form_of" (known .2) E (λ pos β. β) G24
+          d31 : Typed.Typed 𝓤 H A 𝓣 E G24 b41 Δ1 at31
+          d31 = Typed.s-seq 𝓤 H A W 𝓣 E G24 G25 b9 b40 Δ1 (Typed.both s22) at30 (Plain.t-call-plain 𝓤 H A W 𝓣 0 ps·2 r·2 (claims· .4) (claims· .5) "block::form_of" (known .2) E (λ pos β. β) G24
               (record { pos = 9; st = List.[]; d = 0; at = λ x. x }, tt) 11 List.[] (Call.sub-id 𝓤 H A W (G24 .slots)) (
                 (
                   Yields.yields-copy 𝓤 H A W (λ ρ. Unit) (Declared'.row FujiHeader.the-type) Path'.refl (Copies.cStruct FujiHeader.the-type Laws''.the-laws Laws''.the-copy .copy 𝓤 H A W) (Rows.whole
@@ -2251,15 +2523,15 @@ module _ (claims· : Claims) where
                   Path'.refl,
                 ),
                 tt,
-              ) (Reads'.room-gone 𝓤 H A y4) tt Path'.refl) d24
+              ) (Reads'.room-gone 𝓤 H A y5) tt Path'.refl) d30
 
-          d26 : Typed.Typed 𝓤 H A 𝓣 E G23 b34 Δ1 at26
-          d26 = Typed.s-seq 𝓤 H A W 𝓣 E G23 G24 b8 b33 Δ1 (Typed.both s21) at25 (Plain.t-call-plain 𝓤 H A W 𝓣 0 ps·1 r·1 (claims· .2) (claims· .3) "begin::samples_needed" (known .1) E (λ pos β. β) G23
+          d32 : Typed.Typed 𝓤 H A 𝓣 E G23 b42 Δ1 at32
+          d32 = Typed.s-seq 𝓤 H A W 𝓣 E G23 G24 b8 b41 Δ1 (Typed.both s21) at31 (Plain.t-call-plain 𝓤 H A W 𝓣 0 ps·1 r·1 (claims· .2) (claims· .3) "begin::samples_needed" (known .1) E (λ pos β. β) G23
               (Bool.bFld 9 (List._∷_ (Syntax.field 1) List.[]) 1 λ x. FujiHeader.struct .as-values x .1 .0, tt) 10 List.[] (Call.sub-id 𝓤 H A W (G23 .slots))
-              ((Reads.reads-field 𝓤 H A W FujiHeader.the-type Laws''.the-laws 1 Syntax.tyBool 1 Path'.refl, Path'.refl), tt) (Reads'.room-gone 𝓤 H A (Syntax.tyInt Syntax.w64)) tt Path'.refl) d25
+              ((Reads.reads-field 𝓤 H A W FujiHeader.the-type Laws''.the-laws 1 Syntax.tyBool 1 Path'.refl, Path'.refl), tt) (Reads'.room-gone 𝓤 H A (Syntax.tyInt Syntax.w64)) tt Path'.refl) d31
 
-          d27 : Typed.Typed 𝓤 H A 𝓣 E G22 b34 Δ1 at27
-          d27 = Typed.g-pre 𝓤 H A W 𝓣 E G22 G23 b34 Δ1 (Typed.pass T22 T23 s20) at26 (Scalar.g-room 𝓤 H A W E G22 7 (Syntax.tyEnum (List._∷_ 115 (List._∷_ 116 (List._∷_ 114 (List._∷_ 101 (List._∷_ 97
+          d33 : Typed.Typed 𝓤 H A 𝓣 E G22 b42 Δ1 at33
+          d33 = Typed.g-pre 𝓤 H A W 𝓣 E G22 G23 b42 Δ1 (Typed.pass T22 T23 s20) at32 (Scalar.g-room 𝓤 H A W E G22 7 (Syntax.tyEnum (List._∷_ 115 (List._∷_ 116 (List._∷_ 114 (List._∷_ 101 (List._∷_ 97
               (List._∷_ 109 (List._∷_ 58 (List._∷_ 58 (List._∷_ 80 (List._∷_ 97 (List._∷_ 114 (List._∷_ 115 (List._∷_ 101 (List._∷_ 100 List.[])))))))))))))) (Syntax.ttcons (Syntax.tcons y0 Syntax.tnil)
               (Syntax.ttcons (Syntax.tcons (Syntax.tyEnum (List._∷_ 115 (List._∷_ 116 (List._∷_ 114 (List._∷_ 101 (List._∷_ 97 (List._∷_ 109 (List._∷_ 58 (List._∷_ 58 (List._∷_ 82 (List._∷_ 101 (List._∷_
               102 (List._∷_ 117 (List._∷_ 115 (List._∷_ 97 (List._∷_ 108 List.[]))))))))))))))) (Syntax.ttcons Syntax.tnil (Syntax.ttcons Syntax.tnil (Syntax.ttcons Syntax.tnil (Syntax.ttcons
@@ -2276,10 +2548,10 @@ module _ (claims· : Claims) where
               Syntax.w64) Syntax.tnil) (Syntax.ttcons (Syntax.tcons (Syntax.tyInt Syntax.w64) Syntax.tnil) (Syntax.ttcons Syntax.tnil (Syntax.ttcons (Syntax.tcons (Syntax.tyInt Syntax.w64) (Syntax.tcons
               (Syntax.tyInt Syntax.w64) Syntax.tnil)) (Syntax.ttcons (Syntax.tcons (Syntax.tyInt Syntax.w64) Syntax.tnil) (Syntax.ttcons Syntax.tnil (Syntax.ttcons Syntax.tnil (Syntax.ttcons (Syntax.tcons
               (Syntax.tyInt Syntax.w64) Syntax.tnil) (Syntax.ttcons (Syntax.tcons (Syntax.tyInt Syntax.w64) Syntax.tnil) (Syntax.ttcons (Syntax.tcons (Syntax.tyInt Syntax.w64) Syntax.tnil) (Syntax.ttcons
-              Syntax.tnil Syntax.ttnil)))))))))))))))))))))) Syntax.tnil) Syntax.ttnil))) Path'.refl)) d26
+              Syntax.tnil Syntax.ttnil)))))))))))))))))))))) Syntax.tnil) Syntax.ttnil))) Path'.refl)) d32
 
-          d28 : Typed.Typed 𝓤 H A 𝓣 E G21 b35 Δ1 at28
-          d28 = Typed.s-seq 𝓤 H A W 𝓣 E G21 G22 b7 b34 Δ1 (Typed.pass T21 T22 s19) at27 (CopyOut.t-copy-told 𝓤 H A W E 𝓣 (Declared'.row FujiHeader.the-type) Path'.refl (Laws'6.val FujiHeader.the-type
+          d34 : Typed.Typed 𝓤 H A 𝓣 E G21 b43 Δ1 at34
+          d34 = Typed.s-seq 𝓤 H A W 𝓣 E G21 G22 b7 b42 Δ1 (Typed.pass T21 T22 s19) at33 (CopyOut.t-copy-told 𝓤 H A W E 𝓣 (Declared'.row FujiHeader.the-type) Path'.refl (Laws'6.val FujiHeader.the-type
               Laws''.the-laws) (Laws'6.lawful FujiHeader.the-type Laws''.the-laws 𝓤 H A W) (Laws'6.makes FujiHeader.the-type Laws''.the-plain 𝓤 H A) G21 9 (Scalar.oFld 7 (List._∷_ (Syntax.variant 0)
               (List._∷_ (Syntax.field 1) List.[])) y0 4 λ v. Laws'6.val FujiHeader.the-type Laws''.the-laws (v .0)) (λ m. m .1 .1 .1 .1 .1 .1 .1 .0 .0) (λ m. Laws'5.Fields (Declared.variants
               Parsed.the-type) (Laws'5.spellss (Parsed.enum .parts) Laws'3.the-laws) (Parsed.the-type .to (Known.at Parsed.enum 0 (m .1 .1 .1 .1 .1 .1 .1 .0)))) (Reads'.room-gone 𝓤 H A y0) (
@@ -2288,40 +2560,40 @@ module _ (claims· : Claims) where
                 Path'.refl,
               ) Path'.refl (λ ρ m. Make'.tells-row 𝓤 H A W E ρ (Row.out 9 (G21 .locals)) m 7 (Laws'5.Fields (Declared.variants Parsed.the-type) (Laws'5.spellss (Parsed.enum .parts)
               Laws'3.the-laws) (Parsed.the-type .to (Known.at Parsed.enum 0 (m .1 .1 .1 .1 .1 .1 .1 .0)))) (Known.known-is 𝓤 H A W E Parsed.enum 0 Laws'3.the-laws ρ 7 (m .1 .1 .1 .1 .1 .1 .1 .0))) (λ m k
-              wa. Path'.refl) λ m k wa. k .0) d27
+              wa. Path'.refl) λ m k wa. k .0) d33
 
-          d29 : Typed.Typed 𝓤 H A 𝓣 E G20 b35 Δ1 at29
-          d29 = Typed.g-pre 𝓤 H A W 𝓣 E G20 G21 b35 Δ1 (Typed.give s18) at28 (Known.g-known-told 𝓤 H A W E Parsed.enum 0 G20 7 Laws'3.the-laws (λ x. x) (Reads'.as-is 𝓤 H A (Rows.whole (Known.Known
-              Parsed.enum 0)))) d28
+          d35 : Typed.Typed 𝓤 H A 𝓣 E G20 b43 Δ1 at35
+          d35 = Typed.g-pre 𝓤 H A W 𝓣 E G20 G21 b43 Δ1 (Typed.give s18) at34 (Known.g-known-told 𝓤 H A W E Parsed.enum 0 G20 7 Laws'3.the-laws (λ x. x) (Reads'.as-is 𝓤 H A (Rows.whole (Known.Known
+              Parsed.enum 0)))) d34
 
-          d30 : Typed.Typed 𝓤 H A 𝓣 E G13 b35 Δ1 at30
-          d30 = Typed.g-pre 𝓤 H A W 𝓣 E G13 G20 b35 Δ1 (Typed.both s17) at29 (Known.g-enum-known 𝓤 H A W E Parsed.enum 0 G13 7 (λ x. x) (Reads'.as-is 𝓤 H A (Rows.whole (Declared.row
-              Parsed.the-type)))) d29
+          d36 : Typed.Typed 𝓤 H A 𝓣 E G13 b43 Δ1 at36
+          d36 = Typed.g-pre 𝓤 H A W 𝓣 E G13 G20 b43 Δ1 (Typed.both s17) at35 (Known.g-enum-known 𝓤 H A W E Parsed.enum 0 G13 7 (λ x. x) (Reads'.as-is 𝓤 H A (Rows.whole (Declared.row
+              Parsed.the-type)))) d35
 
-          d31 : Typed.Typed 𝓤 H A 𝓣 E G13 b36 Δ1 at31
-          d31 = Switch.t-switch-on 𝓤 H A W E 𝓣 G13 (Scalar.oFld 7 (List._∷_ (Syntax.variant 0) (List._∷_ (Syntax.field 0) List.[])) (Syntax.tyInt Syntax.w8) 0 λ x. Val.vint Syntax.w8 (Declared.tagOf
-              Parsed.the-type x)) Syntax.w8 (λ u. Declared.tagOf Parsed.the-type (u .1 .1 .1 .1 .1 .1 .1 .0)) (Syntax.arm (List._∷_ 1 List.[]) b6 (Syntax.arm (List._∷_ 0 List.[]) b35 Syntax.noDefault)) Δ1
-              (at4, (at30, tt))
+          d37 : Typed.Typed 𝓤 H A 𝓣 E G13 b44 Δ1 at37
+          d37 = Switch.t-switch-on 𝓤 H A W E 𝓣 G13 (Scalar.oFld 7 (List._∷_ (Syntax.variant 0) (List._∷_ (Syntax.field 0) List.[])) (Syntax.tyInt Syntax.w8) 0 λ x. Val.vint Syntax.w8 (Declared.tagOf
+              Parsed.the-type x)) Syntax.w8 (λ u. Declared.tagOf Parsed.the-type (u .1 .1 .1 .1 .1 .1 .1 .0)) (Syntax.arm (List._∷_ 1 List.[]) b6 (Syntax.arm (List._∷_ 0 List.[]) b43 Syntax.noDefault)) Δ1
+              (at4, (at36, tt))
               (Match.reads-tag 𝓤 H A W Parsed.the-type Laws'3.the-laws (Rows.whole (Declared.row Parsed.the-type)) 0 (λ x. x) (Whole.reads-enum 𝓤 H A W Parsed.the-type Laws'3.the-laws), Path'.refl) (λ u.
-              Path'.refl) (d4, (d30, tt))
+              Path'.refl) (d4, (d36, tt))
 
-          d32 : Typed.Typed 𝓤 H A 𝓣 E G12 b36 Δ1 at32
-          d32 = Typed.g-pre 𝓤 H A W 𝓣 E G12 G13 b36 Δ1 (Typed.pass T12 T13 s10) at31 (Scalar.g-room 𝓤 H A W E G12 15 (Syntax.tyInt Syntax.w64) (Scalar.room-sc 𝓤 H A W (Row.sInt Syntax.w64))) d31
+          d38 : Typed.Typed 𝓤 H A 𝓣 E G12 b44 Δ1 at38
+          d38 = Typed.g-pre 𝓤 H A W 𝓣 E G12 G13 b44 Δ1 (Typed.pass T12 T13 s10) at37 (Scalar.g-room 𝓤 H A W E G12 15 (Syntax.tyInt Syntax.w64) (Scalar.room-sc 𝓤 H A W (Row.sInt Syntax.w64))) d37
 
-          d33 : Typed.Typed 𝓤 H A 𝓣 E G11 b36 Δ1 at33
-          d33 = Typed.g-pre 𝓤 H A W 𝓣 E G11 G12 b36 Δ1 (Typed.pass T11 T12 s9) at32 (Scalar.g-room 𝓤 H A W E G11 14 (Syntax.tyInt Syntax.w64) (Scalar.room-sc 𝓤 H A W (Row.sInt Syntax.w64))) d32
+          d39 : Typed.Typed 𝓤 H A 𝓣 E G11 b44 Δ1 at39
+          d39 = Typed.g-pre 𝓤 H A W 𝓣 E G11 G12 b44 Δ1 (Typed.pass T11 T12 s9) at38 (Scalar.g-room 𝓤 H A W E G11 14 (Syntax.tyInt Syntax.w64) (Scalar.room-sc 𝓤 H A W (Row.sInt Syntax.w64))) d38
 
-          d34 : Typed.Typed 𝓤 H A 𝓣 E G9 b36 Δ1 at34
-          d34 = Typed.g-pre 𝓤 H A W 𝓣 E G9 G11 b36 Δ1 (Typed.pass T9 T11 s8) at33 (Scalar.g-room 𝓤 H A W E G9 13 (Syntax.tyInt Syntax.w64) (Scalar.room-sc 𝓤 H A W (Row.sInt Syntax.w64))) d33
+          d40 : Typed.Typed 𝓤 H A 𝓣 E G9 b44 Δ1 at40
+          d40 = Typed.g-pre 𝓤 H A W 𝓣 E G9 G11 b44 Δ1 (Typed.pass T9 T11 s8) at39 (Scalar.g-room 𝓤 H A W E G9 13 (Syntax.tyInt Syntax.w64) (Scalar.room-sc 𝓤 H A W (Row.sInt Syntax.w64))) d39
 
-          d35 : Typed.Typed 𝓤 H A 𝓣 E G62 b38 Δ0 at35
-          d35 = Typed.t-return 𝓤 H A W 𝓣 E Δ0 tt
+          d41 : Typed.Typed 𝓤 H A 𝓣 E G69 b46 Δ0 at41
+          d41 = Typed.t-return 𝓤 H A W 𝓣 E Δ0 tt
 
-          d36 : Typed.Typed 𝓤 H A 𝓣 E G61 b38 Δ0 at36
-          d36 = Typed.g-pre 𝓤 H A W 𝓣 E G61 G62 b38 Δ0 (Typed.pass T61 T62 s59) at35 (Scalar.g-room 𝓤 H A W E G61 4 Syntax.tyBool (Scalar.room-sc 𝓤 H A W Row.sBool)) d35
+          d42 : Typed.Typed 𝓤 H A 𝓣 E G68 b46 Δ0 at42
+          d42 = Typed.g-pre 𝓤 H A W 𝓣 E G68 G69 b46 Δ0 (Typed.pass T68 T69 s66) at41 (Scalar.g-room 𝓤 H A W E G68 4 Syntax.tyBool (Scalar.room-sc 𝓤 H A W Row.sBool)) d41
 
-          d37 : Typed.Typed 𝓤 H A 𝓣 E G60 b38 Δ0 at37
-          d37 = Typed.g-pre 𝓤 H A W 𝓣 E G60 G61 b38 Δ0 (Typed.pass T60 T61 s58) at36 (Scalar.g-room 𝓤 H A W E G60 16 (Syntax.tyEnum (List._∷_ 115 (List._∷_ 116 (List._∷_ 114 (List._∷_ 101 (List._∷_ 97
+          d43 : Typed.Typed 𝓤 H A 𝓣 E G67 b46 Δ0 at43
+          d43 = Typed.g-pre 𝓤 H A W 𝓣 E G67 G68 b46 Δ0 (Typed.pass T67 T68 s65) at42 (Scalar.g-room 𝓤 H A W E G67 16 (Syntax.tyEnum (List._∷_ 115 (List._∷_ 116 (List._∷_ 114 (List._∷_ 101 (List._∷_ 97
               (List._∷_ 109 (List._∷_ 58 (List._∷_ 58 (List._∷_ 66 (List._∷_ 108 (List._∷_ 111 (List._∷_ 99 (List._∷_ 107 (List._∷_ 76 (List._∷_ 101 (List._∷_ 110 (List._∷_ 103 (List._∷_ 116 (List._∷_ 104
               List.[]))))))))))))))))))) (Syntax.ttcons (Syntax.tcons (Syntax.tyInt Syntax.w64) Syntax.tnil) (Syntax.ttcons (Syntax.tcons (Syntax.tyEnum (List._∷_ 115 (List._∷_ 116 (List._∷_ 114 (List._∷_
               101 (List._∷_ 97 (List._∷_ 109 (List._∷_ 58 (List._∷_ 58 (List._∷_ 82 (List._∷_ 101 (List._∷_ 102 (List._∷_ 117 (List._∷_ 115 (List._∷_ 97 (List._∷_ 108 List.[]))))))))))))))) (Syntax.ttcons
@@ -2339,10 +2611,10 @@ module _ (claims· : Claims) where
               Syntax.w64) Syntax.tnil) (Syntax.ttcons (Syntax.tcons (Syntax.tyInt Syntax.w64) Syntax.tnil) (Syntax.ttcons Syntax.tnil (Syntax.ttcons (Syntax.tcons (Syntax.tyInt Syntax.w64) (Syntax.tcons
               (Syntax.tyInt Syntax.w64) Syntax.tnil)) (Syntax.ttcons (Syntax.tcons (Syntax.tyInt Syntax.w64) Syntax.tnil) (Syntax.ttcons Syntax.tnil (Syntax.ttcons Syntax.tnil (Syntax.ttcons (Syntax.tcons
               (Syntax.tyInt Syntax.w64) Syntax.tnil) (Syntax.ttcons (Syntax.tcons (Syntax.tyInt Syntax.w64) Syntax.tnil) (Syntax.ttcons (Syntax.tcons (Syntax.tyInt Syntax.w64) Syntax.tnil) (Syntax.ttcons
-              Syntax.tnil Syntax.ttnil)))))))))))))))))))))) Syntax.tnil) Syntax.ttnil))) Path'.refl)) d36
+              Syntax.tnil Syntax.ttnil)))))))))))))))))))))) Syntax.tnil) Syntax.ttnil))) Path'.refl)) d42
 
-          d38 : Typed.Typed 𝓤 H A 𝓣 E G10 b39 Δ0 at38
-          d38 = Typed.s-seq 𝓤 H A W 𝓣 E G10 G60 b37 b38 Δ0 (Typed.pass T10 T60 s57) at37 (LocalCopy.t-val-copy 𝓤 H A W E 𝓣 (λ ρ. Unit) G10 16 0 (Declared.row BlockLength.the-type) (Syntax.tyEnum
+          d44 : Typed.Typed 𝓤 H A 𝓣 E G10 b47 Δ0 at44
+          d44 = Typed.s-seq 𝓤 H A W 𝓣 E G10 G67 b45 b46 Δ0 (Typed.pass T10 T67 s64) at43 (LocalCopy.t-val-copy 𝓤 H A W E 𝓣 (λ ρ. Unit) G10 16 0 (Declared.row BlockLength.the-type) (Syntax.tyEnum
               (List._∷_ 115 (List._∷_ 116 (List._∷_ 114 (List._∷_ 101 (List._∷_ 97 (List._∷_ 109 (List._∷_ 58 (List._∷_ 58 (List._∷_ 66 (List._∷_ 108 (List._∷_ 111 (List._∷_ 99 (List._∷_ 107 (List._∷_ 76
               (List._∷_ 101 (List._∷_ 110 (List._∷_ 103 (List._∷_ 116 (List._∷_ 104 List.[]))))))))))))))))))) (Syntax.ttcons (Syntax.tcons (Syntax.tyInt Syntax.w64) Syntax.tnil) (Syntax.ttcons
               (Syntax.tcons (Syntax.tyEnum (List._∷_ 115 (List._∷_ 116 (List._∷_ 114 (List._∷_ 101 (List._∷_ 97 (List._∷_ 109 (List._∷_ 58 (List._∷_ 58 (List._∷_ 82 (List._∷_ 101 (List._∷_ 102 (List._∷_
@@ -2373,13 +2645,13 @@ module _ (claims· : Claims) where
               (Syntax.ttcons (Syntax.tcons (Syntax.tyInt Syntax.w64) Syntax.tnil) (Syntax.ttcons Syntax.tnil (Syntax.ttcons Syntax.tnil (Syntax.ttcons (Syntax.tcons (Syntax.tyInt Syntax.w64) Syntax.tnil)
               (Syntax.ttcons (Syntax.tcons (Syntax.tyInt Syntax.w64) Syntax.tnil) (Syntax.ttcons (Syntax.tcons (Syntax.tyInt Syntax.w64) Syntax.tnil) (Syntax.ttcons Syntax.tnil
               Syntax.ttnil)))))))))))))))))))))) Syntax.tnil) Syntax.ttnil)))) (Yields.makes-mem 𝓤 H A W (λ ρ. Unit) (Declared.row BlockLength.the-type) Path'.refl (Rows.whole (Declared.row
-              BlockLength.the-type)) (λ x. x) λ ρ told. Local.whole-mem 𝓤 H A W (Declared.row BlockLength.the-type) ρ) Path'.refl Path'.refl) d37
+              BlockLength.the-type)) (λ x. x) λ ρ told. Local.whole-mem 𝓤 H A W (Declared.row BlockLength.the-type) ρ) Path'.refl Path'.refl) d43
 
-          d39 : Typed.Typed 𝓤 H A 𝓣 E G9 b40 Δ0 at39
-          d39 = Typed.t-seq 𝓤 H A W 𝓣 E G9 G10 b36 b39 Δ0 at34 at38 d34 d38
+          d45 : Typed.Typed 𝓤 H A 𝓣 E G9 b48 Δ0 at45
+          d45 = Typed.t-seq 𝓤 H A W 𝓣 E G9 G10 b44 b47 Δ0 at40 at44 d40 d44
 
-          d40 : Typed.Typed 𝓤 H A 𝓣 E G8 b41 Δ0 at40
-          d40 = Typed.s-seq 𝓤 H A W 𝓣 E G8 G9 b3 b40 Δ0 (Typed.both s7) at39 (Plain.t-call-plain 𝓤 H A W 𝓣 1 ps·0 r·0 (claims· .0) (claims· .1) "begin::writing_begins" (known .0) E (λ pos β. β) G8
+          d46 : Typed.Typed 𝓤 H A 𝓣 E G8 b49 Δ0 at46
+          d46 = Typed.s-seq 𝓤 H A W 𝓣 E G8 G9 b3 b48 Δ0 (Typed.both s7) at45 (Plain.t-call-plain 𝓤 H A W 𝓣 1 ps·0 r·0 (claims· .0) (claims· .1) "begin::writing_begins" (known .0) E (λ pos β. β) G8
               (record { pos = 1; ty = Syntax.tyRef (Syntax.named 0) Syntax.imm (Syntax.tyInt Syntax.w8); ref = λ x. x }, (Num.vAt 13 λ x. x, (Num.vAt 14 λ x. x, (Num.vAt 15 λ x. x, tt)))) 7 (List._∷_ 0
               List.[]) (Call.sub-id 𝓤 H A W (G8 .slots)) (
                 ShrSlice.spares-sslice 𝓤 H A W (Referent.rtF (Referent.fInt Syntax.w8)) (Syntax.tyRef (Syntax.named 0) Syntax.imm (Syntax.tyInt Syntax.w8)) 0,
@@ -2399,48 +2671,48 @@ module _ (claims· : Claims) where
               (Syntax.tyInt Syntax.w64) Syntax.tnil) (Syntax.ttcons Syntax.tnil (Syntax.ttcons (Syntax.tcons (Syntax.tyInt Syntax.w64) (Syntax.tcons (Syntax.tyInt Syntax.w64) Syntax.tnil)) (Syntax.ttcons
               (Syntax.tcons (Syntax.tyInt Syntax.w64) Syntax.tnil) (Syntax.ttcons Syntax.tnil (Syntax.ttcons Syntax.tnil (Syntax.ttcons (Syntax.tcons (Syntax.tyInt Syntax.w64) Syntax.tnil) (Syntax.ttcons
               (Syntax.tcons (Syntax.tyInt Syntax.w64) Syntax.tnil) (Syntax.ttcons (Syntax.tcons (Syntax.tyInt Syntax.w64) Syntax.tnil) (Syntax.ttcons Syntax.tnil Syntax.ttnil))))))))))))))))))))))
-              Syntax.tnil) Syntax.ttnil)))) (tt, tt) Path'.refl) d39
+              Syntax.tnil) Syntax.ttnil)))) (tt, tt) Path'.refl) d45
 
-          d41 : Typed.Typed 𝓤 H A 𝓣 E G7 b42 Δ0 at41
-          d41 = Typed.s-seq 𝓤 H A W 𝓣 E G7 G8 b2 b41 Δ0 (Typed.pass T7 T8 s6) at40 (Scalar.t-use 𝓤 H A W E 𝓣 G7 (Scalar.oFld 6 (List._∷_ (Syntax.field 1) List.[]) (Syntax.tyInt Syntax.w64) 8
+          d47 : Typed.Typed 𝓤 H A 𝓣 E G7 b50 Δ0 at47
+          d47 = Typed.s-seq 𝓤 H A W 𝓣 E G7 G8 b2 b49 Δ0 (Typed.pass T7 T8 s6) at46 (Scalar.t-use 𝓤 H A W E 𝓣 G7 (Scalar.oFld 6 (List._∷_ (Syntax.field 1) List.[]) (Syntax.tyInt Syntax.w64) 8
               Shared.lenV) 15 (Rows.sc-here (Row.sInt Syntax.w64)) (Syntax.tyInt Syntax.w64) (Row.valS (Row.sInt Syntax.w64)) (Row.sInt Syntax.w64 .of)
               (Mut.reads-mslice-len 𝓤 H A W (Element.type) (Syntax.tyRef (Syntax.named 4) Syntax.mut Element.behind) 4 8 Path'.refl, Path'.refl) (Reads'.room-gone 𝓤 H A (Syntax.tyInt Syntax.w64))
-              (Scalar.holds-sc 𝓤 H A W (Row.sInt Syntax.w64)) Path'.refl (λ u. Path'.refl) λ u. tt) d40
+              (Scalar.holds-sc 𝓤 H A W (Row.sInt Syntax.w64)) Path'.refl (λ u. Path'.refl) λ u. tt) d46
 
-          d42 : Typed.Typed 𝓤 H A 𝓣 E G6 b43 Δ0 at42
-          d42 = Typed.s-seq 𝓤 H A W 𝓣 E G6 G7 b1 b42 Δ0 (Typed.pass T6 T7 s5) at41 (Scalar.t-use 𝓤 H A W E 𝓣 G6 (Scalar.oFld 5 (List._∷_ (Syntax.field 1) List.[]) (Syntax.tyInt Syntax.w64) 8
+          d48 : Typed.Typed 𝓤 H A 𝓣 E G6 b51 Δ0 at48
+          d48 = Typed.s-seq 𝓤 H A W 𝓣 E G6 G7 b1 b50 Δ0 (Typed.pass T6 T7 s5) at47 (Scalar.t-use 𝓤 H A W E 𝓣 G6 (Scalar.oFld 5 (List._∷_ (Syntax.field 1) List.[]) (Syntax.tyInt Syntax.w64) 8
               Shared.lenV) 14 (Rows.sc-here (Row.sInt Syntax.w64)) (Syntax.tyInt Syntax.w64) (Row.valS (Row.sInt Syntax.w64)) (Row.sInt Syntax.w64 .of)
               (Mut.reads-mslice-len 𝓤 H A W (Referent.rtF (Referent.fInt Syntax.w16)) (Syntax.tyRef (Syntax.named 3) Syntax.mut (Syntax.tyInt Syntax.w16)) 3 8 Path'.refl, Path'.refl) (Reads'.room-gone 𝓤 H
-              A (Syntax.tyInt Syntax.w64)) (Scalar.holds-sc 𝓤 H A W (Row.sInt Syntax.w64)) Path'.refl (λ u. Path'.refl) λ u. tt) d41
+              A (Syntax.tyInt Syntax.w64)) (Scalar.holds-sc 𝓤 H A W (Row.sInt Syntax.w64)) Path'.refl (λ u. Path'.refl) λ u. tt) d47
 
-          d43 : Typed.Typed 𝓤 H A 𝓣 E G5 b44 Δ0 at43
-          d43 = Typed.s-seq 𝓤 H A W 𝓣 E G5 G6 b0 b43 Δ0 (Typed.pass T5 T6 s4) at42 (Scalar.t-use 𝓤 H A W E 𝓣 G5 (Scalar.oFld 2 (List._∷_ (Syntax.field 1) List.[]) (Syntax.tyInt Syntax.w64) 8
+          d49 : Typed.Typed 𝓤 H A 𝓣 E G5 b52 Δ0 at49
+          d49 = Typed.s-seq 𝓤 H A W 𝓣 E G5 G6 b0 b51 Δ0 (Typed.pass T5 T6 s4) at48 (Scalar.t-use 𝓤 H A W E 𝓣 G5 (Scalar.oFld 2 (List._∷_ (Syntax.field 1) List.[]) (Syntax.tyInt Syntax.w64) 8
               Shared.lenV) 13 (Rows.sc-here (Row.sInt Syntax.w64)) (Syntax.tyInt Syntax.w64) (Row.valS (Row.sInt Syntax.w64)) (Row.sInt Syntax.w64 .of)
               (Shared.reads-sslice-len 𝓤 H A W (Referent.rtF (Referent.fInt Syntax.w16)) (Syntax.tyRef (Syntax.named 1) Syntax.imm (Syntax.tyInt Syntax.w16)) 1 8 Path'.refl, Path'.refl) (Reads'.room-gone
-              𝓤 H A (Syntax.tyInt Syntax.w64)) (Scalar.holds-sc 𝓤 H A W (Row.sInt Syntax.w64)) Path'.refl (λ u. Path'.refl) λ u. tt) d42
+              𝓤 H A (Syntax.tyInt Syntax.w64)) (Scalar.holds-sc 𝓤 H A W (Row.sInt Syntax.w64)) Path'.refl (λ u. Path'.refl) λ u. tt) d48
 
-          d44 : Typed.Typed 𝓤 H A 𝓣 E G4 b44 Δ0 at44
-          d44 = Typed.g-pre 𝓤 H A W 𝓣 E G4 G5 b44 Δ0 (Typed.give s3) at43 (Know.g-sl-known 𝓤 H A W (Referent.fInt Syntax.w16) E G4 5 3 (Syntax.tyRef (Syntax.named 3) Syntax.mut (Syntax.tyInt
+          d50 : Typed.Typed 𝓤 H A 𝓣 E G4 b52 Δ0 at50
+          d50 = Typed.g-pre 𝓤 H A W 𝓣 E G4 G5 b52 Δ0 (Typed.give s3) at49 (Know.g-sl-known 𝓤 H A W (Referent.fInt Syntax.w16) E G4 5 3 (Syntax.tyRef (Syntax.named 3) Syntax.mut (Syntax.tyInt
               Syntax.w16)) (Row.lease (κs .1 .1 .1 .0) (qs .1 .1 .1 .0)) 0 (λ x. x) record { fits = Dec'.lit< tt } (Reads'.as-is 𝓤 H A (Mut.mslice (Referent.rtF (Referent.fInt Syntax.w16)) (Syntax.tyRef
-              (Syntax.named 3) Syntax.mut (Syntax.tyInt Syntax.w16)) 3)) Path'.refl tt) d43
+              (Syntax.named 3) Syntax.mut (Syntax.tyInt Syntax.w16)) 3)) Path'.refl tt) d49
 
-          d45 : Typed.Typed 𝓤 H A 𝓣 E G3 b44 Δ0 at45
-          d45 = Typed.g-pre 𝓤 H A W 𝓣 E G3 G4 b44 Δ0 (Typed.give s2) at44 (Know.g-sl-known 𝓤 H A W (Referent.fInt Syntax.w8) E G3 3 2 (Syntax.tyRef (Syntax.named 2) Syntax.mut (Syntax.tyInt
+          d51 : Typed.Typed 𝓤 H A 𝓣 E G3 b52 Δ0 at51
+          d51 = Typed.g-pre 𝓤 H A W 𝓣 E G3 G4 b52 Δ0 (Typed.give s2) at50 (Know.g-sl-known 𝓤 H A W (Referent.fInt Syntax.w8) E G3 3 2 (Syntax.tyRef (Syntax.named 2) Syntax.mut (Syntax.tyInt
               Syntax.w8)) (Row.lease (κs .1 .1 .0) (qs .1 .1 .0)) 0 (λ x. x) record { fits = Dec'.lit< tt } (Reads'.as-is 𝓤 H A (Mut.mslice (Referent.rtF (Referent.fInt Syntax.w8)) (Syntax.tyRef
-              (Syntax.named 2) Syntax.mut (Syntax.tyInt Syntax.w8)) 2)) Path'.refl tt) d44
+              (Syntax.named 2) Syntax.mut (Syntax.tyInt Syntax.w8)) 2)) Path'.refl tt) d50
 
-          d46 : Typed.Typed 𝓤 H A 𝓣 E G2 b44 Δ0 at46
-          d46 = Typed.g-pre 𝓤 H A W 𝓣 E G2 G3 b44 Δ0 (Typed.give s1) at45 (Know.g-shs-known 𝓤 H A W (Referent.fInt Syntax.w16) E G2 2 1 (Syntax.tyRef (Syntax.named 1) Syntax.imm (Syntax.tyInt
+          d52 : Typed.Typed 𝓤 H A 𝓣 E G2 b52 Δ0 at52
+          d52 = Typed.g-pre 𝓤 H A W 𝓣 E G2 G3 b52 Δ0 (Typed.give s1) at51 (Know.g-shs-known 𝓤 H A W (Referent.fInt Syntax.w16) E G2 2 1 (Syntax.tyRef (Syntax.named 1) Syntax.imm (Syntax.tyInt
               Syntax.w16)) (Row.lease (κs .1 .0) (qs .1 .0)) 0 (λ x. x) record { fits = Dec'.lit< tt } (Reads'.as-is 𝓤 H A (Rows.sslice (Referent.rtF (Referent.fInt Syntax.w16)) (Syntax.tyRef
-              (Syntax.named 1) Syntax.imm (Syntax.tyInt Syntax.w16)) 1)) Path'.refl tt) d45
+              (Syntax.named 1) Syntax.imm (Syntax.tyInt Syntax.w16)) 1)) Path'.refl tt) d51
 
-          d47 : Typed.Typed 𝓤 H A 𝓣 E G0 b44 Δ0 at47
-          d47 = Typed.g-pre 𝓤 H A W 𝓣 E G0 G2 b44 Δ0 (Typed.give s0) at46 (Know.g-shs-known 𝓤 H A W (Referent.fInt Syntax.w8) E G0 1 0 (Syntax.tyRef (Syntax.named 0) Syntax.imm (Syntax.tyInt
+          d53 : Typed.Typed 𝓤 H A 𝓣 E G0 b52 Δ0 at53
+          d53 = Typed.g-pre 𝓤 H A W 𝓣 E G0 G2 b52 Δ0 (Typed.give s0) at52 (Know.g-shs-known 𝓤 H A W (Referent.fInt Syntax.w8) E G0 1 0 (Syntax.tyRef (Syntax.named 0) Syntax.imm (Syntax.tyInt
               Syntax.w8)) (Row.lease (κs .0) (qs .0)) 0 (λ x. x) record { fits = Dec'.lit< tt } (Reads'.as-is 𝓤 H A (Rows.sslice (Referent.rtF (Referent.fInt Syntax.w8)) (Syntax.tyRef (Syntax.named 0)
-              Syntax.imm (Syntax.tyInt Syntax.w8)) 0)) Path'.refl tt) d46
+              Syntax.imm (Syntax.tyInt Syntax.w8)) 0)) Path'.refl tt) d52
 
-          pub typed : Typed.Typed 𝓤 H A 𝓣 E (Function.Γin 5 ps r xs m κs qs) b44 (Function.Δret 5 ps r xs m κs qs) Φ
-          typed = d47
+          pub typed : Typed.Typed 𝓤 H A 𝓣 E (Function.Γin 5 ps r xs m κs qs) b52 (Function.Δret 5 ps r xs m κs qs) Φ
+          typed = d53
 
       module _ (κs : Lifetimes.Lfts 5) where
         pub record Args : Type 0 where
@@ -2546,7 +2818,7 @@ module _ (claims· : Claims) where
           .before) (c .before .slice-known2 .given)) (c .writing-begins)
 
       abbrev W1 : (before : After-slice-known2) → (given : s7 .gives (m7 (before .before) (before .slice-known2 .given))) → Typed.Want O1
-      W1 = λ before given. Typed.wantNext T10 O0 (at38 (W0 (before .before .before .before .before .κs) (before .before .before .before .before .args))) (W0 (before .before .before .before .before
+      W1 = λ before given. Typed.wantNext T10 O0 (at44 (W0 (before .before .before .before .before .κs) (before .before .before .before .before .args))) (W0 (before .before .before .before .before
           .κs) (before .before .before .before .before .args))
 
       abbrev pub m9 : (before : After-slice-known2) → (given : s7 .gives (m7 (before .before) (before .slice-known2 .given))) → Typed.Mo T11
@@ -2776,6 +3048,9 @@ module _ (claims· : Claims) where
       abbrev pub m39 : (before : After-write-set-arg2) → (given : s38 .gives (m35 (before .before) (before .write-set-arg2 .given))) → Typed.Mo T44
       m39 = λ before given. s41 (m38 before given)
 
+      abbrev pub m40 : (before : After-write-set-arg2) → (given : s38 .gives (m35 (before .before) (before .write-set-arg2 .given))) → Typed.Mo T45
+      m40 = λ before given. s42 .next (m39 before given)
+
       module _ (before· : After-write-set-arg2) where
         pub record After-write-set-arg3·own : Type 0 where
           pub given : s38 .gives (m35 (before· .before) (before· .write-set-arg2 .given))
@@ -2784,24 +3059,59 @@ module _ (claims· : Claims) where
         pub before : After-write-set-arg2
         pub write-set-arg3 : After-write-set-arg3·own before
 
-      abbrev pub Need-write-set-requires : Type 0
-      Need-write-set-requires = (c : After-write-set-arg3) → s42 .asks (m39 (c .before) (c .write-set-arg3 .given))
+      abbrev pub Need-sub-write-set-3 : Type 0
+      Need-sub-write-set-3 = (c : After-write-set-arg3) → s43 .asks (m40 (c .before) (c .write-set-arg3 .given))
 
-      abbrev pub m40 : (before : After-write-set-arg3) → (given : s42 .gives (m39 (before .before) (before .write-set-arg3 .given))) → Typed.Mo T45
-      m40 = λ before given. s42 .next (m39 (before .before) (before .write-set-arg3 .given)) given
+      abbrev pub m41 : (before : After-write-set-arg2) → (given : s38 .gives (m35 (before .before) (before .write-set-arg2 .given))) → Typed.Mo T46
+      m41 = λ before given. s43 .next (m40 before given)
 
-      abbrev pub m41 : (before : After-write-set-arg3) → (given : s42 .gives (m39 (before .before) (before .write-set-arg3 .given))) → Typed.Mo T46
-      m41 = λ before given. s43 (m40 before given)
+      abbrev pub Need-part-write-set-start-3 : Type 0
+      Need-part-write-set-start-3 = (c : After-write-set-arg3) → PartAt.PartFrom T46 (λ u. 0) (λ u. 0) (m41 (c .before) (c .write-set-arg3 .given))
 
-      abbrev pub m42 : (before : After-write-set-arg3) → (given : s42 .gives (m39 (before .before) (before .write-set-arg3 .given))) → Typed.Mo T47
-      m42 = λ before given. s44 (m41 before given)
+      abbrev pub Need-part-write-set-end-3 : Type 0
+      Need-part-write-set-end-3 = (c : After-write-set-arg3) → PartAt.PartTo T46 1 27 (λ x. x) (λ u. 0) (m41 (c .before) (c .write-set-arg3 .given))
 
-      abbrev pub m43 : (before : After-write-set-arg3) → (given : s42 .gives (m39 (before .before) (before .write-set-arg3 .given))) → Typed.Mo T48
+      abbrev pub m42 : (before : After-write-set-arg3) → (given : s44 .gives (m41 (before .before) (before .write-set-arg3 .given))) → Typed.Mo T47
+      m42 = λ before given. s44 .next (m41 (before .before) (before .write-set-arg3 .given)) given
+
+      abbrev pub m43 : (before : After-write-set-arg3) → (given : s44 .gives (m41 (before .before) (before .write-set-arg3 .given))) → Typed.Mo T48
       m43 = λ before given. s45 (m42 before given)
 
+      abbrev pub m44 : (before : After-write-set-arg3) → (given : s44 .gives (m41 (before .before) (before .write-set-arg3 .given))) → Typed.Mo T49
+      m44 = λ before given. s46 .next (m43 before given)
+
+      abbrev pub m45 : (before : After-write-set-arg3) → (given : s44 .gives (m41 (before .before) (before .write-set-arg3 .given))) → Typed.Mo T50
+      m45 = λ before given. s47 (m44 before given)
+
       module _ (before· : After-write-set-arg3) where
+        pub record After-write-set-arg4·own : Type 0 where
+          pub given : s44 .gives (m41 (before· .before) (before· .write-set-arg3 .given))
+
+      pub record After-write-set-arg4 : Type 0 where
+        pub before : After-write-set-arg3
+        pub write-set-arg4 : After-write-set-arg4·own before
+
+      abbrev pub Need-write-set-requires : Type 0
+      Need-write-set-requires = (c : After-write-set-arg4) → s48 .asks (m45 (c .before) (c .write-set-arg4 .given))
+
+      abbrev pub m46 : (before : After-write-set-arg4) → (given : s48 .gives (m45 (before .before) (before .write-set-arg4 .given))) → Typed.Mo T51
+      m46 = λ before given. s48 .next (m45 (before .before) (before .write-set-arg4 .given)) given
+
+      abbrev pub m47 : (before : After-write-set-arg4) → (given : s48 .gives (m45 (before .before) (before .write-set-arg4 .given))) → Typed.Mo T52
+      m47 = λ before given. s49 (m46 before given)
+
+      abbrev pub m48 : (before : After-write-set-arg4) → (given : s48 .gives (m45 (before .before) (before .write-set-arg4 .given))) → Typed.Mo T53
+      m48 = λ before given. s50 (m47 before given)
+
+      abbrev pub m49 : (before : After-write-set-arg4) → (given : s48 .gives (m45 (before .before) (before .write-set-arg4 .given))) → Typed.Mo T54
+      m49 = λ before given. s51 (m48 before given)
+
+      abbrev pub m50 : (before : After-write-set-arg4) → (given : s48 .gives (m45 (before .before) (before .write-set-arg4 .given))) → Typed.Mo T55
+      m50 = λ before given. s52 (m49 before given)
+
+      module _ (before· : After-write-set-arg4) where
         abbrev pub After-write-set·own : Type 0
-        After-write-set·own = Called.Called ps·4 r·4 (claims· .9) T44 (
+        After-write-set·own = Called.Called ps·4 r·4 (claims· .9) T50 (
           record { pos = 2; ty = Syntax.tyRef (Syntax.named 1) Syntax.imm (Syntax.tyInt Syntax.w16); ref = λ x. x },
           (
             record { pos = 18; ty = Syntax.tyRef Syntax.erased Syntax.mut (Syntax.tyInt Syntax.w8); ref = λ x. x },
@@ -2809,19 +3119,22 @@ module _ (claims· : Claims) where
               Bool.bAt 4 λ x. x,
               (
                 record { pos = 22; ty = Syntax.tyRef Syntax.erased Syntax.mut (Syntax.tyInt Syntax.w16); ref = λ x. x },
-                (record { pos = 26; ty = Syntax.tyRef Syntax.erased Syntax.mut Element.behind; ref = λ x. x }, (record { pos = 11; st = List.[]; d = 0; at = λ x. x }, (Num.vAt 12 λ x. x, tt))),
+                (
+                  record { pos = 26; ty = Syntax.tyRef Syntax.erased Syntax.mut Element.behind; ref = λ x. x },
+                  (record { pos = 11; st = List.[]; d = 0; at = λ x. x }, (record { pos = 30; ty = Syntax.tyRef Syntax.erased Syntax.imm (Syntax.tyInt Syntax.w8); ref = λ x. x }, (Num.vAt 12 λ x. x, tt))),
+                ),
               ),
             ),
           ),
-        ) (m39
-            (before· .before) (before· .write-set-arg3 .given))
+        )
+            (m45 (before· .before) (before· .write-set-arg4 .given))
 
       pub record After-write-set : Type 0 where
-        pub before : After-write-set-arg3
+        pub before : After-write-set-arg4
         pub write-set : After-write-set·own before
 
-      abbrev pub After-write-set·gave : (c : After-write-set) → s42 .gives (m39 (c .before .before) (c .before .write-set-arg3 .given))
-      After-write-set·gave = λ c. Called.given ps·4 r·4 (claims· .9) T44 (
+      abbrev pub After-write-set·gave : (c : After-write-set) → s48 .gives (m45 (c .before .before) (c .before .write-set-arg4 .given))
+      After-write-set·gave = λ c. Called.given ps·4 r·4 (claims· .9) T50 (
         record { pos = 2; ty = Syntax.tyRef (Syntax.named 1) Syntax.imm (Syntax.tyInt Syntax.w16); ref = λ x. x },
         (
           record { pos = 18; ty = Syntax.tyRef Syntax.erased Syntax.mut (Syntax.tyInt Syntax.w8); ref = λ x. x },
@@ -2829,151 +3142,155 @@ module _ (claims· : Claims) where
             Bool.bAt 4 λ x. x,
             (
               record { pos = 22; ty = Syntax.tyRef Syntax.erased Syntax.mut (Syntax.tyInt Syntax.w16); ref = λ x. x },
-              (record { pos = 26; ty = Syntax.tyRef Syntax.erased Syntax.mut Element.behind; ref = λ x. x }, (record { pos = 11; st = List.[]; d = 0; at = λ x. x }, (Num.vAt 12 λ x. x, tt))),
+              (
+                record { pos = 26; ty = Syntax.tyRef Syntax.erased Syntax.mut Element.behind; ref = λ x. x },
+                (record { pos = 11; st = List.[]; d = 0; at = λ x. x }, (record { pos = 30; ty = Syntax.tyRef Syntax.erased Syntax.imm (Syntax.tyInt Syntax.w8); ref = λ x. x }, (Num.vAt 12 λ x. x, tt))),
+              ),
             ),
           ),
         ),
-      ) (m39 (c
-          .before .before) (c .before .write-set-arg3 .given)) (c .write-set)
+      )
+          (m45 (c .before .before) (c .before .write-set-arg4 .given)) (c .write-set)
 
-      abbrev pub m44 : (before : After-write-set) → (given : s47 .gives (m43 (before .before) (After-write-set·gave before))) → Typed.Mo T50
-      m44 = λ before given. s47 .next (m43 (before .before) (After-write-set·gave before)) given
+      abbrev pub m51 : (before : After-write-set) → (given : s54 .gives (m50 (before .before) (After-write-set·gave before))) → Typed.Mo T57
+      m51 = λ before given. s54 .next (m50 (before .before) (After-write-set·gave before)) given
 
       module _ (before· : After-write-set) where
         pub record After-out·own : Type 0 where
-          pub given : s47 .gives (m43 (before· .before) (After-write-set·gave before·))
+          pub given : s54 .gives (m50 (before· .before) (After-write-set·gave before·))
 
       pub record After-out : Type 0 where
         pub before : After-write-set
         pub out : After-out·own before
 
-      abbrev pub m45 : (before : After-out) → (given : s48 .gives (m44 (before .before) (before .out .given))) → Typed.Mo T51
-      m45 = λ before given. s48 .next (m44 (before .before) (before .out .given)) given
+      abbrev pub m52 : (before : After-out) → (given : s55 .gives (m51 (before .before) (before .out .given))) → Typed.Mo T58
+      m52 = λ before given. s55 .next (m51 (before .before) (before .out .given)) given
 
       module _ (before· : After-out) where
         pub record After-slice-known3·own : Type 0 where
-          pub given : s48 .gives (m44 (before· .before) (before· .out .given))
+          pub given : s55 .gives (m51 (before· .before) (before· .out .given))
 
       pub record After-slice-known3 : Type 0 where
         pub before : After-out
         pub slice-known3 : After-slice-known3·own before
 
-      abbrev pub m46 : (before : After-slice-known3) → (given : s51 .gives (m45 (before .before) (before .slice-known3 .given))) → Typed.Mo T54
-      m46 = λ before given. s51 .next (m45 (before .before) (before .slice-known3 .given)) given
+      abbrev pub m53 : (before : After-slice-known3) → (given : s58 .gives (m52 (before .before) (before .slice-known3 .given))) → Typed.Mo T61
+      m53 = λ before given. s58 .next (m52 (before .before) (before .slice-known3 .given)) given
 
       module _ (before· : After-slice-known3) where
         pub record After-lines·own : Type 0 where
-          pub given : s51 .gives (m45 (before· .before) (before· .slice-known3 .given))
+          pub given : s58 .gives (m52 (before· .before) (before· .slice-known3 .given))
 
       pub record After-lines : Type 0 where
         pub before : After-slice-known3
         pub lines : After-lines·own before
 
-      abbrev pub m47 : (before : After-lines) → (given : s52 .gives (m46 (before .before) (before .lines .given))) → Typed.Mo T55
-      m47 = λ before given. s52 .next (m46 (before .before) (before .lines .given)) given
+      abbrev pub m54 : (before : After-lines) → (given : s59 .gives (m53 (before .before) (before .lines .given))) → Typed.Mo T62
+      m54 = λ before given. s59 .next (m53 (before .before) (before .lines .given)) given
 
       module _ (before· : After-lines) where
         pub record After-slice-known4·own : Type 0 where
-          pub given : s52 .gives (m46 (before· .before) (before· .lines .given))
+          pub given : s59 .gives (m53 (before· .before) (before· .lines .given))
 
       pub record After-slice-known4 : Type 0 where
         pub before : After-lines
         pub slice-known4 : After-slice-known4·own before
 
-      abbrev pub m48 : (before : After-slice-known4) → (given : s55 .gives (m47 (before .before) (before .slice-known4 .given))) → Typed.Mo T58
-      m48 = λ before given. s55 .next (m47 (before .before) (before .slice-known4 .given)) given
+      abbrev pub m55 : (before : After-slice-known4) → (given : s62 .gives (m54 (before .before) (before .slice-known4 .given))) → Typed.Mo T65
+      m55 = λ before given. s62 .next (m54 (before .before) (before .slice-known4 .given)) given
 
       module _ (before· : After-slice-known4) where
         pub record After-rs·own : Type 0 where
-          pub given : s55 .gives (m47 (before· .before) (before· .slice-known4 .given))
+          pub given : s62 .gives (m54 (before· .before) (before· .slice-known4 .given))
 
       pub record After-rs : Type 0 where
         pub before : After-slice-known4
         pub rs : After-rs·own before
 
-      abbrev pub m49 : (before : After-begins) → (given : s12 .gives (m12 (before .before) (before .begins .given))) → Typed.Mo T60
-      m49 = λ before given. s57 (m17 before given)
+      abbrev pub m56 : (before : After-begins) → (given : s12 .gives (m12 (before .before) (before .begins .given))) → Typed.Mo T67
+      m56 = λ before given. s64 (m17 before given)
 
-      abbrev pub m50 : (before : After-begins) → (given : s12 .gives (m12 (before .before) (before .begins .given))) → Typed.Mo T61
-      m50 = λ before given. s58 (m49 before given)
+      abbrev pub m57 : (before : After-begins) → (given : s12 .gives (m12 (before .before) (before .begins .given))) → Typed.Mo T68
+      m57 = λ before given. s65 (m56 before given)
 
-      abbrev pub m51 : (before : After-begins) → (given : s12 .gives (m12 (before .before) (before .begins .given))) → Typed.Mo T62
-      m51 = λ before given. s59 (m50 before given)
+      abbrev pub m58 : (before : After-begins) → (given : s12 .gives (m12 (before .before) (before .begins .given))) → Typed.Mo T69
+      m58 = λ before given. s66 (m57 before given)
 
       abbrev pub Need-returns : Type 0
       Need-returns = (c : After-known-told) → Post· (c .before .before .before .before .before .before .before .before .κs) (dens (c .before .before .before .before .before .before .before .before
-          .κs) (c .before .before .before .before .before .before .before .before .args)) (Function.resV r (c .before .before .before .before .before .before .before .before .κs) (m51 (c .before) (c
+          .κs) (c .before .before .before .before .before .before .before .before .args)) (Function.resV r (c .before .before .before .before .before .before .before .before .κs) (m58 (c .before) (c
           .known-told .given) .0)) (Clauses.atExit (Kinds.endedOf 5 ps r) (c .before .before .before .before .before .before .before .before .κs) (dens (c .before .before .before .before .before .before
           .before .before .κs) (c .before .before .before .before .before .before .before .before .args)) (Enter.lastsP (c .before .before .before .before .before .before .before .before .κs) 1 ps xs
-          (dens (c .before .before .before .before .before .before .before .before .κs) (c .before .before .before .before .before .before .before .before .args)) (m51 (c .before) (c .known-told .given)
+          (dens (c .before .before .before .before .before .before .before .before .κs) (c .before .before .before .before .before .before .before .before .args)) (m58 (c .before) (c .known-told .given)
           .1)))
 
-      abbrev pub m52 : (before : After-slice-known4) → (given : s55 .gives (m47 (before .before) (before .slice-known4 .given))) → Typed.Mo T60
-      m52 = λ before given. s57 (m48 before given)
+      abbrev pub m59 : (before : After-slice-known4) → (given : s62 .gives (m54 (before .before) (before .slice-known4 .given))) → Typed.Mo T67
+      m59 = λ before given. s64 (m55 before given)
 
-      abbrev pub m53 : (before : After-slice-known4) → (given : s55 .gives (m47 (before .before) (before .slice-known4 .given))) → Typed.Mo T61
-      m53 = λ before given. s58 (m52 before given)
+      abbrev pub m60 : (before : After-slice-known4) → (given : s62 .gives (m54 (before .before) (before .slice-known4 .given))) → Typed.Mo T68
+      m60 = λ before given. s65 (m59 before given)
 
-      abbrev pub m54 : (before : After-slice-known4) → (given : s55 .gives (m47 (before .before) (before .slice-known4 .given))) → Typed.Mo T62
-      m54 = λ before given. s59 (m53 before given)
+      abbrev pub m61 : (before : After-slice-known4) → (given : s62 .gives (m54 (before .before) (before .slice-known4 .given))) → Typed.Mo T69
+      m61 = λ before given. s66 (m60 before given)
 
       abbrev pub Need-same-length : Type 0
-      Need-same-length = (c : After-rs) → MutSlice.SameLen (Row.get 3 (T62 .locals) (m54 (c .before) (c .rs .given))) (dens (c .before .before .before .before .before .before .before .before .before
-          .before .before .before .before .before .before .before .before .before .before .before .κs) (c .before .before .before .before .before .before .before .before .before .before .before .before
-          .before .before .before .before .before .before .before .before .args) .1 .1 .0)
+      Need-same-length = (c : After-rs) → MutSlice.SameLen (Row.get 3 (T69 .locals) (m61 (c .before) (c .rs .given))) (dens (c .before .before .before .before .before .before .before .before .before
+          .before .before .before .before .before .before .before .before .before .before .before .before .κs) (c .before .before .before .before .before .before .before .before .before .before .before
+          .before .before .before .before .before .before .before .before .before .before .args) .1 .1 .0)
 
       abbrev pub Need-same-length-2 : Type 0
-      Need-same-length-2 = (c : After-rs) → MutSlice.SameLen (Row.get 5 (T62 .locals) (m54 (c .before) (c .rs .given))) (dens (c .before .before .before .before .before .before .before .before .before
-          .before .before .before .before .before .before .before .before .before .before .before .κs) (c .before .before .before .before .before .before .before .before .before .before .before .before
-          .before .before .before .before .before .before .before .before .args) .1 .1 .1 .1 .0)
+      Need-same-length-2 = (c : After-rs) → MutSlice.SameLen (Row.get 5 (T69 .locals) (m61 (c .before) (c .rs .given))) (dens (c .before .before .before .before .before .before .before .before .before
+          .before .before .before .before .before .before .before .before .before .before .before .before .κs) (c .before .before .before .before .before .before .before .before .before .before .before
+          .before .before .before .before .before .before .before .before .before .before .args) .1 .1 .1 .1 .0)
 
       abbrev pub Need-same-length-3 : Type 0
-      Need-same-length-3 = (c : After-rs) → MutSlice.SameLen (Row.get 6 (T62 .locals) (m54 (c .before) (c .rs .given))) (dens (c .before .before .before .before .before .before .before .before .before
-          .before .before .before .before .before .before .before .before .before .before .before .κs) (c .before .before .before .before .before .before .before .before .before .before .before .before
-          .before .before .before .before .before .before .before .before .args) .1 .1 .1 .1 .1 .0)
+      Need-same-length-3 = (c : After-rs) → MutSlice.SameLen (Row.get 6 (T69 .locals) (m61 (c .before) (c .rs .given))) (dens (c .before .before .before .before .before .before .before .before .before
+          .before .before .before .before .before .before .before .before .before .before .before .before .κs) (c .before .before .before .before .before .before .before .before .before .before .before
+          .before .before .before .before .before .before .before .before .before .before .args) .1 .1 .1 .1 .1 .0)
 
       abbrev pub Need-returns-2 : Type 0
       Need-returns-2 = (c : After-rs) → Post· (c .before .before .before .before .before .before .before .before .before .before .before .before .before .before .before .before .before .before .before
-          .before .κs) (dens (c .before .before .before .before .before .before .before .before .before .before .before .before .before .before .before .before .before .before .before .before .κs) (c
-          .before .before .before .before .before .before .before .before .before .before .before .before .before .before .before .before .before .before .before .before .args)) (Function.resV r (c
-          .before .before .before .before .before .before .before .before .before .before .before .before .before .before .before .before .before .before .before .before .κs) (m54 (c .before) (c .rs
-          .given) .0)) (Clauses.atExit (Kinds.endedOf 5 ps r) (c .before .before .before .before .before .before .before .before .before .before .before .before .before .before .before .before .before
-          .before .before .before .κs) (dens (c .before .before .before .before .before .before .before .before .before .before .before .before .before .before .before .before .before .before .before
-          .before .κs) (c .before .before .before .before .before .before .before .before .before .before .before .before .before .before .before .before .before .before .before .before .args))
-          (Enter.lastsP (c .before .before .before .before .before .before .before .before .before .before .before .before .before .before .before .before .before .before .before .before .κs) 1 ps xs
-          (dens (c .before .before .before .before .before .before .before .before .before .before .before .before .before .before .before .before .before .before .before .before .κs) (c .before .before
-          .before .before .before .before .before .before .before .before .before .before .before .before .before .before .before .before .before .before .args)) (m54 (c .before) (c .rs .given) .1)))
+          .before .before .κs) (dens (c .before .before .before .before .before .before .before .before .before .before .before .before .before .before .before .before .before .before .before .before
+          .before .κs) (c .before .before .before .before .before .before .before .before .before .before .before .before .before .before .before .before .before .before .before .before .before .args))
+          (Function.resV r (c .before .before .before .before .before .before .before .before .before .before .before .before .before .before .before .before .before .before .before .before .before .κs)
+          (m61 (c .before) (c .rs .given) .0)) (Clauses.atExit (Kinds.endedOf 5 ps r) (c .before .before .before .before .before .before .before .before .before .before .before .before .before .before
+          .before .before .before .before .before .before .before .κs) (dens (c .before .before .before .before .before .before .before .before .before .before .before .before .before .before .before
+          .before .before .before .before .before .before .κs) (c .before .before .before .before .before .before .before .before .before .before .before .before .before .before .before .before .before
+          .before .before .before .before .args)) (Enter.lastsP (c .before .before .before .before .before .before .before .before .before .before .before .before .before .before .before .before .before
+          .before .before .before .before .κs) 1 ps xs (dens (c .before .before .before .before .before .before .before .before .before .before .before .before .before .before .before .before .before
+          .before .before .before .before .κs) (c .before .before .before .before .before .before .before .before .before .before .before .before .before .before .before .before .before .before .before
+          .before .before .args)) (m61 (c .before) (c .rs .given) .1)))
 
       module _ (writing-begins-requires : Need-writing-begins-requires) (enum-known-begins : Need-enum-known-begins) (enum-known-begins-2 : Need-enum-known-begins-2) (samples-needed-requires :
           Need-samples-needed-requires) (form-of-requires : Need-form-of-requires) (line-count-requires : Need-line-count-requires) (sub-write-set : Need-sub-write-set) (part-write-set-start :
           Need-part-write-set-start) (part-write-set-end : Need-part-write-set-end) (sub-write-set-2 : Need-sub-write-set-2) (part-write-set-start-2 : Need-part-write-set-start-2) (part-write-set-end-2 :
-          Need-part-write-set-end-2) (write-set-requires : Need-write-set-requires) (returns : Need-returns) (same-length : Need-same-length) (same-length-2 : Need-same-length-2) (same-length-3 :
-          Need-same-length-3) (returns-2 : Need-returns-2) where
-        lay6 : (c : After-rs) → at38 (W0 (c .before .before .before .before .before .before .before .before .before .before .before .before .before .before .before .before .before .before .before
-            .before .κs) (c .before .before .before .before .before .before .before .before .before .before .before .before .before .before .before .before .before .before .before .before .args)) (m48 (c
-            .before) (c .rs .given))
+          Need-part-write-set-end-2) (sub-write-set-3 : Need-sub-write-set-3) (part-write-set-start-3 : Need-part-write-set-start-3) (part-write-set-end-3 : Need-part-write-set-end-3) (write-set-requires
+          : Need-write-set-requires) (returns : Need-returns) (same-length : Need-same-length) (same-length-2 : Need-same-length-2) (same-length-3 : Need-same-length-3) (returns-2 : Need-returns-2) where
+        lay6 : (c : After-rs) → at44 (W0 (c .before .before .before .before .before .before .before .before .before .before .before .before .before .before .before .before .before .before .before
+            .before .before .κs) (c .before .before .before .before .before .before .before .before .before .before .before .before .before .before .before .before .before .before .before .before .before
+            .args)) (m55 (c .before) (c .rs .given))
         lay6 = λ c. (
           (
             Path'.refl,
             (
               Path'.refl,
               (
-                MutSlice.fix-len (Row.get 3 (T62 .locals) (m54 (c .before) (c .rs .given)) .ptr) (Row.get 3 (T62 .locals) (m54 (c .before) (c .rs .given)) .name) (Row.get 3 (T62 .locals) (m54 (c .before) (c
-                    .rs .given)) .now) (dens (c .before .before .before .before .before .before .before .before .before .before .before .before .before .before .before .before .before .before .before .before .κs)
-                    (c .before .before .before .before .before .before .before .before .before .before .before .before .before .before .before .before .before .before .before .before .args) .1 .1 .0 .now)
-                    (same-length record { before = c .before; rs = c .rs }),
+                MutSlice.fix-len (Row.get 3 (T69 .locals) (m61 (c .before) (c .rs .given)) .ptr) (Row.get 3 (T69 .locals) (m61 (c .before) (c .rs .given)) .name) (Row.get 3 (T69 .locals) (m61 (c .before) (c
+                    .rs .given)) .now) (dens (c .before .before .before .before .before .before .before .before .before .before .before .before .before .before .before .before .before .before .before .before
+                    .before .κs) (c .before .before .before .before .before .before .before .before .before .before .before .before .before .before .before .before .before .before .before .before .before .args)
+                    .1 .1 .0 .now) (same-length record { before = c .before; rs = c .rs }),
                 (
                   tt,
                   (
-                    MutSlice.fix-len (Row.get 5 (T62 .locals) (m54 (c .before) (c .rs .given)) .ptr) (Row.get 5 (T62 .locals) (m54 (c .before) (c .rs .given)) .name) (Row.get 5 (T62 .locals) (m54 (c .before) (c
-                        .rs .given)) .now) (dens (c .before .before .before .before .before .before .before .before .before .before .before .before .before .before .before .before .before .before .before .before .κs)
-                        (c .before .before .before .before .before .before .before .before .before .before .before .before .before .before .before .before .before .before .before .before .args) .1 .1 .1 .1 .0 .now)
-                        (same-length-2 record { before = c .before; rs = c .rs }),
+                    MutSlice.fix-len (Row.get 5 (T69 .locals) (m61 (c .before) (c .rs .given)) .ptr) (Row.get 5 (T69 .locals) (m61 (c .before) (c .rs .given)) .name) (Row.get 5 (T69 .locals) (m61 (c .before) (c
+                        .rs .given)) .now) (dens (c .before .before .before .before .before .before .before .before .before .before .before .before .before .before .before .before .before .before .before .before
+                        .before .κs) (c .before .before .before .before .before .before .before .before .before .before .before .before .before .before .before .before .before .before .before .before .before .args)
+                        .1 .1 .1 .1 .0 .now) (same-length-2 record { before = c .before; rs = c .rs }),
                     (
-                      MutSlice.fix-len (Row.get 6 (T62 .locals) (m54 (c .before) (c .rs .given)) .ptr) (Row.get 6 (T62 .locals) (m54 (c .before) (c .rs .given)) .name) (Row.get 6 (T62 .locals) (m54 (c .before) (c
-                          .rs .given)) .now) (dens (c .before .before .before .before .before .before .before .before .before .before .before .before .before .before .before .before .before .before .before .before .κs)
-                          (c .before .before .before .before .before .before .before .before .before .before .before .before .before .before .before .before .before .before .before .before .args) .1 .1 .1 .1 .1 .0
-                          .now) (same-length-3 record { before = c .before; rs = c .rs }),
+                      MutSlice.fix-len (Row.get 6 (T69 .locals) (m61 (c .before) (c .rs .given)) .ptr) (Row.get 6 (T69 .locals) (m61 (c .before) (c .rs .given)) .name) (Row.get 6 (T69 .locals) (m61 (c .before) (c
+                          .rs .given)) .now) (dens (c .before .before .before .before .before .before .before .before .before .before .before .before .before .before .before .before .before .before .before .before
+                          .before .κs) (c .before .before .before .before .before .before .before .before .before .before .before .before .before .before .before .before .before .before .before .before .before .args)
+                          .1 .1 .1 .1 .1 .0 .now) (same-length-3 record { before = c .before; rs = c .rs }),
                       tt,
                     ),
                   ),
@@ -2984,11 +3301,11 @@ module _ (claims· : Claims) where
           returns-2 record { before = c .before; rs = c .rs },
         )
 
-        lay5 : (c : After-known-told) → at38 (W0 (c .before .before .before .before .before .before .before .before .κs) (c .before .before .before .before .before .before .before .before .args)) (m17
+        lay5 : (c : After-known-told) → at44 (W0 (c .before .before .before .before .before .before .before .before .κs) (c .before .before .before .before .before .before .before .before .args)) (m17
             (c .before) (c .known-told .given))
         lay5 = λ c. ((Path'.refl, (Path'.refl, (Path'.refl, (tt, (Path'.refl, (Path'.refl, tt)))))), returns record { before = c .before; known-told = c .known-told })
 
-        lay4 : (c : After-line-count) → at23 (W1 (c .before .before .before .before .before .before .before) (After-writing-begins·gave (c .before .before .before .before .before .before))) (m24 (c
+        lay4 : (c : After-line-count) → at29 (W1 (c .before .before .before .before .before .before .before) (After-writing-begins·gave (c .before .before .before .before .before .before))) (m24 (c
             .before) (After-line-count·gave c))
         lay4 = λ c. λ g. (
           Path'.refl,
@@ -3025,51 +3342,96 @@ module _ (claims· : Claims) where
                           Relend.count-is T42 25 26 (λ x. x) (λ u. u .1 .1 .1 .1 .1 .1 .1 .1 .1 .1 .1 .1 .1 .1 .1 .1 .1 .1 .1 .1 .1 .1 .1 .1 .0) (m37 record
                               { before = record { before = record { before = c .before; line-count = c .line-count }; write-set-arg = record { given = g } }; write-set-arg2 = record { given = g' } } g'') (g'' .1),
                           (
-                            write-set-requires record {
-                              before = record { before = record { before = record { before = c .before; line-count = c .line-count }; write-set-arg = record { given = g } }; write-set-arg2 = record { given = g' } };
-                              write-set-arg3 = record { given = g'' };
-                            },
-                            λ g'3. (
-                              Path'.refl,
-                              λ g'4. λ g'5. (
-                                Path'.refl,
-                                λ g'6. λ g'7. (
+                            tt,
+                            (
+                              sub-write-set-3 record {
+                                before = record { before = record { before = record { before = c .before; line-count = c .line-count }; write-set-arg = record { given = g } }; write-set-arg2 = record { given = g' } };
+                                write-set-arg3 = record { given = g'' };
+                              },
+                              (
+                                (
                                   Path'.refl,
-                                  λ g'8. lay6 record {
-                                    before = record {
+                                  Path'.refl,
+                                  part-write-set-start-3 record {
+                                    before = record { before = record { before = record { before = c .before; line-count = c .line-count }; write-set-arg = record { given = g } }; write-set-arg2 = record { given = g' } };
+                                    write-set-arg3 = record { given = g'' };
+                                  },
+                                  part-write-set-end-3 record {
+                                    before = record { before = record { before = record { before = c .before; line-count = c .line-count }; write-set-arg = record { given = g } }; write-set-arg2 = record { given = g' } };
+                                    write-set-arg3 = record { given = g'' };
+                                  },
+                                ),
+                                λ g'3. (
+                                  Relend.count-is T48 29 30 (λ x. x) (λ u. u .1 .1 .1 .1 .1 .1 .1 .1 .1 .1 .1 .1 .1 .1 .1 .1 .1 .1 .1 .1 .1 .1 .1 .1 .1 .1 .1 .1 .0) (m43 record {
+                                    before = record { before = record { before = record { before = c .before; line-count = c .line-count }; write-set-arg = record { given = g } }; write-set-arg2 = record { given = g' } };
+                                    write-set-arg3 = record { given = g'' };
+                                  } g'3) (g'3 .1),
+                                  (
+                                    write-set-requires record {
                                       before = record {
-                                        before = record {
-                                          before = record {
+                                        before = record { before = record { before = record { before = c .before; line-count = c .line-count }; write-set-arg = record { given = g } }; write-set-arg2 = record { given = g' } };
+                                        write-set-arg3 = record { given = g'' };
+                                      };
+                                      write-set-arg4 = record { given = g'3 };
+                                    },
+                                    λ g'4. (
+                                      Path'.refl,
+                                      λ g'5. λ g'6. (
+                                        Path'.refl,
+                                        λ g'7. λ g'8. (
+                                          Path'.refl,
+                                          λ g'9. lay6 record {
                                             before = record {
                                               before = record {
-                                                before = record { before = record { before = record { before = c .before; line-count = c .line-count }; write-set-arg = record { given = g } }; write-set-arg2 = record { given = g' } };
-                                                write-set-arg3 = record { given = g'' };
+                                                before = record {
+                                                  before = record {
+                                                    before = record {
+                                                      before = record {
+                                                        before = record {
+                                                          before = record { before = record { before = record { before = c .before; line-count = c .line-count }; write-set-arg = record { given = g } }; write-set-arg2 = record { given = g' } };
+                                                          write-set-arg3 = record { given = g'' };
+                                                        };
+                                                        write-set-arg4 = record { given = g'3 };
+                                                      };
+                                                      write-set = Called.called ps·4 r·4 (claims· .9) T50 (
+                                                        record { pos = 2; ty = Syntax.tyRef (Syntax.named 1) Syntax.imm (Syntax.tyInt Syntax.w16); ref = λ x. x },
+                                                        (
+                                                          record { pos = 18; ty = Syntax.tyRef Syntax.erased Syntax.mut (Syntax.tyInt Syntax.w8); ref = λ x. x },
+                                                          (
+                                                            Bool.bAt 4 λ x. x,
+                                                            (
+                                                              record { pos = 22; ty = Syntax.tyRef Syntax.erased Syntax.mut (Syntax.tyInt Syntax.w16); ref = λ x. x },
+                                                              (
+                                                                record { pos = 26; ty = Syntax.tyRef Syntax.erased Syntax.mut Element.behind; ref = λ x. x },
+                                                                (
+                                                                  record { pos = 11; st = List.[]; d = 0; at = λ x. x },
+                                                                  (record { pos = 30; ty = Syntax.tyRef Syntax.erased Syntax.imm (Syntax.tyInt Syntax.w8); ref = λ x. x }, (Num.vAt 12 λ x. x, tt)),
+                                                                ),
+                                                              ),
+                                                            ),
+                                                          ),
+                                                        ),
+                                                      ) (m45 record {
+                                                        before = record { before = record { before = record { before = c .before; line-count = c .line-count }; write-set-arg = record { given = g } }; write-set-arg2 = record { given = g' } };
+                                                        write-set-arg3 = record { given = g'' };
+                                                      } g'3) g'4;
+                                                    };
+                                                    out = record { given = g'5 };
+                                                  };
+                                                  slice-known3 = record { given = g'6 };
+                                                };
+                                                lines = record { given = g'7 };
                                               };
-                                              write-set = Called.called ps·4 r·4 (claims· .9) T44 (
-                                                record { pos = 2; ty = Syntax.tyRef (Syntax.named 1) Syntax.imm (Syntax.tyInt Syntax.w16); ref = λ x. x },
-                                                (
-                                                  record { pos = 18; ty = Syntax.tyRef Syntax.erased Syntax.mut (Syntax.tyInt Syntax.w8); ref = λ x. x },
-                                                  (
-                                                    Bool.bAt 4 λ x. x,
-                                                    (
-                                                      record { pos = 22; ty = Syntax.tyRef Syntax.erased Syntax.mut (Syntax.tyInt Syntax.w16); ref = λ x. x },
-                                                      (record { pos = 26; ty = Syntax.tyRef Syntax.erased Syntax.mut Element.behind; ref = λ x. x }, (record { pos = 11; st = List.[]; d = 0; at = λ x. x }, (Num.vAt 12 λ x. x, tt))),
-                                                    ),
-                                                  ),
-                                                ),
-                                              ) (m39
-                                                  record { before = record { before = record { before = c .before; line-count = c .line-count }; write-set-arg = record { given = g } }; write-set-arg2 = record { given = g' } } g'') g'3;
+                                              slice-known4 = record {
+                                                given = g'8;
+                                              };
                                             };
-                                            out = record { given = g'4 };
-                                          };
-                                          slice-known3 = record { given = g'5 };
-                                        };
-                                        lines = record { given = g'6 };
-                                      };
-                                      slice-known4 = record { given = g'7 };
-                                    };
-                                    rs = record { given = g'8 };
-                                  },
+                                            rs = record { given = g'9 };
+                                          },
+                                        ),
+                                      ),
+                                    ),
+                                  ),
                                 ),
                               ),
                             ),
@@ -3084,7 +3446,7 @@ module _ (claims· : Claims) where
           ),
         )
 
-        lay3 : (c : After-form-of) → at24 (W1 (c .before .before .before .before .before .before) (After-writing-begins·gave (c .before .before .before .before .before))) (m23 (c .before)
+        lay3 : (c : After-form-of) → at30 (W1 (c .before .before .before .before .before .before) (After-writing-begins·gave (c .before .before .before .before .before))) (m23 (c .before)
             (After-form-of·gave c))
         lay3 = λ c. (
           line-count-requires record { before = c .before; form-of = c .form-of },
@@ -3095,7 +3457,7 @@ module _ (claims· : Claims) where
           },
         )
 
-        lay2 : (c : After-samples-needed) → at25 (W1 (c .before .before .before .before .before) (After-writing-begins·gave (c .before .before .before .before))) (m22 (c .before)
+        lay2 : (c : After-samples-needed) → at31 (W1 (c .before .before .before .before .before) (After-writing-begins·gave (c .before .before .before .before))) (m22 (c .before)
             (After-samples-needed·gave c))
         lay2 = λ c. (
           form-of-requires record { before = c .before; samples-needed = c .samples-needed },
@@ -3106,7 +3468,7 @@ module _ (claims· : Claims) where
           },
         )
 
-        lay1 : (c : After-writing-begins) → at39 (W0 (c .before .before .before .before .before .κs) (c .before .before .before .before .before .args)) (m8 (c .before) (After-writing-begins·gave c))
+        lay1 : (c : After-writing-begins) → at45 (W0 (c .before .before .before .before .before .κs) (c .before .before .before .before .before .args)) (m8 (c .before) (After-writing-begins·gave c))
         lay1 = λ c. (
           λ k. (
             enum-known-begins record { before = record { before = c .before; writing-begins = c .writing-begins }; match = record { keys1 = k } },
@@ -3141,7 +3503,7 @@ module _ (claims· : Claims) where
           ),
         )
 
-        pub laid : (c : Start) → at47 (W0 (c .κs) (c .args)) (m0 (c .κs) (c .args))
+        pub laid : (c : Start) → at53 (W0 (c .κs) (c .args)) (m0 (c .κs) (c .args))
         laid = λ c. λ g. λ g'. λ g''. λ g'3. (
           writing-begins-requires record {
             before = record
@@ -3168,7 +3530,7 @@ module _ (claims· : Claims) where
 
         module _ {M : Type 1} (𝓤 : URA.URA M) (H : Wp.Heap 𝓤) (A : Atoms.Atoms 𝓤) (W : Kit.Given 𝓤 H A) (𝓣 : Wp.Tables 𝓤 H) (known0 : Plain.Known 𝓤 H A W 𝓣 1 ps·0 r·0 (claims· .0) (claims· .1)
             "begin::writing_begins") (known1 : Plain.Known 𝓤 H A W 𝓣 0 ps·1 r·1 (claims· .2) (claims· .3) "begin::samples_needed") (known2 : Plain.Known 𝓤 H A W 𝓣 0 ps·2 r·2 (claims· .4) (claims· .5)
-            "block::form_of") (known3 : Plain.Known 𝓤 H A W 𝓣 0 ps·3 r·3 (claims· .6) (claims· .7) "block::tight::line_count") (known4 : Plain.Known 𝓤 H A W 𝓣 4 ps·4 r·4 (claims· .8) (claims· .9)
+            "block::form_of") (known3 : Plain.Known 𝓤 H A W 𝓣 0 ps·3 r·3 (claims· .6) (claims· .7) "block::tight::line_count") (known4 : Plain.Known 𝓤 H A W 𝓣 5 ps·4 r·4 (claims· .8) (claims· .9)
             "block::writer::write_set") where
           pub spec : Statement.Triple 𝓤 (Wp.WpFn 𝓤 H (𝓣 .C) (𝓣 .Λ) (Function.fnOf 5 ps r xs m hs body)) (Function.plainOf 𝓤 H A 5 ps r Pre· Post·)
           spec = Plain.t-fn-plain 𝓤 H A W 𝓣 5 ps r xs m hs body (λ κs qs bs. Φ) (λ κs qs bs bd. typed κs qs 𝓤 H A W 𝓣 (known0, known1, known2, known3, known4) bs bd) Pre· Post· asked

@@ -95,6 +95,10 @@ abbrev pub After-write-set-arg3 : Type 0
 After-write-set-arg3 = Lts.After-write-set-arg3 (Reads'.Asked, Reads'.Learnt, Reads.Asked, Reads.Learnt, Reads''.Asked, Reads''.Learnt, Reads'3.Asked, Reads'3.Learnt, Reads'5.Asked, Reads'5.Learnt)
     Reads'4.Pre Reads'4.Post
 
+abbrev pub After-write-set-arg4 : Type 0
+After-write-set-arg4 = Lts.After-write-set-arg4 (Reads'.Asked, Reads'.Learnt, Reads.Asked, Reads.Learnt, Reads''.Asked, Reads''.Learnt, Reads'3.Asked, Reads'3.Learnt, Reads'5.Asked, Reads'5.Learnt)
+    Reads'4.Pre Reads'4.Post
+
 abbrev pub After-write-set : Type 0
 After-write-set = Lts.After-write-set (Reads'.Asked, Reads'.Learnt, Reads.Asked, Reads.Learnt, Reads''.Asked, Reads''.Learnt, Reads'3.Asked, Reads'3.Learnt, Reads'5.Asked, Reads'5.Learnt) Reads'4.Pre
     Reads'4.Post
@@ -165,6 +169,18 @@ abbrev pub Need-part-write-set-end-2 : Type 0
 Need-part-write-set-end-2 = Lts.Need-part-write-set-end-2
     (Reads'.Asked, Reads'.Learnt, Reads.Asked, Reads.Learnt, Reads''.Asked, Reads''.Learnt, Reads'3.Asked, Reads'3.Learnt, Reads'5.Asked, Reads'5.Learnt) Reads'4.Pre Reads'4.Post
 
+abbrev pub Need-sub-write-set-3 : Type 0
+Need-sub-write-set-3 = Lts.Need-sub-write-set-3 (Reads'.Asked, Reads'.Learnt, Reads.Asked, Reads.Learnt, Reads''.Asked, Reads''.Learnt, Reads'3.Asked, Reads'3.Learnt, Reads'5.Asked, Reads'5.Learnt)
+    Reads'4.Pre Reads'4.Post
+
+abbrev pub Need-part-write-set-start-3 : Type 0
+Need-part-write-set-start-3 = Lts.Need-part-write-set-start-3
+    (Reads'.Asked, Reads'.Learnt, Reads.Asked, Reads.Learnt, Reads''.Asked, Reads''.Learnt, Reads'3.Asked, Reads'3.Learnt, Reads'5.Asked, Reads'5.Learnt) Reads'4.Pre Reads'4.Post
+
+abbrev pub Need-part-write-set-end-3 : Type 0
+Need-part-write-set-end-3 = Lts.Need-part-write-set-end-3
+    (Reads'.Asked, Reads'.Learnt, Reads.Asked, Reads.Learnt, Reads''.Asked, Reads''.Learnt, Reads'3.Asked, Reads'3.Learnt, Reads'5.Asked, Reads'5.Learnt) Reads'4.Pre Reads'4.Post
+
 abbrev pub Need-write-set-requires : Type 0
 Need-write-set-requires = Lts.Need-write-set-requires
     (Reads'.Asked, Reads'.Learnt, Reads.Asked, Reads.Learnt, Reads''.Asked, Reads''.Learnt, Reads'3.Asked, Reads'3.Learnt, Reads'5.Asked, Reads'5.Learnt) Reads'4.Pre Reads'4.Post
@@ -192,12 +208,13 @@ Need-returns-2 = Lts.Need-returns-2 (Reads'.Asked, Reads'.Learnt, Reads.Asked, R
 module _ {M : Type 1} where
   pub spec : (answer : Need-writing-begins-requires) → (answer : Need-enum-known-begins) → (answer : Need-enum-known-begins-2) → (answer : Need-samples-needed-requires) → (answer :
       Need-form-of-requires) → (answer : Need-line-count-requires) → (answer : Need-sub-write-set) → (answer : Need-part-write-set-start) → (answer : Need-part-write-set-end) → (answer :
-      Need-sub-write-set-2) → (answer : Need-part-write-set-start-2) → (answer : Need-part-write-set-end-2) → (answer : Need-write-set-requires) → (answer : Need-returns) → (answer : Need-same-length) →
-      (answer : Need-same-length-2) → (answer : Need-same-length-3) → (answer : Need-returns-2) → Lts.Closed
-      (Reads'.Asked, Reads'.Learnt, Reads.Asked, Reads.Learnt, Reads''.Asked, Reads''.Learnt, Reads'3.Asked, Reads'3.Learnt, Reads'5.Asked, Reads'5.Learnt) Reads'4.Pre Reads'4.Post M
-  spec = λ answer answer' answer'' answer'3 answer'4 answer'5 answer'6 answer'7 answer'8 answer'9 answer'10 answer'11 answer'12 answer'13 answer'14 answer'15 answer'16 answer'17. Lts.spec
-      (Reads'.Asked, Reads'.Learnt, Reads.Asked, Reads.Learnt, Reads''.Asked, Reads''.Learnt, Reads'3.Asked, Reads'3.Learnt, Reads'5.Asked, Reads'5.Learnt) Reads'4.Pre Reads'4.Post answer answer' answer''
-      answer'3 answer'4 answer'5 answer'6 answer'7 answer'8 answer'9 answer'10 answer'11 answer'12 answer'13 answer'14 answer'15 answer'16 answer'17
+      Need-sub-write-set-2) → (answer : Need-part-write-set-start-2) → (answer : Need-part-write-set-end-2) → (answer : Need-sub-write-set-3) → (answer : Need-part-write-set-start-3) → (answer :
+      Need-part-write-set-end-3) → (answer : Need-write-set-requires) → (answer : Need-returns) → (answer : Need-same-length) → (answer : Need-same-length-2) → (answer : Need-same-length-3) → (answer :
+      Need-returns-2) → Lts.Closed (Reads'.Asked, Reads'.Learnt, Reads.Asked, Reads.Learnt, Reads''.Asked, Reads''.Learnt, Reads'3.Asked, Reads'3.Learnt, Reads'5.Asked, Reads'5.Learnt) Reads'4.Pre
+      Reads'4.Post M
+  spec = λ answer answer' answer'' answer'3 answer'4 answer'5 answer'6 answer'7 answer'8 answer'9 answer'10 answer'11 answer'12 answer'13 answer'14 answer'15 answer'16 answer'17 answer'18 answer'19
+      answer'20. Lts.spec (Reads'.Asked, Reads'.Learnt, Reads.Asked, Reads.Learnt, Reads''.Asked, Reads''.Learnt, Reads'3.Asked, Reads'3.Learnt, Reads'5.Asked, Reads'5.Learnt) Reads'4.Pre Reads'4.Post
+      answer answer' answer'' answer'3 answer'4 answer'5 answer'6 answer'7 answer'8 answer'9 answer'10 answer'11 answer'12 answer'13 answer'14 answer'15 answer'16 answer'17 answer'18 answer'19 answer'20
 
   pub close : Lts.Closed (Reads'.Asked, Reads'.Learnt, Reads.Asked, Reads.Learnt, Reads''.Asked, Reads''.Learnt, Reads'3.Asked, Reads'3.Learnt, Reads'5.Asked, Reads'5.Learnt) Reads'4.Pre Reads'4.Post
       M → Statement.statement M

@@ -92,7 +92,7 @@ abbrev pub y4 : Syntax.Ty
 y4 = Syntax.tyStruct (List._∷_ 98 (List._∷_ 108 (List._∷_ 111 (List._∷_ 99 (List._∷_ 107 (List._∷_ 58 (List._∷_ 58 (List._∷_ 70 (List._∷_ 111 (List._∷_ 114 (List._∷_ 109 List.[])))))))))))
     (Syntax.tcons (Syntax.tyInt Syntax.w32) (Syntax.tcons Syntax.tyBool Syntax.tnil))
 
-abbrev pub ps : List.List (Kinds.PK 4)
+abbrev pub ps : List.List (Kinds.PK 5)
 ps = List._∷_ (ShrSlice.pShrS (Referent.rtF (Referent.fInt Syntax.w16)) 0 tt) (List._∷_ (MutSlice.pMutS (Referent.rtF (Referent.fInt Syntax.w8)) 1 tt) (List._∷_ Bool.pBool (List._∷_ (MutSlice.pMutS
     (Referent.rtF (Referent.fInt Syntax.w16)) 2 tt) (List._∷_ (MutSlice.pMutS (Element.type) 3 tt) (List._∷_ (Value.pVal record {
       ty = Declared'.row Form.the-type;
@@ -111,9 +111,10 @@ ps = List._∷_ (ShrSlice.pShrS (Referent.rtF (Referent.fInt Syntax.w16)) 0 tt) 
       in-mem =
           Local.mem-whole 𝓤 H A W (Declared'.row Form.the-type);
       of-mem = Local.whole-mem 𝓤 H A W (Declared'.row Form.the-type);
-    }) (List._∷_ (Num.pNum Syntax.w64) List.[]))))))
+    }) (List._∷_ (ShrSlice.pShrS (Referent.rtF (Referent.fInt Syntax.w8)) 4 tt)
+    (List._∷_ (Num.pNum Syntax.w64) List.[])))))))
 
-abbrev pub r : Kinds.RK 4
+abbrev pub r : Kinds.RK 5
 r = Value.rVal record {
   ty = Declared.row BlockLength.the-type;
   one = Path'.refl;
@@ -173,7 +174,7 @@ xs = List._∷_ (Syntax.tyEnum (List._∷_ 119 (List._∷_ 114 (List._∷_ 105 (
 abbrev pub m : Nat.ℕ
 m = 7
 
-abbrev pub ps·0 : List.List (Kinds.PK 4)
+abbrev pub ps·0 : List.List (Kinds.PK 5)
 ps·0 = List._∷_ (ShrSlice.pShrS (Referent.rtF (Referent.fInt Syntax.w16)) 0 tt) (List._∷_ (MutSlice.pMutS (Referent.rtF (Referent.fInt Syntax.w8)) 1 tt) (List._∷_ Bool.pBool (List._∷_ (MutSlice.pMutS
     (Referent.rtF (Referent.fInt Syntax.w16)) 2 tt) (List._∷_ (MutSlice.pMutS (Element.type) 3 tt) (List._∷_ (Value.pVal record {
       ty = Declared'.row Form.the-type;
@@ -192,9 +193,10 @@ ps·0 = List._∷_ (ShrSlice.pShrS (Referent.rtF (Referent.fInt Syntax.w16)) 0 t
       in-mem =
           Local.mem-whole 𝓤 H A W (Declared'.row Form.the-type);
       of-mem = Local.whole-mem 𝓤 H A W (Declared'.row Form.the-type);
-    }) (List._∷_ (Num.pNum Syntax.w64) List.[]))))))
+    }) (List._∷_ (ShrSlice.pShrS (Referent.rtF (Referent.fInt Syntax.w8)) 4 tt)
+    (List._∷_ (Num.pNum Syntax.w64) List.[])))))))
 
-abbrev pub r·0 : Kinds.RK 4
+abbrev pub r·0 : Kinds.RK 5
 r·0 = Value.rVal record {
   ty = Declared.row Put.the-type;
   one = Path'.refl;
@@ -303,91 +305,91 @@ hs = List._∷_ Syntax.valueLocal (List._∷_ Syntax.valueLocal (List._∷_ Synt
     (List._∷_ Syntax.valueLocal (List._∷_ Syntax.valueLocal (List._∷_ Syntax.valueLocal (List._∷_ Syntax.valueLocal (List._∷_ Syntax.valueLocal (List._∷_ Syntax.valueLocal (List._∷_ Syntax.valueLocal
     (List._∷_ Syntax.valueLocal (List._∷_ Syntax.valueLocal (List._∷_ Syntax.valueLocal (List._∷_ Syntax.valueLocal (List._∷_ Syntax.valueLocal (List._∷_ Syntax.valueLocal (List._∷_ Syntax.valueLocal
     (List._∷_ Syntax.valueLocal (List._∷_ Syntax.valueLocal (List._∷_ Syntax.valueLocal (List._∷_ Syntax.valueLocal (List._∷_ Syntax.valueLocal (List._∷_ Syntax.valueLocal (List._∷_ Syntax.valueLocal
-    (List._∷_ Syntax.valueLocal (List._∷_ Syntax.valueLocal (List._∷_ Syntax.valueLocal List.[]))))))))))))))))))))))))))))))
+    (List._∷_ Syntax.valueLocal (List._∷_ Syntax.valueLocal (List._∷_ Syntax.valueLocal (List._∷_ Syntax.valueLocal List.[])))))))))))))))))))))))))))))))
 
 abbrev b0 : Syntax.Body
-b0 = Syntax.assign (Syntax.place 12 List.[]) (Syntax.addrOf (Syntax.place 2 (List._∷_ (Syntax.field 0) (List._∷_ (Syntax.deref (Syntax.tyInt Syntax.w8)) List.[]))))
+b0 = Syntax.assign (Syntax.place 13 List.[]) (Syntax.addrOf (Syntax.place 2 (List._∷_ (Syntax.field 0) (List._∷_ (Syntax.deref (Syntax.tyInt Syntax.w8)) List.[]))))
 
 abbrev b1 : Syntax.Body
-b1 = Syntax.assign (Syntax.place 13 List.[]) (Syntax.aggregate (List._∷_ (Syntax.copy (Syntax.place 12 List.[])) (List._∷_ (Syntax.copy (Syntax.place 2 (List._∷_ (Syntax.field 1) List.[]))) List.[])))
+b1 = Syntax.assign (Syntax.place 14 List.[]) (Syntax.aggregate (List._∷_ (Syntax.copy (Syntax.place 13 List.[])) (List._∷_ (Syntax.copy (Syntax.place 2 (List._∷_ (Syntax.field 1) List.[]))) List.[])))
 
 abbrev b2 : Syntax.Body
-b2 = Syntax.assign (Syntax.place 14 List.[]) (Syntax.addrOf (Syntax.place 4 (List._∷_ (Syntax.field 0) (List._∷_ (Syntax.deref (Syntax.tyInt Syntax.w16)) List.[]))))
+b2 = Syntax.assign (Syntax.place 15 List.[]) (Syntax.addrOf (Syntax.place 4 (List._∷_ (Syntax.field 0) (List._∷_ (Syntax.deref (Syntax.tyInt Syntax.w16)) List.[]))))
 
 abbrev b3 : Syntax.Body
-b3 = Syntax.assign (Syntax.place 15 List.[]) (Syntax.aggregate (List._∷_ (Syntax.copy (Syntax.place 14 List.[])) (List._∷_ (Syntax.copy (Syntax.place 4 (List._∷_ (Syntax.field 1) List.[]))) List.[])))
+b3 = Syntax.assign (Syntax.place 16 List.[]) (Syntax.aggregate (List._∷_ (Syntax.copy (Syntax.place 15 List.[])) (List._∷_ (Syntax.copy (Syntax.place 4 (List._∷_ (Syntax.field 1) List.[]))) List.[])))
 
 abbrev b4 : Syntax.Body
-b4 = Syntax.assign (Syntax.place 16 List.[]) (Syntax.addrOf (Syntax.place 5 (List._∷_ (Syntax.field 0) (List._∷_ (Syntax.deref (Element.held)) List.[]))))
+b4 = Syntax.assign (Syntax.place 17 List.[]) (Syntax.addrOf (Syntax.place 5 (List._∷_ (Syntax.field 0) (List._∷_ (Syntax.deref (Element.held)) List.[]))))
 
 abbrev b5 : Syntax.Body
-b5 = Syntax.assign (Syntax.place 17 List.[]) (Syntax.aggregate (List._∷_ (Syntax.copy (Syntax.place 16 List.[])) (List._∷_ (Syntax.copy (Syntax.place 5 (List._∷_ (Syntax.field 1) List.[]))) List.[])))
+b5 = Syntax.assign (Syntax.place 18 List.[]) (Syntax.aggregate (List._∷_ (Syntax.copy (Syntax.place 17 List.[])) (List._∷_ (Syntax.copy (Syntax.place 5 (List._∷_ (Syntax.field 1) List.[]))) List.[])))
 
 abbrev b6 : Syntax.Body
-b6 = Syntax.call "block::writer::write_walk" (List._∷_ (Syntax.copy (Syntax.place 1 List.[])) (List._∷_ (Syntax.copy (Syntax.place 13 List.[])) (List._∷_ Syntax.opdFalse (List._∷_ (Syntax.copy
-    (Syntax.place 15 List.[])) (List._∷_ (Syntax.copy (Syntax.place 17 List.[])) (List._∷_ (Syntax.copy (Syntax.place 6 List.[])) (List._∷_ (Syntax.copy (Syntax.place 7 List.[])) List.[])))))))
-    (Syntax.place 8 List.[])
+b6 = Syntax.call "block::writer::write_walk" (List._∷_ (Syntax.copy (Syntax.place 1 List.[])) (List._∷_ (Syntax.copy (Syntax.place 14 List.[])) (List._∷_ Syntax.opdFalse (List._∷_ (Syntax.copy
+    (Syntax.place 16 List.[])) (List._∷_ (Syntax.copy (Syntax.place 18 List.[])) (List._∷_ (Syntax.copy (Syntax.place 6 List.[])) (List._∷_ (Syntax.copy (Syntax.place 7 List.[])) (List._∷_ (Syntax.copy
+    (Syntax.place 8 List.[])) List.[])))))))) (Syntax.place 9 List.[])
 
 abbrev b7 : Syntax.Body
-b7 = Syntax.assign (Syntax.place 18 List.[]) (Syntax.rvOpd (Syntax.copy (Syntax.place 2 (List._∷_ (Syntax.field 1) List.[]))))
+b7 = Syntax.assign (Syntax.place 19 List.[]) (Syntax.rvOpd (Syntax.copy (Syntax.place 2 (List._∷_ (Syntax.field 1) List.[]))))
 
 abbrev b8 : Syntax.Body
-b8 = Syntax.call "begin::after_counting" (List._∷_ (Syntax.copy (Syntax.place 8 List.[])) (List._∷_ (Syntax.copy (Syntax.place 3 List.[])) (List._∷_ (Syntax.copy (Syntax.place 18 List.[])) List.[])))
-    (Syntax.place 9 List.[])
+b8 = Syntax.call "begin::after_counting" (List._∷_ (Syntax.copy (Syntax.place 9 List.[])) (List._∷_ (Syntax.copy (Syntax.place 3 List.[])) (List._∷_ (Syntax.copy (Syntax.place 19 List.[])) List.[])))
+    (Syntax.place 10 List.[])
 
 abbrev b9 : Syntax.Body
-b9 = Syntax.assign (Syntax.place 10 List.[]) (Syntax.rvOpd (Syntax.copy (Syntax.place 9 (List._∷_ (Syntax.variant 0) (List._∷_ (Syntax.field 1) List.[])))))
+b9 = Syntax.assign (Syntax.place 11 List.[]) (Syntax.rvOpd (Syntax.copy (Syntax.place 10 (List._∷_ (Syntax.variant 0) (List._∷_ (Syntax.field 1) List.[])))))
 
 abbrev b10 : Syntax.Body
-b10 = Syntax.assign (Syntax.place 19 List.[]) (Syntax.rvOpd (Syntax.copy (Syntax.place 10 List.[])))
+b10 = Syntax.assign (Syntax.place 20 List.[]) (Syntax.rvOpd (Syntax.copy (Syntax.place 11 List.[])))
 
 abbrev b11 : Syntax.Body
 b11 = Syntax.seq b9 b10
 
 abbrev b12 : Syntax.Body
-b12 = Syntax.assign (Syntax.place 11 List.[]) (Syntax.rvOpd (Syntax.copy (Syntax.place 9 (List._∷_ (Syntax.variant 1) (List._∷_ (Syntax.field 1) List.[])))))
+b12 = Syntax.assign (Syntax.place 12 List.[]) (Syntax.rvOpd (Syntax.copy (Syntax.place 10 (List._∷_ (Syntax.variant 1) (List._∷_ (Syntax.field 1) List.[])))))
 
 abbrev b13 : Syntax.Body
-b13 = Syntax.assign (Syntax.place 21 List.[]) (Syntax.addrOf (Syntax.place 2 (List._∷_ (Syntax.field 0) (List._∷_ (Syntax.deref (Syntax.tyInt Syntax.w8)) List.[]))))
+b13 = Syntax.assign (Syntax.place 22 List.[]) (Syntax.addrOf (Syntax.place 2 (List._∷_ (Syntax.field 0) (List._∷_ (Syntax.deref (Syntax.tyInt Syntax.w8)) List.[]))))
 
 abbrev b14 : Syntax.Body
-b14 = Syntax.assign (Syntax.place 22 List.[]) (Syntax.aggregate (List._∷_ (Syntax.copy (Syntax.place 21 List.[])) (List._∷_ (Syntax.copy (Syntax.place 2 (List._∷_ (Syntax.field 1) List.[])))
+b14 = Syntax.assign (Syntax.place 23 List.[]) (Syntax.aggregate (List._∷_ (Syntax.copy (Syntax.place 22 List.[])) (List._∷_ (Syntax.copy (Syntax.place 2 (List._∷_ (Syntax.field 1) List.[])))
     List.[])))
 
 abbrev b15 : Syntax.Body
-b15 = Syntax.assign (Syntax.place 23 List.[]) (Syntax.addrOf (Syntax.place 4 (List._∷_ (Syntax.field 0) (List._∷_ (Syntax.deref (Syntax.tyInt Syntax.w16)) List.[]))))
+b15 = Syntax.assign (Syntax.place 24 List.[]) (Syntax.addrOf (Syntax.place 4 (List._∷_ (Syntax.field 0) (List._∷_ (Syntax.deref (Syntax.tyInt Syntax.w16)) List.[]))))
 
 abbrev b16 : Syntax.Body
-b16 = Syntax.assign (Syntax.place 24 List.[]) (Syntax.aggregate (List._∷_ (Syntax.copy (Syntax.place 23 List.[])) (List._∷_ (Syntax.copy (Syntax.place 4 (List._∷_ (Syntax.field 1) List.[])))
+b16 = Syntax.assign (Syntax.place 25 List.[]) (Syntax.aggregate (List._∷_ (Syntax.copy (Syntax.place 24 List.[])) (List._∷_ (Syntax.copy (Syntax.place 4 (List._∷_ (Syntax.field 1) List.[])))
     List.[])))
 
 abbrev b17 : Syntax.Body
-b17 = Syntax.assign (Syntax.place 25 List.[]) (Syntax.addrOf (Syntax.place 5 (List._∷_ (Syntax.field 0) (List._∷_ (Syntax.deref (Element.held)) List.[]))))
+b17 = Syntax.assign (Syntax.place 26 List.[]) (Syntax.addrOf (Syntax.place 5 (List._∷_ (Syntax.field 0) (List._∷_ (Syntax.deref (Element.held)) List.[]))))
 
 abbrev b18 : Syntax.Body
-b18 = Syntax.assign (Syntax.place 26 List.[]) (Syntax.aggregate (List._∷_ (Syntax.copy (Syntax.place 25 List.[])) (List._∷_ (Syntax.copy (Syntax.place 5 (List._∷_ (Syntax.field 1) List.[])))
+b18 = Syntax.assign (Syntax.place 27 List.[]) (Syntax.aggregate (List._∷_ (Syntax.copy (Syntax.place 26 List.[])) (List._∷_ (Syntax.copy (Syntax.place 5 (List._∷_ (Syntax.field 1) List.[])))
     List.[])))
 
 abbrev b19 : Syntax.Body
-b19 = Syntax.call "block::writer::write_walk" (List._∷_ (Syntax.copy (Syntax.place 1 List.[])) (List._∷_ (Syntax.copy (Syntax.place 22 List.[])) (List._∷_ Syntax.opdTrue (List._∷_ (Syntax.copy
-    (Syntax.place 24 List.[])) (List._∷_ (Syntax.copy (Syntax.place 26 List.[])) (List._∷_ (Syntax.copy (Syntax.place 6 List.[])) (List._∷_ (Syntax.copy (Syntax.place 7 List.[])) List.[])))))))
-    (Syntax.place 20 List.[])
+b19 = Syntax.call "block::writer::write_walk" (List._∷_ (Syntax.copy (Syntax.place 1 List.[])) (List._∷_ (Syntax.copy (Syntax.place 23 List.[])) (List._∷_ Syntax.opdTrue (List._∷_ (Syntax.copy
+    (Syntax.place 25 List.[])) (List._∷_ (Syntax.copy (Syntax.place 27 List.[])) (List._∷_ (Syntax.copy (Syntax.place 6 List.[])) (List._∷_ (Syntax.copy (Syntax.place 7 List.[])) (List._∷_ (Syntax.copy
+    (Syntax.place 8 List.[])) List.[])))))))) (Syntax.place 21 List.[])
 
 abbrev b20 : Syntax.Body
-b20 = Syntax.assign (Syntax.place 28 List.[]) (Syntax.addrOf (Syntax.place 2 (List._∷_ (Syntax.field 0) (List._∷_ (Syntax.deref (Syntax.tyInt Syntax.w8)) List.[]))))
+b20 = Syntax.assign (Syntax.place 29 List.[]) (Syntax.addrOf (Syntax.place 2 (List._∷_ (Syntax.field 0) (List._∷_ (Syntax.deref (Syntax.tyInt Syntax.w8)) List.[]))))
 
 abbrev b21 : Syntax.Body
-b21 = Syntax.assign (Syntax.place 29 List.[]) (Syntax.aggregate (List._∷_ (Syntax.copy (Syntax.place 28 List.[])) (List._∷_ (Syntax.copy (Syntax.place 2 (List._∷_ (Syntax.field 1) List.[])))
+b21 = Syntax.assign (Syntax.place 30 List.[]) (Syntax.aggregate (List._∷_ (Syntax.copy (Syntax.place 29 List.[])) (List._∷_ (Syntax.copy (Syntax.place 2 (List._∷_ (Syntax.field 1) List.[])))
     List.[])))
 
 abbrev b22 : Syntax.Body
-b22 = Syntax.call "bits::fill_tail" (List._∷_ (Syntax.copy (Syntax.place 29 List.[])) (List._∷_ (Syntax.copy (Syntax.place 11 List.[])) List.[])) (Syntax.place 27 List.[])
+b22 = Syntax.call "bits::fill_tail" (List._∷_ (Syntax.copy (Syntax.place 30 List.[])) (List._∷_ (Syntax.copy (Syntax.place 12 List.[])) List.[])) (Syntax.place 28 List.[])
 
 abbrev b23 : Syntax.Body
-b23 = Syntax.call "begin::block_bytes" (List._∷_ (Syntax.copy (Syntax.place 11 List.[])) List.[]) (Syntax.place 30 List.[])
+b23 = Syntax.call "begin::block_bytes" (List._∷_ (Syntax.copy (Syntax.place 12 List.[])) List.[]) (Syntax.place 31 List.[])
 
 abbrev b24 : Syntax.Body
-b24 = Syntax.assign (Syntax.place 19 List.[]) (Syntax.aggregate (List._∷_ (Syntax.int Syntax.w8 0) (List._∷_ (Syntax.copy (Syntax.place 30 List.[])) List.[])))
+b24 = Syntax.assign (Syntax.place 20 List.[]) (Syntax.aggregate (List._∷_ (Syntax.int Syntax.w8 0) (List._∷_ (Syntax.copy (Syntax.place 31 List.[])) List.[])))
 
 abbrev b25 : Syntax.Body
 b25 = Syntax.seq b23 b24
@@ -426,11 +428,11 @@ abbrev b36 : Syntax.Body
 b36 = Syntax.seq b12 b35
 
 abbrev b37 : Syntax.Body
-b37 = Syntax.switch (Syntax.copy (Syntax.place 9 (List._∷_ (Syntax.variant 0) (List._∷_ (Syntax.field 0) List.[])))) (Syntax.arm (List._∷_ 0 List.[]) b11 (Syntax.arm (List._∷_ 1 List.[]) b36
+b37 = Syntax.switch (Syntax.copy (Syntax.place 10 (List._∷_ (Syntax.variant 0) (List._∷_ (Syntax.field 0) List.[])))) (Syntax.arm (List._∷_ 0 List.[]) b11 (Syntax.arm (List._∷_ 1 List.[]) b36
     Syntax.noDefault))
 
 abbrev b38 : Syntax.Body
-b38 = Syntax.assign (Syntax.place 0 List.[]) (Syntax.rvOpd (Syntax.copy (Syntax.place 19 List.[])))
+b38 = Syntax.assign (Syntax.place 0 List.[]) (Syntax.rvOpd (Syntax.copy (Syntax.place 20 List.[])))
 
 abbrev b39 : Syntax.Body
 b39 = Syntax.return
@@ -472,7 +474,7 @@ abbrev pub body : Syntax.Body
 body = b50
 
 abbrev pub Claims : Type 1
-Claims = Kinds.In 4 ps·0 × Kinds.Out 4 ps·0 r·0 × Kinds.In 0 ps·1 × Kinds.Out 0 ps·1 r·1 × Kinds.In 1 ps·2 × Kinds.Out 1 ps·2 r·2 × Kinds.In 0 ps·3 × Kinds.Out 0 ps·3 r·3
+Claims = Kinds.In 5 ps·0 × Kinds.Out 5 ps·0 r·0 × Kinds.In 0 ps·1 × Kinds.Out 0 ps·1 r·1 × Kinds.In 1 ps·2 × Kinds.Out 1 ps·2 r·2 × Kinds.In 0 ps·3 × Kinds.Out 0 ps·3 r·3
 
 abbrev pub e0 : Row.Entry
 e0 = (
@@ -497,195 +499,6 @@ e2 = (1, Rows.sslice (Referent.rtF (Referent.fInt Syntax.w16)) (Syntax.tyRef (Sy
 abbrev pub e3 : Row.Entry
 e3 = (
   10,
-  Rows.any-gone (Syntax.tyEnum (List._∷_ 115 (List._∷_ 116 (List._∷_ 114 (List._∷_ 101 (List._∷_ 97 (List._∷_ 109 (List._∷_ 58 (List._∷_ 58 (List._∷_ 66 (List._∷_ 108 (List._∷_ 111 (List._∷_ 99
-      (List._∷_ 107 (List._∷_ 76 (List._∷_ 101 (List._∷_ 110 (List._∷_ 103 (List._∷_ 116 (List._∷_ 104 List.[]))))))))))))))))))) (Syntax.ttcons (Syntax.tcons (Syntax.tyInt Syntax.w64) Syntax.tnil)
-      (Syntax.ttcons (Syntax.tcons (Syntax.tyEnum (List._∷_ 115 (List._∷_ 116 (List._∷_ 114 (List._∷_ 101 (List._∷_ 97 (List._∷_ 109 (List._∷_ 58 (List._∷_ 58 (List._∷_ 82 (List._∷_ 101 (List._∷_ 102
-      (List._∷_ 117 (List._∷_ 115 (List._∷_ 97 (List._∷_ 108 List.[]))))))))))))))) (Syntax.ttcons Syntax.tnil (Syntax.ttcons Syntax.tnil (Syntax.ttcons Syntax.tnil (Syntax.ttcons (Syntax.tcons
-      (Syntax.tyInt Syntax.w64) Syntax.tnil) (Syntax.ttcons Syntax.tnil (Syntax.ttcons Syntax.tnil (Syntax.ttcons Syntax.tnil (Syntax.ttcons Syntax.tnil (Syntax.ttcons Syntax.tnil (Syntax.ttcons Syntax.tnil
-      (Syntax.ttcons (Syntax.tcons (Syntax.tyInt Syntax.w64) Syntax.tnil) (Syntax.ttcons (Syntax.tcons (Syntax.tyInt Syntax.w64) Syntax.tnil) (Syntax.ttcons Syntax.tnil (Syntax.ttcons (Syntax.tcons
-      (Syntax.tyInt Syntax.w64) (Syntax.tcons (Syntax.tyInt Syntax.w64) Syntax.tnil)) (Syntax.ttcons (Syntax.tcons (Syntax.tyInt Syntax.w64) Syntax.tnil) (Syntax.ttcons Syntax.tnil (Syntax.ttcons
-      Syntax.tnil (Syntax.ttcons (Syntax.tcons (Syntax.tyInt Syntax.w64) Syntax.tnil) (Syntax.ttcons (Syntax.tcons (Syntax.tyInt Syntax.w64) Syntax.tnil) (Syntax.ttcons (Syntax.tcons (Syntax.tyInt
-      Syntax.w64) Syntax.tnil) (Syntax.ttcons Syntax.tnil Syntax.ttnil)))))))))))))))))))))) Syntax.tnil) Syntax.ttnil))),
-)
-
-abbrev pub e4 : Row.Entry
-e4 = (10, Rows.whole (Declared.row BlockLength.the-type))
-
-abbrev pub e5 : Row.Entry
-e5 = (11, Rows.any-gone y3)
-
-abbrev pub e6 : Row.Entry
-e6 = (11, Rows.whole (Declared'.row BitPosition.the-type))
-
-abbrev pub e7 : Row.Entry
-e7 = (12, Relend.msptr (Referent.rtF (Referent.fInt Syntax.w8)) (Syntax.tyRef Syntax.erased Syntax.mut (Syntax.tyInt Syntax.w8)) 4)
-
-abbrev pub e8 : Row.Entry
-e8 = (12, Rows.any-gone (Syntax.tyRef Syntax.erased Syntax.mut (Syntax.tyInt Syntax.w8)))
-
-abbrev pub e9 : Row.Entry
-e9 = (13, Mut.msleft (Referent.rtF (Referent.fInt Syntax.w8)) (Syntax.tyRef Syntax.erased Syntax.mut (Syntax.tyInt Syntax.w8)))
-
-abbrev pub e10 : Row.Entry
-e10 = (13, Mut.mslice (Referent.rtF (Referent.fInt Syntax.w8)) (Syntax.tyRef Syntax.erased Syntax.mut (Syntax.tyInt Syntax.w8)) 4)
-
-abbrev pub e11 : Row.Entry
-e11 = (13, Rows.any-gone y1)
-
-abbrev pub e12 : Row.Entry
-e12 = (14, Relend.msptr (Referent.rtF (Referent.fInt Syntax.w16)) (Syntax.tyRef Syntax.erased Syntax.mut (Syntax.tyInt Syntax.w16)) 5)
-
-abbrev pub e13 : Row.Entry
-e13 = (14, Rows.any-gone (Syntax.tyRef Syntax.erased Syntax.mut (Syntax.tyInt Syntax.w16)))
-
-abbrev pub e14 : Row.Entry
-e14 = (15, Mut.msleft (Referent.rtF (Referent.fInt Syntax.w16)) (Syntax.tyRef Syntax.erased Syntax.mut (Syntax.tyInt Syntax.w16)))
-
-abbrev pub e15 : Row.Entry
-e15 = (15, Mut.mslice (Referent.rtF (Referent.fInt Syntax.w16)) (Syntax.tyRef Syntax.erased Syntax.mut (Syntax.tyInt Syntax.w16)) 5)
-
-abbrev pub e16 : Row.Entry
-e16 = (15, Rows.any-gone y0)
-
-abbrev pub e17 : Row.Entry
-e17 = (16, Rows.any-gone (Syntax.tyRef Syntax.erased Syntax.mut Element.behind))
-
-abbrev pub e18 : Row.Entry
-e18 = (17, Rows.any-gone y2)
-
-abbrev pub e19 : Row.Entry
-e19 = (18, Rows.any-gone (Syntax.tyInt Syntax.w64))
-
-abbrev pub e20 : Row.Entry
-e20 = (
-  19,
-  Rows.any-gone (Syntax.tyEnum (List._∷_ 115 (List._∷_ 116 (List._∷_ 114 (List._∷_ 101 (List._∷_ 97 (List._∷_ 109 (List._∷_ 58 (List._∷_ 58 (List._∷_ 66 (List._∷_ 108 (List._∷_ 111 (List._∷_ 99
-      (List._∷_ 107 (List._∷_ 76 (List._∷_ 101 (List._∷_ 110 (List._∷_ 103 (List._∷_ 116 (List._∷_ 104 List.[]))))))))))))))))))) (Syntax.ttcons (Syntax.tcons (Syntax.tyInt Syntax.w64) Syntax.tnil)
-      (Syntax.ttcons (Syntax.tcons (Syntax.tyEnum (List._∷_ 115 (List._∷_ 116 (List._∷_ 114 (List._∷_ 101 (List._∷_ 97 (List._∷_ 109 (List._∷_ 58 (List._∷_ 58 (List._∷_ 82 (List._∷_ 101 (List._∷_ 102
-      (List._∷_ 117 (List._∷_ 115 (List._∷_ 97 (List._∷_ 108 List.[]))))))))))))))) (Syntax.ttcons Syntax.tnil (Syntax.ttcons Syntax.tnil (Syntax.ttcons Syntax.tnil (Syntax.ttcons (Syntax.tcons
-      (Syntax.tyInt Syntax.w64) Syntax.tnil) (Syntax.ttcons Syntax.tnil (Syntax.ttcons Syntax.tnil (Syntax.ttcons Syntax.tnil (Syntax.ttcons Syntax.tnil (Syntax.ttcons Syntax.tnil (Syntax.ttcons Syntax.tnil
-      (Syntax.ttcons (Syntax.tcons (Syntax.tyInt Syntax.w64) Syntax.tnil) (Syntax.ttcons (Syntax.tcons (Syntax.tyInt Syntax.w64) Syntax.tnil) (Syntax.ttcons Syntax.tnil (Syntax.ttcons (Syntax.tcons
-      (Syntax.tyInt Syntax.w64) (Syntax.tcons (Syntax.tyInt Syntax.w64) Syntax.tnil)) (Syntax.ttcons (Syntax.tcons (Syntax.tyInt Syntax.w64) Syntax.tnil) (Syntax.ttcons Syntax.tnil (Syntax.ttcons
-      Syntax.tnil (Syntax.ttcons (Syntax.tcons (Syntax.tyInt Syntax.w64) Syntax.tnil) (Syntax.ttcons (Syntax.tcons (Syntax.tyInt Syntax.w64) Syntax.tnil) (Syntax.ttcons (Syntax.tcons (Syntax.tyInt
-      Syntax.w64) Syntax.tnil) (Syntax.ttcons Syntax.tnil Syntax.ttnil)))))))))))))))))))))) Syntax.tnil) Syntax.ttnil))),
-)
-
-abbrev pub e21 : Row.Entry
-e21 = (19, Rows.whole (Declared.row BlockLength.the-type))
-
-abbrev pub e22 : Row.Entry
-e22 = (2, Mut.mslice (Referent.rtF (Referent.fInt Syntax.w8)) (Syntax.tyRef (Syntax.named 1) Syntax.mut (Syntax.tyInt Syntax.w8)) 1)
-
-abbrev pub e23 : Row.Entry
-e23 = (2, Relend.mslice-owed (Referent.rtF (Referent.fInt Syntax.w8)) (Syntax.tyRef (Syntax.named 1) Syntax.mut (Syntax.tyInt Syntax.w8)) 1 4 Row.off)
-
-abbrev pub e24 : Row.Entry
-e24 = (2, Relend.mslice-owed (Referent.rtF (Referent.fInt Syntax.w8)) (Syntax.tyRef (Syntax.named 1) Syntax.mut (Syntax.tyInt Syntax.w8)) 1 7 Row.off)
-
-abbrev pub e25 : Row.Entry
-e25 = (
-  20,
-  Rows.any-gone (Syntax.tyEnum (List._∷_ 119 (List._∷_ 114 (List._∷_ 105 (List._∷_ 116 (List._∷_ 105 (List._∷_ 110 (List._∷_ 103 (List._∷_ 58 (List._∷_ 58 (List._∷_ 80 (List._∷_ 117 (List._∷_ 116
-      List.[])))))))))))) (Syntax.ttcons (Syntax.tcons y3 Syntax.tnil) (Syntax.ttcons (Syntax.tcons (Syntax.tyInt Syntax.w64) Syntax.tnil) Syntax.ttnil))),
-)
-
-abbrev pub e26 : Row.Entry
-e26 = (21, Rows.any-gone (Syntax.tyRef Syntax.erased Syntax.mut (Syntax.tyInt Syntax.w8)))
-
-abbrev pub e27 : Row.Entry
-e27 = (22, Mut.msleft (Referent.rtF (Referent.fInt Syntax.w8)) (Syntax.tyRef Syntax.erased Syntax.mut (Syntax.tyInt Syntax.w8)))
-
-abbrev pub e28 : Row.Entry
-e28 = (22, Mut.mslice (Referent.rtF (Referent.fInt Syntax.w8)) (Syntax.tyRef Syntax.erased Syntax.mut (Syntax.tyInt Syntax.w8)) 7)
-
-abbrev pub e29 : Row.Entry
-e29 = (22, Rows.any-gone y1)
-
-abbrev pub e30 : Row.Entry
-e30 = (23, Rows.any-gone (Syntax.tyRef Syntax.erased Syntax.mut (Syntax.tyInt Syntax.w16)))
-
-abbrev pub e31 : Row.Entry
-e31 = (24, Mut.msleft (Referent.rtF (Referent.fInt Syntax.w16)) (Syntax.tyRef Syntax.erased Syntax.mut (Syntax.tyInt Syntax.w16)))
-
-abbrev pub e32 : Row.Entry
-e32 = (24, Mut.mslice (Referent.rtF (Referent.fInt Syntax.w16)) (Syntax.tyRef Syntax.erased Syntax.mut (Syntax.tyInt Syntax.w16)) 8)
-
-abbrev pub e33 : Row.Entry
-e33 = (24, Rows.any-gone y0)
-
-abbrev pub e34 : Row.Entry
-e34 = (25, Rows.any-gone (Syntax.tyRef Syntax.erased Syntax.mut Element.behind))
-
-abbrev pub e35 : Row.Entry
-e35 = (26, Mut.msleft (Element.type) (Syntax.tyRef Syntax.erased Syntax.mut Element.behind))
-
-abbrev pub e36 : Row.Entry
-e36 = (26, Rows.any-gone y2)
-
-abbrev pub e37 : Row.Entry
-e37 = (27, Rows.any-gone Syntax.tyUnit)
-
-abbrev pub e38 : Row.Entry
-e38 = (28, Rows.any-gone (Syntax.tyRef Syntax.erased Syntax.mut (Syntax.tyInt Syntax.w8)))
-
-abbrev pub e39 : Row.Entry
-e39 = (29, Mut.msleft (Referent.rtF (Referent.fInt Syntax.w8)) (Syntax.tyRef Syntax.erased Syntax.mut (Syntax.tyInt Syntax.w8)))
-
-abbrev pub e40 : Row.Entry
-e40 = (29, Rows.any-gone y1)
-
-abbrev pub e41 : Row.Entry
-e41 = (3, Rows.any-gone Syntax.tyBool)
-
-abbrev pub e42 : Row.Entry
-e42 = (3, Rows.sc-here Row.sBool)
-
-abbrev pub e43 : Row.Entry
-e43 = (30, Rows.any-gone (Syntax.tyInt Syntax.w64))
-
-abbrev pub e44 : Row.Entry
-e44 = (30, Rows.sc-here (Row.sInt Syntax.w64))
-
-abbrev pub e45 : Row.Entry
-e45 = (4, Mut.mslice (Referent.rtF (Referent.fInt Syntax.w16)) (Syntax.tyRef (Syntax.named 2) Syntax.mut (Syntax.tyInt Syntax.w16)) 2)
-
-abbrev pub e46 : Row.Entry
-e46 = (4, Relend.mslice-owed (Referent.rtF (Referent.fInt Syntax.w16)) (Syntax.tyRef (Syntax.named 2) Syntax.mut (Syntax.tyInt Syntax.w16)) 2 5 Row.off)
-
-abbrev pub e47 : Row.Entry
-e47 = (4, Relend.mslice-owed (Referent.rtF (Referent.fInt Syntax.w16)) (Syntax.tyRef (Syntax.named 2) Syntax.mut (Syntax.tyInt Syntax.w16)) 2 8 Row.off)
-
-abbrev pub e48 : Row.Entry
-e48 = (5, Mut.mslice (Element.type) (Syntax.tyRef (Syntax.named 3) Syntax.mut Element.behind) 3)
-
-abbrev pub e49 : Row.Entry
-e49 = (5, Relend.mslice-owed (Element.type) (Syntax.tyRef (Syntax.named 3) Syntax.mut Element.behind) 3 6 Row.off)
-
-abbrev pub e50 : Row.Entry
-e50 = (5, Relend.mslice-owed (Element.type) (Syntax.tyRef (Syntax.named 3) Syntax.mut Element.behind) 3 9 Row.off)
-
-abbrev pub e51 : Row.Entry
-e51 = (6, Rows.any-gone y4)
-
-abbrev pub e52 : Row.Entry
-e52 = (6, Rows.whole (Declared'.row Form.the-type))
-
-abbrev pub e53 : Row.Entry
-e53 = (7, Rows.sc-here (Row.sInt Syntax.w64))
-
-abbrev pub e54 : Row.Entry
-e54 = (
-  8,
-  Rows.any-gone (Syntax.tyEnum (List._∷_ 119 (List._∷_ 114 (List._∷_ 105 (List._∷_ 116 (List._∷_ 105 (List._∷_ 110 (List._∷_ 103 (List._∷_ 58 (List._∷_ 58 (List._∷_ 80 (List._∷_ 117 (List._∷_ 116
-      List.[])))))))))))) (Syntax.ttcons (Syntax.tcons y3 Syntax.tnil) (Syntax.ttcons (Syntax.tcons (Syntax.tyInt Syntax.w64) Syntax.tnil) Syntax.ttnil))),
-)
-
-abbrev pub e55 : Row.Entry
-e55 = (8, Rows.whole (Declared.row Put.the-type))
-
-abbrev pub e56 : Row.Entry
-e56 = (
-  9,
   Rows.any-gone (Syntax.tyEnum (List._∷_ 98 (List._∷_ 101 (List._∷_ 103 (List._∷_ 105 (List._∷_ 110 (List._∷_ 58 (List._∷_ 58 (List._∷_ 78 (List._∷_ 101 (List._∷_ 120 (List._∷_ 116
       List.[]))))))))))) (Syntax.ttcons (Syntax.tcons (Syntax.tyEnum (List._∷_ 115 (List._∷_ 116 (List._∷_ 114 (List._∷_ 101 (List._∷_ 97 (List._∷_ 109 (List._∷_ 58 (List._∷_ 58 (List._∷_ 66 (List._∷_ 108
       (List._∷_ 111 (List._∷_ 99 (List._∷_ 107 (List._∷_ 76 (List._∷_ 101 (List._∷_ 110 (List._∷_ 103 (List._∷_ 116 (List._∷_ 104 List.[]))))))))))))))))))) (Syntax.ttcons (Syntax.tcons (Syntax.tyInt
@@ -699,228 +512,428 @@ e56 = (
       Syntax.tnil) Syntax.ttnil))),
 )
 
+abbrev pub e4 : Row.Entry
+e4 = (10, Rows.whole (Declared.row Next.the-type))
+
+abbrev pub e5 : Row.Entry
+e5 = (10, Rows.whole (Known.Known Next.enum 0))
+
+abbrev pub e6 : Row.Entry
+e6 = (10, Rows.whole (Known.Known Next.enum 1))
+
+abbrev pub e7 : Row.Entry
+e7 = (
+  11,
+  Rows.any-gone (Syntax.tyEnum (List._∷_ 115 (List._∷_ 116 (List._∷_ 114 (List._∷_ 101 (List._∷_ 97 (List._∷_ 109 (List._∷_ 58 (List._∷_ 58 (List._∷_ 66 (List._∷_ 108 (List._∷_ 111 (List._∷_ 99
+      (List._∷_ 107 (List._∷_ 76 (List._∷_ 101 (List._∷_ 110 (List._∷_ 103 (List._∷_ 116 (List._∷_ 104 List.[]))))))))))))))))))) (Syntax.ttcons (Syntax.tcons (Syntax.tyInt Syntax.w64) Syntax.tnil)
+      (Syntax.ttcons (Syntax.tcons (Syntax.tyEnum (List._∷_ 115 (List._∷_ 116 (List._∷_ 114 (List._∷_ 101 (List._∷_ 97 (List._∷_ 109 (List._∷_ 58 (List._∷_ 58 (List._∷_ 82 (List._∷_ 101 (List._∷_ 102
+      (List._∷_ 117 (List._∷_ 115 (List._∷_ 97 (List._∷_ 108 List.[]))))))))))))))) (Syntax.ttcons Syntax.tnil (Syntax.ttcons Syntax.tnil (Syntax.ttcons Syntax.tnil (Syntax.ttcons (Syntax.tcons
+      (Syntax.tyInt Syntax.w64) Syntax.tnil) (Syntax.ttcons Syntax.tnil (Syntax.ttcons Syntax.tnil (Syntax.ttcons Syntax.tnil (Syntax.ttcons Syntax.tnil (Syntax.ttcons Syntax.tnil (Syntax.ttcons Syntax.tnil
+      (Syntax.ttcons (Syntax.tcons (Syntax.tyInt Syntax.w64) Syntax.tnil) (Syntax.ttcons (Syntax.tcons (Syntax.tyInt Syntax.w64) Syntax.tnil) (Syntax.ttcons Syntax.tnil (Syntax.ttcons (Syntax.tcons
+      (Syntax.tyInt Syntax.w64) (Syntax.tcons (Syntax.tyInt Syntax.w64) Syntax.tnil)) (Syntax.ttcons (Syntax.tcons (Syntax.tyInt Syntax.w64) Syntax.tnil) (Syntax.ttcons Syntax.tnil (Syntax.ttcons
+      Syntax.tnil (Syntax.ttcons (Syntax.tcons (Syntax.tyInt Syntax.w64) Syntax.tnil) (Syntax.ttcons (Syntax.tcons (Syntax.tyInt Syntax.w64) Syntax.tnil) (Syntax.ttcons (Syntax.tcons (Syntax.tyInt
+      Syntax.w64) Syntax.tnil) (Syntax.ttcons Syntax.tnil Syntax.ttnil)))))))))))))))))))))) Syntax.tnil) Syntax.ttnil))),
+)
+
+abbrev pub e8 : Row.Entry
+e8 = (11, Rows.whole (Declared.row BlockLength.the-type))
+
+abbrev pub e9 : Row.Entry
+e9 = (12, Rows.any-gone y3)
+
+abbrev pub e10 : Row.Entry
+e10 = (12, Rows.whole (Declared'.row BitPosition.the-type))
+
+abbrev pub e11 : Row.Entry
+e11 = (13, Relend.msptr (Referent.rtF (Referent.fInt Syntax.w8)) (Syntax.tyRef Syntax.erased Syntax.mut (Syntax.tyInt Syntax.w8)) 5)
+
+abbrev pub e12 : Row.Entry
+e12 = (13, Rows.any-gone (Syntax.tyRef Syntax.erased Syntax.mut (Syntax.tyInt Syntax.w8)))
+
+abbrev pub e13 : Row.Entry
+e13 = (14, Mut.msleft (Referent.rtF (Referent.fInt Syntax.w8)) (Syntax.tyRef Syntax.erased Syntax.mut (Syntax.tyInt Syntax.w8)))
+
+abbrev pub e14 : Row.Entry
+e14 = (14, Mut.mslice (Referent.rtF (Referent.fInt Syntax.w8)) (Syntax.tyRef Syntax.erased Syntax.mut (Syntax.tyInt Syntax.w8)) 5)
+
+abbrev pub e15 : Row.Entry
+e15 = (14, Rows.any-gone y1)
+
+abbrev pub e16 : Row.Entry
+e16 = (15, Relend.msptr (Referent.rtF (Referent.fInt Syntax.w16)) (Syntax.tyRef Syntax.erased Syntax.mut (Syntax.tyInt Syntax.w16)) 6)
+
+abbrev pub e17 : Row.Entry
+e17 = (15, Rows.any-gone (Syntax.tyRef Syntax.erased Syntax.mut (Syntax.tyInt Syntax.w16)))
+
+abbrev pub e18 : Row.Entry
+e18 = (16, Mut.mslice (Referent.rtF (Referent.fInt Syntax.w16)) (Syntax.tyRef Syntax.erased Syntax.mut (Syntax.tyInt Syntax.w16)) 6)
+
+abbrev pub e19 : Row.Entry
+e19 = (16, Rows.any-gone y0)
+
+abbrev pub e20 : Row.Entry
+e20 = (17, Rows.any-gone (Syntax.tyRef Syntax.erased Syntax.mut Element.behind))
+
+abbrev pub e21 : Row.Entry
+e21 = (18, Mut.msleft (Element.type) (Syntax.tyRef Syntax.erased Syntax.mut Element.behind))
+
+abbrev pub e22 : Row.Entry
+e22 = (18, Rows.any-gone y2)
+
+abbrev pub e23 : Row.Entry
+e23 = (19, Rows.any-gone (Syntax.tyInt Syntax.w64))
+
+abbrev pub e24 : Row.Entry
+e24 = (2, Mut.mslice (Referent.rtF (Referent.fInt Syntax.w8)) (Syntax.tyRef (Syntax.named 1) Syntax.mut (Syntax.tyInt Syntax.w8)) 1)
+
+abbrev pub e25 : Row.Entry
+e25 = (2, Relend.mslice-owed (Referent.rtF (Referent.fInt Syntax.w8)) (Syntax.tyRef (Syntax.named 1) Syntax.mut (Syntax.tyInt Syntax.w8)) 1 5 Row.off)
+
+abbrev pub e26 : Row.Entry
+e26 = (2, Relend.mslice-owed (Referent.rtF (Referent.fInt Syntax.w8)) (Syntax.tyRef (Syntax.named 1) Syntax.mut (Syntax.tyInt Syntax.w8)) 1 8 Row.off)
+
+abbrev pub e27 : Row.Entry
+e27 = (
+  20,
+  Rows.any-gone (Syntax.tyEnum (List._∷_ 115 (List._∷_ 116 (List._∷_ 114 (List._∷_ 101 (List._∷_ 97 (List._∷_ 109 (List._∷_ 58 (List._∷_ 58 (List._∷_ 66 (List._∷_ 108 (List._∷_ 111 (List._∷_ 99
+      (List._∷_ 107 (List._∷_ 76 (List._∷_ 101 (List._∷_ 110 (List._∷_ 103 (List._∷_ 116 (List._∷_ 104 List.[]))))))))))))))))))) (Syntax.ttcons (Syntax.tcons (Syntax.tyInt Syntax.w64) Syntax.tnil)
+      (Syntax.ttcons (Syntax.tcons (Syntax.tyEnum (List._∷_ 115 (List._∷_ 116 (List._∷_ 114 (List._∷_ 101 (List._∷_ 97 (List._∷_ 109 (List._∷_ 58 (List._∷_ 58 (List._∷_ 82 (List._∷_ 101 (List._∷_ 102
+      (List._∷_ 117 (List._∷_ 115 (List._∷_ 97 (List._∷_ 108 List.[]))))))))))))))) (Syntax.ttcons Syntax.tnil (Syntax.ttcons Syntax.tnil (Syntax.ttcons Syntax.tnil (Syntax.ttcons (Syntax.tcons
+      (Syntax.tyInt Syntax.w64) Syntax.tnil) (Syntax.ttcons Syntax.tnil (Syntax.ttcons Syntax.tnil (Syntax.ttcons Syntax.tnil (Syntax.ttcons Syntax.tnil (Syntax.ttcons Syntax.tnil (Syntax.ttcons Syntax.tnil
+      (Syntax.ttcons (Syntax.tcons (Syntax.tyInt Syntax.w64) Syntax.tnil) (Syntax.ttcons (Syntax.tcons (Syntax.tyInt Syntax.w64) Syntax.tnil) (Syntax.ttcons Syntax.tnil (Syntax.ttcons (Syntax.tcons
+      (Syntax.tyInt Syntax.w64) (Syntax.tcons (Syntax.tyInt Syntax.w64) Syntax.tnil)) (Syntax.ttcons (Syntax.tcons (Syntax.tyInt Syntax.w64) Syntax.tnil) (Syntax.ttcons Syntax.tnil (Syntax.ttcons
+      Syntax.tnil (Syntax.ttcons (Syntax.tcons (Syntax.tyInt Syntax.w64) Syntax.tnil) (Syntax.ttcons (Syntax.tcons (Syntax.tyInt Syntax.w64) Syntax.tnil) (Syntax.ttcons (Syntax.tcons (Syntax.tyInt
+      Syntax.w64) Syntax.tnil) (Syntax.ttcons Syntax.tnil Syntax.ttnil)))))))))))))))))))))) Syntax.tnil) Syntax.ttnil))),
+)
+
+abbrev pub e28 : Row.Entry
+e28 = (20, Rows.whole (Declared.row BlockLength.the-type))
+
+abbrev pub e29 : Row.Entry
+e29 = (
+  21,
+  Rows.any-gone (Syntax.tyEnum (List._∷_ 119 (List._∷_ 114 (List._∷_ 105 (List._∷_ 116 (List._∷_ 105 (List._∷_ 110 (List._∷_ 103 (List._∷_ 58 (List._∷_ 58 (List._∷_ 80 (List._∷_ 117 (List._∷_ 116
+      List.[])))))))))))) (Syntax.ttcons (Syntax.tcons y3 Syntax.tnil) (Syntax.ttcons (Syntax.tcons (Syntax.tyInt Syntax.w64) Syntax.tnil) Syntax.ttnil))),
+)
+
+abbrev pub e30 : Row.Entry
+e30 = (22, Rows.any-gone (Syntax.tyRef Syntax.erased Syntax.mut (Syntax.tyInt Syntax.w8)))
+
+abbrev pub e31 : Row.Entry
+e31 = (23, Mut.msleft (Referent.rtF (Referent.fInt Syntax.w8)) (Syntax.tyRef Syntax.erased Syntax.mut (Syntax.tyInt Syntax.w8)))
+
+abbrev pub e32 : Row.Entry
+e32 = (23, Mut.mslice (Referent.rtF (Referent.fInt Syntax.w8)) (Syntax.tyRef Syntax.erased Syntax.mut (Syntax.tyInt Syntax.w8)) 8)
+
+abbrev pub e33 : Row.Entry
+e33 = (23, Rows.any-gone y1)
+
+abbrev pub e34 : Row.Entry
+e34 = (24, Rows.any-gone (Syntax.tyRef Syntax.erased Syntax.mut (Syntax.tyInt Syntax.w16)))
+
+abbrev pub e35 : Row.Entry
+e35 = (25, Mut.msleft (Referent.rtF (Referent.fInt Syntax.w16)) (Syntax.tyRef Syntax.erased Syntax.mut (Syntax.tyInt Syntax.w16)))
+
+abbrev pub e36 : Row.Entry
+e36 = (25, Mut.mslice (Referent.rtF (Referent.fInt Syntax.w16)) (Syntax.tyRef Syntax.erased Syntax.mut (Syntax.tyInt Syntax.w16)) 9)
+
+abbrev pub e37 : Row.Entry
+e37 = (25, Rows.any-gone y0)
+
+abbrev pub e38 : Row.Entry
+e38 = (26, Rows.any-gone (Syntax.tyRef Syntax.erased Syntax.mut Element.behind))
+
+abbrev pub e39 : Row.Entry
+e39 = (27, Mut.msleft (Element.type) (Syntax.tyRef Syntax.erased Syntax.mut Element.behind))
+
+abbrev pub e40 : Row.Entry
+e40 = (27, Rows.any-gone y2)
+
+abbrev pub e41 : Row.Entry
+e41 = (28, Rows.any-gone Syntax.tyUnit)
+
+abbrev pub e42 : Row.Entry
+e42 = (29, Rows.any-gone (Syntax.tyRef Syntax.erased Syntax.mut (Syntax.tyInt Syntax.w8)))
+
+abbrev pub e43 : Row.Entry
+e43 = (3, Rows.any-gone Syntax.tyBool)
+
+abbrev pub e44 : Row.Entry
+e44 = (3, Rows.sc-here Row.sBool)
+
+abbrev pub e45 : Row.Entry
+e45 = (30, Mut.msleft (Referent.rtF (Referent.fInt Syntax.w8)) (Syntax.tyRef Syntax.erased Syntax.mut (Syntax.tyInt Syntax.w8)))
+
+abbrev pub e46 : Row.Entry
+e46 = (30, Rows.any-gone y1)
+
+abbrev pub e47 : Row.Entry
+e47 = (31, Rows.any-gone (Syntax.tyInt Syntax.w64))
+
+abbrev pub e48 : Row.Entry
+e48 = (31, Rows.sc-here (Row.sInt Syntax.w64))
+
+abbrev pub e49 : Row.Entry
+e49 = (4, Mut.mslice (Referent.rtF (Referent.fInt Syntax.w16)) (Syntax.tyRef (Syntax.named 2) Syntax.mut (Syntax.tyInt Syntax.w16)) 2)
+
+abbrev pub e50 : Row.Entry
+e50 = (4, Relend.mslice-owed (Referent.rtF (Referent.fInt Syntax.w16)) (Syntax.tyRef (Syntax.named 2) Syntax.mut (Syntax.tyInt Syntax.w16)) 2 6 Row.off)
+
+abbrev pub e51 : Row.Entry
+e51 = (4, Relend.mslice-owed (Referent.rtF (Referent.fInt Syntax.w16)) (Syntax.tyRef (Syntax.named 2) Syntax.mut (Syntax.tyInt Syntax.w16)) 2 9 Row.off)
+
+abbrev pub e52 : Row.Entry
+e52 = (5, Mut.mslice (Element.type) (Syntax.tyRef (Syntax.named 3) Syntax.mut Element.behind) 3)
+
+abbrev pub e53 : Row.Entry
+e53 = (5, Relend.mslice-owed (Element.type) (Syntax.tyRef (Syntax.named 3) Syntax.mut Element.behind) 3 10 Row.off)
+
+abbrev pub e54 : Row.Entry
+e54 = (5, Relend.mslice-owed (Element.type) (Syntax.tyRef (Syntax.named 3) Syntax.mut Element.behind) 3 7 Row.off)
+
+abbrev pub e55 : Row.Entry
+e55 = (6, Rows.any-gone y4)
+
+abbrev pub e56 : Row.Entry
+e56 = (6, Rows.whole (Declared'.row Form.the-type))
+
 abbrev pub e57 : Row.Entry
-e57 = (9, Rows.whole (Declared.row Next.the-type))
+e57 = (7, Rows.sslice (Referent.rtF (Referent.fInt Syntax.w8)) (Syntax.tyRef (Syntax.named 4) Syntax.imm (Syntax.tyInt Syntax.w8)) 4)
 
 abbrev pub e58 : Row.Entry
-e58 = (9, Rows.whole (Known.Known Next.enum 0))
+e58 = (8, Rows.sc-here (Row.sInt Syntax.w64))
 
 abbrev pub e59 : Row.Entry
-e59 = (9, Rows.whole (Known.Known Next.enum 1))
+e59 = (
+  9,
+  Rows.any-gone (Syntax.tyEnum (List._∷_ 119 (List._∷_ 114 (List._∷_ 105 (List._∷_ 116 (List._∷_ 105 (List._∷_ 110 (List._∷_ 103 (List._∷_ 58 (List._∷_ 58 (List._∷_ 80 (List._∷_ 117 (List._∷_ 116
+      List.[])))))))))))) (Syntax.ttcons (Syntax.tcons y3 Syntax.tnil) (Syntax.ttcons (Syntax.tcons (Syntax.tyInt Syntax.w64) Syntax.tnil) Syntax.ttnil))),
+)
+
+abbrev pub e60 : Row.Entry
+e60 = (9, Rows.whole (Declared.row Put.the-type))
 
 abbrev pub t0 : List.List Row.Entry
-t0 = List._∷_ e0 (List._∷_ e2 (List._∷_ e22 (List._∷_ e42 (List._∷_ e45 (List._∷_ e48 (List._∷_ e52 (List._∷_ e53 (List._∷_ e54 (List._∷_ e56 (List._∷_ e3 (List._∷_ e5 (List._∷_ e8 (List._∷_ e11
-    (List._∷_ e13 (List._∷_ e16 List.[])))))))))))))))
+t0 = List._∷_ e0 (List._∷_ e2 (List._∷_ e24 (List._∷_ e44 (List._∷_ e49 (List._∷_ e52 (List._∷_ e56 (List._∷_ e57 (List._∷_ e58 (List._∷_ e59 (List._∷_ e3 (List._∷_ e7 (List._∷_ e9 (List._∷_ e12
+    (List._∷_ e15 (List._∷_ e17 List.[])))))))))))))))
 
 abbrev pub t1 : List.List Row.Entry
-t1 = List._∷_ e17 (List._∷_ e18 (List._∷_ e19 (List._∷_ e20 (List._∷_ e25 (List._∷_ e26 (List._∷_ e29 (List._∷_ e30 (List._∷_ e33 (List._∷_ e34 (List._∷_ e36 (List._∷_ e37 (List._∷_ e38 (List._∷_ e40
-    (List._∷_ e43 List.[]))))))))))))))
+t1 = List._∷_ e19 (List._∷_ e20 (List._∷_ e22 (List._∷_ e23 (List._∷_ e27 (List._∷_ e29 (List._∷_ e30 (List._∷_ e33 (List._∷_ e34 (List._∷_ e37 (List._∷_ e38 (List._∷_ e40 (List._∷_ e41 (List._∷_ e42
+    (List._∷_ e46 (List._∷_ e47 List.[])))))))))))))))
 
 abbrev pub t2 : List.List Row.Entry
-t2 = List._∷_ e1 (List._∷_ e2 (List._∷_ e22 (List._∷_ e41 (List._∷_ e45 (List._∷_ e48 (List._∷_ e51 (List._∷_ (7, Rows.any-gone (Syntax.tyInt Syntax.w64)) (List._∷_ e54 (List._∷_ e56 (List._∷_ e3
-    (List._∷_ e5 (List._∷_ e8 (List._∷_ e11 (List._∷_ e13 (List._∷_ e16 List.[])))))))))))))))
+t2 = List._∷_ e1 (List._∷_ e2 (List._∷_ e24 (List._∷_ e43 (List._∷_ e49 (List._∷_ e52 (List._∷_ e55 (List._∷_ e57 (List._∷_ (8, Rows.any-gone (Syntax.tyInt Syntax.w64)) (List._∷_ e59 (List._∷_ e3
+    (List._∷_ e7 (List._∷_ e9 (List._∷_ e12 (List._∷_ e15 (List._∷_ e17 List.[])))))))))))))))
 
 abbrev pub t3 : List.List Row.Entry
-t3 = List._∷_ e0 (List._∷_ e2 (List._∷_ e23 (List._∷_ e42 (List._∷_ e45 (List._∷_ e48 (List._∷_ e52 (List._∷_ e53 (List._∷_ e54 (List._∷_ e56 (List._∷_ e3 (List._∷_ e5 (List._∷_ e7 (List._∷_ e11
-    (List._∷_ e13 (List._∷_ e16 List.[])))))))))))))))
+t3 = List._∷_ e0 (List._∷_ e2 (List._∷_ e25 (List._∷_ e44 (List._∷_ e49 (List._∷_ e52 (List._∷_ e56 (List._∷_ e57 (List._∷_ e58 (List._∷_ e59 (List._∷_ e3 (List._∷_ e7 (List._∷_ e9 (List._∷_ e11
+    (List._∷_ e15 (List._∷_ e17 List.[])))))))))))))))
 
 abbrev pub t4 : List.List Row.Entry
-t4 = List._∷_ e0 (List._∷_ e2 (List._∷_ e23 (List._∷_ e42 (List._∷_ e45 (List._∷_ e48 (List._∷_ e52 (List._∷_ e53 (List._∷_ e54 (List._∷_ e56 (List._∷_ e3 (List._∷_ e5 (List._∷_ e8 (List._∷_ e10
-    (List._∷_ e13 (List._∷_ e16 List.[])))))))))))))))
+t4 = List._∷_ e0 (List._∷_ e2 (List._∷_ e25 (List._∷_ e44 (List._∷_ e49 (List._∷_ e52 (List._∷_ e56 (List._∷_ e57 (List._∷_ e58 (List._∷_ e59 (List._∷_ e3 (List._∷_ e7 (List._∷_ e9 (List._∷_ e12
+    (List._∷_ e14 (List._∷_ e17 List.[])))))))))))))))
 
 abbrev pub t5 : List.List Row.Entry
-t5 = List._∷_ e0 (List._∷_ e2 (List._∷_ e23 (List._∷_ e42 (List._∷_ e46 (List._∷_ e48 (List._∷_ e52 (List._∷_ e53 (List._∷_ e54 (List._∷_ e56 (List._∷_ e3 (List._∷_ e5 (List._∷_ e8 (List._∷_ e10
-    (List._∷_ e12 (List._∷_ e16 List.[])))))))))))))))
+t5 = List._∷_ e0 (List._∷_ e2 (List._∷_ e25 (List._∷_ e44 (List._∷_ e50 (List._∷_ e52 (List._∷_ e56 (List._∷_ e57 (List._∷_ e58 (List._∷_ e59 (List._∷_ e3 (List._∷_ e7 (List._∷_ e9 (List._∷_ e12
+    (List._∷_ e14 (List._∷_ e16 List.[])))))))))))))))
 
 abbrev pub t6 : List.List Row.Entry
-t6 = List._∷_ e0 (List._∷_ e2 (List._∷_ e23 (List._∷_ e42 (List._∷_ e46 (List._∷_ e48 (List._∷_ e52 (List._∷_ e53 (List._∷_ e54 (List._∷_ e56 (List._∷_ e3 (List._∷_ e5 (List._∷_ e8 (List._∷_ e10
-    (List._∷_ e13 (List._∷_ e15 List.[])))))))))))))))
+t6 = List._∷_ e0 (List._∷_ e2 (List._∷_ e25 (List._∷_ e44 (List._∷_ e50 (List._∷_ e52 (List._∷_ e56 (List._∷_ e57 (List._∷_ e58 (List._∷_ e59 (List._∷_ e3 (List._∷_ e7 (List._∷_ e9 (List._∷_ e12
+    (List._∷_ e14 (List._∷_ e17 List.[])))))))))))))))
 
 abbrev pub t7 : List.List Row.Entry
-t7 = List._∷_ e0 (List._∷_ e2 (List._∷_ e23 (List._∷_ e42 (List._∷_ e46 (List._∷_ e49 (List._∷_ e52 (List._∷_ e53 (List._∷_ e54 (List._∷_ e56 (List._∷_ e3 (List._∷_ e5 (List._∷_ e8 (List._∷_ e10
-    (List._∷_ e13 (List._∷_ e15 List.[])))))))))))))))
+t7 = List._∷_ e18 (List._∷_ e20 (List._∷_ e22 (List._∷_ e23 (List._∷_ e27 (List._∷_ e29 (List._∷_ e30 (List._∷_ e33 (List._∷_ e34 (List._∷_ e37 (List._∷_ e38 (List._∷_ e40 (List._∷_ e41 (List._∷_ e42
+    (List._∷_ e46 (List._∷_ e47 List.[])))))))))))))))
 
 abbrev pub t8 : List.List Row.Entry
-t8 = List._∷_ (16, Relend.msptr (Element.type) (Syntax.tyRef Syntax.erased Syntax.mut Element.behind) 6) (List._∷_ e18 (List._∷_ e19 (List._∷_ e20 (List._∷_ e25 (List._∷_ e26 (List._∷_ e29 (List._∷_
-    e30 (List._∷_ e33 (List._∷_ e34 (List._∷_ e36 (List._∷_ e37 (List._∷_ e38 (List._∷_ e40 (List._∷_ e43 List.[]))))))))))))))
+t8 = List._∷_ e0 (List._∷_ e2 (List._∷_ e25 (List._∷_ e44 (List._∷_ e50 (List._∷_ e54 (List._∷_ e56 (List._∷_ e57 (List._∷_ e58 (List._∷_ e59 (List._∷_ e3 (List._∷_ e7 (List._∷_ e9 (List._∷_ e12
+    (List._∷_ e14 (List._∷_ e17 List.[])))))))))))))))
 
 abbrev pub t9 : List.List Row.Entry
-t9 = List._∷_ e17 (List._∷_ (17, Mut.mslice (Element.type) (Syntax.tyRef Syntax.erased Syntax.mut Element.behind) 6) (List._∷_ e19 (List._∷_ e20 (List._∷_ e25 (List._∷_ e26 (List._∷_ e29 (List._∷_ e30
-    (List._∷_ e33 (List._∷_ e34 (List._∷_ e36 (List._∷_ e37 (List._∷_ e38 (List._∷_ e40 (List._∷_ e43 List.[]))))))))))))))
+t9 = List._∷_ e18 (List._∷_ (17, Relend.msptr (Element.type) (Syntax.tyRef Syntax.erased Syntax.mut Element.behind) 7) (List._∷_ e22 (List._∷_ e23 (List._∷_ e27 (List._∷_ e29 (List._∷_ e30 (List._∷_
+    e33 (List._∷_ e34 (List._∷_ e37 (List._∷_ e38 (List._∷_ e40 (List._∷_ e41 (List._∷_ e42 (List._∷_ e46 (List._∷_ e47 List.[])))))))))))))))
 
 abbrev pub t10 : List.List Row.Entry
-t10 = List._∷_ e0 (List._∷_ e2 (List._∷_ e23 (List._∷_ e42 (List._∷_ e46 (List._∷_ e49 (List._∷_ e52 (List._∷_ e53 (List._∷_ e55 (List._∷_ e56 (List._∷_ e3 (List._∷_ e5 (List._∷_ e8 (List._∷_ e9
-    (List._∷_ e13 (List._∷_ e14 List.[])))))))))))))))
+t10 = List._∷_ e18 (List._∷_ e20 (List._∷_ (18, Mut.mslice (Element.type) (Syntax.tyRef Syntax.erased Syntax.mut Element.behind) 7) (List._∷_ e23 (List._∷_ e27 (List._∷_ e29 (List._∷_ e30 (List._∷_
+    e33 (List._∷_ e34 (List._∷_ e37 (List._∷_ e38 (List._∷_ e40 (List._∷_ e41 (List._∷_ e42 (List._∷_ e46 (List._∷_ e47 List.[])))))))))))))))
 
 abbrev pub t11 : List.List Row.Entry
-t11 = List._∷_ e17 (List._∷_ (17, Mut.msleft (Element.type) (Syntax.tyRef Syntax.erased Syntax.mut Element.behind)) (List._∷_ e19 (List._∷_ e20 (List._∷_ e25 (List._∷_ e26 (List._∷_ e29 (List._∷_ e30
-    (List._∷_ e33 (List._∷_ e34 (List._∷_ e36 (List._∷_ e37 (List._∷_ e38 (List._∷_ e40 (List._∷_ e43 List.[]))))))))))))))
+t11 = List._∷_ e0 (List._∷_ e2 (List._∷_ e25 (List._∷_ e44 (List._∷_ e50 (List._∷_ e54 (List._∷_ e56 (List._∷_ e57 (List._∷_ e58 (List._∷_ e60 (List._∷_ e3 (List._∷_ e7 (List._∷_ e9 (List._∷_ e12
+    (List._∷_ e13 (List._∷_ e17 List.[])))))))))))))))
 
 abbrev pub t12 : List.List Row.Entry
-t12 = List._∷_ e0 (List._∷_ e2 (List._∷_ e22 (List._∷_ e42 (List._∷_ e46 (List._∷_ e49 (List._∷_ e52 (List._∷_ e53 (List._∷_ e55 (List._∷_ e56 (List._∷_ e3 (List._∷_ e5 (List._∷_ e8 (List._∷_ e11
-    (List._∷_ e13 (List._∷_ e14 List.[])))))))))))))))
+t12 = List._∷_ (16, Mut.msleft (Referent.rtF (Referent.fInt Syntax.w16)) (Syntax.tyRef Syntax.erased Syntax.mut (Syntax.tyInt Syntax.w16))) (List._∷_ e20 (List._∷_ e21 (List._∷_ e23 (List._∷_ e27
+    (List._∷_ e29 (List._∷_ e30 (List._∷_ e33 (List._∷_ e34 (List._∷_ e37 (List._∷_ e38 (List._∷_ e40 (List._∷_ e41 (List._∷_ e42 (List._∷_ e46 (List._∷_ e47 List.[])))))))))))))))
 
 abbrev pub t13 : List.List Row.Entry
-t13 = List._∷_ e0 (List._∷_ e2 (List._∷_ e22 (List._∷_ e42 (List._∷_ e45 (List._∷_ e49 (List._∷_ e52 (List._∷_ e53 (List._∷_ e55 (List._∷_ e56 (List._∷_ e3 (List._∷_ e5 (List._∷_ e8 (List._∷_ e11
-    (List._∷_ e13 (List._∷_ e16 List.[])))))))))))))))
+t13 = List._∷_ e0 (List._∷_ e2 (List._∷_ e24 (List._∷_ e44 (List._∷_ e50 (List._∷_ e54 (List._∷_ e56 (List._∷_ e57 (List._∷_ e58 (List._∷_ e60 (List._∷_ e3 (List._∷_ e7 (List._∷_ e9 (List._∷_ e12
+    (List._∷_ e15 (List._∷_ e17 List.[])))))))))))))))
 
 abbrev pub t14 : List.List Row.Entry
-t14 = List._∷_ e0 (List._∷_ e2 (List._∷_ e22 (List._∷_ e42 (List._∷_ e45 (List._∷_ e48 (List._∷_ e52 (List._∷_ e53 (List._∷_ e55 (List._∷_ e56 (List._∷_ e3 (List._∷_ e5 (List._∷_ e8 (List._∷_ e11
-    (List._∷_ e13 (List._∷_ e16 List.[])))))))))))))))
+t14 = List._∷_ e0 (List._∷_ e2 (List._∷_ e24 (List._∷_ e44 (List._∷_ e49 (List._∷_ e54 (List._∷_ e56 (List._∷_ e57 (List._∷_ e58 (List._∷_ e60 (List._∷_ e3 (List._∷_ e7 (List._∷_ e9 (List._∷_ e12
+    (List._∷_ e15 (List._∷_ e17 List.[])))))))))))))))
 
 abbrev pub t15 : List.List Row.Entry
-t15 = List._∷_ e17 (List._∷_ e18 (List._∷_ (18, Rows.sc-here (Row.sInt Syntax.w64)) (List._∷_ e20 (List._∷_ e25 (List._∷_ e26 (List._∷_ e29 (List._∷_ e30 (List._∷_ e33 (List._∷_ e34 (List._∷_ e36
-    (List._∷_ e37 (List._∷_ e38 (List._∷_ e40 (List._∷_ e43 List.[]))))))))))))))
+t15 = List._∷_ e19 (List._∷_ e20 (List._∷_ e21 (List._∷_ e23 (List._∷_ e27 (List._∷_ e29 (List._∷_ e30 (List._∷_ e33 (List._∷_ e34 (List._∷_ e37 (List._∷_ e38 (List._∷_ e40 (List._∷_ e41 (List._∷_ e42
+    (List._∷_ e46 (List._∷_ e47 List.[])))))))))))))))
 
 abbrev pub t16 : List.List Row.Entry
-t16 = List._∷_ e0 (List._∷_ e2 (List._∷_ e22 (List._∷_ e42 (List._∷_ e45 (List._∷_ e48 (List._∷_ e52 (List._∷_ e53 (List._∷_ e55 (List._∷_ e57 (List._∷_ e3 (List._∷_ e5 (List._∷_ e8 (List._∷_ e11
-    (List._∷_ e13 (List._∷_ e16 List.[])))))))))))))))
+t16 = List._∷_ e0 (List._∷_ e2 (List._∷_ e24 (List._∷_ e44 (List._∷_ e49 (List._∷_ e52 (List._∷_ e56 (List._∷_ e57 (List._∷_ e58 (List._∷_ e60 (List._∷_ e3 (List._∷_ e7 (List._∷_ e9 (List._∷_ e12
+    (List._∷_ e15 (List._∷_ e17 List.[])))))))))))))))
 
 abbrev pub t17 : List.List Row.Entry
-t17 = List._∷_ e0 (List._∷_ e2 (List._∷_ e22 (List._∷_ e42 (List._∷_ e45 (List._∷_ e48 (List._∷_ e51 (List._∷_ e53 (List._∷_ e54 (List._∷_ e56 (List._∷_ e3 (List._∷_ e5 (List._∷_ e8 (List._∷_ e11
-    (List._∷_ e13 (List._∷_ e16 List.[])))))))))))))))
+t17 = List._∷_ e19 (List._∷_ e20 (List._∷_ e22 (List._∷_ (19, Rows.sc-here (Row.sInt Syntax.w64)) (List._∷_ e27 (List._∷_ e29 (List._∷_ e30 (List._∷_ e33 (List._∷_ e34 (List._∷_ e37 (List._∷_ e38
+    (List._∷_ e40 (List._∷_ e41 (List._∷_ e42 (List._∷_ e46 (List._∷_ e47 List.[])))))))))))))))
 
 abbrev pub t18 : List.List Row.Entry
-t18 = List._∷_ e17 (List._∷_ e18 (List._∷_ e19 (List._∷_ e21 (List._∷_ e25 (List._∷_ e26 (List._∷_ e29 (List._∷_ e30 (List._∷_ e33 (List._∷_ e34 (List._∷_ e36 (List._∷_ e37 (List._∷_ e38 (List._∷_ e40
-    (List._∷_ e43 List.[]))))))))))))))
+t18 = List._∷_ e0 (List._∷_ e2 (List._∷_ e24 (List._∷_ e44 (List._∷_ e49 (List._∷_ e52 (List._∷_ e56 (List._∷_ e57 (List._∷_ e58 (List._∷_ e60 (List._∷_ e4 (List._∷_ e7 (List._∷_ e9 (List._∷_ e12
+    (List._∷_ e15 (List._∷_ e17 List.[])))))))))))))))
 
 abbrev pub t19 : List.List Row.Entry
-t19 = List._∷_ e0 (List._∷_ e2 (List._∷_ e22 (List._∷_ e42 (List._∷_ e45 (List._∷_ e48 (List._∷_ e52 (List._∷_ e53 (List._∷_ e54 (List._∷_ e57 (List._∷_ e3 (List._∷_ e5 (List._∷_ e8 (List._∷_ e11
-    (List._∷_ e13 (List._∷_ e16 List.[])))))))))))))))
+t19 = List._∷_ e0 (List._∷_ e2 (List._∷_ e24 (List._∷_ e44 (List._∷_ e49 (List._∷_ e52 (List._∷_ e55 (List._∷_ e57 (List._∷_ e58 (List._∷_ e59 (List._∷_ e3 (List._∷_ e7 (List._∷_ e9 (List._∷_ e12
+    (List._∷_ e15 (List._∷_ e17 List.[])))))))))))))))
 
 abbrev pub t20 : List.List Row.Entry
-t20 = List._∷_ e0 (List._∷_ e2 (List._∷_ e22 (List._∷_ e42 (List._∷_ e45 (List._∷_ e48 (List._∷_ e52 (List._∷_ e53 (List._∷_ e54 (List._∷_ e58 (List._∷_ e3 (List._∷_ e5 (List._∷_ e8 (List._∷_ e11
-    (List._∷_ e13 (List._∷_ e16 List.[])))))))))))))))
+t20 = List._∷_ e19 (List._∷_ e20 (List._∷_ e22 (List._∷_ e23 (List._∷_ e28 (List._∷_ e29 (List._∷_ e30 (List._∷_ e33 (List._∷_ e34 (List._∷_ e37 (List._∷_ e38 (List._∷_ e40 (List._∷_ e41 (List._∷_ e42
+    (List._∷_ e46 (List._∷_ e47 List.[])))))))))))))))
 
 abbrev pub t21 : List.List Row.Entry
-t21 = List._∷_ e0 (List._∷_ e2 (List._∷_ e22 (List._∷_ e42 (List._∷_ e45 (List._∷_ e48 (List._∷_ e51 (List._∷_ e53 (List._∷_ e54 (List._∷_ e58 (List._∷_ e3 (List._∷_ e5 (List._∷_ e8 (List._∷_ e11
-    (List._∷_ e13 (List._∷_ e16 List.[])))))))))))))))
+t21 = List._∷_ e0 (List._∷_ e2 (List._∷_ e24 (List._∷_ e44 (List._∷_ e49 (List._∷_ e52 (List._∷_ e56 (List._∷_ e57 (List._∷_ e58 (List._∷_ e59 (List._∷_ e4 (List._∷_ e7 (List._∷_ e9 (List._∷_ e12
+    (List._∷_ e15 (List._∷_ e17 List.[])))))))))))))))
 
 abbrev pub t22 : List.List Row.Entry
-t22 = List._∷_ e0 (List._∷_ e2 (List._∷_ e22 (List._∷_ e42 (List._∷_ e45 (List._∷_ e48 (List._∷_ e51 (List._∷_ e53 (List._∷_ e54 (List._∷_ e58 (List._∷_ e4 (List._∷_ e5 (List._∷_ e8 (List._∷_ e11
-    (List._∷_ e13 (List._∷_ e16 List.[])))))))))))))))
+t22 = List._∷_ e0 (List._∷_ e2 (List._∷_ e24 (List._∷_ e44 (List._∷_ e49 (List._∷_ e52 (List._∷_ e56 (List._∷_ e57 (List._∷_ e58 (List._∷_ e59 (List._∷_ e5 (List._∷_ e7 (List._∷_ e9 (List._∷_ e12
+    (List._∷_ e15 (List._∷_ e17 List.[])))))))))))))))
 
 abbrev pub t23 : List.List Row.Entry
-t23 = List._∷_ e0 (List._∷_ e2 (List._∷_ e22 (List._∷_ e42 (List._∷_ e45 (List._∷_ e48 (List._∷_ e51 (List._∷_ e53 (List._∷_ e54 (List._∷_ e56 (List._∷_ e4 (List._∷_ e5 (List._∷_ e8 (List._∷_ e11
-    (List._∷_ e13 (List._∷_ e16 List.[])))))))))))))))
+t23 = List._∷_ e0 (List._∷_ e2 (List._∷_ e24 (List._∷_ e44 (List._∷_ e49 (List._∷_ e52 (List._∷_ e55 (List._∷_ e57 (List._∷_ e58 (List._∷_ e59 (List._∷_ e5 (List._∷_ e7 (List._∷_ e9 (List._∷_ e12
+    (List._∷_ e15 (List._∷_ e17 List.[])))))))))))))))
 
 abbrev pub t24 : List.List Row.Entry
-t24 = List._∷_ e0 (List._∷_ e2 (List._∷_ e22 (List._∷_ e42 (List._∷_ e45 (List._∷_ e48 (List._∷_ e52 (List._∷_ e53 (List._∷_ e54 (List._∷_ e59 (List._∷_ e3 (List._∷_ e5 (List._∷_ e8 (List._∷_ e11
-    (List._∷_ e13 (List._∷_ e16 List.[])))))))))))))))
+t24 = List._∷_ e0 (List._∷_ e2 (List._∷_ e24 (List._∷_ e44 (List._∷_ e49 (List._∷_ e52 (List._∷_ e55 (List._∷_ e57 (List._∷_ e58 (List._∷_ e59 (List._∷_ e5 (List._∷_ e8 (List._∷_ e9 (List._∷_ e12
+    (List._∷_ e15 (List._∷_ e17 List.[])))))))))))))))
 
 abbrev pub t25 : List.List Row.Entry
-t25 = List._∷_ e0 (List._∷_ e2 (List._∷_ e22 (List._∷_ e42 (List._∷_ e45 (List._∷_ e48 (List._∷_ e52 (List._∷_ e53 (List._∷_ e54 (List._∷_ e59 (List._∷_ e3 (List._∷_ e6 (List._∷_ e8 (List._∷_ e11
-    (List._∷_ e13 (List._∷_ e16 List.[])))))))))))))))
+t25 = List._∷_ e0 (List._∷_ e2 (List._∷_ e24 (List._∷_ e44 (List._∷_ e49 (List._∷_ e52 (List._∷_ e55 (List._∷_ e57 (List._∷_ e58 (List._∷_ e59 (List._∷_ e3 (List._∷_ e8 (List._∷_ e9 (List._∷_ e12
+    (List._∷_ e15 (List._∷_ e17 List.[])))))))))))))))
 
 abbrev pub t26 : List.List Row.Entry
-t26 = List._∷_ e0 (List._∷_ e2 (List._∷_ e22 (List._∷_ e42 (List._∷_ e45 (List._∷_ e48 (List._∷_ e52 (List._∷_ e53 (List._∷_ e54 (List._∷_ e56 (List._∷_ e3 (List._∷_ e6 (List._∷_ e8 (List._∷_ e11
-    (List._∷_ e13 (List._∷_ e16 List.[])))))))))))))))
+t26 = List._∷_ e0 (List._∷_ e2 (List._∷_ e24 (List._∷_ e44 (List._∷_ e49 (List._∷_ e52 (List._∷_ e56 (List._∷_ e57 (List._∷_ e58 (List._∷_ e59 (List._∷_ e6 (List._∷_ e7 (List._∷_ e9 (List._∷_ e12
+    (List._∷_ e15 (List._∷_ e17 List.[])))))))))))))))
 
 abbrev pub t27 : List.List Row.Entry
-t27 = List._∷_ e0 (List._∷_ e2 (List._∷_ e24 (List._∷_ e42 (List._∷_ e45 (List._∷_ e48 (List._∷_ e52 (List._∷_ e53 (List._∷_ e54 (List._∷_ e56 (List._∷_ e3 (List._∷_ e6 (List._∷_ e8 (List._∷_ e11
-    (List._∷_ e13 (List._∷_ e16 List.[])))))))))))))))
+t27 = List._∷_ e0 (List._∷_ e2 (List._∷_ e24 (List._∷_ e44 (List._∷_ e49 (List._∷_ e52 (List._∷_ e56 (List._∷_ e57 (List._∷_ e58 (List._∷_ e59 (List._∷_ e6 (List._∷_ e7 (List._∷_ e10 (List._∷_ e12
+    (List._∷_ e15 (List._∷_ e17 List.[])))))))))))))))
 
 abbrev pub t28 : List.List Row.Entry
-t28 = List._∷_ e17 (List._∷_ e18 (List._∷_ e19 (List._∷_ e20 (List._∷_ e25 (List._∷_
-    (21, Relend.msptr (Referent.rtF (Referent.fInt Syntax.w8)) (Syntax.tyRef Syntax.erased Syntax.mut (Syntax.tyInt Syntax.w8)) 7) (List._∷_ e29 (List._∷_ e30 (List._∷_ e33 (List._∷_ e34 (List._∷_ e36
-    (List._∷_ e37 (List._∷_ e38 (List._∷_ e40 (List._∷_ e43 List.[]))))))))))))))
+t28 = List._∷_ e0 (List._∷_ e2 (List._∷_ e24 (List._∷_ e44 (List._∷_ e49 (List._∷_ e52 (List._∷_ e56 (List._∷_ e57 (List._∷_ e58 (List._∷_ e59 (List._∷_ e3 (List._∷_ e7 (List._∷_ e10 (List._∷_ e12
+    (List._∷_ e15 (List._∷_ e17 List.[])))))))))))))))
 
 abbrev pub t29 : List.List Row.Entry
-t29 = List._∷_ e17 (List._∷_ e18 (List._∷_ e19 (List._∷_ e20 (List._∷_ e25 (List._∷_ e26 (List._∷_ e28 (List._∷_ e30 (List._∷_ e33 (List._∷_ e34 (List._∷_ e36 (List._∷_ e37 (List._∷_ e38 (List._∷_ e40
-    (List._∷_ e43 List.[]))))))))))))))
+t29 = List._∷_ e0 (List._∷_ e2 (List._∷_ e26 (List._∷_ e44 (List._∷_ e49 (List._∷_ e52 (List._∷_ e56 (List._∷_ e57 (List._∷_ e58 (List._∷_ e59 (List._∷_ e3 (List._∷_ e7 (List._∷_ e10 (List._∷_ e12
+    (List._∷_ e15 (List._∷_ e17 List.[])))))))))))))))
 
 abbrev pub t30 : List.List Row.Entry
-t30 = List._∷_ e0 (List._∷_ e2 (List._∷_ e24 (List._∷_ e42 (List._∷_ e47 (List._∷_ e48 (List._∷_ e52 (List._∷_ e53 (List._∷_ e54 (List._∷_ e56 (List._∷_ e3 (List._∷_ e6 (List._∷_ e8 (List._∷_ e11
-    (List._∷_ e13 (List._∷_ e16 List.[])))))))))))))))
+t30 = List._∷_ e19 (List._∷_ e20 (List._∷_ e22 (List._∷_ e23 (List._∷_ e27 (List._∷_ e29 (List._∷_
+    (22, Relend.msptr (Referent.rtF (Referent.fInt Syntax.w8)) (Syntax.tyRef Syntax.erased Syntax.mut (Syntax.tyInt Syntax.w8)) 8) (List._∷_ e33 (List._∷_ e34 (List._∷_ e37 (List._∷_ e38 (List._∷_ e40
+    (List._∷_ e41 (List._∷_ e42 (List._∷_ e46 (List._∷_ e47 List.[])))))))))))))))
 
 abbrev pub t31 : List.List Row.Entry
-t31 = List._∷_ e17 (List._∷_ e18 (List._∷_ e19 (List._∷_ e20 (List._∷_ e25 (List._∷_ e26 (List._∷_ e28 (List._∷_
-    (23, Relend.msptr (Referent.rtF (Referent.fInt Syntax.w16)) (Syntax.tyRef Syntax.erased Syntax.mut (Syntax.tyInt Syntax.w16)) 8) (List._∷_ e33 (List._∷_ e34 (List._∷_ e36 (List._∷_ e37 (List._∷_ e38
-    (List._∷_ e40 (List._∷_ e43 List.[]))))))))))))))
+t31 = List._∷_ e19 (List._∷_ e20 (List._∷_ e22 (List._∷_ e23 (List._∷_ e27 (List._∷_ e29 (List._∷_ e30 (List._∷_ e32 (List._∷_ e34 (List._∷_ e37 (List._∷_ e38 (List._∷_ e40 (List._∷_ e41 (List._∷_ e42
+    (List._∷_ e46 (List._∷_ e47 List.[])))))))))))))))
 
 abbrev pub t32 : List.List Row.Entry
-t32 = List._∷_ e17 (List._∷_ e18 (List._∷_ e19 (List._∷_ e20 (List._∷_ e25 (List._∷_ e26 (List._∷_ e28 (List._∷_ e30 (List._∷_ e32 (List._∷_ e34 (List._∷_ e36 (List._∷_ e37 (List._∷_ e38 (List._∷_ e40
-    (List._∷_ e43 List.[]))))))))))))))
+t32 = List._∷_ e0 (List._∷_ e2 (List._∷_ e26 (List._∷_ e44 (List._∷_ e51 (List._∷_ e52 (List._∷_ e56 (List._∷_ e57 (List._∷_ e58 (List._∷_ e59 (List._∷_ e3 (List._∷_ e7 (List._∷_ e10 (List._∷_ e12
+    (List._∷_ e15 (List._∷_ e17 List.[])))))))))))))))
 
 abbrev pub t33 : List.List Row.Entry
-t33 = List._∷_ e0 (List._∷_ e2 (List._∷_ e24 (List._∷_ e42 (List._∷_ e47 (List._∷_ e50 (List._∷_ e52 (List._∷_ e53 (List._∷_ e54 (List._∷_ e56 (List._∷_ e3 (List._∷_ e6 (List._∷_ e8 (List._∷_ e11
-    (List._∷_ e13 (List._∷_ e16 List.[])))))))))))))))
+t33 = List._∷_ e19 (List._∷_ e20 (List._∷_ e22 (List._∷_ e23 (List._∷_ e27 (List._∷_ e29 (List._∷_ e30 (List._∷_ e32 (List._∷_
+    (24, Relend.msptr (Referent.rtF (Referent.fInt Syntax.w16)) (Syntax.tyRef Syntax.erased Syntax.mut (Syntax.tyInt Syntax.w16)) 9) (List._∷_ e37 (List._∷_ e38 (List._∷_ e40 (List._∷_ e41 (List._∷_ e42
+    (List._∷_ e46 (List._∷_ e47 List.[])))))))))))))))
 
 abbrev pub t34 : List.List Row.Entry
-t34 = List._∷_ e17 (List._∷_ e18 (List._∷_ e19 (List._∷_ e20 (List._∷_ e25 (List._∷_ e26 (List._∷_ e28 (List._∷_ e30 (List._∷_ e32 (List._∷_
-    (25, Relend.msptr (Element.type) (Syntax.tyRef Syntax.erased Syntax.mut Element.behind) 9) (List._∷_ e36 (List._∷_ e37 (List._∷_ e38 (List._∷_ e40 (List._∷_ e43 List.[]))))))))))))))
+t34 = List._∷_ e19 (List._∷_ e20 (List._∷_ e22 (List._∷_ e23 (List._∷_ e27 (List._∷_ e29 (List._∷_ e30 (List._∷_ e32 (List._∷_ e34 (List._∷_ e36 (List._∷_ e38 (List._∷_ e40 (List._∷_ e41 (List._∷_ e42
+    (List._∷_ e46 (List._∷_ e47 List.[])))))))))))))))
 
 abbrev pub t35 : List.List Row.Entry
-t35 = List._∷_ e17 (List._∷_ e18 (List._∷_ e19 (List._∷_ e20 (List._∷_ e25 (List._∷_ e26 (List._∷_ e28 (List._∷_ e30 (List._∷_ e32 (List._∷_ e34 (List._∷_
-    (26, Mut.mslice (Element.type) (Syntax.tyRef Syntax.erased Syntax.mut Element.behind) 9) (List._∷_ e37 (List._∷_ e38 (List._∷_ e40 (List._∷_ e43 List.[]))))))))))))))
+t35 = List._∷_ e0 (List._∷_ e2 (List._∷_ e26 (List._∷_ e44 (List._∷_ e51 (List._∷_ e53 (List._∷_ e56 (List._∷_ e57 (List._∷_ e58 (List._∷_ e59 (List._∷_ e3 (List._∷_ e7 (List._∷_ e10 (List._∷_ e12
+    (List._∷_ e15 (List._∷_ e17 List.[])))))))))))))))
 
 abbrev pub t36 : List.List Row.Entry
-t36 = List._∷_ e17 (List._∷_ e18 (List._∷_ e19 (List._∷_ e20 (List._∷_ (20, Rows.whole (Declared.row Put.the-type)) (List._∷_ e26 (List._∷_ e27 (List._∷_ e30 (List._∷_ e31 (List._∷_ e34 (List._∷_ e35
-    (List._∷_ e37 (List._∷_ e38 (List._∷_ e40 (List._∷_ e43 List.[]))))))))))))))
+t36 = List._∷_ e19 (List._∷_ e20 (List._∷_ e22 (List._∷_ e23 (List._∷_ e27 (List._∷_ e29 (List._∷_ e30 (List._∷_ e32 (List._∷_ e34 (List._∷_ e36 (List._∷_
+    (26, Relend.msptr (Element.type) (Syntax.tyRef Syntax.erased Syntax.mut Element.behind) 10) (List._∷_ e40 (List._∷_ e41 (List._∷_ e42 (List._∷_ e46 (List._∷_ e47 List.[])))))))))))))))
 
 abbrev pub t37 : List.List Row.Entry
-t37 = List._∷_ e0 (List._∷_ e2 (List._∷_ e24 (List._∷_ e42 (List._∷_ e47 (List._∷_ e50 (List._∷_ e51 (List._∷_ e53 (List._∷_ e54 (List._∷_ e56 (List._∷_ e3 (List._∷_ e6 (List._∷_ e8 (List._∷_ e11
-    (List._∷_ e13 (List._∷_ e16 List.[])))))))))))))))
+t37 = List._∷_ e19 (List._∷_ e20 (List._∷_ e22 (List._∷_ e23 (List._∷_ e27 (List._∷_ e29 (List._∷_ e30 (List._∷_ e32 (List._∷_ e34 (List._∷_ e36 (List._∷_ e38 (List._∷_
+    (27, Mut.mslice (Element.type) (Syntax.tyRef Syntax.erased Syntax.mut Element.behind) 10) (List._∷_ e41 (List._∷_ e42 (List._∷_ e46 (List._∷_ e47 List.[])))))))))))))))
 
 abbrev pub t38 : List.List Row.Entry
-t38 = List._∷_ e17 (List._∷_ e18 (List._∷_ e19 (List._∷_ e20 (List._∷_ e25 (List._∷_ e26 (List._∷_ e27 (List._∷_ e30 (List._∷_ e31 (List._∷_ e34 (List._∷_ e35 (List._∷_ e37 (List._∷_ e38 (List._∷_ e40
-    (List._∷_ e43 List.[]))))))))))))))
+t38 = List._∷_ e19 (List._∷_ e20 (List._∷_ e22 (List._∷_ e23 (List._∷_ e27 (List._∷_ (21, Rows.whole (Declared.row Put.the-type)) (List._∷_ e30 (List._∷_ e31 (List._∷_ e34 (List._∷_ e35 (List._∷_ e38
+    (List._∷_ e39 (List._∷_ e41 (List._∷_ e42 (List._∷_ e46 (List._∷_ e47 List.[])))))))))))))))
 
 abbrev pub t39 : List.List Row.Entry
-t39 = List._∷_ e0 (List._∷_ e2 (List._∷_ e22 (List._∷_ e42 (List._∷_ e47 (List._∷_ e50 (List._∷_ e51 (List._∷_ e53 (List._∷_ e54 (List._∷_ e56 (List._∷_ e3 (List._∷_ e6 (List._∷_ e8 (List._∷_ e11
-    (List._∷_ e13 (List._∷_ e16 List.[])))))))))))))))
+t39 = List._∷_ e0 (List._∷_ e2 (List._∷_ e26 (List._∷_ e44 (List._∷_ e51 (List._∷_ e53 (List._∷_ e55 (List._∷_ e57 (List._∷_ e58 (List._∷_ e59 (List._∷_ e3 (List._∷_ e7 (List._∷_ e10 (List._∷_ e12
+    (List._∷_ e15 (List._∷_ e17 List.[])))))))))))))))
 
 abbrev pub t40 : List.List Row.Entry
-t40 = List._∷_ e17 (List._∷_ e18 (List._∷_ e19 (List._∷_ e20 (List._∷_ e25 (List._∷_ e26 (List._∷_ e29 (List._∷_ e30 (List._∷_ e31 (List._∷_ e34 (List._∷_ e35 (List._∷_ e37 (List._∷_ e38 (List._∷_ e40
-    (List._∷_ e43 List.[]))))))))))))))
+t40 = List._∷_ e19 (List._∷_ e20 (List._∷_ e22 (List._∷_ e23 (List._∷_ e27 (List._∷_ e29 (List._∷_ e30 (List._∷_ e31 (List._∷_ e34 (List._∷_ e35 (List._∷_ e38 (List._∷_ e39 (List._∷_ e41 (List._∷_ e42
+    (List._∷_ e46 (List._∷_ e47 List.[])))))))))))))))
 
 abbrev pub t41 : List.List Row.Entry
-t41 = List._∷_ e0 (List._∷_ e2 (List._∷_ e22 (List._∷_ e42 (List._∷_ e45 (List._∷_ e50 (List._∷_ e51 (List._∷_ e53 (List._∷_ e54 (List._∷_ e56 (List._∷_ e3 (List._∷_ e6 (List._∷_ e8 (List._∷_ e11
-    (List._∷_ e13 (List._∷_ e16 List.[])))))))))))))))
+t41 = List._∷_ e0 (List._∷_ e2 (List._∷_ e24 (List._∷_ e44 (List._∷_ e51 (List._∷_ e53 (List._∷_ e55 (List._∷_ e57 (List._∷_ e58 (List._∷_ e59 (List._∷_ e3 (List._∷_ e7 (List._∷_ e10 (List._∷_ e12
+    (List._∷_ e15 (List._∷_ e17 List.[])))))))))))))))
 
 abbrev pub t42 : List.List Row.Entry
-t42 = List._∷_ e17 (List._∷_ e18 (List._∷_ e19 (List._∷_ e20 (List._∷_ e25 (List._∷_ e26 (List._∷_ e29 (List._∷_ e30 (List._∷_ e33 (List._∷_ e34 (List._∷_ e35 (List._∷_ e37 (List._∷_ e38 (List._∷_ e40
-    (List._∷_ e43 List.[]))))))))))))))
+t42 = List._∷_ e19 (List._∷_ e20 (List._∷_ e22 (List._∷_ e23 (List._∷_ e27 (List._∷_ e29 (List._∷_ e30 (List._∷_ e33 (List._∷_ e34 (List._∷_ e35 (List._∷_ e38 (List._∷_ e39 (List._∷_ e41 (List._∷_ e42
+    (List._∷_ e46 (List._∷_ e47 List.[])))))))))))))))
 
 abbrev pub t43 : List.List Row.Entry
-t43 = List._∷_ e0 (List._∷_ e2 (List._∷_ e22 (List._∷_ e42 (List._∷_ e45 (List._∷_ e48 (List._∷_ e51 (List._∷_ e53 (List._∷_ e54 (List._∷_ e56 (List._∷_ e3 (List._∷_ e6 (List._∷_ e8 (List._∷_ e11
-    (List._∷_ e13 (List._∷_ e16 List.[])))))))))))))))
+t43 = List._∷_ e0 (List._∷_ e2 (List._∷_ e24 (List._∷_ e44 (List._∷_ e49 (List._∷_ e53 (List._∷_ e55 (List._∷_ e57 (List._∷_ e58 (List._∷_ e59 (List._∷_ e3 (List._∷_ e7 (List._∷_ e10 (List._∷_ e12
+    (List._∷_ e15 (List._∷_ e17 List.[])))))))))))))))
 
 abbrev pub t44 : List.List Row.Entry
-t44 = List._∷_ e0 (List._∷_ e2 (List._∷_ (2, Relend.mslice-owed (Referent.rtF (Referent.fInt Syntax.w8)) (Syntax.tyRef (Syntax.named 1) Syntax.mut (Syntax.tyInt Syntax.w8)) 1 10 Row.off) (List._∷_ e42
-    (List._∷_ e45 (List._∷_ e48 (List._∷_ e51 (List._∷_ e53 (List._∷_ e54 (List._∷_ e56 (List._∷_ e3 (List._∷_ e6 (List._∷_ e8 (List._∷_ e11 (List._∷_ e13 (List._∷_ e16 List.[])))))))))))))))
+t44 = List._∷_ e19 (List._∷_ e20 (List._∷_ e22 (List._∷_ e23 (List._∷_ e27 (List._∷_ e29 (List._∷_ e30 (List._∷_ e33 (List._∷_ e34 (List._∷_ e37 (List._∷_ e38 (List._∷_ e39 (List._∷_ e41 (List._∷_ e42
+    (List._∷_ e46 (List._∷_ e47 List.[])))))))))))))))
 
 abbrev pub t45 : List.List Row.Entry
-t45 = List._∷_ e17 (List._∷_ e18 (List._∷_ e19 (List._∷_ e20 (List._∷_ e25 (List._∷_ e26 (List._∷_ e29 (List._∷_ e30 (List._∷_ e33 (List._∷_ e34 (List._∷_ e36 (List._∷_ e37 (List._∷_
-    (28, Relend.msptr (Referent.rtF (Referent.fInt Syntax.w8)) (Syntax.tyRef Syntax.erased Syntax.mut (Syntax.tyInt Syntax.w8)) 10) (List._∷_ e40 (List._∷_ e43 List.[]))))))))))))))
+t45 = List._∷_ e0 (List._∷_ e2 (List._∷_ e24 (List._∷_ e44 (List._∷_ e49 (List._∷_ e52 (List._∷_ e55 (List._∷_ e57 (List._∷_ e58 (List._∷_ e59 (List._∷_ e3 (List._∷_ e7 (List._∷_ e10 (List._∷_ e12
+    (List._∷_ e15 (List._∷_ e17 List.[])))))))))))))))
 
 abbrev pub t46 : List.List Row.Entry
-t46 = List._∷_ e17 (List._∷_ e18 (List._∷_ e19 (List._∷_ e20 (List._∷_ e25 (List._∷_ e26 (List._∷_ e29 (List._∷_ e30 (List._∷_ e33 (List._∷_ e34 (List._∷_ e36 (List._∷_ e37 (List._∷_ e38 (List._∷_
-    (29, Mut.mslice (Referent.rtF (Referent.fInt Syntax.w8)) (Syntax.tyRef Syntax.erased Syntax.mut (Syntax.tyInt Syntax.w8)) 10) (List._∷_ e43 List.[]))))))))))))))
+t46 = List._∷_ e0 (List._∷_ e2 (List._∷_ (2, Relend.mslice-owed (Referent.rtF (Referent.fInt Syntax.w8)) (Syntax.tyRef (Syntax.named 1) Syntax.mut (Syntax.tyInt Syntax.w8)) 1 11 Row.off) (List._∷_ e44
+    (List._∷_ e49 (List._∷_ e52 (List._∷_ e55 (List._∷_ e57 (List._∷_ e58 (List._∷_ e59 (List._∷_ e3 (List._∷_ e7 (List._∷_ e10 (List._∷_ e12 (List._∷_ e15 (List._∷_ e17 List.[])))))))))))))))
 
 abbrev pub t47 : List.List Row.Entry
-t47 = List._∷_ e17 (List._∷_ e18 (List._∷_ e19 (List._∷_ e20 (List._∷_ e25 (List._∷_ e26 (List._∷_ e29 (List._∷_ e30 (List._∷_ e33 (List._∷_ e34 (List._∷_ e36 (List._∷_ (27, Rows.sc-here Row.sUnit)
-    (List._∷_ e38 (List._∷_ e39 (List._∷_ e43 List.[]))))))))))))))
+t47 = List._∷_ e19 (List._∷_ e20 (List._∷_ e22 (List._∷_ e23 (List._∷_ e27 (List._∷_ e29 (List._∷_ e30 (List._∷_ e33 (List._∷_ e34 (List._∷_ e37 (List._∷_ e38 (List._∷_ e40 (List._∷_ e41 (List._∷_
+    (29, Relend.msptr (Referent.rtF (Referent.fInt Syntax.w8)) (Syntax.tyRef Syntax.erased Syntax.mut (Syntax.tyInt Syntax.w8)) 11) (List._∷_ e46 (List._∷_ e47 List.[])))))))))))))))
 
 abbrev pub t48 : List.List Row.Entry
-t48 = List._∷_ e17 (List._∷_ e18 (List._∷_ e19 (List._∷_ e20 (List._∷_ e25 (List._∷_ e26 (List._∷_ e29 (List._∷_ e30 (List._∷_ e33 (List._∷_ e34 (List._∷_ e36 (List._∷_ e37 (List._∷_ e38 (List._∷_ e39
-    (List._∷_ e43 List.[]))))))))))))))
+t48 = List._∷_ e19 (List._∷_ e20 (List._∷_ e22 (List._∷_ e23 (List._∷_ e27 (List._∷_ e29 (List._∷_ e30 (List._∷_ e33 (List._∷_ e34 (List._∷_ e37 (List._∷_ e38 (List._∷_ e40 (List._∷_ e41 (List._∷_ e42
+    (List._∷_ (30, Mut.mslice (Referent.rtF (Referent.fInt Syntax.w8)) (Syntax.tyRef Syntax.erased Syntax.mut (Syntax.tyInt Syntax.w8)) 11) (List._∷_ e47 List.[])))))))))))))))
 
 abbrev pub t49 : List.List Row.Entry
-t49 = List._∷_ e17 (List._∷_ e18 (List._∷_ e19 (List._∷_ e20 (List._∷_ e25 (List._∷_ e26 (List._∷_ e29 (List._∷_ e30 (List._∷_ e33 (List._∷_ e34 (List._∷_ e36 (List._∷_ e37 (List._∷_ e38 (List._∷_ e40
-    (List._∷_ e44 List.[]))))))))))))))
+t49 = List._∷_ e19 (List._∷_ e20 (List._∷_ e22 (List._∷_ e23 (List._∷_ e27 (List._∷_ e29 (List._∷_ e30 (List._∷_ e33 (List._∷_ e34 (List._∷_ e37 (List._∷_ e38 (List._∷_ e40 (List._∷_
+    (28, Rows.sc-here Row.sUnit) (List._∷_ e42 (List._∷_ e45 (List._∷_ e47 List.[])))))))))))))))
 
 abbrev pub t50 : List.List Row.Entry
-t50 = List._∷_ e17 (List._∷_ e18 (List._∷_ e19 (List._∷_ e21 (List._∷_ e25 (List._∷_ e26 (List._∷_ e29 (List._∷_ e30 (List._∷_ e33 (List._∷_ e34 (List._∷_ e36 (List._∷_ e37 (List._∷_ e38 (List._∷_ e40
-    (List._∷_ e44 List.[]))))))))))))))
+t50 = List._∷_ e19 (List._∷_ e20 (List._∷_ e22 (List._∷_ e23 (List._∷_ e27 (List._∷_ e29 (List._∷_ e30 (List._∷_ e33 (List._∷_ e34 (List._∷_ e37 (List._∷_ e38 (List._∷_ e40 (List._∷_ e41 (List._∷_ e42
+    (List._∷_ e45 (List._∷_ e47 List.[])))))))))))))))
 
 abbrev pub t51 : List.List Row.Entry
-t51 = List._∷_ e1 (List._∷_ e2 (List._∷_ e22 (List._∷_ e42 (List._∷_ e45 (List._∷_ e48 (List._∷_ e51 (List._∷_ e53 (List._∷_ e54 (List._∷_ e56 (List._∷_ e3 (List._∷_ e5 (List._∷_ e8 (List._∷_ e11
-    (List._∷_ e13 (List._∷_ e16 List.[])))))))))))))))
+t51 = List._∷_ e19 (List._∷_ e20 (List._∷_ e22 (List._∷_ e23 (List._∷_ e27 (List._∷_ e29 (List._∷_ e30 (List._∷_ e33 (List._∷_ e34 (List._∷_ e37 (List._∷_ e38 (List._∷_ e40 (List._∷_ e41 (List._∷_ e42
+    (List._∷_ e46 (List._∷_ e48 List.[])))))))))))))))
 
 abbrev pub t52 : List.List Row.Entry
-t52 = List._∷_ e1 (List._∷_ e2 (List._∷_ e22 (List._∷_ e41 (List._∷_ e45 (List._∷_ e48 (List._∷_ e51 (List._∷_ e53 (List._∷_ e54 (List._∷_ e56 (List._∷_ e3 (List._∷_ e5 (List._∷_ e8 (List._∷_ e11
-    (List._∷_ e13 (List._∷_ e16 List.[])))))))))))))))
+t52 = List._∷_ e19 (List._∷_ e20 (List._∷_ e22 (List._∷_ e23 (List._∷_ e28 (List._∷_ e29 (List._∷_ e30 (List._∷_ e33 (List._∷_ e34 (List._∷_ e37 (List._∷_ e38 (List._∷_ e40 (List._∷_ e41 (List._∷_ e42
+    (List._∷_ e46 (List._∷_ e48 List.[])))))))))))))))
+
+abbrev pub t53 : List.List Row.Entry
+t53 = List._∷_ e1 (List._∷_ e2 (List._∷_ e24 (List._∷_ e44 (List._∷_ e49 (List._∷_ e52 (List._∷_ e55 (List._∷_ e57 (List._∷_ e58 (List._∷_ e59 (List._∷_ e3 (List._∷_ e7 (List._∷_ e9 (List._∷_ e12
+    (List._∷_ e15 (List._∷_ e17 List.[])))))))))))))))
+
+abbrev pub t54 : List.List Row.Entry
+t54 = List._∷_ e1 (List._∷_ e2 (List._∷_ e24 (List._∷_ e43 (List._∷_ e49 (List._∷_ e52 (List._∷_ e55 (List._∷_ e57 (List._∷_ e58 (List._∷_ e59 (List._∷_ e3 (List._∷_ e7 (List._∷_ e9 (List._∷_ e12
+    (List._∷_ e15 (List._∷_ e17 List.[])))))))))))))))
 
 abbrev pub T0 : Row.Cx
 T0 = record { locals = List._++_ t0 t1; slots = List.[] }
@@ -937,179 +950,182 @@ T3 = record { locals = List._++_ t0 t1; slots = List.[] }
 abbrev pub T4 : Row.Cx
 T4 = record { locals = List._++_ t0 t1; slots = List.[] }
 
-abbrev pub T6 : Row.Cx
-T6 = record { locals = List._++_ t3 t1; slots = List.[] }
+abbrev pub T5 : Row.Cx
+T5 = record { locals = List._++_ t0 t1; slots = List.[] }
 
 abbrev pub T7 : Row.Cx
-T7 = record { locals = List._++_ t4 t1; slots = List.[] }
+T7 = record { locals = List._++_ t3 t1; slots = List.[] }
 
-abbrev pub T9 : Row.Cx
-T9 = record { locals = List._++_ t5 t1; slots = List.[] }
+abbrev pub T8 : Row.Cx
+T8 = record { locals = List._++_ t4 t1; slots = List.[] }
 
 abbrev pub T10 : Row.Cx
-T10 = record { locals = List._++_ t6 t1; slots = List.[] }
+T10 = record { locals = List._++_ t5 t1; slots = List.[] }
 
-abbrev pub T12 : Row.Cx
-T12 = record { locals = List._++_ t7 t8; slots = List.[] }
+abbrev pub T11 : Row.Cx
+T11 = record { locals = List._++_ t6 t7; slots = List.[] }
 
 abbrev pub T13 : Row.Cx
-T13 = record { locals = List._++_ t7 t9; slots = List.[] }
+T13 = record { locals = List._++_ t8 t9; slots = List.[] }
 
 abbrev pub T14 : Row.Cx
-T14 = record { locals = List._++_ t10 t11; slots = List.[] }
+T14 = record { locals = List._++_ t8 t10; slots = List.[] }
 
-abbrev pub T16 : Row.Cx
-T16 = record { locals = List._++_ t12 t11; slots = List.[] }
+abbrev pub T15 : Row.Cx
+T15 = record { locals = List._++_ t11 t12; slots = List.[] }
 
 abbrev pub T17 : Row.Cx
-T17 = record { locals = List._++_ t12 t11; slots = List.[] }
+T17 = record { locals = List._++_ t13 t12; slots = List.[] }
 
-abbrev pub T20 : Row.Cx
-T20 = record { locals = List._++_ t13 t11; slots = List.[] }
+abbrev pub T18 : Row.Cx
+T18 = record { locals = List._++_ t13 t12; slots = List.[] }
 
 abbrev pub T21 : Row.Cx
-T21 = record { locals = List._++_ t13 t11; slots = List.[] }
+T21 = record { locals = List._++_ t14 t15; slots = List.[] }
 
-abbrev pub T24 : Row.Cx
-T24 = record { locals = List._++_ t14 t1; slots = List.[] }
+abbrev pub T22 : Row.Cx
+T22 = record { locals = List._++_ t14 t15; slots = List.[] }
 
-abbrev pub T26 : Row.Cx
-T26 = record { locals = List._++_ t14 t15; slots = List.[] }
+abbrev pub T25 : Row.Cx
+T25 = record { locals = List._++_ t16 t1; slots = List.[] }
 
 abbrev pub T27 : Row.Cx
-T27 = record { locals = List._++_ t16 t15; slots = List.[] }
+T27 = record { locals = List._++_ t16 t17; slots = List.[] }
 
 abbrev pub T28 : Row.Cx
-T28 = record { locals = List._++_ t17 t18; slots = List.[] }
+T28 = record { locals = List._++_ t18 t17; slots = List.[] }
 
 abbrev pub T29 : Row.Cx
-T29 = record { locals = List._++_ t19 t15; slots = List.[] }
+T29 = record { locals = List._++_ t19 t20; slots = List.[] }
 
 abbrev pub T30 : Row.Cx
-T30 = record { locals = List._++_ t19 t1; slots = List.[] }
+T30 = record { locals = List._++_ t21 t17; slots = List.[] }
 
 abbrev pub T31 : Row.Cx
-T31 = record { locals = List._++_ t20 t1; slots = List.[] }
+T31 = record { locals = List._++_ t21 t1; slots = List.[] }
 
 abbrev pub T32 : Row.Cx
-T32 = record { locals = List._++_ t20 t1; slots = List.[] }
+T32 = record { locals = List._++_ t22 t1; slots = List.[] }
 
 abbrev pub T33 : Row.Cx
-T33 = record { locals = List._++_ t21 t1; slots = List.[] }
+T33 = record { locals = List._++_ t22 t1; slots = List.[] }
 
 abbrev pub T34 : Row.Cx
-T34 = record { locals = List._++_ t22 t1; slots = List.[] }
+T34 = record { locals = List._++_ t23 t1; slots = List.[] }
 
 abbrev pub T35 : Row.Cx
-T35 = record { locals = List._++_ t23 t1; slots = List.[] }
+T35 = record { locals = List._++_ t24 t1; slots = List.[] }
 
 abbrev pub T36 : Row.Cx
-T36 = record { locals = List._++_ t23 t18; slots = List.[] }
+T36 = record { locals = List._++_ t25 t1; slots = List.[] }
 
 abbrev pub T37 : Row.Cx
-T37 = record { locals = List._++_ t17 t18; slots = List.[] }
+T37 = record { locals = List._++_ t25 t20; slots = List.[] }
 
 abbrev pub T38 : Row.Cx
-T38 = record { locals = List._++_ t24 t1; slots = List.[] }
+T38 = record { locals = List._++_ t19 t20; slots = List.[] }
 
 abbrev pub T39 : Row.Cx
-T39 = record { locals = List._++_ t24 t1; slots = List.[] }
+T39 = record { locals = List._++_ t26 t1; slots = List.[] }
 
 abbrev pub T40 : Row.Cx
-T40 = record { locals = List._++_ t25 t1; slots = List.[] }
+T40 = record { locals = List._++_ t26 t1; slots = List.[] }
 
 abbrev pub T41 : Row.Cx
-T41 = record { locals = List._++_ t26 t1; slots = List.[] }
+T41 = record { locals = List._++_ t27 t1; slots = List.[] }
 
-abbrev pub T43 : Row.Cx
-T43 = record { locals = List._++_ t27 t28; slots = List.[] }
+abbrev pub T42 : Row.Cx
+T42 = record { locals = List._++_ t28 t1; slots = List.[] }
 
 abbrev pub T44 : Row.Cx
-T44 = record { locals = List._++_ t27 t29; slots = List.[] }
+T44 = record { locals = List._++_ t29 t30; slots = List.[] }
 
-abbrev pub T46 : Row.Cx
-T46 = record { locals = List._++_ t30 t31; slots = List.[] }
+abbrev pub T45 : Row.Cx
+T45 = record { locals = List._++_ t29 t31; slots = List.[] }
 
 abbrev pub T47 : Row.Cx
-T47 = record { locals = List._++_ t30 t32; slots = List.[] }
+T47 = record { locals = List._++_ t32 t33; slots = List.[] }
 
-abbrev pub T49 : Row.Cx
-T49 = record { locals = List._++_ t33 t34; slots = List.[] }
+abbrev pub T48 : Row.Cx
+T48 = record { locals = List._++_ t32 t34; slots = List.[] }
 
 abbrev pub T50 : Row.Cx
-T50 = record { locals = List._++_ t33 t35; slots = List.[] }
+T50 = record { locals = List._++_ t35 t36; slots = List.[] }
 
 abbrev pub T51 : Row.Cx
-T51 = record { locals = List._++_ t33 t36; slots = List.[] }
+T51 = record { locals = List._++_ t35 t37; slots = List.[] }
 
 abbrev pub T52 : Row.Cx
-T52 = record { locals = List._++_ t37 t36; slots = List.[] }
+T52 = record { locals = List._++_ t35 t38; slots = List.[] }
 
 abbrev pub T53 : Row.Cx
-T53 = record { locals = List._++_ t37 t38; slots = List.[] }
+T53 = record { locals = List._++_ t39 t38; slots = List.[] }
 
-abbrev pub T55 : Row.Cx
-T55 = record { locals = List._++_ t39 t40; slots = List.[] }
+abbrev pub T54 : Row.Cx
+T54 = record { locals = List._++_ t39 t40; slots = List.[] }
 
 abbrev pub T56 : Row.Cx
-T56 = record { locals = List._++_ t39 t40; slots = List.[] }
+T56 = record { locals = List._++_ t41 t42; slots = List.[] }
 
-abbrev pub T59 : Row.Cx
-T59 = record { locals = List._++_ t41 t42; slots = List.[] }
+abbrev pub T57 : Row.Cx
+T57 = record { locals = List._++_ t41 t42; slots = List.[] }
 
 abbrev pub T60 : Row.Cx
-T60 = record { locals = List._++_ t41 t42; slots = List.[] }
+T60 = record { locals = List._++_ t43 t44; slots = List.[] }
 
-abbrev pub T63 : Row.Cx
-T63 = record { locals = List._++_ t43 t1; slots = List.[] }
+abbrev pub T61 : Row.Cx
+T61 = record { locals = List._++_ t43 t44; slots = List.[] }
 
-abbrev pub T66 : Row.Cx
-T66 = record { locals = List._++_ t44 t45; slots = List.[] }
+abbrev pub T64 : Row.Cx
+T64 = record { locals = List._++_ t45 t1; slots = List.[] }
 
 abbrev pub T67 : Row.Cx
-T67 = record { locals = List._++_ t44 t46; slots = List.[] }
+T67 = record { locals = List._++_ t46 t47; slots = List.[] }
 
 abbrev pub T68 : Row.Cx
-T68 = record { locals = List._++_ t44 t47; slots = List.[] }
+T68 = record { locals = List._++_ t46 t48; slots = List.[] }
 
 abbrev pub T69 : Row.Cx
-T69 = record { locals = List._++_ t44 t48; slots = List.[] }
+T69 = record { locals = List._++_ t46 t49; slots = List.[] }
 
-abbrev pub T71 : Row.Cx
-T71 = record { locals = List._++_ t43 t1; slots = List.[] }
+abbrev pub T70 : Row.Cx
+T70 = record { locals = List._++_ t46 t50; slots = List.[] }
 
 abbrev pub T72 : Row.Cx
-T72 = record { locals = List._++_ t43 t1; slots = List.[] }
+T72 = record { locals = List._++_ t45 t1; slots = List.[] }
 
-abbrev pub T74 : Row.Cx
-T74 = record { locals = List._++_ t43 t49; slots = List.[] }
+abbrev pub T73 : Row.Cx
+T73 = record { locals = List._++_ t45 t1; slots = List.[] }
 
 abbrev pub T75 : Row.Cx
-T75 = record { locals = List._++_ t17 t49; slots = List.[] }
+T75 = record { locals = List._++_ t45 t51; slots = List.[] }
 
 abbrev pub T76 : Row.Cx
-T76 = record { locals = List._++_ t17 t50; slots = List.[] }
+T76 = record { locals = List._++_ t19 t51; slots = List.[] }
 
 abbrev pub T77 : Row.Cx
-T77 = record { locals = List._++_ t17 t18; slots = List.[] }
+T77 = record { locals = List._++_ t19 t52; slots = List.[] }
 
 abbrev pub T78 : Row.Cx
-T78 = record { locals = List._++_ t51 t18; slots = List.[] }
+T78 = record { locals = List._++_ t19 t20; slots = List.[] }
 
 abbrev pub T79 : Row.Cx
-T79 = record { locals = List._++_ t51 t1; slots = List.[] }
+T79 = record { locals = List._++_ t53 t20; slots = List.[] }
 
 abbrev pub T80 : Row.Cx
-T80 = record { locals = List._++_ t52 t1; slots = List.[] }
+T80 = record { locals = List._++_ t53 t1; slots = List.[] }
 
 abbrev pub T81 : Row.Cx
-T81 = record { locals = List._++_ t2 t1; slots = List.[] }
+T81 = record { locals = List._++_ t54 t1; slots = List.[] }
+
+abbrev pub T82 : Row.Cx
+T82 = record { locals = List._++_ t2 t1; slots = List.[] }
 
 abbrev pub O0 : Typed.Outs
 O0 = record { next = Option.none; exits = List.[]; returns = Option.some T1 }
 
 abbrev pub O1 : Typed.Outs
-O1 = Typed.withNext (Option.some T28) O0
+O1 = Typed.withNext (Option.some T29) O0
 
 module _ (claims· : Claims) where
   abbrev s0 : Typed.Gives T0 T2
@@ -1121,68 +1137,75 @@ module _ (claims· : Claims) where
   abbrev s2 : Typed.Gives T3 T4
   s2 = Know.k-sl-known (Referent.fInt Syntax.w16) T3 4 2 (Syntax.tyRef (Syntax.named 2) Syntax.mut (Syntax.tyInt Syntax.w16)) Row.off 0 λ x. x
 
-  abbrev s4 : Typed.Gives T4 T6
-  s4 = Relend.k-sl-relend (Referent.rtF (Referent.fInt Syntax.w8)) T4 2 12 1 4 (Syntax.tyRef (Syntax.named 1) Syntax.mut (Syntax.tyInt Syntax.w8)) (Syntax.tyRef Syntax.erased Syntax.mut (Syntax.tyInt
+  abbrev s3 : Typed.Gives T4 T5
+  s3 = Know.k-shs-known (Referent.fInt Syntax.w8) T4 7 4 (Syntax.tyRef (Syntax.named 4) Syntax.imm (Syntax.tyInt Syntax.w8)) Row.off 0 λ x. x
+
+  abbrev s5 : Typed.Gives T5 T7
+  s5 = Relend.k-sl-relend (Referent.rtF (Referent.fInt Syntax.w8)) T5 2 13 1 5 (Syntax.tyRef (Syntax.named 1) Syntax.mut (Syntax.tyInt Syntax.w8)) (Syntax.tyRef Syntax.erased Syntax.mut (Syntax.tyInt
       Syntax.w8)) Row.off λ x. x
 
-  abbrev s5 : Typed.Asks T6 T7
-  s5 = Relend.k-sl-aggregate (Referent.rtF (Referent.fInt Syntax.w8)) (Relend.asMut (Referent.rtF (Referent.fInt Syntax.w8))) T6 12 13 4 (Syntax.tyRef Syntax.erased Syntax.mut (Syntax.tyInt
+  abbrev s6 : Typed.Asks T7 T8
+  s6 = Relend.k-sl-aggregate (Referent.rtF (Referent.fInt Syntax.w8)) (Relend.asMut (Referent.rtF (Referent.fInt Syntax.w8))) T7 13 14 5 (Syntax.tyRef Syntax.erased Syntax.mut (Syntax.tyInt
       Syntax.w8)) (Syntax.tyRef Syntax.erased Syntax.mut (Syntax.tyInt Syntax.w8)) (λ x. x) (Scalar.oFld 2 (List._∷_ (Syntax.field 1) List.[]) (Syntax.tyInt Syntax.w64) 8 λ v. Shared.lenV (v .0))
 
-  abbrev s7 : Typed.Gives T7 T9
-  s7 = Relend.k-sl-relend (Referent.rtF (Referent.fInt Syntax.w16)) T7 4 14 2 5 (Syntax.tyRef (Syntax.named 2) Syntax.mut (Syntax.tyInt Syntax.w16)) (Syntax.tyRef Syntax.erased Syntax.mut
+  abbrev s8 : Typed.Gives T8 T10
+  s8 = Relend.k-sl-relend (Referent.rtF (Referent.fInt Syntax.w16)) T8 4 15 2 6 (Syntax.tyRef (Syntax.named 2) Syntax.mut (Syntax.tyInt Syntax.w16)) (Syntax.tyRef Syntax.erased Syntax.mut
       (Syntax.tyInt Syntax.w16)) Row.off λ x. x
 
-  abbrev s8 : Typed.Asks T9 T10
-  s8 = Relend.k-sl-aggregate (Referent.rtF (Referent.fInt Syntax.w16)) (Relend.asMut (Referent.rtF (Referent.fInt Syntax.w16))) T9 14 15 5 (Syntax.tyRef Syntax.erased Syntax.mut (Syntax.tyInt
+  abbrev s9 : Typed.Asks T10 T11
+  s9 = Relend.k-sl-aggregate (Referent.rtF (Referent.fInt Syntax.w16)) (Relend.asMut (Referent.rtF (Referent.fInt Syntax.w16))) T10 15 16 6 (Syntax.tyRef Syntax.erased Syntax.mut (Syntax.tyInt
       Syntax.w16)) (Syntax.tyRef Syntax.erased Syntax.mut (Syntax.tyInt Syntax.w16)) (λ x. x) (Scalar.oFld 4 (List._∷_ (Syntax.field 1) List.[]) (Syntax.tyInt Syntax.w64) 8 λ v. Shared.lenV (v .0))
 
-  abbrev s10 : Typed.Gives T10 T12
-  s10 = Relend.k-sl-relend (Element.type) T10 5 16 3 6 (Syntax.tyRef (Syntax.named 3) Syntax.mut Element.behind) (Syntax.tyRef Syntax.erased Syntax.mut Element.behind) Row.off λ x. x
+  abbrev s11 : Typed.Gives T11 T13
+  s11 = Relend.k-sl-relend (Element.type) T11 5 17 3 7 (Syntax.tyRef (Syntax.named 3) Syntax.mut Element.behind) (Syntax.tyRef Syntax.erased Syntax.mut Element.behind) Row.off λ x. x
 
-  abbrev s11 : Typed.Asks T12 T13
-  s11 = Relend.k-sl-aggregate (Element.type) (Relend.asMut (Element.type)) T12 16 17 6 (Syntax.tyRef Syntax.erased Syntax.mut Element.behind) (Syntax.tyRef Syntax.erased Syntax.mut Element.behind) (λ
+  abbrev s12 : Typed.Asks T13 T14
+  s12 = Relend.k-sl-aggregate (Element.type) (Relend.asMut (Element.type)) T13 17 18 7 (Syntax.tyRef Syntax.erased Syntax.mut Element.behind) (Syntax.tyRef Syntax.erased Syntax.mut Element.behind) (λ
       x. x) (Scalar.oFld 5 (List._∷_ (Syntax.field 1) List.[]) (Syntax.tyInt Syntax.w64) 8 λ v. Shared.lenV (v .0))
 
-  abbrev s12 : Typed.Both T13 T14
-  s12 = Call.callB ps·0 r·0 (claims· .0) (claims· .1) T13 (
+  abbrev s13 : Typed.Both T14 T15
+  s13 = Call.callB ps·0 r·0 (claims· .0) (claims· .1) T14 (
     record { pos = 1; ty = Syntax.tyRef (Syntax.named 0) Syntax.imm (Syntax.tyInt Syntax.w16); ref = λ x. x },
     (
-      record { pos = 13; ty = Syntax.tyRef Syntax.erased Syntax.mut (Syntax.tyInt Syntax.w8); ref = λ x. x },
+      record { pos = 14; ty = Syntax.tyRef Syntax.erased Syntax.mut (Syntax.tyInt Syntax.w8); ref = λ x. x },
       (
         Bool.bLit Bool'.false,
         (
-          record { pos = 15; ty = Syntax.tyRef Syntax.erased Syntax.mut (Syntax.tyInt Syntax.w16); ref = λ x. x },
-          (record { pos = 17; ty = Syntax.tyRef Syntax.erased Syntax.mut Element.behind; ref = λ x. x }, (record { pos = 6; st = List.[]; d = 0; at = λ x. x }, (Num.vAt 7 λ x. x, tt))),
+          record { pos = 16; ty = Syntax.tyRef Syntax.erased Syntax.mut (Syntax.tyInt Syntax.w16); ref = λ x. x },
+          (
+            record { pos = 18; ty = Syntax.tyRef Syntax.erased Syntax.mut Element.behind; ref = λ x. x },
+            (record { pos = 6; st = List.[]; d = 0; at = λ x. x }, (record { pos = 7; ty = Syntax.tyRef (Syntax.named 4) Syntax.imm (Syntax.tyInt Syntax.w8); ref = λ x. x }, (Num.vAt 8 λ x. x, tt))),
+          ),
         ),
       ),
     ),
-  ) 8 (List._∷_ 0
-      (List._∷_ 4 (List._∷_ 5 (List._∷_ 6 List.[])))) (Syntax.tyEnum (List._∷_ 119 (List._∷_ 114 (List._∷_ 105 (List._∷_ 116 (List._∷_ 105 (List._∷_ 110 (List._∷_ 103 (List._∷_ 58 (List._∷_ 58 (List._∷_
-      80 (List._∷_ 117 (List._∷_ 116 List.[])))))))))))) (Syntax.ttcons (Syntax.tcons y3 Syntax.tnil) (Syntax.ttcons (Syntax.tcons (Syntax.tyInt Syntax.w64) Syntax.tnil) Syntax.ttnil)))
+  ) 9
+      (List._∷_ 0 (List._∷_ 5 (List._∷_ 6 (List._∷_ 7 (List._∷_ 4 List.[]))))) (Syntax.tyEnum (List._∷_ 119 (List._∷_ 114 (List._∷_ 105 (List._∷_ 116 (List._∷_ 105 (List._∷_ 110 (List._∷_ 103 (List._∷_ 58
+      (List._∷_ 58 (List._∷_ 80 (List._∷_ 117 (List._∷_ 116 List.[])))))))))))) (Syntax.ttcons (Syntax.tcons y3 Syntax.tnil) (Syntax.ttcons (Syntax.tcons (Syntax.tyInt Syntax.w64) Syntax.tnil)
+      Syntax.ttnil)))
 
-  abbrev s14 : Typed.Both T14 T16
-  s14 = Relend.k-back-sl (Referent.rtF (Referent.fInt Syntax.w8)) T14 13 2 1 4 (Syntax.tyRef (Syntax.named 1) Syntax.mut (Syntax.tyInt Syntax.w8)) (Syntax.tyRef Syntax.erased Syntax.mut (Syntax.tyInt
+  abbrev s15 : Typed.Both T15 T17
+  s15 = Relend.k-back-sl (Referent.rtF (Referent.fInt Syntax.w8)) T15 14 2 1 5 (Syntax.tyRef (Syntax.named 1) Syntax.mut (Syntax.tyInt Syntax.w8)) (Syntax.tyRef Syntax.erased Syntax.mut (Syntax.tyInt
       Syntax.w8)) Row.off (λ x. x) λ x. x
 
-  abbrev s15 : Typed.Gives T16 T17
-  s15 = Know.k-sl-known (Referent.fInt Syntax.w8) T16 2 1 (Syntax.tyRef (Syntax.named 1) Syntax.mut (Syntax.tyInt Syntax.w8)) Row.off 0 λ x. x
+  abbrev s16 : Typed.Gives T17 T18
+  s16 = Know.k-sl-known (Referent.fInt Syntax.w8) T17 2 1 (Syntax.tyRef (Syntax.named 1) Syntax.mut (Syntax.tyInt Syntax.w8)) Row.off 0 λ x. x
 
-  abbrev s18 : Typed.Both T17 T20
-  s18 = Relend.k-back-sl (Referent.rtF (Referent.fInt Syntax.w16)) T17 15 4 2 5 (Syntax.tyRef (Syntax.named 2) Syntax.mut (Syntax.tyInt Syntax.w16)) (Syntax.tyRef Syntax.erased Syntax.mut
+  abbrev s19 : Typed.Both T18 T21
+  s19 = Relend.k-back-sl (Referent.rtF (Referent.fInt Syntax.w16)) T18 16 4 2 6 (Syntax.tyRef (Syntax.named 2) Syntax.mut (Syntax.tyInt Syntax.w16)) (Syntax.tyRef Syntax.erased Syntax.mut
       (Syntax.tyInt Syntax.w16)) Row.off (λ x. x) λ x. x
 
-  abbrev s19 : Typed.Gives T20 T21
-  s19 = Know.k-sl-known (Referent.fInt Syntax.w16) T20 4 2 (Syntax.tyRef (Syntax.named 2) Syntax.mut (Syntax.tyInt Syntax.w16)) Row.off 0 λ x. x
+  abbrev s20 : Typed.Gives T21 T22
+  s20 = Know.k-sl-known (Referent.fInt Syntax.w16) T21 4 2 (Syntax.tyRef (Syntax.named 2) Syntax.mut (Syntax.tyInt Syntax.w16)) Row.off 0 λ x. x
 
-  abbrev s22 : Typed.Both T21 T24
-  s22 = Relend.k-back-sl (Element.type) T21 17 5 3 6 (Syntax.tyRef (Syntax.named 3) Syntax.mut Element.behind) (Syntax.tyRef Syntax.erased Syntax.mut Element.behind) Row.off (λ x. x) λ x. x
+  abbrev s23 : Typed.Both T22 T25
+  s23 = Relend.k-back-sl (Element.type) T22 18 5 3 7 (Syntax.tyRef (Syntax.named 3) Syntax.mut Element.behind) (Syntax.tyRef Syntax.erased Syntax.mut Element.behind) Row.off (λ x. x) λ x. x
 
-  abbrev s24 : Typed.Mo T24 → Typed.Mo T26
-  s24 = Scalar.n-use T24 (Scalar.oFld 2 (List._∷_ (Syntax.field 1) List.[]) (Syntax.tyInt Syntax.w64) 8 Shared.lenV) 18 (Rows.sc-here (Row.sInt Syntax.w64)) (Row.sInt Syntax.w64 .of)
+  abbrev s25 : Typed.Mo T25 → Typed.Mo T27
+  s25 = Scalar.n-use T25 (Scalar.oFld 2 (List._∷_ (Syntax.field 1) List.[]) (Syntax.tyInt Syntax.w64) 8 Shared.lenV) 19 (Rows.sc-here (Row.sInt Syntax.w64)) (Row.sInt Syntax.w64 .of)
 
-  abbrev s25 : Typed.Both T26 T27
-  s25 = Call.callB ps·1 r·1 (claims· .2) (claims· .3) T26 (record { pos = 8; st = List.[]; d = 0; at = λ x. x }, (Bool.bAt 3 λ x. x, (Num.vAt 18 λ x. x, tt))) 9 List.[] (Syntax.tyEnum (List._∷_ 98
+  abbrev s26 : Typed.Both T27 T28
+  s26 = Call.callB ps·1 r·1 (claims· .2) (claims· .3) T27 (record { pos = 9; st = List.[]; d = 0; at = λ x. x }, (Bool.bAt 3 λ x. x, (Num.vAt 19 λ x. x, tt))) 10 List.[] (Syntax.tyEnum (List._∷_ 98
       (List._∷_ 101 (List._∷_ 103 (List._∷_ 105 (List._∷_ 110 (List._∷_ 58 (List._∷_ 58 (List._∷_ 78 (List._∷_ 101 (List._∷_ 120 (List._∷_ 116 List.[]))))))))))) (Syntax.ttcons (Syntax.tcons
       (Syntax.tyEnum (List._∷_ 115 (List._∷_ 116 (List._∷_ 114 (List._∷_ 101 (List._∷_ 97 (List._∷_ 109 (List._∷_ 58 (List._∷_ 58 (List._∷_ 66 (List._∷_ 108 (List._∷_ 111 (List._∷_ 99 (List._∷_ 107
       (List._∷_ 76 (List._∷_ 101 (List._∷_ 110 (List._∷_ 103 (List._∷_ 116 (List._∷_ 104 List.[]))))))))))))))))))) (Syntax.ttcons (Syntax.tcons (Syntax.tyInt Syntax.w64) Syntax.tnil) (Syntax.ttcons
@@ -1194,27 +1217,27 @@ module _ (claims· : Claims) where
       Syntax.tnil (Syntax.ttcons (Syntax.tcons (Syntax.tyInt Syntax.w64) Syntax.tnil) (Syntax.ttcons (Syntax.tcons (Syntax.tyInt Syntax.w64) Syntax.tnil) (Syntax.ttcons (Syntax.tcons (Syntax.tyInt
       Syntax.w64) Syntax.tnil) (Syntax.ttcons Syntax.tnil Syntax.ttnil)))))))))))))))))))))) Syntax.tnil) Syntax.ttnil))) Syntax.tnil) (Syntax.ttcons (Syntax.tcons y3 Syntax.tnil) Syntax.ttnil)))
 
-  abbrev s26 : Typed.Mo T27 → Typed.Mo T29
-  s26 = Scalar.n-room T27 8 (Syntax.tyEnum (List._∷_ 119 (List._∷_ 114 (List._∷_ 105 (List._∷_ 116 (List._∷_ 105 (List._∷_ 110 (List._∷_ 103 (List._∷_ 58 (List._∷_ 58 (List._∷_ 80 (List._∷_ 117
+  abbrev s27 : Typed.Mo T28 → Typed.Mo T30
+  s27 = Scalar.n-room T28 9 (Syntax.tyEnum (List._∷_ 119 (List._∷_ 114 (List._∷_ 105 (List._∷_ 116 (List._∷_ 105 (List._∷_ 110 (List._∷_ 103 (List._∷_ 58 (List._∷_ 58 (List._∷_ 80 (List._∷_ 117
       (List._∷_ 116 List.[])))))))))))) (Syntax.ttcons (Syntax.tcons y3 Syntax.tnil) (Syntax.ttcons (Syntax.tcons (Syntax.tyInt Syntax.w64) Syntax.tnil) Syntax.ttnil)))
 
-  abbrev s27 : Typed.Mo T29 → Typed.Mo T30
-  s27 = Scalar.n-room T29 18 (Syntax.tyInt Syntax.w64)
+  abbrev s28 : Typed.Mo T30 → Typed.Mo T31
+  s28 = Scalar.n-room T30 19 (Syntax.tyInt Syntax.w64)
 
-  abbrev s28 : Typed.Both T30 T31
-  s28 = Known.k-enum-known Next.enum 0 T30 9 λ x. x
+  abbrev s29 : Typed.Both T31 T32
+  s29 = Known.k-enum-known Next.enum 0 T31 10 λ x. x
 
-  abbrev s29 : Typed.Gives T31 T32
-  s29 = Known.k-known-told Next.enum Laws.the-laws 0 T31 9 λ x. x
-
-  abbrev s30 : Typed.Mo T32 → Typed.Mo T33
-  s30 = Scalar.n-room T32 6 y4
+  abbrev s30 : Typed.Gives T32 T33
+  s30 = Known.k-known-told Next.enum Laws.the-laws 0 T32 10 λ x. x
 
   abbrev s31 : Typed.Mo T33 → Typed.Mo T34
-  s31 = Make'.n-make (Declared.row BlockLength.the-type) T33 10 λ m. m .1 .1 .1 .1 .1 .1 .1 .1 .1 .0 .0
+  s31 = Scalar.n-room T33 6 y4
 
   abbrev s32 : Typed.Mo T34 → Typed.Mo T35
-  s32 = Scalar.n-room T34 9 (Syntax.tyEnum (List._∷_ 98 (List._∷_ 101 (List._∷_ 103 (List._∷_ 105 (List._∷_ 110 (List._∷_ 58 (List._∷_ 58 (List._∷_ 78 (List._∷_ 101 (List._∷_ 120 (List._∷_ 116
+  s32 = Make'.n-make (Declared.row BlockLength.the-type) T34 11 λ m. m .1 .1 .1 .1 .1 .1 .1 .1 .1 .1 .0 .0
+
+  abbrev s33 : Typed.Mo T35 → Typed.Mo T36
+  s33 = Scalar.n-room T35 10 (Syntax.tyEnum (List._∷_ 98 (List._∷_ 101 (List._∷_ 103 (List._∷_ 105 (List._∷_ 110 (List._∷_ 58 (List._∷_ 58 (List._∷_ 78 (List._∷_ 101 (List._∷_ 120 (List._∷_ 116
       List.[]))))))))))) (Syntax.ttcons (Syntax.tcons (Syntax.tyEnum (List._∷_ 115 (List._∷_ 116 (List._∷_ 114 (List._∷_ 101 (List._∷_ 97 (List._∷_ 109 (List._∷_ 58 (List._∷_ 58 (List._∷_ 66 (List._∷_ 108
       (List._∷_ 111 (List._∷_ 99 (List._∷_ 107 (List._∷_ 76 (List._∷_ 101 (List._∷_ 110 (List._∷_ 103 (List._∷_ 116 (List._∷_ 104 List.[]))))))))))))))))))) (Syntax.ttcons (Syntax.tcons (Syntax.tyInt
       Syntax.w64) Syntax.tnil) (Syntax.ttcons (Syntax.tcons (Syntax.tyEnum (List._∷_ 115 (List._∷_ 116 (List._∷_ 114 (List._∷_ 101 (List._∷_ 97 (List._∷_ 109 (List._∷_ 58 (List._∷_ 58 (List._∷_ 82
@@ -1226,11 +1249,11 @@ module _ (claims· : Claims) where
       (Syntax.ttcons (Syntax.tcons (Syntax.tyInt Syntax.w64) Syntax.tnil) (Syntax.ttcons Syntax.tnil Syntax.ttnil)))))))))))))))))))))) Syntax.tnil) Syntax.ttnil))) Syntax.tnil) (Syntax.ttcons
       (Syntax.tcons y3 Syntax.tnil) Syntax.ttnil)))
 
-  abbrev s33 : Typed.Mo T35 → Typed.Mo T36
-  s33 = LocalCopy.n-val-copy T35 10 19 (Declared.row BlockLength.the-type) (Rows.whole (Declared.row BlockLength.the-type)) (Rows.whole (Declared.row BlockLength.the-type)) (λ x. x) (λ x. x) λ x. x
-
   abbrev s34 : Typed.Mo T36 → Typed.Mo T37
-  s34 = Scalar.n-room T36 10 (Syntax.tyEnum (List._∷_ 115 (List._∷_ 116 (List._∷_ 114 (List._∷_ 101 (List._∷_ 97 (List._∷_ 109 (List._∷_ 58 (List._∷_ 58 (List._∷_ 66 (List._∷_ 108 (List._∷_ 111
+  s34 = LocalCopy.n-val-copy T36 11 20 (Declared.row BlockLength.the-type) (Rows.whole (Declared.row BlockLength.the-type)) (Rows.whole (Declared.row BlockLength.the-type)) (λ x. x) (λ x. x) λ x. x
+
+  abbrev s35 : Typed.Mo T37 → Typed.Mo T38
+  s35 = Scalar.n-room T37 11 (Syntax.tyEnum (List._∷_ 115 (List._∷_ 116 (List._∷_ 114 (List._∷_ 101 (List._∷_ 97 (List._∷_ 109 (List._∷_ 58 (List._∷_ 58 (List._∷_ 66 (List._∷_ 108 (List._∷_ 111
       (List._∷_ 99 (List._∷_ 107 (List._∷_ 76 (List._∷_ 101 (List._∷_ 110 (List._∷_ 103 (List._∷_ 116 (List._∷_ 104 List.[]))))))))))))))))))) (Syntax.ttcons (Syntax.tcons (Syntax.tyInt Syntax.w64)
       Syntax.tnil) (Syntax.ttcons (Syntax.tcons (Syntax.tyEnum (List._∷_ 115 (List._∷_ 116 (List._∷_ 114 (List._∷_ 101 (List._∷_ 97 (List._∷_ 109 (List._∷_ 58 (List._∷_ 58 (List._∷_ 82 (List._∷_ 101
       (List._∷_ 102 (List._∷_ 117 (List._∷_ 115 (List._∷_ 97 (List._∷_ 108 List.[]))))))))))))))) (Syntax.ttcons Syntax.tnil (Syntax.ttcons Syntax.tnil (Syntax.ttcons Syntax.tnil (Syntax.ttcons
@@ -1240,17 +1263,17 @@ module _ (claims· : Claims) where
       Syntax.tnil (Syntax.ttcons Syntax.tnil (Syntax.ttcons (Syntax.tcons (Syntax.tyInt Syntax.w64) Syntax.tnil) (Syntax.ttcons (Syntax.tcons (Syntax.tyInt Syntax.w64) Syntax.tnil) (Syntax.ttcons
       (Syntax.tcons (Syntax.tyInt Syntax.w64) Syntax.tnil) (Syntax.ttcons Syntax.tnil Syntax.ttnil)))))))))))))))))))))) Syntax.tnil) Syntax.ttnil)))
 
-  abbrev s35 : Typed.Both T30 T38
-  s35 = Known.k-enum-known Next.enum 1 T30 9 λ x. x
+  abbrev s36 : Typed.Both T31 T39
+  s36 = Known.k-enum-known Next.enum 1 T31 10 λ x. x
 
-  abbrev s36 : Typed.Gives T38 T39
-  s36 = Known.k-known-told Next.enum Laws.the-laws 1 T38 9 λ x. x
-
-  abbrev s37 : Typed.Mo T39 → Typed.Mo T40
-  s37 = Make'.n-make (Declared'.row BitPosition.the-type) T39 11 λ m. m .1 .1 .1 .1 .1 .1 .1 .1 .1 .0 .0
+  abbrev s37 : Typed.Gives T39 T40
+  s37 = Known.k-known-told Next.enum Laws.the-laws 1 T39 10 λ x. x
 
   abbrev s38 : Typed.Mo T40 → Typed.Mo T41
-  s38 = Scalar.n-room T40 9 (Syntax.tyEnum (List._∷_ 98 (List._∷_ 101 (List._∷_ 103 (List._∷_ 105 (List._∷_ 110 (List._∷_ 58 (List._∷_ 58 (List._∷_ 78 (List._∷_ 101 (List._∷_ 120 (List._∷_ 116
+  s38 = Make'.n-make (Declared'.row BitPosition.the-type) T40 12 λ m. m .1 .1 .1 .1 .1 .1 .1 .1 .1 .1 .0 .0
+
+  abbrev s39 : Typed.Mo T41 → Typed.Mo T42
+  s39 = Scalar.n-room T41 10 (Syntax.tyEnum (List._∷_ 98 (List._∷_ 101 (List._∷_ 103 (List._∷_ 105 (List._∷_ 110 (List._∷_ 58 (List._∷_ 58 (List._∷_ 78 (List._∷_ 101 (List._∷_ 120 (List._∷_ 116
       List.[]))))))))))) (Syntax.ttcons (Syntax.tcons (Syntax.tyEnum (List._∷_ 115 (List._∷_ 116 (List._∷_ 114 (List._∷_ 101 (List._∷_ 97 (List._∷_ 109 (List._∷_ 58 (List._∷_ 58 (List._∷_ 66 (List._∷_ 108
       (List._∷_ 111 (List._∷_ 99 (List._∷_ 107 (List._∷_ 76 (List._∷_ 101 (List._∷_ 110 (List._∷_ 103 (List._∷_ 116 (List._∷_ 104 List.[]))))))))))))))))))) (Syntax.ttcons (Syntax.tcons (Syntax.tyInt
       Syntax.w64) Syntax.tnil) (Syntax.ttcons (Syntax.tcons (Syntax.tyEnum (List._∷_ 115 (List._∷_ 116 (List._∷_ 114 (List._∷_ 101 (List._∷_ 97 (List._∷_ 109 (List._∷_ 58 (List._∷_ 58 (List._∷_ 82
@@ -1262,110 +1285,114 @@ module _ (claims· : Claims) where
       (Syntax.ttcons (Syntax.tcons (Syntax.tyInt Syntax.w64) Syntax.tnil) (Syntax.ttcons Syntax.tnil Syntax.ttnil)))))))))))))))))))))) Syntax.tnil) Syntax.ttnil))) Syntax.tnil) (Syntax.ttcons
       (Syntax.tcons y3 Syntax.tnil) Syntax.ttnil)))
 
-  abbrev s40 : Typed.Gives T41 T43
-  s40 = Relend.k-sl-relend (Referent.rtF (Referent.fInt Syntax.w8)) T41 2 21 1 7 (Syntax.tyRef (Syntax.named 1) Syntax.mut (Syntax.tyInt Syntax.w8)) (Syntax.tyRef Syntax.erased Syntax.mut
+  abbrev s41 : Typed.Gives T42 T44
+  s41 = Relend.k-sl-relend (Referent.rtF (Referent.fInt Syntax.w8)) T42 2 22 1 8 (Syntax.tyRef (Syntax.named 1) Syntax.mut (Syntax.tyInt Syntax.w8)) (Syntax.tyRef Syntax.erased Syntax.mut
       (Syntax.tyInt Syntax.w8)) Row.off λ x. x
 
-  abbrev s41 : Typed.Asks T43 T44
-  s41 = Relend.k-sl-aggregate (Referent.rtF (Referent.fInt Syntax.w8)) (Relend.asMut (Referent.rtF (Referent.fInt Syntax.w8))) T43 21 22 7 (Syntax.tyRef Syntax.erased Syntax.mut (Syntax.tyInt
+  abbrev s42 : Typed.Asks T44 T45
+  s42 = Relend.k-sl-aggregate (Referent.rtF (Referent.fInt Syntax.w8)) (Relend.asMut (Referent.rtF (Referent.fInt Syntax.w8))) T44 22 23 8 (Syntax.tyRef Syntax.erased Syntax.mut (Syntax.tyInt
       Syntax.w8)) (Syntax.tyRef Syntax.erased Syntax.mut (Syntax.tyInt Syntax.w8)) (λ x. x) (Scalar.oFld 2 (List._∷_ (Syntax.field 1) List.[]) (Syntax.tyInt Syntax.w64) 8 λ v. Shared.lenV (v .0))
 
-  abbrev s43 : Typed.Gives T44 T46
-  s43 = Relend.k-sl-relend (Referent.rtF (Referent.fInt Syntax.w16)) T44 4 23 2 8 (Syntax.tyRef (Syntax.named 2) Syntax.mut (Syntax.tyInt Syntax.w16)) (Syntax.tyRef Syntax.erased Syntax.mut
+  abbrev s44 : Typed.Gives T45 T47
+  s44 = Relend.k-sl-relend (Referent.rtF (Referent.fInt Syntax.w16)) T45 4 24 2 9 (Syntax.tyRef (Syntax.named 2) Syntax.mut (Syntax.tyInt Syntax.w16)) (Syntax.tyRef Syntax.erased Syntax.mut
       (Syntax.tyInt Syntax.w16)) Row.off λ x. x
 
-  abbrev s44 : Typed.Asks T46 T47
-  s44 = Relend.k-sl-aggregate (Referent.rtF (Referent.fInt Syntax.w16)) (Relend.asMut (Referent.rtF (Referent.fInt Syntax.w16))) T46 23 24 8 (Syntax.tyRef Syntax.erased Syntax.mut (Syntax.tyInt
+  abbrev s45 : Typed.Asks T47 T48
+  s45 = Relend.k-sl-aggregate (Referent.rtF (Referent.fInt Syntax.w16)) (Relend.asMut (Referent.rtF (Referent.fInt Syntax.w16))) T47 24 25 9 (Syntax.tyRef Syntax.erased Syntax.mut (Syntax.tyInt
       Syntax.w16)) (Syntax.tyRef Syntax.erased Syntax.mut (Syntax.tyInt Syntax.w16)) (λ x. x) (Scalar.oFld 4 (List._∷_ (Syntax.field 1) List.[]) (Syntax.tyInt Syntax.w64) 8 λ v. Shared.lenV (v .0))
 
-  abbrev s46 : Typed.Gives T47 T49
-  s46 = Relend.k-sl-relend (Element.type) T47 5 25 3 9 (Syntax.tyRef (Syntax.named 3) Syntax.mut Element.behind) (Syntax.tyRef Syntax.erased Syntax.mut Element.behind) Row.off λ x. x
+  abbrev s47 : Typed.Gives T48 T50
+  s47 = Relend.k-sl-relend (Element.type) T48 5 26 3 10 (Syntax.tyRef (Syntax.named 3) Syntax.mut Element.behind) (Syntax.tyRef Syntax.erased Syntax.mut Element.behind) Row.off λ x. x
 
-  abbrev s47 : Typed.Asks T49 T50
-  s47 = Relend.k-sl-aggregate (Element.type) (Relend.asMut (Element.type)) T49 25 26 9 (Syntax.tyRef Syntax.erased Syntax.mut Element.behind) (Syntax.tyRef Syntax.erased Syntax.mut Element.behind) (λ
+  abbrev s48 : Typed.Asks T50 T51
+  s48 = Relend.k-sl-aggregate (Element.type) (Relend.asMut (Element.type)) T50 26 27 10 (Syntax.tyRef Syntax.erased Syntax.mut Element.behind) (Syntax.tyRef Syntax.erased Syntax.mut Element.behind) (λ
       x. x) (Scalar.oFld 5 (List._∷_ (Syntax.field 1) List.[]) (Syntax.tyInt Syntax.w64) 8 λ v. Shared.lenV (v .0))
 
-  abbrev s48 : Typed.Both T50 T51
-  s48 = Call.callB ps·0 r·0 (claims· .0) (claims· .1) T50 (
+  abbrev s49 : Typed.Both T51 T52
+  s49 = Call.callB ps·0 r·0 (claims· .0) (claims· .1) T51 (
     record { pos = 1; ty = Syntax.tyRef (Syntax.named 0) Syntax.imm (Syntax.tyInt Syntax.w16); ref = λ x. x },
     (
-      record { pos = 22; ty = Syntax.tyRef Syntax.erased Syntax.mut (Syntax.tyInt Syntax.w8); ref = λ x. x },
+      record { pos = 23; ty = Syntax.tyRef Syntax.erased Syntax.mut (Syntax.tyInt Syntax.w8); ref = λ x. x },
       (
         Bool.bLit Bool'.true,
         (
-          record { pos = 24; ty = Syntax.tyRef Syntax.erased Syntax.mut (Syntax.tyInt Syntax.w16); ref = λ x. x },
-          (record { pos = 26; ty = Syntax.tyRef Syntax.erased Syntax.mut Element.behind; ref = λ x. x }, (record { pos = 6; st = List.[]; d = 0; at = λ x. x }, (Num.vAt 7 λ x. x, tt))),
+          record { pos = 25; ty = Syntax.tyRef Syntax.erased Syntax.mut (Syntax.tyInt Syntax.w16); ref = λ x. x },
+          (
+            record { pos = 27; ty = Syntax.tyRef Syntax.erased Syntax.mut Element.behind; ref = λ x. x },
+            (record { pos = 6; st = List.[]; d = 0; at = λ x. x }, (record { pos = 7; ty = Syntax.tyRef (Syntax.named 4) Syntax.imm (Syntax.tyInt Syntax.w8); ref = λ x. x }, (Num.vAt 8 λ x. x, tt))),
+          ),
         ),
       ),
     ),
-  ) 20 (List._∷_ 0
-      (List._∷_ 7 (List._∷_ 8 (List._∷_ 9 List.[])))) (Syntax.tyEnum (List._∷_ 119 (List._∷_ 114 (List._∷_ 105 (List._∷_ 116 (List._∷_ 105 (List._∷_ 110 (List._∷_ 103 (List._∷_ 58 (List._∷_ 58 (List._∷_
-      80 (List._∷_ 117 (List._∷_ 116 List.[])))))))))))) (Syntax.ttcons (Syntax.tcons y3 Syntax.tnil) (Syntax.ttcons (Syntax.tcons (Syntax.tyInt Syntax.w64) Syntax.tnil) Syntax.ttnil)))
-
-  abbrev s49 : Typed.Mo T51 → Typed.Mo T52
-  s49 = Scalar.n-room T51 6 y4
+  ) 21
+      (List._∷_ 0 (List._∷_ 8 (List._∷_ 9 (List._∷_ 10 (List._∷_ 4 List.[]))))) (Syntax.tyEnum (List._∷_ 119 (List._∷_ 114 (List._∷_ 105 (List._∷_ 116 (List._∷_ 105 (List._∷_ 110 (List._∷_ 103 (List._∷_
+      58 (List._∷_ 58 (List._∷_ 80 (List._∷_ 117 (List._∷_ 116 List.[])))))))))))) (Syntax.ttcons (Syntax.tcons y3 Syntax.tnil) (Syntax.ttcons (Syntax.tcons (Syntax.tyInt Syntax.w64) Syntax.tnil)
+      Syntax.ttnil)))
 
   abbrev s50 : Typed.Mo T52 → Typed.Mo T53
-  s50 = Scalar.n-room T52 20 (Syntax.tyEnum (List._∷_ 119 (List._∷_ 114 (List._∷_ 105 (List._∷_ 116 (List._∷_ 105 (List._∷_ 110 (List._∷_ 103 (List._∷_ 58 (List._∷_ 58 (List._∷_ 80 (List._∷_ 117
+  s50 = Scalar.n-room T52 6 y4
+
+  abbrev s51 : Typed.Mo T53 → Typed.Mo T54
+  s51 = Scalar.n-room T53 21 (Syntax.tyEnum (List._∷_ 119 (List._∷_ 114 (List._∷_ 105 (List._∷_ 116 (List._∷_ 105 (List._∷_ 110 (List._∷_ 103 (List._∷_ 58 (List._∷_ 58 (List._∷_ 80 (List._∷_ 117
       (List._∷_ 116 List.[])))))))))))) (Syntax.ttcons (Syntax.tcons y3 Syntax.tnil) (Syntax.ttcons (Syntax.tcons (Syntax.tyInt Syntax.w64) Syntax.tnil) Syntax.ttnil)))
 
-  abbrev s52 : Typed.Both T53 T55
-  s52 = Relend.k-back-sl (Referent.rtF (Referent.fInt Syntax.w8)) T53 22 2 1 7 (Syntax.tyRef (Syntax.named 1) Syntax.mut (Syntax.tyInt Syntax.w8)) (Syntax.tyRef Syntax.erased Syntax.mut (Syntax.tyInt
+  abbrev s53 : Typed.Both T54 T56
+  s53 = Relend.k-back-sl (Referent.rtF (Referent.fInt Syntax.w8)) T54 23 2 1 8 (Syntax.tyRef (Syntax.named 1) Syntax.mut (Syntax.tyInt Syntax.w8)) (Syntax.tyRef Syntax.erased Syntax.mut (Syntax.tyInt
       Syntax.w8)) Row.off (λ x. x) λ x. x
 
-  abbrev s53 : Typed.Gives T55 T56
-  s53 = Know.k-sl-known (Referent.fInt Syntax.w8) T55 2 1 (Syntax.tyRef (Syntax.named 1) Syntax.mut (Syntax.tyInt Syntax.w8)) Row.off 0 λ x. x
+  abbrev s54 : Typed.Gives T56 T57
+  s54 = Know.k-sl-known (Referent.fInt Syntax.w8) T56 2 1 (Syntax.tyRef (Syntax.named 1) Syntax.mut (Syntax.tyInt Syntax.w8)) Row.off 0 λ x. x
 
-  abbrev s56 : Typed.Both T56 T59
-  s56 = Relend.k-back-sl (Referent.rtF (Referent.fInt Syntax.w16)) T56 24 4 2 8 (Syntax.tyRef (Syntax.named 2) Syntax.mut (Syntax.tyInt Syntax.w16)) (Syntax.tyRef Syntax.erased Syntax.mut
+  abbrev s57 : Typed.Both T57 T60
+  s57 = Relend.k-back-sl (Referent.rtF (Referent.fInt Syntax.w16)) T57 25 4 2 9 (Syntax.tyRef (Syntax.named 2) Syntax.mut (Syntax.tyInt Syntax.w16)) (Syntax.tyRef Syntax.erased Syntax.mut
       (Syntax.tyInt Syntax.w16)) Row.off (λ x. x) λ x. x
 
-  abbrev s57 : Typed.Gives T59 T60
-  s57 = Know.k-sl-known (Referent.fInt Syntax.w16) T59 4 2 (Syntax.tyRef (Syntax.named 2) Syntax.mut (Syntax.tyInt Syntax.w16)) Row.off 0 λ x. x
+  abbrev s58 : Typed.Gives T60 T61
+  s58 = Know.k-sl-known (Referent.fInt Syntax.w16) T60 4 2 (Syntax.tyRef (Syntax.named 2) Syntax.mut (Syntax.tyInt Syntax.w16)) Row.off 0 λ x. x
 
-  abbrev s60 : Typed.Both T60 T63
-  s60 = Relend.k-back-sl (Element.type) T60 26 5 3 9 (Syntax.tyRef (Syntax.named 3) Syntax.mut Element.behind) (Syntax.tyRef Syntax.erased Syntax.mut Element.behind) Row.off (λ x. x) λ x. x
+  abbrev s61 : Typed.Both T61 T64
+  s61 = Relend.k-back-sl (Element.type) T61 27 5 3 10 (Syntax.tyRef (Syntax.named 3) Syntax.mut Element.behind) (Syntax.tyRef Syntax.erased Syntax.mut Element.behind) Row.off (λ x. x) λ x. x
 
-  abbrev s63 : Typed.Gives T63 T66
-  s63 = Relend.k-sl-relend (Referent.rtF (Referent.fInt Syntax.w8)) T63 2 28 1 10 (Syntax.tyRef (Syntax.named 1) Syntax.mut (Syntax.tyInt Syntax.w8)) (Syntax.tyRef Syntax.erased Syntax.mut
+  abbrev s64 : Typed.Gives T64 T67
+  s64 = Relend.k-sl-relend (Referent.rtF (Referent.fInt Syntax.w8)) T64 2 29 1 11 (Syntax.tyRef (Syntax.named 1) Syntax.mut (Syntax.tyInt Syntax.w8)) (Syntax.tyRef Syntax.erased Syntax.mut
       (Syntax.tyInt Syntax.w8)) Row.off λ x. x
 
-  abbrev s64 : Typed.Asks T66 T67
-  s64 = Relend.k-sl-aggregate (Referent.rtF (Referent.fInt Syntax.w8)) (Relend.asMut (Referent.rtF (Referent.fInt Syntax.w8))) T66 28 29 10 (Syntax.tyRef Syntax.erased Syntax.mut (Syntax.tyInt
+  abbrev s65 : Typed.Asks T67 T68
+  s65 = Relend.k-sl-aggregate (Referent.rtF (Referent.fInt Syntax.w8)) (Relend.asMut (Referent.rtF (Referent.fInt Syntax.w8))) T67 29 30 11 (Syntax.tyRef Syntax.erased Syntax.mut (Syntax.tyInt
       Syntax.w8)) (Syntax.tyRef Syntax.erased Syntax.mut (Syntax.tyInt Syntax.w8)) (λ x. x) (Scalar.oFld 2 (List._∷_ (Syntax.field 1) List.[]) (Syntax.tyInt Syntax.w64) 8 λ v. Shared.lenV (v .0))
 
-  abbrev s65 : Typed.Both T67 T68
-  s65 = Call.callB ps·2 r·2 (claims· .4) (claims· .5) T67
-      (record { pos = 29; ty = Syntax.tyRef Syntax.erased Syntax.mut (Syntax.tyInt Syntax.w8); ref = λ x. x }, (record { pos = 11; st = List.[]; d = 0; at = λ x. x }, tt)) 27 (List._∷_ 10 List.[])
+  abbrev s66 : Typed.Both T68 T69
+  s66 = Call.callB ps·2 r·2 (claims· .4) (claims· .5) T68
+      (record { pos = 30; ty = Syntax.tyRef Syntax.erased Syntax.mut (Syntax.tyInt Syntax.w8); ref = λ x. x }, (record { pos = 12; st = List.[]; d = 0; at = λ x. x }, tt)) 28 (List._∷_ 11 List.[])
       Syntax.tyUnit
 
-  abbrev s66 : Typed.Mo T68 → Typed.Mo T69
-  s66 = Scalar.n-room T68 27 Syntax.tyUnit
+  abbrev s67 : Typed.Mo T69 → Typed.Mo T70
+  s67 = Scalar.n-room T69 28 Syntax.tyUnit
 
-  abbrev s68 : Typed.Both T69 T71
-  s68 = Relend.k-back-sl (Referent.rtF (Referent.fInt Syntax.w8)) T69 29 2 1 10 (Syntax.tyRef (Syntax.named 1) Syntax.mut (Syntax.tyInt Syntax.w8)) (Syntax.tyRef Syntax.erased Syntax.mut (Syntax.tyInt
+  abbrev s69 : Typed.Both T70 T72
+  s69 = Relend.k-back-sl (Referent.rtF (Referent.fInt Syntax.w8)) T70 30 2 1 11 (Syntax.tyRef (Syntax.named 1) Syntax.mut (Syntax.tyInt Syntax.w8)) (Syntax.tyRef Syntax.erased Syntax.mut (Syntax.tyInt
       Syntax.w8)) Row.off (λ x. x) λ x. x
 
-  abbrev s69 : Typed.Gives T71 T72
-  s69 = Know.k-sl-known (Referent.fInt Syntax.w8) T71 2 1 (Syntax.tyRef (Syntax.named 1) Syntax.mut (Syntax.tyInt Syntax.w8)) Row.off 0 λ x. x
+  abbrev s70 : Typed.Gives T72 T73
+  s70 = Know.k-sl-known (Referent.fInt Syntax.w8) T72 2 1 (Syntax.tyRef (Syntax.named 1) Syntax.mut (Syntax.tyInt Syntax.w8)) Row.off 0 λ x. x
 
-  abbrev s71 : Typed.Both T72 T74
-  s71 = Call.callB ps·3 r·3 (claims· .6) (claims· .7) T72 (record { pos = 11; st = List.[]; d = 0; at = λ x. x }, tt) 30 List.[] (Syntax.tyInt Syntax.w64)
-
-  abbrev s72 : Typed.Mo T74 → Typed.Mo T75
-  s72 = Scalar.n-room T74 11 y3
+  abbrev s72 : Typed.Both T73 T75
+  s72 = Call.callB ps·3 r·3 (claims· .6) (claims· .7) T73 (record { pos = 12; st = List.[]; d = 0; at = λ x. x }, tt) 31 List.[] (Syntax.tyInt Syntax.w64)
 
   abbrev s73 : Typed.Mo T75 → Typed.Mo T76
-  s73 = Make.n-enum-make BlockLength.the-type T75 19 λ m. BlockLength.enum .make (Logic.inl (m .1 .1 .1 .1 .1 .1 .1 .1 .1 .1 .1 .1 .1 .1 .1 .1 .1 .1 .1 .1 .1 .1 .1 .1 .1 .1 .1 .1 .1 .1 .0, tt))
+  s73 = Scalar.n-room T75 12 y3
 
   abbrev s74 : Typed.Mo T76 → Typed.Mo T77
-  s74 = Scalar.n-room T76 30 (Syntax.tyInt Syntax.w64)
+  s74 = Make.n-enum-make BlockLength.the-type T76 20 λ m. BlockLength.enum .make (Logic.inl (m .1 .1 .1 .1 .1 .1 .1 .1 .1 .1 .1 .1 .1 .1 .1 .1 .1 .1 .1 .1 .1 .1 .1 .1 .1 .1 .1 .1 .1 .1 .1 .0, tt))
 
-  abbrev s75 : Typed.Mo T28 → Typed.Mo T78
-  s75 = LocalCopy.n-val-copy T28 19 0 (Declared.row BlockLength.the-type) (Rows.whole (Declared.row BlockLength.the-type)) (Rows.whole (Declared.row BlockLength.the-type)) (λ x. x) (λ x. x) λ x. x
+  abbrev s75 : Typed.Mo T77 → Typed.Mo T78
+  s75 = Scalar.n-room T77 31 (Syntax.tyInt Syntax.w64)
 
-  abbrev s76 : Typed.Mo T78 → Typed.Mo T79
-  s76 = Scalar.n-room T78 19 (Syntax.tyEnum (List._∷_ 115 (List._∷_ 116 (List._∷_ 114 (List._∷_ 101 (List._∷_ 97 (List._∷_ 109 (List._∷_ 58 (List._∷_ 58 (List._∷_ 66 (List._∷_ 108 (List._∷_ 111
+  abbrev s76 : Typed.Mo T29 → Typed.Mo T79
+  s76 = LocalCopy.n-val-copy T29 20 0 (Declared.row BlockLength.the-type) (Rows.whole (Declared.row BlockLength.the-type)) (Rows.whole (Declared.row BlockLength.the-type)) (λ x. x) (λ x. x) λ x. x
+
+  abbrev s77 : Typed.Mo T79 → Typed.Mo T80
+  s77 = Scalar.n-room T79 20 (Syntax.tyEnum (List._∷_ 115 (List._∷_ 116 (List._∷_ 114 (List._∷_ 101 (List._∷_ 97 (List._∷_ 109 (List._∷_ 58 (List._∷_ 58 (List._∷_ 66 (List._∷_ 108 (List._∷_ 111
       (List._∷_ 99 (List._∷_ 107 (List._∷_ 76 (List._∷_ 101 (List._∷_ 110 (List._∷_ 103 (List._∷_ 116 (List._∷_ 104 List.[]))))))))))))))))))) (Syntax.ttcons (Syntax.tcons (Syntax.tyInt Syntax.w64)
       Syntax.tnil) (Syntax.ttcons (Syntax.tcons (Syntax.tyEnum (List._∷_ 115 (List._∷_ 116 (List._∷_ 114 (List._∷_ 101 (List._∷_ 97 (List._∷_ 109 (List._∷_ 58 (List._∷_ 58 (List._∷_ 82 (List._∷_ 101
       (List._∷_ 102 (List._∷_ 117 (List._∷_ 115 (List._∷_ 97 (List._∷_ 108 List.[]))))))))))))))) (Syntax.ttcons Syntax.tnil (Syntax.ttcons Syntax.tnil (Syntax.ttcons Syntax.tnil (Syntax.ttcons
@@ -1375,946 +1402,1015 @@ module _ (claims· : Claims) where
       Syntax.tnil (Syntax.ttcons Syntax.tnil (Syntax.ttcons (Syntax.tcons (Syntax.tyInt Syntax.w64) Syntax.tnil) (Syntax.ttcons (Syntax.tcons (Syntax.tyInt Syntax.w64) Syntax.tnil) (Syntax.ttcons
       (Syntax.tcons (Syntax.tyInt Syntax.w64) Syntax.tnil) (Syntax.ttcons Syntax.tnil Syntax.ttnil)))))))))))))))))))))) Syntax.tnil) Syntax.ttnil)))
 
-  abbrev s77 : Typed.Mo T79 → Typed.Mo T80
-  s77 = Scalar.n-room T79 3 Syntax.tyBool
-
   abbrev s78 : Typed.Mo T80 → Typed.Mo T81
-  s78 = Scalar.n-room T80 7 (Syntax.tyInt Syntax.w64)
+  s78 = Scalar.n-room T80 3 Syntax.tyBool
 
-  module _ (Pre· : (κs : Lifetimes.Lfts 4) → Kinds.Dens κs ps → Type 0) (Post· : (κs : Lifetimes.Lfts 4) → (a : Kinds.Dens κs ps) → Kinds.Plain 4 ps r κs) where
+  abbrev s79 : Typed.Mo T81 → Typed.Mo T82
+  s79 = Scalar.n-room T81 8 (Syntax.tyInt Syntax.w64)
+
+  module _ (Pre· : (κs : Lifetimes.Lfts 5) → Kinds.Dens κs ps → Type 0) (Post· : (κs : Lifetimes.Lfts 5) → (a : Kinds.Dens κs ps) → Kinds.Plain 5 ps r κs) where
     module _ (M : Type 1) where
       abbrev pub Closed : Type 2
-      Closed = (𝓤 : URA.URA M) (H : Wp.Heap 𝓤) (A : Atoms.Atoms 𝓤) (W : Kit.Given 𝓤 H A) (𝓣 : Wp.Tables 𝓤 H) (known0 : Plain.Known 𝓤 H A W 𝓣 4 ps·0 r·0 (claims· .0) (claims· .1)
+      Closed = (𝓤 : URA.URA M) (H : Wp.Heap 𝓤) (A : Atoms.Atoms 𝓤) (W : Kit.Given 𝓤 H A) (𝓣 : Wp.Tables 𝓤 H) (known0 : Plain.Known 𝓤 H A W 𝓣 5 ps·0 r·0 (claims· .0) (claims· .1)
           "block::writer::write_walk") (known1 : Plain.Known 𝓤 H A W 𝓣 0 ps·1 r·1 (claims· .2) (claims· .3) "begin::after_counting") (known2 : Plain.Known 𝓤 H A W 𝓣 1 ps·2 r·2 (claims· .4) (claims· .5)
-          "bits::fill_tail") (known3 : Plain.Known 𝓤 H A W 𝓣 0 ps·3 r·3 (claims· .6) (claims· .7) "begin::block_bytes") → Statement.Triple 𝓤 (Wp.WpFn 𝓤 H (𝓣 .C) (𝓣 .Λ) (Function.fnOf 4 ps r xs m hs body))
-          (Function.plainOf 𝓤 H A 4 ps r Pre· Post·)
+          "bits::fill_tail") (known3 : Plain.Known 𝓤 H A W 𝓣 0 ps·3 r·3 (claims· .6) (claims· .7) "begin::block_bytes") → Statement.Triple 𝓤 (Wp.WpFn 𝓤 H (𝓣 .C) (𝓣 .Λ) (Function.fnOf 5 ps r xs m hs body))
+          (Function.plainOf 𝓤 H A 5 ps r Pre· Post·)
 
     module _ where
-      abbrev at0 : Typed.TF T35 O1
-      at0 = λ Ψ. Typed.pass T35 T36 s33 (Typed.pass T36 T37 s34 (Typed.atNext O1 Ψ))
+      abbrev at0 : Typed.TF T36 O1
+      at0 = λ Ψ. Typed.pass T36 T37 s34 (Typed.pass T37 T38 s35 (Typed.atNext O1 Ψ))
 
-      abbrev at1 : Typed.TF T34 O1
-      at1 = λ Ψ. Typed.pass T34 T35 s32 (at0 Ψ)
+      abbrev at1 : Typed.TF T35 O1
+      at1 = λ Ψ. Typed.pass T35 T36 s33 (at0 Ψ)
 
-      abbrev at2 : Typed.TF T33 O1
-      at2 = λ Ψ. Typed.pass T33 T34 s31 (at1 Ψ)
+      abbrev at2 : Typed.TF T34 O1
+      at2 = λ Ψ. Typed.pass T34 T35 s32 (at1 Ψ)
 
-      abbrev at3 : Typed.TF T32 O1
-      at3 = λ Ψ. Typed.pass T32 T33 s30 (at2 Ψ)
+      abbrev at3 : Typed.TF T33 O1
+      at3 = λ Ψ. Typed.pass T33 T34 s31 (at2 Ψ)
 
-      abbrev at4 : Typed.TF T31 O1
-      at4 = λ Ψ. Typed.give s29 (at3 Ψ)
+      abbrev at4 : Typed.TF T32 O1
+      at4 = λ Ψ. Typed.give s30 (at3 Ψ)
 
-      abbrev at5 : Typed.TF T30 O1
-      at5 = λ Ψ. Typed.both s28 (at4 Ψ)
+      abbrev at5 : Typed.TF T31 O1
+      at5 = λ Ψ. Typed.both s29 (at4 Ψ)
 
-      abbrev at6 : Typed.TF T75 O1
-      at6 = λ Ψ. Typed.pass T75 T76 s73 (Typed.pass T76 T77 s74 (Typed.atNext O1 Ψ))
+      abbrev at6 : Typed.TF T76 O1
+      at6 = λ Ψ. Typed.pass T76 T77 s74 (Typed.pass T77 T78 s75 (Typed.atNext O1 Ψ))
 
-      abbrev at7 : Typed.TF T74 O1
-      at7 = λ Ψ. Typed.pass T74 T75 s72 (at6 Ψ)
+      abbrev at7 : Typed.TF T75 O1
+      at7 = λ Ψ. Typed.pass T75 T76 s73 (at6 Ψ)
 
-      abbrev at8 : Typed.TF T72 O1
-      at8 = λ Ψ. Typed.both s71 (at7 Ψ)
+      abbrev at8 : Typed.TF T73 O1
+      at8 = λ Ψ. Typed.both s72 (at7 Ψ)
 
-      abbrev at9 : Typed.TF T72 O1
+      abbrev at9 : Typed.TF T73 O1
       at9 = λ Ψ. at8 Ψ
 
-      abbrev at10 : Typed.TF T71 O1
-      at10 = λ Ψ. Typed.give s69 (at9 Ψ)
+      abbrev at10 : Typed.TF T72 O1
+      at10 = λ Ψ. Typed.give s70 (at9 Ψ)
 
-      abbrev at11 : Typed.TF T69 O1
-      at11 = λ Ψ. Typed.both s68 (at10 Ψ)
+      abbrev at11 : Typed.TF T70 O1
+      at11 = λ Ψ. Typed.both s69 (at10 Ψ)
 
-      abbrev at12 : Typed.TF T69 O1
+      abbrev at12 : Typed.TF T70 O1
       at12 = λ Ψ. at11 Ψ
 
-      abbrev at13 : Typed.TF T68 O1
-      at13 = λ Ψ. Typed.pass T68 T69 s66 (at12 Ψ)
+      abbrev at13 : Typed.TF T69 O1
+      at13 = λ Ψ. Typed.pass T69 T70 s67 (at12 Ψ)
 
-      abbrev at14 : Typed.TF T67 O1
-      at14 = λ Ψ. Typed.both s65 (at13 Ψ)
+      abbrev at14 : Typed.TF T68 O1
+      at14 = λ Ψ. Typed.both s66 (at13 Ψ)
 
-      abbrev at15 : Typed.TF T66 O1
-      at15 = λ Ψ. Typed.ask s64 (at14 Ψ)
+      abbrev at15 : Typed.TF T67 O1
+      at15 = λ Ψ. Typed.ask s65 (at14 Ψ)
 
-      abbrev at16 : Typed.TF T63 O1
-      at16 = λ Ψ. Typed.give s63 (at15 Ψ)
+      abbrev at16 : Typed.TF T64 O1
+      at16 = λ Ψ. Typed.give s64 (at15 Ψ)
 
-      abbrev at17 : Typed.TF T63 O1
+      abbrev at17 : Typed.TF T64 O1
       at17 = λ Ψ. at16 Ψ
 
-      abbrev at18 : Typed.TF T63 O1
+      abbrev at18 : Typed.TF T64 O1
       at18 = λ Ψ. at17 Ψ
 
-      abbrev at19 : Typed.TF T60 O1
-      at19 = λ Ψ. Typed.both s60 (at18 Ψ)
+      abbrev at19 : Typed.TF T61 O1
+      at19 = λ Ψ. Typed.both s61 (at18 Ψ)
 
-      abbrev at20 : Typed.TF T60 O1
+      abbrev at20 : Typed.TF T61 O1
       at20 = λ Ψ. at19 Ψ
 
-      abbrev at21 : Typed.TF T60 O1
+      abbrev at21 : Typed.TF T61 O1
       at21 = λ Ψ. at20 Ψ
 
-      abbrev at22 : Typed.TF T59 O1
-      at22 = λ Ψ. Typed.give s57 (at21 Ψ)
+      abbrev at22 : Typed.TF T60 O1
+      at22 = λ Ψ. Typed.give s58 (at21 Ψ)
 
-      abbrev at23 : Typed.TF T56 O1
-      at23 = λ Ψ. Typed.both s56 (at22 Ψ)
+      abbrev at23 : Typed.TF T57 O1
+      at23 = λ Ψ. Typed.both s57 (at22 Ψ)
 
-      abbrev at24 : Typed.TF T56 O1
+      abbrev at24 : Typed.TF T57 O1
       at24 = λ Ψ. at23 Ψ
 
-      abbrev at25 : Typed.TF T56 O1
+      abbrev at25 : Typed.TF T57 O1
       at25 = λ Ψ. at24 Ψ
 
-      abbrev at26 : Typed.TF T55 O1
-      at26 = λ Ψ. Typed.give s53 (at25 Ψ)
+      abbrev at26 : Typed.TF T56 O1
+      at26 = λ Ψ. Typed.give s54 (at25 Ψ)
 
-      abbrev at27 : Typed.TF T53 O1
-      at27 = λ Ψ. Typed.both s52 (at26 Ψ)
+      abbrev at27 : Typed.TF T54 O1
+      at27 = λ Ψ. Typed.both s53 (at26 Ψ)
 
-      abbrev at28 : Typed.TF T53 O1
+      abbrev at28 : Typed.TF T54 O1
       at28 = λ Ψ. at27 Ψ
 
-      abbrev at29 : Typed.TF T52 O1
-      at29 = λ Ψ. Typed.pass T52 T53 s50 (at28 Ψ)
+      abbrev at29 : Typed.TF T53 O1
+      at29 = λ Ψ. Typed.pass T53 T54 s51 (at28 Ψ)
 
-      abbrev at30 : Typed.TF T51 O1
-      at30 = λ Ψ. Typed.pass T51 T52 s49 (at29 Ψ)
+      abbrev at30 : Typed.TF T52 O1
+      at30 = λ Ψ. Typed.pass T52 T53 s50 (at29 Ψ)
 
-      abbrev at31 : Typed.TF T50 O1
-      at31 = λ Ψ. Typed.both s48 (at30 Ψ)
+      abbrev at31 : Typed.TF T51 O1
+      at31 = λ Ψ. Typed.both s49 (at30 Ψ)
 
-      abbrev at32 : Typed.TF T49 O1
-      at32 = λ Ψ. Typed.ask s47 (at31 Ψ)
+      abbrev at32 : Typed.TF T50 O1
+      at32 = λ Ψ. Typed.ask s48 (at31 Ψ)
 
-      abbrev at33 : Typed.TF T47 O1
-      at33 = λ Ψ. Typed.give s46 (at32 Ψ)
+      abbrev at33 : Typed.TF T48 O1
+      at33 = λ Ψ. Typed.give s47 (at32 Ψ)
 
-      abbrev at34 : Typed.TF T47 O1
+      abbrev at34 : Typed.TF T48 O1
       at34 = λ Ψ. at33 Ψ
 
-      abbrev at35 : Typed.TF T46 O1
-      at35 = λ Ψ. Typed.ask s44 (at34 Ψ)
+      abbrev at35 : Typed.TF T47 O1
+      at35 = λ Ψ. Typed.ask s45 (at34 Ψ)
 
-      abbrev at36 : Typed.TF T44 O1
-      at36 = λ Ψ. Typed.give s43 (at35 Ψ)
+      abbrev at36 : Typed.TF T45 O1
+      at36 = λ Ψ. Typed.give s44 (at35 Ψ)
 
-      abbrev at37 : Typed.TF T44 O1
+      abbrev at37 : Typed.TF T45 O1
       at37 = λ Ψ. at36 Ψ
 
-      abbrev at38 : Typed.TF T43 O1
-      at38 = λ Ψ. Typed.ask s41 (at37 Ψ)
+      abbrev at38 : Typed.TF T44 O1
+      at38 = λ Ψ. Typed.ask s42 (at37 Ψ)
 
-      abbrev at39 : Typed.TF T41 O1
-      at39 = λ Ψ. Typed.give s40 (at38 Ψ)
+      abbrev at39 : Typed.TF T42 O1
+      at39 = λ Ψ. Typed.give s41 (at38 Ψ)
 
-      abbrev at40 : Typed.TF T41 O1
+      abbrev at40 : Typed.TF T42 O1
       at40 = λ Ψ. at39 Ψ
 
-      abbrev at41 : Typed.TF T40 O1
-      at41 = λ Ψ. Typed.pass T40 T41 s38 (at40 Ψ)
+      abbrev at41 : Typed.TF T41 O1
+      at41 = λ Ψ. Typed.pass T41 T42 s39 (at40 Ψ)
 
-      abbrev at42 : Typed.TF T39 O1
-      at42 = λ Ψ. Typed.pass T39 T40 s37 (at41 Ψ)
+      abbrev at42 : Typed.TF T40 O1
+      at42 = λ Ψ. Typed.pass T40 T41 s38 (at41 Ψ)
 
-      abbrev at43 : Typed.TF T38 O1
-      at43 = λ Ψ. Typed.give s36 (at42 Ψ)
+      abbrev at43 : Typed.TF T39 O1
+      at43 = λ Ψ. Typed.give s37 (at42 Ψ)
 
-      abbrev at44 : Typed.TF T30 O1
-      at44 = λ Ψ. Typed.both s35 (at43 Ψ)
+      abbrev at44 : Typed.TF T31 O1
+      at44 = λ Ψ. Typed.both s36 (at43 Ψ)
 
-      abbrev at45 : Typed.TF T30 O1
-      at45 = Switch.Φswitch T30 O1 9 (λ x. Declared.tagOf Next.the-type x) (Syntax.arm (List._∷_ 0 List.[]) b11 (Syntax.arm (List._∷_ 1 List.[]) b36 Syntax.noDefault)) (at5, (at44, tt))
+      abbrev at45 : Typed.TF T31 O1
+      at45 = Switch.Φswitch T31 O1 10 (λ x. Declared.tagOf Next.the-type x) (Syntax.arm (List._∷_ 0 List.[]) b11 (Syntax.arm (List._∷_ 1 List.[]) b36 Syntax.noDefault)) (at5, (at44, tt))
 
-      abbrev at46 : Typed.TF T29 O1
-      at46 = λ Ψ. Typed.pass T29 T30 s27 (at45 Ψ)
+      abbrev at46 : Typed.TF T30 O1
+      at46 = λ Ψ. Typed.pass T30 T31 s28 (at45 Ψ)
 
-      abbrev at47 : Typed.TF T27 O1
-      at47 = λ Ψ. Typed.pass T27 T29 s26 (at46 Ψ)
+      abbrev at47 : Typed.TF T28 O1
+      at47 = λ Ψ. Typed.pass T28 T30 s27 (at46 Ψ)
 
-      abbrev at48 : Typed.TF T81 O0
+      abbrev at48 : Typed.TF T82 O0
       at48 = Typed.atRet O0
 
-      abbrev at49 : Typed.TF T80 O0
-      at49 = λ Ψ. Typed.pass T80 T81 s78 (at48 Ψ)
+      abbrev at49 : Typed.TF T81 O0
+      at49 = λ Ψ. Typed.pass T81 T82 s79 (at48 Ψ)
 
-      abbrev at50 : Typed.TF T79 O0
-      at50 = λ Ψ. Typed.pass T79 T80 s77 (at49 Ψ)
+      abbrev at50 : Typed.TF T80 O0
+      at50 = λ Ψ. Typed.pass T80 T81 s78 (at49 Ψ)
 
-      abbrev at51 : Typed.TF T78 O0
-      at51 = λ Ψ. Typed.pass T78 T79 s76 (at50 Ψ)
+      abbrev at51 : Typed.TF T79 O0
+      at51 = λ Ψ. Typed.pass T79 T80 s77 (at50 Ψ)
 
-      abbrev at52 : Typed.TF T28 O0
-      at52 = λ Ψ. Typed.pass T28 T78 s75 (at51 Ψ)
+      abbrev at52 : Typed.TF T29 O0
+      at52 = λ Ψ. Typed.pass T29 T79 s76 (at51 Ψ)
 
-      abbrev at53 : Typed.TF T27 O0
-      at53 = λ Ψ. at47 (Typed.wantNext T28 O0 (at52 Ψ) Ψ)
+      abbrev at53 : Typed.TF T28 O0
+      at53 = λ Ψ. at47 (Typed.wantNext T29 O0 (at52 Ψ) Ψ)
 
-      abbrev at54 : Typed.TF T26 O0
-      at54 = λ Ψ. Typed.both s25 (at53 Ψ)
+      abbrev at54 : Typed.TF T27 O0
+      at54 = λ Ψ. Typed.both s26 (at53 Ψ)
 
-      abbrev at55 : Typed.TF T24 O0
-      at55 = λ Ψ. Typed.pass T24 T26 s24 (at54 Ψ)
+      abbrev at55 : Typed.TF T25 O0
+      at55 = λ Ψ. Typed.pass T25 T27 s25 (at54 Ψ)
 
-      abbrev at56 : Typed.TF T24 O0
+      abbrev at56 : Typed.TF T25 O0
       at56 = λ Ψ. at55 Ψ
 
-      abbrev at57 : Typed.TF T21 O0
-      at57 = λ Ψ. Typed.both s22 (at56 Ψ)
+      abbrev at57 : Typed.TF T22 O0
+      at57 = λ Ψ. Typed.both s23 (at56 Ψ)
 
-      abbrev at58 : Typed.TF T21 O0
+      abbrev at58 : Typed.TF T22 O0
       at58 = λ Ψ. at57 Ψ
 
-      abbrev at59 : Typed.TF T21 O0
+      abbrev at59 : Typed.TF T22 O0
       at59 = λ Ψ. at58 Ψ
 
-      abbrev at60 : Typed.TF T20 O0
-      at60 = λ Ψ. Typed.give s19 (at59 Ψ)
+      abbrev at60 : Typed.TF T21 O0
+      at60 = λ Ψ. Typed.give s20 (at59 Ψ)
 
-      abbrev at61 : Typed.TF T17 O0
-      at61 = λ Ψ. Typed.both s18 (at60 Ψ)
+      abbrev at61 : Typed.TF T18 O0
+      at61 = λ Ψ. Typed.both s19 (at60 Ψ)
 
-      abbrev at62 : Typed.TF T17 O0
+      abbrev at62 : Typed.TF T18 O0
       at62 = λ Ψ. at61 Ψ
 
-      abbrev at63 : Typed.TF T17 O0
+      abbrev at63 : Typed.TF T18 O0
       at63 = λ Ψ. at62 Ψ
 
-      abbrev at64 : Typed.TF T16 O0
-      at64 = λ Ψ. Typed.give s15 (at63 Ψ)
+      abbrev at64 : Typed.TF T17 O0
+      at64 = λ Ψ. Typed.give s16 (at63 Ψ)
 
-      abbrev at65 : Typed.TF T14 O0
-      at65 = λ Ψ. Typed.both s14 (at64 Ψ)
+      abbrev at65 : Typed.TF T15 O0
+      at65 = λ Ψ. Typed.both s15 (at64 Ψ)
 
-      abbrev at66 : Typed.TF T14 O0
+      abbrev at66 : Typed.TF T15 O0
       at66 = λ Ψ. at65 Ψ
 
-      abbrev at67 : Typed.TF T13 O0
-      at67 = λ Ψ. Typed.both s12 (at66 Ψ)
+      abbrev at67 : Typed.TF T14 O0
+      at67 = λ Ψ. Typed.both s13 (at66 Ψ)
 
-      abbrev at68 : Typed.TF T12 O0
-      at68 = λ Ψ. Typed.ask s11 (at67 Ψ)
+      abbrev at68 : Typed.TF T13 O0
+      at68 = λ Ψ. Typed.ask s12 (at67 Ψ)
 
-      abbrev at69 : Typed.TF T10 O0
-      at69 = λ Ψ. Typed.give s10 (at68 Ψ)
+      abbrev at69 : Typed.TF T11 O0
+      at69 = λ Ψ. Typed.give s11 (at68 Ψ)
 
-      abbrev at70 : Typed.TF T10 O0
+      abbrev at70 : Typed.TF T11 O0
       at70 = λ Ψ. at69 Ψ
 
-      abbrev at71 : Typed.TF T9 O0
-      at71 = λ Ψ. Typed.ask s8 (at70 Ψ)
+      abbrev at71 : Typed.TF T10 O0
+      at71 = λ Ψ. Typed.ask s9 (at70 Ψ)
 
-      abbrev at72 : Typed.TF T7 O0
-      at72 = λ Ψ. Typed.give s7 (at71 Ψ)
+      abbrev at72 : Typed.TF T8 O0
+      at72 = λ Ψ. Typed.give s8 (at71 Ψ)
 
-      abbrev at73 : Typed.TF T7 O0
+      abbrev at73 : Typed.TF T8 O0
       at73 = λ Ψ. at72 Ψ
 
-      abbrev at74 : Typed.TF T6 O0
-      at74 = λ Ψ. Typed.ask s5 (at73 Ψ)
+      abbrev at74 : Typed.TF T7 O0
+      at74 = λ Ψ. Typed.ask s6 (at73 Ψ)
 
-      abbrev at75 : Typed.TF T4 O0
-      at75 = λ Ψ. Typed.give s4 (at74 Ψ)
+      abbrev at75 : Typed.TF T5 O0
+      at75 = λ Ψ. Typed.give s5 (at74 Ψ)
 
-      abbrev at76 : Typed.TF T4 O0
+      abbrev at76 : Typed.TF T5 O0
       at76 = λ Ψ. at75 Ψ
 
-      abbrev at77 : Typed.TF T3 O0
-      at77 = λ Ψ. Typed.give s2 (at76 Ψ)
+      abbrev at77 : Typed.TF T4 O0
+      at77 = λ Ψ. Typed.give s3 (at76 Ψ)
 
-      abbrev at78 : Typed.TF T2 O0
-      at78 = λ Ψ. Typed.give s1 (at77 Ψ)
+      abbrev at78 : Typed.TF T3 O0
+      at78 = λ Ψ. Typed.give s2 (at77 Ψ)
 
-      abbrev at79 : Typed.TF T0 O0
-      at79 = λ Ψ. Typed.give s0 (at78 Ψ)
+      abbrev at79 : Typed.TF T2 O0
+      at79 = λ Ψ. Typed.give s1 (at78 Ψ)
+
+      abbrev at80 : Typed.TF T0 O0
+      at80 = λ Ψ. Typed.give s0 (at79 Ψ)
 
       abbrev pub Φ : Typed.TF T0 O0
-      Φ = at79
+      Φ = at80
 
       module _ {M : Type 1} (𝓤 : URA.URA M) (H : Wp.Heap 𝓤) (A : Atoms.Atoms 𝓤) (W : Kit.Given 𝓤 H A) (𝓣 : Wp.Tables 𝓤 H) where
         abbrev Knowns : Type 1
-        Knowns = Plain.Known 𝓤 H A W 𝓣 4 ps·0 r·0 (claims· .0) (claims· .1) "block::writer::write_walk" × Plain.Known 𝓤 H A W 𝓣 0 ps·1 r·1 (claims· .2) (claims· .3) "begin::after_counting" ×
+        Knowns = Plain.Known 𝓤 H A W 𝓣 5 ps·0 r·0 (claims· .0) (claims· .1) "block::writer::write_walk" × Plain.Known 𝓤 H A W 𝓣 0 ps·1 r·1 (claims· .2) (claims· .3) "begin::after_counting" ×
             Plain.Known 𝓤 H A W 𝓣 1 ps·2 r·2 (claims· .4) (claims· .5) "bits::fill_tail" × Plain.Known 𝓤 H A W 𝓣 0 ps·3 r·3 (claims· .6) (claims· .7) "begin::block_bytes"
 
-      module _ (κs : Lifetimes.Lfts 4) (qs : Lifetimes.Shares 4) where
+      module _ (κs : Lifetimes.Lfts 5) (qs : Lifetimes.Shares 5) where
         abbrev g3 : List.List Row.Entry
         g3 = List._∷_ e0 (List._∷_ e2 (List._∷_
-            (2, Relend.mslice-owed (Referent.rtF (Referent.fInt Syntax.w8)) (Syntax.tyRef (Syntax.named 1) Syntax.mut (Syntax.tyInt Syntax.w8)) 1 4 (Row.lease (κs .1 .0) (qs .1 .0))) (List._∷_ e42
-            (List._∷_ e45 (List._∷_ e48 (List._∷_ e52 (List._∷_ e53 (List._∷_ e54 (List._∷_ e56 (List._∷_ e3 (List._∷_ e5 (List._∷_ e7 (List._∷_ e11 (List._∷_ e13 (List._∷_ e16 List.[])))))))))))))))
+            (2, Relend.mslice-owed (Referent.rtF (Referent.fInt Syntax.w8)) (Syntax.tyRef (Syntax.named 1) Syntax.mut (Syntax.tyInt Syntax.w8)) 1 5 (Row.lease (κs .1 .0) (qs .1 .0))) (List._∷_ e44
+            (List._∷_ e49 (List._∷_ e52 (List._∷_ e56 (List._∷_ e57 (List._∷_ e58 (List._∷_ e59 (List._∷_ e3 (List._∷_ e7 (List._∷_ e9 (List._∷_ e11 (List._∷_ e15 (List._∷_ e17 List.[])))))))))))))))
 
         abbrev g4 : List.List Row.Entry
         g4 = List._∷_ e0 (List._∷_ e2 (List._∷_
-            (2, Relend.mslice-owed (Referent.rtF (Referent.fInt Syntax.w8)) (Syntax.tyRef (Syntax.named 1) Syntax.mut (Syntax.tyInt Syntax.w8)) 1 4 (Row.lease (κs .1 .0) (qs .1 .0))) (List._∷_ e42
-            (List._∷_ e45 (List._∷_ e48 (List._∷_ e52 (List._∷_ e53 (List._∷_ e54 (List._∷_ e56 (List._∷_ e3 (List._∷_ e5 (List._∷_ e8 (List._∷_ e10 (List._∷_ e13 (List._∷_ e16 List.[])))))))))))))))
+            (2, Relend.mslice-owed (Referent.rtF (Referent.fInt Syntax.w8)) (Syntax.tyRef (Syntax.named 1) Syntax.mut (Syntax.tyInt Syntax.w8)) 1 5 (Row.lease (κs .1 .0) (qs .1 .0))) (List._∷_ e44
+            (List._∷_ e49 (List._∷_ e52 (List._∷_ e56 (List._∷_ e57 (List._∷_ e58 (List._∷_ e59 (List._∷_ e3 (List._∷_ e7 (List._∷_ e9 (List._∷_ e12 (List._∷_ e14 (List._∷_ e17 List.[])))))))))))))))
 
         abbrev g5 : List.List Row.Entry
         g5 = List._∷_ e0 (List._∷_ e2 (List._∷_
-            (2, Relend.mslice-owed (Referent.rtF (Referent.fInt Syntax.w8)) (Syntax.tyRef (Syntax.named 1) Syntax.mut (Syntax.tyInt Syntax.w8)) 1 4 (Row.lease (κs .1 .0) (qs .1 .0))) (List._∷_ e42
-            (List._∷_ (4, Relend.mslice-owed (Referent.rtF (Referent.fInt Syntax.w16)) (Syntax.tyRef (Syntax.named 2) Syntax.mut (Syntax.tyInt Syntax.w16)) 2 5 (Row.lease (κs .1 .1 .0) (qs .1 .1 .0)))
-            (List._∷_ e48 (List._∷_ e52 (List._∷_ e53 (List._∷_ e54 (List._∷_ e56 (List._∷_ e3 (List._∷_ e5 (List._∷_ e8 (List._∷_ e10 (List._∷_ e12 (List._∷_ e16 List.[])))))))))))))))
+            (2, Relend.mslice-owed (Referent.rtF (Referent.fInt Syntax.w8)) (Syntax.tyRef (Syntax.named 1) Syntax.mut (Syntax.tyInt Syntax.w8)) 1 5 (Row.lease (κs .1 .0) (qs .1 .0))) (List._∷_ e44
+            (List._∷_ (4, Relend.mslice-owed (Referent.rtF (Referent.fInt Syntax.w16)) (Syntax.tyRef (Syntax.named 2) Syntax.mut (Syntax.tyInt Syntax.w16)) 2 6 (Row.lease (κs .1 .1 .0) (qs .1 .1 .0)))
+            (List._∷_ e52 (List._∷_ e56 (List._∷_ e57 (List._∷_ e58 (List._∷_ e59 (List._∷_ e3 (List._∷_ e7 (List._∷_ e9 (List._∷_ e12 (List._∷_ e14 (List._∷_ e16 List.[])))))))))))))))
 
         abbrev g6 : List.List Row.Entry
         g6 = List._∷_ e0 (List._∷_ e2 (List._∷_
-            (2, Relend.mslice-owed (Referent.rtF (Referent.fInt Syntax.w8)) (Syntax.tyRef (Syntax.named 1) Syntax.mut (Syntax.tyInt Syntax.w8)) 1 4 (Row.lease (κs .1 .0) (qs .1 .0))) (List._∷_ e42
-            (List._∷_ (4, Relend.mslice-owed (Referent.rtF (Referent.fInt Syntax.w16)) (Syntax.tyRef (Syntax.named 2) Syntax.mut (Syntax.tyInt Syntax.w16)) 2 5 (Row.lease (κs .1 .1 .0) (qs .1 .1 .0)))
-            (List._∷_ e48 (List._∷_ e52 (List._∷_ e53 (List._∷_ e54 (List._∷_ e56 (List._∷_ e3 (List._∷_ e5 (List._∷_ e8 (List._∷_ e10 (List._∷_ e13 (List._∷_ e15 List.[])))))))))))))))
+            (2, Relend.mslice-owed (Referent.rtF (Referent.fInt Syntax.w8)) (Syntax.tyRef (Syntax.named 1) Syntax.mut (Syntax.tyInt Syntax.w8)) 1 5 (Row.lease (κs .1 .0) (qs .1 .0))) (List._∷_ e44
+            (List._∷_ (4, Relend.mslice-owed (Referent.rtF (Referent.fInt Syntax.w16)) (Syntax.tyRef (Syntax.named 2) Syntax.mut (Syntax.tyInt Syntax.w16)) 2 6 (Row.lease (κs .1 .1 .0) (qs .1 .1 .0)))
+            (List._∷_ e52 (List._∷_ e56 (List._∷_ e57 (List._∷_ e58 (List._∷_ e59 (List._∷_ e3 (List._∷_ e7 (List._∷_ e9 (List._∷_ e12 (List._∷_ e14 (List._∷_ e17 List.[])))))))))))))))
 
-        abbrev g7 : List.List Row.Entry
-        g7 = List._∷_ e0 (List._∷_ e2 (List._∷_
-            (2, Relend.mslice-owed (Referent.rtF (Referent.fInt Syntax.w8)) (Syntax.tyRef (Syntax.named 1) Syntax.mut (Syntax.tyInt Syntax.w8)) 1 4 (Row.lease (κs .1 .0) (qs .1 .0))) (List._∷_ e42
-            (List._∷_ (4, Relend.mslice-owed (Referent.rtF (Referent.fInt Syntax.w16)) (Syntax.tyRef (Syntax.named 2) Syntax.mut (Syntax.tyInt Syntax.w16)) 2 5 (Row.lease (κs .1 .1 .0) (qs .1 .1 .0)))
-            (List._∷_ (5, Relend.mslice-owed (Element.type) (Syntax.tyRef (Syntax.named 3) Syntax.mut Element.behind) 3 6 (Row.lease (κs .1 .1 .1 .0) (qs .1 .1 .1 .0))) (List._∷_ e52 (List._∷_ e53
-            (List._∷_ e54 (List._∷_ e56 (List._∷_ e3 (List._∷_ e5 (List._∷_ e8 (List._∷_ e10 (List._∷_ e13 (List._∷_ e15 List.[])))))))))))))))
+        abbrev g8 : List.List Row.Entry
+        g8 = List._∷_ e0 (List._∷_ e2 (List._∷_
+            (2, Relend.mslice-owed (Referent.rtF (Referent.fInt Syntax.w8)) (Syntax.tyRef (Syntax.named 1) Syntax.mut (Syntax.tyInt Syntax.w8)) 1 5 (Row.lease (κs .1 .0) (qs .1 .0))) (List._∷_ e44
+            (List._∷_ (4, Relend.mslice-owed (Referent.rtF (Referent.fInt Syntax.w16)) (Syntax.tyRef (Syntax.named 2) Syntax.mut (Syntax.tyInt Syntax.w16)) 2 6 (Row.lease (κs .1 .1 .0) (qs .1 .1 .0)))
+            (List._∷_ (5, Relend.mslice-owed (Element.type) (Syntax.tyRef (Syntax.named 3) Syntax.mut Element.behind) 3 7 (Row.lease (κs .1 .1 .1 .0) (qs .1 .1 .1 .0))) (List._∷_ e56 (List._∷_ e57
+            (List._∷_ e58 (List._∷_ e59 (List._∷_ e3 (List._∷_ e7 (List._∷_ e9 (List._∷_ e12 (List._∷_ e14 (List._∷_ e17 List.[])))))))))))))))
 
-        abbrev g10 : List.List Row.Entry
-        g10 = List._∷_ e0 (List._∷_ e2 (List._∷_
-            (2, Relend.mslice-owed (Referent.rtF (Referent.fInt Syntax.w8)) (Syntax.tyRef (Syntax.named 1) Syntax.mut (Syntax.tyInt Syntax.w8)) 1 4 (Row.lease (κs .1 .0) (qs .1 .0))) (List._∷_ e42
-            (List._∷_ (4, Relend.mslice-owed (Referent.rtF (Referent.fInt Syntax.w16)) (Syntax.tyRef (Syntax.named 2) Syntax.mut (Syntax.tyInt Syntax.w16)) 2 5 (Row.lease (κs .1 .1 .0) (qs .1 .1 .0)))
-            (List._∷_ (5, Relend.mslice-owed (Element.type) (Syntax.tyRef (Syntax.named 3) Syntax.mut Element.behind) 3 6 (Row.lease (κs .1 .1 .1 .0) (qs .1 .1 .1 .0))) (List._∷_ e52 (List._∷_ e53
-            (List._∷_ e55 (List._∷_ e56 (List._∷_ e3 (List._∷_ e5 (List._∷_ e8 (List._∷_ e9 (List._∷_ e13 (List._∷_ e14 List.[])))))))))))))))
-
-        abbrev g12 : List.List Row.Entry
-        g12 = List._∷_ e0 (List._∷_ e2 (List._∷_ e22 (List._∷_ e42 (List._∷_
-            (4, Relend.mslice-owed (Referent.rtF (Referent.fInt Syntax.w16)) (Syntax.tyRef (Syntax.named 2) Syntax.mut (Syntax.tyInt Syntax.w16)) 2 5 (Row.lease (κs .1 .1 .0) (qs .1 .1 .0))) (List._∷_
-            (5, Relend.mslice-owed (Element.type) (Syntax.tyRef (Syntax.named 3) Syntax.mut Element.behind) 3 6 (Row.lease (κs .1 .1 .1 .0) (qs .1 .1 .1 .0))) (List._∷_ e52 (List._∷_ e53 (List._∷_ e55
-            (List._∷_ e56 (List._∷_ e3 (List._∷_ e5 (List._∷_ e8 (List._∷_ e11 (List._∷_ e13 (List._∷_ e14 List.[])))))))))))))))
+        abbrev g11 : List.List Row.Entry
+        g11 = List._∷_ e0 (List._∷_ e2 (List._∷_
+            (2, Relend.mslice-owed (Referent.rtF (Referent.fInt Syntax.w8)) (Syntax.tyRef (Syntax.named 1) Syntax.mut (Syntax.tyInt Syntax.w8)) 1 5 (Row.lease (κs .1 .0) (qs .1 .0))) (List._∷_ e44
+            (List._∷_ (4, Relend.mslice-owed (Referent.rtF (Referent.fInt Syntax.w16)) (Syntax.tyRef (Syntax.named 2) Syntax.mut (Syntax.tyInt Syntax.w16)) 2 6 (Row.lease (κs .1 .1 .0) (qs .1 .1 .0)))
+            (List._∷_ (5, Relend.mslice-owed (Element.type) (Syntax.tyRef (Syntax.named 3) Syntax.mut Element.behind) 3 7 (Row.lease (κs .1 .1 .1 .0) (qs .1 .1 .1 .0))) (List._∷_ e56 (List._∷_ e57
+            (List._∷_ e58 (List._∷_ e60 (List._∷_ e3 (List._∷_ e7 (List._∷_ e9 (List._∷_ e12 (List._∷_ e13 (List._∷_ e17 List.[])))))))))))))))
 
         abbrev g13 : List.List Row.Entry
-        g13 = List._∷_ e0 (List._∷_ e2 (List._∷_ e22 (List._∷_ e42 (List._∷_ e45 (List._∷_
-            (5, Relend.mslice-owed (Element.type) (Syntax.tyRef (Syntax.named 3) Syntax.mut Element.behind) 3 6 (Row.lease (κs .1 .1 .1 .0) (qs .1 .1 .1 .0))) (List._∷_ e52 (List._∷_ e53 (List._∷_ e55
-            (List._∷_ e56 (List._∷_ e3 (List._∷_ e5 (List._∷_ e8 (List._∷_ e11 (List._∷_ e13 (List._∷_ e16 List.[])))))))))))))))
+        g13 = List._∷_ e0 (List._∷_ e2 (List._∷_ e24 (List._∷_ e44 (List._∷_
+            (4, Relend.mslice-owed (Referent.rtF (Referent.fInt Syntax.w16)) (Syntax.tyRef (Syntax.named 2) Syntax.mut (Syntax.tyInt Syntax.w16)) 2 6 (Row.lease (κs .1 .1 .0) (qs .1 .1 .0))) (List._∷_
+            (5, Relend.mslice-owed (Element.type) (Syntax.tyRef (Syntax.named 3) Syntax.mut Element.behind) 3 7 (Row.lease (κs .1 .1 .1 .0) (qs .1 .1 .1 .0))) (List._∷_ e56 (List._∷_ e57 (List._∷_ e58
+            (List._∷_ e60 (List._∷_ e3 (List._∷_ e7 (List._∷_ e9 (List._∷_ e12 (List._∷_ e15 (List._∷_ e17 List.[])))))))))))))))
 
-        abbrev g27 : List.List Row.Entry
-        g27 = List._∷_ e0 (List._∷_ e2 (List._∷_
-            (2, Relend.mslice-owed (Referent.rtF (Referent.fInt Syntax.w8)) (Syntax.tyRef (Syntax.named 1) Syntax.mut (Syntax.tyInt Syntax.w8)) 1 7 (Row.lease (κs .1 .0) (qs .1 .0))) (List._∷_ e42
-            (List._∷_ e45 (List._∷_ e48 (List._∷_ e52 (List._∷_ e53 (List._∷_ e54 (List._∷_ e56 (List._∷_ e3 (List._∷_ e6 (List._∷_ e8 (List._∷_ e11 (List._∷_ e13 (List._∷_ e16 List.[])))))))))))))))
+        abbrev g14 : List.List Row.Entry
+        g14 = List._∷_ e0 (List._∷_ e2 (List._∷_ e24 (List._∷_ e44 (List._∷_ e49 (List._∷_
+            (5, Relend.mslice-owed (Element.type) (Syntax.tyRef (Syntax.named 3) Syntax.mut Element.behind) 3 7 (Row.lease (κs .1 .1 .1 .0) (qs .1 .1 .1 .0))) (List._∷_ e56 (List._∷_ e57 (List._∷_ e58
+            (List._∷_ e60 (List._∷_ e3 (List._∷_ e7 (List._∷_ e9 (List._∷_ e12 (List._∷_ e15 (List._∷_ e17 List.[])))))))))))))))
 
-        abbrev g30 : List.List Row.Entry
-        g30 = List._∷_ e0 (List._∷_ e2 (List._∷_
-            (2, Relend.mslice-owed (Referent.rtF (Referent.fInt Syntax.w8)) (Syntax.tyRef (Syntax.named 1) Syntax.mut (Syntax.tyInt Syntax.w8)) 1 7 (Row.lease (κs .1 .0) (qs .1 .0))) (List._∷_ e42
-            (List._∷_ (4, Relend.mslice-owed (Referent.rtF (Referent.fInt Syntax.w16)) (Syntax.tyRef (Syntax.named 2) Syntax.mut (Syntax.tyInt Syntax.w16)) 2 8 (Row.lease (κs .1 .1 .0) (qs .1 .1 .0)))
-            (List._∷_ e48 (List._∷_ e52 (List._∷_ e53 (List._∷_ e54 (List._∷_ e56 (List._∷_ e3 (List._∷_ e6 (List._∷_ e8 (List._∷_ e11 (List._∷_ e13 (List._∷_ e16 List.[])))))))))))))))
+        abbrev g29 : List.List Row.Entry
+        g29 = List._∷_ e0 (List._∷_ e2 (List._∷_
+            (2, Relend.mslice-owed (Referent.rtF (Referent.fInt Syntax.w8)) (Syntax.tyRef (Syntax.named 1) Syntax.mut (Syntax.tyInt Syntax.w8)) 1 8 (Row.lease (κs .1 .0) (qs .1 .0))) (List._∷_ e44
+            (List._∷_ e49 (List._∷_ e52 (List._∷_ e56 (List._∷_ e57 (List._∷_ e58 (List._∷_ e59 (List._∷_ e3 (List._∷_ e7 (List._∷_ e10 (List._∷_ e12 (List._∷_ e15 (List._∷_ e17 List.[])))))))))))))))
 
-        abbrev g33 : List.List Row.Entry
-        g33 = List._∷_ e0 (List._∷_ e2 (List._∷_
-            (2, Relend.mslice-owed (Referent.rtF (Referent.fInt Syntax.w8)) (Syntax.tyRef (Syntax.named 1) Syntax.mut (Syntax.tyInt Syntax.w8)) 1 7 (Row.lease (κs .1 .0) (qs .1 .0))) (List._∷_ e42
-            (List._∷_ (4, Relend.mslice-owed (Referent.rtF (Referent.fInt Syntax.w16)) (Syntax.tyRef (Syntax.named 2) Syntax.mut (Syntax.tyInt Syntax.w16)) 2 8 (Row.lease (κs .1 .1 .0) (qs .1 .1 .0)))
-            (List._∷_ (5, Relend.mslice-owed (Element.type) (Syntax.tyRef (Syntax.named 3) Syntax.mut Element.behind) 3 9 (Row.lease (κs .1 .1 .1 .0) (qs .1 .1 .1 .0))) (List._∷_ e52 (List._∷_ e53
-            (List._∷_ e54 (List._∷_ e56 (List._∷_ e3 (List._∷_ e6 (List._∷_ e8 (List._∷_ e11 (List._∷_ e13 (List._∷_ e16 List.[])))))))))))))))
+        abbrev g32 : List.List Row.Entry
+        g32 = List._∷_ e0 (List._∷_ e2 (List._∷_
+            (2, Relend.mslice-owed (Referent.rtF (Referent.fInt Syntax.w8)) (Syntax.tyRef (Syntax.named 1) Syntax.mut (Syntax.tyInt Syntax.w8)) 1 8 (Row.lease (κs .1 .0) (qs .1 .0))) (List._∷_ e44
+            (List._∷_ (4, Relend.mslice-owed (Referent.rtF (Referent.fInt Syntax.w16)) (Syntax.tyRef (Syntax.named 2) Syntax.mut (Syntax.tyInt Syntax.w16)) 2 9 (Row.lease (κs .1 .1 .0) (qs .1 .1 .0)))
+            (List._∷_ e52 (List._∷_ e56 (List._∷_ e57 (List._∷_ e58 (List._∷_ e59 (List._∷_ e3 (List._∷_ e7 (List._∷_ e10 (List._∷_ e12 (List._∷_ e15 (List._∷_ e17 List.[])))))))))))))))
 
-        abbrev g37 : List.List Row.Entry
-        g37 = List._∷_ e0 (List._∷_ e2 (List._∷_
-            (2, Relend.mslice-owed (Referent.rtF (Referent.fInt Syntax.w8)) (Syntax.tyRef (Syntax.named 1) Syntax.mut (Syntax.tyInt Syntax.w8)) 1 7 (Row.lease (κs .1 .0) (qs .1 .0))) (List._∷_ e42
-            (List._∷_ (4, Relend.mslice-owed (Referent.rtF (Referent.fInt Syntax.w16)) (Syntax.tyRef (Syntax.named 2) Syntax.mut (Syntax.tyInt Syntax.w16)) 2 8 (Row.lease (κs .1 .1 .0) (qs .1 .1 .0)))
-            (List._∷_ (5, Relend.mslice-owed (Element.type) (Syntax.tyRef (Syntax.named 3) Syntax.mut Element.behind) 3 9 (Row.lease (κs .1 .1 .1 .0) (qs .1 .1 .1 .0))) (List._∷_ e51 (List._∷_ e53
-            (List._∷_ e54 (List._∷_ e56 (List._∷_ e3 (List._∷_ e6 (List._∷_ e8 (List._∷_ e11 (List._∷_ e13 (List._∷_ e16 List.[])))))))))))))))
+        abbrev g35 : List.List Row.Entry
+        g35 = List._∷_ e0 (List._∷_ e2 (List._∷_
+            (2, Relend.mslice-owed (Referent.rtF (Referent.fInt Syntax.w8)) (Syntax.tyRef (Syntax.named 1) Syntax.mut (Syntax.tyInt Syntax.w8)) 1 8 (Row.lease (κs .1 .0) (qs .1 .0))) (List._∷_ e44
+            (List._∷_ (4, Relend.mslice-owed (Referent.rtF (Referent.fInt Syntax.w16)) (Syntax.tyRef (Syntax.named 2) Syntax.mut (Syntax.tyInt Syntax.w16)) 2 9 (Row.lease (κs .1 .1 .0) (qs .1 .1 .0)))
+            (List._∷_ (5, Relend.mslice-owed (Element.type) (Syntax.tyRef (Syntax.named 3) Syntax.mut Element.behind) 3 10 (Row.lease (κs .1 .1 .1 .0) (qs .1 .1 .1 .0))) (List._∷_ e56 (List._∷_ e57
+            (List._∷_ e58 (List._∷_ e59 (List._∷_ e3 (List._∷_ e7 (List._∷_ e10 (List._∷_ e12 (List._∷_ e15 (List._∷_ e17 List.[])))))))))))))))
 
         abbrev g39 : List.List Row.Entry
-        g39 = List._∷_ e0 (List._∷_ e2 (List._∷_ e22 (List._∷_ e42 (List._∷_
-            (4, Relend.mslice-owed (Referent.rtF (Referent.fInt Syntax.w16)) (Syntax.tyRef (Syntax.named 2) Syntax.mut (Syntax.tyInt Syntax.w16)) 2 8 (Row.lease (κs .1 .1 .0) (qs .1 .1 .0))) (List._∷_
-            (5, Relend.mslice-owed (Element.type) (Syntax.tyRef (Syntax.named 3) Syntax.mut Element.behind) 3 9 (Row.lease (κs .1 .1 .1 .0) (qs .1 .1 .1 .0))) (List._∷_ e51 (List._∷_ e53 (List._∷_ e54
-            (List._∷_ e56 (List._∷_ e3 (List._∷_ e6 (List._∷_ e8 (List._∷_ e11 (List._∷_ e13 (List._∷_ e16 List.[])))))))))))))))
+        g39 = List._∷_ e0 (List._∷_ e2 (List._∷_
+            (2, Relend.mslice-owed (Referent.rtF (Referent.fInt Syntax.w8)) (Syntax.tyRef (Syntax.named 1) Syntax.mut (Syntax.tyInt Syntax.w8)) 1 8 (Row.lease (κs .1 .0) (qs .1 .0))) (List._∷_ e44
+            (List._∷_ (4, Relend.mslice-owed (Referent.rtF (Referent.fInt Syntax.w16)) (Syntax.tyRef (Syntax.named 2) Syntax.mut (Syntax.tyInt Syntax.w16)) 2 9 (Row.lease (κs .1 .1 .0) (qs .1 .1 .0)))
+            (List._∷_ (5, Relend.mslice-owed (Element.type) (Syntax.tyRef (Syntax.named 3) Syntax.mut Element.behind) 3 10 (Row.lease (κs .1 .1 .1 .0) (qs .1 .1 .1 .0))) (List._∷_ e55 (List._∷_ e57
+            (List._∷_ e58 (List._∷_ e59 (List._∷_ e3 (List._∷_ e7 (List._∷_ e10 (List._∷_ e12 (List._∷_ e15 (List._∷_ e17 List.[])))))))))))))))
 
         abbrev g41 : List.List Row.Entry
-        g41 = List._∷_ e0 (List._∷_ e2 (List._∷_ e22 (List._∷_ e42 (List._∷_ e45 (List._∷_
-            (5, Relend.mslice-owed (Element.type) (Syntax.tyRef (Syntax.named 3) Syntax.mut Element.behind) 3 9 (Row.lease (κs .1 .1 .1 .0) (qs .1 .1 .1 .0))) (List._∷_ e51 (List._∷_ e53 (List._∷_ e54
-            (List._∷_ e56 (List._∷_ e3 (List._∷_ e6 (List._∷_ e8 (List._∷_ e11 (List._∷_ e13 (List._∷_ e16 List.[])))))))))))))))
+        g41 = List._∷_ e0 (List._∷_ e2 (List._∷_ e24 (List._∷_ e44 (List._∷_
+            (4, Relend.mslice-owed (Referent.rtF (Referent.fInt Syntax.w16)) (Syntax.tyRef (Syntax.named 2) Syntax.mut (Syntax.tyInt Syntax.w16)) 2 9 (Row.lease (κs .1 .1 .0) (qs .1 .1 .0))) (List._∷_
+            (5, Relend.mslice-owed (Element.type) (Syntax.tyRef (Syntax.named 3) Syntax.mut Element.behind) 3 10 (Row.lease (κs .1 .1 .1 .0) (qs .1 .1 .1 .0))) (List._∷_ e55 (List._∷_ e57 (List._∷_ e58
+            (List._∷_ e59 (List._∷_ e3 (List._∷_ e7 (List._∷_ e10 (List._∷_ e12 (List._∷_ e15 (List._∷_ e17 List.[])))))))))))))))
 
-        abbrev g44 : List.List Row.Entry
-        g44 = List._∷_ e0 (List._∷_ e2 (List._∷_
-            (2, Relend.mslice-owed (Referent.rtF (Referent.fInt Syntax.w8)) (Syntax.tyRef (Syntax.named 1) Syntax.mut (Syntax.tyInt Syntax.w8)) 1 10 (Row.lease (κs .1 .0) (qs .1 .0))) (List._∷_ e42
-            (List._∷_ e45 (List._∷_ e48 (List._∷_ e51 (List._∷_ e53 (List._∷_ e54 (List._∷_ e56 (List._∷_ e3 (List._∷_ e6 (List._∷_ e8 (List._∷_ e11 (List._∷_ e13 (List._∷_ e16 List.[])))))))))))))))
+        abbrev g43 : List.List Row.Entry
+        g43 = List._∷_ e0 (List._∷_ e2 (List._∷_ e24 (List._∷_ e44 (List._∷_ e49 (List._∷_
+            (5, Relend.mslice-owed (Element.type) (Syntax.tyRef (Syntax.named 3) Syntax.mut Element.behind) 3 10 (Row.lease (κs .1 .1 .1 .0) (qs .1 .1 .1 .0))) (List._∷_ e55 (List._∷_ e57 (List._∷_ e58
+            (List._∷_ e59 (List._∷_ e3 (List._∷_ e7 (List._∷_ e10 (List._∷_ e12 (List._∷_ e15 (List._∷_ e17 List.[])))))))))))))))
+
+        abbrev g46 : List.List Row.Entry
+        g46 = List._∷_ e0 (List._∷_ e2 (List._∷_
+            (2, Relend.mslice-owed (Referent.rtF (Referent.fInt Syntax.w8)) (Syntax.tyRef (Syntax.named 1) Syntax.mut (Syntax.tyInt Syntax.w8)) 1 11 (Row.lease (κs .1 .0) (qs .1 .0))) (List._∷_ e44
+            (List._∷_ e49 (List._∷_ e52 (List._∷_ e55 (List._∷_ e57 (List._∷_ e58 (List._∷_ e59 (List._∷_ e3 (List._∷_ e7 (List._∷_ e10 (List._∷_ e12 (List._∷_ e15 (List._∷_ e17 List.[])))))))))))))))
 
         abbrev G0 : Row.Cx
         G0 = record {
           locals = List._++_ t0 t1;
           slots = List._∷_ (Row.lease (κs .0) (qs .0)) (List._∷_ (Row.lease (κs .1 .0) (qs .1 .0)) (List._∷_ (Row.lease (κs .1 .1 .0) (qs .1 .1 .0)) (List._∷_ (Row.lease (κs
-              .1 .1 .1 .0) (qs .1 .1 .1 .0)) (List._∷_ Row.off (List._∷_ Row.off (List._∷_ Row.off (List._∷_ Row.off (List._∷_ Row.off (List._∷_ Row.off (List._∷_ Row.off List.[]))))))))));
+              .1 .1 .1 .0) (qs .1 .1 .1 .0)) (List._∷_ (Row.lease (κs .1 .1 .1 .1 .0) (qs .1 .1 .1 .1 .0)) (List._∷_ Row.off (List._∷_ Row.off (List._∷_ Row.off (List._∷_ Row.off (List._∷_ Row.off (List._∷_
+              Row.off (List._∷_ Row.off List.[])))))))))));
         }
 
         abbrev G1 : Row.Cx
         G1 = record {
           locals = List._++_ t2 t1;
           slots = List._∷_ (Row.lease (κs .0) (qs .0)) (List._∷_ (Row.lease (κs .1 .0) (qs .1 .0)) (List._∷_ (Row.lease (κs .1 .1 .0) (qs .1 .1 .0)) (List._∷_ (Row.lease (κs
-              .1 .1 .1 .0) (qs .1 .1 .1 .0)) (List._∷_ Row.off (List._∷_ Row.off (List._∷_ Row.off (List._∷_ Row.off (List._∷_ Row.off (List._∷_ Row.off (List._∷_ Row.off List.[]))))))))));
+              .1 .1 .1 .0) (qs .1 .1 .1 .0)) (List._∷_ (Row.lease (κs .1 .1 .1 .1 .0) (qs .1 .1 .1 .1 .0)) (List._∷_ Row.off (List._∷_ Row.off (List._∷_ Row.off (List._∷_ Row.off (List._∷_ Row.off (List._∷_
+              Row.off (List._∷_ Row.off List.[])))))))))));
         }
 
         abbrev G2 : Row.Cx
         G2 = record {
           locals = List._++_ t0 t1;
           slots = List._∷_ (Row.lease (κs .0) (qs .0)) (List._∷_ (Row.lease (κs .1 .0) (qs .1 .0)) (List._∷_ (Row.lease (κs .1 .1 .0) (qs .1 .1 .0)) (List._∷_ (Row.lease (κs
-              .1 .1 .1 .0) (qs .1 .1 .1 .0)) (List._∷_ Row.off (List._∷_ Row.off (List._∷_ Row.off (List._∷_ Row.off (List._∷_ Row.off (List._∷_ Row.off (List._∷_ Row.off List.[]))))))))));
+              .1 .1 .1 .0) (qs .1 .1 .1 .0)) (List._∷_ (Row.lease (κs .1 .1 .1 .1 .0) (qs .1 .1 .1 .1 .0)) (List._∷_ Row.off (List._∷_ Row.off (List._∷_ Row.off (List._∷_ Row.off (List._∷_ Row.off (List._∷_
+              Row.off (List._∷_ Row.off List.[])))))))))));
         }
 
         abbrev G3 : Row.Cx
         G3 = record {
           locals = List._++_ t0 t1;
           slots = List._∷_ (Row.lease (κs .0) (qs .0)) (List._∷_ (Row.lease (κs .1 .0) (qs .1 .0)) (List._∷_ (Row.lease (κs .1 .1 .0) (qs .1 .1 .0)) (List._∷_ (Row.lease (κs
-              .1 .1 .1 .0) (qs .1 .1 .1 .0)) (List._∷_ Row.off (List._∷_ Row.off (List._∷_ Row.off (List._∷_ Row.off (List._∷_ Row.off (List._∷_ Row.off (List._∷_ Row.off List.[]))))))))));
+              .1 .1 .1 .0) (qs .1 .1 .1 .0)) (List._∷_ (Row.lease (κs .1 .1 .1 .1 .0) (qs .1 .1 .1 .1 .0)) (List._∷_ Row.off (List._∷_ Row.off (List._∷_ Row.off (List._∷_ Row.off (List._∷_ Row.off (List._∷_
+              Row.off (List._∷_ Row.off List.[])))))))))));
         }
 
         abbrev G4 : Row.Cx
         G4 = record {
           locals = List._++_ t0 t1;
           slots = List._∷_ (Row.lease (κs .0) (qs .0)) (List._∷_ (Row.lease (κs .1 .0) (qs .1 .0)) (List._∷_ (Row.lease (κs .1 .1 .0) (qs .1 .1 .0)) (List._∷_ (Row.lease (κs
-              .1 .1 .1 .0) (qs .1 .1 .1 .0)) (List._∷_ Row.off (List._∷_ Row.off (List._∷_ Row.off (List._∷_ Row.off (List._∷_ Row.off (List._∷_ Row.off (List._∷_ Row.off List.[]))))))))));
+              .1 .1 .1 .0) (qs .1 .1 .1 .0)) (List._∷_ (Row.lease (κs .1 .1 .1 .1 .0) (qs .1 .1 .1 .1 .0)) (List._∷_ Row.off (List._∷_ Row.off (List._∷_ Row.off (List._∷_ Row.off (List._∷_ Row.off (List._∷_
+              Row.off (List._∷_ Row.off List.[])))))))))));
         }
 
         abbrev G5 : Row.Cx
         G5 = record {
           locals = List._++_ t0 t1;
           slots = List._∷_ (Row.lease (κs .0) (qs .0)) (List._∷_ (Row.lease (κs .1 .0) (qs .1 .0)) (List._∷_ (Row.lease (κs .1 .1 .0) (qs .1 .1 .0)) (List._∷_ (Row.lease (κs
-              .1 .1 .1 .0) (qs .1 .1 .1 .0)) (List._∷_ Row.alive (List._∷_ Row.off (List._∷_ Row.off (List._∷_ Row.off (List._∷_ Row.off (List._∷_ Row.off (List._∷_ Row.off List.[]))))))))));
+              .1 .1 .1 .0) (qs .1 .1 .1 .0)) (List._∷_ (Row.lease (κs .1 .1 .1 .1 .0) (qs .1 .1 .1 .1 .0)) (List._∷_ Row.off (List._∷_ Row.off (List._∷_ Row.off (List._∷_ Row.off (List._∷_ Row.off (List._∷_
+              Row.off (List._∷_ Row.off List.[])))))))))));
         }
 
         abbrev G6 : Row.Cx
         G6 = record {
-          locals = List._++_ g3 t1;
-          slots = List._∷_ (Row.lease (κs .0) (qs .0)) (List._∷_ Row.off (List._∷_ (Row.lease (κs .1 .1 .0) (qs .1 .1 .0)) (List._∷_ (Row.lease (κs .1 .1 .1 .0) (qs .1 .1 .1
-              .0)) (List._∷_ Row.alive (List._∷_ Row.off (List._∷_ Row.off (List._∷_ Row.off (List._∷_ Row.off (List._∷_ Row.off (List._∷_ Row.off List.[]))))))))));
+          locals = List._++_ t0 t1;
+          slots = List._∷_ (Row.lease (κs .0) (qs .0)) (List._∷_ (Row.lease (κs .1 .0) (qs .1 .0)) (List._∷_ (Row.lease (κs .1 .1 .0) (qs .1 .1 .0)) (List._∷_ (Row.lease (κs
+              .1 .1 .1 .0) (qs .1 .1 .1 .0)) (List._∷_ (Row.lease (κs .1 .1 .1 .1 .0) (qs .1 .1 .1 .1 .0)) (List._∷_ Row.alive (List._∷_ Row.off (List._∷_ Row.off (List._∷_ Row.off (List._∷_ Row.off
+              (List._∷_ Row.off (List._∷_ Row.off List.[])))))))))));
         }
 
         abbrev G7 : Row.Cx
         G7 = record {
-          locals = List._++_ g4 t1;
+          locals = List._++_ g3 t1;
           slots = List._∷_ (Row.lease (κs .0) (qs .0)) (List._∷_ Row.off (List._∷_ (Row.lease (κs .1 .1 .0) (qs .1 .1 .0)) (List._∷_ (Row.lease (κs .1 .1 .1 .0) (qs .1 .1 .1
-              .0)) (List._∷_ Row.alive (List._∷_ Row.off (List._∷_ Row.off (List._∷_ Row.off (List._∷_ Row.off (List._∷_ Row.off (List._∷_ Row.off List.[]))))))))));
+              .0)) (List._∷_ (Row.lease (κs .1 .1 .1 .1 .0) (qs .1 .1 .1 .1 .0)) (List._∷_ Row.alive (List._∷_ Row.off (List._∷_ Row.off (List._∷_ Row.off (List._∷_ Row.off (List._∷_ Row.off (List._∷_
+              Row.off List.[])))))))))));
         }
 
         abbrev G8 : Row.Cx
         G8 = record {
           locals = List._++_ g4 t1;
           slots = List._∷_ (Row.lease (κs .0) (qs .0)) (List._∷_ Row.off (List._∷_ (Row.lease (κs .1 .1 .0) (qs .1 .1 .0)) (List._∷_ (Row.lease (κs .1 .1 .1 .0) (qs .1 .1 .1
-              .0)) (List._∷_ Row.alive (List._∷_ Row.alive (List._∷_ Row.off (List._∷_ Row.off (List._∷_ Row.off (List._∷_ Row.off (List._∷_ Row.off List.[]))))))))));
+              .0)) (List._∷_ (Row.lease (κs .1 .1 .1 .1 .0) (qs .1 .1 .1 .1 .0)) (List._∷_ Row.alive (List._∷_ Row.off (List._∷_ Row.off (List._∷_ Row.off (List._∷_ Row.off (List._∷_ Row.off (List._∷_
+              Row.off List.[])))))))))));
         }
 
         abbrev G9 : Row.Cx
         G9 = record {
-          locals = List._++_ g5 t1;
-          slots = List._∷_ (Row.lease (κs .0) (qs .0)) (List._∷_ Row.off (List._∷_ Row.off (List._∷_ (Row.lease (κs .1 .1 .1 .0) (qs .1 .1 .1 .0)) (List._∷_ Row.alive
-              (List._∷_ Row.alive (List._∷_ Row.off (List._∷_ Row.off (List._∷_ Row.off (List._∷_ Row.off (List._∷_ Row.off List.[]))))))))));
+          locals = List._++_ g4 t1;
+          slots = List._∷_ (Row.lease (κs .0) (qs .0)) (List._∷_ Row.off (List._∷_ (Row.lease (κs .1 .1 .0) (qs .1 .1 .0)) (List._∷_ (Row.lease (κs .1 .1 .1 .0) (qs .1 .1 .1
+              .0)) (List._∷_ (Row.lease (κs .1 .1 .1 .1 .0) (qs .1 .1 .1 .1 .0)) (List._∷_ Row.alive (List._∷_ Row.alive (List._∷_ Row.off (List._∷_ Row.off (List._∷_ Row.off (List._∷_ Row.off (List._∷_
+              Row.off List.[])))))))))));
         }
 
         abbrev G10 : Row.Cx
         G10 = record {
-          locals = List._++_ g6 t1;
-          slots = List._∷_ (Row.lease (κs .0) (qs .0)) (List._∷_ Row.off (List._∷_ Row.off (List._∷_ (Row.lease (κs .1 .1 .1 .0) (qs .1 .1 .1 .0)) (List._∷_ Row.alive
-              (List._∷_ Row.alive (List._∷_ Row.off (List._∷_ Row.off (List._∷_ Row.off (List._∷_ Row.off (List._∷_ Row.off List.[]))))))))));
+          locals = List._++_ g5 t1;
+          slots = List._∷_ (Row.lease (κs .0) (qs .0)) (List._∷_ Row.off (List._∷_ Row.off (List._∷_ (Row.lease (κs .1 .1 .1 .0) (qs .1 .1 .1 .0)) (List._∷_ (Row.lease (κs .1
+              .1 .1 .1 .0) (qs .1 .1 .1 .1 .0)) (List._∷_ Row.alive (List._∷_ Row.alive (List._∷_ Row.off (List._∷_ Row.off (List._∷_ Row.off (List._∷_ Row.off (List._∷_ Row.off List.[])))))))))));
         }
 
         abbrev G11 : Row.Cx
         G11 = record {
-          locals = List._++_ g6 t1;
-          slots = List._∷_ (Row.lease (κs .0) (qs .0)) (List._∷_ Row.off (List._∷_ Row.off (List._∷_ (Row.lease (κs .1 .1 .1 .0) (qs .1 .1 .1 .0)) (List._∷_ Row.alive
-              (List._∷_ Row.alive (List._∷_ Row.alive (List._∷_ Row.off (List._∷_ Row.off (List._∷_ Row.off (List._∷_ Row.off List.[]))))))))));
+          locals = List._++_ g6 t7;
+          slots = List._∷_ (Row.lease (κs .0) (qs .0)) (List._∷_ Row.off (List._∷_ Row.off (List._∷_ (Row.lease (κs .1 .1 .1 .0) (qs .1 .1 .1 .0)) (List._∷_ (Row.lease (κs .1
+              .1 .1 .1 .0) (qs .1 .1 .1 .1 .0)) (List._∷_ Row.alive (List._∷_ Row.alive (List._∷_ Row.off (List._∷_ Row.off (List._∷_ Row.off (List._∷_ Row.off (List._∷_ Row.off List.[])))))))))));
         }
 
         abbrev G12 : Row.Cx
         G12 = record {
-          locals = List._++_ g7 t8;
-          slots = List._∷_ (Row.lease (κs .0) (qs .0)) (List._∷_ Row.off (List._∷_ Row.off (List._∷_ Row.off (List._∷_ Row.alive (List._∷_ Row.alive (List._∷_ Row.alive
-              (List._∷_ Row.off (List._∷_ Row.off (List._∷_ Row.off (List._∷_ Row.off List.[]))))))))));
+          locals = List._++_ g6 t7;
+          slots = List._∷_ (Row.lease (κs .0) (qs .0)) (List._∷_ Row.off (List._∷_ Row.off (List._∷_ (Row.lease (κs .1 .1 .1 .0) (qs .1 .1 .1 .0)) (List._∷_ (Row.lease (κs .1
+              .1 .1 .1 .0) (qs .1 .1 .1 .1 .0)) (List._∷_ Row.alive (List._∷_ Row.alive (List._∷_ Row.alive (List._∷_ Row.off (List._∷_ Row.off (List._∷_ Row.off (List._∷_ Row.off List.[])))))))))));
         }
 
         abbrev G13 : Row.Cx
         G13 = record {
-          locals = List._++_ g7 t9;
-          slots = List._∷_ (Row.lease (κs .0) (qs .0)) (List._∷_ Row.off (List._∷_ Row.off (List._∷_ Row.off (List._∷_ Row.alive (List._∷_ Row.alive (List._∷_ Row.alive
-              (List._∷_ Row.off (List._∷_ Row.off (List._∷_ Row.off (List._∷_ Row.off List.[]))))))))));
+          locals = List._++_ g8 t9;
+          slots = List._∷_ (Row.lease (κs .0) (qs .0)) (List._∷_ Row.off (List._∷_ Row.off (List._∷_ Row.off (List._∷_ (Row.lease (κs .1 .1 .1 .1 .0) (qs .1 .1 .1 .1 .0))
+              (List._∷_ Row.alive (List._∷_ Row.alive (List._∷_ Row.alive (List._∷_ Row.off (List._∷_ Row.off (List._∷_ Row.off (List._∷_ Row.off List.[])))))))))));
         }
 
         abbrev G14 : Row.Cx
         G14 = record {
-          locals = List._++_ g10 t11;
-          slots = List._∷_ (Row.lease (κs .0) (qs .0)) (List._∷_ Row.off (List._∷_ Row.off (List._∷_ Row.off (List._∷_ Row.alive (List._∷_ Row.alive (List._∷_ Row.alive
-              (List._∷_ Row.off (List._∷_ Row.off (List._∷_ Row.off (List._∷_ Row.off List.[]))))))))));
+          locals = List._++_ g8 t10;
+          slots = List._∷_ (Row.lease (κs .0) (qs .0)) (List._∷_ Row.off (List._∷_ Row.off (List._∷_ Row.off (List._∷_ (Row.lease (κs .1 .1 .1 .1 .0) (qs .1 .1 .1 .1 .0))
+              (List._∷_ Row.alive (List._∷_ Row.alive (List._∷_ Row.alive (List._∷_ Row.off (List._∷_ Row.off (List._∷_ Row.off (List._∷_ Row.off List.[])))))))))));
         }
 
         abbrev G15 : Row.Cx
         G15 = record {
-          locals = List._++_ g10 t11;
-          slots = List._∷_ (Row.lease (κs .0) (qs .0)) (List._∷_ Row.off (List._∷_ Row.off (List._∷_ Row.off (List._∷_ Row.dead (List._∷_ Row.alive (List._∷_ Row.alive
-              (List._∷_ Row.off (List._∷_ Row.off (List._∷_ Row.off (List._∷_ Row.off List.[]))))))))));
+          locals = List._++_ g11 t12;
+          slots = List._∷_ (Row.lease (κs .0) (qs .0)) (List._∷_ Row.off (List._∷_ Row.off (List._∷_ Row.off (List._∷_ (Row.lease (κs .1 .1 .1 .1 .0) (qs .1 .1 .1 .1 .0))
+              (List._∷_ Row.alive (List._∷_ Row.alive (List._∷_ Row.alive (List._∷_ Row.off (List._∷_ Row.off (List._∷_ Row.off (List._∷_ Row.off List.[])))))))))));
         }
 
         abbrev G16 : Row.Cx
         G16 = record {
-          locals = List._++_ g12 t11;
-          slots = List._∷_ (Row.lease (κs .0) (qs .0)) (List._∷_ (Row.lease (κs .1 .0) (qs .1 .0)) (List._∷_ Row.off (List._∷_ Row.off (List._∷_ Row.dead (List._∷_
-              Row.alive (List._∷_ Row.alive (List._∷_ Row.off (List._∷_ Row.off (List._∷_ Row.off (List._∷_ Row.off List.[]))))))))));
+          locals = List._++_ g11 t12;
+          slots = List._∷_ (Row.lease (κs .0) (qs .0)) (List._∷_ Row.off (List._∷_ Row.off (List._∷_ Row.off (List._∷_ (Row.lease (κs .1 .1 .1 .1 .0) (qs .1 .1 .1 .1 .0))
+              (List._∷_ Row.dead (List._∷_ Row.alive (List._∷_ Row.alive (List._∷_ Row.off (List._∷_ Row.off (List._∷_ Row.off (List._∷_ Row.off List.[])))))))))));
         }
 
         abbrev G17 : Row.Cx
         G17 = record {
-          locals = List._++_ g12 t11;
-          slots = List._∷_ (Row.lease (κs .0) (qs .0)) (List._∷_ (Row.lease (κs .1 .0) (qs .1 .0)) (List._∷_ Row.off (List._∷_ Row.off (List._∷_ Row.dead (List._∷_
-              Row.alive (List._∷_ Row.alive (List._∷_ Row.off (List._∷_ Row.off (List._∷_ Row.off (List._∷_ Row.off List.[]))))))))));
+          locals = List._++_ g13 t12;
+          slots = List._∷_ (Row.lease (κs .0) (qs .0)) (List._∷_ (Row.lease (κs .1 .0) (qs .1 .0)) (List._∷_ Row.off (List._∷_ Row.off (List._∷_ (Row.lease (κs .1 .1 .1 .1
+              .0) (qs .1 .1 .1 .1 .0)) (List._∷_ Row.dead (List._∷_ Row.alive (List._∷_ Row.alive (List._∷_ Row.off (List._∷_ Row.off (List._∷_ Row.off (List._∷_ Row.off List.[])))))))))));
         }
 
         abbrev G18 : Row.Cx
         G18 = record {
-          locals = List._++_ g12 t11;
-          slots = List._∷_ (Row.lease (κs .0) (qs .0)) (List._∷_ (Row.lease (κs .1 .0) (qs .1 .0)) (List._∷_ Row.off (List._∷_ Row.off (List._∷_ Row.off (List._∷_ Row.alive
-              (List._∷_ Row.alive (List._∷_ Row.off (List._∷_ Row.off (List._∷_ Row.off (List._∷_ Row.off List.[]))))))))));
+          locals = List._++_ g13 t12;
+          slots = List._∷_ (Row.lease (κs .0) (qs .0)) (List._∷_ (Row.lease (κs .1 .0) (qs .1 .0)) (List._∷_ Row.off (List._∷_ Row.off (List._∷_ (Row.lease (κs .1 .1 .1 .1
+              .0) (qs .1 .1 .1 .1 .0)) (List._∷_ Row.dead (List._∷_ Row.alive (List._∷_ Row.alive (List._∷_ Row.off (List._∷_ Row.off (List._∷_ Row.off (List._∷_ Row.off List.[])))))))))));
         }
 
         abbrev G19 : Row.Cx
         G19 = record {
-          locals = List._++_ g12 t11;
-          slots = List._∷_ (Row.lease (κs .0) (qs .0)) (List._∷_ (Row.lease (κs .1 .0) (qs .1 .0)) (List._∷_ Row.off (List._∷_ Row.off (List._∷_ Row.off (List._∷_ Row.dead
-              (List._∷_ Row.alive (List._∷_ Row.off (List._∷_ Row.off (List._∷_ Row.off (List._∷_ Row.off List.[]))))))))));
+          locals = List._++_ g13 t12;
+          slots = List._∷_ (Row.lease (κs .0) (qs .0)) (List._∷_ (Row.lease (κs .1 .0) (qs .1 .0)) (List._∷_ Row.off (List._∷_ Row.off (List._∷_ (Row.lease (κs .1 .1 .1 .1
+              .0) (qs .1 .1 .1 .1 .0)) (List._∷_ Row.off (List._∷_ Row.alive (List._∷_ Row.alive (List._∷_ Row.off (List._∷_ Row.off (List._∷_ Row.off (List._∷_ Row.off List.[])))))))))));
         }
 
         abbrev G20 : Row.Cx
         G20 = record {
-          locals = List._++_ g13 t11;
-          slots = List._∷_ (Row.lease (κs .0) (qs .0)) (List._∷_ (Row.lease (κs .1 .0) (qs .1 .0)) (List._∷_ (Row.lease (κs .1 .1 .0) (qs .1 .1 .0)) (List._∷_ Row.off
-              (List._∷_ Row.off (List._∷_ Row.dead (List._∷_ Row.alive (List._∷_ Row.off (List._∷_ Row.off (List._∷_ Row.off (List._∷_ Row.off List.[]))))))))));
+          locals = List._++_ g13 t12;
+          slots = List._∷_ (Row.lease (κs .0) (qs .0)) (List._∷_ (Row.lease (κs .1 .0) (qs .1 .0)) (List._∷_ Row.off (List._∷_ Row.off (List._∷_ (Row.lease (κs .1 .1 .1 .1
+              .0) (qs .1 .1 .1 .1 .0)) (List._∷_ Row.off (List._∷_ Row.dead (List._∷_ Row.alive (List._∷_ Row.off (List._∷_ Row.off (List._∷_ Row.off (List._∷_ Row.off List.[])))))))))));
         }
 
         abbrev G21 : Row.Cx
         G21 = record {
-          locals = List._++_ g13 t11;
+          locals = List._++_ g14 t15;
           slots = List._∷_ (Row.lease (κs .0) (qs .0)) (List._∷_ (Row.lease (κs .1 .0) (qs .1 .0)) (List._∷_ (Row.lease (κs .1 .1 .0) (qs .1 .1 .0)) (List._∷_ Row.off
-              (List._∷_ Row.off (List._∷_ Row.dead (List._∷_ Row.alive (List._∷_ Row.off (List._∷_ Row.off (List._∷_ Row.off (List._∷_ Row.off List.[]))))))))));
+              (List._∷_ (Row.lease (κs .1 .1 .1 .1 .0) (qs .1 .1 .1 .1 .0)) (List._∷_ Row.off (List._∷_ Row.dead (List._∷_ Row.alive (List._∷_ Row.off (List._∷_ Row.off (List._∷_ Row.off (List._∷_ Row.off
+              List.[])))))))))));
         }
 
         abbrev G22 : Row.Cx
         G22 = record {
-          locals = List._++_ g13 t11;
+          locals = List._++_ g14 t15;
           slots = List._∷_ (Row.lease (κs .0) (qs .0)) (List._∷_ (Row.lease (κs .1 .0) (qs .1 .0)) (List._∷_ (Row.lease (κs .1 .1 .0) (qs .1 .1 .0)) (List._∷_ Row.off
-              (List._∷_ Row.off (List._∷_ Row.off (List._∷_ Row.alive (List._∷_ Row.off (List._∷_ Row.off (List._∷_ Row.off (List._∷_ Row.off List.[]))))))))));
+              (List._∷_ (Row.lease (κs .1 .1 .1 .1 .0) (qs .1 .1 .1 .1 .0)) (List._∷_ Row.off (List._∷_ Row.dead (List._∷_ Row.alive (List._∷_ Row.off (List._∷_ Row.off (List._∷_ Row.off (List._∷_ Row.off
+              List.[])))))))))));
         }
 
         abbrev G23 : Row.Cx
         G23 = record {
-          locals = List._++_ g13 t11;
+          locals = List._++_ g14 t15;
           slots = List._∷_ (Row.lease (κs .0) (qs .0)) (List._∷_ (Row.lease (κs .1 .0) (qs .1 .0)) (List._∷_ (Row.lease (κs .1 .1 .0) (qs .1 .1 .0)) (List._∷_ Row.off
-              (List._∷_ Row.off (List._∷_ Row.off (List._∷_ Row.dead (List._∷_ Row.off (List._∷_ Row.off (List._∷_ Row.off (List._∷_ Row.off List.[]))))))))));
+              (List._∷_ (Row.lease (κs .1 .1 .1 .1 .0) (qs .1 .1 .1 .1 .0)) (List._∷_ Row.off (List._∷_ Row.off (List._∷_ Row.alive (List._∷_ Row.off (List._∷_ Row.off (List._∷_ Row.off (List._∷_ Row.off
+              List.[])))))))))));
         }
 
         abbrev G24 : Row.Cx
         G24 = record {
-          locals = List._++_ t14 t1;
-          slots = List._∷_ (Row.lease (κs .0) (qs .0)) (List._∷_ (Row.lease (κs .1 .0) (qs .1 .0)) (List._∷_ (Row.lease (κs .1 .1 .0) (qs .1 .1 .0)) (List._∷_ (Row.lease (κs
-              .1 .1 .1 .0) (qs .1 .1 .1 .0)) (List._∷_ Row.off (List._∷_ Row.off (List._∷_ Row.dead (List._∷_ Row.off (List._∷_ Row.off (List._∷_ Row.off (List._∷_ Row.off List.[]))))))))));
+          locals = List._++_ g14 t15;
+          slots = List._∷_ (Row.lease (κs .0) (qs .0)) (List._∷_ (Row.lease (κs .1 .0) (qs .1 .0)) (List._∷_ (Row.lease (κs .1 .1 .0) (qs .1 .1 .0)) (List._∷_ Row.off
+              (List._∷_ (Row.lease (κs .1 .1 .1 .1 .0) (qs .1 .1 .1 .1 .0)) (List._∷_ Row.off (List._∷_ Row.off (List._∷_ Row.dead (List._∷_ Row.off (List._∷_ Row.off (List._∷_ Row.off (List._∷_ Row.off
+              List.[])))))))))));
         }
 
         abbrev G25 : Row.Cx
         G25 = record {
-          locals = List._++_ t14 t1;
+          locals = List._++_ t16 t1;
           slots = List._∷_ (Row.lease (κs .0) (qs .0)) (List._∷_ (Row.lease (κs .1 .0) (qs .1 .0)) (List._∷_ (Row.lease (κs .1 .1 .0) (qs .1 .1 .0)) (List._∷_ (Row.lease (κs
-              .1 .1 .1 .0) (qs .1 .1 .1 .0)) (List._∷_ Row.off (List._∷_ Row.off (List._∷_ Row.off (List._∷_ Row.off (List._∷_ Row.off (List._∷_ Row.off (List._∷_ Row.off List.[]))))))))));
+              .1 .1 .1 .0) (qs .1 .1 .1 .0)) (List._∷_ (Row.lease (κs .1 .1 .1 .1 .0) (qs .1 .1 .1 .1 .0)) (List._∷_ Row.off (List._∷_ Row.off (List._∷_ Row.dead (List._∷_ Row.off (List._∷_ Row.off
+              (List._∷_ Row.off (List._∷_ Row.off List.[])))))))))));
         }
 
         abbrev G26 : Row.Cx
         G26 = record {
-          locals = List._++_ t14 t15;
-          slots = List._∷_ (Row.lease (κs .0) (qs .0)) (List._∷_ (Row.lease (κs .1 .0) (qs .1 .0)) (List._∷_ (Row.lease (κs .1 .1 .0) (qs .1 .1 .0)) (List._∷_ (Row.lease
-              (κs .1 .1 .1 .0) (qs .1 .1 .1 .0)) (List._∷_ Row.off (List._∷_ Row.off (List._∷_ Row.off (List._∷_ Row.off (List._∷_ Row.off (List._∷_ Row.off (List._∷_ Row.off List.[]))))))))));
+          locals = List._++_ t16 t1;
+          slots = List._∷_ (Row.lease (κs .0) (qs .0)) (List._∷_ (Row.lease (κs .1 .0) (qs .1 .0)) (List._∷_ (Row.lease (κs .1 .1 .0) (qs .1 .1 .0)) (List._∷_ (Row.lease (κs
+              .1 .1 .1 .0) (qs .1 .1 .1 .0)) (List._∷_ (Row.lease (κs .1 .1 .1 .1 .0) (qs .1 .1 .1 .1 .0)) (List._∷_ Row.off (List._∷_ Row.off (List._∷_ Row.off (List._∷_ Row.off (List._∷_ Row.off (List._∷_
+              Row.off (List._∷_ Row.off List.[])))))))))));
         }
 
         abbrev G27 : Row.Cx
         G27 = record {
-          locals = List._++_ t16 t15;
+          locals = List._++_ t16 t17;
           slots = List._∷_ (Row.lease (κs .0) (qs .0)) (List._∷_ (Row.lease (κs .1 .0) (qs .1 .0)) (List._∷_ (Row.lease (κs .1 .1 .0) (qs .1 .1 .0)) (List._∷_ (Row.lease
-              (κs .1 .1 .1 .0) (qs .1 .1 .1 .0)) (List._∷_ Row.off (List._∷_ Row.off (List._∷_ Row.off (List._∷_ Row.off (List._∷_ Row.off (List._∷_ Row.off (List._∷_ Row.off List.[]))))))))));
+              (κs .1 .1 .1 .0) (qs .1 .1 .1 .0)) (List._∷_ (Row.lease (κs .1 .1 .1 .1 .0) (qs .1 .1 .1 .1 .0)) (List._∷_ Row.off (List._∷_ Row.off (List._∷_ Row.off (List._∷_ Row.off (List._∷_ Row.off
+              (List._∷_ Row.off (List._∷_ Row.off List.[])))))))))));
         }
 
         abbrev G28 : Row.Cx
         G28 = record {
-          locals = List._++_ t17 t18;
+          locals = List._++_ t18 t17;
           slots = List._∷_ (Row.lease (κs .0) (qs .0)) (List._∷_ (Row.lease (κs .1 .0) (qs .1 .0)) (List._∷_ (Row.lease (κs .1 .1 .0) (qs .1 .1 .0)) (List._∷_ (Row.lease
-              (κs .1 .1 .1 .0) (qs .1 .1 .1 .0)) (List._∷_ Row.off (List._∷_ Row.off (List._∷_ Row.off (List._∷_ Row.off (List._∷_ Row.off (List._∷_ Row.off (List._∷_ Row.off List.[]))))))))));
+              (κs .1 .1 .1 .0) (qs .1 .1 .1 .0)) (List._∷_ (Row.lease (κs .1 .1 .1 .1 .0) (qs .1 .1 .1 .1 .0)) (List._∷_ Row.off (List._∷_ Row.off (List._∷_ Row.off (List._∷_ Row.off (List._∷_ Row.off
+              (List._∷_ Row.off (List._∷_ Row.off List.[])))))))))));
         }
 
         abbrev G29 : Row.Cx
         G29 = record {
-          locals = List._++_ t19 t15;
+          locals = List._++_ t19 t20;
           slots = List._∷_ (Row.lease (κs .0) (qs .0)) (List._∷_ (Row.lease (κs .1 .0) (qs .1 .0)) (List._∷_ (Row.lease (κs .1 .1 .0) (qs .1 .1 .0)) (List._∷_ (Row.lease
-              (κs .1 .1 .1 .0) (qs .1 .1 .1 .0)) (List._∷_ Row.off (List._∷_ Row.off (List._∷_ Row.off (List._∷_ Row.off (List._∷_ Row.off (List._∷_ Row.off (List._∷_ Row.off List.[]))))))))));
+              (κs .1 .1 .1 .0) (qs .1 .1 .1 .0)) (List._∷_ (Row.lease (κs .1 .1 .1 .1 .0) (qs .1 .1 .1 .1 .0)) (List._∷_ Row.off (List._∷_ Row.off (List._∷_ Row.off (List._∷_ Row.off (List._∷_ Row.off
+              (List._∷_ Row.off (List._∷_ Row.off List.[])))))))))));
         }
 
         abbrev G30 : Row.Cx
         G30 = record {
-          locals = List._++_ t19 t1;
-          slots = List._∷_ (Row.lease (κs .0) (qs .0)) (List._∷_ (Row.lease (κs .1 .0) (qs .1 .0)) (List._∷_ (Row.lease (κs .1 .1 .0) (qs .1 .1 .0)) (List._∷_ (Row.lease (κs
-              .1 .1 .1 .0) (qs .1 .1 .1 .0)) (List._∷_ Row.off (List._∷_ Row.off (List._∷_ Row.off (List._∷_ Row.off (List._∷_ Row.off (List._∷_ Row.off (List._∷_ Row.off List.[]))))))))));
+          locals = List._++_ t21 t17;
+          slots = List._∷_ (Row.lease (κs .0) (qs .0)) (List._∷_ (Row.lease (κs .1 .0) (qs .1 .0)) (List._∷_ (Row.lease (κs .1 .1 .0) (qs .1 .1 .0)) (List._∷_ (Row.lease
+              (κs .1 .1 .1 .0) (qs .1 .1 .1 .0)) (List._∷_ (Row.lease (κs .1 .1 .1 .1 .0) (qs .1 .1 .1 .1 .0)) (List._∷_ Row.off (List._∷_ Row.off (List._∷_ Row.off (List._∷_ Row.off (List._∷_ Row.off
+              (List._∷_ Row.off (List._∷_ Row.off List.[])))))))))));
         }
 
         abbrev G31 : Row.Cx
         G31 = record {
-          locals = List._++_ t20 t1;
+          locals = List._++_ t21 t1;
           slots = List._∷_ (Row.lease (κs .0) (qs .0)) (List._∷_ (Row.lease (κs .1 .0) (qs .1 .0)) (List._∷_ (Row.lease (κs .1 .1 .0) (qs .1 .1 .0)) (List._∷_ (Row.lease (κs
-              .1 .1 .1 .0) (qs .1 .1 .1 .0)) (List._∷_ Row.off (List._∷_ Row.off (List._∷_ Row.off (List._∷_ Row.off (List._∷_ Row.off (List._∷_ Row.off (List._∷_ Row.off List.[]))))))))));
+              .1 .1 .1 .0) (qs .1 .1 .1 .0)) (List._∷_ (Row.lease (κs .1 .1 .1 .1 .0) (qs .1 .1 .1 .1 .0)) (List._∷_ Row.off (List._∷_ Row.off (List._∷_ Row.off (List._∷_ Row.off (List._∷_ Row.off (List._∷_
+              Row.off (List._∷_ Row.off List.[])))))))))));
         }
 
         abbrev G32 : Row.Cx
         G32 = record {
-          locals = List._++_ t20 t1;
+          locals = List._++_ t22 t1;
           slots = List._∷_ (Row.lease (κs .0) (qs .0)) (List._∷_ (Row.lease (κs .1 .0) (qs .1 .0)) (List._∷_ (Row.lease (κs .1 .1 .0) (qs .1 .1 .0)) (List._∷_ (Row.lease (κs
-              .1 .1 .1 .0) (qs .1 .1 .1 .0)) (List._∷_ Row.off (List._∷_ Row.off (List._∷_ Row.off (List._∷_ Row.off (List._∷_ Row.off (List._∷_ Row.off (List._∷_ Row.off List.[]))))))))));
+              .1 .1 .1 .0) (qs .1 .1 .1 .0)) (List._∷_ (Row.lease (κs .1 .1 .1 .1 .0) (qs .1 .1 .1 .1 .0)) (List._∷_ Row.off (List._∷_ Row.off (List._∷_ Row.off (List._∷_ Row.off (List._∷_ Row.off (List._∷_
+              Row.off (List._∷_ Row.off List.[])))))))))));
         }
 
         abbrev G33 : Row.Cx
         G33 = record {
-          locals = List._++_ t21 t1;
+          locals = List._++_ t22 t1;
           slots = List._∷_ (Row.lease (κs .0) (qs .0)) (List._∷_ (Row.lease (κs .1 .0) (qs .1 .0)) (List._∷_ (Row.lease (κs .1 .1 .0) (qs .1 .1 .0)) (List._∷_ (Row.lease (κs
-              .1 .1 .1 .0) (qs .1 .1 .1 .0)) (List._∷_ Row.off (List._∷_ Row.off (List._∷_ Row.off (List._∷_ Row.off (List._∷_ Row.off (List._∷_ Row.off (List._∷_ Row.off List.[]))))))))));
+              .1 .1 .1 .0) (qs .1 .1 .1 .0)) (List._∷_ (Row.lease (κs .1 .1 .1 .1 .0) (qs .1 .1 .1 .1 .0)) (List._∷_ Row.off (List._∷_ Row.off (List._∷_ Row.off (List._∷_ Row.off (List._∷_ Row.off (List._∷_
+              Row.off (List._∷_ Row.off List.[])))))))))));
         }
 
         abbrev G34 : Row.Cx
         G34 = record {
-          locals = List._++_ t22 t1;
+          locals = List._++_ t23 t1;
           slots = List._∷_ (Row.lease (κs .0) (qs .0)) (List._∷_ (Row.lease (κs .1 .0) (qs .1 .0)) (List._∷_ (Row.lease (κs .1 .1 .0) (qs .1 .1 .0)) (List._∷_ (Row.lease (κs
-              .1 .1 .1 .0) (qs .1 .1 .1 .0)) (List._∷_ Row.off (List._∷_ Row.off (List._∷_ Row.off (List._∷_ Row.off (List._∷_ Row.off (List._∷_ Row.off (List._∷_ Row.off List.[]))))))))));
+              .1 .1 .1 .0) (qs .1 .1 .1 .0)) (List._∷_ (Row.lease (κs .1 .1 .1 .1 .0) (qs .1 .1 .1 .1 .0)) (List._∷_ Row.off (List._∷_ Row.off (List._∷_ Row.off (List._∷_ Row.off (List._∷_ Row.off (List._∷_
+              Row.off (List._∷_ Row.off List.[])))))))))));
         }
 
         abbrev G35 : Row.Cx
         G35 = record {
-          locals = List._++_ t23 t1;
+          locals = List._++_ t24 t1;
           slots = List._∷_ (Row.lease (κs .0) (qs .0)) (List._∷_ (Row.lease (κs .1 .0) (qs .1 .0)) (List._∷_ (Row.lease (κs .1 .1 .0) (qs .1 .1 .0)) (List._∷_ (Row.lease (κs
-              .1 .1 .1 .0) (qs .1 .1 .1 .0)) (List._∷_ Row.off (List._∷_ Row.off (List._∷_ Row.off (List._∷_ Row.off (List._∷_ Row.off (List._∷_ Row.off (List._∷_ Row.off List.[]))))))))));
+              .1 .1 .1 .0) (qs .1 .1 .1 .0)) (List._∷_ (Row.lease (κs .1 .1 .1 .1 .0) (qs .1 .1 .1 .1 .0)) (List._∷_ Row.off (List._∷_ Row.off (List._∷_ Row.off (List._∷_ Row.off (List._∷_ Row.off (List._∷_
+              Row.off (List._∷_ Row.off List.[])))))))))));
         }
 
         abbrev G36 : Row.Cx
         G36 = record {
-          locals = List._++_ t23 t18;
-          slots = List._∷_ (Row.lease (κs .0) (qs .0)) (List._∷_ (Row.lease (κs .1 .0) (qs .1 .0)) (List._∷_ (Row.lease (κs .1 .1 .0) (qs .1 .1 .0)) (List._∷_ (Row.lease
-              (κs .1 .1 .1 .0) (qs .1 .1 .1 .0)) (List._∷_ Row.off (List._∷_ Row.off (List._∷_ Row.off (List._∷_ Row.off (List._∷_ Row.off (List._∷_ Row.off (List._∷_ Row.off List.[]))))))))));
+          locals = List._++_ t25 t1;
+          slots = List._∷_ (Row.lease (κs .0) (qs .0)) (List._∷_ (Row.lease (κs .1 .0) (qs .1 .0)) (List._∷_ (Row.lease (κs .1 .1 .0) (qs .1 .1 .0)) (List._∷_ (Row.lease (κs
+              .1 .1 .1 .0) (qs .1 .1 .1 .0)) (List._∷_ (Row.lease (κs .1 .1 .1 .1 .0) (qs .1 .1 .1 .1 .0)) (List._∷_ Row.off (List._∷_ Row.off (List._∷_ Row.off (List._∷_ Row.off (List._∷_ Row.off (List._∷_
+              Row.off (List._∷_ Row.off List.[])))))))))));
         }
 
         abbrev G37 : Row.Cx
         G37 = record {
-          locals = List._++_ t17 t18;
+          locals = List._++_ t25 t20;
           slots = List._∷_ (Row.lease (κs .0) (qs .0)) (List._∷_ (Row.lease (κs .1 .0) (qs .1 .0)) (List._∷_ (Row.lease (κs .1 .1 .0) (qs .1 .1 .0)) (List._∷_ (Row.lease
-              (κs .1 .1 .1 .0) (qs .1 .1 .1 .0)) (List._∷_ Row.off (List._∷_ Row.off (List._∷_ Row.off (List._∷_ Row.off (List._∷_ Row.off (List._∷_ Row.off (List._∷_ Row.off List.[]))))))))));
+              (κs .1 .1 .1 .0) (qs .1 .1 .1 .0)) (List._∷_ (Row.lease (κs .1 .1 .1 .1 .0) (qs .1 .1 .1 .1 .0)) (List._∷_ Row.off (List._∷_ Row.off (List._∷_ Row.off (List._∷_ Row.off (List._∷_ Row.off
+              (List._∷_ Row.off (List._∷_ Row.off List.[])))))))))));
         }
 
         abbrev G38 : Row.Cx
         G38 = record {
-          locals = List._++_ t24 t1;
-          slots = List._∷_ (Row.lease (κs .0) (qs .0)) (List._∷_ (Row.lease (κs .1 .0) (qs .1 .0)) (List._∷_ (Row.lease (κs .1 .1 .0) (qs .1 .1 .0)) (List._∷_ (Row.lease (κs
-              .1 .1 .1 .0) (qs .1 .1 .1 .0)) (List._∷_ Row.off (List._∷_ Row.off (List._∷_ Row.off (List._∷_ Row.off (List._∷_ Row.off (List._∷_ Row.off (List._∷_ Row.off List.[]))))))))));
+          locals = List._++_ t19 t20;
+          slots = List._∷_ (Row.lease (κs .0) (qs .0)) (List._∷_ (Row.lease (κs .1 .0) (qs .1 .0)) (List._∷_ (Row.lease (κs .1 .1 .0) (qs .1 .1 .0)) (List._∷_ (Row.lease
+              (κs .1 .1 .1 .0) (qs .1 .1 .1 .0)) (List._∷_ (Row.lease (κs .1 .1 .1 .1 .0) (qs .1 .1 .1 .1 .0)) (List._∷_ Row.off (List._∷_ Row.off (List._∷_ Row.off (List._∷_ Row.off (List._∷_ Row.off
+              (List._∷_ Row.off (List._∷_ Row.off List.[])))))))))));
         }
 
         abbrev G39 : Row.Cx
         G39 = record {
-          locals = List._++_ t24 t1;
+          locals = List._++_ t26 t1;
           slots = List._∷_ (Row.lease (κs .0) (qs .0)) (List._∷_ (Row.lease (κs .1 .0) (qs .1 .0)) (List._∷_ (Row.lease (κs .1 .1 .0) (qs .1 .1 .0)) (List._∷_ (Row.lease (κs
-              .1 .1 .1 .0) (qs .1 .1 .1 .0)) (List._∷_ Row.off (List._∷_ Row.off (List._∷_ Row.off (List._∷_ Row.off (List._∷_ Row.off (List._∷_ Row.off (List._∷_ Row.off List.[]))))))))));
+              .1 .1 .1 .0) (qs .1 .1 .1 .0)) (List._∷_ (Row.lease (κs .1 .1 .1 .1 .0) (qs .1 .1 .1 .1 .0)) (List._∷_ Row.off (List._∷_ Row.off (List._∷_ Row.off (List._∷_ Row.off (List._∷_ Row.off (List._∷_
+              Row.off (List._∷_ Row.off List.[])))))))))));
         }
 
         abbrev G40 : Row.Cx
         G40 = record {
-          locals = List._++_ t25 t1;
+          locals = List._++_ t26 t1;
           slots = List._∷_ (Row.lease (κs .0) (qs .0)) (List._∷_ (Row.lease (κs .1 .0) (qs .1 .0)) (List._∷_ (Row.lease (κs .1 .1 .0) (qs .1 .1 .0)) (List._∷_ (Row.lease (κs
-              .1 .1 .1 .0) (qs .1 .1 .1 .0)) (List._∷_ Row.off (List._∷_ Row.off (List._∷_ Row.off (List._∷_ Row.off (List._∷_ Row.off (List._∷_ Row.off (List._∷_ Row.off List.[]))))))))));
+              .1 .1 .1 .0) (qs .1 .1 .1 .0)) (List._∷_ (Row.lease (κs .1 .1 .1 .1 .0) (qs .1 .1 .1 .1 .0)) (List._∷_ Row.off (List._∷_ Row.off (List._∷_ Row.off (List._∷_ Row.off (List._∷_ Row.off (List._∷_
+              Row.off (List._∷_ Row.off List.[])))))))))));
         }
 
         abbrev G41 : Row.Cx
         G41 = record {
-          locals = List._++_ t26 t1;
+          locals = List._++_ t27 t1;
           slots = List._∷_ (Row.lease (κs .0) (qs .0)) (List._∷_ (Row.lease (κs .1 .0) (qs .1 .0)) (List._∷_ (Row.lease (κs .1 .1 .0) (qs .1 .1 .0)) (List._∷_ (Row.lease (κs
-              .1 .1 .1 .0) (qs .1 .1 .1 .0)) (List._∷_ Row.off (List._∷_ Row.off (List._∷_ Row.off (List._∷_ Row.off (List._∷_ Row.off (List._∷_ Row.off (List._∷_ Row.off List.[]))))))))));
+              .1 .1 .1 .0) (qs .1 .1 .1 .0)) (List._∷_ (Row.lease (κs .1 .1 .1 .1 .0) (qs .1 .1 .1 .1 .0)) (List._∷_ Row.off (List._∷_ Row.off (List._∷_ Row.off (List._∷_ Row.off (List._∷_ Row.off (List._∷_
+              Row.off (List._∷_ Row.off List.[])))))))))));
         }
 
         abbrev G42 : Row.Cx
         G42 = record {
-          locals = List._++_ t26 t1;
+          locals = List._++_ t28 t1;
           slots = List._∷_ (Row.lease (κs .0) (qs .0)) (List._∷_ (Row.lease (κs .1 .0) (qs .1 .0)) (List._∷_ (Row.lease (κs .1 .1 .0) (qs .1 .1 .0)) (List._∷_ (Row.lease (κs
-              .1 .1 .1 .0) (qs .1 .1 .1 .0)) (List._∷_ Row.off (List._∷_ Row.off (List._∷_ Row.off (List._∷_ Row.alive (List._∷_ Row.off (List._∷_ Row.off (List._∷_ Row.off List.[]))))))))));
+              .1 .1 .1 .0) (qs .1 .1 .1 .0)) (List._∷_ (Row.lease (κs .1 .1 .1 .1 .0) (qs .1 .1 .1 .1 .0)) (List._∷_ Row.off (List._∷_ Row.off (List._∷_ Row.off (List._∷_ Row.off (List._∷_ Row.off (List._∷_
+              Row.off (List._∷_ Row.off List.[])))))))))));
         }
 
         abbrev G43 : Row.Cx
         G43 = record {
-          locals = List._++_ g27 t28;
-          slots = List._∷_ (Row.lease (κs .0) (qs .0)) (List._∷_ Row.off (List._∷_ (Row.lease (κs .1 .1 .0) (qs .1 .1 .0)) (List._∷_ (Row.lease (κs .1 .1 .1 .0) (qs .1 .1
-              .1 .0)) (List._∷_ Row.off (List._∷_ Row.off (List._∷_ Row.off (List._∷_ Row.alive (List._∷_ Row.off (List._∷_ Row.off (List._∷_ Row.off List.[]))))))))));
+          locals = List._++_ t28 t1;
+          slots = List._∷_ (Row.lease (κs .0) (qs .0)) (List._∷_ (Row.lease (κs .1 .0) (qs .1 .0)) (List._∷_ (Row.lease (κs .1 .1 .0) (qs .1 .1 .0)) (List._∷_ (Row.lease (κs
+              .1 .1 .1 .0) (qs .1 .1 .1 .0)) (List._∷_ (Row.lease (κs .1 .1 .1 .1 .0) (qs .1 .1 .1 .1 .0)) (List._∷_ Row.off (List._∷_ Row.off (List._∷_ Row.off (List._∷_ Row.alive (List._∷_ Row.off
+              (List._∷_ Row.off (List._∷_ Row.off List.[])))))))))));
         }
 
         abbrev G44 : Row.Cx
         G44 = record {
-          locals = List._++_ g27 t29;
+          locals = List._++_ g29 t30;
           slots = List._∷_ (Row.lease (κs .0) (qs .0)) (List._∷_ Row.off (List._∷_ (Row.lease (κs .1 .1 .0) (qs .1 .1 .0)) (List._∷_ (Row.lease (κs .1 .1 .1 .0) (qs .1 .1
-              .1 .0)) (List._∷_ Row.off (List._∷_ Row.off (List._∷_ Row.off (List._∷_ Row.alive (List._∷_ Row.off (List._∷_ Row.off (List._∷_ Row.off List.[]))))))))));
+              .1 .0)) (List._∷_ (Row.lease (κs .1 .1 .1 .1 .0) (qs .1 .1 .1 .1 .0)) (List._∷_ Row.off (List._∷_ Row.off (List._∷_ Row.off (List._∷_ Row.alive (List._∷_ Row.off (List._∷_ Row.off (List._∷_
+              Row.off List.[])))))))))));
         }
 
         abbrev G45 : Row.Cx
         G45 = record {
-          locals = List._++_ g27 t29;
+          locals = List._++_ g29 t31;
           slots = List._∷_ (Row.lease (κs .0) (qs .0)) (List._∷_ Row.off (List._∷_ (Row.lease (κs .1 .1 .0) (qs .1 .1 .0)) (List._∷_ (Row.lease (κs .1 .1 .1 .0) (qs .1 .1
-              .1 .0)) (List._∷_ Row.off (List._∷_ Row.off (List._∷_ Row.off (List._∷_ Row.alive (List._∷_ Row.alive (List._∷_ Row.off (List._∷_ Row.off List.[]))))))))));
+              .1 .0)) (List._∷_ (Row.lease (κs .1 .1 .1 .1 .0) (qs .1 .1 .1 .1 .0)) (List._∷_ Row.off (List._∷_ Row.off (List._∷_ Row.off (List._∷_ Row.alive (List._∷_ Row.off (List._∷_ Row.off (List._∷_
+              Row.off List.[])))))))))));
         }
 
         abbrev G46 : Row.Cx
         G46 = record {
-          locals = List._++_ g30 t31;
-          slots = List._∷_ (Row.lease (κs .0) (qs .0)) (List._∷_ Row.off (List._∷_ Row.off (List._∷_ (Row.lease (κs .1 .1 .1 .0) (qs .1 .1 .1 .0)) (List._∷_ Row.off
-              (List._∷_ Row.off (List._∷_ Row.off (List._∷_ Row.alive (List._∷_ Row.alive (List._∷_ Row.off (List._∷_ Row.off List.[]))))))))));
+          locals = List._++_ g29 t31;
+          slots = List._∷_ (Row.lease (κs .0) (qs .0)) (List._∷_ Row.off (List._∷_ (Row.lease (κs .1 .1 .0) (qs .1 .1 .0)) (List._∷_ (Row.lease (κs .1 .1 .1 .0) (qs .1 .1
+              .1 .0)) (List._∷_ (Row.lease (κs .1 .1 .1 .1 .0) (qs .1 .1 .1 .1 .0)) (List._∷_ Row.off (List._∷_ Row.off (List._∷_ Row.off (List._∷_ Row.alive (List._∷_ Row.alive (List._∷_ Row.off (List._∷_
+              Row.off List.[])))))))))));
         }
 
         abbrev G47 : Row.Cx
         G47 = record {
-          locals = List._++_ g30 t32;
-          slots = List._∷_ (Row.lease (κs .0) (qs .0)) (List._∷_ Row.off (List._∷_ Row.off (List._∷_ (Row.lease (κs .1 .1 .1 .0) (qs .1 .1 .1 .0)) (List._∷_ Row.off
-              (List._∷_ Row.off (List._∷_ Row.off (List._∷_ Row.alive (List._∷_ Row.alive (List._∷_ Row.off (List._∷_ Row.off List.[]))))))))));
+          locals = List._++_ g32 t33;
+          slots = List._∷_ (Row.lease (κs .0) (qs .0)) (List._∷_ Row.off (List._∷_ Row.off (List._∷_ (Row.lease (κs .1 .1 .1 .0) (qs .1 .1 .1 .0)) (List._∷_ (Row.lease (κs
+              .1 .1 .1 .1 .0) (qs .1 .1 .1 .1 .0)) (List._∷_ Row.off (List._∷_ Row.off (List._∷_ Row.off (List._∷_ Row.alive (List._∷_ Row.alive (List._∷_ Row.off (List._∷_ Row.off List.[])))))))))));
         }
 
         abbrev G48 : Row.Cx
         G48 = record {
-          locals = List._++_ g30 t32;
-          slots = List._∷_ (Row.lease (κs .0) (qs .0)) (List._∷_ Row.off (List._∷_ Row.off (List._∷_ (Row.lease (κs .1 .1 .1 .0) (qs .1 .1 .1 .0)) (List._∷_ Row.off
-              (List._∷_ Row.off (List._∷_ Row.off (List._∷_ Row.alive (List._∷_ Row.alive (List._∷_ Row.alive (List._∷_ Row.off List.[]))))))))));
+          locals = List._++_ g32 t34;
+          slots = List._∷_ (Row.lease (κs .0) (qs .0)) (List._∷_ Row.off (List._∷_ Row.off (List._∷_ (Row.lease (κs .1 .1 .1 .0) (qs .1 .1 .1 .0)) (List._∷_ (Row.lease (κs
+              .1 .1 .1 .1 .0) (qs .1 .1 .1 .1 .0)) (List._∷_ Row.off (List._∷_ Row.off (List._∷_ Row.off (List._∷_ Row.alive (List._∷_ Row.alive (List._∷_ Row.off (List._∷_ Row.off List.[])))))))))));
         }
 
         abbrev G49 : Row.Cx
         G49 = record {
-          locals = List._++_ g33 t34;
-          slots = List._∷_ (Row.lease (κs .0) (qs .0)) (List._∷_ Row.off (List._∷_ Row.off (List._∷_ Row.off (List._∷_ Row.off (List._∷_ Row.off (List._∷_ Row.off (List._∷_
-              Row.alive (List._∷_ Row.alive (List._∷_ Row.alive (List._∷_ Row.off List.[]))))))))));
+          locals = List._++_ g32 t34;
+          slots = List._∷_ (Row.lease (κs .0) (qs .0)) (List._∷_ Row.off (List._∷_ Row.off (List._∷_ (Row.lease (κs .1 .1 .1 .0) (qs .1 .1 .1 .0)) (List._∷_ (Row.lease (κs
+              .1 .1 .1 .1 .0) (qs .1 .1 .1 .1 .0)) (List._∷_ Row.off (List._∷_ Row.off (List._∷_ Row.off (List._∷_ Row.alive (List._∷_ Row.alive (List._∷_ Row.alive (List._∷_ Row.off List.[])))))))))));
         }
 
         abbrev G50 : Row.Cx
         G50 = record {
-          locals = List._++_ g33 t35;
-          slots = List._∷_ (Row.lease (κs .0) (qs .0)) (List._∷_ Row.off (List._∷_ Row.off (List._∷_ Row.off (List._∷_ Row.off (List._∷_ Row.off (List._∷_ Row.off (List._∷_
-              Row.alive (List._∷_ Row.alive (List._∷_ Row.alive (List._∷_ Row.off List.[]))))))))));
+          locals = List._++_ g35 t36;
+          slots = List._∷_ (Row.lease (κs .0) (qs .0)) (List._∷_ Row.off (List._∷_ Row.off (List._∷_ Row.off (List._∷_ (Row.lease (κs .1 .1 .1 .1 .0) (qs .1 .1 .1 .1 .0))
+              (List._∷_ Row.off (List._∷_ Row.off (List._∷_ Row.off (List._∷_ Row.alive (List._∷_ Row.alive (List._∷_ Row.alive (List._∷_ Row.off List.[])))))))))));
         }
 
         abbrev G51 : Row.Cx
         G51 = record {
-          locals = List._++_ g33 t36;
-          slots = List._∷_ (Row.lease (κs .0) (qs .0)) (List._∷_ Row.off (List._∷_ Row.off (List._∷_ Row.off (List._∷_ Row.off (List._∷_ Row.off (List._∷_ Row.off (List._∷_
-              Row.alive (List._∷_ Row.alive (List._∷_ Row.alive (List._∷_ Row.off List.[]))))))))));
+          locals = List._++_ g35 t37;
+          slots = List._∷_ (Row.lease (κs .0) (qs .0)) (List._∷_ Row.off (List._∷_ Row.off (List._∷_ Row.off (List._∷_ (Row.lease (κs .1 .1 .1 .1 .0) (qs .1 .1 .1 .1 .0))
+              (List._∷_ Row.off (List._∷_ Row.off (List._∷_ Row.off (List._∷_ Row.alive (List._∷_ Row.alive (List._∷_ Row.alive (List._∷_ Row.off List.[])))))))))));
         }
 
         abbrev G52 : Row.Cx
         G52 = record {
-          locals = List._++_ g37 t36;
-          slots = List._∷_ (Row.lease (κs .0) (qs .0)) (List._∷_ Row.off (List._∷_ Row.off (List._∷_ Row.off (List._∷_ Row.off (List._∷_ Row.off (List._∷_ Row.off (List._∷_
-              Row.alive (List._∷_ Row.alive (List._∷_ Row.alive (List._∷_ Row.off List.[]))))))))));
+          locals = List._++_ g35 t38;
+          slots = List._∷_ (Row.lease (κs .0) (qs .0)) (List._∷_ Row.off (List._∷_ Row.off (List._∷_ Row.off (List._∷_ (Row.lease (κs .1 .1 .1 .1 .0) (qs .1 .1 .1 .1 .0))
+              (List._∷_ Row.off (List._∷_ Row.off (List._∷_ Row.off (List._∷_ Row.alive (List._∷_ Row.alive (List._∷_ Row.alive (List._∷_ Row.off List.[])))))))))));
         }
 
         abbrev G53 : Row.Cx
         G53 = record {
-          locals = List._++_ g37 t38;
-          slots = List._∷_ (Row.lease (κs .0) (qs .0)) (List._∷_ Row.off (List._∷_ Row.off (List._∷_ Row.off (List._∷_ Row.off (List._∷_ Row.off (List._∷_ Row.off (List._∷_
-              Row.alive (List._∷_ Row.alive (List._∷_ Row.alive (List._∷_ Row.off List.[]))))))))));
+          locals = List._++_ g39 t38;
+          slots = List._∷_ (Row.lease (κs .0) (qs .0)) (List._∷_ Row.off (List._∷_ Row.off (List._∷_ Row.off (List._∷_ (Row.lease (κs .1 .1 .1 .1 .0) (qs .1 .1 .1 .1 .0))
+              (List._∷_ Row.off (List._∷_ Row.off (List._∷_ Row.off (List._∷_ Row.alive (List._∷_ Row.alive (List._∷_ Row.alive (List._∷_ Row.off List.[])))))))))));
         }
 
         abbrev G54 : Row.Cx
         G54 = record {
-          locals = List._++_ g37 t38;
-          slots = List._∷_ (Row.lease (κs .0) (qs .0)) (List._∷_ Row.off (List._∷_ Row.off (List._∷_ Row.off (List._∷_ Row.off (List._∷_ Row.off (List._∷_ Row.off (List._∷_
-              Row.dead (List._∷_ Row.alive (List._∷_ Row.alive (List._∷_ Row.off List.[]))))))))));
+          locals = List._++_ g39 t40;
+          slots = List._∷_ (Row.lease (κs .0) (qs .0)) (List._∷_ Row.off (List._∷_ Row.off (List._∷_ Row.off (List._∷_ (Row.lease (κs .1 .1 .1 .1 .0) (qs .1 .1 .1 .1 .0))
+              (List._∷_ Row.off (List._∷_ Row.off (List._∷_ Row.off (List._∷_ Row.alive (List._∷_ Row.alive (List._∷_ Row.alive (List._∷_ Row.off List.[])))))))))));
         }
 
         abbrev G55 : Row.Cx
         G55 = record {
           locals = List._++_ g39 t40;
-          slots = List._∷_ (Row.lease (κs .0) (qs .0)) (List._∷_ (Row.lease (κs .1 .0) (qs .1 .0)) (List._∷_ Row.off (List._∷_ Row.off (List._∷_ Row.off (List._∷_ Row.off
-              (List._∷_ Row.off (List._∷_ Row.dead (List._∷_ Row.alive (List._∷_ Row.alive (List._∷_ Row.off List.[]))))))))));
+          slots = List._∷_ (Row.lease (κs .0) (qs .0)) (List._∷_ Row.off (List._∷_ Row.off (List._∷_ Row.off (List._∷_ (Row.lease (κs .1 .1 .1 .1 .0) (qs .1 .1 .1 .1 .0))
+              (List._∷_ Row.off (List._∷_ Row.off (List._∷_ Row.off (List._∷_ Row.dead (List._∷_ Row.alive (List._∷_ Row.alive (List._∷_ Row.off List.[])))))))))));
         }
 
         abbrev G56 : Row.Cx
         G56 = record {
-          locals = List._++_ g39 t40;
-          slots = List._∷_ (Row.lease (κs .0) (qs .0)) (List._∷_ (Row.lease (κs .1 .0) (qs .1 .0)) (List._∷_ Row.off (List._∷_ Row.off (List._∷_ Row.off (List._∷_ Row.off
-              (List._∷_ Row.off (List._∷_ Row.dead (List._∷_ Row.alive (List._∷_ Row.alive (List._∷_ Row.off List.[]))))))))));
+          locals = List._++_ g41 t42;
+          slots = List._∷_ (Row.lease (κs .0) (qs .0)) (List._∷_ (Row.lease (κs .1 .0) (qs .1 .0)) (List._∷_ Row.off (List._∷_ Row.off (List._∷_ (Row.lease (κs .1 .1 .1 .1
+              .0) (qs .1 .1 .1 .1 .0)) (List._∷_ Row.off (List._∷_ Row.off (List._∷_ Row.off (List._∷_ Row.dead (List._∷_ Row.alive (List._∷_ Row.alive (List._∷_ Row.off List.[])))))))))));
         }
 
         abbrev G57 : Row.Cx
         G57 = record {
-          locals = List._++_ g39 t40;
-          slots = List._∷_ (Row.lease (κs .0) (qs .0)) (List._∷_ (Row.lease (κs .1 .0) (qs .1 .0)) (List._∷_ Row.off (List._∷_ Row.off (List._∷_ Row.off (List._∷_ Row.off
-              (List._∷_ Row.off (List._∷_ Row.off (List._∷_ Row.alive (List._∷_ Row.alive (List._∷_ Row.off List.[]))))))))));
+          locals = List._++_ g41 t42;
+          slots = List._∷_ (Row.lease (κs .0) (qs .0)) (List._∷_ (Row.lease (κs .1 .0) (qs .1 .0)) (List._∷_ Row.off (List._∷_ Row.off (List._∷_ (Row.lease (κs .1 .1 .1 .1
+              .0) (qs .1 .1 .1 .1 .0)) (List._∷_ Row.off (List._∷_ Row.off (List._∷_ Row.off (List._∷_ Row.dead (List._∷_ Row.alive (List._∷_ Row.alive (List._∷_ Row.off List.[])))))))))));
         }
 
         abbrev G58 : Row.Cx
         G58 = record {
-          locals = List._++_ g39 t40;
-          slots = List._∷_ (Row.lease (κs .0) (qs .0)) (List._∷_ (Row.lease (κs .1 .0) (qs .1 .0)) (List._∷_ Row.off (List._∷_ Row.off (List._∷_ Row.off (List._∷_ Row.off
-              (List._∷_ Row.off (List._∷_ Row.off (List._∷_ Row.dead (List._∷_ Row.alive (List._∷_ Row.off List.[]))))))))));
+          locals = List._++_ g41 t42;
+          slots = List._∷_ (Row.lease (κs .0) (qs .0)) (List._∷_ (Row.lease (κs .1 .0) (qs .1 .0)) (List._∷_ Row.off (List._∷_ Row.off (List._∷_ (Row.lease (κs .1 .1 .1 .1
+              .0) (qs .1 .1 .1 .1 .0)) (List._∷_ Row.off (List._∷_ Row.off (List._∷_ Row.off (List._∷_ Row.off (List._∷_ Row.alive (List._∷_ Row.alive (List._∷_ Row.off List.[])))))))))));
         }
 
         abbrev G59 : Row.Cx
         G59 = record {
           locals = List._++_ g41 t42;
-          slots = List._∷_ (Row.lease (κs .0) (qs .0)) (List._∷_ (Row.lease (κs .1 .0) (qs .1 .0)) (List._∷_ (Row.lease (κs .1 .1 .0) (qs .1 .1 .0)) (List._∷_ Row.off
-              (List._∷_ Row.off (List._∷_ Row.off (List._∷_ Row.off (List._∷_ Row.off (List._∷_ Row.dead (List._∷_ Row.alive (List._∷_ Row.off List.[]))))))))));
+          slots = List._∷_ (Row.lease (κs .0) (qs .0)) (List._∷_ (Row.lease (κs .1 .0) (qs .1 .0)) (List._∷_ Row.off (List._∷_ Row.off (List._∷_ (Row.lease (κs .1 .1 .1 .1
+              .0) (qs .1 .1 .1 .1 .0)) (List._∷_ Row.off (List._∷_ Row.off (List._∷_ Row.off (List._∷_ Row.off (List._∷_ Row.dead (List._∷_ Row.alive (List._∷_ Row.off List.[])))))))))));
         }
 
         abbrev G60 : Row.Cx
         G60 = record {
-          locals = List._++_ g41 t42;
+          locals = List._++_ g43 t44;
           slots = List._∷_ (Row.lease (κs .0) (qs .0)) (List._∷_ (Row.lease (κs .1 .0) (qs .1 .0)) (List._∷_ (Row.lease (κs .1 .1 .0) (qs .1 .1 .0)) (List._∷_ Row.off
-              (List._∷_ Row.off (List._∷_ Row.off (List._∷_ Row.off (List._∷_ Row.off (List._∷_ Row.dead (List._∷_ Row.alive (List._∷_ Row.off List.[]))))))))));
+              (List._∷_ (Row.lease (κs .1 .1 .1 .1 .0) (qs .1 .1 .1 .1 .0)) (List._∷_ Row.off (List._∷_ Row.off (List._∷_ Row.off (List._∷_ Row.off (List._∷_ Row.dead (List._∷_ Row.alive (List._∷_ Row.off
+              List.[])))))))))));
         }
 
         abbrev G61 : Row.Cx
         G61 = record {
-          locals = List._++_ g41 t42;
+          locals = List._++_ g43 t44;
           slots = List._∷_ (Row.lease (κs .0) (qs .0)) (List._∷_ (Row.lease (κs .1 .0) (qs .1 .0)) (List._∷_ (Row.lease (κs .1 .1 .0) (qs .1 .1 .0)) (List._∷_ Row.off
-              (List._∷_ Row.off (List._∷_ Row.off (List._∷_ Row.off (List._∷_ Row.off (List._∷_ Row.off (List._∷_ Row.alive (List._∷_ Row.off List.[]))))))))));
+              (List._∷_ (Row.lease (κs .1 .1 .1 .1 .0) (qs .1 .1 .1 .1 .0)) (List._∷_ Row.off (List._∷_ Row.off (List._∷_ Row.off (List._∷_ Row.off (List._∷_ Row.dead (List._∷_ Row.alive (List._∷_ Row.off
+              List.[])))))))))));
         }
 
         abbrev G62 : Row.Cx
         G62 = record {
-          locals = List._++_ g41 t42;
+          locals = List._++_ g43 t44;
           slots = List._∷_ (Row.lease (κs .0) (qs .0)) (List._∷_ (Row.lease (κs .1 .0) (qs .1 .0)) (List._∷_ (Row.lease (κs .1 .1 .0) (qs .1 .1 .0)) (List._∷_ Row.off
-              (List._∷_ Row.off (List._∷_ Row.off (List._∷_ Row.off (List._∷_ Row.off (List._∷_ Row.off (List._∷_ Row.dead (List._∷_ Row.off List.[]))))))))));
+              (List._∷_ (Row.lease (κs .1 .1 .1 .1 .0) (qs .1 .1 .1 .1 .0)) (List._∷_ Row.off (List._∷_ Row.off (List._∷_ Row.off (List._∷_ Row.off (List._∷_ Row.off (List._∷_ Row.alive (List._∷_ Row.off
+              List.[])))))))))));
         }
 
         abbrev G63 : Row.Cx
         G63 = record {
-          locals = List._++_ t43 t1;
-          slots = List._∷_ (Row.lease (κs .0) (qs .0)) (List._∷_ (Row.lease (κs .1 .0) (qs .1 .0)) (List._∷_ (Row.lease (κs .1 .1 .0) (qs .1 .1 .0)) (List._∷_ (Row.lease (κs
-              .1 .1 .1 .0) (qs .1 .1 .1 .0)) (List._∷_ Row.off (List._∷_ Row.off (List._∷_ Row.off (List._∷_ Row.off (List._∷_ Row.off (List._∷_ Row.dead (List._∷_ Row.off List.[]))))))))));
+          locals = List._++_ g43 t44;
+          slots = List._∷_ (Row.lease (κs .0) (qs .0)) (List._∷_ (Row.lease (κs .1 .0) (qs .1 .0)) (List._∷_ (Row.lease (κs .1 .1 .0) (qs .1 .1 .0)) (List._∷_ Row.off
+              (List._∷_ (Row.lease (κs .1 .1 .1 .1 .0) (qs .1 .1 .1 .1 .0)) (List._∷_ Row.off (List._∷_ Row.off (List._∷_ Row.off (List._∷_ Row.off (List._∷_ Row.off (List._∷_ Row.dead (List._∷_ Row.off
+              List.[])))))))))));
         }
 
         abbrev G64 : Row.Cx
         G64 = record {
-          locals = List._++_ t43 t1;
+          locals = List._++_ t45 t1;
           slots = List._∷_ (Row.lease (κs .0) (qs .0)) (List._∷_ (Row.lease (κs .1 .0) (qs .1 .0)) (List._∷_ (Row.lease (κs .1 .1 .0) (qs .1 .1 .0)) (List._∷_ (Row.lease (κs
-              .1 .1 .1 .0) (qs .1 .1 .1 .0)) (List._∷_ Row.off (List._∷_ Row.off (List._∷_ Row.off (List._∷_ Row.off (List._∷_ Row.off (List._∷_ Row.off (List._∷_ Row.off List.[]))))))))));
+              .1 .1 .1 .0) (qs .1 .1 .1 .0)) (List._∷_ (Row.lease (κs .1 .1 .1 .1 .0) (qs .1 .1 .1 .1 .0)) (List._∷_ Row.off (List._∷_ Row.off (List._∷_ Row.off (List._∷_ Row.off (List._∷_ Row.off (List._∷_
+              Row.dead (List._∷_ Row.off List.[])))))))))));
         }
 
         abbrev G65 : Row.Cx
         G65 = record {
-          locals = List._++_ t43 t1;
+          locals = List._++_ t45 t1;
           slots = List._∷_ (Row.lease (κs .0) (qs .0)) (List._∷_ (Row.lease (κs .1 .0) (qs .1 .0)) (List._∷_ (Row.lease (κs .1 .1 .0) (qs .1 .1 .0)) (List._∷_ (Row.lease (κs
-              .1 .1 .1 .0) (qs .1 .1 .1 .0)) (List._∷_ Row.off (List._∷_ Row.off (List._∷_ Row.off (List._∷_ Row.off (List._∷_ Row.off (List._∷_ Row.off (List._∷_ Row.alive List.[]))))))))));
+              .1 .1 .1 .0) (qs .1 .1 .1 .0)) (List._∷_ (Row.lease (κs .1 .1 .1 .1 .0) (qs .1 .1 .1 .1 .0)) (List._∷_ Row.off (List._∷_ Row.off (List._∷_ Row.off (List._∷_ Row.off (List._∷_ Row.off (List._∷_
+              Row.off (List._∷_ Row.off List.[])))))))))));
         }
 
         abbrev G66 : Row.Cx
         G66 = record {
-          locals = List._++_ g44 t45;
-          slots = List._∷_ (Row.lease (κs .0) (qs .0)) (List._∷_ Row.off (List._∷_ (Row.lease (κs .1 .1 .0) (qs .1 .1 .0)) (List._∷_ (Row.lease (κs .1 .1 .1 .0) (qs .1 .1
-              .1 .0)) (List._∷_ Row.off (List._∷_ Row.off (List._∷_ Row.off (List._∷_ Row.off (List._∷_ Row.off (List._∷_ Row.off (List._∷_ Row.alive List.[]))))))))));
+          locals = List._++_ t45 t1;
+          slots = List._∷_ (Row.lease (κs .0) (qs .0)) (List._∷_ (Row.lease (κs .1 .0) (qs .1 .0)) (List._∷_ (Row.lease (κs .1 .1 .0) (qs .1 .1 .0)) (List._∷_ (Row.lease (κs
+              .1 .1 .1 .0) (qs .1 .1 .1 .0)) (List._∷_ (Row.lease (κs .1 .1 .1 .1 .0) (qs .1 .1 .1 .1 .0)) (List._∷_ Row.off (List._∷_ Row.off (List._∷_ Row.off (List._∷_ Row.off (List._∷_ Row.off (List._∷_
+              Row.off (List._∷_ Row.alive List.[])))))))))));
         }
 
         abbrev G67 : Row.Cx
         G67 = record {
-          locals = List._++_ g44 t46;
+          locals = List._++_ g46 t47;
           slots = List._∷_ (Row.lease (κs .0) (qs .0)) (List._∷_ Row.off (List._∷_ (Row.lease (κs .1 .1 .0) (qs .1 .1 .0)) (List._∷_ (Row.lease (κs .1 .1 .1 .0) (qs .1 .1
-              .1 .0)) (List._∷_ Row.off (List._∷_ Row.off (List._∷_ Row.off (List._∷_ Row.off (List._∷_ Row.off (List._∷_ Row.off (List._∷_ Row.alive List.[]))))))))));
+              .1 .0)) (List._∷_ (Row.lease (κs .1 .1 .1 .1 .0) (qs .1 .1 .1 .1 .0)) (List._∷_ Row.off (List._∷_ Row.off (List._∷_ Row.off (List._∷_ Row.off (List._∷_ Row.off (List._∷_ Row.off (List._∷_
+              Row.alive List.[])))))))))));
         }
 
         abbrev G68 : Row.Cx
         G68 = record {
-          locals = List._++_ g44 t47;
+          locals = List._++_ g46 t48;
           slots = List._∷_ (Row.lease (κs .0) (qs .0)) (List._∷_ Row.off (List._∷_ (Row.lease (κs .1 .1 .0) (qs .1 .1 .0)) (List._∷_ (Row.lease (κs .1 .1 .1 .0) (qs .1 .1
-              .1 .0)) (List._∷_ Row.off (List._∷_ Row.off (List._∷_ Row.off (List._∷_ Row.off (List._∷_ Row.off (List._∷_ Row.off (List._∷_ Row.alive List.[]))))))))));
+              .1 .0)) (List._∷_ (Row.lease (κs .1 .1 .1 .1 .0) (qs .1 .1 .1 .1 .0)) (List._∷_ Row.off (List._∷_ Row.off (List._∷_ Row.off (List._∷_ Row.off (List._∷_ Row.off (List._∷_ Row.off (List._∷_
+              Row.alive List.[])))))))))));
         }
 
         abbrev G69 : Row.Cx
         G69 = record {
-          locals = List._++_ g44 t48;
+          locals = List._++_ g46 t49;
           slots = List._∷_ (Row.lease (κs .0) (qs .0)) (List._∷_ Row.off (List._∷_ (Row.lease (κs .1 .1 .0) (qs .1 .1 .0)) (List._∷_ (Row.lease (κs .1 .1 .1 .0) (qs .1 .1
-              .1 .0)) (List._∷_ Row.off (List._∷_ Row.off (List._∷_ Row.off (List._∷_ Row.off (List._∷_ Row.off (List._∷_ Row.off (List._∷_ Row.alive List.[]))))))))));
+              .1 .0)) (List._∷_ (Row.lease (κs .1 .1 .1 .1 .0) (qs .1 .1 .1 .1 .0)) (List._∷_ Row.off (List._∷_ Row.off (List._∷_ Row.off (List._∷_ Row.off (List._∷_ Row.off (List._∷_ Row.off (List._∷_
+              Row.alive List.[])))))))))));
         }
 
         abbrev G70 : Row.Cx
         G70 = record {
-          locals = List._++_ g44 t48;
+          locals = List._++_ g46 t50;
           slots = List._∷_ (Row.lease (κs .0) (qs .0)) (List._∷_ Row.off (List._∷_ (Row.lease (κs .1 .1 .0) (qs .1 .1 .0)) (List._∷_ (Row.lease (κs .1 .1 .1 .0) (qs .1 .1
-              .1 .0)) (List._∷_ Row.off (List._∷_ Row.off (List._∷_ Row.off (List._∷_ Row.off (List._∷_ Row.off (List._∷_ Row.off (List._∷_ Row.dead List.[]))))))))));
+              .1 .0)) (List._∷_ (Row.lease (κs .1 .1 .1 .1 .0) (qs .1 .1 .1 .1 .0)) (List._∷_ Row.off (List._∷_ Row.off (List._∷_ Row.off (List._∷_ Row.off (List._∷_ Row.off (List._∷_ Row.off (List._∷_
+              Row.alive List.[])))))))))));
         }
 
         abbrev G71 : Row.Cx
         G71 = record {
-          locals = List._++_ t43 t1;
-          slots = List._∷_ (Row.lease (κs .0) (qs .0)) (List._∷_ (Row.lease (κs .1 .0) (qs .1 .0)) (List._∷_ (Row.lease (κs .1 .1 .0) (qs .1 .1 .0)) (List._∷_ (Row.lease (κs
-              .1 .1 .1 .0) (qs .1 .1 .1 .0)) (List._∷_ Row.off (List._∷_ Row.off (List._∷_ Row.off (List._∷_ Row.off (List._∷_ Row.off (List._∷_ Row.off (List._∷_ Row.dead List.[]))))))))));
+          locals = List._++_ g46 t50;
+          slots = List._∷_ (Row.lease (κs .0) (qs .0)) (List._∷_ Row.off (List._∷_ (Row.lease (κs .1 .1 .0) (qs .1 .1 .0)) (List._∷_ (Row.lease (κs .1 .1 .1 .0) (qs .1 .1
+              .1 .0)) (List._∷_ (Row.lease (κs .1 .1 .1 .1 .0) (qs .1 .1 .1 .1 .0)) (List._∷_ Row.off (List._∷_ Row.off (List._∷_ Row.off (List._∷_ Row.off (List._∷_ Row.off (List._∷_ Row.off (List._∷_
+              Row.dead List.[])))))))))));
         }
 
         abbrev G72 : Row.Cx
         G72 = record {
-          locals = List._++_ t43 t1;
+          locals = List._++_ t45 t1;
           slots = List._∷_ (Row.lease (κs .0) (qs .0)) (List._∷_ (Row.lease (κs .1 .0) (qs .1 .0)) (List._∷_ (Row.lease (κs .1 .1 .0) (qs .1 .1 .0)) (List._∷_ (Row.lease (κs
-              .1 .1 .1 .0) (qs .1 .1 .1 .0)) (List._∷_ Row.off (List._∷_ Row.off (List._∷_ Row.off (List._∷_ Row.off (List._∷_ Row.off (List._∷_ Row.off (List._∷_ Row.dead List.[]))))))))));
+              .1 .1 .1 .0) (qs .1 .1 .1 .0)) (List._∷_ (Row.lease (κs .1 .1 .1 .1 .0) (qs .1 .1 .1 .1 .0)) (List._∷_ Row.off (List._∷_ Row.off (List._∷_ Row.off (List._∷_ Row.off (List._∷_ Row.off (List._∷_
+              Row.off (List._∷_ Row.dead List.[])))))))))));
         }
 
         abbrev G73 : Row.Cx
         G73 = record {
-          locals = List._++_ t43 t1;
+          locals = List._++_ t45 t1;
           slots = List._∷_ (Row.lease (κs .0) (qs .0)) (List._∷_ (Row.lease (κs .1 .0) (qs .1 .0)) (List._∷_ (Row.lease (κs .1 .1 .0) (qs .1 .1 .0)) (List._∷_ (Row.lease (κs
-              .1 .1 .1 .0) (qs .1 .1 .1 .0)) (List._∷_ Row.off (List._∷_ Row.off (List._∷_ Row.off (List._∷_ Row.off (List._∷_ Row.off (List._∷_ Row.off (List._∷_ Row.off List.[]))))))))));
+              .1 .1 .1 .0) (qs .1 .1 .1 .0)) (List._∷_ (Row.lease (κs .1 .1 .1 .1 .0) (qs .1 .1 .1 .1 .0)) (List._∷_ Row.off (List._∷_ Row.off (List._∷_ Row.off (List._∷_ Row.off (List._∷_ Row.off (List._∷_
+              Row.off (List._∷_ Row.dead List.[])))))))))));
         }
 
         abbrev G74 : Row.Cx
         G74 = record {
-          locals = List._++_ t43 t49;
-          slots = List._∷_ (Row.lease (κs .0) (qs .0)) (List._∷_ (Row.lease (κs .1 .0) (qs .1 .0)) (List._∷_ (Row.lease (κs .1 .1 .0) (qs .1 .1 .0)) (List._∷_ (Row.lease
-              (κs .1 .1 .1 .0) (qs .1 .1 .1 .0)) (List._∷_ Row.off (List._∷_ Row.off (List._∷_ Row.off (List._∷_ Row.off (List._∷_ Row.off (List._∷_ Row.off (List._∷_ Row.off List.[]))))))))));
+          locals = List._++_ t45 t1;
+          slots = List._∷_ (Row.lease (κs .0) (qs .0)) (List._∷_ (Row.lease (κs .1 .0) (qs .1 .0)) (List._∷_ (Row.lease (κs .1 .1 .0) (qs .1 .1 .0)) (List._∷_ (Row.lease (κs
+              .1 .1 .1 .0) (qs .1 .1 .1 .0)) (List._∷_ (Row.lease (κs .1 .1 .1 .1 .0) (qs .1 .1 .1 .1 .0)) (List._∷_ Row.off (List._∷_ Row.off (List._∷_ Row.off (List._∷_ Row.off (List._∷_ Row.off (List._∷_
+              Row.off (List._∷_ Row.off List.[])))))))))));
         }
 
         abbrev G75 : Row.Cx
         G75 = record {
-          locals = List._++_ t17 t49;
+          locals = List._++_ t45 t51;
           slots = List._∷_ (Row.lease (κs .0) (qs .0)) (List._∷_ (Row.lease (κs .1 .0) (qs .1 .0)) (List._∷_ (Row.lease (κs .1 .1 .0) (qs .1 .1 .0)) (List._∷_ (Row.lease
-              (κs .1 .1 .1 .0) (qs .1 .1 .1 .0)) (List._∷_ Row.off (List._∷_ Row.off (List._∷_ Row.off (List._∷_ Row.off (List._∷_ Row.off (List._∷_ Row.off (List._∷_ Row.off List.[]))))))))));
+              (κs .1 .1 .1 .0) (qs .1 .1 .1 .0)) (List._∷_ (Row.lease (κs .1 .1 .1 .1 .0) (qs .1 .1 .1 .1 .0)) (List._∷_ Row.off (List._∷_ Row.off (List._∷_ Row.off (List._∷_ Row.off (List._∷_ Row.off
+              (List._∷_ Row.off (List._∷_ Row.off List.[])))))))))));
         }
 
         abbrev G76 : Row.Cx
         G76 = record {
-          locals = List._++_ t17 t50;
+          locals = List._++_ t19 t51;
           slots = List._∷_ (Row.lease (κs .0) (qs .0)) (List._∷_ (Row.lease (κs .1 .0) (qs .1 .0)) (List._∷_ (Row.lease (κs .1 .1 .0) (qs .1 .1 .0)) (List._∷_ (Row.lease
-              (κs .1 .1 .1 .0) (qs .1 .1 .1 .0)) (List._∷_ Row.off (List._∷_ Row.off (List._∷_ Row.off (List._∷_ Row.off (List._∷_ Row.off (List._∷_ Row.off (List._∷_ Row.off List.[]))))))))));
+              (κs .1 .1 .1 .0) (qs .1 .1 .1 .0)) (List._∷_ (Row.lease (κs .1 .1 .1 .1 .0) (qs .1 .1 .1 .1 .0)) (List._∷_ Row.off (List._∷_ Row.off (List._∷_ Row.off (List._∷_ Row.off (List._∷_ Row.off
+              (List._∷_ Row.off (List._∷_ Row.off List.[])))))))))));
         }
 
         abbrev G77 : Row.Cx
         G77 = record {
-          locals = List._++_ t17 t18;
+          locals = List._++_ t19 t52;
           slots = List._∷_ (Row.lease (κs .0) (qs .0)) (List._∷_ (Row.lease (κs .1 .0) (qs .1 .0)) (List._∷_ (Row.lease (κs .1 .1 .0) (qs .1 .1 .0)) (List._∷_ (Row.lease
-              (κs .1 .1 .1 .0) (qs .1 .1 .1 .0)) (List._∷_ Row.off (List._∷_ Row.off (List._∷_ Row.off (List._∷_ Row.off (List._∷_ Row.off (List._∷_ Row.off (List._∷_ Row.off List.[]))))))))));
+              (κs .1 .1 .1 .0) (qs .1 .1 .1 .0)) (List._∷_ (Row.lease (κs .1 .1 .1 .1 .0) (qs .1 .1 .1 .1 .0)) (List._∷_ Row.off (List._∷_ Row.off (List._∷_ Row.off (List._∷_ Row.off (List._∷_ Row.off
+              (List._∷_ Row.off (List._∷_ Row.off List.[])))))))))));
         }
 
         abbrev G78 : Row.Cx
         G78 = record {
-          locals = List._++_ t51 t18;
+          locals = List._++_ t19 t20;
           slots = List._∷_ (Row.lease (κs .0) (qs .0)) (List._∷_ (Row.lease (κs .1 .0) (qs .1 .0)) (List._∷_ (Row.lease (κs .1 .1 .0) (qs .1 .1 .0)) (List._∷_ (Row.lease
-              (κs .1 .1 .1 .0) (qs .1 .1 .1 .0)) (List._∷_ Row.off (List._∷_ Row.off (List._∷_ Row.off (List._∷_ Row.off (List._∷_ Row.off (List._∷_ Row.off (List._∷_ Row.off List.[]))))))))));
+              (κs .1 .1 .1 .0) (qs .1 .1 .1 .0)) (List._∷_ (Row.lease (κs .1 .1 .1 .1 .0) (qs .1 .1 .1 .1 .0)) (List._∷_ Row.off (List._∷_ Row.off (List._∷_ Row.off (List._∷_ Row.off (List._∷_ Row.off
+              (List._∷_ Row.off (List._∷_ Row.off List.[])))))))))));
         }
 
         abbrev G79 : Row.Cx
         G79 = record {
-          locals = List._++_ t51 t1;
-          slots = List._∷_ (Row.lease (κs .0) (qs .0)) (List._∷_ (Row.lease (κs .1 .0) (qs .1 .0)) (List._∷_ (Row.lease (κs .1 .1 .0) (qs .1 .1 .0)) (List._∷_ (Row.lease (κs
-              .1 .1 .1 .0) (qs .1 .1 .1 .0)) (List._∷_ Row.off (List._∷_ Row.off (List._∷_ Row.off (List._∷_ Row.off (List._∷_ Row.off (List._∷_ Row.off (List._∷_ Row.off List.[]))))))))));
+          locals = List._++_ t53 t20;
+          slots = List._∷_ (Row.lease (κs .0) (qs .0)) (List._∷_ (Row.lease (κs .1 .0) (qs .1 .0)) (List._∷_ (Row.lease (κs .1 .1 .0) (qs .1 .1 .0)) (List._∷_ (Row.lease
+              (κs .1 .1 .1 .0) (qs .1 .1 .1 .0)) (List._∷_ (Row.lease (κs .1 .1 .1 .1 .0) (qs .1 .1 .1 .1 .0)) (List._∷_ Row.off (List._∷_ Row.off (List._∷_ Row.off (List._∷_ Row.off (List._∷_ Row.off
+              (List._∷_ Row.off (List._∷_ Row.off List.[])))))))))));
         }
 
         abbrev G80 : Row.Cx
         G80 = record {
-          locals = List._++_ t52 t1;
+          locals = List._++_ t53 t1;
           slots = List._∷_ (Row.lease (κs .0) (qs .0)) (List._∷_ (Row.lease (κs .1 .0) (qs .1 .0)) (List._∷_ (Row.lease (κs .1 .1 .0) (qs .1 .1 .0)) (List._∷_ (Row.lease (κs
-              .1 .1 .1 .0) (qs .1 .1 .1 .0)) (List._∷_ Row.off (List._∷_ Row.off (List._∷_ Row.off (List._∷_ Row.off (List._∷_ Row.off (List._∷_ Row.off (List._∷_ Row.off List.[]))))))))));
+              .1 .1 .1 .0) (qs .1 .1 .1 .0)) (List._∷_ (Row.lease (κs .1 .1 .1 .1 .0) (qs .1 .1 .1 .1 .0)) (List._∷_ Row.off (List._∷_ Row.off (List._∷_ Row.off (List._∷_ Row.off (List._∷_ Row.off (List._∷_
+              Row.off (List._∷_ Row.off List.[])))))))))));
         }
 
         abbrev G81 : Row.Cx
         G81 = record {
+          locals = List._++_ t54 t1;
+          slots = List._∷_ (Row.lease (κs .0) (qs .0)) (List._∷_ (Row.lease (κs .1 .0) (qs .1 .0)) (List._∷_ (Row.lease (κs .1 .1 .0) (qs .1 .1 .0)) (List._∷_ (Row.lease (κs
+              .1 .1 .1 .0) (qs .1 .1 .1 .0)) (List._∷_ (Row.lease (κs .1 .1 .1 .1 .0) (qs .1 .1 .1 .1 .0)) (List._∷_ Row.off (List._∷_ Row.off (List._∷_ Row.off (List._∷_ Row.off (List._∷_ Row.off (List._∷_
+              Row.off (List._∷_ Row.off List.[])))))))))));
+        }
+
+        abbrev G82 : Row.Cx
+        G82 = record {
           locals = List._++_ t2 t1;
           slots = List._∷_ (Row.lease (κs .0) (qs .0)) (List._∷_ (Row.lease (κs .1 .0) (qs .1 .0)) (List._∷_ (Row.lease (κs .1 .1 .0) (qs .1 .1 .0)) (List._∷_ (Row.lease (κs
-              .1 .1 .1 .0) (qs .1 .1 .1 .0)) (List._∷_ Row.off (List._∷_ Row.off (List._∷_ Row.off (List._∷_ Row.off (List._∷_ Row.off (List._∷_ Row.off (List._∷_ Row.off List.[]))))))))));
+              .1 .1 .1 .0) (qs .1 .1 .1 .0)) (List._∷_ (Row.lease (κs .1 .1 .1 .1 .0) (qs .1 .1 .1 .1 .0)) (List._∷_ Row.off (List._∷_ Row.off (List._∷_ Row.off (List._∷_ Row.off (List._∷_ Row.off (List._∷_
+              Row.off (List._∷_ Row.off List.[])))))))))));
         }
 
         abbrev Δ0 : Typed.Outs
         Δ0 = record { next = Option.none; exits = List.[]; returns = Option.some G1 }
 
         abbrev Δ1 : Typed.Outs
-        Δ1 = Typed.withNext (Option.some G28) Δ0
+        Δ1 = Typed.withNext (Option.some G29) Δ0
 
         module _ {M : Type 1} (𝓤 : URA.URA M) (H : Wp.Heap 𝓤) (A : Atoms.Atoms 𝓤) (W : Kit.Given 𝓤 H A) (𝓣 : Wp.Tables 𝓤 H) (known : Knowns 𝓤 H A W 𝓣) (bs : List.List Nat.ℕ) (bd : Lifetimes.AllOutlive
-            4 (Kinds.osR r) κs) where
+            5 (Kinds.osR r) κs) where
           abbrev E : Wp.Env 𝓤 H
           E = Frame.EnvOf 𝓤 H (List._∷_ (Kinds.tyR r) (Enter.tysP ps xs)) bs
 
-          d0 : Typed.Typed 𝓤 H A 𝓣 E G35 b10 Δ1 at0
-          d0 = Typed.s-typed 𝓤 H A W 𝓣 E G35 b10 Δ1 (λ Ψ. Typed.pass T35 T36 s33 (Typed.pass T36 T37 s34 Ψ)) tt (Typed.g-post 𝓤 H A W 𝓣 E G35 G36 G37 b10 (Typed.pass T35 T36 s33) (Typed.pass T36 T37
-              s34) (LocalCopy.t-val-copy 𝓤 H A W E 𝓣 (λ ρ. Unit) G35 10 19 (Declared.row BlockLength.the-type) (Syntax.tyEnum (List._∷_ 115 (List._∷_ 116 (List._∷_ 114 (List._∷_ 101 (List._∷_ 97 (List._∷_
+          d0 : Typed.Typed 𝓤 H A 𝓣 E G36 b10 Δ1 at0
+          d0 = Typed.s-typed 𝓤 H A W 𝓣 E G36 b10 Δ1 (λ Ψ. Typed.pass T36 T37 s34 (Typed.pass T37 T38 s35 Ψ)) tt (Typed.g-post 𝓤 H A W 𝓣 E G36 G37 G38 b10 (Typed.pass T36 T37 s34) (Typed.pass T37 T38
+              s35) (LocalCopy.t-val-copy 𝓤 H A W E 𝓣 (λ ρ. Unit) G36 11 20 (Declared.row BlockLength.the-type) (Syntax.tyEnum (List._∷_ 115 (List._∷_ 116 (List._∷_ 114 (List._∷_ 101 (List._∷_ 97 (List._∷_
               109 (List._∷_ 58 (List._∷_ 58 (List._∷_ 66 (List._∷_ 108 (List._∷_ 111 (List._∷_ 99 (List._∷_ 107 (List._∷_ 76 (List._∷_ 101 (List._∷_ 110 (List._∷_ 103 (List._∷_ 116 (List._∷_ 104
               List.[]))))))))))))))))))) (Syntax.ttcons (Syntax.tcons (Syntax.tyInt Syntax.w64) Syntax.tnil) (Syntax.ttcons (Syntax.tcons (Syntax.tyEnum (List._∷_ 115 (List._∷_ 116 (List._∷_ 114 (List._∷_
               101 (List._∷_ 97 (List._∷_ 109 (List._∷_ 58 (List._∷_ 58 (List._∷_ 82 (List._∷_ 101 (List._∷_ 102 (List._∷_ 117 (List._∷_ 115 (List._∷_ 97 (List._∷_ 108 List.[]))))))))))))))) (Syntax.ttcons
@@ -2332,7 +2428,7 @@ module _ (claims· : Claims) where
               (Syntax.tyInt Syntax.w64) Syntax.tnil) (Syntax.ttcons Syntax.tnil (Syntax.ttcons (Syntax.tcons (Syntax.tyInt Syntax.w64) (Syntax.tcons (Syntax.tyInt Syntax.w64) Syntax.tnil)) (Syntax.ttcons
               (Syntax.tcons (Syntax.tyInt Syntax.w64) Syntax.tnil) (Syntax.ttcons Syntax.tnil (Syntax.ttcons Syntax.tnil (Syntax.ttcons (Syntax.tcons (Syntax.tyInt Syntax.w64) Syntax.tnil) (Syntax.ttcons
               (Syntax.tcons (Syntax.tyInt Syntax.w64) Syntax.tnil) (Syntax.ttcons (Syntax.tcons (Syntax.tyInt Syntax.w64) Syntax.tnil) (Syntax.ttcons Syntax.tnil Syntax.ttnil))))))))))))))))))))))
-              Syntax.tnil) Syntax.ttnil))) (Rows.whole (Declared.row BlockLength.the-type)) (Rows.whole (Declared.row BlockLength.the-type)) (λ x. x) (λ x. x) (λ x. x) Path'.refl (Own.told-none 𝓤 H A (G35
+              Syntax.tnil) Syntax.ttnil))) (Rows.whole (Declared.row BlockLength.the-type)) (Rows.whole (Declared.row BlockLength.the-type)) (λ x. x) (λ x. x) (λ x. x) Path'.refl (Own.told-none 𝓤 H A (G36
               .slots)) (Yields.yields-copy 𝓤 H A W (λ ρ. Unit) (Declared.row BlockLength.the-type) Path'.refl (Copies.cEnum BlockLength.the-type Laws'3.the-laws Laws'3.the-copy .copy 𝓤 H A W) (Rows.whole
               (Declared.row BlockLength.the-type)) (λ x. x) (λ x. x) (λ ρ told. Local.mem-whole 𝓤 H A W (Declared.row BlockLength.the-type) ρ) λ ρ told. Local.whole-mem 𝓤 H A W (Declared.row
               BlockLength.the-type) ρ) (Reads.room-gone 𝓤 H A (Syntax.tyEnum (List._∷_ 115 (List._∷_ 116 (List._∷_ 114 (List._∷_ 101 (List._∷_ 97 (List._∷_ 109 (List._∷_ 58 (List._∷_ 58 (List._∷_ 66
@@ -2345,7 +2441,7 @@ module _ (claims· : Claims) where
               (Syntax.tyInt Syntax.w64) Syntax.tnil) (Syntax.ttcons Syntax.tnil (Syntax.ttcons Syntax.tnil (Syntax.ttcons (Syntax.tcons (Syntax.tyInt Syntax.w64) Syntax.tnil) (Syntax.ttcons (Syntax.tcons
               (Syntax.tyInt Syntax.w64) Syntax.tnil) (Syntax.ttcons (Syntax.tcons (Syntax.tyInt Syntax.w64) Syntax.tnil) (Syntax.ttcons Syntax.tnil Syntax.ttnil)))))))))))))))))))))) Syntax.tnil)
               Syntax.ttnil)))) (Yields.makes-mem 𝓤 H A W (λ ρ. Unit) (Declared.row BlockLength.the-type) Path'.refl (Rows.whole (Declared.row BlockLength.the-type)) (λ x. x) λ ρ told. Local.whole-mem 𝓤 H
-              A W (Declared.row BlockLength.the-type) ρ) Path'.refl Path'.refl) (Scalar.g-room 𝓤 H A W E G36 10 (Syntax.tyEnum (List._∷_ 115 (List._∷_ 116 (List._∷_ 114 (List._∷_ 101 (List._∷_ 97
+              A W (Declared.row BlockLength.the-type) ρ) Path'.refl Path'.refl) (Scalar.g-room 𝓤 H A W E G37 11 (Syntax.tyEnum (List._∷_ 115 (List._∷_ 116 (List._∷_ 114 (List._∷_ 101 (List._∷_ 97
               (List._∷_ 109 (List._∷_ 58 (List._∷_ 58 (List._∷_ 66 (List._∷_ 108 (List._∷_ 111 (List._∷_ 99 (List._∷_ 107 (List._∷_ 76 (List._∷_ 101 (List._∷_ 110 (List._∷_ 103 (List._∷_ 116 (List._∷_ 104
               List.[]))))))))))))))))))) (Syntax.ttcons (Syntax.tcons (Syntax.tyInt Syntax.w64) Syntax.tnil) (Syntax.ttcons (Syntax.tcons (Syntax.tyEnum (List._∷_ 115 (List._∷_ 116 (List._∷_ 114 (List._∷_
               101 (List._∷_ 97 (List._∷_ 109 (List._∷_ 58 (List._∷_ 58 (List._∷_ 82 (List._∷_ 101 (List._∷_ 102 (List._∷_ 117 (List._∷_ 115 (List._∷_ 97 (List._∷_ 108 List.[]))))))))))))))) (Syntax.ttcons
@@ -2365,8 +2461,8 @@ module _ (claims· : Claims) where
               (Syntax.tyInt Syntax.w64) Syntax.tnil) (Syntax.ttcons (Syntax.tcons (Syntax.tyInt Syntax.w64) Syntax.tnil) (Syntax.ttcons (Syntax.tcons (Syntax.tyInt Syntax.w64) Syntax.tnil) (Syntax.ttcons
               Syntax.tnil Syntax.ttnil)))))))))))))))))))))) Syntax.tnil) Syntax.ttnil))) Path'.refl)))
 
-          d1 : Typed.Typed 𝓤 H A 𝓣 E G34 b10 Δ1 at1
-          d1 = Typed.g-pre 𝓤 H A W 𝓣 E G34 G35 b10 Δ1 (Typed.pass T34 T35 s32) at0 (Scalar.g-room 𝓤 H A W E G34 9 (Syntax.tyEnum (List._∷_ 98 (List._∷_ 101 (List._∷_ 103 (List._∷_ 105 (List._∷_ 110
+          d1 : Typed.Typed 𝓤 H A 𝓣 E G35 b10 Δ1 at1
+          d1 = Typed.g-pre 𝓤 H A W 𝓣 E G35 G36 b10 Δ1 (Typed.pass T35 T36 s33) at0 (Scalar.g-room 𝓤 H A W E G35 10 (Syntax.tyEnum (List._∷_ 98 (List._∷_ 101 (List._∷_ 103 (List._∷_ 105 (List._∷_ 110
               (List._∷_ 58 (List._∷_ 58 (List._∷_ 78 (List._∷_ 101 (List._∷_ 120 (List._∷_ 116 List.[]))))))))))) (Syntax.ttcons (Syntax.tcons (Syntax.tyEnum (List._∷_ 115 (List._∷_ 116 (List._∷_ 114
               (List._∷_ 101 (List._∷_ 97 (List._∷_ 109 (List._∷_ 58 (List._∷_ 58 (List._∷_ 66 (List._∷_ 108 (List._∷_ 111 (List._∷_ 99 (List._∷_ 107 (List._∷_ 76 (List._∷_ 101 (List._∷_ 110 (List._∷_ 103
               (List._∷_ 116 (List._∷_ 104 List.[]))))))))))))))))))) (Syntax.ttcons (Syntax.tcons (Syntax.tyInt Syntax.w64) Syntax.tnil) (Syntax.ttcons (Syntax.tcons (Syntax.tyEnum (List._∷_ 115 (List._∷_
@@ -2389,10 +2485,10 @@ module _ (claims· : Claims) where
               (Syntax.tyInt Syntax.w64) Syntax.tnil) (Syntax.ttcons (Syntax.tcons (Syntax.tyInt Syntax.w64) Syntax.tnil) (Syntax.ttcons Syntax.tnil Syntax.ttnil)))))))))))))))))))))) Syntax.tnil)
               Syntax.ttnil))) Syntax.tnil) (Syntax.ttcons (Syntax.tcons y3 Syntax.tnil) Syntax.ttnil))) Path'.refl)) d0
 
-          d2 : Typed.Typed 𝓤 H A 𝓣 E G33 b11 Δ1 at2
-          d2 = Typed.s-seq 𝓤 H A W 𝓣 E G33 G34 b9 b10 Δ1 (Typed.pass T33 T34 s31) at1 (CopyOut.t-copy-told 𝓤 H A W E 𝓣 (Declared.row BlockLength.the-type) Path'.refl (Laws'5.val BlockLength.the-type
-              Laws'3.the-laws) (Laws'5.lawful BlockLength.the-type Laws'3.the-laws 𝓤 H A W tt) (Laws'5.makes BlockLength.the-type Laws'3.the-plain 𝓤 H A) G33 10 (Scalar.oFld 9 (List._∷_ (Syntax.variant 0)
-              (List._∷_ (Syntax.field 1) List.[])) (Syntax.tyEnum (List._∷_ 115 (List._∷_ 116 (List._∷_ 114 (List._∷_ 101 (List._∷_ 97 (List._∷_ 109 (List._∷_ 58 (List._∷_ 58 (List._∷_ 66 (List._∷_ 108
+          d2 : Typed.Typed 𝓤 H A 𝓣 E G34 b11 Δ1 at2
+          d2 = Typed.s-seq 𝓤 H A W 𝓣 E G34 G35 b9 b10 Δ1 (Typed.pass T34 T35 s32) at1 (CopyOut.t-copy-told 𝓤 H A W E 𝓣 (Declared.row BlockLength.the-type) Path'.refl (Laws'5.val BlockLength.the-type
+              Laws'3.the-laws) (Laws'5.lawful BlockLength.the-type Laws'3.the-laws 𝓤 H A W tt) (Laws'5.makes BlockLength.the-type Laws'3.the-plain 𝓤 H A) G34 11 (Scalar.oFld 10 (List._∷_ (Syntax.variant
+              0) (List._∷_ (Syntax.field 1) List.[])) (Syntax.tyEnum (List._∷_ 115 (List._∷_ 116 (List._∷_ 114 (List._∷_ 101 (List._∷_ 97 (List._∷_ 109 (List._∷_ 58 (List._∷_ 58 (List._∷_ 66 (List._∷_ 108
               (List._∷_ 111 (List._∷_ 99 (List._∷_ 107 (List._∷_ 76 (List._∷_ 101 (List._∷_ 110 (List._∷_ 103 (List._∷_ 116 (List._∷_ 104 List.[]))))))))))))))))))) (Syntax.ttcons (Syntax.tcons
               (Syntax.tyInt Syntax.w64) Syntax.tnil) (Syntax.ttcons (Syntax.tcons (Syntax.tyEnum (List._∷_ 115 (List._∷_ 116 (List._∷_ 114 (List._∷_ 101 (List._∷_ 97 (List._∷_ 109 (List._∷_ 58 (List._∷_
               58 (List._∷_ 82 (List._∷_ 101 (List._∷_ 102 (List._∷_ 117 (List._∷_ 115 (List._∷_ 97 (List._∷_ 108 List.[]))))))))))))))) (Syntax.ttcons Syntax.tnil (Syntax.ttcons Syntax.tnil (Syntax.ttcons
@@ -2401,16 +2497,16 @@ module _ (claims· : Claims) where
               (Syntax.ttcons Syntax.tnil (Syntax.ttcons (Syntax.tcons (Syntax.tyInt Syntax.w64) (Syntax.tcons (Syntax.tyInt Syntax.w64) Syntax.tnil)) (Syntax.ttcons (Syntax.tcons (Syntax.tyInt Syntax.w64)
               Syntax.tnil) (Syntax.ttcons Syntax.tnil (Syntax.ttcons Syntax.tnil (Syntax.ttcons (Syntax.tcons (Syntax.tyInt Syntax.w64) Syntax.tnil) (Syntax.ttcons (Syntax.tcons (Syntax.tyInt Syntax.w64)
               Syntax.tnil) (Syntax.ttcons (Syntax.tcons (Syntax.tyInt Syntax.w64) Syntax.tnil) (Syntax.ttcons Syntax.tnil Syntax.ttnil)))))))))))))))))))))) Syntax.tnil) Syntax.ttnil))) 8 λ v. Laws'5.val
-              BlockLength.the-type Laws'3.the-laws (v .0)) (λ m. m .1 .1 .1 .1 .1 .1 .1 .1 .1 .0 .0) (λ m. Laws'5.Fields (Declared.variants Next.the-type) (Laws'5.spellss (Next.enum .parts) Laws.the-laws)
-              (Next.the-type .to (Known.at Next.enum 0 (m .1 .1 .1 .1 .1 .1 .1 .1 .1 .0)))) (Reads.room-gone 𝓤 H A (Syntax.tyEnum (List._∷_ 115 (List._∷_ 116 (List._∷_ 114 (List._∷_ 101 (List._∷_ 97
-              (List._∷_ 109 (List._∷_ 58 (List._∷_ 58 (List._∷_ 66 (List._∷_ 108 (List._∷_ 111 (List._∷_ 99 (List._∷_ 107 (List._∷_ 76 (List._∷_ 101 (List._∷_ 110 (List._∷_ 103 (List._∷_ 116 (List._∷_ 104
-              List.[]))))))))))))))))))) (Syntax.ttcons (Syntax.tcons (Syntax.tyInt Syntax.w64) Syntax.tnil) (Syntax.ttcons (Syntax.tcons (Syntax.tyEnum (List._∷_ 115 (List._∷_ 116 (List._∷_ 114 (List._∷_
-              101 (List._∷_ 97 (List._∷_ 109 (List._∷_ 58 (List._∷_ 58 (List._∷_ 82 (List._∷_ 101 (List._∷_ 102 (List._∷_ 117 (List._∷_ 115 (List._∷_ 97 (List._∷_ 108 List.[]))))))))))))))) (Syntax.ttcons
-              Syntax.tnil (Syntax.ttcons Syntax.tnil (Syntax.ttcons Syntax.tnil (Syntax.ttcons (Syntax.tcons (Syntax.tyInt Syntax.w64) Syntax.tnil) (Syntax.ttcons Syntax.tnil (Syntax.ttcons Syntax.tnil
-              (Syntax.ttcons Syntax.tnil (Syntax.ttcons Syntax.tnil (Syntax.ttcons Syntax.tnil (Syntax.ttcons Syntax.tnil (Syntax.ttcons (Syntax.tcons (Syntax.tyInt Syntax.w64) Syntax.tnil) (Syntax.ttcons
-              (Syntax.tcons (Syntax.tyInt Syntax.w64) Syntax.tnil) (Syntax.ttcons Syntax.tnil (Syntax.ttcons (Syntax.tcons (Syntax.tyInt Syntax.w64) (Syntax.tcons (Syntax.tyInt Syntax.w64) Syntax.tnil))
-              (Syntax.ttcons (Syntax.tcons (Syntax.tyInt Syntax.w64) Syntax.tnil) (Syntax.ttcons Syntax.tnil (Syntax.ttcons Syntax.tnil (Syntax.ttcons (Syntax.tcons (Syntax.tyInt Syntax.w64) Syntax.tnil)
-              (Syntax.ttcons (Syntax.tcons (Syntax.tyInt Syntax.w64) Syntax.tnil) (Syntax.ttcons (Syntax.tcons (Syntax.tyInt Syntax.w64) Syntax.tnil) (Syntax.ttcons Syntax.tnil
+              BlockLength.the-type Laws'3.the-laws (v .0)) (λ m. m .1 .1 .1 .1 .1 .1 .1 .1 .1 .1 .0 .0) (λ m. Laws'5.Fields (Declared.variants Next.the-type) (Laws'5.spellss (Next.enum .parts)
+              Laws.the-laws) (Next.the-type .to (Known.at Next.enum 0 (m .1 .1 .1 .1 .1 .1 .1 .1 .1 .1 .0)))) (Reads.room-gone 𝓤 H A (Syntax.tyEnum (List._∷_ 115 (List._∷_ 116 (List._∷_ 114 (List._∷_ 101
+              (List._∷_ 97 (List._∷_ 109 (List._∷_ 58 (List._∷_ 58 (List._∷_ 66 (List._∷_ 108 (List._∷_ 111 (List._∷_ 99 (List._∷_ 107 (List._∷_ 76 (List._∷_ 101 (List._∷_ 110 (List._∷_ 103 (List._∷_ 116
+              (List._∷_ 104 List.[]))))))))))))))))))) (Syntax.ttcons (Syntax.tcons (Syntax.tyInt Syntax.w64) Syntax.tnil) (Syntax.ttcons (Syntax.tcons (Syntax.tyEnum (List._∷_ 115 (List._∷_ 116 (List._∷_
+              114 (List._∷_ 101 (List._∷_ 97 (List._∷_ 109 (List._∷_ 58 (List._∷_ 58 (List._∷_ 82 (List._∷_ 101 (List._∷_ 102 (List._∷_ 117 (List._∷_ 115 (List._∷_ 97 (List._∷_ 108 List.[])))))))))))))))
+              (Syntax.ttcons Syntax.tnil (Syntax.ttcons Syntax.tnil (Syntax.ttcons Syntax.tnil (Syntax.ttcons (Syntax.tcons (Syntax.tyInt Syntax.w64) Syntax.tnil) (Syntax.ttcons Syntax.tnil (Syntax.ttcons
+              Syntax.tnil (Syntax.ttcons Syntax.tnil (Syntax.ttcons Syntax.tnil (Syntax.ttcons Syntax.tnil (Syntax.ttcons Syntax.tnil (Syntax.ttcons (Syntax.tcons (Syntax.tyInt Syntax.w64) Syntax.tnil)
+              (Syntax.ttcons (Syntax.tcons (Syntax.tyInt Syntax.w64) Syntax.tnil) (Syntax.ttcons Syntax.tnil (Syntax.ttcons (Syntax.tcons (Syntax.tyInt Syntax.w64) (Syntax.tcons (Syntax.tyInt Syntax.w64)
+              Syntax.tnil)) (Syntax.ttcons (Syntax.tcons (Syntax.tyInt Syntax.w64) Syntax.tnil) (Syntax.ttcons Syntax.tnil (Syntax.ttcons Syntax.tnil (Syntax.ttcons (Syntax.tcons (Syntax.tyInt Syntax.w64)
+              Syntax.tnil) (Syntax.ttcons (Syntax.tcons (Syntax.tyInt Syntax.w64) Syntax.tnil) (Syntax.ttcons (Syntax.tcons (Syntax.tyInt Syntax.w64) Syntax.tnil) (Syntax.ttcons Syntax.tnil
               Syntax.ttnil)))))))))))))))))))))) Syntax.tnil) Syntax.ttnil)))) (
                 Match.reads-payload 𝓤 H A W Next.enum Laws.the-laws 0 Path'.refl Path'.refl (λ v. Val.vcons (Laws'5.val BlockLength.the-type Laws'3.the-laws (v .0)) Val.vnil) (λ v. Path'.refl) 0
                     (Syntax.tyEnum (List._∷_ 115 (List._∷_ 116 (List._∷_ 114 (List._∷_ 101 (List._∷_ 97 (List._∷_ 109 (List._∷_ 58 (List._∷_ 58 (List._∷_ 66 (List._∷_ 108 (List._∷_ 111 (List._∷_ 99 (List._∷_
@@ -2424,24 +2520,24 @@ module _ (claims· : Claims) where
                     (Syntax.ttcons (Syntax.tcons (Syntax.tyInt Syntax.w64) Syntax.tnil) (Syntax.ttcons Syntax.tnil Syntax.ttnil)))))))))))))))))))))) Syntax.tnil) Syntax.ttnil))) 8 Path'.refl,
                 Path'.refl,
               )
-              Path'.refl (λ ρ m. Make'.tells-row 𝓤 H A W E ρ (Row.out 10 (G33 .locals)) m 9 (Laws'5.Fields (Declared.variants Next.the-type) (Laws'5.spellss (Next.enum .parts) Laws.the-laws)
-              (Next.the-type .to (Known.at Next.enum 0 (m .1 .1 .1 .1 .1 .1 .1 .1 .1 .0)))) (Known.known-is 𝓤 H A W E Next.enum 0 Laws.the-laws ρ 9 (m .1 .1 .1 .1 .1 .1 .1 .1 .1 .0))) (λ m k wa.
+              Path'.refl (λ ρ m. Make'.tells-row 𝓤 H A W E ρ (Row.out 11 (G34 .locals)) m 10 (Laws'5.Fields (Declared.variants Next.the-type) (Laws'5.spellss (Next.enum .parts) Laws.the-laws)
+              (Next.the-type .to (Known.at Next.enum 0 (m .1 .1 .1 .1 .1 .1 .1 .1 .1 .1 .0)))) (Known.known-is 𝓤 H A W E Next.enum 0 Laws.the-laws ρ 10 (m .1 .1 .1 .1 .1 .1 .1 .1 .1 .1 .0))) (λ m k wa.
               Path'.refl) λ m k wa. k .0) d1
 
-          d3 : Typed.Typed 𝓤 H A 𝓣 E G32 b11 Δ1 at3
-          d3 = Typed.g-pre 𝓤 H A W 𝓣 E G32 G33 b11 Δ1 (Typed.pass T32 T33 s30) at2 (Scalar.g-room 𝓤 H A W E G32 6 y4 (Local.room-whole 𝓤 H A W (Declared'.row Form.the-type) y4 Path'.refl)) d2
+          d3 : Typed.Typed 𝓤 H A 𝓣 E G33 b11 Δ1 at3
+          d3 = Typed.g-pre 𝓤 H A W 𝓣 E G33 G34 b11 Δ1 (Typed.pass T33 T34 s31) at2 (Scalar.g-room 𝓤 H A W E G33 6 y4 (Local.room-whole 𝓤 H A W (Declared'.row Form.the-type) y4 Path'.refl)) d2
 
-          d4 : Typed.Typed 𝓤 H A 𝓣 E G31 b11 Δ1 at4
-          d4 = Typed.g-pre 𝓤 H A W 𝓣 E G31 G32 b11 Δ1 (Typed.give s29) at3 (Known.g-known-told 𝓤 H A W E Next.enum 0 G31 9 Laws.the-laws (λ x. x) (Reads.as-is 𝓤 H A (Rows.whole (Known.Known Next.enum
+          d4 : Typed.Typed 𝓤 H A 𝓣 E G32 b11 Δ1 at4
+          d4 = Typed.g-pre 𝓤 H A W 𝓣 E G32 G33 b11 Δ1 (Typed.give s30) at3 (Known.g-known-told 𝓤 H A W E Next.enum 0 G32 10 Laws.the-laws (λ x. x) (Reads.as-is 𝓤 H A (Rows.whole (Known.Known Next.enum
               0)))) d3
 
-          d5 : Typed.Typed 𝓤 H A 𝓣 E G30 b11 Δ1 at5
-          d5 = Typed.g-pre 𝓤 H A W 𝓣 E G30 G31 b11 Δ1 (Typed.both s28) at4 (Known.g-enum-known 𝓤 H A W E Next.enum 0 G30 9 (λ x. x) (Reads.as-is 𝓤 H A (Rows.whole (Declared.row Next.the-type)))) d4
+          d5 : Typed.Typed 𝓤 H A 𝓣 E G31 b11 Δ1 at5
+          d5 = Typed.g-pre 𝓤 H A W 𝓣 E G31 G32 b11 Δ1 (Typed.both s29) at4 (Known.g-enum-known 𝓤 H A W E Next.enum 0 G31 10 (λ x. x) (Reads.as-is 𝓤 H A (Rows.whole (Declared.row Next.the-type)))) d4
 
-          d6 : Typed.Typed 𝓤 H A 𝓣 E G75 b24 Δ1 at6
-          d6 = Typed.s-typed 𝓤 H A W 𝓣 E G75 b24 Δ1 (λ Ψ. Typed.pass T75 T76 s73 (Typed.pass T76 T77 s74 Ψ)) tt (Typed.g-post 𝓤 H A W 𝓣 E G75 G76 G77 b24 (Typed.pass T75 T76 s73) (Typed.pass T76 T77
-              s74) (Make.t-enum-make-wt 𝓤 H A W E 𝓣 BlockLength.the-type Laws'3.the-laws Laws'3.the-plain tt G75 19 (List._∷_ (Scalar.oInt Syntax.w8 0) (List._∷_ (Scalar.oAt 30 (Syntax.tyInt Syntax.w64)
-              (Row.valS (Row.sInt Syntax.w64))) List.[])) (λ m. BlockLength.enum .make (Logic.inl (m .1 .1 .1 .1 .1 .1 .1 .1 .1 .1 .1 .1 .1 .1 .1 .1 .1 .1 .1 .1 .1 .1 .1 .1 .1 .1 .1 .1 .1 .1 .0, tt)))
+          d6 : Typed.Typed 𝓤 H A 𝓣 E G76 b24 Δ1 at6
+          d6 = Typed.s-typed 𝓤 H A W 𝓣 E G76 b24 Δ1 (λ Ψ. Typed.pass T76 T77 s74 (Typed.pass T77 T78 s75 Ψ)) tt (Typed.g-post 𝓤 H A W 𝓣 E G76 G77 G78 b24 (Typed.pass T76 T77 s74) (Typed.pass T77 T78
+              s75) (Make.t-enum-make-wt 𝓤 H A W E 𝓣 BlockLength.the-type Laws'3.the-laws Laws'3.the-plain tt G76 20 (List._∷_ (Scalar.oInt Syntax.w8 0) (List._∷_ (Scalar.oAt 31 (Syntax.tyInt Syntax.w64)
+              (Row.valS (Row.sInt Syntax.w64))) List.[])) (λ m. BlockLength.enum .make (Logic.inl (m .1 .1 .1 .1 .1 .1 .1 .1 .1 .1 .1 .1 .1 .1 .1 .1 .1 .1 .1 .1 .1 .1 .1 .1 .1 .1 .1 .1 .1 .1 .1 .0, tt)))
               (Reads.room-gone 𝓤 H A (Syntax.tyEnum (List._∷_ 115 (List._∷_ 116 (List._∷_ 114 (List._∷_ 101 (List._∷_ 97 (List._∷_ 109 (List._∷_ 58 (List._∷_ 58 (List._∷_ 66 (List._∷_ 108 (List._∷_ 111
               (List._∷_ 99 (List._∷_ 107 (List._∷_ 76 (List._∷_ 101 (List._∷_ 110 (List._∷_ 103 (List._∷_ 116 (List._∷_ 104 List.[]))))))))))))))))))) (Syntax.ttcons (Syntax.tcons (Syntax.tyInt
               Syntax.w64) Syntax.tnil) (Syntax.ttcons (Syntax.tcons (Syntax.tyEnum (List._∷_ 115 (List._∷_ 116 (List._∷_ 114 (List._∷_ 101 (List._∷_ 97 (List._∷_ 109 (List._∷_ 58 (List._∷_ 58 (List._∷_ 82
@@ -2452,20 +2548,20 @@ module _ (claims· : Claims) where
               (Syntax.ttcons Syntax.tnil (Syntax.ttcons Syntax.tnil (Syntax.ttcons (Syntax.tcons (Syntax.tyInt Syntax.w64) Syntax.tnil) (Syntax.ttcons (Syntax.tcons (Syntax.tyInt Syntax.w64) Syntax.tnil)
               (Syntax.ttcons (Syntax.tcons (Syntax.tyInt Syntax.w64) Syntax.tnil) (Syntax.ttcons Syntax.tnil Syntax.ttnil)))))))))))))))))))))) Syntax.tnil) Syntax.ttnil))))
               (tt, ((Scalar.reads-sc 𝓤 H A W (Row.sInt Syntax.w64), Path'.refl), tt)) Path'.refl (λ m wa. Make.made-val BlockLength.the-type Laws'3.the-laws (List._∷_ (Laws'3.the-laws .0 .0 .val (m .1 .1
-              .1 .1 .1 .1 .1 .1 .1 .1 .1 .1 .1 .1 .1 .1 .1 .1 .1 .1 .1 .1 .1 .1 .1 .1 .1 .1 .1 .1 .0)) List.[]) (BlockLength.enum .make (Logic.inl
-              (m .1 .1 .1 .1 .1 .1 .1 .1 .1 .1 .1 .1 .1 .1 .1 .1 .1 .1 .1 .1 .1 .1 .1 .1 .1 .1 .1 .1 .1 .1 .0, tt)))
-              (Signed.made-wt Field.u64-field (Laws'3.the-laws .0 .0) Make'.u64-wt (m .1 .1 .1 .1 .1 .1 .1 .1 .1 .1 .1 .1 .1 .1 .1 .1 .1 .1 .1 .1 .1 .1 .1 .1 .1 .1 .1 .1 .1 .1 .0), tt) (wa .1)) λ m wa.
-              Make.made-is BlockLength.the-type Laws'3.the-laws (List._∷_ (Laws'3.the-laws .0 .0 .val (m .1 .1 .1 .1 .1 .1 .1 .1 .1 .1 .1 .1 .1 .1 .1 .1 .1 .1 .1 .1 .1 .1 .1 .1 .1 .1 .1 .1 .1 .1 .0))
-              List.[]) (BlockLength.enum .make (Logic.inl (m .1 .1 .1 .1 .1 .1 .1 .1 .1 .1 .1 .1 .1 .1 .1 .1 .1 .1 .1 .1 .1 .1 .1 .1 .1 .1 .1 .1 .1 .1 .0, tt)))
-              (Signed.made-wt Field.u64-field (Laws'3.the-laws .0 .0) Make'.u64-wt (m .1 .1 .1 .1 .1 .1 .1 .1 .1 .1 .1 .1 .1 .1 .1 .1 .1 .1 .1 .1 .1 .1 .1 .1 .1 .1 .1 .1 .1 .1 .0), tt) (wa .1))
-              (Scalar.g-room 𝓤 H A W E G76 30 (Syntax.tyInt Syntax.w64) (Scalar.room-sc 𝓤 H A W (Row.sInt Syntax.w64))))
+              .1 .1 .1 .1 .1 .1 .1 .1 .1 .1 .1 .1 .1 .1 .1 .1 .1 .1 .1 .1 .1 .1 .1 .1 .1 .1 .1 .1 .1 .0)) List.[]) (BlockLength.enum .make (Logic.inl
+              (m .1 .1 .1 .1 .1 .1 .1 .1 .1 .1 .1 .1 .1 .1 .1 .1 .1 .1 .1 .1 .1 .1 .1 .1 .1 .1 .1 .1 .1 .1 .1 .0, tt)))
+              (Signed.made-wt Field.u64-field (Laws'3.the-laws .0 .0) Make'.u64-wt (m .1 .1 .1 .1 .1 .1 .1 .1 .1 .1 .1 .1 .1 .1 .1 .1 .1 .1 .1 .1 .1 .1 .1 .1 .1 .1 .1 .1 .1 .1 .1 .0), tt) (wa .1)) λ m wa.
+              Make.made-is BlockLength.the-type Laws'3.the-laws (List._∷_ (Laws'3.the-laws .0 .0 .val (m .1 .1 .1 .1 .1 .1 .1 .1 .1 .1 .1 .1 .1 .1 .1 .1 .1 .1 .1 .1 .1 .1 .1 .1 .1 .1 .1 .1 .1 .1 .1 .0))
+              List.[]) (BlockLength.enum .make (Logic.inl (m .1 .1 .1 .1 .1 .1 .1 .1 .1 .1 .1 .1 .1 .1 .1 .1 .1 .1 .1 .1 .1 .1 .1 .1 .1 .1 .1 .1 .1 .1 .1 .0, tt)))
+              (Signed.made-wt Field.u64-field (Laws'3.the-laws .0 .0) Make'.u64-wt (m .1 .1 .1 .1 .1 .1 .1 .1 .1 .1 .1 .1 .1 .1 .1 .1 .1 .1 .1 .1 .1 .1 .1 .1 .1 .1 .1 .1 .1 .1 .1 .0), tt) (wa .1))
+              (Scalar.g-room 𝓤 H A W E G77 31 (Syntax.tyInt Syntax.w64) (Scalar.room-sc 𝓤 H A W (Row.sInt Syntax.w64))))
 
-          d7 : Typed.Typed 𝓤 H A 𝓣 E G74 b24 Δ1 at7
-          d7 = Typed.g-pre 𝓤 H A W 𝓣 E G74 G75 b24 Δ1 (Typed.pass T74 T75 s72) at6 (Scalar.g-room 𝓤 H A W E G74 11 y3 (Local.room-whole 𝓤 H A W (Declared'.row BitPosition.the-type) y3 Path'.refl)) d6
+          d7 : Typed.Typed 𝓤 H A 𝓣 E G75 b24 Δ1 at7
+          d7 = Typed.g-pre 𝓤 H A W 𝓣 E G75 G76 b24 Δ1 (Typed.pass T75 T76 s73) at6 (Scalar.g-room 𝓤 H A W E G75 12 y3 (Local.room-whole 𝓤 H A W (Declared'.row BitPosition.the-type) y3 Path'.refl)) d6
 
-          d8 : Typed.Typed 𝓤 H A 𝓣 E G73 b25 Δ1 at8
-          d8 = Typed.s-seq 𝓤 H A W 𝓣 E G73 G74 b23 b24 Δ1 (Typed.both s71) at7 (Plain.t-call-plain 𝓤 H A W 𝓣 0 ps·3 r·3 (claims· .6) (claims· .7) "begin::block_bytes" (known .3) E (λ pos β. β) G73
-              (record { pos = 11; st = List.[]; d = 0; at = λ x. x }, tt) 30 List.[] (Call.sub-id 𝓤 H A W (G73 .slots)) (
+          d8 : Typed.Typed 𝓤 H A 𝓣 E G74 b25 Δ1 at8
+          d8 = Typed.s-seq 𝓤 H A W 𝓣 E G74 G75 b23 b24 Δ1 (Typed.both s72) at7 (Plain.t-call-plain 𝓤 H A W 𝓣 0 ps·3 r·3 (claims· .6) (claims· .7) "begin::block_bytes" (known .3) E (λ pos β. β) G74
+              (record { pos = 12; st = List.[]; d = 0; at = λ x. x }, tt) 31 List.[] (Call.sub-id 𝓤 H A W (G74 .slots)) (
                 (
                   Yields.yields-copy 𝓤 H A W (λ ρ. Unit) (Declared'.row BitPosition.the-type) Path'.refl (Copies.cStruct BitPosition.the-type Laws'.the-laws Laws'.the-copy .copy 𝓤 H A W) (Rows.whole
                       (Declared'.row BitPosition.the-type)) (λ x. x) (λ x. x) (λ ρ told. Local.mem-whole 𝓤 H A W (Declared'.row BitPosition.the-type) ρ) λ ρ told. Local.whole-mem 𝓤 H A W (Declared'.row
@@ -2475,33 +2571,33 @@ module _ (claims· : Claims) where
                 tt,
               ) (Reads.room-gone 𝓤 H A (Syntax.tyInt Syntax.w64)) tt Path'.refl) d7
 
-          d9 : Typed.Typed 𝓤 H A 𝓣 E G72 b25 Δ1 at9
-          d9 = Typed.g-pre 𝓤 H A W 𝓣 E G72 G73 b25 Δ1 (λ Ψ. Ψ) at8 (Lifetime.g-forget 𝓤 H A W E G72 10 Row.dead Path'.refl) d8
+          d9 : Typed.Typed 𝓤 H A 𝓣 E G73 b25 Δ1 at9
+          d9 = Typed.g-pre 𝓤 H A W 𝓣 E G73 G74 b25 Δ1 (λ Ψ. Ψ) at8 (Lifetime.g-forget 𝓤 H A W E G73 11 Row.dead Path'.refl) d8
 
-          d10 : Typed.Typed 𝓤 H A 𝓣 E G71 b25 Δ1 at10
-          d10 = Typed.g-pre 𝓤 H A W 𝓣 E G71 G72 b25 Δ1 (Typed.give s69) at9 (Know.g-sl-known 𝓤 H A W (Referent.fInt Syntax.w8) E G71 2 1 (Syntax.tyRef (Syntax.named 1) Syntax.mut (Syntax.tyInt
+          d10 : Typed.Typed 𝓤 H A 𝓣 E G72 b25 Δ1 at10
+          d10 = Typed.g-pre 𝓤 H A W 𝓣 E G72 G73 b25 Δ1 (Typed.give s70) at9 (Know.g-sl-known 𝓤 H A W (Referent.fInt Syntax.w8) E G72 2 1 (Syntax.tyRef (Syntax.named 1) Syntax.mut (Syntax.tyInt
               Syntax.w8)) (Row.lease (κs .1 .0) (qs .1 .0)) 0 (λ x. x) record { fits = Dec'.lit< tt } (Reads.as-is 𝓤 H A (Mut.mslice (Referent.rtF (Referent.fInt Syntax.w8)) (Syntax.tyRef (Syntax.named 1)
               Syntax.mut (Syntax.tyInt Syntax.w8)) 1)) Path'.refl tt) d9
 
-          d11 : Typed.Typed 𝓤 H A 𝓣 E G70 b25 Δ1 at11
-          d11 = Typed.g-pre 𝓤 H A W 𝓣 E G70 G71 b25 Δ1 (Typed.both s68) at10 (Relend.g-back-sl 𝓤 H A W E (Referent.rtF (Referent.fInt Syntax.w8)) G70 29 2 1 10 (Syntax.tyRef (Syntax.named 1)
+          d11 : Typed.Typed 𝓤 H A 𝓣 E G71 b25 Δ1 at11
+          d11 = Typed.g-pre 𝓤 H A W 𝓣 E G71 G72 b25 Δ1 (Typed.both s69) at10 (Relend.g-back-sl 𝓤 H A W E (Referent.rtF (Referent.fInt Syntax.w8)) G71 30 2 1 11 (Syntax.tyRef (Syntax.named 1)
               Syntax.mut (Syntax.tyInt Syntax.w8)) (Syntax.tyRef Syntax.erased Syntax.mut (Syntax.tyInt Syntax.w8)) (Row.lease (κs .1 .0) (qs .1 .0)) (λ x. x) (λ x. x) (Reads.as-is 𝓤 H A (Mut.msleft
               (Referent.rtF (Referent.fInt Syntax.w8)) (Syntax.tyRef Syntax.erased Syntax.mut (Syntax.tyInt Syntax.w8)))) (Reads.as-is 𝓤 H A (Relend.mslice-owed (Referent.rtF (Referent.fInt Syntax.w8))
-              (Syntax.tyRef (Syntax.named 1) Syntax.mut (Syntax.tyInt Syntax.w8)) 1 10 (Row.lease (κs .1 .0) (qs .1 .0)))) Path'.refl Path'.refl) d10
+              (Syntax.tyRef (Syntax.named 1) Syntax.mut (Syntax.tyInt Syntax.w8)) 1 11 (Row.lease (κs .1 .0) (qs .1 .0)))) Path'.refl Path'.refl) d10
 
-          d12 : Typed.Typed 𝓤 H A 𝓣 E G69 b25 Δ1 at12
-          d12 = Typed.g-pre 𝓤 H A W 𝓣 E G69 G70 b25 Δ1 (λ Ψ. Ψ) at11 (Lifetime.g-end 𝓤 H A W E G69 10 Path'.refl) d11
+          d12 : Typed.Typed 𝓤 H A 𝓣 E G70 b25 Δ1 at12
+          d12 = Typed.g-pre 𝓤 H A W 𝓣 E G70 G71 b25 Δ1 (λ Ψ. Ψ) at11 (Lifetime.g-end 𝓤 H A W E G70 11 Path'.refl) d11
 
-          d13 : Typed.Typed 𝓤 H A 𝓣 E G68 b25 Δ1 at13
-          d13 = Typed.g-pre 𝓤 H A W 𝓣 E G68 G69 b25 Δ1 (Typed.pass T68 T69 s66) at12 (Scalar.g-room 𝓤 H A W E G68 27 Syntax.tyUnit (Scalar.room-sc 𝓤 H A W Row.sUnit)) d12
+          d13 : Typed.Typed 𝓤 H A 𝓣 E G69 b25 Δ1 at13
+          d13 = Typed.g-pre 𝓤 H A W 𝓣 E G69 G70 b25 Δ1 (Typed.pass T69 T70 s67) at12 (Scalar.g-room 𝓤 H A W E G69 28 Syntax.tyUnit (Scalar.room-sc 𝓤 H A W Row.sUnit)) d12
 
-          d14 : Typed.Typed 𝓤 H A 𝓣 E G67 b26 Δ1 at14
-          d14 = Typed.s-seq 𝓤 H A W 𝓣 E G67 G68 b22 b25 Δ1 (Typed.both s65) at13 (Plain.t-call-plain 𝓤 H A W 𝓣 1 ps·2 r·2 (claims· .4) (claims· .5) "bits::fill_tail" (known .2) E (λ pos β. β) G67
-              (record { pos = 29; ty = Syntax.tyRef Syntax.erased Syntax.mut (Syntax.tyInt Syntax.w8); ref = λ x. x }, (record { pos = 11; st = List.[]; d = 0; at = λ x. x }, tt)) 27 (List._∷_ 10
-              List.[]) (Call.sub-id 𝓤 H A W (G67 .slots)) (
-                Reads.as-is 𝓤 H A (Mut.mslice (Referent.rtF (Referent.fInt Syntax.w8)) (Syntax.tyRef Syntax.erased Syntax.mut (Syntax.tyInt Syntax.w8)) 10),
+          d14 : Typed.Typed 𝓤 H A 𝓣 E G68 b26 Δ1 at14
+          d14 = Typed.s-seq 𝓤 H A W 𝓣 E G68 G69 b22 b25 Δ1 (Typed.both s66) at13 (Plain.t-call-plain 𝓤 H A W 𝓣 1 ps·2 r·2 (claims· .4) (claims· .5) "bits::fill_tail" (known .2) E (λ pos β. β) G68
+              (record { pos = 30; ty = Syntax.tyRef Syntax.erased Syntax.mut (Syntax.tyInt Syntax.w8); ref = λ x. x }, (record { pos = 12; st = List.[]; d = 0; at = λ x. x }, tt)) 28 (List._∷_ 11
+              List.[]) (Call.sub-id 𝓤 H A W (G68 .slots)) (
+                Reads.as-is 𝓤 H A (Mut.mslice (Referent.rtF (Referent.fInt Syntax.w8)) (Syntax.tyRef Syntax.erased Syntax.mut (Syntax.tyInt Syntax.w8)) 11),
                 Mut.reads-mslice 𝓤 H A W (Referent.rtF
-                    (Referent.fInt Syntax.w8)) (Syntax.tyRef Syntax.erased Syntax.mut (Syntax.tyInt Syntax.w8)) 10,
+                    (Referent.fInt Syntax.w8)) (Syntax.tyRef Syntax.erased Syntax.mut (Syntax.tyInt Syntax.w8)) 11,
                 Path'.refl,
                 (
                   (
@@ -2514,119 +2610,127 @@ module _ (claims· : Claims) where
                 ),
               ) (Reads.room-gone 𝓤 H A Syntax.tyUnit) (tt, tt) Path'.refl) d13
 
-          d15 : Typed.Typed 𝓤 H A 𝓣 E G66 b27 Δ1 at15
-          d15 = Typed.s-seq 𝓤 H A W 𝓣 E G66 G67 b21 b26 Δ1 (Typed.ask s64) at14 (Relend.t-sl-aggregate 𝓤 H A W E (Referent.rtF (Referent.fInt Syntax.w8)) 𝓣 (Relend.asMut (Referent.rtF (Referent.fInt
-              Syntax.w8))) G66 28 29 10 (Syntax.tyRef Syntax.erased Syntax.mut (Syntax.tyInt Syntax.w8)) (Syntax.tyRef Syntax.erased Syntax.mut (Syntax.tyInt Syntax.w8)) (λ x. x) (Scalar.oFld 2 (List._∷_
+          d15 : Typed.Typed 𝓤 H A 𝓣 E G67 b27 Δ1 at15
+          d15 = Typed.s-seq 𝓤 H A W 𝓣 E G67 G68 b21 b26 Δ1 (Typed.ask s65) at14 (Relend.t-sl-aggregate 𝓤 H A W E (Referent.rtF (Referent.fInt Syntax.w8)) 𝓣 (Relend.asMut (Referent.rtF (Referent.fInt
+              Syntax.w8))) G67 29 30 11 (Syntax.tyRef Syntax.erased Syntax.mut (Syntax.tyInt Syntax.w8)) (Syntax.tyRef Syntax.erased Syntax.mut (Syntax.tyInt Syntax.w8)) (λ x. x) (Scalar.oFld 2 (List._∷_
               (Syntax.field 1) List.[]) (Syntax.tyInt Syntax.w64) 8 λ v. Shared.lenV (v .0)) (Reads.as-is 𝓤 H A (Relend.msptr (Referent.rtF (Referent.fInt Syntax.w8)) (Syntax.tyRef Syntax.erased
-              Syntax.mut (Syntax.tyInt Syntax.w8)) 10)) (Reads.room-gone 𝓤 H A y1) (
-                Relend.reads-owed-len 𝓤 H A W (Referent.rtF (Referent.fInt Syntax.w8)) (Syntax.tyRef (Syntax.named 1) Syntax.mut (Syntax.tyInt Syntax.w8)) 1 10 (Row.lease (κs .1 .0) (qs .1 .0)) 8
+              Syntax.mut (Syntax.tyInt Syntax.w8)) 11)) (Reads.room-gone 𝓤 H A y1) (
+                Relend.reads-owed-len 𝓤 H A W (Referent.rtF (Referent.fInt Syntax.w8)) (Syntax.tyRef (Syntax.named 1) Syntax.mut (Syntax.tyInt Syntax.w8)) 1 11 (Row.lease (κs .1 .0) (qs .1 .0)) 8
                     Path'.refl,
                 Path'.refl,
               ) Path'.refl Path'.refl λ b o k. tt) d14
 
-          d16 : Typed.Typed 𝓤 H A 𝓣 E G65 b28 Δ1 at16
-          d16 = Typed.s-seq 𝓤 H A W 𝓣 E G65 G66 b20 b27 Δ1 (Typed.give s63) at15 (Relend.t-sl-relend 𝓤 H A W E (Referent.rtF (Referent.fInt Syntax.w8)) 𝓣 G65 2 28 1 10 (Syntax.tyRef (Syntax.named 1)
+          d16 : Typed.Typed 𝓤 H A 𝓣 E G66 b28 Δ1 at16
+          d16 = Typed.s-seq 𝓤 H A W 𝓣 E G66 G67 b20 b27 Δ1 (Typed.give s64) at15 (Relend.t-sl-relend 𝓤 H A W E (Referent.rtF (Referent.fInt Syntax.w8)) 𝓣 G66 2 29 1 11 (Syntax.tyRef (Syntax.named 1)
               Syntax.mut (Syntax.tyInt Syntax.w8)) (Syntax.tyRef Syntax.erased Syntax.mut (Syntax.tyInt Syntax.w8)) (Row.lease (κs .1 .0) (qs .1 .0)) 0 (λ x. x) (Reads.as-is 𝓤 H A (Mut.mslice
               (Referent.rtF (Referent.fInt Syntax.w8)) (Syntax.tyRef (Syntax.named 1) Syntax.mut (Syntax.tyInt Syntax.w8)) 1)) (Reads.room-gone 𝓤 H A (Syntax.tyRef Syntax.erased Syntax.mut (Syntax.tyInt
               Syntax.w8))) Path'.refl tt Path'.refl Path'.refl Path'.refl λ b o. tt) d15
 
-          d17 : Typed.Typed 𝓤 H A 𝓣 E G64 b28 Δ1 at17
-          d17 = Typed.g-pre 𝓤 H A W 𝓣 E G64 G65 b28 Δ1 (λ Ψ. Ψ) at16 (Lifetime.g-begin 𝓤 H A W E G64 10
-              (tt, (tt, (tt, (tt, (tt, (tt, (tt, (tt, (tt, (tt, (tt, (tt, (tt, (tt, (tt, (tt, (tt, (tt, (tt, (tt, (tt, (tt, (tt, (tt, (tt, (tt, (tt, (tt, (tt, (tt, (tt, tt))))))))))))))))))))))))))))))))
+          d17 : Typed.Typed 𝓤 H A 𝓣 E G65 b28 Δ1 at17
+          d17 = Typed.g-pre 𝓤 H A W 𝓣 E G65 G66 b28 Δ1 (λ Ψ. Ψ) at16 (Lifetime.g-begin 𝓤 H A W E G65 11 (
+            tt,
+            (tt, (tt, (tt, (tt, (tt, (tt, (tt, (tt, (tt, (tt, (tt, (tt, (tt, (tt, (tt, (tt, (tt, (tt, (tt, (tt, (tt, (tt, (tt, (tt, (tt, (tt, (tt, (tt, (tt, (tt, (tt, tt))))))))))))))))))))))))))))))),
+          ))
               d16
 
-          d18 : Typed.Typed 𝓤 H A 𝓣 E G63 b28 Δ1 at18
-          d18 = Typed.g-pre 𝓤 H A W 𝓣 E G63 G64 b28 Δ1 (λ Ψ. Ψ) at17 (Lifetime.g-forget 𝓤 H A W E G63 9 Row.dead Path'.refl) d17
+          d18 : Typed.Typed 𝓤 H A 𝓣 E G64 b28 Δ1 at18
+          d18 = Typed.g-pre 𝓤 H A W 𝓣 E G64 G65 b28 Δ1 (λ Ψ. Ψ) at17 (Lifetime.g-forget 𝓤 H A W E G64 10 Row.dead Path'.refl) d17
 
-          d19 : Typed.Typed 𝓤 H A 𝓣 E G62 b28 Δ1 at19
-          d19 = Typed.g-pre 𝓤 H A W 𝓣 E G62 G63 b28 Δ1 (Typed.both s60) at18 (Relend.g-back-sl 𝓤 H A W E (Element.type) G62 26 5 3 9 (Syntax.tyRef (Syntax.named 3) Syntax.mut Element.behind)
+          d19 : Typed.Typed 𝓤 H A 𝓣 E G63 b28 Δ1 at19
+          d19 = Typed.g-pre 𝓤 H A W 𝓣 E G63 G64 b28 Δ1 (Typed.both s61) at18 (Relend.g-back-sl 𝓤 H A W E (Element.type) G63 27 5 3 10 (Syntax.tyRef (Syntax.named 3) Syntax.mut Element.behind)
               (Syntax.tyRef Syntax.erased Syntax.mut Element.behind) (Row.lease (κs .1 .1 .1 .0) (qs .1 .1 .1 .0)) (λ x. x) (λ x. x) (Reads.as-is 𝓤 H A (Mut.msleft (Element.type) (Syntax.tyRef
-              Syntax.erased Syntax.mut Element.behind))) (Reads.as-is 𝓤 H A (Relend.mslice-owed (Element.type) (Syntax.tyRef (Syntax.named 3) Syntax.mut Element.behind) 3 9 (Row.lease (κs .1 .1 .1 .0) (qs
-              .1 .1 .1 .0)))) Path'.refl Path'.refl) d18
+              Syntax.erased Syntax.mut Element.behind))) (Reads.as-is 𝓤 H A (Relend.mslice-owed (Element.type) (Syntax.tyRef (Syntax.named 3) Syntax.mut Element.behind) 3 10 (Row.lease (κs .1 .1 .1 .0)
+              (qs .1 .1 .1 .0)))) Path'.refl Path'.refl) d18
 
-          d20 : Typed.Typed 𝓤 H A 𝓣 E G61 b28 Δ1 at20
-          d20 = Typed.g-pre 𝓤 H A W 𝓣 E G61 G62 b28 Δ1 (λ Ψ. Ψ) at19 (Lifetime.g-end 𝓤 H A W E G61 9 Path'.refl) d19
+          d20 : Typed.Typed 𝓤 H A 𝓣 E G62 b28 Δ1 at20
+          d20 = Typed.g-pre 𝓤 H A W 𝓣 E G62 G63 b28 Δ1 (λ Ψ. Ψ) at19 (Lifetime.g-end 𝓤 H A W E G62 10 Path'.refl) d19
 
-          d21 : Typed.Typed 𝓤 H A 𝓣 E G60 b28 Δ1 at21
-          d21 = Typed.g-pre 𝓤 H A W 𝓣 E G60 G61 b28 Δ1 (λ Ψ. Ψ) at20 (Lifetime.g-forget 𝓤 H A W E G60 8 Row.dead Path'.refl) d20
+          d21 : Typed.Typed 𝓤 H A 𝓣 E G61 b28 Δ1 at21
+          d21 = Typed.g-pre 𝓤 H A W 𝓣 E G61 G62 b28 Δ1 (λ Ψ. Ψ) at20 (Lifetime.g-forget 𝓤 H A W E G61 9 Row.dead Path'.refl) d20
 
-          d22 : Typed.Typed 𝓤 H A 𝓣 E G59 b28 Δ1 at22
-          d22 = Typed.g-pre 𝓤 H A W 𝓣 E G59 G60 b28 Δ1 (Typed.give s57) at21 (Know.g-sl-known 𝓤 H A W (Referent.fInt Syntax.w16) E G59 4 2 (Syntax.tyRef (Syntax.named 2) Syntax.mut (Syntax.tyInt
+          d22 : Typed.Typed 𝓤 H A 𝓣 E G60 b28 Δ1 at22
+          d22 = Typed.g-pre 𝓤 H A W 𝓣 E G60 G61 b28 Δ1 (Typed.give s58) at21 (Know.g-sl-known 𝓤 H A W (Referent.fInt Syntax.w16) E G60 4 2 (Syntax.tyRef (Syntax.named 2) Syntax.mut (Syntax.tyInt
               Syntax.w16)) (Row.lease (κs .1 .1 .0) (qs .1 .1 .0)) 0 (λ x. x) record { fits = Dec'.lit< tt } (Reads.as-is 𝓤 H A (Mut.mslice (Referent.rtF (Referent.fInt Syntax.w16)) (Syntax.tyRef
               (Syntax.named 2) Syntax.mut (Syntax.tyInt Syntax.w16)) 2)) Path'.refl tt) d21
 
-          d23 : Typed.Typed 𝓤 H A 𝓣 E G58 b28 Δ1 at23
-          d23 = Typed.g-pre 𝓤 H A W 𝓣 E G58 G59 b28 Δ1 (Typed.both s56) at22 (Relend.g-back-sl 𝓤 H A W E (Referent.rtF (Referent.fInt Syntax.w16)) G58 24 4 2 8 (Syntax.tyRef (Syntax.named 2)
+          d23 : Typed.Typed 𝓤 H A 𝓣 E G59 b28 Δ1 at23
+          d23 = Typed.g-pre 𝓤 H A W 𝓣 E G59 G60 b28 Δ1 (Typed.both s57) at22 (Relend.g-back-sl 𝓤 H A W E (Referent.rtF (Referent.fInt Syntax.w16)) G59 25 4 2 9 (Syntax.tyRef (Syntax.named 2)
               Syntax.mut (Syntax.tyInt Syntax.w16)) (Syntax.tyRef Syntax.erased Syntax.mut (Syntax.tyInt Syntax.w16)) (Row.lease (κs .1 .1 .0) (qs .1 .1 .0)) (λ x. x) (λ x. x) (Reads.as-is 𝓤 H A
               (Mut.msleft (Referent.rtF (Referent.fInt Syntax.w16)) (Syntax.tyRef Syntax.erased Syntax.mut (Syntax.tyInt Syntax.w16)))) (Reads.as-is 𝓤 H A (Relend.mslice-owed (Referent.rtF (Referent.fInt
-              Syntax.w16)) (Syntax.tyRef (Syntax.named 2) Syntax.mut (Syntax.tyInt Syntax.w16)) 2 8 (Row.lease (κs .1 .1 .0) (qs .1 .1 .0)))) Path'.refl Path'.refl) d22
+              Syntax.w16)) (Syntax.tyRef (Syntax.named 2) Syntax.mut (Syntax.tyInt Syntax.w16)) 2 9 (Row.lease (κs .1 .1 .0) (qs .1 .1 .0)))) Path'.refl Path'.refl) d22
 
-          d24 : Typed.Typed 𝓤 H A 𝓣 E G57 b28 Δ1 at24
-          d24 = Typed.g-pre 𝓤 H A W 𝓣 E G57 G58 b28 Δ1 (λ Ψ. Ψ) at23 (Lifetime.g-end 𝓤 H A W E G57 8 Path'.refl) d23
+          d24 : Typed.Typed 𝓤 H A 𝓣 E G58 b28 Δ1 at24
+          d24 = Typed.g-pre 𝓤 H A W 𝓣 E G58 G59 b28 Δ1 (λ Ψ. Ψ) at23 (Lifetime.g-end 𝓤 H A W E G58 9 Path'.refl) d23
 
-          d25 : Typed.Typed 𝓤 H A 𝓣 E G56 b28 Δ1 at25
-          d25 = Typed.g-pre 𝓤 H A W 𝓣 E G56 G57 b28 Δ1 (λ Ψ. Ψ) at24 (Lifetime.g-forget 𝓤 H A W E G56 7 Row.dead Path'.refl) d24
+          d25 : Typed.Typed 𝓤 H A 𝓣 E G57 b28 Δ1 at25
+          d25 = Typed.g-pre 𝓤 H A W 𝓣 E G57 G58 b28 Δ1 (λ Ψ. Ψ) at24 (Lifetime.g-forget 𝓤 H A W E G57 8 Row.dead Path'.refl) d24
 
-          d26 : Typed.Typed 𝓤 H A 𝓣 E G55 b28 Δ1 at26
-          d26 = Typed.g-pre 𝓤 H A W 𝓣 E G55 G56 b28 Δ1 (Typed.give s53) at25 (Know.g-sl-known 𝓤 H A W (Referent.fInt Syntax.w8) E G55 2 1 (Syntax.tyRef (Syntax.named 1) Syntax.mut (Syntax.tyInt
+          d26 : Typed.Typed 𝓤 H A 𝓣 E G56 b28 Δ1 at26
+          d26 = Typed.g-pre 𝓤 H A W 𝓣 E G56 G57 b28 Δ1 (Typed.give s54) at25 (Know.g-sl-known 𝓤 H A W (Referent.fInt Syntax.w8) E G56 2 1 (Syntax.tyRef (Syntax.named 1) Syntax.mut (Syntax.tyInt
               Syntax.w8)) (Row.lease (κs .1 .0) (qs .1 .0)) 0 (λ x. x) record { fits = Dec'.lit< tt } (Reads.as-is 𝓤 H A (Mut.mslice (Referent.rtF (Referent.fInt Syntax.w8)) (Syntax.tyRef (Syntax.named 1)
               Syntax.mut (Syntax.tyInt Syntax.w8)) 1)) Path'.refl tt) d25
 
-          d27 : Typed.Typed 𝓤 H A 𝓣 E G54 b28 Δ1 at27
-          d27 = Typed.g-pre 𝓤 H A W 𝓣 E G54 G55 b28 Δ1 (Typed.both s52) at26 (Relend.g-back-sl 𝓤 H A W E (Referent.rtF (Referent.fInt Syntax.w8)) G54 22 2 1 7 (Syntax.tyRef (Syntax.named 1) Syntax.mut
+          d27 : Typed.Typed 𝓤 H A 𝓣 E G55 b28 Δ1 at27
+          d27 = Typed.g-pre 𝓤 H A W 𝓣 E G55 G56 b28 Δ1 (Typed.both s53) at26 (Relend.g-back-sl 𝓤 H A W E (Referent.rtF (Referent.fInt Syntax.w8)) G55 23 2 1 8 (Syntax.tyRef (Syntax.named 1) Syntax.mut
               (Syntax.tyInt Syntax.w8)) (Syntax.tyRef Syntax.erased Syntax.mut (Syntax.tyInt Syntax.w8)) (Row.lease (κs .1 .0) (qs .1 .0)) (λ x. x) (λ x. x) (Reads.as-is 𝓤 H A (Mut.msleft (Referent.rtF
               (Referent.fInt Syntax.w8)) (Syntax.tyRef Syntax.erased Syntax.mut (Syntax.tyInt Syntax.w8)))) (Reads.as-is 𝓤 H A (Relend.mslice-owed (Referent.rtF (Referent.fInt Syntax.w8)) (Syntax.tyRef
-              (Syntax.named 1) Syntax.mut (Syntax.tyInt Syntax.w8)) 1 7 (Row.lease (κs .1 .0) (qs .1 .0)))) Path'.refl Path'.refl) d26
+              (Syntax.named 1) Syntax.mut (Syntax.tyInt Syntax.w8)) 1 8 (Row.lease (κs .1 .0) (qs .1 .0)))) Path'.refl Path'.refl) d26
 
-          d28 : Typed.Typed 𝓤 H A 𝓣 E G53 b28 Δ1 at28
-          d28 = Typed.g-pre 𝓤 H A W 𝓣 E G53 G54 b28 Δ1 (λ Ψ. Ψ) at27 (Lifetime.g-end 𝓤 H A W E G53 7 Path'.refl) d27
+          d28 : Typed.Typed 𝓤 H A 𝓣 E G54 b28 Δ1 at28
+          d28 = Typed.g-pre 𝓤 H A W 𝓣 E G54 G55 b28 Δ1 (λ Ψ. Ψ) at27 (Lifetime.g-end 𝓤 H A W E G54 8 Path'.refl) d27
 
-          d29 : Typed.Typed 𝓤 H A 𝓣 E G52 b28 Δ1 at29
-          d29 = Typed.g-pre 𝓤 H A W 𝓣 E G52 G53 b28 Δ1 (Typed.pass T52 T53 s50) at28 (Scalar.g-room 𝓤 H A W E G52 20 (Syntax.tyEnum (List._∷_ 119 (List._∷_ 114 (List._∷_ 105 (List._∷_ 116 (List._∷_
+          d29 : Typed.Typed 𝓤 H A 𝓣 E G53 b28 Δ1 at29
+          d29 = Typed.g-pre 𝓤 H A W 𝓣 E G53 G54 b28 Δ1 (Typed.pass T53 T54 s51) at28 (Scalar.g-room 𝓤 H A W E G53 21 (Syntax.tyEnum (List._∷_ 119 (List._∷_ 114 (List._∷_ 105 (List._∷_ 116 (List._∷_
               105 (List._∷_ 110 (List._∷_ 103 (List._∷_ 58 (List._∷_ 58 (List._∷_ 80 (List._∷_ 117 (List._∷_ 116 List.[])))))))))))) (Syntax.ttcons (Syntax.tcons y3 Syntax.tnil) (Syntax.ttcons
               (Syntax.tcons (Syntax.tyInt Syntax.w64) Syntax.tnil) Syntax.ttnil))) (Local.room-whole 𝓤 H A W (Declared.row Put.the-type) (Syntax.tyEnum (List._∷_ 119 (List._∷_ 114 (List._∷_ 105 (List._∷_
               116 (List._∷_ 105 (List._∷_ 110 (List._∷_ 103 (List._∷_ 58 (List._∷_ 58 (List._∷_ 80 (List._∷_ 117 (List._∷_ 116 List.[])))))))))))) (Syntax.ttcons (Syntax.tcons y3 Syntax.tnil)
               (Syntax.ttcons (Syntax.tcons (Syntax.tyInt Syntax.w64) Syntax.tnil) Syntax.ttnil))) Path'.refl)) d28
 
-          d30 : Typed.Typed 𝓤 H A 𝓣 E G51 b28 Δ1 at30
-          d30 = Typed.g-pre 𝓤 H A W 𝓣 E G51 G52 b28 Δ1 (Typed.pass T51 T52 s49) at29 (Scalar.g-room 𝓤 H A W E G51 6 y4 (Local.room-whole 𝓤 H A W (Declared'.row Form.the-type) y4 Path'.refl)) d29
+          d30 : Typed.Typed 𝓤 H A 𝓣 E G52 b28 Δ1 at30
+          d30 = Typed.g-pre 𝓤 H A W 𝓣 E G52 G53 b28 Δ1 (Typed.pass T52 T53 s50) at29 (Scalar.g-room 𝓤 H A W E G52 6 y4 (Local.room-whole 𝓤 H A W (Declared'.row Form.the-type) y4 Path'.refl)) d29
 
-          d31 : Typed.Typed 𝓤 H A 𝓣 E G50 b29 Δ1 at31
-          d31 = Typed.s-seq 𝓤 H A W 𝓣 E G50 G51 b19 b28 Δ1 (Typed.both s48) at30 (Plain.t-call-plain 𝓤 H A W 𝓣 4 ps·0 r·0 (claims· .0) (claims· .1) "block::writer::write_walk" (known .0) E (λ pos β.
-              β) G50 (
+          d31 : Typed.Typed 𝓤 H A 𝓣 E G51 b29 Δ1 at31
+          d31 = Typed.s-seq 𝓤 H A W 𝓣 E G51 G52 b19 b28 Δ1 (Typed.both s49) at30 (Plain.t-call-plain 𝓤 H A W 𝓣 5 ps·0 r·0 (claims· .0) (claims· .1) "block::writer::write_walk" (known .0) E (λ pos β.
+              β) G51 (
                 record { pos = 1; ty = Syntax.tyRef (Syntax.named 0) Syntax.imm (Syntax.tyInt Syntax.w16); ref = λ x. x },
                 (
-                  record { pos = 22; ty = Syntax.tyRef Syntax.erased Syntax.mut (Syntax.tyInt Syntax.w8); ref = λ x. x },
+                  record { pos = 23; ty = Syntax.tyRef Syntax.erased Syntax.mut (Syntax.tyInt Syntax.w8); ref = λ x. x },
                   (
                     Bool.bLit Bool'.true,
                     (
-                      record { pos = 24; ty = Syntax.tyRef Syntax.erased Syntax.mut (Syntax.tyInt Syntax.w16); ref = λ x. x },
-                      (record { pos = 26; ty = Syntax.tyRef Syntax.erased Syntax.mut Element.behind; ref = λ x. x }, (record { pos = 6; st = List.[]; d = 0; at = λ x. x }, (Num.vAt 7 λ x. x, tt))),
+                      record { pos = 25; ty = Syntax.tyRef Syntax.erased Syntax.mut (Syntax.tyInt Syntax.w16); ref = λ x. x },
+                      (
+                        record { pos = 27; ty = Syntax.tyRef Syntax.erased Syntax.mut Element.behind; ref = λ x. x },
+                        (
+                          record { pos = 6; st = List.[]; d = 0; at = λ x. x },
+                          (record { pos = 7; ty = Syntax.tyRef (Syntax.named 4) Syntax.imm (Syntax.tyInt Syntax.w8); ref = λ x. x }, (Num.vAt 8 λ x. x, tt)),
+                        ),
+                      ),
                     ),
                   ),
                 ),
-              ) 20
-              (List._∷_ 0 (List._∷_ 7 (List._∷_ 8 (List._∷_ 9 List.[])))) (Call.sub-id 𝓤 H A W (G50 .slots)) (
+              ) 21 (List._∷_ 0 (List._∷_ 8 (List._∷_ 9 (List._∷_ 10
+              (List._∷_ 4 List.[]))))) (Call.sub-id 𝓤 H A W (G51 .slots)) (
                 ShrSlice.spares-sslice 𝓤 H A W (Referent.rtF (Referent.fInt Syntax.w16)) (Syntax.tyRef (Syntax.named 0) Syntax.imm (Syntax.tyInt Syntax.w16)) 0,
                 Shared.reads-sslice 𝓤 H A W (Referent.rtF
                     (Referent.fInt Syntax.w16)) (Syntax.tyRef (Syntax.named 0) Syntax.imm (Syntax.tyInt Syntax.w16)) 0,
                 Path'.refl,
                 (
-                  Reads.as-is 𝓤 H A (Mut.mslice (Referent.rtF (Referent.fInt Syntax.w8)) (Syntax.tyRef Syntax.erased Syntax.mut (Syntax.tyInt Syntax.w8)) 7),
+                  Reads.as-is 𝓤 H A (Mut.mslice (Referent.rtF (Referent.fInt Syntax.w8)) (Syntax.tyRef Syntax.erased Syntax.mut (Syntax.tyInt Syntax.w8)) 8),
                   Mut.reads-mslice 𝓤 H A W (Referent.rtF
-                      (Referent.fInt Syntax.w8)) (Syntax.tyRef Syntax.erased Syntax.mut (Syntax.tyInt Syntax.w8)) 7,
+                      (Referent.fInt Syntax.w8)) (Syntax.tyRef Syntax.erased Syntax.mut (Syntax.tyInt Syntax.w8)) 8,
                   Path'.refl,
                   (
                     tt,
                     (
-                      Reads.as-is 𝓤 H A (Mut.mslice (Referent.rtF (Referent.fInt Syntax.w16)) (Syntax.tyRef Syntax.erased Syntax.mut (Syntax.tyInt Syntax.w16)) 8),
+                      Reads.as-is 𝓤 H A (Mut.mslice (Referent.rtF (Referent.fInt Syntax.w16)) (Syntax.tyRef Syntax.erased Syntax.mut (Syntax.tyInt Syntax.w16)) 9),
                       Mut.reads-mslice 𝓤 H A W (Referent.rtF
-                          (Referent.fInt Syntax.w16)) (Syntax.tyRef Syntax.erased Syntax.mut (Syntax.tyInt Syntax.w16)) 8,
+                          (Referent.fInt Syntax.w16)) (Syntax.tyRef Syntax.erased Syntax.mut (Syntax.tyInt Syntax.w16)) 9,
                       Path'.refl,
                       (
-                        Reads.as-is 𝓤 H A (Mut.mslice (Element.type) (Syntax.tyRef Syntax.erased Syntax.mut Element.behind) 9),
+                        Reads.as-is 𝓤 H A (Mut.mslice (Element.type) (Syntax.tyRef Syntax.erased Syntax.mut Element.behind) 10),
                         Mut.reads-mslice 𝓤 H A W (Element.type) (Syntax.tyRef Syntax.erased Syntax.mut
-                            Element.behind) 9,
+                            Element.behind) 10,
                         Path'.refl,
                         (
                           (
@@ -2634,86 +2738,100 @@ module _ (claims· : Claims) where
                                 Form.the-type)) (λ x. x) (λ x. x) (λ ρ told. Local.mem-whole 𝓤 H A W (Declared'.row Form.the-type) ρ) λ ρ told. Local.whole-mem 𝓤 H A W (Declared'.row Form.the-type) ρ,
                             Path'.refl,
                           ),
-                          ((Scalar.reads-sc 𝓤 H A W (Row.sInt Syntax.w64), Path'.refl), tt),
+                          (
+                            ShrSlice.spares-sslice 𝓤 H A W (Referent.rtF (Referent.fInt Syntax.w8)) (Syntax.tyRef (Syntax.named 4) Syntax.imm (Syntax.tyInt Syntax.w8)) 4,
+                            Shared.reads-sslice 𝓤 H A W (Referent.rtF
+                                (Referent.fInt Syntax.w8)) (Syntax.tyRef (Syntax.named 4) Syntax.imm (Syntax.tyInt Syntax.w8)) 4,
+                            Path'.refl,
+                            ((Scalar.reads-sc 𝓤 H A W (Row.sInt Syntax.w64), Path'.refl), tt),
+                          ),
                         ),
                       ),
                     ),
                   ),
                 ),
-              ) (Reads.room-gone 𝓤 H A (Syntax.tyEnum (List._∷_ 119 (List._∷_ 114 (List._∷_ 105 (List._∷_ 116 (List._∷_ 105 (List._∷_
-              110 (List._∷_ 103 (List._∷_ 58 (List._∷_ 58 (List._∷_ 80 (List._∷_ 117 (List._∷_ 116 List.[])))))))))))) (Syntax.ttcons (Syntax.tcons y3 Syntax.tnil) (Syntax.ttcons (Syntax.tcons
-              (Syntax.tyInt Syntax.w64) Syntax.tnil) Syntax.ttnil)))) (tt, (tt, (tt, (tt, tt)))) Path'.refl) d30
+              )
+              (Reads.room-gone 𝓤 H A (Syntax.tyEnum (List._∷_ 119 (List._∷_ 114 (List._∷_ 105 (List._∷_ 116 (List._∷_ 105 (List._∷_ 110 (List._∷_ 103 (List._∷_ 58 (List._∷_ 58 (List._∷_ 80 (List._∷_ 117
+              (List._∷_ 116 List.[])))))))))))) (Syntax.ttcons (Syntax.tcons y3 Syntax.tnil) (Syntax.ttcons (Syntax.tcons (Syntax.tyInt Syntax.w64) Syntax.tnil) Syntax.ttnil))))
+              (tt, (tt, (tt, (tt, (tt, tt))))) Path'.refl) d30
 
-          d32 : Typed.Typed 𝓤 H A 𝓣 E G49 b30 Δ1 at32
-          d32 = Typed.s-seq 𝓤 H A W 𝓣 E G49 G50 b18 b29 Δ1 (Typed.ask s47) at31 (Relend.t-sl-aggregate 𝓤 H A W E (Element.type) 𝓣 (Relend.asMut (Element.type)) G49 25 26 9 (Syntax.tyRef Syntax.erased
+          d32 : Typed.Typed 𝓤 H A 𝓣 E G50 b30 Δ1 at32
+          d32 = Typed.s-seq 𝓤 H A W 𝓣 E G50 G51 b18 b29 Δ1 (Typed.ask s48) at31 (Relend.t-sl-aggregate 𝓤 H A W E (Element.type) 𝓣 (Relend.asMut (Element.type)) G50 26 27 10 (Syntax.tyRef Syntax.erased
               Syntax.mut Element.behind) (Syntax.tyRef Syntax.erased Syntax.mut Element.behind) (λ x. x) (Scalar.oFld 5 (List._∷_ (Syntax.field 1) List.[]) (Syntax.tyInt Syntax.w64) 8 λ v. Shared.lenV (v
-              .0)) (Reads.as-is 𝓤 H A (Relend.msptr (Element.type) (Syntax.tyRef Syntax.erased Syntax.mut Element.behind) 9)) (Reads.room-gone 𝓤 H A y2)
-              (Relend.reads-owed-len 𝓤 H A W (Element.type) (Syntax.tyRef (Syntax.named 3) Syntax.mut Element.behind) 3 9 (Row.lease (κs .1 .1 .1 .0) (qs .1 .1 .1 .0)) 8 Path'.refl, Path'.refl) Path'.refl
-              Path'.refl λ b o k. tt) d31
+              .0)) (Reads.as-is 𝓤 H A (Relend.msptr (Element.type) (Syntax.tyRef Syntax.erased Syntax.mut Element.behind) 10)) (Reads.room-gone 𝓤 H A y2)
+              (Relend.reads-owed-len 𝓤 H A W (Element.type) (Syntax.tyRef (Syntax.named 3) Syntax.mut Element.behind) 3 10 (Row.lease (κs .1 .1 .1 .0) (qs .1 .1 .1 .0)) 8 Path'.refl, Path'.refl)
+              Path'.refl Path'.refl λ b o k. tt) d31
 
-          d33 : Typed.Typed 𝓤 H A 𝓣 E G48 b31 Δ1 at33
-          d33 = Typed.s-seq 𝓤 H A W 𝓣 E G48 G49 b17 b30 Δ1 (Typed.give s46) at32 (Relend.t-sl-relend 𝓤 H A W E (Element.type) 𝓣 G48 5 25 3 9 (Syntax.tyRef (Syntax.named 3) Syntax.mut Element.behind)
+          d33 : Typed.Typed 𝓤 H A 𝓣 E G49 b31 Δ1 at33
+          d33 = Typed.s-seq 𝓤 H A W 𝓣 E G49 G50 b17 b30 Δ1 (Typed.give s47) at32 (Relend.t-sl-relend 𝓤 H A W E (Element.type) 𝓣 G49 5 26 3 10 (Syntax.tyRef (Syntax.named 3) Syntax.mut Element.behind)
               (Syntax.tyRef Syntax.erased Syntax.mut Element.behind) (Row.lease (κs .1 .1 .1 .0) (qs .1 .1 .1 .0)) 0 (λ x. x) (Reads.as-is 𝓤 H A (Mut.mslice (Element.type) (Syntax.tyRef (Syntax.named 3)
               Syntax.mut Element.behind) 3)) (Reads.room-gone 𝓤 H A (Syntax.tyRef Syntax.erased Syntax.mut Element.behind)) Path'.refl tt Path'.refl Path'.refl Path'.refl λ b o. tt) d32
 
-          d34 : Typed.Typed 𝓤 H A 𝓣 E G47 b31 Δ1 at34
-          d34 = Typed.g-pre 𝓤 H A W 𝓣 E G47 G48 b31 Δ1 (λ Ψ. Ψ) at33 (Lifetime.g-begin 𝓤 H A W E G47 9 (
+          d34 : Typed.Typed 𝓤 H A 𝓣 E G48 b31 Δ1 at34
+          d34 = Typed.g-pre 𝓤 H A W 𝓣 E G48 G49 b31 Δ1 (λ Ψ. Ψ) at33 (Lifetime.g-begin 𝓤 H A W E G48 10 (
             tt,
             (
               tt,
               (
                 (tt, tt),
-                (tt, ((tt, tt), (tt, (tt, (tt, (tt, (tt, (tt, (tt, (tt, (tt, (tt, (tt, (tt, (tt, (tt, (tt, (tt, (tt, (tt, (tt, (tt, (tt, (tt, (tt, (tt, (tt, (tt, tt)))))))))))))))))))))))))))),
+                (tt, ((tt, tt), (tt, (tt, (tt, (tt, (tt, (tt, (tt, (tt, (tt, (tt, (tt, (tt, (tt, (tt, (tt, (tt, (tt, (tt, (tt, (tt, (tt, (tt, (tt, (tt, (tt, (tt, (tt, tt))))))))))))))))))))))))))))),
               ),
             ),
           )) d33
 
-          d35 : Typed.Typed 𝓤 H A 𝓣 E G46 b32 Δ1 at35
-          d35 = Typed.s-seq 𝓤 H A W 𝓣 E G46 G47 b16 b31 Δ1 (Typed.ask s44) at34 (Relend.t-sl-aggregate 𝓤 H A W E (Referent.rtF (Referent.fInt Syntax.w16)) 𝓣 (Relend.asMut (Referent.rtF (Referent.fInt
-              Syntax.w16))) G46 23 24 8 (Syntax.tyRef Syntax.erased Syntax.mut (Syntax.tyInt Syntax.w16)) (Syntax.tyRef Syntax.erased Syntax.mut (Syntax.tyInt Syntax.w16)) (λ x. x) (Scalar.oFld 4
+          d35 : Typed.Typed 𝓤 H A 𝓣 E G47 b32 Δ1 at35
+          d35 = Typed.s-seq 𝓤 H A W 𝓣 E G47 G48 b16 b31 Δ1 (Typed.ask s45) at34 (Relend.t-sl-aggregate 𝓤 H A W E (Referent.rtF (Referent.fInt Syntax.w16)) 𝓣 (Relend.asMut (Referent.rtF (Referent.fInt
+              Syntax.w16))) G47 24 25 9 (Syntax.tyRef Syntax.erased Syntax.mut (Syntax.tyInt Syntax.w16)) (Syntax.tyRef Syntax.erased Syntax.mut (Syntax.tyInt Syntax.w16)) (λ x. x) (Scalar.oFld 4
               (List._∷_ (Syntax.field 1) List.[]) (Syntax.tyInt Syntax.w64) 8 λ v. Shared.lenV (v .0)) (Reads.as-is 𝓤 H A (Relend.msptr (Referent.rtF (Referent.fInt Syntax.w16)) (Syntax.tyRef
-              Syntax.erased Syntax.mut (Syntax.tyInt Syntax.w16)) 8)) (Reads.room-gone 𝓤 H A y0) (
-                Relend.reads-owed-len 𝓤 H A W (Referent.rtF (Referent.fInt Syntax.w16)) (Syntax.tyRef (Syntax.named 2) Syntax.mut (Syntax.tyInt Syntax.w16)) 2 8 (Row.lease (κs .1 .1 .0) (qs .1 .1 .0)) 8
+              Syntax.erased Syntax.mut (Syntax.tyInt Syntax.w16)) 9)) (Reads.room-gone 𝓤 H A y0) (
+                Relend.reads-owed-len 𝓤 H A W (Referent.rtF (Referent.fInt Syntax.w16)) (Syntax.tyRef (Syntax.named 2) Syntax.mut (Syntax.tyInt Syntax.w16)) 2 9 (Row.lease (κs .1 .1 .0) (qs .1 .1 .0)) 8
                     Path'.refl,
                 Path'.refl,
               ) Path'.refl Path'.refl λ b o k. tt) d34
 
-          d36 : Typed.Typed 𝓤 H A 𝓣 E G45 b33 Δ1 at36
-          d36 = Typed.s-seq 𝓤 H A W 𝓣 E G45 G46 b15 b32 Δ1 (Typed.give s43) at35 (Relend.t-sl-relend 𝓤 H A W E (Referent.rtF (Referent.fInt Syntax.w16)) 𝓣 G45 4 23 2 8 (Syntax.tyRef (Syntax.named 2)
+          d36 : Typed.Typed 𝓤 H A 𝓣 E G46 b33 Δ1 at36
+          d36 = Typed.s-seq 𝓤 H A W 𝓣 E G46 G47 b15 b32 Δ1 (Typed.give s44) at35 (Relend.t-sl-relend 𝓤 H A W E (Referent.rtF (Referent.fInt Syntax.w16)) 𝓣 G46 4 24 2 9 (Syntax.tyRef (Syntax.named 2)
               Syntax.mut (Syntax.tyInt Syntax.w16)) (Syntax.tyRef Syntax.erased Syntax.mut (Syntax.tyInt Syntax.w16)) (Row.lease (κs .1 .1 .0) (qs .1 .1 .0)) 0 (λ x. x) (Reads.as-is 𝓤 H A (Mut.mslice
               (Referent.rtF (Referent.fInt Syntax.w16)) (Syntax.tyRef (Syntax.named 2) Syntax.mut (Syntax.tyInt Syntax.w16)) 2)) (Reads.room-gone 𝓤 H A (Syntax.tyRef Syntax.erased Syntax.mut (Syntax.tyInt
               Syntax.w16))) Path'.refl tt Path'.refl Path'.refl Path'.refl λ b o. tt) d35
 
-          d37 : Typed.Typed 𝓤 H A 𝓣 E G44 b33 Δ1 at37
-          d37 = Typed.g-pre 𝓤 H A W 𝓣 E G44 G45 b33 Δ1 (λ Ψ. Ψ) at36 (Lifetime.g-begin 𝓤 H A W E G44 8 (
+          d37 : Typed.Typed 𝓤 H A 𝓣 E G45 b33 Δ1 at37
+          d37 = Typed.g-pre 𝓤 H A W 𝓣 E G45 G46 b33 Δ1 (λ Ψ. Ψ) at36 (Lifetime.g-begin 𝓤 H A W E G45 9 (
             tt,
-            (tt, ((tt, tt), (tt, (tt, (tt, (tt, (tt, (tt, (tt, (tt, (tt, (tt, (tt, (tt, (tt, (tt, (tt, (tt, (tt, (tt, (tt, (tt, (tt, (tt, (tt, (tt, (tt, (tt, (tt, (tt, tt)))))))))))))))))))))))))))))),
-          ))
-              d36
+            (
+              tt,
+              (
+                (tt, tt),
+                (tt, (tt, (tt, (tt, (tt, (tt, (tt, (tt, (tt, (tt, (tt, (tt, (tt, (tt, (tt, (tt, (tt, (tt, (tt, (tt, (tt, (tt, (tt, (tt, (tt, (tt, (tt, (tt, (tt, tt))))))))))))))))))))))))))))),
+              ),
+            ),
+          )) d36
 
-          d38 : Typed.Typed 𝓤 H A 𝓣 E G43 b34 Δ1 at38
-          d38 = Typed.s-seq 𝓤 H A W 𝓣 E G43 G44 b14 b33 Δ1 (Typed.ask s41) at37 (Relend.t-sl-aggregate 𝓤 H A W E (Referent.rtF (Referent.fInt Syntax.w8)) 𝓣 (Relend.asMut (Referent.rtF (Referent.fInt
-              Syntax.w8))) G43 21 22 7 (Syntax.tyRef Syntax.erased Syntax.mut (Syntax.tyInt Syntax.w8)) (Syntax.tyRef Syntax.erased Syntax.mut (Syntax.tyInt Syntax.w8)) (λ x. x) (Scalar.oFld 2 (List._∷_
+          d38 : Typed.Typed 𝓤 H A 𝓣 E G44 b34 Δ1 at38
+          d38 = Typed.s-seq 𝓤 H A W 𝓣 E G44 G45 b14 b33 Δ1 (Typed.ask s42) at37 (Relend.t-sl-aggregate 𝓤 H A W E (Referent.rtF (Referent.fInt Syntax.w8)) 𝓣 (Relend.asMut (Referent.rtF (Referent.fInt
+              Syntax.w8))) G44 22 23 8 (Syntax.tyRef Syntax.erased Syntax.mut (Syntax.tyInt Syntax.w8)) (Syntax.tyRef Syntax.erased Syntax.mut (Syntax.tyInt Syntax.w8)) (λ x. x) (Scalar.oFld 2 (List._∷_
               (Syntax.field 1) List.[]) (Syntax.tyInt Syntax.w64) 8 λ v. Shared.lenV (v .0)) (Reads.as-is 𝓤 H A (Relend.msptr (Referent.rtF (Referent.fInt Syntax.w8)) (Syntax.tyRef Syntax.erased
-              Syntax.mut (Syntax.tyInt Syntax.w8)) 7)) (Reads.room-gone 𝓤 H A y1) (
-                Relend.reads-owed-len 𝓤 H A W (Referent.rtF (Referent.fInt Syntax.w8)) (Syntax.tyRef (Syntax.named 1) Syntax.mut (Syntax.tyInt Syntax.w8)) 1 7 (Row.lease (κs .1 .0) (qs .1 .0)) 8
+              Syntax.mut (Syntax.tyInt Syntax.w8)) 8)) (Reads.room-gone 𝓤 H A y1) (
+                Relend.reads-owed-len 𝓤 H A W (Referent.rtF (Referent.fInt Syntax.w8)) (Syntax.tyRef (Syntax.named 1) Syntax.mut (Syntax.tyInt Syntax.w8)) 1 8 (Row.lease (κs .1 .0) (qs .1 .0)) 8
                     Path'.refl,
                 Path'.refl,
               ) Path'.refl Path'.refl λ b o k. tt) d37
 
-          d39 : Typed.Typed 𝓤 H A 𝓣 E G42 b35 Δ1 at39
-          d39 = Typed.s-seq 𝓤 H A W 𝓣 E G42 G43 b13 b34 Δ1 (Typed.give s40) at38 (Relend.t-sl-relend 𝓤 H A W E (Referent.rtF (Referent.fInt Syntax.w8)) 𝓣 G42 2 21 1 7 (Syntax.tyRef (Syntax.named 1)
+          d39 : Typed.Typed 𝓤 H A 𝓣 E G43 b35 Δ1 at39
+          d39 = Typed.s-seq 𝓤 H A W 𝓣 E G43 G44 b13 b34 Δ1 (Typed.give s41) at38 (Relend.t-sl-relend 𝓤 H A W E (Referent.rtF (Referent.fInt Syntax.w8)) 𝓣 G43 2 22 1 8 (Syntax.tyRef (Syntax.named 1)
               Syntax.mut (Syntax.tyInt Syntax.w8)) (Syntax.tyRef Syntax.erased Syntax.mut (Syntax.tyInt Syntax.w8)) (Row.lease (κs .1 .0) (qs .1 .0)) 0 (λ x. x) (Reads.as-is 𝓤 H A (Mut.mslice
               (Referent.rtF (Referent.fInt Syntax.w8)) (Syntax.tyRef (Syntax.named 1) Syntax.mut (Syntax.tyInt Syntax.w8)) 1)) (Reads.room-gone 𝓤 H A (Syntax.tyRef Syntax.erased Syntax.mut (Syntax.tyInt
               Syntax.w8))) Path'.refl tt Path'.refl Path'.refl Path'.refl λ b o. tt) d38
 
-          d40 : Typed.Typed 𝓤 H A 𝓣 E G41 b35 Δ1 at40
-          d40 = Typed.g-pre 𝓤 H A W 𝓣 E G41 G42 b35 Δ1 (λ Ψ. Ψ) at39 (Lifetime.g-begin 𝓤 H A W E G41 7
-              (tt, (tt, (tt, (tt, (tt, (tt, (tt, (tt, (tt, (tt, (tt, (tt, (tt, (tt, (tt, (tt, (tt, (tt, (tt, (tt, (tt, (tt, (tt, (tt, (tt, (tt, (tt, (tt, (tt, (tt, (tt, tt))))))))))))))))))))))))))))))))
+          d40 : Typed.Typed 𝓤 H A 𝓣 E G42 b35 Δ1 at40
+          d40 = Typed.g-pre 𝓤 H A W 𝓣 E G42 G43 b35 Δ1 (λ Ψ. Ψ) at39 (Lifetime.g-begin 𝓤 H A W E G42 8 (
+            tt,
+            (tt, (tt, (tt, (tt, (tt, (tt, (tt, (tt, (tt, (tt, (tt, (tt, (tt, (tt, (tt, (tt, (tt, (tt, (tt, (tt, (tt, (tt, (tt, (tt, (tt, (tt, (tt, (tt, (tt, (tt, (tt, tt))))))))))))))))))))))))))))))),
+          ))
               d39
 
-          d41 : Typed.Typed 𝓤 H A 𝓣 E G40 b35 Δ1 at41
-          d41 = Typed.g-pre 𝓤 H A W 𝓣 E G40 G41 b35 Δ1 (Typed.pass T40 T41 s38) at40 (Scalar.g-room 𝓤 H A W E G40 9 (Syntax.tyEnum (List._∷_ 98 (List._∷_ 101 (List._∷_ 103 (List._∷_ 105 (List._∷_ 110
+          d41 : Typed.Typed 𝓤 H A 𝓣 E G41 b35 Δ1 at41
+          d41 = Typed.g-pre 𝓤 H A W 𝓣 E G41 G42 b35 Δ1 (Typed.pass T41 T42 s39) at40 (Scalar.g-room 𝓤 H A W E G41 10 (Syntax.tyEnum (List._∷_ 98 (List._∷_ 101 (List._∷_ 103 (List._∷_ 105 (List._∷_ 110
               (List._∷_ 58 (List._∷_ 58 (List._∷_ 78 (List._∷_ 101 (List._∷_ 120 (List._∷_ 116 List.[]))))))))))) (Syntax.ttcons (Syntax.tcons (Syntax.tyEnum (List._∷_ 115 (List._∷_ 116 (List._∷_ 114
               (List._∷_ 101 (List._∷_ 97 (List._∷_ 109 (List._∷_ 58 (List._∷_ 58 (List._∷_ 66 (List._∷_ 108 (List._∷_ 111 (List._∷_ 99 (List._∷_ 107 (List._∷_ 76 (List._∷_ 101 (List._∷_ 110 (List._∷_ 103
               (List._∷_ 116 (List._∷_ 104 List.[]))))))))))))))))))) (Syntax.ttcons (Syntax.tcons (Syntax.tyInt Syntax.w64) Syntax.tnil) (Syntax.ttcons (Syntax.tcons (Syntax.tyEnum (List._∷_ 115 (List._∷_
@@ -2736,53 +2854,55 @@ module _ (claims· : Claims) where
               (Syntax.tyInt Syntax.w64) Syntax.tnil) (Syntax.ttcons (Syntax.tcons (Syntax.tyInt Syntax.w64) Syntax.tnil) (Syntax.ttcons Syntax.tnil Syntax.ttnil)))))))))))))))))))))) Syntax.tnil)
               Syntax.ttnil))) Syntax.tnil) (Syntax.ttcons (Syntax.tcons y3 Syntax.tnil) Syntax.ttnil))) Path'.refl)) d40
 
-          d42 : Typed.Typed 𝓤 H A 𝓣 E G39 b36 Δ1 at42
-          d42 = Typed.s-seq 𝓤 H A W 𝓣 E G39 G40 b12 b35 Δ1 (Typed.pass T39 T40 s37) at41 (CopyOut.t-copy-told 𝓤 H A W E 𝓣 (Declared'.row BitPosition.the-type) Path'.refl (Laws'6.val
-              BitPosition.the-type Laws'.the-laws) (Laws'6.lawful BitPosition.the-type Laws'.the-laws 𝓤 H A W) (Laws'6.makes BitPosition.the-type Laws'.the-plain 𝓤 H A) G39 11 (Scalar.oFld 9 (List._∷_
-              (Syntax.variant 1) (List._∷_ (Syntax.field 1) List.[])) y3 8 λ v. Laws'6.val BitPosition.the-type Laws'.the-laws (v .0)) (λ m. m .1 .1 .1 .1 .1 .1 .1 .1 .1 .0 .0) (λ m. Laws'5.Fields
-              (Declared.variants Next.the-type) (Laws'5.spellss (Next.enum .parts) Laws.the-laws) (Next.the-type .to (Known.at Next.enum 1 (m .1 .1 .1 .1 .1 .1 .1 .1 .1 .0)))) (Reads.room-gone 𝓤 H A y3) (
+          d42 : Typed.Typed 𝓤 H A 𝓣 E G40 b36 Δ1 at42
+          d42 = Typed.s-seq 𝓤 H A W 𝓣 E G40 G41 b12 b35 Δ1 (Typed.pass T40 T41 s38) at41 (CopyOut.t-copy-told 𝓤 H A W E 𝓣 (Declared'.row BitPosition.the-type) Path'.refl (Laws'6.val
+              BitPosition.the-type Laws'.the-laws) (Laws'6.lawful BitPosition.the-type Laws'.the-laws 𝓤 H A W) (Laws'6.makes BitPosition.the-type Laws'.the-plain 𝓤 H A) G40 12 (Scalar.oFld 10 (List._∷_
+              (Syntax.variant 1) (List._∷_ (Syntax.field 1) List.[])) y3 8 λ v. Laws'6.val BitPosition.the-type Laws'.the-laws (v .0)) (λ m. m .1 .1 .1 .1 .1 .1 .1 .1 .1 .1 .0 .0) (λ m. Laws'5.Fields
+              (Declared.variants Next.the-type) (Laws'5.spellss (Next.enum .parts) Laws.the-laws) (Next.the-type .to (Known.at Next.enum 1 (m .1 .1 .1 .1 .1 .1 .1 .1 .1 .1 .0)))) (Reads.room-gone 𝓤 H A
+              y3) (
                 Match.reads-payload 𝓤 H A W Next.enum Laws.the-laws 1 Path'.refl Path'.refl (λ v. Val.vcons (Laws'6.val BitPosition.the-type Laws'.the-laws (v .0)) Val.vnil) (λ v. Path'.refl) 0 y3 8
                     Path'.refl,
                 Path'.refl,
-              ) Path'.refl (λ ρ m. Make'.tells-row 𝓤 H A W E ρ (Row.out 11 (G39 .locals)) m 9 (Laws'5.Fields (Declared.variants Next.the-type) (Laws'5.spellss (Next.enum .parts)
-              Laws.the-laws) (Next.the-type .to (Known.at Next.enum 1 (m .1 .1 .1 .1 .1 .1 .1 .1 .1 .0)))) (Known.known-is 𝓤 H A W E Next.enum 1 Laws.the-laws ρ 9 (m .1 .1 .1 .1 .1 .1 .1 .1 .1 .0))) (λ m
-              k wa. Path'.refl) λ m k wa. k .0) d41
+              ) Path'.refl (λ ρ m. Make'.tells-row 𝓤 H A W E ρ (Row.out 12 (G40 .locals)) m 10 (Laws'5.Fields (Declared.variants Next.the-type) (Laws'5.spellss (Next.enum .parts)
+              Laws.the-laws) (Next.the-type .to (Known.at Next.enum 1 (m .1 .1 .1 .1 .1 .1 .1 .1 .1 .1 .0)))) (Known.known-is 𝓤 H A W E Next.enum 1 Laws.the-laws ρ 10 (m .1 .1 .1 .1 .1 .1 .1 .1 .1 .1
+              .0))) (λ m k wa. Path'.refl) λ m k wa. k .0) d41
 
-          d43 : Typed.Typed 𝓤 H A 𝓣 E G38 b36 Δ1 at43
-          d43 = Typed.g-pre 𝓤 H A W 𝓣 E G38 G39 b36 Δ1 (Typed.give s36) at42 (Known.g-known-told 𝓤 H A W E Next.enum 1 G38 9 Laws.the-laws (λ x. x) (Reads.as-is 𝓤 H A (Rows.whole (Known.Known
+          d43 : Typed.Typed 𝓤 H A 𝓣 E G39 b36 Δ1 at43
+          d43 = Typed.g-pre 𝓤 H A W 𝓣 E G39 G40 b36 Δ1 (Typed.give s37) at42 (Known.g-known-told 𝓤 H A W E Next.enum 1 G39 10 Laws.the-laws (λ x. x) (Reads.as-is 𝓤 H A (Rows.whole (Known.Known
               Next.enum 1)))) d42
 
-          d44 : Typed.Typed 𝓤 H A 𝓣 E G30 b36 Δ1 at44
-          d44 = Typed.g-pre 𝓤 H A W 𝓣 E G30 G38 b36 Δ1 (Typed.both s35) at43 (Known.g-enum-known 𝓤 H A W E Next.enum 1 G30 9 (λ x. x) (Reads.as-is 𝓤 H A (Rows.whole (Declared.row Next.the-type)))) d43
+          d44 : Typed.Typed 𝓤 H A 𝓣 E G31 b36 Δ1 at44
+          d44 = Typed.g-pre 𝓤 H A W 𝓣 E G31 G39 b36 Δ1 (Typed.both s36) at43 (Known.g-enum-known 𝓤 H A W E Next.enum 1 G31 10 (λ x. x) (Reads.as-is 𝓤 H A (Rows.whole (Declared.row Next.the-type))))
+              d43
 
-          d45 : Typed.Typed 𝓤 H A 𝓣 E G30 b37 Δ1 at45
-          d45 = Switch.t-switch-on 𝓤 H A W E 𝓣 G30 (Scalar.oFld 9 (List._∷_ (Syntax.variant 0) (List._∷_ (Syntax.field 0) List.[])) (Syntax.tyInt Syntax.w8) 0 λ x. Val.vint Syntax.w8 (Declared.tagOf
-              Next.the-type x)) Syntax.w8 (λ u. Declared.tagOf Next.the-type (u .1 .1 .1 .1 .1 .1 .1 .1 .1 .0)) (Syntax.arm (List._∷_ 0 List.[]) b11 (Syntax.arm (List._∷_ 1 List.[]) b36 Syntax.noDefault))
-              Δ1 (at5, (at44, tt))
+          d45 : Typed.Typed 𝓤 H A 𝓣 E G31 b37 Δ1 at45
+          d45 = Switch.t-switch-on 𝓤 H A W E 𝓣 G31 (Scalar.oFld 10 (List._∷_ (Syntax.variant 0) (List._∷_ (Syntax.field 0) List.[])) (Syntax.tyInt Syntax.w8) 0 λ x. Val.vint Syntax.w8 (Declared.tagOf
+              Next.the-type x)) Syntax.w8 (λ u. Declared.tagOf Next.the-type (u .1 .1 .1 .1 .1 .1 .1 .1 .1 .1 .0)) (Syntax.arm (List._∷_ 0 List.[]) b11 (Syntax.arm (List._∷_ 1 List.[]) b36
+              Syntax.noDefault)) Δ1 (at5, (at44, tt))
               (Match.reads-tag 𝓤 H A W Next.the-type Laws.the-laws (Rows.whole (Declared.row Next.the-type)) 0 (λ x. x) (Whole.reads-enum 𝓤 H A W Next.the-type Laws.the-laws), Path'.refl) (λ u.
               Path'.refl) (d5, (d44, tt))
 
-          d46 : Typed.Typed 𝓤 H A 𝓣 E G29 b37 Δ1 at46
-          d46 = Typed.g-pre 𝓤 H A W 𝓣 E G29 G30 b37 Δ1 (Typed.pass T29 T30 s27) at45 (Scalar.g-room 𝓤 H A W E G29 18 (Syntax.tyInt Syntax.w64) (Scalar.room-sc 𝓤 H A W (Row.sInt Syntax.w64))) d45
+          d46 : Typed.Typed 𝓤 H A 𝓣 E G30 b37 Δ1 at46
+          d46 = Typed.g-pre 𝓤 H A W 𝓣 E G30 G31 b37 Δ1 (Typed.pass T30 T31 s28) at45 (Scalar.g-room 𝓤 H A W E G30 19 (Syntax.tyInt Syntax.w64) (Scalar.room-sc 𝓤 H A W (Row.sInt Syntax.w64))) d45
 
-          d47 : Typed.Typed 𝓤 H A 𝓣 E G27 b37 Δ1 at47
-          d47 = Typed.g-pre 𝓤 H A W 𝓣 E G27 G29 b37 Δ1 (Typed.pass T27 T29 s26) at46 (Scalar.g-room 𝓤 H A W E G27 8 (Syntax.tyEnum (List._∷_ 119 (List._∷_ 114 (List._∷_ 105 (List._∷_ 116 (List._∷_ 105
+          d47 : Typed.Typed 𝓤 H A 𝓣 E G28 b37 Δ1 at47
+          d47 = Typed.g-pre 𝓤 H A W 𝓣 E G28 G30 b37 Δ1 (Typed.pass T28 T30 s27) at46 (Scalar.g-room 𝓤 H A W E G28 9 (Syntax.tyEnum (List._∷_ 119 (List._∷_ 114 (List._∷_ 105 (List._∷_ 116 (List._∷_ 105
               (List._∷_ 110 (List._∷_ 103 (List._∷_ 58 (List._∷_ 58 (List._∷_ 80 (List._∷_ 117 (List._∷_ 116 List.[])))))))))))) (Syntax.ttcons (Syntax.tcons y3 Syntax.tnil) (Syntax.ttcons (Syntax.tcons
               (Syntax.tyInt Syntax.w64) Syntax.tnil) Syntax.ttnil))) (Local.room-whole 𝓤 H A W (Declared.row Put.the-type) (Syntax.tyEnum (List._∷_ 119 (List._∷_ 114 (List._∷_ 105 (List._∷_ 116 (List._∷_
               105 (List._∷_ 110 (List._∷_ 103 (List._∷_ 58 (List._∷_ 58 (List._∷_ 80 (List._∷_ 117 (List._∷_ 116 List.[])))))))))))) (Syntax.ttcons (Syntax.tcons y3 Syntax.tnil) (Syntax.ttcons
               (Syntax.tcons (Syntax.tyInt Syntax.w64) Syntax.tnil) Syntax.ttnil))) Path'.refl)) d46
 
-          d48 : Typed.Typed 𝓤 H A 𝓣 E G81 b39 Δ0 at48
+          d48 : Typed.Typed 𝓤 H A 𝓣 E G82 b39 Δ0 at48
           d48 = Typed.t-return 𝓤 H A W 𝓣 E Δ0 tt
 
-          d49 : Typed.Typed 𝓤 H A 𝓣 E G80 b39 Δ0 at49
-          d49 = Typed.g-pre 𝓤 H A W 𝓣 E G80 G81 b39 Δ0 (Typed.pass T80 T81 s78) at48 (Scalar.g-room 𝓤 H A W E G80 7 (Syntax.tyInt Syntax.w64) (Scalar.room-sc 𝓤 H A W (Row.sInt Syntax.w64))) d48
+          d49 : Typed.Typed 𝓤 H A 𝓣 E G81 b39 Δ0 at49
+          d49 = Typed.g-pre 𝓤 H A W 𝓣 E G81 G82 b39 Δ0 (Typed.pass T81 T82 s79) at48 (Scalar.g-room 𝓤 H A W E G81 8 (Syntax.tyInt Syntax.w64) (Scalar.room-sc 𝓤 H A W (Row.sInt Syntax.w64))) d48
 
-          d50 : Typed.Typed 𝓤 H A 𝓣 E G79 b39 Δ0 at50
-          d50 = Typed.g-pre 𝓤 H A W 𝓣 E G79 G80 b39 Δ0 (Typed.pass T79 T80 s77) at49 (Scalar.g-room 𝓤 H A W E G79 3 Syntax.tyBool (Scalar.room-sc 𝓤 H A W Row.sBool)) d49
+          d50 : Typed.Typed 𝓤 H A 𝓣 E G80 b39 Δ0 at50
+          d50 = Typed.g-pre 𝓤 H A W 𝓣 E G80 G81 b39 Δ0 (Typed.pass T80 T81 s78) at49 (Scalar.g-room 𝓤 H A W E G80 3 Syntax.tyBool (Scalar.room-sc 𝓤 H A W Row.sBool)) d49
 
-          d51 : Typed.Typed 𝓤 H A 𝓣 E G78 b39 Δ0 at51
-          d51 = Typed.g-pre 𝓤 H A W 𝓣 E G78 G79 b39 Δ0 (Typed.pass T78 T79 s76) at50 (Scalar.g-room 𝓤 H A W E G78 19 (Syntax.tyEnum (List._∷_ 115 (List._∷_ 116 (List._∷_ 114 (List._∷_ 101 (List._∷_ 97
+          d51 : Typed.Typed 𝓤 H A 𝓣 E G79 b39 Δ0 at51
+          d51 = Typed.g-pre 𝓤 H A W 𝓣 E G79 G80 b39 Δ0 (Typed.pass T79 T80 s77) at50 (Scalar.g-room 𝓤 H A W E G79 20 (Syntax.tyEnum (List._∷_ 115 (List._∷_ 116 (List._∷_ 114 (List._∷_ 101 (List._∷_ 97
               (List._∷_ 109 (List._∷_ 58 (List._∷_ 58 (List._∷_ 66 (List._∷_ 108 (List._∷_ 111 (List._∷_ 99 (List._∷_ 107 (List._∷_ 76 (List._∷_ 101 (List._∷_ 110 (List._∷_ 103 (List._∷_ 116 (List._∷_ 104
               List.[]))))))))))))))))))) (Syntax.ttcons (Syntax.tcons (Syntax.tyInt Syntax.w64) Syntax.tnil) (Syntax.ttcons (Syntax.tcons (Syntax.tyEnum (List._∷_ 115 (List._∷_ 116 (List._∷_ 114 (List._∷_
               101 (List._∷_ 97 (List._∷_ 109 (List._∷_ 58 (List._∷_ 58 (List._∷_ 82 (List._∷_ 101 (List._∷_ 102 (List._∷_ 117 (List._∷_ 115 (List._∷_ 97 (List._∷_ 108 List.[]))))))))))))))) (Syntax.ttcons
@@ -2802,8 +2922,8 @@ module _ (claims· : Claims) where
               (Syntax.tyInt Syntax.w64) Syntax.tnil) (Syntax.ttcons (Syntax.tcons (Syntax.tyInt Syntax.w64) Syntax.tnil) (Syntax.ttcons (Syntax.tcons (Syntax.tyInt Syntax.w64) Syntax.tnil) (Syntax.ttcons
               Syntax.tnil Syntax.ttnil)))))))))))))))))))))) Syntax.tnil) Syntax.ttnil))) Path'.refl)) d50
 
-          d52 : Typed.Typed 𝓤 H A 𝓣 E G28 b40 Δ0 at52
-          d52 = Typed.s-seq 𝓤 H A W 𝓣 E G28 G78 b38 b39 Δ0 (Typed.pass T28 T78 s75) at51 (LocalCopy.t-val-copy 𝓤 H A W E 𝓣 (λ ρ. Unit) G28 19 0 (Declared.row BlockLength.the-type) (Syntax.tyEnum
+          d52 : Typed.Typed 𝓤 H A 𝓣 E G29 b40 Δ0 at52
+          d52 = Typed.s-seq 𝓤 H A W 𝓣 E G29 G79 b38 b39 Δ0 (Typed.pass T29 T79 s76) at51 (LocalCopy.t-val-copy 𝓤 H A W E 𝓣 (λ ρ. Unit) G29 20 0 (Declared.row BlockLength.the-type) (Syntax.tyEnum
               (List._∷_ 115 (List._∷_ 116 (List._∷_ 114 (List._∷_ 101 (List._∷_ 97 (List._∷_ 109 (List._∷_ 58 (List._∷_ 58 (List._∷_ 66 (List._∷_ 108 (List._∷_ 111 (List._∷_ 99 (List._∷_ 107 (List._∷_ 76
               (List._∷_ 101 (List._∷_ 110 (List._∷_ 103 (List._∷_ 116 (List._∷_ 104 List.[]))))))))))))))))))) (Syntax.ttcons (Syntax.tcons (Syntax.tyInt Syntax.w64) Syntax.tnil) (Syntax.ttcons
               (Syntax.tcons (Syntax.tyEnum (List._∷_ 115 (List._∷_ 116 (List._∷_ 114 (List._∷_ 101 (List._∷_ 97 (List._∷_ 109 (List._∷_ 58 (List._∷_ 58 (List._∷_ 82 (List._∷_ 101 (List._∷_ 102 (List._∷_
@@ -2822,7 +2942,7 @@ module _ (claims· : Claims) where
               (Syntax.tyInt Syntax.w64) Syntax.tnil)) (Syntax.ttcons (Syntax.tcons (Syntax.tyInt Syntax.w64) Syntax.tnil) (Syntax.ttcons Syntax.tnil (Syntax.ttcons Syntax.tnil (Syntax.ttcons (Syntax.tcons
               (Syntax.tyInt Syntax.w64) Syntax.tnil) (Syntax.ttcons (Syntax.tcons (Syntax.tyInt Syntax.w64) Syntax.tnil) (Syntax.ttcons (Syntax.tcons (Syntax.tyInt Syntax.w64) Syntax.tnil) (Syntax.ttcons
               Syntax.tnil Syntax.ttnil)))))))))))))))))))))) Syntax.tnil) Syntax.ttnil))) (Rows.whole (Declared.row BlockLength.the-type)) (Rows.whole (Declared.row BlockLength.the-type)) (λ x. x) (λ x.
-              x) (λ x. x) Path'.refl (Own.told-none 𝓤 H A (G28 .slots)) (Yields.yields-copy 𝓤 H A W (λ ρ. Unit) (Declared.row BlockLength.the-type) Path'.refl (Copies.cEnum BlockLength.the-type
+              x) (λ x. x) Path'.refl (Own.told-none 𝓤 H A (G29 .slots)) (Yields.yields-copy 𝓤 H A W (λ ρ. Unit) (Declared.row BlockLength.the-type) Path'.refl (Copies.cEnum BlockLength.the-type
               Laws'3.the-laws Laws'3.the-copy .copy 𝓤 H A W) (Rows.whole (Declared.row BlockLength.the-type)) (λ x. x) (λ x. x) (λ ρ told. Local.mem-whole 𝓤 H A W (Declared.row BlockLength.the-type) ρ) λ
               ρ told. Local.whole-mem 𝓤 H A W (Declared.row BlockLength.the-type) ρ) (Reads.room-gone 𝓤 H A (Syntax.tyEnum (List._∷_ 115 (List._∷_ 116 (List._∷_ 114 (List._∷_ 101 (List._∷_ 97 (List._∷_
               109 (List._∷_ 58 (List._∷_ 58 (List._∷_ 66 (List._∷_ 108 (List._∷_ 111 (List._∷_ 99 (List._∷_ 107 (List._∷_ 76 (List._∷_ 101 (List._∷_ 110 (List._∷_ 103 (List._∷_ 116 (List._∷_ 104
@@ -2836,12 +2956,12 @@ module _ (claims· : Claims) where
               Syntax.ttnil)))))))))))))))))))))) Syntax.tnil) Syntax.ttnil)))) (Yields.makes-mem 𝓤 H A W (λ ρ. Unit) (Declared.row BlockLength.the-type) Path'.refl (Rows.whole (Declared.row
               BlockLength.the-type)) (λ x. x) λ ρ told. Local.whole-mem 𝓤 H A W (Declared.row BlockLength.the-type) ρ) Path'.refl Path'.refl) d51
 
-          d53 : Typed.Typed 𝓤 H A 𝓣 E G27 b41 Δ0 at53
-          d53 = Typed.t-seq 𝓤 H A W 𝓣 E G27 G28 b37 b40 Δ0 at47 at52 d47 d52
+          d53 : Typed.Typed 𝓤 H A 𝓣 E G28 b41 Δ0 at53
+          d53 = Typed.t-seq 𝓤 H A W 𝓣 E G28 G29 b37 b40 Δ0 at47 at52 d47 d52
 
-          d54 : Typed.Typed 𝓤 H A 𝓣 E G26 b42 Δ0 at54
-          d54 = Typed.s-seq 𝓤 H A W 𝓣 E G26 G27 b8 b41 Δ0 (Typed.both s25) at53 (Plain.t-call-plain 𝓤 H A W 𝓣 0 ps·1 r·1 (claims· .2) (claims· .3) "begin::after_counting" (known .1) E (λ pos β. β) G26
-              (record { pos = 8; st = List.[]; d = 0; at = λ x. x }, (Bool.bAt 3 λ x. x, (Num.vAt 18 λ x. x, tt))) 9 List.[] (Call.sub-id 𝓤 H A W (G26 .slots)) (
+          d54 : Typed.Typed 𝓤 H A 𝓣 E G27 b42 Δ0 at54
+          d54 = Typed.s-seq 𝓤 H A W 𝓣 E G27 G28 b8 b41 Δ0 (Typed.both s26) at53 (Plain.t-call-plain 𝓤 H A W 𝓣 0 ps·1 r·1 (claims· .2) (claims· .3) "begin::after_counting" (known .1) E (λ pos β. β) G27
+              (record { pos = 9; st = List.[]; d = 0; at = λ x. x }, (Bool.bAt 3 λ x. x, (Num.vAt 19 λ x. x, tt))) 10 List.[] (Call.sub-id 𝓤 H A W (G27 .slots)) (
                 (
                   Yields.yields-copy 𝓤 H A W (λ ρ. Unit) (Declared.row Put.the-type) Path'.refl (Copies.cEnum Put.the-type Laws'4.the-laws Laws'4.the-copy .copy 𝓤 H A W) (Rows.whole (Declared.row
                       Put.the-type)) (λ x. x) (λ x. x) (λ ρ told. Local.mem-whole 𝓤 H A W (Declared.row Put.the-type) ρ) λ ρ told. Local.whole-mem 𝓤 H A W (Declared.row Put.the-type) ρ,
@@ -2861,94 +2981,100 @@ module _ (claims· : Claims) where
               (Syntax.tcons (Syntax.tyInt Syntax.w64) Syntax.tnil) (Syntax.ttcons Syntax.tnil Syntax.ttnil)))))))))))))))))))))) Syntax.tnil) Syntax.ttnil))) Syntax.tnil) (Syntax.ttcons (Syntax.tcons y3
               Syntax.tnil) Syntax.ttnil)))) tt Path'.refl) d53
 
-          d55 : Typed.Typed 𝓤 H A 𝓣 E G25 b43 Δ0 at55
-          d55 = Typed.s-seq 𝓤 H A W 𝓣 E G25 G26 b7 b42 Δ0 (Typed.pass T24 T26 s24) at54 (Scalar.t-use 𝓤 H A W E 𝓣 G25 (Scalar.oFld 2 (List._∷_ (Syntax.field 1) List.[]) (Syntax.tyInt Syntax.w64) 8
-              Shared.lenV) 18 (Rows.sc-here (Row.sInt Syntax.w64)) (Syntax.tyInt Syntax.w64) (Row.valS (Row.sInt Syntax.w64)) (Row.sInt Syntax.w64 .of)
+          d55 : Typed.Typed 𝓤 H A 𝓣 E G26 b43 Δ0 at55
+          d55 = Typed.s-seq 𝓤 H A W 𝓣 E G26 G27 b7 b42 Δ0 (Typed.pass T25 T27 s25) at54 (Scalar.t-use 𝓤 H A W E 𝓣 G26 (Scalar.oFld 2 (List._∷_ (Syntax.field 1) List.[]) (Syntax.tyInt Syntax.w64) 8
+              Shared.lenV) 19 (Rows.sc-here (Row.sInt Syntax.w64)) (Syntax.tyInt Syntax.w64) (Row.valS (Row.sInt Syntax.w64)) (Row.sInt Syntax.w64 .of)
               (Mut.reads-mslice-len 𝓤 H A W (Referent.rtF (Referent.fInt Syntax.w8)) (Syntax.tyRef (Syntax.named 1) Syntax.mut (Syntax.tyInt Syntax.w8)) 1 8 Path'.refl, Path'.refl) (Reads.room-gone 𝓤 H A
               (Syntax.tyInt Syntax.w64)) (Scalar.holds-sc 𝓤 H A W (Row.sInt Syntax.w64)) Path'.refl (λ u. Path'.refl) λ u. tt) d54
 
-          d56 : Typed.Typed 𝓤 H A 𝓣 E G24 b43 Δ0 at56
-          d56 = Typed.g-pre 𝓤 H A W 𝓣 E G24 G25 b43 Δ0 (λ Ψ. Ψ) at55 (Lifetime.g-forget 𝓤 H A W E G24 6 Row.dead Path'.refl) d55
+          d56 : Typed.Typed 𝓤 H A 𝓣 E G25 b43 Δ0 at56
+          d56 = Typed.g-pre 𝓤 H A W 𝓣 E G25 G26 b43 Δ0 (λ Ψ. Ψ) at55 (Lifetime.g-forget 𝓤 H A W E G25 7 Row.dead Path'.refl) d55
 
-          d57 : Typed.Typed 𝓤 H A 𝓣 E G23 b43 Δ0 at57
-          d57 = Typed.g-pre 𝓤 H A W 𝓣 E G23 G24 b43 Δ0 (Typed.both s22) at56 (Relend.g-back-sl 𝓤 H A W E (Element.type) G23 17 5 3 6 (Syntax.tyRef (Syntax.named 3) Syntax.mut Element.behind)
+          d57 : Typed.Typed 𝓤 H A 𝓣 E G24 b43 Δ0 at57
+          d57 = Typed.g-pre 𝓤 H A W 𝓣 E G24 G25 b43 Δ0 (Typed.both s23) at56 (Relend.g-back-sl 𝓤 H A W E (Element.type) G24 18 5 3 7 (Syntax.tyRef (Syntax.named 3) Syntax.mut Element.behind)
               (Syntax.tyRef Syntax.erased Syntax.mut Element.behind) (Row.lease (κs .1 .1 .1 .0) (qs .1 .1 .1 .0)) (λ x. x) (λ x. x) (Reads.as-is 𝓤 H A (Mut.msleft (Element.type) (Syntax.tyRef
-              Syntax.erased Syntax.mut Element.behind))) (Reads.as-is 𝓤 H A (Relend.mslice-owed (Element.type) (Syntax.tyRef (Syntax.named 3) Syntax.mut Element.behind) 3 6 (Row.lease (κs .1 .1 .1 .0) (qs
+              Syntax.erased Syntax.mut Element.behind))) (Reads.as-is 𝓤 H A (Relend.mslice-owed (Element.type) (Syntax.tyRef (Syntax.named 3) Syntax.mut Element.behind) 3 7 (Row.lease (κs .1 .1 .1 .0) (qs
               .1 .1 .1 .0)))) Path'.refl Path'.refl) d56
 
-          d58 : Typed.Typed 𝓤 H A 𝓣 E G22 b43 Δ0 at58
-          d58 = Typed.g-pre 𝓤 H A W 𝓣 E G22 G23 b43 Δ0 (λ Ψ. Ψ) at57 (Lifetime.g-end 𝓤 H A W E G22 6 Path'.refl) d57
+          d58 : Typed.Typed 𝓤 H A 𝓣 E G23 b43 Δ0 at58
+          d58 = Typed.g-pre 𝓤 H A W 𝓣 E G23 G24 b43 Δ0 (λ Ψ. Ψ) at57 (Lifetime.g-end 𝓤 H A W E G23 7 Path'.refl) d57
 
-          d59 : Typed.Typed 𝓤 H A 𝓣 E G21 b43 Δ0 at59
-          d59 = Typed.g-pre 𝓤 H A W 𝓣 E G21 G22 b43 Δ0 (λ Ψ. Ψ) at58 (Lifetime.g-forget 𝓤 H A W E G21 5 Row.dead Path'.refl) d58
+          d59 : Typed.Typed 𝓤 H A 𝓣 E G22 b43 Δ0 at59
+          d59 = Typed.g-pre 𝓤 H A W 𝓣 E G22 G23 b43 Δ0 (λ Ψ. Ψ) at58 (Lifetime.g-forget 𝓤 H A W E G22 6 Row.dead Path'.refl) d58
 
-          d60 : Typed.Typed 𝓤 H A 𝓣 E G20 b43 Δ0 at60
-          d60 = Typed.g-pre 𝓤 H A W 𝓣 E G20 G21 b43 Δ0 (Typed.give s19) at59 (Know.g-sl-known 𝓤 H A W (Referent.fInt Syntax.w16) E G20 4 2 (Syntax.tyRef (Syntax.named 2) Syntax.mut (Syntax.tyInt
+          d60 : Typed.Typed 𝓤 H A 𝓣 E G21 b43 Δ0 at60
+          d60 = Typed.g-pre 𝓤 H A W 𝓣 E G21 G22 b43 Δ0 (Typed.give s20) at59 (Know.g-sl-known 𝓤 H A W (Referent.fInt Syntax.w16) E G21 4 2 (Syntax.tyRef (Syntax.named 2) Syntax.mut (Syntax.tyInt
               Syntax.w16)) (Row.lease (κs .1 .1 .0) (qs .1 .1 .0)) 0 (λ x. x) record { fits = Dec'.lit< tt } (Reads.as-is 𝓤 H A (Mut.mslice (Referent.rtF (Referent.fInt Syntax.w16)) (Syntax.tyRef
               (Syntax.named 2) Syntax.mut (Syntax.tyInt Syntax.w16)) 2)) Path'.refl tt) d59
 
-          d61 : Typed.Typed 𝓤 H A 𝓣 E G19 b43 Δ0 at61
-          d61 = Typed.g-pre 𝓤 H A W 𝓣 E G19 G20 b43 Δ0 (Typed.both s18) at60 (Relend.g-back-sl 𝓤 H A W E (Referent.rtF (Referent.fInt Syntax.w16)) G19 15 4 2 5 (Syntax.tyRef (Syntax.named 2)
+          d61 : Typed.Typed 𝓤 H A 𝓣 E G20 b43 Δ0 at61
+          d61 = Typed.g-pre 𝓤 H A W 𝓣 E G20 G21 b43 Δ0 (Typed.both s19) at60 (Relend.g-back-sl 𝓤 H A W E (Referent.rtF (Referent.fInt Syntax.w16)) G20 16 4 2 6 (Syntax.tyRef (Syntax.named 2)
               Syntax.mut (Syntax.tyInt Syntax.w16)) (Syntax.tyRef Syntax.erased Syntax.mut (Syntax.tyInt Syntax.w16)) (Row.lease (κs .1 .1 .0) (qs .1 .1 .0)) (λ x. x) (λ x. x) (Reads.as-is 𝓤 H A
               (Mut.msleft (Referent.rtF (Referent.fInt Syntax.w16)) (Syntax.tyRef Syntax.erased Syntax.mut (Syntax.tyInt Syntax.w16)))) (Reads.as-is 𝓤 H A (Relend.mslice-owed (Referent.rtF (Referent.fInt
-              Syntax.w16)) (Syntax.tyRef (Syntax.named 2) Syntax.mut (Syntax.tyInt Syntax.w16)) 2 5 (Row.lease (κs .1 .1 .0) (qs .1 .1 .0)))) Path'.refl Path'.refl) d60
+              Syntax.w16)) (Syntax.tyRef (Syntax.named 2) Syntax.mut (Syntax.tyInt Syntax.w16)) 2 6 (Row.lease (κs .1 .1 .0) (qs .1 .1 .0)))) Path'.refl Path'.refl) d60
 
-          d62 : Typed.Typed 𝓤 H A 𝓣 E G18 b43 Δ0 at62
-          d62 = Typed.g-pre 𝓤 H A W 𝓣 E G18 G19 b43 Δ0 (λ Ψ. Ψ) at61 (Lifetime.g-end 𝓤 H A W E G18 5 Path'.refl) d61
+          d62 : Typed.Typed 𝓤 H A 𝓣 E G19 b43 Δ0 at62
+          d62 = Typed.g-pre 𝓤 H A W 𝓣 E G19 G20 b43 Δ0 (λ Ψ. Ψ) at61 (Lifetime.g-end 𝓤 H A W E G19 6 Path'.refl) d61
 
-          d63 : Typed.Typed 𝓤 H A 𝓣 E G17 b43 Δ0 at63
-          d63 = Typed.g-pre 𝓤 H A W 𝓣 E G17 G18 b43 Δ0 (λ Ψ. Ψ) at62 (Lifetime.g-forget 𝓤 H A W E G17 4 Row.dead Path'.refl) d62
+          d63 : Typed.Typed 𝓤 H A 𝓣 E G18 b43 Δ0 at63
+          d63 = Typed.g-pre 𝓤 H A W 𝓣 E G18 G19 b43 Δ0 (λ Ψ. Ψ) at62 (Lifetime.g-forget 𝓤 H A W E G18 5 Row.dead Path'.refl) d62
 
-          d64 : Typed.Typed 𝓤 H A 𝓣 E G16 b43 Δ0 at64
-          d64 = Typed.g-pre 𝓤 H A W 𝓣 E G16 G17 b43 Δ0 (Typed.give s15) at63 (Know.g-sl-known 𝓤 H A W (Referent.fInt Syntax.w8) E G16 2 1 (Syntax.tyRef (Syntax.named 1) Syntax.mut (Syntax.tyInt
+          d64 : Typed.Typed 𝓤 H A 𝓣 E G17 b43 Δ0 at64
+          d64 = Typed.g-pre 𝓤 H A W 𝓣 E G17 G18 b43 Δ0 (Typed.give s16) at63 (Know.g-sl-known 𝓤 H A W (Referent.fInt Syntax.w8) E G17 2 1 (Syntax.tyRef (Syntax.named 1) Syntax.mut (Syntax.tyInt
               Syntax.w8)) (Row.lease (κs .1 .0) (qs .1 .0)) 0 (λ x. x) record { fits = Dec'.lit< tt } (Reads.as-is 𝓤 H A (Mut.mslice (Referent.rtF (Referent.fInt Syntax.w8)) (Syntax.tyRef (Syntax.named 1)
               Syntax.mut (Syntax.tyInt Syntax.w8)) 1)) Path'.refl tt) d63
 
-          d65 : Typed.Typed 𝓤 H A 𝓣 E G15 b43 Δ0 at65
-          d65 = Typed.g-pre 𝓤 H A W 𝓣 E G15 G16 b43 Δ0 (Typed.both s14) at64 (Relend.g-back-sl 𝓤 H A W E (Referent.rtF (Referent.fInt Syntax.w8)) G15 13 2 1 4 (Syntax.tyRef (Syntax.named 1) Syntax.mut
+          d65 : Typed.Typed 𝓤 H A 𝓣 E G16 b43 Δ0 at65
+          d65 = Typed.g-pre 𝓤 H A W 𝓣 E G16 G17 b43 Δ0 (Typed.both s15) at64 (Relend.g-back-sl 𝓤 H A W E (Referent.rtF (Referent.fInt Syntax.w8)) G16 14 2 1 5 (Syntax.tyRef (Syntax.named 1) Syntax.mut
               (Syntax.tyInt Syntax.w8)) (Syntax.tyRef Syntax.erased Syntax.mut (Syntax.tyInt Syntax.w8)) (Row.lease (κs .1 .0) (qs .1 .0)) (λ x. x) (λ x. x) (Reads.as-is 𝓤 H A (Mut.msleft (Referent.rtF
               (Referent.fInt Syntax.w8)) (Syntax.tyRef Syntax.erased Syntax.mut (Syntax.tyInt Syntax.w8)))) (Reads.as-is 𝓤 H A (Relend.mslice-owed (Referent.rtF (Referent.fInt Syntax.w8)) (Syntax.tyRef
-              (Syntax.named 1) Syntax.mut (Syntax.tyInt Syntax.w8)) 1 4 (Row.lease (κs .1 .0) (qs .1 .0)))) Path'.refl Path'.refl) d64
+              (Syntax.named 1) Syntax.mut (Syntax.tyInt Syntax.w8)) 1 5 (Row.lease (κs .1 .0) (qs .1 .0)))) Path'.refl Path'.refl) d64
 
-          d66 : Typed.Typed 𝓤 H A 𝓣 E G14 b43 Δ0 at66
-          d66 = Typed.g-pre 𝓤 H A W 𝓣 E G14 G15 b43 Δ0 (λ Ψ. Ψ) at65 (Lifetime.g-end 𝓤 H A W E G14 4 Path'.refl) d65
+          d66 : Typed.Typed 𝓤 H A 𝓣 E G15 b43 Δ0 at66
+          d66 = Typed.g-pre 𝓤 H A W 𝓣 E G15 G16 b43 Δ0 (λ Ψ. Ψ) at65 (Lifetime.g-end 𝓤 H A W E G15 5 Path'.refl) d65
 
-          d67 : Typed.Typed 𝓤 H A 𝓣 E G13 b44 Δ0 at67
-          d67 = Typed.s-seq 𝓤 H A W 𝓣 E G13 G14 b6 b43 Δ0 (Typed.both s12) at66 (Plain.t-call-plain 𝓤 H A W 𝓣 4 ps·0 r·0 (claims· .0) (claims· .1) "block::writer::write_walk" (known .0) E (λ pos β. β)
-              G13 (
+          d67 : Typed.Typed 𝓤 H A 𝓣 E G14 b44 Δ0 at67
+          d67 = Typed.s-seq 𝓤 H A W 𝓣 E G14 G15 b6 b43 Δ0 (Typed.both s13) at66 (Plain.t-call-plain 𝓤 H A W 𝓣 5 ps·0 r·0 (claims· .0) (claims· .1) "block::writer::write_walk" (known .0) E (λ pos β. β)
+              G14 (
                 record { pos = 1; ty = Syntax.tyRef (Syntax.named 0) Syntax.imm (Syntax.tyInt Syntax.w16); ref = λ x. x },
                 (
-                  record { pos = 13; ty = Syntax.tyRef Syntax.erased Syntax.mut (Syntax.tyInt Syntax.w8); ref = λ x. x },
+                  record { pos = 14; ty = Syntax.tyRef Syntax.erased Syntax.mut (Syntax.tyInt Syntax.w8); ref = λ x. x },
                   (
                     Bool.bLit Bool'.false,
                     (
-                      record { pos = 15; ty = Syntax.tyRef Syntax.erased Syntax.mut (Syntax.tyInt Syntax.w16); ref = λ x. x },
-                      (record { pos = 17; ty = Syntax.tyRef Syntax.erased Syntax.mut Element.behind; ref = λ x. x }, (record { pos = 6; st = List.[]; d = 0; at = λ x. x }, (Num.vAt 7 λ x. x, tt))),
+                      record { pos = 16; ty = Syntax.tyRef Syntax.erased Syntax.mut (Syntax.tyInt Syntax.w16); ref = λ x. x },
+                      (
+                        record { pos = 18; ty = Syntax.tyRef Syntax.erased Syntax.mut Element.behind; ref = λ x. x },
+                        (
+                          record { pos = 6; st = List.[]; d = 0; at = λ x. x },
+                          (record { pos = 7; ty = Syntax.tyRef (Syntax.named 4) Syntax.imm (Syntax.tyInt Syntax.w8); ref = λ x. x }, (Num.vAt 8 λ x. x, tt)),
+                        ),
+                      ),
                     ),
                   ),
                 ),
-              ) 8
-              (List._∷_ 0 (List._∷_ 4 (List._∷_ 5 (List._∷_ 6 List.[])))) (Call.sub-id 𝓤 H A W (G13 .slots)) (
+              ) 9 (List._∷_ 0 (List._∷_ 5 (List._∷_ 6 (List._∷_ 7
+              (List._∷_ 4 List.[]))))) (Call.sub-id 𝓤 H A W (G14 .slots)) (
                 ShrSlice.spares-sslice 𝓤 H A W (Referent.rtF (Referent.fInt Syntax.w16)) (Syntax.tyRef (Syntax.named 0) Syntax.imm (Syntax.tyInt Syntax.w16)) 0,
                 Shared.reads-sslice 𝓤 H A W (Referent.rtF
                     (Referent.fInt Syntax.w16)) (Syntax.tyRef (Syntax.named 0) Syntax.imm (Syntax.tyInt Syntax.w16)) 0,
                 Path'.refl,
                 (
-                  Reads.as-is 𝓤 H A (Mut.mslice (Referent.rtF (Referent.fInt Syntax.w8)) (Syntax.tyRef Syntax.erased Syntax.mut (Syntax.tyInt Syntax.w8)) 4),
+                  Reads.as-is 𝓤 H A (Mut.mslice (Referent.rtF (Referent.fInt Syntax.w8)) (Syntax.tyRef Syntax.erased Syntax.mut (Syntax.tyInt Syntax.w8)) 5),
                   Mut.reads-mslice 𝓤 H A W (Referent.rtF
-                      (Referent.fInt Syntax.w8)) (Syntax.tyRef Syntax.erased Syntax.mut (Syntax.tyInt Syntax.w8)) 4,
+                      (Referent.fInt Syntax.w8)) (Syntax.tyRef Syntax.erased Syntax.mut (Syntax.tyInt Syntax.w8)) 5,
                   Path'.refl,
                   (
                     tt,
                     (
-                      Reads.as-is 𝓤 H A (Mut.mslice (Referent.rtF (Referent.fInt Syntax.w16)) (Syntax.tyRef Syntax.erased Syntax.mut (Syntax.tyInt Syntax.w16)) 5),
+                      Reads.as-is 𝓤 H A (Mut.mslice (Referent.rtF (Referent.fInt Syntax.w16)) (Syntax.tyRef Syntax.erased Syntax.mut (Syntax.tyInt Syntax.w16)) 6),
                       Mut.reads-mslice 𝓤 H A W (Referent.rtF
-                          (Referent.fInt Syntax.w16)) (Syntax.tyRef Syntax.erased Syntax.mut (Syntax.tyInt Syntax.w16)) 5,
+                          (Referent.fInt Syntax.w16)) (Syntax.tyRef Syntax.erased Syntax.mut (Syntax.tyInt Syntax.w16)) 6,
                       Path'.refl,
                       (
-                        Reads.as-is 𝓤 H A (Mut.mslice (Element.type) (Syntax.tyRef Syntax.erased Syntax.mut Element.behind) 6),
+                        Reads.as-is 𝓤 H A (Mut.mslice (Element.type) (Syntax.tyRef Syntax.erased Syntax.mut Element.behind) 7),
                         Mut.reads-mslice 𝓤 H A W (Element.type) (Syntax.tyRef Syntax.erased Syntax.mut
-                            Element.behind) 6,
+                            Element.behind) 7,
                         Path'.refl,
                         (
                           (
@@ -2956,110 +3082,129 @@ module _ (claims· : Claims) where
                                 Form.the-type)) (λ x. x) (λ x. x) (λ ρ told. Local.mem-whole 𝓤 H A W (Declared'.row Form.the-type) ρ) λ ρ told. Local.whole-mem 𝓤 H A W (Declared'.row Form.the-type) ρ,
                             Path'.refl,
                           ),
-                          ((Scalar.reads-sc 𝓤 H A W (Row.sInt Syntax.w64), Path'.refl), tt),
+                          (
+                            ShrSlice.spares-sslice 𝓤 H A W (Referent.rtF (Referent.fInt Syntax.w8)) (Syntax.tyRef (Syntax.named 4) Syntax.imm (Syntax.tyInt Syntax.w8)) 4,
+                            Shared.reads-sslice 𝓤 H A W (Referent.rtF
+                                (Referent.fInt Syntax.w8)) (Syntax.tyRef (Syntax.named 4) Syntax.imm (Syntax.tyInt Syntax.w8)) 4,
+                            Path'.refl,
+                            ((Scalar.reads-sc 𝓤 H A W (Row.sInt Syntax.w64), Path'.refl), tt),
+                          ),
                         ),
                       ),
                     ),
                   ),
                 ),
-              ) (Reads.room-gone 𝓤 H A (Syntax.tyEnum (List._∷_ 119 (List._∷_ 114 (List._∷_ 105 (List._∷_ 116 (List._∷_ 105 (List._∷_
-              110 (List._∷_ 103 (List._∷_ 58 (List._∷_ 58 (List._∷_ 80 (List._∷_ 117 (List._∷_ 116 List.[])))))))))))) (Syntax.ttcons (Syntax.tcons y3 Syntax.tnil) (Syntax.ttcons (Syntax.tcons
-              (Syntax.tyInt Syntax.w64) Syntax.tnil) Syntax.ttnil)))) (tt, (tt, (tt, (tt, tt)))) Path'.refl) d66
+              )
+              (Reads.room-gone 𝓤 H A (Syntax.tyEnum (List._∷_ 119 (List._∷_ 114 (List._∷_ 105 (List._∷_ 116 (List._∷_ 105 (List._∷_ 110 (List._∷_ 103 (List._∷_ 58 (List._∷_ 58 (List._∷_ 80 (List._∷_ 117
+              (List._∷_ 116 List.[])))))))))))) (Syntax.ttcons (Syntax.tcons y3 Syntax.tnil) (Syntax.ttcons (Syntax.tcons (Syntax.tyInt Syntax.w64) Syntax.tnil) Syntax.ttnil))))
+              (tt, (tt, (tt, (tt, (tt, tt))))) Path'.refl) d66
 
-          d68 : Typed.Typed 𝓤 H A 𝓣 E G12 b45 Δ0 at68
-          d68 = Typed.s-seq 𝓤 H A W 𝓣 E G12 G13 b5 b44 Δ0 (Typed.ask s11) at67 (Relend.t-sl-aggregate 𝓤 H A W E (Element.type) 𝓣 (Relend.asMut (Element.type)) G12 16 17 6 (Syntax.tyRef Syntax.erased
+          d68 : Typed.Typed 𝓤 H A 𝓣 E G13 b45 Δ0 at68
+          d68 = Typed.s-seq 𝓤 H A W 𝓣 E G13 G14 b5 b44 Δ0 (Typed.ask s12) at67 (Relend.t-sl-aggregate 𝓤 H A W E (Element.type) 𝓣 (Relend.asMut (Element.type)) G13 17 18 7 (Syntax.tyRef Syntax.erased
               Syntax.mut Element.behind) (Syntax.tyRef Syntax.erased Syntax.mut Element.behind) (λ x. x) (Scalar.oFld 5 (List._∷_ (Syntax.field 1) List.[]) (Syntax.tyInt Syntax.w64) 8 λ v. Shared.lenV (v
-              .0)) (Reads.as-is 𝓤 H A (Relend.msptr (Element.type) (Syntax.tyRef Syntax.erased Syntax.mut Element.behind) 6)) (Reads.room-gone 𝓤 H A y2)
-              (Relend.reads-owed-len 𝓤 H A W (Element.type) (Syntax.tyRef (Syntax.named 3) Syntax.mut Element.behind) 3 6 (Row.lease (κs .1 .1 .1 .0) (qs .1 .1 .1 .0)) 8 Path'.refl, Path'.refl) Path'.refl
+              .0)) (Reads.as-is 𝓤 H A (Relend.msptr (Element.type) (Syntax.tyRef Syntax.erased Syntax.mut Element.behind) 7)) (Reads.room-gone 𝓤 H A y2)
+              (Relend.reads-owed-len 𝓤 H A W (Element.type) (Syntax.tyRef (Syntax.named 3) Syntax.mut Element.behind) 3 7 (Row.lease (κs .1 .1 .1 .0) (qs .1 .1 .1 .0)) 8 Path'.refl, Path'.refl) Path'.refl
               Path'.refl λ b o k. tt) d67
 
-          d69 : Typed.Typed 𝓤 H A 𝓣 E G11 b46 Δ0 at69
-          d69 = Typed.s-seq 𝓤 H A W 𝓣 E G11 G12 b4 b45 Δ0 (Typed.give s10) at68 (Relend.t-sl-relend 𝓤 H A W E (Element.type) 𝓣 G11 5 16 3 6 (Syntax.tyRef (Syntax.named 3) Syntax.mut Element.behind)
+          d69 : Typed.Typed 𝓤 H A 𝓣 E G12 b46 Δ0 at69
+          d69 = Typed.s-seq 𝓤 H A W 𝓣 E G12 G13 b4 b45 Δ0 (Typed.give s11) at68 (Relend.t-sl-relend 𝓤 H A W E (Element.type) 𝓣 G12 5 17 3 7 (Syntax.tyRef (Syntax.named 3) Syntax.mut Element.behind)
               (Syntax.tyRef Syntax.erased Syntax.mut Element.behind) (Row.lease (κs .1 .1 .1 .0) (qs .1 .1 .1 .0)) 0 (λ x. x) (Reads.as-is 𝓤 H A (Mut.mslice (Element.type) (Syntax.tyRef (Syntax.named 3)
               Syntax.mut Element.behind) 3)) (Reads.room-gone 𝓤 H A (Syntax.tyRef Syntax.erased Syntax.mut Element.behind)) Path'.refl tt Path'.refl Path'.refl Path'.refl λ b o. tt) d68
 
-          d70 : Typed.Typed 𝓤 H A 𝓣 E G10 b46 Δ0 at70
-          d70 = Typed.g-pre 𝓤 H A W 𝓣 E G10 G11 b46 Δ0 (λ Ψ. Ψ) at69 (Lifetime.g-begin 𝓤 H A W E G10 6 (
+          d70 : Typed.Typed 𝓤 H A 𝓣 E G11 b46 Δ0 at70
+          d70 = Typed.g-pre 𝓤 H A W 𝓣 E G11 G12 b46 Δ0 (λ Ψ. Ψ) at69 (Lifetime.g-begin 𝓤 H A W E G11 7 (
             tt,
             (
               tt,
               (
                 (tt, tt),
-                (tt, ((tt, tt), (tt, (tt, (tt, (tt, (tt, (tt, (tt, (tt, (tt, (tt, (tt, (tt, (tt, (tt, (tt, (tt, (tt, (tt, (tt, (tt, (tt, (tt, (tt, (tt, (tt, (tt, tt)))))))))))))))))))))))))))),
+                (tt, ((tt, tt), (tt, (tt, (tt, (tt, (tt, (tt, (tt, (tt, (tt, (tt, (tt, (tt, (tt, (tt, (tt, (tt, (tt, (tt, (tt, (tt, (tt, (tt, (tt, (tt, (tt, (tt, (tt, tt))))))))))))))))))))))))))))),
               ),
             ),
           )) d69
 
-          d71 : Typed.Typed 𝓤 H A 𝓣 E G9 b47 Δ0 at71
-          d71 = Typed.s-seq 𝓤 H A W 𝓣 E G9 G10 b3 b46 Δ0 (Typed.ask s8) at70 (Relend.t-sl-aggregate 𝓤 H A W E (Referent.rtF (Referent.fInt Syntax.w16)) 𝓣 (Relend.asMut (Referent.rtF (Referent.fInt
-              Syntax.w16))) G9 14 15 5 (Syntax.tyRef Syntax.erased Syntax.mut (Syntax.tyInt Syntax.w16)) (Syntax.tyRef Syntax.erased Syntax.mut (Syntax.tyInt Syntax.w16)) (λ x. x) (Scalar.oFld 4 (List._∷_
-              (Syntax.field 1) List.[]) (Syntax.tyInt Syntax.w64) 8 λ v. Shared.lenV (v .0)) (Reads.as-is 𝓤 H A (Relend.msptr (Referent.rtF (Referent.fInt Syntax.w16)) (Syntax.tyRef Syntax.erased
-              Syntax.mut (Syntax.tyInt Syntax.w16)) 5)) (Reads.room-gone 𝓤 H A y0) (
-                Relend.reads-owed-len 𝓤 H A W (Referent.rtF (Referent.fInt Syntax.w16)) (Syntax.tyRef (Syntax.named 2) Syntax.mut (Syntax.tyInt Syntax.w16)) 2 5 (Row.lease (κs .1 .1 .0) (qs .1 .1 .0)) 8
+          d71 : Typed.Typed 𝓤 H A 𝓣 E G10 b47 Δ0 at71
+          d71 = Typed.s-seq 𝓤 H A W 𝓣 E G10 G11 b3 b46 Δ0 (Typed.ask s9) at70 (Relend.t-sl-aggregate 𝓤 H A W E (Referent.rtF (Referent.fInt Syntax.w16)) 𝓣 (Relend.asMut (Referent.rtF (Referent.fInt
+              Syntax.w16))) G10 15 16 6 (Syntax.tyRef Syntax.erased Syntax.mut (Syntax.tyInt Syntax.w16)) (Syntax.tyRef Syntax.erased Syntax.mut (Syntax.tyInt Syntax.w16)) (λ x. x) (Scalar.oFld 4
+              (List._∷_ (Syntax.field 1) List.[]) (Syntax.tyInt Syntax.w64) 8 λ v. Shared.lenV (v .0)) (Reads.as-is 𝓤 H A (Relend.msptr (Referent.rtF (Referent.fInt Syntax.w16)) (Syntax.tyRef
+              Syntax.erased Syntax.mut (Syntax.tyInt Syntax.w16)) 6)) (Reads.room-gone 𝓤 H A y0) (
+                Relend.reads-owed-len 𝓤 H A W (Referent.rtF (Referent.fInt Syntax.w16)) (Syntax.tyRef (Syntax.named 2) Syntax.mut (Syntax.tyInt Syntax.w16)) 2 6 (Row.lease (κs .1 .1 .0) (qs .1 .1 .0)) 8
                     Path'.refl,
                 Path'.refl,
               ) Path'.refl Path'.refl λ b o k. tt) d70
 
-          d72 : Typed.Typed 𝓤 H A 𝓣 E G8 b48 Δ0 at72
-          d72 = Typed.s-seq 𝓤 H A W 𝓣 E G8 G9 b2 b47 Δ0 (Typed.give s7) at71 (Relend.t-sl-relend 𝓤 H A W E (Referent.rtF (Referent.fInt Syntax.w16)) 𝓣 G8 4 14 2 5 (Syntax.tyRef (Syntax.named 2)
+          d72 : Typed.Typed 𝓤 H A 𝓣 E G9 b48 Δ0 at72
+          d72 = Typed.s-seq 𝓤 H A W 𝓣 E G9 G10 b2 b47 Δ0 (Typed.give s8) at71 (Relend.t-sl-relend 𝓤 H A W E (Referent.rtF (Referent.fInt Syntax.w16)) 𝓣 G9 4 15 2 6 (Syntax.tyRef (Syntax.named 2)
               Syntax.mut (Syntax.tyInt Syntax.w16)) (Syntax.tyRef Syntax.erased Syntax.mut (Syntax.tyInt Syntax.w16)) (Row.lease (κs .1 .1 .0) (qs .1 .1 .0)) 0 (λ x. x) (Reads.as-is 𝓤 H A (Mut.mslice
               (Referent.rtF (Referent.fInt Syntax.w16)) (Syntax.tyRef (Syntax.named 2) Syntax.mut (Syntax.tyInt Syntax.w16)) 2)) (Reads.room-gone 𝓤 H A (Syntax.tyRef Syntax.erased Syntax.mut (Syntax.tyInt
               Syntax.w16))) Path'.refl tt Path'.refl Path'.refl Path'.refl λ b o. tt) d71
 
-          d73 : Typed.Typed 𝓤 H A 𝓣 E G7 b48 Δ0 at73
-          d73 = Typed.g-pre 𝓤 H A W 𝓣 E G7 G8 b48 Δ0 (λ Ψ. Ψ) at72 (Lifetime.g-begin 𝓤 H A W E G7 5 (
+          d73 : Typed.Typed 𝓤 H A 𝓣 E G8 b48 Δ0 at73
+          d73 = Typed.g-pre 𝓤 H A W 𝓣 E G8 G9 b48 Δ0 (λ Ψ. Ψ) at72 (Lifetime.g-begin 𝓤 H A W E G8 6 (
             tt,
-            (tt, ((tt, tt), (tt, (tt, (tt, (tt, (tt, (tt, (tt, (tt, (tt, (tt, (tt, (tt, (tt, (tt, (tt, (tt, (tt, (tt, (tt, (tt, (tt, (tt, (tt, (tt, (tt, (tt, (tt, (tt, tt)))))))))))))))))))))))))))))),
-          ))
-              d72
+            (
+              tt,
+              (
+                (tt, tt),
+                (tt, (tt, (tt, (tt, (tt, (tt, (tt, (tt, (tt, (tt, (tt, (tt, (tt, (tt, (tt, (tt, (tt, (tt, (tt, (tt, (tt, (tt, (tt, (tt, (tt, (tt, (tt, (tt, (tt, tt))))))))))))))))))))))))))))),
+              ),
+            ),
+          )) d72
 
-          d74 : Typed.Typed 𝓤 H A 𝓣 E G6 b49 Δ0 at74
-          d74 = Typed.s-seq 𝓤 H A W 𝓣 E G6 G7 b1 b48 Δ0 (Typed.ask s5) at73 (Relend.t-sl-aggregate 𝓤 H A W E (Referent.rtF (Referent.fInt Syntax.w8)) 𝓣 (Relend.asMut (Referent.rtF (Referent.fInt
-              Syntax.w8))) G6 12 13 4 (Syntax.tyRef Syntax.erased Syntax.mut (Syntax.tyInt Syntax.w8)) (Syntax.tyRef Syntax.erased Syntax.mut (Syntax.tyInt Syntax.w8)) (λ x. x) (Scalar.oFld 2 (List._∷_
+          d74 : Typed.Typed 𝓤 H A 𝓣 E G7 b49 Δ0 at74
+          d74 = Typed.s-seq 𝓤 H A W 𝓣 E G7 G8 b1 b48 Δ0 (Typed.ask s6) at73 (Relend.t-sl-aggregate 𝓤 H A W E (Referent.rtF (Referent.fInt Syntax.w8)) 𝓣 (Relend.asMut (Referent.rtF (Referent.fInt
+              Syntax.w8))) G7 13 14 5 (Syntax.tyRef Syntax.erased Syntax.mut (Syntax.tyInt Syntax.w8)) (Syntax.tyRef Syntax.erased Syntax.mut (Syntax.tyInt Syntax.w8)) (λ x. x) (Scalar.oFld 2 (List._∷_
               (Syntax.field 1) List.[]) (Syntax.tyInt Syntax.w64) 8 λ v. Shared.lenV (v .0)) (Reads.as-is 𝓤 H A (Relend.msptr (Referent.rtF (Referent.fInt Syntax.w8)) (Syntax.tyRef Syntax.erased
-              Syntax.mut (Syntax.tyInt Syntax.w8)) 4)) (Reads.room-gone 𝓤 H A y1) (
-                Relend.reads-owed-len 𝓤 H A W (Referent.rtF (Referent.fInt Syntax.w8)) (Syntax.tyRef (Syntax.named 1) Syntax.mut (Syntax.tyInt Syntax.w8)) 1 4 (Row.lease (κs .1 .0) (qs .1 .0)) 8
+              Syntax.mut (Syntax.tyInt Syntax.w8)) 5)) (Reads.room-gone 𝓤 H A y1) (
+                Relend.reads-owed-len 𝓤 H A W (Referent.rtF (Referent.fInt Syntax.w8)) (Syntax.tyRef (Syntax.named 1) Syntax.mut (Syntax.tyInt Syntax.w8)) 1 5 (Row.lease (κs .1 .0) (qs .1 .0)) 8
                     Path'.refl,
                 Path'.refl,
               ) Path'.refl Path'.refl λ b o k. tt) d73
 
-          d75 : Typed.Typed 𝓤 H A 𝓣 E G5 b50 Δ0 at75
-          d75 = Typed.s-seq 𝓤 H A W 𝓣 E G5 G6 b0 b49 Δ0 (Typed.give s4) at74 (Relend.t-sl-relend 𝓤 H A W E (Referent.rtF (Referent.fInt Syntax.w8)) 𝓣 G5 2 12 1 4 (Syntax.tyRef (Syntax.named 1)
+          d75 : Typed.Typed 𝓤 H A 𝓣 E G6 b50 Δ0 at75
+          d75 = Typed.s-seq 𝓤 H A W 𝓣 E G6 G7 b0 b49 Δ0 (Typed.give s5) at74 (Relend.t-sl-relend 𝓤 H A W E (Referent.rtF (Referent.fInt Syntax.w8)) 𝓣 G6 2 13 1 5 (Syntax.tyRef (Syntax.named 1)
               Syntax.mut (Syntax.tyInt Syntax.w8)) (Syntax.tyRef Syntax.erased Syntax.mut (Syntax.tyInt Syntax.w8)) (Row.lease (κs .1 .0) (qs .1 .0)) 0 (λ x. x) (Reads.as-is 𝓤 H A (Mut.mslice
               (Referent.rtF (Referent.fInt Syntax.w8)) (Syntax.tyRef (Syntax.named 1) Syntax.mut (Syntax.tyInt Syntax.w8)) 1)) (Reads.room-gone 𝓤 H A (Syntax.tyRef Syntax.erased Syntax.mut (Syntax.tyInt
               Syntax.w8))) Path'.refl tt Path'.refl Path'.refl Path'.refl λ b o. tt) d74
 
-          d76 : Typed.Typed 𝓤 H A 𝓣 E G4 b50 Δ0 at76
-          d76 = Typed.g-pre 𝓤 H A W 𝓣 E G4 G5 b50 Δ0 (λ Ψ. Ψ) at75 (Lifetime.g-begin 𝓤 H A W E G4 4
-              (tt, (tt, (tt, (tt, (tt, (tt, (tt, (tt, (tt, (tt, (tt, (tt, (tt, (tt, (tt, (tt, (tt, (tt, (tt, (tt, (tt, (tt, (tt, (tt, (tt, (tt, (tt, (tt, (tt, (tt, (tt, tt))))))))))))))))))))))))))))))))
+          d76 : Typed.Typed 𝓤 H A 𝓣 E G5 b50 Δ0 at76
+          d76 = Typed.g-pre 𝓤 H A W 𝓣 E G5 G6 b50 Δ0 (λ Ψ. Ψ) at75 (Lifetime.g-begin 𝓤 H A W E G5 5 (
+            tt,
+            (tt, (tt, (tt, (tt, (tt, (tt, (tt, (tt, (tt, (tt, (tt, (tt, (tt, (tt, (tt, (tt, (tt, (tt, (tt, (tt, (tt, (tt, (tt, (tt, (tt, (tt, (tt, (tt, (tt, (tt, (tt, tt))))))))))))))))))))))))))))))),
+          ))
               d75
 
-          d77 : Typed.Typed 𝓤 H A 𝓣 E G3 b50 Δ0 at77
-          d77 = Typed.g-pre 𝓤 H A W 𝓣 E G3 G4 b50 Δ0 (Typed.give s2) at76 (Know.g-sl-known 𝓤 H A W (Referent.fInt Syntax.w16) E G3 4 2 (Syntax.tyRef (Syntax.named 2) Syntax.mut (Syntax.tyInt
+          d77 : Typed.Typed 𝓤 H A 𝓣 E G4 b50 Δ0 at77
+          d77 = Typed.g-pre 𝓤 H A W 𝓣 E G4 G5 b50 Δ0 (Typed.give s3) at76 (Know.g-shs-known 𝓤 H A W (Referent.fInt Syntax.w8) E G4 7 4 (Syntax.tyRef (Syntax.named 4) Syntax.imm (Syntax.tyInt
+              Syntax.w8)) (Row.lease (κs .1 .1 .1 .1 .0) (qs .1 .1 .1 .1 .0)) 0 (λ x. x) record { fits = Dec'.lit< tt } (Reads.as-is 𝓤 H A (Rows.sslice (Referent.rtF (Referent.fInt Syntax.w8))
+              (Syntax.tyRef (Syntax.named 4) Syntax.imm (Syntax.tyInt Syntax.w8)) 4)) Path'.refl tt) d76
+
+          d78 : Typed.Typed 𝓤 H A 𝓣 E G3 b50 Δ0 at78
+          d78 = Typed.g-pre 𝓤 H A W 𝓣 E G3 G4 b50 Δ0 (Typed.give s2) at77 (Know.g-sl-known 𝓤 H A W (Referent.fInt Syntax.w16) E G3 4 2 (Syntax.tyRef (Syntax.named 2) Syntax.mut (Syntax.tyInt
               Syntax.w16)) (Row.lease (κs .1 .1 .0) (qs .1 .1 .0)) 0 (λ x. x) record { fits = Dec'.lit< tt } (Reads.as-is 𝓤 H A (Mut.mslice (Referent.rtF (Referent.fInt Syntax.w16)) (Syntax.tyRef
-              (Syntax.named 2) Syntax.mut (Syntax.tyInt Syntax.w16)) 2)) Path'.refl tt) d76
+              (Syntax.named 2) Syntax.mut (Syntax.tyInt Syntax.w16)) 2)) Path'.refl tt) d77
 
-          d78 : Typed.Typed 𝓤 H A 𝓣 E G2 b50 Δ0 at78
-          d78 = Typed.g-pre 𝓤 H A W 𝓣 E G2 G3 b50 Δ0 (Typed.give s1) at77 (Know.g-sl-known 𝓤 H A W (Referent.fInt Syntax.w8) E G2 2 1 (Syntax.tyRef (Syntax.named 1) Syntax.mut (Syntax.tyInt
+          d79 : Typed.Typed 𝓤 H A 𝓣 E G2 b50 Δ0 at79
+          d79 = Typed.g-pre 𝓤 H A W 𝓣 E G2 G3 b50 Δ0 (Typed.give s1) at78 (Know.g-sl-known 𝓤 H A W (Referent.fInt Syntax.w8) E G2 2 1 (Syntax.tyRef (Syntax.named 1) Syntax.mut (Syntax.tyInt
               Syntax.w8)) (Row.lease (κs .1 .0) (qs .1 .0)) 0 (λ x. x) record { fits = Dec'.lit< tt } (Reads.as-is 𝓤 H A (Mut.mslice (Referent.rtF (Referent.fInt Syntax.w8)) (Syntax.tyRef (Syntax.named 1)
-              Syntax.mut (Syntax.tyInt Syntax.w8)) 1)) Path'.refl tt) d77
+              Syntax.mut (Syntax.tyInt Syntax.w8)) 1)) Path'.refl tt) d78
 
-          d79 : Typed.Typed 𝓤 H A 𝓣 E G0 b50 Δ0 at79
-          d79 = Typed.g-pre 𝓤 H A W 𝓣 E G0 G2 b50 Δ0 (Typed.give s0) at78 (Know.g-shs-known 𝓤 H A W (Referent.fInt Syntax.w16) E G0 1 0 (Syntax.tyRef (Syntax.named 0) Syntax.imm (Syntax.tyInt
+          d80 : Typed.Typed 𝓤 H A 𝓣 E G0 b50 Δ0 at80
+          d80 = Typed.g-pre 𝓤 H A W 𝓣 E G0 G2 b50 Δ0 (Typed.give s0) at79 (Know.g-shs-known 𝓤 H A W (Referent.fInt Syntax.w16) E G0 1 0 (Syntax.tyRef (Syntax.named 0) Syntax.imm (Syntax.tyInt
               Syntax.w16)) (Row.lease (κs .0) (qs .0)) 0 (λ x. x) record { fits = Dec'.lit< tt } (Reads.as-is 𝓤 H A (Rows.sslice (Referent.rtF (Referent.fInt Syntax.w16)) (Syntax.tyRef (Syntax.named 0)
-              Syntax.imm (Syntax.tyInt Syntax.w16)) 0)) Path'.refl tt) d78
+              Syntax.imm (Syntax.tyInt Syntax.w16)) 0)) Path'.refl tt) d79
 
-          pub typed : Typed.Typed 𝓤 H A 𝓣 E (Function.Γin 4 ps r xs m κs qs) b50 (Function.Δret 4 ps r xs m κs qs) Φ
-          typed = d79
+          pub typed : Typed.Typed 𝓤 H A 𝓣 E (Function.Γin 5 ps r xs m κs qs) b50 (Function.Δret 5 ps r xs m κs qs) Φ
+          typed = d80
 
-      module _ (κs : Lifetimes.Lfts 4) where
+      module _ (κs : Lifetimes.Lfts 5) where
         pub record Args : Type 0 where
-          pub samples : Kinds.Den {n = 4} κs (ShrSlice.pShrS (Referent.rtF (Referent.fInt Syntax.w16)) 0 tt)
-          pub out : Kinds.Den {n = 4} κs (MutSlice.pMutS (Referent.rtF (Referent.fInt Syntax.w8)) 1 tt)
-          pub measure : Kinds.Den {n = 4} κs Bool.pBool
-          pub lines : Kinds.Den {n = 4} κs (MutSlice.pMutS (Referent.rtF (Referent.fInt Syntax.w16)) 2 tt)
-          pub rs : Kinds.Den {n = 4} κs (MutSlice.pMutS (Element.type) 3 tt)
-          pub form : Kinds.Den {n = 4} κs (Value.pVal record {
+          pub samples : Kinds.Den {n = 5} κs (ShrSlice.pShrS (Referent.rtF (Referent.fInt Syntax.w16)) 0 tt)
+          pub out : Kinds.Den {n = 5} κs (MutSlice.pMutS (Referent.rtF (Referent.fInt Syntax.w8)) 1 tt)
+          pub measure : Kinds.Den {n = 5} κs Bool.pBool
+          pub lines : Kinds.Den {n = 5} κs (MutSlice.pMutS (Referent.rtF (Referent.fInt Syntax.w16)) 2 tt)
+          pub rs : Kinds.Den {n = 5} κs (MutSlice.pMutS (Element.type) 3 tt)
+          pub form : Kinds.Den {n = 5} κs (Value.pVal record {
             ty = Declared'.row Form.the-type;
             one = Path'.refl;
             val = Laws'6.val Form.the-type Laws''.the-laws;
@@ -3077,28 +3222,29 @@ module _ (claims· : Claims) where
                 = Local.mem-whole 𝓤 H A W (Declared'.row Form.the-type);
             of-mem = Local.whole-mem 𝓤 H A W (Declared'.row Form.the-type);
           })
-          pub count : Kinds.Den {n = 4} κs (Num.pNum Syntax.w64)
+          pub bases : Kinds.Den {n = 5} κs (ShrSlice.pShrS (Referent.rtF (Referent.fInt Syntax.w8)) 4 tt)
+          pub count : Kinds.Den {n = 5} κs (Num.pNum Syntax.w64)
 
         abbrev pub dens : (a : Args) → Kinds.Dens κs ps
-        dens = λ a. (a .samples, (a .out, (a .measure, (a .lines, (a .rs, (a .form, (a .count, tt)))))))
+        dens = λ a. (a .samples, (a .out, (a .measure, (a .lines, (a .rs, (a .form, (a .bases, (a .count, tt))))))))
 
         module _ (args· : Args) where
           pub record Ranges : Type 0 where
             pub count : Val.Fits Syntax.w64 (args· .count)
 
-      abbrev pub m0 : (κs : Lifetimes.Lfts 4) → (args : Args κs) → Typed.Mo T0
+      abbrev pub m0 : (κs : Lifetimes.Lfts 5) → (args : Args κs) → Typed.Mo T0
       m0 = λ κs args. (tt, Enter.partsP κs 1 ps xs (dens κs args))
 
-      abbrev W0 : (κs : Lifetimes.Lfts 4) → (args : Args κs) → Typed.Want O0
+      abbrev W0 : (κs : Lifetimes.Lfts 5) → (args : Args κs) → Typed.Want O0
       W0 = λ κs args. (
         λ u. ⊥,
         tt,
-        λ u. Enter.Fixs κs 1 ps xs (dens κs args) (u .1) × Post· κs (dens κs args) (Function.resV r κs (u .0)) (Clauses.atExit (Kinds.endedOf 4 ps r) κs (dens κs args) (Enter.lastsP κs 1 ps
+        λ u. Enter.Fixs κs 1 ps xs (dens κs args) (u .1) × Post· κs (dens κs args) (Function.resV r κs (u .0)) (Clauses.atExit (Kinds.endedOf 5 ps r) κs (dens κs args) (Enter.lastsP κs 1 ps
             xs (dens κs args) (u .1))),
       )
 
       pub record Start : Type 0 where
-        pub κs : Lifetimes.Lfts 4
+        pub κs : Lifetimes.Lfts 5
         pub args : Args κs
         pub good : Kinds.GoodsP κs ps (dens κs args)
         pub fits : Ranges κs args
@@ -3137,222 +3283,239 @@ module _ (claims· : Claims) where
         pub before : After-slice-known
         pub slice-known2 : After-slice-known2·own before
 
-      abbrev pub m4 : (before : After-slice-known2) → (given : s4 .gives (m3 (before .before) (before .slice-known2 .given))) → Typed.Mo T6
-      m4 = λ before given. s4 .next (m3 (before .before) (before .slice-known2 .given)) given
-
-      abbrev pub m5 : (before : After-slice-known2) → (given : s4 .gives (m3 (before .before) (before .slice-known2 .given))) → Typed.Mo T7
-      m5 = λ before given. s5 .next (m4 before given)
+      abbrev pub m4 : (before : After-slice-known2) → (given : s3 .gives (m3 (before .before) (before .slice-known2 .given))) → Typed.Mo T5
+      m4 = λ before given. s3 .next (m3 (before .before) (before .slice-known2 .given)) given
 
       module _ (before· : After-slice-known2) where
+        pub record After-shared-slice-known2·own : Type 0 where
+          pub given : s3 .gives (m3 (before· .before) (before· .slice-known2 .given))
+
+      pub record After-shared-slice-known2 : Type 0 where
+        pub before : After-slice-known2
+        pub shared-slice-known2 : After-shared-slice-known2·own before
+
+      abbrev pub m5 : (before : After-shared-slice-known2) → (given : s5 .gives (m4 (before .before) (before .shared-slice-known2 .given))) → Typed.Mo T7
+      m5 = λ before given. s5 .next (m4 (before .before) (before .shared-slice-known2 .given)) given
+
+      abbrev pub m6 : (before : After-shared-slice-known2) → (given : s5 .gives (m4 (before .before) (before .shared-slice-known2 .given))) → Typed.Mo T8
+      m6 = λ before given. s6 .next (m5 before given)
+
+      module _ (before· : After-shared-slice-known2) where
         pub record After-write-walk-arg·own : Type 0 where
-          pub given : s4 .gives (m3 (before· .before) (before· .slice-known2 .given))
+          pub given : s5 .gives (m4 (before· .before) (before· .shared-slice-known2 .given))
 
       pub record After-write-walk-arg : Type 0 where
-        pub before : After-slice-known2
+        pub before : After-shared-slice-known2
         pub write-walk-arg : After-write-walk-arg·own before
 
-      abbrev pub m6 : (before : After-write-walk-arg) → (given : s7 .gives (m5 (before .before) (before .write-walk-arg .given))) → Typed.Mo T9
-      m6 = λ before given. s7 .next (m5 (before .before) (before .write-walk-arg .given)) given
+      abbrev pub m7 : (before : After-write-walk-arg) → (given : s8 .gives (m6 (before .before) (before .write-walk-arg .given))) → Typed.Mo T10
+      m7 = λ before given. s8 .next (m6 (before .before) (before .write-walk-arg .given)) given
 
-      abbrev pub m7 : (before : After-write-walk-arg) → (given : s7 .gives (m5 (before .before) (before .write-walk-arg .given))) → Typed.Mo T10
-      m7 = λ before given. s8 .next (m6 before given)
+      abbrev pub m8 : (before : After-write-walk-arg) → (given : s8 .gives (m6 (before .before) (before .write-walk-arg .given))) → Typed.Mo T11
+      m8 = λ before given. s9 .next (m7 before given)
 
       module _ (before· : After-write-walk-arg) where
         pub record After-write-walk-arg2·own : Type 0 where
-          pub given : s7 .gives (m5 (before· .before) (before· .write-walk-arg .given))
+          pub given : s8 .gives (m6 (before· .before) (before· .write-walk-arg .given))
 
       pub record After-write-walk-arg2 : Type 0 where
         pub before : After-write-walk-arg
         pub write-walk-arg2 : After-write-walk-arg2·own before
 
-      abbrev pub m8 : (before : After-write-walk-arg2) → (given : s10 .gives (m7 (before .before) (before .write-walk-arg2 .given))) → Typed.Mo T12
-      m8 = λ before given. s10 .next (m7 (before .before) (before .write-walk-arg2 .given)) given
+      abbrev pub m9 : (before : After-write-walk-arg2) → (given : s11 .gives (m8 (before .before) (before .write-walk-arg2 .given))) → Typed.Mo T13
+      m9 = λ before given. s11 .next (m8 (before .before) (before .write-walk-arg2 .given)) given
 
-      abbrev pub m9 : (before : After-write-walk-arg2) → (given : s10 .gives (m7 (before .before) (before .write-walk-arg2 .given))) → Typed.Mo T13
-      m9 = λ before given. s11 .next (m8 before given)
+      abbrev pub m10 : (before : After-write-walk-arg2) → (given : s11 .gives (m8 (before .before) (before .write-walk-arg2 .given))) → Typed.Mo T14
+      m10 = λ before given. s12 .next (m9 before given)
 
       module _ (before· : After-write-walk-arg2) where
         pub record After-write-walk-arg3·own : Type 0 where
-          pub given : s10 .gives (m7 (before· .before) (before· .write-walk-arg2 .given))
+          pub given : s11 .gives (m8 (before· .before) (before· .write-walk-arg2 .given))
 
       pub record After-write-walk-arg3 : Type 0 where
         pub before : After-write-walk-arg2
         pub write-walk-arg3 : After-write-walk-arg3·own before
 
       abbrev pub Need-write-walk-requires : Type 0
-      Need-write-walk-requires = (c : After-write-walk-arg3) → s12 .asks (m9 (c .before) (c .write-walk-arg3 .given))
+      Need-write-walk-requires = (c : After-write-walk-arg3) → s13 .asks (m10 (c .before) (c .write-walk-arg3 .given))
 
-      abbrev pub m10 : (before : After-write-walk-arg3) → (given : s12 .gives (m9 (before .before) (before .write-walk-arg3 .given))) → Typed.Mo T14
-      m10 = λ before given. s12 .next (m9 (before .before) (before .write-walk-arg3 .given)) given
+      abbrev pub m11 : (before : After-write-walk-arg3) → (given : s13 .gives (m10 (before .before) (before .write-walk-arg3 .given))) → Typed.Mo T15
+      m11 = λ before given. s13 .next (m10 (before .before) (before .write-walk-arg3 .given)) given
 
       module _ (before· : After-write-walk-arg3) where
         abbrev pub After-write-walk·own : Type 0
-        After-write-walk·own = Called.Called ps·0 r·0 (claims· .1) T13 (
+        After-write-walk·own = Called.Called ps·0 r·0 (claims· .1) T14 (
           record { pos = 1; ty = Syntax.tyRef (Syntax.named 0) Syntax.imm (Syntax.tyInt Syntax.w16); ref = λ x. x },
           (
-            record { pos = 13; ty = Syntax.tyRef Syntax.erased Syntax.mut (Syntax.tyInt Syntax.w8); ref = λ x. x },
+            record { pos = 14; ty = Syntax.tyRef Syntax.erased Syntax.mut (Syntax.tyInt Syntax.w8); ref = λ x. x },
             (
               Bool.bLit Bool'.false,
               (
-                record { pos = 15; ty = Syntax.tyRef Syntax.erased Syntax.mut (Syntax.tyInt Syntax.w16); ref = λ x. x },
-                (record { pos = 17; ty = Syntax.tyRef Syntax.erased Syntax.mut Element.behind; ref = λ x. x }, (record { pos = 6; st = List.[]; d = 0; at = λ x. x }, (Num.vAt 7 λ x. x, tt))),
+                record { pos = 16; ty = Syntax.tyRef Syntax.erased Syntax.mut (Syntax.tyInt Syntax.w16); ref = λ x. x },
+                (
+                  record { pos = 18; ty = Syntax.tyRef Syntax.erased Syntax.mut Element.behind; ref = λ x. x },
+                  (record { pos = 6; st = List.[]; d = 0; at = λ x. x }, (record { pos = 7; ty = Syntax.tyRef (Syntax.named 4) Syntax.imm (Syntax.tyInt Syntax.w8); ref = λ x. x }, (Num.vAt 8 λ x. x, tt))),
+                ),
               ),
             ),
           ),
-        ) (m9 (before·
-            .before) (before· .write-walk-arg3 .given))
+        )
+            (m10 (before· .before) (before· .write-walk-arg3 .given))
 
       pub record After-write-walk : Type 0 where
         pub before : After-write-walk-arg3
         pub write-walk : After-write-walk·own before
 
-      abbrev pub After-write-walk·gave : (c : After-write-walk) → s12 .gives (m9 (c .before .before) (c .before .write-walk-arg3 .given))
-      After-write-walk·gave = λ c. Called.given ps·0 r·0 (claims· .1) T13 (
+      abbrev pub After-write-walk·gave : (c : After-write-walk) → s13 .gives (m10 (c .before .before) (c .before .write-walk-arg3 .given))
+      After-write-walk·gave = λ c. Called.given ps·0 r·0 (claims· .1) T14 (
         record { pos = 1; ty = Syntax.tyRef (Syntax.named 0) Syntax.imm (Syntax.tyInt Syntax.w16); ref = λ x. x },
         (
-          record { pos = 13; ty = Syntax.tyRef Syntax.erased Syntax.mut (Syntax.tyInt Syntax.w8); ref = λ x. x },
+          record { pos = 14; ty = Syntax.tyRef Syntax.erased Syntax.mut (Syntax.tyInt Syntax.w8); ref = λ x. x },
           (
             Bool.bLit Bool'.false,
             (
-              record { pos = 15; ty = Syntax.tyRef Syntax.erased Syntax.mut (Syntax.tyInt Syntax.w16); ref = λ x. x },
-              (record { pos = 17; ty = Syntax.tyRef Syntax.erased Syntax.mut Element.behind; ref = λ x. x }, (record { pos = 6; st = List.[]; d = 0; at = λ x. x }, (Num.vAt 7 λ x. x, tt))),
+              record { pos = 16; ty = Syntax.tyRef Syntax.erased Syntax.mut (Syntax.tyInt Syntax.w16); ref = λ x. x },
+              (
+                record { pos = 18; ty = Syntax.tyRef Syntax.erased Syntax.mut Element.behind; ref = λ x. x },
+                (record { pos = 6; st = List.[]; d = 0; at = λ x. x }, (record { pos = 7; ty = Syntax.tyRef (Syntax.named 4) Syntax.imm (Syntax.tyInt Syntax.w8); ref = λ x. x }, (Num.vAt 8 λ x. x, tt))),
+              ),
             ),
           ),
         ),
-      ) (m9 (c .before
-          .before) (c .before .write-walk-arg3 .given)) (c .write-walk)
+      )
+          (m10 (c .before .before) (c .before .write-walk-arg3 .given)) (c .write-walk)
 
-      abbrev pub m11 : (before : After-write-walk) → (given : s14 .gives (m10 (before .before) (After-write-walk·gave before))) → Typed.Mo T16
-      m11 = λ before given. s14 .next (m10 (before .before) (After-write-walk·gave before)) given
+      abbrev pub m12 : (before : After-write-walk) → (given : s15 .gives (m11 (before .before) (After-write-walk·gave before))) → Typed.Mo T17
+      m12 = λ before given. s15 .next (m11 (before .before) (After-write-walk·gave before)) given
 
       module _ (before· : After-write-walk) where
         pub record After-out·own : Type 0 where
-          pub given : s14 .gives (m10 (before· .before) (After-write-walk·gave before·))
+          pub given : s15 .gives (m11 (before· .before) (After-write-walk·gave before·))
 
       pub record After-out : Type 0 where
         pub before : After-write-walk
         pub out : After-out·own before
 
-      abbrev pub m12 : (before : After-out) → (given : s15 .gives (m11 (before .before) (before .out .given))) → Typed.Mo T17
-      m12 = λ before given. s15 .next (m11 (before .before) (before .out .given)) given
+      abbrev pub m13 : (before : After-out) → (given : s16 .gives (m12 (before .before) (before .out .given))) → Typed.Mo T18
+      m13 = λ before given. s16 .next (m12 (before .before) (before .out .given)) given
 
       module _ (before· : After-out) where
         pub record After-slice-known3·own : Type 0 where
-          pub given : s15 .gives (m11 (before· .before) (before· .out .given))
+          pub given : s16 .gives (m12 (before· .before) (before· .out .given))
 
       pub record After-slice-known3 : Type 0 where
         pub before : After-out
         pub slice-known3 : After-slice-known3·own before
 
-      abbrev pub m13 : (before : After-slice-known3) → (given : s18 .gives (m12 (before .before) (before .slice-known3 .given))) → Typed.Mo T20
-      m13 = λ before given. s18 .next (m12 (before .before) (before .slice-known3 .given)) given
+      abbrev pub m14 : (before : After-slice-known3) → (given : s19 .gives (m13 (before .before) (before .slice-known3 .given))) → Typed.Mo T21
+      m14 = λ before given. s19 .next (m13 (before .before) (before .slice-known3 .given)) given
 
       module _ (before· : After-slice-known3) where
         pub record After-lines·own : Type 0 where
-          pub given : s18 .gives (m12 (before· .before) (before· .slice-known3 .given))
+          pub given : s19 .gives (m13 (before· .before) (before· .slice-known3 .given))
 
       pub record After-lines : Type 0 where
         pub before : After-slice-known3
         pub lines : After-lines·own before
 
-      abbrev pub m14 : (before : After-lines) → (given : s19 .gives (m13 (before .before) (before .lines .given))) → Typed.Mo T21
-      m14 = λ before given. s19 .next (m13 (before .before) (before .lines .given)) given
+      abbrev pub m15 : (before : After-lines) → (given : s20 .gives (m14 (before .before) (before .lines .given))) → Typed.Mo T22
+      m15 = λ before given. s20 .next (m14 (before .before) (before .lines .given)) given
 
       module _ (before· : After-lines) where
         pub record After-slice-known4·own : Type 0 where
-          pub given : s19 .gives (m13 (before· .before) (before· .lines .given))
+          pub given : s20 .gives (m14 (before· .before) (before· .lines .given))
 
       pub record After-slice-known4 : Type 0 where
         pub before : After-lines
         pub slice-known4 : After-slice-known4·own before
 
-      abbrev pub m15 : (before : After-slice-known4) → (given : s22 .gives (m14 (before .before) (before .slice-known4 .given))) → Typed.Mo T24
-      m15 = λ before given. s22 .next (m14 (before .before) (before .slice-known4 .given)) given
+      abbrev pub m16 : (before : After-slice-known4) → (given : s23 .gives (m15 (before .before) (before .slice-known4 .given))) → Typed.Mo T25
+      m16 = λ before given. s23 .next (m15 (before .before) (before .slice-known4 .given)) given
 
-      abbrev pub m16 : (before : After-slice-known4) → (given : s22 .gives (m14 (before .before) (before .slice-known4 .given))) → Typed.Mo T26
-      m16 = λ before given. s24 (m15 before given)
+      abbrev pub m17 : (before : After-slice-known4) → (given : s23 .gives (m15 (before .before) (before .slice-known4 .given))) → Typed.Mo T27
+      m17 = λ before given. s25 (m16 before given)
 
       module _ (before· : After-slice-known4) where
         pub record After-rs·own : Type 0 where
-          pub given : s22 .gives (m14 (before· .before) (before· .slice-known4 .given))
+          pub given : s23 .gives (m15 (before· .before) (before· .slice-known4 .given))
 
       pub record After-rs : Type 0 where
         pub before : After-slice-known4
         pub rs : After-rs·own before
 
       abbrev pub Need-after-counting-requires : Type 0
-      Need-after-counting-requires = (c : After-rs) → s25 .asks (m16 (c .before) (c .rs .given))
+      Need-after-counting-requires = (c : After-rs) → s26 .asks (m17 (c .before) (c .rs .given))
 
-      abbrev pub m17 : (before : After-rs) → (given : s25 .gives (m16 (before .before) (before .rs .given))) → Typed.Mo T27
-      m17 = λ before given. s25 .next (m16 (before .before) (before .rs .given)) given
+      abbrev pub m18 : (before : After-rs) → (given : s26 .gives (m17 (before .before) (before .rs .given))) → Typed.Mo T28
+      m18 = λ before given. s26 .next (m17 (before .before) (before .rs .given)) given
 
       module _ (before· : After-rs) where
         abbrev pub After-after-counting·own : Type 0
-        After-after-counting·own = Called.Called ps·1 r·1 (claims· .3) T26 (record { pos = 8; st = List.[]; d = 0; at = λ x. x }, (Bool.bAt 3 λ x. x, (Num.vAt 18 λ x. x, tt))) (m16 (before· .before)
+        After-after-counting·own = Called.Called ps·1 r·1 (claims· .3) T27 (record { pos = 9; st = List.[]; d = 0; at = λ x. x }, (Bool.bAt 3 λ x. x, (Num.vAt 19 λ x. x, tt))) (m17 (before· .before)
             (before· .rs .given))
 
       pub record After-after-counting : Type 0 where
         pub before : After-rs
         pub after-counting : After-after-counting·own before
 
-      abbrev pub After-after-counting·gave : (c : After-after-counting) → s25 .gives (m16 (c .before .before) (c .before .rs .given))
-      After-after-counting·gave = λ c. Called.given ps·1 r·1 (claims· .3) T26 (record { pos = 8; st = List.[]; d = 0; at = λ x. x }, (Bool.bAt 3 λ x. x, (Num.vAt 18 λ x. x, tt))) (m16 (c .before
+      abbrev pub After-after-counting·gave : (c : After-after-counting) → s26 .gives (m17 (c .before .before) (c .before .rs .given))
+      After-after-counting·gave = λ c. Called.given ps·1 r·1 (claims· .3) T27 (record { pos = 9; st = List.[]; d = 0; at = λ x. x }, (Bool.bAt 3 λ x. x, (Num.vAt 19 λ x. x, tt))) (m17 (c .before
           .before) (c .before .rs .given)) (c .after-counting)
 
-      abbrev W1 : (before : After-rs) → (given : s25 .gives (m16 (before .before) (before .rs .given))) → Typed.Want O1
-      W1 = λ before given. Typed.wantNext T28 O0 (at52 (W0 (before .before .before .before .before .before .before .before .before .before .before .before .before .κs) (before .before .before .before
-          .before .before .before .before .before .before .before .before .before .args))) (W0 (before .before .before .before .before .before .before .before .before .before .before .before .before .κs)
-          (before .before .before .before .before .before .before .before .before .before .before .before .before .args))
+      abbrev W1 : (before : After-rs) → (given : s26 .gives (m17 (before .before) (before .rs .given))) → Typed.Want O1
+      W1 = λ before given. Typed.wantNext T29 O0 (at52 (W0 (before .before .before .before .before .before .before .before .before .before .before .before .before .before .κs) (before .before .before
+          .before .before .before .before .before .before .before .before .before .before .before .args))) (W0 (before .before .before .before .before .before .before .before .before .before .before
+          .before .before .before .κs) (before .before .before .before .before .before .before .before .before .before .before .before .before .before .args))
 
-      abbrev pub m18 : (before : After-rs) → (given : s25 .gives (m16 (before .before) (before .rs .given))) → Typed.Mo T29
-      m18 = λ before given. s26 (m17 before given)
-
-      abbrev pub m19 : (before : After-rs) → (given : s25 .gives (m16 (before .before) (before .rs .given))) → Typed.Mo T30
+      abbrev pub m19 : (before : After-rs) → (given : s26 .gives (m17 (before .before) (before .rs .given))) → Typed.Mo T30
       m19 = λ before given. s27 (m18 before given)
+
+      abbrev pub m20 : (before : After-rs) → (given : s26 .gives (m17 (before .before) (before .rs .given))) → Typed.Mo T31
+      m20 = λ before given. s28 (m19 before given)
 
       module _ (before· : After-after-counting) where
         pub record At-match-keys1·own : Type 0 where
-          pub keys1 : Run.OneOf (List._∷_ 0 List.[]) (Declared.tagOf Next.the-type (Row.get 9 (T30 .locals) (m19 (before· .before) (After-after-counting·gave before·))))
+          pub keys1 : Run.OneOf (List._∷_ 0 List.[]) (Declared.tagOf Next.the-type (Row.get 10 (T31 .locals) (m20 (before· .before) (After-after-counting·gave before·))))
 
       pub record At-match-keys1 : Type 0 where
         pub before : After-after-counting
         pub match : At-match-keys1·own before
 
       abbrev pub Need-enum-known-next : Type 0
-      Need-enum-known-next = (c : At-match-keys1) → s28 .asks (m19 (c .before .before) (After-after-counting·gave (c .before)))
+      Need-enum-known-next = (c : At-match-keys1) → s29 .asks (m20 (c .before .before) (After-after-counting·gave (c .before)))
 
-      abbrev pub m20 : (before : At-match-keys1) → (given : s28 .gives (m19 (before .before .before) (After-after-counting·gave (before .before)))) → Typed.Mo T31
-      m20 = λ before given. s28 .next (m19 (before .before .before) (After-after-counting·gave (before .before))) given
+      abbrev pub m21 : (before : At-match-keys1) → (given : s29 .gives (m20 (before .before .before) (After-after-counting·gave (before .before)))) → Typed.Mo T32
+      m21 = λ before given. s29 .next (m20 (before .before .before) (After-after-counting·gave (before .before))) given
 
       module _ (before· : At-match-keys1) where
         pub record After-next·own : Type 0 where
-          pub given : s28 .gives (m19 (before· .before .before) (After-after-counting·gave (before· .before)))
+          pub given : s29 .gives (m20 (before· .before .before) (After-after-counting·gave (before· .before)))
 
       pub record After-next : Type 0 where
         pub before : At-match-keys1
         pub next : After-next·own before
 
-      abbrev pub m21 : (before : After-next) → (given : s29 .gives (m20 (before .before) (before .next .given))) → Typed.Mo T32
-      m21 = λ before given. s29 .next (m20 (before .before) (before .next .given)) given
+      abbrev pub m22 : (before : After-next) → (given : s30 .gives (m21 (before .before) (before .next .given))) → Typed.Mo T33
+      m22 = λ before given. s30 .next (m21 (before .before) (before .next .given)) given
 
-      abbrev pub m22 : (before : After-next) → (given : s29 .gives (m20 (before .before) (before .next .given))) → Typed.Mo T33
-      m22 = λ before given. s30 (m21 before given)
-
-      abbrev pub m23 : (before : After-next) → (given : s29 .gives (m20 (before .before) (before .next .given))) → Typed.Mo T34
+      abbrev pub m23 : (before : After-next) → (given : s30 .gives (m21 (before .before) (before .next .given))) → Typed.Mo T34
       m23 = λ before given. s31 (m22 before given)
 
-      abbrev pub m24 : (before : After-next) → (given : s29 .gives (m20 (before .before) (before .next .given))) → Typed.Mo T35
+      abbrev pub m24 : (before : After-next) → (given : s30 .gives (m21 (before .before) (before .next .given))) → Typed.Mo T35
       m24 = λ before given. s32 (m23 before given)
 
-      abbrev pub m25 : (before : After-next) → (given : s29 .gives (m20 (before .before) (before .next .given))) → Typed.Mo T36
+      abbrev pub m25 : (before : After-next) → (given : s30 .gives (m21 (before .before) (before .next .given))) → Typed.Mo T36
       m25 = λ before given. s33 (m24 before given)
 
-      abbrev pub m26 : (before : After-next) → (given : s29 .gives (m20 (before .before) (before .next .given))) → Typed.Mo T37
+      abbrev pub m26 : (before : After-next) → (given : s30 .gives (m21 (before .before) (before .next .given))) → Typed.Mo T37
       m26 = λ before given. s34 (m25 before given)
+
+      abbrev pub m27 : (before : After-next) → (given : s30 .gives (m21 (before .before) (before .next .given))) → Typed.Mo T38
+      m27 = λ before given. s35 (m26 before given)
 
       module _ (before· : After-next) where
         pub record After-known-told·own : Type 0 where
-          pub given : s29 .gives (m20 (before· .before) (before· .next .given))
+          pub given : s30 .gives (m21 (before· .before) (before· .next .given))
 
       pub record After-known-told : Type 0 where
         pub before : After-next
@@ -3360,424 +3523,431 @@ module _ (claims· : Claims) where
 
       module _ (before· : After-after-counting) where
         pub record At-match-keys2·own : Type 0 where
-          pub keys2 : Run.OneOf (List._∷_ 1 List.[]) (Declared.tagOf Next.the-type (Row.get 9 (T30 .locals) (m19 (before· .before) (After-after-counting·gave before·))))
+          pub keys2 : Run.OneOf (List._∷_ 1 List.[]) (Declared.tagOf Next.the-type (Row.get 10 (T31 .locals) (m20 (before· .before) (After-after-counting·gave before·))))
 
       pub record At-match-keys2 : Type 0 where
         pub before : After-after-counting
         pub match : At-match-keys2·own before
 
       abbrev pub Need-enum-known-next-2 : Type 0
-      Need-enum-known-next-2 = (c : At-match-keys2) → s35 .asks (m19 (c .before .before) (After-after-counting·gave (c .before)))
+      Need-enum-known-next-2 = (c : At-match-keys2) → s36 .asks (m20 (c .before .before) (After-after-counting·gave (c .before)))
 
-      abbrev pub m27 : (before : At-match-keys2) → (given : s35 .gives (m19 (before .before .before) (After-after-counting·gave (before .before)))) → Typed.Mo T38
-      m27 = λ before given. s35 .next (m19 (before .before .before) (After-after-counting·gave (before .before))) given
+      abbrev pub m28 : (before : At-match-keys2) → (given : s36 .gives (m20 (before .before .before) (After-after-counting·gave (before .before)))) → Typed.Mo T39
+      m28 = λ before given. s36 .next (m20 (before .before .before) (After-after-counting·gave (before .before))) given
 
       module _ (before· : At-match-keys2) where
         pub record After-next2·own : Type 0 where
-          pub given : s35 .gives (m19 (before· .before .before) (After-after-counting·gave (before· .before)))
+          pub given : s36 .gives (m20 (before· .before .before) (After-after-counting·gave (before· .before)))
 
       pub record After-next2 : Type 0 where
         pub before : At-match-keys2
         pub next2 : After-next2·own before
 
-      abbrev pub m28 : (before : After-next2) → (given : s36 .gives (m27 (before .before) (before .next2 .given))) → Typed.Mo T39
-      m28 = λ before given. s36 .next (m27 (before .before) (before .next2 .given)) given
+      abbrev pub m29 : (before : After-next2) → (given : s37 .gives (m28 (before .before) (before .next2 .given))) → Typed.Mo T40
+      m29 = λ before given. s37 .next (m28 (before .before) (before .next2 .given)) given
 
-      abbrev pub m29 : (before : After-next2) → (given : s36 .gives (m27 (before .before) (before .next2 .given))) → Typed.Mo T40
-      m29 = λ before given. s37 (m28 before given)
-
-      abbrev pub m30 : (before : After-next2) → (given : s36 .gives (m27 (before .before) (before .next2 .given))) → Typed.Mo T41
+      abbrev pub m30 : (before : After-next2) → (given : s37 .gives (m28 (before .before) (before .next2 .given))) → Typed.Mo T41
       m30 = λ before given. s38 (m29 before given)
+
+      abbrev pub m31 : (before : After-next2) → (given : s37 .gives (m28 (before .before) (before .next2 .given))) → Typed.Mo T42
+      m31 = λ before given. s39 (m30 before given)
 
       module _ (before· : After-next2) where
         pub record After-known-told2·own : Type 0 where
-          pub given : s36 .gives (m27 (before· .before) (before· .next2 .given))
+          pub given : s37 .gives (m28 (before· .before) (before· .next2 .given))
 
       pub record After-known-told2 : Type 0 where
         pub before : After-next2
         pub known-told2 : After-known-told2·own before
 
-      abbrev pub m31 : (before : After-known-told2) → (given : s40 .gives (m30 (before .before) (before .known-told2 .given))) → Typed.Mo T43
-      m31 = λ before given. s40 .next (m30 (before .before) (before .known-told2 .given)) given
+      abbrev pub m32 : (before : After-known-told2) → (given : s41 .gives (m31 (before .before) (before .known-told2 .given))) → Typed.Mo T44
+      m32 = λ before given. s41 .next (m31 (before .before) (before .known-told2 .given)) given
 
-      abbrev pub m32 : (before : After-known-told2) → (given : s40 .gives (m30 (before .before) (before .known-told2 .given))) → Typed.Mo T44
-      m32 = λ before given. s41 .next (m31 before given)
+      abbrev pub m33 : (before : After-known-told2) → (given : s41 .gives (m31 (before .before) (before .known-told2 .given))) → Typed.Mo T45
+      m33 = λ before given. s42 .next (m32 before given)
 
       module _ (before· : After-known-told2) where
         pub record After-write-walk-arg4·own : Type 0 where
-          pub given : s40 .gives (m30 (before· .before) (before· .known-told2 .given))
+          pub given : s41 .gives (m31 (before· .before) (before· .known-told2 .given))
 
       pub record After-write-walk-arg4 : Type 0 where
         pub before : After-known-told2
         pub write-walk-arg4 : After-write-walk-arg4·own before
 
-      abbrev pub m33 : (before : After-write-walk-arg4) → (given : s43 .gives (m32 (before .before) (before .write-walk-arg4 .given))) → Typed.Mo T46
-      m33 = λ before given. s43 .next (m32 (before .before) (before .write-walk-arg4 .given)) given
+      abbrev pub m34 : (before : After-write-walk-arg4) → (given : s44 .gives (m33 (before .before) (before .write-walk-arg4 .given))) → Typed.Mo T47
+      m34 = λ before given. s44 .next (m33 (before .before) (before .write-walk-arg4 .given)) given
 
-      abbrev pub m34 : (before : After-write-walk-arg4) → (given : s43 .gives (m32 (before .before) (before .write-walk-arg4 .given))) → Typed.Mo T47
-      m34 = λ before given. s44 .next (m33 before given)
+      abbrev pub m35 : (before : After-write-walk-arg4) → (given : s44 .gives (m33 (before .before) (before .write-walk-arg4 .given))) → Typed.Mo T48
+      m35 = λ before given. s45 .next (m34 before given)
 
       module _ (before· : After-write-walk-arg4) where
         pub record After-write-walk-arg5·own : Type 0 where
-          pub given : s43 .gives (m32 (before· .before) (before· .write-walk-arg4 .given))
+          pub given : s44 .gives (m33 (before· .before) (before· .write-walk-arg4 .given))
 
       pub record After-write-walk-arg5 : Type 0 where
         pub before : After-write-walk-arg4
         pub write-walk-arg5 : After-write-walk-arg5·own before
 
-      abbrev pub m35 : (before : After-write-walk-arg5) → (given : s46 .gives (m34 (before .before) (before .write-walk-arg5 .given))) → Typed.Mo T49
-      m35 = λ before given. s46 .next (m34 (before .before) (before .write-walk-arg5 .given)) given
+      abbrev pub m36 : (before : After-write-walk-arg5) → (given : s47 .gives (m35 (before .before) (before .write-walk-arg5 .given))) → Typed.Mo T50
+      m36 = λ before given. s47 .next (m35 (before .before) (before .write-walk-arg5 .given)) given
 
-      abbrev pub m36 : (before : After-write-walk-arg5) → (given : s46 .gives (m34 (before .before) (before .write-walk-arg5 .given))) → Typed.Mo T50
-      m36 = λ before given. s47 .next (m35 before given)
+      abbrev pub m37 : (before : After-write-walk-arg5) → (given : s47 .gives (m35 (before .before) (before .write-walk-arg5 .given))) → Typed.Mo T51
+      m37 = λ before given. s48 .next (m36 before given)
 
       module _ (before· : After-write-walk-arg5) where
         pub record After-write-walk-arg6·own : Type 0 where
-          pub given : s46 .gives (m34 (before· .before) (before· .write-walk-arg5 .given))
+          pub given : s47 .gives (m35 (before· .before) (before· .write-walk-arg5 .given))
 
       pub record After-write-walk-arg6 : Type 0 where
         pub before : After-write-walk-arg5
         pub write-walk-arg6 : After-write-walk-arg6·own before
 
       abbrev pub Need-write-walk-requires-2 : Type 0
-      Need-write-walk-requires-2 = (c : After-write-walk-arg6) → s48 .asks (m36 (c .before) (c .write-walk-arg6 .given))
+      Need-write-walk-requires-2 = (c : After-write-walk-arg6) → s49 .asks (m37 (c .before) (c .write-walk-arg6 .given))
 
-      abbrev pub m37 : (before : After-write-walk-arg6) → (given : s48 .gives (m36 (before .before) (before .write-walk-arg6 .given))) → Typed.Mo T51
-      m37 = λ before given. s48 .next (m36 (before .before) (before .write-walk-arg6 .given)) given
+      abbrev pub m38 : (before : After-write-walk-arg6) → (given : s49 .gives (m37 (before .before) (before .write-walk-arg6 .given))) → Typed.Mo T52
+      m38 = λ before given. s49 .next (m37 (before .before) (before .write-walk-arg6 .given)) given
 
       module _ (before· : After-write-walk-arg6) where
         abbrev pub After-write-walk2·own : Type 0
-        After-write-walk2·own = Called.Called ps·0 r·0 (claims· .1) T50 (
+        After-write-walk2·own = Called.Called ps·0 r·0 (claims· .1) T51 (
           record { pos = 1; ty = Syntax.tyRef (Syntax.named 0) Syntax.imm (Syntax.tyInt Syntax.w16); ref = λ x. x },
           (
-            record { pos = 22; ty = Syntax.tyRef Syntax.erased Syntax.mut (Syntax.tyInt Syntax.w8); ref = λ x. x },
+            record { pos = 23; ty = Syntax.tyRef Syntax.erased Syntax.mut (Syntax.tyInt Syntax.w8); ref = λ x. x },
             (
               Bool.bLit Bool'.true,
               (
-                record { pos = 24; ty = Syntax.tyRef Syntax.erased Syntax.mut (Syntax.tyInt Syntax.w16); ref = λ x. x },
-                (record { pos = 26; ty = Syntax.tyRef Syntax.erased Syntax.mut Element.behind; ref = λ x. x }, (record { pos = 6; st = List.[]; d = 0; at = λ x. x }, (Num.vAt 7 λ x. x, tt))),
+                record { pos = 25; ty = Syntax.tyRef Syntax.erased Syntax.mut (Syntax.tyInt Syntax.w16); ref = λ x. x },
+                (
+                  record { pos = 27; ty = Syntax.tyRef Syntax.erased Syntax.mut Element.behind; ref = λ x. x },
+                  (record { pos = 6; st = List.[]; d = 0; at = λ x. x }, (record { pos = 7; ty = Syntax.tyRef (Syntax.named 4) Syntax.imm (Syntax.tyInt Syntax.w8); ref = λ x. x }, (Num.vAt 8 λ x. x, tt))),
+                ),
               ),
             ),
           ),
-        ) (m36
-            (before· .before) (before· .write-walk-arg6 .given))
+        )
+            (m37 (before· .before) (before· .write-walk-arg6 .given))
 
       pub record After-write-walk2 : Type 0 where
         pub before : After-write-walk-arg6
         pub write-walk2 : After-write-walk2·own before
 
-      abbrev pub After-write-walk2·gave : (c : After-write-walk2) → s48 .gives (m36 (c .before .before) (c .before .write-walk-arg6 .given))
-      After-write-walk2·gave = λ c. Called.given ps·0 r·0 (claims· .1) T50 (
+      abbrev pub After-write-walk2·gave : (c : After-write-walk2) → s49 .gives (m37 (c .before .before) (c .before .write-walk-arg6 .given))
+      After-write-walk2·gave = λ c. Called.given ps·0 r·0 (claims· .1) T51 (
         record { pos = 1; ty = Syntax.tyRef (Syntax.named 0) Syntax.imm (Syntax.tyInt Syntax.w16); ref = λ x. x },
         (
-          record { pos = 22; ty = Syntax.tyRef Syntax.erased Syntax.mut (Syntax.tyInt Syntax.w8); ref = λ x. x },
+          record { pos = 23; ty = Syntax.tyRef Syntax.erased Syntax.mut (Syntax.tyInt Syntax.w8); ref = λ x. x },
           (
             Bool.bLit Bool'.true,
             (
-              record { pos = 24; ty = Syntax.tyRef Syntax.erased Syntax.mut (Syntax.tyInt Syntax.w16); ref = λ x. x },
-              (record { pos = 26; ty = Syntax.tyRef Syntax.erased Syntax.mut Element.behind; ref = λ x. x }, (record { pos = 6; st = List.[]; d = 0; at = λ x. x }, (Num.vAt 7 λ x. x, tt))),
+              record { pos = 25; ty = Syntax.tyRef Syntax.erased Syntax.mut (Syntax.tyInt Syntax.w16); ref = λ x. x },
+              (
+                record { pos = 27; ty = Syntax.tyRef Syntax.erased Syntax.mut Element.behind; ref = λ x. x },
+                (record { pos = 6; st = List.[]; d = 0; at = λ x. x }, (record { pos = 7; ty = Syntax.tyRef (Syntax.named 4) Syntax.imm (Syntax.tyInt Syntax.w8); ref = λ x. x }, (Num.vAt 8 λ x. x, tt))),
+              ),
             ),
           ),
         ),
-      ) (m36 (c
-          .before .before) (c .before .write-walk-arg6 .given)) (c .write-walk2)
+      )
+          (m37 (c .before .before) (c .before .write-walk-arg6 .given)) (c .write-walk2)
 
-      abbrev pub m38 : (before : After-write-walk-arg6) → (given : s48 .gives (m36 (before .before) (before .write-walk-arg6 .given))) → Typed.Mo T52
-      m38 = λ before given. s49 (m37 before given)
-
-      abbrev pub m39 : (before : After-write-walk-arg6) → (given : s48 .gives (m36 (before .before) (before .write-walk-arg6 .given))) → Typed.Mo T53
+      abbrev pub m39 : (before : After-write-walk-arg6) → (given : s49 .gives (m37 (before .before) (before .write-walk-arg6 .given))) → Typed.Mo T53
       m39 = λ before given. s50 (m38 before given)
 
-      abbrev pub m40 : (before : After-write-walk2) → (given : s52 .gives (m39 (before .before) (After-write-walk2·gave before))) → Typed.Mo T55
-      m40 = λ before given. s52 .next (m39 (before .before) (After-write-walk2·gave before)) given
+      abbrev pub m40 : (before : After-write-walk-arg6) → (given : s49 .gives (m37 (before .before) (before .write-walk-arg6 .given))) → Typed.Mo T54
+      m40 = λ before given. s51 (m39 before given)
+
+      abbrev pub m41 : (before : After-write-walk2) → (given : s53 .gives (m40 (before .before) (After-write-walk2·gave before))) → Typed.Mo T56
+      m41 = λ before given. s53 .next (m40 (before .before) (After-write-walk2·gave before)) given
 
       module _ (before· : After-write-walk2) where
         pub record After-out2·own : Type 0 where
-          pub given : s52 .gives (m39 (before· .before) (After-write-walk2·gave before·))
+          pub given : s53 .gives (m40 (before· .before) (After-write-walk2·gave before·))
 
       pub record After-out2 : Type 0 where
         pub before : After-write-walk2
         pub out2 : After-out2·own before
 
-      abbrev pub m41 : (before : After-out2) → (given : s53 .gives (m40 (before .before) (before .out2 .given))) → Typed.Mo T56
-      m41 = λ before given. s53 .next (m40 (before .before) (before .out2 .given)) given
+      abbrev pub m42 : (before : After-out2) → (given : s54 .gives (m41 (before .before) (before .out2 .given))) → Typed.Mo T57
+      m42 = λ before given. s54 .next (m41 (before .before) (before .out2 .given)) given
 
       module _ (before· : After-out2) where
         pub record After-slice-known5·own : Type 0 where
-          pub given : s53 .gives (m40 (before· .before) (before· .out2 .given))
+          pub given : s54 .gives (m41 (before· .before) (before· .out2 .given))
 
       pub record After-slice-known5 : Type 0 where
         pub before : After-out2
         pub slice-known5 : After-slice-known5·own before
 
-      abbrev pub m42 : (before : After-slice-known5) → (given : s56 .gives (m41 (before .before) (before .slice-known5 .given))) → Typed.Mo T59
-      m42 = λ before given. s56 .next (m41 (before .before) (before .slice-known5 .given)) given
+      abbrev pub m43 : (before : After-slice-known5) → (given : s57 .gives (m42 (before .before) (before .slice-known5 .given))) → Typed.Mo T60
+      m43 = λ before given. s57 .next (m42 (before .before) (before .slice-known5 .given)) given
 
       module _ (before· : After-slice-known5) where
         pub record After-lines2·own : Type 0 where
-          pub given : s56 .gives (m41 (before· .before) (before· .slice-known5 .given))
+          pub given : s57 .gives (m42 (before· .before) (before· .slice-known5 .given))
 
       pub record After-lines2 : Type 0 where
         pub before : After-slice-known5
         pub lines2 : After-lines2·own before
 
-      abbrev pub m43 : (before : After-lines2) → (given : s57 .gives (m42 (before .before) (before .lines2 .given))) → Typed.Mo T60
-      m43 = λ before given. s57 .next (m42 (before .before) (before .lines2 .given)) given
+      abbrev pub m44 : (before : After-lines2) → (given : s58 .gives (m43 (before .before) (before .lines2 .given))) → Typed.Mo T61
+      m44 = λ before given. s58 .next (m43 (before .before) (before .lines2 .given)) given
 
       module _ (before· : After-lines2) where
         pub record After-slice-known6·own : Type 0 where
-          pub given : s57 .gives (m42 (before· .before) (before· .lines2 .given))
+          pub given : s58 .gives (m43 (before· .before) (before· .lines2 .given))
 
       pub record After-slice-known6 : Type 0 where
         pub before : After-lines2
         pub slice-known6 : After-slice-known6·own before
 
-      abbrev pub m44 : (before : After-slice-known6) → (given : s60 .gives (m43 (before .before) (before .slice-known6 .given))) → Typed.Mo T63
-      m44 = λ before given. s60 .next (m43 (before .before) (before .slice-known6 .given)) given
+      abbrev pub m45 : (before : After-slice-known6) → (given : s61 .gives (m44 (before .before) (before .slice-known6 .given))) → Typed.Mo T64
+      m45 = λ before given. s61 .next (m44 (before .before) (before .slice-known6 .given)) given
 
       module _ (before· : After-slice-known6) where
         pub record After-rs2·own : Type 0 where
-          pub given : s60 .gives (m43 (before· .before) (before· .slice-known6 .given))
+          pub given : s61 .gives (m44 (before· .before) (before· .slice-known6 .given))
 
       pub record After-rs2 : Type 0 where
         pub before : After-slice-known6
         pub rs2 : After-rs2·own before
 
-      abbrev pub m45 : (before : After-rs2) → (given : s63 .gives (m44 (before .before) (before .rs2 .given))) → Typed.Mo T66
-      m45 = λ before given. s63 .next (m44 (before .before) (before .rs2 .given)) given
+      abbrev pub m46 : (before : After-rs2) → (given : s64 .gives (m45 (before .before) (before .rs2 .given))) → Typed.Mo T67
+      m46 = λ before given. s64 .next (m45 (before .before) (before .rs2 .given)) given
 
-      abbrev pub m46 : (before : After-rs2) → (given : s63 .gives (m44 (before .before) (before .rs2 .given))) → Typed.Mo T67
-      m46 = λ before given. s64 .next (m45 before given)
+      abbrev pub m47 : (before : After-rs2) → (given : s64 .gives (m45 (before .before) (before .rs2 .given))) → Typed.Mo T68
+      m47 = λ before given. s65 .next (m46 before given)
 
       module _ (before· : After-rs2) where
         pub record After-fill-tail-arg·own : Type 0 where
-          pub given : s63 .gives (m44 (before· .before) (before· .rs2 .given))
+          pub given : s64 .gives (m45 (before· .before) (before· .rs2 .given))
 
       pub record After-fill-tail-arg : Type 0 where
         pub before : After-rs2
         pub fill-tail-arg : After-fill-tail-arg·own before
 
       abbrev pub Need-fill-tail-requires : Type 0
-      Need-fill-tail-requires = (c : After-fill-tail-arg) → s65 .asks (m46 (c .before) (c .fill-tail-arg .given))
+      Need-fill-tail-requires = (c : After-fill-tail-arg) → s66 .asks (m47 (c .before) (c .fill-tail-arg .given))
 
-      abbrev pub m47 : (before : After-fill-tail-arg) → (given : s65 .gives (m46 (before .before) (before .fill-tail-arg .given))) → Typed.Mo T68
-      m47 = λ before given. s65 .next (m46 (before .before) (before .fill-tail-arg .given)) given
+      abbrev pub m48 : (before : After-fill-tail-arg) → (given : s66 .gives (m47 (before .before) (before .fill-tail-arg .given))) → Typed.Mo T69
+      m48 = λ before given. s66 .next (m47 (before .before) (before .fill-tail-arg .given)) given
 
       module _ (before· : After-fill-tail-arg) where
         abbrev pub After-fill-tail·own : Type 0
-        After-fill-tail·own = Called.Called ps·2 r·2 (claims· .5) T67
-            (record { pos = 29; ty = Syntax.tyRef Syntax.erased Syntax.mut (Syntax.tyInt Syntax.w8); ref = λ x. x }, (record { pos = 11; st = List.[]; d = 0; at = λ x. x }, tt)) (m46 (before· .before)
+        After-fill-tail·own = Called.Called ps·2 r·2 (claims· .5) T68
+            (record { pos = 30; ty = Syntax.tyRef Syntax.erased Syntax.mut (Syntax.tyInt Syntax.w8); ref = λ x. x }, (record { pos = 12; st = List.[]; d = 0; at = λ x. x }, tt)) (m47 (before· .before)
             (before· .fill-tail-arg .given))
 
       pub record After-fill-tail : Type 0 where
         pub before : After-fill-tail-arg
         pub fill-tail : After-fill-tail·own before
 
-      abbrev pub After-fill-tail·gave : (c : After-fill-tail) → s65 .gives (m46 (c .before .before) (c .before .fill-tail-arg .given))
-      After-fill-tail·gave = λ c. Called.given ps·2 r·2 (claims· .5) T67
-          (record { pos = 29; ty = Syntax.tyRef Syntax.erased Syntax.mut (Syntax.tyInt Syntax.w8); ref = λ x. x }, (record { pos = 11; st = List.[]; d = 0; at = λ x. x }, tt)) (m46 (c .before .before) (c
+      abbrev pub After-fill-tail·gave : (c : After-fill-tail) → s66 .gives (m47 (c .before .before) (c .before .fill-tail-arg .given))
+      After-fill-tail·gave = λ c. Called.given ps·2 r·2 (claims· .5) T68
+          (record { pos = 30; ty = Syntax.tyRef Syntax.erased Syntax.mut (Syntax.tyInt Syntax.w8); ref = λ x. x }, (record { pos = 12; st = List.[]; d = 0; at = λ x. x }, tt)) (m47 (c .before .before) (c
           .before .fill-tail-arg .given)) (c .fill-tail)
 
-      abbrev pub m48 : (before : After-fill-tail-arg) → (given : s65 .gives (m46 (before .before) (before .fill-tail-arg .given))) → Typed.Mo T69
-      m48 = λ before given. s66 (m47 before given)
+      abbrev pub m49 : (before : After-fill-tail-arg) → (given : s66 .gives (m47 (before .before) (before .fill-tail-arg .given))) → Typed.Mo T70
+      m49 = λ before given. s67 (m48 before given)
 
-      abbrev pub m49 : (before : After-fill-tail) → (given : s68 .gives (m48 (before .before) (After-fill-tail·gave before))) → Typed.Mo T71
-      m49 = λ before given. s68 .next (m48 (before .before) (After-fill-tail·gave before)) given
+      abbrev pub m50 : (before : After-fill-tail) → (given : s69 .gives (m49 (before .before) (After-fill-tail·gave before))) → Typed.Mo T72
+      m50 = λ before given. s69 .next (m49 (before .before) (After-fill-tail·gave before)) given
 
       module _ (before· : After-fill-tail) where
         pub record After-out3·own : Type 0 where
-          pub given : s68 .gives (m48 (before· .before) (After-fill-tail·gave before·))
+          pub given : s69 .gives (m49 (before· .before) (After-fill-tail·gave before·))
 
       pub record After-out3 : Type 0 where
         pub before : After-fill-tail
         pub out3 : After-out3·own before
 
-      abbrev pub m50 : (before : After-out3) → (given : s69 .gives (m49 (before .before) (before .out3 .given))) → Typed.Mo T72
-      m50 = λ before given. s69 .next (m49 (before .before) (before .out3 .given)) given
+      abbrev pub m51 : (before : After-out3) → (given : s70 .gives (m50 (before .before) (before .out3 .given))) → Typed.Mo T73
+      m51 = λ before given. s70 .next (m50 (before .before) (before .out3 .given)) given
 
       module _ (before· : After-out3) where
         pub record After-slice-known7·own : Type 0 where
-          pub given : s69 .gives (m49 (before· .before) (before· .out3 .given))
+          pub given : s70 .gives (m50 (before· .before) (before· .out3 .given))
 
       pub record After-slice-known7 : Type 0 where
         pub before : After-out3
         pub slice-known7 : After-slice-known7·own before
 
       abbrev pub Need-block-bytes-requires : Type 0
-      Need-block-bytes-requires = (c : After-slice-known7) → s71 .asks (m50 (c .before) (c .slice-known7 .given))
+      Need-block-bytes-requires = (c : After-slice-known7) → s72 .asks (m51 (c .before) (c .slice-known7 .given))
 
-      abbrev pub m51 : (before : After-slice-known7) → (given : s71 .gives (m50 (before .before) (before .slice-known7 .given))) → Typed.Mo T74
-      m51 = λ before given. s71 .next (m50 (before .before) (before .slice-known7 .given)) given
+      abbrev pub m52 : (before : After-slice-known7) → (given : s72 .gives (m51 (before .before) (before .slice-known7 .given))) → Typed.Mo T75
+      m52 = λ before given. s72 .next (m51 (before .before) (before .slice-known7 .given)) given
 
       module _ (before· : After-slice-known7) where
         abbrev pub After-block-bytes·own : Type 0
-        After-block-bytes·own = Called.Called ps·3 r·3 (claims· .7) T72 (record { pos = 11; st = List.[]; d = 0; at = λ x. x }, tt) (m50 (before· .before) (before· .slice-known7 .given))
+        After-block-bytes·own = Called.Called ps·3 r·3 (claims· .7) T73 (record { pos = 12; st = List.[]; d = 0; at = λ x. x }, tt) (m51 (before· .before) (before· .slice-known7 .given))
 
       pub record After-block-bytes : Type 0 where
         pub before : After-slice-known7
         pub block-bytes : After-block-bytes·own before
 
-      abbrev pub After-block-bytes·gave : (c : After-block-bytes) → s71 .gives (m50 (c .before .before) (c .before .slice-known7 .given))
-      After-block-bytes·gave = λ c. Called.given ps·3 r·3 (claims· .7) T72 (record { pos = 11; st = List.[]; d = 0; at = λ x. x }, tt) (m50 (c .before .before) (c .before .slice-known7 .given)) (c
+      abbrev pub After-block-bytes·gave : (c : After-block-bytes) → s72 .gives (m51 (c .before .before) (c .before .slice-known7 .given))
+      After-block-bytes·gave = λ c. Called.given ps·3 r·3 (claims· .7) T73 (record { pos = 12; st = List.[]; d = 0; at = λ x. x }, tt) (m51 (c .before .before) (c .before .slice-known7 .given)) (c
           .block-bytes)
 
-      abbrev pub m52 : (before : After-slice-known7) → (given : s71 .gives (m50 (before .before) (before .slice-known7 .given))) → Typed.Mo T75
-      m52 = λ before given. s72 (m51 before given)
-
-      abbrev pub m53 : (before : After-slice-known7) → (given : s71 .gives (m50 (before .before) (before .slice-known7 .given))) → Typed.Mo T76
+      abbrev pub m53 : (before : After-slice-known7) → (given : s72 .gives (m51 (before .before) (before .slice-known7 .given))) → Typed.Mo T76
       m53 = λ before given. s73 (m52 before given)
 
-      abbrev pub m54 : (before : After-slice-known7) → (given : s71 .gives (m50 (before .before) (before .slice-known7 .given))) → Typed.Mo T77
+      abbrev pub m54 : (before : After-slice-known7) → (given : s72 .gives (m51 (before .before) (before .slice-known7 .given))) → Typed.Mo T77
       m54 = λ before given. s74 (m53 before given)
 
-      abbrev pub m55 : (before : After-next) → (given : s29 .gives (m20 (before .before) (before .next .given))) → Typed.Mo T78
-      m55 = λ before given. s75 (m26 before given)
+      abbrev pub m55 : (before : After-slice-known7) → (given : s72 .gives (m51 (before .before) (before .slice-known7 .given))) → Typed.Mo T78
+      m55 = λ before given. s75 (m54 before given)
 
-      abbrev pub m56 : (before : After-next) → (given : s29 .gives (m20 (before .before) (before .next .given))) → Typed.Mo T79
-      m56 = λ before given. s76 (m55 before given)
+      abbrev pub m56 : (before : After-next) → (given : s30 .gives (m21 (before .before) (before .next .given))) → Typed.Mo T79
+      m56 = λ before given. s76 (m27 before given)
 
-      abbrev pub m57 : (before : After-next) → (given : s29 .gives (m20 (before .before) (before .next .given))) → Typed.Mo T80
+      abbrev pub m57 : (before : After-next) → (given : s30 .gives (m21 (before .before) (before .next .given))) → Typed.Mo T80
       m57 = λ before given. s77 (m56 before given)
 
-      abbrev pub m58 : (before : After-next) → (given : s29 .gives (m20 (before .before) (before .next .given))) → Typed.Mo T81
+      abbrev pub m58 : (before : After-next) → (given : s30 .gives (m21 (before .before) (before .next .given))) → Typed.Mo T81
       m58 = λ before given. s78 (m57 before given)
 
+      abbrev pub m59 : (before : After-next) → (given : s30 .gives (m21 (before .before) (before .next .given))) → Typed.Mo T82
+      m59 = λ before given. s79 (m58 before given)
+
       abbrev pub Need-same-length : Type 0
-      Need-same-length = (c : After-known-told) → MutSlice.SameLen (Row.get 2 (T81 .locals) (m58 (c .before) (c .known-told .given))) (dens (c .before .before .before .before .before .before .before
-          .before .before .before .before .before .before .before .before .before .κs) (c .before .before .before .before .before .before .before .before .before .before .before .before .before .before
-          .before .before .args) .1 .0)
+      Need-same-length = (c : After-known-told) → MutSlice.SameLen (Row.get 2 (T82 .locals) (m59 (c .before) (c .known-told .given))) (dens (c .before .before .before .before .before .before .before
+          .before .before .before .before .before .before .before .before .before .before .κs) (c .before .before .before .before .before .before .before .before .before .before .before .before .before
+          .before .before .before .before .args) .1 .0)
 
       abbrev pub Need-same-length-2 : Type 0
-      Need-same-length-2 = (c : After-known-told) → MutSlice.SameLen (Row.get 4 (T81 .locals) (m58 (c .before) (c .known-told .given))) (dens (c .before .before .before .before .before .before .before
-          .before .before .before .before .before .before .before .before .before .κs) (c .before .before .before .before .before .before .before .before .before .before .before .before .before .before
-          .before .before .args) .1 .1 .1 .0)
+      Need-same-length-2 = (c : After-known-told) → MutSlice.SameLen (Row.get 4 (T82 .locals) (m59 (c .before) (c .known-told .given))) (dens (c .before .before .before .before .before .before .before
+          .before .before .before .before .before .before .before .before .before .before .κs) (c .before .before .before .before .before .before .before .before .before .before .before .before .before
+          .before .before .before .before .args) .1 .1 .1 .0)
 
       abbrev pub Need-same-length-3 : Type 0
-      Need-same-length-3 = (c : After-known-told) → MutSlice.SameLen (Row.get 5 (T81 .locals) (m58 (c .before) (c .known-told .given))) (dens (c .before .before .before .before .before .before .before
-          .before .before .before .before .before .before .before .before .before .κs) (c .before .before .before .before .before .before .before .before .before .before .before .before .before .before
-          .before .before .args) .1 .1 .1 .1 .0)
+      Need-same-length-3 = (c : After-known-told) → MutSlice.SameLen (Row.get 5 (T82 .locals) (m59 (c .before) (c .known-told .given))) (dens (c .before .before .before .before .before .before .before
+          .before .before .before .before .before .before .before .before .before .before .κs) (c .before .before .before .before .before .before .before .before .before .before .before .before .before
+          .before .before .before .before .args) .1 .1 .1 .1 .0)
 
       abbrev pub Need-returns : Type 0
-      Need-returns = (c : After-known-told) → Post· (c .before .before .before .before .before .before .before .before .before .before .before .before .before .before .before .before .κs) (dens (c
-          .before .before .before .before .before .before .before .before .before .before .before .before .before .before .before .before .κs) (c .before .before .before .before .before .before .before
-          .before .before .before .before .before .before .before .before .before .args)) (Function.resV r (c .before .before .before .before .before .before .before .before .before .before .before
-          .before .before .before .before .before .κs) (m58 (c .before) (c .known-told .given) .0)) (Clauses.atExit (Kinds.endedOf 4 ps r) (c .before .before .before .before .before .before .before
-          .before .before .before .before .before .before .before .before .before .κs) (dens (c .before .before .before .before .before .before .before .before .before .before .before .before .before
-          .before .before .before .κs) (c .before .before .before .before .before .before .before .before .before .before .before .before .before .before .before .before .args)) (Enter.lastsP (c .before
-          .before .before .before .before .before .before .before .before .before .before .before .before .before .before .before .κs) 1 ps xs (dens (c .before .before .before .before .before .before
-          .before .before .before .before .before .before .before .before .before .before .κs) (c .before .before .before .before .before .before .before .before .before .before .before .before .before
-          .before .before .before .args)) (m58 (c .before) (c .known-told .given) .1)))
+      Need-returns = (c : After-known-told) → Post· (c .before .before .before .before .before .before .before .before .before .before .before .before .before .before .before .before .before .κs)
+          (dens (c .before .before .before .before .before .before .before .before .before .before .before .before .before .before .before .before .before .κs) (c .before .before .before .before .before
+          .before .before .before .before .before .before .before .before .before .before .before .before .args)) (Function.resV r (c .before .before .before .before .before .before .before .before
+          .before .before .before .before .before .before .before .before .before .κs) (m59 (c .before) (c .known-told .given) .0)) (Clauses.atExit (Kinds.endedOf 5 ps r) (c .before .before .before
+          .before .before .before .before .before .before .before .before .before .before .before .before .before .before .κs) (dens (c .before .before .before .before .before .before .before .before
+          .before .before .before .before .before .before .before .before .before .κs) (c .before .before .before .before .before .before .before .before .before .before .before .before .before .before
+          .before .before .before .args)) (Enter.lastsP (c .before .before .before .before .before .before .before .before .before .before .before .before .before .before .before .before .before .κs) 1 ps
+          xs (dens (c .before .before .before .before .before .before .before .before .before .before .before .before .before .before .before .before .before .κs) (c .before .before .before .before
+          .before .before .before .before .before .before .before .before .before .before .before .before .before .args)) (m59 (c .before) (c .known-told .given) .1)))
 
-      abbrev pub m59 : (before : After-slice-known7) → (given : s71 .gives (m50 (before .before) (before .slice-known7 .given))) → Typed.Mo T78
-      m59 = λ before given. s75 (m54 before given)
+      abbrev pub m60 : (before : After-slice-known7) → (given : s72 .gives (m51 (before .before) (before .slice-known7 .given))) → Typed.Mo T79
+      m60 = λ before given. s76 (m55 before given)
 
-      abbrev pub m60 : (before : After-slice-known7) → (given : s71 .gives (m50 (before .before) (before .slice-known7 .given))) → Typed.Mo T79
-      m60 = λ before given. s76 (m59 before given)
-
-      abbrev pub m61 : (before : After-slice-known7) → (given : s71 .gives (m50 (before .before) (before .slice-known7 .given))) → Typed.Mo T80
+      abbrev pub m61 : (before : After-slice-known7) → (given : s72 .gives (m51 (before .before) (before .slice-known7 .given))) → Typed.Mo T80
       m61 = λ before given. s77 (m60 before given)
 
-      abbrev pub m62 : (before : After-slice-known7) → (given : s71 .gives (m50 (before .before) (before .slice-known7 .given))) → Typed.Mo T81
+      abbrev pub m62 : (before : After-slice-known7) → (given : s72 .gives (m51 (before .before) (before .slice-known7 .given))) → Typed.Mo T81
       m62 = λ before given. s78 (m61 before given)
 
+      abbrev pub m63 : (before : After-slice-known7) → (given : s72 .gives (m51 (before .before) (before .slice-known7 .given))) → Typed.Mo T82
+      m63 = λ before given. s79 (m62 before given)
+
       abbrev pub Need-same-length-4 : Type 0
-      Need-same-length-4 = (c : After-block-bytes) → MutSlice.SameLen (Row.get 2 (T81 .locals) (m62 (c .before) (After-block-bytes·gave c))) (dens (c .before .before .before .before .before .before
+      Need-same-length-4 = (c : After-block-bytes) → MutSlice.SameLen (Row.get 2 (T82 .locals) (m63 (c .before) (After-block-bytes·gave c))) (dens (c .before .before .before .before .before .before
           .before .before .before .before .before .before .before .before .before .before .before .before .before .before .before .before .before .before .before .before .before .before .before .before
-          .κs) (c .before .before .before .before .before .before .before .before .before .before .before .before .before .before .before .before .before .before .before .before .before .before .before
-          .before .before .before .before .before .before .before .args) .1 .0)
+          .before .κs) (c .before .before .before .before .before .before .before .before .before .before .before .before .before .before .before .before .before .before .before .before .before .before
+          .before .before .before .before .before .before .before .before .before .args) .1 .0)
 
       abbrev pub Need-same-length-5 : Type 0
-      Need-same-length-5 = (c : After-block-bytes) → MutSlice.SameLen (Row.get 4 (T81 .locals) (m62 (c .before) (After-block-bytes·gave c))) (dens (c .before .before .before .before .before .before
+      Need-same-length-5 = (c : After-block-bytes) → MutSlice.SameLen (Row.get 4 (T82 .locals) (m63 (c .before) (After-block-bytes·gave c))) (dens (c .before .before .before .before .before .before
           .before .before .before .before .before .before .before .before .before .before .before .before .before .before .before .before .before .before .before .before .before .before .before .before
-          .κs) (c .before .before .before .before .before .before .before .before .before .before .before .before .before .before .before .before .before .before .before .before .before .before .before
-          .before .before .before .before .before .before .before .args) .1 .1 .1 .0)
+          .before .κs) (c .before .before .before .before .before .before .before .before .before .before .before .before .before .before .before .before .before .before .before .before .before .before
+          .before .before .before .before .before .before .before .before .before .args) .1 .1 .1 .0)
 
       abbrev pub Need-same-length-6 : Type 0
-      Need-same-length-6 = (c : After-block-bytes) → MutSlice.SameLen (Row.get 5 (T81 .locals) (m62 (c .before) (After-block-bytes·gave c))) (dens (c .before .before .before .before .before .before
+      Need-same-length-6 = (c : After-block-bytes) → MutSlice.SameLen (Row.get 5 (T82 .locals) (m63 (c .before) (After-block-bytes·gave c))) (dens (c .before .before .before .before .before .before
           .before .before .before .before .before .before .before .before .before .before .before .before .before .before .before .before .before .before .before .before .before .before .before .before
-          .κs) (c .before .before .before .before .before .before .before .before .before .before .before .before .before .before .before .before .before .before .before .before .before .before .before
-          .before .before .before .before .before .before .before .args) .1 .1 .1 .1 .0)
+          .before .κs) (c .before .before .before .before .before .before .before .before .before .before .before .before .before .before .before .before .before .before .before .before .before .before
+          .before .before .before .before .before .before .before .before .before .args) .1 .1 .1 .1 .0)
 
       abbrev pub Need-returns-2 : Type 0
       Need-returns-2 = (c : After-block-bytes) → Post· (c .before .before .before .before .before .before .before .before .before .before .before .before .before .before .before .before .before
+          .before .before .before .before .before .before .before .before .before .before .before .before .before .before .κs) (dens (c .before .before .before .before .before .before .before .before
+          .before .before .before .before .before .before .before .before .before .before .before .before .before .before .before .before .before .before .before .before .before .before .before .κs) (c
+          .before .before .before .before .before .before .before .before .before .before .before .before .before .before .before .before .before .before .before .before .before .before .before .before
+          .before .before .before .before .before .before .before .args)) (Function.resV r (c .before .before .before .before .before .before .before .before .before .before .before .before .before
+          .before .before .before .before .before .before .before .before .before .before .before .before .before .before .before .before .before .before .κs) (m63 (c .before) (After-block-bytes·gave c)
+          .0)) (Clauses.atExit (Kinds.endedOf 5 ps r) (c .before .before .before .before .before .before .before .before .before .before .before .before .before .before .before .before .before .before
           .before .before .before .before .before .before .before .before .before .before .before .before .before .κs) (dens (c .before .before .before .before .before .before .before .before .before
-          .before .before .before .before .before .before .before .before .before .before .before .before .before .before .before .before .before .before .before .before .before .κs) (c .before .before
+          .before .before .before .before .before .before .before .before .before .before .before .before .before .before .before .before .before .before .before .before .before .before .κs) (c .before
           .before .before .before .before .before .before .before .before .before .before .before .before .before .before .before .before .before .before .before .before .before .before .before .before
-          .before .before .before .before .args)) (Function.resV r (c .before .before .before .before .before .before .before .before .before .before .before .before .before .before .before .before
-          .before .before .before .before .before .before .before .before .before .before .before .before .before .before .κs) (m62 (c .before) (After-block-bytes·gave c) .0)) (Clauses.atExit
-          (Kinds.endedOf 4 ps r) (c .before .before .before .before .before .before .before .before .before .before .before .before .before .before .before .before .before .before .before .before .before
-          .before .before .before .before .before .before .before .before .before .κs) (dens (c .before .before .before .before .before .before .before .before .before .before .before .before .before
-          .before .before .before .before .before .before .before .before .before .before .before .before .before .before .before .before .before .κs) (c .before .before .before .before .before .before
+          .before .before .before .before .before .before .args)) (Enter.lastsP (c .before .before .before .before .before .before .before .before .before .before .before .before .before .before .before
+          .before .before .before .before .before .before .before .before .before .before .before .before .before .before .before .before .κs) 1 ps xs (dens (c .before .before .before .before .before
           .before .before .before .before .before .before .before .before .before .before .before .before .before .before .before .before .before .before .before .before .before .before .before .before
-          .args)) (Enter.lastsP (c .before .before .before .before .before .before .before .before .before .before .before .before .before .before .before .before .before .before .before .before .before
-          .before .before .before .before .before .before .before .before .before .κs) 1 ps xs (dens (c .before .before .before .before .before .before .before .before .before .before .before .before
-          .before .before .before .before .before .before .before .before .before .before .before .before .before .before .before .before .before .before .κs) (c .before .before .before .before .before
-          .before .before .before .before .before .before .before .before .before .before .before .before .before .before .before .before .before .before .before .before .before .before .before .before
-          .before .args)) (m62 (c .before) (After-block-bytes·gave c) .1)))
+          .before .before .κs) (c .before .before .before .before .before .before .before .before .before .before .before .before .before .before .before .before .before .before .before .before .before
+          .before .before .before .before .before .before .before .before .before .before .args)) (m63 (c .before) (After-block-bytes·gave c) .1)))
 
       module _ (write-walk-requires : Need-write-walk-requires) (after-counting-requires : Need-after-counting-requires) (enum-known-next : Need-enum-known-next) (enum-known-next-2 :
           Need-enum-known-next-2) (write-walk-requires-2 : Need-write-walk-requires-2) (fill-tail-requires : Need-fill-tail-requires) (block-bytes-requires : Need-block-bytes-requires) (same-length :
           Need-same-length) (same-length-2 : Need-same-length-2) (same-length-3 : Need-same-length-3) (returns : Need-returns) (same-length-4 : Need-same-length-4) (same-length-5 : Need-same-length-5)
           (same-length-6 : Need-same-length-6) (returns-2 : Need-returns-2) where
         lay7 : (c : After-block-bytes) → at52 (W0 (c .before .before .before .before .before .before .before .before .before .before .before .before .before .before .before .before .before .before
-            .before .before .before .before .before .before .before .before .before .before .before .before .κs) (c .before .before .before .before .before .before .before .before .before .before .before
-            .before .before .before .before .before .before .before .before .before .before .before .before .before .before .before .before .before .before .before .args)) (m54 (c .before)
+            .before .before .before .before .before .before .before .before .before .before .before .before .before .κs) (c .before .before .before .before .before .before .before .before .before .before
+            .before .before .before .before .before .before .before .before .before .before .before .before .before .before .before .before .before .before .before .before .before .args)) (m55 (c .before)
             (After-block-bytes·gave c))
         lay7 = λ c. (
           (
             Path'.refl,
             (
-              MutSlice.fix-len (Row.get 2 (T81 .locals) (m62 (c .before) (After-block-bytes·gave c)) .ptr) (Row.get 2 (T81 .locals) (m62 (c .before) (After-block-bytes·gave c)) .name) (Row.get 2 (T81
-                  .locals) (m62 (c .before) (After-block-bytes·gave c)) .now) (dens (c .before .before .before .before .before .before .before .before .before .before .before .before .before .before .before
-                  .before .before .before .before .before .before .before .before .before .before .before .before .before .before .before .κs) (c .before .before .before .before .before .before .before .before
-                  .before .before .before .before .before .before .before .before .before .before .before .before .before .before .before .before .before .before .before .before .before .before .args) .1 .0
-                  .now) (same-length-4 record { before = c .before; block-bytes = c .block-bytes }),
+              MutSlice.fix-len (Row.get 2 (T82 .locals) (m63 (c .before) (After-block-bytes·gave c)) .ptr) (Row.get 2 (T82 .locals) (m63 (c .before) (After-block-bytes·gave c)) .name) (Row.get 2 (T82
+                  .locals) (m63 (c .before) (After-block-bytes·gave c)) .now) (dens (c .before .before .before .before .before .before .before .before .before .before .before .before .before .before .before
+                  .before .before .before .before .before .before .before .before .before .before .before .before .before .before .before .before .κs) (c .before .before .before .before .before .before .before
+                  .before .before .before .before .before .before .before .before .before .before .before .before .before .before .before .before .before .before .before .before .before .before .before .before
+                  .args) .1 .0 .now) (same-length-4 record { before = c .before; block-bytes = c .block-bytes }),
               (
                 tt,
                 (
-                  MutSlice.fix-len (Row.get 4 (T81 .locals) (m62 (c .before) (After-block-bytes·gave c)) .ptr) (Row.get 4 (T81 .locals) (m62 (c .before) (After-block-bytes·gave c)) .name) (Row.get 4 (T81
-                      .locals) (m62 (c .before) (After-block-bytes·gave c)) .now) (dens (c .before .before .before .before .before .before .before .before .before .before .before .before .before .before .before
-                      .before .before .before .before .before .before .before .before .before .before .before .before .before .before .before .κs) (c .before .before .before .before .before .before .before .before
-                      .before .before .before .before .before .before .before .before .before .before .before .before .before .before .before .before .before .before .before .before .before .before .args) .1 .1 .1
-                      .0 .now) (same-length-5 record { before = c .before; block-bytes = c .block-bytes }),
+                  MutSlice.fix-len (Row.get 4 (T82 .locals) (m63 (c .before) (After-block-bytes·gave c)) .ptr) (Row.get 4 (T82 .locals) (m63 (c .before) (After-block-bytes·gave c)) .name) (Row.get 4 (T82
+                      .locals) (m63 (c .before) (After-block-bytes·gave c)) .now) (dens (c .before .before .before .before .before .before .before .before .before .before .before .before .before .before .before
+                      .before .before .before .before .before .before .before .before .before .before .before .before .before .before .before .before .κs) (c .before .before .before .before .before .before .before
+                      .before .before .before .before .before .before .before .before .before .before .before .before .before .before .before .before .before .before .before .before .before .before .before .before
+                      .args) .1 .1 .1 .0 .now) (same-length-5 record { before = c .before; block-bytes = c .block-bytes }),
                   (
-                    MutSlice.fix-len (Row.get 5 (T81 .locals) (m62 (c .before) (After-block-bytes·gave c)) .ptr) (Row.get 5 (T81 .locals) (m62 (c .before) (After-block-bytes·gave c)) .name) (Row.get 5 (T81
-                        .locals) (m62 (c .before) (After-block-bytes·gave c)) .now) (dens (c .before .before .before .before .before .before .before .before .before .before .before .before .before .before .before
-                        .before .before .before .before .before .before .before .before .before .before .before .before .before .before .before .κs) (c .before .before .before .before .before .before .before .before
-                        .before .before .before .before .before .before .before .before .before .before .before .before .before .before .before .before .before .before .before .before .before .before .args) .1 .1 .1
-                        .1 .0 .now) (same-length-6 record { before = c .before; block-bytes = c .block-bytes }),
-                    (tt, (tt, tt)),
+                    MutSlice.fix-len (Row.get 5 (T82 .locals) (m63 (c .before) (After-block-bytes·gave c)) .ptr) (Row.get 5 (T82 .locals) (m63 (c .before) (After-block-bytes·gave c)) .name) (Row.get 5 (T82
+                        .locals) (m63 (c .before) (After-block-bytes·gave c)) .now) (dens (c .before .before .before .before .before .before .before .before .before .before .before .before .before .before .before
+                        .before .before .before .before .before .before .before .before .before .before .before .before .before .before .before .before .κs) (c .before .before .before .before .before .before .before
+                        .before .before .before .before .before .before .before .before .before .before .before .before .before .before .before .before .before .before .before .before .before .before .before .before
+                        .args) .1 .1 .1 .1 .0 .now) (same-length-6 record { before = c .before; block-bytes = c .block-bytes }),
+                    (tt, (Path'.refl, (tt, tt))),
                   ),
                 ),
               ),
             ),
           ),
-          returns-2 record { before = c .before; block-bytes = c .block-bytes },
+          returns-2 record
+              { before = c .before; block-bytes = c .block-bytes },
         )
 
-        lay6 : (c : After-known-told) → at52 (W0 (c .before .before .before .before .before .before .before .before .before .before .before .before .before .before .before .before .κs) (c .before
-            .before .before .before .before .before .before .before .before .before .before .before .before .before .before .before .args)) (m26 (c .before) (c .known-told .given))
+        lay6 : (c : After-known-told) → at52 (W0 (c .before .before .before .before .before .before .before .before .before .before .before .before .before .before .before .before .before .κs) (c
+            .before .before .before .before .before .before .before .before .before .before .before .before .before .before .before .before .before .args)) (m27 (c .before) (c .known-told .given))
         lay6 = λ c. (
           (
             Path'.refl,
             (
-              MutSlice.fix-len (Row.get 2 (T81 .locals) (m58 (c .before) (c .known-told .given)) .ptr) (Row.get 2 (T81 .locals) (m58 (c .before) (c .known-told .given)) .name) (Row.get 2 (T81 .locals) (m58
-                  (c .before) (c .known-told .given)) .now) (dens (c .before .before .before .before .before .before .before .before .before .before .before .before .before .before .before .before .κs) (c
-                  .before .before .before .before .before .before .before .before .before .before .before .before .before .before .before .before .args) .1 .0 .now) (same-length record
+              MutSlice.fix-len (Row.get 2 (T82 .locals) (m59 (c .before) (c .known-told .given)) .ptr) (Row.get 2 (T82 .locals) (m59 (c .before) (c .known-told .given)) .name) (Row.get 2 (T82 .locals) (m59
+                  (c .before) (c .known-told .given)) .now) (dens (c .before .before .before .before .before .before .before .before .before .before .before .before .before .before .before .before .before .κs)
+                  (c .before .before .before .before .before .before .before .before .before .before .before .before .before .before .before .before .before .args) .1 .0 .now) (same-length record
                   { before = c .before; known-told = c .known-told }),
               (
                 tt,
                 (
-                  MutSlice.fix-len (Row.get 4 (T81 .locals) (m58 (c .before) (c .known-told .given)) .ptr) (Row.get 4 (T81 .locals) (m58 (c .before) (c .known-told .given)) .name) (Row.get 4 (T81 .locals) (m58
-                      (c .before) (c .known-told .given)) .now) (dens (c .before .before .before .before .before .before .before .before .before .before .before .before .before .before .before .before .κs) (c
-                      .before .before .before .before .before .before .before .before .before .before .before .before .before .before .before .before .args) .1 .1 .1 .0 .now) (same-length-2 record
+                  MutSlice.fix-len (Row.get 4 (T82 .locals) (m59 (c .before) (c .known-told .given)) .ptr) (Row.get 4 (T82 .locals) (m59 (c .before) (c .known-told .given)) .name) (Row.get 4 (T82 .locals) (m59
+                      (c .before) (c .known-told .given)) .now) (dens (c .before .before .before .before .before .before .before .before .before .before .before .before .before .before .before .before .before .κs)
+                      (c .before .before .before .before .before .before .before .before .before .before .before .before .before .before .before .before .before .args) .1 .1 .1 .0 .now) (same-length-2 record
                       { before = c .before; known-told = c .known-told }),
                   (
-                    MutSlice.fix-len (Row.get 5 (T81 .locals) (m58 (c .before) (c .known-told .given)) .ptr) (Row.get 5 (T81 .locals) (m58 (c .before) (c .known-told .given)) .name) (Row.get 5 (T81 .locals) (m58
-                        (c .before) (c .known-told .given)) .now) (dens (c .before .before .before .before .before .before .before .before .before .before .before .before .before .before .before .before .κs) (c
-                        .before .before .before .before .before .before .before .before .before .before .before .before .before .before .before .before .args) .1 .1 .1 .1 .0 .now) (same-length-3 record
+                    MutSlice.fix-len (Row.get 5 (T82 .locals) (m59 (c .before) (c .known-told .given)) .ptr) (Row.get 5 (T82 .locals) (m59 (c .before) (c .known-told .given)) .name) (Row.get 5 (T82 .locals) (m59
+                        (c .before) (c .known-told .given)) .now) (dens (c .before .before .before .before .before .before .before .before .before .before .before .before .before .before .before .before .before .κs)
+                        (c .before .before .before .before .before .before .before .before .before .before .before .before .before .before .before .before .before .args) .1 .1 .1 .1 .0 .now) (same-length-3 record
                         { before = c .before; known-told = c .known-told }),
-                    (tt, (tt, tt)),
+                    (tt, (Path'.refl, (tt, tt))),
                   ),
                 ),
               ),
@@ -3787,12 +3957,12 @@ module _ (claims· : Claims) where
         )
 
         lay5 : (c : After-block-bytes) → at7 (W1 (c .before .before .before .before .before .before .before .before .before .before .before .before .before .before .before .before .before .before)
-            (After-after-counting·gave (c .before .before .before .before .before .before .before .before .before .before .before .before .before .before .before .before .before))) (m51 (c .before)
+            (After-after-counting·gave (c .before .before .before .before .before .before .before .before .before .before .before .before .before .before .before .before .before))) (m52 (c .before)
             (After-block-bytes·gave c))
         lay5 = λ c. lay7 record { before = c .before; block-bytes = c .block-bytes }
 
         lay4 : (c : After-fill-tail) → at13 (W1 (c .before .before .before .before .before .before .before .before .before .before .before .before .before .before .before) (After-after-counting·gave
-            (c .before .before .before .before .before .before .before .before .before .before .before .before .before .before))) (m47 (c .before) (After-fill-tail·gave c))
+            (c .before .before .before .before .before .before .before .before .before .before .before .before .before .before))) (m48 (c .before) (After-fill-tail·gave c))
         lay4 = λ c. (
           Path'.refl,
           λ g. λ g'. (
@@ -3801,14 +3971,14 @@ module _ (claims· : Claims) where
                 g''. lay5 record {
                   before = record { before = record { before = record { before = c .before; fill-tail = c .fill-tail }; out3 = record { given = g } }; slice-known7 = record { given = g' } };
                   block-bytes =
-                      Called.called ps·3 r·3 (claims· .7) T72 (record { pos = 11; st = List.[]; d = 0; at = λ x. x }, tt) (m50 record
+                      Called.called ps·3 r·3 (claims· .7) T73 (record { pos = 12; st = List.[]; d = 0; at = λ x. x }, tt) (m51 record
                       { before = record { before = c .before; fill-tail = c .fill-tail }; out3 = record { given = g } } g') g'';
                 },
           ),
         )
 
         lay3 : (c : After-write-walk2) → at30 (W1 (c .before .before .before .before .before .before .before .before) (After-after-counting·gave (c .before .before .before .before .before .before
-            .before))) (m37 (c .before) (After-write-walk2·gave c))
+            .before))) (m38 (c .before) (After-write-walk2·gave c))
         lay3 = λ c. (
           Path'.refl,
           λ g. λ g'. (
@@ -3848,7 +4018,7 @@ module _ (claims· : Claims) where
                       fill-tail-arg = record { given = g'5 };
                     };
                     fill-tail = Called.called ps·2 r·2 (claims· .5)
-                        T67 (record { pos = 29; ty = Syntax.tyRef Syntax.erased Syntax.mut (Syntax.tyInt Syntax.w8); ref = λ x. x }, (record { pos = 11; st = List.[]; d = 0; at = λ x. x }, tt)) (m46 record {
+                        T68 (record { pos = 30; ty = Syntax.tyRef Syntax.erased Syntax.mut (Syntax.tyInt Syntax.w8); ref = λ x. x }, (record { pos = 12; st = List.[]; d = 0; at = λ x. x }, tt)) (m47 record {
                           before = record {
                             before = record {
                               before = record { before = record { before = record { before = c .before; write-walk2 = c .write-walk2 }; out2 = record { given = g } }; slice-known5 = record { given = g' } };
@@ -3866,8 +4036,8 @@ module _ (claims· : Claims) where
           ),
         )
 
-        lay2 : (c : After-after-counting) → at53 (W0 (c .before .before .before .before .before .before .before .before .before .before .before .before .before .κs) (c .before .before .before .before
-            .before .before .before .before .before .before .before .before .before .args)) (m17 (c .before) (After-after-counting·gave c))
+        lay2 : (c : After-after-counting) → at53 (W0 (c .before .before .before .before .before .before .before .before .before .before .before .before .before .before .κs) (c .before .before .before
+            .before .before .before .before .before .before .before .before .before .before .before .args)) (m18 (c .before) (After-after-counting·gave c))
         lay2 = λ c. (
           λ k. (
             enum-known-next record { before = record { before = c .before; after-counting = c .after-counting }; match = record { keys1 = k } },
@@ -3917,19 +4087,23 @@ module _ (claims· : Claims) where
                           write-walk-arg6 = record { given = g'5 };
                         };
                         write-walk2 = Called.called
-                            ps·0 r·0 (claims· .1) T50 (
+                            ps·0 r·0 (claims· .1) T51 (
                               record { pos = 1; ty = Syntax.tyRef (Syntax.named 0) Syntax.imm (Syntax.tyInt Syntax.w16); ref = λ x. x },
                               (
-                                record { pos = 22; ty = Syntax.tyRef Syntax.erased Syntax.mut (Syntax.tyInt Syntax.w8); ref = λ x. x },
+                                record { pos = 23; ty = Syntax.tyRef Syntax.erased Syntax.mut (Syntax.tyInt Syntax.w8); ref = λ x. x },
                                 (
                                   Bool.bLit Bool'.true,
                                   (
-                                    record { pos = 24; ty = Syntax.tyRef Syntax.erased Syntax.mut (Syntax.tyInt Syntax.w16); ref = λ x. x },
-                                    (record { pos = 26; ty = Syntax.tyRef Syntax.erased Syntax.mut Element.behind; ref = λ x. x }, (record { pos = 6; st = List.[]; d = 0; at = λ x. x }, (Num.vAt 7 λ x. x, tt))),
+                                    record { pos = 25; ty = Syntax.tyRef Syntax.erased Syntax.mut (Syntax.tyInt Syntax.w16); ref = λ x. x },
+                                    (
+                                      record { pos = 27; ty = Syntax.tyRef Syntax.erased Syntax.mut Element.behind; ref = λ x. x },
+                                      (record { pos = 6; st = List.[]; d = 0; at = λ x. x }, (record { pos = 7; ty = Syntax.tyRef (Syntax.named 4) Syntax.imm (Syntax.tyInt Syntax.w8); ref = λ x. x }, (Num.vAt 8 λ x. x, tt))),
+                                    ),
                                   ),
                                 ),
                               ),
-                            ) (m36 record {
+                            )
+                            (m37 record {
                               before = record {
                                 before = record {
                                   before = record { before = record { before = record { before = c .before; after-counting = c .after-counting }; match = record { keys2 = k } }; next2 = record { given = g } };
@@ -3947,13 +4121,13 @@ module _ (claims· : Claims) where
               ),
             ),
             Match.each-below 2 (λ j. (Unit {0} × (Run.OneOf
-                (List._∷_ 0 List.[]) j → ⊥)) × (Run.OneOf (List._∷_ 1 List.[]) j → ⊥) → ⊥) (λ n. n .1 Path'.refl, (λ n. n .0 .1 Path'.refl, tt)) (Declared.tagOf Next.the-type (Row.get 9 (T30 .locals) (m19 (c
-                .before) (After-after-counting·gave c)))) (Match.tag-small Next.the-type (Row.get 9 (T30 .locals) (m19 (c .before) (After-after-counting·gave c)))),
+                (List._∷_ 0 List.[]) j → ⊥)) × (Run.OneOf (List._∷_ 1 List.[]) j → ⊥) → ⊥) (λ n. n .1 Path'.refl, (λ n. n .0 .1 Path'.refl, tt)) (Declared.tagOf Next.the-type (Row.get 10 (T31 .locals) (m20 (c
+                .before) (After-after-counting·gave c)))) (Match.tag-small Next.the-type (Row.get 10 (T31 .locals) (m20 (c .before) (After-after-counting·gave c)))),
           ),
         )
 
-        lay1 : (c : After-write-walk) → at66 (W0 (c .before .before .before .before .before .before .before .κs) (c .before .before .before .before .before .before .before .args)) (m10 (c .before)
-            (After-write-walk·gave c))
+        lay1 : (c : After-write-walk) → at66 (W0 (c .before .before .before .before .before .before .before .before .κs) (c .before .before .before .before .before .before .before .before .args)) (m11
+            (c .before) (After-write-walk·gave c))
         lay1 = λ c. (
           Path'.refl,
           λ g. λ g'. (
@@ -3984,8 +4158,8 @@ module _ (claims· : Claims) where
                     };
                     rs = record { given = g'4 };
                   };
-                  after-counting = Called.called ps·1 r·1 (claims· .3) T26
-                      (record { pos = 8; st = List.[]; d = 0; at = λ x. x }, (Bool.bAt 3 λ x. x, (Num.vAt 18 λ x. x, tt))) (m16 record {
+                  after-counting = Called.called ps·1 r·1 (claims· .3) T27
+                      (record { pos = 9; st = List.[]; d = 0; at = λ x. x }, (Bool.bAt 3 λ x. x, (Num.vAt 19 λ x. x, tt))) (m17 record {
                         before = record {
                           before = record { before = record { before = record { before = c .before; write-walk = c .write-walk }; out = record { given = g } }; slice-known3 = record { given = g' } };
                           lines = record
@@ -3999,79 +4173,100 @@ module _ (claims· : Claims) where
           ),
         )
 
-        pub laid : (c : Start) → at79 (W0 (c .κs) (c .args)) (m0 (c .κs) (c .args))
-        laid = λ c. λ g. λ g'. λ g''. λ g'3. (
+        pub laid : (c : Start) → at80 (W0 (c .κs) (c .args)) (m0 (c .κs) (c .args))
+        laid = λ c. λ g. λ g'. λ g''. λ g'3. λ g'4. (
           Path'.refl,
-          λ g'4. (
+          λ g'5. (
             Path'.refl,
-            λ g'5. (
+            λ g'6. (
               Path'.refl,
               (
                 write-walk-requires record {
                   before = record {
                     before = record {
-                      before = record
-                          { before = record { before = record { before = c; shared-slice-known = record { given = g } }; slice-known = record { given = g' } }; slice-known2 = record { given = g'' } };
-                      write-walk-arg
-                          = record { given = g'3 };
-                    };
-                    write-walk-arg2 = record { given = g'4 };
-                  };
-                  write-walk-arg3 = record { given = g'5 };
-                },
-                λ g'6. lay1 record {
-                  before = record {
-                    before = record {
                       before = record {
                         before = record
                             { before = record { before = record { before = c; shared-slice-known = record { given = g } }; slice-known = record { given = g' } }; slice-known2 = record { given = g'' } };
-                        write-walk-arg
-                            = record { given = g'3 };
+                        shared-slice-known2 = record { given = g'3 };
                       };
-                      write-walk-arg2 = record { given = g'4 };
+                      write-walk-arg = record { given = g'4 };
                     };
-                    write-walk-arg3 = record { given = g'5 };
+                    write-walk-arg2 = record { given = g'5 };
                   };
-                  write-walk = Called.called ps·0 r·0 (claims· .1) T13 (
-                    record { pos = 1; ty = Syntax.tyRef (Syntax.named 0) Syntax.imm (Syntax.tyInt Syntax.w16); ref = λ x. x },
-                    (
-                      record { pos = 13; ty = Syntax.tyRef Syntax.erased Syntax.mut (Syntax.tyInt Syntax.w8); ref = λ x. x },
-                      (
-                        Bool.bLit Bool'.false,
-                        (
-                          record { pos = 15; ty = Syntax.tyRef Syntax.erased Syntax.mut (Syntax.tyInt Syntax.w16); ref = λ x. x },
-                          (record { pos = 17; ty = Syntax.tyRef Syntax.erased Syntax.mut Element.behind; ref = λ x. x }, (record { pos = 6; st = List.[]; d = 0; at = λ x. x }, (Num.vAt 7 λ x. x, tt))),
-                        ),
-                      ),
-                    ),
-                  ) (m9 record {
-                    before = record {
-                      before = record
-                          { before = record { before = record { before = c; shared-slice-known = record { given = g } }; slice-known = record { given = g' } }; slice-known2 = record { given = g'' } };
-                      write-walk-arg
-                          = record { given = g'3 };
-                    };
-                    write-walk-arg2 = record { given = g'4 };
-                  } g'5) g'6;
+                  write-walk-arg3 = record { given = g'6 };
                 },
+                λ g'7.
+                    lay1 record {
+                      before = record {
+                        before = record {
+                          before = record {
+                            before = record {
+                              before = record
+                                  { before = record { before = record { before = c; shared-slice-known = record { given = g } }; slice-known = record { given = g' } }; slice-known2 = record { given = g'' } };
+                              shared-slice-known2 = record { given = g'3 };
+                            };
+                            write-walk-arg = record { given = g'4 };
+                          };
+                          write-walk-arg2 = record { given = g'5 };
+                        };
+                        write-walk-arg3 = record { given = g'6 };
+                      };
+                      write-walk = Called.called ps·0 r·0 (claims· .1) T14 (
+                        record { pos = 1; ty = Syntax.tyRef (Syntax.named 0) Syntax.imm (Syntax.tyInt Syntax.w16); ref = λ x. x },
+                        (
+                          record { pos = 14; ty = Syntax.tyRef Syntax.erased Syntax.mut (Syntax.tyInt Syntax.w8); ref = λ x. x },
+                          (
+                            Bool.bLit Bool'.false,
+                            (
+                              record { pos = 16; ty = Syntax.tyRef Syntax.erased Syntax.mut (Syntax.tyInt Syntax.w16); ref = λ x. x },
+                              (
+                                record { pos = 18; ty = Syntax.tyRef Syntax.erased Syntax.mut Element.behind; ref = λ x. x },
+                                (record { pos = 6; st = List.[]; d = 0; at = λ x. x }, (record { pos = 7; ty = Syntax.tyRef (Syntax.named 4) Syntax.imm (Syntax.tyInt Syntax.w8); ref = λ x. x }, (Num.vAt 8 λ x. x, tt))),
+                              ),
+                            ),
+                          ),
+                        ),
+                      )
+                          (m10 record {
+                            before = record {
+                              before = record {
+                                before = record
+                                    { before = record { before = record { before = c; shared-slice-known = record { given = g } }; slice-known = record { given = g' } }; slice-known2 = record { given = g'' } };
+                                shared-slice-known2 = record { given = g'3 };
+                              };
+                              write-walk-arg = record { given = g'4 };
+                            };
+                            write-walk-arg2 = record { given = g'5 };
+                          } g'6) g'7;
+                    },
               ),
             ),
           ),
         )
 
-        module _ (κs : Lifetimes.Lfts 4) (qs : Lifetimes.Shares 4) where
-          pub asked : (a : Kinds.Dens κs ps) → (good : Kinds.GoodsP κs ps a) → (pre : Pre· κs a) → (bs : List.List Nat.ℕ) → Φ (Any.wantQ 4 ps r xs m κs qs a (Post· κs a)) (Function.init 4 ps r xs m κs
+        module _ (κs : Lifetimes.Lfts 5) (qs : Lifetimes.Shares 5) where
+          pub asked : (a : Kinds.Dens κs ps) → (good : Kinds.GoodsP κs ps a) → (pre : Pre· κs a) → (bs : List.List Nat.ℕ) → Φ (Any.wantQ 5 ps r xs m κs qs a (Post· κs a)) (Function.init 5 ps r xs m κs
               qs a)
           asked = λ a good pre bs. laid record {
             κs = κs;
-            args = record { samples = a .0; out = a .1 .0; measure = a .1 .1 .0; lines = a .1 .1 .1 .0; rs = a .1 .1 .1 .1 .0; form = a .1 .1 .1 .1 .1 .0; count = a .1 .1 .1 .1 .1 .1 .0 };
+            args = record {
+              samples = a .0;
+              out = a .1 .0;
+              measure = a .1 .1 .0;
+              lines = a .1 .1 .1 .0;
+              rs = a .1 .1 .1 .1 .0;
+              form = a .1 .1 .1 .1 .1 .0;
+              bases = a .1 .1 .1 .1 .1 .1 .0;
+              count = a .1 .1 .1 .1 .1 .1
+                  .1 .0;
+            };
             good = good;
-            fits = record { count = record { fits = good .1 .1 .1 .1 .1 .1 .0 .1 } };
+            fits = record { count = record { fits = good .1 .1 .1 .1 .1 .1 .1 .0 .1 } };
             pre = pre;
           }
 
-        module _ {M : Type 1} (𝓤 : URA.URA M) (H : Wp.Heap 𝓤) (A : Atoms.Atoms 𝓤) (W : Kit.Given 𝓤 H A) (𝓣 : Wp.Tables 𝓤 H) (known0 : Plain.Known 𝓤 H A W 𝓣 4 ps·0 r·0 (claims· .0) (claims· .1)
+        module _ {M : Type 1} (𝓤 : URA.URA M) (H : Wp.Heap 𝓤) (A : Atoms.Atoms 𝓤) (W : Kit.Given 𝓤 H A) (𝓣 : Wp.Tables 𝓤 H) (known0 : Plain.Known 𝓤 H A W 𝓣 5 ps·0 r·0 (claims· .0) (claims· .1)
             "block::writer::write_walk") (known1 : Plain.Known 𝓤 H A W 𝓣 0 ps·1 r·1 (claims· .2) (claims· .3) "begin::after_counting") (known2 : Plain.Known 𝓤 H A W 𝓣 1 ps·2 r·2 (claims· .4) (claims· .5)
             "bits::fill_tail") (known3 : Plain.Known 𝓤 H A W 𝓣 0 ps·3 r·3 (claims· .6) (claims· .7) "begin::block_bytes") where
-          pub spec : Statement.Triple 𝓤 (Wp.WpFn 𝓤 H (𝓣 .C) (𝓣 .Λ) (Function.fnOf 4 ps r xs m hs body)) (Function.plainOf 𝓤 H A 4 ps r Pre· Post·)
-          spec = Plain.t-fn-plain 𝓤 H A W 𝓣 4 ps r xs m hs body (λ κs qs bs. Φ) (λ κs qs bs bd. typed κs qs 𝓤 H A W 𝓣 (known0, known1, known2, known3) bs bd) Pre· Post· asked
+          pub spec : Statement.Triple 𝓤 (Wp.WpFn 𝓤 H (𝓣 .C) (𝓣 .Λ) (Function.fnOf 5 ps r xs m hs body)) (Function.plainOf 𝓤 H A 5 ps r Pre· Post·)
+          spec = Plain.t-fn-plain 𝓤 H A W 𝓣 5 ps r xs m hs body (λ κs qs bs. Φ) (λ κs qs bs bd. typed κs qs 𝓤 H A W 𝓣 (known0, known1, known2, known3) bs bd) Pre· Post· asked

@@ -33,6 +33,10 @@ After-slice-known = Lts.After-slice-known (Reads'4.Asked, Reads'4.Learnt, Reads.
 abbrev pub After-slice-known2 : Type 0
 After-slice-known2 = Lts.After-slice-known2 (Reads'4.Asked, Reads'4.Learnt, Reads.Asked, Reads.Learnt, Reads''.Asked, Reads''.Learnt, Reads'.Asked, Reads'.Learnt) Reads'3.Pre Reads'3.Post
 
+abbrev pub After-shared-slice-known2 : Type 0
+After-shared-slice-known2 = Lts.After-shared-slice-known2 (Reads'4.Asked, Reads'4.Learnt, Reads.Asked, Reads.Learnt, Reads''.Asked, Reads''.Learnt, Reads'.Asked, Reads'.Learnt) Reads'3.Pre
+    Reads'3.Post
+
 abbrev pub After-write-walk-arg : Type 0
 After-write-walk-arg = Lts.After-write-walk-arg (Reads'4.Asked, Reads'4.Learnt, Reads.Asked, Reads.Learnt, Reads''.Asked, Reads''.Learnt, Reads'.Asked, Reads'.Learnt) Reads'3.Pre Reads'3.Post
 
@@ -182,7 +186,7 @@ module _ {M : Type 1} where
 
   pub close : Lts.Closed (Reads'4.Asked, Reads'4.Learnt, Reads.Asked, Reads.Learnt, Reads''.Asked, Reads''.Learnt, Reads'.Asked, Reads'.Learnt) Reads'3.Pre Reads'3.Post M → Statement.statement M
   unfolding Code.routine Running.tablesOf
-  close = λ closed 𝓤 H 𝓜 𝓖 𝓡. Written.close 4 Kinds.ps Kinds.r Reads'3.Ghost Reads'3.requires Reads'3.ensures Reads'3.pre-read Reads'3.Pinned Reads'3.Owned Reads'3.post-read record
+  close = λ closed 𝓤 H 𝓜 𝓖 𝓡. Written.close 5 Kinds.ps Kinds.r Reads'3.Ghost Reads'3.requires Reads'3.ensures Reads'3.pre-read Reads'3.Pinned Reads'3.Owned Reads'3.post-read record
       { M = M; 𝓤 = 𝓤; H = H; 𝓜 = 𝓜; 𝓖 = 𝓖; 𝓡 = 𝓡 } Code.env Key.name Code.function (Code.unfolded 𝓤 H 𝓜 𝓡) (λ κs a g. tt) (λ κs. Reads'3.owns κs record { M = M; 𝓤 = 𝓤; H = H; 𝓜 = 𝓜; 𝓖 = 𝓖; 𝓡 = 𝓡 })
       (Reads'3.passes record { M = M; 𝓤 = 𝓤; H = H; 𝓜 = 𝓜; 𝓖 = 𝓖; 𝓡 = 𝓡 }) λ g. closed 𝓤 H (𝓖 .A) (Running.givenOf 𝓤 H 𝓜 𝓖) (Run.Over 𝓤 H 𝓜 𝓖 𝓡 Code.env) (Reads'4.known record
       { M = M; 𝓤 = 𝓤; H = H; 𝓜 = 𝓜; 𝓖 = 𝓖; 𝓡 = 𝓡 } Code.env Symbol'3.name Symbol'3.routine Code.calls-block·writer·write-walk (Met'3.met 𝓤 H 𝓜 𝓖 𝓡)) (Reads.known record

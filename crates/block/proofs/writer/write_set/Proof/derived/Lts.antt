@@ -78,7 +78,7 @@ abbrev pub y3 : Syntax.Ty
 y3 = Syntax.tyStruct (List._∷_ 98 (List._∷_ 108 (List._∷_ 111 (List._∷_ 99 (List._∷_ 107 (List._∷_ 58 (List._∷_ 58 (List._∷_ 70 (List._∷_ 111 (List._∷_ 114 (List._∷_ 109 List.[])))))))))))
     (Syntax.tcons (Syntax.tyInt Syntax.w32) (Syntax.tcons Syntax.tyBool Syntax.tnil))
 
-abbrev pub ps : List.List (Kinds.PK 4)
+abbrev pub ps : List.List (Kinds.PK 5)
 ps = List._∷_ (ShrSlice.pShrS (Referent.rtF (Referent.fInt Syntax.w16)) 0 tt) (List._∷_ (MutSlice.pMutS (Referent.rtF (Referent.fInt Syntax.w8)) 1 tt) (List._∷_ Bool.pBool (List._∷_ (MutSlice.pMutS
     (Referent.rtF (Referent.fInt Syntax.w16)) 2 tt) (List._∷_ (MutSlice.pMutS (Element.type) 3 tt) (List._∷_ (Value.pVal record {
       ty = Declared'.row Form.the-type;
@@ -97,9 +97,10 @@ ps = List._∷_ (ShrSlice.pShrS (Referent.rtF (Referent.fInt Syntax.w16)) 0 tt) 
       in-mem =
           Local.mem-whole 𝓤 H A W (Declared'.row Form.the-type);
       of-mem = Local.whole-mem 𝓤 H A W (Declared'.row Form.the-type);
-    }) (List._∷_ (Num.pNum Syntax.w64) List.[]))))))
+    }) (List._∷_ (ShrSlice.pShrS (Referent.rtF (Referent.fInt Syntax.w8)) 4 tt)
+    (List._∷_ (Num.pNum Syntax.w64) List.[])))))))
 
-abbrev pub r : Kinds.RK 4
+abbrev pub r : Kinds.RK 5
 r = Value.rVal record {
   ty = Declared.row BlockLength.the-type;
   one = Path'.refl;
@@ -158,7 +159,7 @@ ps·3 = List._∷_ (MutSlice.pMutS (Element.type) 0 tt) List.[]
 abbrev pub r·3 : Kinds.RK 1
 r·3 = Unit'.rUnit
 
-abbrev pub ps·4 : List.List (Kinds.PK 4)
+abbrev pub ps·4 : List.List (Kinds.PK 5)
 ps·4 = List._∷_ (ShrSlice.pShrS (Referent.rtF (Referent.fInt Syntax.w16)) 0 tt) (List._∷_ (MutSlice.pMutS (Referent.rtF (Referent.fInt Syntax.w8)) 1 tt) (List._∷_ Bool.pBool (List._∷_ (MutSlice.pMutS
     (Referent.rtF (Referent.fInt Syntax.w16)) 2 tt) (List._∷_ (MutSlice.pMutS (Element.type) 3 tt) (List._∷_ (Value.pVal record {
       ty = Declared'.row Form.the-type;
@@ -177,9 +178,10 @@ ps·4 = List._∷_ (ShrSlice.pShrS (Referent.rtF (Referent.fInt Syntax.w16)) 0 t
       in-mem =
           Local.mem-whole 𝓤 H A W (Declared'.row Form.the-type);
       of-mem = Local.whole-mem 𝓤 H A W (Declared'.row Form.the-type);
-    }) (List._∷_ (Num.pNum Syntax.w64) List.[]))))))
+    }) (List._∷_ (ShrSlice.pShrS (Referent.rtF (Referent.fInt Syntax.w8)) 4 tt)
+    (List._∷_ (Num.pNum Syntax.w64) List.[])))))))
 
-abbrev pub r·4 : Kinds.RK 4
+abbrev pub r·4 : Kinds.RK 5
 r·4 = Value.rVal record {
   ty = Declared.row BlockLength.the-type;
   one = Path'.refl;
@@ -203,43 +205,43 @@ abbrev pub hs : List.List Syntax.Home
 hs = List._∷_ Syntax.valueLocal (List._∷_ Syntax.valueLocal (List._∷_ Syntax.valueLocal (List._∷_ Syntax.valueLocal (List._∷_ Syntax.valueLocal (List._∷_ Syntax.valueLocal (List._∷_ Syntax.valueLocal
     (List._∷_ Syntax.valueLocal (List._∷_ Syntax.valueLocal (List._∷_ Syntax.valueLocal (List._∷_ Syntax.valueLocal (List._∷_ Syntax.valueLocal (List._∷_ Syntax.valueLocal (List._∷_ Syntax.valueLocal
     (List._∷_ Syntax.valueLocal (List._∷_ Syntax.valueLocal (List._∷_ Syntax.valueLocal (List._∷_ Syntax.valueLocal (List._∷_ Syntax.valueLocal (List._∷_ Syntax.valueLocal (List._∷_ Syntax.valueLocal
-    (List._∷_ Syntax.valueLocal (List._∷_ Syntax.valueLocal (List._∷_ Syntax.valueLocal List.[])))))))))))))))))))))))
+    (List._∷_ Syntax.valueLocal (List._∷_ Syntax.valueLocal (List._∷_ Syntax.valueLocal (List._∷_ Syntax.valueLocal List.[]))))))))))))))))))))))))
 
 abbrev b0 : Syntax.Body
-b0 = Syntax.call "quantiser::largest" (List._∷_ (Syntax.copy (Syntax.place 6 (List._∷_ (Syntax.field 0) List.[]))) List.[]) (Syntax.place 8 List.[])
+b0 = Syntax.call "quantiser::largest" (List._∷_ (Syntax.copy (Syntax.place 6 (List._∷_ (Syntax.field 0) List.[]))) List.[]) (Syntax.place 9 List.[])
 
 abbrev b1 : Syntax.Body
-b1 = Syntax.call "begin::first_above" (List._∷_ (Syntax.copy (Syntax.place 1 List.[])) (List._∷_ (Syntax.copy (Syntax.place 8 List.[])) List.[])) (Syntax.place 9 List.[])
+b1 = Syntax.call "begin::first_above" (List._∷_ (Syntax.copy (Syntax.place 1 List.[])) (List._∷_ (Syntax.copy (Syntax.place 9 List.[])) List.[])) (Syntax.place 10 List.[])
 
 abbrev b2 : Syntax.Body
-b2 = Syntax.assign (Syntax.place 10 List.[]) (Syntax.rvOpd (Syntax.copy (Syntax.place 1 (List._∷_ (Syntax.field 1) List.[]))))
+b2 = Syntax.assign (Syntax.place 11 List.[]) (Syntax.rvOpd (Syntax.copy (Syntax.place 1 (List._∷_ (Syntax.field 1) List.[]))))
 
 abbrev b3 : Syntax.Body
-b3 = Syntax.assign (Syntax.place 11 List.[]) (Syntax.op2 (Syntax.lt Syntax.unsigned) (Syntax.copy (Syntax.place 9 List.[])) (Syntax.copy (Syntax.place 10 List.[])))
+b3 = Syntax.assign (Syntax.place 12 List.[]) (Syntax.op2 (Syntax.lt Syntax.unsigned) (Syntax.copy (Syntax.place 10 List.[])) (Syntax.copy (Syntax.place 11 List.[])))
 
 abbrev b4 : Syntax.Body
-b4 = Syntax.assign (Syntax.place 13 List.[]) (Syntax.addrOf (Syntax.place 4 (List._∷_ (Syntax.field 0) (List._∷_ (Syntax.deref (Syntax.tyInt Syntax.w16)) List.[]))))
+b4 = Syntax.assign (Syntax.place 14 List.[]) (Syntax.addrOf (Syntax.place 4 (List._∷_ (Syntax.field 0) (List._∷_ (Syntax.deref (Syntax.tyInt Syntax.w16)) List.[]))))
 
 abbrev b5 : Syntax.Body
-b5 = Syntax.assign (Syntax.place 14 List.[]) (Syntax.aggregate (List._∷_ (Syntax.copy (Syntax.place 13 List.[])) (List._∷_ (Syntax.copy (Syntax.place 4 (List._∷_ (Syntax.field 1) List.[]))) List.[])))
+b5 = Syntax.assign (Syntax.place 15 List.[]) (Syntax.aggregate (List._∷_ (Syntax.copy (Syntax.place 14 List.[])) (List._∷_ (Syntax.copy (Syntax.place 4 (List._∷_ (Syntax.field 1) List.[]))) List.[])))
 
 abbrev b6 : Syntax.Body
-b6 = Syntax.call "lines::clear" (List._∷_ (Syntax.copy (Syntax.place 14 List.[])) List.[]) (Syntax.place 12 List.[])
+b6 = Syntax.call "lines::clear" (List._∷_ (Syntax.copy (Syntax.place 15 List.[])) List.[]) (Syntax.place 13 List.[])
 
 abbrev b7 : Syntax.Body
-b7 = Syntax.assign (Syntax.place 15 List.[]) (Syntax.addrOf (Syntax.place 5 (List._∷_ (Syntax.field 0) (List._∷_ (Syntax.deref (Element.held)) List.[]))))
+b7 = Syntax.assign (Syntax.place 16 List.[]) (Syntax.addrOf (Syntax.place 5 (List._∷_ (Syntax.field 0) (List._∷_ (Syntax.deref (Element.held)) List.[]))))
 
 abbrev b8 : Syntax.Body
-b8 = Syntax.assign (Syntax.place 16 List.[]) (Syntax.aggregate (List._∷_ (Syntax.copy (Syntax.place 15 List.[])) (List._∷_ (Syntax.copy (Syntax.place 5 (List._∷_ (Syntax.field 1) List.[]))) List.[])))
+b8 = Syntax.assign (Syntax.place 17 List.[]) (Syntax.aggregate (List._∷_ (Syntax.copy (Syntax.place 16 List.[])) (List._∷_ (Syntax.copy (Syntax.place 5 (List._∷_ (Syntax.field 1) List.[]))) List.[])))
 
 abbrev b9 : Syntax.Body
-b9 = Syntax.call "block::records::clear_records" (List._∷_ (Syntax.copy (Syntax.place 16 List.[])) List.[]) (Syntax.place 12 List.[])
+b9 = Syntax.call "block::records::clear_records" (List._∷_ (Syntax.copy (Syntax.place 17 List.[])) List.[]) (Syntax.place 13 List.[])
 
 abbrev b10 : Syntax.Body
-b10 = Syntax.assign (Syntax.place 17 List.[]) (Syntax.aggregate (List._∷_ (Syntax.int Syntax.w8 10) (List._∷_ (Syntax.copy (Syntax.place 9 List.[])) List.[])))
+b10 = Syntax.assign (Syntax.place 18 List.[]) (Syntax.aggregate (List._∷_ (Syntax.int Syntax.w8 10) (List._∷_ (Syntax.copy (Syntax.place 10 List.[])) List.[])))
 
 abbrev b11 : Syntax.Body
-b11 = Syntax.assign (Syntax.place 0 List.[]) (Syntax.aggregate (List._∷_ (Syntax.int Syntax.w8 1) (List._∷_ (Syntax.copy (Syntax.place 17 List.[])) List.[])))
+b11 = Syntax.assign (Syntax.place 0 List.[]) (Syntax.aggregate (List._∷_ (Syntax.int Syntax.w8 1) (List._∷_ (Syntax.copy (Syntax.place 18 List.[])) List.[])))
 
 abbrev b12 : Syntax.Body
 b12 = Syntax.return
@@ -272,33 +274,33 @@ abbrev b21 : Syntax.Body
 b21 = Syntax.skip
 
 abbrev b22 : Syntax.Body
-b22 = Syntax.cond (Syntax.copy (Syntax.place 11 List.[])) b20 b21
+b22 = Syntax.cond (Syntax.copy (Syntax.place 12 List.[])) b20 b21
 
 abbrev b23 : Syntax.Body
-b23 = Syntax.assign (Syntax.place 18 List.[]) (Syntax.addrOf (Syntax.place 2 (List._∷_ (Syntax.field 0) (List._∷_ (Syntax.deref (Syntax.tyInt Syntax.w8)) List.[]))))
+b23 = Syntax.assign (Syntax.place 19 List.[]) (Syntax.addrOf (Syntax.place 2 (List._∷_ (Syntax.field 0) (List._∷_ (Syntax.deref (Syntax.tyInt Syntax.w8)) List.[]))))
 
 abbrev b24 : Syntax.Body
-b24 = Syntax.assign (Syntax.place 19 List.[]) (Syntax.aggregate (List._∷_ (Syntax.copy (Syntax.place 18 List.[])) (List._∷_ (Syntax.copy (Syntax.place 2 (List._∷_ (Syntax.field 1) List.[])))
+b24 = Syntax.assign (Syntax.place 20 List.[]) (Syntax.aggregate (List._∷_ (Syntax.copy (Syntax.place 19 List.[])) (List._∷_ (Syntax.copy (Syntax.place 2 (List._∷_ (Syntax.field 1) List.[])))
     List.[])))
 
 abbrev b25 : Syntax.Body
-b25 = Syntax.assign (Syntax.place 20 List.[]) (Syntax.addrOf (Syntax.place 4 (List._∷_ (Syntax.field 0) (List._∷_ (Syntax.deref (Syntax.tyInt Syntax.w16)) List.[]))))
+b25 = Syntax.assign (Syntax.place 21 List.[]) (Syntax.addrOf (Syntax.place 4 (List._∷_ (Syntax.field 0) (List._∷_ (Syntax.deref (Syntax.tyInt Syntax.w16)) List.[]))))
 
 abbrev b26 : Syntax.Body
-b26 = Syntax.assign (Syntax.place 21 List.[]) (Syntax.aggregate (List._∷_ (Syntax.copy (Syntax.place 20 List.[])) (List._∷_ (Syntax.copy (Syntax.place 4 (List._∷_ (Syntax.field 1) List.[])))
+b26 = Syntax.assign (Syntax.place 22 List.[]) (Syntax.aggregate (List._∷_ (Syntax.copy (Syntax.place 21 List.[])) (List._∷_ (Syntax.copy (Syntax.place 4 (List._∷_ (Syntax.field 1) List.[])))
     List.[])))
 
 abbrev b27 : Syntax.Body
-b27 = Syntax.assign (Syntax.place 22 List.[]) (Syntax.addrOf (Syntax.place 5 (List._∷_ (Syntax.field 0) (List._∷_ (Syntax.deref (Element.held)) List.[]))))
+b27 = Syntax.assign (Syntax.place 23 List.[]) (Syntax.addrOf (Syntax.place 5 (List._∷_ (Syntax.field 0) (List._∷_ (Syntax.deref (Element.held)) List.[]))))
 
 abbrev b28 : Syntax.Body
-b28 = Syntax.assign (Syntax.place 23 List.[]) (Syntax.aggregate (List._∷_ (Syntax.copy (Syntax.place 22 List.[])) (List._∷_ (Syntax.copy (Syntax.place 5 (List._∷_ (Syntax.field 1) List.[])))
+b28 = Syntax.assign (Syntax.place 24 List.[]) (Syntax.aggregate (List._∷_ (Syntax.copy (Syntax.place 23 List.[])) (List._∷_ (Syntax.copy (Syntax.place 5 (List._∷_ (Syntax.field 1) List.[])))
     List.[])))
 
 abbrev b29 : Syntax.Body
-b29 = Syntax.call "block::writer::write_measured" (List._∷_ (Syntax.copy (Syntax.place 1 List.[])) (List._∷_ (Syntax.copy (Syntax.place 19 List.[])) (List._∷_ (Syntax.copy (Syntax.place 3 List.[]))
-    (List._∷_ (Syntax.copy (Syntax.place 21 List.[])) (List._∷_ (Syntax.copy (Syntax.place 23 List.[])) (List._∷_ (Syntax.copy (Syntax.place 6 List.[])) (List._∷_ (Syntax.copy (Syntax.place 7 List.[]))
-    List.[]))))))) (Syntax.place 0 List.[])
+b29 = Syntax.call "block::writer::write_measured" (List._∷_ (Syntax.copy (Syntax.place 1 List.[])) (List._∷_ (Syntax.copy (Syntax.place 20 List.[])) (List._∷_ (Syntax.copy (Syntax.place 3 List.[]))
+    (List._∷_ (Syntax.copy (Syntax.place 22 List.[])) (List._∷_ (Syntax.copy (Syntax.place 24 List.[])) (List._∷_ (Syntax.copy (Syntax.place 6 List.[])) (List._∷_ (Syntax.copy (Syntax.place 7 List.[]))
+    (List._∷_ (Syntax.copy (Syntax.place 8 List.[])) List.[])))))))) (Syntax.place 0 List.[])
 
 abbrev b30 : Syntax.Body
 b30 = Syntax.return
@@ -343,8 +345,8 @@ abbrev pub body : Syntax.Body
 body = b42
 
 abbrev pub Claims : Type 1
-Claims = Kinds.In 0 ps·0 × Kinds.Out 0 ps·0 r·0 × Kinds.In 1 ps·1 × Kinds.Out 1 ps·1 r·1 × Kinds.In 1 ps·2 × Kinds.Out 1 ps·2 r·2 × Kinds.In 1 ps·3 × Kinds.Out 1 ps·3 r·3 × Kinds.In 4 ps·4 × Kinds.Out
-    4 ps·4 r·4
+Claims = Kinds.In 0 ps·0 × Kinds.Out 0 ps·0 r·0 × Kinds.In 1 ps·1 × Kinds.Out 1 ps·1 r·1 × Kinds.In 1 ps·2 × Kinds.Out 1 ps·2 r·2 × Kinds.In 1 ps·3 × Kinds.Out 1 ps·3 r·3 × Kinds.In 5 ps·4 × Kinds.Out
+    5 ps·4 r·4
 
 abbrev pub e0 : Row.Entry
 e0 = (
@@ -373,44 +375,47 @@ abbrev pub e4 : Row.Entry
 e4 = (10, Rows.sc-here (Row.sInt Syntax.w64))
 
 abbrev pub e5 : Row.Entry
-e5 = (11, Rows.any-gone Syntax.tyBool)
+e5 = (11, Rows.any-gone (Syntax.tyInt Syntax.w64))
 
 abbrev pub e6 : Row.Entry
-e6 = (11, Rows.sc-here Row.sBool)
+e6 = (11, Rows.sc-here (Row.sInt Syntax.w64))
 
 abbrev pub e7 : Row.Entry
-e7 = (12, Rows.any-gone Syntax.tyUnit)
+e7 = (12, Rows.any-gone Syntax.tyBool)
 
 abbrev pub e8 : Row.Entry
-e8 = (12, Rows.sc-here Row.sUnit)
+e8 = (12, Rows.sc-here Row.sBool)
 
 abbrev pub e9 : Row.Entry
-e9 = (13, Relend.msptr (Referent.rtF (Referent.fInt Syntax.w16)) (Syntax.tyRef Syntax.erased Syntax.mut (Syntax.tyInt Syntax.w16)) 4)
+e9 = (13, Rows.any-gone Syntax.tyUnit)
 
 abbrev pub e10 : Row.Entry
-e10 = (13, Rows.any-gone (Syntax.tyRef Syntax.erased Syntax.mut (Syntax.tyInt Syntax.w16)))
+e10 = (13, Rows.sc-here Row.sUnit)
 
 abbrev pub e11 : Row.Entry
-e11 = (14, Mut.msleft (Referent.rtF (Referent.fInt Syntax.w16)) (Syntax.tyRef Syntax.erased Syntax.mut (Syntax.tyInt Syntax.w16)))
+e11 = (14, Relend.msptr (Referent.rtF (Referent.fInt Syntax.w16)) (Syntax.tyRef Syntax.erased Syntax.mut (Syntax.tyInt Syntax.w16)) 5)
 
 abbrev pub e12 : Row.Entry
-e12 = (14, Mut.mslice (Referent.rtF (Referent.fInt Syntax.w16)) (Syntax.tyRef Syntax.erased Syntax.mut (Syntax.tyInt Syntax.w16)) 4)
+e12 = (14, Rows.any-gone (Syntax.tyRef Syntax.erased Syntax.mut (Syntax.tyInt Syntax.w16)))
 
 abbrev pub e13 : Row.Entry
-e13 = (14, Rows.any-gone y0)
+e13 = (15, Mut.msleft (Referent.rtF (Referent.fInt Syntax.w16)) (Syntax.tyRef Syntax.erased Syntax.mut (Syntax.tyInt Syntax.w16)))
 
 abbrev pub e14 : Row.Entry
-e14 = (15, Relend.msptr (Element.type) (Syntax.tyRef Syntax.erased Syntax.mut Element.behind) 5)
+e14 = (15, Mut.mslice (Referent.rtF (Referent.fInt Syntax.w16)) (Syntax.tyRef Syntax.erased Syntax.mut (Syntax.tyInt Syntax.w16)) 5)
 
 abbrev pub e15 : Row.Entry
-e15 = (15, Rows.any-gone (Syntax.tyRef Syntax.erased Syntax.mut Element.behind))
+e15 = (15, Rows.any-gone y0)
 
 abbrev pub e16 : Row.Entry
-e16 = (16, Rows.any-gone y2)
+e16 = (16, Rows.any-gone (Syntax.tyRef Syntax.erased Syntax.mut Element.behind))
 
 abbrev pub e17 : Row.Entry
-e17 = (
-  17,
+e17 = (17, Rows.any-gone y2)
+
+abbrev pub e18 : Row.Entry
+e18 = (
+  18,
   Rows.any-gone (Syntax.tyEnum (List._∷_ 115 (List._∷_ 116 (List._∷_ 114 (List._∷_ 101 (List._∷_ 97 (List._∷_ 109 (List._∷_ 58 (List._∷_ 58 (List._∷_ 82 (List._∷_ 101 (List._∷_ 102 (List._∷_ 117
       (List._∷_ 115 (List._∷_ 97 (List._∷_ 108 List.[]))))))))))))))) (Syntax.ttcons Syntax.tnil (Syntax.ttcons Syntax.tnil (Syntax.ttcons Syntax.tnil (Syntax.ttcons (Syntax.tcons (Syntax.tyInt Syntax.w64)
       Syntax.tnil) (Syntax.ttcons Syntax.tnil (Syntax.ttcons Syntax.tnil (Syntax.ttcons Syntax.tnil (Syntax.ttcons Syntax.tnil (Syntax.ttcons Syntax.tnil (Syntax.ttcons Syntax.tnil (Syntax.ttcons
@@ -420,259 +425,256 @@ e17 = (
       Syntax.tnil) (Syntax.ttcons Syntax.tnil Syntax.ttnil)))))))))))))))))))))),
 )
 
-abbrev pub e18 : Row.Entry
-e18 = (18, Rows.any-gone (Syntax.tyRef Syntax.erased Syntax.mut (Syntax.tyInt Syntax.w8)))
-
 abbrev pub e19 : Row.Entry
-e19 = (19, Mut.mslice (Referent.rtF (Referent.fInt Syntax.w8)) (Syntax.tyRef Syntax.erased Syntax.mut (Syntax.tyInt Syntax.w8)) 6)
+e19 = (19, Rows.any-gone (Syntax.tyRef Syntax.erased Syntax.mut (Syntax.tyInt Syntax.w8)))
 
 abbrev pub e20 : Row.Entry
-e20 = (19, Rows.any-gone y1)
+e20 = (2, Mut.mslice (Referent.rtF (Referent.fInt Syntax.w8)) (Syntax.tyRef (Syntax.named 1) Syntax.mut (Syntax.tyInt Syntax.w8)) 1)
 
 abbrev pub e21 : Row.Entry
-e21 = (2, Mut.mslice (Referent.rtF (Referent.fInt Syntax.w8)) (Syntax.tyRef (Syntax.named 1) Syntax.mut (Syntax.tyInt Syntax.w8)) 1)
+e21 = (2, Relend.mslice-owed (Referent.rtF (Referent.fInt Syntax.w8)) (Syntax.tyRef (Syntax.named 1) Syntax.mut (Syntax.tyInt Syntax.w8)) 1 7 Row.off)
 
 abbrev pub e22 : Row.Entry
-e22 = (2, Relend.mslice-owed (Referent.rtF (Referent.fInt Syntax.w8)) (Syntax.tyRef (Syntax.named 1) Syntax.mut (Syntax.tyInt Syntax.w8)) 1 6 Row.off)
+e22 = (20, Mut.mslice (Referent.rtF (Referent.fInt Syntax.w8)) (Syntax.tyRef Syntax.erased Syntax.mut (Syntax.tyInt Syntax.w8)) 7)
 
 abbrev pub e23 : Row.Entry
-e23 = (20, Rows.any-gone (Syntax.tyRef Syntax.erased Syntax.mut (Syntax.tyInt Syntax.w16)))
+e23 = (20, Rows.any-gone y1)
 
 abbrev pub e24 : Row.Entry
-e24 = (21, Mut.msleft (Referent.rtF (Referent.fInt Syntax.w16)) (Syntax.tyRef Syntax.erased Syntax.mut (Syntax.tyInt Syntax.w16)))
+e24 = (21, Rows.any-gone (Syntax.tyRef Syntax.erased Syntax.mut (Syntax.tyInt Syntax.w16)))
 
 abbrev pub e25 : Row.Entry
-e25 = (21, Mut.mslice (Referent.rtF (Referent.fInt Syntax.w16)) (Syntax.tyRef Syntax.erased Syntax.mut (Syntax.tyInt Syntax.w16)) 7)
+e25 = (22, Mut.msleft (Referent.rtF (Referent.fInt Syntax.w16)) (Syntax.tyRef Syntax.erased Syntax.mut (Syntax.tyInt Syntax.w16)))
 
 abbrev pub e26 : Row.Entry
-e26 = (21, Rows.any-gone y0)
+e26 = (22, Mut.mslice (Referent.rtF (Referent.fInt Syntax.w16)) (Syntax.tyRef Syntax.erased Syntax.mut (Syntax.tyInt Syntax.w16)) 8)
 
 abbrev pub e27 : Row.Entry
-e27 = (22, Rows.any-gone (Syntax.tyRef Syntax.erased Syntax.mut Element.behind))
+e27 = (22, Rows.any-gone y0)
 
 abbrev pub e28 : Row.Entry
-e28 = (23, Mut.msleft (Element.type) (Syntax.tyRef Syntax.erased Syntax.mut Element.behind))
+e28 = (23, Rows.any-gone (Syntax.tyRef Syntax.erased Syntax.mut Element.behind))
 
 abbrev pub e29 : Row.Entry
-e29 = (23, Rows.any-gone y2)
+e29 = (24, Mut.msleft (Element.type) (Syntax.tyRef Syntax.erased Syntax.mut Element.behind))
 
 abbrev pub e30 : Row.Entry
-e30 = (3, Rows.any-gone Syntax.tyBool)
+e30 = (24, Rows.any-gone y2)
 
 abbrev pub e31 : Row.Entry
-e31 = (3, Rows.sc-here Row.sBool)
+e31 = (3, Rows.any-gone Syntax.tyBool)
 
 abbrev pub e32 : Row.Entry
-e32 = (4, Mut.mslice (Referent.rtF (Referent.fInt Syntax.w16)) (Syntax.tyRef (Syntax.named 2) Syntax.mut (Syntax.tyInt Syntax.w16)) 2)
+e32 = (3, Rows.sc-here Row.sBool)
 
 abbrev pub e33 : Row.Entry
-e33 = (4, Relend.mslice-owed (Referent.rtF (Referent.fInt Syntax.w16)) (Syntax.tyRef (Syntax.named 2) Syntax.mut (Syntax.tyInt Syntax.w16)) 2 4 Row.off)
+e33 = (4, Mut.mslice (Referent.rtF (Referent.fInt Syntax.w16)) (Syntax.tyRef (Syntax.named 2) Syntax.mut (Syntax.tyInt Syntax.w16)) 2)
 
 abbrev pub e34 : Row.Entry
-e34 = (4, Relend.mslice-owed (Referent.rtF (Referent.fInt Syntax.w16)) (Syntax.tyRef (Syntax.named 2) Syntax.mut (Syntax.tyInt Syntax.w16)) 2 7 Row.off)
+e34 = (4, Relend.mslice-owed (Referent.rtF (Referent.fInt Syntax.w16)) (Syntax.tyRef (Syntax.named 2) Syntax.mut (Syntax.tyInt Syntax.w16)) 2 5 Row.off)
 
 abbrev pub e35 : Row.Entry
-e35 = (5, Mut.mslice (Element.type) (Syntax.tyRef (Syntax.named 3) Syntax.mut Element.behind) 3)
+e35 = (4, Relend.mslice-owed (Referent.rtF (Referent.fInt Syntax.w16)) (Syntax.tyRef (Syntax.named 2) Syntax.mut (Syntax.tyInt Syntax.w16)) 2 8 Row.off)
 
 abbrev pub e36 : Row.Entry
-e36 = (5, Relend.mslice-owed (Element.type) (Syntax.tyRef (Syntax.named 3) Syntax.mut Element.behind) 3 5 Row.off)
+e36 = (5, Mut.mslice (Element.type) (Syntax.tyRef (Syntax.named 3) Syntax.mut Element.behind) 3)
 
 abbrev pub e37 : Row.Entry
-e37 = (5, Relend.mslice-owed (Element.type) (Syntax.tyRef (Syntax.named 3) Syntax.mut Element.behind) 3 8 Row.off)
+e37 = (5, Relend.mslice-owed (Element.type) (Syntax.tyRef (Syntax.named 3) Syntax.mut Element.behind) 3 6 Row.off)
 
 abbrev pub e38 : Row.Entry
-e38 = (6, Rows.any-gone y3)
+e38 = (5, Relend.mslice-owed (Element.type) (Syntax.tyRef (Syntax.named 3) Syntax.mut Element.behind) 3 9 Row.off)
 
 abbrev pub e39 : Row.Entry
-e39 = (6, Rows.whole (Declared'.row Form.the-type))
+e39 = (6, Rows.any-gone y3)
 
 abbrev pub e40 : Row.Entry
-e40 = (7, Rows.any-gone (Syntax.tyInt Syntax.w64))
+e40 = (6, Rows.whole (Declared'.row Form.the-type))
 
 abbrev pub e41 : Row.Entry
-e41 = (7, Rows.sc-here (Row.sInt Syntax.w64))
+e41 = (7, Rows.sslice (Referent.rtF (Referent.fInt Syntax.w8)) (Syntax.tyRef (Syntax.named 4) Syntax.imm (Syntax.tyInt Syntax.w8)) 4)
 
 abbrev pub e42 : Row.Entry
-e42 = (8, Rows.any-gone (Syntax.tyInt Syntax.w32))
+e42 = (8, Rows.any-gone (Syntax.tyInt Syntax.w64))
 
 abbrev pub e43 : Row.Entry
-e43 = (8, Rows.sc-here (Row.sInt Syntax.w32))
+e43 = (8, Rows.sc-here (Row.sInt Syntax.w64))
 
 abbrev pub e44 : Row.Entry
-e44 = (9, Rows.any-gone (Syntax.tyInt Syntax.w64))
+e44 = (9, Rows.any-gone (Syntax.tyInt Syntax.w32))
 
 abbrev pub e45 : Row.Entry
-e45 = (9, Rows.sc-here (Row.sInt Syntax.w64))
+e45 = (9, Rows.sc-here (Row.sInt Syntax.w32))
 
 abbrev pub t0 : List.List Row.Entry
-t0 = List._∷_ e0 (List._∷_ e2 (List._∷_ e21 (List._∷_ e31 (List._∷_ e32 (List._∷_ e35 (List._∷_ e39 (List._∷_ e41 (List._∷_ e42 (List._∷_ e44 (List._∷_ e3 (List._∷_ e5 (List._∷_ e7 (List._∷_ e10
-    (List._∷_ e13 (List._∷_ e15 List.[])))))))))))))))
-
-abbrev pub t1 : List.List Row.Entry
-t1 = List._∷_ e16 (List._∷_ e17 (List._∷_ e18 (List._∷_ e20 (List._∷_ e23 (List._∷_ e26 (List._∷_ e27 (List._∷_ e29 List.[])))))))
-
-abbrev pub t2 : List.List Row.Entry
-t2 = List._∷_ e1 (List._∷_ e2 (List._∷_ e21 (List._∷_ e30 (List._∷_ e32 (List._∷_ e35 (List._∷_ e38 (List._∷_ e40 (List._∷_ e42 (List._∷_ e44 (List._∷_ e3 (List._∷_ e5 (List._∷_ e7 (List._∷_ e10
-    (List._∷_ e13 (List._∷_ e15 List.[])))))))))))))))
-
-abbrev pub t3 : List.List Row.Entry
-t3 = List._∷_ e0 (List._∷_ e2 (List._∷_ e21 (List._∷_ e31 (List._∷_ e32 (List._∷_ e35 (List._∷_ e39 (List._∷_ e41 (List._∷_ e43 (List._∷_ e44 (List._∷_ e3 (List._∷_ e5 (List._∷_ e7 (List._∷_ e10
-    (List._∷_ e13 (List._∷_ e15 List.[])))))))))))))))
-
-abbrev pub t4 : List.List Row.Entry
-t4 = List._∷_ e0 (List._∷_ e2 (List._∷_ e21 (List._∷_ e31 (List._∷_ e32 (List._∷_ e35 (List._∷_ e39 (List._∷_ e41 (List._∷_ e43 (List._∷_ e45 (List._∷_ e3 (List._∷_ e5 (List._∷_ e7 (List._∷_ e10
-    (List._∷_ e13 (List._∷_ e15 List.[])))))))))))))))
-
-abbrev pub t5 : List.List Row.Entry
-t5 = List._∷_ e0 (List._∷_ e2 (List._∷_ e21 (List._∷_ e31 (List._∷_ e32 (List._∷_ e35 (List._∷_ e39 (List._∷_ e41 (List._∷_ e43 (List._∷_ e45 (List._∷_ e4 (List._∷_ e5 (List._∷_ e7 (List._∷_ e10
-    (List._∷_ e13 (List._∷_ e15 List.[])))))))))))))))
-
-abbrev pub t6 : List.List Row.Entry
-t6 = List._∷_ e0 (List._∷_ e2 (List._∷_ e21 (List._∷_ e31 (List._∷_ e32 (List._∷_ e35 (List._∷_ e39 (List._∷_ e41 (List._∷_ e43 (List._∷_ e45 (List._∷_ e4 (List._∷_ e6 (List._∷_ e7 (List._∷_ e10
-    (List._∷_ e13 (List._∷_ e15 List.[])))))))))))))))
-
-abbrev pub t7 : List.List Row.Entry
-t7 = List._∷_ e0 (List._∷_ e2 (List._∷_ e21 (List._∷_ e31 (List._∷_ e32 (List._∷_ e35 (List._∷_ e39 (List._∷_ e41 (List._∷_ e43 (List._∷_ e45 (List._∷_ e3 (List._∷_ e6 (List._∷_ e7 (List._∷_ e10
-    (List._∷_ e13 (List._∷_ e15 List.[])))))))))))))))
-
-abbrev pub t8 : List.List Row.Entry
-t8 = List._∷_ e0 (List._∷_ e2 (List._∷_ e21 (List._∷_ e31 (List._∷_ e32 (List._∷_ e35 (List._∷_ e38 (List._∷_ e41 (List._∷_ e43 (List._∷_ e45 (List._∷_ e3 (List._∷_ e6 (List._∷_ e7 (List._∷_ e10
-    (List._∷_ e13 (List._∷_ e15 List.[])))))))))))))))
-
-abbrev pub t9 : List.List Row.Entry
-t9 = List._∷_ e0 (List._∷_ e2 (List._∷_ e21 (List._∷_ e31 (List._∷_ e32 (List._∷_ e35 (List._∷_ e38 (List._∷_ e41 (List._∷_ e43 (List._∷_ e45 (List._∷_ e3 (List._∷_ e5 (List._∷_ e7 (List._∷_ e10
-    (List._∷_ e13 (List._∷_ e15 List.[])))))))))))))))
-
-abbrev pub t10 : List.List Row.Entry
-t10 = List._∷_ e0 (List._∷_ e2 (List._∷_ e21 (List._∷_ e31 (List._∷_ e33 (List._∷_ e35 (List._∷_ e38 (List._∷_ e41 (List._∷_ e43 (List._∷_ e45 (List._∷_ e3 (List._∷_ e5 (List._∷_ e7 (List._∷_ e9
-    (List._∷_ e13 (List._∷_ e15 List.[])))))))))))))))
-
-abbrev pub t11 : List.List Row.Entry
-t11 = List._∷_ e0 (List._∷_ e2 (List._∷_ e21 (List._∷_ e31 (List._∷_ e33 (List._∷_ e35 (List._∷_ e38 (List._∷_ e41 (List._∷_ e43 (List._∷_ e45 (List._∷_ e3 (List._∷_ e5 (List._∷_ e7 (List._∷_ e10
+t0 = List._∷_ e0 (List._∷_ e2 (List._∷_ e20 (List._∷_ e32 (List._∷_ e33 (List._∷_ e36 (List._∷_ e40 (List._∷_ e41 (List._∷_ e43 (List._∷_ e44 (List._∷_ e3 (List._∷_ e5 (List._∷_ e7 (List._∷_ e9
     (List._∷_ e12 (List._∷_ e15 List.[])))))))))))))))
 
-abbrev pub t12 : List.List Row.Entry
-t12 = List._∷_ e0 (List._∷_ e2 (List._∷_ e21 (List._∷_ e31 (List._∷_ e33 (List._∷_ e35 (List._∷_ e38 (List._∷_ e41 (List._∷_ e43 (List._∷_ e45 (List._∷_ e3 (List._∷_ e5 (List._∷_ e8 (List._∷_ e10
+abbrev pub t1 : List.List Row.Entry
+t1 = List._∷_ e16 (List._∷_ e17 (List._∷_ e18 (List._∷_ e19 (List._∷_ e23 (List._∷_ e24 (List._∷_ e27 (List._∷_ e28 (List._∷_ e30 List.[]))))))))
+
+abbrev pub t2 : List.List Row.Entry
+t2 = List._∷_ e1 (List._∷_ e2 (List._∷_ e20 (List._∷_ e31 (List._∷_ e33 (List._∷_ e36 (List._∷_ e39 (List._∷_ e41 (List._∷_ e42 (List._∷_ e44 (List._∷_ e3 (List._∷_ e5 (List._∷_ e7 (List._∷_ e9
+    (List._∷_ e12 (List._∷_ e15 List.[])))))))))))))))
+
+abbrev pub t3 : List.List Row.Entry
+t3 = List._∷_ e0 (List._∷_ e2 (List._∷_ e20 (List._∷_ e32 (List._∷_ e33 (List._∷_ e36 (List._∷_ e40 (List._∷_ e41 (List._∷_ e43 (List._∷_ e45 (List._∷_ e3 (List._∷_ e5 (List._∷_ e7 (List._∷_ e9
+    (List._∷_ e12 (List._∷_ e15 List.[])))))))))))))))
+
+abbrev pub t4 : List.List Row.Entry
+t4 = List._∷_ e0 (List._∷_ e2 (List._∷_ e20 (List._∷_ e32 (List._∷_ e33 (List._∷_ e36 (List._∷_ e40 (List._∷_ e41 (List._∷_ e43 (List._∷_ e45 (List._∷_ e4 (List._∷_ e5 (List._∷_ e7 (List._∷_ e9
+    (List._∷_ e12 (List._∷_ e15 List.[])))))))))))))))
+
+abbrev pub t5 : List.List Row.Entry
+t5 = List._∷_ e0 (List._∷_ e2 (List._∷_ e20 (List._∷_ e32 (List._∷_ e33 (List._∷_ e36 (List._∷_ e40 (List._∷_ e41 (List._∷_ e43 (List._∷_ e45 (List._∷_ e4 (List._∷_ e6 (List._∷_ e7 (List._∷_ e9
+    (List._∷_ e12 (List._∷_ e15 List.[])))))))))))))))
+
+abbrev pub t6 : List.List Row.Entry
+t6 = List._∷_ e0 (List._∷_ e2 (List._∷_ e20 (List._∷_ e32 (List._∷_ e33 (List._∷_ e36 (List._∷_ e40 (List._∷_ e41 (List._∷_ e43 (List._∷_ e45 (List._∷_ e4 (List._∷_ e6 (List._∷_ e8 (List._∷_ e9
+    (List._∷_ e12 (List._∷_ e15 List.[])))))))))))))))
+
+abbrev pub t7 : List.List Row.Entry
+t7 = List._∷_ e0 (List._∷_ e2 (List._∷_ e20 (List._∷_ e32 (List._∷_ e33 (List._∷_ e36 (List._∷_ e40 (List._∷_ e41 (List._∷_ e43 (List._∷_ e45 (List._∷_ e4 (List._∷_ e5 (List._∷_ e8 (List._∷_ e9
+    (List._∷_ e12 (List._∷_ e15 List.[])))))))))))))))
+
+abbrev pub t8 : List.List Row.Entry
+t8 = List._∷_ e0 (List._∷_ e2 (List._∷_ e20 (List._∷_ e32 (List._∷_ e33 (List._∷_ e36 (List._∷_ e39 (List._∷_ e41 (List._∷_ e43 (List._∷_ e45 (List._∷_ e4 (List._∷_ e5 (List._∷_ e8 (List._∷_ e9
+    (List._∷_ e12 (List._∷_ e15 List.[])))))))))))))))
+
+abbrev pub t9 : List.List Row.Entry
+t9 = List._∷_ e0 (List._∷_ e2 (List._∷_ e20 (List._∷_ e32 (List._∷_ e33 (List._∷_ e36 (List._∷_ e39 (List._∷_ e41 (List._∷_ e43 (List._∷_ e45 (List._∷_ e4 (List._∷_ e5 (List._∷_ e7 (List._∷_ e9
+    (List._∷_ e12 (List._∷_ e15 List.[])))))))))))))))
+
+abbrev pub t10 : List.List Row.Entry
+t10 = List._∷_ e0 (List._∷_ e2 (List._∷_ e20 (List._∷_ e32 (List._∷_ e34 (List._∷_ e36 (List._∷_ e39 (List._∷_ e41 (List._∷_ e43 (List._∷_ e45 (List._∷_ e4 (List._∷_ e5 (List._∷_ e7 (List._∷_ e9
     (List._∷_ e11 (List._∷_ e15 List.[])))))))))))))))
+
+abbrev pub t11 : List.List Row.Entry
+t11 = List._∷_ e0 (List._∷_ e2 (List._∷_ e20 (List._∷_ e32 (List._∷_ e34 (List._∷_ e36 (List._∷_ e39 (List._∷_ e41 (List._∷_ e43 (List._∷_ e45 (List._∷_ e4 (List._∷_ e5 (List._∷_ e7 (List._∷_ e9
+    (List._∷_ e12 (List._∷_ e14 List.[])))))))))))))))
+
+abbrev pub t12 : List.List Row.Entry
+t12 = List._∷_ e0 (List._∷_ e2 (List._∷_ e20 (List._∷_ e32 (List._∷_ e34 (List._∷_ e36 (List._∷_ e39 (List._∷_ e41 (List._∷_ e43 (List._∷_ e45 (List._∷_ e4 (List._∷_ e5 (List._∷_ e7 (List._∷_ e10
+    (List._∷_ e12 (List._∷_ e13 List.[])))))))))))))))
 
 abbrev pub t13 : List.List Row.Entry
-t13 = List._∷_ e0 (List._∷_ e2 (List._∷_ e21 (List._∷_ e31 (List._∷_ e33 (List._∷_ e35 (List._∷_ e38 (List._∷_ e41 (List._∷_ e43 (List._∷_ e45 (List._∷_ e3 (List._∷_ e5 (List._∷_ e7 (List._∷_ e10
-    (List._∷_ e11 (List._∷_ e15 List.[])))))))))))))))
+t13 = List._∷_ e0 (List._∷_ e2 (List._∷_ e20 (List._∷_ e32 (List._∷_ e34 (List._∷_ e36 (List._∷_ e39 (List._∷_ e41 (List._∷_ e43 (List._∷_ e45 (List._∷_ e4 (List._∷_ e5 (List._∷_ e7 (List._∷_ e9
+    (List._∷_ e12 (List._∷_ e13 List.[])))))))))))))))
 
 abbrev pub t14 : List.List Row.Entry
-t14 = List._∷_ e0 (List._∷_ e2 (List._∷_ e21 (List._∷_ e31 (List._∷_ e32 (List._∷_ e36 (List._∷_ e38 (List._∷_ e41 (List._∷_ e43 (List._∷_ e45 (List._∷_ e3 (List._∷_ e5 (List._∷_ e7 (List._∷_ e10
-    (List._∷_ e13 (List._∷_ e14 List.[])))))))))))))))
+t14 = List._∷_ e0 (List._∷_ e2 (List._∷_ e20 (List._∷_ e32 (List._∷_ e33 (List._∷_ e37 (List._∷_ e39 (List._∷_ e41 (List._∷_ e43 (List._∷_ e45 (List._∷_ e4 (List._∷_ e5 (List._∷_ e7 (List._∷_ e9
+    (List._∷_ e12 (List._∷_ e15 List.[])))))))))))))))
 
 abbrev pub t15 : List.List Row.Entry
-t15 = List._∷_ e0 (List._∷_ e2 (List._∷_ e21 (List._∷_ e31 (List._∷_ e32 (List._∷_ e36 (List._∷_ e38 (List._∷_ e41 (List._∷_ e43 (List._∷_ e45 (List._∷_ e3 (List._∷_ e5 (List._∷_ e7 (List._∷_ e10
-    (List._∷_ e13 (List._∷_ e15 List.[])))))))))))))))
+t15 = List._∷_ (16, Relend.msptr (Element.type) (Syntax.tyRef Syntax.erased Syntax.mut Element.behind) 6) (List._∷_ e17 (List._∷_ e18 (List._∷_ e19 (List._∷_ e23 (List._∷_ e24 (List._∷_ e27 (List._∷_
+    e28 (List._∷_ e30 List.[]))))))))
 
 abbrev pub t16 : List.List Row.Entry
-t16 = List._∷_ (16, Mut.mslice (Element.type) (Syntax.tyRef Syntax.erased Syntax.mut Element.behind) 5) (List._∷_ e17 (List._∷_ e18 (List._∷_ e20 (List._∷_ e23 (List._∷_ e26 (List._∷_ e27 (List._∷_
-    e29 List.[])))))))
+t16 = List._∷_ e16 (List._∷_ (17, Mut.mslice (Element.type) (Syntax.tyRef Syntax.erased Syntax.mut Element.behind) 6) (List._∷_ e18 (List._∷_ e19 (List._∷_ e23 (List._∷_ e24 (List._∷_ e27 (List._∷_
+    e28 (List._∷_ e30 List.[]))))))))
 
 abbrev pub t17 : List.List Row.Entry
-t17 = List._∷_ e0 (List._∷_ e2 (List._∷_ e21 (List._∷_ e31 (List._∷_ e32 (List._∷_ e36 (List._∷_ e38 (List._∷_ e41 (List._∷_ e43 (List._∷_ e45 (List._∷_ e3 (List._∷_ e5 (List._∷_ e8 (List._∷_ e10
-    (List._∷_ e13 (List._∷_ e15 List.[])))))))))))))))
+t17 = List._∷_ e0 (List._∷_ e2 (List._∷_ e20 (List._∷_ e32 (List._∷_ e33 (List._∷_ e37 (List._∷_ e39 (List._∷_ e41 (List._∷_ e43 (List._∷_ e45 (List._∷_ e4 (List._∷_ e5 (List._∷_ e7 (List._∷_ e10
+    (List._∷_ e12 (List._∷_ e15 List.[])))))))))))))))
 
 abbrev pub t18 : List.List Row.Entry
-t18 = List._∷_ (16, Mut.msleft (Element.type) (Syntax.tyRef Syntax.erased Syntax.mut Element.behind)) (List._∷_ e17 (List._∷_ e18 (List._∷_ e20 (List._∷_ e23 (List._∷_ e26 (List._∷_ e27 (List._∷_ e29
-    List.[])))))))
+t18 = List._∷_ e16 (List._∷_ (17, Mut.msleft (Element.type) (Syntax.tyRef Syntax.erased Syntax.mut Element.behind)) (List._∷_ e18 (List._∷_ e19 (List._∷_ e23 (List._∷_ e24 (List._∷_ e27 (List._∷_ e28
+    (List._∷_ e30 List.[]))))))))
 
 abbrev pub t19 : List.List Row.Entry
-t19 = List._∷_ e16 (List._∷_ (17, Rows.whole (Declared.row Refusal.the-type)) (List._∷_ e18 (List._∷_ e20 (List._∷_ e23 (List._∷_ e26 (List._∷_ e27 (List._∷_ e29 List.[])))))))
+t19 = List._∷_ e16 (List._∷_ e17 (List._∷_ (18, Rows.whole (Declared.row Refusal.the-type)) (List._∷_ e19 (List._∷_ e23 (List._∷_ e24 (List._∷_ e27 (List._∷_ e28 (List._∷_ e30 List.[]))))))))
 
 abbrev pub t20 : List.List Row.Entry
-t20 = List._∷_ e1 (List._∷_ e2 (List._∷_ e21 (List._∷_ e31 (List._∷_ e32 (List._∷_ e35 (List._∷_ e38 (List._∷_ e41 (List._∷_ e43 (List._∷_ e45 (List._∷_ e3 (List._∷_ e5 (List._∷_ e7 (List._∷_ e10
-    (List._∷_ e13 (List._∷_ e15 List.[])))))))))))))))
+t20 = List._∷_ e1 (List._∷_ e2 (List._∷_ e20 (List._∷_ e32 (List._∷_ e33 (List._∷_ e36 (List._∷_ e39 (List._∷_ e41 (List._∷_ e43 (List._∷_ e45 (List._∷_ e4 (List._∷_ e5 (List._∷_ e7 (List._∷_ e9
+    (List._∷_ e12 (List._∷_ e15 List.[])))))))))))))))
 
 abbrev pub t21 : List.List Row.Entry
-t21 = List._∷_ e1 (List._∷_ e2 (List._∷_ e21 (List._∷_ e30 (List._∷_ e32 (List._∷_ e35 (List._∷_ e38 (List._∷_ e41 (List._∷_ e43 (List._∷_ e45 (List._∷_ e3 (List._∷_ e5 (List._∷_ e7 (List._∷_ e10
-    (List._∷_ e13 (List._∷_ e15 List.[])))))))))))))))
+t21 = List._∷_ e1 (List._∷_ e2 (List._∷_ e20 (List._∷_ e31 (List._∷_ e33 (List._∷_ e36 (List._∷_ e39 (List._∷_ e41 (List._∷_ e43 (List._∷_ e45 (List._∷_ e4 (List._∷_ e5 (List._∷_ e7 (List._∷_ e9
+    (List._∷_ e12 (List._∷_ e15 List.[])))))))))))))))
 
 abbrev pub t22 : List.List Row.Entry
-t22 = List._∷_ e1 (List._∷_ e2 (List._∷_ e21 (List._∷_ e30 (List._∷_ e32 (List._∷_ e35 (List._∷_ e38 (List._∷_ e40 (List._∷_ e43 (List._∷_ e45 (List._∷_ e3 (List._∷_ e5 (List._∷_ e7 (List._∷_ e10
-    (List._∷_ e13 (List._∷_ e15 List.[])))))))))))))))
+t22 = List._∷_ e1 (List._∷_ e2 (List._∷_ e20 (List._∷_ e31 (List._∷_ e33 (List._∷_ e36 (List._∷_ e39 (List._∷_ e41 (List._∷_ e42 (List._∷_ e45 (List._∷_ e4 (List._∷_ e5 (List._∷_ e7 (List._∷_ e9
+    (List._∷_ e12 (List._∷_ e15 List.[])))))))))))))))
 
 abbrev pub t23 : List.List Row.Entry
-t23 = List._∷_ e1 (List._∷_ e2 (List._∷_ e21 (List._∷_ e30 (List._∷_ e32 (List._∷_ e35 (List._∷_ e38 (List._∷_ e40 (List._∷_ e42 (List._∷_ e45 (List._∷_ e3 (List._∷_ e5 (List._∷_ e7 (List._∷_ e10
-    (List._∷_ e13 (List._∷_ e15 List.[])))))))))))))))
+t23 = List._∷_ e1 (List._∷_ e2 (List._∷_ e20 (List._∷_ e31 (List._∷_ e33 (List._∷_ e36 (List._∷_ e39 (List._∷_ e41 (List._∷_ e42 (List._∷_ e44 (List._∷_ e4 (List._∷_ e5 (List._∷_ e7 (List._∷_ e9
+    (List._∷_ e12 (List._∷_ e15 List.[])))))))))))))))
 
 abbrev pub t24 : List.List Row.Entry
-t24 = List._∷_ e0 (List._∷_ e2 (List._∷_ e22 (List._∷_ e31 (List._∷_ e32 (List._∷_ e35 (List._∷_ e39 (List._∷_ e41 (List._∷_ e43 (List._∷_ e45 (List._∷_ e3 (List._∷_ e5 (List._∷_ e7 (List._∷_ e10
-    (List._∷_ e13 (List._∷_ e15 List.[])))))))))))))))
+t24 = List._∷_ e0 (List._∷_ e2 (List._∷_ e21 (List._∷_ e32 (List._∷_ e33 (List._∷_ e36 (List._∷_ e40 (List._∷_ e41 (List._∷_ e43 (List._∷_ e45 (List._∷_ e4 (List._∷_ e5 (List._∷_ e7 (List._∷_ e9
+    (List._∷_ e12 (List._∷_ e15 List.[])))))))))))))))
 
 abbrev pub t25 : List.List Row.Entry
-t25 = List._∷_ e16 (List._∷_ e17 (List._∷_ (18, Relend.msptr (Referent.rtF (Referent.fInt Syntax.w8)) (Syntax.tyRef Syntax.erased Syntax.mut (Syntax.tyInt Syntax.w8)) 6) (List._∷_ e20 (List._∷_ e23
-    (List._∷_ e26 (List._∷_ e27 (List._∷_ e29 List.[])))))))
+t25 = List._∷_ e16 (List._∷_ e17 (List._∷_ e18 (List._∷_ (19, Relend.msptr (Referent.rtF (Referent.fInt Syntax.w8)) (Syntax.tyRef Syntax.erased Syntax.mut (Syntax.tyInt Syntax.w8)) 7) (List._∷_ e23
+    (List._∷_ e24 (List._∷_ e27 (List._∷_ e28 (List._∷_ e30 List.[]))))))))
 
 abbrev pub t26 : List.List Row.Entry
-t26 = List._∷_ e16 (List._∷_ e17 (List._∷_ e18 (List._∷_ e19 (List._∷_ e23 (List._∷_ e26 (List._∷_ e27 (List._∷_ e29 List.[])))))))
+t26 = List._∷_ e16 (List._∷_ e17 (List._∷_ e18 (List._∷_ e19 (List._∷_ e22 (List._∷_ e24 (List._∷_ e27 (List._∷_ e28 (List._∷_ e30 List.[]))))))))
 
 abbrev pub t27 : List.List Row.Entry
-t27 = List._∷_ e0 (List._∷_ e2 (List._∷_ e22 (List._∷_ e31 (List._∷_ e34 (List._∷_ e35 (List._∷_ e39 (List._∷_ e41 (List._∷_ e43 (List._∷_ e45 (List._∷_ e3 (List._∷_ e5 (List._∷_ e7 (List._∷_ e10
-    (List._∷_ e13 (List._∷_ e15 List.[])))))))))))))))
+t27 = List._∷_ e0 (List._∷_ e2 (List._∷_ e21 (List._∷_ e32 (List._∷_ e35 (List._∷_ e36 (List._∷_ e40 (List._∷_ e41 (List._∷_ e43 (List._∷_ e45 (List._∷_ e4 (List._∷_ e5 (List._∷_ e7 (List._∷_ e9
+    (List._∷_ e12 (List._∷_ e15 List.[])))))))))))))))
 
 abbrev pub t28 : List.List Row.Entry
-t28 = List._∷_ e16 (List._∷_ e17 (List._∷_ e18 (List._∷_ e19 (List._∷_ (20, Relend.msptr (Referent.rtF (Referent.fInt Syntax.w16)) (Syntax.tyRef Syntax.erased Syntax.mut (Syntax.tyInt Syntax.w16)) 7)
-    (List._∷_ e26 (List._∷_ e27 (List._∷_ e29 List.[])))))))
+t28 = List._∷_ e16 (List._∷_ e17 (List._∷_ e18 (List._∷_ e19 (List._∷_ e22 (List._∷_
+    (21, Relend.msptr (Referent.rtF (Referent.fInt Syntax.w16)) (Syntax.tyRef Syntax.erased Syntax.mut (Syntax.tyInt Syntax.w16)) 8) (List._∷_ e27 (List._∷_ e28 (List._∷_ e30 List.[]))))))))
 
 abbrev pub t29 : List.List Row.Entry
-t29 = List._∷_ e16 (List._∷_ e17 (List._∷_ e18 (List._∷_ e19 (List._∷_ e23 (List._∷_ e25 (List._∷_ e27 (List._∷_ e29 List.[])))))))
+t29 = List._∷_ e16 (List._∷_ e17 (List._∷_ e18 (List._∷_ e19 (List._∷_ e22 (List._∷_ e24 (List._∷_ e26 (List._∷_ e28 (List._∷_ e30 List.[]))))))))
 
 abbrev pub t30 : List.List Row.Entry
-t30 = List._∷_ e0 (List._∷_ e2 (List._∷_ e22 (List._∷_ e31 (List._∷_ e34 (List._∷_ e37 (List._∷_ e39 (List._∷_ e41 (List._∷_ e43 (List._∷_ e45 (List._∷_ e3 (List._∷_ e5 (List._∷_ e7 (List._∷_ e10
-    (List._∷_ e13 (List._∷_ e15 List.[])))))))))))))))
+t30 = List._∷_ e0 (List._∷_ e2 (List._∷_ e21 (List._∷_ e32 (List._∷_ e35 (List._∷_ e38 (List._∷_ e40 (List._∷_ e41 (List._∷_ e43 (List._∷_ e45 (List._∷_ e4 (List._∷_ e5 (List._∷_ e7 (List._∷_ e9
+    (List._∷_ e12 (List._∷_ e15 List.[])))))))))))))))
 
 abbrev pub t31 : List.List Row.Entry
-t31 = List._∷_ e16 (List._∷_ e17 (List._∷_ e18 (List._∷_ e19 (List._∷_ e23 (List._∷_ e25 (List._∷_ (22, Relend.msptr (Element.type) (Syntax.tyRef Syntax.erased Syntax.mut Element.behind) 8) (List._∷_
-    e29 List.[])))))))
+t31 = List._∷_ e16 (List._∷_ e17 (List._∷_ e18 (List._∷_ e19 (List._∷_ e22 (List._∷_ e24 (List._∷_ e26 (List._∷_
+    (23, Relend.msptr (Element.type) (Syntax.tyRef Syntax.erased Syntax.mut Element.behind) 9) (List._∷_ e30 List.[]))))))))
 
 abbrev pub t32 : List.List Row.Entry
-t32 = List._∷_ e16 (List._∷_ e17 (List._∷_ e18 (List._∷_ e19 (List._∷_ e23 (List._∷_ e25 (List._∷_ e27 (List._∷_
-    (23, Mut.mslice (Element.type) (Syntax.tyRef Syntax.erased Syntax.mut Element.behind) 8) List.[])))))))
+t32 = List._∷_ e16 (List._∷_ e17 (List._∷_ e18 (List._∷_ e19 (List._∷_ e22 (List._∷_ e24 (List._∷_ e26 (List._∷_ e28 (List._∷_
+    (24, Mut.mslice (Element.type) (Syntax.tyRef Syntax.erased Syntax.mut Element.behind) 9) List.[]))))))))
 
 abbrev pub t33 : List.List Row.Entry
-t33 = List._∷_ e1 (List._∷_ e2 (List._∷_ e22 (List._∷_ e31 (List._∷_ e34 (List._∷_ e37 (List._∷_ e39 (List._∷_ e41 (List._∷_ e43 (List._∷_ e45 (List._∷_ e3 (List._∷_ e5 (List._∷_ e7 (List._∷_ e10
-    (List._∷_ e13 (List._∷_ e15 List.[])))))))))))))))
+t33 = List._∷_ e1 (List._∷_ e2 (List._∷_ e21 (List._∷_ e32 (List._∷_ e35 (List._∷_ e38 (List._∷_ e40 (List._∷_ e41 (List._∷_ e43 (List._∷_ e45 (List._∷_ e4 (List._∷_ e5 (List._∷_ e7 (List._∷_ e9
+    (List._∷_ e12 (List._∷_ e15 List.[])))))))))))))))
 
 abbrev pub t34 : List.List Row.Entry
-t34 = List._∷_ e16 (List._∷_ e17 (List._∷_ e18 (List._∷_ (19, Mut.msleft (Referent.rtF (Referent.fInt Syntax.w8)) (Syntax.tyRef Syntax.erased Syntax.mut (Syntax.tyInt Syntax.w8))) (List._∷_ e23
-    (List._∷_ e24 (List._∷_ e27 (List._∷_ e28 List.[])))))))
+t34 = List._∷_ e16 (List._∷_ e17 (List._∷_ e18 (List._∷_ e19 (List._∷_ (20, Mut.msleft (Referent.rtF (Referent.fInt Syntax.w8)) (Syntax.tyRef Syntax.erased Syntax.mut (Syntax.tyInt Syntax.w8)))
+    (List._∷_ e24 (List._∷_ e25 (List._∷_ e28 (List._∷_ e29 List.[]))))))))
 
 abbrev pub t35 : List.List Row.Entry
-t35 = List._∷_ e1 (List._∷_ e2 (List._∷_ e22 (List._∷_ e31 (List._∷_ e34 (List._∷_ e37 (List._∷_ e38 (List._∷_ e41 (List._∷_ e43 (List._∷_ e45 (List._∷_ e3 (List._∷_ e5 (List._∷_ e7 (List._∷_ e10
-    (List._∷_ e13 (List._∷_ e15 List.[])))))))))))))))
+t35 = List._∷_ e1 (List._∷_ e2 (List._∷_ e21 (List._∷_ e32 (List._∷_ e35 (List._∷_ e38 (List._∷_ e39 (List._∷_ e41 (List._∷_ e43 (List._∷_ e45 (List._∷_ e4 (List._∷_ e5 (List._∷_ e7 (List._∷_ e9
+    (List._∷_ e12 (List._∷_ e15 List.[])))))))))))))))
 
 abbrev pub t36 : List.List Row.Entry
-t36 = List._∷_ e1 (List._∷_ e2 (List._∷_ e22 (List._∷_ e31 (List._∷_ e34 (List._∷_ e37 (List._∷_ e38 (List._∷_ e41 (List._∷_ e42 (List._∷_ e45 (List._∷_ e3 (List._∷_ e5 (List._∷_ e7 (List._∷_ e10
-    (List._∷_ e13 (List._∷_ e15 List.[])))))))))))))))
+t36 = List._∷_ e1 (List._∷_ e2 (List._∷_ e21 (List._∷_ e32 (List._∷_ e35 (List._∷_ e38 (List._∷_ e39 (List._∷_ e41 (List._∷_ e43 (List._∷_ e44 (List._∷_ e4 (List._∷_ e5 (List._∷_ e7 (List._∷_ e9
+    (List._∷_ e12 (List._∷_ e15 List.[])))))))))))))))
 
 abbrev pub t37 : List.List Row.Entry
-t37 = List._∷_ e1 (List._∷_ e2 (List._∷_ e22 (List._∷_ e31 (List._∷_ e34 (List._∷_ e37 (List._∷_ e38 (List._∷_ e41 (List._∷_ e42 (List._∷_ e44 (List._∷_ e3 (List._∷_ e5 (List._∷_ e7 (List._∷_ e10
-    (List._∷_ e13 (List._∷_ e15 List.[])))))))))))))))
+t37 = List._∷_ e1 (List._∷_ e2 (List._∷_ e21 (List._∷_ e32 (List._∷_ e35 (List._∷_ e38 (List._∷_ e39 (List._∷_ e41 (List._∷_ e43 (List._∷_ e44 (List._∷_ e3 (List._∷_ e5 (List._∷_ e7 (List._∷_ e9
+    (List._∷_ e12 (List._∷_ e15 List.[])))))))))))))))
 
 abbrev pub t38 : List.List Row.Entry
-t38 = List._∷_ e1 (List._∷_ e2 (List._∷_ e21 (List._∷_ e31 (List._∷_ e34 (List._∷_ e37 (List._∷_ e38 (List._∷_ e41 (List._∷_ e42 (List._∷_ e44 (List._∷_ e3 (List._∷_ e5 (List._∷_ e7 (List._∷_ e10
-    (List._∷_ e13 (List._∷_ e15 List.[])))))))))))))))
+t38 = List._∷_ e1 (List._∷_ e2 (List._∷_ e20 (List._∷_ e32 (List._∷_ e35 (List._∷_ e38 (List._∷_ e39 (List._∷_ e41 (List._∷_ e43 (List._∷_ e44 (List._∷_ e3 (List._∷_ e5 (List._∷_ e7 (List._∷_ e9
+    (List._∷_ e12 (List._∷_ e15 List.[])))))))))))))))
 
 abbrev pub t39 : List.List Row.Entry
-t39 = List._∷_ e16 (List._∷_ e17 (List._∷_ e18 (List._∷_ e20 (List._∷_ e23 (List._∷_ e24 (List._∷_ e27 (List._∷_ e28 List.[])))))))
+t39 = List._∷_ e16 (List._∷_ e17 (List._∷_ e18 (List._∷_ e19 (List._∷_ e23 (List._∷_ e24 (List._∷_ e25 (List._∷_ e28 (List._∷_ e29 List.[]))))))))
 
 abbrev pub t40 : List.List Row.Entry
-t40 = List._∷_ e1 (List._∷_ e2 (List._∷_ e21 (List._∷_ e31 (List._∷_ e32 (List._∷_ e37 (List._∷_ e38 (List._∷_ e41 (List._∷_ e42 (List._∷_ e44 (List._∷_ e3 (List._∷_ e5 (List._∷_ e7 (List._∷_ e10
-    (List._∷_ e13 (List._∷_ e15 List.[])))))))))))))))
+t40 = List._∷_ e1 (List._∷_ e2 (List._∷_ e20 (List._∷_ e32 (List._∷_ e33 (List._∷_ e38 (List._∷_ e39 (List._∷_ e41 (List._∷_ e43 (List._∷_ e44 (List._∷_ e3 (List._∷_ e5 (List._∷_ e7 (List._∷_ e9
+    (List._∷_ e12 (List._∷_ e15 List.[])))))))))))))))
 
 abbrev pub t41 : List.List Row.Entry
-t41 = List._∷_ e16 (List._∷_ e17 (List._∷_ e18 (List._∷_ e20 (List._∷_ e23 (List._∷_ e26 (List._∷_ e27 (List._∷_ e28 List.[])))))))
+t41 = List._∷_ e16 (List._∷_ e17 (List._∷_ e18 (List._∷_ e19 (List._∷_ e23 (List._∷_ e24 (List._∷_ e27 (List._∷_ e28 (List._∷_ e29 List.[]))))))))
 
 abbrev pub t42 : List.List Row.Entry
-t42 = List._∷_ e1 (List._∷_ e2 (List._∷_ e21 (List._∷_ e31 (List._∷_ e32 (List._∷_ e35 (List._∷_ e38 (List._∷_ e41 (List._∷_ e42 (List._∷_ e44 (List._∷_ e3 (List._∷_ e5 (List._∷_ e7 (List._∷_ e10
-    (List._∷_ e13 (List._∷_ e15 List.[])))))))))))))))
+t42 = List._∷_ e1 (List._∷_ e2 (List._∷_ e20 (List._∷_ e32 (List._∷_ e33 (List._∷_ e36 (List._∷_ e39 (List._∷_ e41 (List._∷_ e43 (List._∷_ e44 (List._∷_ e3 (List._∷_ e5 (List._∷_ e7 (List._∷_ e9
+    (List._∷_ e12 (List._∷_ e15 List.[])))))))))))))))
 
 abbrev pub t43 : List.List Row.Entry
-t43 = List._∷_ e1 (List._∷_ e2 (List._∷_ e21 (List._∷_ e30 (List._∷_ e32 (List._∷_ e35 (List._∷_ e38 (List._∷_ e41 (List._∷_ e42 (List._∷_ e44 (List._∷_ e3 (List._∷_ e5 (List._∷_ e7 (List._∷_ e10
-    (List._∷_ e13 (List._∷_ e15 List.[])))))))))))))))
+t43 = List._∷_ e1 (List._∷_ e2 (List._∷_ e20 (List._∷_ e31 (List._∷_ e33 (List._∷_ e36 (List._∷_ e39 (List._∷_ e41 (List._∷_ e43 (List._∷_ e44 (List._∷_ e3 (List._∷_ e5 (List._∷_ e7 (List._∷_ e9
+    (List._∷_ e12 (List._∷_ e15 List.[])))))))))))))))
 
 abbrev pub T0 : Row.Cx
 T0 = record { locals = List._++_ t0 t1; slots = List.[] }
@@ -690,142 +692,145 @@ abbrev pub T4 : Row.Cx
 T4 = record { locals = List._++_ t0 t1; slots = List.[] }
 
 abbrev pub T5 : Row.Cx
-T5 = record { locals = List._++_ t3 t1; slots = List.[] }
+T5 = record { locals = List._++_ t0 t1; slots = List.[] }
 
 abbrev pub T6 : Row.Cx
-T6 = record { locals = List._++_ t4 t1; slots = List.[] }
+T6 = record { locals = List._++_ t3 t1; slots = List.[] }
 
 abbrev pub T7 : Row.Cx
-T7 = record { locals = List._++_ t5 t1; slots = List.[] }
+T7 = record { locals = List._++_ t4 t1; slots = List.[] }
 
 abbrev pub T8 : Row.Cx
-T8 = record { locals = List._++_ t6 t1; slots = List.[] }
+T8 = record { locals = List._++_ t5 t1; slots = List.[] }
 
 abbrev pub T9 : Row.Cx
-T9 = record { locals = List._++_ t4 t1; slots = List.[] }
+T9 = record { locals = List._++_ t6 t1; slots = List.[] }
 
 abbrev pub T10 : Row.Cx
-T10 = record { locals = List._++_ t7 t1; slots = List.[] }
+T10 = record { locals = List._++_ t4 t1; slots = List.[] }
 
 abbrev pub T11 : Row.Cx
-T11 = record { locals = List._++_ t8 t1; slots = List.[] }
+T11 = record { locals = List._++_ t7 t1; slots = List.[] }
 
 abbrev pub T12 : Row.Cx
-T12 = record { locals = List._++_ t9 t1; slots = List.[] }
+T12 = record { locals = List._++_ t8 t1; slots = List.[] }
 
-abbrev pub T14 : Row.Cx
-T14 = record { locals = List._++_ t10 t1; slots = List.[] }
+abbrev pub T13 : Row.Cx
+T13 = record { locals = List._++_ t9 t1; slots = List.[] }
 
 abbrev pub T15 : Row.Cx
-T15 = record { locals = List._++_ t11 t1; slots = List.[] }
+T15 = record { locals = List._++_ t10 t1; slots = List.[] }
 
 abbrev pub T16 : Row.Cx
-T16 = record { locals = List._++_ t12 t1; slots = List.[] }
+T16 = record { locals = List._++_ t11 t1; slots = List.[] }
 
 abbrev pub T17 : Row.Cx
-T17 = record { locals = List._++_ t13 t1; slots = List.[] }
+T17 = record { locals = List._++_ t12 t1; slots = List.[] }
 
-abbrev pub T19 : Row.Cx
-T19 = record { locals = List._++_ t9 t1; slots = List.[] }
+abbrev pub T18 : Row.Cx
+T18 = record { locals = List._++_ t13 t1; slots = List.[] }
 
 abbrev pub T20 : Row.Cx
 T20 = record { locals = List._++_ t9 t1; slots = List.[] }
 
-abbrev pub T23 : Row.Cx
-T23 = record { locals = List._++_ t14 t1; slots = List.[] }
+abbrev pub T21 : Row.Cx
+T21 = record { locals = List._++_ t9 t1; slots = List.[] }
 
 abbrev pub T24 : Row.Cx
-T24 = record { locals = List._++_ t15 t16; slots = List.[] }
+T24 = record { locals = List._++_ t14 t15; slots = List.[] }
 
 abbrev pub T25 : Row.Cx
-T25 = record { locals = List._++_ t17 t18; slots = List.[] }
+T25 = record { locals = List._++_ t14 t16; slots = List.[] }
 
 abbrev pub T26 : Row.Cx
-T26 = record { locals = List._++_ t15 t18; slots = List.[] }
+T26 = record { locals = List._++_ t17 t18; slots = List.[] }
 
-abbrev pub T28 : Row.Cx
-T28 = record { locals = List._++_ t9 t1; slots = List.[] }
+abbrev pub T27 : Row.Cx
+T27 = record { locals = List._++_ t14 t18; slots = List.[] }
 
-abbrev pub T30 : Row.Cx
-T30 = record { locals = List._++_ t9 t19; slots = List.[] }
+abbrev pub T29 : Row.Cx
+T29 = record { locals = List._++_ t9 t1; slots = List.[] }
 
 abbrev pub T31 : Row.Cx
-T31 = record { locals = List._++_ t20 t19; slots = List.[] }
+T31 = record { locals = List._++_ t9 t19; slots = List.[] }
 
 abbrev pub T32 : Row.Cx
-T32 = record { locals = List._++_ t20 t1; slots = List.[] }
+T32 = record { locals = List._++_ t20 t19; slots = List.[] }
 
 abbrev pub T33 : Row.Cx
-T33 = record { locals = List._++_ t21 t1; slots = List.[] }
+T33 = record { locals = List._++_ t20 t1; slots = List.[] }
 
 abbrev pub T34 : Row.Cx
-T34 = record { locals = List._++_ t22 t1; slots = List.[] }
+T34 = record { locals = List._++_ t21 t1; slots = List.[] }
 
 abbrev pub T35 : Row.Cx
-T35 = record { locals = List._++_ t23 t1; slots = List.[] }
+T35 = record { locals = List._++_ t22 t1; slots = List.[] }
 
 abbrev pub T36 : Row.Cx
-T36 = record { locals = List._++_ t2 t1; slots = List.[] }
+T36 = record { locals = List._++_ t23 t1; slots = List.[] }
 
 abbrev pub T37 : Row.Cx
-T37 = record { locals = List._++_ t4 t1; slots = List.[] }
+T37 = record { locals = List._++_ t2 t1; slots = List.[] }
 
-abbrev pub T39 : Row.Cx
-T39 = record { locals = List._++_ t24 t25; slots = List.[] }
+abbrev pub T38 : Row.Cx
+T38 = record { locals = List._++_ t4 t1; slots = List.[] }
 
 abbrev pub T40 : Row.Cx
-T40 = record { locals = List._++_ t24 t26; slots = List.[] }
+T40 = record { locals = List._++_ t24 t25; slots = List.[] }
 
-abbrev pub T42 : Row.Cx
-T42 = record { locals = List._++_ t27 t28; slots = List.[] }
+abbrev pub T41 : Row.Cx
+T41 = record { locals = List._++_ t24 t26; slots = List.[] }
 
 abbrev pub T43 : Row.Cx
-T43 = record { locals = List._++_ t27 t29; slots = List.[] }
+T43 = record { locals = List._++_ t27 t28; slots = List.[] }
 
-abbrev pub T45 : Row.Cx
-T45 = record { locals = List._++_ t30 t31; slots = List.[] }
+abbrev pub T44 : Row.Cx
+T44 = record { locals = List._++_ t27 t29; slots = List.[] }
 
 abbrev pub T46 : Row.Cx
-T46 = record { locals = List._++_ t30 t32; slots = List.[] }
+T46 = record { locals = List._++_ t30 t31; slots = List.[] }
 
 abbrev pub T47 : Row.Cx
-T47 = record { locals = List._++_ t33 t34; slots = List.[] }
+T47 = record { locals = List._++_ t30 t32; slots = List.[] }
 
 abbrev pub T48 : Row.Cx
-T48 = record { locals = List._++_ t35 t34; slots = List.[] }
+T48 = record { locals = List._++_ t33 t34; slots = List.[] }
 
 abbrev pub T49 : Row.Cx
-T49 = record { locals = List._++_ t36 t34; slots = List.[] }
+T49 = record { locals = List._++_ t35 t34; slots = List.[] }
 
 abbrev pub T50 : Row.Cx
-T50 = record { locals = List._++_ t37 t34; slots = List.[] }
+T50 = record { locals = List._++_ t36 t34; slots = List.[] }
 
-abbrev pub T52 : Row.Cx
-T52 = record { locals = List._++_ t38 t39; slots = List.[] }
+abbrev pub T51 : Row.Cx
+T51 = record { locals = List._++_ t37 t34; slots = List.[] }
 
 abbrev pub T53 : Row.Cx
 T53 = record { locals = List._++_ t38 t39; slots = List.[] }
 
-abbrev pub T56 : Row.Cx
-T56 = record { locals = List._++_ t40 t41; slots = List.[] }
+abbrev pub T54 : Row.Cx
+T54 = record { locals = List._++_ t38 t39; slots = List.[] }
 
 abbrev pub T57 : Row.Cx
 T57 = record { locals = List._++_ t40 t41; slots = List.[] }
 
-abbrev pub T60 : Row.Cx
-T60 = record { locals = List._++_ t42 t1; slots = List.[] }
+abbrev pub T58 : Row.Cx
+T58 = record { locals = List._++_ t40 t41; slots = List.[] }
 
-abbrev pub T62 : Row.Cx
-T62 = record { locals = List._++_ t43 t1; slots = List.[] }
+abbrev pub T61 : Row.Cx
+T61 = record { locals = List._++_ t42 t1; slots = List.[] }
 
 abbrev pub T63 : Row.Cx
-T63 = record { locals = List._++_ t2 t1; slots = List.[] }
+T63 = record { locals = List._++_ t43 t1; slots = List.[] }
+
+abbrev pub T64 : Row.Cx
+T64 = record { locals = List._++_ t2 t1; slots = List.[] }
 
 abbrev pub O0 : Typed.Outs
 O0 = record { next = Option.none; exits = List.[]; returns = Option.some T1 }
 
 abbrev pub O1 : Typed.Outs
-O1 = Typed.withNext (Option.some T9) O0
+O1 = Typed.withNext (Option.some T10) O0
 
 module _ (claims· : Claims) where
   abbrev s0 : Typed.Gives T0 T2
@@ -837,76 +842,79 @@ module _ (claims· : Claims) where
   abbrev s2 : Typed.Gives T3 T4
   s2 = Know.k-sl-known (Referent.fInt Syntax.w16) T3 4 2 (Syntax.tyRef (Syntax.named 2) Syntax.mut (Syntax.tyInt Syntax.w16)) Row.off 0 λ x. x
 
-  abbrev s3 : Typed.Both T4 T5
-  s3 = Call.callB ps·0 r·0 (claims· .0) (claims· .1) T4 (Num.vFld 6 (List._∷_ (Syntax.field 0) List.[]) 0 λ x. Form.struct .as-values x .0, tt) 8 List.[] (Syntax.tyInt Syntax.w32)
+  abbrev s3 : Typed.Gives T4 T5
+  s3 = Know.k-shs-known (Referent.fInt Syntax.w8) T4 7 4 (Syntax.tyRef (Syntax.named 4) Syntax.imm (Syntax.tyInt Syntax.w8)) Row.off 0 λ x. x
 
   abbrev s4 : Typed.Both T5 T6
-  s4 = Call.callB ps·1 r·1 (claims· .2) (claims· .3) T5 (record { pos = 1; ty = Syntax.tyRef (Syntax.named 0) Syntax.imm (Syntax.tyInt Syntax.w16); ref = λ x. x }, (Num.vAt 8 λ x. x, tt)) 9 (List._∷_
-      0 List.[]) (Syntax.tyInt Syntax.w64)
+  s4 = Call.callB ps·0 r·0 (claims· .0) (claims· .1) T5 (Num.vFld 6 (List._∷_ (Syntax.field 0) List.[]) 0 λ x. Form.struct .as-values x .0, tt) 9 List.[] (Syntax.tyInt Syntax.w32)
 
-  abbrev s5 : Typed.Mo T6 → Typed.Mo T7
-  s5 = Scalar.n-use T6 (Scalar.oFld 1 (List._∷_ (Syntax.field 1) List.[]) (Syntax.tyInt Syntax.w64) 8 Shared.lenV) 10 (Rows.sc-here (Row.sInt Syntax.w64)) (Row.sInt Syntax.w64 .of)
+  abbrev s5 : Typed.Both T6 T7
+  s5 = Call.callB ps·1 r·1 (claims· .2) (claims· .3) T6 (record { pos = 1; ty = Syntax.tyRef (Syntax.named 0) Syntax.imm (Syntax.tyInt Syntax.w16); ref = λ x. x }, (Num.vAt 9 λ x. x, tt)) 10
+      (List._∷_ 0 List.[]) (Syntax.tyInt Syntax.w64)
 
-  abbrev s6 : Typed.Asks T7 T8
-  s6 = Scalar.k-op2 T7 (Syntax.lt Syntax.unsigned) (Scalar.oAt 9 (Syntax.tyInt Syntax.w64) (Row.valS (Row.sInt Syntax.w64))) (Scalar.oAt 10 (Syntax.tyInt Syntax.w64) (Row.valS (Row.sInt Syntax.w64)))
-      11 (Rows.sc-here Row.sBool) (Row.sBool .of)
+  abbrev s6 : Typed.Mo T7 → Typed.Mo T8
+  s6 = Scalar.n-use T7 (Scalar.oFld 1 (List._∷_ (Syntax.field 1) List.[]) (Syntax.tyInt Syntax.w64) 8 Shared.lenV) 11 (Rows.sc-here (Row.sInt Syntax.w64)) (Row.sInt Syntax.w64 .of)
 
-  abbrev s7 : Typed.Mo T8 → Typed.Mo T10
-  s7 = Scalar.n-room T8 10 (Syntax.tyInt Syntax.w64)
+  abbrev s7 : Typed.Asks T8 T9
+  s7 = Scalar.k-op2 T8 (Syntax.lt Syntax.unsigned) (Scalar.oAt 10 (Syntax.tyInt Syntax.w64) (Row.valS (Row.sInt Syntax.w64))) (Scalar.oAt 11 (Syntax.tyInt Syntax.w64) (Row.valS (Row.sInt Syntax.w64)))
+      12 (Rows.sc-here Row.sBool) (Row.sBool .of)
 
-  abbrev s8 : Typed.Mo T10 → Typed.Mo T11
-  s8 = Scalar.n-room T10 6 y3
+  abbrev s8 : Typed.Mo T9 → Typed.Mo T11
+  s8 = Scalar.n-room T9 11 (Syntax.tyInt Syntax.w64)
 
   abbrev s9 : Typed.Mo T11 → Typed.Mo T12
-  s9 = Scalar.n-room T11 11 Syntax.tyBool
+  s9 = Scalar.n-room T11 6 y3
 
-  abbrev s11 : Typed.Gives T12 T14
-  s11 = Relend.k-sl-relend (Referent.rtF (Referent.fInt Syntax.w16)) T12 4 13 2 4 (Syntax.tyRef (Syntax.named 2) Syntax.mut (Syntax.tyInt Syntax.w16)) (Syntax.tyRef Syntax.erased Syntax.mut
+  abbrev s10 : Typed.Mo T12 → Typed.Mo T13
+  s10 = Scalar.n-room T12 12 Syntax.tyBool
+
+  abbrev s12 : Typed.Gives T13 T15
+  s12 = Relend.k-sl-relend (Referent.rtF (Referent.fInt Syntax.w16)) T13 4 14 2 5 (Syntax.tyRef (Syntax.named 2) Syntax.mut (Syntax.tyInt Syntax.w16)) (Syntax.tyRef Syntax.erased Syntax.mut
       (Syntax.tyInt Syntax.w16)) Row.off λ x. x
 
-  abbrev s12 : Typed.Asks T14 T15
-  s12 = Relend.k-sl-aggregate (Referent.rtF (Referent.fInt Syntax.w16)) (Relend.asMut (Referent.rtF (Referent.fInt Syntax.w16))) T14 13 14 4 (Syntax.tyRef Syntax.erased Syntax.mut (Syntax.tyInt
+  abbrev s13 : Typed.Asks T15 T16
+  s13 = Relend.k-sl-aggregate (Referent.rtF (Referent.fInt Syntax.w16)) (Relend.asMut (Referent.rtF (Referent.fInt Syntax.w16))) T15 14 15 5 (Syntax.tyRef Syntax.erased Syntax.mut (Syntax.tyInt
       Syntax.w16)) (Syntax.tyRef Syntax.erased Syntax.mut (Syntax.tyInt Syntax.w16)) (λ x. x) (Scalar.oFld 4 (List._∷_ (Syntax.field 1) List.[]) (Syntax.tyInt Syntax.w64) 8 λ v. Shared.lenV (v .0))
 
-  abbrev s13 : Typed.Both T15 T16
-  s13 = Call.callB ps·2 r·2 (claims· .4) (claims· .5) T15 (record { pos = 14; ty = Syntax.tyRef Syntax.erased Syntax.mut (Syntax.tyInt Syntax.w16); ref = λ x. x }, tt) 12 (List._∷_ 4 List.[])
+  abbrev s14 : Typed.Both T16 T17
+  s14 = Call.callB ps·2 r·2 (claims· .4) (claims· .5) T16 (record { pos = 15; ty = Syntax.tyRef Syntax.erased Syntax.mut (Syntax.tyInt Syntax.w16); ref = λ x. x }, tt) 13 (List._∷_ 5 List.[])
       Syntax.tyUnit
 
-  abbrev s14 : Typed.Mo T16 → Typed.Mo T17
-  s14 = Scalar.n-room T16 12 Syntax.tyUnit
+  abbrev s15 : Typed.Mo T17 → Typed.Mo T18
+  s15 = Scalar.n-room T17 13 Syntax.tyUnit
 
-  abbrev s16 : Typed.Both T17 T19
-  s16 = Relend.k-back-sl (Referent.rtF (Referent.fInt Syntax.w16)) T17 14 4 2 4 (Syntax.tyRef (Syntax.named 2) Syntax.mut (Syntax.tyInt Syntax.w16)) (Syntax.tyRef Syntax.erased Syntax.mut
+  abbrev s17 : Typed.Both T18 T20
+  s17 = Relend.k-back-sl (Referent.rtF (Referent.fInt Syntax.w16)) T18 15 4 2 5 (Syntax.tyRef (Syntax.named 2) Syntax.mut (Syntax.tyInt Syntax.w16)) (Syntax.tyRef Syntax.erased Syntax.mut
       (Syntax.tyInt Syntax.w16)) Row.off (λ x. x) λ x. x
 
-  abbrev s17 : Typed.Gives T19 T20
-  s17 = Know.k-sl-known (Referent.fInt Syntax.w16) T19 4 2 (Syntax.tyRef (Syntax.named 2) Syntax.mut (Syntax.tyInt Syntax.w16)) Row.off 0 λ x. x
+  abbrev s18 : Typed.Gives T20 T21
+  s18 = Know.k-sl-known (Referent.fInt Syntax.w16) T20 4 2 (Syntax.tyRef (Syntax.named 2) Syntax.mut (Syntax.tyInt Syntax.w16)) Row.off 0 λ x. x
 
-  abbrev s20 : Typed.Gives T20 T23
-  s20 = Relend.k-sl-relend (Element.type) T20 5 15 3 5 (Syntax.tyRef (Syntax.named 3) Syntax.mut Element.behind) (Syntax.tyRef Syntax.erased Syntax.mut Element.behind) Row.off λ x. x
+  abbrev s21 : Typed.Gives T21 T24
+  s21 = Relend.k-sl-relend (Element.type) T21 5 16 3 6 (Syntax.tyRef (Syntax.named 3) Syntax.mut Element.behind) (Syntax.tyRef Syntax.erased Syntax.mut Element.behind) Row.off λ x. x
 
-  abbrev s21 : Typed.Asks T23 T24
-  s21 = Relend.k-sl-aggregate (Element.type) (Relend.asMut (Element.type)) T23 15 16 5 (Syntax.tyRef Syntax.erased Syntax.mut Element.behind) (Syntax.tyRef Syntax.erased Syntax.mut Element.behind) (λ
+  abbrev s22 : Typed.Asks T24 T25
+  s22 = Relend.k-sl-aggregate (Element.type) (Relend.asMut (Element.type)) T24 16 17 6 (Syntax.tyRef Syntax.erased Syntax.mut Element.behind) (Syntax.tyRef Syntax.erased Syntax.mut Element.behind) (λ
       x. x) (Scalar.oFld 5 (List._∷_ (Syntax.field 1) List.[]) (Syntax.tyInt Syntax.w64) 8 λ v. Shared.lenV (v .0))
 
-  abbrev s22 : Typed.Both T24 T25
-  s22 = Call.callB ps·3 r·3 (claims· .6) (claims· .7) T24 (record { pos = 16; ty = Syntax.tyRef Syntax.erased Syntax.mut Element.behind; ref = λ x. x }, tt) 12 (List._∷_ 5 List.[]) Syntax.tyUnit
+  abbrev s23 : Typed.Both T25 T26
+  s23 = Call.callB ps·3 r·3 (claims· .6) (claims· .7) T25 (record { pos = 17; ty = Syntax.tyRef Syntax.erased Syntax.mut Element.behind; ref = λ x. x }, tt) 13 (List._∷_ 6 List.[]) Syntax.tyUnit
 
-  abbrev s23 : Typed.Mo T25 → Typed.Mo T26
-  s23 = Scalar.n-room T25 12 Syntax.tyUnit
+  abbrev s24 : Typed.Mo T26 → Typed.Mo T27
+  s24 = Scalar.n-room T26 13 Syntax.tyUnit
 
-  abbrev s25 : Typed.Both T26 T28
-  s25 = Relend.k-back-sl (Element.type) T26 16 5 3 5 (Syntax.tyRef (Syntax.named 3) Syntax.mut Element.behind) (Syntax.tyRef Syntax.erased Syntax.mut Element.behind) Row.off (λ x. x) λ x. x
+  abbrev s26 : Typed.Both T27 T29
+  s26 = Relend.k-back-sl (Element.type) T27 17 5 3 6 (Syntax.tyRef (Syntax.named 3) Syntax.mut Element.behind) (Syntax.tyRef Syntax.erased Syntax.mut Element.behind) Row.off (λ x. x) λ x. x
 
-  abbrev s27 : Typed.Mo T28 → Typed.Mo T30
-  s27 = Make.n-enum-make Refusal.the-type T28 17 λ m. Refusal.enum .make (Logic.inr (Logic.inr (Logic.inr (Logic.inr (Logic.inr (Logic.inr (Logic.inr (Logic.inr (Logic.inr (Logic.inr (Logic.inl
-      (m .1 .1 .1 .1 .1 .1 .1 .1 .1 .0, tt))))))))))))
-
-  abbrev s28 : Typed.Mo T30 → Typed.Mo T31
-  s28 = Make.n-enum-make BlockLength.the-type T30 0 λ m. BlockLength.enum .make (Logic.inr (Logic.inl (m .1 .1 .1 .1 .1 .1 .1 .1 .1 .1 .1 .1 .1 .1 .1 .1 .1 .0, tt)))
+  abbrev s28 : Typed.Mo T29 → Typed.Mo T31
+  s28 = Make.n-enum-make Refusal.the-type T29 18 λ m. Refusal.enum .make (Logic.inr (Logic.inr (Logic.inr (Logic.inr (Logic.inr (Logic.inr (Logic.inr (Logic.inr (Logic.inr (Logic.inr (Logic.inl
+      (m .1 .1 .1 .1 .1 .1 .1 .1 .1 .1 .0, tt))))))))))))
 
   abbrev s29 : Typed.Mo T31 → Typed.Mo T32
-  s29 = Scalar.n-room T31 17 (Syntax.tyEnum (List._∷_ 115 (List._∷_ 116 (List._∷_ 114 (List._∷_ 101 (List._∷_ 97 (List._∷_ 109 (List._∷_ 58 (List._∷_ 58 (List._∷_ 82 (List._∷_ 101 (List._∷_ 102
+  s29 = Make.n-enum-make BlockLength.the-type T31 0 λ m. BlockLength.enum .make (Logic.inr (Logic.inl (m .1 .1 .1 .1 .1 .1 .1 .1 .1 .1 .1 .1 .1 .1 .1 .1 .1 .1 .0, tt)))
+
+  abbrev s30 : Typed.Mo T32 → Typed.Mo T33
+  s30 = Scalar.n-room T32 18 (Syntax.tyEnum (List._∷_ 115 (List._∷_ 116 (List._∷_ 114 (List._∷_ 101 (List._∷_ 97 (List._∷_ 109 (List._∷_ 58 (List._∷_ 58 (List._∷_ 82 (List._∷_ 101 (List._∷_ 102
       (List._∷_ 117 (List._∷_ 115 (List._∷_ 97 (List._∷_ 108 List.[]))))))))))))))) (Syntax.ttcons Syntax.tnil (Syntax.ttcons Syntax.tnil (Syntax.ttcons Syntax.tnil (Syntax.ttcons (Syntax.tcons
       (Syntax.tyInt Syntax.w64) Syntax.tnil) (Syntax.ttcons Syntax.tnil (Syntax.ttcons Syntax.tnil (Syntax.ttcons Syntax.tnil (Syntax.ttcons Syntax.tnil (Syntax.ttcons Syntax.tnil (Syntax.ttcons
       Syntax.tnil (Syntax.ttcons (Syntax.tcons (Syntax.tyInt Syntax.w64) Syntax.tnil) (Syntax.ttcons (Syntax.tcons (Syntax.tyInt Syntax.w64) Syntax.tnil) (Syntax.ttcons Syntax.tnil (Syntax.ttcons
@@ -914,885 +922,927 @@ module _ (claims· : Claims) where
       (Syntax.ttcons Syntax.tnil (Syntax.ttcons (Syntax.tcons (Syntax.tyInt Syntax.w64) Syntax.tnil) (Syntax.ttcons (Syntax.tcons (Syntax.tyInt Syntax.w64) Syntax.tnil) (Syntax.ttcons (Syntax.tcons
       (Syntax.tyInt Syntax.w64) Syntax.tnil) (Syntax.ttcons Syntax.tnil Syntax.ttnil))))))))))))))))))))))
 
-  abbrev s30 : Typed.Mo T32 → Typed.Mo T33
-  s30 = Scalar.n-room T32 3 Syntax.tyBool
-
   abbrev s31 : Typed.Mo T33 → Typed.Mo T34
-  s31 = Scalar.n-room T33 7 (Syntax.tyInt Syntax.w64)
+  s31 = Scalar.n-room T33 3 Syntax.tyBool
 
   abbrev s32 : Typed.Mo T34 → Typed.Mo T35
-  s32 = Scalar.n-room T34 8 (Syntax.tyInt Syntax.w32)
+  s32 = Scalar.n-room T34 8 (Syntax.tyInt Syntax.w64)
 
   abbrev s33 : Typed.Mo T35 → Typed.Mo T36
-  s33 = Scalar.n-room T35 9 (Syntax.tyInt Syntax.w64)
+  s33 = Scalar.n-room T35 9 (Syntax.tyInt Syntax.w32)
 
-  abbrev s34 : Typed.Mo T10 → Typed.Mo T37
-  s34 = Scalar.n-room T10 11 Syntax.tyBool
+  abbrev s34 : Typed.Mo T36 → Typed.Mo T37
+  s34 = Scalar.n-room T36 10 (Syntax.tyInt Syntax.w64)
 
-  abbrev s36 : Typed.Gives T9 T39
-  s36 = Relend.k-sl-relend (Referent.rtF (Referent.fInt Syntax.w8)) T9 2 18 1 6 (Syntax.tyRef (Syntax.named 1) Syntax.mut (Syntax.tyInt Syntax.w8)) (Syntax.tyRef Syntax.erased Syntax.mut (Syntax.tyInt
-      Syntax.w8)) Row.off λ x. x
+  abbrev s35 : Typed.Mo T11 → Typed.Mo T38
+  s35 = Scalar.n-room T11 12 Syntax.tyBool
 
-  abbrev s37 : Typed.Asks T39 T40
-  s37 = Relend.k-sl-aggregate (Referent.rtF (Referent.fInt Syntax.w8)) (Relend.asMut (Referent.rtF (Referent.fInt Syntax.w8))) T39 18 19 6 (Syntax.tyRef Syntax.erased Syntax.mut (Syntax.tyInt
+  abbrev s37 : Typed.Gives T10 T40
+  s37 = Relend.k-sl-relend (Referent.rtF (Referent.fInt Syntax.w8)) T10 2 19 1 7 (Syntax.tyRef (Syntax.named 1) Syntax.mut (Syntax.tyInt Syntax.w8)) (Syntax.tyRef Syntax.erased Syntax.mut
+      (Syntax.tyInt Syntax.w8)) Row.off λ x. x
+
+  abbrev s38 : Typed.Asks T40 T41
+  s38 = Relend.k-sl-aggregate (Referent.rtF (Referent.fInt Syntax.w8)) (Relend.asMut (Referent.rtF (Referent.fInt Syntax.w8))) T40 19 20 7 (Syntax.tyRef Syntax.erased Syntax.mut (Syntax.tyInt
       Syntax.w8)) (Syntax.tyRef Syntax.erased Syntax.mut (Syntax.tyInt Syntax.w8)) (λ x. x) (Scalar.oFld 2 (List._∷_ (Syntax.field 1) List.[]) (Syntax.tyInt Syntax.w64) 8 λ v. Shared.lenV (v .0))
 
-  abbrev s39 : Typed.Gives T40 T42
-  s39 = Relend.k-sl-relend (Referent.rtF (Referent.fInt Syntax.w16)) T40 4 20 2 7 (Syntax.tyRef (Syntax.named 2) Syntax.mut (Syntax.tyInt Syntax.w16)) (Syntax.tyRef Syntax.erased Syntax.mut
+  abbrev s40 : Typed.Gives T41 T43
+  s40 = Relend.k-sl-relend (Referent.rtF (Referent.fInt Syntax.w16)) T41 4 21 2 8 (Syntax.tyRef (Syntax.named 2) Syntax.mut (Syntax.tyInt Syntax.w16)) (Syntax.tyRef Syntax.erased Syntax.mut
       (Syntax.tyInt Syntax.w16)) Row.off λ x. x
 
-  abbrev s40 : Typed.Asks T42 T43
-  s40 = Relend.k-sl-aggregate (Referent.rtF (Referent.fInt Syntax.w16)) (Relend.asMut (Referent.rtF (Referent.fInt Syntax.w16))) T42 20 21 7 (Syntax.tyRef Syntax.erased Syntax.mut (Syntax.tyInt
+  abbrev s41 : Typed.Asks T43 T44
+  s41 = Relend.k-sl-aggregate (Referent.rtF (Referent.fInt Syntax.w16)) (Relend.asMut (Referent.rtF (Referent.fInt Syntax.w16))) T43 21 22 8 (Syntax.tyRef Syntax.erased Syntax.mut (Syntax.tyInt
       Syntax.w16)) (Syntax.tyRef Syntax.erased Syntax.mut (Syntax.tyInt Syntax.w16)) (λ x. x) (Scalar.oFld 4 (List._∷_ (Syntax.field 1) List.[]) (Syntax.tyInt Syntax.w64) 8 λ v. Shared.lenV (v .0))
 
-  abbrev s42 : Typed.Gives T43 T45
-  s42 = Relend.k-sl-relend (Element.type) T43 5 22 3 8 (Syntax.tyRef (Syntax.named 3) Syntax.mut Element.behind) (Syntax.tyRef Syntax.erased Syntax.mut Element.behind) Row.off λ x. x
+  abbrev s43 : Typed.Gives T44 T46
+  s43 = Relend.k-sl-relend (Element.type) T44 5 23 3 9 (Syntax.tyRef (Syntax.named 3) Syntax.mut Element.behind) (Syntax.tyRef Syntax.erased Syntax.mut Element.behind) Row.off λ x. x
 
-  abbrev s43 : Typed.Asks T45 T46
-  s43 = Relend.k-sl-aggregate (Element.type) (Relend.asMut (Element.type)) T45 22 23 8 (Syntax.tyRef Syntax.erased Syntax.mut Element.behind) (Syntax.tyRef Syntax.erased Syntax.mut Element.behind) (λ
+  abbrev s44 : Typed.Asks T46 T47
+  s44 = Relend.k-sl-aggregate (Element.type) (Relend.asMut (Element.type)) T46 23 24 9 (Syntax.tyRef Syntax.erased Syntax.mut Element.behind) (Syntax.tyRef Syntax.erased Syntax.mut Element.behind) (λ
       x. x) (Scalar.oFld 5 (List._∷_ (Syntax.field 1) List.[]) (Syntax.tyInt Syntax.w64) 8 λ v. Shared.lenV (v .0))
 
-  abbrev s44 : Typed.Both T46 T47
-  s44 = Call.callB ps·4 r·4 (claims· .8) (claims· .9) T46 (
+  abbrev s45 : Typed.Both T47 T48
+  s45 = Call.callB ps·4 r·4 (claims· .8) (claims· .9) T47 (
     record { pos = 1; ty = Syntax.tyRef (Syntax.named 0) Syntax.imm (Syntax.tyInt Syntax.w16); ref = λ x. x },
     (
-      record { pos = 19; ty = Syntax.tyRef Syntax.erased Syntax.mut (Syntax.tyInt Syntax.w8); ref = λ x. x },
+      record { pos = 20; ty = Syntax.tyRef Syntax.erased Syntax.mut (Syntax.tyInt Syntax.w8); ref = λ x. x },
       (
         Bool.bAt 3 λ x. x,
         (
-          record { pos = 21; ty = Syntax.tyRef Syntax.erased Syntax.mut (Syntax.tyInt Syntax.w16); ref = λ x. x },
-          (record { pos = 23; ty = Syntax.tyRef Syntax.erased Syntax.mut Element.behind; ref = λ x. x }, (record { pos = 6; st = List.[]; d = 0; at = λ x. x }, (Num.vAt 7 λ x. x, tt))),
+          record { pos = 22; ty = Syntax.tyRef Syntax.erased Syntax.mut (Syntax.tyInt Syntax.w16); ref = λ x. x },
+          (
+            record { pos = 24; ty = Syntax.tyRef Syntax.erased Syntax.mut Element.behind; ref = λ x. x },
+            (record { pos = 6; st = List.[]; d = 0; at = λ x. x }, (record { pos = 7; ty = Syntax.tyRef (Syntax.named 4) Syntax.imm (Syntax.tyInt Syntax.w8); ref = λ x. x }, (Num.vAt 8 λ x. x, tt))),
+          ),
         ),
       ),
     ),
-  ) 0 (List._∷_ 0
-      (List._∷_ 6 (List._∷_ 7 (List._∷_ 8 List.[])))) (Syntax.tyEnum (List._∷_ 115 (List._∷_ 116 (List._∷_ 114 (List._∷_ 101 (List._∷_ 97 (List._∷_ 109 (List._∷_ 58 (List._∷_ 58 (List._∷_ 66 (List._∷_ 108
-      (List._∷_ 111 (List._∷_ 99 (List._∷_ 107 (List._∷_ 76 (List._∷_ 101 (List._∷_ 110 (List._∷_ 103 (List._∷_ 116 (List._∷_ 104 List.[]))))))))))))))))))) (Syntax.ttcons (Syntax.tcons (Syntax.tyInt
-      Syntax.w64) Syntax.tnil) (Syntax.ttcons (Syntax.tcons (Syntax.tyEnum (List._∷_ 115 (List._∷_ 116 (List._∷_ 114 (List._∷_ 101 (List._∷_ 97 (List._∷_ 109 (List._∷_ 58 (List._∷_ 58 (List._∷_ 82
-      (List._∷_ 101 (List._∷_ 102 (List._∷_ 117 (List._∷_ 115 (List._∷_ 97 (List._∷_ 108 List.[]))))))))))))))) (Syntax.ttcons Syntax.tnil (Syntax.ttcons Syntax.tnil (Syntax.ttcons Syntax.tnil
-      (Syntax.ttcons (Syntax.tcons (Syntax.tyInt Syntax.w64) Syntax.tnil) (Syntax.ttcons Syntax.tnil (Syntax.ttcons Syntax.tnil (Syntax.ttcons Syntax.tnil (Syntax.ttcons Syntax.tnil (Syntax.ttcons
-      Syntax.tnil (Syntax.ttcons Syntax.tnil (Syntax.ttcons (Syntax.tcons (Syntax.tyInt Syntax.w64) Syntax.tnil) (Syntax.ttcons (Syntax.tcons (Syntax.tyInt Syntax.w64) Syntax.tnil) (Syntax.ttcons
-      Syntax.tnil (Syntax.ttcons (Syntax.tcons (Syntax.tyInt Syntax.w64) (Syntax.tcons (Syntax.tyInt Syntax.w64) Syntax.tnil)) (Syntax.ttcons (Syntax.tcons (Syntax.tyInt Syntax.w64) Syntax.tnil)
-      (Syntax.ttcons Syntax.tnil (Syntax.ttcons Syntax.tnil (Syntax.ttcons (Syntax.tcons (Syntax.tyInt Syntax.w64) Syntax.tnil) (Syntax.ttcons (Syntax.tcons (Syntax.tyInt Syntax.w64) Syntax.tnil)
-      (Syntax.ttcons (Syntax.tcons (Syntax.tyInt Syntax.w64) Syntax.tnil) (Syntax.ttcons Syntax.tnil Syntax.ttnil)))))))))))))))))))))) Syntax.tnil) Syntax.ttnil)))
-
-  abbrev s45 : Typed.Mo T47 → Typed.Mo T48
-  s45 = Scalar.n-room T47 6 y3
+  ) 0
+      (List._∷_ 0 (List._∷_ 7 (List._∷_ 8 (List._∷_ 9 (List._∷_ 4 List.[]))))) (Syntax.tyEnum (List._∷_ 115 (List._∷_ 116 (List._∷_ 114 (List._∷_ 101 (List._∷_ 97 (List._∷_ 109 (List._∷_ 58 (List._∷_ 58
+      (List._∷_ 66 (List._∷_ 108 (List._∷_ 111 (List._∷_ 99 (List._∷_ 107 (List._∷_ 76 (List._∷_ 101 (List._∷_ 110 (List._∷_ 103 (List._∷_ 116 (List._∷_ 104 List.[]))))))))))))))))))) (Syntax.ttcons
+      (Syntax.tcons (Syntax.tyInt Syntax.w64) Syntax.tnil) (Syntax.ttcons (Syntax.tcons (Syntax.tyEnum (List._∷_ 115 (List._∷_ 116 (List._∷_ 114 (List._∷_ 101 (List._∷_ 97 (List._∷_ 109 (List._∷_ 58
+      (List._∷_ 58 (List._∷_ 82 (List._∷_ 101 (List._∷_ 102 (List._∷_ 117 (List._∷_ 115 (List._∷_ 97 (List._∷_ 108 List.[]))))))))))))))) (Syntax.ttcons Syntax.tnil (Syntax.ttcons Syntax.tnil
+      (Syntax.ttcons Syntax.tnil (Syntax.ttcons (Syntax.tcons (Syntax.tyInt Syntax.w64) Syntax.tnil) (Syntax.ttcons Syntax.tnil (Syntax.ttcons Syntax.tnil (Syntax.ttcons Syntax.tnil (Syntax.ttcons
+      Syntax.tnil (Syntax.ttcons Syntax.tnil (Syntax.ttcons Syntax.tnil (Syntax.ttcons (Syntax.tcons (Syntax.tyInt Syntax.w64) Syntax.tnil) (Syntax.ttcons (Syntax.tcons (Syntax.tyInt Syntax.w64)
+      Syntax.tnil) (Syntax.ttcons Syntax.tnil (Syntax.ttcons (Syntax.tcons (Syntax.tyInt Syntax.w64) (Syntax.tcons (Syntax.tyInt Syntax.w64) Syntax.tnil)) (Syntax.ttcons (Syntax.tcons (Syntax.tyInt
+      Syntax.w64) Syntax.tnil) (Syntax.ttcons Syntax.tnil (Syntax.ttcons Syntax.tnil (Syntax.ttcons (Syntax.tcons (Syntax.tyInt Syntax.w64) Syntax.tnil) (Syntax.ttcons (Syntax.tcons (Syntax.tyInt
+      Syntax.w64) Syntax.tnil) (Syntax.ttcons (Syntax.tcons (Syntax.tyInt Syntax.w64) Syntax.tnil) (Syntax.ttcons Syntax.tnil Syntax.ttnil)))))))))))))))))))))) Syntax.tnil) Syntax.ttnil)))
 
   abbrev s46 : Typed.Mo T48 → Typed.Mo T49
-  s46 = Scalar.n-room T48 8 (Syntax.tyInt Syntax.w32)
+  s46 = Scalar.n-room T48 6 y3
 
   abbrev s47 : Typed.Mo T49 → Typed.Mo T50
-  s47 = Scalar.n-room T49 9 (Syntax.tyInt Syntax.w64)
+  s47 = Scalar.n-room T49 9 (Syntax.tyInt Syntax.w32)
 
-  abbrev s49 : Typed.Both T50 T52
-  s49 = Relend.k-back-sl (Referent.rtF (Referent.fInt Syntax.w8)) T50 19 2 1 6 (Syntax.tyRef (Syntax.named 1) Syntax.mut (Syntax.tyInt Syntax.w8)) (Syntax.tyRef Syntax.erased Syntax.mut (Syntax.tyInt
+  abbrev s48 : Typed.Mo T50 → Typed.Mo T51
+  s48 = Scalar.n-room T50 10 (Syntax.tyInt Syntax.w64)
+
+  abbrev s50 : Typed.Both T51 T53
+  s50 = Relend.k-back-sl (Referent.rtF (Referent.fInt Syntax.w8)) T51 20 2 1 7 (Syntax.tyRef (Syntax.named 1) Syntax.mut (Syntax.tyInt Syntax.w8)) (Syntax.tyRef Syntax.erased Syntax.mut (Syntax.tyInt
       Syntax.w8)) Row.off (λ x. x) λ x. x
 
-  abbrev s50 : Typed.Gives T52 T53
-  s50 = Know.k-sl-known (Referent.fInt Syntax.w8) T52 2 1 (Syntax.tyRef (Syntax.named 1) Syntax.mut (Syntax.tyInt Syntax.w8)) Row.off 0 λ x. x
+  abbrev s51 : Typed.Gives T53 T54
+  s51 = Know.k-sl-known (Referent.fInt Syntax.w8) T53 2 1 (Syntax.tyRef (Syntax.named 1) Syntax.mut (Syntax.tyInt Syntax.w8)) Row.off 0 λ x. x
 
-  abbrev s53 : Typed.Both T53 T56
-  s53 = Relend.k-back-sl (Referent.rtF (Referent.fInt Syntax.w16)) T53 21 4 2 7 (Syntax.tyRef (Syntax.named 2) Syntax.mut (Syntax.tyInt Syntax.w16)) (Syntax.tyRef Syntax.erased Syntax.mut
+  abbrev s54 : Typed.Both T54 T57
+  s54 = Relend.k-back-sl (Referent.rtF (Referent.fInt Syntax.w16)) T54 22 4 2 8 (Syntax.tyRef (Syntax.named 2) Syntax.mut (Syntax.tyInt Syntax.w16)) (Syntax.tyRef Syntax.erased Syntax.mut
       (Syntax.tyInt Syntax.w16)) Row.off (λ x. x) λ x. x
 
-  abbrev s54 : Typed.Gives T56 T57
-  s54 = Know.k-sl-known (Referent.fInt Syntax.w16) T56 4 2 (Syntax.tyRef (Syntax.named 2) Syntax.mut (Syntax.tyInt Syntax.w16)) Row.off 0 λ x. x
+  abbrev s55 : Typed.Gives T57 T58
+  s55 = Know.k-sl-known (Referent.fInt Syntax.w16) T57 4 2 (Syntax.tyRef (Syntax.named 2) Syntax.mut (Syntax.tyInt Syntax.w16)) Row.off 0 λ x. x
 
-  abbrev s57 : Typed.Both T57 T60
-  s57 = Relend.k-back-sl (Element.type) T57 23 5 3 8 (Syntax.tyRef (Syntax.named 3) Syntax.mut Element.behind) (Syntax.tyRef Syntax.erased Syntax.mut Element.behind) Row.off (λ x. x) λ x. x
+  abbrev s58 : Typed.Both T58 T61
+  s58 = Relend.k-back-sl (Element.type) T58 24 5 3 9 (Syntax.tyRef (Syntax.named 3) Syntax.mut Element.behind) (Syntax.tyRef Syntax.erased Syntax.mut Element.behind) Row.off (λ x. x) λ x. x
 
-  abbrev s59 : Typed.Mo T60 → Typed.Mo T62
-  s59 = Scalar.n-room T60 3 Syntax.tyBool
+  abbrev s60 : Typed.Mo T61 → Typed.Mo T63
+  s60 = Scalar.n-room T61 3 Syntax.tyBool
 
-  abbrev s60 : Typed.Mo T62 → Typed.Mo T63
-  s60 = Scalar.n-room T62 7 (Syntax.tyInt Syntax.w64)
+  abbrev s61 : Typed.Mo T63 → Typed.Mo T64
+  s61 = Scalar.n-room T63 8 (Syntax.tyInt Syntax.w64)
 
-  module _ (Pre· : (κs : Lifetimes.Lfts 4) → Kinds.Dens κs ps → Type 0) (Post· : (κs : Lifetimes.Lfts 4) → (a : Kinds.Dens κs ps) → Kinds.Plain 4 ps r κs) where
+  module _ (Pre· : (κs : Lifetimes.Lfts 5) → Kinds.Dens κs ps → Type 0) (Post· : (κs : Lifetimes.Lfts 5) → (a : Kinds.Dens κs ps) → Kinds.Plain 5 ps r κs) where
     module _ (M : Type 1) where
       abbrev pub Closed : Type 2
       Closed = (𝓤 : URA.URA M) (H : Wp.Heap 𝓤) (A : Atoms.Atoms 𝓤) (W : Kit.Given 𝓤 H A) (𝓣 : Wp.Tables 𝓤 H) (known0 : Plain.Known 𝓤 H A W 𝓣 0 ps·0 r·0 (claims· .0) (claims· .1) "quantiser::largest")
           (known1 : Plain.Known 𝓤 H A W 𝓣 1 ps·1 r·1 (claims· .2) (claims· .3) "begin::first_above") (known2 : Plain.Known 𝓤 H A W 𝓣 1 ps·2 r·2 (claims· .4) (claims· .5) "lines::clear") (known3 :
-          Plain.Known 𝓤 H A W 𝓣 1 ps·3 r·3 (claims· .6) (claims· .7) "block::records::clear_records") (known4 : Plain.Known 𝓤 H A W 𝓣 4 ps·4 r·4 (claims· .8) (claims· .9) "block::writer::write_measured")
-          → Statement.Triple 𝓤 (Wp.WpFn 𝓤 H (𝓣 .C) (𝓣 .Λ) (Function.fnOf 4 ps r xs m hs body)) (Function.plainOf 𝓤 H A 4 ps r Pre· Post·)
+          Plain.Known 𝓤 H A W 𝓣 1 ps·3 r·3 (claims· .6) (claims· .7) "block::records::clear_records") (known4 : Plain.Known 𝓤 H A W 𝓣 5 ps·4 r·4 (claims· .8) (claims· .9) "block::writer::write_measured")
+          → Statement.Triple 𝓤 (Wp.WpFn 𝓤 H (𝓣 .C) (𝓣 .Λ) (Function.fnOf 5 ps r xs m hs body)) (Function.plainOf 𝓤 H A 5 ps r Pre· Post·)
 
     module _ where
-      abbrev at0 : Typed.TF T36 O1
+      abbrev at0 : Typed.TF T37 O1
       at0 = Typed.atRet O1
 
-      abbrev at1 : Typed.TF T35 O1
-      at1 = λ Ψ. Typed.pass T35 T36 s33 (at0 Ψ)
+      abbrev at1 : Typed.TF T36 O1
+      at1 = λ Ψ. Typed.pass T36 T37 s34 (at0 Ψ)
 
-      abbrev at2 : Typed.TF T34 O1
-      at2 = λ Ψ. Typed.pass T34 T35 s32 (at1 Ψ)
+      abbrev at2 : Typed.TF T35 O1
+      at2 = λ Ψ. Typed.pass T35 T36 s33 (at1 Ψ)
 
-      abbrev at3 : Typed.TF T33 O1
-      at3 = λ Ψ. Typed.pass T33 T34 s31 (at2 Ψ)
+      abbrev at3 : Typed.TF T34 O1
+      at3 = λ Ψ. Typed.pass T34 T35 s32 (at2 Ψ)
 
-      abbrev at4 : Typed.TF T32 O1
-      at4 = λ Ψ. Typed.pass T32 T33 s30 (at3 Ψ)
+      abbrev at4 : Typed.TF T33 O1
+      at4 = λ Ψ. Typed.pass T33 T34 s31 (at3 Ψ)
 
-      abbrev at5 : Typed.TF T31 O1
-      at5 = λ Ψ. Typed.pass T31 T32 s29 (at4 Ψ)
+      abbrev at5 : Typed.TF T32 O1
+      at5 = λ Ψ. Typed.pass T32 T33 s30 (at4 Ψ)
 
-      abbrev at6 : Typed.TF T30 O1
-      at6 = λ Ψ. Typed.pass T30 T31 s28 (at5 Ψ)
+      abbrev at6 : Typed.TF T31 O1
+      at6 = λ Ψ. Typed.pass T31 T32 s29 (at5 Ψ)
 
-      abbrev at7 : Typed.TF T28 O1
-      at7 = λ Ψ. Typed.pass T28 T30 s27 (at6 Ψ)
+      abbrev at7 : Typed.TF T29 O1
+      at7 = λ Ψ. Typed.pass T29 T31 s28 (at6 Ψ)
 
-      abbrev at8 : Typed.TF T28 O1
+      abbrev at8 : Typed.TF T29 O1
       at8 = λ Ψ. at7 Ψ
 
-      abbrev at9 : Typed.TF T26 O1
-      at9 = λ Ψ. Typed.both s25 (at8 Ψ)
+      abbrev at9 : Typed.TF T27 O1
+      at9 = λ Ψ. Typed.both s26 (at8 Ψ)
 
-      abbrev at10 : Typed.TF T26 O1
+      abbrev at10 : Typed.TF T27 O1
       at10 = λ Ψ. at9 Ψ
 
-      abbrev at11 : Typed.TF T25 O1
-      at11 = λ Ψ. Typed.pass T25 T26 s23 (at10 Ψ)
+      abbrev at11 : Typed.TF T26 O1
+      at11 = λ Ψ. Typed.pass T26 T27 s24 (at10 Ψ)
 
-      abbrev at12 : Typed.TF T24 O1
-      at12 = λ Ψ. Typed.both s22 (at11 Ψ)
+      abbrev at12 : Typed.TF T25 O1
+      at12 = λ Ψ. Typed.both s23 (at11 Ψ)
 
-      abbrev at13 : Typed.TF T23 O1
-      at13 = λ Ψ. Typed.ask s21 (at12 Ψ)
+      abbrev at13 : Typed.TF T24 O1
+      at13 = λ Ψ. Typed.ask s22 (at12 Ψ)
 
-      abbrev at14 : Typed.TF T20 O1
-      at14 = λ Ψ. Typed.give s20 (at13 Ψ)
+      abbrev at14 : Typed.TF T21 O1
+      at14 = λ Ψ. Typed.give s21 (at13 Ψ)
 
-      abbrev at15 : Typed.TF T20 O1
+      abbrev at15 : Typed.TF T21 O1
       at15 = λ Ψ. at14 Ψ
 
-      abbrev at16 : Typed.TF T20 O1
+      abbrev at16 : Typed.TF T21 O1
       at16 = λ Ψ. at15 Ψ
 
-      abbrev at17 : Typed.TF T19 O1
-      at17 = λ Ψ. Typed.give s17 (at16 Ψ)
+      abbrev at17 : Typed.TF T20 O1
+      at17 = λ Ψ. Typed.give s18 (at16 Ψ)
 
-      abbrev at18 : Typed.TF T17 O1
-      at18 = λ Ψ. Typed.both s16 (at17 Ψ)
+      abbrev at18 : Typed.TF T18 O1
+      at18 = λ Ψ. Typed.both s17 (at17 Ψ)
 
-      abbrev at19 : Typed.TF T17 O1
+      abbrev at19 : Typed.TF T18 O1
       at19 = λ Ψ. at18 Ψ
 
-      abbrev at20 : Typed.TF T16 O1
-      at20 = λ Ψ. Typed.pass T16 T17 s14 (at19 Ψ)
+      abbrev at20 : Typed.TF T17 O1
+      at20 = λ Ψ. Typed.pass T17 T18 s15 (at19 Ψ)
 
-      abbrev at21 : Typed.TF T15 O1
-      at21 = λ Ψ. Typed.both s13 (at20 Ψ)
+      abbrev at21 : Typed.TF T16 O1
+      at21 = λ Ψ. Typed.both s14 (at20 Ψ)
 
-      abbrev at22 : Typed.TF T14 O1
-      at22 = λ Ψ. Typed.ask s12 (at21 Ψ)
+      abbrev at22 : Typed.TF T15 O1
+      at22 = λ Ψ. Typed.ask s13 (at21 Ψ)
 
-      abbrev at23 : Typed.TF T12 O1
-      at23 = λ Ψ. Typed.give s11 (at22 Ψ)
+      abbrev at23 : Typed.TF T13 O1
+      at23 = λ Ψ. Typed.give s12 (at22 Ψ)
 
-      abbrev at24 : Typed.TF T12 O1
+      abbrev at24 : Typed.TF T13 O1
       at24 = λ Ψ. at23 Ψ
 
-      abbrev at25 : Typed.TF T11 O1
-      at25 = λ Ψ. Typed.pass T11 T12 s9 (at24 Ψ)
+      abbrev at25 : Typed.TF T12 O1
+      at25 = λ Ψ. Typed.pass T12 T13 s10 (at24 Ψ)
 
-      abbrev at26 : Typed.TF T10 O1
-      at26 = λ Ψ. Typed.pass T10 T11 s8 (at25 Ψ)
+      abbrev at26 : Typed.TF T11 O1
+      at26 = λ Ψ. Typed.pass T11 T12 s9 (at25 Ψ)
 
-      abbrev at27 : Typed.TF T37 O1
+      abbrev at27 : Typed.TF T38 O1
       at27 = Typed.atNext O1
 
-      abbrev at28 : Typed.TF T10 O1
-      at28 = λ Ψ. Typed.pass T10 T37 s34 (at27 Ψ)
+      abbrev at28 : Typed.TF T11 O1
+      at28 = λ Ψ. Typed.pass T11 T38 s35 (at27 Ψ)
 
-      abbrev at29 : Typed.TF T10 O1
-      at29 = Scalar.Φcond T10 O1 11 (λ x. x) at26 at28
+      abbrev at29 : Typed.TF T11 O1
+      at29 = Scalar.Φcond T11 O1 12 (λ x. x) at26 at28
 
-      abbrev at30 : Typed.TF T8 O1
-      at30 = λ Ψ. Typed.pass T8 T10 s7 (at29 Ψ)
+      abbrev at30 : Typed.TF T9 O1
+      at30 = λ Ψ. Typed.pass T9 T11 s8 (at29 Ψ)
 
-      abbrev at31 : Typed.TF T63 O0
+      abbrev at31 : Typed.TF T64 O0
       at31 = Typed.atRet O0
 
-      abbrev at32 : Typed.TF T62 O0
-      at32 = λ Ψ. Typed.pass T62 T63 s60 (at31 Ψ)
+      abbrev at32 : Typed.TF T63 O0
+      at32 = λ Ψ. Typed.pass T63 T64 s61 (at31 Ψ)
 
-      abbrev at33 : Typed.TF T60 O0
-      at33 = λ Ψ. Typed.pass T60 T62 s59 (at32 Ψ)
+      abbrev at33 : Typed.TF T61 O0
+      at33 = λ Ψ. Typed.pass T61 T63 s60 (at32 Ψ)
 
-      abbrev at34 : Typed.TF T60 O0
+      abbrev at34 : Typed.TF T61 O0
       at34 = λ Ψ. at33 Ψ
 
-      abbrev at35 : Typed.TF T57 O0
-      at35 = λ Ψ. Typed.both s57 (at34 Ψ)
+      abbrev at35 : Typed.TF T58 O0
+      at35 = λ Ψ. Typed.both s58 (at34 Ψ)
 
-      abbrev at36 : Typed.TF T57 O0
+      abbrev at36 : Typed.TF T58 O0
       at36 = λ Ψ. at35 Ψ
 
-      abbrev at37 : Typed.TF T57 O0
+      abbrev at37 : Typed.TF T58 O0
       at37 = λ Ψ. at36 Ψ
 
-      abbrev at38 : Typed.TF T56 O0
-      at38 = λ Ψ. Typed.give s54 (at37 Ψ)
+      abbrev at38 : Typed.TF T57 O0
+      at38 = λ Ψ. Typed.give s55 (at37 Ψ)
 
-      abbrev at39 : Typed.TF T53 O0
-      at39 = λ Ψ. Typed.both s53 (at38 Ψ)
+      abbrev at39 : Typed.TF T54 O0
+      at39 = λ Ψ. Typed.both s54 (at38 Ψ)
 
-      abbrev at40 : Typed.TF T53 O0
+      abbrev at40 : Typed.TF T54 O0
       at40 = λ Ψ. at39 Ψ
 
-      abbrev at41 : Typed.TF T53 O0
+      abbrev at41 : Typed.TF T54 O0
       at41 = λ Ψ. at40 Ψ
 
-      abbrev at42 : Typed.TF T52 O0
-      at42 = λ Ψ. Typed.give s50 (at41 Ψ)
+      abbrev at42 : Typed.TF T53 O0
+      at42 = λ Ψ. Typed.give s51 (at41 Ψ)
 
-      abbrev at43 : Typed.TF T50 O0
-      at43 = λ Ψ. Typed.both s49 (at42 Ψ)
+      abbrev at43 : Typed.TF T51 O0
+      at43 = λ Ψ. Typed.both s50 (at42 Ψ)
 
-      abbrev at44 : Typed.TF T50 O0
+      abbrev at44 : Typed.TF T51 O0
       at44 = λ Ψ. at43 Ψ
 
-      abbrev at45 : Typed.TF T49 O0
-      at45 = λ Ψ. Typed.pass T49 T50 s47 (at44 Ψ)
+      abbrev at45 : Typed.TF T50 O0
+      at45 = λ Ψ. Typed.pass T50 T51 s48 (at44 Ψ)
 
-      abbrev at46 : Typed.TF T48 O0
-      at46 = λ Ψ. Typed.pass T48 T49 s46 (at45 Ψ)
+      abbrev at46 : Typed.TF T49 O0
+      at46 = λ Ψ. Typed.pass T49 T50 s47 (at45 Ψ)
 
-      abbrev at47 : Typed.TF T47 O0
-      at47 = λ Ψ. Typed.pass T47 T48 s45 (at46 Ψ)
+      abbrev at47 : Typed.TF T48 O0
+      at47 = λ Ψ. Typed.pass T48 T49 s46 (at46 Ψ)
 
-      abbrev at48 : Typed.TF T46 O0
-      at48 = λ Ψ. Typed.both s44 (at47 Ψ)
+      abbrev at48 : Typed.TF T47 O0
+      at48 = λ Ψ. Typed.both s45 (at47 Ψ)
 
-      abbrev at49 : Typed.TF T45 O0
-      at49 = λ Ψ. Typed.ask s43 (at48 Ψ)
+      abbrev at49 : Typed.TF T46 O0
+      at49 = λ Ψ. Typed.ask s44 (at48 Ψ)
 
-      abbrev at50 : Typed.TF T43 O0
-      at50 = λ Ψ. Typed.give s42 (at49 Ψ)
+      abbrev at50 : Typed.TF T44 O0
+      at50 = λ Ψ. Typed.give s43 (at49 Ψ)
 
-      abbrev at51 : Typed.TF T43 O0
+      abbrev at51 : Typed.TF T44 O0
       at51 = λ Ψ. at50 Ψ
 
-      abbrev at52 : Typed.TF T42 O0
-      at52 = λ Ψ. Typed.ask s40 (at51 Ψ)
+      abbrev at52 : Typed.TF T43 O0
+      at52 = λ Ψ. Typed.ask s41 (at51 Ψ)
 
-      abbrev at53 : Typed.TF T40 O0
-      at53 = λ Ψ. Typed.give s39 (at52 Ψ)
+      abbrev at53 : Typed.TF T41 O0
+      at53 = λ Ψ. Typed.give s40 (at52 Ψ)
 
-      abbrev at54 : Typed.TF T40 O0
+      abbrev at54 : Typed.TF T41 O0
       at54 = λ Ψ. at53 Ψ
 
-      abbrev at55 : Typed.TF T39 O0
-      at55 = λ Ψ. Typed.ask s37 (at54 Ψ)
+      abbrev at55 : Typed.TF T40 O0
+      at55 = λ Ψ. Typed.ask s38 (at54 Ψ)
 
-      abbrev at56 : Typed.TF T9 O0
-      at56 = λ Ψ. Typed.give s36 (at55 Ψ)
+      abbrev at56 : Typed.TF T10 O0
+      at56 = λ Ψ. Typed.give s37 (at55 Ψ)
 
-      abbrev at57 : Typed.TF T9 O0
+      abbrev at57 : Typed.TF T10 O0
       at57 = λ Ψ. at56 Ψ
 
-      abbrev at58 : Typed.TF T8 O0
-      at58 = λ Ψ. at30 (Typed.wantNext T9 O0 (at57 Ψ) Ψ)
+      abbrev at58 : Typed.TF T9 O0
+      at58 = λ Ψ. at30 (Typed.wantNext T10 O0 (at57 Ψ) Ψ)
 
-      abbrev at59 : Typed.TF T7 O0
-      at59 = λ Ψ. Typed.ask s6 (at58 Ψ)
+      abbrev at59 : Typed.TF T8 O0
+      at59 = λ Ψ. Typed.ask s7 (at58 Ψ)
 
-      abbrev at60 : Typed.TF T6 O0
-      at60 = λ Ψ. Typed.pass T6 T7 s5 (at59 Ψ)
+      abbrev at60 : Typed.TF T7 O0
+      at60 = λ Ψ. Typed.pass T7 T8 s6 (at59 Ψ)
 
-      abbrev at61 : Typed.TF T5 O0
-      at61 = λ Ψ. Typed.both s4 (at60 Ψ)
+      abbrev at61 : Typed.TF T6 O0
+      at61 = λ Ψ. Typed.both s5 (at60 Ψ)
 
-      abbrev at62 : Typed.TF T4 O0
-      at62 = λ Ψ. Typed.both s3 (at61 Ψ)
+      abbrev at62 : Typed.TF T5 O0
+      at62 = λ Ψ. Typed.both s4 (at61 Ψ)
 
-      abbrev at63 : Typed.TF T3 O0
-      at63 = λ Ψ. Typed.give s2 (at62 Ψ)
+      abbrev at63 : Typed.TF T4 O0
+      at63 = λ Ψ. Typed.give s3 (at62 Ψ)
 
-      abbrev at64 : Typed.TF T2 O0
-      at64 = λ Ψ. Typed.give s1 (at63 Ψ)
+      abbrev at64 : Typed.TF T3 O0
+      at64 = λ Ψ. Typed.give s2 (at63 Ψ)
 
-      abbrev at65 : Typed.TF T0 O0
-      at65 = λ Ψ. Typed.give s0 (at64 Ψ)
+      abbrev at65 : Typed.TF T2 O0
+      at65 = λ Ψ. Typed.give s1 (at64 Ψ)
+
+      abbrev at66 : Typed.TF T0 O0
+      at66 = λ Ψ. Typed.give s0 (at65 Ψ)
 
       abbrev pub Φ : Typed.TF T0 O0
-      Φ = at65
+      Φ = at66
 
       module _ {M : Type 1} (𝓤 : URA.URA M) (H : Wp.Heap 𝓤) (A : Atoms.Atoms 𝓤) (W : Kit.Given 𝓤 H A) (𝓣 : Wp.Tables 𝓤 H) where
         abbrev Knowns : Type 1
         Knowns = Plain.Known 𝓤 H A W 𝓣 0 ps·0 r·0 (claims· .0) (claims· .1) "quantiser::largest" × Plain.Known 𝓤 H A W 𝓣 1 ps·1 r·1 (claims· .2) (claims· .3) "begin::first_above" × Plain.Known 𝓤 H A W
-            𝓣 1 ps·2 r·2 (claims· .4) (claims· .5) "lines::clear" × Plain.Known 𝓤 H A W 𝓣 1 ps·3 r·3 (claims· .6) (claims· .7) "block::records::clear_records" × Plain.Known 𝓤 H A W 𝓣 4 ps·4 r·4 (claims·
+            𝓣 1 ps·2 r·2 (claims· .4) (claims· .5) "lines::clear" × Plain.Known 𝓤 H A W 𝓣 1 ps·3 r·3 (claims· .6) (claims· .7) "block::records::clear_records" × Plain.Known 𝓤 H A W 𝓣 5 ps·4 r·4 (claims·
             .8) (claims· .9) "block::writer::write_measured"
 
-      module _ (κs : Lifetimes.Lfts 4) (qs : Lifetimes.Shares 4) where
+      module _ (κs : Lifetimes.Lfts 5) (qs : Lifetimes.Shares 5) where
         abbrev g10 : List.List Row.Entry
-        g10 = List._∷_ e0 (List._∷_ e2 (List._∷_ e21 (List._∷_ e31 (List._∷_
-            (4, Relend.mslice-owed (Referent.rtF (Referent.fInt Syntax.w16)) (Syntax.tyRef (Syntax.named 2) Syntax.mut (Syntax.tyInt Syntax.w16)) 2 4 (Row.lease (κs .1 .1 .0) (qs .1 .1 .0))) (List._∷_ e35
-            (List._∷_ e38 (List._∷_ e41 (List._∷_ e43 (List._∷_ e45 (List._∷_ e3 (List._∷_ e5 (List._∷_ e7 (List._∷_ e9 (List._∷_ e13 (List._∷_ e15 List.[])))))))))))))))
+        g10 = List._∷_ e0 (List._∷_ e2 (List._∷_ e20 (List._∷_ e32 (List._∷_
+            (4, Relend.mslice-owed (Referent.rtF (Referent.fInt Syntax.w16)) (Syntax.tyRef (Syntax.named 2) Syntax.mut (Syntax.tyInt Syntax.w16)) 2 5 (Row.lease (κs .1 .1 .0) (qs .1 .1 .0))) (List._∷_ e36
+            (List._∷_ e39 (List._∷_ e41 (List._∷_ e43 (List._∷_ e45 (List._∷_ e4 (List._∷_ e5 (List._∷_ e7 (List._∷_ e9 (List._∷_ e11 (List._∷_ e15 List.[])))))))))))))))
 
         abbrev g11 : List.List Row.Entry
-        g11 = List._∷_ e0 (List._∷_ e2 (List._∷_ e21 (List._∷_ e31 (List._∷_
-            (4, Relend.mslice-owed (Referent.rtF (Referent.fInt Syntax.w16)) (Syntax.tyRef (Syntax.named 2) Syntax.mut (Syntax.tyInt Syntax.w16)) 2 4 (Row.lease (κs .1 .1 .0) (qs .1 .1 .0))) (List._∷_ e35
-            (List._∷_ e38 (List._∷_ e41 (List._∷_ e43 (List._∷_ e45 (List._∷_ e3 (List._∷_ e5 (List._∷_ e7 (List._∷_ e10 (List._∷_ e12 (List._∷_ e15 List.[])))))))))))))))
+        g11 = List._∷_ e0 (List._∷_ e2 (List._∷_ e20 (List._∷_ e32 (List._∷_
+            (4, Relend.mslice-owed (Referent.rtF (Referent.fInt Syntax.w16)) (Syntax.tyRef (Syntax.named 2) Syntax.mut (Syntax.tyInt Syntax.w16)) 2 5 (Row.lease (κs .1 .1 .0) (qs .1 .1 .0))) (List._∷_ e36
+            (List._∷_ e39 (List._∷_ e41 (List._∷_ e43 (List._∷_ e45 (List._∷_ e4 (List._∷_ e5 (List._∷_ e7 (List._∷_ e9 (List._∷_ e12 (List._∷_ e14 List.[])))))))))))))))
 
         abbrev g12 : List.List Row.Entry
-        g12 = List._∷_ e0 (List._∷_ e2 (List._∷_ e21 (List._∷_ e31 (List._∷_
-            (4, Relend.mslice-owed (Referent.rtF (Referent.fInt Syntax.w16)) (Syntax.tyRef (Syntax.named 2) Syntax.mut (Syntax.tyInt Syntax.w16)) 2 4 (Row.lease (κs .1 .1 .0) (qs .1 .1 .0))) (List._∷_ e35
-            (List._∷_ e38 (List._∷_ e41 (List._∷_ e43 (List._∷_ e45 (List._∷_ e3 (List._∷_ e5 (List._∷_ e8 (List._∷_ e10 (List._∷_ e11 (List._∷_ e15 List.[])))))))))))))))
+        g12 = List._∷_ e0 (List._∷_ e2 (List._∷_ e20 (List._∷_ e32 (List._∷_
+            (4, Relend.mslice-owed (Referent.rtF (Referent.fInt Syntax.w16)) (Syntax.tyRef (Syntax.named 2) Syntax.mut (Syntax.tyInt Syntax.w16)) 2 5 (Row.lease (κs .1 .1 .0) (qs .1 .1 .0))) (List._∷_ e36
+            (List._∷_ e39 (List._∷_ e41 (List._∷_ e43 (List._∷_ e45 (List._∷_ e4 (List._∷_ e5 (List._∷_ e7 (List._∷_ e10 (List._∷_ e12 (List._∷_ e13 List.[])))))))))))))))
 
         abbrev g13 : List.List Row.Entry
-        g13 = List._∷_ e0 (List._∷_ e2 (List._∷_ e21 (List._∷_ e31 (List._∷_
-            (4, Relend.mslice-owed (Referent.rtF (Referent.fInt Syntax.w16)) (Syntax.tyRef (Syntax.named 2) Syntax.mut (Syntax.tyInt Syntax.w16)) 2 4 (Row.lease (κs .1 .1 .0) (qs .1 .1 .0))) (List._∷_ e35
-            (List._∷_ e38 (List._∷_ e41 (List._∷_ e43 (List._∷_ e45 (List._∷_ e3 (List._∷_ e5 (List._∷_ e7 (List._∷_ e10 (List._∷_ e11 (List._∷_ e15 List.[])))))))))))))))
+        g13 = List._∷_ e0 (List._∷_ e2 (List._∷_ e20 (List._∷_ e32 (List._∷_
+            (4, Relend.mslice-owed (Referent.rtF (Referent.fInt Syntax.w16)) (Syntax.tyRef (Syntax.named 2) Syntax.mut (Syntax.tyInt Syntax.w16)) 2 5 (Row.lease (κs .1 .1 .0) (qs .1 .1 .0))) (List._∷_ e36
+            (List._∷_ e39 (List._∷_ e41 (List._∷_ e43 (List._∷_ e45 (List._∷_ e4 (List._∷_ e5 (List._∷_ e7 (List._∷_ e9 (List._∷_ e12 (List._∷_ e13 List.[])))))))))))))))
 
         abbrev g14 : List.List Row.Entry
-        g14 = List._∷_ e0 (List._∷_ e2 (List._∷_ e21 (List._∷_ e31 (List._∷_ e32 (List._∷_
-            (5, Relend.mslice-owed (Element.type) (Syntax.tyRef (Syntax.named 3) Syntax.mut Element.behind) 3 5 (Row.lease (κs .1 .1 .1 .0) (qs .1 .1 .1 .0))) (List._∷_ e38 (List._∷_ e41 (List._∷_ e43
-            (List._∷_ e45 (List._∷_ e3 (List._∷_ e5 (List._∷_ e7 (List._∷_ e10 (List._∷_ e13 (List._∷_ e14 List.[])))))))))))))))
-
-        abbrev g15 : List.List Row.Entry
-        g15 = List._∷_ e0 (List._∷_ e2 (List._∷_ e21 (List._∷_ e31 (List._∷_ e32 (List._∷_
-            (5, Relend.mslice-owed (Element.type) (Syntax.tyRef (Syntax.named 3) Syntax.mut Element.behind) 3 5 (Row.lease (κs .1 .1 .1 .0) (qs .1 .1 .1 .0))) (List._∷_ e38 (List._∷_ e41 (List._∷_ e43
-            (List._∷_ e45 (List._∷_ e3 (List._∷_ e5 (List._∷_ e7 (List._∷_ e10 (List._∷_ e13 (List._∷_ e15 List.[])))))))))))))))
+        g14 = List._∷_ e0 (List._∷_ e2 (List._∷_ e20 (List._∷_ e32 (List._∷_ e33 (List._∷_
+            (5, Relend.mslice-owed (Element.type) (Syntax.tyRef (Syntax.named 3) Syntax.mut Element.behind) 3 6 (Row.lease (κs .1 .1 .1 .0) (qs .1 .1 .1 .0))) (List._∷_ e39 (List._∷_ e41 (List._∷_ e43
+            (List._∷_ e45 (List._∷_ e4 (List._∷_ e5 (List._∷_ e7 (List._∷_ e9 (List._∷_ e12 (List._∷_ e15 List.[])))))))))))))))
 
         abbrev g17 : List.List Row.Entry
-        g17 = List._∷_ e0 (List._∷_ e2 (List._∷_ e21 (List._∷_ e31 (List._∷_ e32 (List._∷_
-            (5, Relend.mslice-owed (Element.type) (Syntax.tyRef (Syntax.named 3) Syntax.mut Element.behind) 3 5 (Row.lease (κs .1 .1 .1 .0) (qs .1 .1 .1 .0))) (List._∷_ e38 (List._∷_ e41 (List._∷_ e43
-            (List._∷_ e45 (List._∷_ e3 (List._∷_ e5 (List._∷_ e8 (List._∷_ e10 (List._∷_ e13 (List._∷_ e15 List.[])))))))))))))))
+        g17 = List._∷_ e0 (List._∷_ e2 (List._∷_ e20 (List._∷_ e32 (List._∷_ e33 (List._∷_
+            (5, Relend.mslice-owed (Element.type) (Syntax.tyRef (Syntax.named 3) Syntax.mut Element.behind) 3 6 (Row.lease (κs .1 .1 .1 .0) (qs .1 .1 .1 .0))) (List._∷_ e39 (List._∷_ e41 (List._∷_ e43
+            (List._∷_ e45 (List._∷_ e4 (List._∷_ e5 (List._∷_ e7 (List._∷_ e10 (List._∷_ e12 (List._∷_ e15 List.[])))))))))))))))
 
         abbrev g24 : List.List Row.Entry
         g24 = List._∷_ e0 (List._∷_ e2 (List._∷_
-            (2, Relend.mslice-owed (Referent.rtF (Referent.fInt Syntax.w8)) (Syntax.tyRef (Syntax.named 1) Syntax.mut (Syntax.tyInt Syntax.w8)) 1 6 (Row.lease (κs .1 .0) (qs .1 .0))) (List._∷_ e31
-            (List._∷_ e32 (List._∷_ e35 (List._∷_ e39 (List._∷_ e41 (List._∷_ e43 (List._∷_ e45 (List._∷_ e3 (List._∷_ e5 (List._∷_ e7 (List._∷_ e10 (List._∷_ e13 (List._∷_ e15 List.[])))))))))))))))
+            (2, Relend.mslice-owed (Referent.rtF (Referent.fInt Syntax.w8)) (Syntax.tyRef (Syntax.named 1) Syntax.mut (Syntax.tyInt Syntax.w8)) 1 7 (Row.lease (κs .1 .0) (qs .1 .0))) (List._∷_ e32
+            (List._∷_ e33 (List._∷_ e36 (List._∷_ e40 (List._∷_ e41 (List._∷_ e43 (List._∷_ e45 (List._∷_ e4 (List._∷_ e5 (List._∷_ e7 (List._∷_ e9 (List._∷_ e12 (List._∷_ e15 List.[])))))))))))))))
 
         abbrev g27 : List.List Row.Entry
         g27 = List._∷_ e0 (List._∷_ e2 (List._∷_
-            (2, Relend.mslice-owed (Referent.rtF (Referent.fInt Syntax.w8)) (Syntax.tyRef (Syntax.named 1) Syntax.mut (Syntax.tyInt Syntax.w8)) 1 6 (Row.lease (κs .1 .0) (qs .1 .0))) (List._∷_ e31
-            (List._∷_ (4, Relend.mslice-owed (Referent.rtF (Referent.fInt Syntax.w16)) (Syntax.tyRef (Syntax.named 2) Syntax.mut (Syntax.tyInt Syntax.w16)) 2 7 (Row.lease (κs .1 .1 .0) (qs .1 .1 .0)))
-            (List._∷_ e35 (List._∷_ e39 (List._∷_ e41 (List._∷_ e43 (List._∷_ e45 (List._∷_ e3 (List._∷_ e5 (List._∷_ e7 (List._∷_ e10 (List._∷_ e13 (List._∷_ e15 List.[])))))))))))))))
+            (2, Relend.mslice-owed (Referent.rtF (Referent.fInt Syntax.w8)) (Syntax.tyRef (Syntax.named 1) Syntax.mut (Syntax.tyInt Syntax.w8)) 1 7 (Row.lease (κs .1 .0) (qs .1 .0))) (List._∷_ e32
+            (List._∷_ (4, Relend.mslice-owed (Referent.rtF (Referent.fInt Syntax.w16)) (Syntax.tyRef (Syntax.named 2) Syntax.mut (Syntax.tyInt Syntax.w16)) 2 8 (Row.lease (κs .1 .1 .0) (qs .1 .1 .0)))
+            (List._∷_ e36 (List._∷_ e40 (List._∷_ e41 (List._∷_ e43 (List._∷_ e45 (List._∷_ e4 (List._∷_ e5 (List._∷_ e7 (List._∷_ e9 (List._∷_ e12 (List._∷_ e15 List.[])))))))))))))))
 
         abbrev g30 : List.List Row.Entry
         g30 = List._∷_ e0 (List._∷_ e2 (List._∷_
-            (2, Relend.mslice-owed (Referent.rtF (Referent.fInt Syntax.w8)) (Syntax.tyRef (Syntax.named 1) Syntax.mut (Syntax.tyInt Syntax.w8)) 1 6 (Row.lease (κs .1 .0) (qs .1 .0))) (List._∷_ e31
-            (List._∷_ (4, Relend.mslice-owed (Referent.rtF (Referent.fInt Syntax.w16)) (Syntax.tyRef (Syntax.named 2) Syntax.mut (Syntax.tyInt Syntax.w16)) 2 7 (Row.lease (κs .1 .1 .0) (qs .1 .1 .0)))
-            (List._∷_ (5, Relend.mslice-owed (Element.type) (Syntax.tyRef (Syntax.named 3) Syntax.mut Element.behind) 3 8 (Row.lease (κs .1 .1 .1 .0) (qs .1 .1 .1 .0))) (List._∷_ e39 (List._∷_ e41
-            (List._∷_ e43 (List._∷_ e45 (List._∷_ e3 (List._∷_ e5 (List._∷_ e7 (List._∷_ e10 (List._∷_ e13 (List._∷_ e15 List.[])))))))))))))))
+            (2, Relend.mslice-owed (Referent.rtF (Referent.fInt Syntax.w8)) (Syntax.tyRef (Syntax.named 1) Syntax.mut (Syntax.tyInt Syntax.w8)) 1 7 (Row.lease (κs .1 .0) (qs .1 .0))) (List._∷_ e32
+            (List._∷_ (4, Relend.mslice-owed (Referent.rtF (Referent.fInt Syntax.w16)) (Syntax.tyRef (Syntax.named 2) Syntax.mut (Syntax.tyInt Syntax.w16)) 2 8 (Row.lease (κs .1 .1 .0) (qs .1 .1 .0)))
+            (List._∷_ (5, Relend.mslice-owed (Element.type) (Syntax.tyRef (Syntax.named 3) Syntax.mut Element.behind) 3 9 (Row.lease (κs .1 .1 .1 .0) (qs .1 .1 .1 .0))) (List._∷_ e40 (List._∷_ e41
+            (List._∷_ e43 (List._∷_ e45 (List._∷_ e4 (List._∷_ e5 (List._∷_ e7 (List._∷_ e9 (List._∷_ e12 (List._∷_ e15 List.[])))))))))))))))
 
         abbrev g33 : List.List Row.Entry
         g33 = List._∷_ e1 (List._∷_ e2 (List._∷_
-            (2, Relend.mslice-owed (Referent.rtF (Referent.fInt Syntax.w8)) (Syntax.tyRef (Syntax.named 1) Syntax.mut (Syntax.tyInt Syntax.w8)) 1 6 (Row.lease (κs .1 .0) (qs .1 .0))) (List._∷_ e31
-            (List._∷_ (4, Relend.mslice-owed (Referent.rtF (Referent.fInt Syntax.w16)) (Syntax.tyRef (Syntax.named 2) Syntax.mut (Syntax.tyInt Syntax.w16)) 2 7 (Row.lease (κs .1 .1 .0) (qs .1 .1 .0)))
-            (List._∷_ (5, Relend.mslice-owed (Element.type) (Syntax.tyRef (Syntax.named 3) Syntax.mut Element.behind) 3 8 (Row.lease (κs .1 .1 .1 .0) (qs .1 .1 .1 .0))) (List._∷_ e39 (List._∷_ e41
-            (List._∷_ e43 (List._∷_ e45 (List._∷_ e3 (List._∷_ e5 (List._∷_ e7 (List._∷_ e10 (List._∷_ e13 (List._∷_ e15 List.[])))))))))))))))
+            (2, Relend.mslice-owed (Referent.rtF (Referent.fInt Syntax.w8)) (Syntax.tyRef (Syntax.named 1) Syntax.mut (Syntax.tyInt Syntax.w8)) 1 7 (Row.lease (κs .1 .0) (qs .1 .0))) (List._∷_ e32
+            (List._∷_ (4, Relend.mslice-owed (Referent.rtF (Referent.fInt Syntax.w16)) (Syntax.tyRef (Syntax.named 2) Syntax.mut (Syntax.tyInt Syntax.w16)) 2 8 (Row.lease (κs .1 .1 .0) (qs .1 .1 .0)))
+            (List._∷_ (5, Relend.mslice-owed (Element.type) (Syntax.tyRef (Syntax.named 3) Syntax.mut Element.behind) 3 9 (Row.lease (κs .1 .1 .1 .0) (qs .1 .1 .1 .0))) (List._∷_ e40 (List._∷_ e41
+            (List._∷_ e43 (List._∷_ e45 (List._∷_ e4 (List._∷_ e5 (List._∷_ e7 (List._∷_ e9 (List._∷_ e12 (List._∷_ e15 List.[])))))))))))))))
 
         abbrev g35 : List.List Row.Entry
         g35 = List._∷_ e1 (List._∷_ e2 (List._∷_
-            (2, Relend.mslice-owed (Referent.rtF (Referent.fInt Syntax.w8)) (Syntax.tyRef (Syntax.named 1) Syntax.mut (Syntax.tyInt Syntax.w8)) 1 6 (Row.lease (κs .1 .0) (qs .1 .0))) (List._∷_ e31
-            (List._∷_ (4, Relend.mslice-owed (Referent.rtF (Referent.fInt Syntax.w16)) (Syntax.tyRef (Syntax.named 2) Syntax.mut (Syntax.tyInt Syntax.w16)) 2 7 (Row.lease (κs .1 .1 .0) (qs .1 .1 .0)))
-            (List._∷_ (5, Relend.mslice-owed (Element.type) (Syntax.tyRef (Syntax.named 3) Syntax.mut Element.behind) 3 8 (Row.lease (κs .1 .1 .1 .0) (qs .1 .1 .1 .0))) (List._∷_ e38 (List._∷_ e41
-            (List._∷_ e43 (List._∷_ e45 (List._∷_ e3 (List._∷_ e5 (List._∷_ e7 (List._∷_ e10 (List._∷_ e13 (List._∷_ e15 List.[])))))))))))))))
+            (2, Relend.mslice-owed (Referent.rtF (Referent.fInt Syntax.w8)) (Syntax.tyRef (Syntax.named 1) Syntax.mut (Syntax.tyInt Syntax.w8)) 1 7 (Row.lease (κs .1 .0) (qs .1 .0))) (List._∷_ e32
+            (List._∷_ (4, Relend.mslice-owed (Referent.rtF (Referent.fInt Syntax.w16)) (Syntax.tyRef (Syntax.named 2) Syntax.mut (Syntax.tyInt Syntax.w16)) 2 8 (Row.lease (κs .1 .1 .0) (qs .1 .1 .0)))
+            (List._∷_ (5, Relend.mslice-owed (Element.type) (Syntax.tyRef (Syntax.named 3) Syntax.mut Element.behind) 3 9 (Row.lease (κs .1 .1 .1 .0) (qs .1 .1 .1 .0))) (List._∷_ e39 (List._∷_ e41
+            (List._∷_ e43 (List._∷_ e45 (List._∷_ e4 (List._∷_ e5 (List._∷_ e7 (List._∷_ e9 (List._∷_ e12 (List._∷_ e15 List.[])))))))))))))))
 
         abbrev g36 : List.List Row.Entry
         g36 = List._∷_ e1 (List._∷_ e2 (List._∷_
-            (2, Relend.mslice-owed (Referent.rtF (Referent.fInt Syntax.w8)) (Syntax.tyRef (Syntax.named 1) Syntax.mut (Syntax.tyInt Syntax.w8)) 1 6 (Row.lease (κs .1 .0) (qs .1 .0))) (List._∷_ e31
-            (List._∷_ (4, Relend.mslice-owed (Referent.rtF (Referent.fInt Syntax.w16)) (Syntax.tyRef (Syntax.named 2) Syntax.mut (Syntax.tyInt Syntax.w16)) 2 7 (Row.lease (κs .1 .1 .0) (qs .1 .1 .0)))
-            (List._∷_ (5, Relend.mslice-owed (Element.type) (Syntax.tyRef (Syntax.named 3) Syntax.mut Element.behind) 3 8 (Row.lease (κs .1 .1 .1 .0) (qs .1 .1 .1 .0))) (List._∷_ e38 (List._∷_ e41
-            (List._∷_ e42 (List._∷_ e45 (List._∷_ e3 (List._∷_ e5 (List._∷_ e7 (List._∷_ e10 (List._∷_ e13 (List._∷_ e15 List.[])))))))))))))))
+            (2, Relend.mslice-owed (Referent.rtF (Referent.fInt Syntax.w8)) (Syntax.tyRef (Syntax.named 1) Syntax.mut (Syntax.tyInt Syntax.w8)) 1 7 (Row.lease (κs .1 .0) (qs .1 .0))) (List._∷_ e32
+            (List._∷_ (4, Relend.mslice-owed (Referent.rtF (Referent.fInt Syntax.w16)) (Syntax.tyRef (Syntax.named 2) Syntax.mut (Syntax.tyInt Syntax.w16)) 2 8 (Row.lease (κs .1 .1 .0) (qs .1 .1 .0)))
+            (List._∷_ (5, Relend.mslice-owed (Element.type) (Syntax.tyRef (Syntax.named 3) Syntax.mut Element.behind) 3 9 (Row.lease (κs .1 .1 .1 .0) (qs .1 .1 .1 .0))) (List._∷_ e39 (List._∷_ e41
+            (List._∷_ e43 (List._∷_ e44 (List._∷_ e4 (List._∷_ e5 (List._∷_ e7 (List._∷_ e9 (List._∷_ e12 (List._∷_ e15 List.[])))))))))))))))
 
         abbrev g37 : List.List Row.Entry
         g37 = List._∷_ e1 (List._∷_ e2 (List._∷_
-            (2, Relend.mslice-owed (Referent.rtF (Referent.fInt Syntax.w8)) (Syntax.tyRef (Syntax.named 1) Syntax.mut (Syntax.tyInt Syntax.w8)) 1 6 (Row.lease (κs .1 .0) (qs .1 .0))) (List._∷_ e31
-            (List._∷_ (4, Relend.mslice-owed (Referent.rtF (Referent.fInt Syntax.w16)) (Syntax.tyRef (Syntax.named 2) Syntax.mut (Syntax.tyInt Syntax.w16)) 2 7 (Row.lease (κs .1 .1 .0) (qs .1 .1 .0)))
-            (List._∷_ (5, Relend.mslice-owed (Element.type) (Syntax.tyRef (Syntax.named 3) Syntax.mut Element.behind) 3 8 (Row.lease (κs .1 .1 .1 .0) (qs .1 .1 .1 .0))) (List._∷_ e38 (List._∷_ e41
-            (List._∷_ e42 (List._∷_ e44 (List._∷_ e3 (List._∷_ e5 (List._∷_ e7 (List._∷_ e10 (List._∷_ e13 (List._∷_ e15 List.[])))))))))))))))
+            (2, Relend.mslice-owed (Referent.rtF (Referent.fInt Syntax.w8)) (Syntax.tyRef (Syntax.named 1) Syntax.mut (Syntax.tyInt Syntax.w8)) 1 7 (Row.lease (κs .1 .0) (qs .1 .0))) (List._∷_ e32
+            (List._∷_ (4, Relend.mslice-owed (Referent.rtF (Referent.fInt Syntax.w16)) (Syntax.tyRef (Syntax.named 2) Syntax.mut (Syntax.tyInt Syntax.w16)) 2 8 (Row.lease (κs .1 .1 .0) (qs .1 .1 .0)))
+            (List._∷_ (5, Relend.mslice-owed (Element.type) (Syntax.tyRef (Syntax.named 3) Syntax.mut Element.behind) 3 9 (Row.lease (κs .1 .1 .1 .0) (qs .1 .1 .1 .0))) (List._∷_ e39 (List._∷_ e41
+            (List._∷_ e43 (List._∷_ e44 (List._∷_ e3 (List._∷_ e5 (List._∷_ e7 (List._∷_ e9 (List._∷_ e12 (List._∷_ e15 List.[])))))))))))))))
 
         abbrev g38 : List.List Row.Entry
-        g38 = List._∷_ e1 (List._∷_ e2 (List._∷_ e21 (List._∷_ e31 (List._∷_
-            (4, Relend.mslice-owed (Referent.rtF (Referent.fInt Syntax.w16)) (Syntax.tyRef (Syntax.named 2) Syntax.mut (Syntax.tyInt Syntax.w16)) 2 7 (Row.lease (κs .1 .1 .0) (qs .1 .1 .0))) (List._∷_
-            (5, Relend.mslice-owed (Element.type) (Syntax.tyRef (Syntax.named 3) Syntax.mut Element.behind) 3 8 (Row.lease (κs .1 .1 .1 .0) (qs .1 .1 .1 .0))) (List._∷_ e38 (List._∷_ e41 (List._∷_ e42
-            (List._∷_ e44 (List._∷_ e3 (List._∷_ e5 (List._∷_ e7 (List._∷_ e10 (List._∷_ e13 (List._∷_ e15 List.[])))))))))))))))
+        g38 = List._∷_ e1 (List._∷_ e2 (List._∷_ e20 (List._∷_ e32 (List._∷_
+            (4, Relend.mslice-owed (Referent.rtF (Referent.fInt Syntax.w16)) (Syntax.tyRef (Syntax.named 2) Syntax.mut (Syntax.tyInt Syntax.w16)) 2 8 (Row.lease (κs .1 .1 .0) (qs .1 .1 .0))) (List._∷_
+            (5, Relend.mslice-owed (Element.type) (Syntax.tyRef (Syntax.named 3) Syntax.mut Element.behind) 3 9 (Row.lease (κs .1 .1 .1 .0) (qs .1 .1 .1 .0))) (List._∷_ e39 (List._∷_ e41 (List._∷_ e43
+            (List._∷_ e44 (List._∷_ e3 (List._∷_ e5 (List._∷_ e7 (List._∷_ e9 (List._∷_ e12 (List._∷_ e15 List.[])))))))))))))))
 
         abbrev g40 : List.List Row.Entry
-        g40 = List._∷_ e1 (List._∷_ e2 (List._∷_ e21 (List._∷_ e31 (List._∷_ e32 (List._∷_
-            (5, Relend.mslice-owed (Element.type) (Syntax.tyRef (Syntax.named 3) Syntax.mut Element.behind) 3 8 (Row.lease (κs .1 .1 .1 .0) (qs .1 .1 .1 .0))) (List._∷_ e38 (List._∷_ e41 (List._∷_ e42
-            (List._∷_ e44 (List._∷_ e3 (List._∷_ e5 (List._∷_ e7 (List._∷_ e10 (List._∷_ e13 (List._∷_ e15 List.[])))))))))))))))
+        g40 = List._∷_ e1 (List._∷_ e2 (List._∷_ e20 (List._∷_ e32 (List._∷_ e33 (List._∷_
+            (5, Relend.mslice-owed (Element.type) (Syntax.tyRef (Syntax.named 3) Syntax.mut Element.behind) 3 9 (Row.lease (κs .1 .1 .1 .0) (qs .1 .1 .1 .0))) (List._∷_ e39 (List._∷_ e41 (List._∷_ e43
+            (List._∷_ e44 (List._∷_ e3 (List._∷_ e5 (List._∷_ e7 (List._∷_ e9 (List._∷_ e12 (List._∷_ e15 List.[])))))))))))))))
 
         abbrev G0 : Row.Cx
         G0 = record {
           locals = List._++_ t0 t1;
           slots = List._∷_ (Row.lease (κs .0) (qs .0)) (List._∷_ (Row.lease (κs .1 .0) (qs .1 .0)) (List._∷_ (Row.lease (κs .1 .1 .0) (qs .1 .1 .0)) (List._∷_ (Row.lease (κs
-              .1 .1 .1 .0) (qs .1 .1 .1 .0)) (List._∷_ Row.off (List._∷_ Row.off (List._∷_ Row.off (List._∷_ Row.off (List._∷_ Row.off List.[]))))))));
+              .1 .1 .1 .0) (qs .1 .1 .1 .0)) (List._∷_ (Row.lease (κs .1 .1 .1 .1 .0) (qs .1 .1 .1 .1 .0)) (List._∷_ Row.off (List._∷_ Row.off (List._∷_ Row.off (List._∷_ Row.off (List._∷_ Row.off
+              List.[])))))))));
         }
 
         abbrev G1 : Row.Cx
         G1 = record {
           locals = List._++_ t2 t1;
           slots = List._∷_ (Row.lease (κs .0) (qs .0)) (List._∷_ (Row.lease (κs .1 .0) (qs .1 .0)) (List._∷_ (Row.lease (κs .1 .1 .0) (qs .1 .1 .0)) (List._∷_ (Row.lease (κs
-              .1 .1 .1 .0) (qs .1 .1 .1 .0)) (List._∷_ Row.off (List._∷_ Row.off (List._∷_ Row.off (List._∷_ Row.off (List._∷_ Row.off List.[]))))))));
+              .1 .1 .1 .0) (qs .1 .1 .1 .0)) (List._∷_ (Row.lease (κs .1 .1 .1 .1 .0) (qs .1 .1 .1 .1 .0)) (List._∷_ Row.off (List._∷_ Row.off (List._∷_ Row.off (List._∷_ Row.off (List._∷_ Row.off
+              List.[])))))))));
         }
 
         abbrev G2 : Row.Cx
         G2 = record {
           locals = List._++_ t0 t1;
           slots = List._∷_ (Row.lease (κs .0) (qs .0)) (List._∷_ (Row.lease (κs .1 .0) (qs .1 .0)) (List._∷_ (Row.lease (κs .1 .1 .0) (qs .1 .1 .0)) (List._∷_ (Row.lease (κs
-              .1 .1 .1 .0) (qs .1 .1 .1 .0)) (List._∷_ Row.off (List._∷_ Row.off (List._∷_ Row.off (List._∷_ Row.off (List._∷_ Row.off List.[]))))))));
+              .1 .1 .1 .0) (qs .1 .1 .1 .0)) (List._∷_ (Row.lease (κs .1 .1 .1 .1 .0) (qs .1 .1 .1 .1 .0)) (List._∷_ Row.off (List._∷_ Row.off (List._∷_ Row.off (List._∷_ Row.off (List._∷_ Row.off
+              List.[])))))))));
         }
 
         abbrev G3 : Row.Cx
         G3 = record {
           locals = List._++_ t0 t1;
           slots = List._∷_ (Row.lease (κs .0) (qs .0)) (List._∷_ (Row.lease (κs .1 .0) (qs .1 .0)) (List._∷_ (Row.lease (κs .1 .1 .0) (qs .1 .1 .0)) (List._∷_ (Row.lease (κs
-              .1 .1 .1 .0) (qs .1 .1 .1 .0)) (List._∷_ Row.off (List._∷_ Row.off (List._∷_ Row.off (List._∷_ Row.off (List._∷_ Row.off List.[]))))))));
+              .1 .1 .1 .0) (qs .1 .1 .1 .0)) (List._∷_ (Row.lease (κs .1 .1 .1 .1 .0) (qs .1 .1 .1 .1 .0)) (List._∷_ Row.off (List._∷_ Row.off (List._∷_ Row.off (List._∷_ Row.off (List._∷_ Row.off
+              List.[])))))))));
         }
 
         abbrev G4 : Row.Cx
         G4 = record {
           locals = List._++_ t0 t1;
           slots = List._∷_ (Row.lease (κs .0) (qs .0)) (List._∷_ (Row.lease (κs .1 .0) (qs .1 .0)) (List._∷_ (Row.lease (κs .1 .1 .0) (qs .1 .1 .0)) (List._∷_ (Row.lease (κs
-              .1 .1 .1 .0) (qs .1 .1 .1 .0)) (List._∷_ Row.off (List._∷_ Row.off (List._∷_ Row.off (List._∷_ Row.off (List._∷_ Row.off List.[]))))))));
+              .1 .1 .1 .0) (qs .1 .1 .1 .0)) (List._∷_ (Row.lease (κs .1 .1 .1 .1 .0) (qs .1 .1 .1 .1 .0)) (List._∷_ Row.off (List._∷_ Row.off (List._∷_ Row.off (List._∷_ Row.off (List._∷_ Row.off
+              List.[])))))))));
         }
 
         abbrev G5 : Row.Cx
         G5 = record {
-          locals = List._++_ t3 t1;
+          locals = List._++_ t0 t1;
           slots = List._∷_ (Row.lease (κs .0) (qs .0)) (List._∷_ (Row.lease (κs .1 .0) (qs .1 .0)) (List._∷_ (Row.lease (κs .1 .1 .0) (qs .1 .1 .0)) (List._∷_ (Row.lease (κs
-              .1 .1 .1 .0) (qs .1 .1 .1 .0)) (List._∷_ Row.off (List._∷_ Row.off (List._∷_ Row.off (List._∷_ Row.off (List._∷_ Row.off List.[]))))))));
+              .1 .1 .1 .0) (qs .1 .1 .1 .0)) (List._∷_ (Row.lease (κs .1 .1 .1 .1 .0) (qs .1 .1 .1 .1 .0)) (List._∷_ Row.off (List._∷_ Row.off (List._∷_ Row.off (List._∷_ Row.off (List._∷_ Row.off
+              List.[])))))))));
         }
 
         abbrev G6 : Row.Cx
         G6 = record {
-          locals = List._++_ t4 t1;
+          locals = List._++_ t3 t1;
           slots = List._∷_ (Row.lease (κs .0) (qs .0)) (List._∷_ (Row.lease (κs .1 .0) (qs .1 .0)) (List._∷_ (Row.lease (κs .1 .1 .0) (qs .1 .1 .0)) (List._∷_ (Row.lease (κs
-              .1 .1 .1 .0) (qs .1 .1 .1 .0)) (List._∷_ Row.off (List._∷_ Row.off (List._∷_ Row.off (List._∷_ Row.off (List._∷_ Row.off List.[]))))))));
+              .1 .1 .1 .0) (qs .1 .1 .1 .0)) (List._∷_ (Row.lease (κs .1 .1 .1 .1 .0) (qs .1 .1 .1 .1 .0)) (List._∷_ Row.off (List._∷_ Row.off (List._∷_ Row.off (List._∷_ Row.off (List._∷_ Row.off
+              List.[])))))))));
         }
 
         abbrev G7 : Row.Cx
         G7 = record {
-          locals = List._++_ t5 t1;
+          locals = List._++_ t4 t1;
           slots = List._∷_ (Row.lease (κs .0) (qs .0)) (List._∷_ (Row.lease (κs .1 .0) (qs .1 .0)) (List._∷_ (Row.lease (κs .1 .1 .0) (qs .1 .1 .0)) (List._∷_ (Row.lease (κs
-              .1 .1 .1 .0) (qs .1 .1 .1 .0)) (List._∷_ Row.off (List._∷_ Row.off (List._∷_ Row.off (List._∷_ Row.off (List._∷_ Row.off List.[]))))))));
+              .1 .1 .1 .0) (qs .1 .1 .1 .0)) (List._∷_ (Row.lease (κs .1 .1 .1 .1 .0) (qs .1 .1 .1 .1 .0)) (List._∷_ Row.off (List._∷_ Row.off (List._∷_ Row.off (List._∷_ Row.off (List._∷_ Row.off
+              List.[])))))))));
         }
 
         abbrev G8 : Row.Cx
         G8 = record {
-          locals = List._++_ t6 t1;
+          locals = List._++_ t5 t1;
           slots = List._∷_ (Row.lease (κs .0) (qs .0)) (List._∷_ (Row.lease (κs .1 .0) (qs .1 .0)) (List._∷_ (Row.lease (κs .1 .1 .0) (qs .1 .1 .0)) (List._∷_ (Row.lease (κs
-              .1 .1 .1 .0) (qs .1 .1 .1 .0)) (List._∷_ Row.off (List._∷_ Row.off (List._∷_ Row.off (List._∷_ Row.off (List._∷_ Row.off List.[]))))))));
+              .1 .1 .1 .0) (qs .1 .1 .1 .0)) (List._∷_ (Row.lease (κs .1 .1 .1 .1 .0) (qs .1 .1 .1 .1 .0)) (List._∷_ Row.off (List._∷_ Row.off (List._∷_ Row.off (List._∷_ Row.off (List._∷_ Row.off
+              List.[])))))))));
         }
 
         abbrev G9 : Row.Cx
         G9 = record {
-          locals = List._++_ t4 t1;
+          locals = List._++_ t6 t1;
           slots = List._∷_ (Row.lease (κs .0) (qs .0)) (List._∷_ (Row.lease (κs .1 .0) (qs .1 .0)) (List._∷_ (Row.lease (κs .1 .1 .0) (qs .1 .1 .0)) (List._∷_ (Row.lease (κs
-              .1 .1 .1 .0) (qs .1 .1 .1 .0)) (List._∷_ Row.off (List._∷_ Row.off (List._∷_ Row.off (List._∷_ Row.off (List._∷_ Row.off List.[]))))))));
+              .1 .1 .1 .0) (qs .1 .1 .1 .0)) (List._∷_ (Row.lease (κs .1 .1 .1 .1 .0) (qs .1 .1 .1 .1 .0)) (List._∷_ Row.off (List._∷_ Row.off (List._∷_ Row.off (List._∷_ Row.off (List._∷_ Row.off
+              List.[])))))))));
         }
 
         abbrev G10 : Row.Cx
         G10 = record {
-          locals = List._++_ t7 t1;
+          locals = List._++_ t4 t1;
           slots = List._∷_ (Row.lease (κs .0) (qs .0)) (List._∷_ (Row.lease (κs .1 .0) (qs .1 .0)) (List._∷_ (Row.lease (κs .1 .1 .0) (qs .1 .1 .0)) (List._∷_ (Row.lease (κs
-              .1 .1 .1 .0) (qs .1 .1 .1 .0)) (List._∷_ Row.off (List._∷_ Row.off (List._∷_ Row.off (List._∷_ Row.off (List._∷_ Row.off List.[]))))))));
+              .1 .1 .1 .0) (qs .1 .1 .1 .0)) (List._∷_ (Row.lease (κs .1 .1 .1 .1 .0) (qs .1 .1 .1 .1 .0)) (List._∷_ Row.off (List._∷_ Row.off (List._∷_ Row.off (List._∷_ Row.off (List._∷_ Row.off
+              List.[])))))))));
         }
 
         abbrev G11 : Row.Cx
         G11 = record {
-          locals = List._++_ t8 t1;
+          locals = List._++_ t7 t1;
           slots = List._∷_ (Row.lease (κs .0) (qs .0)) (List._∷_ (Row.lease (κs .1 .0) (qs .1 .0)) (List._∷_ (Row.lease (κs .1 .1 .0) (qs .1 .1 .0)) (List._∷_ (Row.lease (κs
-              .1 .1 .1 .0) (qs .1 .1 .1 .0)) (List._∷_ Row.off (List._∷_ Row.off (List._∷_ Row.off (List._∷_ Row.off (List._∷_ Row.off List.[]))))))));
+              .1 .1 .1 .0) (qs .1 .1 .1 .0)) (List._∷_ (Row.lease (κs .1 .1 .1 .1 .0) (qs .1 .1 .1 .1 .0)) (List._∷_ Row.off (List._∷_ Row.off (List._∷_ Row.off (List._∷_ Row.off (List._∷_ Row.off
+              List.[])))))))));
         }
 
         abbrev G12 : Row.Cx
         G12 = record {
-          locals = List._++_ t9 t1;
+          locals = List._++_ t8 t1;
           slots = List._∷_ (Row.lease (κs .0) (qs .0)) (List._∷_ (Row.lease (κs .1 .0) (qs .1 .0)) (List._∷_ (Row.lease (κs .1 .1 .0) (qs .1 .1 .0)) (List._∷_ (Row.lease (κs
-              .1 .1 .1 .0) (qs .1 .1 .1 .0)) (List._∷_ Row.off (List._∷_ Row.off (List._∷_ Row.off (List._∷_ Row.off (List._∷_ Row.off List.[]))))))));
+              .1 .1 .1 .0) (qs .1 .1 .1 .0)) (List._∷_ (Row.lease (κs .1 .1 .1 .1 .0) (qs .1 .1 .1 .1 .0)) (List._∷_ Row.off (List._∷_ Row.off (List._∷_ Row.off (List._∷_ Row.off (List._∷_ Row.off
+              List.[])))))))));
         }
 
         abbrev G13 : Row.Cx
         G13 = record {
           locals = List._++_ t9 t1;
           slots = List._∷_ (Row.lease (κs .0) (qs .0)) (List._∷_ (Row.lease (κs .1 .0) (qs .1 .0)) (List._∷_ (Row.lease (κs .1 .1 .0) (qs .1 .1 .0)) (List._∷_ (Row.lease (κs
-              .1 .1 .1 .0) (qs .1 .1 .1 .0)) (List._∷_ Row.alive (List._∷_ Row.off (List._∷_ Row.off (List._∷_ Row.off (List._∷_ Row.off List.[]))))))));
+              .1 .1 .1 .0) (qs .1 .1 .1 .0)) (List._∷_ (Row.lease (κs .1 .1 .1 .1 .0) (qs .1 .1 .1 .1 .0)) (List._∷_ Row.off (List._∷_ Row.off (List._∷_ Row.off (List._∷_ Row.off (List._∷_ Row.off
+              List.[])))))))));
         }
 
         abbrev G14 : Row.Cx
         G14 = record {
-          locals = List._++_ g10 t1;
-          slots = List._∷_ (Row.lease (κs .0) (qs .0)) (List._∷_ (Row.lease (κs .1 .0) (qs .1 .0)) (List._∷_ Row.off (List._∷_ (Row.lease (κs .1 .1 .1 .0) (qs .1 .1 .1 .0))
-              (List._∷_ Row.alive (List._∷_ Row.off (List._∷_ Row.off (List._∷_ Row.off (List._∷_ Row.off List.[]))))))));
+          locals = List._++_ t9 t1;
+          slots = List._∷_ (Row.lease (κs .0) (qs .0)) (List._∷_ (Row.lease (κs .1 .0) (qs .1 .0)) (List._∷_ (Row.lease (κs .1 .1 .0) (qs .1 .1 .0)) (List._∷_ (Row.lease (κs
+              .1 .1 .1 .0) (qs .1 .1 .1 .0)) (List._∷_ (Row.lease (κs .1 .1 .1 .1 .0) (qs .1 .1 .1 .1 .0)) (List._∷_ Row.alive (List._∷_ Row.off (List._∷_ Row.off (List._∷_ Row.off (List._∷_ Row.off
+              List.[])))))))));
         }
 
         abbrev G15 : Row.Cx
         G15 = record {
-          locals = List._++_ g11 t1;
+          locals = List._++_ g10 t1;
           slots = List._∷_ (Row.lease (κs .0) (qs .0)) (List._∷_ (Row.lease (κs .1 .0) (qs .1 .0)) (List._∷_ Row.off (List._∷_ (Row.lease (κs .1 .1 .1 .0) (qs .1 .1 .1 .0))
-              (List._∷_ Row.alive (List._∷_ Row.off (List._∷_ Row.off (List._∷_ Row.off (List._∷_ Row.off List.[]))))))));
+              (List._∷_ (Row.lease (κs .1 .1 .1 .1 .0) (qs .1 .1 .1 .1 .0)) (List._∷_ Row.alive (List._∷_ Row.off (List._∷_ Row.off (List._∷_ Row.off (List._∷_ Row.off List.[])))))))));
         }
 
         abbrev G16 : Row.Cx
         G16 = record {
-          locals = List._++_ g12 t1;
+          locals = List._++_ g11 t1;
           slots = List._∷_ (Row.lease (κs .0) (qs .0)) (List._∷_ (Row.lease (κs .1 .0) (qs .1 .0)) (List._∷_ Row.off (List._∷_ (Row.lease (κs .1 .1 .1 .0) (qs .1 .1 .1 .0))
-              (List._∷_ Row.alive (List._∷_ Row.off (List._∷_ Row.off (List._∷_ Row.off (List._∷_ Row.off List.[]))))))));
+              (List._∷_ (Row.lease (κs .1 .1 .1 .1 .0) (qs .1 .1 .1 .1 .0)) (List._∷_ Row.alive (List._∷_ Row.off (List._∷_ Row.off (List._∷_ Row.off (List._∷_ Row.off List.[])))))))));
         }
 
         abbrev G17 : Row.Cx
         G17 = record {
-          locals = List._++_ g13 t1;
+          locals = List._++_ g12 t1;
           slots = List._∷_ (Row.lease (κs .0) (qs .0)) (List._∷_ (Row.lease (κs .1 .0) (qs .1 .0)) (List._∷_ Row.off (List._∷_ (Row.lease (κs .1 .1 .1 .0) (qs .1 .1 .1 .0))
-              (List._∷_ Row.alive (List._∷_ Row.off (List._∷_ Row.off (List._∷_ Row.off (List._∷_ Row.off List.[]))))))));
+              (List._∷_ (Row.lease (κs .1 .1 .1 .1 .0) (qs .1 .1 .1 .1 .0)) (List._∷_ Row.alive (List._∷_ Row.off (List._∷_ Row.off (List._∷_ Row.off (List._∷_ Row.off List.[])))))))));
         }
 
         abbrev G18 : Row.Cx
         G18 = record {
           locals = List._++_ g13 t1;
           slots = List._∷_ (Row.lease (κs .0) (qs .0)) (List._∷_ (Row.lease (κs .1 .0) (qs .1 .0)) (List._∷_ Row.off (List._∷_ (Row.lease (κs .1 .1 .1 .0) (qs .1 .1 .1 .0))
-              (List._∷_ Row.dead (List._∷_ Row.off (List._∷_ Row.off (List._∷_ Row.off (List._∷_ Row.off List.[]))))))));
+              (List._∷_ (Row.lease (κs .1 .1 .1 .1 .0) (qs .1 .1 .1 .1 .0)) (List._∷_ Row.alive (List._∷_ Row.off (List._∷_ Row.off (List._∷_ Row.off (List._∷_ Row.off List.[])))))))));
         }
 
         abbrev G19 : Row.Cx
         G19 = record {
-          locals = List._++_ t9 t1;
-          slots = List._∷_ (Row.lease (κs .0) (qs .0)) (List._∷_ (Row.lease (κs .1 .0) (qs .1 .0)) (List._∷_ (Row.lease (κs .1 .1 .0) (qs .1 .1 .0)) (List._∷_ (Row.lease (κs
-              .1 .1 .1 .0) (qs .1 .1 .1 .0)) (List._∷_ Row.dead (List._∷_ Row.off (List._∷_ Row.off (List._∷_ Row.off (List._∷_ Row.off List.[]))))))));
+          locals = List._++_ g13 t1;
+          slots = List._∷_ (Row.lease (κs .0) (qs .0)) (List._∷_ (Row.lease (κs .1 .0) (qs .1 .0)) (List._∷_ Row.off (List._∷_ (Row.lease (κs .1 .1 .1 .0) (qs .1 .1 .1 .0))
+              (List._∷_ (Row.lease (κs .1 .1 .1 .1 .0) (qs .1 .1 .1 .1 .0)) (List._∷_ Row.dead (List._∷_ Row.off (List._∷_ Row.off (List._∷_ Row.off (List._∷_ Row.off List.[])))))))));
         }
 
         abbrev G20 : Row.Cx
         G20 = record {
           locals = List._++_ t9 t1;
           slots = List._∷_ (Row.lease (κs .0) (qs .0)) (List._∷_ (Row.lease (κs .1 .0) (qs .1 .0)) (List._∷_ (Row.lease (κs .1 .1 .0) (qs .1 .1 .0)) (List._∷_ (Row.lease (κs
-              .1 .1 .1 .0) (qs .1 .1 .1 .0)) (List._∷_ Row.dead (List._∷_ Row.off (List._∷_ Row.off (List._∷_ Row.off (List._∷_ Row.off List.[]))))))));
+              .1 .1 .1 .0) (qs .1 .1 .1 .0)) (List._∷_ (Row.lease (κs .1 .1 .1 .1 .0) (qs .1 .1 .1 .1 .0)) (List._∷_ Row.dead (List._∷_ Row.off (List._∷_ Row.off (List._∷_ Row.off (List._∷_ Row.off
+              List.[])))))))));
         }
 
         abbrev G21 : Row.Cx
         G21 = record {
           locals = List._++_ t9 t1;
           slots = List._∷_ (Row.lease (κs .0) (qs .0)) (List._∷_ (Row.lease (κs .1 .0) (qs .1 .0)) (List._∷_ (Row.lease (κs .1 .1 .0) (qs .1 .1 .0)) (List._∷_ (Row.lease (κs
-              .1 .1 .1 .0) (qs .1 .1 .1 .0)) (List._∷_ Row.off (List._∷_ Row.off (List._∷_ Row.off (List._∷_ Row.off (List._∷_ Row.off List.[]))))))));
+              .1 .1 .1 .0) (qs .1 .1 .1 .0)) (List._∷_ (Row.lease (κs .1 .1 .1 .1 .0) (qs .1 .1 .1 .1 .0)) (List._∷_ Row.dead (List._∷_ Row.off (List._∷_ Row.off (List._∷_ Row.off (List._∷_ Row.off
+              List.[])))))))));
         }
 
         abbrev G22 : Row.Cx
         G22 = record {
           locals = List._++_ t9 t1;
           slots = List._∷_ (Row.lease (κs .0) (qs .0)) (List._∷_ (Row.lease (κs .1 .0) (qs .1 .0)) (List._∷_ (Row.lease (κs .1 .1 .0) (qs .1 .1 .0)) (List._∷_ (Row.lease (κs
-              .1 .1 .1 .0) (qs .1 .1 .1 .0)) (List._∷_ Row.off (List._∷_ Row.alive (List._∷_ Row.off (List._∷_ Row.off (List._∷_ Row.off List.[]))))))));
+              .1 .1 .1 .0) (qs .1 .1 .1 .0)) (List._∷_ (Row.lease (κs .1 .1 .1 .1 .0) (qs .1 .1 .1 .1 .0)) (List._∷_ Row.off (List._∷_ Row.off (List._∷_ Row.off (List._∷_ Row.off (List._∷_ Row.off
+              List.[])))))))));
         }
 
         abbrev G23 : Row.Cx
         G23 = record {
-          locals = List._++_ g14 t1;
-          slots = List._∷_ (Row.lease (κs .0) (qs .0)) (List._∷_ (Row.lease (κs .1 .0) (qs .1 .0)) (List._∷_ (Row.lease (κs .1 .1 .0) (qs .1 .1 .0)) (List._∷_ Row.off
-              (List._∷_ Row.off (List._∷_ Row.alive (List._∷_ Row.off (List._∷_ Row.off (List._∷_ Row.off List.[]))))))));
+          locals = List._++_ t9 t1;
+          slots = List._∷_ (Row.lease (κs .0) (qs .0)) (List._∷_ (Row.lease (κs .1 .0) (qs .1 .0)) (List._∷_ (Row.lease (κs .1 .1 .0) (qs .1 .1 .0)) (List._∷_ (Row.lease (κs
+              .1 .1 .1 .0) (qs .1 .1 .1 .0)) (List._∷_ (Row.lease (κs .1 .1 .1 .1 .0) (qs .1 .1 .1 .1 .0)) (List._∷_ Row.off (List._∷_ Row.alive (List._∷_ Row.off (List._∷_ Row.off (List._∷_ Row.off
+              List.[])))))))));
         }
 
         abbrev G24 : Row.Cx
         G24 = record {
-          locals = List._++_ g15 t16;
+          locals = List._++_ g14 t15;
           slots = List._∷_ (Row.lease (κs .0) (qs .0)) (List._∷_ (Row.lease (κs .1 .0) (qs .1 .0)) (List._∷_ (Row.lease (κs .1 .1 .0) (qs .1 .1 .0)) (List._∷_ Row.off
-              (List._∷_ Row.off (List._∷_ Row.alive (List._∷_ Row.off (List._∷_ Row.off (List._∷_ Row.off List.[]))))))));
+              (List._∷_ (Row.lease (κs .1 .1 .1 .1 .0) (qs .1 .1 .1 .1 .0)) (List._∷_ Row.off (List._∷_ Row.alive (List._∷_ Row.off (List._∷_ Row.off (List._∷_ Row.off List.[])))))))));
         }
 
         abbrev G25 : Row.Cx
         G25 = record {
-          locals = List._++_ g17 t18;
+          locals = List._++_ g14 t16;
           slots = List._∷_ (Row.lease (κs .0) (qs .0)) (List._∷_ (Row.lease (κs .1 .0) (qs .1 .0)) (List._∷_ (Row.lease (κs .1 .1 .0) (qs .1 .1 .0)) (List._∷_ Row.off
-              (List._∷_ Row.off (List._∷_ Row.alive (List._∷_ Row.off (List._∷_ Row.off (List._∷_ Row.off List.[]))))))));
+              (List._∷_ (Row.lease (κs .1 .1 .1 .1 .0) (qs .1 .1 .1 .1 .0)) (List._∷_ Row.off (List._∷_ Row.alive (List._∷_ Row.off (List._∷_ Row.off (List._∷_ Row.off List.[])))))))));
         }
 
         abbrev G26 : Row.Cx
         G26 = record {
-          locals = List._++_ g15 t18;
+          locals = List._++_ g17 t18;
           slots = List._∷_ (Row.lease (κs .0) (qs .0)) (List._∷_ (Row.lease (κs .1 .0) (qs .1 .0)) (List._∷_ (Row.lease (κs .1 .1 .0) (qs .1 .1 .0)) (List._∷_ Row.off
-              (List._∷_ Row.off (List._∷_ Row.alive (List._∷_ Row.off (List._∷_ Row.off (List._∷_ Row.off List.[]))))))));
+              (List._∷_ (Row.lease (κs .1 .1 .1 .1 .0) (qs .1 .1 .1 .1 .0)) (List._∷_ Row.off (List._∷_ Row.alive (List._∷_ Row.off (List._∷_ Row.off (List._∷_ Row.off List.[])))))))));
         }
 
         abbrev G27 : Row.Cx
         G27 = record {
-          locals = List._++_ g15 t18;
+          locals = List._++_ g14 t18;
           slots = List._∷_ (Row.lease (κs .0) (qs .0)) (List._∷_ (Row.lease (κs .1 .0) (qs .1 .0)) (List._∷_ (Row.lease (κs .1 .1 .0) (qs .1 .1 .0)) (List._∷_ Row.off
-              (List._∷_ Row.off (List._∷_ Row.dead (List._∷_ Row.off (List._∷_ Row.off (List._∷_ Row.off List.[]))))))));
+              (List._∷_ (Row.lease (κs .1 .1 .1 .1 .0) (qs .1 .1 .1 .1 .0)) (List._∷_ Row.off (List._∷_ Row.alive (List._∷_ Row.off (List._∷_ Row.off (List._∷_ Row.off List.[])))))))));
         }
 
         abbrev G28 : Row.Cx
         G28 = record {
-          locals = List._++_ t9 t1;
-          slots = List._∷_ (Row.lease (κs .0) (qs .0)) (List._∷_ (Row.lease (κs .1 .0) (qs .1 .0)) (List._∷_ (Row.lease (κs .1 .1 .0) (qs .1 .1 .0)) (List._∷_ (Row.lease (κs
-              .1 .1 .1 .0) (qs .1 .1 .1 .0)) (List._∷_ Row.off (List._∷_ Row.dead (List._∷_ Row.off (List._∷_ Row.off (List._∷_ Row.off List.[]))))))));
+          locals = List._++_ g14 t18;
+          slots = List._∷_ (Row.lease (κs .0) (qs .0)) (List._∷_ (Row.lease (κs .1 .0) (qs .1 .0)) (List._∷_ (Row.lease (κs .1 .1 .0) (qs .1 .1 .0)) (List._∷_ Row.off
+              (List._∷_ (Row.lease (κs .1 .1 .1 .1 .0) (qs .1 .1 .1 .1 .0)) (List._∷_ Row.off (List._∷_ Row.dead (List._∷_ Row.off (List._∷_ Row.off (List._∷_ Row.off List.[])))))))));
         }
 
         abbrev G29 : Row.Cx
         G29 = record {
           locals = List._++_ t9 t1;
           slots = List._∷_ (Row.lease (κs .0) (qs .0)) (List._∷_ (Row.lease (κs .1 .0) (qs .1 .0)) (List._∷_ (Row.lease (κs .1 .1 .0) (qs .1 .1 .0)) (List._∷_ (Row.lease (κs
-              .1 .1 .1 .0) (qs .1 .1 .1 .0)) (List._∷_ Row.off (List._∷_ Row.off (List._∷_ Row.off (List._∷_ Row.off (List._∷_ Row.off List.[]))))))));
+              .1 .1 .1 .0) (qs .1 .1 .1 .0)) (List._∷_ (Row.lease (κs .1 .1 .1 .1 .0) (qs .1 .1 .1 .1 .0)) (List._∷_ Row.off (List._∷_ Row.dead (List._∷_ Row.off (List._∷_ Row.off (List._∷_ Row.off
+              List.[])))))))));
         }
 
         abbrev G30 : Row.Cx
         G30 = record {
-          locals = List._++_ t9 t19;
+          locals = List._++_ t9 t1;
           slots = List._∷_ (Row.lease (κs .0) (qs .0)) (List._∷_ (Row.lease (κs .1 .0) (qs .1 .0)) (List._∷_ (Row.lease (κs .1 .1 .0) (qs .1 .1 .0)) (List._∷_ (Row.lease (κs
-              .1 .1 .1 .0) (qs .1 .1 .1 .0)) (List._∷_ Row.off (List._∷_ Row.off (List._∷_ Row.off (List._∷_ Row.off (List._∷_ Row.off List.[]))))))));
+              .1 .1 .1 .0) (qs .1 .1 .1 .0)) (List._∷_ (Row.lease (κs .1 .1 .1 .1 .0) (qs .1 .1 .1 .1 .0)) (List._∷_ Row.off (List._∷_ Row.off (List._∷_ Row.off (List._∷_ Row.off (List._∷_ Row.off
+              List.[])))))))));
         }
 
         abbrev G31 : Row.Cx
         G31 = record {
-          locals = List._++_ t20 t19;
-          slots = List._∷_ (Row.lease (κs .0) (qs .0)) (List._∷_ (Row.lease (κs .1 .0) (qs .1 .0)) (List._∷_ (Row.lease (κs .1 .1 .0) (qs .1 .1 .0)) (List._∷_ (Row.lease
-              (κs .1 .1 .1 .0) (qs .1 .1 .1 .0)) (List._∷_ Row.off (List._∷_ Row.off (List._∷_ Row.off (List._∷_ Row.off (List._∷_ Row.off List.[]))))))));
+          locals = List._++_ t9 t19;
+          slots = List._∷_ (Row.lease (κs .0) (qs .0)) (List._∷_ (Row.lease (κs .1 .0) (qs .1 .0)) (List._∷_ (Row.lease (κs .1 .1 .0) (qs .1 .1 .0)) (List._∷_ (Row.lease (κs
+              .1 .1 .1 .0) (qs .1 .1 .1 .0)) (List._∷_ (Row.lease (κs .1 .1 .1 .1 .0) (qs .1 .1 .1 .1 .0)) (List._∷_ Row.off (List._∷_ Row.off (List._∷_ Row.off (List._∷_ Row.off (List._∷_ Row.off
+              List.[])))))))));
         }
 
         abbrev G32 : Row.Cx
         G32 = record {
-          locals = List._++_ t20 t1;
-          slots = List._∷_ (Row.lease (κs .0) (qs .0)) (List._∷_ (Row.lease (κs .1 .0) (qs .1 .0)) (List._∷_ (Row.lease (κs .1 .1 .0) (qs .1 .1 .0)) (List._∷_ (Row.lease (κs
-              .1 .1 .1 .0) (qs .1 .1 .1 .0)) (List._∷_ Row.off (List._∷_ Row.off (List._∷_ Row.off (List._∷_ Row.off (List._∷_ Row.off List.[]))))))));
+          locals = List._++_ t20 t19;
+          slots = List._∷_ (Row.lease (κs .0) (qs .0)) (List._∷_ (Row.lease (κs .1 .0) (qs .1 .0)) (List._∷_ (Row.lease (κs .1 .1 .0) (qs .1 .1 .0)) (List._∷_ (Row.lease
+              (κs .1 .1 .1 .0) (qs .1 .1 .1 .0)) (List._∷_ (Row.lease (κs .1 .1 .1 .1 .0) (qs .1 .1 .1 .1 .0)) (List._∷_ Row.off (List._∷_ Row.off (List._∷_ Row.off (List._∷_ Row.off (List._∷_ Row.off
+              List.[])))))))));
         }
 
         abbrev G33 : Row.Cx
         G33 = record {
-          locals = List._++_ t21 t1;
+          locals = List._++_ t20 t1;
           slots = List._∷_ (Row.lease (κs .0) (qs .0)) (List._∷_ (Row.lease (κs .1 .0) (qs .1 .0)) (List._∷_ (Row.lease (κs .1 .1 .0) (qs .1 .1 .0)) (List._∷_ (Row.lease (κs
-              .1 .1 .1 .0) (qs .1 .1 .1 .0)) (List._∷_ Row.off (List._∷_ Row.off (List._∷_ Row.off (List._∷_ Row.off (List._∷_ Row.off List.[]))))))));
+              .1 .1 .1 .0) (qs .1 .1 .1 .0)) (List._∷_ (Row.lease (κs .1 .1 .1 .1 .0) (qs .1 .1 .1 .1 .0)) (List._∷_ Row.off (List._∷_ Row.off (List._∷_ Row.off (List._∷_ Row.off (List._∷_ Row.off
+              List.[])))))))));
         }
 
         abbrev G34 : Row.Cx
         G34 = record {
-          locals = List._++_ t22 t1;
+          locals = List._++_ t21 t1;
           slots = List._∷_ (Row.lease (κs .0) (qs .0)) (List._∷_ (Row.lease (κs .1 .0) (qs .1 .0)) (List._∷_ (Row.lease (κs .1 .1 .0) (qs .1 .1 .0)) (List._∷_ (Row.lease (κs
-              .1 .1 .1 .0) (qs .1 .1 .1 .0)) (List._∷_ Row.off (List._∷_ Row.off (List._∷_ Row.off (List._∷_ Row.off (List._∷_ Row.off List.[]))))))));
+              .1 .1 .1 .0) (qs .1 .1 .1 .0)) (List._∷_ (Row.lease (κs .1 .1 .1 .1 .0) (qs .1 .1 .1 .1 .0)) (List._∷_ Row.off (List._∷_ Row.off (List._∷_ Row.off (List._∷_ Row.off (List._∷_ Row.off
+              List.[])))))))));
         }
 
         abbrev G35 : Row.Cx
         G35 = record {
-          locals = List._++_ t23 t1;
+          locals = List._++_ t22 t1;
           slots = List._∷_ (Row.lease (κs .0) (qs .0)) (List._∷_ (Row.lease (κs .1 .0) (qs .1 .0)) (List._∷_ (Row.lease (κs .1 .1 .0) (qs .1 .1 .0)) (List._∷_ (Row.lease (κs
-              .1 .1 .1 .0) (qs .1 .1 .1 .0)) (List._∷_ Row.off (List._∷_ Row.off (List._∷_ Row.off (List._∷_ Row.off (List._∷_ Row.off List.[]))))))));
+              .1 .1 .1 .0) (qs .1 .1 .1 .0)) (List._∷_ (Row.lease (κs .1 .1 .1 .1 .0) (qs .1 .1 .1 .1 .0)) (List._∷_ Row.off (List._∷_ Row.off (List._∷_ Row.off (List._∷_ Row.off (List._∷_ Row.off
+              List.[])))))))));
         }
 
         abbrev G36 : Row.Cx
         G36 = record {
-          locals = List._++_ t2 t1;
+          locals = List._++_ t23 t1;
           slots = List._∷_ (Row.lease (κs .0) (qs .0)) (List._∷_ (Row.lease (κs .1 .0) (qs .1 .0)) (List._∷_ (Row.lease (κs .1 .1 .0) (qs .1 .1 .0)) (List._∷_ (Row.lease (κs
-              .1 .1 .1 .0) (qs .1 .1 .1 .0)) (List._∷_ Row.off (List._∷_ Row.off (List._∷_ Row.off (List._∷_ Row.off (List._∷_ Row.off List.[]))))))));
+              .1 .1 .1 .0) (qs .1 .1 .1 .0)) (List._∷_ (Row.lease (κs .1 .1 .1 .1 .0) (qs .1 .1 .1 .1 .0)) (List._∷_ Row.off (List._∷_ Row.off (List._∷_ Row.off (List._∷_ Row.off (List._∷_ Row.off
+              List.[])))))))));
         }
 
         abbrev G37 : Row.Cx
         G37 = record {
-          locals = List._++_ t4 t1;
+          locals = List._++_ t2 t1;
           slots = List._∷_ (Row.lease (κs .0) (qs .0)) (List._∷_ (Row.lease (κs .1 .0) (qs .1 .0)) (List._∷_ (Row.lease (κs .1 .1 .0) (qs .1 .1 .0)) (List._∷_ (Row.lease (κs
-              .1 .1 .1 .0) (qs .1 .1 .1 .0)) (List._∷_ Row.off (List._∷_ Row.off (List._∷_ Row.off (List._∷_ Row.off (List._∷_ Row.off List.[]))))))));
+              .1 .1 .1 .0) (qs .1 .1 .1 .0)) (List._∷_ (Row.lease (κs .1 .1 .1 .1 .0) (qs .1 .1 .1 .1 .0)) (List._∷_ Row.off (List._∷_ Row.off (List._∷_ Row.off (List._∷_ Row.off (List._∷_ Row.off
+              List.[])))))))));
         }
 
         abbrev G38 : Row.Cx
         G38 = record {
           locals = List._++_ t4 t1;
           slots = List._∷_ (Row.lease (κs .0) (qs .0)) (List._∷_ (Row.lease (κs .1 .0) (qs .1 .0)) (List._∷_ (Row.lease (κs .1 .1 .0) (qs .1 .1 .0)) (List._∷_ (Row.lease (κs
-              .1 .1 .1 .0) (qs .1 .1 .1 .0)) (List._∷_ Row.off (List._∷_ Row.off (List._∷_ Row.alive (List._∷_ Row.off (List._∷_ Row.off List.[]))))))));
+              .1 .1 .1 .0) (qs .1 .1 .1 .0)) (List._∷_ (Row.lease (κs .1 .1 .1 .1 .0) (qs .1 .1 .1 .1 .0)) (List._∷_ Row.off (List._∷_ Row.off (List._∷_ Row.off (List._∷_ Row.off (List._∷_ Row.off
+              List.[])))))))));
         }
 
         abbrev G39 : Row.Cx
         G39 = record {
-          locals = List._++_ g24 t25;
-          slots = List._∷_ (Row.lease (κs .0) (qs .0)) (List._∷_ Row.off (List._∷_ (Row.lease (κs .1 .1 .0) (qs .1 .1 .0)) (List._∷_ (Row.lease (κs .1 .1 .1 .0) (qs .1 .1
-              .1 .0)) (List._∷_ Row.off (List._∷_ Row.off (List._∷_ Row.alive (List._∷_ Row.off (List._∷_ Row.off List.[]))))))));
+          locals = List._++_ t4 t1;
+          slots = List._∷_ (Row.lease (κs .0) (qs .0)) (List._∷_ (Row.lease (κs .1 .0) (qs .1 .0)) (List._∷_ (Row.lease (κs .1 .1 .0) (qs .1 .1 .0)) (List._∷_ (Row.lease (κs
+              .1 .1 .1 .0) (qs .1 .1 .1 .0)) (List._∷_ (Row.lease (κs .1 .1 .1 .1 .0) (qs .1 .1 .1 .1 .0)) (List._∷_ Row.off (List._∷_ Row.off (List._∷_ Row.alive (List._∷_ Row.off (List._∷_ Row.off
+              List.[])))))))));
         }
 
         abbrev G40 : Row.Cx
         G40 = record {
-          locals = List._++_ g24 t26;
+          locals = List._++_ g24 t25;
           slots = List._∷_ (Row.lease (κs .0) (qs .0)) (List._∷_ Row.off (List._∷_ (Row.lease (κs .1 .1 .0) (qs .1 .1 .0)) (List._∷_ (Row.lease (κs .1 .1 .1 .0) (qs .1 .1
-              .1 .0)) (List._∷_ Row.off (List._∷_ Row.off (List._∷_ Row.alive (List._∷_ Row.off (List._∷_ Row.off List.[]))))))));
+              .1 .0)) (List._∷_ (Row.lease (κs .1 .1 .1 .1 .0) (qs .1 .1 .1 .1 .0)) (List._∷_ Row.off (List._∷_ Row.off (List._∷_ Row.alive (List._∷_ Row.off (List._∷_ Row.off List.[])))))))));
         }
 
         abbrev G41 : Row.Cx
         G41 = record {
           locals = List._++_ g24 t26;
           slots = List._∷_ (Row.lease (κs .0) (qs .0)) (List._∷_ Row.off (List._∷_ (Row.lease (κs .1 .1 .0) (qs .1 .1 .0)) (List._∷_ (Row.lease (κs .1 .1 .1 .0) (qs .1 .1
-              .1 .0)) (List._∷_ Row.off (List._∷_ Row.off (List._∷_ Row.alive (List._∷_ Row.alive (List._∷_ Row.off List.[]))))))));
+              .1 .0)) (List._∷_ (Row.lease (κs .1 .1 .1 .1 .0) (qs .1 .1 .1 .1 .0)) (List._∷_ Row.off (List._∷_ Row.off (List._∷_ Row.alive (List._∷_ Row.off (List._∷_ Row.off List.[])))))))));
         }
 
         abbrev G42 : Row.Cx
         G42 = record {
-          locals = List._++_ g27 t28;
-          slots = List._∷_ (Row.lease (κs .0) (qs .0)) (List._∷_ Row.off (List._∷_ Row.off (List._∷_ (Row.lease (κs .1 .1 .1 .0) (qs .1 .1 .1 .0)) (List._∷_ Row.off
-              (List._∷_ Row.off (List._∷_ Row.alive (List._∷_ Row.alive (List._∷_ Row.off List.[]))))))));
+          locals = List._++_ g24 t26;
+          slots = List._∷_ (Row.lease (κs .0) (qs .0)) (List._∷_ Row.off (List._∷_ (Row.lease (κs .1 .1 .0) (qs .1 .1 .0)) (List._∷_ (Row.lease (κs .1 .1 .1 .0) (qs .1 .1
+              .1 .0)) (List._∷_ (Row.lease (κs .1 .1 .1 .1 .0) (qs .1 .1 .1 .1 .0)) (List._∷_ Row.off (List._∷_ Row.off (List._∷_ Row.alive (List._∷_ Row.alive (List._∷_ Row.off List.[])))))))));
         }
 
         abbrev G43 : Row.Cx
         G43 = record {
-          locals = List._++_ g27 t29;
-          slots = List._∷_ (Row.lease (κs .0) (qs .0)) (List._∷_ Row.off (List._∷_ Row.off (List._∷_ (Row.lease (κs .1 .1 .1 .0) (qs .1 .1 .1 .0)) (List._∷_ Row.off
-              (List._∷_ Row.off (List._∷_ Row.alive (List._∷_ Row.alive (List._∷_ Row.off List.[]))))))));
+          locals = List._++_ g27 t28;
+          slots = List._∷_ (Row.lease (κs .0) (qs .0)) (List._∷_ Row.off (List._∷_ Row.off (List._∷_ (Row.lease (κs .1 .1 .1 .0) (qs .1 .1 .1 .0)) (List._∷_ (Row.lease (κs
+              .1 .1 .1 .1 .0) (qs .1 .1 .1 .1 .0)) (List._∷_ Row.off (List._∷_ Row.off (List._∷_ Row.alive (List._∷_ Row.alive (List._∷_ Row.off List.[])))))))));
         }
 
         abbrev G44 : Row.Cx
         G44 = record {
           locals = List._++_ g27 t29;
-          slots = List._∷_ (Row.lease (κs .0) (qs .0)) (List._∷_ Row.off (List._∷_ Row.off (List._∷_ (Row.lease (κs .1 .1 .1 .0) (qs .1 .1 .1 .0)) (List._∷_ Row.off
-              (List._∷_ Row.off (List._∷_ Row.alive (List._∷_ Row.alive (List._∷_ Row.alive List.[]))))))));
+          slots = List._∷_ (Row.lease (κs .0) (qs .0)) (List._∷_ Row.off (List._∷_ Row.off (List._∷_ (Row.lease (κs .1 .1 .1 .0) (qs .1 .1 .1 .0)) (List._∷_ (Row.lease (κs
+              .1 .1 .1 .1 .0) (qs .1 .1 .1 .1 .0)) (List._∷_ Row.off (List._∷_ Row.off (List._∷_ Row.alive (List._∷_ Row.alive (List._∷_ Row.off List.[])))))))));
         }
 
         abbrev G45 : Row.Cx
         G45 = record {
-          locals = List._++_ g30 t31;
-          slots = List._∷_ (Row.lease (κs .0) (qs .0)) (List._∷_ Row.off (List._∷_ Row.off (List._∷_ Row.off (List._∷_ Row.off (List._∷_ Row.off (List._∷_ Row.alive
-              (List._∷_ Row.alive (List._∷_ Row.alive List.[]))))))));
+          locals = List._++_ g27 t29;
+          slots = List._∷_ (Row.lease (κs .0) (qs .0)) (List._∷_ Row.off (List._∷_ Row.off (List._∷_ (Row.lease (κs .1 .1 .1 .0) (qs .1 .1 .1 .0)) (List._∷_ (Row.lease (κs
+              .1 .1 .1 .1 .0) (qs .1 .1 .1 .1 .0)) (List._∷_ Row.off (List._∷_ Row.off (List._∷_ Row.alive (List._∷_ Row.alive (List._∷_ Row.alive List.[])))))))));
         }
 
         abbrev G46 : Row.Cx
         G46 = record {
-          locals = List._++_ g30 t32;
-          slots = List._∷_ (Row.lease (κs .0) (qs .0)) (List._∷_ Row.off (List._∷_ Row.off (List._∷_ Row.off (List._∷_ Row.off (List._∷_ Row.off (List._∷_ Row.alive
-              (List._∷_ Row.alive (List._∷_ Row.alive List.[]))))))));
+          locals = List._++_ g30 t31;
+          slots = List._∷_ (Row.lease (κs .0) (qs .0)) (List._∷_ Row.off (List._∷_ Row.off (List._∷_ Row.off (List._∷_ (Row.lease (κs .1 .1 .1 .1 .0) (qs .1 .1 .1 .1 .0))
+              (List._∷_ Row.off (List._∷_ Row.off (List._∷_ Row.alive (List._∷_ Row.alive (List._∷_ Row.alive List.[])))))))));
         }
 
         abbrev G47 : Row.Cx
         G47 = record {
-          locals = List._++_ g33 t34;
-          slots = List._∷_ (Row.lease (κs .0) (qs .0)) (List._∷_ Row.off (List._∷_ Row.off (List._∷_ Row.off (List._∷_ Row.off (List._∷_ Row.off (List._∷_ Row.alive
-              (List._∷_ Row.alive (List._∷_ Row.alive List.[]))))))));
+          locals = List._++_ g30 t32;
+          slots = List._∷_ (Row.lease (κs .0) (qs .0)) (List._∷_ Row.off (List._∷_ Row.off (List._∷_ Row.off (List._∷_ (Row.lease (κs .1 .1 .1 .1 .0) (qs .1 .1 .1 .1 .0))
+              (List._∷_ Row.off (List._∷_ Row.off (List._∷_ Row.alive (List._∷_ Row.alive (List._∷_ Row.alive List.[])))))))));
         }
 
         abbrev G48 : Row.Cx
         G48 = record {
-          locals = List._++_ g35 t34;
-          slots = List._∷_ (Row.lease (κs .0) (qs .0)) (List._∷_ Row.off (List._∷_ Row.off (List._∷_ Row.off (List._∷_ Row.off (List._∷_ Row.off (List._∷_ Row.alive
-              (List._∷_ Row.alive (List._∷_ Row.alive List.[]))))))));
+          locals = List._++_ g33 t34;
+          slots = List._∷_ (Row.lease (κs .0) (qs .0)) (List._∷_ Row.off (List._∷_ Row.off (List._∷_ Row.off (List._∷_ (Row.lease (κs .1 .1 .1 .1 .0) (qs .1 .1 .1 .1 .0))
+              (List._∷_ Row.off (List._∷_ Row.off (List._∷_ Row.alive (List._∷_ Row.alive (List._∷_ Row.alive List.[])))))))));
         }
 
         abbrev G49 : Row.Cx
         G49 = record {
-          locals = List._++_ g36 t34;
-          slots = List._∷_ (Row.lease (κs .0) (qs .0)) (List._∷_ Row.off (List._∷_ Row.off (List._∷_ Row.off (List._∷_ Row.off (List._∷_ Row.off (List._∷_ Row.alive
-              (List._∷_ Row.alive (List._∷_ Row.alive List.[]))))))));
+          locals = List._++_ g35 t34;
+          slots = List._∷_ (Row.lease (κs .0) (qs .0)) (List._∷_ Row.off (List._∷_ Row.off (List._∷_ Row.off (List._∷_ (Row.lease (κs .1 .1 .1 .1 .0) (qs .1 .1 .1 .1 .0))
+              (List._∷_ Row.off (List._∷_ Row.off (List._∷_ Row.alive (List._∷_ Row.alive (List._∷_ Row.alive List.[])))))))));
         }
 
         abbrev G50 : Row.Cx
         G50 = record {
-          locals = List._++_ g37 t34;
-          slots = List._∷_ (Row.lease (κs .0) (qs .0)) (List._∷_ Row.off (List._∷_ Row.off (List._∷_ Row.off (List._∷_ Row.off (List._∷_ Row.off (List._∷_ Row.alive
-              (List._∷_ Row.alive (List._∷_ Row.alive List.[]))))))));
+          locals = List._++_ g36 t34;
+          slots = List._∷_ (Row.lease (κs .0) (qs .0)) (List._∷_ Row.off (List._∷_ Row.off (List._∷_ Row.off (List._∷_ (Row.lease (κs .1 .1 .1 .1 .0) (qs .1 .1 .1 .1 .0))
+              (List._∷_ Row.off (List._∷_ Row.off (List._∷_ Row.alive (List._∷_ Row.alive (List._∷_ Row.alive List.[])))))))));
         }
 
         abbrev G51 : Row.Cx
         G51 = record {
           locals = List._++_ g37 t34;
-          slots = List._∷_ (Row.lease (κs .0) (qs .0)) (List._∷_ Row.off (List._∷_ Row.off (List._∷_ Row.off (List._∷_ Row.off (List._∷_ Row.off (List._∷_ Row.dead
-              (List._∷_ Row.alive (List._∷_ Row.alive List.[]))))))));
+          slots = List._∷_ (Row.lease (κs .0) (qs .0)) (List._∷_ Row.off (List._∷_ Row.off (List._∷_ Row.off (List._∷_ (Row.lease (κs .1 .1 .1 .1 .0) (qs .1 .1 .1 .1 .0))
+              (List._∷_ Row.off (List._∷_ Row.off (List._∷_ Row.alive (List._∷_ Row.alive (List._∷_ Row.alive List.[])))))))));
         }
 
         abbrev G52 : Row.Cx
         G52 = record {
-          locals = List._++_ g38 t39;
-          slots = List._∷_ (Row.lease (κs .0) (qs .0)) (List._∷_ (Row.lease (κs .1 .0) (qs .1 .0)) (List._∷_ Row.off (List._∷_ Row.off (List._∷_ Row.off (List._∷_ Row.off
-              (List._∷_ Row.dead (List._∷_ Row.alive (List._∷_ Row.alive List.[]))))))));
+          locals = List._++_ g37 t34;
+          slots = List._∷_ (Row.lease (κs .0) (qs .0)) (List._∷_ Row.off (List._∷_ Row.off (List._∷_ Row.off (List._∷_ (Row.lease (κs .1 .1 .1 .1 .0) (qs .1 .1 .1 .1 .0))
+              (List._∷_ Row.off (List._∷_ Row.off (List._∷_ Row.dead (List._∷_ Row.alive (List._∷_ Row.alive List.[])))))))));
         }
 
         abbrev G53 : Row.Cx
         G53 = record {
           locals = List._++_ g38 t39;
-          slots = List._∷_ (Row.lease (κs .0) (qs .0)) (List._∷_ (Row.lease (κs .1 .0) (qs .1 .0)) (List._∷_ Row.off (List._∷_ Row.off (List._∷_ Row.off (List._∷_ Row.off
-              (List._∷_ Row.dead (List._∷_ Row.alive (List._∷_ Row.alive List.[]))))))));
+          slots = List._∷_ (Row.lease (κs .0) (qs .0)) (List._∷_ (Row.lease (κs .1 .0) (qs .1 .0)) (List._∷_ Row.off (List._∷_ Row.off (List._∷_ (Row.lease (κs .1 .1 .1 .1
+              .0) (qs .1 .1 .1 .1 .0)) (List._∷_ Row.off (List._∷_ Row.off (List._∷_ Row.dead (List._∷_ Row.alive (List._∷_ Row.alive List.[])))))))));
         }
 
         abbrev G54 : Row.Cx
         G54 = record {
           locals = List._++_ g38 t39;
-          slots = List._∷_ (Row.lease (κs .0) (qs .0)) (List._∷_ (Row.lease (κs .1 .0) (qs .1 .0)) (List._∷_ Row.off (List._∷_ Row.off (List._∷_ Row.off (List._∷_ Row.off
-              (List._∷_ Row.off (List._∷_ Row.alive (List._∷_ Row.alive List.[]))))))));
+          slots = List._∷_ (Row.lease (κs .0) (qs .0)) (List._∷_ (Row.lease (κs .1 .0) (qs .1 .0)) (List._∷_ Row.off (List._∷_ Row.off (List._∷_ (Row.lease (κs .1 .1 .1 .1
+              .0) (qs .1 .1 .1 .1 .0)) (List._∷_ Row.off (List._∷_ Row.off (List._∷_ Row.dead (List._∷_ Row.alive (List._∷_ Row.alive List.[])))))))));
         }
 
         abbrev G55 : Row.Cx
         G55 = record {
           locals = List._++_ g38 t39;
-          slots = List._∷_ (Row.lease (κs .0) (qs .0)) (List._∷_ (Row.lease (κs .1 .0) (qs .1 .0)) (List._∷_ Row.off (List._∷_ Row.off (List._∷_ Row.off (List._∷_ Row.off
-              (List._∷_ Row.off (List._∷_ Row.dead (List._∷_ Row.alive List.[]))))))));
+          slots = List._∷_ (Row.lease (κs .0) (qs .0)) (List._∷_ (Row.lease (κs .1 .0) (qs .1 .0)) (List._∷_ Row.off (List._∷_ Row.off (List._∷_ (Row.lease (κs .1 .1 .1 .1
+              .0) (qs .1 .1 .1 .1 .0)) (List._∷_ Row.off (List._∷_ Row.off (List._∷_ Row.off (List._∷_ Row.alive (List._∷_ Row.alive List.[])))))))));
         }
 
         abbrev G56 : Row.Cx
         G56 = record {
-          locals = List._++_ g40 t41;
-          slots = List._∷_ (Row.lease (κs .0) (qs .0)) (List._∷_ (Row.lease (κs .1 .0) (qs .1 .0)) (List._∷_ (Row.lease (κs .1 .1 .0) (qs .1 .1 .0)) (List._∷_ Row.off
-              (List._∷_ Row.off (List._∷_ Row.off (List._∷_ Row.off (List._∷_ Row.dead (List._∷_ Row.alive List.[]))))))));
+          locals = List._++_ g38 t39;
+          slots = List._∷_ (Row.lease (κs .0) (qs .0)) (List._∷_ (Row.lease (κs .1 .0) (qs .1 .0)) (List._∷_ Row.off (List._∷_ Row.off (List._∷_ (Row.lease (κs .1 .1 .1 .1
+              .0) (qs .1 .1 .1 .1 .0)) (List._∷_ Row.off (List._∷_ Row.off (List._∷_ Row.off (List._∷_ Row.dead (List._∷_ Row.alive List.[])))))))));
         }
 
         abbrev G57 : Row.Cx
         G57 = record {
           locals = List._++_ g40 t41;
           slots = List._∷_ (Row.lease (κs .0) (qs .0)) (List._∷_ (Row.lease (κs .1 .0) (qs .1 .0)) (List._∷_ (Row.lease (κs .1 .1 .0) (qs .1 .1 .0)) (List._∷_ Row.off
-              (List._∷_ Row.off (List._∷_ Row.off (List._∷_ Row.off (List._∷_ Row.dead (List._∷_ Row.alive List.[]))))))));
+              (List._∷_ (Row.lease (κs .1 .1 .1 .1 .0) (qs .1 .1 .1 .1 .0)) (List._∷_ Row.off (List._∷_ Row.off (List._∷_ Row.off (List._∷_ Row.dead (List._∷_ Row.alive List.[])))))))));
         }
 
         abbrev G58 : Row.Cx
         G58 = record {
           locals = List._++_ g40 t41;
           slots = List._∷_ (Row.lease (κs .0) (qs .0)) (List._∷_ (Row.lease (κs .1 .0) (qs .1 .0)) (List._∷_ (Row.lease (κs .1 .1 .0) (qs .1 .1 .0)) (List._∷_ Row.off
-              (List._∷_ Row.off (List._∷_ Row.off (List._∷_ Row.off (List._∷_ Row.off (List._∷_ Row.alive List.[]))))))));
+              (List._∷_ (Row.lease (κs .1 .1 .1 .1 .0) (qs .1 .1 .1 .1 .0)) (List._∷_ Row.off (List._∷_ Row.off (List._∷_ Row.off (List._∷_ Row.dead (List._∷_ Row.alive List.[])))))))));
         }
 
         abbrev G59 : Row.Cx
         G59 = record {
           locals = List._++_ g40 t41;
           slots = List._∷_ (Row.lease (κs .0) (qs .0)) (List._∷_ (Row.lease (κs .1 .0) (qs .1 .0)) (List._∷_ (Row.lease (κs .1 .1 .0) (qs .1 .1 .0)) (List._∷_ Row.off
-              (List._∷_ Row.off (List._∷_ Row.off (List._∷_ Row.off (List._∷_ Row.off (List._∷_ Row.dead List.[]))))))));
+              (List._∷_ (Row.lease (κs .1 .1 .1 .1 .0) (qs .1 .1 .1 .1 .0)) (List._∷_ Row.off (List._∷_ Row.off (List._∷_ Row.off (List._∷_ Row.off (List._∷_ Row.alive List.[])))))))));
         }
 
         abbrev G60 : Row.Cx
         G60 = record {
-          locals = List._++_ t42 t1;
-          slots = List._∷_ (Row.lease (κs .0) (qs .0)) (List._∷_ (Row.lease (κs .1 .0) (qs .1 .0)) (List._∷_ (Row.lease (κs .1 .1 .0) (qs .1 .1 .0)) (List._∷_ (Row.lease (κs
-              .1 .1 .1 .0) (qs .1 .1 .1 .0)) (List._∷_ Row.off (List._∷_ Row.off (List._∷_ Row.off (List._∷_ Row.off (List._∷_ Row.dead List.[]))))))));
+          locals = List._++_ g40 t41;
+          slots = List._∷_ (Row.lease (κs .0) (qs .0)) (List._∷_ (Row.lease (κs .1 .0) (qs .1 .0)) (List._∷_ (Row.lease (κs .1 .1 .0) (qs .1 .1 .0)) (List._∷_ Row.off
+              (List._∷_ (Row.lease (κs .1 .1 .1 .1 .0) (qs .1 .1 .1 .1 .0)) (List._∷_ Row.off (List._∷_ Row.off (List._∷_ Row.off (List._∷_ Row.off (List._∷_ Row.dead List.[])))))))));
         }
 
         abbrev G61 : Row.Cx
         G61 = record {
           locals = List._++_ t42 t1;
           slots = List._∷_ (Row.lease (κs .0) (qs .0)) (List._∷_ (Row.lease (κs .1 .0) (qs .1 .0)) (List._∷_ (Row.lease (κs .1 .1 .0) (qs .1 .1 .0)) (List._∷_ (Row.lease (κs
-              .1 .1 .1 .0) (qs .1 .1 .1 .0)) (List._∷_ Row.off (List._∷_ Row.off (List._∷_ Row.off (List._∷_ Row.off (List._∷_ Row.off List.[]))))))));
+              .1 .1 .1 .0) (qs .1 .1 .1 .0)) (List._∷_ (Row.lease (κs .1 .1 .1 .1 .0) (qs .1 .1 .1 .1 .0)) (List._∷_ Row.off (List._∷_ Row.off (List._∷_ Row.off (List._∷_ Row.off (List._∷_ Row.dead
+              List.[])))))))));
         }
 
         abbrev G62 : Row.Cx
         G62 = record {
-          locals = List._++_ t43 t1;
+          locals = List._++_ t42 t1;
           slots = List._∷_ (Row.lease (κs .0) (qs .0)) (List._∷_ (Row.lease (κs .1 .0) (qs .1 .0)) (List._∷_ (Row.lease (κs .1 .1 .0) (qs .1 .1 .0)) (List._∷_ (Row.lease (κs
-              .1 .1 .1 .0) (qs .1 .1 .1 .0)) (List._∷_ Row.off (List._∷_ Row.off (List._∷_ Row.off (List._∷_ Row.off (List._∷_ Row.off List.[]))))))));
+              .1 .1 .1 .0) (qs .1 .1 .1 .0)) (List._∷_ (Row.lease (κs .1 .1 .1 .1 .0) (qs .1 .1 .1 .1 .0)) (List._∷_ Row.off (List._∷_ Row.off (List._∷_ Row.off (List._∷_ Row.off (List._∷_ Row.off
+              List.[])))))))));
         }
 
         abbrev G63 : Row.Cx
         G63 = record {
+          locals = List._++_ t43 t1;
+          slots = List._∷_ (Row.lease (κs .0) (qs .0)) (List._∷_ (Row.lease (κs .1 .0) (qs .1 .0)) (List._∷_ (Row.lease (κs .1 .1 .0) (qs .1 .1 .0)) (List._∷_ (Row.lease (κs
+              .1 .1 .1 .0) (qs .1 .1 .1 .0)) (List._∷_ (Row.lease (κs .1 .1 .1 .1 .0) (qs .1 .1 .1 .1 .0)) (List._∷_ Row.off (List._∷_ Row.off (List._∷_ Row.off (List._∷_ Row.off (List._∷_ Row.off
+              List.[])))))))));
+        }
+
+        abbrev G64 : Row.Cx
+        G64 = record {
           locals = List._++_ t2 t1;
           slots = List._∷_ (Row.lease (κs .0) (qs .0)) (List._∷_ (Row.lease (κs .1 .0) (qs .1 .0)) (List._∷_ (Row.lease (κs .1 .1 .0) (qs .1 .1 .0)) (List._∷_ (Row.lease (κs
-              .1 .1 .1 .0) (qs .1 .1 .1 .0)) (List._∷_ Row.off (List._∷_ Row.off (List._∷_ Row.off (List._∷_ Row.off (List._∷_ Row.off List.[]))))))));
+              .1 .1 .1 .0) (qs .1 .1 .1 .0)) (List._∷_ (Row.lease (κs .1 .1 .1 .1 .0) (qs .1 .1 .1 .1 .0)) (List._∷_ Row.off (List._∷_ Row.off (List._∷_ Row.off (List._∷_ Row.off (List._∷_ Row.off
+              List.[])))))))));
         }
 
         abbrev Δ0 : Typed.Outs
         Δ0 = record { next = Option.none; exits = List.[]; returns = Option.some G1 }
 
         abbrev Δ1 : Typed.Outs
-        Δ1 = Typed.withNext (Option.some G9) Δ0
+        Δ1 = Typed.withNext (Option.some G10) Δ0
 
         module _ {M : Type 1} (𝓤 : URA.URA M) (H : Wp.Heap 𝓤) (A : Atoms.Atoms 𝓤) (W : Kit.Given 𝓤 H A) (𝓣 : Wp.Tables 𝓤 H) (known : Knowns 𝓤 H A W 𝓣) (bs : List.List Nat.ℕ) (bd : Lifetimes.AllOutlive
-            4 (Kinds.osR r) κs) where
+            5 (Kinds.osR r) κs) where
           abbrev E : Wp.Env 𝓤 H
           E = Frame.EnvOf 𝓤 H (List._∷_ (Kinds.tyR r) (Enter.tysP ps xs)) bs
 
-          d0 : Typed.Typed 𝓤 H A 𝓣 E G36 b12 Δ1 at0
+          d0 : Typed.Typed 𝓤 H A 𝓣 E G37 b12 Δ1 at0
           d0 = Typed.t-return 𝓤 H A W 𝓣 E Δ1 tt
 
-          d1 : Typed.Typed 𝓤 H A 𝓣 E G35 b12 Δ1 at1
-          d1 = Typed.g-pre 𝓤 H A W 𝓣 E G35 G36 b12 Δ1 (Typed.pass T35 T36 s33) at0 (Scalar.g-room 𝓤 H A W E G35 9 (Syntax.tyInt Syntax.w64) (Scalar.room-sc 𝓤 H A W (Row.sInt Syntax.w64))) d0
+          d1 : Typed.Typed 𝓤 H A 𝓣 E G36 b12 Δ1 at1
+          d1 = Typed.g-pre 𝓤 H A W 𝓣 E G36 G37 b12 Δ1 (Typed.pass T36 T37 s34) at0 (Scalar.g-room 𝓤 H A W E G36 10 (Syntax.tyInt Syntax.w64) (Scalar.room-sc 𝓤 H A W (Row.sInt Syntax.w64))) d0
 
-          d2 : Typed.Typed 𝓤 H A 𝓣 E G34 b12 Δ1 at2
-          d2 = Typed.g-pre 𝓤 H A W 𝓣 E G34 G35 b12 Δ1 (Typed.pass T34 T35 s32) at1 (Scalar.g-room 𝓤 H A W E G34 8 (Syntax.tyInt Syntax.w32) (Scalar.room-sc 𝓤 H A W (Row.sInt Syntax.w32))) d1
+          d2 : Typed.Typed 𝓤 H A 𝓣 E G35 b12 Δ1 at2
+          d2 = Typed.g-pre 𝓤 H A W 𝓣 E G35 G36 b12 Δ1 (Typed.pass T35 T36 s33) at1 (Scalar.g-room 𝓤 H A W E G35 9 (Syntax.tyInt Syntax.w32) (Scalar.room-sc 𝓤 H A W (Row.sInt Syntax.w32))) d1
 
-          d3 : Typed.Typed 𝓤 H A 𝓣 E G33 b12 Δ1 at3
-          d3 = Typed.g-pre 𝓤 H A W 𝓣 E G33 G34 b12 Δ1 (Typed.pass T33 T34 s31) at2 (Scalar.g-room 𝓤 H A W E G33 7 (Syntax.tyInt Syntax.w64) (Scalar.room-sc 𝓤 H A W (Row.sInt Syntax.w64))) d2
+          d3 : Typed.Typed 𝓤 H A 𝓣 E G34 b12 Δ1 at3
+          d3 = Typed.g-pre 𝓤 H A W 𝓣 E G34 G35 b12 Δ1 (Typed.pass T34 T35 s32) at2 (Scalar.g-room 𝓤 H A W E G34 8 (Syntax.tyInt Syntax.w64) (Scalar.room-sc 𝓤 H A W (Row.sInt Syntax.w64))) d2
 
-          d4 : Typed.Typed 𝓤 H A 𝓣 E G32 b12 Δ1 at4
-          d4 = Typed.g-pre 𝓤 H A W 𝓣 E G32 G33 b12 Δ1 (Typed.pass T32 T33 s30) at3 (Scalar.g-room 𝓤 H A W E G32 3 Syntax.tyBool (Scalar.room-sc 𝓤 H A W Row.sBool)) d3
+          d4 : Typed.Typed 𝓤 H A 𝓣 E G33 b12 Δ1 at4
+          d4 = Typed.g-pre 𝓤 H A W 𝓣 E G33 G34 b12 Δ1 (Typed.pass T33 T34 s31) at3 (Scalar.g-room 𝓤 H A W E G33 3 Syntax.tyBool (Scalar.room-sc 𝓤 H A W Row.sBool)) d3
 
-          d5 : Typed.Typed 𝓤 H A 𝓣 E G31 b12 Δ1 at5
-          d5 = Typed.g-pre 𝓤 H A W 𝓣 E G31 G32 b12 Δ1 (Typed.pass T31 T32 s29) at4 (Scalar.g-room 𝓤 H A W E G31 17 (Syntax.tyEnum (List._∷_ 115 (List._∷_ 116 (List._∷_ 114 (List._∷_ 101 (List._∷_ 97
+          d5 : Typed.Typed 𝓤 H A 𝓣 E G32 b12 Δ1 at5
+          d5 = Typed.g-pre 𝓤 H A W 𝓣 E G32 G33 b12 Δ1 (Typed.pass T32 T33 s30) at4 (Scalar.g-room 𝓤 H A W E G32 18 (Syntax.tyEnum (List._∷_ 115 (List._∷_ 116 (List._∷_ 114 (List._∷_ 101 (List._∷_ 97
               (List._∷_ 109 (List._∷_ 58 (List._∷_ 58 (List._∷_ 82 (List._∷_ 101 (List._∷_ 102 (List._∷_ 117 (List._∷_ 115 (List._∷_ 97 (List._∷_ 108 List.[]))))))))))))))) (Syntax.ttcons Syntax.tnil
               (Syntax.ttcons Syntax.tnil (Syntax.ttcons Syntax.tnil (Syntax.ttcons (Syntax.tcons (Syntax.tyInt Syntax.w64) Syntax.tnil) (Syntax.ttcons Syntax.tnil (Syntax.ttcons Syntax.tnil (Syntax.ttcons
               Syntax.tnil (Syntax.ttcons Syntax.tnil (Syntax.ttcons Syntax.tnil (Syntax.ttcons Syntax.tnil (Syntax.ttcons (Syntax.tcons (Syntax.tyInt Syntax.w64) Syntax.tnil) (Syntax.ttcons (Syntax.tcons
@@ -1807,331 +1857,337 @@ module _ (claims· : Claims) where
               Syntax.tnil) (Syntax.ttcons Syntax.tnil (Syntax.ttcons Syntax.tnil (Syntax.ttcons (Syntax.tcons (Syntax.tyInt Syntax.w64) Syntax.tnil) (Syntax.ttcons (Syntax.tcons (Syntax.tyInt Syntax.w64)
               Syntax.tnil) (Syntax.ttcons (Syntax.tcons (Syntax.tyInt Syntax.w64) Syntax.tnil) (Syntax.ttcons Syntax.tnil Syntax.ttnil)))))))))))))))))))))) Path'.refl)) d4
 
-          d6 : Typed.Typed 𝓤 H A 𝓣 E G30 b13 Δ1 at6
-          d6 = Typed.s-seq 𝓤 H A W 𝓣 E G30 G31 b11 b12 Δ1 (Typed.pass T30 T31 s28) at5 (Make.t-enum-make-wt 𝓤 H A W E 𝓣 BlockLength.the-type Laws'.the-laws Laws'.the-plain tt G30 0 (List._∷_
-              (Scalar.oInt Syntax.w8 1) (List._∷_ (Scalar.oAt 17 (Syntax.tyEnum (List._∷_ 115 (List._∷_ 116 (List._∷_ 114 (List._∷_ 101 (List._∷_ 97 (List._∷_ 109 (List._∷_ 58 (List._∷_ 58 (List._∷_ 82
+          d6 : Typed.Typed 𝓤 H A 𝓣 E G31 b13 Δ1 at6
+          d6 = Typed.s-seq 𝓤 H A W 𝓣 E G31 G32 b11 b12 Δ1 (Typed.pass T31 T32 s29) at5 (Make.t-enum-make-wt 𝓤 H A W E 𝓣 BlockLength.the-type Laws'.the-laws Laws'.the-plain tt G31 0 (List._∷_
+              (Scalar.oInt Syntax.w8 1) (List._∷_ (Scalar.oAt 18 (Syntax.tyEnum (List._∷_ 115 (List._∷_ 116 (List._∷_ 114 (List._∷_ 101 (List._∷_ 97 (List._∷_ 109 (List._∷_ 58 (List._∷_ 58 (List._∷_ 82
               (List._∷_ 101 (List._∷_ 102 (List._∷_ 117 (List._∷_ 115 (List._∷_ 97 (List._∷_ 108 List.[]))))))))))))))) (Syntax.ttcons Syntax.tnil (Syntax.ttcons Syntax.tnil (Syntax.ttcons Syntax.tnil
               (Syntax.ttcons (Syntax.tcons (Syntax.tyInt Syntax.w64) Syntax.tnil) (Syntax.ttcons Syntax.tnil (Syntax.ttcons Syntax.tnil (Syntax.ttcons Syntax.tnil (Syntax.ttcons Syntax.tnil (Syntax.ttcons
               Syntax.tnil (Syntax.ttcons Syntax.tnil (Syntax.ttcons (Syntax.tcons (Syntax.tyInt Syntax.w64) Syntax.tnil) (Syntax.ttcons (Syntax.tcons (Syntax.tyInt Syntax.w64) Syntax.tnil) (Syntax.ttcons
               Syntax.tnil (Syntax.ttcons (Syntax.tcons (Syntax.tyInt Syntax.w64) (Syntax.tcons (Syntax.tyInt Syntax.w64) Syntax.tnil)) (Syntax.ttcons (Syntax.tcons (Syntax.tyInt Syntax.w64) Syntax.tnil)
               (Syntax.ttcons Syntax.tnil (Syntax.ttcons Syntax.tnil (Syntax.ttcons (Syntax.tcons (Syntax.tyInt Syntax.w64) Syntax.tnil) (Syntax.ttcons (Syntax.tcons (Syntax.tyInt Syntax.w64) Syntax.tnil)
               (Syntax.ttcons (Syntax.tcons (Syntax.tyInt Syntax.w64) Syntax.tnil) (Syntax.ttcons Syntax.tnil Syntax.ttnil)))))))))))))))))))))) (Laws'3.val Refusal.the-type Laws''.the-laws)) List.[])) (λ
-              m. BlockLength.enum .make (Logic.inr (Logic.inl (m .1 .1 .1 .1 .1 .1 .1 .1 .1 .1 .1 .1 .1 .1 .1 .1 .1 .0, tt)))) (Reads'.room-gone 𝓤 H A (Syntax.tyEnum (List._∷_ 115 (List._∷_ 116 (List._∷_
-              114 (List._∷_ 101 (List._∷_ 97 (List._∷_ 109 (List._∷_ 58 (List._∷_ 58 (List._∷_ 66 (List._∷_ 108 (List._∷_ 111 (List._∷_ 99 (List._∷_ 107 (List._∷_ 76 (List._∷_ 101 (List._∷_ 110 (List._∷_
-              103 (List._∷_ 116 (List._∷_ 104 List.[]))))))))))))))))))) (Syntax.ttcons (Syntax.tcons (Syntax.tyInt Syntax.w64) Syntax.tnil) (Syntax.ttcons (Syntax.tcons (Syntax.tyEnum (List._∷_ 115
+              m. BlockLength.enum .make (Logic.inr (Logic.inl (m .1 .1 .1 .1 .1 .1 .1 .1 .1 .1 .1 .1 .1 .1 .1 .1 .1 .1 .0, tt)))) (Reads'.room-gone 𝓤 H A (Syntax.tyEnum (List._∷_ 115 (List._∷_ 116
+              (List._∷_ 114 (List._∷_ 101 (List._∷_ 97 (List._∷_ 109 (List._∷_ 58 (List._∷_ 58 (List._∷_ 66 (List._∷_ 108 (List._∷_ 111 (List._∷_ 99 (List._∷_ 107 (List._∷_ 76 (List._∷_ 101 (List._∷_ 110
+              (List._∷_ 103 (List._∷_ 116 (List._∷_ 104 List.[]))))))))))))))))))) (Syntax.ttcons (Syntax.tcons (Syntax.tyInt Syntax.w64) Syntax.tnil) (Syntax.ttcons (Syntax.tcons (Syntax.tyEnum (List._∷_
+              115 (List._∷_ 116 (List._∷_ 114 (List._∷_ 101 (List._∷_ 97 (List._∷_ 109 (List._∷_ 58 (List._∷_ 58 (List._∷_ 82 (List._∷_ 101 (List._∷_ 102 (List._∷_ 117 (List._∷_ 115 (List._∷_ 97 (List._∷_
+              108 List.[]))))))))))))))) (Syntax.ttcons Syntax.tnil (Syntax.ttcons Syntax.tnil (Syntax.ttcons Syntax.tnil (Syntax.ttcons (Syntax.tcons (Syntax.tyInt Syntax.w64) Syntax.tnil) (Syntax.ttcons
+              Syntax.tnil (Syntax.ttcons Syntax.tnil (Syntax.ttcons Syntax.tnil (Syntax.ttcons Syntax.tnil (Syntax.ttcons Syntax.tnil (Syntax.ttcons Syntax.tnil (Syntax.ttcons (Syntax.tcons (Syntax.tyInt
+              Syntax.w64) Syntax.tnil) (Syntax.ttcons (Syntax.tcons (Syntax.tyInt Syntax.w64) Syntax.tnil) (Syntax.ttcons Syntax.tnil (Syntax.ttcons (Syntax.tcons (Syntax.tyInt Syntax.w64) (Syntax.tcons
+              (Syntax.tyInt Syntax.w64) Syntax.tnil)) (Syntax.ttcons (Syntax.tcons (Syntax.tyInt Syntax.w64) Syntax.tnil) (Syntax.ttcons Syntax.tnil (Syntax.ttcons Syntax.tnil (Syntax.ttcons (Syntax.tcons
+              (Syntax.tyInt Syntax.w64) Syntax.tnil) (Syntax.ttcons (Syntax.tcons (Syntax.tyInt Syntax.w64) Syntax.tnil) (Syntax.ttcons (Syntax.tcons (Syntax.tyInt Syntax.w64) Syntax.tnil) (Syntax.ttcons
+              Syntax.tnil Syntax.ttnil)))))))))))))))))))))) Syntax.tnil) Syntax.ttnil)))) (tt, ((Whole.reads-enum 𝓤 H A W Refusal.the-type Laws''.the-laws, Path'.refl), tt)) Path'.refl (λ m wa.
+              Make.made-val BlockLength.the-type Laws'.the-laws (List._∷_ (Laws'3.val Refusal.the-type Laws''.the-laws (m .1 .1 .1 .1 .1 .1 .1 .1 .1 .1 .1 .1 .1 .1 .1 .1 .1 .1 .0)) List.[])
+              (BlockLength.enum .make (Logic.inr (Logic.inl (m .1 .1 .1 .1 .1 .1 .1 .1 .1 .1 .1 .1 .1 .1 .1 .1 .1 .1 .0, tt)))) (
+                Signed.made-wt Refusal.the-field Laws''.the-field-laws (Whole.enum-wt Refusal.the-type Laws''.the-laws (
+                  tt,
+                  (
+                    tt,
+                    (
+                      tt,
+                      (
+                        (Make'.u64-wt, tt),
+                        (
+                          tt,
+                          (
+                            tt,
+                            (
+                              tt,
+                              (
+                                tt,
+                                (
+                                  tt,
+                                  (
+                                    tt,
+                                    (
+                                      (Make'.u64-wt, tt),
+                                      ((Make'.u64-wt, tt), (tt, ((Make'.u64-wt, (Make'.u64-wt, tt)), ((Make'.u64-wt, tt), (tt, (tt, ((Make'.u64-wt, tt), ((Make'.u64-wt, tt), ((Make'.u64-wt, tt), (tt, tt)))))))))),
+                                    ),
+                                  ),
+                                ),
+                              ),
+                            ),
+                          ),
+                        ),
+                      ),
+                    ),
+                  ),
+                ))
+                    (Refusal.the-type .to (m .1 .1 .1 .1 .1 .1 .1 .1 .1 .1 .1 .1 .1 .1 .1 .1 .1 .1 .0)),
+                tt,
+              ) (wa .1)) λ m wa. Make.made-is BlockLength.the-type Laws'.the-laws (List._∷_ (Laws'3.val
+              Refusal.the-type Laws''.the-laws (m .1 .1 .1 .1 .1 .1 .1 .1 .1 .1 .1 .1 .1 .1 .1 .1 .1 .1 .0)) List.[]) (BlockLength.enum .make (Logic.inr (Logic.inl
+              (m .1 .1 .1 .1 .1 .1 .1 .1 .1 .1 .1 .1 .1 .1 .1 .1 .1 .1 .0, tt)))) (
+                Signed.made-wt Refusal.the-field Laws''.the-field-laws (Whole.enum-wt Refusal.the-type Laws''.the-laws (
+                  tt,
+                  (
+                    tt,
+                    (
+                      tt,
+                      (
+                        (Make'.u64-wt, tt),
+                        (
+                          tt,
+                          (
+                            tt,
+                            (
+                              tt,
+                              (
+                                tt,
+                                (
+                                  tt,
+                                  (
+                                    tt,
+                                    (
+                                      (Make'.u64-wt, tt),
+                                      ((Make'.u64-wt, tt), (tt, ((Make'.u64-wt, (Make'.u64-wt, tt)), ((Make'.u64-wt, tt), (tt, (tt, ((Make'.u64-wt, tt), ((Make'.u64-wt, tt), ((Make'.u64-wt, tt), (tt, tt)))))))))),
+                                    ),
+                                  ),
+                                ),
+                              ),
+                            ),
+                          ),
+                        ),
+                      ),
+                    ),
+                  ),
+                ))
+                    (Refusal.the-type .to (m .1 .1 .1 .1 .1 .1 .1 .1 .1 .1 .1 .1 .1 .1 .1 .1 .1 .1 .0)),
+                tt,
+              ) (wa .1)) d5
+
+          d7 : Typed.Typed 𝓤 H A 𝓣 E G30 b14 Δ1 at7
+          d7 = Typed.s-seq 𝓤 H A W 𝓣 E G30 G31 b10 b13 Δ1 (Typed.pass T29 T31 s28) at6 (Make.t-enum-make-wt 𝓤 H A W E 𝓣 Refusal.the-type Laws''.the-laws Laws''.the-plain tt G30 18 (List._∷_
+              (Scalar.oInt Syntax.w8 10) (List._∷_ (Scalar.oAt 10 (Syntax.tyInt Syntax.w64) (Row.valS (Row.sInt Syntax.w64))) List.[])) (λ m. Refusal.enum .make (Logic.inr (Logic.inr (Logic.inr (Logic.inr
+              (Logic.inr (Logic.inr (Logic.inr (Logic.inr (Logic.inr (Logic.inr (Logic.inl (m .1 .1 .1 .1 .1 .1 .1 .1 .1 .1 .0, tt))))))))))))) (Reads'.room-gone 𝓤 H A (Syntax.tyEnum (List._∷_ 115
               (List._∷_ 116 (List._∷_ 114 (List._∷_ 101 (List._∷_ 97 (List._∷_ 109 (List._∷_ 58 (List._∷_ 58 (List._∷_ 82 (List._∷_ 101 (List._∷_ 102 (List._∷_ 117 (List._∷_ 115 (List._∷_ 97 (List._∷_ 108
               List.[]))))))))))))))) (Syntax.ttcons Syntax.tnil (Syntax.ttcons Syntax.tnil (Syntax.ttcons Syntax.tnil (Syntax.ttcons (Syntax.tcons (Syntax.tyInt Syntax.w64) Syntax.tnil) (Syntax.ttcons
               Syntax.tnil (Syntax.ttcons Syntax.tnil (Syntax.ttcons Syntax.tnil (Syntax.ttcons Syntax.tnil (Syntax.ttcons Syntax.tnil (Syntax.ttcons Syntax.tnil (Syntax.ttcons (Syntax.tcons (Syntax.tyInt
               Syntax.w64) Syntax.tnil) (Syntax.ttcons (Syntax.tcons (Syntax.tyInt Syntax.w64) Syntax.tnil) (Syntax.ttcons Syntax.tnil (Syntax.ttcons (Syntax.tcons (Syntax.tyInt Syntax.w64) (Syntax.tcons
               (Syntax.tyInt Syntax.w64) Syntax.tnil)) (Syntax.ttcons (Syntax.tcons (Syntax.tyInt Syntax.w64) Syntax.tnil) (Syntax.ttcons Syntax.tnil (Syntax.ttcons Syntax.tnil (Syntax.ttcons (Syntax.tcons
               (Syntax.tyInt Syntax.w64) Syntax.tnil) (Syntax.ttcons (Syntax.tcons (Syntax.tyInt Syntax.w64) Syntax.tnil) (Syntax.ttcons (Syntax.tcons (Syntax.tyInt Syntax.w64) Syntax.tnil) (Syntax.ttcons
-              Syntax.tnil Syntax.ttnil)))))))))))))))))))))) Syntax.tnil) Syntax.ttnil)))) (tt, ((Whole.reads-enum 𝓤 H A W Refusal.the-type Laws''.the-laws, Path'.refl), tt)) Path'.refl (λ m wa.
-              Make.made-val BlockLength.the-type Laws'.the-laws (List._∷_ (Laws'3.val Refusal.the-type Laws''.the-laws (m .1 .1 .1 .1 .1 .1 .1 .1 .1 .1 .1 .1 .1 .1 .1 .1 .1 .0)) List.[]) (BlockLength.enum
-              .make (Logic.inr (Logic.inl (m .1 .1 .1 .1 .1 .1 .1 .1 .1 .1 .1 .1 .1 .1 .1 .1 .1 .0, tt)))) (
-                Signed.made-wt Refusal.the-field Laws''.the-field-laws (Whole.enum-wt Refusal.the-type Laws''.the-laws (
-                  tt,
-                  (
-                    tt,
-                    (
-                      tt,
-                      (
-                        (Make'.u64-wt, tt),
-                        (
-                          tt,
-                          (
-                            tt,
-                            (
-                              tt,
-                              (
-                                tt,
-                                (
-                                  tt,
-                                  (
-                                    tt,
-                                    (
-                                      (Make'.u64-wt, tt),
-                                      ((Make'.u64-wt, tt), (tt, ((Make'.u64-wt, (Make'.u64-wt, tt)), ((Make'.u64-wt, tt), (tt, (tt, ((Make'.u64-wt, tt), ((Make'.u64-wt, tt), ((Make'.u64-wt, tt), (tt, tt)))))))))),
-                                    ),
-                                  ),
-                                ),
-                              ),
-                            ),
-                          ),
-                        ),
-                      ),
-                    ),
-                  ),
-                ))
-                    (Refusal.the-type .to (m .1 .1 .1 .1 .1 .1 .1 .1 .1 .1 .1 .1 .1 .1 .1 .1 .1 .0)),
-                tt,
-              ) (wa .1)) λ m wa. Make.made-is BlockLength.the-type Laws'.the-laws (List._∷_ (Laws'3.val Refusal.the-type
-              Laws''.the-laws (m .1 .1 .1 .1 .1 .1 .1 .1 .1 .1 .1 .1 .1 .1 .1 .1 .1 .0)) List.[]) (BlockLength.enum .make (Logic.inr (Logic.inl
-              (m .1 .1 .1 .1 .1 .1 .1 .1 .1 .1 .1 .1 .1 .1 .1 .1 .1 .0, tt)))) (
-                Signed.made-wt Refusal.the-field Laws''.the-field-laws (Whole.enum-wt Refusal.the-type Laws''.the-laws (
-                  tt,
-                  (
-                    tt,
-                    (
-                      tt,
-                      (
-                        (Make'.u64-wt, tt),
-                        (
-                          tt,
-                          (
-                            tt,
-                            (
-                              tt,
-                              (
-                                tt,
-                                (
-                                  tt,
-                                  (
-                                    tt,
-                                    (
-                                      (Make'.u64-wt, tt),
-                                      ((Make'.u64-wt, tt), (tt, ((Make'.u64-wt, (Make'.u64-wt, tt)), ((Make'.u64-wt, tt), (tt, (tt, ((Make'.u64-wt, tt), ((Make'.u64-wt, tt), ((Make'.u64-wt, tt), (tt, tt)))))))))),
-                                    ),
-                                  ),
-                                ),
-                              ),
-                            ),
-                          ),
-                        ),
-                      ),
-                    ),
-                  ),
-                ))
-                    (Refusal.the-type .to (m .1 .1 .1 .1 .1 .1 .1 .1 .1 .1 .1 .1 .1 .1 .1 .1 .1 .0)),
-                tt,
-              ) (wa .1)) d5
-
-          d7 : Typed.Typed 𝓤 H A 𝓣 E G29 b14 Δ1 at7
-          d7 = Typed.s-seq 𝓤 H A W 𝓣 E G29 G30 b10 b13 Δ1 (Typed.pass T28 T30 s27) at6 (Make.t-enum-make-wt 𝓤 H A W E 𝓣 Refusal.the-type Laws''.the-laws Laws''.the-plain tt G29 17 (List._∷_
-              (Scalar.oInt Syntax.w8 10) (List._∷_ (Scalar.oAt 9 (Syntax.tyInt Syntax.w64) (Row.valS (Row.sInt Syntax.w64))) List.[])) (λ m. Refusal.enum .make (Logic.inr (Logic.inr (Logic.inr (Logic.inr
-              (Logic.inr (Logic.inr (Logic.inr (Logic.inr (Logic.inr (Logic.inr (Logic.inl (m .1 .1 .1 .1 .1 .1 .1 .1 .1 .0, tt))))))))))))) (Reads'.room-gone 𝓤 H A (Syntax.tyEnum (List._∷_ 115 (List._∷_
-              116 (List._∷_ 114 (List._∷_ 101 (List._∷_ 97 (List._∷_ 109 (List._∷_ 58 (List._∷_ 58 (List._∷_ 82 (List._∷_ 101 (List._∷_ 102 (List._∷_ 117 (List._∷_ 115 (List._∷_ 97 (List._∷_ 108
-              List.[]))))))))))))))) (Syntax.ttcons Syntax.tnil (Syntax.ttcons Syntax.tnil (Syntax.ttcons Syntax.tnil (Syntax.ttcons (Syntax.tcons (Syntax.tyInt Syntax.w64) Syntax.tnil) (Syntax.ttcons
-              Syntax.tnil (Syntax.ttcons Syntax.tnil (Syntax.ttcons Syntax.tnil (Syntax.ttcons Syntax.tnil (Syntax.ttcons Syntax.tnil (Syntax.ttcons Syntax.tnil (Syntax.ttcons (Syntax.tcons (Syntax.tyInt
-              Syntax.w64) Syntax.tnil) (Syntax.ttcons (Syntax.tcons (Syntax.tyInt Syntax.w64) Syntax.tnil) (Syntax.ttcons Syntax.tnil (Syntax.ttcons (Syntax.tcons (Syntax.tyInt Syntax.w64) (Syntax.tcons
-              (Syntax.tyInt Syntax.w64) Syntax.tnil)) (Syntax.ttcons (Syntax.tcons (Syntax.tyInt Syntax.w64) Syntax.tnil) (Syntax.ttcons Syntax.tnil (Syntax.ttcons Syntax.tnil (Syntax.ttcons (Syntax.tcons
-              (Syntax.tyInt Syntax.w64) Syntax.tnil) (Syntax.ttcons (Syntax.tcons (Syntax.tyInt Syntax.w64) Syntax.tnil) (Syntax.ttcons (Syntax.tcons (Syntax.tyInt Syntax.w64) Syntax.tnil) (Syntax.ttcons
               Syntax.tnil Syntax.ttnil))))))))))))))))))))))) (tt, ((Scalar.reads-sc 𝓤 H A W (Row.sInt Syntax.w64), Path'.refl), tt)) Path'.refl (λ m wa. Make.made-val Refusal.the-type Laws''.the-laws
-              (List._∷_ (Laws''.the-laws .1 .1 .1 .1 .1 .1 .1 .1 .1 .1 .0 .0 .val (m .1 .1 .1 .1 .1 .1 .1 .1 .1 .0)) List.[]) (Refusal.enum .make (Logic.inr (Logic.inr (Logic.inr (Logic.inr (Logic.inr
-              (Logic.inr (Logic.inr (Logic.inr (Logic.inr (Logic.inr (Logic.inl (m .1 .1 .1 .1 .1 .1 .1 .1 .1 .0, tt)))))))))))))
-              (Signed.made-wt Field.u64-field (Laws''.the-laws .1 .1 .1 .1 .1 .1 .1 .1 .1 .1 .0 .0) Make'.u64-wt (m .1 .1 .1 .1 .1 .1 .1 .1 .1 .0), tt) (wa .1)) λ m wa. Make.made-is Refusal.the-type
-              Laws''.the-laws (List._∷_ (Laws''.the-laws .1 .1 .1 .1 .1 .1 .1 .1 .1 .1 .0 .0 .val (m .1 .1 .1 .1 .1 .1 .1 .1 .1 .0)) List.[]) (Refusal.enum .make (Logic.inr (Logic.inr (Logic.inr
-              (Logic.inr (Logic.inr (Logic.inr (Logic.inr (Logic.inr (Logic.inr (Logic.inr (Logic.inl (m .1 .1 .1 .1 .1 .1 .1 .1 .1 .0, tt)))))))))))))
-              (Signed.made-wt Field.u64-field (Laws''.the-laws .1 .1 .1 .1 .1 .1 .1 .1 .1 .1 .0 .0) Make'.u64-wt (m .1 .1 .1 .1 .1 .1 .1 .1 .1 .0), tt) (wa .1)) d6
+              (List._∷_ (Laws''.the-laws .1 .1 .1 .1 .1 .1 .1 .1 .1 .1 .0 .0 .val (m .1 .1 .1 .1 .1 .1 .1 .1 .1 .1 .0)) List.[]) (Refusal.enum .make (Logic.inr (Logic.inr (Logic.inr (Logic.inr (Logic.inr
+              (Logic.inr (Logic.inr (Logic.inr (Logic.inr (Logic.inr (Logic.inl (m .1 .1 .1 .1 .1 .1 .1 .1 .1 .1 .0, tt)))))))))))))
+              (Signed.made-wt Field.u64-field (Laws''.the-laws .1 .1 .1 .1 .1 .1 .1 .1 .1 .1 .0 .0) Make'.u64-wt (m .1 .1 .1 .1 .1 .1 .1 .1 .1 .1 .0), tt) (wa .1)) λ m wa. Make.made-is Refusal.the-type
+              Laws''.the-laws (List._∷_ (Laws''.the-laws .1 .1 .1 .1 .1 .1 .1 .1 .1 .1 .0 .0 .val (m .1 .1 .1 .1 .1 .1 .1 .1 .1 .1 .0)) List.[]) (Refusal.enum .make (Logic.inr (Logic.inr (Logic.inr
+              (Logic.inr (Logic.inr (Logic.inr (Logic.inr (Logic.inr (Logic.inr (Logic.inr (Logic.inl (m .1 .1 .1 .1 .1 .1 .1 .1 .1 .1 .0, tt)))))))))))))
+              (Signed.made-wt Field.u64-field (Laws''.the-laws .1 .1 .1 .1 .1 .1 .1 .1 .1 .1 .0 .0) Make'.u64-wt (m .1 .1 .1 .1 .1 .1 .1 .1 .1 .1 .0), tt) (wa .1)) d6
 
-          d8 : Typed.Typed 𝓤 H A 𝓣 E G28 b14 Δ1 at8
-          d8 = Typed.g-pre 𝓤 H A W 𝓣 E G28 G29 b14 Δ1 (λ Ψ. Ψ) at7 (Lifetime.g-forget 𝓤 H A W E G28 5 Row.dead Path'.refl) d7
+          d8 : Typed.Typed 𝓤 H A 𝓣 E G29 b14 Δ1 at8
+          d8 = Typed.g-pre 𝓤 H A W 𝓣 E G29 G30 b14 Δ1 (λ Ψ. Ψ) at7 (Lifetime.g-forget 𝓤 H A W E G29 6 Row.dead Path'.refl) d7
 
-          d9 : Typed.Typed 𝓤 H A 𝓣 E G27 b14 Δ1 at9
-          d9 = Typed.g-pre 𝓤 H A W 𝓣 E G27 G28 b14 Δ1 (Typed.both s25) at8 (Relend.g-back-sl 𝓤 H A W E (Element.type) G27 16 5 3 5 (Syntax.tyRef (Syntax.named 3) Syntax.mut Element.behind)
+          d9 : Typed.Typed 𝓤 H A 𝓣 E G28 b14 Δ1 at9
+          d9 = Typed.g-pre 𝓤 H A W 𝓣 E G28 G29 b14 Δ1 (Typed.both s26) at8 (Relend.g-back-sl 𝓤 H A W E (Element.type) G28 17 5 3 6 (Syntax.tyRef (Syntax.named 3) Syntax.mut Element.behind)
               (Syntax.tyRef Syntax.erased Syntax.mut Element.behind) (Row.lease (κs .1 .1 .1 .0) (qs .1 .1 .1 .0)) (λ x. x) (λ x. x) (Reads'.as-is 𝓤 H A (Mut.msleft (Element.type) (Syntax.tyRef
-              Syntax.erased Syntax.mut Element.behind))) (Reads'.as-is 𝓤 H A (Relend.mslice-owed (Element.type) (Syntax.tyRef (Syntax.named 3) Syntax.mut Element.behind) 3 5 (Row.lease (κs .1 .1 .1 .0)
+              Syntax.erased Syntax.mut Element.behind))) (Reads'.as-is 𝓤 H A (Relend.mslice-owed (Element.type) (Syntax.tyRef (Syntax.named 3) Syntax.mut Element.behind) 3 6 (Row.lease (κs .1 .1 .1 .0)
               (qs .1 .1 .1 .0)))) Path'.refl Path'.refl) d8
 
-          d10 : Typed.Typed 𝓤 H A 𝓣 E G26 b14 Δ1 at10
-          d10 = Typed.g-pre 𝓤 H A W 𝓣 E G26 G27 b14 Δ1 (λ Ψ. Ψ) at9 (Lifetime.g-end 𝓤 H A W E G26 5 Path'.refl) d9
+          d10 : Typed.Typed 𝓤 H A 𝓣 E G27 b14 Δ1 at10
+          d10 = Typed.g-pre 𝓤 H A W 𝓣 E G27 G28 b14 Δ1 (λ Ψ. Ψ) at9 (Lifetime.g-end 𝓤 H A W E G27 6 Path'.refl) d9
 
-          d11 : Typed.Typed 𝓤 H A 𝓣 E G25 b14 Δ1 at11
-          d11 = Typed.g-pre 𝓤 H A W 𝓣 E G25 G26 b14 Δ1 (Typed.pass T25 T26 s23) at10 (Scalar.g-room 𝓤 H A W E G25 12 Syntax.tyUnit (Scalar.room-sc 𝓤 H A W Row.sUnit)) d10
+          d11 : Typed.Typed 𝓤 H A 𝓣 E G26 b14 Δ1 at11
+          d11 = Typed.g-pre 𝓤 H A W 𝓣 E G26 G27 b14 Δ1 (Typed.pass T26 T27 s24) at10 (Scalar.g-room 𝓤 H A W E G26 13 Syntax.tyUnit (Scalar.room-sc 𝓤 H A W Row.sUnit)) d10
 
-          d12 : Typed.Typed 𝓤 H A 𝓣 E G24 b15 Δ1 at12
-          d12 = Typed.s-seq 𝓤 H A W 𝓣 E G24 G25 b9 b14 Δ1 (Typed.both s22) at11 (Plain.t-call-plain 𝓤 H A W 𝓣 1 ps·3 r·3 (claims· .6) (claims· .7) "block::records::clear_records" (known .3) E (λ pos
-              β. β) G24 (record { pos = 16; ty = Syntax.tyRef Syntax.erased Syntax.mut Element.behind; ref = λ x. x }, tt) 12 (List._∷_ 5 List.[]) (Call.sub-id 𝓤 H A W (G24 .slots)) (
-                Reads'.as-is 𝓤 H A (Mut.mslice (Element.type) (Syntax.tyRef Syntax.erased Syntax.mut Element.behind) 5),
+          d12 : Typed.Typed 𝓤 H A 𝓣 E G25 b15 Δ1 at12
+          d12 = Typed.s-seq 𝓤 H A W 𝓣 E G25 G26 b9 b14 Δ1 (Typed.both s23) at11 (Plain.t-call-plain 𝓤 H A W 𝓣 1 ps·3 r·3 (claims· .6) (claims· .7) "block::records::clear_records" (known .3) E (λ pos
+              β. β) G25 (record { pos = 17; ty = Syntax.tyRef Syntax.erased Syntax.mut Element.behind; ref = λ x. x }, tt) 13 (List._∷_ 6 List.[]) (Call.sub-id 𝓤 H A W (G25 .slots)) (
+                Reads'.as-is 𝓤 H A (Mut.mslice (Element.type) (Syntax.tyRef Syntax.erased Syntax.mut Element.behind) 6),
                 Mut.reads-mslice 𝓤 H A W (Element.type) (Syntax.tyRef Syntax.erased Syntax.mut
-                    Element.behind) 5,
+                    Element.behind) 6,
                 Path'.refl,
                 tt,
               ) (Reads'.room-gone 𝓤 H A Syntax.tyUnit) (tt, tt) Path'.refl) d11
 
-          d13 : Typed.Typed 𝓤 H A 𝓣 E G23 b16 Δ1 at13
-          d13 = Typed.s-seq 𝓤 H A W 𝓣 E G23 G24 b8 b15 Δ1 (Typed.ask s21) at12 (Relend.t-sl-aggregate 𝓤 H A W E (Element.type) 𝓣 (Relend.asMut (Element.type)) G23 15 16 5 (Syntax.tyRef Syntax.erased
+          d13 : Typed.Typed 𝓤 H A 𝓣 E G24 b16 Δ1 at13
+          d13 = Typed.s-seq 𝓤 H A W 𝓣 E G24 G25 b8 b15 Δ1 (Typed.ask s22) at12 (Relend.t-sl-aggregate 𝓤 H A W E (Element.type) 𝓣 (Relend.asMut (Element.type)) G24 16 17 6 (Syntax.tyRef Syntax.erased
               Syntax.mut Element.behind) (Syntax.tyRef Syntax.erased Syntax.mut Element.behind) (λ x. x) (Scalar.oFld 5 (List._∷_ (Syntax.field 1) List.[]) (Syntax.tyInt Syntax.w64) 8 λ v. Shared.lenV (v
-              .0)) (Reads'.as-is 𝓤 H A (Relend.msptr (Element.type) (Syntax.tyRef Syntax.erased Syntax.mut Element.behind) 5)) (Reads'.room-gone 𝓤 H A y2)
-              (Relend.reads-owed-len 𝓤 H A W (Element.type) (Syntax.tyRef (Syntax.named 3) Syntax.mut Element.behind) 3 5 (Row.lease (κs .1 .1 .1 .0) (qs .1 .1 .1 .0)) 8 Path'.refl, Path'.refl) Path'.refl
+              .0)) (Reads'.as-is 𝓤 H A (Relend.msptr (Element.type) (Syntax.tyRef Syntax.erased Syntax.mut Element.behind) 6)) (Reads'.room-gone 𝓤 H A y2)
+              (Relend.reads-owed-len 𝓤 H A W (Element.type) (Syntax.tyRef (Syntax.named 3) Syntax.mut Element.behind) 3 6 (Row.lease (κs .1 .1 .1 .0) (qs .1 .1 .1 .0)) 8 Path'.refl, Path'.refl) Path'.refl
               Path'.refl λ b o k. tt) d12
 
-          d14 : Typed.Typed 𝓤 H A 𝓣 E G22 b17 Δ1 at14
-          d14 = Typed.s-seq 𝓤 H A W 𝓣 E G22 G23 b7 b16 Δ1 (Typed.give s20) at13 (Relend.t-sl-relend 𝓤 H A W E (Element.type) 𝓣 G22 5 15 3 5 (Syntax.tyRef (Syntax.named 3) Syntax.mut Element.behind)
+          d14 : Typed.Typed 𝓤 H A 𝓣 E G23 b17 Δ1 at14
+          d14 = Typed.s-seq 𝓤 H A W 𝓣 E G23 G24 b7 b16 Δ1 (Typed.give s21) at13 (Relend.t-sl-relend 𝓤 H A W E (Element.type) 𝓣 G23 5 16 3 6 (Syntax.tyRef (Syntax.named 3) Syntax.mut Element.behind)
               (Syntax.tyRef Syntax.erased Syntax.mut Element.behind) (Row.lease (κs .1 .1 .1 .0) (qs .1 .1 .1 .0)) 0 (λ x. x) (Reads'.as-is 𝓤 H A (Mut.mslice (Element.type) (Syntax.tyRef (Syntax.named 3)
               Syntax.mut Element.behind) 3)) (Reads'.room-gone 𝓤 H A (Syntax.tyRef Syntax.erased Syntax.mut Element.behind)) Path'.refl tt Path'.refl Path'.refl Path'.refl λ b o. tt) d13
 
-          d15 : Typed.Typed 𝓤 H A 𝓣 E G21 b17 Δ1 at15
-          d15 = Typed.g-pre 𝓤 H A W 𝓣 E G21 G22 b17 Δ1 (λ Ψ. Ψ) at14 (Lifetime.g-begin 𝓤 H A W E G21 5
-              (tt, (tt, (tt, (tt, (tt, (tt, (tt, (tt, (tt, (tt, (tt, (tt, (tt, (tt, (tt, (tt, (tt, (tt, (tt, (tt, (tt, (tt, (tt, (tt, tt))))))))))))))))))))))))) d14
+          d15 : Typed.Typed 𝓤 H A 𝓣 E G22 b17 Δ1 at15
+          d15 = Typed.g-pre 𝓤 H A W 𝓣 E G22 G23 b17 Δ1 (λ Ψ. Ψ) at14 (Lifetime.g-begin 𝓤 H A W E G22 6
+              (tt, (tt, (tt, (tt, (tt, (tt, (tt, (tt, (tt, (tt, (tt, (tt, (tt, (tt, (tt, (tt, (tt, (tt, (tt, (tt, (tt, (tt, (tt, (tt, (tt, tt)))))))))))))))))))))))))) d14
 
-          d16 : Typed.Typed 𝓤 H A 𝓣 E G20 b17 Δ1 at16
-          d16 = Typed.g-pre 𝓤 H A W 𝓣 E G20 G21 b17 Δ1 (λ Ψ. Ψ) at15 (Lifetime.g-forget 𝓤 H A W E G20 4 Row.dead Path'.refl) d15
+          d16 : Typed.Typed 𝓤 H A 𝓣 E G21 b17 Δ1 at16
+          d16 = Typed.g-pre 𝓤 H A W 𝓣 E G21 G22 b17 Δ1 (λ Ψ. Ψ) at15 (Lifetime.g-forget 𝓤 H A W E G21 5 Row.dead Path'.refl) d15
 
-          d17 : Typed.Typed 𝓤 H A 𝓣 E G19 b17 Δ1 at17
-          d17 = Typed.g-pre 𝓤 H A W 𝓣 E G19 G20 b17 Δ1 (Typed.give s17) at16 (Know.g-sl-known 𝓤 H A W (Referent.fInt Syntax.w16) E G19 4 2 (Syntax.tyRef (Syntax.named 2) Syntax.mut (Syntax.tyInt
+          d17 : Typed.Typed 𝓤 H A 𝓣 E G20 b17 Δ1 at17
+          d17 = Typed.g-pre 𝓤 H A W 𝓣 E G20 G21 b17 Δ1 (Typed.give s18) at16 (Know.g-sl-known 𝓤 H A W (Referent.fInt Syntax.w16) E G20 4 2 (Syntax.tyRef (Syntax.named 2) Syntax.mut (Syntax.tyInt
               Syntax.w16)) (Row.lease (κs .1 .1 .0) (qs .1 .1 .0)) 0 (λ x. x) record { fits = Dec'.lit< tt } (Reads'.as-is 𝓤 H A (Mut.mslice (Referent.rtF (Referent.fInt Syntax.w16)) (Syntax.tyRef
               (Syntax.named 2) Syntax.mut (Syntax.tyInt Syntax.w16)) 2)) Path'.refl tt) d16
 
-          d18 : Typed.Typed 𝓤 H A 𝓣 E G18 b17 Δ1 at18
-          d18 = Typed.g-pre 𝓤 H A W 𝓣 E G18 G19 b17 Δ1 (Typed.both s16) at17 (Relend.g-back-sl 𝓤 H A W E (Referent.rtF (Referent.fInt Syntax.w16)) G18 14 4 2 4 (Syntax.tyRef (Syntax.named 2)
+          d18 : Typed.Typed 𝓤 H A 𝓣 E G19 b17 Δ1 at18
+          d18 = Typed.g-pre 𝓤 H A W 𝓣 E G19 G20 b17 Δ1 (Typed.both s17) at17 (Relend.g-back-sl 𝓤 H A W E (Referent.rtF (Referent.fInt Syntax.w16)) G19 15 4 2 5 (Syntax.tyRef (Syntax.named 2)
               Syntax.mut (Syntax.tyInt Syntax.w16)) (Syntax.tyRef Syntax.erased Syntax.mut (Syntax.tyInt Syntax.w16)) (Row.lease (κs .1 .1 .0) (qs .1 .1 .0)) (λ x. x) (λ x. x) (Reads'.as-is 𝓤 H A
               (Mut.msleft (Referent.rtF (Referent.fInt Syntax.w16)) (Syntax.tyRef Syntax.erased Syntax.mut (Syntax.tyInt Syntax.w16)))) (Reads'.as-is 𝓤 H A (Relend.mslice-owed (Referent.rtF (Referent.fInt
-              Syntax.w16)) (Syntax.tyRef (Syntax.named 2) Syntax.mut (Syntax.tyInt Syntax.w16)) 2 4 (Row.lease (κs .1 .1 .0) (qs .1 .1 .0)))) Path'.refl Path'.refl) d17
+              Syntax.w16)) (Syntax.tyRef (Syntax.named 2) Syntax.mut (Syntax.tyInt Syntax.w16)) 2 5 (Row.lease (κs .1 .1 .0) (qs .1 .1 .0)))) Path'.refl Path'.refl) d17
 
-          d19 : Typed.Typed 𝓤 H A 𝓣 E G17 b17 Δ1 at19
-          d19 = Typed.g-pre 𝓤 H A W 𝓣 E G17 G18 b17 Δ1 (λ Ψ. Ψ) at18 (Lifetime.g-end 𝓤 H A W E G17 4 Path'.refl) d18
+          d19 : Typed.Typed 𝓤 H A 𝓣 E G18 b17 Δ1 at19
+          d19 = Typed.g-pre 𝓤 H A W 𝓣 E G18 G19 b17 Δ1 (λ Ψ. Ψ) at18 (Lifetime.g-end 𝓤 H A W E G18 5 Path'.refl) d18
 
-          d20 : Typed.Typed 𝓤 H A 𝓣 E G16 b17 Δ1 at20
-          d20 = Typed.g-pre 𝓤 H A W 𝓣 E G16 G17 b17 Δ1 (Typed.pass T16 T17 s14) at19 (Scalar.g-room 𝓤 H A W E G16 12 Syntax.tyUnit (Scalar.room-sc 𝓤 H A W Row.sUnit)) d19
+          d20 : Typed.Typed 𝓤 H A 𝓣 E G17 b17 Δ1 at20
+          d20 = Typed.g-pre 𝓤 H A W 𝓣 E G17 G18 b17 Δ1 (Typed.pass T17 T18 s15) at19 (Scalar.g-room 𝓤 H A W E G17 13 Syntax.tyUnit (Scalar.room-sc 𝓤 H A W Row.sUnit)) d19
 
-          d21 : Typed.Typed 𝓤 H A 𝓣 E G15 b18 Δ1 at21
-          d21 = Typed.s-seq 𝓤 H A W 𝓣 E G15 G16 b6 b17 Δ1 (Typed.both s13) at20 (Plain.t-call-plain 𝓤 H A W 𝓣 1 ps·2 r·2 (claims· .4) (claims· .5) "lines::clear" (known .2) E (λ pos β. β) G15
-              (record { pos = 14; ty = Syntax.tyRef Syntax.erased Syntax.mut (Syntax.tyInt Syntax.w16); ref = λ x. x }, tt) 12 (List._∷_ 4 List.[]) (Call.sub-id 𝓤 H A W (G15 .slots)) (
-                Reads'.as-is 𝓤 H A (Mut.mslice (Referent.rtF (Referent.fInt Syntax.w16)) (Syntax.tyRef Syntax.erased Syntax.mut (Syntax.tyInt Syntax.w16)) 4),
+          d21 : Typed.Typed 𝓤 H A 𝓣 E G16 b18 Δ1 at21
+          d21 = Typed.s-seq 𝓤 H A W 𝓣 E G16 G17 b6 b17 Δ1 (Typed.both s14) at20 (Plain.t-call-plain 𝓤 H A W 𝓣 1 ps·2 r·2 (claims· .4) (claims· .5) "lines::clear" (known .2) E (λ pos β. β) G16
+              (record { pos = 15; ty = Syntax.tyRef Syntax.erased Syntax.mut (Syntax.tyInt Syntax.w16); ref = λ x. x }, tt) 13 (List._∷_ 5 List.[]) (Call.sub-id 𝓤 H A W (G16 .slots)) (
+                Reads'.as-is 𝓤 H A (Mut.mslice (Referent.rtF (Referent.fInt Syntax.w16)) (Syntax.tyRef Syntax.erased Syntax.mut (Syntax.tyInt Syntax.w16)) 5),
                 Mut.reads-mslice 𝓤 H A W (Referent.rtF
-                    (Referent.fInt Syntax.w16)) (Syntax.tyRef Syntax.erased Syntax.mut (Syntax.tyInt Syntax.w16)) 4,
+                    (Referent.fInt Syntax.w16)) (Syntax.tyRef Syntax.erased Syntax.mut (Syntax.tyInt Syntax.w16)) 5,
                 Path'.refl,
                 tt,
               ) (Reads'.room-gone 𝓤 H A Syntax.tyUnit) (tt, tt) Path'.refl) d20
 
-          d22 : Typed.Typed 𝓤 H A 𝓣 E G14 b19 Δ1 at22
-          d22 = Typed.s-seq 𝓤 H A W 𝓣 E G14 G15 b5 b18 Δ1 (Typed.ask s12) at21 (Relend.t-sl-aggregate 𝓤 H A W E (Referent.rtF (Referent.fInt Syntax.w16)) 𝓣 (Relend.asMut (Referent.rtF (Referent.fInt
-              Syntax.w16))) G14 13 14 4 (Syntax.tyRef Syntax.erased Syntax.mut (Syntax.tyInt Syntax.w16)) (Syntax.tyRef Syntax.erased Syntax.mut (Syntax.tyInt Syntax.w16)) (λ x. x) (Scalar.oFld 4
+          d22 : Typed.Typed 𝓤 H A 𝓣 E G15 b19 Δ1 at22
+          d22 = Typed.s-seq 𝓤 H A W 𝓣 E G15 G16 b5 b18 Δ1 (Typed.ask s13) at21 (Relend.t-sl-aggregate 𝓤 H A W E (Referent.rtF (Referent.fInt Syntax.w16)) 𝓣 (Relend.asMut (Referent.rtF (Referent.fInt
+              Syntax.w16))) G15 14 15 5 (Syntax.tyRef Syntax.erased Syntax.mut (Syntax.tyInt Syntax.w16)) (Syntax.tyRef Syntax.erased Syntax.mut (Syntax.tyInt Syntax.w16)) (λ x. x) (Scalar.oFld 4
               (List._∷_ (Syntax.field 1) List.[]) (Syntax.tyInt Syntax.w64) 8 λ v. Shared.lenV (v .0)) (Reads'.as-is 𝓤 H A (Relend.msptr (Referent.rtF (Referent.fInt Syntax.w16)) (Syntax.tyRef
-              Syntax.erased Syntax.mut (Syntax.tyInt Syntax.w16)) 4)) (Reads'.room-gone 𝓤 H A y0) (
-                Relend.reads-owed-len 𝓤 H A W (Referent.rtF (Referent.fInt Syntax.w16)) (Syntax.tyRef (Syntax.named 2) Syntax.mut (Syntax.tyInt Syntax.w16)) 2 4 (Row.lease (κs .1 .1 .0) (qs .1 .1 .0)) 8
+              Syntax.erased Syntax.mut (Syntax.tyInt Syntax.w16)) 5)) (Reads'.room-gone 𝓤 H A y0) (
+                Relend.reads-owed-len 𝓤 H A W (Referent.rtF (Referent.fInt Syntax.w16)) (Syntax.tyRef (Syntax.named 2) Syntax.mut (Syntax.tyInt Syntax.w16)) 2 5 (Row.lease (κs .1 .1 .0) (qs .1 .1 .0)) 8
                     Path'.refl,
                 Path'.refl,
               ) Path'.refl Path'.refl λ b o k. tt) d21
 
-          d23 : Typed.Typed 𝓤 H A 𝓣 E G13 b20 Δ1 at23
-          d23 = Typed.s-seq 𝓤 H A W 𝓣 E G13 G14 b4 b19 Δ1 (Typed.give s11) at22 (Relend.t-sl-relend 𝓤 H A W E (Referent.rtF (Referent.fInt Syntax.w16)) 𝓣 G13 4 13 2 4 (Syntax.tyRef (Syntax.named 2)
+          d23 : Typed.Typed 𝓤 H A 𝓣 E G14 b20 Δ1 at23
+          d23 = Typed.s-seq 𝓤 H A W 𝓣 E G14 G15 b4 b19 Δ1 (Typed.give s12) at22 (Relend.t-sl-relend 𝓤 H A W E (Referent.rtF (Referent.fInt Syntax.w16)) 𝓣 G14 4 14 2 5 (Syntax.tyRef (Syntax.named 2)
               Syntax.mut (Syntax.tyInt Syntax.w16)) (Syntax.tyRef Syntax.erased Syntax.mut (Syntax.tyInt Syntax.w16)) (Row.lease (κs .1 .1 .0) (qs .1 .1 .0)) 0 (λ x. x) (Reads'.as-is 𝓤 H A (Mut.mslice
               (Referent.rtF (Referent.fInt Syntax.w16)) (Syntax.tyRef (Syntax.named 2) Syntax.mut (Syntax.tyInt Syntax.w16)) 2)) (Reads'.room-gone 𝓤 H A (Syntax.tyRef Syntax.erased Syntax.mut
               (Syntax.tyInt Syntax.w16))) Path'.refl tt Path'.refl Path'.refl Path'.refl λ b o. tt) d22
 
-          d24 : Typed.Typed 𝓤 H A 𝓣 E G12 b20 Δ1 at24
-          d24 = Typed.g-pre 𝓤 H A W 𝓣 E G12 G13 b20 Δ1 (λ Ψ. Ψ) at23 (Lifetime.g-begin 𝓤 H A W E G12 4
-              (tt, (tt, (tt, (tt, (tt, (tt, (tt, (tt, (tt, (tt, (tt, (tt, (tt, (tt, (tt, (tt, (tt, (tt, (tt, (tt, (tt, (tt, (tt, (tt, tt))))))))))))))))))))))))) d23
+          d24 : Typed.Typed 𝓤 H A 𝓣 E G13 b20 Δ1 at24
+          d24 = Typed.g-pre 𝓤 H A W 𝓣 E G13 G14 b20 Δ1 (λ Ψ. Ψ) at23 (Lifetime.g-begin 𝓤 H A W E G13 5
+              (tt, (tt, (tt, (tt, (tt, (tt, (tt, (tt, (tt, (tt, (tt, (tt, (tt, (tt, (tt, (tt, (tt, (tt, (tt, (tt, (tt, (tt, (tt, (tt, (tt, tt)))))))))))))))))))))))))) d23
 
-          d25 : Typed.Typed 𝓤 H A 𝓣 E G11 b20 Δ1 at25
-          d25 = Typed.g-pre 𝓤 H A W 𝓣 E G11 G12 b20 Δ1 (Typed.pass T11 T12 s9) at24 (Scalar.g-room 𝓤 H A W E G11 11 Syntax.tyBool (Scalar.room-sc 𝓤 H A W Row.sBool)) d24
+          d25 : Typed.Typed 𝓤 H A 𝓣 E G12 b20 Δ1 at25
+          d25 = Typed.g-pre 𝓤 H A W 𝓣 E G12 G13 b20 Δ1 (Typed.pass T12 T13 s10) at24 (Scalar.g-room 𝓤 H A W E G12 12 Syntax.tyBool (Scalar.room-sc 𝓤 H A W Row.sBool)) d24
 
-          d26 : Typed.Typed 𝓤 H A 𝓣 E G10 b20 Δ1 at26
-          d26 = Typed.g-pre 𝓤 H A W 𝓣 E G10 G11 b20 Δ1 (Typed.pass T10 T11 s8) at25 (Scalar.g-room 𝓤 H A W E G10 6 y3 (Local.room-whole 𝓤 H A W (Declared'.row Form.the-type) y3 Path'.refl)) d25
+          d26 : Typed.Typed 𝓤 H A 𝓣 E G11 b20 Δ1 at26
+          d26 = Typed.g-pre 𝓤 H A W 𝓣 E G11 G12 b20 Δ1 (Typed.pass T11 T12 s9) at25 (Scalar.g-room 𝓤 H A W E G11 6 y3 (Local.room-whole 𝓤 H A W (Declared'.row Form.the-type) y3 Path'.refl)) d25
 
-          d27 : Typed.Typed 𝓤 H A 𝓣 E G37 b21 Δ1 at27
+          d27 : Typed.Typed 𝓤 H A 𝓣 E G38 b21 Δ1 at27
           d27 = Typed.t-skip 𝓤 H A W 𝓣 E Δ1 tt
 
-          d28 : Typed.Typed 𝓤 H A 𝓣 E G10 b21 Δ1 at28
-          d28 = Typed.g-pre 𝓤 H A W 𝓣 E G10 G37 b21 Δ1 (Typed.pass T10 T37 s34) at27 (Scalar.g-room 𝓤 H A W E G10 11 Syntax.tyBool (Scalar.room-sc 𝓤 H A W Row.sBool)) d27
+          d28 : Typed.Typed 𝓤 H A 𝓣 E G11 b21 Δ1 at28
+          d28 = Typed.g-pre 𝓤 H A W 𝓣 E G11 G38 b21 Δ1 (Typed.pass T11 T38 s35) at27 (Scalar.g-room 𝓤 H A W E G11 12 Syntax.tyBool (Scalar.room-sc 𝓤 H A W Row.sBool)) d27
 
-          d29 : Typed.Typed 𝓤 H A 𝓣 E G10 b22 Δ1 at29
-          d29 = Scalar.t-cond 𝓤 H A W E 𝓣 G10 11 (λ x. x) b20 b21 Δ1 at26 at28 (Scalar.reads-sc 𝓤 H A W Row.sBool) Path'.refl d26 d28
+          d29 : Typed.Typed 𝓤 H A 𝓣 E G11 b22 Δ1 at29
+          d29 = Scalar.t-cond 𝓤 H A W E 𝓣 G11 12 (λ x. x) b20 b21 Δ1 at26 at28 (Scalar.reads-sc 𝓤 H A W Row.sBool) Path'.refl d26 d28
 
-          d30 : Typed.Typed 𝓤 H A 𝓣 E G8 b22 Δ1 at30
-          d30 = Typed.g-pre 𝓤 H A W 𝓣 E G8 G10 b22 Δ1 (Typed.pass T8 T10 s7) at29 (Scalar.g-room 𝓤 H A W E G8 10 (Syntax.tyInt Syntax.w64) (Scalar.room-sc 𝓤 H A W (Row.sInt Syntax.w64))) d29
+          d30 : Typed.Typed 𝓤 H A 𝓣 E G9 b22 Δ1 at30
+          d30 = Typed.g-pre 𝓤 H A W 𝓣 E G9 G11 b22 Δ1 (Typed.pass T9 T11 s8) at29 (Scalar.g-room 𝓤 H A W E G9 11 (Syntax.tyInt Syntax.w64) (Scalar.room-sc 𝓤 H A W (Row.sInt Syntax.w64))) d29
 
-          d31 : Typed.Typed 𝓤 H A 𝓣 E G63 b30 Δ0 at31
+          d31 : Typed.Typed 𝓤 H A 𝓣 E G64 b30 Δ0 at31
           d31 = Typed.t-return 𝓤 H A W 𝓣 E Δ0 tt
 
-          d32 : Typed.Typed 𝓤 H A 𝓣 E G62 b30 Δ0 at32
-          d32 = Typed.g-pre 𝓤 H A W 𝓣 E G62 G63 b30 Δ0 (Typed.pass T62 T63 s60) at31 (Scalar.g-room 𝓤 H A W E G62 7 (Syntax.tyInt Syntax.w64) (Scalar.room-sc 𝓤 H A W (Row.sInt Syntax.w64))) d31
+          d32 : Typed.Typed 𝓤 H A 𝓣 E G63 b30 Δ0 at32
+          d32 = Typed.g-pre 𝓤 H A W 𝓣 E G63 G64 b30 Δ0 (Typed.pass T63 T64 s61) at31 (Scalar.g-room 𝓤 H A W E G63 8 (Syntax.tyInt Syntax.w64) (Scalar.room-sc 𝓤 H A W (Row.sInt Syntax.w64))) d31
 
-          d33 : Typed.Typed 𝓤 H A 𝓣 E G61 b30 Δ0 at33
-          d33 = Typed.g-pre 𝓤 H A W 𝓣 E G61 G62 b30 Δ0 (Typed.pass T60 T62 s59) at32 (Scalar.g-room 𝓤 H A W E G61 3 Syntax.tyBool (Scalar.room-sc 𝓤 H A W Row.sBool)) d32
+          d33 : Typed.Typed 𝓤 H A 𝓣 E G62 b30 Δ0 at33
+          d33 = Typed.g-pre 𝓤 H A W 𝓣 E G62 G63 b30 Δ0 (Typed.pass T61 T63 s60) at32 (Scalar.g-room 𝓤 H A W E G62 3 Syntax.tyBool (Scalar.room-sc 𝓤 H A W Row.sBool)) d32
 
-          d34 : Typed.Typed 𝓤 H A 𝓣 E G60 b30 Δ0 at34
-          d34 = Typed.g-pre 𝓤 H A W 𝓣 E G60 G61 b30 Δ0 (λ Ψ. Ψ) at33 (Lifetime.g-forget 𝓤 H A W E G60 8 Row.dead Path'.refl) d33
+          d34 : Typed.Typed 𝓤 H A 𝓣 E G61 b30 Δ0 at34
+          d34 = Typed.g-pre 𝓤 H A W 𝓣 E G61 G62 b30 Δ0 (λ Ψ. Ψ) at33 (Lifetime.g-forget 𝓤 H A W E G61 9 Row.dead Path'.refl) d33
 
-          d35 : Typed.Typed 𝓤 H A 𝓣 E G59 b30 Δ0 at35
-          d35 = Typed.g-pre 𝓤 H A W 𝓣 E G59 G60 b30 Δ0 (Typed.both s57) at34 (Relend.g-back-sl 𝓤 H A W E (Element.type) G59 23 5 3 8 (Syntax.tyRef (Syntax.named 3) Syntax.mut Element.behind)
+          d35 : Typed.Typed 𝓤 H A 𝓣 E G60 b30 Δ0 at35
+          d35 = Typed.g-pre 𝓤 H A W 𝓣 E G60 G61 b30 Δ0 (Typed.both s58) at34 (Relend.g-back-sl 𝓤 H A W E (Element.type) G60 24 5 3 9 (Syntax.tyRef (Syntax.named 3) Syntax.mut Element.behind)
               (Syntax.tyRef Syntax.erased Syntax.mut Element.behind) (Row.lease (κs .1 .1 .1 .0) (qs .1 .1 .1 .0)) (λ x. x) (λ x. x) (Reads'.as-is 𝓤 H A (Mut.msleft (Element.type) (Syntax.tyRef
-              Syntax.erased Syntax.mut Element.behind))) (Reads'.as-is 𝓤 H A (Relend.mslice-owed (Element.type) (Syntax.tyRef (Syntax.named 3) Syntax.mut Element.behind) 3 8 (Row.lease (κs .1 .1 .1 .0)
+              Syntax.erased Syntax.mut Element.behind))) (Reads'.as-is 𝓤 H A (Relend.mslice-owed (Element.type) (Syntax.tyRef (Syntax.named 3) Syntax.mut Element.behind) 3 9 (Row.lease (κs .1 .1 .1 .0)
               (qs .1 .1 .1 .0)))) Path'.refl Path'.refl) d34
 
-          d36 : Typed.Typed 𝓤 H A 𝓣 E G58 b30 Δ0 at36
-          d36 = Typed.g-pre 𝓤 H A W 𝓣 E G58 G59 b30 Δ0 (λ Ψ. Ψ) at35 (Lifetime.g-end 𝓤 H A W E G58 8 Path'.refl) d35
+          d36 : Typed.Typed 𝓤 H A 𝓣 E G59 b30 Δ0 at36
+          d36 = Typed.g-pre 𝓤 H A W 𝓣 E G59 G60 b30 Δ0 (λ Ψ. Ψ) at35 (Lifetime.g-end 𝓤 H A W E G59 9 Path'.refl) d35
 
-          d37 : Typed.Typed 𝓤 H A 𝓣 E G57 b30 Δ0 at37
-          d37 = Typed.g-pre 𝓤 H A W 𝓣 E G57 G58 b30 Δ0 (λ Ψ. Ψ) at36 (Lifetime.g-forget 𝓤 H A W E G57 7 Row.dead Path'.refl) d36
+          d37 : Typed.Typed 𝓤 H A 𝓣 E G58 b30 Δ0 at37
+          d37 = Typed.g-pre 𝓤 H A W 𝓣 E G58 G59 b30 Δ0 (λ Ψ. Ψ) at36 (Lifetime.g-forget 𝓤 H A W E G58 8 Row.dead Path'.refl) d36
 
-          d38 : Typed.Typed 𝓤 H A 𝓣 E G56 b30 Δ0 at38
-          d38 = Typed.g-pre 𝓤 H A W 𝓣 E G56 G57 b30 Δ0 (Typed.give s54) at37 (Know.g-sl-known 𝓤 H A W (Referent.fInt Syntax.w16) E G56 4 2 (Syntax.tyRef (Syntax.named 2) Syntax.mut (Syntax.tyInt
+          d38 : Typed.Typed 𝓤 H A 𝓣 E G57 b30 Δ0 at38
+          d38 = Typed.g-pre 𝓤 H A W 𝓣 E G57 G58 b30 Δ0 (Typed.give s55) at37 (Know.g-sl-known 𝓤 H A W (Referent.fInt Syntax.w16) E G57 4 2 (Syntax.tyRef (Syntax.named 2) Syntax.mut (Syntax.tyInt
               Syntax.w16)) (Row.lease (κs .1 .1 .0) (qs .1 .1 .0)) 0 (λ x. x) record { fits = Dec'.lit< tt } (Reads'.as-is 𝓤 H A (Mut.mslice (Referent.rtF (Referent.fInt Syntax.w16)) (Syntax.tyRef
               (Syntax.named 2) Syntax.mut (Syntax.tyInt Syntax.w16)) 2)) Path'.refl tt) d37
 
-          d39 : Typed.Typed 𝓤 H A 𝓣 E G55 b30 Δ0 at39
-          d39 = Typed.g-pre 𝓤 H A W 𝓣 E G55 G56 b30 Δ0 (Typed.both s53) at38 (Relend.g-back-sl 𝓤 H A W E (Referent.rtF (Referent.fInt Syntax.w16)) G55 21 4 2 7 (Syntax.tyRef (Syntax.named 2)
+          d39 : Typed.Typed 𝓤 H A 𝓣 E G56 b30 Δ0 at39
+          d39 = Typed.g-pre 𝓤 H A W 𝓣 E G56 G57 b30 Δ0 (Typed.both s54) at38 (Relend.g-back-sl 𝓤 H A W E (Referent.rtF (Referent.fInt Syntax.w16)) G56 22 4 2 8 (Syntax.tyRef (Syntax.named 2)
               Syntax.mut (Syntax.tyInt Syntax.w16)) (Syntax.tyRef Syntax.erased Syntax.mut (Syntax.tyInt Syntax.w16)) (Row.lease (κs .1 .1 .0) (qs .1 .1 .0)) (λ x. x) (λ x. x) (Reads'.as-is 𝓤 H A
               (Mut.msleft (Referent.rtF (Referent.fInt Syntax.w16)) (Syntax.tyRef Syntax.erased Syntax.mut (Syntax.tyInt Syntax.w16)))) (Reads'.as-is 𝓤 H A (Relend.mslice-owed (Referent.rtF (Referent.fInt
-              Syntax.w16)) (Syntax.tyRef (Syntax.named 2) Syntax.mut (Syntax.tyInt Syntax.w16)) 2 7 (Row.lease (κs .1 .1 .0) (qs .1 .1 .0)))) Path'.refl Path'.refl) d38
+              Syntax.w16)) (Syntax.tyRef (Syntax.named 2) Syntax.mut (Syntax.tyInt Syntax.w16)) 2 8 (Row.lease (κs .1 .1 .0) (qs .1 .1 .0)))) Path'.refl Path'.refl) d38
 
-          d40 : Typed.Typed 𝓤 H A 𝓣 E G54 b30 Δ0 at40
-          d40 = Typed.g-pre 𝓤 H A W 𝓣 E G54 G55 b30 Δ0 (λ Ψ. Ψ) at39 (Lifetime.g-end 𝓤 H A W E G54 7 Path'.refl) d39
+          d40 : Typed.Typed 𝓤 H A 𝓣 E G55 b30 Δ0 at40
+          d40 = Typed.g-pre 𝓤 H A W 𝓣 E G55 G56 b30 Δ0 (λ Ψ. Ψ) at39 (Lifetime.g-end 𝓤 H A W E G55 8 Path'.refl) d39
 
-          d41 : Typed.Typed 𝓤 H A 𝓣 E G53 b30 Δ0 at41
-          d41 = Typed.g-pre 𝓤 H A W 𝓣 E G53 G54 b30 Δ0 (λ Ψ. Ψ) at40 (Lifetime.g-forget 𝓤 H A W E G53 6 Row.dead Path'.refl) d40
+          d41 : Typed.Typed 𝓤 H A 𝓣 E G54 b30 Δ0 at41
+          d41 = Typed.g-pre 𝓤 H A W 𝓣 E G54 G55 b30 Δ0 (λ Ψ. Ψ) at40 (Lifetime.g-forget 𝓤 H A W E G54 7 Row.dead Path'.refl) d40
 
-          d42 : Typed.Typed 𝓤 H A 𝓣 E G52 b30 Δ0 at42
-          d42 = Typed.g-pre 𝓤 H A W 𝓣 E G52 G53 b30 Δ0 (Typed.give s50) at41 (Know.g-sl-known 𝓤 H A W (Referent.fInt Syntax.w8) E G52 2 1 (Syntax.tyRef (Syntax.named 1) Syntax.mut (Syntax.tyInt
+          d42 : Typed.Typed 𝓤 H A 𝓣 E G53 b30 Δ0 at42
+          d42 = Typed.g-pre 𝓤 H A W 𝓣 E G53 G54 b30 Δ0 (Typed.give s51) at41 (Know.g-sl-known 𝓤 H A W (Referent.fInt Syntax.w8) E G53 2 1 (Syntax.tyRef (Syntax.named 1) Syntax.mut (Syntax.tyInt
               Syntax.w8)) (Row.lease (κs .1 .0) (qs .1 .0)) 0 (λ x. x) record { fits = Dec'.lit< tt } (Reads'.as-is 𝓤 H A (Mut.mslice (Referent.rtF (Referent.fInt Syntax.w8)) (Syntax.tyRef (Syntax.named
               1) Syntax.mut (Syntax.tyInt Syntax.w8)) 1)) Path'.refl tt) d41
 
-          d43 : Typed.Typed 𝓤 H A 𝓣 E G51 b30 Δ0 at43
-          d43 = Typed.g-pre 𝓤 H A W 𝓣 E G51 G52 b30 Δ0 (Typed.both s49) at42 (Relend.g-back-sl 𝓤 H A W E (Referent.rtF (Referent.fInt Syntax.w8)) G51 19 2 1 6 (Syntax.tyRef (Syntax.named 1) Syntax.mut
+          d43 : Typed.Typed 𝓤 H A 𝓣 E G52 b30 Δ0 at43
+          d43 = Typed.g-pre 𝓤 H A W 𝓣 E G52 G53 b30 Δ0 (Typed.both s50) at42 (Relend.g-back-sl 𝓤 H A W E (Referent.rtF (Referent.fInt Syntax.w8)) G52 20 2 1 7 (Syntax.tyRef (Syntax.named 1) Syntax.mut
               (Syntax.tyInt Syntax.w8)) (Syntax.tyRef Syntax.erased Syntax.mut (Syntax.tyInt Syntax.w8)) (Row.lease (κs .1 .0) (qs .1 .0)) (λ x. x) (λ x. x) (Reads'.as-is 𝓤 H A (Mut.msleft (Referent.rtF
               (Referent.fInt Syntax.w8)) (Syntax.tyRef Syntax.erased Syntax.mut (Syntax.tyInt Syntax.w8)))) (Reads'.as-is 𝓤 H A (Relend.mslice-owed (Referent.rtF (Referent.fInt Syntax.w8)) (Syntax.tyRef
-              (Syntax.named 1) Syntax.mut (Syntax.tyInt Syntax.w8)) 1 6 (Row.lease (κs .1 .0) (qs .1 .0)))) Path'.refl Path'.refl) d42
+              (Syntax.named 1) Syntax.mut (Syntax.tyInt Syntax.w8)) 1 7 (Row.lease (κs .1 .0) (qs .1 .0)))) Path'.refl Path'.refl) d42
 
-          d44 : Typed.Typed 𝓤 H A 𝓣 E G50 b30 Δ0 at44
-          d44 = Typed.g-pre 𝓤 H A W 𝓣 E G50 G51 b30 Δ0 (λ Ψ. Ψ) at43 (Lifetime.g-end 𝓤 H A W E G50 6 Path'.refl) d43
+          d44 : Typed.Typed 𝓤 H A 𝓣 E G51 b30 Δ0 at44
+          d44 = Typed.g-pre 𝓤 H A W 𝓣 E G51 G52 b30 Δ0 (λ Ψ. Ψ) at43 (Lifetime.g-end 𝓤 H A W E G51 7 Path'.refl) d43
 
-          d45 : Typed.Typed 𝓤 H A 𝓣 E G49 b30 Δ0 at45
-          d45 = Typed.g-pre 𝓤 H A W 𝓣 E G49 G50 b30 Δ0 (Typed.pass T49 T50 s47) at44 (Scalar.g-room 𝓤 H A W E G49 9 (Syntax.tyInt Syntax.w64) (Scalar.room-sc 𝓤 H A W (Row.sInt Syntax.w64))) d44
+          d45 : Typed.Typed 𝓤 H A 𝓣 E G50 b30 Δ0 at45
+          d45 = Typed.g-pre 𝓤 H A W 𝓣 E G50 G51 b30 Δ0 (Typed.pass T50 T51 s48) at44 (Scalar.g-room 𝓤 H A W E G50 10 (Syntax.tyInt Syntax.w64) (Scalar.room-sc 𝓤 H A W (Row.sInt Syntax.w64))) d44
 
-          d46 : Typed.Typed 𝓤 H A 𝓣 E G48 b30 Δ0 at46
-          d46 = Typed.g-pre 𝓤 H A W 𝓣 E G48 G49 b30 Δ0 (Typed.pass T48 T49 s46) at45 (Scalar.g-room 𝓤 H A W E G48 8 (Syntax.tyInt Syntax.w32) (Scalar.room-sc 𝓤 H A W (Row.sInt Syntax.w32))) d45
+          d46 : Typed.Typed 𝓤 H A 𝓣 E G49 b30 Δ0 at46
+          d46 = Typed.g-pre 𝓤 H A W 𝓣 E G49 G50 b30 Δ0 (Typed.pass T49 T50 s47) at45 (Scalar.g-room 𝓤 H A W E G49 9 (Syntax.tyInt Syntax.w32) (Scalar.room-sc 𝓤 H A W (Row.sInt Syntax.w32))) d45
 
-          d47 : Typed.Typed 𝓤 H A 𝓣 E G47 b30 Δ0 at47
-          d47 = Typed.g-pre 𝓤 H A W 𝓣 E G47 G48 b30 Δ0 (Typed.pass T47 T48 s45) at46 (Scalar.g-room 𝓤 H A W E G47 6 y3 (Local.room-whole 𝓤 H A W (Declared'.row Form.the-type) y3 Path'.refl)) d46
+          d47 : Typed.Typed 𝓤 H A 𝓣 E G48 b30 Δ0 at47
+          d47 = Typed.g-pre 𝓤 H A W 𝓣 E G48 G49 b30 Δ0 (Typed.pass T48 T49 s46) at46 (Scalar.g-room 𝓤 H A W E G48 6 y3 (Local.room-whole 𝓤 H A W (Declared'.row Form.the-type) y3 Path'.refl)) d46
 
-          d48 : Typed.Typed 𝓤 H A 𝓣 E G46 b31 Δ0 at48
-          d48 = Typed.s-seq 𝓤 H A W 𝓣 E G46 G47 b29 b30 Δ0 (Typed.both s44) at47 (Plain.t-call-plain 𝓤 H A W 𝓣 4 ps·4 r·4 (claims· .8) (claims· .9) "block::writer::write_measured" (known .4) E (λ pos
-              β. β) G46 (
+          d48 : Typed.Typed 𝓤 H A 𝓣 E G47 b31 Δ0 at48
+          d48 = Typed.s-seq 𝓤 H A W 𝓣 E G47 G48 b29 b30 Δ0 (Typed.both s45) at47 (Plain.t-call-plain 𝓤 H A W 𝓣 5 ps·4 r·4 (claims· .8) (claims· .9) "block::writer::write_measured" (known .4) E (λ pos
+              β. β) G47 (
                 record { pos = 1; ty = Syntax.tyRef (Syntax.named 0) Syntax.imm (Syntax.tyInt Syntax.w16); ref = λ x. x },
                 (
-                  record { pos = 19; ty = Syntax.tyRef Syntax.erased Syntax.mut (Syntax.tyInt Syntax.w8); ref = λ x. x },
+                  record { pos = 20; ty = Syntax.tyRef Syntax.erased Syntax.mut (Syntax.tyInt Syntax.w8); ref = λ x. x },
                   (
                     Bool.bAt 3 λ x. x,
                     (
-                      record { pos = 21; ty = Syntax.tyRef Syntax.erased Syntax.mut (Syntax.tyInt Syntax.w16); ref = λ x. x },
-                      (record { pos = 23; ty = Syntax.tyRef Syntax.erased Syntax.mut Element.behind; ref = λ x. x }, (record { pos = 6; st = List.[]; d = 0; at = λ x. x }, (Num.vAt 7 λ x. x, tt))),
+                      record { pos = 22; ty = Syntax.tyRef Syntax.erased Syntax.mut (Syntax.tyInt Syntax.w16); ref = λ x. x },
+                      (
+                        record { pos = 24; ty = Syntax.tyRef Syntax.erased Syntax.mut Element.behind; ref = λ x. x },
+                        (
+                          record { pos = 6; st = List.[]; d = 0; at = λ x. x },
+                          (record { pos = 7; ty = Syntax.tyRef (Syntax.named 4) Syntax.imm (Syntax.tyInt Syntax.w8); ref = λ x. x }, (Num.vAt 8 λ x. x, tt)),
+                        ),
+                      ),
                     ),
                   ),
                 ),
-              ) 0
-              (List._∷_ 0 (List._∷_ 6 (List._∷_ 7 (List._∷_ 8 List.[])))) (Call.sub-id 𝓤 H A W (G46 .slots)) (
+              ) 0 (List._∷_ 0 (List._∷_ 7 (List._∷_ 8 (List._∷_ 9
+              (List._∷_ 4 List.[]))))) (Call.sub-id 𝓤 H A W (G47 .slots)) (
                 ShrSlice.spares-sslice 𝓤 H A W (Referent.rtF (Referent.fInt Syntax.w16)) (Syntax.tyRef (Syntax.named 0) Syntax.imm (Syntax.tyInt Syntax.w16)) 0,
                 Shared.reads-sslice 𝓤 H A W (Referent.rtF
                     (Referent.fInt Syntax.w16)) (Syntax.tyRef (Syntax.named 0) Syntax.imm (Syntax.tyInt Syntax.w16)) 0,
                 Path'.refl,
                 (
-                  Reads'.as-is 𝓤 H A (Mut.mslice (Referent.rtF (Referent.fInt Syntax.w8)) (Syntax.tyRef Syntax.erased Syntax.mut (Syntax.tyInt Syntax.w8)) 6),
+                  Reads'.as-is 𝓤 H A (Mut.mslice (Referent.rtF (Referent.fInt Syntax.w8)) (Syntax.tyRef Syntax.erased Syntax.mut (Syntax.tyInt Syntax.w8)) 7),
                   Mut.reads-mslice 𝓤 H A W (Referent.rtF
-                      (Referent.fInt Syntax.w8)) (Syntax.tyRef Syntax.erased Syntax.mut (Syntax.tyInt Syntax.w8)) 6,
+                      (Referent.fInt Syntax.w8)) (Syntax.tyRef Syntax.erased Syntax.mut (Syntax.tyInt Syntax.w8)) 7,
                   Path'.refl,
                   (
                     (Scalar.reads-sc 𝓤 H A W Row.sBool, Path'.refl),
                     (
-                      Reads'.as-is 𝓤 H A (Mut.mslice (Referent.rtF (Referent.fInt Syntax.w16)) (Syntax.tyRef Syntax.erased Syntax.mut (Syntax.tyInt Syntax.w16)) 7),
+                      Reads'.as-is 𝓤 H A (Mut.mslice (Referent.rtF (Referent.fInt Syntax.w16)) (Syntax.tyRef Syntax.erased Syntax.mut (Syntax.tyInt Syntax.w16)) 8),
                       Mut.reads-mslice 𝓤 H A W (Referent.rtF
-                          (Referent.fInt Syntax.w16)) (Syntax.tyRef Syntax.erased Syntax.mut (Syntax.tyInt Syntax.w16)) 7,
+                          (Referent.fInt Syntax.w16)) (Syntax.tyRef Syntax.erased Syntax.mut (Syntax.tyInt Syntax.w16)) 8,
                       Path'.refl,
                       (
-                        Reads'.as-is 𝓤 H A (Mut.mslice (Element.type) (Syntax.tyRef Syntax.erased Syntax.mut Element.behind) 8),
+                        Reads'.as-is 𝓤 H A (Mut.mslice (Element.type) (Syntax.tyRef Syntax.erased Syntax.mut Element.behind) 9),
                         Mut.reads-mslice 𝓤 H A W (Element.type) (Syntax.tyRef Syntax.erased Syntax.mut
-                            Element.behind) 8,
+                            Element.behind) 9,
                         Path'.refl,
                         (
                           (
@@ -2139,97 +2195,104 @@ module _ (claims· : Claims) where
                                 Form.the-type)) (λ x. x) (λ x. x) (λ ρ told. Local.mem-whole 𝓤 H A W (Declared'.row Form.the-type) ρ) λ ρ told. Local.whole-mem 𝓤 H A W (Declared'.row Form.the-type) ρ,
                             Path'.refl,
                           ),
-                          ((Scalar.reads-sc 𝓤 H A W (Row.sInt Syntax.w64), Path'.refl), tt),
+                          (
+                            ShrSlice.spares-sslice 𝓤 H A W (Referent.rtF (Referent.fInt Syntax.w8)) (Syntax.tyRef (Syntax.named 4) Syntax.imm (Syntax.tyInt Syntax.w8)) 4,
+                            Shared.reads-sslice 𝓤 H A W (Referent.rtF
+                                (Referent.fInt Syntax.w8)) (Syntax.tyRef (Syntax.named 4) Syntax.imm (Syntax.tyInt Syntax.w8)) 4,
+                            Path'.refl,
+                            ((Scalar.reads-sc 𝓤 H A W (Row.sInt Syntax.w64), Path'.refl), tt),
+                          ),
                         ),
                       ),
                     ),
                   ),
                 ),
-              ) (Reads'.room-gone 𝓤 H A (Syntax.tyEnum (List._∷_ 115 (List._∷_ 116 (List._∷_ 114 (List._∷_ 101 (List._∷_ 97 (List._∷_
-              109 (List._∷_ 58 (List._∷_ 58 (List._∷_ 66 (List._∷_ 108 (List._∷_ 111 (List._∷_ 99 (List._∷_ 107 (List._∷_ 76 (List._∷_ 101 (List._∷_ 110 (List._∷_ 103 (List._∷_ 116 (List._∷_ 104
-              List.[]))))))))))))))))))) (Syntax.ttcons (Syntax.tcons (Syntax.tyInt Syntax.w64) Syntax.tnil) (Syntax.ttcons (Syntax.tcons (Syntax.tyEnum (List._∷_ 115 (List._∷_ 116 (List._∷_ 114 (List._∷_
-              101 (List._∷_ 97 (List._∷_ 109 (List._∷_ 58 (List._∷_ 58 (List._∷_ 82 (List._∷_ 101 (List._∷_ 102 (List._∷_ 117 (List._∷_ 115 (List._∷_ 97 (List._∷_ 108 List.[]))))))))))))))) (Syntax.ttcons
-              Syntax.tnil (Syntax.ttcons Syntax.tnil (Syntax.ttcons Syntax.tnil (Syntax.ttcons (Syntax.tcons (Syntax.tyInt Syntax.w64) Syntax.tnil) (Syntax.ttcons Syntax.tnil (Syntax.ttcons Syntax.tnil
-              (Syntax.ttcons Syntax.tnil (Syntax.ttcons Syntax.tnil (Syntax.ttcons Syntax.tnil (Syntax.ttcons Syntax.tnil (Syntax.ttcons (Syntax.tcons (Syntax.tyInt Syntax.w64) Syntax.tnil) (Syntax.ttcons
-              (Syntax.tcons (Syntax.tyInt Syntax.w64) Syntax.tnil) (Syntax.ttcons Syntax.tnil (Syntax.ttcons (Syntax.tcons (Syntax.tyInt Syntax.w64) (Syntax.tcons (Syntax.tyInt Syntax.w64) Syntax.tnil))
-              (Syntax.ttcons (Syntax.tcons (Syntax.tyInt Syntax.w64) Syntax.tnil) (Syntax.ttcons Syntax.tnil (Syntax.ttcons Syntax.tnil (Syntax.ttcons (Syntax.tcons (Syntax.tyInt Syntax.w64) Syntax.tnil)
-              (Syntax.ttcons (Syntax.tcons (Syntax.tyInt Syntax.w64) Syntax.tnil) (Syntax.ttcons (Syntax.tcons (Syntax.tyInt Syntax.w64) Syntax.tnil) (Syntax.ttcons Syntax.tnil
-              Syntax.ttnil)))))))))))))))))))))) Syntax.tnil) Syntax.ttnil)))) (tt, (tt, (tt, (tt, tt)))) Path'.refl) d47
+              )
+              (Reads'.room-gone 𝓤 H A (Syntax.tyEnum (List._∷_ 115 (List._∷_ 116 (List._∷_ 114 (List._∷_ 101 (List._∷_ 97 (List._∷_ 109 (List._∷_ 58 (List._∷_ 58 (List._∷_ 66 (List._∷_ 108 (List._∷_ 111
+              (List._∷_ 99 (List._∷_ 107 (List._∷_ 76 (List._∷_ 101 (List._∷_ 110 (List._∷_ 103 (List._∷_ 116 (List._∷_ 104 List.[]))))))))))))))))))) (Syntax.ttcons (Syntax.tcons (Syntax.tyInt
+              Syntax.w64) Syntax.tnil) (Syntax.ttcons (Syntax.tcons (Syntax.tyEnum (List._∷_ 115 (List._∷_ 116 (List._∷_ 114 (List._∷_ 101 (List._∷_ 97 (List._∷_ 109 (List._∷_ 58 (List._∷_ 58 (List._∷_ 82
+              (List._∷_ 101 (List._∷_ 102 (List._∷_ 117 (List._∷_ 115 (List._∷_ 97 (List._∷_ 108 List.[]))))))))))))))) (Syntax.ttcons Syntax.tnil (Syntax.ttcons Syntax.tnil (Syntax.ttcons Syntax.tnil
+              (Syntax.ttcons (Syntax.tcons (Syntax.tyInt Syntax.w64) Syntax.tnil) (Syntax.ttcons Syntax.tnil (Syntax.ttcons Syntax.tnil (Syntax.ttcons Syntax.tnil (Syntax.ttcons Syntax.tnil (Syntax.ttcons
+              Syntax.tnil (Syntax.ttcons Syntax.tnil (Syntax.ttcons (Syntax.tcons (Syntax.tyInt Syntax.w64) Syntax.tnil) (Syntax.ttcons (Syntax.tcons (Syntax.tyInt Syntax.w64) Syntax.tnil) (Syntax.ttcons
+              Syntax.tnil (Syntax.ttcons (Syntax.tcons (Syntax.tyInt Syntax.w64) (Syntax.tcons (Syntax.tyInt Syntax.w64) Syntax.tnil)) (Syntax.ttcons (Syntax.tcons (Syntax.tyInt Syntax.w64) Syntax.tnil)
+              (Syntax.ttcons Syntax.tnil (Syntax.ttcons Syntax.tnil (Syntax.ttcons (Syntax.tcons (Syntax.tyInt Syntax.w64) Syntax.tnil) (Syntax.ttcons (Syntax.tcons (Syntax.tyInt Syntax.w64) Syntax.tnil)
+              (Syntax.ttcons (Syntax.tcons (Syntax.tyInt Syntax.w64) Syntax.tnil) (Syntax.ttcons Syntax.tnil Syntax.ttnil)))))))))))))))))))))) Syntax.tnil) Syntax.ttnil))))
+              (tt, (tt, (tt, (tt, (tt, tt))))) Path'.refl) d47
 
-          d49 : Typed.Typed 𝓤 H A 𝓣 E G45 b32 Δ0 at49
-          d49 = Typed.s-seq 𝓤 H A W 𝓣 E G45 G46 b28 b31 Δ0 (Typed.ask s43) at48 (Relend.t-sl-aggregate 𝓤 H A W E (Element.type) 𝓣 (Relend.asMut (Element.type)) G45 22 23 8 (Syntax.tyRef Syntax.erased
+          d49 : Typed.Typed 𝓤 H A 𝓣 E G46 b32 Δ0 at49
+          d49 = Typed.s-seq 𝓤 H A W 𝓣 E G46 G47 b28 b31 Δ0 (Typed.ask s44) at48 (Relend.t-sl-aggregate 𝓤 H A W E (Element.type) 𝓣 (Relend.asMut (Element.type)) G46 23 24 9 (Syntax.tyRef Syntax.erased
               Syntax.mut Element.behind) (Syntax.tyRef Syntax.erased Syntax.mut Element.behind) (λ x. x) (Scalar.oFld 5 (List._∷_ (Syntax.field 1) List.[]) (Syntax.tyInt Syntax.w64) 8 λ v. Shared.lenV (v
-              .0)) (Reads'.as-is 𝓤 H A (Relend.msptr (Element.type) (Syntax.tyRef Syntax.erased Syntax.mut Element.behind) 8)) (Reads'.room-gone 𝓤 H A y2)
-              (Relend.reads-owed-len 𝓤 H A W (Element.type) (Syntax.tyRef (Syntax.named 3) Syntax.mut Element.behind) 3 8 (Row.lease (κs .1 .1 .1 .0) (qs .1 .1 .1 .0)) 8 Path'.refl, Path'.refl) Path'.refl
+              .0)) (Reads'.as-is 𝓤 H A (Relend.msptr (Element.type) (Syntax.tyRef Syntax.erased Syntax.mut Element.behind) 9)) (Reads'.room-gone 𝓤 H A y2)
+              (Relend.reads-owed-len 𝓤 H A W (Element.type) (Syntax.tyRef (Syntax.named 3) Syntax.mut Element.behind) 3 9 (Row.lease (κs .1 .1 .1 .0) (qs .1 .1 .1 .0)) 8 Path'.refl, Path'.refl) Path'.refl
               Path'.refl λ b o k. tt) d48
 
-          d50 : Typed.Typed 𝓤 H A 𝓣 E G44 b33 Δ0 at50
-          d50 = Typed.s-seq 𝓤 H A W 𝓣 E G44 G45 b27 b32 Δ0 (Typed.give s42) at49 (Relend.t-sl-relend 𝓤 H A W E (Element.type) 𝓣 G44 5 22 3 8 (Syntax.tyRef (Syntax.named 3) Syntax.mut Element.behind)
+          d50 : Typed.Typed 𝓤 H A 𝓣 E G45 b33 Δ0 at50
+          d50 = Typed.s-seq 𝓤 H A W 𝓣 E G45 G46 b27 b32 Δ0 (Typed.give s43) at49 (Relend.t-sl-relend 𝓤 H A W E (Element.type) 𝓣 G45 5 23 3 9 (Syntax.tyRef (Syntax.named 3) Syntax.mut Element.behind)
               (Syntax.tyRef Syntax.erased Syntax.mut Element.behind) (Row.lease (κs .1 .1 .1 .0) (qs .1 .1 .1 .0)) 0 (λ x. x) (Reads'.as-is 𝓤 H A (Mut.mslice (Element.type) (Syntax.tyRef (Syntax.named 3)
               Syntax.mut Element.behind) 3)) (Reads'.room-gone 𝓤 H A (Syntax.tyRef Syntax.erased Syntax.mut Element.behind)) Path'.refl tt Path'.refl Path'.refl Path'.refl λ b o. tt) d49
 
-          d51 : Typed.Typed 𝓤 H A 𝓣 E G43 b33 Δ0 at51
-          d51 = Typed.g-pre 𝓤 H A W 𝓣 E G43 G44 b33 Δ0 (λ Ψ. Ψ) at50 (Lifetime.g-begin 𝓤 H A W E G43 8
-              (tt, (tt, ((tt, tt), (tt, ((tt, tt), (tt, (tt, (tt, (tt, (tt, (tt, (tt, (tt, (tt, (tt, (tt, (tt, (tt, (tt, (tt, (tt, (tt, (tt, (tt, tt))))))))))))))))))))))))) d50
+          d51 : Typed.Typed 𝓤 H A 𝓣 E G44 b33 Δ0 at51
+          d51 = Typed.g-pre 𝓤 H A W 𝓣 E G44 G45 b33 Δ0 (λ Ψ. Ψ) at50 (Lifetime.g-begin 𝓤 H A W E G44 9
+              (tt, (tt, ((tt, tt), (tt, ((tt, tt), (tt, (tt, (tt, (tt, (tt, (tt, (tt, (tt, (tt, (tt, (tt, (tt, (tt, (tt, (tt, (tt, (tt, (tt, (tt, (tt, tt)))))))))))))))))))))))))) d50
 
-          d52 : Typed.Typed 𝓤 H A 𝓣 E G42 b34 Δ0 at52
-          d52 = Typed.s-seq 𝓤 H A W 𝓣 E G42 G43 b26 b33 Δ0 (Typed.ask s40) at51 (Relend.t-sl-aggregate 𝓤 H A W E (Referent.rtF (Referent.fInt Syntax.w16)) 𝓣 (Relend.asMut (Referent.rtF (Referent.fInt
-              Syntax.w16))) G42 20 21 7 (Syntax.tyRef Syntax.erased Syntax.mut (Syntax.tyInt Syntax.w16)) (Syntax.tyRef Syntax.erased Syntax.mut (Syntax.tyInt Syntax.w16)) (λ x. x) (Scalar.oFld 4
+          d52 : Typed.Typed 𝓤 H A 𝓣 E G43 b34 Δ0 at52
+          d52 = Typed.s-seq 𝓤 H A W 𝓣 E G43 G44 b26 b33 Δ0 (Typed.ask s41) at51 (Relend.t-sl-aggregate 𝓤 H A W E (Referent.rtF (Referent.fInt Syntax.w16)) 𝓣 (Relend.asMut (Referent.rtF (Referent.fInt
+              Syntax.w16))) G43 21 22 8 (Syntax.tyRef Syntax.erased Syntax.mut (Syntax.tyInt Syntax.w16)) (Syntax.tyRef Syntax.erased Syntax.mut (Syntax.tyInt Syntax.w16)) (λ x. x) (Scalar.oFld 4
               (List._∷_ (Syntax.field 1) List.[]) (Syntax.tyInt Syntax.w64) 8 λ v. Shared.lenV (v .0)) (Reads'.as-is 𝓤 H A (Relend.msptr (Referent.rtF (Referent.fInt Syntax.w16)) (Syntax.tyRef
-              Syntax.erased Syntax.mut (Syntax.tyInt Syntax.w16)) 7)) (Reads'.room-gone 𝓤 H A y0) (
-                Relend.reads-owed-len 𝓤 H A W (Referent.rtF (Referent.fInt Syntax.w16)) (Syntax.tyRef (Syntax.named 2) Syntax.mut (Syntax.tyInt Syntax.w16)) 2 7 (Row.lease (κs .1 .1 .0) (qs .1 .1 .0)) 8
+              Syntax.erased Syntax.mut (Syntax.tyInt Syntax.w16)) 8)) (Reads'.room-gone 𝓤 H A y0) (
+                Relend.reads-owed-len 𝓤 H A W (Referent.rtF (Referent.fInt Syntax.w16)) (Syntax.tyRef (Syntax.named 2) Syntax.mut (Syntax.tyInt Syntax.w16)) 2 8 (Row.lease (κs .1 .1 .0) (qs .1 .1 .0)) 8
                     Path'.refl,
                 Path'.refl,
               ) Path'.refl Path'.refl λ b o k. tt) d51
 
-          d53 : Typed.Typed 𝓤 H A 𝓣 E G41 b35 Δ0 at53
-          d53 = Typed.s-seq 𝓤 H A W 𝓣 E G41 G42 b25 b34 Δ0 (Typed.give s39) at52 (Relend.t-sl-relend 𝓤 H A W E (Referent.rtF (Referent.fInt Syntax.w16)) 𝓣 G41 4 20 2 7 (Syntax.tyRef (Syntax.named 2)
+          d53 : Typed.Typed 𝓤 H A 𝓣 E G42 b35 Δ0 at53
+          d53 = Typed.s-seq 𝓤 H A W 𝓣 E G42 G43 b25 b34 Δ0 (Typed.give s40) at52 (Relend.t-sl-relend 𝓤 H A W E (Referent.rtF (Referent.fInt Syntax.w16)) 𝓣 G42 4 21 2 8 (Syntax.tyRef (Syntax.named 2)
               Syntax.mut (Syntax.tyInt Syntax.w16)) (Syntax.tyRef Syntax.erased Syntax.mut (Syntax.tyInt Syntax.w16)) (Row.lease (κs .1 .1 .0) (qs .1 .1 .0)) 0 (λ x. x) (Reads'.as-is 𝓤 H A (Mut.mslice
               (Referent.rtF (Referent.fInt Syntax.w16)) (Syntax.tyRef (Syntax.named 2) Syntax.mut (Syntax.tyInt Syntax.w16)) 2)) (Reads'.room-gone 𝓤 H A (Syntax.tyRef Syntax.erased Syntax.mut
               (Syntax.tyInt Syntax.w16))) Path'.refl tt Path'.refl Path'.refl Path'.refl λ b o. tt) d52
 
-          d54 : Typed.Typed 𝓤 H A 𝓣 E G40 b35 Δ0 at54
-          d54 = Typed.g-pre 𝓤 H A W 𝓣 E G40 G41 b35 Δ0 (λ Ψ. Ψ) at53 (Lifetime.g-begin 𝓤 H A W E G40 7
-              (tt, (tt, ((tt, tt), (tt, (tt, (tt, (tt, (tt, (tt, (tt, (tt, (tt, (tt, (tt, (tt, (tt, (tt, (tt, (tt, (tt, (tt, (tt, (tt, (tt, tt))))))))))))))))))))))))) d53
+          d54 : Typed.Typed 𝓤 H A 𝓣 E G41 b35 Δ0 at54
+          d54 = Typed.g-pre 𝓤 H A W 𝓣 E G41 G42 b35 Δ0 (λ Ψ. Ψ) at53 (Lifetime.g-begin 𝓤 H A W E G41 8
+              (tt, (tt, ((tt, tt), (tt, (tt, (tt, (tt, (tt, (tt, (tt, (tt, (tt, (tt, (tt, (tt, (tt, (tt, (tt, (tt, (tt, (tt, (tt, (tt, (tt, (tt, tt)))))))))))))))))))))))))) d53
 
-          d55 : Typed.Typed 𝓤 H A 𝓣 E G39 b36 Δ0 at55
-          d55 = Typed.s-seq 𝓤 H A W 𝓣 E G39 G40 b24 b35 Δ0 (Typed.ask s37) at54 (Relend.t-sl-aggregate 𝓤 H A W E (Referent.rtF (Referent.fInt Syntax.w8)) 𝓣 (Relend.asMut (Referent.rtF (Referent.fInt
-              Syntax.w8))) G39 18 19 6 (Syntax.tyRef Syntax.erased Syntax.mut (Syntax.tyInt Syntax.w8)) (Syntax.tyRef Syntax.erased Syntax.mut (Syntax.tyInt Syntax.w8)) (λ x. x) (Scalar.oFld 2 (List._∷_
+          d55 : Typed.Typed 𝓤 H A 𝓣 E G40 b36 Δ0 at55
+          d55 = Typed.s-seq 𝓤 H A W 𝓣 E G40 G41 b24 b35 Δ0 (Typed.ask s38) at54 (Relend.t-sl-aggregate 𝓤 H A W E (Referent.rtF (Referent.fInt Syntax.w8)) 𝓣 (Relend.asMut (Referent.rtF (Referent.fInt
+              Syntax.w8))) G40 19 20 7 (Syntax.tyRef Syntax.erased Syntax.mut (Syntax.tyInt Syntax.w8)) (Syntax.tyRef Syntax.erased Syntax.mut (Syntax.tyInt Syntax.w8)) (λ x. x) (Scalar.oFld 2 (List._∷_
               (Syntax.field 1) List.[]) (Syntax.tyInt Syntax.w64) 8 λ v. Shared.lenV (v .0)) (Reads'.as-is 𝓤 H A (Relend.msptr (Referent.rtF (Referent.fInt Syntax.w8)) (Syntax.tyRef Syntax.erased
-              Syntax.mut (Syntax.tyInt Syntax.w8)) 6)) (Reads'.room-gone 𝓤 H A y1) (
-                Relend.reads-owed-len 𝓤 H A W (Referent.rtF (Referent.fInt Syntax.w8)) (Syntax.tyRef (Syntax.named 1) Syntax.mut (Syntax.tyInt Syntax.w8)) 1 6 (Row.lease (κs .1 .0) (qs .1 .0)) 8
+              Syntax.mut (Syntax.tyInt Syntax.w8)) 7)) (Reads'.room-gone 𝓤 H A y1) (
+                Relend.reads-owed-len 𝓤 H A W (Referent.rtF (Referent.fInt Syntax.w8)) (Syntax.tyRef (Syntax.named 1) Syntax.mut (Syntax.tyInt Syntax.w8)) 1 7 (Row.lease (κs .1 .0) (qs .1 .0)) 8
                     Path'.refl,
                 Path'.refl,
               ) Path'.refl Path'.refl λ b o k. tt) d54
 
-          d56 : Typed.Typed 𝓤 H A 𝓣 E G38 b37 Δ0 at56
-          d56 = Typed.s-seq 𝓤 H A W 𝓣 E G38 G39 b23 b36 Δ0 (Typed.give s36) at55 (Relend.t-sl-relend 𝓤 H A W E (Referent.rtF (Referent.fInt Syntax.w8)) 𝓣 G38 2 18 1 6 (Syntax.tyRef (Syntax.named 1)
+          d56 : Typed.Typed 𝓤 H A 𝓣 E G39 b37 Δ0 at56
+          d56 = Typed.s-seq 𝓤 H A W 𝓣 E G39 G40 b23 b36 Δ0 (Typed.give s37) at55 (Relend.t-sl-relend 𝓤 H A W E (Referent.rtF (Referent.fInt Syntax.w8)) 𝓣 G39 2 19 1 7 (Syntax.tyRef (Syntax.named 1)
               Syntax.mut (Syntax.tyInt Syntax.w8)) (Syntax.tyRef Syntax.erased Syntax.mut (Syntax.tyInt Syntax.w8)) (Row.lease (κs .1 .0) (qs .1 .0)) 0 (λ x. x) (Reads'.as-is 𝓤 H A (Mut.mslice
               (Referent.rtF (Referent.fInt Syntax.w8)) (Syntax.tyRef (Syntax.named 1) Syntax.mut (Syntax.tyInt Syntax.w8)) 1)) (Reads'.room-gone 𝓤 H A (Syntax.tyRef Syntax.erased Syntax.mut (Syntax.tyInt
               Syntax.w8))) Path'.refl tt Path'.refl Path'.refl Path'.refl λ b o. tt) d55
 
-          d57 : Typed.Typed 𝓤 H A 𝓣 E G9 b37 Δ0 at57
-          d57 = Typed.g-pre 𝓤 H A W 𝓣 E G9 G38 b37 Δ0 (λ Ψ. Ψ) at56 (Lifetime.g-begin 𝓤 H A W E G9 6
-              (tt, (tt, (tt, (tt, (tt, (tt, (tt, (tt, (tt, (tt, (tt, (tt, (tt, (tt, (tt, (tt, (tt, (tt, (tt, (tt, (tt, (tt, (tt, (tt, tt))))))))))))))))))))))))) d56
+          d57 : Typed.Typed 𝓤 H A 𝓣 E G10 b37 Δ0 at57
+          d57 = Typed.g-pre 𝓤 H A W 𝓣 E G10 G39 b37 Δ0 (λ Ψ. Ψ) at56 (Lifetime.g-begin 𝓤 H A W E G10 7
+              (tt, (tt, (tt, (tt, (tt, (tt, (tt, (tt, (tt, (tt, (tt, (tt, (tt, (tt, (tt, (tt, (tt, (tt, (tt, (tt, (tt, (tt, (tt, (tt, (tt, tt)))))))))))))))))))))))))) d56
 
-          d58 : Typed.Typed 𝓤 H A 𝓣 E G8 b38 Δ0 at58
-          d58 = Typed.t-seq 𝓤 H A W 𝓣 E G8 G9 b22 b37 Δ0 at30 at57 d30 d57
+          d58 : Typed.Typed 𝓤 H A 𝓣 E G9 b38 Δ0 at58
+          d58 = Typed.t-seq 𝓤 H A W 𝓣 E G9 G10 b22 b37 Δ0 at30 at57 d30 d57
 
-          d59 : Typed.Typed 𝓤 H A 𝓣 E G7 b39 Δ0 at59
-          d59 = Typed.s-seq 𝓤 H A W 𝓣 E G7 G8 b3 b38 Δ0 (Typed.ask s6) at58 (Scalar.t-op2 𝓤 H A W E 𝓣 G7 (Syntax.lt Syntax.unsigned) (Scalar.oAt 9 (Syntax.tyInt Syntax.w64) (Row.valS (Row.sInt
-              Syntax.w64))) (Scalar.oAt 10 (Syntax.tyInt Syntax.w64) (Row.valS (Row.sInt Syntax.w64))) 11 (Rows.sc-here Row.sBool) Syntax.tyBool (Row.valS Row.sBool) (Row.sBool .of)
+          d59 : Typed.Typed 𝓤 H A 𝓣 E G8 b39 Δ0 at59
+          d59 = Typed.s-seq 𝓤 H A W 𝓣 E G8 G9 b3 b38 Δ0 (Typed.ask s7) at58 (Scalar.t-op2 𝓤 H A W E 𝓣 G8 (Syntax.lt Syntax.unsigned) (Scalar.oAt 10 (Syntax.tyInt Syntax.w64) (Row.valS (Row.sInt
+              Syntax.w64))) (Scalar.oAt 11 (Syntax.tyInt Syntax.w64) (Row.valS (Row.sInt Syntax.w64))) 12 (Rows.sc-here Row.sBool) Syntax.tyBool (Row.valS Row.sBool) (Row.sBool .of)
               (Scalar.reads-sc 𝓤 H A W (Row.sInt Syntax.w64), Path'.refl) (Scalar.reads-sc 𝓤 H A W (Row.sInt Syntax.w64), Path'.refl) (Reads'.room-gone 𝓤 H A Syntax.tyBool) (Scalar.holds-sc 𝓤 H A W
               Row.sBool) Path'.refl (λ u. Path'.refl) λ u. tt) d58
 
-          d60 : Typed.Typed 𝓤 H A 𝓣 E G6 b40 Δ0 at60
-          d60 = Typed.s-seq 𝓤 H A W 𝓣 E G6 G7 b2 b39 Δ0 (Typed.pass T6 T7 s5) at59 (Scalar.t-use 𝓤 H A W E 𝓣 G6 (Scalar.oFld 1 (List._∷_ (Syntax.field 1) List.[]) (Syntax.tyInt Syntax.w64) 8
-              Shared.lenV) 10 (Rows.sc-here (Row.sInt Syntax.w64)) (Syntax.tyInt Syntax.w64) (Row.valS (Row.sInt Syntax.w64)) (Row.sInt Syntax.w64 .of)
+          d60 : Typed.Typed 𝓤 H A 𝓣 E G7 b40 Δ0 at60
+          d60 = Typed.s-seq 𝓤 H A W 𝓣 E G7 G8 b2 b39 Δ0 (Typed.pass T7 T8 s6) at59 (Scalar.t-use 𝓤 H A W E 𝓣 G7 (Scalar.oFld 1 (List._∷_ (Syntax.field 1) List.[]) (Syntax.tyInt Syntax.w64) 8
+              Shared.lenV) 11 (Rows.sc-here (Row.sInt Syntax.w64)) (Syntax.tyInt Syntax.w64) (Row.valS (Row.sInt Syntax.w64)) (Row.sInt Syntax.w64 .of)
               (Shared.reads-sslice-len 𝓤 H A W (Referent.rtF (Referent.fInt Syntax.w16)) (Syntax.tyRef (Syntax.named 0) Syntax.imm (Syntax.tyInt Syntax.w16)) 0 8 Path'.refl, Path'.refl) (Reads'.room-gone
               𝓤 H A (Syntax.tyInt Syntax.w64)) (Scalar.holds-sc 𝓤 H A W (Row.sInt Syntax.w64)) Path'.refl (λ u. Path'.refl) λ u. tt) d59
 
-          d61 : Typed.Typed 𝓤 H A 𝓣 E G5 b41 Δ0 at61
-          d61 = Typed.s-seq 𝓤 H A W 𝓣 E G5 G6 b1 b40 Δ0 (Typed.both s4) at60 (Plain.t-call-plain 𝓤 H A W 𝓣 1 ps·1 r·1 (claims· .2) (claims· .3) "begin::first_above" (known .1) E (λ pos β. β) G5
-              (record { pos = 1; ty = Syntax.tyRef (Syntax.named 0) Syntax.imm (Syntax.tyInt Syntax.w16); ref = λ x. x }, (Num.vAt 8 λ x. x, tt)) 9 (List._∷_ 0 List.[]) (Call.sub-id 𝓤 H A W (G5 .slots)) (
+          d61 : Typed.Typed 𝓤 H A 𝓣 E G6 b41 Δ0 at61
+          d61 = Typed.s-seq 𝓤 H A W 𝓣 E G6 G7 b1 b40 Δ0 (Typed.both s5) at60 (Plain.t-call-plain 𝓤 H A W 𝓣 1 ps·1 r·1 (claims· .2) (claims· .3) "begin::first_above" (known .1) E (λ pos β. β) G6
+              (record { pos = 1; ty = Syntax.tyRef (Syntax.named 0) Syntax.imm (Syntax.tyInt Syntax.w16); ref = λ x. x }, (Num.vAt 9 λ x. x, tt)) 10 (List._∷_ 0 List.[]) (Call.sub-id 𝓤 H A W (G6 .slots)) (
                 ShrSlice.spares-sslice 𝓤 H A W (Referent.rtF (Referent.fInt Syntax.w16)) (Syntax.tyRef (Syntax.named 0) Syntax.imm (Syntax.tyInt Syntax.w16)) 0,
                 Shared.reads-sslice 𝓤 H A W (Referent.rtF
                     (Referent.fInt Syntax.w16)) (Syntax.tyRef (Syntax.named 0) Syntax.imm (Syntax.tyInt Syntax.w16)) 0,
@@ -2238,37 +2301,42 @@ module _ (claims· : Claims) where
               )
               (Reads'.room-gone 𝓤 H A (Syntax.tyInt Syntax.w64)) (tt, tt) Path'.refl) d60
 
-          d62 : Typed.Typed 𝓤 H A 𝓣 E G4 b42 Δ0 at62
-          d62 = Typed.s-seq 𝓤 H A W 𝓣 E G4 G5 b0 b41 Δ0 (Typed.both s3) at61 (Plain.t-call-plain 𝓤 H A W 𝓣 0 ps·0 r·0 (claims· .0) (claims· .1) "quantiser::largest" (known .0) E (λ pos β. β) G4
-              (Num.vFld 6 (List._∷_ (Syntax.field 0) List.[]) 0 λ x. Form.struct .as-values x .0, tt) 8 List.[] (Call.sub-id 𝓤 H A W (G4 .slots))
+          d62 : Typed.Typed 𝓤 H A 𝓣 E G5 b42 Δ0 at62
+          d62 = Typed.s-seq 𝓤 H A W 𝓣 E G5 G6 b0 b41 Δ0 (Typed.both s4) at61 (Plain.t-call-plain 𝓤 H A W 𝓣 0 ps·0 r·0 (claims· .0) (claims· .1) "quantiser::largest" (known .0) E (λ pos β. β) G5
+              (Num.vFld 6 (List._∷_ (Syntax.field 0) List.[]) 0 λ x. Form.struct .as-values x .0, tt) 9 List.[] (Call.sub-id 𝓤 H A W (G5 .slots))
               ((Reads.reads-field 𝓤 H A W Form.the-type Laws.the-laws 0 (Syntax.tyInt Syntax.w32) 0 Path'.refl, Path'.refl), tt) (Reads'.room-gone 𝓤 H A (Syntax.tyInt Syntax.w32)) tt Path'.refl) d61
 
-          d63 : Typed.Typed 𝓤 H A 𝓣 E G3 b42 Δ0 at63
-          d63 = Typed.g-pre 𝓤 H A W 𝓣 E G3 G4 b42 Δ0 (Typed.give s2) at62 (Know.g-sl-known 𝓤 H A W (Referent.fInt Syntax.w16) E G3 4 2 (Syntax.tyRef (Syntax.named 2) Syntax.mut (Syntax.tyInt
+          d63 : Typed.Typed 𝓤 H A 𝓣 E G4 b42 Δ0 at63
+          d63 = Typed.g-pre 𝓤 H A W 𝓣 E G4 G5 b42 Δ0 (Typed.give s3) at62 (Know.g-shs-known 𝓤 H A W (Referent.fInt Syntax.w8) E G4 7 4 (Syntax.tyRef (Syntax.named 4) Syntax.imm (Syntax.tyInt
+              Syntax.w8)) (Row.lease (κs .1 .1 .1 .1 .0) (qs .1 .1 .1 .1 .0)) 0 (λ x. x) record { fits = Dec'.lit< tt } (Reads'.as-is 𝓤 H A (Rows.sslice (Referent.rtF (Referent.fInt Syntax.w8))
+              (Syntax.tyRef (Syntax.named 4) Syntax.imm (Syntax.tyInt Syntax.w8)) 4)) Path'.refl tt) d62
+
+          d64 : Typed.Typed 𝓤 H A 𝓣 E G3 b42 Δ0 at64
+          d64 = Typed.g-pre 𝓤 H A W 𝓣 E G3 G4 b42 Δ0 (Typed.give s2) at63 (Know.g-sl-known 𝓤 H A W (Referent.fInt Syntax.w16) E G3 4 2 (Syntax.tyRef (Syntax.named 2) Syntax.mut (Syntax.tyInt
               Syntax.w16)) (Row.lease (κs .1 .1 .0) (qs .1 .1 .0)) 0 (λ x. x) record { fits = Dec'.lit< tt } (Reads'.as-is 𝓤 H A (Mut.mslice (Referent.rtF (Referent.fInt Syntax.w16)) (Syntax.tyRef
-              (Syntax.named 2) Syntax.mut (Syntax.tyInt Syntax.w16)) 2)) Path'.refl tt) d62
+              (Syntax.named 2) Syntax.mut (Syntax.tyInt Syntax.w16)) 2)) Path'.refl tt) d63
 
-          d64 : Typed.Typed 𝓤 H A 𝓣 E G2 b42 Δ0 at64
-          d64 = Typed.g-pre 𝓤 H A W 𝓣 E G2 G3 b42 Δ0 (Typed.give s1) at63 (Know.g-sl-known 𝓤 H A W (Referent.fInt Syntax.w8) E G2 2 1 (Syntax.tyRef (Syntax.named 1) Syntax.mut (Syntax.tyInt
+          d65 : Typed.Typed 𝓤 H A 𝓣 E G2 b42 Δ0 at65
+          d65 = Typed.g-pre 𝓤 H A W 𝓣 E G2 G3 b42 Δ0 (Typed.give s1) at64 (Know.g-sl-known 𝓤 H A W (Referent.fInt Syntax.w8) E G2 2 1 (Syntax.tyRef (Syntax.named 1) Syntax.mut (Syntax.tyInt
               Syntax.w8)) (Row.lease (κs .1 .0) (qs .1 .0)) 0 (λ x. x) record { fits = Dec'.lit< tt } (Reads'.as-is 𝓤 H A (Mut.mslice (Referent.rtF (Referent.fInt Syntax.w8)) (Syntax.tyRef (Syntax.named
-              1) Syntax.mut (Syntax.tyInt Syntax.w8)) 1)) Path'.refl tt) d63
+              1) Syntax.mut (Syntax.tyInt Syntax.w8)) 1)) Path'.refl tt) d64
 
-          d65 : Typed.Typed 𝓤 H A 𝓣 E G0 b42 Δ0 at65
-          d65 = Typed.g-pre 𝓤 H A W 𝓣 E G0 G2 b42 Δ0 (Typed.give s0) at64 (Know.g-shs-known 𝓤 H A W (Referent.fInt Syntax.w16) E G0 1 0 (Syntax.tyRef (Syntax.named 0) Syntax.imm (Syntax.tyInt
+          d66 : Typed.Typed 𝓤 H A 𝓣 E G0 b42 Δ0 at66
+          d66 = Typed.g-pre 𝓤 H A W 𝓣 E G0 G2 b42 Δ0 (Typed.give s0) at65 (Know.g-shs-known 𝓤 H A W (Referent.fInt Syntax.w16) E G0 1 0 (Syntax.tyRef (Syntax.named 0) Syntax.imm (Syntax.tyInt
               Syntax.w16)) (Row.lease (κs .0) (qs .0)) 0 (λ x. x) record { fits = Dec'.lit< tt } (Reads'.as-is 𝓤 H A (Rows.sslice (Referent.rtF (Referent.fInt Syntax.w16)) (Syntax.tyRef (Syntax.named 0)
-              Syntax.imm (Syntax.tyInt Syntax.w16)) 0)) Path'.refl tt) d64
+              Syntax.imm (Syntax.tyInt Syntax.w16)) 0)) Path'.refl tt) d65
 
-          pub typed : Typed.Typed 𝓤 H A 𝓣 E (Function.Γin 4 ps r xs m κs qs) b42 (Function.Δret 4 ps r xs m κs qs) Φ
-          typed = d65
+          pub typed : Typed.Typed 𝓤 H A 𝓣 E (Function.Γin 5 ps r xs m κs qs) b42 (Function.Δret 5 ps r xs m κs qs) Φ
+          typed = d66
 
-      module _ (κs : Lifetimes.Lfts 4) where
+      module _ (κs : Lifetimes.Lfts 5) where
         pub record Args : Type 0 where
-          pub samples : Kinds.Den {n = 4} κs (ShrSlice.pShrS (Referent.rtF (Referent.fInt Syntax.w16)) 0 tt)
-          pub out : Kinds.Den {n = 4} κs (MutSlice.pMutS (Referent.rtF (Referent.fInt Syntax.w8)) 1 tt)
-          pub measure : Kinds.Den {n = 4} κs Bool.pBool
-          pub lines : Kinds.Den {n = 4} κs (MutSlice.pMutS (Referent.rtF (Referent.fInt Syntax.w16)) 2 tt)
-          pub rs : Kinds.Den {n = 4} κs (MutSlice.pMutS (Element.type) 3 tt)
-          pub form : Kinds.Den {n = 4} κs (Value.pVal record {
+          pub samples : Kinds.Den {n = 5} κs (ShrSlice.pShrS (Referent.rtF (Referent.fInt Syntax.w16)) 0 tt)
+          pub out : Kinds.Den {n = 5} κs (MutSlice.pMutS (Referent.rtF (Referent.fInt Syntax.w8)) 1 tt)
+          pub measure : Kinds.Den {n = 5} κs Bool.pBool
+          pub lines : Kinds.Den {n = 5} κs (MutSlice.pMutS (Referent.rtF (Referent.fInt Syntax.w16)) 2 tt)
+          pub rs : Kinds.Den {n = 5} κs (MutSlice.pMutS (Element.type) 3 tt)
+          pub form : Kinds.Den {n = 5} κs (Value.pVal record {
             ty = Declared'.row Form.the-type;
             one = Path'.refl;
             val = Laws'4.val Form.the-type Laws.the-laws;
@@ -2286,28 +2354,29 @@ module _ (claims· : Claims) where
                 Local.mem-whole 𝓤 H A W (Declared'.row Form.the-type);
             of-mem = Local.whole-mem 𝓤 H A W (Declared'.row Form.the-type);
           })
-          pub count : Kinds.Den {n = 4} κs (Num.pNum Syntax.w64)
+          pub bases : Kinds.Den {n = 5} κs (ShrSlice.pShrS (Referent.rtF (Referent.fInt Syntax.w8)) 4 tt)
+          pub count : Kinds.Den {n = 5} κs (Num.pNum Syntax.w64)
 
         abbrev pub dens : (a : Args) → Kinds.Dens κs ps
-        dens = λ a. (a .samples, (a .out, (a .measure, (a .lines, (a .rs, (a .form, (a .count, tt)))))))
+        dens = λ a. (a .samples, (a .out, (a .measure, (a .lines, (a .rs, (a .form, (a .bases, (a .count, tt))))))))
 
         module _ (args· : Args) where
           pub record Ranges : Type 0 where
             pub count : Val.Fits Syntax.w64 (args· .count)
 
-      abbrev pub m0 : (κs : Lifetimes.Lfts 4) → (args : Args κs) → Typed.Mo T0
+      abbrev pub m0 : (κs : Lifetimes.Lfts 5) → (args : Args κs) → Typed.Mo T0
       m0 = λ κs args. (tt, Enter.partsP κs 1 ps xs (dens κs args))
 
-      abbrev W0 : (κs : Lifetimes.Lfts 4) → (args : Args κs) → Typed.Want O0
+      abbrev W0 : (κs : Lifetimes.Lfts 5) → (args : Args κs) → Typed.Want O0
       W0 = λ κs args. (
         λ u. ⊥,
         tt,
-        λ u. Enter.Fixs κs 1 ps xs (dens κs args) (u .1) × Post· κs (dens κs args) (Function.resV r κs (u .0)) (Clauses.atExit (Kinds.endedOf 4 ps r) κs (dens κs args) (Enter.lastsP κs 1 ps
+        λ u. Enter.Fixs κs 1 ps xs (dens κs args) (u .1) × Post· κs (dens κs args) (Function.resV r κs (u .0)) (Clauses.atExit (Kinds.endedOf 5 ps r) κs (dens κs args) (Enter.lastsP κs 1 ps
             xs (dens κs args) (u .1))),
       )
 
       pub record Start : Type 0 where
-        pub κs : Lifetimes.Lfts 4
+        pub κs : Lifetimes.Lfts 5
         pub args : Args κs
         pub good : Kinds.GoodsP κs ps (dens κs args)
         pub fits : Ranges κs args
@@ -2346,412 +2415,430 @@ module _ (claims· : Claims) where
         pub before : After-slice-known
         pub slice-known2 : After-slice-known2·own before
 
-      abbrev pub Need-largest-requires : Type 0
-      Need-largest-requires = (c : After-slice-known2) → s3 .asks (m3 (c .before) (c .slice-known2 .given))
-
       abbrev pub m4 : (before : After-slice-known2) → (given : s3 .gives (m3 (before .before) (before .slice-known2 .given))) → Typed.Mo T5
       m4 = λ before given. s3 .next (m3 (before .before) (before .slice-known2 .given)) given
 
       module _ (before· : After-slice-known2) where
+        pub record After-shared-slice-known2·own : Type 0 where
+          pub given : s3 .gives (m3 (before· .before) (before· .slice-known2 .given))
+
+      pub record After-shared-slice-known2 : Type 0 where
+        pub before : After-slice-known2
+        pub shared-slice-known2 : After-shared-slice-known2·own before
+
+      abbrev pub Need-largest-requires : Type 0
+      Need-largest-requires = (c : After-shared-slice-known2) → s4 .asks (m4 (c .before) (c .shared-slice-known2 .given))
+
+      abbrev pub m5 : (before : After-shared-slice-known2) → (given : s4 .gives (m4 (before .before) (before .shared-slice-known2 .given))) → Typed.Mo T6
+      m5 = λ before given. s4 .next (m4 (before .before) (before .shared-slice-known2 .given)) given
+
+      module _ (before· : After-shared-slice-known2) where
         abbrev pub After-largest·own : Type 0
-        After-largest·own = Called.Called ps·0 r·0 (claims· .1) T4 (Num.vFld 6 (List._∷_ (Syntax.field 0) List.[]) 0 λ x. Form.struct .as-values x .0, tt) (m3 (before· .before) (before· .slice-known2
-            .given))
+        After-largest·own = Called.Called ps·0 r·0 (claims· .1) T5 (Num.vFld 6 (List._∷_ (Syntax.field 0) List.[]) 0 λ x. Form.struct .as-values x .0, tt) (m4 (before· .before) (before·
+            .shared-slice-known2 .given))
 
       pub record After-largest : Type 0 where
-        pub before : After-slice-known2
+        pub before : After-shared-slice-known2
         pub largest : After-largest·own before
 
-      abbrev pub After-largest·gave : (c : After-largest) → s3 .gives (m3 (c .before .before) (c .before .slice-known2 .given))
-      After-largest·gave = λ c. Called.given ps·0 r·0 (claims· .1) T4 (Num.vFld 6 (List._∷_ (Syntax.field 0) List.[]) 0 λ x. Form.struct .as-values x .0, tt) (m3 (c .before .before) (c .before
-          .slice-known2 .given)) (c .largest)
+      abbrev pub After-largest·gave : (c : After-largest) → s4 .gives (m4 (c .before .before) (c .before .shared-slice-known2 .given))
+      After-largest·gave = λ c. Called.given ps·0 r·0 (claims· .1) T5 (Num.vFld 6 (List._∷_ (Syntax.field 0) List.[]) 0 λ x. Form.struct .as-values x .0, tt) (m4 (c .before .before) (c .before
+          .shared-slice-known2 .given)) (c .largest)
 
       abbrev pub Need-first-above-requires : Type 0
-      Need-first-above-requires = (c : After-largest) → s4 .asks (m4 (c .before) (After-largest·gave c))
+      Need-first-above-requires = (c : After-largest) → s5 .asks (m5 (c .before) (After-largest·gave c))
 
-      abbrev pub m5 : (before : After-largest) → (given : s4 .gives (m4 (before .before) (After-largest·gave before))) → Typed.Mo T6
-      m5 = λ before given. s4 .next (m4 (before .before) (After-largest·gave before)) given
+      abbrev pub m6 : (before : After-largest) → (given : s5 .gives (m5 (before .before) (After-largest·gave before))) → Typed.Mo T7
+      m6 = λ before given. s5 .next (m5 (before .before) (After-largest·gave before)) given
 
       module _ (before· : After-largest) where
         abbrev pub After-first-above·own : Type 0
-        After-first-above·own = Called.Called ps·1 r·1 (claims· .3) T5
-            (record { pos = 1; ty = Syntax.tyRef (Syntax.named 0) Syntax.imm (Syntax.tyInt Syntax.w16); ref = λ x. x }, (Num.vAt 8 λ x. x, tt)) (m4 (before· .before) (After-largest·gave before·))
+        After-first-above·own = Called.Called ps·1 r·1 (claims· .3) T6
+            (record { pos = 1; ty = Syntax.tyRef (Syntax.named 0) Syntax.imm (Syntax.tyInt Syntax.w16); ref = λ x. x }, (Num.vAt 9 λ x. x, tt)) (m5 (before· .before) (After-largest·gave before·))
 
       pub record After-first-above : Type 0 where
         pub before : After-largest
         pub first-above : After-first-above·own before
 
-      abbrev pub After-first-above·gave : (c : After-first-above) → s4 .gives (m4 (c .before .before) (After-largest·gave (c .before)))
-      After-first-above·gave = λ c. Called.given ps·1 r·1 (claims· .3) T5
-          (record { pos = 1; ty = Syntax.tyRef (Syntax.named 0) Syntax.imm (Syntax.tyInt Syntax.w16); ref = λ x. x }, (Num.vAt 8 λ x. x, tt)) (m4 (c .before .before) (After-largest·gave (c .before))) (c
+      abbrev pub After-first-above·gave : (c : After-first-above) → s5 .gives (m5 (c .before .before) (After-largest·gave (c .before)))
+      After-first-above·gave = λ c. Called.given ps·1 r·1 (claims· .3) T6
+          (record { pos = 1; ty = Syntax.tyRef (Syntax.named 0) Syntax.imm (Syntax.tyInt Syntax.w16); ref = λ x. x }, (Num.vAt 9 λ x. x, tt)) (m5 (c .before .before) (After-largest·gave (c .before))) (c
           .first-above)
 
-      abbrev pub m6 : (before : After-largest) → (given : s4 .gives (m4 (before .before) (After-largest·gave before))) → Typed.Mo T7
-      m6 = λ before given. s5 (m5 before given)
+      abbrev pub m7 : (before : After-largest) → (given : s5 .gives (m5 (before .before) (After-largest·gave before))) → Typed.Mo T8
+      m7 = λ before given. s6 (m6 before given)
 
-      abbrev pub m7 : (before : After-largest) → (given : s4 .gives (m4 (before .before) (After-largest·gave before))) → Typed.Mo T8
-      m7 = λ before given. s6 .next (m6 before given)
+      abbrev pub m8 : (before : After-largest) → (given : s5 .gives (m5 (before .before) (After-largest·gave before))) → Typed.Mo T9
+      m8 = λ before given. s7 .next (m7 before given)
 
-      abbrev W1 : (before : After-largest) → (given : s4 .gives (m4 (before .before) (After-largest·gave before))) → Typed.Want O1
-      W1 = λ before given. Typed.wantNext T9 O0 (at57 (W0 (before .before .before .before .before .κs) (before .before .before .before .before .args))) (W0 (before .before .before .before .before .κs)
-          (before .before .before .before .before .args))
+      abbrev W1 : (before : After-largest) → (given : s5 .gives (m5 (before .before) (After-largest·gave before))) → Typed.Want O1
+      W1 = λ before given. Typed.wantNext T10 O0 (at57 (W0 (before .before .before .before .before .before .κs) (before .before .before .before .before .before .args))) (W0 (before .before .before
+          .before .before .before .κs) (before .before .before .before .before .before .args))
 
-      abbrev pub m8 : (before : After-largest) → (given : s4 .gives (m4 (before .before) (After-largest·gave before))) → Typed.Mo T10
-      m8 = λ before given. s7 (m7 before given)
+      abbrev pub m9 : (before : After-largest) → (given : s5 .gives (m5 (before .before) (After-largest·gave before))) → Typed.Mo T11
+      m9 = λ before given. s8 (m8 before given)
 
       module _ (before· : After-first-above) where
         pub record Then1·own : Type 0 where
-          pub taken : Nat._<_ (Row.get 9 (T7 .locals) (m6 (before· .before) (After-first-above·gave before·))) (Row.get 10 (T7 .locals) (m6 (before· .before) (After-first-above·gave before·)))
+          pub taken : Nat._<_ (Row.get 10 (T8 .locals) (m7 (before· .before) (After-first-above·gave before·))) (Row.get 11 (T8 .locals) (m7 (before· .before) (After-first-above·gave before·)))
 
       pub record Then1 : Type 0 where
         pub before : After-first-above
         pub if1 : Then1·own before
 
-      abbrev pub m9 : (before : After-first-above) → Typed.Mo T11
-      m9 = λ before. s8 (m8 (before .before) (After-first-above·gave before))
-
       abbrev pub m10 : (before : After-first-above) → Typed.Mo T12
-      m10 = λ before. s9 (m9 before)
+      m10 = λ before. s9 (m9 (before .before) (After-first-above·gave before))
 
-      abbrev pub m11 : (before : Then1) → (given : s11 .gives (m10 (before .before))) → Typed.Mo T14
-      m11 = λ before given. s11 .next (m10 (before .before)) given
+      abbrev pub m11 : (before : After-first-above) → Typed.Mo T13
+      m11 = λ before. s10 (m10 before)
 
-      abbrev pub m12 : (before : Then1) → (given : s11 .gives (m10 (before .before))) → Typed.Mo T15
-      m12 = λ before given. s12 .next (m11 before given)
+      abbrev pub m12 : (before : Then1) → (given : s12 .gives (m11 (before .before))) → Typed.Mo T15
+      m12 = λ before given. s12 .next (m11 (before .before)) given
+
+      abbrev pub m13 : (before : Then1) → (given : s12 .gives (m11 (before .before))) → Typed.Mo T16
+      m13 = λ before given. s13 .next (m12 before given)
 
       module _ (before· : Then1) where
         pub record After-clear-arg·own : Type 0 where
-          pub given : s11 .gives (m10 (before· .before))
+          pub given : s12 .gives (m11 (before· .before))
 
       pub record After-clear-arg : Type 0 where
         pub before : Then1
         pub clear-arg : After-clear-arg·own before
 
       abbrev pub Need-clear-requires : Type 0
-      Need-clear-requires = (c : After-clear-arg) → s13 .asks (m12 (c .before) (c .clear-arg .given))
+      Need-clear-requires = (c : After-clear-arg) → s14 .asks (m13 (c .before) (c .clear-arg .given))
 
-      abbrev pub m13 : (before : After-clear-arg) → (given : s13 .gives (m12 (before .before) (before .clear-arg .given))) → Typed.Mo T16
-      m13 = λ before given. s13 .next (m12 (before .before) (before .clear-arg .given)) given
+      abbrev pub m14 : (before : After-clear-arg) → (given : s14 .gives (m13 (before .before) (before .clear-arg .given))) → Typed.Mo T17
+      m14 = λ before given. s14 .next (m13 (before .before) (before .clear-arg .given)) given
 
       module _ (before· : After-clear-arg) where
         abbrev pub After-clear·own : Type 0
-        After-clear·own = Called.Called ps·2 r·2 (claims· .5) T15 (record { pos = 14; ty = Syntax.tyRef Syntax.erased Syntax.mut (Syntax.tyInt Syntax.w16); ref = λ x. x }, tt) (m12 (before· .before)
+        After-clear·own = Called.Called ps·2 r·2 (claims· .5) T16 (record { pos = 15; ty = Syntax.tyRef Syntax.erased Syntax.mut (Syntax.tyInt Syntax.w16); ref = λ x. x }, tt) (m13 (before· .before)
             (before· .clear-arg .given))
 
       pub record After-clear : Type 0 where
         pub before : After-clear-arg
         pub clear : After-clear·own before
 
-      abbrev pub After-clear·gave : (c : After-clear) → s13 .gives (m12 (c .before .before) (c .before .clear-arg .given))
-      After-clear·gave = λ c. Called.given ps·2 r·2 (claims· .5) T15 (record { pos = 14; ty = Syntax.tyRef Syntax.erased Syntax.mut (Syntax.tyInt Syntax.w16); ref = λ x. x }, tt) (m12 (c .before
+      abbrev pub After-clear·gave : (c : After-clear) → s14 .gives (m13 (c .before .before) (c .before .clear-arg .given))
+      After-clear·gave = λ c. Called.given ps·2 r·2 (claims· .5) T16 (record { pos = 15; ty = Syntax.tyRef Syntax.erased Syntax.mut (Syntax.tyInt Syntax.w16); ref = λ x. x }, tt) (m13 (c .before
           .before) (c .before .clear-arg .given)) (c .clear)
 
-      abbrev pub m14 : (before : After-clear-arg) → (given : s13 .gives (m12 (before .before) (before .clear-arg .given))) → Typed.Mo T17
-      m14 = λ before given. s14 (m13 before given)
+      abbrev pub m15 : (before : After-clear-arg) → (given : s14 .gives (m13 (before .before) (before .clear-arg .given))) → Typed.Mo T18
+      m15 = λ before given. s15 (m14 before given)
 
-      abbrev pub m15 : (before : After-clear) → (given : s16 .gives (m14 (before .before) (After-clear·gave before))) → Typed.Mo T19
-      m15 = λ before given. s16 .next (m14 (before .before) (After-clear·gave before)) given
+      abbrev pub m16 : (before : After-clear) → (given : s17 .gives (m15 (before .before) (After-clear·gave before))) → Typed.Mo T20
+      m16 = λ before given. s17 .next (m15 (before .before) (After-clear·gave before)) given
 
       module _ (before· : After-clear) where
         pub record After-lines·own : Type 0 where
-          pub given : s16 .gives (m14 (before· .before) (After-clear·gave before·))
+          pub given : s17 .gives (m15 (before· .before) (After-clear·gave before·))
 
       pub record After-lines : Type 0 where
         pub before : After-clear
         pub lines : After-lines·own before
 
-      abbrev pub m16 : (before : After-lines) → (given : s17 .gives (m15 (before .before) (before .lines .given))) → Typed.Mo T20
-      m16 = λ before given. s17 .next (m15 (before .before) (before .lines .given)) given
+      abbrev pub m17 : (before : After-lines) → (given : s18 .gives (m16 (before .before) (before .lines .given))) → Typed.Mo T21
+      m17 = λ before given. s18 .next (m16 (before .before) (before .lines .given)) given
 
       module _ (before· : After-lines) where
         pub record After-slice-known3·own : Type 0 where
-          pub given : s17 .gives (m15 (before· .before) (before· .lines .given))
+          pub given : s18 .gives (m16 (before· .before) (before· .lines .given))
 
       pub record After-slice-known3 : Type 0 where
         pub before : After-lines
         pub slice-known3 : After-slice-known3·own before
 
-      abbrev pub m17 : (before : After-slice-known3) → (given : s20 .gives (m16 (before .before) (before .slice-known3 .given))) → Typed.Mo T23
-      m17 = λ before given. s20 .next (m16 (before .before) (before .slice-known3 .given)) given
+      abbrev pub m18 : (before : After-slice-known3) → (given : s21 .gives (m17 (before .before) (before .slice-known3 .given))) → Typed.Mo T24
+      m18 = λ before given. s21 .next (m17 (before .before) (before .slice-known3 .given)) given
 
-      abbrev pub m18 : (before : After-slice-known3) → (given : s20 .gives (m16 (before .before) (before .slice-known3 .given))) → Typed.Mo T24
-      m18 = λ before given. s21 .next (m17 before given)
+      abbrev pub m19 : (before : After-slice-known3) → (given : s21 .gives (m17 (before .before) (before .slice-known3 .given))) → Typed.Mo T25
+      m19 = λ before given. s22 .next (m18 before given)
 
       module _ (before· : After-slice-known3) where
         pub record After-clear-records-arg·own : Type 0 where
-          pub given : s20 .gives (m16 (before· .before) (before· .slice-known3 .given))
+          pub given : s21 .gives (m17 (before· .before) (before· .slice-known3 .given))
 
       pub record After-clear-records-arg : Type 0 where
         pub before : After-slice-known3
         pub clear-records-arg : After-clear-records-arg·own before
 
       abbrev pub Need-clear-records-requires : Type 0
-      Need-clear-records-requires = (c : After-clear-records-arg) → s22 .asks (m18 (c .before) (c .clear-records-arg .given))
+      Need-clear-records-requires = (c : After-clear-records-arg) → s23 .asks (m19 (c .before) (c .clear-records-arg .given))
 
-      abbrev pub m19 : (before : After-clear-records-arg) → (given : s22 .gives (m18 (before .before) (before .clear-records-arg .given))) → Typed.Mo T25
-      m19 = λ before given. s22 .next (m18 (before .before) (before .clear-records-arg .given)) given
+      abbrev pub m20 : (before : After-clear-records-arg) → (given : s23 .gives (m19 (before .before) (before .clear-records-arg .given))) → Typed.Mo T26
+      m20 = λ before given. s23 .next (m19 (before .before) (before .clear-records-arg .given)) given
 
       module _ (before· : After-clear-records-arg) where
         abbrev pub After-clear-records·own : Type 0
-        After-clear-records·own = Called.Called ps·3 r·3 (claims· .7) T24 (record { pos = 16; ty = Syntax.tyRef Syntax.erased Syntax.mut Element.behind; ref = λ x. x }, tt) (m18 (before· .before)
+        After-clear-records·own = Called.Called ps·3 r·3 (claims· .7) T25 (record { pos = 17; ty = Syntax.tyRef Syntax.erased Syntax.mut Element.behind; ref = λ x. x }, tt) (m19 (before· .before)
             (before· .clear-records-arg .given))
 
       pub record After-clear-records : Type 0 where
         pub before : After-clear-records-arg
         pub clear-records : After-clear-records·own before
 
-      abbrev pub After-clear-records·gave : (c : After-clear-records) → s22 .gives (m18 (c .before .before) (c .before .clear-records-arg .given))
-      After-clear-records·gave = λ c. Called.given ps·3 r·3 (claims· .7) T24 (record { pos = 16; ty = Syntax.tyRef Syntax.erased Syntax.mut Element.behind; ref = λ x. x }, tt) (m18 (c .before
+      abbrev pub After-clear-records·gave : (c : After-clear-records) → s23 .gives (m19 (c .before .before) (c .before .clear-records-arg .given))
+      After-clear-records·gave = λ c. Called.given ps·3 r·3 (claims· .7) T25 (record { pos = 17; ty = Syntax.tyRef Syntax.erased Syntax.mut Element.behind; ref = λ x. x }, tt) (m19 (c .before
           .before) (c .before .clear-records-arg .given)) (c .clear-records)
 
-      abbrev pub m20 : (before : After-clear-records-arg) → (given : s22 .gives (m18 (before .before) (before .clear-records-arg .given))) → Typed.Mo T26
-      m20 = λ before given. s23 (m19 before given)
+      abbrev pub m21 : (before : After-clear-records-arg) → (given : s23 .gives (m19 (before .before) (before .clear-records-arg .given))) → Typed.Mo T27
+      m21 = λ before given. s24 (m20 before given)
 
-      abbrev pub m21 : (before : After-clear-records) → (given : s25 .gives (m20 (before .before) (After-clear-records·gave before))) → Typed.Mo T28
-      m21 = λ before given. s25 .next (m20 (before .before) (After-clear-records·gave before)) given
+      abbrev pub m22 : (before : After-clear-records) → (given : s26 .gives (m21 (before .before) (After-clear-records·gave before))) → Typed.Mo T29
+      m22 = λ before given. s26 .next (m21 (before .before) (After-clear-records·gave before)) given
 
-      abbrev pub m22 : (before : After-clear-records) → (given : s25 .gives (m20 (before .before) (After-clear-records·gave before))) → Typed.Mo T30
-      m22 = λ before given. s27 (m21 before given)
-
-      abbrev pub m23 : (before : After-clear-records) → (given : s25 .gives (m20 (before .before) (After-clear-records·gave before))) → Typed.Mo T31
+      abbrev pub m23 : (before : After-clear-records) → (given : s26 .gives (m21 (before .before) (After-clear-records·gave before))) → Typed.Mo T31
       m23 = λ before given. s28 (m22 before given)
 
-      abbrev pub m24 : (before : After-clear-records) → (given : s25 .gives (m20 (before .before) (After-clear-records·gave before))) → Typed.Mo T32
+      abbrev pub m24 : (before : After-clear-records) → (given : s26 .gives (m21 (before .before) (After-clear-records·gave before))) → Typed.Mo T32
       m24 = λ before given. s29 (m23 before given)
 
-      abbrev pub m25 : (before : After-clear-records) → (given : s25 .gives (m20 (before .before) (After-clear-records·gave before))) → Typed.Mo T33
+      abbrev pub m25 : (before : After-clear-records) → (given : s26 .gives (m21 (before .before) (After-clear-records·gave before))) → Typed.Mo T33
       m25 = λ before given. s30 (m24 before given)
 
-      abbrev pub m26 : (before : After-clear-records) → (given : s25 .gives (m20 (before .before) (After-clear-records·gave before))) → Typed.Mo T34
+      abbrev pub m26 : (before : After-clear-records) → (given : s26 .gives (m21 (before .before) (After-clear-records·gave before))) → Typed.Mo T34
       m26 = λ before given. s31 (m25 before given)
 
-      abbrev pub m27 : (before : After-clear-records) → (given : s25 .gives (m20 (before .before) (After-clear-records·gave before))) → Typed.Mo T35
+      abbrev pub m27 : (before : After-clear-records) → (given : s26 .gives (m21 (before .before) (After-clear-records·gave before))) → Typed.Mo T35
       m27 = λ before given. s32 (m26 before given)
 
-      abbrev pub m28 : (before : After-clear-records) → (given : s25 .gives (m20 (before .before) (After-clear-records·gave before))) → Typed.Mo T36
+      abbrev pub m28 : (before : After-clear-records) → (given : s26 .gives (m21 (before .before) (After-clear-records·gave before))) → Typed.Mo T36
       m28 = λ before given. s33 (m27 before given)
+
+      abbrev pub m29 : (before : After-clear-records) → (given : s26 .gives (m21 (before .before) (After-clear-records·gave before))) → Typed.Mo T37
+      m29 = λ before given. s34 (m28 before given)
 
       module _ (before· : After-clear-records) where
         pub record After-rs·own : Type 0 where
-          pub given : s25 .gives (m20 (before· .before) (After-clear-records·gave before·))
+          pub given : s26 .gives (m21 (before· .before) (After-clear-records·gave before·))
 
       pub record After-rs : Type 0 where
         pub before : After-clear-records
         pub rs : After-rs·own before
 
       abbrev pub Need-same-length : Type 0
-      Need-same-length = (c : After-rs) → MutSlice.SameLen (Row.get 4 (T36 .locals) (m28 (c .before) (c .rs .given))) (dens (c .before .before .before .before .before .before .before .before .before
-          .before .before .before .before .κs) (c .before .before .before .before .before .before .before .before .before .before .before .before .before .args) .1 .1 .1 .0)
+      Need-same-length = (c : After-rs) → MutSlice.SameLen (Row.get 4 (T37 .locals) (m29 (c .before) (c .rs .given))) (dens (c .before .before .before .before .before .before .before .before .before
+          .before .before .before .before .before .κs) (c .before .before .before .before .before .before .before .before .before .before .before .before .before .before .args) .1 .1 .1 .0)
 
       abbrev pub Need-same-length-2 : Type 0
-      Need-same-length-2 = (c : After-rs) → MutSlice.SameLen (Row.get 5 (T36 .locals) (m28 (c .before) (c .rs .given))) (dens (c .before .before .before .before .before .before .before .before .before
-          .before .before .before .before .κs) (c .before .before .before .before .before .before .before .before .before .before .before .before .before .args) .1 .1 .1 .1 .0)
+      Need-same-length-2 = (c : After-rs) → MutSlice.SameLen (Row.get 5 (T37 .locals) (m29 (c .before) (c .rs .given))) (dens (c .before .before .before .before .before .before .before .before .before
+          .before .before .before .before .before .κs) (c .before .before .before .before .before .before .before .before .before .before .before .before .before .before .args) .1 .1 .1 .1 .0)
 
       abbrev pub Need-returns : Type 0
-      Need-returns = (c : After-rs) → Post· (c .before .before .before .before .before .before .before .before .before .before .before .before .before .κs) (dens (c .before .before .before .before
-          .before .before .before .before .before .before .before .before .before .κs) (c .before .before .before .before .before .before .before .before .before .before .before .before .before .args))
-          (Function.resV r (c .before .before .before .before .before .before .before .before .before .before .before .before .before .κs) (m28 (c .before) (c .rs .given) .0)) (Clauses.atExit
-          (Kinds.endedOf 4 ps r) (c .before .before .before .before .before .before .before .before .before .before .before .before .before .κs) (dens (c .before .before .before .before .before .before
-          .before .before .before .before .before .before .before .κs) (c .before .before .before .before .before .before .before .before .before .before .before .before .before .args)) (Enter.lastsP (c
-          .before .before .before .before .before .before .before .before .before .before .before .before .before .κs) 1 ps xs (dens (c .before .before .before .before .before .before .before .before
-          .before .before .before .before .before .κs) (c .before .before .before .before .before .before .before .before .before .before .before .before .before .args)) (m28 (c .before) (c .rs .given)
-          .1)))
+      Need-returns = (c : After-rs) → Post· (c .before .before .before .before .before .before .before .before .before .before .before .before .before .before .κs) (dens (c .before .before .before
+          .before .before .before .before .before .before .before .before .before .before .before .κs) (c .before .before .before .before .before .before .before .before .before .before .before .before
+          .before .before .args)) (Function.resV r (c .before .before .before .before .before .before .before .before .before .before .before .before .before .before .κs) (m29 (c .before) (c .rs .given)
+          .0)) (Clauses.atExit (Kinds.endedOf 5 ps r) (c .before .before .before .before .before .before .before .before .before .before .before .before .before .before .κs) (dens (c .before .before
+          .before .before .before .before .before .before .before .before .before .before .before .before .κs) (c .before .before .before .before .before .before .before .before .before .before .before
+          .before .before .before .args)) (Enter.lastsP (c .before .before .before .before .before .before .before .before .before .before .before .before .before .before .κs) 1 ps xs (dens (c .before
+          .before .before .before .before .before .before .before .before .before .before .before .before .before .κs) (c .before .before .before .before .before .before .before .before .before .before
+          .before .before .before .before .args)) (m29 (c .before) (c .rs .given) .1)))
 
       module _ (before· : After-first-above) where
         pub record Else1·own : Type 0 where
-          pub left : Nat._≤_ (Row.get 10 (T7 .locals) (m6 (before· .before) (After-first-above·gave before·))) (Row.get 9 (T7 .locals) (m6 (before· .before) (After-first-above·gave before·)))
+          pub left : Nat._≤_ (Row.get 11 (T8 .locals) (m7 (before· .before) (After-first-above·gave before·))) (Row.get 10 (T8 .locals) (m7 (before· .before) (After-first-above·gave before·)))
 
       pub record Else1 : Type 0 where
         pub before : After-first-above
         pub if1 : Else1·own before
 
-      abbrev pub m29 : (before : After-first-above) → Typed.Mo T37
-      m29 = λ before. s34 (m8 (before .before) (After-first-above·gave before))
+      abbrev pub m30 : (before : After-first-above) → Typed.Mo T38
+      m30 = λ before. s35 (m9 (before .before) (After-first-above·gave before))
 
-      abbrev pub m30 : (before : Else1) → (given : s36 .gives (m29 (before .before))) → Typed.Mo T39
-      m30 = λ before given. s36 .next (m29 (before .before)) given
+      abbrev pub m31 : (before : Else1) → (given : s37 .gives (m30 (before .before))) → Typed.Mo T40
+      m31 = λ before given. s37 .next (m30 (before .before)) given
 
-      abbrev pub m31 : (before : Else1) → (given : s36 .gives (m29 (before .before))) → Typed.Mo T40
-      m31 = λ before given. s37 .next (m30 before given)
+      abbrev pub m32 : (before : Else1) → (given : s37 .gives (m30 (before .before))) → Typed.Mo T41
+      m32 = λ before given. s38 .next (m31 before given)
 
       module _ (before· : Else1) where
         pub record After-write-measured-arg·own : Type 0 where
-          pub given : s36 .gives (m29 (before· .before))
+          pub given : s37 .gives (m30 (before· .before))
 
       pub record After-write-measured-arg : Type 0 where
         pub before : Else1
         pub write-measured-arg : After-write-measured-arg·own before
 
-      abbrev pub m32 : (before : After-write-measured-arg) → (given : s39 .gives (m31 (before .before) (before .write-measured-arg .given))) → Typed.Mo T42
-      m32 = λ before given. s39 .next (m31 (before .before) (before .write-measured-arg .given)) given
+      abbrev pub m33 : (before : After-write-measured-arg) → (given : s40 .gives (m32 (before .before) (before .write-measured-arg .given))) → Typed.Mo T43
+      m33 = λ before given. s40 .next (m32 (before .before) (before .write-measured-arg .given)) given
 
-      abbrev pub m33 : (before : After-write-measured-arg) → (given : s39 .gives (m31 (before .before) (before .write-measured-arg .given))) → Typed.Mo T43
-      m33 = λ before given. s40 .next (m32 before given)
+      abbrev pub m34 : (before : After-write-measured-arg) → (given : s40 .gives (m32 (before .before) (before .write-measured-arg .given))) → Typed.Mo T44
+      m34 = λ before given. s41 .next (m33 before given)
 
       module _ (before· : After-write-measured-arg) where
         pub record After-write-measured-arg2·own : Type 0 where
-          pub given : s39 .gives (m31 (before· .before) (before· .write-measured-arg .given))
+          pub given : s40 .gives (m32 (before· .before) (before· .write-measured-arg .given))
 
       pub record After-write-measured-arg2 : Type 0 where
         pub before : After-write-measured-arg
         pub write-measured-arg2 : After-write-measured-arg2·own before
 
-      abbrev pub m34 : (before : After-write-measured-arg2) → (given : s42 .gives (m33 (before .before) (before .write-measured-arg2 .given))) → Typed.Mo T45
-      m34 = λ before given. s42 .next (m33 (before .before) (before .write-measured-arg2 .given)) given
+      abbrev pub m35 : (before : After-write-measured-arg2) → (given : s43 .gives (m34 (before .before) (before .write-measured-arg2 .given))) → Typed.Mo T46
+      m35 = λ before given. s43 .next (m34 (before .before) (before .write-measured-arg2 .given)) given
 
-      abbrev pub m35 : (before : After-write-measured-arg2) → (given : s42 .gives (m33 (before .before) (before .write-measured-arg2 .given))) → Typed.Mo T46
-      m35 = λ before given. s43 .next (m34 before given)
+      abbrev pub m36 : (before : After-write-measured-arg2) → (given : s43 .gives (m34 (before .before) (before .write-measured-arg2 .given))) → Typed.Mo T47
+      m36 = λ before given. s44 .next (m35 before given)
 
       module _ (before· : After-write-measured-arg2) where
         pub record After-write-measured-arg3·own : Type 0 where
-          pub given : s42 .gives (m33 (before· .before) (before· .write-measured-arg2 .given))
+          pub given : s43 .gives (m34 (before· .before) (before· .write-measured-arg2 .given))
 
       pub record After-write-measured-arg3 : Type 0 where
         pub before : After-write-measured-arg2
         pub write-measured-arg3 : After-write-measured-arg3·own before
 
       abbrev pub Need-write-measured-requires : Type 0
-      Need-write-measured-requires = (c : After-write-measured-arg3) → s44 .asks (m35 (c .before) (c .write-measured-arg3 .given))
+      Need-write-measured-requires = (c : After-write-measured-arg3) → s45 .asks (m36 (c .before) (c .write-measured-arg3 .given))
 
-      abbrev pub m36 : (before : After-write-measured-arg3) → (given : s44 .gives (m35 (before .before) (before .write-measured-arg3 .given))) → Typed.Mo T47
-      m36 = λ before given. s44 .next (m35 (before .before) (before .write-measured-arg3 .given)) given
+      abbrev pub m37 : (before : After-write-measured-arg3) → (given : s45 .gives (m36 (before .before) (before .write-measured-arg3 .given))) → Typed.Mo T48
+      m37 = λ before given. s45 .next (m36 (before .before) (before .write-measured-arg3 .given)) given
 
       module _ (before· : After-write-measured-arg3) where
         abbrev pub After-write-measured·own : Type 0
-        After-write-measured·own = Called.Called ps·4 r·4 (claims· .9) T46 (
+        After-write-measured·own = Called.Called ps·4 r·4 (claims· .9) T47 (
           record { pos = 1; ty = Syntax.tyRef (Syntax.named 0) Syntax.imm (Syntax.tyInt Syntax.w16); ref = λ x. x },
           (
-            record { pos = 19; ty = Syntax.tyRef Syntax.erased Syntax.mut (Syntax.tyInt Syntax.w8); ref = λ x. x },
+            record { pos = 20; ty = Syntax.tyRef Syntax.erased Syntax.mut (Syntax.tyInt Syntax.w8); ref = λ x. x },
             (
               Bool.bAt 3 λ x. x,
               (
-                record { pos = 21; ty = Syntax.tyRef Syntax.erased Syntax.mut (Syntax.tyInt Syntax.w16); ref = λ x. x },
-                (record { pos = 23; ty = Syntax.tyRef Syntax.erased Syntax.mut Element.behind; ref = λ x. x }, (record { pos = 6; st = List.[]; d = 0; at = λ x. x }, (Num.vAt 7 λ x. x, tt))),
+                record { pos = 22; ty = Syntax.tyRef Syntax.erased Syntax.mut (Syntax.tyInt Syntax.w16); ref = λ x. x },
+                (
+                  record { pos = 24; ty = Syntax.tyRef Syntax.erased Syntax.mut Element.behind; ref = λ x. x },
+                  (record { pos = 6; st = List.[]; d = 0; at = λ x. x }, (record { pos = 7; ty = Syntax.tyRef (Syntax.named 4) Syntax.imm (Syntax.tyInt Syntax.w8); ref = λ x. x }, (Num.vAt 8 λ x. x, tt))),
+                ),
               ),
             ),
           ),
-        ) (m35
-            (before· .before) (before· .write-measured-arg3 .given))
+        )
+            (m36 (before· .before) (before· .write-measured-arg3 .given))
 
       pub record After-write-measured : Type 0 where
         pub before : After-write-measured-arg3
         pub write-measured : After-write-measured·own before
 
-      abbrev pub After-write-measured·gave : (c : After-write-measured) → s44 .gives (m35 (c .before .before) (c .before .write-measured-arg3 .given))
-      After-write-measured·gave = λ c. Called.given ps·4 r·4 (claims· .9) T46 (
+      abbrev pub After-write-measured·gave : (c : After-write-measured) → s45 .gives (m36 (c .before .before) (c .before .write-measured-arg3 .given))
+      After-write-measured·gave = λ c. Called.given ps·4 r·4 (claims· .9) T47 (
         record { pos = 1; ty = Syntax.tyRef (Syntax.named 0) Syntax.imm (Syntax.tyInt Syntax.w16); ref = λ x. x },
         (
-          record { pos = 19; ty = Syntax.tyRef Syntax.erased Syntax.mut (Syntax.tyInt Syntax.w8); ref = λ x. x },
+          record { pos = 20; ty = Syntax.tyRef Syntax.erased Syntax.mut (Syntax.tyInt Syntax.w8); ref = λ x. x },
           (
             Bool.bAt 3 λ x. x,
             (
-              record { pos = 21; ty = Syntax.tyRef Syntax.erased Syntax.mut (Syntax.tyInt Syntax.w16); ref = λ x. x },
-              (record { pos = 23; ty = Syntax.tyRef Syntax.erased Syntax.mut Element.behind; ref = λ x. x }, (record { pos = 6; st = List.[]; d = 0; at = λ x. x }, (Num.vAt 7 λ x. x, tt))),
+              record { pos = 22; ty = Syntax.tyRef Syntax.erased Syntax.mut (Syntax.tyInt Syntax.w16); ref = λ x. x },
+              (
+                record { pos = 24; ty = Syntax.tyRef Syntax.erased Syntax.mut Element.behind; ref = λ x. x },
+                (record { pos = 6; st = List.[]; d = 0; at = λ x. x }, (record { pos = 7; ty = Syntax.tyRef (Syntax.named 4) Syntax.imm (Syntax.tyInt Syntax.w8); ref = λ x. x }, (Num.vAt 8 λ x. x, tt))),
+              ),
             ),
           ),
         ),
-      ) (m35 (c
-          .before .before) (c .before .write-measured-arg3 .given)) (c .write-measured)
+      )
+          (m36 (c .before .before) (c .before .write-measured-arg3 .given)) (c .write-measured)
 
-      abbrev pub m37 : (before : After-write-measured-arg3) → (given : s44 .gives (m35 (before .before) (before .write-measured-arg3 .given))) → Typed.Mo T48
-      m37 = λ before given. s45 (m36 before given)
-
-      abbrev pub m38 : (before : After-write-measured-arg3) → (given : s44 .gives (m35 (before .before) (before .write-measured-arg3 .given))) → Typed.Mo T49
+      abbrev pub m38 : (before : After-write-measured-arg3) → (given : s45 .gives (m36 (before .before) (before .write-measured-arg3 .given))) → Typed.Mo T49
       m38 = λ before given. s46 (m37 before given)
 
-      abbrev pub m39 : (before : After-write-measured-arg3) → (given : s44 .gives (m35 (before .before) (before .write-measured-arg3 .given))) → Typed.Mo T50
+      abbrev pub m39 : (before : After-write-measured-arg3) → (given : s45 .gives (m36 (before .before) (before .write-measured-arg3 .given))) → Typed.Mo T50
       m39 = λ before given. s47 (m38 before given)
 
-      abbrev pub m40 : (before : After-write-measured) → (given : s49 .gives (m39 (before .before) (After-write-measured·gave before))) → Typed.Mo T52
-      m40 = λ before given. s49 .next (m39 (before .before) (After-write-measured·gave before)) given
+      abbrev pub m40 : (before : After-write-measured-arg3) → (given : s45 .gives (m36 (before .before) (before .write-measured-arg3 .given))) → Typed.Mo T51
+      m40 = λ before given. s48 (m39 before given)
+
+      abbrev pub m41 : (before : After-write-measured) → (given : s50 .gives (m40 (before .before) (After-write-measured·gave before))) → Typed.Mo T53
+      m41 = λ before given. s50 .next (m40 (before .before) (After-write-measured·gave before)) given
 
       module _ (before· : After-write-measured) where
         pub record After-out·own : Type 0 where
-          pub given : s49 .gives (m39 (before· .before) (After-write-measured·gave before·))
+          pub given : s50 .gives (m40 (before· .before) (After-write-measured·gave before·))
 
       pub record After-out : Type 0 where
         pub before : After-write-measured
         pub out : After-out·own before
 
-      abbrev pub m41 : (before : After-out) → (given : s50 .gives (m40 (before .before) (before .out .given))) → Typed.Mo T53
-      m41 = λ before given. s50 .next (m40 (before .before) (before .out .given)) given
+      abbrev pub m42 : (before : After-out) → (given : s51 .gives (m41 (before .before) (before .out .given))) → Typed.Mo T54
+      m42 = λ before given. s51 .next (m41 (before .before) (before .out .given)) given
 
       module _ (before· : After-out) where
         pub record After-slice-known4·own : Type 0 where
-          pub given : s50 .gives (m40 (before· .before) (before· .out .given))
+          pub given : s51 .gives (m41 (before· .before) (before· .out .given))
 
       pub record After-slice-known4 : Type 0 where
         pub before : After-out
         pub slice-known4 : After-slice-known4·own before
 
-      abbrev pub m42 : (before : After-slice-known4) → (given : s53 .gives (m41 (before .before) (before .slice-known4 .given))) → Typed.Mo T56
-      m42 = λ before given. s53 .next (m41 (before .before) (before .slice-known4 .given)) given
+      abbrev pub m43 : (before : After-slice-known4) → (given : s54 .gives (m42 (before .before) (before .slice-known4 .given))) → Typed.Mo T57
+      m43 = λ before given. s54 .next (m42 (before .before) (before .slice-known4 .given)) given
 
       module _ (before· : After-slice-known4) where
         pub record After-lines2·own : Type 0 where
-          pub given : s53 .gives (m41 (before· .before) (before· .slice-known4 .given))
+          pub given : s54 .gives (m42 (before· .before) (before· .slice-known4 .given))
 
       pub record After-lines2 : Type 0 where
         pub before : After-slice-known4
         pub lines2 : After-lines2·own before
 
-      abbrev pub m43 : (before : After-lines2) → (given : s54 .gives (m42 (before .before) (before .lines2 .given))) → Typed.Mo T57
-      m43 = λ before given. s54 .next (m42 (before .before) (before .lines2 .given)) given
+      abbrev pub m44 : (before : After-lines2) → (given : s55 .gives (m43 (before .before) (before .lines2 .given))) → Typed.Mo T58
+      m44 = λ before given. s55 .next (m43 (before .before) (before .lines2 .given)) given
 
       module _ (before· : After-lines2) where
         pub record After-slice-known5·own : Type 0 where
-          pub given : s54 .gives (m42 (before· .before) (before· .lines2 .given))
+          pub given : s55 .gives (m43 (before· .before) (before· .lines2 .given))
 
       pub record After-slice-known5 : Type 0 where
         pub before : After-lines2
         pub slice-known5 : After-slice-known5·own before
 
-      abbrev pub m44 : (before : After-slice-known5) → (given : s57 .gives (m43 (before .before) (before .slice-known5 .given))) → Typed.Mo T60
-      m44 = λ before given. s57 .next (m43 (before .before) (before .slice-known5 .given)) given
+      abbrev pub m45 : (before : After-slice-known5) → (given : s58 .gives (m44 (before .before) (before .slice-known5 .given))) → Typed.Mo T61
+      m45 = λ before given. s58 .next (m44 (before .before) (before .slice-known5 .given)) given
 
-      abbrev pub m45 : (before : After-slice-known5) → (given : s57 .gives (m43 (before .before) (before .slice-known5 .given))) → Typed.Mo T62
-      m45 = λ before given. s59 (m44 before given)
-
-      abbrev pub m46 : (before : After-slice-known5) → (given : s57 .gives (m43 (before .before) (before .slice-known5 .given))) → Typed.Mo T63
+      abbrev pub m46 : (before : After-slice-known5) → (given : s58 .gives (m44 (before .before) (before .slice-known5 .given))) → Typed.Mo T63
       m46 = λ before given. s60 (m45 before given)
+
+      abbrev pub m47 : (before : After-slice-known5) → (given : s58 .gives (m44 (before .before) (before .slice-known5 .given))) → Typed.Mo T64
+      m47 = λ before given. s61 (m46 before given)
 
       module _ (before· : After-slice-known5) where
         pub record After-rs2·own : Type 0 where
-          pub given : s57 .gives (m43 (before· .before) (before· .slice-known5 .given))
+          pub given : s58 .gives (m44 (before· .before) (before· .slice-known5 .given))
 
       pub record After-rs2 : Type 0 where
         pub before : After-slice-known5
         pub rs2 : After-rs2·own before
 
       abbrev pub Need-same-length-3 : Type 0
-      Need-same-length-3 = (c : After-rs2) → MutSlice.SameLen (Row.get 2 (T63 .locals) (m46 (c .before) (c .rs2 .given))) (dens (c .before .before .before .before .before .before .before .before
-          .before .before .before .before .before .before .before .κs) (c .before .before .before .before .before .before .before .before .before .before .before .before .before .before .before .args) .1
-          .0)
+      Need-same-length-3 = (c : After-rs2) → MutSlice.SameLen (Row.get 2 (T64 .locals) (m47 (c .before) (c .rs2 .given))) (dens (c .before .before .before .before .before .before .before .before
+          .before .before .before .before .before .before .before .before .κs) (c .before .before .before .before .before .before .before .before .before .before .before .before .before .before .before
+          .before .args) .1 .0)
 
       abbrev pub Need-same-length-4 : Type 0
-      Need-same-length-4 = (c : After-rs2) → MutSlice.SameLen (Row.get 4 (T63 .locals) (m46 (c .before) (c .rs2 .given))) (dens (c .before .before .before .before .before .before .before .before
-          .before .before .before .before .before .before .before .κs) (c .before .before .before .before .before .before .before .before .before .before .before .before .before .before .before .args) .1
-          .1 .1 .0)
+      Need-same-length-4 = (c : After-rs2) → MutSlice.SameLen (Row.get 4 (T64 .locals) (m47 (c .before) (c .rs2 .given))) (dens (c .before .before .before .before .before .before .before .before
+          .before .before .before .before .before .before .before .before .κs) (c .before .before .before .before .before .before .before .before .before .before .before .before .before .before .before
+          .before .args) .1 .1 .1 .0)
 
       abbrev pub Need-same-length-5 : Type 0
-      Need-same-length-5 = (c : After-rs2) → MutSlice.SameLen (Row.get 5 (T63 .locals) (m46 (c .before) (c .rs2 .given))) (dens (c .before .before .before .before .before .before .before .before
-          .before .before .before .before .before .before .before .κs) (c .before .before .before .before .before .before .before .before .before .before .before .before .before .before .before .args) .1
-          .1 .1 .1 .0)
+      Need-same-length-5 = (c : After-rs2) → MutSlice.SameLen (Row.get 5 (T64 .locals) (m47 (c .before) (c .rs2 .given))) (dens (c .before .before .before .before .before .before .before .before
+          .before .before .before .before .before .before .before .before .κs) (c .before .before .before .before .before .before .before .before .before .before .before .before .before .before .before
+          .before .args) .1 .1 .1 .1 .0)
 
       abbrev pub Need-returns-2 : Type 0
-      Need-returns-2 = (c : After-rs2) → Post· (c .before .before .before .before .before .before .before .before .before .before .before .before .before .before .before .κs) (dens (c .before .before
-          .before .before .before .before .before .before .before .before .before .before .before .before .before .κs) (c .before .before .before .before .before .before .before .before .before .before
-          .before .before .before .before .before .args)) (Function.resV r (c .before .before .before .before .before .before .before .before .before .before .before .before .before .before .before .κs)
-          (m46 (c .before) (c .rs2 .given) .0)) (Clauses.atExit (Kinds.endedOf 4 ps r) (c .before .before .before .before .before .before .before .before .before .before .before .before .before .before
-          .before .κs) (dens (c .before .before .before .before .before .before .before .before .before .before .before .before .before .before .before .κs) (c .before .before .before .before .before
-          .before .before .before .before .before .before .before .before .before .before .args)) (Enter.lastsP (c .before .before .before .before .before .before .before .before .before .before .before
-          .before .before .before .before .κs) 1 ps xs (dens (c .before .before .before .before .before .before .before .before .before .before .before .before .before .before .before .κs) (c .before
-          .before .before .before .before .before .before .before .before .before .before .before .before .before .before .args)) (m46 (c .before) (c .rs2 .given) .1)))
+      Need-returns-2 = (c : After-rs2) → Post· (c .before .before .before .before .before .before .before .before .before .before .before .before .before .before .before .before .κs) (dens (c .before
+          .before .before .before .before .before .before .before .before .before .before .before .before .before .before .before .κs) (c .before .before .before .before .before .before .before .before
+          .before .before .before .before .before .before .before .before .args)) (Function.resV r (c .before .before .before .before .before .before .before .before .before .before .before .before
+          .before .before .before .before .κs) (m47 (c .before) (c .rs2 .given) .0)) (Clauses.atExit (Kinds.endedOf 5 ps r) (c .before .before .before .before .before .before .before .before .before
+          .before .before .before .before .before .before .before .κs) (dens (c .before .before .before .before .before .before .before .before .before .before .before .before .before .before .before
+          .before .κs) (c .before .before .before .before .before .before .before .before .before .before .before .before .before .before .before .before .args)) (Enter.lastsP (c .before .before .before
+          .before .before .before .before .before .before .before .before .before .before .before .before .before .κs) 1 ps xs (dens (c .before .before .before .before .before .before .before .before
+          .before .before .before .before .before .before .before .before .κs) (c .before .before .before .before .before .before .before .before .before .before .before .before .before .before .before
+          .before .args)) (m47 (c .before) (c .rs2 .given) .1)))
 
       module _ (largest-requires : Need-largest-requires) (first-above-requires : Need-first-above-requires) (clear-requires : Need-clear-requires) (clear-records-requires :
           Need-clear-records-requires) (same-length : Need-same-length) (same-length-2 : Need-same-length-2) (returns : Need-returns) (write-measured-requires : Need-write-measured-requires)
           (same-length-3 : Need-same-length-3) (same-length-4 : Need-same-length-4) (same-length-5 : Need-same-length-5) (returns-2 : Need-returns-2) where
-        lay8 : (c : After-write-measured) → at47 (W0 (c .before .before .before .before .before .before .before .before .before .before .κs) (c .before .before .before .before .before .before .before
-            .before .before .before .args)) (m36 (c .before) (After-write-measured·gave c))
+        lay8 : (c : After-write-measured) → at47 (W0 (c .before .before .before .before .before .before .before .before .before .before .before .κs) (c .before .before .before .before .before .before
+            .before .before .before .before .before .args)) (m37 (c .before) (After-write-measured·gave c))
         lay8 = λ c. (
           Path'.refl,
           λ g. λ g'. (
@@ -2762,26 +2849,26 @@ module _ (claims· : Claims) where
                 (
                   Path'.refl,
                   (
-                    MutSlice.fix-len (Row.get 2 (T63 .locals) (m46 record {
+                    MutSlice.fix-len (Row.get 2 (T64 .locals) (m47 record {
                       before = record {
                         before = record { before = record { before = record { before = c .before; write-measured = c .write-measured }; out = record { given = g } }; slice-known4 = record { given = g' } };
                         lines2 = record { given = g'' };
                       };
                       slice-known5 = record { given = g'3 };
-                    } g'4) .ptr) (Row.get 2 (T63 .locals) (m46 record {
+                    } g'4) .ptr) (Row.get 2 (T64 .locals) (m47 record {
                       before = record {
                         before = record { before = record { before = record { before = c .before; write-measured = c .write-measured }; out = record { given = g } }; slice-known4 = record { given = g' } };
                         lines2 = record { given = g'' };
                       };
                       slice-known5 = record { given = g'3 };
-                    } g'4) .name) (Row.get 2 (T63 .locals) (m46 record {
+                    } g'4) .name) (Row.get 2 (T64 .locals) (m47 record {
                       before = record {
                         before = record { before = record { before = record { before = c .before; write-measured = c .write-measured }; out = record { given = g } }; slice-known4 = record { given = g' } };
                         lines2 = record { given = g'' };
                       };
                       slice-known5 = record { given = g'3 };
-                    } g'4) .now) (dens (c .before .before .before .before .before .before .before .before .before .before .κs) (c .before
-                        .before .before .before .before .before .before .before .before .before .args) .1 .0 .now) (same-length-3 record {
+                    } g'4) .now) (dens (c .before .before .before .before .before .before .before .before .before .before .before .κs) (c
+                        .before .before .before .before .before .before .before .before .before .before .before .args) .1 .0 .now) (same-length-3 record {
                           before = record {
                             before = record {
                               before = record { before = record { before = record { before = c .before; write-measured = c .write-measured }; out = record { given = g } }; slice-known4 = record { given = g' } };
@@ -2794,26 +2881,26 @@ module _ (claims· : Claims) where
                     (
                       tt,
                       (
-                        MutSlice.fix-len (Row.get 4 (T63 .locals) (m46 record {
+                        MutSlice.fix-len (Row.get 4 (T64 .locals) (m47 record {
                           before = record {
                             before = record { before = record { before = record { before = c .before; write-measured = c .write-measured }; out = record { given = g } }; slice-known4 = record { given = g' } };
                             lines2 = record { given = g'' };
                           };
                           slice-known5 = record { given = g'3 };
-                        } g'4) .ptr) (Row.get 4 (T63 .locals) (m46 record {
+                        } g'4) .ptr) (Row.get 4 (T64 .locals) (m47 record {
                           before = record {
                             before = record { before = record { before = record { before = c .before; write-measured = c .write-measured }; out = record { given = g } }; slice-known4 = record { given = g' } };
                             lines2 = record { given = g'' };
                           };
                           slice-known5 = record { given = g'3 };
-                        } g'4) .name) (Row.get 4 (T63 .locals) (m46 record {
+                        } g'4) .name) (Row.get 4 (T64 .locals) (m47 record {
                           before = record {
                             before = record { before = record { before = record { before = c .before; write-measured = c .write-measured }; out = record { given = g } }; slice-known4 = record { given = g' } };
                             lines2 = record { given = g'' };
                           };
                           slice-known5 = record { given = g'3 };
-                        } g'4) .now) (dens (c .before .before .before .before .before .before .before .before .before .before .κs) (c .before
-                            .before .before .before .before .before .before .before .before .before .args) .1 .1 .1 .0 .now) (same-length-4 record {
+                        } g'4) .now) (dens (c .before .before .before .before .before .before .before .before .before .before .before .κs) (c
+                            .before .before .before .before .before .before .before .before .before .before .before .args) .1 .1 .1 .0 .now) (same-length-4 record {
                               before = record {
                                 before = record {
                                   before = record { before = record { before = record { before = c .before; write-measured = c .write-measured }; out = record { given = g } }; slice-known4 = record { given = g' } };
@@ -2824,26 +2911,26 @@ module _ (claims· : Claims) where
                               rs2 = record { given = g'4 };
                             }),
                         (
-                          MutSlice.fix-len (Row.get 5 (T63 .locals) (m46 record {
+                          MutSlice.fix-len (Row.get 5 (T64 .locals) (m47 record {
                             before = record {
                               before = record { before = record { before = record { before = c .before; write-measured = c .write-measured }; out = record { given = g } }; slice-known4 = record { given = g' } };
                               lines2 = record { given = g'' };
                             };
                             slice-known5 = record { given = g'3 };
-                          } g'4) .ptr) (Row.get 5 (T63 .locals) (m46 record {
+                          } g'4) .ptr) (Row.get 5 (T64 .locals) (m47 record {
                             before = record {
                               before = record { before = record { before = record { before = c .before; write-measured = c .write-measured }; out = record { given = g } }; slice-known4 = record { given = g' } };
                               lines2 = record { given = g'' };
                             };
                             slice-known5 = record { given = g'3 };
-                          } g'4) .name) (Row.get 5 (T63 .locals) (m46 record {
+                          } g'4) .name) (Row.get 5 (T64 .locals) (m47 record {
                             before = record {
                               before = record { before = record { before = record { before = c .before; write-measured = c .write-measured }; out = record { given = g } }; slice-known4 = record { given = g' } };
                               lines2 = record { given = g'' };
                             };
                             slice-known5 = record { given = g'3 };
-                          } g'4) .now) (dens (c .before .before .before .before .before .before .before .before .before .before .κs) (c .before
-                              .before .before .before .before .before .before .before .before .before .args) .1 .1 .1 .1 .0 .now) (same-length-5 record {
+                          } g'4) .now) (dens (c .before .before .before .before .before .before .before .before .before .before .before .κs) (c
+                              .before .before .before .before .before .before .before .before .before .before .before .args) .1 .1 .1 .1 .0 .now) (same-length-5 record {
                                 before = record {
                                   before = record {
                                     before = record { before = record { before = record { before = c .before; write-measured = c .write-measured }; out = record { given = g } }; slice-known4 = record { given = g' } };
@@ -2853,7 +2940,7 @@ module _ (claims· : Claims) where
                                 };
                                 rs2 = record { given = g'4 };
                               }),
-                          (tt, (tt, tt)),
+                          (tt, (Path'.refl, (tt, tt))),
                         ),
                       ),
                     ),
@@ -2874,7 +2961,7 @@ module _ (claims· : Claims) where
           ),
         )
 
-        lay7 : (c : Else1) → at57 (W0 (c .before .before .before .before .before .before .κs) (c .before .before .before .before .before .before .args)) (m29 (c .before))
+        lay7 : (c : Else1) → at57 (W0 (c .before .before .before .before .before .before .before .κs) (c .before .before .before .before .before .before .before .args)) (m30 (c .before))
         lay7 = λ c. λ g. (
           Path'.refl,
           λ g'. (
@@ -2891,31 +2978,34 @@ module _ (claims· : Claims) where
                     before = record { before = record { before = record { before = c .before; if1 = c .if1 }; write-measured-arg = record { given = g } }; write-measured-arg2 = record { given = g' } };
                     write-measured-arg3 = record { given = g'' };
                   };
-                  write-measured = Called.called ps·4 r·4 (claims· .9) T46 (
+                  write-measured = Called.called ps·4 r·4 (claims· .9) T47 (
                     record { pos = 1; ty = Syntax.tyRef (Syntax.named 0) Syntax.imm (Syntax.tyInt Syntax.w16); ref = λ x. x },
                     (
-                      record { pos = 19; ty = Syntax.tyRef Syntax.erased Syntax.mut (Syntax.tyInt Syntax.w8); ref = λ x. x },
+                      record { pos = 20; ty = Syntax.tyRef Syntax.erased Syntax.mut (Syntax.tyInt Syntax.w8); ref = λ x. x },
                       (
                         Bool.bAt 3 λ x. x,
                         (
-                          record { pos = 21; ty = Syntax.tyRef Syntax.erased Syntax.mut (Syntax.tyInt Syntax.w16); ref = λ x. x },
-                          (record { pos = 23; ty = Syntax.tyRef Syntax.erased Syntax.mut Element.behind; ref = λ x. x }, (record { pos = 6; st = List.[]; d = 0; at = λ x. x }, (Num.vAt 7 λ x. x, tt))),
+                          record { pos = 22; ty = Syntax.tyRef Syntax.erased Syntax.mut (Syntax.tyInt Syntax.w16); ref = λ x. x },
+                          (
+                            record { pos = 24; ty = Syntax.tyRef Syntax.erased Syntax.mut Element.behind; ref = λ x. x },
+                            (record { pos = 6; st = List.[]; d = 0; at = λ x. x }, (record { pos = 7; ty = Syntax.tyRef (Syntax.named 4) Syntax.imm (Syntax.tyInt Syntax.w8); ref = λ x. x }, (Num.vAt 8 λ x. x, tt))),
+                          ),
                         ),
                       ),
                     ),
-                  ) (m35 record
-                      { before = record { before = record { before = c .before; if1 = c .if1 }; write-measured-arg = record { given = g } }; write-measured-arg2 = record { given = g' } } g'') g'3;
+                  )
+                      (m36 record { before = record { before = record { before = c .before; if1 = c .if1 }; write-measured-arg = record { given = g } }; write-measured-arg2 = record { given = g' } } g'') g'3;
                 },
               ),
             ),
           ),
         )
 
-        lay6 : (c : Else1) → at28 (W1 (c .before .before) (After-first-above·gave (c .before))) (m8 (c .before .before) (After-first-above·gave (c .before)))
+        lay6 : (c : Else1) → at28 (W1 (c .before .before) (After-first-above·gave (c .before))) (m9 (c .before .before) (After-first-above·gave (c .before)))
         lay6 = λ c. lay7 record { before = c .before; if1 = c .if1 }
 
         lay5 : (c : After-clear-records) → at11 (W1 (c .before .before .before .before .before .before .before .before) (After-first-above·gave (c .before .before .before .before .before .before
-            .before))) (m19 (c .before) (After-clear-records·gave c))
+            .before))) (m20 (c .before) (After-clear-records·gave c))
         lay5 = λ c. (
           Path'.refl,
           λ g. (
@@ -2926,27 +3016,26 @@ module _ (claims· : Claims) where
                 (
                   tt,
                   (
-                    MutSlice.fix-len (Row.get 4 (T36 .locals) (m28 record { before = c .before; clear-records = c .clear-records } g) .ptr) (Row.get 4 (T36 .locals) (m28 record
-                        { before = c .before; clear-records = c .clear-records } g) .name) (Row.get 4 (T36 .locals) (m28 record { before = c .before; clear-records = c .clear-records } g) .now) (dens (c .before
-                        .before .before .before .before .before .before .before .before .before .before .before .κs) (c .before .before .before .before .before .before .before .before .before .before .before .before
-                        .args) .1 .1 .1 .0 .now) (same-length record { before = record { before = c .before; clear-records = c .clear-records }; rs = record { given = g } }),
+                    MutSlice.fix-len (Row.get 4 (T37 .locals) (m29 record { before = c .before; clear-records = c .clear-records } g) .ptr) (Row.get 4 (T37 .locals) (m29 record
+                        { before = c .before; clear-records = c .clear-records } g) .name) (Row.get 4 (T37 .locals) (m29 record { before = c .before; clear-records = c .clear-records } g) .now) (dens (c .before
+                        .before .before .before .before .before .before .before .before .before .before .before .before .κs) (c .before .before .before .before .before .before .before .before .before .before .before
+                        .before .before .args) .1 .1 .1 .0 .now) (same-length record { before = record { before = c .before; clear-records = c .clear-records }; rs = record { given = g } }),
                     (
-                      MutSlice.fix-len (Row.get 5 (T36 .locals) (m28 record { before = c .before; clear-records = c .clear-records } g) .ptr) (Row.get 5 (T36 .locals) (m28 record
-                          { before = c .before; clear-records = c .clear-records } g) .name) (Row.get 5 (T36 .locals) (m28 record { before = c .before; clear-records = c .clear-records } g) .now) (dens (c .before
-                          .before .before .before .before .before .before .before .before .before .before .before .κs) (c .before .before .before .before .before .before .before .before .before .before .before .before
-                          .args) .1 .1 .1 .1 .0 .now) (same-length-2 record { before = record { before = c .before; clear-records = c .clear-records }; rs = record { given = g } }),
-                      (tt, (tt, tt)),
+                      MutSlice.fix-len (Row.get 5 (T37 .locals) (m29 record { before = c .before; clear-records = c .clear-records } g) .ptr) (Row.get 5 (T37 .locals) (m29 record
+                          { before = c .before; clear-records = c .clear-records } g) .name) (Row.get 5 (T37 .locals) (m29 record { before = c .before; clear-records = c .clear-records } g) .now) (dens (c .before
+                          .before .before .before .before .before .before .before .before .before .before .before .before .κs) (c .before .before .before .before .before .before .before .before .before .before .before
+                          .before .before .args) .1 .1 .1 .1 .0 .now) (same-length-2 record { before = record { before = c .before; clear-records = c .clear-records }; rs = record { given = g } }),
+                      (tt, (Path'.refl, (tt, tt))),
                     ),
                   ),
                 ),
               ),
             ),
-            returns
-                record { before = record { before = c .before; clear-records = c .clear-records }; rs = record { given = g } },
+            returns record { before = record { before = c .before; clear-records = c .clear-records }; rs = record { given = g } },
           ),
         )
 
-        lay4 : (c : After-clear) → at20 (W1 (c .before .before .before .before) (After-first-above·gave (c .before .before .before))) (m13 (c .before) (After-clear·gave c))
+        lay4 : (c : After-clear) → at20 (W1 (c .before .before .before .before) (After-first-above·gave (c .before .before .before))) (m14 (c .before) (After-clear·gave c))
         lay4 = λ c. (
           Path'.refl,
           λ g. λ g'. λ g''. (
@@ -2963,82 +3052,97 @@ module _ (claims· : Claims) where
                   clear-records-arg =
                       record { given = g'' };
                 };
-                clear-records = Called.called ps·3 r·3 (claims· .7) T24 (record { pos = 16; ty = Syntax.tyRef Syntax.erased Syntax.mut Element.behind; ref = λ x. x }, tt) (m18
+                clear-records = Called.called ps·3 r·3 (claims· .7) T25 (record { pos = 17; ty = Syntax.tyRef Syntax.erased Syntax.mut Element.behind; ref = λ x. x }, tt) (m19
                     record { before = record { before = record { before = c .before; clear = c .clear }; lines = record { given = g } }; slice-known3 = record { given = g' } } g'') g'3;
               },
             ),
           ),
         )
 
-        lay3 : (c : Then1) → at26 (W1 (c .before .before) (After-first-above·gave (c .before))) (m8 (c .before .before) (After-first-above·gave (c .before)))
+        lay3 : (c : Then1) → at26 (W1 (c .before .before) (After-first-above·gave (c .before))) (m9 (c .before .before) (After-first-above·gave (c .before)))
         lay3 = λ c. λ g. (
           Path'.refl,
           (
             clear-requires record { before = record { before = c .before; if1 = c .if1 }; clear-arg = record { given = g } },
             λ g'. lay4 record {
               before = record { before = record { before = c .before; if1 = c .if1 }; clear-arg = record { given = g } };
-              clear = Called.called ps·2 r·2 (claims· .5) T15
-                  (record { pos = 14; ty = Syntax.tyRef Syntax.erased Syntax.mut (Syntax.tyInt Syntax.w16); ref = λ x. x }, tt) (m12 record { before = c .before; if1 = c .if1 } g) g';
+              clear = Called.called ps·2 r·2 (claims· .5) T16
+                  (record { pos = 15; ty = Syntax.tyRef Syntax.erased Syntax.mut (Syntax.tyInt Syntax.w16); ref = λ x. x }, tt) (m13 record { before = c .before; if1 = c .if1 } g) g';
             },
           ),
         )
 
-        lay2 : (c : After-first-above) → at60 (W0 (c .before .before .before .before .before .κs) (c .before .before .before .before .before .args)) (m5 (c .before) (After-first-above·gave c))
+        lay2 : (c : After-first-above) → at60 (W0 (c .before .before .before .before .before .before .κs) (c .before .before .before .before .before .before .args)) (m6 (c .before)
+            (After-first-above·gave c))
         lay2 = λ c. (
           tt,
           (
             λ taken. lay3 record {
               before = record { before = c .before; first-above = c .first-above };
               if1 = record
-                  { taken = Tests.ltb-true (Row.get 9 (T7 .locals) (m6 (c .before) (After-first-above·gave c))) (Row.get 10 (T7 .locals) (m6 (c .before) (After-first-above·gave c))) taken };
+                  { taken = Tests.ltb-true (Row.get 10 (T8 .locals) (m7 (c .before) (After-first-above·gave c))) (Row.get 11 (T8 .locals) (m7 (c .before) (After-first-above·gave c))) taken };
             },
             λ left. lay6
                 record {
                   before = record { before = c .before; first-above = c .first-above };
                   if1 = record
-                      { left = Tests.ltb-false (Row.get 9 (T7 .locals) (m6 (c .before) (After-first-above·gave c))) (Row.get 10 (T7 .locals) (m6 (c .before) (After-first-above·gave c))) left };
+                      { left = Tests.ltb-false (Row.get 10 (T8 .locals) (m7 (c .before) (After-first-above·gave c))) (Row.get 11 (T8 .locals) (m7 (c .before) (After-first-above·gave c))) left };
                 },
           ),
         )
 
-        lay1 : (c : After-largest) → at61 (W0 (c .before .before .before .before .κs) (c .before .before .before .before .args)) (m4 (c .before) (After-largest·gave c))
+        lay1 : (c : After-largest) → at61 (W0 (c .before .before .before .before .before .κs) (c .before .before .before .before .before .args)) (m5 (c .before) (After-largest·gave c))
         lay1 = λ c. (
           first-above-requires record { before = c .before; largest = c .largest },
           λ g. lay2 record {
             before = record { before = c .before; largest = c .largest };
-            first-above = Called.called ps·1 r·1 (claims· .3) T5
-                (record { pos = 1; ty = Syntax.tyRef (Syntax.named 0) Syntax.imm (Syntax.tyInt Syntax.w16); ref = λ x. x }, (Num.vAt 8 λ x. x, tt)) (m4 (c .before) (After-largest·gave c)) g;
+            first-above = Called.called ps·1 r·1 (claims· .3) T6
+                (record { pos = 1; ty = Syntax.tyRef (Syntax.named 0) Syntax.imm (Syntax.tyInt Syntax.w16); ref = λ x. x }, (Num.vAt 9 λ x. x, tt)) (m5 (c .before) (After-largest·gave c)) g;
           },
         )
 
-        pub laid : (c : Start) → at65 (W0 (c .κs) (c .args)) (m0 (c .κs) (c .args))
-        laid = λ c. λ g. λ g'. λ g''. (
-          largest-requires record
-              { before = record { before = record { before = c; shared-slice-known = record { given = g } }; slice-known = record { given = g' } }; slice-known2 = record { given = g'' } },
-          λ g'3. lay1
-              record {
-                before = record
-                    { before = record { before = record { before = c; shared-slice-known = record { given = g } }; slice-known = record { given = g' } }; slice-known2 = record { given = g'' } };
-                largest =
-                    Called.called ps·0 r·0 (claims· .1) T4 (Num.vFld 6 (List._∷_ (Syntax.field 0) List.[]) 0 λ x. Form.struct .as-values x .0, tt) (m3 record
-                    { before = record { before = c; shared-slice-known = record { given = g } }; slice-known = record { given = g' } } g'') g'3;
-              },
+        pub laid : (c : Start) → at66 (W0 (c .κs) (c .args)) (m0 (c .κs) (c .args))
+        laid = λ c. λ g. λ g'. λ g''. λ g'3. (
+          largest-requires record {
+            before = record
+                { before = record { before = record { before = c; shared-slice-known = record { given = g } }; slice-known = record { given = g' } }; slice-known2 = record { given = g'' } };
+            shared-slice-known2 = record { given = g'3 };
+          },
+          λ g'4. lay1 record {
+            before = record {
+              before = record
+                  { before = record { before = record { before = c; shared-slice-known = record { given = g } }; slice-known = record { given = g' } }; slice-known2 = record { given = g'' } };
+              shared-slice-known2 = record { given = g'3 };
+            };
+            largest = Called.called ps·0 r·0 (claims· .1) T5 (Num.vFld 6 (List._∷_ (Syntax.field 0) List.[]) 0 λ x. Form.struct .as-values x .0, tt) (m4
+                record { before = record { before = record { before = c; shared-slice-known = record { given = g } }; slice-known = record { given = g' } }; slice-known2 = record { given = g'' } } g'3) g'4;
+          },
         )
 
-        module _ (κs : Lifetimes.Lfts 4) (qs : Lifetimes.Shares 4) where
-          pub asked : (a : Kinds.Dens κs ps) → (good : Kinds.GoodsP κs ps a) → (pre : Pre· κs a) → (bs : List.List Nat.ℕ) → Φ (Any.wantQ 4 ps r xs m κs qs a (Post· κs a)) (Function.init 4 ps r xs m κs
+        module _ (κs : Lifetimes.Lfts 5) (qs : Lifetimes.Shares 5) where
+          pub asked : (a : Kinds.Dens κs ps) → (good : Kinds.GoodsP κs ps a) → (pre : Pre· κs a) → (bs : List.List Nat.ℕ) → Φ (Any.wantQ 5 ps r xs m κs qs a (Post· κs a)) (Function.init 5 ps r xs m κs
               qs a)
           asked = λ a good pre bs. laid record {
             κs = κs;
-            args = record { samples = a .0; out = a .1 .0; measure = a .1 .1 .0; lines = a .1 .1 .1 .0; rs = a .1 .1 .1 .1 .0; form = a .1 .1 .1 .1 .1 .0; count = a .1 .1 .1 .1 .1 .1 .0 };
+            args = record {
+              samples = a .0;
+              out = a .1 .0;
+              measure = a .1 .1 .0;
+              lines = a .1 .1 .1 .0;
+              rs = a .1 .1 .1 .1 .0;
+              form = a .1 .1 .1 .1 .1 .0;
+              bases = a .1 .1 .1 .1 .1 .1 .0;
+              count = a .1 .1 .1 .1 .1 .1
+                  .1 .0;
+            };
             good = good;
-            fits = record { count = record { fits = good .1 .1 .1 .1 .1 .1 .0 .1 } };
+            fits = record { count = record { fits = good .1 .1 .1 .1 .1 .1 .1 .0 .1 } };
             pre = pre;
           }
 
         module _ {M : Type 1} (𝓤 : URA.URA M) (H : Wp.Heap 𝓤) (A : Atoms.Atoms 𝓤) (W : Kit.Given 𝓤 H A) (𝓣 : Wp.Tables 𝓤 H) (known0 : Plain.Known 𝓤 H A W 𝓣 0 ps·0 r·0 (claims· .0) (claims· .1)
             "quantiser::largest") (known1 : Plain.Known 𝓤 H A W 𝓣 1 ps·1 r·1 (claims· .2) (claims· .3) "begin::first_above") (known2 : Plain.Known 𝓤 H A W 𝓣 1 ps·2 r·2 (claims· .4) (claims· .5)
-            "lines::clear") (known3 : Plain.Known 𝓤 H A W 𝓣 1 ps·3 r·3 (claims· .6) (claims· .7) "block::records::clear_records") (known4 : Plain.Known 𝓤 H A W 𝓣 4 ps·4 r·4 (claims· .8) (claims· .9)
+            "lines::clear") (known3 : Plain.Known 𝓤 H A W 𝓣 1 ps·3 r·3 (claims· .6) (claims· .7) "block::records::clear_records") (known4 : Plain.Known 𝓤 H A W 𝓣 5 ps·4 r·4 (claims· .8) (claims· .9)
             "block::writer::write_measured") where
-          pub spec : Statement.Triple 𝓤 (Wp.WpFn 𝓤 H (𝓣 .C) (𝓣 .Λ) (Function.fnOf 4 ps r xs m hs body)) (Function.plainOf 𝓤 H A 4 ps r Pre· Post·)
-          spec = Plain.t-fn-plain 𝓤 H A W 𝓣 4 ps r xs m hs body (λ κs qs bs. Φ) (λ κs qs bs bd. typed κs qs 𝓤 H A W 𝓣 (known0, known1, known2, known3, known4) bs bd) Pre· Post· asked
+          pub spec : Statement.Triple 𝓤 (Wp.WpFn 𝓤 H (𝓣 .C) (𝓣 .Λ) (Function.fnOf 5 ps r xs m hs body)) (Function.plainOf 𝓤 H A 5 ps r Pre· Post·)
+          spec = Plain.t-fn-plain 𝓤 H A W 𝓣 5 ps r xs m hs body (λ κs qs bs. Φ) (λ κs qs bs bd. typed κs qs 𝓤 H A W 𝓣 (known0, known1, known2, known3, known4) bs bd) Pre· Post· asked

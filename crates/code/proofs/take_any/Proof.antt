@@ -1,0 +1,58 @@
+-- `code::take_any` meets its contract: by the answer of the reader. A code is read inside the block, so that the count stays small. Assumes nothing.
+use borrow.Author.Needs.{needs}
+use mathlib.Core.Bool.{Bool, _&&_}
+use mathlib.Core.List.{List}
+use mathlib.Core.Path.{_≡_, sym, _∙_}
+use Prim.Native.Nat.{ℕ, _+_, _*_, _^_, _≤_, _<_}
+use native.Mathlib.Omega.{arith}
+use Rattle.numbers.specs.Numbers.{flag}
+use Rattle.code.specs.Codes.{Bounds, Small}
+use Rattle.code.specs.Tight.{isTight, takenOf}
+use Rattle.code.specs.declared.Code.{Code}
+use Rattle.code.specs.declared.Coded.{Coded}
+use Rattle.code.specs.declared.Coded.the-variants.{Read, Truncated}
+use Rattle.code.specs.declared.Taken.the-variants as Take
+use Rattle.code.proofs.CodeLaws.{code-shape}
+use Rattle.code.proofs.take_any.Statement.{statement}
+use Rattle.code.proofs.take_any.Tie as tie
+
+module _ (M : ℕ) (tight : Bool) (long : ℕ) (o got : Coded) (is : got ≡ o) where
+  cut-off : got ≡ Truncated → (Take.Truncated ≡ takenOf M tight long o) × Small Take.Truncated
+  cut-off e = (rw (sym is ∙ e), tt)
+
+  read : (s : List ℕ) (c : Code) (good : Bool) (one : ℕ) → got ≡ Read c → Bounds s got → good ≡ isTight M c → one ≡ flag (c .long)
+      → (Take.Read (c .value) (c .after) (tight && good) (long + one) ≡ takenOf M tight long o) × (c .value < 63 * 2 ^ 15)
+  read s c good one e bounds f g = (rw (sym is ∙ e, f, g), (rw e at bounds) .0)
+
+returns : tie.Need-returns
+returns c =
+    let r = c .before .before in
+    cut-off _ _ _ _ _ (r .read-code .ensures .0) (c .enum-told .given .1)
+
+add-now-long : tie.Need-add-now-long
+add-now-long c =
+    let g = c .before .before .before .before in
+    let r = g .before .before in
+    let s = r .before .before in
+    let shape = code-shape _ _ _ _ _ _ (sym (r .read-code .ensures .0) ∙ g .got .given .1) in
+    omega (arith, shape .inside, s .pre .0 .0, s .pre .1, c .flag .ensures .1)
+
+returns-2 : tie.Need-returns-2
+returns-2 c =
+    let g = c .before .before .before .before in
+    let r = g .before .before in
+    read _ _ _ _ _ (r .read-code .ensures .0) _ _ _ _ (g .got .given .1) (r .read-code .ensures .1) (c .before .is-tight .ensures) (c .flag .ensures .0)
+
+pub take-any-spec : {M : Type 1} → statement M
+take-any-spec =
+    tie.close
+    (tie.spec
+    (λ c κs. search needs)
+    (λ c. search needs)
+    (λ c. search needs)
+    returns
+    (λ c κs. search needs)
+    (λ c κs. search needs)
+    (λ c. search needs)
+    add-now-long
+    returns-2)

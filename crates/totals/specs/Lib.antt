@@ -1,0 +1,2 @@
+-- The definitions of what is counted of a block's lines.
+pub mod Totals

@@ -1,0 +1,3 @@
+-- The definitions of the second walk.
+pub mod Ways
+pub mod Traces

@@ -1,0 +1,80 @@
+-- How a reading goes that looks for a bad code: by the definitions of reading, and of the first bad code. Assumes nothing.
+use mathlib.Core.List.{List, []}
+use mathlib.Core.Option.{Option, none, some, Option·map}
+use Prim.Native.Nat.{ℕ, _+_}
+use Rattle.steps.specs.Steps.{Step, stepAt}
+use Rattle.pass.specs.Readings.{Reading, readStep, andThen, reads}
+use Rattle.block.specs.Blocks.{State, runs, passAt, endLine, readLines}
+use Rattle.block.specs.BadCodes.{Reason, too-large, short-fits, too-many-zeros, BadCode, stepReason, badAt, badInSteps, firstFound, badInPass, firstBad}
+use Rattle.block.specs.declared.Form.{Form}
+use Rattle.trace.specs.declared.Reason as Named
+use Rattle.trace.specs.declared.Reason.the-variants.{Large, Escape, Zeros}
+use Rattle.trace.specs.declared.Verdict.{Verdict}
+use Rattle.trace.specs.declared.Verdict.the-variants.{Good, Bad}
+use Rattle.trace.specs.declared.BadSpot.{BadSpot}
+use Rattle.trace.specs.declared.Sample.{Sample}
+use Rattle.trace.specs.declared.Stage.{Stage}
+
+-- ---- the program's values
+
+abbrev pub namedReason : Reason → Named.Reason
+namedReason too-large = Large
+namedReason short-fits = Escape
+namedReason too-many-zeros = Zeros
+
+abbrev pub verdictOf : Option Reason → Verdict
+verdictOf none = Good
+verdictOf (some w) = Bad (namedReason w)
+
+-- passes count from 1
+abbrev pub spotOf : BadCode → BadSpot
+spotOf b =
+    record {
+      line = b .line;
+      pass = b .pass + 1;
+      colour = b .step .line;
+      position = b .step .position;
+      at = b .at;
+      reason = namedReason (b .reason);
+    }
+
+abbrev pub stepOf : Sample → Step
+stepOf x = stepAt (x .line) (x .position) (x .coded)
+
+-- ---- ways
+
+-- a bad code is found; the block's bytes end before there is one; or the reading goes on, with tight codes so far
+pub data Way (A : Type 0) : Type 0 where
+  found : BadCode → Way A
+  cut-off : Way A
+  on : A → Way A
+
+-- by the first bad code of some steps, and by what they read
+abbrev pub wayOf : {A : Type 0} → Option BadCode → Option A → Way A
+wayOf (some b) o = found b
+wayOf none none = cut-off
+wayOf none (some a) = on a
+
+-- the walk looks for a bad code and counts no long ones: it goes by a reading, or a state, without that count
+abbrev pub plain : Reading → Reading
+plain r = record { lines = r .lines; set = r .set; at = r .at; tight = r .tight; long = 0 }
+
+abbrev pub plainState : State → State
+plainState r = record { lines = r .lines; records = r .records; at = r .at; tight = r .tight; long = 0 }
+
+-- one step, and a list of steps, of a pass of a lossless line
+unfoldable pub stepWay : Stage → List ℕ → Step → Reading → Way Reading
+stepWay t s x r = wayOf (Option·map (badAt (t .line) (t .pass) x r) (stepReason (t .bits) 0 (t .w) s x r)) (Option·map plain (readStep (t .bits) 0 (t .w) s x r))
+
+unfoldable pub stepsWay : Stage → List ℕ → List Step → Reading → Way Reading
+stepsWay t s l r = wayOf (badInSteps (t .line) (t .pass) (t .bits) 0 (t .w) s l r) (Option·map plain (reads (t .bits) 0 (t .w) s l r))
+
+-- the first i passes of line n; all six, with the test at the line's end; and the first n lines
+unfoldable pub passesWay : Form → List ℕ → ℕ → ℕ → State → Way State
+passesWay F s n i r = wayOf (firstFound (passAt F 0 s) (badInPass F 0 s n) i r) (Option·map plainState (runs (passAt F 0 s) i r))
+
+unfoldable pub lineWay : Form → List ℕ → ℕ → State → Way State
+lineWay F s n r = wayOf (firstFound (passAt F 0 s) (badInPass F 0 s n) 6 r) (Option·map plainState (andThen (runs (passAt F 0 s) 6 r) (endLine s)))
+
+unfoldable pub blockWay : Form → List ℕ → ℕ → Way State
+blockWay F s n = wayOf (firstBad F [] s n) (Option·map plainState (readLines F [] s n))

@@ -1,0 +1,450 @@
+// A second walk over a block that is not tight, one sample at a time. It stops at the first bad code and says where it stands and why it is bad. Only
+// lossless blocks are walked: base 0, no restarts after the first line.
+ghost use mathlib.Core.Path.{_≡_};
+ghost use mathlib.Core.List.{[], _∷_};
+ghost use Prim.Native.Nat.{_+_, _*_, _/_, _^_, _≤_, _<_};
+ghost use lib.ListN.{length, getD, set};
+ghost use Rattle.statistics.specs.Statistics.{updated, InRange};
+ghost use Rattle.code.specs.Samples.{residualOf};
+ghost use Rattle.lines.specs.ColourLines.{zeroLines};
+ghost use Rattle.map.specs.Places.{widthOf};
+ghost use Rattle.steps.specs.Steps.{evenPart, oddPart, turnSteps, passSteps};
+ghost use Rattle.steps.specs.Contexts.{noRecord};
+ghost use Rattle.steps.specs.Values.{zipRecords, SetInRange, Depth};
+ghost use Rattle.block.specs.Records.{startRecords};
+ghost use Rattle.block.specs.BadCodes.{reasonOf};
+ghost use Rattle.trace.specs.Ways.{verdictOf, stepOf, stepWay, stepsWay, lineWay, blockWay};
+ghost use Rattle.trace.specs.Traces.{clean, Inside, StepAsks, PassAsks, Gives, cleanState, LineAsks, LineGives, Ends};
+use bits::BitPosition;
+use bits::is_past;
+use block::Form;
+use code::Code;
+use code::Coded;
+use map::width;
+use quantiser::Quantiser;
+use statistics::Record;
+use steps::Plan;
+
+// Why a code is bad: it is 2^bits or more; it is long where the short form fits; it has more zeros than the limit. Where two hold, the first is given.
+pub enum Reason {
+    Large,
+    Escape,
+    Zeros,
+}
+
+pub enum Verdict {
+    Good,
+    Bad(Reason),
+}
+
+// A bad code: its line of six rows, its pass, 1 to 6, its colour line and position, its first bit, and why it is bad.
+pub struct BadSpot {
+    pub line: usize,
+    pub pass: usize,
+    pub colour: usize,
+    pub position: usize,
+    pub at: BitPosition,
+    pub reason: Reason,
+}
+
+// What a walk says: a bad code; all codes were tight up to this bit; or no one bit was left before there was a bad code.
+pub enum Traced {
+    Bad(BadSpot),
+    At(BitPosition),
+    CutOff,
+}
+
+// One sample: its colour line, its position, and whether it has a code.
+pub struct Sample {
+    pub line: usize,
+    pub position: usize,
+    pub coded: bool,
+}
+
+// Which pass of which line is walked, 0 to 5, in colour lines of w samples.
+pub struct Stage {
+    pub line: usize,
+    pub pass: usize,
+    pub bits: u32,
+    pub w: usize,
+    pub q: Quantiser,
+}
+
+// ---- one sample
+
+// Why a code that was read is bad, if it is.
+fn verdict_of(m: u32, k: u32, limit: u32, c: Code) -> Verdict
+    requires { ⌜ k ≤ 15 ⌝ }
+    ensures { λ r. ⌜ r ≡ verdictOf (reasonOf m k limit c) ⌝ }
+{
+    let value = c.value;
+    let zeros = c.zeros;
+    if m < value {
+        return Verdict::Bad(Reason::Large);
+    }
+    if zeros < (limit as u64) {
+        return Verdict::Good;
+    }
+    if value >> k < limit {
+        return Verdict::Bad(Reason::Escape);
+    }
+    if (limit as u64) < zeros {
+        return Verdict::Bad(Reason::Zeros);
+    }
+    Verdict::Good
+}
+
+// The record at a place of a set. `steps::record_at` takes arrays; here a set is a part of the 336 records.
+fn record_in(sums: &[u32], ns: &[u32], slot: usize) -> Record
+    requires { ⌜ (slot < 112) × ((length (now sums) ≡ 112) × (length (now ns) ≡ 112)) ⌝ }
+    requires { ⌜ SetInRange (zipRecords (now sums) (now ns)) ⌝ }
+    ensures { λ r. ⌜ (r ≡ getD (zipRecords (now (sums .entry)) (now (ns .entry))) slot noRecord) × InRange r ⌝ }
+{
+    Record {
+        sum: sums[slot],
+        n: ns[slot],
+    }
+}
+
+// The record that was there is updated by its code.
+fn update_in(sums: &mut [u32], ns: &mut [u32], slot: usize, old: Record, code: u32)
+    requires { ⌜ (code < 63 * 2 ^ 15) × ((slot < 112) × InRange old) ⌝ }
+    requires { ⌜ (length (now sums) ≡ 112) × (length (now ns) ≡ 112) ⌝ }
+    requires { ⌜ SetInRange (zipRecords (now sums) (now ns)) ⌝ }
+    ensures { λ _. ⌜ zipRecords (now (sums .exit)) (now (ns .exit))
+        ≡ set (zipRecords (now (sums .entry)) (now (ns .entry))) slot (updated old ((residualOf code) .size)) ⌝ }
+    ensures { λ _. ⌜ SetInRange (zipRecords (now (sums .exit)) (now (ns .exit))) ⌝ }
+{
+    let new = old.update(code::residual_size(code));
+    sums[slot] = new.sum;
+    ns[slot] = new.n;
+}
+
+fn bad_spot(stage: Stage, x: Sample, at: BitPosition, reason: Reason) -> BadSpot
+    requires { ⌜ stage .pass ≤ 5 ⌝ }
+    ensures { λ r. ⌜ r ≡ record { line = stage .line; pass = stage .pass + 1; colour = x .line; position = x .position; at = at; reason = reason } ⌝ }
+{
+    BadSpot {
+        line: stage.line,
+        pass: stage.pass + 1,
+        colour: x.line,
+        position: x.position,
+        at,
+        reason,
+    }
+}
+
+// One sample is read, or its code is bad.
+fn trace_step(
+    block: &[u8],
+    from: BitPosition,
+    lines: &mut [u16],
+    sums: &mut [u32],
+    ns: &mut [u32],
+    stage: Stage,
+    x: Sample,
+) -> Traced
+    requires { ⌜ StepAsks stage x (now block) (now lines) (now sums) (now ns) ⌝ }
+    ensures { λ r.
+        let before = clean (now (lines .entry)) (now (sums .entry)) (now (ns .entry)) from in
+        ⌜ Gives (stepWay stage (now (block .entry)) (stepOf x) before) (now (lines .exit)) (now (sums .exit)) (now (ns .exit)) r ⌝ }
+{
+    let w = stage.w;
+    let p = x.position;
+    let coded = x.coded;
+    let q = stage.q;
+    let m = quantiser::largest(stage.bits);
+    let i = steps::left_of(w, x.line, p);
+    let here = steps::context_at(lines, w + 2, i, p);
+    if !coded {
+        lines[i + 1] = here.prediction as u16;
+        return Traced::At(from);
+    }
+    let h = steps::look_of(0, here);
+    let j = steps::slot_of(p, h.place);
+    let old = record_in(sums, ns, j);
+    let k = old.k();
+    let got = code::read_code(block, from, k, q.limit, q.raw);
+    let Coded::Read(c) = got else {
+        return Traced::CutOff;
+    };
+    let after = c.after;
+    let verdict = verdict_of(m, k, q.limit, c);
+    match verdict {
+        Verdict::Bad(reason) => Traced::Bad(bad_spot(stage, x, from, reason)),
+        Verdict::Good => {
+            lines[i + 1] = code::sample(
+                m,
+                h.base,
+                q.total,
+                h.negative,
+                here.prediction,
+                c.value,
+            ) as u16;
+            update_in(sums, ns, j, old, c.value);
+            Traced::At(after)
+        }
+    }
+}
+
+// ---- the samples of a pass
+
+// Two samples, one after the other.
+fn trace_pair(
+    block: &[u8],
+    from: BitPosition,
+    lines: &mut [u16],
+    sums: &mut [u32],
+    ns: &mut [u32],
+    stage: Stage,
+    x: Sample,
+    y: Sample,
+) -> Traced
+    requires { ⌜ StepAsks stage x (now block) (now lines) (now sums) (now ns) × Inside stage y ⌝ }
+    ensures { λ r.
+        let before = clean (now (lines .entry)) (now (sums .entry)) (now (ns .entry)) from in
+        ⌜ Gives (stepsWay stage (now (block .entry)) (stepOf x ∷ stepOf y ∷ []) before) (now (lines .exit)) (now (sums .exit)) (now (ns .exit)) r ⌝ }
+{
+    let got = trace_step(block, from, lines, sums, ns, stage, x);
+    match got {
+        Traced::Bad(b) => Traced::Bad(b),
+        Traced::CutOff => Traced::CutOff,
+        Traced::At(at) => trace_step(block, at, lines, sums, ns, stage, y),
+    }
+}
+
+// The two samples at an even position p, if it is one of the line.
+fn trace_even(
+    block: &[u8],
+    from: BitPosition,
+    lines: &mut [u16],
+    sums: &mut [u32],
+    ns: &mut [u32],
+    stage: Stage,
+    plan: Plan,
+    p: usize,
+) -> Traced
+    requires { ⌜ PassAsks stage plan (now block) (now lines) (now sums) (now ns) ⌝ }
+    ensures { λ r.
+        let before = clean (now (lines .entry)) (now (sums .entry)) (now (ns .entry)) from in
+        ⌜ Gives (stepsWay stage (now (block .entry)) (evenPart (stage .w) plan p) before) (now (lines .exit)) (now (sums .exit)) (now (ns .exit)) r ⌝ }
+{
+    let w = stage.w;
+    if w <= p {
+        return Traced::At(from);
+    }
+    let x = Sample {
+        line: plan.first,
+        position: p,
+        coded: steps::has_code(plan.first_rule, p),
+    };
+    let y = Sample {
+        line: plan.second,
+        position: p,
+        coded: steps::has_code(plan.second_rule, p),
+    };
+    trace_pair(block, from, lines, sums, ns, stage, x, y)
+}
+
+// The two samples at the odd position seven before p, once positions 0 to 8 are done.
+fn trace_odd(
+    block: &[u8],
+    from: BitPosition,
+    lines: &mut [u16],
+    sums: &mut [u32],
+    ns: &mut [u32],
+    stage: Stage,
+    plan: Plan,
+    p: usize,
+) -> Traced
+    requires { ⌜ PassAsks stage plan (now block) (now lines) (now sums) (now ns) × (p < stage .w + 7) ⌝ }
+    ensures { λ r.
+        let before = clean (now (lines .entry)) (now (sums .entry)) (now (ns .entry)) from in
+        ⌜ Gives (stepsWay stage (now (block .entry)) (oddPart plan p) before) (now (lines .exit)) (now (sums .exit)) (now (ns .exit)) r ⌝ }
+{
+    if p < 8 {
+        return Traced::At(from);
+    }
+    let x = Sample {
+        line: plan.first,
+        position: p - 7,
+        coded: true,
+    };
+    let y = Sample {
+        line: plan.second,
+        position: p - 7,
+        coded: true,
+    };
+    trace_pair(block, from, lines, sums, ns, stage, x, y)
+}
+
+// Turn t of a pass.
+fn trace_turn(
+    block: &[u8],
+    from: BitPosition,
+    lines: &mut [u16],
+    sums: &mut [u32],
+    ns: &mut [u32],
+    stage: Stage,
+    plan: Plan,
+    t: usize,
+) -> Traced
+    requires { ⌜ PassAsks stage plan (now block) (now lines) (now sums) (now ns) × (t < stage .w / 2 + 4) ⌝ }
+    ensures { λ r.
+        let before = clean (now (lines .entry)) (now (sums .entry)) (now (ns .entry)) from in
+        ⌜ Gives (stepsWay stage (now (block .entry)) (turnSteps (stage .w) plan t) before) (now (lines .exit)) (now (sums .exit)) (now (ns .exit)) r ⌝ }
+{
+    let p = 2 * t;
+    let got = trace_even(block, from, lines, sums, ns, stage, plan, p);
+    match got {
+        Traced::Bad(b) => Traced::Bad(b),
+        Traced::CutOff => Traced::CutOff,
+        Traced::At(at) => trace_odd(block, at, lines, sums, ns, stage, plan, p),
+    }
+}
+
+// A pass, on the records of its set.
+fn trace_pass(
+    block: &[u8],
+    from: BitPosition,
+    lines: &mut [u16],
+    sums: &mut [u32],
+    ns: &mut [u32],
+    stage: Stage,
+    plan: Plan,
+) -> Traced
+    requires { ⌜ PassAsks stage plan (now block) (now lines) (now sums) (now ns) ⌝ }
+    ensures { λ r.
+        let before = clean (now (lines .entry)) (now (sums .entry)) (now (ns .entry)) from in
+        ⌜ Gives (stepsWay stage (now (block .entry)) (passSteps (stage .w) plan) before) (now (lines .exit)) (now (sums .exit)) (now (ns .exit)) r ⌝ }
+{
+    let turns = stage.w / 2 + 4;
+    let mut at = from;
+    let mut t: usize = 0;
+    while t < turns {
+        let got = trace_turn(block, at, lines, sums, ns, stage, plan, t);
+        match got {
+            Traced::Bad(b) => return Traced::Bad(b),
+            Traced::CutOff => return Traced::CutOff,
+            Traced::At(after) => at = after,
+        }
+        t = t + 1;
+    }
+    Traced::At(at)
+}
+
+// ---- lines
+
+// Line n: six passes, each on the records of its set.
+fn trace_line(
+    block: &[u8],
+    from: BitPosition,
+    lines: &mut [u16],
+    sums: &mut [u32],
+    ns: &mut [u32],
+    form: Form,
+    q: Quantiser,
+    n: usize,
+) -> Traced
+    requires { ⌜ LineAsks form q (now block) (now lines) (now sums) (now ns) ⌝ }
+    ensures { λ r.
+        let before = cleanState (now (lines .entry)) (now (sums .entry)) (now (ns .entry)) from in
+        ⌜ LineGives (lineWay form (now (block .entry)) n before) (now (lines .exit)) (now (sums .exit)) (now (ns .exit)) r ⌝ }
+{
+    let bits = form.bits;
+    let xtrans = form.xtrans;
+    let w = width(xtrans);
+    let mut at = from;
+    let mut i: usize = 0;
+    while i < 6 {
+        let p = steps::plan_at(i, xtrans);
+        lines::set_guards(lines, w, p.first);
+        lines::set_guards(lines, w, p.second);
+        let stage = Stage {
+            line: n,
+            pass: i,
+            bits,
+            w,
+            q,
+        };
+        let start = 112 * p.set;
+        let end = start + 112;
+        let got = trace_pass(
+            block,
+            at,
+            lines,
+            &mut sums[start..end],
+            &mut ns[start..end],
+            stage,
+            p,
+        );
+        match got {
+            Traced::Bad(b) => return Traced::Bad(b),
+            Traced::CutOff => return Traced::CutOff,
+            Traced::At(after) => at = after,
+        }
+        i = i + 1;
+    }
+    if is_past(block, at) {
+        return Traced::CutOff;
+    }
+    Traced::At(at)
+}
+
+// What the records start with.
+fn start(sums: &mut [u32], ns: &mut [u32], bits: u32)
+    requires { ⌜ Depth bits × ((length (now sums) ≡ 336) × (length (now ns) ≡ 336)) ⌝ }
+    ensures { λ _. ⌜ zipRecords (now (sums .exit)) (now (ns .exit)) ≡ startRecords bits 0 ⌝ }
+{
+    let mut j: usize = 0;
+    while j < 336 {
+        let r = block::start_record(bits, 0, j);
+        sums[j] = r.sum;
+        ns[j] = r.n;
+        j = j + 1;
+    }
+}
+
+// The first `count` lines.
+fn trace_lines(
+    block: &[u8],
+    lines: &mut [u16],
+    sums: &mut [u32],
+    ns: &mut [u32],
+    form: Form,
+    count: usize,
+) -> Traced
+    requires { ⌜ (length (now block) < 2 ^ 32) × (Depth (form .bits) × (count < 2 ^ 16)) ⌝ }
+    requires { ⌜ (now lines ≡ zeroLines (widthOf (form .xtrans))) × ((length (now sums) ≡ 336) × (length (now ns) ≡ 336)) ⌝ }
+    ensures { λ r. ⌜ Ends (blockWay form (now (block .entry)) count) r ⌝ }
+{
+    let bits = form.bits;
+    let w = width(form.xtrans);
+    start(sums, ns, bits);
+    let q = Quantiser::main(bits, 0);
+    let mut at = BitPosition(0);
+    let mut n: usize = 0;
+    while n < count {
+        lines::turn(lines, w);
+        let got = trace_line(block, at, lines, sums, ns, form, q, n);
+        match got {
+            Traced::Bad(b) => return Traced::Bad(b),
+            Traced::CutOff => return Traced::CutOff,
+            Traced::At(after) => at = after,
+        }
+        n = n + 1;
+    }
+    Traced::At(at)
+}
+
+// The walk over the first `count` lines of a lossless block, from its first bit on.
+pub fn trace_block(block: &[u8], form: Form, count: usize) -> Traced
+    requires { ⌜ (length (now block) < 2 ^ 32) × (Depth (form .bits) × (count < 2 ^ 16)) ⌝ }
+    ensures { λ r. ⌜ Ends (blockWay form (now (block .entry)) count) r ⌝ }
+{
+    let mut lines = [0u16; 9252];
+    let mut sums = [0u32; 336];
+    let mut ns = [0u32; 336];
+    let used = begin::samples_needed(form.xtrans);
+    trace_lines(block, &mut lines[0..used], &mut sums, &mut ns, form, count)
+}
