@@ -17,3 +17,6 @@ pub mod TightLaws
 pub mod TotalLaws
 pub mod ImageLaws
 pub mod LeftLaws
+pub mod WindowTwins
+pub mod PlacedLines
+pub mod AgreementHolds

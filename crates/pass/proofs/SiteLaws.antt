@@ -39,6 +39,10 @@ pub record Placed (W line p : ℕ) (lines : List ℕ) (i : ℕ) (x : Context) : 
   pub place : i ≡ line * (W + 2) + p
   pub context : x ≡ contextAt lines (W + 2) i p
 
+-- its right neighbour stands before the line's end
+pub line-end : (W line p : ℕ) {i : ℕ} → p < W → i ≡ line * (W + 2) + p → i + 2 < (line + 1) * (W + 2)
+line-end W line p h e = omega arith
+
 -- an interpolated sample is its prediction
 pub site-interpolated : {bits q W line p i : ℕ} {s lines : List ℕ} {x : Context} {coded : Bool} {records : List Record} {from : Place}
     → Placed W line p lines i x → coded ≡ false

@@ -7,6 +7,17 @@ use std::thread;
 /// The columns of a block.
 const COLUMNS: u32 = 768;
 
+/// An entry for regions, the scratch that it takes, and how many rows of a truncated line it sets.
+#[derive(Clone, Copy)]
+struct Entry {
+    call: fn(&FujiCompressed, &mut Scratch, &mut [u16], Rect, &ColorTile) -> Result<()>,
+    scratch: fn() -> Scratch,
+    cut_rows: usize,
+}
+
+const PLAIN: Entry = Entry { call: FujiCompressed::decode_region_with, scratch: Scratch::new, cut_rows: 0 };
+const WINDOWED: Entry = Entry { call: FujiCompressed::decode_region_windowed_with, scratch: Scratch::windowed, cut_rows: 6 };
+
 /// A block's part of the region, and where its rows go.
 struct Part<'i> {
     region: Rect,
@@ -32,18 +43,43 @@ impl FujiCompressed<'_> {
         tile: &ColorTile,
         done: &(dyn Fn() + Sync),
     ) -> Result<()> {
+        self.by_threads(PLAIN, threads, image, region, tile, done)
+    }
+
+    /// `decode_region_windowed` by so many threads, in the same way.
+    pub fn decode_region_windowed_parallel(
+        &self,
+        threads: usize,
+        image: &mut [u16],
+        region: Rect,
+        tile: &ColorTile,
+        done: &(dyn Fn() + Sync),
+    ) -> Result<()> {
+        self.by_threads(WINDOWED, threads, image, region, tile, done)
+    }
+
+    fn by_threads(
+        &self,
+        entry: Entry,
+        threads: usize,
+        image: &mut [u16],
+        region: Rect,
+        tile: &ColorTile,
+        done: &(dyn Fn() + Sync),
+    ) -> Result<()> {
+        let serial = |image: &mut [u16]| (entry.call)(self, &mut (entry.scratch)(), image, region, tile);
         let size = region.width as usize * region.height as usize;
         if size == 0 || image.len() < size || !self.has(region) {
-            return self.decode_region(image, region, tile);
+            return serial(image);
         }
         let parts = parts_of(&mut image[..size], region);
         let mut rooms = rooms(threads.clamp(1, parts.len()), region);
         let Some(own) = rooms.pop() else {
             // There is no memory for a block's columns, and one thread needs none.
-            return self.decode_region(image, region, tile);
+            return serial(image);
         };
         let (queue, lowest) = (Mutex::new(parts.into_iter()), Mutex::new(None));
-        let work = |room| self.work(room, &queue, &lowest, tile, done);
+        let work = |room| self.work(entry, room, &queue, &lowest, tile, done);
         thread::scope(|scope| {
             for room in rooms {
                 // A thread that cannot be had is one less.
@@ -57,20 +93,22 @@ impl FujiCompressed<'_> {
     /// Takes parts until none is left.
     fn work<'i>(
         &self,
+        entry: Entry,
         mut room: Vec<u16>,
         queue: &Mutex<impl Iterator<Item = Part<'i>>>,
         lowest: &Mutex<Option<Refusal>>,
         tile: &ColorTile,
         done: &(dyn Fn() + Sync),
     ) {
-        let mut scratch = Scratch::new();
+        let mut scratch = (entry.scratch)();
         loop {
             let Some(part) = queue.lock().unwrap().next() else { return };
             let width = part.region.width as usize;
             let columns = &mut room[..width * part.rows.len()];
-            let answer = self.decode_region_with(&mut scratch, columns, part.region, tile);
-            let read = answer.map_or_else(|r| (6 * r.line).saturating_sub(part.region.y as usize), |()| part.rows.len());
-            part.rows.into_iter().zip(columns.chunks(width)).take(read).for_each(|(row, from)| row.copy_from_slice(from));
+            let answer = (entry.call)(self, &mut scratch, columns, part.region, tile);
+            let rows_before = |line: usize| (6 * line + entry.cut_rows).saturating_sub(part.region.y as usize);
+            let set = answer.map_or_else(|r| rows_before(r.line), |()| part.rows.len());
+            part.rows.into_iter().zip(columns.chunks(width)).take(set).for_each(|(row, from)| row.copy_from_slice(from));
             if let Err(refusal) = answer {
                 let mut lowest = lowest.lock().unwrap();
                 *lowest = Some(lowest.map_or(refusal, |l: Refusal| if l.block < refusal.block { l } else { refusal }));

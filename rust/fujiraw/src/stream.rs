@@ -1,4 +1,5 @@
 //! What is done with streams and headers.
+use crate::arguments::Decode;
 use crate::files::{load, load_samples, name};
 use crate::picture::Picture;
 use crate::progress::Progress;
@@ -137,18 +138,12 @@ pub fn plan(header: &Path, plan: &Path) -> Result<Vec<u8>, String> {
 }
 
 /// A picture, or a region of it, by so many threads, and the tile that was used.
-pub fn decode(
-    file: &Path,
-    region: Option<Rect>,
-    tile: Option<&ColorTile>,
-    threads: usize,
-    quiet: bool,
-) -> Result<(Picture, ColorTile), String> {
+pub fn decode(file: &Path, call: &Decode) -> Result<(Picture, ColorTile), String> {
     let bytes = load(file)?;
     let stream = FujiCompressed::new(&bytes).map_err(|e| e.to_string())?;
     let h = stream.header;
-    let region = region.unwrap_or(Rect::new(0, 0, h.width, h.height));
-    let tile = tile.copied().unwrap_or(tile::usual(h.xtrans));
+    let region = call.region.unwrap_or(Rect::new(0, 0, h.width, h.height));
+    let tile = call.tile.unwrap_or(tile::usual(h.xtrans));
     if !is_inside(&h, region) {
         // The library says what is wrong with it.
         stream.decode_region(&mut [], region, &tile).map_err(|e| e.to_string())?;
@@ -159,14 +154,18 @@ pub fn decode(
         stream.decode_region(&mut [0], Rect::new(region.x, 0, 1, 1), &tile).map_err(|e| e.to_string())?;
     }
     let mut samples = room(region.width, region.height)?;
-    let (blocks, progress) = ((last + 1 - first) as usize, Progress::new(quiet, name(file)));
+    let (blocks, progress) = ((last + 1 - first) as usize, Progress::new(call.quiet.0, name(file)));
     let done = Mutex::new(0);
     let one_more = || {
         let mut done = done.lock().unwrap();
         *done += 1;
         progress.at(*done, blocks, *done * 768 * region.height as usize);
     };
-    stream.decode_region_parallel(threads, &mut samples, region, &tile, &one_more).map_err(|e| e.to_string())?;
+    let by_threads = match call.windowed.0 {
+        true => FujiCompressed::decode_region_windowed_parallel,
+        false => FujiCompressed::decode_region_parallel,
+    };
+    by_threads(&stream, call.threads, &mut samples, region, &tile, &one_more).map_err(|e| e.to_string())?;
     Ok((Picture { width: region.width, height: region.height, bits: h.bits, samples }, tile))
 }
 
