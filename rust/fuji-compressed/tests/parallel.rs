@@ -16,15 +16,27 @@ fn stream(xtrans: bool, lossy: bool, width: u16, lines: u16, seed: u64) -> Vec<u
     encoded(&header, &rows, &mut |b, n, line, p| scene(b as u64, 16383, n, line, p, &mut random))
 }
 
-fn serial(bytes: &[u8], region: Rect, fill: u16, spare: usize) -> (Result<(), Refusal>, Vec<u16>) {
+type Serial = fn(&FujiCompressed, &mut [u16], Rect, &ColorTile) -> Result<(), Refusal>;
+type Parallel = fn(&FujiCompressed, usize, &mut [u16], Rect, &ColorTile, &(dyn Fn() + Sync)) -> Result<(), Refusal>;
+
+const ENTRIES: [(Serial, Parallel); 2] = [
+    (FujiCompressed::decode_region, FujiCompressed::decode_region_parallel),
+    (FujiCompressed::decode_region_windowed, FujiCompressed::decode_region_windowed_parallel),
+];
+
+fn called(serial: Serial, bytes: &[u8], region: Rect, fill: u16, spare: usize) -> (Result<(), Refusal>, Vec<u16>) {
     let mut image = vec![fill; region.width as usize * region.height as usize + spare];
-    let answer = FujiCompressed::new(bytes).unwrap().decode_region(&mut image, region, &TILE);
+    let answer = serial(&FujiCompressed::new(bytes).unwrap(), &mut image, region, &TILE);
     (answer, image)
 }
 
 /// The same answer and image with 0 to 5 threads, and `done` for each block touched unless the call is refused before.
 fn agrees(bytes: &[u8], region: Rect) {
-    let want = serial(bytes, region, 0xA5A5, 3);
+    ENTRIES.into_iter().for_each(|(serial, parallel)| agrees_by(serial, parallel, bytes, region));
+}
+
+fn agrees_by(serial: Serial, parallel: Parallel, bytes: &[u8], region: Rect) {
+    let want = called(serial, bytes, region, 0xA5A5, 3);
     for threads in 0..6 {
         let mut image = vec![0xA5A5; want.1.len()];
         let done = AtomicUsize::new(0);
@@ -32,7 +44,7 @@ fn agrees(bytes: &[u8], region: Rect) {
             done.fetch_add(1, Ordering::Relaxed);
         };
         let opened = FujiCompressed::new(bytes).unwrap();
-        let answer = opened.decode_region_parallel(threads, &mut image, region, &TILE, &counted);
+        let answer = parallel(&opened, threads, &mut image, region, &TILE, &counted);
         assert_eq!(answer, want.0, "{region:?} by {threads}");
         assert!(image == want.1, "{region:?} by {threads}");
         let reads = region.width > 0 && region.height > 0 && is_read(answer);

@@ -15,9 +15,11 @@ const XTRANS: ColorTile =
 type Answer = Result<(), Refusal>;
 type Entry = (&'static str, fn(&FujiCompressed, &mut Scratch, &mut [u16], Rect, &ColorTile) -> Answer);
 
-const REGIONS: [Entry; 2] = [
+const REGIONS: [Entry; 4] = [
     ("decode_region", |s, scratch, image, r, tile| s.decode_region_with(scratch, image, r, tile)),
+    ("decode_region_windowed", |s, scratch, image, r, tile| s.decode_region_windowed_with(scratch, image, r, tile)),
     ("decode_region_parallel", |s, _, image, r, tile| s.decode_region_parallel(2, image, r, tile, &|| ())),
+    ("decode_region_windowed_parallel", |s, _, image, r, tile| s.decode_region_windowed_parallel(2, image, r, tile, &|| ())),
 ];
 
 /// For the whole picture alone.
