@@ -20,7 +20,8 @@ use Rattle.map.specs.Places.{widthOf, inRows, emittedSample, Changed}
 use Rattle.map.specs.declared.Part.{Part}
 use Rattle.steps.specs.Values.{quantisersOf}
 use Rattle.steps.specs.declared.Quantisers.{Quantisers}
-use Rattle.block.specs.Blocks.{State, runs, readLine, readLineAt, beforeLine, startState, readLines, tightLines, totalsIn, totalsAfter, tightBefore, startPlace, stateAt, ReadAll, CutAt}
+use Rattle.block.specs.Blocks.{State, runs, readLine, readLineAt, beforeLine, startState, readLines, tightLines, totalsIn, totalsAfter}
+use Rattle.block.specs.Blocks.{tightBefore, startPlace, stateAt, ReadAll, CutAt}
 use Rattle.block.specs.Records.{startRecords, restartedMain, baseOf, isRestarted}
 use Rattle.block.specs.Lent.{Buffers}
 use Rattle.block.specs.WindowedLines.{samplesIn, zerosIn, Held, IsLinedIn, LineReadIn}
@@ -83,7 +84,8 @@ all-kept-lines false xtrans W n eW en t = rw (eW, en) (le-refl _)
 all-kept-lines true xtrans W n eW en t = absurd (let no : _≡_ {A = ℕ} 0 1 = cc in omega arith)
 
 -- line n, by what was done before it: the 18 lines are turned
-module _ (windowed : Bool) (F : Form) (bases s tile : List ℕ) (a : Part) (n q : ℕ) (b : Bool) (Q : Quantisers) (v₀ : List ℕ) (rs₀ rs₁ : List Record) (from : Place)
+module _ (windowed : Bool) (F : Form) (bases s tile : List ℕ) (a : Part) (n q : ℕ) (b : Bool) (Q : Quantisers) (v₀ : List ℕ) (rs₀ rs₁ : List Record)
+    (from : Place)
     (so-far : LinesRead windowed F bases s n v₀ rs₀ from) (depth : F .bits ≤ 16) (eq : q ≡ baseOf bases n) (eb : b ≡ isRestarted bases n)
     (eQ : Q ≡ quantisersOf (F .bits) q) (er : rs₁ ≡ cond b (restartedMain (F .bits) q rs₀) rs₀) (W : ℕ) (eW : W ≡ widthOf (F .xtrans))
     (before after : Buffers) (ev : before .lines ≡ cond (not windowed) (turned W v₀) v₀) (er₁ : before .records ≡ rs₁) (d : Lined)

@@ -19,7 +19,8 @@ use Rattle.region.specs.Regions.{blockOf, firstBlock, lastBlock, bottomOf, part
 use Rattle.region.specs.declared.Rect.{Rect}
 use Rattle.region.proofs.RegionLaws.{InColumns, one-block, lines-cover, row-inside}
 use Rattle.block.specs.Blocks.{State, runs, readLineAt, startState, readLines, shownSample, shownLines, IsWalked}
-use Rattle.block.specs.Images.{formOf, bytesIn, basesIn, isRead, linesRead, readIn, lineOf, isDecoded, pictureSample, decodedSample, orElse, walkedAnswer, blockAnswer, answerOf}
+use Rattle.block.specs.Images.{formOf, bytesIn, basesIn, isRead, linesRead, readIn, lineOf, isDecoded, pictureSample, decodedSample, orElse}
+use Rattle.block.specs.Images.{walkedAnswer, blockAnswer, answerOf}
 use Rattle.block.specs.WindowedImages.{isReached, reachedSample}
 use Rattle.block.specs.WindowedLines.{reachedLines, ShownIn, PicturedIn}
 use Rattle.block.specs.declared.Form.{Form}
@@ -253,7 +254,15 @@ module _ (h : FujiHeader) (r : Rect) (n b m : ℕ) (test : ℕ → Bool) (sample
       (λ t.
       let e : blockOf r i ≡ b = eqb-true _ _ t in
       shown .entries i
-      ∙ rw (of-block h r n i ok b m e, lines i e, samples i e, done .entries i, not-reached r i (test i) b (omega arith), is-reached r i (test i) (b + 1) (omega arith)))
+      ∙ rw (
+        of-block h r n i ok b m e,
+        lines i e,
+        samples i e,
+        done .entries i,
+        not-reached r i (test i) b (omega arith),
+        is-reached r i (test i) (b + 1)
+            (omega arith),
+      ))
       (λ t.
       let other = eqb-false (blockOf r i) b t in
       shown .entries i ∙ rw (of-other h r n i ok b m other, done .entries i, other-reached r i (test i) b other))
@@ -273,7 +282,8 @@ pictured-kept false d h r tile b x y p = p .kept
 pictured-kept true d h r tile b x y p = p .kept
 
 -- the lines whose rows a walk has changed, in windows
-reached-lines : (d : List ℕ) (h : FujiHeader) (r : Rect) (n i b : ℕ) (w : Walked) → Accepted h r n → IsWalked (formOf h) (basesIn d b) (bytesIn d b) (lineCount r) w
+reached-lines : (d : List ℕ) (h : FujiHeader) (r : Rect) (n i b : ℕ) (w : Walked) → Accepted h r n
+    → IsWalked (formOf h) (basesIn d b) (bytesIn d b) (lineCount r) w
     → ltb i (r .width * r .height) && ltb (lineOf r i) (reachedLines w (lineCount r)) ≡ ltb i (r .width * r .height) && leb (lineOf r i) (readIn d h r b)
 reached-lines d h r n i b (Walk.Read all tight) ok p =
     let e : readIn d h r b ≡ lineCount r = sym (walked-lines (formOf h) (basesIn d b) (bytesIn d b) (lineCount r) (Walk.Read all tight) p) in

@@ -47,7 +47,8 @@ width-in-range true w e = rw e (lit≤ tt, lit≤ tt, refl)
 width-in-range false w e = rw e (lit≤ tt, lit≤ tt, refl)
 
 -- in windows they stay in the nine lines
-pub planned-in : (windowed xtrans : Bool) (i : ℕ) (P Q : Plan) (W n : ℕ) → i < 6 → P ≡ planOf xtrans i → Q ≡ windowPlan windowed P → W ≡ widthOf xtrans → n ≡ samplesIn windowed xtrans
+pub planned-in : (windowed xtrans : Bool) (i : ℕ) (P Q : Plan) (W n : ℕ) → i < 6 → P ≡ planOf xtrans i → Q ≡ windowPlan windowed P → W ≡ widthOf xtrans
+    → n ≡ samplesIn windowed xtrans
     → PlanInRange Q × ((Q .first + 1) * (W + 2) ≤ n) × ((Q .second + 1) * (W + 2) ≤ n)
 unfolding windowPlan
 planned-in false xtrans i P Q W n h eP eQ eW en =
@@ -55,13 +56,20 @@ planned-in false xtrans i P Q W n h eP eQ eW en =
     rw (eQ, en, ← eW) (r, mul-le-mul-right (W + 2) (omega (arith, r .first-high)), mul-le-mul-right (W + 2) (omega (arith, r .second-high)))
 planned-in true xtrans i P Q W n h eP eQ eW en = rw (eQ, en, ← eW) (small (windowLine (P .first)) (windowLine (P .second)) (rw eP (two-lines xtrans i h)))
   where
-    small : (a c : ℕ) → Two P i → PlanInRange (placed P (windowLine (P .first)) (windowLine (P .second))) × ((windowLine (P .first) + 1) * (W + 2) ≤ 9 * (W + 2)) × ((windowLine (P .second) + 1) * (W + 2) ≤ 9 * (W + 2))
+    small : (a c : ℕ) → Two P i → PlanInRange (placed P (windowLine (P .first)) (windowLine (P .second)))
+        × ((windowLine (P .first) + 1) * (W + 2) ≤ 9 * (W + 2)) × ((windowLine (P .second) + 1) * (W + 2) ≤ 9 * (W + 2))
     small a c T =
         by-test (eqb (i % 2) 0)
-        (λ t. rw (T .first-window, T .second-window, t)
-        (record { first-low = lit≤ tt; first-high = lit≤ tt; second-low = lit≤ tt; second-high = lit≤ tt }, mul-le-mul-right (W + 2) (lit≤ tt), mul-le-mul-right (W + 2) (lit≤ tt)))
-        (λ t. rw (T .first-window, T .second-window, t)
-        (record { first-low = lit≤ tt; first-high = lit≤ tt; second-low = lit≤ tt; second-high = lit≤ tt }, mul-le-mul-right (W + 2) (lit≤ tt), mul-le-mul-right (W + 2) (lit≤ tt)))
+        (λ t. rw (T .first-window, T .second-window, t) (
+          record { first-low = lit≤ tt; first-high = lit≤ tt; second-low = lit≤ tt; second-high = lit≤ tt },
+          mul-le-mul-right (W + 2) (lit≤ tt),
+          mul-le-mul-right (W + 2) (lit≤ tt),
+        ))
+        (λ t. rw (T .first-window, T .second-window, t) (
+          record { first-low = lit≤ tt; first-high = lit≤ tt; second-low = lit≤ tt; second-high = lit≤ tt },
+          mul-le-mul-right (W + 2) (lit≤ tt),
+          mul-le-mul-right (W + 2) (lit≤ tt),
+        ))
 
 -- the width, named otherwise
 pub long-as : (W U : ℕ) (l : List ℕ) → W ≡ U → length l ≡ 18 * (U + 2) → length l ≡ 18 * (W + 2)
@@ -73,7 +81,8 @@ held-as windowed W U i l v e h = rw e h
 -- ---- one turn of the loop over the passes
 
 -- i passes were read on the 18 lines, which `lines` are now, and in those that are kept, v. In windows the image shows the lines that were read
-pub record SoFar (windowed : Bool) (F : Form) (q W : ℕ) (s tile : List ℕ) (a : Part) (n i : ℕ) (r₀ : State) (v : List ℕ) (rs : List Record) (from : Place) (image : List ℕ) : Type 0 where
+pub record SoFar (windowed : Bool) (F : Form) (q W : ℕ) (s tile : List ℕ) (a : Part) (n i : ℕ) (r₀ : State) (v : List ℕ) (rs : List Record) (from : Place)
+    (image : List ℕ) : Type 0 where
   pub lines : List ℕ
   pub long : length lines ≡ 18 * (W + 2)
   pub read : runs (passAt F q s) i r₀ ≡ some (stateAt lines rs from)
@@ -86,9 +95,12 @@ pub so-far-none : (windowed : Bool) (F : Form) (q W : ℕ) (s tile : List ℕ) (
 so-far-none windowed F q W s tile a n l v rs from image long held =
     record { lines = l; long = long; read = runs-none _ _; held = held; shown = λ e j h p. absurd (placed-none tile a j p) }
 
-module _ (windowed : Bool) (F : Form) (q : ℕ) (s tile : List ℕ) (a : Part) (n i W : ℕ) (P Q : Plan) (r₀ : State) (v v₁ : List ℕ) (rs : List Record) (t : Set) (from : Place) (image : List ℕ)
-    (eW : W ≡ widthOf (F .xtrans)) (depth : F .bits ≤ 16) (hi : i < 6) (eP : P ≡ planOf (F .xtrans) i) (eQ : Q ≡ windowPlan windowed P) (e₁ : v₁ ≡ entered windowed W (Q .first) (Q .second) v)
-    (et : recordsOf t ≡ setOf (P .set) rs) (ev : length v ≡ samplesIn windowed (F .xtrans)) (so-far : SoFar windowed F q W s tile a n i r₀ v rs from image) (v' : List ℕ) (d : Passed)
+module _ (windowed : Bool) (F : Form) (q : ℕ) (s tile : List ℕ) (a : Part) (n i W : ℕ) (P Q : Plan) (r₀ : State) (v v₁ : List ℕ) (rs : List Record)
+    (t : Set) (from : Place) (image : List ℕ)
+    (eW : W ≡ widthOf (F .xtrans)) (depth : F .bits ≤ 16) (hi : i < 6) (eP : P ≡ planOf (F .xtrans) i) (eQ : Q ≡ windowPlan windowed P)
+    (e₁ : v₁ ≡ entered windowed W (Q .first) (Q .second) v)
+    (et : recordsOf t ≡ setOf (P .set) rs) (ev : length v ≡ samplesIn windowed (F .xtrans)) (so-far : SoFar windowed F q W s tile a n i r₀ v rs from image)
+    (v' : List ℕ) (d : Passed)
     (answer : IsPassed (readPass (F .bits) q W s Q (begun v₁ t from)) v' d) where
   abbrev z : List ℕ
   z = so-far .lines
@@ -98,11 +110,13 @@ module _ (windowed : Bool) (F : Form) (q : ℕ) (s tile : List ℕ) (a : Part) (
   here = readPass (F .bits) q W s P (readingAt (guarded W (P .second) (guarded W (P .first) z)) (setOf (P .set) rs) from)
 
   both-at : (y : List ℕ) → length y ≡ 18 * (W + 2) → Held windowed W i y v
-      → Alike (Stepped windowed W i P (Q .first) (Q .second) y) (readPass (F .bits) q W s P (readingAt (guarded W (P .second) (guarded W (P .first) y)) (setOf (P .set) rs) from))
+      → Alike (Stepped windowed W i P (Q .first) (Q .second) y) (readPass (F .bits) q W s P
+      (readingAt (guarded W (P .second) (guarded W (P .first) y)) (setOf (P .set) rs) from))
       (readPass (F .bits) q W s Q (begun v₁ t from))
   both-at y long held =
       rw (et, e₁, eQ, eP, eW)
-      (held-pass windowed F q s i y v (setOf ((planOf (F .xtrans) i) .set) rs) from depth (width-in-range (F .xtrans) (widthOf (F .xtrans)) refl .2) hi (rw eW at long) ev (rw eW at held))
+      (held-pass windowed F q s i y v (setOf ((planOf (F .xtrans) i) .set) rs) from depth (width-in-range (F .xtrans) (widthOf (F .xtrans)) refl .2) hi
+      (rw eW at long) ev (rw eW at held))
 
   both : Alike (Stepped windowed W i P (Q .first) (Q .second) z) here (readPass (F .bits) q W s Q (begun v₁ t from))
   both = both-at z (so-far .long) (so-far .held)
@@ -117,7 +131,8 @@ module _ (windowed : Bool) (F : Form) (q : ℕ) (s tile : List ℕ) (a : Part) (
   unfolding readLine andThen
   pass-cut ok = rw (runs-fail (passAt F q s) r₀ 6 i _ (so-far .read) hi (pass-is none (alike-none _ here _ both (pass-was-cut-off _ v' d answer ok))))
 
-  step-with : (y : Reading) → here ≡ some y → Stepped windowed W i P (Q .first) (Q .second) z y (begun v' (d .set) (d .place)) → (image' : List ℕ) → Fits a image
+  step-with : (y : Reading) → here ≡ some y → Stepped windowed W i P (Q .first) (Q .second) z y (begun v' (d .set) (d .place)) → (image' : List ℕ)
+      → Fits a image
       → PassEmitted windowed (F .xtrans) W tile v' a n (P .first) (Q .first) (P .second) (Q .second) image image'
       → SoFar windowed F q W s tile a n (i + 1) r₀ v' (putSet (P .set) (recordsOf (d .set)) rs) (d .place) image'
   step-with y e S image' fits put =
@@ -127,7 +142,8 @@ module _ (windowed : Bool) (F : Form) (q : ℕ) (s tile : List ℕ) (a : Part) (
         read = runs-more (passAt F q s) r₀ i _ (so-far .read) ∙ pass-is (some y) e ∙ rw (S .sets, S .ats, S .tights, S .longs);
         held = S .held;
         shown =
-            λ w j h p. pass-shown a image image' fits (F .xtrans) W eW tile n i P (rw eP (two-lines (F .xtrans) i hi)) (Q .first) (Q .second) z (y .lines) v' (rw w at put) (S .others) (S .first-line)
+            λ w j h p. pass-shown a image image' fits (F .xtrans) W eW tile n i P (rw eP (two-lines (F .xtrans) i hi)) (Q .first) (Q .second) z
+            (y .lines) v' (rw w at put) (S .others) (S .first-line)
             (S .second-line) (so-far .shown w) j h p;
       }
 
@@ -152,7 +168,8 @@ module _ (F : Form) (q : ℕ) (s : List ℕ) (i : ℕ) (r₀ r : State) (high : 
   unfolding readLine andThen
   line-read h = rw (six, le-leb (r .at .0) (8 * length s + 7) (ltb-false _ _ h))
 
-module _ (windowed : Bool) (F : Form) (q W : ℕ) (s tile : List ℕ) (a : Part) (n i : ℕ) (r₀ : State) (v : List ℕ) (rs : List Record) (from : Place) (image : List ℕ) (high : 6 ≤ i) (low : i ≤ 6)
+module _ (windowed : Bool) (F : Form) (q W : ℕ) (s tile : List ℕ) (a : Part) (n i : ℕ) (r₀ : State) (v : List ℕ) (rs : List Record) (from : Place)
+    (image : List ℕ) (high : 6 ≤ i) (low : i ≤ 6)
     (S : SoFar windowed F q W s tile a n i r₀ v rs from image) where
   at-six : SoFar windowed F q W s tile a n 6 r₀ v rs from image
   at-six = let e : i ≡ 6 = omega arith in rw e at S

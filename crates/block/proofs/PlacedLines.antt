@@ -79,7 +79,8 @@ placed-all tile a j =
 
 -- ---- the image
 
-module _ (a : Part) (image : List ℕ) (f : Fits a image) (xtrans : Bool) (W : ℕ) (eW : W ≡ widthOf xtrans) (n j : ℕ) (h : inRows a (6 * n) (6 * n + 6) j ≡ true) where
+module _ (a : Part) (image : List ℕ) (f : Fits a image) (xtrans : Bool) (W : ℕ) (eW : W ≡ widthOf xtrans) (n j : ℕ)
+    (h : inRows a (6 * n) (6 * n + 6) j ≡ true) where
   -- where an entry's sample stands in its colour line
   abbrev pub spot : ℕ
   spot = 1 + placeIn xtrans (blockColumn a j)
@@ -95,7 +96,8 @@ module _ (a : Part) (image : List ℕ) (f : Fits a image) (xtrans : Bool) (W : �
   window-at lines slot = let e : slot * (W + 2) + 1 + placeIn xtrans (blockColumn a j) ≡ slot * (W + 2) + spot = omega arith in rw e
 
 -- one pass more shows its two lines
-module _ (a : Part) (image image' : List ℕ) (f : Fits a image) (xtrans : Bool) (W : ℕ) (eW : W ≡ widthOf xtrans) (tile : List ℕ) (n i : ℕ) (P : Plan) (T : Two P i) (A C : ℕ) (z y v : List ℕ)
+module _ (a : Part) (image image' : List ℕ) (f : Fits a image) (xtrans : Bool) (W : ℕ) (eW : W ≡ widthOf xtrans) (tile : List ℕ) (n i : ℕ) (P : Plan)
+    (T : Two P i) (A C : ℕ) (z y v : List ℕ)
     (put : PassEmitted true xtrans W tile v a n (P .first) A (P .second) C image image')
     (others : (m d : ℕ) → d < W + 2 → m ≢ P .first → m ≢ P .second → getD y (m * (W + 2) + d) 0 ≡ getD z (m * (W + 2) + d) 0)
     (first-line : (d : ℕ) → d < W + 2 → getD y (P .first * (W + 2) + d) 0 ≡ getD v (A * (W + 2) + d) 0)

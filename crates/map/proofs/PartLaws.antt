@@ -74,7 +74,8 @@ pub not-in : (a : Part) (low high i : ℕ) → (InRows a low high i → ⊥) →
 not-in a low high i n = by-test (inRows a low high i) (λ e. absurd (n (in-rows a low high i e))) (λ e. e)
 
 -- the same entry among other rows
-pub moved : (a : Part) (low high low' high' i : ℕ) → InRows a low high i → low' ≤ a .top + i / a .stride → a .top + i / a .stride < high' → InRows a low' high' i
+pub moved : (a : Part) (low high low' high' i : ℕ) → InRows a low high i → low' ≤ a .top + i / a .stride → a .top + i / a .stride < high'
+    → InRows a low' high' i
 moved a low high low' high' i h l k = record { first = l; last = k; there = h .there; left = h .left; right = h .right }
 
 -- ---- rows that are put into the image
@@ -142,7 +143,8 @@ module _ (a : Part) (row i : ℕ) where
       let e : i / a .stride ≡ row - a .top = omega (arith, h .first, h .last) in
       rw e at (div-add-mod' i (a .stride))
 
-  pub entry-row : a .start + (a .right - a .left) ≤ a .stride → a .top ≤ row → row < a .bottom → base + a .start ≤ i → i < base + a .start + (a .right - a .left)
+  pub entry-row : a .start + (a .right - a .left) ≤ a .stride → a .top ≤ row → row < a .bottom → base + a .start ≤ i
+      → i < base + a .start + (a .right - a .left)
       → InRows a row (row + 1) i
   entry-row f h k l u =
       let d = digits (row - a .top) (a .stride) (i - base) i (omega arith) (omega arith) in

@@ -71,11 +71,16 @@ module _ (f : ℕ → ℕ) (at p left c v : ℕ) (x y : List ℕ) (e : p % 6 ≡
   same-test : (i : ℕ) → i ≢ at + (p - left) → inColumn at (p - left) left c i ≡ inColumn at (p + 6 - left) left c i
   same-test i ne =
       by-test (inColumn at (p - left) left c i)
-      (λ t. let h = in-column at (p - left) left c i t in t ∙ sym (column-in at (p + 6 - left) left c i (record { from = h .from; end = omega (arith, h .end); column = h .column })))
+      (λ t. let h = in-column at (p - left) left c i t in t ∙ sym (column-in at (p + 6 - left) left c i
+      (record { from = h .from; end = omega (arith, h .end); column = h .column })))
       (λ t. by-test (inColumn at (p + 6 - left) left c i)
       (λ u.
       let h = in-column at (p + 6 - left) left c i u in
-      absurd (never _ (column-in at (p - left) left c i (record { from = h .from; end = omega (arith, h .from, h .end, h .column, ne); column = h .column })) t))
+      absurd (never _ (column-in at (p - left) left c i (record {
+        from = h .from;
+        end = omega (arith, h .from, h .end, h .column, ne);
+        column = h .column;
+      })) t))
       (λ u. t ∙ sym u))
 
   here : inColumn at (p + 6 - left) left c (at + (p - left)) ≡ true
@@ -145,7 +150,8 @@ module _ (tile : List ℕ) (a : Part) (n k l : ℕ) where
       rw (are-in a (6 * n) (6 * n + 6) i (m .rows), eq-eqb _ _ (d .1)) (rw (d .1, d .0) (eq-eqb _ _ (m .shown)))
 
   -- the columns that were stored are those of the cell
-  module _ (xtrans : Bool) (W : ℕ) (lines : List ℕ) (slot : ℕ) (image x y : List ℕ) (h : k < 36) (f : Fits a image) (top : a .top ≤ 6 * n + k / 6) (bottom : 6 * n + k / 6 < a .bottom)
+  module _ (xtrans : Bool) (W : ℕ) (lines : List ℕ) (slot : ℕ) (image x y : List ℕ) (h : k < 36) (f : Fits a image) (top : a .top ≤ 6 * n + k / 6)
+      (bottom : 6 * n + k / 6 < a .bottom)
       (shown : colourLine (getD tile k 0) (k / 6) ≡ l) where
     abbrev row : ℕ
     row = 6 * n + k / 6
@@ -161,8 +167,15 @@ module _ (tile : List ℕ) (a : Part) (n k l : ℕ) where
         let g = entry-row a row i (f .inside) top bottom (c .from) (c .end) in
         let e = column-is i g in
         let low : 6 * n ≤ pictureRow a i = omega (arith, g .first) in
-        let high : pictureRow a i < 6 * n + 6 = omega (arith, g .last, h) in
-        (g, record { rows = moved a row (row + 1) (6 * n) (6 * n + 6) i g low high; row = omega (arith, g .first, g .last); column = rw (← e) (c .column); shown = shown })
+        let high : pictureRow a i < 6 * n + 6 = omega (arith, g .last, h) in (
+          g,
+          record {
+            rows = moved a row (row + 1) (6 * n) (6 * n + 6) i g low high;
+            row = omega (arith, g .first, g .last);
+            column = rw (← e) (c .column);
+            shown = shown;
+          },
+        )
 
     of-cell : (i : ℕ) → InCell i → InColumn at (a .right - a .left) (a .left) (k % 6) i
     of-cell i m =
@@ -230,7 +243,8 @@ module _ (xtrans : Bool) (W : ℕ) (tile lines : List ℕ) (a : Part) (n l slot 
   cells-all x y c =
       record {
         kept = c .kept;
-        entries = λ i. c .entries i ∙ rw (and-true (inRows a (6 * n) (6 * n + 6) i) (eqb (colourOf tile a i) l) (ltb (cellOf a i) 36) (lt-ltb _ _ (cell-small i)));
+        entries = λ i. c .entries i ∙ rw (and-true (inRows a (6 * n) (6 * n + 6) i) (eqb (colourOf tile a i) l) (ltb (cellOf a i) 36)
+            (lt-ltb _ _ (cell-small i)));
       }
 
 -- ---- the two lines of a pass
@@ -242,7 +256,8 @@ two true false true f x y z = refl
 two true false false f x y z = refl
 two false s t f x y z = refl
 
-pub pass-put : (xtrans : Bool) (W : ℕ) (tile lines : List ℕ) (a : Part) (n first first-slot second second-slot : ℕ) (wanted : Bool) (x y z : List ℕ) → wanted ≡ true
+pub pass-put : (xtrans : Bool) (W : ℕ) (tile lines : List ℕ) (a : Part) (n first first-slot second second-slot : ℕ) (wanted : Bool) (x y z : List ℕ)
+    → wanted ≡ true
     → ColourEmitted xtrans W tile lines a n first first-slot x y → ColourEmitted xtrans W tile lines a n second second-slot y z
     → PassEmitted wanted xtrans W tile lines a n first first-slot second second-slot x z
 pass-put xtrans W tile lines a n first first-slot second second-slot wanted x y z e c d =
@@ -251,16 +266,19 @@ pass-put xtrans W tile lines a n first first-slot second second-slot wanted x y 
       entries =
           λ i. d .entries i
           ∙ rw (c .entries i)
-          (two (inRows a (6 * n) (6 * n + 6) i) (eqb (colourOf tile a i) first) (eqb (colourOf tile a i) second) (λ s. windowSample xtrans W lines a s i) first-slot second-slot _);
+          (two (inRows a (6 * n) (6 * n + 6) i) (eqb (colourOf tile a i) first) (eqb (colourOf tile a i) second)
+          (λ s. windowSample xtrans W lines a s i) first-slot second-slot _);
     })
 
-pub pass-not-wanted : (xtrans : Bool) (W : ℕ) (tile lines : List ℕ) (a : Part) (n first first-slot second second-slot : ℕ) (wanted : Bool) (x : List ℕ) → wanted ≡ false
+pub pass-not-wanted : (xtrans : Bool) (W : ℕ) (tile lines : List ℕ) (a : Part) (n first first-slot second second-slot : ℕ) (wanted : Bool) (x : List ℕ)
+    → wanted ≡ false
     → PassEmitted wanted xtrans W tile lines a n first first-slot second second-slot x x
 pass-not-wanted xtrans W tile lines a n first first-slot second second-slot wanted x e = rw e (record { kept = refl; entries = λ i. refl })
 
 -- ---- what an entry shows
 
 -- the sample of an entry is that of its colour line
-pub sample-of-colour : (xtrans : Bool) (W : ℕ) (tile lines : List ℕ) (a : Part) (i : ℕ) → emittedSample xtrans W tile lines a i ≡ windowSample xtrans W lines a (colourOf tile a i) i
+pub sample-of-colour : (xtrans : Bool) (W : ℕ) (tile lines : List ℕ) (a : Part) (i : ℕ)
+    → emittedSample xtrans W tile lines a i ≡ windowSample xtrans W lines a (colourOf tile a i) i
 unfolding emittedSample sampleIndex windowSample colourOf cellOf
 sample-of-colour xtrans W tile lines a i = refl

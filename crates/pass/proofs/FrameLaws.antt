@@ -64,7 +64,8 @@ module _ (bits q W : ℕ) (s : List ℕ) (j : ℕ) where
   step-leaves x r z ne e = go (x .coded) (stepCode bits q W s x r) e
     where
       go : (b : Bool) (g : Coded)
-          → cond b (taken bits q (stepPlace W x) (stepSlot q W x (r .lines)) (stepContext W x (r .lines)) (stepLook q W x (r .lines)) r g) (some (interpolate (stepPlace W x) (stepContext W x (r .lines)) r)) ≡ some z
+          → cond b (taken bits q (stepPlace W x) (stepSlot q W x (r .lines)) (stepContext W x (r .lines)) (stepLook q W x (r .lines)) r g)
+          (some (interpolate (stepPlace W x) (stepContext W x (r .lines)) r)) ≡ some z
           → getD (z .lines) j 0 ≡ getD (r .lines) j 0
       go true Truncated f = none-some z f
       go true (Read d) f = same-lines _ z f (getD-set-other (r .lines) (cell W x) j _ 0 ne)
@@ -114,7 +115,11 @@ pub pass-frame : (bits q W : ℕ) (s : List ℕ) (P : Plan) (r z : Reading) (l d
 unfolding readPass
 pass-frame bits q W s P r z l d even h first second e =
     steps-leave bits q W s (l * (W + 2) + d) (passSteps W P) r z
-    (pass-all W P even (λ m p. l * (W + 2) + d ≢ m * (W + 2) + p + 1) (λ p k. (λ f. first (line-is (P .first) p k f), λ f. second (line-is (P .second) p k f)))) e
+    (pass-all W P even (λ m p. l * (W + 2) + d ≢ m * (W + 2) + p + 1) (λ p k. (
+      λ f. first (line-is (P .first) p k f),
+      λ f. second
+          (line-is (P .second) p k f),
+    ))) e
   where
     line-is : (m p : ℕ) → p < W → l * (W + 2) + d ≡ m * (W + 2) + p + 1 → l ≡ m
     line-is m p k f =

@@ -48,7 +48,8 @@ alike-weaker R Q (some x) none a k = absurd a
 alike-weaker R Q (some x) (some y) a k = k x y a
 
 -- with what each of them is
-pub alike-with : (R Q : Reading → Reading → Type 0) (o o' : Option Reading) → Alike R o o' → ((x y : Reading) → o ≡ some x → o' ≡ some y → R x y → Q x y) → Alike Q o o'
+pub alike-with : (R Q : Reading → Reading → Type 0) (o o' : Option Reading) → Alike R o o' → ((x y : Reading) → o ≡ some x → o' ≡ some y → R x y → Q x y)
+    → Alike Q o o'
 alike-with R Q none none a k = tt
 alike-with R Q none (some y) a k = absurd a
 alike-with R Q (some x) none a k = absurd a
@@ -79,11 +80,13 @@ pub record Put (i i' : ℕ) (r r' z z' : Reading) : Type 0 where
   pub tights : z .tight ≡ z' .tight
   pub longs : z .long ≡ z' .long
 
-module _ (bits q W : ℕ) (s : List ℕ) (L L' p : ℕ) (coded : Bool) (r r' : Reading) (es : r .set ≡ r' .set) (ea : r .at ≡ r' .at) (et : r .tight ≡ r' .tight) (el : r .long ≡ r' .long)
+module _ (bits q W : ℕ) (s : List ℕ) (L L' p : ℕ) (coded : Bool) (r r' : Reading) (es : r .set ≡ r' .set) (ea : r .at ≡ r' .at) (et : r .tight ≡ r' .tight)
+    (el : r .long ≡ r' .long)
     (ex : stepContext W (stepAt L p coded) (r .lines) ≡ stepContext W (stepAt L' p coded) (r' .lines)) where
   -- what a code makes of both
   code-alike : (b : Bool) (g : Coded) (i i' slot : ℕ) (c : Context) (h : Look)
-      → Alike (Put i i' r r') (cond b (taken bits q i slot c h r g) (some (interpolate i c r))) (cond b (taken bits q i' slot c h r' g) (some (interpolate i' c r')))
+      → Alike (Put i i' r r') (cond b (taken bits q i slot c h r g) (some (interpolate i c r)))
+      (cond b (taken bits q i' slot c h r' g) (some (interpolate i' c r')))
   code-alike true Truncated i i' slot c h = tt
   code-alike true (Read d) i i' slot c h =
       record { value = _; lines = refl; lines' = refl; sets = rw es; ats = refl; tights = rw et; longs = rw el }
@@ -192,7 +195,21 @@ module _ (W e o b b' : ℕ) (l l' : List ℕ) (R : Rows W e o b b' l l') (p : �
       let c : (a : ℕ) → a + 2 * (W + 2) + p - (W + 2) ≡ a + (W + 2 + p) = λ a. omega arith in
       let u : (a : ℕ) → a + 2 * (W + 2) + p + 1 - (W + 2) ≡ a + (W + 2 + (p + 1)) = λ a. omega arith in
       let d : (a : ℕ) → a + 2 * (W + 2) + p + 2 - (W + 2) ≡ a + (W + 2 + (p + 2)) = λ a. omega arith in
-      rw (eq-eqb (p % 2) 0 t, f b, f b', c b, c b', u b, u b', d b, d b', R .two-up p w, R .one-up p (omega arith), R .one-up (p + 1) (omega arith), R .one-up (p + 2) (omega arith))
+      rw (
+        eq-eqb (p % 2) 0 t,
+        f b,
+        f b',
+        c b,
+        c b',
+        u b,
+        u b',
+        d b,
+        d b',
+        R .two-up p w,
+        R .one-up p (omega arith),
+        R .one-up (p + 1) (omega arith),
+        R .one-up (p + 2) (omega arith),
+      )
 
   -- an odd position goes by the even ones beside it
   odd-context : p % 2 ≡ 1 → ((p + 1 < W) → p + 1 < e) → p ≤ e → contextAt l (W + 2) (b + 2 * (W + 2) + p) p ≡ contextAt l' (W + 2) (b' + 2 * (W + 2) + p) p
@@ -203,9 +220,23 @@ module _ (W e o b b' : ℕ) (l l' : List ℕ) (R : Rows W e o b b' l l') (p : �
       let c : (a : ℕ) → a + 2 * (W + 2) + p - (W + 2) ≡ a + (W + 2 + p) = λ a. omega arith in
       let u : (a : ℕ) → a + 2 * (W + 2) + p + 1 - (W + 2) ≡ a + (W + 2 + (p + 1)) = λ a. omega arith in
       let d : (a : ℕ) → a + 2 * (W + 2) + p + 2 - (W + 2) ≡ a + (W + 2 + (p + 2)) = λ a. omega arith in
-      let left-one : getD l (b + 2 * (W + 2) + p) 0 ≡ getD l' (b' + 2 * (W + 2) + p) 0 = rw (a₁ b, a₁ b') (R .evens (p - 1) (omega arith) (omega arith) (omega arith)) in
+      let left-one : getD l (b + 2 * (W + 2) + p) 0 ≡ getD l' (b' + 2 * (W + 2) + p) 0 = rw (a₁ b, a₁ b')
+      (R .evens (p - 1) (omega arith) (omega arith) (omega arith)) in
       let right-one : getD l (b + 2 * (W + 2) + p + 2) 0 ≡ getD l' (b' + 2 * (W + 2) + p + 2) 0 = rw (g b, g b') (next h) in
-      rw (ne-eqb (p % 2) 0 (omega arith), c b, c b', u b, u b', d b, d b', left-one, right-one, R .one-up p (omega arith), R .one-up (p + 1) (omega arith), R .one-up (p + 2) (omega arith))
+      rw (
+        ne-eqb (p % 2) 0 (omega arith),
+        c b,
+        c b',
+        u b,
+        u b',
+        d b,
+        d b',
+        left-one,
+        right-one,
+        R .one-up p (omega arith),
+        R .one-up (p + 1) (omega arith),
+        R .one-up (p + 2) (omega arith),
+      )
     where
       next : ((p + 1 < W) → p + 1 < e) → Same b b' l l' (2 * (W + 2) + (p + 1 + 1))
       next h =
@@ -214,7 +245,8 @@ module _ (W e o b b' : ℕ) (l l' : List ℕ) (R : Rows W e o b b' l l') (p : �
           (λ (n : p + 1 ≢ W). R .evens (p + 1) (omega arith) (h (omega (arith, n))) (omega (arith, n)))
 
 -- rows of which as many positions are the same, counted otherwise
-rows-more : {W e o f u b b' : ℕ} {l l' : List ℕ} → ((p : ℕ) → p % 2 ≡ 0 → p < f → p < W → p < e) → ((p : ℕ) → p % 2 ≡ 1 → p < u → p < W → p < o) → Rows W e o b b' l l' → Rows W f u b b' l l'
+rows-more : {W e o f u b b' : ℕ} {l l' : List ℕ} → ((p : ℕ) → p % 2 ≡ 0 → p < f → p < W → p < e) → ((p : ℕ) → p % 2 ≡ 1 → p < u → p < W → p < o)
+    → Rows W e o b b' l l' → Rows W f u b b' l l'
 rows-more ev od R =
     record {
       room = R .room;
@@ -288,7 +320,8 @@ module _ (bits q W : ℕ) (s : List ℕ) (P : Plan) (A C b b' c c' : ℕ) (eb : 
   first-even p o f u coded r r' t w k =
       let x : stepContext W (stepAt (P .first) p coded) (r .lines) ≡ stepContext W (stepAt A p coded) (r' .lines) =
       rw (eb, eb') (even-context W p o b b' (r .lines) (r' .lines) (k .first) p w t) in
-      alike-weaker (Put (P .first * (W + 2) + p) (A * (W + 2) + p) r r') (T (p + 2) o f u) (readStep bits q W s (stepAt (P .first) p coded) r) (readStep bits q W s (stepAt A p coded) r')
+      alike-weaker (Put (P .first * (W + 2) + p) (A * (W + 2) + p) r r') (T (p + 2) o f u) (readStep bits q W s (stepAt (P .first) p coded) r)
+      (readStep bits q W s (stepAt A p coded) r')
       (step-alike bits q W s (P .first) A p coded r r' (k .sets) (k .ats) (k .tights) (k .longs) x)
       (λ z z' y. put-first p p o f u (p + 2) o r r' z z' w k (λ v. even-more W p o b b' (r .lines) (r' .lines) (k .first) v t w) y)
 
@@ -297,7 +330,8 @@ module _ (bits q W : ℕ) (s : List ℕ) (P : Plan) (A C b b' c c' : ℕ) (eb : 
   second-even p e o u coded r r' t w k =
       let x : stepContext W (stepAt (P .second) p coded) (r .lines) ≡ stepContext W (stepAt C p coded) (r' .lines) =
       rw (ec, ec') (even-context W p u c c' (r .lines) (r' .lines) (k .second) p w t) in
-      alike-weaker (Put (P .second * (W + 2) + p) (C * (W + 2) + p) r r') (T e o (p + 2) u) (readStep bits q W s (stepAt (P .second) p coded) r) (readStep bits q W s (stepAt C p coded) r')
+      alike-weaker (Put (P .second * (W + 2) + p) (C * (W + 2) + p) r r') (T e o (p + 2) u) (readStep bits q W s (stepAt (P .second) p coded) r)
+      (readStep bits q W s (stepAt C p coded) r')
       (step-alike bits q W s (P .second) C p coded r r' (k .sets) (k .ats) (k .tights) (k .longs) x)
       (λ z z' y. put-second p e o p u (p + 2) u r r' z z' w k (λ v. even-more W p u c c' (r .lines) (r' .lines) (k .second) v t w) y)
 
@@ -306,7 +340,8 @@ module _ (bits q W : ℕ) (s : List ℕ) (P : Plan) (A C b b' c c' : ℕ) (eb : 
   first-odd p e f u r r' t w h k =
       let x : stepContext W (stepAt (P .first) p true) (r .lines) ≡ stepContext W (stepAt A p true) (r' .lines) =
       rw (eb, eb') (odd-context W e p b b' (r .lines) (r' .lines) (k .first) p w t (λ y. h) (omega arith)) in
-      alike-weaker (Put (P .first * (W + 2) + p) (A * (W + 2) + p) r r') (T e (p + 2) f u) (readStep bits q W s (stepAt (P .first) p true) r) (readStep bits q W s (stepAt A p true) r')
+      alike-weaker (Put (P .first * (W + 2) + p) (A * (W + 2) + p) r r') (T e (p + 2) f u) (readStep bits q W s (stepAt (P .first) p true) r)
+      (readStep bits q W s (stepAt A p true) r')
       (step-alike bits q W s (P .first) A p true r r' (k .sets) (k .ats) (k .tights) (k .longs) x)
       (λ z z' y. put-first p e p f u e (p + 2) r r' z z' w k (λ v. odd-more W e p b b' (r .lines) (r' .lines) (k .first) v t w) y)
 
@@ -315,7 +350,8 @@ module _ (bits q W : ℕ) (s : List ℕ) (P : Plan) (A C b b' c c' : ℕ) (eb : 
   second-odd p e o f r r' t w h k =
       let x : stepContext W (stepAt (P .second) p true) (r .lines) ≡ stepContext W (stepAt C p true) (r' .lines) =
       rw (ec, ec') (odd-context W f p c c' (r .lines) (r' .lines) (k .second) p w t (λ y. h) (omega arith)) in
-      alike-weaker (Put (P .second * (W + 2) + p) (C * (W + 2) + p) r r') (T e o f (p + 2)) (readStep bits q W s (stepAt (P .second) p true) r) (readStep bits q W s (stepAt C p true) r')
+      alike-weaker (Put (P .second * (W + 2) + p) (C * (W + 2) + p) r r') (T e o f (p + 2)) (readStep bits q W s (stepAt (P .second) p true) r)
+      (readStep bits q W s (stepAt C p true) r')
       (step-alike bits q W s (P .second) C p true r r' (k .sets) (k .ats) (k .tights) (k .longs) x)
       (λ z z' y. put-second p e o f p f (p + 2) r r' z z' w k (λ v. odd-more W f p c c' (r .lines) (r' .lines) (k .second) v t w) y)
 
@@ -325,15 +361,24 @@ module _ (bits q W : ℕ) (s : List ℕ) (P : Plan) (A C b b' c c' : ℕ) (eb : 
       → Alike Q (reads bits q W s (x ∷ y ∷ []) r) (reads bits q W s (x' ∷ y' ∷ []) r')
   unfolding reads andThen
   two-steps R Q x y x' y' r r' a k =
-      alike-then R Q (readStep bits q W s x r) (readStep bits q W s x' r') (λ z. andThen (readStep bits q W s y z) (λ v. some v)) (λ z. andThen (readStep bits q W s y' z) (λ v. some v)) a
+      alike-then R Q (readStep bits q W s x r) (readStep bits q W s x' r') (λ z. andThen (readStep bits q W s y z) (λ v. some v))
+      (λ z. andThen (readStep bits q W s y' z) (λ v. some v)) a
       (λ z z' h. alike-then Q Q (readStep bits q W s y z) (readStep bits q W s y' z') (λ v. some v) (λ v. some v) (k z z' h) (λ v v' m. m))
 
   -- both lines are equally far
   abbrev pub At : ℕ → ℕ → Reading → Reading → Type 0
   At e o = T e o e o
 
-  at-more : {e o f u : ℕ} (r r' : Reading) → ((p : ℕ) → p % 2 ≡ 0 → p < f → p < W → p < e) → ((p : ℕ) → p % 2 ≡ 1 → p < u → p < W → p < o) → At e o r r' → At f u r r'
-  at-more r r' ev od k = record { first = rows-more ev od (k .first); second = rows-more ev od (k .second); sets = k .sets; ats = k .ats; tights = k .tights; longs = k .longs }
+  at-more : {e o f u : ℕ} (r r' : Reading) → ((p : ℕ) → p % 2 ≡ 0 → p < f → p < W → p < e) → ((p : ℕ) → p % 2 ≡ 1 → p < u → p < W → p < o) → At e o r r'
+      → At f u r r'
+  at-more r r' ev od k = record {
+    first = rows-more ev od (k .first);
+    second = rows-more ev od (k .second);
+    sets = k .sets;
+    ats = k .ats;
+    tights = k .tights;
+    longs = k .longs;
+  }
 
   -- nothing is read
   no-steps : (R : Reading → Reading → Type 0) (r r' : Reading) → R r r' → Alike R (reads bits q W s [] r) (reads bits q W s [] r')
@@ -346,17 +391,20 @@ module _ (bits q W : ℕ) (s : List ℕ) (P : Plan) (A C b b' c c' : ℕ) (eb : 
       split W p
       (λ h. rw (le-ltb p W h) (no-steps (At (p + 2) o) r r' (at-more r r' (λ x y z w. omega arith) (λ x y z w. z) k)))
       (λ w. rw (lt-ltb p W w)
-      (two-steps (T (p + 2) o p o) (At (p + 2) o) (stepAt (P .first) p _) (stepAt (P .second) p _) (stepAt A p _) (stepAt C p _) r r' (first-even p o p o _ r r' t w k)
+      (two-steps (T (p + 2) o p o) (At (p + 2) o) (stepAt (P .first) p _) (stepAt (P .second) p _) (stepAt A p _) (stepAt C p _) r r'
+      (first-even p o p o _ r r' t w k)
       (λ z z' h. second-even p (p + 2) o o _ z z' t w h)))
 
   odd-part : (p : ℕ) (r r' : Reading) → p % 2 ≡ 0 → W % 2 ≡ 0 → p < W + 8 → At (p + 2) (p - 7) r r'
-      → Alike (At (p + 2) (p + 2 - 7)) (reads bits q W s (cond (leb 8 p) (oddSteps P (p - 7)) []) r) (reads bits q W s (cond (leb 8 p) (oddSteps (placed P A C) (p - 7)) []) r')
+      → Alike (At (p + 2) (p + 2 - 7)) (reads bits q W s (cond (leb 8 p) (oddSteps P (p - 7)) []) r)
+      (reads bits q W s (cond (leb 8 p) (oddSteps (placed P A C) (p - 7)) []) r')
   odd-part p r r' t even lt k =
       split 8 p
       (λ h.
       let g : p + 2 - 7 ≡ p - 7 + 2 = omega arith in
       rw (le-leb 8 p h, g)
-      (two-steps (T (p + 2) (p - 7 + 2) (p + 2) (p - 7)) (At (p + 2) (p - 7 + 2)) (stepAt (P .first) (p - 7) true) (stepAt (P .second) (p - 7) true) (stepAt A (p - 7) true) (stepAt C (p - 7) true) r r'
+      (two-steps (T (p + 2) (p - 7 + 2) (p + 2) (p - 7)) (At (p + 2) (p - 7 + 2)) (stepAt (P .first) (p - 7) true) (stepAt (P .second) (p - 7) true)
+      (stepAt A (p - 7) true) (stepAt C (p - 7) true) r r'
       (first-odd (p - 7) (p + 2) (p + 2) (p - 7) r r' (omega arith) (omega arith) (omega arith) k)
       (λ z z' m. second-odd (p - 7) (p + 2) (p - 7 + 2) (p + 2) z z' (omega arith) (omega arith) (omega arith) m)))
       (λ h. rw (lt-leb 8 p h) (no-steps (At (p + 2) (p + 2 - 7)) r r' (at-more r r' (λ x y z w. z) (λ x y z w. absurd (omega arith)) k)))
@@ -385,7 +433,8 @@ module _ (bits q W : ℕ) (s : List ℕ) (P : Plan) (A C b b' c c' : ℕ) (eb : 
         reads-append bits q W s (upto (turnSteps W P) t) (turnSteps W P t) r,
         reads-append bits q W s (upto (turnSteps W (placed P A C)) t) (turnSteps W (placed P A C) t) r',
       )
-      (alike-then (At (2 * t) (2 * t - 7)) (At (2 * t + 2) (2 * t + 2 - 7)) (reads bits q W s (upto (turnSteps W P) t) r) (reads bits q W s (upto (turnSteps W (placed P A C)) t) r') _ _
+      (alike-then (At (2 * t) (2 * t - 7)) (At (2 * t + 2) (2 * t + 2 - 7)) (reads bits q W s (upto (turnSteps W P) t) r)
+      (reads bits q W s (upto (turnSteps W (placed P A C)) t) r') _ _
       (turns-alike t r r' even (omega arith) k)
       (λ z z' m. turn-alike t z z' even (omega arith) m))
 
@@ -393,6 +442,7 @@ module _ (bits q W : ℕ) (s : List ℕ) (P : Plan) (A C b b' c c' : ℕ) (eb : 
   pub pass-alike : (r r' : Reading) → W % 2 ≡ 0 → At 0 0 r r' → Alike (At W W) (readPass bits q W s P r) (readPass bits q W s (placed P A C) r')
   unfolding readPass passSteps
   pass-alike r r' even k =
-      alike-weaker (At (2 * (W / 2 + 4)) (2 * (W / 2 + 4) - 7)) (At W W) (reads bits q W s (upto (turnSteps W P) (W / 2 + 4)) r) (reads bits q W s (upto (turnSteps W (placed P A C)) (W / 2 + 4)) r')
+      alike-weaker (At (2 * (W / 2 + 4)) (2 * (W / 2 + 4) - 7)) (At W W) (reads bits q W s (upto (turnSteps W P) (W / 2 + 4)) r)
+      (reads bits q W s (upto (turnSteps W (placed P A C)) (W / 2 + 4)) r')
       (turns-alike (W / 2 + 4) r r' even (omega arith) k)
       (λ z z' m. at-more z z' (λ p t h w. omega arith) (λ p t h w. omega arith) m)

@@ -103,7 +103,8 @@ module _ (F : Form) (bases s : List ℕ) where
 
 -- ---- the answer
 
-not-refused : (d : List ℕ) (h : FujiHeader) (r : Rect) (a : Decoded) (x y : ℕ) (t : Bool) → orElse a (cond t (Refused (Truncated x y)) Done) ≡ Done → (a ≡ Done) × (t ≡ false)
+not-refused : (d : List ℕ) (h : FujiHeader) (r : Rect) (a : Decoded) (x y : ℕ) (t : Bool) → orElse a (cond t (Refused (Truncated x y)) Done) ≡ Done
+    → (a ≡ Done) × (t ≡ false)
 not-refused d h r Done x y true e = absurd (let no : _≡_ {A = ℕ} 0 1 = cc in omega arith)
 not-refused d h r Done x y false e = (refl, refl)
 not-refused d h r (Refused z) x y t e = absurd (let no : _≡_ {A = ℕ} 0 1 = cc in omega arith)
@@ -136,7 +137,8 @@ pub record Reads (d : List ℕ) (h : FujiHeader) (r : Rect) (tile image' : List 
 
 module _ (d : List ℕ) (h : FujiHeader) (r : Rect) (n : ℕ) (ok : Accepted h r n) where
   -- where all lines of all blocks are read, each entry of the region is decoded
-  all-decoded : ((k : ℕ) → firstBlock r ≤ k → k ≤ lastBlock r → lineCount r ≤ readIn d h r k) → (i : ℕ) → i < r .width * r .height → isDecoded d h r (lastBlock r + 1) i ≡ true
+  all-decoded : ((k : ℕ) → firstBlock r ≤ k → k ≤ lastBlock r → lineCount r ≤ readIn d h r k) → (i : ℕ) → i < r .width * r .height
+      → isDecoded d h r (lastBlock r + 1) i ≡ true
   unfolding isDecoded
   all-decoded f i l =
       let t = block-touched h r n ok i in

@@ -1,20 +1,21 @@
 -- A region has the whole picture's samples, and which regions of a truncated picture are accepted: of calls of any of the entries that decode, each with
 -- buffers that are long enough, whatever they held. Assumes nothing.
-use mathlib.Core.Bool.{true, false}
+use mathlib.Core.Bool.{Bool, true, false}
 use mathlib.Core.List.{List}
 use mathlib.Core.Logic.{_↔_}
 use mathlib.Core.Path.{_≡_}
-use Prim.Native.Nat.{ℕ, suc, _+_, _*_, _/_, _%_, _≤_, _<_}
+use Prim.Native.Nat.{ℕ, suc, _+_, _-_, _*_, _/_, _%_, _≤_, _<_}
 use lib.ListN.{length, getD}
 use Rattle.stream.specs.Streams.{openOf}
 use Rattle.stream.specs.declared.FujiHeader.{FujiHeader}
 use Rattle.stream.specs.declared.Parsed.the-variants.{Header}
 use Rattle.region.specs.Regions.{firstBlock, lastBlock, lineCount}
 use Rattle.region.specs.declared.Rect.{Rect}
-use Rattle.begin.specs.Beginnings.{samplesNeeded, recordsNeeded, regionBegins, imageBegins, wholeOf}
+use Rattle.begin.specs.Beginnings.{samplesNeeded, recordsNeeded, regionBegins, windowedBegins, imageBegins, wholeOf}
 use Rattle.block.specs.Lent.{Buffers}
 use Rattle.block.specs.Blocks.{readLines}
 use Rattle.block.specs.Images.{formOf, bytesIn, basesIn, isRead, Left}
+use Rattle.block.specs.WindowedImages.{windowSize, LeftWindowed}
 use Rattle.block.specs.declared.Decoded.{Decoded}
 use Rattle.block.specs.declared.Decoded.the-variants.{Done}
 
@@ -26,6 +27,7 @@ whole h = wholeOf (h .width) (h .height)
 pub data Entry : Type 0 where
   decode : Entry
   decodeRegion : Entry
+  decodeRegionWindowed : Entry
 
 -- what a call of an entry for the region r promises of its buffers and its answer; `decode` is for the whole picture alone
 abbrev pub Call : Entry → List ℕ → FujiHeader → Rect → List ℕ → (before after : Buffers) → Decoded → Type 0
@@ -34,11 +36,19 @@ Call decode d h r tile before after answer =
     × Left d r tile (imageBegins d (h .width) (h .height) (length (before .image)) (length (before .lines)) (length (before .records))) before after answer
 Call decodeRegion d h r tile before after answer =
     Left d r tile (regionBegins d r (length (before .image)) (length (before .lines)) (length (before .records))) before after answer
+Call decodeRegionWindowed d h r tile before after answer =
+    LeftWindowed d r tile (windowedBegins d r (length (before .image)) (length (before .lines)) (length (before .records))) before after answer
+
+-- the samples of scratch that it uses
+abbrev pub samplesUsed : Entry → Bool → ℕ
+samplesUsed decode xtrans = samplesNeeded xtrans
+samplesUsed decodeRegion xtrans = samplesNeeded xtrans
+samplesUsed decodeRegionWindowed xtrans = windowSize xtrans
 
 -- its buffers are long enough
 pub record LongEnough (e : Entry) (h : FujiHeader) (r : Rect) (b : Buffers) : Type 0 where
   pub image : r .width * r .height ≤ length (b .image)
-  pub lines : samplesNeeded (h .xtrans) ≤ length (b .lines)
+  pub lines : samplesUsed e (h .xtrans) ≤ length (b .lines)
   pub records : recordsNeeded ≤ length (b .records)
 
 -- ---- regions and blocks

@@ -422,9 +422,21 @@ pub fn plan_bases(header: &[u8], plan: &[u8], bases: &mut [u8]) -> Result<()> {
     Refusal::answer(refusal)
 }
 
-#[rustfmt::skip]
 type RegionOf = unsafe extern "C" fn(
-    *const u8, usize, usize, usize, usize, usize, *const [u8; 36], *mut u16, usize, *mut u16, usize, *mut Record, usize, *mut [usize; 4],
+    *const u8,
+    usize,
+    usize,
+    usize,
+    usize,
+    usize,
+    *const [u8; 36],
+    *mut u16,
+    usize,
+    *mut u16,
+    usize,
+    *mut Record,
+    usize,
+    *mut [usize; 4],
 );
 
 type CountedOf = unsafe extern "C" fn(*const u8, usize, usize, *mut u16, usize, *mut Record, usize, *mut [usize; 2], *mut [usize; 4]);

@@ -19,7 +19,8 @@ returns c =
     let g₁ = g₂ .before .before .before .before in
     let r₂ = g₁ .before .before .before .before in
     let r₁ = r₂ .before .before .before .before in
-    all-four _ _ _ _ _ _ _ _ _ (r₁ .before .make-room .ensures) (r₂ .before .make-room2 .ensures) (g₁ .before .set-guards .ensures) (g₂ .before .set-guards2 .ensures)
+    all-four _ _ _ _ _ _ _ _ _ (r₁ .before .make-room .ensures) (r₂ .before .make-room2 .ensures) (g₁ .before .set-guards .ensures)
+    (g₂ .before .set-guards2 .ensures)
 
 pub enter-spec : {M : Type 1} → statement M
 enter-spec =

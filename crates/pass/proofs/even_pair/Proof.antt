@@ -15,7 +15,8 @@ use Rattle.pass.specs.Readings.{Reading}
 use Rattle.pass.specs.Pairs.{held}
 use Rattle.pass.proofs.RangeLaws.{step-keeps}
 use Rattle.pass.proofs.StepLaws.{StepGives, two-steps, first-none}
-use Rattle.pass.proofs.SiteLaws.{Placed, site-interpolated, Site, site-reader, site-total, site-cut-off, site-read, met, step-met, ranges-met, ks-met, length-met, pair-cut-off, pair-at, line-end}
+use Rattle.pass.proofs.SiteLaws.{Placed, site-interpolated, Site, site-reader, site-total, site-cut-off, site-read, met, step-met, ranges-met}
+use Rattle.pass.proofs.SiteLaws.{ks-met, length-met, pair-cut-off, pair-at, line-end}
 use Rattle.pass.proofs.even_pair.Statement.{statement}
 use Rattle.pass.proofs.even_pair.Tie as tie
 

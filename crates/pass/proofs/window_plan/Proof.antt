@@ -17,7 +17,8 @@ unfolding windowPlan
 stays t P e = rw e
 
 returns : tie.Need-returns
-returns c = let a = c .before .before .before .args in moved (a .windowed) (a .p) _ _ (c .before .before .if1 .taken) (c .before .window-line .ensures) (c .window-line2 .ensures)
+returns c = let a = c .before .before .before .args in moved (a .windowed) (a .p) _ _ (c .before .before .if1 .taken) (c .before .window-line .ensures)
+    (c .window-line2 .ensures)
 
 returns-2 : tie.Need-returns-2
 returns-2 c = stays _ _ (c .if1 .left)

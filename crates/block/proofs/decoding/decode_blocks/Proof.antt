@@ -110,7 +110,11 @@ walk-requires c κs =
     let k = v .4 .ruled in
     let u : l .loop .b ≤ lastBlock (s .args .r) = omega (arith, i .loop-test .taken, v .2) in
     let fits = part-fits (s .args .h) (s .args .r) _ (v .4) (l .loop .b) (l .loop .image) (pictured l) (v .0) u in (
-      (p .before .before .block-bytes .ensures .1, form-scratch _ (s .args .h) (g .form-of .ensures) (s .args .windowed) (l .loop .lines) (l .loop .rs) (v .5, v .6)),
+      (
+        p .before .before .block-bytes .ensures .1,
+        form-scratch _ (s .args .h) (g .form-of .ensures) (s .args .windowed) (l .loop .lines) (l .loop .rs)
+            (v .5, v .6),
+      ),
       ((form-depth _ (s .args .h) (g .form-of .ensures) k, omega (arith, v .3, f .1)), (v .7, rw (p .part .ensures) fits)),
     )
 

@@ -63,7 +63,8 @@ loop-holds c =
       a .pre .1 .1 .0 .0,
       a .pre .1 .1 .0 .1,
       (a .pre .1 .1 .1 .1 .1, only-none (a .args .windowed) (a .args .part) (a .args .n) _),
-      λ l long held. so-far-none (a .args .windowed) (record { bits = a .args .form .bits; xtrans = a .args .form .xtrans }) (a .args .qs .base) (c .width .result) _ _ _ _ l _ _ _ _ long held,
+      λ l long held. so-far-none (a .args .windowed) (record { bits = a .args .form .bits; xtrans = a .args .form .xtrans }) (a .args .qs .base)
+          (c .width .result) _ _ _ _ l _ _ _ _ long held,
     )
 
 abbrev plan-is : tie.After-window-plan Inv-loop μ-loop → tie.After-plan-at Inv-loop μ-loop
@@ -71,10 +72,12 @@ plan-is h = h .before
 
 -- the lines of the pass are there
 there : (h : tie.After-window-plan Inv-loop μ-loop) → let l = looped h .loop in let Q = h .window-plan .result in
-    PlanInRange Q × ((Q .first + 1) * (looped h .before .width .result + 2) ≤ length (l .lines)) × ((Q .second + 1) * (looped h .before .width .result + 2) ≤ length (l .lines))
+    PlanInRange Q × ((Q .first + 1) * (looped h .before .width .result + 2) ≤ length (l .lines))
+    × ((Q .second + 1) * (looped h .before .width .result + 2) ≤ length (l .lines))
 there h =
     let l = looped h .loop in
-    planned-in (start (looped h) .args .windowed) _ (l .i) _ _ _ _ (h .before .before .loop-test .taken) (h .before .plan-at .ensures) (h .window-plan .ensures) (l .inv .1 .0) (l .inv .2)
+    planned-in (start (looped h) .args .windowed) _ (l .i) _ _ _ _ (h .before .before .loop-test .taken) (h .before .plan-at .ensures)
+    (h .window-plan .ensures) (l .inv .1 .0) (l .inv .2)
 
 enter-requires : tie.Need-enter-requires Inv-loop μ-loop
 enter-requires c κs =
@@ -126,11 +129,14 @@ module _ (d : tie.After-pass Inv-loop μ-loop) where
   abbrev al : tie.Start Inv-loop μ-loop
   al = start ll
 
-  cut : d .pass .result .ok ≡ false → (l : List ℕ) → length l ≡ 18 * (ll .before .width .result + 2) → Held (al .args .windowed) (ll .before .width .result) 0 l (al .args .lines .now)
+  cut : d .pass .result .ok ≡ false → (l : List ℕ) → length l ≡ 18 * (ll .before .width .result + 2)
+      → Held (al .args .windowed) (ll .before .width .result) 0 l (al .args .lines .now)
       → readLine (al .args .form) (al .args .qs .base) (al .args .block .now) (stateAt l (al .args .rs .now) (al .args .from)) ≡ none
   cut wrong l long held =
-      pass-cut (al .args .windowed) (al .args .form) (al .args .qs .base) (al .args .block .now) _ (al .args .part) (al .args .n) (ll .loop .i) _ _ _ _ _ _ _ _ _ _ (ll .loop .inv .1 .0) (al .pre .1 .0 .0 .1)
-      (hl .before .before .loop-test .taken) (hl .before .plan-at .ensures) (hl .window-plan .ensures) (entered-at sl .enter .ensures) (sl .load-set .ensures .0) (ll .loop .inv .2) (ll .loop .inv .7 l long held) _
+      pass-cut (al .args .windowed) (al .args .form) (al .args .qs .base) (al .args .block .now) _ (al .args .part) (al .args .n)
+      (ll .loop .i) _ _ _ _ _ _ _ _ _ _ (ll .loop .inv .1 .0) (al .pre .1 .0 .0 .1)
+      (hl .before .before .loop-test .taken) (hl .before .plan-at .ensures) (hl .window-plan .ensures) (entered-at sl .enter .ensures)
+      (sl .load-set .ensures .0) (ll .loop .inv .2) (ll .loop .inv .7 l long held) _
       (d .pass .result) (d .pass .ensures .answer) wrong
 
 same-length : tie.Need-same-length Inv-loop μ-loop
@@ -154,7 +160,8 @@ returns c =
     let s = loaded d in
     let l = looped (windowed-at s) .loop in
     let e = l .inv .1 .0 in (
-      λ m long held. rw (cut d (not-true _ (c .if1 .taken)) m (long-as _ _ m e long) (held-as (al d .args .windowed) (ll d .before .width .result) _ 0 m (al d .args .lines .now) e held)) refl,
+      λ m long held. rw (cut d (not-true _ (c .if1 .taken)) m (long-as _ _ m e long)
+          (held-as (al d .args .windowed) (ll d .before .width .result) _ 0 m (al d .args .lines .now) e held)) refl,
       (rw (s .load-set .ensures .1) (l .inv .4), l .inv .6 .1),
     )
 
@@ -211,10 +218,16 @@ loop-again c =
       omega (arith, t .kept, s .load-set .kept, l .loop .inv .3),
       rw e (put-in-range _ _ _ g (l .loop .inv .3) (d .pass .ensures .records) (l .loop .inv .4)),
       counted d ok,
-      (fits-kept _ _ _ (put .kept) (l .loop .inv .6 .0), only-more (a .args .windowed) _ _ _ _ (a .args .part) (a .args .n) _ _ _ _ _ _ _ (l .loop .inv .6 .1) put),
+      (
+        fits-kept _ _ _ (put .kept) (l .loop .inv .6 .0),
+        only-more (a .args .windowed) _ _ _ _ (a .args .part) (a .args .n) _ _ _ _ _ _ _
+            (l .loop .inv .6 .1) put,
+      ),
       λ m long held. rw e
-          (pass-more (a .args .windowed) (a .args .form) (a .args .qs .base) (a .args .block .now) _ (a .args .part) (a .args .n) (l .loop .i) _ _ _ _ _ _ _ _ _ _ (l .loop .inv .1 .0)
-          (a .pre .1 .0 .0 .1) (h .before .before .loop-test .taken) (h .before .plan-at .ensures) (h .window-plan .ensures) (entered-at s .enter .ensures) (s .load-set .ensures .0) (l .loop .inv .2)
+          (pass-more (a .args .windowed) (a .args .form) (a .args .qs .base) (a .args .block .now) _ (a .args .part) (a .args .n)
+          (l .loop .i) _ _ _ _ _ _ _ _ _ _ (l .loop .inv .1 .0)
+          (a .pre .1 .0 .0 .1) (h .before .before .loop-test .taken) (h .before .plan-at .ensures) (h .window-plan .ensures) (entered-at s .enter .ensures)
+          (s .load-set .ensures .0) (l .loop .inv .2)
           (l .loop .inv .7 m long held) _ (d .pass .result) (d .pass .ensures .answer) ok _ (l .loop .inv .6 .0) put),
     )
 
@@ -224,7 +237,9 @@ returns-2 c =
     let a = start l .args in
     let past = sym (c .before .is-past .ensures) ∙ c .if2 .taken in
     let e = l .loop .inv .1 .0 in (
-      λ m long held. rw (ended-past (a .windowed) (a .form) (a .qs .base) _ (a .block .now) _ (a .part) (a .n) (l .loop .i) _ _ _ _ _ (omega arith) (l .loop .inv .0) (l .loop .inv .7 m (long-as _ _ m e long) (held-as (a .windowed) (l .before .width .result) _ 0 m (a .lines .now) e held)) past) refl,
+      λ m long held. rw (ended-past (a .windowed) (a .form) (a .qs .base) _ (a .block .now) _ (a .part) (a .n) (l .loop .i) _ _ _ _ _ (omega arith)
+          (l .loop .inv .0) (l .loop .inv .7 m (long-as _ _ m e long) (held-as (a .windowed) (l .before .width .result) _ 0 m (a .lines .now) e held)) past)
+          refl,
       (l .loop .inv .4, l .loop .inv .6 .1),
     )
 
@@ -234,8 +249,10 @@ returns-3 c =
     let a = start l .args in
     let past = sym (c .before .is-past .ensures) ∙ c .if2 .left in
     let e = l .loop .inv .1 .0 in (
-      λ m long held. ended-read (a .windowed) (a .form) (a .qs .base) (l .before .width .result) (a .block .now) _ (a .part) (a .n) (l .loop .i) (stateAt m (a .rs .now) (a .from)) _ _ _ _ (omega arith)
-          (l .loop .inv .0) (l .loop .inv .7 m (long-as _ _ m e long) (held-as (a .windowed) (l .before .width .result) _ 0 m (a .lines .now) e held)) past (record { image = a .image .now; lines = a .lines .now; records = a .rs .now }) (l .loop .inv .6 .1) _ e,
+      λ m long held. ended-read (a .windowed) (a .form) (a .qs .base) (l .before .width .result) (a .block .now) _ (a .part) (a .n) (l .loop .i)
+          (stateAt m (a .rs .now) (a .from)) _ _ _ _ (omega arith)
+          (l .loop .inv .0) (l .loop .inv .7 m (long-as _ _ m e long) (held-as (a .windowed) (l .before .width .result) _ 0 m (a .lines .now) e held)) past
+          (record { image = a .image .now; lines = a .lines .now; records = a .rs .now }) (l .loop .inv .6 .1) _ e,
       (l .loop .inv .4, l .loop .inv .6 .1),
     )
 

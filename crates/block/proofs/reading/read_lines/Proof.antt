@@ -139,7 +139,8 @@ returns c =
     let a = start l in (
       cut-at _ _ _ _ _ _ _ (turned r .before .before .loop-test .taken) (l .loop .inv .7 .read) (c .totals-at .ensures)
           (line-cut (a .args .windowed) _ _ _ _ _ _ _ _ _ _ _ _ _ (l .loop .inv .7) (a .pre .1 .0 .0 .1) (based r .base-of2 .ensures .0)
-          (r .before .is-restarted .ensures) (d .before .quantisers-of .ensures) (r .restart .ensures) _ (l .loop .inv .1 .0) _ _ (turned r .turn-if .ensures) refl
+          (r .before .is-restarted .ensures) (d .before .quantisers-of .ensures) (r .restart .ensures) _ (l .loop .inv .1 .0) _ _
+          (turned r .turn-if .ensures) refl
           (d .line .result) (d .line .ensures .0) (c .before .before .before .before .before .enum-told .given .1)),
       shown-cut (a .args .windowed) _ _ _ _ _ _ _ _ _ _ _ _ (l .loop .inv .6 .1) (d .line .ensures .1 .1) (c .before .before .before .zero-line .ensures),
     )
@@ -159,7 +160,8 @@ emit-line-if-requires c κs =
         omega (arith, turned r .before .before .loop-test .taken, a .pre .1 .0 .1),
         (
           l .loop .inv .1 .0,
-          all-kept-lines (a .args .windowed) (a .args .form .xtrans) _ _ (l .loop .inv .1 .0) (omega (arith, d .line .kept, turned r .turn-if .kept, l .loop .inv .2)),
+          all-kept-lines (a .args .windowed) (a .args .form .xtrans) _ _ (l .loop .inv .1 .0)
+              (omega (arith, d .line .kept, turned r .turn-if .kept, l .loop .inv .2)),
         ),
       ),
       (a .pre .1 .1 .0, fits-kept _ _ _ (d .line .ensures .1 .1 .kept) (l .loop .inv .6 .0)),
@@ -195,7 +197,8 @@ loop-again c =
       (tight-more _ _ _ _ _ (more .1) _ _ _ (l .loop .inv .5 .0) total (k .ensures .0), k .ensures .1),
       (
         fits-kept _ _ _ (e .ensures .kept ∙ only .kept) (l .loop .inv .6 .0),
-        shown-more (a .args .windowed) _ _ _ _ _ _ _ _ _ _ _ _ _ (l .loop .inv .1 .0) (ap linesOf (more .1)) (l .loop .inv .6 .1) (more .2) (more .3) (e .ensures),
+        shown-more (a .args .windowed) _ _ _ _ _ _ _ _ _ _ _ _ _ (l .loop .inv .1 .0) (ap linesOf (more .1)) (l .loop .inv .6 .1) (more .2) (more .3)
+            (e .ensures),
       ),
       record { lines = more .0; read = more .1; held = more .2 },
     )

@@ -23,7 +23,11 @@ walk-requires c κs =
     let f = n .before in
     let s = f .before .before .before in
     let k = opened (s .args .d .now) (s .args .h) (s .pre .0) .ruled in (
-      (p .before .before .block-bytes .ensures .1, form-scratch _ (s .args .h) (f .form-of .ensures) false (s .args .lines .now) (s .args .rs .now) (s .pre .1)),
+      (
+        p .before .before .block-bytes .ensures .1,
+        form-scratch _ (s .args .h) (f .form-of .ensures) false (s .args .lines .now) (s .args .rs .now)
+            (s .pre .1),
+      ),
       (
         (form-depth _ (s .args .h) (f .form-of .ensures) k, omega (arith, k .lines-high, n .line-count .ensures)),
         (p .xtrans-places .ensures, c .no-part .ensures),

@@ -71,8 +71,21 @@ set-guards-requires-2 c κs =
     let g = c .before .before .before in
     let p = g .before .before in
     let l = p .before .before .loop in
-    let r = planned _ (l .i) _ (omega arith) (p .plan-at .ensures) in
-    (l .inv .1 .2, (omega arith, (r .0 .second-high, omega (arith, line-inside (p .before .before .before .width .result) _ (r .0 .second-high), g .set-guards .kept, l .inv .2))))
+    let r = planned _ (l .i) _ (omega arith) (p .plan-at .ensures) in (
+      l .inv .1 .2,
+      (
+        omega arith,
+        (
+          r .0 .second-high,
+          omega (
+            arith,
+            line-inside (p .before .before .before .width .result) _ (r .0 .second-high),
+            g .set-guards .kept,
+            l .inv .2,
+          ),
+        ),
+      ),
+    )
 
 load-set-requires : tie.Need-load-set-requires Inv-loop μ-loop
 load-set-requires c κs =

@@ -48,7 +48,8 @@ returns-4 c =
     let b = c .before .before .before .before in
     let s = b .before .before .before .before .before .before in
     let a = s .args in
-    put-cell _ (a .part) (a .n) (a .k) (a .l) (a .xtrans) (a .w) (a .lines .now) (a .slot) (a .image .now) _ _ (s .pre .0 .1 .0) (s .pre .1 .1) (b .before .if2 .left) (b .if3 .left)
+    put-cell _ (a .part) (a .n) (a .k) (a .l) (a .xtrans) (a .w) (a .lines .now) (a .slot) (a .image .now) _ _ (s .pre .0 .1 .0) (s .pre .1 .1)
+    (b .before .if2 .left) (b .if3 .left)
     (sym (b .before .before .before .colour-line .ensures .0) ∙ b .before .before .if1 .left) (c .before .before .emit-column .ensures)
 
 pub emit-cell-spec : {M : Type 1} → statement M

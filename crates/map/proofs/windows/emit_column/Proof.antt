@@ -17,7 +17,8 @@ use Rattle.map.proofs.windows.emit_column.Tie as tie
 abbrev Inv-loop : tie.InvT-loop
 Inv-loop lines image₀ at start xtrans places c left right p₀ image p =
     (p % 6 ≡ c) × (left ≤ p) × (p < right + 6)
-    × Changed (λ i. leb at i && ltb i (at + (p - left)) && eqb ((left + (i - at)) % 6) c) (λ i. getD lines (start + placeIn xtrans (left + (i - at))) 0) image₀ image
+    × Changed (λ i. leb at i && ltb i (at + (p - left)) && eqb ((left + (i - at)) % 6) c)
+    (λ i. getD lines (start + placeIn xtrans (left + (i - at))) 0) image₀ image
 
 abbrev μ-loop : tie.MeasureT-loop
 μ-loop lines image₀ at start xtrans places c left right p₀ image p = right + 6 - p
@@ -26,7 +27,8 @@ abbrev μ-loop : tie.MeasureT-loop
 inside : (xtrans : Bool) (p r start n : ℕ) → p < 768 → r ≡ placeIn xtrans p → start + widthOf xtrans ≤ n → start + r < n
 inside xtrans p r start n h e k = omega (arith, place-lt xtrans p h, e)
 
-read : (c : tie.After-place-in Inv-loop μ-loop) → let s = c .before .before .before .before .before .before in s .args .start + c .place-in .result < length (s .args .lines .now)
+read : (c : tie.After-place-in Inv-loop μ-loop) → let s = c .before .before .before .before .before .before in s .args .start + c .place-in .result < length
+    (s .args .lines .now)
 read c =
     let s = c .before .before .before .before .before .before in
     inside (s .args .xtrans) _ _ _ _ (omega (arith, c .before .loop-test .taken, s .pre .0 .1 .1)) (c .place-in .ensures) (s .pre .1 .0 .0)
@@ -52,8 +54,10 @@ loop-again c =
       omega (arith, l .inv .0),
       omega (arith, l .inv .1),
       omega (arith, c .before .before .loop-test .taken),
-      columns-more (λ i. getD (s .args .lines .now) (s .args .start + placeIn (s .args .xtrans) (s .args .left + (i - s .args .at))) 0) (s .args .at) (l .p) _ _ _ _ _ (l .inv .0) (l .inv .1) (omega (arith, l .inv .1, c .before .before .loop-test .taken, s .pre .1 .0 .1))
-          (value (s .args .lines .now) (s .args .xtrans) (s .args .start) (l .p) (s .args .left) (s .args .at) _ (l .inv .1) (c .before .place-in .ensures)) (l .inv .3),
+      columns-more (λ i. getD (s .args .lines .now) (s .args .start + placeIn (s .args .xtrans) (s .args .left + (i - s .args .at))) 0) (s .args .at)
+          (l .p) _ _ _ _ _ (l .inv .0) (l .inv .1) (omega (arith, l .inv .1, c .before .before .loop-test .taken, s .pre .1 .0 .1))
+          (value (s .args .lines .now) (s .args .xtrans) (s .args .start) (l .p) (s .args .left) (s .args .at) _ (l .inv .1) (c .before .place-in .ensures))
+          (l .inv .3),
     )
 
 returns : tie.Need-returns Inv-loop μ-loop

@@ -22,7 +22,8 @@ returns-2 : tie.Need-returns-2
 returns-2 c =
     let e = c .before .before .before .before .before .before in
     let a = e .before .before .before .before .before .args in
-    pass-put _ _ _ _ _ _ _ _ _ _ (a .wanted) _ _ _ (not-false (a .wanted) (e .before .before .if1 .left)) (e .emit-colour .ensures) (c .before .before .emit-colour2 .ensures)
+    pass-put _ _ _ _ _ _ _ _ _ _ (a .wanted) _ _ _ (not-false (a .wanted) (e .before .before .if1 .left)) (e .emit-colour .ensures)
+    (c .before .before .emit-colour2 .ensures)
 
 pub emit-pass-spec : {M : Type 1} → statement M
 emit-pass-spec =

@@ -43,7 +43,8 @@ returns-2 c =
     let e : c .before .loop .r ≡ 6 = omega arith in
     let s = c .before .before .before .before in
     let a = s .args in
-    if-wanted (a .wanted) (inRows (a .part) (6 * a .n) (6 * a .n + 6)) _ _ _ (not-false (a .wanted) (c .before .before .if1 .left)) (rw e at (c .before .loop .inv .1))
+    if-wanted (a .wanted) (inRows (a .part) (6 * a .n) (6 * a .n + 6)) _ _ _ (not-false (a .wanted) (c .before .before .if1 .left))
+    (rw e at (c .before .loop .inv .1))
 
 pub zero-line-spec : {M : Type 1} → statement M
 zero-line-spec =
