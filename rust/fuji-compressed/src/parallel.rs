@@ -15,8 +15,16 @@ struct Entry {
     cut_rows: usize,
 }
 
-const PLAIN: Entry = Entry { call: FujiCompressed::decode_region_with, scratch: Scratch::new, cut_rows: 0 };
-const WINDOWED: Entry = Entry { call: FujiCompressed::decode_region_windowed_with, scratch: Scratch::windowed, cut_rows: 6 };
+const PLAIN: Entry = Entry {
+    call: |stream, scratch, image, region, tile| stream.decode_region_with(scratch, image, region, tile),
+    scratch: Scratch::new,
+    cut_rows: 0,
+};
+const WINDOWED: Entry = Entry {
+    call: |stream, scratch, image, region, tile| stream.decode_region_windowed_with(scratch, image, region, tile),
+    scratch: Scratch::windowed,
+    cut_rows: 6,
+};
 
 /// A block's part of the region, and where its rows go.
 struct Part<'i> {
@@ -27,6 +35,20 @@ struct Part<'i> {
 impl FujiCompressed<'_> {
     /// `decode` by so many threads, or one if 0 is named. The answer and the image are those of `decode`: all blocks are tried, the lowest that fails is
     /// named, and each keeps the rows before its failing line. Each thread has scratch of its own and room for one block's columns.
+    ///
+    /// ```
+    /// use fuji_compressed::{ColorTile, FujiCompressed, write_block};
+    ///
+    /// // One line of six rows of Bayer samples, all of them 9.
+    /// let header = [0x49, 0x53, 1, 0, 14, 0, 6, 3, 0, 3, 0, 3, 0, 1, 0, 1];
+    /// let mut block = [0; 32256];
+    /// let length = write_block(&header, &[9; 4608], &mut block)?;
+    /// let stream = [&header[..], &(length as u32).to_be_bytes(), &[0; 12], &block[..length]].concat();
+    /// let mut image = [0; 768 * 6];
+    /// FujiCompressed::new(&stream)?.decode_parallel(4, &mut image, 768, 6, &ColorTile::default())?;
+    /// assert!(image == [9; 768 * 6]);
+    /// # Ok::<(), fuji_compressed::Refusal>(())
+    /// ```
     pub fn decode_parallel(&self, threads: usize, image: &mut [u16], width: u32, height: u32, tile: &ColorTile) -> Result<()> {
         if (width, height) != (self.header.width, self.header.height) {
             return self.decode(image, width, height, tile);

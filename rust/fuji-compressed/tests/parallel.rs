@@ -20,8 +20,14 @@ type Serial = fn(&FujiCompressed, &mut [u16], Rect, &ColorTile) -> Result<(), Re
 type Parallel = fn(&FujiCompressed, usize, &mut [u16], Rect, &ColorTile, &(dyn Fn() + Sync)) -> Result<(), Refusal>;
 
 const ENTRIES: [(Serial, Parallel); 2] = [
-    (FujiCompressed::decode_region, FujiCompressed::decode_region_parallel),
-    (FujiCompressed::decode_region_windowed, FujiCompressed::decode_region_windowed_parallel),
+    (
+        |s, image, region, tile| s.decode_region(image, region, tile),
+        |s, threads, image, region, tile, done| s.decode_region_parallel(threads, image, region, tile, done),
+    ),
+    (
+        |s, image, region, tile| s.decode_region_windowed(image, region, tile),
+        |s, threads, image, region, tile, done| s.decode_region_windowed_parallel(threads, image, region, tile, done),
+    ),
 ];
 
 fn called(serial: Serial, bytes: &[u8], region: Rect, fill: u16, spare: usize) -> (Result<(), Refusal>, Vec<u16>) {

@@ -50,7 +50,7 @@ fn failing(stream: &FujiCompressed) -> Vec<Option<usize>> {
 }
 
 /// The lowest block that the region touches and that fails on the region's last line or an earlier one.
-fn foretold(failing: &[Option<usize>], r: Rect) -> Result<(), (usize, usize, usize)> {
+fn foretold(failing: &[Option<usize>], r: Rect) -> Result<(), (u32, usize, usize)> {
     if r.width == 0 || r.height == 0 {
         return Ok(());
     }
@@ -60,7 +60,7 @@ fn foretold(failing: &[Option<usize>], r: Rect) -> Result<(), (usize, usize, usi
     fails.map_or(Ok(()), Err)
 }
 
-fn told(answer: Answer) -> Result<(), (usize, usize, usize)> {
+fn told(answer: Answer) -> Result<(), (u32, usize, usize)> {
     answer.map_err(|r| (r.number, r.block, r.line))
 }
 
