@@ -173,7 +173,7 @@ fn any_number_of_threads_gives_the_same_picture() {
     let bytes = common::stream::encoded(&header, &[], &mut |b, n, line, p| (1000 * b + 300 * n + 10 * line + p % 7) as u16);
     f.put("a.fcs", &bytes);
     f.works("decode a.fcs one --format raw --quiet --threads 1");
-    for threads in ["2", "3", "7", "1024"] {
+    for threads in ["2", "3", "7", "1024", "1 --windowed", "2 --windowed"] {
         f.works(&format!("decode a.fcs more --format raw --quiet --threads {threads}"));
         assert_eq!(f.get("one"), f.get("more"), "{threads}");
     }
@@ -182,7 +182,7 @@ fn any_number_of_threads_gives_the_same_picture() {
     f.put("cut.fcs", &[&bytes[..at], &vec![0; bytes.len() - at]].concat());
     let said = f.run("decode cut.fcs out --threads 1").stderr;
     assert!(text(&said).contains("block 0, line "), "{}", text(&said));
-    for threads in ["2", "3"] {
+    for threads in ["2", "3", "3 --windowed"] {
         f.fails(&format!("decode cut.fcs out --threads {threads}"), text(&said).trim_end());
     }
     for wrong in ["0", "x", "-1", "1025"] {
