@@ -1,5 +1,4 @@
 -- Proofs that tight blocks and sets of colour lines correspond one to one.
-pub mod PlanLaws
 pub mod RunTwins
 pub mod PassTwins
 pub mod LineTwins

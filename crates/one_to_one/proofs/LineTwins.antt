@@ -21,7 +21,8 @@ use Rattle.block.specs.WrittenBlocks.{writePassAt, writeLine}
 use Rattle.block.specs.declared.Form.{Form}
 use Rattle.block.proofs.SampleLaws.{turned-le}
 use Rattle.block.proofs.WrittenLaws.{passAt-adds, passAt-right}
-use Rattle.one_to_one.proofs.PlanLaws.{NotOf, other-lines, passes-lines, lines-passes}
+use Rattle.steps.proofs.PlanLaws.{NotOf, other-lines}
+use Rattle.writing.proofs.SetLaws.{passes-lines, lines-passes}
 use Rattle.one_to_one.proofs.RunTwins.{writeStateOf, CleanState, StoredState, StateForward, StateBack, stored-before, Each, sound-after, runs-forward, runs-backward}
 use Rattle.one_to_one.proofs.PassTwins.{SoundState, PassHolds, pass-sound, pass-keeps-others, passAt-forward, passAt-backward}
 

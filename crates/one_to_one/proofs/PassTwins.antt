@@ -27,7 +27,7 @@ use Rattle.block.specs.WrittenBlocks.{leaveWriting, writePassAt}
 use Rattle.block.specs.declared.Form.{Form}
 use Rattle.block.proofs.LineLaws.{width-in-range}
 use Rattle.block.proofs.SampleLaws.{guarded-le}
-use Rattle.one_to_one.proofs.PlanLaws.{two-lines, NotOf}
+use Rattle.steps.proofs.PlanLaws.{two-lines, NotOf}
 use Rattle.one_to_one.proofs.RunTwins.{writeStateOf, CleanState, StoredState, StateForward, StateBack}
 
 abbrev pub SoundState : Form → State → Type 0

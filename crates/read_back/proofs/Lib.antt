@@ -2,5 +2,4 @@
 pub mod Together
 pub mod StepBack
 pub mod ListBack
-pub mod OrderLaws
 pub mod PassBack

@@ -13,6 +13,7 @@ use Rattle.code.specs.declared.Coded.{Coded}
 use Rattle.code.specs.declared.Coded.the-variants.{Read, Truncated}
 use Rattle.steps.specs.Steps.{Step}
 use Rattle.steps.specs.Contexts.{stepPlace, stepContext, stepLook, stepSlot}
+use Rattle.steps.proofs.OrderLaws.{All, cell, Apart}
 use Rattle.pass.specs.Readings.{Reading, interpolate, taken, readStep, andThen, reads, stepCode}
 use Rattle.pass.proofs.RangeLaws.{step-keeps}
 use Rattle.writing.specs.Writings.{Writing, writeStep, writes}
@@ -20,21 +21,6 @@ use Rattle.writing.proofs.LosslessLaws.{Lossless}
 use Rattle.read_back.proofs.StepBack.{InLines, step-forward, step-backward}
 use Rattle.read_back.proofs.Together.{stored-cut, Sound, writingOf, CleanReading, StoredWriting, Together, Back, together-then, back-then}
 use Rattle.writing.proofs.WriteLaws.{wanted, afresh, writes-add, writes-right}
-
--- ---- lists of steps
-
-abbrev pub All : (Step → Type 0) → List Step → Type 0
-All Q [] = Unit {0}
-All Q (x ∷ l) = Q x × All Q l
-
--- where the sample of a step goes
-abbrev pub cell : ℕ → Step → ℕ
-cell W x = stepPlace W x + 1
-
--- no two samples go to one place
-abbrev pub Apart : ℕ → List Step → Type 0
-Apart W [] = Unit {0}
-Apart W (x ∷ l) = All (λ y. cell W x ≢ cell W y) l × Apart W l
 
 -- ---- what a reading leaves as it is
 

@@ -10,11 +10,28 @@ use lib.Arith.{digits-div, digits-mod}
 use lib.Dec.{leb, ltb, eqb}
 use borrow.Author.Tests.{lt-ltb, le-ltb, le-leb, lt-leb, eq-eqb, ne-eqb}
 use Rattle.numbers.proofs.OrderLaws.{split}
 use Rattle.steps.specs.Steps.{Step, evenSteps, oddSteps, turnSteps, upto, passSteps}
+use Rattle.steps.specs.Contexts.{stepPlace}
 use Rattle.steps.specs.declared.Plan.{Plan}
-use Rattle.read_back.proofs.ListBack.{All, cell, Apart}
 
 -- ---- lists of steps
+
+abbrev pub All : (Step → Type 0) → List Step → Type 0
+All Q [] = Unit {0}
+All Q (x ∷ l) = Q x × All Q l
+
+-- where the sample of a step goes
+abbrev pub cell : ℕ → Step → ℕ
+cell W x = stepPlace W x + 1
+
+-- no two samples go to one place
+abbrev pub Apart : ℕ → List Step → Type 0
+Apart W [] = Unit {0}
+Apart W (x ∷ l) = All (λ y. cell W x ≢ cell W y) l × Apart W l
+
+pub all-both : {P Q R : Step → Type 0} (l : List Step) → All P l → All Q l → ((x : Step) → P x → Q x → R x) → All R l
+all-both [] a b f = tt
+all-both (x ∷ l) a b f = (f x (a .0) (b .0), all-both l (a .1) (b .1) f)
 
 module _ (Q : Step → Type 0) where
   pub all-append : (k l : List Step) → All Q k → All Q l → All Q (k ++ l)
