@@ -1,5 +1,5 @@
 -- The first sample above M. Assumes nothing.
-use borrow.Author.Tests.{lt-ltb, le-ltb, le-leb, lt-leb}
+use borrow.Author.Tests.{lt-ltb, le-ltb}
 use mathlib.Core.Bool.{Bool, true, false, cond, _||_}
 use mathlib.Core.List.{List}
 use mathlib.Core.Option.{none, some}
@@ -17,14 +17,11 @@ module _ (ignored : ℕ → Bool) (m : ℕ) (t : List ℕ) (i : ℕ) (so-far : f
   unfolding firstAbove
   next-is h b e = so-far ∙ rw (drop-cons t i 0 h, e, add-one)
 
-  pub above-next : i < length t → getD t i 0 ≤ m → firstAbove ignored m 0 t ≡ firstAbove ignored m (i + 1) (drop (i + 1) t)
-  above-next h le = next-is h true (rw (le-leb (getD t i 0) m le))
+  pub above-next : i < length t → leb (getD t i 0) m || ignored i ≡ true → firstAbove ignored m 0 t ≡ firstAbove ignored m (i + 1) (drop (i + 1) t)
+  above-next h e = next-is h true e
 
-  pub above-ignored : i < length t → m < getD t i 0 → ignored i ≡ true → firstAbove ignored m 0 t ≡ firstAbove ignored m (i + 1) (drop (i + 1) t)
-  above-ignored h lt e = next-is h true (rw (lt-leb (getD t i 0) m lt) e)
-
-  pub above-found : i < length t → m < getD t i 0 → ignored i ≡ false → firstAbove ignored m 0 t ≡ cond (ltb i (length t)) (some i) none
-  above-found h lt e = next-is h false (rw (lt-leb (getD t i 0) m lt) e) ∙ rw (lt-ltb i (length t) h)
+  pub above-found : i < length t → leb (getD t i 0) m || ignored i ≡ false → firstAbove ignored m 0 t ≡ cond (ltb i (length t)) (some i) none
+  above-found h e = next-is h false e ∙ rw (lt-ltb i (length t) h)
 
   pub above-none : length t ≤ i → firstAbove ignored m 0 t ≡ cond (ltb i (length t)) (some i) none
   unfolding firstAbove

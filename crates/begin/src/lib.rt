@@ -1,9 +1,9 @@
 // How a call begins: judged from the stream and from the sizes of what is lent, before a buffer is touched.
 ghost use mathlib.Core.Path.{_≡_};
-ghost use mathlib.Core.Bool.{true, cond};
+ghost use mathlib.Core.Bool.{true, cond, not, _||_};
 ghost use mathlib.Core.Option.{none, some};
 ghost use Prim.Native.Nat.{_≤_, _<_};
-ghost use lib.Dec.{ltb};
+ghost use lib.Dec.{leb, ltb};
 ghost use lib.ListN.{length};
 ghost use Rattle.region.specs.Regions.{checkedOf};
 ghost use Rattle.steps.specs.Steps.{isInterpolated};
@@ -274,16 +274,24 @@ fn is_ignored(xtrans: bool, strict: bool, j: usize) -> bool
     false
 }
 
+// A sample v, at index j, that is refused.
+fn is_above(v: u16, m: u32, xtrans: bool, strict: bool, j: usize) -> bool
+    ensures { λ r. ⌜ r ≡ not (leb v m || isIgnored xtrans strict j) ⌝ }
+{
+    if numbers::u16_to_u32(v) <= m {
+        return false;
+    }
+    !is_ignored(xtrans, strict, j)
+}
+
 // The lowest index of a sample above m that is not ignored, or the length where there is none.
 pub fn first_above(samples: &[u16], m: u32, xtrans: bool, strict: bool) -> usize
     ensures { λ r. ⌜ firstAbove (isIgnored xtrans strict) m 0 (now (samples .entry)) ≡ cond (ltb r (length (now (samples .entry)))) (some r) none ⌝ }
 {
     let mut i: usize = 0;
     while i < samples.len() {
-        if m < numbers::u16_to_u32(samples[i]) {
-            if !is_ignored(xtrans, strict, i) {
-                return i;
-            }
+        if is_above(samples[i], m, xtrans, strict, i) {
+            return i;
         }
         i = i + 1;
     }
