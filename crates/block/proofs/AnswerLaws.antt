@@ -40,19 +40,19 @@ use Rattle.block.proofs.LineLaws.{width-in-range}
 -- where none is named, all that are not ignored are within M
 first-none : (ignored : ℕ → Bool) (m i : ℕ) (t : List ℕ) → firstAbove ignored m i t ≡ none → (j : ℕ) → ignored (i + j) ≡ false → getD t j 0 ≤ m
 unfolding firstAbove
-first-none ignored m i [] e j f = omega arith
-first-none ignored m i (v ∷ t) e = go (leb v m) (ignored i) refl refl e
+first-none ignored m i [] e = λ j f. omega arith
+first-none ignored m i (v ∷ t) e = go (leb v m) (ignored i) refl refl (λ g k f. first-none ignored m (suc i) t g k (let n : i + suc k ≡ suc i + k = omega arith in rw n at f)) e
   where
-    rest : firstAbove ignored m (suc i) t ≡ none → (k : ℕ) → ignored (i + suc k) ≡ false → getD t k 0 ≤ m
-    rest g k f = first-none ignored m (suc i) t g k (let n : i + suc k ≡ suc i + k = omega arith in rw n at f)
+    Rest : Type 0
+    Rest = firstAbove ignored m (suc i) t ≡ none → (k : ℕ) → ignored (i + suc k) ≡ false → getD t k 0 ≤ m
 
-    go : (a b : Bool) → leb v m ≡ a → ignored i ≡ b → cond (a || b) (firstAbove ignored m (suc i) t) (some i) ≡ none
+    go : (a b : Bool) → leb v m ≡ a → ignored i ≡ b → Rest → cond (a || b) (firstAbove ignored m (suc i) t) (some i) ≡ none
         → (j : ℕ) → ignored (i + j) ≡ false → getD (v ∷ t) j 0 ≤ m
-    go true b ea eb g zero f = leb-true v m ea
-    go true b ea eb g (suc k) f = rest g k f
-    go false true ea eb g zero f = let no : true ≡ false = sym eb ∙ (rw (add-zero i) at f) in let z : _≡_ {A = ℕ} 0 1 = cc in absurd (omega arith)
-    go false true ea eb g (suc k) f = rest g k f
-    go false false ea eb g j f = let no : _≡_ {A = ℕ} 0 1 = cc in absurd (omega arith)
+    go true b ea eb rest g zero f = leb-true v m ea
+    go true b ea eb rest g (suc k) f = rest g k f
+    go false true ea eb rest g zero f = let no : true ≡ false = sym eb ∙ (rw (add-zero i) at f) in let z : _≡_ {A = ℕ} 0 1 = cc in absurd (omega arith)
+    go false true ea eb rest g (suc k) f = rest g k f
+    go false false ea eb rest g j f = let no : _≡_ {A = ℕ} 0 1 = cc in absurd (omega arith)
 
 -- a set without bases has none that is ignored
 strict-looks : (xtrans : Bool) (j : ℕ) → isIgnored xtrans true j ≡ false

@@ -67,6 +67,11 @@ module _ (bases t : List ℕ) (before : Outputs) (begins : Parsed) where
   written-set false h e after a answered output lines records =
       rw e (record { answered = answered; output = output; lines = lines; records = records })
 
+-- by what its beginning is
+pub left-by : (measure : Bool) (bases t : List ℕ) (begins named : Parsed) (before after : Outputs) (a : BlockLength) → begins ≡ named
+    → LeftBy measure bases t begins before after a → LeftBy measure bases t named before after a
+left-by measure bases t begins named before after a e l = rw e at l
+
 -- ---- the form of a header
 
 module _ (F : Form) (h : FujiHeader) (e : F ≡ formOf h) where
