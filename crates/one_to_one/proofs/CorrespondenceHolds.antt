@@ -4,34 +4,41 @@ use mathlib.Core.List.{List, [], _++_}
 use mathlib.Core.Logic.{_↔_}
 use mathlib.Core.Option.{some}
 use mathlib.Core.Path.{_≡_, refl, sym, ap, _∙_, subst}
-use Prim.Native.Nat.{ℕ, _-_, _*_, _/_, _%_, _<_}
+use Prim.Native.Nat.{ℕ, _-_, _*_, _/_, _%_, _≤_, _<_}
 use native.Mathlib.Omega.{arith}
 use lib.ListN.{length, getD, take, drop, replicate, take-append-drop}
 use lib.Seq.{drop-at, ext-getD, length-take-le}
 use Rattle.bits.specs.BitLists.{bitsOf, blockBytes, bytesOf}
 use Rattle.bits.proofs.ListLaws.{length-bits}
 use Rattle.bits.proofs.PackLaws.{length-bytesOf, bytes-bytesOf, bits-bytesOf, bytesOf-bits}
+use Rattle.quantiser.specs.Quantisers.{largest}
 use Rattle.steps.specs.Values.{Depth}
 use Rattle.map.specs.Places.{widthOf}
 use Rattle.stream.proofs.HeaderLaws.{ruled}
 use Rattle.stream.proofs.StreamLaws.{row-lossless}
 use Rattle.writing.specs.Sets.{lineSize, setSize, lineAt, positionAt}
 use Rattle.writing.proofs.LosslessLaws.{Lossless, lossless}
+use Rattle.writing.proofs.TurnPuts.{coded-wanted}
 use Rattle.writing.proofs.SetLaws.{line-lt, rank-lt, position-lt, index-at}
 use Rattle.block.specs.Blocks.{State, readLines}
 use Rattle.block.specs.Images.{formOf}
 use Rattle.block.specs.TightBlocks.{Tight, setRead}
-use Rattle.block.specs.WrittenBlocks.{WriteState, writeLines, writtenBlock, tightBlock, FitSet}
+use Rattle.block.specs.WrittenBlocks.{WriteState, writeLines, writtenBlock, tightBlock, SetWanted, FitSet}
 use Rattle.block.specs.declared.Form.{Form}
 use Rattle.block.proofs.LineLaws.{width-in-range}
 use Rattle.one_to_one.specs.Correspondence.{Bytes, TightBlockOf, Correspondence, CorrespondenceOfHeaders, NoBases}
 use Rattle.one_to_one.proofs.AnswerLaws.{done-tight, tight-done}
 use Rattle.one_to_one.proofs.PredictedBlocks.{fits-is}
 use Rattle.one_to_one.proofs.BlockLaws.{set-size, set-at, set-shown, set-le, Tail, tail-was, tail-is}
-use Rattle.one_to_one.proofs.BlockTwins.{Shows, lines-forward, lines-backward}
+use Rattle.one_to_one.proofs.BlockTwins.{Shows, lines-forward, shown-exact, lines-backward}
 use Rattle.one_to_one.proofs.RunTwins.{writeStateOf, CleanState, StoredState}
 
-module _ (F : Form) (Q : Lossless (F .bits)) (lines : ℕ) where
+-- samples in 0..M are so where they have a code
+range-wanted : (F : Form) (t : List ℕ) → ((j : ℕ) → getD t j 0 ≤ largest (F .bits)) → SetWanted F t
+range-wanted F t range n i below =
+    coded-wanted (largest (F .bits)) (widthOf (F .xtrans)) t n (width-in-range (F .xtrans) (widthOf (F .xtrans)) refl .2) (F .xtrans) i below (λ c p hc hp e. range _)
+
+module _ (F : Form) (depth : Depth (F .bits)) (Q : Lossless (F .bits)) (lines : ℕ) where
   abbrev W : ℕ
   W = widthOf (F .xtrans)
 
@@ -59,8 +66,10 @@ module _ (F : Form) (Q : Lossless (F .bits)) (lines : ℕ) where
     stored = record { starts = s-bits ∙ ap (λ (l : List Bool). bits ++ l) (sym rest); right = fit .predicted }
 
     -- it is read, up to as many bits as were written
-    read : (z : State) × ((readLines F [] s lines ≡ some z) × CleanState s z × (writeLines F [] t lines ≡ writeStateOf s z) × ((m : ℕ) → m < lines → Shows F Q s t m))
-    read = lines-forward F Q s t (fit .range) lines stored
+    read : (z : State) × ((readLines F [] s lines ≡ some z) × CleanState s z × (writeLines F [] t lines ≡ writeStateOf s z) × ((m : ℕ) → m < lines → Shows F s t m))
+    read =
+        let all = lines-forward F [] depth s t (range-wanted F t (fit .range)) lines stored in
+        (all .0, (all .1 .0, all .1 .1, all .1 .2, λ m h. shown-exact F s t m (all .1 .3 m h)))
 
     tail : (z : State) → CleanState s z → writeLines F [] t lines ≡ writeStateOf s z → Tail s (z .at .0)
     tail z clean same =
@@ -128,9 +137,9 @@ pub correspondence : (F : Form) (lines : ℕ) → Depth (F .bits) → Correspond
 correspondence F lines depth =
     record {
       same = same;
-      sets = λ t. (λ p. from-set t (fits-is F lines t .1 p), λ (a : TightBlockOf F lines t). fits-is F lines t .0 (subst (FitSet F lines) (a .reads) (fits F Q lines (a .block) (a .tight))));
+      sets = λ t. (λ p. from-set t (fits-is F lines t .1 p), λ (a : TightBlockOf F lines t). fits-is F lines t .0 (subst (FitSet F lines) (a .reads) (fits F depth Q lines (a .block) (a .tight))));
       one = λ t a b. same (a .block) (b .block) (a .bytes) (b .bytes) (a .tight) (b .tight) .1 (a .reads ∙ sym (b .reads));
-      written = λ t p. let f = fits-is F lines t .1 p in (written-bytes F Q lines t f, written-tight F Q lines t f, written-set F Q lines t f);
+      written = λ t p. let f = fits-is F lines t .1 p in (written-bytes F depth Q lines t f, written-tight F depth Q lines t f, written-set F depth Q lines t f);
       accepted = λ b s. (done-tight F s b lines, tight-done F s b lines);
       shown = set-shown F lines;
     }
@@ -140,15 +149,15 @@ correspondence F lines depth =
 
     same : (a b : List ℕ) → Bytes a → Bytes b → Tight F lines a → Tight F lines b → (a ≡ b) ↔ (setRead F lines a ≡ setRead F lines b)
     same a b ha hb ta tb =
-        (λ e. ap (setRead F lines) e, λ e. sym (block-is F Q lines a ta ha) ∙ ap (tightBlock F lines) e ∙ block-is F Q lines b tb hb)
+        (λ e. ap (setRead F lines) e, λ e. sym (block-is F depth Q lines a ta ha) ∙ ap (tightBlock F lines) e ∙ block-is F depth Q lines b tb hb)
 
     from-set : (t : List ℕ) → FitSet F lines t → TightBlockOf F lines t
     from-set t f =
         record {
           block = tightBlock F lines t;
-          bytes = written-bytes F Q lines t f;
-          tight = written-tight F Q lines t f;
-          reads = written-set F Q lines t f;
+          bytes = written-bytes F depth Q lines t f;
+          tight = written-tight F depth Q lines t f;
+          reads = written-set F depth Q lines t f;
         }
 
 -- under every lossless header that breaks no rule

@@ -8,7 +8,7 @@ use Prim.Native.Nat.{ℕ, zero, suc, _+_, _-_, _*_, _%_, _≤_, _<_}
 use native.Mathlib.Omega.{arith}
 use lib.ListN.{length, getD, length-replicate}
 use Rattle.numbers.proofs.OrderLaws.{split}
-use Rattle.steps.specs.Steps.{planOf, passSteps}
+use Rattle.steps.specs.Steps.{isInterpolated, planOf, passSteps}
 use Rattle.steps.specs.Contexts.{contextAt}
 use Rattle.steps.specs.declared.Plan.{Plan}
 use Rattle.lines.specs.ColourLines.{zeroLines, guarded, turned}

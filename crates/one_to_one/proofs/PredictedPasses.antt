@@ -16,7 +16,7 @@ use Rattle.steps.specs.declared.Plan.{Plan}
 use Rattle.steps.proofs.OrderLaws.{All, all-both, pass-all}
 use Rattle.lines.proofs.MoveLaws.{place-is}
 use Rattle.one_to_one.specs.PredictedSets.{isBefore}
-use Rattle.steps.proofs.PlanLaws.{firstLine, secondLine, lines-are, each-pass, interpolated-even, steps-coded}
+use Rattle.steps.proofs.PlanLaws.{firstLine, secondLine, lines-are, each-pass, interpolated-even, CodedIn, steps-coded}
 use Rattle.one_to_one.proofs.PredictedSteps.{place, InPass}
 
 -- ---- the order of the lines

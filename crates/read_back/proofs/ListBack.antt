@@ -108,12 +108,12 @@ module _ (bits q W : ℕ) (s : List ℕ) where
   pub base-le : (m p : ℕ) (l : List Step) (r : Reading) (b : ℕ) → baseInSteps bits q W s m p l r ≡ some b → b ≤ q
   unfolding baseInSteps andThen
   base-le m p [] r b e = let no : _≡_ {A = ℕ} 0 1 = cc in absurd (omega arith)
-  base-le m p (x ∷ l) r b e = go (eqb (x .line) m && eqb (x .position) p) (readStep bits q W s x r) e
+  base-le m p (x ∷ l) r b e = go (eqb (x .line) m && eqb (x .position) p) (readStep bits q W s x r) (λ z f. base-le m p l z b f) e
     where
-      go : (here : Bool) (o : Option Reading) → cond here (some ((stepLook q W x (r .lines)) .base)) (andThen o (λ z. baseInSteps bits q W s m p l z)) ≡ some b → b ≤ q
-      go true o f = let is : (stepLook q W x (r .lines)) .base ≡ b = cc in rw (← is) (used-le q (stepContext W x (r .lines)))
-      go false none f = let no : _≡_ {A = ℕ} 0 1 = cc in absurd (omega arith)
-      go false (some z) f = base-le m p l z b f
+      go : (here : Bool) (o : Option Reading) → ((z : Reading) → baseInSteps bits q W s m p l z ≡ some b → b ≤ q) → cond here (some ((stepLook q W x (r .lines)) .base)) (andThen o (λ z. baseInSteps bits q W s m p l z)) ≡ some b → b ≤ q
+      go true o rest f = let is : (stepLook q W x (r .lines)) .base ≡ b = cc in rw (← is) (used-le q (stepContext W x (r .lines)))
+      go false none rest f = let no : _≡_ {A = ℕ} 0 1 = cc in absurd (omega arith)
+      go false (some z) rest f = rest z f
 
 -- ---- forward, with any base
 
@@ -143,7 +143,7 @@ module _ (bits q W : ℕ) (strict : Bool) (s t : List ℕ) (n : ℕ) (depth : De
   later x l r y z e [] a b = tt
   later x l r y z e (u ∷ k) a b = (
     record {
-      near = λ c. let f = b .0 .near c in (f .0, (base-later bits q W s x l r y (u .line) (u .position) e (a .0) ∙ f .1, f .2));
+      near = λ c. let f = b .0 .near c in (f .0, base-later bits q W s x l r y (u .line) (u .position) e (a .0) ∙ f .1, f .2);
       held = b .0 .held;
     },
     later x l r y z e k (a .1) (b .1),
@@ -170,7 +170,7 @@ module _ (bits q W : ℕ) (strict : Bool) (s t : List ℕ) (n : ℕ) (depth : De
           together-then (CleanReading s) (writingOf s) (readStep bits q W s x) (reads bits q W s l) (writeStep bits q W strict t n x) (writes bits q W strict t n l) r y z T U,
           (
             record {
-              near = λ c. ((stepLook q W x (r .lines)) .base, (base-here bits q W s x l r, rw stays (L .near c)));
+              near = λ c. ((stepLook q W x (r .lines)) .base, base-here bits q W s x l r, rw stays (L .near c));
               held = λ c g. stays ∙ L .held c g;
             },
             later x l r y z (T .read) l (apart .0) (rest .1 .1),

@@ -134,7 +134,7 @@ module _ (bits q W : ℕ) (strict : Bool) (s t : List ℕ) (n : ℕ) (x : Step) 
     small-prediction = context-le M (r .lines) (W + 2) i (x .position) (ok .small)
 
     -- the sample of the code is near, and the code is below total
-    nearby : v ≤ M → (code < used .total) × (sample code ≤ v + h .base) × (v ≤ sample code + h .base)
+    nearby : v ≤ M → (code < used .total) × IsNear (h .base) v (sample code)
     unfolding lookOf quantiserOf
     nearby small = near-back M (h .base) (used .total) (total-wide bits (h .base)) (h .negative) (c .prediction) v small-prediction small
 
@@ -166,7 +166,7 @@ module _ (bits q W : ℕ) (strict : Bool) (s t : List ℕ) (n : ℕ) (x : Step) 
               same = same-code (b .code) e (b .value) (taken-more s p (b .code .after .0) m (clean .inside) (omega (arith, b .after)) (rw (b .rest-after) d));
             },
             record {
-              near = λ f. rw (put-there (sample (b .code .value)), b .value) (close .1, close .2);
+              near = λ f. rw (put-there (sample (b .code .value)), b .value) (close .1);
               held = λ f. let no : true ≡ false = sym e ∙ f in let z : _≡_ {A = ℕ} 0 1 = cc in absurd (omega arith);
             },
           ),
