@@ -4,6 +4,7 @@ pub mod PassTwins
 pub mod LineTwins
 pub mod BlockTwins
 pub mod BlockLaws
+pub mod WrittenBack
 pub mod AnswerLaws
 pub mod CorrespondenceHolds
 pub mod WriterHolds

@@ -1,0 +1,4 @@
+-- Proofs that lossy blocks read back.
+pub mod NeverWrong
+pub mod LossyHolds
+pub mod LossyCallsHold
