@@ -13,7 +13,8 @@ use Rattle.begin.specs.Beginnings.{firstAbove}
 
 module _ (ignored : ℕ → Bool) (m : ℕ) (t : List ℕ) (i : ℕ) (so-far : firstAbove ignored m 0 t ≡ firstAbove ignored m i (drop i t)) where
   -- the sample at i is passed, or named
-  next-is : i < length t → (b : Bool) → leb (getD t i 0) m || ignored i ≡ b → firstAbove ignored m 0 t ≡ cond b (firstAbove ignored m (i + 1) (drop (i + 1) t)) (some i)
+  next-is : i < length t → (b : Bool) → leb (getD t i 0) m || ignored i ≡ b
+      → firstAbove ignored m 0 t ≡ cond b (firstAbove ignored m (i + 1) (drop (i + 1) t)) (some i)
   unfolding firstAbove
   next-is h b e = so-far ∙ rw (drop-cons t i 0 h, e, add-one)
 

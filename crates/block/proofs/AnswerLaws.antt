@@ -31,7 +31,8 @@ use Rattle.begin.specs.declared.Next.the-variants.{Answer, Store}
 use Rattle.writing.specs.declared.Put.{Put}
 use Rattle.writing.specs.declared.Put.the-variants.{At, Wrong}
 use Rattle.block.specs.WrittenBlocks.{isStrict, writeLines, writtenBlock, tightBlock, SetWanted, FitSet}
-use Rattle.block.specs.WrittenAnswers.{IsSetPut, SetWritten, predictedAnswer, rangeAnswer, measuredAnswer, aboveIn, setAnswer, writtenAnswer, roomFor, outputOf}
+use Rattle.block.specs.WrittenAnswers.{IsSetPut, SetWritten, predictedAnswer, rangeAnswer, measuredAnswer}
+use Rattle.block.specs.WrittenAnswers.{aboveIn, setAnswer, writtenAnswer, roomFor, outputOf}
 use Rattle.block.specs.declared.Form.{Form}
 use Rattle.block.proofs.LineLaws.{width-in-range}
 
@@ -41,7 +42,9 @@ use Rattle.block.proofs.LineLaws.{width-in-range}
 first-none : (ignored : ℕ → Bool) (m i : ℕ) (t : List ℕ) → firstAbove ignored m i t ≡ none → (j : ℕ) → ignored (i + j) ≡ false → getD t j 0 ≤ m
 unfolding firstAbove
 first-none ignored m i [] e = λ j f. omega arith
-first-none ignored m i (v ∷ t) e = go (leb v m) (ignored i) refl refl (λ g k f. first-none ignored m (suc i) t g k (let n : i + suc k ≡ suc i + k = omega arith in rw n at f)) e
+first-none ignored m i (v ∷ t) e =
+    go (leb v m) (ignored i) refl refl
+    (λ g k f. first-none ignored m (suc i) t g k (let n : i + suc k ≡ suc i + k = omega arith in rw n at f)) e
   where
     Rest : Type 0
     Rest = firstAbove ignored m (suc i) t ≡ none → (k : ℕ) → ignored (i + suc k) ≡ false → getD t k 0 ≤ m
@@ -254,7 +257,8 @@ within-none ignored m i (v ∷ t) h = rw (le-leb v m (h 0)) (within-none ignored
 module _ (F : Form) (lines : ℕ) (t : List ℕ) (room : ℕ) where
   pub fits-written : FitSet F lines t → length (tightBlock F lines t) ≤ room → writtenAnswer F lines t room ≡ Length (length (tightBlock F lines t))
   unfolding setAnswer measuredAnswer
-  fits-written f h = rw (within-none (isIgnored (F .xtrans) true) (largest (F .bits)) 0 t (f .range), f .predicted, le-ltb room (length (tightBlock F lines t)) h)
+  fits-written f h =
+      rw (within-none (isIgnored (F .xtrans) true) (largest (F .bits)) 0 t (f .range), f .predicted, le-ltb room (length (tightBlock F lines t)) h)
 
   pub written-fits : (n : ℕ) → length t ≡ setSize (widthOf (F .xtrans)) lines → writtenAnswer F lines t room ≡ Length n
       → FitSet F lines t × (n ≡ length (tightBlock F lines t)) × (n ≤ room)

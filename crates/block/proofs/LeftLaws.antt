@@ -61,7 +61,8 @@ module _ (bases t : List ℕ) (before : Outputs) (begins : Parsed) where
   pub written-set : (measure : Bool) (h : FujiHeader) → begins ≡ Parsing.Header h → (after : Outputs) (a : BlockLength)
       → let block = writtenBlock (formOf h) bases (h .lines) t in
       a ≡ setAnswer (formOf h) bases (h .lines) t (roomFor measure block (before .out)) → after .out ≡ outputOf measure a block (before .out)
-      → after .lines ≡ clearedLines (h .xtrans) (before .lines) → after .records ≡ clearedRecords (before .records) → LeftBy measure bases t begins before after a
+      → after .lines ≡ clearedLines (h .xtrans) (before .lines) → after .records ≡ clearedRecords (before .records)
+      → LeftBy measure bases t begins before after a
   unfolding exactAnswer
   written-set true h e after a answered output lines records = rw e (record { answered = answered; lines = lines; records = records }, output)
   written-set false h e after a answered output lines records =

@@ -20,7 +20,8 @@ use Rattle.stream.specs.declared.FujiHeader.{FujiHeader}
 use Rattle.stream.specs.declared.Parsed.{Parsed}
 use Rattle.stream.specs.declared.Parsed.the-variants as Parsing
 use Rattle.stream.specs.declared.Refusal.{Refusal}
-use Rattle.stream.specs.declared.Refusal.the-variants.{ShortHeader, BadHeader, WrongCount, ShortScratch, AboveLargest, NotPredicted, ShortOutput, Lossless, WrongBases}
+use Rattle.stream.specs.declared.Refusal.the-variants.{ShortHeader, BadHeader, WrongCount, ShortScratch}
+use Rattle.stream.specs.declared.Refusal.the-variants.{AboveLargest, NotPredicted, ShortOutput, Lossless, WrongBases}
 use Rattle.stream.proofs.RefusalLaws.{number-low}
 use Rattle.begin.specs.Beginnings.{isShortScratch, withLossy, lossyBegins}
 use Rattle.begin.proofs.CallLaws.{lossy-goes}
@@ -53,14 +54,16 @@ answered-length F bases count t room n = go (aboveIn F bases t) refl
     predicted none e = sized (ltb room (length (writtenBlock F bases count t))) e
     predicted (some j) e = clash (NotPredicted j) n e
 
-    go : (o : Option ℕ) → aboveIn F bases t ≡ o → rangeAnswer o (predictedAnswer ((writeLines F bases t count) .wrong) (length (writtenBlock F bases count t)) room) ≡ Length n
+    go : (o : Option ℕ) → aboveIn F bases t ≡ o
+        → rangeAnswer o (predictedAnswer ((writeLines F bases t count) .wrong) (length (writtenBlock F bases count t)) room) ≡ Length n
         → (aboveIn F bases t ≡ none) × (n ≡ length (writtenBlock F bases count t))
     go none f e = (f, predicted ((writeLines F bases t count) .wrong) e)
     go (some i) f e = clash (AboveLargest i) n e
 
 -- ---- a call
 
-written : (d bases t : List ℕ) (before after : Outputs) (n : ℕ) → LeftLossy bases t (lossyOf d bases t before) before after (Length n) → LossyWritten d bases t before after n
+written : (d bases t : List ℕ) (before after : Outputs) (n : ℕ) → LeftLossy bases t (lossyOf d bases t before) before after (Length n)
+    → LossyWritten d bases t before after n
 written d bases t before after n = from (lossyOf d bases t before) refl
   where
     from : (p : Parsed) → lossyOf d bases t before ≡ p → LeftLossy bases t p before after (Length n) → LossyWritten d bases t before after n
@@ -92,7 +95,8 @@ begins-other d k n a b x j = parsed (ltb (length d) 16) (allRules d)
     no h e = let z : _≡_ {A = ℕ} 0 1 = cc in absurd (omega arith)
 
     set : (h : FujiHeader) (l c m s : Bool)
-        → cond l (Parsing.Refused Lossless) (cond c (cond m (cond s (Parsing.Refused ShortScratch) (Parsing.Header h)) (Parsing.Refused WrongCount)) (Parsing.Refused WrongBases)) ≡ Parsing.Refused x
+        → cond l (Parsing.Refused Lossless) (cond c (cond m (cond s (Parsing.Refused ShortScratch) (Parsing.Header h)) (Parsing.Refused WrongCount))
+        (Parsing.Refused WrongBases)) ≡ Parsing.Refused x
         → x ≢ NotPredicted j
     set h true c m s e = is Lossless (λ z. omega arith) e
     set h false false m s e = is WrongBases (λ z. omega arith) e
@@ -101,7 +105,8 @@ begins-other d k n a b x j = parsed (ltb (length d) 16) (allRules d)
     set h false true true false e = no h e
 
     parsed : (p q : Bool)
-        → withLossy (cond p (Parsing.Refused ShortHeader) (cond q (Parsing.Header (headerOf d)) (Parsing.Refused BadHeader))) k n a b ≡ Parsing.Refused x → x ≢ NotPredicted j
+        → withLossy (cond p (Parsing.Refused ShortHeader) (cond q (Parsing.Header (headerOf d)) (Parsing.Refused BadHeader))) k n a b ≡ Parsing.Refused x
+        → x ≢ NotPredicted j
     parsed true q e = is ShortHeader (λ z. omega arith) e
     parsed false false e = is BadHeader (λ z. omega arith) e
     parsed false true e =
@@ -111,7 +116,8 @@ begins-other d k n a b x j = parsed (ltb (length d) 16) (allRules d)
 -- and what is answered then
 answers-other : (F : Form) (bases : List ℕ) (count : ℕ) (t : List ℕ) (room j : ℕ) → 1 ≤ length bases → setAnswer F bases count t room ≢ Refused (NotPredicted j)
 unfolding setAnswer measuredAnswer
-answers-other F bases count t room j h = rw (never-wrong F bases t (not-strict bases h) count) (go (aboveIn F bases t) (ltb room (length (writtenBlock F bases count t))))
+answers-other F bases count t room j h =
+    rw (never-wrong F bases t (not-strict bases h) count) (go (aboveIn F bases t) (ltb room (length (writtenBlock F bases count t))))
   where
     other : (x : Refusal) → refusalNumber x ≢ 12 → Refused x ≢ Refused (NotPredicted j)
     other x ne e = let q : x ≡ NotPredicted j = cc in ne (ap refusalNumber q)

@@ -75,7 +75,8 @@ module _ (F : Form) (bases : List ℕ) (count : ℕ) (t s : List ℕ) (shown : (
       let W : ℕ = widthOf (F .xtrans) in
       let pos : 0 < W = omega (arith, width-in-range (F .xtrans) W refl .0) in
       let n : ℕ = lineAt W j in
-      let x = all-lines F bases s t n (shown n (line-lt W count j pos h)) (j % lineSize W / W) (rank-lt W count j pos h) (positionAt W j) (position-lt W count j pos h) f in
+      let all = all-lines F bases s t n (shown n (line-lt W count j pos h)) in
+      let x = all (j % lineSize W / W) (rank-lt W count j pos h) (positionAt W j) (position-lt W count j pos h) f in
       record { base = x .0; used = x .1; low = x .2; near = rw (index-at W count j pos h) at (x .3) }
 
 -- ---- the block
@@ -95,7 +96,8 @@ module _ (F : Form) (bases : List ℕ) (depth : Depth (F .bits)) (count : ℕ) (
         near = reads-near F bases count t (writtenBlock F bases count t) (R .shown);
       }
 
-  pub lossy-answered : (room : ℕ) → length (writtenBlock F bases count t) ≤ room → setAnswer F bases count t room ≡ Length (length (writtenBlock F bases count t))
+  pub lossy-answered : (room : ℕ) → length (writtenBlock F bases count t) ≤ room
+      → setAnswer F bases count t room ≡ Length (length (writtenBlock F bases count t))
   unfolding setAnswer measuredAnswer
   lossy-answered room h = rw (low, right, le-ltb room (length (writtenBlock F bases count t)) h)
 

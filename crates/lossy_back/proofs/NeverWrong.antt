@@ -37,7 +37,8 @@ module _ (bits q W : ℕ) (t : List ℕ) (n : ℕ) where
   writes-keep-wrong (x ∷ l) r = writes-keep-wrong l (writeStep bits q W false t n x r) ∙ step-keeps-wrong x r
 
 -- what each of some things keeps, all of them keep
-repeats-keep-wrong : (f : ℕ → WriteState → WriteState) → ((i : ℕ) (r : WriteState) → (f i r) .wrong ≡ r .wrong) → (n : ℕ) (r : WriteState) → (repeats f n r) .wrong ≡ r .wrong
+repeats-keep-wrong : (f : ℕ → WriteState → WriteState) → ((i : ℕ) (r : WriteState) → (f i r) .wrong ≡ r .wrong) → (n : ℕ) (r : WriteState)
+    → (repeats f n r) .wrong ≡ r .wrong
 unfolding repeats
 repeats-keep-wrong f k zero r = refl
 repeats-keep-wrong f k (suc n) r = k n (repeats f n r) ∙ repeats-keep-wrong f k n r

@@ -38,8 +38,8 @@ use Rattle.block.specs.declared.Form.{Form}
 unfoldable pub passOf : ℕ → ℕ
 passOf l = getD (0 ∷ 0 ∷ 0 ∷ 2 ∷ 4 ∷ 0 ∷ 0 ∷ 0 ∷ 1 ∷ 2 ∷ 3 ∷ 4 ∷ 5 ∷ 0 ∷ 0 ∷ 1 ∷ 3 ∷ 5 ∷ []) l 0
 
--- the base of the quantiser that the reading of the block s picks for position p of colour line l in line n, as it comes there: after the lines before, the passes of
--- its line before, and the steps of its pass before
+-- the base of the quantiser that the reading of the block s picks for position p of colour line l in line n, as it comes there: after the lines
+-- before it, the passes before it in its line, and the steps before it in its pass
 unfoldable pub baseAt : Form → (bases s : List ℕ) → ℕ → ℕ → ℕ → Option ℕ
 baseAt F bases s n l p =
     let q = baseOf bases n in
@@ -67,12 +67,13 @@ pub record LossyBlock (F : Form) (bases : List ℕ) (lines : ℕ) (t s : List �
   pub near : let W = widthOf (F .xtrans) in
       (j : ℕ) → j < setSize W lines → isInterpolated (F .xtrans) (colourLineAt W j) (positionAt W j) ≡ false → ReadsNear F bases t s j
 
--- under every lossy header that breaks no rule, for as many bases as lines and every set of the right size with no sample that has a code above 2^bits − 1: that is the
--- block that is written, and its length is answered where there is room for it
+-- that is the block that is written, and its length is answered where there is room for it
 pub record Writes (F : Form) (bases : List ℕ) (lines : ℕ) (t : List ℕ) : Type 0 where
   pub block : LossyBlock F bases lines t (writtenBlock F bases lines t)
   pub answered : (room : ℕ) → length (writtenBlock F bases lines t) ≤ room → setAnswer F bases lines t room ≡ Length (length (writtenBlock F bases lines t))
 
+-- under every lossy header that breaks no rule, for as many bases as lines and every set of the right size of which no sample that has a code is
+-- above 2^bits − 1
 abbrev pub LossyBlocks : Type 0
 LossyBlocks =
     (d bases t : List ℕ) (h : FujiHeader) → parseOf d ≡ Header h → h .lossless ≡ false

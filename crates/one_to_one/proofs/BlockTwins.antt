@@ -49,7 +49,8 @@ module _ (F : Form) (bases s : List ℕ) where
   next-read n y z e f = rw e f
 
   -- what the lines hold stays true as others are read, since it is said of the lines after their own line
-  each : (t : List ℕ) (high : F .bits ≤ 16) (most : ℕ) (Hold : ℕ → Type 0) → Each s (readLineAt F bases s) (writeLine F bases t) start most (SoundState F) (λ m z. Hold m)
+  each : (t : List ℕ) (high : F .bits ≤ 16) (most : ℕ) (Hold : ℕ → Type 0)
+      → Each s (readLineAt F bases s) (writeLine F bases t) start most (SoundState F) (λ m z. Hold m)
   each t high most Hold =
       record {
         start = start-sound;
@@ -68,11 +69,13 @@ Shown F bases s t m = (r : State) × (readLines F bases s m ≡ some r) × LineL
 module _ (F : Form) (bases : List ℕ) (depth : Depth (F .bits)) (s t : List ℕ) where
   -- where the bits of n lines stand, the lines are read
   pub lines-forward : SetWanted F t → (n : ℕ) → StoredState s (writeLines F bases t n)
-      → (z : State) × ((readLines F bases s n ≡ some z) × CleanState s z × (writeLines F bases t n ≡ writeStateOf s z) × ((m : ℕ) → m < n → Shown F bases s t m))
+      → (z : State) × ((readLines F bases s n ≡ some z) × CleanState s z × (writeLines F bases t n ≡ writeStateOf s z) × ((m : ℕ) → m < n
+      → Shown F bases s t m))
   unfolding readLines writeLines start
   lines-forward range n stored =
       let all =
-      runs-forward s (readLineAt F bases s) (writeLine F bases t) (start F bases s) n (SoundState F) (λ m z. Shown F bases s t m) (each F bases s t (depth .1) n (Shown F bases s t))
+      runs-forward s (readLineAt F bases s) (writeLine F bases t) (start F bases s) n (SoundState F) (λ m z. Shown F bases s t m)
+      (each F bases s t (depth .1) n (Shown F bases s t))
       (start-clean F bases s) one n (le-refl n) (rw (start-same F bases s) at stored) in
       let T = all .1 .0 in
       (all .0, (T .read, T .clean, rw (start-same F bases s) (T .same), all .1 .1))
@@ -106,7 +109,8 @@ shown-exact F s t m S =
 
 module _ (F : Form) (Q : Lossless (F .bits)) (s t : List ℕ) where
   -- where n lines were read, and show the set's samples, their bits stand
-  pub lines-backward : (n : ℕ) (z : State) → readLines F [] s n ≡ some z → CleanState s z → ((m : ℕ) → m < n → Shows F s t m) → writeLines F [] t n ≡ writeStateOf s z
+  pub lines-backward : (n : ℕ) (z : State) → readLines F [] s n ≡ some z → CleanState s z → ((m : ℕ) → m < n → Shows F s t m)
+      → writeLines F [] t n ≡ writeStateOf s z
   unfolding readLines writeLines start
   lines-backward n z e clean shows =
       let all =

@@ -36,7 +36,8 @@ use Rattle.one_to_one.proofs.RunTwins.{writeStateOf}
 -- samples in 0..M are so where they have a code
 range-wanted : (F : Form) (t : List ℕ) → ((j : ℕ) → getD t j 0 ≤ largest (F .bits)) → SetWanted F t
 range-wanted F t range n i below =
-    coded-wanted (largest (F .bits)) (widthOf (F .xtrans)) t n (width-in-range (F .xtrans) (widthOf (F .xtrans)) refl .2) (F .xtrans) i below (λ c p hc hp e. range _)
+    let even = width-in-range (F .xtrans) (widthOf (F .xtrans)) refl .2 in
+    coded-wanted (largest (F .bits)) (widthOf (F .xtrans)) t n even (F .xtrans) i below (λ c p hc hp e. range _)
 
 module _ (F : Form) (depth : Depth (F .bits)) (Q : Lossless (F .bits)) (lines : ℕ) where
   abbrev W : ℕ
@@ -112,9 +113,9 @@ pub correspondence : (F : Form) (lines : ℕ) → Depth (F .bits) → Correspond
 correspondence F lines depth =
     record {
       same = same;
-      sets = λ t. (λ p. from-set t (fits-is F lines t .1 p), λ (a : TightBlockOf F lines t). fits-is F lines t .0 (subst (FitSet F lines) (a .reads) (fits F depth Q lines (a .block) (a .tight))));
+      sets = λ t. (λ p. from-set t (fits-is F lines t .1 p), λ a. fits-is F lines t .0 (to-set t a));
       one = λ t a b. same (a .block) (b .block) (a .bytes) (b .bytes) (a .tight) (b .tight) .1 (a .reads ∙ sym (b .reads));
-      written = λ t p. let f = fits-is F lines t .1 p in (written-bytes F depth Q lines t f, written-tight F depth Q lines t f, written-set F depth Q lines t f);
+      written = λ t p. written t (fits-is F lines t .1 p);
       accepted = λ b s. (done-tight F s b lines, tight-done F s b lines);
       shown = set-shown F lines;
     }
@@ -125,6 +126,13 @@ correspondence F lines depth =
     same : (a b : List ℕ) → Bytes a → Bytes b → Tight F lines a → Tight F lines b → (a ≡ b) ↔ (setRead F lines a ≡ setRead F lines b)
     same a b ha hb ta tb =
         (λ e. ap (setRead F lines) e, λ e. sym (block-is F depth Q lines a ta ha) ∙ ap (tightBlock F lines) e ∙ block-is F depth Q lines b tb hb)
+
+    written : (t : List ℕ) → FitSet F lines t
+        → Bytes (tightBlock F lines t) × Tight F lines (tightBlock F lines t) × (setRead F lines (tightBlock F lines t) ≡ t)
+    written t f = (written-bytes F depth Q lines t f, written-tight F depth Q lines t f, written-set F depth Q lines t f)
+
+    to-set : (t : List ℕ) → TightBlockOf F lines t → FitSet F lines t
+    to-set t a = subst (FitSet F lines) (a .reads) (fits F depth Q lines (a .block) (a .tight))
 
     from-set : (t : List ℕ) → FitSet F lines t → TightBlockOf F lines t
     from-set t f =

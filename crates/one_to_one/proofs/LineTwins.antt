@@ -96,7 +96,8 @@ module _ (F : Form) (bases : List ℕ) (high : F .bits ≤ 16) (s : List ℕ) (n
 -- what these lines have of line n, which was read from the state r on: of both lines of each pass, by the state before that pass
 abbrev pub LineLeft : Form → (bases s t : List ℕ) → ℕ → State → List ℕ → Type 0
 LineLeft F bases s t n r lines =
-    (i : ℕ) → i < 6 → (y : State) × (runs (passAt F (baseOf bases n) s) i (beforeLine F bases n r) ≡ some y) × PassLeft F (baseOf bases n) (isStrict bases) s t n i y lines
+    let q = baseOf bases n in
+    (i : ℕ) → i < 6 → (y : State) × (runs (passAt F q s) i (beforeLine F bases n r) ≡ some y) × PassLeft F q (isStrict bases) s t n i y lines
 
 module _ (F : Form) (bases : List ℕ) (depth : Depth (F .bits)) (s t : List ℕ) (n : ℕ) where
   abbrev Q : ℕ
@@ -109,11 +110,15 @@ module _ (F : Form) (bases : List ℕ) (depth : Depth (F .bits)) (s t : List ℕ
   abbrev PassHold : State → ℕ → State → Type 0
   PassHold r c z = (y : State) × (runs (passAt F Q s) c r ≡ some y) × PassLeft F Q strict s t n c y (z .lines)
 
-  hold-same : (r : State) (c : ℕ) (y z : State) → ((p : ℕ) → p < widthOf (F .xtrans)
-      → (getD (z .lines) ((planOf (F .xtrans) c) .first * (widthOf (F .xtrans) + 2) + p + 1) 0 ≡ getD (y .lines) ((planOf (F .xtrans) c) .first * (widthOf (F .xtrans) + 2) + p + 1) 0)
-      × (getD (z .lines) ((planOf (F .xtrans) c) .second * (widthOf (F .xtrans) + 2) + p + 1) 0 ≡ getD (y .lines) ((planOf (F .xtrans) c) .second * (widthOf (F .xtrans) + 2) + p + 1) 0))
+  -- colour line l is in both states the same
+  abbrev Kept : ℕ → State → State → Type 0
+  Kept l y z =
+      (p : ℕ) → p < widthOf (F .xtrans)
+      → getD (z .lines) (l * (widthOf (F .xtrans) + 2) + p + 1) 0 ≡ getD (y .lines) (l * (widthOf (F .xtrans) + 2) + p + 1) 0
+
+  hold-same : (r : State) (c : ℕ) (y z : State) → Kept ((planOf (F .xtrans) c) .first) y z → Kept ((planOf (F .xtrans) c) .second) y z
       → PassHold r c y → PassHold r c z
-  hold-same r c y z same h = (h .0, h .1, λ p k. (moved _ p (same p k .0) (h .2 p k .0), moved _ p (same p k .1) (h .2 p k .1)))
+  hold-same r c y z first second h = (h .0, h .1, λ p k. (moved _ p (first p k) (h .2 p k .0), moved _ p (second p k) (h .2 p k .1)))
     where
       moved : (l p : ℕ) → getD (z .lines) (l * (widthOf (F .xtrans) + 2) + p + 1) 0 ≡ getD (y .lines) (l * (widthOf (F .xtrans) + 2) + p + 1) 0
           → LeftBy F Q strict s t n c (h .0) (y .lines) l p → LeftBy F Q strict s t n c (h .0) (z .lines) l p
@@ -125,8 +130,10 @@ module _ (F : Form) (bases : List ℕ) (depth : Depth (F .bits)) (s t : List ℕ
         start = ok;
         sound = λ i y z k e. pass-sound F Q (depth .1) s i y k z e;
         stored = λ i w. stored-before s (writePassAt F Q strict t n i) w (passAt-adds F Q strict t n i w) (passAt-right F Q strict t n i w);
-        still = λ i c y z hi k q e h. let m = same-lines F bases (depth .1) s n i c y z hi k q e in hold-same r c y z (λ p j. (m .0 p j, m .1 p j)) h;
-        was = λ i c y z hi k q e h. let m = same-lines F bases (depth .1) s n i c y z hi k q e in hold-same r c z y (λ p j. (sym (m .0 p j), sym (m .1 p j))) h;
+        still = λ i c y z hi k q e h. let m = same-lines F bases (depth .1) s n i c y z hi k q e in hold-same r c y z (m .0) (m .1) h;
+        was = λ i c y z hi k q e h.
+            let m = same-lines F bases (depth .1) s n i c y z hi k q e in
+            hold-same r c z y (λ p j. sym (m .0 p j)) (λ p j. sym (m .1 p j)) h;
       }
 
   -- where the bits of a line stand, the line is read
@@ -136,7 +143,8 @@ module _ (F : Form) (bases : List ℕ) (depth : Depth (F .bits)) (s t : List ℕ
   line-forward range r ok clean stored =
       let b : State = before F bases (depth .1) s n r in
       let all =
-      runs-forward s (passAt F Q s) (writePassAt F Q strict t n) b 6 (SoundState F) (PassHold b) (passes-left b (before-sound F bases (depth .1) s n r ok)) clean
+      runs-forward s (passAt F Q s) (writePassAt F Q strict t n) b 6 (SoundState F) (PassHold b)
+      (passes-left b (before-sound F bases (depth .1) s n r ok)) clean
       (λ i y h e k c st. let one = passAt-forward F Q (depth .1) s i y k h t n strict depth range c st in (one .0, (one .1 .0, (y, e, one .1 .1))))
       6 (omega arith) stored in
       let z : State = all .0 in
@@ -153,11 +161,14 @@ module _ (F : Form) (Q : Lossless (F .bits)) (s t : List ℕ) (n : ℕ) where
         sound = λ i y z q e. pass-sound F 0 (Q .high) s i y q z e;
         stored = λ i w. stored-before s (writePassAt F 0 true t n i) w (passAt-adds F 0 true t n i w) (passAt-right F 0 true t n i w);
         still = λ i c y z hi k q e h. let m = same-lines F [] (Q .high) s n i c y z hi k q e in (λ p j. m .0 p j ∙ h .0 p j, λ p j. m .1 p j ∙ h .1 p j);
-        was = λ i c y z hi k q e h. let m = same-lines F [] (Q .high) s n i c y z hi k q e in (λ p j. sym (m .0 p j) ∙ h .0 p j, λ p j. sym (m .1 p j) ∙ h .1 p j);
+        was = λ i c y z hi k q e h.
+            let m = same-lines F [] (Q .high) s n i c y z hi k q e in
+            (λ p j. sym (m .0 p j) ∙ h .0 p j, λ p j. sym (m .1 p j) ∙ h .1 p j);
       }
 
   -- where a line was read, its bits stand
-  pub line-backward : (r z : State) → SoundState F r → readLineAt F [] s n r ≡ some z → CleanState s z → LineHolds (widthOf (F .xtrans)) t n (z .lines) → StateBack s (writeLine F [] t n) r z
+  pub line-backward : (r z : State) → SoundState F r → readLineAt F [] s n r ≡ some z → CleanState s z
+      → LineHolds (widthOf (F .xtrans)) t n (z .lines) → StateBack s (writeLine F [] t n) r z
   unfolding writeLine
   line-backward r z ok e clean holds =
       let b : State = before F [] (Q .high) s n r in

@@ -141,6 +141,7 @@ module _ (F : Form) (Q : Lossless (F .bits)) (s : List ℕ) (i : ℕ) (r : State
       go y z f is clean holds =
           let P : Plan = planOf (F .xtrans) i in
           let B =
-          pass-backward (F .bits) (widthOf (F .xtrans)) s t n Q P (even F 0 (Q .high) s i r ok) (plan-in-range (F .xtrans) i below .0) (two-lines (F .xtrans) i below)
-          (enter F P r) (sound F 0 (Q .high) s i r ok) y f (rw (← is) at clean) (rw (← is) at (holds .0)) (rw (← is) at (holds .1)) in
+          pass-backward (F .bits) (widthOf (F .xtrans)) s t n Q P (even F 0 (Q .high) s i r ok) (plan-in-range (F .xtrans) i below .0)
+          (two-lines (F .xtrans) i below) (enter F P r) (sound F 0 (Q .high) s i r ok) y f
+          (rw (← is) at clean) (rw (← is) at (holds .0)) (rw (← is) at (holds .1)) in
           record { clean = B .clean; same = ap (leaveWriting P (writeStateOf s r)) (B .same) ∙ ap (writeStateOf s) is }

@@ -24,7 +24,8 @@ pub record ReadWhole (F : Form) (bases : List ℕ) (lines : ℕ) (t s : List ℕ
   pub tail : isTail s (end .at .0) ≡ true
   pub shown : (m : ℕ) → m < lines → Shown F bases s t m
 
-module _ (F : Form) (bases : List ℕ) (depth : Depth (F .bits)) (lines : ℕ) (t : List ℕ) (range : SetWanted F t) (right : (writeLines F bases t lines) .wrong ≡ none) where
+module _ (F : Form) (bases : List ℕ) (depth : Depth (F .bits)) (lines : ℕ) (t : List ℕ) (range : SetWanted F t)
+    (right : (writeLines F bases t lines) .wrong ≡ none) where
   abbrev bits : List Bool
   bits = (writeLines F bases t lines) .bits
 
@@ -48,7 +49,8 @@ module _ (F : Form) (bases : List ℕ) (depth : Depth (F .bits)) (lines : ℕ) (
   -- it is read, up to as many bits as were written
   tail : (z : State) → CleanState s z → writeLines F bases t lines ≡ writeStateOf s z → Tail s (z .at .0)
   tail z clean same =
-      let e : length bits ≡ z .at .0 = ap (λ (w : WriteState). length (w .bits)) same ∙ length-take-le (z .at .0) (bitsOf s) (rw (length-bits s) (clean .inside)) in
+      let taken = length-take-le (z .at .0) (bitsOf s) (rw (length-bits s) (clean .inside)) in
+      let e : length bits ≡ z .at .0 = ap (λ (w : WriteState). length (w .bits)) same ∙ taken in
       record { full = rw (← e) s-length; inside = clean .inside; zeros = rw (← e, s-length) rest }
 
   pub read-whole : ReadWhole F bases lines t (writtenBlock F bases lines t)

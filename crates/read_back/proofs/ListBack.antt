@@ -99,7 +99,8 @@ module _ (bits q W : ℕ) (s : List ℕ) where
   base-later x l r y m p e ne = go (eqb (x .line) m) (eqb (x .position) p) refl refl
     where
       go : (a b : Bool) → eqb (x .line) m ≡ a → eqb (x .position) p ≡ b
-          → cond (a && b) (some ((stepLook q W x (r .lines)) .base)) (andThen (readStep bits q W s x r) (λ z. baseInSteps bits q W s m p l z)) ≡ baseInSteps bits q W s m p l y
+          → cond (a && b) (some ((stepLook q W x (r .lines)) .base)) (andThen (readStep bits q W s x r) (λ z. baseInSteps bits q W s m p l z))
+          ≡ baseInSteps bits q W s m p l y
       go true true f g = absurd (ne (rw (eqb-true (x .line) m f, eqb-true (x .position) p g)))
       go true false f g = rw e
       go false b f g = rw e
@@ -110,7 +111,8 @@ module _ (bits q W : ℕ) (s : List ℕ) where
   base-le m p [] r b e = let no : _≡_ {A = ℕ} 0 1 = cc in absurd (omega arith)
   base-le m p (x ∷ l) r b e = go (eqb (x .line) m && eqb (x .position) p) (readStep bits q W s x r) (λ z f. base-le m p l z b f) e
     where
-      go : (here : Bool) (o : Option Reading) → ((z : Reading) → baseInSteps bits q W s m p l z ≡ some b → b ≤ q) → cond here (some ((stepLook q W x (r .lines)) .base)) (andThen o (λ z. baseInSteps bits q W s m p l z)) ≡ some b → b ≤ q
+      go : (here : Bool) (o : Option Reading) → ((z : Reading) → baseInSteps bits q W s m p l z ≡ some b → b ≤ q)
+          → cond here (some ((stepLook q W x (r .lines)) .base)) (andThen o (λ z. baseInSteps bits q W s m p l z)) ≡ some b → b ≤ q
       go true o rest f = let is : (stepLook q W x (r .lines)) .base ≡ b = cc in rw (← is) (used-le q (stepContext W x (r .lines)))
       go false none rest f = let no : _≡_ {A = ℕ} 0 1 = cc in absurd (omega arith)
       go false (some z) rest f = rest z f
@@ -139,7 +141,8 @@ module _ (bits q W : ℕ) (strict : Bool) (s t : List ℕ) (n : ℕ) (depth : De
       (λ e. writes-right bits q W strict t n l w (rw (writes-add bits q W strict t n l w) e))
 
   -- what the steps after x leave is left after x too
-  later : (x : Step) (l : List Step) (r y z : Reading) → readStep bits q W s x r ≡ some y → (k : List Step) → All (λ u. cell W x ≢ cell W u) k → All (Left l y z) k → All (Left (x ∷ l) r z) k
+  later : (x : Step) (l : List Step) (r y z : Reading) → readStep bits q W s x r ≡ some y → (k : List Step) → All (λ u. cell W x ≢ cell W u) k
+      → All (Left l y z) k → All (Left (x ∷ l) r z) k
   later x l r y z e [] a b = tt
   later x l r y z e (u ∷ k) a b = (
     record {
@@ -167,7 +170,7 @@ module _ (bits q W : ℕ) (strict : Bool) (s t : List ℕ) (n : ℕ) (depth : De
       let stays : getD (z .lines) (cell W x) 0 ≡ getD (y .lines) (cell W x) 0 = steps-leave bits q W s (cell W x) l y z (apart .0) (U .read) in (
         z,
         (
-          together-then (CleanReading s) (writingOf s) (readStep bits q W s x) (reads bits q W s l) (writeStep bits q W strict t n x) (writes bits q W strict t n l) r y z T U,
+          together-then (CleanReading s) (writingOf s) (readStep bits q W s x) (reads bits q W s l) _ _ r y z T U,
           (
             record {
               near = λ c. ((stepLook q W x (r .lines)) .base, base-here bits q W s x l r, rw stays (L .near c));

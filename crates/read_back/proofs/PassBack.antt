@@ -28,7 +28,8 @@ abbrev pub Holds : ℕ → List ℕ → ℕ → List ℕ → ℕ → Type 0
 Holds W t n lines l = (p : ℕ) → p < W → getD lines (l * (W + 2) + p + 1) 0 ≡ getD t (indexIn W n l p) 0
 
 -- lines of other passes are left as they are
-pub pass-leaves : (bits q W : ℕ) (s : List ℕ) (P : Plan) (r z : Reading) (l p : ℕ) → W % 2 ≡ 0 → p < W → l ≢ P .first → l ≢ P .second → readPass bits q W s P r ≡ some z
+pub pass-leaves : (bits q W : ℕ) (s : List ℕ) (P : Plan) (r z : Reading) (l p : ℕ) → W % 2 ≡ 0 → p < W → l ≢ P .first → l ≢ P .second
+    → readPass bits q W s P r ≡ some z
     → getD (z .lines) (l * (W + 2) + p + 1) 0 ≡ getD (r .lines) (l * (W + 2) + p + 1) 0
 unfolding readPass
 pass-leaves bits q W s P r z l p even h a b e =
@@ -41,8 +42,8 @@ in-lines W P even in-range = pass-all W P even (λ l p. (l ≤ 17) × (p < W)) (
 
 -- ---- forward, with any base
 
--- position p of colour line l, in line n of the set t: what these lines have of it once the steps were read from r on. A sample with a code is near, by the base that
--- was found for it; an interpolated one is the set's, where the set is held to it
+-- position p of colour line l, in line n of the set t: what these lines have of it once the steps were read from r on. A sample with a code is
+-- near, by the base that was found for it; an interpolated one is the set's, where the set is held to it
 pub record PlaceLeft (bits q W : ℕ) (strict xtrans : Bool) (s t : List ℕ) (n : ℕ) (all : List Step) (r : Reading) (lines : List ℕ) (l p : ℕ) : Type 0 where
   pub near : isInterpolated xtrans l p ≡ false
       → (b : ℕ) × (baseInSteps bits q W s l p all r ≡ some b) × IsNear b (getD t (indexIn W n l p) 0) (getD lines (l * (W + 2) + p + 1) 0)
@@ -73,7 +74,8 @@ module _ (bits q W : ℕ) (strict xtrans : Bool) (s t : List ℕ) (n : ℕ) wher
           let low : b ≤ q = base-le bits q W s l p all r b (f .1) in
           omega (arith, low, zero-base, f .2 .0, f .2 .1)
 
-  module _ (depth : Depth bits) (P : Plan) (even : W % 2 ≡ 0) (in-range : PlanInRange P) (two : P .first ≢ P .second) (coded : All (CodedIn xtrans) (passSteps W P)) (r : Reading) where
+  module _ (depth : Depth bits) (P : Plan) (even : W % 2 ≡ 0) (in-range : PlanInRange P) (two : P .first ≢ P .second)
+      (coded : All (CodedIn xtrans) (passSteps W P)) (r : Reading) where
     abbrev pub Left-at : List ℕ → ℕ → ℕ → Type 0
     Left-at lines l p = PlaceLeft bits q W strict xtrans s t n (passSteps W P) r lines l p
 
@@ -86,7 +88,8 @@ module _ (bits q W : ℕ) (strict xtrans : Bool) (s t : List ℕ) (n : ℕ) wher
     at-place z x L c = record { near = λ i. L .near (c ∙ ap not i); held = λ i g. L .held (c ∙ ap not i) g }
 
     -- where the bits of a pass stand, the pass is read
-    pub pass-forward : Sound bits W (r .lines) → Wanted (largest bits) W t n (passSteps W P) → CleanReading s r → StoredWriting s (writePass bits q W strict t n P (writingOf s r))
+    pub pass-forward : Sound bits W (r .lines) → Wanted (largest bits) W t n (passSteps W P) → CleanReading s r
+        → StoredWriting s (writePass bits q W strict t n P (writingOf s r))
         → (z : Reading) × PassForward z
     unfolding readPass writePass
     pass-forward ok range clean stored =
@@ -98,7 +101,8 @@ module _ (bits q W : ℕ) (strict xtrans : Bool) (s t : List ℕ) (n : ℕ) wher
 
 -- ---- backward, lossless
 
-module _ (bits W : ℕ) (s t : List ℕ) (n : ℕ) (Q : Lossless bits) (P : Plan) (even : W % 2 ≡ 0) (in-range : PlanInRange P) (two : P .first ≢ P .second) (r : Reading) where
+module _ (bits W : ℕ) (s t : List ℕ) (n : ℕ) (Q : Lossless bits) (P : Plan) (even : W % 2 ≡ 0) (in-range : PlanInRange P)
+    (two : P .first ≢ P .second) (r : Reading) where
   abbrev pub PassBack : Reading → Type 0
   PassBack z = Back (CleanReading s) (writingOf s) (writePass bits 0 W true t n P) r z
 

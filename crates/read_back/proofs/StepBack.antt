@@ -100,7 +100,8 @@ module _ (bits W : ℕ) (s t : List ℕ) (n : ℕ) (Q : Lossless bits) (x : Step
       let b : Stands M s p k limit raw d = stands-there M s p k limit raw d read (ts .1) (clean .inside) in
       let m : List Bool = codeBits k limit raw (d .value) in
       let small : v ≤ M = rw (← is) (sample-le M 0 (suc M) (h .negative) (c .prediction) (d .value)) in
-      let value : d .value ≡ codeNear 0 ((usedQuantiser bits 0 0) .total) (h .negative) (c .prediction) v = sym (one .there (d .value) (b .small)) ∙ rw is (sym (exact small)) in
+      let value : d .value ≡ codeNear 0 ((usedQuantiser bits 0 0) .total) (h .negative) (c .prediction) v =
+      sym (one .there (d .value) (b .small)) ∙ rw is (sym (exact small)) in
       let len : length m ≡ codeLength k limit raw (d .value) = length-codeBits k limit raw (d .value) in
       let before : p ≤ 8 * length s = omega (arith, b .after, clean .inside) in
       record {

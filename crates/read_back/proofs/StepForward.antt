@@ -143,7 +143,8 @@ module _ (bits q W : ℕ) (strict : Bool) (s t : List ℕ) (n : ℕ) (x : Step) 
     total-small = total-le bits (usedBase q (h .choice))
 
     -- its bits are read where they stand
-    coded-forward : x .coded ≡ true → CleanReading s r → v ≤ M → Starts s (take p (bitsOf s) ++ codeBits k (used .limit) (used .raw) code) → (z : Reading) × StepForward z
+    coded-forward : x .coded ≡ true → CleanReading s r → v ≤ M → Starts s (take p (bitsOf s) ++ codeBits k (used .limit) (used .raw) code)
+        → (z : Reading) × StepForward z
     coded-forward e clean small starts =
         let m : List Bool = codeBits k (used .limit) (used .raw) code in
         let close = nearby small in
@@ -151,7 +152,8 @@ module _ (bits q W : ℕ) (strict : Bool) (s t : List ℕ) (n : ℕ) (x : Step) 
         let top : ℕ = 2 ^ (used .raw) in
         let d : drop p (bitsOf s) ≡ m ++ drop (p + length m) (bitsOf s) = starts-at s p m (clean .inside) starts in
         let b : ReadBack top s p k (used .limit) (used .raw) code (drop (p + length m) (bitsOf s)) =
-        read-back top s p k (used .limit) (used .raw) (numbers .0) (le-refl top) code (drop (p + length m) (bitsOf s)) (omega (arith, close .0, numbers .3)) d in
+        read-back top s p k (used .limit) (used .raw) (numbers .0) (le-refl top) code (drop (p + length m) (bitsOf s))
+        (omega (arith, close .0, numbers .3)) d in
         let len : length m ≡ codeLength k (used .limit) (used .raw) code = length-codeBits k (used .limit) (used .raw) code in
         let end : p + length m ≤ 8 * length s = within s p m (clean .inside) d in
         let low : b .code .value ≤ M = omega (arith, b .value, close .0, total-small, pow-pos bits) in (
@@ -179,7 +181,9 @@ module _ (bits q W : ℕ) (strict : Bool) (s t : List ℕ) (n : ℕ) (x : Step) 
         record { read = step-interpolated bits q W s x r e; clean = clean; same = same-interpolated e right },
         record {
           near = λ f. let no : true ≡ false = sym f ∙ e in let z : _≡_ {A = ℕ} 0 1 = cc in absurd (omega arith);
-          held = λ f g. put-there (c .prediction) ∙ sym (eqb-true v (c .prediction) (told (eqb v (c .prediction)) (indexIn W n (x .line) (x .position)) (rw g at right)));
+          held = λ f g.
+              let is = told (eqb v (c .prediction)) (indexIn W n (x .line) (x .position)) (rw g at right) in
+              put-there (c .prediction) ∙ sym (eqb-true v (c .prediction) is);
         },
       ),
     )
