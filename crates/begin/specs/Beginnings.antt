@@ -1,5 +1,5 @@
 -- How a call begins: a refusal, nothing to do, or a header to go by. A call that is refused touches no buffer. Refusals come in the order of their
--- numbers. Assumes nothing.
+-- numbers, but for the lossy writer's: there 16 stands in the place of 8, and 17 follows it. Assumes nothing.
 use mathlib.Core.Bool.{Bool, true, false, cond, not, _&&_, _||_}
 use mathlib.Core.List.{List, [], _∷_}
 use mathlib.Core.Option.{Option, none, some}
