@@ -2,3 +2,4 @@
 pub mod NeverWrong
 pub mod LossyHolds
 pub mod LossyCallsHold
+pub mod WorkedCases
