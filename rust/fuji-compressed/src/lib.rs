@@ -360,8 +360,8 @@ pub fn write_block_with(scratch: &mut Scratch, header: &[u8], samples: &[u16], o
 
 /// Writes the block of such a set under a lossy header to the start of `out`, with one base byte for each line of six rows, and gives its length. A sample that has a
 /// code reads back within the base of the quantiser that coded it, which is at most that of its line; where X-Trans interpolates, the set's samples are ignored. The
-/// base row of the stream is not part of the block. No block is longer than lines·2304·bits. Refusals 1, 2, 16, 17, 9, 11 and 13, in this order; each leaves
-/// `out` as it was.
+/// base row of the stream is not part of the block. Each code has at most 4·bits bits, so that lines·2304·bits bytes are enough; unlike that of tight blocks this bound
+/// is not proved. Refusals 1, 2, 16, 17, 9, 11 and 13, in this order; each leaves `out` as it was.
 ///
 /// ```
 /// use fuji_compressed::{plan_bases, write_lossy};

@@ -108,7 +108,7 @@ pub fn write(header: &Path, samples: &Path, bases: Option<&Bases>) -> Result<Vec
     let parsed = FujiHeader::parse(&header).map_err(|e| e.to_string())?;
     let bases = bases.map(|from| bases_of(&header, &parsed, from)).transpose()?;
     let set = load_samples(samples)?;
-    // No block is longer, lossless or lossy.
+    // No tight block is longer; no lossy one either, since a code has at most 4·bits bits there too, but that is not proved. If it were wrong, 13 would say so.
     let mut block = vec![0; parsed.lines as usize * 2304 * parsed.bits as usize];
     let length = match bases {
         Some(bases) => write_lossy(&header, &bases, &set, &mut block).map_err(|e| e.to_string()),
