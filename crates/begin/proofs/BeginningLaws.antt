@@ -12,12 +12,12 @@ use Rattle.stream.specs.Streams.{openOf}
 use Rattle.stream.specs.declared.FujiHeader.{FujiHeader}
 use Rattle.stream.specs.declared.Parsed.{Parsed}
 use Rattle.stream.specs.declared.Parsed.the-variants as Parsing
-use Rattle.stream.specs.declared.Refusal.the-variants.{NoBlock, WrongSize, Lossy, WrongCount, ShortScratch}
+use Rattle.stream.specs.declared.Refusal.the-variants.{NoBlock, WrongSize, Lossy, WrongCount, ShortScratch, Lossless, WrongBases}
 use Rattle.region.specs.Regions.{checkedOf}
 use Rattle.region.specs.declared.Rect.{Rect}
 use Rattle.writing.specs.Sets.{setSize}
 use Rattle.begin.specs.Beginnings.{isShortScratch, withScratch, withRegion, withStream, regionBegins, wholeOf, isWhole, withSize, withPicture, imageBegins}
-use Rattle.begin.specs.Beginnings.{withBlock, withOpened, blockBegins, withSet, withParsed, writingBegins}
+use Rattle.begin.specs.Beginnings.{withBlock, withOpened, blockBegins, withCount, withSet, withParsed, writingBegins, withBases, withLossy, lossyBegins}
 use Rattle.begin.specs.declared.Beginning.the-variants.{Refused}
 
 -- the width is at most 512
@@ -44,6 +44,10 @@ pub writing-is : (d : List ℕ) (p : Parsed) → parseOf d ≡ p → (n a b : �
 unfolding writingBegins
 writing-is d p e n a b = rw e
 
+pub lossy-is : (d : List ℕ) (p : Parsed) → parseOf d ≡ p → (k n a b : ℕ) → withLossy p k n a b ≡ lossyBegins d k n a b
+unfolding lossyBegins
+lossy-is d p e k n a b = rw e
+
 -- ---- the steps
 
 module _ (h : FujiHeader) (a b : ℕ) where
@@ -64,21 +68,37 @@ module _ (h : FujiHeader) (a b : ℕ) where
       let inner = cond (tight && not (h .lossless)) (Parsing.Refused Lossy) (withScratch h a b) in
       sym (ap (λ (x : Bool). cond x inner (Parsing.Refused NoBlock)) (lt-ltb k (h .blocks) s) ∙ ap (λ (x : Bool). cond x (Parsing.Refused Lossy) (withScratch h a b)) e)
 
+  -- a set, which has the right size or not
+  count-is : (n s : ℕ) (y : Bool) → s ≡ setSize (widthOf (h .xtrans)) (h .lines) → eqb n s ≡ y
+      → cond y (withScratch h a b) (Parsing.Refused WrongCount) ≡ withCount h n a b
+  count-is n s y es f = sym (ap (λ (x : Bool). cond x (withScratch h a b) (Parsing.Refused WrongCount)) (rw es at f))
+
+  pub wrong-count : (n s : ℕ) → s ≡ setSize (widthOf (h .xtrans)) (h .lines) → n ≢ s → Parsing.Refused WrongCount ≡ withCount h n a b
+  wrong-count n s es f = count-is n s false es (ne-eqb n s f)
+
+  pub right-count : (n s : ℕ) → s ≡ setSize (widthOf (h .xtrans)) (h .lines) → n ≡ s → withScratch h a b ≡ withCount h n a b
+  right-count n s es f = count-is n s true es (eq-eqb n s f)
+
   pub lossy-set : (n : ℕ) → h .lossless ≡ false → Parsing.Refused Lossy ≡ withSet h n a b
-  lossy-set n e = rw e
+  lossy-set n e = sym (ap (λ (x : Bool). cond x (withCount h n a b) (Parsing.Refused Lossy)) e)
 
-  -- the set of a lossless stream, which has the right size or not
-  set-size-is : (n : ℕ) (y : Bool) → h .lossless ≡ true → eqb n (setSize (widthOf (h .xtrans)) (h .lines)) ≡ y
-      → cond y (withScratch h a b) (Parsing.Refused WrongCount) ≡ withSet h n a b
-  set-size-is n y e f =
-      let inner = cond (eqb n (setSize (widthOf (h .xtrans)) (h .lines))) (withScratch h a b) (Parsing.Refused WrongCount) in
-      sym (ap (λ (x : Bool). cond x inner (Parsing.Refused Lossy)) e ∙ ap (λ (x : Bool). cond x (withScratch h a b) (Parsing.Refused WrongCount)) f)
+  pub a-set : (n : ℕ) → h .lossless ≡ true → withCount h n a b ≡ withSet h n a b
+  a-set n e = sym (ap (λ (x : Bool). cond x (withCount h n a b) (Parsing.Refused Lossy)) e)
 
-  pub wrong-set : (n s : ℕ) → h .lossless ≡ true → s ≡ setSize (widthOf (h .xtrans)) (h .lines) → n ≢ s → Parsing.Refused WrongCount ≡ withSet h n a b
-  wrong-set n s e es f = set-size-is n false e (rw (← es) (ne-eqb n s f))
+  pub lossless-set : (k n : ℕ) → h .lossless ≡ true → Parsing.Refused Lossless ≡ withBases h k n a b
+  lossless-set k n e = rw e
 
-  pub a-set : (n s : ℕ) → h .lossless ≡ true → s ≡ setSize (widthOf (h .xtrans)) (h .lines) → n ≡ s → withScratch h a b ≡ withSet h n a b
-  a-set n s e es f = set-size-is n true e (rw (← es) (eq-eqb n s f))
+  -- a set with bases, which are as many as lines or not
+  bases-are : (k n : ℕ) (y : Bool) → h .lossless ≡ false → eqb k (h .lines) ≡ y → cond y (withCount h n a b) (Parsing.Refused WrongBases) ≡ withBases h k n a b
+  bases-are k n y e f =
+      let inner = cond (eqb k (h .lines)) (withCount h n a b) (Parsing.Refused WrongBases) in
+      sym (ap (λ (x : Bool). cond x (Parsing.Refused Lossless) inner) e ∙ ap (λ (x : Bool). cond x (withCount h n a b) (Parsing.Refused WrongBases)) f)
+
+  pub wrong-bases : (k n : ℕ) → h .lossless ≡ false → k ≢ h .lines → Parsing.Refused WrongBases ≡ withBases h k n a b
+  wrong-bases k n e f = bases-are k n false e (ne-eqb k (h .lines) f)
+
+  pub right-bases : (k n : ℕ) → h .lossless ≡ false → k ≡ h .lines → withCount h n a b ≡ withBases h k n a b
+  right-bases k n e f = bases-are k n true e (eq-eqb k (h .lines) f)
 
   pub whole-picture : (w k n : ℕ) → isWhole h w k ≡ true → withRegion h (checkedOf h (wholeOf w k) n) a b ≡ withSize h w k n a b
   whole-picture w k n e = sym (ap (λ (x : Bool). cond x (withRegion h (checkedOf h (wholeOf w k) n) a b) (Refused WrongSize)) e)

@@ -14,7 +14,7 @@ use Rattle.stream.specs.declared.FujiHeader.{FujiHeader}
 use Rattle.stream.specs.declared.Parsed.{Parsed}
 use Rattle.stream.specs.declared.Parsed.the-variants as Parsing
 use Rattle.stream.specs.declared.Refusal.{Refusal}
-use Rattle.stream.specs.declared.Refusal.the-variants.{NoBlock, WrongSize, Lossy, WrongCount, ShortScratch}
+use Rattle.stream.specs.declared.Refusal.the-variants.{NoBlock, WrongSize, Lossy, WrongCount, ShortScratch, Lossless, WrongBases}
 use Rattle.stream.proofs.HeaderLaws.{ruled}
 use Rattle.stream.proofs.StreamLaws.{opened}
 use Rattle.region.specs.Regions.{checkedOf, Accepted}
@@ -25,14 +25,11 @@ use Rattle.region.proofs.CheckLaws.{accepted}
 use Rattle.writing.specs.Sets.{setSize}
 use Rattle.begin.specs.Beginnings.{samplesNeeded, recordsNeeded, isShortScratch, withScratch, begun, withRegion, withStream, regionBegins}
 use Rattle.begin.specs.Beginnings.{wholeOf, isWhole, withPicture}
-use Rattle.begin.specs.Beginnings.{imageBegins, withOpened, blockBegins, withParsed, writingBegins}
+use Rattle.begin.specs.Beginnings.{imageBegins, withOpened, blockBegins, withCount, withParsed, writingBegins, withLossy, lossyBegins}
+use Rattle.begin.specs.Beginnings.{ScratchFits, SetFits, FitsOn}
 use Rattle.begin.specs.declared.Beginning.the-variants.{Refused, Reading}
 
 -- ---- scratch is long enough
-
-pub record ScratchFits (h : FujiHeader) (samples records : ℕ) : Type 0 where
-  pub for-lines : samplesNeeded (h .xtrans) ≤ samples
-  pub for-records : recordsNeeded ≤ records
 
 clash : {X : Type 0} (x : Refusal) (h : FujiHeader) → Parsing.Refused x ≡ Parsing.Header h → X
 clash x h e = absurd (let no : _≡_ {A = ℕ} 0 1 = cc in omega arith)
@@ -131,27 +128,60 @@ module _ (tight : Bool) (d : List ℕ) (k a b : ℕ) (h : FujiHeader) where
 
 -- ---- the writer
 
-pub record SetAccepted (d : List ℕ) (count samples records : ℕ) (h : FujiHeader) : Type 0 where
-  pub parses : parseOf d ≡ Parsing.Header h
-  pub is-ruled : Ruled h
-  pub lossless : h .lossless ≡ true
-  pub size : count ≡ setSize (widthOf (h .xtrans)) (h .lines)
-  pub fits : ScratchFits h samples records
-
 module _ (d : List ℕ) (n a b : ℕ) (h : FujiHeader) where
-  set-writes : (g : FujiHeader) → parseOf d ≡ Parsing.Header g → (s t : Bool) → g .lossless ≡ s → eqb n (setSize (widthOf (g .xtrans)) (g .lines)) ≡ t
-      → cond s (cond t (withScratch g a b) (Parsing.Refused WrongCount)) (Parsing.Refused Lossy) ≡ Parsing.Header h → SetAccepted d n a b h
-  set-writes g o false t p q e = clash Lossy h e
-  set-writes g o true false p q e = clash WrongCount h e
-  set-writes g o true true p q e =
+  count-goes : (g : FujiHeader) → parseOf d ≡ Parsing.Header g → (t : Bool) → eqb n (setSize (widthOf (g .xtrans)) (g .lines)) ≡ t
+      → cond t (withScratch g a b) (Parsing.Refused WrongCount) ≡ Parsing.Header h → (g ≡ h) × SetFits g n a b
+  count-goes g o false q e = clash WrongCount h e
+  count-goes g o true q e =
       let f = scratch-fits g h a b e in
-      subst (λ (x : FujiHeader). SetAccepted d n a b x) (f .0)
-      (record { parses = o; is-ruled = ruled d g o; lossless = p; size = eqb-true n (setSize (widthOf (g .xtrans)) (g .lines)) q; fits = f .1 })
+      (f .0, record { is-ruled = ruled d g o; size = eqb-true n (setSize (widthOf (g .xtrans)) (g .lines)) q; fits = f .1 })
 
-  pub writing-goes : writingBegins d n a b ≡ Parsing.Header h → SetAccepted d n a b h
+  set-goes : (g : FujiHeader) → parseOf d ≡ Parsing.Header g → withCount g n a b ≡ Parsing.Header h → (g ≡ h) × SetFits g n a b
+  set-goes g o e = count-goes g o (eqb n (setSize (widthOf (g .xtrans)) (g .lines))) refl e
+
+  -- which header it is
+  pub record Goes (lossless : Bool) : Type 0 where
+    pub parses : parseOf d ≡ Parsing.Header h
+    pub lossless-is : h .lossless ≡ lossless
+    pub set : SetFits h n a b
+
+  goes : (lossless : Bool) (g : FujiHeader) → parseOf d ≡ Parsing.Header g → g .lossless ≡ lossless → withCount g n a b ≡ Parsing.Header h → Goes lossless
+  goes lossless g o p e =
+      let f = set-goes g o e in
+      record { parses = o ∙ ap Parsing.Header (f .0); lossless-is = rw (f .0) at p; set = rw (f .0) at (f .1) }
+
+  pub writing-goes : writingBegins d n a b ≡ Parsing.Header h → Goes true
   unfolding writingBegins
   writing-goes = from (parseOf d) refl
     where
-      from : (p : Parsed) → parseOf d ≡ p → withParsed p n a b ≡ Parsing.Header h → SetAccepted d n a b h
+      held : (g : FujiHeader) → parseOf d ≡ Parsing.Header g → (s : Bool) → g .lossless ≡ s
+          → cond s (withCount g n a b) (Parsing.Refused Lossy) ≡ Parsing.Header h → Goes true
+      held g o false p e = clash Lossy h e
+      held g o true p e = goes true g o p e
+
+      from : (p : Parsed) → parseOf d ≡ p → withParsed p n a b ≡ Parsing.Header h → Goes true
       from (Parsing.Refused x) o e = clash x h e
-      from (Parsing.Header g) o e = set-writes g o (g .lossless) (eqb n (setSize (widthOf (g .xtrans)) (g .lines))) refl refl e
+      from (Parsing.Header g) o e = held g o (g .lossless) refl e
+
+  -- ---- the lossy writer, with k bases
+
+  pub lossy-goes : (k : ℕ) → lossyBegins d k n a b ≡ Parsing.Header h → Goes false × (k ≡ h .lines)
+  unfolding lossyBegins
+  lossy-goes k = from (parseOf d) refl
+    where
+      held : (g : FujiHeader) → parseOf d ≡ Parsing.Header g → (s t : Bool) → g .lossless ≡ s → eqb k (g .lines) ≡ t
+          → cond s (Parsing.Refused Lossless) (cond t (withCount g n a b) (Parsing.Refused WrongBases)) ≡ Parsing.Header h → Goes false × (k ≡ h .lines)
+      held g o true t p q e = clash Lossless h e
+      held g o false false p q e = clash WrongBases h e
+      held g o false true p q e = (goes false g o p e, eqb-true k (g .lines) q ∙ ap (λ (x : FujiHeader). x .lines) (set-goes g o e .0))
+
+      from : (p : Parsed) → parseOf d ≡ p → withLossy p k n a b ≡ Parsing.Header h → Goes false × (k ≡ h .lines)
+      from (Parsing.Refused x) o e = clash x h e
+      from (Parsing.Header g) o e = held g o (g .lossless) (eqb k (g .lines)) refl refl e
+
+-- both begin with a set that can be written
+pub writing-fits : (d : List ℕ) (n a b : ℕ) (begins : Parsed) → begins ≡ writingBegins d n a b → FitsOn begins n a b
+writing-fits d n a b begins e h f = writing-goes d n a b h (sym e ∙ f) .set
+
+pub lossy-fits : (d : List ℕ) (k n a b : ℕ) (begins : Parsed) → begins ≡ lossyBegins d k n a b → FitsOn begins n a b
+lossy-fits d k n a b begins e h f = lossy-goes d n a b h k (sym e ∙ f) .0 .set

@@ -1,53 +1,82 @@
 -- The writer's answer: samples that are looked at first, the measured length, and the block at the start of the output. Assumes nothing.
-use borrow.Author.Tests.{lt-ltb, le-ltb, le-leb, lt-leb, ltb-false}
-use mathlib.Core.Bool.{Bool, true, false, cond}
+use borrow.Author.Tests.{lt-ltb, le-ltb, le-leb, leb-true, ltb-false}
+use mathlib.Core.Bool.{Bool, true, false, cond, not, _||_, and-false}
 use mathlib.Core.List.{List, [], _∷_, _++_}
 use mathlib.Core.Option.{Option, none, some}
 use mathlib.Core.Path.{_≡_, refl, sym, ap, _∙_, subst}
 use Prim.Native.Nat.{ℕ, zero, suc, _+_, _-_, _≤_, _<_}
-use native.Mathlib.Nat.{zero-add, le-refl}
+use native.Mathlib.Nat.{zero-add, add-zero, le-refl}
 use native.Mathlib.Omega.{arith}
-use lib.Dec.{ltb}
-use lib.ListN.{length, drop, replicate, length-replicate}
+use lib.Dec.{leb, ltb}
+use lib.ListN.{length, getD, drop, replicate, length-replicate}
 use lib.Seq.{paste, take-at, take-all, drop-append-add, drop-drop}
 use Rattle.bits.specs.declared.BitPosition.{BitPosition}
 use Rattle.bits.specs.BitLists.{packed, bytesFor, blockBytes, filled, bytesOf}
 use Rattle.bits.proofs.PackLaws.{length-packed, packed-more}
-use Rattle.numbers.proofs.OrderLaws.{split}
 use Rattle.quantiser.specs.Quantisers.{largest}
 use Rattle.stream.specs.declared.BlockLength.{BlockLength}
 use Rattle.stream.specs.declared.BlockLength.the-variants.{Length, Refused}
 use Rattle.stream.specs.declared.Refusal.{Refusal}
 use Rattle.stream.specs.declared.Refusal.the-variants.{AboveLargest, NotPredicted, ShortOutput}
 use Rattle.map.specs.Places.{widthOf}
-use Rattle.writing.specs.Sets.{setSize}
+use Rattle.writing.specs.Sets.{setSize, lineOfRank, indexIn}
 use Rattle.output.specs.Output.{putBits}
 use Rattle.writing.specs.Puts.{Room, Within}
-use Rattle.writing.proofs.TurnPuts.{all-wanted}
-use Rattle.steps.specs.Steps.{planOf, passSteps}
-use Rattle.begin.specs.Beginnings.{firstAbove}
+use Rattle.writing.proofs.SetLaws.{colour-line-at, position-at}
+use Rattle.writing.proofs.TurnPuts.{coded-wanted}
+use Rattle.steps.specs.Steps.{isInterpolated}
+use Rattle.begin.specs.Beginnings.{isIgnored, firstAbove}
 use Rattle.begin.specs.Counted.{nextOf}
 use Rattle.begin.specs.declared.Next.the-variants.{Answer, Store}
 use Rattle.writing.specs.declared.Put.{Put}
 use Rattle.writing.specs.declared.Put.the-variants.{At, Wrong}
-use Rattle.block.specs.WrittenBlocks.{writeLines, writtenBlock, tightBlock, SetWanted, FitSet}
-use Rattle.block.specs.WrittenAnswers.{IsSetPut, SetWritten, predictedAnswer, rangeAnswer, measuredAnswer, writtenAnswer, roomFor, outputOf}
+use Rattle.block.specs.WrittenBlocks.{isStrict, writeLines, writtenBlock, tightBlock, SetWanted, FitSet}
+use Rattle.block.specs.WrittenAnswers.{IsSetPut, SetWritten, predictedAnswer, rangeAnswer, measuredAnswer}
+use Rattle.block.specs.WrittenAnswers.{aboveIn, setAnswer, writtenAnswer, roomFor, outputOf}
 use Rattle.block.specs.declared.Form.{Form}
+use Rattle.block.proofs.LineLaws.{width-in-range}
 
 -- ---- samples within M
 
--- where there is none all are within M
-none-within : (m i : ℕ) (t : List ℕ) → firstAbove m i t ≡ none → Within m t
+-- where none is named, all that are not ignored are within M
+first-none : (ignored : ℕ → Bool) (m i : ℕ) (t : List ℕ) → firstAbove ignored m i t ≡ none → (j : ℕ) → ignored (i + j) ≡ false → getD t j 0 ≤ m
 unfolding firstAbove
-none-within m i [] e = λ j. omega arith
-none-within m i (v ∷ t) e = split (suc m) v (λ h. high h) (λ h. low h (none-within m (suc i) t (rw (le-leb v m (omega (arith, h))) at e)))
+first-none ignored m i [] e = λ j f. omega arith
+first-none ignored m i (v ∷ t) e =
+    go (leb v m) (ignored i) refl refl
+    (λ g k f. first-none ignored m (suc i) t g k (let n : i + suc k ≡ suc i + k = omega arith in rw n at f)) e
   where
-    low : v < suc m → Within m t → Within m (v ∷ t)
-    low h rest zero = omega (arith, h)
-    low h rest (suc j) = rest j
+    Rest : Type 0
+    Rest = firstAbove ignored m (suc i) t ≡ none → (k : ℕ) → ignored (i + suc k) ≡ false → getD t k 0 ≤ m
 
-    high : suc m ≤ v → Within m (v ∷ t)
-    high h j = let f : some i ≡ none = rw (lt-leb v m h) at e in let no : _≡_ {A = ℕ} 0 1 = cc in absurd (omega arith)
+    go : (a b : Bool) → leb v m ≡ a → ignored i ≡ b → Rest → cond (a || b) (firstAbove ignored m (suc i) t) (some i) ≡ none
+        → (j : ℕ) → ignored (i + j) ≡ false → getD (v ∷ t) j 0 ≤ m
+    go true b ea eb rest g zero f = leb-true v m ea
+    go true b ea eb rest g (suc k) f = rest g k f
+    go false true ea eb rest g zero f = let no : true ≡ false = sym eb ∙ (rw (add-zero i) at f) in let z : _≡_ {A = ℕ} 0 1 = cc in absurd (omega arith)
+    go false true ea eb rest g (suc k) f = rest g k f
+    go false false ea eb rest g j f = let no : _≡_ {A = ℕ} 0 1 = cc in absurd (omega arith)
+
+-- a set without bases has none that is ignored
+strict-looks : (xtrans : Bool) (j : ℕ) → isIgnored xtrans true j ≡ false
+unfolding isIgnored
+strict-looks xtrans j = refl
+
+none-within : (F : Form) (t : List ℕ) → aboveIn F [] t ≡ none → Within (largest (F .bits)) t
+none-within F t e j = first-none (isIgnored (F .xtrans) true) (largest (F .bits)) 0 t e j (strict-looks (F .xtrans) (0 + j))
+
+-- and of any set those with a code are looked at
+code-looks : (xtrans strict : Bool) (n c p : ℕ) → c < 12 → p < widthOf xtrans → isInterpolated xtrans (lineOfRank c) p ≡ false
+    → isIgnored xtrans strict (indexIn (widthOf xtrans) n (lineOfRank c) p) ≡ false
+unfolding isIgnored
+code-looks xtrans strict n c p hc hp e =
+    rw (colour-line-at (widthOf xtrans) n c p hc hp, position-at (widthOf xtrans) n c p hc hp, e) (and-false (not strict))
+
+pub none-wanted : (F : Form) (bases t : List ℕ) → aboveIn F bases t ≡ none → SetWanted F t
+none-wanted F bases t e n i below =
+    coded-wanted (largest (F .bits)) (widthOf (F .xtrans)) t n (width-in-range (F .xtrans) (widthOf (F .xtrans)) refl .2) (F .xtrans) i below
+    (λ c p hc hp f. first-none (isIgnored (F .xtrans) (isStrict bases)) (largest (F .bits)) 0 t e (indexIn (widthOf (F .xtrans)) n (lineOfRank c) p)
+    (rw zero-add (code-looks (F .xtrans) (isStrict bases) n c p hc hp f)))
 
 -- ---- the block
 
@@ -200,41 +229,42 @@ module _ (F : Form) (bases : List ℕ) (count : ℕ) (t out : List ℕ) where
 
 -- ---- the answer for any set
 
-module _ (F : Form) (count : ℕ) (t : List ℕ) (room m i : ℕ) (em : m ≡ largest (F .bits)) (ei : firstAbove m 0 t ≡ cond (ltb i (length t)) (some i) none) where
-  first-is : firstAbove (largest (F .bits)) 0 t ≡ cond (ltb i (length t)) (some i) none
-  first-is = rw em at ei
+module _ (F : Form) (bases : List ℕ) (count : ℕ) (t : List ℕ) (room m i : ℕ) (strict : Bool) (em : m ≡ largest (F .bits)) (es : strict ≡ isStrict bases)
+    (ei : firstAbove (isIgnored (F .xtrans) strict) m 0 t ≡ cond (ltb i (length t)) (some i) none) where
+  first-is : aboveIn F bases t ≡ cond (ltb i (length t)) (some i) none
+  first-is = rw (em, es) at ei
 
-  pub set-above : i < length t → Refused (AboveLargest i) ≡ writtenAnswer F count t room
-  unfolding writtenAnswer
+  pub set-above : i < length t → Refused (AboveLargest i) ≡ setAnswer F bases count t room
+  unfolding setAnswer
   set-above h = rw (first-is, lt-ltb i (length t) h)
 
-  no-first : length t ≤ i → firstAbove (largest (F .bits)) 0 t ≡ none
+  no-first : length t ≤ i → aboveIn F bases t ≡ none
   no-first h = first-is ∙ rw (le-ltb i (length t) h)
 
   pub set-wanted : length t ≤ i → SetWanted F t
-  set-wanted h n j =
-      all-wanted (largest (F .bits)) (widthOf (F .xtrans)) t n (passSteps (widthOf (F .xtrans)) (planOf (F .xtrans) j)) (none-within (largest (F .bits)) 0 t (no-first h))
+  set-wanted h = none-wanted F bases t (no-first h)
 
-  pub set-answer : length t ≤ i → (a : BlockLength) → a ≡ measuredAnswer F [] count t room → a ≡ writtenAnswer F count t room
-  unfolding writtenAnswer
+  pub set-answer : length t ≤ i → (a : BlockLength) → a ≡ measuredAnswer F bases count t room → a ≡ setAnswer F bases count t room
+  unfolding setAnswer
   set-answer h a e = e ∙ rw (no-first h)
 
 -- ---- which sets are written: exactly those that fit, where the output is long enough
 
-within-none : (m i : ℕ) (t : List ℕ) → Within m t → firstAbove m i t ≡ none
+within-none : (ignored : ℕ → Bool) (m i : ℕ) (t : List ℕ) → Within m t → firstAbove ignored m i t ≡ none
 unfolding firstAbove
-within-none m i [] h = refl
-within-none m i (v ∷ t) h = rw (le-leb v m (h 0)) (within-none m (suc i) t (λ j. h (suc j)))
+within-none ignored m i [] h = refl
+within-none ignored m i (v ∷ t) h = rw (le-leb v m (h 0)) (within-none ignored m (suc i) t (λ j. h (suc j)))
 
 module _ (F : Form) (lines : ℕ) (t : List ℕ) (room : ℕ) where
   pub fits-written : FitSet F lines t → length (tightBlock F lines t) ≤ room → writtenAnswer F lines t room ≡ Length (length (tightBlock F lines t))
-  unfolding writtenAnswer measuredAnswer
-  fits-written f h = rw (within-none (largest (F .bits)) 0 t (f .range), f .predicted, le-ltb room (length (tightBlock F lines t)) h)
+  unfolding setAnswer measuredAnswer
+  fits-written f h =
+      rw (within-none (isIgnored (F .xtrans) true) (largest (F .bits)) 0 t (f .range), f .predicted, le-ltb room (length (tightBlock F lines t)) h)
 
   pub written-fits : (n : ℕ) → length t ≡ setSize (widthOf (F .xtrans)) lines → writtenAnswer F lines t room ≡ Length n
       → FitSet F lines t × (n ≡ length (tightBlock F lines t)) × (n ≤ room)
-  unfolding writtenAnswer measuredAnswer
-  written-fits n size e = ranged (firstAbove (largest (F .bits)) 0 t) refl e
+  unfolding setAnswer measuredAnswer
+  written-fits n size e = ranged (aboveIn F [] t) refl e
     where
       measured : (b : Bool) → Within (largest (F .bits)) t → (writeLines F [] t lines) .wrong ≡ none → ltb room (length (tightBlock F lines t)) ≡ b
           → cond b (Refused ShortOutput) (Length (length (tightBlock F lines t))) ≡ Length n
@@ -250,7 +280,7 @@ module _ (F : Form) (lines : ℕ) (t : List ℕ) (room : ℕ) where
       predicted none r p f = measured (ltb room (length (tightBlock F lines t))) r p refl f
       predicted (some j) r p f = let no : _≡_ {A = ℕ} 0 1 = cc in absurd (omega arith)
 
-      ranged : (o : Option ℕ) → firstAbove (largest (F .bits)) 0 t ≡ o → rangeAnswer o (measuredAnswer F [] lines t room) ≡ Length n
+      ranged : (o : Option ℕ) → aboveIn F [] t ≡ o → rangeAnswer o (measuredAnswer F [] lines t room) ≡ Length n
           → FitSet F lines t × (n ≡ length (tightBlock F lines t)) × (n ≤ room)
-      ranged none g f = predicted ((writeLines F [] t lines) .wrong) (none-within (largest (F .bits)) 0 t g) refl f
+      ranged none g f = predicted ((writeLines F [] t lines) .wrong) (none-within F t g) refl f
       ranged (some i) g f = let no : _≡_ {A = ℕ} 0 1 = cc in absurd (omega arith)

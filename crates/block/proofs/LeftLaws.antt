@@ -28,8 +28,8 @@ use Rattle.block.specs.Lent.{Buffers, Scratch, Outputs, clearedLines, cl
 use Rattle.block.specs.Records.{clearRecords}
 use Rattle.block.specs.Totals.{refusedBy}
 use Rattle.block.specs.BlockReadings.{BlockReading, LeftBlock}
-use Rattle.block.specs.WrittenAnswers.{writtenAnswer, exactAnswer, roomFor, outputOf, LeftBy}
-use Rattle.block.specs.WrittenBlocks.{tightBlock}
+use Rattle.block.specs.WrittenAnswers.{setAnswer, exactAnswer, roomFor, outputOf, LeftBy}
+use Rattle.block.specs.WrittenBlocks.{writtenBlock}
 use Rattle.block.specs.declared.Counted.{Counted}
 use Rattle.block.specs.declared.Decoded.{Decoded}
 use Rattle.block.specs.declared.Decoded.the-variants.{Done, Refused}
@@ -68,19 +68,25 @@ module _ (expected : FujiHeader → Counted) (before : Scratch) (begins : Parsed
       → LeftBlock begins expected before after a
   block-read h e after a l = rw e l
 
-module _ (t : List ℕ) (before : Outputs) (begins : Parsed) where
-  pub written-refused : (measure : Bool) (x : Refusal) → begins ≡ Parsing.Refused x → LeftBy measure t begins before before (Block.Refused x)
+module _ (bases t : List ℕ) (before : Outputs) (begins : Parsed) where
+  pub written-refused : (measure : Bool) (x : Refusal) → begins ≡ Parsing.Refused x → LeftBy measure bases t begins before before (Block.Refused x)
   written-refused true x e = rw e ((refl, refl), refl)
   written-refused false x e = rw e (refl, refl)
 
   pub written-set : (measure : Bool) (h : FujiHeader) → begins ≡ Parsing.Header h → (after : Outputs) (a : BlockLength)
-      → let block = tightBlock (formOf h) (h .lines) t in
-      a ≡ writtenAnswer (formOf h) (h .lines) t (roomFor measure block (before .out)) → after .out ≡ outputOf measure a block (before .out)
-      → after .lines ≡ clearedLines (h .xtrans) (before .lines) → after .records ≡ clearedRecords (before .records) → LeftBy measure t begins before after a
+      → let block = writtenBlock (formOf h) bases (h .lines) t in
+      a ≡ setAnswer (formOf h) bases (h .lines) t (roomFor measure block (before .out)) → after .out ≡ outputOf measure a block (before .out)
+      → after .lines ≡ clearedLines (h .xtrans) (before .lines) → after .records ≡ clearedRecords (before .records)
+      → LeftBy measure bases t begins before after a
   unfolding exactAnswer
   written-set true h e after a answered output lines records = rw e (record { answered = answered; lines = lines; records = records }, output)
   written-set false h e after a answered output lines records =
       rw e (record { answered = answered; output = output; lines = lines; records = records })
+
+-- by what its beginning is
+pub left-by : (measure : Bool) (bases t : List ℕ) (begins named : Parsed) (before after : Outputs) (a : BlockLength) → begins ≡ named
+    → LeftBy measure bases t begins before after a → LeftBy measure bases t named before after a
+left-by measure bases t begins named before after a e l = rw e at l
 
 -- ---- the form of a header
 

@@ -186,8 +186,9 @@ module _ (F : Form) (q : ℕ) (strict : Bool) (t : List ℕ) (n : ℕ) where
   passAt-short h i r = pass-short (F .bits) q (widthOf (F .xtrans)) strict t n (planOf (F .xtrans) i) (enterWriting F (planOf (F .xtrans) i) r) h (width-le (F .xtrans))
 
 -- the samples of a pass that have a code
-pub pass-wanted : (F : Form) (t : List ℕ) (n i W : ℕ) (P : Plan) → W ≡ widthOf (F .xtrans) → P ≡ planOf (F .xtrans) i → SetWanted F t → Wanted (largest (F .bits)) W t n (passSteps W P)
-pass-wanted F t n i W P eW eP h = rw (eW, eP) (h n i)
+pub pass-wanted : (F : Form) (t : List ℕ) (n i W : ℕ) (P : Plan) → W ≡ widthOf (F .xtrans) → P ≡ planOf (F .xtrans) i → i < 6 → SetWanted F t
+    → Wanted (largest (F .bits)) W t n (passSteps W P)
+pass-wanted F t n i W P eW eP below h = rw (eW, eP) (h n i below)
 
 -- the passes of line n, from these lines and records on
 module _ (F : Form) (q : ℕ) (strict : Bool) (t : List ℕ) (n : ℕ) (lines₀ : List ℕ) (rs₀ : List Record) where

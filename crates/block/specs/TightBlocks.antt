@@ -18,15 +18,15 @@ use Rattle.block.specs.declared.Form.{Form}
 use Rattle.block.specs.declared.Decoded.{Decoded}
 use Rattle.block.specs.declared.Decoded.the-variants.{Done, Refused}
 
--- the sample at index j of the set that is read from the block s: it stands in its colour line once its line of six rows is read
-abbrev pub readSample : Form → List ℕ → ℕ → ℕ
-readSample F s j =
+-- the sample at index j of the set that is read from the block s with these bases: it stands in its colour line once its line of six rows is read
+abbrev pub readSample : Form → List ℕ → List ℕ → ℕ → ℕ
+readSample F bases s j =
     let W = widthOf (F .xtrans) in
-    getD (linesOf (readLines F [] s (suc (lineAt W j)))) (colourLineAt W j * (W + 2) + positionAt W j + 1) 0
+    getD (linesOf (readLines F bases s (suc (lineAt W j)))) (colourLineAt W j * (W + 2) + positionAt W j + 1) 0
 
 -- the set of colour lines of a block: what the rules read at the places of a set
 unfoldable pub setRead : Form → ℕ → List ℕ → List ℕ
-setRead F lines s = table (readSample F s) (setSize (widthOf (F .xtrans)) lines)
+setRead F lines s = table (readSample F [] s) (setSize (widthOf (F .xtrans)) lines)
 
 -- a tight block: all lines are read, each code is tight, and so is the tail
 pub record Tight (F : Form) (lines : ℕ) (s : List ℕ) : Type 0 where

@@ -8,13 +8,13 @@ use Rattle.stream.specs.Refusals.{refusalWords, noRefusal}
 use Rattle.stream.specs.declared.BlockLength.{BlockLength}
 use Rattle.region.specs.declared.Rect.{Rect}
 use Rattle.totals.specs.declared.Totals.{Totals}
-use Rattle.begin.specs.Beginnings.{writingBegins}
+use Rattle.begin.specs.Beginnings.{writingBegins, lossyBegins}
 use Rattle.begin.specs.declared.Beginning.{Beginning}
 use Rattle.block.specs.Images.{Left}
 use Rattle.block.specs.WindowedImages.{LeftWindowed}
 use Rattle.block.specs.Lent.{Buffers, Scratch, Outputs}
 use Rattle.block.specs.BlockReadings.{LeftRead, LeftTight}
-use Rattle.block.specs.WrittenAnswers.{LeftWritten, LeftMeasured}
+use Rattle.block.specs.WrittenAnswers.{LeftWritten, LeftLossy, LeftMeasured}
 use Rattle.block.specs.declared.Counted.{Counted}
 use Rattle.block.specs.declared.Decoded.{Decoded}
 use Rattle.block.specs.declared.Decoded.the-variants.{Done, Refused}
@@ -55,6 +55,12 @@ pub record ToldTight (d : List ℕ) (b : ℕ) (before after : Scratch) (totals w
 pub record ToldWritten (d t : List ℕ) (before after : Outputs) (size words : List ℕ) : Type 0 where
   pub answer : BlockLength
   pub left : LeftWritten t (writingBegins d (length t) (length (before .lines)) (length (before .records))) before after answer
+  pub told-size : size ≡ lengthWord answer
+  pub told : words ≡ lengthRefusal answer
+
+pub record ToldLossy (d bases t : List ℕ) (before after : Outputs) (size words : List ℕ) : Type 0 where
+  pub answer : BlockLength
+  pub left : LeftLossy bases t (lossyBegins d (length bases) (length t) (length (before .lines)) (length (before .records))) before after answer
   pub told-size : size ≡ lengthWord answer
   pub told : words ≡ lengthRefusal answer
 

@@ -1,4 +1,4 @@
--- What a call of the writer answers and leaves, and a call that only measures. Assumes nothing.
+-- What a call of the writer answers and leaves, and a call that only measures; the lossless writer is the case without bases. Assumes nothing.
 use mathlib.Core.Bool.{Bool, true, false, cond}
 use mathlib.Core.List.{List, [], _++_}
 use mathlib.Core.Option.{Option, none, some}
@@ -15,12 +15,12 @@ use Rattle.stream.specs.declared.Parsed.{Parsed}
 use Rattle.stream.specs.declared.Parsed.the-variants as Parsing
 use Rattle.stream.specs.declared.Refusal.the-variants.{AboveLargest, NotPredicted, ShortOutput}
 use Rattle.writing.specs.Puts.{putIf}
-use Rattle.begin.specs.Beginnings.{firstAbove}
+use Rattle.begin.specs.Beginnings.{isIgnored, firstAbove}
 use Rattle.writing.specs.declared.Put.{Put}
 use Rattle.writing.specs.declared.Put.the-variants.{At, Wrong}
 use Rattle.block.specs.Images.{formOf}
 use Rattle.block.specs.Lent.{Outputs, Scratch, scratchOf, clearedLines, clearedRecords}
-use Rattle.block.specs.WrittenBlocks.{WriteState, repeats, writePassAt, writeLines, writtenBlock, tightBlock}
+use Rattle.block.specs.WrittenBlocks.{WriteState, repeats, writePassAt, isStrict, writeLines, writtenBlock}
 use Rattle.block.specs.declared.Form.{Form}
 
 -- ---- what the functions below the entry hand back
@@ -63,47 +63,62 @@ abbrev pub rangeAnswer : Option ℕ → BlockLength → BlockLength
 rangeAnswer none a = a
 rangeAnswer (some i) a = Refused (AboveLargest i)
 
--- the answer for a set t whose samples are all in range, with these bases and so many bytes of output
+-- the answer for a set t whose samples with a code are in range, with these bases and so many bytes of output
 unfoldable pub measuredAnswer : Form → List ℕ → ℕ → List ℕ → ℕ → BlockLength
 measuredAnswer F bases lines t room = predictedAnswer ((writeLines F bases t lines) .wrong) (length (writtenBlock F bases lines t)) room
 
--- the answer for any set t of the right size, lossless
-unfoldable pub writtenAnswer : Form → ℕ → List ℕ → ℕ → BlockLength
-writtenAnswer F lines t room = rangeAnswer (firstAbove (largest (F .bits)) 0 t) (measuredAnswer F [] lines t room)
+-- refusal 11 looks at all samples of a set without bases, and at those with a code of any other
+abbrev pub aboveIn : Form → (bases t : List ℕ) → Option ℕ
+aboveIn F bases t = firstAbove (isIgnored (F .xtrans) (isStrict bases)) (largest (F .bits)) 0 t
+
+-- the answer for any set t of the right size
+unfoldable pub setAnswer : Form → List ℕ → ℕ → List ℕ → ℕ → BlockLength
+setAnswer F bases lines t room = rangeAnswer (aboveIn F bases t) (measuredAnswer F bases lines t room)
+
+-- lossless
+abbrev pub writtenAnswer : Form → ℕ → List ℕ → ℕ → BlockLength
+writtenAnswer F lines t room = setAnswer F [] lines t room
 
 -- the answer for a set that is only measured: that of the writer with an output of exactly the block's length
-unfoldable pub exactAnswer : Form → ℕ → List ℕ → BlockLength
-exactAnswer F lines t = writtenAnswer F lines t (length (tightBlock F lines t))
+unfoldable pub exactAnswer : Form → List ℕ → ℕ → List ℕ → BlockLength
+exactAnswer F bases lines t = setAnswer F bases lines t (length (writtenBlock F bases lines t))
 
--- the output afterwards: the tight block and what follows it, or what it was
+-- the output afterwards: the block and what follows it, or what it was
 abbrev pub writtenOut : BlockLength → List ℕ → List ℕ → List ℕ
 writtenOut (Length n) block out = block ++ drop n out
 writtenOut (Refused x) block out = out
 
 -- ---- a call
 
--- what a call leaves that writes the set t under this header
-pub record SetWriting (t : List ℕ) (h : FujiHeader) (before after : Outputs) (answer : BlockLength) : Type 0 where
-  pub answered : answer ≡ writtenAnswer (formOf h) (h .lines) t (length (before .out))
-  pub output : after .out ≡ writtenOut answer (tightBlock (formOf h) (h .lines) t) (before .out)
+-- what a call leaves that writes the set t with these bases under this header
+pub record SetWriting (bases t : List ℕ) (h : FujiHeader) (before after : Outputs) (answer : BlockLength) : Type 0 where
+  pub answered : answer ≡ setAnswer (formOf h) bases (h .lines) t (length (before .out))
+  pub output : after .out ≡ writtenOut answer (writtenBlock (formOf h) bases (h .lines) t) (before .out)
   pub lines : after .lines ≡ clearedLines (h .xtrans) (before .lines)
   pub records : after .records ≡ clearedRecords (before .records)
 
--- what a call leaves, by how it begins
+-- what a call of the lossy writer leaves, by how it begins
+abbrev pub LeftLossy : (bases t : List ℕ) → Parsed → (before after : Outputs) → BlockLength → Type 0
+LeftLossy bases t (Parsing.Refused x) before after answer = (answer ≡ Refused x) × (after ≡ before)
+LeftLossy bases t (Parsing.Header h) before after answer = SetWriting bases t h before after answer
+
+-- the lossless writer has no bases
 abbrev pub LeftWritten : List ℕ → Parsed → (before after : Outputs) → BlockLength → Type 0
-LeftWritten t (Parsing.Refused x) before after answer = (answer ≡ Refused x) × (after ≡ before)
-LeftWritten t (Parsing.Header h) before after answer = SetWriting t h before after answer
+LeftWritten t begins before after answer = LeftLossy [] t begins before after answer
 
 -- ---- a call that only measures
 
-pub record SetMeasuring (t : List ℕ) (h : FujiHeader) (before after : Scratch) (answer : BlockLength) : Type 0 where
-  pub answered : answer ≡ exactAnswer (formOf h) (h .lines) t
+pub record SetMeasuring (bases t : List ℕ) (h : FujiHeader) (before after : Scratch) (answer : BlockLength) : Type 0 where
+  pub answered : answer ≡ exactAnswer (formOf h) bases (h .lines) t
   pub lines : after .lines ≡ clearedLines (h .xtrans) (before .lines)
   pub records : after .records ≡ clearedRecords (before .records)
 
+abbrev pub MeasuredWith : (bases t : List ℕ) → Parsed → (before after : Scratch) → BlockLength → Type 0
+MeasuredWith bases t (Parsing.Refused x) before after answer = (answer ≡ Refused x) × (after ≡ before)
+MeasuredWith bases t (Parsing.Header h) before after answer = SetMeasuring bases t h before after answer
+
 abbrev pub LeftMeasured : List ℕ → Parsed → (before after : Scratch) → BlockLength → Type 0
-LeftMeasured t (Parsing.Refused x) before after answer = (answer ≡ Refused x) × (after ≡ before)
-LeftMeasured t (Parsing.Header h) before after answer = SetMeasuring t h before after answer
+LeftMeasured t begins before after answer = MeasuredWith [] t begins before after answer
 
 -- ---- the functions below both
 
@@ -116,6 +131,6 @@ abbrev pub outputOf : Bool → BlockLength → (block out : List ℕ) → List �
 outputOf true answer block out = out
 outputOf false answer block out = writtenOut answer block out
 
-abbrev pub LeftBy : Bool → List ℕ → Parsed → (before after : Outputs) → BlockLength → Type 0
-LeftBy true t begins before after answer = LeftMeasured t begins (scratchOf before) (scratchOf after) answer × (after .out ≡ before .out)
-LeftBy false t begins before after answer = LeftWritten t begins before after answer
+abbrev pub LeftBy : Bool → (bases t : List ℕ) → Parsed → (before after : Outputs) → BlockLength → Type 0
+LeftBy true bases t begins before after answer = MeasuredWith bases t begins (scratchOf before) (scratchOf after) answer × (after .out ≡ before .out)
+LeftBy false bases t begins before after answer = LeftLossy bases t begins before after answer

@@ -3,7 +3,7 @@ use mathlib.Core.Bool.{Bool}
 use mathlib.Core.List.{List, []}
 use mathlib.Core.Option.{Option, none}
 use mathlib.Core.Path.{_≡_}
-use Prim.Native.Nat.{ℕ, zero, suc, _≤_}
+use Prim.Native.Nat.{ℕ, zero, suc, _≤_, _<_}
 use lib.Dec.{eqb}
 use lib.ListN.{length, getD}
 use Rattle.bits.specs.BitLists.{bytesOf}
@@ -87,7 +87,7 @@ tightBlock F lines t = writtenBlock F [] lines t
 
 -- the samples of a set that have a code are in 0..M
 abbrev pub SetWanted : Form → List ℕ → Type 0
-SetWanted F t = (n i : ℕ) → Wanted (largest (F .bits)) (widthOf (F .xtrans)) t n (passSteps (widthOf (F .xtrans)) (planOf (F .xtrans) i))
+SetWanted F t = (n i : ℕ) → i < 6 → Wanted (largest (F .bits)) (widthOf (F .xtrans)) t n (passSteps (widthOf (F .xtrans)) (planOf (F .xtrans) i))
 
 -- a set that fits: it has all samples, each in 0..M, and each interpolated position has its prediction
 pub record FitSet (F : Form) (lines : ℕ) (t : List ℕ) : Type 0 where

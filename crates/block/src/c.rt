@@ -4,7 +4,7 @@ ghost use lib.ListN.{length};
 ghost use Rattle.region.specs.declared.Rect.{Rect};
 ghost use Rattle.begin.specs.Beginnings.{regionBegins, windowedBegins, wholeOf, imageBegins};
 ghost use Rattle.block.specs.Lent.{Buffers, Scratch, Outputs};
-ghost use Rattle.block.specs.Words.{answerWords, Told, ToldWindowed, totalsWords, ToldRead, ToldTight, ToldWritten, ToldMeasured};
+ghost use Rattle.block.specs.Words.{answerWords, Told, ToldWindowed, totalsWords, ToldRead, ToldTight, ToldWritten, ToldLossy, ToldMeasured};
 use crate::Counted;
 use crate::Decoded;
 use crate::decoding::decode;
@@ -14,6 +14,7 @@ use crate::tight::read_block;
 use crate::tight::read_tight;
 use crate::writer::measure_block;
 use crate::writer::write_block;
+use crate::writer::write_lossy;
 use region::Rect;
 use statistics::Record;
 
@@ -192,6 +193,30 @@ pub extern "C" fn fuji_write_block(
         ⌜ ToldWritten (now (header .entry)) (now (samples .entry)) before after (now (size .exit)) (now (refusal .exit)) ⌝ }
 {
     let a = write_block(header, samples, out, lines, rs);
+    let n = stream::length_word(a);
+    let w = stream::length_refusal(a);
+    *size = n;
+    *refusal = w;
+}
+
+// `write_lossy` for C.
+#[no_mangle]
+pub extern "C" fn fuji_write_lossy(
+    header: &[u8],
+    bases: &[u8],
+    samples: &[u16],
+    out: &mut [u8],
+    lines: &mut [u16],
+    rs: &mut [Record],
+    size: &mut [usize; 1],
+    refusal: &mut [usize; 4],
+)
+    ensures { λ _.
+        let before : Outputs = record { out = now (out .entry); lines = now (lines .entry); records = now (rs .entry) } in
+        let after : Outputs = record { out = now (out .exit); lines = now (lines .exit); records = now (rs .exit) } in
+        ⌜ ToldLossy (now (header .entry)) (now (bases .entry)) (now (samples .entry)) before after (now (size .exit)) (now (refusal .exit)) ⌝ }
+{
+    let a = write_lossy(header, bases, samples, out, lines, rs);
     let n = stream::length_word(a);
     let w = stream::length_refusal(a);
     *size = n;

@@ -26,6 +26,7 @@ pub use tight::read_tight;
 pub use tight::tight_answer;
 pub use writer::measure_block;
 pub use writer::write_block;
+pub use writer::write_lossy;
 
 pub struct Form {
     pub bits: u32,

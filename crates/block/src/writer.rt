@@ -1,4 +1,4 @@
-// The writer: a set of colour lines becomes the tight block, or is only measured.
+// The writer: a set of colour lines becomes a block, tight where it is lossless, or is only measured.
 ghost use mathlib.Core.Path.{_≡_};
 ghost use mathlib.Core.List.{[]};
 ghost use Prim.Native.Nat.{_+_, _*_, _^_, _≤_, _<_};
@@ -11,11 +11,11 @@ ghost use Rattle.writing.specs.Sets.{lineSize, setSize};
 ghost use Rattle.writing.specs.Puts.{Room, Within};
 ghost use Rattle.block.specs.Records.{clearRecords};
 ghost use Rattle.block.specs.Blocks.{AllInRange};
-ghost use Rattle.begin.specs.Beginnings.{writingBegins};
+ghost use Rattle.begin.specs.Beginnings.{FitsOn, writingBegins, lossyBegins};
 ghost use Rattle.block.specs.Lent.{Outputs, Scratch, ScratchOf};
-ghost use Rattle.block.specs.WrittenBlocks.{isStrict, writeLines, SetWanted, writtenBlock, tightBlock};
-ghost use Rattle.block.specs.WrittenAnswers.{passesFrom, LineWritten, SetWritten, measuredAnswer, writtenAnswer, roomFor, outputOf};
-ghost use Rattle.block.specs.WrittenAnswers.{LeftWritten, LeftMeasured, LeftBy};
+ghost use Rattle.block.specs.WrittenBlocks.{isStrict, writeLines, SetWanted, writtenBlock};
+ghost use Rattle.block.specs.WrittenAnswers.{passesFrom, LineWritten, SetWritten, measuredAnswer, setAnswer, roomFor, outputOf};
+ghost use Rattle.block.specs.WrittenAnswers.{LeftWritten, LeftLossy, LeftMeasured, LeftBy};
 use crate::Form;
 use crate::form_of;
 use crate::reading::base_of;
@@ -175,7 +175,7 @@ fn write_walk(
     done
 }
 
-// A set whose samples are all in range: its bits are counted first, and stored only where they can be and are to be.
+// A set whose samples with a code are in range: its bits are counted first, and stored only where they can be and are to be.
 fn write_measured(
     samples: &[u16],
     out: &mut [u8],
@@ -206,7 +206,7 @@ fn write_measured(
     }
 }
 
-// A set of the right size, to be written without bases. Samples are looked at first, all of them.
+// A set of the right size. Its samples are looked at first: all of them, or with bases those that have a code.
 fn write_set(
     samples: &[u16],
     out: &mut [u8],
@@ -219,15 +219,14 @@ fn write_set(
 ) -> BlockLength
     requires { ⌜ (count < 2 ^ 16) × (length (now samples) ≡ setSize (widthOf (form .xtrans)) count) ⌝ }
     requires { ⌜ Depth (form .bits) × ScratchOf (form .xtrans) (now lines) (now rs) ⌝ }
-    requires { ⌜ now bases ≡ [] ⌝ }
     ensures { λ r.
-        let block = tightBlock form count (now (samples .entry)) in
-        ⌜ (r ≡ writtenAnswer form count (now (samples .entry)) (roomFor measure block (now (out .entry))))
+        let block = writtenBlock form (now (bases .entry)) count (now (samples .entry)) in
+        ⌜ (r ≡ setAnswer form (now (bases .entry)) count (now (samples .entry)) (roomFor measure block (now (out .entry))))
         × (now (out .exit) ≡ outputOf measure r block (now (out .entry))) ⌝ }
     ensures { λ _. ⌜ (now (lines .exit) ≡ zeroLines (widthOf (form .xtrans))) × (now (rs .exit) ≡ clearRecords) ⌝ }
 {
     let m = quantiser::largest(form.bits);
-    let i = first_above(samples, m);
+    let i = first_above(samples, m, form.xtrans, is_strict(bases));
     if i < samples.len() {
         lines::clear(lines);
         clear_records(rs);
@@ -236,22 +235,22 @@ fn write_set(
     write_measured(samples, out, measure, lines, rs, form, bases, count)
 }
 
-// Writing and measuring are one call, which goes on the first part of the lent scratch.
+// Writing with bases, without and measuring are one call, which goes on the first part of the lent scratch.
 fn write_in(
-    header: &[u8],
+    begins: Parsed,
+    bases: &[u8],
     samples: &[u16],
     out: &mut [u8],
     measure: bool,
     lines: &mut [u16],
     rs: &mut [Record],
 ) -> BlockLength
+    requires { ⌜ FitsOn begins (length (now samples)) (length (now lines)) (length (now rs)) ⌝ }
     ensures { λ a.
-        let t = now (samples .entry) in
         let before : Outputs = record { out = now (out .entry); lines = now (lines .entry); records = now (rs .entry) } in
         let after : Outputs = record { out = now (out .exit); lines = now (lines .exit); records = now (rs .exit) } in
-        ⌜ LeftBy measure t (writingBegins (now (header .entry)) (length t) (length (before .lines)) (length (before .records))) before after a ⌝ }
+        ⌜ LeftBy measure (now (bases .entry)) (now (samples .entry)) begins before after a ⌝ }
 {
-    let begins = begin::writing_begins(header, samples.len(), lines.len(), rs.len());
     match begins {
         Parsed::Refused(x) => BlockLength::Refused(x),
         Parsed::Header(h) => {
@@ -265,7 +264,7 @@ fn write_in(
                 &mut lines[0..used],
                 &mut rs[0..336],
                 form,
-                &header[0..0],
+                bases,
                 count,
             )
         }
@@ -287,7 +286,29 @@ pub fn write_block(
         let after : Outputs = record { out = now (out .exit); lines = now (lines .exit); records = now (rs .exit) } in
         ⌜ LeftWritten t (writingBegins (now (header .entry)) (length t) (length (before .lines)) (length (before .records))) before after a ⌝ }
 {
-    write_in(header, samples, out, false, lines, rs)
+    let begins = begin::writing_begins(header, samples.len(), lines.len(), rs.len());
+    write_in(begins, &header[0..0], samples, out, false, lines, rs)
+}
+
+// The lossy writer: one base for each line of six rows, and samples at interpolated positions are ignored. Else it is as the writer.
+pub fn write_lossy(
+    header: &[u8],
+    bases: &[u8],
+    samples: &[u16],
+    out: &mut [u8],
+    lines: &mut [u16],
+    rs: &mut [Record],
+) -> BlockLength
+    ensures { λ a.
+        let s = now (bases .entry) in
+        let t = now (samples .entry) in
+        let before : Outputs = record { out = now (out .entry); lines = now (lines .entry); records = now (rs .entry) } in
+        let after : Outputs = record { out = now (out .exit); lines = now (lines .exit); records = now (rs .exit) } in
+        let begins = lossyBegins (now (header .entry)) (length s) (length t) (length (before .lines)) (length (before .records)) in
+        ⌜ LeftLossy s t begins before after a ⌝ }
+{
+    let begins = begin::lossy_begins(header, bases.len(), samples.len(), lines.len(), rs.len());
+    write_in(begins, bases, samples, out, false, lines, rs)
 }
 
 // The length that the writer would answer, with no output to write to: refused as the writer refuses, but never for a short output.
@@ -304,5 +325,14 @@ pub fn measure_block(
         ⌜ LeftMeasured t (writingBegins (now (header .entry)) (length t) (length (before .lines)) (length (before .records))) before after a ⌝ }
 {
     let mut nothing = [0u8; 1];
-    write_in(header, samples, &mut nothing, true, lines, rs)
+    let begins = begin::writing_begins(header, samples.len(), lines.len(), rs.len());
+    write_in(
+        begins,
+        &header[0..0],
+        samples,
+        &mut nothing,
+        true,
+        lines,
+        rs,
+    )
 }

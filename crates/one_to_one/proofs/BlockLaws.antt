@@ -31,11 +31,11 @@ module _ (F : Form) (lines : ℕ) (s : List ℕ) where
 
   pub set-size : length (setRead F lines s) ≡ setSize W lines
   unfolding setRead
-  set-size = table-length (readSample F s) (setSize W lines)
+  set-size = table-length (readSample F [] s) (setSize W lines)
 
-  pub set-at : (j : ℕ) → j < setSize W lines → getD (setRead F lines s) j 0 ≡ readSample F s j
+  pub set-at : (j : ℕ) → j < setSize W lines → getD (setRead F lines s) j 0 ≡ readSample F [] s j
   unfolding setRead
-  set-at j h = table-getD (readSample F s) (setSize W lines) j 0 h
+  set-at j h = table-getD (readSample F [] s) (setSize W lines) j 0 h
 
   -- a sample of the set is what stands at its place once its line is read
   pub set-shown : (n c p : ℕ) → n < lines → c < 12 → p < W

@@ -1,4 +1,5 @@
 -- A block, read and written. Assumes nothing.
+use mathlib.Core.Bool.{true}
 use mathlib.Core.List.{List, []}
 use mathlib.Core.Option.{some}
 use mathlib.Core.Path.{_≡_, refl}
@@ -8,26 +9,28 @@ use lib.ListN.{getD, length-replicate}
 use Rattle.quantiser.specs.Quantisers.{largest}
 use Rattle.pass.specs.Readings.{andThen}
 use Rattle.map.specs.Places.{widthOf}
+use Rattle.writing.specs.Sets.{indexIn}
+use Rattle.steps.specs.Values.{Depth}
+use Rattle.steps.specs.Steps.{planOf}
+use Rattle.read_back.proofs.PassBack.{place-exact}
 use Rattle.writing.proofs.LosslessLaws.{Lossless}
+use Rattle.writing.proofs.SetLaws.{passes-lines}
 use Rattle.block.specs.Blocks.{State, runs, readLineAt, startState, readLines, linesOf}
-use Rattle.block.specs.WrittenBlocks.{writeLine, startWriting, writeLines}
+use Rattle.block.specs.WrittenBlocks.{writeLine, startWriting, writeLines, SetWanted}
 use Rattle.block.specs.declared.Form.{Form}
 use Rattle.block.proofs.SampleLaws.{zeros-le}
 use Rattle.block.proofs.WrittenLaws.{line-adds, line-right}
 use Rattle.one_to_one.proofs.RunTwins.{writeStateOf, CleanState, StoredState, StateForward, stored-before, Each, runs-forward, runs-backward}
 use Rattle.one_to_one.proofs.PassTwins.{SoundState}
-use Rattle.one_to_one.proofs.LineTwins.{LineHolds, line-sound, line-forward, line-backward}
+use Rattle.one_to_one.proofs.LineTwins.{LineHolds, LineLeft, line-sound, line-forward, line-backward}
 
-module _ (F : Form) (Q : Lossless (F .bits)) (s t : List ℕ) where
-  abbrev W : ℕ
-  W = widthOf (F .xtrans)
+-- ---- the start
 
-  -- ---- the start
-
+module _ (F : Form) (bases s : List ℕ) where
   start : State
-  start = startState F []
+  start = startState F bases
 
-  start-same : startWriting F [] ≡ writeStateOf s start
+  start-same : startWriting F bases ≡ writeStateOf s start
   unfolding startWriting startState start
   start-same = refl
 
@@ -37,49 +40,80 @@ module _ (F : Form) (Q : Lossless (F .bits)) (s t : List ℕ) where
 
   start-sound : SoundState F start
   unfolding startState start
-  start-sound = record { long = length-replicate (18 * (W + 2)) 0; small = zeros-le (largest (F .bits)) (18 * (W + 2)) }
+  start-sound =
+      let W : ℕ = widthOf (F .xtrans) in
+      record { long = length-replicate (18 * (W + 2)) 0; small = zeros-le (largest (F .bits)) (18 * (W + 2)) }
 
-  -- ---- n lines
+  next-read : (n : ℕ) (y z : State) → runs (readLineAt F bases s) n start ≡ some y → readLineAt F bases s n y ≡ some z → readLines F bases s (suc n) ≡ some z
+  unfolding readLines runs andThen start
+  next-read n y z e f = rw e f
 
-  -- the samples of line m of the set t stand in the lines as they are read
-  abbrev pub Shows : ℕ → Type 0
-  Shows m = LineHolds W t m (linesOf (readLines F [] s (suc m)))
-
-  lines : (most : ℕ) → Each s (readLineAt F [] s) (writeLine F [] t) start most (SoundState F) (λ m z. Shows m)
-  lines most =
+  -- what the lines hold stays true as others are read, since it is said of the lines after their own line
+  each : (t : List ℕ) (high : F .bits ≤ 16) (most : ℕ) (Hold : ℕ → Type 0)
+      → Each s (readLineAt F bases s) (writeLine F bases t) start most (SoundState F) (λ m z. Hold m)
+  each t high most Hold =
       record {
         start = start-sound;
-        sound = λ n y z q e. line-sound F Q s t n y z q e;
-        stored = λ n w. stored-before s (writeLine F [] t n) w (line-adds F [] t n w) (line-right F [] t n w);
+        sound = λ n y z q e. line-sound F bases high s n y z q e;
+        stored = λ n w. stored-before s (writeLine F bases t n) w (line-adds F bases t n w) (line-right F bases t n w);
         still = λ i c y z h k q e x. x;
         was = λ i c y z h k q e x. x;
       }
 
-  next-read : (n : ℕ) (y z : State) → runs (readLineAt F [] s) n start ≡ some y → readLineAt F [] s n y ≡ some z → readLines F [] s (suc n) ≡ some z
-  unfolding readLines runs andThen start
-  next-read n y z e f = rw e f
+-- ---- forward, with any bases
 
-  -- where the bits of n lines stand, the lines are read, and show the set's samples
-  pub lines-forward : ((j : ℕ) → getD t j 0 ≤ largest (F .bits)) → (n : ℕ) → StoredState s (writeLines F [] t n)
-      → (z : State) × ((readLines F [] s n ≡ some z) × CleanState s z × (writeLines F [] t n ≡ writeStateOf s z) × ((m : ℕ) → m < n → Shows m))
+-- what is left of line m of the set t, by the state before it and in the lines after it
+abbrev pub Shown : Form → (bases s t : List ℕ) → ℕ → Type 0
+Shown F bases s t m = (r : State) × (readLines F bases s m ≡ some r) × LineLeft F bases s t m r (linesOf (readLines F bases s (suc m)))
+
+module _ (F : Form) (bases : List ℕ) (depth : Depth (F .bits)) (s t : List ℕ) where
+  -- where the bits of n lines stand, the lines are read
+  pub lines-forward : SetWanted F t → (n : ℕ) → StoredState s (writeLines F bases t n)
+      → (z : State) × ((readLines F bases s n ≡ some z) × CleanState s z × (writeLines F bases t n ≡ writeStateOf s z) × ((m : ℕ) → m < n
+      → Shown F bases s t m))
   unfolding readLines writeLines start
   lines-forward range n stored =
       let all =
-      runs-forward s (readLineAt F [] s) (writeLine F [] t) start n (SoundState F) (λ m z. Shows m) (lines n) start-clean one n (le-refl n) (rw start-same at stored) in
+      runs-forward s (readLineAt F bases s) (writeLine F bases t) (start F bases s) n (SoundState F) (λ m z. Shown F bases s t m)
+      (each F bases s t (depth .1) n (Shown F bases s t))
+      (start-clean F bases s) one n (le-refl n) (rw (start-same F bases s) at stored) in
       let T = all .1 .0 in
-      (all .0, (T .read, T .clean, rw start-same (T .same), all .1 .1))
+      (all .0, (T .read, T .clean, rw (start-same F bases s) (T .same), all .1 .1))
     where
-      one : (i : ℕ) (y : State) → i < n → runs (readLineAt F [] s) i start ≡ some y → SoundState F y → CleanState s y → StoredState s (writeLine F [] t i (writeStateOf s y))
-          → (z : State) × (StateForward s (readLineAt F [] s i) (writeLine F [] t i) y z × Shows i)
+      one : (i : ℕ) (y : State) → i < n → runs (readLineAt F bases s) i (start F bases s) ≡ some y → SoundState F y → CleanState s y
+          → StoredState s (writeLine F bases t i (writeStateOf s y))
+          → (z : State) × (StateForward s (readLineAt F bases s i) (writeLine F bases t i) y z × Shown F bases s t i)
       one i y h e ok clean st =
-          let line = line-forward F Q s t i range y ok clean st in
-          (line .0, (line .1 .0, rw (next-read i y (line .0) e (line .1 .0 .read)) (line .1 .1)))
+          let line = line-forward F bases depth s t i range y ok clean st in
+          (line .0, (line .1 .0, (y, e, rw (next-read F bases s i y (line .0) e (line .1 .0 .read)) (line .1 .1))))
 
+-- ---- lossless
+
+-- the samples of line m of the set t stand in the lines as they are read
+abbrev pub Shows : Form → (s t : List ℕ) → ℕ → Type 0
+Shows F s t m = LineHolds (widthOf (F .xtrans)) t m (linesOf (readLines F [] s (suc m)))
+
+pub shown-exact : (F : Form) (s t : List ℕ) (m : ℕ) → Shown F [] s t m → Shows F s t m
+shown-exact F s t m S =
+    passes-lines (F .xtrans) (λ l. (p : ℕ) → p < W → getD lines (l * (W + 2) + p + 1) 0 ≡ getD t (indexIn W m l p) 0)
+    (λ i h. let L = S .2 i h in (
+      λ p k. place-exact (F .bits) 0 W true (F .xtrans) s t m _ _ lines ((planOf (F .xtrans) i) .first) p refl refl (L .2 p k .0),
+      λ p k. place-exact (F .bits) 0 W true (F .xtrans) s t m _ _ lines ((planOf (F .xtrans) i) .second) p refl refl (L .2 p k .1),
+    ))
+  where
+    W : ℕ
+    W = widthOf (F .xtrans)
+
+    lines : List ℕ
+    lines = linesOf (readLines F [] s (suc m))
+
+module _ (F : Form) (Q : Lossless (F .bits)) (s t : List ℕ) where
   -- where n lines were read, and show the set's samples, their bits stand
-  pub lines-backward : (n : ℕ) (z : State) → readLines F [] s n ≡ some z → CleanState s z → ((m : ℕ) → m < n → Shows m) → writeLines F [] t n ≡ writeStateOf s z
+  pub lines-backward : (n : ℕ) (z : State) → readLines F [] s n ≡ some z → CleanState s z → ((m : ℕ) → m < n → Shows F s t m)
+      → writeLines F [] t n ≡ writeStateOf s z
   unfolding readLines writeLines start
   lines-backward n z e clean shows =
       let all =
-      runs-backward s (readLineAt F [] s) (writeLine F [] t) start n (SoundState F) (λ m z. Shows m) (lines n)
-      (λ i y x h f ok g c k. line-backward F Q s t i y x ok g c (rw (next-read i y x f g) at k)) n z (le-refl n) e clean shows in
-      rw start-same (all .same)
+      runs-backward s (readLineAt F [] s) (writeLine F [] t) (start F [] s) n (SoundState F) (λ m z. Shows F s t m) (each F [] s t (Q .high) n (Shows F s t))
+      (λ i y x h f ok g c k. line-backward F Q s t i y x ok g c (rw (next-read F [] s i y x f g) at k)) n z (le-refl n) e clean shows in
+      rw (start-same F [] s) (all .same)

@@ -60,7 +60,7 @@ module _ (d : List ℕ) (h : FujiHeader) (e : parseOf d ≡ Parsing.Header h) (l
   short : answer ≡ Refused ShortScratch → (LongEnough h (b .block) before → answer ≡ Length n) → Put ↔ LongEnough h (b .block) before
   short a can = (λ p. clash ShortScratch n (sym a ∙ p .0), λ l. clash ShortScratch n (sym a ∙ can l))
 
-  done : SetWriting t h before after answer → samplesNeeded (h .xtrans) ≤ samples → recordsNeeded ≤ records → Put ↔ LongEnough h (b .block) before
+  done : SetWriting [] t h before after answer → samplesNeeded (h .xtrans) ≤ samples → recordsNeeded ≤ records → Put ↔ LongEnough h (b .block) before
   done L hl hr = (
     λ p. record { out = written-fits (formOf h) (h .lines) t (length (before .out)) n size (sym (L .answered) ∙ p .0) .2; lines = hl; records = hr },
     λ l. let a = correspondence-of-writers d h e lossless .answered t (before .out) b (l .out) in

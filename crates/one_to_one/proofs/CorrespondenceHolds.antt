@@ -1,82 +1,65 @@
 -- The correspondence holds. Assumes nothing.
-use mathlib.Core.Bool.{Bool, false}
+use mathlib.Core.Bool.{Bool}
 use mathlib.Core.List.{List, [], _++_}
 use mathlib.Core.Logic.{_↔_}
-use mathlib.Core.Option.{some}
 use mathlib.Core.Path.{_≡_, refl, sym, ap, _∙_, subst}
-use Prim.Native.Nat.{ℕ, _-_, _*_, _/_, _%_, _<_}
+use Prim.Native.Nat.{ℕ, _/_, _%_, _≤_, _<_}
 use native.Mathlib.Omega.{arith}
-use lib.ListN.{length, getD, take, drop, replicate, take-append-drop}
-use lib.Seq.{drop-at, ext-getD, length-take-le}
-use Rattle.bits.specs.BitLists.{bitsOf, blockBytes, bytesOf}
+use lib.ListN.{length, getD, take, take-append-drop}
+use lib.Seq.{ext-getD, length-take-le}
+use Rattle.bits.specs.BitLists.{bitsOf, bytesOf}
 use Rattle.bits.proofs.ListLaws.{length-bits}
-use Rattle.bits.proofs.PackLaws.{length-bytesOf, bytes-bytesOf, bits-bytesOf, bytesOf-bits}
+use Rattle.bits.proofs.PackLaws.{bytes-bytesOf, bytesOf-bits}
+use Rattle.quantiser.specs.Quantisers.{largest}
 use Rattle.steps.specs.Values.{Depth}
 use Rattle.map.specs.Places.{widthOf}
 use Rattle.stream.proofs.HeaderLaws.{ruled}
 use Rattle.stream.proofs.StreamLaws.{row-lossless}
 use Rattle.writing.specs.Sets.{lineSize, setSize, lineAt, positionAt}
 use Rattle.writing.proofs.LosslessLaws.{Lossless, lossless}
+use Rattle.writing.proofs.TurnPuts.{coded-wanted}
 use Rattle.writing.proofs.SetLaws.{line-lt, rank-lt, position-lt, index-at}
-use Rattle.block.specs.Blocks.{State, readLines}
+use Rattle.block.specs.Blocks.{State}
 use Rattle.block.specs.Images.{formOf}
 use Rattle.block.specs.TightBlocks.{Tight, setRead}
-use Rattle.block.specs.WrittenBlocks.{WriteState, writeLines, writtenBlock, tightBlock, FitSet}
+use Rattle.block.specs.WrittenBlocks.{WriteState, writeLines, writtenBlock, tightBlock, SetWanted, FitSet}
 use Rattle.block.specs.declared.Form.{Form}
 use Rattle.block.proofs.LineLaws.{width-in-range}
 use Rattle.one_to_one.specs.Correspondence.{Bytes, TightBlockOf, Correspondence, CorrespondenceOfHeaders, NoBases}
 use Rattle.one_to_one.proofs.AnswerLaws.{done-tight, tight-done}
 use Rattle.one_to_one.proofs.PredictedBlocks.{fits-is}
-use Rattle.one_to_one.proofs.BlockLaws.{set-size, set-at, set-shown, set-le, Tail, tail-was, tail-is}
-use Rattle.one_to_one.proofs.BlockTwins.{Shows, lines-forward, lines-backward}
-use Rattle.one_to_one.proofs.RunTwins.{writeStateOf, CleanState, StoredState}
+use Rattle.one_to_one.proofs.BlockLaws.{set-size, set-at, set-shown, set-le, Tail, tail-was}
+use Rattle.one_to_one.proofs.BlockTwins.{shown-exact, lines-backward}
+use Rattle.one_to_one.proofs.WrittenBack.{ReadWhole, read-whole}
+use Rattle.one_to_one.proofs.RunTwins.{writeStateOf}
 
-module _ (F : Form) (Q : Lossless (F .bits)) (lines : ℕ) where
+-- samples in 0..M are so where they have a code
+range-wanted : (F : Form) (t : List ℕ) → ((j : ℕ) → getD t j 0 ≤ largest (F .bits)) → SetWanted F t
+range-wanted F t range n i below =
+    let even = width-in-range (F .xtrans) (widthOf (F .xtrans)) refl .2 in
+    coded-wanted (largest (F .bits)) (widthOf (F .xtrans)) t n even (F .xtrans) i below (λ c p hc hp e. range _)
+
+module _ (F : Form) (depth : Depth (F .bits)) (Q : Lossless (F .bits)) (lines : ℕ) where
   abbrev W : ℕ
   W = widthOf (F .xtrans)
 
   -- ---- from a set to its block
 
   module _ (t : List ℕ) (fit : FitSet F lines t) where
-    abbrev bits : List Bool
-    bits = (writeLines F [] t lines) .bits
-
     s : List ℕ
     s = tightBlock F lines t
 
-    s-bits : bitsOf s ≡ bits ++ replicate (8 * blockBytes (length bits) - length bits) false
-    unfolding s writtenBlock
-    s-bits = bits-bytesOf bits
-
-    s-length : length s ≡ blockBytes (length bits)
-    unfolding s writtenBlock
-    s-length = length-bytesOf bits
-
-    rest : drop (length bits) (bitsOf s) ≡ replicate (8 * blockBytes (length bits) - length bits) false
-    rest = ap (drop (length bits)) s-bits ∙ drop-at bits (replicate (8 * blockBytes (length bits) - length bits) false) (length bits) refl
-
-    stored : StoredState s (writeLines F [] t lines)
-    stored = record { starts = s-bits ∙ ap (λ (l : List Bool). bits ++ l) (sym rest); right = fit .predicted }
-
-    -- it is read, up to as many bits as were written
-    read : (z : State) × ((readLines F [] s lines ≡ some z) × CleanState s z × (writeLines F [] t lines ≡ writeStateOf s z) × ((m : ℕ) → m < lines → Shows F Q s t m))
-    read = lines-forward F Q s t (fit .range) lines stored
-
-    tail : (z : State) → CleanState s z → writeLines F [] t lines ≡ writeStateOf s z → Tail s (z .at .0)
-    tail z clean same =
-        let e : length bits ≡ z .at .0 = ap (λ (w : WriteState). length (w .bits)) same ∙ length-take-le (z .at .0) (bitsOf s) (rw (length-bits s) (clean .inside)) in
-        record { full = rw (← e) s-length; inside = clean .inside; zeros = rw (← e, s-length) rest }
+    whole : ReadWhole F [] lines t s
+    unfolding s
+    whole = read-whole F [] depth lines t (range-wanted F t (fit .range)) (fit .predicted)
 
     pub written-bytes : Bytes (tightBlock F lines t)
     unfolding writtenBlock
-    written-bytes = bytes-bytesOf bits
+    written-bytes = bytes-bytesOf ((writeLines F [] t lines) .bits)
 
     pub written-tight : Tight F lines (tightBlock F lines t)
     unfolding s
-    written-tight =
-        let z : State = read .0 in
-        let R = read .1 in
-        record { end = z; read = R .0; codes = R .1 .tight; tail = tail-is s (z .at .0) (tail z (R .1) (R .2)) }
+    written-tight = record { end = whole .end; read = whole .read; codes = whole .codes; tail = whole .tail }
 
     pub written-set : setRead F lines (tightBlock F lines t) ≡ t
     unfolding s
@@ -84,8 +67,10 @@ module _ (F : Form) (Q : Lossless (F .bits)) (lines : ℕ) where
         ext-getD 0 (setRead F lines s) t (set-size F lines s ∙ sym (fit .size))
         (λ j h. let k : j < setSize W lines = omega (arith, set-size F lines s) in
         let pos : 0 < W = omega (arith, width-in-range (F .xtrans) W refl .0) in
+        let n : ℕ = lineAt W j in
+        let shows = shown-exact F s t n (whole .shown n (line-lt W lines j pos k)) in
         set-at F lines s j k
-        ∙ read .1 .3 (lineAt W j) (line-lt W lines j pos k) (j % lineSize W / W) (rank-lt W lines j pos k) (positionAt W j) (position-lt W lines j pos k)
+        ∙ shows (j % lineSize W / W) (rank-lt W lines j pos k) (positionAt W j) (position-lt W lines j pos k)
         ∙ ap (λ (i : ℕ). getD t i 0) (index-at W lines j pos k))
 
   -- ---- from a tight block to its set
@@ -128,9 +113,9 @@ pub correspondence : (F : Form) (lines : ℕ) → Depth (F .bits) → Correspond
 correspondence F lines depth =
     record {
       same = same;
-      sets = λ t. (λ p. from-set t (fits-is F lines t .1 p), λ (a : TightBlockOf F lines t). fits-is F lines t .0 (subst (FitSet F lines) (a .reads) (fits F Q lines (a .block) (a .tight))));
+      sets = λ t. (λ p. from-set t (fits-is F lines t .1 p), λ a. fits-is F lines t .0 (to-set t a));
       one = λ t a b. same (a .block) (b .block) (a .bytes) (b .bytes) (a .tight) (b .tight) .1 (a .reads ∙ sym (b .reads));
-      written = λ t p. let f = fits-is F lines t .1 p in (written-bytes F Q lines t f, written-tight F Q lines t f, written-set F Q lines t f);
+      written = λ t p. written t (fits-is F lines t .1 p);
       accepted = λ b s. (done-tight F s b lines, tight-done F s b lines);
       shown = set-shown F lines;
     }
@@ -140,15 +125,22 @@ correspondence F lines depth =
 
     same : (a b : List ℕ) → Bytes a → Bytes b → Tight F lines a → Tight F lines b → (a ≡ b) ↔ (setRead F lines a ≡ setRead F lines b)
     same a b ha hb ta tb =
-        (λ e. ap (setRead F lines) e, λ e. sym (block-is F Q lines a ta ha) ∙ ap (tightBlock F lines) e ∙ block-is F Q lines b tb hb)
+        (λ e. ap (setRead F lines) e, λ e. sym (block-is F depth Q lines a ta ha) ∙ ap (tightBlock F lines) e ∙ block-is F depth Q lines b tb hb)
+
+    written : (t : List ℕ) → FitSet F lines t
+        → Bytes (tightBlock F lines t) × Tight F lines (tightBlock F lines t) × (setRead F lines (tightBlock F lines t) ≡ t)
+    written t f = (written-bytes F depth Q lines t f, written-tight F depth Q lines t f, written-set F depth Q lines t f)
+
+    to-set : (t : List ℕ) → TightBlockOf F lines t → FitSet F lines t
+    to-set t a = subst (FitSet F lines) (a .reads) (fits F depth Q lines (a .block) (a .tight))
 
     from-set : (t : List ℕ) → FitSet F lines t → TightBlockOf F lines t
     from-set t f =
         record {
           block = tightBlock F lines t;
-          bytes = written-bytes F Q lines t f;
-          tight = written-tight F Q lines t f;
-          reads = written-set F Q lines t f;
+          bytes = written-bytes F depth Q lines t f;
+          tight = written-tight F depth Q lines t f;
+          reads = written-set F depth Q lines t f;
         }
 
 -- under every lossless header that breaks no rule

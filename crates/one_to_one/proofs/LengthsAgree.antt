@@ -21,11 +21,11 @@ use Rattle.stream.specs.declared.Parsed.{Parsed}
 use Rattle.stream.specs.declared.Parsed.the-variants as Parsing
 use Rattle.stream.specs.declared.Refusal.{Refusal}
 use Rattle.stream.specs.declared.Refusal.the-variants.{ShortHeader, BadHeader, Lossy, WrongCount, ShortScratch, AboveLargest, NotPredicted, ShortOutput}
-use Rattle.begin.specs.Beginnings.{isShortScratch, withParsed, writingBegins, firstAbove}
+use Rattle.begin.specs.Beginnings.{isShortScratch, withParsed, writingBegins}
 use Rattle.begin.proofs.CallLaws.{writing-goes}
 use Rattle.writing.specs.Sets.{setSize}
 use Rattle.block.specs.Images.{formOf}
-use Rattle.block.specs.WrittenAnswers.{predictedAnswer, rangeAnswer, measuredAnswer, writtenAnswer, exactAnswer, LeftWritten, LeftMeasured}
+use Rattle.block.specs.WrittenAnswers.{predictedAnswer, rangeAnswer, measuredAnswer, aboveIn, setAnswer, writtenAnswer, exactAnswer, LeftWritten, LeftMeasured}
 use Rattle.block.specs.WrittenBlocks.{writeLines, tightBlock}
 use Rattle.block.specs.declared.Form.{Form}
 use Rattle.one_to_one.specs.Lengths.{Agrees, AgreementOfCalls, MeasuredWithinBound}
@@ -75,9 +75,9 @@ measured-length room n = go (ltb room n) refl
           never-short = λ e. clash ShortOutput n (sym e);
         }
 
-agree : (F : Form) (lines : ℕ) (t : List ℕ) (room : ℕ) → Agrees room (exactAnswer F lines t) (writtenAnswer F lines t room)
-unfolding exactAnswer writtenAnswer measuredAnswer
-agree F lines t room = go (firstAbove (largest (F .bits)) 0 t) ((writeLines F [] t lines) .wrong) (length (tightBlock F lines t))
+agree : (F : Form) (lines : ℕ) (t : List ℕ) (room : ℕ) → Agrees room (exactAnswer F [] lines t) (writtenAnswer F lines t room)
+unfolding exactAnswer setAnswer measuredAnswer
+agree F lines t room = go (aboveIn F [] t) ((writeLines F [] t lines) .wrong) (length (tightBlock F lines t))
   where
     go : (o p : Option ℕ) (n : ℕ) → Agrees room (rangeAnswer o (predictedAnswer p n n)) (rangeAnswer o (predictedAnswer p n room))
     go (some i) p n = both-refused room (AboveLargest i) (lit< tt)
@@ -133,6 +133,6 @@ measured-within-bound d t h a b before after n e = go (writingBegins d (length t
         let f : Parsing.Header g ≡ Parsing.Header h = sym (k .parses) ∙ e in
         let is : g ≡ h = cc in
         let block : List ℕ = tightBlock (formOf g) (g .lines) t in
-        let w = correspondence-of-writers d g (k .parses) (k .lossless) .whole t block n (k .size) (sym (l .answered)) in
-        let m : length block ≤ lengthBound g = bounds d g (k .parses) (k .lossless) block (w .tight) in
+        let w = correspondence-of-writers d g (k .parses) (k .lossless-is) .whole t block n (k .set .size) (sym (l .answered)) in
+        let m : length block ≤ lengthBound g = bounds d g (k .parses) (k .lossless-is) block (w .tight) in
         rw (w .size, ← is) m

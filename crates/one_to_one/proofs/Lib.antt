@@ -1,10 +1,10 @@
 -- Proofs that tight blocks and sets of colour lines correspond one to one.
-pub mod PlanLaws
 pub mod RunTwins
 pub mod PassTwins
 pub mod LineTwins
 pub mod BlockTwins
 pub mod BlockLaws
+pub mod WrittenBack
 pub mod AnswerLaws
 pub mod CorrespondenceHolds
 pub mod WriterHolds

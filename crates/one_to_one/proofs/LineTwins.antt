@@ -11,59 +11,51 @@ use borrow.Author.Tests.{le-leb}
 use Rattle.quantiser.specs.Quantisers.{largest}
 use Rattle.pass.specs.Readings.{andThen}
 use Rattle.steps.specs.Steps.{planOf}
+use Rattle.steps.specs.Values.{Depth}
 use Rattle.lines.proofs.LineLaws.{length-turned}
 use Rattle.map.specs.Places.{widthOf}
 use Rattle.writing.specs.Sets.{lineOfRank}
-use Rattle.read_back.proofs.PassBack.{Holds}
+use Rattle.read_back.proofs.PassBack.{Holds, place-same}
 use Rattle.writing.proofs.LosslessLaws.{Lossless}
 use Rattle.block.specs.Blocks.{State, runs, passAt, endLine, readLine, beforeLine, readLineAt}
-use Rattle.block.specs.WrittenBlocks.{writePassAt, writeLine}
+use Rattle.block.specs.Records.{baseOf}
+use Rattle.block.specs.WrittenBlocks.{writePassAt, isStrict, writeLine, SetWanted}
 use Rattle.block.specs.declared.Form.{Form}
+use Rattle.block.proofs.RunLaws.{runs-keep}
 use Rattle.block.proofs.SampleLaws.{turned-le}
 use Rattle.block.proofs.WrittenLaws.{passAt-adds, passAt-right}
-use Rattle.one_to_one.proofs.PlanLaws.{NotOf, other-lines, passes-lines, lines-passes}
-use Rattle.one_to_one.proofs.RunTwins.{writeStateOf, CleanState, StoredState, StateForward, StateBack, stored-before, Each, sound-after, runs-forward, runs-backward}
-use Rattle.one_to_one.proofs.PassTwins.{SoundState, PassHolds, pass-sound, pass-keeps-others, passAt-forward, passAt-backward}
+use Rattle.steps.proofs.PlanLaws.{NotOf, other-lines}
+use Rattle.writing.proofs.SetLaws.{lines-passes}
+use Rattle.one_to_one.proofs.RunTwins.{writeStateOf, CleanState, StoredState, StateForward, StateBack, stored-before, Each, runs-forward, runs-backward}
+use Rattle.one_to_one.proofs.PassTwins.{SoundState, PassHolds, LeftBy, PassLeft, pass-sound, pass-keeps-others, passAt-forward, passAt-backward}
 
 -- the samples of all twelve colour lines in line n of the set t stand in the lines
 abbrev pub LineHolds : ℕ → List ℕ → ℕ → List ℕ → Type 0
 LineHolds W t n lines = (c : ℕ) → c < 12 → Holds W t n lines (lineOfRank c)
 
-module _ (F : Form) (Q : Lossless (F .bits)) (s t : List ℕ) (n : ℕ) where
+-- ---- what any line does
+
+module _ (F : Form) (bases : List ℕ) (high : F .bits ≤ 16) (s : List ℕ) (n : ℕ) where
   abbrev W : ℕ
   W = widthOf (F .xtrans)
 
-  -- ---- six passes of line n
+  abbrev q : ℕ
+  q = baseOf bases n
 
   -- the lines of pass c are after pass i as they were before it
-  module _ (i c : ℕ) (y z : State) (hi : i < 6) (before : c < i) (ok : SoundState F y) (e : passAt F 0 s i y ≡ some z) where
+  module _ (i c : ℕ) (y z : State) (hi : i < 6) (before : c < i) (ok : SoundState F y) (e : passAt F q s i y ≡ some z) where
     apart : NotOf (F .xtrans) i ((planOf (F .xtrans) c) .first) × NotOf (F .xtrans) i ((planOf (F .xtrans) c) .second)
     apart = other-lines (F .xtrans) c i (omega arith) hi (λ f. omega arith)
 
-    same-line : (l p : ℕ) → p < W → NotOf (F .xtrans) i l → getD (z .lines) (l * (W + 2) + p + 1) 0 ≡ getD (y .lines) (l * (W + 2) + p + 1) 0
-    same-line l p h ne = pass-keeps-others F Q s i y ok z l p h ne e
+    abbrev SameLine : ℕ → Type 0
+    SameLine l = (p : ℕ) → p < W → getD (z .lines) (l * (W + 2) + p + 1) 0 ≡ getD (y .lines) (l * (W + 2) + p + 1) 0
 
-    still : PassHolds F t n c y → PassHolds F t n c z
-    still h = (λ p k. same-line _ p k (apart .0) ∙ h .0 p k, λ p k. same-line _ p k (apart .1) ∙ h .1 p k)
-
-    was : PassHolds F t n c z → PassHolds F t n c y
-    was h = (λ p k. sym (same-line _ p k (apart .0)) ∙ h .0 p k, λ p k. sym (same-line _ p k (apart .1)) ∙ h .1 p k)
-
-  passes : (r : State) → SoundState F r → Each s (passAt F 0 s) (writePassAt F 0 true t n) r 6 (SoundState F) (PassHolds F t n)
-  passes r ok =
-      record {
-        start = ok;
-        sound = λ i y z q e. pass-sound F Q s i y q z e;
-        stored = λ i w. stored-before s (writePassAt F 0 true t n i) w (passAt-adds F 0 true t n i w) (passAt-right F 0 true t n i w);
-        still = still;
-        was = was;
-      }
-
-  -- ---- line n
+    same-lines : SameLine ((planOf (F .xtrans) c) .first) × SameLine ((planOf (F .xtrans) c) .second)
+    same-lines = (λ p h. pass-keeps-others F q high s i y ok z _ p h (apart .0) e, λ p h. pass-keeps-others F q high s i y ok z _ p h (apart .1) e)
 
   -- before it the lines are turned, and the same is done for writing
   abbrev before : State → State
-  before r = beforeLine F [] n r
+  before r = beforeLine F bases n r
 
   before-sound : (r : State) → SoundState F r → SoundState F (before r)
   before-sound r ok =
@@ -83,39 +75,105 @@ module _ (F : Form) (Q : Lossless (F .bits)) (s t : List ℕ) (n : ℕ) where
       go true f = cc
       go false f = let no : _≡_ {A = ℕ} 0 1 = cc in absurd (omega arith)
 
-  line-is : (r z : State) → runs (passAt F 0 s) 6 (before r) ≡ some z → CleanState s z → readLineAt F [] s n r ≡ some z
+  line-is : (r z : State) → runs (passAt F q s) 6 (before r) ≡ some z → CleanState s z → readLineAt F bases s n r ≡ some z
   unfolding readLineAt readLine andThen
   line-is r z e clean = rw e (end-is z clean)
 
-  line-was : (r z : State) → readLineAt F [] s n r ≡ some z → runs (passAt F 0 s) 6 (before r) ≡ some z
+  line-was : (r z : State) → readLineAt F bases s n r ≡ some z → runs (passAt F q s) 6 (before r) ≡ some z
   unfolding readLineAt readLine andThen
-  line-was r z e = go (runs (passAt F 0 s) 6 (before r)) e
+  line-was r z e = go (runs (passAt F q s) 6 (before r)) e
     where
       go : (o : Option State) → andThen o (endLine s) ≡ some z → o ≡ some z
       go none f = f
       go (some y) f = ap some (end-was y z f)
 
-  pub line-sound : (r z : State) → SoundState F r → readLineAt F [] s n r ≡ some z → SoundState F z
+  pub line-sound : (r z : State) → SoundState F r → readLineAt F bases s n r ≡ some z → SoundState F z
   line-sound r z ok e =
-      sound-after s (passAt F 0 s) (writePassAt F 0 true t n) (before r) 6 (SoundState F) (PassHolds F t n) (passes (before r) (before-sound r ok)) 6 z (line-was r z e)
+      runs-keep (passAt F q s) (before r) (SoundState F) (before-sound r ok) (λ i a b k f. pass-sound F q high s i a k b f) 6 z (line-was r z e)
+
+-- ---- forward, with any base
+
+-- what these lines have of line n, which was read from the state r on: of both lines of each pass, by the state before that pass
+abbrev pub LineLeft : Form → (bases s t : List ℕ) → ℕ → State → List ℕ → Type 0
+LineLeft F bases s t n r lines =
+    let q = baseOf bases n in
+    (i : ℕ) → i < 6 → (y : State) × (runs (passAt F q s) i (beforeLine F bases n r) ≡ some y) × PassLeft F q (isStrict bases) s t n i y lines
+
+module _ (F : Form) (bases : List ℕ) (depth : Depth (F .bits)) (s t : List ℕ) (n : ℕ) where
+  abbrev Q : ℕ
+  Q = baseOf bases n
+
+  abbrev strict : Bool
+  strict = isStrict bases
+
+  -- what pass c leaves, in these lines
+  abbrev PassHold : State → ℕ → State → Type 0
+  PassHold r c z = (y : State) × (runs (passAt F Q s) c r ≡ some y) × PassLeft F Q strict s t n c y (z .lines)
+
+  -- colour line l is in both states the same
+  abbrev Kept : ℕ → State → State → Type 0
+  Kept l y z =
+      (p : ℕ) → p < widthOf (F .xtrans)
+      → getD (z .lines) (l * (widthOf (F .xtrans) + 2) + p + 1) 0 ≡ getD (y .lines) (l * (widthOf (F .xtrans) + 2) + p + 1) 0
+
+  hold-same : (r : State) (c : ℕ) (y z : State) → Kept ((planOf (F .xtrans) c) .first) y z → Kept ((planOf (F .xtrans) c) .second) y z
+      → PassHold r c y → PassHold r c z
+  hold-same r c y z first second h = (h .0, h .1, λ p k. (moved _ p (first p k) (h .2 p k .0), moved _ p (second p k) (h .2 p k .1)))
+    where
+      moved : (l p : ℕ) → getD (z .lines) (l * (widthOf (F .xtrans) + 2) + p + 1) 0 ≡ getD (y .lines) (l * (widthOf (F .xtrans) + 2) + p + 1) 0
+          → LeftBy F Q strict s t n c (h .0) (y .lines) l p → LeftBy F Q strict s t n c (h .0) (z .lines) l p
+      moved l p e L = place-same (F .bits) Q (widthOf (F .xtrans)) strict (F .xtrans) s t n _ _ (y .lines) (z .lines) l p e L
+
+  passes-left : (r : State) → SoundState F r → Each s (passAt F Q s) (writePassAt F Q strict t n) r 6 (SoundState F) (PassHold r)
+  passes-left r ok =
+      record {
+        start = ok;
+        sound = λ i y z k e. pass-sound F Q (depth .1) s i y k z e;
+        stored = λ i w. stored-before s (writePassAt F Q strict t n i) w (passAt-adds F Q strict t n i w) (passAt-right F Q strict t n i w);
+        still = λ i c y z hi k q e h. let m = same-lines F bases (depth .1) s n i c y z hi k q e in hold-same r c y z (m .0) (m .1) h;
+        was = λ i c y z hi k q e h.
+            let m = same-lines F bases (depth .1) s n i c y z hi k q e in
+            hold-same r c z y (λ p j. sym (m .0 p j)) (λ p j. sym (m .1 p j)) h;
+      }
 
   -- where the bits of a line stand, the line is read
-  pub line-forward : ((j : ℕ) → getD t j 0 ≤ largest (F .bits)) → (r : State) → SoundState F r → CleanState s r → StoredState s (writeLine F [] t n (writeStateOf s r))
-      → (z : State) × (StateForward s (readLineAt F [] s n) (writeLine F [] t n) r z × LineHolds W t n (z .lines))
+  pub line-forward : SetWanted F t → (r : State) → SoundState F r → CleanState s r → StoredState s (writeLine F bases t n (writeStateOf s r))
+      → (z : State) × (StateForward s (readLineAt F bases s n) (writeLine F bases t n) r z × LineLeft F bases s t n r (z .lines))
   unfolding writeLine
   line-forward range r ok clean stored =
+      let b : State = before F bases (depth .1) s n r in
       let all =
-      runs-forward s (passAt F 0 s) (writePassAt F 0 true t n) (before r) 6 (SoundState F) (PassHolds F t n) (passes (before r) (before-sound r ok)) clean
-      (λ i y h e q c. passAt-forward F Q s i y q h t n range c) 6 (omega arith) stored in
+      runs-forward s (passAt F Q s) (writePassAt F Q strict t n) b 6 (SoundState F) (PassHold b)
+      (passes-left b (before-sound F bases (depth .1) s n r ok)) clean
+      (λ i y h e k c st. let one = passAt-forward F Q (depth .1) s i y k h t n strict depth range c st in (one .0, (one .1 .0, (y, e, one .1 .1))))
+      6 (omega arith) stored in
       let z : State = all .0 in
       let T = all .1 .0 in
-      (z, (record { read = line-is r z (T .read) (T .clean); clean = T .clean; same = T .same }, passes-lines (F .xtrans) (Holds W t n (z .lines)) (all .1 .1)))
+      (z, (record { read = line-is F bases (depth .1) s n r z (T .read) (T .clean); clean = T .clean; same = T .same }, all .1 .1))
+
+-- ---- backward, lossless
+
+module _ (F : Form) (Q : Lossless (F .bits)) (s t : List ℕ) (n : ℕ) where
+  passes : (r : State) → SoundState F r → Each s (passAt F 0 s) (writePassAt F 0 true t n) r 6 (SoundState F) (PassHolds F t n)
+  passes r ok =
+      record {
+        start = ok;
+        sound = λ i y z q e. pass-sound F 0 (Q .high) s i y q z e;
+        stored = λ i w. stored-before s (writePassAt F 0 true t n i) w (passAt-adds F 0 true t n i w) (passAt-right F 0 true t n i w);
+        still = λ i c y z hi k q e h. let m = same-lines F [] (Q .high) s n i c y z hi k q e in (λ p j. m .0 p j ∙ h .0 p j, λ p j. m .1 p j ∙ h .1 p j);
+        was = λ i c y z hi k q e h.
+            let m = same-lines F [] (Q .high) s n i c y z hi k q e in
+            (λ p j. sym (m .0 p j) ∙ h .0 p j, λ p j. sym (m .1 p j) ∙ h .1 p j);
+      }
 
   -- where a line was read, its bits stand
-  pub line-backward : (r z : State) → SoundState F r → readLineAt F [] s n r ≡ some z → CleanState s z → LineHolds W t n (z .lines) → StateBack s (writeLine F [] t n) r z
+  pub line-backward : (r z : State) → SoundState F r → readLineAt F [] s n r ≡ some z → CleanState s z
+      → LineHolds (widthOf (F .xtrans)) t n (z .lines) → StateBack s (writeLine F [] t n) r z
   unfolding writeLine
   line-backward r z ok e clean holds =
+      let b : State = before F [] (Q .high) s n r in
       let all =
-      runs-backward s (passAt F 0 s) (writePassAt F 0 true t n) (before r) 6 (SoundState F) (PassHolds F t n) (passes (before r) (before-sound r ok))
-      (λ i y x h f q g c k. passAt-backward F Q s i y q h t n x g c k) 6 z (omega arith) (line-was r z e) clean (lines-passes (F .xtrans) (Holds W t n (z .lines)) holds) in
+      runs-backward s (passAt F 0 s) (writePassAt F 0 true t n) b 6 (SoundState F) (PassHolds F t n) (passes b (before-sound F [] (Q .high) s n r ok))
+      (λ i y x h f q g c k. passAt-backward F Q s i y q h t n x g c k) 6 z (omega arith) (line-was F [] (Q .high) s n r z e) clean
+      (lines-passes (F .xtrans) (Holds (widthOf (F .xtrans)) t n (z .lines)) holds) in
       record { clean = all .clean; same = all .same }

@@ -8,7 +8,7 @@ use Prim.Native.Nat.{ℕ, zero, suc, _+_, _-_, _*_, _%_, _≤_, _<_}
 use native.Mathlib.Omega.{arith}
 use lib.ListN.{length, getD, length-replicate}
 use Rattle.numbers.proofs.OrderLaws.{split}
-use Rattle.steps.specs.Steps.{planOf, passSteps}
+use Rattle.steps.specs.Steps.{isInterpolated, planOf, passSteps}
 use Rattle.steps.specs.Contexts.{contextIn}
 use Rattle.steps.specs.declared.Plan.{Plan}
 use Rattle.lines.specs.ColourLines.{zeroLines, guarded, turned}
@@ -19,17 +19,17 @@ use Rattle.writing.specs.Sets.{indexIn}
 use Rattle.quantiser.specs.Quantisers.{largest}
 use Rattle.writing.specs.Puts.{Within}
 use Rattle.writing.specs.Writings.{writePass}
-use Rattle.pass.proofs.FrameLaws.{pass-all}
-use Rattle.read_back.proofs.OrderLaws.{all-pass}
+use Rattle.steps.proofs.OrderLaws.{all-both, pass-all, all-pass}
+use Rattle.steps.proofs.PlanLaws.{interpolated-even, steps-coded}
 use Rattle.block.specs.WrittenBlocks.{WriteState, repeats, enterWriting, writePassAt, beforeWriting, writeLine, startWriting, writeLines, FitSet}
 use Rattle.block.specs.declared.Form.{Form}
 use Rattle.block.proofs.LineLaws.{width-in-range}
 use Rattle.block.proofs.SampleLaws.{zeros-le, guarded-le, turned-le}
 use Rattle.block.proofs.WalkLaws.{passAt-within, lines-within}
 use Rattle.block.proofs.WrittenLaws.{passAt-right, line-right}
-use Rattle.one_to_one.specs.PredictedSets.{sampleAt, predictionIn, isInterpolated, PredictedSet}
+use Rattle.one_to_one.specs.PredictedSets.{sampleAt, predictionIn, PredictedSet}
 use Rattle.one_to_one.proofs.PredictedSteps.{place, AllRight, writes-wrong}
-use Rattle.one_to_one.proofs.PredictedPasses.{all-both, interpolated-even, steps-coded, ready, LineOf, lines-of, each-before, early-coded, Owner, before, first, second, owner, all-in-pass}
+use Rattle.one_to_one.proofs.PredictedPasses.{ready, LineOf, lines-of, each-before, early-coded, Owner, before, first, second, owner, all-in-pass}
 use Rattle.one_to_one.proofs.PredictedLines.{Found, entered, found-next, prediction-is}
 
 module _ (F : Form) (t : List ℕ) (range : (j : ℕ) → getD t j 0 ≤ largest (F .bits)) where

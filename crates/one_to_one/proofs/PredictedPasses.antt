@@ -11,79 +11,13 @@ use lib.ListN.{getD}
 use borrow.Author.Tests.{eq-eqb, ne-eqb, le-ltb, lt-ltb, le-leb, lt-leb, leb-true, ltb-true, eqb-true}
 use Rattle.numbers.proofs.BoolLaws.{both}
 use Rattle.numbers.proofs.OrderLaws.{split}
-use Rattle.steps.specs.Steps.{plans, noPlan, planOf, interpolated, Step, evenSteps, oddSteps, turnSteps, passSteps}
+use Rattle.steps.specs.Steps.{plans, noPlan, planOf, isInterpolated, Step, passSteps}
 use Rattle.steps.specs.declared.Plan.{Plan}
-use Rattle.pass.proofs.FrameLaws.{All, all-append, all-upto, pass-all}
+use Rattle.steps.proofs.OrderLaws.{All, all-both, pass-all}
 use Rattle.lines.proofs.MoveLaws.{place-is}
-use Rattle.one_to_one.specs.PredictedSets.{isBefore, isInterpolated}
-use Rattle.one_to_one.proofs.PlanLaws.{firstLine, secondLine, lines-are, each-pass}
+use Rattle.one_to_one.specs.PredictedSets.{isBefore}
+use Rattle.steps.proofs.PlanLaws.{firstLine, secondLine, lines-are, each-pass, interpolated-even, CodedIn, steps-coded}
 use Rattle.one_to_one.proofs.PredictedSteps.{place, InPass}
-
--- ---- lists of steps
-
-pub all-both : {P Q R : Step → Type 0} (l : List Step) → All P l → All Q l → ((x : Step) → P x → Q x → R x) → All R l
-all-both [] a b f = tt
-all-both (x ∷ l) a b f = (f x (a .0) (b .0), all-both l (a .1) (b .1) f)
-
--- ---- which positions are interpolated: the rules of the passes are those of the definition
-
-by-four : {X : Type 0} (p : ℕ) → p % 2 ≡ 0 → (p % 4 ≡ 0 → X) → (p % 4 ≡ 2 → X) → X
-by-four p e f g = split (p % 4) 0 (λ h. f (omega arith)) (λ h. g (omega arith))
-
-abbrev SameRules : Bool → Plan → Type 0
-SameRules xtrans P =
-    (p : ℕ) → p % 2 ≡ 0
-    → (interpolated (P .«first_rule») p ≡ isInterpolated xtrans (P .first) p) × (interpolated (P .«second_rule») p ≡ isInterpolated xtrans (P .second) p)
-
--- an odd position has a code
-odd-coded : (xtrans : Bool) (l p : ℕ) → p % 2 ≢ 0 → isInterpolated xtrans l p ≡ false
-unfolding isInterpolated
-odd-coded false l p h = refl
-odd-coded true l p h =
-    rw (ne-eqb (p % 2) 0 h, ne-eqb (p % 4) 0 (λ e. h (omega arith)), ne-eqb (p % 4) 2 (λ e. h (omega arith)))
-
--- so an interpolated one is even
-pub interpolated-even : (xtrans : Bool) (l p : ℕ) → isInterpolated xtrans l p ≡ true → p % 2 ≡ 0
-interpolated-even xtrans l p e =
-    split (p % 2) 0 (λ k. omega arith)
-    (λ k. let no : false ≡ true = sym (odd-coded xtrans l p (λ z. omega arith)) ∙ e in let y : _≡_ {A = ℕ} 0 1 = cc in absurd (omega arith))
-
-same-rules : (xtrans : Bool) (i : ℕ) → i < 6 → SameRules xtrans (planOf xtrans i)
-unfolding planOf interpolated isInterpolated
-same-rules false i h = λ p e. (refl, refl)
-same-rules true i h =
-    each-pass (λ i. SameRules true (getD plans i noPlan)) (
-      (λ p e. by-four p e (λ f. rw (f, e) (refl, refl)) (λ f. rw (f, e) (refl, refl))),
-      (λ p e. by-four p e (λ f. rw (f, e) (refl, refl)) (λ f. rw (f, e) (refl, refl))),
-      (λ p e. by-four p e (λ f. rw (f, e) (refl, refl)) (λ f. rw (f, e) (refl, refl))),
-      (λ p e. by-four p e (λ f. rw (f, e) (refl, refl)) (λ f. rw (f, e) (refl, refl))),
-      (λ p e. by-four p e (λ f. rw (f, e) (refl, refl)) (λ f. rw (f, e) (refl, refl))),
-      (λ p e. by-four p e (λ f. rw (f, e) (refl, refl)) (λ f. rw (f, e) (refl, refl))),
-    ) i h
-
--- ---- the steps of a pass
-
-abbrev pub CodedIn : Bool → Step → Type 0
-CodedIn xtrans x = x .coded ≡ not (isInterpolated xtrans (x .line) (x .position))
-
-pub steps-coded : (xtrans : Bool) (W i : ℕ) → i < 6 → All (CodedIn xtrans) (passSteps W (planOf xtrans i))
-unfolding passSteps turnSteps
-steps-coded xtrans W i h = all-upto (CodedIn xtrans) (turnSteps W P) (W / 2 + 4) (λ t k. turn t)
-  where
-    P : Plan
-    P = planOf xtrans i
-
-    evens : (p : ℕ) → p % 2 ≡ 0 → All (CodedIn xtrans) (evenSteps P p)
-    evens p e = let s = same-rules xtrans i h p e in (ap not (s .0), (ap not (s .1), tt))
-
-    odds : (p : ℕ) → p % 2 ≢ 0 → All (CodedIn xtrans) (oddSteps P p)
-    odds p e = (rw (odd-coded xtrans (P .first) p e), (rw (odd-coded xtrans (P .second) p e), tt))
-
-    turn : (t : ℕ) → All (CodedIn xtrans) (turnSteps W P t)
-    turn t =
-        all-append (CodedIn xtrans) (cond (ltb (2 * t) W) (evenSteps P (2 * t)) []) (cond (leb 8 (2 * t)) (oddSteps P (2 * t - 7)) [])
-        (split W (2 * t) (λ k. rw (le-ltb (2 * t) W k) tt) (λ k. rw (lt-ltb (2 * t) W k) (evens (2 * t) (omega arith))))
-        (split 8 (2 * t) (λ k. rw (le-leb 8 (2 * t) k) (odds (2 * t - 7) (λ e. omega arith))) (λ k. rw (lt-leb 8 (2 * t) k) tt))
 
 -- ---- the order of the lines
 

@@ -2,11 +2,12 @@
 use mathlib.Core.Bool.{Bool, true, cond, _&&_, _||_}
 use mathlib.Core.List.{List}
 use mathlib.Core.Path.{_≡_}
-use Prim.Native.Nat.{ℕ, zero, suc, _+_, _-_, _%_, _≤_, _<_}
+use Prim.Native.Nat.{ℕ, zero, suc, _+_, _-_, _≤_, _<_}
 use lib.Dec.{leb, ltb, eqb}
 use lib.ListN.{length, getD}
 use Rattle.quantiser.specs.Quantisers.{largest}
 use Rattle.prediction.specs.Predictions.{evenPrediction}
+use Rattle.steps.specs.Steps.{isInterpolated}
 use Rattle.map.specs.Places.{widthOf}
 use Rattle.writing.specs.Sets.{setSize, indexIn}
 use Rattle.block.specs.declared.Form.{Form}
@@ -36,14 +37,6 @@ predictionIn W t n l p =
     let rb = sampleAt W t n (l - 1) p in
     let rd = sampleAt W t n (l - 1) (p + 1) in
     evenPrediction rf rc rb rd
-
--- X-Trans interpolates even positions of these lines: 2, 15, 9, 12 all; 3, 17 where p mod 4 is 0; 16, 4 where p mod 4 is 2. Bayer none
-unfoldable pub isInterpolated : Bool → ℕ → ℕ → Bool
-isInterpolated xtrans l p =
-    xtrans
-    && ((eqb (p % 2) 0 && (eqb l 2 || eqb l 15 || eqb l 9 || eqb l 12))
-    || (eqb (p % 4) 0 && (eqb l 3 || eqb l 17))
-    || (eqb (p % 4) 2 && (eqb l 16 || eqb l 4)))
 
 -- all samples are there, each is in 0..M, and each interpolated position has its prediction
 pub record PredictedSet (F : Form) (lines : ℕ) (t : List ℕ) : Type 0 where

@@ -1,6 +1,6 @@
 -- How reading and writing go together.
 pub mod Together
+pub mod StepForward
 pub mod StepBack
 pub mod ListBack
-pub mod OrderLaws
 pub mod PassBack

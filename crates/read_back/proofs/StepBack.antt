@@ -1,16 +1,15 @@
--- One step, read and written: a tight code is read where its bits were written, and its bits are written where it was read. Assumes nothing.
-use mathlib.Core.Bool.{Bool, true, false, cond, not, _&&_}
+-- One step of a lossless line that was read: the bits of its code stand where it was read. Assumes nothing.
+use mathlib.Core.Bool.{Bool, true, false, cond, _&&_}
 use mathlib.Core.List.{List, _++_}
-use mathlib.Core.Option.{none, some}
+use mathlib.Core.Option.{some}
 use mathlib.Core.Path.{_≡_, refl, sym, _∙_, subst}
-use Prim.Native.Nat.{ℕ, suc, _+_, _*_, _≤_, _<_}
-use native.Mathlib.Nat.{mul-le-mul-right}
+use Prim.Native.Nat.{ℕ, suc, _+_, _*_, _≤_}
 use native.Mathlib.Omega.{arith}
-use lib.Dec.{eqb}
-use lib.ListN.{length, getD, set, take, drop}
+use lib.ListN.{length, getD, set}
 use lib.Seq.{getD-set-same}
-use borrow.Author.Tests.{eq-eqb, eqb-true}
+use borrow.Author.Tests.{eq-eqb}
 use Rattle.bits.specs.BitLists.{bitsOf}
+use Rattle.numbers.proofs.BoolLaws.{both}
 use Rattle.statistics.specs.Statistics.{kOf}
 use Rattle.quantiser.specs.Quantisers.{largest}
 use Rattle.prediction.specs.declared.Context.{Context}
@@ -23,35 +22,17 @@ use Rattle.code.specs.declared.Coded.{Coded}
 use Rattle.code.specs.declared.Coded.the-variants.{Read, Truncated}
 use Rattle.code.proofs.SampleLaws.{OneToOne, one-to-one, sample-le}
 use Rattle.code.proofs.NearLaws.{near-exact}
-use Rattle.code.proofs.TightLaws.{length-codeBits, ReadBack, read-back, Stands, stands-there}
+use Rattle.code.proofs.TightLaws.{length-codeBits, Stands, stands-there}
 use Rattle.steps.specs.Steps.{Step}
 use Rattle.steps.specs.Contexts.{lookOf, usedQuantiser, noRecord, stepPlace, stepContext, stepLook, stepSlot}
-use Rattle.pass.specs.Readings.{Reading, interpolate, takeCode, taken, readStep}
 use Rattle.steps.specs.declared.Look.{Look}
 use Rattle.steps.proofs.ContextLaws.{context-le}
-use Rattle.pass.proofs.StepLaws.{step-interpolated, step-read}
-use Rattle.writing.specs.Sets.{indexIn}
+use Rattle.pass.specs.Readings.{Reading, interpolate, takeCode, taken, readStep}
 use Rattle.writing.specs.Writings.{writeStep}
 use Rattle.writing.proofs.LosslessLaws.{Lossless}
-use Rattle.numbers.proofs.BoolLaws.{both}
-use Rattle.read_back.proofs.Together.{Starts, starts-at, within, taken-more, Clean, Sound, writingOf, CleanReading, StoredWriting, Together, Back}
-use Rattle.writing.proofs.WriteLaws.{wanted, write-coded, write-interpolated}
-
--- a step whose sample has a place in the lines
-abbrev pub InLines : ℕ → Step → Type 0
-InLines W x = (x .line ≤ 17) × (x .position < W)
-
-pub cell-lt : (W : ℕ) (x : Step) → InLines W x → stepPlace W x + 1 < 18 * (W + 2)
-cell-lt W x h = let m : suc (x .line) * (W + 2) ≤ 18 * (W + 2) = mul-le-mul-right (W + 2) (omega (arith, h .0)) in omega (arith, h .1)
-
-and : (a b : Bool) → a ≡ true → b ≡ true → (a && b) ≡ true
-and a b e f = rw (e, f)
-
-told : (b : Bool) (j : ℕ) → cond (not b) (some j) none ≡ none → b ≡ true
-told true j e = refl
-told false j e = let no : _≡_ {A = ℕ} 0 1 = cc in absurd (omega arith)
-
--- ---- one step
+use Rattle.writing.proofs.WriteLaws.{wanted}
+use Rattle.read_back.proofs.Together.{taken-more, Clean, Sound, writingOf, CleanReading, Back}
+use Rattle.read_back.proofs.StepForward.{InLines, cell-lt, same-code, same-interpolated}
 
 -- a step of line n, at a reading r, and the quantiser, context, record and sample that it goes by
 module _ (bits W : ℕ) (s t : List ℕ) (n : ℕ) (Q : Lossless bits) (x : Step) (r : Reading) (ok : Sound bits W (r .lines)) (inside : InLines W x) where
@@ -98,11 +79,6 @@ module _ (bits W : ℕ) (s t : List ℕ) (n : ℕ) (Q : Lossless bits) (x : Step
   put-there : (a : ℕ) → getD (set (r .lines) (i + 1) a) (i + 1) 0 ≡ a
   put-there a = getD-set-same (r .lines) (i + 1) a 0 (rw (ok .long) (cell-lt W x inside))
 
-  -- the step is read, it is written, and its sample stands
-  abbrev pub StepForward : Reading → Type 0
-  StepForward z =
-      Together (CleanReading s) (writingOf s) (readStep bits 0 W s x) (writeStep bits 0 W true t n x) r z × (getD (z .lines) (stepPlace W x + 1) 0 ≡ wanted W t n x)
-
   abbrev pub StepBack : Reading → Type 0
   StepBack z = Back (CleanReading s) (writingOf s) (writeStep bits 0 W true t n x) r z
 
@@ -115,36 +91,7 @@ module _ (bits W : ℕ) (s t : List ℕ) (n : ℕ) (Q : Lossless bits) (x : Step
   exact : v ≤ M → codeNear 0 ((usedQuantiser bits 0 0) .total) (h .negative) (c .prediction) v ≡ code
   exact small = rw (Q .total) (near-exact bits (Q .low) (h .negative) (c .prediction) v (context-le M W (r .lines) (x .line) (x .position) (ok .small)) small)
 
-  -- the code that was read is the one that is written, with its bits
-  same-code : (d : Code) → x .coded ≡ true → v ≤ M → d .value ≡ code → take (d .after .0) (bitsOf s) ≡ take p (bitsOf s) ++ codeBits k limit raw code
-      → writeStep bits 0 W true t n x (writingOf s r) ≡ writingOf s (after d)
-  unfolding lookOf choiceOf
-  same-code d e small value bits-are =
-      write-coded bits 0 W true t n x (writingOf s r) e ∙ rw (exact small, value, bits-are)
-
-  -- its bits are read where they stand
-  coded-forward : x .coded ≡ true → CleanReading s r → v ≤ M → Starts s (take p (bitsOf s) ++ codeBits k limit raw code) → (z : Reading) × StepForward z
-  unfolding lookOf choiceOf
-  coded-forward e clean small starts =
-      let m : List Bool = codeBits k limit raw code in
-      let d : drop p (bitsOf s) ≡ m ++ drop (p + length m) (bitsOf s) = starts-at s p m (clean .inside) starts in
-      let b : ReadBack M s p k limit raw code (drop (p + length m) (bitsOf s)) =
-      read-back M s p k limit raw (Q .limit) (Q .raw) code (drop (p + length m) (bitsOf s)) (one .codes v small) d in
-      let is : sample (b .code .value) ≡ v = rw (b .value) (one .back v small) in
-      let len : length m ≡ codeLength k limit raw code = length-codeBits k limit raw code in
-      let end : p + length m ≤ 8 * length s = within s p m (clean .inside) d in (
-        after (b .code),
-        (
-          record {
-            read = step-read bits 0 W s x r (b .code) e (b .read);
-            clean = record { tight = and (r .tight) (isTight M (b .code)) (clean .tight) (b .tight); inside = omega (arith, b .after) };
-            same = same-code (b .code) e small (b .value) (taken-more s p (b .code .after .0) m (clean .inside) (omega (arith, b .after)) (rw (b .rest-after) d));
-          },
-          put-there _ ∙ rw (Q .total) is,
-        ),
-      )
-
-  -- it stands where it was read
+  -- its bits stand where it was read
   coded-backward : x .coded ≡ true → (d : Code) → codeAt s p k limit raw ≡ Read d → Clean s (d .after .0) (r .tight && isTight M d) → sample (d .value) ≡ v
       → StepBack (after d)
   unfolding lookOf choiceOf
@@ -152,41 +99,20 @@ module _ (bits W : ℕ) (s t : List ℕ) (n : ℕ) (Q : Lossless bits) (x : Step
       let ts = both (r .tight) (isTight M d) (clean .tight) in
       let b : Stands M s p k limit raw d = stands-there M s p k limit raw d read (ts .1) (clean .inside) in
       let m : List Bool = codeBits k limit raw (d .value) in
-      let value : d .value ≡ code = sym (one .there (d .value) (b .small)) ∙ rw is in
+      let small : v ≤ M = rw (← is) (sample-le M 0 (suc M) (h .negative) (c .prediction) (d .value)) in
+      let value : d .value ≡ codeNear 0 ((usedQuantiser bits 0 0) .total) (h .negative) (c .prediction) v =
+      sym (one .there (d .value) (b .small)) ∙ rw is (sym (exact small)) in
       let len : length m ≡ codeLength k limit raw (d .value) = length-codeBits k limit raw (d .value) in
       let before : p ≤ 8 * length s = omega (arith, b .after, clean .inside) in
       record {
         clean = record { tight = ts .0; inside = before };
-        same = same-code d e (rw (← is) (sample-le M 0 (suc M) (h .negative) (c .prediction) (d .value))) value (rw (← value) (taken-more s p (d .after .0) m before (omega (arith, b .after)) (b .there)));
+        same = same-code bits 0 W true s t n x r d e value (rw (← value) (taken-more s p (d .after .0) m before (omega (arith, b .after)) (b .there)));
       }
 
   -- ---- without a code
 
   abbrev between : Reading
   between = interpolate i c r
-
-  same-interpolated : x .coded ≡ false → v ≡ c .prediction → writeStep bits 0 W true t n x (writingOf s r) ≡ writingOf s between
-  same-interpolated e is =
-      write-interpolated bits 0 W true t n x (writingOf s r) e ∙ rw (eq-eqb v (c .prediction) is)
-
-  interpolated-forward : x .coded ≡ false → CleanReading s r → cond (not (eqb v (c .prediction))) (some (indexIn W n (x .line) (x .position))) none ≡ none → (z : Reading) × StepForward z
-  interpolated-forward e clean right =
-      let is : v ≡ c .prediction = eqb-true v (c .prediction) (told (eqb v (c .prediction)) (indexIn W n (x .line) (x .position)) right) in (
-        between,
-        (record { read = step-interpolated bits 0 W s x r e; clean = clean; same = same-interpolated e is }, put-there (c .prediction) ∙ sym is),
-      )
-
-  -- ---- either
-
-  -- where the bits of a step stand, the step is read
-  pub step-forward : CleanReading s r → wanted W t n x ≤ largest bits
-      → StoredWriting s (writeStep bits 0 W true t n x (writingOf s r)) → (z : Reading) × StepForward z
-  unfolding lookOf choiceOf
-  step-forward clean small stored = go (x .coded) refl
-    where
-      go : (b : Bool) → x .coded ≡ b → (z : Reading) × StepForward z
-      go true e = coded-forward e clean small (rw (exact small) at (rw (write-coded bits 0 W true t n x (writingOf s r) e) at (stored .starts)))
-      go false e = interpolated-forward e clean (rw (write-interpolated bits 0 W true t n x (writingOf s r) e) at (stored .right))
 
   -- where a step was read, its bits stand
   pub step-backward : (z : Reading) → readStep bits 0 W s x r ≡ some z → CleanReading s z → getD (z .lines) (stepPlace W x + 1) 0 ≡ wanted W t n x → StepBack z
@@ -200,4 +126,6 @@ module _ (bits W : ℕ) (s t : List ℕ) (n : ℕ) (Q : Lossless bits) (x : Step
           subst StepBack is (coded-backward eb d eg (rw (← is) at clean) (sym (put-there _ ∙ rw (Q .total)) ∙ (rw (← is) at stands)))
       go false eb g eg f =
           let is : between ≡ z = cc in
-          subst StepBack is (record { clean = rw (← is) at clean; same = same-interpolated eb (sym (rw (← is) at stands) ∙ put-there (c .prediction)) })
+          let predicted : v ≡ c .prediction = sym (rw (← is) at stands) ∙ put-there (c .prediction) in
+          subst StepBack is
+          (record { clean = rw (← is) at clean; same = same-interpolated bits 0 W true s t n x r eb (rw (eq-eqb v (c .prediction) predicted)) })

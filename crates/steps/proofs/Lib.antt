@@ -6,3 +6,5 @@ pub mod ContextLaws
 pub mod TurnLaws
 pub mod ScheduleLaws
 pub mod KLaws
+pub mod OrderLaws
+pub mod PlanLaws

@@ -1,5 +1,5 @@
 -- The order of the samples: the six passes of a line, and the steps of a pass. Assumes nothing.
-use mathlib.Core.Bool.{Bool, true, false, cond, not}
+use mathlib.Core.Bool.{Bool, true, false, cond, not, _&&_, _||_}
 use mathlib.Core.List.{List, [], _∷_, _++_}
 use Prim.Native.Nat.{ℕ, zero, suc, _+_, _-_, _*_, _/_, _%_}
 use lib.Dec.{leb, ltb, eqb}
@@ -53,6 +53,18 @@ codedAll P = plan (P .first) (P .second) (P .set) none none
 -- pass i of a line
 unfoldable pub planOf : Bool → ℕ → Plan
 planOf xtrans i = cond xtrans (getD plans i noPlan) (codedAll (getD plans i noPlan))
+
+-- ---- by colour line and position
+
+-- X-Trans interpolates even positions of these lines: 2, 15, 9, 12 all; 3, 17 where p mod 4 is 0; 16, 4 where p mod 4 is 2. Bayer none
+unfoldable pub isInterpolated : Bool → ℕ → ℕ → Bool
+isInterpolated xtrans l p =
+    xtrans
+    && ((eqb (p % 2) 0 && (eqb l 2 || eqb l 15 || eqb l 9 || eqb l 12))
+    || (eqb (p % 4) 0 && (eqb l 3 || eqb l 17))
+    || (eqb (p % 4) 2 && (eqb l 16 || eqb l 4)))
+
+-- ---- steps
 
 -- one step is one sample: its colour line, its position, and whether it has a code
 pub record Step : Type 0 where

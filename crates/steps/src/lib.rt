@@ -1,12 +1,12 @@
 // What reading and writing a pass share: the six passes of a line, the context of a sample, what its coding goes by, and its record.
 ghost use mathlib.Core.Path.{_≡_};
-ghost use mathlib.Core.Bool.{not};
+ghost use mathlib.Core.Bool.{true, not};
 ghost use Prim.Native.Nat.{_+_, _*_, _^_, _≤_, _<_};
 ghost use lib.ListN.{length, getD, set};
 ghost use Rattle.statistics.specs.Statistics.{updated, InRange};
 ghost use Rattle.prediction.specs.Predictions.{ContextRanges};
 ghost use Rattle.code.specs.Samples.{residualOf};
-ghost use Rattle.steps.specs.Steps.{interpolated, planOf};
+ghost use Rattle.steps.specs.Steps.{interpolated, planOf, isInterpolated};
 ghost use Rattle.steps.specs.Contexts.{usedBase, usedWeight, placeOf, lookOf, slotOf, noRecord};
 ghost use Rattle.steps.specs.Values.{zipRecords, SetInRange, AreKs, evenAt, oddAt, contextAt};
 use numbers::u16_to_u32;
@@ -142,6 +142,15 @@ pub fn has_code(rule: u32, p: usize) -> bool
         AT_2_MOD_4 => p % 4 != 2,
         _ => false,
     }
+}
+
+// Whether X-Trans interpolates position p of a colour line.
+pub fn is_interpolated(line: usize, p: usize) -> bool
+    ensures { λ r. ⌜ r ≡ isInterpolated true line p ⌝ }
+{
+    ((p % 2 == 0) & ((line == 2) | (line == 15) | (line == 9) | (line == 12)))
+        | ((p % 4 == 0) & ((line == 3) | (line == 17)))
+        | ((p % 4 == 2) & ((line == 16) | (line == 4)))
 }
 
 // The context of the sample after place i, at an even and at an odd position, in lines that are s apart.

@@ -1,11 +1,15 @@
 -- Where the samples of a set stand: index, and line, colour line and position, are matched one to one. Assumes nothing.
+use mathlib.Core.Bool.{Bool}
 use mathlib.Core.Path.{_≡_, _∙_}
-use Prim.Native.Nat.{ℕ, _+_, _*_, _/_, _%_, _<_}
+use Prim.Native.Nat.{ℕ, zero, suc, _+_, _*_, _/_, _%_, _<_}
 use native.Mathlib.Nat.{mod-lt, div-lt-iff-lt-mul, div-add-mod'}
 use native.Mathlib.Omega.{arith}
 use lib.Arith.{digits-div, digits-mod, digits-lt}
+use lib.Dec.{lit<}
 use borrow.Author.Tests.{lt-ltb, le-ltb}
 use Rattle.numbers.proofs.OrderLaws.{split}
+use Rattle.steps.specs.Steps.{planOf}
+use Rattle.steps.proofs.PlanLaws.{firstLine, secondLine, lines-are, each-pass}
 use Rattle.writing.specs.Sets.{lineSize, setSize, rankOf, lineOfRank, indexIn, lineAt, colourLineAt, positionAt}
 
 pub rank-of-line : (c : ℕ) → c < 12 → rankOf (lineOfRank c) ≡ c
@@ -52,3 +56,42 @@ module _ (W lines j : ℕ) (pos : 0 < W) (h : j < setSize W lines) where
   index-at =
       index-is W (lineAt W j) (j % lineSize W / W) (positionAt W j) rank-lt position-lt
       ∙ rw (div-add-mod' (j % lineSize W) W) (div-add-mod' j (lineSize W))
+
+-- ---- the two lines of each pass are the twelve colour lines
+
+module _ (xtrans : Bool) (Q : ℕ → Type 0) where
+  -- what holds of the lines of each pass holds of the twelve, and the other way
+  pub passes-lines : ((i : ℕ) → i < 6 → Q ((planOf xtrans i) .first) × Q ((planOf xtrans i) .second)) → (c : ℕ) → c < 12 → Q (lineOfRank c)
+  unfolding lineOfRank
+  passes-lines f = twelve
+    where
+      at : (i : ℕ) → i < 6 → Q (firstLine i) × Q (secondLine i)
+      at i h = let e = lines-are xtrans i in rw (e .0, e .1) at (f i h)
+
+      twelve : (c : ℕ) → c < 12 → Q (lineOfRank c)
+      twelve zero h = at 0 (lit< tt) .0
+      twelve (suc zero) h = at 2 (lit< tt) .0
+      twelve (suc (suc zero)) h = at 4 (lit< tt) .0
+      twelve (suc (suc (suc zero))) h = at 0 (lit< tt) .1
+      twelve (suc (suc (suc (suc zero)))) h = at 1 (lit< tt) .0
+      twelve (suc (suc (suc (suc (suc zero))))) h = at 2 (lit< tt) .1
+      twelve (suc (suc (suc (suc (suc (suc zero)))))) h = at 3 (lit< tt) .0
+      twelve (suc (suc (suc (suc (suc (suc (suc zero))))))) h = at 4 (lit< tt) .1
+      twelve (suc (suc (suc (suc (suc (suc (suc (suc zero)))))))) h = at 5 (lit< tt) .0
+      twelve (suc (suc (suc (suc (suc (suc (suc (suc (suc zero))))))))) h = at 1 (lit< tt) .1
+      twelve (suc (suc (suc (suc (suc (suc (suc (suc (suc (suc zero)))))))))) h = at 3 (lit< tt) .1
+      twelve (suc (suc (suc (suc (suc (suc (suc (suc (suc (suc (suc zero))))))))))) h = at 5 (lit< tt) .1
+      twelve (suc (suc (suc (suc (suc (suc (suc (suc (suc (suc (suc (suc c)))))))))))) h = absurd (omega arith)
+
+  pub lines-passes : ((c : ℕ) → c < 12 → Q (lineOfRank c)) → (i : ℕ) → i < 6 → Q ((planOf xtrans i) .first) × Q ((planOf xtrans i) .second)
+  unfolding lineOfRank
+  lines-passes f i h =
+      let e = lines-are xtrans i in
+      rw (e .0, e .1) (each-pass (λ i. Q (firstLine i) × Q (secondLine i)) (
+        (f 0 (lit< tt), f 3 (lit< tt)),
+        (f 4 (lit< tt), f 9 (lit< tt)),
+        (f 1 (lit< tt), f 5 (lit< tt)),
+        (f 6 (lit< tt), f 10 (lit< tt)),
+        (f 2 (lit< tt), f 7 (lit< tt)),
+        (f 8 (lit< tt), f 11 (lit< tt)),
+      ) i h)

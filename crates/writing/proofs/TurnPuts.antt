@@ -2,21 +2,25 @@
 use mathlib.Core.Bool.{Bool, true, false}
 use mathlib.Core.List.{List, [], _∷_, _++_, append-assoc}
 use mathlib.Core.Option.{Option, none, some}
-use mathlib.Core.Path.{_≡_, refl, ap, _∙_}
+use mathlib.Core.Path.{_≡_, refl, sym, ap, _∙_}
 use Prim.Native.Nat.{ℕ, zero, suc, _+_, _-_, _*_, _/_, _%_, _≤_, _<_}
 use native.Mathlib.Nat.{add-zero, add-suc}
 use native.Mathlib.Omega.{arith}
-use lib.ListN.{length, length-append}
+use lib.ListN.{length, getD, length-append}
+use borrow.Author.Tests.{not-true}
 use Rattle.bits.specs.declared.BitPosition.{BitPosition}
-use Rattle.steps.specs.Steps.{Step, evenPart, oddPart, turnSteps, upto, passSteps}
+use Rattle.steps.specs.Steps.{Step, planOf, isInterpolated, evenPart, oddPart, turnSteps, upto, passSteps}
 use Rattle.steps.specs.declared.Plan.{Plan}
+use Rattle.steps.proofs.OrderLaws.{All, pass-all}
+use Rattle.steps.proofs.PlanLaws.{CodedIn, steps-coded}
 use Rattle.steps.proofs.TurnLaws.{turn-is, evens-le, turns-le}
-use Rattle.writing.specs.Sets.{indexIn}
+use Rattle.writing.specs.Sets.{lineOfRank, indexIn}
 use Rattle.writing.specs.Writings.{Writing, writes, writePass}
 use Rattle.writing.specs.Puts.{Room, Within, Wanted, startOf, StepsRoom, IsPut, StepsPut, wrongAt, IsPassPut}
 use Rattle.writing.specs.declared.Put.{Put}
 use Rattle.writing.specs.declared.Put.the-variants.{At, Wrong}
 use Rattle.writing.specs.declared.PassPut.{PassPut}
+use Rattle.writing.proofs.SetLaws.{lines-passes}
 use Rattle.writing.proofs.StepPuts.{first-room, ends}
 
 -- ---- the turns
@@ -73,10 +77,22 @@ module _ (M W : ℕ) (t : List ℕ) (n : ℕ) where
     pub wanted-odd : Wanted M W t n (oddPart P p)
     wanted-odd = wanted-right (before W P p ++ evenPart W P p) (oddPart P p) wanted-turn
 
--- where all samples of a set are up to M, those of any steps are
-pub all-wanted : (M W : ℕ) (t : List ℕ) (n : ℕ) (l : List Step) → Within M t → Wanted M W t n l
-all-wanted M W t n [] h = tt
-all-wanted M W t n (x ∷ l) h = (λ e. h (indexIn W n (x .line) (x .position)), all-wanted M W t n l h)
+-- ---- the samples with a code are those at positions of the twelve lines that are not interpolated
+
+pub coded-wanted : (M W : ℕ) (t : List ℕ) (n : ℕ) → W % 2 ≡ 0 → (xtrans : Bool) (i : ℕ) → i < 6
+    → ((c p : ℕ) → c < 12 → p < W → isInterpolated xtrans (lineOfRank c) p ≡ false → getD t (indexIn W n (lineOfRank c) p) 0 ≤ M)
+    → Wanted M W t n (passSteps W (planOf xtrans i))
+coded-wanted M W t n even xtrans i below f =
+    wanted (passSteps W (planOf xtrans i))
+    (pass-all W (planOf xtrans i) even Small (λ p h. lines-passes xtrans (λ l. Small l p) (λ c k. f c p k h) i below))
+    (steps-coded xtrans W i below)
+  where
+    Small : ℕ → ℕ → Type 0
+    Small l p = isInterpolated xtrans l p ≡ false → getD t (indexIn W n l p) 0 ≤ M
+
+    wanted : (l : List Step) → All (λ x. Small (x .line) (x .position)) l → All (CodedIn xtrans) l → Wanted M W t n l
+    wanted [] a b = tt
+    wanted (x ∷ l) a b = (λ e. a .0 (not-true _ (sym (b .0) ∙ e)), wanted l (a .1) (b .1))
 
 -- ---- room for the turns so far, and a turn that is wrong
 

@@ -2,7 +2,7 @@
 //! what is timed.
 use common::random::Random;
 use common::stream::{Header, encoded};
-use fuji_compressed::{ColorTile, FujiCompressed, Rect, Scratch, measure_block_with, write_block_with};
+use fuji_compressed::{ColorTile, FujiCompressed, Rect, Scratch, measure_block_with, write_block_with, write_lossy_with};
 use original::fuji_compressed as theirs;
 use std::hint::black_box;
 use std::time::Instant;
@@ -101,10 +101,16 @@ impl Picture {
         seconds() - start
     }
 
-    /// The writing of the only block from its set.
+    /// The writing of the only block from its set, with its bases if it is lossy.
     fn time_write(&self, set: &[u16], out: &mut [u8], scratch: &mut Scratch) -> f64 {
+        let bases = FujiCompressed::new(&self.stream).unwrap().q_bases(0).unwrap();
         let start = seconds();
-        let length = write_block_with(scratch, black_box(&self.stream[..16]), black_box(set), out).unwrap();
+        let header = black_box(&self.stream[..16]);
+        let written = match bases {
+            [] => write_block_with(scratch, header, black_box(set), out),
+            _ => write_lossy_with(scratch, header, bases, black_box(set), out),
+        };
+        let length = written.unwrap();
         let time = seconds() - start;
         assert_eq!(out[..length], self.stream[self.stream.len() - length..]);
         time
@@ -311,15 +317,15 @@ fn measure_kind((name, xtrans, lossy): (&str, bool, bool), blocks: u16, lines: u
     let windowed = format!("windowed-{name}");
     let title = format!("{windowed}, one block of 480 lines");
     say(&windowed, measure(&title, ["decode", "decode_region_windowed"], &one, one.windowed_against_read()));
-    if lossy {
-        return;
-    }
     let colours = if xtrans { "xtrans" } else { "bayer" };
-    for (entry, function, rounds) in [
-        ("tight", "read_tight", one.tight_against_ordinary()),
-        ("write", "write_block", one.write_against_read(xtrans)),
-        ("measure", "measure_block", one.measure_against_read(xtrans)),
-    ] {
+    let write = one.write_against_read(xtrans);
+    let entries = if lossy {
+        vec![("write-lossy", "write_lossy", write)]
+    } else {
+        let (tight, exact) = (one.tight_against_ordinary(), one.measure_against_read(xtrans));
+        vec![("tight", "read_tight", tight), ("write", "write_block", write), ("measure", "measure_block", exact)]
+    };
+    for (entry, function, rounds) in entries {
         let name = format!("{entry}-{colours}");
         say(&name, measure(&format!("{name}, one block of 480 lines"), ["decode", function], &one, rounds));
     }

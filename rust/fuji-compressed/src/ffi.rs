@@ -90,6 +90,22 @@ unsafe extern "C" {
         length: *mut [usize; 1],
         refusal: *mut [usize; 4],
     );
+    pub fn fuji_write_lossy(
+        header: *const u8,
+        header_length: usize,
+        bases: *const u8,
+        bases_length: usize,
+        samples: *const u16,
+        samples_length: usize,
+        out: *mut u8,
+        out_length: usize,
+        scratch: *mut u16,
+        scratch_length: usize,
+        records: *mut Record,
+        records_length: usize,
+        length: *mut [usize; 1],
+        refusal: *mut [usize; 4],
+    );
     pub fn fuji_length_bound(header: *const u8, header_length: usize, length: *mut [usize; 1], refusal: *mut [usize; 4]);
     pub fn fuji_measure_block(
         header: *const u8,

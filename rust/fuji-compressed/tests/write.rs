@@ -1,19 +1,13 @@
 //! The writer: it writes the block that the encoder for tests writes, whatever the buffers held; each refusal at its limit and together. Measuring is
 //! asked beside it: it answers the same, but for a short output.
+mod sets;
+
 use common::encoder::{encode, encode_spoilt};
 use common::random::{Random, congruential};
 use common::sha256::digits;
 use common::stream::{Header, stream};
-use fuji_compressed::{
-    ColorTile, FujiCompressed, Record, Refusal, Scratch, measure_block, measure_block_with, write_block, write_block_with,
-};
-
-/// The colour lines of a set, in its order.
-const FILLED: [usize; 12] = [2, 3, 4, 7, 8, 9, 10, 11, 12, 15, 16, 17];
-
-fn refused(number: u32, index: usize) -> Result<usize, Refusal> {
-    Err(Refusal { number, block: 0, line: 0, index })
-}
+use fuji_compressed::{FujiCompressed, Record, Refusal, Scratch, measure_block, measure_block_with, write_block, write_block_with};
+use sets::{FILLED, is_cleared, is_interpolated, read_set, refused, soiled, wanted};
 
 /// A set that fits, and its block as the encoder makes it. X-Trans interpolates, so that the set is what is read from the block.
 struct Written {
@@ -52,42 +46,9 @@ impl Written {
         let mut random = Random::new(1 + kind + 100 * lines as u64);
         let mut want = |n, line, p| sample(kind, (1 << bits) - 1, n, line, p, &mut random);
         let block = encode(bits as u32, xtrans, &[], lines, &mut want);
-        let set = read_set(&header, &block);
+        let set = read_set(&header, &[], &block);
         Written { header, set, block }
     }
-}
-
-/// The set that is read from a block: tiles of one colour show its colour lines, each column of a place once.
-fn read_set(header: &Header, block: &[u8]) -> Vec<u16> {
-    let d = stream(header, &[], &[block.to_vec()]);
-    let opened = FujiCompressed::new(&d).unwrap();
-    let (width, lines) = (if header.raw_type == 16 { 512 } else { 384 }, header.lines as usize);
-    let mut set = vec![0; 12 * width * lines];
-    let columns: Vec<usize> = (0..width).map(|p| if header.raw_type == 16 { p / 2 * 3 + p % 2 } else { 2 * p }).collect();
-    for (colour, rows, first) in [(0, [0, 2, 4].as_slice(), 0), (1, &[0, 1, 2, 3, 4, 5], 3), (2, &[0, 2, 4], 9)] {
-        let tile: ColorTile = [[colour; 6]; 6];
-        let mut image = vec![0; 768 * 6 * lines];
-        opened.decode(&mut image, 768, 6 * lines as u32, &tile).unwrap();
-        for n in 0..lines {
-            for (i, row) in rows.iter().enumerate() {
-                for (p, column) in columns.iter().enumerate() {
-                    set[(12 * n + first + i) * width + p] = image[(6 * n + row) * 768 + column];
-                }
-            }
-        }
-    }
-    set
-}
-
-fn soiled() -> Scratch {
-    Scratch { samples: vec![0xffff; 9300], records: vec![Record { sum: u32::MAX, n: 0 }; 340] }
-}
-
-fn is_cleared(scratch: &Scratch, xtrans: bool) -> bool {
-    let used = if xtrans { 9252 } else { 6948 };
-    let samples = scratch.samples.iter().enumerate().all(|(i, v)| *v == if i < used { 0 } else { 0xffff });
-    let records = [Record { sum: 0, n: 1 }, Record { sum: u32::MAX, n: 0 }];
-    samples && scratch.records.iter().enumerate().all(|(i, r)| *r == records[(i >= 336) as usize])
 }
 
 /// What measuring answers, with soiled scratch, which is cleared then.
@@ -143,10 +104,9 @@ fn blocks_of_known_sets() {
         let count = 12 * width * lines;
         let samples = seed.map_or_else(|| vec![0; count], |seed| congruential(seed, below, count));
         // the encoder puts predictions where samples are interpolated
-        let mut want = |n: usize, line: usize, p: usize| samples[(12 * n + FILLED.iter().position(|&l| l == line).unwrap()) * width + p];
-        let made = encode_spoilt(bits as u32, xtrans, &[], lines, &mut want, None);
+        let made = encode_spoilt(bits as u32, xtrans, &[], lines, &mut wanted(&samples, width), None);
         let header = Header::new(true, xtrans, bits, 768, lines as u16);
-        let set = read_set(&header, &made.bytes);
+        let set = read_set(&header, &[], &made.bytes);
         for old in [0, 0xff] {
             let mut out = vec![old; length + 1];
             assert_eq!(write_block(&header.bytes(), &set, &mut out), Ok(length));
@@ -185,20 +145,13 @@ fn interpolated_samples_that_are_not_their_prediction() {
     let w = Written::new(14, true, 2, 1);
     let mut seen = 0;
     for i in (0..w.set.len()).step_by(97) {
-        let (line, p) = (FILLED[i / 512 % 12], i % 512);
-        let rule = match line {
-            2 | 15 | 9 | 12 => p % 2 == 0,
-            3 | 17 => p % 4 == 0,
-            16 | 4 => p % 4 == 2,
-            _ => false,
-        };
         let mut set = w.set.clone();
         set[i] ^= 1;
         let (mut out, mut scratch) = (vec![3; 60_000], soiled());
         let answer = write_block_with(&mut scratch, &w.header.bytes(), &set, &mut out);
         assert!(is_cleared(&scratch, true));
         assert_eq!(measured(&w.header, &set), answer);
-        if rule {
+        if is_interpolated(i) {
             seen += 1;
             assert_eq!(answer, refused(12, i));
             assert!(out.iter().all(|v| *v == 3));
@@ -308,7 +261,7 @@ fn tight_blocks_are_written_back() {
             }
             found += 1;
             let mut out = vec![9; block.len()];
-            assert_eq!(write_block(&header.bytes(), &read_set(&header, &block), &mut out), Ok(block.len()));
+            assert_eq!(write_block(&header.bytes(), &read_set(&header, &[], &block), &mut out), Ok(block.len()));
             assert!(out == block, "bit {bit} flipped");
         }
     }

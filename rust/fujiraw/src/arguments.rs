@@ -14,11 +14,25 @@ pub enum Call {
     Manual,
     Info(Vec<PathBuf>, Blocks),
     Check(Vec<PathBuf>, Quiet),
-    Write([PathBuf; 3]),
+    Write([PathBuf; 3], Option<Bases>),
     Size(PathBuf, Option<PathBuf>),
     Codes([u32; 3]),
     Plan([PathBuf; 3]),
     Decode(Decode),
+}
+
+/// Where the bases of a lossy block come from: a byte a line, or a plan.
+pub enum Bases {
+    Bytes(PathBuf),
+    Plan(PathBuf),
+}
+
+impl Bases {
+    pub fn file(&self) -> &Path {
+        match self {
+            Bases::Bytes(file) | Bases::Plan(file) => file,
+        }
+    }
 }
 
 /// Nothing is said of how far the work is.
@@ -101,7 +115,7 @@ pub fn read(words: Vec<OsString>) -> Result<Call, String> {
             let quiet = Quiet(words.has("--quiet"));
             Ok(Call::Check(streams(words, "check")?, quiet))
         }
-        "write" => three(words, "write needs a header, samples and an output").map(Call::Write),
+        "write" => write(words),
         "size" => size(words),
         "plan" => three(words, "plan needs a header, a plan and an output").map(Call::Plan),
         "codes" => numbers(words).map(Call::Codes),
@@ -162,6 +176,19 @@ fn three(words: Words, needs: &str) -> Result<[PathBuf; 3], String> {
     let files: [PathBuf; 3] = words.files().try_into().map_err(|_| needs.to_string())?;
     once(&files[..2])?;
     Ok(files)
+}
+
+fn write(words: Words) -> Result<Call, String> {
+    let file = |name: &str| words.value(name).map(PathBuf::from);
+    let bases = match (file("--bases"), file("--plan")) {
+        (Some(_), Some(_)) => return Err("write takes --bases or --plan, not both".to_string()),
+        (Some(bytes), None) => Some(Bases::Bytes(bytes)),
+        (None, plan) => plan.map(Bases::Plan),
+    };
+    let files = three(words, "write needs a header, samples and an output")?;
+    let read = files[..2].iter().cloned().chain(bases.iter().map(|b| b.file().to_path_buf()));
+    once(&read.collect::<Vec<_>>())?;
+    Ok(Call::Write(files, bases))
 }
 
 fn size(words: Words) -> Result<Call, String> {

@@ -36,9 +36,10 @@ fn answer(call: Call) -> ExitCode {
         Call::Manual => status(files::print(&manual::page(HELP, VERSION))),
         Call::Info(streams, blocks) => run(&streams, |file| files::print(&stream::info(file, blocks.0)?)),
         Call::Check(streams, quiet) => run(&streams, |file| check(file, quiet.0)),
-        Call::Write([header, samples, out]) => run(&[samples], |samples| {
-            let block = stream::write(&header, samples)?;
-            files::write(&[&header, samples], &out, |o| o.write_all(&block))
+        Call::Write([header, samples, out], bases) => run(&[samples], |samples| {
+            let block = stream::write(&header, samples, bases.as_ref())?;
+            let read = [Some(header.as_path()), Some(samples), bases.as_ref().map(|b| b.file())];
+            files::write(&read.into_iter().flatten().collect::<Vec<_>>(), &out, |o| o.write_all(&block))
         }),
         Call::Size(header, samples) => status(stream::size(&header, samples.as_deref()).and_then(|n| files::print(&format!("{n}\n")))),
         Call::Plan([header, plan, out]) => run(&[plan], |plan| {

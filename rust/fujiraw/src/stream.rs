@@ -1,11 +1,11 @@
 //! What is done with streams and headers.
-use crate::arguments::Decode;
+use crate::arguments::{Bases, Decode};
 use crate::files::{load, load_samples, name};
 use crate::picture::Picture;
 use crate::progress::Progress;
 use crate::tile;
 use fuji_compressed::{
-    ColorTile, Counted, FujiCompressed, FujiHeader, Rect, Refusal, Scratch, Totals, measure_block, plan_bases, write_block,
+    ColorTile, Counted, FujiCompressed, FujiHeader, Rect, Refusal, Scratch, Totals, measure_block, plan_bases, write_block, write_lossy,
 };
 use std::fmt::Write;
 use std::path::Path;
@@ -103,15 +103,30 @@ fn why_loose(refusal: Refusal, stream: &FujiCompressed, block: usize) -> String 
     }
 }
 
-/// The tight block of the samples in a file.
-pub fn write(header: &Path, samples: &Path) -> Result<Vec<u8>, String> {
+/// The tight block of the samples in a file, or with bases the lossy one.
+pub fn write(header: &Path, samples: &Path, bases: Option<&Bases>) -> Result<Vec<u8>, String> {
     let header = load(header)?;
+    let parsed = FujiHeader::parse(&header).map_err(|e| e.to_string())?;
+    let bases = bases.map(|from| bases_of(&header, &parsed, from)).transpose()?;
     let set = load_samples(samples)?;
-    // No tight block is longer.
-    let mut block = vec![0; bound(&header)?];
-    let length = write_block(&header, &set, &mut block).map_err(|e| e.to_string())?;
+    // No tight block is longer; no lossy one either, since a code has at most 4·bits bits there too, but that is not proved. If it were wrong, 13 would say so.
+    let mut block = vec![0; parsed.lines as usize * 2304 * parsed.bits as usize];
+    let length = match bases {
+        Some(bases) => write_lossy(&header, &bases, &set, &mut block).map_err(|e| e.to_string()),
+        None => write_block(&header, &set, &mut block).map_err(|e| match e.number {
+            8 => format!("{e}: its bases are to be named, with --bases or --plan"),
+            _ => e.to_string(),
+        }),
+    }?;
     block.truncate(length);
     Ok(block)
+}
+
+fn bases_of(header: &[u8], parsed: &FujiHeader, from: &Bases) -> Result<Vec<u8>, String> {
+    match from {
+        Bases::Bytes(file) => load(file),
+        Bases::Plan(file) => planned(header, parsed, &load(file)?),
+    }
 }
 
 fn bound(header: &[u8]) -> Result<usize, String> {
@@ -131,9 +146,13 @@ pub fn size(header: &Path, samples: Option<&Path>) -> Result<usize, String> {
 pub fn plan(header: &Path, plan: &Path) -> Result<Vec<u8>, String> {
     let header = load(header)?;
     let plan = load(plan)?;
-    let lines = FujiHeader::parse(&header).map_err(|e| e.to_string())?.lines;
-    let mut bases = vec![0; lines as usize];
-    plan_bases(&header, &plan, &mut bases).map_err(|e| e.to_string())?;
+    let parsed = FujiHeader::parse(&header).map_err(|e| e.to_string())?;
+    planned(&header, &parsed, &plan)
+}
+
+fn planned(header: &[u8], parsed: &FujiHeader, plan: &[u8]) -> Result<Vec<u8>, String> {
+    let mut bases = vec![0; parsed.lines as usize];
+    plan_bases(header, plan, &mut bases).map_err(|e| e.to_string())?;
     Ok(bases)
 }
 

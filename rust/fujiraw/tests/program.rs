@@ -3,6 +3,7 @@ mod folder;
 
 use common::encoder::{How, Spoil, encode_spoilt};
 use common::random::congruential;
+use common::sha256::digits;
 use common::stream::{Header, blocks, encoded};
 use folder::{Folder, sample, stream, text};
 use std::fs;
@@ -299,9 +300,10 @@ fn size_is_that_of_the_block() {
     f.fails("size header high", "refusal 11: sample 1: a sample is above the largest");
     header[2] = 0;
     f.put("lossy", &header);
-    for line in ["size lossy", "size lossy few", "write lossy few out"] {
+    for line in ["size lossy", "size lossy few"] {
         f.fails(line, "refusal 8: the stream is lossy");
     }
+    f.fails("write lossy few out", "refusal 8: the stream is lossy: its bases are to be named, with --bases or --plan");
     f.is_wrong("size", "size needs a header, and samples if the length is to be exact");
     f.is_wrong("size header zeros block", "size needs a header, and samples if the length is to be exact");
     f.is_wrong("size - -", "standard input is there twice");
@@ -360,4 +362,56 @@ fn plan_writes_the_bases() {
     assert_eq!(f.get("out"), [255, 255, 7]);
     f.is_wrong("plan header fine", "plan needs a header, a plan and an output");
     f.is_wrong("plan header fine out --format raw", "plan takes no --format");
+}
+
+/// A set whose block with bases 1 and 1 an independent model has made: 104,369 bits, 13,056 bytes, 32 long codes.
+#[test]
+fn write_makes_a_lossy_block() {
+    let f = Folder::new("lossy");
+    // lossy Bayer, 12 bits, one block, two lines
+    let mut header = [0x49, 0x53, 0, 0, 12, 0, 12, 3, 0, 3, 0, 3, 0, 1, 0, 2];
+    f.put("header", &header);
+    let set = congruential(12, 1 << 12, 2 * 12 * 384);
+    f.put("samples", &set.iter().flat_map(|v| v.to_le_bytes()).collect::<Vec<u8>>());
+    f.put("bases", &[1, 1]);
+    f.put("plan", b"1\t1\t1\n0\t0\t1\n");
+    assert_eq!(f.works("write header samples block --bases bases"), "");
+    f.works("write --plan=plan header samples planned");
+    let block = f.get("block");
+    assert_eq!((block.len(), digits(&block, 24).as_str()), (13_056, "93c0ce37566831ba4b0efd41"));
+    assert!(block == f.get("planned"));
+    // in a stream with these bases it reads back, each sample within 1
+    f.put("stream", &common::stream::stream(&Header::of(&header).unwrap(), &[vec![1, 1]], &[block]));
+    let said = f.works("info stream --blocks");
+    assert!(said.contains(", bases 1 to 1\n") && said.contains("  block 0:  52184 bits a line,     32 long codes\n"), "{said}");
+    f.works(&format!("decode stream red.raw --format raw --tile {}", "0".repeat(36)));
+    let red = f.get("red.raw");
+    for (row, line) in [(0, 0), (2, 1), (4, 2), (6, 12), (8, 13), (10, 14)] {
+        for p in 0..384 {
+            let at = 2 * (768 * row + 2 * p);
+            assert!(u16::from_le_bytes([red[at], red[at + 1]]).abs_diff(set[384 * line + p]) <= 1, "{row} {p}");
+        }
+    }
+    f.put("three", &[1; 3]);
+    f.put("none", b"");
+    f.put("gap", b"0\t0\t1\n");
+    f.put("few", &[0; 2 * 24 * 384 - 2]);
+    f.put("high", &[&[0, 0, 0, 16], &[0; 2 * 24 * 384 - 4][..]].concat());
+    f.fails("write header samples out --bases three", "refusal 17: the number of base bytes is not that of the lines");
+    f.fails("write header few out --bases none", "refusal 17: the number of base bytes is not that of the lines");
+    f.fails("write header few out --bases bases", "refusal 9: the number of samples is not the block's");
+    f.fails("write header high out --bases bases", "refusal 11: sample 1: a sample is above the largest");
+    f.fails("write header samples out --plan gap", "refusal 20: line 1: no record of the plan holds it");
+    f.fails("write header samples out --bases missing", "cannot read missing: no such file or directory");
+    f.fails("write header samples bases --bases bases", "cannot write bases: it is read for this");
+    f.fails("write header samples plan --plan plan", "cannot write plan: it is read for this");
+    header[2] = 1;
+    f.put("lossless", &header);
+    f.fails("write lossless samples out --bases bases", "refusal 16: the header is lossless");
+    f.fails("write lossless samples out --plan plan", "refusal 16: the header is lossless");
+    f.is_wrong("write header samples out --bases bases --plan plan", "write takes --bases or --plan, not both");
+    f.is_wrong("write header - out --bases -", "standard input is there twice");
+    f.is_wrong("write header samples out --bases", "--bases needs a value");
+    f.is_wrong("write header out --bases bases", "write needs a header, samples and an output");
+    f.is_wrong("size header --bases bases", "size takes no --bases");
 }

@@ -96,6 +96,8 @@ fn script_answers_as_the_program_does_without_building() {
         "decode a b --quiet=1",
         "decode a b --tile=1 --tile 2",
         "codes 1 2 3 --k",
+        "write a b c --bases",
+        "write a b c --plan=d --plan e",
     ];
     for line in lines {
         let words: Vec<&str> = line.split_whitespace().collect();

@@ -5,3 +5,4 @@ pub mod fuji_measure_block
 pub mod fuji_read_block
 pub mod fuji_read_tight
 pub mod fuji_write_block
+pub mod fuji_write_lossy

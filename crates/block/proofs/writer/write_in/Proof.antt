@@ -3,7 +3,7 @@ mod derived
 use borrow.Author.Needs.{needs}
 use mathlib.Core.Bool.{Bool}
 use mathlib.Core.List.{List}
-use mathlib.Core.Path.{_≡_, refl, sym, _∙_}
+use mathlib.Core.Path.{_≡_}
 use Prim.Native.Nat.{ℕ}
 use native.Mathlib.Omega.{arith}
 use lib.ListN.{length}
@@ -11,35 +11,37 @@ use Rattle.map.specs.Places.{widthOf}
 use Rattle.stream.specs.declared.BlockLength.{BlockLength}
 use Rattle.stream.specs.declared.FujiHeader.{FujiHeader}
 use Rattle.writing.specs.Sets.{setSize}
-use Rattle.begin.proofs.CallLaws.{writing-goes}
 use Rattle.block.specs.Images.{formOf}
 use Rattle.block.specs.Lent.{Outputs}
-use Rattle.block.specs.WrittenAnswers.{writtenAnswer, roomFor, outputOf}
-use Rattle.block.specs.WrittenBlocks.{tightBlock}
+use Rattle.block.specs.WrittenAnswers.{setAnswer, roomFor, outputOf}
+use Rattle.block.specs.WrittenBlocks.{writtenBlock}
 use Rattle.block.specs.declared.Form.{Form}
 use Rattle.block.proofs.LeftLaws.{written-refused, written-set, form-samples, form-depth, form-zero, lines-back, records-back}
 use Rattle.block.proofs.writer.write_in.Statement.{statement}
 use Rattle.block.proofs.writer.write_in.Proof.derived.Tie as tie
+
+-- the beginning with a header
+abbrev begun : tie.After-begins2 → tie.Start
+begun m = m .before .before .before .before .before .before
 
 abbrev lent : tie.Start → Outputs
 lent s = record { out = s .args .out .now; lines = s .args .lines .now; records = s .args .rs .now }
 
 returns : tie.Need-returns
 returns c =
-    let k = c .before .before .before in
-    let s = k .before .before .before .before .before in
-    written-refused (s .args .samples .now) (lent s) _ (s .args .measure) _ (sym (k .writing-begins .ensures) ∙ c .before .begins .given .1)
+    let s = c .before .before .before .before .before .before .before in
+    written-refused (s .args .bases .now) (s .args .samples .now) (lent s) _ (s .args .measure) _ (c .before .begins .given .1)
 
 part-end : tie.Need-part-write-set-end
 part-end c =
     let m = c .before .before .before .before .before in
-    let k = writing-goes _ _ _ _ _ (sym (m .before .before .writing-begins .ensures) ∙ m .begins2 .given .1) in
+    let k = begun m .pre _ (m .begins2 .given .1) in
     search (needs, k .fits .for-lines)
 
 part-end-2 : tie.Need-part-write-set-end-2
 part-end-2 c =
     let m = c .before .before .before .before .before .before in
-    let k = writing-goes _ _ _ _ _ (sym (m .before .before .writing-begins .ensures) ∙ m .begins2 .given .1) in
+    let k = begun m .pre _ (m .begins2 .given .1) in
     search (needs, k .fits .for-records)
 
 sized : (F : Form) (h : FujiHeader) (n : ℕ) (t : List ℕ) → F ≡ formOf h → n ≡ h .lines → length t ≡ setSize (widthOf (h .xtrans)) (h .lines)
@@ -48,38 +50,39 @@ sized F h n t e en s = rw (e, en) s
 
 write-set-requires : tie.Need-write-set-requires
 write-set-requires c κs =
-    let n = c .before .before .before .before in
+    let n = c .before .before .before in
     let f = n .before in
     let m = f .before .before .before in
-    let s = m .before .before .before .before .before .before .before in
+    let s = begun m in
     let h = m .begins2 .given .0 .0 in
-    let k = writing-goes _ _ _ _ _ (sym (m .before .before .writing-begins .ensures) ∙ m .begins2 .given .1) in (
+    let k = s .pre h (m .begins2 .given .1) in (
       (omega (arith, n .line-count .ensures, k .is-ruled .lines-high), sized _ h _ (s .args .samples .now) (f .form-of .ensures) (n .line-count .ensures) (k .size)),
-      ((form-depth _ h (f .form-of .ensures) (k .is-ruled), (form-samples _ h (f .form-of .ensures) _ (search needs), search needs)), refl),
+      (form-depth _ h (f .form-of .ensures) (k .is-ruled), (form-samples _ h (f .form-of .ensures) _ (search needs), search needs)),
     )
 
 -- what the set answers, under the header
-abbrev Answered : Form → ℕ → Bool → (t out out' : List ℕ) → BlockLength → Type 0
-Answered F n measure t out out' a =
-    (a ≡ writtenAnswer F n t (roomFor measure (tightBlock F n t) out)) × (out' ≡ outputOf measure a (tightBlock F n t) out)
+abbrev Answered : Form → ℕ → Bool → (bases t out out' : List ℕ) → BlockLength → Type 0
+Answered F n measure bases t out out' a =
+    (a ≡ setAnswer F bases n t (roomFor measure (writtenBlock F bases n t) out)) × (out' ≡ outputOf measure a (writtenBlock F bases n t) out)
 
-answered : (F : Form) (h : FujiHeader) (n : ℕ) (measure : Bool) (t out out' : List ℕ) (a : BlockLength) → F ≡ formOf h → n ≡ h .lines
-    → Answered F n measure t out out' a → Answered (formOf h) (h .lines) measure t out out' a
-answered F h n measure t out out' a e en p = rw (e, en) at p
+answered : (F : Form) (h : FujiHeader) (n : ℕ) (measure : Bool) (bases t out out' : List ℕ) (a : BlockLength) → F ≡ formOf h → n ≡ h .lines
+    → Answered F n measure bases t out out' a → Answered (formOf h) (h .lines) measure bases t out out' a
+answered F h n measure bases t out out' a e en p = rw (e, en) at p
 
 returns-2 : tie.Need-returns-2
 returns-2 c =
     let x = c .before .before .before .before .before in
-    let n = x .before .before .before .before .before in
+    let n = x .before .before .before .before in
     let f = n .before in
     let u = f .before in
     let m = u .before .before in
-    let s = m .before .before .before .before .before .before .before in
+    let s = begun m in
     let h = m .begins2 .given .0 .0 in
     let p =
-    answered _ h _ (s .args .measure) (s .args .samples .now) (s .args .out .now) _ _ (f .form-of .ensures) (n .line-count .ensures) (x .write-set .ensures .0) in
+    answered _ h _ (s .args .measure) (s .args .bases .now) (s .args .samples .now) (s .args .out .now) _ _
+    (f .form-of .ensures) (n .line-count .ensures) (x .write-set .ensures .0) in
     let zeros = form-zero _ h (f .form-of .ensures) _ (x .write-set .ensures .1 .0) in
-    written-set (s .args .samples .now) (lent s) _ (s .args .measure) h (sym (m .before .before .writing-begins .ensures) ∙ m .begins2 .given .1) _ _
+    written-set (s .args .bases .now) (s .args .samples .now) (lent s) _ (s .args .measure) h (m .begins2 .given .1) _ _
     (p .0)
     (p .1)
     (lines-back (h .xtrans) (u .samples-needed .result) (s .args .lines .now) _ (u .samples-needed .ensures .0) zeros)
@@ -89,7 +92,6 @@ pub write-in-spec : {M : Type 1} → statement M
 write-in-spec =
     tie.close
     (tie.spec
-    (λ c κs. search needs)
     (λ c. search needs)
     (λ c. search needs)
     (λ c κs. search needs)
@@ -101,9 +103,6 @@ write-in-spec =
     (λ c. search needs)
     (λ c. search needs)
     part-end-2
-    (λ c. search needs)
-    (λ c. search needs)
-    (λ c. search needs)
     write-set-requires
     returns
     (λ c. search needs)

@@ -114,7 +114,7 @@ write-pass-requires c κs =
       samples = rw (w .0) (a .pre .0 .1 .0);
       base = a .pre .1 .1 .1 .1 .0;
       quantisers = a .pre .1 .1 .1 .1 .1;
-      wanted = pass-wanted (a .args .form) _ _ (l .i) _ _ (w .0) (p .plan-at .ensures) (a .pre .0 .1 .1);
+      wanted = pass-wanted (a .args .form) _ _ (l .i) _ _ (w .0) (p .plan-at .ensures) t (a .pre .0 .1 .1);
       long = omega (arith, second s .set-guards2 .kept, first (second s) .set-guards .kept, l .inv .2);
       held = pass-samples _ _ _ _ _ _ _ (l .i) _ _ t _ _ _ _ _ _ _ _ _ _ (l .inv .6) (l .inv .5) (a .pre .1 .1 .1 .0 .1) (w .0) (p .plan-at .ensures) g₁ g₂ (s .load-set .ensures .0)
           (a .pre .1 .1 .0 .0);

@@ -1,4 +1,4 @@
--- `block::writer::write_set` meets its contract: all samples are looked at before the set is measured. Assumes nothing.
+-- `block::writer::write_set` meets its contract: samples are looked at before the set is measured. Assumes nothing.
 mod derived
 use borrow.Author.Needs.{needs}
 use mathlib.Core.Path.{ap, _∙_}
@@ -9,7 +9,7 @@ use Rattle.block.proofs.writer.write_set.Statement.{statement}
 use Rattle.block.proofs.writer.write_set.Proof.derived.Tie as tie
 
 abbrev start : tie.After-first-above → tie.Start
-start f = f .before .before .before .before .before .before
+start f = f .before .before .before .before .before .before .before
 
 returns : tie.Need-returns
 returns c =
@@ -18,10 +18,11 @@ returns c =
     let f = t .before in
     let a = start f in (
       (
-        set-above (a .args .form) (a .args .count) (a .args .samples .now) _ _ _ (f .before .largest .ensures .0) (f .first-above .ensures) (t .if1 .taken),
+        set-above (a .args .form) (a .args .bases .now) (a .args .count) (a .args .samples .now) _ _ _ _
+            (f .before .before .largest .ensures .0) (f .before .is-strict .ensures) (f .first-above .ensures) (t .if1 .taken),
         refused-out (a .args .measure) _ _ _,
       ),
-      (k .clear .ensures ∙ ap (λ (n : ℕ). replicate n 0) (a .pre .1 .0 .1 .0), c .before .clear-records .ensures),
+      (k .clear .ensures ∙ ap (λ (n : ℕ). replicate n 0) (a .pre .1 .1 .0), c .before .clear-records .ensures),
     )
 
 write-measured-requires : tie.Need-write-measured-requires
@@ -33,10 +34,11 @@ write-measured-requires c κs =
         a .pre .0 .0,
         (
           a .pre .0 .1,
-          set-wanted (a .args .form) (a .args .count) (a .args .samples .now) 0 _ _ (f .before .largest .ensures .0) (f .first-above .ensures) (s .if1 .left),
+          set-wanted (a .args .form) (a .args .bases .now) (a .args .count) (a .args .samples .now) 0 _ _ _
+              (f .before .before .largest .ensures .0) (f .before .is-strict .ensures) (f .first-above .ensures) (s .if1 .left),
         ),
       ),
-      a .pre .1 .0,
+      a .pre .1,
     )
 
 returns-2 : tie.Need-returns-2
@@ -45,9 +47,10 @@ returns-2 c =
     let s = v .before .before .before .before in
     let f = s .before in
     let a = start f in
-    let e = rw (a .pre .1 .1) at (v .write-measured .ensures .0) in (
+    let e = v .write-measured .ensures .0 in (
       (
-        set-answer (a .args .form) (a .args .count) (a .args .samples .now) _ _ _ (f .before .largest .ensures .0) (f .first-above .ensures) (s .if1 .left) _ (e .0),
+        set-answer (a .args .form) (a .args .bases .now) (a .args .count) (a .args .samples .now) _ _ _ _
+            (f .before .before .largest .ensures .0) (f .before .is-strict .ensures) (f .first-above .ensures) (s .if1 .left) _ (e .0),
         e .1,
       ),
       v .write-measured .ensures .1,
@@ -57,6 +60,7 @@ pub write-set-spec : {M : Type 1} → statement M
 write-set-spec =
     tie.close
     (tie.spec
+    (λ c. search needs)
     (λ c. search needs)
     (λ c. search needs)
     (λ c. search needs)

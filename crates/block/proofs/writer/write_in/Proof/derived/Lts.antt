@@ -81,27 +81,41 @@ y0 = Syntax.tyStruct (List._∷_ 115 (List._∷_ 116 (List._∷_ 114 (List._∷_
     (Syntax.tcons (Syntax.tyInt Syntax.w32) Syntax.tnil)))))))))
 
 abbrev pub y1 : Syntax.Ty
-y1 = Syntax.tyStruct (List._∷_ 38 (List._∷_ 91 (List._∷_ 93 List.[]))) (Syntax.tcons (Syntax.tyRef Syntax.erased Syntax.imm (Syntax.tyInt Syntax.w8)) (Syntax.tcons (Syntax.tyInt Syntax.w64)
+y1 = Syntax.tyStruct (List._∷_ 38 (List._∷_ 91 (List._∷_ 93 List.[]))) (Syntax.tcons (Syntax.tyRef Syntax.erased Syntax.mut (Syntax.tyInt Syntax.w16)) (Syntax.tcons (Syntax.tyInt Syntax.w64)
     Syntax.tnil))
 
 abbrev pub y2 : Syntax.Ty
-y2 = Syntax.tyStruct (List._∷_ 38 (List._∷_ 91 (List._∷_ 93 List.[]))) (Syntax.tcons (Syntax.tyRef Syntax.erased Syntax.mut (Syntax.tyInt Syntax.w16)) (Syntax.tcons (Syntax.tyInt Syntax.w64)
+y2 = Syntax.tyStruct (List._∷_ 38 (List._∷_ 91 (List._∷_ 93 List.[]))) (Syntax.tcons (Syntax.tyRef Syntax.erased Syntax.mut (Syntax.tyInt Syntax.w8)) (Syntax.tcons (Syntax.tyInt Syntax.w64)
     Syntax.tnil))
 
 abbrev pub y3 : Syntax.Ty
-y3 = Syntax.tyStruct (List._∷_ 38 (List._∷_ 91 (List._∷_ 93 List.[]))) (Syntax.tcons (Syntax.tyRef Syntax.erased Syntax.mut (Syntax.tyInt Syntax.w8)) (Syntax.tcons (Syntax.tyInt Syntax.w64)
-    Syntax.tnil))
+y3 = Syntax.tyStruct (List._∷_ 38 (List._∷_ 91 (List._∷_ 93 List.[]))) (Syntax.tcons (Syntax.tyRef Syntax.erased Syntax.mut Element.behind) (Syntax.tcons (Syntax.tyInt Syntax.w64) Syntax.tnil))
 
 abbrev pub y4 : Syntax.Ty
-y4 = Syntax.tyStruct (List._∷_ 38 (List._∷_ 91 (List._∷_ 93 List.[]))) (Syntax.tcons (Syntax.tyRef Syntax.erased Syntax.mut Element.behind) (Syntax.tcons (Syntax.tyInt Syntax.w64) Syntax.tnil))
-
-abbrev pub y5 : Syntax.Ty
-y5 = Syntax.tyStruct (List._∷_ 98 (List._∷_ 108 (List._∷_ 111 (List._∷_ 99 (List._∷_ 107 (List._∷_ 58 (List._∷_ 58 (List._∷_ 70 (List._∷_ 111 (List._∷_ 114 (List._∷_ 109 List.[])))))))))))
+y4 = Syntax.tyStruct (List._∷_ 98 (List._∷_ 108 (List._∷_ 111 (List._∷_ 99 (List._∷_ 107 (List._∷_ 58 (List._∷_ 58 (List._∷_ 70 (List._∷_ 111 (List._∷_ 114 (List._∷_ 109 List.[])))))))))))
     (Syntax.tcons (Syntax.tyInt Syntax.w32) (Syntax.tcons Syntax.tyBool Syntax.tnil))
 
 abbrev pub ps : List.List (Kinds.PK 5)
-ps = List._∷_ (ShrSlice.pShrS (Referent.rtF (Referent.fInt Syntax.w8)) 0 tt) (List._∷_ (ShrSlice.pShrS (Referent.rtF (Referent.fInt Syntax.w16)) 1 tt) (List._∷_ (MutSlice.pMutS (Referent.rtF
-    (Referent.fInt Syntax.w8)) 2 tt) (List._∷_ Bool.pBool (List._∷_ (MutSlice.pMutS (Referent.rtF (Referent.fInt Syntax.w16)) 3 tt) (List._∷_ (MutSlice.pMutS (Element.type) 4 tt) List.[])))))
+ps = List._∷_ (Value.pVal record {
+  ty = Declared.row Parsed.the-type;
+  one = Path'.refl;
+  val = Laws'5.val Parsed.the-type Laws'3.the-laws;
+  tells = Laws'5.tells Parsed.the-type Laws'3.the-laws;
+  still = Laws'5.still Parsed.the-type
+      Laws'3.the-copy Exit.yes;
+  row = Rows.whole (Declared.row Parsed.the-type);
+  rd = λ x. x;
+  mk = λ x. x;
+} λ M 𝓤 H A W. record {
+  copies = Laws'5.copy Parsed.the-type Laws'3.the-copy 𝓤 H A W;
+  lawful = Laws'5.lawful Parsed.the-type Laws'3.the-laws 𝓤 H A W tt;
+  makes = Laws'5.makes Parsed.the-type Laws'3.the-plain 𝓤 H A;
+  in-mem =
+      Local.mem-whole 𝓤 H A W (Declared.row Parsed.the-type);
+  of-mem = Local.whole-mem 𝓤 H A W (Declared.row Parsed.the-type);
+}) (List._∷_ (ShrSlice.pShrS (Referent.rtF (Referent.fInt Syntax.w8)) 0 tt)
+    (List._∷_ (ShrSlice.pShrS (Referent.rtF (Referent.fInt Syntax.w16)) 1 tt) (List._∷_ (MutSlice.pMutS (Referent.rtF (Referent.fInt Syntax.w8)) 2 tt) (List._∷_ Bool.pBool (List._∷_ (MutSlice.pMutS
+    (Referent.rtF (Referent.fInt Syntax.w16)) 3 tt) (List._∷_ (MutSlice.pMutS (Element.type) 4 tt) List.[]))))))
 
 abbrev pub r : Kinds.RK 5
 r = Value.rVal record {
@@ -124,65 +138,72 @@ r = Value.rVal record {
 }
 
 abbrev pub xs : List.List Syntax.Ty
-xs = List._∷_ (Syntax.tyEnum (List._∷_ 115 (List._∷_ 116 (List._∷_ 114 (List._∷_ 101 (List._∷_ 97 (List._∷_ 109 (List._∷_ 58 (List._∷_ 58 (List._∷_ 80 (List._∷_ 97 (List._∷_ 114 (List._∷_ 115
-    (List._∷_ 101 (List._∷_ 100 List.[])))))))))))))) (Syntax.ttcons (Syntax.tcons y0 Syntax.tnil) (Syntax.ttcons (Syntax.tcons (Syntax.tyEnum (List._∷_ 115 (List._∷_ 116 (List._∷_ 114 (List._∷_ 101
-    (List._∷_ 97 (List._∷_ 109 (List._∷_ 58 (List._∷_ 58 (List._∷_ 82 (List._∷_ 101 (List._∷_ 102 (List._∷_ 117 (List._∷_ 115 (List._∷_ 97 (List._∷_ 108 List.[]))))))))))))))) (Syntax.ttcons Syntax.tnil
-    (Syntax.ttcons Syntax.tnil (Syntax.ttcons Syntax.tnil (Syntax.ttcons (Syntax.tcons (Syntax.tyInt Syntax.w64) Syntax.tnil) (Syntax.ttcons Syntax.tnil (Syntax.ttcons Syntax.tnil (Syntax.ttcons
-    Syntax.tnil (Syntax.ttcons Syntax.tnil (Syntax.ttcons Syntax.tnil (Syntax.ttcons Syntax.tnil (Syntax.ttcons (Syntax.tcons (Syntax.tyInt Syntax.w64) Syntax.tnil) (Syntax.ttcons (Syntax.tcons
-    (Syntax.tyInt Syntax.w64) Syntax.tnil) (Syntax.ttcons Syntax.tnil (Syntax.ttcons (Syntax.tcons (Syntax.tyInt Syntax.w64) (Syntax.tcons (Syntax.tyInt Syntax.w64) Syntax.tnil)) (Syntax.ttcons
-    (Syntax.tcons (Syntax.tyInt Syntax.w64) Syntax.tnil) (Syntax.ttcons Syntax.tnil (Syntax.ttcons Syntax.tnil (Syntax.ttcons (Syntax.tcons (Syntax.tyInt Syntax.w64) Syntax.tnil) (Syntax.ttcons
-    (Syntax.tcons (Syntax.tyInt Syntax.w64) Syntax.tnil) (Syntax.ttcons (Syntax.tcons (Syntax.tyInt Syntax.w64) Syntax.tnil) (Syntax.ttcons Syntax.tnil Syntax.ttnil)))))))))))))))))))))) Syntax.tnil)
-    Syntax.ttnil))) (List._∷_ (Syntax.tyEnum (List._∷_ 115 (List._∷_ 116 (List._∷_ 114 (List._∷_ 101 (List._∷_ 97 (List._∷_ 109 (List._∷_ 58 (List._∷_ 58 (List._∷_ 82 (List._∷_ 101 (List._∷_ 102 (List._∷_
-    117 (List._∷_ 115 (List._∷_ 97 (List._∷_ 108 List.[]))))))))))))))) (Syntax.ttcons Syntax.tnil (Syntax.ttcons Syntax.tnil (Syntax.ttcons Syntax.tnil (Syntax.ttcons (Syntax.tcons (Syntax.tyInt
-    Syntax.w64) Syntax.tnil) (Syntax.ttcons Syntax.tnil (Syntax.ttcons Syntax.tnil (Syntax.ttcons Syntax.tnil (Syntax.ttcons Syntax.tnil (Syntax.ttcons Syntax.tnil (Syntax.ttcons Syntax.tnil
-    (Syntax.ttcons (Syntax.tcons (Syntax.tyInt Syntax.w64) Syntax.tnil) (Syntax.ttcons (Syntax.tcons (Syntax.tyInt Syntax.w64) Syntax.tnil) (Syntax.ttcons Syntax.tnil (Syntax.ttcons (Syntax.tcons
-    (Syntax.tyInt Syntax.w64) (Syntax.tcons (Syntax.tyInt Syntax.w64) Syntax.tnil)) (Syntax.ttcons (Syntax.tcons (Syntax.tyInt Syntax.w64) Syntax.tnil) (Syntax.ttcons Syntax.tnil (Syntax.ttcons
-    Syntax.tnil (Syntax.ttcons (Syntax.tcons (Syntax.tyInt Syntax.w64) Syntax.tnil) (Syntax.ttcons (Syntax.tcons (Syntax.tyInt Syntax.w64) Syntax.tnil) (Syntax.ttcons (Syntax.tcons (Syntax.tyInt
-    Syntax.w64) Syntax.tnil) (Syntax.ttcons Syntax.tnil Syntax.ttnil)))))))))))))))))))))) (List._∷_ y0 (List._∷_ (Syntax.tyInt Syntax.w64) (List._∷_ y5 (List._∷_ (Syntax.tyInt Syntax.w64) (List._∷_
-    (Syntax.tyInt Syntax.w64) (List._∷_ (Syntax.tyInt Syntax.w64) (List._∷_ (Syntax.tyInt Syntax.w64) (List._∷_ (Syntax.tyEnum (List._∷_ 115 (List._∷_ 116 (List._∷_ 114 (List._∷_ 101 (List._∷_ 97
-    (List._∷_ 109 (List._∷_ 58 (List._∷_ 58 (List._∷_ 66 (List._∷_ 108 (List._∷_ 111 (List._∷_ 99 (List._∷_ 107 (List._∷_ 76 (List._∷_ 101 (List._∷_ 110 (List._∷_ 103 (List._∷_ 116 (List._∷_ 104
-    List.[]))))))))))))))))))) (Syntax.ttcons (Syntax.tcons (Syntax.tyInt Syntax.w64) Syntax.tnil) (Syntax.ttcons (Syntax.tcons (Syntax.tyEnum (List._∷_ 115 (List._∷_ 116 (List._∷_ 114 (List._∷_ 101
-    (List._∷_ 97 (List._∷_ 109 (List._∷_ 58 (List._∷_ 58 (List._∷_ 82 (List._∷_ 101 (List._∷_ 102 (List._∷_ 117 (List._∷_ 115 (List._∷_ 97 (List._∷_ 108 List.[]))))))))))))))) (Syntax.ttcons Syntax.tnil
-    (Syntax.ttcons Syntax.tnil (Syntax.ttcons Syntax.tnil (Syntax.ttcons (Syntax.tcons (Syntax.tyInt Syntax.w64) Syntax.tnil) (Syntax.ttcons Syntax.tnil (Syntax.ttcons Syntax.tnil (Syntax.ttcons
-    Syntax.tnil (Syntax.ttcons Syntax.tnil (Syntax.ttcons Syntax.tnil (Syntax.ttcons Syntax.tnil (Syntax.ttcons (Syntax.tcons (Syntax.tyInt Syntax.w64) Syntax.tnil) (Syntax.ttcons (Syntax.tcons
-    (Syntax.tyInt Syntax.w64) Syntax.tnil) (Syntax.ttcons Syntax.tnil (Syntax.ttcons (Syntax.tcons (Syntax.tyInt Syntax.w64) (Syntax.tcons (Syntax.tyInt Syntax.w64) Syntax.tnil)) (Syntax.ttcons
-    (Syntax.tcons (Syntax.tyInt Syntax.w64) Syntax.tnil) (Syntax.ttcons Syntax.tnil (Syntax.ttcons Syntax.tnil (Syntax.ttcons (Syntax.tcons (Syntax.tyInt Syntax.w64) Syntax.tnil) (Syntax.ttcons
-    (Syntax.tcons (Syntax.tyInt Syntax.w64) Syntax.tnil) (Syntax.ttcons (Syntax.tcons (Syntax.tyInt Syntax.w64) Syntax.tnil) (Syntax.ttcons Syntax.tnil Syntax.ttnil)))))))))))))))))))))) Syntax.tnil)
-    Syntax.ttnil))) (List._∷_ (Syntax.tyRef Syntax.erased Syntax.mut (Syntax.tyInt Syntax.w8)) (List._∷_ y3 (List._∷_ Syntax.tyPtr (List._∷_ (Syntax.tyInt Syntax.w64) (List._∷_ (Syntax.tyRef Syntax.erased
-    Syntax.mut (Syntax.tyInt Syntax.w16)) (List._∷_ y2 (List._∷_ Syntax.tyPtr (List._∷_ (Syntax.tyInt Syntax.w64) (List._∷_ (Syntax.tyRef Syntax.erased Syntax.mut Element.behind) (List._∷_ y4 (List._∷_
-    Syntax.tyPtr (List._∷_ (Syntax.tyInt Syntax.w64) (List._∷_ (Syntax.tyRef Syntax.erased Syntax.imm (Syntax.tyInt Syntax.w8)) (List._∷_ y1 List.[])))))))))))))))))))))))
+xs = List._∷_ (Syntax.tyEnum (List._∷_ 115 (List._∷_ 116 (List._∷_ 114 (List._∷_ 101 (List._∷_ 97 (List._∷_ 109 (List._∷_ 58 (List._∷_ 58 (List._∷_ 82 (List._∷_ 101 (List._∷_ 102 (List._∷_ 117
+    (List._∷_ 115 (List._∷_ 97 (List._∷_ 108 List.[]))))))))))))))) (Syntax.ttcons Syntax.tnil (Syntax.ttcons Syntax.tnil (Syntax.ttcons Syntax.tnil (Syntax.ttcons (Syntax.tcons (Syntax.tyInt Syntax.w64)
+    Syntax.tnil) (Syntax.ttcons Syntax.tnil (Syntax.ttcons Syntax.tnil (Syntax.ttcons Syntax.tnil (Syntax.ttcons Syntax.tnil (Syntax.ttcons Syntax.tnil (Syntax.ttcons Syntax.tnil (Syntax.ttcons
+    (Syntax.tcons (Syntax.tyInt Syntax.w64) Syntax.tnil) (Syntax.ttcons (Syntax.tcons (Syntax.tyInt Syntax.w64) Syntax.tnil) (Syntax.ttcons Syntax.tnil (Syntax.ttcons (Syntax.tcons (Syntax.tyInt
+    Syntax.w64) (Syntax.tcons (Syntax.tyInt Syntax.w64) Syntax.tnil)) (Syntax.ttcons (Syntax.tcons (Syntax.tyInt Syntax.w64) Syntax.tnil) (Syntax.ttcons Syntax.tnil (Syntax.ttcons Syntax.tnil
+    (Syntax.ttcons (Syntax.tcons (Syntax.tyInt Syntax.w64) Syntax.tnil) (Syntax.ttcons (Syntax.tcons (Syntax.tyInt Syntax.w64) Syntax.tnil) (Syntax.ttcons (Syntax.tcons (Syntax.tyInt Syntax.w64)
+    Syntax.tnil) (Syntax.ttcons Syntax.tnil Syntax.ttnil)))))))))))))))))))))) (List._∷_ y0 (List._∷_ (Syntax.tyInt Syntax.w64) (List._∷_ y4 (List._∷_ (Syntax.tyInt Syntax.w64) (List._∷_ (Syntax.tyEnum
+    (List._∷_ 115 (List._∷_ 116 (List._∷_ 114 (List._∷_ 101 (List._∷_ 97 (List._∷_ 109 (List._∷_ 58 (List._∷_ 58 (List._∷_ 66 (List._∷_ 108 (List._∷_ 111 (List._∷_ 99 (List._∷_ 107 (List._∷_ 76 (List._∷_
+    101 (List._∷_ 110 (List._∷_ 103 (List._∷_ 116 (List._∷_ 104 List.[]))))))))))))))))))) (Syntax.ttcons (Syntax.tcons (Syntax.tyInt Syntax.w64) Syntax.tnil) (Syntax.ttcons (Syntax.tcons (Syntax.tyEnum
+    (List._∷_ 115 (List._∷_ 116 (List._∷_ 114 (List._∷_ 101 (List._∷_ 97 (List._∷_ 109 (List._∷_ 58 (List._∷_ 58 (List._∷_ 82 (List._∷_ 101 (List._∷_ 102 (List._∷_ 117 (List._∷_ 115 (List._∷_ 97 (List._∷_
+    108 List.[]))))))))))))))) (Syntax.ttcons Syntax.tnil (Syntax.ttcons Syntax.tnil (Syntax.ttcons Syntax.tnil (Syntax.ttcons (Syntax.tcons (Syntax.tyInt Syntax.w64) Syntax.tnil) (Syntax.ttcons
+    Syntax.tnil (Syntax.ttcons Syntax.tnil (Syntax.ttcons Syntax.tnil (Syntax.ttcons Syntax.tnil (Syntax.ttcons Syntax.tnil (Syntax.ttcons Syntax.tnil (Syntax.ttcons (Syntax.tcons (Syntax.tyInt
+    Syntax.w64) Syntax.tnil) (Syntax.ttcons (Syntax.tcons (Syntax.tyInt Syntax.w64) Syntax.tnil) (Syntax.ttcons Syntax.tnil (Syntax.ttcons (Syntax.tcons (Syntax.tyInt Syntax.w64) (Syntax.tcons
+    (Syntax.tyInt Syntax.w64) Syntax.tnil)) (Syntax.ttcons (Syntax.tcons (Syntax.tyInt Syntax.w64) Syntax.tnil) (Syntax.ttcons Syntax.tnil (Syntax.ttcons Syntax.tnil (Syntax.ttcons (Syntax.tcons
+    (Syntax.tyInt Syntax.w64) Syntax.tnil) (Syntax.ttcons (Syntax.tcons (Syntax.tyInt Syntax.w64) Syntax.tnil) (Syntax.ttcons (Syntax.tcons (Syntax.tyInt Syntax.w64) Syntax.tnil) (Syntax.ttcons
+    Syntax.tnil Syntax.ttnil)))))))))))))))))))))) Syntax.tnil) Syntax.ttnil))) (List._∷_ (Syntax.tyRef Syntax.erased Syntax.mut (Syntax.tyInt Syntax.w8)) (List._∷_ y2 (List._∷_ Syntax.tyPtr (List._∷_
+    (Syntax.tyInt Syntax.w64) (List._∷_ (Syntax.tyRef Syntax.erased Syntax.mut (Syntax.tyInt Syntax.w16)) (List._∷_ y1 (List._∷_ Syntax.tyPtr (List._∷_ (Syntax.tyInt Syntax.w64) (List._∷_ (Syntax.tyRef
+    Syntax.erased Syntax.mut Element.behind) (List._∷_ y3 List.[])))))))))))))))
 
 abbrev pub m : Nat.ℕ
 m = 3
 
-abbrev pub ps·0 : List.List (Kinds.PK 1)
-ps·0 = List._∷_ (ShrSlice.pShrS (Referent.rtF (Referent.fInt Syntax.w8)) 0 tt) (List._∷_ (Num.pNum Syntax.w64) (List._∷_ (Num.pNum Syntax.w64) (List._∷_ (Num.pNum Syntax.w64) List.[])))
+abbrev pub ps·0 : List.List (Kinds.PK 0)
+ps·0 = List._∷_ Bool.pBool List.[]
 
-abbrev pub r·0 : Kinds.RK 1
-r·0 = Value.rVal record {
-  ty = Declared.row Parsed.the-type;
+abbrev pub r·0 : Kinds.RK 0
+r·0 = Num.rNum Syntax.w64
+
+abbrev pub ps·1 : List.List (Kinds.PK 0)
+ps·1 = List._∷_ (Value.pVal record {
+  ty = Declared'.row FujiHeader.the-type;
   one = Path'.refl;
-  val = Laws'5.val Parsed.the-type Laws'3.the-laws;
-  tells = Laws'5.tells Parsed.the-type Laws'3.the-laws;
-  still = Laws'5.still Parsed.the-type
-      Laws'3.the-copy Exit.yes;
-  row = Rows.whole (Declared.row Parsed.the-type);
+  val = Laws'6.val FujiHeader.the-type Laws''.the-laws;
+  tells = Laws'6.tells FujiHeader.the-type Laws''.the-laws;
+  still = Laws'6.still
+      FujiHeader.the-type Laws''.the-copy Exit.yes;
+  row = Rows.whole (Declared'.row FujiHeader.the-type);
   rd = λ x. x;
   mk = λ x. x;
 } λ M 𝓤 H A W. record {
-  copies = Laws'5.copy Parsed.the-type Laws'3.the-copy 𝓤 H A W;
-  lawful = Laws'5.lawful Parsed.the-type Laws'3.the-laws 𝓤 H A W tt;
-  makes = Laws'5.makes Parsed.the-type Laws'3.the-plain 𝓤 H A;
-  in-mem =
-      Local.mem-whole 𝓤 H A W (Declared.row Parsed.the-type);
-  of-mem = Local.whole-mem 𝓤 H A W (Declared.row Parsed.the-type);
-}
-
-abbrev pub ps·1 : List.List (Kinds.PK 0)
-ps·1 = List._∷_ Bool.pBool List.[]
+  copies = Laws'6.copy FujiHeader.the-type Laws''.the-copy 𝓤 H A W;
+  lawful = Laws'6.lawful FujiHeader.the-type Laws''.the-laws 𝓤 H A W;
+  makes = Laws'6.makes FujiHeader.the-type Laws''.the-plain 𝓤 H A;
+  in-mem = Local.mem-whole 𝓤 H A W (Declared'.row FujiHeader.the-type);
+  of-mem = Local.whole-mem 𝓤 H A W (Declared'.row FujiHeader.the-type);
+}) List.[]
 
 abbrev pub r·1 : Kinds.RK 0
-r·1 = Num.rNum Syntax.w64
+r·1 = Value.rVal record {
+  ty = Declared'.row Form.the-type;
+  one = Path'.refl;
+  val = Laws'6.val Form.the-type Laws.the-laws;
+  tells = Laws'6.tells Form.the-type Laws.the-laws;
+  still = Laws'6.still Form.the-type Laws.the-copy
+      Exit.yes;
+  row = Rows.whole (Declared'.row Form.the-type);
+  rd = λ x. x;
+  mk = λ x. x;
+} λ M 𝓤 H A W. record {
+  copies = Laws'6.copy Form.the-type Laws.the-copy 𝓤 H A W;
+  lawful = Laws'6.lawful Form.the-type Laws.the-laws 𝓤 H A W;
+  makes = Laws'6.makes Form.the-type Laws.the-plain 𝓤 H A;
+  in-mem =
+      Local.mem-whole 𝓤 H A W (Declared'.row Form.the-type);
+  of-mem = Local.whole-mem 𝓤 H A W (Declared'.row Form.the-type);
+}
 
 abbrev pub ps·2 : List.List (Kinds.PK 0)
 ps·2 = List._∷_ (Value.pVal record {
@@ -204,49 +225,10 @@ ps·2 = List._∷_ (Value.pVal record {
 }) List.[]
 
 abbrev pub r·2 : Kinds.RK 0
-r·2 = Value.rVal record {
-  ty = Declared'.row Form.the-type;
-  one = Path'.refl;
-  val = Laws'6.val Form.the-type Laws.the-laws;
-  tells = Laws'6.tells Form.the-type Laws.the-laws;
-  still = Laws'6.still Form.the-type Laws.the-copy
-      Exit.yes;
-  row = Rows.whole (Declared'.row Form.the-type);
-  rd = λ x. x;
-  mk = λ x. x;
-} λ M 𝓤 H A W. record {
-  copies = Laws'6.copy Form.the-type Laws.the-copy 𝓤 H A W;
-  lawful = Laws'6.lawful Form.the-type Laws.the-laws 𝓤 H A W;
-  makes = Laws'6.makes Form.the-type Laws.the-plain 𝓤 H A;
-  in-mem =
-      Local.mem-whole 𝓤 H A W (Declared'.row Form.the-type);
-  of-mem = Local.whole-mem 𝓤 H A W (Declared'.row Form.the-type);
-}
+r·2 = Num.rNum Syntax.w64
 
-abbrev pub ps·3 : List.List (Kinds.PK 0)
-ps·3 = List._∷_ (Value.pVal record {
-  ty = Declared'.row FujiHeader.the-type;
-  one = Path'.refl;
-  val = Laws'6.val FujiHeader.the-type Laws''.the-laws;
-  tells = Laws'6.tells FujiHeader.the-type Laws''.the-laws;
-  still = Laws'6.still
-      FujiHeader.the-type Laws''.the-copy Exit.yes;
-  row = Rows.whole (Declared'.row FujiHeader.the-type);
-  rd = λ x. x;
-  mk = λ x. x;
-} λ M 𝓤 H A W. record {
-  copies = Laws'6.copy FujiHeader.the-type Laws''.the-copy 𝓤 H A W;
-  lawful = Laws'6.lawful FujiHeader.the-type Laws''.the-laws 𝓤 H A W;
-  makes = Laws'6.makes FujiHeader.the-type Laws''.the-plain 𝓤 H A;
-  in-mem = Local.mem-whole 𝓤 H A W (Declared'.row FujiHeader.the-type);
-  of-mem = Local.whole-mem 𝓤 H A W (Declared'.row FujiHeader.the-type);
-}) List.[]
-
-abbrev pub r·3 : Kinds.RK 0
-r·3 = Num.rNum Syntax.w64
-
-abbrev pub ps·4 : List.List (Kinds.PK 5)
-ps·4 = List._∷_ (ShrSlice.pShrS (Referent.rtF (Referent.fInt Syntax.w16)) 0 tt) (List._∷_ (MutSlice.pMutS (Referent.rtF (Referent.fInt Syntax.w8)) 1 tt) (List._∷_ Bool.pBool (List._∷_ (MutSlice.pMutS
+abbrev pub ps·3 : List.List (Kinds.PK 5)
+ps·3 = List._∷_ (ShrSlice.pShrS (Referent.rtF (Referent.fInt Syntax.w16)) 0 tt) (List._∷_ (MutSlice.pMutS (Referent.rtF (Referent.fInt Syntax.w8)) 1 tt) (List._∷_ Bool.pBool (List._∷_ (MutSlice.pMutS
     (Referent.rtF (Referent.fInt Syntax.w16)) 2 tt) (List._∷_ (MutSlice.pMutS (Element.type) 3 tt) (List._∷_ (Value.pVal record {
       ty = Declared'.row Form.the-type;
       one = Path'.refl;
@@ -267,8 +249,8 @@ ps·4 = List._∷_ (ShrSlice.pShrS (Referent.rtF (Referent.fInt Syntax.w16)) 0 t
     }) (List._∷_ (ShrSlice.pShrS (Referent.rtF (Referent.fInt Syntax.w8)) 4 tt)
     (List._∷_ (Num.pNum Syntax.w64) List.[])))))))
 
-abbrev pub r·4 : Kinds.RK 5
-r·4 = Value.rVal record {
+abbrev pub r·3 : Kinds.RK 5
+r·3 = Value.rVal record {
   ty = Declared.row BlockLength.the-type;
   one = Path'.refl;
   val = Laws'5.val BlockLength.the-type Laws'.the-laws;
@@ -291,179 +273,127 @@ abbrev pub hs : List.List Syntax.Home
 hs = List._∷_ Syntax.valueLocal (List._∷_ Syntax.valueLocal (List._∷_ Syntax.valueLocal (List._∷_ Syntax.valueLocal (List._∷_ Syntax.valueLocal (List._∷_ Syntax.valueLocal (List._∷_ Syntax.valueLocal
     (List._∷_ Syntax.valueLocal (List._∷_ Syntax.valueLocal (List._∷_ Syntax.valueLocal (List._∷_ Syntax.valueLocal (List._∷_ Syntax.valueLocal (List._∷_ Syntax.valueLocal (List._∷_ Syntax.valueLocal
     (List._∷_ Syntax.valueLocal (List._∷_ Syntax.valueLocal (List._∷_ Syntax.valueLocal (List._∷_ Syntax.valueLocal (List._∷_ Syntax.valueLocal (List._∷_ Syntax.valueLocal (List._∷_ Syntax.valueLocal
-    (List._∷_ Syntax.valueLocal (List._∷_ Syntax.valueLocal (List._∷_ Syntax.valueLocal (List._∷_ Syntax.valueLocal (List._∷_ Syntax.valueLocal (List._∷_ Syntax.valueLocal (List._∷_ Syntax.valueLocal
-    (List._∷_ Syntax.valueLocal (List._∷_ Syntax.valueLocal (List._∷_ Syntax.valueLocal List.[]))))))))))))))))))))))))))))))
+    (List._∷_ Syntax.valueLocal (List._∷_ Syntax.valueLocal (List._∷_ Syntax.valueLocal List.[])))))))))))))))))))))))
 
 abbrev b0 : Syntax.Body
-b0 = Syntax.assign (Syntax.place 13 List.[]) (Syntax.rvOpd (Syntax.copy (Syntax.place 2 (List._∷_ (Syntax.field 1) List.[]))))
+b0 = Syntax.assign (Syntax.place 8 List.[]) (Syntax.rvOpd (Syntax.copy (Syntax.place 1 (List._∷_ (Syntax.variant 1) (List._∷_ (Syntax.field 1) List.[])))))
 
 abbrev b1 : Syntax.Body
-b1 = Syntax.assign (Syntax.place 14 List.[]) (Syntax.rvOpd (Syntax.copy (Syntax.place 5 (List._∷_ (Syntax.field 1) List.[]))))
+b1 = Syntax.assign (Syntax.place 13 List.[]) (Syntax.aggregate (List._∷_ (Syntax.int Syntax.w8 1) (List._∷_ (Syntax.copy (Syntax.place 8 List.[])) List.[])))
 
 abbrev b2 : Syntax.Body
-b2 = Syntax.assign (Syntax.place 15 List.[]) (Syntax.rvOpd (Syntax.copy (Syntax.place 6 (List._∷_ (Syntax.field 1) List.[]))))
+b2 = Syntax.seq b0 b1
 
 abbrev b3 : Syntax.Body
-b3 = Syntax.call "begin::writing_begins" (List._∷_ (Syntax.copy (Syntax.place 1 List.[])) (List._∷_ (Syntax.copy (Syntax.place 13 List.[])) (List._∷_ (Syntax.copy (Syntax.place 14 List.[])) (List._∷_
-    (Syntax.copy (Syntax.place 15 List.[])) List.[])))) (Syntax.place 7 List.[])
+b3 = Syntax.assign (Syntax.place 9 List.[]) (Syntax.rvOpd (Syntax.copy (Syntax.place 1 (List._∷_ (Syntax.variant 0) (List._∷_ (Syntax.field 1) List.[])))))
 
 abbrev b4 : Syntax.Body
-b4 = Syntax.assign (Syntax.place 8 List.[]) (Syntax.rvOpd (Syntax.copy (Syntax.place 7 (List._∷_ (Syntax.variant 1) (List._∷_ (Syntax.field 1) List.[])))))
+b4 = Syntax.call "begin::samples_needed" (List._∷_ (Syntax.copy (Syntax.place 9 (List._∷_ (Syntax.field 1) List.[]))) List.[]) (Syntax.place 10 List.[])
 
 abbrev b5 : Syntax.Body
-b5 = Syntax.assign (Syntax.place 16 List.[]) (Syntax.aggregate (List._∷_ (Syntax.int Syntax.w8 1) (List._∷_ (Syntax.copy (Syntax.place 8 List.[])) List.[])))
+b5 = Syntax.call "block::form_of" (List._∷_ (Syntax.copy (Syntax.place 9 List.[])) List.[]) (Syntax.place 11 List.[])
 
 abbrev b6 : Syntax.Body
-b6 = Syntax.seq b4 b5
+b6 = Syntax.call "block::tight::line_count" (List._∷_ (Syntax.copy (Syntax.place 9 List.[])) List.[]) (Syntax.place 12 List.[])
 
 abbrev b7 : Syntax.Body
-b7 = Syntax.assign (Syntax.place 9 List.[]) (Syntax.rvOpd (Syntax.copy (Syntax.place 7 (List._∷_ (Syntax.variant 0) (List._∷_ (Syntax.field 1) List.[])))))
+b7 = Syntax.assign (Syntax.place 14 List.[]) (Syntax.addrOf (Syntax.place 4 (List._∷_ (Syntax.field 0) (List._∷_ (Syntax.deref (Syntax.tyInt Syntax.w8)) List.[]))))
 
 abbrev b8 : Syntax.Body
-b8 = Syntax.call "begin::samples_needed" (List._∷_ (Syntax.copy (Syntax.place 9 (List._∷_ (Syntax.field 1) List.[]))) List.[]) (Syntax.place 10 List.[])
+b8 = Syntax.assign (Syntax.place 15 List.[]) (Syntax.aggregate (List._∷_ (Syntax.copy (Syntax.place 14 List.[])) (List._∷_ (Syntax.copy (Syntax.place 4 (List._∷_ (Syntax.field 1) List.[]))) List.[])))
 
 abbrev b9 : Syntax.Body
-b9 = Syntax.call "block::form_of" (List._∷_ (Syntax.copy (Syntax.place 9 List.[])) List.[]) (Syntax.place 11 List.[])
+b9 = Syntax.assign (Syntax.place 16 List.[]) (Syntax.op2 Syntax.offset (Syntax.copy (Syntax.place 6 (List._∷_ (Syntax.field 0) List.[]))) (Syntax.int Syntax.w64 0))
 
 abbrev b10 : Syntax.Body
-b10 = Syntax.call "block::tight::line_count" (List._∷_ (Syntax.copy (Syntax.place 9 List.[])) List.[]) (Syntax.place 12 List.[])
+b10 = Syntax.assign (Syntax.place 17 List.[]) (Syntax.op2 (Syntax.sub Syntax.unsigned) (Syntax.copy (Syntax.place 10 List.[])) (Syntax.int Syntax.w64 0))
 
 abbrev b11 : Syntax.Body
-b11 = Syntax.assign (Syntax.place 17 List.[]) (Syntax.addrOf (Syntax.place 3 (List._∷_ (Syntax.field 0) (List._∷_ (Syntax.deref (Syntax.tyInt Syntax.w8)) List.[]))))
+b11 = Syntax.assign (Syntax.place 18 List.[]) (Syntax.addrOf (Syntax.place 16 (List._∷_ (Syntax.deref (Syntax.tyInt Syntax.w16)) List.[])))
 
 abbrev b12 : Syntax.Body
-b12 = Syntax.assign (Syntax.place 18 List.[]) (Syntax.aggregate (List._∷_ (Syntax.copy (Syntax.place 17 List.[])) (List._∷_ (Syntax.copy (Syntax.place 3 (List._∷_ (Syntax.field 1) List.[])))
-    List.[])))
+b12 = Syntax.assign (Syntax.place 19 List.[]) (Syntax.aggregate (List._∷_ (Syntax.copy (Syntax.place 18 List.[])) (List._∷_ (Syntax.copy (Syntax.place 17 List.[])) List.[])))
 
 abbrev b13 : Syntax.Body
-b13 = Syntax.assign (Syntax.place 19 List.[]) (Syntax.op2 Syntax.offset (Syntax.copy (Syntax.place 5 (List._∷_ (Syntax.field 0) List.[]))) (Syntax.int Syntax.w64 0))
+b13 = Syntax.assign (Syntax.place 20 List.[]) (Syntax.op2 Syntax.offset (Syntax.copy (Syntax.place 7 (List._∷_ (Syntax.field 0) List.[]))) (Syntax.int Syntax.w64 0))
 
 abbrev b14 : Syntax.Body
-b14 = Syntax.assign (Syntax.place 20 List.[]) (Syntax.op2 (Syntax.sub Syntax.unsigned) (Syntax.copy (Syntax.place 10 List.[])) (Syntax.int Syntax.w64 0))
+b14 = Syntax.assign (Syntax.place 21 List.[]) (Syntax.op2 (Syntax.sub Syntax.unsigned) (Syntax.int Syntax.w64 336) (Syntax.int Syntax.w64 0))
 
 abbrev b15 : Syntax.Body
-b15 = Syntax.assign (Syntax.place 21 List.[]) (Syntax.addrOf (Syntax.place 19 (List._∷_ (Syntax.deref (Syntax.tyInt Syntax.w16)) List.[])))
+b15 = Syntax.assign (Syntax.place 22 List.[]) (Syntax.addrOf (Syntax.place 20 (List._∷_ (Syntax.deref (Element.held)) List.[])))
 
 abbrev b16 : Syntax.Body
-b16 = Syntax.assign (Syntax.place 22 List.[]) (Syntax.aggregate (List._∷_ (Syntax.copy (Syntax.place 21 List.[])) (List._∷_ (Syntax.copy (Syntax.place 20 List.[])) List.[])))
+b16 = Syntax.assign (Syntax.place 23 List.[]) (Syntax.aggregate (List._∷_ (Syntax.copy (Syntax.place 22 List.[])) (List._∷_ (Syntax.copy (Syntax.place 21 List.[])) List.[])))
 
 abbrev b17 : Syntax.Body
-b17 = Syntax.assign (Syntax.place 23 List.[]) (Syntax.op2 Syntax.offset (Syntax.copy (Syntax.place 6 (List._∷_ (Syntax.field 0) List.[]))) (Syntax.int Syntax.w64 0))
+b17 = Syntax.call "block::writer::write_set" (List._∷_ (Syntax.copy (Syntax.place 3 List.[])) (List._∷_ (Syntax.copy (Syntax.place 15 List.[])) (List._∷_ (Syntax.copy (Syntax.place 5 List.[]))
+    (List._∷_ (Syntax.copy (Syntax.place 19 List.[])) (List._∷_ (Syntax.copy (Syntax.place 23 List.[])) (List._∷_ (Syntax.copy (Syntax.place 11 List.[])) (List._∷_ (Syntax.copy (Syntax.place 2 List.[]))
+    (List._∷_ (Syntax.copy (Syntax.place 12 List.[])) List.[])))))))) (Syntax.place 13 List.[])
 
 abbrev b18 : Syntax.Body
-b18 = Syntax.assign (Syntax.place 24 List.[]) (Syntax.op2 (Syntax.sub Syntax.unsigned) (Syntax.int Syntax.w64 336) (Syntax.int Syntax.w64 0))
+b18 = Syntax.seq b16 b17
 
 abbrev b19 : Syntax.Body
-b19 = Syntax.assign (Syntax.place 25 List.[]) (Syntax.addrOf (Syntax.place 23 (List._∷_ (Syntax.deref (Element.held)) List.[])))
+b19 = Syntax.seq b15 b18
 
 abbrev b20 : Syntax.Body
-b20 = Syntax.assign (Syntax.place 26 List.[]) (Syntax.aggregate (List._∷_ (Syntax.copy (Syntax.place 25 List.[])) (List._∷_ (Syntax.copy (Syntax.place 24 List.[])) List.[])))
+b20 = Syntax.seq b14 b19
 
 abbrev b21 : Syntax.Body
-b21 = Syntax.assign (Syntax.place 27 List.[]) (Syntax.op2 Syntax.offset (Syntax.copy (Syntax.place 1 (List._∷_ (Syntax.field 0) List.[]))) (Syntax.int Syntax.w64 0))
+b21 = Syntax.seq b13 b20
 
 abbrev b22 : Syntax.Body
-b22 = Syntax.assign (Syntax.place 28 List.[]) (Syntax.op2 (Syntax.sub Syntax.unsigned) (Syntax.int Syntax.w64 0) (Syntax.int Syntax.w64 0))
+b22 = Syntax.seq b12 b21
 
 abbrev b23 : Syntax.Body
-b23 = Syntax.assign (Syntax.place 29 List.[]) (Syntax.addrOf (Syntax.place 27 (List._∷_ (Syntax.deref (Syntax.tyInt Syntax.w8)) List.[])))
+b23 = Syntax.seq b11 b22
 
 abbrev b24 : Syntax.Body
-b24 = Syntax.assign (Syntax.place 30 List.[]) (Syntax.aggregate (List._∷_ (Syntax.copy (Syntax.place 29 List.[])) (List._∷_ (Syntax.copy (Syntax.place 28 List.[])) List.[])))
+b24 = Syntax.seq b10 b23
 
 abbrev b25 : Syntax.Body
-b25 = Syntax.call "block::writer::write_set" (List._∷_ (Syntax.copy (Syntax.place 2 List.[])) (List._∷_ (Syntax.copy (Syntax.place 18 List.[])) (List._∷_ (Syntax.copy (Syntax.place 4 List.[]))
-    (List._∷_ (Syntax.copy (Syntax.place 22 List.[])) (List._∷_ (Syntax.copy (Syntax.place 26 List.[])) (List._∷_ (Syntax.copy (Syntax.place 11 List.[])) (List._∷_ (Syntax.copy (Syntax.place 30 List.[]))
-    (List._∷_ (Syntax.copy (Syntax.place 12 List.[])) List.[])))))))) (Syntax.place 16 List.[])
+b25 = Syntax.seq b9 b24
 
 abbrev b26 : Syntax.Body
-b26 = Syntax.seq b24 b25
+b26 = Syntax.seq b8 b25
 
 abbrev b27 : Syntax.Body
-b27 = Syntax.seq b23 b26
+b27 = Syntax.seq b7 b26
 
 abbrev b28 : Syntax.Body
-b28 = Syntax.seq b22 b27
+b28 = Syntax.seq b6 b27
 
 abbrev b29 : Syntax.Body
-b29 = Syntax.seq b21 b28
+b29 = Syntax.seq b5 b28
 
 abbrev b30 : Syntax.Body
-b30 = Syntax.seq b20 b29
+b30 = Syntax.seq b4 b29
 
 abbrev b31 : Syntax.Body
-b31 = Syntax.seq b19 b30
+b31 = Syntax.seq b3 b30
 
 abbrev b32 : Syntax.Body
-b32 = Syntax.seq b18 b31
-
-abbrev b33 : Syntax.Body
-b33 = Syntax.seq b17 b32
-
-abbrev b34 : Syntax.Body
-b34 = Syntax.seq b16 b33
-
-abbrev b35 : Syntax.Body
-b35 = Syntax.seq b15 b34
-
-abbrev b36 : Syntax.Body
-b36 = Syntax.seq b14 b35
-
-abbrev b37 : Syntax.Body
-b37 = Syntax.seq b13 b36
-
-abbrev b38 : Syntax.Body
-b38 = Syntax.seq b12 b37
-
-abbrev b39 : Syntax.Body
-b39 = Syntax.seq b11 b38
-
-abbrev b40 : Syntax.Body
-b40 = Syntax.seq b10 b39
-
-abbrev b41 : Syntax.Body
-b41 = Syntax.seq b9 b40
-
-abbrev b42 : Syntax.Body
-b42 = Syntax.seq b8 b41
-
-abbrev b43 : Syntax.Body
-b43 = Syntax.seq b7 b42
-
-abbrev b44 : Syntax.Body
-b44 = Syntax.switch (Syntax.copy (Syntax.place 7 (List._∷_ (Syntax.variant 0) (List._∷_ (Syntax.field 0) List.[])))) (Syntax.arm (List._∷_ 1 List.[]) b6 (Syntax.arm (List._∷_ 0 List.[]) b43
+b32 = Syntax.switch (Syntax.copy (Syntax.place 1 (List._∷_ (Syntax.variant 0) (List._∷_ (Syntax.field 0) List.[])))) (Syntax.arm (List._∷_ 1 List.[]) b2 (Syntax.arm (List._∷_ 0 List.[]) b31
     Syntax.noDefault))
 
-abbrev b45 : Syntax.Body
-b45 = Syntax.assign (Syntax.place 0 List.[]) (Syntax.rvOpd (Syntax.copy (Syntax.place 16 List.[])))
+abbrev b33 : Syntax.Body
+b33 = Syntax.assign (Syntax.place 0 List.[]) (Syntax.rvOpd (Syntax.copy (Syntax.place 13 List.[])))
 
-abbrev b46 : Syntax.Body
-b46 = Syntax.return
+abbrev b34 : Syntax.Body
+b34 = Syntax.return
 
-abbrev b47 : Syntax.Body
-b47 = Syntax.seq b45 b46
+abbrev b35 : Syntax.Body
+b35 = Syntax.seq b33 b34
 
-abbrev b48 : Syntax.Body
-b48 = Syntax.seq b44 b47
-
-abbrev b49 : Syntax.Body
-b49 = Syntax.seq b3 b48
-
-abbrev b50 : Syntax.Body
-b50 = Syntax.seq b2 b49
-
-abbrev b51 : Syntax.Body
-b51 = Syntax.seq b1 b50
-
-abbrev b52 : Syntax.Body
-b52 = Syntax.seq b0 b51
+abbrev b36 : Syntax.Body
+b36 = Syntax.seq b32 b35
 
 abbrev pub body : Syntax.Body
-body = b52
+body = b36
 
 abbrev pub Claims : Type 1
-Claims = Kinds.In 1 ps·0 × Kinds.Out 1 ps·0 r·0 × Kinds.In 0 ps·1 × Kinds.Out 0 ps·1 r·1 × Kinds.In 0 ps·2 × Kinds.Out 0 ps·2 r·2 × Kinds.In 0 ps·3 × Kinds.Out 0 ps·3 r·3 × Kinds.In 5 ps·4 × Kinds.Out
-    5 ps·4 r·4
+Claims = Kinds.In 0 ps·0 × Kinds.Out 0 ps·0 r·0 × Kinds.In 0 ps·1 × Kinds.Out 0 ps·1 r·1 × Kinds.In 0 ps·2 × Kinds.Out 0 ps·2 r·2 × Kinds.In 5 ps·3 × Kinds.Out 5 ps·3 r·3
 
 abbrev pub e0 : Row.Entry
 e0 = (
@@ -483,178 +413,8 @@ abbrev pub e1 : Row.Entry
 e1 = (0, Rows.whole (Declared.row BlockLength.the-type))
 
 abbrev pub e2 : Row.Entry
-e2 = (1, Rows.sslice (Referent.rtF (Referent.fInt Syntax.w8)) (Syntax.tyRef (Syntax.named 0) Syntax.imm (Syntax.tyInt Syntax.w8)) 0)
-
-abbrev pub e3 : Row.Entry
-e3 = (10, Rows.any-gone (Syntax.tyInt Syntax.w64))
-
-abbrev pub e4 : Row.Entry
-e4 = (10, Rows.sc-here (Row.sInt Syntax.w64))
-
-abbrev pub e5 : Row.Entry
-e5 = (11, Rows.any-gone y5)
-
-abbrev pub e6 : Row.Entry
-e6 = (11, Rows.whole (Declared'.row Form.the-type))
-
-abbrev pub e7 : Row.Entry
-e7 = (12, Rows.any-gone (Syntax.tyInt Syntax.w64))
-
-abbrev pub e8 : Row.Entry
-e8 = (12, Rows.sc-here (Row.sInt Syntax.w64))
-
-abbrev pub e9 : Row.Entry
-e9 = (13, Rows.any-gone (Syntax.tyInt Syntax.w64))
-
-abbrev pub e10 : Row.Entry
-e10 = (13, Rows.sc-here (Row.sInt Syntax.w64))
-
-abbrev pub e11 : Row.Entry
-e11 = (14, Rows.any-gone (Syntax.tyInt Syntax.w64))
-
-abbrev pub e12 : Row.Entry
-e12 = (14, Rows.sc-here (Row.sInt Syntax.w64))
-
-abbrev pub e13 : Row.Entry
-e13 = (15, Rows.any-gone (Syntax.tyInt Syntax.w64))
-
-abbrev pub e14 : Row.Entry
-e14 = (15, Rows.sc-here (Row.sInt Syntax.w64))
-
-abbrev pub e15 : Row.Entry
-e15 = (
-  16,
-  Rows.any-gone (Syntax.tyEnum (List._∷_ 115 (List._∷_ 116 (List._∷_ 114 (List._∷_ 101 (List._∷_ 97 (List._∷_ 109 (List._∷_ 58 (List._∷_ 58 (List._∷_ 66 (List._∷_ 108 (List._∷_ 111 (List._∷_ 99
-      (List._∷_ 107 (List._∷_ 76 (List._∷_ 101 (List._∷_ 110 (List._∷_ 103 (List._∷_ 116 (List._∷_ 104 List.[]))))))))))))))))))) (Syntax.ttcons (Syntax.tcons (Syntax.tyInt Syntax.w64) Syntax.tnil)
-      (Syntax.ttcons (Syntax.tcons (Syntax.tyEnum (List._∷_ 115 (List._∷_ 116 (List._∷_ 114 (List._∷_ 101 (List._∷_ 97 (List._∷_ 109 (List._∷_ 58 (List._∷_ 58 (List._∷_ 82 (List._∷_ 101 (List._∷_ 102
-      (List._∷_ 117 (List._∷_ 115 (List._∷_ 97 (List._∷_ 108 List.[]))))))))))))))) (Syntax.ttcons Syntax.tnil (Syntax.ttcons Syntax.tnil (Syntax.ttcons Syntax.tnil (Syntax.ttcons (Syntax.tcons
-      (Syntax.tyInt Syntax.w64) Syntax.tnil) (Syntax.ttcons Syntax.tnil (Syntax.ttcons Syntax.tnil (Syntax.ttcons Syntax.tnil (Syntax.ttcons Syntax.tnil (Syntax.ttcons Syntax.tnil (Syntax.ttcons Syntax.tnil
-      (Syntax.ttcons (Syntax.tcons (Syntax.tyInt Syntax.w64) Syntax.tnil) (Syntax.ttcons (Syntax.tcons (Syntax.tyInt Syntax.w64) Syntax.tnil) (Syntax.ttcons Syntax.tnil (Syntax.ttcons (Syntax.tcons
-      (Syntax.tyInt Syntax.w64) (Syntax.tcons (Syntax.tyInt Syntax.w64) Syntax.tnil)) (Syntax.ttcons (Syntax.tcons (Syntax.tyInt Syntax.w64) Syntax.tnil) (Syntax.ttcons Syntax.tnil (Syntax.ttcons
-      Syntax.tnil (Syntax.ttcons (Syntax.tcons (Syntax.tyInt Syntax.w64) Syntax.tnil) (Syntax.ttcons (Syntax.tcons (Syntax.tyInt Syntax.w64) Syntax.tnil) (Syntax.ttcons (Syntax.tcons (Syntax.tyInt
-      Syntax.w64) Syntax.tnil) (Syntax.ttcons Syntax.tnil Syntax.ttnil)))))))))))))))))))))) Syntax.tnil) Syntax.ttnil))),
-)
-
-abbrev pub e16 : Row.Entry
-e16 = (16, Rows.whole (Declared.row BlockLength.the-type))
-
-abbrev pub e17 : Row.Entry
-e17 = (17, Rows.any-gone (Syntax.tyRef Syntax.erased Syntax.mut (Syntax.tyInt Syntax.w8)))
-
-abbrev pub e18 : Row.Entry
-e18 = (18, Mut.msleft (Referent.rtF (Referent.fInt Syntax.w8)) (Syntax.tyRef Syntax.erased Syntax.mut (Syntax.tyInt Syntax.w8)))
-
-abbrev pub e19 : Row.Entry
-e19 = (18, Mut.mslice (Referent.rtF (Referent.fInt Syntax.w8)) (Syntax.tyRef Syntax.erased Syntax.mut (Syntax.tyInt Syntax.w8)) 5)
-
-abbrev pub e20 : Row.Entry
-e20 = (18, Rows.any-gone y3)
-
-abbrev pub e21 : Row.Entry
-e21 = (19, Rows.any-gone Syntax.tyPtr)
-
-abbrev pub e22 : Row.Entry
-e22 = (19, Rows.sc-here Row.sPtr)
-
-abbrev pub e23 : Row.Entry
-e23 = (2, Rows.sslice (Referent.rtF (Referent.fInt Syntax.w16)) (Syntax.tyRef (Syntax.named 1) Syntax.imm (Syntax.tyInt Syntax.w16)) 1)
-
-abbrev pub e24 : Row.Entry
-e24 = (20, Rows.any-gone (Syntax.tyInt Syntax.w64))
-
-abbrev pub e25 : Row.Entry
-e25 = (20, Rows.sc-here (Row.sInt Syntax.w64))
-
-abbrev pub e26 : Row.Entry
-e26 = (21, Relend.msptr (Referent.rtF (Referent.fInt Syntax.w16)) (Syntax.tyRef Syntax.erased Syntax.mut (Syntax.tyInt Syntax.w16)) 6)
-
-abbrev pub e27 : Row.Entry
-e27 = (21, Rows.any-gone (Syntax.tyRef Syntax.erased Syntax.mut (Syntax.tyInt Syntax.w16)))
-
-abbrev pub e28 : Row.Entry
-e28 = (22, Mut.msleft (Referent.rtF (Referent.fInt Syntax.w16)) (Syntax.tyRef Syntax.erased Syntax.mut (Syntax.tyInt Syntax.w16)))
-
-abbrev pub e29 : Row.Entry
-e29 = (22, Mut.mslice (Referent.rtF (Referent.fInt Syntax.w16)) (Syntax.tyRef Syntax.erased Syntax.mut (Syntax.tyInt Syntax.w16)) 6)
-
-abbrev pub e30 : Row.Entry
-e30 = (22, Rows.any-gone y2)
-
-abbrev pub e31 : Row.Entry
-e31 = (23, Rows.any-gone Syntax.tyPtr)
-
-abbrev pub e32 : Row.Entry
-e32 = (23, Rows.sc-here Row.sPtr)
-
-abbrev pub e33 : Row.Entry
-e33 = (24, Rows.any-gone (Syntax.tyInt Syntax.w64))
-
-abbrev pub e34 : Row.Entry
-e34 = (24, Rows.sc-here (Row.sInt Syntax.w64))
-
-abbrev pub e35 : Row.Entry
-e35 = (25, Relend.msptr (Element.type) (Syntax.tyRef Syntax.erased Syntax.mut Element.behind) 7)
-
-abbrev pub e36 : Row.Entry
-e36 = (25, Rows.any-gone (Syntax.tyRef Syntax.erased Syntax.mut Element.behind))
-
-abbrev pub e37 : Row.Entry
-e37 = (26, Mut.msleft (Element.type) (Syntax.tyRef Syntax.erased Syntax.mut Element.behind))
-
-abbrev pub e38 : Row.Entry
-e38 = (26, Mut.mslice (Element.type) (Syntax.tyRef Syntax.erased Syntax.mut Element.behind) 7)
-
-abbrev pub e39 : Row.Entry
-e39 = (26, Rows.any-gone y4)
-
-abbrev pub e40 : Row.Entry
-e40 = (27, Rows.any-gone Syntax.tyPtr)
-
-abbrev pub e41 : Row.Entry
-e41 = (27, Rows.sc-here Row.sPtr)
-
-abbrev pub e42 : Row.Entry
-e42 = (28, Rows.any-gone (Syntax.tyInt Syntax.w64))
-
-abbrev pub e43 : Row.Entry
-e43 = (28, Rows.sc-here (Row.sInt Syntax.w64))
-
-abbrev pub e44 : Row.Entry
-e44 = (29, Relend.ssptr (Referent.rtF (Referent.fInt Syntax.w8)) (Syntax.tyRef Syntax.erased Syntax.imm (Syntax.tyInt Syntax.w8)) 0)
-
-abbrev pub e45 : Row.Entry
-e45 = (29, Rows.any-gone (Syntax.tyRef Syntax.erased Syntax.imm (Syntax.tyInt Syntax.w8)))
-
-abbrev pub e46 : Row.Entry
-e46 = (3, Mut.mslice (Referent.rtF (Referent.fInt Syntax.w8)) (Syntax.tyRef (Syntax.named 2) Syntax.mut (Syntax.tyInt Syntax.w8)) 2)
-
-abbrev pub e47 : Row.Entry
-e47 = (3, Relend.mslice-owed (Referent.rtF (Referent.fInt Syntax.w8)) (Syntax.tyRef (Syntax.named 2) Syntax.mut (Syntax.tyInt Syntax.w8)) 2 5 Row.off)
-
-abbrev pub e48 : Row.Entry
-e48 = (30, Rows.any-gone y1)
-
-abbrev pub e49 : Row.Entry
-e49 = (30, Rows.sslice (Referent.rtF (Referent.fInt Syntax.w8)) (Syntax.tyRef Syntax.erased Syntax.imm (Syntax.tyInt Syntax.w8)) 0)
-
-abbrev pub e50 : Row.Entry
-e50 = (4, Rows.sc-here Row.sBool)
-
-abbrev pub e51 : Row.Entry
-e51 = (5, Mut.mslice (Referent.rtF (Referent.fInt Syntax.w16)) (Syntax.tyRef (Syntax.named 3) Syntax.mut (Syntax.tyInt Syntax.w16)) 3)
-
-abbrev pub e52 : Row.Entry
-e52 = (5, PartMut.mslice-owedM (Referent.rtF (Referent.fInt Syntax.w16)) (Syntax.tyRef (Syntax.named 3) Syntax.mut (Syntax.tyInt Syntax.w16)) 3 6 Row.off)
-
-abbrev pub e53 : Row.Entry
-e53 = (6, Mut.mslice (Element.type) (Syntax.tyRef (Syntax.named 4) Syntax.mut Element.behind) 4)
-
-abbrev pub e54 : Row.Entry
-e54 = (6, PartMut.mslice-owedM (Element.type) (Syntax.tyRef (Syntax.named 4) Syntax.mut Element.behind) 4 7 Row.off)
-
-abbrev pub e55 : Row.Entry
-e55 = (
-  7,
+e2 = (
+  1,
   Rows.any-gone (Syntax.tyEnum (List._∷_ 115 (List._∷_ 116 (List._∷_ 114 (List._∷_ 101 (List._∷_ 97 (List._∷_ 109 (List._∷_ 58 (List._∷_ 58 (List._∷_ 80 (List._∷_ 97 (List._∷_ 114 (List._∷_ 115
       (List._∷_ 101 (List._∷_ 100 List.[])))))))))))))) (Syntax.ttcons (Syntax.tcons y0 Syntax.tnil) (Syntax.ttcons (Syntax.tcons (Syntax.tyEnum (List._∷_ 115 (List._∷_ 116 (List._∷_ 114 (List._∷_ 101
       (List._∷_ 97 (List._∷_ 109 (List._∷_ 58 (List._∷_ 58 (List._∷_ 82 (List._∷_ 101 (List._∷_ 102 (List._∷_ 117 (List._∷_ 115 (List._∷_ 97 (List._∷_ 108 List.[]))))))))))))))) (Syntax.ttcons Syntax.tnil
@@ -666,17 +426,142 @@ e55 = (
       Syntax.ttnil))),
 )
 
-abbrev pub e56 : Row.Entry
-e56 = (7, Rows.whole (Declared.row Parsed.the-type))
+abbrev pub e3 : Row.Entry
+e3 = (1, Rows.whole (Known.Known Parsed.enum 0))
 
-abbrev pub e57 : Row.Entry
-e57 = (7, Rows.whole (Known.Known Parsed.enum 0))
+abbrev pub e4 : Row.Entry
+e4 = (1, Rows.whole (Known.Known Parsed.enum 1))
 
-abbrev pub e58 : Row.Entry
-e58 = (7, Rows.whole (Known.Known Parsed.enum 1))
+abbrev pub e5 : Row.Entry
+e5 = (10, Rows.any-gone (Syntax.tyInt Syntax.w64))
 
-abbrev pub e59 : Row.Entry
-e59 = (
+abbrev pub e6 : Row.Entry
+e6 = (10, Rows.sc-here (Row.sInt Syntax.w64))
+
+abbrev pub e7 : Row.Entry
+e7 = (11, Rows.any-gone y4)
+
+abbrev pub e8 : Row.Entry
+e8 = (11, Rows.whole (Declared'.row Form.the-type))
+
+abbrev pub e9 : Row.Entry
+e9 = (12, Rows.any-gone (Syntax.tyInt Syntax.w64))
+
+abbrev pub e10 : Row.Entry
+e10 = (12, Rows.sc-here (Row.sInt Syntax.w64))
+
+abbrev pub e11 : Row.Entry
+e11 = (
+  13,
+  Rows.any-gone (Syntax.tyEnum (List._∷_ 115 (List._∷_ 116 (List._∷_ 114 (List._∷_ 101 (List._∷_ 97 (List._∷_ 109 (List._∷_ 58 (List._∷_ 58 (List._∷_ 66 (List._∷_ 108 (List._∷_ 111 (List._∷_ 99
+      (List._∷_ 107 (List._∷_ 76 (List._∷_ 101 (List._∷_ 110 (List._∷_ 103 (List._∷_ 116 (List._∷_ 104 List.[]))))))))))))))))))) (Syntax.ttcons (Syntax.tcons (Syntax.tyInt Syntax.w64) Syntax.tnil)
+      (Syntax.ttcons (Syntax.tcons (Syntax.tyEnum (List._∷_ 115 (List._∷_ 116 (List._∷_ 114 (List._∷_ 101 (List._∷_ 97 (List._∷_ 109 (List._∷_ 58 (List._∷_ 58 (List._∷_ 82 (List._∷_ 101 (List._∷_ 102
+      (List._∷_ 117 (List._∷_ 115 (List._∷_ 97 (List._∷_ 108 List.[]))))))))))))))) (Syntax.ttcons Syntax.tnil (Syntax.ttcons Syntax.tnil (Syntax.ttcons Syntax.tnil (Syntax.ttcons (Syntax.tcons
+      (Syntax.tyInt Syntax.w64) Syntax.tnil) (Syntax.ttcons Syntax.tnil (Syntax.ttcons Syntax.tnil (Syntax.ttcons Syntax.tnil (Syntax.ttcons Syntax.tnil (Syntax.ttcons Syntax.tnil (Syntax.ttcons Syntax.tnil
+      (Syntax.ttcons (Syntax.tcons (Syntax.tyInt Syntax.w64) Syntax.tnil) (Syntax.ttcons (Syntax.tcons (Syntax.tyInt Syntax.w64) Syntax.tnil) (Syntax.ttcons Syntax.tnil (Syntax.ttcons (Syntax.tcons
+      (Syntax.tyInt Syntax.w64) (Syntax.tcons (Syntax.tyInt Syntax.w64) Syntax.tnil)) (Syntax.ttcons (Syntax.tcons (Syntax.tyInt Syntax.w64) Syntax.tnil) (Syntax.ttcons Syntax.tnil (Syntax.ttcons
+      Syntax.tnil (Syntax.ttcons (Syntax.tcons (Syntax.tyInt Syntax.w64) Syntax.tnil) (Syntax.ttcons (Syntax.tcons (Syntax.tyInt Syntax.w64) Syntax.tnil) (Syntax.ttcons (Syntax.tcons (Syntax.tyInt
+      Syntax.w64) Syntax.tnil) (Syntax.ttcons Syntax.tnil Syntax.ttnil)))))))))))))))))))))) Syntax.tnil) Syntax.ttnil))),
+)
+
+abbrev pub e12 : Row.Entry
+e12 = (13, Rows.whole (Declared.row BlockLength.the-type))
+
+abbrev pub e13 : Row.Entry
+e13 = (14, Relend.msptr (Referent.rtF (Referent.fInt Syntax.w8)) (Syntax.tyRef Syntax.erased Syntax.mut (Syntax.tyInt Syntax.w8)) 5)
+
+abbrev pub e14 : Row.Entry
+e14 = (14, Rows.any-gone (Syntax.tyRef Syntax.erased Syntax.mut (Syntax.tyInt Syntax.w8)))
+
+abbrev pub e15 : Row.Entry
+e15 = (15, Mut.msleft (Referent.rtF (Referent.fInt Syntax.w8)) (Syntax.tyRef Syntax.erased Syntax.mut (Syntax.tyInt Syntax.w8)))
+
+abbrev pub e16 : Row.Entry
+e16 = (15, Mut.mslice (Referent.rtF (Referent.fInt Syntax.w8)) (Syntax.tyRef Syntax.erased Syntax.mut (Syntax.tyInt Syntax.w8)) 5)
+
+abbrev pub e17 : Row.Entry
+e17 = (15, Rows.any-gone y2)
+
+abbrev pub e18 : Row.Entry
+e18 = (16, Rows.any-gone Syntax.tyPtr)
+
+abbrev pub e19 : Row.Entry
+e19 = (16, Rows.sc-here Row.sPtr)
+
+abbrev pub e20 : Row.Entry
+e20 = (17, Rows.any-gone (Syntax.tyInt Syntax.w64))
+
+abbrev pub e21 : Row.Entry
+e21 = (17, Rows.sc-here (Row.sInt Syntax.w64))
+
+abbrev pub e22 : Row.Entry
+e22 = (18, Relend.msptr (Referent.rtF (Referent.fInt Syntax.w16)) (Syntax.tyRef Syntax.erased Syntax.mut (Syntax.tyInt Syntax.w16)) 6)
+
+abbrev pub e23 : Row.Entry
+e23 = (18, Rows.any-gone (Syntax.tyRef Syntax.erased Syntax.mut (Syntax.tyInt Syntax.w16)))
+
+abbrev pub e24 : Row.Entry
+e24 = (19, Mut.mslice (Referent.rtF (Referent.fInt Syntax.w16)) (Syntax.tyRef Syntax.erased Syntax.mut (Syntax.tyInt Syntax.w16)) 6)
+
+abbrev pub e25 : Row.Entry
+e25 = (19, Rows.any-gone y1)
+
+abbrev pub e26 : Row.Entry
+e26 = (2, Rows.sslice (Referent.rtF (Referent.fInt Syntax.w8)) (Syntax.tyRef (Syntax.named 0) Syntax.imm (Syntax.tyInt Syntax.w8)) 0)
+
+abbrev pub e27 : Row.Entry
+e27 = (20, Rows.any-gone Syntax.tyPtr)
+
+abbrev pub e28 : Row.Entry
+e28 = (20, Rows.sc-here Row.sPtr)
+
+abbrev pub e29 : Row.Entry
+e29 = (21, Rows.any-gone (Syntax.tyInt Syntax.w64))
+
+abbrev pub e30 : Row.Entry
+e30 = (21, Rows.sc-here (Row.sInt Syntax.w64))
+
+abbrev pub e31 : Row.Entry
+e31 = (22, Relend.msptr (Element.type) (Syntax.tyRef Syntax.erased Syntax.mut Element.behind) 7)
+
+abbrev pub e32 : Row.Entry
+e32 = (22, Rows.any-gone (Syntax.tyRef Syntax.erased Syntax.mut Element.behind))
+
+abbrev pub e33 : Row.Entry
+e33 = (23, Mut.msleft (Element.type) (Syntax.tyRef Syntax.erased Syntax.mut Element.behind))
+
+abbrev pub e34 : Row.Entry
+e34 = (23, Mut.mslice (Element.type) (Syntax.tyRef Syntax.erased Syntax.mut Element.behind) 7)
+
+abbrev pub e35 : Row.Entry
+e35 = (23, Rows.any-gone y3)
+
+abbrev pub e36 : Row.Entry
+e36 = (3, Rows.sslice (Referent.rtF (Referent.fInt Syntax.w16)) (Syntax.tyRef (Syntax.named 1) Syntax.imm (Syntax.tyInt Syntax.w16)) 1)
+
+abbrev pub e37 : Row.Entry
+e37 = (4, Mut.mslice (Referent.rtF (Referent.fInt Syntax.w8)) (Syntax.tyRef (Syntax.named 2) Syntax.mut (Syntax.tyInt Syntax.w8)) 2)
+
+abbrev pub e38 : Row.Entry
+e38 = (4, Relend.mslice-owed (Referent.rtF (Referent.fInt Syntax.w8)) (Syntax.tyRef (Syntax.named 2) Syntax.mut (Syntax.tyInt Syntax.w8)) 2 5 Row.off)
+
+abbrev pub e39 : Row.Entry
+e39 = (5, Rows.sc-here Row.sBool)
+
+abbrev pub e40 : Row.Entry
+e40 = (6, Mut.mslice (Referent.rtF (Referent.fInt Syntax.w16)) (Syntax.tyRef (Syntax.named 3) Syntax.mut (Syntax.tyInt Syntax.w16)) 3)
+
+abbrev pub e41 : Row.Entry
+e41 = (6, PartMut.mslice-owedM (Referent.rtF (Referent.fInt Syntax.w16)) (Syntax.tyRef (Syntax.named 3) Syntax.mut (Syntax.tyInt Syntax.w16)) 3 6 Row.off)
+
+abbrev pub e42 : Row.Entry
+e42 = (7, Mut.mslice (Element.type) (Syntax.tyRef (Syntax.named 4) Syntax.mut Element.behind) 4)
+
+abbrev pub e43 : Row.Entry
+e43 = (7, PartMut.mslice-owedM (Element.type) (Syntax.tyRef (Syntax.named 4) Syntax.mut Element.behind) 4 7 Row.off)
+
+abbrev pub e44 : Row.Entry
+e44 = (
   8,
   Rows.any-gone (Syntax.tyEnum (List._∷_ 115 (List._∷_ 116 (List._∷_ 114 (List._∷_ 101 (List._∷_ 97 (List._∷_ 109 (List._∷_ 58 (List._∷_ 58 (List._∷_ 82 (List._∷_ 101 (List._∷_ 102 (List._∷_ 117
       (List._∷_ 115 (List._∷_ 97 (List._∷_ 108 List.[]))))))))))))))) (Syntax.ttcons Syntax.tnil (Syntax.ttcons Syntax.tnil (Syntax.ttcons Syntax.tnil (Syntax.ttcons (Syntax.tcons (Syntax.tyInt Syntax.w64)
@@ -687,230 +572,164 @@ e59 = (
       Syntax.tnil) (Syntax.ttcons Syntax.tnil Syntax.ttnil)))))))))))))))))))))),
 )
 
-abbrev pub e60 : Row.Entry
-e60 = (8, Rows.whole (Declared.row Refusal.the-type))
+abbrev pub e45 : Row.Entry
+e45 = (8, Rows.whole (Declared.row Refusal.the-type))
 
-abbrev pub e61 : Row.Entry
-e61 = (9, Rows.any-gone y0)
+abbrev pub e46 : Row.Entry
+e46 = (9, Rows.any-gone y0)
 
-abbrev pub e62 : Row.Entry
-e62 = (9, Rows.whole (Declared'.row FujiHeader.the-type))
+abbrev pub e47 : Row.Entry
+e47 = (9, Rows.whole (Declared'.row FujiHeader.the-type))
 
 abbrev pub t0 : List.List Row.Entry
-t0 = List._∷_ e0 (List._∷_ e2 (List._∷_ e23 (List._∷_ e46 (List._∷_ e50 (List._∷_ e51 (List._∷_ e53 (List._∷_ e55 (List._∷_ e59 (List._∷_ e61 (List._∷_ e3 (List._∷_ e5 (List._∷_ e7 (List._∷_ e9
-    (List._∷_ e11 (List._∷_ e13 List.[])))))))))))))))
+t0 = List._∷_ e0 (List._∷_ (1, Rows.whole (Declared.row Parsed.the-type)) (List._∷_ e26 (List._∷_ e36 (List._∷_ e37 (List._∷_ e39 (List._∷_ e40 (List._∷_ e42 (List._∷_ e44 (List._∷_ e46 (List._∷_ e5
+    (List._∷_ e7 (List._∷_ e9 (List._∷_ e11 (List._∷_ e14 (List._∷_ e17 List.[])))))))))))))))
 
 abbrev pub t1 : List.List Row.Entry
-t1 = List._∷_ e15 (List._∷_ e17 (List._∷_ e20 (List._∷_ e21 (List._∷_ e24 (List._∷_ e27 (List._∷_ e30 (List._∷_ e31 (List._∷_ e33 (List._∷_ e36 (List._∷_ e39 (List._∷_ e40 (List._∷_ e42 (List._∷_ e45
-    (List._∷_ e48 List.[]))))))))))))))
+t1 = List._∷_ e18 (List._∷_ e20 (List._∷_ e23 (List._∷_ e25 (List._∷_ e27 (List._∷_ e29 (List._∷_ e32 (List._∷_ e35 List.[])))))))
 
 abbrev pub t2 : List.List Row.Entry
-t2 = List._∷_ e1 (List._∷_ e2 (List._∷_ e23 (List._∷_ e46 (List._∷_ (4, Rows.any-gone Syntax.tyBool) (List._∷_ e51 (List._∷_ e53 (List._∷_ e55 (List._∷_ e59 (List._∷_ e61 (List._∷_ e3 (List._∷_ e5
-    (List._∷_ e7 (List._∷_ e9 (List._∷_ e11 (List._∷_ e13 List.[])))))))))))))))
+t2 = List._∷_ e1 (List._∷_ e2 (List._∷_ e26 (List._∷_ e36 (List._∷_ e37 (List._∷_ (5, Rows.any-gone Syntax.tyBool) (List._∷_ e40 (List._∷_ e42 (List._∷_ e44 (List._∷_ e46 (List._∷_ e5 (List._∷_ e7
+    (List._∷_ e9 (List._∷_ e11 (List._∷_ e14 (List._∷_ e17 List.[])))))))))))))))
 
 abbrev pub t3 : List.List Row.Entry
-t3 = List._∷_ e0 (List._∷_ e2 (List._∷_ e23 (List._∷_ e46 (List._∷_ e50 (List._∷_ e51 (List._∷_ e53 (List._∷_ e55 (List._∷_ e59 (List._∷_ e61 (List._∷_ e3 (List._∷_ e5 (List._∷_ e7 (List._∷_ e10
-    (List._∷_ e11 (List._∷_ e13 List.[])))))))))))))))
+t3 = List._∷_ e0 (List._∷_ e2 (List._∷_ e26 (List._∷_ e36 (List._∷_ e37 (List._∷_ e39 (List._∷_ e40 (List._∷_ e42 (List._∷_ e44 (List._∷_ e46 (List._∷_ e5 (List._∷_ e7 (List._∷_ e9 (List._∷_ e12
+    (List._∷_ e14 (List._∷_ e17 List.[])))))))))))))))
 
 abbrev pub t4 : List.List Row.Entry
-t4 = List._∷_ e0 (List._∷_ e2 (List._∷_ e23 (List._∷_ e46 (List._∷_ e50 (List._∷_ e51 (List._∷_ e53 (List._∷_ e55 (List._∷_ e59 (List._∷_ e61 (List._∷_ e3 (List._∷_ e5 (List._∷_ e7 (List._∷_ e10
-    (List._∷_ e12 (List._∷_ e13 List.[])))))))))))))))
+t4 = List._∷_ e0 (List._∷_ e4 (List._∷_ e26 (List._∷_ e36 (List._∷_ e37 (List._∷_ e39 (List._∷_ e40 (List._∷_ e42 (List._∷_ e44 (List._∷_ e46 (List._∷_ e5 (List._∷_ e7 (List._∷_ e9 (List._∷_ e11
+    (List._∷_ e14 (List._∷_ e17 List.[])))))))))))))))
 
 abbrev pub t5 : List.List Row.Entry
-t5 = List._∷_ e0 (List._∷_ e2 (List._∷_ e23 (List._∷_ e46 (List._∷_ e50 (List._∷_ e51 (List._∷_ e53 (List._∷_ e55 (List._∷_ e59 (List._∷_ e61 (List._∷_ e3 (List._∷_ e5 (List._∷_ e7 (List._∷_ e10
-    (List._∷_ e12 (List._∷_ e14 List.[])))))))))))))))
+t5 = List._∷_ e0 (List._∷_ e4 (List._∷_ e26 (List._∷_ e36 (List._∷_ e37 (List._∷_ e39 (List._∷_ e40 (List._∷_ e42 (List._∷_ e45 (List._∷_ e46 (List._∷_ e5 (List._∷_ e7 (List._∷_ e9 (List._∷_ e11
+    (List._∷_ e14 (List._∷_ e17 List.[])))))))))))))))
 
 abbrev pub t6 : List.List Row.Entry
-t6 = List._∷_ e0 (List._∷_ e2 (List._∷_ e23 (List._∷_ e46 (List._∷_ e50 (List._∷_ e51 (List._∷_ e53 (List._∷_ e56 (List._∷_ e59 (List._∷_ e61 (List._∷_ e3 (List._∷_ e5 (List._∷_ e7 (List._∷_ e10
-    (List._∷_ e12 (List._∷_ e14 List.[])))))))))))))))
+t6 = List._∷_ e0 (List._∷_ e2 (List._∷_ e26 (List._∷_ e36 (List._∷_ e37 (List._∷_ e39 (List._∷_ e40 (List._∷_ e42 (List._∷_ e45 (List._∷_ e46 (List._∷_ e5 (List._∷_ e7 (List._∷_ e9 (List._∷_ e11
+    (List._∷_ e14 (List._∷_ e17 List.[])))))))))))))))
 
 abbrev pub t7 : List.List Row.Entry
-t7 = List._∷_ e16 (List._∷_ e17 (List._∷_ e20 (List._∷_ e21 (List._∷_ e24 (List._∷_ e27 (List._∷_ e30 (List._∷_ e31 (List._∷_ e33 (List._∷_ e36 (List._∷_ e39 (List._∷_ e40 (List._∷_ e42 (List._∷_ e45
-    (List._∷_ e48 List.[]))))))))))))))
+t7 = List._∷_ e0 (List._∷_ e2 (List._∷_ e26 (List._∷_ e36 (List._∷_ e37 (List._∷_ e39 (List._∷_ e40 (List._∷_ e42 (List._∷_ e45 (List._∷_ e46 (List._∷_ e5 (List._∷_ e7 (List._∷_ e9 (List._∷_ e12
+    (List._∷_ e14 (List._∷_ e17 List.[])))))))))))))))
 
 abbrev pub t8 : List.List Row.Entry
-t8 = List._∷_ e0 (List._∷_ e2 (List._∷_ e23 (List._∷_ e46 (List._∷_ e50 (List._∷_ e51 (List._∷_ e53 (List._∷_ e56 (List._∷_ e59 (List._∷_ e61 (List._∷_ e3 (List._∷_ e5 (List._∷_ e7 (List._∷_ e9
-    (List._∷_ e12 (List._∷_ e14 List.[])))))))))))))))
+t8 = List._∷_ e0 (List._∷_ e3 (List._∷_ e26 (List._∷_ e36 (List._∷_ e37 (List._∷_ e39 (List._∷_ e40 (List._∷_ e42 (List._∷_ e44 (List._∷_ e46 (List._∷_ e5 (List._∷_ e7 (List._∷_ e9 (List._∷_ e11
+    (List._∷_ e14 (List._∷_ e17 List.[])))))))))))))))
 
 abbrev pub t9 : List.List Row.Entry
-t9 = List._∷_ e0 (List._∷_ e2 (List._∷_ e23 (List._∷_ e46 (List._∷_ e50 (List._∷_ e51 (List._∷_ e53 (List._∷_ e56 (List._∷_ e59 (List._∷_ e61 (List._∷_ e3 (List._∷_ e5 (List._∷_ e7 (List._∷_ e9
-    (List._∷_ e11 (List._∷_ e14 List.[])))))))))))))))
+t9 = List._∷_ e0 (List._∷_ e3 (List._∷_ e26 (List._∷_ e36 (List._∷_ e37 (List._∷_ e39 (List._∷_ e40 (List._∷_ e42 (List._∷_ e44 (List._∷_ e47 (List._∷_ e5 (List._∷_ e7 (List._∷_ e9 (List._∷_ e11
+    (List._∷_ e14 (List._∷_ e17 List.[])))))))))))))))
 
 abbrev pub t10 : List.List Row.Entry
-t10 = List._∷_ e0 (List._∷_ e2 (List._∷_ e23 (List._∷_ e46 (List._∷_ e50 (List._∷_ e51 (List._∷_ e53 (List._∷_ e56 (List._∷_ e59 (List._∷_ e61 (List._∷_ e3 (List._∷_ e5 (List._∷_ e7 (List._∷_ e9
-    (List._∷_ e11 (List._∷_ e13 List.[])))))))))))))))
+t10 = List._∷_ e0 (List._∷_ e2 (List._∷_ e26 (List._∷_ e36 (List._∷_ e37 (List._∷_ e39 (List._∷_ e40 (List._∷_ e42 (List._∷_ e44 (List._∷_ e47 (List._∷_ e5 (List._∷_ e7 (List._∷_ e9 (List._∷_ e11
+    (List._∷_ e14 (List._∷_ e17 List.[])))))))))))))))
 
 abbrev pub t11 : List.List Row.Entry
-t11 = List._∷_ e0 (List._∷_ e2 (List._∷_ e23 (List._∷_ e46 (List._∷_ e50 (List._∷_ e51 (List._∷_ e53 (List._∷_ e58 (List._∷_ e59 (List._∷_ e61 (List._∷_ e3 (List._∷_ e5 (List._∷_ e7 (List._∷_ e9
-    (List._∷_ e11 (List._∷_ e13 List.[])))))))))))))))
+t11 = List._∷_ e0 (List._∷_ e2 (List._∷_ e26 (List._∷_ e36 (List._∷_ e37 (List._∷_ e39 (List._∷_ e40 (List._∷_ e42 (List._∷_ e44 (List._∷_ e47 (List._∷_ e6 (List._∷_ e7 (List._∷_ e9 (List._∷_ e11
+    (List._∷_ e14 (List._∷_ e17 List.[])))))))))))))))
 
 abbrev pub t12 : List.List Row.Entry
-t12 = List._∷_ e0 (List._∷_ e2 (List._∷_ e23 (List._∷_ e46 (List._∷_ e50 (List._∷_ e51 (List._∷_ e53 (List._∷_ e58 (List._∷_ e60 (List._∷_ e61 (List._∷_ e3 (List._∷_ e5 (List._∷_ e7 (List._∷_ e9
-    (List._∷_ e11 (List._∷_ e13 List.[])))))))))))))))
+t12 = List._∷_ e0 (List._∷_ e2 (List._∷_ e26 (List._∷_ e36 (List._∷_ e37 (List._∷_ e39 (List._∷_ e40 (List._∷_ e42 (List._∷_ e44 (List._∷_ e47 (List._∷_ e6 (List._∷_ e8 (List._∷_ e9 (List._∷_ e11
+    (List._∷_ e14 (List._∷_ e17 List.[])))))))))))))))
 
 abbrev pub t13 : List.List Row.Entry
-t13 = List._∷_ e0 (List._∷_ e2 (List._∷_ e23 (List._∷_ e46 (List._∷_ e50 (List._∷_ e51 (List._∷_ e53 (List._∷_ e55 (List._∷_ e60 (List._∷_ e61 (List._∷_ e3 (List._∷_ e5 (List._∷_ e7 (List._∷_ e9
-    (List._∷_ e11 (List._∷_ e13 List.[])))))))))))))))
+t13 = List._∷_ e0 (List._∷_ e2 (List._∷_ e26 (List._∷_ e36 (List._∷_ e37 (List._∷_ e39 (List._∷_ e40 (List._∷_ e42 (List._∷_ e44 (List._∷_ e47 (List._∷_ e6 (List._∷_ e8 (List._∷_ e10 (List._∷_ e11
+    (List._∷_ e14 (List._∷_ e17 List.[])))))))))))))))
 
 abbrev pub t14 : List.List Row.Entry
-t14 = List._∷_ e0 (List._∷_ e2 (List._∷_ e23 (List._∷_ e46 (List._∷_ e50 (List._∷_ e51 (List._∷_ e53 (List._∷_ e57 (List._∷_ e59 (List._∷_ e61 (List._∷_ e3 (List._∷_ e5 (List._∷_ e7 (List._∷_ e9
-    (List._∷_ e11 (List._∷_ e13 List.[])))))))))))))))
+t14 = List._∷_ e0 (List._∷_ e2 (List._∷_ e26 (List._∷_ e36 (List._∷_ e37 (List._∷_ e39 (List._∷_ e40 (List._∷_ e42 (List._∷_ e44 (List._∷_ e46 (List._∷_ e6 (List._∷_ e8 (List._∷_ e10 (List._∷_ e11
+    (List._∷_ e14 (List._∷_ e17 List.[])))))))))))))))
 
 abbrev pub t15 : List.List Row.Entry
-t15 = List._∷_ e0 (List._∷_ e2 (List._∷_ e23 (List._∷_ e46 (List._∷_ e50 (List._∷_ e51 (List._∷_ e53 (List._∷_ e57 (List._∷_ e59 (List._∷_ e62 (List._∷_ e3 (List._∷_ e5 (List._∷_ e7 (List._∷_ e9
-    (List._∷_ e11 (List._∷_ e13 List.[])))))))))))))))
+t15 = List._∷_ e0 (List._∷_ e2 (List._∷_ e26 (List._∷_ e36 (List._∷_ e38 (List._∷_ e39 (List._∷_ e40 (List._∷_ e42 (List._∷_ e44 (List._∷_ e46 (List._∷_ e6 (List._∷_ e8 (List._∷_ e10 (List._∷_ e11
+    (List._∷_ e13 (List._∷_ e17 List.[])))))))))))))))
 
 abbrev pub t16 : List.List Row.Entry
-t16 = List._∷_ e0 (List._∷_ e2 (List._∷_ e23 (List._∷_ e46 (List._∷_ e50 (List._∷_ e51 (List._∷_ e53 (List._∷_ e55 (List._∷_ e59 (List._∷_ e62 (List._∷_ e3 (List._∷_ e5 (List._∷_ e7 (List._∷_ e9
-    (List._∷_ e11 (List._∷_ e13 List.[])))))))))))))))
+t16 = List._∷_ e0 (List._∷_ e2 (List._∷_ e26 (List._∷_ e36 (List._∷_ e38 (List._∷_ e39 (List._∷_ e40 (List._∷_ e42 (List._∷_ e44 (List._∷_ e46 (List._∷_ e6 (List._∷_ e8 (List._∷_ e10 (List._∷_ e11
+    (List._∷_ e14 (List._∷_ e16 List.[])))))))))))))))
 
 abbrev pub t17 : List.List Row.Entry
-t17 = List._∷_ e0 (List._∷_ e2 (List._∷_ e23 (List._∷_ e46 (List._∷_ e50 (List._∷_ e51 (List._∷_ e53 (List._∷_ e55 (List._∷_ e59 (List._∷_ e62 (List._∷_ e4 (List._∷_ e5 (List._∷_ e7 (List._∷_ e9
-    (List._∷_ e11 (List._∷_ e13 List.[])))))))))))))))
+t17 = List._∷_ e19 (List._∷_ e20 (List._∷_ e23 (List._∷_ e25 (List._∷_ e27 (List._∷_ e29 (List._∷_ e32 (List._∷_ e35 List.[])))))))
 
 abbrev pub t18 : List.List Row.Entry
-t18 = List._∷_ e0 (List._∷_ e2 (List._∷_ e23 (List._∷_ e46 (List._∷_ e50 (List._∷_ e51 (List._∷_ e53 (List._∷_ e55 (List._∷_ e59 (List._∷_ e62 (List._∷_ e4 (List._∷_ e6 (List._∷_ e7 (List._∷_ e9
-    (List._∷_ e11 (List._∷_ e13 List.[])))))))))))))))
+t18 = List._∷_ e19 (List._∷_ e21 (List._∷_ e23 (List._∷_ e25 (List._∷_ e27 (List._∷_ e29 (List._∷_ e32 (List._∷_ e35 List.[])))))))
 
 abbrev pub t19 : List.List Row.Entry
-t19 = List._∷_ e0 (List._∷_ e2 (List._∷_ e23 (List._∷_ e46 (List._∷_ e50 (List._∷_ e51 (List._∷_ e53 (List._∷_ e55 (List._∷_ e59 (List._∷_ e62 (List._∷_ e4 (List._∷_ e6 (List._∷_ e8 (List._∷_ e9
-    (List._∷_ e11 (List._∷_ e13 List.[])))))))))))))))
+t19 = List._∷_ e0 (List._∷_ e2 (List._∷_ e26 (List._∷_ e36 (List._∷_ e38 (List._∷_ e39 (List._∷_ e41 (List._∷_ e42 (List._∷_ e44 (List._∷_ e46 (List._∷_ e6 (List._∷_ e8 (List._∷_ e10 (List._∷_ e11
+    (List._∷_ e14 (List._∷_ e16 List.[])))))))))))))))
 
 abbrev pub t20 : List.List Row.Entry
-t20 = List._∷_ e0 (List._∷_ e2 (List._∷_ e23 (List._∷_ e46 (List._∷_ e50 (List._∷_ e51 (List._∷_ e53 (List._∷_ e55 (List._∷_ e59 (List._∷_ e61 (List._∷_ e4 (List._∷_ e6 (List._∷_ e8 (List._∷_ e9
-    (List._∷_ e11 (List._∷_ e13 List.[])))))))))))))))
+t20 = List._∷_ e19 (List._∷_ e21 (List._∷_ e22 (List._∷_ e25 (List._∷_ e27 (List._∷_ e29 (List._∷_ e32 (List._∷_ e35 List.[])))))))
 
 abbrev pub t21 : List.List Row.Entry
-t21 = List._∷_ e0 (List._∷_ e2 (List._∷_ e23 (List._∷_ e47 (List._∷_ e50 (List._∷_ e51 (List._∷_ e53 (List._∷_ e55 (List._∷_ e59 (List._∷_ e61 (List._∷_ e4 (List._∷_ e6 (List._∷_ e8 (List._∷_ e9
-    (List._∷_ e11 (List._∷_ e13 List.[])))))))))))))))
+t21 = List._∷_ e18 (List._∷_ e21 (List._∷_ e22 (List._∷_ e25 (List._∷_ e27 (List._∷_ e29 (List._∷_ e32 (List._∷_ e35 List.[])))))))
 
 abbrev pub t22 : List.List Row.Entry
-t22 = List._∷_ e15 (List._∷_ (17, Relend.msptr (Referent.rtF (Referent.fInt Syntax.w8)) (Syntax.tyRef Syntax.erased Syntax.mut (Syntax.tyInt Syntax.w8)) 5) (List._∷_ e20 (List._∷_ e21 (List._∷_ e24
-    (List._∷_ e27 (List._∷_ e30 (List._∷_ e31 (List._∷_ e33 (List._∷_ e36 (List._∷_ e39 (List._∷_ e40 (List._∷_ e42 (List._∷_ e45 (List._∷_ e48 List.[]))))))))))))))
+t22 = List._∷_ e18 (List._∷_ e21 (List._∷_ e23 (List._∷_ e24 (List._∷_ e27 (List._∷_ e29 (List._∷_ e32 (List._∷_ e35 List.[])))))))
 
 abbrev pub t23 : List.List Row.Entry
-t23 = List._∷_ e15 (List._∷_ e17 (List._∷_ e19 (List._∷_ e21 (List._∷_ e24 (List._∷_ e27 (List._∷_ e30 (List._∷_ e31 (List._∷_ e33 (List._∷_ e36 (List._∷_ e39 (List._∷_ e40 (List._∷_ e42 (List._∷_ e45
-    (List._∷_ e48 List.[]))))))))))))))
+t23 = List._∷_ e18 (List._∷_ e20 (List._∷_ e23 (List._∷_ e24 (List._∷_ e27 (List._∷_ e29 (List._∷_ e32 (List._∷_ e35 List.[])))))))
 
 abbrev pub t24 : List.List Row.Entry
-t24 = List._∷_ e15 (List._∷_ e17 (List._∷_ e19 (List._∷_ e22 (List._∷_ e24 (List._∷_ e27 (List._∷_ e30 (List._∷_ e31 (List._∷_ e33 (List._∷_ e36 (List._∷_ e39 (List._∷_ e40 (List._∷_ e42 (List._∷_ e45
-    (List._∷_ e48 List.[]))))))))))))))
+t24 = List._∷_ e18 (List._∷_ e20 (List._∷_ e23 (List._∷_ e24 (List._∷_ e28 (List._∷_ e29 (List._∷_ e32 (List._∷_ e35 List.[])))))))
 
 abbrev pub t25 : List.List Row.Entry
-t25 = List._∷_ e15 (List._∷_ e17 (List._∷_ e19 (List._∷_ e22 (List._∷_ e25 (List._∷_ e27 (List._∷_ e30 (List._∷_ e31 (List._∷_ e33 (List._∷_ e36 (List._∷_ e39 (List._∷_ e40 (List._∷_ e42 (List._∷_ e45
-    (List._∷_ e48 List.[]))))))))))))))
+t25 = List._∷_ e18 (List._∷_ e20 (List._∷_ e23 (List._∷_ e24 (List._∷_ e28 (List._∷_ e30 (List._∷_ e32 (List._∷_ e35 List.[])))))))
 
 abbrev pub t26 : List.List Row.Entry
-t26 = List._∷_ e0 (List._∷_ e2 (List._∷_ e23 (List._∷_ e47 (List._∷_ e50 (List._∷_ e52 (List._∷_ e53 (List._∷_ e55 (List._∷_ e59 (List._∷_ e61 (List._∷_ e4 (List._∷_ e6 (List._∷_ e8 (List._∷_ e9
-    (List._∷_ e11 (List._∷_ e13 List.[])))))))))))))))
+t26 = List._∷_ e0 (List._∷_ e2 (List._∷_ e26 (List._∷_ e36 (List._∷_ e38 (List._∷_ e39 (List._∷_ e41 (List._∷_ e43 (List._∷_ e44 (List._∷_ e46 (List._∷_ e6 (List._∷_ e8 (List._∷_ e10 (List._∷_ e11
+    (List._∷_ e14 (List._∷_ e16 List.[])))))))))))))))
 
 abbrev pub t27 : List.List Row.Entry
-t27 = List._∷_ e15 (List._∷_ e17 (List._∷_ e19 (List._∷_ e22 (List._∷_ e25 (List._∷_ e26 (List._∷_ e30 (List._∷_ e31 (List._∷_ e33 (List._∷_ e36 (List._∷_ e39 (List._∷_ e40 (List._∷_ e42 (List._∷_ e45
-    (List._∷_ e48 List.[]))))))))))))))
+t27 = List._∷_ e18 (List._∷_ e20 (List._∷_ e23 (List._∷_ e24 (List._∷_ e28 (List._∷_ e30 (List._∷_ e31 (List._∷_ e35 List.[])))))))
 
 abbrev pub t28 : List.List Row.Entry
-t28 = List._∷_ e15 (List._∷_ e17 (List._∷_ e19 (List._∷_ e21 (List._∷_ e25 (List._∷_ e26 (List._∷_ e30 (List._∷_ e31 (List._∷_ e33 (List._∷_ e36 (List._∷_ e39 (List._∷_ e40 (List._∷_ e42 (List._∷_ e45
-    (List._∷_ e48 List.[]))))))))))))))
+t28 = List._∷_ e18 (List._∷_ e20 (List._∷_ e23 (List._∷_ e24 (List._∷_ e27 (List._∷_ e30 (List._∷_ e31 (List._∷_ e35 List.[])))))))
 
 abbrev pub t29 : List.List Row.Entry
-t29 = List._∷_ e15 (List._∷_ e17 (List._∷_ e19 (List._∷_ e21 (List._∷_ e25 (List._∷_ e27 (List._∷_ e29 (List._∷_ e31 (List._∷_ e33 (List._∷_ e36 (List._∷_ e39 (List._∷_ e40 (List._∷_ e42 (List._∷_ e45
-    (List._∷_ e48 List.[]))))))))))))))
+t29 = List._∷_ e18 (List._∷_ e20 (List._∷_ e23 (List._∷_ e24 (List._∷_ e27 (List._∷_ e30 (List._∷_ e32 (List._∷_ e34 List.[])))))))
 
 abbrev pub t30 : List.List Row.Entry
-t30 = List._∷_ e15 (List._∷_ e17 (List._∷_ e19 (List._∷_ e21 (List._∷_ e24 (List._∷_ e27 (List._∷_ e29 (List._∷_ e31 (List._∷_ e33 (List._∷_ e36 (List._∷_ e39 (List._∷_ e40 (List._∷_ e42 (List._∷_ e45
-    (List._∷_ e48 List.[]))))))))))))))
+t30 = List._∷_ e18 (List._∷_ e20 (List._∷_ e23 (List._∷_ e24 (List._∷_ e27 (List._∷_ e29 (List._∷_ e32 (List._∷_ e34 List.[])))))))
 
 abbrev pub t31 : List.List Row.Entry
-t31 = List._∷_ e15 (List._∷_ e17 (List._∷_ e19 (List._∷_ e21 (List._∷_ e24 (List._∷_ e27 (List._∷_ e29 (List._∷_ e32 (List._∷_ e33 (List._∷_ e36 (List._∷_ e39 (List._∷_ e40 (List._∷_ e42 (List._∷_ e45
-    (List._∷_ e48 List.[]))))))))))))))
+t31 = List._∷_ e0 (List._∷_ e2 (List._∷_ e26 (List._∷_ e36 (List._∷_ e38 (List._∷_ e39 (List._∷_ e41 (List._∷_ e43 (List._∷_ e44 (List._∷_ e46 (List._∷_ e6 (List._∷_ e8 (List._∷_ e10 (List._∷_ e12
+    (List._∷_ e14 (List._∷_ e15 List.[])))))))))))))))
 
 abbrev pub t32 : List.List Row.Entry
-t32 = List._∷_ e15 (List._∷_ e17 (List._∷_ e19 (List._∷_ e21 (List._∷_ e24 (List._∷_ e27 (List._∷_ e29 (List._∷_ e32 (List._∷_ e34 (List._∷_ e36 (List._∷_ e39 (List._∷_ e40 (List._∷_ e42 (List._∷_ e45
-    (List._∷_ e48 List.[]))))))))))))))
+t32 = List._∷_ e18 (List._∷_ e20 (List._∷_ e23 (List._∷_ (19, Mut.msleft (Referent.rtF (Referent.fInt Syntax.w16)) (Syntax.tyRef Syntax.erased Syntax.mut (Syntax.tyInt Syntax.w16))) (List._∷_ e27
+    (List._∷_ e29 (List._∷_ e32 (List._∷_ e33 List.[])))))))
 
 abbrev pub t33 : List.List Row.Entry
-t33 = List._∷_ e0 (List._∷_ e2 (List._∷_ e23 (List._∷_ e47 (List._∷_ e50 (List._∷_ e52 (List._∷_ e54 (List._∷_ e55 (List._∷_ e59 (List._∷_ e61 (List._∷_ e4 (List._∷_ e6 (List._∷_ e8 (List._∷_ e9
-    (List._∷_ e11 (List._∷_ e13 List.[])))))))))))))))
+t33 = List._∷_ e0 (List._∷_ e2 (List._∷_ e26 (List._∷_ e36 (List._∷_ e38 (List._∷_ e39 (List._∷_ e41 (List._∷_ e43 (List._∷_ e44 (List._∷_ e46 (List._∷_ e5 (List._∷_ e8 (List._∷_ e10 (List._∷_ e12
+    (List._∷_ e14 (List._∷_ e15 List.[])))))))))))))))
 
 abbrev pub t34 : List.List Row.Entry
-t34 = List._∷_ e15 (List._∷_ e17 (List._∷_ e19 (List._∷_ e21 (List._∷_ e24 (List._∷_ e27 (List._∷_ e29 (List._∷_ e32 (List._∷_ e34 (List._∷_ e35 (List._∷_ e39 (List._∷_ e40 (List._∷_ e42 (List._∷_ e45
-    (List._∷_ e48 List.[]))))))))))))))
+t34 = List._∷_ e0 (List._∷_ e2 (List._∷_ e26 (List._∷_ e36 (List._∷_ e38 (List._∷_ e39 (List._∷_ e41 (List._∷_ e43 (List._∷_ e44 (List._∷_ e46 (List._∷_ e5 (List._∷_ e7 (List._∷_ e10 (List._∷_ e12
+    (List._∷_ e14 (List._∷_ e15 List.[])))))))))))))))
 
 abbrev pub t35 : List.List Row.Entry
-t35 = List._∷_ e15 (List._∷_ e17 (List._∷_ e19 (List._∷_ e21 (List._∷_ e24 (List._∷_ e27 (List._∷_ e29 (List._∷_ e31 (List._∷_ e34 (List._∷_ e35 (List._∷_ e39 (List._∷_ e40 (List._∷_ e42 (List._∷_ e45
-    (List._∷_ e48 List.[]))))))))))))))
+t35 = List._∷_ e0 (List._∷_ e2 (List._∷_ e26 (List._∷_ e36 (List._∷_ e38 (List._∷_ e39 (List._∷_ e41 (List._∷_ e43 (List._∷_ e44 (List._∷_ e46 (List._∷_ e5 (List._∷_ e7 (List._∷_ e9 (List._∷_ e12
+    (List._∷_ e14 (List._∷_ e15 List.[])))))))))))))))
 
 abbrev pub t36 : List.List Row.Entry
-t36 = List._∷_ e15 (List._∷_ e17 (List._∷_ e19 (List._∷_ e21 (List._∷_ e24 (List._∷_ e27 (List._∷_ e29 (List._∷_ e31 (List._∷_ e34 (List._∷_ e36 (List._∷_ e38 (List._∷_ e40 (List._∷_ e42 (List._∷_ e45
-    (List._∷_ e48 List.[]))))))))))))))
+t36 = List._∷_ e0 (List._∷_ e2 (List._∷_ e26 (List._∷_ e36 (List._∷_ e37 (List._∷_ e39 (List._∷_ e41 (List._∷_ e43 (List._∷_ e44 (List._∷_ e46 (List._∷_ e5 (List._∷_ e7 (List._∷_ e9 (List._∷_ e12
+    (List._∷_ e14 (List._∷_ e17 List.[])))))))))))))))
 
 abbrev pub t37 : List.List Row.Entry
-t37 = List._∷_ e15 (List._∷_ e17 (List._∷_ e19 (List._∷_ e21 (List._∷_ e24 (List._∷_ e27 (List._∷_ e29 (List._∷_ e31 (List._∷_ e33 (List._∷_ e36 (List._∷_ e38 (List._∷_ e40 (List._∷_ e42 (List._∷_ e45
-    (List._∷_ e48 List.[]))))))))))))))
+t37 = List._∷_ e0 (List._∷_ e2 (List._∷_ e26 (List._∷_ e36 (List._∷_ e37 (List._∷_ e39 (List._∷_ e40 (List._∷_ e43 (List._∷_ e44 (List._∷_ e46 (List._∷_ e5 (List._∷_ e7 (List._∷_ e9 (List._∷_ e12
+    (List._∷_ e14 (List._∷_ e17 List.[])))))))))))))))
 
 abbrev pub t38 : List.List Row.Entry
-t38 = List._∷_ e15 (List._∷_ e17 (List._∷_ e19 (List._∷_ e21 (List._∷_ e24 (List._∷_ e27 (List._∷_ e29 (List._∷_ e31 (List._∷_ e33 (List._∷_ e36 (List._∷_ e38 (List._∷_ e41 (List._∷_ e42 (List._∷_ e45
-    (List._∷_ e48 List.[]))))))))))))))
+t38 = List._∷_ e18 (List._∷_ e20 (List._∷_ e23 (List._∷_ e25 (List._∷_ e27 (List._∷_ e29 (List._∷_ e32 (List._∷_ e33 List.[])))))))
 
 abbrev pub t39 : List.List Row.Entry
-t39 = List._∷_ e15 (List._∷_ e17 (List._∷_ e19 (List._∷_ e21 (List._∷_ e24 (List._∷_ e27 (List._∷_ e29 (List._∷_ e31 (List._∷_ e33 (List._∷_ e36 (List._∷_ e38 (List._∷_ e41 (List._∷_ e43 (List._∷_ e45
-    (List._∷_ e48 List.[]))))))))))))))
+t39 = List._∷_ e1 (List._∷_ e2 (List._∷_ e26 (List._∷_ e36 (List._∷_ e37 (List._∷_ e39 (List._∷_ e40 (List._∷_ e42 (List._∷_ e44 (List._∷_ e46 (List._∷_ e5 (List._∷_ e7 (List._∷_ e9 (List._∷_ e12
+    (List._∷_ e14 (List._∷_ e17 List.[])))))))))))))))
 
 abbrev pub t40 : List.List Row.Entry
-t40 = List._∷_ e15 (List._∷_ e17 (List._∷_ e19 (List._∷_ e21 (List._∷_ e24 (List._∷_ e27 (List._∷_ e29 (List._∷_ e31 (List._∷_ e33 (List._∷_ e36 (List._∷_ e38 (List._∷_ e41 (List._∷_ e43 (List._∷_ e44
-    (List._∷_ e48 List.[]))))))))))))))
-
-abbrev pub t41 : List.List Row.Entry
-t41 = List._∷_ e15 (List._∷_ e17 (List._∷_ e19 (List._∷_ e21 (List._∷_ e24 (List._∷_ e27 (List._∷_ e29 (List._∷_ e31 (List._∷_ e33 (List._∷_ e36 (List._∷_ e38 (List._∷_ e40 (List._∷_ e43 (List._∷_ e44
-    (List._∷_ e48 List.[]))))))))))))))
-
-abbrev pub t42 : List.List Row.Entry
-t42 = List._∷_ e15 (List._∷_ e17 (List._∷_ e19 (List._∷_ e21 (List._∷_ e24 (List._∷_ e27 (List._∷_ e29 (List._∷_ e31 (List._∷_ e33 (List._∷_ e36 (List._∷_ e38 (List._∷_ e40 (List._∷_ e43 (List._∷_ e45
-    (List._∷_ e49 List.[]))))))))))))))
-
-abbrev pub t43 : List.List Row.Entry
-t43 = List._∷_ e15 (List._∷_ e17 (List._∷_ e19 (List._∷_ e21 (List._∷_ e24 (List._∷_ e27 (List._∷_ e29 (List._∷_ e31 (List._∷_ e33 (List._∷_ e36 (List._∷_ e38 (List._∷_ e40 (List._∷_ e42 (List._∷_ e45
-    (List._∷_ e49 List.[]))))))))))))))
-
-abbrev pub t44 : List.List Row.Entry
-t44 = List._∷_ e16 (List._∷_ e17 (List._∷_ e18 (List._∷_ e21 (List._∷_ e24 (List._∷_ e27 (List._∷_ e28 (List._∷_ e31 (List._∷_ e33 (List._∷_ e36 (List._∷_ e37 (List._∷_ e40 (List._∷_ e42 (List._∷_ e45
-    (List._∷_ e49 List.[]))))))))))))))
-
-abbrev pub t45 : List.List Row.Entry
-t45 = List._∷_ e16 (List._∷_ e17 (List._∷_ e18 (List._∷_ e21 (List._∷_ e24 (List._∷_ e27 (List._∷_ e28 (List._∷_ e31 (List._∷_ e33 (List._∷_ e36 (List._∷_ e37 (List._∷_ e40 (List._∷_ e42 (List._∷_ e45
-    (List._∷_ e48 List.[]))))))))))))))
-
-abbrev pub t46 : List.List Row.Entry
-t46 = List._∷_ e0 (List._∷_ e2 (List._∷_ e23 (List._∷_ e47 (List._∷_ e50 (List._∷_ e52 (List._∷_ e54 (List._∷_ e55 (List._∷_ e59 (List._∷_ e61 (List._∷_ e3 (List._∷_ e6 (List._∷_ e8 (List._∷_ e9
-    (List._∷_ e11 (List._∷_ e13 List.[])))))))))))))))
-
-abbrev pub t47 : List.List Row.Entry
-t47 = List._∷_ e0 (List._∷_ e2 (List._∷_ e23 (List._∷_ e47 (List._∷_ e50 (List._∷_ e52 (List._∷_ e54 (List._∷_ e55 (List._∷_ e59 (List._∷_ e61 (List._∷_ e3 (List._∷_ e5 (List._∷_ e8 (List._∷_ e9
-    (List._∷_ e11 (List._∷_ e13 List.[])))))))))))))))
-
-abbrev pub t48 : List.List Row.Entry
-t48 = List._∷_ e0 (List._∷_ e2 (List._∷_ e23 (List._∷_ e47 (List._∷_ e50 (List._∷_ e52 (List._∷_ e54 (List._∷_ e55 (List._∷_ e59 (List._∷_ e61 (List._∷_ e3 (List._∷_ e5 (List._∷_ e7 (List._∷_ e9
-    (List._∷_ e11 (List._∷_ e13 List.[])))))))))))))))
-
-abbrev pub t49 : List.List Row.Entry
-t49 = List._∷_ e0 (List._∷_ e2 (List._∷_ e23 (List._∷_ e46 (List._∷_ e50 (List._∷_ e52 (List._∷_ e54 (List._∷_ e55 (List._∷_ e59 (List._∷_ e61 (List._∷_ e3 (List._∷_ e5 (List._∷_ e7 (List._∷_ e9
-    (List._∷_ e11 (List._∷_ e13 List.[])))))))))))))))
-
-abbrev pub t50 : List.List Row.Entry
-t50 = List._∷_ e16 (List._∷_ e17 (List._∷_ e20 (List._∷_ e21 (List._∷_ e24 (List._∷_ e27 (List._∷_ e28 (List._∷_ e31 (List._∷_ e33 (List._∷_ e36 (List._∷_ e37 (List._∷_ e40 (List._∷_ e42 (List._∷_ e45
-    (List._∷_ e48 List.[]))))))))))))))
-
-abbrev pub t51 : List.List Row.Entry
-t51 = List._∷_ e0 (List._∷_ e2 (List._∷_ e23 (List._∷_ e46 (List._∷_ e50 (List._∷_ e51 (List._∷_ e54 (List._∷_ e55 (List._∷_ e59 (List._∷_ e61 (List._∷_ e3 (List._∷_ e5 (List._∷_ e7 (List._∷_ e9
-    (List._∷_ e11 (List._∷_ e13 List.[])))))))))))))))
-
-abbrev pub t52 : List.List Row.Entry
-t52 = List._∷_ e16 (List._∷_ e17 (List._∷_ e20 (List._∷_ e21 (List._∷_ e24 (List._∷_ e27 (List._∷_ e30 (List._∷_ e31 (List._∷_ e33 (List._∷_ e36 (List._∷_ e37 (List._∷_ e40 (List._∷_ e42 (List._∷_ e45
-    (List._∷_ e48 List.[]))))))))))))))
-
-abbrev pub t53 : List.List Row.Entry
-t53 = List._∷_ e1 (List._∷_ e2 (List._∷_ e23 (List._∷_ e46 (List._∷_ e50 (List._∷_ e51 (List._∷_ e53 (List._∷_ e55 (List._∷_ e59 (List._∷_ e61 (List._∷_ e3 (List._∷_ e5 (List._∷_ e7 (List._∷_ e9
-    (List._∷_ e11 (List._∷_ e13 List.[])))))))))))))))
+t40 = List._∷_ e1 (List._∷_ e2 (List._∷_ e26 (List._∷_ e36 (List._∷_ e37 (List._∷_ e39 (List._∷_ e40 (List._∷_ e42 (List._∷_ e44 (List._∷_ e46 (List._∷_ e5 (List._∷_ e7 (List._∷_ e9 (List._∷_ e11
+    (List._∷_ e14 (List._∷_ e17 List.[])))))))))))))))
 
 abbrev pub T0 : Row.Cx
 T0 = record { locals = List._++_ t0 t1; slots = List.[] }
@@ -919,7 +738,7 @@ abbrev pub T1 : Row.Cx
 T1 = record { locals = List._++_ t2 t1; slots = List.[] }
 
 abbrev pub T2 : Row.Cx
-T2 = record { locals = List._++_ t0 t1; slots = List.[] }
+T2 = record { locals = List._++_ t3 t1; slots = List.[] }
 
 abbrev pub T3 : Row.Cx
 T3 = record { locals = List._++_ t0 t1; slots = List.[] }
@@ -931,52 +750,49 @@ abbrev pub T5 : Row.Cx
 T5 = record { locals = List._++_ t0 t1; slots = List.[] }
 
 abbrev pub T6 : Row.Cx
-T6 = record { locals = List._++_ t3 t1; slots = List.[] }
+T6 = record { locals = List._++_ t0 t1; slots = List.[] }
 
 abbrev pub T7 : Row.Cx
 T7 = record { locals = List._++_ t4 t1; slots = List.[] }
 
 abbrev pub T8 : Row.Cx
-T8 = record { locals = List._++_ t5 t1; slots = List.[] }
+T8 = record { locals = List._++_ t4 t1; slots = List.[] }
 
 abbrev pub T9 : Row.Cx
-T9 = record { locals = List._++_ t6 t1; slots = List.[] }
+T9 = record { locals = List._++_ t5 t1; slots = List.[] }
 
 abbrev pub T10 : Row.Cx
-T10 = record { locals = List._++_ t0 t7; slots = List.[] }
+T10 = record { locals = List._++_ t6 t1; slots = List.[] }
 
 abbrev pub T11 : Row.Cx
-T11 = record { locals = List._++_ t8 t1; slots = List.[] }
+T11 = record { locals = List._++_ t7 t1; slots = List.[] }
 
 abbrev pub T12 : Row.Cx
-T12 = record { locals = List._++_ t9 t1; slots = List.[] }
+T12 = record { locals = List._++_ t3 t1; slots = List.[] }
 
 abbrev pub T13 : Row.Cx
-T13 = record { locals = List._++_ t10 t1; slots = List.[] }
+T13 = record { locals = List._++_ t8 t1; slots = List.[] }
 
 abbrev pub T14 : Row.Cx
-T14 = record { locals = List._++_ t11 t1; slots = List.[] }
+T14 = record { locals = List._++_ t8 t1; slots = List.[] }
 
 abbrev pub T15 : Row.Cx
-T15 = record { locals = List._++_ t11 t1; slots = List.[] }
+T15 = record { locals = List._++_ t9 t1; slots = List.[] }
 
 abbrev pub T16 : Row.Cx
-T16 = record { locals = List._++_ t12 t1; slots = List.[] }
+T16 = record { locals = List._++_ t10 t1; slots = List.[] }
 
 abbrev pub T17 : Row.Cx
-T17 = record { locals = List._++_ t13 t1; slots = List.[] }
+T17 = record { locals = List._++_ t11 t1; slots = List.[] }
 
 abbrev pub T18 : Row.Cx
-T18 = record { locals = List._++_ t13 t7; slots = List.[] }
+T18 = record { locals = List._++_ t12 t1; slots = List.[] }
 
 abbrev pub T19 : Row.Cx
-T19 = record { locals = List._++_ t0 t7; slots = List.[] }
+T19 = record { locals = List._++_ t13 t1; slots = List.[] }
 
 abbrev pub T20 : Row.Cx
 T20 = record { locals = List._++_ t14 t1; slots = List.[] }
-
-abbrev pub T21 : Row.Cx
-T21 = record { locals = List._++_ t14 t1; slots = List.[] }
 
 abbrev pub T22 : Row.Cx
 T22 = record { locals = List._++_ t15 t1; slots = List.[] }
@@ -985,28 +801,28 @@ abbrev pub T23 : Row.Cx
 T23 = record { locals = List._++_ t16 t1; slots = List.[] }
 
 abbrev pub T24 : Row.Cx
-T24 = record { locals = List._++_ t17 t1; slots = List.[] }
+T24 = record { locals = List._++_ t16 t17; slots = List.[] }
 
 abbrev pub T25 : Row.Cx
-T25 = record { locals = List._++_ t18 t1; slots = List.[] }
-
-abbrev pub T26 : Row.Cx
-T26 = record { locals = List._++_ t19 t1; slots = List.[] }
+T25 = record { locals = List._++_ t16 t18; slots = List.[] }
 
 abbrev pub T27 : Row.Cx
-T27 = record { locals = List._++_ t20 t1; slots = List.[] }
+T27 = record { locals = List._++_ t19 t20; slots = List.[] }
+
+abbrev pub T28 : Row.Cx
+T28 = record { locals = List._++_ t19 t21; slots = List.[] }
 
 abbrev pub T29 : Row.Cx
-T29 = record { locals = List._++_ t21 t22; slots = List.[] }
+T29 = record { locals = List._++_ t19 t22; slots = List.[] }
 
 abbrev pub T30 : Row.Cx
-T30 = record { locals = List._++_ t21 t23; slots = List.[] }
+T30 = record { locals = List._++_ t19 t23; slots = List.[] }
 
 abbrev pub T31 : Row.Cx
-T31 = record { locals = List._++_ t21 t24; slots = List.[] }
+T31 = record { locals = List._++_ t19 t24; slots = List.[] }
 
 abbrev pub T32 : Row.Cx
-T32 = record { locals = List._++_ t21 t25; slots = List.[] }
+T32 = record { locals = List._++_ t19 t25; slots = List.[] }
 
 abbrev pub T34 : Row.Cx
 T34 = record { locals = List._++_ t26 t27; slots = List.[] }
@@ -1021,114 +837,73 @@ abbrev pub T37 : Row.Cx
 T37 = record { locals = List._++_ t26 t30; slots = List.[] }
 
 abbrev pub T38 : Row.Cx
-T38 = record { locals = List._++_ t26 t31; slots = List.[] }
+T38 = record { locals = List._++_ t31 t32; slots = List.[] }
 
 abbrev pub T39 : Row.Cx
-T39 = record { locals = List._++_ t26 t32; slots = List.[] }
+T39 = record { locals = List._++_ t33 t32; slots = List.[] }
+
+abbrev pub T40 : Row.Cx
+T40 = record { locals = List._++_ t34 t32; slots = List.[] }
 
 abbrev pub T41 : Row.Cx
-T41 = record { locals = List._++_ t33 t34; slots = List.[] }
-
-abbrev pub T42 : Row.Cx
-T42 = record { locals = List._++_ t33 t35; slots = List.[] }
+T41 = record { locals = List._++_ t35 t32; slots = List.[] }
 
 abbrev pub T43 : Row.Cx
-T43 = record { locals = List._++_ t33 t36; slots = List.[] }
+T43 = record { locals = List._++_ t36 t32; slots = List.[] }
 
 abbrev pub T44 : Row.Cx
-T44 = record { locals = List._++_ t33 t37; slots = List.[] }
-
-abbrev pub T45 : Row.Cx
-T45 = record { locals = List._++_ t33 t38; slots = List.[] }
-
-abbrev pub T46 : Row.Cx
-T46 = record { locals = List._++_ t33 t39; slots = List.[] }
+T44 = record { locals = List._++_ t36 t32; slots = List.[] }
 
 abbrev pub T47 : Row.Cx
-T47 = record { locals = List._++_ t33 t40; slots = List.[] }
+T47 = record { locals = List._++_ t37 t38; slots = List.[] }
 
 abbrev pub T48 : Row.Cx
-T48 = record { locals = List._++_ t33 t41; slots = List.[] }
-
-abbrev pub T49 : Row.Cx
-T49 = record { locals = List._++_ t33 t42; slots = List.[] }
-
-abbrev pub T50 : Row.Cx
-T50 = record { locals = List._++_ t33 t43; slots = List.[] }
+T48 = record { locals = List._++_ t37 t38; slots = List.[] }
 
 abbrev pub T51 : Row.Cx
-T51 = record { locals = List._++_ t33 t44; slots = List.[] }
-
-abbrev pub T52 : Row.Cx
-T52 = record { locals = List._++_ t33 t45; slots = List.[] }
+T51 = record { locals = List._++_ t3 t1; slots = List.[] }
 
 abbrev pub T53 : Row.Cx
-T53 = record { locals = List._++_ t46 t45; slots = List.[] }
+T53 = record { locals = List._++_ t39 t1; slots = List.[] }
 
 abbrev pub T54 : Row.Cx
-T54 = record { locals = List._++_ t47 t45; slots = List.[] }
+T54 = record { locals = List._++_ t40 t1; slots = List.[] }
 
 abbrev pub T55 : Row.Cx
-T55 = record { locals = List._++_ t48 t45; slots = List.[] }
-
-abbrev pub T57 : Row.Cx
-T57 = record { locals = List._++_ t49 t50; slots = List.[] }
-
-abbrev pub T58 : Row.Cx
-T58 = record { locals = List._++_ t49 t50; slots = List.[] }
-
-abbrev pub T61 : Row.Cx
-T61 = record { locals = List._++_ t51 t52; slots = List.[] }
-
-abbrev pub T62 : Row.Cx
-T62 = record { locals = List._++_ t51 t52; slots = List.[] }
-
-abbrev pub T65 : Row.Cx
-T65 = record { locals = List._++_ t0 t7; slots = List.[] }
-
-abbrev pub T67 : Row.Cx
-T67 = record { locals = List._++_ t53 t7; slots = List.[] }
-
-abbrev pub T68 : Row.Cx
-T68 = record { locals = List._++_ t53 t1; slots = List.[] }
-
-abbrev pub T69 : Row.Cx
-T69 = record { locals = List._++_ t2 t1; slots = List.[] }
+T55 = record { locals = List._++_ t2 t1; slots = List.[] }
 
 abbrev pub O0 : Typed.Outs
 O0 = record { next = Option.none; exits = List.[]; returns = Option.some T1 }
 
 abbrev pub O1 : Typed.Outs
-O1 = Typed.withNext (Option.some T10) O0
+O1 = Typed.withNext (Option.some T2) O0
 
 module _ (claims· : Claims) where
-  abbrev s0 : Typed.Gives T0 T2
-  s0 = Know.k-shs-known (Referent.fInt Syntax.w8) T0 1 0 (Syntax.tyRef (Syntax.named 0) Syntax.imm (Syntax.tyInt Syntax.w8)) Row.off 0 λ x. x
+  abbrev s0 : Typed.Gives T0 T3
+  s0 = Know.k-shs-known (Referent.fInt Syntax.w8) T0 2 0 (Syntax.tyRef (Syntax.named 0) Syntax.imm (Syntax.tyInt Syntax.w8)) Row.off 0 λ x. x
 
-  abbrev s1 : Typed.Gives T2 T3
-  s1 = Know.k-shs-known (Referent.fInt Syntax.w16) T2 2 1 (Syntax.tyRef (Syntax.named 1) Syntax.imm (Syntax.tyInt Syntax.w16)) Row.off 0 λ x. x
+  abbrev s1 : Typed.Gives T3 T4
+  s1 = Know.k-shs-known (Referent.fInt Syntax.w16) T3 3 1 (Syntax.tyRef (Syntax.named 1) Syntax.imm (Syntax.tyInt Syntax.w16)) Row.off 0 λ x. x
 
-  abbrev s2 : Typed.Gives T3 T4
-  s2 = Know.k-sl-known (Referent.fInt Syntax.w8) T3 3 2 (Syntax.tyRef (Syntax.named 2) Syntax.mut (Syntax.tyInt Syntax.w8)) Row.off 0 λ x. x
+  abbrev s2 : Typed.Gives T4 T5
+  s2 = Know.k-sl-known (Referent.fInt Syntax.w8) T4 4 2 (Syntax.tyRef (Syntax.named 2) Syntax.mut (Syntax.tyInt Syntax.w8)) Row.off 0 λ x. x
 
-  abbrev s3 : Typed.Gives T4 T5
-  s3 = Know.k-sl-known (Referent.fInt Syntax.w16) T4 5 3 (Syntax.tyRef (Syntax.named 3) Syntax.mut (Syntax.tyInt Syntax.w16)) Row.off 0 λ x. x
+  abbrev s3 : Typed.Gives T5 T6
+  s3 = Know.k-sl-known (Referent.fInt Syntax.w16) T5 6 3 (Syntax.tyRef (Syntax.named 3) Syntax.mut (Syntax.tyInt Syntax.w16)) Row.off 0 λ x. x
 
-  abbrev s4 : Typed.Mo T5 → Typed.Mo T6
-  s4 = Scalar.n-use T5 (Scalar.oFld 2 (List._∷_ (Syntax.field 1) List.[]) (Syntax.tyInt Syntax.w64) 8 Shared.lenV) 13 (Rows.sc-here (Row.sInt Syntax.w64)) (Row.sInt Syntax.w64 .of)
+  abbrev s4 : Typed.Both T6 T7
+  s4 = Known.k-enum-known Parsed.enum 1 T6 1 λ x. x
 
-  abbrev s5 : Typed.Mo T6 → Typed.Mo T7
-  s5 = Scalar.n-use T6 (Scalar.oFld 5 (List._∷_ (Syntax.field 1) List.[]) (Syntax.tyInt Syntax.w64) 8 Shared.lenV) 14 (Rows.sc-here (Row.sInt Syntax.w64)) (Row.sInt Syntax.w64 .of)
+  abbrev s5 : Typed.Gives T7 T8
+  s5 = Known.k-known-told Parsed.enum Laws'3.the-laws 1 T7 1 λ x. x
 
-  abbrev s6 : Typed.Mo T7 → Typed.Mo T8
-  s6 = Scalar.n-use T7 (Scalar.oFld 6 (List._∷_ (Syntax.field 1) List.[]) (Syntax.tyInt Syntax.w64) 8 Shared.lenV) 15 (Rows.sc-here (Row.sInt Syntax.w64)) (Row.sInt Syntax.w64 .of)
+  abbrev s6 : Typed.Mo T8 → Typed.Mo T9
+  s6 = Make'.n-make (Declared.row Refusal.the-type) T8 8 λ m. m .1 .0 .0
 
-  abbrev s7 : Typed.Both T8 T9
-  s7 = Call.callB ps·0 r·0 (claims· .0) (claims· .1) T8
-      (record { pos = 1; ty = Syntax.tyRef (Syntax.named 0) Syntax.imm (Syntax.tyInt Syntax.w8); ref = λ x. x }, (Num.vAt 13 λ x. x, (Num.vAt 14 λ x. x, (Num.vAt 15 λ x. x, tt)))) 7 (List._∷_ 0 List.[])
-      (Syntax.tyEnum (List._∷_ 115 (List._∷_ 116 (List._∷_ 114 (List._∷_ 101 (List._∷_ 97 (List._∷_ 109 (List._∷_ 58 (List._∷_ 58 (List._∷_ 80 (List._∷_ 97 (List._∷_ 114 (List._∷_ 115 (List._∷_ 101
-      (List._∷_ 100 List.[])))))))))))))) (Syntax.ttcons (Syntax.tcons y0 Syntax.tnil) (Syntax.ttcons (Syntax.tcons (Syntax.tyEnum (List._∷_ 115 (List._∷_ 116 (List._∷_ 114 (List._∷_ 101 (List._∷_ 97
-      (List._∷_ 109 (List._∷_ 58 (List._∷_ 58 (List._∷_ 82 (List._∷_ 101 (List._∷_ 102 (List._∷_ 117 (List._∷_ 115 (List._∷_ 97 (List._∷_ 108 List.[]))))))))))))))) (Syntax.ttcons Syntax.tnil
+  abbrev s7 : Typed.Mo T9 → Typed.Mo T10
+  s7 = Scalar.n-room T9 1 (Syntax.tyEnum (List._∷_ 115 (List._∷_ 116 (List._∷_ 114 (List._∷_ 101 (List._∷_ 97 (List._∷_ 109 (List._∷_ 58 (List._∷_ 58 (List._∷_ 80 (List._∷_ 97 (List._∷_ 114 (List._∷_
+      115 (List._∷_ 101 (List._∷_ 100 List.[])))))))))))))) (Syntax.ttcons (Syntax.tcons y0 Syntax.tnil) (Syntax.ttcons (Syntax.tcons (Syntax.tyEnum (List._∷_ 115 (List._∷_ 116 (List._∷_ 114 (List._∷_ 101
+      (List._∷_ 97 (List._∷_ 109 (List._∷_ 58 (List._∷_ 58 (List._∷_ 82 (List._∷_ 101 (List._∷_ 102 (List._∷_ 117 (List._∷_ 115 (List._∷_ 97 (List._∷_ 108 List.[]))))))))))))))) (Syntax.ttcons Syntax.tnil
       (Syntax.ttcons Syntax.tnil (Syntax.ttcons Syntax.tnil (Syntax.ttcons (Syntax.tcons (Syntax.tyInt Syntax.w64) Syntax.tnil) (Syntax.ttcons Syntax.tnil (Syntax.ttcons Syntax.tnil (Syntax.ttcons
       Syntax.tnil (Syntax.ttcons Syntax.tnil (Syntax.ttcons Syntax.tnil (Syntax.ttcons Syntax.tnil (Syntax.ttcons (Syntax.tcons (Syntax.tyInt Syntax.w64) Syntax.tnil) (Syntax.ttcons (Syntax.tcons
       (Syntax.tyInt Syntax.w64) Syntax.tnil) (Syntax.ttcons Syntax.tnil (Syntax.ttcons (Syntax.tcons (Syntax.tyInt Syntax.w64) (Syntax.tcons (Syntax.tyInt Syntax.w64) Syntax.tnil)) (Syntax.ttcons
@@ -1136,40 +911,11 @@ module _ (claims· : Claims) where
       (Syntax.tcons (Syntax.tyInt Syntax.w64) Syntax.tnil) (Syntax.ttcons (Syntax.tcons (Syntax.tyInt Syntax.w64) Syntax.tnil) (Syntax.ttcons Syntax.tnil Syntax.ttnil)))))))))))))))))))))) Syntax.tnil)
       Syntax.ttnil)))
 
-  abbrev s8 : Typed.Mo T9 → Typed.Mo T11
-  s8 = Scalar.n-room T9 13 (Syntax.tyInt Syntax.w64)
+  abbrev s8 : Typed.Mo T10 → Typed.Mo T11
+  s8 = Make.n-enum-make BlockLength.the-type T10 13 λ m. BlockLength.enum .make (Logic.inr (Logic.inl (m .1 .1 .1 .1 .1 .1 .1 .1 .0, tt)))
 
   abbrev s9 : Typed.Mo T11 → Typed.Mo T12
-  s9 = Scalar.n-room T11 14 (Syntax.tyInt Syntax.w64)
-
-  abbrev s10 : Typed.Mo T12 → Typed.Mo T13
-  s10 = Scalar.n-room T12 15 (Syntax.tyInt Syntax.w64)
-
-  abbrev s11 : Typed.Both T13 T14
-  s11 = Known.k-enum-known Parsed.enum 1 T13 7 λ x. x
-
-  abbrev s12 : Typed.Gives T14 T15
-  s12 = Known.k-known-told Parsed.enum Laws'3.the-laws 1 T14 7 λ x. x
-
-  abbrev s13 : Typed.Mo T15 → Typed.Mo T16
-  s13 = Make'.n-make (Declared.row Refusal.the-type) T15 8 λ m. m .1 .1 .1 .1 .1 .1 .1 .0 .0
-
-  abbrev s14 : Typed.Mo T16 → Typed.Mo T17
-  s14 = Scalar.n-room T16 7 (Syntax.tyEnum (List._∷_ 115 (List._∷_ 116 (List._∷_ 114 (List._∷_ 101 (List._∷_ 97 (List._∷_ 109 (List._∷_ 58 (List._∷_ 58 (List._∷_ 80 (List._∷_ 97 (List._∷_ 114
-      (List._∷_ 115 (List._∷_ 101 (List._∷_ 100 List.[])))))))))))))) (Syntax.ttcons (Syntax.tcons y0 Syntax.tnil) (Syntax.ttcons (Syntax.tcons (Syntax.tyEnum (List._∷_ 115 (List._∷_ 116 (List._∷_ 114
-      (List._∷_ 101 (List._∷_ 97 (List._∷_ 109 (List._∷_ 58 (List._∷_ 58 (List._∷_ 82 (List._∷_ 101 (List._∷_ 102 (List._∷_ 117 (List._∷_ 115 (List._∷_ 97 (List._∷_ 108 List.[])))))))))))))))
-      (Syntax.ttcons Syntax.tnil (Syntax.ttcons Syntax.tnil (Syntax.ttcons Syntax.tnil (Syntax.ttcons (Syntax.tcons (Syntax.tyInt Syntax.w64) Syntax.tnil) (Syntax.ttcons Syntax.tnil (Syntax.ttcons
-      Syntax.tnil (Syntax.ttcons Syntax.tnil (Syntax.ttcons Syntax.tnil (Syntax.ttcons Syntax.tnil (Syntax.ttcons Syntax.tnil (Syntax.ttcons (Syntax.tcons (Syntax.tyInt Syntax.w64) Syntax.tnil)
-      (Syntax.ttcons (Syntax.tcons (Syntax.tyInt Syntax.w64) Syntax.tnil) (Syntax.ttcons Syntax.tnil (Syntax.ttcons (Syntax.tcons (Syntax.tyInt Syntax.w64) (Syntax.tcons (Syntax.tyInt Syntax.w64)
-      Syntax.tnil)) (Syntax.ttcons (Syntax.tcons (Syntax.tyInt Syntax.w64) Syntax.tnil) (Syntax.ttcons Syntax.tnil (Syntax.ttcons Syntax.tnil (Syntax.ttcons (Syntax.tcons (Syntax.tyInt Syntax.w64)
-      Syntax.tnil) (Syntax.ttcons (Syntax.tcons (Syntax.tyInt Syntax.w64) Syntax.tnil) (Syntax.ttcons (Syntax.tcons (Syntax.tyInt Syntax.w64) Syntax.tnil) (Syntax.ttcons Syntax.tnil
-      Syntax.ttnil)))))))))))))))))))))) Syntax.tnil) Syntax.ttnil)))
-
-  abbrev s15 : Typed.Mo T17 → Typed.Mo T18
-  s15 = Make.n-enum-make BlockLength.the-type T17 16 λ m. BlockLength.enum .make (Logic.inr (Logic.inl (m .1 .1 .1 .1 .1 .1 .1 .1 .0, tt)))
-
-  abbrev s16 : Typed.Mo T18 → Typed.Mo T19
-  s16 = Scalar.n-room T18 8 (Syntax.tyEnum (List._∷_ 115 (List._∷_ 116 (List._∷_ 114 (List._∷_ 101 (List._∷_ 97 (List._∷_ 109 (List._∷_ 58 (List._∷_ 58 (List._∷_ 82 (List._∷_ 101 (List._∷_ 102
+  s9 = Scalar.n-room T11 8 (Syntax.tyEnum (List._∷_ 115 (List._∷_ 116 (List._∷_ 114 (List._∷_ 101 (List._∷_ 97 (List._∷_ 109 (List._∷_ 58 (List._∷_ 58 (List._∷_ 82 (List._∷_ 101 (List._∷_ 102
       (List._∷_ 117 (List._∷_ 115 (List._∷_ 97 (List._∷_ 108 List.[]))))))))))))))) (Syntax.ttcons Syntax.tnil (Syntax.ttcons Syntax.tnil (Syntax.ttcons Syntax.tnil (Syntax.ttcons (Syntax.tcons
       (Syntax.tyInt Syntax.w64) Syntax.tnil) (Syntax.ttcons Syntax.tnil (Syntax.ttcons Syntax.tnil (Syntax.ttcons Syntax.tnil (Syntax.ttcons Syntax.tnil (Syntax.ttcons Syntax.tnil (Syntax.ttcons
       Syntax.tnil (Syntax.ttcons (Syntax.tcons (Syntax.tyInt Syntax.w64) Syntax.tnil) (Syntax.ttcons (Syntax.tcons (Syntax.tyInt Syntax.w64) Syntax.tnil) (Syntax.ttcons Syntax.tnil (Syntax.ttcons
@@ -1177,17 +923,17 @@ module _ (claims· : Claims) where
       (Syntax.ttcons Syntax.tnil (Syntax.ttcons (Syntax.tcons (Syntax.tyInt Syntax.w64) Syntax.tnil) (Syntax.ttcons (Syntax.tcons (Syntax.tyInt Syntax.w64) Syntax.tnil) (Syntax.ttcons (Syntax.tcons
       (Syntax.tyInt Syntax.w64) Syntax.tnil) (Syntax.ttcons Syntax.tnil Syntax.ttnil))))))))))))))))))))))
 
-  abbrev s17 : Typed.Both T13 T20
-  s17 = Known.k-enum-known Parsed.enum 0 T13 7 λ x. x
+  abbrev s10 : Typed.Both T6 T13
+  s10 = Known.k-enum-known Parsed.enum 0 T6 1 λ x. x
 
-  abbrev s18 : Typed.Gives T20 T21
-  s18 = Known.k-known-told Parsed.enum Laws'3.the-laws 0 T20 7 λ x. x
+  abbrev s11 : Typed.Gives T13 T14
+  s11 = Known.k-known-told Parsed.enum Laws'3.the-laws 0 T13 1 λ x. x
 
-  abbrev s19 : Typed.Mo T21 → Typed.Mo T22
-  s19 = Make'.n-make (Declared'.row FujiHeader.the-type) T21 9 λ m. m .1 .1 .1 .1 .1 .1 .1 .0 .0
+  abbrev s12 : Typed.Mo T14 → Typed.Mo T15
+  s12 = Make'.n-make (Declared'.row FujiHeader.the-type) T14 9 λ m. m .1 .0 .0
 
-  abbrev s20 : Typed.Mo T22 → Typed.Mo T23
-  s20 = Scalar.n-room T22 7 (Syntax.tyEnum (List._∷_ 115 (List._∷_ 116 (List._∷_ 114 (List._∷_ 101 (List._∷_ 97 (List._∷_ 109 (List._∷_ 58 (List._∷_ 58 (List._∷_ 80 (List._∷_ 97 (List._∷_ 114
+  abbrev s13 : Typed.Mo T15 → Typed.Mo T16
+  s13 = Scalar.n-room T15 1 (Syntax.tyEnum (List._∷_ 115 (List._∷_ 116 (List._∷_ 114 (List._∷_ 101 (List._∷_ 97 (List._∷_ 109 (List._∷_ 58 (List._∷_ 58 (List._∷_ 80 (List._∷_ 97 (List._∷_ 114
       (List._∷_ 115 (List._∷_ 101 (List._∷_ 100 List.[])))))))))))))) (Syntax.ttcons (Syntax.tcons y0 Syntax.tnil) (Syntax.ttcons (Syntax.tcons (Syntax.tyEnum (List._∷_ 115 (List._∷_ 116 (List._∷_ 114
       (List._∷_ 101 (List._∷_ 97 (List._∷_ 109 (List._∷_ 58 (List._∷_ 58 (List._∷_ 82 (List._∷_ 101 (List._∷_ 102 (List._∷_ 117 (List._∷_ 115 (List._∷_ 97 (List._∷_ 108 List.[])))))))))))))))
       (Syntax.ttcons Syntax.tnil (Syntax.ttcons Syntax.tnil (Syntax.ttcons Syntax.tnil (Syntax.ttcons (Syntax.tcons (Syntax.tyInt Syntax.w64) Syntax.tnil) (Syntax.ttcons Syntax.tnil (Syntax.ttcons
@@ -1197,107 +943,86 @@ module _ (claims· : Claims) where
       Syntax.tnil) (Syntax.ttcons (Syntax.tcons (Syntax.tyInt Syntax.w64) Syntax.tnil) (Syntax.ttcons (Syntax.tcons (Syntax.tyInt Syntax.w64) Syntax.tnil) (Syntax.ttcons Syntax.tnil
       Syntax.ttnil)))))))))))))))))))))) Syntax.tnil) Syntax.ttnil)))
 
-  abbrev s21 : Typed.Both T23 T24
-  s21 = Call.callB ps·1 r·1 (claims· .2) (claims· .3) T23 (Bool.bFld 9 (List._∷_ (Syntax.field 1) List.[]) 1 λ x. FujiHeader.struct .as-values x .1 .0, tt) 10 List.[] (Syntax.tyInt Syntax.w64)
+  abbrev s14 : Typed.Both T16 T17
+  s14 = Call.callB ps·0 r·0 (claims· .0) (claims· .1) T16 (Bool.bFld 9 (List._∷_ (Syntax.field 1) List.[]) 1 λ x. FujiHeader.struct .as-values x .1 .0, tt) 10 List.[] (Syntax.tyInt Syntax.w64)
 
-  abbrev s22 : Typed.Both T24 T25
-  s22 = Call.callB ps·2 r·2 (claims· .4) (claims· .5) T24 (record { pos = 9; st = List.[]; d = 0; at = λ x. x }, tt) 11 List.[] y5
+  abbrev s15 : Typed.Both T17 T18
+  s15 = Call.callB ps·1 r·1 (claims· .2) (claims· .3) T17 (record { pos = 9; st = List.[]; d = 0; at = λ x. x }, tt) 11 List.[] y4
 
-  abbrev s23 : Typed.Both T25 T26
-  s23 = Call.callB ps·3 r·3 (claims· .6) (claims· .7) T25 (record { pos = 9; st = List.[]; d = 0; at = λ x. x }, tt) 12 List.[] (Syntax.tyInt Syntax.w64)
+  abbrev s16 : Typed.Both T18 T19
+  s16 = Call.callB ps·2 r·2 (claims· .4) (claims· .5) T18 (record { pos = 9; st = List.[]; d = 0; at = λ x. x }, tt) 12 List.[] (Syntax.tyInt Syntax.w64)
 
-  abbrev s24 : Typed.Mo T26 → Typed.Mo T27
-  s24 = Scalar.n-room T26 9 y0
+  abbrev s17 : Typed.Mo T19 → Typed.Mo T20
+  s17 = Scalar.n-room T19 9 y0
 
-  abbrev s26 : Typed.Gives T27 T29
-  s26 = Relend.k-sl-relend (Referent.rtF (Referent.fInt Syntax.w8)) T27 3 17 2 5 (Syntax.tyRef (Syntax.named 2) Syntax.mut (Syntax.tyInt Syntax.w8)) (Syntax.tyRef Syntax.erased Syntax.mut
+  abbrev s19 : Typed.Gives T20 T22
+  s19 = Relend.k-sl-relend (Referent.rtF (Referent.fInt Syntax.w8)) T20 4 14 2 5 (Syntax.tyRef (Syntax.named 2) Syntax.mut (Syntax.tyInt Syntax.w8)) (Syntax.tyRef Syntax.erased Syntax.mut
       (Syntax.tyInt Syntax.w8)) Row.off λ x. x
 
-  abbrev s27 : Typed.Asks T29 T30
-  s27 = Relend.k-sl-aggregate (Referent.rtF (Referent.fInt Syntax.w8)) (Relend.asMut (Referent.rtF (Referent.fInt Syntax.w8))) T29 17 18 5 (Syntax.tyRef Syntax.erased Syntax.mut (Syntax.tyInt
-      Syntax.w8)) (Syntax.tyRef Syntax.erased Syntax.mut (Syntax.tyInt Syntax.w8)) (λ x. x) (Scalar.oFld 3 (List._∷_ (Syntax.field 1) List.[]) (Syntax.tyInt Syntax.w64) 8 λ v. Shared.lenV (v .0))
+  abbrev s20 : Typed.Asks T22 T23
+  s20 = Relend.k-sl-aggregate (Referent.rtF (Referent.fInt Syntax.w8)) (Relend.asMut (Referent.rtF (Referent.fInt Syntax.w8))) T22 14 15 5 (Syntax.tyRef Syntax.erased Syntax.mut (Syntax.tyInt
+      Syntax.w8)) (Syntax.tyRef Syntax.erased Syntax.mut (Syntax.tyInt Syntax.w8)) (λ x. x) (Scalar.oFld 4 (List._∷_ (Syntax.field 1) List.[]) (Syntax.tyInt Syntax.w64) 8 λ v. Shared.lenV (v .0))
 
-  abbrev s28 : Typed.Asks T30 T31
-  s28 = Scalar.k-op2 T30 Syntax.offset (Scalar.oFld 5 (List._∷_ (Syntax.field 0) List.[]) (Syntax.tyRef (Syntax.named 3) Syntax.mut (Syntax.tyInt Syntax.w16)) 0 Reads'.ptrVal) (Scalar.oInt Syntax.w64
-      0) 19 (Rows.sc-here Row.sPtr) (Row.sPtr .of)
+  abbrev s21 : Typed.Asks T23 T24
+  s21 = Scalar.k-op2 T23 Syntax.offset (Scalar.oFld 6 (List._∷_ (Syntax.field 0) List.[]) (Syntax.tyRef (Syntax.named 3) Syntax.mut (Syntax.tyInt Syntax.w16)) 0 Reads'.ptrVal) (Scalar.oInt Syntax.w64
+      0) 16 (Rows.sc-here Row.sPtr) (Row.sPtr .of)
 
-  abbrev s29 : Typed.Asks T31 T32
-  s29 = Scalar.k-op2 T31 (Syntax.sub Syntax.unsigned) (Scalar.oAt 10 (Syntax.tyInt Syntax.w64) (Row.valS (Row.sInt Syntax.w64))) (Scalar.oInt Syntax.w64 0) 20 (Rows.sc-here (Row.sInt Syntax.w64))
+  abbrev s22 : Typed.Asks T24 T25
+  s22 = Scalar.k-op2 T24 (Syntax.sub Syntax.unsigned) (Scalar.oAt 10 (Syntax.tyInt Syntax.w64) (Row.valS (Row.sInt Syntax.w64))) (Scalar.oInt Syntax.w64 0) 17 (Rows.sc-here (Row.sInt Syntax.w64))
       (Row.sInt Syntax.w64 .of)
 
-  abbrev s31 : Typed.Both T32 T34
-  s31 = PartMut.k-sl-relendᵐ (Referent.rtF (Referent.fInt Syntax.w16)) T32 5 19 21 3 6 (Syntax.tyRef (Syntax.named 3) Syntax.mut (Syntax.tyInt Syntax.w16)) (Syntax.tyRef Syntax.erased Syntax.mut
+  abbrev s24 : Typed.Both T25 T27
+  s24 = PartMut.k-sl-relendᵐ (Referent.rtF (Referent.fInt Syntax.w16)) T25 6 16 18 3 6 (Syntax.tyRef (Syntax.named 3) Syntax.mut (Syntax.tyInt Syntax.w16)) (Syntax.tyRef Syntax.erased Syntax.mut
       (Syntax.tyInt Syntax.w16)) Row.off (Shared.bySize 2) (λ x. x) (λ x. x) (λ u. 0) λ u. u .1 .1 .1 .1 .1 .1 .1 .1 .1 .1 .0
 
-  abbrev s32 : Typed.Mo T34 → Typed.Mo T35
-  s32 = Scalar.n-room T34 19 Syntax.tyPtr
+  abbrev s25 : Typed.Mo T27 → Typed.Mo T28
+  s25 = Scalar.n-room T27 16 Syntax.tyPtr
 
-  abbrev s33 : Typed.Asks T35 T36
-  s33 = Relend.k-sl-aggregate (Referent.rtF (Referent.fInt Syntax.w16)) (Relend.asMut (Referent.rtF (Referent.fInt Syntax.w16))) T35 21 22 6 (Syntax.tyRef Syntax.erased Syntax.mut (Syntax.tyInt
-      Syntax.w16)) (Syntax.tyRef Syntax.erased Syntax.mut (Syntax.tyInt Syntax.w16)) (λ x. x) (Scalar.oAt 20 (Syntax.tyInt Syntax.w64) (Row.valS (Row.sInt Syntax.w64)))
+  abbrev s26 : Typed.Asks T28 T29
+  s26 = Relend.k-sl-aggregate (Referent.rtF (Referent.fInt Syntax.w16)) (Relend.asMut (Referent.rtF (Referent.fInt Syntax.w16))) T28 18 19 6 (Syntax.tyRef Syntax.erased Syntax.mut (Syntax.tyInt
+      Syntax.w16)) (Syntax.tyRef Syntax.erased Syntax.mut (Syntax.tyInt Syntax.w16)) (λ x. x) (Scalar.oAt 17 (Syntax.tyInt Syntax.w64) (Row.valS (Row.sInt Syntax.w64)))
 
-  abbrev s34 : Typed.Mo T36 → Typed.Mo T37
-  s34 = Scalar.n-room T36 20 (Syntax.tyInt Syntax.w64)
+  abbrev s27 : Typed.Mo T29 → Typed.Mo T30
+  s27 = Scalar.n-room T29 17 (Syntax.tyInt Syntax.w64)
 
-  abbrev s35 : Typed.Asks T37 T38
-  s35 = Scalar.k-op2 T37 Syntax.offset (Scalar.oFld 6 (List._∷_ (Syntax.field 0) List.[]) (Syntax.tyRef (Syntax.named 4) Syntax.mut Element.behind) 0 Reads'.ptrVal) (Scalar.oInt Syntax.w64 0) 23
+  abbrev s28 : Typed.Asks T30 T31
+  s28 = Scalar.k-op2 T30 Syntax.offset (Scalar.oFld 7 (List._∷_ (Syntax.field 0) List.[]) (Syntax.tyRef (Syntax.named 4) Syntax.mut Element.behind) 0 Reads'.ptrVal) (Scalar.oInt Syntax.w64 0) 20
       (Rows.sc-here Row.sPtr) (Row.sPtr .of)
 
-  abbrev s36 : Typed.Asks T38 T39
-  s36 = Scalar.k-op2 T38 (Syntax.sub Syntax.unsigned) (Scalar.oInt Syntax.w64 336) (Scalar.oInt Syntax.w64 0) 24 (Rows.sc-here (Row.sInt Syntax.w64)) (Row.sInt Syntax.w64 .of)
+  abbrev s29 : Typed.Asks T31 T32
+  s29 = Scalar.k-op2 T31 (Syntax.sub Syntax.unsigned) (Scalar.oInt Syntax.w64 336) (Scalar.oInt Syntax.w64 0) 21 (Rows.sc-here (Row.sInt Syntax.w64)) (Row.sInt Syntax.w64 .of)
 
-  abbrev s38 : Typed.Both T39 T41
-  s38 = PartMut.k-sl-relendᵐ (Element.type) T39 6 23 25 4 7 (Syntax.tyRef (Syntax.named 4) Syntax.mut Element.behind) (Syntax.tyRef Syntax.erased Syntax.mut Element.behind) Row.off (Shared.bySize 8)
+  abbrev s31 : Typed.Both T32 T34
+  s31 = PartMut.k-sl-relendᵐ (Element.type) T32 7 20 22 4 7 (Syntax.tyRef (Syntax.named 4) Syntax.mut Element.behind) (Syntax.tyRef Syntax.erased Syntax.mut Element.behind) Row.off (Shared.bySize 8)
       (λ x. x) (λ x. x) (λ u. 0) λ u. 336
 
-  abbrev s39 : Typed.Mo T41 → Typed.Mo T42
-  s39 = Scalar.n-room T41 23 Syntax.tyPtr
+  abbrev s32 : Typed.Mo T34 → Typed.Mo T35
+  s32 = Scalar.n-room T34 20 Syntax.tyPtr
 
-  abbrev s40 : Typed.Asks T42 T43
-  s40 = Relend.k-sl-aggregate (Element.type) (Relend.asMut (Element.type)) T42 25 26 7 (Syntax.tyRef Syntax.erased Syntax.mut Element.behind) (Syntax.tyRef Syntax.erased Syntax.mut Element.behind) (λ
-      x. x) (Scalar.oAt 24 (Syntax.tyInt Syntax.w64) (Row.valS (Row.sInt Syntax.w64)))
+  abbrev s33 : Typed.Asks T35 T36
+  s33 = Relend.k-sl-aggregate (Element.type) (Relend.asMut (Element.type)) T35 22 23 7 (Syntax.tyRef Syntax.erased Syntax.mut Element.behind) (Syntax.tyRef Syntax.erased Syntax.mut Element.behind) (λ
+      x. x) (Scalar.oAt 21 (Syntax.tyInt Syntax.w64) (Row.valS (Row.sInt Syntax.w64)))
 
-  abbrev s41 : Typed.Mo T43 → Typed.Mo T44
-  s41 = Scalar.n-room T43 24 (Syntax.tyInt Syntax.w64)
+  abbrev s34 : Typed.Mo T36 → Typed.Mo T37
+  s34 = Scalar.n-room T36 21 (Syntax.tyInt Syntax.w64)
 
-  abbrev s42 : Typed.Asks T44 T45
-  s42 = Scalar.k-op2 T44 Syntax.offset (Scalar.oFld 1 (List._∷_ (Syntax.field 0) List.[]) (Syntax.tyRef (Syntax.named 0) Syntax.imm (Syntax.tyInt Syntax.w8)) 0 Reads'.ptrVal) (Scalar.oInt Syntax.w64
-      0) 27 (Rows.sc-here Row.sPtr) (Row.sPtr .of)
-
-  abbrev s43 : Typed.Asks T45 T46
-  s43 = Scalar.k-op2 T45 (Syntax.sub Syntax.unsigned) (Scalar.oInt Syntax.w64 0) (Scalar.oInt Syntax.w64 0) 28 (Rows.sc-here (Row.sInt Syntax.w64)) (Row.sInt Syntax.w64 .of)
-
-  abbrev s44 : Typed.Both T46 T47
-  s44 = PartAt.k-shs-part-same (Referent.rtF (Referent.fInt Syntax.w8)) T46 1 27 29 0 (Syntax.tyRef (Syntax.named 0) Syntax.imm (Syntax.tyInt Syntax.w8)) (Syntax.tyRef Syntax.erased Syntax.imm
-      (Syntax.tyInt Syntax.w8)) Row.off Shared.byByte (λ x. x) (λ x. x) (λ u. 0) λ u. 0
-
-  abbrev s45 : Typed.Mo T47 → Typed.Mo T48
-  s45 = Scalar.n-room T47 27 Syntax.tyPtr
-
-  abbrev s46 : Typed.Asks T48 T49
-  s46 = Relend.k-sl-aggregate (Referent.rtF (Referent.fInt Syntax.w8)) (Relend.asShr (Referent.rtF (Referent.fInt Syntax.w8))) T48 29 30 0 (Syntax.tyRef Syntax.erased Syntax.imm (Syntax.tyInt
-      Syntax.w8)) (Syntax.tyRef Syntax.erased Syntax.imm (Syntax.tyInt Syntax.w8)) (λ x. x) (Scalar.oAt 28 (Syntax.tyInt Syntax.w64) (Row.valS (Row.sInt Syntax.w64)))
-
-  abbrev s47 : Typed.Mo T49 → Typed.Mo T50
-  s47 = Scalar.n-room T49 28 (Syntax.tyInt Syntax.w64)
-
-  abbrev s48 : Typed.Both T50 T51
-  s48 = Call.callB ps·4 r·4 (claims· .8) (claims· .9) T50 (
-    record { pos = 2; ty = Syntax.tyRef (Syntax.named 1) Syntax.imm (Syntax.tyInt Syntax.w16); ref = λ x. x },
+  abbrev s35 : Typed.Both T37 T38
+  s35 = Call.callB ps·3 r·3 (claims· .6) (claims· .7) T37 (
+    record { pos = 3; ty = Syntax.tyRef (Syntax.named 1) Syntax.imm (Syntax.tyInt Syntax.w16); ref = λ x. x },
     (
-      record { pos = 18; ty = Syntax.tyRef Syntax.erased Syntax.mut (Syntax.tyInt Syntax.w8); ref = λ x. x },
+      record { pos = 15; ty = Syntax.tyRef Syntax.erased Syntax.mut (Syntax.tyInt Syntax.w8); ref = λ x. x },
       (
-        Bool.bAt 4 λ x. x,
+        Bool.bAt 5 λ x. x,
         (
-          record { pos = 22; ty = Syntax.tyRef Syntax.erased Syntax.mut (Syntax.tyInt Syntax.w16); ref = λ x. x },
+          record { pos = 19; ty = Syntax.tyRef Syntax.erased Syntax.mut (Syntax.tyInt Syntax.w16); ref = λ x. x },
           (
-            record { pos = 26; ty = Syntax.tyRef Syntax.erased Syntax.mut Element.behind; ref = λ x. x },
-            (record { pos = 11; st = List.[]; d = 0; at = λ x. x }, (record { pos = 30; ty = Syntax.tyRef Syntax.erased Syntax.imm (Syntax.tyInt Syntax.w8); ref = λ x. x }, (Num.vAt 12 λ x. x, tt))),
+            record { pos = 23; ty = Syntax.tyRef Syntax.erased Syntax.mut Element.behind; ref = λ x. x },
+            (record { pos = 11; st = List.[]; d = 0; at = λ x. x }, (record { pos = 2; ty = Syntax.tyRef (Syntax.named 0) Syntax.imm (Syntax.tyInt Syntax.w8); ref = λ x. x }, (Num.vAt 12 λ x. x, tt))),
           ),
         ),
       ),
     ),
-  ) 16
+  ) 13
       (List._∷_ 1 (List._∷_ 5 (List._∷_ 6 (List._∷_ 7 (List._∷_ 0 List.[]))))) (Syntax.tyEnum (List._∷_ 115 (List._∷_ 116 (List._∷_ 114 (List._∷_ 101 (List._∷_ 97 (List._∷_ 109 (List._∷_ 58 (List._∷_ 58
       (List._∷_ 66 (List._∷_ 108 (List._∷_ 111 (List._∷_ 99 (List._∷_ 107 (List._∷_ 76 (List._∷_ 101 (List._∷_ 110 (List._∷_ 103 (List._∷_ 116 (List._∷_ 104 List.[]))))))))))))))))))) (Syntax.ttcons
       (Syntax.tcons (Syntax.tyInt Syntax.w64) Syntax.tnil) (Syntax.ttcons (Syntax.tcons (Syntax.tyEnum (List._∷_ 115 (List._∷_ 116 (List._∷_ 114 (List._∷_ 101 (List._∷_ 97 (List._∷_ 109 (List._∷_ 58
@@ -1308,40 +1033,37 @@ module _ (claims· : Claims) where
       Syntax.w64) Syntax.tnil) (Syntax.ttcons Syntax.tnil (Syntax.ttcons Syntax.tnil (Syntax.ttcons (Syntax.tcons (Syntax.tyInt Syntax.w64) Syntax.tnil) (Syntax.ttcons (Syntax.tcons (Syntax.tyInt
       Syntax.w64) Syntax.tnil) (Syntax.ttcons (Syntax.tcons (Syntax.tyInt Syntax.w64) Syntax.tnil) (Syntax.ttcons Syntax.tnil Syntax.ttnil)))))))))))))))))))))) Syntax.tnil) Syntax.ttnil)))
 
-  abbrev s49 : Typed.Mo T51 → Typed.Mo T52
-  s49 = Scalar.n-room T51 30 y1
+  abbrev s36 : Typed.Mo T38 → Typed.Mo T39
+  s36 = Scalar.n-room T38 10 (Syntax.tyInt Syntax.w64)
 
-  abbrev s50 : Typed.Mo T52 → Typed.Mo T53
-  s50 = Scalar.n-room T52 10 (Syntax.tyInt Syntax.w64)
+  abbrev s37 : Typed.Mo T39 → Typed.Mo T40
+  s37 = Scalar.n-room T39 11 y4
 
-  abbrev s51 : Typed.Mo T53 → Typed.Mo T54
-  s51 = Scalar.n-room T53 11 y5
+  abbrev s38 : Typed.Mo T40 → Typed.Mo T41
+  s38 = Scalar.n-room T40 12 (Syntax.tyInt Syntax.w64)
 
-  abbrev s52 : Typed.Mo T54 → Typed.Mo T55
-  s52 = Scalar.n-room T54 12 (Syntax.tyInt Syntax.w64)
-
-  abbrev s54 : Typed.Both T55 T57
-  s54 = Relend.k-back-sl (Referent.rtF (Referent.fInt Syntax.w8)) T55 18 3 2 5 (Syntax.tyRef (Syntax.named 2) Syntax.mut (Syntax.tyInt Syntax.w8)) (Syntax.tyRef Syntax.erased Syntax.mut (Syntax.tyInt
+  abbrev s40 : Typed.Both T41 T43
+  s40 = Relend.k-back-sl (Referent.rtF (Referent.fInt Syntax.w8)) T41 15 4 2 5 (Syntax.tyRef (Syntax.named 2) Syntax.mut (Syntax.tyInt Syntax.w8)) (Syntax.tyRef Syntax.erased Syntax.mut (Syntax.tyInt
       Syntax.w8)) Row.off (λ x. x) λ x. x
 
-  abbrev s55 : Typed.Gives T57 T58
-  s55 = Know.k-sl-known (Referent.fInt Syntax.w8) T57 3 2 (Syntax.tyRef (Syntax.named 2) Syntax.mut (Syntax.tyInt Syntax.w8)) Row.off 0 λ x. x
+  abbrev s41 : Typed.Gives T43 T44
+  s41 = Know.k-sl-known (Referent.fInt Syntax.w8) T43 4 2 (Syntax.tyRef (Syntax.named 2) Syntax.mut (Syntax.tyInt Syntax.w8)) Row.off 0 λ x. x
 
-  abbrev s58 : Typed.Both T58 T61
-  s58 = PartMut.k-back-slᵐ (Referent.rtF (Referent.fInt Syntax.w16)) T58 22 5 3 6 (Syntax.tyRef (Syntax.named 3) Syntax.mut (Syntax.tyInt Syntax.w16)) (Syntax.tyRef Syntax.erased Syntax.mut
+  abbrev s44 : Typed.Both T44 T47
+  s44 = PartMut.k-back-slᵐ (Referent.rtF (Referent.fInt Syntax.w16)) T44 19 6 3 6 (Syntax.tyRef (Syntax.named 3) Syntax.mut (Syntax.tyInt Syntax.w16)) (Syntax.tyRef Syntax.erased Syntax.mut
       (Syntax.tyInt Syntax.w16)) Row.off (λ x. x) λ x. x
 
-  abbrev s59 : Typed.Gives T61 T62
-  s59 = Know.k-sl-known (Referent.fInt Syntax.w16) T61 5 3 (Syntax.tyRef (Syntax.named 3) Syntax.mut (Syntax.tyInt Syntax.w16)) Row.off 0 λ x. x
+  abbrev s45 : Typed.Gives T47 T48
+  s45 = Know.k-sl-known (Referent.fInt Syntax.w16) T47 6 3 (Syntax.tyRef (Syntax.named 3) Syntax.mut (Syntax.tyInt Syntax.w16)) Row.off 0 λ x. x
 
-  abbrev s62 : Typed.Both T62 T65
-  s62 = PartMut.k-back-slᵐ (Element.type) T62 26 6 4 7 (Syntax.tyRef (Syntax.named 4) Syntax.mut Element.behind) (Syntax.tyRef Syntax.erased Syntax.mut Element.behind) Row.off (λ x. x) λ x. x
+  abbrev s48 : Typed.Both T48 T51
+  s48 = PartMut.k-back-slᵐ (Element.type) T48 23 7 4 7 (Syntax.tyRef (Syntax.named 4) Syntax.mut Element.behind) (Syntax.tyRef Syntax.erased Syntax.mut Element.behind) Row.off (λ x. x) λ x. x
 
-  abbrev s64 : Typed.Mo T10 → Typed.Mo T67
-  s64 = LocalCopy.n-val-copy T10 16 0 (Declared.row BlockLength.the-type) (Rows.whole (Declared.row BlockLength.the-type)) (Rows.whole (Declared.row BlockLength.the-type)) (λ x. x) (λ x. x) λ x. x
+  abbrev s50 : Typed.Mo T2 → Typed.Mo T53
+  s50 = LocalCopy.n-val-copy T2 13 0 (Declared.row BlockLength.the-type) (Rows.whole (Declared.row BlockLength.the-type)) (Rows.whole (Declared.row BlockLength.the-type)) (λ x. x) (λ x. x) λ x. x
 
-  abbrev s65 : Typed.Mo T67 → Typed.Mo T68
-  s65 = Scalar.n-room T67 16 (Syntax.tyEnum (List._∷_ 115 (List._∷_ 116 (List._∷_ 114 (List._∷_ 101 (List._∷_ 97 (List._∷_ 109 (List._∷_ 58 (List._∷_ 58 (List._∷_ 66 (List._∷_ 108 (List._∷_ 111
+  abbrev s51 : Typed.Mo T53 → Typed.Mo T54
+  s51 = Scalar.n-room T53 13 (Syntax.tyEnum (List._∷_ 115 (List._∷_ 116 (List._∷_ 114 (List._∷_ 101 (List._∷_ 97 (List._∷_ 109 (List._∷_ 58 (List._∷_ 58 (List._∷_ 66 (List._∷_ 108 (List._∷_ 111
       (List._∷_ 99 (List._∷_ 107 (List._∷_ 76 (List._∷_ 101 (List._∷_ 110 (List._∷_ 103 (List._∷_ 116 (List._∷_ 104 List.[]))))))))))))))))))) (Syntax.ttcons (Syntax.tcons (Syntax.tyInt Syntax.w64)
       Syntax.tnil) (Syntax.ttcons (Syntax.tcons (Syntax.tyEnum (List._∷_ 115 (List._∷_ 116 (List._∷_ 114 (List._∷_ 101 (List._∷_ 97 (List._∷_ 109 (List._∷_ 58 (List._∷_ 58 (List._∷_ 82 (List._∷_ 101
       (List._∷_ 102 (List._∷_ 117 (List._∷_ 115 (List._∷_ 97 (List._∷_ 108 List.[]))))))))))))))) (Syntax.ttcons Syntax.tnil (Syntax.ttcons Syntax.tnil (Syntax.ttcons Syntax.tnil (Syntax.ttcons
@@ -1351,245 +1073,218 @@ module _ (claims· : Claims) where
       Syntax.tnil (Syntax.ttcons Syntax.tnil (Syntax.ttcons (Syntax.tcons (Syntax.tyInt Syntax.w64) Syntax.tnil) (Syntax.ttcons (Syntax.tcons (Syntax.tyInt Syntax.w64) Syntax.tnil) (Syntax.ttcons
       (Syntax.tcons (Syntax.tyInt Syntax.w64) Syntax.tnil) (Syntax.ttcons Syntax.tnil Syntax.ttnil)))))))))))))))))))))) Syntax.tnil) Syntax.ttnil)))
 
-  abbrev s66 : Typed.Mo T68 → Typed.Mo T69
-  s66 = Scalar.n-room T68 4 Syntax.tyBool
+  abbrev s52 : Typed.Mo T54 → Typed.Mo T55
+  s52 = Scalar.n-room T54 5 Syntax.tyBool
 
   module _ (Pre· : (κs : Lifetimes.Lfts 5) → Kinds.Dens κs ps → Type 0) (Post· : (κs : Lifetimes.Lfts 5) → (a : Kinds.Dens κs ps) → Kinds.Plain 5 ps r κs) where
     module _ (M : Type 1) where
       abbrev pub Closed : Type 2
-      Closed = (𝓤 : URA.URA M) (H : Wp.Heap 𝓤) (A : Atoms.Atoms 𝓤) (W : Kit.Given 𝓤 H A) (𝓣 : Wp.Tables 𝓤 H) (known0 : Plain.Known 𝓤 H A W 𝓣 1 ps·0 r·0 (claims· .0) (claims· .1)
-          "begin::writing_begins") (known1 : Plain.Known 𝓤 H A W 𝓣 0 ps·1 r·1 (claims· .2) (claims· .3) "begin::samples_needed") (known2 : Plain.Known 𝓤 H A W 𝓣 0 ps·2 r·2 (claims· .4) (claims· .5)
-          "block::form_of") (known3 : Plain.Known 𝓤 H A W 𝓣 0 ps·3 r·3 (claims· .6) (claims· .7) "block::tight::line_count") (known4 : Plain.Known 𝓤 H A W 𝓣 5 ps·4 r·4 (claims· .8) (claims· .9)
-          "block::writer::write_set") → Statement.Triple 𝓤 (Wp.WpFn 𝓤 H (𝓣 .C) (𝓣 .Λ) (Function.fnOf 5 ps r xs m hs body)) (Function.plainOf 𝓤 H A 5 ps r Pre· Post·)
+      Closed = (𝓤 : URA.URA M) (H : Wp.Heap 𝓤) (A : Atoms.Atoms 𝓤) (W : Kit.Given 𝓤 H A) (𝓣 : Wp.Tables 𝓤 H) (known0 : Plain.Known 𝓤 H A W 𝓣 0 ps·0 r·0 (claims· .0) (claims· .1)
+          "begin::samples_needed") (known1 : Plain.Known 𝓤 H A W 𝓣 0 ps·1 r·1 (claims· .2) (claims· .3) "block::form_of") (known2 : Plain.Known 𝓤 H A W 𝓣 0 ps·2 r·2 (claims· .4) (claims· .5)
+          "block::tight::line_count") (known3 : Plain.Known 𝓤 H A W 𝓣 5 ps·3 r·3 (claims· .6) (claims· .7) "block::writer::write_set") → Statement.Triple 𝓤 (Wp.WpFn 𝓤 H (𝓣 .C) (𝓣 .Λ) (Function.fnOf 5 ps r
+          xs m hs body)) (Function.plainOf 𝓤 H A 5 ps r Pre· Post·)
 
     module _ where
-      abbrev at0 : Typed.TF T17 O1
-      at0 = λ Ψ. Typed.pass T17 T18 s15 (Typed.pass T18 T19 s16 (Typed.atNext O1 Ψ))
+      abbrev at0 : Typed.TF T10 O1
+      at0 = λ Ψ. Typed.pass T10 T11 s8 (Typed.pass T11 T12 s9 (Typed.atNext O1 Ψ))
 
-      abbrev at1 : Typed.TF T16 O1
-      at1 = λ Ψ. Typed.pass T16 T17 s14 (at0 Ψ)
+      abbrev at1 : Typed.TF T9 O1
+      at1 = λ Ψ. Typed.pass T9 T10 s7 (at0 Ψ)
 
-      abbrev at2 : Typed.TF T15 O1
-      at2 = λ Ψ. Typed.pass T15 T16 s13 (at1 Ψ)
+      abbrev at2 : Typed.TF T8 O1
+      at2 = λ Ψ. Typed.pass T8 T9 s6 (at1 Ψ)
 
-      abbrev at3 : Typed.TF T14 O1
-      at3 = λ Ψ. Typed.give s12 (at2 Ψ)
+      abbrev at3 : Typed.TF T7 O1
+      at3 = λ Ψ. Typed.give s5 (at2 Ψ)
 
-      abbrev at4 : Typed.TF T13 O1
-      at4 = λ Ψ. Typed.both s11 (at3 Ψ)
+      abbrev at4 : Typed.TF T6 O1
+      at4 = λ Ψ. Typed.both s4 (at3 Ψ)
 
-      abbrev at5 : Typed.TF T50 O1
-      at5 = λ Ψ. Typed.both s48 (Typed.pass T51 T52 s49 (Typed.pass T52 T53 s50 (Typed.pass T53 T54 s51 (Typed.pass T54 T55 s52 (Typed.both s54 (Typed.give s55 (Typed.both s58 (Typed.give s59
-          (Typed.both s62 (Typed.atNext O1 Ψ))))))))))
+      abbrev at5 : Typed.TF T37 O1
+      at5 = λ Ψ. Typed.both s35 (Typed.pass T38 T39 s36 (Typed.pass T39 T40 s37 (Typed.pass T40 T41 s38 (Typed.both s40 (Typed.give s41 (Typed.both s44 (Typed.give s45 (Typed.both s48 (Typed.atNext O1
+          Ψ)))))))))
 
-      abbrev at6 : Typed.TF T49 O1
-      at6 = λ Ψ. Typed.pass T49 T50 s47 (at5 Ψ)
+      abbrev at6 : Typed.TF T36 O1
+      at6 = λ Ψ. Typed.pass T36 T37 s34 (at5 Ψ)
 
-      abbrev at7 : Typed.TF T48 O1
-      at7 = λ Ψ. Typed.ask s46 (at6 Ψ)
+      abbrev at7 : Typed.TF T35 O1
+      at7 = λ Ψ. Typed.ask s33 (at6 Ψ)
 
-      abbrev at8 : Typed.TF T47 O1
-      at8 = λ Ψ. Typed.pass T47 T48 s45 (at7 Ψ)
+      abbrev at8 : Typed.TF T34 O1
+      at8 = λ Ψ. Typed.pass T34 T35 s32 (at7 Ψ)
 
-      abbrev at9 : Typed.TF T46 O1
-      at9 = λ Ψ. Typed.both s44 (at8 Ψ)
+      abbrev at9 : Typed.TF T32 O1
+      at9 = λ Ψ. Typed.both s31 (at8 Ψ)
 
-      abbrev at10 : Typed.TF T45 O1
-      at10 = λ Ψ. Typed.ask s43 (at9 Ψ)
+      abbrev at10 : Typed.TF T32 O1
+      at10 = λ Ψ. at9 Ψ
 
-      abbrev at11 : Typed.TF T44 O1
-      at11 = λ Ψ. Typed.ask s42 (at10 Ψ)
+      abbrev at11 : Typed.TF T31 O1
+      at11 = λ Ψ. Typed.ask s29 (at10 Ψ)
 
-      abbrev at12 : Typed.TF T43 O1
-      at12 = λ Ψ. Typed.pass T43 T44 s41 (at11 Ψ)
+      abbrev at12 : Typed.TF T30 O1
+      at12 = λ Ψ. Typed.ask s28 (at11 Ψ)
 
-      abbrev at13 : Typed.TF T42 O1
-      at13 = λ Ψ. Typed.ask s40 (at12 Ψ)
+      abbrev at13 : Typed.TF T29 O1
+      at13 = λ Ψ. Typed.pass T29 T30 s27 (at12 Ψ)
 
-      abbrev at14 : Typed.TF T41 O1
-      at14 = λ Ψ. Typed.pass T41 T42 s39 (at13 Ψ)
+      abbrev at14 : Typed.TF T28 O1
+      at14 = λ Ψ. Typed.ask s26 (at13 Ψ)
 
-      abbrev at15 : Typed.TF T39 O1
-      at15 = λ Ψ. Typed.both s38 (at14 Ψ)
+      abbrev at15 : Typed.TF T27 O1
+      at15 = λ Ψ. Typed.pass T27 T28 s25 (at14 Ψ)
 
-      abbrev at16 : Typed.TF T39 O1
-      at16 = λ Ψ. at15 Ψ
+      abbrev at16 : Typed.TF T25 O1
+      at16 = λ Ψ. Typed.both s24 (at15 Ψ)
 
-      abbrev at17 : Typed.TF T38 O1
-      at17 = λ Ψ. Typed.ask s36 (at16 Ψ)
+      abbrev at17 : Typed.TF T25 O1
+      at17 = λ Ψ. at16 Ψ
 
-      abbrev at18 : Typed.TF T37 O1
-      at18 = λ Ψ. Typed.ask s35 (at17 Ψ)
+      abbrev at18 : Typed.TF T24 O1
+      at18 = λ Ψ. Typed.ask s22 (at17 Ψ)
 
-      abbrev at19 : Typed.TF T36 O1
-      at19 = λ Ψ. Typed.pass T36 T37 s34 (at18 Ψ)
+      abbrev at19 : Typed.TF T23 O1
+      at19 = λ Ψ. Typed.ask s21 (at18 Ψ)
 
-      abbrev at20 : Typed.TF T35 O1
-      at20 = λ Ψ. Typed.ask s33 (at19 Ψ)
+      abbrev at20 : Typed.TF T22 O1
+      at20 = λ Ψ. Typed.ask s20 (at19 Ψ)
 
-      abbrev at21 : Typed.TF T34 O1
-      at21 = λ Ψ. Typed.pass T34 T35 s32 (at20 Ψ)
+      abbrev at21 : Typed.TF T20 O1
+      at21 = λ Ψ. Typed.give s19 (at20 Ψ)
 
-      abbrev at22 : Typed.TF T32 O1
-      at22 = λ Ψ. Typed.both s31 (at21 Ψ)
+      abbrev at22 : Typed.TF T20 O1
+      at22 = λ Ψ. at21 Ψ
 
-      abbrev at23 : Typed.TF T32 O1
-      at23 = λ Ψ. at22 Ψ
+      abbrev at23 : Typed.TF T19 O1
+      at23 = λ Ψ. Typed.pass T19 T20 s17 (at22 Ψ)
 
-      abbrev at24 : Typed.TF T31 O1
-      at24 = λ Ψ. Typed.ask s29 (at23 Ψ)
+      abbrev at24 : Typed.TF T18 O1
+      at24 = λ Ψ. Typed.both s16 (at23 Ψ)
 
-      abbrev at25 : Typed.TF T30 O1
-      at25 = λ Ψ. Typed.ask s28 (at24 Ψ)
+      abbrev at25 : Typed.TF T17 O1
+      at25 = λ Ψ. Typed.both s15 (at24 Ψ)
 
-      abbrev at26 : Typed.TF T29 O1
-      at26 = λ Ψ. Typed.ask s27 (at25 Ψ)
+      abbrev at26 : Typed.TF T16 O1
+      at26 = λ Ψ. Typed.both s14 (at25 Ψ)
 
-      abbrev at27 : Typed.TF T27 O1
-      at27 = λ Ψ. Typed.give s26 (at26 Ψ)
+      abbrev at27 : Typed.TF T15 O1
+      at27 = λ Ψ. Typed.pass T15 T16 s13 (at26 Ψ)
 
-      abbrev at28 : Typed.TF T27 O1
-      at28 = λ Ψ. at27 Ψ
+      abbrev at28 : Typed.TF T14 O1
+      at28 = λ Ψ. Typed.pass T14 T15 s12 (at27 Ψ)
 
-      abbrev at29 : Typed.TF T26 O1
-      at29 = λ Ψ. Typed.pass T26 T27 s24 (at28 Ψ)
+      abbrev at29 : Typed.TF T13 O1
+      at29 = λ Ψ. Typed.give s11 (at28 Ψ)
 
-      abbrev at30 : Typed.TF T25 O1
-      at30 = λ Ψ. Typed.both s23 (at29 Ψ)
+      abbrev at30 : Typed.TF T6 O1
+      at30 = λ Ψ. Typed.both s10 (at29 Ψ)
 
-      abbrev at31 : Typed.TF T24 O1
-      at31 = λ Ψ. Typed.both s22 (at30 Ψ)
+      abbrev at31 : Typed.TF T6 O1
+      at31 = Switch.Φswitch T6 O1 1 (λ x. Declared.tagOf Parsed.the-type x) (Syntax.arm (List._∷_ 1 List.[]) b2 (Syntax.arm (List._∷_ 0 List.[]) b31 Syntax.noDefault)) (at4, (at30, tt))
 
-      abbrev at32 : Typed.TF T23 O1
-      at32 = λ Ψ. Typed.both s21 (at31 Ψ)
+      abbrev at32 : Typed.TF T5 O1
+      at32 = λ Ψ. Typed.give s3 (at31 Ψ)
 
-      abbrev at33 : Typed.TF T22 O1
-      at33 = λ Ψ. Typed.pass T22 T23 s20 (at32 Ψ)
+      abbrev at33 : Typed.TF T4 O1
+      at33 = λ Ψ. Typed.give s2 (at32 Ψ)
 
-      abbrev at34 : Typed.TF T21 O1
-      at34 = λ Ψ. Typed.pass T21 T22 s19 (at33 Ψ)
+      abbrev at34 : Typed.TF T3 O1
+      at34 = λ Ψ. Typed.give s1 (at33 Ψ)
 
-      abbrev at35 : Typed.TF T20 O1
-      at35 = λ Ψ. Typed.give s18 (at34 Ψ)
+      abbrev at35 : Typed.TF T0 O1
+      at35 = λ Ψ. Typed.give s0 (at34 Ψ)
 
-      abbrev at36 : Typed.TF T13 O1
-      at36 = λ Ψ. Typed.both s17 (at35 Ψ)
+      abbrev at36 : Typed.TF T55 O0
+      at36 = Typed.atRet O0
 
-      abbrev at37 : Typed.TF T13 O1
-      at37 = Switch.Φswitch T13 O1 7 (λ x. Declared.tagOf Parsed.the-type x) (Syntax.arm (List._∷_ 1 List.[]) b6 (Syntax.arm (List._∷_ 0 List.[]) b43 Syntax.noDefault)) (at4, (at36, tt))
+      abbrev at37 : Typed.TF T54 O0
+      at37 = λ Ψ. Typed.pass T54 T55 s52 (at36 Ψ)
 
-      abbrev at38 : Typed.TF T12 O1
-      at38 = λ Ψ. Typed.pass T12 T13 s10 (at37 Ψ)
+      abbrev at38 : Typed.TF T53 O0
+      at38 = λ Ψ. Typed.pass T53 T54 s51 (at37 Ψ)
 
-      abbrev at39 : Typed.TF T11 O1
-      at39 = λ Ψ. Typed.pass T11 T12 s9 (at38 Ψ)
+      abbrev at39 : Typed.TF T2 O0
+      at39 = λ Ψ. Typed.pass T2 T53 s50 (at38 Ψ)
 
-      abbrev at40 : Typed.TF T9 O1
-      at40 = λ Ψ. Typed.pass T9 T11 s8 (at39 Ψ)
-
-      abbrev at41 : Typed.TF T69 O0
-      at41 = Typed.atRet O0
-
-      abbrev at42 : Typed.TF T68 O0
-      at42 = λ Ψ. Typed.pass T68 T69 s66 (at41 Ψ)
-
-      abbrev at43 : Typed.TF T67 O0
-      at43 = λ Ψ. Typed.pass T67 T68 s65 (at42 Ψ)
-
-      abbrev at44 : Typed.TF T10 O0
-      at44 = λ Ψ. Typed.pass T10 T67 s64 (at43 Ψ)
-
-      abbrev at45 : Typed.TF T9 O0
-      at45 = λ Ψ. at40 (Typed.wantNext T10 O0 (at44 Ψ) Ψ)
-
-      abbrev at46 : Typed.TF T8 O0
-      at46 = λ Ψ. Typed.both s7 (at45 Ψ)
-
-      abbrev at47 : Typed.TF T7 O0
-      at47 = λ Ψ. Typed.pass T7 T8 s6 (at46 Ψ)
-
-      abbrev at48 : Typed.TF T6 O0
-      at48 = λ Ψ. Typed.pass T6 T7 s5 (at47 Ψ)
-
-      abbrev at49 : Typed.TF T5 O0
-      at49 = λ Ψ. Typed.pass T5 T6 s4 (at48 Ψ)
-
-      abbrev at50 : Typed.TF T4 O0
-      at50 = λ Ψ. Typed.give s3 (at49 Ψ)
-
-      abbrev at51 : Typed.TF T3 O0
-      at51 = λ Ψ. Typed.give s2 (at50 Ψ)
-
-      abbrev at52 : Typed.TF T2 O0
-      at52 = λ Ψ. Typed.give s1 (at51 Ψ)
-
-      abbrev at53 : Typed.TF T0 O0
-      at53 = λ Ψ. Typed.give s0 (at52 Ψ)
+      abbrev at40 : Typed.TF T0 O0
+      at40 = λ Ψ. at35 (Typed.wantNext T2 O0 (at39 Ψ) Ψ)
 
       abbrev pub Φ : Typed.TF T0 O0
-      Φ = at53
+      Φ = at40
 
       module _ {M : Type 1} (𝓤 : URA.URA M) (H : Wp.Heap 𝓤) (A : Atoms.Atoms 𝓤) (W : Kit.Given 𝓤 H A) (𝓣 : Wp.Tables 𝓤 H) where
         abbrev Knowns : Type 1
-        Knowns = Plain.Known 𝓤 H A W 𝓣 1 ps·0 r·0 (claims· .0) (claims· .1) "begin::writing_begins" × Plain.Known 𝓤 H A W 𝓣 0 ps·1 r·1 (claims· .2) (claims· .3) "begin::samples_needed" × Plain.Known 𝓤
-            H A W 𝓣 0 ps·2 r·2 (claims· .4) (claims· .5) "block::form_of" × Plain.Known 𝓤 H A W 𝓣 0 ps·3 r·3 (claims· .6) (claims· .7) "block::tight::line_count" × Plain.Known 𝓤 H A W 𝓣 5 ps·4 r·4
-            (claims· .8) (claims· .9) "block::writer::write_set"
+        Knowns = Plain.Known 𝓤 H A W 𝓣 0 ps·0 r·0 (claims· .0) (claims· .1) "begin::samples_needed" × Plain.Known 𝓤 H A W 𝓣 0 ps·1 r·1 (claims· .2) (claims· .3) "block::form_of" × Plain.Known 𝓤 H A W
+            𝓣 0 ps·2 r·2 (claims· .4) (claims· .5) "block::tight::line_count" × Plain.Known 𝓤 H A W 𝓣 5 ps·3 r·3 (claims· .6) (claims· .7) "block::writer::write_set"
 
       module _ (κs : Lifetimes.Lfts 5) (qs : Lifetimes.Shares 5) where
-        abbrev g21 : List.List Row.Entry
-        g21 = List._∷_ e0 (List._∷_ e2 (List._∷_ e23 (List._∷_
-            (3, Relend.mslice-owed (Referent.rtF (Referent.fInt Syntax.w8)) (Syntax.tyRef (Syntax.named 2) Syntax.mut (Syntax.tyInt Syntax.w8)) 2 5 (Row.lease (κs .1 .1 .0) (qs .1 .1 .0))) (List._∷_ e50
-            (List._∷_ e51 (List._∷_ e53 (List._∷_ e55 (List._∷_ e59 (List._∷_ e61 (List._∷_ e4 (List._∷_ e6 (List._∷_ e8 (List._∷_ e9 (List._∷_ e11 (List._∷_ e13 List.[])))))))))))))))
+        abbrev g15 : List.List Row.Entry
+        g15 = List._∷_ e0 (List._∷_ e2 (List._∷_ e26 (List._∷_ e36 (List._∷_
+            (4, Relend.mslice-owed (Referent.rtF (Referent.fInt Syntax.w8)) (Syntax.tyRef (Syntax.named 2) Syntax.mut (Syntax.tyInt Syntax.w8)) 2 5 (Row.lease (κs .1 .1 .0) (qs .1 .1 .0))) (List._∷_ e39
+            (List._∷_ e40 (List._∷_ e42 (List._∷_ e44 (List._∷_ e46 (List._∷_ e6 (List._∷_ e8 (List._∷_ e10 (List._∷_ e11 (List._∷_ e13 (List._∷_ e17 List.[])))))))))))))))
+
+        abbrev g16 : List.List Row.Entry
+        g16 = List._∷_ e0 (List._∷_ e2 (List._∷_ e26 (List._∷_ e36 (List._∷_
+            (4, Relend.mslice-owed (Referent.rtF (Referent.fInt Syntax.w8)) (Syntax.tyRef (Syntax.named 2) Syntax.mut (Syntax.tyInt Syntax.w8)) 2 5 (Row.lease (κs .1 .1 .0) (qs .1 .1 .0))) (List._∷_ e39
+            (List._∷_ e40 (List._∷_ e42 (List._∷_ e44 (List._∷_ e46 (List._∷_ e6 (List._∷_ e8 (List._∷_ e10 (List._∷_ e11 (List._∷_ e14 (List._∷_ e16 List.[])))))))))))))))
+
+        abbrev g19 : List.List Row.Entry
+        g19 = List._∷_ e0 (List._∷_ e2 (List._∷_ e26 (List._∷_ e36 (List._∷_
+            (4, Relend.mslice-owed (Referent.rtF (Referent.fInt Syntax.w8)) (Syntax.tyRef (Syntax.named 2) Syntax.mut (Syntax.tyInt Syntax.w8)) 2 5 (Row.lease (κs .1 .1 .0) (qs .1 .1 .0))) (List._∷_ e39
+            (List._∷_
+            (6, PartMut.mslice-owedM (Referent.rtF (Referent.fInt Syntax.w16)) (Syntax.tyRef (Syntax.named 3) Syntax.mut (Syntax.tyInt Syntax.w16)) 3 6 (Row.lease (κs .1 .1 .1 .0) (qs .1 .1 .1 .0)))
+            (List._∷_ e42 (List._∷_ e44 (List._∷_ e46 (List._∷_ e6 (List._∷_ e8 (List._∷_ e10 (List._∷_ e11 (List._∷_ e14 (List._∷_ e16 List.[])))))))))))))))
 
         abbrev g26 : List.List Row.Entry
-        g26 = List._∷_ e0 (List._∷_ e2 (List._∷_ e23 (List._∷_
-            (3, Relend.mslice-owed (Referent.rtF (Referent.fInt Syntax.w8)) (Syntax.tyRef (Syntax.named 2) Syntax.mut (Syntax.tyInt Syntax.w8)) 2 5 (Row.lease (κs .1 .1 .0) (qs .1 .1 .0))) (List._∷_ e50
+        g26 = List._∷_ e0 (List._∷_ e2 (List._∷_ e26 (List._∷_ e36 (List._∷_
+            (4, Relend.mslice-owed (Referent.rtF (Referent.fInt Syntax.w8)) (Syntax.tyRef (Syntax.named 2) Syntax.mut (Syntax.tyInt Syntax.w8)) 2 5 (Row.lease (κs .1 .1 .0) (qs .1 .1 .0))) (List._∷_ e39
             (List._∷_
-            (5, PartMut.mslice-owedM (Referent.rtF (Referent.fInt Syntax.w16)) (Syntax.tyRef (Syntax.named 3) Syntax.mut (Syntax.tyInt Syntax.w16)) 3 6 (Row.lease (κs .1 .1 .1 .0) (qs .1 .1 .1 .0)))
-            (List._∷_ e53 (List._∷_ e55 (List._∷_ e59 (List._∷_ e61 (List._∷_ e4 (List._∷_ e6 (List._∷_ e8 (List._∷_ e9 (List._∷_ e11 (List._∷_ e13 List.[])))))))))))))))
+            (6, PartMut.mslice-owedM (Referent.rtF (Referent.fInt Syntax.w16)) (Syntax.tyRef (Syntax.named 3) Syntax.mut (Syntax.tyInt Syntax.w16)) 3 6 (Row.lease (κs .1 .1 .1 .0) (qs .1 .1 .1 .0)))
+            (List._∷_ (7, PartMut.mslice-owedM (Element.type) (Syntax.tyRef (Syntax.named 4) Syntax.mut Element.behind) 4 7 (Row.lease (κs .1 .1 .1 .1 .0) (qs .1 .1 .1 .1 .0))) (List._∷_ e44 (List._∷_ e46
+            (List._∷_ e6 (List._∷_ e8 (List._∷_ e10 (List._∷_ e11 (List._∷_ e14 (List._∷_ e16 List.[])))))))))))))))
+
+        abbrev g31 : List.List Row.Entry
+        g31 = List._∷_ e0 (List._∷_ e2 (List._∷_ e26 (List._∷_ e36 (List._∷_
+            (4, Relend.mslice-owed (Referent.rtF (Referent.fInt Syntax.w8)) (Syntax.tyRef (Syntax.named 2) Syntax.mut (Syntax.tyInt Syntax.w8)) 2 5 (Row.lease (κs .1 .1 .0) (qs .1 .1 .0))) (List._∷_ e39
+            (List._∷_
+            (6, PartMut.mslice-owedM (Referent.rtF (Referent.fInt Syntax.w16)) (Syntax.tyRef (Syntax.named 3) Syntax.mut (Syntax.tyInt Syntax.w16)) 3 6 (Row.lease (κs .1 .1 .1 .0) (qs .1 .1 .1 .0)))
+            (List._∷_ (7, PartMut.mslice-owedM (Element.type) (Syntax.tyRef (Syntax.named 4) Syntax.mut Element.behind) 4 7 (Row.lease (κs .1 .1 .1 .1 .0) (qs .1 .1 .1 .1 .0))) (List._∷_ e44 (List._∷_ e46
+            (List._∷_ e6 (List._∷_ e8 (List._∷_ e10 (List._∷_ e12 (List._∷_ e14 (List._∷_ e15 List.[])))))))))))))))
 
         abbrev g33 : List.List Row.Entry
-        g33 = List._∷_ e0 (List._∷_ e2 (List._∷_ e23 (List._∷_
-            (3, Relend.mslice-owed (Referent.rtF (Referent.fInt Syntax.w8)) (Syntax.tyRef (Syntax.named 2) Syntax.mut (Syntax.tyInt Syntax.w8)) 2 5 (Row.lease (κs .1 .1 .0) (qs .1 .1 .0))) (List._∷_ e50
+        g33 = List._∷_ e0 (List._∷_ e2 (List._∷_ e26 (List._∷_ e36 (List._∷_
+            (4, Relend.mslice-owed (Referent.rtF (Referent.fInt Syntax.w8)) (Syntax.tyRef (Syntax.named 2) Syntax.mut (Syntax.tyInt Syntax.w8)) 2 5 (Row.lease (κs .1 .1 .0) (qs .1 .1 .0))) (List._∷_ e39
             (List._∷_
-            (5, PartMut.mslice-owedM (Referent.rtF (Referent.fInt Syntax.w16)) (Syntax.tyRef (Syntax.named 3) Syntax.mut (Syntax.tyInt Syntax.w16)) 3 6 (Row.lease (κs .1 .1 .1 .0) (qs .1 .1 .1 .0)))
-            (List._∷_ (6, PartMut.mslice-owedM (Element.type) (Syntax.tyRef (Syntax.named 4) Syntax.mut Element.behind) 4 7 (Row.lease (κs .1 .1 .1 .1 .0) (qs .1 .1 .1 .1 .0))) (List._∷_ e55 (List._∷_ e59
-            (List._∷_ e61 (List._∷_ e4 (List._∷_ e6 (List._∷_ e8 (List._∷_ e9 (List._∷_ e11 (List._∷_ e13 List.[])))))))))))))))
+            (6, PartMut.mslice-owedM (Referent.rtF (Referent.fInt Syntax.w16)) (Syntax.tyRef (Syntax.named 3) Syntax.mut (Syntax.tyInt Syntax.w16)) 3 6 (Row.lease (κs .1 .1 .1 .0) (qs .1 .1 .1 .0)))
+            (List._∷_ (7, PartMut.mslice-owedM (Element.type) (Syntax.tyRef (Syntax.named 4) Syntax.mut Element.behind) 4 7 (Row.lease (κs .1 .1 .1 .1 .0) (qs .1 .1 .1 .1 .0))) (List._∷_ e44 (List._∷_ e46
+            (List._∷_ e5 (List._∷_ e8 (List._∷_ e10 (List._∷_ e12 (List._∷_ e14 (List._∷_ e15 List.[])))))))))))))))
 
-        abbrev g46 : List.List Row.Entry
-        g46 = List._∷_ e0 (List._∷_ e2 (List._∷_ e23 (List._∷_
-            (3, Relend.mslice-owed (Referent.rtF (Referent.fInt Syntax.w8)) (Syntax.tyRef (Syntax.named 2) Syntax.mut (Syntax.tyInt Syntax.w8)) 2 5 (Row.lease (κs .1 .1 .0) (qs .1 .1 .0))) (List._∷_ e50
+        abbrev g34 : List.List Row.Entry
+        g34 = List._∷_ e0 (List._∷_ e2 (List._∷_ e26 (List._∷_ e36 (List._∷_
+            (4, Relend.mslice-owed (Referent.rtF (Referent.fInt Syntax.w8)) (Syntax.tyRef (Syntax.named 2) Syntax.mut (Syntax.tyInt Syntax.w8)) 2 5 (Row.lease (κs .1 .1 .0) (qs .1 .1 .0))) (List._∷_ e39
             (List._∷_
-            (5, PartMut.mslice-owedM (Referent.rtF (Referent.fInt Syntax.w16)) (Syntax.tyRef (Syntax.named 3) Syntax.mut (Syntax.tyInt Syntax.w16)) 3 6 (Row.lease (κs .1 .1 .1 .0) (qs .1 .1 .1 .0)))
-            (List._∷_ (6, PartMut.mslice-owedM (Element.type) (Syntax.tyRef (Syntax.named 4) Syntax.mut Element.behind) 4 7 (Row.lease (κs .1 .1 .1 .1 .0) (qs .1 .1 .1 .1 .0))) (List._∷_ e55 (List._∷_ e59
-            (List._∷_ e61 (List._∷_ e3 (List._∷_ e6 (List._∷_ e8 (List._∷_ e9 (List._∷_ e11 (List._∷_ e13 List.[])))))))))))))))
+            (6, PartMut.mslice-owedM (Referent.rtF (Referent.fInt Syntax.w16)) (Syntax.tyRef (Syntax.named 3) Syntax.mut (Syntax.tyInt Syntax.w16)) 3 6 (Row.lease (κs .1 .1 .1 .0) (qs .1 .1 .1 .0)))
+            (List._∷_ (7, PartMut.mslice-owedM (Element.type) (Syntax.tyRef (Syntax.named 4) Syntax.mut Element.behind) 4 7 (Row.lease (κs .1 .1 .1 .1 .0) (qs .1 .1 .1 .1 .0))) (List._∷_ e44 (List._∷_ e46
+            (List._∷_ e5 (List._∷_ e7 (List._∷_ e10 (List._∷_ e12 (List._∷_ e14 (List._∷_ e15 List.[])))))))))))))))
 
-        abbrev g47 : List.List Row.Entry
-        g47 = List._∷_ e0 (List._∷_ e2 (List._∷_ e23 (List._∷_
-            (3, Relend.mslice-owed (Referent.rtF (Referent.fInt Syntax.w8)) (Syntax.tyRef (Syntax.named 2) Syntax.mut (Syntax.tyInt Syntax.w8)) 2 5 (Row.lease (κs .1 .1 .0) (qs .1 .1 .0))) (List._∷_ e50
+        abbrev g35 : List.List Row.Entry
+        g35 = List._∷_ e0 (List._∷_ e2 (List._∷_ e26 (List._∷_ e36 (List._∷_
+            (4, Relend.mslice-owed (Referent.rtF (Referent.fInt Syntax.w8)) (Syntax.tyRef (Syntax.named 2) Syntax.mut (Syntax.tyInt Syntax.w8)) 2 5 (Row.lease (κs .1 .1 .0) (qs .1 .1 .0))) (List._∷_ e39
             (List._∷_
-            (5, PartMut.mslice-owedM (Referent.rtF (Referent.fInt Syntax.w16)) (Syntax.tyRef (Syntax.named 3) Syntax.mut (Syntax.tyInt Syntax.w16)) 3 6 (Row.lease (κs .1 .1 .1 .0) (qs .1 .1 .1 .0)))
-            (List._∷_ (6, PartMut.mslice-owedM (Element.type) (Syntax.tyRef (Syntax.named 4) Syntax.mut Element.behind) 4 7 (Row.lease (κs .1 .1 .1 .1 .0) (qs .1 .1 .1 .1 .0))) (List._∷_ e55 (List._∷_ e59
-            (List._∷_ e61 (List._∷_ e3 (List._∷_ e5 (List._∷_ e8 (List._∷_ e9 (List._∷_ e11 (List._∷_ e13 List.[])))))))))))))))
+            (6, PartMut.mslice-owedM (Referent.rtF (Referent.fInt Syntax.w16)) (Syntax.tyRef (Syntax.named 3) Syntax.mut (Syntax.tyInt Syntax.w16)) 3 6 (Row.lease (κs .1 .1 .1 .0) (qs .1 .1 .1 .0)))
+            (List._∷_ (7, PartMut.mslice-owedM (Element.type) (Syntax.tyRef (Syntax.named 4) Syntax.mut Element.behind) 4 7 (Row.lease (κs .1 .1 .1 .1 .0) (qs .1 .1 .1 .1 .0))) (List._∷_ e44 (List._∷_ e46
+            (List._∷_ e5 (List._∷_ e7 (List._∷_ e9 (List._∷_ e12 (List._∷_ e14 (List._∷_ e15 List.[])))))))))))))))
 
-        abbrev g48 : List.List Row.Entry
-        g48 = List._∷_ e0 (List._∷_ e2 (List._∷_ e23 (List._∷_
-            (3, Relend.mslice-owed (Referent.rtF (Referent.fInt Syntax.w8)) (Syntax.tyRef (Syntax.named 2) Syntax.mut (Syntax.tyInt Syntax.w8)) 2 5 (Row.lease (κs .1 .1 .0) (qs .1 .1 .0))) (List._∷_ e50
-            (List._∷_
-            (5, PartMut.mslice-owedM (Referent.rtF (Referent.fInt Syntax.w16)) (Syntax.tyRef (Syntax.named 3) Syntax.mut (Syntax.tyInt Syntax.w16)) 3 6 (Row.lease (κs .1 .1 .1 .0) (qs .1 .1 .1 .0)))
-            (List._∷_ (6, PartMut.mslice-owedM (Element.type) (Syntax.tyRef (Syntax.named 4) Syntax.mut Element.behind) 4 7 (Row.lease (κs .1 .1 .1 .1 .0) (qs .1 .1 .1 .1 .0))) (List._∷_ e55 (List._∷_ e59
-            (List._∷_ e61 (List._∷_ e3 (List._∷_ e5 (List._∷_ e7 (List._∷_ e9 (List._∷_ e11 (List._∷_ e13 List.[])))))))))))))))
+        abbrev g36 : List.List Row.Entry
+        g36 = List._∷_ e0 (List._∷_ e2 (List._∷_ e26 (List._∷_ e36 (List._∷_ e37 (List._∷_ e39 (List._∷_
+            (6, PartMut.mslice-owedM (Referent.rtF (Referent.fInt Syntax.w16)) (Syntax.tyRef (Syntax.named 3) Syntax.mut (Syntax.tyInt Syntax.w16)) 3 6 (Row.lease (κs .1 .1 .1 .0) (qs .1 .1 .1 .0)))
+            (List._∷_ (7, PartMut.mslice-owedM (Element.type) (Syntax.tyRef (Syntax.named 4) Syntax.mut Element.behind) 4 7 (Row.lease (κs .1 .1 .1 .1 .0) (qs .1 .1 .1 .1 .0))) (List._∷_ e44 (List._∷_ e46
+            (List._∷_ e5 (List._∷_ e7 (List._∷_ e9 (List._∷_ e12 (List._∷_ e14 (List._∷_ e17 List.[])))))))))))))))
 
-        abbrev g49 : List.List Row.Entry
-        g49 = List._∷_ e0 (List._∷_ e2 (List._∷_ e23 (List._∷_ e46 (List._∷_ e50 (List._∷_
-            (5, PartMut.mslice-owedM (Referent.rtF (Referent.fInt Syntax.w16)) (Syntax.tyRef (Syntax.named 3) Syntax.mut (Syntax.tyInt Syntax.w16)) 3 6 (Row.lease (κs .1 .1 .1 .0) (qs .1 .1 .1 .0)))
-            (List._∷_ (6, PartMut.mslice-owedM (Element.type) (Syntax.tyRef (Syntax.named 4) Syntax.mut Element.behind) 4 7 (Row.lease (κs .1 .1 .1 .1 .0) (qs .1 .1 .1 .1 .0))) (List._∷_ e55 (List._∷_ e59
-            (List._∷_ e61 (List._∷_ e3 (List._∷_ e5 (List._∷_ e7 (List._∷_ e9 (List._∷_ e11 (List._∷_ e13 List.[])))))))))))))))
-
-        abbrev g51 : List.List Row.Entry
-        g51 = List._∷_ e0 (List._∷_ e2 (List._∷_ e23 (List._∷_ e46 (List._∷_ e50 (List._∷_ e51 (List._∷_
-            (6, PartMut.mslice-owedM (Element.type) (Syntax.tyRef (Syntax.named 4) Syntax.mut Element.behind) 4 7 (Row.lease (κs .1 .1 .1 .1 .0) (qs .1 .1 .1 .1 .0))) (List._∷_ e55 (List._∷_ e59 (List._∷_
-            e61 (List._∷_ e3 (List._∷_ e5 (List._∷_ e7 (List._∷_ e9 (List._∷_ e11 (List._∷_ e13 List.[])))))))))))))))
+        abbrev g37 : List.List Row.Entry
+        g37 = List._∷_ e0 (List._∷_ e2 (List._∷_ e26 (List._∷_ e36 (List._∷_ e37 (List._∷_ e39 (List._∷_ e40 (List._∷_
+            (7, PartMut.mslice-owedM (Element.type) (Syntax.tyRef (Syntax.named 4) Syntax.mut Element.behind) 4 7 (Row.lease (κs .1 .1 .1 .1 .0) (qs .1 .1 .1 .1 .0))) (List._∷_ e44 (List._∷_ e46 (List._∷_
+            e5 (List._∷_ e7 (List._∷_ e9 (List._∷_ e12 (List._∷_ e14 (List._∷_ e17 List.[])))))))))))))))
 
         abbrev G0 : Row.Cx
         G0 = record {
@@ -1607,7 +1302,7 @@ module _ (claims· : Claims) where
 
         abbrev G2 : Row.Cx
         G2 = record {
-          locals = List._++_ t0 t1;
+          locals = List._++_ t3 t1;
           slots = List._∷_ (Row.lease (κs .0) (qs .0)) (List._∷_ (Row.lease (κs .1 .0) (qs .1 .0)) (List._∷_ (Row.lease (κs .1 .1 .0) (qs .1 .1 .0)) (List._∷_ (Row.lease (κs
               .1 .1 .1 .0) (qs .1 .1 .1 .0)) (List._∷_ (Row.lease (κs .1 .1 .1 .1 .0) (qs .1 .1 .1 .1 .0)) (List._∷_ Row.off (List._∷_ Row.off (List._∷_ Row.off List.[])))))));
         }
@@ -1635,7 +1330,7 @@ module _ (claims· : Claims) where
 
         abbrev G6 : Row.Cx
         G6 = record {
-          locals = List._++_ t3 t1;
+          locals = List._++_ t0 t1;
           slots = List._∷_ (Row.lease (κs .0) (qs .0)) (List._∷_ (Row.lease (κs .1 .0) (qs .1 .0)) (List._∷_ (Row.lease (κs .1 .1 .0) (qs .1 .1 .0)) (List._∷_ (Row.lease (κs
               .1 .1 .1 .0) (qs .1 .1 .1 .0)) (List._∷_ (Row.lease (κs .1 .1 .1 .1 .0) (qs .1 .1 .1 .1 .0)) (List._∷_ Row.off (List._∷_ Row.off (List._∷_ Row.off List.[])))))));
         }
@@ -1649,84 +1344,84 @@ module _ (claims· : Claims) where
 
         abbrev G8 : Row.Cx
         G8 = record {
-          locals = List._++_ t5 t1;
+          locals = List._++_ t4 t1;
           slots = List._∷_ (Row.lease (κs .0) (qs .0)) (List._∷_ (Row.lease (κs .1 .0) (qs .1 .0)) (List._∷_ (Row.lease (κs .1 .1 .0) (qs .1 .1 .0)) (List._∷_ (Row.lease (κs
               .1 .1 .1 .0) (qs .1 .1 .1 .0)) (List._∷_ (Row.lease (κs .1 .1 .1 .1 .0) (qs .1 .1 .1 .1 .0)) (List._∷_ Row.off (List._∷_ Row.off (List._∷_ Row.off List.[])))))));
         }
 
         abbrev G9 : Row.Cx
         G9 = record {
-          locals = List._++_ t6 t1;
+          locals = List._++_ t5 t1;
           slots = List._∷_ (Row.lease (κs .0) (qs .0)) (List._∷_ (Row.lease (κs .1 .0) (qs .1 .0)) (List._∷_ (Row.lease (κs .1 .1 .0) (qs .1 .1 .0)) (List._∷_ (Row.lease (κs
               .1 .1 .1 .0) (qs .1 .1 .1 .0)) (List._∷_ (Row.lease (κs .1 .1 .1 .1 .0) (qs .1 .1 .1 .1 .0)) (List._∷_ Row.off (List._∷_ Row.off (List._∷_ Row.off List.[])))))));
         }
 
         abbrev G10 : Row.Cx
         G10 = record {
-          locals = List._++_ t0 t7;
+          locals = List._++_ t6 t1;
           slots = List._∷_ (Row.lease (κs .0) (qs .0)) (List._∷_ (Row.lease (κs .1 .0) (qs .1 .0)) (List._∷_ (Row.lease (κs .1 .1 .0) (qs .1 .1 .0)) (List._∷_ (Row.lease (κs
               .1 .1 .1 .0) (qs .1 .1 .1 .0)) (List._∷_ (Row.lease (κs .1 .1 .1 .1 .0) (qs .1 .1 .1 .1 .0)) (List._∷_ Row.off (List._∷_ Row.off (List._∷_ Row.off List.[])))))));
         }
 
         abbrev G11 : Row.Cx
         G11 = record {
-          locals = List._++_ t8 t1;
+          locals = List._++_ t7 t1;
           slots = List._∷_ (Row.lease (κs .0) (qs .0)) (List._∷_ (Row.lease (κs .1 .0) (qs .1 .0)) (List._∷_ (Row.lease (κs .1 .1 .0) (qs .1 .1 .0)) (List._∷_ (Row.lease (κs
               .1 .1 .1 .0) (qs .1 .1 .1 .0)) (List._∷_ (Row.lease (κs .1 .1 .1 .1 .0) (qs .1 .1 .1 .1 .0)) (List._∷_ Row.off (List._∷_ Row.off (List._∷_ Row.off List.[])))))));
         }
 
         abbrev G12 : Row.Cx
         G12 = record {
-          locals = List._++_ t9 t1;
+          locals = List._++_ t3 t1;
           slots = List._∷_ (Row.lease (κs .0) (qs .0)) (List._∷_ (Row.lease (κs .1 .0) (qs .1 .0)) (List._∷_ (Row.lease (κs .1 .1 .0) (qs .1 .1 .0)) (List._∷_ (Row.lease (κs
               .1 .1 .1 .0) (qs .1 .1 .1 .0)) (List._∷_ (Row.lease (κs .1 .1 .1 .1 .0) (qs .1 .1 .1 .1 .0)) (List._∷_ Row.off (List._∷_ Row.off (List._∷_ Row.off List.[])))))));
         }
 
         abbrev G13 : Row.Cx
         G13 = record {
-          locals = List._++_ t10 t1;
+          locals = List._++_ t8 t1;
           slots = List._∷_ (Row.lease (κs .0) (qs .0)) (List._∷_ (Row.lease (κs .1 .0) (qs .1 .0)) (List._∷_ (Row.lease (κs .1 .1 .0) (qs .1 .1 .0)) (List._∷_ (Row.lease (κs
               .1 .1 .1 .0) (qs .1 .1 .1 .0)) (List._∷_ (Row.lease (κs .1 .1 .1 .1 .0) (qs .1 .1 .1 .1 .0)) (List._∷_ Row.off (List._∷_ Row.off (List._∷_ Row.off List.[])))))));
         }
 
         abbrev G14 : Row.Cx
         G14 = record {
-          locals = List._++_ t11 t1;
+          locals = List._++_ t8 t1;
           slots = List._∷_ (Row.lease (κs .0) (qs .0)) (List._∷_ (Row.lease (κs .1 .0) (qs .1 .0)) (List._∷_ (Row.lease (κs .1 .1 .0) (qs .1 .1 .0)) (List._∷_ (Row.lease (κs
               .1 .1 .1 .0) (qs .1 .1 .1 .0)) (List._∷_ (Row.lease (κs .1 .1 .1 .1 .0) (qs .1 .1 .1 .1 .0)) (List._∷_ Row.off (List._∷_ Row.off (List._∷_ Row.off List.[])))))));
         }
 
         abbrev G15 : Row.Cx
         G15 = record {
-          locals = List._++_ t11 t1;
+          locals = List._++_ t9 t1;
           slots = List._∷_ (Row.lease (κs .0) (qs .0)) (List._∷_ (Row.lease (κs .1 .0) (qs .1 .0)) (List._∷_ (Row.lease (κs .1 .1 .0) (qs .1 .1 .0)) (List._∷_ (Row.lease (κs
               .1 .1 .1 .0) (qs .1 .1 .1 .0)) (List._∷_ (Row.lease (κs .1 .1 .1 .1 .0) (qs .1 .1 .1 .1 .0)) (List._∷_ Row.off (List._∷_ Row.off (List._∷_ Row.off List.[])))))));
         }
 
         abbrev G16 : Row.Cx
         G16 = record {
-          locals = List._++_ t12 t1;
+          locals = List._++_ t10 t1;
           slots = List._∷_ (Row.lease (κs .0) (qs .0)) (List._∷_ (Row.lease (κs .1 .0) (qs .1 .0)) (List._∷_ (Row.lease (κs .1 .1 .0) (qs .1 .1 .0)) (List._∷_ (Row.lease (κs
               .1 .1 .1 .0) (qs .1 .1 .1 .0)) (List._∷_ (Row.lease (κs .1 .1 .1 .1 .0) (qs .1 .1 .1 .1 .0)) (List._∷_ Row.off (List._∷_ Row.off (List._∷_ Row.off List.[])))))));
         }
 
         abbrev G17 : Row.Cx
         G17 = record {
-          locals = List._++_ t13 t1;
+          locals = List._++_ t11 t1;
           slots = List._∷_ (Row.lease (κs .0) (qs .0)) (List._∷_ (Row.lease (κs .1 .0) (qs .1 .0)) (List._∷_ (Row.lease (κs .1 .1 .0) (qs .1 .1 .0)) (List._∷_ (Row.lease (κs
               .1 .1 .1 .0) (qs .1 .1 .1 .0)) (List._∷_ (Row.lease (κs .1 .1 .1 .1 .0) (qs .1 .1 .1 .1 .0)) (List._∷_ Row.off (List._∷_ Row.off (List._∷_ Row.off List.[])))))));
         }
 
         abbrev G18 : Row.Cx
         G18 = record {
-          locals = List._++_ t13 t7;
+          locals = List._++_ t12 t1;
           slots = List._∷_ (Row.lease (κs .0) (qs .0)) (List._∷_ (Row.lease (κs .1 .0) (qs .1 .0)) (List._∷_ (Row.lease (κs .1 .1 .0) (qs .1 .1 .0)) (List._∷_ (Row.lease (κs
               .1 .1 .1 .0) (qs .1 .1 .1 .0)) (List._∷_ (Row.lease (κs .1 .1 .1 .1 .0) (qs .1 .1 .1 .1 .0)) (List._∷_ Row.off (List._∷_ Row.off (List._∷_ Row.off List.[])))))));
         }
 
         abbrev G19 : Row.Cx
         G19 = record {
-          locals = List._++_ t0 t7;
+          locals = List._++_ t13 t1;
           slots = List._∷_ (Row.lease (κs .0) (qs .0)) (List._∷_ (Row.lease (κs .1 .0) (qs .1 .0)) (List._∷_ (Row.lease (κs .1 .1 .0) (qs .1 .1 .0)) (List._∷_ (Row.lease (κs
               .1 .1 .1 .0) (qs .1 .1 .1 .0)) (List._∷_ (Row.lease (κs .1 .1 .1 .1 .0) (qs .1 .1 .1 .1 .0)) (List._∷_ Row.off (List._∷_ Row.off (List._∷_ Row.off List.[])))))));
         }
@@ -1742,340 +1437,242 @@ module _ (claims· : Claims) where
         G21 = record {
           locals = List._++_ t14 t1;
           slots = List._∷_ (Row.lease (κs .0) (qs .0)) (List._∷_ (Row.lease (κs .1 .0) (qs .1 .0)) (List._∷_ (Row.lease (κs .1 .1 .0) (qs .1 .1 .0)) (List._∷_ (Row.lease (κs
-              .1 .1 .1 .0) (qs .1 .1 .1 .0)) (List._∷_ (Row.lease (κs .1 .1 .1 .1 .0) (qs .1 .1 .1 .1 .0)) (List._∷_ Row.off (List._∷_ Row.off (List._∷_ Row.off List.[])))))));
+              .1 .1 .1 .0) (qs .1 .1 .1 .0)) (List._∷_ (Row.lease (κs .1 .1 .1 .1 .0) (qs .1 .1 .1 .1 .0)) (List._∷_ Row.alive (List._∷_ Row.off (List._∷_ Row.off List.[])))))));
         }
 
         abbrev G22 : Row.Cx
         G22 = record {
-          locals = List._++_ t15 t1;
-          slots = List._∷_ (Row.lease (κs .0) (qs .0)) (List._∷_ (Row.lease (κs .1 .0) (qs .1 .0)) (List._∷_ (Row.lease (κs .1 .1 .0) (qs .1 .1 .0)) (List._∷_ (Row.lease (κs
-              .1 .1 .1 .0) (qs .1 .1 .1 .0)) (List._∷_ (Row.lease (κs .1 .1 .1 .1 .0) (qs .1 .1 .1 .1 .0)) (List._∷_ Row.off (List._∷_ Row.off (List._∷_ Row.off List.[])))))));
+          locals = List._++_ g15 t1;
+          slots = List._∷_ (Row.lease (κs .0) (qs .0)) (List._∷_ (Row.lease (κs .1 .0) (qs .1 .0)) (List._∷_ Row.off (List._∷_ (Row.lease (κs .1 .1 .1 .0) (qs .1 .1 .1 .0))
+              (List._∷_ (Row.lease (κs .1 .1 .1 .1 .0) (qs .1 .1 .1 .1 .0)) (List._∷_ Row.alive (List._∷_ Row.off (List._∷_ Row.off List.[])))))));
         }
 
         abbrev G23 : Row.Cx
         G23 = record {
-          locals = List._++_ t16 t1;
-          slots = List._∷_ (Row.lease (κs .0) (qs .0)) (List._∷_ (Row.lease (κs .1 .0) (qs .1 .0)) (List._∷_ (Row.lease (κs .1 .1 .0) (qs .1 .1 .0)) (List._∷_ (Row.lease (κs
-              .1 .1 .1 .0) (qs .1 .1 .1 .0)) (List._∷_ (Row.lease (κs .1 .1 .1 .1 .0) (qs .1 .1 .1 .1 .0)) (List._∷_ Row.off (List._∷_ Row.off (List._∷_ Row.off List.[])))))));
+          locals = List._++_ g16 t1;
+          slots = List._∷_ (Row.lease (κs .0) (qs .0)) (List._∷_ (Row.lease (κs .1 .0) (qs .1 .0)) (List._∷_ Row.off (List._∷_ (Row.lease (κs .1 .1 .1 .0) (qs .1 .1 .1 .0))
+              (List._∷_ (Row.lease (κs .1 .1 .1 .1 .0) (qs .1 .1 .1 .1 .0)) (List._∷_ Row.alive (List._∷_ Row.off (List._∷_ Row.off List.[])))))));
         }
 
         abbrev G24 : Row.Cx
         G24 = record {
-          locals = List._++_ t17 t1;
-          slots = List._∷_ (Row.lease (κs .0) (qs .0)) (List._∷_ (Row.lease (κs .1 .0) (qs .1 .0)) (List._∷_ (Row.lease (κs .1 .1 .0) (qs .1 .1 .0)) (List._∷_ (Row.lease (κs
-              .1 .1 .1 .0) (qs .1 .1 .1 .0)) (List._∷_ (Row.lease (κs .1 .1 .1 .1 .0) (qs .1 .1 .1 .1 .0)) (List._∷_ Row.off (List._∷_ Row.off (List._∷_ Row.off List.[])))))));
+          locals = List._++_ g16 t17;
+          slots = List._∷_ (Row.lease (κs .0) (qs .0)) (List._∷_ (Row.lease (κs .1 .0) (qs .1 .0)) (List._∷_ Row.off (List._∷_ (Row.lease (κs .1 .1 .1 .0) (qs .1 .1 .1 .0))
+              (List._∷_ (Row.lease (κs .1 .1 .1 .1 .0) (qs .1 .1 .1 .1 .0)) (List._∷_ Row.alive (List._∷_ Row.off (List._∷_ Row.off List.[])))))));
         }
 
         abbrev G25 : Row.Cx
         G25 = record {
-          locals = List._++_ t18 t1;
-          slots = List._∷_ (Row.lease (κs .0) (qs .0)) (List._∷_ (Row.lease (κs .1 .0) (qs .1 .0)) (List._∷_ (Row.lease (κs .1 .1 .0) (qs .1 .1 .0)) (List._∷_ (Row.lease (κs
-              .1 .1 .1 .0) (qs .1 .1 .1 .0)) (List._∷_ (Row.lease (κs .1 .1 .1 .1 .0) (qs .1 .1 .1 .1 .0)) (List._∷_ Row.off (List._∷_ Row.off (List._∷_ Row.off List.[])))))));
+          locals = List._++_ g16 t18;
+          slots = List._∷_ (Row.lease (κs .0) (qs .0)) (List._∷_ (Row.lease (κs .1 .0) (qs .1 .0)) (List._∷_ Row.off (List._∷_ (Row.lease (κs .1 .1 .1 .0) (qs .1 .1 .1 .0))
+              (List._∷_ (Row.lease (κs .1 .1 .1 .1 .0) (qs .1 .1 .1 .1 .0)) (List._∷_ Row.alive (List._∷_ Row.off (List._∷_ Row.off List.[])))))));
         }
 
         abbrev G26 : Row.Cx
         G26 = record {
-          locals = List._++_ t19 t1;
-          slots = List._∷_ (Row.lease (κs .0) (qs .0)) (List._∷_ (Row.lease (κs .1 .0) (qs .1 .0)) (List._∷_ (Row.lease (κs .1 .1 .0) (qs .1 .1 .0)) (List._∷_ (Row.lease (κs
-              .1 .1 .1 .0) (qs .1 .1 .1 .0)) (List._∷_ (Row.lease (κs .1 .1 .1 .1 .0) (qs .1 .1 .1 .1 .0)) (List._∷_ Row.off (List._∷_ Row.off (List._∷_ Row.off List.[])))))));
+          locals = List._++_ g16 t18;
+          slots = List._∷_ (Row.lease (κs .0) (qs .0)) (List._∷_ (Row.lease (κs .1 .0) (qs .1 .0)) (List._∷_ Row.off (List._∷_ (Row.lease (κs .1 .1 .1 .0) (qs .1 .1 .1 .0))
+              (List._∷_ (Row.lease (κs .1 .1 .1 .1 .0) (qs .1 .1 .1 .1 .0)) (List._∷_ Row.alive (List._∷_ Row.alive (List._∷_ Row.off List.[])))))));
         }
 
         abbrev G27 : Row.Cx
         G27 = record {
-          locals = List._++_ t20 t1;
-          slots = List._∷_ (Row.lease (κs .0) (qs .0)) (List._∷_ (Row.lease (κs .1 .0) (qs .1 .0)) (List._∷_ (Row.lease (κs .1 .1 .0) (qs .1 .1 .0)) (List._∷_ (Row.lease (κs
-              .1 .1 .1 .0) (qs .1 .1 .1 .0)) (List._∷_ (Row.lease (κs .1 .1 .1 .1 .0) (qs .1 .1 .1 .1 .0)) (List._∷_ Row.off (List._∷_ Row.off (List._∷_ Row.off List.[])))))));
+          locals = List._++_ g19 t20;
+          slots = List._∷_ (Row.lease (κs .0) (qs .0)) (List._∷_ (Row.lease (κs .1 .0) (qs .1 .0)) (List._∷_ Row.off (List._∷_ Row.off (List._∷_ (Row.lease (κs .1 .1 .1 .1
+              .0) (qs .1 .1 .1 .1 .0)) (List._∷_ Row.alive (List._∷_ Row.alive (List._∷_ Row.off List.[])))))));
         }
 
         abbrev G28 : Row.Cx
         G28 = record {
-          locals = List._++_ t20 t1;
-          slots = List._∷_ (Row.lease (κs .0) (qs .0)) (List._∷_ (Row.lease (κs .1 .0) (qs .1 .0)) (List._∷_ (Row.lease (κs .1 .1 .0) (qs .1 .1 .0)) (List._∷_ (Row.lease (κs
-              .1 .1 .1 .0) (qs .1 .1 .1 .0)) (List._∷_ (Row.lease (κs .1 .1 .1 .1 .0) (qs .1 .1 .1 .1 .0)) (List._∷_ Row.alive (List._∷_ Row.off (List._∷_ Row.off List.[])))))));
+          locals = List._++_ g19 t21;
+          slots = List._∷_ (Row.lease (κs .0) (qs .0)) (List._∷_ (Row.lease (κs .1 .0) (qs .1 .0)) (List._∷_ Row.off (List._∷_ Row.off (List._∷_ (Row.lease (κs .1 .1 .1 .1
+              .0) (qs .1 .1 .1 .1 .0)) (List._∷_ Row.alive (List._∷_ Row.alive (List._∷_ Row.off List.[])))))));
         }
 
         abbrev G29 : Row.Cx
         G29 = record {
-          locals = List._++_ g21 t22;
-          slots = List._∷_ (Row.lease (κs .0) (qs .0)) (List._∷_ (Row.lease (κs .1 .0) (qs .1 .0)) (List._∷_ Row.off (List._∷_ (Row.lease (κs .1 .1 .1 .0) (qs .1 .1 .1 .0))
-              (List._∷_ (Row.lease (κs .1 .1 .1 .1 .0) (qs .1 .1 .1 .1 .0)) (List._∷_ Row.alive (List._∷_ Row.off (List._∷_ Row.off List.[])))))));
+          locals = List._++_ g19 t22;
+          slots = List._∷_ (Row.lease (κs .0) (qs .0)) (List._∷_ (Row.lease (κs .1 .0) (qs .1 .0)) (List._∷_ Row.off (List._∷_ Row.off (List._∷_ (Row.lease (κs .1 .1 .1 .1
+              .0) (qs .1 .1 .1 .1 .0)) (List._∷_ Row.alive (List._∷_ Row.alive (List._∷_ Row.off List.[])))))));
         }
 
         abbrev G30 : Row.Cx
         G30 = record {
-          locals = List._++_ g21 t23;
-          slots = List._∷_ (Row.lease (κs .0) (qs .0)) (List._∷_ (Row.lease (κs .1 .0) (qs .1 .0)) (List._∷_ Row.off (List._∷_ (Row.lease (κs .1 .1 .1 .0) (qs .1 .1 .1 .0))
-              (List._∷_ (Row.lease (κs .1 .1 .1 .1 .0) (qs .1 .1 .1 .1 .0)) (List._∷_ Row.alive (List._∷_ Row.off (List._∷_ Row.off List.[])))))));
+          locals = List._++_ g19 t23;
+          slots = List._∷_ (Row.lease (κs .0) (qs .0)) (List._∷_ (Row.lease (κs .1 .0) (qs .1 .0)) (List._∷_ Row.off (List._∷_ Row.off (List._∷_ (Row.lease (κs .1 .1 .1 .1
+              .0) (qs .1 .1 .1 .1 .0)) (List._∷_ Row.alive (List._∷_ Row.alive (List._∷_ Row.off List.[])))))));
         }
 
         abbrev G31 : Row.Cx
         G31 = record {
-          locals = List._++_ g21 t24;
-          slots = List._∷_ (Row.lease (κs .0) (qs .0)) (List._∷_ (Row.lease (κs .1 .0) (qs .1 .0)) (List._∷_ Row.off (List._∷_ (Row.lease (κs .1 .1 .1 .0) (qs .1 .1 .1 .0))
-              (List._∷_ (Row.lease (κs .1 .1 .1 .1 .0) (qs .1 .1 .1 .1 .0)) (List._∷_ Row.alive (List._∷_ Row.off (List._∷_ Row.off List.[])))))));
+          locals = List._++_ g19 t24;
+          slots = List._∷_ (Row.lease (κs .0) (qs .0)) (List._∷_ (Row.lease (κs .1 .0) (qs .1 .0)) (List._∷_ Row.off (List._∷_ Row.off (List._∷_ (Row.lease (κs .1 .1 .1 .1
+              .0) (qs .1 .1 .1 .1 .0)) (List._∷_ Row.alive (List._∷_ Row.alive (List._∷_ Row.off List.[])))))));
         }
 
         abbrev G32 : Row.Cx
         G32 = record {
-          locals = List._++_ g21 t25;
-          slots = List._∷_ (Row.lease (κs .0) (qs .0)) (List._∷_ (Row.lease (κs .1 .0) (qs .1 .0)) (List._∷_ Row.off (List._∷_ (Row.lease (κs .1 .1 .1 .0) (qs .1 .1 .1 .0))
-              (List._∷_ (Row.lease (κs .1 .1 .1 .1 .0) (qs .1 .1 .1 .1 .0)) (List._∷_ Row.alive (List._∷_ Row.off (List._∷_ Row.off List.[])))))));
+          locals = List._++_ g19 t25;
+          slots = List._∷_ (Row.lease (κs .0) (qs .0)) (List._∷_ (Row.lease (κs .1 .0) (qs .1 .0)) (List._∷_ Row.off (List._∷_ Row.off (List._∷_ (Row.lease (κs .1 .1 .1 .1
+              .0) (qs .1 .1 .1 .1 .0)) (List._∷_ Row.alive (List._∷_ Row.alive (List._∷_ Row.off List.[])))))));
         }
 
         abbrev G33 : Row.Cx
         G33 = record {
-          locals = List._++_ g21 t25;
-          slots = List._∷_ (Row.lease (κs .0) (qs .0)) (List._∷_ (Row.lease (κs .1 .0) (qs .1 .0)) (List._∷_ Row.off (List._∷_ (Row.lease (κs .1 .1 .1 .0) (qs .1 .1 .1 .0))
-              (List._∷_ (Row.lease (κs .1 .1 .1 .1 .0) (qs .1 .1 .1 .1 .0)) (List._∷_ Row.alive (List._∷_ Row.alive (List._∷_ Row.off List.[])))))));
+          locals = List._++_ g19 t25;
+          slots = List._∷_ (Row.lease (κs .0) (qs .0)) (List._∷_ (Row.lease (κs .1 .0) (qs .1 .0)) (List._∷_ Row.off (List._∷_ Row.off (List._∷_ (Row.lease (κs .1 .1 .1 .1
+              .0) (qs .1 .1 .1 .1 .0)) (List._∷_ Row.alive (List._∷_ Row.alive (List._∷_ Row.alive List.[])))))));
         }
 
         abbrev G34 : Row.Cx
         G34 = record {
           locals = List._++_ g26 t27;
-          slots = List._∷_ (Row.lease (κs .0) (qs .0)) (List._∷_ (Row.lease (κs .1 .0) (qs .1 .0)) (List._∷_ Row.off (List._∷_ Row.off (List._∷_ (Row.lease (κs .1 .1 .1 .1
-              .0) (qs .1 .1 .1 .1 .0)) (List._∷_ Row.alive (List._∷_ Row.alive (List._∷_ Row.off List.[])))))));
+          slots = List._∷_ (Row.lease (κs .0) (qs .0)) (List._∷_ (Row.lease (κs .1 .0) (qs .1 .0)) (List._∷_ Row.off (List._∷_ Row.off (List._∷_ Row.off (List._∷_ Row.alive
+              (List._∷_ Row.alive (List._∷_ Row.alive List.[])))))));
         }
 
         abbrev G35 : Row.Cx
         G35 = record {
           locals = List._++_ g26 t28;
-          slots = List._∷_ (Row.lease (κs .0) (qs .0)) (List._∷_ (Row.lease (κs .1 .0) (qs .1 .0)) (List._∷_ Row.off (List._∷_ Row.off (List._∷_ (Row.lease (κs .1 .1 .1 .1
-              .0) (qs .1 .1 .1 .1 .0)) (List._∷_ Row.alive (List._∷_ Row.alive (List._∷_ Row.off List.[])))))));
+          slots = List._∷_ (Row.lease (κs .0) (qs .0)) (List._∷_ (Row.lease (κs .1 .0) (qs .1 .0)) (List._∷_ Row.off (List._∷_ Row.off (List._∷_ Row.off (List._∷_ Row.alive
+              (List._∷_ Row.alive (List._∷_ Row.alive List.[])))))));
         }
 
         abbrev G36 : Row.Cx
         G36 = record {
           locals = List._++_ g26 t29;
-          slots = List._∷_ (Row.lease (κs .0) (qs .0)) (List._∷_ (Row.lease (κs .1 .0) (qs .1 .0)) (List._∷_ Row.off (List._∷_ Row.off (List._∷_ (Row.lease (κs .1 .1 .1 .1
-              .0) (qs .1 .1 .1 .1 .0)) (List._∷_ Row.alive (List._∷_ Row.alive (List._∷_ Row.off List.[])))))));
+          slots = List._∷_ (Row.lease (κs .0) (qs .0)) (List._∷_ (Row.lease (κs .1 .0) (qs .1 .0)) (List._∷_ Row.off (List._∷_ Row.off (List._∷_ Row.off (List._∷_ Row.alive
+              (List._∷_ Row.alive (List._∷_ Row.alive List.[])))))));
         }
 
         abbrev G37 : Row.Cx
         G37 = record {
           locals = List._++_ g26 t30;
-          slots = List._∷_ (Row.lease (κs .0) (qs .0)) (List._∷_ (Row.lease (κs .1 .0) (qs .1 .0)) (List._∷_ Row.off (List._∷_ Row.off (List._∷_ (Row.lease (κs .1 .1 .1 .1
-              .0) (qs .1 .1 .1 .1 .0)) (List._∷_ Row.alive (List._∷_ Row.alive (List._∷_ Row.off List.[])))))));
+          slots = List._∷_ (Row.lease (κs .0) (qs .0)) (List._∷_ (Row.lease (κs .1 .0) (qs .1 .0)) (List._∷_ Row.off (List._∷_ Row.off (List._∷_ Row.off (List._∷_ Row.alive
+              (List._∷_ Row.alive (List._∷_ Row.alive List.[])))))));
         }
 
         abbrev G38 : Row.Cx
         G38 = record {
-          locals = List._++_ g26 t31;
-          slots = List._∷_ (Row.lease (κs .0) (qs .0)) (List._∷_ (Row.lease (κs .1 .0) (qs .1 .0)) (List._∷_ Row.off (List._∷_ Row.off (List._∷_ (Row.lease (κs .1 .1 .1 .1
-              .0) (qs .1 .1 .1 .1 .0)) (List._∷_ Row.alive (List._∷_ Row.alive (List._∷_ Row.off List.[])))))));
+          locals = List._++_ g31 t32;
+          slots = List._∷_ (Row.lease (κs .0) (qs .0)) (List._∷_ (Row.lease (κs .1 .0) (qs .1 .0)) (List._∷_ Row.off (List._∷_ Row.off (List._∷_ Row.off (List._∷_ Row.alive
+              (List._∷_ Row.alive (List._∷_ Row.alive List.[])))))));
         }
 
         abbrev G39 : Row.Cx
         G39 = record {
-          locals = List._++_ g26 t32;
-          slots = List._∷_ (Row.lease (κs .0) (qs .0)) (List._∷_ (Row.lease (κs .1 .0) (qs .1 .0)) (List._∷_ Row.off (List._∷_ Row.off (List._∷_ (Row.lease (κs .1 .1 .1 .1
-              .0) (qs .1 .1 .1 .1 .0)) (List._∷_ Row.alive (List._∷_ Row.alive (List._∷_ Row.off List.[])))))));
+          locals = List._++_ g33 t32;
+          slots = List._∷_ (Row.lease (κs .0) (qs .0)) (List._∷_ (Row.lease (κs .1 .0) (qs .1 .0)) (List._∷_ Row.off (List._∷_ Row.off (List._∷_ Row.off (List._∷_ Row.alive
+              (List._∷_ Row.alive (List._∷_ Row.alive List.[])))))));
         }
 
         abbrev G40 : Row.Cx
         G40 = record {
-          locals = List._++_ g26 t32;
-          slots = List._∷_ (Row.lease (κs .0) (qs .0)) (List._∷_ (Row.lease (κs .1 .0) (qs .1 .0)) (List._∷_ Row.off (List._∷_ Row.off (List._∷_ (Row.lease (κs .1 .1 .1 .1
-              .0) (qs .1 .1 .1 .1 .0)) (List._∷_ Row.alive (List._∷_ Row.alive (List._∷_ Row.alive List.[])))))));
+          locals = List._++_ g34 t32;
+          slots = List._∷_ (Row.lease (κs .0) (qs .0)) (List._∷_ (Row.lease (κs .1 .0) (qs .1 .0)) (List._∷_ Row.off (List._∷_ Row.off (List._∷_ Row.off (List._∷_ Row.alive
+              (List._∷_ Row.alive (List._∷_ Row.alive List.[])))))));
         }
 
         abbrev G41 : Row.Cx
         G41 = record {
-          locals = List._++_ g33 t34;
+          locals = List._++_ g35 t32;
           slots = List._∷_ (Row.lease (κs .0) (qs .0)) (List._∷_ (Row.lease (κs .1 .0) (qs .1 .0)) (List._∷_ Row.off (List._∷_ Row.off (List._∷_ Row.off (List._∷_ Row.alive
               (List._∷_ Row.alive (List._∷_ Row.alive List.[])))))));
         }
 
         abbrev G42 : Row.Cx
         G42 = record {
-          locals = List._++_ g33 t35;
-          slots = List._∷_ (Row.lease (κs .0) (qs .0)) (List._∷_ (Row.lease (κs .1 .0) (qs .1 .0)) (List._∷_ Row.off (List._∷_ Row.off (List._∷_ Row.off (List._∷_ Row.alive
+          locals = List._++_ g35 t32;
+          slots = List._∷_ (Row.lease (κs .0) (qs .0)) (List._∷_ (Row.lease (κs .1 .0) (qs .1 .0)) (List._∷_ Row.off (List._∷_ Row.off (List._∷_ Row.off (List._∷_ Row.dead
               (List._∷_ Row.alive (List._∷_ Row.alive List.[])))))));
         }
 
         abbrev G43 : Row.Cx
         G43 = record {
-          locals = List._++_ g33 t36;
-          slots = List._∷_ (Row.lease (κs .0) (qs .0)) (List._∷_ (Row.lease (κs .1 .0) (qs .1 .0)) (List._∷_ Row.off (List._∷_ Row.off (List._∷_ Row.off (List._∷_ Row.alive
-              (List._∷_ Row.alive (List._∷_ Row.alive List.[])))))));
+          locals = List._++_ g36 t32;
+          slots = List._∷_ (Row.lease (κs .0) (qs .0)) (List._∷_ (Row.lease (κs .1 .0) (qs .1 .0)) (List._∷_ (Row.lease (κs .1 .1 .0) (qs .1 .1 .0)) (List._∷_ Row.off
+              (List._∷_ Row.off (List._∷_ Row.dead (List._∷_ Row.alive (List._∷_ Row.alive List.[])))))));
         }
 
         abbrev G44 : Row.Cx
         G44 = record {
-          locals = List._++_ g33 t37;
-          slots = List._∷_ (Row.lease (κs .0) (qs .0)) (List._∷_ (Row.lease (κs .1 .0) (qs .1 .0)) (List._∷_ Row.off (List._∷_ Row.off (List._∷_ Row.off (List._∷_ Row.alive
-              (List._∷_ Row.alive (List._∷_ Row.alive List.[])))))));
+          locals = List._++_ g36 t32;
+          slots = List._∷_ (Row.lease (κs .0) (qs .0)) (List._∷_ (Row.lease (κs .1 .0) (qs .1 .0)) (List._∷_ (Row.lease (κs .1 .1 .0) (qs .1 .1 .0)) (List._∷_ Row.off
+              (List._∷_ Row.off (List._∷_ Row.dead (List._∷_ Row.alive (List._∷_ Row.alive List.[])))))));
         }
 
         abbrev G45 : Row.Cx
         G45 = record {
-          locals = List._++_ g33 t38;
-          slots = List._∷_ (Row.lease (κs .0) (qs .0)) (List._∷_ (Row.lease (κs .1 .0) (qs .1 .0)) (List._∷_ Row.off (List._∷_ Row.off (List._∷_ Row.off (List._∷_ Row.alive
-              (List._∷_ Row.alive (List._∷_ Row.alive List.[])))))));
-        }
-
-        abbrev G46 : Row.Cx
-        G46 = record {
-          locals = List._++_ g33 t39;
-          slots = List._∷_ (Row.lease (κs .0) (qs .0)) (List._∷_ (Row.lease (κs .1 .0) (qs .1 .0)) (List._∷_ Row.off (List._∷_ Row.off (List._∷_ Row.off (List._∷_ Row.alive
-              (List._∷_ Row.alive (List._∷_ Row.alive List.[])))))));
-        }
-
-        abbrev G47 : Row.Cx
-        G47 = record {
-          locals = List._++_ g33 t40;
-          slots = List._∷_ (Row.lease (κs .0) (qs .0)) (List._∷_ (Row.lease (κs .1 .0) (qs .1 .0)) (List._∷_ Row.off (List._∷_ Row.off (List._∷_ Row.off (List._∷_ Row.alive
-              (List._∷_ Row.alive (List._∷_ Row.alive List.[])))))));
-        }
-
-        abbrev G48 : Row.Cx
-        G48 = record {
-          locals = List._++_ g33 t41;
-          slots = List._∷_ (Row.lease (κs .0) (qs .0)) (List._∷_ (Row.lease (κs .1 .0) (qs .1 .0)) (List._∷_ Row.off (List._∷_ Row.off (List._∷_ Row.off (List._∷_ Row.alive
-              (List._∷_ Row.alive (List._∷_ Row.alive List.[])))))));
-        }
-
-        abbrev G49 : Row.Cx
-        G49 = record {
-          locals = List._++_ g33 t42;
-          slots = List._∷_ (Row.lease (κs .0) (qs .0)) (List._∷_ (Row.lease (κs .1 .0) (qs .1 .0)) (List._∷_ Row.off (List._∷_ Row.off (List._∷_ Row.off (List._∷_ Row.alive
-              (List._∷_ Row.alive (List._∷_ Row.alive List.[])))))));
-        }
-
-        abbrev G50 : Row.Cx
-        G50 = record {
-          locals = List._++_ g33 t43;
-          slots = List._∷_ (Row.lease (κs .0) (qs .0)) (List._∷_ (Row.lease (κs .1 .0) (qs .1 .0)) (List._∷_ Row.off (List._∷_ Row.off (List._∷_ Row.off (List._∷_ Row.alive
-              (List._∷_ Row.alive (List._∷_ Row.alive List.[])))))));
-        }
-
-        abbrev G51 : Row.Cx
-        G51 = record {
-          locals = List._++_ g33 t44;
-          slots = List._∷_ (Row.lease (κs .0) (qs .0)) (List._∷_ (Row.lease (κs .1 .0) (qs .1 .0)) (List._∷_ Row.off (List._∷_ Row.off (List._∷_ Row.off (List._∷_ Row.alive
-              (List._∷_ Row.alive (List._∷_ Row.alive List.[])))))));
-        }
-
-        abbrev G52 : Row.Cx
-        G52 = record {
-          locals = List._++_ g33 t45;
-          slots = List._∷_ (Row.lease (κs .0) (qs .0)) (List._∷_ (Row.lease (κs .1 .0) (qs .1 .0)) (List._∷_ Row.off (List._∷_ Row.off (List._∷_ Row.off (List._∷_ Row.alive
-              (List._∷_ Row.alive (List._∷_ Row.alive List.[])))))));
-        }
-
-        abbrev G53 : Row.Cx
-        G53 = record {
-          locals = List._++_ g46 t45;
-          slots = List._∷_ (Row.lease (κs .0) (qs .0)) (List._∷_ (Row.lease (κs .1 .0) (qs .1 .0)) (List._∷_ Row.off (List._∷_ Row.off (List._∷_ Row.off (List._∷_ Row.alive
-              (List._∷_ Row.alive (List._∷_ Row.alive List.[])))))));
-        }
-
-        abbrev G54 : Row.Cx
-        G54 = record {
-          locals = List._++_ g47 t45;
-          slots = List._∷_ (Row.lease (κs .0) (qs .0)) (List._∷_ (Row.lease (κs .1 .0) (qs .1 .0)) (List._∷_ Row.off (List._∷_ Row.off (List._∷_ Row.off (List._∷_ Row.alive
-              (List._∷_ Row.alive (List._∷_ Row.alive List.[])))))));
-        }
-
-        abbrev G55 : Row.Cx
-        G55 = record {
-          locals = List._++_ g48 t45;
-          slots = List._∷_ (Row.lease (κs .0) (qs .0)) (List._∷_ (Row.lease (κs .1 .0) (qs .1 .0)) (List._∷_ Row.off (List._∷_ Row.off (List._∷_ Row.off (List._∷_ Row.alive
-              (List._∷_ Row.alive (List._∷_ Row.alive List.[])))))));
-        }
-
-        abbrev G56 : Row.Cx
-        G56 = record {
-          locals = List._++_ g48 t45;
-          slots = List._∷_ (Row.lease (κs .0) (qs .0)) (List._∷_ (Row.lease (κs .1 .0) (qs .1 .0)) (List._∷_ Row.off (List._∷_ Row.off (List._∷_ Row.off (List._∷_ Row.dead
-              (List._∷_ Row.alive (List._∷_ Row.alive List.[])))))));
-        }
-
-        abbrev G57 : Row.Cx
-        G57 = record {
-          locals = List._++_ g49 t50;
-          slots = List._∷_ (Row.lease (κs .0) (qs .0)) (List._∷_ (Row.lease (κs .1 .0) (qs .1 .0)) (List._∷_ (Row.lease (κs .1 .1 .0) (qs .1 .1 .0)) (List._∷_ Row.off
-              (List._∷_ Row.off (List._∷_ Row.dead (List._∷_ Row.alive (List._∷_ Row.alive List.[])))))));
-        }
-
-        abbrev G58 : Row.Cx
-        G58 = record {
-          locals = List._++_ g49 t50;
-          slots = List._∷_ (Row.lease (κs .0) (qs .0)) (List._∷_ (Row.lease (κs .1 .0) (qs .1 .0)) (List._∷_ (Row.lease (κs .1 .1 .0) (qs .1 .1 .0)) (List._∷_ Row.off
-              (List._∷_ Row.off (List._∷_ Row.dead (List._∷_ Row.alive (List._∷_ Row.alive List.[])))))));
-        }
-
-        abbrev G59 : Row.Cx
-        G59 = record {
-          locals = List._++_ g49 t50;
+          locals = List._++_ g36 t32;
           slots = List._∷_ (Row.lease (κs .0) (qs .0)) (List._∷_ (Row.lease (κs .1 .0) (qs .1 .0)) (List._∷_ (Row.lease (κs .1 .1 .0) (qs .1 .1 .0)) (List._∷_ Row.off
               (List._∷_ Row.off (List._∷_ Row.off (List._∷_ Row.alive (List._∷_ Row.alive List.[])))))));
         }
 
-        abbrev G60 : Row.Cx
-        G60 = record {
-          locals = List._++_ g49 t50;
+        abbrev G46 : Row.Cx
+        G46 = record {
+          locals = List._++_ g36 t32;
           slots = List._∷_ (Row.lease (κs .0) (qs .0)) (List._∷_ (Row.lease (κs .1 .0) (qs .1 .0)) (List._∷_ (Row.lease (κs .1 .1 .0) (qs .1 .1 .0)) (List._∷_ Row.off
               (List._∷_ Row.off (List._∷_ Row.off (List._∷_ Row.dead (List._∷_ Row.alive List.[])))))));
         }
 
-        abbrev G61 : Row.Cx
-        G61 = record {
-          locals = List._++_ g51 t52;
+        abbrev G47 : Row.Cx
+        G47 = record {
+          locals = List._++_ g37 t38;
           slots = List._∷_ (Row.lease (κs .0) (qs .0)) (List._∷_ (Row.lease (κs .1 .0) (qs .1 .0)) (List._∷_ (Row.lease (κs .1 .1 .0) (qs .1 .1 .0)) (List._∷_ (Row.lease
               (κs .1 .1 .1 .0) (qs .1 .1 .1 .0)) (List._∷_ Row.off (List._∷_ Row.off (List._∷_ Row.dead (List._∷_ Row.alive List.[])))))));
         }
 
-        abbrev G62 : Row.Cx
-        G62 = record {
-          locals = List._++_ g51 t52;
+        abbrev G48 : Row.Cx
+        G48 = record {
+          locals = List._++_ g37 t38;
           slots = List._∷_ (Row.lease (κs .0) (qs .0)) (List._∷_ (Row.lease (κs .1 .0) (qs .1 .0)) (List._∷_ (Row.lease (κs .1 .1 .0) (qs .1 .1 .0)) (List._∷_ (Row.lease
               (κs .1 .1 .1 .0) (qs .1 .1 .1 .0)) (List._∷_ Row.off (List._∷_ Row.off (List._∷_ Row.dead (List._∷_ Row.alive List.[])))))));
         }
 
-        abbrev G63 : Row.Cx
-        G63 = record {
-          locals = List._++_ g51 t52;
+        abbrev G49 : Row.Cx
+        G49 = record {
+          locals = List._++_ g37 t38;
           slots = List._∷_ (Row.lease (κs .0) (qs .0)) (List._∷_ (Row.lease (κs .1 .0) (qs .1 .0)) (List._∷_ (Row.lease (κs .1 .1 .0) (qs .1 .1 .0)) (List._∷_ (Row.lease
               (κs .1 .1 .1 .0) (qs .1 .1 .1 .0)) (List._∷_ Row.off (List._∷_ Row.off (List._∷_ Row.off (List._∷_ Row.alive List.[])))))));
         }
 
-        abbrev G64 : Row.Cx
-        G64 = record {
-          locals = List._++_ g51 t52;
+        abbrev G50 : Row.Cx
+        G50 = record {
+          locals = List._++_ g37 t38;
           slots = List._∷_ (Row.lease (κs .0) (qs .0)) (List._∷_ (Row.lease (κs .1 .0) (qs .1 .0)) (List._∷_ (Row.lease (κs .1 .1 .0) (qs .1 .1 .0)) (List._∷_ (Row.lease
               (κs .1 .1 .1 .0) (qs .1 .1 .1 .0)) (List._∷_ Row.off (List._∷_ Row.off (List._∷_ Row.off (List._∷_ Row.dead List.[])))))));
         }
 
-        abbrev G65 : Row.Cx
-        G65 = record {
-          locals = List._++_ t0 t7;
+        abbrev G51 : Row.Cx
+        G51 = record {
+          locals = List._++_ t3 t1;
           slots = List._∷_ (Row.lease (κs .0) (qs .0)) (List._∷_ (Row.lease (κs .1 .0) (qs .1 .0)) (List._∷_ (Row.lease (κs .1 .1 .0) (qs .1 .1 .0)) (List._∷_ (Row.lease (κs
               .1 .1 .1 .0) (qs .1 .1 .1 .0)) (List._∷_ (Row.lease (κs .1 .1 .1 .1 .0) (qs .1 .1 .1 .1 .0)) (List._∷_ Row.off (List._∷_ Row.off (List._∷_ Row.dead List.[])))))));
         }
 
-        abbrev G66 : Row.Cx
-        G66 = record {
-          locals = List._++_ t0 t7;
+        abbrev G52 : Row.Cx
+        G52 = record {
+          locals = List._++_ t3 t1;
           slots = List._∷_ (Row.lease (κs .0) (qs .0)) (List._∷_ (Row.lease (κs .1 .0) (qs .1 .0)) (List._∷_ (Row.lease (κs .1 .1 .0) (qs .1 .1 .0)) (List._∷_ (Row.lease (κs
               .1 .1 .1 .0) (qs .1 .1 .1 .0)) (List._∷_ (Row.lease (κs .1 .1 .1 .1 .0) (qs .1 .1 .1 .1 .0)) (List._∷_ Row.off (List._∷_ Row.off (List._∷_ Row.off List.[])))))));
         }
 
-        abbrev G67 : Row.Cx
-        G67 = record {
-          locals = List._++_ t53 t7;
+        abbrev G53 : Row.Cx
+        G53 = record {
+          locals = List._++_ t39 t1;
           slots = List._∷_ (Row.lease (κs .0) (qs .0)) (List._∷_ (Row.lease (κs .1 .0) (qs .1 .0)) (List._∷_ (Row.lease (κs .1 .1 .0) (qs .1 .1 .0)) (List._∷_ (Row.lease (κs
               .1 .1 .1 .0) (qs .1 .1 .1 .0)) (List._∷_ (Row.lease (κs .1 .1 .1 .1 .0) (qs .1 .1 .1 .1 .0)) (List._∷_ Row.off (List._∷_ Row.off (List._∷_ Row.off List.[])))))));
         }
 
-        abbrev G68 : Row.Cx
-        G68 = record {
-          locals = List._++_ t53 t1;
+        abbrev G54 : Row.Cx
+        G54 = record {
+          locals = List._++_ t40 t1;
           slots = List._∷_ (Row.lease (κs .0) (qs .0)) (List._∷_ (Row.lease (κs .1 .0) (qs .1 .0)) (List._∷_ (Row.lease (κs .1 .1 .0) (qs .1 .1 .0)) (List._∷_ (Row.lease (κs
               .1 .1 .1 .0) (qs .1 .1 .1 .0)) (List._∷_ (Row.lease (κs .1 .1 .1 .1 .0) (qs .1 .1 .1 .1 .0)) (List._∷_ Row.off (List._∷_ Row.off (List._∷_ Row.off List.[])))))));
         }
 
-        abbrev G69 : Row.Cx
-        G69 = record {
+        abbrev G55 : Row.Cx
+        G55 = record {
           locals = List._++_ t2 t1;
           slots = List._∷_ (Row.lease (κs .0) (qs .0)) (List._∷_ (Row.lease (κs .1 .0) (qs .1 .0)) (List._∷_ (Row.lease (κs .1 .1 .0) (qs .1 .1 .0)) (List._∷_ (Row.lease (κs
               .1 .1 .1 .0) (qs .1 .1 .1 .0)) (List._∷_ (Row.lease (κs .1 .1 .1 .1 .0) (qs .1 .1 .1 .1 .0)) (List._∷_ Row.off (List._∷_ Row.off (List._∷_ Row.off List.[])))))));
@@ -2085,16 +1682,16 @@ module _ (claims· : Claims) where
         Δ0 = record { next = Option.none; exits = List.[]; returns = Option.some G1 }
 
         abbrev Δ1 : Typed.Outs
-        Δ1 = Typed.withNext (Option.some G10) Δ0
+        Δ1 = Typed.withNext (Option.some G2) Δ0
 
         module _ {M : Type 1} (𝓤 : URA.URA M) (H : Wp.Heap 𝓤) (A : Atoms.Atoms 𝓤) (W : Kit.Given 𝓤 H A) (𝓣 : Wp.Tables 𝓤 H) (known : Knowns 𝓤 H A W 𝓣) (bs : List.List Nat.ℕ) (bd : Lifetimes.AllOutlive
             5 (Kinds.osR r) κs) where
           abbrev E : Wp.Env 𝓤 H
           E = Frame.EnvOf 𝓤 H (List._∷_ (Kinds.tyR r) (Enter.tysP ps xs)) bs
 
-          d0 : Typed.Typed 𝓤 H A 𝓣 E G17 b5 Δ1 at0
-          d0 = Typed.s-typed 𝓤 H A W 𝓣 E G17 b5 Δ1 (λ Ψ. Typed.pass T17 T18 s15 (Typed.pass T18 T19 s16 Ψ)) tt (Typed.g-post 𝓤 H A W 𝓣 E G17 G18 G19 b5 (Typed.pass T17 T18 s15) (Typed.pass T18 T19
-              s16) (Make.t-enum-make-wt 𝓤 H A W E 𝓣 BlockLength.the-type Laws'.the-laws Laws'.the-plain tt G17 16 (List._∷_ (Scalar.oInt Syntax.w8 1) (List._∷_ (Scalar.oAt 8 (Syntax.tyEnum (List._∷_ 115
+          d0 : Typed.Typed 𝓤 H A 𝓣 E G10 b1 Δ1 at0
+          d0 = Typed.s-typed 𝓤 H A W 𝓣 E G10 b1 Δ1 (λ Ψ. Typed.pass T10 T11 s8 (Typed.pass T11 T12 s9 Ψ)) tt (Typed.g-post 𝓤 H A W 𝓣 E G10 G11 G12 b1 (Typed.pass T10 T11 s8) (Typed.pass T11 T12 s9)
+              (Make.t-enum-make-wt 𝓤 H A W E 𝓣 BlockLength.the-type Laws'.the-laws Laws'.the-plain tt G10 13 (List._∷_ (Scalar.oInt Syntax.w8 1) (List._∷_ (Scalar.oAt 8 (Syntax.tyEnum (List._∷_ 115
               (List._∷_ 116 (List._∷_ 114 (List._∷_ 101 (List._∷_ 97 (List._∷_ 109 (List._∷_ 58 (List._∷_ 58 (List._∷_ 82 (List._∷_ 101 (List._∷_ 102 (List._∷_ 117 (List._∷_ 115 (List._∷_ 97 (List._∷_ 108
               List.[]))))))))))))))) (Syntax.ttcons Syntax.tnil (Syntax.ttcons Syntax.tnil (Syntax.ttcons Syntax.tnil (Syntax.ttcons (Syntax.tcons (Syntax.tyInt Syntax.w64) Syntax.tnil) (Syntax.ttcons
               Syntax.tnil (Syntax.ttcons Syntax.tnil (Syntax.ttcons Syntax.tnil (Syntax.ttcons Syntax.tnil (Syntax.ttcons Syntax.tnil (Syntax.ttcons Syntax.tnil (Syntax.ttcons (Syntax.tcons (Syntax.tyInt
@@ -2187,7 +1784,7 @@ module _ (claims· : Claims) where
                 ))
                     (Refusal.the-type .to (m .1 .1 .1 .1 .1 .1 .1 .1 .0)),
                 tt,
-              ) (wa .1)) (Scalar.g-room 𝓤 H A W E G18 8 (Syntax.tyEnum (List._∷_ 115 (List._∷_ 116 (List._∷_ 114 (List._∷_ 101 (List._∷_ 97
+              ) (wa .1)) (Scalar.g-room 𝓤 H A W E G11 8 (Syntax.tyEnum (List._∷_ 115 (List._∷_ 116 (List._∷_ 114 (List._∷_ 101 (List._∷_ 97
               (List._∷_ 109 (List._∷_ 58 (List._∷_ 58 (List._∷_ 82 (List._∷_ 101 (List._∷_ 102 (List._∷_ 117 (List._∷_ 115 (List._∷_ 97 (List._∷_ 108 List.[]))))))))))))))) (Syntax.ttcons Syntax.tnil
               (Syntax.ttcons Syntax.tnil (Syntax.ttcons Syntax.tnil (Syntax.ttcons (Syntax.tcons (Syntax.tyInt Syntax.w64) Syntax.tnil) (Syntax.ttcons Syntax.tnil (Syntax.ttcons Syntax.tnil (Syntax.ttcons
               Syntax.tnil (Syntax.ttcons Syntax.tnil (Syntax.ttcons Syntax.tnil (Syntax.ttcons Syntax.tnil (Syntax.ttcons (Syntax.tcons (Syntax.tyInt Syntax.w64) Syntax.tnil) (Syntax.ttcons (Syntax.tcons
@@ -2202,8 +1799,8 @@ module _ (claims· : Claims) where
               Syntax.tnil) (Syntax.ttcons Syntax.tnil (Syntax.ttcons Syntax.tnil (Syntax.ttcons (Syntax.tcons (Syntax.tyInt Syntax.w64) Syntax.tnil) (Syntax.ttcons (Syntax.tcons (Syntax.tyInt Syntax.w64)
               Syntax.tnil) (Syntax.ttcons (Syntax.tcons (Syntax.tyInt Syntax.w64) Syntax.tnil) (Syntax.ttcons Syntax.tnil Syntax.ttnil)))))))))))))))))))))) Path'.refl)))
 
-          d1 : Typed.Typed 𝓤 H A 𝓣 E G16 b5 Δ1 at1
-          d1 = Typed.g-pre 𝓤 H A W 𝓣 E G16 G17 b5 Δ1 (Typed.pass T16 T17 s14) at0 (Scalar.g-room 𝓤 H A W E G16 7 (Syntax.tyEnum (List._∷_ 115 (List._∷_ 116 (List._∷_ 114 (List._∷_ 101 (List._∷_ 97
+          d1 : Typed.Typed 𝓤 H A 𝓣 E G9 b1 Δ1 at1
+          d1 = Typed.g-pre 𝓤 H A W 𝓣 E G9 G10 b1 Δ1 (Typed.pass T9 T10 s7) at0 (Scalar.g-room 𝓤 H A W E G9 1 (Syntax.tyEnum (List._∷_ 115 (List._∷_ 116 (List._∷_ 114 (List._∷_ 101 (List._∷_ 97
               (List._∷_ 109 (List._∷_ 58 (List._∷_ 58 (List._∷_ 80 (List._∷_ 97 (List._∷_ 114 (List._∷_ 115 (List._∷_ 101 (List._∷_ 100 List.[])))))))))))))) (Syntax.ttcons (Syntax.tcons y0 Syntax.tnil)
               (Syntax.ttcons (Syntax.tcons (Syntax.tyEnum (List._∷_ 115 (List._∷_ 116 (List._∷_ 114 (List._∷_ 101 (List._∷_ 97 (List._∷_ 109 (List._∷_ 58 (List._∷_ 58 (List._∷_ 82 (List._∷_ 101 (List._∷_
               102 (List._∷_ 117 (List._∷_ 115 (List._∷_ 97 (List._∷_ 108 List.[]))))))))))))))) (Syntax.ttcons Syntax.tnil (Syntax.ttcons Syntax.tnil (Syntax.ttcons Syntax.tnil (Syntax.ttcons
@@ -2222,24 +1819,24 @@ module _ (claims· : Claims) where
               (Syntax.tyInt Syntax.w64) Syntax.tnil) (Syntax.ttcons (Syntax.tcons (Syntax.tyInt Syntax.w64) Syntax.tnil) (Syntax.ttcons (Syntax.tcons (Syntax.tyInt Syntax.w64) Syntax.tnil) (Syntax.ttcons
               Syntax.tnil Syntax.ttnil)))))))))))))))))))))) Syntax.tnil) Syntax.ttnil))) Path'.refl)) d0
 
-          d2 : Typed.Typed 𝓤 H A 𝓣 E G15 b6 Δ1 at2
-          d2 = Typed.s-seq 𝓤 H A W 𝓣 E G15 G16 b4 b5 Δ1 (Typed.pass T15 T16 s13) at1 (CopyOut.t-copy-told 𝓤 H A W E 𝓣 (Declared.row Refusal.the-type) Path'.refl (Laws'5.val Refusal.the-type
-              Laws'4.the-laws) (Laws'5.lawful Refusal.the-type Laws'4.the-laws 𝓤 H A W tt) (Laws'5.makes Refusal.the-type Laws'4.the-plain 𝓤 H A) G15 8 (Scalar.oFld 7 (List._∷_ (Syntax.variant 1)
-              (List._∷_ (Syntax.field 1) List.[])) (Syntax.tyEnum (List._∷_ 115 (List._∷_ 116 (List._∷_ 114 (List._∷_ 101 (List._∷_ 97 (List._∷_ 109 (List._∷_ 58 (List._∷_ 58 (List._∷_ 82 (List._∷_ 101
-              (List._∷_ 102 (List._∷_ 117 (List._∷_ 115 (List._∷_ 97 (List._∷_ 108 List.[]))))))))))))))) (Syntax.ttcons Syntax.tnil (Syntax.ttcons Syntax.tnil (Syntax.ttcons Syntax.tnil (Syntax.ttcons
+          d2 : Typed.Typed 𝓤 H A 𝓣 E G8 b2 Δ1 at2
+          d2 = Typed.s-seq 𝓤 H A W 𝓣 E G8 G9 b0 b1 Δ1 (Typed.pass T8 T9 s6) at1 (CopyOut.t-copy-told 𝓤 H A W E 𝓣 (Declared.row Refusal.the-type) Path'.refl (Laws'5.val Refusal.the-type
+              Laws'4.the-laws) (Laws'5.lawful Refusal.the-type Laws'4.the-laws 𝓤 H A W tt) (Laws'5.makes Refusal.the-type Laws'4.the-plain 𝓤 H A) G8 8 (Scalar.oFld 1 (List._∷_ (Syntax.variant 1) (List._∷_
+              (Syntax.field 1) List.[])) (Syntax.tyEnum (List._∷_ 115 (List._∷_ 116 (List._∷_ 114 (List._∷_ 101 (List._∷_ 97 (List._∷_ 109 (List._∷_ 58 (List._∷_ 58 (List._∷_ 82 (List._∷_ 101 (List._∷_
+              102 (List._∷_ 117 (List._∷_ 115 (List._∷_ 97 (List._∷_ 108 List.[]))))))))))))))) (Syntax.ttcons Syntax.tnil (Syntax.ttcons Syntax.tnil (Syntax.ttcons Syntax.tnil (Syntax.ttcons
               (Syntax.tcons (Syntax.tyInt Syntax.w64) Syntax.tnil) (Syntax.ttcons Syntax.tnil (Syntax.ttcons Syntax.tnil (Syntax.ttcons Syntax.tnil (Syntax.ttcons Syntax.tnil (Syntax.ttcons Syntax.tnil
               (Syntax.ttcons Syntax.tnil (Syntax.ttcons (Syntax.tcons (Syntax.tyInt Syntax.w64) Syntax.tnil) (Syntax.ttcons (Syntax.tcons (Syntax.tyInt Syntax.w64) Syntax.tnil) (Syntax.ttcons Syntax.tnil
               (Syntax.ttcons (Syntax.tcons (Syntax.tyInt Syntax.w64) (Syntax.tcons (Syntax.tyInt Syntax.w64) Syntax.tnil)) (Syntax.ttcons (Syntax.tcons (Syntax.tyInt Syntax.w64) Syntax.tnil)
               (Syntax.ttcons Syntax.tnil (Syntax.ttcons Syntax.tnil (Syntax.ttcons (Syntax.tcons (Syntax.tyInt Syntax.w64) Syntax.tnil) (Syntax.ttcons (Syntax.tcons (Syntax.tyInt Syntax.w64) Syntax.tnil)
               (Syntax.ttcons (Syntax.tcons (Syntax.tyInt Syntax.w64) Syntax.tnil) (Syntax.ttcons Syntax.tnil Syntax.ttnil)))))))))))))))))))))) 8 λ v. Laws'5.val Refusal.the-type Laws'4.the-laws (v .0))
-              (λ m. m .1 .1 .1 .1 .1 .1 .1 .0 .0) (λ m. Laws'5.Fields (Declared.variants Parsed.the-type) (Laws'5.spellss (Parsed.enum .parts) Laws'3.the-laws) (Parsed.the-type .to (Known.at Parsed.enum 1
-              (m .1 .1 .1 .1 .1 .1 .1 .0)))) (Reads'.room-gone 𝓤 H A (Syntax.tyEnum (List._∷_ 115 (List._∷_ 116 (List._∷_ 114 (List._∷_ 101 (List._∷_ 97 (List._∷_ 109 (List._∷_ 58 (List._∷_ 58 (List._∷_
-              82 (List._∷_ 101 (List._∷_ 102 (List._∷_ 117 (List._∷_ 115 (List._∷_ 97 (List._∷_ 108 List.[]))))))))))))))) (Syntax.ttcons Syntax.tnil (Syntax.ttcons Syntax.tnil (Syntax.ttcons Syntax.tnil
-              (Syntax.ttcons (Syntax.tcons (Syntax.tyInt Syntax.w64) Syntax.tnil) (Syntax.ttcons Syntax.tnil (Syntax.ttcons Syntax.tnil (Syntax.ttcons Syntax.tnil (Syntax.ttcons Syntax.tnil (Syntax.ttcons
-              Syntax.tnil (Syntax.ttcons Syntax.tnil (Syntax.ttcons (Syntax.tcons (Syntax.tyInt Syntax.w64) Syntax.tnil) (Syntax.ttcons (Syntax.tcons (Syntax.tyInt Syntax.w64) Syntax.tnil) (Syntax.ttcons
-              Syntax.tnil (Syntax.ttcons (Syntax.tcons (Syntax.tyInt Syntax.w64) (Syntax.tcons (Syntax.tyInt Syntax.w64) Syntax.tnil)) (Syntax.ttcons (Syntax.tcons (Syntax.tyInt Syntax.w64) Syntax.tnil)
-              (Syntax.ttcons Syntax.tnil (Syntax.ttcons Syntax.tnil (Syntax.ttcons (Syntax.tcons (Syntax.tyInt Syntax.w64) Syntax.tnil) (Syntax.ttcons (Syntax.tcons (Syntax.tyInt Syntax.w64) Syntax.tnil)
-              (Syntax.ttcons (Syntax.tcons (Syntax.tyInt Syntax.w64) Syntax.tnil) (Syntax.ttcons Syntax.tnil Syntax.ttnil))))))))))))))))))))))) (
+              (λ m. m .1 .0 .0) (λ m. Laws'5.Fields (Declared.variants Parsed.the-type) (Laws'5.spellss (Parsed.enum .parts) Laws'3.the-laws) (Parsed.the-type .to (Known.at Parsed.enum 1 (m .1 .0))))
+              (Reads'.room-gone 𝓤 H A (Syntax.tyEnum (List._∷_ 115 (List._∷_ 116 (List._∷_ 114 (List._∷_ 101 (List._∷_ 97 (List._∷_ 109 (List._∷_ 58 (List._∷_ 58 (List._∷_ 82 (List._∷_ 101 (List._∷_ 102
+              (List._∷_ 117 (List._∷_ 115 (List._∷_ 97 (List._∷_ 108 List.[]))))))))))))))) (Syntax.ttcons Syntax.tnil (Syntax.ttcons Syntax.tnil (Syntax.ttcons Syntax.tnil (Syntax.ttcons (Syntax.tcons
+              (Syntax.tyInt Syntax.w64) Syntax.tnil) (Syntax.ttcons Syntax.tnil (Syntax.ttcons Syntax.tnil (Syntax.ttcons Syntax.tnil (Syntax.ttcons Syntax.tnil (Syntax.ttcons Syntax.tnil (Syntax.ttcons
+              Syntax.tnil (Syntax.ttcons (Syntax.tcons (Syntax.tyInt Syntax.w64) Syntax.tnil) (Syntax.ttcons (Syntax.tcons (Syntax.tyInt Syntax.w64) Syntax.tnil) (Syntax.ttcons Syntax.tnil (Syntax.ttcons
+              (Syntax.tcons (Syntax.tyInt Syntax.w64) (Syntax.tcons (Syntax.tyInt Syntax.w64) Syntax.tnil)) (Syntax.ttcons (Syntax.tcons (Syntax.tyInt Syntax.w64) Syntax.tnil) (Syntax.ttcons Syntax.tnil
+              (Syntax.ttcons Syntax.tnil (Syntax.ttcons (Syntax.tcons (Syntax.tyInt Syntax.w64) Syntax.tnil) (Syntax.ttcons (Syntax.tcons (Syntax.tyInt Syntax.w64) Syntax.tnil) (Syntax.ttcons
+              (Syntax.tcons (Syntax.tyInt Syntax.w64) Syntax.tnil) (Syntax.ttcons Syntax.tnil Syntax.ttnil))))))))))))))))))))))) (
                 Match.reads-payload 𝓤 H A W Parsed.enum Laws'3.the-laws 1 Path'.refl Path'.refl (λ v. Val.vcons (Laws'5.val Refusal.the-type Laws'4.the-laws (v .0)) Val.vnil) (λ v. Path'.refl) 0
                     (Syntax.tyEnum (List._∷_ 115 (List._∷_ 116 (List._∷_ 114 (List._∷_ 101 (List._∷_ 97 (List._∷_ 109 (List._∷_ 58 (List._∷_ 58 (List._∷_ 82 (List._∷_ 101 (List._∷_ 102 (List._∷_ 117 (List._∷_
                     115 (List._∷_ 97 (List._∷_ 108 List.[]))))))))))))))) (Syntax.ttcons Syntax.tnil (Syntax.ttcons Syntax.tnil (Syntax.ttcons Syntax.tnil (Syntax.ttcons (Syntax.tcons (Syntax.tyInt Syntax.w64)
@@ -2249,56 +1846,53 @@ module _ (claims· : Claims) where
                     (Syntax.ttcons (Syntax.tcons (Syntax.tyInt Syntax.w64) Syntax.tnil) (Syntax.ttcons (Syntax.tcons (Syntax.tyInt Syntax.w64) Syntax.tnil) (Syntax.ttcons (Syntax.tcons (Syntax.tyInt Syntax.w64)
                     Syntax.tnil) (Syntax.ttcons Syntax.tnil Syntax.ttnil)))))))))))))))))))))) 8 Path'.refl,
                 Path'.refl,
-              ) Path'.refl (λ ρ m. Make'.tells-row 𝓤 H A W E ρ (Row.out 8 (G15 .locals)) m 7
-              (Laws'5.Fields (Declared.variants Parsed.the-type) (Laws'5.spellss (Parsed.enum .parts) Laws'3.the-laws) (Parsed.the-type .to (Known.at Parsed.enum 1 (m .1 .1 .1 .1 .1 .1 .1 .0))))
-              (Known.known-is 𝓤 H A W E Parsed.enum 1 Laws'3.the-laws ρ 7 (m .1 .1 .1 .1 .1 .1 .1 .0))) (λ m k wa. Path'.refl) λ m k wa. k .0) d1
+              ) Path'.refl (λ ρ m. Make'.tells-row 𝓤 H A W E ρ (Row.out 8 (G8 .locals)) m 1
+              (Laws'5.Fields (Declared.variants Parsed.the-type) (Laws'5.spellss (Parsed.enum .parts) Laws'3.the-laws) (Parsed.the-type .to (Known.at Parsed.enum 1 (m .1 .0)))) (Known.known-is 𝓤 H A W E
+              Parsed.enum 1 Laws'3.the-laws ρ 1 (m .1 .0))) (λ m k wa. Path'.refl) λ m k wa. k .0) d1
 
-          d3 : Typed.Typed 𝓤 H A 𝓣 E G14 b6 Δ1 at3
-          d3 = Typed.g-pre 𝓤 H A W 𝓣 E G14 G15 b6 Δ1 (Typed.give s12) at2 (Known.g-known-told 𝓤 H A W E Parsed.enum 1 G14 7 Laws'3.the-laws (λ x. x) (Reads'.as-is 𝓤 H A (Rows.whole (Known.Known
+          d3 : Typed.Typed 𝓤 H A 𝓣 E G7 b2 Δ1 at3
+          d3 = Typed.g-pre 𝓤 H A W 𝓣 E G7 G8 b2 Δ1 (Typed.give s5) at2 (Known.g-known-told 𝓤 H A W E Parsed.enum 1 G7 1 Laws'3.the-laws (λ x. x) (Reads'.as-is 𝓤 H A (Rows.whole (Known.Known
               Parsed.enum 1)))) d2
 
-          d4 : Typed.Typed 𝓤 H A 𝓣 E G13 b6 Δ1 at4
-          d4 = Typed.g-pre 𝓤 H A W 𝓣 E G13 G14 b6 Δ1 (Typed.both s11) at3 (Known.g-enum-known 𝓤 H A W E Parsed.enum 1 G13 7 (λ x. x) (Reads'.as-is 𝓤 H A (Rows.whole (Declared.row Parsed.the-type))))
-              d3
+          d4 : Typed.Typed 𝓤 H A 𝓣 E G6 b2 Δ1 at4
+          d4 = Typed.g-pre 𝓤 H A W 𝓣 E G6 G7 b2 Δ1 (Typed.both s4) at3 (Known.g-enum-known 𝓤 H A W E Parsed.enum 1 G6 1 (λ x. x) (Reads'.as-is 𝓤 H A (Rows.whole (Declared.row Parsed.the-type)))) d3
 
-          d5 : Typed.Typed 𝓤 H A 𝓣 E G50 b25 Δ1 at5
-          d5 = Typed.s-typed 𝓤 H A W 𝓣 E G50 b25 Δ1 (λ Ψ. Typed.both s48 (Typed.pass T51 T52 s49 (Typed.pass T52 T53 s50 (Typed.pass T53 T54 s51 (Typed.pass T54 T55 s52 (Typed.both s54 (Typed.give s55
-              (Typed.both s58 (Typed.give s59 (Typed.both s62 Ψ)))))))))) tt (Typed.g-post 𝓤 H A W 𝓣 E G50 G65 G66 b25 (λ Ψ. Typed.both s48 (Typed.pass T51 T52 s49 (Typed.pass T52 T53 s50 (Typed.pass T53
-              T54 s51 (Typed.pass T54 T55 s52 (Typed.both s54 (Typed.give s55 (Typed.both s58 (Typed.give s59 (Typed.both s62 Ψ)))))))))) (λ Ψ. Ψ) (Typed.g-post 𝓤 H A W 𝓣 E G50 G64 G65 b25 (λ Ψ.
-              Typed.both s48 (Typed.pass T51 T52 s49 (Typed.pass T52 T53 s50 (Typed.pass T53 T54 s51 (Typed.pass T54 T55 s52 (Typed.both s54 (Typed.give s55 (Typed.both s58 (Typed.give s59 Ψ)))))))))
-              (Typed.both s62) (Typed.g-post 𝓤 H A W 𝓣 E G50 G63 G64 b25 (λ Ψ. Typed.both s48 (Typed.pass T51 T52 s49 (Typed.pass T52 T53 s50 (Typed.pass T53 T54 s51 (Typed.pass T54 T55 s52 (Typed.both
-              s54 (Typed.give s55 (Typed.both s58 (Typed.give s59 Ψ))))))))) (λ Ψ. Ψ) (Typed.g-post 𝓤 H A W 𝓣 E G50 G62 G63 b25 (λ Ψ. Typed.both s48 (Typed.pass T51 T52 s49 (Typed.pass T52 T53 s50
-              (Typed.pass T53 T54 s51 (Typed.pass T54 T55 s52 (Typed.both s54 (Typed.give s55 (Typed.both s58 (Typed.give s59 Ψ))))))))) (λ Ψ. Ψ) (Typed.g-post 𝓤 H A W 𝓣 E G50 G61 G62 b25 (λ Ψ. Typed.both
-              s48 (Typed.pass T51 T52 s49 (Typed.pass T52 T53 s50 (Typed.pass T53 T54 s51 (Typed.pass T54 T55 s52 (Typed.both s54 (Typed.give s55 (Typed.both s58 Ψ)))))))) (Typed.give s59) (Typed.g-post 𝓤
-              H A W 𝓣 E G50 G60 G61 b25 (λ Ψ. Typed.both s48 (Typed.pass T51 T52 s49 (Typed.pass T52 T53 s50 (Typed.pass T53 T54 s51 (Typed.pass T54 T55 s52 (Typed.both s54 (Typed.give s55 Ψ)))))))
-              (Typed.both s58) (Typed.g-post 𝓤 H A W 𝓣 E G50 G59 G60 b25 (λ Ψ. Typed.both s48 (Typed.pass T51 T52 s49 (Typed.pass T52 T53 s50 (Typed.pass T53 T54 s51 (Typed.pass T54 T55 s52 (Typed.both
-              s54 (Typed.give s55 Ψ))))))) (λ Ψ. Ψ) (Typed.g-post 𝓤 H A W 𝓣 E G50 G58 G59 b25 (λ Ψ. Typed.both s48 (Typed.pass T51 T52 s49 (Typed.pass T52 T53 s50 (Typed.pass T53 T54 s51 (Typed.pass T54
-              T55 s52 (Typed.both s54 (Typed.give s55 Ψ))))))) (λ Ψ. Ψ) (Typed.g-post 𝓤 H A W 𝓣 E G50 G57 G58 b25 (λ Ψ. Typed.both s48 (Typed.pass T51 T52 s49 (Typed.pass T52 T53 s50 (Typed.pass T53 T54
-              s51 (Typed.pass T54 T55 s52 (Typed.both s54 Ψ)))))) (Typed.give s55) (Typed.g-post 𝓤 H A W 𝓣 E G50 G56 G57 b25 (λ Ψ. Typed.both s48 (Typed.pass T51 T52 s49 (Typed.pass T52 T53 s50
-              (Typed.pass T53 T54 s51 (Typed.pass T54 T55 s52 Ψ))))) (Typed.both s54) (Typed.g-post 𝓤 H A W 𝓣 E G50 G55 G56 b25 (λ Ψ. Typed.both s48 (Typed.pass T51 T52 s49 (Typed.pass T52 T53 s50
-              (Typed.pass T53 T54 s51 (Typed.pass T54 T55 s52 Ψ))))) (λ Ψ. Ψ) (Typed.g-post 𝓤 H A W 𝓣 E G50 G54 G55 b25 (λ Ψ. Typed.both s48 (Typed.pass T51 T52 s49 (Typed.pass T52 T53 s50 (Typed.pass T53
-              T54 s51 Ψ)))) (Typed.pass T54 T55 s52) (Typed.g-post 𝓤 H A W 𝓣 E G50 G53 G54 b25 (λ Ψ. Typed.both s48 (Typed.pass T51 T52 s49 (Typed.pass T52 T53 s50 Ψ))) (Typed.pass T53 T54 s51)
-              (Typed.g-post 𝓤 H A W 𝓣 E G50 G52 G53 b25 (λ Ψ. Typed.both s48 (Typed.pass T51 T52 s49 Ψ)) (Typed.pass T52 T53 s50) (Typed.g-post 𝓤 H A W 𝓣 E G50 G51 G52 b25 (Typed.both s48) (Typed.pass T51
-              T52 s49) (Plain.t-call-plain 𝓤 H A W 𝓣 5 ps·4 r·4 (claims· .8) (claims· .9) "block::writer::write_set" (known .4) E (λ pos β. β) G50 (
-                record { pos = 2; ty = Syntax.tyRef (Syntax.named 1) Syntax.imm (Syntax.tyInt Syntax.w16); ref = λ x. x },
+          d5 : Typed.Typed 𝓤 H A 𝓣 E G37 b17 Δ1 at5
+          d5 = Typed.s-typed 𝓤 H A W 𝓣 E G37 b17 Δ1 (λ Ψ. Typed.both s35 (Typed.pass T38 T39 s36 (Typed.pass T39 T40 s37 (Typed.pass T40 T41 s38 (Typed.both s40 (Typed.give s41 (Typed.both s44
+              (Typed.give s45 (Typed.both s48 Ψ))))))))) tt (Typed.g-post 𝓤 H A W 𝓣 E G37 G51 G52 b17 (λ Ψ. Typed.both s35 (Typed.pass T38 T39 s36 (Typed.pass T39 T40 s37 (Typed.pass T40 T41 s38
+              (Typed.both s40 (Typed.give s41 (Typed.both s44 (Typed.give s45 (Typed.both s48 Ψ))))))))) (λ Ψ. Ψ) (Typed.g-post 𝓤 H A W 𝓣 E G37 G50 G51 b17 (λ Ψ. Typed.both s35 (Typed.pass T38 T39 s36
+              (Typed.pass T39 T40 s37 (Typed.pass T40 T41 s38 (Typed.both s40 (Typed.give s41 (Typed.both s44 (Typed.give s45 Ψ)))))))) (Typed.both s48) (Typed.g-post 𝓤 H A W 𝓣 E G37 G49 G50 b17 (λ Ψ.
+              Typed.both s35 (Typed.pass T38 T39 s36 (Typed.pass T39 T40 s37 (Typed.pass T40 T41 s38 (Typed.both s40 (Typed.give s41 (Typed.both s44 (Typed.give s45 Ψ)))))))) (λ Ψ. Ψ) (Typed.g-post 𝓤 H A
+              W 𝓣 E G37 G48 G49 b17 (λ Ψ. Typed.both s35 (Typed.pass T38 T39 s36 (Typed.pass T39 T40 s37 (Typed.pass T40 T41 s38 (Typed.both s40 (Typed.give s41 (Typed.both s44 (Typed.give s45 Ψ))))))))
+              (λ Ψ. Ψ) (Typed.g-post 𝓤 H A W 𝓣 E G37 G47 G48 b17 (λ Ψ. Typed.both s35 (Typed.pass T38 T39 s36 (Typed.pass T39 T40 s37 (Typed.pass T40 T41 s38 (Typed.both s40 (Typed.give s41 (Typed.both
+              s44 Ψ))))))) (Typed.give s45) (Typed.g-post 𝓤 H A W 𝓣 E G37 G46 G47 b17 (λ Ψ. Typed.both s35 (Typed.pass T38 T39 s36 (Typed.pass T39 T40 s37 (Typed.pass T40 T41 s38 (Typed.both s40
+              (Typed.give s41 Ψ)))))) (Typed.both s44) (Typed.g-post 𝓤 H A W 𝓣 E G37 G45 G46 b17 (λ Ψ. Typed.both s35 (Typed.pass T38 T39 s36 (Typed.pass T39 T40 s37 (Typed.pass T40 T41 s38 (Typed.both
+              s40 (Typed.give s41 Ψ)))))) (λ Ψ. Ψ) (Typed.g-post 𝓤 H A W 𝓣 E G37 G44 G45 b17 (λ Ψ. Typed.both s35 (Typed.pass T38 T39 s36 (Typed.pass T39 T40 s37 (Typed.pass T40 T41 s38 (Typed.both s40
+              (Typed.give s41 Ψ)))))) (λ Ψ. Ψ) (Typed.g-post 𝓤 H A W 𝓣 E G37 G43 G44 b17 (λ Ψ. Typed.both s35 (Typed.pass T38 T39 s36 (Typed.pass T39 T40 s37 (Typed.pass T40 T41 s38 (Typed.both s40 Ψ)))))
+              (Typed.give s41) (Typed.g-post 𝓤 H A W 𝓣 E G37 G42 G43 b17 (λ Ψ. Typed.both s35 (Typed.pass T38 T39 s36 (Typed.pass T39 T40 s37 (Typed.pass T40 T41 s38 Ψ)))) (Typed.both s40) (Typed.g-post 𝓤
+              H A W 𝓣 E G37 G41 G42 b17 (λ Ψ. Typed.both s35 (Typed.pass T38 T39 s36 (Typed.pass T39 T40 s37 (Typed.pass T40 T41 s38 Ψ)))) (λ Ψ. Ψ) (Typed.g-post 𝓤 H A W 𝓣 E G37 G40 G41 b17 (λ Ψ.
+              Typed.both s35 (Typed.pass T38 T39 s36 (Typed.pass T39 T40 s37 Ψ))) (Typed.pass T40 T41 s38) (Typed.g-post 𝓤 H A W 𝓣 E G37 G39 G40 b17 (λ Ψ. Typed.both s35 (Typed.pass T38 T39 s36 Ψ))
+              (Typed.pass T39 T40 s37) (Typed.g-post 𝓤 H A W 𝓣 E G37 G38 G39 b17 (Typed.both s35) (Typed.pass T38 T39 s36) (Plain.t-call-plain 𝓤 H A W 𝓣 5 ps·3 r·3 (claims· .6) (claims· .7)
+              "block::writer::write_set" (known .3) E (λ pos β. β) G37 (
+                record { pos = 3; ty = Syntax.tyRef (Syntax.named 1) Syntax.imm (Syntax.tyInt Syntax.w16); ref = λ x. x },
                 (
-                  record { pos = 18; ty = Syntax.tyRef Syntax.erased Syntax.mut (Syntax.tyInt Syntax.w8); ref = λ x. x },
+                  record { pos = 15; ty = Syntax.tyRef Syntax.erased Syntax.mut (Syntax.tyInt Syntax.w8); ref = λ x. x },
                   (
-                    Bool.bAt 4 λ x. x,
+                    Bool.bAt 5 λ x. x,
                     (
-                      record { pos = 22; ty = Syntax.tyRef Syntax.erased Syntax.mut (Syntax.tyInt Syntax.w16); ref = λ x. x },
+                      record { pos = 19; ty = Syntax.tyRef Syntax.erased Syntax.mut (Syntax.tyInt Syntax.w16); ref = λ x. x },
                       (
-                        record { pos = 26; ty = Syntax.tyRef Syntax.erased Syntax.mut Element.behind; ref = λ x. x },
+                        record { pos = 23; ty = Syntax.tyRef Syntax.erased Syntax.mut Element.behind; ref = λ x. x },
                         (
                           record { pos = 11; st = List.[]; d = 0; at = λ x. x },
-                          (record { pos = 30; ty = Syntax.tyRef Syntax.erased Syntax.imm (Syntax.tyInt Syntax.w8); ref = λ x. x }, (Num.vAt 12 λ x. x, tt)),
+                          (record { pos = 2; ty = Syntax.tyRef (Syntax.named 0) Syntax.imm (Syntax.tyInt Syntax.w8); ref = λ x. x }, (Num.vAt 12 λ x. x, tt)),
                         ),
                       ),
                     ),
                   ),
                 ),
-              ) 16 (List._∷_ 1 (List._∷_ 5 (List._∷_ 6 (List._∷_ 7
-              (List._∷_ 0 List.[]))))) (Call.sub-id 𝓤 H A W (G50 .slots)) (
+              ) 13 (List._∷_ 1 (List._∷_ 5 (List._∷_ 6 (List._∷_ 7
+              (List._∷_ 0 List.[]))))) (Call.sub-id 𝓤 H A W (G37 .slots)) (
                 ShrSlice.spares-sslice 𝓤 H A W (Referent.rtF (Referent.fInt Syntax.w16)) (Syntax.tyRef (Syntax.named 1) Syntax.imm (Syntax.tyInt Syntax.w16)) 1,
                 Shared.reads-sslice 𝓤 H A W (Referent.rtF
                     (Referent.fInt Syntax.w16)) (Syntax.tyRef (Syntax.named 1) Syntax.imm (Syntax.tyInt Syntax.w16)) 1,
@@ -2327,9 +1921,9 @@ module _ (claims· : Claims) where
                             Path'.refl,
                           ),
                           (
-                            ShrSlice.spares-sslice 𝓤 H A W (Referent.rtF (Referent.fInt Syntax.w8)) (Syntax.tyRef Syntax.erased Syntax.imm (Syntax.tyInt Syntax.w8)) 0,
+                            ShrSlice.spares-sslice 𝓤 H A W (Referent.rtF (Referent.fInt Syntax.w8)) (Syntax.tyRef (Syntax.named 0) Syntax.imm (Syntax.tyInt Syntax.w8)) 0,
                             Shared.reads-sslice 𝓤 H A W (Referent.rtF
-                                (Referent.fInt Syntax.w8)) (Syntax.tyRef Syntax.erased Syntax.imm (Syntax.tyInt Syntax.w8)) 0,
+                                (Referent.fInt Syntax.w8)) (Syntax.tyRef (Syntax.named 0) Syntax.imm (Syntax.tyInt Syntax.w8)) 0,
                             Path'.refl,
                             ((Scalar.reads-sc 𝓤 H A W (Row.sInt Syntax.w64), Path'.refl), tt),
                           ),
@@ -2348,162 +1942,119 @@ module _ (claims· : Claims) where
               Syntax.tnil (Syntax.ttcons (Syntax.tcons (Syntax.tyInt Syntax.w64) (Syntax.tcons (Syntax.tyInt Syntax.w64) Syntax.tnil)) (Syntax.ttcons (Syntax.tcons (Syntax.tyInt Syntax.w64) Syntax.tnil)
               (Syntax.ttcons Syntax.tnil (Syntax.ttcons Syntax.tnil (Syntax.ttcons (Syntax.tcons (Syntax.tyInt Syntax.w64) Syntax.tnil) (Syntax.ttcons (Syntax.tcons (Syntax.tyInt Syntax.w64) Syntax.tnil)
               (Syntax.ttcons (Syntax.tcons (Syntax.tyInt Syntax.w64) Syntax.tnil) (Syntax.ttcons Syntax.tnil Syntax.ttnil)))))))))))))))))))))) Syntax.tnil) Syntax.ttnil))))
-              (tt, (tt, (tt, (tt, (tt, tt))))) Path'.refl) (Scalar.g-room 𝓤 H A W E G51 30 y1 (Shared.room-sslice 𝓤 H A W (Referent.rtF (Referent.fInt Syntax.w8)) (Syntax.tyRef Syntax.erased Syntax.imm
-              (Syntax.tyInt Syntax.w8)) 0))) (Scalar.g-room 𝓤 H A W E G52 10 (Syntax.tyInt Syntax.w64) (Scalar.room-sc 𝓤 H A W (Row.sInt Syntax.w64)))) (Scalar.g-room 𝓤 H A W E G53 11 y5 (Local.room-whole
-              𝓤 H A W (Declared'.row Form.the-type) y5 Path'.refl))) (Scalar.g-room 𝓤 H A W E G54 12 (Syntax.tyInt Syntax.w64) (Scalar.room-sc 𝓤 H A W (Row.sInt Syntax.w64)))) (Lifetime.g-end 𝓤 H A W E
-              G55 5 Path'.refl)) (Relend.g-back-sl 𝓤 H A W E (Referent.rtF (Referent.fInt Syntax.w8)) G56 18 3 2 5 (Syntax.tyRef (Syntax.named 2) Syntax.mut (Syntax.tyInt Syntax.w8)) (Syntax.tyRef
-              Syntax.erased Syntax.mut (Syntax.tyInt Syntax.w8)) (Row.lease (κs .1 .1 .0) (qs .1 .1 .0)) (λ x. x) (λ x. x) (Reads'.as-is 𝓤 H A (Mut.msleft (Referent.rtF (Referent.fInt Syntax.w8))
-              (Syntax.tyRef Syntax.erased Syntax.mut (Syntax.tyInt Syntax.w8)))) (Reads'.as-is 𝓤 H A (Relend.mslice-owed (Referent.rtF (Referent.fInt Syntax.w8)) (Syntax.tyRef (Syntax.named 2) Syntax.mut
-              (Syntax.tyInt Syntax.w8)) 2 5 (Row.lease (κs .1 .1 .0) (qs .1 .1 .0)))) Path'.refl Path'.refl)) (Know.g-sl-known 𝓤 H A W (Referent.fInt Syntax.w8) E G57 3 2 (Syntax.tyRef (Syntax.named 2)
-              Syntax.mut (Syntax.tyInt Syntax.w8)) (Row.lease (κs .1 .1 .0) (qs .1 .1 .0)) 0 (λ x. x) record { fits = Dec'.lit< tt } (Reads'.as-is 𝓤 H A (Mut.mslice (Referent.rtF (Referent.fInt
-              Syntax.w8)) (Syntax.tyRef (Syntax.named 2) Syntax.mut (Syntax.tyInt Syntax.w8)) 2)) Path'.refl tt)) (Lifetime.g-forget 𝓤 H A W E G58 5 Row.dead Path'.refl)) (Lifetime.g-end 𝓤 H A W E G59 6
-              Path'.refl)) (PartMut.g-back-slᵐ 𝓤 H A W E (Referent.rtF (Referent.fInt Syntax.w16)) G60 22 5 3 6 (Syntax.tyRef (Syntax.named 3) Syntax.mut (Syntax.tyInt Syntax.w16)) (Syntax.tyRef
-              Syntax.erased Syntax.mut (Syntax.tyInt Syntax.w16)) (Row.lease (κs .1 .1 .1 .0) (qs .1 .1 .1 .0)) (λ x. x) (λ x. x) (Reads'.as-is 𝓤 H A (Mut.msleft (Referent.rtF (Referent.fInt Syntax.w16))
-              (Syntax.tyRef Syntax.erased Syntax.mut (Syntax.tyInt Syntax.w16)))) (Reads'.as-is 𝓤 H A (PartMut.mslice-owedM (Referent.rtF (Referent.fInt Syntax.w16)) (Syntax.tyRef (Syntax.named 3)
-              Syntax.mut (Syntax.tyInt Syntax.w16)) 3 6 (Row.lease (κs .1 .1 .1 .0) (qs .1 .1 .1 .0)))) Path'.refl Path'.refl)) (Know.g-sl-known 𝓤 H A W (Referent.fInt Syntax.w16) E G61 5 3 (Syntax.tyRef
-              (Syntax.named 3) Syntax.mut (Syntax.tyInt Syntax.w16)) (Row.lease (κs .1 .1 .1 .0) (qs .1 .1 .1 .0)) 0 (λ x. x) record { fits = Dec'.lit< tt } (Reads'.as-is 𝓤 H A (Mut.mslice (Referent.rtF
-              (Referent.fInt Syntax.w16)) (Syntax.tyRef (Syntax.named 3) Syntax.mut (Syntax.tyInt Syntax.w16)) 3)) Path'.refl tt)) (Lifetime.g-forget 𝓤 H A W E G62 6 Row.dead Path'.refl)) (Lifetime.g-end
-              𝓤 H A W E G63 7 Path'.refl)) (PartMut.g-back-slᵐ 𝓤 H A W E (Element.type) G64 26 6 4 7 (Syntax.tyRef (Syntax.named 4) Syntax.mut Element.behind) (Syntax.tyRef Syntax.erased Syntax.mut
-              Element.behind) (Row.lease (κs .1 .1 .1 .1 .0) (qs .1 .1 .1 .1 .0)) (λ x. x) (λ x. x) (Reads'.as-is 𝓤 H A (Mut.msleft (Element.type) (Syntax.tyRef Syntax.erased Syntax.mut Element.behind)))
-              (Reads'.as-is 𝓤 H A (PartMut.mslice-owedM (Element.type) (Syntax.tyRef (Syntax.named 4) Syntax.mut Element.behind) 4 7 (Row.lease (κs .1 .1 .1 .1 .0) (qs .1 .1 .1 .1 .0)))) Path'.refl
-              Path'.refl)) (Lifetime.g-forget 𝓤 H A W E G65 7 Row.dead Path'.refl))
+              (tt, (tt, (tt, (tt, (tt, tt))))) Path'.refl) (Scalar.g-room 𝓤 H A W E G38 10 (Syntax.tyInt Syntax.w64) (Scalar.room-sc 𝓤 H A W (Row.sInt Syntax.w64)))) (Scalar.g-room 𝓤 H A W E G39 11 y4
+              (Local.room-whole 𝓤 H A W (Declared'.row Form.the-type) y4 Path'.refl))) (Scalar.g-room 𝓤 H A W E G40 12 (Syntax.tyInt Syntax.w64) (Scalar.room-sc 𝓤 H A W (Row.sInt Syntax.w64))))
+              (Lifetime.g-end 𝓤 H A W E G41 5 Path'.refl)) (Relend.g-back-sl 𝓤 H A W E (Referent.rtF (Referent.fInt Syntax.w8)) G42 15 4 2 5 (Syntax.tyRef (Syntax.named 2) Syntax.mut (Syntax.tyInt
+              Syntax.w8)) (Syntax.tyRef Syntax.erased Syntax.mut (Syntax.tyInt Syntax.w8)) (Row.lease (κs .1 .1 .0) (qs .1 .1 .0)) (λ x. x) (λ x. x) (Reads'.as-is 𝓤 H A (Mut.msleft (Referent.rtF
+              (Referent.fInt Syntax.w8)) (Syntax.tyRef Syntax.erased Syntax.mut (Syntax.tyInt Syntax.w8)))) (Reads'.as-is 𝓤 H A (Relend.mslice-owed (Referent.rtF (Referent.fInt Syntax.w8)) (Syntax.tyRef
+              (Syntax.named 2) Syntax.mut (Syntax.tyInt Syntax.w8)) 2 5 (Row.lease (κs .1 .1 .0) (qs .1 .1 .0)))) Path'.refl Path'.refl)) (Know.g-sl-known 𝓤 H A W (Referent.fInt Syntax.w8) E G43 4 2
+              (Syntax.tyRef (Syntax.named 2) Syntax.mut (Syntax.tyInt Syntax.w8)) (Row.lease (κs .1 .1 .0) (qs .1 .1 .0)) 0 (λ x. x) record { fits = Dec'.lit< tt } (Reads'.as-is 𝓤 H A (Mut.mslice
+              (Referent.rtF (Referent.fInt Syntax.w8)) (Syntax.tyRef (Syntax.named 2) Syntax.mut (Syntax.tyInt Syntax.w8)) 2)) Path'.refl tt)) (Lifetime.g-forget 𝓤 H A W E G44 5 Row.dead Path'.refl))
+              (Lifetime.g-end 𝓤 H A W E G45 6 Path'.refl)) (PartMut.g-back-slᵐ 𝓤 H A W E (Referent.rtF (Referent.fInt Syntax.w16)) G46 19 6 3 6 (Syntax.tyRef (Syntax.named 3) Syntax.mut (Syntax.tyInt
+              Syntax.w16)) (Syntax.tyRef Syntax.erased Syntax.mut (Syntax.tyInt Syntax.w16)) (Row.lease (κs .1 .1 .1 .0) (qs .1 .1 .1 .0)) (λ x. x) (λ x. x) (Reads'.as-is 𝓤 H A (Mut.msleft (Referent.rtF
+              (Referent.fInt Syntax.w16)) (Syntax.tyRef Syntax.erased Syntax.mut (Syntax.tyInt Syntax.w16)))) (Reads'.as-is 𝓤 H A (PartMut.mslice-owedM (Referent.rtF (Referent.fInt Syntax.w16))
+              (Syntax.tyRef (Syntax.named 3) Syntax.mut (Syntax.tyInt Syntax.w16)) 3 6 (Row.lease (κs .1 .1 .1 .0) (qs .1 .1 .1 .0)))) Path'.refl Path'.refl)) (Know.g-sl-known 𝓤 H A W (Referent.fInt
+              Syntax.w16) E G47 6 3 (Syntax.tyRef (Syntax.named 3) Syntax.mut (Syntax.tyInt Syntax.w16)) (Row.lease (κs .1 .1 .1 .0) (qs .1 .1 .1 .0)) 0 (λ x. x) record { fits = Dec'.lit< tt }
+              (Reads'.as-is 𝓤 H A (Mut.mslice (Referent.rtF (Referent.fInt Syntax.w16)) (Syntax.tyRef (Syntax.named 3) Syntax.mut (Syntax.tyInt Syntax.w16)) 3)) Path'.refl tt)) (Lifetime.g-forget 𝓤 H A W
+              E G48 6 Row.dead Path'.refl)) (Lifetime.g-end 𝓤 H A W E G49 7 Path'.refl)) (PartMut.g-back-slᵐ 𝓤 H A W E (Element.type) G50 23 7 4 7 (Syntax.tyRef (Syntax.named 4) Syntax.mut Element.behind)
+              (Syntax.tyRef Syntax.erased Syntax.mut Element.behind) (Row.lease (κs .1 .1 .1 .1 .0) (qs .1 .1 .1 .1 .0)) (λ x. x) (λ x. x) (Reads'.as-is 𝓤 H A (Mut.msleft (Element.type) (Syntax.tyRef
+              Syntax.erased Syntax.mut Element.behind))) (Reads'.as-is 𝓤 H A (PartMut.mslice-owedM (Element.type) (Syntax.tyRef (Syntax.named 4) Syntax.mut Element.behind) 4 7 (Row.lease (κs .1 .1 .1 .1
+              .0) (qs .1 .1 .1 .1 .0)))) Path'.refl Path'.refl)) (Lifetime.g-forget 𝓤 H A W E G51 7 Row.dead Path'.refl))
 
-          d6 : Typed.Typed 𝓤 H A 𝓣 E G49 b25 Δ1 at6
-          d6 = Typed.g-pre 𝓤 H A W 𝓣 E G49 G50 b25 Δ1 (Typed.pass T49 T50 s47) at5 (Scalar.g-room 𝓤 H A W E G49 28 (Syntax.tyInt Syntax.w64) (Scalar.room-sc 𝓤 H A W (Row.sInt Syntax.w64))) d5
+          d6 : Typed.Typed 𝓤 H A 𝓣 E G36 b17 Δ1 at6
+          d6 = Typed.g-pre 𝓤 H A W 𝓣 E G36 G37 b17 Δ1 (Typed.pass T36 T37 s34) at5 (Scalar.g-room 𝓤 H A W E G36 21 (Syntax.tyInt Syntax.w64) (Scalar.room-sc 𝓤 H A W (Row.sInt Syntax.w64))) d5
 
-          d7 : Typed.Typed 𝓤 H A 𝓣 E G48 b26 Δ1 at7
-          d7 = Typed.s-seq 𝓤 H A W 𝓣 E G48 G49 b24 b25 Δ1 (Typed.ask s46) at6 (Relend.t-sl-aggregate 𝓤 H A W E (Referent.rtF (Referent.fInt Syntax.w8)) 𝓣 (Relend.asShr (Referent.rtF (Referent.fInt
-              Syntax.w8))) G48 29 30 0 (Syntax.tyRef Syntax.erased Syntax.imm (Syntax.tyInt Syntax.w8)) (Syntax.tyRef Syntax.erased Syntax.imm (Syntax.tyInt Syntax.w8)) (λ x. x) (Scalar.oAt 28
-              (Syntax.tyInt Syntax.w64) (Row.valS (Row.sInt Syntax.w64))) (Reads'.as-is 𝓤 H A (Relend.ssptr (Referent.rtF (Referent.fInt Syntax.w8)) (Syntax.tyRef Syntax.erased Syntax.imm (Syntax.tyInt
-              Syntax.w8)) 0)) (Reads'.room-gone 𝓤 H A y1) (Scalar.reads-sc 𝓤 H A W (Row.sInt Syntax.w64), Path'.refl) Path'.refl Path'.refl λ b o k. tt) d6
+          d7 : Typed.Typed 𝓤 H A 𝓣 E G35 b18 Δ1 at7
+          d7 = Typed.s-seq 𝓤 H A W 𝓣 E G35 G36 b16 b17 Δ1 (Typed.ask s33) at6 (Relend.t-sl-aggregate 𝓤 H A W E (Element.type) 𝓣 (Relend.asMut (Element.type)) G35 22 23 7 (Syntax.tyRef Syntax.erased
+              Syntax.mut Element.behind) (Syntax.tyRef Syntax.erased Syntax.mut Element.behind) (λ x. x) (Scalar.oAt 21 (Syntax.tyInt Syntax.w64) (Row.valS (Row.sInt Syntax.w64))) (Reads'.as-is 𝓤 H A
+              (Relend.msptr (Element.type) (Syntax.tyRef Syntax.erased Syntax.mut Element.behind) 7)) (Reads'.room-gone 𝓤 H A y3) (Scalar.reads-sc 𝓤 H A W (Row.sInt Syntax.w64), Path'.refl) Path'.refl
+              Path'.refl λ b o k. tt) d6
 
-          d8 : Typed.Typed 𝓤 H A 𝓣 E G47 b26 Δ1 at8
-          d8 = Typed.g-pre 𝓤 H A W 𝓣 E G47 G48 b26 Δ1 (Typed.pass T47 T48 s45) at7 (Scalar.g-room 𝓤 H A W E G47 27 Syntax.tyPtr (Scalar.room-sc 𝓤 H A W Row.sPtr)) d7
+          d8 : Typed.Typed 𝓤 H A 𝓣 E G34 b18 Δ1 at8
+          d8 = Typed.g-pre 𝓤 H A W 𝓣 E G34 G35 b18 Δ1 (Typed.pass T34 T35 s32) at7 (Scalar.g-room 𝓤 H A W E G34 20 Syntax.tyPtr (Scalar.room-sc 𝓤 H A W Row.sPtr)) d7
 
-          d9 : Typed.Typed 𝓤 H A 𝓣 E G46 b27 Δ1 at9
-          d9 = Typed.s-seq 𝓤 H A W 𝓣 E G46 G47 b23 b26 Δ1 (Typed.both s44) at8 (PartAt.t-shs-part-same 𝓤 H A W E (Referent.rtF (Referent.fInt Syntax.w8)) 𝓣 (Copies.halved 𝓤 H A W (Copies.cRf
-              (Referent.fInt Syntax.w8))) G46 1 27 29 0 (Syntax.tyInt Syntax.w8) (Syntax.tyRef (Syntax.named 0) Syntax.imm (Syntax.tyInt Syntax.w8)) (Syntax.tyRef Syntax.erased Syntax.imm (Syntax.tyInt
-              Syntax.w8)) (Row.lease (κs .0) (qs .0)) Shared.byByte (λ x. x) (λ x. x) (λ u. 0) (λ u. 0) (λ i o. Elements.at-byte o i) (Reads'.as-is 𝓤 H A (Rows.sslice (Referent.rtF (Referent.fInt
-              Syntax.w8)) (Syntax.tyRef (Syntax.named 0) Syntax.imm (Syntax.tyInt Syntax.w8)) 0)) (Reads'.as-is 𝓤 H A (Rows.sc-here Row.sPtr)) (Reads'.room-gone 𝓤 H A (Syntax.tyRef Syntax.erased
-              Syntax.imm (Syntax.tyInt Syntax.w8))) Path'.refl tt Path'.refl Path'.refl λ b o. tt) d8
+          d9 : Typed.Typed 𝓤 H A 𝓣 E G33 b19 Δ1 at9
+          d9 = Typed.s-seq 𝓤 H A W 𝓣 E G33 G34 b15 b18 Δ1 (Typed.both s31) at8 (PartMut.t-sl-relendᵐ 𝓤 H A W E (Element.type) 𝓣 G33 7 20 22 4 7 (Element.held) (Syntax.tyRef (Syntax.named 4) Syntax.mut
+              Element.behind) (Syntax.tyRef Syntax.erased Syntax.mut Element.behind) (Row.lease (κs .1 .1 .1 .1 .0) (qs .1 .1 .1 .1 .0)) (Shared.bySize 8) (λ x. x) (λ x. x) (λ u. 0) (λ u. 336) (λ i o.
+              Elements.at-mul o 8 i) (Reads'.as-is 𝓤 H A (Mut.mslice (Element.type) (Syntax.tyRef (Syntax.named 4) Syntax.mut Element.behind) 4)) (Reads'.as-is 𝓤 H A (Rows.sc-here Row.sPtr))
+              (Reads'.room-gone 𝓤 H A (Syntax.tyRef Syntax.erased Syntax.mut Element.behind)) Path'.refl tt Path'.refl Path'.refl λ b o. tt) d8
 
-          d10 : Typed.Typed 𝓤 H A 𝓣 E G45 b28 Δ1 at10
-          d10 = Typed.s-seq 𝓤 H A W 𝓣 E G45 G46 b22 b27 Δ1 (Typed.ask s43) at9 (Scalar.t-op2 𝓤 H A W E 𝓣 G45 (Syntax.sub Syntax.unsigned) (Scalar.oInt Syntax.w64 0) (Scalar.oInt Syntax.w64 0) 28
+          d10 : Typed.Typed 𝓤 H A 𝓣 E G32 b19 Δ1 at10
+          d10 = Typed.g-pre 𝓤 H A W 𝓣 E G32 G33 b19 Δ1 (λ Ψ. Ψ) at9 (Lifetime.g-begin 𝓤 H A W E G32 7
+              (tt, (tt, (tt, (tt, ((tt, tt), (tt, ((tt, tt), (tt, (tt, (tt, (tt, (tt, (tt, (tt, (tt, (tt, (tt, (tt, (tt, (tt, (tt, (tt, (tt, (tt, tt))))))))))))))))))))))))) d9
+
+          d11 : Typed.Typed 𝓤 H A 𝓣 E G31 b20 Δ1 at11
+          d11 = Typed.s-seq 𝓤 H A W 𝓣 E G31 G32 b14 b19 Δ1 (Typed.ask s29) at10 (Scalar.t-op2 𝓤 H A W E 𝓣 G31 (Syntax.sub Syntax.unsigned) (Scalar.oInt Syntax.w64 336) (Scalar.oInt Syntax.w64 0) 21
               (Rows.sc-here (Row.sInt Syntax.w64)) (Syntax.tyInt Syntax.w64) (Row.valS (Row.sInt Syntax.w64)) (Row.sInt Syntax.w64 .of) tt tt (Reads'.room-gone 𝓤 H A (Syntax.tyInt Syntax.w64))
-              (Scalar.holds-sc 𝓤 H A W (Row.sInt Syntax.w64)) Path'.refl (λ u. Path'.refl) λ u. tt) d9
+              (Scalar.holds-sc 𝓤 H A W (Row.sInt Syntax.w64)) Path'.refl (λ u. Path'.refl) λ u. tt) d10
 
-          d11 : Typed.Typed 𝓤 H A 𝓣 E G44 b29 Δ1 at11
-          d11 = Typed.s-seq 𝓤 H A W 𝓣 E G44 G45 b21 b28 Δ1 (Typed.ask s42) at10 (Scalar.t-op2 𝓤 H A W E 𝓣 G44 Syntax.offset (Scalar.oFld 1 (List._∷_ (Syntax.field 0) List.[]) (Syntax.tyRef
-              (Syntax.named 0) Syntax.imm (Syntax.tyInt Syntax.w8)) 0 Reads'.ptrVal) (Scalar.oInt Syntax.w64 0) 27 (Rows.sc-here Row.sPtr) Syntax.tyPtr (Row.valS Row.sPtr) (Row.sPtr .of)
-              (Shared.reads-sslice-ptr 𝓤 H A W (Referent.rtF (Referent.fInt Syntax.w8)) (Syntax.tyRef (Syntax.named 0) Syntax.imm (Syntax.tyInt Syntax.w8)) 0 0 Path'.refl, Path'.refl) tt (Reads'.room-gone
-              𝓤 H A Syntax.tyPtr) (Scalar.holds-sc 𝓤 H A W Row.sPtr) Path'.refl (λ u. Path'.refl) λ u. tt) d10
-
-          d12 : Typed.Typed 𝓤 H A 𝓣 E G43 b29 Δ1 at12
-          d12 = Typed.g-pre 𝓤 H A W 𝓣 E G43 G44 b29 Δ1 (Typed.pass T43 T44 s41) at11 (Scalar.g-room 𝓤 H A W E G43 24 (Syntax.tyInt Syntax.w64) (Scalar.room-sc 𝓤 H A W (Row.sInt Syntax.w64))) d11
-
-          d13 : Typed.Typed 𝓤 H A 𝓣 E G42 b30 Δ1 at13
-          d13 = Typed.s-seq 𝓤 H A W 𝓣 E G42 G43 b20 b29 Δ1 (Typed.ask s40) at12 (Relend.t-sl-aggregate 𝓤 H A W E (Element.type) 𝓣 (Relend.asMut (Element.type)) G42 25 26 7 (Syntax.tyRef Syntax.erased
-              Syntax.mut Element.behind) (Syntax.tyRef Syntax.erased Syntax.mut Element.behind) (λ x. x) (Scalar.oAt 24 (Syntax.tyInt Syntax.w64) (Row.valS (Row.sInt Syntax.w64))) (Reads'.as-is 𝓤 H A
-              (Relend.msptr (Element.type) (Syntax.tyRef Syntax.erased Syntax.mut Element.behind) 7)) (Reads'.room-gone 𝓤 H A y4) (Scalar.reads-sc 𝓤 H A W (Row.sInt Syntax.w64), Path'.refl) Path'.refl
-              Path'.refl λ b o k. tt) d12
-
-          d14 : Typed.Typed 𝓤 H A 𝓣 E G41 b30 Δ1 at14
-          d14 = Typed.g-pre 𝓤 H A W 𝓣 E G41 G42 b30 Δ1 (Typed.pass T41 T42 s39) at13 (Scalar.g-room 𝓤 H A W E G41 23 Syntax.tyPtr (Scalar.room-sc 𝓤 H A W Row.sPtr)) d13
-
-          d15 : Typed.Typed 𝓤 H A 𝓣 E G40 b31 Δ1 at15
-          d15 = Typed.s-seq 𝓤 H A W 𝓣 E G40 G41 b19 b30 Δ1 (Typed.both s38) at14 (PartMut.t-sl-relendᵐ 𝓤 H A W E (Element.type) 𝓣 G40 6 23 25 4 7 (Element.held) (Syntax.tyRef (Syntax.named 4)
-              Syntax.mut Element.behind) (Syntax.tyRef Syntax.erased Syntax.mut Element.behind) (Row.lease (κs .1 .1 .1 .1 .0) (qs .1 .1 .1 .1 .0)) (Shared.bySize 8) (λ x. x) (λ x. x) (λ u. 0) (λ u. 336)
-              (λ i o. Elements.at-mul o 8 i) (Reads'.as-is 𝓤 H A (Mut.mslice (Element.type) (Syntax.tyRef (Syntax.named 4) Syntax.mut Element.behind) 4)) (Reads'.as-is 𝓤 H A (Rows.sc-here Row.sPtr))
-              (Reads'.room-gone 𝓤 H A (Syntax.tyRef Syntax.erased Syntax.mut Element.behind)) Path'.refl tt Path'.refl Path'.refl λ b o. tt) d14
-
-          d16 : Typed.Typed 𝓤 H A 𝓣 E G39 b31 Δ1 at16
-          d16 = Typed.g-pre 𝓤 H A W 𝓣 E G39 G40 b31 Δ1 (λ Ψ. Ψ) at15 (Lifetime.g-begin 𝓤 H A W E G39 7 (
-            tt,
-            (
-              tt,
-              (
-                tt,
-                ((tt, tt), (tt, ((tt, tt), (tt, (tt, (tt, (tt, (tt, (tt, (tt, (tt, (tt, (tt, (tt, (tt, (tt, (tt, (tt, (tt, (tt, (tt, (tt, (tt, (tt, (tt, (tt, (tt, (tt, tt)))))))))))))))))))))))))))),
-              ),
-            ),
-          )) d15
-
-          d17 : Typed.Typed 𝓤 H A 𝓣 E G38 b32 Δ1 at17
-          d17 = Typed.s-seq 𝓤 H A W 𝓣 E G38 G39 b18 b31 Δ1 (Typed.ask s36) at16 (Scalar.t-op2 𝓤 H A W E 𝓣 G38 (Syntax.sub Syntax.unsigned) (Scalar.oInt Syntax.w64 336) (Scalar.oInt Syntax.w64 0) 24
-              (Rows.sc-here (Row.sInt Syntax.w64)) (Syntax.tyInt Syntax.w64) (Row.valS (Row.sInt Syntax.w64)) (Row.sInt Syntax.w64 .of) tt tt (Reads'.room-gone 𝓤 H A (Syntax.tyInt Syntax.w64))
-              (Scalar.holds-sc 𝓤 H A W (Row.sInt Syntax.w64)) Path'.refl (λ u. Path'.refl) λ u. tt) d16
-
-          d18 : Typed.Typed 𝓤 H A 𝓣 E G37 b33 Δ1 at18
-          d18 = Typed.s-seq 𝓤 H A W 𝓣 E G37 G38 b17 b32 Δ1 (Typed.ask s35) at17 (Scalar.t-op2 𝓤 H A W E 𝓣 G37 Syntax.offset (Scalar.oFld 6 (List._∷_ (Syntax.field 0) List.[]) (Syntax.tyRef
-              (Syntax.named 4) Syntax.mut Element.behind) 0 Reads'.ptrVal) (Scalar.oInt Syntax.w64 0) 23 (Rows.sc-here Row.sPtr) Syntax.tyPtr (Row.valS Row.sPtr) (Row.sPtr .of)
+          d12 : Typed.Typed 𝓤 H A 𝓣 E G30 b21 Δ1 at12
+          d12 = Typed.s-seq 𝓤 H A W 𝓣 E G30 G31 b13 b20 Δ1 (Typed.ask s28) at11 (Scalar.t-op2 𝓤 H A W E 𝓣 G30 Syntax.offset (Scalar.oFld 7 (List._∷_ (Syntax.field 0) List.[]) (Syntax.tyRef
+              (Syntax.named 4) Syntax.mut Element.behind) 0 Reads'.ptrVal) (Scalar.oInt Syntax.w64 0) 20 (Rows.sc-here Row.sPtr) Syntax.tyPtr (Row.valS Row.sPtr) (Row.sPtr .of)
               (Mut.reads-mslice-ptr 𝓤 H A W (Element.type) (Syntax.tyRef (Syntax.named 4) Syntax.mut Element.behind) 4 0 Path'.refl, Path'.refl) tt (Reads'.room-gone 𝓤 H A Syntax.tyPtr) (Scalar.holds-sc 𝓤
-              H A W Row.sPtr) Path'.refl (λ u. Path'.refl) λ u. tt) d17
+              H A W Row.sPtr) Path'.refl (λ u. Path'.refl) λ u. tt) d11
 
-          d19 : Typed.Typed 𝓤 H A 𝓣 E G36 b33 Δ1 at19
-          d19 = Typed.g-pre 𝓤 H A W 𝓣 E G36 G37 b33 Δ1 (Typed.pass T36 T37 s34) at18 (Scalar.g-room 𝓤 H A W E G36 20 (Syntax.tyInt Syntax.w64) (Scalar.room-sc 𝓤 H A W (Row.sInt Syntax.w64))) d18
+          d13 : Typed.Typed 𝓤 H A 𝓣 E G29 b21 Δ1 at13
+          d13 = Typed.g-pre 𝓤 H A W 𝓣 E G29 G30 b21 Δ1 (Typed.pass T29 T30 s27) at12 (Scalar.g-room 𝓤 H A W E G29 17 (Syntax.tyInt Syntax.w64) (Scalar.room-sc 𝓤 H A W (Row.sInt Syntax.w64))) d12
 
-          d20 : Typed.Typed 𝓤 H A 𝓣 E G35 b34 Δ1 at20
-          d20 = Typed.s-seq 𝓤 H A W 𝓣 E G35 G36 b16 b33 Δ1 (Typed.ask s33) at19 (Relend.t-sl-aggregate 𝓤 H A W E (Referent.rtF (Referent.fInt Syntax.w16)) 𝓣 (Relend.asMut (Referent.rtF (Referent.fInt
-              Syntax.w16))) G35 21 22 6 (Syntax.tyRef Syntax.erased Syntax.mut (Syntax.tyInt Syntax.w16)) (Syntax.tyRef Syntax.erased Syntax.mut (Syntax.tyInt Syntax.w16)) (λ x. x) (Scalar.oAt 20
+          d14 : Typed.Typed 𝓤 H A 𝓣 E G28 b22 Δ1 at14
+          d14 = Typed.s-seq 𝓤 H A W 𝓣 E G28 G29 b12 b21 Δ1 (Typed.ask s26) at13 (Relend.t-sl-aggregate 𝓤 H A W E (Referent.rtF (Referent.fInt Syntax.w16)) 𝓣 (Relend.asMut (Referent.rtF (Referent.fInt
+              Syntax.w16))) G28 18 19 6 (Syntax.tyRef Syntax.erased Syntax.mut (Syntax.tyInt Syntax.w16)) (Syntax.tyRef Syntax.erased Syntax.mut (Syntax.tyInt Syntax.w16)) (λ x. x) (Scalar.oAt 17
               (Syntax.tyInt Syntax.w64) (Row.valS (Row.sInt Syntax.w64))) (Reads'.as-is 𝓤 H A (Relend.msptr (Referent.rtF (Referent.fInt Syntax.w16)) (Syntax.tyRef Syntax.erased Syntax.mut (Syntax.tyInt
-              Syntax.w16)) 6)) (Reads'.room-gone 𝓤 H A y2) (Scalar.reads-sc 𝓤 H A W (Row.sInt Syntax.w64), Path'.refl) Path'.refl Path'.refl λ b o k. tt) d19
+              Syntax.w16)) 6)) (Reads'.room-gone 𝓤 H A y1) (Scalar.reads-sc 𝓤 H A W (Row.sInt Syntax.w64), Path'.refl) Path'.refl Path'.refl λ b o k. tt) d13
 
-          d21 : Typed.Typed 𝓤 H A 𝓣 E G34 b34 Δ1 at21
-          d21 = Typed.g-pre 𝓤 H A W 𝓣 E G34 G35 b34 Δ1 (Typed.pass T34 T35 s32) at20 (Scalar.g-room 𝓤 H A W E G34 19 Syntax.tyPtr (Scalar.room-sc 𝓤 H A W Row.sPtr)) d20
+          d15 : Typed.Typed 𝓤 H A 𝓣 E G27 b22 Δ1 at15
+          d15 = Typed.g-pre 𝓤 H A W 𝓣 E G27 G28 b22 Δ1 (Typed.pass T27 T28 s25) at14 (Scalar.g-room 𝓤 H A W E G27 16 Syntax.tyPtr (Scalar.room-sc 𝓤 H A W Row.sPtr)) d14
 
-          d22 : Typed.Typed 𝓤 H A 𝓣 E G33 b35 Δ1 at22
-          d22 = Typed.s-seq 𝓤 H A W 𝓣 E G33 G34 b15 b34 Δ1 (Typed.both s31) at21 (PartMut.t-sl-relendᵐ 𝓤 H A W E (Referent.rtF (Referent.fInt Syntax.w16)) 𝓣 G33 5 19 21 3 6 (Syntax.tyInt Syntax.w16)
+          d16 : Typed.Typed 𝓤 H A 𝓣 E G26 b23 Δ1 at16
+          d16 = Typed.s-seq 𝓤 H A W 𝓣 E G26 G27 b11 b22 Δ1 (Typed.both s24) at15 (PartMut.t-sl-relendᵐ 𝓤 H A W E (Referent.rtF (Referent.fInt Syntax.w16)) 𝓣 G26 6 16 18 3 6 (Syntax.tyInt Syntax.w16)
               (Syntax.tyRef (Syntax.named 3) Syntax.mut (Syntax.tyInt Syntax.w16)) (Syntax.tyRef Syntax.erased Syntax.mut (Syntax.tyInt Syntax.w16)) (Row.lease (κs .1 .1 .1 .0) (qs .1 .1 .1 .0))
               (Shared.bySize 2) (λ x. x) (λ x. x) (λ u. 0) (λ u. u .1 .1 .1 .1 .1 .1 .1 .1 .1 .1 .0) (λ i o. Elements.at-mul o 2 i) (Reads'.as-is 𝓤 H A (Mut.mslice (Referent.rtF (Referent.fInt
               Syntax.w16)) (Syntax.tyRef (Syntax.named 3) Syntax.mut (Syntax.tyInt Syntax.w16)) 3)) (Reads'.as-is 𝓤 H A (Rows.sc-here Row.sPtr)) (Reads'.room-gone 𝓤 H A (Syntax.tyRef Syntax.erased
-              Syntax.mut (Syntax.tyInt Syntax.w16))) Path'.refl tt Path'.refl Path'.refl λ b o. tt) d21
+              Syntax.mut (Syntax.tyInt Syntax.w16))) Path'.refl tt Path'.refl Path'.refl λ b o. tt) d15
 
-          d23 : Typed.Typed 𝓤 H A 𝓣 E G32 b35 Δ1 at23
-          d23 = Typed.g-pre 𝓤 H A W 𝓣 E G32 G33 b35 Δ1 (λ Ψ. Ψ) at22 (Lifetime.g-begin 𝓤 H A W E G32 6 (
-            tt,
-            (tt, (tt, ((tt, tt), (tt, (tt, (tt, (tt, (tt, (tt, (tt, (tt, (tt, (tt, (tt, (tt, (tt, (tt, (tt, (tt, (tt, (tt, (tt, (tt, (tt, (tt, (tt, (tt, (tt, (tt, (tt, tt)))))))))))))))))))))))))))))),
-          ))
-              d22
+          d17 : Typed.Typed 𝓤 H A 𝓣 E G25 b23 Δ1 at17
+          d17 = Typed.g-pre 𝓤 H A W 𝓣 E G25 G26 b23 Δ1 (λ Ψ. Ψ) at16 (Lifetime.g-begin 𝓤 H A W E G25 6
+              (tt, (tt, (tt, (tt, ((tt, tt), (tt, (tt, (tt, (tt, (tt, (tt, (tt, (tt, (tt, (tt, (tt, (tt, (tt, (tt, (tt, (tt, (tt, (tt, (tt, tt))))))))))))))))))))))))) d16
 
-          d24 : Typed.Typed 𝓤 H A 𝓣 E G31 b36 Δ1 at24
-          d24 = Typed.s-seq 𝓤 H A W 𝓣 E G31 G32 b14 b35 Δ1 (Typed.ask s29) at23 (Scalar.t-op2 𝓤 H A W E 𝓣 G31 (Syntax.sub Syntax.unsigned) (Scalar.oAt 10 (Syntax.tyInt Syntax.w64) (Row.valS (Row.sInt
-              Syntax.w64))) (Scalar.oInt Syntax.w64 0) 20 (Rows.sc-here (Row.sInt Syntax.w64)) (Syntax.tyInt Syntax.w64) (Row.valS (Row.sInt Syntax.w64)) (Row.sInt Syntax.w64 .of)
+          d18 : Typed.Typed 𝓤 H A 𝓣 E G24 b24 Δ1 at18
+          d18 = Typed.s-seq 𝓤 H A W 𝓣 E G24 G25 b10 b23 Δ1 (Typed.ask s22) at17 (Scalar.t-op2 𝓤 H A W E 𝓣 G24 (Syntax.sub Syntax.unsigned) (Scalar.oAt 10 (Syntax.tyInt Syntax.w64) (Row.valS (Row.sInt
+              Syntax.w64))) (Scalar.oInt Syntax.w64 0) 17 (Rows.sc-here (Row.sInt Syntax.w64)) (Syntax.tyInt Syntax.w64) (Row.valS (Row.sInt Syntax.w64)) (Row.sInt Syntax.w64 .of)
               (Scalar.reads-sc 𝓤 H A W (Row.sInt Syntax.w64), Path'.refl) tt (Reads'.room-gone 𝓤 H A (Syntax.tyInt Syntax.w64)) (Scalar.holds-sc 𝓤 H A W (Row.sInt Syntax.w64)) Path'.refl (λ u. Path'.refl)
-              λ u. tt) d23
+              λ u. tt) d17
 
-          d25 : Typed.Typed 𝓤 H A 𝓣 E G30 b37 Δ1 at25
-          d25 = Typed.s-seq 𝓤 H A W 𝓣 E G30 G31 b13 b36 Δ1 (Typed.ask s28) at24 (Scalar.t-op2 𝓤 H A W E 𝓣 G30 Syntax.offset (Scalar.oFld 5 (List._∷_ (Syntax.field 0) List.[]) (Syntax.tyRef
-              (Syntax.named 3) Syntax.mut (Syntax.tyInt Syntax.w16)) 0 Reads'.ptrVal) (Scalar.oInt Syntax.w64 0) 19 (Rows.sc-here Row.sPtr) Syntax.tyPtr (Row.valS Row.sPtr) (Row.sPtr .of)
+          d19 : Typed.Typed 𝓤 H A 𝓣 E G23 b25 Δ1 at19
+          d19 = Typed.s-seq 𝓤 H A W 𝓣 E G23 G24 b9 b24 Δ1 (Typed.ask s21) at18 (Scalar.t-op2 𝓤 H A W E 𝓣 G23 Syntax.offset (Scalar.oFld 6 (List._∷_ (Syntax.field 0) List.[]) (Syntax.tyRef
+              (Syntax.named 3) Syntax.mut (Syntax.tyInt Syntax.w16)) 0 Reads'.ptrVal) (Scalar.oInt Syntax.w64 0) 16 (Rows.sc-here Row.sPtr) Syntax.tyPtr (Row.valS Row.sPtr) (Row.sPtr .of)
               (Mut.reads-mslice-ptr 𝓤 H A W (Referent.rtF (Referent.fInt Syntax.w16)) (Syntax.tyRef (Syntax.named 3) Syntax.mut (Syntax.tyInt Syntax.w16)) 3 0 Path'.refl, Path'.refl) tt (Reads'.room-gone
-              𝓤 H A Syntax.tyPtr) (Scalar.holds-sc 𝓤 H A W Row.sPtr) Path'.refl (λ u. Path'.refl) λ u. tt) d24
+              𝓤 H A Syntax.tyPtr) (Scalar.holds-sc 𝓤 H A W Row.sPtr) Path'.refl (λ u. Path'.refl) λ u. tt) d18
 
-          d26 : Typed.Typed 𝓤 H A 𝓣 E G29 b38 Δ1 at26
-          d26 = Typed.s-seq 𝓤 H A W 𝓣 E G29 G30 b12 b37 Δ1 (Typed.ask s27) at25 (Relend.t-sl-aggregate 𝓤 H A W E (Referent.rtF (Referent.fInt Syntax.w8)) 𝓣 (Relend.asMut (Referent.rtF (Referent.fInt
-              Syntax.w8))) G29 17 18 5 (Syntax.tyRef Syntax.erased Syntax.mut (Syntax.tyInt Syntax.w8)) (Syntax.tyRef Syntax.erased Syntax.mut (Syntax.tyInt Syntax.w8)) (λ x. x) (Scalar.oFld 3 (List._∷_
+          d20 : Typed.Typed 𝓤 H A 𝓣 E G22 b26 Δ1 at20
+          d20 = Typed.s-seq 𝓤 H A W 𝓣 E G22 G23 b8 b25 Δ1 (Typed.ask s20) at19 (Relend.t-sl-aggregate 𝓤 H A W E (Referent.rtF (Referent.fInt Syntax.w8)) 𝓣 (Relend.asMut (Referent.rtF (Referent.fInt
+              Syntax.w8))) G22 14 15 5 (Syntax.tyRef Syntax.erased Syntax.mut (Syntax.tyInt Syntax.w8)) (Syntax.tyRef Syntax.erased Syntax.mut (Syntax.tyInt Syntax.w8)) (λ x. x) (Scalar.oFld 4 (List._∷_
               (Syntax.field 1) List.[]) (Syntax.tyInt Syntax.w64) 8 λ v. Shared.lenV (v .0)) (Reads'.as-is 𝓤 H A (Relend.msptr (Referent.rtF (Referent.fInt Syntax.w8)) (Syntax.tyRef Syntax.erased
-              Syntax.mut (Syntax.tyInt Syntax.w8)) 5)) (Reads'.room-gone 𝓤 H A y3) (
+              Syntax.mut (Syntax.tyInt Syntax.w8)) 5)) (Reads'.room-gone 𝓤 H A y2) (
                 Relend.reads-owed-len 𝓤 H A W (Referent.rtF (Referent.fInt Syntax.w8)) (Syntax.tyRef (Syntax.named 2) Syntax.mut (Syntax.tyInt Syntax.w8)) 2 5 (Row.lease (κs .1 .1 .0) (qs .1 .1 .0)) 8
                     Path'.refl,
                 Path'.refl,
-              ) Path'.refl Path'.refl λ b o k. tt) d25
+              ) Path'.refl Path'.refl λ b o k. tt) d19
 
-          d27 : Typed.Typed 𝓤 H A 𝓣 E G28 b39 Δ1 at27
-          d27 = Typed.s-seq 𝓤 H A W 𝓣 E G28 G29 b11 b38 Δ1 (Typed.give s26) at26 (Relend.t-sl-relend 𝓤 H A W E (Referent.rtF (Referent.fInt Syntax.w8)) 𝓣 G28 3 17 2 5 (Syntax.tyRef (Syntax.named 2)
+          d21 : Typed.Typed 𝓤 H A 𝓣 E G21 b27 Δ1 at21
+          d21 = Typed.s-seq 𝓤 H A W 𝓣 E G21 G22 b7 b26 Δ1 (Typed.give s19) at20 (Relend.t-sl-relend 𝓤 H A W E (Referent.rtF (Referent.fInt Syntax.w8)) 𝓣 G21 4 14 2 5 (Syntax.tyRef (Syntax.named 2)
               Syntax.mut (Syntax.tyInt Syntax.w8)) (Syntax.tyRef Syntax.erased Syntax.mut (Syntax.tyInt Syntax.w8)) (Row.lease (κs .1 .1 .0) (qs .1 .1 .0)) 0 (λ x. x) (Reads'.as-is 𝓤 H A (Mut.mslice
               (Referent.rtF (Referent.fInt Syntax.w8)) (Syntax.tyRef (Syntax.named 2) Syntax.mut (Syntax.tyInt Syntax.w8)) 2)) (Reads'.room-gone 𝓤 H A (Syntax.tyRef Syntax.erased Syntax.mut (Syntax.tyInt
-              Syntax.w8))) Path'.refl tt Path'.refl Path'.refl Path'.refl λ b o. tt) d26
+              Syntax.w8))) Path'.refl tt Path'.refl Path'.refl Path'.refl λ b o. tt) d20
 
-          d28 : Typed.Typed 𝓤 H A 𝓣 E G27 b39 Δ1 at28
-          d28 = Typed.g-pre 𝓤 H A W 𝓣 E G27 G28 b39 Δ1 (λ Ψ. Ψ) at27 (Lifetime.g-begin 𝓤 H A W E G27 5
-              (tt, (tt, (tt, (tt, (tt, (tt, (tt, (tt, (tt, (tt, (tt, (tt, (tt, (tt, (tt, (tt, (tt, (tt, (tt, (tt, (tt, (tt, (tt, (tt, (tt, (tt, (tt, (tt, (tt, (tt, (tt, tt))))))))))))))))))))))))))))))))
-              d27
+          d22 : Typed.Typed 𝓤 H A 𝓣 E G20 b27 Δ1 at22
+          d22 = Typed.g-pre 𝓤 H A W 𝓣 E G20 G21 b27 Δ1 (λ Ψ. Ψ) at21 (Lifetime.g-begin 𝓤 H A W E G20 5
+              (tt, (tt, (tt, (tt, (tt, (tt, (tt, (tt, (tt, (tt, (tt, (tt, (tt, (tt, (tt, (tt, (tt, (tt, (tt, (tt, (tt, (tt, (tt, (tt, tt))))))))))))))))))))))))) d21
 
-          d29 : Typed.Typed 𝓤 H A 𝓣 E G26 b39 Δ1 at29
-          d29 = Typed.g-pre 𝓤 H A W 𝓣 E G26 G27 b39 Δ1 (Typed.pass T26 T27 s24) at28 (Scalar.g-room 𝓤 H A W E G26 9 y0 (Local.room-whole 𝓤 H A W (Declared'.row FujiHeader.the-type) y0 Path'.refl)) d28
+          d23 : Typed.Typed 𝓤 H A 𝓣 E G19 b27 Δ1 at23
+          d23 = Typed.g-pre 𝓤 H A W 𝓣 E G19 G20 b27 Δ1 (Typed.pass T19 T20 s17) at22 (Scalar.g-room 𝓤 H A W E G19 9 y0 (Local.room-whole 𝓤 H A W (Declared'.row FujiHeader.the-type) y0 Path'.refl)) d22
 
-          d30 : Typed.Typed 𝓤 H A 𝓣 E G25 b40 Δ1 at30
-          d30 = Typed.s-seq 𝓤 H A W 𝓣 E G25 G26 b10 b39 Δ1 (Typed.both s23) at29 (Plain.t-call-plain 𝓤 H A W 𝓣 0 ps·3 r·3 (claims· .6) (claims· .7) "block::tight::line_count" (known .3) E (λ pos β. β)
-              G25 (record { pos = 9; st = List.[]; d = 0; at = λ x. x }, tt) 12 List.[] (Call.sub-id 𝓤 H A W (G25 .slots)) (
+          d24 : Typed.Typed 𝓤 H A 𝓣 E G18 b28 Δ1 at24
+          d24 = Typed.s-seq 𝓤 H A W 𝓣 E G18 G19 b6 b27 Δ1 (Typed.both s16) at23 (Plain.t-call-plain 𝓤 H A W 𝓣 0 ps·2 r·2 (claims· .4) (claims· .5) "block::tight::line_count" (known .2) E (λ pos β. β)
+              G18 (record { pos = 9; st = List.[]; d = 0; at = λ x. x }, tt) 12 List.[] (Call.sub-id 𝓤 H A W (G18 .slots)) (
                 (
                   Yields.yields-copy 𝓤 H A W (λ ρ. Unit) (Declared'.row FujiHeader.the-type) Path'.refl (Copies.cStruct FujiHeader.the-type Laws''.the-laws Laws''.the-copy .copy 𝓤 H A W) (Rows.whole
                       (Declared'.row FujiHeader.the-type)) (λ x. x) (λ x. x) (λ ρ told. Local.mem-whole 𝓤 H A W (Declared'.row FujiHeader.the-type) ρ) λ ρ told. Local.whole-mem 𝓤 H A W (Declared'.row
@@ -2511,11 +2062,11 @@ module _ (claims· : Claims) where
                   Path'.refl,
                 ),
                 tt,
-              ) (Reads'.room-gone 𝓤 H A (Syntax.tyInt Syntax.w64)) tt Path'.refl) d29
+              ) (Reads'.room-gone 𝓤 H A (Syntax.tyInt Syntax.w64)) tt Path'.refl) d23
 
-          d31 : Typed.Typed 𝓤 H A 𝓣 E G24 b41 Δ1 at31
-          d31 = Typed.s-seq 𝓤 H A W 𝓣 E G24 G25 b9 b40 Δ1 (Typed.both s22) at30 (Plain.t-call-plain 𝓤 H A W 𝓣 0 ps·2 r·2 (claims· .4) (claims· .5) "block::form_of" (known .2) E (λ pos β. β) G24
-              (record { pos = 9; st = List.[]; d = 0; at = λ x. x }, tt) 11 List.[] (Call.sub-id 𝓤 H A W (G24 .slots)) (
+          d25 : Typed.Typed 𝓤 H A 𝓣 E G17 b29 Δ1 at25
+          d25 = Typed.s-seq 𝓤 H A W 𝓣 E G17 G18 b5 b28 Δ1 (Typed.both s15) at24 (Plain.t-call-plain 𝓤 H A W 𝓣 0 ps·1 r·1 (claims· .2) (claims· .3) "block::form_of" (known .1) E (λ pos β. β) G17
+              (record { pos = 9; st = List.[]; d = 0; at = λ x. x }, tt) 11 List.[] (Call.sub-id 𝓤 H A W (G17 .slots)) (
                 (
                   Yields.yields-copy 𝓤 H A W (λ ρ. Unit) (Declared'.row FujiHeader.the-type) Path'.refl (Copies.cStruct FujiHeader.the-type Laws''.the-laws Laws''.the-copy .copy 𝓤 H A W) (Rows.whole
                       (Declared'.row FujiHeader.the-type)) (λ x. x) (λ x. x) (λ ρ told. Local.mem-whole 𝓤 H A W (Declared'.row FujiHeader.the-type) ρ) λ ρ told. Local.whole-mem 𝓤 H A W (Declared'.row
@@ -2523,15 +2074,15 @@ module _ (claims· : Claims) where
                   Path'.refl,
                 ),
                 tt,
-              ) (Reads'.room-gone 𝓤 H A y5) tt Path'.refl) d30
+              ) (Reads'.room-gone 𝓤 H A y4) tt Path'.refl) d24
 
-          d32 : Typed.Typed 𝓤 H A 𝓣 E G23 b42 Δ1 at32
-          d32 = Typed.s-seq 𝓤 H A W 𝓣 E G23 G24 b8 b41 Δ1 (Typed.both s21) at31 (Plain.t-call-plain 𝓤 H A W 𝓣 0 ps·1 r·1 (claims· .2) (claims· .3) "begin::samples_needed" (known .1) E (λ pos β. β) G23
-              (Bool.bFld 9 (List._∷_ (Syntax.field 1) List.[]) 1 λ x. FujiHeader.struct .as-values x .1 .0, tt) 10 List.[] (Call.sub-id 𝓤 H A W (G23 .slots))
-              ((Reads.reads-field 𝓤 H A W FujiHeader.the-type Laws''.the-laws 1 Syntax.tyBool 1 Path'.refl, Path'.refl), tt) (Reads'.room-gone 𝓤 H A (Syntax.tyInt Syntax.w64)) tt Path'.refl) d31
+          d26 : Typed.Typed 𝓤 H A 𝓣 E G16 b30 Δ1 at26
+          d26 = Typed.s-seq 𝓤 H A W 𝓣 E G16 G17 b4 b29 Δ1 (Typed.both s14) at25 (Plain.t-call-plain 𝓤 H A W 𝓣 0 ps·0 r·0 (claims· .0) (claims· .1) "begin::samples_needed" (known .0) E (λ pos β. β) G16
+              (Bool.bFld 9 (List._∷_ (Syntax.field 1) List.[]) 1 λ x. FujiHeader.struct .as-values x .1 .0, tt) 10 List.[] (Call.sub-id 𝓤 H A W (G16 .slots))
+              ((Reads.reads-field 𝓤 H A W FujiHeader.the-type Laws''.the-laws 1 Syntax.tyBool 1 Path'.refl, Path'.refl), tt) (Reads'.room-gone 𝓤 H A (Syntax.tyInt Syntax.w64)) tt Path'.refl) d25
 
-          d33 : Typed.Typed 𝓤 H A 𝓣 E G22 b42 Δ1 at33
-          d33 = Typed.g-pre 𝓤 H A W 𝓣 E G22 G23 b42 Δ1 (Typed.pass T22 T23 s20) at32 (Scalar.g-room 𝓤 H A W E G22 7 (Syntax.tyEnum (List._∷_ 115 (List._∷_ 116 (List._∷_ 114 (List._∷_ 101 (List._∷_ 97
+          d27 : Typed.Typed 𝓤 H A 𝓣 E G15 b30 Δ1 at27
+          d27 = Typed.g-pre 𝓤 H A W 𝓣 E G15 G16 b30 Δ1 (Typed.pass T15 T16 s13) at26 (Scalar.g-room 𝓤 H A W E G15 1 (Syntax.tyEnum (List._∷_ 115 (List._∷_ 116 (List._∷_ 114 (List._∷_ 101 (List._∷_ 97
               (List._∷_ 109 (List._∷_ 58 (List._∷_ 58 (List._∷_ 80 (List._∷_ 97 (List._∷_ 114 (List._∷_ 115 (List._∷_ 101 (List._∷_ 100 List.[])))))))))))))) (Syntax.ttcons (Syntax.tcons y0 Syntax.tnil)
               (Syntax.ttcons (Syntax.tcons (Syntax.tyEnum (List._∷_ 115 (List._∷_ 116 (List._∷_ 114 (List._∷_ 101 (List._∷_ 97 (List._∷_ 109 (List._∷_ 58 (List._∷_ 58 (List._∷_ 82 (List._∷_ 101 (List._∷_
               102 (List._∷_ 117 (List._∷_ 115 (List._∷_ 97 (List._∷_ 108 List.[]))))))))))))))) (Syntax.ttcons Syntax.tnil (Syntax.ttcons Syntax.tnil (Syntax.ttcons Syntax.tnil (Syntax.ttcons
@@ -2548,52 +2099,61 @@ module _ (claims· : Claims) where
               Syntax.w64) Syntax.tnil) (Syntax.ttcons (Syntax.tcons (Syntax.tyInt Syntax.w64) Syntax.tnil) (Syntax.ttcons Syntax.tnil (Syntax.ttcons (Syntax.tcons (Syntax.tyInt Syntax.w64) (Syntax.tcons
               (Syntax.tyInt Syntax.w64) Syntax.tnil)) (Syntax.ttcons (Syntax.tcons (Syntax.tyInt Syntax.w64) Syntax.tnil) (Syntax.ttcons Syntax.tnil (Syntax.ttcons Syntax.tnil (Syntax.ttcons (Syntax.tcons
               (Syntax.tyInt Syntax.w64) Syntax.tnil) (Syntax.ttcons (Syntax.tcons (Syntax.tyInt Syntax.w64) Syntax.tnil) (Syntax.ttcons (Syntax.tcons (Syntax.tyInt Syntax.w64) Syntax.tnil) (Syntax.ttcons
-              Syntax.tnil Syntax.ttnil)))))))))))))))))))))) Syntax.tnil) Syntax.ttnil))) Path'.refl)) d32
+              Syntax.tnil Syntax.ttnil)))))))))))))))))))))) Syntax.tnil) Syntax.ttnil))) Path'.refl)) d26
 
-          d34 : Typed.Typed 𝓤 H A 𝓣 E G21 b43 Δ1 at34
-          d34 = Typed.s-seq 𝓤 H A W 𝓣 E G21 G22 b7 b42 Δ1 (Typed.pass T21 T22 s19) at33 (CopyOut.t-copy-told 𝓤 H A W E 𝓣 (Declared'.row FujiHeader.the-type) Path'.refl (Laws'6.val FujiHeader.the-type
-              Laws''.the-laws) (Laws'6.lawful FujiHeader.the-type Laws''.the-laws 𝓤 H A W) (Laws'6.makes FujiHeader.the-type Laws''.the-plain 𝓤 H A) G21 9 (Scalar.oFld 7 (List._∷_ (Syntax.variant 0)
-              (List._∷_ (Syntax.field 1) List.[])) y0 4 λ v. Laws'6.val FujiHeader.the-type Laws''.the-laws (v .0)) (λ m. m .1 .1 .1 .1 .1 .1 .1 .0 .0) (λ m. Laws'5.Fields (Declared.variants
-              Parsed.the-type) (Laws'5.spellss (Parsed.enum .parts) Laws'3.the-laws) (Parsed.the-type .to (Known.at Parsed.enum 0 (m .1 .1 .1 .1 .1 .1 .1 .0)))) (Reads'.room-gone 𝓤 H A y0) (
+          d28 : Typed.Typed 𝓤 H A 𝓣 E G14 b31 Δ1 at28
+          d28 = Typed.s-seq 𝓤 H A W 𝓣 E G14 G15 b3 b30 Δ1 (Typed.pass T14 T15 s12) at27 (CopyOut.t-copy-told 𝓤 H A W E 𝓣 (Declared'.row FujiHeader.the-type) Path'.refl (Laws'6.val FujiHeader.the-type
+              Laws''.the-laws) (Laws'6.lawful FujiHeader.the-type Laws''.the-laws 𝓤 H A W) (Laws'6.makes FujiHeader.the-type Laws''.the-plain 𝓤 H A) G14 9 (Scalar.oFld 1 (List._∷_ (Syntax.variant 0)
+              (List._∷_ (Syntax.field 1) List.[])) y0 4 λ v. Laws'6.val FujiHeader.the-type Laws''.the-laws (v .0)) (λ m. m .1 .0 .0) (λ m. Laws'5.Fields (Declared.variants Parsed.the-type)
+              (Laws'5.spellss (Parsed.enum .parts) Laws'3.the-laws) (Parsed.the-type .to (Known.at Parsed.enum 0 (m .1 .0)))) (Reads'.room-gone 𝓤 H A y0) (
                 Match.reads-payload 𝓤 H A W Parsed.enum Laws'3.the-laws 0 Path'.refl Path'.refl (λ v. Val.vcons (Laws'6.val FujiHeader.the-type Laws''.the-laws (v .0)) Val.vnil) (λ v. Path'.refl) 0 y0 4
                     Path'.refl,
                 Path'.refl,
-              ) Path'.refl (λ ρ m. Make'.tells-row 𝓤 H A W E ρ (Row.out 9 (G21 .locals)) m 7 (Laws'5.Fields (Declared.variants Parsed.the-type) (Laws'5.spellss (Parsed.enum .parts)
-              Laws'3.the-laws) (Parsed.the-type .to (Known.at Parsed.enum 0 (m .1 .1 .1 .1 .1 .1 .1 .0)))) (Known.known-is 𝓤 H A W E Parsed.enum 0 Laws'3.the-laws ρ 7 (m .1 .1 .1 .1 .1 .1 .1 .0))) (λ m k
-              wa. Path'.refl) λ m k wa. k .0) d33
+              ) Path'.refl (λ ρ m. Make'.tells-row 𝓤 H A W E ρ (Row.out 9 (G14 .locals)) m 1 (Laws'5.Fields (Declared.variants Parsed.the-type) (Laws'5.spellss (Parsed.enum .parts)
+              Laws'3.the-laws) (Parsed.the-type .to (Known.at Parsed.enum 0 (m .1 .0)))) (Known.known-is 𝓤 H A W E Parsed.enum 0 Laws'3.the-laws ρ 1 (m .1 .0))) (λ m k wa. Path'.refl) λ m k wa. k .0) d27
 
-          d35 : Typed.Typed 𝓤 H A 𝓣 E G20 b43 Δ1 at35
-          d35 = Typed.g-pre 𝓤 H A W 𝓣 E G20 G21 b43 Δ1 (Typed.give s18) at34 (Known.g-known-told 𝓤 H A W E Parsed.enum 0 G20 7 Laws'3.the-laws (λ x. x) (Reads'.as-is 𝓤 H A (Rows.whole (Known.Known
-              Parsed.enum 0)))) d34
+          d29 : Typed.Typed 𝓤 H A 𝓣 E G13 b31 Δ1 at29
+          d29 = Typed.g-pre 𝓤 H A W 𝓣 E G13 G14 b31 Δ1 (Typed.give s11) at28 (Known.g-known-told 𝓤 H A W E Parsed.enum 0 G13 1 Laws'3.the-laws (λ x. x) (Reads'.as-is 𝓤 H A (Rows.whole (Known.Known
+              Parsed.enum 0)))) d28
 
-          d36 : Typed.Typed 𝓤 H A 𝓣 E G13 b43 Δ1 at36
-          d36 = Typed.g-pre 𝓤 H A W 𝓣 E G13 G20 b43 Δ1 (Typed.both s17) at35 (Known.g-enum-known 𝓤 H A W E Parsed.enum 0 G13 7 (λ x. x) (Reads'.as-is 𝓤 H A (Rows.whole (Declared.row
-              Parsed.the-type)))) d35
+          d30 : Typed.Typed 𝓤 H A 𝓣 E G6 b31 Δ1 at30
+          d30 = Typed.g-pre 𝓤 H A W 𝓣 E G6 G13 b31 Δ1 (Typed.both s10) at29 (Known.g-enum-known 𝓤 H A W E Parsed.enum 0 G6 1 (λ x. x) (Reads'.as-is 𝓤 H A (Rows.whole (Declared.row Parsed.the-type))))
+              d29
 
-          d37 : Typed.Typed 𝓤 H A 𝓣 E G13 b44 Δ1 at37
-          d37 = Switch.t-switch-on 𝓤 H A W E 𝓣 G13 (Scalar.oFld 7 (List._∷_ (Syntax.variant 0) (List._∷_ (Syntax.field 0) List.[])) (Syntax.tyInt Syntax.w8) 0 λ x. Val.vint Syntax.w8 (Declared.tagOf
-              Parsed.the-type x)) Syntax.w8 (λ u. Declared.tagOf Parsed.the-type (u .1 .1 .1 .1 .1 .1 .1 .0)) (Syntax.arm (List._∷_ 1 List.[]) b6 (Syntax.arm (List._∷_ 0 List.[]) b43 Syntax.noDefault)) Δ1
-              (at4, (at36, tt))
+          d31 : Typed.Typed 𝓤 H A 𝓣 E G6 b32 Δ1 at31
+          d31 = Switch.t-switch-on 𝓤 H A W E 𝓣 G6 (Scalar.oFld 1 (List._∷_ (Syntax.variant 0) (List._∷_ (Syntax.field 0) List.[])) (Syntax.tyInt Syntax.w8) 0 λ x. Val.vint Syntax.w8 (Declared.tagOf
+              Parsed.the-type x)) Syntax.w8 (λ u. Declared.tagOf Parsed.the-type (u .1 .0)) (Syntax.arm (List._∷_ 1 List.[]) b2 (Syntax.arm (List._∷_ 0 List.[]) b31 Syntax.noDefault)) Δ1 (at4, (at30, tt))
               (Match.reads-tag 𝓤 H A W Parsed.the-type Laws'3.the-laws (Rows.whole (Declared.row Parsed.the-type)) 0 (λ x. x) (Whole.reads-enum 𝓤 H A W Parsed.the-type Laws'3.the-laws), Path'.refl) (λ u.
-              Path'.refl) (d4, (d36, tt))
+              Path'.refl) (d4, (d30, tt))
 
-          d38 : Typed.Typed 𝓤 H A 𝓣 E G12 b44 Δ1 at38
-          d38 = Typed.g-pre 𝓤 H A W 𝓣 E G12 G13 b44 Δ1 (Typed.pass T12 T13 s10) at37 (Scalar.g-room 𝓤 H A W E G12 15 (Syntax.tyInt Syntax.w64) (Scalar.room-sc 𝓤 H A W (Row.sInt Syntax.w64))) d37
+          d32 : Typed.Typed 𝓤 H A 𝓣 E G5 b32 Δ1 at32
+          d32 = Typed.g-pre 𝓤 H A W 𝓣 E G5 G6 b32 Δ1 (Typed.give s3) at31 (Know.g-sl-known 𝓤 H A W (Referent.fInt Syntax.w16) E G5 6 3 (Syntax.tyRef (Syntax.named 3) Syntax.mut (Syntax.tyInt
+              Syntax.w16)) (Row.lease (κs .1 .1 .1 .0) (qs .1 .1 .1 .0)) 0 (λ x. x) record { fits = Dec'.lit< tt } (Reads'.as-is 𝓤 H A (Mut.mslice (Referent.rtF (Referent.fInt Syntax.w16)) (Syntax.tyRef
+              (Syntax.named 3) Syntax.mut (Syntax.tyInt Syntax.w16)) 3)) Path'.refl tt) d31
 
-          d39 : Typed.Typed 𝓤 H A 𝓣 E G11 b44 Δ1 at39
-          d39 = Typed.g-pre 𝓤 H A W 𝓣 E G11 G12 b44 Δ1 (Typed.pass T11 T12 s9) at38 (Scalar.g-room 𝓤 H A W E G11 14 (Syntax.tyInt Syntax.w64) (Scalar.room-sc 𝓤 H A W (Row.sInt Syntax.w64))) d38
+          d33 : Typed.Typed 𝓤 H A 𝓣 E G4 b32 Δ1 at33
+          d33 = Typed.g-pre 𝓤 H A W 𝓣 E G4 G5 b32 Δ1 (Typed.give s2) at32 (Know.g-sl-known 𝓤 H A W (Referent.fInt Syntax.w8) E G4 4 2 (Syntax.tyRef (Syntax.named 2) Syntax.mut (Syntax.tyInt
+              Syntax.w8)) (Row.lease (κs .1 .1 .0) (qs .1 .1 .0)) 0 (λ x. x) record { fits = Dec'.lit< tt } (Reads'.as-is 𝓤 H A (Mut.mslice (Referent.rtF (Referent.fInt Syntax.w8)) (Syntax.tyRef
+              (Syntax.named 2) Syntax.mut (Syntax.tyInt Syntax.w8)) 2)) Path'.refl tt) d32
 
-          d40 : Typed.Typed 𝓤 H A 𝓣 E G9 b44 Δ1 at40
-          d40 = Typed.g-pre 𝓤 H A W 𝓣 E G9 G11 b44 Δ1 (Typed.pass T9 T11 s8) at39 (Scalar.g-room 𝓤 H A W E G9 13 (Syntax.tyInt Syntax.w64) (Scalar.room-sc 𝓤 H A W (Row.sInt Syntax.w64))) d39
+          d34 : Typed.Typed 𝓤 H A 𝓣 E G3 b32 Δ1 at34
+          d34 = Typed.g-pre 𝓤 H A W 𝓣 E G3 G4 b32 Δ1 (Typed.give s1) at33 (Know.g-shs-known 𝓤 H A W (Referent.fInt Syntax.w16) E G3 3 1 (Syntax.tyRef (Syntax.named 1) Syntax.imm (Syntax.tyInt
+              Syntax.w16)) (Row.lease (κs .1 .0) (qs .1 .0)) 0 (λ x. x) record { fits = Dec'.lit< tt } (Reads'.as-is 𝓤 H A (Rows.sslice (Referent.rtF (Referent.fInt Syntax.w16)) (Syntax.tyRef
+              (Syntax.named 1) Syntax.imm (Syntax.tyInt Syntax.w16)) 1)) Path'.refl tt) d33
 
-          d41 : Typed.Typed 𝓤 H A 𝓣 E G69 b46 Δ0 at41
-          d41 = Typed.t-return 𝓤 H A W 𝓣 E Δ0 tt
+          d35 : Typed.Typed 𝓤 H A 𝓣 E G0 b32 Δ1 at35
+          d35 = Typed.g-pre 𝓤 H A W 𝓣 E G0 G3 b32 Δ1 (Typed.give s0) at34 (Know.g-shs-known 𝓤 H A W (Referent.fInt Syntax.w8) E G0 2 0 (Syntax.tyRef (Syntax.named 0) Syntax.imm (Syntax.tyInt
+              Syntax.w8)) (Row.lease (κs .0) (qs .0)) 0 (λ x. x) record { fits = Dec'.lit< tt } (Reads'.as-is 𝓤 H A (Rows.sslice (Referent.rtF (Referent.fInt Syntax.w8)) (Syntax.tyRef (Syntax.named 0)
+              Syntax.imm (Syntax.tyInt Syntax.w8)) 0)) Path'.refl tt) d34
 
-          d42 : Typed.Typed 𝓤 H A 𝓣 E G68 b46 Δ0 at42
-          d42 = Typed.g-pre 𝓤 H A W 𝓣 E G68 G69 b46 Δ0 (Typed.pass T68 T69 s66) at41 (Scalar.g-room 𝓤 H A W E G68 4 Syntax.tyBool (Scalar.room-sc 𝓤 H A W Row.sBool)) d41
+          d36 : Typed.Typed 𝓤 H A 𝓣 E G55 b34 Δ0 at36
+          d36 = Typed.t-return 𝓤 H A W 𝓣 E Δ0 tt
 
-          d43 : Typed.Typed 𝓤 H A 𝓣 E G67 b46 Δ0 at43
-          d43 = Typed.g-pre 𝓤 H A W 𝓣 E G67 G68 b46 Δ0 (Typed.pass T67 T68 s65) at42 (Scalar.g-room 𝓤 H A W E G67 16 (Syntax.tyEnum (List._∷_ 115 (List._∷_ 116 (List._∷_ 114 (List._∷_ 101 (List._∷_ 97
+          d37 : Typed.Typed 𝓤 H A 𝓣 E G54 b34 Δ0 at37
+          d37 = Typed.g-pre 𝓤 H A W 𝓣 E G54 G55 b34 Δ0 (Typed.pass T54 T55 s52) at36 (Scalar.g-room 𝓤 H A W E G54 5 Syntax.tyBool (Scalar.room-sc 𝓤 H A W Row.sBool)) d36
+
+          d38 : Typed.Typed 𝓤 H A 𝓣 E G53 b34 Δ0 at38
+          d38 = Typed.g-pre 𝓤 H A W 𝓣 E G53 G54 b34 Δ0 (Typed.pass T53 T54 s51) at37 (Scalar.g-room 𝓤 H A W E G53 13 (Syntax.tyEnum (List._∷_ 115 (List._∷_ 116 (List._∷_ 114 (List._∷_ 101 (List._∷_ 97
               (List._∷_ 109 (List._∷_ 58 (List._∷_ 58 (List._∷_ 66 (List._∷_ 108 (List._∷_ 111 (List._∷_ 99 (List._∷_ 107 (List._∷_ 76 (List._∷_ 101 (List._∷_ 110 (List._∷_ 103 (List._∷_ 116 (List._∷_ 104
               List.[]))))))))))))))))))) (Syntax.ttcons (Syntax.tcons (Syntax.tyInt Syntax.w64) Syntax.tnil) (Syntax.ttcons (Syntax.tcons (Syntax.tyEnum (List._∷_ 115 (List._∷_ 116 (List._∷_ 114 (List._∷_
               101 (List._∷_ 97 (List._∷_ 109 (List._∷_ 58 (List._∷_ 58 (List._∷_ 82 (List._∷_ 101 (List._∷_ 102 (List._∷_ 117 (List._∷_ 115 (List._∷_ 97 (List._∷_ 108 List.[]))))))))))))))) (Syntax.ttcons
@@ -2611,10 +2171,10 @@ module _ (claims· : Claims) where
               Syntax.w64) Syntax.tnil) (Syntax.ttcons (Syntax.tcons (Syntax.tyInt Syntax.w64) Syntax.tnil) (Syntax.ttcons Syntax.tnil (Syntax.ttcons (Syntax.tcons (Syntax.tyInt Syntax.w64) (Syntax.tcons
               (Syntax.tyInt Syntax.w64) Syntax.tnil)) (Syntax.ttcons (Syntax.tcons (Syntax.tyInt Syntax.w64) Syntax.tnil) (Syntax.ttcons Syntax.tnil (Syntax.ttcons Syntax.tnil (Syntax.ttcons (Syntax.tcons
               (Syntax.tyInt Syntax.w64) Syntax.tnil) (Syntax.ttcons (Syntax.tcons (Syntax.tyInt Syntax.w64) Syntax.tnil) (Syntax.ttcons (Syntax.tcons (Syntax.tyInt Syntax.w64) Syntax.tnil) (Syntax.ttcons
-              Syntax.tnil Syntax.ttnil)))))))))))))))))))))) Syntax.tnil) Syntax.ttnil))) Path'.refl)) d42
+              Syntax.tnil Syntax.ttnil)))))))))))))))))))))) Syntax.tnil) Syntax.ttnil))) Path'.refl)) d37
 
-          d44 : Typed.Typed 𝓤 H A 𝓣 E G10 b47 Δ0 at44
-          d44 = Typed.s-seq 𝓤 H A W 𝓣 E G10 G67 b45 b46 Δ0 (Typed.pass T10 T67 s64) at43 (LocalCopy.t-val-copy 𝓤 H A W E 𝓣 (λ ρ. Unit) G10 16 0 (Declared.row BlockLength.the-type) (Syntax.tyEnum
+          d39 : Typed.Typed 𝓤 H A 𝓣 E G2 b35 Δ0 at39
+          d39 = Typed.s-seq 𝓤 H A W 𝓣 E G2 G53 b33 b34 Δ0 (Typed.pass T2 T53 s50) at38 (LocalCopy.t-val-copy 𝓤 H A W E 𝓣 (λ ρ. Unit) G2 13 0 (Declared.row BlockLength.the-type) (Syntax.tyEnum
               (List._∷_ 115 (List._∷_ 116 (List._∷_ 114 (List._∷_ 101 (List._∷_ 97 (List._∷_ 109 (List._∷_ 58 (List._∷_ 58 (List._∷_ 66 (List._∷_ 108 (List._∷_ 111 (List._∷_ 99 (List._∷_ 107 (List._∷_ 76
               (List._∷_ 101 (List._∷_ 110 (List._∷_ 103 (List._∷_ 116 (List._∷_ 104 List.[]))))))))))))))))))) (Syntax.ttcons (Syntax.tcons (Syntax.tyInt Syntax.w64) Syntax.tnil) (Syntax.ttcons
               (Syntax.tcons (Syntax.tyEnum (List._∷_ 115 (List._∷_ 116 (List._∷_ 114 (List._∷_ 101 (List._∷_ 97 (List._∷_ 109 (List._∷_ 58 (List._∷_ 58 (List._∷_ 82 (List._∷_ 101 (List._∷_ 102 (List._∷_
@@ -2633,7 +2193,7 @@ module _ (claims· : Claims) where
               (Syntax.tyInt Syntax.w64) Syntax.tnil)) (Syntax.ttcons (Syntax.tcons (Syntax.tyInt Syntax.w64) Syntax.tnil) (Syntax.ttcons Syntax.tnil (Syntax.ttcons Syntax.tnil (Syntax.ttcons (Syntax.tcons
               (Syntax.tyInt Syntax.w64) Syntax.tnil) (Syntax.ttcons (Syntax.tcons (Syntax.tyInt Syntax.w64) Syntax.tnil) (Syntax.ttcons (Syntax.tcons (Syntax.tyInt Syntax.w64) Syntax.tnil) (Syntax.ttcons
               Syntax.tnil Syntax.ttnil)))))))))))))))))))))) Syntax.tnil) Syntax.ttnil))) (Rows.whole (Declared.row BlockLength.the-type)) (Rows.whole (Declared.row BlockLength.the-type)) (λ x. x) (λ x.
-              x) (λ x. x) Path'.refl (Own.told-none 𝓤 H A (G10 .slots)) (Yields.yields-copy 𝓤 H A W (λ ρ. Unit) (Declared.row BlockLength.the-type) Path'.refl (Copies.cEnum BlockLength.the-type
+              x) (λ x. x) Path'.refl (Own.told-none 𝓤 H A (G2 .slots)) (Yields.yields-copy 𝓤 H A W (λ ρ. Unit) (Declared.row BlockLength.the-type) Path'.refl (Copies.cEnum BlockLength.the-type
               Laws'.the-laws Laws'.the-copy .copy 𝓤 H A W) (Rows.whole (Declared.row BlockLength.the-type)) (λ x. x) (λ x. x) (λ ρ told. Local.mem-whole 𝓤 H A W (Declared.row BlockLength.the-type) ρ) λ ρ
               told. Local.whole-mem 𝓤 H A W (Declared.row BlockLength.the-type) ρ) (Reads'.room-gone 𝓤 H A (Syntax.tyEnum (List._∷_ 115 (List._∷_ 116 (List._∷_ 114 (List._∷_ 101 (List._∷_ 97 (List._∷_ 109
               (List._∷_ 58 (List._∷_ 58 (List._∷_ 66 (List._∷_ 108 (List._∷_ 111 (List._∷_ 99 (List._∷_ 107 (List._∷_ 76 (List._∷_ 101 (List._∷_ 110 (List._∷_ 103 (List._∷_ 116 (List._∷_ 104
@@ -2645,78 +2205,35 @@ module _ (claims· : Claims) where
               (Syntax.ttcons (Syntax.tcons (Syntax.tyInt Syntax.w64) Syntax.tnil) (Syntax.ttcons Syntax.tnil (Syntax.ttcons Syntax.tnil (Syntax.ttcons (Syntax.tcons (Syntax.tyInt Syntax.w64) Syntax.tnil)
               (Syntax.ttcons (Syntax.tcons (Syntax.tyInt Syntax.w64) Syntax.tnil) (Syntax.ttcons (Syntax.tcons (Syntax.tyInt Syntax.w64) Syntax.tnil) (Syntax.ttcons Syntax.tnil
               Syntax.ttnil)))))))))))))))))))))) Syntax.tnil) Syntax.ttnil)))) (Yields.makes-mem 𝓤 H A W (λ ρ. Unit) (Declared.row BlockLength.the-type) Path'.refl (Rows.whole (Declared.row
-              BlockLength.the-type)) (λ x. x) λ ρ told. Local.whole-mem 𝓤 H A W (Declared.row BlockLength.the-type) ρ) Path'.refl Path'.refl) d43
+              BlockLength.the-type)) (λ x. x) λ ρ told. Local.whole-mem 𝓤 H A W (Declared.row BlockLength.the-type) ρ) Path'.refl Path'.refl) d38
 
-          d45 : Typed.Typed 𝓤 H A 𝓣 E G9 b48 Δ0 at45
-          d45 = Typed.t-seq 𝓤 H A W 𝓣 E G9 G10 b44 b47 Δ0 at40 at44 d40 d44
+          d40 : Typed.Typed 𝓤 H A 𝓣 E G0 b36 Δ0 at40
+          d40 = Typed.t-seq 𝓤 H A W 𝓣 E G0 G2 b32 b35 Δ0 at35 at39 d35 d39
 
-          d46 : Typed.Typed 𝓤 H A 𝓣 E G8 b49 Δ0 at46
-          d46 = Typed.s-seq 𝓤 H A W 𝓣 E G8 G9 b3 b48 Δ0 (Typed.both s7) at45 (Plain.t-call-plain 𝓤 H A W 𝓣 1 ps·0 r·0 (claims· .0) (claims· .1) "begin::writing_begins" (known .0) E (λ pos β. β) G8
-              (record { pos = 1; ty = Syntax.tyRef (Syntax.named 0) Syntax.imm (Syntax.tyInt Syntax.w8); ref = λ x. x }, (Num.vAt 13 λ x. x, (Num.vAt 14 λ x. x, (Num.vAt 15 λ x. x, tt)))) 7 (List._∷_ 0
-              List.[]) (Call.sub-id 𝓤 H A W (G8 .slots)) (
-                ShrSlice.spares-sslice 𝓤 H A W (Referent.rtF (Referent.fInt Syntax.w8)) (Syntax.tyRef (Syntax.named 0) Syntax.imm (Syntax.tyInt Syntax.w8)) 0,
-                Shared.reads-sslice 𝓤 H A W (Referent.rtF
-                    (Referent.fInt Syntax.w8)) (Syntax.tyRef (Syntax.named 0) Syntax.imm (Syntax.tyInt Syntax.w8)) 0,
-                Path'.refl,
-                (
-                  (Scalar.reads-sc 𝓤 H A W (Row.sInt Syntax.w64), Path'.refl),
-                  ((Scalar.reads-sc 𝓤 H A W (Row.sInt Syntax.w64), Path'.refl), ((Scalar.reads-sc 𝓤 H A W (Row.sInt Syntax.w64), Path'.refl), tt)),
-                ),
-              ) (Reads'.room-gone 𝓤 H A (Syntax.tyEnum (List._∷_ 115
-              (List._∷_ 116 (List._∷_ 114 (List._∷_ 101 (List._∷_ 97 (List._∷_ 109 (List._∷_ 58 (List._∷_ 58 (List._∷_ 80 (List._∷_ 97 (List._∷_ 114 (List._∷_ 115 (List._∷_ 101 (List._∷_ 100
-              List.[])))))))))))))) (Syntax.ttcons (Syntax.tcons y0 Syntax.tnil) (Syntax.ttcons (Syntax.tcons (Syntax.tyEnum (List._∷_ 115 (List._∷_ 116 (List._∷_ 114 (List._∷_ 101 (List._∷_ 97 (List._∷_
-              109 (List._∷_ 58 (List._∷_ 58 (List._∷_ 82 (List._∷_ 101 (List._∷_ 102 (List._∷_ 117 (List._∷_ 115 (List._∷_ 97 (List._∷_ 108 List.[]))))))))))))))) (Syntax.ttcons Syntax.tnil (Syntax.ttcons
-              Syntax.tnil (Syntax.ttcons Syntax.tnil (Syntax.ttcons (Syntax.tcons (Syntax.tyInt Syntax.w64) Syntax.tnil) (Syntax.ttcons Syntax.tnil (Syntax.ttcons Syntax.tnil (Syntax.ttcons Syntax.tnil
-              (Syntax.ttcons Syntax.tnil (Syntax.ttcons Syntax.tnil (Syntax.ttcons Syntax.tnil (Syntax.ttcons (Syntax.tcons (Syntax.tyInt Syntax.w64) Syntax.tnil) (Syntax.ttcons (Syntax.tcons
-              (Syntax.tyInt Syntax.w64) Syntax.tnil) (Syntax.ttcons Syntax.tnil (Syntax.ttcons (Syntax.tcons (Syntax.tyInt Syntax.w64) (Syntax.tcons (Syntax.tyInt Syntax.w64) Syntax.tnil)) (Syntax.ttcons
-              (Syntax.tcons (Syntax.tyInt Syntax.w64) Syntax.tnil) (Syntax.ttcons Syntax.tnil (Syntax.ttcons Syntax.tnil (Syntax.ttcons (Syntax.tcons (Syntax.tyInt Syntax.w64) Syntax.tnil) (Syntax.ttcons
-              (Syntax.tcons (Syntax.tyInt Syntax.w64) Syntax.tnil) (Syntax.ttcons (Syntax.tcons (Syntax.tyInt Syntax.w64) Syntax.tnil) (Syntax.ttcons Syntax.tnil Syntax.ttnil))))))))))))))))))))))
-              Syntax.tnil) Syntax.ttnil)))) (tt, tt) Path'.refl) d45
-
-          d47 : Typed.Typed 𝓤 H A 𝓣 E G7 b50 Δ0 at47
-          d47 = Typed.s-seq 𝓤 H A W 𝓣 E G7 G8 b2 b49 Δ0 (Typed.pass T7 T8 s6) at46 (Scalar.t-use 𝓤 H A W E 𝓣 G7 (Scalar.oFld 6 (List._∷_ (Syntax.field 1) List.[]) (Syntax.tyInt Syntax.w64) 8
-              Shared.lenV) 15 (Rows.sc-here (Row.sInt Syntax.w64)) (Syntax.tyInt Syntax.w64) (Row.valS (Row.sInt Syntax.w64)) (Row.sInt Syntax.w64 .of)
-              (Mut.reads-mslice-len 𝓤 H A W (Element.type) (Syntax.tyRef (Syntax.named 4) Syntax.mut Element.behind) 4 8 Path'.refl, Path'.refl) (Reads'.room-gone 𝓤 H A (Syntax.tyInt Syntax.w64))
-              (Scalar.holds-sc 𝓤 H A W (Row.sInt Syntax.w64)) Path'.refl (λ u. Path'.refl) λ u. tt) d46
-
-          d48 : Typed.Typed 𝓤 H A 𝓣 E G6 b51 Δ0 at48
-          d48 = Typed.s-seq 𝓤 H A W 𝓣 E G6 G7 b1 b50 Δ0 (Typed.pass T6 T7 s5) at47 (Scalar.t-use 𝓤 H A W E 𝓣 G6 (Scalar.oFld 5 (List._∷_ (Syntax.field 1) List.[]) (Syntax.tyInt Syntax.w64) 8
-              Shared.lenV) 14 (Rows.sc-here (Row.sInt Syntax.w64)) (Syntax.tyInt Syntax.w64) (Row.valS (Row.sInt Syntax.w64)) (Row.sInt Syntax.w64 .of)
-              (Mut.reads-mslice-len 𝓤 H A W (Referent.rtF (Referent.fInt Syntax.w16)) (Syntax.tyRef (Syntax.named 3) Syntax.mut (Syntax.tyInt Syntax.w16)) 3 8 Path'.refl, Path'.refl) (Reads'.room-gone 𝓤 H
-              A (Syntax.tyInt Syntax.w64)) (Scalar.holds-sc 𝓤 H A W (Row.sInt Syntax.w64)) Path'.refl (λ u. Path'.refl) λ u. tt) d47
-
-          d49 : Typed.Typed 𝓤 H A 𝓣 E G5 b52 Δ0 at49
-          d49 = Typed.s-seq 𝓤 H A W 𝓣 E G5 G6 b0 b51 Δ0 (Typed.pass T5 T6 s4) at48 (Scalar.t-use 𝓤 H A W E 𝓣 G5 (Scalar.oFld 2 (List._∷_ (Syntax.field 1) List.[]) (Syntax.tyInt Syntax.w64) 8
-              Shared.lenV) 13 (Rows.sc-here (Row.sInt Syntax.w64)) (Syntax.tyInt Syntax.w64) (Row.valS (Row.sInt Syntax.w64)) (Row.sInt Syntax.w64 .of)
-              (Shared.reads-sslice-len 𝓤 H A W (Referent.rtF (Referent.fInt Syntax.w16)) (Syntax.tyRef (Syntax.named 1) Syntax.imm (Syntax.tyInt Syntax.w16)) 1 8 Path'.refl, Path'.refl) (Reads'.room-gone
-              𝓤 H A (Syntax.tyInt Syntax.w64)) (Scalar.holds-sc 𝓤 H A W (Row.sInt Syntax.w64)) Path'.refl (λ u. Path'.refl) λ u. tt) d48
-
-          d50 : Typed.Typed 𝓤 H A 𝓣 E G4 b52 Δ0 at50
-          d50 = Typed.g-pre 𝓤 H A W 𝓣 E G4 G5 b52 Δ0 (Typed.give s3) at49 (Know.g-sl-known 𝓤 H A W (Referent.fInt Syntax.w16) E G4 5 3 (Syntax.tyRef (Syntax.named 3) Syntax.mut (Syntax.tyInt
-              Syntax.w16)) (Row.lease (κs .1 .1 .1 .0) (qs .1 .1 .1 .0)) 0 (λ x. x) record { fits = Dec'.lit< tt } (Reads'.as-is 𝓤 H A (Mut.mslice (Referent.rtF (Referent.fInt Syntax.w16)) (Syntax.tyRef
-              (Syntax.named 3) Syntax.mut (Syntax.tyInt Syntax.w16)) 3)) Path'.refl tt) d49
-
-          d51 : Typed.Typed 𝓤 H A 𝓣 E G3 b52 Δ0 at51
-          d51 = Typed.g-pre 𝓤 H A W 𝓣 E G3 G4 b52 Δ0 (Typed.give s2) at50 (Know.g-sl-known 𝓤 H A W (Referent.fInt Syntax.w8) E G3 3 2 (Syntax.tyRef (Syntax.named 2) Syntax.mut (Syntax.tyInt
-              Syntax.w8)) (Row.lease (κs .1 .1 .0) (qs .1 .1 .0)) 0 (λ x. x) record { fits = Dec'.lit< tt } (Reads'.as-is 𝓤 H A (Mut.mslice (Referent.rtF (Referent.fInt Syntax.w8)) (Syntax.tyRef
-              (Syntax.named 2) Syntax.mut (Syntax.tyInt Syntax.w8)) 2)) Path'.refl tt) d50
-
-          d52 : Typed.Typed 𝓤 H A 𝓣 E G2 b52 Δ0 at52
-          d52 = Typed.g-pre 𝓤 H A W 𝓣 E G2 G3 b52 Δ0 (Typed.give s1) at51 (Know.g-shs-known 𝓤 H A W (Referent.fInt Syntax.w16) E G2 2 1 (Syntax.tyRef (Syntax.named 1) Syntax.imm (Syntax.tyInt
-              Syntax.w16)) (Row.lease (κs .1 .0) (qs .1 .0)) 0 (λ x. x) record { fits = Dec'.lit< tt } (Reads'.as-is 𝓤 H A (Rows.sslice (Referent.rtF (Referent.fInt Syntax.w16)) (Syntax.tyRef
-              (Syntax.named 1) Syntax.imm (Syntax.tyInt Syntax.w16)) 1)) Path'.refl tt) d51
-
-          d53 : Typed.Typed 𝓤 H A 𝓣 E G0 b52 Δ0 at53
-          d53 = Typed.g-pre 𝓤 H A W 𝓣 E G0 G2 b52 Δ0 (Typed.give s0) at52 (Know.g-shs-known 𝓤 H A W (Referent.fInt Syntax.w8) E G0 1 0 (Syntax.tyRef (Syntax.named 0) Syntax.imm (Syntax.tyInt
-              Syntax.w8)) (Row.lease (κs .0) (qs .0)) 0 (λ x. x) record { fits = Dec'.lit< tt } (Reads'.as-is 𝓤 H A (Rows.sslice (Referent.rtF (Referent.fInt Syntax.w8)) (Syntax.tyRef (Syntax.named 0)
-              Syntax.imm (Syntax.tyInt Syntax.w8)) 0)) Path'.refl tt) d52
-
-          pub typed : Typed.Typed 𝓤 H A 𝓣 E (Function.Γin 5 ps r xs m κs qs) b52 (Function.Δret 5 ps r xs m κs qs) Φ
-          typed = d53
+          pub typed : Typed.Typed 𝓤 H A 𝓣 E (Function.Γin 5 ps r xs m κs qs) b36 (Function.Δret 5 ps r xs m κs qs) Φ
+          typed = d40
 
       module _ (κs : Lifetimes.Lfts 5) where
         pub record Args : Type 0 where
-          pub header : Kinds.Den {n = 5} κs (ShrSlice.pShrS (Referent.rtF (Referent.fInt Syntax.w8)) 0 tt)
+          pub begins : Kinds.Den {n = 5} κs (Value.pVal record {
+            ty = Declared.row Parsed.the-type;
+            one = Path'.refl;
+            val = Laws'5.val Parsed.the-type Laws'3.the-laws;
+            tells = Laws'5.tells Parsed.the-type Laws'3.the-laws;
+            still = Laws'5.still
+                Parsed.the-type Laws'3.the-copy Exit.yes;
+            row = Rows.whole (Declared.row Parsed.the-type);
+            rd = λ x. x;
+            mk = λ x. x;
+          } λ M 𝓤 H A W. record {
+            copies = Laws'5.copy Parsed.the-type Laws'3.the-copy 𝓤 H A W;
+            lawful = Laws'5.lawful Parsed.the-type Laws'3.the-laws 𝓤 H A W tt;
+            makes = Laws'5.makes Parsed.the-type Laws'3.the-plain 𝓤 H
+                A;
+            in-mem = Local.mem-whole 𝓤 H A W (Declared.row Parsed.the-type);
+            of-mem = Local.whole-mem 𝓤 H A W (Declared.row Parsed.the-type);
+          })
+          pub bases : Kinds.Den {n = 5} κs (ShrSlice.pShrS (Referent.rtF (Referent.fInt Syntax.w8)) 0 tt)
           pub samples : Kinds.Den {n = 5} κs (ShrSlice.pShrS (Referent.rtF (Referent.fInt Syntax.w16)) 1 tt)
           pub out : Kinds.Den {n = 5} κs (MutSlice.pMutS (Referent.rtF (Referent.fInt Syntax.w8)) 2 tt)
           pub measure : Kinds.Den {n = 5} κs Bool.pBool
@@ -2724,7 +2241,7 @@ module _ (claims· : Claims) where
           pub rs : Kinds.Den {n = 5} κs (MutSlice.pMutS (Element.type) 4 tt)
 
         abbrev pub dens : (a : Args) → Kinds.Dens κs ps
-        dens = λ a. (a .header, (a .samples, (a .out, (a .measure, (a .lines, (a .rs, tt))))))
+        dens = λ a. (a .begins, (a .bases, (a .samples, (a .out, (a .measure, (a .lines, (a .rs, tt)))))))
 
       abbrev pub m0 : (κs : Lifetimes.Lfts 5) → (args : Args κs) → Typed.Mo T0
       m0 = λ κs args. (tt, Enter.partsP κs 1 ps xs (dens κs args))
@@ -2743,7 +2260,10 @@ module _ (claims· : Claims) where
         pub good : Kinds.GoodsP κs ps (dens κs args)
         pub pre : Pre· κs (dens κs args)
 
-      abbrev pub m1 : (before : Start) → (given : s0 .gives (m0 (before .κs) (before .args))) → Typed.Mo T2
+      abbrev W1 : (κs : Lifetimes.Lfts 5) → (args : Args κs) → Typed.Want O1
+      W1 = λ κs args. Typed.wantNext T2 O0 (at39 (W0 κs args)) (W0 κs args)
+
+      abbrev pub m1 : (before : Start) → (given : s0 .gives (m0 (before .κs) (before .args))) → Typed.Mo T3
       m1 = λ before given. s0 .next (m0 (before .κs) (before .args)) given
 
       module _ (before· : Start) where
@@ -2754,7 +2274,7 @@ module _ (claims· : Claims) where
         pub before : Start
         pub shared-slice-known : After-shared-slice-known·own before
 
-      abbrev pub m2 : (before : After-shared-slice-known) → (given : s1 .gives (m1 (before .before) (before .shared-slice-known .given))) → Typed.Mo T3
+      abbrev pub m2 : (before : After-shared-slice-known) → (given : s1 .gives (m1 (before .before) (before .shared-slice-known .given))) → Typed.Mo T4
       m2 = λ before given. s1 .next (m1 (before .before) (before .shared-slice-known .given)) given
 
       module _ (before· : After-shared-slice-known) where
@@ -2765,7 +2285,7 @@ module _ (claims· : Claims) where
         pub before : After-shared-slice-known
         pub shared-slice-known2 : After-shared-slice-known2·own before
 
-      abbrev pub m3 : (before : After-shared-slice-known2) → (given : s2 .gives (m2 (before .before) (before .shared-slice-known2 .given))) → Typed.Mo T4
+      abbrev pub m3 : (before : After-shared-slice-known2) → (given : s2 .gives (m2 (before .before) (before .shared-slice-known2 .given))) → Typed.Mo T5
       m3 = λ before given. s2 .next (m2 (before .before) (before .shared-slice-known2 .given)) given
 
       module _ (before· : After-shared-slice-known2) where
@@ -2776,17 +2296,8 @@ module _ (claims· : Claims) where
         pub before : After-shared-slice-known2
         pub slice-known : After-slice-known·own before
 
-      abbrev pub m4 : (before : After-slice-known) → (given : s3 .gives (m3 (before .before) (before .slice-known .given))) → Typed.Mo T5
+      abbrev pub m4 : (before : After-slice-known) → (given : s3 .gives (m3 (before .before) (before .slice-known .given))) → Typed.Mo T6
       m4 = λ before given. s3 .next (m3 (before .before) (before .slice-known .given)) given
-
-      abbrev pub m5 : (before : After-slice-known) → (given : s3 .gives (m3 (before .before) (before .slice-known .given))) → Typed.Mo T6
-      m5 = λ before given. s4 (m4 before given)
-
-      abbrev pub m6 : (before : After-slice-known) → (given : s3 .gives (m3 (before .before) (before .slice-known .given))) → Typed.Mo T7
-      m6 = λ before given. s5 (m5 before given)
-
-      abbrev pub m7 : (before : After-slice-known) → (given : s3 .gives (m3 (before .before) (before .slice-known .given))) → Typed.Mo T8
-      m7 = λ before given. s6 (m6 before given)
 
       module _ (before· : After-slice-known) where
         pub record After-slice-known2·own : Type 0 where
@@ -2796,502 +2307,433 @@ module _ (claims· : Claims) where
         pub before : After-slice-known
         pub slice-known2 : After-slice-known2·own before
 
-      abbrev pub Need-writing-begins-requires : Type 0
-      Need-writing-begins-requires = (c : After-slice-known2) → s7 .asks (m7 (c .before) (c .slice-known2 .given))
-
-      abbrev pub m8 : (before : After-slice-known2) → (given : s7 .gives (m7 (before .before) (before .slice-known2 .given))) → Typed.Mo T9
-      m8 = λ before given. s7 .next (m7 (before .before) (before .slice-known2 .given)) given
-
       module _ (before· : After-slice-known2) where
-        abbrev pub After-writing-begins·own : Type 0
-        After-writing-begins·own = Called.Called ps·0 r·0 (claims· .1) T8
-            (record { pos = 1; ty = Syntax.tyRef (Syntax.named 0) Syntax.imm (Syntax.tyInt Syntax.w8); ref = λ x. x }, (Num.vAt 13 λ x. x, (Num.vAt 14 λ x. x, (Num.vAt 15 λ x. x, tt)))) (m7 (before·
-            .before) (before· .slice-known2 .given))
-
-      pub record After-writing-begins : Type 0 where
-        pub before : After-slice-known2
-        pub writing-begins : After-writing-begins·own before
-
-      abbrev pub After-writing-begins·gave : (c : After-writing-begins) → s7 .gives (m7 (c .before .before) (c .before .slice-known2 .given))
-      After-writing-begins·gave = λ c. Called.given ps·0 r·0 (claims· .1) T8
-          (record { pos = 1; ty = Syntax.tyRef (Syntax.named 0) Syntax.imm (Syntax.tyInt Syntax.w8); ref = λ x. x }, (Num.vAt 13 λ x. x, (Num.vAt 14 λ x. x, (Num.vAt 15 λ x. x, tt)))) (m7 (c .before
-          .before) (c .before .slice-known2 .given)) (c .writing-begins)
-
-      abbrev W1 : (before : After-slice-known2) → (given : s7 .gives (m7 (before .before) (before .slice-known2 .given))) → Typed.Want O1
-      W1 = λ before given. Typed.wantNext T10 O0 (at44 (W0 (before .before .before .before .before .κs) (before .before .before .before .before .args))) (W0 (before .before .before .before .before
-          .κs) (before .before .before .before .before .args))
-
-      abbrev pub m9 : (before : After-slice-known2) → (given : s7 .gives (m7 (before .before) (before .slice-known2 .given))) → Typed.Mo T11
-      m9 = λ before given. s8 (m8 before given)
-
-      abbrev pub m10 : (before : After-slice-known2) → (given : s7 .gives (m7 (before .before) (before .slice-known2 .given))) → Typed.Mo T12
-      m10 = λ before given. s9 (m9 before given)
-
-      abbrev pub m11 : (before : After-slice-known2) → (given : s7 .gives (m7 (before .before) (before .slice-known2 .given))) → Typed.Mo T13
-      m11 = λ before given. s10 (m10 before given)
-
-      module _ (before· : After-writing-begins) where
         pub record At-match-keys1·own : Type 0 where
-          pub keys1 : Run.OneOf (List._∷_ 1 List.[]) (Declared.tagOf Parsed.the-type (Row.get 7 (T13 .locals) (m11 (before· .before) (After-writing-begins·gave before·))))
+          pub keys1 : Run.OneOf (List._∷_ 1 List.[]) (Declared.tagOf Parsed.the-type (Row.get 1 (T6 .locals) (m4 (before· .before) (before· .slice-known2 .given))))
 
       pub record At-match-keys1 : Type 0 where
-        pub before : After-writing-begins
+        pub before : After-slice-known2
         pub match : At-match-keys1·own before
 
       abbrev pub Need-enum-known-begins : Type 0
-      Need-enum-known-begins = (c : At-match-keys1) → s11 .asks (m11 (c .before .before) (After-writing-begins·gave (c .before)))
+      Need-enum-known-begins = (c : At-match-keys1) → s4 .asks (m4 (c .before .before) (c .before .slice-known2 .given))
 
-      abbrev pub m12 : (before : At-match-keys1) → (given : s11 .gives (m11 (before .before .before) (After-writing-begins·gave (before .before)))) → Typed.Mo T14
-      m12 = λ before given. s11 .next (m11 (before .before .before) (After-writing-begins·gave (before .before))) given
+      abbrev pub m5 : (before : At-match-keys1) → (given : s4 .gives (m4 (before .before .before) (before .before .slice-known2 .given))) → Typed.Mo T7
+      m5 = λ before given. s4 .next (m4 (before .before .before) (before .before .slice-known2 .given)) given
 
       module _ (before· : At-match-keys1) where
         pub record After-begins·own : Type 0 where
-          pub given : s11 .gives (m11 (before· .before .before) (After-writing-begins·gave (before· .before)))
+          pub given : s4 .gives (m4 (before· .before .before) (before· .before .slice-known2 .given))
 
       pub record After-begins : Type 0 where
         pub before : At-match-keys1
         pub begins : After-begins·own before
 
-      abbrev pub m13 : (before : After-begins) → (given : s12 .gives (m12 (before .before) (before .begins .given))) → Typed.Mo T15
-      m13 = λ before given. s12 .next (m12 (before .before) (before .begins .given)) given
+      abbrev pub m6 : (before : After-begins) → (given : s5 .gives (m5 (before .before) (before .begins .given))) → Typed.Mo T8
+      m6 = λ before given. s5 .next (m5 (before .before) (before .begins .given)) given
 
-      abbrev pub m14 : (before : After-begins) → (given : s12 .gives (m12 (before .before) (before .begins .given))) → Typed.Mo T16
-      m14 = λ before given. s13 (m13 before given)
+      abbrev pub m7 : (before : After-begins) → (given : s5 .gives (m5 (before .before) (before .begins .given))) → Typed.Mo T9
+      m7 = λ before given. s6 (m6 before given)
 
-      abbrev pub m15 : (before : After-begins) → (given : s12 .gives (m12 (before .before) (before .begins .given))) → Typed.Mo T17
-      m15 = λ before given. s14 (m14 before given)
+      abbrev pub m8 : (before : After-begins) → (given : s5 .gives (m5 (before .before) (before .begins .given))) → Typed.Mo T10
+      m8 = λ before given. s7 (m7 before given)
 
-      abbrev pub m16 : (before : After-begins) → (given : s12 .gives (m12 (before .before) (before .begins .given))) → Typed.Mo T18
-      m16 = λ before given. s15 (m15 before given)
+      abbrev pub m9 : (before : After-begins) → (given : s5 .gives (m5 (before .before) (before .begins .given))) → Typed.Mo T11
+      m9 = λ before given. s8 (m8 before given)
 
-      abbrev pub m17 : (before : After-begins) → (given : s12 .gives (m12 (before .before) (before .begins .given))) → Typed.Mo T19
-      m17 = λ before given. s16 (m16 before given)
+      abbrev pub m10 : (before : After-begins) → (given : s5 .gives (m5 (before .before) (before .begins .given))) → Typed.Mo T12
+      m10 = λ before given. s9 (m9 before given)
 
       module _ (before· : After-begins) where
         pub record After-known-told·own : Type 0 where
-          pub given : s12 .gives (m12 (before· .before) (before· .begins .given))
+          pub given : s5 .gives (m5 (before· .before) (before· .begins .given))
 
       pub record After-known-told : Type 0 where
         pub before : After-begins
         pub known-told : After-known-told·own before
 
-      module _ (before· : After-writing-begins) where
+      module _ (before· : After-slice-known2) where
         pub record At-match-keys2·own : Type 0 where
-          pub keys2 : Run.OneOf (List._∷_ 0 List.[]) (Declared.tagOf Parsed.the-type (Row.get 7 (T13 .locals) (m11 (before· .before) (After-writing-begins·gave before·))))
+          pub keys2 : Run.OneOf (List._∷_ 0 List.[]) (Declared.tagOf Parsed.the-type (Row.get 1 (T6 .locals) (m4 (before· .before) (before· .slice-known2 .given))))
 
       pub record At-match-keys2 : Type 0 where
-        pub before : After-writing-begins
+        pub before : After-slice-known2
         pub match : At-match-keys2·own before
 
       abbrev pub Need-enum-known-begins-2 : Type 0
-      Need-enum-known-begins-2 = (c : At-match-keys2) → s17 .asks (m11 (c .before .before) (After-writing-begins·gave (c .before)))
+      Need-enum-known-begins-2 = (c : At-match-keys2) → s10 .asks (m4 (c .before .before) (c .before .slice-known2 .given))
 
-      abbrev pub m18 : (before : At-match-keys2) → (given : s17 .gives (m11 (before .before .before) (After-writing-begins·gave (before .before)))) → Typed.Mo T20
-      m18 = λ before given. s17 .next (m11 (before .before .before) (After-writing-begins·gave (before .before))) given
+      abbrev pub m11 : (before : At-match-keys2) → (given : s10 .gives (m4 (before .before .before) (before .before .slice-known2 .given))) → Typed.Mo T13
+      m11 = λ before given. s10 .next (m4 (before .before .before) (before .before .slice-known2 .given)) given
 
       module _ (before· : At-match-keys2) where
         pub record After-begins2·own : Type 0 where
-          pub given : s17 .gives (m11 (before· .before .before) (After-writing-begins·gave (before· .before)))
+          pub given : s10 .gives (m4 (before· .before .before) (before· .before .slice-known2 .given))
 
       pub record After-begins2 : Type 0 where
         pub before : At-match-keys2
         pub begins2 : After-begins2·own before
 
-      abbrev pub m19 : (before : After-begins2) → (given : s18 .gives (m18 (before .before) (before .begins2 .given))) → Typed.Mo T21
-      m19 = λ before given. s18 .next (m18 (before .before) (before .begins2 .given)) given
+      abbrev pub m12 : (before : After-begins2) → (given : s11 .gives (m11 (before .before) (before .begins2 .given))) → Typed.Mo T14
+      m12 = λ before given. s11 .next (m11 (before .before) (before .begins2 .given)) given
 
-      abbrev pub m20 : (before : After-begins2) → (given : s18 .gives (m18 (before .before) (before .begins2 .given))) → Typed.Mo T22
-      m20 = λ before given. s19 (m19 before given)
+      abbrev pub m13 : (before : After-begins2) → (given : s11 .gives (m11 (before .before) (before .begins2 .given))) → Typed.Mo T15
+      m13 = λ before given. s12 (m12 before given)
 
-      abbrev pub m21 : (before : After-begins2) → (given : s18 .gives (m18 (before .before) (before .begins2 .given))) → Typed.Mo T23
-      m21 = λ before given. s20 (m20 before given)
+      abbrev pub m14 : (before : After-begins2) → (given : s11 .gives (m11 (before .before) (before .begins2 .given))) → Typed.Mo T16
+      m14 = λ before given. s13 (m13 before given)
 
       module _ (before· : After-begins2) where
         pub record After-known-told2·own : Type 0 where
-          pub given : s18 .gives (m18 (before· .before) (before· .begins2 .given))
+          pub given : s11 .gives (m11 (before· .before) (before· .begins2 .given))
 
       pub record After-known-told2 : Type 0 where
         pub before : After-begins2
         pub known-told2 : After-known-told2·own before
 
       abbrev pub Need-samples-needed-requires : Type 0
-      Need-samples-needed-requires = (c : After-known-told2) → s21 .asks (m21 (c .before) (c .known-told2 .given))
+      Need-samples-needed-requires = (c : After-known-told2) → s14 .asks (m14 (c .before) (c .known-told2 .given))
 
-      abbrev pub m22 : (before : After-known-told2) → (given : s21 .gives (m21 (before .before) (before .known-told2 .given))) → Typed.Mo T24
-      m22 = λ before given. s21 .next (m21 (before .before) (before .known-told2 .given)) given
+      abbrev pub m15 : (before : After-known-told2) → (given : s14 .gives (m14 (before .before) (before .known-told2 .given))) → Typed.Mo T17
+      m15 = λ before given. s14 .next (m14 (before .before) (before .known-told2 .given)) given
 
       module _ (before· : After-known-told2) where
         abbrev pub After-samples-needed·own : Type 0
-        After-samples-needed·own = Called.Called ps·1 r·1 (claims· .3) T23 (Bool.bFld 9 (List._∷_ (Syntax.field 1) List.[]) 1 λ x. FujiHeader.struct .as-values x .1 .0, tt) (m21 (before· .before)
+        After-samples-needed·own = Called.Called ps·0 r·0 (claims· .1) T16 (Bool.bFld 9 (List._∷_ (Syntax.field 1) List.[]) 1 λ x. FujiHeader.struct .as-values x .1 .0, tt) (m14 (before· .before)
             (before· .known-told2 .given))
 
       pub record After-samples-needed : Type 0 where
         pub before : After-known-told2
         pub samples-needed : After-samples-needed·own before
 
-      abbrev pub After-samples-needed·gave : (c : After-samples-needed) → s21 .gives (m21 (c .before .before) (c .before .known-told2 .given))
-      After-samples-needed·gave = λ c. Called.given ps·1 r·1 (claims· .3) T23 (Bool.bFld 9 (List._∷_ (Syntax.field 1) List.[]) 1 λ x. FujiHeader.struct .as-values x .1 .0, tt) (m21 (c .before .before)
+      abbrev pub After-samples-needed·gave : (c : After-samples-needed) → s14 .gives (m14 (c .before .before) (c .before .known-told2 .given))
+      After-samples-needed·gave = λ c. Called.given ps·0 r·0 (claims· .1) T16 (Bool.bFld 9 (List._∷_ (Syntax.field 1) List.[]) 1 λ x. FujiHeader.struct .as-values x .1 .0, tt) (m14 (c .before .before)
           (c .before .known-told2 .given)) (c .samples-needed)
 
       abbrev pub Need-form-of-requires : Type 0
-      Need-form-of-requires = (c : After-samples-needed) → s22 .asks (m22 (c .before) (After-samples-needed·gave c))
+      Need-form-of-requires = (c : After-samples-needed) → s15 .asks (m15 (c .before) (After-samples-needed·gave c))
 
-      abbrev pub m23 : (before : After-samples-needed) → (given : s22 .gives (m22 (before .before) (After-samples-needed·gave before))) → Typed.Mo T25
-      m23 = λ before given. s22 .next (m22 (before .before) (After-samples-needed·gave before)) given
+      abbrev pub m16 : (before : After-samples-needed) → (given : s15 .gives (m15 (before .before) (After-samples-needed·gave before))) → Typed.Mo T18
+      m16 = λ before given. s15 .next (m15 (before .before) (After-samples-needed·gave before)) given
 
       module _ (before· : After-samples-needed) where
         abbrev pub After-form-of·own : Type 0
-        After-form-of·own = Called.Called ps·2 r·2 (claims· .5) T24 (record { pos = 9; st = List.[]; d = 0; at = λ x. x }, tt) (m22 (before· .before) (After-samples-needed·gave before·))
+        After-form-of·own = Called.Called ps·1 r·1 (claims· .3) T17 (record { pos = 9; st = List.[]; d = 0; at = λ x. x }, tt) (m15 (before· .before) (After-samples-needed·gave before·))
 
       pub record After-form-of : Type 0 where
         pub before : After-samples-needed
         pub form-of : After-form-of·own before
 
-      abbrev pub After-form-of·gave : (c : After-form-of) → s22 .gives (m22 (c .before .before) (After-samples-needed·gave (c .before)))
-      After-form-of·gave = λ c. Called.given ps·2 r·2 (claims· .5) T24 (record { pos = 9; st = List.[]; d = 0; at = λ x. x }, tt) (m22 (c .before .before) (After-samples-needed·gave (c .before))) (c
+      abbrev pub After-form-of·gave : (c : After-form-of) → s15 .gives (m15 (c .before .before) (After-samples-needed·gave (c .before)))
+      After-form-of·gave = λ c. Called.given ps·1 r·1 (claims· .3) T17 (record { pos = 9; st = List.[]; d = 0; at = λ x. x }, tt) (m15 (c .before .before) (After-samples-needed·gave (c .before))) (c
           .form-of)
 
       abbrev pub Need-line-count-requires : Type 0
-      Need-line-count-requires = (c : After-form-of) → s23 .asks (m23 (c .before) (After-form-of·gave c))
+      Need-line-count-requires = (c : After-form-of) → s16 .asks (m16 (c .before) (After-form-of·gave c))
 
-      abbrev pub m24 : (before : After-form-of) → (given : s23 .gives (m23 (before .before) (After-form-of·gave before))) → Typed.Mo T26
-      m24 = λ before given. s23 .next (m23 (before .before) (After-form-of·gave before)) given
+      abbrev pub m17 : (before : After-form-of) → (given : s16 .gives (m16 (before .before) (After-form-of·gave before))) → Typed.Mo T19
+      m17 = λ before given. s16 .next (m16 (before .before) (After-form-of·gave before)) given
 
       module _ (before· : After-form-of) where
         abbrev pub After-line-count·own : Type 0
-        After-line-count·own = Called.Called ps·3 r·3 (claims· .7) T25 (record { pos = 9; st = List.[]; d = 0; at = λ x. x }, tt) (m23 (before· .before) (After-form-of·gave before·))
+        After-line-count·own = Called.Called ps·2 r·2 (claims· .5) T18 (record { pos = 9; st = List.[]; d = 0; at = λ x. x }, tt) (m16 (before· .before) (After-form-of·gave before·))
 
       pub record After-line-count : Type 0 where
         pub before : After-form-of
         pub line-count : After-line-count·own before
 
-      abbrev pub After-line-count·gave : (c : After-line-count) → s23 .gives (m23 (c .before .before) (After-form-of·gave (c .before)))
-      After-line-count·gave = λ c. Called.given ps·3 r·3 (claims· .7) T25 (record { pos = 9; st = List.[]; d = 0; at = λ x. x }, tt) (m23 (c .before .before) (After-form-of·gave (c .before))) (c
+      abbrev pub After-line-count·gave : (c : After-line-count) → s16 .gives (m16 (c .before .before) (After-form-of·gave (c .before)))
+      After-line-count·gave = λ c. Called.given ps·2 r·2 (claims· .5) T18 (record { pos = 9; st = List.[]; d = 0; at = λ x. x }, tt) (m16 (c .before .before) (After-form-of·gave (c .before))) (c
           .line-count)
 
-      abbrev pub m25 : (before : After-form-of) → (given : s23 .gives (m23 (before .before) (After-form-of·gave before))) → Typed.Mo T27
-      m25 = λ before given. s24 (m24 before given)
+      abbrev pub m18 : (before : After-form-of) → (given : s16 .gives (m16 (before .before) (After-form-of·gave before))) → Typed.Mo T20
+      m18 = λ before given. s17 (m17 before given)
 
-      abbrev pub m26 : (before : After-line-count) → (given : s26 .gives (m25 (before .before) (After-line-count·gave before))) → Typed.Mo T29
-      m26 = λ before given. s26 .next (m25 (before .before) (After-line-count·gave before)) given
+      abbrev pub m19 : (before : After-line-count) → (given : s19 .gives (m18 (before .before) (After-line-count·gave before))) → Typed.Mo T22
+      m19 = λ before given. s19 .next (m18 (before .before) (After-line-count·gave before)) given
 
-      abbrev pub m27 : (before : After-line-count) → (given : s26 .gives (m25 (before .before) (After-line-count·gave before))) → Typed.Mo T30
-      m27 = λ before given. s27 .next (m26 before given)
+      abbrev pub m20 : (before : After-line-count) → (given : s19 .gives (m18 (before .before) (After-line-count·gave before))) → Typed.Mo T23
+      m20 = λ before given. s20 .next (m19 before given)
 
-      abbrev pub m28 : (before : After-line-count) → (given : s26 .gives (m25 (before .before) (After-line-count·gave before))) → Typed.Mo T31
-      m28 = λ before given. s28 .next (m27 before given)
+      abbrev pub m21 : (before : After-line-count) → (given : s19 .gives (m18 (before .before) (After-line-count·gave before))) → Typed.Mo T24
+      m21 = λ before given. s21 .next (m20 before given)
 
       module _ (before· : After-line-count) where
         pub record After-write-set-arg·own : Type 0 where
-          pub given : s26 .gives (m25 (before· .before) (After-line-count·gave before·))
+          pub given : s19 .gives (m18 (before· .before) (After-line-count·gave before·))
 
       pub record After-write-set-arg : Type 0 where
         pub before : After-line-count
         pub write-set-arg : After-write-set-arg·own before
 
       abbrev pub Need-sub-write-set : Type 0
-      Need-sub-write-set = (c : After-write-set-arg) → s29 .asks (m28 (c .before) (c .write-set-arg .given))
+      Need-sub-write-set = (c : After-write-set-arg) → s22 .asks (m21 (c .before) (c .write-set-arg .given))
 
-      abbrev pub m29 : (before : After-line-count) → (given : s26 .gives (m25 (before .before) (After-line-count·gave before))) → Typed.Mo T32
-      m29 = λ before given. s29 .next (m28 before given)
+      abbrev pub m22 : (before : After-line-count) → (given : s19 .gives (m18 (before .before) (After-line-count·gave before))) → Typed.Mo T25
+      m22 = λ before given. s22 .next (m21 before given)
 
       abbrev pub Need-part-write-set-start : Type 0
-      Need-part-write-set-start = (c : After-write-set-arg) → PartAt.PartFrom T32 (λ u. 0) (λ u. u .1 .1 .1 .1 .1 .1 .1 .1 .1 .1 .0) (m29 (c .before) (c .write-set-arg .given))
+      Need-part-write-set-start = (c : After-write-set-arg) → PartAt.PartFrom T25 (λ u. 0) (λ u. u .1 .1 .1 .1 .1 .1 .1 .1 .1 .1 .0) (m22 (c .before) (c .write-set-arg .given))
 
       abbrev pub Need-part-write-set-end : Type 0
-      Need-part-write-set-end = (c : After-write-set-arg) → PartAt.PartTo T32 5 19 (λ x. x) (λ u. u .1 .1 .1 .1 .1 .1 .1 .1 .1 .1 .0) (m29 (c .before) (c .write-set-arg .given))
+      Need-part-write-set-end = (c : After-write-set-arg) → PartAt.PartTo T25 6 16 (λ x. x) (λ u. u .1 .1 .1 .1 .1 .1 .1 .1 .1 .1 .0) (m22 (c .before) (c .write-set-arg .given))
 
-      abbrev pub m30 : (before : After-write-set-arg) → (given : s31 .gives (m29 (before .before) (before .write-set-arg .given))) → Typed.Mo T34
-      m30 = λ before given. s31 .next (m29 (before .before) (before .write-set-arg .given)) given
+      abbrev pub m23 : (before : After-write-set-arg) → (given : s24 .gives (m22 (before .before) (before .write-set-arg .given))) → Typed.Mo T27
+      m23 = λ before given. s24 .next (m22 (before .before) (before .write-set-arg .given)) given
 
-      abbrev pub m31 : (before : After-write-set-arg) → (given : s31 .gives (m29 (before .before) (before .write-set-arg .given))) → Typed.Mo T35
-      m31 = λ before given. s32 (m30 before given)
+      abbrev pub m24 : (before : After-write-set-arg) → (given : s24 .gives (m22 (before .before) (before .write-set-arg .given))) → Typed.Mo T28
+      m24 = λ before given. s25 (m23 before given)
 
-      abbrev pub m32 : (before : After-write-set-arg) → (given : s31 .gives (m29 (before .before) (before .write-set-arg .given))) → Typed.Mo T36
-      m32 = λ before given. s33 .next (m31 before given)
+      abbrev pub m25 : (before : After-write-set-arg) → (given : s24 .gives (m22 (before .before) (before .write-set-arg .given))) → Typed.Mo T29
+      m25 = λ before given. s26 .next (m24 before given)
 
-      abbrev pub m33 : (before : After-write-set-arg) → (given : s31 .gives (m29 (before .before) (before .write-set-arg .given))) → Typed.Mo T37
-      m33 = λ before given. s34 (m32 before given)
+      abbrev pub m26 : (before : After-write-set-arg) → (given : s24 .gives (m22 (before .before) (before .write-set-arg .given))) → Typed.Mo T30
+      m26 = λ before given. s27 (m25 before given)
 
-      abbrev pub m34 : (before : After-write-set-arg) → (given : s31 .gives (m29 (before .before) (before .write-set-arg .given))) → Typed.Mo T38
-      m34 = λ before given. s35 .next (m33 before given)
+      abbrev pub m27 : (before : After-write-set-arg) → (given : s24 .gives (m22 (before .before) (before .write-set-arg .given))) → Typed.Mo T31
+      m27 = λ before given. s28 .next (m26 before given)
 
       module _ (before· : After-write-set-arg) where
         pub record After-write-set-arg2·own : Type 0 where
-          pub given : s31 .gives (m29 (before· .before) (before· .write-set-arg .given))
+          pub given : s24 .gives (m22 (before· .before) (before· .write-set-arg .given))
 
       pub record After-write-set-arg2 : Type 0 where
         pub before : After-write-set-arg
         pub write-set-arg2 : After-write-set-arg2·own before
 
       abbrev pub Need-sub-write-set-2 : Type 0
-      Need-sub-write-set-2 = (c : After-write-set-arg2) → s36 .asks (m34 (c .before) (c .write-set-arg2 .given))
+      Need-sub-write-set-2 = (c : After-write-set-arg2) → s29 .asks (m27 (c .before) (c .write-set-arg2 .given))
 
-      abbrev pub m35 : (before : After-write-set-arg) → (given : s31 .gives (m29 (before .before) (before .write-set-arg .given))) → Typed.Mo T39
-      m35 = λ before given. s36 .next (m34 before given)
+      abbrev pub m28 : (before : After-write-set-arg) → (given : s24 .gives (m22 (before .before) (before .write-set-arg .given))) → Typed.Mo T32
+      m28 = λ before given. s29 .next (m27 before given)
 
       abbrev pub Need-part-write-set-start-2 : Type 0
-      Need-part-write-set-start-2 = (c : After-write-set-arg2) → PartAt.PartFrom T39 (λ u. 0) (λ u. 336) (m35 (c .before) (c .write-set-arg2 .given))
+      Need-part-write-set-start-2 = (c : After-write-set-arg2) → PartAt.PartFrom T32 (λ u. 0) (λ u. 336) (m28 (c .before) (c .write-set-arg2 .given))
 
       abbrev pub Need-part-write-set-end-2 : Type 0
-      Need-part-write-set-end-2 = (c : After-write-set-arg2) → PartAt.PartTo T39 6 23 (λ x. x) (λ u. 336) (m35 (c .before) (c .write-set-arg2 .given))
+      Need-part-write-set-end-2 = (c : After-write-set-arg2) → PartAt.PartTo T32 7 20 (λ x. x) (λ u. 336) (m28 (c .before) (c .write-set-arg2 .given))
 
-      abbrev pub m36 : (before : After-write-set-arg2) → (given : s38 .gives (m35 (before .before) (before .write-set-arg2 .given))) → Typed.Mo T41
-      m36 = λ before given. s38 .next (m35 (before .before) (before .write-set-arg2 .given)) given
+      abbrev pub m29 : (before : After-write-set-arg2) → (given : s31 .gives (m28 (before .before) (before .write-set-arg2 .given))) → Typed.Mo T34
+      m29 = λ before given. s31 .next (m28 (before .before) (before .write-set-arg2 .given)) given
 
-      abbrev pub m37 : (before : After-write-set-arg2) → (given : s38 .gives (m35 (before .before) (before .write-set-arg2 .given))) → Typed.Mo T42
-      m37 = λ before given. s39 (m36 before given)
+      abbrev pub m30 : (before : After-write-set-arg2) → (given : s31 .gives (m28 (before .before) (before .write-set-arg2 .given))) → Typed.Mo T35
+      m30 = λ before given. s32 (m29 before given)
 
-      abbrev pub m38 : (before : After-write-set-arg2) → (given : s38 .gives (m35 (before .before) (before .write-set-arg2 .given))) → Typed.Mo T43
-      m38 = λ before given. s40 .next (m37 before given)
+      abbrev pub m31 : (before : After-write-set-arg2) → (given : s31 .gives (m28 (before .before) (before .write-set-arg2 .given))) → Typed.Mo T36
+      m31 = λ before given. s33 .next (m30 before given)
 
-      abbrev pub m39 : (before : After-write-set-arg2) → (given : s38 .gives (m35 (before .before) (before .write-set-arg2 .given))) → Typed.Mo T44
-      m39 = λ before given. s41 (m38 before given)
-
-      abbrev pub m40 : (before : After-write-set-arg2) → (given : s38 .gives (m35 (before .before) (before .write-set-arg2 .given))) → Typed.Mo T45
-      m40 = λ before given. s42 .next (m39 before given)
+      abbrev pub m32 : (before : After-write-set-arg2) → (given : s31 .gives (m28 (before .before) (before .write-set-arg2 .given))) → Typed.Mo T37
+      m32 = λ before given. s34 (m31 before given)
 
       module _ (before· : After-write-set-arg2) where
         pub record After-write-set-arg3·own : Type 0 where
-          pub given : s38 .gives (m35 (before· .before) (before· .write-set-arg2 .given))
+          pub given : s31 .gives (m28 (before· .before) (before· .write-set-arg2 .given))
 
       pub record After-write-set-arg3 : Type 0 where
         pub before : After-write-set-arg2
         pub write-set-arg3 : After-write-set-arg3·own before
 
-      abbrev pub Need-sub-write-set-3 : Type 0
-      Need-sub-write-set-3 = (c : After-write-set-arg3) → s43 .asks (m40 (c .before) (c .write-set-arg3 .given))
+      abbrev pub Need-write-set-requires : Type 0
+      Need-write-set-requires = (c : After-write-set-arg3) → s35 .asks (m32 (c .before) (c .write-set-arg3 .given))
 
-      abbrev pub m41 : (before : After-write-set-arg2) → (given : s38 .gives (m35 (before .before) (before .write-set-arg2 .given))) → Typed.Mo T46
-      m41 = λ before given. s43 .next (m40 before given)
+      abbrev pub m33 : (before : After-write-set-arg3) → (given : s35 .gives (m32 (before .before) (before .write-set-arg3 .given))) → Typed.Mo T38
+      m33 = λ before given. s35 .next (m32 (before .before) (before .write-set-arg3 .given)) given
 
-      abbrev pub Need-part-write-set-start-3 : Type 0
-      Need-part-write-set-start-3 = (c : After-write-set-arg3) → PartAt.PartFrom T46 (λ u. 0) (λ u. 0) (m41 (c .before) (c .write-set-arg3 .given))
+      abbrev pub m34 : (before : After-write-set-arg3) → (given : s35 .gives (m32 (before .before) (before .write-set-arg3 .given))) → Typed.Mo T39
+      m34 = λ before given. s36 (m33 before given)
 
-      abbrev pub Need-part-write-set-end-3 : Type 0
-      Need-part-write-set-end-3 = (c : After-write-set-arg3) → PartAt.PartTo T46 1 27 (λ x. x) (λ u. 0) (m41 (c .before) (c .write-set-arg3 .given))
+      abbrev pub m35 : (before : After-write-set-arg3) → (given : s35 .gives (m32 (before .before) (before .write-set-arg3 .given))) → Typed.Mo T40
+      m35 = λ before given. s37 (m34 before given)
 
-      abbrev pub m42 : (before : After-write-set-arg3) → (given : s44 .gives (m41 (before .before) (before .write-set-arg3 .given))) → Typed.Mo T47
-      m42 = λ before given. s44 .next (m41 (before .before) (before .write-set-arg3 .given)) given
-
-      abbrev pub m43 : (before : After-write-set-arg3) → (given : s44 .gives (m41 (before .before) (before .write-set-arg3 .given))) → Typed.Mo T48
-      m43 = λ before given. s45 (m42 before given)
-
-      abbrev pub m44 : (before : After-write-set-arg3) → (given : s44 .gives (m41 (before .before) (before .write-set-arg3 .given))) → Typed.Mo T49
-      m44 = λ before given. s46 .next (m43 before given)
-
-      abbrev pub m45 : (before : After-write-set-arg3) → (given : s44 .gives (m41 (before .before) (before .write-set-arg3 .given))) → Typed.Mo T50
-      m45 = λ before given. s47 (m44 before given)
+      abbrev pub m36 : (before : After-write-set-arg3) → (given : s35 .gives (m32 (before .before) (before .write-set-arg3 .given))) → Typed.Mo T41
+      m36 = λ before given. s38 (m35 before given)
 
       module _ (before· : After-write-set-arg3) where
-        pub record After-write-set-arg4·own : Type 0 where
-          pub given : s44 .gives (m41 (before· .before) (before· .write-set-arg3 .given))
-
-      pub record After-write-set-arg4 : Type 0 where
-        pub before : After-write-set-arg3
-        pub write-set-arg4 : After-write-set-arg4·own before
-
-      abbrev pub Need-write-set-requires : Type 0
-      Need-write-set-requires = (c : After-write-set-arg4) → s48 .asks (m45 (c .before) (c .write-set-arg4 .given))
-
-      abbrev pub m46 : (before : After-write-set-arg4) → (given : s48 .gives (m45 (before .before) (before .write-set-arg4 .given))) → Typed.Mo T51
-      m46 = λ before given. s48 .next (m45 (before .before) (before .write-set-arg4 .given)) given
-
-      abbrev pub m47 : (before : After-write-set-arg4) → (given : s48 .gives (m45 (before .before) (before .write-set-arg4 .given))) → Typed.Mo T52
-      m47 = λ before given. s49 (m46 before given)
-
-      abbrev pub m48 : (before : After-write-set-arg4) → (given : s48 .gives (m45 (before .before) (before .write-set-arg4 .given))) → Typed.Mo T53
-      m48 = λ before given. s50 (m47 before given)
-
-      abbrev pub m49 : (before : After-write-set-arg4) → (given : s48 .gives (m45 (before .before) (before .write-set-arg4 .given))) → Typed.Mo T54
-      m49 = λ before given. s51 (m48 before given)
-
-      abbrev pub m50 : (before : After-write-set-arg4) → (given : s48 .gives (m45 (before .before) (before .write-set-arg4 .given))) → Typed.Mo T55
-      m50 = λ before given. s52 (m49 before given)
-
-      module _ (before· : After-write-set-arg4) where
         abbrev pub After-write-set·own : Type 0
-        After-write-set·own = Called.Called ps·4 r·4 (claims· .9) T50 (
-          record { pos = 2; ty = Syntax.tyRef (Syntax.named 1) Syntax.imm (Syntax.tyInt Syntax.w16); ref = λ x. x },
+        After-write-set·own = Called.Called ps·3 r·3 (claims· .7) T37 (
+          record { pos = 3; ty = Syntax.tyRef (Syntax.named 1) Syntax.imm (Syntax.tyInt Syntax.w16); ref = λ x. x },
           (
-            record { pos = 18; ty = Syntax.tyRef Syntax.erased Syntax.mut (Syntax.tyInt Syntax.w8); ref = λ x. x },
+            record { pos = 15; ty = Syntax.tyRef Syntax.erased Syntax.mut (Syntax.tyInt Syntax.w8); ref = λ x. x },
             (
-              Bool.bAt 4 λ x. x,
+              Bool.bAt 5 λ x. x,
               (
-                record { pos = 22; ty = Syntax.tyRef Syntax.erased Syntax.mut (Syntax.tyInt Syntax.w16); ref = λ x. x },
+                record { pos = 19; ty = Syntax.tyRef Syntax.erased Syntax.mut (Syntax.tyInt Syntax.w16); ref = λ x. x },
                 (
-                  record { pos = 26; ty = Syntax.tyRef Syntax.erased Syntax.mut Element.behind; ref = λ x. x },
-                  (record { pos = 11; st = List.[]; d = 0; at = λ x. x }, (record { pos = 30; ty = Syntax.tyRef Syntax.erased Syntax.imm (Syntax.tyInt Syntax.w8); ref = λ x. x }, (Num.vAt 12 λ x. x, tt))),
+                  record { pos = 23; ty = Syntax.tyRef Syntax.erased Syntax.mut Element.behind; ref = λ x. x },
+                  (
+                    record { pos = 11; st = List.[]; d = 0; at = λ x. x },
+                    (record { pos = 2; ty = Syntax.tyRef (Syntax.named 0) Syntax.imm (Syntax.tyInt Syntax.w8); ref = λ x. x }, (Num.vAt 12 λ x. x, tt)),
+                  ),
                 ),
               ),
             ),
           ),
-        )
-            (m45 (before· .before) (before· .write-set-arg4 .given))
+        ) (m32 (before· .before) (before· .write-set-arg3
+            .given))
 
       pub record After-write-set : Type 0 where
-        pub before : After-write-set-arg4
+        pub before : After-write-set-arg3
         pub write-set : After-write-set·own before
 
-      abbrev pub After-write-set·gave : (c : After-write-set) → s48 .gives (m45 (c .before .before) (c .before .write-set-arg4 .given))
-      After-write-set·gave = λ c. Called.given ps·4 r·4 (claims· .9) T50 (
-        record { pos = 2; ty = Syntax.tyRef (Syntax.named 1) Syntax.imm (Syntax.tyInt Syntax.w16); ref = λ x. x },
+      abbrev pub After-write-set·gave : (c : After-write-set) → s35 .gives (m32 (c .before .before) (c .before .write-set-arg3 .given))
+      After-write-set·gave = λ c. Called.given ps·3 r·3 (claims· .7) T37 (
+        record { pos = 3; ty = Syntax.tyRef (Syntax.named 1) Syntax.imm (Syntax.tyInt Syntax.w16); ref = λ x. x },
         (
-          record { pos = 18; ty = Syntax.tyRef Syntax.erased Syntax.mut (Syntax.tyInt Syntax.w8); ref = λ x. x },
+          record { pos = 15; ty = Syntax.tyRef Syntax.erased Syntax.mut (Syntax.tyInt Syntax.w8); ref = λ x. x },
           (
-            Bool.bAt 4 λ x. x,
+            Bool.bAt 5 λ x. x,
             (
-              record { pos = 22; ty = Syntax.tyRef Syntax.erased Syntax.mut (Syntax.tyInt Syntax.w16); ref = λ x. x },
+              record { pos = 19; ty = Syntax.tyRef Syntax.erased Syntax.mut (Syntax.tyInt Syntax.w16); ref = λ x. x },
               (
-                record { pos = 26; ty = Syntax.tyRef Syntax.erased Syntax.mut Element.behind; ref = λ x. x },
-                (record { pos = 11; st = List.[]; d = 0; at = λ x. x }, (record { pos = 30; ty = Syntax.tyRef Syntax.erased Syntax.imm (Syntax.tyInt Syntax.w8); ref = λ x. x }, (Num.vAt 12 λ x. x, tt))),
+                record { pos = 23; ty = Syntax.tyRef Syntax.erased Syntax.mut Element.behind; ref = λ x. x },
+                (record { pos = 11; st = List.[]; d = 0; at = λ x. x }, (record { pos = 2; ty = Syntax.tyRef (Syntax.named 0) Syntax.imm (Syntax.tyInt Syntax.w8); ref = λ x. x }, (Num.vAt 12 λ x. x, tt))),
               ),
             ),
           ),
         ),
       )
-          (m45 (c .before .before) (c .before .write-set-arg4 .given)) (c .write-set)
+          (m32 (c .before .before) (c .before .write-set-arg3 .given)) (c .write-set)
 
-      abbrev pub m51 : (before : After-write-set) → (given : s54 .gives (m50 (before .before) (After-write-set·gave before))) → Typed.Mo T57
-      m51 = λ before given. s54 .next (m50 (before .before) (After-write-set·gave before)) given
+      abbrev pub m37 : (before : After-write-set) → (given : s40 .gives (m36 (before .before) (After-write-set·gave before))) → Typed.Mo T43
+      m37 = λ before given. s40 .next (m36 (before .before) (After-write-set·gave before)) given
 
       module _ (before· : After-write-set) where
         pub record After-out·own : Type 0 where
-          pub given : s54 .gives (m50 (before· .before) (After-write-set·gave before·))
+          pub given : s40 .gives (m36 (before· .before) (After-write-set·gave before·))
 
       pub record After-out : Type 0 where
         pub before : After-write-set
         pub out : After-out·own before
 
-      abbrev pub m52 : (before : After-out) → (given : s55 .gives (m51 (before .before) (before .out .given))) → Typed.Mo T58
-      m52 = λ before given. s55 .next (m51 (before .before) (before .out .given)) given
+      abbrev pub m38 : (before : After-out) → (given : s41 .gives (m37 (before .before) (before .out .given))) → Typed.Mo T44
+      m38 = λ before given. s41 .next (m37 (before .before) (before .out .given)) given
 
       module _ (before· : After-out) where
         pub record After-slice-known3·own : Type 0 where
-          pub given : s55 .gives (m51 (before· .before) (before· .out .given))
+          pub given : s41 .gives (m37 (before· .before) (before· .out .given))
 
       pub record After-slice-known3 : Type 0 where
         pub before : After-out
         pub slice-known3 : After-slice-known3·own before
 
-      abbrev pub m53 : (before : After-slice-known3) → (given : s58 .gives (m52 (before .before) (before .slice-known3 .given))) → Typed.Mo T61
-      m53 = λ before given. s58 .next (m52 (before .before) (before .slice-known3 .given)) given
+      abbrev pub m39 : (before : After-slice-known3) → (given : s44 .gives (m38 (before .before) (before .slice-known3 .given))) → Typed.Mo T47
+      m39 = λ before given. s44 .next (m38 (before .before) (before .slice-known3 .given)) given
 
       module _ (before· : After-slice-known3) where
         pub record After-lines·own : Type 0 where
-          pub given : s58 .gives (m52 (before· .before) (before· .slice-known3 .given))
+          pub given : s44 .gives (m38 (before· .before) (before· .slice-known3 .given))
 
       pub record After-lines : Type 0 where
         pub before : After-slice-known3
         pub lines : After-lines·own before
 
-      abbrev pub m54 : (before : After-lines) → (given : s59 .gives (m53 (before .before) (before .lines .given))) → Typed.Mo T62
-      m54 = λ before given. s59 .next (m53 (before .before) (before .lines .given)) given
+      abbrev pub m40 : (before : After-lines) → (given : s45 .gives (m39 (before .before) (before .lines .given))) → Typed.Mo T48
+      m40 = λ before given. s45 .next (m39 (before .before) (before .lines .given)) given
 
       module _ (before· : After-lines) where
         pub record After-slice-known4·own : Type 0 where
-          pub given : s59 .gives (m53 (before· .before) (before· .lines .given))
+          pub given : s45 .gives (m39 (before· .before) (before· .lines .given))
 
       pub record After-slice-known4 : Type 0 where
         pub before : After-lines
         pub slice-known4 : After-slice-known4·own before
 
-      abbrev pub m55 : (before : After-slice-known4) → (given : s62 .gives (m54 (before .before) (before .slice-known4 .given))) → Typed.Mo T65
-      m55 = λ before given. s62 .next (m54 (before .before) (before .slice-known4 .given)) given
+      abbrev pub m41 : (before : After-slice-known4) → (given : s48 .gives (m40 (before .before) (before .slice-known4 .given))) → Typed.Mo T51
+      m41 = λ before given. s48 .next (m40 (before .before) (before .slice-known4 .given)) given
 
       module _ (before· : After-slice-known4) where
         pub record After-rs·own : Type 0 where
-          pub given : s62 .gives (m54 (before· .before) (before· .slice-known4 .given))
+          pub given : s48 .gives (m40 (before· .before) (before· .slice-known4 .given))
 
       pub record After-rs : Type 0 where
         pub before : After-slice-known4
         pub rs : After-rs·own before
 
-      abbrev pub m56 : (before : After-begins) → (given : s12 .gives (m12 (before .before) (before .begins .given))) → Typed.Mo T67
-      m56 = λ before given. s64 (m17 before given)
+      abbrev pub m42 : (before : After-begins) → (given : s5 .gives (m5 (before .before) (before .begins .given))) → Typed.Mo T53
+      m42 = λ before given. s50 (m10 before given)
 
-      abbrev pub m57 : (before : After-begins) → (given : s12 .gives (m12 (before .before) (before .begins .given))) → Typed.Mo T68
-      m57 = λ before given. s65 (m56 before given)
+      abbrev pub m43 : (before : After-begins) → (given : s5 .gives (m5 (before .before) (before .begins .given))) → Typed.Mo T54
+      m43 = λ before given. s51 (m42 before given)
 
-      abbrev pub m58 : (before : After-begins) → (given : s12 .gives (m12 (before .before) (before .begins .given))) → Typed.Mo T69
-      m58 = λ before given. s66 (m57 before given)
+      abbrev pub m44 : (before : After-begins) → (given : s5 .gives (m5 (before .before) (before .begins .given))) → Typed.Mo T55
+      m44 = λ before given. s52 (m43 before given)
 
       abbrev pub Need-returns : Type 0
-      Need-returns = (c : After-known-told) → Post· (c .before .before .before .before .before .before .before .before .κs) (dens (c .before .before .before .before .before .before .before .before
-          .κs) (c .before .before .before .before .before .before .before .before .args)) (Function.resV r (c .before .before .before .before .before .before .before .before .κs) (m58 (c .before) (c
-          .known-told .given) .0)) (Clauses.atExit (Kinds.endedOf 5 ps r) (c .before .before .before .before .before .before .before .before .κs) (dens (c .before .before .before .before .before .before
-          .before .before .κs) (c .before .before .before .before .before .before .before .before .args)) (Enter.lastsP (c .before .before .before .before .before .before .before .before .κs) 1 ps xs
-          (dens (c .before .before .before .before .before .before .before .before .κs) (c .before .before .before .before .before .before .before .before .args)) (m58 (c .before) (c .known-told .given)
-          .1)))
+      Need-returns = (c : After-known-told) → Post· (c .before .before .before .before .before .before .before .κs) (dens (c .before .before .before .before .before .before .before .κs) (c .before
+          .before .before .before .before .before .before .args)) (Function.resV r (c .before .before .before .before .before .before .before .κs) (m44 (c .before) (c .known-told .given) .0))
+          (Clauses.atExit (Kinds.endedOf 5 ps r) (c .before .before .before .before .before .before .before .κs) (dens (c .before .before .before .before .before .before .before .κs) (c .before .before
+          .before .before .before .before .before .args)) (Enter.lastsP (c .before .before .before .before .before .before .before .κs) 1 ps xs (dens (c .before .before .before .before .before .before
+          .before .κs) (c .before .before .before .before .before .before .before .args)) (m44 (c .before) (c .known-told .given) .1)))
 
-      abbrev pub m59 : (before : After-slice-known4) → (given : s62 .gives (m54 (before .before) (before .slice-known4 .given))) → Typed.Mo T67
-      m59 = λ before given. s64 (m55 before given)
+      abbrev pub m45 : (before : After-slice-known4) → (given : s48 .gives (m40 (before .before) (before .slice-known4 .given))) → Typed.Mo T53
+      m45 = λ before given. s50 (m41 before given)
 
-      abbrev pub m60 : (before : After-slice-known4) → (given : s62 .gives (m54 (before .before) (before .slice-known4 .given))) → Typed.Mo T68
-      m60 = λ before given. s65 (m59 before given)
+      abbrev pub m46 : (before : After-slice-known4) → (given : s48 .gives (m40 (before .before) (before .slice-known4 .given))) → Typed.Mo T54
+      m46 = λ before given. s51 (m45 before given)
 
-      abbrev pub m61 : (before : After-slice-known4) → (given : s62 .gives (m54 (before .before) (before .slice-known4 .given))) → Typed.Mo T69
-      m61 = λ before given. s66 (m60 before given)
+      abbrev pub m47 : (before : After-slice-known4) → (given : s48 .gives (m40 (before .before) (before .slice-known4 .given))) → Typed.Mo T55
+      m47 = λ before given. s52 (m46 before given)
 
       abbrev pub Need-same-length : Type 0
-      Need-same-length = (c : After-rs) → MutSlice.SameLen (Row.get 3 (T69 .locals) (m61 (c .before) (c .rs .given))) (dens (c .before .before .before .before .before .before .before .before .before
-          .before .before .before .before .before .before .before .before .before .before .before .before .κs) (c .before .before .before .before .before .before .before .before .before .before .before
-          .before .before .before .before .before .before .before .before .before .before .args) .1 .1 .0)
+      Need-same-length = (c : After-rs) → MutSlice.SameLen (Row.get 4 (T55 .locals) (m47 (c .before) (c .rs .given))) (dens (c .before .before .before .before .before .before .before .before .before
+          .before .before .before .before .before .before .before .before .before .before .κs) (c .before .before .before .before .before .before .before .before .before .before .before .before .before
+          .before .before .before .before .before .before .args) .1 .1 .1 .0)
 
       abbrev pub Need-same-length-2 : Type 0
-      Need-same-length-2 = (c : After-rs) → MutSlice.SameLen (Row.get 5 (T69 .locals) (m61 (c .before) (c .rs .given))) (dens (c .before .before .before .before .before .before .before .before .before
-          .before .before .before .before .before .before .before .before .before .before .before .before .κs) (c .before .before .before .before .before .before .before .before .before .before .before
-          .before .before .before .before .before .before .before .before .before .before .args) .1 .1 .1 .1 .0)
+      Need-same-length-2 = (c : After-rs) → MutSlice.SameLen (Row.get 6 (T55 .locals) (m47 (c .before) (c .rs .given))) (dens (c .before .before .before .before .before .before .before .before .before
+          .before .before .before .before .before .before .before .before .before .before .κs) (c .before .before .before .before .before .before .before .before .before .before .before .before .before
+          .before .before .before .before .before .before .args) .1 .1 .1 .1 .1 .0)
 
       abbrev pub Need-same-length-3 : Type 0
-      Need-same-length-3 = (c : After-rs) → MutSlice.SameLen (Row.get 6 (T69 .locals) (m61 (c .before) (c .rs .given))) (dens (c .before .before .before .before .before .before .before .before .before
-          .before .before .before .before .before .before .before .before .before .before .before .before .κs) (c .before .before .before .before .before .before .before .before .before .before .before
-          .before .before .before .before .before .before .before .before .before .before .args) .1 .1 .1 .1 .1 .0)
+      Need-same-length-3 = (c : After-rs) → MutSlice.SameLen (Row.get 7 (T55 .locals) (m47 (c .before) (c .rs .given))) (dens (c .before .before .before .before .before .before .before .before .before
+          .before .before .before .before .before .before .before .before .before .before .κs) (c .before .before .before .before .before .before .before .before .before .before .before .before .before
+          .before .before .before .before .before .before .args) .1 .1 .1 .1 .1 .1 .0)
 
       abbrev pub Need-returns-2 : Type 0
       Need-returns-2 = (c : After-rs) → Post· (c .before .before .before .before .before .before .before .before .before .before .before .before .before .before .before .before .before .before .before
-          .before .before .κs) (dens (c .before .before .before .before .before .before .before .before .before .before .before .before .before .before .before .before .before .before .before .before
-          .before .κs) (c .before .before .before .before .before .before .before .before .before .before .before .before .before .before .before .before .before .before .before .before .before .args))
-          (Function.resV r (c .before .before .before .before .before .before .before .before .before .before .before .before .before .before .before .before .before .before .before .before .before .κs)
-          (m61 (c .before) (c .rs .given) .0)) (Clauses.atExit (Kinds.endedOf 5 ps r) (c .before .before .before .before .before .before .before .before .before .before .before .before .before .before
-          .before .before .before .before .before .before .before .κs) (dens (c .before .before .before .before .before .before .before .before .before .before .before .before .before .before .before
-          .before .before .before .before .before .before .κs) (c .before .before .before .before .before .before .before .before .before .before .before .before .before .before .before .before .before
-          .before .before .before .before .args)) (Enter.lastsP (c .before .before .before .before .before .before .before .before .before .before .before .before .before .before .before .before .before
-          .before .before .before .before .κs) 1 ps xs (dens (c .before .before .before .before .before .before .before .before .before .before .before .before .before .before .before .before .before
-          .before .before .before .before .κs) (c .before .before .before .before .before .before .before .before .before .before .before .before .before .before .before .before .before .before .before
-          .before .before .args)) (m61 (c .before) (c .rs .given) .1)))
+          .κs) (dens (c .before .before .before .before .before .before .before .before .before .before .before .before .before .before .before .before .before .before .before .κs) (c .before .before
+          .before .before .before .before .before .before .before .before .before .before .before .before .before .before .before .before .before .args)) (Function.resV r (c .before .before .before
+          .before .before .before .before .before .before .before .before .before .before .before .before .before .before .before .before .κs) (m47 (c .before) (c .rs .given) .0)) (Clauses.atExit
+          (Kinds.endedOf 5 ps r) (c .before .before .before .before .before .before .before .before .before .before .before .before .before .before .before .before .before .before .before .κs) (dens (c
+          .before .before .before .before .before .before .before .before .before .before .before .before .before .before .before .before .before .before .before .κs) (c .before .before .before .before
+          .before .before .before .before .before .before .before .before .before .before .before .before .before .before .before .args)) (Enter.lastsP (c .before .before .before .before .before .before
+          .before .before .before .before .before .before .before .before .before .before .before .before .before .κs) 1 ps xs (dens (c .before .before .before .before .before .before .before .before
+          .before .before .before .before .before .before .before .before .before .before .before .κs) (c .before .before .before .before .before .before .before .before .before .before .before .before
+          .before .before .before .before .before .before .before .args)) (m47 (c .before) (c .rs .given) .1)))
 
-      module _ (writing-begins-requires : Need-writing-begins-requires) (enum-known-begins : Need-enum-known-begins) (enum-known-begins-2 : Need-enum-known-begins-2) (samples-needed-requires :
-          Need-samples-needed-requires) (form-of-requires : Need-form-of-requires) (line-count-requires : Need-line-count-requires) (sub-write-set : Need-sub-write-set) (part-write-set-start :
-          Need-part-write-set-start) (part-write-set-end : Need-part-write-set-end) (sub-write-set-2 : Need-sub-write-set-2) (part-write-set-start-2 : Need-part-write-set-start-2) (part-write-set-end-2 :
-          Need-part-write-set-end-2) (sub-write-set-3 : Need-sub-write-set-3) (part-write-set-start-3 : Need-part-write-set-start-3) (part-write-set-end-3 : Need-part-write-set-end-3) (write-set-requires
-          : Need-write-set-requires) (returns : Need-returns) (same-length : Need-same-length) (same-length-2 : Need-same-length-2) (same-length-3 : Need-same-length-3) (returns-2 : Need-returns-2) where
-        lay6 : (c : After-rs) → at44 (W0 (c .before .before .before .before .before .before .before .before .before .before .before .before .before .before .before .before .before .before .before
-            .before .before .κs) (c .before .before .before .before .before .before .before .before .before .before .before .before .before .before .before .before .before .before .before .before .before
-            .args)) (m55 (c .before) (c .rs .given))
-        lay6 = λ c. (
+      module _ (enum-known-begins : Need-enum-known-begins) (enum-known-begins-2 : Need-enum-known-begins-2) (samples-needed-requires : Need-samples-needed-requires) (form-of-requires :
+          Need-form-of-requires) (line-count-requires : Need-line-count-requires) (sub-write-set : Need-sub-write-set) (part-write-set-start : Need-part-write-set-start) (part-write-set-end :
+          Need-part-write-set-end) (sub-write-set-2 : Need-sub-write-set-2) (part-write-set-start-2 : Need-part-write-set-start-2) (part-write-set-end-2 : Need-part-write-set-end-2) (write-set-requires :
+          Need-write-set-requires) (returns : Need-returns) (same-length : Need-same-length) (same-length-2 : Need-same-length-2) (same-length-3 : Need-same-length-3) (returns-2 : Need-returns-2) where
+        lay5 : (c : After-rs) → at39 (W0 (c .before .before .before .before .before .before .before .before .before .before .before .before .before .before .before .before .before .before .before .κs)
+            (c .before .before .before .before .before .before .before .before .before .before .before .before .before .before .before .before .before .before .before .args)) (m41 (c .before) (c .rs
+            .given))
+        lay5 = λ c. (
           (
-            Path'.refl,
+            tt,
             (
               Path'.refl,
               (
-                MutSlice.fix-len (Row.get 3 (T69 .locals) (m61 (c .before) (c .rs .given)) .ptr) (Row.get 3 (T69 .locals) (m61 (c .before) (c .rs .given)) .name) (Row.get 3 (T69 .locals) (m61 (c .before) (c
-                    .rs .given)) .now) (dens (c .before .before .before .before .before .before .before .before .before .before .before .before .before .before .before .before .before .before .before .before
-                    .before .κs) (c .before .before .before .before .before .before .before .before .before .before .before .before .before .before .before .before .before .before .before .before .before .args)
-                    .1 .1 .0 .now) (same-length record { before = c .before; rs = c .rs }),
+                Path'.refl,
                 (
-                  tt,
+                  MutSlice.fix-len (Row.get 4 (T55 .locals) (m47 (c .before) (c .rs .given)) .ptr) (Row.get 4 (T55 .locals) (m47 (c .before) (c .rs .given)) .name) (Row.get 4 (T55 .locals) (m47 (c .before) (c
+                      .rs .given)) .now) (dens (c .before .before .before .before .before .before .before .before .before .before .before .before .before .before .before .before .before .before .before .κs) (c
+                      .before .before .before .before .before .before .before .before .before .before .before .before .before .before .before .before .before .before .before .args) .1 .1 .1 .0 .now) (same-length
+                      record { before = c .before; rs = c .rs }),
                   (
-                    MutSlice.fix-len (Row.get 5 (T69 .locals) (m61 (c .before) (c .rs .given)) .ptr) (Row.get 5 (T69 .locals) (m61 (c .before) (c .rs .given)) .name) (Row.get 5 (T69 .locals) (m61 (c .before) (c
-                        .rs .given)) .now) (dens (c .before .before .before .before .before .before .before .before .before .before .before .before .before .before .before .before .before .before .before .before
-                        .before .κs) (c .before .before .before .before .before .before .before .before .before .before .before .before .before .before .before .before .before .before .before .before .before .args)
-                        .1 .1 .1 .1 .0 .now) (same-length-2 record { before = c .before; rs = c .rs }),
+                    tt,
                     (
-                      MutSlice.fix-len (Row.get 6 (T69 .locals) (m61 (c .before) (c .rs .given)) .ptr) (Row.get 6 (T69 .locals) (m61 (c .before) (c .rs .given)) .name) (Row.get 6 (T69 .locals) (m61 (c .before) (c
-                          .rs .given)) .now) (dens (c .before .before .before .before .before .before .before .before .before .before .before .before .before .before .before .before .before .before .before .before
-                          .before .κs) (c .before .before .before .before .before .before .before .before .before .before .before .before .before .before .before .before .before .before .before .before .before .args)
-                          .1 .1 .1 .1 .1 .0 .now) (same-length-3 record { before = c .before; rs = c .rs }),
-                      tt,
+                      MutSlice.fix-len (Row.get 6 (T55 .locals) (m47 (c .before) (c .rs .given)) .ptr) (Row.get 6 (T55 .locals) (m47 (c .before) (c .rs .given)) .name) (Row.get 6 (T55 .locals) (m47 (c .before) (c
+                          .rs .given)) .now) (dens (c .before .before .before .before .before .before .before .before .before .before .before .before .before .before .before .before .before .before .before .κs) (c
+                          .before .before .before .before .before .before .before .before .before .before .before .before .before .before .before .before .before .before .before .args) .1 .1 .1 .1 .1 .0 .now)
+                          (same-length-2 record { before = c .before; rs = c .rs }),
+                      (
+                        MutSlice.fix-len (Row.get 7 (T55 .locals) (m47 (c .before) (c .rs .given)) .ptr) (Row.get 7 (T55 .locals) (m47 (c .before) (c .rs .given)) .name) (Row.get 7 (T55 .locals) (m47 (c .before) (c
+                            .rs .given)) .now) (dens (c .before .before .before .before .before .before .before .before .before .before .before .before .before .before .before .before .before .before .before .κs) (c
+                            .before .before .before .before .before .before .before .before .before .before .before .before .before .before .before .before .before .before .before .args) .1 .1 .1 .1 .1 .1 .0 .now)
+                            (same-length-3 record { before = c .before; rs = c .rs }),
+                        tt,
+                      ),
                     ),
                   ),
                 ),
@@ -3301,13 +2743,13 @@ module _ (claims· : Claims) where
           returns-2 record { before = c .before; rs = c .rs },
         )
 
-        lay5 : (c : After-known-told) → at44 (W0 (c .before .before .before .before .before .before .before .before .κs) (c .before .before .before .before .before .before .before .before .args)) (m17
-            (c .before) (c .known-told .given))
-        lay5 = λ c. ((Path'.refl, (Path'.refl, (Path'.refl, (tt, (Path'.refl, (Path'.refl, tt)))))), returns record { before = c .before; known-told = c .known-told })
+        lay4 : (c : After-known-told) → at39 (W0 (c .before .before .before .before .before .before .before .κs) (c .before .before .before .before .before .before .before .args)) (m10 (c .before) (c
+            .known-told .given))
+        lay4 = λ c. ((tt, (Path'.refl, (Path'.refl, (Path'.refl, (tt, (Path'.refl, (Path'.refl, tt))))))), returns record { before = c .before; known-told = c .known-told })
 
-        lay4 : (c : After-line-count) → at29 (W1 (c .before .before .before .before .before .before .before) (After-writing-begins·gave (c .before .before .before .before .before .before))) (m24 (c
-            .before) (After-line-count·gave c))
-        lay4 = λ c. λ g. (
+        lay3 : (c : After-line-count) → at23 (W1 (c .before .before .before .before .before .before .before .before .before .before .κs) (c .before .before .before .before .before .before .before
+            .before .before .before .args)) (m17 (c .before) (After-line-count·gave c))
+        lay3 = λ c. λ g. (
           Path'.refl,
           (
             tt,
@@ -3322,7 +2764,7 @@ module _ (claims· : Claims) where
                       { before = record { before = c .before; line-count = c .line-count }; write-set-arg = record { given = g } },
                 ),
                 λ g'. (
-                  Relend.count-is T35 21 22 (λ x. x) (λ u. u .1 .1 .1 .1 .1 .1 .1 .1 .1 .1 .1 .1 .1 .1 .1 .1 .1 .1 .1 .1 .0) (m31 record
+                  Relend.count-is T28 18 19 (λ x. x) (λ u. u .1 .1 .1 .1 .1 .1 .1 .1 .1 .1 .1 .1 .1 .1 .1 .1 .1 .0) (m24 record
                       { before = record { before = c .before; line-count = c .line-count }; write-set-arg = record { given = g } } g') (g' .1),
                   (
                     tt,
@@ -3339,99 +2781,61 @@ module _ (claims· : Claims) where
                               record { before = record { before = record { before = c .before; line-count = c .line-count }; write-set-arg = record { given = g } }; write-set-arg2 = record { given = g' } },
                         ),
                         λ g''. (
-                          Relend.count-is T42 25 26 (λ x. x) (λ u. u .1 .1 .1 .1 .1 .1 .1 .1 .1 .1 .1 .1 .1 .1 .1 .1 .1 .1 .1 .1 .1 .1 .1 .1 .0) (m37 record
+                          Relend.count-is T35 22 23 (λ x. x) (λ u. u .1 .1 .1 .1 .1 .1 .1 .1 .1 .1 .1 .1 .1 .1 .1 .1 .1 .1 .1 .1 .1 .0) (m30 record
                               { before = record { before = record { before = c .before; line-count = c .line-count }; write-set-arg = record { given = g } }; write-set-arg2 = record { given = g' } } g'') (g'' .1),
                           (
-                            tt,
-                            (
-                              sub-write-set-3 record {
-                                before = record { before = record { before = record { before = c .before; line-count = c .line-count }; write-set-arg = record { given = g } }; write-set-arg2 = record { given = g' } };
-                                write-set-arg3 = record { given = g'' };
-                              },
-                              (
-                                (
+                            write-set-requires record {
+                              before = record { before = record { before = record { before = c .before; line-count = c .line-count }; write-set-arg = record { given = g } }; write-set-arg2 = record { given = g' } };
+                              write-set-arg3 = record { given = g'' };
+                            },
+                            λ g'3. (
+                              Path'.refl,
+                              λ g'4. λ g'5. (
+                                Path'.refl,
+                                λ g'6. λ g'7. (
                                   Path'.refl,
-                                  Path'.refl,
-                                  part-write-set-start-3 record {
-                                    before = record { before = record { before = record { before = c .before; line-count = c .line-count }; write-set-arg = record { given = g } }; write-set-arg2 = record { given = g' } };
-                                    write-set-arg3 = record { given = g'' };
-                                  },
-                                  part-write-set-end-3 record {
-                                    before = record { before = record { before = record { before = c .before; line-count = c .line-count }; write-set-arg = record { given = g } }; write-set-arg2 = record { given = g' } };
-                                    write-set-arg3 = record { given = g'' };
-                                  },
-                                ),
-                                λ g'3. (
-                                  Relend.count-is T48 29 30 (λ x. x) (λ u. u .1 .1 .1 .1 .1 .1 .1 .1 .1 .1 .1 .1 .1 .1 .1 .1 .1 .1 .1 .1 .1 .1 .1 .1 .1 .1 .1 .1 .0) (m43 record {
-                                    before = record { before = record { before = record { before = c .before; line-count = c .line-count }; write-set-arg = record { given = g } }; write-set-arg2 = record { given = g' } };
-                                    write-set-arg3 = record { given = g'' };
-                                  } g'3) (g'3 .1),
-                                  (
-                                    write-set-requires record {
+                                  λ g'8. lay5 record {
+                                    before = record {
                                       before = record {
-                                        before = record { before = record { before = record { before = c .before; line-count = c .line-count }; write-set-arg = record { given = g } }; write-set-arg2 = record { given = g' } };
-                                        write-set-arg3 = record { given = g'' };
-                                      };
-                                      write-set-arg4 = record { given = g'3 };
-                                    },
-                                    λ g'4. (
-                                      Path'.refl,
-                                      λ g'5. λ g'6. (
-                                        Path'.refl,
-                                        λ g'7. λ g'8. (
-                                          Path'.refl,
-                                          λ g'9. lay6 record {
+                                        before = record {
+                                          before = record {
                                             before = record {
                                               before = record {
-                                                before = record {
-                                                  before = record {
-                                                    before = record {
-                                                      before = record {
-                                                        before = record {
-                                                          before = record { before = record { before = record { before = c .before; line-count = c .line-count }; write-set-arg = record { given = g } }; write-set-arg2 = record { given = g' } };
-                                                          write-set-arg3 = record { given = g'' };
-                                                        };
-                                                        write-set-arg4 = record { given = g'3 };
-                                                      };
-                                                      write-set = Called.called ps·4 r·4 (claims· .9) T50 (
-                                                        record { pos = 2; ty = Syntax.tyRef (Syntax.named 1) Syntax.imm (Syntax.tyInt Syntax.w16); ref = λ x. x },
+                                                before = record { before = record { before = record { before = c .before; line-count = c .line-count }; write-set-arg = record { given = g } }; write-set-arg2 = record { given = g' } };
+                                                write-set-arg3 = record { given = g'' };
+                                              };
+                                              write-set = Called.called ps·3 r·3 (claims· .7) T37 (
+                                                record { pos = 3; ty = Syntax.tyRef (Syntax.named 1) Syntax.imm (Syntax.tyInt Syntax.w16); ref = λ x. x },
+                                                (
+                                                  record { pos = 15; ty = Syntax.tyRef Syntax.erased Syntax.mut (Syntax.tyInt Syntax.w8); ref = λ x. x },
+                                                  (
+                                                    Bool.bAt 5 λ x. x,
+                                                    (
+                                                      record { pos = 19; ty = Syntax.tyRef Syntax.erased Syntax.mut (Syntax.tyInt Syntax.w16); ref = λ x. x },
+                                                      (
+                                                        record { pos = 23; ty = Syntax.tyRef Syntax.erased Syntax.mut Element.behind; ref = λ x. x },
                                                         (
-                                                          record { pos = 18; ty = Syntax.tyRef Syntax.erased Syntax.mut (Syntax.tyInt Syntax.w8); ref = λ x. x },
-                                                          (
-                                                            Bool.bAt 4 λ x. x,
-                                                            (
-                                                              record { pos = 22; ty = Syntax.tyRef Syntax.erased Syntax.mut (Syntax.tyInt Syntax.w16); ref = λ x. x },
-                                                              (
-                                                                record { pos = 26; ty = Syntax.tyRef Syntax.erased Syntax.mut Element.behind; ref = λ x. x },
-                                                                (
-                                                                  record { pos = 11; st = List.[]; d = 0; at = λ x. x },
-                                                                  (record { pos = 30; ty = Syntax.tyRef Syntax.erased Syntax.imm (Syntax.tyInt Syntax.w8); ref = λ x. x }, (Num.vAt 12 λ x. x, tt)),
-                                                                ),
-                                                              ),
-                                                            ),
-                                                          ),
+                                                          record { pos = 11; st = List.[]; d = 0; at = λ x. x },
+                                                          (record { pos = 2; ty = Syntax.tyRef (Syntax.named 0) Syntax.imm (Syntax.tyInt Syntax.w8); ref = λ x. x }, (Num.vAt 12 λ x. x, tt)),
                                                         ),
-                                                      ) (m45 record {
-                                                        before = record { before = record { before = record { before = c .before; line-count = c .line-count }; write-set-arg = record { given = g } }; write-set-arg2 = record { given = g' } };
-                                                        write-set-arg3 = record { given = g'' };
-                                                      } g'3) g'4;
-                                                    };
-                                                    out = record { given = g'5 };
-                                                  };
-                                                  slice-known3 = record { given = g'6 };
-                                                };
-                                                lines = record { given = g'7 };
-                                              };
-                                              slice-known4 = record {
-                                                given = g'8;
-                                              };
+                                                      ),
+                                                    ),
+                                                  ),
+                                                ),
+                                              ) (m32 record
+                                                  { before = record { before = record { before = c .before; line-count = c .line-count }; write-set-arg = record { given = g } }; write-set-arg2 = record { given = g' } } g'') g'3;
                                             };
-                                            rs = record { given = g'9 };
-                                          },
-                                        ),
-                                      ),
-                                    ),
-                                  ),
+                                            out =
+                                                record { given = g'4 };
+                                          };
+                                          slice-known3 = record { given = g'5 };
+                                        };
+                                        lines = record { given = g'6 };
+                                      };
+                                      slice-known4 = record { given = g'7 };
+                                    };
+                                    rs = record { given = g'8 };
+                                  },
                                 ),
                               ),
                             ),
@@ -3446,91 +2850,129 @@ module _ (claims· : Claims) where
           ),
         )
 
-        lay3 : (c : After-form-of) → at30 (W1 (c .before .before .before .before .before .before) (After-writing-begins·gave (c .before .before .before .before .before))) (m23 (c .before)
-            (After-form-of·gave c))
-        lay3 = λ c. (
+        lay2 : (c : After-form-of) → at24 (W1 (c .before .before .before .before .before .before .before .before .before .κs) (c .before .before .before .before .before .before .before .before .before
+            .args)) (m16 (c .before) (After-form-of·gave c))
+        lay2 = λ c. (
           line-count-requires record { before = c .before; form-of = c .form-of },
-          λ g. lay4 record {
+          λ g. lay3 record {
             before = record { before = c .before; form-of = c .form-of };
-            line-count = Called.called ps·3 r·3 (claims· .7) T25 (record { pos = 9; st = List.[]; d = 0; at = λ x. x }, tt) (m23 (c .before)
+            line-count = Called.called ps·2 r·2 (claims· .5) T18 (record { pos = 9; st = List.[]; d = 0; at = λ x. x }, tt) (m16 (c .before)
                 (After-form-of·gave c)) g;
           },
         )
 
-        lay2 : (c : After-samples-needed) → at31 (W1 (c .before .before .before .before .before) (After-writing-begins·gave (c .before .before .before .before))) (m22 (c .before)
-            (After-samples-needed·gave c))
-        lay2 = λ c. (
+        lay1 : (c : After-samples-needed) → at25 (W1 (c .before .before .before .before .before .before .before .before .κs) (c .before .before .before .before .before .before .before .before .args))
+            (m15 (c .before) (After-samples-needed·gave c))
+        lay1 = λ c. (
           form-of-requires record { before = c .before; samples-needed = c .samples-needed },
-          λ g. lay3 record {
+          λ g. lay2 record {
             before = record { before = c .before; samples-needed = c .samples-needed };
-            form-of = Called.called ps·2 r·2 (claims· .5) T24 (record { pos = 9; st = List.[]; d = 0; at = λ x. x }, tt) (m22
+            form-of = Called.called ps·1 r·1 (claims· .3) T17 (record { pos = 9; st = List.[]; d = 0; at = λ x. x }, tt) (m15
                 (c .before) (After-samples-needed·gave c)) g;
           },
         )
 
-        lay1 : (c : After-writing-begins) → at45 (W0 (c .before .before .before .before .before .κs) (c .before .before .before .before .before .args)) (m8 (c .before) (After-writing-begins·gave c))
-        lay1 = λ c. (
+        pub laid : (c : Start) → at40 (W0 (c .κs) (c .args)) (m0 (c .κs) (c .args))
+        laid = λ c. λ g. λ g'. λ g''. λ g'3. (
           λ k. (
-            enum-known-begins record { before = record { before = c .before; writing-begins = c .writing-begins }; match = record { keys1 = k } },
-            λ g. λ g'. lay5 record {
-              before = record { before = record { before = record { before = c .before; writing-begins = c .writing-begins }; match = record { keys1 = k } }; begins = record { given = g } };
-              known-told
-                  = record { given = g' };
+            enum-known-begins record {
+              before = record {
+                before = record
+                    { before = record { before = record { before = c; shared-slice-known = record { given = g } }; shared-slice-known2 = record { given = g' } }; slice-known = record { given = g'' } };
+                slice-known2 = record { given = g'3 };
+              };
+              match = record { keys1 = k };
+            },
+            λ g'4. λ g'5. lay4 record {
+              before = record {
+                before = record {
+                  before = record {
+                    before = record
+                        { before = record { before = record { before = c; shared-slice-known = record { given = g } }; shared-slice-known2 = record { given = g' } }; slice-known = record { given = g'' } };
+                    slice-known2 = record { given = g'3 };
+                  };
+                  match = record { keys1 = k };
+                };
+                begins = record { given = g'4 };
+              };
+              known-told = record { given = g'5 };
             },
           ),
           (
             λ k. (
-              enum-known-begins-2 record { before = record { before = c .before; writing-begins = c .writing-begins }; match = record { keys2 = k } },
-              λ g. λ g''. (
+              enum-known-begins-2 record {
+                before = record {
+                  before = record
+                      { before = record { before = record { before = c; shared-slice-known = record { given = g } }; shared-slice-known2 = record { given = g' } }; slice-known = record { given = g'' } };
+                  slice-known2 = record { given = g'3 };
+                };
+                match = record { keys2 = k };
+              },
+              λ g'6. λ g'7. (
                 samples-needed-requires record {
-                  before = record { before = record { before = record { before = c .before; writing-begins = c .writing-begins }; match = record { keys2 = k } }; begins2 = record { given = g } };
-                  known-told2 = record { given = g'' };
-                },
-                λ g'3. lay2 record {
                   before = record {
-                    before = record { before = record { before = record { before = c .before; writing-begins = c .writing-begins }; match = record { keys2 = k } }; begins2 = record { given = g } };
-                    known-told2 = record { given = g'' };
+                    before = record {
+                      before = record {
+                        before = record
+                            { before = record { before = record { before = c; shared-slice-known = record { given = g } }; shared-slice-known2 = record { given = g' } }; slice-known = record { given = g'' } };
+                        slice-known2 = record { given = g'3 };
+                      };
+                      match = record { keys2 = k };
+                    };
+                    begins2 = record { given = g'6 };
                   };
-                  samples-needed = Called.called ps·1 r·1 (claims· .3) T23
-                      (Bool.bFld 9 (List._∷_ (Syntax.field 1) List.[]) 1 λ x. FujiHeader.struct .as-values x .1 .0, tt) (m21 record
-                      { before = record { before = record { before = c .before; writing-begins = c .writing-begins }; match = record { keys2 = k } }; begins2 = record { given = g } } g'') g'3;
+                  known-told2 = record { given = g'7 };
+                },
+                λ g'8. lay1 record {
+                  before = record {
+                    before = record {
+                      before = record {
+                        before = record {
+                          before = record
+                              { before = record { before = record { before = c; shared-slice-known = record { given = g } }; shared-slice-known2 = record { given = g' } }; slice-known = record { given = g'' } };
+                          slice-known2 = record { given = g'3 };
+                        };
+                        match = record { keys2 = k };
+                      };
+                      begins2 = record { given = g'6 };
+                    };
+                    known-told2 = record { given = g'7 };
+                  };
+                  samples-needed = Called.called ps·0 r·0
+                      (claims· .1) T16 (Bool.bFld 9 (List._∷_ (Syntax.field 1) List.[]) 1 λ x. FujiHeader.struct .as-values x .1 .0, tt) (m14 record {
+                        before = record {
+                          before = record {
+                            before = record
+                                { before = record { before = record { before = c; shared-slice-known = record { given = g } }; shared-slice-known2 = record { given = g' } }; slice-known = record { given = g'' } };
+                            slice-known2 = record { given = g'3 };
+                          };
+                          match = record { keys2 = k };
+                        };
+                        begins2 = record { given = g'6 };
+                      } g'7) g'8;
                 },
               ),
             ),
-            Match.each-below 2 (λ j. (Unit {0} × (Run.OneOf (List._∷_ 1 List.[]) j → ⊥)) × (Run.OneOf (List._∷_ 0 List.[]) j → ⊥) → ⊥) (λ n. n .0 .1 Path'.refl, (λ n. n .1 Path'.refl, tt)) (Declared.tagOf
-                Parsed.the-type (Row.get 7 (T13 .locals) (m11 (c .before) (After-writing-begins·gave c)))) (Match.tag-small Parsed.the-type (Row.get 7 (T13 .locals) (m11 (c .before) (After-writing-begins·gave
-                c)))),
+            Match.each-below 2 (λ j. (Unit {0} × (Run.OneOf (List._∷_ 1
+                List.[]) j → ⊥)) × (Run.OneOf (List._∷_ 0 List.[]) j → ⊥) → ⊥) (λ n. n .0 .1 Path'.refl, (λ n. n .1 Path'.refl, tt)) (Declared.tagOf Parsed.the-type (Row.get 1 (T6 .locals) (m4 record
+                { before = record { before = record { before = c; shared-slice-known = record { given = g } }; shared-slice-known2 = record { given = g' } }; slice-known = record { given = g'' } } g'3)))
+                (Match.tag-small Parsed.the-type (Row.get 1 (T6 .locals) (m4 record
+                { before = record { before = record { before = c; shared-slice-known = record { given = g } }; shared-slice-known2 = record { given = g' } }; slice-known = record { given = g'' } } g'3))),
           ),
-        )
-
-        pub laid : (c : Start) → at53 (W0 (c .κs) (c .args)) (m0 (c .κs) (c .args))
-        laid = λ c. λ g. λ g'. λ g''. λ g'3. (
-          writing-begins-requires record {
-            before = record
-                { before = record { before = record { before = c; shared-slice-known = record { given = g } }; shared-slice-known2 = record { given = g' } }; slice-known = record { given = g'' } };
-            slice-known2 = record { given = g'3 };
-          },
-          λ g'4. lay1 record {
-            before = record {
-              before = record
-                  { before = record { before = record { before = c; shared-slice-known = record { given = g } }; shared-slice-known2 = record { given = g' } }; slice-known = record { given = g'' } };
-              slice-known2 = record { given = g'3 };
-            };
-            writing-begins = Called.called ps·0 r·0 (claims· .1) T8
-                (record { pos = 1; ty = Syntax.tyRef (Syntax.named 0) Syntax.imm (Syntax.tyInt Syntax.w8); ref = λ x. x }, (Num.vAt 13 λ x. x, (Num.vAt 14 λ x. x, (Num.vAt 15 λ x. x, tt)))) (m7 record
-                { before = record { before = record { before = c; shared-slice-known = record { given = g } }; shared-slice-known2 = record { given = g' } }; slice-known = record { given = g'' } } g'3) g'4;
-          },
         )
 
         module _ (κs : Lifetimes.Lfts 5) (qs : Lifetimes.Shares 5) where
           pub asked : (a : Kinds.Dens κs ps) → (good : Kinds.GoodsP κs ps a) → (pre : Pre· κs a) → (bs : List.List Nat.ℕ) → Φ (Any.wantQ 5 ps r xs m κs qs a (Post· κs a)) (Function.init 5 ps r xs m κs
               qs a)
-          asked = λ a good pre bs. laid record
-              { κs = κs; args = record { header = a .0; samples = a .1 .0; out = a .1 .1 .0; measure = a .1 .1 .1 .0; lines = a .1 .1 .1 .1 .0; rs = a .1 .1 .1 .1 .1 .0 }; good = good; pre = pre }
+          asked = λ a good pre bs. laid record {
+            κs = κs;
+            args = record { begins = a .0; bases = a .1 .0; samples = a .1 .1 .0; out = a .1 .1 .1 .0; measure = a .1 .1 .1 .1 .0; lines = a .1 .1 .1 .1 .1 .0; rs = a .1 .1 .1 .1 .1 .1 .0 };
+            good = good;
+            pre = pre;
+          }
 
-        module _ {M : Type 1} (𝓤 : URA.URA M) (H : Wp.Heap 𝓤) (A : Atoms.Atoms 𝓤) (W : Kit.Given 𝓤 H A) (𝓣 : Wp.Tables 𝓤 H) (known0 : Plain.Known 𝓤 H A W 𝓣 1 ps·0 r·0 (claims· .0) (claims· .1)
-            "begin::writing_begins") (known1 : Plain.Known 𝓤 H A W 𝓣 0 ps·1 r·1 (claims· .2) (claims· .3) "begin::samples_needed") (known2 : Plain.Known 𝓤 H A W 𝓣 0 ps·2 r·2 (claims· .4) (claims· .5)
-            "block::form_of") (known3 : Plain.Known 𝓤 H A W 𝓣 0 ps·3 r·3 (claims· .6) (claims· .7) "block::tight::line_count") (known4 : Plain.Known 𝓤 H A W 𝓣 5 ps·4 r·4 (claims· .8) (claims· .9)
-            "block::writer::write_set") where
+        module _ {M : Type 1} (𝓤 : URA.URA M) (H : Wp.Heap 𝓤) (A : Atoms.Atoms 𝓤) (W : Kit.Given 𝓤 H A) (𝓣 : Wp.Tables 𝓤 H) (known0 : Plain.Known 𝓤 H A W 𝓣 0 ps·0 r·0 (claims· .0) (claims· .1)
+            "begin::samples_needed") (known1 : Plain.Known 𝓤 H A W 𝓣 0 ps·1 r·1 (claims· .2) (claims· .3) "block::form_of") (known2 : Plain.Known 𝓤 H A W 𝓣 0 ps·2 r·2 (claims· .4) (claims· .5)
+            "block::tight::line_count") (known3 : Plain.Known 𝓤 H A W 𝓣 5 ps·3 r·3 (claims· .6) (claims· .7) "block::writer::write_set") where
           pub spec : Statement.Triple 𝓤 (Wp.WpFn 𝓤 H (𝓣 .C) (𝓣 .Λ) (Function.fnOf 5 ps r xs m hs body)) (Function.plainOf 𝓤 H A 5 ps r Pre· Post·)
-          spec = Plain.t-fn-plain 𝓤 H A W 𝓣 5 ps r xs m hs body (λ κs qs bs. Φ) (λ κs qs bs bd. typed κs qs 𝓤 H A W 𝓣 (known0, known1, known2, known3, known4) bs bd) Pre· Post· asked
+          spec = Plain.t-fn-plain 𝓤 H A W 𝓣 5 ps r xs m hs body (λ κs qs bs. Φ) (λ κs qs bs bd. typed κs qs 𝓤 H A W 𝓣 (known0, known1, known2, known3) bs bd) Pre· Post· asked

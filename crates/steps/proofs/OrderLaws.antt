@@ -10,14 +10,34 @@ use lib.Arith.{digits-div, digits-mod}
 use lib.Dec.{leb, ltb, eqb}
 use borrow.Author.Tests.{lt-ltb, le-ltb, le-leb, lt-leb, eq-eqb, ne-eqb}
 use Rattle.numbers.proofs.OrderLaws.{split}
 use Rattle.steps.specs.Steps.{Step, evenSteps, oddSteps, turnSteps, upto, passSteps}
+use Rattle.steps.specs.Contexts.{stepPlace}
 use Rattle.steps.specs.declared.Plan.{Plan}
-use Rattle.pass.proofs.FrameLaws.{All, cell, all-append, all-upto, turnOf, turn-all}
-use Rattle.read_back.proofs.ListBack.{Apart}
 
 -- ---- lists of steps
 
+abbrev pub All : (Step → Type 0) → List Step → Type 0
+All Q [] = Unit {0}
+All Q (x ∷ l) = Q x × All Q l
+
+-- where the sample of a step goes
+abbrev pub cell : ℕ → Step → ℕ
+cell W x = stepPlace W x + 1
+
+-- no two samples go to one place
+abbrev pub Apart : ℕ → List Step → Type 0
+Apart W [] = Unit {0}
+Apart W (x ∷ l) = All (λ y. cell W x ≢ cell W y) l × Apart W l
+
+pub all-both : {P Q R : Step → Type 0} (l : List Step) → All P l → All Q l → ((x : Step) → P x → Q x → R x) → All R l
+all-both [] a b f = tt
+all-both (x ∷ l) a b f = (f x (a .0) (b .0), all-both l (a .1) (b .1) f)
+
 module _ (Q : Step → Type 0) where
+  pub all-append : (k l : List Step) → All Q k → All Q l → All Q (k ++ l)
+  all-append [] l a b = b
+  all-append (x ∷ k) l a b = (a .0, all-append k l (a .1) b)
+
   all-left : (k l : List Step) → All Q (k ++ l) → All Q k
   all-left [] l a = tt
   all-left (x ∷ k) l a = (a .0, all-left k l (a .1))
@@ -25,6 +45,11 @@ module _ (Q : Step → Type 0) where
   all-right : (k l : List Step) → All Q (k ++ l) → All Q l
   all-right [] l a = a
   all-right (x ∷ k) l a = all-right k l (a .1)
+
+  pub all-upto : (f : ℕ → List Step) (n : ℕ) → ((i : ℕ) → i < n → All Q (f i)) → All Q (upto f n)
+  unfolding upto
+  all-upto f zero a = tt
+  all-upto f (suc n) a = all-append (upto f n) (f n) (all-upto f n (λ i h. a i (omega arith))) (a n (omega arith))
 
   all-at : (f : ℕ → List Step) (n i : ℕ) → i < n → All Q (upto f n) → All Q (f i)
   unfolding upto
@@ -52,7 +77,35 @@ module _ (W : ℕ) where
 
 -- ---- the turns of a pass
 
+-- the turn at which position p is done
+abbrev turnOf : ℕ → ℕ
+turnOf p = cond (eqb (p % 2) 0) (p / 2) ((p + 7) / 2)
+
+turn-even : (t : ℕ) → turnOf (2 * t) ≡ t
+turn-even t = rw (eq-eqb (2 * t % 2) 0 (omega arith)) (omega arith)
+
+turn-odd : (t : ℕ) → 8 ≤ 2 * t → turnOf (2 * t - 7) ≡ t
+turn-odd t h = rw (ne-eqb ((2 * t - 7) % 2) 0 (omega arith)) (omega arith)
+
 module _ (W : ℕ) (P : Plan) (even : W % 2 ≡ 0) where
+  -- what holds of both lines at the positions of a turn holds of its steps
+  turn-all : (R : ℕ → ℕ → Type 0) (t : ℕ) → t < W / 2 + 4 → ((p : ℕ) → p < W → turnOf p ≡ t → R (P .first) p × R (P .second) p)
+      → All (λ x. R (x .line) (x .position)) (turnSteps W P t)
+  unfolding turnSteps
+  turn-all R t h f =
+      all-append (λ x. R (x .line) (x .position)) (cond (ltb (2 * t) W) (evenSteps P (2 * t)) []) (cond (leb 8 (2 * t)) (oddSteps P (2 * t - 7)) [])
+      (split W (2 * t)
+      (λ k. rw (le-ltb (2 * t) W k) tt)
+      (λ k. let r = f (2 * t) k (turn-even t) in rw (lt-ltb (2 * t) W k) (r .0, (r .1, tt))))
+      (split 8 (2 * t)
+      (λ k. let r = f (2 * t - 7) (omega arith) (turn-odd t k) in rw (le-leb 8 (2 * t) k) (r .0, (r .1, tt)))
+      (λ k. rw (lt-leb 8 (2 * t) k) tt))
+
+  -- each position of both lines is done
+  pub pass-all : (R : ℕ → ℕ → Type 0) → ((p : ℕ) → p < W → R (P .first) p × R (P .second) p) → All (λ x. R (x .line) (x .position)) (passSteps W P)
+  unfolding passSteps
+  pass-all R f = all-upto (λ x. R (x .line) (x .position)) (turnSteps W P) (W / 2 + 4) (λ t h. turn-all R t h (λ p k e. f p k))
+
   even-at : (R : ℕ → ℕ → Type 0) (t : ℕ) → 2 * t < W → All (λ x. R (x .line) (x .position)) (turnSteps W P t) → R (P .first) (2 * t) × R (P .second) (2 * t)
   unfolding turnSteps
   even-at R t h a =
@@ -60,8 +113,7 @@ module _ (W : ℕ) (P : Plan) (even : W % 2 ≡ 0) where
       let c = rw (lt-ltb (2 * t) W h) at b in
       (c .0, c .1 .0)
 
-  odd-at : (R : ℕ → ℕ → Type 0) (t : ℕ) → 8 ≤ 2 * t → All (λ x. R (x .line) (x .position)) (turnSteps W P t)
-      → R (P .first) (2 * t - 7) × R (P .second) (2 * t - 7)
+  odd-at : (R : ℕ → ℕ → Type 0) (t : ℕ) → 8 ≤ 2 * t → All (λ x. R (x .line) (x .position)) (turnSteps W P t) → R (P .first) (2 * t - 7) × R (P .second) (2 * t - 7)
   unfolding turnSteps
   odd-at R t h a =
       let b = all-right (λ x. R (x .line) (x .position)) (cond (ltb (2 * t) W) (evenSteps P (2 * t)) []) (cond (leb 8 (2 * t)) (oddSteps P (2 * t - 7)) []) a in
@@ -112,7 +164,7 @@ module _ (W : ℕ) (P : Plan) (even : W % 2 ≡ 0) where
     -- turns go to different positions
     turns-apart : (i j : ℕ) → i < j → j < W / 2 + 4 → All (λ x. All (λ y. cell W x ≢ cell W y) (turnSteps W P j)) (turnSteps W P i)
     turns-apart i j lt h =
-        turn-all W P even (λ l p. All (λ y. l * (W + 2) + p + 1 ≢ cell W y) (turnSteps W P j)) i (omega arith)
+        turn-all (λ l p. All (λ y. l * (W + 2) + p + 1 ≢ cell W y) (turnSteps W P j)) i (omega arith)
         (λ p hp ep. (other (P .first) p hp ep, other (P .second) p hp ep))
       where
         differ : (l p m q : ℕ) → p < W → turnOf p ≡ i → q < W → turnOf q ≡ j → l * (W + 2) + p + 1 ≢ m * (W + 2) + q + 1
@@ -123,7 +175,7 @@ module _ (W : ℕ) (P : Plan) (even : W % 2 ≡ 0) where
 
         other : (l p : ℕ) → p < W → turnOf p ≡ i → All (λ y. l * (W + 2) + p + 1 ≢ cell W y) (turnSteps W P j)
         other l p hp ep =
-            turn-all W P even (λ m q. l * (W + 2) + p + 1 ≢ m * (W + 2) + q + 1) j h
+            turn-all (λ m q. l * (W + 2) + p + 1 ≢ m * (W + 2) + q + 1) j h
             (λ q hq eq. (differ l p (P .first) q hp ep hq eq, differ l p (P .second) q hp ep hq eq))
 
     turns-so-far : (n : ℕ) → n ≤ W / 2 + 4 → Apart W (upto (turnSteps W P) n)

@@ -1,0 +1,5 @@
+-- Proofs that lossy blocks read back.
+pub mod NeverWrong
+pub mod LossyHolds
+pub mod LossyCallsHold
+pub mod WorkedCases

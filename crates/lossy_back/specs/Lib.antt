@@ -1,0 +1,2 @@
+-- Lossy blocks read back: the statement.
+pub mod LossyBlocks

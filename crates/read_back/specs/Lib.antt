@@ -1,0 +1,2 @@
+-- The base by which a sample was coded.
+pub mod UsedBases
