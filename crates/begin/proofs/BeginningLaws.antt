@@ -16,7 +16,8 @@ use Rattle.stream.specs.declared.Refusal.the-variants.{NoBlock, WrongSize, Loss
 use Rattle.region.specs.Regions.{checkedOf}
 use Rattle.region.specs.declared.Rect.{Rect}
 use Rattle.writing.specs.Sets.{setSize}
-use Rattle.begin.specs.Beginnings.{isShortScratch, withScratch, withRegion, withStream, regionBegins, wholeOf, isWhole, withSize, withPicture, imageBegins}
+use Rattle.begin.specs.Beginnings.{isShortScratch, withScratch, withRegion, withStream, regionBegins}
+use Rattle.begin.specs.Beginnings.{wholeOf, isWhole, withSize, withPicture, imageBegins}
 use Rattle.begin.specs.Beginnings.{withBlock, withOpened, blockBegins, withCount, withSet, withParsed, writingBegins, withBases, withLossy, lossyBegins}
 use Rattle.begin.specs.declared.Beginning.the-variants.{Refused}
 

@@ -70,7 +70,8 @@ module _ (F : Form) (bases s : List ℕ) where
   was-read zero h = (startState F bases, start-read)
   was-read (suc n) h = go (readLines F bases s (suc n)) refl h
     where
-      go : (o : Option State) → readLines F bases s (suc n) ≡ o → suc n ≤ cond (isRead o) (suc n) (linesRead F bases s n) → (z : State) × (readLines F bases s (suc n) ≡ some z)
+      go : (o : Option State) → readLines F bases s (suc n) ≡ o → suc n ≤ cond (isRead o) (suc n) (linesRead F bases s n)
+          → (z : State) × (readLines F bases s (suc n) ≡ some z)
       go none e k = absurd (omega (arith, read-at-most n))
       go (some z) e k = (z, e)
 

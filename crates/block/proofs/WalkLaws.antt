@@ -27,7 +27,8 @@ use Rattle.writing.specs.declared.Put.the-variants.{At, Wrong}
 use Rattle.writing.proofs.PassLaws.{pass-within, pass-wrong, pass-short}
 use Rattle.output.proofs.PutLaws.{put-none, put-more}
 use Rattle.block.specs.Records.{startRecords, restartedMain, baseOf, isRestarted, setOf, putSet}
-use Rattle.block.specs.WrittenBlocks.{WriteState, repeats, enterWriting, writePassAt, beforeWriting, isStrict, writeLine, startWriting, writeLines, SetWanted}
+use Rattle.block.specs.WrittenBlocks.{WriteState, repeats, enterWriting, writePassAt, beforeWriting}
+use Rattle.block.specs.WrittenBlocks.{isStrict, writeLine, startWriting, writeLines, SetWanted}
 use Rattle.block.specs.WrittenAnswers.{passesFrom, IsLinePut, LineWritten, SetWritten}
 use Rattle.block.specs.declared.Form.{Form}
 use Rattle.block.proofs.SampleLaws.{zeros-le, guarded-le, turned-le}
@@ -96,7 +97,8 @@ put-join true from at out out₁ out' b l ea eo h e =
     rw (eo, ea, put-more out from b l room) at e
 put-join false from at out out₁ out' b l ea eo h e = e ∙ eo
 
-kept-out : (store : Bool) (from : ℕ) (out out₁ out' : List ℕ) (b : List Bool) → out₁ ≡ putIf store out from b → (store ≡ false → out' ≡ out₁) → store ≡ false → out' ≡ out
+kept-out : (store : Bool) (from : ℕ) (out out₁ out' : List ℕ) (b : List Bool) → out₁ ≡ putIf store out from b → (store ≡ false → out' ≡ out₁)
+    → store ≡ false → out' ≡ out
 kept-out true from out out₁ out' b eo h e = absurd (false≢true (sym e))
 kept-out false from out out₁ out' b eo h e = h e ∙ eo
 
@@ -118,14 +120,16 @@ unfolding repeats
 repeats-keep f r Q each i zero q = rw add-zero q
 repeats-keep f r Q each i (suc d) q = rw add-suc (each (i + d) (repeats f (i + d) r) (repeats-keep f r Q each i d q))
 
-repeats-short : (f : ℕ → WriteState → WriteState) (r : WriteState) (c : ℕ) → ((i : ℕ) (z : WriteState) → length ((f i z) .bits) ≤ length (z .bits) + c) → (n : ℕ)
+repeats-short : (f : ℕ → WriteState → WriteState) (r : WriteState) (c : ℕ) → ((i : ℕ) (z : WriteState) → length ((f i z) .bits) ≤ length (z .bits) + c)
+    → (n : ℕ)
     → length ((repeats f n r) .bits) ≤ length (r .bits) + n * c
 unfolding repeats
 repeats-short f r c each zero = omega arith
 repeats-short f r c each (suc n) = omega (arith, each n (repeats f n r), repeats-short f r c each n)
 
 -- part i of m, whose own writing from no bits on is y
-module _ (f : ℕ → WriteState → WriteState) (adds : Adds f) (r₀ : WriteState) (i m : ℕ) (lt : i < m) (y : WriteState) (from : ℕ) (store : Bool) (out lines : List ℕ) (rs : List Record)
+module _ (f : ℕ → WriteState → WriteState) (adds : Adds f) (r₀ : WriteState) (i m : ℕ) (lt : i < m) (y : WriteState) (from : ℕ) (store : Bool)
+    (out lines : List ℕ) (rs : List Record)
     (out₁ : List ℕ) (at : BitPosition) (so-far : Sofar (repeats f i r₀) from store out lines rs out₁ at) (same : length out₁ ≡ length out)
     (next : f i (repeats f i r₀) ≡ afterBits ((repeats f i r₀) .bits) y) (room : Room store out from ((repeats f m r₀) .bits)) where
   more-is : repeats f (i + 1) r₀ ≡ afterBits ((repeats f i r₀) .bits) y
@@ -216,7 +220,8 @@ module _ (F : Form) (q : ℕ) (strict : Bool) (t : List ℕ) (n : ℕ) (lines₀
       line-right-is (passesFrom F q strict t n 6 lines₀ rs₀) from store out lines' rs' out' at (rw e at s)
 
   -- pass i, by what was done before it
-  module _ (i W : ℕ) (P : Plan) (lt : i < 6) (lines l₁ l₂ : List ℕ) (rs : List Record) (S : Set) (from : ℕ) (store : Bool) (out out₁ : List ℕ) (at : BitPosition)
+  module _ (i W : ℕ) (P : Plan) (lt : i < 6) (lines l₁ l₂ : List ℕ) (rs : List Record) (S : Set) (from : ℕ) (store : Bool) (out out₁ : List ℕ)
+      (at : BitPosition)
       (so-far : Sofar (passesFrom F q strict t n i lines₀ rs₀) from store out lines rs out₁ at) (same : length out₁ ≡ length out)
       (room : Room store out from ((passesFrom F q strict t n 6 lines₀ rs₀) .bits))
       (eW : W ≡ widthOf (F .xtrans)) (eP : P ≡ planOf (F .xtrans) i) (e₁ : l₁ ≡ guarded W (P .first) lines) (e₂ : l₂ ≡ guarded W (P .second) l₁)
@@ -269,7 +274,8 @@ module _ (F : Form) (q : ℕ) (strict : Bool) (t : List ℕ) (n : ℕ) (lines₀
       unfolding told
       told-wrong ok = rw ok
 
-      pub pass-more : d .ok ≡ true → Sofar (passesFrom F q strict t n (i + 1) lines₀ rs₀) from store out lines' (putSet (P .set) (recordsOf (d .set)) rs) out' (d .at)
+      pub pass-more : d .ok ≡ true
+          → Sofar (passesFrom F q strict t n (i + 1) lines₀ rs₀) from store out lines' (putSet (P .set) (recordsOf (d .set)) rs) out' (d .at)
       unfolding passesFrom
       pass-more ok =
           turn-more (writePassAt F q strict t n) (passes-add F q strict t n) (record { lines = lines₀; records = rs₀; bits = []; wrong = none }) i 6 lt part from store out lines rs out₁ at so-far same pass-next room
@@ -286,7 +292,8 @@ module _ (F : Form) (q : ℕ) (strict : Bool) (t : List ℕ) (n : ℕ) (lines₀
 -- ---- lines
 
 module _ (F : Form) (bases t : List ℕ) where
-  passes-keep : (n : ℕ) (Q : WriteState → Type 0) → ((i : ℕ) (z : WriteState) → Q z → Q (writePassAt F (baseOf bases n) (isStrict bases) t n i z)) → (r : WriteState) → Q r → Q (repeats (writePassAt F (baseOf bases n) (isStrict bases) t n) 6 r)
+  passes-keep : (n : ℕ) (Q : WriteState → Type 0) → ((i : ℕ) (z : WriteState) → Q z → Q (writePassAt F (baseOf bases n) (isStrict bases) t n i z))
+      → (r : WriteState) → Q r → Q (repeats (writePassAt F (baseOf bases n) (isStrict bases) t n) 6 r)
   unfolding repeats
   passes-keep n Q each r q = repeats-keep (writePassAt F (baseOf bases n) (isStrict bases) t n) r Q each 0 6 q
 
@@ -297,7 +304,8 @@ module _ (F : Form) (bases t : List ℕ) where
   pub lines-add : Adds (writeLine F bases t)
   lines-add = record { stays = line-wrong; grows = λ n r. rw (line-adds F bases t n r, length-append) (omega arith) }
 
-  pub lines-start : (store : Bool) (out lines : List ℕ) (rs : List Record) → lines ≡ zeroLines (widthOf (F .xtrans)) → rs ≡ startRecords (F .bits) (baseOf bases 0)
+  pub lines-start : (store : Bool) (out lines : List ℕ) (rs : List Record) → lines ≡ zeroLines (widthOf (F .xtrans))
+      → rs ≡ startRecords (F .bits) (baseOf bases 0)
       → Sofar (writeLines F bases t 0) 0 store out lines rs out (record { 0 = 0 })
   unfolding writeLines repeats startWriting
   lines-start store out lines rs el er =
@@ -330,7 +338,8 @@ module _ (F : Form) (bases t : List ℕ) where
 
   -- line n, by what was done before it
   module _ (n m W q q₀ : ℕ) (b strict : Bool) (lt : n < m) (lines l₁ : List ℕ) (rs rs₁ : List Record) (store : Bool) (out out₁ : List ℕ) (at : BitPosition)
-      (so-far : Sofar (writeLines F bases t n) 0 store out lines rs out₁ at) (same : length out₁ ≡ length out) (room : Room store out 0 ((writeLines F bases t m) .bits))
+      (so-far : Sofar (writeLines F bases t n) 0 store out lines rs out₁ at) (same : length out₁ ≡ length out)
+      (room : Room store out 0 ((writeLines F bases t m) .bits))
       (eW : W ≡ widthOf (F .xtrans)) (eq : q ≡ q₀) (eq₀ : q₀ ≡ baseOf bases n) (es : strict ≡ isStrict bases) (eb : b ≡ isRestarted bases n)
       (el : l₁ ≡ turned W lines) (er : rs₁ ≡ cond b (restartedMain (F .bits) q₀ rs) rs) where
     line-next : writeLine F bases t n (writeLines F bases t n) ≡ afterBits ((writeLines F bases t n) .bits) (passesFrom F q strict t n 6 l₁ rs₁)
@@ -351,7 +360,8 @@ module _ (F : Form) (bases t : List ℕ) where
     pub line-position : F .bits ≤ 16 → m < 2 ^ 16 → at .0 < 2 ^ 58
     line-position h small = omega (arith, so-far .position, lines-short n h)
 
-    module _ (lines' : List ℕ) (rs' : List Record) (out' : List ℕ) (d : Put) (answer : LineWritten (passesFrom F q strict t n 6 l₁ rs₁) (at .0) store out₁ lines' rs' out' d) where
+    module _ (lines' : List ℕ) (rs' : List Record) (out' : List ℕ) (d : Put)
+        (answer : LineWritten (passesFrom F q strict t n 6 l₁ rs₁) (at .0) store out₁ lines' rs' out' d) where
       pub line-more : (at' : BitPosition) → d ≡ At at' → Sofar (writeLines F bases t (n + 1)) 0 store out lines' rs' out' at'
       unfolding writeLines
       line-more =

@@ -85,7 +85,8 @@ pub put-none : (sample : ℕ → ℕ) (a : Part) (low high : ℕ) (image : List 
 put-none sample a low high image n = record { kept = refl; entries = λ i. rw (not-in a low high i (n i)) }
 
 -- the same samples, named otherwise
-pub put-same : (f g : ℕ → ℕ) (a : Part) (low high : ℕ) (x y : List ℕ) → ((i : ℕ) → InRows a low high i → f i ≡ g i) → RowsPut f a low high x y → RowsPut g a low high x y
+pub put-same : (f g : ℕ → ℕ) (a : Part) (low high : ℕ) (x y : List ℕ) → ((i : ℕ) → InRows a low high i → f i ≡ g i) → RowsPut f a low high x y
+    → RowsPut g a low high x y
 put-same f g a low high x y s p =
     record {
       kept = p .kept;
@@ -96,7 +97,8 @@ put-same f g a low high x y s p =
     }
 
 -- rows up to mid, and from mid on
-module _ (sample : ℕ → ℕ) (a : Part) (low mid high : ℕ) (x y z : List ℕ) (hl : low ≤ mid) (hh : mid ≤ high) (p : RowsPut sample a low mid x y) (q : RowsPut sample a mid high y z) where
+module _ (sample : ℕ → ℕ) (a : Part) (low mid high : ℕ) (x y z : List ℕ) (hl : low ≤ mid) (hh : mid ≤ high) (p : RowsPut sample a low mid x y)
+    (q : RowsPut sample a mid high y z) where
   join-in : (i : ℕ) → InRows a low high i → cond (inRows a mid high i) (sample i) (getD y i 0) ≡ sample i
   join-in i h =
       split mid (a .top + i / a .stride)
@@ -128,7 +130,8 @@ pub fits-kept : (a : Part) (x y : List ℕ) → length y ≡ length x → Fits a
 fits-kept a x y e f = record { order = f .order; columns = f .columns; inside = f .inside; rows = rw e (f .rows) }
 
 -- a part's row ends inside the image
-pub row-inside : (a : Part) (image : List ℕ) (row : ℕ) → Fits a image → a .top ≤ row → row < a .bottom → (row - a .top) * a .stride + a .start + (a .right - a .left) ≤ length image
+pub row-inside : (a : Part) (image : List ℕ) (row : ℕ) → Fits a image → a .top ≤ row → row < a .bottom
+    → (row - a .top) * a .stride + a .start + (a .right - a .left) ≤ length image
 row-inside a image row f h k =
     let q : ℕ = row - a .top in
     let m : suc q * a .stride ≤ (a .bottom - a .top) * a .stride = mul-le-mul-right (a .stride) (omega arith) in

@@ -52,7 +52,8 @@ module _ (F : Form) (t : List ℕ) (range : (j : ℕ) → getD t j 0 ≤ largest
   -- ---- a pass
 
   module _ (n i : ℕ) (hi : i < 6) (r : WriteState) (found : Found W t n i (r .lines)) where
-    pub pass-found : Within (largest (F .bits)) (r .lines) → (writePassAt F 0 true t n i r) .wrong ≡ none → Found W t n (suc i) ((writePassAt F 0 true t n i r) .lines)
+    pub pass-found : Within (largest (F .bits)) (r .lines) → (writePassAt F 0 true t n i r) .wrong ≡ none
+        → Found W t n (suc i) ((writePassAt F 0 true t n i r) .lines)
     unfolding writePassAt writePass
     pass-found small w =
         let Q : Plan = planOf (F .xtrans) i in
@@ -206,7 +207,8 @@ module _ (F : Form) (t : List ℕ) (range : (j : ℕ) → getD t j 0 ≤ largest
       start : WriteState
       start = beforeWriting F [] n (writeLines F [] t n)
 
-      one : (writeLines F [] t n) .wrong ≡ none → (repeats (writePassAt F 0 true t n) 6 start) .wrong ≡ none ↔ (start .wrong ≡ none) × ((i : ℕ) → i < 6 → PassRight n i)
+      one : (writeLines F [] t n) .wrong ≡ none
+          → (repeats (writePassAt F 0 true t n) 6 start) .wrong ≡ none ↔ (start .wrong ≡ none) × ((i : ℕ) → i < 6 → PassRight n i)
       one w = passes-wrong n start (lines-found n w) (before-small n) 6 (omega arith)
 
   -- ---- a set that fits

@@ -29,7 +29,8 @@ use Rattle.writing.proofs.WriteLaws.{wanted, write-coded, write-interpolated, w
 -- ---- one step
 
 -- with base 0 the nearest sample is the wanted one
-pub given-exact : (bits v : ℕ) (c : Context) → c .prediction ≤ largest bits → v ≤ largest bits → givenSample bits 0 (wantedCode bits 0 v c (lookOf 0 c)) c (lookOf 0 c) ≡ v
+pub given-exact : (bits v : ℕ) (c : Context) → c .prediction ≤ largest bits → v ≤ largest bits
+    → givenSample bits 0 (wantedCode bits 0 v c (lookOf 0 c)) c (lookOf 0 c) ≡ v
 unfolding quantiserOf
 given-exact bits v c hc hv = rw (look-lossless c) exact
   where
@@ -62,7 +63,8 @@ module _ (bits W : ℕ) (t : List ℕ) (n : ℕ) (x : Step) (r : Writing) where
   Right lines = x .coded ≡ false → wanted W t n x ≡ (stepContext W x lines) .prediction
 
   -- it is the set's, if that is in range and an interpolated one is its prediction
-  pub step-lines : Within (largest bits) (r .lines) → wanted W t n x ≤ largest bits → Right (r .lines) → (writeStep bits 0 W true t n x r) .lines ≡ set (r .lines) (cell W x) (wanted W t n x)
+  pub step-lines : Within (largest bits) (r .lines) → wanted W t n x ≤ largest bits → Right (r .lines)
+      → (writeStep bits 0 W true t n x r) .lines ≡ set (r .lines) (cell W x) (wanted W t n x)
   step-lines h small right = go (x .coded) refl
     where
       go : (b : Bool) → x .coded ≡ b → (writeStep bits 0 W true t n x r) .lines ≡ set (r .lines) (cell W x) (wanted W t n x)
@@ -114,7 +116,8 @@ module _ (bits W : ℕ) (t : List ℕ) (n : ℕ) where
       writes-length l (writeStep bits 0 W true t n x r) ∙ step-length x r
 
   -- each sample is where it goes, if none is wrong
-  pub writes-stand : ((j : ℕ) → getD t j 0 ≤ largest bits) → (l : List Step) (r : Writing) → Within (largest bits) (r .lines) → (writes bits 0 W true t n l r) .wrong ≡ none
+  pub writes-stand : ((j : ℕ) → getD t j 0 ≤ largest bits) → (l : List Step) (r : Writing) → Within (largest bits) (r .lines)
+      → (writes bits 0 W true t n l r) .wrong ≡ none
       → All (λ x. cell W x < length (r .lines)) l → Apart W l → All (λ x. getD ((writes bits 0 W true t n l r) .lines) (cell W x) 0 ≡ wanted W t n x) l
   unfolding writes
   writes-stand range [] r h w a b = tt
@@ -135,7 +138,7 @@ place W l d = l * (W + 2) + d
 pub even-sees : (W l p : ℕ) (lines : List ℕ) → p % 2 ≡ 0
     → (contextIn W lines l p) .prediction
     ≡ evenPrediction (getD lines (place W (l - 2) (p + 1)) 0) (getD lines (place W (l - 1) p) 0) (getD lines (place W (l - 1) (p + 1)) 0)
-      (getD lines (place W (l - 1) (p + 2)) 0)
+    (getD lines (place W (l - 1) (p + 2)) 0)
 unfolding contextIn evenIn evenContext
 even-sees W l p lines even = rw (eq-eqb (p % 2) 0 even)
 

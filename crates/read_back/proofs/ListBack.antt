@@ -160,7 +160,8 @@ module _ (bits W : ℕ) (s t : List ℕ) (n : ℕ) (Q : Lossless bits) where
       record { long = k .lines ∙ ok .long; small = k .samples (ok .small) }
 
   -- where the steps were read, their bits stand
-  pub steps-backward : (l : List Step) (r z : Reading) → Sound bits W (r .lines) → All (InLines W) l → Apart W l → reads bits 0 W s l r ≡ some z → CleanReading s z → Stand l z
+  pub steps-backward : (l : List Step) (r z : Reading) → Sound bits W (r .lines) → All (InLines W) l → Apart W l → reads bits 0 W s l r ≡ some z
+      → CleanReading s z → Stand l z
       → StepsBack l r z
   unfolding reads writes
   steps-backward [] r z ok in-lines apart e clean stand =

@@ -108,7 +108,8 @@ module _ (bits W : ℕ) (s t : List ℕ) (n : ℕ) (Q : Lossless bits) (P : Plan
   PassBack z = Back (CleanReading s) (writingOf s) (writePass bits 0 W true t n P) r z
 
   -- where a pass was read, its bits stand
-  pub pass-backward : Sound bits W (r .lines) → (z : Reading) → readPass bits 0 W s P r ≡ some z → CleanReading s z → Holds W t n (z .lines) (P .first) → Holds W t n (z .lines) (P .second)
+  pub pass-backward : Sound bits W (r .lines) → (z : Reading) → readPass bits 0 W s P r ≡ some z → CleanReading s z → Holds W t n (z .lines) (P .first)
+      → Holds W t n (z .lines) (P .second)
       → PassBack z
   unfolding readPass writePass
   pass-backward ok z e clean first second =

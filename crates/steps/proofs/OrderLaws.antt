@@ -113,7 +113,8 @@ module _ (W : ℕ) (P : Plan) (even : W % 2 ≡ 0) where
       let c = rw (lt-ltb (2 * t) W h) at b in
       (c .0, c .1 .0)
 
-  odd-at : (R : ℕ → ℕ → Type 0) (t : ℕ) → 8 ≤ 2 * t → All (λ x. R (x .line) (x .position)) (turnSteps W P t) → R (P .first) (2 * t - 7) × R (P .second) (2 * t - 7)
+  odd-at : (R : ℕ → ℕ → Type 0) (t : ℕ) → 8 ≤ 2 * t → All (λ x. R (x .line) (x .position)) (turnSteps W P t)
+      → R (P .first) (2 * t - 7) × R (P .second) (2 * t - 7)
   unfolding turnSteps
   odd-at R t h a =
       let b = all-right (λ x. R (x .line) (x .position)) (cond (ltb (2 * t) W) (evenSteps P (2 * t)) []) (cond (leb 8 (2 * t)) (oddSteps P (2 * t - 7)) []) a in

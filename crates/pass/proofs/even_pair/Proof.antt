@@ -33,7 +33,8 @@ placed : (c : tie.After-has-code) → let a = entry c .args in
 placed c = placed-at (entry c .pre .plan .first-low) (c .before .before .before .left-of .ensures .0) (c .before .context-at .ensures .0)
 
 -- it goes inside of the lines
-room : (c : tie.After-has-code) → (c .before .before .before .left-of .result + 1 < length (entry c .args .lines .now)) × (c .before .before .before .left-of .result + 1 < 2 ^ 14)
+room : (c : tie.After-has-code)
+    → (c .before .before .before .left-of .result + 1 < length (entry c .args .lines .now)) × (c .before .before .before .left-of .result + 1 < 2 ^ 14)
 room c =
     let p = entry c .pre in
     let i = c .before .before .before .left-of .ensures in
@@ -46,8 +47,10 @@ abbrev asked : tie.After-record-at → tie.After-has-code
 asked c = looked c .before .before
 
 first : (c : tie.After-record-at) → let t = asked c in let a = entry t .args in
-    Site (a .spot .bits) (a .base) (a .spot .w) (a .spot .plan .first) (a .spot .p) (a .block .now) (a .lines .now) (a .sums .now) (a .ns .now) (a .totals .now) (a .raws .now) (a .limits .now)
-    (t .before .before .before .left-of .result) (t .before .context-at .result) (looked c .look-of .result) (c .before .before .before .slot-of .result) (c .record-at .result)
+    Site (a .spot .bits) (a .base) (a .spot .w) (a .spot .plan .first) (a .spot .p) (a .block .now) (a .lines .now) (a .sums .now) (a .ns .now)
+    (a .totals .now) (a .raws .now) (a .limits .now)
+    (t .before .before .before .left-of .result) (t .before .context-at .result) (looked c .look-of .result) (c .before .before .before .slot-of .result)
+    (c .record-at .result)
 first c =
     let p = entry (asked c) .pre in
     let h = looked c .look-of .ensures in
@@ -114,7 +117,8 @@ middle c = held (c .if1 .lines) (c .if1 .sums) (c .if1 .ns) (c .if1 .place)
 
 record Met (c : tie.Joined1) : Type 0 where
   read : let a = entry (c .before) .args in
-      StepGives (a .spot .bits) (a .base) (a .spot .w) (a .block .now) (stepAt (a .spot .plan .first) (a .spot .p) (not (interpolated (a .spot .plan .«first_rule») (a .spot .p))))
+      StepGives (a .spot .bits) (a .base) (a .spot .w) (a .block .now)
+      (stepAt (a .spot .plan .first) (a .spot .p) (not (interpolated (a .spot .plan .«first_rule») (a .spot .p))))
       (held (a .lines .now) (a .sums .now) (a .ns .now) (a .from)) (some (middle c))
   in-range : SetInRange (middle c .set)
   ks-kept : AreKs (middle c .set) (c .if1 .ks)
@@ -167,11 +171,13 @@ abbrev joined : tie.After-has-code2 → tie.Joined1
 joined c = c .before .before .before .before
 
 placed-2 : (c : tie.After-has-code2) → let a = entry (joined c .before) .args in
-    Placed (a .spot .w) (a .spot .plan .second) (a .spot .p) (joined c .if1 .lines) (c .before .before .before .left-of2 .result) (c .before .context-at2 .result)
+    Placed (a .spot .w) (a .spot .plan .second) (a .spot .p) (joined c .if1 .lines) (c .before .before .before .left-of2 .result)
+    (c .before .context-at2 .result)
 placed-2 c =
     placed-at (entry (joined c .before) .pre .plan .second-low) (c .before .before .before .left-of2 .ensures .0) (c .before .context-at2 .ensures .0)
 
-room-2 : (c : tie.After-has-code2) → (c .before .before .before .left-of2 .result + 1 < length (joined c .if1 .lines)) × (c .before .before .before .left-of2 .result + 1 < 2 ^ 14)
+room-2 : (c : tie.After-has-code2)
+    → (c .before .before .before .left-of2 .result + 1 < length (joined c .if1 .lines)) × (c .before .before .before .left-of2 .result + 1 < 2 ^ 14)
 room-2 c =
     let p = entry (joined c .before) .pre in
     let i = c .before .before .before .left-of2 .ensures in
@@ -195,8 +201,10 @@ record-at-requires-2 c κs =
     (s .slot-of2 .ensures .1, one (joined (s .before .before .before)) .in-range)
 
 second : (c : tie.After-record-at2) → let t = asked-2 c in let j = begun c .if1 in let a = entry (begun c .before) .args in
-    Site (a .spot .bits) (a .base) (a .spot .w) (a .spot .plan .second) (a .spot .p) (a .block .now) (j .lines) (j .sums) (j .ns) (a .totals .now) (a .raws .now) (a .limits .now)
-    (t .before .before .before .left-of2 .result) (t .before .context-at2 .result) (looked-2 c .look-of2 .result) (c .before .before .before .slot-of2 .result) (c .record-at2 .result)
+    Site (a .spot .bits) (a .base) (a .spot .w) (a .spot .plan .second) (a .spot .p) (a .block .now) (j .lines) (j .sums) (j .ns) (a .totals .now)
+    (a .raws .now) (a .limits .now)
+    (t .before .before .before .left-of2 .result) (t .before .context-at2 .result) (looked-2 c .look-of2 .result)
+    (c .before .before .before .slot-of2 .result) (c .record-at2 .result)
 second c =
     let p = entry (begun c .before) .pre in
     let h = looked-2 c .look-of2 .ensures in

@@ -10,7 +10,8 @@ use lib.ListN.{length}
 use Rattle.quantiser.specs.Quantisers.{largest}
 use Rattle.steps.specs.Steps.{Step, stepAt, interpolated, evenSteps}
 use Rattle.writing.proofs.StepPuts.{sample-at, same-room, same-wanted, same-steps, no-even, even-due, ends}
-use Rattle.writing.proofs.SitePuts.{Ready, Done, met, first-ready, second-ready, two-puts, Site, site-code, site-value, site-right, site-wrong, site-record, site-update, site-room, site-done}
+use Rattle.writing.proofs.SitePuts.{Ready, Done, met, first-ready, second-ready, two-puts, Site, site-code, site-value}
+use Rattle.writing.proofs.SitePuts.{site-right, site-wrong, site-record, site-update, site-room, site-done}
 use Rattle.writing.proofs.write_even.Statement.{statement}
 use Rattle.writing.proofs.write_even.Tie as tie
 
@@ -35,7 +36,8 @@ abbrev second-step : tie.Else1 → Step
 second-step c = stepAt (entry c .args .spot .plan .second) (entry c .args .spot .p) (second-coded c)
 
 two : (c : tie.Else1) → let a = entry c .args in
-    Ready (a .spot .bits) (a .base) (a .totals .now) (a .raws .now) (a .limits .now) (a .spot .w) (a .strict) (a .samples .now) (a .n) (evenSteps (a .spot .plan) (a .spot .p)) (a .store) (a .from) (a .lines .now) (a .sums .now) (a .ns .now) (a .out .now)
+    Ready (a .spot .bits) (a .base) (a .totals .now) (a .raws .now) (a .limits .now) (a .spot .w) (a .strict) (a .samples .now) (a .n)
+    (evenSteps (a .spot .plan) (a .spot .p)) (a .store) (a .from) (a .lines .now) (a .sums .now) (a .ns .now) (a .out .now)
 two c =
     let a = entry c .args in
     let p = entry c .pre in
@@ -53,7 +55,8 @@ abbrev begun : tie.After-context-at → tie.Else1
 begun c = c .before .before .before .before .before
 
 site : (c : tie.After-context-at) → let a = entry (begun c) .args in
-    Site (a .spot .bits) (a .base) (a .totals .now) (a .raws .now) (a .limits .now) (a .spot .w) (a .strict) (a .samples .now) (a .n) (a .spot .plan .first) (a .spot .p) (first-coded (begun c)) (a .store) (a .from) (a .lines .now) (a .sums .now) (a .ns .now) (a .out .now)
+    Site (a .spot .bits) (a .base) (a .totals .now) (a .raws .now) (a .limits .now) (a .spot .w) (a .strict) (a .samples .now) (a .n)
+    (a .spot .plan .first) (a .spot .p) (first-coded (begun c)) (a .store) (a .from) (a .lines .now) (a .sums .now) (a .ns .now) (a .out .now)
     (c .before .before .before .left-of .result) (c .before .before .index-in .result) (c .context-at .result)
 site c =
     record {
@@ -75,7 +78,8 @@ abbrev place : tie.After-coded-as → tie.After-context-at
 place c = placed (c .before .before)
 
 -- it goes inside of the lines
-room : (c : tie.After-context-at) → let i = c .before .before .before .left-of .result in (i + 1 < length (entry (begun c) .args .lines .now)) × (i + 1 < 2 ^ 14)
+room : (c : tie.After-context-at) → let i = c .before .before .before .left-of .result in
+    (i + 1 < length (entry (begun c) .args .lines .now)) × (i + 1 < 2 ^ 14)
 room c =
     let p = entry (begun c) .pre in
     let i = c .before .before .before .left-of .ensures .1 .1 in
@@ -125,7 +129,8 @@ abbrev start : tie.Joined2 → tie.Start
 start c = entry (begun (there c))
 
 done : (c : tie.Joined2) → let a = start c .args in
-    Done (a .spot .bits) (a .base) (a .spot .w) (a .strict) (a .samples .now) (a .n) (stepAt (a .spot .plan .first) (a .spot .p) (first-coded (begun (there c)))) (a .store) (a .from) (a .lines .now) (a .sums .now) (a .ns .now) (a .out .now)
+    Done (a .spot .bits) (a .base) (a .spot .w) (a .strict) (a .samples .now) (a .n)
+    (stepAt (a .spot .plan .first) (a .spot .p) (first-coded (begun (there c)))) (a .store) (a .from) (a .lines .now) (a .sums .now) (a .ns .now) (a .out .now)
     (c .if2 .lines) (c .if2 .sums) (c .if2 .ns) (c .if2 .out) (c .if2 .at)
 done c =
     let x = there c in
@@ -143,7 +148,8 @@ abbrev one : tie.After-context-at2 → tie.Joined2
 one c = c .before .before .before .before
 
 site-2 : (c : tie.After-context-at2) → let d = one c in let a = start d .args in
-    Site (a .spot .bits) (a .base) (a .totals .now) (a .raws .now) (a .limits .now) (a .spot .w) (a .strict) (a .samples .now) (a .n) (a .spot .plan .second) (a .spot .p) (second-coded (begun (there d))) (a .store) (d .if2 .at) (d .if2 .lines) (d .if2 .sums) (d .if2 .ns) (d .if2 .out)
+    Site (a .spot .bits) (a .base) (a .totals .now) (a .raws .now) (a .limits .now) (a .spot .w) (a .strict) (a .samples .now) (a .n)
+    (a .spot .plan .second) (a .spot .p) (second-coded (begun (there d))) (a .store) (d .if2 .at) (d .if2 .lines) (d .if2 .sums) (d .if2 .ns) (d .if2 .out)
     (c .before .before .before .left-of2 .result) (c .before .before .index-in2 .result) (c .context-at2 .result)
 site-2 c =
     record {

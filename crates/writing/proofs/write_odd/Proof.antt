@@ -10,7 +10,8 @@ use Rattle.steps.specs.Steps.{stepAt, oddSteps}
 use Rattle.writing.specs.Puts.{Wanted}
 use Rattle.quantiser.specs.Quantisers.{largest}
 use Rattle.writing.proofs.StepPuts.{sample-at, same-room, same-wanted, same-steps, no-odd, odd-due}
-use Rattle.writing.proofs.SitePuts.{Ready, Done, first-ready, second-ready, two-puts, Site, site-code, site-value, site-record, site-update, site-room, site-done}
+use Rattle.writing.proofs.SitePuts.{Ready, Done, first-ready, second-ready, two-puts, Site, site-code}
+use Rattle.writing.proofs.SitePuts.{site-value, site-record, site-update, site-room, site-done}
 use Rattle.writing.proofs.write_odd.Statement.{statement}
 use Rattle.writing.proofs.write_odd.Tie as tie
 
@@ -26,7 +27,8 @@ abbrev entry : tie.Else1 → tie.Start
 entry c = c .before .before .before .before
 
 two : (c : tie.Else1) → let a = entry c .args in
-    Ready (a .spot .bits) (a .base) (a .totals .now) (a .raws .now) (a .limits .now) (a .spot .w) (a .strict) (a .samples .now) (a .n) (oddSteps (a .spot .plan) (a .spot .p - 7)) (a .store) (a .from) (a .lines .now) (a .sums .now) (a .ns .now) (a .out .now)
+    Ready (a .spot .bits) (a .base) (a .totals .now) (a .raws .now) (a .limits .now) (a .spot .w) (a .strict) (a .samples .now) (a .n)
+    (oddSteps (a .spot .plan) (a .spot .p - 7)) (a .store) (a .from) (a .lines .now) (a .sums .now) (a .ns .now) (a .out .now)
 two c =
     let a = entry c .args in
     let p = entry c .pre .0 in
@@ -44,7 +46,8 @@ abbrev begun : tie.After-context-at → tie.Else1
 begun c = c .before .before .before .before .before
 
 site : (c : tie.After-context-at) → let a = entry (begun c) .args in
-    Site (a .spot .bits) (a .base) (a .totals .now) (a .raws .now) (a .limits .now) (a .spot .w) (a .strict) (a .samples .now) (a .n) (a .spot .plan .first) (a .spot .p - 7) true (a .store) (a .from) (a .lines .now) (a .sums .now) (a .ns .now) (a .out .now)
+    Site (a .spot .bits) (a .base) (a .totals .now) (a .raws .now) (a .limits .now) (a .spot .w) (a .strict) (a .samples .now) (a .n)
+    (a .spot .plan .first) (a .spot .p - 7) true (a .store) (a .from) (a .lines .now) (a .sums .now) (a .ns .now) (a .out .now)
     (c .before .before .before .left-of .result) (c .before .before .index-in .result) (c .context-at .result)
 site c =
     record {
@@ -63,7 +66,8 @@ abbrev place : tie.After-coded-as → tie.After-context-at
 place c = placed (c .before)
 
 -- it goes inside of the lines
-room : (c : tie.After-coded-as) → let i = place c .before .before .before .left-of .result in (i + 1 < length (entry (begun (place c)) .args .lines .now)) × (i + 1 < 2 ^ 14)
+room : (c : tie.After-coded-as) → let i = place c .before .before .before .left-of .result in
+    (i + 1 < length (entry (begun (place c)) .args .lines .now)) × (i + 1 < 2 ^ 14)
 room c =
     let x = place c in
     let p = entry (begun x) .pre .0 in
@@ -111,7 +115,8 @@ abbrev lines₁ : tie.After-update-at → List ℕ
 lines₁ c = set (start c .args .lines .now) (place (there c) .before .before .before .left-of .result + 1) (there c .coded-as .result .value)
 
 done : (c : tie.After-update-at) → let a = start c .args in let new = c .update-at .last in
-    Done (a .spot .bits) (a .base) (a .spot .w) (a .strict) (a .samples .now) (a .n) (stepAt (a .spot .plan .first) (a .spot .p - 7) true) (a .store) (a .from) (a .lines .now) (a .sums .now) (a .ns .now) (a .out .now)
+    Done (a .spot .bits) (a .base) (a .spot .w) (a .strict) (a .samples .now) (a .n) (stepAt (a .spot .plan .first) (a .spot .p - 7) true) (a .store)
+    (a .from) (a .lines .now) (a .sums .now) (a .ns .now) (a .out .now)
     (lines₁ c) (new .0) (new .1 .0) (put c .put-code .last .0) (put c .put-code .result)
 done c =
     let k = kept (put c) in
@@ -130,7 +135,8 @@ abbrev one : tie.After-context-at2 → tie.After-update-at
 one c = c .before .before .before .before
 
 site-2 : (c : tie.After-context-at2) → let d = one c in let a = start d .args in let new = d .update-at .last in
-    Site (a .spot .bits) (a .base) (a .totals .now) (a .raws .now) (a .limits .now) (a .spot .w) (a .strict) (a .samples .now) (a .n) (a .spot .plan .second) (a .spot .p - 7) true (a .store) (put d .put-code .result) (lines₁ d) (new .0) (new .1 .0) (put d .put-code .last .0)
+    Site (a .spot .bits) (a .base) (a .totals .now) (a .raws .now) (a .limits .now) (a .spot .w) (a .strict) (a .samples .now) (a .n)
+    (a .spot .plan .second) (a .spot .p - 7) true (a .store) (put d .put-code .result) (lines₁ d) (new .0) (new .1 .0) (put d .put-code .last .0)
     (c .before .before .before .left-of2 .result) (c .before .before .index-in2 .result) (c .context-at2 .result)
 site-2 c =
     record {
