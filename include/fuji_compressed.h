@@ -19,6 +19,9 @@ extern "C" {
 #define FUJI_SCRATCH_SAMPLES 9252
 #define FUJI_SCRATCH_RECORDS 336
 
+/* The samples that fuji_decode_region_windowed needs (less for Bayer: 3,474). */
+#define FUJI_WINDOW_SAMPLES 4626
+
 typedef struct fuji_record {
     uint32_t sum;
     uint32_t n;
@@ -48,6 +51,13 @@ void fuji_decode(const uint8_t *stream, size_t stream_length, size_t width, size
 void fuji_decode_region(const uint8_t *stream, size_t stream_length, size_t x, size_t y, size_t width, size_t height,
                         const uint8_t tile[36], uint16_t *image, size_t image_length, uint16_t *scratch, size_t scratch_length,
                         fuji_record *records, size_t records_length, size_t refusal[4]);
+
+/* The same in half the samples of scratch: three colour lines of each colour are kept, and each goes to the image when it has been read. It is refused by 10
+ * only with fewer than 9 * (384 + 2) samples (X-Trans: 9 * (512 + 2)) or 336 records. Samples and answers are those of fuji_decode_region, but with refusal 14 the six
+ * rows of a block's truncated line, within its columns and the region, are 0. */
+void fuji_decode_region_windowed(const uint8_t *stream, size_t stream_length, size_t x, size_t y, size_t width, size_t height,
+                                 const uint8_t tile[36], uint16_t *image, size_t image_length, uint16_t *scratch, size_t scratch_length,
+                                 fuji_record *records, size_t records_length, size_t refusal[4]);
 
 /* Reads a whole block, lossless or lossy, and shows nothing. `totals` are the bits of its codes and how many of them are long: of all lines where nothing is
  * refused, of the lines before the truncated one with refusal 14, and 0 and 0 with every other refusal. */

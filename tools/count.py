@@ -1,7 +1,7 @@
 #!/usr/bin/env python3
 """Counts the machine instructions that decoding takes for each code, and its conditional branches that go both ways. README.md says how.
 
-usage: tools/count.py [--noise N,N..] [--kinds KIND,KIND..] [--lines N] [--side ours|rust] [--lines-only] [--branches]
+usage: tools/count.py [--noise N,N..] [--kinds KIND,KIND..] [--lines N] [--side ours|windowed|rust] [--lines-only] [--branches]
 """
 import argparse
 import os
@@ -12,8 +12,8 @@ import tempfile
 ROOT = os.path.dirname(os.path.dirname(os.path.abspath(__file__)))
 BENCH = os.path.join(ROOT, "rust", "target", "release", "bench")
 KINDS = ["bayer-lossless", "xtrans-lossless", "bayer-lossy", "xtrans-lossy"]
-# What is counted: the function for C, or the original's two calls.
-COUNTED = {"ours": "fuji_decode", "rust": "*time_theirs*"}
+# What is counted: a function for C, or the original's two calls.
+COUNTED = {"ours": "fuji_decode", "windowed": "fuji_decode_region_windowed", "rust": "*time_theirs*"}
 CODES_A_LINE = 4608
 # A branch is shown if it is met in so many codes, and if its rarer way is taken so often.
 LEAST_MET = 0.02

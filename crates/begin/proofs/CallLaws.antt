@@ -1,11 +1,12 @@
 -- What holds of a call that is neither refused nor empty. Assumes nothing.
-use borrow.Author.Tests.{ltb-false, ltb-true, eqb-true}
+use borrow.Author.Tests.{ltb-false, ltb-true, lt-ltb, le-ltb, eqb-true}
 use mathlib.Core.Bool.{Bool, true, false, cond, not, _&&_, _||_}
 use mathlib.Core.List.{List}
 use mathlib.Core.Path.{_≡_, refl, sym, ap, _∙_, subst}
-use Prim.Native.Nat.{ℕ, _≤_, _<_}
+use Prim.Native.Nat.{ℕ, _+_, _*_, _≤_, _<_}
 use native.Mathlib.Omega.{arith}
 use lib.Dec.{ltb, eqb}
+use Rattle.numbers.proofs.OrderLaws.{split}
 use Rattle.map.specs.Places.{widthOf}
 use Rattle.stream.specs.Headers.{parseOf, Ruled}
 use Rattle.stream.specs.Streams.{openOf}
@@ -22,7 +23,7 @@ use Rattle.region.specs.declared.Checked.{Checked}
 use Rattle.region.specs.declared.Checked.the-variants as Check
 use Rattle.region.proofs.CheckLaws.{accepted}
 use Rattle.writing.specs.Sets.{setSize}
-use Rattle.begin.specs.Beginnings.{samplesNeeded, recordsNeeded, withScratch, begun, withRegion, withStream, regionBegins, wholeOf, isWhole, withPicture}
+use Rattle.begin.specs.Beginnings.{samplesNeeded, recordsNeeded, isShortScratch, withScratch, begun, withRegion, withStream, regionBegins, wholeOf, isWhole, withPicture}
 use Rattle.begin.specs.Beginnings.{imageBegins, withOpened, blockBegins, withParsed, writingBegins}
 use Rattle.begin.specs.declared.Beginning.the-variants.{Refused, Reading}
 
@@ -43,6 +44,16 @@ scratch-fits g h a b = go (ltb a (samplesNeeded (g .xtrans))) (ltb b recordsNeed
     go true t p q e = clash ShortScratch h e
     go false true p q e = clash ShortScratch h e
     go false false p q e = (cc, record { for-lines = ltb-false a (samplesNeeded (g .xtrans)) p; for-records = ltb-false b recordsNeeded q })
+
+-- windows are short of samples exactly if they have fewer than 9·(W + 2)
+half : (s m : ℕ) → ltb (2 * s) (2 * m) ≡ ltb s m
+half s m = split m s (λ h. le-ltb (2 * s) (2 * m) (omega arith) ∙ sym (le-ltb s m h)) (λ h. lt-ltb (2 * s) (2 * m) (omega arith) ∙ sym (lt-ltb s m h))
+
+pub windows-short : (xtrans : Bool) (samples records : ℕ)
+    → isShortScratch xtrans (2 * samples) records ≡ ltb samples (9 * (widthOf xtrans + 2)) || ltb records recordsNeeded
+windows-short xtrans samples records =
+    let e : 18 * (widthOf xtrans + 2) ≡ 2 * (9 * (widthOf xtrans + 2)) = omega arith in
+    rw (e, half samples (9 * (widthOf xtrans + 2)))
 
 -- ---- decoding
 

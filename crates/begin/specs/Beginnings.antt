@@ -57,6 +57,10 @@ withStream (Parsing.Header h) r image samples records = withRegion h (checkedOf 
 unfoldable pub regionBegins : List ℕ → Rect → ℕ → ℕ → ℕ → Beginning
 regionBegins d r image samples records = withStream (openOf d) r image samples records
 
+-- windows take half the samples, 9·(W + 2): refusal 10 comes as if twice as many were lent
+abbrev pub windowedBegins : List ℕ → Rect → ℕ → ℕ → ℕ → Beginning
+windowedBegins d r image samples records = regionBegins d r image (2 * samples) records
+
 -- ---- decoding the whole picture
 
 abbrev pub wholeOf : ℕ → ℕ → Rect

@@ -2,14 +2,14 @@
 ghost use mathlib.Core.Path.{_≡_};
 ghost use mathlib.Core.Bool.{cond};
 ghost use mathlib.Core.Option.{none, some};
-ghost use Prim.Native.Nat.{_≤_};
+ghost use Prim.Native.Nat.{_+_, _*_, _^_, _≤_, _<_};
 ghost use lib.Dec.{ltb};
 ghost use lib.ListN.{length};
 ghost use Rattle.region.specs.Regions.{checkedOf};
 ghost use Rattle.writing.specs.Sets.{setSize};
 ghost use Rattle.map.specs.Places.{widthOf};
 ghost use Rattle.begin.specs.Beginnings.{samplesNeeded, isShortScratch, withScratch, begun, withRegion, regionBegins, wholeOf, isWhole, withSize, imageBegins};
-ghost use Rattle.begin.specs.Beginnings.{withBlock, blockBegins, withSet, writingBegins, firstAbove};
+ghost use Rattle.begin.specs.Beginnings.{windowedBegins, withBlock, blockBegins, withSet, writingBegins, firstAbove};
 ghost use Rattle.bits.specs.BitLists.{blockBytes};
 ghost use Rattle.begin.specs.Counted.{lengthNext, nextOf};
 use bits::BitPosition;
@@ -83,6 +83,21 @@ pub fn region_begins(d: &[u8], r: Rect, image: usize, samples: usize, records: u
         Parsed::Refused(x) => Beginning::Refused(x),
         Parsed::Header(h) => region_in(h, r, image, samples, records),
     }
+}
+
+// The same with windows, which take half the samples.
+pub fn windowed_begins(d: &[u8], r: Rect, image: usize, samples: usize, records: usize) -> Beginning
+    requires { ⌜ samples < 2 ^ 62 ⌝ }
+    ensures { λ a. ⌜ a ≡ windowedBegins (now (d .entry)) r image samples records ⌝ }
+{
+    region_begins(d, r, image, 2 * samples, records)
+}
+
+// The samples that windows take.
+pub fn window_samples(xtrans: bool) -> usize
+    ensures { λ r. ⌜ (r ≡ 9 * (widthOf xtrans + 2)) × (r ≤ 4626) ⌝ }
+{
+    9 * (map::width(xtrans) + 2)
 }
 
 // The whole picture as a region.

@@ -3,23 +3,26 @@ use borrow.Author.Tests.{ltb-true, ltb-false, lt-ltb, le-ltb, le-leb, leb-true, 
 use mathlib.Core.Bool.{Bool, true, false, cond, _&&_, and-true, and-false}
 use mathlib.Core.List.{List}
 use mathlib.Core.Option.{Option, none, some}
-use mathlib.Core.Path.{_≡_, refl, sym, _∙_}
+use mathlib.Core.Path.{_≡_, refl, sym, ap, _∙_}
 use Prim.Native.Nat.{ℕ, zero, suc, _+_, _-_, _*_, _/_, _%_, _≤_, _<_, zero-le}
 use native.Mathlib.Nat.{add-zero, add-suc, le-refl}
 use native.Mathlib.Omega.{arith}
-use lib.Dec.{ltb, eqb}
-use lib.ListN.{getD}
+use lib.Dec.{ltb, leb, eqb}
+use lib.ListN.{length, getD}
 use Rattle.numbers.proofs.OrderLaws.{cond-le}
-use Rattle.map.specs.Places.{pictureRow, imageColumn, inRows, emittedSample}
+use Rattle.map.specs.Places.{pictureRow, imageColumn, inRows, emittedSample, Changed}
 use Rattle.map.specs.declared.Part.{Part}
 use Rattle.map.proofs.PartLaws.{by-test, not-in}
 use Rattle.stream.specs.declared.FujiHeader.{FujiHeader}
 use Rattle.stream.specs.declared.Refusal.the-variants.{Truncated}
 use Rattle.region.specs.Regions.{blockOf, firstBlock, lastBlock, bottomOf, partIn, lineCount, Accepted}
 use Rattle.region.specs.declared.Rect.{Rect}
-use Rattle.region.proofs.RegionLaws.{InColumns, one-block, row-inside}
-use Rattle.block.specs.Blocks.{State, runs, readLineAt, startState, readLines, shownSample, Shown, shownLines, IsWalked}
-use Rattle.block.specs.Images.{formOf, bytesIn, basesIn, isRead, linesRead, readIn, lineOf, isDecoded, pictureSample, decodedSample, Pictured, orElse, walkedAnswer, blockAnswer, answerOf}
+use Rattle.region.proofs.RegionLaws.{InColumns, one-block, lines-cover, row-inside}
+use Rattle.block.specs.Blocks.{State, runs, readLineAt, startState, readLines, shownSample, shownLines, IsWalked}
+use Rattle.block.specs.Images.{formOf, bytesIn, basesIn, isRead, linesRead, readIn, lineOf, isDecoded, pictureSample, decodedSample, orElse}
+use Rattle.block.specs.Images.{walkedAnswer, blockAnswer, answerOf}
+use Rattle.block.specs.WindowedImages.{isReached, reachedSample}
+use Rattle.block.specs.WindowedLines.{reachedLines, ShownIn, PicturedIn}
 use Rattle.block.specs.declared.Form.{Form}
 use Rattle.block.specs.declared.Walked.{Walked}
 use Rattle.block.specs.declared.Walked.the-variants as Walk
@@ -128,27 +131,39 @@ same-test true t f g = sym (f refl)
 same-test false true f g = g refl
 same-test false false f g = refl
 
+below-next : (m n : ℕ) → ltb m (suc n) ≡ leb m n
+below-next m n =
+    same-test (ltb m (suc n)) (leb m n)
+    (λ t. le-leb m n (let l = ltb-true m (suc n) t in omega arith))
+    (λ t. lt-ltb m (suc n) (let l = leb-true m n t in omega arith))
+
 and-swap : (s t : Bool) → s && t ≡ t && s
 and-swap true t = sym (and-true t)
 and-swap false t = sym (and-false t)
 
--- ---- which entries are decoded
+-- ---- which entries have been reached
 
-module _ (d : List ℕ) (h : FujiHeader) (r : Rect) (i : ℕ) where
+-- entry i is the region's, of a block below e, and its line passes a test
+module _ (r : Rect) (i : ℕ) (t : Bool) where
+  abbrev reached : ℕ → Bool
+  reached e = ltb i (r .width * r .height) && ltb (blockOf r i) e && t
+
   -- none of a block that does not stand below e
-  not-decoded : (e : ℕ) → e ≤ blockOf r i → isDecoded d h r e i ≡ false
-  unfolding isDecoded
-  not-decoded e l = rw (le-ltb (blockOf r i) e l, and-false (ltb i (r .width * r .height)))
+  not-reached : (e : ℕ) → e ≤ blockOf r i → reached e ≡ false
+  not-reached e l = rw (le-ltb (blockOf r i) e l, and-false (ltb i (r .width * r .height)))
 
   -- the others by their place and their line
-  is-decoded : (e : ℕ) → blockOf r i < e
-      → isDecoded d h r e i ≡ ltb i (r .width * r .height) && ltb (lineOf r i) (readIn d h r (blockOf r i))
-  unfolding isDecoded
-  is-decoded e l = rw (lt-ltb (blockOf r i) e l, and-true (ltb i (r .width * r .height)))
+  is-reached : (e : ℕ) → blockOf r i < e → reached e ≡ ltb i (r .width * r .height) && t
+  is-reached e l = rw (lt-ltb (blockOf r i) e l, and-true (ltb i (r .width * r .height)))
 
-pub pictured-none : (d : List ℕ) (h : FujiHeader) (r : Rect) (tile : List ℕ) (b : ℕ) (image : List ℕ) → b ≡ firstBlock r
-    → Pictured d h r tile b image image
-pictured-none d h r tile b image e = record { kept = refl; entries = λ i. rw (not-decoded d h r i b (omega arith)) }
+  other-reached : (b : ℕ) → (blockOf r i ≡ b → ⊥) → reached (b + 1) ≡ reached b
+  other-reached b other =
+      by-test (ltb (blockOf r i) b)
+      (λ u. let l = ltb-true _ _ u in is-reached (b + 1) (omega arith) ∙ sym (is-reached b l))
+      (λ u.
+      let l = ltb-false _ _ u in
+      let m : b + 1 ≤ blockOf r i = omega (arith, other) in
+      not-reached (b + 1) m ∙ sym (not-reached b l))
 
 -- ---- which entries a part shows
 
@@ -180,7 +195,7 @@ part-bottom r b = refl
 
 -- ---- the image, with one block more
 
-module _ (d : List ℕ) (h : FujiHeader) (r : Rect) (n i : ℕ) (ok : Accepted h r n) where
+module _ (h : FujiHeader) (r : Rect) (n i : ℕ) (ok : Accepted h r n) where
   -- the rows of the region are those of the entries below width·height
   row-place : ltb (r .y + i / r .width) (bottomOf r) ≡ ltb i (r .width * r .height)
   row-place =
@@ -189,25 +204,25 @@ module _ (d : List ℕ) (h : FujiHeader) (r : Rect) (n i : ℕ) (ok : Accepted h
       (λ t. lt-ltb _ _ (e .0 (ltb-true _ _ t)))
       (λ t. lt-ltb _ _ (e .1 (ltb-true _ _ t)))
 
-  -- an entry of block b is shown by its part exactly if it is decoded
-  of-block : (b : ℕ) → blockOf r i ≡ b → inRows (partIn r b) 0 (6 * readIn d h r b) i ≡ isDecoded d h r (b + 1) i
-  of-block b e =
-      shown-inside (partIn r b) (readIn d h r b) i (one-block h r n ok b i .1 (sym e))
-      ∙ rw (part-row r b i, part-bottom r b, row-place, row-line (r .y + i / r .width) (readIn d h r b))
-      (and-swap (ltb (lineOf r i) (readIn d h r b)) (ltb i (r .width * r .height)) ∙ sym (rw e at (is-decoded d h r i (b + 1) (omega arith))))
+  -- an entry of block b is among the first m lines of its part exactly if its line is
+  of-block : (b m : ℕ) → blockOf r i ≡ b → inRows (partIn r b) 0 (6 * m) i ≡ ltb i (r .width * r .height) && ltb (lineOf r i) m
+  of-block b m e =
+      shown-inside (partIn r b) m i (one-block h r n ok b i .1 (sym e))
+      ∙ rw (part-row r b i, part-bottom r b, row-place, row-line (r .y + i / r .width) m)
+      (and-swap (ltb (lineOf r i) m) (ltb i (r .width * r .height)))
 
   -- and an entry of another block is not shown
   of-other : (b m : ℕ) → (blockOf r i ≡ b → ⊥) → inRows (partIn r b) 0 (6 * m) i ≡ false
   of-other b m other = shown-outside (partIn r b) m i (λ c. other (sym (one-block h r n ok b i .0 c)))
 
-  other-decoded : (b : ℕ) → (blockOf r i ≡ b → ⊥) → isDecoded d h r (b + 1) i ≡ isDecoded d h r b i
-  other-decoded b other =
-      by-test (ltb (blockOf r i) b)
-      (λ t. let l = ltb-true _ _ t in is-decoded d h r i (b + 1) (omega arith) ∙ sym (is-decoded d h r i b l))
-      (λ t.
-      let l = ltb-false _ _ t in
-      let m : b + 1 ≤ blockOf r i = omega (arith, other) in
-      not-decoded d h r i (b + 1) m ∙ sym (not-decoded d h r i b l))
+  -- all lines of the region's rows are asked for
+  all-lines : ltb i (r .width * r .height) && ltb (lineOf r i) (lineCount r) ≡ ltb i (r .width * r .height) && leb (lineOf r i) (lineCount r)
+  all-lines =
+      by-test (ltb i (r .width * r .height))
+      (λ u.
+      let l = lines-cover h r n ok (r .y + i / r .width) (row-inside h r n ok i .1 (ltb-true _ _ u)) in
+      rw (u, lt-ltb (lineOf r i) (lineCount r) (omega arith), le-leb (lineOf r i) (lineCount r) (omega arith)))
+      (λ u. rw u)
 
 module _ (d : List ℕ) (h : FujiHeader) (r : Rect) (tile : List ℕ) (b : ℕ) where
   -- the sample that the part of block b shows
@@ -223,25 +238,71 @@ module _ (d : List ℕ) (h : FujiHeader) (r : Rect) (tile : List ℕ) (b : ℕ) 
   unfolding emittedSample pictureSample
   same-sample i e = rw (part-column i e, part-row r b i, e)
 
-  module _ (n : ℕ) (x y z : List ℕ) (ok : Accepted h r n) (done : Pictured d h r tile b x y)
-      (shown : Shown (formOf h) (basesIn d b) (bytesIn d b) tile (partIn r b) (readIn d h r b) y z) where
-    entry : (i : ℕ) → getD z i 0 ≡ cond (isDecoded d h r (b + 1) i) (decodedSample d h r tile i) (getD x i 0)
-    entry i =
-        by-test (eqb (blockOf r i) b)
-        (λ t.
-        let e : blockOf r i ≡ b = eqb-true _ _ t in
-        shown .entries i ∙ rw (of-block d h r n i ok b e, same-sample i e, done .entries i, not-decoded d h r i b (omega arith)))
-        (λ t.
-        let other = eqb-false (blockOf r i) b t in
-        shown .entries i ∙ rw (of-other d h r n i ok b (readIn d h r b) other, done .entries i, other-decoded d h r n i ok b other))
+  same-or-zero : (i : ℕ) → blockOf r i ≡ b → cond (ltb (pictureRow (partIn r b) i / 6) (readIn d h r b)) (sample i) 0
+      ≡ cond (ltb (lineOf r i) (readIn d h r (blockOf r i))) (decodedSample d h r tile i) 0
+  same-or-zero i e =
+      ap (λ (v : ℕ). cond (ltb (pictureRow (partIn r b) i / 6) (readIn d h r b)) v 0) (same-sample i e) ∙ rw (part-row r b i, e)
 
-    one-more : Pictured d h r tile (b + 1) x z
-    one-more = record { kept = shown .kept ∙ done .kept; entries = entry }
+-- the image, by the test of a line and by what an entry shows; one block more has shown m lines
+module _ (h : FujiHeader) (r : Rect) (n b m : ℕ) (test : ℕ → Bool) (sample shows : ℕ → ℕ) (x y z : List ℕ) (ok : Accepted h r n)
+    (done : Changed (λ i. reached r i (test i) b) sample x y) (shown : Changed (inRows (partIn r b) 0 (6 * m)) shows y z)
+    (lines : (i : ℕ) → blockOf r i ≡ b → ltb i (r .width * r .height) && ltb (lineOf r i) m ≡ ltb i (r .width * r .height) && test i)
+    (samples : (i : ℕ) → blockOf r i ≡ b → shows i ≡ sample i) where
+  entry : (i : ℕ) → getD z i 0 ≡ cond (reached r i (test i) (b + 1)) (sample i) (getD x i 0)
+  entry i =
+      by-test (eqb (blockOf r i) b)
+      (λ t.
+      let e : blockOf r i ≡ b = eqb-true _ _ t in
+      shown .entries i
+      ∙ rw (
+        of-block h r n i ok b m e,
+        lines i e,
+        samples i e,
+        done .entries i,
+        not-reached r i (test i) b (omega arith),
+        is-reached r i (test i) (b + 1)
+            (omega arith),
+      ))
+      (λ t.
+      let other = eqb-false (blockOf r i) b t in
+      shown .entries i ∙ rw (of-other h r n i ok b m other, done .entries i, other-reached r i (test i) b other))
 
-pub pictured-more : (d : List ℕ) (h : FujiHeader) (r : Rect) (tile : List ℕ) (n b : ℕ) (a : Part) (w : Walked) (x y z : List ℕ)
-    → Accepted h r n → firstBlock r ≤ b → b ≤ lastBlock r → a ≡ partIn r b
-    → IsWalked (formOf h) (basesIn d b) (bytesIn d b) (lineCount r) w → Pictured d h r tile b x y
-    → Shown (formOf h) (basesIn d b) (bytesIn d b) tile a (shownLines w (lineCount r)) y z → Pictured d h r tile (b + 1) x z
-pictured-more d h r tile n b a w x y z ok l u e p done shown =
+  one-more : Changed (λ i. reached r i (test i) (b + 1)) sample x z
+  one-more = record { kept = shown .kept ∙ done .kept; entries = entry }
+
+pub pictured-none : (windowed : Bool) (d : List ℕ) (h : FujiHeader) (r : Rect) (tile : List ℕ) (b : ℕ) (image : List ℕ) → b ≡ firstBlock r
+    → PicturedIn windowed d h r tile b image image
+unfolding isDecoded isReached
+pictured-none false d h r tile b image e = record { kept = refl; entries = λ i. rw (not-reached r i _ b (omega arith)) }
+pictured-none true d h r tile b image e = record { kept = refl; entries = λ i. rw (not-reached r i _ b (omega arith)) }
+
+pub pictured-kept : (windowed : Bool) (d : List ℕ) (h : FujiHeader) (r : Rect) (tile : List ℕ) (b : ℕ) (x y : List ℕ) → PicturedIn windowed d h r tile b x y
+    → length y ≡ length x
+pictured-kept false d h r tile b x y p = p .kept
+pictured-kept true d h r tile b x y p = p .kept
+
+-- the lines whose rows a walk has changed, in windows
+reached-lines : (d : List ℕ) (h : FujiHeader) (r : Rect) (n i b : ℕ) (w : Walked) → Accepted h r n
+    → IsWalked (formOf h) (basesIn d b) (bytesIn d b) (lineCount r) w
+    → ltb i (r .width * r .height) && ltb (lineOf r i) (reachedLines w (lineCount r)) ≡ ltb i (r .width * r .height) && leb (lineOf r i) (readIn d h r b)
+reached-lines d h r n i b (Walk.Read all tight) ok p =
+    let e : readIn d h r b ≡ lineCount r = sym (walked-lines (formOf h) (basesIn d b) (bytesIn d b) (lineCount r) (Walk.Read all tight) p) in
+    rw e (all-lines h r n i ok)
+reached-lines d h r n i b (Walk.Truncated line before) ok p =
+    let e : readIn d h r b ≡ line = sym (walked-lines (formOf h) (basesIn d b) (bytesIn d b) (lineCount r) (Walk.Truncated line before) p) in
+    rw e (ap (λ (t : Bool). ltb i (r .width * r .height) && t) (below-next (lineOf r i) line))
+
+pub pictured-more : (windowed : Bool) (d : List ℕ) (h : FujiHeader) (r : Rect) (tile : List ℕ) (n b : ℕ) (a : Part) (w : Walked) (x y z : List ℕ)
+    → Accepted h r n → a ≡ partIn r b → IsWalked (formOf h) (basesIn d b) (bytesIn d b) (lineCount r) w → PicturedIn windowed d h r tile b x y
+    → ShownIn windowed (formOf h) (basesIn d b) (bytesIn d b) tile a w (lineCount r) y z → PicturedIn windowed d h r tile (b + 1) x z
+unfolding isDecoded isReached reachedSample
+pictured-more false d h r tile n b a w x y z ok e p done shown =
     let m = walked-lines (formOf h) (basesIn d b) (bytesIn d b) (lineCount r) w p in
-    one-more d h r tile b n x y z ok done (rw (e, m) at shown)
+    one-more h r n b (readIn d h r b) (λ i. ltb (lineOf r i) (readIn d h r (blockOf r i))) (decodedSample d h r tile) (sample d h r tile b) x y z ok done
+    (rw (e, m) at shown) (λ i f. rw f) (same-sample d h r tile b)
+pictured-more true d h r tile n b a w x y z ok e p done shown =
+    let m = walked-lines (formOf h) (basesIn d b) (bytesIn d b) (lineCount r) w p in
+    one-more h r n b (reachedLines w (lineCount r)) (λ i. leb (lineOf r i) (readIn d h r (blockOf r i)))
+    (λ i. cond (ltb (lineOf r i) (readIn d h r (blockOf r i))) (decodedSample d h r tile i) 0)
+    (λ i. cond (ltb (pictureRow (partIn r b) i / 6) (readIn d h r b)) (sample d h r tile b i) 0) x y z ok done
+    (rw (e, m) at shown) (λ i f. rw f (reached-lines d h r n i b w ok p)) (same-or-zero d h r tile b)

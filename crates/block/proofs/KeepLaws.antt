@@ -1,20 +1,21 @@
--- What passes keep, lines and blocks keep. There are no more long codes than bits. Assumes nothing.
+-- What passes keep, lines and blocks keep. There are no more long codes than bits, and the colour lines stay 18. Assumes nothing.
 use mathlib.Core.Bool.{Bool, true, false, cond}
 use mathlib.Core.List.{List}
 use mathlib.Core.Option.{Option, none, some}
-use mathlib.Core.Path.{_≡_, refl, ap}
+use mathlib.Core.Path.{_≡_, refl, _∙_}
 use Prim.Native.Nat.{ℕ, _+_, _*_, _≤_}
 use native.Mathlib.Omega.{arith}
 use lib.Dec.{leb}
-use lib.ListN.{length}
-use Rattle.bits.specs.declared.BitPosition.{BitPosition}
+use lib.ListN.{length, length-replicate}
+use Rattle.lines.specs.ColourLines.{guarded}
+use Rattle.lines.proofs.LineLaws.{length-guarded, length-turned}
 use Rattle.map.specs.Places.{widthOf}
 use Rattle.steps.specs.Steps.{planOf}
 use Rattle.steps.specs.declared.Plan.{Plan}
 use Rattle.pass.specs.Readings.{Reading, readPass}
 use Rattle.pass.proofs.RangeLaws.{pass-keeps}
 use Rattle.block.specs.Blocks.{State, runs, enter, leave, passAt, endLine, readLine, beforeLine, readLineAt, startState, readLines}
-use Rattle.block.specs.Records.{baseOf}
+use Rattle.block.specs.Records.{baseOf, putSet}
 use Rattle.block.specs.declared.Form.{Form}
 use Rattle.block.proofs.RunLaws.{then-keeps, runs-keep}
 
@@ -41,28 +42,29 @@ module _ (F : Form) (s : List ℕ) (Q : State → Type 0) (pass : (q i : ℕ) (r
   lines-keep bases turn start n z e =
       runs-keep (readLineAt F bases s) (startState F bases) Q start (λ m r y h f. line-keeps (baseOf bases m) (beforeLine F bases m r) y (turn m r h) f) n z e
 
--- ---- long codes
-
-abbrev Few : State → Type 0
-Few r = r .long ≤ r .at .0
+-- what a pass leaves, by what was read
+left-by : (Q : State → Type 0) (P : Plan) (r z : State) (o : Option Reading) → ((y : Reading) → o ≡ some y
+    → Q (record { lines = y .lines; records = putSet (P .set) (y .set) (r .records); at = y .at; tight = y .tight; long = y .long }))
+    → leave P r o ≡ some z → Q z
+left-by Q P r z none k e = let no : _≡_ {A = ℕ} 0 1 = cc in absurd (omega arith)
+left-by Q P r z (some y) k e =
+    let f : record { lines = y .lines; records = putSet (P .set) (y .set) (r .records); at = y .at; tight = y .tight; long = y .long } ≡ z = cc in
+    rw f at (k y refl)
 
 module _ (F : Form) (depth : F .bits ≤ 16) (s : List ℕ) where
+  abbrev W : ℕ
+  W = widthOf (F .xtrans)
+
+  -- ---- long codes
+
+  abbrev Few : State → Type 0
+  Few r = r .long ≤ r .at .0
+
   pass-few : (q i : ℕ) (r z : State) → Few r → passAt F q s i r ≡ some z → Few z
   unfolding passAt
-  pass-few q i r z h e = go (readPass (F .bits) q W s P (enter F P r)) (λ y k. pass-keeps (F .bits) q W s depth P (enter F P r) y k .counted h) e
-    where
-      W : ℕ
-      W = widthOf (F .xtrans)
-
-      P : Plan
-      P = planOf (F .xtrans) i
-
-      go : (o : Option Reading) → ((y : Reading) → o ≡ some y → y .long ≤ y .at .0) → leave P r o ≡ some z → Few z
-      go none k f = let no : _≡_ {A = ℕ} 0 1 = cc in absurd (omega arith)
-      go (some y) k f =
-          let at : y .at ≡ z .at = cc in
-          let long : y .long ≡ z .long = cc in
-          omega (arith, k y refl, ap (λ (p : BitPosition). p .0) at, long)
+  pass-few q i r z h e =
+      let P : Plan = planOf (F .xtrans) i in
+      left-by Few P r z (readPass (F .bits) q W s P (enter F P r)) (λ y k. pass-keeps (F .bits) q W s depth P (enter F P r) y k .counted h) e
 
   pub passes-few : (q n : ℕ) (r z : State) → Few r → runs (passAt F q s) n r ≡ some z → Few z
   passes-few q n r z h e = passes-keep F s Few pass-few q n r z h e
@@ -70,3 +72,22 @@ module _ (F : Form) (depth : F .bits ≤ 16) (s : List ℕ) where
   pub lines-few : (bases : List ℕ) (n : ℕ) (z : State) → readLines F bases s n ≡ some z → Few z
   unfolding startState
   lines-few bases n z e = lines-keep F s Few pass-few bases (λ m r h. h) (omega arith) n z e
+
+  -- ---- the 18 lines
+
+  abbrev Long : State → Type 0
+  Long r = length (r .lines) ≡ 18 * (W + 2)
+
+  pass-long : (q i : ℕ) (r z : State) → Long r → passAt F q s i r ≡ some z → Long z
+  unfolding passAt
+  pass-long q i r z h e =
+      let P : Plan = planOf (F .xtrans) i in
+      left-by Long P r z (readPass (F .bits) q W s P (enter F P r))
+      (λ y k. pass-keeps (F .bits) q W s depth P (enter F P r) y k .lines ∙ length-guarded W (P .second) (guarded W (P .first) (r .lines))
+      ∙ length-guarded W (P .first) (r .lines) ∙ h)
+      e
+
+  pub lines-long : (bases : List ℕ) (n : ℕ) (z : State) → readLines F bases s n ≡ some z → Long z
+  unfolding startState
+  lines-long bases n z e =
+      lines-keep F s Long pass-long bases (λ m r h. length-turned W (r .lines) (omega (arith, h)) ∙ h) (length-replicate (18 * (W + 2)) 0) n z e

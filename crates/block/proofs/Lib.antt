@@ -17,3 +17,7 @@ pub mod TightLaws
 pub mod TotalLaws
 pub mod ImageLaws
 pub mod LeftLaws
+pub mod WindowRooms
+pub mod WindowTwins
+pub mod PlacedLines
+pub mod AgreementHolds

@@ -17,14 +17,11 @@ use Rattle.totals.specs.declared.TightLines.{TightLines}
 use Rattle.pass.specs.Readings.{Reading, readPass, andThen}
 use Rattle.steps.specs.Contexts.{noRecord}
 use Rattle.steps.specs.declared.Plan.{Plan}
-use Rattle.steps.specs.declared.Quantisers.{Quantisers}
 use Rattle.map.specs.Places.{widthOf, pictureRow, inRows, emittedSample, Changed}
 use Rattle.map.specs.declared.Part.{Part}
 use Rattle.block.specs.Records.{baseOf, setOf, putSet}
 use Rattle.block.specs.Between.{linesAtStart, recordsAtStart, linesBefore, recordsBefore, linesEntered}
 use Rattle.block.specs.declared.Form.{Form}
-use Rattle.block.specs.declared.Lined.{Lined}
-use Rattle.block.specs.declared.Lined.the-variants as Line
 use Rattle.block.specs.declared.Walked.{Walked}
 use Rattle.block.specs.declared.Walked.the-variants as Walk
 
@@ -168,16 +165,6 @@ stateAt lines records from = record { lines = lines; records = records; at = fro
 
 abbrev pub totalsAt : Place → Totals
 totalsAt from = record { bits = from .at .0; long = from .long }
-
--- what a line hands back. Where it is truncated the colour lines and the records are left free
-abbrev pub IsLined : Option State → List ℕ → List Record → Lined → Type 0
-IsLined none lines records r = r ≡ Line.Truncated
-IsLined (some z) lines records r =
-    (r ≡ Line.Read (record { at = z .at; tight = z .tight; long = z .long })) × (lines ≡ z .lines) × (records ≡ z .records)
-
--- a line with these quantisers, from this place on, with these lines and records before it and those after it
-abbrev pub LineRead : Form → Quantisers → List ℕ → Place → (lines : List ℕ) → List Record → (lines' : List ℕ) → List Record → Lined → Type 0
-LineRead F Q s from lines records lines' records' r = IsLined (readLine F (Q .base) s (stateAt lines records from)) lines' records' r
 
 -- what a walk over the first `count` lines of a block says: all were read, with these totals, and so many had only tight codes
 pub record ReadAll (F : Form) (bases s : List ℕ) (count : ℕ) (all : Totals) (tight : TightLines) : Type 0 where

@@ -12,3 +12,6 @@ pub mod Totals
 pub mod BlockReadings
 pub mod Words
 pub mod WrittenAnswers
+pub mod WindowedImages
+pub mod WindowedLines
+pub mod WindowedAgreement

@@ -11,6 +11,7 @@ use Rattle.totals.specs.declared.Totals.{Totals}
 use Rattle.begin.specs.Beginnings.{writingBegins}
 use Rattle.begin.specs.declared.Beginning.{Beginning}
 use Rattle.block.specs.Images.{Left}
+use Rattle.block.specs.WindowedImages.{LeftWindowed}
 use Rattle.block.specs.Lent.{Buffers, Scratch, Outputs}
 use Rattle.block.specs.BlockReadings.{LeftRead, LeftTight}
 use Rattle.block.specs.WrittenAnswers.{LeftWritten, LeftMeasured}
@@ -26,6 +27,12 @@ answerWords (Refused r) = refusalWords r
 pub record Told (d : List ℕ) (r : Rect) (tile : List ℕ) (begins : Beginning) (before after : Buffers) (words : List ℕ) : Type 0 where
   pub answer : Decoded
   pub left : Left d r tile begins before after answer
+  pub told : words ≡ answerWords answer
+
+-- the same in windows
+pub record ToldWindowed (d : List ℕ) (r : Rect) (tile : List ℕ) (begins : Beginning) (before after : Buffers) (words : List ℕ) : Type 0 where
+  pub answer : Decoded
+  pub left : LeftWindowed d r tile begins before after answer
   pub told : words ≡ answerWords answer
 
 -- bits and long codes

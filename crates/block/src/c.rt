@@ -2,13 +2,14 @@
 ghost use mathlib.Core.Path.{_≡_};
 ghost use lib.ListN.{length};
 ghost use Rattle.region.specs.declared.Rect.{Rect};
-ghost use Rattle.begin.specs.Beginnings.{regionBegins, wholeOf, imageBegins};
+ghost use Rattle.begin.specs.Beginnings.{regionBegins, windowedBegins, wholeOf, imageBegins};
 ghost use Rattle.block.specs.Lent.{Buffers, Scratch, Outputs};
-ghost use Rattle.block.specs.Words.{answerWords, Told, totalsWords, ToldRead, ToldTight, ToldWritten, ToldMeasured};
+ghost use Rattle.block.specs.Words.{answerWords, Told, ToldWindowed, totalsWords, ToldRead, ToldTight, ToldWritten, ToldMeasured};
 use crate::Counted;
 use crate::Decoded;
 use crate::decoding::decode;
 use crate::decoding::decode_region;
+use crate::decoding::decode_region_windowed;
 use crate::tight::read_block;
 use crate::tight::read_tight;
 use crate::writer::measure_block;
@@ -54,6 +55,39 @@ pub extern "C" fn fuji_decode_region(
     };
     let t = *tile;
     let a = decode_region(d, r, t, image, lines, rs);
+    let w = answer_words(a);
+    *refusal = w;
+}
+
+// `decode_region_windowed` for C.
+#[no_mangle]
+pub extern "C" fn fuji_decode_region_windowed(
+    d: &[u8],
+    x: usize,
+    y: usize,
+    width: usize,
+    height: usize,
+    tile: &[u8; 36],
+    image: &mut [u16],
+    lines: &mut [u16],
+    rs: &mut [Record],
+    refusal: &mut [usize; 4],
+)
+    ensures { λ _.
+        let r : Rect = record { x = x; y = y; width = width; height = height } in
+        let before : Buffers = record { image = now (image .entry); lines = now (lines .entry); records = now (rs .entry) } in
+        let after : Buffers = record { image = now (image .exit); lines = now (lines .exit); records = now (rs .exit) } in
+        let begins = windowedBegins (now (d .entry)) r (length (before .image)) (length (before .lines)) (length (before .records)) in
+        ⌜ ToldWindowed (now (d .entry)) r (now (tile .entry)) begins before after (now (refusal .exit)) ⌝ }
+{
+    let r = Rect {
+        x,
+        y,
+        width,
+        height,
+    };
+    let t = *tile;
+    let a = decode_region_windowed(d, r, t, image, lines, rs);
     let w = answer_words(a);
     *refusal = w;
 }

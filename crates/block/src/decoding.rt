@@ -2,15 +2,15 @@
 ghost use mathlib.Core.Path.{_≡_};
 ghost use Prim.Native.Nat.{_+_, _-_};
 ghost use lib.ListN.{length};
-ghost use Rattle.lines.specs.ColourLines.{zeroLines};
-ghost use Rattle.map.specs.Places.{widthOf};
 ghost use Rattle.block.specs.Records.{clearRecords};
-ghost use Rattle.block.specs.Images.{Pictured, orElse, walkedAnswer, answerOf, Left, LeftImage};
-ghost use Rattle.block.specs.Lent.{Buffers, ScratchOf};
+ghost use Rattle.block.specs.Images.{orElse, walkedAnswer, answerOf, Left, LeftImage};
+ghost use Rattle.block.specs.Lent.{Buffers};
+ghost use Rattle.block.specs.WindowedImages.{LeftWindowed};
+ghost use Rattle.block.specs.WindowedLines.{ScratchIn, zerosIn, PicturedIn};
 ghost use Rattle.stream.specs.Streams.{openOf};
 ghost use Rattle.stream.specs.declared.Parsed.the-variants.{Header};
 ghost use Rattle.region.specs.Regions.{firstBlock, lastBlock, Accepted};
-ghost use Rattle.begin.specs.Beginnings.{regionBegins, wholeOf, imageBegins};
+ghost use Rattle.begin.specs.Beginnings.{regionBegins, windowedBegins, wholeOf, imageBegins};
 use crate::Decoded;
 use crate::Walked;
 use crate::form_of;
@@ -45,13 +45,14 @@ fn decode_blocks(
     image: &mut [u16],
     lines: &mut [u16],
     rs: &mut [Record],
+    windowed: bool,
 ) -> Decoded
     requires { ⌜ (openOf (now d) ≡ Header h) × Accepted h r (length (now image)) ⌝ }
-    requires { ⌜ ScratchOf (h .xtrans) (now lines) (now rs) ⌝ }
+    requires { ⌜ ScratchIn windowed (h .xtrans) (now lines) (now rs) ⌝ }
     ensures { λ a.
         ⌜ (a ≡ answerOf (now (d .entry)) h r (lastBlock r + 1 - firstBlock r))
-        × Pictured (now (d .entry)) h r tile (lastBlock r + 1) (now (image .entry)) (now (image .exit)) ⌝ }
-    ensures { λ _. ⌜ (now (lines .exit) ≡ zeroLines (widthOf (h .xtrans))) × (now (rs .exit) ≡ clearRecords) ⌝ }
+        × PicturedIn windowed (now (d .entry)) h r tile (lastBlock r + 1) (now (image .entry)) (now (image .exit)) ⌝ }
+    ensures { λ _. ⌜ (now (lines .exit) ≡ zerosIn windowed (h .xtrans)) × (now (rs .exit) ≡ clearRecords) ⌝ }
 {
     let span = region::span_of(r);
     let count = span.lines;
@@ -75,6 +76,7 @@ fn decode_blocks(
             tile,
             part,
             count,
+            windowed,
         );
         answer = judged(answer, b, got);
         b = b + 1;
@@ -103,7 +105,52 @@ pub fn decode_region(
         Beginning::Nothing => Decoded::Done,
         Beginning::Reading(h) => {
             let used = begin::samples_needed(h.xtrans);
-            decode_blocks(d, h, r, tile, image, &mut lines[0..used], &mut rs[0..336])
+            decode_blocks(
+                d,
+                h,
+                r,
+                tile,
+                image,
+                &mut lines[0..used],
+                &mut rs[0..336],
+                false,
+            )
+        }
+    }
+}
+
+// `decode_region` in windows: of each colour only three lines are kept, so that half the samples of scratch are enough. A truncated line's rows
+// become 0.
+pub fn decode_region_windowed(
+    d: &[u8],
+    r: Rect,
+    tile: [u8; 36],
+    image: &mut [u16],
+    lines: &mut [u16],
+    rs: &mut [Record],
+) -> Decoded
+    ensures { λ a.
+        let before : Buffers = record { image = now (image .entry); lines = now (lines .entry); records = now (rs .entry) } in
+        let after : Buffers = record { image = now (image .exit); lines = now (lines .exit); records = now (rs .exit) } in
+        let begins = windowedBegins (now (d .entry)) r (length (before .image)) (length (before .lines)) (length (before .records)) in
+        ⌜ LeftWindowed (now (d .entry)) r tile begins before after a ⌝ }
+{
+    let begins = begin::windowed_begins(d, r, image.len(), lines.len(), rs.len());
+    match begins {
+        Beginning::Refused(x) => Decoded::Refused(x),
+        Beginning::Nothing => Decoded::Done,
+        Beginning::Reading(h) => {
+            let used = begin::window_samples(h.xtrans);
+            decode_blocks(
+                d,
+                h,
+                r,
+                tile,
+                image,
+                &mut lines[0..used],
+                &mut rs[0..336],
+                true,
+            )
         }
     }
 }
@@ -131,7 +178,16 @@ pub fn decode(
         Beginning::Reading(h) => {
             let r = begin::whole(width, height);
             let used = begin::samples_needed(h.xtrans);
-            decode_blocks(d, h, r, tile, image, &mut lines[0..used], &mut rs[0..336])
+            decode_blocks(
+                d,
+                h,
+                r,
+                tile,
+                image,
+                &mut lines[0..used],
+                &mut rs[0..336],
+                false,
+            )
         }
     }
 }

@@ -18,6 +18,7 @@ pub use c::answer_words;
 pub use decoding::decode;
 pub use decoding::decode_region;
 pub use decoding::decode_region_alone;
+pub use decoding::decode_region_windowed;
 pub use reading::walk_alone;
 pub use records::start_record;
 pub use tight::read_block;

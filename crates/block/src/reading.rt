@@ -2,13 +2,13 @@
 ghost use mathlib.Core.Path.{_≡_};
 ghost use Prim.Native.Nat.{_+_, _^_, _≤_, _<_};
 ghost use lib.ListN.{length};
-ghost use Rattle.lines.specs.ColourLines.{zeroLines};
 ghost use Rattle.map.specs.Places.{widthOf, ArePlaces, Fits};
 ghost use Rattle.steps.specs.Values.{quantisersOf, Depth};
 ghost use Rattle.totals.specs.Totals.{noTotals};
-ghost use Rattle.block.specs.Lent.{ScratchOf};
+ghost use Rattle.block.specs.Lent.{Buffers};
 ghost use Rattle.block.specs.Records.{baseOf, isRestarted, clearRecords};
-ghost use Rattle.block.specs.Blocks.{startPlace, totalsAt, AllInRange, LineRead, Shown, shownLines, IsWalked};
+ghost use Rattle.block.specs.Blocks.{startPlace, totalsAt, AllInRange, Shown, shownLines, IsWalked};
+ghost use Rattle.block.specs.WindowedLines.{samplesIn, ScratchIn, zerosIn, PassPlaced, LineReadIn, OnlyLine, ShownIn};
 use crate::Form;
 use crate::Lined;
 use crate::Walked;
@@ -94,20 +94,67 @@ fn no_lines() -> TightLines
     TightLines { lines: 0, totals }
 }
 
-// One line: six passes, each on the records of its set.
+// The two colour lines of pass i of line n, to the image, in windows. The plan is asked for again, since what is kept of it through the pass costs the pass a
+// register.
+fn emit_pass_at(
+    lines: &[u16],
+    image: &mut [u16],
+    w: usize,
+    xtrans: bool,
+    places: &[u16; 768],
+    tile: [u8; 36],
+    part: Part,
+    n: usize,
+    i: usize,
+    windowed: bool,
+)
+    requires { ⌜ (n < 2 ^ 16) × ((i < 6) × ((w ≡ widthOf xtrans) × (length (now lines) ≡ samplesIn windowed xtrans))) ⌝ }
+    requires { ⌜ ArePlaces (now places) × Fits part (now image) ⌝ }
+    ensures { λ _. ⌜ PassPlaced windowed xtrans w tile (now (lines .entry)) part n i (now (image .entry)) (now (image .exit)) ⌝ }
+{
+    let p = steps::plan_at(i, xtrans);
+    let h = pass::window_plan(p, windowed);
+    map::emit_pass(
+        lines,
+        image,
+        w,
+        xtrans,
+        places,
+        tile,
+        part,
+        n,
+        p.first,
+        h.first,
+        p.second,
+        h.second,
+        windowed,
+    );
+}
+
+// Line n: six passes, each on the records of its set. In windows each colour line goes to the image when its pass has ended.
 fn line(
     block: &[u8],
     from: Place,
     lines: &mut [u16],
     rs: &mut [Record],
+    image: &mut [u16],
     form: Form,
     qs: Quantisers,
+    places: &[u16; 768],
+    tile: [u8; 36],
+    part: Part,
+    n: usize,
+    windowed: bool,
 ) -> Lined
-    requires { ⌜ (length (now block) < 2 ^ 32) × ScratchOf (form .xtrans) (now lines) (now rs) ⌝ }
+    requires { ⌜ (length (now block) < 2 ^ 32) × ScratchIn windowed (form .xtrans) (now lines) (now rs) ⌝ }
     requires { ⌜ Depth (form .bits) × ((qs .base < 256) × (qs ≡ quantisersOf (form .bits) (qs .base))) ⌝ }
     requires { ⌜ AllInRange (now rs) × (from .long ≤ from .at .0) ⌝ }
-    ensures { λ r. ⌜ LineRead form qs (now (block .entry)) from (now (lines .entry)) (now (rs .entry)) (now (lines .exit)) (now (rs .exit)) r ⌝ }
-    ensures { λ _. ⌜ AllInRange (now (rs .exit)) ⌝ }
+    requires { ⌜ (n < 2 ^ 16) × (ArePlaces (now places) × Fits part (now image)) ⌝ }
+    ensures { λ r.
+        let before : Buffers = record { image = now (image .entry); lines = now (lines .entry); records = now (rs .entry) } in
+        let after : Buffers = record { image = now (image .exit); lines = now (lines .exit); records = now (rs .exit) } in
+        ⌜ LineReadIn windowed form qs (now (block .entry)) from tile part n before after r ⌝ }
+    ensures { λ _. ⌜ AllInRange (now (rs .exit)) × OnlyLine windowed part n (now (image .entry)) (now (image .exit)) ⌝ }
 {
     let bits = form.bits;
     let xtrans = form.xtrans;
@@ -116,10 +163,10 @@ fn line(
     let mut i: usize = 0;
     while i < 6 {
         let p = steps::plan_at(i, xtrans);
-        lines::set_guards(lines, w, p.first);
-        lines::set_guards(lines, w, p.second);
+        let h = pass::window_plan(p, windowed);
+        lines::enter(lines, w, h.first, h.second, windowed);
         let set = load_set(rs, p.set);
-        let done = pass::pass(block, place, lines, set, w, p, qs, bits);
+        let done = pass::pass(block, place, lines, set, w, h, qs, bits);
         let ok = done.ok;
         if !ok {
             return Lined::Truncated;
@@ -127,6 +174,7 @@ fn line(
         let new = done.set;
         store_set(rs, p.set, new);
         place = done.place;
+        emit_pass_at(lines, image, w, xtrans, places, tile, part, n, i, windowed);
         i = i + 1;
     }
     let at = place.at;
@@ -136,7 +184,8 @@ fn line(
     Lined::Read(place)
 }
 
-// The first `count` lines of a block, each put into the image as soon as it is read. Scratch is left as it is then.
+// The first `count` lines of a block, each put into the image as soon as it is read. In windows a truncated line's rows become 0. Scratch is left
+// as it is then.
 fn read_lines(
     block: &[u8],
     bases: &[u8],
@@ -148,12 +197,13 @@ fn read_lines(
     tile: [u8; 36],
     part: Part,
     count: usize,
+    windowed: bool,
 ) -> Walked
-    requires { ⌜ (length (now block) < 2 ^ 32) × ScratchOf (form .xtrans) (now lines) (now rs) ⌝ }
+    requires { ⌜ (length (now block) < 2 ^ 32) × ScratchIn windowed (form .xtrans) (now lines) (now rs) ⌝ }
     requires { ⌜ Depth (form .bits) × (count < 2 ^ 16) ⌝ }
     requires { ⌜ ArePlaces (now places) × Fits part (now image) ⌝ }
     ensures { λ r. ⌜ IsWalked form (now (bases .entry)) (now (block .entry)) count r ⌝ }
-    ensures { λ r. ⌜ Shown form (now (bases .entry)) (now (block .entry)) tile part (shownLines r count) (now (image .entry)) (now (image .exit)) ⌝ }
+    ensures { λ r. ⌜ ShownIn windowed form (now (bases .entry)) (now (block .entry)) tile part r count (now (image .entry)) (now (image .exit)) ⌝ }
 {
     let bits = form.bits;
     let xtrans = form.xtrans;
@@ -164,23 +214,37 @@ fn read_lines(
     let mut tight_lines = no_lines();
     let mut n: usize = 0;
     while n < count {
-        lines::turn(lines, w);
+        lines::turn_if(lines, w, !windowed);
         let base = base_of(bases, n);
         restart(rs, bits, base, is_restarted(bases, n));
-        let got = line(block, place, lines, rs, form, quantisers_of(bits, base));
+        let got = line(
+            block,
+            place,
+            lines,
+            rs,
+            image,
+            form,
+            quantisers_of(bits, base),
+            places,
+            tile,
+            part,
+            n,
+            windowed,
+        );
         let Lined::Read(after) = got else {
+            map::zero_line(image, part, n, windowed);
             return Walked::Truncated(n, totals_at(place));
         };
         place = after;
         tight_lines = totals::with_line(tight_lines, n, place.tight, totals_at(place));
-        map::emit_line(lines, image, w, xtrans, places, tile, part, n);
+        map::emit_line_if(lines, image, w, xtrans, places, tile, part, n, !windowed);
         n = n + 1;
     }
     Walked::Read(totals_at(place), tight_lines)
 }
 
-// A walk over the first `count` lines of a block: the one reading that decoding and the tight reading share. Lines that are read go to the
-// part of the image; whoever wants none gives an empty part. Scratch is cleared afterwards, whatever it held before.
+// A walk over the first `count` lines of a block: the one reading that all calls share. Lines that are read go to the part of the image; whoever
+// wants none gives an empty part. Scratch is cleared afterwards, whatever it held before.
 pub(crate) fn walk(
     block: &[u8],
     bases: &[u8],
@@ -192,13 +256,14 @@ pub(crate) fn walk(
     tile: [u8; 36],
     part: Part,
     count: usize,
+    windowed: bool,
 ) -> Walked
-    requires { ⌜ (length (now block) < 2 ^ 32) × ScratchOf (form .xtrans) (now lines) (now rs) ⌝ }
+    requires { ⌜ (length (now block) < 2 ^ 32) × ScratchIn windowed (form .xtrans) (now lines) (now rs) ⌝ }
     requires { ⌜ Depth (form .bits) × (count < 2 ^ 16) ⌝ }
     requires { ⌜ ArePlaces (now places) × Fits part (now image) ⌝ }
     ensures { λ r. ⌜ IsWalked form (now (bases .entry)) (now (block .entry)) count r ⌝ }
-    ensures { λ r. ⌜ Shown form (now (bases .entry)) (now (block .entry)) tile part (shownLines r count) (now (image .entry)) (now (image .exit)) ⌝ }
-    ensures { λ _. ⌜ (now (lines .exit) ≡ zeroLines (widthOf (form .xtrans))) × (now (rs .exit) ≡ clearRecords) ⌝ }
+    ensures { λ r. ⌜ ShownIn windowed form (now (bases .entry)) (now (block .entry)) tile part r count (now (image .entry)) (now (image .exit)) ⌝ }
+    ensures { λ _. ⌜ (now (lines .exit) ≡ zerosIn windowed (form .xtrans)) × (now (rs .exit) ≡ clearRecords) ⌝ }
 {
     let walked = read_lines(
         block,
@@ -211,6 +276,7 @@ pub(crate) fn walk(
         tile,
         part,
         count,
+        windowed,
     );
     lines::clear(lines);
     clear_records(rs);
@@ -247,5 +313,6 @@ pub fn walk_alone(
         tile,
         part,
         count,
+        false,
     )
 }

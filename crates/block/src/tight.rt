@@ -124,6 +124,7 @@ fn walk_block(d: &[u8], h: FujiHeader, b: usize, lines: &mut [u16], rs: &mut [Re
         [0u8; 36],
         no_part(),
         count,
+        false,
     )
 }
 

@@ -44,24 +44,24 @@ pub length-guarded : (W l : ℕ) (lines : List ℕ) → length (guarded W l line
 unfolding guarded
 length-guarded W l lines = simp length-set
 
-pub length-moved : (W from to : ℕ) (lines : List ℕ) → to < from → from ≤ 17 → 18 * (W + 2) ≤ length lines → length (moved W from to lines) ≡ length lines
+pub length-moved : (W from to : ℕ) (lines : List ℕ) → to < from → (from + 1) * (W + 2) ≤ length lines → length (moved W from to lines) ≡ length lines
 unfolding moved
-length-moved W from to lines h k long =
-    length-copy lines (from * (W + 2)) (to * (W + 2)) (W + 2) (W + 2) (apart W from to h) (omega (arith, line-inside W from k)) (omega arith)
+length-moved W from to lines h long =
+    length-copy lines (from * (W + 2)) (to * (W + 2)) (W + 2) (W + 2) (apart W from to h) (omega arith) (omega arith)
 
 -- a turn does too
 pub length-turned : (W : ℕ) (lines : List ℕ) → 18 * (W + 2) ≤ length lines → length (turned W lines) ≡ length lines
 unfolding turned
 length-turned W l₀ h =
     let l₁ : List ℕ = moved W 3 0 l₀ in
-    let e₁ : length l₁ ≡ length l₀ = length-moved W 3 0 l₀ (omega arith) (omega arith) h in
+    let e₁ : length l₁ ≡ length l₀ = length-moved W 3 0 l₀ (omega arith) (omega arith) in
     let l₂ : List ℕ = moved W 4 1 l₁ in
-    let e₂ : length l₂ ≡ length l₁ = length-moved W 4 1 l₁ (omega arith) (omega arith) (omega arith) in
+    let e₂ : length l₂ ≡ length l₁ = length-moved W 4 1 l₁ (omega arith) (omega arith) in
     let l₃ : List ℕ = moved W 11 5 l₂ in
-    let e₃ : length l₃ ≡ length l₂ = length-moved W 11 5 l₂ (omega arith) (omega arith) (omega arith) in
+    let e₃ : length l₃ ≡ length l₂ = length-moved W 11 5 l₂ (omega arith) (omega arith) in
     let l₄ : List ℕ = moved W 12 6 l₃ in
-    let e₄ : length l₄ ≡ length l₃ = length-moved W 12 6 l₃ (omega arith) (omega arith) (omega arith) in
+    let e₄ : length l₄ ≡ length l₃ = length-moved W 12 6 l₃ (omega arith) (omega arith) in
     let l₅ : List ℕ = moved W 16 13 l₄ in
-    let e₅ : length l₅ ≡ length l₄ = length-moved W 16 13 l₄ (omega arith) (omega arith) (omega arith) in
-    let e₆ : length (moved W 17 14 l₅) ≡ length l₅ = length-moved W 17 14 l₅ (omega arith) (omega arith) (omega arith) in
+    let e₅ : length l₅ ≡ length l₄ = length-moved W 16 13 l₄ (omega arith) (omega arith) in
+    let e₆ : length (moved W 17 14 l₅) ≡ length l₅ = length-moved W 17 14 l₅ (omega arith) (omega arith) in
     e₆ ∙ e₅ ∙ e₄ ∙ e₃ ∙ e₂ ∙ e₁

@@ -10,7 +10,7 @@ use lib.Arith.{digits-div, digits-mod}
 use lib.Dec.{leb, ltb}
 use lib.ListN.{length, getD}
 use Rattle.numbers.proofs.OrderLaws.{split}
-use Rattle.map.specs.Places.{sampleIndex, inRows, emittedSample, RowEmitted, Fits}
+use Rattle.map.specs.Places.{sampleIndex, inRows, emittedSample, Changed, RowEmitted, Fits}
 use Rattle.map.specs.Rows.{RowsPut}
 use Rattle.map.specs.declared.Part.{Part}
 use Rattle.map.proofs.RowLaws.{inside, outside}
@@ -74,7 +74,8 @@ pub not-in : (a : Part) (low high i : ℕ) → (InRows a low high i → ⊥) →
 not-in a low high i n = by-test (inRows a low high i) (λ e. absurd (n (in-rows a low high i e))) (λ e. e)
 
 -- the same entry among other rows
-moved : (a : Part) (low high low' high' i : ℕ) → InRows a low high i → low' ≤ a .top + i / a .stride → a .top + i / a .stride < high' → InRows a low' high' i
+pub moved : (a : Part) (low high low' high' i : ℕ) → InRows a low high i → low' ≤ a .top + i / a .stride → a .top + i / a .stride < high'
+    → InRows a low' high' i
 moved a low high low' high' i h l k = record { first = l; last = k; there = h .there; left = h .left; right = h .right }
 
 -- ---- rows that are put into the image
@@ -137,16 +138,38 @@ module _ (a : Part) (row i : ℕ) where
   abbrev base : ℕ
   base = (row - a .top) * a .stride
 
-  row-entry : InRows a row (row + 1) i → base + i % a .stride ≡ i
+  pub row-entry : InRows a row (row + 1) i → base + i % a .stride ≡ i
   row-entry h =
       let e : i / a .stride ≡ row - a .top = omega (arith, h .first, h .last) in
       rw e at (div-add-mod' i (a .stride))
 
-  entry-row : a .start + (a .right - a .left) ≤ a .stride → a .top ≤ row → row < a .bottom → base + a .start ≤ i → i < base + a .start + (a .right - a .left)
+  pub entry-row : a .start + (a .right - a .left) ≤ a .stride → a .top ≤ row → row < a .bottom → base + a .start ≤ i
+      → i < base + a .start + (a .right - a .left)
       → InRows a row (row + 1) i
   entry-row f h k l u =
       let d = digits (row - a .top) (a .stride) (i - base) i (omega arith) (omega arith) in
       record { first = omega arith; last = omega arith; there = omega arith; left = omega arith; right = omega arith }
+
+-- a row of the part, by its entries one after the other
+module _ (a : Part) (row : ℕ) (image : List ℕ) (f : Fits a image) (h : a .top ≤ row) (k : row < a .bottom) where
+  abbrev pub rowStart : ℕ
+  rowStart = (row - a .top) * a .stride + a .start
+
+  pub put-span : (s t : ℕ → ℕ) (x y : List ℕ) → ((i : ℕ) → InRows a row (row + 1) i → s i ≡ t i)
+      → Changed (λ i. leb rowStart i && ltb i (rowStart + (a .right - a .left))) s x y → RowsPut t a row (row + 1) x y
+  put-span s t x y same p =
+      record {
+        kept = p .kept;
+        entries = λ i. p .entries i ∙ by-test (inRows a row (row + 1) i) (λ e. rw e (yes i (in-rows a row (row + 1) i e))) (λ e. rw e (no i (λ g. never _ (are-in a row (row + 1) i g) e)));
+      }
+    where
+      yes : (i : ℕ) → InRows a row (row + 1) i → cond (leb rowStart i && ltb i (rowStart + (a .right - a .left))) (s i) (getD x i 0) ≡ t i
+      yes i g =
+          let e = row-entry a row i g in
+          rw (inside rowStart (a .right - a .left) i (omega (arith, g .left)) (omega (arith, g .right))) (same i g)
+
+      no : (i : ℕ) → (InRows a row (row + 1) i → ⊥) → cond (leb rowStart i && ltb i (rowStart + (a .right - a .left))) (s i) (getD x i 0) ≡ getD x i 0
+      no i g = rw (outside rowStart (a .right - a .left) i (λ l u. g (entry-row a row i (f .inside) h k l u)))
 
 module _ (xtrans : Bool) (W : ℕ) (tile lines : List ℕ) (a : Part) (n r : ℕ) (hr : r < 6) where
   abbrev row : ℕ
@@ -164,18 +187,4 @@ module _ (xtrans : Bool) (W : ℕ) (tile lines : List ℕ) (a : Part) (n r : ℕ
 
   pub put-row : (image x y : List ℕ) → Fits a image → a .top ≤ row → row < a .bottom → RowEmitted xtrans W tile lines r (a .left) (a .right) at x y
       → RowsPut (emittedSample xtrans W tile lines a) a row (row + 1) x y
-  put-row image x y f h k p =
-      record {
-        kept = p .kept;
-        entries = λ i. p .entries i ∙ by-test (inRows a row (row + 1) i) (λ e. rw e (yes i (in-rows a row (row + 1) i e))) (λ e. rw e (no i (λ g. never _ (are-in a row (row + 1) i g) e)));
-      }
-    where
-      yes : (i : ℕ) → InRows a row (row + 1) i
-          → cond (leb at i && ltb i (at + (a .right - a .left))) (getD lines (sampleIndex xtrans W tile r (a .left + (i - at))) 0) (getD x i 0) ≡ emittedSample xtrans W tile lines a i
-      yes i g =
-          let e = row-entry a row i g in
-          rw (inside at (a .right - a .left) i (omega (arith, g .left)) (omega (arith, g .right))) (sample-is i g)
-
-      no : (i : ℕ) → (InRows a row (row + 1) i → ⊥)
-          → cond (leb at i && ltb i (at + (a .right - a .left))) (getD lines (sampleIndex xtrans W tile r (a .left + (i - at))) 0) (getD x i 0) ≡ getD x i 0
-      no i g = rw (outside at (a .right - a .left) i (λ l u. g (entry-row a row i (f .inside) h k l u)))
+  put-row image x y f h k p = put-span a row image f h k _ _ x y sample-is p

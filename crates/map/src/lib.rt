@@ -8,6 +8,12 @@ use places::XTRANS_PLACES;
 
 mod places;
 
+mod windows;
+
+pub use windows::emit_line_if;
+pub use windows::emit_pass;
+pub use windows::zero_line;
+
 // The samples of a colour line.
 pub fn width(xtrans: bool) -> usize
     ensures { λ r. ⌜ r ≡ widthOf xtrans ⌝ }
@@ -33,7 +39,7 @@ pub fn xtrans_places() -> [u16; 768]
     XTRANS_PLACES
 }
 
-fn place_in(xtrans: bool, places: &[u16; 768], p: usize) -> usize
+pub(crate) fn place_in(xtrans: bool, places: &[u16; 768], p: usize) -> usize
     requires { ⌜ (p < 768) × ArePlaces (now places) ⌝ }
     ensures { λ r. ⌜ r ≡ placeIn xtrans p ⌝ }
 {
@@ -43,7 +49,7 @@ fn place_in(xtrans: bool, places: &[u16; 768], p: usize) -> usize
     p / 2
 }
 
-fn colour_line(t: u8, r: usize) -> usize
+pub(crate) fn colour_line(t: u8, r: usize) -> usize
     requires { ⌜ r < 6 ⌝ }
     ensures { λ l. ⌜ (l ≡ colourLine t r) × (l ≤ 17) ⌝ }
 {

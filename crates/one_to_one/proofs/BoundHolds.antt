@@ -31,7 +31,7 @@ use Rattle.steps.specs.Values.{Depth}
 use Rattle.steps.proofs.ScheduleLaws.{codes, lineSteps, bayer-codes, x-trans-codes}
 use Rattle.pass.specs.Readings.{Reading, interpolate, takeCode, taken, readStep, reads, readPass}
 use Rattle.writing.proofs.LosslessLaws.{code-numbers, lossless}
-use Rattle.read_back.proofs.ListBack.{first-then}
+use Rattle.pass.proofs.FrameLaws.{first-then}
 use Rattle.map.specs.Places.{widthOf}
 use Rattle.stream.proofs.HeaderLaws.{ruled}
 use Rattle.block.specs.Blocks.{State, runs, enter, leave, passAt, endLine, readLine, beforeLine, readLineAt, startState, readLines}

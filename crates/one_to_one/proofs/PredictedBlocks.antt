@@ -19,7 +19,8 @@ use Rattle.writing.specs.Sets.{indexIn}
 use Rattle.quantiser.specs.Quantisers.{largest}
 use Rattle.writing.specs.Puts.{Within}
 use Rattle.writing.specs.Writings.{writePass}
-use Rattle.read_back.proofs.OrderLaws.{pass-all, all-pass}
+use Rattle.pass.proofs.FrameLaws.{pass-all}
+use Rattle.read_back.proofs.OrderLaws.{all-pass}
 use Rattle.block.specs.WrittenBlocks.{WriteState, repeats, enterWriting, writePassAt, beforeWriting, writeLine, startWriting, writeLines, FitSet}
 use Rattle.block.specs.declared.Form.{Form}
 use Rattle.block.proofs.LineLaws.{width-in-range}

@@ -21,7 +21,8 @@ use Rattle.writing.specs.Sets.{indexIn}
 use Rattle.quantiser.specs.Quantisers.{largest}
 use Rattle.writing.specs.Puts.{Within}
 use Rattle.writing.specs.Writings.{Writing, writes}
-use Rattle.read_back.proofs.OrderLaws.{pass-all, all-pass, pass-apart}
+use Rattle.pass.proofs.FrameLaws.{pass-all}
+use Rattle.read_back.proofs.OrderLaws.{all-pass, pass-apart}
 use Rattle.one_to_one.specs.PredictedSets.{sampleAt, predictionIn}
 use Rattle.one_to_one.proofs.PlanLaws.{two-lines}
 use Rattle.one_to_one.proofs.PredictedSteps.{place, even-sees, writes-leave, writes-length, writes-stand}

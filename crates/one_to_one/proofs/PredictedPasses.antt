@@ -13,8 +13,7 @@ use Rattle.numbers.proofs.BoolLaws.{both}
 use Rattle.numbers.proofs.OrderLaws.{split}
 use Rattle.steps.specs.Steps.{plans, noPlan, planOf, interpolated, Step, evenSteps, oddSteps, turnSteps, passSteps}
 use Rattle.steps.specs.declared.Plan.{Plan}
-use Rattle.read_back.proofs.ListBack.{All}
-use Rattle.read_back.proofs.OrderLaws.{all-append, all-upto, pass-all}
+use Rattle.pass.proofs.FrameLaws.{All, all-append, all-upto, pass-all}
 use Rattle.lines.proofs.MoveLaws.{place-is}
 use Rattle.one_to_one.specs.PredictedSets.{isBefore, isInterpolated}
 use Rattle.one_to_one.proofs.PlanLaws.{firstLine, secondLine, lines-are, each-pass}

@@ -22,7 +22,8 @@ use Rattle.prediction.specs.declared.Context.{Context}
 use Rattle.prediction.specs.Predictions.{evenPrediction, evenContext}
 use Rattle.writing.specs.Puts.{Within}
 use Rattle.writing.specs.Writings.{Writing, orSecond, wantedCode, givenSample, writeStep, writes}
-use Rattle.read_back.proofs.ListBack.{All, cell, Apart}
+use Rattle.pass.proofs.FrameLaws.{All, cell}
+use Rattle.read_back.proofs.ListBack.{Apart}
 use Rattle.writing.proofs.StepPuts.{step-within}
 use Rattle.writing.proofs.WriteLaws.{wanted, write-coded, write-interpolated, writes-right}
 

@@ -2,3 +2,5 @@
 pub mod StepLaws
 pub mod SiteLaws
 pub mod RangeLaws
+pub mod FrameLaws
+pub mod WindowLaws

@@ -45,6 +45,10 @@ pub placed-at : {W line p i : ℕ} {lines : List ℕ} {x : Context} → 2 ≤ li
     → Placed W line p lines i x
 placed-at {W} {line} {p} {i} {lines} low place context = record { place = place; context = context-is W line p lines low place context }
 
+-- its right neighbour stands before the line's end
+pub line-end : (W line p : ℕ) {i : ℕ} → p < W → i ≡ line * (W + 2) + p → i + 2 < (line + 1) * (W + 2)
+line-end W line p h e = omega arith
+
 -- an interpolated sample is its prediction
 pub site-interpolated : {bits q W line p i : ℕ} {s lines : List ℕ} {x : Context} {coded : Bool} {records : List Record} {from : Place}
     → Placed W line p lines i x → coded ≡ false

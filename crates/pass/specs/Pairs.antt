@@ -33,13 +33,17 @@ begun lines t from = readingAt lines (recordsOf t) from
 abbrev pub placeOf : Reading → Place
 placeOf z = record { at = z .at; tight = z .tight; long = z .long }
 
+-- the lines of a pass are all there, however many there are
+abbrev pub PlanFits : ℕ → Plan → List ℕ → Type 0
+PlanFits W P lines = ((P .first + 1) * (W + 2) ≤ length lines) × ((P .second + 1) * (W + 2) ≤ length lines)
+
 -- ---- the two samples of a position
 
 pub record PairAsks (spot : Spot) (q : ℕ) (from : Place) (s lines sums ns ks totals raws limits : List ℕ) : Type 0 where
   pub bytes : length s < 2 ^ 32
   pub width : spot .w ≤ 512
   pub inside : spot .p < spot .w
-  pub room : 18 * (spot .w + 2) ≤ length lines
+  pub room : PlanFits (spot .w) (spot .plan) lines
   pub plan : PlanInRange (spot .plan)
   pub depth : Depth (spot .bits)
   pub base : q < 256
@@ -66,7 +70,7 @@ pub record PassAsks (bits W : ℕ) (P : Plan) (qs : Quantisers) (from : Place) (
   pub low : 8 ≤ W
   pub high : W ≤ 512
   pub even : W % 2 ≡ 0
-  pub room : 18 * (W + 2) ≤ length lines
+  pub room : PlanFits W P lines
   pub plan : PlanInRange P
   pub depth : Depth bits
   pub base : qs .base < 256

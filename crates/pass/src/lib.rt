@@ -3,6 +3,7 @@ ghost use mathlib.Core.Path.{_≡_};
 ghost use Prim.Native.Nat.{_*_, _^_, _≤_, _<_};
 ghost use Rattle.code.specs.Samples.{sampleOf};
 ghost use Rattle.steps.specs.Steps.{evenSteps, oddSteps};
+ghost use Rattle.pass.specs.Windows.{windowLine, windowPlan};
 ghost use Rattle.pass.specs.Pairs.{PairAsks, PairGives, PassAsks, PassGives, held, begun};
 use code::Place;
 use code::Taken;
@@ -22,6 +23,35 @@ pub struct Passed {
     pub ok: bool,
     pub place: Place,
     pub set: Set,
+}
+
+// Where a colour line is read, where of each colour only the last three are kept.
+fn window_line(l: usize) -> usize
+    ensures { λ r. ⌜ r ≡ windowLine l ⌝ }
+{
+    if l < 5 {
+        return 2;
+    }
+    if l < 13 {
+        return 5;
+    }
+    8
+}
+
+// The lines that a pass goes over: those of its plan, or those of the windows.
+pub fn window_plan(p: Plan, windowed: bool) -> Plan
+    ensures { λ r. ⌜ r ≡ windowPlan windowed p ⌝ }
+{
+    if windowed {
+        return Plan {
+            first: window_line(p.first),
+            second: window_line(p.second),
+            set: p.set,
+            first_rule: p.first_rule,
+            second_rule: p.second_rule,
+        };
+    }
+    p
 }
 
 // The sample of a code. A lossless line, with base 0, comes first: its step is 1 there.

@@ -14,6 +14,7 @@ use Rattle.code.specs.declared.Coded.the-variants.{Read, Truncated}
 use Rattle.steps.specs.Steps.{Step}
 use Rattle.steps.specs.Contexts.{stepPlace, stepContext, stepLook, stepSlot}
 use Rattle.pass.specs.Readings.{Reading, interpolate, taken, readStep, andThen, reads, stepCode}
+use Rattle.pass.proofs.FrameLaws.{All, cell, first-then, steps-leave}
 use Rattle.pass.proofs.RangeLaws.{step-keeps}
 use Rattle.writing.specs.Writings.{Writing, writeStep, writes}
 use Rattle.writing.proofs.LosslessLaws.{Lossless}
@@ -23,56 +24,10 @@ use Rattle.writing.proofs.WriteLaws.{wanted, afresh, writes-add, writes-right}
 
 -- ---- lists of steps
 
-abbrev pub All : (Step → Type 0) → List Step → Type 0
-All Q [] = Unit {0}
-All Q (x ∷ l) = Q x × All Q l
-
--- where the sample of a step goes
-abbrev pub cell : ℕ → Step → ℕ
-cell W x = stepPlace W x + 1
-
 -- no two samples go to one place
 abbrev pub Apart : ℕ → List Step → Type 0
 Apart W [] = Unit {0}
 Apart W (x ∷ l) = All (λ y. cell W x ≢ cell W y) l × Apart W l
-
--- ---- what a reading leaves as it is
-
-none-some : {X : Type 0} (z : Reading) → none ≡ some z → X
-none-some z e = let no : _≡_ {A = ℕ} 0 1 = cc in absurd (omega arith)
-
--- a list of steps that was read: its first step was, and then the others
-pub first-then : (bits q W : ℕ) (s : List ℕ) (x : Step) (l : List Step) (r z : Reading) → reads bits q W s (x ∷ l) r ≡ some z
-    → (y : Reading) × (readStep bits q W s x r ≡ some y) × (reads bits q W s l y ≡ some z)
-unfolding reads andThen
-first-then bits q W s x l r z e = go (readStep bits q W s x r) refl e
-  where
-    go : (o : Option Reading) → readStep bits q W s x r ≡ o → andThen o (λ y. reads bits q W s l y) ≡ some z
-        → (y : Reading) × (readStep bits q W s x r ≡ some y) × (reads bits q W s l y ≡ some z)
-    go none f g = none-some z g
-    go (some y) f g = (y, f, g)
-
-module _ (bits q W : ℕ) (s : List ℕ) (j : ℕ) where
-  same-lines : {a : ℕ} (y z : Reading) → some y ≡ some z → getD (y .lines) j 0 ≡ a → getD (z .lines) j 0 ≡ a
-  same-lines y z e h = let is : y ≡ z = cc in rw is at h
-
-  step-leaves : (x : Step) (r z : Reading) → j ≢ cell W x → readStep bits q W s x r ≡ some z → getD (z .lines) j 0 ≡ getD (r .lines) j 0
-  unfolding readStep
-  step-leaves x r z ne e = go (x .coded) (stepCode bits q W s x r) e
-    where
-      go : (b : Bool) (g : Coded)
-          → cond b (taken bits q (stepPlace W x) (stepSlot q W x (r .lines)) (stepContext W x (r .lines)) (stepLook q W x (r .lines)) r g) (some (interpolate (stepPlace W x) (stepContext W x (r .lines)) r)) ≡ some z
-          → getD (z .lines) j 0 ≡ getD (r .lines) j 0
-      go true Truncated f = none-some z f
-      go true (Read d) f = same-lines _ z f (getD-set-other (r .lines) (cell W x) j _ 0 ne)
-      go false g f = same-lines _ z f (getD-set-other (r .lines) (cell W x) j _ 0 ne)
-
-  pub steps-leave : (l : List Step) (r z : Reading) → All (λ y. j ≢ cell W y) l → reads bits q W s l r ≡ some z → getD (z .lines) j 0 ≡ getD (r .lines) j 0
-  unfolding reads
-  steps-leave [] r z a e = let is : r ≡ z = cc in rw is
-  steps-leave (x ∷ l) r z a e =
-      let f = first-then bits q W s x l r z e in
-      steps-leave l (f .0) z (a .1) (f .2) ∙ step-leaves x r (f .0) (a .0) (f .1)
 
 -- ---- both ways
 

@@ -12,15 +12,12 @@ use borrow.Author.Tests.{lt-ltb, le-ltb, le-leb, lt-leb, eq-eqb, ne-eqb}
 use Rattle.numbers.proofs.OrderLaws.{split}
 use Rattle.steps.specs.Steps.{Step, evenSteps, oddSteps, turnSteps, upto, passSteps}
 use Rattle.steps.specs.declared.Plan.{Plan}
-use Rattle.read_back.proofs.ListBack.{All, cell, Apart}
+use Rattle.pass.proofs.FrameLaws.{All, cell, all-append, all-upto, turnOf, turn-all}
+use Rattle.read_back.proofs.ListBack.{Apart}
 
 -- ---- lists of steps
 
 module _ (Q : Step → Type 0) where
-  pub all-append : (k l : List Step) → All Q k → All Q l → All Q (k ++ l)
-  all-append [] l a b = b
-  all-append (x ∷ k) l a b = (a .0, all-append k l (a .1) b)
-
   all-left : (k l : List Step) → All Q (k ++ l) → All Q k
   all-left [] l a = tt
   all-left (x ∷ k) l a = (a .0, all-left k l (a .1))
@@ -28,11 +25,6 @@ module _ (Q : Step → Type 0) where
   all-right : (k l : List Step) → All Q (k ++ l) → All Q l
   all-right [] l a = a
   all-right (x ∷ k) l a = all-right k l (a .1)
-
-  pub all-upto : (f : ℕ → List Step) (n : ℕ) → ((i : ℕ) → i < n → All Q (f i)) → All Q (upto f n)
-  unfolding upto
-  all-upto f zero a = tt
-  all-upto f (suc n) a = all-append (upto f n) (f n) (all-upto f n (λ i h. a i (omega arith))) (a n (omega arith))
 
   all-at : (f : ℕ → List Step) (n i : ℕ) → i < n → All Q (upto f n) → All Q (f i)
   unfolding upto
@@ -60,35 +52,7 @@ module _ (W : ℕ) where
 
 -- ---- the turns of a pass
 
--- the turn at which position p is done
-abbrev turnOf : ℕ → ℕ
-turnOf p = cond (eqb (p % 2) 0) (p / 2) ((p + 7) / 2)
-
-turn-even : (t : ℕ) → turnOf (2 * t) ≡ t
-turn-even t = rw (eq-eqb (2 * t % 2) 0 (omega arith)) (omega arith)
-
-turn-odd : (t : ℕ) → 8 ≤ 2 * t → turnOf (2 * t - 7) ≡ t
-turn-odd t h = rw (ne-eqb ((2 * t - 7) % 2) 0 (omega arith)) (omega arith)
-
 module _ (W : ℕ) (P : Plan) (even : W % 2 ≡ 0) where
-  -- what holds of both lines at the positions of a turn holds of its steps
-  turn-all : (R : ℕ → ℕ → Type 0) (t : ℕ) → t < W / 2 + 4 → ((p : ℕ) → p < W → turnOf p ≡ t → R (P .first) p × R (P .second) p)
-      → All (λ x. R (x .line) (x .position)) (turnSteps W P t)
-  unfolding turnSteps
-  turn-all R t h f =
-      all-append (λ x. R (x .line) (x .position)) (cond (ltb (2 * t) W) (evenSteps P (2 * t)) []) (cond (leb 8 (2 * t)) (oddSteps P (2 * t - 7)) [])
-      (split W (2 * t)
-      (λ k. rw (le-ltb (2 * t) W k) tt)
-      (λ k. let r = f (2 * t) k (turn-even t) in rw (lt-ltb (2 * t) W k) (r .0, (r .1, tt))))
-      (split 8 (2 * t)
-      (λ k. let r = f (2 * t - 7) (omega arith) (turn-odd t k) in rw (le-leb 8 (2 * t) k) (r .0, (r .1, tt)))
-      (λ k. rw (lt-leb 8 (2 * t) k) tt))
-
-  -- each position of both lines is done
-  pub pass-all : (R : ℕ → ℕ → Type 0) → ((p : ℕ) → p < W → R (P .first) p × R (P .second) p) → All (λ x. R (x .line) (x .position)) (passSteps W P)
-  unfolding passSteps
-  pass-all R f = all-upto (λ x. R (x .line) (x .position)) (turnSteps W P) (W / 2 + 4) (λ t h. turn-all R t h (λ p k e. f p k))
-
   even-at : (R : ℕ → ℕ → Type 0) (t : ℕ) → 2 * t < W → All (λ x. R (x .line) (x .position)) (turnSteps W P t) → R (P .first) (2 * t) × R (P .second) (2 * t)
   unfolding turnSteps
   even-at R t h a =
@@ -148,7 +112,7 @@ module _ (W : ℕ) (P : Plan) (even : W % 2 ≡ 0) where
     -- turns go to different positions
     turns-apart : (i j : ℕ) → i < j → j < W / 2 + 4 → All (λ x. All (λ y. cell W x ≢ cell W y) (turnSteps W P j)) (turnSteps W P i)
     turns-apart i j lt h =
-        turn-all (λ l p. All (λ y. l * (W + 2) + p + 1 ≢ cell W y) (turnSteps W P j)) i (omega arith)
+        turn-all W P even (λ l p. All (λ y. l * (W + 2) + p + 1 ≢ cell W y) (turnSteps W P j)) i (omega arith)
         (λ p hp ep. (other (P .first) p hp ep, other (P .second) p hp ep))
       where
         differ : (l p m q : ℕ) → p < W → turnOf p ≡ i → q < W → turnOf q ≡ j → l * (W + 2) + p + 1 ≢ m * (W + 2) + q + 1
@@ -159,7 +123,7 @@ module _ (W : ℕ) (P : Plan) (even : W % 2 ≡ 0) where
 
         other : (l p : ℕ) → p < W → turnOf p ≡ i → All (λ y. l * (W + 2) + p + 1 ≢ cell W y) (turnSteps W P j)
         other l p hp ep =
-            turn-all (λ m q. l * (W + 2) + p + 1 ≢ m * (W + 2) + q + 1) j h
+            turn-all W P even (λ m q. l * (W + 2) + p + 1 ≢ m * (W + 2) + q + 1) j h
             (λ q hq eq. (differ l p (P .first) q hp ep hq eq, differ l p (P .second) q hp ep hq eq))
 
     turns-so-far : (n : ℕ) → n ≤ W / 2 + 4 → Apart W (upto (turnSteps W P) n)

@@ -16,8 +16,9 @@ use Rattle.writing.specs.Writings.{writePass}
 use Rattle.writing.proofs.LosslessLaws.{Lossless}
 use Rattle.read_back.proofs.Together.{Sound, writingOf, CleanReading, StoredWriting, Together, Back}
 use Rattle.read_back.proofs.StepBack.{InLines}
-use Rattle.read_back.proofs.ListBack.{All, steps-leave, steps-forward, steps-backward}
-use Rattle.read_back.proofs.OrderLaws.{place-is, pass-all, all-pass, pass-apart}
+use Rattle.pass.proofs.FrameLaws.{All, steps-leave, pass-all}
+use Rattle.read_back.proofs.ListBack.{steps-forward, steps-backward}
+use Rattle.read_back.proofs.OrderLaws.{place-is, all-pass, pass-apart}
 
 -- the samples of colour line l in line n of the set t stand in the lines
 abbrev pub Holds : ℕ → List ℕ → ℕ → List ℕ → ℕ → Type 0

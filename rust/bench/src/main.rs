@@ -2,7 +2,7 @@
 //! what is timed.
 use common::random::Random;
 use common::stream::{Header, encoded};
-use fuji_compressed::{ColorTile, FujiCompressed, Scratch, measure_block_with, write_block_with};
+use fuji_compressed::{ColorTile, FujiCompressed, Rect, Scratch, measure_block_with, write_block_with};
 use original::fuji_compressed as theirs;
 use std::hint::black_box;
 
@@ -82,6 +82,17 @@ impl Picture {
         time
     }
 
+    /// The whole picture as a region, in half the samples of scratch.
+    #[inline(never)]
+    fn time_windowed(&self, image: &mut [u16], windows: &mut Scratch) -> f64 {
+        let start = seconds();
+        let stream = FujiCompressed::new(black_box(&self.stream)).unwrap();
+        stream.decode_region_windowed_with(windows, image, Rect::new(0, 0, self.width, self.height), &TILE).unwrap();
+        let time = seconds() - start;
+        black_box(image);
+        time
+    }
+
     /// The tight reading of the only block.
     fn time_tight(&self, scratch: &mut Scratch) -> f64 {
         let start = seconds();
@@ -151,6 +162,18 @@ impl Picture {
         self.time_ours(&mut got, &mut scratch);
         assert!(want == got, "the two pictures differ");
         rounds(|| [self.time_theirs(&mut want), self.time_ours(&mut got, &mut scratch), self.time_theirs(&mut want)])
+    }
+
+    /// Rounds of reading, reading in windows, reading; all ours.
+    fn windowed_against_read(&self) -> Rounds {
+        let (mut want, mut got, mut scratch, mut windows) = (self.image(), self.image(), Scratch::new(), Scratch::windowed());
+        self.time_ours(&mut want, &mut scratch);
+        self.time_windowed(&mut got, &mut windows);
+        assert!(want == got, "the two pictures differ");
+        rounds(|| {
+            let before = self.time_ours(&mut want, &mut scratch);
+            [before, self.time_windowed(&mut got, &mut windows), self.time_ours(&mut want, &mut scratch)]
+        })
     }
 
     /// Rounds of the ordinary reading, the tight reading, the ordinary reading; all ours.
@@ -235,16 +258,17 @@ fn say(name: &str, ratio: Option<f64>) {
     }
 }
 
-/// Decodes one block once, so that a tool can count its instructions (tools/count.py): KIND NOISE LINES ours|rust.
+/// Decodes one block once, so that a tool can count its instructions (tools/count.py): KIND NOISE LINES ours|windowed|rust.
 fn count(words: &[String]) {
-    let [kind, noise, lines, side] = words else { panic!("count KIND NOISE LINES ours|rust") };
+    let [kind, noise, lines, side] = words else { panic!("count KIND NOISE LINES ours|windowed|rust") };
     let (_, xtrans, lossy) = KINDS.into_iter().find(|(name, ..)| name == kind).expect("a kind");
     let picture = Picture::new(1, lines.parse().expect("lines"), xtrans, lossy, noise.parse().expect("a noise"));
     let mut image = picture.image();
     match side.as_str() {
         "ours" => picture.time_ours(&mut image, &mut Scratch::new()),
+        "windowed" => picture.time_windowed(&mut image, &mut Scratch::windowed()),
         "rust" => picture.time_theirs(&mut image),
-        _ => panic!("ours or rust"),
+        _ => panic!("ours, windowed or rust"),
     };
 }
 
@@ -256,7 +280,13 @@ fn measure_kind((name, xtrans, lossy): (&str, bool, bool), blocks: u16, lines: u
     let whole = Picture::new(blocks, lines, xtrans, lossy, noise);
     let title = format!("{name}, noise {noise}, {blocks} blocks of {lines} lines");
     say(&script_name(name, "", noise), measure(&title, ["rust", "ours"], &whole, whole.against_theirs()));
-    if lossy || noise != USUAL_NOISE {
+    if noise != USUAL_NOISE {
+        return;
+    }
+    let windowed = format!("windowed-{name}");
+    let title = format!("{windowed}, one block of 480 lines");
+    say(&windowed, measure(&title, ["decode", "decode_region_windowed"], &one, one.windowed_against_read()));
+    if lossy {
         return;
     }
     let colours = if xtrans { "xtrans" } else { "bayer" };

@@ -1,9 +1,9 @@
 //! A round of calls on generated inputs, each asked of both sides.
 use crate::making;
-use crate::sides::{Answer, Wanted, ask, decode_ours, decode_theirs, open_ours, open_theirs, ours, same, truncated_place};
+use crate::sides::{Answer, Wanted, ask, decode_ours, decode_theirs, open_ours, open_theirs, ours, same, truncated_place, with_zeros};
 use common::random::Random;
 use common::stream::Header;
-use fuji_compressed::{FujiHeader, Record, Scratch};
+use fuji_compressed::{ColorTile, FujiCompressed, FujiHeader, Record, Rect, Refusal, Scratch};
 use original::fuji_compressed as theirs;
 use std::collections::BTreeMap;
 use std::fmt::Debug;
@@ -46,6 +46,7 @@ fn code<T>(answer: &Answer<T>) -> u32 {
 pub struct Round {
     random: Random,
     scratch: Scratch,
+    windows: Scratch,
     pub tally: Tally,
 }
 
@@ -72,7 +73,7 @@ fn is_wider(bytes: &[u8]) -> bool {
 
 impl Round {
     pub fn new(seed: u64) -> Round {
-        Round { random: Random::new(seed), scratch: Scratch::new(), tally: Tally::default() }
+        Round { random: Random::new(seed), scratch: Scratch::new(), windows: Scratch::windowed(), tally: Tally::default() }
     }
 
     /// Calls until there are so many, or one differs.
@@ -163,6 +164,7 @@ impl Round {
     fn decode(&mut self, kind: &'static str, bytes: &[u8], wanted: Wanted) -> Checked {
         let tile = making::tile(&mut self.random);
         let mut theirs = self.image(wanted);
+        let before = theirs.clone();
         let mut mine = theirs.clone();
         let want = decode_theirs(bytes, wanted, &tile, &mut theirs);
         self.soil();
@@ -170,6 +172,9 @@ impl Round {
         self.tally.count(kind, got.map_or_else(|r| r.number, |()| 0));
         is(want == ours(got), || format!("{wanted:?} of {} bytes: {want:?} and {got:?}", bytes.len()))?;
         is(theirs == mine, || format!("{wanted:?} of {} bytes, {got:?}: the images differ", bytes.len()))?;
+        if let Wanted::Region(region) = wanted {
+            self.windowed(bytes, region, &tile, before, theirs, got)?;
+        }
         match got {
             Err(refusal) if refusal.number == 14 => {
                 let place = truncated_place(bytes, wanted.region());
@@ -179,11 +184,31 @@ impl Round {
         }
     }
 
+    /// The same region in windows: the same answer, and the original's image but for the rows of truncated lines.
+    fn windowed(
+        &mut self,
+        bytes: &[u8],
+        region: Rect,
+        tile: &ColorTile,
+        before: Vec<u16>,
+        theirs: Vec<u16>,
+        want: Result<(), Refusal>,
+    ) -> Checked {
+        let mut mine = before;
+        let got = FujiCompressed::new(bytes).and_then(|s| s.decode_region_windowed_with(&mut self.windows, &mut mine, region, tile));
+        self.tally.count("decode_region_windowed", got.map_or_else(|r| r.number, |()| 0));
+        is(got == want, || format!("windows, {region:?} of {} bytes: {want:?} and {got:?}", bytes.len()))?;
+        let cut = got.is_err_and(|r| r.number == 14);
+        let image = if cut { with_zeros(bytes, region, theirs) } else { theirs };
+        is(image == mine, || format!("windows, {region:?} of {} bytes, {got:?}: the images differ", bytes.len()))
+    }
+
     /// Scratch holds anything before a call.
     fn soil(&mut self) {
         let v = self.random.number();
         let at = self.random.below(Scratch::SAMPLES as u64) as usize;
         self.scratch.samples[at] = v as u16;
+        self.windows.samples[at % Scratch::WINDOW_SAMPLES] = v as u16;
         let at = self.random.below(Scratch::RECORDS as u64) as usize;
         self.scratch.records[at] = Record { sum: v as u32, n: (v >> 32) as u32 };
     }

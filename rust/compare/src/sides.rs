@@ -139,3 +139,18 @@ pub fn truncated_place(bytes: &[u8], region: Rect) -> Option<(usize, usize)> {
     let line = (0..lines).find(|n| is_truncated(bytes, block, n + 1))?;
     Some((block, line))
 }
+
+/// What is to be in the image where a region is decoded in windows: the original's image, with 0 in the six rows of each block's first truncated line.
+pub fn with_zeros(bytes: &[u8], region: Rect, mut image: Vec<u16>) -> Vec<u16> {
+    let columns = region.x..region.x + region.width;
+    for block in region.x / 768..=(columns.end - 1) / 768 {
+        let (left, right) = (columns.start.max(768 * block), columns.end.min(768 * block + 768));
+        let Some((_, line)) = truncated_place(bytes, Rect::new(left, region.y, right - left, region.height)) else { continue };
+        let rows = (6 * line as u32).max(region.y)..(6 * line as u32 + 6).min(region.y + region.height);
+        for row in rows {
+            let at = (row - region.y) as usize * region.width as usize;
+            image[at + (left - region.x) as usize..at + (right - region.x) as usize].fill(0);
+        }
+    }
+    image
+}

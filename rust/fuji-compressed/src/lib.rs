@@ -11,6 +11,7 @@
 mod fault;
 mod ffi;
 mod refusal;
+mod windowed;
 
 pub use fault::{Fault, Reason};
 pub use refusal::Refusal;
@@ -250,9 +251,13 @@ impl<'a> FujiCompressed<'a> {
 
     /// `decode_region` with lent scratch. Refusal 10 too.
     pub fn decode_region_with(&self, scratch: &mut Scratch, image: &mut [u16], region: Rect, tile: &ColorTile) -> Result<()> {
+        self.region_by(ffi::fuji_decode_region, scratch, image, region, tile)
+    }
+
+    fn region_by(&self, of: RegionOf, scratch: &mut Scratch, image: &mut [u16], region: Rect, tile: &ColorTile) -> Result<()> {
         let mut refusal = [0; 4];
         unsafe {
-            ffi::fuji_decode_region(
+            of(
                 self.stream.as_ptr(),
                 self.stream.len(),
                 region.x as usize,
@@ -415,6 +420,23 @@ pub fn plan_bases(header: &[u8], plan: &[u8], bases: &mut [u8]) -> Result<()> {
     };
     Refusal::answer(refusal)
 }
+
+type RegionOf = unsafe extern "C" fn(
+    *const u8,
+    usize,
+    usize,
+    usize,
+    usize,
+    usize,
+    *const [u8; 36],
+    *mut u16,
+    usize,
+    *mut u16,
+    usize,
+    *mut Record,
+    usize,
+    *mut [usize; 4],
+);
 
 type CountedOf = unsafe extern "C" fn(*const u8, usize, usize, *mut u16, usize, *mut Record, usize, *mut [usize; 2], *mut [usize; 4]);
 

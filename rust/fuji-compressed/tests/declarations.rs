@@ -1,4 +1,5 @@
 //! The functions for C stand in three texts: the proved sources, include/fuji_compressed.h and src/ffi.rs. All three must say the same.
+use fuji_compressed::Scratch;
 use std::path::{Path, PathBuf};
 use std::process::Command;
 use std::{env, fs};
@@ -102,7 +103,17 @@ fn wrapper_says_what_is_proved() {
     assert_eq!(sorted(declared), proved());
 }
 
-/// A program in C is compiled with the header, linked with the library, and run on the header of marked case k.
+#[test]
+fn header_has_the_sizes_of_scratch() {
+    let header = text("include/fuji_compressed.h");
+    for (name, size) in
+        [("SCRATCH_SAMPLES", Scratch::SAMPLES), ("WINDOW_SAMPLES", Scratch::WINDOW_SAMPLES), ("SCRATCH_RECORDS", Scratch::RECORDS)]
+    {
+        assert!(header.contains(&format!("\n#define FUJI_{name} {size}\n")), "{name}");
+    }
+}
+
+/// A program in C is compiled with the header, linked with the library, and run on the headers of marked cases k and l.
 #[test]
 fn c_program_runs() {
     let folder = env::temp_dir().join(format!("fuji-c-{}", std::process::id()));
@@ -120,5 +131,5 @@ fn c_program_runs() {
     assert!(made.success());
     let output = Command::new(&program).output().unwrap();
     fs::remove_dir_all(&folder).unwrap();
-    assert_eq!(String::from_utf8(output.stdout).unwrap(), "1 0 14 6 768 768 768 1 1, refusal 0, then 2\n");
+    assert_eq!(String::from_utf8(output.stdout).unwrap(), "1 0 14 6 768 768 768 1 1, refusal 0, 14 with samples 0 7, then 2\n");
 }

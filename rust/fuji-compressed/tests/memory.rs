@@ -41,16 +41,18 @@ struct Job {
     bytes: Vec<u8>,
     image: Vec<u16>,
     scratch: Scratch,
+    windows: Scratch,
     allocations: u64,
 }
 
-/// Both entries, with the heap counted.
+/// All entries, with the heap counted.
 extern "C" fn decodes(job: &mut Job) {
     let tile = ColorTile::default();
     let before = ALLOCATIONS.with(Cell::get);
     let opened = FujiCompressed::new(&job.bytes).unwrap();
     opened.decode_with(&mut job.scratch, &mut job.image, 1536, 12, &tile).unwrap();
     opened.decode_region_with(&mut job.scratch, &mut job.image, Rect::new(700, 3, 100, 8), &tile).unwrap();
+    opened.decode_region_windowed_with(&mut job.windows, &mut job.image, Rect::new(700, 3, 100, 8), &tile).unwrap();
     job.allocations = ALLOCATIONS.with(Cell::get) - before;
 }
 
@@ -79,7 +81,8 @@ fn stack_of(job: &mut Job) -> usize {
 fn small_stack_and_no_heap() {
     for (xtrans, lossy) in [(false, false), (true, false), (false, true), (true, true)] {
         let bytes = stream(xtrans, lossy);
-        let mut job = Job { bytes, image: vec![0; 1536 * 12], scratch: Scratch::new(), allocations: u64::MAX };
+        let (scratch, windows) = (Scratch::new(), Scratch::windowed());
+        let mut job = Job { bytes, image: vec![0; 1536 * 12], scratch, windows, allocations: u64::MAX };
         let used = stack_of(&mut job);
         println!("X-Trans {xtrans}, lossy {lossy}: {used} bytes of stack, {} allocations", job.allocations);
         assert!(used > 0 && used <= STACK);
@@ -88,8 +91,30 @@ fn small_stack_and_no_heap() {
     }
 }
 
+fn bytes_of(scratch: &Scratch) -> usize {
+    2 * scratch.samples.len() + size_of::<Record>() * scratch.records.len()
+}
+
 #[test]
 fn scratch_in_bytes() {
-    let scratch = Scratch::new();
-    assert_eq!(2 * scratch.samples.len() + size_of::<Record>() * scratch.records.len(), 21_192);
+    assert_eq!(bytes_of(&Scratch::new()), 21_192);
+    assert_eq!(bytes_of(&Scratch::windowed()), 11_940);
+}
+
+/// The least scratch that windows are not refused with, by the kind of stream, in bytes; a sample less is refused by 10.
+#[test]
+fn least_scratch_for_windows() {
+    for (xtrans, least) in [(false, 9_636), (true, 11_940)] {
+        let bytes = stream(xtrans, false);
+        let opened = FujiCompressed::new(&bytes).unwrap();
+        let mut image = [0; 4];
+        let mut answer = |samples: usize| {
+            let mut scratch = Scratch { samples: vec![0; samples], records: vec![Record::default(); Scratch::RECORDS] };
+            let said = opened.decode_region_windowed_with(&mut scratch, &mut image, Rect::new(0, 0, 2, 2), &ColorTile::default());
+            (bytes_of(&scratch), said.map_err(|e| e.number))
+        };
+        let samples = (least - 8 * Scratch::RECORDS) / 2;
+        assert_eq!(answer(samples), (least, Ok(())));
+        assert_eq!(answer(samples - 1), (least - 2, Err(10)));
+    }
 }

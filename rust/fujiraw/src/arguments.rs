@@ -25,6 +25,10 @@ pub enum Call {
 #[derive(Clone, Copy)]
 pub struct Quiet(pub bool);
 
+/// Scratch for three lines of each colour is enough.
+#[derive(Clone, Copy)]
+pub struct Windowed(pub bool);
+
 /// Each block is read too.
 #[derive(Clone, Copy)]
 pub struct Blocks(pub bool);
@@ -36,6 +40,7 @@ pub struct Decode {
     pub region: Option<Rect>,
     pub tile: Option<ColorTile>,
     pub look: Look,
+    pub windowed: Windowed,
     pub quiet: Quiet,
 }
 
@@ -190,7 +195,7 @@ fn decode(words: Words) -> Result<Decode, String> {
     if look.preview && look.format == Format::Raw {
         return Err("a preview is pgm or png".to_string());
     }
-    let quiet = Quiet(words.has("--quiet"));
+    let (windowed, quiet) = (Windowed(words.has("--windowed")), Quiet(words.has("--quiet")));
     let mut files = words.files();
     let out = files.pop().filter(|_| !files.is_empty()).ok_or("decode needs a stream and an output")?;
     once(&files)?;
@@ -198,7 +203,7 @@ fn decode(words: Words) -> Result<Decode, String> {
     if files.len() > 1 && !into_folder {
         return Err(format!("{} is no folder, and there are {} streams", out.display(), files.len()));
     }
-    let call = Decode { streams: files, out, into_folder, region, tile, look, quiet };
+    let call = Decode { streams: files, out, into_folder, region, tile, look, windowed, quiet };
     apart(&call)?;
     Ok(call)
 }

@@ -76,7 +76,7 @@ fn check(file: &Path, quiet: bool) -> Result<(), String> {
 
 fn decode(call: &Decode, file: &Path) -> Result<(), String> {
     let out = call.output_of(file);
-    let (picture, tile) = stream::decode(file, call.region, call.tile.as_ref(), call.quiet.0)?;
+    let (picture, tile) = stream::decode(file, call)?;
     files::write(&[file], &out, |o| call.look.write(&picture, o))?;
     // The picture itself may be on standard output.
     if call.quiet.0 || files::is_standard(&out) {

@@ -1,4 +1,5 @@
 //! What is done with streams and headers.
+use crate::arguments::Decode;
 use crate::files::{load, load_samples, name};
 use crate::picture::Picture;
 use crate::progress::Progress;
@@ -136,12 +137,12 @@ pub fn plan(header: &Path, plan: &Path) -> Result<Vec<u8>, String> {
 }
 
 /// A picture, or a region of it, one block's columns after the other, and the tile that was used.
-pub fn decode(file: &Path, region: Option<Rect>, tile: Option<&ColorTile>, quiet: bool) -> Result<(Picture, ColorTile), String> {
+pub fn decode(file: &Path, call: &Decode) -> Result<(Picture, ColorTile), String> {
     let bytes = load(file)?;
     let stream = FujiCompressed::new(&bytes).map_err(|e| e.to_string())?;
     let h = stream.header;
-    let region = region.unwrap_or(Rect::new(0, 0, h.width, h.height));
-    let tile = tile.copied().unwrap_or(tile::usual(h.xtrans));
+    let region = call.region.unwrap_or(Rect::new(0, 0, h.width, h.height));
+    let tile = call.tile.unwrap_or(tile::usual(h.xtrans));
     if !is_inside(&h, region) {
         // The library says what is wrong with it.
         stream.decode_region(&mut [], region, &tile).map_err(|e| e.to_string())?;
@@ -153,11 +154,17 @@ pub fn decode(file: &Path, region: Option<Rect>, tile: Option<&ColorTile>, quiet
     }
     let mut samples = room(region.width, region.height)?;
     let mut columns = room(region.width.min(768), region.height)?;
-    let (mut scratch, progress) = (Scratch::new(), Progress::new(quiet, name(file)));
+    let windowed = call.windowed.0;
+    let mut scratch = if windowed { Scratch::windowed() } else { Scratch::new() };
+    let progress = Progress::new(call.quiet.0, name(file));
     for block in first..=last {
         let part = part_in(region, block);
         let columns = &mut columns[..part.width as usize * part.height as usize];
-        stream.decode_region_with(&mut scratch, columns, part, &tile).map_err(|e| e.to_string())?;
+        let answer = match windowed {
+            true => stream.decode_region_windowed_with(&mut scratch, columns, part, &tile),
+            false => stream.decode_region_with(&mut scratch, columns, part, &tile),
+        };
+        answer.map_err(|e| e.to_string())?;
         let at = (part.x - region.x) as usize;
         for (row, from) in samples.chunks_mut(region.width as usize).zip(columns.chunks(part.width as usize)) {
             row[at..at + part.width as usize].copy_from_slice(from);

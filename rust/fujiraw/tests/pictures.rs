@@ -133,6 +133,26 @@ fn preview_is_the_mean_of_each_tile() {
 }
 
 #[test]
+fn windows_give_the_same_picture() {
+    let f = Folder::new("windows");
+    put_samples(&f);
+    for stream in ["bayer.fcs", "xtrans.fcs"] {
+        for part in ["", "--region 3,40,700,50"] {
+            let said = f.works(&format!("decode {stream} a --format raw {part}"));
+            assert_eq!(f.works(&format!("decode {stream} b --format raw --windowed {part}")), said.replace("a:", "b:"));
+            assert!(f.get("a") == f.get("b"), "{stream} {part}");
+        }
+        // What is truncated is refused in the same words, and writes no file.
+        f.put("cut.fcs", &f.get(stream)[..40_000]);
+        let refused = f.run("decode cut.fcs c");
+        f.fails("decode cut.fcs c --windowed", text(&refused.stderr).trim_end());
+        std::fs::remove_file(f.0.join("cut.fcs")).unwrap();
+    }
+    f.is_wrong("decode bayer.fcs a --windowed=1", "--windowed takes no value");
+    f.is_wrong("check bayer.fcs --windowed", "check takes no --windowed");
+}
+
+#[test]
 fn region_over_several_blocks_is_a_part_of_the_whole() {
     let f = Folder::new("blocks");
     let header = common::stream::Header::new(true, false, 12, 1560, 2);

@@ -21,13 +21,12 @@ slice-write-lines-2 : tie.Need-slice-write-lines-2
 slice-write-lines-2 c = simp length-set (omega arith)
 
 returns : tie.Need-returns
-returns c = stored _ _ _ _ _ (c .before .before .before .start-of .ensures .0) (c .before .before .start-of2 .ensures .0)
+returns c = stored _ _ _ _ _ (c .before .before .before .start-above .ensures .0) (c .before .before .start-of .ensures .0)
 
 pub set-guards-spec : {M : Type 1} → statement M
 set-guards-spec =
     tie.close
     (tie.spec
-    (λ c. search needs)
     (λ c κs. search needs)
     (λ c κs. search needs)
     (λ c. search needs)

@@ -14,7 +14,7 @@ mul-result : tie.Need-mul-result
 mul-result c = omega (arith, inside (c .args .w) (c .args .line) (c .pre .1))
 
 returns : tie.Need-returns
-returns c = (refl, omega (arith, inside (c .args .w) (c .args .line) (c .pre .1)))
+returns c = (refl, (omega arith, omega (arith, inside (c .args .w) (c .args .line) (c .pre .1))))
 
 pub start-of-spec : {M : Type 1} → statement M
 start-of-spec = tie.close (tie.spec (λ c. search needs) mul-result returns)

@@ -15,7 +15,8 @@ use Rattle.pass.specs.Readings.{Reading}
 use Rattle.pass.specs.Pairs.{held}
 use Rattle.pass.proofs.RangeLaws.{step-keeps}
 use Rattle.pass.proofs.StepLaws.{StepGives, two-steps, first-none}
-use Rattle.pass.proofs.SiteLaws.{Placed, placed-at, site-interpolated, Site, site-reader, site-total, site-cut-off, site-read, met, step-met, ranges-met, ks-met, length-met, pair-cut-off, pair-at}
+use Rattle.pass.proofs.SiteLaws.{Placed, placed-at, site-interpolated, Site, site-reader, site-total, site-cut-off, site-read, met, step-met, ranges-met}
+use Rattle.pass.proofs.SiteLaws.{ks-met, length-met, pair-cut-off, pair-at, line-end}
 use Rattle.pass.proofs.even_pair.Statement.{statement}
 use Rattle.pass.proofs.even_pair.Tie as tie
 
@@ -35,8 +36,8 @@ placed c = placed-at (entry c .pre .plan .first-low) (c .before .before .before 
 room : (c : tie.After-has-code) → (c .before .before .before .left-of .result + 1 < length (entry c .args .lines .now)) × (c .before .before .before .left-of .result + 1 < 2 ^ 14)
 room c =
     let p = entry c .pre in
-    let i = c .before .before .before .left-of .ensures .1 .1 in
-    (omega (arith, i, p .room), omega (arith, i, p .width))
+    let i = c .before .before .before .left-of .ensures in
+    (omega (arith, line-end _ _ _ (p .inside) (i .0), p .room .0), omega (arith, i .1 .1, p .width))
 
 abbrev looked : tie.After-record-at → tie.After-look-of
 looked c = c .before .before .before .before
@@ -159,8 +160,8 @@ context-at-requires-2 : tie.Need-context-at-requires-2
 context-at-requires-2 c κs =
     let m = c .before .before in
     let p = entry (m .before) .pre in
-    let i = c .before .left-of2 .ensures .1 in
-    (omega (arith, p .width), (i .0, omega (arith, i .1, p .room, one m .same)))
+    let i = c .before .left-of2 .ensures in
+    (omega (arith, p .width), (i .1 .0, omega (arith, line-end _ _ _ (p .inside) (i .0), p .room .1, one m .same)))
 
 abbrev joined : tie.After-has-code2 → tie.Joined1
 joined c = c .before .before .before .before
@@ -173,8 +174,8 @@ placed-2 c =
 room-2 : (c : tie.After-has-code2) → (c .before .before .before .left-of2 .result + 1 < length (joined c .if1 .lines)) × (c .before .before .before .left-of2 .result + 1 < 2 ^ 14)
 room-2 c =
     let p = entry (joined c .before) .pre in
-    let i = c .before .before .before .left-of2 .ensures .1 .1 in
-    (omega (arith, i, p .room, one (joined c) .same), omega (arith, i, p .width))
+    let i = c .before .before .before .left-of2 .ensures in
+    (omega (arith, line-end _ _ _ (p .inside) (i .0), p .room .1, one (joined c) .same), omega (arith, i .1 .1, p .width))
 
 look-of-requires-2 : tie.Need-look-of-requires-2
 look-of-requires-2 c κs = (entry (joined (c .before) .before) .pre .base, c .before .before .context-at2 .ensures .1)

@@ -16,7 +16,7 @@ use Rattle.pass.specs.Readings.{Reading}
 use Rattle.pass.specs.Pairs.{held}
 use Rattle.pass.proofs.RangeLaws.{step-keeps}
 use Rattle.pass.proofs.StepLaws.{StepGives, two-steps, first-none}
-use Rattle.pass.proofs.SiteLaws.{placed-at, Site, site-reader, site-total, site-cut-off, site-read, pair-cut-off, pair-at}
+use Rattle.pass.proofs.SiteLaws.{placed-at, Site, site-reader, site-total, site-cut-off, site-read, pair-cut-off, pair-at, line-end}
 use Rattle.pass.proofs.odd_pair.Statement.{statement}
 use Rattle.pass.proofs.odd_pair.Tie as tie
 
@@ -55,8 +55,8 @@ first c =
 room : (c : tie.After-look-of) → (there c .left-of .result + 1 < length (entry c .args .lines .now)) × (there c .left-of .result + 1 < 2 ^ 14)
 room c =
     let p = entry c .pre in
-    let i = there c .left-of .ensures .1 .1 in
-    (omega (arith, i, p .room), omega (arith, i, p .width))
+    let i = there c .left-of .ensures in
+    (omega (arith, line-end _ _ _ (p .inside) (i .0), p .room .0), omega (arith, i .1 .1, p .width))
 
 -- its k is the one that is kept
 is-k : (c : tie.After-k-at) → let k = c .k-at .result in (k ≡ kOf (c .before .before .record-at .result)) × (k ≤ 15)
@@ -147,8 +147,8 @@ left-of-requires-2 c κs =
 context-at-requires-2 : tie.Need-context-at-requires-2
 context-at-requires-2 c κs =
     let p = entry (origin (c .before .before)) .pre in
-    let i = c .before .left-of2 .ensures .1 in
-    (omega (arith, p .width), (i .0, simp length-set (omega (arith, i .1, p .room))))
+    let i = c .before .left-of2 .ensures in
+    (omega (arith, p .width), (i .1 .0, simp length-set (omega (arith, line-end _ _ _ (p .inside) (i .0), p .room .1))))
 
 look-of-requires-2 : tie.Need-look-of-requires-2
 look-of-requires-2 c κs = (entry (origin (c .before .before .before)) .pre .base, c .context-at2 .ensures .1)
@@ -185,8 +185,8 @@ second c =
 room-2 : (c : tie.After-look-of2) → (there-2 c .left-of2 .result + 1 < length (lines₁ (one c))) × (there-2 c .left-of2 .result + 1 < 2 ^ 14)
 room-2 c =
     let p = entry (begun c) .pre in
-    let i = there-2 c .left-of2 .ensures .1 .1 in
-    (simp length-set (omega (arith, i, p .room)), omega (arith, i, p .width))
+    let i = there-2 c .left-of2 .ensures in
+    (simp length-set (omega (arith, line-end _ _ _ (p .inside) (i .0), p .room .1)), omega (arith, i .1 .1, p .width))
 
 is-k-2 : (c : tie.After-k-at2) → let k = c .k-at2 .result in (k ≡ kOf (c .before .before .record-at2 .result)) × (k ≤ 15)
 is-k-2 c =

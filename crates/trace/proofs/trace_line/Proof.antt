@@ -5,6 +5,7 @@ use mathlib.Core.Path.{_≡_, refl, sym, _∙_}
 use Prim.Native.Nat.{ℕ, _+_, _-_, _*_, _%_, _≤_, _<_}
 use native.Mathlib.Omega.{arith}
 use lib.ListN.{length}
+use Rattle.lines.proofs.LineLaws.{line-inside}
 use Rattle.map.specs.Places.{widthOf}
 use Rattle.steps.specs.Values.{zipRecords}
 use Rattle.block.specs.Blocks.{AllInRange}
@@ -58,7 +59,8 @@ set-guards-requires c κs =
     let p = c .before in
     let l = p .before .before .loop in
     let r = planned _ (l .i) _ (p .before .loop-test .taken) (p .plan-at .ensures) in
-    (l .inv .1 .2, (omega (arith, r .0 .first-low), (r .0 .first-high, omega (arith, l .inv .2))))
+    let inside = line-inside (p .before .before .before .width .result) _ (r .0 .first-high) in
+    (l .inv .1 .2, (omega (arith, r .0 .first-low), (r .0 .first-high, omega (arith, inside, l .inv .2))))
 
 set-guards-requires-2 : tie.Need-set-guards-requires-2 Inv-loop μ-loop
 set-guards-requires-2 c κs =
@@ -66,7 +68,8 @@ set-guards-requires-2 c κs =
     let p = planned-at g in
     let l = p .before .before .loop in
     let r = planned _ (l .i) _ (p .before .loop-test .taken) (p .plan-at .ensures) in
-    (l .inv .1 .2, (omega (arith, r .0 .second-low), (r .0 .second-high, omega (arith, g .set-guards .kept, l .inv .2))))
+    let inside = line-inside (p .before .before .before .width .result) _ (r .0 .second-high) in
+    (l .inv .1 .2, (omega (arith, r .0 .second-low), (r .0 .second-high, omega (arith, inside, g .set-guards .kept, l .inv .2))))
 
 -- the set of the pass
 one-of-three : (c : tie.After-struct-known Inv-loop μ-loop) → planned-at (first (ready c)) .plan-at .result .set < 3

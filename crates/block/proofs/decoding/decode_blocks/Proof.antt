@@ -1,40 +1,41 @@
 -- `block::decoding::decode_blocks` meets its contract: the blocks below b were read. Assumes nothing.
 mod derived
 use borrow.Author.Needs.{needs}
+use mathlib.Core.Bool.{Bool}
 use mathlib.Core.List.{List}
 use mathlib.Core.Path.{_≡_, sym, _∙_}
 use Prim.Native.Nat.{ℕ, _+_, _-_, _*_, _^_, _≤_, _<_}
 use native.Mathlib.Omega.{arith}
-use lib.ListN.{length, length-replicate}
+use lib.ListN.{length, replicate, length-replicate}
 use Rattle.statistics.specs.declared.Record.{Record}
-use Rattle.lines.specs.ColourLines.{zeroLines}
-use Rattle.map.specs.Places.{widthOf, ArePlaces}
+use Rattle.map.specs.Places.{ArePlaces}
 use Rattle.map.specs.declared.Part.{Part}
 use Rattle.stream.specs.declared.FujiHeader.{FujiHeader}
 use Rattle.region.specs.Regions.{firstBlock, lastBlock, spanOf, partIn, Accepted, lineCount}
 use Rattle.region.specs.declared.Rect.{Rect}
 use Rattle.region.specs.declared.Span.{Span}
 use Rattle.region.proofs.RegionLaws.{block-order, block-inside, lines-inside, part-fits}
-use Rattle.block.specs.Blocks.{IsWalked, Shown, shownLines}
-use Rattle.block.specs.Images.{formOf, bytesIn, basesIn, Pictured, answerOf}
+use Rattle.block.specs.Blocks.{IsWalked}
+use Rattle.block.specs.Images.{formOf, bytesIn, basesIn, answerOf}
 use Rattle.block.specs.Records.{clearRecord, clearRecords}
+use Rattle.block.specs.WindowedLines.{samplesIn, zerosIn, ShownIn, PicturedIn}
 use Rattle.block.specs.declared.Decoded.{Decoded}
 use Rattle.block.specs.declared.Form.{Form}
 use Rattle.block.specs.declared.Walked.{Walked}
-use Rattle.block.proofs.LeftLaws.{form-scratch, form-depth, form-zero}
-use Rattle.block.proofs.DecodeLaws.{answer-none, answer-more, pictured-none, pictured-more}
+use Rattle.block.proofs.LeftLaws.{form-scratch, form-depth, form-zeros}
+use Rattle.block.proofs.DecodeLaws.{answer-none, answer-more, pictured-none, pictured-kept, pictured-more}
 use Rattle.block.proofs.decoding.decode_blocks.Statement.{statement}
 use Rattle.block.proofs.decoding.decode_blocks.Proof.derived.Tie as tie
 
 abbrev Inv-loop : tie.InvT-loop
-Inv-loop d h r tile image₀ lines₀ rs₀ count end places answer₀ b₀ image lines rs answer b =
+Inv-loop d h r tile image₀ lines₀ rs₀ windowed count end places answer₀ b₀ image lines rs answer b =
     (firstBlock r ≤ b) × (b ≤ end) × (end ≡ lastBlock r + 1) × (count ≡ lineCount r) × Accepted h r (length image₀)
-    × (length lines ≡ 18 * (widthOf (h .xtrans) + 2)) × (length rs ≡ 336) × ArePlaces places
-    × (answer ≡ answerOf d h r (b - firstBlock r)) × Pictured d h r tile b image₀ image
-    × (firstBlock r < b → (lines ≡ zeroLines (widthOf (h .xtrans))) × (rs ≡ clearRecords))
+    × (length lines ≡ samplesIn windowed (h .xtrans)) × (length rs ≡ 336) × ArePlaces places
+    × (answer ≡ answerOf d h r (b - firstBlock r)) × PicturedIn windowed d h r tile b image₀ image
+    × (firstBlock r < b → (lines ≡ zerosIn windowed (h .xtrans)) × (rs ≡ clearRecords))
 
 abbrev μ-loop : tie.MeasureT-loop
-μ-loop d h r tile image₀ lines₀ rs₀ count end places answer₀ b₀ image lines rs answer b = end - b
+μ-loop d h r tile image₀ lines₀ rs₀ windowed count end places answer₀ b₀ image lines rs answer b = end - b
 
 span-is : (s : Span) (r : Rect) → s ≡ spanOf r → (s .first ≡ firstBlock r) × (s .last ≡ lastBlock r) × (s .lines ≡ lineCount r)
 unfolding spanOf
@@ -46,6 +47,11 @@ few h r n a = (omega (arith, block-inside h r n a, a .ruled .blocks-high), omega
 
 abbrev start : tie.At-loop Inv-loop μ-loop → tie.Start Inv-loop μ-loop
 start l = l .before .before .before .before .before .before .before
+
+pictured : (l : tie.At-loop Inv-loop μ-loop) → length (l .loop .image) ≡ length (start l .args .image .now)
+pictured l =
+    let a = start l .args in
+    pictured-kept (a .windowed) (a .d .now) (a .h) (a .r) (a .tile) (l .loop .b) (a .image .now) (l .loop .image) (l .loop .inv .9)
 
 span-of-requires : tie.Need-span-of-requires Inv-loop μ-loop
 span-of-requires c κs = let a = c .before .before .before .pre .0 .1 in (a .wide, a .high)
@@ -71,7 +77,7 @@ loop-holds c =
       s .pre .1 .1,
       c .xtrans-places .ensures,
       answer-none (s .args .d .now) (s .args .h) (s .args .r) _ (e .0),
-      pictured-none (s .args .d .now) (s .args .h) (s .args .r) (s .args .tile) _ (s .args .image .now) (e .0),
+      pictured-none (s .args .windowed) (s .args .d .now) (s .args .h) (s .args .r) (s .args .tile) _ (s .args .image .now) (e .0),
       λ l. absurd (omega (arith, e .0, l)),
     )
 
@@ -88,9 +94,9 @@ module _ (d tile : List ℕ) (h : FujiHeader) (r : Rect) (n b count : ℕ) (F : 
   same : IsWalked (formOf h) (basesIn d b) (bytesIn d b) (lineCount r) w
   same = rw (ef, es, eb, ec) at walked
 
-  image-more : (x y z : List ℕ) → Accepted h r n → firstBlock r ≤ b → b ≤ lastBlock r → a ≡ partIn r b → Pictured d h r tile b x y
-      → Shown F bases s tile a (shownLines w count) y z → Pictured d h r tile (b + 1) x z
-  image-more x y z ok l u e done shown = pictured-more d h r tile n b a w x y z ok l u e same done (rw (ef, es, eb, ec) at shown)
+  image-more : (windowed : Bool) (x y z : List ℕ) → Accepted h r n → a ≡ partIn r b → PicturedIn windowed d h r tile b x y
+      → ShownIn windowed F bases s tile a w count y z → PicturedIn windowed d h r tile (b + 1) x z
+  image-more windowed x y z ok e done shown = pictured-more windowed d h r tile n b a w x y z ok e same done (rw (ef, es, eb, ec) at shown)
 
 walk-requires : tie.Need-walk-requires Inv-loop μ-loop
 walk-requires c κs =
@@ -103,13 +109,17 @@ walk-requires c κs =
     let f = few (s .args .h) (s .args .r) _ (v .4) in
     let k = v .4 .ruled in
     let u : l .loop .b ≤ lastBlock (s .args .r) = omega (arith, i .loop-test .taken, v .2) in
-    let fits = part-fits (s .args .h) (s .args .r) _ (v .4) (l .loop .b) (l .loop .image) (v .9 .kept) (v .0) u in (
-      (p .before .before .block-bytes .ensures .1, form-scratch _ (s .args .h) (g .form-of .ensures) (l .loop .lines) (l .loop .rs) (v .5, v .6)),
+    let fits = part-fits (s .args .h) (s .args .r) _ (v .4) (l .loop .b) (l .loop .image) (pictured l) (v .0) u in (
+      (
+        p .before .before .block-bytes .ensures .1,
+        form-scratch _ (s .args .h) (g .form-of .ensures) (s .args .windowed) (l .loop .lines) (l .loop .rs)
+            (v .5, v .6),
+      ),
       ((form-depth _ (s .args .h) (g .form-of .ensures) k, omega (arith, v .3, f .1)), (v .7, rw (p .part .ensures) fits)),
     )
 
-zero-length : (W : ℕ) (l : List ℕ) → l ≡ zeroLines W → length l ≡ 18 * (W + 2)
-zero-length W l e = rw e (length-replicate (18 * (W + 2)) 0)
+zero-length : (n : ℕ) (l : List ℕ) → l ≡ replicate n 0 → length l ≡ n
+zero-length n l e = rw e (length-replicate n 0)
 
 clear-length : (l : List Record) → l ≡ clearRecords → length l ≡ 336
 clear-length l e = rw e (length-replicate 336 clearRecord)
@@ -131,12 +141,11 @@ loop-again c =
     let l = i .before in
     let s = start l in
     let v = l .loop .inv in
-    let u : l .loop .b ≤ lastBlock (s .args .r) = omega (arith, i .loop-test .taken, v .2) in
     let es = p .before .before .block-bytes .ensures .0 in
     let eb = p .before .base-row .ensures in
     let walked = w .walk .ensures .0 in
     let ef = g .form-of .ensures in
-    let z = form-zero _ (s .args .h) ef _ (w .walk .ensures .1 .1 .0) in
+    let z = form-zeros _ (s .args .h) ef (s .args .windowed) _ (w .walk .ensures .1 .1 .0) in
     let is = same (s .args .d .now) (s .args .tile) (s .args .h) (s .args .r) 0 (l .loop .b) _ _ _ _ (p .part .result) (w .walk .result) ef es eb (v .3) walked in (
       omega (arith, v .0),
       omega (arith, i .loop-test .taken),
@@ -147,8 +156,8 @@ loop-again c =
       clear-length _ (w .walk .ensures .1 .1 .1),
       v .7,
       answer-more (s .args .d .now) (s .args .h) (s .args .r) (l .loop .b) (w .walk .result) _ _ (v .0) (v .8) is (c .judged .ensures),
-      image-more (s .args .d .now) (s .args .tile) (s .args .h) (s .args .r) _ (l .loop .b) _ _ _ _ (p .part .result) (w .walk .result) ef es eb (v .3) walked _ _ _
-          (v .4) (v .0) u (p .part .ensures) (v .9) (w .walk .ensures .1 .0),
+      image-more (s .args .d .now) (s .args .tile) (s .args .h) (s .args .r) _ (l .loop .b) _ _ _ _ (p .part .result) (w .walk .result) ef es eb (v .3) walked
+          (s .args .windowed) _ _ _ (v .4) (p .part .ensures) (v .9) (w .walk .ensures .1 .0),
       λ k. (z, w .walk .ensures .1 .1 .1),
     )
 
@@ -157,9 +166,9 @@ all-answered : (d : List ℕ) (h : FujiHeader) (r : Rect) (b : ℕ) (a : Decoded
     → a ≡ answerOf d h r (lastBlock r + 1 - firstBlock r)
 all-answered d h r b a e f = rw e at f
 
-all-pictured : (d : List ℕ) (h : FujiHeader) (r : Rect) (tile : List ℕ) (b : ℕ) (x y : List ℕ) → b ≡ lastBlock r + 1 → Pictured d h r tile b x y
-    → Pictured d h r tile (lastBlock r + 1) x y
-all-pictured d h r tile b x y e f = rw e at f
+all-pictured : (windowed : Bool) (d : List ℕ) (h : FujiHeader) (r : Rect) (tile : List ℕ) (b : ℕ) (x y : List ℕ) → b ≡ lastBlock r + 1
+    → PicturedIn windowed d h r tile b x y → PicturedIn windowed d h r tile (lastBlock r + 1) x y
+all-pictured windowed d h r tile b x y e f = rw e at f
 
 returns : tie.Need-returns Inv-loop μ-loop
 returns c =
@@ -170,7 +179,7 @@ returns c =
     let k : firstBlock (s .args .r) < l .loop .b = omega (arith, e, block-order (s .args .h) (s .args .r) _ (v .4)) in (
       (
         all-answered (s .args .d .now) (s .args .h) (s .args .r) (l .loop .b) _ e (v .8),
-        all-pictured (s .args .d .now) (s .args .h) (s .args .r) (s .args .tile) (l .loop .b) _ _ e (v .9),
+        all-pictured (s .args .windowed) (s .args .d .now) (s .args .h) (s .args .r) (s .args .tile) (l .loop .b) _ _ e (v .9),
       ),
       v .10 k,
     )
@@ -194,7 +203,7 @@ decode-blocks-spec =
     add-b
     (λ c. search needs)
     loop-again
-    (λ c. search needs)
+    (λ c. pictured (c .before))
     (λ c. search needs)
     (λ c. search needs)
     returns)

@@ -2,10 +2,10 @@
 mod derived
 use borrow.Author.Needs.{needs}
 use mathlib.Core.Path.{_≡_, ap, _∙_}
-use Prim.Native.Nat.{ℕ, _+_, _*_}
+use Prim.Native.Nat.{ℕ}
 use native.Mathlib.Omega.{arith}
 use lib.ListN.{length, replicate}
-use Rattle.map.specs.Places.{widthOf}
+use Rattle.block.specs.WindowedLines.{samplesIn}
 use Rattle.block.proofs.reading.walk.Statement.{statement}
 use Rattle.block.proofs.reading.walk.Proof.derived.Tie as tie
 
@@ -14,7 +14,8 @@ returns c =
     let k = c .before .before .before .before .before .clear in
     let d = c .before .before .before .before .before .before .before .before .before .before .before .before in
     let a = d .before .before .before .before .before .before .before .before in
-    let e : length (d .read-lines .last .1 .1 .0) ≡ 18 * (widthOf (a .args .form .xtrans) + 2) = omega (arith, d .read-lines .kept, a .pre .0 .1 .0) in
+    let e : length (d .read-lines .last .1 .1 .0) ≡ samplesIn (a .args .windowed) (a .args .form .xtrans) = omega
+    (arith, d .read-lines .kept, a .pre .0 .1 .0) in
     (d .read-lines .ensures .0, (d .read-lines .ensures .1, (k .ensures ∙ ap (λ (n : ℕ). replicate n 0) e, c .before .clear-records .ensures)))
 
 pub walk-spec : {M : Type 1} → statement M

@@ -1,6 +1,7 @@
 -- `block::tight::walk_block` meets its contract: what the stream says of block b goes to the walk. Assumes nothing.
 mod derived
 use borrow.Author.Needs.{needs}
+use mathlib.Core.Bool.{false}
 use mathlib.Core.List.{List}
 use mathlib.Core.Path.{_≡_}
 use Prim.Native.Nat.{ℕ, _<_}
@@ -22,7 +23,11 @@ walk-requires c κs =
     let f = n .before in
     let s = f .before .before .before in
     let k = opened (s .args .d .now) (s .args .h) (s .pre .0) .ruled in (
-      (p .before .before .block-bytes .ensures .1, form-scratch _ (s .args .h) (f .form-of .ensures) (s .args .lines .now) (s .args .rs .now) (s .pre .1)),
+      (
+        p .before .before .block-bytes .ensures .1,
+        form-scratch _ (s .args .h) (f .form-of .ensures) false (s .args .lines .now) (s .args .rs .now)
+            (s .pre .1),
+      ),
       (
         (form-depth _ (s .args .h) (f .form-of .ensures) k, omega (arith, k .lines-high, n .line-count .ensures)),
         (p .xtrans-places .ensures, c .no-part .ensures),

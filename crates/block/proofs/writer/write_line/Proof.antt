@@ -6,6 +6,7 @@ use mathlib.Core.Path.{_≡_, refl, ap, _∙_}
 use Prim.Native.Nat.{_+_, _-_, _*_, _%_, _≤_}
 use native.Mathlib.Omega.{arith}
 use lib.ListN.{length}
+use Rattle.lines.proofs.LineLaws.{line-inside}
 use Rattle.map.specs.Places.{widthOf}
 use Rattle.steps.specs.Values.{recordsOf}
 use Rattle.block.specs.Blocks.{AllInRange}
@@ -63,15 +64,28 @@ set-guards-requires c κs =
     let p = c .before in
     let l = p .before .before .loop in
     let r = planned _ (l .i) _ (omega arith) (p .plan-at .ensures) in
-    (l .inv .1 .2, (omega arith, (r .0 .first-high, omega arith)))
+    (l .inv .1 .2, (omega arith, (r .0 .first-high, omega (arith, line-inside (p .before .before .before .width .result) _ (r .0 .first-high), l .inv .2))))
 
 set-guards-requires-2 : tie.Need-set-guards-requires-2 Inv-loop μ-loop
 set-guards-requires-2 c κs =
     let g = c .before .before .before in
     let p = g .before .before in
     let l = p .before .before .loop in
-    let r = planned _ (l .i) _ (omega arith) (p .plan-at .ensures) in
-    (l .inv .1 .2, (omega arith, (r .0 .second-high, omega (arith, g .set-guards .kept, l .inv .2))))
+    let r = planned _ (l .i) _ (omega arith) (p .plan-at .ensures) in (
+      l .inv .1 .2,
+      (
+        omega arith,
+        (
+          r .0 .second-high,
+          omega (
+            arith,
+            line-inside (p .before .before .before .width .result) _ (r .0 .second-high),
+            g .set-guards .kept,
+            l .inv .2,
+          ),
+        ),
+      ),
+    )
 
 load-set-requires : tie.Need-load-set-requires Inv-loop μ-loop
 load-set-requires c κs =

@@ -60,7 +60,7 @@ ps = List._∷_ (ShrSlice.pShrS (Referent.rtF (Referent.fInt Syntax.w8)) 0 tt) (
   of-mem = Local.whole-mem 𝓤 H A W (Declared'.row Rect.the-type);
 }) (List._∷_ (Array.pArr (Array.eInt Syntax.w8) (Array.eInt-laws Syntax.w8) 36)
     (List._∷_ (MutSlice.pMutS (Referent.rtF (Referent.fInt Syntax.w16)) 1 tt) (List._∷_ (MutSlice.pMutS (Referent.rtF (Referent.fInt Syntax.w16)) 2 tt) (List._∷_ (MutSlice.pMutS (Element.type) 3 tt)
-    List.[]))))))
+    (List._∷_ Kinds.pBool List.[])))))))
 
 abbrev pub r : Kinds.RK 4
 r = Value.rVal record {

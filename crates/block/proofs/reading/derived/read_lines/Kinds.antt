@@ -61,7 +61,7 @@ ps = List._∷_ (ShrSlice.pShrS (Referent.rtF (Referent.fInt Syntax.w8)) 0 tt) (
       in-mem =
           Local.mem-whole 𝓤 H A W (Declared'.row Part.the-type);
       of-mem = Local.whole-mem 𝓤 H A W (Declared'.row Part.the-type);
-    }) (List._∷_ (Kinds.pNum Syntax.w64) List.[])))))))))
+    }) (List._∷_ (Kinds.pNum Syntax.w64) (List._∷_ Kinds.pBool List.[]))))))))))
 
 abbrev pub r : Kinds.RK 6
 r = Value.rVal record {

@@ -26,6 +26,7 @@ use borrow.Fn.Function
 use borrow.Fn.Kinds
 use borrow.Fn.Plain
 use borrow.Kind.Array
+use borrow.Kind.Bool
 use borrow.Kind.MutSlice
 use borrow.Kind.Num
 use borrow.Kind.ShrRef
@@ -150,7 +151,7 @@ ps = List._∷_ (ShrSlice.pShrS (Referent.rtF (Referent.fInt Syntax.w8)) 0 tt) (
   of-mem = Local.whole-mem 𝓤 H A W (Declared'.row Rect.the-type);
 }) (List._∷_ (Array.pArr (Array.eInt Syntax.w8) (Array.eInt-laws Syntax.w8) 36)
     (List._∷_ (MutSlice.pMutS (Referent.rtF (Referent.fInt Syntax.w16)) 1 tt) (List._∷_ (MutSlice.pMutS (Referent.rtF (Referent.fInt Syntax.w16)) 2 tt) (List._∷_ (MutSlice.pMutS (Element.type) 3 tt)
-    List.[]))))))
+    (List._∷_ Bool.pBool List.[])))))))
 
 abbrev pub r : Kinds.RK 4
 r = Value.rVal record {
@@ -365,7 +366,7 @@ ps·6 = List._∷_ (ShrSlice.pShrS (Referent.rtF (Referent.fInt Syntax.w8)) 0 tt
       in-mem =
           Local.mem-whole 𝓤 H A W (Declared'.row Part.the-type);
       of-mem = Local.whole-mem 𝓤 H A W (Declared'.row Part.the-type);
-    }) (List._∷_ (Num.pNum Syntax.w64) List.[])))))))))
+    }) (List._∷_ (Num.pNum Syntax.w64) (List._∷_ Bool.pBool List.[]))))))))))
 
 abbrev pub r·6 : Kinds.RK 6
 r·6 = Value.rVal record {
@@ -446,34 +447,34 @@ r·7 = Value.rVal record {
 
 abbrev pub hs : List.List Syntax.Home
 hs = List._∷_ Syntax.valueLocal (List._∷_ Syntax.valueLocal (List._∷_ Syntax.valueLocal (List._∷_ Syntax.valueLocal (List._∷_ Syntax.valueLocal (List._∷_ Syntax.valueLocal (List._∷_ Syntax.valueLocal
-    (List._∷_ Syntax.valueLocal (List._∷_ Syntax.valueLocal (List._∷_ Syntax.valueLocal (List._∷_ Syntax.valueLocal (List._∷_ Syntax.memorySlot (List._∷_ Syntax.valueLocal (List._∷_ Syntax.valueLocal
+    (List._∷_ Syntax.valueLocal (List._∷_ Syntax.valueLocal (List._∷_ Syntax.valueLocal (List._∷_ Syntax.valueLocal (List._∷_ Syntax.valueLocal (List._∷_ Syntax.memorySlot (List._∷_ Syntax.valueLocal
     (List._∷_ Syntax.valueLocal (List._∷_ Syntax.valueLocal (List._∷_ Syntax.valueLocal (List._∷_ Syntax.valueLocal (List._∷_ Syntax.valueLocal (List._∷_ Syntax.valueLocal (List._∷_ Syntax.valueLocal
     (List._∷_ Syntax.valueLocal (List._∷_ Syntax.valueLocal (List._∷_ Syntax.valueLocal (List._∷_ Syntax.valueLocal (List._∷_ Syntax.valueLocal (List._∷_ Syntax.valueLocal (List._∷_ Syntax.valueLocal
-    List.[])))))))))))))))))))))))))))
+    (List._∷_ Syntax.valueLocal List.[]))))))))))))))))))))))))))))
 
 abbrev b0 : Syntax.Body
-b0 = Syntax.call "region::span_of" (List._∷_ (Syntax.copy (Syntax.place 3 List.[])) List.[]) (Syntax.place 8 List.[])
+b0 = Syntax.call "region::span_of" (List._∷_ (Syntax.copy (Syntax.place 3 List.[])) List.[]) (Syntax.place 9 List.[])
 
 abbrev b1 : Syntax.Body
-b1 = Syntax.assign (Syntax.place 9 List.[]) (Syntax.rvOpd (Syntax.copy (Syntax.place 8 (List._∷_ (Syntax.field 2) List.[]))))
+b1 = Syntax.assign (Syntax.place 10 List.[]) (Syntax.rvOpd (Syntax.copy (Syntax.place 9 (List._∷_ (Syntax.field 2) List.[]))))
 
 abbrev b2 : Syntax.Body
-b2 = Syntax.assign (Syntax.place 10 List.[]) (Syntax.op2 (Syntax.add Syntax.unsigned) (Syntax.copy (Syntax.place 8 (List._∷_ (Syntax.field 1) List.[]))) (Syntax.int Syntax.w64 1))
+b2 = Syntax.assign (Syntax.place 11 List.[]) (Syntax.op2 (Syntax.add Syntax.unsigned) (Syntax.copy (Syntax.place 9 (List._∷_ (Syntax.field 1) List.[]))) (Syntax.int Syntax.w64 1))
 
 abbrev b3 : Syntax.Body
-b3 = Syntax.call "map::xtrans_places" List.[] (Syntax.place 19 List.[])
+b3 = Syntax.call "map::xtrans_places" List.[] (Syntax.place 20 List.[])
 
 abbrev b4 : Syntax.Body
-b4 = Syntax.assign (Syntax.place 11 List.[]) (Syntax.rvOpd (Syntax.copy (Syntax.place 19 List.[])))
+b4 = Syntax.assign (Syntax.place 12 List.[]) (Syntax.rvOpd (Syntax.copy (Syntax.place 20 List.[])))
 
 abbrev b5 : Syntax.Body
-b5 = Syntax.assign (Syntax.place 12 List.[]) (Syntax.aggregate (List._∷_ (Syntax.int Syntax.w8 0) List.[]))
+b5 = Syntax.assign (Syntax.place 13 List.[]) (Syntax.aggregate (List._∷_ (Syntax.int Syntax.w8 0) List.[]))
 
 abbrev b6 : Syntax.Body
-b6 = Syntax.assign (Syntax.place 13 List.[]) (Syntax.rvOpd (Syntax.copy (Syntax.place 8 (List._∷_ (Syntax.field 0) List.[]))))
+b6 = Syntax.assign (Syntax.place 14 List.[]) (Syntax.rvOpd (Syntax.copy (Syntax.place 9 (List._∷_ (Syntax.field 0) List.[]))))
 
 abbrev b7 : Syntax.Body
-b7 = Syntax.assign (Syntax.place 20 List.[]) (Syntax.op2 (Syntax.lt Syntax.unsigned) (Syntax.copy (Syntax.place 13 List.[])) (Syntax.copy (Syntax.place 10 List.[])))
+b7 = Syntax.assign (Syntax.place 21 List.[]) (Syntax.op2 (Syntax.lt Syntax.unsigned) (Syntax.copy (Syntax.place 14 List.[])) (Syntax.copy (Syntax.place 11 List.[])))
 
 abbrev b8 : Syntax.Body
 b8 = Syntax.skip
@@ -482,55 +483,56 @@ abbrev b9 : Syntax.Body
 b9 = Syntax.exit 1
 
 abbrev b10 : Syntax.Body
-b10 = Syntax.cond (Syntax.copy (Syntax.place 20 List.[])) b8 b9
+b10 = Syntax.cond (Syntax.copy (Syntax.place 21 List.[])) b8 b9
 
 abbrev b11 : Syntax.Body
-b11 = Syntax.call "block::form_of" (List._∷_ (Syntax.copy (Syntax.place 2 List.[])) List.[]) (Syntax.place 14 List.[])
+b11 = Syntax.call "block::form_of" (List._∷_ (Syntax.copy (Syntax.place 2 List.[])) List.[]) (Syntax.place 15 List.[])
 
 abbrev b12 : Syntax.Body
-b12 = Syntax.call "stream::block_bytes" (List._∷_ (Syntax.copy (Syntax.place 1 List.[])) (List._∷_ (Syntax.copy (Syntax.place 13 List.[])) List.[])) (Syntax.place 15 List.[])
+b12 = Syntax.call "stream::block_bytes" (List._∷_ (Syntax.copy (Syntax.place 1 List.[])) (List._∷_ (Syntax.copy (Syntax.place 14 List.[])) List.[])) (Syntax.place 16 List.[])
 
 abbrev b13 : Syntax.Body
-b13 = Syntax.call "stream::base_row" (List._∷_ (Syntax.copy (Syntax.place 1 List.[])) (List._∷_ (Syntax.copy (Syntax.place 13 List.[])) List.[])) (Syntax.place 16 List.[])
+b13 = Syntax.call "stream::base_row" (List._∷_ (Syntax.copy (Syntax.place 1 List.[])) (List._∷_ (Syntax.copy (Syntax.place 14 List.[])) List.[])) (Syntax.place 17 List.[])
 
 abbrev b14 : Syntax.Body
-b14 = Syntax.call "region::part" (List._∷_ (Syntax.copy (Syntax.place 3 List.[])) (List._∷_ (Syntax.copy (Syntax.place 13 List.[])) List.[])) (Syntax.place 17 List.[])
+b14 = Syntax.call "region::part" (List._∷_ (Syntax.copy (Syntax.place 3 List.[])) (List._∷_ (Syntax.copy (Syntax.place 14 List.[])) List.[])) (Syntax.place 18 List.[])
 
 abbrev b15 : Syntax.Body
-b15 = Syntax.assign (Syntax.place 21 List.[]) (Syntax.addrOf (Syntax.place 6 (List._∷_ (Syntax.field 0) (List._∷_ (Syntax.deref (Syntax.tyInt Syntax.w16)) List.[]))))
+b15 = Syntax.assign (Syntax.place 22 List.[]) (Syntax.addrOf (Syntax.place 6 (List._∷_ (Syntax.field 0) (List._∷_ (Syntax.deref (Syntax.tyInt Syntax.w16)) List.[]))))
 
 abbrev b16 : Syntax.Body
-b16 = Syntax.assign (Syntax.place 22 List.[]) (Syntax.aggregate (List._∷_ (Syntax.copy (Syntax.place 21 List.[])) (List._∷_ (Syntax.copy (Syntax.place 6 (List._∷_ (Syntax.field 1) List.[])))
+b16 = Syntax.assign (Syntax.place 23 List.[]) (Syntax.aggregate (List._∷_ (Syntax.copy (Syntax.place 22 List.[])) (List._∷_ (Syntax.copy (Syntax.place 6 (List._∷_ (Syntax.field 1) List.[])))
     List.[])))
 
 abbrev b17 : Syntax.Body
-b17 = Syntax.assign (Syntax.place 23 List.[]) (Syntax.addrOf (Syntax.place 7 (List._∷_ (Syntax.field 0) (List._∷_ (Syntax.deref (Element.held)) List.[]))))
+b17 = Syntax.assign (Syntax.place 24 List.[]) (Syntax.addrOf (Syntax.place 7 (List._∷_ (Syntax.field 0) (List._∷_ (Syntax.deref (Element.held)) List.[]))))
 
 abbrev b18 : Syntax.Body
-b18 = Syntax.assign (Syntax.place 24 List.[]) (Syntax.aggregate (List._∷_ (Syntax.copy (Syntax.place 23 List.[])) (List._∷_ (Syntax.copy (Syntax.place 7 (List._∷_ (Syntax.field 1) List.[])))
+b18 = Syntax.assign (Syntax.place 25 List.[]) (Syntax.aggregate (List._∷_ (Syntax.copy (Syntax.place 24 List.[])) (List._∷_ (Syntax.copy (Syntax.place 7 (List._∷_ (Syntax.field 1) List.[])))
     List.[])))
 
 abbrev b19 : Syntax.Body
-b19 = Syntax.assign (Syntax.place 25 List.[]) (Syntax.addrOf (Syntax.place 5 (List._∷_ (Syntax.field 0) (List._∷_ (Syntax.deref (Syntax.tyInt Syntax.w16)) List.[]))))
+b19 = Syntax.assign (Syntax.place 26 List.[]) (Syntax.addrOf (Syntax.place 5 (List._∷_ (Syntax.field 0) (List._∷_ (Syntax.deref (Syntax.tyInt Syntax.w16)) List.[]))))
 
 abbrev b20 : Syntax.Body
-b20 = Syntax.assign (Syntax.place 26 List.[]) (Syntax.aggregate (List._∷_ (Syntax.copy (Syntax.place 25 List.[])) (List._∷_ (Syntax.copy (Syntax.place 5 (List._∷_ (Syntax.field 1) List.[])))
+b20 = Syntax.assign (Syntax.place 27 List.[]) (Syntax.aggregate (List._∷_ (Syntax.copy (Syntax.place 26 List.[])) (List._∷_ (Syntax.copy (Syntax.place 5 (List._∷_ (Syntax.field 1) List.[])))
     List.[])))
 
 abbrev b21 : Syntax.Body
-b21 = Syntax.assign (Syntax.place 27 List.[]) (Syntax.addrOf (Syntax.place 11 List.[]))
+b21 = Syntax.assign (Syntax.place 28 List.[]) (Syntax.addrOf (Syntax.place 12 List.[]))
 
 abbrev b22 : Syntax.Body
-b22 = Syntax.call "block::reading::walk" (List._∷_ (Syntax.copy (Syntax.place 15 List.[])) (List._∷_ (Syntax.copy (Syntax.place 16 List.[])) (List._∷_ (Syntax.copy (Syntax.place 22 List.[])) (List._∷_
-    (Syntax.copy (Syntax.place 24 List.[])) (List._∷_ (Syntax.copy (Syntax.place 26 List.[])) (List._∷_ (Syntax.copy (Syntax.place 14 List.[])) (List._∷_ (Syntax.copy (Syntax.place 27 List.[])) (List._∷_
-    (Syntax.copy (Syntax.place 4 List.[])) (List._∷_ (Syntax.copy (Syntax.place 17 List.[])) (List._∷_ (Syntax.copy (Syntax.place 9 List.[])) List.[])))))))))) (Syntax.place 18 List.[])
+b22 = Syntax.call "block::reading::walk" (List._∷_ (Syntax.copy (Syntax.place 16 List.[])) (List._∷_ (Syntax.copy (Syntax.place 17 List.[])) (List._∷_ (Syntax.copy (Syntax.place 23 List.[])) (List._∷_
+    (Syntax.copy (Syntax.place 25 List.[])) (List._∷_ (Syntax.copy (Syntax.place 27 List.[])) (List._∷_ (Syntax.copy (Syntax.place 15 List.[])) (List._∷_ (Syntax.copy (Syntax.place 28 List.[])) (List._∷_
+    (Syntax.copy (Syntax.place 4 List.[])) (List._∷_ (Syntax.copy (Syntax.place 18 List.[])) (List._∷_ (Syntax.copy (Syntax.place 10 List.[])) (List._∷_ (Syntax.copy (Syntax.place 8 List.[]))
+    List.[]))))))))))) (Syntax.place 19 List.[])
 
 abbrev b23 : Syntax.Body
-b23 = Syntax.call "block::decoding::judged" (List._∷_ (Syntax.copy (Syntax.place 12 List.[])) (List._∷_ (Syntax.copy (Syntax.place 13 List.[])) (List._∷_ (Syntax.copy (Syntax.place 18 List.[]))
-    List.[]))) (Syntax.place 12 List.[])
+b23 = Syntax.call "block::decoding::judged" (List._∷_ (Syntax.copy (Syntax.place 13 List.[])) (List._∷_ (Syntax.copy (Syntax.place 14 List.[])) (List._∷_ (Syntax.copy (Syntax.place 19 List.[]))
+    List.[]))) (Syntax.place 13 List.[])
 
 abbrev b24 : Syntax.Body
-b24 = Syntax.assign (Syntax.place 13 List.[]) (Syntax.op2 (Syntax.add Syntax.unsigned) (Syntax.copy (Syntax.place 13 List.[])) (Syntax.int Syntax.w64 1))
+b24 = Syntax.assign (Syntax.place 14 List.[]) (Syntax.op2 (Syntax.add Syntax.unsigned) (Syntax.copy (Syntax.place 14 List.[])) (Syntax.int Syntax.w64 1))
 
 abbrev b25 : Syntax.Body
 b25 = Syntax.seq b23 b24
@@ -584,7 +586,7 @@ abbrev b41 : Syntax.Body
 b41 = Syntax.block b40
 
 abbrev b42 : Syntax.Body
-b42 = Syntax.assign (Syntax.place 0 List.[]) (Syntax.rvOpd (Syntax.copy (Syntax.place 12 List.[])))
+b42 = Syntax.assign (Syntax.place 0 List.[]) (Syntax.rvOpd (Syntax.copy (Syntax.place 13 List.[])))
 
 abbrev b43 : Syntax.Body
 b43 = Syntax.return
@@ -649,17 +651,23 @@ abbrev pub e4 : Row.Entry
 e4 = (10, Rows'.sc-here (Row.sInt Syntax.w64))
 
 abbrev pub e5 : Row.Entry
-e5 = (11, Rows'.any-gone (Syntax.tyArray (Syntax.tyInt Syntax.w16) 768))
+e5 = (11, Rows'.any-gone (Syntax.tyInt Syntax.w64))
 
 abbrev pub e6 : Row.Entry
-e6 = (11, Rows'.sc-shr (Rows.arrF (Referent.rtF (Referent.fInt Syntax.w16)) 768 0) (Array'.Array (Referent.rtF (Referent.fInt Syntax.w16)) 768) (λ x. x) 7)
+e6 = (11, Rows'.sc-here (Row.sInt Syntax.w64))
 
 abbrev pub e7 : Row.Entry
-e7 = (11, Rows.arrF (Referent.rtF (Referent.fInt Syntax.w16)) 768 0)
+e7 = (12, Rows'.any-gone (Syntax.tyArray (Syntax.tyInt Syntax.w16) 768))
 
 abbrev pub e8 : Row.Entry
-e8 = (
-  12,
+e8 = (12, Rows'.sc-shr (Rows.arrF (Referent.rtF (Referent.fInt Syntax.w16)) 768 0) (Array'.Array (Referent.rtF (Referent.fInt Syntax.w16)) 768) (λ x. x) 7)
+
+abbrev pub e9 : Row.Entry
+e9 = (12, Rows.arrF (Referent.rtF (Referent.fInt Syntax.w16)) 768 0)
+
+abbrev pub e10 : Row.Entry
+e10 = (
+  13,
   Rows'.any-gone (Syntax.tyEnum (List._∷_ 98 (List._∷_ 108 (List._∷_ 111 (List._∷_ 99 (List._∷_ 107 (List._∷_ 58 (List._∷_ 58 (List._∷_ 68 (List._∷_ 101 (List._∷_ 99 (List._∷_ 111 (List._∷_ 100
       (List._∷_ 101 (List._∷_ 100 List.[])))))))))))))) (Syntax.ttcons Syntax.tnil (Syntax.ttcons (Syntax.tcons (Syntax.tyEnum (List._∷_ 115 (List._∷_ 116 (List._∷_ 114 (List._∷_ 101 (List._∷_ 97 (List._∷_
       109 (List._∷_ 58 (List._∷_ 58 (List._∷_ 82 (List._∷_ 101 (List._∷_ 102 (List._∷_ 117 (List._∷_ 115 (List._∷_ 97 (List._∷_ 108 List.[]))))))))))))))) (Syntax.ttcons Syntax.tnil (Syntax.ttcons
@@ -670,26 +678,20 @@ e8 = (
       (Syntax.tyInt Syntax.w64) Syntax.tnil) (Syntax.ttcons (Syntax.tcons (Syntax.tyInt Syntax.w64) Syntax.tnil) (Syntax.ttcons Syntax.tnil Syntax.ttnil)))))))))))))))))))))) Syntax.tnil) Syntax.ttnil))),
 )
 
-abbrev pub e9 : Row.Entry
-e9 = (12, Rows'.whole (Declared.row Decoded.the-type))
-
-abbrev pub e10 : Row.Entry
-e10 = (13, Rows'.any-gone (Syntax.tyInt Syntax.w64))
-
 abbrev pub e11 : Row.Entry
-e11 = (13, Rows'.sc-here (Row.sInt Syntax.w64))
+e11 = (13, Rows'.whole (Declared.row Decoded.the-type))
 
 abbrev pub e12 : Row.Entry
-e12 = (14, Rows'.any-gone y8)
+e12 = (14, Rows'.any-gone (Syntax.tyInt Syntax.w64))
 
 abbrev pub e13 : Row.Entry
-e13 = (14, Rows'.whole (Declared'.row Form.the-type))
+e13 = (14, Rows'.sc-here (Row.sInt Syntax.w64))
 
 abbrev pub e14 : Row.Entry
-e14 = (15, Rows'.any-gone y5)
+e14 = (15, Rows'.any-gone y8)
 
 abbrev pub e15 : Row.Entry
-e15 = (15, Rows'.sslice (Referent.rtF (Referent.fInt Syntax.w8)) (Syntax.tyRef Syntax.erased Syntax.imm (Syntax.tyInt Syntax.w8)) 0)
+e15 = (15, Rows'.whole (Declared'.row Form.the-type))
 
 abbrev pub e16 : Row.Entry
 e16 = (16, Rows'.any-gone y5)
@@ -698,290 +700,311 @@ abbrev pub e17 : Row.Entry
 e17 = (16, Rows'.sslice (Referent.rtF (Referent.fInt Syntax.w8)) (Syntax.tyRef Syntax.erased Syntax.imm (Syntax.tyInt Syntax.w8)) 0)
 
 abbrev pub e18 : Row.Entry
-e18 = (17, Rows'.any-gone y0)
+e18 = (17, Rows'.any-gone y5)
 
 abbrev pub e19 : Row.Entry
-e19 = (17, Rows'.whole (Declared'.row Part.the-type))
+e19 = (17, Rows'.sslice (Referent.rtF (Referent.fInt Syntax.w8)) (Syntax.tyRef Syntax.erased Syntax.imm (Syntax.tyInt Syntax.w8)) 0)
 
 abbrev pub e20 : Row.Entry
-e20 = (
-  18,
+e20 = (18, Rows'.any-gone y0)
+
+abbrev pub e21 : Row.Entry
+e21 = (18, Rows'.whole (Declared'.row Part.the-type))
+
+abbrev pub e22 : Row.Entry
+e22 = (
+  19,
   Rows'.any-gone (Syntax.tyEnum (List._∷_ 98 (List._∷_ 108 (List._∷_ 111 (List._∷_ 99 (List._∷_ 107 (List._∷_ 58 (List._∷_ 58 (List._∷_ 87 (List._∷_ 97 (List._∷_ 108 (List._∷_ 107 (List._∷_ 101
       (List._∷_ 100 List.[]))))))))))))) (Syntax.ttcons (Syntax.tcons y4 (Syntax.tcons y9 Syntax.tnil)) (Syntax.ttcons (Syntax.tcons (Syntax.tyInt Syntax.w64) (Syntax.tcons y4 Syntax.tnil)) Syntax.ttnil))),
 )
 
-abbrev pub e21 : Row.Entry
-e21 = (18, Rows'.whole (Declared.row Walked.the-type))
-
-abbrev pub e22 : Row.Entry
-e22 = (19, Rows'.any-gone (Syntax.tyArray (Syntax.tyInt Syntax.w16) 768))
-
 abbrev pub e23 : Row.Entry
-e23 = (2, Rows'.any-gone y3)
+e23 = (19, Rows'.whole (Declared.row Walked.the-type))
 
 abbrev pub e24 : Row.Entry
-e24 = (2, Rows'.whole (Declared'.row FujiHeader.the-type))
+e24 = (2, Rows'.any-gone y3)
 
 abbrev pub e25 : Row.Entry
-e25 = (20, Rows'.any-gone Syntax.tyBool)
+e25 = (2, Rows'.whole (Declared'.row FujiHeader.the-type))
 
 abbrev pub e26 : Row.Entry
-e26 = (21, Rows'.any-gone (Syntax.tyRef Syntax.erased Syntax.mut (Syntax.tyInt Syntax.w16)))
+e26 = (20, Rows'.any-gone (Syntax.tyArray (Syntax.tyInt Syntax.w16) 768))
 
 abbrev pub e27 : Row.Entry
-e27 = (22, Mut.msleft (Referent.rtF (Referent.fInt Syntax.w16)) (Syntax.tyRef Syntax.erased Syntax.mut (Syntax.tyInt Syntax.w16)))
+e27 = (21, Rows'.any-gone Syntax.tyBool)
 
 abbrev pub e28 : Row.Entry
-e28 = (22, Mut.mslice (Referent.rtF (Referent.fInt Syntax.w16)) (Syntax.tyRef Syntax.erased Syntax.mut (Syntax.tyInt Syntax.w16)) 4)
+e28 = (22, Rows'.any-gone (Syntax.tyRef Syntax.erased Syntax.mut (Syntax.tyInt Syntax.w16)))
 
 abbrev pub e29 : Row.Entry
-e29 = (22, Rows'.any-gone y6)
+e29 = (23, Mut.msleft (Referent.rtF (Referent.fInt Syntax.w16)) (Syntax.tyRef Syntax.erased Syntax.mut (Syntax.tyInt Syntax.w16)))
 
 abbrev pub e30 : Row.Entry
-e30 = (23, Rows'.any-gone (Syntax.tyRef Syntax.erased Syntax.mut Element.behind))
+e30 = (23, Mut.mslice (Referent.rtF (Referent.fInt Syntax.w16)) (Syntax.tyRef Syntax.erased Syntax.mut (Syntax.tyInt Syntax.w16)) 4)
 
 abbrev pub e31 : Row.Entry
-e31 = (24, Mut.msleft (Element.type) (Syntax.tyRef Syntax.erased Syntax.mut Element.behind))
+e31 = (23, Rows'.any-gone y6)
 
 abbrev pub e32 : Row.Entry
-e32 = (24, Mut.mslice (Element.type) (Syntax.tyRef Syntax.erased Syntax.mut Element.behind) 5)
+e32 = (24, Rows'.any-gone (Syntax.tyRef Syntax.erased Syntax.mut Element.behind))
 
 abbrev pub e33 : Row.Entry
-e33 = (24, Rows'.any-gone y7)
+e33 = (25, Mut.msleft (Element.type) (Syntax.tyRef Syntax.erased Syntax.mut Element.behind))
 
 abbrev pub e34 : Row.Entry
-e34 = (25, Rows'.any-gone (Syntax.tyRef Syntax.erased Syntax.mut (Syntax.tyInt Syntax.w16)))
+e34 = (25, Mut.mslice (Element.type) (Syntax.tyRef Syntax.erased Syntax.mut Element.behind) 5)
 
 abbrev pub e35 : Row.Entry
-e35 = (26, Mut.msleft (Referent.rtF (Referent.fInt Syntax.w16)) (Syntax.tyRef Syntax.erased Syntax.mut (Syntax.tyInt Syntax.w16)))
+e35 = (25, Rows'.any-gone y7)
 
 abbrev pub e36 : Row.Entry
-e36 = (26, Mut.mslice (Referent.rtF (Referent.fInt Syntax.w16)) (Syntax.tyRef Syntax.erased Syntax.mut (Syntax.tyInt Syntax.w16)) 6)
+e36 = (26, Rows'.any-gone (Syntax.tyRef Syntax.erased Syntax.mut (Syntax.tyInt Syntax.w16)))
 
 abbrev pub e37 : Row.Entry
-e37 = (26, Rows'.any-gone y6)
+e37 = (27, Mut.msleft (Referent.rtF (Referent.fInt Syntax.w16)) (Syntax.tyRef Syntax.erased Syntax.mut (Syntax.tyInt Syntax.w16)))
 
 abbrev pub e38 : Row.Entry
-e38 = (27, Rows'.any-gone (Syntax.tyRef Syntax.erased Syntax.imm (Syntax.tyArray (Syntax.tyInt Syntax.w16) 768)))
+e38 = (27, Mut.mslice (Referent.rtF (Referent.fInt Syntax.w16)) (Syntax.tyRef Syntax.erased Syntax.mut (Syntax.tyInt Syntax.w16)) 6)
 
 abbrev pub e39 : Row.Entry
-e39 = (27, Rows'.sref (Array'.Array (Referent.rtF (Referent.fInt Syntax.w16)) 768) (Syntax.tyRef Syntax.erased Syntax.imm (Syntax.tyArray (Syntax.tyInt Syntax.w16) 768)) 7)
+e39 = (27, Rows'.any-gone y6)
 
 abbrev pub e40 : Row.Entry
-e40 = (3, Rows'.any-gone y1)
+e40 = (28, Rows'.any-gone (Syntax.tyRef Syntax.erased Syntax.imm (Syntax.tyArray (Syntax.tyInt Syntax.w16) 768)))
 
 abbrev pub e41 : Row.Entry
-e41 = (3, Rows'.whole (Declared'.row Rect.the-type))
+e41 = (28, Rows'.sref (Array'.Array (Referent.rtF (Referent.fInt Syntax.w16)) 768) (Syntax.tyRef Syntax.erased Syntax.imm (Syntax.tyArray (Syntax.tyInt Syntax.w16) 768)) 7)
 
 abbrev pub e42 : Row.Entry
-e42 = (4, Rows'.any-gone (Syntax.tyArray (Syntax.tyInt Syntax.w8) 36))
+e42 = (3, Rows'.any-gone y1)
 
 abbrev pub e43 : Row.Entry
-e43 = (4, Rows.arrF (Referent.rtF (Referent.fInt Syntax.w8)) 36 0)
+e43 = (3, Rows'.whole (Declared'.row Rect.the-type))
 
 abbrev pub e44 : Row.Entry
-e44 = (5, Mut.mslice (Referent.rtF (Referent.fInt Syntax.w16)) (Syntax.tyRef (Syntax.named 1) Syntax.mut (Syntax.tyInt Syntax.w16)) 1)
+e44 = (4, Rows'.any-gone (Syntax.tyArray (Syntax.tyInt Syntax.w8) 36))
 
 abbrev pub e45 : Row.Entry
-e45 = (5, Relend.mslice-owed (Referent.rtF (Referent.fInt Syntax.w16)) (Syntax.tyRef (Syntax.named 1) Syntax.mut (Syntax.tyInt Syntax.w16)) 1 6 Row.off)
+e45 = (4, Rows.arrF (Referent.rtF (Referent.fInt Syntax.w8)) 36 0)
 
 abbrev pub e46 : Row.Entry
-e46 = (6, Mut.mslice (Referent.rtF (Referent.fInt Syntax.w16)) (Syntax.tyRef (Syntax.named 2) Syntax.mut (Syntax.tyInt Syntax.w16)) 2)
+e46 = (5, Mut.mslice (Referent.rtF (Referent.fInt Syntax.w16)) (Syntax.tyRef (Syntax.named 1) Syntax.mut (Syntax.tyInt Syntax.w16)) 1)
 
 abbrev pub e47 : Row.Entry
-e47 = (6, Relend.mslice-owed (Referent.rtF (Referent.fInt Syntax.w16)) (Syntax.tyRef (Syntax.named 2) Syntax.mut (Syntax.tyInt Syntax.w16)) 2 4 Row.off)
+e47 = (5, Relend.mslice-owed (Referent.rtF (Referent.fInt Syntax.w16)) (Syntax.tyRef (Syntax.named 1) Syntax.mut (Syntax.tyInt Syntax.w16)) 1 6 Row.off)
 
 abbrev pub e48 : Row.Entry
-e48 = (7, Mut.mslice (Element.type) (Syntax.tyRef (Syntax.named 3) Syntax.mut Element.behind) 3)
+e48 = (6, Mut.mslice (Referent.rtF (Referent.fInt Syntax.w16)) (Syntax.tyRef (Syntax.named 2) Syntax.mut (Syntax.tyInt Syntax.w16)) 2)
 
 abbrev pub e49 : Row.Entry
-e49 = (7, Relend.mslice-owed (Element.type) (Syntax.tyRef (Syntax.named 3) Syntax.mut Element.behind) 3 5 Row.off)
+e49 = (6, Relend.mslice-owed (Referent.rtF (Referent.fInt Syntax.w16)) (Syntax.tyRef (Syntax.named 2) Syntax.mut (Syntax.tyInt Syntax.w16)) 2 4 Row.off)
 
 abbrev pub e50 : Row.Entry
-e50 = (8, Rows'.any-gone y2)
+e50 = (7, Mut.mslice (Element.type) (Syntax.tyRef (Syntax.named 3) Syntax.mut Element.behind) 3)
 
 abbrev pub e51 : Row.Entry
-e51 = (8, Rows'.whole (Declared'.row Span.the-type))
+e51 = (7, Relend.mslice-owed (Element.type) (Syntax.tyRef (Syntax.named 3) Syntax.mut Element.behind) 3 5 Row.off)
 
 abbrev pub e52 : Row.Entry
-e52 = (9, Rows'.any-gone (Syntax.tyInt Syntax.w64))
+e52 = (8, Rows'.sc-here Row.sBool)
 
 abbrev pub e53 : Row.Entry
-e53 = (9, Rows'.sc-here (Row.sInt Syntax.w64))
+e53 = (9, Rows'.any-gone y2)
+
+abbrev pub e54 : Row.Entry
+e54 = (9, Rows'.whole (Declared'.row Span.the-type))
 
 abbrev pub t0 : List.List Row.Entry
-t0 = List._∷_ e0 (List._∷_ e2 (List._∷_ e24 (List._∷_ e41 (List._∷_ e43 (List._∷_ e44 (List._∷_ e46 (List._∷_ e48 (List._∷_ e50 (List._∷_ e52 (List._∷_ e3 (List._∷_ e5 (List._∷_ e8 (List._∷_ e10
+t0 = List._∷_ e0 (List._∷_ e2 (List._∷_ e25 (List._∷_ e43 (List._∷_ e45 (List._∷_ e46 (List._∷_ e48 (List._∷_ e50 (List._∷_ e52 (List._∷_ e53 (List._∷_ e3 (List._∷_ e5 (List._∷_ e7 (List._∷_ e10
     (List._∷_ e12 (List._∷_ e14 List.[])))))))))))))))
 
 abbrev pub t1 : List.List Row.Entry
-t1 = List._∷_ e16 (List._∷_ e18 (List._∷_ e20 (List._∷_ e22 (List._∷_ e25 (List._∷_ e26 (List._∷_ e29 (List._∷_ e30 (List._∷_ e33 (List._∷_ e34 (List._∷_ e37 (List._∷_ e38 List.[])))))))))))
+t1 = List._∷_ e16 (List._∷_ e18 (List._∷_ e20 (List._∷_ e22 (List._∷_ e26 (List._∷_ e27 (List._∷_ e28 (List._∷_ e31 (List._∷_ e32 (List._∷_ e35 (List._∷_ e36 (List._∷_ e39 (List._∷_ e40
+    List.[]))))))))))))
 
 abbrev pub t2 : List.List Row.Entry
-t2 = List._∷_ e1 (List._∷_ e2 (List._∷_ e23 (List._∷_ e40 (List._∷_ e42 (List._∷_ e44 (List._∷_ e46 (List._∷_ e48 (List._∷_ e50 (List._∷_ e52 (List._∷_ e3 (List._∷_ e5 (List._∷_ e8 (List._∷_ e10
-    (List._∷_ e12 (List._∷_ e14 List.[])))))))))))))))
+t2 = List._∷_ e1 (List._∷_ e2 (List._∷_ e24 (List._∷_ e42 (List._∷_ e44 (List._∷_ e46 (List._∷_ e48 (List._∷_ e50 (List._∷_ (8, Rows'.any-gone Syntax.tyBool) (List._∷_ e53 (List._∷_ e3 (List._∷_ e5
+    (List._∷_ e7 (List._∷_ e10 (List._∷_ e12 (List._∷_ e14 List.[])))))))))))))))
 
 abbrev pub t3 : List.List Row.Entry
-t3 = List._∷_ e0 (List._∷_ e2 (List._∷_ e24 (List._∷_ e41 (List._∷_ e43 (List._∷_ e44 (List._∷_ e46 (List._∷_ e48 (List._∷_ e51 (List._∷_ e52 (List._∷_ e3 (List._∷_ e5 (List._∷_ e8 (List._∷_ e10
+t3 = List._∷_ e0 (List._∷_ e2 (List._∷_ e25 (List._∷_ e43 (List._∷_ e45 (List._∷_ e46 (List._∷_ e48 (List._∷_ e50 (List._∷_ e52 (List._∷_ e54 (List._∷_ e3 (List._∷_ e5 (List._∷_ e7 (List._∷_ e10
     (List._∷_ e12 (List._∷_ e14 List.[])))))))))))))))
 
 abbrev pub t4 : List.List Row.Entry
-t4 = List._∷_ e0 (List._∷_ e2 (List._∷_ e24 (List._∷_ e41 (List._∷_ e43 (List._∷_ e44 (List._∷_ e46 (List._∷_ e48 (List._∷_ e51 (List._∷_ e53 (List._∷_ e3 (List._∷_ e5 (List._∷_ e8 (List._∷_ e10
+t4 = List._∷_ e0 (List._∷_ e2 (List._∷_ e25 (List._∷_ e43 (List._∷_ e45 (List._∷_ e46 (List._∷_ e48 (List._∷_ e50 (List._∷_ e52 (List._∷_ e54 (List._∷_ e4 (List._∷_ e5 (List._∷_ e7 (List._∷_ e10
     (List._∷_ e12 (List._∷_ e14 List.[])))))))))))))))
 
 abbrev pub t5 : List.List Row.Entry
-t5 = List._∷_ e0 (List._∷_ e2 (List._∷_ e24 (List._∷_ e41 (List._∷_ e43 (List._∷_ e44 (List._∷_ e46 (List._∷_ e48 (List._∷_ e51 (List._∷_ e53 (List._∷_ e4 (List._∷_ e5 (List._∷_ e8 (List._∷_ e10
+t5 = List._∷_ e0 (List._∷_ e2 (List._∷_ e25 (List._∷_ e43 (List._∷_ e45 (List._∷_ e46 (List._∷_ e48 (List._∷_ e50 (List._∷_ e52 (List._∷_ e54 (List._∷_ e4 (List._∷_ e6 (List._∷_ e7 (List._∷_ e10
     (List._∷_ e12 (List._∷_ e14 List.[])))))))))))))))
 
 abbrev pub t6 : List.List Row.Entry
-t6 = List._∷_ e16 (List._∷_ e18 (List._∷_ e20 (List._∷_ (19, Rows.arrF (Referent.rtF (Referent.fInt Syntax.w16)) 768 0) (List._∷_ e25 (List._∷_ e26 (List._∷_ e29 (List._∷_ e30 (List._∷_ e33 (List._∷_
-    e34 (List._∷_ e37 (List._∷_ e38 List.[])))))))))))
+t6 = List._∷_ e16 (List._∷_ e18 (List._∷_ e20 (List._∷_ e22 (List._∷_ (20, Rows.arrF (Referent.rtF (Referent.fInt Syntax.w16)) 768 0) (List._∷_ e27 (List._∷_ e28 (List._∷_ e31 (List._∷_ e32 (List._∷_
+    e35 (List._∷_ e36 (List._∷_ e39 (List._∷_ e40 List.[]))))))))))))
 
 abbrev pub t7 : List.List Row.Entry
-t7 = List._∷_ e0 (List._∷_ e2 (List._∷_ e24 (List._∷_ e41 (List._∷_ e43 (List._∷_ e44 (List._∷_ e46 (List._∷_ e48 (List._∷_ e51 (List._∷_ e53 (List._∷_ e4 (List._∷_ e7 (List._∷_ e8 (List._∷_ e10
+t7 = List._∷_ e0 (List._∷_ e2 (List._∷_ e25 (List._∷_ e43 (List._∷_ e45 (List._∷_ e46 (List._∷_ e48 (List._∷_ e50 (List._∷_ e52 (List._∷_ e54 (List._∷_ e4 (List._∷_ e6 (List._∷_ e9 (List._∷_ e10
     (List._∷_ e12 (List._∷_ e14 List.[])))))))))))))))
 
 abbrev pub t8 : List.List Row.Entry
-t8 = List._∷_ e0 (List._∷_ e2 (List._∷_ e24 (List._∷_ e41 (List._∷_ e43 (List._∷_ e44 (List._∷_ e46 (List._∷_ e48 (List._∷_ e51 (List._∷_ e53 (List._∷_ e4 (List._∷_ e7 (List._∷_ e9 (List._∷_ e10
+t8 = List._∷_ e0 (List._∷_ e2 (List._∷_ e25 (List._∷_ e43 (List._∷_ e45 (List._∷_ e46 (List._∷_ e48 (List._∷_ e50 (List._∷_ e52 (List._∷_ e54 (List._∷_ e4 (List._∷_ e6 (List._∷_ e9 (List._∷_ e11
     (List._∷_ e12 (List._∷_ e14 List.[])))))))))))))))
 
 abbrev pub t9 : List.List Row.Entry
-t9 = List._∷_ e0 (List._∷_ e2 (List._∷_ e24 (List._∷_ e41 (List._∷_ e43 (List._∷_ e44 (List._∷_ e46 (List._∷_ e48 (List._∷_ e51 (List._∷_ e53 (List._∷_ e4 (List._∷_ e7 (List._∷_ e9 (List._∷_ e11
-    (List._∷_ e12 (List._∷_ e14 List.[])))))))))))))))
-
-abbrev pub t10 : List.List Row.Entry
-t10 = List._∷_ e0 (List._∷_ e2 (List._∷_ e23 (List._∷_ e40 (List._∷_ e42 (List._∷_ e44 (List._∷_ e46 (List._∷_ e48 (List._∷_ e50 (List._∷_ e53 (List._∷_ e4 (List._∷_ e5 (List._∷_ e9 (List._∷_ e11
-    (List._∷_ e12 (List._∷_ e14 List.[])))))))))))))))
-
-abbrev pub t11 : List.List Row.Entry
-t11 = List._∷_ e0 (List._∷_ e2 (List._∷_ e24 (List._∷_ e41 (List._∷_ e43 (List._∷_ e44 (List._∷_ e46 (List._∷_ e48 (List._∷_ e50 (List._∷_ e53 (List._∷_ e4 (List._∷_ e7 (List._∷_ e9 (List._∷_ e11
-    (List._∷_ e12 (List._∷_ e14 List.[])))))))))))))))
-
-abbrev pub t12 : List.List Row.Entry
-t12 = List._∷_ e16 (List._∷_ e18 (List._∷_ e20 (List._∷_ e22 (List._∷_ (20, Rows'.sc-here Row.sBool) (List._∷_ e26 (List._∷_ e29 (List._∷_ e30 (List._∷_ e33 (List._∷_ e34 (List._∷_ e37 (List._∷_ e38
-    List.[])))))))))))
-
-abbrev pub t13 : List.List Row.Entry
-t13 = List._∷_ e0 (List._∷_ e2 (List._∷_ e23 (List._∷_ e41 (List._∷_ e43 (List._∷_ e44 (List._∷_ e46 (List._∷_ e48 (List._∷_ e50 (List._∷_ e53 (List._∷_ e4 (List._∷_ e7 (List._∷_ e9 (List._∷_ e11
-    (List._∷_ e12 (List._∷_ e14 List.[])))))))))))))))
-
-abbrev pub t14 : List.List Row.Entry
-t14 = List._∷_ e0 (List._∷_ e2 (List._∷_ e23 (List._∷_ e40 (List._∷_ e43 (List._∷_ e44 (List._∷_ e46 (List._∷_ e48 (List._∷_ e50 (List._∷_ e53 (List._∷_ e4 (List._∷_ e7 (List._∷_ e9 (List._∷_ e11
-    (List._∷_ e12 (List._∷_ e14 List.[])))))))))))))))
-
-abbrev pub t15 : List.List Row.Entry
-t15 = List._∷_ e0 (List._∷_ e2 (List._∷_ e23 (List._∷_ e40 (List._∷_ e42 (List._∷_ e44 (List._∷_ e46 (List._∷_ e48 (List._∷_ e50 (List._∷_ e53 (List._∷_ e4 (List._∷_ e7 (List._∷_ e9 (List._∷_ e11
-    (List._∷_ e12 (List._∷_ e14 List.[])))))))))))))))
-
-abbrev pub t16 : List.List Row.Entry
-t16 = List._∷_ e0 (List._∷_ e2 (List._∷_ e24 (List._∷_ e41 (List._∷_ e43 (List._∷_ e44 (List._∷_ e46 (List._∷_ e48 (List._∷_ e50 (List._∷_ e53 (List._∷_ e4 (List._∷_ e7 (List._∷_ e9 (List._∷_ e11
+t9 = List._∷_ e0 (List._∷_ e2 (List._∷_ e25 (List._∷_ e43 (List._∷_ e45 (List._∷_ e46 (List._∷_ e48 (List._∷_ e50 (List._∷_ e52 (List._∷_ e54 (List._∷_ e4 (List._∷_ e6 (List._∷_ e9 (List._∷_ e11
     (List._∷_ e13 (List._∷_ e14 List.[])))))))))))))))
 
-abbrev pub t17 : List.List Row.Entry
-t17 = List._∷_ e0 (List._∷_ e2 (List._∷_ e24 (List._∷_ e41 (List._∷_ e43 (List._∷_ e44 (List._∷_ e46 (List._∷_ e48 (List._∷_ e50 (List._∷_ e53 (List._∷_ e4 (List._∷_ e7 (List._∷_ e9 (List._∷_ e11
+abbrev pub t10 : List.List Row.Entry
+t10 = List._∷_ e0 (List._∷_ e2 (List._∷_ e24 (List._∷_ e42 (List._∷_ e44 (List._∷_ e46 (List._∷_ e48 (List._∷_ e50 (List._∷_ e52 (List._∷_ e53 (List._∷_ e4 (List._∷_ e6 (List._∷_ e7 (List._∷_ e11
+    (List._∷_ e13 (List._∷_ e14 List.[])))))))))))))))
+
+abbrev pub t11 : List.List Row.Entry
+t11 = List._∷_ e0 (List._∷_ e2 (List._∷_ e25 (List._∷_ e43 (List._∷_ e45 (List._∷_ e46 (List._∷_ e48 (List._∷_ e50 (List._∷_ e52 (List._∷_ e53 (List._∷_ e4 (List._∷_ e6 (List._∷_ e9 (List._∷_ e11
+    (List._∷_ e13 (List._∷_ e14 List.[])))))))))))))))
+
+abbrev pub t12 : List.List Row.Entry
+t12 = List._∷_ e16 (List._∷_ e18 (List._∷_ e20 (List._∷_ e22 (List._∷_ e26 (List._∷_ (21, Rows'.sc-here Row.sBool) (List._∷_ e28 (List._∷_ e31 (List._∷_ e32 (List._∷_ e35 (List._∷_ e36 (List._∷_ e39
+    (List._∷_ e40 List.[]))))))))))))
+
+abbrev pub t13 : List.List Row.Entry
+t13 = List._∷_ e0 (List._∷_ e2 (List._∷_ e24 (List._∷_ e43 (List._∷_ e45 (List._∷_ e46 (List._∷_ e48 (List._∷_ e50 (List._∷_ e52 (List._∷_ e53 (List._∷_ e4 (List._∷_ e6 (List._∷_ e9 (List._∷_ e11
+    (List._∷_ e13 (List._∷_ e14 List.[])))))))))))))))
+
+abbrev pub t14 : List.List Row.Entry
+t14 = List._∷_ e0 (List._∷_ e2 (List._∷_ e24 (List._∷_ e42 (List._∷_ e45 (List._∷_ e46 (List._∷_ e48 (List._∷_ e50 (List._∷_ e52 (List._∷_ e53 (List._∷_ e4 (List._∷_ e6 (List._∷_ e9 (List._∷_ e11
+    (List._∷_ e13 (List._∷_ e14 List.[])))))))))))))))
+
+abbrev pub t15 : List.List Row.Entry
+t15 = List._∷_ e0 (List._∷_ e2 (List._∷_ e24 (List._∷_ e42 (List._∷_ e44 (List._∷_ e46 (List._∷_ e48 (List._∷_ e50 (List._∷_ e52 (List._∷_ e53 (List._∷_ e4 (List._∷_ e6 (List._∷_ e9 (List._∷_ e11
+    (List._∷_ e13 (List._∷_ e14 List.[])))))))))))))))
+
+abbrev pub t16 : List.List Row.Entry
+t16 = List._∷_ e0 (List._∷_ e2 (List._∷_ e25 (List._∷_ e43 (List._∷_ e45 (List._∷_ e46 (List._∷_ e48 (List._∷_ e50 (List._∷_ e52 (List._∷_ e53 (List._∷_ e4 (List._∷_ e6 (List._∷_ e9 (List._∷_ e11
     (List._∷_ e13 (List._∷_ e15 List.[])))))))))))))))
 
+abbrev pub t17 : List.List Row.Entry
+t17 = List._∷_ e17 (List._∷_ e18 (List._∷_ e20 (List._∷_ e22 (List._∷_ e26 (List._∷_ e27 (List._∷_ e28 (List._∷_ e31 (List._∷_ e32 (List._∷_ e35 (List._∷_ e36 (List._∷_ e39 (List._∷_ e40
+    List.[]))))))))))))
+
 abbrev pub t18 : List.List Row.Entry
-t18 = List._∷_ e17 (List._∷_ e18 (List._∷_ e20 (List._∷_ e22 (List._∷_ e25 (List._∷_ e26 (List._∷_ e29 (List._∷_ e30 (List._∷_ e33 (List._∷_ e34 (List._∷_ e37 (List._∷_ e38 List.[])))))))))))
+t18 = List._∷_ e17 (List._∷_ e19 (List._∷_ e20 (List._∷_ e22 (List._∷_ e26 (List._∷_ e27 (List._∷_ e28 (List._∷_ e31 (List._∷_ e32 (List._∷_ e35 (List._∷_ e36 (List._∷_ e39 (List._∷_ e40
+    List.[]))))))))))))
 
 abbrev pub t19 : List.List Row.Entry
-t19 = List._∷_ e17 (List._∷_ e19 (List._∷_ e20 (List._∷_ e22 (List._∷_ e25 (List._∷_ e26 (List._∷_ e29 (List._∷_ e30 (List._∷_ e33 (List._∷_ e34 (List._∷_ e37 (List._∷_ e38 List.[])))))))))))
+t19 = List._∷_ e17 (List._∷_ e19 (List._∷_ e21 (List._∷_ e22 (List._∷_ e26 (List._∷_ e27 (List._∷_ e28 (List._∷_ e31 (List._∷_ e32 (List._∷_ e35 (List._∷_ e36 (List._∷_ e39 (List._∷_ e40
+    List.[]))))))))))))
 
 abbrev pub t20 : List.List Row.Entry
-t20 = List._∷_ e0 (List._∷_ e2 (List._∷_ e24 (List._∷_ e41 (List._∷_ e43 (List._∷_ e44 (List._∷_ e47 (List._∷_ e48 (List._∷_ e50 (List._∷_ e53 (List._∷_ e4 (List._∷_ e7 (List._∷_ e9 (List._∷_ e11
+t20 = List._∷_ e0 (List._∷_ e2 (List._∷_ e25 (List._∷_ e43 (List._∷_ e45 (List._∷_ e46 (List._∷_ e49 (List._∷_ e50 (List._∷_ e52 (List._∷_ e53 (List._∷_ e4 (List._∷_ e6 (List._∷_ e9 (List._∷_ e11
     (List._∷_ e13 (List._∷_ e15 List.[])))))))))))))))
 
 abbrev pub t21 : List.List Row.Entry
-t21 = List._∷_ e17 (List._∷_ e19 (List._∷_ e20 (List._∷_ e22 (List._∷_ e25 (List._∷_
-    (21, Relend.msptr (Referent.rtF (Referent.fInt Syntax.w16)) (Syntax.tyRef Syntax.erased Syntax.mut (Syntax.tyInt Syntax.w16)) 4) (List._∷_ e29 (List._∷_ e30 (List._∷_ e33 (List._∷_ e34 (List._∷_ e37
-    (List._∷_ e38 List.[])))))))))))
+t21 = List._∷_ e17 (List._∷_ e19 (List._∷_ e21 (List._∷_ e22 (List._∷_ e26 (List._∷_ e27 (List._∷_
+    (22, Relend.msptr (Referent.rtF (Referent.fInt Syntax.w16)) (Syntax.tyRef Syntax.erased Syntax.mut (Syntax.tyInt Syntax.w16)) 4) (List._∷_ e31 (List._∷_ e32 (List._∷_ e35 (List._∷_ e36 (List._∷_ e39
+    (List._∷_ e40 List.[]))))))))))))
 
 abbrev pub t22 : List.List Row.Entry
-t22 = List._∷_ e17 (List._∷_ e19 (List._∷_ e20 (List._∷_ e22 (List._∷_ e25 (List._∷_ e26 (List._∷_ e28 (List._∷_ e30 (List._∷_ e33 (List._∷_ e34 (List._∷_ e37 (List._∷_ e38 List.[])))))))))))
+t22 = List._∷_ e17 (List._∷_ e19 (List._∷_ e21 (List._∷_ e22 (List._∷_ e26 (List._∷_ e27 (List._∷_ e28 (List._∷_ e30 (List._∷_ e32 (List._∷_ e35 (List._∷_ e36 (List._∷_ e39 (List._∷_ e40
+    List.[]))))))))))))
 
 abbrev pub t23 : List.List Row.Entry
-t23 = List._∷_ e0 (List._∷_ e2 (List._∷_ e24 (List._∷_ e41 (List._∷_ e43 (List._∷_ e44 (List._∷_ e47 (List._∷_ e49 (List._∷_ e50 (List._∷_ e53 (List._∷_ e4 (List._∷_ e7 (List._∷_ e9 (List._∷_ e11
+t23 = List._∷_ e0 (List._∷_ e2 (List._∷_ e25 (List._∷_ e43 (List._∷_ e45 (List._∷_ e46 (List._∷_ e49 (List._∷_ e51 (List._∷_ e52 (List._∷_ e53 (List._∷_ e4 (List._∷_ e6 (List._∷_ e9 (List._∷_ e11
     (List._∷_ e13 (List._∷_ e15 List.[])))))))))))))))
 
 abbrev pub t24 : List.List Row.Entry
-t24 = List._∷_ e17 (List._∷_ e19 (List._∷_ e20 (List._∷_ e22 (List._∷_ e25 (List._∷_ e26 (List._∷_ e28 (List._∷_
-    (23, Relend.msptr (Element.type) (Syntax.tyRef Syntax.erased Syntax.mut Element.behind) 5) (List._∷_ e33 (List._∷_ e34 (List._∷_ e37 (List._∷_ e38 List.[])))))))))))
+t24 = List._∷_ e17 (List._∷_ e19 (List._∷_ e21 (List._∷_ e22 (List._∷_ e26 (List._∷_ e27 (List._∷_ e28 (List._∷_ e30 (List._∷_
+    (24, Relend.msptr (Element.type) (Syntax.tyRef Syntax.erased Syntax.mut Element.behind) 5) (List._∷_ e35 (List._∷_ e36 (List._∷_ e39 (List._∷_ e40 List.[]))))))))))))
 
 abbrev pub t25 : List.List Row.Entry
-t25 = List._∷_ e17 (List._∷_ e19 (List._∷_ e20 (List._∷_ e22 (List._∷_ e25 (List._∷_ e26 (List._∷_ e28 (List._∷_ e30 (List._∷_ e32 (List._∷_ e34 (List._∷_ e37 (List._∷_ e38 List.[])))))))))))
+t25 = List._∷_ e17 (List._∷_ e19 (List._∷_ e21 (List._∷_ e22 (List._∷_ e26 (List._∷_ e27 (List._∷_ e28 (List._∷_ e30 (List._∷_ e32 (List._∷_ e34 (List._∷_ e36 (List._∷_ e39 (List._∷_ e40
+    List.[]))))))))))))
 
 abbrev pub t26 : List.List Row.Entry
-t26 = List._∷_ e0 (List._∷_ e2 (List._∷_ e24 (List._∷_ e41 (List._∷_ e43 (List._∷_ e45 (List._∷_ e47 (List._∷_ e49 (List._∷_ e50 (List._∷_ e53 (List._∷_ e4 (List._∷_ e7 (List._∷_ e9 (List._∷_ e11
+t26 = List._∷_ e0 (List._∷_ e2 (List._∷_ e25 (List._∷_ e43 (List._∷_ e45 (List._∷_ e47 (List._∷_ e49 (List._∷_ e51 (List._∷_ e52 (List._∷_ e53 (List._∷_ e4 (List._∷_ e6 (List._∷_ e9 (List._∷_ e11
     (List._∷_ e13 (List._∷_ e15 List.[])))))))))))))))
 
 abbrev pub t27 : List.List Row.Entry
-t27 = List._∷_ e17 (List._∷_ e19 (List._∷_ e20 (List._∷_ e22 (List._∷_ e25 (List._∷_ e26 (List._∷_ e28 (List._∷_ e30 (List._∷_ e32 (List._∷_
-    (25, Relend.msptr (Referent.rtF (Referent.fInt Syntax.w16)) (Syntax.tyRef Syntax.erased Syntax.mut (Syntax.tyInt Syntax.w16)) 6) (List._∷_ e37 (List._∷_ e38 List.[])))))))))))
+t27 = List._∷_ e17 (List._∷_ e19 (List._∷_ e21 (List._∷_ e22 (List._∷_ e26 (List._∷_ e27 (List._∷_ e28 (List._∷_ e30 (List._∷_ e32 (List._∷_ e34 (List._∷_
+    (26, Relend.msptr (Referent.rtF (Referent.fInt Syntax.w16)) (Syntax.tyRef Syntax.erased Syntax.mut (Syntax.tyInt Syntax.w16)) 6) (List._∷_ e39 (List._∷_ e40 List.[]))))))))))))
 
 abbrev pub t28 : List.List Row.Entry
-t28 = List._∷_ e17 (List._∷_ e19 (List._∷_ e20 (List._∷_ e22 (List._∷_ e25 (List._∷_ e26 (List._∷_ e28 (List._∷_ e30 (List._∷_ e32 (List._∷_ e34 (List._∷_ e36 (List._∷_ e38 List.[])))))))))))
+t28 = List._∷_ e17 (List._∷_ e19 (List._∷_ e21 (List._∷_ e22 (List._∷_ e26 (List._∷_ e27 (List._∷_ e28 (List._∷_ e30 (List._∷_ e32 (List._∷_ e34 (List._∷_ e36 (List._∷_ e38 (List._∷_ e40
+    List.[]))))))))))))
 
 abbrev pub t29 : List.List Row.Entry
-t29 = List._∷_ e0 (List._∷_ e2 (List._∷_ e24 (List._∷_ e41 (List._∷_ e43 (List._∷_ e45 (List._∷_ e47 (List._∷_ e49 (List._∷_ e50 (List._∷_ e53 (List._∷_ e4 (List._∷_ e6 (List._∷_ e9 (List._∷_ e11
+t29 = List._∷_ e0 (List._∷_ e2 (List._∷_ e25 (List._∷_ e43 (List._∷_ e45 (List._∷_ e47 (List._∷_ e49 (List._∷_ e51 (List._∷_ e52 (List._∷_ e53 (List._∷_ e4 (List._∷_ e6 (List._∷_ e8 (List._∷_ e11
     (List._∷_ e13 (List._∷_ e15 List.[])))))))))))))))
 
 abbrev pub t30 : List.List Row.Entry
-t30 = List._∷_ e17 (List._∷_ e19 (List._∷_ e20 (List._∷_ e22 (List._∷_ e25 (List._∷_ e26 (List._∷_ e28 (List._∷_ e30 (List._∷_ e32 (List._∷_ e34 (List._∷_ e36 (List._∷_ e39 List.[])))))))))))
+t30 = List._∷_ e17 (List._∷_ e19 (List._∷_ e21 (List._∷_ e22 (List._∷_ e26 (List._∷_ e27 (List._∷_ e28 (List._∷_ e30 (List._∷_ e32 (List._∷_ e34 (List._∷_ e36 (List._∷_ e38 (List._∷_ e41
+    List.[]))))))))))))
 
 abbrev pub t31 : List.List Row.Entry
-t31 = List._∷_ e17 (List._∷_ e19 (List._∷_ e21 (List._∷_ e22 (List._∷_ e25 (List._∷_ e26 (List._∷_ e27 (List._∷_ e30 (List._∷_ e31 (List._∷_ e34 (List._∷_ e35 (List._∷_ e39 List.[])))))))))))
+t31 = List._∷_ e17 (List._∷_ e19 (List._∷_ e21 (List._∷_ e23 (List._∷_ e26 (List._∷_ e27 (List._∷_ e28 (List._∷_ e29 (List._∷_ e32 (List._∷_ e33 (List._∷_ e36 (List._∷_ e37 (List._∷_ e41
+    List.[]))))))))))))
 
 abbrev pub t32 : List.List Row.Entry
-t32 = List._∷_ e0 (List._∷_ e2 (List._∷_ e24 (List._∷_ e41 (List._∷_ e43 (List._∷_ e45 (List._∷_ e47 (List._∷_ e49 (List._∷_ e50 (List._∷_ e53 (List._∷_ e4 (List._∷_ e6 (List._∷_ e9 (List._∷_ e11
-    (List._∷_ e13 (List._∷_ e14 List.[])))))))))))))))
+t32 = List._∷_ e16 (List._∷_ e19 (List._∷_ e21 (List._∷_ e23 (List._∷_ e26 (List._∷_ e27 (List._∷_ e28 (List._∷_ e29 (List._∷_ e32 (List._∷_ e33 (List._∷_ e36 (List._∷_ e37 (List._∷_ e41
+    List.[]))))))))))))
 
 abbrev pub t33 : List.List Row.Entry
-t33 = List._∷_ e16 (List._∷_ e19 (List._∷_ e21 (List._∷_ e22 (List._∷_ e25 (List._∷_ e26 (List._∷_ e27 (List._∷_ e30 (List._∷_ e31 (List._∷_ e34 (List._∷_ e35 (List._∷_ e39 List.[])))))))))))
+t33 = List._∷_ e16 (List._∷_ e18 (List._∷_ e21 (List._∷_ e23 (List._∷_ e26 (List._∷_ e27 (List._∷_ e28 (List._∷_ e29 (List._∷_ e32 (List._∷_ e33 (List._∷_ e36 (List._∷_ e37 (List._∷_ e41
+    List.[]))))))))))))
 
 abbrev pub t34 : List.List Row.Entry
-t34 = List._∷_ e16 (List._∷_ e19 (List._∷_ e21 (List._∷_ e22 (List._∷_ e25 (List._∷_ e26 (List._∷_ e27 (List._∷_ e30 (List._∷_ e31 (List._∷_ e34 (List._∷_ e35 (List._∷_ e38 List.[])))))))))))
+t34 = List._∷_ e16 (List._∷_ e18 (List._∷_ e21 (List._∷_ e23 (List._∷_ e26 (List._∷_ e27 (List._∷_ e28 (List._∷_ e29 (List._∷_ e32 (List._∷_ e33 (List._∷_ e36 (List._∷_ e37 (List._∷_ e40
+    List.[]))))))))))))
 
 abbrev pub t35 : List.List Row.Entry
-t35 = List._∷_ e0 (List._∷_ e2 (List._∷_ e24 (List._∷_ e41 (List._∷_ e43 (List._∷_ e45 (List._∷_ e47 (List._∷_ e49 (List._∷_ e50 (List._∷_ e53 (List._∷_ e4 (List._∷_ e6 (List._∷_ e9 (List._∷_ e11
-    (List._∷_ e12 (List._∷_ e14 List.[])))))))))))))))
+t35 = List._∷_ e0 (List._∷_ e2 (List._∷_ e25 (List._∷_ e43 (List._∷_ e45 (List._∷_ e47 (List._∷_ e49 (List._∷_ e51 (List._∷_ e52 (List._∷_ e53 (List._∷_ e4 (List._∷_ e6 (List._∷_ e8 (List._∷_ e11
+    (List._∷_ e13 (List._∷_ e14 List.[])))))))))))))))
 
 abbrev pub t36 : List.List Row.Entry
-t36 = List._∷_ e16 (List._∷_ e18 (List._∷_ e21 (List._∷_ e22 (List._∷_ e25 (List._∷_ e26 (List._∷_ e27 (List._∷_ e30 (List._∷_ e31 (List._∷_ e34 (List._∷_ e35 (List._∷_ e38 List.[])))))))))))
+t36 = List._∷_ e16 (List._∷_ e18 (List._∷_ e20 (List._∷_ e23 (List._∷_ e26 (List._∷_ e27 (List._∷_ e28 (List._∷_ e29 (List._∷_ e32 (List._∷_ e33 (List._∷_ e36 (List._∷_ e37 (List._∷_ e40
+    List.[]))))))))))))
 
 abbrev pub t37 : List.List Row.Entry
-t37 = List._∷_ e0 (List._∷_ e2 (List._∷_ e24 (List._∷_ e41 (List._∷_ e43 (List._∷_ e45 (List._∷_ e46 (List._∷_ e49 (List._∷_ e50 (List._∷_ e53 (List._∷_ e4 (List._∷_ e6 (List._∷_ e9 (List._∷_ e11
-    (List._∷_ e12 (List._∷_ e14 List.[])))))))))))))))
+t37 = List._∷_ e0 (List._∷_ e2 (List._∷_ e25 (List._∷_ e43 (List._∷_ e45 (List._∷_ e47 (List._∷_ e48 (List._∷_ e51 (List._∷_ e52 (List._∷_ e53 (List._∷_ e4 (List._∷_ e6 (List._∷_ e8 (List._∷_ e11
+    (List._∷_ e13 (List._∷_ e14 List.[])))))))))))))))
 
 abbrev pub t38 : List.List Row.Entry
-t38 = List._∷_ e16 (List._∷_ e18 (List._∷_ e21 (List._∷_ e22 (List._∷_ e25 (List._∷_ e26 (List._∷_ e29 (List._∷_ e30 (List._∷_ e31 (List._∷_ e34 (List._∷_ e35 (List._∷_ e38 List.[])))))))))))
+t38 = List._∷_ e16 (List._∷_ e18 (List._∷_ e20 (List._∷_ e23 (List._∷_ e26 (List._∷_ e27 (List._∷_ e28 (List._∷_ e31 (List._∷_ e32 (List._∷_ e33 (List._∷_ e36 (List._∷_ e37 (List._∷_ e40
+    List.[]))))))))))))
 
 abbrev pub t39 : List.List Row.Entry
-t39 = List._∷_ e0 (List._∷_ e2 (List._∷_ e24 (List._∷_ e41 (List._∷_ e43 (List._∷_ e45 (List._∷_ e46 (List._∷_ e48 (List._∷_ e50 (List._∷_ e53 (List._∷_ e4 (List._∷_ e6 (List._∷_ e9 (List._∷_ e11
-    (List._∷_ e12 (List._∷_ e14 List.[])))))))))))))))
+t39 = List._∷_ e0 (List._∷_ e2 (List._∷_ e25 (List._∷_ e43 (List._∷_ e45 (List._∷_ e47 (List._∷_ e48 (List._∷_ e50 (List._∷_ e52 (List._∷_ e53 (List._∷_ e4 (List._∷_ e6 (List._∷_ e8 (List._∷_ e11
+    (List._∷_ e13 (List._∷_ e14 List.[])))))))))))))))
 
 abbrev pub t40 : List.List Row.Entry
-t40 = List._∷_ e16 (List._∷_ e18 (List._∷_ e21 (List._∷_ e22 (List._∷_ e25 (List._∷_ e26 (List._∷_ e29 (List._∷_ e30 (List._∷_ e33 (List._∷_ e34 (List._∷_ e35 (List._∷_ e38 List.[])))))))))))
+t40 = List._∷_ e16 (List._∷_ e18 (List._∷_ e20 (List._∷_ e23 (List._∷_ e26 (List._∷_ e27 (List._∷_ e28 (List._∷_ e31 (List._∷_ e32 (List._∷_ e35 (List._∷_ e36 (List._∷_ e37 (List._∷_ e40
+    List.[]))))))))))))
 
 abbrev pub t41 : List.List Row.Entry
-t41 = List._∷_ e0 (List._∷_ e2 (List._∷_ e24 (List._∷_ e41 (List._∷_ e43 (List._∷_ e44 (List._∷_ e46 (List._∷_ e48 (List._∷_ e50 (List._∷_ e53 (List._∷_ e4 (List._∷_ e6 (List._∷_ e9 (List._∷_ e11
-    (List._∷_ e12 (List._∷_ e14 List.[])))))))))))))))
+t41 = List._∷_ e0 (List._∷_ e2 (List._∷_ e25 (List._∷_ e43 (List._∷_ e45 (List._∷_ e46 (List._∷_ e48 (List._∷_ e50 (List._∷_ e52 (List._∷_ e53 (List._∷_ e4 (List._∷_ e6 (List._∷_ e8 (List._∷_ e11
+    (List._∷_ e13 (List._∷_ e14 List.[])))))))))))))))
 
 abbrev pub t42 : List.List Row.Entry
-t42 = List._∷_ e16 (List._∷_ e18 (List._∷_ e21 (List._∷_ e22 (List._∷_ e25 (List._∷_ e26 (List._∷_ e29 (List._∷_ e30 (List._∷_ e33 (List._∷_ e34 (List._∷_ e37 (List._∷_ e38 List.[])))))))))))
+t42 = List._∷_ e16 (List._∷_ e18 (List._∷_ e20 (List._∷_ e23 (List._∷_ e26 (List._∷_ e27 (List._∷_ e28 (List._∷_ e31 (List._∷_ e32 (List._∷_ e35 (List._∷_ e36 (List._∷_ e39 (List._∷_ e40
+    List.[]))))))))))))
 
 abbrev pub t43 : List.List Row.Entry
-t43 = List._∷_ e1 (List._∷_ e2 (List._∷_ e23 (List._∷_ e40 (List._∷_ e42 (List._∷_ e44 (List._∷_ e46 (List._∷_ e48 (List._∷_ e50 (List._∷_ e53 (List._∷_ e4 (List._∷_ e5 (List._∷_ e9 (List._∷_ e11
-    (List._∷_ e12 (List._∷_ e14 List.[])))))))))))))))
+t43 = List._∷_ e1 (List._∷_ e2 (List._∷_ e24 (List._∷_ e42 (List._∷_ e44 (List._∷_ e46 (List._∷_ e48 (List._∷_ e50 (List._∷_ e52 (List._∷_ e53 (List._∷_ e4 (List._∷_ e6 (List._∷_ e7 (List._∷_ e11
+    (List._∷_ e13 (List._∷_ e14 List.[])))))))))))))))
 
 abbrev pub t44 : List.List Row.Entry
-t44 = List._∷_ e1 (List._∷_ e2 (List._∷_ e23 (List._∷_ e40 (List._∷_ e42 (List._∷_ e44 (List._∷_ e46 (List._∷_ e48 (List._∷_ e50 (List._∷_ e52 (List._∷_ e4 (List._∷_ e5 (List._∷_ e9 (List._∷_ e11
-    (List._∷_ e12 (List._∷_ e14 List.[])))))))))))))))
+t44 = List._∷_ e1 (List._∷_ e2 (List._∷_ e24 (List._∷_ e42 (List._∷_ e44 (List._∷_ e46 (List._∷_ e48 (List._∷_ e50 (List._∷_ e52 (List._∷_ e53 (List._∷_ e3 (List._∷_ e6 (List._∷_ e7 (List._∷_ e11
+    (List._∷_ e13 (List._∷_ e14 List.[])))))))))))))))
 
 abbrev pub t45 : List.List Row.Entry
-t45 = List._∷_ e1 (List._∷_ e2 (List._∷_ e23 (List._∷_ e40 (List._∷_ e42 (List._∷_ e44 (List._∷_ e46 (List._∷_ e48 (List._∷_ e50 (List._∷_ e52 (List._∷_ e3 (List._∷_ e5 (List._∷_ e9 (List._∷_ e11
-    (List._∷_ e12 (List._∷_ e14 List.[])))))))))))))))
+t45 = List._∷_ e1 (List._∷_ e2 (List._∷_ e24 (List._∷_ e42 (List._∷_ e44 (List._∷_ e46 (List._∷_ e48 (List._∷_ e50 (List._∷_ e52 (List._∷_ e53 (List._∷_ e3 (List._∷_ e5 (List._∷_ e7 (List._∷_ e11
+    (List._∷_ e13 (List._∷_ e14 List.[])))))))))))))))
 
 abbrev pub t46 : List.List Row.Entry
-t46 = List._∷_ e1 (List._∷_ e2 (List._∷_ e23 (List._∷_ e40 (List._∷_ e42 (List._∷_ e44 (List._∷_ e46 (List._∷_ e48 (List._∷_ e50 (List._∷_ e52 (List._∷_ e3 (List._∷_ e5 (List._∷_ e8 (List._∷_ e11
+t46 = List._∷_ e1 (List._∷_ e2 (List._∷_ e24 (List._∷_ e42 (List._∷_ e44 (List._∷_ e46 (List._∷_ e48 (List._∷_ e50 (List._∷_ e52 (List._∷_ e53 (List._∷_ e3 (List._∷_ e5 (List._∷_ e7 (List._∷_ e10
+    (List._∷_ e13 (List._∷_ e14 List.[])))))))))))))))
+
+abbrev pub t47 : List.List Row.Entry
+t47 = List._∷_ e1 (List._∷_ e2 (List._∷_ e24 (List._∷_ e42 (List._∷_ e44 (List._∷_ e46 (List._∷_ e48 (List._∷_ e50 (List._∷_ e52 (List._∷_ e53 (List._∷_ e3 (List._∷_ e5 (List._∷_ e7 (List._∷_ e10
     (List._∷_ e12 (List._∷_ e14 List.[])))))))))))))))
 
 abbrev pub T0 : Row.Cx
@@ -1060,13 +1083,13 @@ abbrev pub T24 : Row.Cx
 T24 = record { locals = List._++_ t16 t1; slots = List.[] }
 
 abbrev pub T25 : Row.Cx
-T25 = record { locals = List._++_ t17 t1; slots = List.[] }
+T25 = record { locals = List._++_ t16 t17; slots = List.[] }
 
 abbrev pub T26 : Row.Cx
-T26 = record { locals = List._++_ t17 t18; slots = List.[] }
+T26 = record { locals = List._++_ t16 t18; slots = List.[] }
 
 abbrev pub T27 : Row.Cx
-T27 = record { locals = List._++_ t17 t19; slots = List.[] }
+T27 = record { locals = List._++_ t16 t19; slots = List.[] }
 
 abbrev pub T29 : Row.Cx
 T29 = record { locals = List._++_ t20 t21; slots = List.[] }
@@ -1093,13 +1116,13 @@ abbrev pub T39 : Row.Cx
 T39 = record { locals = List._++_ t29 t31; slots = List.[] }
 
 abbrev pub T40 : Row.Cx
-T40 = record { locals = List._++_ t32 t31; slots = List.[] }
+T40 = record { locals = List._++_ t29 t32; slots = List.[] }
 
 abbrev pub T41 : Row.Cx
-T41 = record { locals = List._++_ t32 t33; slots = List.[] }
+T41 = record { locals = List._++_ t29 t33; slots = List.[] }
 
 abbrev pub T42 : Row.Cx
-T42 = record { locals = List._++_ t32 t34; slots = List.[] }
+T42 = record { locals = List._++_ t29 t34; slots = List.[] }
 
 abbrev pub T43 : Row.Cx
 T43 = record { locals = List._++_ t35 t34; slots = List.[] }
@@ -1147,7 +1170,10 @@ abbrev pub T65 : Row.Cx
 T65 = record { locals = List._++_ t46 t1; slots = List.[] }
 
 abbrev pub T66 : Row.Cx
-T66 = record { locals = List._++_ t2 t1; slots = List.[] }
+T66 = record { locals = List._++_ t47 t1; slots = List.[] }
+
+abbrev pub T67 : Row.Cx
+T67 = record { locals = List._++_ t2 t1; slots = List.[] }
 
 abbrev pub O0 : Typed.Outs
 O0 = record { next = Option.none; exits = List.[]; returns = Option.some T1 }
@@ -1167,16 +1193,16 @@ O4 = Typed.withNext (Option.some T17) O3
 abbrev pub InvT-loop : Type 1
 InvT-loop = List.List (Referent.rtF (Referent.fInt Syntax.w8) .Denot) → Rows'.whole (Declared'.row FujiHeader.the-type) .Mod → Rows'.whole (Declared'.row Rect.the-type) .Mod → Rows.arrF (Referent.rtF
     (Referent.fInt Syntax.w8)) 36 0 .Mod → List.List (Referent.rtF (Referent.fInt Syntax.w16) .Denot) → List.List (Referent.rtF (Referent.fInt Syntax.w16) .Denot) → List.List (Element.type .Denot) →
-    Rows'.sc-here (Row.sInt Syntax.w64) .Mod → Rows'.sc-here (Row.sInt Syntax.w64) .Mod → Rows.arrF (Referent.rtF (Referent.fInt Syntax.w16)) 768 0 .Mod → Rows'.whole (Declared.row Decoded.the-type) .Mod
-    → Rows'.sc-here (Row.sInt Syntax.w64) .Mod → List.List (Referent.rtF (Referent.fInt Syntax.w16) .Denot) → List.List (Referent.rtF (Referent.fInt Syntax.w16) .Denot) → List.List (Element.type .Denot) →
-    Rows'.whole (Declared.row Decoded.the-type) .Mod → Rows'.sc-here (Row.sInt Syntax.w64) .Mod → Type 0
+    Rows'.sc-here Row.sBool .Mod → Rows'.sc-here (Row.sInt Syntax.w64) .Mod → Rows'.sc-here (Row.sInt Syntax.w64) .Mod → Rows.arrF (Referent.rtF (Referent.fInt Syntax.w16)) 768 0 .Mod → Rows'.whole
+    (Declared.row Decoded.the-type) .Mod → Rows'.sc-here (Row.sInt Syntax.w64) .Mod → List.List (Referent.rtF (Referent.fInt Syntax.w16) .Denot) → List.List (Referent.rtF (Referent.fInt Syntax.w16)
+    .Denot) → List.List (Element.type .Denot) → Rows'.whole (Declared.row Decoded.the-type) .Mod → Rows'.sc-here (Row.sInt Syntax.w64) .Mod → Type 0
 
 abbrev pub MeasureT-loop : Type 0
 MeasureT-loop = List.List (Referent.rtF (Referent.fInt Syntax.w8) .Denot) → Rows'.whole (Declared'.row FujiHeader.the-type) .Mod → Rows'.whole (Declared'.row Rect.the-type) .Mod → Rows.arrF
     (Referent.rtF (Referent.fInt Syntax.w8)) 36 0 .Mod → List.List (Referent.rtF (Referent.fInt Syntax.w16) .Denot) → List.List (Referent.rtF (Referent.fInt Syntax.w16) .Denot) → List.List (Element.type
-    .Denot) → Rows'.sc-here (Row.sInt Syntax.w64) .Mod → Rows'.sc-here (Row.sInt Syntax.w64) .Mod → Rows.arrF (Referent.rtF (Referent.fInt Syntax.w16)) 768 0 .Mod → Rows'.whole (Declared.row
-    Decoded.the-type) .Mod → Rows'.sc-here (Row.sInt Syntax.w64) .Mod → List.List (Referent.rtF (Referent.fInt Syntax.w16) .Denot) → List.List (Referent.rtF (Referent.fInt Syntax.w16) .Denot) → List.List
-    (Element.type .Denot) → Rows'.whole (Declared.row Decoded.the-type) .Mod → Rows'.sc-here (Row.sInt Syntax.w64) .Mod → Nat.ℕ
+    .Denot) → Rows'.sc-here Row.sBool .Mod → Rows'.sc-here (Row.sInt Syntax.w64) .Mod → Rows'.sc-here (Row.sInt Syntax.w64) .Mod → Rows.arrF (Referent.rtF (Referent.fInt Syntax.w16)) 768 0 .Mod →
+    Rows'.whole (Declared.row Decoded.the-type) .Mod → Rows'.sc-here (Row.sInt Syntax.w64) .Mod → List.List (Referent.rtF (Referent.fInt Syntax.w16) .Denot) → List.List (Referent.rtF (Referent.fInt
+    Syntax.w16) .Denot) → List.List (Element.type .Denot) → Rows'.whole (Declared.row Decoded.the-type) .Mod → Rows'.sc-here (Row.sInt Syntax.w64) .Mod → Nat.ℕ
 
 module _ (claims· : Claims) where
   abbrev s0 : Typed.Gives T0 T2
@@ -1189,45 +1215,45 @@ module _ (claims· : Claims) where
   s2 = Know.k-sl-known (Referent.fInt Syntax.w16) T3 6 2 (Syntax.tyRef (Syntax.named 2) Syntax.mut (Syntax.tyInt Syntax.w16)) Row.off 0 λ x. x
 
   abbrev s3 : Typed.Both T4 T5
-  s3 = Call.callB ps·0 r·0 (claims· .0) (claims· .1) T4 (record { pos = 3; st = List.[]; d = 0; at = λ x. x }, tt) 8 List.[] y2
+  s3 = Call.callB ps·0 r·0 (claims· .0) (claims· .1) T4 (record { pos = 3; st = List.[]; d = 0; at = λ x. x }, tt) 9 List.[] y2
 
   abbrev s4 : Typed.Mo T5 → Typed.Mo T6
-  s4 = Scalar.n-use T5 (Scalar.oFld 8 (List._∷_ (Syntax.field 2) List.[]) (Syntax.tyInt Syntax.w64) 16 (Reads.fieldV Span.the-type Laws'5.the-laws 2)) 9 (Rows'.sc-here (Row.sInt Syntax.w64)) (Row.sInt
-      Syntax.w64 .of)
+  s4 = Scalar.n-use T5 (Scalar.oFld 9 (List._∷_ (Syntax.field 2) List.[]) (Syntax.tyInt Syntax.w64) 16 (Reads.fieldV Span.the-type Laws'5.the-laws 2)) 10 (Rows'.sc-here (Row.sInt Syntax.w64))
+      (Row.sInt Syntax.w64 .of)
 
   abbrev s5 : Typed.Gives T6 T7
-  s5 = Know'.k-struct-known Span.the-type Laws'5.the-laws T6 8 λ x. x
+  s5 = Know'.k-struct-known Span.the-type Laws'5.the-laws T6 9 λ x. x
 
   abbrev s6 : Typed.Asks T7 T8
-  s6 = Scalar.k-op2 T7 (Syntax.add Syntax.unsigned) (Scalar.oFld 8 (List._∷_ (Syntax.field 1) List.[]) (Syntax.tyInt Syntax.w64) 8 (Reads.fieldV Span.the-type Laws'5.the-laws 1)) (Scalar.oInt
-      Syntax.w64 1) 10 (Rows'.sc-here (Row.sInt Syntax.w64)) (Row.sInt Syntax.w64 .of)
+  s6 = Scalar.k-op2 T7 (Syntax.add Syntax.unsigned) (Scalar.oFld 9 (List._∷_ (Syntax.field 1) List.[]) (Syntax.tyInt Syntax.w64) 8 (Reads.fieldV Span.the-type Laws'5.the-laws 1)) (Scalar.oInt
+      Syntax.w64 1) 11 (Rows'.sc-here (Row.sInt Syntax.w64)) (Row.sInt Syntax.w64 .of)
 
   abbrev s7 : Typed.Both T8 T9
-  s7 = Call.callB ps·1 r·1 (claims· .2) (claims· .3) T8 tt 19 List.[] (Syntax.tyArray (Syntax.tyInt Syntax.w16) 768)
+  s7 = Call.callB ps·1 r·1 (claims· .2) (claims· .3) T8 tt 20 List.[] (Syntax.tyArray (Syntax.tyInt Syntax.w16) 768)
 
   abbrev s8 : Typed.Mo T9 → Typed.Mo T10
-  s8 = LocalCopy.n-val-copy T9 19 11 (Array'.Array (Referent.rtF (Referent.fInt Syntax.w16)) 768) (Rows.arrF (Referent.rtF (Referent.fInt Syntax.w16)) 768 0) (Rows.arrF (Referent.rtF (Referent.fInt
+  s8 = LocalCopy.n-val-copy T9 20 12 (Array'.Array (Referent.rtF (Referent.fInt Syntax.w16)) 768) (Rows.arrF (Referent.rtF (Referent.fInt Syntax.w16)) 768 0) (Rows.arrF (Referent.rtF (Referent.fInt
       Syntax.w16)) 768 0) (λ x. x) (λ x. x) λ x. x
 
   abbrev s9 : Typed.Mo T10 → Typed.Mo T11
-  s9 = Scalar.n-room T10 19 (Syntax.tyArray (Syntax.tyInt Syntax.w16) 768)
+  s9 = Scalar.n-room T10 20 (Syntax.tyArray (Syntax.tyInt Syntax.w16) 768)
 
   abbrev s10 : Typed.Mo T11 → Typed.Mo T12
-  s10 = Make.n-enum-make Decoded.the-type T11 12 λ m. Decoded.enum .make (Logic.inl tt)
+  s10 = Make.n-enum-make Decoded.the-type T11 13 λ m. Decoded.enum .make (Logic.inl tt)
 
   abbrev s11 : Typed.Mo T12 → Typed.Mo T13
-  s11 = Scalar.n-use T12 (Scalar.oFld 8 (List._∷_ (Syntax.field 0) List.[]) (Syntax.tyInt Syntax.w64) 0 (Reads.fieldV Span.the-type Laws'5.the-laws 0)) 13 (Rows'.sc-here (Row.sInt Syntax.w64))
+  s11 = Scalar.n-use T12 (Scalar.oFld 9 (List._∷_ (Syntax.field 0) List.[]) (Syntax.tyInt Syntax.w64) 0 (Reads.fieldV Span.the-type Laws'5.the-laws 0)) 14 (Rows'.sc-here (Row.sInt Syntax.w64))
       (Row.sInt Syntax.w64 .of)
 
   abbrev s12 : Typed.Mo T13 → Typed.Mo T15
-  s12 = Scalar.n-room T13 8 y2
+  s12 = Scalar.n-room T13 9 y2
 
   abbrev s13 : Typed.Asks T15 T16
-  s13 = Scalar.k-op2 T15 (Syntax.lt Syntax.unsigned) (Scalar.oAt 13 (Syntax.tyInt Syntax.w64) (Row.valS (Row.sInt Syntax.w64))) (Scalar.oAt 10 (Syntax.tyInt Syntax.w64) (Row.valS (Row.sInt
-      Syntax.w64))) 20 (Rows'.sc-here Row.sBool) (Row.sBool .of)
+  s13 = Scalar.k-op2 T15 (Syntax.lt Syntax.unsigned) (Scalar.oAt 14 (Syntax.tyInt Syntax.w64) (Row.valS (Row.sInt Syntax.w64))) (Scalar.oAt 11 (Syntax.tyInt Syntax.w64) (Row.valS (Row.sInt
+      Syntax.w64))) 21 (Rows'.sc-here Row.sBool) (Row.sBool .of)
 
   abbrev s14 : Typed.Mo T16 → Typed.Mo T18
-  s14 = Scalar.n-room T16 20 Syntax.tyBool
+  s14 = Scalar.n-room T16 21 Syntax.tyBool
 
   abbrev s15 : Typed.Mo T16 → Typed.Mo T19
   s15 = Scalar.n-room T16 2 y3
@@ -1239,115 +1265,115 @@ module _ (claims· : Claims) where
   s17 = Scalar.n-room T20 4 (Syntax.tyArray (Syntax.tyInt Syntax.w8) 36)
 
   abbrev s18 : Typed.Mo T21 → Typed.Mo T22
-  s18 = Scalar.n-room T21 11 (Syntax.tyArray (Syntax.tyInt Syntax.w16) 768)
+  s18 = Scalar.n-room T21 12 (Syntax.tyArray (Syntax.tyInt Syntax.w16) 768)
 
   abbrev s19 : Typed.Mo T22 → Typed.Mo T23
-  s19 = Scalar.n-room T22 20 Syntax.tyBool
+  s19 = Scalar.n-room T22 21 Syntax.tyBool
 
   abbrev s20 : Typed.Both T17 T24
-  s20 = Call.callB ps·2 r·2 (claims· .4) (claims· .5) T17 (record { pos = 2; st = List.[]; d = 0; at = λ x. x }, tt) 14 List.[] y8
+  s20 = Call.callB ps·2 r·2 (claims· .4) (claims· .5) T17 (record { pos = 2; st = List.[]; d = 0; at = λ x. x }, tt) 15 List.[] y8
 
   abbrev s21 : Typed.Both T24 T25
-  s21 = Call.callB ps·3 r·3 (claims· .6) (claims· .7) T24 (record { pos = 1; ty = Syntax.tyRef (Syntax.named 0) Syntax.imm (Syntax.tyInt Syntax.w8); ref = λ x. x }, (Num.vAt 13 λ x. x, tt)) 15
+  s21 = Call.callB ps·3 r·3 (claims· .6) (claims· .7) T24 (record { pos = 1; ty = Syntax.tyRef (Syntax.named 0) Syntax.imm (Syntax.tyInt Syntax.w8); ref = λ x. x }, (Num.vAt 14 λ x. x, tt)) 16
       (List._∷_ 0 List.[]) y5
 
   abbrev s22 : Typed.Both T25 T26
-  s22 = Call.callB ps·4 r·4 (claims· .8) (claims· .9) T25 (record { pos = 1; ty = Syntax.tyRef (Syntax.named 0) Syntax.imm (Syntax.tyInt Syntax.w8); ref = λ x. x }, (Num.vAt 13 λ x. x, tt)) 16
+  s22 = Call.callB ps·4 r·4 (claims· .8) (claims· .9) T25 (record { pos = 1; ty = Syntax.tyRef (Syntax.named 0) Syntax.imm (Syntax.tyInt Syntax.w8); ref = λ x. x }, (Num.vAt 14 λ x. x, tt)) 17
       (List._∷_ 0 List.[]) y5
 
   abbrev s23 : Typed.Both T26 T27
-  s23 = Call.callB ps·5 r·5 (claims· .10) (claims· .11) T26 (record { pos = 3; st = List.[]; d = 0; at = λ x. x }, (Num.vAt 13 λ x. x, tt)) 17 List.[] y0
+  s23 = Call.callB ps·5 r·5 (claims· .10) (claims· .11) T26 (record { pos = 3; st = List.[]; d = 0; at = λ x. x }, (Num.vAt 14 λ x. x, tt)) 18 List.[] y0
 
   abbrev s25 : Typed.Gives T27 T29
-  s25 = Relend.k-sl-relend (Referent.rtF (Referent.fInt Syntax.w16)) T27 6 21 2 4 (Syntax.tyRef (Syntax.named 2) Syntax.mut (Syntax.tyInt Syntax.w16)) (Syntax.tyRef Syntax.erased Syntax.mut
+  s25 = Relend.k-sl-relend (Referent.rtF (Referent.fInt Syntax.w16)) T27 6 22 2 4 (Syntax.tyRef (Syntax.named 2) Syntax.mut (Syntax.tyInt Syntax.w16)) (Syntax.tyRef Syntax.erased Syntax.mut
       (Syntax.tyInt Syntax.w16)) Row.off λ x. x
 
   abbrev s26 : Typed.Asks T29 T30
-  s26 = Relend.k-sl-aggregate (Referent.rtF (Referent.fInt Syntax.w16)) (Relend.asMut (Referent.rtF (Referent.fInt Syntax.w16))) T29 21 22 4 (Syntax.tyRef Syntax.erased Syntax.mut (Syntax.tyInt
+  s26 = Relend.k-sl-aggregate (Referent.rtF (Referent.fInt Syntax.w16)) (Relend.asMut (Referent.rtF (Referent.fInt Syntax.w16))) T29 22 23 4 (Syntax.tyRef Syntax.erased Syntax.mut (Syntax.tyInt
       Syntax.w16)) (Syntax.tyRef Syntax.erased Syntax.mut (Syntax.tyInt Syntax.w16)) (λ x. x) (Scalar.oFld 6 (List._∷_ (Syntax.field 1) List.[]) (Syntax.tyInt Syntax.w64) 8 λ v. Shared.lenV (v .0))
 
   abbrev s28 : Typed.Gives T30 T32
-  s28 = Relend.k-sl-relend (Element.type) T30 7 23 3 5 (Syntax.tyRef (Syntax.named 3) Syntax.mut Element.behind) (Syntax.tyRef Syntax.erased Syntax.mut Element.behind) Row.off λ x. x
+  s28 = Relend.k-sl-relend (Element.type) T30 7 24 3 5 (Syntax.tyRef (Syntax.named 3) Syntax.mut Element.behind) (Syntax.tyRef Syntax.erased Syntax.mut Element.behind) Row.off λ x. x
 
   abbrev s29 : Typed.Asks T32 T33
-  s29 = Relend.k-sl-aggregate (Element.type) (Relend.asMut (Element.type)) T32 23 24 5 (Syntax.tyRef Syntax.erased Syntax.mut Element.behind) (Syntax.tyRef Syntax.erased Syntax.mut Element.behind) (λ
+  s29 = Relend.k-sl-aggregate (Element.type) (Relend.asMut (Element.type)) T32 24 25 5 (Syntax.tyRef Syntax.erased Syntax.mut Element.behind) (Syntax.tyRef Syntax.erased Syntax.mut Element.behind) (λ
       x. x) (Scalar.oFld 7 (List._∷_ (Syntax.field 1) List.[]) (Syntax.tyInt Syntax.w64) 8 λ v. Shared.lenV (v .0))
 
   abbrev s31 : Typed.Gives T33 T35
-  s31 = Relend.k-sl-relend (Referent.rtF (Referent.fInt Syntax.w16)) T33 5 25 1 6 (Syntax.tyRef (Syntax.named 1) Syntax.mut (Syntax.tyInt Syntax.w16)) (Syntax.tyRef Syntax.erased Syntax.mut
+  s31 = Relend.k-sl-relend (Referent.rtF (Referent.fInt Syntax.w16)) T33 5 26 1 6 (Syntax.tyRef (Syntax.named 1) Syntax.mut (Syntax.tyInt Syntax.w16)) (Syntax.tyRef Syntax.erased Syntax.mut
       (Syntax.tyInt Syntax.w16)) Row.off λ x. x
 
   abbrev s32 : Typed.Asks T35 T36
-  s32 = Relend.k-sl-aggregate (Referent.rtF (Referent.fInt Syntax.w16)) (Relend.asMut (Referent.rtF (Referent.fInt Syntax.w16))) T35 25 26 6 (Syntax.tyRef Syntax.erased Syntax.mut (Syntax.tyInt
+  s32 = Relend.k-sl-aggregate (Referent.rtF (Referent.fInt Syntax.w16)) (Relend.asMut (Referent.rtF (Referent.fInt Syntax.w16))) T35 26 27 6 (Syntax.tyRef Syntax.erased Syntax.mut (Syntax.tyInt
       Syntax.w16)) (Syntax.tyRef Syntax.erased Syntax.mut (Syntax.tyInt Syntax.w16)) (λ x. x) (Scalar.oFld 5 (List._∷_ (Syntax.field 1) List.[]) (Syntax.tyInt Syntax.w64) 8 λ v. Shared.lenV (v .0))
 
   abbrev s34 : Typed.Gives T36 T38
-  s34 = Local.k-sc-share T36 11 27 7 (Array'.Array (Referent.rtF (Referent.fInt Syntax.w16)) 768) (Syntax.tyRef Syntax.erased Syntax.imm (Syntax.tyArray (Syntax.tyInt Syntax.w16) 768)) λ x. x
+  s34 = Local.k-sc-share T36 12 28 7 (Array'.Array (Referent.rtF (Referent.fInt Syntax.w16)) 768) (Syntax.tyRef Syntax.erased Syntax.imm (Syntax.tyArray (Syntax.tyInt Syntax.w16) 768)) λ x. x
 
   abbrev s35 : Typed.Both T38 T39
   s35 = Call.callB ps·6 r·6 (claims· .12) (claims· .13) T38 (
-    record { pos = 15; ty = Syntax.tyRef Syntax.erased Syntax.imm (Syntax.tyInt Syntax.w8); ref = λ x. x },
+    record { pos = 16; ty = Syntax.tyRef Syntax.erased Syntax.imm (Syntax.tyInt Syntax.w8); ref = λ x. x },
     (
-      record { pos = 16; ty = Syntax.tyRef Syntax.erased Syntax.imm (Syntax.tyInt Syntax.w8); ref = λ x. x },
+      record { pos = 17; ty = Syntax.tyRef Syntax.erased Syntax.imm (Syntax.tyInt Syntax.w8); ref = λ x. x },
       (
-        record { pos = 22; ty = Syntax.tyRef Syntax.erased Syntax.mut (Syntax.tyInt Syntax.w16); ref = λ x. x },
+        record { pos = 23; ty = Syntax.tyRef Syntax.erased Syntax.mut (Syntax.tyInt Syntax.w16); ref = λ x. x },
         (
-          record { pos = 24; ty = Syntax.tyRef Syntax.erased Syntax.mut Element.behind; ref = λ x. x },
+          record { pos = 25; ty = Syntax.tyRef Syntax.erased Syntax.mut Element.behind; ref = λ x. x },
           (
-            record { pos = 26; ty = Syntax.tyRef Syntax.erased Syntax.mut (Syntax.tyInt Syntax.w16); ref = λ x. x },
+            record { pos = 27; ty = Syntax.tyRef Syntax.erased Syntax.mut (Syntax.tyInt Syntax.w16); ref = λ x. x },
             (
-              record { pos = 14; st = List.[]; d = 0; at = λ x. x },
+              record { pos = 15; st = List.[]; d = 0; at = λ x. x },
               (
-                record { pos = 27; ty = Syntax.tyRef Syntax.erased Syntax.imm (Syntax.tyArray (Syntax.tyInt Syntax.w16) 768); ref = λ x. x },
-                (record { pos = 4; st = List.[]; d = 0; at = λ x. x }, (record { pos = 17; st = List.[]; d = 0; at = λ x. x }, (Num.vAt 9 λ x. x, tt))),
+                record { pos = 28; ty = Syntax.tyRef Syntax.erased Syntax.imm (Syntax.tyArray (Syntax.tyInt Syntax.w16) 768); ref = λ x. x },
+                (record { pos = 4; st = List.[]; d = 0; at = λ x. x }, (record { pos = 18; st = List.[]; d = 0; at = λ x. x }, (Num.vAt 10 λ x. x, (Bool.bAt 8 λ x. x, tt)))),
               ),
             ),
           ),
         ),
       ),
     ),
-  ) 18 (List._∷_ 0 (List._∷_ 0 (List._∷_ 4 (List._∷_ 5
-      (List._∷_ 6 (List._∷_ 7 List.[])))))) (Syntax.tyEnum (List._∷_ 98 (List._∷_ 108 (List._∷_ 111 (List._∷_ 99 (List._∷_ 107 (List._∷_ 58 (List._∷_ 58 (List._∷_ 87 (List._∷_ 97 (List._∷_ 108 (List._∷_
-      107 (List._∷_ 101 (List._∷_ 100 List.[]))))))))))))) (Syntax.ttcons (Syntax.tcons y4 (Syntax.tcons y9 Syntax.tnil)) (Syntax.ttcons (Syntax.tcons (Syntax.tyInt Syntax.w64) (Syntax.tcons y4
-      Syntax.tnil)) Syntax.ttnil)))
+  ) 19 (List._∷_ 0 (List._∷_ 0
+      (List._∷_ 4 (List._∷_ 5 (List._∷_ 6 (List._∷_ 7 List.[])))))) (Syntax.tyEnum (List._∷_ 98 (List._∷_ 108 (List._∷_ 111 (List._∷_ 99 (List._∷_ 107 (List._∷_ 58 (List._∷_ 58 (List._∷_ 87 (List._∷_ 97
+      (List._∷_ 108 (List._∷_ 107 (List._∷_ 101 (List._∷_ 100 List.[]))))))))))))) (Syntax.ttcons (Syntax.tcons y4 (Syntax.tcons y9 Syntax.tnil)) (Syntax.ttcons (Syntax.tcons (Syntax.tyInt Syntax.w64)
+      (Syntax.tcons y4 Syntax.tnil)) Syntax.ttnil)))
 
   abbrev s36 : Typed.Mo T39 → Typed.Mo T40
-  s36 = Scalar.n-room T39 15 y5
+  s36 = Scalar.n-room T39 16 y5
 
   abbrev s37 : Typed.Mo T40 → Typed.Mo T41
-  s37 = Scalar.n-room T40 16 y5
+  s37 = Scalar.n-room T40 17 y5
 
   abbrev s38 : Typed.Mo T41 → Typed.Mo T42
-  s38 = Scalar.n-room T41 27 (Syntax.tyRef Syntax.erased Syntax.imm (Syntax.tyArray (Syntax.tyInt Syntax.w16) 768))
+  s38 = Scalar.n-room T41 28 (Syntax.tyRef Syntax.erased Syntax.imm (Syntax.tyArray (Syntax.tyInt Syntax.w16) 768))
 
   abbrev s39 : Typed.Mo T42 → Typed.Mo T43
-  s39 = Scalar.n-room T42 14 y8
+  s39 = Scalar.n-room T42 15 y8
 
   abbrev s40 : Typed.Mo T43 → Typed.Mo T44
-  s40 = Scalar.n-room T43 17 y0
+  s40 = Scalar.n-room T43 18 y0
 
   abbrev s42 : Typed.Both T44 T46
-  s42 = Relend.k-back-sl (Referent.rtF (Referent.fInt Syntax.w16)) T44 22 6 2 4 (Syntax.tyRef (Syntax.named 2) Syntax.mut (Syntax.tyInt Syntax.w16)) (Syntax.tyRef Syntax.erased Syntax.mut
+  s42 = Relend.k-back-sl (Referent.rtF (Referent.fInt Syntax.w16)) T44 23 6 2 4 (Syntax.tyRef (Syntax.named 2) Syntax.mut (Syntax.tyInt Syntax.w16)) (Syntax.tyRef Syntax.erased Syntax.mut
       (Syntax.tyInt Syntax.w16)) Row.off (λ x. x) λ x. x
 
   abbrev s43 : Typed.Gives T46 T47
   s43 = Know.k-sl-known (Referent.fInt Syntax.w16) T46 6 2 (Syntax.tyRef (Syntax.named 2) Syntax.mut (Syntax.tyInt Syntax.w16)) Row.off 0 λ x. x
 
   abbrev s46 : Typed.Both T47 T50
-  s46 = Relend.k-back-sl (Element.type) T47 24 7 3 5 (Syntax.tyRef (Syntax.named 3) Syntax.mut Element.behind) (Syntax.tyRef Syntax.erased Syntax.mut Element.behind) Row.off (λ x. x) λ x. x
+  s46 = Relend.k-back-sl (Element.type) T47 25 7 3 5 (Syntax.tyRef (Syntax.named 3) Syntax.mut Element.behind) (Syntax.tyRef Syntax.erased Syntax.mut Element.behind) Row.off (λ x. x) λ x. x
 
   abbrev s49 : Typed.Both T50 T53
-  s49 = Relend.k-back-sl (Referent.rtF (Referent.fInt Syntax.w16)) T50 26 5 1 6 (Syntax.tyRef (Syntax.named 1) Syntax.mut (Syntax.tyInt Syntax.w16)) (Syntax.tyRef Syntax.erased Syntax.mut
+  s49 = Relend.k-back-sl (Referent.rtF (Referent.fInt Syntax.w16)) T50 27 5 1 6 (Syntax.tyRef (Syntax.named 1) Syntax.mut (Syntax.tyInt Syntax.w16)) (Syntax.tyRef Syntax.erased Syntax.mut
       (Syntax.tyInt Syntax.w16)) Row.off (λ x. x) λ x. x
 
   abbrev s50 : Typed.Gives T53 T54
   s50 = Know.k-sl-known (Referent.fInt Syntax.w16) T53 5 1 (Syntax.tyRef (Syntax.named 1) Syntax.mut (Syntax.tyInt Syntax.w16)) Row.off 0 λ x. x
 
   abbrev s53 : Typed.Mo T54 → Typed.Mo T57
-  s53 = Local.n-back-shr T54 11 7 (Rows.arrF (Referent.rtF (Referent.fInt Syntax.w16)) 768 0) λ x. x
+  s53 = Local.n-back-shr T54 12 7 (Rows.arrF (Referent.rtF (Referent.fInt Syntax.w16)) 768 0) λ x. x
 
   abbrev s55 : Typed.Both T57 T59
-  s55 = Call.callB ps·7 r·7 (claims· .14) (claims· .15) T57 (record { pos = 12; st = List.[]; d = 0; at = λ x. x }, (Num.vAt 13 λ x. x, (record { pos = 18; st = List.[]; d = 0; at = λ x. x }, tt))) 12
+  s55 = Call.callB ps·7 r·7 (claims· .14) (claims· .15) T57 (record { pos = 13; st = List.[]; d = 0; at = λ x. x }, (Num.vAt 14 λ x. x, (record { pos = 19; st = List.[]; d = 0; at = λ x. x }, tt))) 13
       List.[] (Syntax.tyEnum (List._∷_ 98 (List._∷_ 108 (List._∷_ 111 (List._∷_ 99 (List._∷_ 107 (List._∷_ 58 (List._∷_ 58 (List._∷_ 68 (List._∷_ 101 (List._∷_ 99 (List._∷_ 111 (List._∷_ 100 (List._∷_ 101
       (List._∷_ 100 List.[])))))))))))))) (Syntax.ttcons Syntax.tnil (Syntax.ttcons (Syntax.tcons (Syntax.tyEnum (List._∷_ 115 (List._∷_ 116 (List._∷_ 114 (List._∷_ 101 (List._∷_ 97 (List._∷_ 109
       (List._∷_ 58 (List._∷_ 58 (List._∷_ 82 (List._∷_ 101 (List._∷_ 102 (List._∷_ 117 (List._∷_ 115 (List._∷_ 97 (List._∷_ 108 List.[]))))))))))))))) (Syntax.ttcons Syntax.tnil (Syntax.ttcons Syntax.tnil
@@ -1358,25 +1384,25 @@ module _ (claims· : Claims) where
       Syntax.w64) Syntax.tnil) (Syntax.ttcons (Syntax.tcons (Syntax.tyInt Syntax.w64) Syntax.tnil) (Syntax.ttcons Syntax.tnil Syntax.ttnil)))))))))))))))))))))) Syntax.tnil) Syntax.ttnil)))
 
   abbrev s56 : Typed.Mo T59 → Typed.Mo T60
-  s56 = Scalar.n-room T59 18 (Syntax.tyEnum (List._∷_ 98 (List._∷_ 108 (List._∷_ 111 (List._∷_ 99 (List._∷_ 107 (List._∷_ 58 (List._∷_ 58 (List._∷_ 87 (List._∷_ 97 (List._∷_ 108 (List._∷_ 107
+  s56 = Scalar.n-room T59 19 (Syntax.tyEnum (List._∷_ 98 (List._∷_ 108 (List._∷_ 111 (List._∷_ 99 (List._∷_ 107 (List._∷_ 58 (List._∷_ 58 (List._∷_ 87 (List._∷_ 97 (List._∷_ 108 (List._∷_ 107
       (List._∷_ 101 (List._∷_ 100 List.[]))))))))))))) (Syntax.ttcons (Syntax.tcons y4 (Syntax.tcons y9 Syntax.tnil)) (Syntax.ttcons (Syntax.tcons (Syntax.tyInt Syntax.w64) (Syntax.tcons y4 Syntax.tnil))
       Syntax.ttnil)))
 
   abbrev s57 : Typed.Asks T60 T61
-  s57 = Scalar.k-op2 T60 (Syntax.add Syntax.unsigned) (Scalar.oAt 13 (Syntax.tyInt Syntax.w64) (Row.valS (Row.sInt Syntax.w64))) (Scalar.oInt Syntax.w64 1) 13 (Rows'.sc-here (Row.sInt Syntax.w64))
+  s57 = Scalar.k-op2 T60 (Syntax.add Syntax.unsigned) (Scalar.oAt 14 (Syntax.tyInt Syntax.w64) (Row.valS (Row.sInt Syntax.w64))) (Scalar.oInt Syntax.w64 1) 14 (Rows'.sc-here (Row.sInt Syntax.w64))
       (Row.sInt Syntax.w64 .of)
 
   abbrev s58 : Typed.Mo T14 → Typed.Mo T62
-  s58 = LocalCopy.n-val-copy T14 12 0 (Declared.row Decoded.the-type) (Rows'.whole (Declared.row Decoded.the-type)) (Rows'.whole (Declared.row Decoded.the-type)) (λ x. x) (λ x. x) λ x. x
+  s58 = LocalCopy.n-val-copy T14 13 0 (Declared.row Decoded.the-type) (Rows'.whole (Declared.row Decoded.the-type)) (Rows'.whole (Declared.row Decoded.the-type)) (λ x. x) (λ x. x) λ x. x
 
   abbrev s59 : Typed.Mo T62 → Typed.Mo T63
-  s59 = Scalar.n-room T62 9 (Syntax.tyInt Syntax.w64)
+  s59 = Scalar.n-room T62 10 (Syntax.tyInt Syntax.w64)
 
   abbrev s60 : Typed.Mo T63 → Typed.Mo T64
-  s60 = Scalar.n-room T63 10 (Syntax.tyInt Syntax.w64)
+  s60 = Scalar.n-room T63 11 (Syntax.tyInt Syntax.w64)
 
   abbrev s61 : Typed.Mo T64 → Typed.Mo T65
-  s61 = Scalar.n-room T64 12 (Syntax.tyEnum (List._∷_ 98 (List._∷_ 108 (List._∷_ 111 (List._∷_ 99 (List._∷_ 107 (List._∷_ 58 (List._∷_ 58 (List._∷_ 68 (List._∷_ 101 (List._∷_ 99 (List._∷_ 111
+  s61 = Scalar.n-room T64 13 (Syntax.tyEnum (List._∷_ 98 (List._∷_ 108 (List._∷_ 111 (List._∷_ 99 (List._∷_ 107 (List._∷_ 58 (List._∷_ 58 (List._∷_ 68 (List._∷_ 101 (List._∷_ 99 (List._∷_ 111
       (List._∷_ 100 (List._∷_ 101 (List._∷_ 100 List.[])))))))))))))) (Syntax.ttcons Syntax.tnil (Syntax.ttcons (Syntax.tcons (Syntax.tyEnum (List._∷_ 115 (List._∷_ 116 (List._∷_ 114 (List._∷_ 101
       (List._∷_ 97 (List._∷_ 109 (List._∷_ 58 (List._∷_ 58 (List._∷_ 82 (List._∷_ 101 (List._∷_ 102 (List._∷_ 117 (List._∷_ 115 (List._∷_ 97 (List._∷_ 108 List.[]))))))))))))))) (Syntax.ttcons Syntax.tnil
       (Syntax.ttcons Syntax.tnil (Syntax.ttcons Syntax.tnil (Syntax.ttcons (Syntax.tcons (Syntax.tyInt Syntax.w64) Syntax.tnil) (Syntax.ttcons Syntax.tnil (Syntax.ttcons Syntax.tnil (Syntax.ttcons
@@ -1387,11 +1413,14 @@ module _ (claims· : Claims) where
       Syntax.ttnil)))
 
   abbrev s62 : Typed.Mo T65 → Typed.Mo T66
-  s62 = Scalar.n-room T65 13 (Syntax.tyInt Syntax.w64)
+  s62 = Scalar.n-room T65 14 (Syntax.tyInt Syntax.w64)
+
+  abbrev s63 : Typed.Mo T66 → Typed.Mo T67
+  s63 = Scalar.n-room T66 8 Syntax.tyBool
 
   abbrev put0 : List.List (Referent.rtF (Referent.fInt Syntax.w16) .Denot) × List.List (Referent.rtF (Referent.fInt Syntax.w16) .Denot) × List.List (Element.type .Denot) × Rows'.whole (Declared.row
       Decoded.the-type) .Mod × Rows'.sc-here (Row.sInt Syntax.w64) .Mod → Typed.Mo T15 → Typed.Mo T15
-  put0 = λ vs u. Row.set 13 (13, Rows'.sc-here (Row.sInt Syntax.w64)) (vs .4) (T15 .locals) (Row.set 12 (12, Rows'.whole (Declared.row Decoded.the-type)) (vs .3) (T15 .locals) (Row.set 7
+  put0 = λ vs u. Row.set 14 (14, Rows'.sc-here (Row.sInt Syntax.w64)) (vs .4) (T15 .locals) (Row.set 13 (13, Rows'.whole (Declared.row Decoded.the-type)) (vs .3) (T15 .locals) (Row.set 7
       (7, Mut.mslice (Element.type) (Syntax.tyRef (Syntax.named 3) Syntax.mut Element.behind) 3) record { ptr = Row.get 7 (T15 .locals) u .ptr; name = Row.get 7 (T15 .locals) u .name; now = vs .2 } (T15
       .locals) (Row.set 6 (6, Mut.mslice (Referent.rtF (Referent.fInt Syntax.w16)) (Syntax.tyRef (Syntax.named 2) Syntax.mut (Syntax.tyInt Syntax.w16)) 2) record
       { ptr = Row.get 6 (T15 .locals) u .ptr; name = Row.get 6 (T15 .locals) u .name; now = vs .1 } (T15 .locals) (Row.set 5
@@ -1433,7 +1462,7 @@ module _ (claims· : Claims) where
       at7 = λ Ψ. Typed.pass T16 T19 s15 (at6 Ψ)
 
       abbrev at8 : Typed.TF T16 O4
-      at8 = Scalar.Φcond T16 O4 20 (λ x. x) at1 at7
+      at8 = Scalar.Φcond T16 O4 21 (λ x. x) at1 at7
 
       abbrev at9 : Typed.TF T60 O3
       at9 = λ Ψ. Typed.ask s57 (Typed.atNext O3 Ψ)
@@ -1557,10 +1586,10 @@ module _ (claims· : Claims) where
 
       abbrev at49 : Typed.TF T15 O2
       at49 = Typed.LoopBy T15 O2 put0 (λ u vs. Inv·0 (Row.get 1 (T15 .locals) u .now) (Row.get 2 (T15 .locals) u) (Row.get 3 (T15 .locals) u) (Row.get 4 (T15 .locals) u) (Row.get 5 (T15 .locals) u
-          .now) (Row.get 6 (T15 .locals) u .now) (Row.get 7 (T15 .locals) u .now) (Row.get 9 (T15 .locals) u) (Row.get 10 (T15 .locals) u) (Row.get 11 (T15 .locals) u) (Row.get 12 (T15 .locals) u)
-          (Row.get 13 (T15 .locals) u) (vs .0) (vs .1) (vs .2) (vs .3) (vs .4)) (λ u vs. μ·0 (Row.get 1 (T15 .locals) u .now) (Row.get 2 (T15 .locals) u) (Row.get 3 (T15 .locals) u) (Row.get 4 (T15
-          .locals) u) (Row.get 5 (T15 .locals) u .now) (Row.get 6 (T15 .locals) u .now) (Row.get 7 (T15 .locals) u .now) (Row.get 9 (T15 .locals) u) (Row.get 10 (T15 .locals) u) (Row.get 11 (T15 .locals)
-          u) (Row.get 12 (T15 .locals) u) (Row.get 13 (T15 .locals) u) (vs .0) (vs .1) (vs .2) (vs .3) (vs .4)) at48
+          .now) (Row.get 6 (T15 .locals) u .now) (Row.get 7 (T15 .locals) u .now) (Row.get 8 (T15 .locals) u) (Row.get 10 (T15 .locals) u) (Row.get 11 (T15 .locals) u) (Row.get 12 (T15 .locals) u)
+          (Row.get 13 (T15 .locals) u) (Row.get 14 (T15 .locals) u) (vs .0) (vs .1) (vs .2) (vs .3) (vs .4)) (λ u vs. μ·0 (Row.get 1 (T15 .locals) u .now) (Row.get 2 (T15 .locals) u) (Row.get 3 (T15
+          .locals) u) (Row.get 4 (T15 .locals) u) (Row.get 5 (T15 .locals) u .now) (Row.get 6 (T15 .locals) u .now) (Row.get 7 (T15 .locals) u .now) (Row.get 8 (T15 .locals) u) (Row.get 10 (T15 .locals)
+          u) (Row.get 11 (T15 .locals) u) (Row.get 12 (T15 .locals) u) (Row.get 13 (T15 .locals) u) (Row.get 14 (T15 .locals) u) (vs .0) (vs .1) (vs .2) (vs .3) (vs .4)) at48
 
       abbrev at50 : Typed.TF T15 O1
       at50 = λ Ψ. at49 (Typed.inBlock O1 Ψ)
@@ -1568,65 +1597,68 @@ module _ (claims· : Claims) where
       abbrev at51 : Typed.TF T13 O1
       at51 = λ Ψ. Typed.pass T13 T15 s12 (at50 Ψ)
 
-      abbrev at52 : Typed.TF T66 O0
+      abbrev at52 : Typed.TF T67 O0
       at52 = Typed.atRet O0
 
-      abbrev at53 : Typed.TF T65 O0
-      at53 = λ Ψ. Typed.pass T65 T66 s62 (at52 Ψ)
+      abbrev at53 : Typed.TF T66 O0
+      at53 = λ Ψ. Typed.pass T66 T67 s63 (at52 Ψ)
 
-      abbrev at54 : Typed.TF T64 O0
-      at54 = λ Ψ. Typed.pass T64 T65 s61 (at53 Ψ)
+      abbrev at54 : Typed.TF T65 O0
+      at54 = λ Ψ. Typed.pass T65 T66 s62 (at53 Ψ)
 
-      abbrev at55 : Typed.TF T63 O0
-      at55 = λ Ψ. Typed.pass T63 T64 s60 (at54 Ψ)
+      abbrev at55 : Typed.TF T64 O0
+      at55 = λ Ψ. Typed.pass T64 T65 s61 (at54 Ψ)
 
-      abbrev at56 : Typed.TF T62 O0
-      at56 = λ Ψ. Typed.pass T62 T63 s59 (at55 Ψ)
+      abbrev at56 : Typed.TF T63 O0
+      at56 = λ Ψ. Typed.pass T63 T64 s60 (at55 Ψ)
 
-      abbrev at57 : Typed.TF T14 O0
-      at57 = λ Ψ. Typed.pass T14 T62 s58 (at56 Ψ)
+      abbrev at57 : Typed.TF T62 O0
+      at57 = λ Ψ. Typed.pass T62 T63 s59 (at56 Ψ)
 
-      abbrev at58 : Typed.TF T13 O0
-      at58 = λ Ψ. at51 (Typed.wantNext T14 O0 (at57 Ψ) Ψ)
+      abbrev at58 : Typed.TF T14 O0
+      at58 = λ Ψ. Typed.pass T14 T62 s58 (at57 Ψ)
 
-      abbrev at59 : Typed.TF T12 O0
-      at59 = λ Ψ. Typed.pass T12 T13 s11 (at58 Ψ)
+      abbrev at59 : Typed.TF T13 O0
+      at59 = λ Ψ. at51 (Typed.wantNext T14 O0 (at58 Ψ) Ψ)
 
-      abbrev at60 : Typed.TF T11 O0
-      at60 = λ Ψ. Typed.pass T11 T12 s10 (at59 Ψ)
+      abbrev at60 : Typed.TF T12 O0
+      at60 = λ Ψ. Typed.pass T12 T13 s11 (at59 Ψ)
 
-      abbrev at61 : Typed.TF T10 O0
-      at61 = λ Ψ. Typed.pass T10 T11 s9 (at60 Ψ)
+      abbrev at61 : Typed.TF T11 O0
+      at61 = λ Ψ. Typed.pass T11 T12 s10 (at60 Ψ)
 
-      abbrev at62 : Typed.TF T9 O0
-      at62 = λ Ψ. Typed.pass T9 T10 s8 (at61 Ψ)
+      abbrev at62 : Typed.TF T10 O0
+      at62 = λ Ψ. Typed.pass T10 T11 s9 (at61 Ψ)
 
-      abbrev at63 : Typed.TF T8 O0
-      at63 = λ Ψ. Typed.both s7 (at62 Ψ)
+      abbrev at63 : Typed.TF T9 O0
+      at63 = λ Ψ. Typed.pass T9 T10 s8 (at62 Ψ)
 
-      abbrev at64 : Typed.TF T7 O0
-      at64 = λ Ψ. Typed.ask s6 (at63 Ψ)
+      abbrev at64 : Typed.TF T8 O0
+      at64 = λ Ψ. Typed.both s7 (at63 Ψ)
 
-      abbrev at65 : Typed.TF T6 O0
-      at65 = λ Ψ. Typed.give s5 (at64 Ψ)
+      abbrev at65 : Typed.TF T7 O0
+      at65 = λ Ψ. Typed.ask s6 (at64 Ψ)
 
-      abbrev at66 : Typed.TF T5 O0
-      at66 = λ Ψ. Typed.pass T5 T6 s4 (at65 Ψ)
+      abbrev at66 : Typed.TF T6 O0
+      at66 = λ Ψ. Typed.give s5 (at65 Ψ)
 
-      abbrev at67 : Typed.TF T4 O0
-      at67 = λ Ψ. Typed.both s3 (at66 Ψ)
+      abbrev at67 : Typed.TF T5 O0
+      at67 = λ Ψ. Typed.pass T5 T6 s4 (at66 Ψ)
 
-      abbrev at68 : Typed.TF T3 O0
-      at68 = λ Ψ. Typed.give s2 (at67 Ψ)
+      abbrev at68 : Typed.TF T4 O0
+      at68 = λ Ψ. Typed.both s3 (at67 Ψ)
 
-      abbrev at69 : Typed.TF T2 O0
-      at69 = λ Ψ. Typed.give s1 (at68 Ψ)
+      abbrev at69 : Typed.TF T3 O0
+      at69 = λ Ψ. Typed.give s2 (at68 Ψ)
 
-      abbrev at70 : Typed.TF T0 O0
-      at70 = λ Ψ. Typed.give s0 (at69 Ψ)
+      abbrev at70 : Typed.TF T2 O0
+      at70 = λ Ψ. Typed.give s1 (at69 Ψ)
+
+      abbrev at71 : Typed.TF T0 O0
+      at71 = λ Ψ. Typed.give s0 (at70 Ψ)
 
       abbrev pub Φ : Typed.TF T0 O0
-      Φ = at70
+      Φ = at71
 
       module _ {M : Type 1} (𝓤 : URA.URA M) (H : Wp.Heap 𝓤) (A : Atoms.Atoms 𝓤) (W : Kit.Given 𝓤 H A) (𝓣 : Wp.Tables 𝓤 H) where
         abbrev Knowns : Type 1
@@ -1637,54 +1669,47 @@ module _ (claims· : Claims) where
 
       module _ (κs : Lifetimes.Lfts 4) (qs : Lifetimes.Shares 4) where
         abbrev g20 : List.List Row.Entry
-        g20 = List._∷_ e0 (List._∷_ e2 (List._∷_ e24 (List._∷_ e41 (List._∷_ e43 (List._∷_ e44 (List._∷_
-            (6, Relend.mslice-owed (Referent.rtF (Referent.fInt Syntax.w16)) (Syntax.tyRef (Syntax.named 2) Syntax.mut (Syntax.tyInt Syntax.w16)) 2 4 (Row.lease (κs .1 .1 .0) (qs .1 .1 .0))) (List._∷_ e48
-            (List._∷_ e50 (List._∷_ e53 (List._∷_ e4 (List._∷_ e7 (List._∷_ e9 (List._∷_ e11 (List._∷_ e13 (List._∷_ e15 List.[])))))))))))))))
+        g20 = List._∷_ e0 (List._∷_ e2 (List._∷_ e25 (List._∷_ e43 (List._∷_ e45 (List._∷_ e46 (List._∷_
+            (6, Relend.mslice-owed (Referent.rtF (Referent.fInt Syntax.w16)) (Syntax.tyRef (Syntax.named 2) Syntax.mut (Syntax.tyInt Syntax.w16)) 2 4 (Row.lease (κs .1 .1 .0) (qs .1 .1 .0))) (List._∷_ e50
+            (List._∷_ e52 (List._∷_ e53 (List._∷_ e4 (List._∷_ e6 (List._∷_ e9 (List._∷_ e11 (List._∷_ e13 (List._∷_ e15 List.[])))))))))))))))
 
         abbrev g23 : List.List Row.Entry
-        g23 = List._∷_ e0 (List._∷_ e2 (List._∷_ e24 (List._∷_ e41 (List._∷_ e43 (List._∷_ e44 (List._∷_
+        g23 = List._∷_ e0 (List._∷_ e2 (List._∷_ e25 (List._∷_ e43 (List._∷_ e45 (List._∷_ e46 (List._∷_
             (6, Relend.mslice-owed (Referent.rtF (Referent.fInt Syntax.w16)) (Syntax.tyRef (Syntax.named 2) Syntax.mut (Syntax.tyInt Syntax.w16)) 2 4 (Row.lease (κs .1 .1 .0) (qs .1 .1 .0))) (List._∷_
-            (7, Relend.mslice-owed (Element.type) (Syntax.tyRef (Syntax.named 3) Syntax.mut Element.behind) 3 5 (Row.lease (κs .1 .1 .1 .0) (qs .1 .1 .1 .0))) (List._∷_ e50 (List._∷_ e53 (List._∷_ e4
-            (List._∷_ e7 (List._∷_ e9 (List._∷_ e11 (List._∷_ e13 (List._∷_ e15 List.[])))))))))))))))
-
-        abbrev g26 : List.List Row.Entry
-        g26 = List._∷_ e0 (List._∷_ e2 (List._∷_ e24 (List._∷_ e41 (List._∷_ e43 (List._∷_
-            (5, Relend.mslice-owed (Referent.rtF (Referent.fInt Syntax.w16)) (Syntax.tyRef (Syntax.named 1) Syntax.mut (Syntax.tyInt Syntax.w16)) 1 6 (Row.lease (κs .1 .0) (qs .1 .0))) (List._∷_
-            (6, Relend.mslice-owed (Referent.rtF (Referent.fInt Syntax.w16)) (Syntax.tyRef (Syntax.named 2) Syntax.mut (Syntax.tyInt Syntax.w16)) 2 4 (Row.lease (κs .1 .1 .0) (qs .1 .1 .0))) (List._∷_
-            (7, Relend.mslice-owed (Element.type) (Syntax.tyRef (Syntax.named 3) Syntax.mut Element.behind) 3 5 (Row.lease (κs .1 .1 .1 .0) (qs .1 .1 .1 .0))) (List._∷_ e50 (List._∷_ e53 (List._∷_ e4
-            (List._∷_ e7 (List._∷_ e9 (List._∷_ e11 (List._∷_ e13 (List._∷_ e15 List.[])))))))))))))))
-
-        abbrev g29 : List.List Row.Entry
-        g29 = List._∷_ e0 (List._∷_ e2 (List._∷_ e24 (List._∷_ e41 (List._∷_ e43 (List._∷_
-            (5, Relend.mslice-owed (Referent.rtF (Referent.fInt Syntax.w16)) (Syntax.tyRef (Syntax.named 1) Syntax.mut (Syntax.tyInt Syntax.w16)) 1 6 (Row.lease (κs .1 .0) (qs .1 .0))) (List._∷_
-            (6, Relend.mslice-owed (Referent.rtF (Referent.fInt Syntax.w16)) (Syntax.tyRef (Syntax.named 2) Syntax.mut (Syntax.tyInt Syntax.w16)) 2 4 (Row.lease (κs .1 .1 .0) (qs .1 .1 .0))) (List._∷_
-            (7, Relend.mslice-owed (Element.type) (Syntax.tyRef (Syntax.named 3) Syntax.mut Element.behind) 3 5 (Row.lease (κs .1 .1 .1 .0) (qs .1 .1 .1 .0))) (List._∷_ e50 (List._∷_ e53 (List._∷_ e4
+            (7, Relend.mslice-owed (Element.type) (Syntax.tyRef (Syntax.named 3) Syntax.mut Element.behind) 3 5 (Row.lease (κs .1 .1 .1 .0) (qs .1 .1 .1 .0))) (List._∷_ e52 (List._∷_ e53 (List._∷_ e4
             (List._∷_ e6 (List._∷_ e9 (List._∷_ e11 (List._∷_ e13 (List._∷_ e15 List.[])))))))))))))))
 
-        abbrev g32 : List.List Row.Entry
-        g32 = List._∷_ e0 (List._∷_ e2 (List._∷_ e24 (List._∷_ e41 (List._∷_ e43 (List._∷_
+        abbrev g26 : List.List Row.Entry
+        g26 = List._∷_ e0 (List._∷_ e2 (List._∷_ e25 (List._∷_ e43 (List._∷_ e45 (List._∷_
             (5, Relend.mslice-owed (Referent.rtF (Referent.fInt Syntax.w16)) (Syntax.tyRef (Syntax.named 1) Syntax.mut (Syntax.tyInt Syntax.w16)) 1 6 (Row.lease (κs .1 .0) (qs .1 .0))) (List._∷_
             (6, Relend.mslice-owed (Referent.rtF (Referent.fInt Syntax.w16)) (Syntax.tyRef (Syntax.named 2) Syntax.mut (Syntax.tyInt Syntax.w16)) 2 4 (Row.lease (κs .1 .1 .0) (qs .1 .1 .0))) (List._∷_
-            (7, Relend.mslice-owed (Element.type) (Syntax.tyRef (Syntax.named 3) Syntax.mut Element.behind) 3 5 (Row.lease (κs .1 .1 .1 .0) (qs .1 .1 .1 .0))) (List._∷_ e50 (List._∷_ e53 (List._∷_ e4
-            (List._∷_ e6 (List._∷_ e9 (List._∷_ e11 (List._∷_ e13 (List._∷_ e14 List.[])))))))))))))))
+            (7, Relend.mslice-owed (Element.type) (Syntax.tyRef (Syntax.named 3) Syntax.mut Element.behind) 3 5 (Row.lease (κs .1 .1 .1 .0) (qs .1 .1 .1 .0))) (List._∷_ e52 (List._∷_ e53 (List._∷_ e4
+            (List._∷_ e6 (List._∷_ e9 (List._∷_ e11 (List._∷_ e13 (List._∷_ e15 List.[])))))))))))))))
+
+        abbrev g29 : List.List Row.Entry
+        g29 = List._∷_ e0 (List._∷_ e2 (List._∷_ e25 (List._∷_ e43 (List._∷_ e45 (List._∷_
+            (5, Relend.mslice-owed (Referent.rtF (Referent.fInt Syntax.w16)) (Syntax.tyRef (Syntax.named 1) Syntax.mut (Syntax.tyInt Syntax.w16)) 1 6 (Row.lease (κs .1 .0) (qs .1 .0))) (List._∷_
+            (6, Relend.mslice-owed (Referent.rtF (Referent.fInt Syntax.w16)) (Syntax.tyRef (Syntax.named 2) Syntax.mut (Syntax.tyInt Syntax.w16)) 2 4 (Row.lease (κs .1 .1 .0) (qs .1 .1 .0))) (List._∷_
+            (7, Relend.mslice-owed (Element.type) (Syntax.tyRef (Syntax.named 3) Syntax.mut Element.behind) 3 5 (Row.lease (κs .1 .1 .1 .0) (qs .1 .1 .1 .0))) (List._∷_ e52 (List._∷_ e53 (List._∷_ e4
+            (List._∷_ e6 (List._∷_ e8 (List._∷_ e11 (List._∷_ e13 (List._∷_ e15 List.[])))))))))))))))
 
         abbrev g35 : List.List Row.Entry
-        g35 = List._∷_ e0 (List._∷_ e2 (List._∷_ e24 (List._∷_ e41 (List._∷_ e43 (List._∷_
+        g35 = List._∷_ e0 (List._∷_ e2 (List._∷_ e25 (List._∷_ e43 (List._∷_ e45 (List._∷_
             (5, Relend.mslice-owed (Referent.rtF (Referent.fInt Syntax.w16)) (Syntax.tyRef (Syntax.named 1) Syntax.mut (Syntax.tyInt Syntax.w16)) 1 6 (Row.lease (κs .1 .0) (qs .1 .0))) (List._∷_
             (6, Relend.mslice-owed (Referent.rtF (Referent.fInt Syntax.w16)) (Syntax.tyRef (Syntax.named 2) Syntax.mut (Syntax.tyInt Syntax.w16)) 2 4 (Row.lease (κs .1 .1 .0) (qs .1 .1 .0))) (List._∷_
-            (7, Relend.mslice-owed (Element.type) (Syntax.tyRef (Syntax.named 3) Syntax.mut Element.behind) 3 5 (Row.lease (κs .1 .1 .1 .0) (qs .1 .1 .1 .0))) (List._∷_ e50 (List._∷_ e53 (List._∷_ e4
-            (List._∷_ e6 (List._∷_ e9 (List._∷_ e11 (List._∷_ e12 (List._∷_ e14 List.[])))))))))))))))
+            (7, Relend.mslice-owed (Element.type) (Syntax.tyRef (Syntax.named 3) Syntax.mut Element.behind) 3 5 (Row.lease (κs .1 .1 .1 .0) (qs .1 .1 .1 .0))) (List._∷_ e52 (List._∷_ e53 (List._∷_ e4
+            (List._∷_ e6 (List._∷_ e8 (List._∷_ e11 (List._∷_ e13 (List._∷_ e14 List.[])))))))))))))))
 
         abbrev g37 : List.List Row.Entry
-        g37 = List._∷_ e0 (List._∷_ e2 (List._∷_ e24 (List._∷_ e41 (List._∷_ e43 (List._∷_
-            (5, Relend.mslice-owed (Referent.rtF (Referent.fInt Syntax.w16)) (Syntax.tyRef (Syntax.named 1) Syntax.mut (Syntax.tyInt Syntax.w16)) 1 6 (Row.lease (κs .1 .0) (qs .1 .0))) (List._∷_ e46
-            (List._∷_ (7, Relend.mslice-owed (Element.type) (Syntax.tyRef (Syntax.named 3) Syntax.mut Element.behind) 3 5 (Row.lease (κs .1 .1 .1 .0) (qs .1 .1 .1 .0))) (List._∷_ e50 (List._∷_ e53
-            (List._∷_ e4 (List._∷_ e6 (List._∷_ e9 (List._∷_ e11 (List._∷_ e12 (List._∷_ e14 List.[])))))))))))))))
+        g37 = List._∷_ e0 (List._∷_ e2 (List._∷_ e25 (List._∷_ e43 (List._∷_ e45 (List._∷_
+            (5, Relend.mslice-owed (Referent.rtF (Referent.fInt Syntax.w16)) (Syntax.tyRef (Syntax.named 1) Syntax.mut (Syntax.tyInt Syntax.w16)) 1 6 (Row.lease (κs .1 .0) (qs .1 .0))) (List._∷_ e48
+            (List._∷_ (7, Relend.mslice-owed (Element.type) (Syntax.tyRef (Syntax.named 3) Syntax.mut Element.behind) 3 5 (Row.lease (κs .1 .1 .1 .0) (qs .1 .1 .1 .0))) (List._∷_ e52 (List._∷_ e53
+            (List._∷_ e4 (List._∷_ e6 (List._∷_ e8 (List._∷_ e11 (List._∷_ e13 (List._∷_ e14 List.[])))))))))))))))
 
         abbrev g39 : List.List Row.Entry
-        g39 = List._∷_ e0 (List._∷_ e2 (List._∷_ e24 (List._∷_ e41 (List._∷_ e43 (List._∷_
-            (5, Relend.mslice-owed (Referent.rtF (Referent.fInt Syntax.w16)) (Syntax.tyRef (Syntax.named 1) Syntax.mut (Syntax.tyInt Syntax.w16)) 1 6 (Row.lease (κs .1 .0) (qs .1 .0))) (List._∷_ e46
-            (List._∷_ e48 (List._∷_ e50 (List._∷_ e53 (List._∷_ e4 (List._∷_ e6 (List._∷_ e9 (List._∷_ e11 (List._∷_ e12 (List._∷_ e14 List.[])))))))))))))))
+        g39 = List._∷_ e0 (List._∷_ e2 (List._∷_ e25 (List._∷_ e43 (List._∷_ e45 (List._∷_
+            (5, Relend.mslice-owed (Referent.rtF (Referent.fInt Syntax.w16)) (Syntax.tyRef (Syntax.named 1) Syntax.mut (Syntax.tyInt Syntax.w16)) 1 6 (Row.lease (κs .1 .0) (qs .1 .0))) (List._∷_ e48
+            (List._∷_ e50 (List._∷_ e52 (List._∷_ e53 (List._∷_ e4 (List._∷_ e6 (List._∷_ e8 (List._∷_ e11 (List._∷_ e13 (List._∷_ e14 List.[])))))))))))))))
 
         abbrev G0 : Row.Cx
         G0 = record {
@@ -1863,28 +1888,28 @@ module _ (claims· : Claims) where
 
         abbrev G25 : Row.Cx
         G25 = record {
-          locals = List._++_ t17 t1;
-          slots = List._∷_ (Row.lease (κs .0) (qs .0)) (List._∷_ (Row.lease (κs .1 .0) (qs .1 .0)) (List._∷_ (Row.lease (κs .1 .1 .0) (qs .1 .1 .0)) (List._∷_ (Row.lease (κs
-              .1 .1 .1 .0) (qs .1 .1 .1 .0)) (List._∷_ Row.off (List._∷_ Row.off (List._∷_ Row.off (List._∷_ Row.off List.[])))))));
+          locals = List._++_ t16 t17;
+          slots = List._∷_ (Row.lease (κs .0) (qs .0)) (List._∷_ (Row.lease (κs .1 .0) (qs .1 .0)) (List._∷_ (Row.lease (κs .1 .1 .0) (qs .1 .1 .0)) (List._∷_ (Row.lease
+              (κs .1 .1 .1 .0) (qs .1 .1 .1 .0)) (List._∷_ Row.off (List._∷_ Row.off (List._∷_ Row.off (List._∷_ Row.off List.[])))))));
         }
 
         abbrev G26 : Row.Cx
         G26 = record {
-          locals = List._++_ t17 t18;
+          locals = List._++_ t16 t18;
           slots = List._∷_ (Row.lease (κs .0) (qs .0)) (List._∷_ (Row.lease (κs .1 .0) (qs .1 .0)) (List._∷_ (Row.lease (κs .1 .1 .0) (qs .1 .1 .0)) (List._∷_ (Row.lease
               (κs .1 .1 .1 .0) (qs .1 .1 .1 .0)) (List._∷_ Row.off (List._∷_ Row.off (List._∷_ Row.off (List._∷_ Row.off List.[])))))));
         }
 
         abbrev G27 : Row.Cx
         G27 = record {
-          locals = List._++_ t17 t19;
+          locals = List._++_ t16 t19;
           slots = List._∷_ (Row.lease (κs .0) (qs .0)) (List._∷_ (Row.lease (κs .1 .0) (qs .1 .0)) (List._∷_ (Row.lease (κs .1 .1 .0) (qs .1 .1 .0)) (List._∷_ (Row.lease
               (κs .1 .1 .1 .0) (qs .1 .1 .1 .0)) (List._∷_ Row.off (List._∷_ Row.off (List._∷_ Row.off (List._∷_ Row.off List.[])))))));
         }
 
         abbrev G28 : Row.Cx
         G28 = record {
-          locals = List._++_ t17 t19;
+          locals = List._++_ t16 t19;
           slots = List._∷_ (Row.lease (κs .0) (qs .0)) (List._∷_ (Row.lease (κs .1 .0) (qs .1 .0)) (List._∷_ (Row.lease (κs .1 .1 .0) (qs .1 .1 .0)) (List._∷_ (Row.lease
               (κs .1 .1 .1 .0) (qs .1 .1 .1 .0)) (List._∷_ Row.alive (List._∷_ Row.off (List._∷_ Row.off (List._∷_ Row.off List.[])))))));
         }
@@ -1968,21 +1993,21 @@ module _ (claims· : Claims) where
 
         abbrev G40 : Row.Cx
         G40 = record {
-          locals = List._++_ g32 t31;
+          locals = List._++_ g29 t32;
           slots = List._∷_ (Row.lease (κs .0) (qs .0)) (List._∷_ Row.off (List._∷_ Row.off (List._∷_ Row.off (List._∷_ Row.alive (List._∷_ Row.alive (List._∷_ Row.alive
               (List._∷_ Row.alive List.[])))))));
         }
 
         abbrev G41 : Row.Cx
         G41 = record {
-          locals = List._++_ g32 t33;
+          locals = List._++_ g29 t33;
           slots = List._∷_ (Row.lease (κs .0) (qs .0)) (List._∷_ Row.off (List._∷_ Row.off (List._∷_ Row.off (List._∷_ Row.alive (List._∷_ Row.alive (List._∷_ Row.alive
               (List._∷_ Row.alive List.[])))))));
         }
 
         abbrev G42 : Row.Cx
         G42 = record {
-          locals = List._++_ g32 t34;
+          locals = List._++_ g29 t34;
           slots = List._∷_ (Row.lease (κs .0) (qs .0)) (List._∷_ Row.off (List._∷_ Row.off (List._∷_ Row.off (List._∷_ Row.alive (List._∷_ Row.alive (List._∷_ Row.alive
               (List._∷_ Row.alive List.[])))))));
         }
@@ -2150,6 +2175,13 @@ module _ (claims· : Claims) where
 
         abbrev G66 : Row.Cx
         G66 = record {
+          locals = List._++_ t47 t1;
+          slots = List._∷_ (Row.lease (κs .0) (qs .0)) (List._∷_ (Row.lease (κs .1 .0) (qs .1 .0)) (List._∷_ (Row.lease (κs .1 .1 .0) (qs .1 .1 .0)) (List._∷_ (Row.lease (κs
+              .1 .1 .1 .0) (qs .1 .1 .1 .0)) (List._∷_ Row.off (List._∷_ Row.off (List._∷_ Row.off (List._∷_ Row.off List.[])))))));
+        }
+
+        abbrev G67 : Row.Cx
+        G67 = record {
           locals = List._++_ t2 t1;
           slots = List._∷_ (Row.lease (κs .0) (qs .0)) (List._∷_ (Row.lease (κs .1 .0) (qs .1 .0)) (List._∷_ (Row.lease (κs .1 .1 .0) (qs .1 .1 .0)) (List._∷_ (Row.lease (κs
               .1 .1 .1 .0) (qs .1 .1 .1 .0)) (List._∷_ Row.off (List._∷_ Row.off (List._∷_ Row.off (List._∷_ Row.off List.[])))))));
@@ -2179,16 +2211,16 @@ module _ (claims· : Claims) where
           d0 = Typed.t-skip 𝓤 H A W 𝓣 E Δ4 tt
 
           d1 : Typed.Typed 𝓤 H A 𝓣 E G16 b8 Δ4 at1
-          d1 = Typed.g-pre 𝓤 H A W 𝓣 E G16 G18 b8 Δ4 (Typed.pass T16 T18 s14) at0 (Scalar.g-room 𝓤 H A W E G16 20 Syntax.tyBool (Scalar.room-sc 𝓤 H A W Row.sBool)) d0
+          d1 = Typed.g-pre 𝓤 H A W 𝓣 E G16 G18 b8 Δ4 (Typed.pass T16 T18 s14) at0 (Scalar.g-room 𝓤 H A W E G16 21 Syntax.tyBool (Scalar.room-sc 𝓤 H A W Row.sBool)) d0
 
           d2 : Typed.Typed 𝓤 H A 𝓣 E G23 b9 Δ4 at2
           d2 = Typed.t-exit 𝓤 H A W 𝓣 E 1 Δ4 tt
 
           d3 : Typed.Typed 𝓤 H A 𝓣 E G22 b9 Δ4 at3
-          d3 = Typed.g-pre 𝓤 H A W 𝓣 E G22 G23 b9 Δ4 (Typed.pass T22 T23 s19) at2 (Scalar.g-room 𝓤 H A W E G22 20 Syntax.tyBool (Scalar.room-sc 𝓤 H A W Row.sBool)) d2
+          d3 = Typed.g-pre 𝓤 H A W 𝓣 E G22 G23 b9 Δ4 (Typed.pass T22 T23 s19) at2 (Scalar.g-room 𝓤 H A W E G22 21 Syntax.tyBool (Scalar.room-sc 𝓤 H A W Row.sBool)) d2
 
           d4 : Typed.Typed 𝓤 H A 𝓣 E G21 b9 Δ4 at4
-          d4 = Typed.g-pre 𝓤 H A W 𝓣 E G21 G22 b9 Δ4 (Typed.pass T21 T22 s18) at3 (Scalar.g-room 𝓤 H A W E G21 11 (Syntax.tyArray (Syntax.tyInt Syntax.w16) 768) (Init.room-arr 𝓤 H A W (Referent.rtF
+          d4 = Typed.g-pre 𝓤 H A W 𝓣 E G21 G22 b9 Δ4 (Typed.pass T21 T22 s18) at3 (Scalar.g-room 𝓤 H A W E G21 12 (Syntax.tyArray (Syntax.tyInt Syntax.w16) 768) (Init.room-arr 𝓤 H A W (Referent.rtF
               (Referent.fInt Syntax.w16)) 768 0 768 Path'.refl)) d3
 
           d5 : Typed.Typed 𝓤 H A 𝓣 E G20 b9 Δ4 at5
@@ -2202,16 +2234,16 @@ module _ (claims· : Claims) where
           d7 = Typed.g-pre 𝓤 H A W 𝓣 E G16 G19 b9 Δ4 (Typed.pass T16 T19 s15) at6 (Scalar.g-room 𝓤 H A W E G16 2 y3 (Local.room-whole 𝓤 H A W (Declared'.row FujiHeader.the-type) y3 Path'.refl)) d6
 
           d8 : Typed.Typed 𝓤 H A 𝓣 E G16 b10 Δ4 at8
-          d8 = Scalar.t-cond 𝓤 H A W E 𝓣 G16 20 (λ x. x) b8 b9 Δ4 at1 at7 (Scalar.reads-sc 𝓤 H A W Row.sBool) Path'.refl d1 d7
+          d8 = Scalar.t-cond 𝓤 H A W E 𝓣 G16 21 (λ x. x) b8 b9 Δ4 at1 at7 (Scalar.reads-sc 𝓤 H A W Row.sBool) Path'.refl d1 d7
 
           d9 : Typed.Typed 𝓤 H A 𝓣 E G60 b24 Δ3 at9
-          d9 = Typed.s-typed 𝓤 H A W 𝓣 E G60 b24 Δ3 (Typed.ask s57) tt (Scalar.t-op2 𝓤 H A W E 𝓣 G60 (Syntax.add Syntax.unsigned) (Scalar.oAt 13 (Syntax.tyInt Syntax.w64) (Row.valS (Row.sInt
-              Syntax.w64))) (Scalar.oInt Syntax.w64 1) 13 (Rows'.sc-here (Row.sInt Syntax.w64)) (Syntax.tyInt Syntax.w64) (Row.valS (Row.sInt Syntax.w64)) (Row.sInt Syntax.w64 .of)
+          d9 = Typed.s-typed 𝓤 H A W 𝓣 E G60 b24 Δ3 (Typed.ask s57) tt (Scalar.t-op2 𝓤 H A W E 𝓣 G60 (Syntax.add Syntax.unsigned) (Scalar.oAt 14 (Syntax.tyInt Syntax.w64) (Row.valS (Row.sInt
+              Syntax.w64))) (Scalar.oInt Syntax.w64 1) 14 (Rows'.sc-here (Row.sInt Syntax.w64)) (Syntax.tyInt Syntax.w64) (Row.valS (Row.sInt Syntax.w64)) (Row.sInt Syntax.w64 .of)
               (Scalar.reads-sc 𝓤 H A W (Row.sInt Syntax.w64), Path'.refl) tt (Scalar.room-sc 𝓤 H A W (Row.sInt Syntax.w64)) (Scalar.holds-sc 𝓤 H A W (Row.sInt Syntax.w64)) Path'.refl (λ u. Path'.refl) λ
               u. tt)
 
           d10 : Typed.Typed 𝓤 H A 𝓣 E G59 b24 Δ3 at10
-          d10 = Typed.g-pre 𝓤 H A W 𝓣 E G59 G60 b24 Δ3 (Typed.pass T59 T60 s56) at9 (Scalar.g-room 𝓤 H A W E G59 18 (Syntax.tyEnum (List._∷_ 98 (List._∷_ 108 (List._∷_ 111 (List._∷_ 99 (List._∷_ 107
+          d10 = Typed.g-pre 𝓤 H A W 𝓣 E G59 G60 b24 Δ3 (Typed.pass T59 T60 s56) at9 (Scalar.g-room 𝓤 H A W E G59 19 (Syntax.tyEnum (List._∷_ 98 (List._∷_ 108 (List._∷_ 111 (List._∷_ 99 (List._∷_ 107
               (List._∷_ 58 (List._∷_ 58 (List._∷_ 87 (List._∷_ 97 (List._∷_ 108 (List._∷_ 107 (List._∷_ 101 (List._∷_ 100 List.[]))))))))))))) (Syntax.ttcons (Syntax.tcons y4 (Syntax.tcons y9
               Syntax.tnil)) (Syntax.ttcons (Syntax.tcons (Syntax.tyInt Syntax.w64) (Syntax.tcons y4 Syntax.tnil)) Syntax.ttnil))) (Local.room-whole 𝓤 H A W (Declared.row Walked.the-type) (Syntax.tyEnum
               (List._∷_ 98 (List._∷_ 108 (List._∷_ 111 (List._∷_ 99 (List._∷_ 107 (List._∷_ 58 (List._∷_ 58 (List._∷_ 87 (List._∷_ 97 (List._∷_ 108 (List._∷_ 107 (List._∷_ 101 (List._∷_ 100
@@ -2220,7 +2252,7 @@ module _ (claims· : Claims) where
 
           d11 : Typed.Typed 𝓤 H A 𝓣 E G58 b25 Δ3 at11
           d11 = Typed.s-seq 𝓤 H A W 𝓣 E G58 G59 b23 b24 Δ3 (Typed.both s55) at10 (Plain.t-call-plain 𝓤 H A W 𝓣 0 ps·7 r·7 (claims· .14) (claims· .15) "block::decoding::judged" (known .7) E (λ pos β.
-              β) G58 (record { pos = 12; st = List.[]; d = 0; at = λ x. x }, (Num.vAt 13 λ x. x, (record { pos = 18; st = List.[]; d = 0; at = λ x. x }, tt))) 12 List.[] (Call.sub-id 𝓤 H A W (G58 .slots)) (
+              β) G58 (record { pos = 13; st = List.[]; d = 0; at = λ x. x }, (Num.vAt 14 λ x. x, (record { pos = 19; st = List.[]; d = 0; at = λ x. x }, tt))) 13 List.[] (Call.sub-id 𝓤 H A W (G58 .slots)) (
                 (
                   Yields.yields-copy 𝓤 H A W (λ ρ. Unit) (Declared.row Decoded.the-type) Path'.refl (Copies.cEnum Decoded.the-type Laws.the-laws Laws.the-copy .copy 𝓤 H A W) (Rows'.whole (Declared.row
                       Decoded.the-type)) (λ x. x) (λ x. x) (λ ρ told. Local.mem-whole 𝓤 H A W (Declared.row Decoded.the-type) ρ) λ ρ told. Local.whole-mem 𝓤 H A W (Declared.row Decoded.the-type) ρ,
@@ -2251,7 +2283,7 @@ module _ (claims· : Claims) where
           d12 = Typed.g-pre 𝓤 H A W 𝓣 E G57 G58 b25 Δ3 (λ Ψ. Ψ) at11 (Lifetime.g-forget 𝓤 H A W E G57 7 Row.dead Path'.refl) d11
 
           d13 : Typed.Typed 𝓤 H A 𝓣 E G56 b25 Δ3 at13
-          d13 = Typed.g-pre 𝓤 H A W 𝓣 E G56 G57 b25 Δ3 (Typed.pass T54 T57 s53) at12 (Local.g-back-shr 𝓤 H A W E G56 11 7 (Rows.arrF (Referent.rtF (Referent.fInt Syntax.w16)) 768 0) (Array'.Array
+          d13 = Typed.g-pre 𝓤 H A W 𝓣 E G56 G57 b25 Δ3 (Typed.pass T54 T57 s53) at12 (Local.g-back-shr 𝓤 H A W E G56 12 7 (Rows.arrF (Referent.rtF (Referent.fInt Syntax.w16)) 768 0) (Array'.Array
               (Referent.rtF (Referent.fInt Syntax.w16)) 768) (λ x. x) (λ x. x) (Reads'.as-is 𝓤 H A (Rows'.sc-shr (Rows.arrF (Referent.rtF (Referent.fInt Syntax.w16)) 768 0) (Array'.Array (Referent.rtF
               (Referent.fInt Syntax.w16)) 768) (λ x. x) 7)) (Local.home-of 𝓤 H A (Rows.arrF (Referent.rtF (Referent.fInt Syntax.w16)) 768 0) (Array'.Array (Referent.rtF (Referent.fInt Syntax.w16)) 768) (λ
               x. x) (λ x. x) (Whole.arr-mem 𝓤 H A W (Referent.rtF (Referent.fInt Syntax.w16)) 768 tt) λ x k. Path'.refl) Path'.refl) d12
@@ -2268,7 +2300,7 @@ module _ (claims· : Claims) where
               1) Syntax.mut (Syntax.tyInt Syntax.w16)) 1)) Path'.refl tt) d15
 
           d17 : Typed.Typed 𝓤 H A 𝓣 E G52 b25 Δ3 at17
-          d17 = Typed.g-pre 𝓤 H A W 𝓣 E G52 G53 b25 Δ3 (Typed.both s49) at16 (Relend.g-back-sl 𝓤 H A W E (Referent.rtF (Referent.fInt Syntax.w16)) G52 26 5 1 6 (Syntax.tyRef (Syntax.named 1)
+          d17 = Typed.g-pre 𝓤 H A W 𝓣 E G52 G53 b25 Δ3 (Typed.both s49) at16 (Relend.g-back-sl 𝓤 H A W E (Referent.rtF (Referent.fInt Syntax.w16)) G52 27 5 1 6 (Syntax.tyRef (Syntax.named 1)
               Syntax.mut (Syntax.tyInt Syntax.w16)) (Syntax.tyRef Syntax.erased Syntax.mut (Syntax.tyInt Syntax.w16)) (Row.lease (κs .1 .0) (qs .1 .0)) (λ x. x) (λ x. x) (Reads'.as-is 𝓤 H A (Mut.msleft
               (Referent.rtF (Referent.fInt Syntax.w16)) (Syntax.tyRef Syntax.erased Syntax.mut (Syntax.tyInt Syntax.w16)))) (Reads'.as-is 𝓤 H A (Relend.mslice-owed (Referent.rtF (Referent.fInt
               Syntax.w16)) (Syntax.tyRef (Syntax.named 1) Syntax.mut (Syntax.tyInt Syntax.w16)) 1 6 (Row.lease (κs .1 .0) (qs .1 .0)))) Path'.refl Path'.refl) d16
@@ -2280,7 +2312,7 @@ module _ (claims· : Claims) where
           d19 = Typed.g-pre 𝓤 H A W 𝓣 E G50 G51 b25 Δ3 (λ Ψ. Ψ) at18 (Lifetime.g-forget 𝓤 H A W E G50 5 Row.dead Path'.refl) d18
 
           d20 : Typed.Typed 𝓤 H A 𝓣 E G49 b25 Δ3 at20
-          d20 = Typed.g-pre 𝓤 H A W 𝓣 E G49 G50 b25 Δ3 (Typed.both s46) at19 (Relend.g-back-sl 𝓤 H A W E (Element.type) G49 24 7 3 5 (Syntax.tyRef (Syntax.named 3) Syntax.mut Element.behind)
+          d20 = Typed.g-pre 𝓤 H A W 𝓣 E G49 G50 b25 Δ3 (Typed.both s46) at19 (Relend.g-back-sl 𝓤 H A W E (Element.type) G49 25 7 3 5 (Syntax.tyRef (Syntax.named 3) Syntax.mut Element.behind)
               (Syntax.tyRef Syntax.erased Syntax.mut Element.behind) (Row.lease (κs .1 .1 .1 .0) (qs .1 .1 .1 .0)) (λ x. x) (λ x. x) (Reads'.as-is 𝓤 H A (Mut.msleft (Element.type) (Syntax.tyRef
               Syntax.erased Syntax.mut Element.behind))) (Reads'.as-is 𝓤 H A (Relend.mslice-owed (Element.type) (Syntax.tyRef (Syntax.named 3) Syntax.mut Element.behind) 3 5 (Row.lease (κs .1 .1 .1 .0)
               (qs .1 .1 .1 .0)))) Path'.refl Path'.refl) d19
@@ -2297,7 +2329,7 @@ module _ (claims· : Claims) where
               (Syntax.named 2) Syntax.mut (Syntax.tyInt Syntax.w16)) 2)) Path'.refl tt) d22
 
           d24 : Typed.Typed 𝓤 H A 𝓣 E G45 b25 Δ3 at24
-          d24 = Typed.g-pre 𝓤 H A W 𝓣 E G45 G46 b25 Δ3 (Typed.both s42) at23 (Relend.g-back-sl 𝓤 H A W E (Referent.rtF (Referent.fInt Syntax.w16)) G45 22 6 2 4 (Syntax.tyRef (Syntax.named 2)
+          d24 = Typed.g-pre 𝓤 H A W 𝓣 E G45 G46 b25 Δ3 (Typed.both s42) at23 (Relend.g-back-sl 𝓤 H A W E (Referent.rtF (Referent.fInt Syntax.w16)) G45 23 6 2 4 (Syntax.tyRef (Syntax.named 2)
               Syntax.mut (Syntax.tyInt Syntax.w16)) (Syntax.tyRef Syntax.erased Syntax.mut (Syntax.tyInt Syntax.w16)) (Row.lease (κs .1 .1 .0) (qs .1 .1 .0)) (λ x. x) (λ x. x) (Reads'.as-is 𝓤 H A
               (Mut.msleft (Referent.rtF (Referent.fInt Syntax.w16)) (Syntax.tyRef Syntax.erased Syntax.mut (Syntax.tyInt Syntax.w16)))) (Reads'.as-is 𝓤 H A (Relend.mslice-owed (Referent.rtF (Referent.fInt
               Syntax.w16)) (Syntax.tyRef (Syntax.named 2) Syntax.mut (Syntax.tyInt Syntax.w16)) 2 4 (Row.lease (κs .1 .1 .0) (qs .1 .1 .0)))) Path'.refl Path'.refl) d23
@@ -2306,49 +2338,49 @@ module _ (claims· : Claims) where
           d25 = Typed.g-pre 𝓤 H A W 𝓣 E G44 G45 b25 Δ3 (λ Ψ. Ψ) at24 (Lifetime.g-end 𝓤 H A W E G44 4 Path'.refl) d24
 
           d26 : Typed.Typed 𝓤 H A 𝓣 E G43 b25 Δ3 at26
-          d26 = Typed.g-pre 𝓤 H A W 𝓣 E G43 G44 b25 Δ3 (Typed.pass T43 T44 s40) at25 (Scalar.g-room 𝓤 H A W E G43 17 y0 (Local.room-whole 𝓤 H A W (Declared'.row Part.the-type) y0 Path'.refl)) d25
+          d26 = Typed.g-pre 𝓤 H A W 𝓣 E G43 G44 b25 Δ3 (Typed.pass T43 T44 s40) at25 (Scalar.g-room 𝓤 H A W E G43 18 y0 (Local.room-whole 𝓤 H A W (Declared'.row Part.the-type) y0 Path'.refl)) d25
 
           d27 : Typed.Typed 𝓤 H A 𝓣 E G42 b25 Δ3 at27
-          d27 = Typed.g-pre 𝓤 H A W 𝓣 E G42 G43 b25 Δ3 (Typed.pass T42 T43 s39) at26 (Scalar.g-room 𝓤 H A W E G42 14 y8 (Local.room-whole 𝓤 H A W (Declared'.row Form.the-type) y8 Path'.refl)) d26
+          d27 = Typed.g-pre 𝓤 H A W 𝓣 E G42 G43 b25 Δ3 (Typed.pass T42 T43 s39) at26 (Scalar.g-room 𝓤 H A W E G42 15 y8 (Local.room-whole 𝓤 H A W (Declared'.row Form.the-type) y8 Path'.refl)) d26
 
           d28 : Typed.Typed 𝓤 H A 𝓣 E G41 b25 Δ3 at28
-          d28 = Typed.g-pre 𝓤 H A W 𝓣 E G41 G42 b25 Δ3 (Typed.pass T41 T42 s38) at27 (Local.g-drop-sref 𝓤 H A W E G41 27 7 (Array'.Array (Referent.rtF (Referent.fInt Syntax.w16)) 768) (Syntax.tyRef
+          d28 = Typed.g-pre 𝓤 H A W 𝓣 E G41 G42 b25 Δ3 (Typed.pass T41 T42 s38) at27 (Local.g-drop-sref 𝓤 H A W E G41 28 7 (Array'.Array (Referent.rtF (Referent.fInt Syntax.w16)) 768) (Syntax.tyRef
               Syntax.erased Syntax.imm (Syntax.tyArray (Syntax.tyInt Syntax.w16) 768)) (λ x. x) (Reads'.as-is 𝓤 H A (Rows'.sref (Array'.Array (Referent.rtF (Referent.fInt Syntax.w16)) 768) (Syntax.tyRef
               Syntax.erased Syntax.imm (Syntax.tyArray (Syntax.tyInt Syntax.w16) 768)) 7))) d27
 
           d29 : Typed.Typed 𝓤 H A 𝓣 E G40 b25 Δ3 at29
-          d29 = Typed.g-pre 𝓤 H A W 𝓣 E G40 G41 b25 Δ3 (Typed.pass T40 T41 s37) at28 (Scalar.g-room 𝓤 H A W E G40 16 y5 (Shared.room-sslice 𝓤 H A W (Referent.rtF (Referent.fInt Syntax.w8))
+          d29 = Typed.g-pre 𝓤 H A W 𝓣 E G40 G41 b25 Δ3 (Typed.pass T40 T41 s37) at28 (Scalar.g-room 𝓤 H A W E G40 17 y5 (Shared.room-sslice 𝓤 H A W (Referent.rtF (Referent.fInt Syntax.w8))
               (Syntax.tyRef Syntax.erased Syntax.imm (Syntax.tyInt Syntax.w8)) 0)) d28
 
           d30 : Typed.Typed 𝓤 H A 𝓣 E G39 b25 Δ3 at30
-          d30 = Typed.g-pre 𝓤 H A W 𝓣 E G39 G40 b25 Δ3 (Typed.pass T39 T40 s36) at29 (Scalar.g-room 𝓤 H A W E G39 15 y5 (Shared.room-sslice 𝓤 H A W (Referent.rtF (Referent.fInt Syntax.w8))
+          d30 = Typed.g-pre 𝓤 H A W 𝓣 E G39 G40 b25 Δ3 (Typed.pass T39 T40 s36) at29 (Scalar.g-room 𝓤 H A W E G39 16 y5 (Shared.room-sslice 𝓤 H A W (Referent.rtF (Referent.fInt Syntax.w8))
               (Syntax.tyRef Syntax.erased Syntax.imm (Syntax.tyInt Syntax.w8)) 0)) d29
 
           d31 : Typed.Typed 𝓤 H A 𝓣 E G38 b26 Δ3 at31
           d31 = Typed.s-seq 𝓤 H A W 𝓣 E G38 G39 b22 b25 Δ3 (Typed.both s35) at30 (Plain.t-call-plain 𝓤 H A W 𝓣 6 ps·6 r·6 (claims· .12) (claims· .13) "block::reading::walk" (known .6) E (λ pos β. β)
               G38 (
-                record { pos = 15; ty = Syntax.tyRef Syntax.erased Syntax.imm (Syntax.tyInt Syntax.w8); ref = λ x. x },
+                record { pos = 16; ty = Syntax.tyRef Syntax.erased Syntax.imm (Syntax.tyInt Syntax.w8); ref = λ x. x },
                 (
-                  record { pos = 16; ty = Syntax.tyRef Syntax.erased Syntax.imm (Syntax.tyInt Syntax.w8); ref = λ x. x },
+                  record { pos = 17; ty = Syntax.tyRef Syntax.erased Syntax.imm (Syntax.tyInt Syntax.w8); ref = λ x. x },
                   (
-                    record { pos = 22; ty = Syntax.tyRef Syntax.erased Syntax.mut (Syntax.tyInt Syntax.w16); ref = λ x. x },
+                    record { pos = 23; ty = Syntax.tyRef Syntax.erased Syntax.mut (Syntax.tyInt Syntax.w16); ref = λ x. x },
                     (
-                      record { pos = 24; ty = Syntax.tyRef Syntax.erased Syntax.mut Element.behind; ref = λ x. x },
+                      record { pos = 25; ty = Syntax.tyRef Syntax.erased Syntax.mut Element.behind; ref = λ x. x },
                       (
-                        record { pos = 26; ty = Syntax.tyRef Syntax.erased Syntax.mut (Syntax.tyInt Syntax.w16); ref = λ x. x },
+                        record { pos = 27; ty = Syntax.tyRef Syntax.erased Syntax.mut (Syntax.tyInt Syntax.w16); ref = λ x. x },
                         (
-                          record { pos = 14; st = List.[]; d = 0; at = λ x. x },
+                          record { pos = 15; st = List.[]; d = 0; at = λ x. x },
                           (
-                            record { pos = 27; ty = Syntax.tyRef Syntax.erased Syntax.imm (Syntax.tyArray (Syntax.tyInt Syntax.w16) 768); ref = λ x. x },
-                            (record { pos = 4; st = List.[]; d = 0; at = λ x. x }, (record { pos = 17; st = List.[]; d = 0; at = λ x. x }, (Num.vAt 9 λ x. x, tt))),
+                            record { pos = 28; ty = Syntax.tyRef Syntax.erased Syntax.imm (Syntax.tyArray (Syntax.tyInt Syntax.w16) 768); ref = λ x. x },
+                            (record { pos = 4; st = List.[]; d = 0; at = λ x. x }, (record { pos = 18; st = List.[]; d = 0; at = λ x. x }, (Num.vAt 10 λ x. x, (Bool.bAt 8 λ x. x, tt)))),
                           ),
                         ),
                       ),
                     ),
                   ),
                 ),
-              ) 18 (List._∷_ 0 (List._∷_ 0 (List._∷_ 4
-              (List._∷_ 5 (List._∷_ 6 (List._∷_ 7 List.[])))))) (Call.sub-id 𝓤 H A W (G38 .slots)) (
+              ) 19 (List._∷_ 0 (List._∷_
+              0 (List._∷_ 4 (List._∷_ 5 (List._∷_ 6 (List._∷_ 7 List.[])))))) (Call.sub-id 𝓤 H A W (G38 .slots)) (
                 ShrSlice.spares-sslice 𝓤 H A W (Referent.rtF (Referent.fInt Syntax.w8)) (Syntax.tyRef Syntax.erased Syntax.imm (Syntax.tyInt Syntax.w8)) 0,
                 Shared.reads-sslice 𝓤 H A W (Referent.rtF
                     (Referent.fInt Syntax.w8)) (Syntax.tyRef Syntax.erased Syntax.imm (Syntax.tyInt Syntax.w8)) 0,
@@ -2391,7 +2423,7 @@ module _ (claims· : Claims) where
                                       Part.the-type)) (λ x. x) (λ x. x) (λ ρ told. Local.mem-whole 𝓤 H A W (Declared'.row Part.the-type) ρ) λ ρ told. Local.whole-mem 𝓤 H A W (Declared'.row Part.the-type) ρ,
                                   Path'.refl,
                                 ),
-                                ((Scalar.reads-sc 𝓤 H A W (Row.sInt Syntax.w64), Path'.refl), tt),
+                                ((Scalar.reads-sc 𝓤 H A W (Row.sInt Syntax.w64), Path'.refl), ((Scalar.reads-sc 𝓤 H A W Row.sBool, Path'.refl), tt)),
                               ),
                             ),
                           ),
@@ -2400,23 +2432,26 @@ module _ (claims· : Claims) where
                     ),
                   ),
                 ),
-              ) (Reads'.room-gone 𝓤 H A (Syntax.tyEnum (List._∷_ 98 (List._∷_ 108 (List._∷_ 111 (List._∷_ 99 (List._∷_ 107
-              (List._∷_ 58 (List._∷_ 58 (List._∷_ 87 (List._∷_ 97 (List._∷_ 108 (List._∷_ 107 (List._∷_ 101 (List._∷_ 100 List.[]))))))))))))) (Syntax.ttcons (Syntax.tcons y4 (Syntax.tcons y9
-              Syntax.tnil)) (Syntax.ttcons (Syntax.tcons (Syntax.tyInt Syntax.w64) (Syntax.tcons y4 Syntax.tnil)) Syntax.ttnil)))) (tt, (tt, (tt, (tt, (tt, (tt, tt)))))) Path'.refl) d30
+              ) (Reads'.room-gone 𝓤 H A (Syntax.tyEnum (List._∷_ 98 (List._∷_
+              108 (List._∷_ 111 (List._∷_ 99 (List._∷_ 107 (List._∷_ 58 (List._∷_ 58 (List._∷_ 87 (List._∷_ 97 (List._∷_ 108 (List._∷_ 107 (List._∷_ 101 (List._∷_ 100 List.[]))))))))))))) (Syntax.ttcons
+              (Syntax.tcons y4 (Syntax.tcons y9 Syntax.tnil)) (Syntax.ttcons (Syntax.tcons (Syntax.tyInt Syntax.w64) (Syntax.tcons y4 Syntax.tnil)) Syntax.ttnil)))) (tt, (tt, (tt, (tt, (tt, (tt, tt))))))
+              Path'.refl) d30
 
           d32 : Typed.Typed 𝓤 H A 𝓣 E G37 b27 Δ3 at32
-          d32 = Typed.s-seq 𝓤 H A W 𝓣 E G37 G38 b21 b26 Δ3 (Typed.give s34) at31 (Local.t-sc-share 𝓤 H A W E 𝓣 G37 11 27 7 (Array'.Array (Referent.rtF (Referent.fInt Syntax.w16)) 768) (Syntax.tyRef
+          d32 = Typed.s-seq 𝓤 H A W 𝓣 E G37 G38 b21 b26 Δ3 (Typed.give s34) at31 (Local.t-sc-share 𝓤 H A W E 𝓣 G37 12 28 7 (Array'.Array (Referent.rtF (Referent.fInt Syntax.w16)) 768) (Syntax.tyRef
               Syntax.erased Syntax.imm (Syntax.tyArray (Syntax.tyInt Syntax.w16) 768)) (λ x. x) (Whole.mem-arr 𝓤 H A W (Referent.rtF (Referent.fInt Syntax.w16)) 768) (Reads'.room-gone 𝓤 H A (Syntax.tyRef
               Syntax.erased Syntax.imm (Syntax.tyArray (Syntax.tyInt Syntax.w16) 768))) Path'.refl λ b o. tt) d31
 
           d33 : Typed.Typed 𝓤 H A 𝓣 E G36 b27 Δ3 at33
-          d33 = Typed.g-pre 𝓤 H A W 𝓣 E G36 G37 b27 Δ3 (λ Ψ. Ψ) at32 (Lifetime.g-begin 𝓤 H A W E G36 7
-              (tt, (tt, (tt, (tt, (tt, ((tt, tt), ((tt, tt), ((tt, tt), (tt, (tt, (tt, (tt, (tt, (tt, (tt, (tt, (tt, (tt, (tt, (tt, (tt, (tt, (tt, (tt, (tt, (tt, (tt, (tt, tt)))))))))))))))))))))))))))))
+          d33 = Typed.g-pre 𝓤 H A W 𝓣 E G36 G37 b27 Δ3 (λ Ψ. Ψ) at32 (Lifetime.g-begin 𝓤 H A W E G36 7 (
+            tt,
+            (tt, (tt, (tt, (tt, ((tt, tt), ((tt, tt), ((tt, tt), (tt, (tt, (tt, (tt, (tt, (tt, (tt, (tt, (tt, (tt, (tt, (tt, (tt, (tt, (tt, (tt, (tt, (tt, (tt, (tt, (tt, tt)))))))))))))))))))))))))))),
+          ))
               d32
 
           d34 : Typed.Typed 𝓤 H A 𝓣 E G35 b28 Δ3 at34
           d34 = Typed.s-seq 𝓤 H A W 𝓣 E G35 G36 b20 b27 Δ3 (Typed.ask s32) at33 (Relend.t-sl-aggregate 𝓤 H A W E (Referent.rtF (Referent.fInt Syntax.w16)) 𝓣 (Relend.asMut (Referent.rtF (Referent.fInt
-              Syntax.w16))) G35 25 26 6 (Syntax.tyRef Syntax.erased Syntax.mut (Syntax.tyInt Syntax.w16)) (Syntax.tyRef Syntax.erased Syntax.mut (Syntax.tyInt Syntax.w16)) (λ x. x) (Scalar.oFld 5
+              Syntax.w16))) G35 26 27 6 (Syntax.tyRef Syntax.erased Syntax.mut (Syntax.tyInt Syntax.w16)) (Syntax.tyRef Syntax.erased Syntax.mut (Syntax.tyInt Syntax.w16)) (λ x. x) (Scalar.oFld 5
               (List._∷_ (Syntax.field 1) List.[]) (Syntax.tyInt Syntax.w64) 8 λ v. Shared.lenV (v .0)) (Reads'.as-is 𝓤 H A (Relend.msptr (Referent.rtF (Referent.fInt Syntax.w16)) (Syntax.tyRef
               Syntax.erased Syntax.mut (Syntax.tyInt Syntax.w16)) 6)) (Reads'.room-gone 𝓤 H A y6) (
                 Relend.reads-owed-len 𝓤 H A W (Referent.rtF (Referent.fInt Syntax.w16)) (Syntax.tyRef (Syntax.named 1) Syntax.mut (Syntax.tyInt Syntax.w16)) 1 6 (Row.lease (κs .1 .0) (qs .1 .0)) 8
@@ -2425,34 +2460,35 @@ module _ (claims· : Claims) where
               ) Path'.refl Path'.refl λ b o k. tt) d33
 
           d35 : Typed.Typed 𝓤 H A 𝓣 E G34 b29 Δ3 at35
-          d35 = Typed.s-seq 𝓤 H A W 𝓣 E G34 G35 b19 b28 Δ3 (Typed.give s31) at34 (Relend.t-sl-relend 𝓤 H A W E (Referent.rtF (Referent.fInt Syntax.w16)) 𝓣 G34 5 25 1 6 (Syntax.tyRef (Syntax.named 1)
+          d35 = Typed.s-seq 𝓤 H A W 𝓣 E G34 G35 b19 b28 Δ3 (Typed.give s31) at34 (Relend.t-sl-relend 𝓤 H A W E (Referent.rtF (Referent.fInt Syntax.w16)) 𝓣 G34 5 26 1 6 (Syntax.tyRef (Syntax.named 1)
               Syntax.mut (Syntax.tyInt Syntax.w16)) (Syntax.tyRef Syntax.erased Syntax.mut (Syntax.tyInt Syntax.w16)) (Row.lease (κs .1 .0) (qs .1 .0)) 0 (λ x. x) (Reads'.as-is 𝓤 H A (Mut.mslice
               (Referent.rtF (Referent.fInt Syntax.w16)) (Syntax.tyRef (Syntax.named 1) Syntax.mut (Syntax.tyInt Syntax.w16)) 1)) (Reads'.room-gone 𝓤 H A (Syntax.tyRef Syntax.erased Syntax.mut
               (Syntax.tyInt Syntax.w16))) Path'.refl tt Path'.refl Path'.refl Path'.refl λ b o. tt) d34
 
           d36 : Typed.Typed 𝓤 H A 𝓣 E G33 b29 Δ3 at36
           d36 = Typed.g-pre 𝓤 H A W 𝓣 E G33 G34 b29 Δ3 (λ Ψ. Ψ) at35 (Lifetime.g-begin 𝓤 H A W E G33 6
-              (tt, (tt, (tt, (tt, (tt, (tt, ((tt, tt), ((tt, tt), (tt, (tt, (tt, (tt, (tt, (tt, (tt, (tt, (tt, (tt, (tt, (tt, (tt, (tt, (tt, (tt, (tt, (tt, (tt, (tt, tt))))))))))))))))))))))))))))) d35
+              (tt, (tt, (tt, (tt, (tt, (tt, ((tt, tt), ((tt, tt), (tt, (tt, (tt, (tt, (tt, (tt, (tt, (tt, (tt, (tt, (tt, (tt, (tt, (tt, (tt, (tt, (tt, (tt, (tt, (tt, (tt, tt))))))))))))))))))))))))))))))
+              d35
 
           d37 : Typed.Typed 𝓤 H A 𝓣 E G32 b30 Δ3 at37
-          d37 = Typed.s-seq 𝓤 H A W 𝓣 E G32 G33 b18 b29 Δ3 (Typed.ask s29) at36 (Relend.t-sl-aggregate 𝓤 H A W E (Element.type) 𝓣 (Relend.asMut (Element.type)) G32 23 24 5 (Syntax.tyRef Syntax.erased
+          d37 = Typed.s-seq 𝓤 H A W 𝓣 E G32 G33 b18 b29 Δ3 (Typed.ask s29) at36 (Relend.t-sl-aggregate 𝓤 H A W E (Element.type) 𝓣 (Relend.asMut (Element.type)) G32 24 25 5 (Syntax.tyRef Syntax.erased
               Syntax.mut Element.behind) (Syntax.tyRef Syntax.erased Syntax.mut Element.behind) (λ x. x) (Scalar.oFld 7 (List._∷_ (Syntax.field 1) List.[]) (Syntax.tyInt Syntax.w64) 8 λ v. Shared.lenV (v
               .0)) (Reads'.as-is 𝓤 H A (Relend.msptr (Element.type) (Syntax.tyRef Syntax.erased Syntax.mut Element.behind) 5)) (Reads'.room-gone 𝓤 H A y7)
               (Relend.reads-owed-len 𝓤 H A W (Element.type) (Syntax.tyRef (Syntax.named 3) Syntax.mut Element.behind) 3 5 (Row.lease (κs .1 .1 .1 .0) (qs .1 .1 .1 .0)) 8 Path'.refl, Path'.refl) Path'.refl
               Path'.refl λ b o k. tt) d36
 
           d38 : Typed.Typed 𝓤 H A 𝓣 E G31 b31 Δ3 at38
-          d38 = Typed.s-seq 𝓤 H A W 𝓣 E G31 G32 b17 b30 Δ3 (Typed.give s28) at37 (Relend.t-sl-relend 𝓤 H A W E (Element.type) 𝓣 G31 7 23 3 5 (Syntax.tyRef (Syntax.named 3) Syntax.mut Element.behind)
+          d38 = Typed.s-seq 𝓤 H A W 𝓣 E G31 G32 b17 b30 Δ3 (Typed.give s28) at37 (Relend.t-sl-relend 𝓤 H A W E (Element.type) 𝓣 G31 7 24 3 5 (Syntax.tyRef (Syntax.named 3) Syntax.mut Element.behind)
               (Syntax.tyRef Syntax.erased Syntax.mut Element.behind) (Row.lease (κs .1 .1 .1 .0) (qs .1 .1 .1 .0)) 0 (λ x. x) (Reads'.as-is 𝓤 H A (Mut.mslice (Element.type) (Syntax.tyRef (Syntax.named 3)
               Syntax.mut Element.behind) 3)) (Reads'.room-gone 𝓤 H A (Syntax.tyRef Syntax.erased Syntax.mut Element.behind)) Path'.refl tt Path'.refl Path'.refl Path'.refl λ b o. tt) d37
 
           d39 : Typed.Typed 𝓤 H A 𝓣 E G30 b31 Δ3 at39
           d39 = Typed.g-pre 𝓤 H A W 𝓣 E G30 G31 b31 Δ3 (λ Ψ. Ψ) at38 (Lifetime.g-begin 𝓤 H A W E G30 5
-              (tt, (tt, (tt, (tt, (tt, (tt, ((tt, tt), (tt, (tt, (tt, (tt, (tt, (tt, (tt, (tt, (tt, (tt, (tt, (tt, (tt, (tt, (tt, (tt, (tt, (tt, (tt, (tt, (tt, tt))))))))))))))))))))))))))))) d38
+              (tt, (tt, (tt, (tt, (tt, (tt, ((tt, tt), (tt, (tt, (tt, (tt, (tt, (tt, (tt, (tt, (tt, (tt, (tt, (tt, (tt, (tt, (tt, (tt, (tt, (tt, (tt, (tt, (tt, (tt, tt)))))))))))))))))))))))))))))) d38
 
           d40 : Typed.Typed 𝓤 H A 𝓣 E G29 b32 Δ3 at40
           d40 = Typed.s-seq 𝓤 H A W 𝓣 E G29 G30 b16 b31 Δ3 (Typed.ask s26) at39 (Relend.t-sl-aggregate 𝓤 H A W E (Referent.rtF (Referent.fInt Syntax.w16)) 𝓣 (Relend.asMut (Referent.rtF (Referent.fInt
-              Syntax.w16))) G29 21 22 4 (Syntax.tyRef Syntax.erased Syntax.mut (Syntax.tyInt Syntax.w16)) (Syntax.tyRef Syntax.erased Syntax.mut (Syntax.tyInt Syntax.w16)) (λ x. x) (Scalar.oFld 6
+              Syntax.w16))) G29 22 23 4 (Syntax.tyRef Syntax.erased Syntax.mut (Syntax.tyInt Syntax.w16)) (Syntax.tyRef Syntax.erased Syntax.mut (Syntax.tyInt Syntax.w16)) (λ x. x) (Scalar.oFld 6
               (List._∷_ (Syntax.field 1) List.[]) (Syntax.tyInt Syntax.w64) 8 λ v. Shared.lenV (v .0)) (Reads'.as-is 𝓤 H A (Relend.msptr (Referent.rtF (Referent.fInt Syntax.w16)) (Syntax.tyRef
               Syntax.erased Syntax.mut (Syntax.tyInt Syntax.w16)) 4)) (Reads'.room-gone 𝓤 H A y6) (
                 Relend.reads-owed-len 𝓤 H A W (Referent.rtF (Referent.fInt Syntax.w16)) (Syntax.tyRef (Syntax.named 2) Syntax.mut (Syntax.tyInt Syntax.w16)) 2 4 (Row.lease (κs .1 .1 .0) (qs .1 .1 .0)) 8
@@ -2461,18 +2497,18 @@ module _ (claims· : Claims) where
               ) Path'.refl Path'.refl λ b o k. tt) d39
 
           d41 : Typed.Typed 𝓤 H A 𝓣 E G28 b33 Δ3 at41
-          d41 = Typed.s-seq 𝓤 H A W 𝓣 E G28 G29 b15 b32 Δ3 (Typed.give s25) at40 (Relend.t-sl-relend 𝓤 H A W E (Referent.rtF (Referent.fInt Syntax.w16)) 𝓣 G28 6 21 2 4 (Syntax.tyRef (Syntax.named 2)
+          d41 = Typed.s-seq 𝓤 H A W 𝓣 E G28 G29 b15 b32 Δ3 (Typed.give s25) at40 (Relend.t-sl-relend 𝓤 H A W E (Referent.rtF (Referent.fInt Syntax.w16)) 𝓣 G28 6 22 2 4 (Syntax.tyRef (Syntax.named 2)
               Syntax.mut (Syntax.tyInt Syntax.w16)) (Syntax.tyRef Syntax.erased Syntax.mut (Syntax.tyInt Syntax.w16)) (Row.lease (κs .1 .1 .0) (qs .1 .1 .0)) 0 (λ x. x) (Reads'.as-is 𝓤 H A (Mut.mslice
               (Referent.rtF (Referent.fInt Syntax.w16)) (Syntax.tyRef (Syntax.named 2) Syntax.mut (Syntax.tyInt Syntax.w16)) 2)) (Reads'.room-gone 𝓤 H A (Syntax.tyRef Syntax.erased Syntax.mut
               (Syntax.tyInt Syntax.w16))) Path'.refl tt Path'.refl Path'.refl Path'.refl λ b o. tt) d40
 
           d42 : Typed.Typed 𝓤 H A 𝓣 E G27 b33 Δ3 at42
           d42 = Typed.g-pre 𝓤 H A W 𝓣 E G27 G28 b33 Δ3 (λ Ψ. Ψ) at41 (Lifetime.g-begin 𝓤 H A W E G27 4
-              (tt, (tt, (tt, (tt, (tt, (tt, (tt, (tt, (tt, (tt, (tt, (tt, (tt, (tt, (tt, (tt, (tt, (tt, (tt, (tt, (tt, (tt, (tt, (tt, (tt, (tt, (tt, (tt, tt))))))))))))))))))))))))))))) d41
+              (tt, (tt, (tt, (tt, (tt, (tt, (tt, (tt, (tt, (tt, (tt, (tt, (tt, (tt, (tt, (tt, (tt, (tt, (tt, (tt, (tt, (tt, (tt, (tt, (tt, (tt, (tt, (tt, (tt, tt)))))))))))))))))))))))))))))) d41
 
           d43 : Typed.Typed 𝓤 H A 𝓣 E G26 b34 Δ3 at43
           d43 = Typed.s-seq 𝓤 H A W 𝓣 E G26 G27 b14 b33 Δ3 (Typed.both s23) at42 (Plain.t-call-plain 𝓤 H A W 𝓣 0 ps·5 r·5 (claims· .10) (claims· .11) "region::part" (known .5) E (λ pos β. β) G26
-              (record { pos = 3; st = List.[]; d = 0; at = λ x. x }, (Num.vAt 13 λ x. x, tt)) 17 List.[] (Call.sub-id 𝓤 H A W (G26 .slots)) (
+              (record { pos = 3; st = List.[]; d = 0; at = λ x. x }, (Num.vAt 14 λ x. x, tt)) 18 List.[] (Call.sub-id 𝓤 H A W (G26 .slots)) (
                 (
                   Yields.yields-copy 𝓤 H A W (λ ρ. Unit) (Declared'.row Rect.the-type) Path'.refl (Copies.cStruct Rect.the-type Laws'4.the-laws Laws'4.the-copy .copy 𝓤 H A W) (Rows'.whole (Declared'.row
                       Rect.the-type)) (λ x. x) (λ x. x) (λ ρ told. Local.mem-whole 𝓤 H A W (Declared'.row Rect.the-type) ρ) λ ρ told. Local.whole-mem 𝓤 H A W (Declared'.row Rect.the-type) ρ,
@@ -2483,7 +2519,7 @@ module _ (claims· : Claims) where
 
           d44 : Typed.Typed 𝓤 H A 𝓣 E G25 b35 Δ3 at44
           d44 = Typed.s-seq 𝓤 H A W 𝓣 E G25 G26 b13 b34 Δ3 (Typed.both s22) at43 (Plain.t-call-plain 𝓤 H A W 𝓣 1 ps·4 r·4 (claims· .8) (claims· .9) "stream::base_row" (known .4) E (λ pos β. β) G25
-              (record { pos = 1; ty = Syntax.tyRef (Syntax.named 0) Syntax.imm (Syntax.tyInt Syntax.w8); ref = λ x. x }, (Num.vAt 13 λ x. x, tt)) 16 (List._∷_ 0 List.[]) (Call.sub-id 𝓤 H A W (G25
+              (record { pos = 1; ty = Syntax.tyRef (Syntax.named 0) Syntax.imm (Syntax.tyInt Syntax.w8); ref = λ x. x }, (Num.vAt 14 λ x. x, tt)) 17 (List._∷_ 0 List.[]) (Call.sub-id 𝓤 H A W (G25
               .slots)) (
                 ShrSlice.spares-sslice 𝓤 H A W (Referent.rtF (Referent.fInt Syntax.w8)) (Syntax.tyRef (Syntax.named 0) Syntax.imm (Syntax.tyInt Syntax.w8)) 0,
                 Shared.reads-sslice 𝓤 H A W (Referent.rtF
@@ -2495,7 +2531,7 @@ module _ (claims· : Claims) where
 
           d45 : Typed.Typed 𝓤 H A 𝓣 E G24 b36 Δ3 at45
           d45 = Typed.s-seq 𝓤 H A W 𝓣 E G24 G25 b12 b35 Δ3 (Typed.both s21) at44 (Plain.t-call-plain 𝓤 H A W 𝓣 1 ps·3 r·3 (claims· .6) (claims· .7) "stream::block_bytes" (known .3) E (λ pos β. β) G24
-              (record { pos = 1; ty = Syntax.tyRef (Syntax.named 0) Syntax.imm (Syntax.tyInt Syntax.w8); ref = λ x. x }, (Num.vAt 13 λ x. x, tt)) 15 (List._∷_ 0 List.[]) (Call.sub-id 𝓤 H A W (G24
+              (record { pos = 1; ty = Syntax.tyRef (Syntax.named 0) Syntax.imm (Syntax.tyInt Syntax.w8); ref = λ x. x }, (Num.vAt 14 λ x. x, tt)) 16 (List._∷_ 0 List.[]) (Call.sub-id 𝓤 H A W (G24
               .slots)) (
                 ShrSlice.spares-sslice 𝓤 H A W (Referent.rtF (Referent.fInt Syntax.w8)) (Syntax.tyRef (Syntax.named 0) Syntax.imm (Syntax.tyInt Syntax.w8)) 0,
                 Shared.reads-sslice 𝓤 H A W (Referent.rtF
@@ -2507,7 +2543,7 @@ module _ (claims· : Claims) where
 
           d46 : Typed.Typed 𝓤 H A 𝓣 E G17 b37 Δ3 at46
           d46 = Typed.s-seq 𝓤 H A W 𝓣 E G17 G24 b11 b36 Δ3 (Typed.both s20) at45 (Plain.t-call-plain 𝓤 H A W 𝓣 0 ps·2 r·2 (claims· .4) (claims· .5) "block::form_of" (known .2) E (λ pos β. β) G17
-              (record { pos = 2; st = List.[]; d = 0; at = λ x. x }, tt) 14 List.[] (Call.sub-id 𝓤 H A W (G17 .slots)) (
+              (record { pos = 2; st = List.[]; d = 0; at = λ x. x }, tt) 15 List.[] (Call.sub-id 𝓤 H A W (G17 .slots)) (
                 (
                   Yields.yields-copy 𝓤 H A W (λ ρ. Unit) (Declared'.row FujiHeader.the-type) Path'.refl (Copies.cStruct FujiHeader.the-type Laws'6.the-laws Laws'6.the-copy .copy 𝓤 H A W) (Rows'.whole
                       (Declared'.row FujiHeader.the-type)) (λ x. x) (λ x. x) (λ ρ told. Local.mem-whole 𝓤 H A W (Declared'.row FujiHeader.the-type) ρ) λ ρ told. Local.whole-mem 𝓤 H A W (Declared'.row
@@ -2521,32 +2557,36 @@ module _ (claims· : Claims) where
           d47 = Typed.t-seq 𝓤 H A W 𝓣 E G16 G17 b10 b37 Δ3 at8 at46 d8 d46
 
           d48 : Typed.Typed 𝓤 H A 𝓣 E G15 b39 Δ3 at48
-          d48 = Typed.s-seq 𝓤 H A W 𝓣 E G15 G16 b7 b38 Δ3 (Typed.ask s13) at47 (Scalar.t-op2 𝓤 H A W E 𝓣 G15 (Syntax.lt Syntax.unsigned) (Scalar.oAt 13 (Syntax.tyInt Syntax.w64) (Row.valS (Row.sInt
-              Syntax.w64))) (Scalar.oAt 10 (Syntax.tyInt Syntax.w64) (Row.valS (Row.sInt Syntax.w64))) 20 (Rows'.sc-here Row.sBool) Syntax.tyBool (Row.valS Row.sBool) (Row.sBool .of)
+          d48 = Typed.s-seq 𝓤 H A W 𝓣 E G15 G16 b7 b38 Δ3 (Typed.ask s13) at47 (Scalar.t-op2 𝓤 H A W E 𝓣 G15 (Syntax.lt Syntax.unsigned) (Scalar.oAt 14 (Syntax.tyInt Syntax.w64) (Row.valS (Row.sInt
+              Syntax.w64))) (Scalar.oAt 11 (Syntax.tyInt Syntax.w64) (Row.valS (Row.sInt Syntax.w64))) 21 (Rows'.sc-here Row.sBool) Syntax.tyBool (Row.valS Row.sBool) (Row.sBool .of)
               (Scalar.reads-sc 𝓤 H A W (Row.sInt Syntax.w64), Path'.refl) (Scalar.reads-sc 𝓤 H A W (Row.sInt Syntax.w64), Path'.refl) (Reads'.room-gone 𝓤 H A Syntax.tyBool) (Scalar.holds-sc 𝓤 H A W
               Row.sBool) Path'.refl (λ u. Path'.refl) λ u. tt) d47
 
           d49 : Typed.Typed 𝓤 H A 𝓣 E G15 b40 Δ2 at49
           d49 = Typed.t-loop-by 𝓤 H A W 𝓣 E G15 b39 Δ2 put0 (λ u vs. Inv·0 (Row.get 1 (T15 .locals) u .now) (Row.get 2 (T15 .locals) u) (Row.get 3 (T15 .locals) u) (Row.get 4 (T15 .locals) u) (Row.get
-              5 (T15 .locals) u .now) (Row.get 6 (T15 .locals) u .now) (Row.get 7 (T15 .locals) u .now) (Row.get 9 (T15 .locals) u) (Row.get 10 (T15 .locals) u) (Row.get 11 (T15 .locals) u) (Row.get 12
-              (T15 .locals) u) (Row.get 13 (T15 .locals) u) (vs .0) (vs .1) (vs .2) (vs .3) (vs .4)) (λ u vs. μ·0 (Row.get 1 (T15 .locals) u .now) (Row.get 2 (T15 .locals) u) (Row.get 3 (T15 .locals) u)
-              (Row.get 4 (T15 .locals) u) (Row.get 5 (T15 .locals) u .now) (Row.get 6 (T15 .locals) u .now) (Row.get 7 (T15 .locals) u .now) (Row.get 9 (T15 .locals) u) (Row.get 10 (T15 .locals) u)
-              (Row.get 11 (T15 .locals) u) (Row.get 12 (T15 .locals) u) (Row.get 13 (T15 .locals) u) (vs .0) (vs .1) (vs .2) (vs .3) (vs .4)) at48 d48
+              5 (T15 .locals) u .now) (Row.get 6 (T15 .locals) u .now) (Row.get 7 (T15 .locals) u .now) (Row.get 8 (T15 .locals) u) (Row.get 10 (T15 .locals) u) (Row.get 11 (T15 .locals) u) (Row.get 12
+              (T15 .locals) u) (Row.get 13 (T15 .locals) u) (Row.get 14 (T15 .locals) u) (vs .0) (vs .1) (vs .2) (vs .3) (vs .4)) (λ u vs. μ·0 (Row.get 1 (T15 .locals) u .now) (Row.get 2 (T15 .locals) u)
+              (Row.get 3 (T15 .locals) u) (Row.get 4 (T15 .locals) u) (Row.get 5 (T15 .locals) u .now) (Row.get 6 (T15 .locals) u .now) (Row.get 7 (T15 .locals) u .now) (Row.get 8 (T15 .locals) u)
+              (Row.get 10 (T15 .locals) u) (Row.get 11 (T15 .locals) u) (Row.get 12 (T15 .locals) u) (Row.get 13 (T15 .locals) u) (Row.get 14 (T15 .locals) u) (vs .0) (vs .1) (vs .2) (vs .3) (vs .4)) at48
+              d48
 
           d50 : Typed.Typed 𝓤 H A 𝓣 E G15 b41 Δ1 at50
           d50 = Typed.t-block 𝓤 H A W 𝓣 E G15 b40 Δ1 at49 d49
 
           d51 : Typed.Typed 𝓤 H A 𝓣 E G13 b41 Δ1 at51
-          d51 = Typed.g-pre 𝓤 H A W 𝓣 E G13 G15 b41 Δ1 (Typed.pass T13 T15 s12) at50 (Scalar.g-room 𝓤 H A W E G13 8 y2 (Local.room-whole 𝓤 H A W (Declared'.row Span.the-type) y2 Path'.refl)) d50
+          d51 = Typed.g-pre 𝓤 H A W 𝓣 E G13 G15 b41 Δ1 (Typed.pass T13 T15 s12) at50 (Scalar.g-room 𝓤 H A W E G13 9 y2 (Local.room-whole 𝓤 H A W (Declared'.row Span.the-type) y2 Path'.refl)) d50
 
-          d52 : Typed.Typed 𝓤 H A 𝓣 E G66 b43 Δ0 at52
+          d52 : Typed.Typed 𝓤 H A 𝓣 E G67 b43 Δ0 at52
           d52 = Typed.t-return 𝓤 H A W 𝓣 E Δ0 tt
 
-          d53 : Typed.Typed 𝓤 H A 𝓣 E G65 b43 Δ0 at53
-          d53 = Typed.g-pre 𝓤 H A W 𝓣 E G65 G66 b43 Δ0 (Typed.pass T65 T66 s62) at52 (Scalar.g-room 𝓤 H A W E G65 13 (Syntax.tyInt Syntax.w64) (Scalar.room-sc 𝓤 H A W (Row.sInt Syntax.w64))) d52
+          d53 : Typed.Typed 𝓤 H A 𝓣 E G66 b43 Δ0 at53
+          d53 = Typed.g-pre 𝓤 H A W 𝓣 E G66 G67 b43 Δ0 (Typed.pass T66 T67 s63) at52 (Scalar.g-room 𝓤 H A W E G66 8 Syntax.tyBool (Scalar.room-sc 𝓤 H A W Row.sBool)) d52
 
-          d54 : Typed.Typed 𝓤 H A 𝓣 E G64 b43 Δ0 at54
-          d54 = Typed.g-pre 𝓤 H A W 𝓣 E G64 G65 b43 Δ0 (Typed.pass T64 T65 s61) at53 (Scalar.g-room 𝓤 H A W E G64 12 (Syntax.tyEnum (List._∷_ 98 (List._∷_ 108 (List._∷_ 111 (List._∷_ 99 (List._∷_ 107
+          d54 : Typed.Typed 𝓤 H A 𝓣 E G65 b43 Δ0 at54
+          d54 = Typed.g-pre 𝓤 H A W 𝓣 E G65 G66 b43 Δ0 (Typed.pass T65 T66 s62) at53 (Scalar.g-room 𝓤 H A W E G65 14 (Syntax.tyInt Syntax.w64) (Scalar.room-sc 𝓤 H A W (Row.sInt Syntax.w64))) d53
+
+          d55 : Typed.Typed 𝓤 H A 𝓣 E G64 b43 Δ0 at55
+          d55 = Typed.g-pre 𝓤 H A W 𝓣 E G64 G65 b43 Δ0 (Typed.pass T64 T65 s61) at54 (Scalar.g-room 𝓤 H A W E G64 13 (Syntax.tyEnum (List._∷_ 98 (List._∷_ 108 (List._∷_ 111 (List._∷_ 99 (List._∷_ 107
               (List._∷_ 58 (List._∷_ 58 (List._∷_ 68 (List._∷_ 101 (List._∷_ 99 (List._∷_ 111 (List._∷_ 100 (List._∷_ 101 (List._∷_ 100 List.[])))))))))))))) (Syntax.ttcons Syntax.tnil (Syntax.ttcons
               (Syntax.tcons (Syntax.tyEnum (List._∷_ 115 (List._∷_ 116 (List._∷_ 114 (List._∷_ 101 (List._∷_ 97 (List._∷_ 109 (List._∷_ 58 (List._∷_ 58 (List._∷_ 82 (List._∷_ 101 (List._∷_ 102 (List._∷_
               117 (List._∷_ 115 (List._∷_ 97 (List._∷_ 108 List.[]))))))))))))))) (Syntax.ttcons Syntax.tnil (Syntax.ttcons Syntax.tnil (Syntax.ttcons Syntax.tnil (Syntax.ttcons (Syntax.tcons
@@ -2563,16 +2603,16 @@ module _ (claims· : Claims) where
               (Syntax.tyInt Syntax.w64) Syntax.tnil) (Syntax.ttcons Syntax.tnil (Syntax.ttcons (Syntax.tcons (Syntax.tyInt Syntax.w64) (Syntax.tcons (Syntax.tyInt Syntax.w64) Syntax.tnil)) (Syntax.ttcons
               (Syntax.tcons (Syntax.tyInt Syntax.w64) Syntax.tnil) (Syntax.ttcons Syntax.tnil (Syntax.ttcons Syntax.tnil (Syntax.ttcons (Syntax.tcons (Syntax.tyInt Syntax.w64) Syntax.tnil) (Syntax.ttcons
               (Syntax.tcons (Syntax.tyInt Syntax.w64) Syntax.tnil) (Syntax.ttcons (Syntax.tcons (Syntax.tyInt Syntax.w64) Syntax.tnil) (Syntax.ttcons Syntax.tnil Syntax.ttnil))))))))))))))))))))))
-              Syntax.tnil) Syntax.ttnil))) Path'.refl)) d53
+              Syntax.tnil) Syntax.ttnil))) Path'.refl)) d54
 
-          d55 : Typed.Typed 𝓤 H A 𝓣 E G63 b43 Δ0 at55
-          d55 = Typed.g-pre 𝓤 H A W 𝓣 E G63 G64 b43 Δ0 (Typed.pass T63 T64 s60) at54 (Scalar.g-room 𝓤 H A W E G63 10 (Syntax.tyInt Syntax.w64) (Scalar.room-sc 𝓤 H A W (Row.sInt Syntax.w64))) d54
+          d56 : Typed.Typed 𝓤 H A 𝓣 E G63 b43 Δ0 at56
+          d56 = Typed.g-pre 𝓤 H A W 𝓣 E G63 G64 b43 Δ0 (Typed.pass T63 T64 s60) at55 (Scalar.g-room 𝓤 H A W E G63 11 (Syntax.tyInt Syntax.w64) (Scalar.room-sc 𝓤 H A W (Row.sInt Syntax.w64))) d55
 
-          d56 : Typed.Typed 𝓤 H A 𝓣 E G62 b43 Δ0 at56
-          d56 = Typed.g-pre 𝓤 H A W 𝓣 E G62 G63 b43 Δ0 (Typed.pass T62 T63 s59) at55 (Scalar.g-room 𝓤 H A W E G62 9 (Syntax.tyInt Syntax.w64) (Scalar.room-sc 𝓤 H A W (Row.sInt Syntax.w64))) d55
+          d57 : Typed.Typed 𝓤 H A 𝓣 E G62 b43 Δ0 at57
+          d57 = Typed.g-pre 𝓤 H A W 𝓣 E G62 G63 b43 Δ0 (Typed.pass T62 T63 s59) at56 (Scalar.g-room 𝓤 H A W E G62 10 (Syntax.tyInt Syntax.w64) (Scalar.room-sc 𝓤 H A W (Row.sInt Syntax.w64))) d56
 
-          d57 : Typed.Typed 𝓤 H A 𝓣 E G14 b44 Δ0 at57
-          d57 = Typed.s-seq 𝓤 H A W 𝓣 E G14 G62 b42 b43 Δ0 (Typed.pass T14 T62 s58) at56 (LocalCopy.t-val-copy 𝓤 H A W E 𝓣 (λ ρ. Unit) G14 12 0 (Declared.row Decoded.the-type) (Syntax.tyEnum (List._∷_
+          d58 : Typed.Typed 𝓤 H A 𝓣 E G14 b44 Δ0 at58
+          d58 = Typed.s-seq 𝓤 H A W 𝓣 E G14 G62 b42 b43 Δ0 (Typed.pass T14 T62 s58) at57 (LocalCopy.t-val-copy 𝓤 H A W E 𝓣 (λ ρ. Unit) G14 13 0 (Declared.row Decoded.the-type) (Syntax.tyEnum (List._∷_
               98 (List._∷_ 108 (List._∷_ 111 (List._∷_ 99 (List._∷_ 107 (List._∷_ 58 (List._∷_ 58 (List._∷_ 68 (List._∷_ 101 (List._∷_ 99 (List._∷_ 111 (List._∷_ 100 (List._∷_ 101 (List._∷_ 100
               List.[])))))))))))))) (Syntax.ttcons Syntax.tnil (Syntax.ttcons (Syntax.tcons (Syntax.tyEnum (List._∷_ 115 (List._∷_ 116 (List._∷_ 114 (List._∷_ 101 (List._∷_ 97 (List._∷_ 109 (List._∷_ 58
               (List._∷_ 58 (List._∷_ 82 (List._∷_ 101 (List._∷_ 102 (List._∷_ 117 (List._∷_ 115 (List._∷_ 97 (List._∷_ 108 List.[]))))))))))))))) (Syntax.ttcons Syntax.tnil (Syntax.ttcons Syntax.tnil
@@ -2601,19 +2641,19 @@ module _ (claims· : Claims) where
               (Syntax.ttcons (Syntax.tcons (Syntax.tyInt Syntax.w64) Syntax.tnil) (Syntax.ttcons Syntax.tnil (Syntax.ttcons Syntax.tnil (Syntax.ttcons (Syntax.tcons (Syntax.tyInt Syntax.w64) Syntax.tnil)
               (Syntax.ttcons (Syntax.tcons (Syntax.tyInt Syntax.w64) Syntax.tnil) (Syntax.ttcons (Syntax.tcons (Syntax.tyInt Syntax.w64) Syntax.tnil) (Syntax.ttcons Syntax.tnil
               Syntax.ttnil)))))))))))))))))))))) Syntax.tnil) Syntax.ttnil)))) (Yields.makes-mem 𝓤 H A W (λ ρ. Unit) (Declared.row Decoded.the-type) Path'.refl (Rows'.whole (Declared.row
-              Decoded.the-type)) (λ x. x) λ ρ told. Local.whole-mem 𝓤 H A W (Declared.row Decoded.the-type) ρ) Path'.refl Path'.refl) d56
+              Decoded.the-type)) (λ x. x) λ ρ told. Local.whole-mem 𝓤 H A W (Declared.row Decoded.the-type) ρ) Path'.refl Path'.refl) d57
 
-          d58 : Typed.Typed 𝓤 H A 𝓣 E G13 b45 Δ0 at58
-          d58 = Typed.t-seq 𝓤 H A W 𝓣 E G13 G14 b41 b44 Δ0 at51 at57 d51 d57
+          d59 : Typed.Typed 𝓤 H A 𝓣 E G13 b45 Δ0 at59
+          d59 = Typed.t-seq 𝓤 H A W 𝓣 E G13 G14 b41 b44 Δ0 at51 at58 d51 d58
 
-          d59 : Typed.Typed 𝓤 H A 𝓣 E G12 b46 Δ0 at59
-          d59 = Typed.s-seq 𝓤 H A W 𝓣 E G12 G13 b6 b45 Δ0 (Typed.pass T12 T13 s11) at58 (Scalar.t-use 𝓤 H A W E 𝓣 G12 (Scalar.oFld 8 (List._∷_ (Syntax.field 0) List.[]) (Syntax.tyInt Syntax.w64) 0
-              (Reads.fieldV Span.the-type Laws'5.the-laws 0)) 13 (Rows'.sc-here (Row.sInt Syntax.w64)) (Syntax.tyInt Syntax.w64) (Row.valS (Row.sInt Syntax.w64)) (Row.sInt Syntax.w64 .of)
+          d60 : Typed.Typed 𝓤 H A 𝓣 E G12 b46 Δ0 at60
+          d60 = Typed.s-seq 𝓤 H A W 𝓣 E G12 G13 b6 b45 Δ0 (Typed.pass T12 T13 s11) at59 (Scalar.t-use 𝓤 H A W E 𝓣 G12 (Scalar.oFld 9 (List._∷_ (Syntax.field 0) List.[]) (Syntax.tyInt Syntax.w64) 0
+              (Reads.fieldV Span.the-type Laws'5.the-laws 0)) 14 (Rows'.sc-here (Row.sInt Syntax.w64)) (Syntax.tyInt Syntax.w64) (Row.valS (Row.sInt Syntax.w64)) (Row.sInt Syntax.w64 .of)
               (Reads.reads-field 𝓤 H A W Span.the-type Laws'5.the-laws 0 (Syntax.tyInt Syntax.w64) 0 Path'.refl, Path'.refl) (Reads'.room-gone 𝓤 H A (Syntax.tyInt Syntax.w64)) (Scalar.holds-sc 𝓤 H A W
-              (Row.sInt Syntax.w64)) Path'.refl (λ u. Path'.refl) λ u. tt) d58
+              (Row.sInt Syntax.w64)) Path'.refl (λ u. Path'.refl) λ u. tt) d59
 
-          d60 : Typed.Typed 𝓤 H A 𝓣 E G11 b47 Δ0 at60
-          d60 = Typed.s-seq 𝓤 H A W 𝓣 E G11 G12 b5 b46 Δ0 (Typed.pass T11 T12 s10) at59 (Make.t-enum-make-wt 𝓤 H A W E 𝓣 Decoded.the-type Laws.the-laws Laws.the-plain tt G11 12 (List._∷_ (Scalar.oInt
+          d61 : Typed.Typed 𝓤 H A 𝓣 E G11 b47 Δ0 at61
+          d61 = Typed.s-seq 𝓤 H A W 𝓣 E G11 G12 b5 b46 Δ0 (Typed.pass T11 T12 s10) at60 (Make.t-enum-make-wt 𝓤 H A W E 𝓣 Decoded.the-type Laws.the-laws Laws.the-plain tt G11 13 (List._∷_ (Scalar.oInt
               Syntax.w8 0) List.[]) (λ m. Decoded.enum .make (Logic.inl tt)) (Reads'.room-gone 𝓤 H A (Syntax.tyEnum (List._∷_ 98 (List._∷_ 108 (List._∷_ 111 (List._∷_ 99 (List._∷_ 107 (List._∷_ 58
               (List._∷_ 58 (List._∷_ 68 (List._∷_ 101 (List._∷_ 99 (List._∷_ 111 (List._∷_ 100 (List._∷_ 101 (List._∷_ 100 List.[])))))))))))))) (Syntax.ttcons Syntax.tnil (Syntax.ttcons (Syntax.tcons
               (Syntax.tyEnum (List._∷_ 115 (List._∷_ 116 (List._∷_ 114 (List._∷_ 101 (List._∷_ 97 (List._∷_ 109 (List._∷_ 58 (List._∷_ 58 (List._∷_ 82 (List._∷_ 101 (List._∷_ 102 (List._∷_ 117 (List._∷_
@@ -2623,45 +2663,45 @@ module _ (claims· : Claims) where
               Syntax.w64) (Syntax.tcons (Syntax.tyInt Syntax.w64) Syntax.tnil)) (Syntax.ttcons (Syntax.tcons (Syntax.tyInt Syntax.w64) Syntax.tnil) (Syntax.ttcons Syntax.tnil (Syntax.ttcons Syntax.tnil
               (Syntax.ttcons (Syntax.tcons (Syntax.tyInt Syntax.w64) Syntax.tnil) (Syntax.ttcons (Syntax.tcons (Syntax.tyInt Syntax.w64) Syntax.tnil) (Syntax.ttcons (Syntax.tcons (Syntax.tyInt Syntax.w64)
               Syntax.tnil) (Syntax.ttcons Syntax.tnil Syntax.ttnil)))))))))))))))))))))) Syntax.tnil) Syntax.ttnil)))) (tt, tt) Path'.refl (λ m wa. Make.made-val Decoded.the-type Laws.the-laws List.[]
-              (Decoded.enum .make (Logic.inl tt)) tt (wa .1)) λ m wa. Make.made-is Decoded.the-type Laws.the-laws List.[] (Decoded.enum .make (Logic.inl tt)) tt (wa .1)) d59
+              (Decoded.enum .make (Logic.inl tt)) tt (wa .1)) λ m wa. Make.made-is Decoded.the-type Laws.the-laws List.[] (Decoded.enum .make (Logic.inl tt)) tt (wa .1)) d60
 
-          d61 : Typed.Typed 𝓤 H A 𝓣 E G10 b47 Δ0 at61
-          d61 = Typed.g-pre 𝓤 H A W 𝓣 E G10 G11 b47 Δ0 (Typed.pass T10 T11 s9) at60 (Scalar.g-room 𝓤 H A W E G10 19 (Syntax.tyArray (Syntax.tyInt Syntax.w16) 768) (Init.room-arr 𝓤 H A W (Referent.rtF
-              (Referent.fInt Syntax.w16)) 768 0 768 Path'.refl)) d60
+          d62 : Typed.Typed 𝓤 H A 𝓣 E G10 b47 Δ0 at62
+          d62 = Typed.g-pre 𝓤 H A W 𝓣 E G10 G11 b47 Δ0 (Typed.pass T10 T11 s9) at61 (Scalar.g-room 𝓤 H A W E G10 20 (Syntax.tyArray (Syntax.tyInt Syntax.w16) 768) (Init.room-arr 𝓤 H A W (Referent.rtF
+              (Referent.fInt Syntax.w16)) 768 0 768 Path'.refl)) d61
 
-          d62 : Typed.Typed 𝓤 H A 𝓣 E G9 b48 Δ0 at62
-          d62 = Typed.s-seq 𝓤 H A W 𝓣 E G9 G10 b4 b47 Δ0 (Typed.pass T9 T10 s8) at61 (LocalCopy.t-val-copy 𝓤 H A W E 𝓣 (λ ρ. Unit) G9 19 11 (Array'.Array (Referent.rtF (Referent.fInt Syntax.w16)) 768)
+          d63 : Typed.Typed 𝓤 H A 𝓣 E G9 b48 Δ0 at63
+          d63 = Typed.s-seq 𝓤 H A W 𝓣 E G9 G10 b4 b47 Δ0 (Typed.pass T9 T10 s8) at62 (LocalCopy.t-val-copy 𝓤 H A W E 𝓣 (λ ρ. Unit) G9 20 12 (Array'.Array (Referent.rtF (Referent.fInt Syntax.w16)) 768)
               (Syntax.tyArray (Syntax.tyInt Syntax.w16) 768) (Syntax.tyArray (Syntax.tyInt Syntax.w16) 768) (Rows.arrF (Referent.rtF (Referent.fInt Syntax.w16)) 768 0) (Rows.arrF (Referent.rtF
               (Referent.fInt Syntax.w16)) 768 0) (λ x. x) (λ x. x) (λ x. x) Path'.refl (Own.told-none 𝓤 H A (G9 .slots)) (Yields.yields-copy 𝓤 H A W (λ ρ. Unit) (Array'.Array (Referent.rtF (Referent.fInt
               Syntax.w16)) 768) Path'.refl (Copies.cArr (Referent.rtF (Referent.fInt Syntax.w16)) (Copies.cRf (Referent.fInt Syntax.w16)) 768 .copy 𝓤 H A W) (Rows.arrF (Referent.rtF (Referent.fInt
               Syntax.w16)) 768 0) (λ x. x) (λ x. x) (λ ρ told. Whole.mem-arr 𝓤 H A W (Referent.rtF (Referent.fInt Syntax.w16)) 768 ρ) λ ρ told. Whole.arr-mem 𝓤 H A W (Referent.rtF (Referent.fInt
               Syntax.w16)) 768 tt ρ) (Reads'.room-gone 𝓤 H A (Syntax.tyArray (Syntax.tyInt Syntax.w16) 768)) (Yields.makes-mem 𝓤 H A W (λ ρ. Unit) (Array'.Array (Referent.rtF (Referent.fInt Syntax.w16))
               768) Path'.refl (Rows.arrF (Referent.rtF (Referent.fInt Syntax.w16)) 768 0) (λ x. x) λ ρ told. Whole.arr-mem 𝓤 H A W (Referent.rtF (Referent.fInt Syntax.w16)) 768 tt ρ) Path'.refl
-              Path'.refl) d61
+              Path'.refl) d62
 
-          d63 : Typed.Typed 𝓤 H A 𝓣 E G8 b49 Δ0 at63
-          d63 = Typed.s-seq 𝓤 H A W 𝓣 E G8 G9 b3 b48 Δ0 (Typed.both s7) at62 (Plain.t-call-plain 𝓤 H A W 𝓣 0 ps·1 r·1 (claims· .2) (claims· .3) "map::xtrans_places" (known .1) E (λ pos β. β) G8 tt 19
-              List.[] (Call.sub-id 𝓤 H A W (G8 .slots)) tt (Reads'.room-gone 𝓤 H A (Syntax.tyArray (Syntax.tyInt Syntax.w16) 768)) tt Path'.refl) d62
+          d64 : Typed.Typed 𝓤 H A 𝓣 E G8 b49 Δ0 at64
+          d64 = Typed.s-seq 𝓤 H A W 𝓣 E G8 G9 b3 b48 Δ0 (Typed.both s7) at63 (Plain.t-call-plain 𝓤 H A W 𝓣 0 ps·1 r·1 (claims· .2) (claims· .3) "map::xtrans_places" (known .1) E (λ pos β. β) G8 tt 20
+              List.[] (Call.sub-id 𝓤 H A W (G8 .slots)) tt (Reads'.room-gone 𝓤 H A (Syntax.tyArray (Syntax.tyInt Syntax.w16) 768)) tt Path'.refl) d63
 
-          d64 : Typed.Typed 𝓤 H A 𝓣 E G7 b50 Δ0 at64
-          d64 = Typed.s-seq 𝓤 H A W 𝓣 E G7 G8 b2 b49 Δ0 (Typed.ask s6) at63 (Scalar.t-op2 𝓤 H A W E 𝓣 G7 (Syntax.add Syntax.unsigned) (Scalar.oFld 8 (List._∷_ (Syntax.field 1) List.[]) (Syntax.tyInt
-              Syntax.w64) 8 (Reads.fieldV Span.the-type Laws'5.the-laws 1)) (Scalar.oInt Syntax.w64 1) 10 (Rows'.sc-here (Row.sInt Syntax.w64)) (Syntax.tyInt Syntax.w64) (Row.valS (Row.sInt Syntax.w64))
+          d65 : Typed.Typed 𝓤 H A 𝓣 E G7 b50 Δ0 at65
+          d65 = Typed.s-seq 𝓤 H A W 𝓣 E G7 G8 b2 b49 Δ0 (Typed.ask s6) at64 (Scalar.t-op2 𝓤 H A W E 𝓣 G7 (Syntax.add Syntax.unsigned) (Scalar.oFld 9 (List._∷_ (Syntax.field 1) List.[]) (Syntax.tyInt
+              Syntax.w64) 8 (Reads.fieldV Span.the-type Laws'5.the-laws 1)) (Scalar.oInt Syntax.w64 1) 11 (Rows'.sc-here (Row.sInt Syntax.w64)) (Syntax.tyInt Syntax.w64) (Row.valS (Row.sInt Syntax.w64))
               (Row.sInt Syntax.w64 .of) (Reads.reads-field 𝓤 H A W Span.the-type Laws'5.the-laws 1 (Syntax.tyInt Syntax.w64) 8 Path'.refl, Path'.refl) tt (Reads'.room-gone 𝓤 H A (Syntax.tyInt Syntax.w64))
-              (Scalar.holds-sc 𝓤 H A W (Row.sInt Syntax.w64)) Path'.refl (λ u. Path'.refl) λ u. tt) d63
+              (Scalar.holds-sc 𝓤 H A W (Row.sInt Syntax.w64)) Path'.refl (λ u. Path'.refl) λ u. tt) d64
 
-          d65 : Typed.Typed 𝓤 H A 𝓣 E G6 b50 Δ0 at65
-          d65 = Typed.g-pre 𝓤 H A W 𝓣 E G6 G7 b50 Δ0 (Typed.give s5) at64 (Know'.g-struct-known 𝓤 H A W E Span.the-type Laws'5.the-laws G6 8 (λ x. x) (Reads'.as-is 𝓤 H A (Rows'.whole (Declared'.row
-              Span.the-type)))) d64
+          d66 : Typed.Typed 𝓤 H A 𝓣 E G6 b50 Δ0 at66
+          d66 = Typed.g-pre 𝓤 H A W 𝓣 E G6 G7 b50 Δ0 (Typed.give s5) at65 (Know'.g-struct-known 𝓤 H A W E Span.the-type Laws'5.the-laws G6 9 (λ x. x) (Reads'.as-is 𝓤 H A (Rows'.whole (Declared'.row
+              Span.the-type)))) d65
 
-          d66 : Typed.Typed 𝓤 H A 𝓣 E G5 b51 Δ0 at66
-          d66 = Typed.s-seq 𝓤 H A W 𝓣 E G5 G6 b1 b50 Δ0 (Typed.pass T5 T6 s4) at65 (Scalar.t-use 𝓤 H A W E 𝓣 G5 (Scalar.oFld 8 (List._∷_ (Syntax.field 2) List.[]) (Syntax.tyInt Syntax.w64) 16
-              (Reads.fieldV Span.the-type Laws'5.the-laws 2)) 9 (Rows'.sc-here (Row.sInt Syntax.w64)) (Syntax.tyInt Syntax.w64) (Row.valS (Row.sInt Syntax.w64)) (Row.sInt Syntax.w64 .of)
+          d67 : Typed.Typed 𝓤 H A 𝓣 E G5 b51 Δ0 at67
+          d67 = Typed.s-seq 𝓤 H A W 𝓣 E G5 G6 b1 b50 Δ0 (Typed.pass T5 T6 s4) at66 (Scalar.t-use 𝓤 H A W E 𝓣 G5 (Scalar.oFld 9 (List._∷_ (Syntax.field 2) List.[]) (Syntax.tyInt Syntax.w64) 16
+              (Reads.fieldV Span.the-type Laws'5.the-laws 2)) 10 (Rows'.sc-here (Row.sInt Syntax.w64)) (Syntax.tyInt Syntax.w64) (Row.valS (Row.sInt Syntax.w64)) (Row.sInt Syntax.w64 .of)
               (Reads.reads-field 𝓤 H A W Span.the-type Laws'5.the-laws 2 (Syntax.tyInt Syntax.w64) 16 Path'.refl, Path'.refl) (Reads'.room-gone 𝓤 H A (Syntax.tyInt Syntax.w64)) (Scalar.holds-sc 𝓤 H A W
-              (Row.sInt Syntax.w64)) Path'.refl (λ u. Path'.refl) λ u. tt) d65
+              (Row.sInt Syntax.w64)) Path'.refl (λ u. Path'.refl) λ u. tt) d66
 
-          d67 : Typed.Typed 𝓤 H A 𝓣 E G4 b52 Δ0 at67
-          d67 = Typed.s-seq 𝓤 H A W 𝓣 E G4 G5 b0 b51 Δ0 (Typed.both s3) at66 (Plain.t-call-plain 𝓤 H A W 𝓣 0 ps·0 r·0 (claims· .0) (claims· .1) "region::span_of" (known .0) E (λ pos β. β) G4
-              (record { pos = 3; st = List.[]; d = 0; at = λ x. x }, tt) 8 List.[] (Call.sub-id 𝓤 H A W (G4 .slots)) (
+          d68 : Typed.Typed 𝓤 H A 𝓣 E G4 b52 Δ0 at68
+          d68 = Typed.s-seq 𝓤 H A W 𝓣 E G4 G5 b0 b51 Δ0 (Typed.both s3) at67 (Plain.t-call-plain 𝓤 H A W 𝓣 0 ps·0 r·0 (claims· .0) (claims· .1) "region::span_of" (known .0) E (λ pos β. β) G4
+              (record { pos = 3; st = List.[]; d = 0; at = λ x. x }, tt) 9 List.[] (Call.sub-id 𝓤 H A W (G4 .slots)) (
                 (
                   Yields.yields-copy 𝓤 H A W (λ ρ. Unit) (Declared'.row Rect.the-type) Path'.refl (Copies.cStruct Rect.the-type Laws'4.the-laws Laws'4.the-copy .copy 𝓤 H A W) (Rows'.whole (Declared'.row
                       Rect.the-type)) (λ x. x) (λ x. x) (λ ρ told. Local.mem-whole 𝓤 H A W (Declared'.row Rect.the-type) ρ) λ ρ told. Local.whole-mem 𝓤 H A W (Declared'.row Rect.the-type) ρ,
@@ -2669,25 +2709,25 @@ module _ (claims· : Claims) where
                 ),
                 tt,
               )
-              (Reads'.room-gone 𝓤 H A y2) tt Path'.refl) d66
+              (Reads'.room-gone 𝓤 H A y2) tt Path'.refl) d67
 
-          d68 : Typed.Typed 𝓤 H A 𝓣 E G3 b52 Δ0 at68
-          d68 = Typed.g-pre 𝓤 H A W 𝓣 E G3 G4 b52 Δ0 (Typed.give s2) at67 (Know.g-sl-known 𝓤 H A W (Referent.fInt Syntax.w16) E G3 6 2 (Syntax.tyRef (Syntax.named 2) Syntax.mut (Syntax.tyInt
+          d69 : Typed.Typed 𝓤 H A 𝓣 E G3 b52 Δ0 at69
+          d69 = Typed.g-pre 𝓤 H A W 𝓣 E G3 G4 b52 Δ0 (Typed.give s2) at68 (Know.g-sl-known 𝓤 H A W (Referent.fInt Syntax.w16) E G3 6 2 (Syntax.tyRef (Syntax.named 2) Syntax.mut (Syntax.tyInt
               Syntax.w16)) (Row.lease (κs .1 .1 .0) (qs .1 .1 .0)) 0 (λ x. x) record { fits = Dec'.lit< tt } (Reads'.as-is 𝓤 H A (Mut.mslice (Referent.rtF (Referent.fInt Syntax.w16)) (Syntax.tyRef
-              (Syntax.named 2) Syntax.mut (Syntax.tyInt Syntax.w16)) 2)) Path'.refl tt) d67
+              (Syntax.named 2) Syntax.mut (Syntax.tyInt Syntax.w16)) 2)) Path'.refl tt) d68
 
-          d69 : Typed.Typed 𝓤 H A 𝓣 E G2 b52 Δ0 at69
-          d69 = Typed.g-pre 𝓤 H A W 𝓣 E G2 G3 b52 Δ0 (Typed.give s1) at68 (Know.g-sl-known 𝓤 H A W (Referent.fInt Syntax.w16) E G2 5 1 (Syntax.tyRef (Syntax.named 1) Syntax.mut (Syntax.tyInt
+          d70 : Typed.Typed 𝓤 H A 𝓣 E G2 b52 Δ0 at70
+          d70 = Typed.g-pre 𝓤 H A W 𝓣 E G2 G3 b52 Δ0 (Typed.give s1) at69 (Know.g-sl-known 𝓤 H A W (Referent.fInt Syntax.w16) E G2 5 1 (Syntax.tyRef (Syntax.named 1) Syntax.mut (Syntax.tyInt
               Syntax.w16)) (Row.lease (κs .1 .0) (qs .1 .0)) 0 (λ x. x) record { fits = Dec'.lit< tt } (Reads'.as-is 𝓤 H A (Mut.mslice (Referent.rtF (Referent.fInt Syntax.w16)) (Syntax.tyRef (Syntax.named
-              1) Syntax.mut (Syntax.tyInt Syntax.w16)) 1)) Path'.refl tt) d68
+              1) Syntax.mut (Syntax.tyInt Syntax.w16)) 1)) Path'.refl tt) d69
 
-          d70 : Typed.Typed 𝓤 H A 𝓣 E G0 b52 Δ0 at70
-          d70 = Typed.g-pre 𝓤 H A W 𝓣 E G0 G2 b52 Δ0 (Typed.give s0) at69 (Know.g-shs-known 𝓤 H A W (Referent.fInt Syntax.w8) E G0 1 0 (Syntax.tyRef (Syntax.named 0) Syntax.imm (Syntax.tyInt
+          d71 : Typed.Typed 𝓤 H A 𝓣 E G0 b52 Δ0 at71
+          d71 = Typed.g-pre 𝓤 H A W 𝓣 E G0 G2 b52 Δ0 (Typed.give s0) at70 (Know.g-shs-known 𝓤 H A W (Referent.fInt Syntax.w8) E G0 1 0 (Syntax.tyRef (Syntax.named 0) Syntax.imm (Syntax.tyInt
               Syntax.w8)) (Row.lease (κs .0) (qs .0)) 0 (λ x. x) record { fits = Dec'.lit< tt } (Reads'.as-is 𝓤 H A (Rows'.sslice (Referent.rtF (Referent.fInt Syntax.w8)) (Syntax.tyRef (Syntax.named 0)
-              Syntax.imm (Syntax.tyInt Syntax.w8)) 0)) Path'.refl tt) d69
+              Syntax.imm (Syntax.tyInt Syntax.w8)) 0)) Path'.refl tt) d70
 
           pub typed : Typed.Typed 𝓤 H A 𝓣 E (Function.Γin 4 ps r xs m κs qs) b52 (Function.Δret 4 ps r xs m κs qs) Φ
-          typed = d70
+          typed = d71
 
       module _ (κs : Lifetimes.Lfts 4) where
         pub record Args : Type 0 where
@@ -2732,9 +2772,10 @@ module _ (claims· : Claims) where
           pub image : Kinds.Den {n = 4} κs (MutSlice.pMutS (Referent.rtF (Referent.fInt Syntax.w16)) 1 tt)
           pub lines : Kinds.Den {n = 4} κs (MutSlice.pMutS (Referent.rtF (Referent.fInt Syntax.w16)) 2 tt)
           pub rs : Kinds.Den {n = 4} κs (MutSlice.pMutS (Element.type) 3 tt)
+          pub windowed : Kinds.Den {n = 4} κs Bool.pBool
 
         abbrev pub dens : (a : Args) → Kinds.Dens κs ps
-        dens = λ a. (a .d, (a .h, (a .r, (a .tile, (a .image, (a .lines, (a .rs, tt)))))))
+        dens = λ a. (a .d, (a .h, (a .r, (a .tile, (a .image, (a .lines, (a .rs, (a .windowed, tt))))))))
 
       abbrev pub m0 : (κs : Lifetimes.Lfts 4) → (args : Args κs) → Typed.Mo T0
       m0 = λ κs args. (tt, Enter.partsP κs 1 ps xs (dens κs args))
@@ -2853,7 +2894,7 @@ module _ (claims· : Claims) where
       m12 = λ before given. s11 (m11 before given)
 
       abbrev W1 : (before : After-struct-known) → (given : s7 .gives (m7 (before .before) (before .struct-known .given))) → Typed.Want O1
-      W1 = λ before given. Typed.wantNext T14 O0 (at57 (W0 (before .before .before .before .before .before .κs) (before .before .before .before .before .before .args))) (W0 (before .before .before
+      W1 = λ before given. Typed.wantNext T14 O0 (at58 (W0 (before .before .before .before .before .before .κs) (before .before .before .before .before .before .args))) (W0 (before .before .before
           .before .before .before .κs) (before .before .before .before .before .before .args))
 
       abbrev pub m13 : (before : After-struct-known) → (given : s7 .gives (m7 (before .before) (before .struct-known .given))) → Typed.Mo T15
@@ -2866,19 +2907,19 @@ module _ (claims· : Claims) where
       Need-loop-holds = (c : After-xtrans-places) → Inv·0 (Row.get 1 (T15 .locals) (m13 (c .before) (After-xtrans-places·gave c)) .now) (Row.get 2 (T15 .locals) (m13 (c .before)
           (After-xtrans-places·gave c))) (Row.get 3 (T15 .locals) (m13 (c .before) (After-xtrans-places·gave c))) (Row.get 4 (T15 .locals) (m13 (c .before) (After-xtrans-places·gave c))) (Row.get 5 (T15
           .locals) (m13 (c .before) (After-xtrans-places·gave c)) .now) (Row.get 6 (T15 .locals) (m13 (c .before) (After-xtrans-places·gave c)) .now) (Row.get 7 (T15 .locals) (m13 (c .before)
-          (After-xtrans-places·gave c)) .now) (Row.get 9 (T15 .locals) (m13 (c .before) (After-xtrans-places·gave c))) (Row.get 10 (T15 .locals) (m13 (c .before) (After-xtrans-places·gave c))) (Row.get 11
+          (After-xtrans-places·gave c)) .now) (Row.get 8 (T15 .locals) (m13 (c .before) (After-xtrans-places·gave c))) (Row.get 10 (T15 .locals) (m13 (c .before) (After-xtrans-places·gave c))) (Row.get 11
           (T15 .locals) (m13 (c .before) (After-xtrans-places·gave c))) (Row.get 12 (T15 .locals) (m13 (c .before) (After-xtrans-places·gave c))) (Row.get 13 (T15 .locals) (m13 (c .before)
-          (After-xtrans-places·gave c))) (Row.get 5 (T15 .locals) (m13 (c .before) (After-xtrans-places·gave c)) .now) (Row.get 6 (T15 .locals) (m13 (c .before) (After-xtrans-places·gave c)) .now)
-          (Row.get 7 (T15 .locals) (m13 (c .before) (After-xtrans-places·gave c)) .now) (Row.get 12 (T15 .locals) (m13 (c .before) (After-xtrans-places·gave c))) (Row.get 13 (T15 .locals) (m13 (c .before)
-          (After-xtrans-places·gave c)))
+          (After-xtrans-places·gave c))) (Row.get 14 (T15 .locals) (m13 (c .before) (After-xtrans-places·gave c))) (Row.get 5 (T15 .locals) (m13 (c .before) (After-xtrans-places·gave c)) .now) (Row.get 6
+          (T15 .locals) (m13 (c .before) (After-xtrans-places·gave c)) .now) (Row.get 7 (T15 .locals) (m13 (c .before) (After-xtrans-places·gave c)) .now) (Row.get 13 (T15 .locals) (m13 (c .before)
+          (After-xtrans-places·gave c))) (Row.get 14 (T15 .locals) (m13 (c .before) (After-xtrans-places·gave c)))
 
       abbrev pub m14 : (before : After-xtrans-places) → (image : List.List (Referent.rtF (Referent.fInt Syntax.w16) .Denot)) → (lines : List.List (Referent.rtF (Referent.fInt Syntax.w16) .Denot)) →
           (rs : List.List (Element.type .Denot)) → (answer : Rows'.whole (Declared.row Decoded.the-type) .Mod) → (b : Rows'.sc-here (Row.sInt Syntax.w64) .Mod) → Typed.Mo T15
-      m14 = λ before image lines rs answer b. Row.set 13 (13, Rows'.sc-here (Row.sInt Syntax.w64)) b (Row.setRow 12 (12, Rows'.whole (Declared.row Decoded.the-type)) (Row.setRow 7
+      m14 = λ before image lines rs answer b. Row.set 14 (14, Rows'.sc-here (Row.sInt Syntax.w64)) b (Row.setRow 13 (13, Rows'.whole (Declared.row Decoded.the-type)) (Row.setRow 7
           (7, Mut.mslice (Element.type) (Syntax.tyRef (Syntax.named 3) Syntax.mut Element.behind) 3) (Row.setRow 6
           (6, Mut.mslice (Referent.rtF (Referent.fInt Syntax.w16)) (Syntax.tyRef (Syntax.named 2) Syntax.mut (Syntax.tyInt Syntax.w16)) 2) (Row.setRow 5
-          (5, Mut.mslice (Referent.rtF (Referent.fInt Syntax.w16)) (Syntax.tyRef (Syntax.named 1) Syntax.mut (Syntax.tyInt Syntax.w16)) 1) (T15 .locals))))) (Row.set 12
-          (12, Rows'.whole (Declared.row Decoded.the-type)) answer (Row.setRow 7 (7, Mut.mslice (Element.type) (Syntax.tyRef (Syntax.named 3) Syntax.mut Element.behind) 3) (Row.setRow 6
+          (5, Mut.mslice (Referent.rtF (Referent.fInt Syntax.w16)) (Syntax.tyRef (Syntax.named 1) Syntax.mut (Syntax.tyInt Syntax.w16)) 1) (T15 .locals))))) (Row.set 13
+          (13, Rows'.whole (Declared.row Decoded.the-type)) answer (Row.setRow 7 (7, Mut.mslice (Element.type) (Syntax.tyRef (Syntax.named 3) Syntax.mut Element.behind) 3) (Row.setRow 6
           (6, Mut.mslice (Referent.rtF (Referent.fInt Syntax.w16)) (Syntax.tyRef (Syntax.named 2) Syntax.mut (Syntax.tyInt Syntax.w16)) 2) (Row.setRow 5
           (5, Mut.mslice (Referent.rtF (Referent.fInt Syntax.w16)) (Syntax.tyRef (Syntax.named 1) Syntax.mut (Syntax.tyInt Syntax.w16)) 1) (T15 .locals)))) (Row.set 7
           (7, Mut.mslice (Element.type) (Syntax.tyRef (Syntax.named 3) Syntax.mut Element.behind) 3) record {
@@ -2904,11 +2945,11 @@ module _ (claims· : Claims) where
       abbrev W3 : (before : After-xtrans-places) → (image : List.List (Referent.rtF (Referent.fInt Syntax.w16) .Denot)) → (lines : List.List (Referent.rtF (Referent.fInt Syntax.w16) .Denot)) → (rs :
           List.List (Element.type .Denot)) → (answer : Rows'.whole (Declared.row Decoded.the-type) .Mod) → (b : Rows'.sc-here (Row.sInt Syntax.w64) .Mod) → Typed.Want O3
       W3 = λ before image lines rs answer b. Typed.inLoop T15 O2 (Typed.Round T15 O2 put0 (λ u vs. Inv·0 (Row.get 1 (T15 .locals) u .now) (Row.get 2 (T15 .locals) u) (Row.get 3 (T15 .locals) u)
-          (Row.get 4 (T15 .locals) u) (Row.get 5 (T15 .locals) u .now) (Row.get 6 (T15 .locals) u .now) (Row.get 7 (T15 .locals) u .now) (Row.get 9 (T15 .locals) u) (Row.get 10 (T15 .locals) u) (Row.get
-          11 (T15 .locals) u) (Row.get 12 (T15 .locals) u) (Row.get 13 (T15 .locals) u) (vs .0) (vs .1) (vs .2) (vs .3) (vs .4)) (λ u vs. μ·0 (Row.get 1 (T15 .locals) u .now) (Row.get 2 (T15 .locals) u)
-          (Row.get 3 (T15 .locals) u) (Row.get 4 (T15 .locals) u) (Row.get 5 (T15 .locals) u .now) (Row.get 6 (T15 .locals) u .now) (Row.get 7 (T15 .locals) u .now) (Row.get 9 (T15 .locals) u) (Row.get 10
-          (T15 .locals) u) (Row.get 11 (T15 .locals) u) (Row.get 12 (T15 .locals) u) (Row.get 13 (T15 .locals) u) (vs .0) (vs .1) (vs .2) (vs .3) (vs .4)) at48 (m13 (before .before)
-          (After-xtrans-places·gave before)) (image, lines, rs, answer, b)) (W2 (before .before) (After-xtrans-places·gave before))
+          (Row.get 4 (T15 .locals) u) (Row.get 5 (T15 .locals) u .now) (Row.get 6 (T15 .locals) u .now) (Row.get 7 (T15 .locals) u .now) (Row.get 8 (T15 .locals) u) (Row.get 10 (T15 .locals) u) (Row.get
+          11 (T15 .locals) u) (Row.get 12 (T15 .locals) u) (Row.get 13 (T15 .locals) u) (Row.get 14 (T15 .locals) u) (vs .0) (vs .1) (vs .2) (vs .3) (vs .4)) (λ u vs. μ·0 (Row.get 1 (T15 .locals) u .now)
+          (Row.get 2 (T15 .locals) u) (Row.get 3 (T15 .locals) u) (Row.get 4 (T15 .locals) u) (Row.get 5 (T15 .locals) u .now) (Row.get 6 (T15 .locals) u .now) (Row.get 7 (T15 .locals) u .now) (Row.get 8
+          (T15 .locals) u) (Row.get 10 (T15 .locals) u) (Row.get 11 (T15 .locals) u) (Row.get 12 (T15 .locals) u) (Row.get 13 (T15 .locals) u) (Row.get 14 (T15 .locals) u) (vs .0) (vs .1) (vs .2) (vs .3)
+          (vs .4)) at48 (m13 (before .before) (After-xtrans-places·gave before)) (image, lines, rs, answer, b)) (W2 (before .before) (After-xtrans-places·gave before))
 
       abbrev pub m15 : (before : After-xtrans-places) → (image : List.List (Referent.rtF (Referent.fInt Syntax.w16) .Denot)) → (lines : List.List (Referent.rtF (Referent.fInt Syntax.w16) .Denot)) →
           (rs : List.List (Element.type .Denot)) → (answer : Rows'.whole (Declared.row Decoded.the-type) .Mod) → (b : Rows'.sc-here (Row.sInt Syntax.w64) .Mod) → Typed.Mo T16
@@ -2928,9 +2969,10 @@ module _ (claims· : Claims) where
           pub inv : Inv·0 (Row.get 1 (T15 .locals) (m13 (before· .before) (After-xtrans-places·gave before·)) .now) (Row.get 2 (T15 .locals) (m13 (before· .before) (After-xtrans-places·gave before·)))
               (Row.get 3 (T15 .locals) (m13 (before· .before) (After-xtrans-places·gave before·))) (Row.get 4 (T15 .locals) (m13 (before· .before) (After-xtrans-places·gave before·))) (Row.get 5 (T15
               .locals) (m13 (before· .before) (After-xtrans-places·gave before·)) .now) (Row.get 6 (T15 .locals) (m13 (before· .before) (After-xtrans-places·gave before·)) .now) (Row.get 7 (T15 .locals)
-              (m13 (before· .before) (After-xtrans-places·gave before·)) .now) (Row.get 9 (T15 .locals) (m13 (before· .before) (After-xtrans-places·gave before·))) (Row.get 10 (T15 .locals) (m13 (before·
+              (m13 (before· .before) (After-xtrans-places·gave before·)) .now) (Row.get 8 (T15 .locals) (m13 (before· .before) (After-xtrans-places·gave before·))) (Row.get 10 (T15 .locals) (m13 (before·
               .before) (After-xtrans-places·gave before·))) (Row.get 11 (T15 .locals) (m13 (before· .before) (After-xtrans-places·gave before·))) (Row.get 12 (T15 .locals) (m13 (before· .before)
-              (After-xtrans-places·gave before·))) (Row.get 13 (T15 .locals) (m13 (before· .before) (After-xtrans-places·gave before·))) image lines rs answer b
+              (After-xtrans-places·gave before·))) (Row.get 13 (T15 .locals) (m13 (before· .before) (After-xtrans-places·gave before·))) (Row.get 14 (T15 .locals) (m13 (before· .before)
+              (After-xtrans-places·gave before·))) image lines rs answer b
 
       pub record At-loop : Type 0 where
         pub before : After-xtrans-places
@@ -2938,8 +2980,8 @@ module _ (claims· : Claims) where
 
       module _ (before· : At-loop) where
         pub record In-loop·own : Type 0 where
-          pub taken : Nat._<_ (Row.get 13 (T15 .locals) (m14 (before· .before) (before· .loop .image) (before· .loop .lines) (before· .loop .rs) (before· .loop .answer) (before· .loop .b))) (Row.get
-              10 (T15 .locals) (m14 (before· .before) (before· .loop .image) (before· .loop .lines) (before· .loop .rs) (before· .loop .answer) (before· .loop .b)))
+          pub taken : Nat._<_ (Row.get 14 (T15 .locals) (m14 (before· .before) (before· .loop .image) (before· .loop .lines) (before· .loop .rs) (before· .loop .answer) (before· .loop .b))) (Row.get
+              11 (T15 .locals) (m14 (before· .before) (before· .loop .image) (before· .loop .lines) (before· .loop .rs) (before· .loop .answer) (before· .loop .b)))
 
       pub record In-loop : Type 0 where
         pub before : At-loop
@@ -2950,7 +2992,7 @@ module _ (claims· : Claims) where
 
       module _ (before· : At-loop) where
         pub record After-loop·own : Type 0 where
-          pub left : Nat._≤_ (Row.get 10 (T15 .locals) (m14 (before· .before) (before· .loop .image) (before· .loop .lines) (before· .loop .rs) (before· .loop .answer) (before· .loop .b))) (Row.get 13
+          pub left : Nat._≤_ (Row.get 11 (T15 .locals) (m14 (before· .before) (before· .loop .image) (before· .loop .lines) (before· .loop .rs) (before· .loop .answer) (before· .loop .b))) (Row.get 14
               (T15 .locals) (m14 (before· .before) (before· .loop .image) (before· .loop .lines) (before· .loop .rs) (before· .loop .answer) (before· .loop .b)))
 
       pub record After-loop : Type 0 where
@@ -2998,7 +3040,7 @@ module _ (claims· : Claims) where
       module _ (before· : After-form-of) where
         abbrev pub After-block-bytes·own : Type 0
         After-block-bytes·own = Called.Called ps·3 r·3 (claims· .7) T24
-            (record { pos = 1; ty = Syntax.tyRef (Syntax.named 0) Syntax.imm (Syntax.tyInt Syntax.w8); ref = λ x. x }, (Num.vAt 13 λ x. x, tt)) (m22 (before· .before) (After-form-of·gave before·))
+            (record { pos = 1; ty = Syntax.tyRef (Syntax.named 0) Syntax.imm (Syntax.tyInt Syntax.w8); ref = λ x. x }, (Num.vAt 14 λ x. x, tt)) (m22 (before· .before) (After-form-of·gave before·))
 
       pub record After-block-bytes : Type 0 where
         pub before : After-form-of
@@ -3006,7 +3048,7 @@ module _ (claims· : Claims) where
 
       abbrev pub After-block-bytes·gave : (c : After-block-bytes) → s21 .gives (m22 (c .before .before) (After-form-of·gave (c .before)))
       After-block-bytes·gave = λ c. Called.given ps·3 r·3 (claims· .7) T24
-          (record { pos = 1; ty = Syntax.tyRef (Syntax.named 0) Syntax.imm (Syntax.tyInt Syntax.w8); ref = λ x. x }, (Num.vAt 13 λ x. x, tt)) (m22 (c .before .before) (After-form-of·gave (c .before))) (c
+          (record { pos = 1; ty = Syntax.tyRef (Syntax.named 0) Syntax.imm (Syntax.tyInt Syntax.w8); ref = λ x. x }, (Num.vAt 14 λ x. x, tt)) (m22 (c .before .before) (After-form-of·gave (c .before))) (c
           .block-bytes)
 
       abbrev pub Need-base-row-requires : Type 0
@@ -3018,7 +3060,7 @@ module _ (claims· : Claims) where
       module _ (before· : After-block-bytes) where
         abbrev pub After-base-row·own : Type 0
         After-base-row·own = Called.Called ps·4 r·4 (claims· .9) T25
-            (record { pos = 1; ty = Syntax.tyRef (Syntax.named 0) Syntax.imm (Syntax.tyInt Syntax.w8); ref = λ x. x }, (Num.vAt 13 λ x. x, tt)) (m23 (before· .before) (After-block-bytes·gave before·))
+            (record { pos = 1; ty = Syntax.tyRef (Syntax.named 0) Syntax.imm (Syntax.tyInt Syntax.w8); ref = λ x. x }, (Num.vAt 14 λ x. x, tt)) (m23 (before· .before) (After-block-bytes·gave before·))
 
       pub record After-base-row : Type 0 where
         pub before : After-block-bytes
@@ -3026,7 +3068,7 @@ module _ (claims· : Claims) where
 
       abbrev pub After-base-row·gave : (c : After-base-row) → s22 .gives (m23 (c .before .before) (After-block-bytes·gave (c .before)))
       After-base-row·gave = λ c. Called.given ps·4 r·4 (claims· .9) T25
-          (record { pos = 1; ty = Syntax.tyRef (Syntax.named 0) Syntax.imm (Syntax.tyInt Syntax.w8); ref = λ x. x }, (Num.vAt 13 λ x. x, tt)) (m23 (c .before .before) (After-block-bytes·gave (c
+          (record { pos = 1; ty = Syntax.tyRef (Syntax.named 0) Syntax.imm (Syntax.tyInt Syntax.w8); ref = λ x. x }, (Num.vAt 14 λ x. x, tt)) (m23 (c .before .before) (After-block-bytes·gave (c
           .before))) (c .base-row)
 
       abbrev pub Need-part-requires : Type 0
@@ -3037,14 +3079,14 @@ module _ (claims· : Claims) where
 
       module _ (before· : After-base-row) where
         abbrev pub After-part·own : Type 0
-        After-part·own = Called.Called ps·5 r·5 (claims· .11) T26 (record { pos = 3; st = List.[]; d = 0; at = λ x. x }, (Num.vAt 13 λ x. x, tt)) (m24 (before· .before) (After-base-row·gave before·))
+        After-part·own = Called.Called ps·5 r·5 (claims· .11) T26 (record { pos = 3; st = List.[]; d = 0; at = λ x. x }, (Num.vAt 14 λ x. x, tt)) (m24 (before· .before) (After-base-row·gave before·))
 
       pub record After-part : Type 0 where
         pub before : After-base-row
         pub part : After-part·own before
 
       abbrev pub After-part·gave : (c : After-part) → s23 .gives (m24 (c .before .before) (After-base-row·gave (c .before)))
-      After-part·gave = λ c. Called.given ps·5 r·5 (claims· .11) T26 (record { pos = 3; st = List.[]; d = 0; at = λ x. x }, (Num.vAt 13 λ x. x, tt)) (m24 (c .before .before) (After-base-row·gave (c
+      After-part·gave = λ c. Called.given ps·5 r·5 (claims· .11) T26 (record { pos = 3; st = List.[]; d = 0; at = λ x. x }, (Num.vAt 14 λ x. x, tt)) (m24 (c .before .before) (After-base-row·gave (c
           .before))) (c .part)
 
       abbrev pub m26 : (before : After-part) → (given : s25 .gives (m25 (before .before) (After-part·gave before))) → Typed.Mo T29
@@ -3109,27 +3151,28 @@ module _ (claims· : Claims) where
       module _ (before· : After-places) where
         abbrev pub After-walk·own : Type 0
         After-walk·own = Called.Called ps·6 r·6 (claims· .13) T38 (
-          record { pos = 15; ty = Syntax.tyRef Syntax.erased Syntax.imm (Syntax.tyInt Syntax.w8); ref = λ x. x },
+          record { pos = 16; ty = Syntax.tyRef Syntax.erased Syntax.imm (Syntax.tyInt Syntax.w8); ref = λ x. x },
           (
-            record { pos = 16; ty = Syntax.tyRef Syntax.erased Syntax.imm (Syntax.tyInt Syntax.w8); ref = λ x. x },
+            record { pos = 17; ty = Syntax.tyRef Syntax.erased Syntax.imm (Syntax.tyInt Syntax.w8); ref = λ x. x },
             (
-              record { pos = 22; ty = Syntax.tyRef Syntax.erased Syntax.mut (Syntax.tyInt Syntax.w16); ref = λ x. x },
+              record { pos = 23; ty = Syntax.tyRef Syntax.erased Syntax.mut (Syntax.tyInt Syntax.w16); ref = λ x. x },
               (
-                record { pos = 24; ty = Syntax.tyRef Syntax.erased Syntax.mut Element.behind; ref = λ x. x },
+                record { pos = 25; ty = Syntax.tyRef Syntax.erased Syntax.mut Element.behind; ref = λ x. x },
                 (
-                  record { pos = 26; ty = Syntax.tyRef Syntax.erased Syntax.mut (Syntax.tyInt Syntax.w16); ref = λ x. x },
+                  record { pos = 27; ty = Syntax.tyRef Syntax.erased Syntax.mut (Syntax.tyInt Syntax.w16); ref = λ x. x },
                   (
-                    record { pos = 14; st = List.[]; d = 0; at = λ x. x },
+                    record { pos = 15; st = List.[]; d = 0; at = λ x. x },
                     (
-                      record { pos = 27; ty = Syntax.tyRef Syntax.erased Syntax.imm (Syntax.tyArray (Syntax.tyInt Syntax.w16) 768); ref = λ x. x },
-                      (record { pos = 4; st = List.[]; d = 0; at = λ x. x }, (record { pos = 17; st = List.[]; d = 0; at = λ x. x }, (Num.vAt 9 λ x. x, tt))),
+                      record { pos = 28; ty = Syntax.tyRef Syntax.erased Syntax.imm (Syntax.tyArray (Syntax.tyInt Syntax.w16) 768); ref = λ x. x },
+                      (record { pos = 4; st = List.[]; d = 0; at = λ x. x }, (record { pos = 18; st = List.[]; d = 0; at = λ x. x }, (Num.vAt 10 λ x. x, (Bool.bAt 8 λ x. x, tt)))),
                     ),
                   ),
                 ),
               ),
             ),
           ),
-        ) (m32 (before· .before) (before· .places .given))
+        ) (m32 (before· .before)
+            (before· .places .given))
 
       pub record After-walk : Type 0 where
         pub before : After-places
@@ -3137,28 +3180,28 @@ module _ (claims· : Claims) where
 
       abbrev pub After-walk·gave : (c : After-walk) → s35 .gives (m32 (c .before .before) (c .before .places .given))
       After-walk·gave = λ c. Called.given ps·6 r·6 (claims· .13) T38 (
-        record { pos = 15; ty = Syntax.tyRef Syntax.erased Syntax.imm (Syntax.tyInt Syntax.w8); ref = λ x. x },
+        record { pos = 16; ty = Syntax.tyRef Syntax.erased Syntax.imm (Syntax.tyInt Syntax.w8); ref = λ x. x },
         (
-          record { pos = 16; ty = Syntax.tyRef Syntax.erased Syntax.imm (Syntax.tyInt Syntax.w8); ref = λ x. x },
+          record { pos = 17; ty = Syntax.tyRef Syntax.erased Syntax.imm (Syntax.tyInt Syntax.w8); ref = λ x. x },
           (
-            record { pos = 22; ty = Syntax.tyRef Syntax.erased Syntax.mut (Syntax.tyInt Syntax.w16); ref = λ x. x },
+            record { pos = 23; ty = Syntax.tyRef Syntax.erased Syntax.mut (Syntax.tyInt Syntax.w16); ref = λ x. x },
             (
-              record { pos = 24; ty = Syntax.tyRef Syntax.erased Syntax.mut Element.behind; ref = λ x. x },
+              record { pos = 25; ty = Syntax.tyRef Syntax.erased Syntax.mut Element.behind; ref = λ x. x },
               (
-                record { pos = 26; ty = Syntax.tyRef Syntax.erased Syntax.mut (Syntax.tyInt Syntax.w16); ref = λ x. x },
+                record { pos = 27; ty = Syntax.tyRef Syntax.erased Syntax.mut (Syntax.tyInt Syntax.w16); ref = λ x. x },
                 (
-                  record { pos = 14; st = List.[]; d = 0; at = λ x. x },
+                  record { pos = 15; st = List.[]; d = 0; at = λ x. x },
                   (
-                    record { pos = 27; ty = Syntax.tyRef Syntax.erased Syntax.imm (Syntax.tyArray (Syntax.tyInt Syntax.w16) 768); ref = λ x. x },
-                    (record { pos = 4; st = List.[]; d = 0; at = λ x. x }, (record { pos = 17; st = List.[]; d = 0; at = λ x. x }, (Num.vAt 9 λ x. x, tt))),
+                    record { pos = 28; ty = Syntax.tyRef Syntax.erased Syntax.imm (Syntax.tyArray (Syntax.tyInt Syntax.w16) 768); ref = λ x. x },
+                    (record { pos = 4; st = List.[]; d = 0; at = λ x. x }, (record { pos = 18; st = List.[]; d = 0; at = λ x. x }, (Num.vAt 10 λ x. x, (Bool.bAt 8 λ x. x, tt)))),
                   ),
                 ),
               ),
             ),
           ),
         ),
-      ) (m32 (c .before .before) (c .before .places
-          .given)) (c .walk)
+      ) (m32 (c .before .before) (c
+          .before .places .given)) (c .walk)
 
       abbrev pub m34 : (before : After-places) → (given : s35 .gives (m32 (before .before) (before .places .given))) → Typed.Mo T40
       m34 = λ before given. s36 (m33 before given)
@@ -3242,7 +3285,7 @@ module _ (claims· : Claims) where
       module _ (before· : After-slice-known4) where
         abbrev pub After-judged·own : Type 0
         After-judged·own = Called.Called ps·7 r·7 (claims· .15) T57
-            (record { pos = 12; st = List.[]; d = 0; at = λ x. x }, (Num.vAt 13 λ x. x, (record { pos = 18; st = List.[]; d = 0; at = λ x. x }, tt))) (m44 (before· .before) (before· .slice-known4 .given))
+            (record { pos = 13; st = List.[]; d = 0; at = λ x. x }, (Num.vAt 14 λ x. x, (record { pos = 19; st = List.[]; d = 0; at = λ x. x }, tt))) (m44 (before· .before) (before· .slice-known4 .given))
 
       pub record After-judged : Type 0 where
         pub before : After-slice-known4
@@ -3250,7 +3293,7 @@ module _ (claims· : Claims) where
 
       abbrev pub After-judged·gave : (c : After-judged) → s55 .gives (m44 (c .before .before) (c .before .slice-known4 .given))
       After-judged·gave = λ c. Called.given ps·7 r·7 (claims· .15) T57
-          (record { pos = 12; st = List.[]; d = 0; at = λ x. x }, (Num.vAt 13 λ x. x, (record { pos = 18; st = List.[]; d = 0; at = λ x. x }, tt))) (m44 (c .before .before) (c .before .slice-known4
+          (record { pos = 13; st = List.[]; d = 0; at = λ x. x }, (Num.vAt 14 λ x. x, (record { pos = 19; st = List.[]; d = 0; at = λ x. x }, tt))) (m44 (c .before .before) (c .before .slice-known4
           .given)) (c .judged)
 
       abbrev pub m46 : (before : After-slice-known4) → (given : s55 .gives (m44 (before .before) (before .slice-known4 .given))) → Typed.Mo T60
@@ -3276,7 +3319,7 @@ module _ (claims· : Claims) where
           .before .before .before .before .before .before .before .before) (After-xtrans-places·gave (c .before .before .before .before .before .before .before .before .before .before .before .before
           .before .before .before .before .before))) .now) (Row.get 7 (T15 .locals) (m13 (c .before .before .before .before .before .before .before .before .before .before .before .before .before .before
           .before .before .before .before) (After-xtrans-places·gave (c .before .before .before .before .before .before .before .before .before .before .before .before .before .before .before .before
-          .before))) .now) (Row.get 9 (T15 .locals) (m13 (c .before .before .before .before .before .before .before .before .before .before .before .before .before .before .before .before .before .before)
+          .before))) .now) (Row.get 8 (T15 .locals) (m13 (c .before .before .before .before .before .before .before .before .before .before .before .before .before .before .before .before .before .before)
           (After-xtrans-places·gave (c .before .before .before .before .before .before .before .before .before .before .before .before .before .before .before .before .before)))) (Row.get 10 (T15 .locals)
           (m13 (c .before .before .before .before .before .before .before .before .before .before .before .before .before .before .before .before .before .before) (After-xtrans-places·gave (c .before
           .before .before .before .before .before .before .before .before .before .before .before .before .before .before .before .before)))) (Row.get 11 (T15 .locals) (m13 (c .before .before .before
@@ -3285,34 +3328,38 @@ module _ (claims· : Claims) where
           .before .before .before .before .before .before .before .before .before .before .before) (After-xtrans-places·gave (c .before .before .before .before .before .before .before .before .before
           .before .before .before .before .before .before .before .before)))) (Row.get 13 (T15 .locals) (m13 (c .before .before .before .before .before .before .before .before .before .before .before
           .before .before .before .before .before .before .before) (After-xtrans-places·gave (c .before .before .before .before .before .before .before .before .before .before .before .before .before
-          .before .before .before .before)))) (Row.get 5 (T15 .locals) (m47 (c .before) (After-judged·gave c)) .now) (Row.get 6 (T15 .locals) (m47 (c .before) (After-judged·gave c)) .now) (Row.get 7 (T15
-          .locals) (m47 (c .before) (After-judged·gave c)) .now) (Row.get 12 (T15 .locals) (m47 (c .before) (After-judged·gave c))) (Row.get 13 (T15 .locals) (m47 (c .before) (After-judged·gave c)))) (μ·0
-          (Row.get 1 (T15 .locals) (m13 (c .before .before .before .before .before .before .before .before .before .before .before .before .before .before .before .before .before .before)
-          (After-xtrans-places·gave (c .before .before .before .before .before .before .before .before .before .before .before .before .before .before .before .before .before))) .now) (Row.get 2 (T15
+          .before .before .before .before)))) (Row.get 14 (T15 .locals) (m13 (c .before .before .before .before .before .before .before .before .before .before .before .before .before .before .before
+          .before .before .before) (After-xtrans-places·gave (c .before .before .before .before .before .before .before .before .before .before .before .before .before .before .before .before .before))))
+          (Row.get 5 (T15 .locals) (m47 (c .before) (After-judged·gave c)) .now) (Row.get 6 (T15 .locals) (m47 (c .before) (After-judged·gave c)) .now) (Row.get 7 (T15 .locals) (m47 (c .before)
+          (After-judged·gave c)) .now) (Row.get 13 (T15 .locals) (m47 (c .before) (After-judged·gave c))) (Row.get 14 (T15 .locals) (m47 (c .before) (After-judged·gave c)))) (μ·0 (Row.get 1 (T15 .locals)
+          (m13 (c .before .before .before .before .before .before .before .before .before .before .before .before .before .before .before .before .before .before) (After-xtrans-places·gave (c .before
+          .before .before .before .before .before .before .before .before .before .before .before .before .before .before .before .before))) .now) (Row.get 2 (T15 .locals) (m13 (c .before .before .before
+          .before .before .before .before .before .before .before .before .before .before .before .before .before .before .before) (After-xtrans-places·gave (c .before .before .before .before .before
+          .before .before .before .before .before .before .before .before .before .before .before .before)))) (Row.get 3 (T15 .locals) (m13 (c .before .before .before .before .before .before .before
+          .before .before .before .before .before .before .before .before .before .before .before) (After-xtrans-places·gave (c .before .before .before .before .before .before .before .before .before
+          .before .before .before .before .before .before .before .before)))) (Row.get 4 (T15 .locals) (m13 (c .before .before .before .before .before .before .before .before .before .before .before
+          .before .before .before .before .before .before .before) (After-xtrans-places·gave (c .before .before .before .before .before .before .before .before .before .before .before .before .before
+          .before .before .before .before)))) (Row.get 5 (T15 .locals) (m13 (c .before .before .before .before .before .before .before .before .before .before .before .before .before .before .before
+          .before .before .before) (After-xtrans-places·gave (c .before .before .before .before .before .before .before .before .before .before .before .before .before .before .before .before .before)))
+          .now) (Row.get 6 (T15 .locals) (m13 (c .before .before .before .before .before .before .before .before .before .before .before .before .before .before .before .before .before .before)
+          (After-xtrans-places·gave (c .before .before .before .before .before .before .before .before .before .before .before .before .before .before .before .before .before))) .now) (Row.get 7 (T15
           .locals) (m13 (c .before .before .before .before .before .before .before .before .before .before .before .before .before .before .before .before .before .before) (After-xtrans-places·gave (c
-          .before .before .before .before .before .before .before .before .before .before .before .before .before .before .before .before .before)))) (Row.get 3 (T15 .locals) (m13 (c .before .before
+          .before .before .before .before .before .before .before .before .before .before .before .before .before .before .before .before .before))) .now) (Row.get 8 (T15 .locals) (m13 (c .before .before
           .before .before .before .before .before .before .before .before .before .before .before .before .before .before .before .before) (After-xtrans-places·gave (c .before .before .before .before
-          .before .before .before .before .before .before .before .before .before .before .before .before .before)))) (Row.get 4 (T15 .locals) (m13 (c .before .before .before .before .before .before
+          .before .before .before .before .before .before .before .before .before .before .before .before .before)))) (Row.get 10 (T15 .locals) (m13 (c .before .before .before .before .before .before
           .before .before .before .before .before .before .before .before .before .before .before .before) (After-xtrans-places·gave (c .before .before .before .before .before .before .before .before
-          .before .before .before .before .before .before .before .before .before)))) (Row.get 5 (T15 .locals) (m13 (c .before .before .before .before .before .before .before .before .before .before
+          .before .before .before .before .before .before .before .before .before)))) (Row.get 11 (T15 .locals) (m13 (c .before .before .before .before .before .before .before .before .before .before
           .before .before .before .before .before .before .before .before) (After-xtrans-places·gave (c .before .before .before .before .before .before .before .before .before .before .before .before
-          .before .before .before .before .before))) .now) (Row.get 6 (T15 .locals) (m13 (c .before .before .before .before .before .before .before .before .before .before .before .before .before .before
+          .before .before .before .before .before)))) (Row.get 12 (T15 .locals) (m13 (c .before .before .before .before .before .before .before .before .before .before .before .before .before .before
           .before .before .before .before) (After-xtrans-places·gave (c .before .before .before .before .before .before .before .before .before .before .before .before .before .before .before .before
-          .before))) .now) (Row.get 7 (T15 .locals) (m13 (c .before .before .before .before .before .before .before .before .before .before .before .before .before .before .before .before .before .before)
-          (After-xtrans-places·gave (c .before .before .before .before .before .before .before .before .before .before .before .before .before .before .before .before .before))) .now) (Row.get 9 (T15
-          .locals) (m13 (c .before .before .before .before .before .before .before .before .before .before .before .before .before .before .before .before .before .before) (After-xtrans-places·gave (c
-          .before .before .before .before .before .before .before .before .before .before .before .before .before .before .before .before .before)))) (Row.get 10 (T15 .locals) (m13 (c .before .before
-          .before .before .before .before .before .before .before .before .before .before .before .before .before .before .before .before) (After-xtrans-places·gave (c .before .before .before .before
-          .before .before .before .before .before .before .before .before .before .before .before .before .before)))) (Row.get 11 (T15 .locals) (m13 (c .before .before .before .before .before .before
-          .before .before .before .before .before .before .before .before .before .before .before .before) (After-xtrans-places·gave (c .before .before .before .before .before .before .before .before
-          .before .before .before .before .before .before .before .before .before)))) (Row.get 12 (T15 .locals) (m13 (c .before .before .before .before .before .before .before .before .before .before
-          .before .before .before .before .before .before .before .before) (After-xtrans-places·gave (c .before .before .before .before .before .before .before .before .before .before .before .before
-          .before .before .before .before .before)))) (Row.get 13 (T15 .locals) (m13 (c .before .before .before .before .before .before .before .before .before .before .before .before .before .before
-          .before .before .before .before) (After-xtrans-places·gave (c .before .before .before .before .before .before .before .before .before .before .before .before .before .before .before .before
-          .before)))) (c .before .before .before .before .before .before .before .before .before .before .before .before .before .before .before .before .loop .image) (c .before .before .before .before
-          .before .before .before .before .before .before .before .before .before .before .before .before .loop .lines) (c .before .before .before .before .before .before .before .before .before .before
-          .before .before .before .before .before .before .loop .rs) (c .before .before .before .before .before .before .before .before .before .before .before .before .before .before .before .before
-          .loop .answer) (c .before .before .before .before .before .before .before .before .before .before .before .before .before .before .before .before .loop .b))
+          .before)))) (Row.get 13 (T15 .locals) (m13 (c .before .before .before .before .before .before .before .before .before .before .before .before .before .before .before .before .before .before)
+          (After-xtrans-places·gave (c .before .before .before .before .before .before .before .before .before .before .before .before .before .before .before .before .before)))) (Row.get 14 (T15 .locals)
+          (m13 (c .before .before .before .before .before .before .before .before .before .before .before .before .before .before .before .before .before .before) (After-xtrans-places·gave (c .before
+          .before .before .before .before .before .before .before .before .before .before .before .before .before .before .before .before)))) (c .before .before .before .before .before .before .before
+          .before .before .before .before .before .before .before .before .before .loop .image) (c .before .before .before .before .before .before .before .before .before .before .before .before .before
+          .before .before .before .loop .lines) (c .before .before .before .before .before .before .before .before .before .before .before .before .before .before .before .before .loop .rs) (c .before
+          .before .before .before .before .before .before .before .before .before .before .before .before .before .before .before .loop .answer) (c .before .before .before .before .before .before .before
+          .before .before .before .before .before .before .before .before .before .loop .b))
 
       abbrev pub Need-loop-again : Type 0
       Need-loop-again = (c : After-judged) → Inv·0 (Row.get 1 (T15 .locals) (m13 (c .before .before .before .before .before .before .before .before .before .before .before .before .before .before
@@ -3328,7 +3375,7 @@ module _ (claims· : Claims) where
           .before .before .before .before .before .before .before) (After-xtrans-places·gave (c .before .before .before .before .before .before .before .before .before .before .before .before .before
           .before .before .before .before))) .now) (Row.get 7 (T15 .locals) (m13 (c .before .before .before .before .before .before .before .before .before .before .before .before .before .before .before
           .before .before .before) (After-xtrans-places·gave (c .before .before .before .before .before .before .before .before .before .before .before .before .before .before .before .before .before)))
-          .now) (Row.get 9 (T15 .locals) (m13 (c .before .before .before .before .before .before .before .before .before .before .before .before .before .before .before .before .before .before)
+          .now) (Row.get 8 (T15 .locals) (m13 (c .before .before .before .before .before .before .before .before .before .before .before .before .before .before .before .before .before .before)
           (After-xtrans-places·gave (c .before .before .before .before .before .before .before .before .before .before .before .before .before .before .before .before .before)))) (Row.get 10 (T15 .locals)
           (m13 (c .before .before .before .before .before .before .before .before .before .before .before .before .before .before .before .before .before .before) (After-xtrans-places·gave (c .before
           .before .before .before .before .before .before .before .before .before .before .before .before .before .before .before .before)))) (Row.get 11 (T15 .locals) (m13 (c .before .before .before
@@ -3337,8 +3384,10 @@ module _ (claims· : Claims) where
           .before .before .before .before .before .before .before .before .before .before .before) (After-xtrans-places·gave (c .before .before .before .before .before .before .before .before .before
           .before .before .before .before .before .before .before .before)))) (Row.get 13 (T15 .locals) (m13 (c .before .before .before .before .before .before .before .before .before .before .before
           .before .before .before .before .before .before .before) (After-xtrans-places·gave (c .before .before .before .before .before .before .before .before .before .before .before .before .before
-          .before .before .before .before)))) (Row.get 5 (T15 .locals) (m47 (c .before) (After-judged·gave c)) .now) (Row.get 6 (T15 .locals) (m47 (c .before) (After-judged·gave c)) .now) (Row.get 7 (T15
-          .locals) (m47 (c .before) (After-judged·gave c)) .now) (Row.get 12 (T15 .locals) (m47 (c .before) (After-judged·gave c))) (Row.get 13 (T15 .locals) (m47 (c .before) (After-judged·gave c)))
+          .before .before .before .before)))) (Row.get 14 (T15 .locals) (m13 (c .before .before .before .before .before .before .before .before .before .before .before .before .before .before .before
+          .before .before .before) (After-xtrans-places·gave (c .before .before .before .before .before .before .before .before .before .before .before .before .before .before .before .before .before))))
+          (Row.get 5 (T15 .locals) (m47 (c .before) (After-judged·gave c)) .now) (Row.get 6 (T15 .locals) (m47 (c .before) (After-judged·gave c)) .now) (Row.get 7 (T15 .locals) (m47 (c .before)
+          (After-judged·gave c)) .now) (Row.get 13 (T15 .locals) (m47 (c .before) (After-judged·gave c))) (Row.get 14 (T15 .locals) (m47 (c .before) (After-judged·gave c)))
 
       abbrev pub m48 : (before : At-loop) → Typed.Mo T62
       m48 = λ before. s58 (m21 before)
@@ -3355,30 +3404,33 @@ module _ (claims· : Claims) where
       abbrev pub m52 : (before : At-loop) → Typed.Mo T66
       m52 = λ before. s62 (m51 before)
 
+      abbrev pub m53 : (before : At-loop) → Typed.Mo T67
+      m53 = λ before. s63 (m52 before)
+
       abbrev pub Need-same-length : Type 0
-      Need-same-length = (c : After-loop) → MutSlice.SameLen (Row.get 5 (T66 .locals) (m52 (c .before))) (dens (c .before .before .before .before .before .before .before .before .κs) (c .before
+      Need-same-length = (c : After-loop) → MutSlice.SameLen (Row.get 5 (T67 .locals) (m53 (c .before))) (dens (c .before .before .before .before .before .before .before .before .κs) (c .before
           .before .before .before .before .before .before .before .args) .1 .1 .1 .1 .0)
 
       abbrev pub Need-same-length-2 : Type 0
-      Need-same-length-2 = (c : After-loop) → MutSlice.SameLen (Row.get 6 (T66 .locals) (m52 (c .before))) (dens (c .before .before .before .before .before .before .before .before .κs) (c .before
+      Need-same-length-2 = (c : After-loop) → MutSlice.SameLen (Row.get 6 (T67 .locals) (m53 (c .before))) (dens (c .before .before .before .before .before .before .before .before .κs) (c .before
           .before .before .before .before .before .before .before .args) .1 .1 .1 .1 .1 .0)
 
       abbrev pub Need-same-length-3 : Type 0
-      Need-same-length-3 = (c : After-loop) → MutSlice.SameLen (Row.get 7 (T66 .locals) (m52 (c .before))) (dens (c .before .before .before .before .before .before .before .before .κs) (c .before
+      Need-same-length-3 = (c : After-loop) → MutSlice.SameLen (Row.get 7 (T67 .locals) (m53 (c .before))) (dens (c .before .before .before .before .before .before .before .before .κs) (c .before
           .before .before .before .before .before .before .before .args) .1 .1 .1 .1 .1 .1 .0)
 
       abbrev pub Need-returns : Type 0
       Need-returns = (c : After-loop) → Post· (c .before .before .before .before .before .before .before .before .κs) (dens (c .before .before .before .before .before .before .before .before .κs) (c
-          .before .before .before .before .before .before .before .before .args)) (Function.resV r (c .before .before .before .before .before .before .before .before .κs) (m52 (c .before) .0))
+          .before .before .before .before .before .before .before .before .args)) (Function.resV r (c .before .before .before .before .before .before .before .before .κs) (m53 (c .before) .0))
           (Clauses.atExit (Kinds.endedOf 4 ps r) (c .before .before .before .before .before .before .before .before .κs) (dens (c .before .before .before .before .before .before .before .before .κs) (c
           .before .before .before .before .before .before .before .before .args)) (Enter.lastsP (c .before .before .before .before .before .before .before .before .κs) 1 ps xs (dens (c .before .before
-          .before .before .before .before .before .before .κs) (c .before .before .before .before .before .before .before .before .args)) (m52 (c .before) .1)))
+          .before .before .before .before .before .before .κs) (c .before .before .before .before .before .before .before .before .args)) (m53 (c .before) .1)))
 
       module _ (span-of-requires : Need-span-of-requires) (add-end : Need-add-end) (xtrans-places-requires : Need-xtrans-places-requires) (loop-holds : Need-loop-holds) (form-of-requires :
           Need-form-of-requires) (block-bytes-requires : Need-block-bytes-requires) (base-row-requires : Need-base-row-requires) (part-requires : Need-part-requires) (walk-requires : Need-walk-requires)
           (judged-requires : Need-judged-requires) (add-b : Need-add-b) (loop-less : Need-loop-less) (loop-again : Need-loop-again) (same-length : Need-same-length) (same-length-2 : Need-same-length-2)
           (same-length-3 : Need-same-length-3) (returns : Need-returns) where
-        lay12 : (c : After-loop) → at57 (W0 (c .before .before .before .before .before .before .before .before .κs) (c .before .before .before .before .before .before .before .before .args)) (m21 (c
+        lay12 : (c : After-loop) → at58 (W0 (c .before .before .before .before .before .before .before .before .κs) (c .before .before .before .before .before .before .before .before .args)) (m21 (c
             .before))
         lay12 = λ c. (
           (
@@ -3390,18 +3442,18 @@ module _ (claims· : Claims) where
                 (
                   tt,
                   (
-                    MutSlice.fix-len (Row.get 5 (T66 .locals) (m52 (c .before)) .ptr) (Row.get 5 (T66 .locals) (m52 (c .before)) .name) (Row.get 5 (T66 .locals) (m52 (c .before)) .now) (dens (c .before .before
+                    MutSlice.fix-len (Row.get 5 (T67 .locals) (m53 (c .before)) .ptr) (Row.get 5 (T67 .locals) (m53 (c .before)) .name) (Row.get 5 (T67 .locals) (m53 (c .before)) .now) (dens (c .before .before
                         .before .before .before .before .before .before .κs) (c .before .before .before .before .before .before .before .before .args) .1 .1 .1 .1 .0 .now) (same-length record
                         { before = c .before; loop-test = c .loop-test }),
                     (
-                      MutSlice.fix-len (Row.get 6 (T66 .locals) (m52 (c .before)) .ptr) (Row.get 6 (T66 .locals) (m52 (c .before)) .name) (Row.get 6 (T66 .locals) (m52 (c .before)) .now) (dens (c .before .before
+                      MutSlice.fix-len (Row.get 6 (T67 .locals) (m53 (c .before)) .ptr) (Row.get 6 (T67 .locals) (m53 (c .before)) .name) (Row.get 6 (T67 .locals) (m53 (c .before)) .now) (dens (c .before .before
                           .before .before .before .before .before .before .κs) (c .before .before .before .before .before .before .before .before .args) .1 .1 .1 .1 .1 .0 .now) (same-length-2 record
                           { before = c .before; loop-test = c .loop-test }),
                       (
-                        MutSlice.fix-len (Row.get 7 (T66 .locals) (m52 (c .before)) .ptr) (Row.get 7 (T66 .locals) (m52 (c .before)) .name) (Row.get 7 (T66 .locals) (m52 (c .before)) .now) (dens (c .before .before
+                        MutSlice.fix-len (Row.get 7 (T67 .locals) (m53 (c .before)) .ptr) (Row.get 7 (T67 .locals) (m53 (c .before)) .name) (Row.get 7 (T67 .locals) (m53 (c .before)) .now) (dens (c .before .before
                             .before .before .before .before .before .before .κs) (c .before .before .before .before .before .before .before .before .args) .1 .1 .1 .1 .1 .1 .0 .now) (same-length-3 record
                             { before = c .before; loop-test = c .loop-test }),
-                        tt,
+                        (tt, tt),
                       ),
                     ),
                   ),
@@ -3433,7 +3485,7 @@ module _ (claims· : Claims) where
                 .before .before .before .before .before) (After-xtrans-places·gave (c .before .before .before .before .before .before .before .before .before .before .before .before .before .before .before
                 .before .before))) .now) (Row.get 7 (T15 .locals) (m13 (c .before .before .before .before .before .before .before .before .before .before .before .before .before .before .before .before
                 .before .before) (After-xtrans-places·gave (c .before .before .before .before .before .before .before .before .before .before .before .before .before .before .before .before .before))) .now)
-                (Row.get 9 (T15 .locals) (m13 (c .before .before .before .before .before .before .before .before .before .before .before .before .before .before .before .before .before .before)
+                (Row.get 8 (T15 .locals) (m13 (c .before .before .before .before .before .before .before .before .before .before .before .before .before .before .before .before .before .before)
                 (After-xtrans-places·gave (c .before .before .before .before .before .before .before .before .before .before .before .before .before .before .before .before .before)))) (Row.get 10 (T15
                 .locals) (m13 (c .before .before .before .before .before .before .before .before .before .before .before .before .before .before .before .before .before .before) (After-xtrans-places·gave (c
                 .before .before .before .before .before .before .before .before .before .before .before .before .before .before .before .before .before)))) (Row.get 11 (T15 .locals) (m13 (c .before .before
@@ -3442,18 +3494,20 @@ module _ (claims· : Claims) where
                 .before .before .before .before .before .before .before .before .before .before .before .before) (After-xtrans-places·gave (c .before .before .before .before .before .before .before .before
                 .before .before .before .before .before .before .before .before .before)))) (Row.get 13 (T15 .locals) (m13 (c .before .before .before .before .before .before .before .before .before .before
                 .before .before .before .before .before .before .before .before) (After-xtrans-places·gave (c .before .before .before .before .before .before .before .before .before .before .before .before
-                .before .before .before .before .before)))) (Row.get 5 (T15 .locals) (m47 (c .before) (After-judged·gave c)) .now) (Row.get 6 (T15 .locals) (m47 (c .before) (After-judged·gave c)) .now)
-                (Row.get 7 (T15 .locals) (m47 (c .before) (After-judged·gave c)) .now) (Row.get 12 (T15 .locals) (m47 (c .before) (After-judged·gave c))) (Row.get 13 (T15 .locals) (m47 (c .before)
-                (After-judged·gave c))),
-            loop-less record { before = c .before; judged = c .judged },
+                .before .before .before .before .before)))) (Row.get 14 (T15 .locals) (m13 (c .before .before .before .before .before .before .before .before .before .before .before .before .before .before
+                .before .before .before .before) (After-xtrans-places·gave (c .before .before .before .before .before .before .before .before .before .before .before .before .before .before .before .before
+                .before)))) (Row.get 5 (T15 .locals) (m47 (c .before) (After-judged·gave c)) .now) (Row.get 6 (T15 .locals) (m47 (c .before) (After-judged·gave c)) .now) (Row.get 7 (T15 .locals) (m47 (c
+                .before) (After-judged·gave c)) .now) (Row.get 13 (T15 .locals) (m47 (c .before) (After-judged·gave c))) (Row.get 14 (T15 .locals) (m47 (c .before) (After-judged·gave c))),
+            loop-less record
+                { before = c .before; judged = c .judged },
             (
               (
                 Row.get 5 (T15 .locals) (m47 (c .before) (After-judged·gave c)) .now,
                 Row.get 6 (T15 .locals) (m47 (c .before) (After-judged·gave c)) .now,
                 Row.get 7 (T15 .locals) (m47 (c .before)
                     (After-judged·gave c)) .now,
-                Row.get 12 (T15 .locals) (m47 (c .before) (After-judged·gave c)),
                 Row.get 13 (T15 .locals) (m47 (c .before) (After-judged·gave c)),
+                Row.get 14 (T15 .locals) (m47 (c .before) (After-judged·gave c)),
               ),
               Path'.refl {a = m47 (c
                   .before) (After-judged·gave c)},
@@ -3471,7 +3525,7 @@ module _ (claims· : Claims) where
                   .locals) (m13 (c .before .before .before .before .before .before .before .before .before .before .before .before .before .before .before .before .before .before) (After-xtrans-places·gave (c
                   .before .before .before .before .before .before .before .before .before .before .before .before .before .before .before .before .before))) .now) (Row.get 7 (T15 .locals) (m13 (c .before
                   .before .before .before .before .before .before .before .before .before .before .before .before .before .before .before .before .before) (After-xtrans-places·gave (c .before .before .before
-                  .before .before .before .before .before .before .before .before .before .before .before .before .before .before))) .now) (Row.get 9 (T15 .locals) (m13 (c .before .before .before .before
+                  .before .before .before .before .before .before .before .before .before .before .before .before .before .before))) .now) (Row.get 8 (T15 .locals) (m13 (c .before .before .before .before
                   .before .before .before .before .before .before .before .before .before .before .before .before .before .before) (After-xtrans-places·gave (c .before .before .before .before .before .before
                   .before .before .before .before .before .before .before .before .before .before .before)))) (Row.get 10 (T15 .locals) (m13 (c .before .before .before .before .before .before .before .before
                   .before .before .before .before .before .before .before .before .before .before) (After-xtrans-places·gave (c .before .before .before .before .before .before .before .before .before .before
@@ -3480,9 +3534,11 @@ module _ (claims· : Claims) where
                   .before .before .before)))) (Row.get 12 (T15 .locals) (m13 (c .before .before .before .before .before .before .before .before .before .before .before .before .before .before .before .before
                   .before .before) (After-xtrans-places·gave (c .before .before .before .before .before .before .before .before .before .before .before .before .before .before .before .before .before))))
                   (Row.get 13 (T15 .locals) (m13 (c .before .before .before .before .before .before .before .before .before .before .before .before .before .before .before .before .before .before)
-                  (After-xtrans-places·gave (c .before .before .before .before .before .before .before .before .before .before .before .before .before .before .before .before .before)))) (Row.get 5 (T15
-                  .locals) (m47 (c .before) (After-judged·gave c)) .now) (Row.get 6 (T15 .locals) (m47 (c .before) (After-judged·gave c)) .now) (Row.get 7 (T15 .locals) (m47 (c .before) (After-judged·gave c))
-                  .now) (Row.get 12 (T15 .locals) (m47 (c .before) (After-judged·gave c))) (Row.get 13 (T15 .locals) (m47 (c .before) (After-judged·gave c)))},
+                  (After-xtrans-places·gave (c .before .before .before .before .before .before .before .before .before .before .before .before .before .before .before .before .before)))) (Row.get 14 (T15
+                  .locals) (m13 (c .before .before .before .before .before .before .before .before .before .before .before .before .before .before .before .before .before .before) (After-xtrans-places·gave (c
+                  .before .before .before .before .before .before .before .before .before .before .before .before .before .before .before .before .before)))) (Row.get 5 (T15 .locals) (m47 (c .before)
+                  (After-judged·gave c)) .now) (Row.get 6 (T15 .locals) (m47 (c .before) (After-judged·gave c)) .now) (Row.get 7 (T15 .locals) (m47 (c .before) (After-judged·gave c)) .now) (Row.get 13 (T15
+                  .locals) (m47 (c .before) (After-judged·gave c))) (Row.get 14 (T15 .locals) (m47 (c .before) (After-judged·gave c)))},
             ),
           ),
         )
@@ -3526,7 +3582,7 @@ module _ (claims· : Claims) where
                     slice-known4 = record { given = g'4 };
                   };
                   judged = Called.called ps·7 r·7 (claims· .15) T57
-                      (record { pos = 12; st = List.[]; d = 0; at = λ x. x }, (Num.vAt 13 λ x. x, (record { pos = 18; st = List.[]; d = 0; at = λ x. x }, tt))) (m44 record {
+                      (record { pos = 13; st = List.[]; d = 0; at = λ x. x }, (Num.vAt 14 λ x. x, (record { pos = 19; st = List.[]; d = 0; at = λ x. x }, tt))) (m44 record {
                         before = record {
                           before = record { before = record { before = record { before = c .before; walk = c .walk }; lines = record { given = g } }; slice-known3 = record { given = g' } };
                           rs = record {
@@ -3572,20 +3628,20 @@ module _ (claims· : Claims) where
                     places = record { given = g'3 };
                   };
                   walk = Called.called ps·6 r·6 (claims· .13) T38 (
-                    record { pos = 15; ty = Syntax.tyRef Syntax.erased Syntax.imm (Syntax.tyInt Syntax.w8); ref = λ x. x },
+                    record { pos = 16; ty = Syntax.tyRef Syntax.erased Syntax.imm (Syntax.tyInt Syntax.w8); ref = λ x. x },
                     (
-                      record { pos = 16; ty = Syntax.tyRef Syntax.erased Syntax.imm (Syntax.tyInt Syntax.w8); ref = λ x. x },
+                      record { pos = 17; ty = Syntax.tyRef Syntax.erased Syntax.imm (Syntax.tyInt Syntax.w8); ref = λ x. x },
                       (
-                        record { pos = 22; ty = Syntax.tyRef Syntax.erased Syntax.mut (Syntax.tyInt Syntax.w16); ref = λ x. x },
+                        record { pos = 23; ty = Syntax.tyRef Syntax.erased Syntax.mut (Syntax.tyInt Syntax.w16); ref = λ x. x },
                         (
-                          record { pos = 24; ty = Syntax.tyRef Syntax.erased Syntax.mut Element.behind; ref = λ x. x },
+                          record { pos = 25; ty = Syntax.tyRef Syntax.erased Syntax.mut Element.behind; ref = λ x. x },
                           (
-                            record { pos = 26; ty = Syntax.tyRef Syntax.erased Syntax.mut (Syntax.tyInt Syntax.w16); ref = λ x. x },
+                            record { pos = 27; ty = Syntax.tyRef Syntax.erased Syntax.mut (Syntax.tyInt Syntax.w16); ref = λ x. x },
                             (
-                              record { pos = 14; st = List.[]; d = 0; at = λ x. x },
+                              record { pos = 15; st = List.[]; d = 0; at = λ x. x },
                               (
-                                record { pos = 27; ty = Syntax.tyRef Syntax.erased Syntax.imm (Syntax.tyArray (Syntax.tyInt Syntax.w16) 768); ref = λ x. x },
-                                (record { pos = 4; st = List.[]; d = 0; at = λ x. x }, (record { pos = 17; st = List.[]; d = 0; at = λ x. x }, (Num.vAt 9 λ x. x, tt))),
+                                record { pos = 28; ty = Syntax.tyRef Syntax.erased Syntax.imm (Syntax.tyArray (Syntax.tyInt Syntax.w16) 768); ref = λ x. x },
+                                (record { pos = 4; st = List.[]; d = 0; at = λ x. x }, (record { pos = 18; st = List.[]; d = 0; at = λ x. x }, (Num.vAt 10 λ x. x, (Bool.bAt 8 λ x. x, tt)))),
                               ),
                             ),
                           ),
@@ -3611,7 +3667,7 @@ module _ (claims· : Claims) where
           λ g. lay9 record {
             before = record { before = c .before; base-row = c .base-row };
             part = Called.called ps·5 r·5 (claims· .11) T26
-                (record { pos = 3; st = List.[]; d = 0; at = λ x. x }, (Num.vAt 13 λ x. x, tt)) (m24 (c .before) (After-base-row·gave c)) g;
+                (record { pos = 3; st = List.[]; d = 0; at = λ x. x }, (Num.vAt 14 λ x. x, tt)) (m24 (c .before) (After-base-row·gave c)) g;
           },
         )
 
@@ -3622,7 +3678,7 @@ module _ (claims· : Claims) where
           λ g. lay8 record {
             before = record { before = c .before; block-bytes = c .block-bytes };
             base-row = Called.called ps·4 r·4 (claims· .9) T25
-                (record { pos = 1; ty = Syntax.tyRef (Syntax.named 0) Syntax.imm (Syntax.tyInt Syntax.w8); ref = λ x. x }, (Num.vAt 13 λ x. x, tt)) (m23 (c .before) (After-block-bytes·gave c)) g;
+                (record { pos = 1; ty = Syntax.tyRef (Syntax.named 0) Syntax.imm (Syntax.tyInt Syntax.w8); ref = λ x. x }, (Num.vAt 14 λ x. x, tt)) (m23 (c .before) (After-block-bytes·gave c)) g;
           },
         )
 
@@ -3633,7 +3689,7 @@ module _ (claims· : Claims) where
           λ g. lay7 record {
             before = record { before = c .before; form-of = c .form-of };
             block-bytes = Called.called ps·3 r·3 (claims· .7) T24
-                (record { pos = 1; ty = Syntax.tyRef (Syntax.named 0) Syntax.imm (Syntax.tyInt Syntax.w8); ref = λ x. x }, (Num.vAt 13 λ x. x, tt)) (m22 (c .before) (After-form-of·gave c)) g;
+                (record { pos = 1; ty = Syntax.tyRef (Syntax.named 0) Syntax.imm (Syntax.tyInt Syntax.w8); ref = λ x. x }, (Num.vAt 14 λ x. x, tt)) (m22 (c .before) (After-form-of·gave c)) g;
           },
         )
 
@@ -3655,7 +3711,7 @@ module _ (claims· : Claims) where
             .before) (c .before .loop .image) (c .before .loop .lines) (c .before .loop .rs) (c .before .loop .answer) (c .before .loop .b))
         lay3 = λ c. lay5 record { before = c .before; loop-test = c .loop-test }
 
-        lay2 : (c : After-xtrans-places) → at62 (W0 (c .before .before .before .before .before .before .κs) (c .before .before .before .before .before .before .args)) (m8 (c .before)
+        lay2 : (c : After-xtrans-places) → at63 (W0 (c .before .before .before .before .before .before .κs) (c .before .before .before .before .before .before .args)) (m8 (c .before)
             (After-xtrans-places·gave c))
         lay2 = λ c. (
           (
@@ -3664,8 +3720,8 @@ module _ (claims· : Claims) where
               Row.get 6 (T15 .locals) (m13 (c .before) (After-xtrans-places·gave c)) .now,
               Row.get 7 (T15 .locals) (m13 (c
                   .before) (After-xtrans-places·gave c)) .now,
-              Row.get 12 (T15 .locals) (m13 (c .before) (After-xtrans-places·gave c)),
               Row.get 13 (T15 .locals) (m13 (c .before) (After-xtrans-places·gave c)),
+              Row.get 14 (T15 .locals) (m13 (c .before) (After-xtrans-places·gave c)),
             ),
             Path'.refl {a = m13 (c .before) (After-xtrans-places·gave c)},
             loop-holds record { before = c .before; xtrans-places = c .xtrans-places },
@@ -3678,7 +3734,7 @@ module _ (claims· : Claims) where
                     { before = record { before = c .before; xtrans-places = c .xtrans-places }; loop = record { image = vs .0; lines = vs .1; rs = vs .2; answer = vs .3; b = vs .4; inv = inv } };
                 loop-test =
                     record {
-                      taken = Tests.ltb-true (Row.get 13 (T15 .locals) (m14 record { before = c .before; xtrans-places = c .xtrans-places } (vs .0) (vs .1) (vs .2) (vs .3) (vs .4))) (Row.get 10 (T15 .locals)
+                      taken = Tests.ltb-true (Row.get 14 (T15 .locals) (m14 record { before = c .before; xtrans-places = c .xtrans-places } (vs .0) (vs .1) (vs .2) (vs .3) (vs .4))) (Row.get 11 (T15 .locals)
                           (m14 record { before = c .before; xtrans-places = c .xtrans-places } (vs .0) (vs .1) (vs .2) (vs .3) (vs .4))) taken;
                     };
               },
@@ -3687,7 +3743,7 @@ module _ (claims· : Claims) where
                     { before = record { before = c .before; xtrans-places = c .xtrans-places }; loop = record { image = vs .0; lines = vs .1; rs = vs .2; answer = vs .3; b = vs .4; inv = inv } };
                 loop-test =
                     record {
-                      left = Tests.ltb-false (Row.get 13 (T15 .locals) (m14 record { before = c .before; xtrans-places = c .xtrans-places } (vs .0) (vs .1) (vs .2) (vs .3) (vs .4))) (Row.get 10 (T15 .locals)
+                      left = Tests.ltb-false (Row.get 14 (T15 .locals) (m14 record { before = c .before; xtrans-places = c .xtrans-places } (vs .0) (vs .1) (vs .2) (vs .3) (vs .4))) (Row.get 11 (T15 .locals)
                           (m14 record { before = c .before; xtrans-places = c .xtrans-places } (vs .0) (vs .1) (vs .2) (vs .3) (vs .4))) left;
                     };
               },
@@ -3695,7 +3751,7 @@ module _ (claims· : Claims) where
           ),
         )
 
-        lay1 : (c : After-span-of) → at66 (W0 (c .before .before .before .before .κs) (c .before .before .before .before .args)) (m4 (c .before) (After-span-of·gave c))
+        lay1 : (c : After-span-of) → at67 (W0 (c .before .before .before .before .κs) (c .before .before .before .before .args)) (m4 (c .before) (After-span-of·gave c))
         lay1 = λ c. λ g. (
           add-end record { before = record { before = c .before; span-of = c .span-of }; struct-known = record { given = g } },
           (
@@ -3708,7 +3764,7 @@ module _ (claims· : Claims) where
           ),
         )
 
-        pub laid : (c : Start) → at70 (W0 (c .κs) (c .args)) (m0 (c .κs) (c .args))
+        pub laid : (c : Start) → at71 (W0 (c .κs) (c .args)) (m0 (c .κs) (c .args))
         laid = λ c. λ g. λ g'. λ g''. (
           span-of-requires record
               { before = record { before = record { before = c; shared-slice-known = record { given = g } }; slice-known = record { given = g' } }; slice-known2 = record { given = g'' } },
@@ -3727,7 +3783,8 @@ module _ (claims· : Claims) where
               qs a)
           asked = λ a good pre bs. laid record {
             κs = κs;
-            args = record { d = a .0; h = a .1 .0; r = a .1 .1 .0; tile = a .1 .1 .1 .0; image = a .1 .1 .1 .1 .0; lines = a .1 .1 .1 .1 .1 .0; rs = a .1 .1 .1 .1 .1 .1 .0 };
+            args = record
+                { d = a .0; h = a .1 .0; r = a .1 .1 .0; tile = a .1 .1 .1 .0; image = a .1 .1 .1 .1 .0; lines = a .1 .1 .1 .1 .1 .0; rs = a .1 .1 .1 .1 .1 .1 .0; windowed = a .1 .1 .1 .1 .1 .1 .1 .0 };
             good = good;
             pre = pre;
           }

@@ -1,0 +1,101 @@
+-- What the functions that read a block say where of each colour only the last three lines are kept. No public contract rests on these. Assumes
+-- nothing.
+use mathlib.Core.Bool.{Bool, true, false, cond, _&&_}
+use mathlib.Core.List.{List}
+use mathlib.Core.Option.{Option, none, some}
+use mathlib.Core.Path.{_≡_}
+use Prim.Native.Nat.{ℕ, suc, _+_, _-_, _*_, _/_, _<_}
+use lib.Dec.{ltb}
+use lib.ListN.{length, getD, replicate}
+use Rattle.code.specs.declared.Place.{Place}
+use Rattle.statistics.specs.declared.Record.{Record}
+use Rattle.map.specs.Places.{widthOf, pictureRow, inRows, emittedSample, Changed}
+use Rattle.map.specs.Windows.{PassEmitted}
+use Rattle.map.specs.declared.Part.{Part}
+use Rattle.pass.specs.Windows.{windowPlan}
+use Rattle.steps.specs.Steps.{planOf}
+use Rattle.steps.specs.declared.Quantisers.{Quantisers}
+use Rattle.stream.specs.declared.FujiHeader.{FujiHeader}
+use Rattle.region.specs.declared.Rect.{Rect}
+use Rattle.begin.specs.Beginnings.{samplesNeeded, recordsNeeded}
+use Rattle.block.specs.Blocks.{State, readLine, stateAt, shownSample, Shown, shownLines}
+use Rattle.block.specs.Images.{Pictured}
+use Rattle.block.specs.Lent.{Buffers}
+use Rattle.block.specs.WindowedImages.{windowSize, PicturedWindowed}
+use Rattle.block.specs.declared.Form.{Form}
+use Rattle.block.specs.declared.Lined.{Lined}
+use Rattle.block.specs.declared.Lined.the-variants as Line
+use Rattle.block.specs.declared.Walked.{Walked}
+use Rattle.block.specs.declared.Walked.the-variants as Walk
+
+-- ---- scratch
+
+abbrev pub samplesIn : Bool → Bool → ℕ
+samplesIn false xtrans = samplesNeeded xtrans
+samplesIn true xtrans = windowSize xtrans
+
+abbrev pub ScratchIn : Bool → Bool → List ℕ → List Record → Type 0
+ScratchIn windowed xtrans lines records = (length lines ≡ samplesIn windowed xtrans) × (length records ≡ recordsNeeded)
+
+abbrev pub zerosIn : Bool → Bool → List ℕ
+zerosIn windowed xtrans = replicate (samplesIn windowed xtrans) 0
+
+-- ---- windows
+
+-- line `slot` of the windows v is colour line L of the 18 lines l, with its guards, and the samples above it are those above L
+pub record Latest (W L slot : ℕ) (l v : List ℕ) : Type 0 where
+  pub above : (p : ℕ) → p < W → getD l ((L - 1) * (W + 2) + (p + 1)) 0 ≡ getD v ((slot - 1) * (W + 2) + (p + 1)) 0
+  pub line : (d : ℕ) → d < W + 2 → getD l (L * (W + 2) + d) 0 ≡ getD v (slot * (W + 2) + d) 0
+
+-- after i passes of a line
+pub record Windows (W i : ℕ) (l v : List ℕ) : Type 0 where
+  pub red : Latest W (1 + (i + 1) / 2) 2 l v
+  pub green : Latest W (6 + i) 5 l v
+  pub blue : Latest W (14 + i / 2) 8 l v
+
+-- how the lines that are kept stand for the 18
+abbrev pub Held : Bool → (W i : ℕ) → (l v : List ℕ) → Type 0
+Held false W i l v = v ≡ l
+Held true W i l v = Windows W i l v
+
+-- ---- a line
+
+-- the two colour lines of pass i have gone to the image, in windows
+abbrev pub PassPlaced : Bool → Bool → ℕ → (tile lines : List ℕ) → Part → (n i : ℕ) → (before after : List ℕ) → Type 0
+PassPlaced windowed xtrans W tile lines a n i before after =
+    let P = planOf xtrans i in
+    let Q = windowPlan windowed P in
+    PassEmitted windowed xtrans W tile lines a n (P .first) (Q .first) (P .second) (Q .second) before after
+
+-- only the rows of line n may be other than they were
+abbrev pub OnlyLine : Bool → Part → ℕ → (before after : List ℕ) → Type 0
+OnlyLine windowed a n before after = Changed (λ i. windowed && inRows a (6 * n) (6 * n + 6) i) (λ i. getD after i 0) before after
+
+-- what a line hands back, by its reading on the 18 lines
+abbrev pub IsLinedIn : Bool → Bool → ℕ → List ℕ → Part → ℕ → Option State → (before after : Buffers) → Lined → Type 0
+IsLinedIn windowed xtrans W tile a n none before after r = r ≡ Line.Truncated
+IsLinedIn windowed xtrans W tile a n (some z) before after r =
+    (r ≡ Line.Read (record { at = z .at; tight = z .tight; long = z .long })) × Held windowed W 6 (z .lines) (after .lines) × (after .records ≡ z .records)
+    × Changed (λ i. windowed && inRows a (6 * n) (6 * n + 6) i) (emittedSample xtrans W tile (z .lines) a) (before .image) (after .image)
+
+abbrev pub LineReadIn : Bool → Form → Quantisers → List ℕ → Place → List ℕ → Part → ℕ → (before after : Buffers) → Lined → Type 0
+LineReadIn windowed F Q s from tile a n before after r =
+    let W = widthOf (F .xtrans) in
+    (l : List ℕ) → length l ≡ 18 * (W + 2) → Held windowed W 0 l (before .lines)
+    → IsLinedIn windowed (F .xtrans) W tile a n (readLine F (Q .base) s (stateAt l (before .records) from)) before after r
+
+-- ---- a block
+
+-- the lines whose rows are not what they were
+abbrev pub reachedLines : Walked → ℕ → ℕ
+reachedLines (Walk.Read all tight) count = count
+reachedLines (Walk.Truncated line before) count = suc line
+
+abbrev pub ShownIn : Bool → Form → (bases s tile : List ℕ) → Part → Walked → ℕ → (before after : List ℕ) → Type 0
+ShownIn false F bases s tile a r count before after = Shown F bases s tile a (shownLines r count) before after
+ShownIn true F bases s tile a r count before after =
+    Changed (inRows a 0 (6 * reachedLines r count)) (λ i. cond (ltb (pictureRow a i / 6) (shownLines r count)) (shownSample F bases s tile a i) 0) before after
+
+abbrev pub PicturedIn : Bool → List ℕ → FujiHeader → Rect → List ℕ → ℕ → (before after : List ℕ) → Type 0
+PicturedIn false d h r tile e before after = Pictured d h r tile e before after
+PicturedIn true d h r tile e before after = PicturedWindowed d h r tile e before after
