@@ -5,6 +5,7 @@ use common::stream::{Header, encoded};
 use fuji_compressed::{ColorTile, FujiCompressed, Rect, Scratch, measure_block_with, write_block_with};
 use original::fuji_compressed as theirs;
 use std::hint::black_box;
+use std::time::Instant;
 
 const SEED: u64 = 0x0bad_5eed_0bad_5eed;
 const ROUNDS: usize = 31;
@@ -164,6 +165,28 @@ impl Picture {
         rounds(|| [self.time_theirs(&mut want), self.time_ours(&mut got, &mut scratch), self.time_theirs(&mut want)])
     }
 
+    /// Rounds of Rust, ours, Rust, each by as many threads as there are processors, by the clock on the wall.
+    fn parallel_against_theirs(&self) -> Rounds {
+        let threads = std::thread::available_parallelism().map_or(1, |n| n.get());
+        let (mut want, mut got) = (self.image(), self.image());
+        let theirs = |image: &mut [u16]| {
+            let start = Instant::now();
+            let stream = theirs::FujiCompressed::new(black_box(&self.stream)).unwrap();
+            stream.decode(image, self.width, self.height, &TILE, true).unwrap();
+            start.elapsed().as_secs_f64()
+        };
+        let ours = |image: &mut [u16]| {
+            let start = Instant::now();
+            let stream = FujiCompressed::new(black_box(&self.stream)).unwrap();
+            stream.decode_parallel(threads, image, self.width, self.height, &TILE).unwrap();
+            start.elapsed().as_secs_f64()
+        };
+        theirs(&mut want);
+        ours(&mut got);
+        assert!(want == got, "the two pictures differ");
+        rounds(|| [theirs(&mut want), ours(&mut got), theirs(&mut want)])
+    }
+
     /// Rounds of reading, reading in windows, reading; all ours.
     fn windowed_against_read(&self) -> Rounds {
         let (mut want, mut got, mut scratch, mut windows) = (self.image(), self.image(), Scratch::new(), Scratch::windowed());
@@ -283,6 +306,8 @@ fn measure_kind((name, xtrans, lossy): (&str, bool, bool), blocks: u16, lines: u
     if noise != USUAL_NOISE {
         return;
     }
+    let title = format!("{name}, {blocks} blocks of {lines} lines, in parallel by the clock on the wall");
+    say(&format!("parallel-{name}"), measure(&title, ["rust", "ours"], &whole, whole.parallel_against_theirs()));
     let windowed = format!("windowed-{name}");
     let title = format!("{windowed}, one block of 480 lines");
     say(&windowed, measure(&title, ["decode", "decode_region_windowed"], &one, one.windowed_against_read()));

@@ -10,6 +10,7 @@
 //! ```
 mod fault;
 mod ffi;
+mod parallel;
 mod refusal;
 mod windowed;
 

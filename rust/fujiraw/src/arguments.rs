@@ -41,6 +41,7 @@ pub struct Decode {
     pub tile: Option<ColorTile>,
     pub look: Look,
     pub windowed: Windowed,
+    pub threads: usize,
     pub quiet: Quiet,
 }
 
@@ -196,6 +197,7 @@ fn decode(words: Words) -> Result<Decode, String> {
         return Err("a preview is pgm or png".to_string());
     }
     let (windowed, quiet) = (Windowed(words.has("--windowed")), Quiet(words.has("--quiet")));
+    let threads = words.value("--threads").map_or(Ok(processors()), threads)?;
     let mut files = words.files();
     let out = files.pop().filter(|_| !files.is_empty()).ok_or("decode needs a stream and an output")?;
     once(&files)?;
@@ -203,9 +205,18 @@ fn decode(words: Words) -> Result<Decode, String> {
     if files.len() > 1 && !into_folder {
         return Err(format!("{} is no folder, and there are {} streams", out.display(), files.len()));
     }
-    let call = Decode { streams: files, out, into_folder, region, tile, look, windowed, quiet };
+    let call = Decode { streams: files, out, into_folder, region, tile, look, windowed, threads, quiet };
     apart(&call)?;
     Ok(call)
+}
+
+/// As many as this machine has, or one if it does not say.
+fn processors() -> usize {
+    std::thread::available_parallelism().map_or(1, |n| n.get())
+}
+
+fn threads(text: &str) -> Result<usize, String> {
+    text.parse().ok().filter(|n| (1..=1024).contains(n)).ok_or_else(|| format!("threads are a number from 1 to 1024: not {text}"))
 }
 
 /// No two pictures may go to one file.

@@ -9,6 +9,7 @@ use fuji_compressed::{
 };
 use std::fmt::Write;
 use std::path::Path;
+use std::sync::Mutex;
 
 /// The header and the ranges, in lines; and what is counted of each block, if that is wanted.
 pub fn info(file: &Path, read: bool) -> Result<String, String> {
@@ -136,7 +137,7 @@ pub fn plan(header: &Path, plan: &Path) -> Result<Vec<u8>, String> {
     Ok(bases)
 }
 
-/// A picture, or a region of it, one block's columns after the other, and the tile that was used.
+/// A picture, or a region of it, by so many threads, and the tile that was used.
 pub fn decode(file: &Path, call: &Decode) -> Result<(Picture, ColorTile), String> {
     let bytes = load(file)?;
     let stream = FujiCompressed::new(&bytes).map_err(|e| e.to_string())?;
@@ -153,33 +154,19 @@ pub fn decode(file: &Path, call: &Decode) -> Result<(Picture, ColorTile), String
         stream.decode_region(&mut [0], Rect::new(region.x, 0, 1, 1), &tile).map_err(|e| e.to_string())?;
     }
     let mut samples = room(region.width, region.height)?;
-    let mut columns = room(region.width.min(768), region.height)?;
-    let windowed = call.windowed.0;
-    let mut scratch = if windowed { Scratch::windowed() } else { Scratch::new() };
-    let progress = Progress::new(call.quiet.0, name(file));
-    for block in first..=last {
-        let part = part_in(region, block);
-        let columns = &mut columns[..part.width as usize * part.height as usize];
-        let answer = match windowed {
-            true => stream.decode_region_windowed_with(&mut scratch, columns, part, &tile),
-            false => stream.decode_region_with(&mut scratch, columns, part, &tile),
-        };
-        answer.map_err(|e| e.to_string())?;
-        let at = (part.x - region.x) as usize;
-        for (row, from) in samples.chunks_mut(region.width as usize).zip(columns.chunks(part.width as usize)) {
-            row[at..at + part.width as usize].copy_from_slice(from);
-        }
-        let done = (block + 1 - first) as usize;
-        progress.at(done, (last + 1 - first) as usize, done * 768 * region.height as usize);
-    }
+    let (blocks, progress) = ((last + 1 - first) as usize, Progress::new(call.quiet.0, name(file)));
+    let done = Mutex::new(0);
+    let one_more = || {
+        let mut done = done.lock().unwrap();
+        *done += 1;
+        progress.at(*done, blocks, *done * 768 * region.height as usize);
+    };
+    let by_threads = match call.windowed.0 {
+        true => FujiCompressed::decode_region_windowed_parallel,
+        false => FujiCompressed::decode_region_parallel,
+    };
+    by_threads(&stream, call.threads, &mut samples, region, &tile, &one_more).map_err(|e| e.to_string())?;
     Ok((Picture { width: region.width, height: region.height, bits: h.bits, samples }, tile))
-}
-
-/// The part of a region that lies in a block's columns.
-fn part_in(region: Rect, block: u32) -> Rect {
-    let x = region.x.max(768 * block);
-    let end = (region.x + region.width).min(768 * block + 768);
-    Rect::new(x, region.y, end - x, region.height)
 }
 
 /// Samples for a picture, if there is memory for them.

@@ -165,3 +165,27 @@ fn region_over_several_blocks_is_a_part_of_the_whole() {
         assert_eq!(f.get("part"), rows.collect::<Vec<_>>().concat(), "{x},{y},{width},{height}");
     }
 }
+
+#[test]
+fn any_number_of_threads_gives_the_same_picture() {
+    let f = Folder::new("threads");
+    let header = common::stream::Header::new(true, true, 14, 2304, 3);
+    let bytes = common::stream::encoded(&header, &[], &mut |b, n, line, p| (1000 * b + 300 * n + 10 * line + p % 7) as u16);
+    f.put("a.fcs", &bytes);
+    f.works("decode a.fcs one --format raw --quiet --threads 1");
+    for threads in ["2", "3", "7", "1024", "1 --windowed", "2 --windowed"] {
+        f.works(&format!("decode a.fcs more --format raw --quiet --threads {threads}"));
+        assert_eq!(f.get("one"), f.get("more"), "{threads}");
+    }
+    // the lowest block that fails is named, however many are read at a time
+    let at = 32 + bytes.len() / 6;
+    f.put("cut.fcs", &[&bytes[..at], &vec![0; bytes.len() - at]].concat());
+    let said = f.run("decode cut.fcs out --threads 1").stderr;
+    assert!(text(&said).contains("block 0, line "), "{}", text(&said));
+    for threads in ["2", "3", "3 --windowed"] {
+        f.fails(&format!("decode cut.fcs out --threads {threads}"), text(&said).trim_end());
+    }
+    for wrong in ["0", "x", "-1", "1025"] {
+        f.is_wrong(&format!("decode a.fcs out --threads={wrong}"), &format!("threads are a number from 1 to 1024: not {wrong}"));
+    }
+}

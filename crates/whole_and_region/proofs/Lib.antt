@@ -1,0 +1,3 @@
+-- The proof.
+pub mod AgreementLaws
+pub mod AgreementHolds
