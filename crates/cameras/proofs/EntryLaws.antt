@@ -1,5 +1,5 @@
 -- The entries after some lines, or after each was changed. Assumes nothing.
-use borrow.Author.Tests.{ltb-true, ltb-false, lt-ltb, le-ltb, leb-true, eqb-true, eq-eqb, ne-eqb}
+use borrow.Author.Tests.{ltb-true, ltb-false, lt-ltb, le-ltb, leb-true, eqb-true, eqb-false, eq-eqb, ne-eqb}
 use mathlib.Core.Bool.{Bool, true, false, cond, not, _&&_, _||_, false≢true}
 use mathlib.Core.List.{List, [], _∷_, map}
 use mathlib.Core.Path.{_≡_, refl, sym, ap, _∙_}
@@ -19,6 +19,7 @@ use Rattle.quantiser.specs.declared.Quantiser.{Quantiser}
 use Rattle.cameras.specs.Entries.{noEntry, isHeld, isPair, heldBy, newEntry, entryAt, pairIn, freeIn, hasEntry, withEntry, mendedEntry, each, mended, afterLines, linesWithEntry, Numbered, AllNumbered}
 use Rattle.cameras.specs.declared.Entry.{Entry}
 use Rattle.cameras.specs.declared.Camera.{Camera}
+use Rattle.cameras.specs.declared.Camera.the-variants.{One, Two}
 
 -- ---- each entry
 
@@ -122,6 +123,25 @@ module _ (c : Camera) (bits : ℕ) (bases : List ℕ) (l : List Entry) where
       go true false t u k = absurd (omega (arith, eqb-true m n t, k))
       go false b t u k = absurd (omega (arith, few n, k))
 
+  -- so have any fewer
+  pub all-below : (count t : ℕ) → t ≤ linesWithEntry c bits bases l count → linesWithEntry c bits bases l t ≡ t
+  unfolding linesWithEntry
+  all-below zero t h = let e : t ≡ 0 = omega (arith, h) in rw e refl
+  all-below (suc n) t h =
+      go (eqb (linesWithEntry c bits bases l n) n && hasEntry bits (getD bases n 0) (afterLines c bits bases l n)) refl (all-below n t) h
+    where
+      go : (b : Bool) → eqb (linesWithEntry c bits bases l n) n && hasEntry bits (getD bases n 0) (afterLines c bits bases l n) ≡ b
+          → (t ≤ linesWithEntry c bits bases l n → linesWithEntry c bits bases l t ≡ t)
+          → t ≤ cond b (suc n) (linesWithEntry c bits bases l n) → linesWithEntry c bits bases l t ≡ t
+      go false e below k = below k
+      go true e below k =
+          split (suc n) t
+          (λ z. let f : t ≡ suc n = omega arith in rw f (rw e))
+          (λ z.
+          let s = both (eqb (linesWithEntry c bits bases l n) n) (hasEntry bits (getD bases n 0) (afterLines c bits bases l n)) e in
+          let q = eqb-true (linesWithEntry c bits bases l n) n (s .0) in
+          below (omega (arith, z, q)))
+
   -- a line without an entry is the last that is looked at
   stays : (n m k : ℕ) → m < n → linesWithEntry c bits bases l n ≡ m → linesWithEntry c bits bases l (n + k) ≡ m
   unfolding linesWithEntry
@@ -160,6 +180,52 @@ module _ (l : List Entry) (bits q i : ℕ) (ok : AllNumbered l) (at : i ≡ pair
       let b = both (isHeld (entryAt l i)) (eqb ((entryAt l i) .bits) bits) (a .0) in
       let n = ok i low (b .0) in
       rw (eqb-true ((entryAt l i) .bits) bits (b .1), eqb-true ((entryAt l i) .main .base) q (a .1)) at (n .main)
+
+-- ---- what a line takes has the numbers of its pair
+
+held-numbered : (c : Camera) (e : Entry) → Numbered e → Numbered (heldBy c e)
+held-numbered One e n = record { low = n .low; high = n .high; base = n .base; main = n .main }
+held-numbered Two e n = record { low = n .low; high = n .high; base = n .base; main = n .main }
+
+pub main-base : (bits q : ℕ) → (mainOf bits q) .base ≡ q
+unfolding quantiserOf
+main-base bits q = refl
+
+new-numbered : (c : Camera) (bits q : ℕ) → 12 ≤ bits → bits ≤ 16 → q < 256 → Numbered (newEntry c bits q)
+new-numbered c bits q low high base =
+    held-numbered c (record { bits = bits; main = mainOf bits q; one = false; two = false })
+    (record { low = low; high = high; base = rw (main-base bits q) base; main = sym (ap (mainOf bits) (main-base bits q)) })
+
+set-numbered : (l : List Entry) (j : ℕ) (e : Entry) → AllNumbered l → Numbered e → AllNumbered (set l j e)
+set-numbered l j e ok n i low h = go (eqb i j) refl
+  where
+    go : (b : Bool) → eqb i j ≡ b → Numbered (entryAt (set l j e) i)
+    go true t =
+        let f : i ≡ j = eqb-true i j t in
+        split (length l) j
+        (λ z.
+        absurd
+        (false≢true
+        (sym (ap isHeld (List·getD-eq-default (set l j e) noEntry {n = i} (rw (length-set l j e, f) z))) ∙ h)))
+        (λ z. rw (f, getD-set-same l j e noEntry z) n)
+    go false t =
+        let f = getD-set-other l j i e noEntry (eqb-false i j t) in
+        rw f (ok i low (rw f at h))
+
+pub numbered-with : (c : Camera) (bits q : ℕ) (l : List Entry) → 12 ≤ bits → bits ≤ 16 → q < 256 → AllNumbered l → AllNumbered (withEntry c bits q l)
+unfolding withEntry pairIn
+numbered-with c bits q l low high base ok = go (ltb (pairIn bits q l) 16) (ltb (freeIn l) 16) refl
+  where
+    go : (a b : Bool) → ltb (pairIn bits q l) 16 ≡ a
+        → AllNumbered (cond a (set l (pairIn bits q l) (heldBy c (entryAt l (pairIn bits q l)))) (cond b (set l (freeIn l) (newEntry c bits q)) l))
+    go true b t =
+        let k = ltb-true (pairIn bits q l) 16 t in
+        let p = least 16 (λ j. isPair bits q (entryAt l j)) 0 .holds k in
+        let h = both (isHeld (entryAt l (pairIn bits q l)) && eqb ((entryAt l (pairIn bits q l)) .bits) bits) (eqb ((entryAt l (pairIn bits q l)) .main .base) q) p in
+        let g = both (isHeld (entryAt l (pairIn bits q l))) (eqb ((entryAt l (pairIn bits q l)) .bits) bits) (h .0) in
+        set-numbered l (pairIn bits q l) (heldBy c (entryAt l (pairIn bits q l))) ok (held-numbered c (entryAt l (pairIn bits q l)) (ok (pairIn bits q l) k (g .0)))
+    go false true t = set-numbered l (freeIn l) (newEntry c bits q) ok (new-numbered c bits q low high base)
+    go false false t = ok
 
 -- ---- mended entries
 

@@ -19,7 +19,7 @@ use Rattle.cameras.specs.Entries.{noEntry, noEntries, isHeld, isPair, he
 use Rattle.cameras.specs.declared.Entry.{Entry}
 use Rattle.cameras.specs.declared.Camera.{Camera}
 use Rattle.cameras.specs.declared.Camera.the-variants.{One, Two}
-use Rattle.cameras.proofs.EntryLaws.{each-at, length-each}
+use Rattle.cameras.proofs.EntryLaws.{each-at, length-each, main-base}
 use Rattle.cameras.proofs.HoldLaws.{length-with}
 
 by-equal : {X : Type 0} (a b : ℕ) → (a ≡ b → X) → (a ≢ b → X) → X
@@ -109,10 +109,6 @@ new-held Two bits q = refl
 new-pair : (c : Camera) (bits q : ℕ) → ((newEntry c bits q) .bits ≡ bits) × ((newEntry c bits q) .main ≡ mainOf bits q)
 new-pair One bits q = (refl, refl)
 new-pair Two bits q = (refl, refl)
-
-main-base : (bits q : ℕ) → (mainOf bits q) .base ≡ q
-unfolding quantiserOf
-main-base bits q = refl
 
 module _ (c : Camera) (bits q : ℕ) (l : List Entry) (s : Sound l) where
   abbrev i : ℕ

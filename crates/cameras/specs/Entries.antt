@@ -74,6 +74,10 @@ each f (suc n) l = let m = each f n l in set m n (f (entryAt m n))
 abbrev pub givenBack : Camera → List Entry → List Entry
 givenBack c l = each (freeOf c) 16 l
 
+-- what a call hands back: a refused one gives back all holds of its camera
+abbrev pub handedBack : Camera → Bool → List Entry → List Entry
+handedBack c refused l = cond refused (givenBack c l) l
+
 abbrev pub noEntries : List Entry
 noEntries = replicate 16 noEntry
 
@@ -90,6 +94,14 @@ linesWithEntry c bits bases l zero = 0
 linesWithEntry c bits bases l (suc n) =
     let m = linesWithEntry c bits bases l n in
     cond (eqb m n && hasEntry bits (getD bases n 0) (afterLines c bits bases l n)) (suc n) m
+
+-- how many lines of a block take one, if e lines have one and m are read: the truncated line takes one too
+abbrev pub takingLines : (m e : ℕ) → ℕ
+takingLines m e = cond (ltb m e) (suc m) e
+
+-- line e, which has none, is one of the n lines that are wanted, and all before it are read
+abbrev pub isStopped : (m e n : ℕ) → Bool
+isStopped m e n = ltb e n && leb e m
 
 -- ---- how many holds there are
 

@@ -4,7 +4,8 @@ ghost use Prim.Native.Nat.{_^_, _≤_, _<_};
 ghost use lib.ListN.{getD};
 ghost use Rattle.quantiser.specs.Quantisers.{mainOf};
 ghost use Rattle.cameras.specs.Words.{entryIn, entriesIn, wordsOf, AreWords, cameraIn};
-ghost use Rattle.cameras.specs.Entries.{noEntry, noEntries, isHeld, isPair, heldBy, freeOf, newEntry, pairIn, freeIn, hasEntry, withEntry, givenBack, afterLines, linesWithEntry, AllNumbered, mendedEntry, mended};
+ghost use Rattle.cameras.specs.Entries.{noEntry, noEntries, isHeld, isPair, heldBy, freeOf, newEntry, pairIn, freeIn, hasEntry, withEntry, givenBack, handedBack, afterLines, linesWithEntry};
+ghost use Rattle.cameras.specs.Entries.{takingLines, isStopped, AllNumbered, mendedEntry, mended};
 use quantiser::Quantiser;
 
 pub enum Camera {
@@ -200,8 +201,9 @@ fn take(camera: Camera, entries: Entries, bits: u32, base: u32) -> Taken
 // The entries of the first `count` lines of a block, until a line has none.
 pub fn take_lines(camera: Camera, entries: Entries, bits: u32, bases: &[u8], count: usize) -> Took
     requires { ⌜ (12 ≤ bits) × ((bits ≤ 16) × (count < 2 ^ 16)) ⌝ }
-    ensures { λ r. ⌜ r .lines ≡ linesWithEntry camera bits (now (bases .entry)) (entries .all) count ⌝ }
-    ensures { λ r. ⌜ r .entries .all ≡ afterLines camera bits (now (bases .entry)) (entries .all) (r .lines) ⌝ }
+    requires { ⌜ AllNumbered (entries .all) ⌝ }
+    ensures { λ r. ⌜ (r .lines ≡ linesWithEntry camera bits (now (bases .entry)) (entries .all) count) × (r .lines ≤ count) ⌝ }
+    ensures { λ r. ⌜ (r .entries .all ≡ afterLines camera bits (now (bases .entry)) (entries .all) (r .lines)) × AllNumbered (r .entries .all) ⌝ }
 {
     let mut after = entries;
     let mut n = 0usize;
@@ -221,6 +223,43 @@ pub fn take_lines(camera: Camera, entries: Entries, bits: u32, bases: &[u8], cou
         lines: n,
         entries: after,
     }
+}
+
+// How many lines of a block take an entry, if `found` have one and `read` were read: the truncated line takes one too.
+fn lines_taking(read: usize, found: usize) -> usize
+    ensures { λ r. ⌜ (r ≡ takingLines read found) × (r ≤ found) ⌝ }
+{
+    if read < found {
+        return read + 1;
+    }
+    found
+}
+
+// The entries after the block.
+pub fn after_block(camera: Camera, entries: Entries, bits: u32, bases: &[u8], found: usize, read: usize) -> Entries
+    requires { ⌜ (12 ≤ bits) × ((bits ≤ 16) × (found < 2 ^ 16)) ⌝ }
+    requires { ⌜ AllNumbered (entries .all) × (linesWithEntry camera bits (now bases) (entries .all) found ≡ found) ⌝ }
+    ensures { λ r. ⌜ (r .all ≡ afterLines camera bits (now (bases .entry)) (entries .all) (takingLines read found)) × AllNumbered (r .all) ⌝ }
+{
+    let took = take_lines(camera, entries, bits, bases, lines_taking(read, found));
+    took.entries
+}
+
+// Whether a line of the block has no entry, and all before it were read.
+pub fn is_stopped(read: usize, found: usize, count: usize) -> bool
+    ensures { λ r. ⌜ r ≡ isStopped read found count ⌝ }
+{
+    (found < count) & (found <= read)
+}
+
+// What a call hands back: a refused one gives back all holds of its camera.
+pub fn handed_back(camera: Camera, entries: Entries, refused: bool) -> Entries
+    ensures { λ r. ⌜ r .all ≡ handedBack camera refused (entries .all) ⌝ }
+{
+    if refused {
+        return given_back(camera, entries);
+    }
+    entries
 }
 
 // All holds of this camera go back.
