@@ -66,7 +66,7 @@ fn no_entry() -> Entry
 
 // Entries of which none is held.
 pub fn no_entries() -> Entries
-    ensures { λ r. ⌜ r .all ≡ noEntries ⌝ }
+    ensures { λ r. ⌜ (r .all ≡ noEntries) × AllNumbered (r .all) ⌝ }
 {
     Entries {
         all: [no_entry(); 16],
@@ -236,7 +236,14 @@ fn lines_taking(read: usize, found: usize) -> usize
 }
 
 // The entries after the block.
-pub fn after_block(camera: Camera, entries: Entries, bits: u32, bases: &[u8], found: usize, read: usize) -> Entries
+pub fn after_block(
+    camera: Camera,
+    entries: Entries,
+    bits: u32,
+    bases: &[u8],
+    found: usize,
+    read: usize,
+) -> Entries
     requires { ⌜ (12 ≤ bits) × ((bits ≤ 16) × (found < 2 ^ 16)) ⌝ }
     requires { ⌜ AllNumbered (entries .all) × (linesWithEntry camera bits (now bases) (entries .all) found ≡ found) ⌝ }
     ensures { λ r. ⌜ (r .all ≡ afterLines camera bits (now (bases .entry)) (entries .all) (takingLines read found)) × AllNumbered (r .all) ⌝ }
@@ -257,13 +264,13 @@ pub fn handed_back(camera: Camera, entries: Entries, refused: bool) -> Entries
     ensures { λ r. ⌜ r .all ≡ handedBack camera refused (entries .all) ⌝ }
 {
     if refused {
-        return given_back(camera, entries);
+        return end_stream(camera, entries);
     }
     entries
 }
 
-// All holds of this camera go back.
-pub fn given_back(camera: Camera, entries: Entries) -> Entries
+// The stream of this camera ends: all its holds go back.
+pub fn end_stream(camera: Camera, entries: Entries) -> Entries
     ensures { λ r. ⌜ r .all ≡ givenBack camera (entries .all) ⌝ }
 {
     let mut after = entries;

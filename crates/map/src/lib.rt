@@ -7,7 +7,6 @@ ghost use Rattle.map.specs.Rows.{AreStarts, InLines, sampleBy, threePut,
 use places::XTRANS_PLACES;
 
 mod places;
-
 mod windows;
 
 pub use windows::emit_line_if;

@@ -136,7 +136,7 @@ place W l d = l * (W + 2) + d
 pub even-sees : (W l p : ℕ) (lines : List ℕ) → p % 2 ≡ 0
     → (contextIn W lines l p) .prediction
     ≡ evenPrediction (getD lines (place W (l - 2) (p + 1)) 0) (getD lines (place W (l - 1) p) 0) (getD lines (place W (l - 1) (p + 1)) 0)
-      (getD lines (place W (l - 1) (p + 2)) 0)
+    (getD lines (place W (l - 1) (p + 2)) 0)
 unfolding contextIn evenIn evenContext
 even-sees W l p lines even = rw (eq-eqb (p % 2) 0 even)
 

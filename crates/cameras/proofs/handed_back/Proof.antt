@@ -15,7 +15,7 @@ refused c b l l' t e = rw t e
 returns : tie.Need-returns
 returns c =
     let a = c .before .before .args in
-    refused (a .camera) (a .refused) (a .entries .all) _ (c .before .if1 .taken) (c .given-back .ensures)
+    refused (a .camera) (a .refused) (a .entries .all) _ (c .before .if1 .taken) (c .end-stream .ensures)
 
 pub handed-back-spec : {M : Type 1} → statement M
 handed-back-spec = tie.close (tie.spec (λ c κs. search needs) returns (λ c. search needs))

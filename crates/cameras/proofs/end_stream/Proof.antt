@@ -6,10 +6,10 @@ use native.Mathlib.Numerals.{add-one}
 use native.Mathlib.Omega.{arith}
 use Rattle.cameras.specs.Entries.{isHeld, isPair, entryAt, pairIn, freeIn, hasEntry, withEntry, freeOf, mendedEntry, each, afterLines, linesWithEntry, AllNumbered}
 use Rattle.cameras.proofs.EntryLaws.{each-start, each-more}
-use Rattle.cameras.proofs.given_back.Statement.{statement}
-use Rattle.cameras.proofs.given_back.Tie as tie
-use Rattle.cameras.proofs.given_back.Reads as reads
-use Rattle.cameras.proofs.given_back.Lts as lts
+use Rattle.cameras.proofs.end_stream.Statement.{statement}
+use Rattle.cameras.proofs.end_stream.Tie as tie
+use Rattle.cameras.proofs.end_stream.Reads as reads
+use Rattle.cameras.proofs.end_stream.Lts as lts
 use Rattle.cameras.proofs.free_of.Reads as free-of-reads
 
 abbrev Inv-loop : tie.InvT-loop
@@ -63,8 +63,8 @@ returns c =
     let e : l .i ≡ 16 = omega (arith, l .inv .0, c .loop-test .left) in
     rw e at (l .inv .1)
 
-pub given-back-spec : {M : Type 1} → statement M
-given-back-spec =
+pub end-stream-spec : {M : Type 1} → statement M
+end-stream-spec =
     tie.close
     (tie.spec
     Inv-loop
