@@ -24,8 +24,21 @@ ps = List._∷_ (ShrSlice.pShrS (Referent.rtF (Referent.fInt Syntax.w8)) 0 tt) (
     (MutSlice.pMutS (Element.type) 3 tt) List.[]))))))
 
 abbrev pub r : Kinds.RK 4
-r = Value.rVal record
-    { ty = Declared.row Decoded.the-type; one = Path'.refl; val = Laws'.val Decoded.the-type Laws.the-laws; tells = Laws'.tells Decoded.the-type Laws.the-laws; still = Laws'.still Decoded.the-type
-    Laws.the-copy Exit.yes; row = Rows.whole (Declared.row Decoded.the-type); rd = λ x. x; mk = λ x. x; } λ M 𝓤 H A W. record
-    { copies = Laws'.copy Decoded.the-type Laws.the-copy 𝓤 H A W; lawful = Laws'.lawful Decoded.the-type Laws.the-laws 𝓤 H A W tt; makes = Laws'.makes Decoded.the-type Laws.the-plain 𝓤 H A; in-mem =
-    Local.mem-whole 𝓤 H A W (Declared.row Decoded.the-type); of-mem = Local.whole-mem 𝓤 H A W (Declared.row Decoded.the-type); }
+r = Value.rVal record {
+  ty = Declared.row Decoded.the-type;
+  one = Path'.refl;
+  val = Laws'.val Decoded.the-type Laws.the-laws;
+  tells = Laws'.tells Decoded.the-type Laws.the-laws;
+  still = Laws'.still Decoded.the-type
+      Laws.the-copy Exit.yes;
+  row = Rows.whole (Declared.row Decoded.the-type);
+  rd = λ x. x;
+  mk = λ x. x;
+} λ M 𝓤 H A W. record {
+  copies = Laws'.copy Decoded.the-type Laws.the-copy 𝓤 H A W;
+  lawful = Laws'.lawful Decoded.the-type Laws.the-laws 𝓤 H A W tt;
+  makes = Laws'.makes Decoded.the-type Laws.the-plain 𝓤 H A;
+  in-mem =
+      Local.mem-whole 𝓤 H A W (Declared.row Decoded.the-type);
+  of-mem = Local.whole-mem 𝓤 H A W (Declared.row Decoded.the-type);
+}

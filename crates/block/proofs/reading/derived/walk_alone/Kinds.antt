@@ -24,20 +24,59 @@ use mir.Syntax
 
 abbrev pub ps : List.List (Kinds.PK 3)
 ps = List._∷_ (ShrSlice.pShrS (Referent.rtF (Referent.fInt Syntax.w8)) 0 tt) (List._∷_ (ShrSlice.pShrS (Referent.rtF (Referent.fInt Syntax.w8)) 1 tt) (List._∷_ (MutSlice.pMutS (Referent.rtF
-    (Referent.fInt Syntax.w16)) 2 tt) (List._∷_ (Value.pVal record
-    { ty = Declared'.row Form.the-type; one = Path'.refl; val = Laws'4.val Form.the-type Laws.the-laws; tells = Laws'4.tells Form.the-type Laws.the-laws; still = Laws'4.still Form.the-type Laws.the-copy
-    Exit.yes; row = Rows.whole (Declared'.row Form.the-type); rd = λ x. x; mk = λ x. x; } λ M 𝓤 H A W. record
-    { copies = Laws'4.copy Form.the-type Laws.the-copy 𝓤 H A W; lawful = Laws'4.lawful Form.the-type Laws.the-laws 𝓤 H A W; makes = Laws'4.makes Form.the-type Laws.the-plain 𝓤 H A; in-mem =
-    Local.mem-whole 𝓤 H A W (Declared'.row Form.the-type); of-mem = Local.whole-mem 𝓤 H A W (Declared'.row Form.the-type); }) (List._∷_ (Array.pArr (Array.eInt Syntax.w8) (Array.eInt-laws Syntax.w8) 36)
-    (List._∷_ (Value.pVal record
-    { ty = Declared'.row Part.the-type; one = Path'.refl; val = Laws'4.val Part.the-type Laws''.the-laws; tells = Laws'4.tells Part.the-type Laws''.the-laws; still = Laws'4.still Part.the-type
-    Laws''.the-copy Exit.yes; row = Rows.whole (Declared'.row Part.the-type); rd = λ x. x; mk = λ x. x; } λ M 𝓤 H A W. record
-    { copies = Laws'4.copy Part.the-type Laws''.the-copy 𝓤 H A W; lawful = Laws'4.lawful Part.the-type Laws''.the-laws 𝓤 H A W; makes = Laws'4.makes Part.the-type Laws''.the-plain 𝓤 H A; in-mem =
-    Local.mem-whole 𝓤 H A W (Declared'.row Part.the-type); of-mem = Local.whole-mem 𝓤 H A W (Declared'.row Part.the-type); }) (List._∷_ (Kinds.pNum Syntax.w64) List.[]))))))
+    (Referent.fInt Syntax.w16)) 2 tt) (List._∷_ (Value.pVal record {
+      ty = Declared'.row Form.the-type;
+      one = Path'.refl;
+      val = Laws'4.val Form.the-type Laws.the-laws;
+      tells = Laws'4.tells Form.the-type Laws.the-laws;
+      still = Laws'4.still Form.the-type Laws.the-copy
+          Exit.yes;
+      row = Rows.whole (Declared'.row Form.the-type);
+      rd = λ x. x;
+      mk = λ x. x;
+    } λ M 𝓤 H A W. record {
+      copies = Laws'4.copy Form.the-type Laws.the-copy 𝓤 H A W;
+      lawful = Laws'4.lawful Form.the-type Laws.the-laws 𝓤 H A W;
+      makes = Laws'4.makes Form.the-type Laws.the-plain 𝓤 H A;
+      in-mem =
+          Local.mem-whole 𝓤 H A W (Declared'.row Form.the-type);
+      of-mem = Local.whole-mem 𝓤 H A W (Declared'.row Form.the-type);
+    }) (List._∷_ (Array.pArr (Array.eInt Syntax.w8) (Array.eInt-laws Syntax.w8) 36)
+    (List._∷_ (Value.pVal record {
+      ty = Declared'.row Part.the-type;
+      one = Path'.refl;
+      val = Laws'4.val Part.the-type Laws''.the-laws;
+      tells = Laws'4.tells Part.the-type Laws''.the-laws;
+      still = Laws'4.still Part.the-type
+          Laws''.the-copy Exit.yes;
+      row = Rows.whole (Declared'.row Part.the-type);
+      rd = λ x. x;
+      mk = λ x. x;
+    } λ M 𝓤 H A W. record {
+      copies = Laws'4.copy Part.the-type Laws''.the-copy 𝓤 H A W;
+      lawful = Laws'4.lawful Part.the-type Laws''.the-laws 𝓤 H A W;
+      makes = Laws'4.makes Part.the-type Laws''.the-plain 𝓤 H A;
+      in-mem =
+          Local.mem-whole 𝓤 H A W (Declared'.row Part.the-type);
+      of-mem = Local.whole-mem 𝓤 H A W (Declared'.row Part.the-type);
+    }) (List._∷_ (Kinds.pNum Syntax.w64) List.[]))))))
 
 abbrev pub r : Kinds.RK 3
-r = Value.rVal record
-    { ty = Declared.row Walked.the-type; one = Path'.refl; val = Laws'3.val Walked.the-type Laws'.the-laws; tells = Laws'3.tells Walked.the-type Laws'.the-laws; still = Laws'3.still Walked.the-type
-    Laws'.the-copy Exit.yes; row = Rows.whole (Declared.row Walked.the-type); rd = λ x. x; mk = λ x. x; } λ M 𝓤 H A W. record
-    { copies = Laws'3.copy Walked.the-type Laws'.the-copy 𝓤 H A W; lawful = Laws'3.lawful Walked.the-type Laws'.the-laws 𝓤 H A W tt; makes = Laws'3.makes Walked.the-type Laws'.the-plain 𝓤 H A; in-mem =
-    Local.mem-whole 𝓤 H A W (Declared.row Walked.the-type); of-mem = Local.whole-mem 𝓤 H A W (Declared.row Walked.the-type); }
+r = Value.rVal record {
+  ty = Declared.row Walked.the-type;
+  one = Path'.refl;
+  val = Laws'3.val Walked.the-type Laws'.the-laws;
+  tells = Laws'3.tells Walked.the-type Laws'.the-laws;
+  still = Laws'3.still Walked.the-type
+      Laws'.the-copy Exit.yes;
+  row = Rows.whole (Declared.row Walked.the-type);
+  rd = λ x. x;
+  mk = λ x. x;
+} λ M 𝓤 H A W. record {
+  copies = Laws'3.copy Walked.the-type Laws'.the-copy 𝓤 H A W;
+  lawful = Laws'3.lawful Walked.the-type Laws'.the-laws 𝓤 H A W tt;
+  makes = Laws'3.makes Walked.the-type Laws'.the-plain 𝓤 H A;
+  in-mem =
+      Local.mem-whole 𝓤 H A W (Declared.row Walked.the-type);
+  of-mem = Local.whole-mem 𝓤 H A W (Declared.row Walked.the-type);
+}

@@ -20,8 +20,20 @@ abbrev pub ps : List.List (Kinds.PK 1)
 ps = List._∷_ (MutSlice.pMutS (Element.type) 0 tt) (List._∷_ (Kinds.pNum Syntax.w64) List.[])
 
 abbrev pub r : Kinds.RK 1
-r = Value.rVal record
-    { ty = Declared.row Set.the-type; one = Path'.refl; val = Laws'.val Set.the-type Laws.the-laws; tells = Laws'.tells Set.the-type Laws.the-laws; still = Laws'.still Set.the-type Laws.the-copy Exit.yes;
-    row = Rows.whole (Declared.row Set.the-type); rd = λ x. x; mk = λ x. x; } λ M 𝓤 H A W. record
-    { copies = Laws'.copy Set.the-type Laws.the-copy 𝓤 H A W; lawful = Laws'.lawful Set.the-type Laws.the-laws 𝓤 H A W; makes = Laws'.makes Set.the-type Laws.the-plain 𝓤 H A; in-mem = Local.mem-whole 𝓤 H
-    A W (Declared.row Set.the-type); of-mem = Local.whole-mem 𝓤 H A W (Declared.row Set.the-type); }
+r = Value.rVal record {
+  ty = Declared.row Set.the-type;
+  one = Path'.refl;
+  val = Laws'.val Set.the-type Laws.the-laws;
+  tells = Laws'.tells Set.the-type Laws.the-laws;
+  still = Laws'.still Set.the-type Laws.the-copy Exit.yes;
+  row = Rows.whole (Declared.row Set.the-type);
+  rd = λ x. x;
+  mk = λ x. x;
+} λ M 𝓤 H A W. record {
+  copies = Laws'.copy Set.the-type Laws.the-copy 𝓤 H A W;
+  lawful = Laws'.lawful Set.the-type Laws.the-laws 𝓤 H A W;
+  makes = Laws'.makes Set.the-type Laws.the-plain 𝓤 H A;
+  in-mem = Local.mem-whole 𝓤 H
+      A W (Declared.row Set.the-type);
+  of-mem = Local.whole-mem 𝓤 H A W (Declared.row Set.the-type);
+}

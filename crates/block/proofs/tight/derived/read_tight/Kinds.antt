@@ -22,8 +22,21 @@ ps = List._∷_ (ShrSlice.pShrS (Referent.rtF (Referent.fInt Syntax.w8)) 0 tt) (
     (MutSlice.pMutS (Element.type) 2 tt) List.[])))
 
 abbrev pub r : Kinds.RK 3
-r = Value.rVal record
-    { ty = Declared.row Counted.the-type; one = Path'.refl; val = Laws'.val Counted.the-type Laws.the-laws; tells = Laws'.tells Counted.the-type Laws.the-laws; still = Laws'.still Counted.the-type
-    Laws.the-copy Exit.yes; row = Rows.whole (Declared.row Counted.the-type); rd = λ x. x; mk = λ x. x; } λ M 𝓤 H A W. record
-    { copies = Laws'.copy Counted.the-type Laws.the-copy 𝓤 H A W; lawful = Laws'.lawful Counted.the-type Laws.the-laws 𝓤 H A W; makes = Laws'.makes Counted.the-type Laws.the-plain 𝓤 H A; in-mem =
-    Local.mem-whole 𝓤 H A W (Declared.row Counted.the-type); of-mem = Local.whole-mem 𝓤 H A W (Declared.row Counted.the-type); }
+r = Value.rVal record {
+  ty = Declared.row Counted.the-type;
+  one = Path'.refl;
+  val = Laws'.val Counted.the-type Laws.the-laws;
+  tells = Laws'.tells Counted.the-type Laws.the-laws;
+  still = Laws'.still Counted.the-type
+      Laws.the-copy Exit.yes;
+  row = Rows.whole (Declared.row Counted.the-type);
+  rd = λ x. x;
+  mk = λ x. x;
+} λ M 𝓤 H A W. record {
+  copies = Laws'.copy Counted.the-type Laws.the-copy 𝓤 H A W;
+  lawful = Laws'.lawful Counted.the-type Laws.the-laws 𝓤 H A W;
+  makes = Laws'.makes Counted.the-type Laws.the-plain 𝓤 H A;
+  in-mem =
+      Local.mem-whole 𝓤 H A W (Declared.row Counted.the-type);
+  of-mem = Local.whole-mem 𝓤 H A W (Declared.row Counted.the-type);
+}

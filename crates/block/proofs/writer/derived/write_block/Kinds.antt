@@ -22,8 +22,20 @@ ps = List._∷_ (ShrSlice.pShrS (Referent.rtF (Referent.fInt Syntax.w8)) 0 tt) (
     (Referent.fInt Syntax.w8)) 2 tt) (List._∷_ (MutSlice.pMutS (Referent.rtF (Referent.fInt Syntax.w16)) 3 tt) (List._∷_ (MutSlice.pMutS (Element.type) 4 tt) List.[]))))
 
 abbrev pub r : Kinds.RK 5
-r = Value.rVal record
-    { ty = Declared.row BlockLength.the-type; one = Path'.refl; val = Laws'.val BlockLength.the-type Laws.the-laws; tells = Laws'.tells BlockLength.the-type Laws.the-laws; still = Laws'.still
-    BlockLength.the-type Laws.the-copy Exit.yes; row = Rows.whole (Declared.row BlockLength.the-type); rd = λ x. x; mk = λ x. x; } λ M 𝓤 H A W. record
-    { copies = Laws'.copy BlockLength.the-type Laws.the-copy 𝓤 H A W; lawful = Laws'.lawful BlockLength.the-type Laws.the-laws 𝓤 H A W tt; makes = Laws'.makes BlockLength.the-type Laws.the-plain 𝓤 H A;
-    in-mem = Local.mem-whole 𝓤 H A W (Declared.row BlockLength.the-type); of-mem = Local.whole-mem 𝓤 H A W (Declared.row BlockLength.the-type); }
+r = Value.rVal record {
+  ty = Declared.row BlockLength.the-type;
+  one = Path'.refl;
+  val = Laws'.val BlockLength.the-type Laws.the-laws;
+  tells = Laws'.tells BlockLength.the-type Laws.the-laws;
+  still = Laws'.still
+      BlockLength.the-type Laws.the-copy Exit.yes;
+  row = Rows.whole (Declared.row BlockLength.the-type);
+  rd = λ x. x;
+  mk = λ x. x;
+} λ M 𝓤 H A W. record {
+  copies = Laws'.copy BlockLength.the-type Laws.the-copy 𝓤 H A W;
+  lawful = Laws'.lawful BlockLength.the-type Laws.the-laws 𝓤 H A W tt;
+  makes = Laws'.makes BlockLength.the-type Laws.the-plain 𝓤 H A;
+  in-mem = Local.mem-whole 𝓤 H A W (Declared.row BlockLength.the-type);
+  of-mem = Local.whole-mem 𝓤 H A W (Declared.row BlockLength.the-type);
+}

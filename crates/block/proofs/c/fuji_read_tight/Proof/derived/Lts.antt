@@ -97,28 +97,67 @@ ps·0 = List._∷_ (ShrSlice.pShrS (Referent.rtF (Referent.fInt Syntax.w8)) 0 tt
     (MutSlice.pMutS (Element.type) 2 tt) List.[])))
 
 abbrev pub r·0 : Kinds.RK 3
-r·0 = Value.rVal record
-    { ty = Declared.row Counted.the-type; one = Path'.refl; val = Laws'.val Counted.the-type Laws.the-laws; tells = Laws'.tells Counted.the-type Laws.the-laws; still = Laws'.still Counted.the-type
-    Laws.the-copy Exit.yes; row = Rows'.whole (Declared.row Counted.the-type); rd = λ x. x; mk = λ x. x; } λ M 𝓤 H A W. record
-    { copies = Laws'.copy Counted.the-type Laws.the-copy 𝓤 H A W; lawful = Laws'.lawful Counted.the-type Laws.the-laws 𝓤 H A W; makes = Laws'.makes Counted.the-type Laws.the-plain 𝓤 H A; in-mem =
-    Local.mem-whole 𝓤 H A W (Declared.row Counted.the-type); of-mem = Local.whole-mem 𝓤 H A W (Declared.row Counted.the-type); }
+r·0 = Value.rVal record {
+  ty = Declared.row Counted.the-type;
+  one = Path'.refl;
+  val = Laws'.val Counted.the-type Laws.the-laws;
+  tells = Laws'.tells Counted.the-type Laws.the-laws;
+  still = Laws'.still Counted.the-type
+      Laws.the-copy Exit.yes;
+  row = Rows'.whole (Declared.row Counted.the-type);
+  rd = λ x. x;
+  mk = λ x. x;
+} λ M 𝓤 H A W. record {
+  copies = Laws'.copy Counted.the-type Laws.the-copy 𝓤 H A W;
+  lawful = Laws'.lawful Counted.the-type Laws.the-laws 𝓤 H A W;
+  makes = Laws'.makes Counted.the-type Laws.the-plain 𝓤 H A;
+  in-mem =
+      Local.mem-whole 𝓤 H A W (Declared.row Counted.the-type);
+  of-mem = Local.whole-mem 𝓤 H A W (Declared.row Counted.the-type);
+}
 
 abbrev pub ps·1 : List.List (Kinds.PK 0)
-ps·1 = List._∷_ (Value.pVal record
-    { ty = Declared.row Counted.the-type; one = Path'.refl; val = Laws'.val Counted.the-type Laws.the-laws; tells = Laws'.tells Counted.the-type Laws.the-laws; still = Laws'.still Counted.the-type
-    Laws.the-copy Exit.yes; row = Rows'.whole (Declared.row Counted.the-type); rd = λ x. x; mk = λ x. x; } λ M 𝓤 H A W. record
-    { copies = Laws'.copy Counted.the-type Laws.the-copy 𝓤 H A W; lawful = Laws'.lawful Counted.the-type Laws.the-laws 𝓤 H A W; makes = Laws'.makes Counted.the-type Laws.the-plain 𝓤 H A; in-mem =
-    Local.mem-whole 𝓤 H A W (Declared.row Counted.the-type); of-mem = Local.whole-mem 𝓤 H A W (Declared.row Counted.the-type); }) List.[]
+ps·1 = List._∷_ (Value.pVal record {
+  ty = Declared.row Counted.the-type;
+  one = Path'.refl;
+  val = Laws'.val Counted.the-type Laws.the-laws;
+  tells = Laws'.tells Counted.the-type Laws.the-laws;
+  still = Laws'.still Counted.the-type
+      Laws.the-copy Exit.yes;
+  row = Rows'.whole (Declared.row Counted.the-type);
+  rd = λ x. x;
+  mk = λ x. x;
+} λ M 𝓤 H A W. record {
+  copies = Laws'.copy Counted.the-type Laws.the-copy 𝓤 H A W;
+  lawful = Laws'.lawful Counted.the-type Laws.the-laws 𝓤 H A W;
+  makes = Laws'.makes Counted.the-type Laws.the-plain 𝓤 H A;
+  in-mem =
+      Local.mem-whole 𝓤 H A W (Declared.row Counted.the-type);
+  of-mem = Local.whole-mem 𝓤 H A W (Declared.row Counted.the-type);
+}) List.[]
 
 abbrev pub r·1 : Kinds.RK 0
 r·1 = Array.rArr (Array.eInt Syntax.w64) (Array.eInt-laws Syntax.w64) 2
 
 abbrev pub ps·2 : List.List (Kinds.PK 0)
-ps·2 = List._∷_ (Value.pVal record
-    { ty = Declared.row Counted.the-type; one = Path'.refl; val = Laws'.val Counted.the-type Laws.the-laws; tells = Laws'.tells Counted.the-type Laws.the-laws; still = Laws'.still Counted.the-type
-    Laws.the-copy Exit.yes; row = Rows'.whole (Declared.row Counted.the-type); rd = λ x. x; mk = λ x. x; } λ M 𝓤 H A W. record
-    { copies = Laws'.copy Counted.the-type Laws.the-copy 𝓤 H A W; lawful = Laws'.lawful Counted.the-type Laws.the-laws 𝓤 H A W; makes = Laws'.makes Counted.the-type Laws.the-plain 𝓤 H A; in-mem =
-    Local.mem-whole 𝓤 H A W (Declared.row Counted.the-type); of-mem = Local.whole-mem 𝓤 H A W (Declared.row Counted.the-type); }) List.[]
+ps·2 = List._∷_ (Value.pVal record {
+  ty = Declared.row Counted.the-type;
+  one = Path'.refl;
+  val = Laws'.val Counted.the-type Laws.the-laws;
+  tells = Laws'.tells Counted.the-type Laws.the-laws;
+  still = Laws'.still Counted.the-type
+      Laws.the-copy Exit.yes;
+  row = Rows'.whole (Declared.row Counted.the-type);
+  rd = λ x. x;
+  mk = λ x. x;
+} λ M 𝓤 H A W. record {
+  copies = Laws'.copy Counted.the-type Laws.the-copy 𝓤 H A W;
+  lawful = Laws'.lawful Counted.the-type Laws.the-laws 𝓤 H A W;
+  makes = Laws'.makes Counted.the-type Laws.the-plain 𝓤 H A;
+  in-mem =
+      Local.mem-whole 𝓤 H A W (Declared.row Counted.the-type);
+  of-mem = Local.whole-mem 𝓤 H A W (Declared.row Counted.the-type);
+}) List.[]
 
 abbrev pub r·2 : Kinds.RK 0
 r·2 = Array.rArr (Array.eInt Syntax.w64) (Array.eInt-laws Syntax.w64) 4
@@ -421,11 +460,16 @@ module _ (claims· : Claims) where
       x) (Scalar.oFld 4 (List._∷_ (Syntax.field 1) List.[]) (Syntax.tyInt Syntax.w64) 8 λ v. Shared.lenV (v .0))
 
   abbrev s8 : Typed.Both T9 T10
-  s8 = Call.callB ps·0 r·0 (claims· .0) (claims· .1) T9
-      (record { pos = 1; ty = Syntax.tyRef (Syntax.named 0) Syntax.imm (Syntax.tyInt Syntax.w8); ref = λ x. x; },
-      (Num.vAt 2 λ x. x,
-      (record { pos = 11; ty = Syntax.tyRef Syntax.erased Syntax.mut (Syntax.tyInt Syntax.w16); ref = λ x. x; },
-      (record { pos = 13; ty = Syntax.tyRef Syntax.erased Syntax.mut Element.behind; ref = λ x. x; }, tt)))) 7 (List._∷_ 0 (List._∷_ 5 (List._∷_ 6 List.[]))) y3
+  s8 = Call.callB ps·0 r·0 (claims· .0) (claims· .1) T9 (
+    record { pos = 1; ty = Syntax.tyRef (Syntax.named 0) Syntax.imm (Syntax.tyInt Syntax.w8); ref = λ x. x },
+    (
+      Num.vAt 2 λ x. x,
+      (
+        record { pos = 11; ty = Syntax.tyRef Syntax.erased Syntax.mut (Syntax.tyInt Syntax.w16); ref = λ x. x },
+        (record { pos = 13; ty = Syntax.tyRef Syntax.erased Syntax.mut Element.behind; ref = λ x. x }, tt),
+      ),
+    ),
+  ) 7 (List._∷_ 0 (List._∷_ 5 (List._∷_ 6 List.[]))) y3
 
   abbrev s10 : Typed.Both T10 T12
   s10 = Relend.k-back-sl (Referent.rtF (Referent.fInt Syntax.w16)) T10 11 3 1 5 (Syntax.tyRef (Syntax.named 1) Syntax.mut (Syntax.tyInt Syntax.w16)) (Syntax.tyRef Syntax.erased Syntax.mut
@@ -595,139 +639,193 @@ module _ (claims· : Claims) where
             e22 (List._∷_ e24 (List._∷_ e4 (List._∷_ e7 (List._∷_ e9 (List._∷_ e10 List.[])))))))))))))
 
         abbrev G0 : Row.Cx
-        G0 = record
-            { locals = t0; slots = List._∷_ (Row.lease (κs .0) (qs .0)) (List._∷_ (Row.lease (κs .1 .0) (qs .1 .0)) (List._∷_ (Row.lease (κs .1 .1 .0) (qs .1 .1 .0)) (List._∷_ (Row.lease (κs .1 .1 .1 .0)
-            (qs .1 .1 .1 .0)) (List._∷_ (Row.lease (κs .1 .1 .1 .1 .0) (qs .1 .1 .1 .1 .0)) (List._∷_ Row.off (List._∷_ Row.off List.[])))))); }
+        G0 = record {
+          locals = t0;
+          slots = List._∷_ (Row.lease (κs .0) (qs .0)) (List._∷_ (Row.lease (κs .1 .0) (qs .1 .0)) (List._∷_ (Row.lease (κs .1 .1 .0) (qs .1 .1 .0)) (List._∷_ (Row.lease (κs .1 .1 .1 .0)
+              (qs .1 .1 .1 .0)) (List._∷_ (Row.lease (κs .1 .1 .1 .1 .0) (qs .1 .1 .1 .1 .0)) (List._∷_ Row.off (List._∷_ Row.off List.[]))))));
+        }
 
         abbrev G1 : Row.Cx
-        G1 = record
-            { locals = t1; slots = List._∷_ (Row.lease (κs .0) (qs .0)) (List._∷_ (Row.lease (κs .1 .0) (qs .1 .0)) (List._∷_ (Row.lease (κs .1 .1 .0) (qs .1 .1 .0)) (List._∷_ (Row.lease (κs .1 .1 .1 .0)
-            (qs .1 .1 .1 .0)) (List._∷_ (Row.lease (κs .1 .1 .1 .1 .0) (qs .1 .1 .1 .1 .0)) (List._∷_ Row.off (List._∷_ Row.off List.[])))))); }
+        G1 = record {
+          locals = t1;
+          slots = List._∷_ (Row.lease (κs .0) (qs .0)) (List._∷_ (Row.lease (κs .1 .0) (qs .1 .0)) (List._∷_ (Row.lease (κs .1 .1 .0) (qs .1 .1 .0)) (List._∷_ (Row.lease (κs .1 .1 .1 .0)
+              (qs .1 .1 .1 .0)) (List._∷_ (Row.lease (κs .1 .1 .1 .1 .0) (qs .1 .1 .1 .1 .0)) (List._∷_ Row.off (List._∷_ Row.off List.[]))))));
+        }
 
         abbrev G2 : Row.Cx
-        G2 = record
-            { locals = t0; slots = List._∷_ (Row.lease (κs .0) (qs .0)) (List._∷_ (Row.lease (κs .1 .0) (qs .1 .0)) (List._∷_ (Row.lease (κs .1 .1 .0) (qs .1 .1 .0)) (List._∷_ (Row.lease (κs .1 .1 .1 .0)
-            (qs .1 .1 .1 .0)) (List._∷_ (Row.lease (κs .1 .1 .1 .1 .0) (qs .1 .1 .1 .1 .0)) (List._∷_ Row.off (List._∷_ Row.off List.[])))))); }
+        G2 = record {
+          locals = t0;
+          slots = List._∷_ (Row.lease (κs .0) (qs .0)) (List._∷_ (Row.lease (κs .1 .0) (qs .1 .0)) (List._∷_ (Row.lease (κs .1 .1 .0) (qs .1 .1 .0)) (List._∷_ (Row.lease (κs .1 .1 .1 .0)
+              (qs .1 .1 .1 .0)) (List._∷_ (Row.lease (κs .1 .1 .1 .1 .0) (qs .1 .1 .1 .1 .0)) (List._∷_ Row.off (List._∷_ Row.off List.[]))))));
+        }
 
         abbrev G3 : Row.Cx
-        G3 = record
-            { locals = t0; slots = List._∷_ (Row.lease (κs .0) (qs .0)) (List._∷_ (Row.lease (κs .1 .0) (qs .1 .0)) (List._∷_ (Row.lease (κs .1 .1 .0) (qs .1 .1 .0)) (List._∷_ (Row.lease (κs .1 .1 .1 .0)
-            (qs .1 .1 .1 .0)) (List._∷_ (Row.lease (κs .1 .1 .1 .1 .0) (qs .1 .1 .1 .1 .0)) (List._∷_ Row.off (List._∷_ Row.off List.[])))))); }
+        G3 = record {
+          locals = t0;
+          slots = List._∷_ (Row.lease (κs .0) (qs .0)) (List._∷_ (Row.lease (κs .1 .0) (qs .1 .0)) (List._∷_ (Row.lease (κs .1 .1 .0) (qs .1 .1 .0)) (List._∷_ (Row.lease (κs .1 .1 .1 .0)
+              (qs .1 .1 .1 .0)) (List._∷_ (Row.lease (κs .1 .1 .1 .1 .0) (qs .1 .1 .1 .1 .0)) (List._∷_ Row.off (List._∷_ Row.off List.[]))))));
+        }
 
         abbrev G4 : Row.Cx
-        G4 = record
-            { locals = t0; slots = List._∷_ (Row.lease (κs .0) (qs .0)) (List._∷_ (Row.lease (κs .1 .0) (qs .1 .0)) (List._∷_ (Row.lease (κs .1 .1 .0) (qs .1 .1 .0)) (List._∷_ (Row.lease (κs .1 .1 .1 .0)
-            (qs .1 .1 .1 .0)) (List._∷_ (Row.lease (κs .1 .1 .1 .1 .0) (qs .1 .1 .1 .1 .0)) (List._∷_ Row.alive (List._∷_ Row.off List.[])))))); }
+        G4 = record {
+          locals = t0;
+          slots = List._∷_ (Row.lease (κs .0) (qs .0)) (List._∷_ (Row.lease (κs .1 .0) (qs .1 .0)) (List._∷_ (Row.lease (κs .1 .1 .0) (qs .1 .1 .0)) (List._∷_ (Row.lease (κs .1 .1 .1 .0)
+              (qs .1 .1 .1 .0)) (List._∷_ (Row.lease (κs .1 .1 .1 .1 .0) (qs .1 .1 .1 .1 .0)) (List._∷_ Row.alive (List._∷_ Row.off List.[]))))));
+        }
 
         abbrev G5 : Row.Cx
-        G5 = record
-            { locals = g2; slots = List._∷_ (Row.lease (κs .0) (qs .0)) (List._∷_ Row.off (List._∷_ (Row.lease (κs .1 .1 .0) (qs .1 .1 .0)) (List._∷_ (Row.lease (κs .1 .1 .1 .0) (qs .1 .1 .1 .0))
-            (List._∷_ (Row.lease (κs .1 .1 .1 .1 .0) (qs .1 .1 .1 .1 .0)) (List._∷_ Row.alive (List._∷_ Row.off List.[])))))); }
+        G5 = record {
+          locals = g2;
+          slots = List._∷_ (Row.lease (κs .0) (qs .0)) (List._∷_ Row.off (List._∷_ (Row.lease (κs .1 .1 .0) (qs .1 .1 .0)) (List._∷_ (Row.lease (κs .1 .1 .1 .0) (qs .1 .1 .1 .0))
+              (List._∷_ (Row.lease (κs .1 .1 .1 .1 .0) (qs .1 .1 .1 .1 .0)) (List._∷_ Row.alive (List._∷_ Row.off List.[]))))));
+        }
 
         abbrev G6 : Row.Cx
-        G6 = record
-            { locals = g3; slots = List._∷_ (Row.lease (κs .0) (qs .0)) (List._∷_ Row.off (List._∷_ (Row.lease (κs .1 .1 .0) (qs .1 .1 .0)) (List._∷_ (Row.lease (κs .1 .1 .1 .0) (qs .1 .1 .1 .0))
-            (List._∷_ (Row.lease (κs .1 .1 .1 .1 .0) (qs .1 .1 .1 .1 .0)) (List._∷_ Row.alive (List._∷_ Row.off List.[])))))); }
+        G6 = record {
+          locals = g3;
+          slots = List._∷_ (Row.lease (κs .0) (qs .0)) (List._∷_ Row.off (List._∷_ (Row.lease (κs .1 .1 .0) (qs .1 .1 .0)) (List._∷_ (Row.lease (κs .1 .1 .1 .0) (qs .1 .1 .1 .0))
+              (List._∷_ (Row.lease (κs .1 .1 .1 .1 .0) (qs .1 .1 .1 .1 .0)) (List._∷_ Row.alive (List._∷_ Row.off List.[]))))));
+        }
 
         abbrev G7 : Row.Cx
-        G7 = record
-            { locals = g3; slots = List._∷_ (Row.lease (κs .0) (qs .0)) (List._∷_ Row.off (List._∷_ (Row.lease (κs .1 .1 .0) (qs .1 .1 .0)) (List._∷_ (Row.lease (κs .1 .1 .1 .0) (qs .1 .1 .1 .0))
-            (List._∷_ (Row.lease (κs .1 .1 .1 .1 .0) (qs .1 .1 .1 .1 .0)) (List._∷_ Row.alive (List._∷_ Row.alive List.[])))))); }
+        G7 = record {
+          locals = g3;
+          slots = List._∷_ (Row.lease (κs .0) (qs .0)) (List._∷_ Row.off (List._∷_ (Row.lease (κs .1 .1 .0) (qs .1 .1 .0)) (List._∷_ (Row.lease (κs .1 .1 .1 .0) (qs .1 .1 .1 .0))
+              (List._∷_ (Row.lease (κs .1 .1 .1 .1 .0) (qs .1 .1 .1 .1 .0)) (List._∷_ Row.alive (List._∷_ Row.alive List.[]))))));
+        }
 
         abbrev G8 : Row.Cx
-        G8 = record
-            { locals = g4; slots = List._∷_ (Row.lease (κs .0) (qs .0)) (List._∷_ Row.off (List._∷_ Row.off (List._∷_ (Row.lease (κs .1 .1 .1 .0) (qs .1 .1 .1 .0)) (List._∷_ (Row.lease (κs .1 .1 .1 .1 .0)
-            (qs .1 .1 .1 .1 .0)) (List._∷_ Row.alive (List._∷_ Row.alive List.[])))))); }
+        G8 = record {
+          locals = g4;
+          slots = List._∷_ (Row.lease (κs .0) (qs .0)) (List._∷_ Row.off (List._∷_ Row.off (List._∷_ (Row.lease (κs .1 .1 .1 .0) (qs .1 .1 .1 .0)) (List._∷_ (Row.lease (κs .1 .1 .1 .1 .0)
+              (qs .1 .1 .1 .1 .0)) (List._∷_ Row.alive (List._∷_ Row.alive List.[]))))));
+        }
 
         abbrev G9 : Row.Cx
-        G9 = record
-            { locals = g5; slots = List._∷_ (Row.lease (κs .0) (qs .0)) (List._∷_ Row.off (List._∷_ Row.off (List._∷_ (Row.lease (κs .1 .1 .1 .0) (qs .1 .1 .1 .0)) (List._∷_ (Row.lease (κs .1 .1 .1 .1 .0)
-            (qs .1 .1 .1 .1 .0)) (List._∷_ Row.alive (List._∷_ Row.alive List.[])))))); }
+        G9 = record {
+          locals = g5;
+          slots = List._∷_ (Row.lease (κs .0) (qs .0)) (List._∷_ Row.off (List._∷_ Row.off (List._∷_ (Row.lease (κs .1 .1 .1 .0) (qs .1 .1 .1 .0)) (List._∷_ (Row.lease (κs .1 .1 .1 .1 .0)
+              (qs .1 .1 .1 .1 .0)) (List._∷_ Row.alive (List._∷_ Row.alive List.[]))))));
+        }
 
         abbrev G10 : Row.Cx
-        G10 = record
-            { locals = g6; slots = List._∷_ (Row.lease (κs .0) (qs .0)) (List._∷_ Row.off (List._∷_ Row.off (List._∷_ (Row.lease (κs .1 .1 .1 .0) (qs .1 .1 .1 .0)) (List._∷_ (Row.lease (κs .1 .1 .1 .1 .0)
-            (qs .1 .1 .1 .1 .0)) (List._∷_ Row.alive (List._∷_ Row.alive List.[])))))); }
+        G10 = record {
+          locals = g6;
+          slots = List._∷_ (Row.lease (κs .0) (qs .0)) (List._∷_ Row.off (List._∷_ Row.off (List._∷_ (Row.lease (κs .1 .1 .1 .0) (qs .1 .1 .1 .0)) (List._∷_ (Row.lease (κs .1 .1 .1 .1 .0)
+              (qs .1 .1 .1 .1 .0)) (List._∷_ Row.alive (List._∷_ Row.alive List.[]))))));
+        }
 
         abbrev G11 : Row.Cx
-        G11 = record
-            { locals = g6; slots = List._∷_ (Row.lease (κs .0) (qs .0)) (List._∷_ Row.off (List._∷_ Row.off (List._∷_ (Row.lease (κs .1 .1 .1 .0) (qs .1 .1 .1 .0)) (List._∷_ (Row.lease (κs .1 .1 .1 .1 .0)
-            (qs .1 .1 .1 .1 .0)) (List._∷_ Row.dead (List._∷_ Row.alive List.[])))))); }
+        G11 = record {
+          locals = g6;
+          slots = List._∷_ (Row.lease (κs .0) (qs .0)) (List._∷_ Row.off (List._∷_ Row.off (List._∷_ (Row.lease (κs .1 .1 .1 .0) (qs .1 .1 .1 .0)) (List._∷_ (Row.lease (κs .1 .1 .1 .1 .0)
+              (qs .1 .1 .1 .1 .0)) (List._∷_ Row.dead (List._∷_ Row.alive List.[]))))));
+        }
 
         abbrev G12 : Row.Cx
-        G12 = record
-            { locals = g7; slots = List._∷_ (Row.lease (κs .0) (qs .0)) (List._∷_ (Row.lease (κs .1 .0) (qs .1 .0)) (List._∷_ Row.off (List._∷_ (Row.lease (κs .1 .1 .1 .0) (qs .1 .1 .1 .0)) (List._∷_
-            (Row.lease (κs .1 .1 .1 .1 .0) (qs .1 .1 .1 .1 .0)) (List._∷_ Row.dead (List._∷_ Row.alive List.[])))))); }
+        G12 = record {
+          locals = g7;
+          slots = List._∷_ (Row.lease (κs .0) (qs .0)) (List._∷_ (Row.lease (κs .1 .0) (qs .1 .0)) (List._∷_ Row.off (List._∷_ (Row.lease (κs .1 .1 .1 .0) (qs .1 .1 .1 .0)) (List._∷_
+              (Row.lease (κs .1 .1 .1 .1 .0) (qs .1 .1 .1 .1 .0)) (List._∷_ Row.dead (List._∷_ Row.alive List.[]))))));
+        }
 
         abbrev G13 : Row.Cx
-        G13 = record
-            { locals = g7; slots = List._∷_ (Row.lease (κs .0) (qs .0)) (List._∷_ (Row.lease (κs .1 .0) (qs .1 .0)) (List._∷_ Row.off (List._∷_ (Row.lease (κs .1 .1 .1 .0) (qs .1 .1 .1 .0)) (List._∷_
-            (Row.lease (κs .1 .1 .1 .1 .0) (qs .1 .1 .1 .1 .0)) (List._∷_ Row.dead (List._∷_ Row.alive List.[])))))); }
+        G13 = record {
+          locals = g7;
+          slots = List._∷_ (Row.lease (κs .0) (qs .0)) (List._∷_ (Row.lease (κs .1 .0) (qs .1 .0)) (List._∷_ Row.off (List._∷_ (Row.lease (κs .1 .1 .1 .0) (qs .1 .1 .1 .0)) (List._∷_
+              (Row.lease (κs .1 .1 .1 .1 .0) (qs .1 .1 .1 .1 .0)) (List._∷_ Row.dead (List._∷_ Row.alive List.[]))))));
+        }
 
         abbrev G14 : Row.Cx
-        G14 = record
-            { locals = g7; slots = List._∷_ (Row.lease (κs .0) (qs .0)) (List._∷_ (Row.lease (κs .1 .0) (qs .1 .0)) (List._∷_ Row.off (List._∷_ (Row.lease (κs .1 .1 .1 .0) (qs .1 .1 .1 .0)) (List._∷_
-            (Row.lease (κs .1 .1 .1 .1 .0) (qs .1 .1 .1 .1 .0)) (List._∷_ Row.off (List._∷_ Row.alive List.[])))))); }
+        G14 = record {
+          locals = g7;
+          slots = List._∷_ (Row.lease (κs .0) (qs .0)) (List._∷_ (Row.lease (κs .1 .0) (qs .1 .0)) (List._∷_ Row.off (List._∷_ (Row.lease (κs .1 .1 .1 .0) (qs .1 .1 .1 .0)) (List._∷_
+              (Row.lease (κs .1 .1 .1 .1 .0) (qs .1 .1 .1 .1 .0)) (List._∷_ Row.off (List._∷_ Row.alive List.[]))))));
+        }
 
         abbrev G15 : Row.Cx
-        G15 = record
-            { locals = g7; slots = List._∷_ (Row.lease (κs .0) (qs .0)) (List._∷_ (Row.lease (κs .1 .0) (qs .1 .0)) (List._∷_ Row.off (List._∷_ (Row.lease (κs .1 .1 .1 .0) (qs .1 .1 .1 .0)) (List._∷_
-            (Row.lease (κs .1 .1 .1 .1 .0) (qs .1 .1 .1 .1 .0)) (List._∷_ Row.off (List._∷_ Row.dead List.[])))))); }
+        G15 = record {
+          locals = g7;
+          slots = List._∷_ (Row.lease (κs .0) (qs .0)) (List._∷_ (Row.lease (κs .1 .0) (qs .1 .0)) (List._∷_ Row.off (List._∷_ (Row.lease (κs .1 .1 .1 .0) (qs .1 .1 .1 .0)) (List._∷_
+              (Row.lease (κs .1 .1 .1 .1 .0) (qs .1 .1 .1 .1 .0)) (List._∷_ Row.off (List._∷_ Row.dead List.[]))))));
+        }
 
         abbrev G16 : Row.Cx
-        G16 = record
-            { locals = t8; slots = List._∷_ (Row.lease (κs .0) (qs .0)) (List._∷_ (Row.lease (κs .1 .0) (qs .1 .0)) (List._∷_ (Row.lease (κs .1 .1 .0) (qs .1 .1 .0)) (List._∷_ (Row.lease (κs .1 .1 .1 .0)
-            (qs .1 .1 .1 .0)) (List._∷_ (Row.lease (κs .1 .1 .1 .1 .0) (qs .1 .1 .1 .1 .0)) (List._∷_ Row.off (List._∷_ Row.dead List.[])))))); }
+        G16 = record {
+          locals = t8;
+          slots = List._∷_ (Row.lease (κs .0) (qs .0)) (List._∷_ (Row.lease (κs .1 .0) (qs .1 .0)) (List._∷_ (Row.lease (κs .1 .1 .0) (qs .1 .1 .0)) (List._∷_ (Row.lease (κs .1 .1 .1 .0)
+              (qs .1 .1 .1 .0)) (List._∷_ (Row.lease (κs .1 .1 .1 .1 .0) (qs .1 .1 .1 .1 .0)) (List._∷_ Row.off (List._∷_ Row.dead List.[]))))));
+        }
 
         abbrev G17 : Row.Cx
-        G17 = record
-            { locals = t8; slots = List._∷_ (Row.lease (κs .0) (qs .0)) (List._∷_ (Row.lease (κs .1 .0) (qs .1 .0)) (List._∷_ (Row.lease (κs .1 .1 .0) (qs .1 .1 .0)) (List._∷_ (Row.lease (κs .1 .1 .1 .0)
-            (qs .1 .1 .1 .0)) (List._∷_ (Row.lease (κs .1 .1 .1 .1 .0) (qs .1 .1 .1 .1 .0)) (List._∷_ Row.off (List._∷_ Row.off List.[])))))); }
+        G17 = record {
+          locals = t8;
+          slots = List._∷_ (Row.lease (κs .0) (qs .0)) (List._∷_ (Row.lease (κs .1 .0) (qs .1 .0)) (List._∷_ (Row.lease (κs .1 .1 .0) (qs .1 .1 .0)) (List._∷_ (Row.lease (κs .1 .1 .1 .0)
+              (qs .1 .1 .1 .0)) (List._∷_ (Row.lease (κs .1 .1 .1 .1 .0) (qs .1 .1 .1 .1 .0)) (List._∷_ Row.off (List._∷_ Row.off List.[]))))));
+        }
 
         abbrev G18 : Row.Cx
-        G18 = record
-            { locals = t9; slots = List._∷_ (Row.lease (κs .0) (qs .0)) (List._∷_ (Row.lease (κs .1 .0) (qs .1 .0)) (List._∷_ (Row.lease (κs .1 .1 .0) (qs .1 .1 .0)) (List._∷_ (Row.lease (κs .1 .1 .1 .0)
-            (qs .1 .1 .1 .0)) (List._∷_ (Row.lease (κs .1 .1 .1 .1 .0) (qs .1 .1 .1 .1 .0)) (List._∷_ Row.off (List._∷_ Row.off List.[])))))); }
+        G18 = record {
+          locals = t9;
+          slots = List._∷_ (Row.lease (κs .0) (qs .0)) (List._∷_ (Row.lease (κs .1 .0) (qs .1 .0)) (List._∷_ (Row.lease (κs .1 .1 .0) (qs .1 .1 .0)) (List._∷_ (Row.lease (κs .1 .1 .1 .0)
+              (qs .1 .1 .1 .0)) (List._∷_ (Row.lease (κs .1 .1 .1 .1 .0) (qs .1 .1 .1 .1 .0)) (List._∷_ Row.off (List._∷_ Row.off List.[]))))));
+        }
 
         abbrev G19 : Row.Cx
-        G19 = record
-            { locals = t10; slots = List._∷_ (Row.lease (κs .0) (qs .0)) (List._∷_ (Row.lease (κs .1 .0) (qs .1 .0)) (List._∷_ (Row.lease (κs .1 .1 .0) (qs .1 .1 .0)) (List._∷_ (Row.lease (κs .1 .1 .1 .0)
-            (qs .1 .1 .1 .0)) (List._∷_ (Row.lease (κs .1 .1 .1 .1 .0) (qs .1 .1 .1 .1 .0)) (List._∷_ Row.off (List._∷_ Row.off List.[])))))); }
+        G19 = record {
+          locals = t10;
+          slots = List._∷_ (Row.lease (κs .0) (qs .0)) (List._∷_ (Row.lease (κs .1 .0) (qs .1 .0)) (List._∷_ (Row.lease (κs .1 .1 .0) (qs .1 .1 .0)) (List._∷_ (Row.lease (κs .1 .1 .1 .0)
+              (qs .1 .1 .1 .0)) (List._∷_ (Row.lease (κs .1 .1 .1 .1 .0) (qs .1 .1 .1 .1 .0)) (List._∷_ Row.off (List._∷_ Row.off List.[]))))));
+        }
 
         abbrev G20 : Row.Cx
-        G20 = record
-            { locals = t11; slots = List._∷_ (Row.lease (κs .0) (qs .0)) (List._∷_ (Row.lease (κs .1 .0) (qs .1 .0)) (List._∷_ (Row.lease (κs .1 .1 .0) (qs .1 .1 .0)) (List._∷_ (Row.lease (κs .1 .1 .1 .0)
-            (qs .1 .1 .1 .0)) (List._∷_ (Row.lease (κs .1 .1 .1 .1 .0) (qs .1 .1 .1 .1 .0)) (List._∷_ Row.off (List._∷_ Row.off List.[])))))); }
+        G20 = record {
+          locals = t11;
+          slots = List._∷_ (Row.lease (κs .0) (qs .0)) (List._∷_ (Row.lease (κs .1 .0) (qs .1 .0)) (List._∷_ (Row.lease (κs .1 .1 .0) (qs .1 .1 .0)) (List._∷_ (Row.lease (κs .1 .1 .1 .0)
+              (qs .1 .1 .1 .0)) (List._∷_ (Row.lease (κs .1 .1 .1 .1 .0) (qs .1 .1 .1 .1 .0)) (List._∷_ Row.off (List._∷_ Row.off List.[]))))));
+        }
 
         abbrev G21 : Row.Cx
-        G21 = record
-            { locals = t11; slots = List._∷_ (Row.lease (κs .0) (qs .0)) (List._∷_ (Row.lease (κs .1 .0) (qs .1 .0)) (List._∷_ (Row.lease (κs .1 .1 .0) (qs .1 .1 .0)) (List._∷_ (Row.lease (κs .1 .1 .1 .0)
-            (qs .1 .1 .1 .0)) (List._∷_ (Row.lease (κs .1 .1 .1 .1 .0) (qs .1 .1 .1 .1 .0)) (List._∷_ Row.off (List._∷_ Row.off List.[])))))); }
+        G21 = record {
+          locals = t11;
+          slots = List._∷_ (Row.lease (κs .0) (qs .0)) (List._∷_ (Row.lease (κs .1 .0) (qs .1 .0)) (List._∷_ (Row.lease (κs .1 .1 .0) (qs .1 .1 .0)) (List._∷_ (Row.lease (κs .1 .1 .1 .0)
+              (qs .1 .1 .1 .0)) (List._∷_ (Row.lease (κs .1 .1 .1 .1 .0) (qs .1 .1 .1 .1 .0)) (List._∷_ Row.off (List._∷_ Row.off List.[]))))));
+        }
 
         abbrev G22 : Row.Cx
-        G22 = record
-            { locals = t12; slots = List._∷_ (Row.lease (κs .0) (qs .0)) (List._∷_ (Row.lease (κs .1 .0) (qs .1 .0)) (List._∷_ (Row.lease (κs .1 .1 .0) (qs .1 .1 .0)) (List._∷_ (Row.lease (κs .1 .1 .1 .0)
-            (qs .1 .1 .1 .0)) (List._∷_ (Row.lease (κs .1 .1 .1 .1 .0) (qs .1 .1 .1 .1 .0)) (List._∷_ Row.off (List._∷_ Row.off List.[])))))); }
+        G22 = record {
+          locals = t12;
+          slots = List._∷_ (Row.lease (κs .0) (qs .0)) (List._∷_ (Row.lease (κs .1 .0) (qs .1 .0)) (List._∷_ (Row.lease (κs .1 .1 .0) (qs .1 .1 .0)) (List._∷_ (Row.lease (κs .1 .1 .1 .0)
+              (qs .1 .1 .1 .0)) (List._∷_ (Row.lease (κs .1 .1 .1 .1 .0) (qs .1 .1 .1 .1 .0)) (List._∷_ Row.off (List._∷_ Row.off List.[]))))));
+        }
 
         abbrev G23 : Row.Cx
-        G23 = record
-            { locals = t12; slots = List._∷_ (Row.lease (κs .0) (qs .0)) (List._∷_ (Row.lease (κs .1 .0) (qs .1 .0)) (List._∷_ (Row.lease (κs .1 .1 .0) (qs .1 .1 .0)) (List._∷_ (Row.lease (κs .1 .1 .1 .0)
-            (qs .1 .1 .1 .0)) (List._∷_ (Row.lease (κs .1 .1 .1 .1 .0) (qs .1 .1 .1 .1 .0)) (List._∷_ Row.off (List._∷_ Row.off List.[])))))); }
+        G23 = record {
+          locals = t12;
+          slots = List._∷_ (Row.lease (κs .0) (qs .0)) (List._∷_ (Row.lease (κs .1 .0) (qs .1 .0)) (List._∷_ (Row.lease (κs .1 .1 .0) (qs .1 .1 .0)) (List._∷_ (Row.lease (κs .1 .1 .1 .0)
+              (qs .1 .1 .1 .0)) (List._∷_ (Row.lease (κs .1 .1 .1 .1 .0) (qs .1 .1 .1 .1 .0)) (List._∷_ Row.off (List._∷_ Row.off List.[]))))));
+        }
 
         abbrev G24 : Row.Cx
-        G24 = record
-            { locals = t0; slots = List._∷_ (Row.lease (κs .0) (qs .0)) (List._∷_ (Row.lease (κs .1 .0) (qs .1 .0)) (List._∷_ (Row.lease (κs .1 .1 .0) (qs .1 .1 .0)) (List._∷_ (Row.lease (κs .1 .1 .1 .0)
-            (qs .1 .1 .1 .0)) (List._∷_ (Row.lease (κs .1 .1 .1 .1 .0) (qs .1 .1 .1 .1 .0)) (List._∷_ Row.off (List._∷_ Row.off List.[])))))); }
+        G24 = record {
+          locals = t0;
+          slots = List._∷_ (Row.lease (κs .0) (qs .0)) (List._∷_ (Row.lease (κs .1 .0) (qs .1 .0)) (List._∷_ (Row.lease (κs .1 .1 .0) (qs .1 .1 .0)) (List._∷_ (Row.lease (κs .1 .1 .1 .0)
+              (qs .1 .1 .1 .0)) (List._∷_ (Row.lease (κs .1 .1 .1 .1 .0) (qs .1 .1 .1 .1 .0)) (List._∷_ Row.off (List._∷_ Row.off List.[]))))));
+        }
 
         abbrev G25 : Row.Cx
-        G25 = record
-            { locals = t13; slots = List._∷_ (Row.lease (κs .0) (qs .0)) (List._∷_ (Row.lease (κs .1 .0) (qs .1 .0)) (List._∷_ (Row.lease (κs .1 .1 .0) (qs .1 .1 .0)) (List._∷_ (Row.lease (κs .1 .1 .1 .0)
-            (qs .1 .1 .1 .0)) (List._∷_ (Row.lease (κs .1 .1 .1 .1 .0) (qs .1 .1 .1 .1 .0)) (List._∷_ Row.off (List._∷_ Row.off List.[])))))); }
+        G25 = record {
+          locals = t13;
+          slots = List._∷_ (Row.lease (κs .0) (qs .0)) (List._∷_ (Row.lease (κs .1 .0) (qs .1 .0)) (List._∷_ (Row.lease (κs .1 .1 .0) (qs .1 .1 .0)) (List._∷_ (Row.lease (κs .1 .1 .1 .0)
+              (qs .1 .1 .1 .0)) (List._∷_ (Row.lease (κs .1 .1 .1 .1 .0) (qs .1 .1 .1 .1 .0)) (List._∷_ Row.off (List._∷_ Row.off List.[]))))));
+        }
 
         abbrev G26 : Row.Cx
-        G26 = record
-            { locals = t1; slots = List._∷_ (Row.lease (κs .0) (qs .0)) (List._∷_ (Row.lease (κs .1 .0) (qs .1 .0)) (List._∷_ (Row.lease (κs .1 .1 .0) (qs .1 .1 .0)) (List._∷_ (Row.lease (κs .1 .1 .1 .0)
-            (qs .1 .1 .1 .0)) (List._∷_ (Row.lease (κs .1 .1 .1 .1 .0) (qs .1 .1 .1 .1 .0)) (List._∷_ Row.off (List._∷_ Row.off List.[])))))); }
+        G26 = record {
+          locals = t1;
+          slots = List._∷_ (Row.lease (κs .0) (qs .0)) (List._∷_ (Row.lease (κs .1 .0) (qs .1 .0)) (List._∷_ (Row.lease (κs .1 .1 .0) (qs .1 .1 .0)) (List._∷_ (Row.lease (κs .1 .1 .1 .0)
+              (qs .1 .1 .1 .0)) (List._∷_ (Row.lease (κs .1 .1 .1 .1 .0) (qs .1 .1 .1 .1 .0)) (List._∷_ Row.off (List._∷_ Row.off List.[]))))));
+        }
 
         abbrev Δ0 : Typed.Outs
         Δ0 = record { next = Option.none; exits = List.[]; returns = Option.some G1 }
@@ -778,17 +876,25 @@ module _ (claims· : Claims) where
 
           d8 : Typed.Typed 𝓤 H A 𝓣 E G18 b14 Δ0 at8
           d8 = Typed.s-seq 𝓤 H A W 𝓣 E G18 G19 b6 b13 Δ0 (Typed.both s17) at7 (Plain.t-call-plain 𝓤 H A W 𝓣 0 ps·2 r·2 (claims· .4) (claims· .5) "block::c::counted_refusal" (known .2) E (λ pos β. β)
-              G18 (record { pos = 7; st = List.[]; d = 0; at = λ x. x }, tt) 9 List.[] (Call.sub-id 𝓤 H A W (G18 .slots))
-              ((Yields.yields-copy 𝓤 H A W (λ ρ. Unit) (Declared.row Counted.the-type) Path'.refl (Copies.cStruct Counted.the-type Laws.the-laws Laws.the-copy .copy 𝓤 H A W) (Rows'.whole (Declared.row
-              Counted.the-type)) (λ x. x) (λ x. x) (λ ρ told. Local.mem-whole 𝓤 H A W (Declared.row Counted.the-type) ρ) λ ρ told. Local.whole-mem 𝓤 H A W (Declared.row Counted.the-type) ρ, Path'.refl),
-              tt) (Reads.room-gone 𝓤 H A (Syntax.tyArray (Syntax.tyInt Syntax.w64) 4)) tt Path'.refl) d7
+              G18 (record { pos = 7; st = List.[]; d = 0; at = λ x. x }, tt) 9 List.[] (Call.sub-id 𝓤 H A W (G18 .slots)) (
+                (
+                  Yields.yields-copy 𝓤 H A W (λ ρ. Unit) (Declared.row Counted.the-type) Path'.refl (Copies.cStruct Counted.the-type Laws.the-laws Laws.the-copy .copy 𝓤 H A W) (Rows'.whole (Declared.row
+                      Counted.the-type)) (λ x. x) (λ x. x) (λ ρ told. Local.mem-whole 𝓤 H A W (Declared.row Counted.the-type) ρ) λ ρ told. Local.whole-mem 𝓤 H A W (Declared.row Counted.the-type) ρ,
+                  Path'.refl,
+                ),
+                tt,
+              ) (Reads.room-gone 𝓤 H A (Syntax.tyArray (Syntax.tyInt Syntax.w64) 4)) tt Path'.refl) d7
 
           d9 : Typed.Typed 𝓤 H A 𝓣 E G17 b15 Δ0 at9
           d9 = Typed.s-seq 𝓤 H A W 𝓣 E G17 G18 b5 b14 Δ0 (Typed.both s16) at8 (Plain.t-call-plain 𝓤 H A W 𝓣 0 ps·1 r·1 (claims· .2) (claims· .3) "block::c::totals_words" (known .1) E (λ pos β. β) G17
-              (record { pos = 7; st = List.[]; d = 0; at = λ x. x }, tt) 8 List.[] (Call.sub-id 𝓤 H A W (G17 .slots))
-              ((Yields.yields-copy 𝓤 H A W (λ ρ. Unit) (Declared.row Counted.the-type) Path'.refl (Copies.cStruct Counted.the-type Laws.the-laws Laws.the-copy .copy 𝓤 H A W) (Rows'.whole (Declared.row
-              Counted.the-type)) (λ x. x) (λ x. x) (λ ρ told. Local.mem-whole 𝓤 H A W (Declared.row Counted.the-type) ρ) λ ρ told. Local.whole-mem 𝓤 H A W (Declared.row Counted.the-type) ρ, Path'.refl),
-              tt) (Reads.room-gone 𝓤 H A (Syntax.tyArray (Syntax.tyInt Syntax.w64) 2)) tt Path'.refl) d8
+              (record { pos = 7; st = List.[]; d = 0; at = λ x. x }, tt) 8 List.[] (Call.sub-id 𝓤 H A W (G17 .slots)) (
+                (
+                  Yields.yields-copy 𝓤 H A W (λ ρ. Unit) (Declared.row Counted.the-type) Path'.refl (Copies.cStruct Counted.the-type Laws.the-laws Laws.the-copy .copy 𝓤 H A W) (Rows'.whole (Declared.row
+                      Counted.the-type)) (λ x. x) (λ x. x) (λ ρ told. Local.mem-whole 𝓤 H A W (Declared.row Counted.the-type) ρ) λ ρ told. Local.whole-mem 𝓤 H A W (Declared.row Counted.the-type) ρ,
+                  Path'.refl,
+                ),
+                tt,
+              ) (Reads.room-gone 𝓤 H A (Syntax.tyArray (Syntax.tyInt Syntax.w64) 2)) tt Path'.refl) d8
 
           d10 : Typed.Typed 𝓤 H A 𝓣 E G16 b15 Δ0 at10
           d10 = Typed.g-pre 𝓤 H A W 𝓣 E G16 G17 b15 Δ0 (λ Ψ. Ψ) at9 (Lifetime.g-forget 𝓤 H A W E G16 6 Row.dead Path'.refl) d9
@@ -820,18 +926,37 @@ module _ (claims· : Claims) where
           d16 = Typed.g-pre 𝓤 H A W 𝓣 E G10 G11 b15 Δ0 (λ Ψ. Ψ) at15 (Lifetime.g-end 𝓤 H A W E G10 5 Path'.refl) d15
 
           d17 : Typed.Typed 𝓤 H A 𝓣 E G9 b16 Δ0 at17
-          d17 = Typed.s-seq 𝓤 H A W 𝓣 E G9 G10 b4 b15 Δ0 (Typed.both s8) at16 (Plain.t-call-plain 𝓤 H A W 𝓣 3 ps·0 r·0 (claims· .0) (claims· .1) "block::tight::read_tight" (known .0) E (λ pos β. β) G9
-              (record { pos = 1; ty = Syntax.tyRef (Syntax.named 0) Syntax.imm (Syntax.tyInt Syntax.w8); ref = λ x. x; },
-              (Num.vAt 2 λ x. x,
-              (record { pos = 11; ty = Syntax.tyRef Syntax.erased Syntax.mut (Syntax.tyInt Syntax.w16); ref = λ x. x; },
-              (record { pos = 13; ty = Syntax.tyRef Syntax.erased Syntax.mut Element.behind; ref = λ x. x; }, tt)))) 7 (List._∷_ 0 (List._∷_ 5 (List._∷_ 6 List.[]))) (Call.sub-id 𝓤 H A W (G9 .slots))
-              (ShrSlice.spares-sslice 𝓤 H A W (Referent.rtF (Referent.fInt Syntax.w8)) (Syntax.tyRef (Syntax.named 0) Syntax.imm (Syntax.tyInt Syntax.w8)) 0, Shared.reads-sslice 𝓤 H A W (Referent.rtF
-              (Referent.fInt Syntax.w8)) (Syntax.tyRef (Syntax.named 0) Syntax.imm (Syntax.tyInt Syntax.w8)) 0, Path'.refl,
-              ((Scalar.reads-sc 𝓤 H A W (Row.sInt Syntax.w64), Path'.refl),
-              (Reads.as-is 𝓤 H A (Mut.mslice (Referent.rtF (Referent.fInt Syntax.w16)) (Syntax.tyRef Syntax.erased Syntax.mut (Syntax.tyInt Syntax.w16)) 5), Mut.reads-mslice 𝓤 H A W (Referent.rtF
-              (Referent.fInt Syntax.w16)) (Syntax.tyRef Syntax.erased Syntax.mut (Syntax.tyInt Syntax.w16)) 5, Path'.refl,
-              (Reads.as-is 𝓤 H A (Mut.mslice (Element.type) (Syntax.tyRef Syntax.erased Syntax.mut Element.behind) 6), Mut.reads-mslice 𝓤 H A W (Element.type) (Syntax.tyRef Syntax.erased Syntax.mut
-              Element.behind) 6, Path'.refl, tt)))) (Reads.room-gone 𝓤 H A y3) (tt, (tt, (tt, tt))) Path'.refl) d16
+          d17 = Typed.s-seq 𝓤 H A W 𝓣 E G9 G10 b4 b15 Δ0 (Typed.both s8) at16 (Plain.t-call-plain 𝓤 H A W 𝓣 3 ps·0 r·0 (claims· .0) (claims· .1) "block::tight::read_tight" (known .0) E (λ pos β. β) G9 (
+            record { pos = 1; ty = Syntax.tyRef (Syntax.named 0) Syntax.imm (Syntax.tyInt Syntax.w8); ref = λ x. x },
+            (
+              Num.vAt 2 λ x. x,
+              (
+                record { pos = 11; ty = Syntax.tyRef Syntax.erased Syntax.mut (Syntax.tyInt Syntax.w16); ref = λ x. x },
+                (record { pos = 13; ty = Syntax.tyRef Syntax.erased Syntax.mut Element.behind; ref = λ x. x }, tt),
+              ),
+            ),
+          ) 7 (List._∷_ 0 (List._∷_ 5 (List._∷_ 6 List.[]))) (Call.sub-id 𝓤 H A W (G9 .slots)) (
+            ShrSlice.spares-sslice 𝓤 H A W (Referent.rtF (Referent.fInt Syntax.w8)) (Syntax.tyRef (Syntax.named 0) Syntax.imm (Syntax.tyInt Syntax.w8)) 0,
+            Shared.reads-sslice 𝓤 H A W (Referent.rtF
+                (Referent.fInt Syntax.w8)) (Syntax.tyRef (Syntax.named 0) Syntax.imm (Syntax.tyInt Syntax.w8)) 0,
+            Path'.refl,
+            (
+              (Scalar.reads-sc 𝓤 H A W (Row.sInt Syntax.w64), Path'.refl),
+              (
+                Reads.as-is 𝓤 H A (Mut.mslice (Referent.rtF (Referent.fInt Syntax.w16)) (Syntax.tyRef Syntax.erased Syntax.mut (Syntax.tyInt Syntax.w16)) 5),
+                Mut.reads-mslice 𝓤 H A W (Referent.rtF
+                    (Referent.fInt Syntax.w16)) (Syntax.tyRef Syntax.erased Syntax.mut (Syntax.tyInt Syntax.w16)) 5,
+                Path'.refl,
+                (
+                  Reads.as-is 𝓤 H A (Mut.mslice (Element.type) (Syntax.tyRef Syntax.erased Syntax.mut Element.behind) 6),
+                  Mut.reads-mslice 𝓤 H A W (Element.type) (Syntax.tyRef Syntax.erased Syntax.mut
+                      Element.behind) 6,
+                  Path'.refl,
+                  tt,
+                ),
+              ),
+            ),
+          ) (Reads.room-gone 𝓤 H A y3) (tt, (tt, (tt, tt))) Path'.refl) d16
 
           d18 : Typed.Typed 𝓤 H A 𝓣 E G8 b17 Δ0 at18
           d18 = Typed.s-seq 𝓤 H A W 𝓣 E G8 G9 b3 b16 Δ0 (Typed.ask s7) at17 (Relend.t-sl-aggregate 𝓤 H A W E (Element.type) 𝓣 (Relend.asMut (Element.type)) G8 12 13 6 (Syntax.tyRef Syntax.erased
@@ -852,9 +977,11 @@ module _ (claims· : Claims) where
           d21 = Typed.s-seq 𝓤 H A W 𝓣 E G5 G6 b1 b18 Δ0 (Typed.ask s4) at20 (Relend.t-sl-aggregate 𝓤 H A W E (Referent.rtF (Referent.fInt Syntax.w16)) 𝓣 (Relend.asMut (Referent.rtF (Referent.fInt
               Syntax.w16))) G5 10 11 5 (Syntax.tyRef Syntax.erased Syntax.mut (Syntax.tyInt Syntax.w16)) (Syntax.tyRef Syntax.erased Syntax.mut (Syntax.tyInt Syntax.w16)) (λ x. x) (Scalar.oFld 3 (List._∷_
               (Syntax.field 1) List.[]) (Syntax.tyInt Syntax.w64) 8 λ v. Shared.lenV (v .0)) (Reads.as-is 𝓤 H A (Relend.msptr (Referent.rtF (Referent.fInt Syntax.w16)) (Syntax.tyRef Syntax.erased
-              Syntax.mut (Syntax.tyInt Syntax.w16)) 5)) (Reads.room-gone 𝓤 H A y1)
-              (Relend.reads-owed-len 𝓤 H A W (Referent.rtF (Referent.fInt Syntax.w16)) (Syntax.tyRef (Syntax.named 1) Syntax.mut (Syntax.tyInt Syntax.w16)) 1 5 (Row.lease (κs .1 .0) (qs .1 .0)) 8
-              Path'.refl, Path'.refl) Path'.refl Path'.refl λ b o k. tt) d20
+              Syntax.mut (Syntax.tyInt Syntax.w16)) 5)) (Reads.room-gone 𝓤 H A y1) (
+                Relend.reads-owed-len 𝓤 H A W (Referent.rtF (Referent.fInt Syntax.w16)) (Syntax.tyRef (Syntax.named 1) Syntax.mut (Syntax.tyInt Syntax.w16)) 1 5 (Row.lease (κs .1 .0) (qs .1 .0)) 8
+                    Path'.refl,
+                Path'.refl,
+              ) Path'.refl Path'.refl λ b o k. tt) d20
 
           d22 : Typed.Typed 𝓤 H A 𝓣 E G4 b20 Δ0 at22
           d22 = Typed.s-seq 𝓤 H A W 𝓣 E G4 G5 b0 b19 Δ0 (Typed.give s3) at21 (Relend.t-sl-relend 𝓤 H A W E (Referent.rtF (Referent.fInt Syntax.w16)) 𝓣 G4 3 10 1 5 (Syntax.tyRef (Syntax.named 1)
@@ -898,9 +1025,12 @@ module _ (claims· : Claims) where
       m0 = λ κs args. (tt, Enter.partsP κs 1 ps xs (dens κs args))
 
       abbrev W0 : (κs : Lifetimes.Lfts 5) → (args : Args κs) → Typed.Want O0
-      W0 = λ κs args.
-          (λ u. ⊥, tt, λ u. Enter.Fixs κs 1 ps xs (dens κs args) (u .1) × Post· κs (dens κs args) (Function.resV r κs (u .0)) (Clauses.atExit (Kinds.endedOf 5 ps r) κs (dens κs args) (Enter.lastsP κs 1 ps
-          xs (dens κs args) (u .1))))
+      W0 = λ κs args. (
+        λ u. ⊥,
+        tt,
+        λ u. Enter.Fixs κs 1 ps xs (dens κs args) (u .1) × Post· κs (dens κs args) (Function.resV r κs (u .0)) (Clauses.atExit (Kinds.endedOf 5 ps r) κs (dens κs args) (Enter.lastsP κs 1 ps
+            xs (dens κs args) (u .1))),
+      )
 
       pub record Start : Type 0 where
         pub κs : Lifetimes.Lfts 5
@@ -967,22 +1097,32 @@ module _ (claims· : Claims) where
 
       module _ (before· : After-read-tight-arg2) where
         abbrev pub After-read-tight·own : Type 0
-        After-read-tight·own = Called.Called ps·0 r·0 (claims· .1) T9
-            (record { pos = 1; ty = Syntax.tyRef (Syntax.named 0) Syntax.imm (Syntax.tyInt Syntax.w8); ref = λ x. x; },
-            (Num.vAt 2 λ x. x,
-            (record { pos = 11; ty = Syntax.tyRef Syntax.erased Syntax.mut (Syntax.tyInt Syntax.w16); ref = λ x. x; },
-            (record { pos = 13; ty = Syntax.tyRef Syntax.erased Syntax.mut Element.behind; ref = λ x. x; }, tt)))) (m6 (before· .before) (before· .read-tight-arg2 .given))
+        After-read-tight·own = Called.Called ps·0 r·0 (claims· .1) T9 (
+          record { pos = 1; ty = Syntax.tyRef (Syntax.named 0) Syntax.imm (Syntax.tyInt Syntax.w8); ref = λ x. x },
+          (
+            Num.vAt 2 λ x. x,
+            (
+              record { pos = 11; ty = Syntax.tyRef Syntax.erased Syntax.mut (Syntax.tyInt Syntax.w16); ref = λ x. x },
+              (record { pos = 13; ty = Syntax.tyRef Syntax.erased Syntax.mut Element.behind; ref = λ x. x }, tt),
+            ),
+          ),
+        ) (m6 (before· .before) (before· .read-tight-arg2 .given))
 
       pub record After-read-tight : Type 0 where
         pub before : After-read-tight-arg2
         pub read-tight : After-read-tight·own before
 
       abbrev pub After-read-tight·gave : (c : After-read-tight) → s8 .gives (m6 (c .before .before) (c .before .read-tight-arg2 .given))
-      After-read-tight·gave = λ c. Called.given ps·0 r·0 (claims· .1) T9
-          (record { pos = 1; ty = Syntax.tyRef (Syntax.named 0) Syntax.imm (Syntax.tyInt Syntax.w8); ref = λ x. x; },
-          (Num.vAt 2 λ x. x,
-          (record { pos = 11; ty = Syntax.tyRef Syntax.erased Syntax.mut (Syntax.tyInt Syntax.w16); ref = λ x. x; },
-          (record { pos = 13; ty = Syntax.tyRef Syntax.erased Syntax.mut Element.behind; ref = λ x. x; }, tt)))) (m6 (c .before .before) (c .before .read-tight-arg2 .given)) (c .read-tight)
+      After-read-tight·gave = λ c. Called.given ps·0 r·0 (claims· .1) T9 (
+        record { pos = 1; ty = Syntax.tyRef (Syntax.named 0) Syntax.imm (Syntax.tyInt Syntax.w8); ref = λ x. x },
+        (
+          Num.vAt 2 λ x. x,
+          (
+            record { pos = 11; ty = Syntax.tyRef Syntax.erased Syntax.mut (Syntax.tyInt Syntax.w16); ref = λ x. x },
+            (record { pos = 13; ty = Syntax.tyRef Syntax.erased Syntax.mut Element.behind; ref = λ x. x }, tt),
+          ),
+        ),
+      ) (m6 (c .before .before) (c .before .read-tight-arg2 .given)) (c .read-tight)
 
       abbrev pub m8 : (before : After-read-tight) → (given : s10 .gives (m7 (before .before) (After-read-tight·gave before))) → Typed.Mo T12
       m8 = λ before given. s10 .next (m7 (before .before) (After-read-tight·gave before)) given
@@ -1095,60 +1235,108 @@ module _ (claims· : Claims) where
           Need-same-length) (same-length-2 : Need-same-length-2) (returns : Need-returns) where
         lay3 : (c : After-counted-refusal) → at7 (W0 (c .before .before .before .before .before .before .before .before .before .before .κs) (c .before .before .before .before .before .before .before
             .before .before .before .args)) (m12 (c .before) (After-counted-refusal·gave c))
-        lay3 = λ c.
-            ((Path'.refl,
-            (tt,
-            (MutSlice.fix-len (Row.get 3 (T26 .locals) (m19 (c .before) (After-counted-refusal·gave c)) .ptr) (Row.get 3 (T26 .locals) (m19 (c .before) (After-counted-refusal·gave c)) .name) (Row.get 3
-            (T26 .locals) (m19 (c .before) (After-counted-refusal·gave c)) .now) (dens (c .before .before .before .before .before .before .before .before .before .before .κs) (c .before .before .before
-            .before .before .before .before .before .before .before .args) .1 .1 .0 .now) (same-length record { before = c .before; counted-refusal = c .counted-refusal }),
-            (MutSlice.fix-len (Row.get 4 (T26 .locals) (m19 (c .before) (After-counted-refusal·gave c)) .ptr) (Row.get 4 (T26 .locals) (m19 (c .before) (After-counted-refusal·gave c)) .name) (Row.get 4
-            (T26 .locals) (m19 (c .before) (After-counted-refusal·gave c)) .now) (dens (c .before .before .before .before .before .before .before .before .before .before .κs) (c .before .before .before
-            .before .before .before .before .before .before .before .args) .1 .1 .1 .0 .now) (same-length-2 record { before = c .before; counted-refusal = c .counted-refusal }),
-            (Path'.refl, (Path'.refl, tt)))))), returns record { before = c .before; counted-refusal = c .counted-refusal })
+        lay3 = λ c. (
+          (
+            Path'.refl,
+            (
+              tt,
+              (
+                MutSlice.fix-len (Row.get 3 (T26 .locals) (m19 (c .before) (After-counted-refusal·gave c)) .ptr) (Row.get 3 (T26 .locals) (m19 (c .before) (After-counted-refusal·gave c)) .name) (Row.get 3
+                    (T26 .locals) (m19 (c .before) (After-counted-refusal·gave c)) .now) (dens (c .before .before .before .before .before .before .before .before .before .before .κs) (c .before .before .before
+                    .before .before .before .before .before .before .before .args) .1 .1 .0 .now) (same-length record { before = c .before; counted-refusal = c .counted-refusal }),
+                (
+                  MutSlice.fix-len (Row.get 4 (T26 .locals) (m19 (c .before) (After-counted-refusal·gave c)) .ptr) (Row.get 4 (T26 .locals) (m19 (c .before) (After-counted-refusal·gave c)) .name) (Row.get 4
+                      (T26 .locals) (m19 (c .before) (After-counted-refusal·gave c)) .now) (dens (c .before .before .before .before .before .before .before .before .before .before .κs) (c .before .before .before
+                      .before .before .before .before .before .before .before .args) .1 .1 .1 .0 .now) (same-length-2 record { before = c .before; counted-refusal = c .counted-refusal }),
+                  (Path'.refl, (Path'.refl, tt)),
+                ),
+              ),
+            ),
+          ),
+          returns record { before = c .before; counted-refusal = c .counted-refusal },
+        )
 
         lay2 : (c : After-totals-words) → at8 (W0 (c .before .before .before .before .before .before .before .before .before .κs) (c .before .before .before .before .before .before .before .before
             .before .args)) (m11 (c .before) (After-totals-words·gave c))
-        lay2 = λ c.
-            (counted-refusal-requires record { before = c .before; totals-words = c .totals-words }, λ g. lay3 record
-            { before = record { before = c .before; totals-words = c .totals-words }; counted-refusal = Called.called ps·2 r·2 (claims· .5) T18 (record { pos = 7; st = List.[]; d = 0; at = λ x. x }, tt)
-            (m11 (c .before) (After-totals-words·gave c)) g; })
+        lay2 = λ c. (
+          counted-refusal-requires record { before = c .before; totals-words = c .totals-words },
+          λ g. lay3 record {
+            before = record { before = c .before; totals-words = c .totals-words };
+            counted-refusal = Called.called ps·2 r·2 (claims· .5) T18 (record { pos = 7; st = List.[]; d = 0; at = λ x. x }, tt)
+                (m11 (c .before) (After-totals-words·gave c)) g;
+          },
+        )
 
         lay1 : (c : After-read-tight) → at16 (W0 (c .before .before .before .before .before .κs) (c .before .before .before .before .before .args)) (m7 (c .before) (After-read-tight·gave c))
-        lay1 = λ c.
-            (Path'.refl, λ g. λ g'.
-            (Path'.refl, λ g''.
-            (totals-words-requires record
-            { before = record { before = record { before = record { before = c .before; read-tight = c .read-tight }; lines = record { given = g }; }; slice-known2 = record { given = g' }; }; rs = record
-            { given = g'' }; }, λ g'3. lay2 record
-            { before = record
-            { before = record { before = record { before = record { before = c .before; read-tight = c .read-tight }; lines = record { given = g }; }; slice-known2 = record { given = g' }; }; rs = record
-            { given = g'' }; }; totals-words = Called.called ps·1 r·1 (claims· .3) T16 (record { pos = 7; st = List.[]; d = 0; at = λ x. x }, tt) (m10 record
-            { before = record { before = record { before = c .before; read-tight = c .read-tight }; lines = record { given = g }; }; slice-known2 = record { given = g' }; } g'') g'3; })))
+        lay1 = λ c. (
+          Path'.refl,
+          λ g. λ g'. (
+            Path'.refl,
+            λ g''. (
+              totals-words-requires record {
+                before = record { before = record { before = record { before = c .before; read-tight = c .read-tight }; lines = record { given = g } }; slice-known2 = record { given = g' } };
+                rs = record
+                    { given = g'' };
+              },
+              λ g'3. lay2 record {
+                before = record {
+                  before = record { before = record { before = record { before = c .before; read-tight = c .read-tight }; lines = record { given = g } }; slice-known2 = record { given = g' } };
+                  rs = record
+                      { given = g'' };
+                };
+                totals-words = Called.called ps·1 r·1 (claims· .3) T16 (record { pos = 7; st = List.[]; d = 0; at = λ x. x }, tt) (m10 record
+                    { before = record { before = record { before = c .before; read-tight = c .read-tight }; lines = record { given = g } }; slice-known2 = record { given = g' } } g'') g'3;
+              },
+            ),
+          ),
+        )
 
         pub laid : (c : Start) → at25 (W0 (c .κs) (c .args)) (m0 (c .κs) (c .args))
-        laid = λ c. λ g. λ g'. λ g''.
-            (Path'.refl, λ g'3.
-            (Path'.refl,
-            (read-tight-requires record
-            { before = record
-            { before = record { before = record { before = c; shared-slice-known = record { given = g } }; slice-known = record { given = g' }; }; read-tight-arg = record { given = g'' }; };
-            read-tight-arg2 = record { given = g'3 }; }, λ g'4. lay1 record
-            { before = record
-            { before = record
-            { before = record { before = record { before = c; shared-slice-known = record { given = g } }; slice-known = record { given = g' }; }; read-tight-arg = record { given = g'' }; };
-            read-tight-arg2 = record { given = g'3 }; }; read-tight = Called.called ps·0 r·0 (claims· .1) T9
-            (record { pos = 1; ty = Syntax.tyRef (Syntax.named 0) Syntax.imm (Syntax.tyInt Syntax.w8); ref = λ x. x; },
-            (Num.vAt 2 λ x. x,
-            (record { pos = 11; ty = Syntax.tyRef Syntax.erased Syntax.mut (Syntax.tyInt Syntax.w16); ref = λ x. x; },
-            (record { pos = 13; ty = Syntax.tyRef Syntax.erased Syntax.mut Element.behind; ref = λ x. x; }, tt)))) (m6 record
-            { before = record { before = record { before = c; shared-slice-known = record { given = g } }; slice-known = record { given = g' }; }; read-tight-arg = record { given = g'' }; } g'3) g'4; })))
+        laid = λ c. λ g. λ g'. λ g''. (
+          Path'.refl,
+          λ g'3. (
+            Path'.refl,
+            (
+              read-tight-requires record {
+                before = record
+                    { before = record { before = record { before = c; shared-slice-known = record { given = g } }; slice-known = record { given = g' } }; read-tight-arg = record { given = g'' } };
+                read-tight-arg2 = record { given = g'3 };
+              },
+              λ g'4. lay1 record {
+                before = record {
+                  before = record
+                      { before = record { before = record { before = c; shared-slice-known = record { given = g } }; slice-known = record { given = g' } }; read-tight-arg = record { given = g'' } };
+                  read-tight-arg2 = record { given = g'3 };
+                };
+                read-tight = Called.called ps·0 r·0 (claims· .1) T9 (
+                  record { pos = 1; ty = Syntax.tyRef (Syntax.named 0) Syntax.imm (Syntax.tyInt Syntax.w8); ref = λ x. x },
+                  (
+                    Num.vAt 2 λ x. x,
+                    (
+                      record { pos = 11; ty = Syntax.tyRef Syntax.erased Syntax.mut (Syntax.tyInt Syntax.w16); ref = λ x. x },
+                      (record { pos = 13; ty = Syntax.tyRef Syntax.erased Syntax.mut Element.behind; ref = λ x. x }, tt),
+                    ),
+                  ),
+                ) (m6 record
+                    { before = record { before = record { before = c; shared-slice-known = record { given = g } }; slice-known = record { given = g' } }; read-tight-arg = record { given = g'' } } g'3) g'4;
+              },
+            ),
+          ),
+        )
 
         module _ (κs : Lifetimes.Lfts 5) (qs : Lifetimes.Shares 5) where
           pub asked : (a : Kinds.Dens κs ps) → (good : Kinds.GoodsP κs ps a) → (pre : Pre· κs a) → (bs : List.List Nat.ℕ) → Φ (Any.wantQ 5 ps r xs m κs qs a (Post· κs a)) (Function.init 5 ps r xs m κs
               qs a)
-          asked = λ a good pre bs. laid record
-              { κs = κs; args = record { d = a .0; b = a .1 .0; lines = a .1 .1 .0; rs = a .1 .1 .1 .0; totals = a .1 .1 .1 .1 .0; refusal = a .1 .1 .1 .1 .1 .0; }; good = good; fits = record { b = record
-              { fits = good .1 .0 .1 } }; pre = pre; }
+          asked = λ a good pre bs. laid record {
+            κs = κs;
+            args = record { d = a .0; b = a .1 .0; lines = a .1 .1 .0; rs = a .1 .1 .1 .0; totals = a .1 .1 .1 .1 .0; refusal = a .1 .1 .1 .1 .1 .0 };
+            good = good;
+            fits = record {
+              b = record
+                  { fits = good .1 .0 .1 };
+            };
+            pre = pre;
+          }
 
         module _ {M : Type 1} (𝓤 : URA.URA M) (H : Wp.Heap 𝓤) (A : Atoms.Atoms 𝓤) (W : Kit.Given 𝓤 H A) (𝓣 : Wp.Tables 𝓤 H) (known0 : Plain.Known 𝓤 H A W 𝓣 3 ps·0 r·0 (claims· .0) (claims· .1)
             "block::tight::read_tight") (known1 : Plain.Known 𝓤 H A W 𝓣 0 ps·1 r·1 (claims· .2) (claims· .3) "block::c::totals_words") (known2 : Plain.Known 𝓤 H A W 𝓣 0 ps·2 r·2 (claims· .4) (claims· .5)

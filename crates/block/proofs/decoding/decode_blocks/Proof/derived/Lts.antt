@@ -131,24 +131,62 @@ y12 = Syntax.tyStruct (List._∷_ 99 (List._∷_ 97 (List._∷_ 109 (List._∷_ 
     (List._∷_ 105 (List._∷_ 101 (List._∷_ 115 List.[])))))))))))))))) (Syntax.tcons (Syntax.tyArray y11 16) Syntax.tnil)
 
 abbrev pub ps : List.List (Kinds.PK 4)
-ps = List._∷_ (ShrSlice.pShrS (Referent.rtF (Referent.fInt Syntax.w8)) 0 tt) (List._∷_ (Value.pVal record
-    { ty = Declared'.row FujiHeader.the-type; one = Path'.refl; val = Laws'9.val FujiHeader.the-type Laws'7.the-laws; tells = Laws'9.tells FujiHeader.the-type Laws'7.the-laws; still = Laws'9.still
-    FujiHeader.the-type Laws'7.the-copy Exit.yes; row = Rows'.whole (Declared'.row FujiHeader.the-type); rd = λ x. x; mk = λ x. x; } λ M 𝓤 H A W. record
-    { copies = Laws'9.copy FujiHeader.the-type Laws'7.the-copy 𝓤 H A W; lawful = Laws'9.lawful FujiHeader.the-type Laws'7.the-laws 𝓤 H A W; makes = Laws'9.makes FujiHeader.the-type Laws'7.the-plain 𝓤 H A;
-    in-mem = Local.mem-whole 𝓤 H A W (Declared'.row FujiHeader.the-type); of-mem = Local.whole-mem 𝓤 H A W (Declared'.row FujiHeader.the-type); }) (List._∷_ (Value.pVal record
-    { ty = Declared'.row Rect.the-type; one = Path'.refl; val = Laws'9.val Rect.the-type Laws'5.the-laws; tells = Laws'9.tells Rect.the-type Laws'5.the-laws; still = Laws'9.still Rect.the-type
-    Laws'5.the-copy Exit.yes; row = Rows'.whole (Declared'.row Rect.the-type); rd = λ x. x; mk = λ x. x; } λ M 𝓤 H A W. record
-    { copies = Laws'9.copy Rect.the-type Laws'5.the-copy 𝓤 H A W; lawful = Laws'9.lawful Rect.the-type Laws'5.the-laws 𝓤 H A W; makes = Laws'9.makes Rect.the-type Laws'5.the-plain 𝓤 H A; in-mem =
-    Local.mem-whole 𝓤 H A W (Declared'.row Rect.the-type); of-mem = Local.whole-mem 𝓤 H A W (Declared'.row Rect.the-type); }) (List._∷_ (Array.pArr (Array.eInt Syntax.w8) (Array.eInt-laws Syntax.w8) 36)
+ps = List._∷_ (ShrSlice.pShrS (Referent.rtF (Referent.fInt Syntax.w8)) 0 tt) (List._∷_ (Value.pVal record {
+  ty = Declared'.row FujiHeader.the-type;
+  one = Path'.refl;
+  val = Laws'9.val FujiHeader.the-type Laws'7.the-laws;
+  tells = Laws'9.tells FujiHeader.the-type Laws'7.the-laws;
+  still = Laws'9.still
+      FujiHeader.the-type Laws'7.the-copy Exit.yes;
+  row = Rows'.whole (Declared'.row FujiHeader.the-type);
+  rd = λ x. x;
+  mk = λ x. x;
+} λ M 𝓤 H A W. record {
+  copies = Laws'9.copy FujiHeader.the-type Laws'7.the-copy 𝓤 H A W;
+  lawful = Laws'9.lawful FujiHeader.the-type Laws'7.the-laws 𝓤 H A W;
+  makes = Laws'9.makes FujiHeader.the-type Laws'7.the-plain 𝓤 H A;
+  in-mem = Local.mem-whole 𝓤 H A W (Declared'.row FujiHeader.the-type);
+  of-mem = Local.whole-mem 𝓤 H A W (Declared'.row FujiHeader.the-type);
+}) (List._∷_ (Value.pVal record {
+  ty = Declared'.row Rect.the-type;
+  one = Path'.refl;
+  val = Laws'9.val Rect.the-type Laws'5.the-laws;
+  tells = Laws'9.tells Rect.the-type Laws'5.the-laws;
+  still = Laws'9.still Rect.the-type
+      Laws'5.the-copy Exit.yes;
+  row = Rows'.whole (Declared'.row Rect.the-type);
+  rd = λ x. x;
+  mk = λ x. x;
+} λ M 𝓤 H A W. record {
+  copies = Laws'9.copy Rect.the-type Laws'5.the-copy 𝓤 H A W;
+  lawful = Laws'9.lawful Rect.the-type Laws'5.the-laws 𝓤 H A W;
+  makes = Laws'9.makes Rect.the-type Laws'5.the-plain 𝓤 H A;
+  in-mem =
+      Local.mem-whole 𝓤 H A W (Declared'.row Rect.the-type);
+  of-mem = Local.whole-mem 𝓤 H A W (Declared'.row Rect.the-type);
+}) (List._∷_ (Array.pArr (Array.eInt Syntax.w8) (Array.eInt-laws Syntax.w8) 36)
     (List._∷_ (MutSlice.pMutS (Referent.rtF (Referent.fInt Syntax.w16)) 1 tt) (List._∷_ (MutSlice.pMutS (Referent.rtF (Referent.fInt Syntax.w16)) 2 tt) (List._∷_ (MutSlice.pMutS (Element.type) 3 tt)
     (List._∷_ Bool.pBool List.[])))))))
 
 abbrev pub r : Kinds.RK 4
-r = Value.rVal record
-    { ty = Declared.row Decoded.the-type; one = Path'.refl; val = Laws'8.val Decoded.the-type Laws.the-laws; tells = Laws'8.tells Decoded.the-type Laws.the-laws; still = Laws'8.still Decoded.the-type
-    Laws.the-copy Exit.yes; row = Rows'.whole (Declared.row Decoded.the-type); rd = λ x. x; mk = λ x. x; } λ M 𝓤 H A W. record
-    { copies = Laws'8.copy Decoded.the-type Laws.the-copy 𝓤 H A W; lawful = Laws'8.lawful Decoded.the-type Laws.the-laws 𝓤 H A W tt; makes = Laws'8.makes Decoded.the-type Laws.the-plain 𝓤 H A; in-mem =
-    Local.mem-whole 𝓤 H A W (Declared.row Decoded.the-type); of-mem = Local.whole-mem 𝓤 H A W (Declared.row Decoded.the-type); }
+r = Value.rVal record {
+  ty = Declared.row Decoded.the-type;
+  one = Path'.refl;
+  val = Laws'8.val Decoded.the-type Laws.the-laws;
+  tells = Laws'8.tells Decoded.the-type Laws.the-laws;
+  still = Laws'8.still Decoded.the-type
+      Laws.the-copy Exit.yes;
+  row = Rows'.whole (Declared.row Decoded.the-type);
+  rd = λ x. x;
+  mk = λ x. x;
+} λ M 𝓤 H A W. record {
+  copies = Laws'8.copy Decoded.the-type Laws.the-copy 𝓤 H A W;
+  lawful = Laws'8.lawful Decoded.the-type Laws.the-laws 𝓤 H A W tt;
+  makes = Laws'8.makes Decoded.the-type Laws.the-plain 𝓤 H A;
+  in-mem =
+      Local.mem-whole 𝓤 H A W (Declared.row Decoded.the-type);
+  of-mem = Local.whole-mem 𝓤 H A W (Declared.row Decoded.the-type);
+}
 
 abbrev pub xs : List.List Syntax.Ty
 xs = List._∷_ y3 (List._∷_ (Syntax.tyInt Syntax.w64) (List._∷_ (Syntax.tyInt Syntax.w64) (List._∷_ (Syntax.tyArray (Syntax.tyInt Syntax.w16) 768) (List._∷_ (Syntax.tyEnum (List._∷_ 98 (List._∷_ 108
@@ -171,18 +209,44 @@ abbrev pub m : Nat.ℕ
 m = 4
 
 abbrev pub ps·0 : List.List (Kinds.PK 0)
-ps·0 = List._∷_ (Value.pVal record
-    { ty = Declared'.row Rect.the-type; one = Path'.refl; val = Laws'9.val Rect.the-type Laws'5.the-laws; tells = Laws'9.tells Rect.the-type Laws'5.the-laws; still = Laws'9.still Rect.the-type
-    Laws'5.the-copy Exit.yes; row = Rows'.whole (Declared'.row Rect.the-type); rd = λ x. x; mk = λ x. x; } λ M 𝓤 H A W. record
-    { copies = Laws'9.copy Rect.the-type Laws'5.the-copy 𝓤 H A W; lawful = Laws'9.lawful Rect.the-type Laws'5.the-laws 𝓤 H A W; makes = Laws'9.makes Rect.the-type Laws'5.the-plain 𝓤 H A; in-mem =
-    Local.mem-whole 𝓤 H A W (Declared'.row Rect.the-type); of-mem = Local.whole-mem 𝓤 H A W (Declared'.row Rect.the-type); }) List.[]
+ps·0 = List._∷_ (Value.pVal record {
+  ty = Declared'.row Rect.the-type;
+  one = Path'.refl;
+  val = Laws'9.val Rect.the-type Laws'5.the-laws;
+  tells = Laws'9.tells Rect.the-type Laws'5.the-laws;
+  still = Laws'9.still Rect.the-type
+      Laws'5.the-copy Exit.yes;
+  row = Rows'.whole (Declared'.row Rect.the-type);
+  rd = λ x. x;
+  mk = λ x. x;
+} λ M 𝓤 H A W. record {
+  copies = Laws'9.copy Rect.the-type Laws'5.the-copy 𝓤 H A W;
+  lawful = Laws'9.lawful Rect.the-type Laws'5.the-laws 𝓤 H A W;
+  makes = Laws'9.makes Rect.the-type Laws'5.the-plain 𝓤 H A;
+  in-mem =
+      Local.mem-whole 𝓤 H A W (Declared'.row Rect.the-type);
+  of-mem = Local.whole-mem 𝓤 H A W (Declared'.row Rect.the-type);
+}) List.[]
 
 abbrev pub r·0 : Kinds.RK 0
-r·0 = Value.rVal record
-    { ty = Declared'.row Span.the-type; one = Path'.refl; val = Laws'9.val Span.the-type Laws'6.the-laws; tells = Laws'9.tells Span.the-type Laws'6.the-laws; still = Laws'9.still Span.the-type
-    Laws'6.the-copy Exit.yes; row = Rows'.whole (Declared'.row Span.the-type); rd = λ x. x; mk = λ x. x; } λ M 𝓤 H A W. record
-    { copies = Laws'9.copy Span.the-type Laws'6.the-copy 𝓤 H A W; lawful = Laws'9.lawful Span.the-type Laws'6.the-laws 𝓤 H A W; makes = Laws'9.makes Span.the-type Laws'6.the-plain 𝓤 H A; in-mem =
-    Local.mem-whole 𝓤 H A W (Declared'.row Span.the-type); of-mem = Local.whole-mem 𝓤 H A W (Declared'.row Span.the-type); }
+r·0 = Value.rVal record {
+  ty = Declared'.row Span.the-type;
+  one = Path'.refl;
+  val = Laws'9.val Span.the-type Laws'6.the-laws;
+  tells = Laws'9.tells Span.the-type Laws'6.the-laws;
+  still = Laws'9.still Span.the-type
+      Laws'6.the-copy Exit.yes;
+  row = Rows'.whole (Declared'.row Span.the-type);
+  rd = λ x. x;
+  mk = λ x. x;
+} λ M 𝓤 H A W. record {
+  copies = Laws'9.copy Span.the-type Laws'6.the-copy 𝓤 H A W;
+  lawful = Laws'9.lawful Span.the-type Laws'6.the-laws 𝓤 H A W;
+  makes = Laws'9.makes Span.the-type Laws'6.the-plain 𝓤 H A;
+  in-mem =
+      Local.mem-whole 𝓤 H A W (Declared'.row Span.the-type);
+  of-mem = Local.whole-mem 𝓤 H A W (Declared'.row Span.the-type);
+}
 
 abbrev pub ps·1 : List.List (Kinds.PK 0)
 ps·1 = List.[]
@@ -191,18 +255,43 @@ abbrev pub r·1 : Kinds.RK 0
 r·1 = Array.rArr (Array.eInt Syntax.w16) (Array.eInt-laws Syntax.w16) 768
 
 abbrev pub ps·2 : List.List (Kinds.PK 0)
-ps·2 = List._∷_ (Value.pVal record
-    { ty = Declared'.row FujiHeader.the-type; one = Path'.refl; val = Laws'9.val FujiHeader.the-type Laws'7.the-laws; tells = Laws'9.tells FujiHeader.the-type Laws'7.the-laws; still = Laws'9.still
-    FujiHeader.the-type Laws'7.the-copy Exit.yes; row = Rows'.whole (Declared'.row FujiHeader.the-type); rd = λ x. x; mk = λ x. x; } λ M 𝓤 H A W. record
-    { copies = Laws'9.copy FujiHeader.the-type Laws'7.the-copy 𝓤 H A W; lawful = Laws'9.lawful FujiHeader.the-type Laws'7.the-laws 𝓤 H A W; makes = Laws'9.makes FujiHeader.the-type Laws'7.the-plain 𝓤 H A;
-    in-mem = Local.mem-whole 𝓤 H A W (Declared'.row FujiHeader.the-type); of-mem = Local.whole-mem 𝓤 H A W (Declared'.row FujiHeader.the-type); }) List.[]
+ps·2 = List._∷_ (Value.pVal record {
+  ty = Declared'.row FujiHeader.the-type;
+  one = Path'.refl;
+  val = Laws'9.val FujiHeader.the-type Laws'7.the-laws;
+  tells = Laws'9.tells FujiHeader.the-type Laws'7.the-laws;
+  still = Laws'9.still
+      FujiHeader.the-type Laws'7.the-copy Exit.yes;
+  row = Rows'.whole (Declared'.row FujiHeader.the-type);
+  rd = λ x. x;
+  mk = λ x. x;
+} λ M 𝓤 H A W. record {
+  copies = Laws'9.copy FujiHeader.the-type Laws'7.the-copy 𝓤 H A W;
+  lawful = Laws'9.lawful FujiHeader.the-type Laws'7.the-laws 𝓤 H A W;
+  makes = Laws'9.makes FujiHeader.the-type Laws'7.the-plain 𝓤 H A;
+  in-mem = Local.mem-whole 𝓤 H A W (Declared'.row FujiHeader.the-type);
+  of-mem = Local.whole-mem 𝓤 H A W (Declared'.row FujiHeader.the-type);
+}) List.[]
 
 abbrev pub r·2 : Kinds.RK 0
-r·2 = Value.rVal record
-    { ty = Declared'.row Form.the-type; one = Path'.refl; val = Laws'9.val Form.the-type Laws'.the-laws; tells = Laws'9.tells Form.the-type Laws'.the-laws; still = Laws'9.still Form.the-type
-    Laws'.the-copy Exit.yes; row = Rows'.whole (Declared'.row Form.the-type); rd = λ x. x; mk = λ x. x; } λ M 𝓤 H A W. record
-    { copies = Laws'9.copy Form.the-type Laws'.the-copy 𝓤 H A W; lawful = Laws'9.lawful Form.the-type Laws'.the-laws 𝓤 H A W; makes = Laws'9.makes Form.the-type Laws'.the-plain 𝓤 H A; in-mem =
-    Local.mem-whole 𝓤 H A W (Declared'.row Form.the-type); of-mem = Local.whole-mem 𝓤 H A W (Declared'.row Form.the-type); }
+r·2 = Value.rVal record {
+  ty = Declared'.row Form.the-type;
+  one = Path'.refl;
+  val = Laws'9.val Form.the-type Laws'.the-laws;
+  tells = Laws'9.tells Form.the-type Laws'.the-laws;
+  still = Laws'9.still Form.the-type
+      Laws'.the-copy Exit.yes;
+  row = Rows'.whole (Declared'.row Form.the-type);
+  rd = λ x. x;
+  mk = λ x. x;
+} λ M 𝓤 H A W. record {
+  copies = Laws'9.copy Form.the-type Laws'.the-copy 𝓤 H A W;
+  lawful = Laws'9.lawful Form.the-type Laws'.the-laws 𝓤 H A W;
+  makes = Laws'9.makes Form.the-type Laws'.the-plain 𝓤 H A;
+  in-mem =
+      Local.mem-whole 𝓤 H A W (Declared'.row Form.the-type);
+  of-mem = Local.whole-mem 𝓤 H A W (Declared'.row Form.the-type);
+}
 
 abbrev pub ps·3 : List.List (Kinds.PK 1)
 ps·3 = List._∷_ (ShrSlice.pShrS (Referent.rtF (Referent.fInt Syntax.w8)) 0 tt) (List._∷_ (Num.pNum Syntax.w64) List.[])
@@ -217,71 +306,201 @@ abbrev pub r·4 : Kinds.RK 1
 r·4 = ShrSlice.rShrS (Referent.rtF (Referent.fInt Syntax.w8)) 0 tt
 
 abbrev pub ps·5 : List.List (Kinds.PK 0)
-ps·5 = List._∷_ (Value.pVal record
-    { ty = Declared'.row Rect.the-type; one = Path'.refl; val = Laws'9.val Rect.the-type Laws'5.the-laws; tells = Laws'9.tells Rect.the-type Laws'5.the-laws; still = Laws'9.still Rect.the-type
-    Laws'5.the-copy Exit.yes; row = Rows'.whole (Declared'.row Rect.the-type); rd = λ x. x; mk = λ x. x; } λ M 𝓤 H A W. record
-    { copies = Laws'9.copy Rect.the-type Laws'5.the-copy 𝓤 H A W; lawful = Laws'9.lawful Rect.the-type Laws'5.the-laws 𝓤 H A W; makes = Laws'9.makes Rect.the-type Laws'5.the-plain 𝓤 H A; in-mem =
-    Local.mem-whole 𝓤 H A W (Declared'.row Rect.the-type); of-mem = Local.whole-mem 𝓤 H A W (Declared'.row Rect.the-type); }) (List._∷_ (Num.pNum Syntax.w64) List.[])
+ps·5 = List._∷_ (Value.pVal record {
+  ty = Declared'.row Rect.the-type;
+  one = Path'.refl;
+  val = Laws'9.val Rect.the-type Laws'5.the-laws;
+  tells = Laws'9.tells Rect.the-type Laws'5.the-laws;
+  still = Laws'9.still Rect.the-type
+      Laws'5.the-copy Exit.yes;
+  row = Rows'.whole (Declared'.row Rect.the-type);
+  rd = λ x. x;
+  mk = λ x. x;
+} λ M 𝓤 H A W. record {
+  copies = Laws'9.copy Rect.the-type Laws'5.the-copy 𝓤 H A W;
+  lawful = Laws'9.lawful Rect.the-type Laws'5.the-laws 𝓤 H A W;
+  makes = Laws'9.makes Rect.the-type Laws'5.the-plain 𝓤 H A;
+  in-mem =
+      Local.mem-whole 𝓤 H A W (Declared'.row Rect.the-type);
+  of-mem = Local.whole-mem 𝓤 H A W (Declared'.row Rect.the-type);
+}) (List._∷_ (Num.pNum Syntax.w64) List.[])
 
 abbrev pub r·5 : Kinds.RK 0
-r·5 = Value.rVal record
-    { ty = Declared'.row Part.the-type; one = Path'.refl; val = Laws'9.val Part.the-type Laws'4.the-laws; tells = Laws'9.tells Part.the-type Laws'4.the-laws; still = Laws'9.still Part.the-type
-    Laws'4.the-copy Exit.yes; row = Rows'.whole (Declared'.row Part.the-type); rd = λ x. x; mk = λ x. x; } λ M 𝓤 H A W. record
-    { copies = Laws'9.copy Part.the-type Laws'4.the-copy 𝓤 H A W; lawful = Laws'9.lawful Part.the-type Laws'4.the-laws 𝓤 H A W; makes = Laws'9.makes Part.the-type Laws'4.the-plain 𝓤 H A; in-mem =
-    Local.mem-whole 𝓤 H A W (Declared'.row Part.the-type); of-mem = Local.whole-mem 𝓤 H A W (Declared'.row Part.the-type); }
+r·5 = Value.rVal record {
+  ty = Declared'.row Part.the-type;
+  one = Path'.refl;
+  val = Laws'9.val Part.the-type Laws'4.the-laws;
+  tells = Laws'9.tells Part.the-type Laws'4.the-laws;
+  still = Laws'9.still Part.the-type
+      Laws'4.the-copy Exit.yes;
+  row = Rows'.whole (Declared'.row Part.the-type);
+  rd = λ x. x;
+  mk = λ x. x;
+} λ M 𝓤 H A W. record {
+  copies = Laws'9.copy Part.the-type Laws'4.the-copy 𝓤 H A W;
+  lawful = Laws'9.lawful Part.the-type Laws'4.the-laws 𝓤 H A W;
+  makes = Laws'9.makes Part.the-type Laws'4.the-plain 𝓤 H A;
+  in-mem =
+      Local.mem-whole 𝓤 H A W (Declared'.row Part.the-type);
+  of-mem = Local.whole-mem 𝓤 H A W (Declared'.row Part.the-type);
+}
 
 abbrev pub ps·6 : List.List (Kinds.PK 0)
 ps·6 = List.[]
 
 abbrev pub r·6 : Kinds.RK 0
-r·6 = Value.rVal record
-    { ty = Declared'.row Entries.the-type; one = Path'.refl; val = Laws'9.val Entries.the-type Laws'3.the-laws; tells = Laws'9.tells Entries.the-type Laws'3.the-laws; still = Laws'9.still Entries.the-type
-    Laws'3.the-copy Exit.yes; row = Rows'.whole (Declared'.row Entries.the-type); rd = λ x. x; mk = λ x. x; } λ M 𝓤 H A W. record
-    { copies = Laws'9.copy Entries.the-type Laws'3.the-copy 𝓤 H A W; lawful = Laws'9.lawful Entries.the-type Laws'3.the-laws 𝓤 H A W; makes = Laws'9.makes Entries.the-type Laws'3.the-plain 𝓤 H A; in-mem =
-    Local.mem-whole 𝓤 H A W (Declared'.row Entries.the-type); of-mem = Local.whole-mem 𝓤 H A W (Declared'.row Entries.the-type); }
+r·6 = Value.rVal record {
+  ty = Declared'.row Entries.the-type;
+  one = Path'.refl;
+  val = Laws'9.val Entries.the-type Laws'3.the-laws;
+  tells = Laws'9.tells Entries.the-type Laws'3.the-laws;
+  still = Laws'9.still Entries.the-type
+      Laws'3.the-copy Exit.yes;
+  row = Rows'.whole (Declared'.row Entries.the-type);
+  rd = λ x. x;
+  mk = λ x. x;
+} λ M 𝓤 H A W. record {
+  copies = Laws'9.copy Entries.the-type Laws'3.the-copy 𝓤 H A W;
+  lawful = Laws'9.lawful Entries.the-type Laws'3.the-laws 𝓤 H A W;
+  makes = Laws'9.makes Entries.the-type Laws'3.the-plain 𝓤 H A;
+  in-mem =
+      Local.mem-whole 𝓤 H A W (Declared'.row Entries.the-type);
+  of-mem = Local.whole-mem 𝓤 H A W (Declared'.row Entries.the-type);
+}
 
 abbrev pub ps·7 : List.List (Kinds.PK 6)
 ps·7 = List._∷_ (ShrSlice.pShrS (Referent.rtF (Referent.fInt Syntax.w8)) 0 tt) (List._∷_ (ShrSlice.pShrS (Referent.rtF (Referent.fInt Syntax.w8)) 1 tt) (List._∷_ (MutSlice.pMutS (Referent.rtF
-    (Referent.fInt Syntax.w16)) 2 tt) (List._∷_ (MutSlice.pMutS (Element.type) 3 tt) (List._∷_ (MutSlice.pMutS (Referent.rtF (Referent.fInt Syntax.w16)) 4 tt) (List._∷_ (Value.pVal record
-    { ty = Declared'.row Form.the-type; one = Path'.refl; val = Laws'9.val Form.the-type Laws'.the-laws; tells = Laws'9.tells Form.the-type Laws'.the-laws; still = Laws'9.still Form.the-type
-    Laws'.the-copy Exit.yes; row = Rows'.whole (Declared'.row Form.the-type); rd = λ x. x; mk = λ x. x; } λ M 𝓤 H A W. record
-    { copies = Laws'9.copy Form.the-type Laws'.the-copy 𝓤 H A W; lawful = Laws'9.lawful Form.the-type Laws'.the-laws 𝓤 H A W; makes = Laws'9.makes Form.the-type Laws'.the-plain 𝓤 H A; in-mem =
-    Local.mem-whole 𝓤 H A W (Declared'.row Form.the-type); of-mem = Local.whole-mem 𝓤 H A W (Declared'.row Form.the-type); }) (List._∷_ (ShrRef.pShr (Array'.Array (Referent.rtF (Referent.fInt Syntax.w16))
-    768) 5 tt) (List._∷_ (Array.pArr (Array.eInt Syntax.w8) (Array.eInt-laws Syntax.w8) 36) (List._∷_ (Value.pVal record
-    { ty = Declared'.row Part.the-type; one = Path'.refl; val = Laws'9.val Part.the-type Laws'4.the-laws; tells = Laws'9.tells Part.the-type Laws'4.the-laws; still = Laws'9.still Part.the-type
-    Laws'4.the-copy Exit.yes; row = Rows'.whole (Declared'.row Part.the-type); rd = λ x. x; mk = λ x. x; } λ M 𝓤 H A W. record
-    { copies = Laws'9.copy Part.the-type Laws'4.the-copy 𝓤 H A W; lawful = Laws'9.lawful Part.the-type Laws'4.the-laws 𝓤 H A W; makes = Laws'9.makes Part.the-type Laws'4.the-plain 𝓤 H A; in-mem =
-    Local.mem-whole 𝓤 H A W (Declared'.row Part.the-type); of-mem = Local.whole-mem 𝓤 H A W (Declared'.row Part.the-type); }) (List._∷_ (Num.pNum Syntax.w64) (List._∷_ Bool.pBool (List._∷_ (Value.pVal
-    record
-    { ty = Declared'.row Entries.the-type; one = Path'.refl; val = Laws'9.val Entries.the-type Laws'3.the-laws; tells = Laws'9.tells Entries.the-type Laws'3.the-laws; still = Laws'9.still Entries.the-type
-    Laws'3.the-copy Exit.yes; row = Rows'.whole (Declared'.row Entries.the-type); rd = λ x. x; mk = λ x. x; } λ M 𝓤 H A W. record
-    { copies = Laws'9.copy Entries.the-type Laws'3.the-copy 𝓤 H A W; lawful = Laws'9.lawful Entries.the-type Laws'3.the-laws 𝓤 H A W; makes = Laws'9.makes Entries.the-type Laws'3.the-plain 𝓤 H A; in-mem =
-    Local.mem-whole 𝓤 H A W (Declared'.row Entries.the-type); of-mem = Local.whole-mem 𝓤 H A W (Declared'.row Entries.the-type); }) List.[])))))))))))
+    (Referent.fInt Syntax.w16)) 2 tt) (List._∷_ (MutSlice.pMutS (Element.type) 3 tt) (List._∷_ (MutSlice.pMutS (Referent.rtF (Referent.fInt Syntax.w16)) 4 tt) (List._∷_ (Value.pVal record {
+      ty = Declared'.row Form.the-type;
+      one = Path'.refl;
+      val = Laws'9.val Form.the-type Laws'.the-laws;
+      tells = Laws'9.tells Form.the-type Laws'.the-laws;
+      still = Laws'9.still Form.the-type
+          Laws'.the-copy Exit.yes;
+      row = Rows'.whole (Declared'.row Form.the-type);
+      rd = λ x. x;
+      mk = λ x. x;
+    } λ M 𝓤 H A W. record {
+      copies = Laws'9.copy Form.the-type Laws'.the-copy 𝓤 H A W;
+      lawful = Laws'9.lawful Form.the-type Laws'.the-laws 𝓤 H A W;
+      makes = Laws'9.makes Form.the-type Laws'.the-plain 𝓤 H A;
+      in-mem =
+          Local.mem-whole 𝓤 H A W (Declared'.row Form.the-type);
+      of-mem = Local.whole-mem 𝓤 H A W (Declared'.row Form.the-type);
+    }) (List._∷_ (ShrRef.pShr (Array'.Array (Referent.rtF (Referent.fInt Syntax.w16))
+    768) 5 tt) (List._∷_ (Array.pArr (Array.eInt Syntax.w8) (Array.eInt-laws Syntax.w8) 36) (List._∷_ (Value.pVal record {
+      ty = Declared'.row Part.the-type;
+      one = Path'.refl;
+      val = Laws'9.val Part.the-type Laws'4.the-laws;
+      tells = Laws'9.tells Part.the-type Laws'4.the-laws;
+      still = Laws'9.still Part.the-type
+          Laws'4.the-copy Exit.yes;
+      row = Rows'.whole (Declared'.row Part.the-type);
+      rd = λ x. x;
+      mk = λ x. x;
+    } λ M 𝓤 H A W. record {
+      copies = Laws'9.copy Part.the-type Laws'4.the-copy 𝓤 H A W;
+      lawful = Laws'9.lawful Part.the-type Laws'4.the-laws 𝓤 H A W;
+      makes = Laws'9.makes Part.the-type Laws'4.the-plain 𝓤 H A;
+      in-mem =
+          Local.mem-whole 𝓤 H A W (Declared'.row Part.the-type);
+      of-mem = Local.whole-mem 𝓤 H A W (Declared'.row Part.the-type);
+    }) (List._∷_ (Num.pNum Syntax.w64) (List._∷_ Bool.pBool (List._∷_ (Value.pVal
+    record {
+      ty = Declared'.row Entries.the-type;
+      one = Path'.refl;
+      val = Laws'9.val Entries.the-type Laws'3.the-laws;
+      tells = Laws'9.tells Entries.the-type Laws'3.the-laws;
+      still = Laws'9.still Entries.the-type
+          Laws'3.the-copy Exit.yes;
+      row = Rows'.whole (Declared'.row Entries.the-type);
+      rd = λ x. x;
+      mk = λ x. x;
+    } λ M 𝓤 H A W. record {
+      copies = Laws'9.copy Entries.the-type Laws'3.the-copy 𝓤 H A W;
+      lawful = Laws'9.lawful Entries.the-type Laws'3.the-laws 𝓤 H A W;
+      makes = Laws'9.makes Entries.the-type Laws'3.the-plain 𝓤 H A;
+      in-mem =
+          Local.mem-whole 𝓤 H A W (Declared'.row Entries.the-type);
+      of-mem = Local.whole-mem 𝓤 H A W (Declared'.row Entries.the-type);
+    }) List.[])))))))))))
 
 abbrev pub r·7 : Kinds.RK 6
-r·7 = Value.rVal record
-    { ty = Declared.row Walked.the-type; one = Path'.refl; val = Laws'8.val Walked.the-type Laws''.the-laws; tells = Laws'8.tells Walked.the-type Laws''.the-laws; still = Laws'8.still Walked.the-type
-    Laws''.the-copy Exit.yes; row = Rows'.whole (Declared.row Walked.the-type); rd = λ x. x; mk = λ x. x; } λ M 𝓤 H A W. record
-    { copies = Laws'8.copy Walked.the-type Laws''.the-copy 𝓤 H A W; lawful = Laws'8.lawful Walked.the-type Laws''.the-laws 𝓤 H A W tt; makes = Laws'8.makes Walked.the-type Laws''.the-plain 𝓤 H A; in-mem =
-    Local.mem-whole 𝓤 H A W (Declared.row Walked.the-type); of-mem = Local.whole-mem 𝓤 H A W (Declared.row Walked.the-type); }
+r·7 = Value.rVal record {
+  ty = Declared.row Walked.the-type;
+  one = Path'.refl;
+  val = Laws'8.val Walked.the-type Laws''.the-laws;
+  tells = Laws'8.tells Walked.the-type Laws''.the-laws;
+  still = Laws'8.still Walked.the-type
+      Laws''.the-copy Exit.yes;
+  row = Rows'.whole (Declared.row Walked.the-type);
+  rd = λ x. x;
+  mk = λ x. x;
+} λ M 𝓤 H A W. record {
+  copies = Laws'8.copy Walked.the-type Laws''.the-copy 𝓤 H A W;
+  lawful = Laws'8.lawful Walked.the-type Laws''.the-laws 𝓤 H A W tt;
+  makes = Laws'8.makes Walked.the-type Laws''.the-plain 𝓤 H A;
+  in-mem =
+      Local.mem-whole 𝓤 H A W (Declared.row Walked.the-type);
+  of-mem = Local.whole-mem 𝓤 H A W (Declared.row Walked.the-type);
+}
 
 abbrev pub ps·8 : List.List (Kinds.PK 0)
-ps·8 = List._∷_ (Value.pVal record
-    { ty = Declared.row Decoded.the-type; one = Path'.refl; val = Laws'8.val Decoded.the-type Laws.the-laws; tells = Laws'8.tells Decoded.the-type Laws.the-laws; still = Laws'8.still Decoded.the-type
-    Laws.the-copy Exit.yes; row = Rows'.whole (Declared.row Decoded.the-type); rd = λ x. x; mk = λ x. x; } λ M 𝓤 H A W. record
-    { copies = Laws'8.copy Decoded.the-type Laws.the-copy 𝓤 H A W; lawful = Laws'8.lawful Decoded.the-type Laws.the-laws 𝓤 H A W tt; makes = Laws'8.makes Decoded.the-type Laws.the-plain 𝓤 H A; in-mem =
-    Local.mem-whole 𝓤 H A W (Declared.row Decoded.the-type); of-mem = Local.whole-mem 𝓤 H A W (Declared.row Decoded.the-type); }) (List._∷_ (Num.pNum Syntax.w64) (List._∷_ (Value.pVal record
-    { ty = Declared.row Walked.the-type; one = Path'.refl; val = Laws'8.val Walked.the-type Laws''.the-laws; tells = Laws'8.tells Walked.the-type Laws''.the-laws; still = Laws'8.still Walked.the-type
-    Laws''.the-copy Exit.yes; row = Rows'.whole (Declared.row Walked.the-type); rd = λ x. x; mk = λ x. x; } λ M 𝓤 H A W. record
-    { copies = Laws'8.copy Walked.the-type Laws''.the-copy 𝓤 H A W; lawful = Laws'8.lawful Walked.the-type Laws''.the-laws 𝓤 H A W tt; makes = Laws'8.makes Walked.the-type Laws''.the-plain 𝓤 H A; in-mem =
-    Local.mem-whole 𝓤 H A W (Declared.row Walked.the-type); of-mem = Local.whole-mem 𝓤 H A W (Declared.row Walked.the-type); }) List.[]))
+ps·8 = List._∷_ (Value.pVal record {
+  ty = Declared.row Decoded.the-type;
+  one = Path'.refl;
+  val = Laws'8.val Decoded.the-type Laws.the-laws;
+  tells = Laws'8.tells Decoded.the-type Laws.the-laws;
+  still = Laws'8.still Decoded.the-type
+      Laws.the-copy Exit.yes;
+  row = Rows'.whole (Declared.row Decoded.the-type);
+  rd = λ x. x;
+  mk = λ x. x;
+} λ M 𝓤 H A W. record {
+  copies = Laws'8.copy Decoded.the-type Laws.the-copy 𝓤 H A W;
+  lawful = Laws'8.lawful Decoded.the-type Laws.the-laws 𝓤 H A W tt;
+  makes = Laws'8.makes Decoded.the-type Laws.the-plain 𝓤 H A;
+  in-mem =
+      Local.mem-whole 𝓤 H A W (Declared.row Decoded.the-type);
+  of-mem = Local.whole-mem 𝓤 H A W (Declared.row Decoded.the-type);
+}) (List._∷_ (Num.pNum Syntax.w64) (List._∷_ (Value.pVal record {
+  ty = Declared.row Walked.the-type;
+  one = Path'.refl;
+  val = Laws'8.val Walked.the-type Laws''.the-laws;
+  tells = Laws'8.tells Walked.the-type Laws''.the-laws;
+  still = Laws'8.still Walked.the-type
+      Laws''.the-copy Exit.yes;
+  row = Rows'.whole (Declared.row Walked.the-type);
+  rd = λ x. x;
+  mk = λ x. x;
+} λ M 𝓤 H A W. record {
+  copies = Laws'8.copy Walked.the-type Laws''.the-copy 𝓤 H A W;
+  lawful = Laws'8.lawful Walked.the-type Laws''.the-laws 𝓤 H A W tt;
+  makes = Laws'8.makes Walked.the-type Laws''.the-plain 𝓤 H A;
+  in-mem =
+      Local.mem-whole 𝓤 H A W (Declared.row Walked.the-type);
+  of-mem = Local.whole-mem 𝓤 H A W (Declared.row Walked.the-type);
+}) List.[]))
 
 abbrev pub r·8 : Kinds.RK 0
-r·8 = Value.rVal record
-    { ty = Declared.row Decoded.the-type; one = Path'.refl; val = Laws'8.val Decoded.the-type Laws.the-laws; tells = Laws'8.tells Decoded.the-type Laws.the-laws; still = Laws'8.still Decoded.the-type
-    Laws.the-copy Exit.yes; row = Rows'.whole (Declared.row Decoded.the-type); rd = λ x. x; mk = λ x. x; } λ M 𝓤 H A W. record
-    { copies = Laws'8.copy Decoded.the-type Laws.the-copy 𝓤 H A W; lawful = Laws'8.lawful Decoded.the-type Laws.the-laws 𝓤 H A W tt; makes = Laws'8.makes Decoded.the-type Laws.the-plain 𝓤 H A; in-mem =
-    Local.mem-whole 𝓤 H A W (Declared.row Decoded.the-type); of-mem = Local.whole-mem 𝓤 H A W (Declared.row Decoded.the-type); }
+r·8 = Value.rVal record {
+  ty = Declared.row Decoded.the-type;
+  one = Path'.refl;
+  val = Laws'8.val Decoded.the-type Laws.the-laws;
+  tells = Laws'8.tells Decoded.the-type Laws.the-laws;
+  still = Laws'8.still Decoded.the-type
+      Laws.the-copy Exit.yes;
+  row = Rows'.whole (Declared.row Decoded.the-type);
+  rd = λ x. x;
+  mk = λ x. x;
+} λ M 𝓤 H A W. record {
+  copies = Laws'8.copy Decoded.the-type Laws.the-copy 𝓤 H A W;
+  lawful = Laws'8.lawful Decoded.the-type Laws.the-laws 𝓤 H A W tt;
+  makes = Laws'8.makes Decoded.the-type Laws.the-plain 𝓤 H A;
+  in-mem =
+      Local.mem-whole 𝓤 H A W (Declared.row Decoded.the-type);
+  of-mem = Local.whole-mem 𝓤 H A W (Declared.row Decoded.the-type);
+}
 
 abbrev pub hs : List.List Syntax.Home
 hs = List._∷_ Syntax.valueLocal (List._∷_ Syntax.valueLocal (List._∷_ Syntax.valueLocal (List._∷_ Syntax.valueLocal (List._∷_ Syntax.valueLocal (List._∷_ Syntax.valueLocal (List._∷_ Syntax.valueLocal
@@ -470,16 +689,18 @@ Claims = Kinds.In 0 ps·0 × Kinds.Out 0 ps·0 r·0 × Kinds.In 0 ps·1 × Kinds
     1 ps·4 r·4 × Kinds.In 0 ps·5 × Kinds.Out 0 ps·5 r·5 × Kinds.In 0 ps·6 × Kinds.Out 0 ps·6 r·6 × Kinds.In 6 ps·7 × Kinds.Out 6 ps·7 r·7 × Kinds.In 0 ps·8 × Kinds.Out 0 ps·8 r·8
 
 abbrev pub e0 : Row.Entry
-e0 =
-    (0, Rows'.any-gone (Syntax.tyEnum (List._∷_ 98 (List._∷_ 108 (List._∷_ 111 (List._∷_ 99 (List._∷_ 107 (List._∷_ 58 (List._∷_ 58 (List._∷_ 68 (List._∷_ 101 (List._∷_ 99 (List._∷_ 111 (List._∷_ 100
-    (List._∷_ 101 (List._∷_ 100 List.[])))))))))))))) (Syntax.ttcons Syntax.tnil (Syntax.ttcons (Syntax.tcons (Syntax.tyEnum (List._∷_ 115 (List._∷_ 116 (List._∷_ 114 (List._∷_ 101 (List._∷_ 97 (List._∷_
-    109 (List._∷_ 58 (List._∷_ 58 (List._∷_ 82 (List._∷_ 101 (List._∷_ 102 (List._∷_ 117 (List._∷_ 115 (List._∷_ 97 (List._∷_ 108 List.[]))))))))))))))) (Syntax.ttcons Syntax.tnil (Syntax.ttcons
-    Syntax.tnil (Syntax.ttcons Syntax.tnil (Syntax.ttcons (Syntax.tcons (Syntax.tyInt Syntax.w64) Syntax.tnil) (Syntax.ttcons Syntax.tnil (Syntax.ttcons Syntax.tnil (Syntax.ttcons Syntax.tnil
-    (Syntax.ttcons Syntax.tnil (Syntax.ttcons Syntax.tnil (Syntax.ttcons Syntax.tnil (Syntax.ttcons (Syntax.tcons (Syntax.tyInt Syntax.w64) Syntax.tnil) (Syntax.ttcons (Syntax.tcons (Syntax.tyInt
-    Syntax.w64) Syntax.tnil) (Syntax.ttcons Syntax.tnil (Syntax.ttcons (Syntax.tcons (Syntax.tyInt Syntax.w64) (Syntax.tcons (Syntax.tyInt Syntax.w64) Syntax.tnil)) (Syntax.ttcons (Syntax.tcons
-    (Syntax.tyInt Syntax.w64) Syntax.tnil) (Syntax.ttcons Syntax.tnil (Syntax.ttcons Syntax.tnil (Syntax.ttcons (Syntax.tcons (Syntax.tyInt Syntax.w64) Syntax.tnil) (Syntax.ttcons (Syntax.tcons
-    (Syntax.tyInt Syntax.w64) Syntax.tnil) (Syntax.ttcons (Syntax.tcons (Syntax.tyInt Syntax.w64) Syntax.tnil) (Syntax.ttcons (Syntax.tcons (Syntax.tyInt Syntax.w64) (Syntax.tcons (Syntax.tyInt
-    Syntax.w64) Syntax.tnil)) (Syntax.ttcons Syntax.tnil Syntax.ttnil))))))))))))))))))))))) Syntax.tnil) Syntax.ttnil))))
+e0 = (
+  0,
+  Rows'.any-gone (Syntax.tyEnum (List._∷_ 98 (List._∷_ 108 (List._∷_ 111 (List._∷_ 99 (List._∷_ 107 (List._∷_ 58 (List._∷_ 58 (List._∷_ 68 (List._∷_ 101 (List._∷_ 99 (List._∷_ 111 (List._∷_ 100
+      (List._∷_ 101 (List._∷_ 100 List.[])))))))))))))) (Syntax.ttcons Syntax.tnil (Syntax.ttcons (Syntax.tcons (Syntax.tyEnum (List._∷_ 115 (List._∷_ 116 (List._∷_ 114 (List._∷_ 101 (List._∷_ 97 (List._∷_
+      109 (List._∷_ 58 (List._∷_ 58 (List._∷_ 82 (List._∷_ 101 (List._∷_ 102 (List._∷_ 117 (List._∷_ 115 (List._∷_ 97 (List._∷_ 108 List.[]))))))))))))))) (Syntax.ttcons Syntax.tnil (Syntax.ttcons
+      Syntax.tnil (Syntax.ttcons Syntax.tnil (Syntax.ttcons (Syntax.tcons (Syntax.tyInt Syntax.w64) Syntax.tnil) (Syntax.ttcons Syntax.tnil (Syntax.ttcons Syntax.tnil (Syntax.ttcons Syntax.tnil
+      (Syntax.ttcons Syntax.tnil (Syntax.ttcons Syntax.tnil (Syntax.ttcons Syntax.tnil (Syntax.ttcons (Syntax.tcons (Syntax.tyInt Syntax.w64) Syntax.tnil) (Syntax.ttcons (Syntax.tcons (Syntax.tyInt
+      Syntax.w64) Syntax.tnil) (Syntax.ttcons Syntax.tnil (Syntax.ttcons (Syntax.tcons (Syntax.tyInt Syntax.w64) (Syntax.tcons (Syntax.tyInt Syntax.w64) Syntax.tnil)) (Syntax.ttcons (Syntax.tcons
+      (Syntax.tyInt Syntax.w64) Syntax.tnil) (Syntax.ttcons Syntax.tnil (Syntax.ttcons Syntax.tnil (Syntax.ttcons (Syntax.tcons (Syntax.tyInt Syntax.w64) Syntax.tnil) (Syntax.ttcons (Syntax.tcons
+      (Syntax.tyInt Syntax.w64) Syntax.tnil) (Syntax.ttcons (Syntax.tcons (Syntax.tyInt Syntax.w64) Syntax.tnil) (Syntax.ttcons (Syntax.tcons (Syntax.tyInt Syntax.w64) (Syntax.tcons (Syntax.tyInt
+      Syntax.w64) Syntax.tnil)) (Syntax.ttcons Syntax.tnil Syntax.ttnil))))))))))))))))))))))) Syntax.tnil) Syntax.ttnil))),
+)
 
 abbrev pub e1 : Row.Entry
 e1 = (0, Rows'.whole (Declared.row Decoded.the-type))
@@ -509,16 +730,18 @@ abbrev pub e9 : Row.Entry
 e9 = (12, Rows.arrF (Referent.rtF (Referent.fInt Syntax.w16)) 768 0)
 
 abbrev pub e10 : Row.Entry
-e10 =
-    (13, Rows'.any-gone (Syntax.tyEnum (List._∷_ 98 (List._∷_ 108 (List._∷_ 111 (List._∷_ 99 (List._∷_ 107 (List._∷_ 58 (List._∷_ 58 (List._∷_ 68 (List._∷_ 101 (List._∷_ 99 (List._∷_ 111 (List._∷_ 100
-    (List._∷_ 101 (List._∷_ 100 List.[])))))))))))))) (Syntax.ttcons Syntax.tnil (Syntax.ttcons (Syntax.tcons (Syntax.tyEnum (List._∷_ 115 (List._∷_ 116 (List._∷_ 114 (List._∷_ 101 (List._∷_ 97 (List._∷_
-    109 (List._∷_ 58 (List._∷_ 58 (List._∷_ 82 (List._∷_ 101 (List._∷_ 102 (List._∷_ 117 (List._∷_ 115 (List._∷_ 97 (List._∷_ 108 List.[]))))))))))))))) (Syntax.ttcons Syntax.tnil (Syntax.ttcons
-    Syntax.tnil (Syntax.ttcons Syntax.tnil (Syntax.ttcons (Syntax.tcons (Syntax.tyInt Syntax.w64) Syntax.tnil) (Syntax.ttcons Syntax.tnil (Syntax.ttcons Syntax.tnil (Syntax.ttcons Syntax.tnil
-    (Syntax.ttcons Syntax.tnil (Syntax.ttcons Syntax.tnil (Syntax.ttcons Syntax.tnil (Syntax.ttcons (Syntax.tcons (Syntax.tyInt Syntax.w64) Syntax.tnil) (Syntax.ttcons (Syntax.tcons (Syntax.tyInt
-    Syntax.w64) Syntax.tnil) (Syntax.ttcons Syntax.tnil (Syntax.ttcons (Syntax.tcons (Syntax.tyInt Syntax.w64) (Syntax.tcons (Syntax.tyInt Syntax.w64) Syntax.tnil)) (Syntax.ttcons (Syntax.tcons
-    (Syntax.tyInt Syntax.w64) Syntax.tnil) (Syntax.ttcons Syntax.tnil (Syntax.ttcons Syntax.tnil (Syntax.ttcons (Syntax.tcons (Syntax.tyInt Syntax.w64) Syntax.tnil) (Syntax.ttcons (Syntax.tcons
-    (Syntax.tyInt Syntax.w64) Syntax.tnil) (Syntax.ttcons (Syntax.tcons (Syntax.tyInt Syntax.w64) Syntax.tnil) (Syntax.ttcons (Syntax.tcons (Syntax.tyInt Syntax.w64) (Syntax.tcons (Syntax.tyInt
-    Syntax.w64) Syntax.tnil)) (Syntax.ttcons Syntax.tnil Syntax.ttnil))))))))))))))))))))))) Syntax.tnil) Syntax.ttnil))))
+e10 = (
+  13,
+  Rows'.any-gone (Syntax.tyEnum (List._∷_ 98 (List._∷_ 108 (List._∷_ 111 (List._∷_ 99 (List._∷_ 107 (List._∷_ 58 (List._∷_ 58 (List._∷_ 68 (List._∷_ 101 (List._∷_ 99 (List._∷_ 111 (List._∷_ 100
+      (List._∷_ 101 (List._∷_ 100 List.[])))))))))))))) (Syntax.ttcons Syntax.tnil (Syntax.ttcons (Syntax.tcons (Syntax.tyEnum (List._∷_ 115 (List._∷_ 116 (List._∷_ 114 (List._∷_ 101 (List._∷_ 97 (List._∷_
+      109 (List._∷_ 58 (List._∷_ 58 (List._∷_ 82 (List._∷_ 101 (List._∷_ 102 (List._∷_ 117 (List._∷_ 115 (List._∷_ 97 (List._∷_ 108 List.[]))))))))))))))) (Syntax.ttcons Syntax.tnil (Syntax.ttcons
+      Syntax.tnil (Syntax.ttcons Syntax.tnil (Syntax.ttcons (Syntax.tcons (Syntax.tyInt Syntax.w64) Syntax.tnil) (Syntax.ttcons Syntax.tnil (Syntax.ttcons Syntax.tnil (Syntax.ttcons Syntax.tnil
+      (Syntax.ttcons Syntax.tnil (Syntax.ttcons Syntax.tnil (Syntax.ttcons Syntax.tnil (Syntax.ttcons (Syntax.tcons (Syntax.tyInt Syntax.w64) Syntax.tnil) (Syntax.ttcons (Syntax.tcons (Syntax.tyInt
+      Syntax.w64) Syntax.tnil) (Syntax.ttcons Syntax.tnil (Syntax.ttcons (Syntax.tcons (Syntax.tyInt Syntax.w64) (Syntax.tcons (Syntax.tyInt Syntax.w64) Syntax.tnil)) (Syntax.ttcons (Syntax.tcons
+      (Syntax.tyInt Syntax.w64) Syntax.tnil) (Syntax.ttcons Syntax.tnil (Syntax.ttcons Syntax.tnil (Syntax.ttcons (Syntax.tcons (Syntax.tyInt Syntax.w64) Syntax.tnil) (Syntax.ttcons (Syntax.tcons
+      (Syntax.tyInt Syntax.w64) Syntax.tnil) (Syntax.ttcons (Syntax.tcons (Syntax.tyInt Syntax.w64) Syntax.tnil) (Syntax.ttcons (Syntax.tcons (Syntax.tyInt Syntax.w64) (Syntax.tcons (Syntax.tyInt
+      Syntax.w64) Syntax.tnil)) (Syntax.ttcons Syntax.tnil Syntax.ttnil))))))))))))))))))))))) Syntax.tnil) Syntax.ttnil))),
+)
 
 abbrev pub e11 : Row.Entry
 e11 = (13, Rows'.whole (Declared.row Decoded.the-type))
@@ -554,10 +777,12 @@ abbrev pub e21 : Row.Entry
 e21 = (18, Rows'.whole (Declared'.row Part.the-type))
 
 abbrev pub e22 : Row.Entry
-e22 =
-    (19, Rows'.any-gone (Syntax.tyEnum (List._∷_ 98 (List._∷_ 108 (List._∷_ 111 (List._∷_ 99 (List._∷_ 107 (List._∷_ 58 (List._∷_ 58 (List._∷_ 87 (List._∷_ 97 (List._∷_ 108 (List._∷_ 107 (List._∷_ 101
-    (List._∷_ 100 List.[]))))))))))))) (Syntax.ttcons (Syntax.tcons y5 (Syntax.tcons y10 Syntax.tnil)) (Syntax.ttcons (Syntax.tcons (Syntax.tyInt Syntax.w64) (Syntax.tcons y5 Syntax.tnil))
-    Syntax.ttnil))))
+e22 = (
+  19,
+  Rows'.any-gone (Syntax.tyEnum (List._∷_ 98 (List._∷_ 108 (List._∷_ 111 (List._∷_ 99 (List._∷_ 107 (List._∷_ 58 (List._∷_ 58 (List._∷_ 87 (List._∷_ 97 (List._∷_ 108 (List._∷_ 107 (List._∷_ 101
+      (List._∷_ 100 List.[]))))))))))))) (Syntax.ttcons (Syntax.tcons y5 (Syntax.tcons y10 Syntax.tnil)) (Syntax.ttcons (Syntax.tcons (Syntax.tyInt Syntax.w64) (Syntax.tcons y5 Syntax.tnil))
+      Syntax.ttnil))),
+)
 
 abbrev pub e23 : Row.Entry
 e23 = (19, Rows'.whole (Declared.row Walked.the-type))
@@ -1135,11 +1360,11 @@ module _ (claims· : Claims) where
   s20 = Call.callB ps·2 r·2 (claims· .4) (claims· .5) T17 (record { pos = 2; st = List.[]; d = 0; at = λ x. x }, tt) 15 List.[] y9
 
   abbrev s21 : Typed.Both T24 T25
-  s21 = Call.callB ps·3 r·3 (claims· .6) (claims· .7) T24 (record { pos = 1; ty = Syntax.tyRef (Syntax.named 0) Syntax.imm (Syntax.tyInt Syntax.w8); ref = λ x. x; }, (Num.vAt 14 λ x. x, tt)) 16
+  s21 = Call.callB ps·3 r·3 (claims· .6) (claims· .7) T24 (record { pos = 1; ty = Syntax.tyRef (Syntax.named 0) Syntax.imm (Syntax.tyInt Syntax.w8); ref = λ x. x }, (Num.vAt 14 λ x. x, tt)) 16
       (List._∷_ 0 List.[]) y6
 
   abbrev s22 : Typed.Both T25 T26
-  s22 = Call.callB ps·4 r·4 (claims· .8) (claims· .9) T25 (record { pos = 1; ty = Syntax.tyRef (Syntax.named 0) Syntax.imm (Syntax.tyInt Syntax.w8); ref = λ x. x; }, (Num.vAt 14 λ x. x, tt)) 17
+  s22 = Call.callB ps·4 r·4 (claims· .8) (claims· .9) T25 (record { pos = 1; ty = Syntax.tyRef (Syntax.named 0) Syntax.imm (Syntax.tyInt Syntax.w8); ref = λ x. x }, (Num.vAt 14 λ x. x, tt)) 17
       (List._∷_ 0 List.[]) y6
 
   abbrev s23 : Typed.Both T26 T27
@@ -1175,16 +1400,31 @@ module _ (claims· : Claims) where
   s35 = Call.callB ps·6 r·6 (claims· .12) (claims· .13) T38 tt 29 List.[] y12
 
   abbrev s36 : Typed.Both T39 T40
-  s36 = Call.callB ps·7 r·7 (claims· .14) (claims· .15) T39
-      (record { pos = 16; ty = Syntax.tyRef Syntax.erased Syntax.imm (Syntax.tyInt Syntax.w8); ref = λ x. x; },
-      (record { pos = 17; ty = Syntax.tyRef Syntax.erased Syntax.imm (Syntax.tyInt Syntax.w8); ref = λ x. x; },
-      (record { pos = 23; ty = Syntax.tyRef Syntax.erased Syntax.mut (Syntax.tyInt Syntax.w16); ref = λ x. x; },
-      (record { pos = 25; ty = Syntax.tyRef Syntax.erased Syntax.mut Element.behind; ref = λ x. x; },
-      (record { pos = 27; ty = Syntax.tyRef Syntax.erased Syntax.mut (Syntax.tyInt Syntax.w16); ref = λ x. x; },
-      (record { pos = 15; st = List.[]; d = 0; at = λ x. x },
-      (record { pos = 28; ty = Syntax.tyRef Syntax.erased Syntax.imm (Syntax.tyArray (Syntax.tyInt Syntax.w16) 768); ref = λ x. x; },
-      (record { pos = 4; st = List.[]; d = 0; at = λ x. x },
-      (record { pos = 18; st = List.[]; d = 0; at = λ x. x }, (Num.vAt 10 λ x. x, (Bool.bAt 8 λ x. x, (record { pos = 29; st = List.[]; d = 0; at = λ x. x }, tt)))))))))))) 19 (List._∷_ 0 (List._∷_ 0
+  s36 = Call.callB ps·7 r·7 (claims· .14) (claims· .15) T39 (
+    record { pos = 16; ty = Syntax.tyRef Syntax.erased Syntax.imm (Syntax.tyInt Syntax.w8); ref = λ x. x },
+    (
+      record { pos = 17; ty = Syntax.tyRef Syntax.erased Syntax.imm (Syntax.tyInt Syntax.w8); ref = λ x. x },
+      (
+        record { pos = 23; ty = Syntax.tyRef Syntax.erased Syntax.mut (Syntax.tyInt Syntax.w16); ref = λ x. x },
+        (
+          record { pos = 25; ty = Syntax.tyRef Syntax.erased Syntax.mut Element.behind; ref = λ x. x },
+          (
+            record { pos = 27; ty = Syntax.tyRef Syntax.erased Syntax.mut (Syntax.tyInt Syntax.w16); ref = λ x. x },
+            (
+              record { pos = 15; st = List.[]; d = 0; at = λ x. x },
+              (
+                record { pos = 28; ty = Syntax.tyRef Syntax.erased Syntax.imm (Syntax.tyArray (Syntax.tyInt Syntax.w16) 768); ref = λ x. x },
+                (
+                  record { pos = 4; st = List.[]; d = 0; at = λ x. x },
+                  (record { pos = 18; st = List.[]; d = 0; at = λ x. x }, (Num.vAt 10 λ x. x, (Bool.bAt 8 λ x. x, (record { pos = 29; st = List.[]; d = 0; at = λ x. x }, tt)))),
+                ),
+              ),
+            ),
+          ),
+        ),
+      ),
+    ),
+  ) 19 (List._∷_ 0 (List._∷_ 0
       (List._∷_ 4 (List._∷_ 5 (List._∷_ 6 (List._∷_ 7 List.[])))))) (Syntax.tyEnum (List._∷_ 98 (List._∷_ 108 (List._∷_ 111 (List._∷_ 99 (List._∷_ 107 (List._∷_ 58 (List._∷_ 58 (List._∷_ 87 (List._∷_ 97
       (List._∷_ 108 (List._∷_ 107 (List._∷_ 101 (List._∷_ 100 List.[]))))))))))))) (Syntax.ttcons (Syntax.tcons y5 (Syntax.tcons y10 Syntax.tnil)) (Syntax.ttcons (Syntax.tcons (Syntax.tyInt Syntax.w64)
       (Syntax.tcons y5 Syntax.tnil)) Syntax.ttnil)))
@@ -1277,11 +1517,11 @@ module _ (claims· : Claims) where
   abbrev put0 : List.List (Referent.rtF (Referent.fInt Syntax.w16) .Denot) × List.List (Referent.rtF (Referent.fInt Syntax.w16) .Denot) × List.List (Element.type .Denot) × Rows'.whole (Declared.row
       Decoded.the-type) .Mod × Rows'.sc-here (Row.sInt Syntax.w64) .Mod → Typed.Mo T15 → Typed.Mo T15
   put0 = λ vs u. Row.set 14 (14, Rows'.sc-here (Row.sInt Syntax.w64)) (vs .4) (T15 .locals) (Row.set 13 (13, Rows'.whole (Declared.row Decoded.the-type)) (vs .3) (T15 .locals) (Row.set 7
-      (7, Mut.mslice (Element.type) (Syntax.tyRef (Syntax.named 3) Syntax.mut Element.behind) 3) record { ptr = Row.get 7 (T15 .locals) u .ptr; name = Row.get 7 (T15 .locals) u .name; now = vs .2; } (T15
+      (7, Mut.mslice (Element.type) (Syntax.tyRef (Syntax.named 3) Syntax.mut Element.behind) 3) record { ptr = Row.get 7 (T15 .locals) u .ptr; name = Row.get 7 (T15 .locals) u .name; now = vs .2 } (T15
       .locals) (Row.set 6 (6, Mut.mslice (Referent.rtF (Referent.fInt Syntax.w16)) (Syntax.tyRef (Syntax.named 2) Syntax.mut (Syntax.tyInt Syntax.w16)) 2) record
-      { ptr = Row.get 6 (T15 .locals) u .ptr; name = Row.get 6 (T15 .locals) u .name; now = vs .1; } (T15 .locals) (Row.set 5
+      { ptr = Row.get 6 (T15 .locals) u .ptr; name = Row.get 6 (T15 .locals) u .name; now = vs .1 } (T15 .locals) (Row.set 5
       (5, Mut.mslice (Referent.rtF (Referent.fInt Syntax.w16)) (Syntax.tyRef (Syntax.named 1) Syntax.mut (Syntax.tyInt Syntax.w16)) 1) record
-      { ptr = Row.get 5 (T15 .locals) u .ptr; name = Row.get 5 (T15 .locals) u .name; now = vs .0; } (T15 .locals) u))))
+      { ptr = Row.get 5 (T15 .locals) u .ptr; name = Row.get 5 (T15 .locals) u .name; now = vs .0 } (T15 .locals) u))))
 
   module _ (Pre· : (κs : Lifetimes.Lfts 4) → Kinds.Dens κs ps → Type 0) (Post· : (κs : Lifetimes.Lfts 4) → (a : Kinds.Dens κs ps) → Kinds.Plain 4 ps r κs) where
     module _ (M : Type 1) where
@@ -1576,354 +1816,494 @@ module _ (claims· : Claims) where
             (List._∷_ e52 (List._∷_ e54 (List._∷_ e55 (List._∷_ e4 (List._∷_ e6 (List._∷_ e8 (List._∷_ e11 (List._∷_ e13 (List._∷_ e14 List.[])))))))))))))))
 
         abbrev G0 : Row.Cx
-        G0 = record
-            { locals = List._++_ t0 t1; slots = List._∷_ (Row.lease (κs .0) (qs .0)) (List._∷_ (Row.lease (κs .1 .0) (qs .1 .0)) (List._∷_ (Row.lease (κs .1 .1 .0) (qs .1 .1 .0)) (List._∷_ (Row.lease (κs
-            .1 .1 .1 .0) (qs .1 .1 .1 .0)) (List._∷_ Row.off (List._∷_ Row.off (List._∷_ Row.off (List._∷_ Row.off List.[]))))))); }
+        G0 = record {
+          locals = List._++_ t0 t1;
+          slots = List._∷_ (Row.lease (κs .0) (qs .0)) (List._∷_ (Row.lease (κs .1 .0) (qs .1 .0)) (List._∷_ (Row.lease (κs .1 .1 .0) (qs .1 .1 .0)) (List._∷_ (Row.lease (κs
+              .1 .1 .1 .0) (qs .1 .1 .1 .0)) (List._∷_ Row.off (List._∷_ Row.off (List._∷_ Row.off (List._∷_ Row.off List.[])))))));
+        }
 
         abbrev G1 : Row.Cx
-        G1 = record
-            { locals = List._++_ t2 t1; slots = List._∷_ (Row.lease (κs .0) (qs .0)) (List._∷_ (Row.lease (κs .1 .0) (qs .1 .0)) (List._∷_ (Row.lease (κs .1 .1 .0) (qs .1 .1 .0)) (List._∷_ (Row.lease (κs
-            .1 .1 .1 .0) (qs .1 .1 .1 .0)) (List._∷_ Row.off (List._∷_ Row.off (List._∷_ Row.off (List._∷_ Row.off List.[]))))))); }
+        G1 = record {
+          locals = List._++_ t2 t1;
+          slots = List._∷_ (Row.lease (κs .0) (qs .0)) (List._∷_ (Row.lease (κs .1 .0) (qs .1 .0)) (List._∷_ (Row.lease (κs .1 .1 .0) (qs .1 .1 .0)) (List._∷_ (Row.lease (κs
+              .1 .1 .1 .0) (qs .1 .1 .1 .0)) (List._∷_ Row.off (List._∷_ Row.off (List._∷_ Row.off (List._∷_ Row.off List.[])))))));
+        }
 
         abbrev G2 : Row.Cx
-        G2 = record
-            { locals = List._++_ t0 t1; slots = List._∷_ (Row.lease (κs .0) (qs .0)) (List._∷_ (Row.lease (κs .1 .0) (qs .1 .0)) (List._∷_ (Row.lease (κs .1 .1 .0) (qs .1 .1 .0)) (List._∷_ (Row.lease (κs
-            .1 .1 .1 .0) (qs .1 .1 .1 .0)) (List._∷_ Row.off (List._∷_ Row.off (List._∷_ Row.off (List._∷_ Row.off List.[]))))))); }
+        G2 = record {
+          locals = List._++_ t0 t1;
+          slots = List._∷_ (Row.lease (κs .0) (qs .0)) (List._∷_ (Row.lease (κs .1 .0) (qs .1 .0)) (List._∷_ (Row.lease (κs .1 .1 .0) (qs .1 .1 .0)) (List._∷_ (Row.lease (κs
+              .1 .1 .1 .0) (qs .1 .1 .1 .0)) (List._∷_ Row.off (List._∷_ Row.off (List._∷_ Row.off (List._∷_ Row.off List.[])))))));
+        }
 
         abbrev G3 : Row.Cx
-        G3 = record
-            { locals = List._++_ t0 t1; slots = List._∷_ (Row.lease (κs .0) (qs .0)) (List._∷_ (Row.lease (κs .1 .0) (qs .1 .0)) (List._∷_ (Row.lease (κs .1 .1 .0) (qs .1 .1 .0)) (List._∷_ (Row.lease (κs
-            .1 .1 .1 .0) (qs .1 .1 .1 .0)) (List._∷_ Row.off (List._∷_ Row.off (List._∷_ Row.off (List._∷_ Row.off List.[]))))))); }
+        G3 = record {
+          locals = List._++_ t0 t1;
+          slots = List._∷_ (Row.lease (κs .0) (qs .0)) (List._∷_ (Row.lease (κs .1 .0) (qs .1 .0)) (List._∷_ (Row.lease (κs .1 .1 .0) (qs .1 .1 .0)) (List._∷_ (Row.lease (κs
+              .1 .1 .1 .0) (qs .1 .1 .1 .0)) (List._∷_ Row.off (List._∷_ Row.off (List._∷_ Row.off (List._∷_ Row.off List.[])))))));
+        }
 
         abbrev G4 : Row.Cx
-        G4 = record
-            { locals = List._++_ t0 t1; slots = List._∷_ (Row.lease (κs .0) (qs .0)) (List._∷_ (Row.lease (κs .1 .0) (qs .1 .0)) (List._∷_ (Row.lease (κs .1 .1 .0) (qs .1 .1 .0)) (List._∷_ (Row.lease (κs
-            .1 .1 .1 .0) (qs .1 .1 .1 .0)) (List._∷_ Row.off (List._∷_ Row.off (List._∷_ Row.off (List._∷_ Row.off List.[]))))))); }
+        G4 = record {
+          locals = List._++_ t0 t1;
+          slots = List._∷_ (Row.lease (κs .0) (qs .0)) (List._∷_ (Row.lease (κs .1 .0) (qs .1 .0)) (List._∷_ (Row.lease (κs .1 .1 .0) (qs .1 .1 .0)) (List._∷_ (Row.lease (κs
+              .1 .1 .1 .0) (qs .1 .1 .1 .0)) (List._∷_ Row.off (List._∷_ Row.off (List._∷_ Row.off (List._∷_ Row.off List.[])))))));
+        }
 
         abbrev G5 : Row.Cx
-        G5 = record
-            { locals = List._++_ t3 t1; slots = List._∷_ (Row.lease (κs .0) (qs .0)) (List._∷_ (Row.lease (κs .1 .0) (qs .1 .0)) (List._∷_ (Row.lease (κs .1 .1 .0) (qs .1 .1 .0)) (List._∷_ (Row.lease (κs
-            .1 .1 .1 .0) (qs .1 .1 .1 .0)) (List._∷_ Row.off (List._∷_ Row.off (List._∷_ Row.off (List._∷_ Row.off List.[]))))))); }
+        G5 = record {
+          locals = List._++_ t3 t1;
+          slots = List._∷_ (Row.lease (κs .0) (qs .0)) (List._∷_ (Row.lease (κs .1 .0) (qs .1 .0)) (List._∷_ (Row.lease (κs .1 .1 .0) (qs .1 .1 .0)) (List._∷_ (Row.lease (κs
+              .1 .1 .1 .0) (qs .1 .1 .1 .0)) (List._∷_ Row.off (List._∷_ Row.off (List._∷_ Row.off (List._∷_ Row.off List.[])))))));
+        }
 
         abbrev G6 : Row.Cx
-        G6 = record
-            { locals = List._++_ t4 t1; slots = List._∷_ (Row.lease (κs .0) (qs .0)) (List._∷_ (Row.lease (κs .1 .0) (qs .1 .0)) (List._∷_ (Row.lease (κs .1 .1 .0) (qs .1 .1 .0)) (List._∷_ (Row.lease (κs
-            .1 .1 .1 .0) (qs .1 .1 .1 .0)) (List._∷_ Row.off (List._∷_ Row.off (List._∷_ Row.off (List._∷_ Row.off List.[]))))))); }
+        G6 = record {
+          locals = List._++_ t4 t1;
+          slots = List._∷_ (Row.lease (κs .0) (qs .0)) (List._∷_ (Row.lease (κs .1 .0) (qs .1 .0)) (List._∷_ (Row.lease (κs .1 .1 .0) (qs .1 .1 .0)) (List._∷_ (Row.lease (κs
+              .1 .1 .1 .0) (qs .1 .1 .1 .0)) (List._∷_ Row.off (List._∷_ Row.off (List._∷_ Row.off (List._∷_ Row.off List.[])))))));
+        }
 
         abbrev G7 : Row.Cx
-        G7 = record
-            { locals = List._++_ t4 t1; slots = List._∷_ (Row.lease (κs .0) (qs .0)) (List._∷_ (Row.lease (κs .1 .0) (qs .1 .0)) (List._∷_ (Row.lease (κs .1 .1 .0) (qs .1 .1 .0)) (List._∷_ (Row.lease (κs
-            .1 .1 .1 .0) (qs .1 .1 .1 .0)) (List._∷_ Row.off (List._∷_ Row.off (List._∷_ Row.off (List._∷_ Row.off List.[]))))))); }
+        G7 = record {
+          locals = List._++_ t4 t1;
+          slots = List._∷_ (Row.lease (κs .0) (qs .0)) (List._∷_ (Row.lease (κs .1 .0) (qs .1 .0)) (List._∷_ (Row.lease (κs .1 .1 .0) (qs .1 .1 .0)) (List._∷_ (Row.lease (κs
+              .1 .1 .1 .0) (qs .1 .1 .1 .0)) (List._∷_ Row.off (List._∷_ Row.off (List._∷_ Row.off (List._∷_ Row.off List.[])))))));
+        }
 
         abbrev G8 : Row.Cx
-        G8 = record
-            { locals = List._++_ t5 t1; slots = List._∷_ (Row.lease (κs .0) (qs .0)) (List._∷_ (Row.lease (κs .1 .0) (qs .1 .0)) (List._∷_ (Row.lease (κs .1 .1 .0) (qs .1 .1 .0)) (List._∷_ (Row.lease (κs
-            .1 .1 .1 .0) (qs .1 .1 .1 .0)) (List._∷_ Row.off (List._∷_ Row.off (List._∷_ Row.off (List._∷_ Row.off List.[]))))))); }
+        G8 = record {
+          locals = List._++_ t5 t1;
+          slots = List._∷_ (Row.lease (κs .0) (qs .0)) (List._∷_ (Row.lease (κs .1 .0) (qs .1 .0)) (List._∷_ (Row.lease (κs .1 .1 .0) (qs .1 .1 .0)) (List._∷_ (Row.lease (κs
+              .1 .1 .1 .0) (qs .1 .1 .1 .0)) (List._∷_ Row.off (List._∷_ Row.off (List._∷_ Row.off (List._∷_ Row.off List.[])))))));
+        }
 
         abbrev G9 : Row.Cx
-        G9 = record
-            { locals = List._++_ t5 t6; slots = List._∷_ (Row.lease (κs .0) (qs .0)) (List._∷_ (Row.lease (κs .1 .0) (qs .1 .0)) (List._∷_ (Row.lease (κs .1 .1 .0) (qs .1 .1 .0)) (List._∷_ (Row.lease (κs
-            .1 .1 .1 .0) (qs .1 .1 .1 .0)) (List._∷_ Row.off (List._∷_ Row.off (List._∷_ Row.off (List._∷_ Row.off List.[]))))))); }
+        G9 = record {
+          locals = List._++_ t5 t6;
+          slots = List._∷_ (Row.lease (κs .0) (qs .0)) (List._∷_ (Row.lease (κs .1 .0) (qs .1 .0)) (List._∷_ (Row.lease (κs .1 .1 .0) (qs .1 .1 .0)) (List._∷_ (Row.lease (κs
+              .1 .1 .1 .0) (qs .1 .1 .1 .0)) (List._∷_ Row.off (List._∷_ Row.off (List._∷_ Row.off (List._∷_ Row.off List.[])))))));
+        }
 
         abbrev G10 : Row.Cx
-        G10 = record
-            { locals = List._++_ t7 t6; slots = List._∷_ (Row.lease (κs .0) (qs .0)) (List._∷_ (Row.lease (κs .1 .0) (qs .1 .0)) (List._∷_ (Row.lease (κs .1 .1 .0) (qs .1 .1 .0)) (List._∷_ (Row.lease (κs
-            .1 .1 .1 .0) (qs .1 .1 .1 .0)) (List._∷_ Row.off (List._∷_ Row.off (List._∷_ Row.off (List._∷_ Row.off List.[]))))))); }
+        G10 = record {
+          locals = List._++_ t7 t6;
+          slots = List._∷_ (Row.lease (κs .0) (qs .0)) (List._∷_ (Row.lease (κs .1 .0) (qs .1 .0)) (List._∷_ (Row.lease (κs .1 .1 .0) (qs .1 .1 .0)) (List._∷_ (Row.lease (κs
+              .1 .1 .1 .0) (qs .1 .1 .1 .0)) (List._∷_ Row.off (List._∷_ Row.off (List._∷_ Row.off (List._∷_ Row.off List.[])))))));
+        }
 
         abbrev G11 : Row.Cx
-        G11 = record
-            { locals = List._++_ t7 t1; slots = List._∷_ (Row.lease (κs .0) (qs .0)) (List._∷_ (Row.lease (κs .1 .0) (qs .1 .0)) (List._∷_ (Row.lease (κs .1 .1 .0) (qs .1 .1 .0)) (List._∷_ (Row.lease (κs
-            .1 .1 .1 .0) (qs .1 .1 .1 .0)) (List._∷_ Row.off (List._∷_ Row.off (List._∷_ Row.off (List._∷_ Row.off List.[]))))))); }
+        G11 = record {
+          locals = List._++_ t7 t1;
+          slots = List._∷_ (Row.lease (κs .0) (qs .0)) (List._∷_ (Row.lease (κs .1 .0) (qs .1 .0)) (List._∷_ (Row.lease (κs .1 .1 .0) (qs .1 .1 .0)) (List._∷_ (Row.lease (κs
+              .1 .1 .1 .0) (qs .1 .1 .1 .0)) (List._∷_ Row.off (List._∷_ Row.off (List._∷_ Row.off (List._∷_ Row.off List.[])))))));
+        }
 
         abbrev G12 : Row.Cx
-        G12 = record
-            { locals = List._++_ t8 t1; slots = List._∷_ (Row.lease (κs .0) (qs .0)) (List._∷_ (Row.lease (κs .1 .0) (qs .1 .0)) (List._∷_ (Row.lease (κs .1 .1 .0) (qs .1 .1 .0)) (List._∷_ (Row.lease (κs
-            .1 .1 .1 .0) (qs .1 .1 .1 .0)) (List._∷_ Row.off (List._∷_ Row.off (List._∷_ Row.off (List._∷_ Row.off List.[]))))))); }
+        G12 = record {
+          locals = List._++_ t8 t1;
+          slots = List._∷_ (Row.lease (κs .0) (qs .0)) (List._∷_ (Row.lease (κs .1 .0) (qs .1 .0)) (List._∷_ (Row.lease (κs .1 .1 .0) (qs .1 .1 .0)) (List._∷_ (Row.lease (κs
+              .1 .1 .1 .0) (qs .1 .1 .1 .0)) (List._∷_ Row.off (List._∷_ Row.off (List._∷_ Row.off (List._∷_ Row.off List.[])))))));
+        }
 
         abbrev G13 : Row.Cx
-        G13 = record
-            { locals = List._++_ t9 t1; slots = List._∷_ (Row.lease (κs .0) (qs .0)) (List._∷_ (Row.lease (κs .1 .0) (qs .1 .0)) (List._∷_ (Row.lease (κs .1 .1 .0) (qs .1 .1 .0)) (List._∷_ (Row.lease (κs
-            .1 .1 .1 .0) (qs .1 .1 .1 .0)) (List._∷_ Row.off (List._∷_ Row.off (List._∷_ Row.off (List._∷_ Row.off List.[]))))))); }
+        G13 = record {
+          locals = List._++_ t9 t1;
+          slots = List._∷_ (Row.lease (κs .0) (qs .0)) (List._∷_ (Row.lease (κs .1 .0) (qs .1 .0)) (List._∷_ (Row.lease (κs .1 .1 .0) (qs .1 .1 .0)) (List._∷_ (Row.lease (κs
+              .1 .1 .1 .0) (qs .1 .1 .1 .0)) (List._∷_ Row.off (List._∷_ Row.off (List._∷_ Row.off (List._∷_ Row.off List.[])))))));
+        }
 
         abbrev G14 : Row.Cx
-        G14 = record
-            { locals = List._++_ t10 t1; slots = List._∷_ (Row.lease (κs .0) (qs .0)) (List._∷_ (Row.lease (κs .1 .0) (qs .1 .0)) (List._∷_ (Row.lease (κs .1 .1 .0) (qs .1 .1 .0)) (List._∷_ (Row.lease (κs
-            .1 .1 .1 .0) (qs .1 .1 .1 .0)) (List._∷_ Row.off (List._∷_ Row.off (List._∷_ Row.off (List._∷_ Row.off List.[]))))))); }
+        G14 = record {
+          locals = List._++_ t10 t1;
+          slots = List._∷_ (Row.lease (κs .0) (qs .0)) (List._∷_ (Row.lease (κs .1 .0) (qs .1 .0)) (List._∷_ (Row.lease (κs .1 .1 .0) (qs .1 .1 .0)) (List._∷_ (Row.lease (κs
+              .1 .1 .1 .0) (qs .1 .1 .1 .0)) (List._∷_ Row.off (List._∷_ Row.off (List._∷_ Row.off (List._∷_ Row.off List.[])))))));
+        }
 
         abbrev G15 : Row.Cx
-        G15 = record
-            { locals = List._++_ t11 t1; slots = List._∷_ (Row.lease (κs .0) (qs .0)) (List._∷_ (Row.lease (κs .1 .0) (qs .1 .0)) (List._∷_ (Row.lease (κs .1 .1 .0) (qs .1 .1 .0)) (List._∷_ (Row.lease (κs
-            .1 .1 .1 .0) (qs .1 .1 .1 .0)) (List._∷_ Row.off (List._∷_ Row.off (List._∷_ Row.off (List._∷_ Row.off List.[]))))))); }
+        G15 = record {
+          locals = List._++_ t11 t1;
+          slots = List._∷_ (Row.lease (κs .0) (qs .0)) (List._∷_ (Row.lease (κs .1 .0) (qs .1 .0)) (List._∷_ (Row.lease (κs .1 .1 .0) (qs .1 .1 .0)) (List._∷_ (Row.lease (κs
+              .1 .1 .1 .0) (qs .1 .1 .1 .0)) (List._∷_ Row.off (List._∷_ Row.off (List._∷_ Row.off (List._∷_ Row.off List.[])))))));
+        }
 
         abbrev G16 : Row.Cx
-        G16 = record
-            { locals = List._++_ t11 t12; slots = List._∷_ (Row.lease (κs .0) (qs .0)) (List._∷_ (Row.lease (κs .1 .0) (qs .1 .0)) (List._∷_ (Row.lease (κs .1 .1 .0) (qs .1 .1 .0)) (List._∷_ (Row.lease
-            (κs .1 .1 .1 .0) (qs .1 .1 .1 .0)) (List._∷_ Row.off (List._∷_ Row.off (List._∷_ Row.off (List._∷_ Row.off List.[]))))))); }
+        G16 = record {
+          locals = List._++_ t11 t12;
+          slots = List._∷_ (Row.lease (κs .0) (qs .0)) (List._∷_ (Row.lease (κs .1 .0) (qs .1 .0)) (List._∷_ (Row.lease (κs .1 .1 .0) (qs .1 .1 .0)) (List._∷_ (Row.lease
+              (κs .1 .1 .1 .0) (qs .1 .1 .1 .0)) (List._∷_ Row.off (List._∷_ Row.off (List._∷_ Row.off (List._∷_ Row.off List.[])))))));
+        }
 
         abbrev G17 : Row.Cx
-        G17 = record
-            { locals = List._++_ t11 t1; slots = List._∷_ (Row.lease (κs .0) (qs .0)) (List._∷_ (Row.lease (κs .1 .0) (qs .1 .0)) (List._∷_ (Row.lease (κs .1 .1 .0) (qs .1 .1 .0)) (List._∷_ (Row.lease (κs
-            .1 .1 .1 .0) (qs .1 .1 .1 .0)) (List._∷_ Row.off (List._∷_ Row.off (List._∷_ Row.off (List._∷_ Row.off List.[]))))))); }
+        G17 = record {
+          locals = List._++_ t11 t1;
+          slots = List._∷_ (Row.lease (κs .0) (qs .0)) (List._∷_ (Row.lease (κs .1 .0) (qs .1 .0)) (List._∷_ (Row.lease (κs .1 .1 .0) (qs .1 .1 .0)) (List._∷_ (Row.lease (κs
+              .1 .1 .1 .0) (qs .1 .1 .1 .0)) (List._∷_ Row.off (List._∷_ Row.off (List._∷_ Row.off (List._∷_ Row.off List.[])))))));
+        }
 
         abbrev G18 : Row.Cx
-        G18 = record
-            { locals = List._++_ t11 t1; slots = List._∷_ (Row.lease (κs .0) (qs .0)) (List._∷_ (Row.lease (κs .1 .0) (qs .1 .0)) (List._∷_ (Row.lease (κs .1 .1 .0) (qs .1 .1 .0)) (List._∷_ (Row.lease (κs
-            .1 .1 .1 .0) (qs .1 .1 .1 .0)) (List._∷_ Row.off (List._∷_ Row.off (List._∷_ Row.off (List._∷_ Row.off List.[]))))))); }
+        G18 = record {
+          locals = List._++_ t11 t1;
+          slots = List._∷_ (Row.lease (κs .0) (qs .0)) (List._∷_ (Row.lease (κs .1 .0) (qs .1 .0)) (List._∷_ (Row.lease (κs .1 .1 .0) (qs .1 .1 .0)) (List._∷_ (Row.lease (κs
+              .1 .1 .1 .0) (qs .1 .1 .1 .0)) (List._∷_ Row.off (List._∷_ Row.off (List._∷_ Row.off (List._∷_ Row.off List.[])))))));
+        }
 
         abbrev G19 : Row.Cx
-        G19 = record
-            { locals = List._++_ t13 t12; slots = List._∷_ (Row.lease (κs .0) (qs .0)) (List._∷_ (Row.lease (κs .1 .0) (qs .1 .0)) (List._∷_ (Row.lease (κs .1 .1 .0) (qs .1 .1 .0)) (List._∷_ (Row.lease
-            (κs .1 .1 .1 .0) (qs .1 .1 .1 .0)) (List._∷_ Row.off (List._∷_ Row.off (List._∷_ Row.off (List._∷_ Row.off List.[]))))))); }
+        G19 = record {
+          locals = List._++_ t13 t12;
+          slots = List._∷_ (Row.lease (κs .0) (qs .0)) (List._∷_ (Row.lease (κs .1 .0) (qs .1 .0)) (List._∷_ (Row.lease (κs .1 .1 .0) (qs .1 .1 .0)) (List._∷_ (Row.lease
+              (κs .1 .1 .1 .0) (qs .1 .1 .1 .0)) (List._∷_ Row.off (List._∷_ Row.off (List._∷_ Row.off (List._∷_ Row.off List.[])))))));
+        }
 
         abbrev G20 : Row.Cx
-        G20 = record
-            { locals = List._++_ t14 t12; slots = List._∷_ (Row.lease (κs .0) (qs .0)) (List._∷_ (Row.lease (κs .1 .0) (qs .1 .0)) (List._∷_ (Row.lease (κs .1 .1 .0) (qs .1 .1 .0)) (List._∷_ (Row.lease
-            (κs .1 .1 .1 .0) (qs .1 .1 .1 .0)) (List._∷_ Row.off (List._∷_ Row.off (List._∷_ Row.off (List._∷_ Row.off List.[]))))))); }
+        G20 = record {
+          locals = List._++_ t14 t12;
+          slots = List._∷_ (Row.lease (κs .0) (qs .0)) (List._∷_ (Row.lease (κs .1 .0) (qs .1 .0)) (List._∷_ (Row.lease (κs .1 .1 .0) (qs .1 .1 .0)) (List._∷_ (Row.lease
+              (κs .1 .1 .1 .0) (qs .1 .1 .1 .0)) (List._∷_ Row.off (List._∷_ Row.off (List._∷_ Row.off (List._∷_ Row.off List.[])))))));
+        }
 
         abbrev G21 : Row.Cx
-        G21 = record
-            { locals = List._++_ t15 t12; slots = List._∷_ (Row.lease (κs .0) (qs .0)) (List._∷_ (Row.lease (κs .1 .0) (qs .1 .0)) (List._∷_ (Row.lease (κs .1 .1 .0) (qs .1 .1 .0)) (List._∷_ (Row.lease
-            (κs .1 .1 .1 .0) (qs .1 .1 .1 .0)) (List._∷_ Row.off (List._∷_ Row.off (List._∷_ Row.off (List._∷_ Row.off List.[]))))))); }
+        G21 = record {
+          locals = List._++_ t15 t12;
+          slots = List._∷_ (Row.lease (κs .0) (qs .0)) (List._∷_ (Row.lease (κs .1 .0) (qs .1 .0)) (List._∷_ (Row.lease (κs .1 .1 .0) (qs .1 .1 .0)) (List._∷_ (Row.lease
+              (κs .1 .1 .1 .0) (qs .1 .1 .1 .0)) (List._∷_ Row.off (List._∷_ Row.off (List._∷_ Row.off (List._∷_ Row.off List.[])))))));
+        }
 
         abbrev G22 : Row.Cx
-        G22 = record
-            { locals = List._++_ t10 t12; slots = List._∷_ (Row.lease (κs .0) (qs .0)) (List._∷_ (Row.lease (κs .1 .0) (qs .1 .0)) (List._∷_ (Row.lease (κs .1 .1 .0) (qs .1 .1 .0)) (List._∷_ (Row.lease
-            (κs .1 .1 .1 .0) (qs .1 .1 .1 .0)) (List._∷_ Row.off (List._∷_ Row.off (List._∷_ Row.off (List._∷_ Row.off List.[]))))))); }
+        G22 = record {
+          locals = List._++_ t10 t12;
+          slots = List._∷_ (Row.lease (κs .0) (qs .0)) (List._∷_ (Row.lease (κs .1 .0) (qs .1 .0)) (List._∷_ (Row.lease (κs .1 .1 .0) (qs .1 .1 .0)) (List._∷_ (Row.lease
+              (κs .1 .1 .1 .0) (qs .1 .1 .1 .0)) (List._∷_ Row.off (List._∷_ Row.off (List._∷_ Row.off (List._∷_ Row.off List.[])))))));
+        }
 
         abbrev G23 : Row.Cx
-        G23 = record
-            { locals = List._++_ t10 t1; slots = List._∷_ (Row.lease (κs .0) (qs .0)) (List._∷_ (Row.lease (κs .1 .0) (qs .1 .0)) (List._∷_ (Row.lease (κs .1 .1 .0) (qs .1 .1 .0)) (List._∷_ (Row.lease (κs
-            .1 .1 .1 .0) (qs .1 .1 .1 .0)) (List._∷_ Row.off (List._∷_ Row.off (List._∷_ Row.off (List._∷_ Row.off List.[]))))))); }
+        G23 = record {
+          locals = List._++_ t10 t1;
+          slots = List._∷_ (Row.lease (κs .0) (qs .0)) (List._∷_ (Row.lease (κs .1 .0) (qs .1 .0)) (List._∷_ (Row.lease (κs .1 .1 .0) (qs .1 .1 .0)) (List._∷_ (Row.lease (κs
+              .1 .1 .1 .0) (qs .1 .1 .1 .0)) (List._∷_ Row.off (List._∷_ Row.off (List._∷_ Row.off (List._∷_ Row.off List.[])))))));
+        }
 
         abbrev G24 : Row.Cx
-        G24 = record
-            { locals = List._++_ t16 t1; slots = List._∷_ (Row.lease (κs .0) (qs .0)) (List._∷_ (Row.lease (κs .1 .0) (qs .1 .0)) (List._∷_ (Row.lease (κs .1 .1 .0) (qs .1 .1 .0)) (List._∷_ (Row.lease (κs
-            .1 .1 .1 .0) (qs .1 .1 .1 .0)) (List._∷_ Row.off (List._∷_ Row.off (List._∷_ Row.off (List._∷_ Row.off List.[]))))))); }
+        G24 = record {
+          locals = List._++_ t16 t1;
+          slots = List._∷_ (Row.lease (κs .0) (qs .0)) (List._∷_ (Row.lease (κs .1 .0) (qs .1 .0)) (List._∷_ (Row.lease (κs .1 .1 .0) (qs .1 .1 .0)) (List._∷_ (Row.lease (κs
+              .1 .1 .1 .0) (qs .1 .1 .1 .0)) (List._∷_ Row.off (List._∷_ Row.off (List._∷_ Row.off (List._∷_ Row.off List.[])))))));
+        }
 
         abbrev G25 : Row.Cx
-        G25 = record
-            { locals = List._++_ t16 t17; slots = List._∷_ (Row.lease (κs .0) (qs .0)) (List._∷_ (Row.lease (κs .1 .0) (qs .1 .0)) (List._∷_ (Row.lease (κs .1 .1 .0) (qs .1 .1 .0)) (List._∷_ (Row.lease
-            (κs .1 .1 .1 .0) (qs .1 .1 .1 .0)) (List._∷_ Row.off (List._∷_ Row.off (List._∷_ Row.off (List._∷_ Row.off List.[]))))))); }
+        G25 = record {
+          locals = List._++_ t16 t17;
+          slots = List._∷_ (Row.lease (κs .0) (qs .0)) (List._∷_ (Row.lease (κs .1 .0) (qs .1 .0)) (List._∷_ (Row.lease (κs .1 .1 .0) (qs .1 .1 .0)) (List._∷_ (Row.lease
+              (κs .1 .1 .1 .0) (qs .1 .1 .1 .0)) (List._∷_ Row.off (List._∷_ Row.off (List._∷_ Row.off (List._∷_ Row.off List.[])))))));
+        }
 
         abbrev G26 : Row.Cx
-        G26 = record
-            { locals = List._++_ t16 t18; slots = List._∷_ (Row.lease (κs .0) (qs .0)) (List._∷_ (Row.lease (κs .1 .0) (qs .1 .0)) (List._∷_ (Row.lease (κs .1 .1 .0) (qs .1 .1 .0)) (List._∷_ (Row.lease
-            (κs .1 .1 .1 .0) (qs .1 .1 .1 .0)) (List._∷_ Row.off (List._∷_ Row.off (List._∷_ Row.off (List._∷_ Row.off List.[]))))))); }
+        G26 = record {
+          locals = List._++_ t16 t18;
+          slots = List._∷_ (Row.lease (κs .0) (qs .0)) (List._∷_ (Row.lease (κs .1 .0) (qs .1 .0)) (List._∷_ (Row.lease (κs .1 .1 .0) (qs .1 .1 .0)) (List._∷_ (Row.lease
+              (κs .1 .1 .1 .0) (qs .1 .1 .1 .0)) (List._∷_ Row.off (List._∷_ Row.off (List._∷_ Row.off (List._∷_ Row.off List.[])))))));
+        }
 
         abbrev G27 : Row.Cx
-        G27 = record
-            { locals = List._++_ t16 t19; slots = List._∷_ (Row.lease (κs .0) (qs .0)) (List._∷_ (Row.lease (κs .1 .0) (qs .1 .0)) (List._∷_ (Row.lease (κs .1 .1 .0) (qs .1 .1 .0)) (List._∷_ (Row.lease
-            (κs .1 .1 .1 .0) (qs .1 .1 .1 .0)) (List._∷_ Row.off (List._∷_ Row.off (List._∷_ Row.off (List._∷_ Row.off List.[]))))))); }
+        G27 = record {
+          locals = List._++_ t16 t19;
+          slots = List._∷_ (Row.lease (κs .0) (qs .0)) (List._∷_ (Row.lease (κs .1 .0) (qs .1 .0)) (List._∷_ (Row.lease (κs .1 .1 .0) (qs .1 .1 .0)) (List._∷_ (Row.lease
+              (κs .1 .1 .1 .0) (qs .1 .1 .1 .0)) (List._∷_ Row.off (List._∷_ Row.off (List._∷_ Row.off (List._∷_ Row.off List.[])))))));
+        }
 
         abbrev G28 : Row.Cx
-        G28 = record
-            { locals = List._++_ t16 t19; slots = List._∷_ (Row.lease (κs .0) (qs .0)) (List._∷_ (Row.lease (κs .1 .0) (qs .1 .0)) (List._∷_ (Row.lease (κs .1 .1 .0) (qs .1 .1 .0)) (List._∷_ (Row.lease
-            (κs .1 .1 .1 .0) (qs .1 .1 .1 .0)) (List._∷_ Row.alive (List._∷_ Row.off (List._∷_ Row.off (List._∷_ Row.off List.[]))))))); }
+        G28 = record {
+          locals = List._++_ t16 t19;
+          slots = List._∷_ (Row.lease (κs .0) (qs .0)) (List._∷_ (Row.lease (κs .1 .0) (qs .1 .0)) (List._∷_ (Row.lease (κs .1 .1 .0) (qs .1 .1 .0)) (List._∷_ (Row.lease
+              (κs .1 .1 .1 .0) (qs .1 .1 .1 .0)) (List._∷_ Row.alive (List._∷_ Row.off (List._∷_ Row.off (List._∷_ Row.off List.[])))))));
+        }
 
         abbrev G29 : Row.Cx
-        G29 = record
-            { locals = List._++_ g20 t21; slots = List._∷_ (Row.lease (κs .0) (qs .0)) (List._∷_ (Row.lease (κs .1 .0) (qs .1 .0)) (List._∷_ Row.off (List._∷_ (Row.lease (κs .1 .1 .1 .0) (qs .1 .1 .1 .0))
-            (List._∷_ Row.alive (List._∷_ Row.off (List._∷_ Row.off (List._∷_ Row.off List.[]))))))); }
+        G29 = record {
+          locals = List._++_ g20 t21;
+          slots = List._∷_ (Row.lease (κs .0) (qs .0)) (List._∷_ (Row.lease (κs .1 .0) (qs .1 .0)) (List._∷_ Row.off (List._∷_ (Row.lease (κs .1 .1 .1 .0) (qs .1 .1 .1 .0))
+              (List._∷_ Row.alive (List._∷_ Row.off (List._∷_ Row.off (List._∷_ Row.off List.[])))))));
+        }
 
         abbrev G30 : Row.Cx
-        G30 = record
-            { locals = List._++_ g20 t22; slots = List._∷_ (Row.lease (κs .0) (qs .0)) (List._∷_ (Row.lease (κs .1 .0) (qs .1 .0)) (List._∷_ Row.off (List._∷_ (Row.lease (κs .1 .1 .1 .0) (qs .1 .1 .1 .0))
-            (List._∷_ Row.alive (List._∷_ Row.off (List._∷_ Row.off (List._∷_ Row.off List.[]))))))); }
+        G30 = record {
+          locals = List._++_ g20 t22;
+          slots = List._∷_ (Row.lease (κs .0) (qs .0)) (List._∷_ (Row.lease (κs .1 .0) (qs .1 .0)) (List._∷_ Row.off (List._∷_ (Row.lease (κs .1 .1 .1 .0) (qs .1 .1 .1 .0))
+              (List._∷_ Row.alive (List._∷_ Row.off (List._∷_ Row.off (List._∷_ Row.off List.[])))))));
+        }
 
         abbrev G31 : Row.Cx
-        G31 = record
-            { locals = List._++_ g20 t22; slots = List._∷_ (Row.lease (κs .0) (qs .0)) (List._∷_ (Row.lease (κs .1 .0) (qs .1 .0)) (List._∷_ Row.off (List._∷_ (Row.lease (κs .1 .1 .1 .0) (qs .1 .1 .1 .0))
-            (List._∷_ Row.alive (List._∷_ Row.alive (List._∷_ Row.off (List._∷_ Row.off List.[]))))))); }
+        G31 = record {
+          locals = List._++_ g20 t22;
+          slots = List._∷_ (Row.lease (κs .0) (qs .0)) (List._∷_ (Row.lease (κs .1 .0) (qs .1 .0)) (List._∷_ Row.off (List._∷_ (Row.lease (κs .1 .1 .1 .0) (qs .1 .1 .1 .0))
+              (List._∷_ Row.alive (List._∷_ Row.alive (List._∷_ Row.off (List._∷_ Row.off List.[])))))));
+        }
 
         abbrev G32 : Row.Cx
-        G32 = record
-            { locals = List._++_ g23 t24; slots = List._∷_ (Row.lease (κs .0) (qs .0)) (List._∷_ (Row.lease (κs .1 .0) (qs .1 .0)) (List._∷_ Row.off (List._∷_ Row.off (List._∷_ Row.alive (List._∷_
-            Row.alive (List._∷_ Row.off (List._∷_ Row.off List.[]))))))); }
+        G32 = record {
+          locals = List._++_ g23 t24;
+          slots = List._∷_ (Row.lease (κs .0) (qs .0)) (List._∷_ (Row.lease (κs .1 .0) (qs .1 .0)) (List._∷_ Row.off (List._∷_ Row.off (List._∷_ Row.alive (List._∷_
+              Row.alive (List._∷_ Row.off (List._∷_ Row.off List.[])))))));
+        }
 
         abbrev G33 : Row.Cx
-        G33 = record
-            { locals = List._++_ g23 t25; slots = List._∷_ (Row.lease (κs .0) (qs .0)) (List._∷_ (Row.lease (κs .1 .0) (qs .1 .0)) (List._∷_ Row.off (List._∷_ Row.off (List._∷_ Row.alive (List._∷_
-            Row.alive (List._∷_ Row.off (List._∷_ Row.off List.[]))))))); }
+        G33 = record {
+          locals = List._++_ g23 t25;
+          slots = List._∷_ (Row.lease (κs .0) (qs .0)) (List._∷_ (Row.lease (κs .1 .0) (qs .1 .0)) (List._∷_ Row.off (List._∷_ Row.off (List._∷_ Row.alive (List._∷_
+              Row.alive (List._∷_ Row.off (List._∷_ Row.off List.[])))))));
+        }
 
         abbrev G34 : Row.Cx
-        G34 = record
-            { locals = List._++_ g23 t25; slots = List._∷_ (Row.lease (κs .0) (qs .0)) (List._∷_ (Row.lease (κs .1 .0) (qs .1 .0)) (List._∷_ Row.off (List._∷_ Row.off (List._∷_ Row.alive (List._∷_
-            Row.alive (List._∷_ Row.alive (List._∷_ Row.off List.[]))))))); }
+        G34 = record {
+          locals = List._++_ g23 t25;
+          slots = List._∷_ (Row.lease (κs .0) (qs .0)) (List._∷_ (Row.lease (κs .1 .0) (qs .1 .0)) (List._∷_ Row.off (List._∷_ Row.off (List._∷_ Row.alive (List._∷_
+              Row.alive (List._∷_ Row.alive (List._∷_ Row.off List.[])))))));
+        }
 
         abbrev G35 : Row.Cx
-        G35 = record
-            { locals = List._++_ g26 t27; slots = List._∷_ (Row.lease (κs .0) (qs .0)) (List._∷_ Row.off (List._∷_ Row.off (List._∷_ Row.off (List._∷_ Row.alive (List._∷_ Row.alive (List._∷_ Row.alive
-            (List._∷_ Row.off List.[]))))))); }
+        G35 = record {
+          locals = List._++_ g26 t27;
+          slots = List._∷_ (Row.lease (κs .0) (qs .0)) (List._∷_ Row.off (List._∷_ Row.off (List._∷_ Row.off (List._∷_ Row.alive (List._∷_ Row.alive (List._∷_ Row.alive
+              (List._∷_ Row.off List.[])))))));
+        }
 
         abbrev G36 : Row.Cx
-        G36 = record
-            { locals = List._++_ g26 t28; slots = List._∷_ (Row.lease (κs .0) (qs .0)) (List._∷_ Row.off (List._∷_ Row.off (List._∷_ Row.off (List._∷_ Row.alive (List._∷_ Row.alive (List._∷_ Row.alive
-            (List._∷_ Row.off List.[]))))))); }
+        G36 = record {
+          locals = List._++_ g26 t28;
+          slots = List._∷_ (Row.lease (κs .0) (qs .0)) (List._∷_ Row.off (List._∷_ Row.off (List._∷_ Row.off (List._∷_ Row.alive (List._∷_ Row.alive (List._∷_ Row.alive
+              (List._∷_ Row.off List.[])))))));
+        }
 
         abbrev G37 : Row.Cx
-        G37 = record
-            { locals = List._++_ g26 t28; slots = List._∷_ (Row.lease (κs .0) (qs .0)) (List._∷_ Row.off (List._∷_ Row.off (List._∷_ Row.off (List._∷_ Row.alive (List._∷_ Row.alive (List._∷_ Row.alive
-            (List._∷_ Row.alive List.[]))))))); }
+        G37 = record {
+          locals = List._++_ g26 t28;
+          slots = List._∷_ (Row.lease (κs .0) (qs .0)) (List._∷_ Row.off (List._∷_ Row.off (List._∷_ Row.off (List._∷_ Row.alive (List._∷_ Row.alive (List._∷_ Row.alive
+              (List._∷_ Row.alive List.[])))))));
+        }
 
         abbrev G38 : Row.Cx
-        G38 = record
-            { locals = List._++_ g29 t30; slots = List._∷_ (Row.lease (κs .0) (qs .0)) (List._∷_ Row.off (List._∷_ Row.off (List._∷_ Row.off (List._∷_ Row.alive (List._∷_ Row.alive (List._∷_ Row.alive
-            (List._∷_ Row.alive List.[]))))))); }
+        G38 = record {
+          locals = List._++_ g29 t30;
+          slots = List._∷_ (Row.lease (κs .0) (qs .0)) (List._∷_ Row.off (List._∷_ Row.off (List._∷_ Row.off (List._∷_ Row.alive (List._∷_ Row.alive (List._∷_ Row.alive
+              (List._∷_ Row.alive List.[])))))));
+        }
 
         abbrev G39 : Row.Cx
-        G39 = record
-            { locals = List._++_ g29 t31; slots = List._∷_ (Row.lease (κs .0) (qs .0)) (List._∷_ Row.off (List._∷_ Row.off (List._∷_ Row.off (List._∷_ Row.alive (List._∷_ Row.alive (List._∷_ Row.alive
-            (List._∷_ Row.alive List.[]))))))); }
+        G39 = record {
+          locals = List._++_ g29 t31;
+          slots = List._∷_ (Row.lease (κs .0) (qs .0)) (List._∷_ Row.off (List._∷_ Row.off (List._∷_ Row.off (List._∷_ Row.alive (List._∷_ Row.alive (List._∷_ Row.alive
+              (List._∷_ Row.alive List.[])))))));
+        }
 
         abbrev G40 : Row.Cx
-        G40 = record
-            { locals = List._++_ g29 t32; slots = List._∷_ (Row.lease (κs .0) (qs .0)) (List._∷_ Row.off (List._∷_ Row.off (List._∷_ Row.off (List._∷_ Row.alive (List._∷_ Row.alive (List._∷_ Row.alive
-            (List._∷_ Row.alive List.[]))))))); }
+        G40 = record {
+          locals = List._++_ g29 t32;
+          slots = List._∷_ (Row.lease (κs .0) (qs .0)) (List._∷_ Row.off (List._∷_ Row.off (List._∷_ Row.off (List._∷_ Row.alive (List._∷_ Row.alive (List._∷_ Row.alive
+              (List._∷_ Row.alive List.[])))))));
+        }
 
         abbrev G41 : Row.Cx
-        G41 = record
-            { locals = List._++_ g29 t33; slots = List._∷_ (Row.lease (κs .0) (qs .0)) (List._∷_ Row.off (List._∷_ Row.off (List._∷_ Row.off (List._∷_ Row.alive (List._∷_ Row.alive (List._∷_ Row.alive
-            (List._∷_ Row.alive List.[]))))))); }
+        G41 = record {
+          locals = List._++_ g29 t33;
+          slots = List._∷_ (Row.lease (κs .0) (qs .0)) (List._∷_ Row.off (List._∷_ Row.off (List._∷_ Row.off (List._∷_ Row.alive (List._∷_ Row.alive (List._∷_ Row.alive
+              (List._∷_ Row.alive List.[])))))));
+        }
 
         abbrev G42 : Row.Cx
-        G42 = record
-            { locals = List._++_ g29 t34; slots = List._∷_ (Row.lease (κs .0) (qs .0)) (List._∷_ Row.off (List._∷_ Row.off (List._∷_ Row.off (List._∷_ Row.alive (List._∷_ Row.alive (List._∷_ Row.alive
-            (List._∷_ Row.alive List.[]))))))); }
+        G42 = record {
+          locals = List._++_ g29 t34;
+          slots = List._∷_ (Row.lease (κs .0) (qs .0)) (List._∷_ Row.off (List._∷_ Row.off (List._∷_ Row.off (List._∷_ Row.alive (List._∷_ Row.alive (List._∷_ Row.alive
+              (List._∷_ Row.alive List.[])))))));
+        }
 
         abbrev G43 : Row.Cx
-        G43 = record
-            { locals = List._++_ g29 t35; slots = List._∷_ (Row.lease (κs .0) (qs .0)) (List._∷_ Row.off (List._∷_ Row.off (List._∷_ Row.off (List._∷_ Row.alive (List._∷_ Row.alive (List._∷_ Row.alive
-            (List._∷_ Row.alive List.[]))))))); }
+        G43 = record {
+          locals = List._++_ g29 t35;
+          slots = List._∷_ (Row.lease (κs .0) (qs .0)) (List._∷_ Row.off (List._∷_ Row.off (List._∷_ Row.off (List._∷_ Row.alive (List._∷_ Row.alive (List._∷_ Row.alive
+              (List._∷_ Row.alive List.[])))))));
+        }
 
         abbrev G44 : Row.Cx
-        G44 = record
-            { locals = List._++_ g36 t35; slots = List._∷_ (Row.lease (κs .0) (qs .0)) (List._∷_ Row.off (List._∷_ Row.off (List._∷_ Row.off (List._∷_ Row.alive (List._∷_ Row.alive (List._∷_ Row.alive
-            (List._∷_ Row.alive List.[]))))))); }
+        G44 = record {
+          locals = List._++_ g36 t35;
+          slots = List._∷_ (Row.lease (κs .0) (qs .0)) (List._∷_ Row.off (List._∷_ Row.off (List._∷_ Row.off (List._∷_ Row.alive (List._∷_ Row.alive (List._∷_ Row.alive
+              (List._∷_ Row.alive List.[])))))));
+        }
 
         abbrev G45 : Row.Cx
-        G45 = record
-            { locals = List._++_ g36 t37; slots = List._∷_ (Row.lease (κs .0) (qs .0)) (List._∷_ Row.off (List._∷_ Row.off (List._∷_ Row.off (List._∷_ Row.alive (List._∷_ Row.alive (List._∷_ Row.alive
-            (List._∷_ Row.alive List.[]))))))); }
+        G45 = record {
+          locals = List._++_ g36 t37;
+          slots = List._∷_ (Row.lease (κs .0) (qs .0)) (List._∷_ Row.off (List._∷_ Row.off (List._∷_ Row.off (List._∷_ Row.alive (List._∷_ Row.alive (List._∷_ Row.alive
+              (List._∷_ Row.alive List.[])))))));
+        }
 
         abbrev G46 : Row.Cx
-        G46 = record
-            { locals = List._++_ g36 t38; slots = List._∷_ (Row.lease (κs .0) (qs .0)) (List._∷_ Row.off (List._∷_ Row.off (List._∷_ Row.off (List._∷_ Row.alive (List._∷_ Row.alive (List._∷_ Row.alive
-            (List._∷_ Row.alive List.[]))))))); }
+        G46 = record {
+          locals = List._++_ g36 t38;
+          slots = List._∷_ (Row.lease (κs .0) (qs .0)) (List._∷_ Row.off (List._∷_ Row.off (List._∷_ Row.off (List._∷_ Row.alive (List._∷_ Row.alive (List._∷_ Row.alive
+              (List._∷_ Row.alive List.[])))))));
+        }
 
         abbrev G47 : Row.Cx
-        G47 = record
-            { locals = List._++_ g36 t38; slots = List._∷_ (Row.lease (κs .0) (qs .0)) (List._∷_ Row.off (List._∷_ Row.off (List._∷_ Row.off (List._∷_ Row.dead (List._∷_ Row.alive (List._∷_ Row.alive
-            (List._∷_ Row.alive List.[]))))))); }
+        G47 = record {
+          locals = List._++_ g36 t38;
+          slots = List._∷_ (Row.lease (κs .0) (qs .0)) (List._∷_ Row.off (List._∷_ Row.off (List._∷_ Row.off (List._∷_ Row.dead (List._∷_ Row.alive (List._∷_ Row.alive
+              (List._∷_ Row.alive List.[])))))));
+        }
 
         abbrev G48 : Row.Cx
-        G48 = record
-            { locals = List._++_ g39 t40; slots = List._∷_ (Row.lease (κs .0) (qs .0)) (List._∷_ Row.off (List._∷_ (Row.lease (κs .1 .1 .0) (qs .1 .1 .0)) (List._∷_ Row.off (List._∷_ Row.dead (List._∷_
-            Row.alive (List._∷_ Row.alive (List._∷_ Row.alive List.[]))))))); }
+        G48 = record {
+          locals = List._++_ g39 t40;
+          slots = List._∷_ (Row.lease (κs .0) (qs .0)) (List._∷_ Row.off (List._∷_ (Row.lease (κs .1 .1 .0) (qs .1 .1 .0)) (List._∷_ Row.off (List._∷_ Row.dead (List._∷_
+              Row.alive (List._∷_ Row.alive (List._∷_ Row.alive List.[])))))));
+        }
 
         abbrev G49 : Row.Cx
-        G49 = record
-            { locals = List._++_ g39 t40; slots = List._∷_ (Row.lease (κs .0) (qs .0)) (List._∷_ Row.off (List._∷_ (Row.lease (κs .1 .1 .0) (qs .1 .1 .0)) (List._∷_ Row.off (List._∷_ Row.dead (List._∷_
-            Row.alive (List._∷_ Row.alive (List._∷_ Row.alive List.[]))))))); }
+        G49 = record {
+          locals = List._++_ g39 t40;
+          slots = List._∷_ (Row.lease (κs .0) (qs .0)) (List._∷_ Row.off (List._∷_ (Row.lease (κs .1 .1 .0) (qs .1 .1 .0)) (List._∷_ Row.off (List._∷_ Row.dead (List._∷_
+              Row.alive (List._∷_ Row.alive (List._∷_ Row.alive List.[])))))));
+        }
 
         abbrev G50 : Row.Cx
-        G50 = record
-            { locals = List._++_ g39 t40; slots = List._∷_ (Row.lease (κs .0) (qs .0)) (List._∷_ Row.off (List._∷_ (Row.lease (κs .1 .1 .0) (qs .1 .1 .0)) (List._∷_ Row.off (List._∷_ Row.off (List._∷_
-            Row.alive (List._∷_ Row.alive (List._∷_ Row.alive List.[]))))))); }
+        G50 = record {
+          locals = List._++_ g39 t40;
+          slots = List._∷_ (Row.lease (κs .0) (qs .0)) (List._∷_ Row.off (List._∷_ (Row.lease (κs .1 .1 .0) (qs .1 .1 .0)) (List._∷_ Row.off (List._∷_ Row.off (List._∷_
+              Row.alive (List._∷_ Row.alive (List._∷_ Row.alive List.[])))))));
+        }
 
         abbrev G51 : Row.Cx
-        G51 = record
-            { locals = List._++_ g39 t40; slots = List._∷_ (Row.lease (κs .0) (qs .0)) (List._∷_ Row.off (List._∷_ (Row.lease (κs .1 .1 .0) (qs .1 .1 .0)) (List._∷_ Row.off (List._∷_ Row.off (List._∷_
-            Row.dead (List._∷_ Row.alive (List._∷_ Row.alive List.[]))))))); }
+        G51 = record {
+          locals = List._++_ g39 t40;
+          slots = List._∷_ (Row.lease (κs .0) (qs .0)) (List._∷_ Row.off (List._∷_ (Row.lease (κs .1 .1 .0) (qs .1 .1 .0)) (List._∷_ Row.off (List._∷_ Row.off (List._∷_
+              Row.dead (List._∷_ Row.alive (List._∷_ Row.alive List.[])))))));
+        }
 
         abbrev G52 : Row.Cx
-        G52 = record
-            { locals = List._++_ g41 t42; slots = List._∷_ (Row.lease (κs .0) (qs .0)) (List._∷_ Row.off (List._∷_ (Row.lease (κs .1 .1 .0) (qs .1 .1 .0)) (List._∷_ (Row.lease (κs .1 .1 .1 .0) (qs .1 .1
-            .1 .0)) (List._∷_ Row.off (List._∷_ Row.dead (List._∷_ Row.alive (List._∷_ Row.alive List.[]))))))); }
+        G52 = record {
+          locals = List._++_ g41 t42;
+          slots = List._∷_ (Row.lease (κs .0) (qs .0)) (List._∷_ Row.off (List._∷_ (Row.lease (κs .1 .1 .0) (qs .1 .1 .0)) (List._∷_ (Row.lease (κs .1 .1 .1 .0) (qs .1 .1
+              .1 .0)) (List._∷_ Row.off (List._∷_ Row.dead (List._∷_ Row.alive (List._∷_ Row.alive List.[])))))));
+        }
 
         abbrev G53 : Row.Cx
-        G53 = record
-            { locals = List._++_ g41 t42; slots = List._∷_ (Row.lease (κs .0) (qs .0)) (List._∷_ Row.off (List._∷_ (Row.lease (κs .1 .1 .0) (qs .1 .1 .0)) (List._∷_ (Row.lease (κs .1 .1 .1 .0) (qs .1 .1
-            .1 .0)) (List._∷_ Row.off (List._∷_ Row.off (List._∷_ Row.alive (List._∷_ Row.alive List.[]))))))); }
+        G53 = record {
+          locals = List._++_ g41 t42;
+          slots = List._∷_ (Row.lease (κs .0) (qs .0)) (List._∷_ Row.off (List._∷_ (Row.lease (κs .1 .1 .0) (qs .1 .1 .0)) (List._∷_ (Row.lease (κs .1 .1 .1 .0) (qs .1 .1
+              .1 .0)) (List._∷_ Row.off (List._∷_ Row.off (List._∷_ Row.alive (List._∷_ Row.alive List.[])))))));
+        }
 
         abbrev G54 : Row.Cx
-        G54 = record
-            { locals = List._++_ g41 t42; slots = List._∷_ (Row.lease (κs .0) (qs .0)) (List._∷_ Row.off (List._∷_ (Row.lease (κs .1 .1 .0) (qs .1 .1 .0)) (List._∷_ (Row.lease (κs .1 .1 .1 .0) (qs .1 .1
-            .1 .0)) (List._∷_ Row.off (List._∷_ Row.off (List._∷_ Row.dead (List._∷_ Row.alive List.[]))))))); }
+        G54 = record {
+          locals = List._++_ g41 t42;
+          slots = List._∷_ (Row.lease (κs .0) (qs .0)) (List._∷_ Row.off (List._∷_ (Row.lease (κs .1 .1 .0) (qs .1 .1 .0)) (List._∷_ (Row.lease (κs .1 .1 .1 .0) (qs .1 .1
+              .1 .0)) (List._∷_ Row.off (List._∷_ Row.off (List._∷_ Row.dead (List._∷_ Row.alive List.[])))))));
+        }
 
         abbrev G55 : Row.Cx
-        G55 = record
-            { locals = List._++_ t43 t44; slots = List._∷_ (Row.lease (κs .0) (qs .0)) (List._∷_ (Row.lease (κs .1 .0) (qs .1 .0)) (List._∷_ (Row.lease (κs .1 .1 .0) (qs .1 .1 .0)) (List._∷_ (Row.lease
-            (κs .1 .1 .1 .0) (qs .1 .1 .1 .0)) (List._∷_ Row.off (List._∷_ Row.off (List._∷_ Row.dead (List._∷_ Row.alive List.[]))))))); }
+        G55 = record {
+          locals = List._++_ t43 t44;
+          slots = List._∷_ (Row.lease (κs .0) (qs .0)) (List._∷_ (Row.lease (κs .1 .0) (qs .1 .0)) (List._∷_ (Row.lease (κs .1 .1 .0) (qs .1 .1 .0)) (List._∷_ (Row.lease
+              (κs .1 .1 .1 .0) (qs .1 .1 .1 .0)) (List._∷_ Row.off (List._∷_ Row.off (List._∷_ Row.dead (List._∷_ Row.alive List.[])))))));
+        }
 
         abbrev G56 : Row.Cx
-        G56 = record
-            { locals = List._++_ t43 t44; slots = List._∷_ (Row.lease (κs .0) (qs .0)) (List._∷_ (Row.lease (κs .1 .0) (qs .1 .0)) (List._∷_ (Row.lease (κs .1 .1 .0) (qs .1 .1 .0)) (List._∷_ (Row.lease
-            (κs .1 .1 .1 .0) (qs .1 .1 .1 .0)) (List._∷_ Row.off (List._∷_ Row.off (List._∷_ Row.dead (List._∷_ Row.alive List.[]))))))); }
+        G56 = record {
+          locals = List._++_ t43 t44;
+          slots = List._∷_ (Row.lease (κs .0) (qs .0)) (List._∷_ (Row.lease (κs .1 .0) (qs .1 .0)) (List._∷_ (Row.lease (κs .1 .1 .0) (qs .1 .1 .0)) (List._∷_ (Row.lease
+              (κs .1 .1 .1 .0) (qs .1 .1 .1 .0)) (List._∷_ Row.off (List._∷_ Row.off (List._∷_ Row.dead (List._∷_ Row.alive List.[])))))));
+        }
 
         abbrev G57 : Row.Cx
-        G57 = record
-            { locals = List._++_ t43 t44; slots = List._∷_ (Row.lease (κs .0) (qs .0)) (List._∷_ (Row.lease (κs .1 .0) (qs .1 .0)) (List._∷_ (Row.lease (κs .1 .1 .0) (qs .1 .1 .0)) (List._∷_ (Row.lease
-            (κs .1 .1 .1 .0) (qs .1 .1 .1 .0)) (List._∷_ Row.off (List._∷_ Row.off (List._∷_ Row.off (List._∷_ Row.alive List.[]))))))); }
+        G57 = record {
+          locals = List._++_ t43 t44;
+          slots = List._∷_ (Row.lease (κs .0) (qs .0)) (List._∷_ (Row.lease (κs .1 .0) (qs .1 .0)) (List._∷_ (Row.lease (κs .1 .1 .0) (qs .1 .1 .0)) (List._∷_ (Row.lease
+              (κs .1 .1 .1 .0) (qs .1 .1 .1 .0)) (List._∷_ Row.off (List._∷_ Row.off (List._∷_ Row.off (List._∷_ Row.alive List.[])))))));
+        }
 
         abbrev G58 : Row.Cx
-        G58 = record
-            { locals = List._++_ t43 t44; slots = List._∷_ (Row.lease (κs .0) (qs .0)) (List._∷_ (Row.lease (κs .1 .0) (qs .1 .0)) (List._∷_ (Row.lease (κs .1 .1 .0) (qs .1 .1 .0)) (List._∷_ (Row.lease
-            (κs .1 .1 .1 .0) (qs .1 .1 .1 .0)) (List._∷_ Row.off (List._∷_ Row.off (List._∷_ Row.off (List._∷_ Row.dead List.[]))))))); }
+        G58 = record {
+          locals = List._++_ t43 t44;
+          slots = List._∷_ (Row.lease (κs .0) (qs .0)) (List._∷_ (Row.lease (κs .1 .0) (qs .1 .0)) (List._∷_ (Row.lease (κs .1 .1 .0) (qs .1 .1 .0)) (List._∷_ (Row.lease
+              (κs .1 .1 .1 .0) (qs .1 .1 .1 .0)) (List._∷_ Row.off (List._∷_ Row.off (List._∷_ Row.off (List._∷_ Row.dead List.[])))))));
+        }
 
         abbrev G59 : Row.Cx
-        G59 = record
-            { locals = List._++_ t11 t44; slots = List._∷_ (Row.lease (κs .0) (qs .0)) (List._∷_ (Row.lease (κs .1 .0) (qs .1 .0)) (List._∷_ (Row.lease (κs .1 .1 .0) (qs .1 .1 .0)) (List._∷_ (Row.lease
-            (κs .1 .1 .1 .0) (qs .1 .1 .1 .0)) (List._∷_ Row.off (List._∷_ Row.off (List._∷_ Row.off (List._∷_ Row.dead List.[]))))))); }
+        G59 = record {
+          locals = List._++_ t11 t44;
+          slots = List._∷_ (Row.lease (κs .0) (qs .0)) (List._∷_ (Row.lease (κs .1 .0) (qs .1 .0)) (List._∷_ (Row.lease (κs .1 .1 .0) (qs .1 .1 .0)) (List._∷_ (Row.lease
+              (κs .1 .1 .1 .0) (qs .1 .1 .1 .0)) (List._∷_ Row.off (List._∷_ Row.off (List._∷_ Row.off (List._∷_ Row.dead List.[])))))));
+        }
 
         abbrev G60 : Row.Cx
-        G60 = record
-            { locals = List._++_ t11 t44; slots = List._∷_ (Row.lease (κs .0) (qs .0)) (List._∷_ (Row.lease (κs .1 .0) (qs .1 .0)) (List._∷_ (Row.lease (κs .1 .1 .0) (qs .1 .1 .0)) (List._∷_ (Row.lease
-            (κs .1 .1 .1 .0) (qs .1 .1 .1 .0)) (List._∷_ Row.off (List._∷_ Row.off (List._∷_ Row.off (List._∷_ Row.off List.[]))))))); }
+        G60 = record {
+          locals = List._++_ t11 t44;
+          slots = List._∷_ (Row.lease (κs .0) (qs .0)) (List._∷_ (Row.lease (κs .1 .0) (qs .1 .0)) (List._∷_ (Row.lease (κs .1 .1 .0) (qs .1 .1 .0)) (List._∷_ (Row.lease
+              (κs .1 .1 .1 .0) (qs .1 .1 .1 .0)) (List._∷_ Row.off (List._∷_ Row.off (List._∷_ Row.off (List._∷_ Row.off List.[])))))));
+        }
 
         abbrev G61 : Row.Cx
-        G61 = record
-            { locals = List._++_ t11 t44; slots = List._∷_ (Row.lease (κs .0) (qs .0)) (List._∷_ (Row.lease (κs .1 .0) (qs .1 .0)) (List._∷_ (Row.lease (κs .1 .1 .0) (qs .1 .1 .0)) (List._∷_ (Row.lease
-            (κs .1 .1 .1 .0) (qs .1 .1 .1 .0)) (List._∷_ Row.off (List._∷_ Row.off (List._∷_ Row.off (List._∷_ Row.off List.[]))))))); }
+        G61 = record {
+          locals = List._++_ t11 t44;
+          slots = List._∷_ (Row.lease (κs .0) (qs .0)) (List._∷_ (Row.lease (κs .1 .0) (qs .1 .0)) (List._∷_ (Row.lease (κs .1 .1 .0) (qs .1 .1 .0)) (List._∷_ (Row.lease
+              (κs .1 .1 .1 .0) (qs .1 .1 .1 .0)) (List._∷_ Row.off (List._∷_ Row.off (List._∷_ Row.off (List._∷_ Row.off List.[])))))));
+        }
 
         abbrev G62 : Row.Cx
-        G62 = record
-            { locals = List._++_ t11 t1; slots = List._∷_ (Row.lease (κs .0) (qs .0)) (List._∷_ (Row.lease (κs .1 .0) (qs .1 .0)) (List._∷_ (Row.lease (κs .1 .1 .0) (qs .1 .1 .0)) (List._∷_ (Row.lease (κs
-            .1 .1 .1 .0) (qs .1 .1 .1 .0)) (List._∷_ Row.off (List._∷_ Row.off (List._∷_ Row.off (List._∷_ Row.off List.[]))))))); }
+        G62 = record {
+          locals = List._++_ t11 t1;
+          slots = List._∷_ (Row.lease (κs .0) (qs .0)) (List._∷_ (Row.lease (κs .1 .0) (qs .1 .0)) (List._∷_ (Row.lease (κs .1 .1 .0) (qs .1 .1 .0)) (List._∷_ (Row.lease (κs
+              .1 .1 .1 .0) (qs .1 .1 .1 .0)) (List._∷_ Row.off (List._∷_ Row.off (List._∷_ Row.off (List._∷_ Row.off List.[])))))));
+        }
 
         abbrev G63 : Row.Cx
-        G63 = record
-            { locals = List._++_ t11 t1; slots = List._∷_ (Row.lease (κs .0) (qs .0)) (List._∷_ (Row.lease (κs .1 .0) (qs .1 .0)) (List._∷_ (Row.lease (κs .1 .1 .0) (qs .1 .1 .0)) (List._∷_ (Row.lease (κs
-            .1 .1 .1 .0) (qs .1 .1 .1 .0)) (List._∷_ Row.off (List._∷_ Row.off (List._∷_ Row.off (List._∷_ Row.off List.[]))))))); }
+        G63 = record {
+          locals = List._++_ t11 t1;
+          slots = List._∷_ (Row.lease (κs .0) (qs .0)) (List._∷_ (Row.lease (κs .1 .0) (qs .1 .0)) (List._∷_ (Row.lease (κs .1 .1 .0) (qs .1 .1 .0)) (List._∷_ (Row.lease (κs
+              .1 .1 .1 .0) (qs .1 .1 .1 .0)) (List._∷_ Row.off (List._∷_ Row.off (List._∷_ Row.off (List._∷_ Row.off List.[])))))));
+        }
 
         abbrev G64 : Row.Cx
-        G64 = record
-            { locals = List._++_ t45 t1; slots = List._∷_ (Row.lease (κs .0) (qs .0)) (List._∷_ (Row.lease (κs .1 .0) (qs .1 .0)) (List._∷_ (Row.lease (κs .1 .1 .0) (qs .1 .1 .0)) (List._∷_ (Row.lease (κs
-            .1 .1 .1 .0) (qs .1 .1 .1 .0)) (List._∷_ Row.off (List._∷_ Row.off (List._∷_ Row.off (List._∷_ Row.off List.[]))))))); }
+        G64 = record {
+          locals = List._++_ t45 t1;
+          slots = List._∷_ (Row.lease (κs .0) (qs .0)) (List._∷_ (Row.lease (κs .1 .0) (qs .1 .0)) (List._∷_ (Row.lease (κs .1 .1 .0) (qs .1 .1 .0)) (List._∷_ (Row.lease (κs
+              .1 .1 .1 .0) (qs .1 .1 .1 .0)) (List._∷_ Row.off (List._∷_ Row.off (List._∷_ Row.off (List._∷_ Row.off List.[])))))));
+        }
 
         abbrev G65 : Row.Cx
-        G65 = record
-            { locals = List._++_ t46 t1; slots = List._∷_ (Row.lease (κs .0) (qs .0)) (List._∷_ (Row.lease (κs .1 .0) (qs .1 .0)) (List._∷_ (Row.lease (κs .1 .1 .0) (qs .1 .1 .0)) (List._∷_ (Row.lease (κs
-            .1 .1 .1 .0) (qs .1 .1 .1 .0)) (List._∷_ Row.off (List._∷_ Row.off (List._∷_ Row.off (List._∷_ Row.off List.[]))))))); }
+        G65 = record {
+          locals = List._++_ t46 t1;
+          slots = List._∷_ (Row.lease (κs .0) (qs .0)) (List._∷_ (Row.lease (κs .1 .0) (qs .1 .0)) (List._∷_ (Row.lease (κs .1 .1 .0) (qs .1 .1 .0)) (List._∷_ (Row.lease (κs
+              .1 .1 .1 .0) (qs .1 .1 .1 .0)) (List._∷_ Row.off (List._∷_ Row.off (List._∷_ Row.off (List._∷_ Row.off List.[])))))));
+        }
 
         abbrev G66 : Row.Cx
-        G66 = record
-            { locals = List._++_ t47 t1; slots = List._∷_ (Row.lease (κs .0) (qs .0)) (List._∷_ (Row.lease (κs .1 .0) (qs .1 .0)) (List._∷_ (Row.lease (κs .1 .1 .0) (qs .1 .1 .0)) (List._∷_ (Row.lease (κs
-            .1 .1 .1 .0) (qs .1 .1 .1 .0)) (List._∷_ Row.off (List._∷_ Row.off (List._∷_ Row.off (List._∷_ Row.off List.[]))))))); }
+        G66 = record {
+          locals = List._++_ t47 t1;
+          slots = List._∷_ (Row.lease (κs .0) (qs .0)) (List._∷_ (Row.lease (κs .1 .0) (qs .1 .0)) (List._∷_ (Row.lease (κs .1 .1 .0) (qs .1 .1 .0)) (List._∷_ (Row.lease (κs
+              .1 .1 .1 .0) (qs .1 .1 .1 .0)) (List._∷_ Row.off (List._∷_ Row.off (List._∷_ Row.off (List._∷_ Row.off List.[])))))));
+        }
 
         abbrev G67 : Row.Cx
-        G67 = record
-            { locals = List._++_ t48 t1; slots = List._∷_ (Row.lease (κs .0) (qs .0)) (List._∷_ (Row.lease (κs .1 .0) (qs .1 .0)) (List._∷_ (Row.lease (κs .1 .1 .0) (qs .1 .1 .0)) (List._∷_ (Row.lease (κs
-            .1 .1 .1 .0) (qs .1 .1 .1 .0)) (List._∷_ Row.off (List._∷_ Row.off (List._∷_ Row.off (List._∷_ Row.off List.[]))))))); }
+        G67 = record {
+          locals = List._++_ t48 t1;
+          slots = List._∷_ (Row.lease (κs .0) (qs .0)) (List._∷_ (Row.lease (κs .1 .0) (qs .1 .0)) (List._∷_ (Row.lease (κs .1 .1 .0) (qs .1 .1 .0)) (List._∷_ (Row.lease (κs
+              .1 .1 .1 .0) (qs .1 .1 .1 .0)) (List._∷_ Row.off (List._∷_ Row.off (List._∷_ Row.off (List._∷_ Row.off List.[])))))));
+        }
 
         abbrev G68 : Row.Cx
-        G68 = record
-            { locals = List._++_ t49 t1; slots = List._∷_ (Row.lease (κs .0) (qs .0)) (List._∷_ (Row.lease (κs .1 .0) (qs .1 .0)) (List._∷_ (Row.lease (κs .1 .1 .0) (qs .1 .1 .0)) (List._∷_ (Row.lease (κs
-            .1 .1 .1 .0) (qs .1 .1 .1 .0)) (List._∷_ Row.off (List._∷_ Row.off (List._∷_ Row.off (List._∷_ Row.off List.[]))))))); }
+        G68 = record {
+          locals = List._++_ t49 t1;
+          slots = List._∷_ (Row.lease (κs .0) (qs .0)) (List._∷_ (Row.lease (κs .1 .0) (qs .1 .0)) (List._∷_ (Row.lease (κs .1 .1 .0) (qs .1 .1 .0)) (List._∷_ (Row.lease (κs
+              .1 .1 .1 .0) (qs .1 .1 .1 .0)) (List._∷_ Row.off (List._∷_ Row.off (List._∷_ Row.off (List._∷_ Row.off List.[])))))));
+        }
 
         abbrev G69 : Row.Cx
-        G69 = record
-            { locals = List._++_ t2 t1; slots = List._∷_ (Row.lease (κs .0) (qs .0)) (List._∷_ (Row.lease (κs .1 .0) (qs .1 .0)) (List._∷_ (Row.lease (κs .1 .1 .0) (qs .1 .1 .0)) (List._∷_ (Row.lease (κs
-            .1 .1 .1 .0) (qs .1 .1 .1 .0)) (List._∷_ Row.off (List._∷_ Row.off (List._∷_ Row.off (List._∷_ Row.off List.[]))))))); }
+        G69 = record {
+          locals = List._++_ t2 t1;
+          slots = List._∷_ (Row.lease (κs .0) (qs .0)) (List._∷_ (Row.lease (κs .1 .0) (qs .1 .0)) (List._∷_ (Row.lease (κs .1 .1 .0) (qs .1 .1 .0)) (List._∷_ (Row.lease (κs
+              .1 .1 .1 .0) (qs .1 .1 .1 .0)) (List._∷_ Row.off (List._∷_ Row.off (List._∷_ Row.off (List._∷_ Row.off List.[])))))));
+        }
 
         abbrev Δ0 : Typed.Outs
         Δ0 = record { next = Option.none; exits = List.[]; returns = Option.some G1 }
@@ -1990,13 +2370,24 @@ module _ (claims· : Claims) where
 
           d11 : Typed.Typed 𝓤 H A 𝓣 E G60 b26 Δ3 at11
           d11 = Typed.s-seq 𝓤 H A W 𝓣 E G60 G61 b24 b25 Δ3 (Typed.both s57) at10 (Plain.t-call-plain 𝓤 H A W 𝓣 0 ps·8 r·8 (claims· .16) (claims· .17) "block::decoding::judged" (known .8) E (λ pos β.
-              β) G60 (record { pos = 13; st = List.[]; d = 0; at = λ x. x }, (Num.vAt 14 λ x. x, (record { pos = 19; st = List.[]; d = 0; at = λ x. x }, tt))) 13 List.[] (Call.sub-id 𝓤 H A W (G60 .slots))
-              ((Yields.yields-copy 𝓤 H A W (λ ρ. Unit) (Declared.row Decoded.the-type) Path'.refl (Copies.cEnum Decoded.the-type Laws.the-laws Laws.the-copy .copy 𝓤 H A W) (Rows'.whole (Declared.row
-              Decoded.the-type)) (λ x. x) (λ x. x) (λ ρ told. Local.mem-whole 𝓤 H A W (Declared.row Decoded.the-type) ρ) λ ρ told. Local.whole-mem 𝓤 H A W (Declared.row Decoded.the-type) ρ, Path'.refl),
-              ((Scalar.reads-sc 𝓤 H A W (Row.sInt Syntax.w64), Path'.refl),
-              ((Yields.yields-copy 𝓤 H A W (λ ρ. Unit) (Declared.row Walked.the-type) Path'.refl (Copies.cEnum Walked.the-type Laws''.the-laws Laws''.the-copy .copy 𝓤 H A W) (Rows'.whole (Declared.row
-              Walked.the-type)) (λ x. x) (λ x. x) (λ ρ told. Local.mem-whole 𝓤 H A W (Declared.row Walked.the-type) ρ) λ ρ told. Local.whole-mem 𝓤 H A W (Declared.row Walked.the-type) ρ, Path'.refl),
-              tt))) (Local.room-whole 𝓤 H A W (Declared.row Decoded.the-type) (Syntax.tyEnum (List._∷_ 98 (List._∷_ 108 (List._∷_ 111 (List._∷_ 99 (List._∷_ 107 (List._∷_ 58 (List._∷_ 58 (List._∷_ 68
+              β) G60 (record { pos = 13; st = List.[]; d = 0; at = λ x. x }, (Num.vAt 14 λ x. x, (record { pos = 19; st = List.[]; d = 0; at = λ x. x }, tt))) 13 List.[] (Call.sub-id 𝓤 H A W (G60 .slots)) (
+                (
+                  Yields.yields-copy 𝓤 H A W (λ ρ. Unit) (Declared.row Decoded.the-type) Path'.refl (Copies.cEnum Decoded.the-type Laws.the-laws Laws.the-copy .copy 𝓤 H A W) (Rows'.whole (Declared.row
+                      Decoded.the-type)) (λ x. x) (λ x. x) (λ ρ told. Local.mem-whole 𝓤 H A W (Declared.row Decoded.the-type) ρ) λ ρ told. Local.whole-mem 𝓤 H A W (Declared.row Decoded.the-type) ρ,
+                  Path'.refl,
+                ),
+                (
+                  (Scalar.reads-sc 𝓤 H A W (Row.sInt Syntax.w64), Path'.refl),
+                  (
+                    (
+                      Yields.yields-copy 𝓤 H A W (λ ρ. Unit) (Declared.row Walked.the-type) Path'.refl (Copies.cEnum Walked.the-type Laws''.the-laws Laws''.the-copy .copy 𝓤 H A W) (Rows'.whole (Declared.row
+                          Walked.the-type)) (λ x. x) (λ x. x) (λ ρ told. Local.mem-whole 𝓤 H A W (Declared.row Walked.the-type) ρ) λ ρ told. Local.whole-mem 𝓤 H A W (Declared.row Walked.the-type) ρ,
+                      Path'.refl,
+                    ),
+                    tt,
+                  ),
+                ),
+              ) (Local.room-whole 𝓤 H A W (Declared.row Decoded.the-type) (Syntax.tyEnum (List._∷_ 98 (List._∷_ 108 (List._∷_ 111 (List._∷_ 99 (List._∷_ 107 (List._∷_ 58 (List._∷_ 58 (List._∷_ 68
               (List._∷_ 101 (List._∷_ 99 (List._∷_ 111 (List._∷_ 100 (List._∷_ 101 (List._∷_ 100 List.[])))))))))))))) (Syntax.ttcons Syntax.tnil (Syntax.ttcons (Syntax.tcons (Syntax.tyEnum (List._∷_ 115
               (List._∷_ 116 (List._∷_ 114 (List._∷_ 101 (List._∷_ 97 (List._∷_ 109 (List._∷_ 58 (List._∷_ 58 (List._∷_ 82 (List._∷_ 101 (List._∷_ 102 (List._∷_ 117 (List._∷_ 115 (List._∷_ 97 (List._∷_ 108
               List.[]))))))))))))))) (Syntax.ttcons Syntax.tnil (Syntax.ttcons Syntax.tnil (Syntax.ttcons Syntax.tnil (Syntax.ttcons (Syntax.tcons (Syntax.tyInt Syntax.w64) Syntax.tnil) (Syntax.ttcons
@@ -2089,39 +2480,98 @@ module _ (claims· : Claims) where
 
           d32 : Typed.Typed 𝓤 H A 𝓣 E G39 b27 Δ3 at32
           d32 = Typed.s-seq 𝓤 H A W 𝓣 E G39 G40 b23 b26 Δ3 (Typed.both s36) at31 (Plain.t-call-plain 𝓤 H A W 𝓣 6 ps·7 r·7 (claims· .14) (claims· .15) "block::reading::walk" (known .7) E (λ pos β. β)
-              G39
-              (record { pos = 16; ty = Syntax.tyRef Syntax.erased Syntax.imm (Syntax.tyInt Syntax.w8); ref = λ x. x; },
-              (record { pos = 17; ty = Syntax.tyRef Syntax.erased Syntax.imm (Syntax.tyInt Syntax.w8); ref = λ x. x; },
-              (record { pos = 23; ty = Syntax.tyRef Syntax.erased Syntax.mut (Syntax.tyInt Syntax.w16); ref = λ x. x; },
-              (record { pos = 25; ty = Syntax.tyRef Syntax.erased Syntax.mut Element.behind; ref = λ x. x; },
-              (record { pos = 27; ty = Syntax.tyRef Syntax.erased Syntax.mut (Syntax.tyInt Syntax.w16); ref = λ x. x; },
-              (record { pos = 15; st = List.[]; d = 0; at = λ x. x },
-              (record { pos = 28; ty = Syntax.tyRef Syntax.erased Syntax.imm (Syntax.tyArray (Syntax.tyInt Syntax.w16) 768); ref = λ x. x; },
-              (record { pos = 4; st = List.[]; d = 0; at = λ x. x },
-              (record { pos = 18; st = List.[]; d = 0; at = λ x. x }, (Num.vAt 10 λ x. x, (Bool.bAt 8 λ x. x, (record { pos = 29; st = List.[]; d = 0; at = λ x. x }, tt)))))))))))) 19 (List._∷_ 0
-              (List._∷_ 0 (List._∷_ 4 (List._∷_ 5 (List._∷_ 6 (List._∷_ 7 List.[])))))) (Call.sub-id 𝓤 H A W (G39 .slots))
-              (ShrSlice.spares-sslice 𝓤 H A W (Referent.rtF (Referent.fInt Syntax.w8)) (Syntax.tyRef Syntax.erased Syntax.imm (Syntax.tyInt Syntax.w8)) 0, Shared.reads-sslice 𝓤 H A W (Referent.rtF
-              (Referent.fInt Syntax.w8)) (Syntax.tyRef Syntax.erased Syntax.imm (Syntax.tyInt Syntax.w8)) 0, Path'.refl,
-              (ShrSlice.spares-sslice 𝓤 H A W (Referent.rtF (Referent.fInt Syntax.w8)) (Syntax.tyRef Syntax.erased Syntax.imm (Syntax.tyInt Syntax.w8)) 0, Shared.reads-sslice 𝓤 H A W (Referent.rtF
-              (Referent.fInt Syntax.w8)) (Syntax.tyRef Syntax.erased Syntax.imm (Syntax.tyInt Syntax.w8)) 0, Path'.refl,
-              (Reads'.as-is 𝓤 H A (Mut.mslice (Referent.rtF (Referent.fInt Syntax.w16)) (Syntax.tyRef Syntax.erased Syntax.mut (Syntax.tyInt Syntax.w16)) 4), Mut.reads-mslice 𝓤 H A W (Referent.rtF
-              (Referent.fInt Syntax.w16)) (Syntax.tyRef Syntax.erased Syntax.mut (Syntax.tyInt Syntax.w16)) 4, Path'.refl,
-              (Reads'.as-is 𝓤 H A (Mut.mslice (Element.type) (Syntax.tyRef Syntax.erased Syntax.mut Element.behind) 5), Mut.reads-mslice 𝓤 H A W (Element.type) (Syntax.tyRef Syntax.erased Syntax.mut
-              Element.behind) 5, Path'.refl,
-              (Reads'.as-is 𝓤 H A (Mut.mslice (Referent.rtF (Referent.fInt Syntax.w16)) (Syntax.tyRef Syntax.erased Syntax.mut (Syntax.tyInt Syntax.w16)) 6), Mut.reads-mslice 𝓤 H A W (Referent.rtF
-              (Referent.fInt Syntax.w16)) (Syntax.tyRef Syntax.erased Syntax.mut (Syntax.tyInt Syntax.w16)) 6, Path'.refl,
-              ((Yields.yields-copy 𝓤 H A W (λ ρ. Unit) (Declared'.row Form.the-type) Path'.refl (Copies.cStruct Form.the-type Laws'.the-laws Laws'.the-copy .copy 𝓤 H A W) (Rows'.whole (Declared'.row
-              Form.the-type)) (λ x. x) (λ x. x) (λ ρ told. Local.mem-whole 𝓤 H A W (Declared'.row Form.the-type) ρ) λ ρ told. Local.whole-mem 𝓤 H A W (Declared'.row Form.the-type) ρ, Path'.refl),
-              (ShrRef.spares-sref 𝓤 H A W (Array'.Array (Referent.rtF (Referent.fInt Syntax.w16)) 768) (Syntax.tyRef Syntax.erased Syntax.imm (Syntax.tyArray (Syntax.tyInt Syntax.w16) 768)) 7,
-              Reads'.reads-sref 𝓤 H A W (Array'.Array (Referent.rtF (Referent.fInt Syntax.w16)) 768) (Syntax.tyRef Syntax.erased Syntax.imm (Syntax.tyArray (Syntax.tyInt Syntax.w16) 768)) 7, Path'.refl,
-              ((Array.arr-yields 𝓤 H A W (Array.eInt Syntax.w8) (Array.eInt-laws Syntax.w8) 36, Path'.refl),
-              ((Yields.yields-copy 𝓤 H A W (λ ρ. Unit) (Declared'.row Part.the-type) Path'.refl (Copies.cStruct Part.the-type Laws'4.the-laws Laws'4.the-copy .copy 𝓤 H A W) (Rows'.whole (Declared'.row
-              Part.the-type)) (λ x. x) (λ x. x) (λ ρ told. Local.mem-whole 𝓤 H A W (Declared'.row Part.the-type) ρ) λ ρ told. Local.whole-mem 𝓤 H A W (Declared'.row Part.the-type) ρ, Path'.refl),
-              ((Scalar.reads-sc 𝓤 H A W (Row.sInt Syntax.w64), Path'.refl),
-              ((Scalar.reads-sc 𝓤 H A W Row.sBool, Path'.refl),
-              ((Yields.yields-copy 𝓤 H A W (λ ρ. Unit) (Declared'.row Entries.the-type) Path'.refl (Copies.cStruct Entries.the-type Laws'3.the-laws Laws'3.the-copy .copy 𝓤 H A W) (Rows'.whole
-              (Declared'.row Entries.the-type)) (λ x. x) (λ x. x) (λ ρ told. Local.mem-whole 𝓤 H A W (Declared'.row Entries.the-type) ρ) λ ρ told. Local.whole-mem 𝓤 H A W (Declared'.row Entries.the-type)
-              ρ, Path'.refl), tt)))))))))))) (Reads'.room-gone 𝓤 H A (Syntax.tyEnum (List._∷_ 98 (List._∷_ 108 (List._∷_ 111 (List._∷_ 99 (List._∷_ 107 (List._∷_ 58 (List._∷_ 58 (List._∷_ 87 (List._∷_ 97
+              G39 (
+                record { pos = 16; ty = Syntax.tyRef Syntax.erased Syntax.imm (Syntax.tyInt Syntax.w8); ref = λ x. x },
+                (
+                  record { pos = 17; ty = Syntax.tyRef Syntax.erased Syntax.imm (Syntax.tyInt Syntax.w8); ref = λ x. x },
+                  (
+                    record { pos = 23; ty = Syntax.tyRef Syntax.erased Syntax.mut (Syntax.tyInt Syntax.w16); ref = λ x. x },
+                    (
+                      record { pos = 25; ty = Syntax.tyRef Syntax.erased Syntax.mut Element.behind; ref = λ x. x },
+                      (
+                        record { pos = 27; ty = Syntax.tyRef Syntax.erased Syntax.mut (Syntax.tyInt Syntax.w16); ref = λ x. x },
+                        (
+                          record { pos = 15; st = List.[]; d = 0; at = λ x. x },
+                          (
+                            record { pos = 28; ty = Syntax.tyRef Syntax.erased Syntax.imm (Syntax.tyArray (Syntax.tyInt Syntax.w16) 768); ref = λ x. x },
+                            (
+                              record { pos = 4; st = List.[]; d = 0; at = λ x. x },
+                              (record { pos = 18; st = List.[]; d = 0; at = λ x. x }, (Num.vAt 10 λ x. x, (Bool.bAt 8 λ x. x, (record { pos = 29; st = List.[]; d = 0; at = λ x. x }, tt)))),
+                            ),
+                          ),
+                        ),
+                      ),
+                    ),
+                  ),
+                ),
+              ) 19 (List._∷_ 0
+              (List._∷_ 0 (List._∷_ 4 (List._∷_ 5 (List._∷_ 6 (List._∷_ 7 List.[])))))) (Call.sub-id 𝓤 H A W (G39 .slots)) (
+                ShrSlice.spares-sslice 𝓤 H A W (Referent.rtF (Referent.fInt Syntax.w8)) (Syntax.tyRef Syntax.erased Syntax.imm (Syntax.tyInt Syntax.w8)) 0,
+                Shared.reads-sslice 𝓤 H A W (Referent.rtF
+                    (Referent.fInt Syntax.w8)) (Syntax.tyRef Syntax.erased Syntax.imm (Syntax.tyInt Syntax.w8)) 0,
+                Path'.refl,
+                (
+                  ShrSlice.spares-sslice 𝓤 H A W (Referent.rtF (Referent.fInt Syntax.w8)) (Syntax.tyRef Syntax.erased Syntax.imm (Syntax.tyInt Syntax.w8)) 0,
+                  Shared.reads-sslice 𝓤 H A W (Referent.rtF
+                      (Referent.fInt Syntax.w8)) (Syntax.tyRef Syntax.erased Syntax.imm (Syntax.tyInt Syntax.w8)) 0,
+                  Path'.refl,
+                  (
+                    Reads'.as-is 𝓤 H A (Mut.mslice (Referent.rtF (Referent.fInt Syntax.w16)) (Syntax.tyRef Syntax.erased Syntax.mut (Syntax.tyInt Syntax.w16)) 4),
+                    Mut.reads-mslice 𝓤 H A W (Referent.rtF
+                        (Referent.fInt Syntax.w16)) (Syntax.tyRef Syntax.erased Syntax.mut (Syntax.tyInt Syntax.w16)) 4,
+                    Path'.refl,
+                    (
+                      Reads'.as-is 𝓤 H A (Mut.mslice (Element.type) (Syntax.tyRef Syntax.erased Syntax.mut Element.behind) 5),
+                      Mut.reads-mslice 𝓤 H A W (Element.type) (Syntax.tyRef Syntax.erased Syntax.mut
+                          Element.behind) 5,
+                      Path'.refl,
+                      (
+                        Reads'.as-is 𝓤 H A (Mut.mslice (Referent.rtF (Referent.fInt Syntax.w16)) (Syntax.tyRef Syntax.erased Syntax.mut (Syntax.tyInt Syntax.w16)) 6),
+                        Mut.reads-mslice 𝓤 H A W (Referent.rtF
+                            (Referent.fInt Syntax.w16)) (Syntax.tyRef Syntax.erased Syntax.mut (Syntax.tyInt Syntax.w16)) 6,
+                        Path'.refl,
+                        (
+                          (
+                            Yields.yields-copy 𝓤 H A W (λ ρ. Unit) (Declared'.row Form.the-type) Path'.refl (Copies.cStruct Form.the-type Laws'.the-laws Laws'.the-copy .copy 𝓤 H A W) (Rows'.whole (Declared'.row
+                                Form.the-type)) (λ x. x) (λ x. x) (λ ρ told. Local.mem-whole 𝓤 H A W (Declared'.row Form.the-type) ρ) λ ρ told. Local.whole-mem 𝓤 H A W (Declared'.row Form.the-type) ρ,
+                            Path'.refl,
+                          ),
+                          (
+                            ShrRef.spares-sref 𝓤 H A W (Array'.Array (Referent.rtF (Referent.fInt Syntax.w16)) 768) (Syntax.tyRef Syntax.erased Syntax.imm (Syntax.tyArray (Syntax.tyInt Syntax.w16) 768)) 7,
+                            Reads'.reads-sref 𝓤 H A W (Array'.Array (Referent.rtF (Referent.fInt Syntax.w16)) 768) (Syntax.tyRef Syntax.erased Syntax.imm (Syntax.tyArray (Syntax.tyInt Syntax.w16) 768)) 7,
+                            Path'.refl,
+                            (
+                              (Array.arr-yields 𝓤 H A W (Array.eInt Syntax.w8) (Array.eInt-laws Syntax.w8) 36, Path'.refl),
+                              (
+                                (
+                                  Yields.yields-copy 𝓤 H A W (λ ρ. Unit) (Declared'.row Part.the-type) Path'.refl (Copies.cStruct Part.the-type Laws'4.the-laws Laws'4.the-copy .copy 𝓤 H A W) (Rows'.whole (Declared'.row
+                                      Part.the-type)) (λ x. x) (λ x. x) (λ ρ told. Local.mem-whole 𝓤 H A W (Declared'.row Part.the-type) ρ) λ ρ told. Local.whole-mem 𝓤 H A W (Declared'.row Part.the-type) ρ,
+                                  Path'.refl,
+                                ),
+                                (
+                                  (Scalar.reads-sc 𝓤 H A W (Row.sInt Syntax.w64), Path'.refl),
+                                  (
+                                    (Scalar.reads-sc 𝓤 H A W Row.sBool, Path'.refl),
+                                    (
+                                      (
+                                        Yields.yields-copy 𝓤 H A W (λ ρ. Unit) (Declared'.row Entries.the-type) Path'.refl (Copies.cStruct Entries.the-type Laws'3.the-laws Laws'3.the-copy .copy 𝓤 H A W) (Rows'.whole
+                                            (Declared'.row Entries.the-type)) (λ x. x) (λ x. x) (λ ρ told. Local.mem-whole 𝓤 H A W (Declared'.row Entries.the-type) ρ) λ ρ told. Local.whole-mem 𝓤 H A W (Declared'.row Entries.the-type)
+                                            ρ,
+                                        Path'.refl,
+                                      ),
+                                      tt,
+                                    ),
+                                  ),
+                                ),
+                              ),
+                            ),
+                          ),
+                        ),
+                      ),
+                    ),
+                  ),
+                ),
+              ) (Reads'.room-gone 𝓤 H A (Syntax.tyEnum (List._∷_ 98 (List._∷_ 108 (List._∷_ 111 (List._∷_ 99 (List._∷_ 107 (List._∷_ 58 (List._∷_ 58 (List._∷_ 87 (List._∷_ 97
               (List._∷_ 108 (List._∷_ 107 (List._∷_ 101 (List._∷_ 100 List.[]))))))))))))) (Syntax.ttcons (Syntax.tcons y5 (Syntax.tcons y10 Syntax.tnil)) (Syntax.ttcons (Syntax.tcons (Syntax.tyInt
               Syntax.w64) (Syntax.tcons y5 Syntax.tnil)) Syntax.ttnil)))) (tt, (tt, (tt, (tt, (tt, (tt, tt)))))) Path'.refl) d31
 
@@ -2135,19 +2585,26 @@ module _ (claims· : Claims) where
               Syntax.erased Syntax.imm (Syntax.tyArray (Syntax.tyInt Syntax.w16) 768))) Path'.refl λ b o. tt) d33
 
           d35 : Typed.Typed 𝓤 H A 𝓣 E G36 b29 Δ3 at35
-          d35 = Typed.g-pre 𝓤 H A W 𝓣 E G36 G37 b29 Δ3 (λ Ψ. Ψ) at34 (Lifetime.g-begin 𝓤 H A W E G36 7
-              (tt,
-              (tt,
-              (tt,
-              (tt, (tt, ((tt, tt), ((tt, tt), ((tt, tt), (tt, (tt, (tt, (tt, (tt, (tt, (tt, (tt, (tt, (tt, (tt, (tt, (tt, (tt, (tt, (tt, (tt, (tt, (tt, (tt, (tt, (tt, tt))))))))))))))))))))))))))))))) d34
+          d35 = Typed.g-pre 𝓤 H A W 𝓣 E G36 G37 b29 Δ3 (λ Ψ. Ψ) at34 (Lifetime.g-begin 𝓤 H A W E G36 7 (
+            tt,
+            (
+              tt,
+              (
+                tt,
+                (tt, (tt, ((tt, tt), ((tt, tt), ((tt, tt), (tt, (tt, (tt, (tt, (tt, (tt, (tt, (tt, (tt, (tt, (tt, (tt, (tt, (tt, (tt, (tt, (tt, (tt, (tt, (tt, (tt, (tt, tt))))))))))))))))))))))))))),
+              ),
+            ),
+          )) d34
 
           d36 : Typed.Typed 𝓤 H A 𝓣 E G35 b30 Δ3 at36
           d36 = Typed.s-seq 𝓤 H A W 𝓣 E G35 G36 b20 b29 Δ3 (Typed.ask s32) at35 (Relend.t-sl-aggregate 𝓤 H A W E (Referent.rtF (Referent.fInt Syntax.w16)) 𝓣 (Relend.asMut (Referent.rtF (Referent.fInt
               Syntax.w16))) G35 26 27 6 (Syntax.tyRef Syntax.erased Syntax.mut (Syntax.tyInt Syntax.w16)) (Syntax.tyRef Syntax.erased Syntax.mut (Syntax.tyInt Syntax.w16)) (λ x. x) (Scalar.oFld 5
               (List._∷_ (Syntax.field 1) List.[]) (Syntax.tyInt Syntax.w64) 8 λ v. Shared.lenV (v .0)) (Reads'.as-is 𝓤 H A (Relend.msptr (Referent.rtF (Referent.fInt Syntax.w16)) (Syntax.tyRef
-              Syntax.erased Syntax.mut (Syntax.tyInt Syntax.w16)) 6)) (Reads'.room-gone 𝓤 H A y7)
-              (Relend.reads-owed-len 𝓤 H A W (Referent.rtF (Referent.fInt Syntax.w16)) (Syntax.tyRef (Syntax.named 1) Syntax.mut (Syntax.tyInt Syntax.w16)) 1 6 (Row.lease (κs .1 .0) (qs .1 .0)) 8
-              Path'.refl, Path'.refl) Path'.refl Path'.refl λ b o k. tt) d35
+              Syntax.erased Syntax.mut (Syntax.tyInt Syntax.w16)) 6)) (Reads'.room-gone 𝓤 H A y7) (
+                Relend.reads-owed-len 𝓤 H A W (Referent.rtF (Referent.fInt Syntax.w16)) (Syntax.tyRef (Syntax.named 1) Syntax.mut (Syntax.tyInt Syntax.w16)) 1 6 (Row.lease (κs .1 .0) (qs .1 .0)) 8
+                    Path'.refl,
+                Path'.refl,
+              ) Path'.refl Path'.refl λ b o k. tt) d35
 
           d37 : Typed.Typed 𝓤 H A 𝓣 E G34 b31 Δ3 at37
           d37 = Typed.s-seq 𝓤 H A W 𝓣 E G34 G35 b19 b30 Δ3 (Typed.give s31) at36 (Relend.t-sl-relend 𝓤 H A W E (Referent.rtF (Referent.fInt Syntax.w16)) 𝓣 G34 5 26 1 6 (Syntax.tyRef (Syntax.named 1)
@@ -2156,9 +2613,10 @@ module _ (claims· : Claims) where
               (Syntax.tyInt Syntax.w16))) Path'.refl tt Path'.refl Path'.refl Path'.refl λ b o. tt) d36
 
           d38 : Typed.Typed 𝓤 H A 𝓣 E G33 b31 Δ3 at38
-          d38 = Typed.g-pre 𝓤 H A W 𝓣 E G33 G34 b31 Δ3 (λ Ψ. Ψ) at37 (Lifetime.g-begin 𝓤 H A W E G33 6
-              (tt,
-              (tt, (tt, (tt, (tt, (tt, ((tt, tt), ((tt, tt), (tt, (tt, (tt, (tt, (tt, (tt, (tt, (tt, (tt, (tt, (tt, (tt, (tt, (tt, (tt, (tt, (tt, (tt, (tt, (tt, (tt, (tt, tt)))))))))))))))))))))))))))))))
+          d38 = Typed.g-pre 𝓤 H A W 𝓣 E G33 G34 b31 Δ3 (λ Ψ. Ψ) at37 (Lifetime.g-begin 𝓤 H A W E G33 6 (
+            tt,
+            (tt, (tt, (tt, (tt, (tt, ((tt, tt), ((tt, tt), (tt, (tt, (tt, (tt, (tt, (tt, (tt, (tt, (tt, (tt, (tt, (tt, (tt, (tt, (tt, (tt, (tt, (tt, (tt, (tt, (tt, (tt, tt))))))))))))))))))))))))))))),
+          ))
               d37
 
           d39 : Typed.Typed 𝓤 H A 𝓣 E G32 b32 Δ3 at39
@@ -2182,9 +2640,11 @@ module _ (claims· : Claims) where
           d42 = Typed.s-seq 𝓤 H A W 𝓣 E G29 G30 b16 b33 Δ3 (Typed.ask s26) at41 (Relend.t-sl-aggregate 𝓤 H A W E (Referent.rtF (Referent.fInt Syntax.w16)) 𝓣 (Relend.asMut (Referent.rtF (Referent.fInt
               Syntax.w16))) G29 22 23 4 (Syntax.tyRef Syntax.erased Syntax.mut (Syntax.tyInt Syntax.w16)) (Syntax.tyRef Syntax.erased Syntax.mut (Syntax.tyInt Syntax.w16)) (λ x. x) (Scalar.oFld 6
               (List._∷_ (Syntax.field 1) List.[]) (Syntax.tyInt Syntax.w64) 8 λ v. Shared.lenV (v .0)) (Reads'.as-is 𝓤 H A (Relend.msptr (Referent.rtF (Referent.fInt Syntax.w16)) (Syntax.tyRef
-              Syntax.erased Syntax.mut (Syntax.tyInt Syntax.w16)) 4)) (Reads'.room-gone 𝓤 H A y7)
-              (Relend.reads-owed-len 𝓤 H A W (Referent.rtF (Referent.fInt Syntax.w16)) (Syntax.tyRef (Syntax.named 2) Syntax.mut (Syntax.tyInt Syntax.w16)) 2 4 (Row.lease (κs .1 .1 .0) (qs .1 .1 .0)) 8
-              Path'.refl, Path'.refl) Path'.refl Path'.refl λ b o k. tt) d41
+              Syntax.erased Syntax.mut (Syntax.tyInt Syntax.w16)) 4)) (Reads'.room-gone 𝓤 H A y7) (
+                Relend.reads-owed-len 𝓤 H A W (Referent.rtF (Referent.fInt Syntax.w16)) (Syntax.tyRef (Syntax.named 2) Syntax.mut (Syntax.tyInt Syntax.w16)) 2 4 (Row.lease (κs .1 .1 .0) (qs .1 .1 .0)) 8
+                    Path'.refl,
+                Path'.refl,
+              ) Path'.refl Path'.refl λ b o k. tt) d41
 
           d43 : Typed.Typed 𝓤 H A 𝓣 E G28 b35 Δ3 at43
           d43 = Typed.s-seq 𝓤 H A W 𝓣 E G28 G29 b15 b34 Δ3 (Typed.give s25) at42 (Relend.t-sl-relend 𝓤 H A W E (Referent.rtF (Referent.fInt Syntax.w16)) 𝓣 G28 6 22 2 4 (Syntax.tyRef (Syntax.named 2)
@@ -2198,33 +2658,50 @@ module _ (claims· : Claims) where
 
           d45 : Typed.Typed 𝓤 H A 𝓣 E G26 b36 Δ3 at45
           d45 = Typed.s-seq 𝓤 H A W 𝓣 E G26 G27 b14 b35 Δ3 (Typed.both s23) at44 (Plain.t-call-plain 𝓤 H A W 𝓣 0 ps·5 r·5 (claims· .10) (claims· .11) "region::part" (known .5) E (λ pos β. β) G26
-              (record { pos = 3; st = List.[]; d = 0; at = λ x. x }, (Num.vAt 14 λ x. x, tt)) 18 List.[] (Call.sub-id 𝓤 H A W (G26 .slots))
-              ((Yields.yields-copy 𝓤 H A W (λ ρ. Unit) (Declared'.row Rect.the-type) Path'.refl (Copies.cStruct Rect.the-type Laws'5.the-laws Laws'5.the-copy .copy 𝓤 H A W) (Rows'.whole (Declared'.row
-              Rect.the-type)) (λ x. x) (λ x. x) (λ ρ told. Local.mem-whole 𝓤 H A W (Declared'.row Rect.the-type) ρ) λ ρ told. Local.whole-mem 𝓤 H A W (Declared'.row Rect.the-type) ρ, Path'.refl),
-              ((Scalar.reads-sc 𝓤 H A W (Row.sInt Syntax.w64), Path'.refl), tt)) (Reads'.room-gone 𝓤 H A y0) tt Path'.refl) d44
+              (record { pos = 3; st = List.[]; d = 0; at = λ x. x }, (Num.vAt 14 λ x. x, tt)) 18 List.[] (Call.sub-id 𝓤 H A W (G26 .slots)) (
+                (
+                  Yields.yields-copy 𝓤 H A W (λ ρ. Unit) (Declared'.row Rect.the-type) Path'.refl (Copies.cStruct Rect.the-type Laws'5.the-laws Laws'5.the-copy .copy 𝓤 H A W) (Rows'.whole (Declared'.row
+                      Rect.the-type)) (λ x. x) (λ x. x) (λ ρ told. Local.mem-whole 𝓤 H A W (Declared'.row Rect.the-type) ρ) λ ρ told. Local.whole-mem 𝓤 H A W (Declared'.row Rect.the-type) ρ,
+                  Path'.refl,
+                ),
+                ((Scalar.reads-sc 𝓤 H A W (Row.sInt Syntax.w64), Path'.refl), tt),
+              ) (Reads'.room-gone 𝓤 H A y0) tt Path'.refl) d44
 
           d46 : Typed.Typed 𝓤 H A 𝓣 E G25 b37 Δ3 at46
           d46 = Typed.s-seq 𝓤 H A W 𝓣 E G25 G26 b13 b36 Δ3 (Typed.both s22) at45 (Plain.t-call-plain 𝓤 H A W 𝓣 1 ps·4 r·4 (claims· .8) (claims· .9) "stream::base_row" (known .4) E (λ pos β. β) G25
-              (record { pos = 1; ty = Syntax.tyRef (Syntax.named 0) Syntax.imm (Syntax.tyInt Syntax.w8); ref = λ x. x; }, (Num.vAt 14 λ x. x, tt)) 17 (List._∷_ 0 List.[]) (Call.sub-id 𝓤 H A W (G25
-              .slots))
-              (ShrSlice.spares-sslice 𝓤 H A W (Referent.rtF (Referent.fInt Syntax.w8)) (Syntax.tyRef (Syntax.named 0) Syntax.imm (Syntax.tyInt Syntax.w8)) 0, Shared.reads-sslice 𝓤 H A W (Referent.rtF
-              (Referent.fInt Syntax.w8)) (Syntax.tyRef (Syntax.named 0) Syntax.imm (Syntax.tyInt Syntax.w8)) 0, Path'.refl, ((Scalar.reads-sc 𝓤 H A W (Row.sInt Syntax.w64), Path'.refl), tt))
+              (record { pos = 1; ty = Syntax.tyRef (Syntax.named 0) Syntax.imm (Syntax.tyInt Syntax.w8); ref = λ x. x }, (Num.vAt 14 λ x. x, tt)) 17 (List._∷_ 0 List.[]) (Call.sub-id 𝓤 H A W (G25
+              .slots)) (
+                ShrSlice.spares-sslice 𝓤 H A W (Referent.rtF (Referent.fInt Syntax.w8)) (Syntax.tyRef (Syntax.named 0) Syntax.imm (Syntax.tyInt Syntax.w8)) 0,
+                Shared.reads-sslice 𝓤 H A W (Referent.rtF
+                    (Referent.fInt Syntax.w8)) (Syntax.tyRef (Syntax.named 0) Syntax.imm (Syntax.tyInt Syntax.w8)) 0,
+                Path'.refl,
+                ((Scalar.reads-sc 𝓤 H A W (Row.sInt Syntax.w64), Path'.refl), tt),
+              )
               (Reads'.room-gone 𝓤 H A y6) (tt, tt) (Path'.refl, λ b o k. tt)) d45
 
           d47 : Typed.Typed 𝓤 H A 𝓣 E G24 b38 Δ3 at47
           d47 = Typed.s-seq 𝓤 H A W 𝓣 E G24 G25 b12 b37 Δ3 (Typed.both s21) at46 (Plain.t-call-plain 𝓤 H A W 𝓣 1 ps·3 r·3 (claims· .6) (claims· .7) "stream::block_bytes" (known .3) E (λ pos β. β) G24
-              (record { pos = 1; ty = Syntax.tyRef (Syntax.named 0) Syntax.imm (Syntax.tyInt Syntax.w8); ref = λ x. x; }, (Num.vAt 14 λ x. x, tt)) 16 (List._∷_ 0 List.[]) (Call.sub-id 𝓤 H A W (G24
-              .slots))
-              (ShrSlice.spares-sslice 𝓤 H A W (Referent.rtF (Referent.fInt Syntax.w8)) (Syntax.tyRef (Syntax.named 0) Syntax.imm (Syntax.tyInt Syntax.w8)) 0, Shared.reads-sslice 𝓤 H A W (Referent.rtF
-              (Referent.fInt Syntax.w8)) (Syntax.tyRef (Syntax.named 0) Syntax.imm (Syntax.tyInt Syntax.w8)) 0, Path'.refl, ((Scalar.reads-sc 𝓤 H A W (Row.sInt Syntax.w64), Path'.refl), tt))
+              (record { pos = 1; ty = Syntax.tyRef (Syntax.named 0) Syntax.imm (Syntax.tyInt Syntax.w8); ref = λ x. x }, (Num.vAt 14 λ x. x, tt)) 16 (List._∷_ 0 List.[]) (Call.sub-id 𝓤 H A W (G24
+              .slots)) (
+                ShrSlice.spares-sslice 𝓤 H A W (Referent.rtF (Referent.fInt Syntax.w8)) (Syntax.tyRef (Syntax.named 0) Syntax.imm (Syntax.tyInt Syntax.w8)) 0,
+                Shared.reads-sslice 𝓤 H A W (Referent.rtF
+                    (Referent.fInt Syntax.w8)) (Syntax.tyRef (Syntax.named 0) Syntax.imm (Syntax.tyInt Syntax.w8)) 0,
+                Path'.refl,
+                ((Scalar.reads-sc 𝓤 H A W (Row.sInt Syntax.w64), Path'.refl), tt),
+              )
               (Reads'.room-gone 𝓤 H A y6) (tt, tt) (Path'.refl, λ b o k. tt)) d46
 
           d48 : Typed.Typed 𝓤 H A 𝓣 E G17 b39 Δ3 at48
           d48 = Typed.s-seq 𝓤 H A W 𝓣 E G17 G24 b11 b38 Δ3 (Typed.both s20) at47 (Plain.t-call-plain 𝓤 H A W 𝓣 0 ps·2 r·2 (claims· .4) (claims· .5) "block::form_of" (known .2) E (λ pos β. β) G17
-              (record { pos = 2; st = List.[]; d = 0; at = λ x. x }, tt) 15 List.[] (Call.sub-id 𝓤 H A W (G17 .slots))
-              ((Yields.yields-copy 𝓤 H A W (λ ρ. Unit) (Declared'.row FujiHeader.the-type) Path'.refl (Copies.cStruct FujiHeader.the-type Laws'7.the-laws Laws'7.the-copy .copy 𝓤 H A W) (Rows'.whole
-              (Declared'.row FujiHeader.the-type)) (λ x. x) (λ x. x) (λ ρ told. Local.mem-whole 𝓤 H A W (Declared'.row FujiHeader.the-type) ρ) λ ρ told. Local.whole-mem 𝓤 H A W (Declared'.row
-              FujiHeader.the-type) ρ, Path'.refl), tt) (Reads'.room-gone 𝓤 H A y9) tt Path'.refl) d47
+              (record { pos = 2; st = List.[]; d = 0; at = λ x. x }, tt) 15 List.[] (Call.sub-id 𝓤 H A W (G17 .slots)) (
+                (
+                  Yields.yields-copy 𝓤 H A W (λ ρ. Unit) (Declared'.row FujiHeader.the-type) Path'.refl (Copies.cStruct FujiHeader.the-type Laws'7.the-laws Laws'7.the-copy .copy 𝓤 H A W) (Rows'.whole
+                      (Declared'.row FujiHeader.the-type)) (λ x. x) (λ x. x) (λ ρ told. Local.mem-whole 𝓤 H A W (Declared'.row FujiHeader.the-type) ρ) λ ρ told. Local.whole-mem 𝓤 H A W (Declared'.row
+                      FujiHeader.the-type) ρ,
+                  Path'.refl,
+                ),
+                tt,
+              ) (Reads'.room-gone 𝓤 H A y9) tt Path'.refl) d47
 
           d49 : Typed.Typed 𝓤 H A 𝓣 E G16 b40 Δ3 at49
           d49 = Typed.t-seq 𝓤 H A W 𝓣 E G16 G17 b10 b39 Δ3 at8 at48 d8 d48
@@ -2378,9 +2855,14 @@ module _ (claims· : Claims) where
 
           d70 : Typed.Typed 𝓤 H A 𝓣 E G4 b54 Δ0 at70
           d70 = Typed.s-seq 𝓤 H A W 𝓣 E G4 G5 b0 b53 Δ0 (Typed.both s3) at69 (Plain.t-call-plain 𝓤 H A W 𝓣 0 ps·0 r·0 (claims· .0) (claims· .1) "region::span_of" (known .0) E (λ pos β. β) G4
-              (record { pos = 3; st = List.[]; d = 0; at = λ x. x }, tt) 9 List.[] (Call.sub-id 𝓤 H A W (G4 .slots))
-              ((Yields.yields-copy 𝓤 H A W (λ ρ. Unit) (Declared'.row Rect.the-type) Path'.refl (Copies.cStruct Rect.the-type Laws'5.the-laws Laws'5.the-copy .copy 𝓤 H A W) (Rows'.whole (Declared'.row
-              Rect.the-type)) (λ x. x) (λ x. x) (λ ρ told. Local.mem-whole 𝓤 H A W (Declared'.row Rect.the-type) ρ) λ ρ told. Local.whole-mem 𝓤 H A W (Declared'.row Rect.the-type) ρ, Path'.refl), tt)
+              (record { pos = 3; st = List.[]; d = 0; at = λ x. x }, tt) 9 List.[] (Call.sub-id 𝓤 H A W (G4 .slots)) (
+                (
+                  Yields.yields-copy 𝓤 H A W (λ ρ. Unit) (Declared'.row Rect.the-type) Path'.refl (Copies.cStruct Rect.the-type Laws'5.the-laws Laws'5.the-copy .copy 𝓤 H A W) (Rows'.whole (Declared'.row
+                      Rect.the-type)) (λ x. x) (λ x. x) (λ ρ told. Local.mem-whole 𝓤 H A W (Declared'.row Rect.the-type) ρ) λ ρ told. Local.whole-mem 𝓤 H A W (Declared'.row Rect.the-type) ρ,
+                  Path'.refl,
+                ),
+                tt,
+              )
               (Reads'.room-gone 𝓤 H A y3) tt Path'.refl) d69
 
           d71 : Typed.Typed 𝓤 H A 𝓣 E G3 b54 Δ0 at71
@@ -2404,16 +2886,42 @@ module _ (claims· : Claims) where
       module _ (κs : Lifetimes.Lfts 4) where
         pub record Args : Type 0 where
           pub d : Kinds.Den {n = 4} κs (ShrSlice.pShrS (Referent.rtF (Referent.fInt Syntax.w8)) 0 tt)
-          pub h : Kinds.Den {n = 4} κs (Value.pVal record
-              { ty = Declared'.row FujiHeader.the-type; one = Path'.refl; val = Laws'9.val FujiHeader.the-type Laws'7.the-laws; tells = Laws'9.tells FujiHeader.the-type Laws'7.the-laws; still =
-              Laws'9.still FujiHeader.the-type Laws'7.the-copy Exit.yes; row = Rows'.whole (Declared'.row FujiHeader.the-type); rd = λ x. x; mk = λ x. x; } λ M 𝓤 H A W. record
-              { copies = Laws'9.copy FujiHeader.the-type Laws'7.the-copy 𝓤 H A W; lawful = Laws'9.lawful FujiHeader.the-type Laws'7.the-laws 𝓤 H A W; makes = Laws'9.makes FujiHeader.the-type
-              Laws'7.the-plain 𝓤 H A; in-mem = Local.mem-whole 𝓤 H A W (Declared'.row FujiHeader.the-type); of-mem = Local.whole-mem 𝓤 H A W (Declared'.row FujiHeader.the-type); })
-          pub r : Kinds.Den {n = 4} κs (Value.pVal record
-              { ty = Declared'.row Rect.the-type; one = Path'.refl; val = Laws'9.val Rect.the-type Laws'5.the-laws; tells = Laws'9.tells Rect.the-type Laws'5.the-laws; still = Laws'9.still Rect.the-type
-              Laws'5.the-copy Exit.yes; row = Rows'.whole (Declared'.row Rect.the-type); rd = λ x. x; mk = λ x. x; } λ M 𝓤 H A W. record
-              { copies = Laws'9.copy Rect.the-type Laws'5.the-copy 𝓤 H A W; lawful = Laws'9.lawful Rect.the-type Laws'5.the-laws 𝓤 H A W; makes = Laws'9.makes Rect.the-type Laws'5.the-plain 𝓤 H A; in-mem
-              = Local.mem-whole 𝓤 H A W (Declared'.row Rect.the-type); of-mem = Local.whole-mem 𝓤 H A W (Declared'.row Rect.the-type); })
+          pub h : Kinds.Den {n = 4} κs (Value.pVal record {
+            ty = Declared'.row FujiHeader.the-type;
+            one = Path'.refl;
+            val = Laws'9.val FujiHeader.the-type Laws'7.the-laws;
+            tells = Laws'9.tells FujiHeader.the-type Laws'7.the-laws;
+            still =
+                Laws'9.still FujiHeader.the-type Laws'7.the-copy Exit.yes;
+            row = Rows'.whole (Declared'.row FujiHeader.the-type);
+            rd = λ x. x;
+            mk = λ x. x;
+          } λ M 𝓤 H A W. record {
+            copies = Laws'9.copy FujiHeader.the-type Laws'7.the-copy 𝓤 H A W;
+            lawful = Laws'9.lawful FujiHeader.the-type Laws'7.the-laws 𝓤 H A W;
+            makes = Laws'9.makes FujiHeader.the-type
+                Laws'7.the-plain 𝓤 H A;
+            in-mem = Local.mem-whole 𝓤 H A W (Declared'.row FujiHeader.the-type);
+            of-mem = Local.whole-mem 𝓤 H A W (Declared'.row FujiHeader.the-type);
+          })
+          pub r : Kinds.Den {n = 4} κs (Value.pVal record {
+            ty = Declared'.row Rect.the-type;
+            one = Path'.refl;
+            val = Laws'9.val Rect.the-type Laws'5.the-laws;
+            tells = Laws'9.tells Rect.the-type Laws'5.the-laws;
+            still = Laws'9.still Rect.the-type
+                Laws'5.the-copy Exit.yes;
+            row = Rows'.whole (Declared'.row Rect.the-type);
+            rd = λ x. x;
+            mk = λ x. x;
+          } λ M 𝓤 H A W. record {
+            copies = Laws'9.copy Rect.the-type Laws'5.the-copy 𝓤 H A W;
+            lawful = Laws'9.lawful Rect.the-type Laws'5.the-laws 𝓤 H A W;
+            makes = Laws'9.makes Rect.the-type Laws'5.the-plain 𝓤 H A;
+            in-mem
+                = Local.mem-whole 𝓤 H A W (Declared'.row Rect.the-type);
+            of-mem = Local.whole-mem 𝓤 H A W (Declared'.row Rect.the-type);
+          })
           pub tile : Kinds.Den {n = 4} κs (Array.pArr (Array.eInt Syntax.w8) (Array.eInt-laws Syntax.w8) 36)
           pub image : Kinds.Den {n = 4} κs (MutSlice.pMutS (Referent.rtF (Referent.fInt Syntax.w16)) 1 tt)
           pub lines : Kinds.Den {n = 4} κs (MutSlice.pMutS (Referent.rtF (Referent.fInt Syntax.w16)) 2 tt)
@@ -2427,9 +2935,12 @@ module _ (claims· : Claims) where
       m0 = λ κs args. (tt, Enter.partsP κs 1 ps xs (dens κs args))
 
       abbrev W0 : (κs : Lifetimes.Lfts 4) → (args : Args κs) → Typed.Want O0
-      W0 = λ κs args.
-          (λ u. ⊥, tt, λ u. Enter.Fixs κs 1 ps xs (dens κs args) (u .1) × Post· κs (dens κs args) (Function.resV r κs (u .0)) (Clauses.atExit (Kinds.endedOf 4 ps r) κs (dens κs args) (Enter.lastsP κs 1 ps
-          xs (dens κs args) (u .1))))
+      W0 = λ κs args. (
+        λ u. ⊥,
+        tt,
+        λ u. Enter.Fixs κs 1 ps xs (dens κs args) (u .1) × Post· κs (dens κs args) (Function.resV r κs (u .0)) (Clauses.atExit (Kinds.endedOf 4 ps r) κs (dens κs args) (Enter.lastsP κs 1 ps
+            xs (dens κs args) (u .1))),
+      )
 
       pub record Start : Type 0 where
         pub κs : Lifetimes.Lfts 4
@@ -2565,16 +3076,25 @@ module _ (claims· : Claims) where
           (13, Rows'.whole (Declared.row Decoded.the-type)) answer (Row.setRow 7 (7, Mut.mslice (Element.type) (Syntax.tyRef (Syntax.named 3) Syntax.mut Element.behind) 3) (Row.setRow 6
           (6, Mut.mslice (Referent.rtF (Referent.fInt Syntax.w16)) (Syntax.tyRef (Syntax.named 2) Syntax.mut (Syntax.tyInt Syntax.w16)) 2) (Row.setRow 5
           (5, Mut.mslice (Referent.rtF (Referent.fInt Syntax.w16)) (Syntax.tyRef (Syntax.named 1) Syntax.mut (Syntax.tyInt Syntax.w16)) 1) (T15 .locals)))) (Row.set 7
-          (7, Mut.mslice (Element.type) (Syntax.tyRef (Syntax.named 3) Syntax.mut Element.behind) 3) record
-          { ptr = Row.get 7 (T15 .locals) (m13 (before .before) (After-xtrans-places·gave before)) .ptr; name = Row.get 7 (T15 .locals) (m13 (before .before) (After-xtrans-places·gave before)) .name; now
-          = rs; } (Row.setRow 6 (6, Mut.mslice (Referent.rtF (Referent.fInt Syntax.w16)) (Syntax.tyRef (Syntax.named 2) Syntax.mut (Syntax.tyInt Syntax.w16)) 2) (Row.setRow 5
+          (7, Mut.mslice (Element.type) (Syntax.tyRef (Syntax.named 3) Syntax.mut Element.behind) 3) record {
+            ptr = Row.get 7 (T15 .locals) (m13 (before .before) (After-xtrans-places·gave before)) .ptr;
+            name = Row.get 7 (T15 .locals) (m13 (before .before) (After-xtrans-places·gave before)) .name;
+            now
+                = rs;
+          } (Row.setRow 6 (6, Mut.mslice (Referent.rtF (Referent.fInt Syntax.w16)) (Syntax.tyRef (Syntax.named 2) Syntax.mut (Syntax.tyInt Syntax.w16)) 2) (Row.setRow 5
           (5, Mut.mslice (Referent.rtF (Referent.fInt Syntax.w16)) (Syntax.tyRef (Syntax.named 1) Syntax.mut (Syntax.tyInt Syntax.w16)) 1) (T15 .locals))) (Row.set 6
-          (6, Mut.mslice (Referent.rtF (Referent.fInt Syntax.w16)) (Syntax.tyRef (Syntax.named 2) Syntax.mut (Syntax.tyInt Syntax.w16)) 2) record
-          { ptr = Row.get 6 (T15 .locals) (m13 (before .before) (After-xtrans-places·gave before)) .ptr; name = Row.get 6 (T15 .locals) (m13 (before .before) (After-xtrans-places·gave before)) .name; now
-          = lines; } (Row.setRow 5 (5, Mut.mslice (Referent.rtF (Referent.fInt Syntax.w16)) (Syntax.tyRef (Syntax.named 1) Syntax.mut (Syntax.tyInt Syntax.w16)) 1) (T15 .locals)) (Row.set 5
-          (5, Mut.mslice (Referent.rtF (Referent.fInt Syntax.w16)) (Syntax.tyRef (Syntax.named 1) Syntax.mut (Syntax.tyInt Syntax.w16)) 1) record
-          { ptr = Row.get 5 (T15 .locals) (m13 (before .before) (After-xtrans-places·gave before)) .ptr; name = Row.get 5 (T15 .locals) (m13 (before .before) (After-xtrans-places·gave before)) .name; now
-          = image; } (T15 .locals) (m13 (before .before) (After-xtrans-places·gave before))))))
+          (6, Mut.mslice (Referent.rtF (Referent.fInt Syntax.w16)) (Syntax.tyRef (Syntax.named 2) Syntax.mut (Syntax.tyInt Syntax.w16)) 2) record {
+            ptr = Row.get 6 (T15 .locals) (m13 (before .before) (After-xtrans-places·gave before)) .ptr;
+            name = Row.get 6 (T15 .locals) (m13 (before .before) (After-xtrans-places·gave before)) .name;
+            now
+                = lines;
+          } (Row.setRow 5 (5, Mut.mslice (Referent.rtF (Referent.fInt Syntax.w16)) (Syntax.tyRef (Syntax.named 1) Syntax.mut (Syntax.tyInt Syntax.w16)) 1) (T15 .locals)) (Row.set 5
+          (5, Mut.mslice (Referent.rtF (Referent.fInt Syntax.w16)) (Syntax.tyRef (Syntax.named 1) Syntax.mut (Syntax.tyInt Syntax.w16)) 1) record {
+            ptr = Row.get 5 (T15 .locals) (m13 (before .before) (After-xtrans-places·gave before)) .ptr;
+            name = Row.get 5 (T15 .locals) (m13 (before .before) (After-xtrans-places·gave before)) .name;
+            now
+                = image;
+          } (T15 .locals) (m13 (before .before) (After-xtrans-places·gave before))))))
 
       abbrev W3 : (before : After-xtrans-places) → (image : List.List (Referent.rtF (Referent.fInt Syntax.w16) .Denot)) → (lines : List.List (Referent.rtF (Referent.fInt Syntax.w16) .Denot)) → (rs :
           List.List (Element.type .Denot)) → (answer : Rows'.whole (Declared.row Decoded.the-type) .Mod) → (b : Rows'.sc-here (Row.sInt Syntax.w64) .Mod) → Typed.Want O3
@@ -2674,7 +3194,7 @@ module _ (claims· : Claims) where
       module _ (before· : After-form-of) where
         abbrev pub After-block-bytes·own : Type 0
         After-block-bytes·own = Called.Called ps·3 r·3 (claims· .7) T24
-            (record { pos = 1; ty = Syntax.tyRef (Syntax.named 0) Syntax.imm (Syntax.tyInt Syntax.w8); ref = λ x. x; }, (Num.vAt 14 λ x. x, tt)) (m22 (before· .before) (After-form-of·gave before·))
+            (record { pos = 1; ty = Syntax.tyRef (Syntax.named 0) Syntax.imm (Syntax.tyInt Syntax.w8); ref = λ x. x }, (Num.vAt 14 λ x. x, tt)) (m22 (before· .before) (After-form-of·gave before·))
 
       pub record After-block-bytes : Type 0 where
         pub before : After-form-of
@@ -2682,7 +3202,7 @@ module _ (claims· : Claims) where
 
       abbrev pub After-block-bytes·gave : (c : After-block-bytes) → s21 .gives (m22 (c .before .before) (After-form-of·gave (c .before)))
       After-block-bytes·gave = λ c. Called.given ps·3 r·3 (claims· .7) T24
-          (record { pos = 1; ty = Syntax.tyRef (Syntax.named 0) Syntax.imm (Syntax.tyInt Syntax.w8); ref = λ x. x; }, (Num.vAt 14 λ x. x, tt)) (m22 (c .before .before) (After-form-of·gave (c .before))) (c
+          (record { pos = 1; ty = Syntax.tyRef (Syntax.named 0) Syntax.imm (Syntax.tyInt Syntax.w8); ref = λ x. x }, (Num.vAt 14 λ x. x, tt)) (m22 (c .before .before) (After-form-of·gave (c .before))) (c
           .block-bytes)
 
       abbrev pub Need-base-row-requires : Type 0
@@ -2694,7 +3214,7 @@ module _ (claims· : Claims) where
       module _ (before· : After-block-bytes) where
         abbrev pub After-base-row·own : Type 0
         After-base-row·own = Called.Called ps·4 r·4 (claims· .9) T25
-            (record { pos = 1; ty = Syntax.tyRef (Syntax.named 0) Syntax.imm (Syntax.tyInt Syntax.w8); ref = λ x. x; }, (Num.vAt 14 λ x. x, tt)) (m23 (before· .before) (After-block-bytes·gave before·))
+            (record { pos = 1; ty = Syntax.tyRef (Syntax.named 0) Syntax.imm (Syntax.tyInt Syntax.w8); ref = λ x. x }, (Num.vAt 14 λ x. x, tt)) (m23 (before· .before) (After-block-bytes·gave before·))
 
       pub record After-base-row : Type 0 where
         pub before : After-block-bytes
@@ -2702,7 +3222,7 @@ module _ (claims· : Claims) where
 
       abbrev pub After-base-row·gave : (c : After-base-row) → s22 .gives (m23 (c .before .before) (After-block-bytes·gave (c .before)))
       After-base-row·gave = λ c. Called.given ps·4 r·4 (claims· .9) T25
-          (record { pos = 1; ty = Syntax.tyRef (Syntax.named 0) Syntax.imm (Syntax.tyInt Syntax.w8); ref = λ x. x; }, (Num.vAt 14 λ x. x, tt)) (m23 (c .before .before) (After-block-bytes·gave (c
+          (record { pos = 1; ty = Syntax.tyRef (Syntax.named 0) Syntax.imm (Syntax.tyInt Syntax.w8); ref = λ x. x }, (Num.vAt 14 λ x. x, tt)) (m23 (c .before .before) (After-block-bytes·gave (c
           .before))) (c .base-row)
 
       abbrev pub Need-part-requires : Type 0
@@ -2801,16 +3321,31 @@ module _ (claims· : Claims) where
 
       module _ (before· : After-no-entries) where
         abbrev pub After-walk·own : Type 0
-        After-walk·own = Called.Called ps·7 r·7 (claims· .15) T39
-            (record { pos = 16; ty = Syntax.tyRef Syntax.erased Syntax.imm (Syntax.tyInt Syntax.w8); ref = λ x. x; },
-            (record { pos = 17; ty = Syntax.tyRef Syntax.erased Syntax.imm (Syntax.tyInt Syntax.w8); ref = λ x. x; },
-            (record { pos = 23; ty = Syntax.tyRef Syntax.erased Syntax.mut (Syntax.tyInt Syntax.w16); ref = λ x. x; },
-            (record { pos = 25; ty = Syntax.tyRef Syntax.erased Syntax.mut Element.behind; ref = λ x. x; },
-            (record { pos = 27; ty = Syntax.tyRef Syntax.erased Syntax.mut (Syntax.tyInt Syntax.w16); ref = λ x. x; },
-            (record { pos = 15; st = List.[]; d = 0; at = λ x. x },
-            (record { pos = 28; ty = Syntax.tyRef Syntax.erased Syntax.imm (Syntax.tyArray (Syntax.tyInt Syntax.w16) 768); ref = λ x. x; },
-            (record { pos = 4; st = List.[]; d = 0; at = λ x. x },
-            (record { pos = 18; st = List.[]; d = 0; at = λ x. x }, (Num.vAt 10 λ x. x, (Bool.bAt 8 λ x. x, (record { pos = 29; st = List.[]; d = 0; at = λ x. x }, tt)))))))))))) (m33 (before· .before)
+        After-walk·own = Called.Called ps·7 r·7 (claims· .15) T39 (
+          record { pos = 16; ty = Syntax.tyRef Syntax.erased Syntax.imm (Syntax.tyInt Syntax.w8); ref = λ x. x },
+          (
+            record { pos = 17; ty = Syntax.tyRef Syntax.erased Syntax.imm (Syntax.tyInt Syntax.w8); ref = λ x. x },
+            (
+              record { pos = 23; ty = Syntax.tyRef Syntax.erased Syntax.mut (Syntax.tyInt Syntax.w16); ref = λ x. x },
+              (
+                record { pos = 25; ty = Syntax.tyRef Syntax.erased Syntax.mut Element.behind; ref = λ x. x },
+                (
+                  record { pos = 27; ty = Syntax.tyRef Syntax.erased Syntax.mut (Syntax.tyInt Syntax.w16); ref = λ x. x },
+                  (
+                    record { pos = 15; st = List.[]; d = 0; at = λ x. x },
+                    (
+                      record { pos = 28; ty = Syntax.tyRef Syntax.erased Syntax.imm (Syntax.tyArray (Syntax.tyInt Syntax.w16) 768); ref = λ x. x },
+                      (
+                        record { pos = 4; st = List.[]; d = 0; at = λ x. x },
+                        (record { pos = 18; st = List.[]; d = 0; at = λ x. x }, (Num.vAt 10 λ x. x, (Bool.bAt 8 λ x. x, (record { pos = 29; st = List.[]; d = 0; at = λ x. x }, tt)))),
+                      ),
+                    ),
+                  ),
+                ),
+              ),
+            ),
+          ),
+        ) (m33 (before· .before)
             (After-no-entries·gave before·))
 
       pub record After-walk : Type 0 where
@@ -2818,16 +3353,31 @@ module _ (claims· : Claims) where
         pub walk : After-walk·own before
 
       abbrev pub After-walk·gave : (c : After-walk) → s36 .gives (m33 (c .before .before) (After-no-entries·gave (c .before)))
-      After-walk·gave = λ c. Called.given ps·7 r·7 (claims· .15) T39
-          (record { pos = 16; ty = Syntax.tyRef Syntax.erased Syntax.imm (Syntax.tyInt Syntax.w8); ref = λ x. x; },
-          (record { pos = 17; ty = Syntax.tyRef Syntax.erased Syntax.imm (Syntax.tyInt Syntax.w8); ref = λ x. x; },
-          (record { pos = 23; ty = Syntax.tyRef Syntax.erased Syntax.mut (Syntax.tyInt Syntax.w16); ref = λ x. x; },
-          (record { pos = 25; ty = Syntax.tyRef Syntax.erased Syntax.mut Element.behind; ref = λ x. x; },
-          (record { pos = 27; ty = Syntax.tyRef Syntax.erased Syntax.mut (Syntax.tyInt Syntax.w16); ref = λ x. x; },
-          (record { pos = 15; st = List.[]; d = 0; at = λ x. x },
-          (record { pos = 28; ty = Syntax.tyRef Syntax.erased Syntax.imm (Syntax.tyArray (Syntax.tyInt Syntax.w16) 768); ref = λ x. x; },
-          (record { pos = 4; st = List.[]; d = 0; at = λ x. x },
-          (record { pos = 18; st = List.[]; d = 0; at = λ x. x }, (Num.vAt 10 λ x. x, (Bool.bAt 8 λ x. x, (record { pos = 29; st = List.[]; d = 0; at = λ x. x }, tt)))))))))))) (m33 (c .before .before)
+      After-walk·gave = λ c. Called.given ps·7 r·7 (claims· .15) T39 (
+        record { pos = 16; ty = Syntax.tyRef Syntax.erased Syntax.imm (Syntax.tyInt Syntax.w8); ref = λ x. x },
+        (
+          record { pos = 17; ty = Syntax.tyRef Syntax.erased Syntax.imm (Syntax.tyInt Syntax.w8); ref = λ x. x },
+          (
+            record { pos = 23; ty = Syntax.tyRef Syntax.erased Syntax.mut (Syntax.tyInt Syntax.w16); ref = λ x. x },
+            (
+              record { pos = 25; ty = Syntax.tyRef Syntax.erased Syntax.mut Element.behind; ref = λ x. x },
+              (
+                record { pos = 27; ty = Syntax.tyRef Syntax.erased Syntax.mut (Syntax.tyInt Syntax.w16); ref = λ x. x },
+                (
+                  record { pos = 15; st = List.[]; d = 0; at = λ x. x },
+                  (
+                    record { pos = 28; ty = Syntax.tyRef Syntax.erased Syntax.imm (Syntax.tyArray (Syntax.tyInt Syntax.w16) 768); ref = λ x. x },
+                    (
+                      record { pos = 4; st = List.[]; d = 0; at = λ x. x },
+                      (record { pos = 18; st = List.[]; d = 0; at = λ x. x }, (Num.vAt 10 λ x. x, (Bool.bAt 8 λ x. x, (record { pos = 29; st = List.[]; d = 0; at = λ x. x }, tt)))),
+                    ),
+                  ),
+                ),
+              ),
+            ),
+          ),
+        ),
+      ) (m33 (c .before .before)
           (After-no-entries·gave (c .before))) (c .walk)
 
       abbrev pub m35 : (before : After-no-entries) → (given : s36 .gives (m33 (before .before) (After-no-entries·gave before))) → Typed.Mo T41
@@ -3067,20 +3617,37 @@ module _ (claims· : Claims) where
           (same-length : Need-same-length) (same-length-2 : Need-same-length-2) (same-length-3 : Need-same-length-3) (returns : Need-returns) where
         lay13 : (c : After-loop) → at60 (W0 (c .before .before .before .before .before .before .before .before .κs) (c .before .before .before .before .before .before .before .before .args)) (m21 (c
             .before))
-        lay13 = λ c.
-            ((Path'.refl,
-            (tt,
-            (tt,
-            (tt,
-            (MutSlice.fix-len (Row.get 5 (T69 .locals) (m55 (c .before)) .ptr) (Row.get 5 (T69 .locals) (m55 (c .before)) .name) (Row.get 5 (T69 .locals) (m55 (c .before)) .now) (dens (c .before .before
-            .before .before .before .before .before .before .κs) (c .before .before .before .before .before .before .before .before .args) .1 .1 .1 .1 .0 .now) (same-length record
-            { before = c .before; loop-test = c .loop-test }),
-            (MutSlice.fix-len (Row.get 6 (T69 .locals) (m55 (c .before)) .ptr) (Row.get 6 (T69 .locals) (m55 (c .before)) .name) (Row.get 6 (T69 .locals) (m55 (c .before)) .now) (dens (c .before .before
-            .before .before .before .before .before .before .κs) (c .before .before .before .before .before .before .before .before .args) .1 .1 .1 .1 .1 .0 .now) (same-length-2 record
-            { before = c .before; loop-test = c .loop-test }),
-            (MutSlice.fix-len (Row.get 7 (T69 .locals) (m55 (c .before)) .ptr) (Row.get 7 (T69 .locals) (m55 (c .before)) .name) (Row.get 7 (T69 .locals) (m55 (c .before)) .now) (dens (c .before .before
-            .before .before .before .before .before .before .κs) (c .before .before .before .before .before .before .before .before .args) .1 .1 .1 .1 .1 .1 .0 .now) (same-length-3 record
-            { before = c .before; loop-test = c .loop-test }), (tt, tt)))))))), returns record { before = c .before; loop-test = c .loop-test })
+        lay13 = λ c. (
+          (
+            Path'.refl,
+            (
+              tt,
+              (
+                tt,
+                (
+                  tt,
+                  (
+                    MutSlice.fix-len (Row.get 5 (T69 .locals) (m55 (c .before)) .ptr) (Row.get 5 (T69 .locals) (m55 (c .before)) .name) (Row.get 5 (T69 .locals) (m55 (c .before)) .now) (dens (c .before .before
+                        .before .before .before .before .before .before .κs) (c .before .before .before .before .before .before .before .before .args) .1 .1 .1 .1 .0 .now) (same-length record
+                        { before = c .before; loop-test = c .loop-test }),
+                    (
+                      MutSlice.fix-len (Row.get 6 (T69 .locals) (m55 (c .before)) .ptr) (Row.get 6 (T69 .locals) (m55 (c .before)) .name) (Row.get 6 (T69 .locals) (m55 (c .before)) .now) (dens (c .before .before
+                          .before .before .before .before .before .before .κs) (c .before .before .before .before .before .before .before .before .args) .1 .1 .1 .1 .1 .0 .now) (same-length-2 record
+                          { before = c .before; loop-test = c .loop-test }),
+                      (
+                        MutSlice.fix-len (Row.get 7 (T69 .locals) (m55 (c .before)) .ptr) (Row.get 7 (T69 .locals) (m55 (c .before)) .name) (Row.get 7 (T69 .locals) (m55 (c .before)) .now) (dens (c .before .before
+                            .before .before .before .before .before .before .κs) (c .before .before .before .before .before .before .before .before .args) .1 .1 .1 .1 .1 .1 .0 .now) (same-length-3 record
+                            { before = c .before; loop-test = c .loop-test }),
+                        (tt, tt),
+                      ),
+                    ),
+                  ),
+                ),
+              ),
+            ),
+          ),
+          returns record { before = c .before; loop-test = c .loop-test },
+        )
 
         lay12 : (c : After-judged) → at10 (W3 (c .before .before .before .before .before .before .before .before .before .before .before .before .before .before .before .before .before .before) (c
             .before .before .before .before .before .before .before .before .before .before .before .before .before .before .before .before .before .loop .image) (c .before .before .before .before .before
@@ -3088,153 +3655,258 @@ module _ (claims· : Claims) where
             .before .before .before .before .before .before .before .loop .rs) (c .before .before .before .before .before .before .before .before .before .before .before .before .before .before .before
             .before .before .loop .answer) (c .before .before .before .before .before .before .before .before .before .before .before .before .before .before .before .before .before .loop .b)) (m47 (c
             .before) (After-judged·gave c))
-        lay12 = λ c.
-            (add-b record { before = c .before; judged = c .judged },
-            (μ·0 (Row.get 1 (T15 .locals) (m13 (c .before .before .before .before .before .before .before .before .before .before .before .before .before .before .before .before .before .before .before)
-            (After-xtrans-places·gave (c .before .before .before .before .before .before .before .before .before .before .before .before .before .before .before .before .before .before))) .now) (Row.get 2
-            (T15 .locals) (m13 (c .before .before .before .before .before .before .before .before .before .before .before .before .before .before .before .before .before .before .before)
-            (After-xtrans-places·gave (c .before .before .before .before .before .before .before .before .before .before .before .before .before .before .before .before .before .before)))) (Row.get 3 (T15
-            .locals) (m13 (c .before .before .before .before .before .before .before .before .before .before .before .before .before .before .before .before .before .before .before)
-            (After-xtrans-places·gave (c .before .before .before .before .before .before .before .before .before .before .before .before .before .before .before .before .before .before)))) (Row.get 4 (T15
-            .locals) (m13 (c .before .before .before .before .before .before .before .before .before .before .before .before .before .before .before .before .before .before .before)
-            (After-xtrans-places·gave (c .before .before .before .before .before .before .before .before .before .before .before .before .before .before .before .before .before .before)))) (Row.get 5 (T15
-            .locals) (m13 (c .before .before .before .before .before .before .before .before .before .before .before .before .before .before .before .before .before .before .before)
-            (After-xtrans-places·gave (c .before .before .before .before .before .before .before .before .before .before .before .before .before .before .before .before .before .before))) .now) (Row.get 6
-            (T15 .locals) (m13 (c .before .before .before .before .before .before .before .before .before .before .before .before .before .before .before .before .before .before .before)
-            (After-xtrans-places·gave (c .before .before .before .before .before .before .before .before .before .before .before .before .before .before .before .before .before .before))) .now) (Row.get 7
-            (T15 .locals) (m13 (c .before .before .before .before .before .before .before .before .before .before .before .before .before .before .before .before .before .before .before)
-            (After-xtrans-places·gave (c .before .before .before .before .before .before .before .before .before .before .before .before .before .before .before .before .before .before))) .now) (Row.get 8
-            (T15 .locals) (m13 (c .before .before .before .before .before .before .before .before .before .before .before .before .before .before .before .before .before .before .before)
-            (After-xtrans-places·gave (c .before .before .before .before .before .before .before .before .before .before .before .before .before .before .before .before .before .before)))) (Row.get 10
-            (T15 .locals) (m13 (c .before .before .before .before .before .before .before .before .before .before .before .before .before .before .before .before .before .before .before)
-            (After-xtrans-places·gave (c .before .before .before .before .before .before .before .before .before .before .before .before .before .before .before .before .before .before)))) (Row.get 11
-            (T15 .locals) (m13 (c .before .before .before .before .before .before .before .before .before .before .before .before .before .before .before .before .before .before .before)
-            (After-xtrans-places·gave (c .before .before .before .before .before .before .before .before .before .before .before .before .before .before .before .before .before .before)))) (Row.get 12
-            (T15 .locals) (m13 (c .before .before .before .before .before .before .before .before .before .before .before .before .before .before .before .before .before .before .before)
-            (After-xtrans-places·gave (c .before .before .before .before .before .before .before .before .before .before .before .before .before .before .before .before .before .before)))) (Row.get 13
-            (T15 .locals) (m13 (c .before .before .before .before .before .before .before .before .before .before .before .before .before .before .before .before .before .before .before)
-            (After-xtrans-places·gave (c .before .before .before .before .before .before .before .before .before .before .before .before .before .before .before .before .before .before)))) (Row.get 14
-            (T15 .locals) (m13 (c .before .before .before .before .before .before .before .before .before .before .before .before .before .before .before .before .before .before .before)
-            (After-xtrans-places·gave (c .before .before .before .before .before .before .before .before .before .before .before .before .before .before .before .before .before .before)))) (Row.get 5 (T15
-            .locals) (m49 (c .before) (After-judged·gave c)) .now) (Row.get 6 (T15 .locals) (m49 (c .before) (After-judged·gave c)) .now) (Row.get 7 (T15 .locals) (m49 (c .before) (After-judged·gave c))
-            .now) (Row.get 13 (T15 .locals) (m49 (c .before) (After-judged·gave c))) (Row.get 14 (T15 .locals) (m49 (c .before) (After-judged·gave c))), loop-less record
-            { before = c .before; judged = c .judged },
-            ((Row.get 5 (T15 .locals) (m49 (c .before) (After-judged·gave c)) .now, Row.get 6 (T15 .locals) (m49 (c .before) (After-judged·gave c)) .now, Row.get 7 (T15 .locals) (m49 (c .before)
-            (After-judged·gave c)) .now, Row.get 13 (T15 .locals) (m49 (c .before) (After-judged·gave c)), Row.get 14 (T15 .locals) (m49 (c .before) (After-judged·gave c))), Path'.refl {a = m49 (c
-            .before) (After-judged·gave c)}, loop-again record { before = c .before; judged = c .judged }, Path'.refl {a = μ·0 (Row.get 1 (T15 .locals) (m13 (c .before .before .before .before .before
-            .before .before .before .before .before .before .before .before .before .before .before .before .before .before) (After-xtrans-places·gave (c .before .before .before .before .before .before
-            .before .before .before .before .before .before .before .before .before .before .before .before))) .now) (Row.get 2 (T15 .locals) (m13 (c .before .before .before .before .before .before
-            .before .before .before .before .before .before .before .before .before .before .before .before .before) (After-xtrans-places·gave (c .before .before .before .before .before .before .before
-            .before .before .before .before .before .before .before .before .before .before .before)))) (Row.get 3 (T15 .locals) (m13 (c .before .before .before .before .before .before .before .before
-            .before .before .before .before .before .before .before .before .before .before .before) (After-xtrans-places·gave (c .before .before .before .before .before .before .before .before .before
-            .before .before .before .before .before .before .before .before .before)))) (Row.get 4 (T15 .locals) (m13 (c .before .before .before .before .before .before .before .before .before .before
-            .before .before .before .before .before .before .before .before .before) (After-xtrans-places·gave (c .before .before .before .before .before .before .before .before .before .before .before
-            .before .before .before .before .before .before .before)))) (Row.get 5 (T15 .locals) (m13 (c .before .before .before .before .before .before .before .before .before .before .before .before
-            .before .before .before .before .before .before .before) (After-xtrans-places·gave (c .before .before .before .before .before .before .before .before .before .before .before .before .before
-            .before .before .before .before .before))) .now) (Row.get 6 (T15 .locals) (m13 (c .before .before .before .before .before .before .before .before .before .before .before .before .before
-            .before .before .before .before .before .before) (After-xtrans-places·gave (c .before .before .before .before .before .before .before .before .before .before .before .before .before .before
-            .before .before .before .before))) .now) (Row.get 7 (T15 .locals) (m13 (c .before .before .before .before .before .before .before .before .before .before .before .before .before .before
-            .before .before .before .before .before) (After-xtrans-places·gave (c .before .before .before .before .before .before .before .before .before .before .before .before .before .before .before
-            .before .before .before))) .now) (Row.get 8 (T15 .locals) (m13 (c .before .before .before .before .before .before .before .before .before .before .before .before .before .before .before
-            .before .before .before .before) (After-xtrans-places·gave (c .before .before .before .before .before .before .before .before .before .before .before .before .before .before .before .before
-            .before .before)))) (Row.get 10 (T15 .locals) (m13 (c .before .before .before .before .before .before .before .before .before .before .before .before .before .before .before .before .before
-            .before .before) (After-xtrans-places·gave (c .before .before .before .before .before .before .before .before .before .before .before .before .before .before .before .before .before
-            .before)))) (Row.get 11 (T15 .locals) (m13 (c .before .before .before .before .before .before .before .before .before .before .before .before .before .before .before .before .before .before
-            .before) (After-xtrans-places·gave (c .before .before .before .before .before .before .before .before .before .before .before .before .before .before .before .before .before .before))))
-            (Row.get 12 (T15 .locals) (m13 (c .before .before .before .before .before .before .before .before .before .before .before .before .before .before .before .before .before .before .before)
-            (After-xtrans-places·gave (c .before .before .before .before .before .before .before .before .before .before .before .before .before .before .before .before .before .before)))) (Row.get 13
-            (T15 .locals) (m13 (c .before .before .before .before .before .before .before .before .before .before .before .before .before .before .before .before .before .before .before)
-            (After-xtrans-places·gave (c .before .before .before .before .before .before .before .before .before .before .before .before .before .before .before .before .before .before)))) (Row.get 14
-            (T15 .locals) (m13 (c .before .before .before .before .before .before .before .before .before .before .before .before .before .before .before .before .before .before .before)
-            (After-xtrans-places·gave (c .before .before .before .before .before .before .before .before .before .before .before .before .before .before .before .before .before .before)))) (Row.get 5 (T15
-            .locals) (m49 (c .before) (After-judged·gave c)) .now) (Row.get 6 (T15 .locals) (m49 (c .before) (After-judged·gave c)) .now) (Row.get 7 (T15 .locals) (m49 (c .before) (After-judged·gave c))
-            .now) (Row.get 13 (T15 .locals) (m49 (c .before) (After-judged·gave c))) (Row.get 14 (T15 .locals) (m49 (c .before) (After-judged·gave c)))})))
+        lay12 = λ c. (
+          add-b record { before = c .before; judged = c .judged },
+          (
+            μ·0 (Row.get 1 (T15 .locals) (m13 (c .before .before .before .before .before .before .before .before .before .before .before .before .before .before .before .before .before .before .before)
+                (After-xtrans-places·gave (c .before .before .before .before .before .before .before .before .before .before .before .before .before .before .before .before .before .before))) .now) (Row.get 2
+                (T15 .locals) (m13 (c .before .before .before .before .before .before .before .before .before .before .before .before .before .before .before .before .before .before .before)
+                (After-xtrans-places·gave (c .before .before .before .before .before .before .before .before .before .before .before .before .before .before .before .before .before .before)))) (Row.get 3 (T15
+                .locals) (m13 (c .before .before .before .before .before .before .before .before .before .before .before .before .before .before .before .before .before .before .before)
+                (After-xtrans-places·gave (c .before .before .before .before .before .before .before .before .before .before .before .before .before .before .before .before .before .before)))) (Row.get 4 (T15
+                .locals) (m13 (c .before .before .before .before .before .before .before .before .before .before .before .before .before .before .before .before .before .before .before)
+                (After-xtrans-places·gave (c .before .before .before .before .before .before .before .before .before .before .before .before .before .before .before .before .before .before)))) (Row.get 5 (T15
+                .locals) (m13 (c .before .before .before .before .before .before .before .before .before .before .before .before .before .before .before .before .before .before .before)
+                (After-xtrans-places·gave (c .before .before .before .before .before .before .before .before .before .before .before .before .before .before .before .before .before .before))) .now) (Row.get 6
+                (T15 .locals) (m13 (c .before .before .before .before .before .before .before .before .before .before .before .before .before .before .before .before .before .before .before)
+                (After-xtrans-places·gave (c .before .before .before .before .before .before .before .before .before .before .before .before .before .before .before .before .before .before))) .now) (Row.get 7
+                (T15 .locals) (m13 (c .before .before .before .before .before .before .before .before .before .before .before .before .before .before .before .before .before .before .before)
+                (After-xtrans-places·gave (c .before .before .before .before .before .before .before .before .before .before .before .before .before .before .before .before .before .before))) .now) (Row.get 8
+                (T15 .locals) (m13 (c .before .before .before .before .before .before .before .before .before .before .before .before .before .before .before .before .before .before .before)
+                (After-xtrans-places·gave (c .before .before .before .before .before .before .before .before .before .before .before .before .before .before .before .before .before .before)))) (Row.get 10
+                (T15 .locals) (m13 (c .before .before .before .before .before .before .before .before .before .before .before .before .before .before .before .before .before .before .before)
+                (After-xtrans-places·gave (c .before .before .before .before .before .before .before .before .before .before .before .before .before .before .before .before .before .before)))) (Row.get 11
+                (T15 .locals) (m13 (c .before .before .before .before .before .before .before .before .before .before .before .before .before .before .before .before .before .before .before)
+                (After-xtrans-places·gave (c .before .before .before .before .before .before .before .before .before .before .before .before .before .before .before .before .before .before)))) (Row.get 12
+                (T15 .locals) (m13 (c .before .before .before .before .before .before .before .before .before .before .before .before .before .before .before .before .before .before .before)
+                (After-xtrans-places·gave (c .before .before .before .before .before .before .before .before .before .before .before .before .before .before .before .before .before .before)))) (Row.get 13
+                (T15 .locals) (m13 (c .before .before .before .before .before .before .before .before .before .before .before .before .before .before .before .before .before .before .before)
+                (After-xtrans-places·gave (c .before .before .before .before .before .before .before .before .before .before .before .before .before .before .before .before .before .before)))) (Row.get 14
+                (T15 .locals) (m13 (c .before .before .before .before .before .before .before .before .before .before .before .before .before .before .before .before .before .before .before)
+                (After-xtrans-places·gave (c .before .before .before .before .before .before .before .before .before .before .before .before .before .before .before .before .before .before)))) (Row.get 5 (T15
+                .locals) (m49 (c .before) (After-judged·gave c)) .now) (Row.get 6 (T15 .locals) (m49 (c .before) (After-judged·gave c)) .now) (Row.get 7 (T15 .locals) (m49 (c .before) (After-judged·gave c))
+                .now) (Row.get 13 (T15 .locals) (m49 (c .before) (After-judged·gave c))) (Row.get 14 (T15 .locals) (m49 (c .before) (After-judged·gave c))),
+            loop-less record
+                { before = c .before; judged = c .judged },
+            (
+              (
+                Row.get 5 (T15 .locals) (m49 (c .before) (After-judged·gave c)) .now,
+                Row.get 6 (T15 .locals) (m49 (c .before) (After-judged·gave c)) .now,
+                Row.get 7 (T15 .locals) (m49 (c .before)
+                    (After-judged·gave c)) .now,
+                Row.get 13 (T15 .locals) (m49 (c .before) (After-judged·gave c)),
+                Row.get 14 (T15 .locals) (m49 (c .before) (After-judged·gave c)),
+              ),
+              Path'.refl {a = m49 (c
+                  .before) (After-judged·gave c)},
+              loop-again record { before = c .before; judged = c .judged },
+              Path'.refl {a = μ·0 (Row.get 1 (T15 .locals) (m13 (c .before .before .before .before .before
+                  .before .before .before .before .before .before .before .before .before .before .before .before .before .before) (After-xtrans-places·gave (c .before .before .before .before .before .before
+                  .before .before .before .before .before .before .before .before .before .before .before .before))) .now) (Row.get 2 (T15 .locals) (m13 (c .before .before .before .before .before .before
+                  .before .before .before .before .before .before .before .before .before .before .before .before .before) (After-xtrans-places·gave (c .before .before .before .before .before .before .before
+                  .before .before .before .before .before .before .before .before .before .before .before)))) (Row.get 3 (T15 .locals) (m13 (c .before .before .before .before .before .before .before .before
+                  .before .before .before .before .before .before .before .before .before .before .before) (After-xtrans-places·gave (c .before .before .before .before .before .before .before .before .before
+                  .before .before .before .before .before .before .before .before .before)))) (Row.get 4 (T15 .locals) (m13 (c .before .before .before .before .before .before .before .before .before .before
+                  .before .before .before .before .before .before .before .before .before) (After-xtrans-places·gave (c .before .before .before .before .before .before .before .before .before .before .before
+                  .before .before .before .before .before .before .before)))) (Row.get 5 (T15 .locals) (m13 (c .before .before .before .before .before .before .before .before .before .before .before .before
+                  .before .before .before .before .before .before .before) (After-xtrans-places·gave (c .before .before .before .before .before .before .before .before .before .before .before .before .before
+                  .before .before .before .before .before))) .now) (Row.get 6 (T15 .locals) (m13 (c .before .before .before .before .before .before .before .before .before .before .before .before .before
+                  .before .before .before .before .before .before) (After-xtrans-places·gave (c .before .before .before .before .before .before .before .before .before .before .before .before .before .before
+                  .before .before .before .before))) .now) (Row.get 7 (T15 .locals) (m13 (c .before .before .before .before .before .before .before .before .before .before .before .before .before .before
+                  .before .before .before .before .before) (After-xtrans-places·gave (c .before .before .before .before .before .before .before .before .before .before .before .before .before .before .before
+                  .before .before .before))) .now) (Row.get 8 (T15 .locals) (m13 (c .before .before .before .before .before .before .before .before .before .before .before .before .before .before .before
+                  .before .before .before .before) (After-xtrans-places·gave (c .before .before .before .before .before .before .before .before .before .before .before .before .before .before .before .before
+                  .before .before)))) (Row.get 10 (T15 .locals) (m13 (c .before .before .before .before .before .before .before .before .before .before .before .before .before .before .before .before .before
+                  .before .before) (After-xtrans-places·gave (c .before .before .before .before .before .before .before .before .before .before .before .before .before .before .before .before .before
+                  .before)))) (Row.get 11 (T15 .locals) (m13 (c .before .before .before .before .before .before .before .before .before .before .before .before .before .before .before .before .before .before
+                  .before) (After-xtrans-places·gave (c .before .before .before .before .before .before .before .before .before .before .before .before .before .before .before .before .before .before))))
+                  (Row.get 12 (T15 .locals) (m13 (c .before .before .before .before .before .before .before .before .before .before .before .before .before .before .before .before .before .before .before)
+                  (After-xtrans-places·gave (c .before .before .before .before .before .before .before .before .before .before .before .before .before .before .before .before .before .before)))) (Row.get 13
+                  (T15 .locals) (m13 (c .before .before .before .before .before .before .before .before .before .before .before .before .before .before .before .before .before .before .before)
+                  (After-xtrans-places·gave (c .before .before .before .before .before .before .before .before .before .before .before .before .before .before .before .before .before .before)))) (Row.get 14
+                  (T15 .locals) (m13 (c .before .before .before .before .before .before .before .before .before .before .before .before .before .before .before .before .before .before .before)
+                  (After-xtrans-places·gave (c .before .before .before .before .before .before .before .before .before .before .before .before .before .before .before .before .before .before)))) (Row.get 5 (T15
+                  .locals) (m49 (c .before) (After-judged·gave c)) .now) (Row.get 6 (T15 .locals) (m49 (c .before) (After-judged·gave c)) .now) (Row.get 7 (T15 .locals) (m49 (c .before) (After-judged·gave c))
+                  .now) (Row.get 13 (T15 .locals) (m49 (c .before) (After-judged·gave c))) (Row.get 14 (T15 .locals) (m49 (c .before) (After-judged·gave c)))},
+            ),
+          ),
+        )
 
         lay11 : (c : After-walk) → at31 (W3 (c .before .before .before .before .before .before .before .before .before .before .before .before) (c .before .before .before .before .before .before
             .before .before .before .before .before .loop .image) (c .before .before .before .before .before .before .before .before .before .before .before .loop .lines) (c .before .before .before
             .before .before .before .before .before .before .before .before .loop .rs) (c .before .before .before .before .before .before .before .before .before .before .before .loop .answer) (c .before
             .before .before .before .before .before .before .before .before .before .before .loop .b)) (m34 (c .before) (After-walk·gave c))
-        lay11 = λ c.
-            (Path'.refl, λ g. λ g'.
-            (Path'.refl, λ g''.
-            (Path'.refl, λ g'3. λ g'4.
-            (judged-requires record
-            { before = record
-            { before = record
-            { before = record { before = record { before = record { before = c .before; walk = c .walk }; lines = record { given = g }; }; slice-known3 = record { given = g' }; }; rs = record { given =
-            g'' }; }; image = record { given = g'3 }; }; slice-known4 = record { given = g'4 }; }, λ g'5. lay12 record
-            { before = record
-            { before = record
-            { before = record
-            { before = record { before = record { before = record { before = c .before; walk = c .walk }; lines = record { given = g }; }; slice-known3 = record { given = g' }; }; rs = record { given =
-            g'' }; }; image = record { given = g'3 }; }; slice-known4 = record { given = g'4 }; }; judged = Called.called ps·8 r·8 (claims· .17) T59
-            (record { pos = 13; st = List.[]; d = 0; at = λ x. x }, (Num.vAt 14 λ x. x, (record { pos = 19; st = List.[]; d = 0; at = λ x. x }, tt))) (m46 record
-            { before = record
-            { before = record { before = record { before = record { before = c .before; walk = c .walk }; lines = record { given = g }; }; slice-known3 = record { given = g' }; }; rs = record { given =
-            g'' }; }; image = record { given = g'3 }; } g'4) g'5; }))))
+        lay11 = λ c. (
+          Path'.refl,
+          λ g. λ g'. (
+            Path'.refl,
+            λ g''. (
+              Path'.refl,
+              λ g'3. λ g'4. (
+                judged-requires record {
+                  before = record {
+                    before = record {
+                      before = record { before = record { before = record { before = c .before; walk = c .walk }; lines = record { given = g } }; slice-known3 = record { given = g' } };
+                      rs = record {
+                        given =
+                            g'';
+                      };
+                    };
+                    image = record { given = g'3 };
+                  };
+                  slice-known4 = record { given = g'4 };
+                },
+                λ g'5. lay12 record {
+                  before = record {
+                    before = record {
+                      before = record {
+                        before = record { before = record { before = record { before = c .before; walk = c .walk }; lines = record { given = g } }; slice-known3 = record { given = g' } };
+                        rs = record {
+                          given =
+                              g'';
+                        };
+                      };
+                      image = record { given = g'3 };
+                    };
+                    slice-known4 = record { given = g'4 };
+                  };
+                  judged = Called.called ps·8 r·8 (claims· .17) T59
+                      (record { pos = 13; st = List.[]; d = 0; at = λ x. x }, (Num.vAt 14 λ x. x, (record { pos = 19; st = List.[]; d = 0; at = λ x. x }, tt))) (m46 record {
+                        before = record {
+                          before = record { before = record { before = record { before = c .before; walk = c .walk }; lines = record { given = g } }; slice-known3 = record { given = g' } };
+                          rs = record {
+                            given =
+                                g'';
+                          };
+                        };
+                        image = record { given = g'3 };
+                      } g'4) g'5;
+                },
+              ),
+            ),
+          ),
+        )
 
         lay10 : (c : After-no-entries) → at32 (W3 (c .before .before .before .before .before .before .before .before .before .before .before) (c .before .before .before .before .before .before .before
             .before .before .before .loop .image) (c .before .before .before .before .before .before .before .before .before .before .loop .lines) (c .before .before .before .before .before .before
             .before .before .before .before .loop .rs) (c .before .before .before .before .before .before .before .before .before .before .loop .answer) (c .before .before .before .before .before .before
             .before .before .before .before .loop .b)) (m33 (c .before) (After-no-entries·gave c))
-        lay10 = λ c.
-            (walk-requires record { before = c .before; no-entries = c .no-entries }, λ g. lay11 record
-            { before = record { before = c .before; no-entries = c .no-entries }; walk = Called.called ps·7 r·7 (claims· .15) T39
-            (record { pos = 16; ty = Syntax.tyRef Syntax.erased Syntax.imm (Syntax.tyInt Syntax.w8); ref = λ x. x; },
-            (record { pos = 17; ty = Syntax.tyRef Syntax.erased Syntax.imm (Syntax.tyInt Syntax.w8); ref = λ x. x; },
-            (record { pos = 23; ty = Syntax.tyRef Syntax.erased Syntax.mut (Syntax.tyInt Syntax.w16); ref = λ x. x; },
-            (record { pos = 25; ty = Syntax.tyRef Syntax.erased Syntax.mut Element.behind; ref = λ x. x; },
-            (record { pos = 27; ty = Syntax.tyRef Syntax.erased Syntax.mut (Syntax.tyInt Syntax.w16); ref = λ x. x; },
-            (record { pos = 15; st = List.[]; d = 0; at = λ x. x },
-            (record { pos = 28; ty = Syntax.tyRef Syntax.erased Syntax.imm (Syntax.tyArray (Syntax.tyInt Syntax.w16) 768); ref = λ x. x; },
-            (record { pos = 4; st = List.[]; d = 0; at = λ x. x },
-            (record { pos = 18; st = List.[]; d = 0; at = λ x. x }, (Num.vAt 10 λ x. x, (Bool.bAt 8 λ x. x, (record { pos = 29; st = List.[]; d = 0; at = λ x. x }, tt)))))))))))) (m33 (c .before)
-            (After-no-entries·gave c)) g; })
+        lay10 = λ c. (
+          walk-requires record { before = c .before; no-entries = c .no-entries },
+          λ g. lay11 record {
+            before = record { before = c .before; no-entries = c .no-entries };
+            walk = Called.called ps·7 r·7 (claims· .15) T39 (
+              record { pos = 16; ty = Syntax.tyRef Syntax.erased Syntax.imm (Syntax.tyInt Syntax.w8); ref = λ x. x },
+              (
+                record { pos = 17; ty = Syntax.tyRef Syntax.erased Syntax.imm (Syntax.tyInt Syntax.w8); ref = λ x. x },
+                (
+                  record { pos = 23; ty = Syntax.tyRef Syntax.erased Syntax.mut (Syntax.tyInt Syntax.w16); ref = λ x. x },
+                  (
+                    record { pos = 25; ty = Syntax.tyRef Syntax.erased Syntax.mut Element.behind; ref = λ x. x },
+                    (
+                      record { pos = 27; ty = Syntax.tyRef Syntax.erased Syntax.mut (Syntax.tyInt Syntax.w16); ref = λ x. x },
+                      (
+                        record { pos = 15; st = List.[]; d = 0; at = λ x. x },
+                        (
+                          record { pos = 28; ty = Syntax.tyRef Syntax.erased Syntax.imm (Syntax.tyArray (Syntax.tyInt Syntax.w16) 768); ref = λ x. x },
+                          (
+                            record { pos = 4; st = List.[]; d = 0; at = λ x. x },
+                            (record { pos = 18; st = List.[]; d = 0; at = λ x. x }, (Num.vAt 10 λ x. x, (Bool.bAt 8 λ x. x, (record { pos = 29; st = List.[]; d = 0; at = λ x. x }, tt)))),
+                          ),
+                        ),
+                      ),
+                    ),
+                  ),
+                ),
+              ),
+            ) (m33 (c .before)
+                (After-no-entries·gave c)) g;
+          },
+        )
 
         lay9 : (c : After-part) → at44 (W3 (c .before .before .before .before .before .before) (c .before .before .before .before .before .loop .image) (c .before .before .before .before .before .loop
             .lines) (c .before .before .before .before .before .loop .rs) (c .before .before .before .before .before .loop .answer) (c .before .before .before .before .before .loop .b)) (m25 (c .before)
             (After-part·gave c))
-        lay9 = λ c. λ g.
-            (Path'.refl, λ g'.
-            (Path'.refl, λ g''.
-            (Path'.refl, λ g'3.
-            (no-entries-requires record
-            { before = record
-            { before = record { before = record { before = record { before = c .before; part = c .part }; walk-arg = record { given = g }; }; walk-arg2 = record { given = g' }; }; walk-arg3 = record {
-            given = g'' }; }; places = record { given = g'3 }; }, λ g'4. lay10 record
-            { before = record
-            { before = record
-            { before = record { before = record { before = record { before = c .before; part = c .part }; walk-arg = record { given = g }; }; walk-arg2 = record { given = g' }; }; walk-arg3 = record {
-            given = g'' }; }; places = record { given = g'3 }; }; no-entries = Called.called ps·6 r·6 (claims· .13) T38 tt (m32 record
-            { before = record { before = record { before = record { before = c .before; part = c .part }; walk-arg = record { given = g }; }; walk-arg2 = record { given = g' }; }; walk-arg3 = record {
-            given = g'' }; } g'3) g'4; }))))
+        lay9 = λ c. λ g. (
+          Path'.refl,
+          λ g'. (
+            Path'.refl,
+            λ g''. (
+              Path'.refl,
+              λ g'3. (
+                no-entries-requires record {
+                  before = record {
+                    before = record { before = record { before = record { before = c .before; part = c .part }; walk-arg = record { given = g } }; walk-arg2 = record { given = g' } };
+                    walk-arg3 = record {
+                      given = g'';
+                    };
+                  };
+                  places = record { given = g'3 };
+                },
+                λ g'4. lay10 record {
+                  before = record {
+                    before = record {
+                      before = record { before = record { before = record { before = c .before; part = c .part }; walk-arg = record { given = g } }; walk-arg2 = record { given = g' } };
+                      walk-arg3 = record {
+                        given = g'';
+                      };
+                    };
+                    places = record { given = g'3 };
+                  };
+                  no-entries = Called.called ps·6 r·6 (claims· .13) T38 tt (m32 record {
+                    before = record { before = record { before = record { before = c .before; part = c .part }; walk-arg = record { given = g } }; walk-arg2 = record { given = g' } };
+                    walk-arg3 = record {
+                      given = g'';
+                    };
+                  } g'3) g'4;
+                },
+              ),
+            ),
+          ),
+        )
 
         lay8 : (c : After-base-row) → at45 (W3 (c .before .before .before .before .before) (c .before .before .before .before .loop .image) (c .before .before .before .before .loop .lines) (c .before
             .before .before .before .loop .rs) (c .before .before .before .before .loop .answer) (c .before .before .before .before .loop .b)) (m24 (c .before) (After-base-row·gave c))
-        lay8 = λ c.
-            (part-requires record { before = c .before; base-row = c .base-row }, λ g. lay9 record
-            { before = record { before = c .before; base-row = c .base-row }; part = Called.called ps·5 r·5 (claims· .11) T26
-            (record { pos = 3; st = List.[]; d = 0; at = λ x. x }, (Num.vAt 14 λ x. x, tt)) (m24 (c .before) (After-base-row·gave c)) g; })
+        lay8 = λ c. (
+          part-requires record { before = c .before; base-row = c .base-row },
+          λ g. lay9 record {
+            before = record { before = c .before; base-row = c .base-row };
+            part = Called.called ps·5 r·5 (claims· .11) T26
+                (record { pos = 3; st = List.[]; d = 0; at = λ x. x }, (Num.vAt 14 λ x. x, tt)) (m24 (c .before) (After-base-row·gave c)) g;
+          },
+        )
 
         lay7 : (c : After-block-bytes) → at46 (W3 (c .before .before .before .before) (c .before .before .before .loop .image) (c .before .before .before .loop .lines) (c .before .before .before .loop
             .rs) (c .before .before .before .loop .answer) (c .before .before .before .loop .b)) (m23 (c .before) (After-block-bytes·gave c))
-        lay7 = λ c.
-            (base-row-requires record { before = c .before; block-bytes = c .block-bytes }, λ g. lay8 record
-            { before = record { before = c .before; block-bytes = c .block-bytes }; base-row = Called.called ps·4 r·4 (claims· .9) T25
-            (record { pos = 1; ty = Syntax.tyRef (Syntax.named 0) Syntax.imm (Syntax.tyInt Syntax.w8); ref = λ x. x; }, (Num.vAt 14 λ x. x, tt)) (m23 (c .before) (After-block-bytes·gave c)) g; })
+        lay7 = λ c. (
+          base-row-requires record { before = c .before; block-bytes = c .block-bytes },
+          λ g. lay8 record {
+            before = record { before = c .before; block-bytes = c .block-bytes };
+            base-row = Called.called ps·4 r·4 (claims· .9) T25
+                (record { pos = 1; ty = Syntax.tyRef (Syntax.named 0) Syntax.imm (Syntax.tyInt Syntax.w8); ref = λ x. x }, (Num.vAt 14 λ x. x, tt)) (m23 (c .before) (After-block-bytes·gave c)) g;
+          },
+        )
 
         lay6 : (c : After-form-of) → at47 (W3 (c .before .before .before) (c .before .before .loop .image) (c .before .before .loop .lines) (c .before .before .loop .rs) (c .before .before .loop
             .answer) (c .before .before .loop .b)) (m22 (c .before) (After-form-of·gave c))
-        lay6 = λ c.
-            (block-bytes-requires record { before = c .before; form-of = c .form-of }, λ g. lay7 record
-            { before = record { before = c .before; form-of = c .form-of }; block-bytes = Called.called ps·3 r·3 (claims· .7) T24
-            (record { pos = 1; ty = Syntax.tyRef (Syntax.named 0) Syntax.imm (Syntax.tyInt Syntax.w8); ref = λ x. x; }, (Num.vAt 14 λ x. x, tt)) (m22 (c .before) (After-form-of·gave c)) g; })
+        lay6 = λ c. (
+          block-bytes-requires record { before = c .before; form-of = c .form-of },
+          λ g. lay7 record {
+            before = record { before = c .before; form-of = c .form-of };
+            block-bytes = Called.called ps·3 r·3 (claims· .7) T24
+                (record { pos = 1; ty = Syntax.tyRef (Syntax.named 0) Syntax.imm (Syntax.tyInt Syntax.w8); ref = λ x. x }, (Num.vAt 14 λ x. x, tt)) (m22 (c .before) (After-form-of·gave c)) g;
+          },
+        )
 
         lay5 : (c : In-loop) → at48 (W3 (c .before .before) (c .before .loop .image) (c .before .loop .lines) (c .before .loop .rs) (c .before .loop .answer) (c .before .loop .b)) (m16 (c .before))
-        lay5 = λ c.
-            (form-of-requires record { before = c .before; loop-test = c .loop-test }, λ g. lay6 record
-            { before = record { before = c .before; loop-test = c .loop-test }; form-of = Called.called ps·2 r·2 (claims· .5) T17 (record { pos = 2; st = List.[]; d = 0; at = λ x. x }, tt) (m16 (c
-            .before)) g; })
+        lay5 = λ c. (
+          form-of-requires record { before = c .before; loop-test = c .loop-test },
+          λ g. lay6 record {
+            before = record { before = c .before; loop-test = c .loop-test };
+            form-of = Called.called ps·2 r·2 (claims· .5) T17 (record { pos = 2; st = List.[]; d = 0; at = λ x. x }, tt) (m16 (c
+                .before)) g;
+          },
+        )
 
         lay4 : (c : After-loop) → at7 (W4 (c .before .before) (c .before .loop .image) (c .before .loop .lines) (c .before .loop .rs) (c .before .loop .answer) (c .before .loop .b)) (m15 (c .before
             .before) (c .before .loop .image) (c .before .loop .lines) (c .before .loop .rs) (c .before .loop .answer) (c .before .loop .b))
@@ -3246,47 +3918,81 @@ module _ (claims· : Claims) where
 
         lay2 : (c : After-xtrans-places) → at65 (W0 (c .before .before .before .before .before .before .κs) (c .before .before .before .before .before .before .args)) (m8 (c .before)
             (After-xtrans-places·gave c))
-        lay2 = λ c.
-            (((Row.get 5 (T15 .locals) (m13 (c .before) (After-xtrans-places·gave c)) .now, Row.get 6 (T15 .locals) (m13 (c .before) (After-xtrans-places·gave c)) .now, Row.get 7 (T15 .locals) (m13 (c
-            .before) (After-xtrans-places·gave c)) .now, Row.get 13 (T15 .locals) (m13 (c .before) (After-xtrans-places·gave c)), Row.get 14 (T15 .locals) (m13 (c .before) (After-xtrans-places·gave c))),
-            Path'.refl {a = m13 (c .before) (After-xtrans-places·gave c)}, loop-holds record { before = c .before; xtrans-places = c .xtrans-places }), λ vs inv.
-            (tt,
-            (λ taken. lay3 record
-            { before = record
-            { before = record { before = c .before; xtrans-places = c .xtrans-places }; loop = record { image = vs .0; lines = vs .1; rs = vs .2; answer = vs .3; b = vs .4; inv = inv; }; }; loop-test =
-            record
-            { taken = Tests.ltb-true (Row.get 14 (T15 .locals) (m14 record { before = c .before; xtrans-places = c .xtrans-places; } (vs .0) (vs .1) (vs .2) (vs .3) (vs .4))) (Row.get 11 (T15 .locals)
-            (m14 record { before = c .before; xtrans-places = c .xtrans-places; } (vs .0) (vs .1) (vs .2) (vs .3) (vs .4))) taken; }; }, λ left. lay4 record
-            { before = record
-            { before = record { before = c .before; xtrans-places = c .xtrans-places }; loop = record { image = vs .0; lines = vs .1; rs = vs .2; answer = vs .3; b = vs .4; inv = inv; }; }; loop-test =
-            record
-            { left = Tests.ltb-false (Row.get 14 (T15 .locals) (m14 record { before = c .before; xtrans-places = c .xtrans-places; } (vs .0) (vs .1) (vs .2) (vs .3) (vs .4))) (Row.get 11 (T15 .locals)
-            (m14 record { before = c .before; xtrans-places = c .xtrans-places; } (vs .0) (vs .1) (vs .2) (vs .3) (vs .4))) left; }; })))
+        lay2 = λ c. (
+          (
+            (
+              Row.get 5 (T15 .locals) (m13 (c .before) (After-xtrans-places·gave c)) .now,
+              Row.get 6 (T15 .locals) (m13 (c .before) (After-xtrans-places·gave c)) .now,
+              Row.get 7 (T15 .locals) (m13 (c
+                  .before) (After-xtrans-places·gave c)) .now,
+              Row.get 13 (T15 .locals) (m13 (c .before) (After-xtrans-places·gave c)),
+              Row.get 14 (T15 .locals) (m13 (c .before) (After-xtrans-places·gave c)),
+            ),
+            Path'.refl {a = m13 (c .before) (After-xtrans-places·gave c)},
+            loop-holds record { before = c .before; xtrans-places = c .xtrans-places },
+          ),
+          λ vs inv. (
+            tt,
+            (
+              λ taken. lay3 record {
+                before = record
+                    { before = record { before = c .before; xtrans-places = c .xtrans-places }; loop = record { image = vs .0; lines = vs .1; rs = vs .2; answer = vs .3; b = vs .4; inv = inv } };
+                loop-test =
+                    record {
+                      taken = Tests.ltb-true (Row.get 14 (T15 .locals) (m14 record { before = c .before; xtrans-places = c .xtrans-places } (vs .0) (vs .1) (vs .2) (vs .3) (vs .4))) (Row.get 11 (T15 .locals)
+                          (m14 record { before = c .before; xtrans-places = c .xtrans-places } (vs .0) (vs .1) (vs .2) (vs .3) (vs .4))) taken;
+                    };
+              },
+              λ left. lay4 record {
+                before = record
+                    { before = record { before = c .before; xtrans-places = c .xtrans-places }; loop = record { image = vs .0; lines = vs .1; rs = vs .2; answer = vs .3; b = vs .4; inv = inv } };
+                loop-test =
+                    record {
+                      left = Tests.ltb-false (Row.get 14 (T15 .locals) (m14 record { before = c .before; xtrans-places = c .xtrans-places } (vs .0) (vs .1) (vs .2) (vs .3) (vs .4))) (Row.get 11 (T15 .locals)
+                          (m14 record { before = c .before; xtrans-places = c .xtrans-places } (vs .0) (vs .1) (vs .2) (vs .3) (vs .4))) left;
+                    };
+              },
+            ),
+          ),
+        )
 
         lay1 : (c : After-span-of) → at69 (W0 (c .before .before .before .before .κs) (c .before .before .before .before .args)) (m4 (c .before) (After-span-of·gave c))
-        lay1 = λ c. λ g.
-            (add-end record { before = record { before = c .before; span-of = c .span-of }; struct-known = record { given = g }; },
-            (xtrans-places-requires record { before = record { before = c .before; span-of = c .span-of }; struct-known = record { given = g }; }, λ g'. lay2 record
-            { before = record { before = record { before = c .before; span-of = c .span-of }; struct-known = record { given = g }; }; xtrans-places = Called.called ps·1 r·1 (claims· .3) T8 tt (m7 record
-            { before = c .before; span-of = c .span-of; } g) g'; }))
+        lay1 = λ c. λ g. (
+          add-end record { before = record { before = c .before; span-of = c .span-of }; struct-known = record { given = g } },
+          (
+            xtrans-places-requires record { before = record { before = c .before; span-of = c .span-of }; struct-known = record { given = g } },
+            λ g'. lay2 record {
+              before = record { before = record { before = c .before; span-of = c .span-of }; struct-known = record { given = g } };
+              xtrans-places = Called.called ps·1 r·1 (claims· .3) T8 tt (m7 record
+                  { before = c .before; span-of = c .span-of } g) g';
+            },
+          ),
+        )
 
         pub laid : (c : Start) → at73 (W0 (c .κs) (c .args)) (m0 (c .κs) (c .args))
-        laid = λ c. λ g. λ g'. λ g''.
-            (span-of-requires record
-            { before = record { before = record { before = c; shared-slice-known = record { given = g } }; slice-known = record { given = g' }; }; slice-known2 = record { given = g'' }; }, λ g'3. lay1
-            record
-            { before = record
-            { before = record { before = record { before = c; shared-slice-known = record { given = g } }; slice-known = record { given = g' }; }; slice-known2 = record { given = g'' }; }; span-of =
-            Called.called ps·0 r·0 (claims· .1) T4 (record { pos = 3; st = List.[]; d = 0; at = λ x. x }, tt) (m3 record
-            { before = record { before = c; shared-slice-known = record { given = g } }; slice-known = record { given = g' }; } g'') g'3; })
+        laid = λ c. λ g. λ g'. λ g''. (
+          span-of-requires record
+              { before = record { before = record { before = c; shared-slice-known = record { given = g } }; slice-known = record { given = g' } }; slice-known2 = record { given = g'' } },
+          λ g'3. lay1
+              record {
+                before = record
+                    { before = record { before = record { before = c; shared-slice-known = record { given = g } }; slice-known = record { given = g' } }; slice-known2 = record { given = g'' } };
+                span-of =
+                    Called.called ps·0 r·0 (claims· .1) T4 (record { pos = 3; st = List.[]; d = 0; at = λ x. x }, tt) (m3 record
+                    { before = record { before = c; shared-slice-known = record { given = g } }; slice-known = record { given = g' } } g'') g'3;
+              },
+        )
 
         module _ (κs : Lifetimes.Lfts 4) (qs : Lifetimes.Shares 4) where
           pub asked : (a : Kinds.Dens κs ps) → (good : Kinds.GoodsP κs ps a) → (pre : Pre· κs a) → (bs : List.List Nat.ℕ) → Φ (Any.wantQ 4 ps r xs m κs qs a (Post· κs a)) (Function.init 4 ps r xs m κs
               qs a)
-          asked = λ a good pre bs. laid record
-              { κs = κs; args = record
-              { d = a .0; h = a .1 .0; r = a .1 .1 .0; tile = a .1 .1 .1 .0; image = a .1 .1 .1 .1 .0; lines = a .1 .1 .1 .1 .1 .0; rs = a .1 .1 .1 .1 .1 .1 .0; windowed = a .1 .1 .1 .1 .1 .1 .1 .0; };
-              good = good; pre = pre; }
+          asked = λ a good pre bs. laid record {
+            κs = κs;
+            args = record
+                { d = a .0; h = a .1 .0; r = a .1 .1 .0; tile = a .1 .1 .1 .0; image = a .1 .1 .1 .1 .0; lines = a .1 .1 .1 .1 .1 .0; rs = a .1 .1 .1 .1 .1 .1 .0; windowed = a .1 .1 .1 .1 .1 .1 .1 .0 };
+            good = good;
+            pre = pre;
+          }
 
         module _ {M : Type 1} (𝓤 : URA.URA M) (H : Wp.Heap 𝓤) (A : Atoms.Atoms 𝓤) (W : Kit.Given 𝓤 H A) (𝓣 : Wp.Tables 𝓤 H) (known0 : Plain.Known 𝓤 H A W 𝓣 0 ps·0 r·0 (claims· .0) (claims· .1)
             "region::span_of") (known1 : Plain.Known 𝓤 H A W 𝓣 0 ps·1 r·1 (claims· .2) (claims· .3) "map::xtrans_places") (known2 : Plain.Known 𝓤 H A W 𝓣 0 ps·2 r·2 (claims· .4) (claims· .5)

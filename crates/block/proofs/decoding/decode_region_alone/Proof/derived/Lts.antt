@@ -72,19 +72,45 @@ abbrev pub y2 : Syntax.Ty
 y2 = Syntax.tyStruct (List._∷_ 38 (List._∷_ 91 (List._∷_ 93 List.[]))) (Syntax.tcons (Syntax.tyRef Syntax.erased Syntax.mut Element.behind) (Syntax.tcons (Syntax.tyInt Syntax.w64) Syntax.tnil))
 
 abbrev pub ps : List.List (Kinds.PK 2)
-ps = List._∷_ (ShrSlice.pShrS (Referent.rtF (Referent.fInt Syntax.w8)) 0 tt) (List._∷_ (Value.pVal record
-    { ty = Declared'.row Rect.the-type; one = Path'.refl; val = Laws'3.val Rect.the-type Laws'.the-laws; tells = Laws'3.tells Rect.the-type Laws'.the-laws; still = Laws'3.still Rect.the-type
-    Laws'.the-copy Exit.yes; row = Rows'.whole (Declared'.row Rect.the-type); rd = λ x. x; mk = λ x. x; } λ M 𝓤 H A W. record
-    { copies = Laws'3.copy Rect.the-type Laws'.the-copy 𝓤 H A W; lawful = Laws'3.lawful Rect.the-type Laws'.the-laws 𝓤 H A W; makes = Laws'3.makes Rect.the-type Laws'.the-plain 𝓤 H A; in-mem =
-    Local.mem-whole 𝓤 H A W (Declared'.row Rect.the-type); of-mem = Local.whole-mem 𝓤 H A W (Declared'.row Rect.the-type); }) (List._∷_ (Array.pArr (Array.eInt Syntax.w8) (Array.eInt-laws Syntax.w8) 36)
+ps = List._∷_ (ShrSlice.pShrS (Referent.rtF (Referent.fInt Syntax.w8)) 0 tt) (List._∷_ (Value.pVal record {
+  ty = Declared'.row Rect.the-type;
+  one = Path'.refl;
+  val = Laws'3.val Rect.the-type Laws'.the-laws;
+  tells = Laws'3.tells Rect.the-type Laws'.the-laws;
+  still = Laws'3.still Rect.the-type
+      Laws'.the-copy Exit.yes;
+  row = Rows'.whole (Declared'.row Rect.the-type);
+  rd = λ x. x;
+  mk = λ x. x;
+} λ M 𝓤 H A W. record {
+  copies = Laws'3.copy Rect.the-type Laws'.the-copy 𝓤 H A W;
+  lawful = Laws'3.lawful Rect.the-type Laws'.the-laws 𝓤 H A W;
+  makes = Laws'3.makes Rect.the-type Laws'.the-plain 𝓤 H A;
+  in-mem =
+      Local.mem-whole 𝓤 H A W (Declared'.row Rect.the-type);
+  of-mem = Local.whole-mem 𝓤 H A W (Declared'.row Rect.the-type);
+}) (List._∷_ (Array.pArr (Array.eInt Syntax.w8) (Array.eInt-laws Syntax.w8) 36)
     (List._∷_ (MutSlice.pMutS (Referent.rtF (Referent.fInt Syntax.w16)) 1 tt) List.[])))
 
 abbrev pub r : Kinds.RK 2
-r = Value.rVal record
-    { ty = Declared.row Decoded.the-type; one = Path'.refl; val = Laws''.val Decoded.the-type Laws.the-laws; tells = Laws''.tells Decoded.the-type Laws.the-laws; still = Laws''.still Decoded.the-type
-    Laws.the-copy Exit.yes; row = Rows'.whole (Declared.row Decoded.the-type); rd = λ x. x; mk = λ x. x; } λ M 𝓤 H A W. record
-    { copies = Laws''.copy Decoded.the-type Laws.the-copy 𝓤 H A W; lawful = Laws''.lawful Decoded.the-type Laws.the-laws 𝓤 H A W tt; makes = Laws''.makes Decoded.the-type Laws.the-plain 𝓤 H A; in-mem =
-    Local.mem-whole 𝓤 H A W (Declared.row Decoded.the-type); of-mem = Local.whole-mem 𝓤 H A W (Declared.row Decoded.the-type); }
+r = Value.rVal record {
+  ty = Declared.row Decoded.the-type;
+  one = Path'.refl;
+  val = Laws''.val Decoded.the-type Laws.the-laws;
+  tells = Laws''.tells Decoded.the-type Laws.the-laws;
+  still = Laws''.still Decoded.the-type
+      Laws.the-copy Exit.yes;
+  row = Rows'.whole (Declared.row Decoded.the-type);
+  rd = λ x. x;
+  mk = λ x. x;
+} λ M 𝓤 H A W. record {
+  copies = Laws''.copy Decoded.the-type Laws.the-copy 𝓤 H A W;
+  lawful = Laws''.lawful Decoded.the-type Laws.the-laws 𝓤 H A W tt;
+  makes = Laws''.makes Decoded.the-type Laws.the-plain 𝓤 H A;
+  in-mem =
+      Local.mem-whole 𝓤 H A W (Declared.row Decoded.the-type);
+  of-mem = Local.whole-mem 𝓤 H A W (Declared.row Decoded.the-type);
+}
 
 abbrev pub xs : List.List Syntax.Ty
 xs = List._∷_ (Syntax.tyArray (Syntax.tyInt Syntax.w16) 9252) (List._∷_ (Syntax.tyArray (Element.held) 336) (List._∷_ (Element.held) (List._∷_ (Syntax.tyRef Syntax.erased Syntax.mut (Syntax.tyInt
@@ -101,20 +127,46 @@ abbrev pub r·0 : Kinds.RK 0
 r·0 = Element.result
 
 abbrev pub ps·1 : List.List (Kinds.PK 4)
-ps·1 = List._∷_ (ShrSlice.pShrS (Referent.rtF (Referent.fInt Syntax.w8)) 0 tt) (List._∷_ (Value.pVal record
-    { ty = Declared'.row Rect.the-type; one = Path'.refl; val = Laws'3.val Rect.the-type Laws'.the-laws; tells = Laws'3.tells Rect.the-type Laws'.the-laws; still = Laws'3.still Rect.the-type
-    Laws'.the-copy Exit.yes; row = Rows'.whole (Declared'.row Rect.the-type); rd = λ x. x; mk = λ x. x; } λ M 𝓤 H A W. record
-    { copies = Laws'3.copy Rect.the-type Laws'.the-copy 𝓤 H A W; lawful = Laws'3.lawful Rect.the-type Laws'.the-laws 𝓤 H A W; makes = Laws'3.makes Rect.the-type Laws'.the-plain 𝓤 H A; in-mem =
-    Local.mem-whole 𝓤 H A W (Declared'.row Rect.the-type); of-mem = Local.whole-mem 𝓤 H A W (Declared'.row Rect.the-type); }) (List._∷_ (Array.pArr (Array.eInt Syntax.w8) (Array.eInt-laws Syntax.w8) 36)
+ps·1 = List._∷_ (ShrSlice.pShrS (Referent.rtF (Referent.fInt Syntax.w8)) 0 tt) (List._∷_ (Value.pVal record {
+  ty = Declared'.row Rect.the-type;
+  one = Path'.refl;
+  val = Laws'3.val Rect.the-type Laws'.the-laws;
+  tells = Laws'3.tells Rect.the-type Laws'.the-laws;
+  still = Laws'3.still Rect.the-type
+      Laws'.the-copy Exit.yes;
+  row = Rows'.whole (Declared'.row Rect.the-type);
+  rd = λ x. x;
+  mk = λ x. x;
+} λ M 𝓤 H A W. record {
+  copies = Laws'3.copy Rect.the-type Laws'.the-copy 𝓤 H A W;
+  lawful = Laws'3.lawful Rect.the-type Laws'.the-laws 𝓤 H A W;
+  makes = Laws'3.makes Rect.the-type Laws'.the-plain 𝓤 H A;
+  in-mem =
+      Local.mem-whole 𝓤 H A W (Declared'.row Rect.the-type);
+  of-mem = Local.whole-mem 𝓤 H A W (Declared'.row Rect.the-type);
+}) (List._∷_ (Array.pArr (Array.eInt Syntax.w8) (Array.eInt-laws Syntax.w8) 36)
     (List._∷_ (MutSlice.pMutS (Referent.rtF (Referent.fInt Syntax.w16)) 1 tt) (List._∷_ (MutSlice.pMutS (Referent.rtF (Referent.fInt Syntax.w16)) 2 tt) (List._∷_ (MutSlice.pMutS (Element.type) 3 tt)
     List.[])))))
 
 abbrev pub r·1 : Kinds.RK 4
-r·1 = Value.rVal record
-    { ty = Declared.row Decoded.the-type; one = Path'.refl; val = Laws''.val Decoded.the-type Laws.the-laws; tells = Laws''.tells Decoded.the-type Laws.the-laws; still = Laws''.still Decoded.the-type
-    Laws.the-copy Exit.yes; row = Rows'.whole (Declared.row Decoded.the-type); rd = λ x. x; mk = λ x. x; } λ M 𝓤 H A W. record
-    { copies = Laws''.copy Decoded.the-type Laws.the-copy 𝓤 H A W; lawful = Laws''.lawful Decoded.the-type Laws.the-laws 𝓤 H A W tt; makes = Laws''.makes Decoded.the-type Laws.the-plain 𝓤 H A; in-mem =
-    Local.mem-whole 𝓤 H A W (Declared.row Decoded.the-type); of-mem = Local.whole-mem 𝓤 H A W (Declared.row Decoded.the-type); }
+r·1 = Value.rVal record {
+  ty = Declared.row Decoded.the-type;
+  one = Path'.refl;
+  val = Laws''.val Decoded.the-type Laws.the-laws;
+  tells = Laws''.tells Decoded.the-type Laws.the-laws;
+  still = Laws''.still Decoded.the-type
+      Laws.the-copy Exit.yes;
+  row = Rows'.whole (Declared.row Decoded.the-type);
+  rd = λ x. x;
+  mk = λ x. x;
+} λ M 𝓤 H A W. record {
+  copies = Laws''.copy Decoded.the-type Laws.the-copy 𝓤 H A W;
+  lawful = Laws''.lawful Decoded.the-type Laws.the-laws 𝓤 H A W tt;
+  makes = Laws''.makes Decoded.the-type Laws.the-plain 𝓤 H A;
+  in-mem =
+      Local.mem-whole 𝓤 H A W (Declared.row Decoded.the-type);
+  of-mem = Local.whole-mem 𝓤 H A W (Declared.row Decoded.the-type);
+}
 
 abbrev pub hs : List.List Syntax.Home
 hs = List._∷_ Syntax.valueLocal (List._∷_ Syntax.valueLocal (List._∷_ Syntax.valueLocal (List._∷_ Syntax.valueLocal (List._∷_ Syntax.valueLocal (List._∷_ Syntax.memorySlot (List._∷_ Syntax.memorySlot
@@ -192,16 +244,18 @@ abbrev pub Claims : Type 1
 Claims = Kinds.In 0 ps·0 × Kinds.Out 0 ps·0 r·0 × Kinds.In 4 ps·1 × Kinds.Out 4 ps·1 r·1
 
 abbrev pub e0 : Row.Entry
-e0 =
-    (0, Rows'.any-gone (Syntax.tyEnum (List._∷_ 98 (List._∷_ 108 (List._∷_ 111 (List._∷_ 99 (List._∷_ 107 (List._∷_ 58 (List._∷_ 58 (List._∷_ 68 (List._∷_ 101 (List._∷_ 99 (List._∷_ 111 (List._∷_ 100
-    (List._∷_ 101 (List._∷_ 100 List.[])))))))))))))) (Syntax.ttcons Syntax.tnil (Syntax.ttcons (Syntax.tcons (Syntax.tyEnum (List._∷_ 115 (List._∷_ 116 (List._∷_ 114 (List._∷_ 101 (List._∷_ 97 (List._∷_
-    109 (List._∷_ 58 (List._∷_ 58 (List._∷_ 82 (List._∷_ 101 (List._∷_ 102 (List._∷_ 117 (List._∷_ 115 (List._∷_ 97 (List._∷_ 108 List.[]))))))))))))))) (Syntax.ttcons Syntax.tnil (Syntax.ttcons
-    Syntax.tnil (Syntax.ttcons Syntax.tnil (Syntax.ttcons (Syntax.tcons (Syntax.tyInt Syntax.w64) Syntax.tnil) (Syntax.ttcons Syntax.tnil (Syntax.ttcons Syntax.tnil (Syntax.ttcons Syntax.tnil
-    (Syntax.ttcons Syntax.tnil (Syntax.ttcons Syntax.tnil (Syntax.ttcons Syntax.tnil (Syntax.ttcons (Syntax.tcons (Syntax.tyInt Syntax.w64) Syntax.tnil) (Syntax.ttcons (Syntax.tcons (Syntax.tyInt
-    Syntax.w64) Syntax.tnil) (Syntax.ttcons Syntax.tnil (Syntax.ttcons (Syntax.tcons (Syntax.tyInt Syntax.w64) (Syntax.tcons (Syntax.tyInt Syntax.w64) Syntax.tnil)) (Syntax.ttcons (Syntax.tcons
-    (Syntax.tyInt Syntax.w64) Syntax.tnil) (Syntax.ttcons Syntax.tnil (Syntax.ttcons Syntax.tnil (Syntax.ttcons (Syntax.tcons (Syntax.tyInt Syntax.w64) Syntax.tnil) (Syntax.ttcons (Syntax.tcons
-    (Syntax.tyInt Syntax.w64) Syntax.tnil) (Syntax.ttcons (Syntax.tcons (Syntax.tyInt Syntax.w64) Syntax.tnil) (Syntax.ttcons (Syntax.tcons (Syntax.tyInt Syntax.w64) (Syntax.tcons (Syntax.tyInt
-    Syntax.w64) Syntax.tnil)) (Syntax.ttcons Syntax.tnil Syntax.ttnil))))))))))))))))))))))) Syntax.tnil) Syntax.ttnil))))
+e0 = (
+  0,
+  Rows'.any-gone (Syntax.tyEnum (List._∷_ 98 (List._∷_ 108 (List._∷_ 111 (List._∷_ 99 (List._∷_ 107 (List._∷_ 58 (List._∷_ 58 (List._∷_ 68 (List._∷_ 101 (List._∷_ 99 (List._∷_ 111 (List._∷_ 100
+      (List._∷_ 101 (List._∷_ 100 List.[])))))))))))))) (Syntax.ttcons Syntax.tnil (Syntax.ttcons (Syntax.tcons (Syntax.tyEnum (List._∷_ 115 (List._∷_ 116 (List._∷_ 114 (List._∷_ 101 (List._∷_ 97 (List._∷_
+      109 (List._∷_ 58 (List._∷_ 58 (List._∷_ 82 (List._∷_ 101 (List._∷_ 102 (List._∷_ 117 (List._∷_ 115 (List._∷_ 97 (List._∷_ 108 List.[]))))))))))))))) (Syntax.ttcons Syntax.tnil (Syntax.ttcons
+      Syntax.tnil (Syntax.ttcons Syntax.tnil (Syntax.ttcons (Syntax.tcons (Syntax.tyInt Syntax.w64) Syntax.tnil) (Syntax.ttcons Syntax.tnil (Syntax.ttcons Syntax.tnil (Syntax.ttcons Syntax.tnil
+      (Syntax.ttcons Syntax.tnil (Syntax.ttcons Syntax.tnil (Syntax.ttcons Syntax.tnil (Syntax.ttcons (Syntax.tcons (Syntax.tyInt Syntax.w64) Syntax.tnil) (Syntax.ttcons (Syntax.tcons (Syntax.tyInt
+      Syntax.w64) Syntax.tnil) (Syntax.ttcons Syntax.tnil (Syntax.ttcons (Syntax.tcons (Syntax.tyInt Syntax.w64) (Syntax.tcons (Syntax.tyInt Syntax.w64) Syntax.tnil)) (Syntax.ttcons (Syntax.tcons
+      (Syntax.tyInt Syntax.w64) Syntax.tnil) (Syntax.ttcons Syntax.tnil (Syntax.ttcons Syntax.tnil (Syntax.ttcons (Syntax.tcons (Syntax.tyInt Syntax.w64) Syntax.tnil) (Syntax.ttcons (Syntax.tcons
+      (Syntax.tyInt Syntax.w64) Syntax.tnil) (Syntax.ttcons (Syntax.tcons (Syntax.tyInt Syntax.w64) Syntax.tnil) (Syntax.ttcons (Syntax.tcons (Syntax.tyInt Syntax.w64) (Syntax.tcons (Syntax.tyInt
+      Syntax.w64) Syntax.tnil)) (Syntax.ttcons Syntax.tnil Syntax.ttnil))))))))))))))))))))))) Syntax.tnil) Syntax.ttnil))),
+)
 
 abbrev pub e1 : Row.Entry
 e1 = (0, Rows'.whole (Declared.row Decoded.the-type))
@@ -508,13 +562,22 @@ module _ (claims· : Claims) where
       Syntax.mut Element.behind) (λ x. x) (Scalar.oInt Syntax.w64 336)
 
   abbrev s17 : (bs : List.List Nat.ℕ) → Typed.Both T18 T19
-  s17 = λ bs. Call.callB ps·1 r·1 (claims· .2) (claims· .3) T18
-      (record { pos = 1; ty = Syntax.tyRef (Syntax.named 0) Syntax.imm (Syntax.tyInt Syntax.w8); ref = λ x. x; },
-      (record { pos = 2; st = List.[]; d = 0; at = λ x. x },
-      (record { pos = 3; st = List.[]; d = 0; at = λ x. x },
-      (record { pos = 9; ty = Syntax.tyRef Syntax.erased Syntax.mut (Syntax.tyInt Syntax.w16); ref = λ x. x; },
-      (record { pos = 11; ty = Syntax.tyRef Syntax.erased Syntax.mut (Syntax.tyInt Syntax.w16); ref = λ x. x; },
-      (record { pos = 13; ty = Syntax.tyRef Syntax.erased Syntax.mut Element.behind; ref = λ x. x; }, tt)))))) 0 (List._∷_ 0 (List._∷_ 2 (List._∷_ 3 (List._∷_ 4 List.[])))) (Syntax.tyEnum (List._∷_ 98
+  s17 = λ bs. Call.callB ps·1 r·1 (claims· .2) (claims· .3) T18 (
+    record { pos = 1; ty = Syntax.tyRef (Syntax.named 0) Syntax.imm (Syntax.tyInt Syntax.w8); ref = λ x. x },
+    (
+      record { pos = 2; st = List.[]; d = 0; at = λ x. x },
+      (
+        record { pos = 3; st = List.[]; d = 0; at = λ x. x },
+        (
+          record { pos = 9; ty = Syntax.tyRef Syntax.erased Syntax.mut (Syntax.tyInt Syntax.w16); ref = λ x. x },
+          (
+            record { pos = 11; ty = Syntax.tyRef Syntax.erased Syntax.mut (Syntax.tyInt Syntax.w16); ref = λ x. x },
+            (record { pos = 13; ty = Syntax.tyRef Syntax.erased Syntax.mut Element.behind; ref = λ x. x }, tt),
+          ),
+        ),
+      ),
+    ),
+  ) 0 (List._∷_ 0 (List._∷_ 2 (List._∷_ 3 (List._∷_ 4 List.[])))) (Syntax.tyEnum (List._∷_ 98
       (List._∷_ 108 (List._∷_ 111 (List._∷_ 99 (List._∷_ 107 (List._∷_ 58 (List._∷_ 58 (List._∷_ 68 (List._∷_ 101 (List._∷_ 99 (List._∷_ 111 (List._∷_ 100 (List._∷_ 101 (List._∷_ 100 List.[]))))))))))))))
       (Syntax.ttcons Syntax.tnil (Syntax.ttcons (Syntax.tcons (Syntax.tyEnum (List._∷_ 115 (List._∷_ 116 (List._∷_ 114 (List._∷_ 101 (List._∷_ 97 (List._∷_ 109 (List._∷_ 58 (List._∷_ 58 (List._∷_ 82
       (List._∷_ 101 (List._∷_ 102 (List._∷_ 117 (List._∷_ 115 (List._∷_ 97 (List._∷_ 108 List.[]))))))))))))))) (Syntax.ttcons Syntax.tnil (Syntax.ttcons Syntax.tnil (Syntax.ttcons Syntax.tnil
@@ -711,106 +774,106 @@ module _ (claims· : Claims) where
             (List._∷_ e23 (List._∷_ e26 (List._∷_ e28 (List._∷_ e29 (List._∷_ e4 (List._∷_ e5 (List._∷_ e9 (List._∷_ e10 List.[])))))))))))))
 
         abbrev G0 : Row.Cx
-        G0 = record { locals = t0; slots = List._∷_ (Row.lease (κs .0) (qs .0)) (List._∷_ (Row.lease (κs .1 .0) (qs .1 .0)) (List._∷_ Row.off (List._∷_ Row.off (List._∷_ Row.off List.[])))); }
+        G0 = record { locals = t0; slots = List._∷_ (Row.lease (κs .0) (qs .0)) (List._∷_ (Row.lease (κs .1 .0) (qs .1 .0)) (List._∷_ Row.off (List._∷_ Row.off (List._∷_ Row.off List.[])))) }
 
         abbrev G1 : Row.Cx
-        G1 = record { locals = t1; slots = List._∷_ (Row.lease (κs .0) (qs .0)) (List._∷_ (Row.lease (κs .1 .0) (qs .1 .0)) (List._∷_ Row.off (List._∷_ Row.off (List._∷_ Row.off List.[])))); }
+        G1 = record { locals = t1; slots = List._∷_ (Row.lease (κs .0) (qs .0)) (List._∷_ (Row.lease (κs .1 .0) (qs .1 .0)) (List._∷_ Row.off (List._∷_ Row.off (List._∷_ Row.off List.[])))) }
 
         abbrev G2 : Row.Cx
-        G2 = record { locals = t0; slots = List._∷_ (Row.lease (κs .0) (qs .0)) (List._∷_ (Row.lease (κs .1 .0) (qs .1 .0)) (List._∷_ Row.off (List._∷_ Row.off (List._∷_ Row.off List.[])))); }
+        G2 = record { locals = t0; slots = List._∷_ (Row.lease (κs .0) (qs .0)) (List._∷_ (Row.lease (κs .1 .0) (qs .1 .0)) (List._∷_ Row.off (List._∷_ Row.off (List._∷_ Row.off List.[])))) }
 
         abbrev G3 : Row.Cx
-        G3 = record { locals = t0; slots = List._∷_ (Row.lease (κs .0) (qs .0)) (List._∷_ (Row.lease (κs .1 .0) (qs .1 .0)) (List._∷_ Row.off (List._∷_ Row.off (List._∷_ Row.off List.[])))); }
+        G3 = record { locals = t0; slots = List._∷_ (Row.lease (κs .0) (qs .0)) (List._∷_ (Row.lease (κs .1 .0) (qs .1 .0)) (List._∷_ Row.off (List._∷_ Row.off (List._∷_ Row.off List.[])))) }
 
         abbrev G4 : Row.Cx
-        G4 = record { locals = t2; slots = List._∷_ (Row.lease (κs .0) (qs .0)) (List._∷_ (Row.lease (κs .1 .0) (qs .1 .0)) (List._∷_ Row.off (List._∷_ Row.off (List._∷_ Row.off List.[])))); }
+        G4 = record { locals = t2; slots = List._∷_ (Row.lease (κs .0) (qs .0)) (List._∷_ (Row.lease (κs .1 .0) (qs .1 .0)) (List._∷_ Row.off (List._∷_ Row.off (List._∷_ Row.off List.[])))) }
 
         abbrev G5 : Row.Cx
-        G5 = record { locals = t3; slots = List._∷_ (Row.lease (κs .0) (qs .0)) (List._∷_ (Row.lease (κs .1 .0) (qs .1 .0)) (List._∷_ Row.off (List._∷_ Row.off (List._∷_ Row.off List.[])))); }
+        G5 = record { locals = t3; slots = List._∷_ (Row.lease (κs .0) (qs .0)) (List._∷_ (Row.lease (κs .1 .0) (qs .1 .0)) (List._∷_ Row.off (List._∷_ Row.off (List._∷_ Row.off List.[])))) }
 
         abbrev G6 : Row.Cx
-        G6 = record { locals = t4; slots = List._∷_ (Row.lease (κs .0) (qs .0)) (List._∷_ (Row.lease (κs .1 .0) (qs .1 .0)) (List._∷_ Row.off (List._∷_ Row.off (List._∷_ Row.off List.[])))); }
+        G6 = record { locals = t4; slots = List._∷_ (Row.lease (κs .0) (qs .0)) (List._∷_ (Row.lease (κs .1 .0) (qs .1 .0)) (List._∷_ Row.off (List._∷_ Row.off (List._∷_ Row.off List.[])))) }
 
         abbrev G7 : Row.Cx
-        G7 = record { locals = t5; slots = List._∷_ (Row.lease (κs .0) (qs .0)) (List._∷_ (Row.lease (κs .1 .0) (qs .1 .0)) (List._∷_ Row.off (List._∷_ Row.off (List._∷_ Row.off List.[])))); }
+        G7 = record { locals = t5; slots = List._∷_ (Row.lease (κs .0) (qs .0)) (List._∷_ (Row.lease (κs .1 .0) (qs .1 .0)) (List._∷_ Row.off (List._∷_ Row.off (List._∷_ Row.off List.[])))) }
 
         abbrev G8 : Row.Cx
-        G8 = record { locals = t6; slots = List._∷_ (Row.lease (κs .0) (qs .0)) (List._∷_ (Row.lease (κs .1 .0) (qs .1 .0)) (List._∷_ Row.off (List._∷_ Row.off (List._∷_ Row.off List.[])))); }
+        G8 = record { locals = t6; slots = List._∷_ (Row.lease (κs .0) (qs .0)) (List._∷_ (Row.lease (κs .1 .0) (qs .1 .0)) (List._∷_ Row.off (List._∷_ Row.off (List._∷_ Row.off List.[])))) }
 
         abbrev G9 : Row.Cx
-        G9 = record { locals = t7; slots = List._∷_ (Row.lease (κs .0) (qs .0)) (List._∷_ (Row.lease (κs .1 .0) (qs .1 .0)) (List._∷_ Row.off (List._∷_ Row.off (List._∷_ Row.off List.[])))); }
+        G9 = record { locals = t7; slots = List._∷_ (Row.lease (κs .0) (qs .0)) (List._∷_ (Row.lease (κs .1 .0) (qs .1 .0)) (List._∷_ Row.off (List._∷_ Row.off (List._∷_ Row.off List.[])))) }
 
         abbrev G10 : Row.Cx
-        G10 = record { locals = t7; slots = List._∷_ (Row.lease (κs .0) (qs .0)) (List._∷_ (Row.lease (κs .1 .0) (qs .1 .0)) (List._∷_ Row.alive (List._∷_ Row.off (List._∷_ Row.off List.[])))); }
+        G10 = record { locals = t7; slots = List._∷_ (Row.lease (κs .0) (qs .0)) (List._∷_ (Row.lease (κs .1 .0) (qs .1 .0)) (List._∷_ Row.alive (List._∷_ Row.off (List._∷_ Row.off List.[])))) }
 
         abbrev G11 : Row.Cx
-        G11 = record { locals = g8; slots = List._∷_ (Row.lease (κs .0) (qs .0)) (List._∷_ Row.off (List._∷_ Row.alive (List._∷_ Row.off (List._∷_ Row.off List.[])))); }
+        G11 = record { locals = g8; slots = List._∷_ (Row.lease (κs .0) (qs .0)) (List._∷_ Row.off (List._∷_ Row.alive (List._∷_ Row.off (List._∷_ Row.off List.[])))) }
 
         abbrev G12 : Row.Cx
-        G12 = record { locals = g9; slots = List._∷_ (Row.lease (κs .0) (qs .0)) (List._∷_ Row.off (List._∷_ Row.alive (List._∷_ Row.off (List._∷_ Row.off List.[])))); }
+        G12 = record { locals = g9; slots = List._∷_ (Row.lease (κs .0) (qs .0)) (List._∷_ Row.off (List._∷_ Row.alive (List._∷_ Row.off (List._∷_ Row.off List.[])))) }
 
         abbrev G13 : Row.Cx
-        G13 = record { locals = g9; slots = List._∷_ (Row.lease (κs .0) (qs .0)) (List._∷_ Row.off (List._∷_ Row.alive (List._∷_ Row.alive (List._∷_ Row.off List.[])))); }
+        G13 = record { locals = g9; slots = List._∷_ (Row.lease (κs .0) (qs .0)) (List._∷_ Row.off (List._∷_ Row.alive (List._∷_ Row.alive (List._∷_ Row.off List.[])))) }
 
         abbrev G14 : Row.Cx
-        G14 = record { locals = g10; slots = List._∷_ (Row.lease (κs .0) (qs .0)) (List._∷_ Row.off (List._∷_ Row.alive (List._∷_ Row.alive (List._∷_ Row.off List.[])))); }
+        G14 = record { locals = g10; slots = List._∷_ (Row.lease (κs .0) (qs .0)) (List._∷_ Row.off (List._∷_ Row.alive (List._∷_ Row.alive (List._∷_ Row.off List.[])))) }
 
         abbrev G15 : Row.Cx
-        G15 = record { locals = g11; slots = List._∷_ (Row.lease (κs .0) (qs .0)) (List._∷_ Row.off (List._∷_ Row.alive (List._∷_ Row.alive (List._∷_ Row.off List.[])))); }
+        G15 = record { locals = g11; slots = List._∷_ (Row.lease (κs .0) (qs .0)) (List._∷_ Row.off (List._∷_ Row.alive (List._∷_ Row.alive (List._∷_ Row.off List.[])))) }
 
         abbrev G16 : Row.Cx
-        G16 = record { locals = g11; slots = List._∷_ (Row.lease (κs .0) (qs .0)) (List._∷_ Row.off (List._∷_ Row.alive (List._∷_ Row.alive (List._∷_ Row.alive List.[])))); }
+        G16 = record { locals = g11; slots = List._∷_ (Row.lease (κs .0) (qs .0)) (List._∷_ Row.off (List._∷_ Row.alive (List._∷_ Row.alive (List._∷_ Row.alive List.[])))) }
 
         abbrev G17 : Row.Cx
-        G17 = record { locals = g12; slots = List._∷_ (Row.lease (κs .0) (qs .0)) (List._∷_ Row.off (List._∷_ Row.alive (List._∷_ Row.alive (List._∷_ Row.alive List.[])))); }
+        G17 = record { locals = g12; slots = List._∷_ (Row.lease (κs .0) (qs .0)) (List._∷_ Row.off (List._∷_ Row.alive (List._∷_ Row.alive (List._∷_ Row.alive List.[])))) }
 
         abbrev G18 : Row.Cx
-        G18 = record { locals = g13; slots = List._∷_ (Row.lease (κs .0) (qs .0)) (List._∷_ Row.off (List._∷_ Row.alive (List._∷_ Row.alive (List._∷_ Row.alive List.[])))); }
+        G18 = record { locals = g13; slots = List._∷_ (Row.lease (κs .0) (qs .0)) (List._∷_ Row.off (List._∷_ Row.alive (List._∷_ Row.alive (List._∷_ Row.alive List.[])))) }
 
         abbrev G19 : Row.Cx
-        G19 = record { locals = g14; slots = List._∷_ (Row.lease (κs .0) (qs .0)) (List._∷_ Row.off (List._∷_ Row.alive (List._∷_ Row.alive (List._∷_ Row.alive List.[])))); }
+        G19 = record { locals = g14; slots = List._∷_ (Row.lease (κs .0) (qs .0)) (List._∷_ Row.off (List._∷_ Row.alive (List._∷_ Row.alive (List._∷_ Row.alive List.[])))) }
 
         abbrev G20 : Row.Cx
-        G20 = record { locals = g15; slots = List._∷_ (Row.lease (κs .0) (qs .0)) (List._∷_ Row.off (List._∷_ Row.alive (List._∷_ Row.alive (List._∷_ Row.alive List.[])))); }
+        G20 = record { locals = g15; slots = List._∷_ (Row.lease (κs .0) (qs .0)) (List._∷_ Row.off (List._∷_ Row.alive (List._∷_ Row.alive (List._∷_ Row.alive List.[])))) }
 
         abbrev G21 : Row.Cx
-        G21 = record { locals = g16; slots = List._∷_ (Row.lease (κs .0) (qs .0)) (List._∷_ Row.off (List._∷_ Row.alive (List._∷_ Row.alive (List._∷_ Row.alive List.[])))); }
+        G21 = record { locals = g16; slots = List._∷_ (Row.lease (κs .0) (qs .0)) (List._∷_ Row.off (List._∷_ Row.alive (List._∷_ Row.alive (List._∷_ Row.alive List.[])))) }
 
         abbrev G22 : Row.Cx
-        G22 = record { locals = g16; slots = List._∷_ (Row.lease (κs .0) (qs .0)) (List._∷_ Row.off (List._∷_ Row.dead (List._∷_ Row.alive (List._∷_ Row.alive List.[])))); }
+        G22 = record { locals = g16; slots = List._∷_ (Row.lease (κs .0) (qs .0)) (List._∷_ Row.off (List._∷_ Row.dead (List._∷_ Row.alive (List._∷_ Row.alive List.[])))) }
 
         abbrev G23 : Row.Cx
-        G23 = record { locals = t17; slots = List._∷_ (Row.lease (κs .0) (qs .0)) (List._∷_ (Row.lease (κs .1 .0) (qs .1 .0)) (List._∷_ Row.dead (List._∷_ Row.alive (List._∷_ Row.alive List.[])))); }
+        G23 = record { locals = t17; slots = List._∷_ (Row.lease (κs .0) (qs .0)) (List._∷_ (Row.lease (κs .1 .0) (qs .1 .0)) (List._∷_ Row.dead (List._∷_ Row.alive (List._∷_ Row.alive List.[])))) }
 
         abbrev G24 : Row.Cx
-        G24 = record { locals = t17; slots = List._∷_ (Row.lease (κs .0) (qs .0)) (List._∷_ (Row.lease (κs .1 .0) (qs .1 .0)) (List._∷_ Row.dead (List._∷_ Row.alive (List._∷_ Row.alive List.[])))); }
+        G24 = record { locals = t17; slots = List._∷_ (Row.lease (κs .0) (qs .0)) (List._∷_ (Row.lease (κs .1 .0) (qs .1 .0)) (List._∷_ Row.dead (List._∷_ Row.alive (List._∷_ Row.alive List.[])))) }
 
         abbrev G25 : Row.Cx
-        G25 = record { locals = t17; slots = List._∷_ (Row.lease (κs .0) (qs .0)) (List._∷_ (Row.lease (κs .1 .0) (qs .1 .0)) (List._∷_ Row.off (List._∷_ Row.alive (List._∷_ Row.alive List.[])))); }
+        G25 = record { locals = t17; slots = List._∷_ (Row.lease (κs .0) (qs .0)) (List._∷_ (Row.lease (κs .1 .0) (qs .1 .0)) (List._∷_ Row.off (List._∷_ Row.alive (List._∷_ Row.alive List.[])))) }
 
         abbrev G26 : Row.Cx
-        G26 = record { locals = t17; slots = List._∷_ (Row.lease (κs .0) (qs .0)) (List._∷_ (Row.lease (κs .1 .0) (qs .1 .0)) (List._∷_ Row.off (List._∷_ Row.dead (List._∷_ Row.alive List.[])))); }
+        G26 = record { locals = t17; slots = List._∷_ (Row.lease (κs .0) (qs .0)) (List._∷_ (Row.lease (κs .1 .0) (qs .1 .0)) (List._∷_ Row.off (List._∷_ Row.dead (List._∷_ Row.alive List.[])))) }
 
         abbrev G27 : Row.Cx
-        G27 = record { locals = t18; slots = List._∷_ (Row.lease (κs .0) (qs .0)) (List._∷_ (Row.lease (κs .1 .0) (qs .1 .0)) (List._∷_ Row.off (List._∷_ Row.dead (List._∷_ Row.alive List.[])))); }
+        G27 = record { locals = t18; slots = List._∷_ (Row.lease (κs .0) (qs .0)) (List._∷_ (Row.lease (κs .1 .0) (qs .1 .0)) (List._∷_ Row.off (List._∷_ Row.dead (List._∷_ Row.alive List.[])))) }
 
         abbrev G28 : Row.Cx
-        G28 = record { locals = t18; slots = List._∷_ (Row.lease (κs .0) (qs .0)) (List._∷_ (Row.lease (κs .1 .0) (qs .1 .0)) (List._∷_ Row.off (List._∷_ Row.off (List._∷_ Row.alive List.[])))); }
+        G28 = record { locals = t18; slots = List._∷_ (Row.lease (κs .0) (qs .0)) (List._∷_ (Row.lease (κs .1 .0) (qs .1 .0)) (List._∷_ Row.off (List._∷_ Row.off (List._∷_ Row.alive List.[])))) }
 
         abbrev G29 : Row.Cx
-        G29 = record { locals = t19; slots = List._∷_ (Row.lease (κs .0) (qs .0)) (List._∷_ (Row.lease (κs .1 .0) (qs .1 .0)) (List._∷_ Row.off (List._∷_ Row.off (List._∷_ Row.alive List.[])))); }
+        G29 = record { locals = t19; slots = List._∷_ (Row.lease (κs .0) (qs .0)) (List._∷_ (Row.lease (κs .1 .0) (qs .1 .0)) (List._∷_ Row.off (List._∷_ Row.off (List._∷_ Row.alive List.[])))) }
 
         abbrev G30 : Row.Cx
-        G30 = record { locals = t19; slots = List._∷_ (Row.lease (κs .0) (qs .0)) (List._∷_ (Row.lease (κs .1 .0) (qs .1 .0)) (List._∷_ Row.off (List._∷_ Row.off (List._∷_ Row.dead List.[])))); }
+        G30 = record { locals = t19; slots = List._∷_ (Row.lease (κs .0) (qs .0)) (List._∷_ (Row.lease (κs .1 .0) (qs .1 .0)) (List._∷_ Row.off (List._∷_ Row.off (List._∷_ Row.dead List.[])))) }
 
         abbrev G31 : Row.Cx
-        G31 = record { locals = t20; slots = List._∷_ (Row.lease (κs .0) (qs .0)) (List._∷_ (Row.lease (κs .1 .0) (qs .1 .0)) (List._∷_ Row.off (List._∷_ Row.off (List._∷_ Row.dead List.[])))); }
+        G31 = record { locals = t20; slots = List._∷_ (Row.lease (κs .0) (qs .0)) (List._∷_ (Row.lease (κs .1 .0) (qs .1 .0)) (List._∷_ Row.off (List._∷_ Row.off (List._∷_ Row.dead List.[])))) }
 
         abbrev G32 : Row.Cx
-        G32 = record { locals = t20; slots = List._∷_ (Row.lease (κs .0) (qs .0)) (List._∷_ (Row.lease (κs .1 .0) (qs .1 .0)) (List._∷_ Row.off (List._∷_ Row.off (List._∷_ Row.off List.[])))); }
+        G32 = record { locals = t20; slots = List._∷_ (Row.lease (κs .0) (qs .0)) (List._∷_ (Row.lease (κs .1 .0) (qs .1 .0)) (List._∷_ Row.off (List._∷_ Row.off (List._∷_ Row.off List.[])))) }
 
         abbrev G33 : Row.Cx
-        G33 = record { locals = t1; slots = List._∷_ (Row.lease (κs .0) (qs .0)) (List._∷_ (Row.lease (κs .1 .0) (qs .1 .0)) (List._∷_ Row.off (List._∷_ Row.off (List._∷_ Row.off List.[])))); }
+        G33 = record { locals = t1; slots = List._∷_ (Row.lease (κs .0) (qs .0)) (List._∷_ (Row.lease (κs .1 .0) (qs .1 .0)) (List._∷_ Row.off (List._∷_ Row.off (List._∷_ Row.off List.[])))) }
 
         abbrev Δ0 : Typed.Outs
         Δ0 = record { next = Option.none; exits = List.[]; returns = Option.some G1 }
@@ -880,25 +943,57 @@ module _ (claims· : Claims) where
 
           d15 : Typed.Typed 𝓤 H A 𝓣 E G18 b11 Δ0 (at15 bs)
           d15 = Typed.s-seq 𝓤 H A W 𝓣 E G18 G19 b9 b10 Δ0 (Typed.both (s17 bs)) (at14 bs) (Plain.t-call-plain 𝓤 H A W 𝓣 4 ps·1 r·1 (claims· .2) (claims· .3) "block::decoding::decode_region" (known .1)
-              E (λ pos β. β) G18
-              (record { pos = 1; ty = Syntax.tyRef (Syntax.named 0) Syntax.imm (Syntax.tyInt Syntax.w8); ref = λ x. x; },
-              (record { pos = 2; st = List.[]; d = 0; at = λ x. x },
-              (record { pos = 3; st = List.[]; d = 0; at = λ x. x },
-              (record { pos = 9; ty = Syntax.tyRef Syntax.erased Syntax.mut (Syntax.tyInt Syntax.w16); ref = λ x. x; },
-              (record { pos = 11; ty = Syntax.tyRef Syntax.erased Syntax.mut (Syntax.tyInt Syntax.w16); ref = λ x. x; },
-              (record { pos = 13; ty = Syntax.tyRef Syntax.erased Syntax.mut Element.behind; ref = λ x. x; }, tt)))))) 0 (List._∷_ 0 (List._∷_ 2 (List._∷_ 3 (List._∷_ 4 List.[])))) (Call.sub-id 𝓤 H A W
-              (G18 .slots))
-              (ShrSlice.spares-sslice 𝓤 H A W (Referent.rtF (Referent.fInt Syntax.w8)) (Syntax.tyRef (Syntax.named 0) Syntax.imm (Syntax.tyInt Syntax.w8)) 0, Shared.reads-sslice 𝓤 H A W (Referent.rtF
-              (Referent.fInt Syntax.w8)) (Syntax.tyRef (Syntax.named 0) Syntax.imm (Syntax.tyInt Syntax.w8)) 0, Path'.refl,
-              ((Yields.yields-copy 𝓤 H A W (λ ρ. Unit) (Declared'.row Rect.the-type) Path'.refl (Copies.cStruct Rect.the-type Laws'.the-laws Laws'.the-copy .copy 𝓤 H A W) (Rows'.whole (Declared'.row
-              Rect.the-type)) (λ x. x) (λ x. x) (λ ρ told. Local.mem-whole 𝓤 H A W (Declared'.row Rect.the-type) ρ) λ ρ told. Local.whole-mem 𝓤 H A W (Declared'.row Rect.the-type) ρ, Path'.refl),
-              ((Array.arr-yields 𝓤 H A W (Array.eInt Syntax.w8) (Array.eInt-laws Syntax.w8) 36, Path'.refl),
-              (Reads.as-is 𝓤 H A (Mut.mslice (Referent.rtF (Referent.fInt Syntax.w16)) (Syntax.tyRef Syntax.erased Syntax.mut (Syntax.tyInt Syntax.w16)) 2), Mut.reads-mslice 𝓤 H A W (Referent.rtF
-              (Referent.fInt Syntax.w16)) (Syntax.tyRef Syntax.erased Syntax.mut (Syntax.tyInt Syntax.w16)) 2, Path'.refl,
-              (Reads.as-is 𝓤 H A (Mut.mslice (Referent.rtF (Referent.fInt Syntax.w16)) (Syntax.tyRef Syntax.erased Syntax.mut (Syntax.tyInt Syntax.w16)) 3), Mut.reads-mslice 𝓤 H A W (Referent.rtF
-              (Referent.fInt Syntax.w16)) (Syntax.tyRef Syntax.erased Syntax.mut (Syntax.tyInt Syntax.w16)) 3, Path'.refl,
-              (Reads.as-is 𝓤 H A (Mut.mslice (Element.type) (Syntax.tyRef Syntax.erased Syntax.mut Element.behind) 4), Mut.reads-mslice 𝓤 H A W (Element.type) (Syntax.tyRef Syntax.erased Syntax.mut
-              Element.behind) 4, Path'.refl, tt)))))) (Reads.room-gone 𝓤 H A (Syntax.tyEnum (List._∷_ 98 (List._∷_ 108 (List._∷_ 111 (List._∷_ 99 (List._∷_ 107 (List._∷_ 58 (List._∷_ 58 (List._∷_ 68
+              E (λ pos β. β) G18 (
+                record { pos = 1; ty = Syntax.tyRef (Syntax.named 0) Syntax.imm (Syntax.tyInt Syntax.w8); ref = λ x. x },
+                (
+                  record { pos = 2; st = List.[]; d = 0; at = λ x. x },
+                  (
+                    record { pos = 3; st = List.[]; d = 0; at = λ x. x },
+                    (
+                      record { pos = 9; ty = Syntax.tyRef Syntax.erased Syntax.mut (Syntax.tyInt Syntax.w16); ref = λ x. x },
+                      (
+                        record { pos = 11; ty = Syntax.tyRef Syntax.erased Syntax.mut (Syntax.tyInt Syntax.w16); ref = λ x. x },
+                        (record { pos = 13; ty = Syntax.tyRef Syntax.erased Syntax.mut Element.behind; ref = λ x. x }, tt),
+                      ),
+                    ),
+                  ),
+                ),
+              ) 0 (List._∷_ 0 (List._∷_ 2 (List._∷_ 3 (List._∷_ 4 List.[])))) (Call.sub-id 𝓤 H A W
+              (G18 .slots)) (
+                ShrSlice.spares-sslice 𝓤 H A W (Referent.rtF (Referent.fInt Syntax.w8)) (Syntax.tyRef (Syntax.named 0) Syntax.imm (Syntax.tyInt Syntax.w8)) 0,
+                Shared.reads-sslice 𝓤 H A W (Referent.rtF
+                    (Referent.fInt Syntax.w8)) (Syntax.tyRef (Syntax.named 0) Syntax.imm (Syntax.tyInt Syntax.w8)) 0,
+                Path'.refl,
+                (
+                  (
+                    Yields.yields-copy 𝓤 H A W (λ ρ. Unit) (Declared'.row Rect.the-type) Path'.refl (Copies.cStruct Rect.the-type Laws'.the-laws Laws'.the-copy .copy 𝓤 H A W) (Rows'.whole (Declared'.row
+                        Rect.the-type)) (λ x. x) (λ x. x) (λ ρ told. Local.mem-whole 𝓤 H A W (Declared'.row Rect.the-type) ρ) λ ρ told. Local.whole-mem 𝓤 H A W (Declared'.row Rect.the-type) ρ,
+                    Path'.refl,
+                  ),
+                  (
+                    (Array.arr-yields 𝓤 H A W (Array.eInt Syntax.w8) (Array.eInt-laws Syntax.w8) 36, Path'.refl),
+                    (
+                      Reads.as-is 𝓤 H A (Mut.mslice (Referent.rtF (Referent.fInt Syntax.w16)) (Syntax.tyRef Syntax.erased Syntax.mut (Syntax.tyInt Syntax.w16)) 2),
+                      Mut.reads-mslice 𝓤 H A W (Referent.rtF
+                          (Referent.fInt Syntax.w16)) (Syntax.tyRef Syntax.erased Syntax.mut (Syntax.tyInt Syntax.w16)) 2,
+                      Path'.refl,
+                      (
+                        Reads.as-is 𝓤 H A (Mut.mslice (Referent.rtF (Referent.fInt Syntax.w16)) (Syntax.tyRef Syntax.erased Syntax.mut (Syntax.tyInt Syntax.w16)) 3),
+                        Mut.reads-mslice 𝓤 H A W (Referent.rtF
+                            (Referent.fInt Syntax.w16)) (Syntax.tyRef Syntax.erased Syntax.mut (Syntax.tyInt Syntax.w16)) 3,
+                        Path'.refl,
+                        (
+                          Reads.as-is 𝓤 H A (Mut.mslice (Element.type) (Syntax.tyRef Syntax.erased Syntax.mut Element.behind) 4),
+                          Mut.reads-mslice 𝓤 H A W (Element.type) (Syntax.tyRef Syntax.erased Syntax.mut
+                              Element.behind) 4,
+                          Path'.refl,
+                          tt,
+                        ),
+                      ),
+                    ),
+                  ),
+                ),
+              ) (Reads.room-gone 𝓤 H A (Syntax.tyEnum (List._∷_ 98 (List._∷_ 108 (List._∷_ 111 (List._∷_ 99 (List._∷_ 107 (List._∷_ 58 (List._∷_ 58 (List._∷_ 68
               (List._∷_ 101 (List._∷_ 99 (List._∷_ 111 (List._∷_ 100 (List._∷_ 101 (List._∷_ 100 List.[])))))))))))))) (Syntax.ttcons Syntax.tnil (Syntax.ttcons (Syntax.tcons (Syntax.tyEnum (List._∷_ 115
               (List._∷_ 116 (List._∷_ 114 (List._∷_ 101 (List._∷_ 97 (List._∷_ 109 (List._∷_ 58 (List._∷_ 58 (List._∷_ 82 (List._∷_ 101 (List._∷_ 102 (List._∷_ 117 (List._∷_ 115 (List._∷_ 97 (List._∷_ 108
               List.[]))))))))))))))) (Syntax.ttcons Syntax.tnil (Syntax.ttcons Syntax.tnil (Syntax.ttcons Syntax.tnil (Syntax.ttcons (Syntax.tcons (Syntax.tyInt Syntax.w64) Syntax.tnil) (Syntax.ttcons
@@ -942,9 +1037,11 @@ module _ (claims· : Claims) where
           d22 = Typed.s-seq 𝓤 H A W 𝓣 E G11 G12 b4 b15 Δ0 (Typed.ask (s10 bs)) (at21 bs) (Relend.t-sl-aggregate 𝓤 H A W E (Referent.rtF (Referent.fInt Syntax.w16)) 𝓣 (Relend.asMut (Referent.rtF
               (Referent.fInt Syntax.w16))) G11 8 9 2 (Syntax.tyRef Syntax.erased Syntax.mut (Syntax.tyInt Syntax.w16)) (Syntax.tyRef Syntax.erased Syntax.mut (Syntax.tyInt Syntax.w16)) (λ x. x)
               (Scalar.oFld 4 (List._∷_ (Syntax.field 1) List.[]) (Syntax.tyInt Syntax.w64) 8 λ v. Shared.lenV (v .0)) (Reads.as-is 𝓤 H A (Relend.msptr (Referent.rtF (Referent.fInt Syntax.w16))
-              (Syntax.tyRef Syntax.erased Syntax.mut (Syntax.tyInt Syntax.w16)) 2)) (Reads.room-gone 𝓤 H A y1)
-              (Relend.reads-owed-len 𝓤 H A W (Referent.rtF (Referent.fInt Syntax.w16)) (Syntax.tyRef (Syntax.named 1) Syntax.mut (Syntax.tyInt Syntax.w16)) 1 2 (Row.lease (κs .1 .0) (qs .1 .0)) 8
-              Path'.refl, Path'.refl) Path'.refl Path'.refl λ b o k. tt) d21
+              (Syntax.tyRef Syntax.erased Syntax.mut (Syntax.tyInt Syntax.w16)) 2)) (Reads.room-gone 𝓤 H A y1) (
+                Relend.reads-owed-len 𝓤 H A W (Referent.rtF (Referent.fInt Syntax.w16)) (Syntax.tyRef (Syntax.named 1) Syntax.mut (Syntax.tyInt Syntax.w16)) 1 2 (Row.lease (κs .1 .0) (qs .1 .0)) 8
+                    Path'.refl,
+                Path'.refl,
+              ) Path'.refl Path'.refl λ b o k. tt) d21
 
           d23 : Typed.Typed 𝓤 H A 𝓣 E G10 b17 Δ0 (at23 bs)
           d23 = Typed.s-seq 𝓤 H A W 𝓣 E G10 G11 b3 b16 Δ0 (Typed.give (s9 bs)) (at22 bs) (Relend.t-sl-relend 𝓤 H A W E (Referent.rtF (Referent.fInt Syntax.w16)) 𝓣 G10 4 8 1 2 (Syntax.tyRef
@@ -998,11 +1095,24 @@ module _ (claims· : Claims) where
       module _ (κs : Lifetimes.Lfts 2) where
         pub record Args : Type 0 where
           pub d : Kinds.Den {n = 2} κs (ShrSlice.pShrS (Referent.rtF (Referent.fInt Syntax.w8)) 0 tt)
-          pub r : Kinds.Den {n = 2} κs (Value.pVal record
-              { ty = Declared'.row Rect.the-type; one = Path'.refl; val = Laws'3.val Rect.the-type Laws'.the-laws; tells = Laws'3.tells Rect.the-type Laws'.the-laws; still = Laws'3.still Rect.the-type
-              Laws'.the-copy Exit.yes; row = Rows'.whole (Declared'.row Rect.the-type); rd = λ x. x; mk = λ x. x; } λ M 𝓤 H A W. record
-              { copies = Laws'3.copy Rect.the-type Laws'.the-copy 𝓤 H A W; lawful = Laws'3.lawful Rect.the-type Laws'.the-laws 𝓤 H A W; makes = Laws'3.makes Rect.the-type Laws'.the-plain 𝓤 H A; in-mem =
-              Local.mem-whole 𝓤 H A W (Declared'.row Rect.the-type); of-mem = Local.whole-mem 𝓤 H A W (Declared'.row Rect.the-type); })
+          pub r : Kinds.Den {n = 2} κs (Value.pVal record {
+            ty = Declared'.row Rect.the-type;
+            one = Path'.refl;
+            val = Laws'3.val Rect.the-type Laws'.the-laws;
+            tells = Laws'3.tells Rect.the-type Laws'.the-laws;
+            still = Laws'3.still Rect.the-type
+                Laws'.the-copy Exit.yes;
+            row = Rows'.whole (Declared'.row Rect.the-type);
+            rd = λ x. x;
+            mk = λ x. x;
+          } λ M 𝓤 H A W. record {
+            copies = Laws'3.copy Rect.the-type Laws'.the-copy 𝓤 H A W;
+            lawful = Laws'3.lawful Rect.the-type Laws'.the-laws 𝓤 H A W;
+            makes = Laws'3.makes Rect.the-type Laws'.the-plain 𝓤 H A;
+            in-mem =
+                Local.mem-whole 𝓤 H A W (Declared'.row Rect.the-type);
+            of-mem = Local.whole-mem 𝓤 H A W (Declared'.row Rect.the-type);
+          })
           pub tile : Kinds.Den {n = 2} κs (Array.pArr (Array.eInt Syntax.w8) (Array.eInt-laws Syntax.w8) 36)
           pub image : Kinds.Den {n = 2} κs (MutSlice.pMutS (Referent.rtF (Referent.fInt Syntax.w16)) 1 tt)
 
@@ -1013,9 +1123,12 @@ module _ (claims· : Claims) where
       m0 = λ κs args blocks. (tt, Enter.partsP κs 1 ps xs (dens κs args))
 
       abbrev W0 : (κs : Lifetimes.Lfts 2) → (args : Args κs) → (blocks : List.List Nat.ℕ) → Typed.Want O0
-      W0 = λ κs args blocks.
-          (λ u. ⊥, tt, λ u. Enter.Fixs κs 1 ps xs (dens κs args) (u .1) × Post· κs (dens κs args) (Function.resV r κs (u .0)) (Clauses.atExit (Kinds.endedOf 2 ps r) κs (dens κs args) (Enter.lastsP κs 1 ps
-          xs (dens κs args) (u .1))))
+      W0 = λ κs args blocks. (
+        λ u. ⊥,
+        tt,
+        λ u. Enter.Fixs κs 1 ps xs (dens κs args) (u .1) × Post· κs (dens κs args) (Function.resV r κs (u .0)) (Clauses.atExit (Kinds.endedOf 2 ps r) κs (dens κs args) (Enter.lastsP κs 1 ps
+            xs (dens κs args) (u .1))),
+      )
 
       pub record Start : Type 0 where
         pub κs : Lifetimes.Lfts 2
@@ -1136,26 +1249,44 @@ module _ (claims· : Claims) where
 
       module _ (before· : After-rs) where
         abbrev pub After-decode-region·own : Type 0
-        After-decode-region·own = Called.Called ps·1 r·1 (claims· .3) T18
-            (record { pos = 1; ty = Syntax.tyRef (Syntax.named 0) Syntax.imm (Syntax.tyInt Syntax.w8); ref = λ x. x; },
-            (record { pos = 2; st = List.[]; d = 0; at = λ x. x },
-            (record { pos = 3; st = List.[]; d = 0; at = λ x. x },
-            (record { pos = 9; ty = Syntax.tyRef Syntax.erased Syntax.mut (Syntax.tyInt Syntax.w16); ref = λ x. x; },
-            (record { pos = 11; ty = Syntax.tyRef Syntax.erased Syntax.mut (Syntax.tyInt Syntax.w16); ref = λ x. x; },
-            (record { pos = 13; ty = Syntax.tyRef Syntax.erased Syntax.mut Element.behind; ref = λ x. x; }, tt)))))) (m14 (before· .before) (before· .rs .given))
+        After-decode-region·own = Called.Called ps·1 r·1 (claims· .3) T18 (
+          record { pos = 1; ty = Syntax.tyRef (Syntax.named 0) Syntax.imm (Syntax.tyInt Syntax.w8); ref = λ x. x },
+          (
+            record { pos = 2; st = List.[]; d = 0; at = λ x. x },
+            (
+              record { pos = 3; st = List.[]; d = 0; at = λ x. x },
+              (
+                record { pos = 9; ty = Syntax.tyRef Syntax.erased Syntax.mut (Syntax.tyInt Syntax.w16); ref = λ x. x },
+                (
+                  record { pos = 11; ty = Syntax.tyRef Syntax.erased Syntax.mut (Syntax.tyInt Syntax.w16); ref = λ x. x },
+                  (record { pos = 13; ty = Syntax.tyRef Syntax.erased Syntax.mut Element.behind; ref = λ x. x }, tt),
+                ),
+              ),
+            ),
+          ),
+        ) (m14 (before· .before) (before· .rs .given))
 
       pub record After-decode-region : Type 0 where
         pub before : After-rs
         pub decode-region : After-decode-region·own before
 
       abbrev pub After-decode-region·gave : (c : After-decode-region) → s17 (c .before .before .before .before .before .before .before .blocks) .gives (m14 (c .before .before) (c .before .rs .given))
-      After-decode-region·gave = λ c. Called.given ps·1 r·1 (claims· .3) T18
-          (record { pos = 1; ty = Syntax.tyRef (Syntax.named 0) Syntax.imm (Syntax.tyInt Syntax.w8); ref = λ x. x; },
-          (record { pos = 2; st = List.[]; d = 0; at = λ x. x },
-          (record { pos = 3; st = List.[]; d = 0; at = λ x. x },
-          (record { pos = 9; ty = Syntax.tyRef Syntax.erased Syntax.mut (Syntax.tyInt Syntax.w16); ref = λ x. x; },
-          (record { pos = 11; ty = Syntax.tyRef Syntax.erased Syntax.mut (Syntax.tyInt Syntax.w16); ref = λ x. x; },
-          (record { pos = 13; ty = Syntax.tyRef Syntax.erased Syntax.mut Element.behind; ref = λ x. x; }, tt)))))) (m14 (c .before .before) (c .before .rs .given)) (c .decode-region)
+      After-decode-region·gave = λ c. Called.given ps·1 r·1 (claims· .3) T18 (
+        record { pos = 1; ty = Syntax.tyRef (Syntax.named 0) Syntax.imm (Syntax.tyInt Syntax.w8); ref = λ x. x },
+        (
+          record { pos = 2; st = List.[]; d = 0; at = λ x. x },
+          (
+            record { pos = 3; st = List.[]; d = 0; at = λ x. x },
+            (
+              record { pos = 9; ty = Syntax.tyRef Syntax.erased Syntax.mut (Syntax.tyInt Syntax.w16); ref = λ x. x },
+              (
+                record { pos = 11; ty = Syntax.tyRef Syntax.erased Syntax.mut (Syntax.tyInt Syntax.w16); ref = λ x. x },
+                (record { pos = 13; ty = Syntax.tyRef Syntax.erased Syntax.mut Element.behind; ref = λ x. x }, tt),
+              ),
+            ),
+          ),
+        ),
+      ) (m14 (c .before .before) (c .before .rs .given)) (c .decode-region)
 
       abbrev pub m16 : (before : After-rs) → (given : s17 (before .before .before .before .before .before .before .blocks) .gives (m14 (before .before) (before .rs .given))) → Typed.Mo T20
       m16 = λ before given. s18 (before .before .before .before .before .before .before .blocks) (m15 before given)
@@ -1236,64 +1367,123 @@ module _ (claims· : Claims) where
           (decode-region-requires : Need-decode-region-requires) (same-length : Need-same-length) (returns : Need-returns) where
         lay2 : (c : After-decode-region) → at14 (c .before .before .before .before .before .before .before .blocks) (W0 (c .before .before .before .before .before .before .before .κs) (c .before
             .before .before .before .before .before .before .args) (c .before .before .before .before .before .before .before .blocks)) (m15 (c .before) (After-decode-region·gave c))
-        lay2 = λ c.
-            (Path'.refl, λ g. λ g'.
-            (Path'.refl, λ g''.
-            (Path'.refl, λ g'3.
-            ((Path'.refl,
-            (tt,
-            (tt,
-            (MutSlice.fix-len (Row.get 4 (T33 .locals) (m23 record
-            { before = record { before = record { before = record { before = c .before; decode-region = c .decode-region; }; image = record { given = g }; }; slice-known2 = record { given = g' }; };
-            lines2 = record { given = g'' }; } g'3) .ptr) (Row.get 4 (T33 .locals) (m23 record
-            { before = record { before = record { before = record { before = c .before; decode-region = c .decode-region; }; image = record { given = g }; }; slice-known2 = record { given = g' }; };
-            lines2 = record { given = g'' }; } g'3) .name) (Row.get 4 (T33 .locals) (m23 record
-            { before = record { before = record { before = record { before = c .before; decode-region = c .decode-region; }; image = record { given = g }; }; slice-known2 = record { given = g' }; };
-            lines2 = record { given = g'' }; } g'3) .now) (dens (c .before .before .before .before .before .before .before .κs) (c .before .before .before .before .before .before .before .args) .1 .1 .1
-            .0 .now) (same-length record
-            { before = record
-            { before = record { before = record { before = record { before = c .before; decode-region = c .decode-region; }; image = record { given = g }; }; slice-known2 = record { given = g' }; };
-            lines2 = record { given = g'' }; }; rs2 = record { given = g'3 }; }), tt)))), returns record
-            { before = record
-            { before = record { before = record { before = record { before = c .before; decode-region = c .decode-region }; image = record { given = g }; }; slice-known2 = record { given = g' }; }; lines2
-            = record { given = g'' }; }; rs2 = record { given = g'3 }; }))))
+        lay2 = λ c. (
+          Path'.refl,
+          λ g. λ g'. (
+            Path'.refl,
+            λ g''. (
+              Path'.refl,
+              λ g'3. (
+                (
+                  Path'.refl,
+                  (
+                    tt,
+                    (
+                      tt,
+                      (
+                        MutSlice.fix-len (Row.get 4 (T33 .locals) (m23 record {
+                          before = record { before = record { before = record { before = c .before; decode-region = c .decode-region }; image = record { given = g } }; slice-known2 = record { given = g' } };
+                          lines2 = record { given = g'' };
+                        } g'3) .ptr) (Row.get 4 (T33 .locals) (m23 record {
+                          before = record { before = record { before = record { before = c .before; decode-region = c .decode-region }; image = record { given = g } }; slice-known2 = record { given = g' } };
+                          lines2 = record { given = g'' };
+                        } g'3) .name) (Row.get 4 (T33 .locals) (m23 record {
+                          before = record { before = record { before = record { before = c .before; decode-region = c .decode-region }; image = record { given = g } }; slice-known2 = record { given = g' } };
+                          lines2 = record { given = g'' };
+                        } g'3) .now) (dens (c .before .before .before .before .before .before .before .κs) (c .before .before .before .before .before .before .before .args) .1 .1 .1
+                            .0 .now) (same-length record {
+                              before = record {
+                                before = record { before = record { before = record { before = c .before; decode-region = c .decode-region }; image = record { given = g } }; slice-known2 = record { given = g' } };
+                                lines2 = record { given = g'' };
+                              };
+                              rs2 = record { given = g'3 };
+                            }),
+                        tt,
+                      ),
+                    ),
+                  ),
+                ),
+                returns record {
+                  before = record {
+                    before = record { before = record { before = record { before = c .before; decode-region = c .decode-region }; image = record { given = g } }; slice-known2 = record { given = g' } };
+                    lines2
+                        = record { given = g'' };
+                  };
+                  rs2 = record { given = g'3 };
+                },
+              ),
+            ),
+          ),
+        )
 
         lay1 : (c : After-cleared) → at27 (c .before .before .before .blocks) (W0 (c .before .before .before .κs) (c .before .before .before .args) (c .before .before .before .blocks)) (m5 (c .before)
             (After-cleared·gave c))
-        lay1 = λ c. λ g.
-            (Path'.refl, λ g'.
-            (Relend.count-is T14 10 11 (λ x. x) (λ u. 9252) (m11 record { before = record { before = c .before; cleared = c .cleared }; decode-region-arg = record { given = g }; } g')
-            (slice-aggregate-decode-region record
-            { before = record { before = record { before = c .before; cleared = c .cleared }; decode-region-arg = record { given = g }; }; lines = record { given = g' }; }), λ g''.
-            (Relend.count-is T17 12 13 (λ x. x) (λ u. 336) (m13 record
-            { before = record { before = record { before = c .before; cleared = c .cleared }; decode-region-arg = record { given = g }; }; lines = record { given = g' }; } g'')
-            (slice-aggregate-decode-region-2 record
-            { before = record { before = record { before = record { before = c .before; cleared = c .cleared }; decode-region-arg = record { given = g }; }; lines = record { given = g' }; }; rs = record {
-            given = g'' }; }),
-            (decode-region-requires record
-            { before = record { before = record { before = record { before = c .before; cleared = c .cleared }; decode-region-arg = record { given = g }; }; lines = record { given = g' }; }; rs = record {
-            given = g'' }; }, λ g'3. lay2 record
-            { before = record
-            { before = record { before = record { before = record { before = c .before; cleared = c .cleared }; decode-region-arg = record { given = g }; }; lines = record { given = g' }; }; rs = record {
-            given = g'' }; }; decode-region = Called.called ps·1 r·1 (claims· .3) T18
-            (record { pos = 1; ty = Syntax.tyRef (Syntax.named 0) Syntax.imm (Syntax.tyInt Syntax.w8); ref = λ x. x; },
-            (record { pos = 2; st = List.[]; d = 0; at = λ x. x },
-            (record { pos = 3; st = List.[]; d = 0; at = λ x. x },
-            (record { pos = 9; ty = Syntax.tyRef Syntax.erased Syntax.mut (Syntax.tyInt Syntax.w16); ref = λ x. x; },
-            (record { pos = 11; ty = Syntax.tyRef Syntax.erased Syntax.mut (Syntax.tyInt Syntax.w16); ref = λ x. x; },
-            (record { pos = 13; ty = Syntax.tyRef Syntax.erased Syntax.mut Element.behind; ref = λ x. x; }, tt)))))) (m14 record
-            { before = record { before = record { before = c .before; cleared = c .cleared }; decode-region-arg = record { given = g }; }; lines = record { given = g' }; } g'') g'3; }))))
+        lay1 = λ c. λ g. (
+          Path'.refl,
+          λ g'. (
+            Relend.count-is T14 10 11 (λ x. x) (λ u. 9252) (m11 record { before = record { before = c .before; cleared = c .cleared }; decode-region-arg = record { given = g } } g')
+                (slice-aggregate-decode-region record
+                { before = record { before = record { before = c .before; cleared = c .cleared }; decode-region-arg = record { given = g } }; lines = record { given = g' } }),
+            λ g''. (
+              Relend.count-is T17 12 13 (λ x. x) (λ u. 336) (m13 record
+                  { before = record { before = record { before = c .before; cleared = c .cleared }; decode-region-arg = record { given = g } }; lines = record { given = g' } } g'')
+                  (slice-aggregate-decode-region-2 record {
+                    before = record { before = record { before = record { before = c .before; cleared = c .cleared }; decode-region-arg = record { given = g } }; lines = record { given = g' } };
+                    rs = record {
+                      given = g'';
+                    };
+                  }),
+              (
+                decode-region-requires record {
+                  before = record { before = record { before = record { before = c .before; cleared = c .cleared }; decode-region-arg = record { given = g } }; lines = record { given = g' } };
+                  rs = record {
+                    given = g'';
+                  };
+                },
+                λ g'3. lay2 record {
+                  before = record {
+                    before = record { before = record { before = record { before = c .before; cleared = c .cleared }; decode-region-arg = record { given = g } }; lines = record { given = g' } };
+                    rs = record {
+                      given = g'';
+                    };
+                  };
+                  decode-region = Called.called ps·1 r·1 (claims· .3) T18 (
+                    record { pos = 1; ty = Syntax.tyRef (Syntax.named 0) Syntax.imm (Syntax.tyInt Syntax.w8); ref = λ x. x },
+                    (
+                      record { pos = 2; st = List.[]; d = 0; at = λ x. x },
+                      (
+                        record { pos = 3; st = List.[]; d = 0; at = λ x. x },
+                        (
+                          record { pos = 9; ty = Syntax.tyRef Syntax.erased Syntax.mut (Syntax.tyInt Syntax.w16); ref = λ x. x },
+                          (
+                            record { pos = 11; ty = Syntax.tyRef Syntax.erased Syntax.mut (Syntax.tyInt Syntax.w16); ref = λ x. x },
+                            (record { pos = 13; ty = Syntax.tyRef Syntax.erased Syntax.mut Element.behind; ref = λ x. x }, tt),
+                          ),
+                        ),
+                      ),
+                    ),
+                  ) (m14 record
+                      { before = record { before = record { before = c .before; cleared = c .cleared }; decode-region-arg = record { given = g } }; lines = record { given = g' } } g'') g'3;
+                },
+              ),
+            ),
+          ),
+        )
 
         pub laid : (c : Start) → at32 (c .blocks) (W0 (c .κs) (c .args) (c .blocks)) (m0 (c .κs) (c .args) (c .blocks))
-        laid = λ c. λ g. λ g'.
-            (cleared-requires record { before = record { before = c; shared-slice-known = record { given = g } }; slice-known = record { given = g' }; }, λ g''. lay1 record
-            { before = record { before = record { before = c; shared-slice-known = record { given = g } }; slice-known = record { given = g' }; }; cleared = Called.called ps·0 r·0 (claims· .1) T5 tt (m4
-            record { before = c; shared-slice-known = record { given = g }; } g') g''; })
+        laid = λ c. λ g. λ g'. (
+          cleared-requires record { before = record { before = c; shared-slice-known = record { given = g } }; slice-known = record { given = g' } },
+          λ g''. lay1 record {
+            before = record { before = record { before = c; shared-slice-known = record { given = g } }; slice-known = record { given = g' } };
+            cleared = Called.called ps·0 r·0 (claims· .1) T5 tt (m4
+                record { before = c; shared-slice-known = record { given = g } } g') g'';
+          },
+        )
 
         module _ (κs : Lifetimes.Lfts 2) (qs : Lifetimes.Shares 2) where
           pub asked : (a : Kinds.Dens κs ps) → (good : Kinds.GoodsP κs ps a) → (pre : Pre· κs a) → (bs : List.List Nat.ℕ) → Φ bs (Any.wantQ 2 ps r xs m κs qs a (Post· κs a)) (Function.init 2 ps r xs m
               κs qs a)
-          asked = λ a good pre bs. laid record { κs = κs; args = record { d = a .0; r = a .1 .0; tile = a .1 .1 .0; image = a .1 .1 .1 .0 }; blocks = bs; good = good; pre = pre; }
+          asked = λ a good pre bs. laid record { κs = κs; args = record { d = a .0; r = a .1 .0; tile = a .1 .1 .0; image = a .1 .1 .1 .0 }; blocks = bs; good = good; pre = pre }
 
         module _ {M : Type 1} (𝓤 : URA.URA M) (H : Wp.Heap 𝓤) (A : Atoms.Atoms 𝓤) (W : Kit.Given 𝓤 H A) (𝓣 : Wp.Tables 𝓤 H) (known0 : Plain.Known 𝓤 H A W 𝓣 0 ps·0 r·0 (claims· .0) (claims· .1)
             "block::records::cleared") (known1 : Plain.Known 𝓤 H A W 𝓣 4 ps·1 r·1 (claims· .2) (claims· .3) "block::decoding::decode_region") where

@@ -135,32 +135,97 @@ y10 = Syntax.tyStruct (List._∷_ 112 (List._∷_ 97 (List._∷_ 115 (List._∷_
     List.[])))))))))))) (Syntax.tcons Syntax.tyBool (Syntax.tcons y9 (Syntax.tcons y3 Syntax.tnil)))
 
 abbrev pub ps : List.List (Kinds.PK 5)
-ps = List._∷_ (ShrSlice.pShrS (Referent.rtF (Referent.fInt Syntax.w8)) 0 tt) (List._∷_ (Value.pVal record
-    { ty = Declared'.row Place.the-type; one = Path'.refl; val = Laws'10.val Place.the-type Laws'3.the-laws; tells = Laws'10.tells Place.the-type Laws'3.the-laws; still = Laws'10.still Place.the-type
-    Laws'3.the-copy Exit.yes; row = Rows'.whole (Declared'.row Place.the-type); rd = λ x. x; mk = λ x. x; } λ M 𝓤 H A W. record
-    { copies = Laws'10.copy Place.the-type Laws'3.the-copy 𝓤 H A W; lawful = Laws'10.lawful Place.the-type Laws'3.the-laws 𝓤 H A W; makes = Laws'10.makes Place.the-type Laws'3.the-plain 𝓤 H A; in-mem =
-    Local.mem-whole 𝓤 H A W (Declared'.row Place.the-type); of-mem = Local.whole-mem 𝓤 H A W (Declared'.row Place.the-type); }) (List._∷_ (MutSlice.pMutS (Referent.rtF (Referent.fInt Syntax.w16)) 1 tt)
-    (List._∷_ (MutSlice.pMutS (Element.type) 2 tt) (List._∷_ (MutSlice.pMutS (Referent.rtF (Referent.fInt Syntax.w16)) 3 tt) (List._∷_ (Value.pVal record
-    { ty = Declared'.row Form.the-type; one = Path'.refl; val = Laws'10.val Form.the-type Laws'.the-laws; tells = Laws'10.tells Form.the-type Laws'.the-laws; still = Laws'10.still Form.the-type
-    Laws'.the-copy Exit.yes; row = Rows'.whole (Declared'.row Form.the-type); rd = λ x. x; mk = λ x. x; } λ M 𝓤 H A W. record
-    { copies = Laws'10.copy Form.the-type Laws'.the-copy 𝓤 H A W; lawful = Laws'10.lawful Form.the-type Laws'.the-laws 𝓤 H A W; makes = Laws'10.makes Form.the-type Laws'.the-plain 𝓤 H A; in-mem =
-    Local.mem-whole 𝓤 H A W (Declared'.row Form.the-type); of-mem = Local.whole-mem 𝓤 H A W (Declared'.row Form.the-type); }) (List._∷_ (Value.pVal record
-    { ty = Declared'.row Quantisers.the-type; one = Path'.refl; val = Laws'10.val Quantisers.the-type Laws'7.the-laws; tells = Laws'10.tells Quantisers.the-type Laws'7.the-laws; still = Laws'10.still
-    Quantisers.the-type Laws'7.the-copy Exit.yes; row = Rows'.whole (Declared'.row Quantisers.the-type); rd = λ x. x; mk = λ x. x; } λ M 𝓤 H A W. record
-    { copies = Laws'10.copy Quantisers.the-type Laws'7.the-copy 𝓤 H A W; lawful = Laws'10.lawful Quantisers.the-type Laws'7.the-laws 𝓤 H A W; makes = Laws'10.makes Quantisers.the-type Laws'7.the-plain 𝓤 H
-    A; in-mem = Local.mem-whole 𝓤 H A W (Declared'.row Quantisers.the-type); of-mem = Local.whole-mem 𝓤 H A W (Declared'.row Quantisers.the-type); }) (List._∷_ (ShrRef.pShr (Array'.Array (Referent.rtF
-    (Referent.fInt Syntax.w16)) 768) 4 tt) (List._∷_ (Array.pArr (Array.eInt Syntax.w8) (Array.eInt-laws Syntax.w8) 36) (List._∷_ (Value.pVal record
-    { ty = Declared'.row Part.the-type; one = Path'.refl; val = Laws'10.val Part.the-type Laws'4.the-laws; tells = Laws'10.tells Part.the-type Laws'4.the-laws; still = Laws'10.still Part.the-type
-    Laws'4.the-copy Exit.yes; row = Rows'.whole (Declared'.row Part.the-type); rd = λ x. x; mk = λ x. x; } λ M 𝓤 H A W. record
-    { copies = Laws'10.copy Part.the-type Laws'4.the-copy 𝓤 H A W; lawful = Laws'10.lawful Part.the-type Laws'4.the-laws 𝓤 H A W; makes = Laws'10.makes Part.the-type Laws'4.the-plain 𝓤 H A; in-mem =
-    Local.mem-whole 𝓤 H A W (Declared'.row Part.the-type); of-mem = Local.whole-mem 𝓤 H A W (Declared'.row Part.the-type); }) (List._∷_ (Num.pNum Syntax.w64) (List._∷_ Bool.pBool List.[])))))))))))
+ps = List._∷_ (ShrSlice.pShrS (Referent.rtF (Referent.fInt Syntax.w8)) 0 tt) (List._∷_ (Value.pVal record {
+  ty = Declared'.row Place.the-type;
+  one = Path'.refl;
+  val = Laws'10.val Place.the-type Laws'3.the-laws;
+  tells = Laws'10.tells Place.the-type Laws'3.the-laws;
+  still = Laws'10.still Place.the-type
+      Laws'3.the-copy Exit.yes;
+  row = Rows'.whole (Declared'.row Place.the-type);
+  rd = λ x. x;
+  mk = λ x. x;
+} λ M 𝓤 H A W. record {
+  copies = Laws'10.copy Place.the-type Laws'3.the-copy 𝓤 H A W;
+  lawful = Laws'10.lawful Place.the-type Laws'3.the-laws 𝓤 H A W;
+  makes = Laws'10.makes Place.the-type Laws'3.the-plain 𝓤 H A;
+  in-mem =
+      Local.mem-whole 𝓤 H A W (Declared'.row Place.the-type);
+  of-mem = Local.whole-mem 𝓤 H A W (Declared'.row Place.the-type);
+}) (List._∷_ (MutSlice.pMutS (Referent.rtF (Referent.fInt Syntax.w16)) 1 tt)
+    (List._∷_ (MutSlice.pMutS (Element.type) 2 tt) (List._∷_ (MutSlice.pMutS (Referent.rtF (Referent.fInt Syntax.w16)) 3 tt) (List._∷_ (Value.pVal record {
+      ty = Declared'.row Form.the-type;
+      one = Path'.refl;
+      val = Laws'10.val Form.the-type Laws'.the-laws;
+      tells = Laws'10.tells Form.the-type Laws'.the-laws;
+      still = Laws'10.still Form.the-type
+          Laws'.the-copy Exit.yes;
+      row = Rows'.whole (Declared'.row Form.the-type);
+      rd = λ x. x;
+      mk = λ x. x;
+    } λ M 𝓤 H A W. record {
+      copies = Laws'10.copy Form.the-type Laws'.the-copy 𝓤 H A W;
+      lawful = Laws'10.lawful Form.the-type Laws'.the-laws 𝓤 H A W;
+      makes = Laws'10.makes Form.the-type Laws'.the-plain 𝓤 H A;
+      in-mem =
+          Local.mem-whole 𝓤 H A W (Declared'.row Form.the-type);
+      of-mem = Local.whole-mem 𝓤 H A W (Declared'.row Form.the-type);
+    }) (List._∷_ (Value.pVal record {
+      ty = Declared'.row Quantisers.the-type;
+      one = Path'.refl;
+      val = Laws'10.val Quantisers.the-type Laws'7.the-laws;
+      tells = Laws'10.tells Quantisers.the-type Laws'7.the-laws;
+      still = Laws'10.still
+          Quantisers.the-type Laws'7.the-copy Exit.yes;
+      row = Rows'.whole (Declared'.row Quantisers.the-type);
+      rd = λ x. x;
+      mk = λ x. x;
+    } λ M 𝓤 H A W. record {
+      copies = Laws'10.copy Quantisers.the-type Laws'7.the-copy 𝓤 H A W;
+      lawful = Laws'10.lawful Quantisers.the-type Laws'7.the-laws 𝓤 H A W;
+      makes = Laws'10.makes Quantisers.the-type Laws'7.the-plain 𝓤 H
+          A;
+      in-mem = Local.mem-whole 𝓤 H A W (Declared'.row Quantisers.the-type);
+      of-mem = Local.whole-mem 𝓤 H A W (Declared'.row Quantisers.the-type);
+    }) (List._∷_ (ShrRef.pShr (Array'.Array (Referent.rtF
+    (Referent.fInt Syntax.w16)) 768) 4 tt) (List._∷_ (Array.pArr (Array.eInt Syntax.w8) (Array.eInt-laws Syntax.w8) 36) (List._∷_ (Value.pVal record {
+      ty = Declared'.row Part.the-type;
+      one = Path'.refl;
+      val = Laws'10.val Part.the-type Laws'4.the-laws;
+      tells = Laws'10.tells Part.the-type Laws'4.the-laws;
+      still = Laws'10.still Part.the-type
+          Laws'4.the-copy Exit.yes;
+      row = Rows'.whole (Declared'.row Part.the-type);
+      rd = λ x. x;
+      mk = λ x. x;
+    } λ M 𝓤 H A W. record {
+      copies = Laws'10.copy Part.the-type Laws'4.the-copy 𝓤 H A W;
+      lawful = Laws'10.lawful Part.the-type Laws'4.the-laws 𝓤 H A W;
+      makes = Laws'10.makes Part.the-type Laws'4.the-plain 𝓤 H A;
+      in-mem =
+          Local.mem-whole 𝓤 H A W (Declared'.row Part.the-type);
+      of-mem = Local.whole-mem 𝓤 H A W (Declared'.row Part.the-type);
+    }) (List._∷_ (Num.pNum Syntax.w64) (List._∷_ Bool.pBool List.[])))))))))))
 
 abbrev pub r : Kinds.RK 5
-r = Value.rVal record
-    { ty = Declared.row Lined.the-type; one = Path'.refl; val = Laws'9.val Lined.the-type Laws''.the-laws; tells = Laws'9.tells Lined.the-type Laws''.the-laws; still = Laws'9.still Lined.the-type
-    Laws''.the-copy Exit.yes; row = Rows'.whole (Declared.row Lined.the-type); rd = λ x. x; mk = λ x. x; } λ M 𝓤 H A W. record
-    { copies = Laws'9.copy Lined.the-type Laws''.the-copy 𝓤 H A W; lawful = Laws'9.lawful Lined.the-type Laws''.the-laws 𝓤 H A W tt; makes = Laws'9.makes Lined.the-type Laws''.the-plain 𝓤 H A; in-mem =
-    Local.mem-whole 𝓤 H A W (Declared.row Lined.the-type); of-mem = Local.whole-mem 𝓤 H A W (Declared.row Lined.the-type); }
+r = Value.rVal record {
+  ty = Declared.row Lined.the-type;
+  one = Path'.refl;
+  val = Laws'9.val Lined.the-type Laws''.the-laws;
+  tells = Laws'9.tells Lined.the-type Laws''.the-laws;
+  still = Laws'9.still Lined.the-type
+      Laws''.the-copy Exit.yes;
+  row = Rows'.whole (Declared.row Lined.the-type);
+  rd = λ x. x;
+  mk = λ x. x;
+} λ M 𝓤 H A W. record {
+  copies = Laws'9.copy Lined.the-type Laws''.the-copy 𝓤 H A W;
+  lawful = Laws'9.lawful Lined.the-type Laws''.the-laws 𝓤 H A W tt;
+  makes = Laws'9.makes Lined.the-type Laws''.the-plain 𝓤 H A;
+  in-mem =
+      Local.mem-whole 𝓤 H A W (Declared.row Lined.the-type);
+  of-mem = Local.whole-mem 𝓤 H A W (Declared.row Lined.the-type);
+}
 
 abbrev pub xs : List.List Syntax.Ty
 xs = List._∷_ (Syntax.tyInt Syntax.w32) (List._∷_ Syntax.tyBool (List._∷_ (Syntax.tyInt Syntax.w64) (List._∷_ y9 (List._∷_ (Syntax.tyInt Syntax.w64) (List._∷_ y1 (List._∷_ y1 (List._∷_ y3 (List._∷_
@@ -182,25 +247,64 @@ abbrev pub ps·1 : List.List (Kinds.PK 0)
 ps·1 = List._∷_ (Num.pNum Syntax.w64) (List._∷_ Bool.pBool List.[])
 
 abbrev pub r·1 : Kinds.RK 0
-r·1 = Value.rVal record
-    { ty = Declared'.row Plan.the-type; one = Path'.refl; val = Laws'10.val Plan.the-type Laws'6.the-laws; tells = Laws'10.tells Plan.the-type Laws'6.the-laws; still = Laws'10.still Plan.the-type
-    Laws'6.the-copy Exit.yes; row = Rows'.whole (Declared'.row Plan.the-type); rd = λ x. x; mk = λ x. x; } λ M 𝓤 H A W. record
-    { copies = Laws'10.copy Plan.the-type Laws'6.the-copy 𝓤 H A W; lawful = Laws'10.lawful Plan.the-type Laws'6.the-laws 𝓤 H A W; makes = Laws'10.makes Plan.the-type Laws'6.the-plain 𝓤 H A; in-mem =
-    Local.mem-whole 𝓤 H A W (Declared'.row Plan.the-type); of-mem = Local.whole-mem 𝓤 H A W (Declared'.row Plan.the-type); }
+r·1 = Value.rVal record {
+  ty = Declared'.row Plan.the-type;
+  one = Path'.refl;
+  val = Laws'10.val Plan.the-type Laws'6.the-laws;
+  tells = Laws'10.tells Plan.the-type Laws'6.the-laws;
+  still = Laws'10.still Plan.the-type
+      Laws'6.the-copy Exit.yes;
+  row = Rows'.whole (Declared'.row Plan.the-type);
+  rd = λ x. x;
+  mk = λ x. x;
+} λ M 𝓤 H A W. record {
+  copies = Laws'10.copy Plan.the-type Laws'6.the-copy 𝓤 H A W;
+  lawful = Laws'10.lawful Plan.the-type Laws'6.the-laws 𝓤 H A W;
+  makes = Laws'10.makes Plan.the-type Laws'6.the-plain 𝓤 H A;
+  in-mem =
+      Local.mem-whole 𝓤 H A W (Declared'.row Plan.the-type);
+  of-mem = Local.whole-mem 𝓤 H A W (Declared'.row Plan.the-type);
+}
 
 abbrev pub ps·2 : List.List (Kinds.PK 0)
-ps·2 = List._∷_ (Value.pVal record
-    { ty = Declared'.row Plan.the-type; one = Path'.refl; val = Laws'10.val Plan.the-type Laws'6.the-laws; tells = Laws'10.tells Plan.the-type Laws'6.the-laws; still = Laws'10.still Plan.the-type
-    Laws'6.the-copy Exit.yes; row = Rows'.whole (Declared'.row Plan.the-type); rd = λ x. x; mk = λ x. x; } λ M 𝓤 H A W. record
-    { copies = Laws'10.copy Plan.the-type Laws'6.the-copy 𝓤 H A W; lawful = Laws'10.lawful Plan.the-type Laws'6.the-laws 𝓤 H A W; makes = Laws'10.makes Plan.the-type Laws'6.the-plain 𝓤 H A; in-mem =
-    Local.mem-whole 𝓤 H A W (Declared'.row Plan.the-type); of-mem = Local.whole-mem 𝓤 H A W (Declared'.row Plan.the-type); }) (List._∷_ Bool.pBool List.[])
+ps·2 = List._∷_ (Value.pVal record {
+  ty = Declared'.row Plan.the-type;
+  one = Path'.refl;
+  val = Laws'10.val Plan.the-type Laws'6.the-laws;
+  tells = Laws'10.tells Plan.the-type Laws'6.the-laws;
+  still = Laws'10.still Plan.the-type
+      Laws'6.the-copy Exit.yes;
+  row = Rows'.whole (Declared'.row Plan.the-type);
+  rd = λ x. x;
+  mk = λ x. x;
+} λ M 𝓤 H A W. record {
+  copies = Laws'10.copy Plan.the-type Laws'6.the-copy 𝓤 H A W;
+  lawful = Laws'10.lawful Plan.the-type Laws'6.the-laws 𝓤 H A W;
+  makes = Laws'10.makes Plan.the-type Laws'6.the-plain 𝓤 H A;
+  in-mem =
+      Local.mem-whole 𝓤 H A W (Declared'.row Plan.the-type);
+  of-mem = Local.whole-mem 𝓤 H A W (Declared'.row Plan.the-type);
+}) (List._∷_ Bool.pBool List.[])
 
 abbrev pub r·2 : Kinds.RK 0
-r·2 = Value.rVal record
-    { ty = Declared'.row Plan.the-type; one = Path'.refl; val = Laws'10.val Plan.the-type Laws'6.the-laws; tells = Laws'10.tells Plan.the-type Laws'6.the-laws; still = Laws'10.still Plan.the-type
-    Laws'6.the-copy Exit.yes; row = Rows'.whole (Declared'.row Plan.the-type); rd = λ x. x; mk = λ x. x; } λ M 𝓤 H A W. record
-    { copies = Laws'10.copy Plan.the-type Laws'6.the-copy 𝓤 H A W; lawful = Laws'10.lawful Plan.the-type Laws'6.the-laws 𝓤 H A W; makes = Laws'10.makes Plan.the-type Laws'6.the-plain 𝓤 H A; in-mem =
-    Local.mem-whole 𝓤 H A W (Declared'.row Plan.the-type); of-mem = Local.whole-mem 𝓤 H A W (Declared'.row Plan.the-type); }
+r·2 = Value.rVal record {
+  ty = Declared'.row Plan.the-type;
+  one = Path'.refl;
+  val = Laws'10.val Plan.the-type Laws'6.the-laws;
+  tells = Laws'10.tells Plan.the-type Laws'6.the-laws;
+  still = Laws'10.still Plan.the-type
+      Laws'6.the-copy Exit.yes;
+  row = Rows'.whole (Declared'.row Plan.the-type);
+  rd = λ x. x;
+  mk = λ x. x;
+} λ M 𝓤 H A W. record {
+  copies = Laws'10.copy Plan.the-type Laws'6.the-copy 𝓤 H A W;
+  lawful = Laws'10.lawful Plan.the-type Laws'6.the-laws 𝓤 H A W;
+  makes = Laws'10.makes Plan.the-type Laws'6.the-plain 𝓤 H A;
+  in-mem =
+      Local.mem-whole 𝓤 H A W (Declared'.row Plan.the-type);
+  of-mem = Local.whole-mem 𝓤 H A W (Declared'.row Plan.the-type);
+}
 
 abbrev pub ps·3 : List.List (Kinds.PK 1)
 ps·3 = List._∷_ (MutSlice.pMutS (Referent.rtF (Referent.fInt Syntax.w16)) 0 tt) (List._∷_ (Num.pNum Syntax.w64) (List._∷_ (Num.pNum Syntax.w64) (List._∷_ (Num.pNum Syntax.w64) (List._∷_ Bool.pBool
@@ -213,45 +317,136 @@ abbrev pub ps·4 : List.List (Kinds.PK 1)
 ps·4 = List._∷_ (MutSlice.pMutS (Element.type) 0 tt) (List._∷_ (Num.pNum Syntax.w64) List.[])
 
 abbrev pub r·4 : Kinds.RK 1
-r·4 = Value.rVal record
-    { ty = Declared'.row Set.the-type; one = Path'.refl; val = Laws'10.val Set.the-type Laws'8.the-laws; tells = Laws'10.tells Set.the-type Laws'8.the-laws; still = Laws'10.still Set.the-type
-    Laws'8.the-copy Exit.yes; row = Rows'.whole (Declared'.row Set.the-type); rd = λ x. x; mk = λ x. x; } λ M 𝓤 H A W. record
-    { copies = Laws'10.copy Set.the-type Laws'8.the-copy 𝓤 H A W; lawful = Laws'10.lawful Set.the-type Laws'8.the-laws 𝓤 H A W; makes = Laws'10.makes Set.the-type Laws'8.the-plain 𝓤 H A; in-mem =
-    Local.mem-whole 𝓤 H A W (Declared'.row Set.the-type); of-mem = Local.whole-mem 𝓤 H A W (Declared'.row Set.the-type); }
+r·4 = Value.rVal record {
+  ty = Declared'.row Set.the-type;
+  one = Path'.refl;
+  val = Laws'10.val Set.the-type Laws'8.the-laws;
+  tells = Laws'10.tells Set.the-type Laws'8.the-laws;
+  still = Laws'10.still Set.the-type
+      Laws'8.the-copy Exit.yes;
+  row = Rows'.whole (Declared'.row Set.the-type);
+  rd = λ x. x;
+  mk = λ x. x;
+} λ M 𝓤 H A W. record {
+  copies = Laws'10.copy Set.the-type Laws'8.the-copy 𝓤 H A W;
+  lawful = Laws'10.lawful Set.the-type Laws'8.the-laws 𝓤 H A W;
+  makes = Laws'10.makes Set.the-type Laws'8.the-plain 𝓤 H A;
+  in-mem =
+      Local.mem-whole 𝓤 H A W (Declared'.row Set.the-type);
+  of-mem = Local.whole-mem 𝓤 H A W (Declared'.row Set.the-type);
+}
 
 abbrev pub ps·5 : List.List (Kinds.PK 2)
-ps·5 = List._∷_ (ShrSlice.pShrS (Referent.rtF (Referent.fInt Syntax.w8)) 0 tt) (List._∷_ (Value.pVal record
-    { ty = Declared'.row Place.the-type; one = Path'.refl; val = Laws'10.val Place.the-type Laws'3.the-laws; tells = Laws'10.tells Place.the-type Laws'3.the-laws; still = Laws'10.still Place.the-type
-    Laws'3.the-copy Exit.yes; row = Rows'.whole (Declared'.row Place.the-type); rd = λ x. x; mk = λ x. x; } λ M 𝓤 H A W. record
-    { copies = Laws'10.copy Place.the-type Laws'3.the-copy 𝓤 H A W; lawful = Laws'10.lawful Place.the-type Laws'3.the-laws 𝓤 H A W; makes = Laws'10.makes Place.the-type Laws'3.the-plain 𝓤 H A; in-mem =
-    Local.mem-whole 𝓤 H A W (Declared'.row Place.the-type); of-mem = Local.whole-mem 𝓤 H A W (Declared'.row Place.the-type); }) (List._∷_ (MutSlice.pMutS (Referent.rtF (Referent.fInt Syntax.w16)) 1 tt)
-    (List._∷_ (Value.pVal record
-    { ty = Declared'.row Set.the-type; one = Path'.refl; val = Laws'10.val Set.the-type Laws'8.the-laws; tells = Laws'10.tells Set.the-type Laws'8.the-laws; still = Laws'10.still Set.the-type
-    Laws'8.the-copy Exit.yes; row = Rows'.whole (Declared'.row Set.the-type); rd = λ x. x; mk = λ x. x; } λ M 𝓤 H A W. record
-    { copies = Laws'10.copy Set.the-type Laws'8.the-copy 𝓤 H A W; lawful = Laws'10.lawful Set.the-type Laws'8.the-laws 𝓤 H A W; makes = Laws'10.makes Set.the-type Laws'8.the-plain 𝓤 H A; in-mem =
-    Local.mem-whole 𝓤 H A W (Declared'.row Set.the-type); of-mem = Local.whole-mem 𝓤 H A W (Declared'.row Set.the-type); }) (List._∷_ (Num.pNum Syntax.w64) (List._∷_ (Value.pVal record
-    { ty = Declared'.row Plan.the-type; one = Path'.refl; val = Laws'10.val Plan.the-type Laws'6.the-laws; tells = Laws'10.tells Plan.the-type Laws'6.the-laws; still = Laws'10.still Plan.the-type
-    Laws'6.the-copy Exit.yes; row = Rows'.whole (Declared'.row Plan.the-type); rd = λ x. x; mk = λ x. x; } λ M 𝓤 H A W. record
-    { copies = Laws'10.copy Plan.the-type Laws'6.the-copy 𝓤 H A W; lawful = Laws'10.lawful Plan.the-type Laws'6.the-laws 𝓤 H A W; makes = Laws'10.makes Plan.the-type Laws'6.the-plain 𝓤 H A; in-mem =
-    Local.mem-whole 𝓤 H A W (Declared'.row Plan.the-type); of-mem = Local.whole-mem 𝓤 H A W (Declared'.row Plan.the-type); }) (List._∷_ (Value.pVal record
-    { ty = Declared'.row Quantisers.the-type; one = Path'.refl; val = Laws'10.val Quantisers.the-type Laws'7.the-laws; tells = Laws'10.tells Quantisers.the-type Laws'7.the-laws; still = Laws'10.still
-    Quantisers.the-type Laws'7.the-copy Exit.yes; row = Rows'.whole (Declared'.row Quantisers.the-type); rd = λ x. x; mk = λ x. x; } λ M 𝓤 H A W. record
-    { copies = Laws'10.copy Quantisers.the-type Laws'7.the-copy 𝓤 H A W; lawful = Laws'10.lawful Quantisers.the-type Laws'7.the-laws 𝓤 H A W; makes = Laws'10.makes Quantisers.the-type Laws'7.the-plain 𝓤 H
-    A; in-mem = Local.mem-whole 𝓤 H A W (Declared'.row Quantisers.the-type); of-mem = Local.whole-mem 𝓤 H A W (Declared'.row Quantisers.the-type); }) (List._∷_ (Num.pNum Syntax.w32) List.[])))))))
+ps·5 = List._∷_ (ShrSlice.pShrS (Referent.rtF (Referent.fInt Syntax.w8)) 0 tt) (List._∷_ (Value.pVal record {
+  ty = Declared'.row Place.the-type;
+  one = Path'.refl;
+  val = Laws'10.val Place.the-type Laws'3.the-laws;
+  tells = Laws'10.tells Place.the-type Laws'3.the-laws;
+  still = Laws'10.still Place.the-type
+      Laws'3.the-copy Exit.yes;
+  row = Rows'.whole (Declared'.row Place.the-type);
+  rd = λ x. x;
+  mk = λ x. x;
+} λ M 𝓤 H A W. record {
+  copies = Laws'10.copy Place.the-type Laws'3.the-copy 𝓤 H A W;
+  lawful = Laws'10.lawful Place.the-type Laws'3.the-laws 𝓤 H A W;
+  makes = Laws'10.makes Place.the-type Laws'3.the-plain 𝓤 H A;
+  in-mem =
+      Local.mem-whole 𝓤 H A W (Declared'.row Place.the-type);
+  of-mem = Local.whole-mem 𝓤 H A W (Declared'.row Place.the-type);
+}) (List._∷_ (MutSlice.pMutS (Referent.rtF (Referent.fInt Syntax.w16)) 1 tt)
+    (List._∷_ (Value.pVal record {
+      ty = Declared'.row Set.the-type;
+      one = Path'.refl;
+      val = Laws'10.val Set.the-type Laws'8.the-laws;
+      tells = Laws'10.tells Set.the-type Laws'8.the-laws;
+      still = Laws'10.still Set.the-type
+          Laws'8.the-copy Exit.yes;
+      row = Rows'.whole (Declared'.row Set.the-type);
+      rd = λ x. x;
+      mk = λ x. x;
+    } λ M 𝓤 H A W. record {
+      copies = Laws'10.copy Set.the-type Laws'8.the-copy 𝓤 H A W;
+      lawful = Laws'10.lawful Set.the-type Laws'8.the-laws 𝓤 H A W;
+      makes = Laws'10.makes Set.the-type Laws'8.the-plain 𝓤 H A;
+      in-mem =
+          Local.mem-whole 𝓤 H A W (Declared'.row Set.the-type);
+      of-mem = Local.whole-mem 𝓤 H A W (Declared'.row Set.the-type);
+    }) (List._∷_ (Num.pNum Syntax.w64) (List._∷_ (Value.pVal record {
+      ty = Declared'.row Plan.the-type;
+      one = Path'.refl;
+      val = Laws'10.val Plan.the-type Laws'6.the-laws;
+      tells = Laws'10.tells Plan.the-type Laws'6.the-laws;
+      still = Laws'10.still Plan.the-type
+          Laws'6.the-copy Exit.yes;
+      row = Rows'.whole (Declared'.row Plan.the-type);
+      rd = λ x. x;
+      mk = λ x. x;
+    } λ M 𝓤 H A W. record {
+      copies = Laws'10.copy Plan.the-type Laws'6.the-copy 𝓤 H A W;
+      lawful = Laws'10.lawful Plan.the-type Laws'6.the-laws 𝓤 H A W;
+      makes = Laws'10.makes Plan.the-type Laws'6.the-plain 𝓤 H A;
+      in-mem =
+          Local.mem-whole 𝓤 H A W (Declared'.row Plan.the-type);
+      of-mem = Local.whole-mem 𝓤 H A W (Declared'.row Plan.the-type);
+    }) (List._∷_ (Value.pVal record {
+      ty = Declared'.row Quantisers.the-type;
+      one = Path'.refl;
+      val = Laws'10.val Quantisers.the-type Laws'7.the-laws;
+      tells = Laws'10.tells Quantisers.the-type Laws'7.the-laws;
+      still = Laws'10.still
+          Quantisers.the-type Laws'7.the-copy Exit.yes;
+      row = Rows'.whole (Declared'.row Quantisers.the-type);
+      rd = λ x. x;
+      mk = λ x. x;
+    } λ M 𝓤 H A W. record {
+      copies = Laws'10.copy Quantisers.the-type Laws'7.the-copy 𝓤 H A W;
+      lawful = Laws'10.lawful Quantisers.the-type Laws'7.the-laws 𝓤 H A W;
+      makes = Laws'10.makes Quantisers.the-type Laws'7.the-plain 𝓤 H
+          A;
+      in-mem = Local.mem-whole 𝓤 H A W (Declared'.row Quantisers.the-type);
+      of-mem = Local.whole-mem 𝓤 H A W (Declared'.row Quantisers.the-type);
+    }) (List._∷_ (Num.pNum Syntax.w32) List.[])))))))
 
 abbrev pub r·5 : Kinds.RK 2
-r·5 = Value.rVal record
-    { ty = Declared'.row Passed.the-type; one = Path'.refl; val = Laws'10.val Passed.the-type Laws'5.the-laws; tells = Laws'10.tells Passed.the-type Laws'5.the-laws; still = Laws'10.still Passed.the-type
-    Laws'5.the-copy Exit.yes; row = Rows'.whole (Declared'.row Passed.the-type); rd = λ x. x; mk = λ x. x; } λ M 𝓤 H A W. record
-    { copies = Laws'10.copy Passed.the-type Laws'5.the-copy 𝓤 H A W; lawful = Laws'10.lawful Passed.the-type Laws'5.the-laws 𝓤 H A W; makes = Laws'10.makes Passed.the-type Laws'5.the-plain 𝓤 H A; in-mem =
-    Local.mem-whole 𝓤 H A W (Declared'.row Passed.the-type); of-mem = Local.whole-mem 𝓤 H A W (Declared'.row Passed.the-type); }
+r·5 = Value.rVal record {
+  ty = Declared'.row Passed.the-type;
+  one = Path'.refl;
+  val = Laws'10.val Passed.the-type Laws'5.the-laws;
+  tells = Laws'10.tells Passed.the-type Laws'5.the-laws;
+  still = Laws'10.still Passed.the-type
+      Laws'5.the-copy Exit.yes;
+  row = Rows'.whole (Declared'.row Passed.the-type);
+  rd = λ x. x;
+  mk = λ x. x;
+} λ M 𝓤 H A W. record {
+  copies = Laws'10.copy Passed.the-type Laws'5.the-copy 𝓤 H A W;
+  lawful = Laws'10.lawful Passed.the-type Laws'5.the-laws 𝓤 H A W;
+  makes = Laws'10.makes Passed.the-type Laws'5.the-plain 𝓤 H A;
+  in-mem =
+      Local.mem-whole 𝓤 H A W (Declared'.row Passed.the-type);
+  of-mem = Local.whole-mem 𝓤 H A W (Declared'.row Passed.the-type);
+}
 
 abbrev pub ps·6 : List.List (Kinds.PK 1)
-ps·6 = List._∷_ (MutSlice.pMutS (Element.type) 0 tt) (List._∷_ (Num.pNum Syntax.w64) (List._∷_ (Value.pVal record
-    { ty = Declared'.row Set.the-type; one = Path'.refl; val = Laws'10.val Set.the-type Laws'8.the-laws; tells = Laws'10.tells Set.the-type Laws'8.the-laws; still = Laws'10.still Set.the-type
-    Laws'8.the-copy Exit.yes; row = Rows'.whole (Declared'.row Set.the-type); rd = λ x. x; mk = λ x. x; } λ M 𝓤 H A W. record
-    { copies = Laws'10.copy Set.the-type Laws'8.the-copy 𝓤 H A W; lawful = Laws'10.lawful Set.the-type Laws'8.the-laws 𝓤 H A W; makes = Laws'10.makes Set.the-type Laws'8.the-plain 𝓤 H A; in-mem =
-    Local.mem-whole 𝓤 H A W (Declared'.row Set.the-type); of-mem = Local.whole-mem 𝓤 H A W (Declared'.row Set.the-type); }) List.[]))
+ps·6 = List._∷_ (MutSlice.pMutS (Element.type) 0 tt) (List._∷_ (Num.pNum Syntax.w64) (List._∷_ (Value.pVal record {
+  ty = Declared'.row Set.the-type;
+  one = Path'.refl;
+  val = Laws'10.val Set.the-type Laws'8.the-laws;
+  tells = Laws'10.tells Set.the-type Laws'8.the-laws;
+  still = Laws'10.still Set.the-type
+      Laws'8.the-copy Exit.yes;
+  row = Rows'.whole (Declared'.row Set.the-type);
+  rd = λ x. x;
+  mk = λ x. x;
+} λ M 𝓤 H A W. record {
+  copies = Laws'10.copy Set.the-type Laws'8.the-copy 𝓤 H A W;
+  lawful = Laws'10.lawful Set.the-type Laws'8.the-laws 𝓤 H A W;
+  makes = Laws'10.makes Set.the-type Laws'8.the-plain 𝓤 H A;
+  in-mem =
+      Local.mem-whole 𝓤 H A W (Declared'.row Set.the-type);
+  of-mem = Local.whole-mem 𝓤 H A W (Declared'.row Set.the-type);
+}) List.[]))
 
 abbrev pub r·6 : Kinds.RK 1
 r·6 = Unit'.rUnit
@@ -259,22 +454,47 @@ r·6 = Unit'.rUnit
 abbrev pub ps·7 : List.List (Kinds.PK 3)
 ps·7 = List._∷_ (ShrSlice.pShrS (Referent.rtF (Referent.fInt Syntax.w16)) 0 tt) (List._∷_ (MutSlice.pMutS (Referent.rtF (Referent.fInt Syntax.w16)) 1 tt) (List._∷_ (Num.pNum Syntax.w64) (List._∷_
     Bool.pBool (List._∷_ (ShrRef.pShr (Array'.Array (Referent.rtF (Referent.fInt Syntax.w16)) 768) 2 tt) (List._∷_ (Array.pArr (Array.eInt Syntax.w8) (Array.eInt-laws Syntax.w8) 36) (List._∷_ (Value.pVal
-    record
-    { ty = Declared'.row Part.the-type; one = Path'.refl; val = Laws'10.val Part.the-type Laws'4.the-laws; tells = Laws'10.tells Part.the-type Laws'4.the-laws; still = Laws'10.still Part.the-type
-    Laws'4.the-copy Exit.yes; row = Rows'.whole (Declared'.row Part.the-type); rd = λ x. x; mk = λ x. x; } λ M 𝓤 H A W. record
-    { copies = Laws'10.copy Part.the-type Laws'4.the-copy 𝓤 H A W; lawful = Laws'10.lawful Part.the-type Laws'4.the-laws 𝓤 H A W; makes = Laws'10.makes Part.the-type Laws'4.the-plain 𝓤 H A; in-mem =
-    Local.mem-whole 𝓤 H A W (Declared'.row Part.the-type); of-mem = Local.whole-mem 𝓤 H A W (Declared'.row Part.the-type); }) (List._∷_ (Num.pNum Syntax.w64) (List._∷_ (Num.pNum Syntax.w64) (List._∷_
+    record {
+      ty = Declared'.row Part.the-type;
+      one = Path'.refl;
+      val = Laws'10.val Part.the-type Laws'4.the-laws;
+      tells = Laws'10.tells Part.the-type Laws'4.the-laws;
+      still = Laws'10.still Part.the-type
+          Laws'4.the-copy Exit.yes;
+      row = Rows'.whole (Declared'.row Part.the-type);
+      rd = λ x. x;
+      mk = λ x. x;
+    } λ M 𝓤 H A W. record {
+      copies = Laws'10.copy Part.the-type Laws'4.the-copy 𝓤 H A W;
+      lawful = Laws'10.lawful Part.the-type Laws'4.the-laws 𝓤 H A W;
+      makes = Laws'10.makes Part.the-type Laws'4.the-plain 𝓤 H A;
+      in-mem =
+          Local.mem-whole 𝓤 H A W (Declared'.row Part.the-type);
+      of-mem = Local.whole-mem 𝓤 H A W (Declared'.row Part.the-type);
+    }) (List._∷_ (Num.pNum Syntax.w64) (List._∷_ (Num.pNum Syntax.w64) (List._∷_
     Bool.pBool List.[])))))))))
 
 abbrev pub r·7 : Kinds.RK 3
 r·7 = Unit'.rUnit
 
 abbrev pub ps·8 : List.List (Kinds.PK 1)
-ps·8 = List._∷_ (ShrSlice.pShrS (Referent.rtF (Referent.fInt Syntax.w8)) 0 tt) (List._∷_ (Value.pVal record
-    { ty = Declared'.row BitPosition.the-type; one = Path'.refl; val = Laws'10.val BitPosition.the-type Laws.the-laws; tells = Laws'10.tells BitPosition.the-type Laws.the-laws; still = Laws'10.still
-    BitPosition.the-type Laws.the-copy Exit.yes; row = Rows'.whole (Declared'.row BitPosition.the-type); rd = λ x. x; mk = λ x. x; } λ M 𝓤 H A W. record
-    { copies = Laws'10.copy BitPosition.the-type Laws.the-copy 𝓤 H A W; lawful = Laws'10.lawful BitPosition.the-type Laws.the-laws 𝓤 H A W; makes = Laws'10.makes BitPosition.the-type Laws.the-plain 𝓤 H A;
-    in-mem = Local.mem-whole 𝓤 H A W (Declared'.row BitPosition.the-type); of-mem = Local.whole-mem 𝓤 H A W (Declared'.row BitPosition.the-type); }) List.[])
+ps·8 = List._∷_ (ShrSlice.pShrS (Referent.rtF (Referent.fInt Syntax.w8)) 0 tt) (List._∷_ (Value.pVal record {
+  ty = Declared'.row BitPosition.the-type;
+  one = Path'.refl;
+  val = Laws'10.val BitPosition.the-type Laws.the-laws;
+  tells = Laws'10.tells BitPosition.the-type Laws.the-laws;
+  still = Laws'10.still
+      BitPosition.the-type Laws.the-copy Exit.yes;
+  row = Rows'.whole (Declared'.row BitPosition.the-type);
+  rd = λ x. x;
+  mk = λ x. x;
+} λ M 𝓤 H A W. record {
+  copies = Laws'10.copy BitPosition.the-type Laws.the-copy 𝓤 H A W;
+  lawful = Laws'10.lawful BitPosition.the-type Laws.the-laws 𝓤 H A W;
+  makes = Laws'10.makes BitPosition.the-type Laws.the-plain 𝓤 H A;
+  in-mem = Local.mem-whole 𝓤 H A W (Declared'.row BitPosition.the-type);
+  of-mem = Local.whole-mem 𝓤 H A W (Declared'.row BitPosition.the-type);
+}) List.[])
 
 abbrev pub r·8 : Kinds.RK 1
 r·8 = Bool.rBool
@@ -563,9 +783,11 @@ Claims = Kinds.In 0 ps·0 × Kinds.Out 0 ps·0 r·0 × Kinds.In 0 ps·1 × Kinds
     1 ps·4 r·4 × Kinds.In 2 ps·5 × Kinds.Out 2 ps·5 r·5 × Kinds.In 1 ps·6 × Kinds.Out 1 ps·6 r·6 × Kinds.In 3 ps·7 × Kinds.Out 3 ps·7 r·7 × Kinds.In 1 ps·8 × Kinds.Out 1 ps·8 r·8
 
 abbrev pub e0 : Row.Entry
-e0 =
-    (0, Rows'.any-gone (Syntax.tyEnum (List._∷_ 98 (List._∷_ 108 (List._∷_ 111 (List._∷_ 99 (List._∷_ 107 (List._∷_ 58 (List._∷_ 58 (List._∷_ 76 (List._∷_ 105 (List._∷_ 110 (List._∷_ 101 (List._∷_ 100
-    List.[])))))))))))) (Syntax.ttcons (Syntax.tcons y9 Syntax.tnil) (Syntax.ttcons Syntax.tnil Syntax.ttnil))))
+e0 = (
+  0,
+  Rows'.any-gone (Syntax.tyEnum (List._∷_ 98 (List._∷_ 108 (List._∷_ 111 (List._∷_ 99 (List._∷_ 107 (List._∷_ 58 (List._∷_ 58 (List._∷_ 76 (List._∷_ 105 (List._∷_ 110 (List._∷_ 101 (List._∷_ 100
+      List.[])))))))))))) (Syntax.ttcons (Syntax.tcons y9 Syntax.tnil) (Syntax.ttcons Syntax.tnil Syntax.ttnil))),
+)
 
 abbrev pub e1 : Row.Entry
 e1 = (0, Rows'.whole (Declared.row Lined.the-type))
@@ -1465,11 +1687,16 @@ module _ (claims· : Claims) where
       Syntax.w16)) (Syntax.tyRef Syntax.erased Syntax.mut (Syntax.tyInt Syntax.w16)) (λ x. x) (Scalar.oFld 3 (List._∷_ (Syntax.field 1) List.[]) (Syntax.tyInt Syntax.w64) 8 λ v. Shared.lenV (v .0))
 
   abbrev s21 : (bs : List.List Nat.ℕ) → Typed.Both T24 T25
-  s21 = λ bs. Call.callB ps·3 r·3 (claims· .6) (claims· .7) T24
-      (record { pos = 28; ty = Syntax.tyRef Syntax.erased Syntax.mut (Syntax.tyInt Syntax.w16); ref = λ x. x; },
-      (Num.vAt 15 λ x. x,
-      (Num.vFld 19 (List._∷_ (Syntax.field 0) List.[]) 0 λ x. Plan.struct .as-values x .0,
-      (Num.vFld 19 (List._∷_ (Syntax.field 1) List.[]) 8 λ x. Plan.struct .as-values x .1 .0, (Bool.bAt 12 λ x. x, tt))))) 26 (List._∷_ 5 List.[]) Syntax.tyUnit
+  s21 = λ bs. Call.callB ps·3 r·3 (claims· .6) (claims· .7) T24 (
+    record { pos = 28; ty = Syntax.tyRef Syntax.erased Syntax.mut (Syntax.tyInt Syntax.w16); ref = λ x. x },
+    (
+      Num.vAt 15 λ x. x,
+      (
+        Num.vFld 19 (List._∷_ (Syntax.field 0) List.[]) 0 λ x. Plan.struct .as-values x .0,
+        (Num.vFld 19 (List._∷_ (Syntax.field 1) List.[]) 8 λ x. Plan.struct .as-values x .1 .0, (Bool.bAt 12 λ x. x, tt)),
+      ),
+    ),
+  ) 26 (List._∷_ 5 List.[]) Syntax.tyUnit
 
   abbrev s22 : (bs : List.List Nat.ℕ) → Typed.Mo T25 → Typed.Mo T26
   s22 = λ bs. Scalar.n-room T25 26 Syntax.tyUnit
@@ -1490,7 +1717,7 @@ module _ (claims· : Claims) where
 
   abbrev s30 : (bs : List.List Nat.ℕ) → Typed.Both T33 T34
   s30 = λ bs. Call.callB ps·4 r·4 (claims· .8) (claims· .9) T33
-      (record { pos = 30; ty = Syntax.tyRef Syntax.erased Syntax.mut Element.behind; ref = λ x. x; }, (Num.vFld 18 (List._∷_ (Syntax.field 2) List.[]) 16 λ x. Plan.struct .as-values x .1 .1 .0, tt)) 20
+      (record { pos = 30; ty = Syntax.tyRef Syntax.erased Syntax.mut Element.behind; ref = λ x. x }, (Num.vFld 18 (List._∷_ (Syntax.field 2) List.[]) 16 λ x. Plan.struct .as-values x .1 .1 .0, tt)) 20
       (List._∷_ 6 List.[]) y3
 
   abbrev s32 : (bs : List.List Nat.ℕ) → Typed.Both T34 T36
@@ -1505,12 +1732,19 @@ module _ (claims· : Claims) where
       Syntax.w16)) (Syntax.tyRef Syntax.erased Syntax.mut (Syntax.tyInt Syntax.w16)) (λ x. x) (Scalar.oFld 3 (List._∷_ (Syntax.field 1) List.[]) (Syntax.tyInt Syntax.w64) 8 λ v. Shared.lenV (v .0))
 
   abbrev s37 : (bs : List.List Nat.ℕ) → Typed.Both T40 T41
-  s37 = λ bs. Call.callB ps·5 r·5 (claims· .10) (claims· .11) T40
-      (record { pos = 1; ty = Syntax.tyRef (Syntax.named 0) Syntax.imm (Syntax.tyInt Syntax.w8); ref = λ x. x; },
-      (record { pos = 16; st = List.[]; d = 0; at = λ x. x },
-      (record { pos = 32; ty = Syntax.tyRef Syntax.erased Syntax.mut (Syntax.tyInt Syntax.w16); ref = λ x. x; },
-      (record { pos = 20; st = List.[]; d = 0; at = λ x. x },
-      (Num.vAt 15 λ x. x, (record { pos = 19; st = List.[]; d = 0; at = λ x. x }, (record { pos = 7; st = List.[]; d = 0; at = λ x. x }, (Num.vAt 13 λ x. x, tt)))))))) 21 (List._∷_ 0 (List._∷_ 7 List.[]))
+  s37 = λ bs. Call.callB ps·5 r·5 (claims· .10) (claims· .11) T40 (
+    record { pos = 1; ty = Syntax.tyRef (Syntax.named 0) Syntax.imm (Syntax.tyInt Syntax.w8); ref = λ x. x },
+    (
+      record { pos = 16; st = List.[]; d = 0; at = λ x. x },
+      (
+        record { pos = 32; ty = Syntax.tyRef Syntax.erased Syntax.mut (Syntax.tyInt Syntax.w16); ref = λ x. x },
+        (
+          record { pos = 20; st = List.[]; d = 0; at = λ x. x },
+          (Num.vAt 15 λ x. x, (record { pos = 19; st = List.[]; d = 0; at = λ x. x }, (record { pos = 7; st = List.[]; d = 0; at = λ x. x }, (Num.vAt 13 λ x. x, tt)))),
+        ),
+      ),
+    ),
+  ) 21 (List._∷_ 0 (List._∷_ 7 List.[]))
       y10
 
   abbrev s38 : (bs : List.List Nat.ℕ) → Typed.Mo T41 → Typed.Mo T42
@@ -1583,7 +1817,7 @@ module _ (claims· : Claims) where
   abbrev s62 : (bs : List.List Nat.ℕ) → Typed.Both T51 T67
   s62 = λ bs. WayStmt.k-way-copy-out T51 (Row.out 21 (T51 .locals)) (λ u. Row.drop 21 (T51 .locals) u) 23 (Rows'.whole (Declared'.row Set.the-type)) (λ u. At.getAt (Passed.the-type .parts) 2
       (Passed.struct .as-values (u .1 .1 .1 .1 .1 .1 .1 .1 .1 .1 .1 .1 .1 .1 .1 .1 .1 .1 .1 .1 .1 .0))) (λ T′. record
-      { locals = Row.setRow 21 (21, Rows'.whole (Declared'.row Passed.the-type)) T′; slots = List.[]; }) (λ u T′ m′. Row.set 21 (21, Rows'.whole (Declared'.row Passed.the-type)) (u .1 .1 .1 .1 .1 .1 .1 .1
+      { locals = Row.setRow 21 (21, Rows'.whole (Declared'.row Passed.the-type)) T′; slots = List.[] }) (λ u T′ m′. Row.set 21 (21, Rows'.whole (Declared'.row Passed.the-type)) (u .1 .1 .1 .1 .1 .1 .1 .1
       .1 .1 .1 .1 .1 .1 .1 .1 .1 .1 .1 .1 .1 .0) T′ m′) (λ u. Unit) λ u. Unit
 
   abbrev s64 : (bs : List.List Nat.ℕ) → Typed.Gives T67 T69
@@ -1594,9 +1828,10 @@ module _ (claims· : Claims) where
       Element.behind) (λ x. x) (Scalar.oFld 4 (List._∷_ (Syntax.field 1) List.[]) (Syntax.tyInt Syntax.w64) 8 λ v. Shared.lenV (v .0))
 
   abbrev s66 : (bs : List.List Nat.ℕ) → Typed.Both T70 T71
-  s66 = λ bs. Call.callB ps·6 r·6 (claims· .12) (claims· .13) T70
-      (record { pos = 34; ty = Syntax.tyRef Syntax.erased Syntax.mut Element.behind; ref = λ x. x; },
-      (Num.vFld 18 (List._∷_ (Syntax.field 2) List.[]) 16 λ x. Plan.struct .as-values x .1 .1 .0, (record { pos = 23; st = List.[]; d = 0; at = λ x. x }, tt))) 26 (List._∷_ 8 List.[]) Syntax.tyUnit
+  s66 = λ bs. Call.callB ps·6 r·6 (claims· .12) (claims· .13) T70 (
+    record { pos = 34; ty = Syntax.tyRef Syntax.erased Syntax.mut Element.behind; ref = λ x. x },
+    (Num.vFld 18 (List._∷_ (Syntax.field 2) List.[]) 16 λ x. Plan.struct .as-values x .1 .1 .0, (record { pos = 23; st = List.[]; d = 0; at = λ x. x }, tt)),
+  ) 26 (List._∷_ 8 List.[]) Syntax.tyUnit
 
   abbrev s67 : (bs : List.List Nat.ℕ) → Typed.Mo T71 → Typed.Mo T72
   s67 = λ bs. Scalar.n-room T71 18 y1
@@ -1613,7 +1848,7 @@ module _ (claims· : Claims) where
   abbrev s73 : (bs : List.List Nat.ℕ) → Typed.Both T76 T78
   s73 = λ bs. WayStmt.k-way-copy-out T76 (Row.out 21 (T76 .locals)) (λ u. Row.drop 21 (T76 .locals) u) 16 (Rows'.whole (Declared'.row Place.the-type)) (λ u. At.getAt (Passed.the-type .parts) 1
       (Passed.struct .as-values (u .1 .1 .1 .1 .1 .1 .1 .1 .1 .1 .1 .1 .1 .1 .1 .1 .1 .1 .1 .1 .1 .0))) (λ T′. record
-      { locals = Row.setRow 21 (21, Rows'.whole (Declared'.row Passed.the-type)) T′; slots = List.[]; }) (λ u T′ m′. Row.set 21 (21, Rows'.whole (Declared'.row Passed.the-type)) (u .1 .1 .1 .1 .1 .1 .1 .1
+      { locals = Row.setRow 21 (21, Rows'.whole (Declared'.row Passed.the-type)) T′; slots = List.[] }) (λ u T′ m′. Row.set 21 (21, Rows'.whole (Declared'.row Passed.the-type)) (u .1 .1 .1 .1 .1 .1 .1 .1
       .1 .1 .1 .1 .1 .1 .1 .1 .1 .1 .1 .1 .1 .0) T′ m′) (λ u. Unit) λ u. Unit
 
   abbrev s74 : (bs : List.List Nat.ℕ) → Typed.Mo T78 → Typed.Mo T79
@@ -1636,13 +1871,22 @@ module _ (claims· : Claims) where
       Syntax.w16)) (Syntax.tyRef Syntax.erased Syntax.mut (Syntax.tyInt Syntax.w16)) (λ x. x) (Scalar.oFld 5 (List._∷_ (Syntax.field 1) List.[]) (Syntax.tyInt Syntax.w64) 8 λ v. Shared.lenV (v .0))
 
   abbrev s81 : (bs : List.List Nat.ℕ) → Typed.Both T85 T86
-  s81 = λ bs. Call.callB ps·7 r·7 (claims· .14) (claims· .15) T85
-      (record { pos = 36; ty = Syntax.tyRef Syntax.erased Syntax.imm (Syntax.tyInt Syntax.w16); ref = λ x. x; },
-      (record { pos = 38; ty = Syntax.tyRef Syntax.erased Syntax.mut (Syntax.tyInt Syntax.w16); ref = λ x. x; },
-      (Num.vAt 15 λ x. x,
-      (Bool.bAt 14 λ x. x,
-      (record { pos = 8; ty = Syntax.tyRef (Syntax.named 4) Syntax.imm (Syntax.tyArray (Syntax.tyInt Syntax.w16) 768); ref = λ x. x; },
-      (record { pos = 9; st = List.[]; d = 0; at = λ x. x }, (record { pos = 10; st = List.[]; d = 0; at = λ x. x }, (Num.vAt 11 λ x. x, (Num.vAt 17 λ x. x, (Bool.bAt 12 λ x. x, tt)))))))))) 26 (List._∷_
+  s81 = λ bs. Call.callB ps·7 r·7 (claims· .14) (claims· .15) T85 (
+    record { pos = 36; ty = Syntax.tyRef Syntax.erased Syntax.imm (Syntax.tyInt Syntax.w16); ref = λ x. x },
+    (
+      record { pos = 38; ty = Syntax.tyRef Syntax.erased Syntax.mut (Syntax.tyInt Syntax.w16); ref = λ x. x },
+      (
+        Num.vAt 15 λ x. x,
+        (
+          Bool.bAt 14 λ x. x,
+          (
+            record { pos = 8; ty = Syntax.tyRef (Syntax.named 4) Syntax.imm (Syntax.tyArray (Syntax.tyInt Syntax.w16) 768); ref = λ x. x },
+            (record { pos = 9; st = List.[]; d = 0; at = λ x. x }, (record { pos = 10; st = List.[]; d = 0; at = λ x. x }, (Num.vAt 11 λ x. x, (Num.vAt 17 λ x. x, (Bool.bAt 12 λ x. x, tt))))),
+          ),
+        ),
+      ),
+    ),
+  ) 26 (List._∷_
       9 (List._∷_ 10 (List._∷_ 4 List.[]))) Syntax.tyUnit
 
   abbrev s82 : (bs : List.List Nat.ℕ) → Typed.Mo T86 → Typed.Mo T87
@@ -1670,12 +1914,12 @@ module _ (claims· : Claims) where
 
   abbrev s93 : (bs : List.List Nat.ℕ) → Typed.Both T12 T98
   s93 = λ bs. WayStmt.k-way-copy-out T12 (Row.out 16 (T12 .locals)) (λ u. Row.drop 16 (T12 .locals) u) 24 (Rows'.whole (Declared'.row BitPosition.the-type)) (λ u. At.getAt (Place.the-type .parts) 0
-      (Place.struct .as-values (u .1 .1 .1 .1 .1 .1 .1 .1 .1 .1 .1 .1 .1 .1 .1 .1 .0))) (λ T′. record { locals = Row.setRow 16 (16, Rows'.whole (Declared'.row Place.the-type)) T′; slots = List.[]; }) (λ u
+      (Place.struct .as-values (u .1 .1 .1 .1 .1 .1 .1 .1 .1 .1 .1 .1 .1 .1 .1 .1 .0))) (λ T′. record { locals = Row.setRow 16 (16, Rows'.whole (Declared'.row Place.the-type)) T′; slots = List.[] }) (λ u
       T′ m′. Row.set 16 (16, Rows'.whole (Declared'.row Place.the-type)) (u .1 .1 .1 .1 .1 .1 .1 .1 .1 .1 .1 .1 .1 .1 .1 .1 .0) T′ m′) (λ u. Unit) λ u. Unit
 
   abbrev s94 : (bs : List.List Nat.ℕ) → Typed.Both T98 T99
   s94 = λ bs. Call.callB ps·8 r·8 (claims· .16) (claims· .17) T98
-      (record { pos = 1; ty = Syntax.tyRef (Syntax.named 0) Syntax.imm (Syntax.tyInt Syntax.w8); ref = λ x. x; }, (record { pos = 24; st = List.[]; d = 0; at = λ x. x }, tt)) 39 (List._∷_ 0 List.[])
+      (record { pos = 1; ty = Syntax.tyRef (Syntax.named 0) Syntax.imm (Syntax.tyInt Syntax.w8); ref = λ x. x }, (record { pos = 24; st = List.[]; d = 0; at = λ x. x }, tt)) 39 (List._∷_ 0 List.[])
       Syntax.tyBool
 
   abbrev s95 : (bs : List.List Nat.ℕ) → Typed.Mo T99 → Typed.Mo T101
@@ -1739,10 +1983,10 @@ module _ (claims· : Claims) where
       Place.the-type) .Mod × Rows'.sc-here (Row.sInt Syntax.w64) .Mod → Typed.Mo T11 → Typed.Mo T11
   put0 = λ vs u. Row.set 17 (17, Rows'.sc-here (Row.sInt Syntax.w64)) (vs .4) (T11 .locals) (Row.set 16 (16, Rows'.whole (Declared'.row Place.the-type)) (vs .3) (T11 .locals) (Row.set 5
       (5, Mut.mslice (Referent.rtF (Referent.fInt Syntax.w16)) (Syntax.tyRef (Syntax.named 3) Syntax.mut (Syntax.tyInt Syntax.w16)) 3) record
-      { ptr = Row.get 5 (T11 .locals) u .ptr; name = Row.get 5 (T11 .locals) u .name; now = vs .2; } (T11 .locals) (Row.set 4
-      (4, Mut.mslice (Element.type) (Syntax.tyRef (Syntax.named 2) Syntax.mut Element.behind) 2) record { ptr = Row.get 4 (T11 .locals) u .ptr; name = Row.get 4 (T11 .locals) u .name; now = vs .1; } (T11
+      { ptr = Row.get 5 (T11 .locals) u .ptr; name = Row.get 5 (T11 .locals) u .name; now = vs .2 } (T11 .locals) (Row.set 4
+      (4, Mut.mslice (Element.type) (Syntax.tyRef (Syntax.named 2) Syntax.mut Element.behind) 2) record { ptr = Row.get 4 (T11 .locals) u .ptr; name = Row.get 4 (T11 .locals) u .name; now = vs .1 } (T11
       .locals) (Row.set 3 (3, Mut.mslice (Referent.rtF (Referent.fInt Syntax.w16)) (Syntax.tyRef (Syntax.named 1) Syntax.mut (Syntax.tyInt Syntax.w16)) 1) record
-      { ptr = Row.get 3 (T11 .locals) u .ptr; name = Row.get 3 (T11 .locals) u .name; now = vs .0; } (T11 .locals) u))))
+      { ptr = Row.get 3 (T11 .locals) u .ptr; name = Row.get 3 (T11 .locals) u .name; now = vs .0 } (T11 .locals) u))))
 
   module _ (Pre· : (κs : Lifetimes.Lfts 5) → Kinds.Dens κs ps → Type 0) (Post· : (κs : Lifetimes.Lfts 5) → (a : Kinds.Dens κs ps) → Kinds.Plain 5 ps r κs) where
     module _ (M : Type 1) where
@@ -2197,718 +2441,958 @@ module _ (claims· : Claims) where
             (List._∷_ e59 (List._∷_ e62 (List._∷_ e63 (List._∷_ e65 (List._∷_ e4 (List._∷_ e6 (List._∷_ e8 (List._∷_ e10 (List._∷_ e12 (List._∷_ e14 List.[])))))))))))))))
 
         abbrev G0 : Row.Cx
-        G0 = record
-            { locals = List._++_ t0 (List._++_ t1 t2); slots = List._∷_ (Row.lease (κs .0) (qs .0)) (List._∷_ (Row.lease (κs .1 .0) (qs .1 .0)) (List._∷_ (Row.lease (κs .1 .1 .0) (qs .1 .1 .0)) (List._∷_
-            (Row.lease (κs .1 .1 .1 .0) (qs .1 .1 .1 .0)) (List._∷_ (Row.lease (κs .1 .1 .1 .1 .0) (qs .1 .1 .1 .1 .0)) (List._∷_ Row.off (List._∷_ Row.off (List._∷_ Row.off (List._∷_ Row.off (List._∷_
-            Row.off (List._∷_ Row.off List.[])))))))))); }
+        G0 = record {
+          locals = List._++_ t0 (List._++_ t1 t2);
+          slots = List._∷_ (Row.lease (κs .0) (qs .0)) (List._∷_ (Row.lease (κs .1 .0) (qs .1 .0)) (List._∷_ (Row.lease (κs .1 .1 .0) (qs .1 .1 .0)) (List._∷_
+              (Row.lease (κs .1 .1 .1 .0) (qs .1 .1 .1 .0)) (List._∷_ (Row.lease (κs .1 .1 .1 .1 .0) (qs .1 .1 .1 .1 .0)) (List._∷_ Row.off (List._∷_ Row.off (List._∷_ Row.off (List._∷_ Row.off (List._∷_
+              Row.off (List._∷_ Row.off List.[]))))))))));
+        }
 
         abbrev G1 : Row.Cx
-        G1 = record
-            { locals = List._++_ t3 (List._++_ t1 t2); slots = List._∷_ (Row.lease (κs .0) (qs .0)) (List._∷_ (Row.lease (κs .1 .0) (qs .1 .0)) (List._∷_ (Row.lease (κs .1 .1 .0) (qs .1 .1 .0)) (List._∷_
-            (Row.lease (κs .1 .1 .1 .0) (qs .1 .1 .1 .0)) (List._∷_ (Row.lease (κs .1 .1 .1 .1 .0) (qs .1 .1 .1 .1 .0)) (List._∷_ Row.off (List._∷_ Row.off (List._∷_ Row.off (List._∷_ Row.off (List._∷_
-            Row.off (List._∷_ Row.off List.[])))))))))); }
+        G1 = record {
+          locals = List._++_ t3 (List._++_ t1 t2);
+          slots = List._∷_ (Row.lease (κs .0) (qs .0)) (List._∷_ (Row.lease (κs .1 .0) (qs .1 .0)) (List._∷_ (Row.lease (κs .1 .1 .0) (qs .1 .1 .0)) (List._∷_
+              (Row.lease (κs .1 .1 .1 .0) (qs .1 .1 .1 .0)) (List._∷_ (Row.lease (κs .1 .1 .1 .1 .0) (qs .1 .1 .1 .1 .0)) (List._∷_ Row.off (List._∷_ Row.off (List._∷_ Row.off (List._∷_ Row.off (List._∷_
+              Row.off (List._∷_ Row.off List.[]))))))))));
+        }
 
         abbrev G2 : Row.Cx
-        G2 = record
-            { locals = List._++_ t0 (List._++_ t1 t2); slots = List._∷_ (Row.lease (κs .0) (qs .0)) (List._∷_ (Row.lease (κs .1 .0) (qs .1 .0)) (List._∷_ (Row.lease (κs .1 .1 .0) (qs .1 .1 .0)) (List._∷_
-            (Row.lease (κs .1 .1 .1 .0) (qs .1 .1 .1 .0)) (List._∷_ (Row.lease (κs .1 .1 .1 .1 .0) (qs .1 .1 .1 .1 .0)) (List._∷_ Row.off (List._∷_ Row.off (List._∷_ Row.off (List._∷_ Row.off (List._∷_
-            Row.off (List._∷_ Row.off List.[])))))))))); }
+        G2 = record {
+          locals = List._++_ t0 (List._++_ t1 t2);
+          slots = List._∷_ (Row.lease (κs .0) (qs .0)) (List._∷_ (Row.lease (κs .1 .0) (qs .1 .0)) (List._∷_ (Row.lease (κs .1 .1 .0) (qs .1 .1 .0)) (List._∷_
+              (Row.lease (κs .1 .1 .1 .0) (qs .1 .1 .1 .0)) (List._∷_ (Row.lease (κs .1 .1 .1 .1 .0) (qs .1 .1 .1 .1 .0)) (List._∷_ Row.off (List._∷_ Row.off (List._∷_ Row.off (List._∷_ Row.off (List._∷_
+              Row.off (List._∷_ Row.off List.[]))))))))));
+        }
 
         abbrev G3 : Row.Cx
-        G3 = record
-            { locals = List._++_ t0 (List._++_ t1 t2); slots = List._∷_ (Row.lease (κs .0) (qs .0)) (List._∷_ (Row.lease (κs .1 .0) (qs .1 .0)) (List._∷_ (Row.lease (κs .1 .1 .0) (qs .1 .1 .0)) (List._∷_
-            (Row.lease (κs .1 .1 .1 .0) (qs .1 .1 .1 .0)) (List._∷_ (Row.lease (κs .1 .1 .1 .1 .0) (qs .1 .1 .1 .1 .0)) (List._∷_ Row.off (List._∷_ Row.off (List._∷_ Row.off (List._∷_ Row.off (List._∷_
-            Row.off (List._∷_ Row.off List.[])))))))))); }
+        G3 = record {
+          locals = List._++_ t0 (List._++_ t1 t2);
+          slots = List._∷_ (Row.lease (κs .0) (qs .0)) (List._∷_ (Row.lease (κs .1 .0) (qs .1 .0)) (List._∷_ (Row.lease (κs .1 .1 .0) (qs .1 .1 .0)) (List._∷_
+              (Row.lease (κs .1 .1 .1 .0) (qs .1 .1 .1 .0)) (List._∷_ (Row.lease (κs .1 .1 .1 .1 .0) (qs .1 .1 .1 .1 .0)) (List._∷_ Row.off (List._∷_ Row.off (List._∷_ Row.off (List._∷_ Row.off (List._∷_
+              Row.off (List._∷_ Row.off List.[]))))))))));
+        }
 
         abbrev G4 : Row.Cx
-        G4 = record
-            { locals = List._++_ t0 (List._++_ t1 t2); slots = List._∷_ (Row.lease (κs .0) (qs .0)) (List._∷_ (Row.lease (κs .1 .0) (qs .1 .0)) (List._∷_ (Row.lease (κs .1 .1 .0) (qs .1 .1 .0)) (List._∷_
-            (Row.lease (κs .1 .1 .1 .0) (qs .1 .1 .1 .0)) (List._∷_ (Row.lease (κs .1 .1 .1 .1 .0) (qs .1 .1 .1 .1 .0)) (List._∷_ Row.off (List._∷_ Row.off (List._∷_ Row.off (List._∷_ Row.off (List._∷_
-            Row.off (List._∷_ Row.off List.[])))))))))); }
+        G4 = record {
+          locals = List._++_ t0 (List._++_ t1 t2);
+          slots = List._∷_ (Row.lease (κs .0) (qs .0)) (List._∷_ (Row.lease (κs .1 .0) (qs .1 .0)) (List._∷_ (Row.lease (κs .1 .1 .0) (qs .1 .1 .0)) (List._∷_
+              (Row.lease (κs .1 .1 .1 .0) (qs .1 .1 .1 .0)) (List._∷_ (Row.lease (κs .1 .1 .1 .1 .0) (qs .1 .1 .1 .1 .0)) (List._∷_ Row.off (List._∷_ Row.off (List._∷_ Row.off (List._∷_ Row.off (List._∷_
+              Row.off (List._∷_ Row.off List.[]))))))))));
+        }
 
         abbrev G5 : Row.Cx
-        G5 = record
-            { locals = List._++_ t4 (List._++_ t1 t2); slots = List._∷_ (Row.lease (κs .0) (qs .0)) (List._∷_ (Row.lease (κs .1 .0) (qs .1 .0)) (List._∷_ (Row.lease (κs .1 .1 .0) (qs .1 .1 .0)) (List._∷_
-            (Row.lease (κs .1 .1 .1 .0) (qs .1 .1 .1 .0)) (List._∷_ (Row.lease (κs .1 .1 .1 .1 .0) (qs .1 .1 .1 .1 .0)) (List._∷_ Row.off (List._∷_ Row.off (List._∷_ Row.off (List._∷_ Row.off (List._∷_
-            Row.off (List._∷_ Row.off List.[])))))))))); }
+        G5 = record {
+          locals = List._++_ t4 (List._++_ t1 t2);
+          slots = List._∷_ (Row.lease (κs .0) (qs .0)) (List._∷_ (Row.lease (κs .1 .0) (qs .1 .0)) (List._∷_ (Row.lease (κs .1 .1 .0) (qs .1 .1 .0)) (List._∷_
+              (Row.lease (κs .1 .1 .1 .0) (qs .1 .1 .1 .0)) (List._∷_ (Row.lease (κs .1 .1 .1 .1 .0) (qs .1 .1 .1 .1 .0)) (List._∷_ Row.off (List._∷_ Row.off (List._∷_ Row.off (List._∷_ Row.off (List._∷_
+              Row.off (List._∷_ Row.off List.[]))))))))));
+        }
 
         abbrev G6 : Row.Cx
-        G6 = record
-            { locals = List._++_ t5 (List._++_ t1 t2); slots = List._∷_ (Row.lease (κs .0) (qs .0)) (List._∷_ (Row.lease (κs .1 .0) (qs .1 .0)) (List._∷_ (Row.lease (κs .1 .1 .0) (qs .1 .1 .0)) (List._∷_
-            (Row.lease (κs .1 .1 .1 .0) (qs .1 .1 .1 .0)) (List._∷_ (Row.lease (κs .1 .1 .1 .1 .0) (qs .1 .1 .1 .1 .0)) (List._∷_ Row.off (List._∷_ Row.off (List._∷_ Row.off (List._∷_ Row.off (List._∷_
-            Row.off (List._∷_ Row.off List.[])))))))))); }
+        G6 = record {
+          locals = List._++_ t5 (List._++_ t1 t2);
+          slots = List._∷_ (Row.lease (κs .0) (qs .0)) (List._∷_ (Row.lease (κs .1 .0) (qs .1 .0)) (List._∷_ (Row.lease (κs .1 .1 .0) (qs .1 .1 .0)) (List._∷_
+              (Row.lease (κs .1 .1 .1 .0) (qs .1 .1 .1 .0)) (List._∷_ (Row.lease (κs .1 .1 .1 .1 .0) (qs .1 .1 .1 .1 .0)) (List._∷_ Row.off (List._∷_ Row.off (List._∷_ Row.off (List._∷_ Row.off (List._∷_
+              Row.off (List._∷_ Row.off List.[]))))))))));
+        }
 
         abbrev G7 : Row.Cx
-        G7 = record
-            { locals = List._++_ t6 (List._++_ t1 t2); slots = List._∷_ (Row.lease (κs .0) (qs .0)) (List._∷_ (Row.lease (κs .1 .0) (qs .1 .0)) (List._∷_ (Row.lease (κs .1 .1 .0) (qs .1 .1 .0)) (List._∷_
-            (Row.lease (κs .1 .1 .1 .0) (qs .1 .1 .1 .0)) (List._∷_ (Row.lease (κs .1 .1 .1 .1 .0) (qs .1 .1 .1 .1 .0)) (List._∷_ Row.off (List._∷_ Row.off (List._∷_ Row.off (List._∷_ Row.off (List._∷_
-            Row.off (List._∷_ Row.off List.[])))))))))); }
+        G7 = record {
+          locals = List._++_ t6 (List._++_ t1 t2);
+          slots = List._∷_ (Row.lease (κs .0) (qs .0)) (List._∷_ (Row.lease (κs .1 .0) (qs .1 .0)) (List._∷_ (Row.lease (κs .1 .1 .0) (qs .1 .1 .0)) (List._∷_
+              (Row.lease (κs .1 .1 .1 .0) (qs .1 .1 .1 .0)) (List._∷_ (Row.lease (κs .1 .1 .1 .1 .0) (qs .1 .1 .1 .1 .0)) (List._∷_ Row.off (List._∷_ Row.off (List._∷_ Row.off (List._∷_ Row.off (List._∷_
+              Row.off (List._∷_ Row.off List.[]))))))))));
+        }
 
         abbrev G8 : Row.Cx
-        G8 = record
-            { locals = List._++_ t7 (List._++_ t1 t2); slots = List._∷_ (Row.lease (κs .0) (qs .0)) (List._∷_ (Row.lease (κs .1 .0) (qs .1 .0)) (List._∷_ (Row.lease (κs .1 .1 .0) (qs .1 .1 .0)) (List._∷_
-            (Row.lease (κs .1 .1 .1 .0) (qs .1 .1 .1 .0)) (List._∷_ (Row.lease (κs .1 .1 .1 .1 .0) (qs .1 .1 .1 .1 .0)) (List._∷_ Row.off (List._∷_ Row.off (List._∷_ Row.off (List._∷_ Row.off (List._∷_
-            Row.off (List._∷_ Row.off List.[])))))))))); }
+        G8 = record {
+          locals = List._++_ t7 (List._++_ t1 t2);
+          slots = List._∷_ (Row.lease (κs .0) (qs .0)) (List._∷_ (Row.lease (κs .1 .0) (qs .1 .0)) (List._∷_ (Row.lease (κs .1 .1 .0) (qs .1 .1 .0)) (List._∷_
+              (Row.lease (κs .1 .1 .1 .0) (qs .1 .1 .1 .0)) (List._∷_ (Row.lease (κs .1 .1 .1 .1 .0) (qs .1 .1 .1 .1 .0)) (List._∷_ Row.off (List._∷_ Row.off (List._∷_ Row.off (List._∷_ Row.off (List._∷_
+              Row.off (List._∷_ Row.off List.[]))))))))));
+        }
 
         abbrev G9 : Row.Cx
-        G9 = record
-            { locals = List._++_ t7 (List._++_ t8 t2); slots = List._∷_ (Row.lease (κs .0) (qs .0)) (List._∷_ (Row.lease (κs .1 .0) (qs .1 .0)) (List._∷_ (Row.lease (κs .1 .1 .0) (qs .1 .1 .0)) (List._∷_
-            (Row.lease (κs .1 .1 .1 .0) (qs .1 .1 .1 .0)) (List._∷_ (Row.lease (κs .1 .1 .1 .1 .0) (qs .1 .1 .1 .1 .0)) (List._∷_ Row.off (List._∷_ Row.off (List._∷_ Row.off (List._∷_ Row.off (List._∷_
-            Row.off (List._∷_ Row.off List.[])))))))))); }
+        G9 = record {
+          locals = List._++_ t7 (List._++_ t8 t2);
+          slots = List._∷_ (Row.lease (κs .0) (qs .0)) (List._∷_ (Row.lease (κs .1 .0) (qs .1 .0)) (List._∷_ (Row.lease (κs .1 .1 .0) (qs .1 .1 .0)) (List._∷_
+              (Row.lease (κs .1 .1 .1 .0) (qs .1 .1 .1 .0)) (List._∷_ (Row.lease (κs .1 .1 .1 .1 .0) (qs .1 .1 .1 .1 .0)) (List._∷_ Row.off (List._∷_ Row.off (List._∷_ Row.off (List._∷_ Row.off (List._∷_
+              Row.off (List._∷_ Row.off List.[]))))))))));
+        }
 
         abbrev G10 : Row.Cx
-        G10 = record
-            { locals = List._++_ t9 (List._++_ t8 t2); slots = List._∷_ (Row.lease (κs .0) (qs .0)) (List._∷_ (Row.lease (κs .1 .0) (qs .1 .0)) (List._∷_ (Row.lease (κs .1 .1 .0) (qs .1 .1 .0)) (List._∷_
-            (Row.lease (κs .1 .1 .1 .0) (qs .1 .1 .1 .0)) (List._∷_ (Row.lease (κs .1 .1 .1 .1 .0) (qs .1 .1 .1 .1 .0)) (List._∷_ Row.off (List._∷_ Row.off (List._∷_ Row.off (List._∷_ Row.off (List._∷_
-            Row.off (List._∷_ Row.off List.[])))))))))); }
+        G10 = record {
+          locals = List._++_ t9 (List._++_ t8 t2);
+          slots = List._∷_ (Row.lease (κs .0) (qs .0)) (List._∷_ (Row.lease (κs .1 .0) (qs .1 .0)) (List._∷_ (Row.lease (κs .1 .1 .0) (qs .1 .1 .0)) (List._∷_
+              (Row.lease (κs .1 .1 .1 .0) (qs .1 .1 .1 .0)) (List._∷_ (Row.lease (κs .1 .1 .1 .1 .0) (qs .1 .1 .1 .1 .0)) (List._∷_ Row.off (List._∷_ Row.off (List._∷_ Row.off (List._∷_ Row.off (List._∷_
+              Row.off (List._∷_ Row.off List.[]))))))))));
+        }
 
         abbrev G11 : Row.Cx
-        G11 = record
-            { locals = List._++_ t9 (List._++_ t10 t2); slots = List._∷_ (Row.lease (κs .0) (qs .0)) (List._∷_ (Row.lease (κs .1 .0) (qs .1 .0)) (List._∷_ (Row.lease (κs .1 .1 .0) (qs .1 .1 .0)) (List._∷_
-            (Row.lease (κs .1 .1 .1 .0) (qs .1 .1 .1 .0)) (List._∷_ (Row.lease (κs .1 .1 .1 .1 .0) (qs .1 .1 .1 .1 .0)) (List._∷_ Row.off (List._∷_ Row.off (List._∷_ Row.off (List._∷_ Row.off (List._∷_
-            Row.off (List._∷_ Row.off List.[])))))))))); }
+        G11 = record {
+          locals = List._++_ t9 (List._++_ t10 t2);
+          slots = List._∷_ (Row.lease (κs .0) (qs .0)) (List._∷_ (Row.lease (κs .1 .0) (qs .1 .0)) (List._∷_ (Row.lease (κs .1 .1 .0) (qs .1 .1 .0)) (List._∷_
+              (Row.lease (κs .1 .1 .1 .0) (qs .1 .1 .1 .0)) (List._∷_ (Row.lease (κs .1 .1 .1 .1 .0) (qs .1 .1 .1 .1 .0)) (List._∷_ Row.off (List._∷_ Row.off (List._∷_ Row.off (List._∷_ Row.off (List._∷_
+              Row.off (List._∷_ Row.off List.[]))))))))));
+        }
 
         abbrev G12 : Row.Cx
-        G12 = record
-            { locals = List._++_ t11 (List._++_ t10 t2); slots = List._∷_ (Row.lease (κs .0) (qs .0)) (List._∷_ (Row.lease (κs .1 .0) (qs .1 .0)) (List._∷_ (Row.lease (κs .1 .1 .0) (qs .1 .1 .0))
-            (List._∷_ (Row.lease (κs .1 .1 .1 .0) (qs .1 .1 .1 .0)) (List._∷_ (Row.lease (κs .1 .1 .1 .1 .0) (qs .1 .1 .1 .1 .0)) (List._∷_ Row.off (List._∷_ Row.off (List._∷_ Row.off (List._∷_ Row.off
-            (List._∷_ Row.off (List._∷_ Row.off List.[])))))))))); }
+        G12 = record {
+          locals = List._++_ t11 (List._++_ t10 t2);
+          slots = List._∷_ (Row.lease (κs .0) (qs .0)) (List._∷_ (Row.lease (κs .1 .0) (qs .1 .0)) (List._∷_ (Row.lease (κs .1 .1 .0) (qs .1 .1 .0))
+              (List._∷_ (Row.lease (κs .1 .1 .1 .0) (qs .1 .1 .1 .0)) (List._∷_ (Row.lease (κs .1 .1 .1 .1 .0) (qs .1 .1 .1 .1 .0)) (List._∷_ Row.off (List._∷_ Row.off (List._∷_ Row.off (List._∷_ Row.off
+              (List._∷_ Row.off (List._∷_ Row.off List.[]))))))))));
+        }
 
         abbrev G13 : Row.Cx
-        G13 = record
-            { locals = List._++_ t9 (List._++_ t12 t2); slots = List._∷_ (Row.lease (κs .0) (qs .0)) (List._∷_ (Row.lease (κs .1 .0) (qs .1 .0)) (List._∷_ (Row.lease (κs .1 .1 .0) (qs .1 .1 .0)) (List._∷_
-            (Row.lease (κs .1 .1 .1 .0) (qs .1 .1 .1 .0)) (List._∷_ (Row.lease (κs .1 .1 .1 .1 .0) (qs .1 .1 .1 .1 .0)) (List._∷_ Row.off (List._∷_ Row.off (List._∷_ Row.off (List._∷_ Row.off (List._∷_
-            Row.off (List._∷_ Row.off List.[])))))))))); }
+        G13 = record {
+          locals = List._++_ t9 (List._++_ t12 t2);
+          slots = List._∷_ (Row.lease (κs .0) (qs .0)) (List._∷_ (Row.lease (κs .1 .0) (qs .1 .0)) (List._∷_ (Row.lease (κs .1 .1 .0) (qs .1 .1 .0)) (List._∷_
+              (Row.lease (κs .1 .1 .1 .0) (qs .1 .1 .1 .0)) (List._∷_ (Row.lease (κs .1 .1 .1 .1 .0) (qs .1 .1 .1 .1 .0)) (List._∷_ Row.off (List._∷_ Row.off (List._∷_ Row.off (List._∷_ Row.off (List._∷_
+              Row.off (List._∷_ Row.off List.[]))))))))));
+        }
 
         abbrev G14 : Row.Cx
-        G14 = record
-            { locals = List._++_ t9 (List._++_ t10 t2); slots = List._∷_ (Row.lease (κs .0) (qs .0)) (List._∷_ (Row.lease (κs .1 .0) (qs .1 .0)) (List._∷_ (Row.lease (κs .1 .1 .0) (qs .1 .1 .0)) (List._∷_
-            (Row.lease (κs .1 .1 .1 .0) (qs .1 .1 .1 .0)) (List._∷_ (Row.lease (κs .1 .1 .1 .1 .0) (qs .1 .1 .1 .1 .0)) (List._∷_ Row.off (List._∷_ Row.off (List._∷_ Row.off (List._∷_ Row.off (List._∷_
-            Row.off (List._∷_ Row.off List.[])))))))))); }
+        G14 = record {
+          locals = List._++_ t9 (List._++_ t10 t2);
+          slots = List._∷_ (Row.lease (κs .0) (qs .0)) (List._∷_ (Row.lease (κs .1 .0) (qs .1 .0)) (List._∷_ (Row.lease (κs .1 .1 .0) (qs .1 .1 .0)) (List._∷_
+              (Row.lease (κs .1 .1 .1 .0) (qs .1 .1 .1 .0)) (List._∷_ (Row.lease (κs .1 .1 .1 .1 .0) (qs .1 .1 .1 .1 .0)) (List._∷_ Row.off (List._∷_ Row.off (List._∷_ Row.off (List._∷_ Row.off (List._∷_
+              Row.off (List._∷_ Row.off List.[]))))))))));
+        }
 
         abbrev G15 : Row.Cx
-        G15 = record
-            { locals = List._++_ t9 (List._++_ t10 t2); slots = List._∷_ (Row.lease (κs .0) (qs .0)) (List._∷_ (Row.lease (κs .1 .0) (qs .1 .0)) (List._∷_ (Row.lease (κs .1 .1 .0) (qs .1 .1 .0)) (List._∷_
-            (Row.lease (κs .1 .1 .1 .0) (qs .1 .1 .1 .0)) (List._∷_ (Row.lease (κs .1 .1 .1 .1 .0) (qs .1 .1 .1 .1 .0)) (List._∷_ Row.off (List._∷_ Row.off (List._∷_ Row.off (List._∷_ Row.off (List._∷_
-            Row.off (List._∷_ Row.off List.[])))))))))); }
+        G15 = record {
+          locals = List._++_ t9 (List._++_ t10 t2);
+          slots = List._∷_ (Row.lease (κs .0) (qs .0)) (List._∷_ (Row.lease (κs .1 .0) (qs .1 .0)) (List._∷_ (Row.lease (κs .1 .1 .0) (qs .1 .1 .0)) (List._∷_
+              (Row.lease (κs .1 .1 .1 .0) (qs .1 .1 .1 .0)) (List._∷_ (Row.lease (κs .1 .1 .1 .1 .0) (qs .1 .1 .1 .1 .0)) (List._∷_ Row.off (List._∷_ Row.off (List._∷_ Row.off (List._∷_ Row.off (List._∷_
+              Row.off (List._∷_ Row.off List.[]))))))))));
+        }
 
         abbrev G16 : Row.Cx
-        G16 = record
-            { locals = List._++_ t13 (List._++_ t12 t2); slots = List._∷_ (Row.lease (κs .0) (qs .0)) (List._∷_ (Row.lease (κs .1 .0) (qs .1 .0)) (List._∷_ (Row.lease (κs .1 .1 .0) (qs .1 .1 .0))
-            (List._∷_ (Row.lease (κs .1 .1 .1 .0) (qs .1 .1 .1 .0)) (List._∷_ (Row.lease (κs .1 .1 .1 .1 .0) (qs .1 .1 .1 .1 .0)) (List._∷_ Row.off (List._∷_ Row.off (List._∷_ Row.off (List._∷_ Row.off
-            (List._∷_ Row.off (List._∷_ Row.off List.[])))))))))); }
+        G16 = record {
+          locals = List._++_ t13 (List._++_ t12 t2);
+          slots = List._∷_ (Row.lease (κs .0) (qs .0)) (List._∷_ (Row.lease (κs .1 .0) (qs .1 .0)) (List._∷_ (Row.lease (κs .1 .1 .0) (qs .1 .1 .0))
+              (List._∷_ (Row.lease (κs .1 .1 .1 .0) (qs .1 .1 .1 .0)) (List._∷_ (Row.lease (κs .1 .1 .1 .1 .0) (qs .1 .1 .1 .1 .0)) (List._∷_ Row.off (List._∷_ Row.off (List._∷_ Row.off (List._∷_ Row.off
+              (List._∷_ Row.off (List._∷_ Row.off List.[]))))))))));
+        }
 
         abbrev G17 : Row.Cx
-        G17 = record
-            { locals = List._++_ t14 (List._++_ t12 t2); slots = List._∷_ (Row.lease (κs .0) (qs .0)) (List._∷_ (Row.lease (κs .1 .0) (qs .1 .0)) (List._∷_ (Row.lease (κs .1 .1 .0) (qs .1 .1 .0))
-            (List._∷_ (Row.lease (κs .1 .1 .1 .0) (qs .1 .1 .1 .0)) (List._∷_ (Row.lease (κs .1 .1 .1 .1 .0) (qs .1 .1 .1 .1 .0)) (List._∷_ Row.off (List._∷_ Row.off (List._∷_ Row.off (List._∷_ Row.off
-            (List._∷_ Row.off (List._∷_ Row.off List.[])))))))))); }
+        G17 = record {
+          locals = List._++_ t14 (List._++_ t12 t2);
+          slots = List._∷_ (Row.lease (κs .0) (qs .0)) (List._∷_ (Row.lease (κs .1 .0) (qs .1 .0)) (List._∷_ (Row.lease (κs .1 .1 .0) (qs .1 .1 .0))
+              (List._∷_ (Row.lease (κs .1 .1 .1 .0) (qs .1 .1 .1 .0)) (List._∷_ (Row.lease (κs .1 .1 .1 .1 .0) (qs .1 .1 .1 .1 .0)) (List._∷_ Row.off (List._∷_ Row.off (List._∷_ Row.off (List._∷_ Row.off
+              (List._∷_ Row.off (List._∷_ Row.off List.[]))))))))));
+        }
 
         abbrev G18 : Row.Cx
-        G18 = record
-            { locals = List._++_ t11 (List._++_ t12 t2); slots = List._∷_ (Row.lease (κs .0) (qs .0)) (List._∷_ (Row.lease (κs .1 .0) (qs .1 .0)) (List._∷_ (Row.lease (κs .1 .1 .0) (qs .1 .1 .0))
-            (List._∷_ (Row.lease (κs .1 .1 .1 .0) (qs .1 .1 .1 .0)) (List._∷_ (Row.lease (κs .1 .1 .1 .1 .0) (qs .1 .1 .1 .1 .0)) (List._∷_ Row.off (List._∷_ Row.off (List._∷_ Row.off (List._∷_ Row.off
-            (List._∷_ Row.off (List._∷_ Row.off List.[])))))))))); }
+        G18 = record {
+          locals = List._++_ t11 (List._++_ t12 t2);
+          slots = List._∷_ (Row.lease (κs .0) (qs .0)) (List._∷_ (Row.lease (κs .1 .0) (qs .1 .0)) (List._∷_ (Row.lease (κs .1 .1 .0) (qs .1 .1 .0))
+              (List._∷_ (Row.lease (κs .1 .1 .1 .0) (qs .1 .1 .1 .0)) (List._∷_ (Row.lease (κs .1 .1 .1 .1 .0) (qs .1 .1 .1 .1 .0)) (List._∷_ Row.off (List._∷_ Row.off (List._∷_ Row.off (List._∷_ Row.off
+              (List._∷_ Row.off (List._∷_ Row.off List.[]))))))))));
+        }
 
         abbrev G19 : Row.Cx
-        G19 = record
-            { locals = List._++_ t11 (List._++_ t10 t2); slots = List._∷_ (Row.lease (κs .0) (qs .0)) (List._∷_ (Row.lease (κs .1 .0) (qs .1 .0)) (List._∷_ (Row.lease (κs .1 .1 .0) (qs .1 .1 .0))
-            (List._∷_ (Row.lease (κs .1 .1 .1 .0) (qs .1 .1 .1 .0)) (List._∷_ (Row.lease (κs .1 .1 .1 .1 .0) (qs .1 .1 .1 .1 .0)) (List._∷_ Row.off (List._∷_ Row.off (List._∷_ Row.off (List._∷_ Row.off
-            (List._∷_ Row.off (List._∷_ Row.off List.[])))))))))); }
+        G19 = record {
+          locals = List._++_ t11 (List._++_ t10 t2);
+          slots = List._∷_ (Row.lease (κs .0) (qs .0)) (List._∷_ (Row.lease (κs .1 .0) (qs .1 .0)) (List._∷_ (Row.lease (κs .1 .1 .0) (qs .1 .1 .0))
+              (List._∷_ (Row.lease (κs .1 .1 .1 .0) (qs .1 .1 .1 .0)) (List._∷_ (Row.lease (κs .1 .1 .1 .1 .0) (qs .1 .1 .1 .1 .0)) (List._∷_ Row.off (List._∷_ Row.off (List._∷_ Row.off (List._∷_ Row.off
+              (List._∷_ Row.off (List._∷_ Row.off List.[]))))))))));
+        }
 
         abbrev G20 : Row.Cx
-        G20 = record
-            { locals = List._++_ t9 (List._++_ t15 t2); slots = List._∷_ (Row.lease (κs .0) (qs .0)) (List._∷_ (Row.lease (κs .1 .0) (qs .1 .0)) (List._∷_ (Row.lease (κs .1 .1 .0) (qs .1 .1 .0)) (List._∷_
-            (Row.lease (κs .1 .1 .1 .0) (qs .1 .1 .1 .0)) (List._∷_ (Row.lease (κs .1 .1 .1 .1 .0) (qs .1 .1 .1 .1 .0)) (List._∷_ Row.off (List._∷_ Row.off (List._∷_ Row.off (List._∷_ Row.off (List._∷_
-            Row.off (List._∷_ Row.off List.[])))))))))); }
+        G20 = record {
+          locals = List._++_ t9 (List._++_ t15 t2);
+          slots = List._∷_ (Row.lease (κs .0) (qs .0)) (List._∷_ (Row.lease (κs .1 .0) (qs .1 .0)) (List._∷_ (Row.lease (κs .1 .1 .0) (qs .1 .1 .0)) (List._∷_
+              (Row.lease (κs .1 .1 .1 .0) (qs .1 .1 .1 .0)) (List._∷_ (Row.lease (κs .1 .1 .1 .1 .0) (qs .1 .1 .1 .1 .0)) (List._∷_ Row.off (List._∷_ Row.off (List._∷_ Row.off (List._∷_ Row.off (List._∷_
+              Row.off (List._∷_ Row.off List.[]))))))))));
+        }
 
         abbrev G21 : Row.Cx
-        G21 = record
-            { locals = List._++_ t9 (List._++_ t16 t2); slots = List._∷_ (Row.lease (κs .0) (qs .0)) (List._∷_ (Row.lease (κs .1 .0) (qs .1 .0)) (List._∷_ (Row.lease (κs .1 .1 .0) (qs .1 .1 .0)) (List._∷_
-            (Row.lease (κs .1 .1 .1 .0) (qs .1 .1 .1 .0)) (List._∷_ (Row.lease (κs .1 .1 .1 .1 .0) (qs .1 .1 .1 .1 .0)) (List._∷_ Row.off (List._∷_ Row.off (List._∷_ Row.off (List._∷_ Row.off (List._∷_
-            Row.off (List._∷_ Row.off List.[])))))))))); }
+        G21 = record {
+          locals = List._++_ t9 (List._++_ t16 t2);
+          slots = List._∷_ (Row.lease (κs .0) (qs .0)) (List._∷_ (Row.lease (κs .1 .0) (qs .1 .0)) (List._∷_ (Row.lease (κs .1 .1 .0) (qs .1 .1 .0)) (List._∷_
+              (Row.lease (κs .1 .1 .1 .0) (qs .1 .1 .1 .0)) (List._∷_ (Row.lease (κs .1 .1 .1 .1 .0) (qs .1 .1 .1 .1 .0)) (List._∷_ Row.off (List._∷_ Row.off (List._∷_ Row.off (List._∷_ Row.off (List._∷_
+              Row.off (List._∷_ Row.off List.[]))))))))));
+        }
 
         abbrev G22 : Row.Cx
-        G22 = record
-            { locals = List._++_ t9 (List._++_ t16 t2); slots = List._∷_ (Row.lease (κs .0) (qs .0)) (List._∷_ (Row.lease (κs .1 .0) (qs .1 .0)) (List._∷_ (Row.lease (κs .1 .1 .0) (qs .1 .1 .0)) (List._∷_
-            (Row.lease (κs .1 .1 .1 .0) (qs .1 .1 .1 .0)) (List._∷_ (Row.lease (κs .1 .1 .1 .1 .0) (qs .1 .1 .1 .1 .0)) (List._∷_ Row.alive (List._∷_ Row.off (List._∷_ Row.off (List._∷_ Row.off (List._∷_
-            Row.off (List._∷_ Row.off List.[])))))))))); }
+        G22 = record {
+          locals = List._++_ t9 (List._++_ t16 t2);
+          slots = List._∷_ (Row.lease (κs .0) (qs .0)) (List._∷_ (Row.lease (κs .1 .0) (qs .1 .0)) (List._∷_ (Row.lease (κs .1 .1 .0) (qs .1 .1 .0)) (List._∷_
+              (Row.lease (κs .1 .1 .1 .0) (qs .1 .1 .1 .0)) (List._∷_ (Row.lease (κs .1 .1 .1 .1 .0) (qs .1 .1 .1 .1 .0)) (List._∷_ Row.alive (List._∷_ Row.off (List._∷_ Row.off (List._∷_ Row.off (List._∷_
+              Row.off (List._∷_ Row.off List.[]))))))))));
+        }
 
         abbrev G23 : Row.Cx
-        G23 = record
-            { locals = List._++_ g17 (List._++_ t18 t2); slots = List._∷_ (Row.lease (κs .0) (qs .0)) (List._∷_ Row.off (List._∷_ (Row.lease (κs .1 .1 .0) (qs .1 .1 .0)) (List._∷_ (Row.lease (κs .1 .1 .1
-            .0) (qs .1 .1 .1 .0)) (List._∷_ (Row.lease (κs .1 .1 .1 .1 .0) (qs .1 .1 .1 .1 .0)) (List._∷_ Row.alive (List._∷_ Row.off (List._∷_ Row.off (List._∷_ Row.off (List._∷_ Row.off (List._∷_
-            Row.off List.[])))))))))); }
+        G23 = record {
+          locals = List._++_ g17 (List._++_ t18 t2);
+          slots = List._∷_ (Row.lease (κs .0) (qs .0)) (List._∷_ Row.off (List._∷_ (Row.lease (κs .1 .1 .0) (qs .1 .1 .0)) (List._∷_ (Row.lease (κs .1 .1 .1
+              .0) (qs .1 .1 .1 .0)) (List._∷_ (Row.lease (κs .1 .1 .1 .1 .0) (qs .1 .1 .1 .1 .0)) (List._∷_ Row.alive (List._∷_ Row.off (List._∷_ Row.off (List._∷_ Row.off (List._∷_ Row.off (List._∷_
+              Row.off List.[]))))))))));
+        }
 
         abbrev G24 : Row.Cx
-        G24 = record
-            { locals = List._++_ g17 (List._++_ t19 t2); slots = List._∷_ (Row.lease (κs .0) (qs .0)) (List._∷_ Row.off (List._∷_ (Row.lease (κs .1 .1 .0) (qs .1 .1 .0)) (List._∷_ (Row.lease (κs .1 .1 .1
-            .0) (qs .1 .1 .1 .0)) (List._∷_ (Row.lease (κs .1 .1 .1 .1 .0) (qs .1 .1 .1 .1 .0)) (List._∷_ Row.alive (List._∷_ Row.off (List._∷_ Row.off (List._∷_ Row.off (List._∷_ Row.off (List._∷_
-            Row.off List.[])))))))))); }
+        G24 = record {
+          locals = List._++_ g17 (List._++_ t19 t2);
+          slots = List._∷_ (Row.lease (κs .0) (qs .0)) (List._∷_ Row.off (List._∷_ (Row.lease (κs .1 .1 .0) (qs .1 .1 .0)) (List._∷_ (Row.lease (κs .1 .1 .1
+              .0) (qs .1 .1 .1 .0)) (List._∷_ (Row.lease (κs .1 .1 .1 .1 .0) (qs .1 .1 .1 .1 .0)) (List._∷_ Row.alive (List._∷_ Row.off (List._∷_ Row.off (List._∷_ Row.off (List._∷_ Row.off (List._∷_
+              Row.off List.[]))))))))));
+        }
 
         abbrev G25 : Row.Cx
-        G25 = record
-            { locals = List._++_ g17 (List._++_ t20 t2); slots = List._∷_ (Row.lease (κs .0) (qs .0)) (List._∷_ Row.off (List._∷_ (Row.lease (κs .1 .1 .0) (qs .1 .1 .0)) (List._∷_ (Row.lease (κs .1 .1 .1
-            .0) (qs .1 .1 .1 .0)) (List._∷_ (Row.lease (κs .1 .1 .1 .1 .0) (qs .1 .1 .1 .1 .0)) (List._∷_ Row.alive (List._∷_ Row.off (List._∷_ Row.off (List._∷_ Row.off (List._∷_ Row.off (List._∷_
-            Row.off List.[])))))))))); }
+        G25 = record {
+          locals = List._++_ g17 (List._++_ t20 t2);
+          slots = List._∷_ (Row.lease (κs .0) (qs .0)) (List._∷_ Row.off (List._∷_ (Row.lease (κs .1 .1 .0) (qs .1 .1 .0)) (List._∷_ (Row.lease (κs .1 .1 .1
+              .0) (qs .1 .1 .1 .0)) (List._∷_ (Row.lease (κs .1 .1 .1 .1 .0) (qs .1 .1 .1 .1 .0)) (List._∷_ Row.alive (List._∷_ Row.off (List._∷_ Row.off (List._∷_ Row.off (List._∷_ Row.off (List._∷_
+              Row.off List.[]))))))))));
+        }
 
         abbrev G26 : Row.Cx
-        G26 = record
-            { locals = List._++_ g17 (List._++_ t21 t2); slots = List._∷_ (Row.lease (κs .0) (qs .0)) (List._∷_ Row.off (List._∷_ (Row.lease (κs .1 .1 .0) (qs .1 .1 .0)) (List._∷_ (Row.lease (κs .1 .1 .1
-            .0) (qs .1 .1 .1 .0)) (List._∷_ (Row.lease (κs .1 .1 .1 .1 .0) (qs .1 .1 .1 .1 .0)) (List._∷_ Row.alive (List._∷_ Row.off (List._∷_ Row.off (List._∷_ Row.off (List._∷_ Row.off (List._∷_
-            Row.off List.[])))))))))); }
+        G26 = record {
+          locals = List._++_ g17 (List._++_ t21 t2);
+          slots = List._∷_ (Row.lease (κs .0) (qs .0)) (List._∷_ Row.off (List._∷_ (Row.lease (κs .1 .1 .0) (qs .1 .1 .0)) (List._∷_ (Row.lease (κs .1 .1 .1
+              .0) (qs .1 .1 .1 .0)) (List._∷_ (Row.lease (κs .1 .1 .1 .1 .0) (qs .1 .1 .1 .1 .0)) (List._∷_ Row.alive (List._∷_ Row.off (List._∷_ Row.off (List._∷_ Row.off (List._∷_ Row.off (List._∷_
+              Row.off List.[]))))))))));
+        }
 
         abbrev G27 : Row.Cx
-        G27 = record
-            { locals = List._++_ g17 (List._++_ t21 t2); slots = List._∷_ (Row.lease (κs .0) (qs .0)) (List._∷_ Row.off (List._∷_ (Row.lease (κs .1 .1 .0) (qs .1 .1 .0)) (List._∷_ (Row.lease (κs .1 .1 .1
-            .0) (qs .1 .1 .1 .0)) (List._∷_ (Row.lease (κs .1 .1 .1 .1 .0) (qs .1 .1 .1 .1 .0)) (List._∷_ Row.dead (List._∷_ Row.off (List._∷_ Row.off (List._∷_ Row.off (List._∷_ Row.off (List._∷_ Row.off
-            List.[])))))))))); }
+        G27 = record {
+          locals = List._++_ g17 (List._++_ t21 t2);
+          slots = List._∷_ (Row.lease (κs .0) (qs .0)) (List._∷_ Row.off (List._∷_ (Row.lease (κs .1 .1 .0) (qs .1 .1 .0)) (List._∷_ (Row.lease (κs .1 .1 .1
+              .0) (qs .1 .1 .1 .0)) (List._∷_ (Row.lease (κs .1 .1 .1 .1 .0) (qs .1 .1 .1 .1 .0)) (List._∷_ Row.dead (List._∷_ Row.off (List._∷_ Row.off (List._∷_ Row.off (List._∷_ Row.off (List._∷_ Row.off
+              List.[]))))))))));
+        }
 
         abbrev G28 : Row.Cx
-        G28 = record
-            { locals = List._++_ t9 (List._++_ t16 t2); slots = List._∷_ (Row.lease (κs .0) (qs .0)) (List._∷_ (Row.lease (κs .1 .0) (qs .1 .0)) (List._∷_ (Row.lease (κs .1 .1 .0) (qs .1 .1 .0)) (List._∷_
-            (Row.lease (κs .1 .1 .1 .0) (qs .1 .1 .1 .0)) (List._∷_ (Row.lease (κs .1 .1 .1 .1 .0) (qs .1 .1 .1 .1 .0)) (List._∷_ Row.dead (List._∷_ Row.off (List._∷_ Row.off (List._∷_ Row.off (List._∷_
-            Row.off (List._∷_ Row.off List.[])))))))))); }
+        G28 = record {
+          locals = List._++_ t9 (List._++_ t16 t2);
+          slots = List._∷_ (Row.lease (κs .0) (qs .0)) (List._∷_ (Row.lease (κs .1 .0) (qs .1 .0)) (List._∷_ (Row.lease (κs .1 .1 .0) (qs .1 .1 .0)) (List._∷_
+              (Row.lease (κs .1 .1 .1 .0) (qs .1 .1 .1 .0)) (List._∷_ (Row.lease (κs .1 .1 .1 .1 .0) (qs .1 .1 .1 .1 .0)) (List._∷_ Row.dead (List._∷_ Row.off (List._∷_ Row.off (List._∷_ Row.off (List._∷_
+              Row.off (List._∷_ Row.off List.[]))))))))));
+        }
 
         abbrev G29 : Row.Cx
-        G29 = record
-            { locals = List._++_ t9 (List._++_ t16 t2); slots = List._∷_ (Row.lease (κs .0) (qs .0)) (List._∷_ (Row.lease (κs .1 .0) (qs .1 .0)) (List._∷_ (Row.lease (κs .1 .1 .0) (qs .1 .1 .0)) (List._∷_
-            (Row.lease (κs .1 .1 .1 .0) (qs .1 .1 .1 .0)) (List._∷_ (Row.lease (κs .1 .1 .1 .1 .0) (qs .1 .1 .1 .1 .0)) (List._∷_ Row.dead (List._∷_ Row.off (List._∷_ Row.off (List._∷_ Row.off (List._∷_
-            Row.off (List._∷_ Row.off List.[])))))))))); }
+        G29 = record {
+          locals = List._++_ t9 (List._++_ t16 t2);
+          slots = List._∷_ (Row.lease (κs .0) (qs .0)) (List._∷_ (Row.lease (κs .1 .0) (qs .1 .0)) (List._∷_ (Row.lease (κs .1 .1 .0) (qs .1 .1 .0)) (List._∷_
+              (Row.lease (κs .1 .1 .1 .0) (qs .1 .1 .1 .0)) (List._∷_ (Row.lease (κs .1 .1 .1 .1 .0) (qs .1 .1 .1 .1 .0)) (List._∷_ Row.dead (List._∷_ Row.off (List._∷_ Row.off (List._∷_ Row.off (List._∷_
+              Row.off (List._∷_ Row.off List.[]))))))))));
+        }
 
         abbrev G30 : Row.Cx
-        G30 = record
-            { locals = List._++_ t9 (List._++_ t16 t2); slots = List._∷_ (Row.lease (κs .0) (qs .0)) (List._∷_ (Row.lease (κs .1 .0) (qs .1 .0)) (List._∷_ (Row.lease (κs .1 .1 .0) (qs .1 .1 .0)) (List._∷_
-            (Row.lease (κs .1 .1 .1 .0) (qs .1 .1 .1 .0)) (List._∷_ (Row.lease (κs .1 .1 .1 .1 .0) (qs .1 .1 .1 .1 .0)) (List._∷_ Row.off (List._∷_ Row.off (List._∷_ Row.off (List._∷_ Row.off (List._∷_
-            Row.off (List._∷_ Row.off List.[])))))))))); }
+        G30 = record {
+          locals = List._++_ t9 (List._++_ t16 t2);
+          slots = List._∷_ (Row.lease (κs .0) (qs .0)) (List._∷_ (Row.lease (κs .1 .0) (qs .1 .0)) (List._∷_ (Row.lease (κs .1 .1 .0) (qs .1 .1 .0)) (List._∷_
+              (Row.lease (κs .1 .1 .1 .0) (qs .1 .1 .1 .0)) (List._∷_ (Row.lease (κs .1 .1 .1 .1 .0) (qs .1 .1 .1 .1 .0)) (List._∷_ Row.off (List._∷_ Row.off (List._∷_ Row.off (List._∷_ Row.off (List._∷_
+              Row.off (List._∷_ Row.off List.[]))))))))));
+        }
 
         abbrev G31 : Row.Cx
-        G31 = record
-            { locals = List._++_ t9 (List._++_ t16 t2); slots = List._∷_ (Row.lease (κs .0) (qs .0)) (List._∷_ (Row.lease (κs .1 .0) (qs .1 .0)) (List._∷_ (Row.lease (κs .1 .1 .0) (qs .1 .1 .0)) (List._∷_
-            (Row.lease (κs .1 .1 .1 .0) (qs .1 .1 .1 .0)) (List._∷_ (Row.lease (κs .1 .1 .1 .1 .0) (qs .1 .1 .1 .1 .0)) (List._∷_ Row.off (List._∷_ Row.alive (List._∷_ Row.off (List._∷_ Row.off (List._∷_
-            Row.off (List._∷_ Row.off List.[])))))))))); }
+        G31 = record {
+          locals = List._++_ t9 (List._++_ t16 t2);
+          slots = List._∷_ (Row.lease (κs .0) (qs .0)) (List._∷_ (Row.lease (κs .1 .0) (qs .1 .0)) (List._∷_ (Row.lease (κs .1 .1 .0) (qs .1 .1 .0)) (List._∷_
+              (Row.lease (κs .1 .1 .1 .0) (qs .1 .1 .1 .0)) (List._∷_ (Row.lease (κs .1 .1 .1 .1 .0) (qs .1 .1 .1 .1 .0)) (List._∷_ Row.off (List._∷_ Row.alive (List._∷_ Row.off (List._∷_ Row.off (List._∷_
+              Row.off (List._∷_ Row.off List.[]))))))))));
+        }
 
         abbrev G32 : Row.Cx
-        G32 = record
-            { locals = List._++_ g22 (List._++_ t23 t2); slots = List._∷_ (Row.lease (κs .0) (qs .0)) (List._∷_ (Row.lease (κs .1 .0) (qs .1 .0)) (List._∷_ Row.off (List._∷_ (Row.lease (κs .1 .1 .1 .0)
-            (qs .1 .1 .1 .0)) (List._∷_ (Row.lease (κs .1 .1 .1 .1 .0) (qs .1 .1 .1 .1 .0)) (List._∷_ Row.off (List._∷_ Row.alive (List._∷_ Row.off (List._∷_ Row.off (List._∷_ Row.off (List._∷_ Row.off
-            List.[])))))))))); }
+        G32 = record {
+          locals = List._++_ g22 (List._++_ t23 t2);
+          slots = List._∷_ (Row.lease (κs .0) (qs .0)) (List._∷_ (Row.lease (κs .1 .0) (qs .1 .0)) (List._∷_ Row.off (List._∷_ (Row.lease (κs .1 .1 .1 .0)
+              (qs .1 .1 .1 .0)) (List._∷_ (Row.lease (κs .1 .1 .1 .1 .0) (qs .1 .1 .1 .1 .0)) (List._∷_ Row.off (List._∷_ Row.alive (List._∷_ Row.off (List._∷_ Row.off (List._∷_ Row.off (List._∷_ Row.off
+              List.[]))))))))));
+        }
 
         abbrev G33 : Row.Cx
-        G33 = record
-            { locals = List._++_ g22 (List._++_ t24 t2); slots = List._∷_ (Row.lease (κs .0) (qs .0)) (List._∷_ (Row.lease (κs .1 .0) (qs .1 .0)) (List._∷_ Row.off (List._∷_ (Row.lease (κs .1 .1 .1 .0)
-            (qs .1 .1 .1 .0)) (List._∷_ (Row.lease (κs .1 .1 .1 .1 .0) (qs .1 .1 .1 .1 .0)) (List._∷_ Row.off (List._∷_ Row.alive (List._∷_ Row.off (List._∷_ Row.off (List._∷_ Row.off (List._∷_ Row.off
-            List.[])))))))))); }
+        G33 = record {
+          locals = List._++_ g22 (List._++_ t24 t2);
+          slots = List._∷_ (Row.lease (κs .0) (qs .0)) (List._∷_ (Row.lease (κs .1 .0) (qs .1 .0)) (List._∷_ Row.off (List._∷_ (Row.lease (κs .1 .1 .1 .0)
+              (qs .1 .1 .1 .0)) (List._∷_ (Row.lease (κs .1 .1 .1 .1 .0) (qs .1 .1 .1 .1 .0)) (List._∷_ Row.off (List._∷_ Row.alive (List._∷_ Row.off (List._∷_ Row.off (List._∷_ Row.off (List._∷_ Row.off
+              List.[]))))))))));
+        }
 
         abbrev G34 : Row.Cx
-        G34 = record
-            { locals = List._++_ g22 (List._++_ t25 t2); slots = List._∷_ (Row.lease (κs .0) (qs .0)) (List._∷_ (Row.lease (κs .1 .0) (qs .1 .0)) (List._∷_ Row.off (List._∷_ (Row.lease (κs .1 .1 .1 .0)
-            (qs .1 .1 .1 .0)) (List._∷_ (Row.lease (κs .1 .1 .1 .1 .0) (qs .1 .1 .1 .1 .0)) (List._∷_ Row.off (List._∷_ Row.alive (List._∷_ Row.off (List._∷_ Row.off (List._∷_ Row.off (List._∷_ Row.off
-            List.[])))))))))); }
+        G34 = record {
+          locals = List._++_ g22 (List._++_ t25 t2);
+          slots = List._∷_ (Row.lease (κs .0) (qs .0)) (List._∷_ (Row.lease (κs .1 .0) (qs .1 .0)) (List._∷_ Row.off (List._∷_ (Row.lease (κs .1 .1 .1 .0)
+              (qs .1 .1 .1 .0)) (List._∷_ (Row.lease (κs .1 .1 .1 .1 .0) (qs .1 .1 .1 .1 .0)) (List._∷_ Row.off (List._∷_ Row.alive (List._∷_ Row.off (List._∷_ Row.off (List._∷_ Row.off (List._∷_ Row.off
+              List.[]))))))))));
+        }
 
         abbrev G35 : Row.Cx
-        G35 = record
-            { locals = List._++_ g22 (List._++_ t25 t2); slots = List._∷_ (Row.lease (κs .0) (qs .0)) (List._∷_ (Row.lease (κs .1 .0) (qs .1 .0)) (List._∷_ Row.off (List._∷_ (Row.lease (κs .1 .1 .1 .0)
-            (qs .1 .1 .1 .0)) (List._∷_ (Row.lease (κs .1 .1 .1 .1 .0) (qs .1 .1 .1 .1 .0)) (List._∷_ Row.off (List._∷_ Row.dead (List._∷_ Row.off (List._∷_ Row.off (List._∷_ Row.off (List._∷_ Row.off
-            List.[])))))))))); }
+        G35 = record {
+          locals = List._++_ g22 (List._++_ t25 t2);
+          slots = List._∷_ (Row.lease (κs .0) (qs .0)) (List._∷_ (Row.lease (κs .1 .0) (qs .1 .0)) (List._∷_ Row.off (List._∷_ (Row.lease (κs .1 .1 .1 .0)
+              (qs .1 .1 .1 .0)) (List._∷_ (Row.lease (κs .1 .1 .1 .1 .0) (qs .1 .1 .1 .1 .0)) (List._∷_ Row.off (List._∷_ Row.dead (List._∷_ Row.off (List._∷_ Row.off (List._∷_ Row.off (List._∷_ Row.off
+              List.[]))))))))));
+        }
 
         abbrev G36 : Row.Cx
-        G36 = record
-            { locals = List._++_ t9 (List._++_ t26 t2); slots = List._∷_ (Row.lease (κs .0) (qs .0)) (List._∷_ (Row.lease (κs .1 .0) (qs .1 .0)) (List._∷_ (Row.lease (κs .1 .1 .0) (qs .1 .1 .0)) (List._∷_
-            (Row.lease (κs .1 .1 .1 .0) (qs .1 .1 .1 .0)) (List._∷_ (Row.lease (κs .1 .1 .1 .1 .0) (qs .1 .1 .1 .1 .0)) (List._∷_ Row.off (List._∷_ Row.dead (List._∷_ Row.off (List._∷_ Row.off (List._∷_
-            Row.off (List._∷_ Row.off List.[])))))))))); }
+        G36 = record {
+          locals = List._++_ t9 (List._++_ t26 t2);
+          slots = List._∷_ (Row.lease (κs .0) (qs .0)) (List._∷_ (Row.lease (κs .1 .0) (qs .1 .0)) (List._∷_ (Row.lease (κs .1 .1 .0) (qs .1 .1 .0)) (List._∷_
+              (Row.lease (κs .1 .1 .1 .0) (qs .1 .1 .1 .0)) (List._∷_ (Row.lease (κs .1 .1 .1 .1 .0) (qs .1 .1 .1 .1 .0)) (List._∷_ Row.off (List._∷_ Row.dead (List._∷_ Row.off (List._∷_ Row.off (List._∷_
+              Row.off (List._∷_ Row.off List.[]))))))))));
+        }
 
         abbrev G37 : Row.Cx
-        G37 = record
-            { locals = List._++_ t9 (List._++_ t26 t2); slots = List._∷_ (Row.lease (κs .0) (qs .0)) (List._∷_ (Row.lease (κs .1 .0) (qs .1 .0)) (List._∷_ (Row.lease (κs .1 .1 .0) (qs .1 .1 .0)) (List._∷_
-            (Row.lease (κs .1 .1 .1 .0) (qs .1 .1 .1 .0)) (List._∷_ (Row.lease (κs .1 .1 .1 .1 .0) (qs .1 .1 .1 .1 .0)) (List._∷_ Row.off (List._∷_ Row.off (List._∷_ Row.off (List._∷_ Row.off (List._∷_
-            Row.off (List._∷_ Row.off List.[])))))))))); }
+        G37 = record {
+          locals = List._++_ t9 (List._++_ t26 t2);
+          slots = List._∷_ (Row.lease (κs .0) (qs .0)) (List._∷_ (Row.lease (κs .1 .0) (qs .1 .0)) (List._∷_ (Row.lease (κs .1 .1 .0) (qs .1 .1 .0)) (List._∷_
+              (Row.lease (κs .1 .1 .1 .0) (qs .1 .1 .1 .0)) (List._∷_ (Row.lease (κs .1 .1 .1 .1 .0) (qs .1 .1 .1 .1 .0)) (List._∷_ Row.off (List._∷_ Row.off (List._∷_ Row.off (List._∷_ Row.off (List._∷_
+              Row.off (List._∷_ Row.off List.[]))))))))));
+        }
 
         abbrev G38 : Row.Cx
-        G38 = record
-            { locals = List._++_ t9 (List._++_ t26 t2); slots = List._∷_ (Row.lease (κs .0) (qs .0)) (List._∷_ (Row.lease (κs .1 .0) (qs .1 .0)) (List._∷_ (Row.lease (κs .1 .1 .0) (qs .1 .1 .0)) (List._∷_
-            (Row.lease (κs .1 .1 .1 .0) (qs .1 .1 .1 .0)) (List._∷_ (Row.lease (κs .1 .1 .1 .1 .0) (qs .1 .1 .1 .1 .0)) (List._∷_ Row.off (List._∷_ Row.off (List._∷_ Row.alive (List._∷_ Row.off (List._∷_
-            Row.off (List._∷_ Row.off List.[])))))))))); }
+        G38 = record {
+          locals = List._++_ t9 (List._++_ t26 t2);
+          slots = List._∷_ (Row.lease (κs .0) (qs .0)) (List._∷_ (Row.lease (κs .1 .0) (qs .1 .0)) (List._∷_ (Row.lease (κs .1 .1 .0) (qs .1 .1 .0)) (List._∷_
+              (Row.lease (κs .1 .1 .1 .0) (qs .1 .1 .1 .0)) (List._∷_ (Row.lease (κs .1 .1 .1 .1 .0) (qs .1 .1 .1 .1 .0)) (List._∷_ Row.off (List._∷_ Row.off (List._∷_ Row.alive (List._∷_ Row.off (List._∷_
+              Row.off (List._∷_ Row.off List.[]))))))))));
+        }
 
         abbrev G39 : Row.Cx
-        G39 = record
-            { locals = List._++_ g27 (List._++_ t28 t2); slots = List._∷_ (Row.lease (κs .0) (qs .0)) (List._∷_ Row.off (List._∷_ (Row.lease (κs .1 .1 .0) (qs .1 .1 .0)) (List._∷_ (Row.lease (κs .1 .1 .1
-            .0) (qs .1 .1 .1 .0)) (List._∷_ (Row.lease (κs .1 .1 .1 .1 .0) (qs .1 .1 .1 .1 .0)) (List._∷_ Row.off (List._∷_ Row.off (List._∷_ Row.alive (List._∷_ Row.off (List._∷_ Row.off (List._∷_
-            Row.off List.[])))))))))); }
+        G39 = record {
+          locals = List._++_ g27 (List._++_ t28 t2);
+          slots = List._∷_ (Row.lease (κs .0) (qs .0)) (List._∷_ Row.off (List._∷_ (Row.lease (κs .1 .1 .0) (qs .1 .1 .0)) (List._∷_ (Row.lease (κs .1 .1 .1
+              .0) (qs .1 .1 .1 .0)) (List._∷_ (Row.lease (κs .1 .1 .1 .1 .0) (qs .1 .1 .1 .1 .0)) (List._∷_ Row.off (List._∷_ Row.off (List._∷_ Row.alive (List._∷_ Row.off (List._∷_ Row.off (List._∷_
+              Row.off List.[]))))))))));
+        }
 
         abbrev G40 : Row.Cx
-        G40 = record
-            { locals = List._++_ g27 (List._++_ t26 t29); slots = List._∷_ (Row.lease (κs .0) (qs .0)) (List._∷_ Row.off (List._∷_ (Row.lease (κs .1 .1 .0) (qs .1 .1 .0)) (List._∷_ (Row.lease (κs .1 .1 .1
-            .0) (qs .1 .1 .1 .0)) (List._∷_ (Row.lease (κs .1 .1 .1 .1 .0) (qs .1 .1 .1 .1 .0)) (List._∷_ Row.off (List._∷_ Row.off (List._∷_ Row.alive (List._∷_ Row.off (List._∷_ Row.off (List._∷_
-            Row.off List.[])))))))))); }
+        G40 = record {
+          locals = List._++_ g27 (List._++_ t26 t29);
+          slots = List._∷_ (Row.lease (κs .0) (qs .0)) (List._∷_ Row.off (List._∷_ (Row.lease (κs .1 .1 .0) (qs .1 .1 .0)) (List._∷_ (Row.lease (κs .1 .1 .1
+              .0) (qs .1 .1 .1 .0)) (List._∷_ (Row.lease (κs .1 .1 .1 .1 .0) (qs .1 .1 .1 .1 .0)) (List._∷_ Row.off (List._∷_ Row.off (List._∷_ Row.alive (List._∷_ Row.off (List._∷_ Row.off (List._∷_
+              Row.off List.[]))))))))));
+        }
 
         abbrev G41 : Row.Cx
-        G41 = record
-            { locals = List._++_ g27 (List._++_ t30 t31); slots = List._∷_ (Row.lease (κs .0) (qs .0)) (List._∷_ Row.off (List._∷_ (Row.lease (κs .1 .1 .0) (qs .1 .1 .0)) (List._∷_ (Row.lease (κs .1 .1 .1
-            .0) (qs .1 .1 .1 .0)) (List._∷_ (Row.lease (κs .1 .1 .1 .1 .0) (qs .1 .1 .1 .1 .0)) (List._∷_ Row.off (List._∷_ Row.off (List._∷_ Row.alive (List._∷_ Row.off (List._∷_ Row.off (List._∷_
-            Row.off List.[])))))))))); }
+        G41 = record {
+          locals = List._++_ g27 (List._++_ t30 t31);
+          slots = List._∷_ (Row.lease (κs .0) (qs .0)) (List._∷_ Row.off (List._∷_ (Row.lease (κs .1 .1 .0) (qs .1 .1 .0)) (List._∷_ (Row.lease (κs .1 .1 .1
+              .0) (qs .1 .1 .1 .0)) (List._∷_ (Row.lease (κs .1 .1 .1 .1 .0) (qs .1 .1 .1 .1 .0)) (List._∷_ Row.off (List._∷_ Row.off (List._∷_ Row.alive (List._∷_ Row.off (List._∷_ Row.off (List._∷_
+              Row.off List.[]))))))))));
+        }
 
         abbrev G42 : Row.Cx
-        G42 = record
-            { locals = List._++_ g27 (List._++_ t32 t31); slots = List._∷_ (Row.lease (κs .0) (qs .0)) (List._∷_ Row.off (List._∷_ (Row.lease (κs .1 .1 .0) (qs .1 .1 .0)) (List._∷_ (Row.lease (κs .1 .1 .1
-            .0) (qs .1 .1 .1 .0)) (List._∷_ (Row.lease (κs .1 .1 .1 .1 .0) (qs .1 .1 .1 .1 .0)) (List._∷_ Row.off (List._∷_ Row.off (List._∷_ Row.alive (List._∷_ Row.off (List._∷_ Row.off (List._∷_
-            Row.off List.[])))))))))); }
+        G42 = record {
+          locals = List._++_ g27 (List._++_ t32 t31);
+          slots = List._∷_ (Row.lease (κs .0) (qs .0)) (List._∷_ Row.off (List._∷_ (Row.lease (κs .1 .1 .0) (qs .1 .1 .0)) (List._∷_ (Row.lease (κs .1 .1 .1
+              .0) (qs .1 .1 .1 .0)) (List._∷_ (Row.lease (κs .1 .1 .1 .1 .0) (qs .1 .1 .1 .1 .0)) (List._∷_ Row.off (List._∷_ Row.off (List._∷_ Row.alive (List._∷_ Row.off (List._∷_ Row.off (List._∷_
+              Row.off List.[]))))))))));
+        }
 
         abbrev G43 : Row.Cx
-        G43 = record
-            { locals = List._++_ g27 (List._++_ t33 t31); slots = List._∷_ (Row.lease (κs .0) (qs .0)) (List._∷_ Row.off (List._∷_ (Row.lease (κs .1 .1 .0) (qs .1 .1 .0)) (List._∷_ (Row.lease (κs .1 .1 .1
-            .0) (qs .1 .1 .1 .0)) (List._∷_ (Row.lease (κs .1 .1 .1 .1 .0) (qs .1 .1 .1 .1 .0)) (List._∷_ Row.off (List._∷_ Row.off (List._∷_ Row.alive (List._∷_ Row.off (List._∷_ Row.off (List._∷_
-            Row.off List.[])))))))))); }
+        G43 = record {
+          locals = List._++_ g27 (List._++_ t33 t31);
+          slots = List._∷_ (Row.lease (κs .0) (qs .0)) (List._∷_ Row.off (List._∷_ (Row.lease (κs .1 .1 .0) (qs .1 .1 .0)) (List._∷_ (Row.lease (κs .1 .1 .1
+              .0) (qs .1 .1 .1 .0)) (List._∷_ (Row.lease (κs .1 .1 .1 .1 .0) (qs .1 .1 .1 .1 .0)) (List._∷_ Row.off (List._∷_ Row.off (List._∷_ Row.alive (List._∷_ Row.off (List._∷_ Row.off (List._∷_
+              Row.off List.[]))))))))));
+        }
 
         abbrev G44 : Row.Cx
-        G44 = record
-            { locals = List._++_ g27 (List._++_ t34 t31); slots = List._∷_ (Row.lease (κs .0) (qs .0)) (List._∷_ Row.off (List._∷_ (Row.lease (κs .1 .1 .0) (qs .1 .1 .0)) (List._∷_ (Row.lease (κs .1 .1 .1
-            .0) (qs .1 .1 .1 .0)) (List._∷_ (Row.lease (κs .1 .1 .1 .1 .0) (qs .1 .1 .1 .1 .0)) (List._∷_ Row.off (List._∷_ Row.off (List._∷_ Row.alive (List._∷_ Row.off (List._∷_ Row.off (List._∷_
-            Row.off List.[])))))))))); }
+        G44 = record {
+          locals = List._++_ g27 (List._++_ t34 t31);
+          slots = List._∷_ (Row.lease (κs .0) (qs .0)) (List._∷_ Row.off (List._∷_ (Row.lease (κs .1 .1 .0) (qs .1 .1 .0)) (List._∷_ (Row.lease (κs .1 .1 .1
+              .0) (qs .1 .1 .1 .0)) (List._∷_ (Row.lease (κs .1 .1 .1 .1 .0) (qs .1 .1 .1 .1 .0)) (List._∷_ Row.off (List._∷_ Row.off (List._∷_ Row.alive (List._∷_ Row.off (List._∷_ Row.off (List._∷_
+              Row.off List.[]))))))))));
+        }
 
         abbrev G45 : Row.Cx
-        G45 = record
-            { locals = List._++_ g27 (List._++_ t34 t31); slots = List._∷_ (Row.lease (κs .0) (qs .0)) (List._∷_ Row.off (List._∷_ (Row.lease (κs .1 .1 .0) (qs .1 .1 .0)) (List._∷_ (Row.lease (κs .1 .1 .1
-            .0) (qs .1 .1 .1 .0)) (List._∷_ (Row.lease (κs .1 .1 .1 .1 .0) (qs .1 .1 .1 .1 .0)) (List._∷_ Row.off (List._∷_ Row.off (List._∷_ Row.dead (List._∷_ Row.off (List._∷_ Row.off (List._∷_ Row.off
-            List.[])))))))))); }
+        G45 = record {
+          locals = List._++_ g27 (List._++_ t34 t31);
+          slots = List._∷_ (Row.lease (κs .0) (qs .0)) (List._∷_ Row.off (List._∷_ (Row.lease (κs .1 .1 .0) (qs .1 .1 .0)) (List._∷_ (Row.lease (κs .1 .1 .1
+              .0) (qs .1 .1 .1 .0)) (List._∷_ (Row.lease (κs .1 .1 .1 .1 .0) (qs .1 .1 .1 .1 .0)) (List._∷_ Row.off (List._∷_ Row.off (List._∷_ Row.dead (List._∷_ Row.off (List._∷_ Row.off (List._∷_ Row.off
+              List.[]))))))))));
+        }
 
         abbrev G46 : Row.Cx
-        G46 = record
-            { locals = List._++_ t9 (List._++_ t34 t2); slots = List._∷_ (Row.lease (κs .0) (qs .0)) (List._∷_ (Row.lease (κs .1 .0) (qs .1 .0)) (List._∷_ (Row.lease (κs .1 .1 .0) (qs .1 .1 .0)) (List._∷_
-            (Row.lease (κs .1 .1 .1 .0) (qs .1 .1 .1 .0)) (List._∷_ (Row.lease (κs .1 .1 .1 .1 .0) (qs .1 .1 .1 .1 .0)) (List._∷_ Row.off (List._∷_ Row.off (List._∷_ Row.dead (List._∷_ Row.off (List._∷_
-            Row.off (List._∷_ Row.off List.[])))))))))); }
+        G46 = record {
+          locals = List._++_ t9 (List._++_ t34 t2);
+          slots = List._∷_ (Row.lease (κs .0) (qs .0)) (List._∷_ (Row.lease (κs .1 .0) (qs .1 .0)) (List._∷_ (Row.lease (κs .1 .1 .0) (qs .1 .1 .0)) (List._∷_
+              (Row.lease (κs .1 .1 .1 .0) (qs .1 .1 .1 .0)) (List._∷_ (Row.lease (κs .1 .1 .1 .1 .0) (qs .1 .1 .1 .1 .0)) (List._∷_ Row.off (List._∷_ Row.off (List._∷_ Row.dead (List._∷_ Row.off (List._∷_
+              Row.off (List._∷_ Row.off List.[]))))))))));
+        }
 
         abbrev G47 : Row.Cx
-        G47 = record
-            { locals = List._++_ t9 (List._++_ t34 t2); slots = List._∷_ (Row.lease (κs .0) (qs .0)) (List._∷_ (Row.lease (κs .1 .0) (qs .1 .0)) (List._∷_ (Row.lease (κs .1 .1 .0) (qs .1 .1 .0)) (List._∷_
-            (Row.lease (κs .1 .1 .1 .0) (qs .1 .1 .1 .0)) (List._∷_ (Row.lease (κs .1 .1 .1 .1 .0) (qs .1 .1 .1 .1 .0)) (List._∷_ Row.off (List._∷_ Row.off (List._∷_ Row.dead (List._∷_ Row.off (List._∷_
-            Row.off (List._∷_ Row.off List.[])))))))))); }
+        G47 = record {
+          locals = List._++_ t9 (List._++_ t34 t2);
+          slots = List._∷_ (Row.lease (κs .0) (qs .0)) (List._∷_ (Row.lease (κs .1 .0) (qs .1 .0)) (List._∷_ (Row.lease (κs .1 .1 .0) (qs .1 .1 .0)) (List._∷_
+              (Row.lease (κs .1 .1 .1 .0) (qs .1 .1 .1 .0)) (List._∷_ (Row.lease (κs .1 .1 .1 .1 .0) (qs .1 .1 .1 .1 .0)) (List._∷_ Row.off (List._∷_ Row.off (List._∷_ Row.dead (List._∷_ Row.off (List._∷_
+              Row.off (List._∷_ Row.off List.[]))))))))));
+        }
 
         abbrev G48 : Row.Cx
-        G48 = record
-            { locals = List._++_ t9 (List._++_ t34 t2); slots = List._∷_ (Row.lease (κs .0) (qs .0)) (List._∷_ (Row.lease (κs .1 .0) (qs .1 .0)) (List._∷_ (Row.lease (κs .1 .1 .0) (qs .1 .1 .0)) (List._∷_
-            (Row.lease (κs .1 .1 .1 .0) (qs .1 .1 .1 .0)) (List._∷_ (Row.lease (κs .1 .1 .1 .1 .0) (qs .1 .1 .1 .1 .0)) (List._∷_ Row.off (List._∷_ Row.off (List._∷_ Row.off (List._∷_ Row.off (List._∷_
-            Row.off (List._∷_ Row.off List.[])))))))))); }
+        G48 = record {
+          locals = List._++_ t9 (List._++_ t34 t2);
+          slots = List._∷_ (Row.lease (κs .0) (qs .0)) (List._∷_ (Row.lease (κs .1 .0) (qs .1 .0)) (List._∷_ (Row.lease (κs .1 .1 .0) (qs .1 .1 .0)) (List._∷_
+              (Row.lease (κs .1 .1 .1 .0) (qs .1 .1 .1 .0)) (List._∷_ (Row.lease (κs .1 .1 .1 .1 .0) (qs .1 .1 .1 .1 .0)) (List._∷_ Row.off (List._∷_ Row.off (List._∷_ Row.off (List._∷_ Row.off (List._∷_
+              Row.off (List._∷_ Row.off List.[]))))))))));
+        }
 
         abbrev G49 : Row.Cx
-        G49 = record
-            { locals = List._++_ t9 (List._++_ t35 t2); slots = List._∷_ (Row.lease (κs .0) (qs .0)) (List._∷_ (Row.lease (κs .1 .0) (qs .1 .0)) (List._∷_ (Row.lease (κs .1 .1 .0) (qs .1 .1 .0)) (List._∷_
-            (Row.lease (κs .1 .1 .1 .0) (qs .1 .1 .1 .0)) (List._∷_ (Row.lease (κs .1 .1 .1 .1 .0) (qs .1 .1 .1 .1 .0)) (List._∷_ Row.off (List._∷_ Row.off (List._∷_ Row.off (List._∷_ Row.off (List._∷_
-            Row.off (List._∷_ Row.off List.[])))))))))); }
+        G49 = record {
+          locals = List._++_ t9 (List._++_ t35 t2);
+          slots = List._∷_ (Row.lease (κs .0) (qs .0)) (List._∷_ (Row.lease (κs .1 .0) (qs .1 .0)) (List._∷_ (Row.lease (κs .1 .1 .0) (qs .1 .1 .0)) (List._∷_
+              (Row.lease (κs .1 .1 .1 .0) (qs .1 .1 .1 .0)) (List._∷_ (Row.lease (κs .1 .1 .1 .1 .0) (qs .1 .1 .1 .1 .0)) (List._∷_ Row.off (List._∷_ Row.off (List._∷_ Row.off (List._∷_ Row.off (List._∷_
+              Row.off (List._∷_ Row.off List.[]))))))))));
+        }
 
         abbrev G50 : Row.Cx
-        G50 = record
-            { locals = List._++_ t9 (List._++_ t36 t2); slots = List._∷_ (Row.lease (κs .0) (qs .0)) (List._∷_ (Row.lease (κs .1 .0) (qs .1 .0)) (List._∷_ (Row.lease (κs .1 .1 .0) (qs .1 .1 .0)) (List._∷_
-            (Row.lease (κs .1 .1 .1 .0) (qs .1 .1 .1 .0)) (List._∷_ (Row.lease (κs .1 .1 .1 .1 .0) (qs .1 .1 .1 .1 .0)) (List._∷_ Row.off (List._∷_ Row.off (List._∷_ Row.off (List._∷_ Row.off (List._∷_
-            Row.off (List._∷_ Row.off List.[])))))))))); }
+        G50 = record {
+          locals = List._++_ t9 (List._++_ t36 t2);
+          slots = List._∷_ (Row.lease (κs .0) (qs .0)) (List._∷_ (Row.lease (κs .1 .0) (qs .1 .0)) (List._∷_ (Row.lease (κs .1 .1 .0) (qs .1 .1 .0)) (List._∷_
+              (Row.lease (κs .1 .1 .1 .0) (qs .1 .1 .1 .0)) (List._∷_ (Row.lease (κs .1 .1 .1 .1 .0) (qs .1 .1 .1 .1 .0)) (List._∷_ Row.off (List._∷_ Row.off (List._∷_ Row.off (List._∷_ Row.off (List._∷_
+              Row.off (List._∷_ Row.off List.[]))))))))));
+        }
 
         abbrev G51 : Row.Cx
-        G51 = record
-            { locals = List._++_ t9 (List._++_ t35 t2); slots = List._∷_ (Row.lease (κs .0) (qs .0)) (List._∷_ (Row.lease (κs .1 .0) (qs .1 .0)) (List._∷_ (Row.lease (κs .1 .1 .0) (qs .1 .1 .0)) (List._∷_
-            (Row.lease (κs .1 .1 .1 .0) (qs .1 .1 .1 .0)) (List._∷_ (Row.lease (κs .1 .1 .1 .1 .0) (qs .1 .1 .1 .1 .0)) (List._∷_ Row.off (List._∷_ Row.off (List._∷_ Row.off (List._∷_ Row.off (List._∷_
-            Row.off (List._∷_ Row.off List.[])))))))))); }
+        G51 = record {
+          locals = List._++_ t9 (List._++_ t35 t2);
+          slots = List._∷_ (Row.lease (κs .0) (qs .0)) (List._∷_ (Row.lease (κs .1 .0) (qs .1 .0)) (List._∷_ (Row.lease (κs .1 .1 .0) (qs .1 .1 .0)) (List._∷_
+              (Row.lease (κs .1 .1 .1 .0) (qs .1 .1 .1 .0)) (List._∷_ (Row.lease (κs .1 .1 .1 .1 .0) (qs .1 .1 .1 .1 .0)) (List._∷_ Row.off (List._∷_ Row.off (List._∷_ Row.off (List._∷_ Row.off (List._∷_
+              Row.off (List._∷_ Row.off List.[]))))))))));
+        }
 
         abbrev G52 : Row.Cx
-        G52 = record
-            { locals = List._++_ t13 (List._++_ t36 t2); slots = List._∷_ (Row.lease (κs .0) (qs .0)) (List._∷_ (Row.lease (κs .1 .0) (qs .1 .0)) (List._∷_ (Row.lease (κs .1 .1 .0) (qs .1 .1 .0))
-            (List._∷_ (Row.lease (κs .1 .1 .1 .0) (qs .1 .1 .1 .0)) (List._∷_ (Row.lease (κs .1 .1 .1 .1 .0) (qs .1 .1 .1 .1 .0)) (List._∷_ Row.off (List._∷_ Row.off (List._∷_ Row.off (List._∷_ Row.off
-            (List._∷_ Row.off (List._∷_ Row.off List.[])))))))))); }
+        G52 = record {
+          locals = List._++_ t13 (List._++_ t36 t2);
+          slots = List._∷_ (Row.lease (κs .0) (qs .0)) (List._∷_ (Row.lease (κs .1 .0) (qs .1 .0)) (List._∷_ (Row.lease (κs .1 .1 .0) (qs .1 .1 .0))
+              (List._∷_ (Row.lease (κs .1 .1 .1 .0) (qs .1 .1 .1 .0)) (List._∷_ (Row.lease (κs .1 .1 .1 .1 .0) (qs .1 .1 .1 .1 .0)) (List._∷_ Row.off (List._∷_ Row.off (List._∷_ Row.off (List._∷_ Row.off
+              (List._∷_ Row.off (List._∷_ Row.off List.[]))))))))));
+        }
 
         abbrev G53 : Row.Cx
-        G53 = record
-            { locals = List._++_ t14 (List._++_ t36 t2); slots = List._∷_ (Row.lease (κs .0) (qs .0)) (List._∷_ (Row.lease (κs .1 .0) (qs .1 .0)) (List._∷_ (Row.lease (κs .1 .1 .0) (qs .1 .1 .0))
-            (List._∷_ (Row.lease (κs .1 .1 .1 .0) (qs .1 .1 .1 .0)) (List._∷_ (Row.lease (κs .1 .1 .1 .1 .0) (qs .1 .1 .1 .1 .0)) (List._∷_ Row.off (List._∷_ Row.off (List._∷_ Row.off (List._∷_ Row.off
-            (List._∷_ Row.off (List._∷_ Row.off List.[])))))))))); }
+        G53 = record {
+          locals = List._++_ t14 (List._++_ t36 t2);
+          slots = List._∷_ (Row.lease (κs .0) (qs .0)) (List._∷_ (Row.lease (κs .1 .0) (qs .1 .0)) (List._∷_ (Row.lease (κs .1 .1 .0) (qs .1 .1 .0))
+              (List._∷_ (Row.lease (κs .1 .1 .1 .0) (qs .1 .1 .1 .0)) (List._∷_ (Row.lease (κs .1 .1 .1 .1 .0) (qs .1 .1 .1 .1 .0)) (List._∷_ Row.off (List._∷_ Row.off (List._∷_ Row.off (List._∷_ Row.off
+              (List._∷_ Row.off (List._∷_ Row.off List.[]))))))))));
+        }
 
         abbrev G54 : Row.Cx
-        G54 = record
-            { locals = List._++_ t11 (List._++_ t36 t2); slots = List._∷_ (Row.lease (κs .0) (qs .0)) (List._∷_ (Row.lease (κs .1 .0) (qs .1 .0)) (List._∷_ (Row.lease (κs .1 .1 .0) (qs .1 .1 .0))
-            (List._∷_ (Row.lease (κs .1 .1 .1 .0) (qs .1 .1 .1 .0)) (List._∷_ (Row.lease (κs .1 .1 .1 .1 .0) (qs .1 .1 .1 .1 .0)) (List._∷_ Row.off (List._∷_ Row.off (List._∷_ Row.off (List._∷_ Row.off
-            (List._∷_ Row.off (List._∷_ Row.off List.[])))))))))); }
+        G54 = record {
+          locals = List._++_ t11 (List._++_ t36 t2);
+          slots = List._∷_ (Row.lease (κs .0) (qs .0)) (List._∷_ (Row.lease (κs .1 .0) (qs .1 .0)) (List._∷_ (Row.lease (κs .1 .1 .0) (qs .1 .1 .0))
+              (List._∷_ (Row.lease (κs .1 .1 .1 .0) (qs .1 .1 .1 .0)) (List._∷_ (Row.lease (κs .1 .1 .1 .1 .0) (qs .1 .1 .1 .1 .0)) (List._∷_ Row.off (List._∷_ Row.off (List._∷_ Row.off (List._∷_ Row.off
+              (List._∷_ Row.off (List._∷_ Row.off List.[]))))))))));
+        }
 
         abbrev G55 : Row.Cx
-        G55 = record
-            { locals = List._++_ t11 (List._++_ t37 t2); slots = List._∷_ (Row.lease (κs .0) (qs .0)) (List._∷_ (Row.lease (κs .1 .0) (qs .1 .0)) (List._∷_ (Row.lease (κs .1 .1 .0) (qs .1 .1 .0))
-            (List._∷_ (Row.lease (κs .1 .1 .1 .0) (qs .1 .1 .1 .0)) (List._∷_ (Row.lease (κs .1 .1 .1 .1 .0) (qs .1 .1 .1 .1 .0)) (List._∷_ Row.off (List._∷_ Row.off (List._∷_ Row.off (List._∷_ Row.off
-            (List._∷_ Row.off (List._∷_ Row.off List.[])))))))))); }
+        G55 = record {
+          locals = List._++_ t11 (List._++_ t37 t2);
+          slots = List._∷_ (Row.lease (κs .0) (qs .0)) (List._∷_ (Row.lease (κs .1 .0) (qs .1 .0)) (List._∷_ (Row.lease (κs .1 .1 .0) (qs .1 .1 .0))
+              (List._∷_ (Row.lease (κs .1 .1 .1 .0) (qs .1 .1 .1 .0)) (List._∷_ (Row.lease (κs .1 .1 .1 .1 .0) (qs .1 .1 .1 .1 .0)) (List._∷_ Row.off (List._∷_ Row.off (List._∷_ Row.off (List._∷_ Row.off
+              (List._∷_ Row.off (List._∷_ Row.off List.[]))))))))));
+        }
 
         abbrev G56 : Row.Cx
-        G56 = record
-            { locals = List._++_ t11 (List._++_ t38 t2); slots = List._∷_ (Row.lease (κs .0) (qs .0)) (List._∷_ (Row.lease (κs .1 .0) (qs .1 .0)) (List._∷_ (Row.lease (κs .1 .1 .0) (qs .1 .1 .0))
-            (List._∷_ (Row.lease (κs .1 .1 .1 .0) (qs .1 .1 .1 .0)) (List._∷_ (Row.lease (κs .1 .1 .1 .1 .0) (qs .1 .1 .1 .1 .0)) (List._∷_ Row.off (List._∷_ Row.off (List._∷_ Row.off (List._∷_ Row.off
-            (List._∷_ Row.off (List._∷_ Row.off List.[])))))))))); }
+        G56 = record {
+          locals = List._++_ t11 (List._++_ t38 t2);
+          slots = List._∷_ (Row.lease (κs .0) (qs .0)) (List._∷_ (Row.lease (κs .1 .0) (qs .1 .0)) (List._∷_ (Row.lease (κs .1 .1 .0) (qs .1 .1 .0))
+              (List._∷_ (Row.lease (κs .1 .1 .1 .0) (qs .1 .1 .1 .0)) (List._∷_ (Row.lease (κs .1 .1 .1 .1 .0) (qs .1 .1 .1 .1 .0)) (List._∷_ Row.off (List._∷_ Row.off (List._∷_ Row.off (List._∷_ Row.off
+              (List._∷_ Row.off (List._∷_ Row.off List.[]))))))))));
+        }
 
         abbrev G57 : Row.Cx
-        G57 = record
-            { locals = List._++_ t11 (List._++_ t39 t2); slots = List._∷_ (Row.lease (κs .0) (qs .0)) (List._∷_ (Row.lease (κs .1 .0) (qs .1 .0)) (List._∷_ (Row.lease (κs .1 .1 .0) (qs .1 .1 .0))
-            (List._∷_ (Row.lease (κs .1 .1 .1 .0) (qs .1 .1 .1 .0)) (List._∷_ (Row.lease (κs .1 .1 .1 .1 .0) (qs .1 .1 .1 .1 .0)) (List._∷_ Row.off (List._∷_ Row.off (List._∷_ Row.off (List._∷_ Row.off
-            (List._∷_ Row.off (List._∷_ Row.off List.[])))))))))); }
+        G57 = record {
+          locals = List._++_ t11 (List._++_ t39 t2);
+          slots = List._∷_ (Row.lease (κs .0) (qs .0)) (List._∷_ (Row.lease (κs .1 .0) (qs .1 .0)) (List._∷_ (Row.lease (κs .1 .1 .0) (qs .1 .1 .0))
+              (List._∷_ (Row.lease (κs .1 .1 .1 .0) (qs .1 .1 .1 .0)) (List._∷_ (Row.lease (κs .1 .1 .1 .1 .0) (qs .1 .1 .1 .1 .0)) (List._∷_ Row.off (List._∷_ Row.off (List._∷_ Row.off (List._∷_ Row.off
+              (List._∷_ Row.off (List._∷_ Row.off List.[]))))))))));
+        }
 
         abbrev G58 : Row.Cx
-        G58 = record
-            { locals = List._++_ t40 (List._++_ t39 t2); slots = List._∷_ (Row.lease (κs .0) (qs .0)) (List._∷_ (Row.lease (κs .1 .0) (qs .1 .0)) (List._∷_ (Row.lease (κs .1 .1 .0) (qs .1 .1 .0))
-            (List._∷_ (Row.lease (κs .1 .1 .1 .0) (qs .1 .1 .1 .0)) (List._∷_ (Row.lease (κs .1 .1 .1 .1 .0) (qs .1 .1 .1 .1 .0)) (List._∷_ Row.off (List._∷_ Row.off (List._∷_ Row.off (List._∷_ Row.off
-            (List._∷_ Row.off (List._∷_ Row.off List.[])))))))))); }
+        G58 = record {
+          locals = List._++_ t40 (List._++_ t39 t2);
+          slots = List._∷_ (Row.lease (κs .0) (qs .0)) (List._∷_ (Row.lease (κs .1 .0) (qs .1 .0)) (List._∷_ (Row.lease (κs .1 .1 .0) (qs .1 .1 .0))
+              (List._∷_ (Row.lease (κs .1 .1 .1 .0) (qs .1 .1 .1 .0)) (List._∷_ (Row.lease (κs .1 .1 .1 .1 .0) (qs .1 .1 .1 .1 .0)) (List._∷_ Row.off (List._∷_ Row.off (List._∷_ Row.off (List._∷_ Row.off
+              (List._∷_ Row.off (List._∷_ Row.off List.[]))))))))));
+        }
 
         abbrev G59 : Row.Cx
-        G59 = record
-            { locals = List._++_ t41 (List._++_ t39 t2); slots = List._∷_ (Row.lease (κs .0) (qs .0)) (List._∷_ (Row.lease (κs .1 .0) (qs .1 .0)) (List._∷_ (Row.lease (κs .1 .1 .0) (qs .1 .1 .0))
-            (List._∷_ (Row.lease (κs .1 .1 .1 .0) (qs .1 .1 .1 .0)) (List._∷_ (Row.lease (κs .1 .1 .1 .1 .0) (qs .1 .1 .1 .1 .0)) (List._∷_ Row.off (List._∷_ Row.off (List._∷_ Row.off (List._∷_ Row.off
-            (List._∷_ Row.off (List._∷_ Row.off List.[])))))))))); }
+        G59 = record {
+          locals = List._++_ t41 (List._++_ t39 t2);
+          slots = List._∷_ (Row.lease (κs .0) (qs .0)) (List._∷_ (Row.lease (κs .1 .0) (qs .1 .0)) (List._∷_ (Row.lease (κs .1 .1 .0) (qs .1 .1 .0))
+              (List._∷_ (Row.lease (κs .1 .1 .1 .0) (qs .1 .1 .1 .0)) (List._∷_ (Row.lease (κs .1 .1 .1 .1 .0) (qs .1 .1 .1 .1 .0)) (List._∷_ Row.off (List._∷_ Row.off (List._∷_ Row.off (List._∷_ Row.off
+              (List._∷_ Row.off (List._∷_ Row.off List.[]))))))))));
+        }
 
         abbrev G60 : Row.Cx
-        G60 = record
-            { locals = List._++_ t42 (List._++_ t39 t2); slots = List._∷_ (Row.lease (κs .0) (qs .0)) (List._∷_ (Row.lease (κs .1 .0) (qs .1 .0)) (List._∷_ (Row.lease (κs .1 .1 .0) (qs .1 .1 .0))
-            (List._∷_ (Row.lease (κs .1 .1 .1 .0) (qs .1 .1 .1 .0)) (List._∷_ (Row.lease (κs .1 .1 .1 .1 .0) (qs .1 .1 .1 .1 .0)) (List._∷_ Row.off (List._∷_ Row.off (List._∷_ Row.off (List._∷_ Row.off
-            (List._∷_ Row.off (List._∷_ Row.off List.[])))))))))); }
+        G60 = record {
+          locals = List._++_ t42 (List._++_ t39 t2);
+          slots = List._∷_ (Row.lease (κs .0) (qs .0)) (List._∷_ (Row.lease (κs .1 .0) (qs .1 .0)) (List._∷_ (Row.lease (κs .1 .1 .0) (qs .1 .1 .0))
+              (List._∷_ (Row.lease (κs .1 .1 .1 .0) (qs .1 .1 .1 .0)) (List._∷_ (Row.lease (κs .1 .1 .1 .1 .0) (qs .1 .1 .1 .1 .0)) (List._∷_ Row.off (List._∷_ Row.off (List._∷_ Row.off (List._∷_ Row.off
+              (List._∷_ Row.off (List._∷_ Row.off List.[]))))))))));
+        }
 
         abbrev G61 : Row.Cx
-        G61 = record
-            { locals = List._++_ t43 (List._++_ t39 t2); slots = List._∷_ (Row.lease (κs .0) (qs .0)) (List._∷_ (Row.lease (κs .1 .0) (qs .1 .0)) (List._∷_ (Row.lease (κs .1 .1 .0) (qs .1 .1 .0))
-            (List._∷_ (Row.lease (κs .1 .1 .1 .0) (qs .1 .1 .1 .0)) (List._∷_ (Row.lease (κs .1 .1 .1 .1 .0) (qs .1 .1 .1 .1 .0)) (List._∷_ Row.off (List._∷_ Row.off (List._∷_ Row.off (List._∷_ Row.off
-            (List._∷_ Row.off (List._∷_ Row.off List.[])))))))))); }
+        G61 = record {
+          locals = List._++_ t43 (List._++_ t39 t2);
+          slots = List._∷_ (Row.lease (κs .0) (qs .0)) (List._∷_ (Row.lease (κs .1 .0) (qs .1 .0)) (List._∷_ (Row.lease (κs .1 .1 .0) (qs .1 .1 .0))
+              (List._∷_ (Row.lease (κs .1 .1 .1 .0) (qs .1 .1 .1 .0)) (List._∷_ (Row.lease (κs .1 .1 .1 .1 .0) (qs .1 .1 .1 .1 .0)) (List._∷_ Row.off (List._∷_ Row.off (List._∷_ Row.off (List._∷_ Row.off
+              (List._∷_ Row.off (List._∷_ Row.off List.[]))))))))));
+        }
 
         abbrev G62 : Row.Cx
-        G62 = record
-            { locals = List._++_ t44 (List._++_ t39 t2); slots = List._∷_ (Row.lease (κs .0) (qs .0)) (List._∷_ (Row.lease (κs .1 .0) (qs .1 .0)) (List._∷_ (Row.lease (κs .1 .1 .0) (qs .1 .1 .0))
-            (List._∷_ (Row.lease (κs .1 .1 .1 .0) (qs .1 .1 .1 .0)) (List._∷_ (Row.lease (κs .1 .1 .1 .1 .0) (qs .1 .1 .1 .1 .0)) (List._∷_ Row.off (List._∷_ Row.off (List._∷_ Row.off (List._∷_ Row.off
-            (List._∷_ Row.off (List._∷_ Row.off List.[])))))))))); }
+        G62 = record {
+          locals = List._++_ t44 (List._++_ t39 t2);
+          slots = List._∷_ (Row.lease (κs .0) (qs .0)) (List._∷_ (Row.lease (κs .1 .0) (qs .1 .0)) (List._∷_ (Row.lease (κs .1 .1 .0) (qs .1 .1 .0))
+              (List._∷_ (Row.lease (κs .1 .1 .1 .0) (qs .1 .1 .1 .0)) (List._∷_ (Row.lease (κs .1 .1 .1 .1 .0) (qs .1 .1 .1 .1 .0)) (List._∷_ Row.off (List._∷_ Row.off (List._∷_ Row.off (List._∷_ Row.off
+              (List._∷_ Row.off (List._∷_ Row.off List.[]))))))))));
+        }
 
         abbrev G63 : Row.Cx
-        G63 = record
-            { locals = List._++_ t3 (List._++_ t39 t2); slots = List._∷_ (Row.lease (κs .0) (qs .0)) (List._∷_ (Row.lease (κs .1 .0) (qs .1 .0)) (List._∷_ (Row.lease (κs .1 .1 .0) (qs .1 .1 .0)) (List._∷_
-            (Row.lease (κs .1 .1 .1 .0) (qs .1 .1 .1 .0)) (List._∷_ (Row.lease (κs .1 .1 .1 .1 .0) (qs .1 .1 .1 .1 .0)) (List._∷_ Row.off (List._∷_ Row.off (List._∷_ Row.off (List._∷_ Row.off (List._∷_
-            Row.off (List._∷_ Row.off List.[])))))))))); }
+        G63 = record {
+          locals = List._++_ t3 (List._++_ t39 t2);
+          slots = List._∷_ (Row.lease (κs .0) (qs .0)) (List._∷_ (Row.lease (κs .1 .0) (qs .1 .0)) (List._∷_ (Row.lease (κs .1 .1 .0) (qs .1 .1 .0)) (List._∷_
+              (Row.lease (κs .1 .1 .1 .0) (qs .1 .1 .1 .0)) (List._∷_ (Row.lease (κs .1 .1 .1 .1 .0) (qs .1 .1 .1 .1 .0)) (List._∷_ Row.off (List._∷_ Row.off (List._∷_ Row.off (List._∷_ Row.off (List._∷_
+              Row.off (List._∷_ Row.off List.[]))))))))));
+        }
 
         abbrev G64 : Row.Cx
-        G64 = record
-            { locals = List._++_ t3 (List._++_ t45 t2); slots = List._∷_ (Row.lease (κs .0) (qs .0)) (List._∷_ (Row.lease (κs .1 .0) (qs .1 .0)) (List._∷_ (Row.lease (κs .1 .1 .0) (qs .1 .1 .0)) (List._∷_
-            (Row.lease (κs .1 .1 .1 .0) (qs .1 .1 .1 .0)) (List._∷_ (Row.lease (κs .1 .1 .1 .1 .0) (qs .1 .1 .1 .1 .0)) (List._∷_ Row.off (List._∷_ Row.off (List._∷_ Row.off (List._∷_ Row.off (List._∷_
-            Row.off (List._∷_ Row.off List.[])))))))))); }
+        G64 = record {
+          locals = List._++_ t3 (List._++_ t45 t2);
+          slots = List._∷_ (Row.lease (κs .0) (qs .0)) (List._∷_ (Row.lease (κs .1 .0) (qs .1 .0)) (List._∷_ (Row.lease (κs .1 .1 .0) (qs .1 .1 .0)) (List._∷_
+              (Row.lease (κs .1 .1 .1 .0) (qs .1 .1 .1 .0)) (List._∷_ (Row.lease (κs .1 .1 .1 .1 .0) (qs .1 .1 .1 .1 .0)) (List._∷_ Row.off (List._∷_ Row.off (List._∷_ Row.off (List._∷_ Row.off (List._∷_
+              Row.off (List._∷_ Row.off List.[]))))))))));
+        }
 
         abbrev G65 : Row.Cx
-        G65 = record
-            { locals = List._++_ t3 (List._++_ t1 t2); slots = List._∷_ (Row.lease (κs .0) (qs .0)) (List._∷_ (Row.lease (κs .1 .0) (qs .1 .0)) (List._∷_ (Row.lease (κs .1 .1 .0) (qs .1 .1 .0)) (List._∷_
-            (Row.lease (κs .1 .1 .1 .0) (qs .1 .1 .1 .0)) (List._∷_ (Row.lease (κs .1 .1 .1 .1 .0) (qs .1 .1 .1 .1 .0)) (List._∷_ Row.off (List._∷_ Row.off (List._∷_ Row.off (List._∷_ Row.off (List._∷_
-            Row.off (List._∷_ Row.off List.[])))))))))); }
+        G65 = record {
+          locals = List._++_ t3 (List._++_ t1 t2);
+          slots = List._∷_ (Row.lease (κs .0) (qs .0)) (List._∷_ (Row.lease (κs .1 .0) (qs .1 .0)) (List._∷_ (Row.lease (κs .1 .1 .0) (qs .1 .1 .0)) (List._∷_
+              (Row.lease (κs .1 .1 .1 .0) (qs .1 .1 .1 .0)) (List._∷_ (Row.lease (κs .1 .1 .1 .1 .0) (qs .1 .1 .1 .1 .0)) (List._∷_ Row.off (List._∷_ Row.off (List._∷_ Row.off (List._∷_ Row.off (List._∷_
+              Row.off (List._∷_ Row.off List.[]))))))))));
+        }
 
         abbrev G66 : Row.Cx
-        G66 = record
-            { locals = List._++_ t9 (List._++_ t35 t2); slots = List._∷_ (Row.lease (κs .0) (qs .0)) (List._∷_ (Row.lease (κs .1 .0) (qs .1 .0)) (List._∷_ (Row.lease (κs .1 .1 .0) (qs .1 .1 .0)) (List._∷_
-            (Row.lease (κs .1 .1 .1 .0) (qs .1 .1 .1 .0)) (List._∷_ (Row.lease (κs .1 .1 .1 .1 .0) (qs .1 .1 .1 .1 .0)) (List._∷_ Row.off (List._∷_ Row.off (List._∷_ Row.off (List._∷_ Row.off (List._∷_
-            Row.off (List._∷_ Row.off List.[])))))))))); }
+        G66 = record {
+          locals = List._++_ t9 (List._++_ t35 t2);
+          slots = List._∷_ (Row.lease (κs .0) (qs .0)) (List._∷_ (Row.lease (κs .1 .0) (qs .1 .0)) (List._∷_ (Row.lease (κs .1 .1 .0) (qs .1 .1 .0)) (List._∷_
+              (Row.lease (κs .1 .1 .1 .0) (qs .1 .1 .1 .0)) (List._∷_ (Row.lease (κs .1 .1 .1 .1 .0) (qs .1 .1 .1 .1 .0)) (List._∷_ Row.off (List._∷_ Row.off (List._∷_ Row.off (List._∷_ Row.off (List._∷_
+              Row.off (List._∷_ Row.off List.[]))))))))));
+        }
 
         abbrev G67 : Row.Cx
-        G67 = record
-            { locals = List._++_ t9 (List._++_ t46 t2); slots = List._∷_ (Row.lease (κs .0) (qs .0)) (List._∷_ (Row.lease (κs .1 .0) (qs .1 .0)) (List._∷_ (Row.lease (κs .1 .1 .0) (qs .1 .1 .0)) (List._∷_
-            (Row.lease (κs .1 .1 .1 .0) (qs .1 .1 .1 .0)) (List._∷_ (Row.lease (κs .1 .1 .1 .1 .0) (qs .1 .1 .1 .1 .0)) (List._∷_ Row.off (List._∷_ Row.off (List._∷_ Row.off (List._∷_ Row.off (List._∷_
-            Row.off (List._∷_ Row.off List.[])))))))))); }
+        G67 = record {
+          locals = List._++_ t9 (List._++_ t46 t2);
+          slots = List._∷_ (Row.lease (κs .0) (qs .0)) (List._∷_ (Row.lease (κs .1 .0) (qs .1 .0)) (List._∷_ (Row.lease (κs .1 .1 .0) (qs .1 .1 .0)) (List._∷_
+              (Row.lease (κs .1 .1 .1 .0) (qs .1 .1 .1 .0)) (List._∷_ (Row.lease (κs .1 .1 .1 .1 .0) (qs .1 .1 .1 .1 .0)) (List._∷_ Row.off (List._∷_ Row.off (List._∷_ Row.off (List._∷_ Row.off (List._∷_
+              Row.off (List._∷_ Row.off List.[]))))))))));
+        }
 
         abbrev G68 : Row.Cx
-        G68 = record
-            { locals = List._++_ t9 (List._++_ t46 t2); slots = List._∷_ (Row.lease (κs .0) (qs .0)) (List._∷_ (Row.lease (κs .1 .0) (qs .1 .0)) (List._∷_ (Row.lease (κs .1 .1 .0) (qs .1 .1 .0)) (List._∷_
-            (Row.lease (κs .1 .1 .1 .0) (qs .1 .1 .1 .0)) (List._∷_ (Row.lease (κs .1 .1 .1 .1 .0) (qs .1 .1 .1 .1 .0)) (List._∷_ Row.off (List._∷_ Row.off (List._∷_ Row.off (List._∷_ Row.alive (List._∷_
-            Row.off (List._∷_ Row.off List.[])))))))))); }
+        G68 = record {
+          locals = List._++_ t9 (List._++_ t46 t2);
+          slots = List._∷_ (Row.lease (κs .0) (qs .0)) (List._∷_ (Row.lease (κs .1 .0) (qs .1 .0)) (List._∷_ (Row.lease (κs .1 .1 .0) (qs .1 .1 .0)) (List._∷_
+              (Row.lease (κs .1 .1 .1 .0) (qs .1 .1 .1 .0)) (List._∷_ (Row.lease (κs .1 .1 .1 .1 .0) (qs .1 .1 .1 .1 .0)) (List._∷_ Row.off (List._∷_ Row.off (List._∷_ Row.off (List._∷_ Row.alive (List._∷_
+              Row.off (List._∷_ Row.off List.[]))))))))));
+        }
 
         abbrev G69 : Row.Cx
-        G69 = record
-            { locals = List._++_ g47 (List._++_ t46 t48); slots = List._∷_ (Row.lease (κs .0) (qs .0)) (List._∷_ (Row.lease (κs .1 .0) (qs .1 .0)) (List._∷_ Row.off (List._∷_ (Row.lease (κs .1 .1 .1 .0)
-            (qs .1 .1 .1 .0)) (List._∷_ (Row.lease (κs .1 .1 .1 .1 .0) (qs .1 .1 .1 .1 .0)) (List._∷_ Row.off (List._∷_ Row.off (List._∷_ Row.off (List._∷_ Row.alive (List._∷_ Row.off (List._∷_ Row.off
-            List.[])))))))))); }
+        G69 = record {
+          locals = List._++_ g47 (List._++_ t46 t48);
+          slots = List._∷_ (Row.lease (κs .0) (qs .0)) (List._∷_ (Row.lease (κs .1 .0) (qs .1 .0)) (List._∷_ Row.off (List._∷_ (Row.lease (κs .1 .1 .1 .0)
+              (qs .1 .1 .1 .0)) (List._∷_ (Row.lease (κs .1 .1 .1 .1 .0) (qs .1 .1 .1 .1 .0)) (List._∷_ Row.off (List._∷_ Row.off (List._∷_ Row.off (List._∷_ Row.alive (List._∷_ Row.off (List._∷_ Row.off
+              List.[]))))))))));
+        }
 
         abbrev G70 : Row.Cx
-        G70 = record
-            { locals = List._++_ g47 (List._++_ t46 t49); slots = List._∷_ (Row.lease (κs .0) (qs .0)) (List._∷_ (Row.lease (κs .1 .0) (qs .1 .0)) (List._∷_ Row.off (List._∷_ (Row.lease (κs .1 .1 .1 .0)
-            (qs .1 .1 .1 .0)) (List._∷_ (Row.lease (κs .1 .1 .1 .1 .0) (qs .1 .1 .1 .1 .0)) (List._∷_ Row.off (List._∷_ Row.off (List._∷_ Row.off (List._∷_ Row.alive (List._∷_ Row.off (List._∷_ Row.off
-            List.[])))))))))); }
+        G70 = record {
+          locals = List._++_ g47 (List._++_ t46 t49);
+          slots = List._∷_ (Row.lease (κs .0) (qs .0)) (List._∷_ (Row.lease (κs .1 .0) (qs .1 .0)) (List._∷_ Row.off (List._∷_ (Row.lease (κs .1 .1 .1 .0)
+              (qs .1 .1 .1 .0)) (List._∷_ (Row.lease (κs .1 .1 .1 .1 .0) (qs .1 .1 .1 .1 .0)) (List._∷_ Row.off (List._∷_ Row.off (List._∷_ Row.off (List._∷_ Row.alive (List._∷_ Row.off (List._∷_ Row.off
+              List.[]))))))))));
+        }
 
         abbrev G71 : Row.Cx
-        G71 = record
-            { locals = List._++_ g47 (List._++_ t50 t51); slots = List._∷_ (Row.lease (κs .0) (qs .0)) (List._∷_ (Row.lease (κs .1 .0) (qs .1 .0)) (List._∷_ Row.off (List._∷_ (Row.lease (κs .1 .1 .1 .0)
-            (qs .1 .1 .1 .0)) (List._∷_ (Row.lease (κs .1 .1 .1 .1 .0) (qs .1 .1 .1 .1 .0)) (List._∷_ Row.off (List._∷_ Row.off (List._∷_ Row.off (List._∷_ Row.alive (List._∷_ Row.off (List._∷_ Row.off
-            List.[])))))))))); }
+        G71 = record {
+          locals = List._++_ g47 (List._++_ t50 t51);
+          slots = List._∷_ (Row.lease (κs .0) (qs .0)) (List._∷_ (Row.lease (κs .1 .0) (qs .1 .0)) (List._∷_ Row.off (List._∷_ (Row.lease (κs .1 .1 .1 .0)
+              (qs .1 .1 .1 .0)) (List._∷_ (Row.lease (κs .1 .1 .1 .1 .0) (qs .1 .1 .1 .1 .0)) (List._∷_ Row.off (List._∷_ Row.off (List._∷_ Row.off (List._∷_ Row.alive (List._∷_ Row.off (List._∷_ Row.off
+              List.[]))))))))));
+        }
 
         abbrev G72 : Row.Cx
-        G72 = record
-            { locals = List._++_ g47 (List._++_ t52 t51); slots = List._∷_ (Row.lease (κs .0) (qs .0)) (List._∷_ (Row.lease (κs .1 .0) (qs .1 .0)) (List._∷_ Row.off (List._∷_ (Row.lease (κs .1 .1 .1 .0)
-            (qs .1 .1 .1 .0)) (List._∷_ (Row.lease (κs .1 .1 .1 .1 .0) (qs .1 .1 .1 .1 .0)) (List._∷_ Row.off (List._∷_ Row.off (List._∷_ Row.off (List._∷_ Row.alive (List._∷_ Row.off (List._∷_ Row.off
-            List.[])))))))))); }
+        G72 = record {
+          locals = List._++_ g47 (List._++_ t52 t51);
+          slots = List._∷_ (Row.lease (κs .0) (qs .0)) (List._∷_ (Row.lease (κs .1 .0) (qs .1 .0)) (List._∷_ Row.off (List._∷_ (Row.lease (κs .1 .1 .1 .0)
+              (qs .1 .1 .1 .0)) (List._∷_ (Row.lease (κs .1 .1 .1 .1 .0) (qs .1 .1 .1 .1 .0)) (List._∷_ Row.off (List._∷_ Row.off (List._∷_ Row.off (List._∷_ Row.alive (List._∷_ Row.off (List._∷_ Row.off
+              List.[]))))))))));
+        }
 
         abbrev G73 : Row.Cx
-        G73 = record
-            { locals = List._++_ g47 (List._++_ t53 t51); slots = List._∷_ (Row.lease (κs .0) (qs .0)) (List._∷_ (Row.lease (κs .1 .0) (qs .1 .0)) (List._∷_ Row.off (List._∷_ (Row.lease (κs .1 .1 .1 .0)
-            (qs .1 .1 .1 .0)) (List._∷_ (Row.lease (κs .1 .1 .1 .1 .0) (qs .1 .1 .1 .1 .0)) (List._∷_ Row.off (List._∷_ Row.off (List._∷_ Row.off (List._∷_ Row.alive (List._∷_ Row.off (List._∷_ Row.off
-            List.[])))))))))); }
+        G73 = record {
+          locals = List._++_ g47 (List._++_ t53 t51);
+          slots = List._∷_ (Row.lease (κs .0) (qs .0)) (List._∷_ (Row.lease (κs .1 .0) (qs .1 .0)) (List._∷_ Row.off (List._∷_ (Row.lease (κs .1 .1 .1 .0)
+              (qs .1 .1 .1 .0)) (List._∷_ (Row.lease (κs .1 .1 .1 .1 .0) (qs .1 .1 .1 .1 .0)) (List._∷_ Row.off (List._∷_ Row.off (List._∷_ Row.off (List._∷_ Row.alive (List._∷_ Row.off (List._∷_ Row.off
+              List.[]))))))))));
+        }
 
         abbrev G74 : Row.Cx
-        G74 = record
-            { locals = List._++_ g47 (List._++_ t54 t51); slots = List._∷_ (Row.lease (κs .0) (qs .0)) (List._∷_ (Row.lease (κs .1 .0) (qs .1 .0)) (List._∷_ Row.off (List._∷_ (Row.lease (κs .1 .1 .1 .0)
-            (qs .1 .1 .1 .0)) (List._∷_ (Row.lease (κs .1 .1 .1 .1 .0) (qs .1 .1 .1 .1 .0)) (List._∷_ Row.off (List._∷_ Row.off (List._∷_ Row.off (List._∷_ Row.alive (List._∷_ Row.off (List._∷_ Row.off
-            List.[])))))))))); }
+        G74 = record {
+          locals = List._++_ g47 (List._++_ t54 t51);
+          slots = List._∷_ (Row.lease (κs .0) (qs .0)) (List._∷_ (Row.lease (κs .1 .0) (qs .1 .0)) (List._∷_ Row.off (List._∷_ (Row.lease (κs .1 .1 .1 .0)
+              (qs .1 .1 .1 .0)) (List._∷_ (Row.lease (κs .1 .1 .1 .1 .0) (qs .1 .1 .1 .1 .0)) (List._∷_ Row.off (List._∷_ Row.off (List._∷_ Row.off (List._∷_ Row.alive (List._∷_ Row.off (List._∷_ Row.off
+              List.[]))))))))));
+        }
 
         abbrev G75 : Row.Cx
-        G75 = record
-            { locals = List._++_ g47 (List._++_ t54 t51); slots = List._∷_ (Row.lease (κs .0) (qs .0)) (List._∷_ (Row.lease (κs .1 .0) (qs .1 .0)) (List._∷_ Row.off (List._∷_ (Row.lease (κs .1 .1 .1 .0)
-            (qs .1 .1 .1 .0)) (List._∷_ (Row.lease (κs .1 .1 .1 .1 .0) (qs .1 .1 .1 .1 .0)) (List._∷_ Row.off (List._∷_ Row.off (List._∷_ Row.off (List._∷_ Row.dead (List._∷_ Row.off (List._∷_ Row.off
-            List.[])))))))))); }
+        G75 = record {
+          locals = List._++_ g47 (List._++_ t54 t51);
+          slots = List._∷_ (Row.lease (κs .0) (qs .0)) (List._∷_ (Row.lease (κs .1 .0) (qs .1 .0)) (List._∷_ Row.off (List._∷_ (Row.lease (κs .1 .1 .1 .0)
+              (qs .1 .1 .1 .0)) (List._∷_ (Row.lease (κs .1 .1 .1 .1 .0) (qs .1 .1 .1 .1 .0)) (List._∷_ Row.off (List._∷_ Row.off (List._∷_ Row.off (List._∷_ Row.dead (List._∷_ Row.off (List._∷_ Row.off
+              List.[]))))))))));
+        }
 
         abbrev G76 : Row.Cx
-        G76 = record
-            { locals = List._++_ t9 (List._++_ t54 t2); slots = List._∷_ (Row.lease (κs .0) (qs .0)) (List._∷_ (Row.lease (κs .1 .0) (qs .1 .0)) (List._∷_ (Row.lease (κs .1 .1 .0) (qs .1 .1 .0)) (List._∷_
-            (Row.lease (κs .1 .1 .1 .0) (qs .1 .1 .1 .0)) (List._∷_ (Row.lease (κs .1 .1 .1 .1 .0) (qs .1 .1 .1 .1 .0)) (List._∷_ Row.off (List._∷_ Row.off (List._∷_ Row.off (List._∷_ Row.dead (List._∷_
-            Row.off (List._∷_ Row.off List.[])))))))))); }
+        G76 = record {
+          locals = List._++_ t9 (List._++_ t54 t2);
+          slots = List._∷_ (Row.lease (κs .0) (qs .0)) (List._∷_ (Row.lease (κs .1 .0) (qs .1 .0)) (List._∷_ (Row.lease (κs .1 .1 .0) (qs .1 .1 .0)) (List._∷_
+              (Row.lease (κs .1 .1 .1 .0) (qs .1 .1 .1 .0)) (List._∷_ (Row.lease (κs .1 .1 .1 .1 .0) (qs .1 .1 .1 .1 .0)) (List._∷_ Row.off (List._∷_ Row.off (List._∷_ Row.off (List._∷_ Row.dead (List._∷_
+              Row.off (List._∷_ Row.off List.[]))))))))));
+        }
 
         abbrev G77 : Row.Cx
-        G77 = record
-            { locals = List._++_ t9 (List._++_ t54 t2); slots = List._∷_ (Row.lease (κs .0) (qs .0)) (List._∷_ (Row.lease (κs .1 .0) (qs .1 .0)) (List._∷_ (Row.lease (κs .1 .1 .0) (qs .1 .1 .0)) (List._∷_
-            (Row.lease (κs .1 .1 .1 .0) (qs .1 .1 .1 .0)) (List._∷_ (Row.lease (κs .1 .1 .1 .1 .0) (qs .1 .1 .1 .1 .0)) (List._∷_ Row.off (List._∷_ Row.off (List._∷_ Row.off (List._∷_ Row.off (List._∷_
-            Row.off (List._∷_ Row.off List.[])))))))))); }
+        G77 = record {
+          locals = List._++_ t9 (List._++_ t54 t2);
+          slots = List._∷_ (Row.lease (κs .0) (qs .0)) (List._∷_ (Row.lease (κs .1 .0) (qs .1 .0)) (List._∷_ (Row.lease (κs .1 .1 .0) (qs .1 .1 .0)) (List._∷_
+              (Row.lease (κs .1 .1 .1 .0) (qs .1 .1 .1 .0)) (List._∷_ (Row.lease (κs .1 .1 .1 .1 .0) (qs .1 .1 .1 .1 .0)) (List._∷_ Row.off (List._∷_ Row.off (List._∷_ Row.off (List._∷_ Row.off (List._∷_
+              Row.off (List._∷_ Row.off List.[]))))))))));
+        }
 
         abbrev G78 : Row.Cx
-        G78 = record
-            { locals = List._++_ t9 (List._++_ t55 t2); slots = List._∷_ (Row.lease (κs .0) (qs .0)) (List._∷_ (Row.lease (κs .1 .0) (qs .1 .0)) (List._∷_ (Row.lease (κs .1 .1 .0) (qs .1 .1 .0)) (List._∷_
-            (Row.lease (κs .1 .1 .1 .0) (qs .1 .1 .1 .0)) (List._∷_ (Row.lease (κs .1 .1 .1 .1 .0) (qs .1 .1 .1 .1 .0)) (List._∷_ Row.off (List._∷_ Row.off (List._∷_ Row.off (List._∷_ Row.off (List._∷_
-            Row.off (List._∷_ Row.off List.[])))))))))); }
+        G78 = record {
+          locals = List._++_ t9 (List._++_ t55 t2);
+          slots = List._∷_ (Row.lease (κs .0) (qs .0)) (List._∷_ (Row.lease (κs .1 .0) (qs .1 .0)) (List._∷_ (Row.lease (κs .1 .1 .0) (qs .1 .1 .0)) (List._∷_
+              (Row.lease (κs .1 .1 .1 .0) (qs .1 .1 .1 .0)) (List._∷_ (Row.lease (κs .1 .1 .1 .1 .0) (qs .1 .1 .1 .1 .0)) (List._∷_ Row.off (List._∷_ Row.off (List._∷_ Row.off (List._∷_ Row.off (List._∷_
+              Row.off (List._∷_ Row.off List.[]))))))))));
+        }
 
         abbrev G79 : Row.Cx
-        G79 = record
-            { locals = List._++_ t9 (List._++_ t56 t2); slots = List._∷_ (Row.lease (κs .0) (qs .0)) (List._∷_ (Row.lease (κs .1 .0) (qs .1 .0)) (List._∷_ (Row.lease (κs .1 .1 .0) (qs .1 .1 .0)) (List._∷_
-            (Row.lease (κs .1 .1 .1 .0) (qs .1 .1 .1 .0)) (List._∷_ (Row.lease (κs .1 .1 .1 .1 .0) (qs .1 .1 .1 .1 .0)) (List._∷_ Row.off (List._∷_ Row.off (List._∷_ Row.off (List._∷_ Row.off (List._∷_
-            Row.off (List._∷_ Row.off List.[])))))))))); }
+        G79 = record {
+          locals = List._++_ t9 (List._++_ t56 t2);
+          slots = List._∷_ (Row.lease (κs .0) (qs .0)) (List._∷_ (Row.lease (κs .1 .0) (qs .1 .0)) (List._∷_ (Row.lease (κs .1 .1 .0) (qs .1 .1 .0)) (List._∷_
+              (Row.lease (κs .1 .1 .1 .0) (qs .1 .1 .1 .0)) (List._∷_ (Row.lease (κs .1 .1 .1 .1 .0) (qs .1 .1 .1 .1 .0)) (List._∷_ Row.off (List._∷_ Row.off (List._∷_ Row.off (List._∷_ Row.off (List._∷_
+              Row.off (List._∷_ Row.off List.[]))))))))));
+        }
 
         abbrev G80 : Row.Cx
-        G80 = record
-            { locals = List._++_ t9 (List._++_ t56 t2); slots = List._∷_ (Row.lease (κs .0) (qs .0)) (List._∷_ (Row.lease (κs .1 .0) (qs .1 .0)) (List._∷_ (Row.lease (κs .1 .1 .0) (qs .1 .1 .0)) (List._∷_
-            (Row.lease (κs .1 .1 .1 .0) (qs .1 .1 .1 .0)) (List._∷_ (Row.lease (κs .1 .1 .1 .1 .0) (qs .1 .1 .1 .1 .0)) (List._∷_ Row.off (List._∷_ Row.off (List._∷_ Row.off (List._∷_ Row.off (List._∷_
-            Row.alive (List._∷_ Row.off List.[])))))))))); }
+        G80 = record {
+          locals = List._++_ t9 (List._++_ t56 t2);
+          slots = List._∷_ (Row.lease (κs .0) (qs .0)) (List._∷_ (Row.lease (κs .1 .0) (qs .1 .0)) (List._∷_ (Row.lease (κs .1 .1 .0) (qs .1 .1 .0)) (List._∷_
+              (Row.lease (κs .1 .1 .1 .0) (qs .1 .1 .1 .0)) (List._∷_ (Row.lease (κs .1 .1 .1 .1 .0) (qs .1 .1 .1 .1 .0)) (List._∷_ Row.off (List._∷_ Row.off (List._∷_ Row.off (List._∷_ Row.off (List._∷_
+              Row.alive (List._∷_ Row.off List.[]))))))))));
+        }
 
         abbrev G81 : Row.Cx
-        G81 = record
-            { locals = List._++_ g57 (List._++_ t56 t58); slots = List._∷_ (Row.lease (κs .0) (qs .0)) (List._∷_ Row.off (List._∷_ (Row.lease (κs .1 .1 .0) (qs .1 .1 .0)) (List._∷_ (Row.lease (κs .1 .1 .1
-            .0) (qs .1 .1 .1 .0)) (List._∷_ (Row.lease (κs .1 .1 .1 .1 .0) (qs .1 .1 .1 .1 .0)) (List._∷_ Row.off (List._∷_ Row.off (List._∷_ Row.off (List._∷_ Row.off (List._∷_ Row.alive (List._∷_
-            Row.off List.[])))))))))); }
+        G81 = record {
+          locals = List._++_ g57 (List._++_ t56 t58);
+          slots = List._∷_ (Row.lease (κs .0) (qs .0)) (List._∷_ Row.off (List._∷_ (Row.lease (κs .1 .1 .0) (qs .1 .1 .0)) (List._∷_ (Row.lease (κs .1 .1 .1
+              .0) (qs .1 .1 .1 .0)) (List._∷_ (Row.lease (κs .1 .1 .1 .1 .0) (qs .1 .1 .1 .1 .0)) (List._∷_ Row.off (List._∷_ Row.off (List._∷_ Row.off (List._∷_ Row.off (List._∷_ Row.alive (List._∷_
+              Row.off List.[]))))))))));
+        }
 
         abbrev G82 : Row.Cx
-        G82 = record
-            { locals = List._++_ g57 (List._++_ t56 t59); slots = List._∷_ (Row.lease (κs .0) (qs .0)) (List._∷_ Row.off (List._∷_ (Row.lease (κs .1 .1 .0) (qs .1 .1 .0)) (List._∷_ (Row.lease (κs .1 .1 .1
-            .0) (qs .1 .1 .1 .0)) (List._∷_ (Row.lease (κs .1 .1 .1 .1 .0) (qs .1 .1 .1 .1 .0)) (List._∷_ Row.off (List._∷_ Row.off (List._∷_ Row.off (List._∷_ Row.off (List._∷_ Row.alive (List._∷_
-            Row.off List.[])))))))))); }
+        G82 = record {
+          locals = List._++_ g57 (List._++_ t56 t59);
+          slots = List._∷_ (Row.lease (κs .0) (qs .0)) (List._∷_ Row.off (List._∷_ (Row.lease (κs .1 .1 .0) (qs .1 .1 .0)) (List._∷_ (Row.lease (κs .1 .1 .1
+              .0) (qs .1 .1 .1 .0)) (List._∷_ (Row.lease (κs .1 .1 .1 .1 .0) (qs .1 .1 .1 .1 .0)) (List._∷_ Row.off (List._∷_ Row.off (List._∷_ Row.off (List._∷_ Row.off (List._∷_ Row.alive (List._∷_
+              Row.off List.[]))))))))));
+        }
 
         abbrev G83 : Row.Cx
-        G83 = record
-            { locals = List._++_ g57 (List._++_ t56 t59); slots = List._∷_ (Row.lease (κs .0) (qs .0)) (List._∷_ Row.off (List._∷_ (Row.lease (κs .1 .1 .0) (qs .1 .1 .0)) (List._∷_ (Row.lease (κs .1 .1 .1
-            .0) (qs .1 .1 .1 .0)) (List._∷_ (Row.lease (κs .1 .1 .1 .1 .0) (qs .1 .1 .1 .1 .0)) (List._∷_ Row.off (List._∷_ Row.off (List._∷_ Row.off (List._∷_ Row.off (List._∷_ Row.alive (List._∷_
-            Row.alive List.[])))))))))); }
+        G83 = record {
+          locals = List._++_ g57 (List._++_ t56 t59);
+          slots = List._∷_ (Row.lease (κs .0) (qs .0)) (List._∷_ Row.off (List._∷_ (Row.lease (κs .1 .1 .0) (qs .1 .1 .0)) (List._∷_ (Row.lease (κs .1 .1 .1
+              .0) (qs .1 .1 .1 .0)) (List._∷_ (Row.lease (κs .1 .1 .1 .1 .0) (qs .1 .1 .1 .1 .0)) (List._∷_ Row.off (List._∷_ Row.off (List._∷_ Row.off (List._∷_ Row.off (List._∷_ Row.alive (List._∷_
+              Row.alive List.[]))))))))));
+        }
 
         abbrev G84 : Row.Cx
-        G84 = record
-            { locals = List._++_ g60 (List._++_ t56 t61); slots = List._∷_ (Row.lease (κs .0) (qs .0)) (List._∷_ Row.off (List._∷_ (Row.lease (κs .1 .1 .0) (qs .1 .1 .0)) (List._∷_ Row.off (List._∷_
-            (Row.lease (κs .1 .1 .1 .1 .0) (qs .1 .1 .1 .1 .0)) (List._∷_ Row.off (List._∷_ Row.off (List._∷_ Row.off (List._∷_ Row.off (List._∷_ Row.alive (List._∷_ Row.alive List.[])))))))))); }
+        G84 = record {
+          locals = List._++_ g60 (List._++_ t56 t61);
+          slots = List._∷_ (Row.lease (κs .0) (qs .0)) (List._∷_ Row.off (List._∷_ (Row.lease (κs .1 .1 .0) (qs .1 .1 .0)) (List._∷_ Row.off (List._∷_
+              (Row.lease (κs .1 .1 .1 .1 .0) (qs .1 .1 .1 .1 .0)) (List._∷_ Row.off (List._∷_ Row.off (List._∷_ Row.off (List._∷_ Row.off (List._∷_ Row.alive (List._∷_ Row.alive List.[]))))))))));
+        }
 
         abbrev G85 : Row.Cx
-        G85 = record
-            { locals = List._++_ g60 (List._++_ t56 t62); slots = List._∷_ (Row.lease (κs .0) (qs .0)) (List._∷_ Row.off (List._∷_ (Row.lease (κs .1 .1 .0) (qs .1 .1 .0)) (List._∷_ Row.off (List._∷_
-            (Row.lease (κs .1 .1 .1 .1 .0) (qs .1 .1 .1 .1 .0)) (List._∷_ Row.off (List._∷_ Row.off (List._∷_ Row.off (List._∷_ Row.off (List._∷_ Row.alive (List._∷_ Row.alive List.[])))))))))); }
+        G85 = record {
+          locals = List._++_ g60 (List._++_ t56 t62);
+          slots = List._∷_ (Row.lease (κs .0) (qs .0)) (List._∷_ Row.off (List._∷_ (Row.lease (κs .1 .1 .0) (qs .1 .1 .0)) (List._∷_ Row.off (List._∷_
+              (Row.lease (κs .1 .1 .1 .1 .0) (qs .1 .1 .1 .1 .0)) (List._∷_ Row.off (List._∷_ Row.off (List._∷_ Row.off (List._∷_ Row.off (List._∷_ Row.alive (List._∷_ Row.alive List.[]))))))))));
+        }
 
         abbrev G86 : Row.Cx
-        G86 = record
-            { locals = List._++_ g60 (List._++_ t63 t64); slots = List._∷_ (Row.lease (κs .0) (qs .0)) (List._∷_ Row.off (List._∷_ (Row.lease (κs .1 .1 .0) (qs .1 .1 .0)) (List._∷_ Row.off (List._∷_
-            (Row.lease (κs .1 .1 .1 .1 .0) (qs .1 .1 .1 .1 .0)) (List._∷_ Row.off (List._∷_ Row.off (List._∷_ Row.off (List._∷_ Row.off (List._∷_ Row.alive (List._∷_ Row.alive List.[])))))))))); }
+        G86 = record {
+          locals = List._++_ g60 (List._++_ t63 t64);
+          slots = List._∷_ (Row.lease (κs .0) (qs .0)) (List._∷_ Row.off (List._∷_ (Row.lease (κs .1 .1 .0) (qs .1 .1 .0)) (List._∷_ Row.off (List._∷_
+              (Row.lease (κs .1 .1 .1 .1 .0) (qs .1 .1 .1 .1 .0)) (List._∷_ Row.off (List._∷_ Row.off (List._∷_ Row.off (List._∷_ Row.off (List._∷_ Row.alive (List._∷_ Row.alive List.[]))))))))));
+        }
 
         abbrev G87 : Row.Cx
-        G87 = record
-            { locals = List._++_ g60 (List._++_ t63 t65); slots = List._∷_ (Row.lease (κs .0) (qs .0)) (List._∷_ Row.off (List._∷_ (Row.lease (κs .1 .1 .0) (qs .1 .1 .0)) (List._∷_ Row.off (List._∷_
-            (Row.lease (κs .1 .1 .1 .1 .0) (qs .1 .1 .1 .1 .0)) (List._∷_ Row.off (List._∷_ Row.off (List._∷_ Row.off (List._∷_ Row.off (List._∷_ Row.alive (List._∷_ Row.alive List.[])))))))))); }
+        G87 = record {
+          locals = List._++_ g60 (List._++_ t63 t65);
+          slots = List._∷_ (Row.lease (κs .0) (qs .0)) (List._∷_ Row.off (List._∷_ (Row.lease (κs .1 .1 .0) (qs .1 .1 .0)) (List._∷_ Row.off (List._∷_
+              (Row.lease (κs .1 .1 .1 .1 .0) (qs .1 .1 .1 .1 .0)) (List._∷_ Row.off (List._∷_ Row.off (List._∷_ Row.off (List._∷_ Row.off (List._∷_ Row.alive (List._∷_ Row.alive List.[]))))))))));
+        }
 
         abbrev G88 : Row.Cx
-        G88 = record
-            { locals = List._++_ g60 (List._++_ t56 t65); slots = List._∷_ (Row.lease (κs .0) (qs .0)) (List._∷_ Row.off (List._∷_ (Row.lease (κs .1 .1 .0) (qs .1 .1 .0)) (List._∷_ Row.off (List._∷_
-            (Row.lease (κs .1 .1 .1 .1 .0) (qs .1 .1 .1 .1 .0)) (List._∷_ Row.off (List._∷_ Row.off (List._∷_ Row.off (List._∷_ Row.off (List._∷_ Row.alive (List._∷_ Row.alive List.[])))))))))); }
+        G88 = record {
+          locals = List._++_ g60 (List._++_ t56 t65);
+          slots = List._∷_ (Row.lease (κs .0) (qs .0)) (List._∷_ Row.off (List._∷_ (Row.lease (κs .1 .1 .0) (qs .1 .1 .0)) (List._∷_ Row.off (List._∷_
+              (Row.lease (κs .1 .1 .1 .1 .0) (qs .1 .1 .1 .1 .0)) (List._∷_ Row.off (List._∷_ Row.off (List._∷_ Row.off (List._∷_ Row.off (List._∷_ Row.alive (List._∷_ Row.alive List.[]))))))))));
+        }
 
         abbrev G89 : Row.Cx
-        G89 = record
-            { locals = List._++_ g60 (List._++_ t56 t65); slots = List._∷_ (Row.lease (κs .0) (qs .0)) (List._∷_ Row.off (List._∷_ (Row.lease (κs .1 .1 .0) (qs .1 .1 .0)) (List._∷_ Row.off (List._∷_
-            (Row.lease (κs .1 .1 .1 .1 .0) (qs .1 .1 .1 .1 .0)) (List._∷_ Row.off (List._∷_ Row.off (List._∷_ Row.off (List._∷_ Row.off (List._∷_ Row.dead (List._∷_ Row.alive List.[])))))))))); }
+        G89 = record {
+          locals = List._++_ g60 (List._++_ t56 t65);
+          slots = List._∷_ (Row.lease (κs .0) (qs .0)) (List._∷_ Row.off (List._∷_ (Row.lease (κs .1 .1 .0) (qs .1 .1 .0)) (List._∷_ Row.off (List._∷_
+              (Row.lease (κs .1 .1 .1 .1 .0) (qs .1 .1 .1 .1 .0)) (List._∷_ Row.off (List._∷_ Row.off (List._∷_ Row.off (List._∷_ Row.off (List._∷_ Row.dead (List._∷_ Row.alive List.[]))))))))));
+        }
 
         abbrev G90 : Row.Cx
-        G90 = record
-            { locals = List._++_ g66 (List._++_ t56 t65); slots = List._∷_ (Row.lease (κs .0) (qs .0)) (List._∷_ (Row.lease (κs .1 .0) (qs .1 .0)) (List._∷_ (Row.lease (κs .1 .1 .0) (qs .1 .1 .0))
-            (List._∷_ Row.off (List._∷_ (Row.lease (κs .1 .1 .1 .1 .0) (qs .1 .1 .1 .1 .0)) (List._∷_ Row.off (List._∷_ Row.off (List._∷_ Row.off (List._∷_ Row.off (List._∷_ Row.dead (List._∷_ Row.alive
-            List.[])))))))))); }
+        G90 = record {
+          locals = List._++_ g66 (List._++_ t56 t65);
+          slots = List._∷_ (Row.lease (κs .0) (qs .0)) (List._∷_ (Row.lease (κs .1 .0) (qs .1 .0)) (List._∷_ (Row.lease (κs .1 .1 .0) (qs .1 .1 .0))
+              (List._∷_ Row.off (List._∷_ (Row.lease (κs .1 .1 .1 .1 .0) (qs .1 .1 .1 .1 .0)) (List._∷_ Row.off (List._∷_ Row.off (List._∷_ Row.off (List._∷_ Row.off (List._∷_ Row.dead (List._∷_ Row.alive
+              List.[]))))))))));
+        }
 
         abbrev G91 : Row.Cx
-        G91 = record
-            { locals = List._++_ g66 (List._++_ t56 t65); slots = List._∷_ (Row.lease (κs .0) (qs .0)) (List._∷_ (Row.lease (κs .1 .0) (qs .1 .0)) (List._∷_ (Row.lease (κs .1 .1 .0) (qs .1 .1 .0))
-            (List._∷_ Row.off (List._∷_ (Row.lease (κs .1 .1 .1 .1 .0) (qs .1 .1 .1 .1 .0)) (List._∷_ Row.off (List._∷_ Row.off (List._∷_ Row.off (List._∷_ Row.off (List._∷_ Row.off (List._∷_ Row.alive
-            List.[])))))))))); }
+        G91 = record {
+          locals = List._++_ g66 (List._++_ t56 t65);
+          slots = List._∷_ (Row.lease (κs .0) (qs .0)) (List._∷_ (Row.lease (κs .1 .0) (qs .1 .0)) (List._∷_ (Row.lease (κs .1 .1 .0) (qs .1 .1 .0))
+              (List._∷_ Row.off (List._∷_ (Row.lease (κs .1 .1 .1 .1 .0) (qs .1 .1 .1 .1 .0)) (List._∷_ Row.off (List._∷_ Row.off (List._∷_ Row.off (List._∷_ Row.off (List._∷_ Row.off (List._∷_ Row.alive
+              List.[]))))))))));
+        }
 
         abbrev G92 : Row.Cx
-        G92 = record
-            { locals = List._++_ g66 (List._++_ t56 t65); slots = List._∷_ (Row.lease (κs .0) (qs .0)) (List._∷_ (Row.lease (κs .1 .0) (qs .1 .0)) (List._∷_ (Row.lease (κs .1 .1 .0) (qs .1 .1 .0))
-            (List._∷_ Row.off (List._∷_ (Row.lease (κs .1 .1 .1 .1 .0) (qs .1 .1 .1 .1 .0)) (List._∷_ Row.off (List._∷_ Row.off (List._∷_ Row.off (List._∷_ Row.off (List._∷_ Row.off (List._∷_ Row.dead
-            List.[])))))))))); }
+        G92 = record {
+          locals = List._++_ g66 (List._++_ t56 t65);
+          slots = List._∷_ (Row.lease (κs .0) (qs .0)) (List._∷_ (Row.lease (κs .1 .0) (qs .1 .0)) (List._∷_ (Row.lease (κs .1 .1 .0) (qs .1 .1 .0))
+              (List._∷_ Row.off (List._∷_ (Row.lease (κs .1 .1 .1 .1 .0) (qs .1 .1 .1 .1 .0)) (List._∷_ Row.off (List._∷_ Row.off (List._∷_ Row.off (List._∷_ Row.off (List._∷_ Row.off (List._∷_ Row.dead
+              List.[]))))))))));
+        }
 
         abbrev G93 : Row.Cx
-        G93 = record
-            { locals = List._++_ t9 (List._++_ t56 t2); slots = List._∷_ (Row.lease (κs .0) (qs .0)) (List._∷_ (Row.lease (κs .1 .0) (qs .1 .0)) (List._∷_ (Row.lease (κs .1 .1 .0) (qs .1 .1 .0)) (List._∷_
-            (Row.lease (κs .1 .1 .1 .0) (qs .1 .1 .1 .0)) (List._∷_ (Row.lease (κs .1 .1 .1 .1 .0) (qs .1 .1 .1 .1 .0)) (List._∷_ Row.off (List._∷_ Row.off (List._∷_ Row.off (List._∷_ Row.off (List._∷_
-            Row.off (List._∷_ Row.dead List.[])))))))))); }
+        G93 = record {
+          locals = List._++_ t9 (List._++_ t56 t2);
+          slots = List._∷_ (Row.lease (κs .0) (qs .0)) (List._∷_ (Row.lease (κs .1 .0) (qs .1 .0)) (List._∷_ (Row.lease (κs .1 .1 .0) (qs .1 .1 .0)) (List._∷_
+              (Row.lease (κs .1 .1 .1 .0) (qs .1 .1 .1 .0)) (List._∷_ (Row.lease (κs .1 .1 .1 .1 .0) (qs .1 .1 .1 .1 .0)) (List._∷_ Row.off (List._∷_ Row.off (List._∷_ Row.off (List._∷_ Row.off (List._∷_
+              Row.off (List._∷_ Row.dead List.[]))))))))));
+        }
 
         abbrev G94 : Row.Cx
-        G94 = record
-            { locals = List._++_ t9 (List._++_ t56 t2); slots = List._∷_ (Row.lease (κs .0) (qs .0)) (List._∷_ (Row.lease (κs .1 .0) (qs .1 .0)) (List._∷_ (Row.lease (κs .1 .1 .0) (qs .1 .1 .0)) (List._∷_
-            (Row.lease (κs .1 .1 .1 .0) (qs .1 .1 .1 .0)) (List._∷_ (Row.lease (κs .1 .1 .1 .1 .0) (qs .1 .1 .1 .1 .0)) (List._∷_ Row.off (List._∷_ Row.off (List._∷_ Row.off (List._∷_ Row.off (List._∷_
-            Row.off (List._∷_ Row.dead List.[])))))))))); }
+        G94 = record {
+          locals = List._++_ t9 (List._++_ t56 t2);
+          slots = List._∷_ (Row.lease (κs .0) (qs .0)) (List._∷_ (Row.lease (κs .1 .0) (qs .1 .0)) (List._∷_ (Row.lease (κs .1 .1 .0) (qs .1 .1 .0)) (List._∷_
+              (Row.lease (κs .1 .1 .1 .0) (qs .1 .1 .1 .0)) (List._∷_ (Row.lease (κs .1 .1 .1 .1 .0) (qs .1 .1 .1 .1 .0)) (List._∷_ Row.off (List._∷_ Row.off (List._∷_ Row.off (List._∷_ Row.off (List._∷_
+              Row.off (List._∷_ Row.dead List.[]))))))))));
+        }
 
         abbrev G95 : Row.Cx
-        G95 = record
-            { locals = List._++_ t9 (List._++_ t56 t2); slots = List._∷_ (Row.lease (κs .0) (qs .0)) (List._∷_ (Row.lease (κs .1 .0) (qs .1 .0)) (List._∷_ (Row.lease (κs .1 .1 .0) (qs .1 .1 .0)) (List._∷_
-            (Row.lease (κs .1 .1 .1 .0) (qs .1 .1 .1 .0)) (List._∷_ (Row.lease (κs .1 .1 .1 .1 .0) (qs .1 .1 .1 .1 .0)) (List._∷_ Row.off (List._∷_ Row.off (List._∷_ Row.off (List._∷_ Row.off (List._∷_
-            Row.off (List._∷_ Row.off List.[])))))))))); }
+        G95 = record {
+          locals = List._++_ t9 (List._++_ t56 t2);
+          slots = List._∷_ (Row.lease (κs .0) (qs .0)) (List._∷_ (Row.lease (κs .1 .0) (qs .1 .0)) (List._∷_ (Row.lease (κs .1 .1 .0) (qs .1 .1 .0)) (List._∷_
+              (Row.lease (κs .1 .1 .1 .0) (qs .1 .1 .1 .0)) (List._∷_ (Row.lease (κs .1 .1 .1 .1 .0) (qs .1 .1 .1 .1 .0)) (List._∷_ Row.off (List._∷_ Row.off (List._∷_ Row.off (List._∷_ Row.off (List._∷_
+              Row.off (List._∷_ Row.off List.[]))))))))));
+        }
 
         abbrev G96 : Row.Cx
-        G96 = record
-            { locals = List._++_ t9 (List._++_ t56 t2); slots = List._∷_ (Row.lease (κs .0) (qs .0)) (List._∷_ (Row.lease (κs .1 .0) (qs .1 .0)) (List._∷_ (Row.lease (κs .1 .1 .0) (qs .1 .1 .0)) (List._∷_
-            (Row.lease (κs .1 .1 .1 .0) (qs .1 .1 .1 .0)) (List._∷_ (Row.lease (κs .1 .1 .1 .1 .0) (qs .1 .1 .1 .1 .0)) (List._∷_ Row.off (List._∷_ Row.off (List._∷_ Row.off (List._∷_ Row.off (List._∷_
-            Row.off (List._∷_ Row.off List.[])))))))))); }
+        G96 = record {
+          locals = List._++_ t9 (List._++_ t56 t2);
+          slots = List._∷_ (Row.lease (κs .0) (qs .0)) (List._∷_ (Row.lease (κs .1 .0) (qs .1 .0)) (List._∷_ (Row.lease (κs .1 .1 .0) (qs .1 .1 .0)) (List._∷_
+              (Row.lease (κs .1 .1 .1 .0) (qs .1 .1 .1 .0)) (List._∷_ (Row.lease (κs .1 .1 .1 .1 .0) (qs .1 .1 .1 .1 .0)) (List._∷_ Row.off (List._∷_ Row.off (List._∷_ Row.off (List._∷_ Row.off (List._∷_
+              Row.off (List._∷_ Row.off List.[]))))))))));
+        }
 
         abbrev G97 : Row.Cx
-        G97 = record
-            { locals = List._++_ t9 (List._++_ t10 t2); slots = List._∷_ (Row.lease (κs .0) (qs .0)) (List._∷_ (Row.lease (κs .1 .0) (qs .1 .0)) (List._∷_ (Row.lease (κs .1 .1 .0) (qs .1 .1 .0)) (List._∷_
-            (Row.lease (κs .1 .1 .1 .0) (qs .1 .1 .1 .0)) (List._∷_ (Row.lease (κs .1 .1 .1 .1 .0) (qs .1 .1 .1 .1 .0)) (List._∷_ Row.off (List._∷_ Row.off (List._∷_ Row.off (List._∷_ Row.off (List._∷_
-            Row.off (List._∷_ Row.off List.[])))))))))); }
+        G97 = record {
+          locals = List._++_ t9 (List._++_ t10 t2);
+          slots = List._∷_ (Row.lease (κs .0) (qs .0)) (List._∷_ (Row.lease (κs .1 .0) (qs .1 .0)) (List._∷_ (Row.lease (κs .1 .1 .0) (qs .1 .1 .0)) (List._∷_
+              (Row.lease (κs .1 .1 .1 .0) (qs .1 .1 .1 .0)) (List._∷_ (Row.lease (κs .1 .1 .1 .1 .0) (qs .1 .1 .1 .1 .0)) (List._∷_ Row.off (List._∷_ Row.off (List._∷_ Row.off (List._∷_ Row.off (List._∷_
+              Row.off (List._∷_ Row.off List.[]))))))))));
+        }
 
         abbrev G98 : Row.Cx
-        G98 = record
-            { locals = List._++_ t11 (List._++_ t67 t2); slots = List._∷_ (Row.lease (κs .0) (qs .0)) (List._∷_ (Row.lease (κs .1 .0) (qs .1 .0)) (List._∷_ (Row.lease (κs .1 .1 .0) (qs .1 .1 .0))
-            (List._∷_ (Row.lease (κs .1 .1 .1 .0) (qs .1 .1 .1 .0)) (List._∷_ (Row.lease (κs .1 .1 .1 .1 .0) (qs .1 .1 .1 .1 .0)) (List._∷_ Row.off (List._∷_ Row.off (List._∷_ Row.off (List._∷_ Row.off
-            (List._∷_ Row.off (List._∷_ Row.off List.[])))))))))); }
+        G98 = record {
+          locals = List._++_ t11 (List._++_ t67 t2);
+          slots = List._∷_ (Row.lease (κs .0) (qs .0)) (List._∷_ (Row.lease (κs .1 .0) (qs .1 .0)) (List._∷_ (Row.lease (κs .1 .1 .0) (qs .1 .1 .0))
+              (List._∷_ (Row.lease (κs .1 .1 .1 .0) (qs .1 .1 .1 .0)) (List._∷_ (Row.lease (κs .1 .1 .1 .1 .0) (qs .1 .1 .1 .1 .0)) (List._∷_ Row.off (List._∷_ Row.off (List._∷_ Row.off (List._∷_ Row.off
+              (List._∷_ Row.off (List._∷_ Row.off List.[]))))))))));
+        }
 
         abbrev G99 : Row.Cx
-        G99 = record
-            { locals = List._++_ t11 (List._++_ t67 t68); slots = List._∷_ (Row.lease (κs .0) (qs .0)) (List._∷_ (Row.lease (κs .1 .0) (qs .1 .0)) (List._∷_ (Row.lease (κs .1 .1 .0) (qs .1 .1 .0))
-            (List._∷_ (Row.lease (κs .1 .1 .1 .0) (qs .1 .1 .1 .0)) (List._∷_ (Row.lease (κs .1 .1 .1 .1 .0) (qs .1 .1 .1 .1 .0)) (List._∷_ Row.off (List._∷_ Row.off (List._∷_ Row.off (List._∷_ Row.off
-            (List._∷_ Row.off (List._∷_ Row.off List.[])))))))))); }
+        G99 = record {
+          locals = List._++_ t11 (List._++_ t67 t68);
+          slots = List._∷_ (Row.lease (κs .0) (qs .0)) (List._∷_ (Row.lease (κs .1 .0) (qs .1 .0)) (List._∷_ (Row.lease (κs .1 .1 .0) (qs .1 .1 .0))
+              (List._∷_ (Row.lease (κs .1 .1 .1 .0) (qs .1 .1 .1 .0)) (List._∷_ (Row.lease (κs .1 .1 .1 .1 .0) (qs .1 .1 .1 .1 .0)) (List._∷_ Row.off (List._∷_ Row.off (List._∷_ Row.off (List._∷_ Row.off
+              (List._∷_ Row.off (List._∷_ Row.off List.[]))))))))));
+        }
 
         abbrev G100 : Row.Cx
-        G100 = record
-            { locals = List._++_ t11 (List._++_ t10 t2); slots = List._∷_ (Row.lease (κs .0) (qs .0)) (List._∷_ (Row.lease (κs .1 .0) (qs .1 .0)) (List._∷_ (Row.lease (κs .1 .1 .0) (qs .1 .1 .0))
-            (List._∷_ (Row.lease (κs .1 .1 .1 .0) (qs .1 .1 .1 .0)) (List._∷_ (Row.lease (κs .1 .1 .1 .1 .0) (qs .1 .1 .1 .1 .0)) (List._∷_ Row.off (List._∷_ Row.off (List._∷_ Row.off (List._∷_ Row.off
-            (List._∷_ Row.off (List._∷_ Row.off List.[])))))))))); }
+        G100 = record {
+          locals = List._++_ t11 (List._++_ t10 t2);
+          slots = List._∷_ (Row.lease (κs .0) (qs .0)) (List._∷_ (Row.lease (κs .1 .0) (qs .1 .0)) (List._∷_ (Row.lease (κs .1 .1 .0) (qs .1 .1 .0))
+              (List._∷_ (Row.lease (κs .1 .1 .1 .0) (qs .1 .1 .1 .0)) (List._∷_ (Row.lease (κs .1 .1 .1 .1 .0) (qs .1 .1 .1 .1 .0)) (List._∷_ Row.off (List._∷_ Row.off (List._∷_ Row.off (List._∷_ Row.off
+              (List._∷_ Row.off (List._∷_ Row.off List.[]))))))))));
+        }
 
         abbrev G101 : Row.Cx
-        G101 = record
-            { locals = List._++_ t11 (List._++_ t10 t68); slots = List._∷_ (Row.lease (κs .0) (qs .0)) (List._∷_ (Row.lease (κs .1 .0) (qs .1 .0)) (List._∷_ (Row.lease (κs .1 .1 .0) (qs .1 .1 .0))
-            (List._∷_ (Row.lease (κs .1 .1 .1 .0) (qs .1 .1 .1 .0)) (List._∷_ (Row.lease (κs .1 .1 .1 .1 .0) (qs .1 .1 .1 .1 .0)) (List._∷_ Row.off (List._∷_ Row.off (List._∷_ Row.off (List._∷_ Row.off
-            (List._∷_ Row.off (List._∷_ Row.off List.[])))))))))); }
+        G101 = record {
+          locals = List._++_ t11 (List._++_ t10 t68);
+          slots = List._∷_ (Row.lease (κs .0) (qs .0)) (List._∷_ (Row.lease (κs .1 .0) (qs .1 .0)) (List._∷_ (Row.lease (κs .1 .1 .0) (qs .1 .1 .0))
+              (List._∷_ (Row.lease (κs .1 .1 .1 .0) (qs .1 .1 .1 .0)) (List._∷_ (Row.lease (κs .1 .1 .1 .1 .0) (qs .1 .1 .1 .1 .0)) (List._∷_ Row.off (List._∷_ Row.off (List._∷_ Row.off (List._∷_ Row.off
+              (List._∷_ Row.off (List._∷_ Row.off List.[]))))))))));
+        }
 
         abbrev G102 : Row.Cx
-        G102 = record
-            { locals = List._++_ t11 (List._++_ t69 t68); slots = List._∷_ (Row.lease (κs .0) (qs .0)) (List._∷_ (Row.lease (κs .1 .0) (qs .1 .0)) (List._∷_ (Row.lease (κs .1 .1 .0) (qs .1 .1 .0))
-            (List._∷_ (Row.lease (κs .1 .1 .1 .0) (qs .1 .1 .1 .0)) (List._∷_ (Row.lease (κs .1 .1 .1 .1 .0) (qs .1 .1 .1 .1 .0)) (List._∷_ Row.off (List._∷_ Row.off (List._∷_ Row.off (List._∷_ Row.off
-            (List._∷_ Row.off (List._∷_ Row.off List.[])))))))))); }
+        G102 = record {
+          locals = List._++_ t11 (List._++_ t69 t68);
+          slots = List._∷_ (Row.lease (κs .0) (qs .0)) (List._∷_ (Row.lease (κs .1 .0) (qs .1 .0)) (List._∷_ (Row.lease (κs .1 .1 .0) (qs .1 .1 .0))
+              (List._∷_ (Row.lease (κs .1 .1 .1 .0) (qs .1 .1 .1 .0)) (List._∷_ (Row.lease (κs .1 .1 .1 .1 .0) (qs .1 .1 .1 .1 .0)) (List._∷_ Row.off (List._∷_ Row.off (List._∷_ Row.off (List._∷_ Row.off
+              (List._∷_ Row.off (List._∷_ Row.off List.[]))))))))));
+        }
 
         abbrev G103 : Row.Cx
-        G103 = record
-            { locals = List._++_ t11 (List._++_ t69 t2); slots = List._∷_ (Row.lease (κs .0) (qs .0)) (List._∷_ (Row.lease (κs .1 .0) (qs .1 .0)) (List._∷_ (Row.lease (κs .1 .1 .0) (qs .1 .1 .0))
-            (List._∷_ (Row.lease (κs .1 .1 .1 .0) (qs .1 .1 .1 .0)) (List._∷_ (Row.lease (κs .1 .1 .1 .1 .0) (qs .1 .1 .1 .1 .0)) (List._∷_ Row.off (List._∷_ Row.off (List._∷_ Row.off (List._∷_ Row.off
-            (List._∷_ Row.off (List._∷_ Row.off List.[])))))))))); }
+        G103 = record {
+          locals = List._++_ t11 (List._++_ t69 t2);
+          slots = List._∷_ (Row.lease (κs .0) (qs .0)) (List._∷_ (Row.lease (κs .1 .0) (qs .1 .0)) (List._∷_ (Row.lease (κs .1 .1 .0) (qs .1 .1 .0))
+              (List._∷_ (Row.lease (κs .1 .1 .1 .0) (qs .1 .1 .1 .0)) (List._∷_ (Row.lease (κs .1 .1 .1 .1 .0) (qs .1 .1 .1 .1 .0)) (List._∷_ Row.off (List._∷_ Row.off (List._∷_ Row.off (List._∷_ Row.off
+              (List._∷_ Row.off (List._∷_ Row.off List.[]))))))))));
+        }
 
         abbrev G104 : Row.Cx
-        G104 = record
-            { locals = List._++_ t40 (List._++_ t69 t2); slots = List._∷_ (Row.lease (κs .0) (qs .0)) (List._∷_ (Row.lease (κs .1 .0) (qs .1 .0)) (List._∷_ (Row.lease (κs .1 .1 .0) (qs .1 .1 .0))
-            (List._∷_ (Row.lease (κs .1 .1 .1 .0) (qs .1 .1 .1 .0)) (List._∷_ (Row.lease (κs .1 .1 .1 .1 .0) (qs .1 .1 .1 .1 .0)) (List._∷_ Row.off (List._∷_ Row.off (List._∷_ Row.off (List._∷_ Row.off
-            (List._∷_ Row.off (List._∷_ Row.off List.[])))))))))); }
+        G104 = record {
+          locals = List._++_ t40 (List._++_ t69 t2);
+          slots = List._∷_ (Row.lease (κs .0) (qs .0)) (List._∷_ (Row.lease (κs .1 .0) (qs .1 .0)) (List._∷_ (Row.lease (κs .1 .1 .0) (qs .1 .1 .0))
+              (List._∷_ (Row.lease (κs .1 .1 .1 .0) (qs .1 .1 .1 .0)) (List._∷_ (Row.lease (κs .1 .1 .1 .1 .0) (qs .1 .1 .1 .1 .0)) (List._∷_ Row.off (List._∷_ Row.off (List._∷_ Row.off (List._∷_ Row.off
+              (List._∷_ Row.off (List._∷_ Row.off List.[]))))))))));
+        }
 
         abbrev G105 : Row.Cx
-        G105 = record
-            { locals = List._++_ t41 (List._++_ t69 t2); slots = List._∷_ (Row.lease (κs .0) (qs .0)) (List._∷_ (Row.lease (κs .1 .0) (qs .1 .0)) (List._∷_ (Row.lease (κs .1 .1 .0) (qs .1 .1 .0))
-            (List._∷_ (Row.lease (κs .1 .1 .1 .0) (qs .1 .1 .1 .0)) (List._∷_ (Row.lease (κs .1 .1 .1 .1 .0) (qs .1 .1 .1 .1 .0)) (List._∷_ Row.off (List._∷_ Row.off (List._∷_ Row.off (List._∷_ Row.off
-            (List._∷_ Row.off (List._∷_ Row.off List.[])))))))))); }
+        G105 = record {
+          locals = List._++_ t41 (List._++_ t69 t2);
+          slots = List._∷_ (Row.lease (κs .0) (qs .0)) (List._∷_ (Row.lease (κs .1 .0) (qs .1 .0)) (List._∷_ (Row.lease (κs .1 .1 .0) (qs .1 .1 .0))
+              (List._∷_ (Row.lease (κs .1 .1 .1 .0) (qs .1 .1 .1 .0)) (List._∷_ (Row.lease (κs .1 .1 .1 .1 .0) (qs .1 .1 .1 .1 .0)) (List._∷_ Row.off (List._∷_ Row.off (List._∷_ Row.off (List._∷_ Row.off
+              (List._∷_ Row.off (List._∷_ Row.off List.[]))))))))));
+        }
 
         abbrev G106 : Row.Cx
-        G106 = record
-            { locals = List._++_ t42 (List._++_ t69 t2); slots = List._∷_ (Row.lease (κs .0) (qs .0)) (List._∷_ (Row.lease (κs .1 .0) (qs .1 .0)) (List._∷_ (Row.lease (κs .1 .1 .0) (qs .1 .1 .0))
-            (List._∷_ (Row.lease (κs .1 .1 .1 .0) (qs .1 .1 .1 .0)) (List._∷_ (Row.lease (κs .1 .1 .1 .1 .0) (qs .1 .1 .1 .1 .0)) (List._∷_ Row.off (List._∷_ Row.off (List._∷_ Row.off (List._∷_ Row.off
-            (List._∷_ Row.off (List._∷_ Row.off List.[])))))))))); }
+        G106 = record {
+          locals = List._++_ t42 (List._++_ t69 t2);
+          slots = List._∷_ (Row.lease (κs .0) (qs .0)) (List._∷_ (Row.lease (κs .1 .0) (qs .1 .0)) (List._∷_ (Row.lease (κs .1 .1 .0) (qs .1 .1 .0))
+              (List._∷_ (Row.lease (κs .1 .1 .1 .0) (qs .1 .1 .1 .0)) (List._∷_ (Row.lease (κs .1 .1 .1 .1 .0) (qs .1 .1 .1 .1 .0)) (List._∷_ Row.off (List._∷_ Row.off (List._∷_ Row.off (List._∷_ Row.off
+              (List._∷_ Row.off (List._∷_ Row.off List.[]))))))))));
+        }
 
         abbrev G107 : Row.Cx
-        G107 = record
-            { locals = List._++_ t43 (List._++_ t69 t2); slots = List._∷_ (Row.lease (κs .0) (qs .0)) (List._∷_ (Row.lease (κs .1 .0) (qs .1 .0)) (List._∷_ (Row.lease (κs .1 .1 .0) (qs .1 .1 .0))
-            (List._∷_ (Row.lease (κs .1 .1 .1 .0) (qs .1 .1 .1 .0)) (List._∷_ (Row.lease (κs .1 .1 .1 .1 .0) (qs .1 .1 .1 .1 .0)) (List._∷_ Row.off (List._∷_ Row.off (List._∷_ Row.off (List._∷_ Row.off
-            (List._∷_ Row.off (List._∷_ Row.off List.[])))))))))); }
+        G107 = record {
+          locals = List._++_ t43 (List._++_ t69 t2);
+          slots = List._∷_ (Row.lease (κs .0) (qs .0)) (List._∷_ (Row.lease (κs .1 .0) (qs .1 .0)) (List._∷_ (Row.lease (κs .1 .1 .0) (qs .1 .1 .0))
+              (List._∷_ (Row.lease (κs .1 .1 .1 .0) (qs .1 .1 .1 .0)) (List._∷_ (Row.lease (κs .1 .1 .1 .1 .0) (qs .1 .1 .1 .1 .0)) (List._∷_ Row.off (List._∷_ Row.off (List._∷_ Row.off (List._∷_ Row.off
+              (List._∷_ Row.off (List._∷_ Row.off List.[]))))))))));
+        }
 
         abbrev G108 : Row.Cx
-        G108 = record
-            { locals = List._++_ t44 (List._++_ t69 t2); slots = List._∷_ (Row.lease (κs .0) (qs .0)) (List._∷_ (Row.lease (κs .1 .0) (qs .1 .0)) (List._∷_ (Row.lease (κs .1 .1 .0) (qs .1 .1 .0))
-            (List._∷_ (Row.lease (κs .1 .1 .1 .0) (qs .1 .1 .1 .0)) (List._∷_ (Row.lease (κs .1 .1 .1 .1 .0) (qs .1 .1 .1 .1 .0)) (List._∷_ Row.off (List._∷_ Row.off (List._∷_ Row.off (List._∷_ Row.off
-            (List._∷_ Row.off (List._∷_ Row.off List.[])))))))))); }
+        G108 = record {
+          locals = List._++_ t44 (List._++_ t69 t2);
+          slots = List._∷_ (Row.lease (κs .0) (qs .0)) (List._∷_ (Row.lease (κs .1 .0) (qs .1 .0)) (List._∷_ (Row.lease (κs .1 .1 .0) (qs .1 .1 .0))
+              (List._∷_ (Row.lease (κs .1 .1 .1 .0) (qs .1 .1 .1 .0)) (List._∷_ (Row.lease (κs .1 .1 .1 .1 .0) (qs .1 .1 .1 .1 .0)) (List._∷_ Row.off (List._∷_ Row.off (List._∷_ Row.off (List._∷_ Row.off
+              (List._∷_ Row.off (List._∷_ Row.off List.[]))))))))));
+        }
 
         abbrev G109 : Row.Cx
-        G109 = record
-            { locals = List._++_ t3 (List._++_ t69 t2); slots = List._∷_ (Row.lease (κs .0) (qs .0)) (List._∷_ (Row.lease (κs .1 .0) (qs .1 .0)) (List._∷_ (Row.lease (κs .1 .1 .0) (qs .1 .1 .0)) (List._∷_
-            (Row.lease (κs .1 .1 .1 .0) (qs .1 .1 .1 .0)) (List._∷_ (Row.lease (κs .1 .1 .1 .1 .0) (qs .1 .1 .1 .1 .0)) (List._∷_ Row.off (List._∷_ Row.off (List._∷_ Row.off (List._∷_ Row.off (List._∷_
-            Row.off (List._∷_ Row.off List.[])))))))))); }
+        G109 = record {
+          locals = List._++_ t3 (List._++_ t69 t2);
+          slots = List._∷_ (Row.lease (κs .0) (qs .0)) (List._∷_ (Row.lease (κs .1 .0) (qs .1 .0)) (List._∷_ (Row.lease (κs .1 .1 .0) (qs .1 .1 .0)) (List._∷_
+              (Row.lease (κs .1 .1 .1 .0) (qs .1 .1 .1 .0)) (List._∷_ (Row.lease (κs .1 .1 .1 .1 .0) (qs .1 .1 .1 .1 .0)) (List._∷_ Row.off (List._∷_ Row.off (List._∷_ Row.off (List._∷_ Row.off (List._∷_
+              Row.off (List._∷_ Row.off List.[]))))))))));
+        }
 
         abbrev G110 : Row.Cx
-        G110 = record
-            { locals = List._++_ t3 (List._++_ t1 t2); slots = List._∷_ (Row.lease (κs .0) (qs .0)) (List._∷_ (Row.lease (κs .1 .0) (qs .1 .0)) (List._∷_ (Row.lease (κs .1 .1 .0) (qs .1 .1 .0)) (List._∷_
-            (Row.lease (κs .1 .1 .1 .0) (qs .1 .1 .1 .0)) (List._∷_ (Row.lease (κs .1 .1 .1 .1 .0) (qs .1 .1 .1 .1 .0)) (List._∷_ Row.off (List._∷_ Row.off (List._∷_ Row.off (List._∷_ Row.off (List._∷_
-            Row.off (List._∷_ Row.off List.[])))))))))); }
+        G110 = record {
+          locals = List._++_ t3 (List._++_ t1 t2);
+          slots = List._∷_ (Row.lease (κs .0) (qs .0)) (List._∷_ (Row.lease (κs .1 .0) (qs .1 .0)) (List._∷_ (Row.lease (κs .1 .1 .0) (qs .1 .1 .0)) (List._∷_
+              (Row.lease (κs .1 .1 .1 .0) (qs .1 .1 .1 .0)) (List._∷_ (Row.lease (κs .1 .1 .1 .1 .0) (qs .1 .1 .1 .1 .0)) (List._∷_ Row.off (List._∷_ Row.off (List._∷_ Row.off (List._∷_ Row.off (List._∷_
+              Row.off (List._∷_ Row.off List.[]))))))))));
+        }
 
         abbrev G111 : Row.Cx
-        G111 = record
-            { locals = List._++_ t11 (List._++_ t10 t2); slots = List._∷_ (Row.lease (κs .0) (qs .0)) (List._∷_ (Row.lease (κs .1 .0) (qs .1 .0)) (List._∷_ (Row.lease (κs .1 .1 .0) (qs .1 .1 .0))
-            (List._∷_ (Row.lease (κs .1 .1 .1 .0) (qs .1 .1 .1 .0)) (List._∷_ (Row.lease (κs .1 .1 .1 .1 .0) (qs .1 .1 .1 .1 .0)) (List._∷_ Row.off (List._∷_ Row.off (List._∷_ Row.off (List._∷_ Row.off
-            (List._∷_ Row.off (List._∷_ Row.off List.[])))))))))); }
+        G111 = record {
+          locals = List._++_ t11 (List._++_ t10 t2);
+          slots = List._∷_ (Row.lease (κs .0) (qs .0)) (List._∷_ (Row.lease (κs .1 .0) (qs .1 .0)) (List._∷_ (Row.lease (κs .1 .1 .0) (qs .1 .1 .0))
+              (List._∷_ (Row.lease (κs .1 .1 .1 .0) (qs .1 .1 .1 .0)) (List._∷_ (Row.lease (κs .1 .1 .1 .1 .0) (qs .1 .1 .1 .1 .0)) (List._∷_ Row.off (List._∷_ Row.off (List._∷_ Row.off (List._∷_ Row.off
+              (List._∷_ Row.off (List._∷_ Row.off List.[]))))))))));
+        }
 
         abbrev G112 : Row.Cx
-        G112 = record
-            { locals = List._++_ t40 (List._++_ t10 t2); slots = List._∷_ (Row.lease (κs .0) (qs .0)) (List._∷_ (Row.lease (κs .1 .0) (qs .1 .0)) (List._∷_ (Row.lease (κs .1 .1 .0) (qs .1 .1 .0))
-            (List._∷_ (Row.lease (κs .1 .1 .1 .0) (qs .1 .1 .1 .0)) (List._∷_ (Row.lease (κs .1 .1 .1 .1 .0) (qs .1 .1 .1 .1 .0)) (List._∷_ Row.off (List._∷_ Row.off (List._∷_ Row.off (List._∷_ Row.off
-            (List._∷_ Row.off (List._∷_ Row.off List.[])))))))))); }
+        G112 = record {
+          locals = List._++_ t40 (List._++_ t10 t2);
+          slots = List._∷_ (Row.lease (κs .0) (qs .0)) (List._∷_ (Row.lease (κs .1 .0) (qs .1 .0)) (List._∷_ (Row.lease (κs .1 .1 .0) (qs .1 .1 .0))
+              (List._∷_ (Row.lease (κs .1 .1 .1 .0) (qs .1 .1 .1 .0)) (List._∷_ (Row.lease (κs .1 .1 .1 .1 .0) (qs .1 .1 .1 .1 .0)) (List._∷_ Row.off (List._∷_ Row.off (List._∷_ Row.off (List._∷_ Row.off
+              (List._∷_ Row.off (List._∷_ Row.off List.[]))))))))));
+        }
 
         abbrev G113 : Row.Cx
-        G113 = record
-            { locals = List._++_ t70 (List._++_ t10 t2); slots = List._∷_ (Row.lease (κs .0) (qs .0)) (List._∷_ (Row.lease (κs .1 .0) (qs .1 .0)) (List._∷_ (Row.lease (κs .1 .1 .0) (qs .1 .1 .0))
-            (List._∷_ (Row.lease (κs .1 .1 .1 .0) (qs .1 .1 .1 .0)) (List._∷_ (Row.lease (κs .1 .1 .1 .1 .0) (qs .1 .1 .1 .1 .0)) (List._∷_ Row.off (List._∷_ Row.off (List._∷_ Row.off (List._∷_ Row.off
-            (List._∷_ Row.off (List._∷_ Row.off List.[])))))))))); }
+        G113 = record {
+          locals = List._++_ t70 (List._++_ t10 t2);
+          slots = List._∷_ (Row.lease (κs .0) (qs .0)) (List._∷_ (Row.lease (κs .1 .0) (qs .1 .0)) (List._∷_ (Row.lease (κs .1 .1 .0) (qs .1 .1 .0))
+              (List._∷_ (Row.lease (κs .1 .1 .1 .0) (qs .1 .1 .1 .0)) (List._∷_ (Row.lease (κs .1 .1 .1 .1 .0) (qs .1 .1 .1 .1 .0)) (List._∷_ Row.off (List._∷_ Row.off (List._∷_ Row.off (List._∷_ Row.off
+              (List._∷_ Row.off (List._∷_ Row.off List.[]))))))))));
+        }
 
         abbrev G114 : Row.Cx
-        G114 = record
-            { locals = List._++_ t71 (List._++_ t10 t2); slots = List._∷_ (Row.lease (κs .0) (qs .0)) (List._∷_ (Row.lease (κs .1 .0) (qs .1 .0)) (List._∷_ (Row.lease (κs .1 .1 .0) (qs .1 .1 .0))
-            (List._∷_ (Row.lease (κs .1 .1 .1 .0) (qs .1 .1 .1 .0)) (List._∷_ (Row.lease (κs .1 .1 .1 .1 .0) (qs .1 .1 .1 .1 .0)) (List._∷_ Row.off (List._∷_ Row.off (List._∷_ Row.off (List._∷_ Row.off
-            (List._∷_ Row.off (List._∷_ Row.off List.[])))))))))); }
+        G114 = record {
+          locals = List._++_ t71 (List._++_ t10 t2);
+          slots = List._∷_ (Row.lease (κs .0) (qs .0)) (List._∷_ (Row.lease (κs .1 .0) (qs .1 .0)) (List._∷_ (Row.lease (κs .1 .1 .0) (qs .1 .1 .0))
+              (List._∷_ (Row.lease (κs .1 .1 .1 .0) (qs .1 .1 .1 .0)) (List._∷_ (Row.lease (κs .1 .1 .1 .1 .0) (qs .1 .1 .1 .1 .0)) (List._∷_ Row.off (List._∷_ Row.off (List._∷_ Row.off (List._∷_ Row.off
+              (List._∷_ Row.off (List._∷_ Row.off List.[]))))))))));
+        }
 
         abbrev G115 : Row.Cx
-        G115 = record
-            { locals = List._++_ t72 (List._++_ t10 t2); slots = List._∷_ (Row.lease (κs .0) (qs .0)) (List._∷_ (Row.lease (κs .1 .0) (qs .1 .0)) (List._∷_ (Row.lease (κs .1 .1 .0) (qs .1 .1 .0))
-            (List._∷_ (Row.lease (κs .1 .1 .1 .0) (qs .1 .1 .1 .0)) (List._∷_ (Row.lease (κs .1 .1 .1 .1 .0) (qs .1 .1 .1 .1 .0)) (List._∷_ Row.off (List._∷_ Row.off (List._∷_ Row.off (List._∷_ Row.off
-            (List._∷_ Row.off (List._∷_ Row.off List.[])))))))))); }
+        G115 = record {
+          locals = List._++_ t72 (List._++_ t10 t2);
+          slots = List._∷_ (Row.lease (κs .0) (qs .0)) (List._∷_ (Row.lease (κs .1 .0) (qs .1 .0)) (List._∷_ (Row.lease (κs .1 .1 .0) (qs .1 .1 .0))
+              (List._∷_ (Row.lease (κs .1 .1 .1 .0) (qs .1 .1 .1 .0)) (List._∷_ (Row.lease (κs .1 .1 .1 .1 .0) (qs .1 .1 .1 .1 .0)) (List._∷_ Row.off (List._∷_ Row.off (List._∷_ Row.off (List._∷_ Row.off
+              (List._∷_ Row.off (List._∷_ Row.off List.[]))))))))));
+        }
 
         abbrev G116 : Row.Cx
-        G116 = record
-            { locals = List._++_ t72 (List._++_ t69 t2); slots = List._∷_ (Row.lease (κs .0) (qs .0)) (List._∷_ (Row.lease (κs .1 .0) (qs .1 .0)) (List._∷_ (Row.lease (κs .1 .1 .0) (qs .1 .1 .0))
-            (List._∷_ (Row.lease (κs .1 .1 .1 .0) (qs .1 .1 .1 .0)) (List._∷_ (Row.lease (κs .1 .1 .1 .1 .0) (qs .1 .1 .1 .1 .0)) (List._∷_ Row.off (List._∷_ Row.off (List._∷_ Row.off (List._∷_ Row.off
-            (List._∷_ Row.off (List._∷_ Row.off List.[])))))))))); }
+        G116 = record {
+          locals = List._++_ t72 (List._++_ t69 t2);
+          slots = List._∷_ (Row.lease (κs .0) (qs .0)) (List._∷_ (Row.lease (κs .1 .0) (qs .1 .0)) (List._∷_ (Row.lease (κs .1 .1 .0) (qs .1 .1 .0))
+              (List._∷_ (Row.lease (κs .1 .1 .1 .0) (qs .1 .1 .1 .0)) (List._∷_ (Row.lease (κs .1 .1 .1 .1 .0) (qs .1 .1 .1 .1 .0)) (List._∷_ Row.off (List._∷_ Row.off (List._∷_ Row.off (List._∷_ Row.off
+              (List._∷_ Row.off (List._∷_ Row.off List.[]))))))))));
+        }
 
         abbrev G117 : Row.Cx
-        G117 = record
-            { locals = List._++_ t72 (List._++_ t1 t2); slots = List._∷_ (Row.lease (κs .0) (qs .0)) (List._∷_ (Row.lease (κs .1 .0) (qs .1 .0)) (List._∷_ (Row.lease (κs .1 .1 .0) (qs .1 .1 .0)) (List._∷_
-            (Row.lease (κs .1 .1 .1 .0) (qs .1 .1 .1 .0)) (List._∷_ (Row.lease (κs .1 .1 .1 .1 .0) (qs .1 .1 .1 .1 .0)) (List._∷_ Row.off (List._∷_ Row.off (List._∷_ Row.off (List._∷_ Row.off (List._∷_
-            Row.off (List._∷_ Row.off List.[])))))))))); }
+        G117 = record {
+          locals = List._++_ t72 (List._++_ t1 t2);
+          slots = List._∷_ (Row.lease (κs .0) (qs .0)) (List._∷_ (Row.lease (κs .1 .0) (qs .1 .0)) (List._∷_ (Row.lease (κs .1 .1 .0) (qs .1 .1 .0)) (List._∷_
+              (Row.lease (κs .1 .1 .1 .0) (qs .1 .1 .1 .0)) (List._∷_ (Row.lease (κs .1 .1 .1 .1 .0) (qs .1 .1 .1 .1 .0)) (List._∷_ Row.off (List._∷_ Row.off (List._∷_ Row.off (List._∷_ Row.off (List._∷_
+              Row.off (List._∷_ Row.off List.[]))))))))));
+        }
 
         abbrev G118 : Row.Cx
-        G118 = record
-            { locals = List._++_ t73 (List._++_ t1 t2); slots = List._∷_ (Row.lease (κs .0) (qs .0)) (List._∷_ (Row.lease (κs .1 .0) (qs .1 .0)) (List._∷_ (Row.lease (κs .1 .1 .0) (qs .1 .1 .0)) (List._∷_
-            (Row.lease (κs .1 .1 .1 .0) (qs .1 .1 .1 .0)) (List._∷_ (Row.lease (κs .1 .1 .1 .1 .0) (qs .1 .1 .1 .1 .0)) (List._∷_ Row.off (List._∷_ Row.off (List._∷_ Row.off (List._∷_ Row.off (List._∷_
-            Row.off (List._∷_ Row.off List.[])))))))))); }
+        G118 = record {
+          locals = List._++_ t73 (List._++_ t1 t2);
+          slots = List._∷_ (Row.lease (κs .0) (qs .0)) (List._∷_ (Row.lease (κs .1 .0) (qs .1 .0)) (List._∷_ (Row.lease (κs .1 .1 .0) (qs .1 .1 .0)) (List._∷_
+              (Row.lease (κs .1 .1 .1 .0) (qs .1 .1 .1 .0)) (List._∷_ (Row.lease (κs .1 .1 .1 .1 .0) (qs .1 .1 .1 .1 .0)) (List._∷_ Row.off (List._∷_ Row.off (List._∷_ Row.off (List._∷_ Row.off (List._∷_
+              Row.off (List._∷_ Row.off List.[]))))))))));
+        }
 
         abbrev G119 : Row.Cx
-        G119 = record
-            { locals = List._++_ t3 (List._++_ t1 t2); slots = List._∷_ (Row.lease (κs .0) (qs .0)) (List._∷_ (Row.lease (κs .1 .0) (qs .1 .0)) (List._∷_ (Row.lease (κs .1 .1 .0) (qs .1 .1 .0)) (List._∷_
-            (Row.lease (κs .1 .1 .1 .0) (qs .1 .1 .1 .0)) (List._∷_ (Row.lease (κs .1 .1 .1 .1 .0) (qs .1 .1 .1 .1 .0)) (List._∷_ Row.off (List._∷_ Row.off (List._∷_ Row.off (List._∷_ Row.off (List._∷_
-            Row.off (List._∷_ Row.off List.[])))))))))); }
+        G119 = record {
+          locals = List._++_ t3 (List._++_ t1 t2);
+          slots = List._∷_ (Row.lease (κs .0) (qs .0)) (List._∷_ (Row.lease (κs .1 .0) (qs .1 .0)) (List._∷_ (Row.lease (κs .1 .1 .0) (qs .1 .1 .0)) (List._∷_
+              (Row.lease (κs .1 .1 .1 .0) (qs .1 .1 .1 .0)) (List._∷_ (Row.lease (κs .1 .1 .1 .1 .0) (qs .1 .1 .1 .1 .0)) (List._∷_ Row.off (List._∷_ Row.off (List._∷_ Row.off (List._∷_ Row.off (List._∷_
+              Row.off (List._∷_ Row.off List.[]))))))))));
+        }
 
         abbrev Δ0 : Typed.Outs
         Δ0 = record { next = Option.none; exits = List.[]; returns = Option.some G1 }
@@ -3074,36 +3558,67 @@ module _ (claims· : Claims) where
 
           d36 : Typed.Typed 𝓤 H A 𝓣 E G85 b38 Δ3 (at36 bs)
           d36 = Typed.s-seq 𝓤 H A W 𝓣 E G85 G86 b36 b37 Δ3 (Typed.both (s81 bs)) (at35 bs) (Plain.t-call-plain 𝓤 H A W 𝓣 3 ps·7 r·7 (claims· .14) (claims· .15) "block::reading::emit_pass_at" (known
-              .7) E (λ pos β. β) G85
-              (record { pos = 36; ty = Syntax.tyRef Syntax.erased Syntax.imm (Syntax.tyInt Syntax.w16); ref = λ x. x; },
-              (record { pos = 38; ty = Syntax.tyRef Syntax.erased Syntax.mut (Syntax.tyInt Syntax.w16); ref = λ x. x; },
-              (Num.vAt 15 λ x. x,
-              (Bool.bAt 14 λ x. x,
-              (record { pos = 8; ty = Syntax.tyRef (Syntax.named 4) Syntax.imm (Syntax.tyArray (Syntax.tyInt Syntax.w16) 768); ref = λ x. x; },
-              (record { pos = 9; st = List.[]; d = 0; at = λ x. x }, (record { pos = 10; st = List.[]; d = 0; at = λ x. x }, (Num.vAt 11 λ x. x, (Num.vAt 17 λ x. x, (Bool.bAt 12 λ x. x, tt)))))))))) 26
-              (List._∷_ 9 (List._∷_ 10 (List._∷_ 4 List.[]))) (Call.sub-id 𝓤 H A W (G85 .slots))
-              (ShrSlice.spares-sslice 𝓤 H A W (Referent.rtF (Referent.fInt Syntax.w16)) (Syntax.tyRef Syntax.erased Syntax.imm (Syntax.tyInt Syntax.w16)) 9, Shared.reads-sslice 𝓤 H A W (Referent.rtF
-              (Referent.fInt Syntax.w16)) (Syntax.tyRef Syntax.erased Syntax.imm (Syntax.tyInt Syntax.w16)) 9, Path'.refl,
-              (Reads'.as-is 𝓤 H A (Mut.mslice (Referent.rtF (Referent.fInt Syntax.w16)) (Syntax.tyRef Syntax.erased Syntax.mut (Syntax.tyInt Syntax.w16)) 10), Mut.reads-mslice 𝓤 H A W (Referent.rtF
-              (Referent.fInt Syntax.w16)) (Syntax.tyRef Syntax.erased Syntax.mut (Syntax.tyInt Syntax.w16)) 10, Path'.refl,
-              ((Scalar.reads-sc 𝓤 H A W (Row.sInt Syntax.w64), Path'.refl),
-              ((Scalar.reads-sc 𝓤 H A W Row.sBool, Path'.refl),
-              (ShrRef.spares-sref 𝓤 H A W (Array'.Array (Referent.rtF (Referent.fInt Syntax.w16)) 768) (Syntax.tyRef (Syntax.named 4) Syntax.imm (Syntax.tyArray (Syntax.tyInt Syntax.w16) 768)) 4,
-              Reads'.reads-sref 𝓤 H A W (Array'.Array (Referent.rtF (Referent.fInt Syntax.w16)) 768) (Syntax.tyRef (Syntax.named 4) Syntax.imm (Syntax.tyArray (Syntax.tyInt Syntax.w16) 768)) 4,
-              Path'.refl,
-              ((Array.arr-yields 𝓤 H A W (Array.eInt Syntax.w8) (Array.eInt-laws Syntax.w8) 36, Path'.refl),
-              ((Yields.yields-copy 𝓤 H A W (λ ρ. Unit) (Declared'.row Part.the-type) Path'.refl (Copies.cStruct Part.the-type Laws'4.the-laws Laws'4.the-copy .copy 𝓤 H A W) (Rows'.whole (Declared'.row
-              Part.the-type)) (λ x. x) (λ x. x) (λ ρ told. Local.mem-whole 𝓤 H A W (Declared'.row Part.the-type) ρ) λ ρ told. Local.whole-mem 𝓤 H A W (Declared'.row Part.the-type) ρ, Path'.refl),
-              ((Scalar.reads-sc 𝓤 H A W (Row.sInt Syntax.w64), Path'.refl), ((Scalar.reads-sc 𝓤 H A W (Row.sInt Syntax.w64), Path'.refl), ((Scalar.reads-sc 𝓤 H A W Row.sBool, Path'.refl), tt))))))))))
+              .7) E (λ pos β. β) G85 (
+                record { pos = 36; ty = Syntax.tyRef Syntax.erased Syntax.imm (Syntax.tyInt Syntax.w16); ref = λ x. x },
+                (
+                  record { pos = 38; ty = Syntax.tyRef Syntax.erased Syntax.mut (Syntax.tyInt Syntax.w16); ref = λ x. x },
+                  (
+                    Num.vAt 15 λ x. x,
+                    (
+                      Bool.bAt 14 λ x. x,
+                      (
+                        record { pos = 8; ty = Syntax.tyRef (Syntax.named 4) Syntax.imm (Syntax.tyArray (Syntax.tyInt Syntax.w16) 768); ref = λ x. x },
+                        (record { pos = 9; st = List.[]; d = 0; at = λ x. x }, (record { pos = 10; st = List.[]; d = 0; at = λ x. x }, (Num.vAt 11 λ x. x, (Num.vAt 17 λ x. x, (Bool.bAt 12 λ x. x, tt))))),
+                      ),
+                    ),
+                  ),
+                ),
+              ) 26
+              (List._∷_ 9 (List._∷_ 10 (List._∷_ 4 List.[]))) (Call.sub-id 𝓤 H A W (G85 .slots)) (
+                ShrSlice.spares-sslice 𝓤 H A W (Referent.rtF (Referent.fInt Syntax.w16)) (Syntax.tyRef Syntax.erased Syntax.imm (Syntax.tyInt Syntax.w16)) 9,
+                Shared.reads-sslice 𝓤 H A W (Referent.rtF
+                    (Referent.fInt Syntax.w16)) (Syntax.tyRef Syntax.erased Syntax.imm (Syntax.tyInt Syntax.w16)) 9,
+                Path'.refl,
+                (
+                  Reads'.as-is 𝓤 H A (Mut.mslice (Referent.rtF (Referent.fInt Syntax.w16)) (Syntax.tyRef Syntax.erased Syntax.mut (Syntax.tyInt Syntax.w16)) 10),
+                  Mut.reads-mslice 𝓤 H A W (Referent.rtF
+                      (Referent.fInt Syntax.w16)) (Syntax.tyRef Syntax.erased Syntax.mut (Syntax.tyInt Syntax.w16)) 10,
+                  Path'.refl,
+                  (
+                    (Scalar.reads-sc 𝓤 H A W (Row.sInt Syntax.w64), Path'.refl),
+                    (
+                      (Scalar.reads-sc 𝓤 H A W Row.sBool, Path'.refl),
+                      (
+                        ShrRef.spares-sref 𝓤 H A W (Array'.Array (Referent.rtF (Referent.fInt Syntax.w16)) 768) (Syntax.tyRef (Syntax.named 4) Syntax.imm (Syntax.tyArray (Syntax.tyInt Syntax.w16) 768)) 4,
+                        Reads'.reads-sref 𝓤 H A W (Array'.Array (Referent.rtF (Referent.fInt Syntax.w16)) 768) (Syntax.tyRef (Syntax.named 4) Syntax.imm (Syntax.tyArray (Syntax.tyInt Syntax.w16) 768)) 4,
+                        Path'.refl,
+                        (
+                          (Array.arr-yields 𝓤 H A W (Array.eInt Syntax.w8) (Array.eInt-laws Syntax.w8) 36, Path'.refl),
+                          (
+                            (
+                              Yields.yields-copy 𝓤 H A W (λ ρ. Unit) (Declared'.row Part.the-type) Path'.refl (Copies.cStruct Part.the-type Laws'4.the-laws Laws'4.the-copy .copy 𝓤 H A W) (Rows'.whole (Declared'.row
+                                  Part.the-type)) (λ x. x) (λ x. x) (λ ρ told. Local.mem-whole 𝓤 H A W (Declared'.row Part.the-type) ρ) λ ρ told. Local.whole-mem 𝓤 H A W (Declared'.row Part.the-type) ρ,
+                              Path'.refl,
+                            ),
+                            ((Scalar.reads-sc 𝓤 H A W (Row.sInt Syntax.w64), Path'.refl), ((Scalar.reads-sc 𝓤 H A W (Row.sInt Syntax.w64), Path'.refl), ((Scalar.reads-sc 𝓤 H A W Row.sBool, Path'.refl), tt))),
+                          ),
+                        ),
+                      ),
+                    ),
+                  ),
+                ),
+              )
               (Reads'.room-gone 𝓤 H A Syntax.tyUnit) (tt, (tt, (tt, tt))) Path'.refl) d35
 
           d37 : Typed.Typed 𝓤 H A 𝓣 E G84 b39 Δ3 (at37 bs)
           d37 = Typed.s-seq 𝓤 H A W 𝓣 E G84 G85 b35 b38 Δ3 (Typed.ask (s80 bs)) (at36 bs) (Relend.t-sl-aggregate 𝓤 H A W E (Referent.rtF (Referent.fInt Syntax.w16)) 𝓣 (Relend.asMut (Referent.rtF
               (Referent.fInt Syntax.w16))) G84 37 38 10 (Syntax.tyRef Syntax.erased Syntax.mut (Syntax.tyInt Syntax.w16)) (Syntax.tyRef Syntax.erased Syntax.mut (Syntax.tyInt Syntax.w16)) (λ x. x)
               (Scalar.oFld 5 (List._∷_ (Syntax.field 1) List.[]) (Syntax.tyInt Syntax.w64) 8 λ v. Shared.lenV (v .0)) (Reads'.as-is 𝓤 H A (Relend.msptr (Referent.rtF (Referent.fInt Syntax.w16))
-              (Syntax.tyRef Syntax.erased Syntax.mut (Syntax.tyInt Syntax.w16)) 10)) (Reads'.room-gone 𝓤 H A y5)
-              (Relend.reads-owed-len 𝓤 H A W (Referent.rtF (Referent.fInt Syntax.w16)) (Syntax.tyRef (Syntax.named 3) Syntax.mut (Syntax.tyInt Syntax.w16)) 3 10 (Row.lease (κs .1 .1 .1 .0) (qs .1 .1 .1
-              .0)) 8 Path'.refl, Path'.refl) Path'.refl Path'.refl λ b o k. tt) d36
+              (Syntax.tyRef Syntax.erased Syntax.mut (Syntax.tyInt Syntax.w16)) 10)) (Reads'.room-gone 𝓤 H A y5) (
+                Relend.reads-owed-len 𝓤 H A W (Referent.rtF (Referent.fInt Syntax.w16)) (Syntax.tyRef (Syntax.named 3) Syntax.mut (Syntax.tyInt Syntax.w16)) 3 10 (Row.lease (κs .1 .1 .1 .0) (qs .1 .1 .1
+                    .0)) 8 Path'.refl,
+                Path'.refl,
+              ) Path'.refl Path'.refl λ b o k. tt) d36
 
           d38 : Typed.Typed 𝓤 H A 𝓣 E G83 b40 Δ3 (at38 bs)
           d38 = Typed.s-seq 𝓤 H A W 𝓣 E G83 G84 b34 b39 Δ3 (Typed.give (s79 bs)) (at37 bs) (Relend.t-sl-relend 𝓤 H A W E (Referent.rtF (Referent.fInt Syntax.w16)) 𝓣 G83 5 37 3 10 (Syntax.tyRef
@@ -3112,28 +3627,51 @@ module _ (claims· : Claims) where
               Syntax.erased Syntax.mut (Syntax.tyInt Syntax.w16))) Path'.refl tt Path'.refl Path'.refl Path'.refl λ b o. tt) d37
 
           d39 : Typed.Typed 𝓤 H A 𝓣 E G82 b40 Δ3 (at39 bs)
-          d39 = Typed.g-pre 𝓤 H A W 𝓣 E G82 G83 b40 Δ3 (λ Ψ. Ψ) (at38 bs) (Lifetime.g-begin 𝓤 H A W E G82 10
-              (tt,
-              (tt,
-              (tt,
-              ((tt, tt),
-              (tt,
-              (tt,
-              (tt,
-              (tt,
-              (tt,
-              (tt,
-              (tt,
-              (tt, (tt, (tt, (tt, (tt, (tt, (tt, (tt, (tt, (tt, (tt, (tt, (tt, (tt, (tt, (tt, (tt, (tt, (tt, (tt, (tt, (tt, (tt, (tt, (tt, (tt, (tt, (tt, (tt, tt)))))))))))))))))))))))))))))))))))))))))
+          d39 = Typed.g-pre 𝓤 H A W 𝓣 E G82 G83 b40 Δ3 (λ Ψ. Ψ) (at38 bs) (Lifetime.g-begin 𝓤 H A W E G82 10 (
+            tt,
+            (
+              tt,
+              (
+                tt,
+                (
+                  (tt, tt),
+                  (
+                    tt,
+                    (
+                      tt,
+                      (
+                        tt,
+                        (
+                          tt,
+                          (
+                            tt,
+                            (
+                              tt,
+                              (
+                                tt,
+                                (tt, (tt, (tt, (tt, (tt, (tt, (tt, (tt, (tt, (tt, (tt, (tt, (tt, (tt, (tt, (tt, (tt, (tt, (tt, (tt, (tt, (tt, (tt, (tt, (tt, (tt, (tt, (tt, (tt, tt))))))))))))))))))))))))))))),
+                              ),
+                            ),
+                          ),
+                        ),
+                      ),
+                    ),
+                  ),
+                ),
+              ),
+            ),
+          ))
               d38
 
           d40 : Typed.Typed 𝓤 H A 𝓣 E G81 b41 Δ3 (at40 bs)
           d40 = Typed.s-seq 𝓤 H A W 𝓣 E G81 G82 b33 b40 Δ3 (Typed.ask (s77 bs)) (at39 bs) (Relend.t-sl-aggregate 𝓤 H A W E (Referent.rtF (Referent.fInt Syntax.w16)) 𝓣 (Relend.asShr (Referent.rtF
               (Referent.fInt Syntax.w16))) G81 35 36 9 (Syntax.tyRef Syntax.erased Syntax.imm (Syntax.tyInt Syntax.w16)) (Syntax.tyRef Syntax.erased Syntax.imm (Syntax.tyInt Syntax.w16)) (λ x. x)
               (Scalar.oFld 3 (List._∷_ (Syntax.field 1) List.[]) (Syntax.tyInt Syntax.w64) 8 λ v. Shared.lenV (v .0)) (Reads'.as-is 𝓤 H A (Relend.ssptr (Referent.rtF (Referent.fInt Syntax.w16))
-              (Syntax.tyRef Syntax.erased Syntax.imm (Syntax.tyInt Syntax.w16)) 9)) (Reads'.room-gone 𝓤 H A y4)
-              (Reshare.reads-owedS-len 𝓤 H A W (Referent.rtF (Referent.fInt Syntax.w16)) (Syntax.tyRef (Syntax.named 1) Syntax.mut (Syntax.tyInt Syntax.w16)) 1 9 (Row.lease (κs .1 .0) (qs .1 .0)) 8
-              Path'.refl, Path'.refl) Path'.refl Path'.refl λ b o k. tt) d39
+              (Syntax.tyRef Syntax.erased Syntax.imm (Syntax.tyInt Syntax.w16)) 9)) (Reads'.room-gone 𝓤 H A y4) (
+                Reshare.reads-owedS-len 𝓤 H A W (Referent.rtF (Referent.fInt Syntax.w16)) (Syntax.tyRef (Syntax.named 1) Syntax.mut (Syntax.tyInt Syntax.w16)) 1 9 (Row.lease (κs .1 .0) (qs .1 .0)) 8
+                    Path'.refl,
+                Path'.refl,
+              ) Path'.refl Path'.refl λ b o k. tt) d39
 
           d41 : Typed.Typed 𝓤 H A 𝓣 E G80 b42 Δ3 (at41 bs)
           d41 = Typed.s-seq 𝓤 H A W 𝓣 E G80 G81 b32 b41 Δ3 (Typed.give (s76 bs)) (at40 bs) (Reshare.t-sl-reshare 𝓤 H A W E (Referent.rtF (Referent.fInt Syntax.w16)) 𝓣 G80 3 35 1 9 (Syntax.tyRef
@@ -3142,19 +3680,40 @@ module _ (claims· : Claims) where
               (Syntax.tyInt Syntax.w16))) Path'.refl tt Path'.refl Path'.refl Path'.refl λ b o. tt) d40
 
           d42 : Typed.Typed 𝓤 H A 𝓣 E G79 b42 Δ3 (at42 bs)
-          d42 = Typed.g-pre 𝓤 H A W 𝓣 E G79 G80 b42 Δ3 (λ Ψ. Ψ) (at41 bs) (Lifetime.g-begin 𝓤 H A W E G79 9
-              (tt,
-              (tt,
-              (tt,
-              (tt,
-              (tt,
-              (tt,
-              (tt,
-              (tt,
-              (tt,
-              (tt,
-              (tt,
-              (tt, (tt, (tt, (tt, (tt, (tt, (tt, (tt, (tt, (tt, (tt, (tt, (tt, (tt, (tt, (tt, (tt, (tt, (tt, (tt, (tt, (tt, (tt, (tt, (tt, (tt, (tt, (tt, (tt, tt)))))))))))))))))))))))))))))))))))))))))
+          d42 = Typed.g-pre 𝓤 H A W 𝓣 E G79 G80 b42 Δ3 (λ Ψ. Ψ) (at41 bs) (Lifetime.g-begin 𝓤 H A W E G79 9 (
+            tt,
+            (
+              tt,
+              (
+                tt,
+                (
+                  tt,
+                  (
+                    tt,
+                    (
+                      tt,
+                      (
+                        tt,
+                        (
+                          tt,
+                          (
+                            tt,
+                            (
+                              tt,
+                              (
+                                tt,
+                                (tt, (tt, (tt, (tt, (tt, (tt, (tt, (tt, (tt, (tt, (tt, (tt, (tt, (tt, (tt, (tt, (tt, (tt, (tt, (tt, (tt, (tt, (tt, (tt, (tt, (tt, (tt, (tt, (tt, tt))))))))))))))))))))))))))))),
+                              ),
+                            ),
+                          ),
+                        ),
+                      ),
+                    ),
+                  ),
+                ),
+              ),
+            ),
+          ))
               d41
 
           d43 : Typed.Typed 𝓤 H A 𝓣 E G78 b42 Δ3 (at43 bs)
@@ -3165,26 +3724,34 @@ module _ (claims· : Claims) where
           d44 = Typed.s-seq 𝓤 H A W 𝓣 E G77 G78 b31 b42 Δ3 (Typed.both (s73 bs)) (at43 bs) (WayStmt.t-way-copy-out 𝓤 H A W E 𝓣 (Declared'.row Place.the-type) Path'.refl (Copies.cStruct Place.the-type
               Laws'3.the-laws Laws'3.the-copy .copy 𝓤 H A W) (λ ρ. Unit) G77 (Row.out 21 (G77 .locals)) (λ u. Row.drop 21 (G77 .locals) u) (G77 .slots) 21 (λ t. List._∷_ (Syntax.field 1) t) y9 y9 16
               (Rows'.whole (Declared'.row Place.the-type)) (λ x. x) (λ u. At.getAt (Passed.the-type .parts) 1 (Passed.struct .as-values (u .1 .1 .1 .1 .1 .1 .1 .1 .1 .1 .1 .1 .1 .1 .1 .1 .1 .1 .1 .1 .1
-              .0))) (λ u.
-              (Row.hd 0 (Row.tl (Row.tl (Row.tl (Row.tl (Row.tl (Row.tl (Row.tl (Row.tl (Row.tl (Row.tl (Row.tl (Row.tl (Row.tl (Row.tl (Row.tl (Row.tl (Row.tl (Row.tl (Row.tl (Row.tl (Row.tl
-              bs))))))))))))))))))))), Nat._+_ 0 8)) (λ T′. record { locals = Row.setRow 21 (21, Rows'.whole (Declared'.row Passed.the-type)) T′; slots = G77 .slots; }) (λ u T′ m′. Row.set 21
+              .0))) (λ u. (
+                Row.hd 0 (Row.tl (Row.tl (Row.tl (Row.tl (Row.tl (Row.tl (Row.tl (Row.tl (Row.tl (Row.tl (Row.tl (Row.tl (Row.tl (Row.tl (Row.tl (Row.tl (Row.tl (Row.tl (Row.tl (Row.tl (Row.tl
+                    bs))))))))))))))))))))),
+                Nat._+_ 0 8,
+              )) (λ T′. record { locals = Row.setRow 21 (21, Rows'.whole (Declared'.row Passed.the-type)) T′; slots = G77 .slots }) (λ u T′ m′. Row.set 21
               (21, Rows'.whole (Declared'.row Passed.the-type)) (u .1 .1 .1 .1 .1 .1 .1 .1 .1 .1 .1 .1 .1 .1 .1 .1 .1 .1 .1 .1 .1 .0) T′ m′) (λ u. Unit) (λ x. Unit) (Own.told-none 𝓤 H A (G77 .slots))
               (DerefMove.learns-nothing 𝓤 H A (Declared'.row Place.the-type)) (λ ρ told u asked. Way'.w-partˢ 𝓤 H A W E (Declared'.row Passed.the-type) (Declared'.row Place.the-type) y10 y9 1 8 (u .1 .1
               .1 .1 .1 .1 .1 .1 .1 .1 .1 .1 .1 .1 .1 .1 .1 .1 .1 .1 .1 .0) (At.getAt (Passed.the-type .parts) 1 (Passed.struct .as-values (u .1 .1 .1 .1 .1 .1 .1 .1 .1 .1 .1 .1 .1 .1 .1 .1 .1 .1 .1 .1 .1
-              .0)))
-              (Row.hd 0 (Row.tl (Row.tl (Row.tl (Row.tl (Row.tl (Row.tl (Row.tl (Row.tl (Row.tl (Row.tl (Row.tl (Row.tl (Row.tl (Row.tl (Row.tl (Row.tl (Row.tl (Row.tl (Row.tl (Row.tl (Row.tl
-              bs))))))))))))))))))))), 0) (Way.w-look 𝓤 H A W E (Way.w-local 𝓤 H A W E G77 ρ u (G77 .slots) 21 (Declared'.row Passed.the-type) (Rows'.whole (Declared'.row Passed.the-type)) (λ x. x) (λ x.
+              .0))) (
+                Row.hd 0 (Row.tl (Row.tl (Row.tl (Row.tl (Row.tl (Row.tl (Row.tl (Row.tl (Row.tl (Row.tl (Row.tl (Row.tl (Row.tl (Row.tl (Row.tl (Row.tl (Row.tl (Row.tl (Row.tl (Row.tl (Row.tl
+                    bs))))))))))))))))))))),
+                0,
+              ) (Way.w-look 𝓤 H A W E (Way.w-local 𝓤 H A W E G77 ρ u (G77 .slots) 21 (Declared'.row Passed.the-type) (Rows'.whole (Declared'.row Passed.the-type)) (λ x. x) (λ x.
               x) (u .1 .1 .1 .1 .1 .1 .1 .1 .1 .1 .1 .1 .1 .1 .1 .1 .1 .1 .1 .1 .1 .0) (Local.mem-whole 𝓤 H A W (Declared'.row Passed.the-type) ρ (u .1 .1 .1 .1 .1 .1 .1 .1 .1 .1 .1 .1 .1 .1 .1 .1 .1 .1
               .1 .1 .1 .0) (Row.hd 0 (Row.tl (Row.tl (Row.tl (Row.tl (Row.tl (Row.tl (Row.tl (Row.tl (Row.tl (Row.tl (Row.tl (Row.tl (Row.tl (Row.tl (Row.tl (Row.tl (Row.tl (Row.tl (Row.tl (Row.tl (Row.tl
               bs))))))))))))))))))))))) (Local.whole-mem 𝓤 H A W (Declared'.row Passed.the-type) ρ (u .1 .1 .1 .1 .1 .1 .1 .1 .1 .1 .1 .1 .1 .1 .1 .1 .1 .1 .1 .1 .1 .0) (Row.hd 0 (Row.tl (Row.tl (Row.tl
               (Row.tl (Row.tl (Row.tl (Row.tl (Row.tl (Row.tl (Row.tl (Row.tl (Row.tl (Row.tl (Row.tl (Row.tl (Row.tl (Row.tl (Row.tl (Row.tl (Row.tl (Row.tl bs))))))))))))))))))))))))) Path'.refl λ q.
               Inner.cut-record 𝓤 H A q (Declared'.row Passed.the-type) Place.the-type 8 (u .1 .1 .1 .1 .1 .1 .1 .1 .1 .1 .1 .1 .1 .1 .1 .1 .1 .1 .1 .1 .1 .0) (u .1 .1 .1 .1 .1 .1 .1 .1 .1 .1 .1 .1 .1 .1
               .1 .1 .1 .1 .1 .1 .1 .0) (At.getAt (Passed.the-type .parts) 1 (Passed.struct .as-values (u .1 .1 .1 .1 .1 .1 .1 .1 .1 .1 .1 .1 .1 .1 .1 .1 .1 .1 .1 .1 .1 .0))) (At.getAt (Passed.the-type
-              .parts) 1 (Passed.struct .as-values (u .1 .1 .1 .1 .1 .1 .1 .1 .1 .1 .1 .1 .1 .1 .1 .1 .1 .1 .1 .1 .1 .0)))
-              (Row.hd 0 (Row.tl (Row.tl (Row.tl (Row.tl (Row.tl (Row.tl (Row.tl (Row.tl (Row.tl (Row.tl (Row.tl (Row.tl (Row.tl (Row.tl (Row.tl (Row.tl (Row.tl (Row.tl (Row.tl (Row.tl (Row.tl
-              bs))))))))))))))))))))), 0) (Behind.look-at 𝓤 H A W q Passed.the-type Laws'5.the-laws 1 8 Path'.refl Path'.refl
-              (Row.hd 0 (Row.tl (Row.tl (Row.tl (Row.tl (Row.tl (Row.tl (Row.tl (Row.tl (Row.tl (Row.tl (Row.tl (Row.tl (Row.tl (Row.tl (Row.tl (Row.tl (Row.tl (Row.tl (Row.tl (Row.tl (Row.tl
-              bs))))))))))))))))))))), 0) (u .1 .1 .1 .1 .1 .1 .1 .1 .1 .1 .1 .1 .1 .1 .1 .1 .1 .1 .1 .1 .1 .0) (Passed.struct .as-values (u .1 .1 .1 .1 .1 .1 .1 .1 .1 .1 .1 .1 .1 .1 .1 .1 .1 .1 .1 .1 .1
+              .parts) 1 (Passed.struct .as-values (u .1 .1 .1 .1 .1 .1 .1 .1 .1 .1 .1 .1 .1 .1 .1 .1 .1 .1 .1 .1 .1 .0))) (
+                Row.hd 0 (Row.tl (Row.tl (Row.tl (Row.tl (Row.tl (Row.tl (Row.tl (Row.tl (Row.tl (Row.tl (Row.tl (Row.tl (Row.tl (Row.tl (Row.tl (Row.tl (Row.tl (Row.tl (Row.tl (Row.tl (Row.tl
+                    bs))))))))))))))))))))),
+                0,
+              ) (Behind.look-at 𝓤 H A W q Passed.the-type Laws'5.the-laws 1 8 Path'.refl Path'.refl (
+                Row.hd 0 (Row.tl (Row.tl (Row.tl (Row.tl (Row.tl (Row.tl (Row.tl (Row.tl (Row.tl (Row.tl (Row.tl (Row.tl (Row.tl (Row.tl (Row.tl (Row.tl (Row.tl (Row.tl (Row.tl (Row.tl (Row.tl
+                    bs))))))))))))))))))))),
+                0,
+              ) (u .1 .1 .1 .1 .1 .1 .1 .1 .1 .1 .1 .1 .1 .1 .1 .1 .1 .1 .1 .1 .1 .0) (Passed.struct .as-values (u .1 .1 .1 .1 .1 .1 .1 .1 .1 .1 .1 .1 .1 .1 .1 .1 .1 .1 .1 .1 .1
               .0)) Path'.refl)) (Reads'.room-gone 𝓤 H A y9) (Yields.makes-mem 𝓤 H A W (λ ρ. Unit) (Declared'.row Place.the-type) Path'.refl (Rows'.whole (Declared'.row Place.the-type)) (λ x. x) λ ρ told.
               Local.whole-mem 𝓤 H A W (Declared'.row Place.the-type) ρ) Path'.refl Path'.refl Path'.refl) d43
 
@@ -3213,15 +3780,27 @@ module _ (claims· : Claims) where
 
           d51 : Typed.Typed 𝓤 H A 𝓣 E G70 b44 Δ3 (at51 bs)
           d51 = Typed.s-seq 𝓤 H A W 𝓣 E G70 G71 b30 b43 Δ3 (Typed.both (s66 bs)) (at50 bs) (Plain.t-call-plain 𝓤 H A W 𝓣 1 ps·6 r·6 (claims· .12) (claims· .13) "block::records::store_set" (known .6) E
-              (λ pos β. β) G70
-              (record { pos = 34; ty = Syntax.tyRef Syntax.erased Syntax.mut Element.behind; ref = λ x. x; },
-              (Num.vFld 18 (List._∷_ (Syntax.field 2) List.[]) 16 λ x. Plan.struct .as-values x .1 .1 .0, (record { pos = 23; st = List.[]; d = 0; at = λ x. x }, tt))) 26 (List._∷_ 8 List.[]) (Call.sub-id
-              𝓤 H A W (G70 .slots))
-              (Reads'.as-is 𝓤 H A (Mut.mslice (Element.type) (Syntax.tyRef Syntax.erased Syntax.mut Element.behind) 8), Mut.reads-mslice 𝓤 H A W (Element.type) (Syntax.tyRef Syntax.erased Syntax.mut
-              Element.behind) 8, Path'.refl,
-              ((Reads.reads-field 𝓤 H A W Plan.the-type Laws'6.the-laws 2 (Syntax.tyInt Syntax.w64) 16 Path'.refl, Path'.refl),
-              ((Yields.yields-copy 𝓤 H A W (λ ρ. Unit) (Declared'.row Set.the-type) Path'.refl (Copies.cStruct Set.the-type Laws'8.the-laws Laws'8.the-copy .copy 𝓤 H A W) (Rows'.whole (Declared'.row
-              Set.the-type)) (λ x. x) (λ x. x) (λ ρ told. Local.mem-whole 𝓤 H A W (Declared'.row Set.the-type) ρ) λ ρ told. Local.whole-mem 𝓤 H A W (Declared'.row Set.the-type) ρ, Path'.refl), tt)))
+              (λ pos β. β) G70 (
+                record { pos = 34; ty = Syntax.tyRef Syntax.erased Syntax.mut Element.behind; ref = λ x. x },
+                (Num.vFld 18 (List._∷_ (Syntax.field 2) List.[]) 16 λ x. Plan.struct .as-values x .1 .1 .0, (record { pos = 23; st = List.[]; d = 0; at = λ x. x }, tt)),
+              ) 26 (List._∷_ 8 List.[]) (Call.sub-id
+              𝓤 H A W (G70 .slots)) (
+                Reads'.as-is 𝓤 H A (Mut.mslice (Element.type) (Syntax.tyRef Syntax.erased Syntax.mut Element.behind) 8),
+                Mut.reads-mslice 𝓤 H A W (Element.type) (Syntax.tyRef Syntax.erased Syntax.mut
+                    Element.behind) 8,
+                Path'.refl,
+                (
+                  (Reads.reads-field 𝓤 H A W Plan.the-type Laws'6.the-laws 2 (Syntax.tyInt Syntax.w64) 16 Path'.refl, Path'.refl),
+                  (
+                    (
+                      Yields.yields-copy 𝓤 H A W (λ ρ. Unit) (Declared'.row Set.the-type) Path'.refl (Copies.cStruct Set.the-type Laws'8.the-laws Laws'8.the-copy .copy 𝓤 H A W) (Rows'.whole (Declared'.row
+                          Set.the-type)) (λ x. x) (λ x. x) (λ ρ told. Local.mem-whole 𝓤 H A W (Declared'.row Set.the-type) ρ) λ ρ told. Local.whole-mem 𝓤 H A W (Declared'.row Set.the-type) ρ,
+                      Path'.refl,
+                    ),
+                    tt,
+                  ),
+                ),
+              )
               (Reads'.room-gone 𝓤 H A Syntax.tyUnit) (tt, tt) Path'.refl) d50
 
           d52 : Typed.Typed 𝓤 H A 𝓣 E G69 b45 Δ3 (at52 bs)
@@ -3237,45 +3816,74 @@ module _ (claims· : Claims) where
               (Syntax.named 2) Syntax.mut Element.behind) 2)) (Reads'.room-gone 𝓤 H A (Syntax.tyRef Syntax.erased Syntax.mut Element.behind)) Path'.refl tt Path'.refl Path'.refl Path'.refl λ b o. tt) d52
 
           d54 : Typed.Typed 𝓤 H A 𝓣 E G67 b46 Δ3 (at54 bs)
-          d54 = Typed.g-pre 𝓤 H A W 𝓣 E G67 G68 b46 Δ3 (λ Ψ. Ψ) (at53 bs) (Lifetime.g-begin 𝓤 H A W E G67 8
-              (tt,
-              (tt,
-              (tt,
-              (tt,
-              (tt,
-              (tt,
-              (tt,
-              (tt,
-              (tt,
-              (tt,
-              (tt,
-              (tt, (tt, (tt, (tt, (tt, (tt, (tt, (tt, (tt, (tt, (tt, (tt, (tt, (tt, (tt, (tt, (tt, (tt, (tt, (tt, (tt, (tt, (tt, (tt, (tt, (tt, (tt, (tt, (tt, tt)))))))))))))))))))))))))))))))))))))))))
+          d54 = Typed.g-pre 𝓤 H A W 𝓣 E G67 G68 b46 Δ3 (λ Ψ. Ψ) (at53 bs) (Lifetime.g-begin 𝓤 H A W E G67 8 (
+            tt,
+            (
+              tt,
+              (
+                tt,
+                (
+                  tt,
+                  (
+                    tt,
+                    (
+                      tt,
+                      (
+                        tt,
+                        (
+                          tt,
+                          (
+                            tt,
+                            (
+                              tt,
+                              (
+                                tt,
+                                (tt, (tt, (tt, (tt, (tt, (tt, (tt, (tt, (tt, (tt, (tt, (tt, (tt, (tt, (tt, (tt, (tt, (tt, (tt, (tt, (tt, (tt, (tt, (tt, (tt, (tt, (tt, (tt, (tt, tt))))))))))))))))))))))))))))),
+                              ),
+                            ),
+                          ),
+                        ),
+                      ),
+                    ),
+                  ),
+                ),
+              ),
+            ),
+          ))
               d53
 
           d55 : Typed.Typed 𝓤 H A 𝓣 E G51 b47 Δ3 (at55 bs)
           d55 = Typed.s-seq 𝓤 H A W 𝓣 E G51 G67 b27 b46 Δ3 (Typed.both (s62 bs)) (at54 bs) (WayStmt.t-way-copy-out 𝓤 H A W E 𝓣 (Declared'.row Set.the-type) Path'.refl (Copies.cStruct Set.the-type
               Laws'8.the-laws Laws'8.the-copy .copy 𝓤 H A W) (λ ρ. Unit) G51 (Row.out 21 (G51 .locals)) (λ u. Row.drop 21 (G51 .locals) u) (G51 .slots) 21 (λ t. List._∷_ (Syntax.field 2) t) y3 y3 23
               (Rows'.whole (Declared'.row Set.the-type)) (λ x. x) (λ u. At.getAt (Passed.the-type .parts) 2 (Passed.struct .as-values (u .1 .1 .1 .1 .1 .1 .1 .1 .1 .1 .1 .1 .1 .1 .1 .1 .1 .1 .1 .1 .1
-              .0))) (λ u.
-              (Row.hd 0 (Row.tl (Row.tl (Row.tl (Row.tl (Row.tl (Row.tl (Row.tl (Row.tl (Row.tl (Row.tl (Row.tl (Row.tl (Row.tl (Row.tl (Row.tl (Row.tl (Row.tl (Row.tl (Row.tl (Row.tl (Row.tl
-              bs))))))))))))))))))))), Nat._+_ 0 32)) (λ T′. record { locals = Row.setRow 21 (21, Rows'.whole (Declared'.row Passed.the-type)) T′; slots = G51 .slots; }) (λ u T′ m′. Row.set 21
+              .0))) (λ u. (
+                Row.hd 0 (Row.tl (Row.tl (Row.tl (Row.tl (Row.tl (Row.tl (Row.tl (Row.tl (Row.tl (Row.tl (Row.tl (Row.tl (Row.tl (Row.tl (Row.tl (Row.tl (Row.tl (Row.tl (Row.tl (Row.tl (Row.tl
+                    bs))))))))))))))))))))),
+                Nat._+_ 0 32,
+              )) (λ T′. record { locals = Row.setRow 21 (21, Rows'.whole (Declared'.row Passed.the-type)) T′; slots = G51 .slots }) (λ u T′ m′. Row.set 21
               (21, Rows'.whole (Declared'.row Passed.the-type)) (u .1 .1 .1 .1 .1 .1 .1 .1 .1 .1 .1 .1 .1 .1 .1 .1 .1 .1 .1 .1 .1 .0) T′ m′) (λ u. Unit) (λ x. Unit) (Own.told-none 𝓤 H A (G51 .slots))
               (DerefMove.learns-nothing 𝓤 H A (Declared'.row Set.the-type)) (λ ρ told u asked. Way'.w-partˢ 𝓤 H A W E (Declared'.row Passed.the-type) (Declared'.row Set.the-type) y10 y3 2 32 (u .1 .1 .1
               .1 .1 .1 .1 .1 .1 .1 .1 .1 .1 .1 .1 .1 .1 .1 .1 .1 .1 .0) (At.getAt (Passed.the-type .parts) 2 (Passed.struct .as-values (u .1 .1 .1 .1 .1 .1 .1 .1 .1 .1 .1 .1 .1 .1 .1 .1 .1 .1 .1 .1 .1
-              .0)))
-              (Row.hd 0 (Row.tl (Row.tl (Row.tl (Row.tl (Row.tl (Row.tl (Row.tl (Row.tl (Row.tl (Row.tl (Row.tl (Row.tl (Row.tl (Row.tl (Row.tl (Row.tl (Row.tl (Row.tl (Row.tl (Row.tl (Row.tl
-              bs))))))))))))))))))))), 0) (Way.w-look 𝓤 H A W E (Way.w-local 𝓤 H A W E G51 ρ u (G51 .slots) 21 (Declared'.row Passed.the-type) (Rows'.whole (Declared'.row Passed.the-type)) (λ x. x) (λ x.
+              .0))) (
+                Row.hd 0 (Row.tl (Row.tl (Row.tl (Row.tl (Row.tl (Row.tl (Row.tl (Row.tl (Row.tl (Row.tl (Row.tl (Row.tl (Row.tl (Row.tl (Row.tl (Row.tl (Row.tl (Row.tl (Row.tl (Row.tl (Row.tl
+                    bs))))))))))))))))))))),
+                0,
+              ) (Way.w-look 𝓤 H A W E (Way.w-local 𝓤 H A W E G51 ρ u (G51 .slots) 21 (Declared'.row Passed.the-type) (Rows'.whole (Declared'.row Passed.the-type)) (λ x. x) (λ x.
               x) (u .1 .1 .1 .1 .1 .1 .1 .1 .1 .1 .1 .1 .1 .1 .1 .1 .1 .1 .1 .1 .1 .0) (Local.mem-whole 𝓤 H A W (Declared'.row Passed.the-type) ρ (u .1 .1 .1 .1 .1 .1 .1 .1 .1 .1 .1 .1 .1 .1 .1 .1 .1 .1
               .1 .1 .1 .0) (Row.hd 0 (Row.tl (Row.tl (Row.tl (Row.tl (Row.tl (Row.tl (Row.tl (Row.tl (Row.tl (Row.tl (Row.tl (Row.tl (Row.tl (Row.tl (Row.tl (Row.tl (Row.tl (Row.tl (Row.tl (Row.tl (Row.tl
               bs))))))))))))))))))))))) (Local.whole-mem 𝓤 H A W (Declared'.row Passed.the-type) ρ (u .1 .1 .1 .1 .1 .1 .1 .1 .1 .1 .1 .1 .1 .1 .1 .1 .1 .1 .1 .1 .1 .0) (Row.hd 0 (Row.tl (Row.tl (Row.tl
               (Row.tl (Row.tl (Row.tl (Row.tl (Row.tl (Row.tl (Row.tl (Row.tl (Row.tl (Row.tl (Row.tl (Row.tl (Row.tl (Row.tl (Row.tl (Row.tl (Row.tl (Row.tl bs))))))))))))))))))))))))) Path'.refl λ q.
               Inner.cut-record 𝓤 H A q (Declared'.row Passed.the-type) Set.the-type 32 (u .1 .1 .1 .1 .1 .1 .1 .1 .1 .1 .1 .1 .1 .1 .1 .1 .1 .1 .1 .1 .1 .0) (u .1 .1 .1 .1 .1 .1 .1 .1 .1 .1 .1 .1 .1 .1 .1
               .1 .1 .1 .1 .1 .1 .0) (At.getAt (Passed.the-type .parts) 2 (Passed.struct .as-values (u .1 .1 .1 .1 .1 .1 .1 .1 .1 .1 .1 .1 .1 .1 .1 .1 .1 .1 .1 .1 .1 .0))) (At.getAt (Passed.the-type
-              .parts) 2 (Passed.struct .as-values (u .1 .1 .1 .1 .1 .1 .1 .1 .1 .1 .1 .1 .1 .1 .1 .1 .1 .1 .1 .1 .1 .0)))
-              (Row.hd 0 (Row.tl (Row.tl (Row.tl (Row.tl (Row.tl (Row.tl (Row.tl (Row.tl (Row.tl (Row.tl (Row.tl (Row.tl (Row.tl (Row.tl (Row.tl (Row.tl (Row.tl (Row.tl (Row.tl (Row.tl (Row.tl
-              bs))))))))))))))))))))), 0) (Behind.look-at 𝓤 H A W q Passed.the-type Laws'5.the-laws 2 32 Path'.refl Path'.refl
-              (Row.hd 0 (Row.tl (Row.tl (Row.tl (Row.tl (Row.tl (Row.tl (Row.tl (Row.tl (Row.tl (Row.tl (Row.tl (Row.tl (Row.tl (Row.tl (Row.tl (Row.tl (Row.tl (Row.tl (Row.tl (Row.tl (Row.tl
-              bs))))))))))))))))))))), 0) (u .1 .1 .1 .1 .1 .1 .1 .1 .1 .1 .1 .1 .1 .1 .1 .1 .1 .1 .1 .1 .1 .0) (Passed.struct .as-values (u .1 .1 .1 .1 .1 .1 .1 .1 .1 .1 .1 .1 .1 .1 .1 .1 .1 .1 .1 .1 .1
+              .parts) 2 (Passed.struct .as-values (u .1 .1 .1 .1 .1 .1 .1 .1 .1 .1 .1 .1 .1 .1 .1 .1 .1 .1 .1 .1 .1 .0))) (
+                Row.hd 0 (Row.tl (Row.tl (Row.tl (Row.tl (Row.tl (Row.tl (Row.tl (Row.tl (Row.tl (Row.tl (Row.tl (Row.tl (Row.tl (Row.tl (Row.tl (Row.tl (Row.tl (Row.tl (Row.tl (Row.tl (Row.tl
+                    bs))))))))))))))))))))),
+                0,
+              ) (Behind.look-at 𝓤 H A W q Passed.the-type Laws'5.the-laws 2 32 Path'.refl Path'.refl (
+                Row.hd 0 (Row.tl (Row.tl (Row.tl (Row.tl (Row.tl (Row.tl (Row.tl (Row.tl (Row.tl (Row.tl (Row.tl (Row.tl (Row.tl (Row.tl (Row.tl (Row.tl (Row.tl (Row.tl (Row.tl (Row.tl (Row.tl
+                    bs))))))))))))))))))))),
+                0,
+              ) (u .1 .1 .1 .1 .1 .1 .1 .1 .1 .1 .1 .1 .1 .1 .1 .1 .1 .1 .1 .1 .1 .0) (Passed.struct .as-values (u .1 .1 .1 .1 .1 .1 .1 .1 .1 .1 .1 .1 .1 .1 .1 .1 .1 .1 .1 .1 .1
               .0)) Path'.refl)) (Reads'.room-gone 𝓤 H A y3) (Yields.makes-mem 𝓤 H A W (λ ρ. Unit) (Declared'.row Set.the-type) Path'.refl (Rows'.whole (Declared'.row Set.the-type)) (λ x. x) λ ρ told.
               Local.whole-mem 𝓤 H A W (Declared'.row Set.the-type) ρ) Path'.refl Path'.refl Path'.refl) d54
 
@@ -3324,35 +3932,74 @@ module _ (claims· : Claims) where
 
           d66 : Typed.Typed 𝓤 H A 𝓣 E G40 b51 Δ3 (at66 bs)
           d66 = Typed.s-seq 𝓤 H A W 𝓣 E G40 G41 b19 b50 Δ3 (Typed.both (s37 bs)) (at65 bs) (Plain.t-call-plain 𝓤 H A W 𝓣 2 ps·5 r·5 (claims· .10) (claims· .11) "pass::pass" (known .5) E (λ pos β. β)
-              G40
-              (record { pos = 1; ty = Syntax.tyRef (Syntax.named 0) Syntax.imm (Syntax.tyInt Syntax.w8); ref = λ x. x; },
-              (record { pos = 16; st = List.[]; d = 0; at = λ x. x },
-              (record { pos = 32; ty = Syntax.tyRef Syntax.erased Syntax.mut (Syntax.tyInt Syntax.w16); ref = λ x. x; },
-              (record { pos = 20; st = List.[]; d = 0; at = λ x. x },
-              (Num.vAt 15 λ x. x, (record { pos = 19; st = List.[]; d = 0; at = λ x. x }, (record { pos = 7; st = List.[]; d = 0; at = λ x. x }, (Num.vAt 13 λ x. x, tt)))))))) 21 (List._∷_ 0 (List._∷_ 7
-              List.[])) (Call.sub-id 𝓤 H A W (G40 .slots))
-              (ShrSlice.spares-sslice 𝓤 H A W (Referent.rtF (Referent.fInt Syntax.w8)) (Syntax.tyRef (Syntax.named 0) Syntax.imm (Syntax.tyInt Syntax.w8)) 0, Shared.reads-sslice 𝓤 H A W (Referent.rtF
-              (Referent.fInt Syntax.w8)) (Syntax.tyRef (Syntax.named 0) Syntax.imm (Syntax.tyInt Syntax.w8)) 0, Path'.refl,
-              ((Yields.yields-copy 𝓤 H A W (λ ρ. Unit) (Declared'.row Place.the-type) Path'.refl (Copies.cStruct Place.the-type Laws'3.the-laws Laws'3.the-copy .copy 𝓤 H A W) (Rows'.whole (Declared'.row
-              Place.the-type)) (λ x. x) (λ x. x) (λ ρ told. Local.mem-whole 𝓤 H A W (Declared'.row Place.the-type) ρ) λ ρ told. Local.whole-mem 𝓤 H A W (Declared'.row Place.the-type) ρ, Path'.refl),
-              (Reads'.as-is 𝓤 H A (Mut.mslice (Referent.rtF (Referent.fInt Syntax.w16)) (Syntax.tyRef Syntax.erased Syntax.mut (Syntax.tyInt Syntax.w16)) 7), Mut.reads-mslice 𝓤 H A W (Referent.rtF
-              (Referent.fInt Syntax.w16)) (Syntax.tyRef Syntax.erased Syntax.mut (Syntax.tyInt Syntax.w16)) 7, Path'.refl,
-              ((Yields.yields-copy 𝓤 H A W (λ ρ. Unit) (Declared'.row Set.the-type) Path'.refl (Copies.cStruct Set.the-type Laws'8.the-laws Laws'8.the-copy .copy 𝓤 H A W) (Rows'.whole (Declared'.row
-              Set.the-type)) (λ x. x) (λ x. x) (λ ρ told. Local.mem-whole 𝓤 H A W (Declared'.row Set.the-type) ρ) λ ρ told. Local.whole-mem 𝓤 H A W (Declared'.row Set.the-type) ρ, Path'.refl),
-              ((Scalar.reads-sc 𝓤 H A W (Row.sInt Syntax.w64), Path'.refl),
-              ((Yields.yields-copy 𝓤 H A W (λ ρ. Unit) (Declared'.row Plan.the-type) Path'.refl (Copies.cStruct Plan.the-type Laws'6.the-laws Laws'6.the-copy .copy 𝓤 H A W) (Rows'.whole (Declared'.row
-              Plan.the-type)) (λ x. x) (λ x. x) (λ ρ told. Local.mem-whole 𝓤 H A W (Declared'.row Plan.the-type) ρ) λ ρ told. Local.whole-mem 𝓤 H A W (Declared'.row Plan.the-type) ρ, Path'.refl),
-              ((Yields.yields-copy 𝓤 H A W (λ ρ. Unit) (Declared'.row Quantisers.the-type) Path'.refl (Copies.cStruct Quantisers.the-type Laws'7.the-laws Laws'7.the-copy .copy 𝓤 H A W) (Rows'.whole
-              (Declared'.row Quantisers.the-type)) (λ x. x) (λ x. x) (λ ρ told. Local.mem-whole 𝓤 H A W (Declared'.row Quantisers.the-type) ρ) λ ρ told. Local.whole-mem 𝓤 H A W (Declared'.row
-              Quantisers.the-type) ρ, Path'.refl), ((Scalar.reads-sc 𝓤 H A W (Row.sInt Syntax.w32), Path'.refl), tt)))))))) (Reads'.room-gone 𝓤 H A y10) (tt, (tt, tt)) Path'.refl) d65
+              G40 (
+                record { pos = 1; ty = Syntax.tyRef (Syntax.named 0) Syntax.imm (Syntax.tyInt Syntax.w8); ref = λ x. x },
+                (
+                  record { pos = 16; st = List.[]; d = 0; at = λ x. x },
+                  (
+                    record { pos = 32; ty = Syntax.tyRef Syntax.erased Syntax.mut (Syntax.tyInt Syntax.w16); ref = λ x. x },
+                    (
+                      record { pos = 20; st = List.[]; d = 0; at = λ x. x },
+                      (Num.vAt 15 λ x. x, (record { pos = 19; st = List.[]; d = 0; at = λ x. x }, (record { pos = 7; st = List.[]; d = 0; at = λ x. x }, (Num.vAt 13 λ x. x, tt)))),
+                    ),
+                  ),
+                ),
+              ) 21 (List._∷_ 0 (List._∷_ 7
+              List.[])) (Call.sub-id 𝓤 H A W (G40 .slots)) (
+                ShrSlice.spares-sslice 𝓤 H A W (Referent.rtF (Referent.fInt Syntax.w8)) (Syntax.tyRef (Syntax.named 0) Syntax.imm (Syntax.tyInt Syntax.w8)) 0,
+                Shared.reads-sslice 𝓤 H A W (Referent.rtF
+                    (Referent.fInt Syntax.w8)) (Syntax.tyRef (Syntax.named 0) Syntax.imm (Syntax.tyInt Syntax.w8)) 0,
+                Path'.refl,
+                (
+                  (
+                    Yields.yields-copy 𝓤 H A W (λ ρ. Unit) (Declared'.row Place.the-type) Path'.refl (Copies.cStruct Place.the-type Laws'3.the-laws Laws'3.the-copy .copy 𝓤 H A W) (Rows'.whole (Declared'.row
+                        Place.the-type)) (λ x. x) (λ x. x) (λ ρ told. Local.mem-whole 𝓤 H A W (Declared'.row Place.the-type) ρ) λ ρ told. Local.whole-mem 𝓤 H A W (Declared'.row Place.the-type) ρ,
+                    Path'.refl,
+                  ),
+                  (
+                    Reads'.as-is 𝓤 H A (Mut.mslice (Referent.rtF (Referent.fInt Syntax.w16)) (Syntax.tyRef Syntax.erased Syntax.mut (Syntax.tyInt Syntax.w16)) 7),
+                    Mut.reads-mslice 𝓤 H A W (Referent.rtF
+                        (Referent.fInt Syntax.w16)) (Syntax.tyRef Syntax.erased Syntax.mut (Syntax.tyInt Syntax.w16)) 7,
+                    Path'.refl,
+                    (
+                      (
+                        Yields.yields-copy 𝓤 H A W (λ ρ. Unit) (Declared'.row Set.the-type) Path'.refl (Copies.cStruct Set.the-type Laws'8.the-laws Laws'8.the-copy .copy 𝓤 H A W) (Rows'.whole (Declared'.row
+                            Set.the-type)) (λ x. x) (λ x. x) (λ ρ told. Local.mem-whole 𝓤 H A W (Declared'.row Set.the-type) ρ) λ ρ told. Local.whole-mem 𝓤 H A W (Declared'.row Set.the-type) ρ,
+                        Path'.refl,
+                      ),
+                      (
+                        (Scalar.reads-sc 𝓤 H A W (Row.sInt Syntax.w64), Path'.refl),
+                        (
+                          (
+                            Yields.yields-copy 𝓤 H A W (λ ρ. Unit) (Declared'.row Plan.the-type) Path'.refl (Copies.cStruct Plan.the-type Laws'6.the-laws Laws'6.the-copy .copy 𝓤 H A W) (Rows'.whole (Declared'.row
+                                Plan.the-type)) (λ x. x) (λ x. x) (λ ρ told. Local.mem-whole 𝓤 H A W (Declared'.row Plan.the-type) ρ) λ ρ told. Local.whole-mem 𝓤 H A W (Declared'.row Plan.the-type) ρ,
+                            Path'.refl,
+                          ),
+                          (
+                            (
+                              Yields.yields-copy 𝓤 H A W (λ ρ. Unit) (Declared'.row Quantisers.the-type) Path'.refl (Copies.cStruct Quantisers.the-type Laws'7.the-laws Laws'7.the-copy .copy 𝓤 H A W) (Rows'.whole
+                                  (Declared'.row Quantisers.the-type)) (λ x. x) (λ x. x) (λ ρ told. Local.mem-whole 𝓤 H A W (Declared'.row Quantisers.the-type) ρ) λ ρ told. Local.whole-mem 𝓤 H A W (Declared'.row
+                                  Quantisers.the-type) ρ,
+                              Path'.refl,
+                            ),
+                            ((Scalar.reads-sc 𝓤 H A W (Row.sInt Syntax.w32), Path'.refl), tt),
+                          ),
+                        ),
+                      ),
+                    ),
+                  ),
+                ),
+              ) (Reads'.room-gone 𝓤 H A y10) (tt, (tt, tt)) Path'.refl) d65
 
           d67 : Typed.Typed 𝓤 H A 𝓣 E G39 b52 Δ3 (at67 bs)
           d67 = Typed.s-seq 𝓤 H A W 𝓣 E G39 G40 b18 b51 Δ3 (Typed.ask (s36 bs)) (at66 bs) (Relend.t-sl-aggregate 𝓤 H A W E (Referent.rtF (Referent.fInt Syntax.w16)) 𝓣 (Relend.asMut (Referent.rtF
               (Referent.fInt Syntax.w16))) G39 31 32 7 (Syntax.tyRef Syntax.erased Syntax.mut (Syntax.tyInt Syntax.w16)) (Syntax.tyRef Syntax.erased Syntax.mut (Syntax.tyInt Syntax.w16)) (λ x. x)
               (Scalar.oFld 3 (List._∷_ (Syntax.field 1) List.[]) (Syntax.tyInt Syntax.w64) 8 λ v. Shared.lenV (v .0)) (Reads'.as-is 𝓤 H A (Relend.msptr (Referent.rtF (Referent.fInt Syntax.w16))
-              (Syntax.tyRef Syntax.erased Syntax.mut (Syntax.tyInt Syntax.w16)) 7)) (Reads'.room-gone 𝓤 H A y5)
-              (Relend.reads-owed-len 𝓤 H A W (Referent.rtF (Referent.fInt Syntax.w16)) (Syntax.tyRef (Syntax.named 1) Syntax.mut (Syntax.tyInt Syntax.w16)) 1 7 (Row.lease (κs .1 .0) (qs .1 .0)) 8
-              Path'.refl, Path'.refl) Path'.refl Path'.refl λ b o k. tt) d66
+              (Syntax.tyRef Syntax.erased Syntax.mut (Syntax.tyInt Syntax.w16)) 7)) (Reads'.room-gone 𝓤 H A y5) (
+                Relend.reads-owed-len 𝓤 H A W (Referent.rtF (Referent.fInt Syntax.w16)) (Syntax.tyRef (Syntax.named 1) Syntax.mut (Syntax.tyInt Syntax.w16)) 1 7 (Row.lease (κs .1 .0) (qs .1 .0)) 8
+                    Path'.refl,
+                Path'.refl,
+              ) Path'.refl Path'.refl λ b o k. tt) d66
 
           d68 : Typed.Typed 𝓤 H A 𝓣 E G38 b53 Δ3 (at68 bs)
           d68 = Typed.s-seq 𝓤 H A W 𝓣 E G38 G39 b17 b52 Δ3 (Typed.give (s35 bs)) (at67 bs) (Relend.t-sl-relend 𝓤 H A W E (Referent.rtF (Referent.fInt Syntax.w16)) 𝓣 G38 3 31 1 7 (Syntax.tyRef
@@ -3361,19 +4008,40 @@ module _ (claims· : Claims) where
               (Syntax.tyInt Syntax.w16))) Path'.refl tt Path'.refl Path'.refl Path'.refl λ b o. tt) d67
 
           d69 : Typed.Typed 𝓤 H A 𝓣 E G37 b53 Δ3 (at69 bs)
-          d69 = Typed.g-pre 𝓤 H A W 𝓣 E G37 G38 b53 Δ3 (λ Ψ. Ψ) (at68 bs) (Lifetime.g-begin 𝓤 H A W E G37 7
-              (tt,
-              (tt,
-              (tt,
-              (tt,
-              (tt,
-              (tt,
-              (tt,
-              (tt,
-              (tt,
-              (tt,
-              (tt,
-              (tt, (tt, (tt, (tt, (tt, (tt, (tt, (tt, (tt, (tt, (tt, (tt, (tt, (tt, (tt, (tt, (tt, (tt, (tt, (tt, (tt, (tt, (tt, (tt, (tt, (tt, (tt, (tt, (tt, tt)))))))))))))))))))))))))))))))))))))))))
+          d69 = Typed.g-pre 𝓤 H A W 𝓣 E G37 G38 b53 Δ3 (λ Ψ. Ψ) (at68 bs) (Lifetime.g-begin 𝓤 H A W E G37 7 (
+            tt,
+            (
+              tt,
+              (
+                tt,
+                (
+                  tt,
+                  (
+                    tt,
+                    (
+                      tt,
+                      (
+                        tt,
+                        (
+                          tt,
+                          (
+                            tt,
+                            (
+                              tt,
+                              (
+                                tt,
+                                (tt, (tt, (tt, (tt, (tt, (tt, (tt, (tt, (tt, (tt, (tt, (tt, (tt, (tt, (tt, (tt, (tt, (tt, (tt, (tt, (tt, (tt, (tt, (tt, (tt, (tt, (tt, (tt, (tt, tt))))))))))))))))))))))))))))),
+                              ),
+                            ),
+                          ),
+                        ),
+                      ),
+                    ),
+                  ),
+                ),
+              ),
+            ),
+          ))
               d68
 
           d70 : Typed.Typed 𝓤 H A 𝓣 E G36 b53 Δ3 (at70 bs)
@@ -3390,11 +4058,16 @@ module _ (claims· : Claims) where
 
           d73 : Typed.Typed 𝓤 H A 𝓣 E G33 b54 Δ3 (at73 bs)
           d73 = Typed.s-seq 𝓤 H A W 𝓣 E G33 G34 b16 b53 Δ3 (Typed.both (s30 bs)) (at72 bs) (Plain.t-call-plain 𝓤 H A W 𝓣 1 ps·4 r·4 (claims· .8) (claims· .9) "block::records::load_set" (known .4) E (λ
-              pos β. β) G33
-              (record { pos = 30; ty = Syntax.tyRef Syntax.erased Syntax.mut Element.behind; ref = λ x. x; },
-              (Num.vFld 18 (List._∷_ (Syntax.field 2) List.[]) 16 λ x. Plan.struct .as-values x .1 .1 .0, tt)) 20 (List._∷_ 6 List.[]) (Call.sub-id 𝓤 H A W (G33 .slots))
-              (Reads'.as-is 𝓤 H A (Mut.mslice (Element.type) (Syntax.tyRef Syntax.erased Syntax.mut Element.behind) 6), Mut.reads-mslice 𝓤 H A W (Element.type) (Syntax.tyRef Syntax.erased Syntax.mut
-              Element.behind) 6, Path'.refl, ((Reads.reads-field 𝓤 H A W Plan.the-type Laws'6.the-laws 2 (Syntax.tyInt Syntax.w64) 16 Path'.refl, Path'.refl), tt)) (Reads'.room-gone 𝓤 H A y3) (tt, tt)
+              pos β. β) G33 (
+                record { pos = 30; ty = Syntax.tyRef Syntax.erased Syntax.mut Element.behind; ref = λ x. x },
+                (Num.vFld 18 (List._∷_ (Syntax.field 2) List.[]) 16 λ x. Plan.struct .as-values x .1 .1 .0, tt),
+              ) 20 (List._∷_ 6 List.[]) (Call.sub-id 𝓤 H A W (G33 .slots)) (
+                Reads'.as-is 𝓤 H A (Mut.mslice (Element.type) (Syntax.tyRef Syntax.erased Syntax.mut Element.behind) 6),
+                Mut.reads-mslice 𝓤 H A W (Element.type) (Syntax.tyRef Syntax.erased Syntax.mut
+                    Element.behind) 6,
+                Path'.refl,
+                ((Reads.reads-field 𝓤 H A W Plan.the-type Laws'6.the-laws 2 (Syntax.tyInt Syntax.w64) 16 Path'.refl, Path'.refl), tt),
+              ) (Reads'.room-gone 𝓤 H A y3) (tt, tt)
               Path'.refl) d72
 
           d74 : Typed.Typed 𝓤 H A 𝓣 E G32 b55 Δ3 (at74 bs)
@@ -3410,19 +4083,40 @@ module _ (claims· : Claims) where
               (Syntax.named 2) Syntax.mut Element.behind) 2)) (Reads'.room-gone 𝓤 H A (Syntax.tyRef Syntax.erased Syntax.mut Element.behind)) Path'.refl tt Path'.refl Path'.refl Path'.refl λ b o. tt) d74
 
           d76 : Typed.Typed 𝓤 H A 𝓣 E G30 b56 Δ3 (at76 bs)
-          d76 = Typed.g-pre 𝓤 H A W 𝓣 E G30 G31 b56 Δ3 (λ Ψ. Ψ) (at75 bs) (Lifetime.g-begin 𝓤 H A W E G30 6
-              (tt,
-              (tt,
-              (tt,
-              (tt,
-              (tt,
-              (tt,
-              (tt,
-              (tt,
-              (tt,
-              (tt,
-              (tt,
-              (tt, (tt, (tt, (tt, (tt, (tt, (tt, (tt, (tt, (tt, (tt, (tt, (tt, (tt, (tt, (tt, (tt, (tt, (tt, (tt, (tt, (tt, (tt, (tt, (tt, (tt, (tt, (tt, (tt, tt)))))))))))))))))))))))))))))))))))))))))
+          d76 = Typed.g-pre 𝓤 H A W 𝓣 E G30 G31 b56 Δ3 (λ Ψ. Ψ) (at75 bs) (Lifetime.g-begin 𝓤 H A W E G30 6 (
+            tt,
+            (
+              tt,
+              (
+                tt,
+                (
+                  tt,
+                  (
+                    tt,
+                    (
+                      tt,
+                      (
+                        tt,
+                        (
+                          tt,
+                          (
+                            tt,
+                            (
+                              tt,
+                              (
+                                tt,
+                                (tt, (tt, (tt, (tt, (tt, (tt, (tt, (tt, (tt, (tt, (tt, (tt, (tt, (tt, (tt, (tt, (tt, (tt, (tt, (tt, (tt, (tt, (tt, (tt, (tt, (tt, (tt, (tt, (tt, tt))))))))))))))))))))))))))))),
+                              ),
+                            ),
+                          ),
+                        ),
+                      ),
+                    ),
+                  ),
+                ),
+              ),
+            ),
+          ))
               d75
 
           d77 : Typed.Typed 𝓤 H A 𝓣 E G29 b56 Δ3 (at77 bs)
@@ -3447,25 +4141,39 @@ module _ (claims· : Claims) where
 
           d82 : Typed.Typed 𝓤 H A 𝓣 E G24 b57 Δ3 (at82 bs)
           d82 = Typed.s-seq 𝓤 H A W 𝓣 E G24 G25 b13 b56 Δ3 (Typed.both (s21 bs)) (at81 bs) (Plain.t-call-plain 𝓤 H A W 𝓣 1 ps·3 r·3 (claims· .6) (claims· .7) "lines::enter" (known .3) E (λ pos β. β)
-              G24
-              (record { pos = 28; ty = Syntax.tyRef Syntax.erased Syntax.mut (Syntax.tyInt Syntax.w16); ref = λ x. x; },
-              (Num.vAt 15 λ x. x,
-              (Num.vFld 19 (List._∷_ (Syntax.field 0) List.[]) 0 λ x. Plan.struct .as-values x .0,
-              (Num.vFld 19 (List._∷_ (Syntax.field 1) List.[]) 8 λ x. Plan.struct .as-values x .1 .0, (Bool.bAt 12 λ x. x, tt))))) 26 (List._∷_ 5 List.[]) (Call.sub-id 𝓤 H A W (G24 .slots))
-              (Reads'.as-is 𝓤 H A (Mut.mslice (Referent.rtF (Referent.fInt Syntax.w16)) (Syntax.tyRef Syntax.erased Syntax.mut (Syntax.tyInt Syntax.w16)) 5), Mut.reads-mslice 𝓤 H A W (Referent.rtF
-              (Referent.fInt Syntax.w16)) (Syntax.tyRef Syntax.erased Syntax.mut (Syntax.tyInt Syntax.w16)) 5, Path'.refl,
-              ((Scalar.reads-sc 𝓤 H A W (Row.sInt Syntax.w64), Path'.refl),
-              ((Reads.reads-field 𝓤 H A W Plan.the-type Laws'6.the-laws 0 (Syntax.tyInt Syntax.w64) 0 Path'.refl, Path'.refl),
-              ((Reads.reads-field 𝓤 H A W Plan.the-type Laws'6.the-laws 1 (Syntax.tyInt Syntax.w64) 8 Path'.refl, Path'.refl), ((Scalar.reads-sc 𝓤 H A W Row.sBool, Path'.refl), tt))))) (Reads'.room-gone 𝓤
+              G24 (
+                record { pos = 28; ty = Syntax.tyRef Syntax.erased Syntax.mut (Syntax.tyInt Syntax.w16); ref = λ x. x },
+                (
+                  Num.vAt 15 λ x. x,
+                  (
+                    Num.vFld 19 (List._∷_ (Syntax.field 0) List.[]) 0 λ x. Plan.struct .as-values x .0,
+                    (Num.vFld 19 (List._∷_ (Syntax.field 1) List.[]) 8 λ x. Plan.struct .as-values x .1 .0, (Bool.bAt 12 λ x. x, tt)),
+                  ),
+                ),
+              ) 26 (List._∷_ 5 List.[]) (Call.sub-id 𝓤 H A W (G24 .slots)) (
+                Reads'.as-is 𝓤 H A (Mut.mslice (Referent.rtF (Referent.fInt Syntax.w16)) (Syntax.tyRef Syntax.erased Syntax.mut (Syntax.tyInt Syntax.w16)) 5),
+                Mut.reads-mslice 𝓤 H A W (Referent.rtF
+                    (Referent.fInt Syntax.w16)) (Syntax.tyRef Syntax.erased Syntax.mut (Syntax.tyInt Syntax.w16)) 5,
+                Path'.refl,
+                (
+                  (Scalar.reads-sc 𝓤 H A W (Row.sInt Syntax.w64), Path'.refl),
+                  (
+                    (Reads.reads-field 𝓤 H A W Plan.the-type Laws'6.the-laws 0 (Syntax.tyInt Syntax.w64) 0 Path'.refl, Path'.refl),
+                    ((Reads.reads-field 𝓤 H A W Plan.the-type Laws'6.the-laws 1 (Syntax.tyInt Syntax.w64) 8 Path'.refl, Path'.refl), ((Scalar.reads-sc 𝓤 H A W Row.sBool, Path'.refl), tt)),
+                  ),
+                ),
+              ) (Reads'.room-gone 𝓤
               H A Syntax.tyUnit) (tt, tt) Path'.refl) d81
 
           d83 : Typed.Typed 𝓤 H A 𝓣 E G23 b58 Δ3 (at83 bs)
           d83 = Typed.s-seq 𝓤 H A W 𝓣 E G23 G24 b12 b57 Δ3 (Typed.ask (s20 bs)) (at82 bs) (Relend.t-sl-aggregate 𝓤 H A W E (Referent.rtF (Referent.fInt Syntax.w16)) 𝓣 (Relend.asMut (Referent.rtF
               (Referent.fInt Syntax.w16))) G23 27 28 5 (Syntax.tyRef Syntax.erased Syntax.mut (Syntax.tyInt Syntax.w16)) (Syntax.tyRef Syntax.erased Syntax.mut (Syntax.tyInt Syntax.w16)) (λ x. x)
               (Scalar.oFld 3 (List._∷_ (Syntax.field 1) List.[]) (Syntax.tyInt Syntax.w64) 8 λ v. Shared.lenV (v .0)) (Reads'.as-is 𝓤 H A (Relend.msptr (Referent.rtF (Referent.fInt Syntax.w16))
-              (Syntax.tyRef Syntax.erased Syntax.mut (Syntax.tyInt Syntax.w16)) 5)) (Reads'.room-gone 𝓤 H A y5)
-              (Relend.reads-owed-len 𝓤 H A W (Referent.rtF (Referent.fInt Syntax.w16)) (Syntax.tyRef (Syntax.named 1) Syntax.mut (Syntax.tyInt Syntax.w16)) 1 5 (Row.lease (κs .1 .0) (qs .1 .0)) 8
-              Path'.refl, Path'.refl) Path'.refl Path'.refl λ b o k. tt) d82
+              (Syntax.tyRef Syntax.erased Syntax.mut (Syntax.tyInt Syntax.w16)) 5)) (Reads'.room-gone 𝓤 H A y5) (
+                Relend.reads-owed-len 𝓤 H A W (Referent.rtF (Referent.fInt Syntax.w16)) (Syntax.tyRef (Syntax.named 1) Syntax.mut (Syntax.tyInt Syntax.w16)) 1 5 (Row.lease (κs .1 .0) (qs .1 .0)) 8
+                    Path'.refl,
+                Path'.refl,
+              ) Path'.refl Path'.refl λ b o k. tt) d82
 
           d84 : Typed.Typed 𝓤 H A 𝓣 E G22 b59 Δ3 (at84 bs)
           d84 = Typed.s-seq 𝓤 H A W 𝓣 E G22 G23 b11 b58 Δ3 (Typed.give (s19 bs)) (at83 bs) (Relend.t-sl-relend 𝓤 H A W E (Referent.rtF (Referent.fInt Syntax.w16)) 𝓣 G22 3 27 1 5 (Syntax.tyRef
@@ -3474,27 +4182,52 @@ module _ (claims· : Claims) where
               (Syntax.tyInt Syntax.w16))) Path'.refl tt Path'.refl Path'.refl Path'.refl λ b o. tt) d83
 
           d85 : Typed.Typed 𝓤 H A 𝓣 E G21 b59 Δ3 (at85 bs)
-          d85 = Typed.g-pre 𝓤 H A W 𝓣 E G21 G22 b59 Δ3 (λ Ψ. Ψ) (at84 bs) (Lifetime.g-begin 𝓤 H A W E G21 5
-              (tt,
-              (tt,
-              (tt,
-              (tt,
-              (tt,
-              (tt,
-              (tt,
-              (tt,
-              (tt,
-              (tt,
-              (tt,
-              (tt, (tt, (tt, (tt, (tt, (tt, (tt, (tt, (tt, (tt, (tt, (tt, (tt, (tt, (tt, (tt, (tt, (tt, (tt, (tt, (tt, (tt, (tt, (tt, (tt, (tt, (tt, (tt, (tt, tt)))))))))))))))))))))))))))))))))))))))))
+          d85 = Typed.g-pre 𝓤 H A W 𝓣 E G21 G22 b59 Δ3 (λ Ψ. Ψ) (at84 bs) (Lifetime.g-begin 𝓤 H A W E G21 5 (
+            tt,
+            (
+              tt,
+              (
+                tt,
+                (
+                  tt,
+                  (
+                    tt,
+                    (
+                      tt,
+                      (
+                        tt,
+                        (
+                          tt,
+                          (
+                            tt,
+                            (
+                              tt,
+                              (
+                                tt,
+                                (tt, (tt, (tt, (tt, (tt, (tt, (tt, (tt, (tt, (tt, (tt, (tt, (tt, (tt, (tt, (tt, (tt, (tt, (tt, (tt, (tt, (tt, (tt, (tt, (tt, (tt, (tt, (tt, (tt, tt))))))))))))))))))))))))))))),
+                              ),
+                            ),
+                          ),
+                        ),
+                      ),
+                    ),
+                  ),
+                ),
+              ),
+            ),
+          ))
               d84
 
           d86 : Typed.Typed 𝓤 H A 𝓣 E G20 b60 Δ3 (at86 bs)
           d86 = Typed.s-seq 𝓤 H A W 𝓣 E G20 G21 b10 b59 Δ3 (Typed.both (s17 bs)) (at85 bs) (Plain.t-call-plain 𝓤 H A W 𝓣 0 ps·2 r·2 (claims· .4) (claims· .5) "pass::window_plan" (known .2) E (λ pos β.
-              β) G20 (record { pos = 18; st = List.[]; d = 0; at = λ x. x }, (Bool.bAt 12 λ x. x, tt)) 19 List.[] (Call.sub-id 𝓤 H A W (G20 .slots))
-              ((Yields.yields-copy 𝓤 H A W (λ ρ. Unit) (Declared'.row Plan.the-type) Path'.refl (Copies.cStruct Plan.the-type Laws'6.the-laws Laws'6.the-copy .copy 𝓤 H A W) (Rows'.whole (Declared'.row
-              Plan.the-type)) (λ x. x) (λ x. x) (λ ρ told. Local.mem-whole 𝓤 H A W (Declared'.row Plan.the-type) ρ) λ ρ told. Local.whole-mem 𝓤 H A W (Declared'.row Plan.the-type) ρ, Path'.refl),
-              ((Scalar.reads-sc 𝓤 H A W Row.sBool, Path'.refl), tt)) (Reads'.room-gone 𝓤 H A y1) tt Path'.refl) d85
+              β) G20 (record { pos = 18; st = List.[]; d = 0; at = λ x. x }, (Bool.bAt 12 λ x. x, tt)) 19 List.[] (Call.sub-id 𝓤 H A W (G20 .slots)) (
+                (
+                  Yields.yields-copy 𝓤 H A W (λ ρ. Unit) (Declared'.row Plan.the-type) Path'.refl (Copies.cStruct Plan.the-type Laws'6.the-laws Laws'6.the-copy .copy 𝓤 H A W) (Rows'.whole (Declared'.row
+                      Plan.the-type)) (λ x. x) (λ x. x) (λ ρ told. Local.mem-whole 𝓤 H A W (Declared'.row Plan.the-type) ρ) λ ρ told. Local.whole-mem 𝓤 H A W (Declared'.row Plan.the-type) ρ,
+                  Path'.refl,
+                ),
+                ((Scalar.reads-sc 𝓤 H A W Row.sBool, Path'.refl), tt),
+              ) (Reads'.room-gone 𝓤 H A y1) tt Path'.refl) d85
 
           d87 : Typed.Typed 𝓤 H A 𝓣 E G14 b61 Δ3 (at87 bs)
           d87 = Typed.s-seq 𝓤 H A W 𝓣 E G14 G20 b9 b60 Δ3 (Typed.both (s16 bs)) (at86 bs) (Plain.t-call-plain 𝓤 H A W 𝓣 0 ps·1 r·1 (claims· .2) (claims· .3) "steps::plan_at" (known .1) E (λ pos β. β)
@@ -3607,13 +4340,17 @@ module _ (claims· : Claims) where
               (m .1 .1 .1 .1 .1 .1 .1 .1 .1 .1 .1 .1 .1 .1 .1 .1 .0, tt))) (Reads'.room-gone 𝓤 H A (Syntax.tyEnum (List._∷_ 98 (List._∷_ 108 (List._∷_ 111 (List._∷_ 99 (List._∷_ 107 (List._∷_ 58 (List._∷_
               58 (List._∷_ 76 (List._∷_ 105 (List._∷_ 110 (List._∷_ 101 (List._∷_ 100 List.[])))))))))))) (Syntax.ttcons (Syntax.tcons y9 Syntax.tnil) (Syntax.ttcons Syntax.tnil Syntax.ttnil))))
               (tt, ((Reads.reads-struct 𝓤 H A W Place.the-type Laws'3.the-laws, Path'.refl), tt)) Path'.refl (λ m wa. Make.made-val Lined.the-type Laws''.the-laws (List._∷_ (Laws'10.val Place.the-type
-              Laws'3.the-laws (m .1 .1 .1 .1 .1 .1 .1 .1 .1 .1 .1 .1 .1 .1 .1 .1 .0)) List.[]) (Lined.enum .make (Logic.inl (m .1 .1 .1 .1 .1 .1 .1 .1 .1 .1 .1 .1 .1 .1 .1 .1 .0, tt)))
-              (Signed.made-wt Place.the-field Laws'3.the-field-laws (Make'.struct-wt Place.the-type Laws'3.the-laws
-              (Make'.struct-wt BitPosition.the-type Laws.the-laws (Make'.u64-wt, tt), (Make'.bool-wt, (Make'.u64-wt, tt)))) (Place.the-type .to (m .1 .1 .1 .1 .1 .1 .1 .1 .1 .1 .1 .1 .1 .1 .1 .1 .0)), tt)
+              Laws'3.the-laws (m .1 .1 .1 .1 .1 .1 .1 .1 .1 .1 .1 .1 .1 .1 .1 .1 .0)) List.[]) (Lined.enum .make (Logic.inl (m .1 .1 .1 .1 .1 .1 .1 .1 .1 .1 .1 .1 .1 .1 .1 .1 .0, tt))) (
+                Signed.made-wt Place.the-field Laws'3.the-field-laws (Make'.struct-wt Place.the-type Laws'3.the-laws
+                    (Make'.struct-wt BitPosition.the-type Laws.the-laws (Make'.u64-wt, tt), (Make'.bool-wt, (Make'.u64-wt, tt)))) (Place.the-type .to (m .1 .1 .1 .1 .1 .1 .1 .1 .1 .1 .1 .1 .1 .1 .1 .1 .0)),
+                tt,
+              )
               (wa .1)) λ m wa. Make.made-is Lined.the-type Laws''.the-laws (List._∷_ (Laws'10.val Place.the-type Laws'3.the-laws (m .1 .1 .1 .1 .1 .1 .1 .1 .1 .1 .1 .1 .1 .1 .1 .1 .0)) List.[])
-              (Lined.enum .make (Logic.inl (m .1 .1 .1 .1 .1 .1 .1 .1 .1 .1 .1 .1 .1 .1 .1 .1 .0, tt)))
-              (Signed.made-wt Place.the-field Laws'3.the-field-laws (Make'.struct-wt Place.the-type Laws'3.the-laws
-              (Make'.struct-wt BitPosition.the-type Laws.the-laws (Make'.u64-wt, tt), (Make'.bool-wt, (Make'.u64-wt, tt)))) (Place.the-type .to (m .1 .1 .1 .1 .1 .1 .1 .1 .1 .1 .1 .1 .1 .1 .1 .1 .0)), tt)
+              (Lined.enum .make (Logic.inl (m .1 .1 .1 .1 .1 .1 .1 .1 .1 .1 .1 .1 .1 .1 .1 .1 .0, tt))) (
+                Signed.made-wt Place.the-field Laws'3.the-field-laws (Make'.struct-wt Place.the-type Laws'3.the-laws
+                    (Make'.struct-wt BitPosition.the-type Laws.the-laws (Make'.u64-wt, tt), (Make'.bool-wt, (Make'.u64-wt, tt)))) (Place.the-type .to (m .1 .1 .1 .1 .1 .1 .1 .1 .1 .1 .1 .1 .1 .1 .1 .1 .0)),
+                tt,
+              )
               (wa .1)) d113
 
           d115 : Typed.Typed 𝓤 H A 𝓣 E G99 b76 Δ0 (at115 bs)
@@ -3621,20 +4358,29 @@ module _ (claims· : Claims) where
 
           d116 : Typed.Typed 𝓤 H A 𝓣 E G98 b77 Δ0 (at116 bs)
           d116 = Typed.s-seq 𝓤 H A W 𝓣 E G98 G99 b67 b76 Δ0 (Typed.both (s94 bs)) (at115 bs) (Plain.t-call-plain 𝓤 H A W 𝓣 1 ps·8 r·8 (claims· .16) (claims· .17) "bits::is_past" (known .8) E (λ pos β.
-              β) G98 (record { pos = 1; ty = Syntax.tyRef (Syntax.named 0) Syntax.imm (Syntax.tyInt Syntax.w8); ref = λ x. x; }, (record { pos = 24; st = List.[]; d = 0; at = λ x. x }, tt)) 39 (List._∷_ 0
-              List.[]) (Call.sub-id 𝓤 H A W (G98 .slots))
-              (ShrSlice.spares-sslice 𝓤 H A W (Referent.rtF (Referent.fInt Syntax.w8)) (Syntax.tyRef (Syntax.named 0) Syntax.imm (Syntax.tyInt Syntax.w8)) 0, Shared.reads-sslice 𝓤 H A W (Referent.rtF
-              (Referent.fInt Syntax.w8)) (Syntax.tyRef (Syntax.named 0) Syntax.imm (Syntax.tyInt Syntax.w8)) 0, Path'.refl,
-              ((Yields.yields-copy 𝓤 H A W (λ ρ. Unit) (Declared'.row BitPosition.the-type) Path'.refl (Copies.cStruct BitPosition.the-type Laws.the-laws Laws.the-copy .copy 𝓤 H A W) (Rows'.whole
-              (Declared'.row BitPosition.the-type)) (λ x. x) (λ x. x) (λ ρ told. Local.mem-whole 𝓤 H A W (Declared'.row BitPosition.the-type) ρ) λ ρ told. Local.whole-mem 𝓤 H A W (Declared'.row
-              BitPosition.the-type) ρ, Path'.refl), tt)) (Reads'.room-gone 𝓤 H A Syntax.tyBool) (tt, tt) Path'.refl) d115
+              β) G98 (record { pos = 1; ty = Syntax.tyRef (Syntax.named 0) Syntax.imm (Syntax.tyInt Syntax.w8); ref = λ x. x }, (record { pos = 24; st = List.[]; d = 0; at = λ x. x }, tt)) 39 (List._∷_ 0
+              List.[]) (Call.sub-id 𝓤 H A W (G98 .slots)) (
+                ShrSlice.spares-sslice 𝓤 H A W (Referent.rtF (Referent.fInt Syntax.w8)) (Syntax.tyRef (Syntax.named 0) Syntax.imm (Syntax.tyInt Syntax.w8)) 0,
+                Shared.reads-sslice 𝓤 H A W (Referent.rtF
+                    (Referent.fInt Syntax.w8)) (Syntax.tyRef (Syntax.named 0) Syntax.imm (Syntax.tyInt Syntax.w8)) 0,
+                Path'.refl,
+                (
+                  (
+                    Yields.yields-copy 𝓤 H A W (λ ρ. Unit) (Declared'.row BitPosition.the-type) Path'.refl (Copies.cStruct BitPosition.the-type Laws.the-laws Laws.the-copy .copy 𝓤 H A W) (Rows'.whole
+                        (Declared'.row BitPosition.the-type)) (λ x. x) (λ x. x) (λ ρ told. Local.mem-whole 𝓤 H A W (Declared'.row BitPosition.the-type) ρ) λ ρ told. Local.whole-mem 𝓤 H A W (Declared'.row
+                        BitPosition.the-type) ρ,
+                    Path'.refl,
+                  ),
+                  tt,
+                ),
+              ) (Reads'.room-gone 𝓤 H A Syntax.tyBool) (tt, tt) Path'.refl) d115
 
           d117 : Typed.Typed 𝓤 H A 𝓣 E G12 b78 Δ0 (at117 bs)
           d117 = Typed.s-seq 𝓤 H A W 𝓣 E G12 G98 b66 b77 Δ0 (Typed.both (s93 bs)) (at116 bs) (WayStmt.t-way-copy-out 𝓤 H A W E 𝓣 (Declared'.row BitPosition.the-type) Path'.refl (Copies.cStruct
               BitPosition.the-type Laws.the-laws Laws.the-copy .copy 𝓤 H A W) (λ ρ. Unit) G12 (Row.out 16 (G12 .locals)) (λ u. Row.drop 16 (G12 .locals) u) (G12 .slots) 16 (λ t. List._∷_ (Syntax.field 0)
               t) y7 y7 24 (Rows'.whole (Declared'.row BitPosition.the-type)) (λ x. x) (λ u. At.getAt (Place.the-type .parts) 0 (Place.struct .as-values (u .1 .1 .1 .1 .1 .1 .1 .1 .1 .1 .1 .1 .1 .1 .1 .1
               .0))) (λ u. (Row.hd 0 (Row.tl (Row.tl (Row.tl (Row.tl (Row.tl (Row.tl (Row.tl (Row.tl (Row.tl (Row.tl (Row.tl (Row.tl (Row.tl (Row.tl (Row.tl (Row.tl bs)))))))))))))))), Nat._+_ 0 0)) (λ T′.
-              record { locals = Row.setRow 16 (16, Rows'.whole (Declared'.row Place.the-type)) T′; slots = G12 .slots; }) (λ u T′ m′. Row.set 16 (16, Rows'.whole (Declared'.row Place.the-type)) (u .1 .1
+              record { locals = Row.setRow 16 (16, Rows'.whole (Declared'.row Place.the-type)) T′; slots = G12 .slots }) (λ u T′ m′. Row.set 16 (16, Rows'.whole (Declared'.row Place.the-type)) (u .1 .1
               .1 .1 .1 .1 .1 .1 .1 .1 .1 .1 .1 .1 .1 .1 .0) T′ m′) (λ u. Unit) (λ x. Unit) (Own.told-none 𝓤 H A (G12 .slots)) (DerefMove.learns-nothing 𝓤 H A (Declared'.row BitPosition.the-type)) (λ ρ
               told u asked. Way'.w-partˢ 𝓤 H A W E (Declared'.row Place.the-type) (Declared'.row BitPosition.the-type) y9 y7 0 0 (u .1 .1 .1 .1 .1 .1 .1 .1 .1 .1 .1 .1 .1 .1 .1 .1 .0) (At.getAt
               (Place.the-type .parts) 0 (Place.struct .as-values (u .1 .1 .1 .1 .1 .1 .1 .1 .1 .1 .1 .1 .1 .1 .1 .1 .0)))
@@ -3715,31 +4461,81 @@ module _ (claims· : Claims) where
       module _ (κs : Lifetimes.Lfts 5) where
         pub record Args : Type 0 where
           pub block : Kinds.Den {n = 5} κs (ShrSlice.pShrS (Referent.rtF (Referent.fInt Syntax.w8)) 0 tt)
-          pub from : Kinds.Den {n = 5} κs (Value.pVal record
-              { ty = Declared'.row Place.the-type; one = Path'.refl; val = Laws'10.val Place.the-type Laws'3.the-laws; tells = Laws'10.tells Place.the-type Laws'3.the-laws; still = Laws'10.still
-              Place.the-type Laws'3.the-copy Exit.yes; row = Rows'.whole (Declared'.row Place.the-type); rd = λ x. x; mk = λ x. x; } λ M 𝓤 H A W. record
-              { copies = Laws'10.copy Place.the-type Laws'3.the-copy 𝓤 H A W; lawful = Laws'10.lawful Place.the-type Laws'3.the-laws 𝓤 H A W; makes = Laws'10.makes Place.the-type Laws'3.the-plain 𝓤 H A;
-              in-mem = Local.mem-whole 𝓤 H A W (Declared'.row Place.the-type); of-mem = Local.whole-mem 𝓤 H A W (Declared'.row Place.the-type); })
+          pub from : Kinds.Den {n = 5} κs (Value.pVal record {
+            ty = Declared'.row Place.the-type;
+            one = Path'.refl;
+            val = Laws'10.val Place.the-type Laws'3.the-laws;
+            tells = Laws'10.tells Place.the-type Laws'3.the-laws;
+            still = Laws'10.still
+                Place.the-type Laws'3.the-copy Exit.yes;
+            row = Rows'.whole (Declared'.row Place.the-type);
+            rd = λ x. x;
+            mk = λ x. x;
+          } λ M 𝓤 H A W. record {
+            copies = Laws'10.copy Place.the-type Laws'3.the-copy 𝓤 H A W;
+            lawful = Laws'10.lawful Place.the-type Laws'3.the-laws 𝓤 H A W;
+            makes = Laws'10.makes Place.the-type Laws'3.the-plain 𝓤 H A;
+            in-mem = Local.mem-whole 𝓤 H A W (Declared'.row Place.the-type);
+            of-mem = Local.whole-mem 𝓤 H A W (Declared'.row Place.the-type);
+          })
           pub lines : Kinds.Den {n = 5} κs (MutSlice.pMutS (Referent.rtF (Referent.fInt Syntax.w16)) 1 tt)
           pub rs : Kinds.Den {n = 5} κs (MutSlice.pMutS (Element.type) 2 tt)
           pub image : Kinds.Den {n = 5} κs (MutSlice.pMutS (Referent.rtF (Referent.fInt Syntax.w16)) 3 tt)
-          pub form : Kinds.Den {n = 5} κs (Value.pVal record
-              { ty = Declared'.row Form.the-type; one = Path'.refl; val = Laws'10.val Form.the-type Laws'.the-laws; tells = Laws'10.tells Form.the-type Laws'.the-laws; still = Laws'10.still Form.the-type
-              Laws'.the-copy Exit.yes; row = Rows'.whole (Declared'.row Form.the-type); rd = λ x. x; mk = λ x. x; } λ M 𝓤 H A W. record
-              { copies = Laws'10.copy Form.the-type Laws'.the-copy 𝓤 H A W; lawful = Laws'10.lawful Form.the-type Laws'.the-laws 𝓤 H A W; makes = Laws'10.makes Form.the-type Laws'.the-plain 𝓤 H A; in-mem
-              = Local.mem-whole 𝓤 H A W (Declared'.row Form.the-type); of-mem = Local.whole-mem 𝓤 H A W (Declared'.row Form.the-type); })
-          pub qs : Kinds.Den {n = 5} κs (Value.pVal record
-              { ty = Declared'.row Quantisers.the-type; one = Path'.refl; val = Laws'10.val Quantisers.the-type Laws'7.the-laws; tells = Laws'10.tells Quantisers.the-type Laws'7.the-laws; still =
-              Laws'10.still Quantisers.the-type Laws'7.the-copy Exit.yes; row = Rows'.whole (Declared'.row Quantisers.the-type); rd = λ x. x; mk = λ x. x; } λ M 𝓤 H A W. record
-              { copies = Laws'10.copy Quantisers.the-type Laws'7.the-copy 𝓤 H A W; lawful = Laws'10.lawful Quantisers.the-type Laws'7.the-laws 𝓤 H A W; makes = Laws'10.makes Quantisers.the-type
-              Laws'7.the-plain 𝓤 H A; in-mem = Local.mem-whole 𝓤 H A W (Declared'.row Quantisers.the-type); of-mem = Local.whole-mem 𝓤 H A W (Declared'.row Quantisers.the-type); })
+          pub form : Kinds.Den {n = 5} κs (Value.pVal record {
+            ty = Declared'.row Form.the-type;
+            one = Path'.refl;
+            val = Laws'10.val Form.the-type Laws'.the-laws;
+            tells = Laws'10.tells Form.the-type Laws'.the-laws;
+            still = Laws'10.still Form.the-type
+                Laws'.the-copy Exit.yes;
+            row = Rows'.whole (Declared'.row Form.the-type);
+            rd = λ x. x;
+            mk = λ x. x;
+          } λ M 𝓤 H A W. record {
+            copies = Laws'10.copy Form.the-type Laws'.the-copy 𝓤 H A W;
+            lawful = Laws'10.lawful Form.the-type Laws'.the-laws 𝓤 H A W;
+            makes = Laws'10.makes Form.the-type Laws'.the-plain 𝓤 H A;
+            in-mem
+                = Local.mem-whole 𝓤 H A W (Declared'.row Form.the-type);
+            of-mem = Local.whole-mem 𝓤 H A W (Declared'.row Form.the-type);
+          })
+          pub qs : Kinds.Den {n = 5} κs (Value.pVal record {
+            ty = Declared'.row Quantisers.the-type;
+            one = Path'.refl;
+            val = Laws'10.val Quantisers.the-type Laws'7.the-laws;
+            tells = Laws'10.tells Quantisers.the-type Laws'7.the-laws;
+            still =
+                Laws'10.still Quantisers.the-type Laws'7.the-copy Exit.yes;
+            row = Rows'.whole (Declared'.row Quantisers.the-type);
+            rd = λ x. x;
+            mk = λ x. x;
+          } λ M 𝓤 H A W. record {
+            copies = Laws'10.copy Quantisers.the-type Laws'7.the-copy 𝓤 H A W;
+            lawful = Laws'10.lawful Quantisers.the-type Laws'7.the-laws 𝓤 H A W;
+            makes = Laws'10.makes Quantisers.the-type
+                Laws'7.the-plain 𝓤 H A;
+            in-mem = Local.mem-whole 𝓤 H A W (Declared'.row Quantisers.the-type);
+            of-mem = Local.whole-mem 𝓤 H A W (Declared'.row Quantisers.the-type);
+          })
           pub places : Kinds.Den {n = 5} κs (ShrRef.pShr (Array'.Array (Referent.rtF (Referent.fInt Syntax.w16)) 768) 4 tt)
           pub tile : Kinds.Den {n = 5} κs (Array.pArr (Array.eInt Syntax.w8) (Array.eInt-laws Syntax.w8) 36)
-          pub part : Kinds.Den {n = 5} κs (Value.pVal record
-              { ty = Declared'.row Part.the-type; one = Path'.refl; val = Laws'10.val Part.the-type Laws'4.the-laws; tells = Laws'10.tells Part.the-type Laws'4.the-laws; still = Laws'10.still
-              Part.the-type Laws'4.the-copy Exit.yes; row = Rows'.whole (Declared'.row Part.the-type); rd = λ x. x; mk = λ x. x; } λ M 𝓤 H A W. record
-              { copies = Laws'10.copy Part.the-type Laws'4.the-copy 𝓤 H A W; lawful = Laws'10.lawful Part.the-type Laws'4.the-laws 𝓤 H A W; makes = Laws'10.makes Part.the-type Laws'4.the-plain 𝓤 H A;
-              in-mem = Local.mem-whole 𝓤 H A W (Declared'.row Part.the-type); of-mem = Local.whole-mem 𝓤 H A W (Declared'.row Part.the-type); })
+          pub part : Kinds.Den {n = 5} κs (Value.pVal record {
+            ty = Declared'.row Part.the-type;
+            one = Path'.refl;
+            val = Laws'10.val Part.the-type Laws'4.the-laws;
+            tells = Laws'10.tells Part.the-type Laws'4.the-laws;
+            still = Laws'10.still
+                Part.the-type Laws'4.the-copy Exit.yes;
+            row = Rows'.whole (Declared'.row Part.the-type);
+            rd = λ x. x;
+            mk = λ x. x;
+          } λ M 𝓤 H A W. record {
+            copies = Laws'10.copy Part.the-type Laws'4.the-copy 𝓤 H A W;
+            lawful = Laws'10.lawful Part.the-type Laws'4.the-laws 𝓤 H A W;
+            makes = Laws'10.makes Part.the-type Laws'4.the-plain 𝓤 H A;
+            in-mem = Local.mem-whole 𝓤 H A W (Declared'.row Part.the-type);
+            of-mem = Local.whole-mem 𝓤 H A W (Declared'.row Part.the-type);
+          })
           pub n : Kinds.Den {n = 5} κs (Num.pNum Syntax.w64)
           pub windowed : Kinds.Den {n = 5} κs Bool.pBool
 
@@ -3754,9 +4550,12 @@ module _ (claims· : Claims) where
       m0 = λ κs args blocks. (tt, Enter.partsP κs 1 ps xs (dens κs args))
 
       abbrev W0 : (κs : Lifetimes.Lfts 5) → (args : Args κs) → (blocks : List.List Nat.ℕ) → Typed.Want O0
-      W0 = λ κs args blocks.
-          (λ u. ⊥, tt, λ u. Enter.Fixs κs 1 ps xs (dens κs args) (u .1) × Post· κs (dens κs args) (Function.resV r κs (u .0)) (Clauses.atExit (Kinds.endedOf 5 ps r) κs (dens κs args) (Enter.lastsP κs 1 ps
-          xs (dens κs args) (u .1))))
+      W0 = λ κs args blocks. (
+        λ u. ⊥,
+        tt,
+        λ u. Enter.Fixs κs 1 ps xs (dens κs args) (u .1) × Post· κs (dens κs args) (Function.resV r κs (u .0)) (Clauses.atExit (Kinds.endedOf 5 ps r) κs (dens κs args) (Enter.lastsP κs 1 ps
+            xs (dens κs args) (u .1))),
+      )
 
       pub record Start : Type 0 where
         pub κs : Lifetimes.Lfts 5
@@ -3862,14 +4661,14 @@ module _ (claims· : Claims) where
           (4, Mut.mslice (Element.type) (Syntax.tyRef (Syntax.named 2) Syntax.mut Element.behind) 2) (Row.setRow 3
           (3, Mut.mslice (Referent.rtF (Referent.fInt Syntax.w16)) (Syntax.tyRef (Syntax.named 1) Syntax.mut (Syntax.tyInt Syntax.w16)) 1) (T11 .locals)))) (Row.set 5
           (5, Mut.mslice (Referent.rtF (Referent.fInt Syntax.w16)) (Syntax.tyRef (Syntax.named 3) Syntax.mut (Syntax.tyInt Syntax.w16)) 3) record
-          { ptr = Row.get 5 (T11 .locals) (m10 (before .before) (After-width·gave before)) .ptr; name = Row.get 5 (T11 .locals) (m10 (before .before) (After-width·gave before)) .name; now = image; }
+          { ptr = Row.get 5 (T11 .locals) (m10 (before .before) (After-width·gave before)) .ptr; name = Row.get 5 (T11 .locals) (m10 (before .before) (After-width·gave before)) .name; now = image }
           (Row.setRow 4 (4, Mut.mslice (Element.type) (Syntax.tyRef (Syntax.named 2) Syntax.mut Element.behind) 2) (Row.setRow 3
           (3, Mut.mslice (Referent.rtF (Referent.fInt Syntax.w16)) (Syntax.tyRef (Syntax.named 1) Syntax.mut (Syntax.tyInt Syntax.w16)) 1) (T11 .locals))) (Row.set 4
           (4, Mut.mslice (Element.type) (Syntax.tyRef (Syntax.named 2) Syntax.mut Element.behind) 2) record
-          { ptr = Row.get 4 (T11 .locals) (m10 (before .before) (After-width·gave before)) .ptr; name = Row.get 4 (T11 .locals) (m10 (before .before) (After-width·gave before)) .name; now = rs; }
+          { ptr = Row.get 4 (T11 .locals) (m10 (before .before) (After-width·gave before)) .ptr; name = Row.get 4 (T11 .locals) (m10 (before .before) (After-width·gave before)) .name; now = rs }
           (Row.setRow 3 (3, Mut.mslice (Referent.rtF (Referent.fInt Syntax.w16)) (Syntax.tyRef (Syntax.named 1) Syntax.mut (Syntax.tyInt Syntax.w16)) 1) (T11 .locals)) (Row.set 3
           (3, Mut.mslice (Referent.rtF (Referent.fInt Syntax.w16)) (Syntax.tyRef (Syntax.named 1) Syntax.mut (Syntax.tyInt Syntax.w16)) 1) record
-          { ptr = Row.get 3 (T11 .locals) (m10 (before .before) (After-width·gave before)) .ptr; name = Row.get 3 (T11 .locals) (m10 (before .before) (After-width·gave before)) .name; now = lines; } (T11
+          { ptr = Row.get 3 (T11 .locals) (m10 (before .before) (After-width·gave before)) .ptr; name = Row.get 3 (T11 .locals) (m10 (before .before) (After-width·gave before)) .name; now = lines } (T11
           .locals) (m10 (before .before) (After-width·gave before))))))
 
       abbrev W3 : (before : After-width) → (lines : List.List (Referent.rtF (Referent.fInt Syntax.w16) .Denot)) → (rs : List.List (Element.type .Denot)) → (image : List.List (Referent.rtF
@@ -4005,11 +4804,16 @@ module _ (claims· : Claims) where
 
       module _ (before· : After-enter-arg) where
         abbrev pub After-enter·own : Type 0
-        After-enter·own = Called.Called ps·3 r·3 (claims· .7) T24
-            (record { pos = 28; ty = Syntax.tyRef Syntax.erased Syntax.mut (Syntax.tyInt Syntax.w16); ref = λ x. x; },
-            (Num.vAt 15 λ x. x,
-            (Num.vFld 19 (List._∷_ (Syntax.field 0) List.[]) 0 λ x. Plan.struct .as-values x .0,
-            (Num.vFld 19 (List._∷_ (Syntax.field 1) List.[]) 8 λ x. Plan.struct .as-values x .1 .0, (Bool.bAt 12 λ x. x, tt))))) (m21 (before· .before) (before· .enter-arg .given))
+        After-enter·own = Called.Called ps·3 r·3 (claims· .7) T24 (
+          record { pos = 28; ty = Syntax.tyRef Syntax.erased Syntax.mut (Syntax.tyInt Syntax.w16); ref = λ x. x },
+          (
+            Num.vAt 15 λ x. x,
+            (
+              Num.vFld 19 (List._∷_ (Syntax.field 0) List.[]) 0 λ x. Plan.struct .as-values x .0,
+              (Num.vFld 19 (List._∷_ (Syntax.field 1) List.[]) 8 λ x. Plan.struct .as-values x .1 .0, (Bool.bAt 12 λ x. x, tt)),
+            ),
+          ),
+        ) (m21 (before· .before) (before· .enter-arg .given))
 
       pub record After-enter : Type 0 where
         pub before : After-enter-arg
@@ -4017,11 +4821,16 @@ module _ (claims· : Claims) where
 
       abbrev pub After-enter·gave : (c : After-enter) → s21 (c .before .before .before .before .before .before .before .before .before .before .blocks) .gives (m21 (c .before .before) (c .before
           .enter-arg .given))
-      After-enter·gave = λ c. Called.given ps·3 r·3 (claims· .7) T24
-          (record { pos = 28; ty = Syntax.tyRef Syntax.erased Syntax.mut (Syntax.tyInt Syntax.w16); ref = λ x. x; },
-          (Num.vAt 15 λ x. x,
-          (Num.vFld 19 (List._∷_ (Syntax.field 0) List.[]) 0 λ x. Plan.struct .as-values x .0,
-          (Num.vFld 19 (List._∷_ (Syntax.field 1) List.[]) 8 λ x. Plan.struct .as-values x .1 .0, (Bool.bAt 12 λ x. x, tt))))) (m21 (c .before .before) (c .before .enter-arg .given)) (c .enter)
+      After-enter·gave = λ c. Called.given ps·3 r·3 (claims· .7) T24 (
+        record { pos = 28; ty = Syntax.tyRef Syntax.erased Syntax.mut (Syntax.tyInt Syntax.w16); ref = λ x. x },
+        (
+          Num.vAt 15 λ x. x,
+          (
+            Num.vFld 19 (List._∷_ (Syntax.field 0) List.[]) 0 λ x. Plan.struct .as-values x .0,
+            (Num.vFld 19 (List._∷_ (Syntax.field 1) List.[]) 8 λ x. Plan.struct .as-values x .1 .0, (Bool.bAt 12 λ x. x, tt)),
+          ),
+        ),
+      ) (m21 (c .before .before) (c .before .enter-arg .given)) (c .enter)
 
       abbrev pub m23 : (before : After-enter-arg) → (given : s21 (before .before .before .before .before .before .before .before .before .before .blocks) .gives (m21 (before .before) (before
           .enter-arg .given))) → Typed.Mo T26
@@ -4081,7 +4890,7 @@ module _ (claims· : Claims) where
       module _ (before· : After-load-set-arg) where
         abbrev pub After-load-set·own : Type 0
         After-load-set·own = Called.Called ps·4 r·4 (claims· .9) T33
-            (record { pos = 30; ty = Syntax.tyRef Syntax.erased Syntax.mut Element.behind; ref = λ x. x; }, (Num.vFld 18 (List._∷_ (Syntax.field 2) List.[]) 16 λ x. Plan.struct .as-values x .1 .1 .0, tt))
+            (record { pos = 30; ty = Syntax.tyRef Syntax.erased Syntax.mut Element.behind; ref = λ x. x }, (Num.vFld 18 (List._∷_ (Syntax.field 2) List.[]) 16 λ x. Plan.struct .as-values x .1 .1 .0, tt))
             (m27 (before· .before) (before· .load-set-arg .given))
 
       pub record After-load-set : Type 0 where
@@ -4091,7 +4900,7 @@ module _ (claims· : Claims) where
       abbrev pub After-load-set·gave : (c : After-load-set) → s30 (c .before .before .before .before .before .before .before .before .before .before .before .before .before .before .blocks) .gives
           (m27 (c .before .before) (c .before .load-set-arg .given))
       After-load-set·gave = λ c. Called.given ps·4 r·4 (claims· .9) T33
-          (record { pos = 30; ty = Syntax.tyRef Syntax.erased Syntax.mut Element.behind; ref = λ x. x; }, (Num.vFld 18 (List._∷_ (Syntax.field 2) List.[]) 16 λ x. Plan.struct .as-values x .1 .1 .0, tt))
+          (record { pos = 30; ty = Syntax.tyRef Syntax.erased Syntax.mut Element.behind; ref = λ x. x }, (Num.vFld 18 (List._∷_ (Syntax.field 2) List.[]) 16 λ x. Plan.struct .as-values x .1 .1 .0, tt))
           (m27 (c .before .before) (c .before .load-set-arg .given)) (c .load-set)
 
       abbrev pub m29 : (before : After-load-set) → (given : s32 (before .before .before .before .before .before .before .before .before .before .before .before .before .before .before .blocks) .gives
@@ -4137,12 +4946,19 @@ module _ (claims· : Claims) where
 
       module _ (before· : After-pass-arg) where
         abbrev pub After-pass·own : Type 0
-        After-pass·own = Called.Called ps·5 r·5 (claims· .11) T40
-            (record { pos = 1; ty = Syntax.tyRef (Syntax.named 0) Syntax.imm (Syntax.tyInt Syntax.w8); ref = λ x. x; },
-            (record { pos = 16; st = List.[]; d = 0; at = λ x. x },
-            (record { pos = 32; ty = Syntax.tyRef Syntax.erased Syntax.mut (Syntax.tyInt Syntax.w16); ref = λ x. x; },
-            (record { pos = 20; st = List.[]; d = 0; at = λ x. x },
-            (Num.vAt 15 λ x. x, (record { pos = 19; st = List.[]; d = 0; at = λ x. x }, (record { pos = 7; st = List.[]; d = 0; at = λ x. x }, (Num.vAt 13 λ x. x, tt)))))))) (m31 (before· .before)
+        After-pass·own = Called.Called ps·5 r·5 (claims· .11) T40 (
+          record { pos = 1; ty = Syntax.tyRef (Syntax.named 0) Syntax.imm (Syntax.tyInt Syntax.w8); ref = λ x. x },
+          (
+            record { pos = 16; st = List.[]; d = 0; at = λ x. x },
+            (
+              record { pos = 32; ty = Syntax.tyRef Syntax.erased Syntax.mut (Syntax.tyInt Syntax.w16); ref = λ x. x },
+              (
+                record { pos = 20; st = List.[]; d = 0; at = λ x. x },
+                (Num.vAt 15 λ x. x, (record { pos = 19; st = List.[]; d = 0; at = λ x. x }, (record { pos = 7; st = List.[]; d = 0; at = λ x. x }, (Num.vAt 13 λ x. x, tt)))),
+              ),
+            ),
+          ),
+        ) (m31 (before· .before)
             (before· .pass-arg .given))
 
       pub record After-pass : Type 0 where
@@ -4151,12 +4967,19 @@ module _ (claims· : Claims) where
 
       abbrev pub After-pass·gave : (c : After-pass) → s37 (c .before .before .before .before .before .before .before .before .before .before .before .before .before .before .before .before .before
           .blocks) .gives (m31 (c .before .before) (c .before .pass-arg .given))
-      After-pass·gave = λ c. Called.given ps·5 r·5 (claims· .11) T40
-          (record { pos = 1; ty = Syntax.tyRef (Syntax.named 0) Syntax.imm (Syntax.tyInt Syntax.w8); ref = λ x. x; },
-          (record { pos = 16; st = List.[]; d = 0; at = λ x. x },
-          (record { pos = 32; ty = Syntax.tyRef Syntax.erased Syntax.mut (Syntax.tyInt Syntax.w16); ref = λ x. x; },
-          (record { pos = 20; st = List.[]; d = 0; at = λ x. x },
-          (Num.vAt 15 λ x. x, (record { pos = 19; st = List.[]; d = 0; at = λ x. x }, (record { pos = 7; st = List.[]; d = 0; at = λ x. x }, (Num.vAt 13 λ x. x, tt)))))))) (m31 (c .before .before) (c
+      After-pass·gave = λ c. Called.given ps·5 r·5 (claims· .11) T40 (
+        record { pos = 1; ty = Syntax.tyRef (Syntax.named 0) Syntax.imm (Syntax.tyInt Syntax.w8); ref = λ x. x },
+        (
+          record { pos = 16; st = List.[]; d = 0; at = λ x. x },
+          (
+            record { pos = 32; ty = Syntax.tyRef Syntax.erased Syntax.mut (Syntax.tyInt Syntax.w16); ref = λ x. x },
+            (
+              record { pos = 20; st = List.[]; d = 0; at = λ x. x },
+              (Num.vAt 15 λ x. x, (record { pos = 19; st = List.[]; d = 0; at = λ x. x }, (record { pos = 7; st = List.[]; d = 0; at = λ x. x }, (Num.vAt 13 λ x. x, tt)))),
+            ),
+          ),
+        ),
+      ) (m31 (c .before .before) (c
           .before .pass-arg .given)) (c .pass)
 
       abbrev pub m33 : (before : After-pass-arg) → (given : s37 (before .before .before .before .before .before .before .before .before .before .before .before .before .before .before .before .before
@@ -4368,9 +5191,10 @@ module _ (claims· : Claims) where
 
       module _ (before· : After-store-set-arg) where
         abbrev pub After-store-set·own : Type 0
-        After-store-set·own = Called.Called ps·6 r·6 (claims· .13) T70
-            (record { pos = 34; ty = Syntax.tyRef Syntax.erased Syntax.mut Element.behind; ref = λ x. x; },
-            (Num.vFld 18 (List._∷_ (Syntax.field 2) List.[]) 16 λ x. Plan.struct .as-values x .1 .1 .0, (record { pos = 23; st = List.[]; d = 0; at = λ x. x }, tt))) (m57 (before· .before) (before·
+        After-store-set·own = Called.Called ps·6 r·6 (claims· .13) T70 (
+          record { pos = 34; ty = Syntax.tyRef Syntax.erased Syntax.mut Element.behind; ref = λ x. x },
+          (Num.vFld 18 (List._∷_ (Syntax.field 2) List.[]) 16 λ x. Plan.struct .as-values x .1 .1 .0, (record { pos = 23; st = List.[]; d = 0; at = λ x. x }, tt)),
+        ) (m57 (before· .before) (before·
             .store-set-arg .given))
 
       pub record After-store-set : Type 0 where
@@ -4379,9 +5203,10 @@ module _ (claims· : Claims) where
 
       abbrev pub After-store-set·gave : (c : After-store-set) → s66 (c .before .before .before .before .before .before .before .before .before .before .before .before .before .before .before .before
           .before .before .before .before .before .before .before .blocks) .gives (m57 (c .before .before) (c .before .store-set-arg .given))
-      After-store-set·gave = λ c. Called.given ps·6 r·6 (claims· .13) T70
-          (record { pos = 34; ty = Syntax.tyRef Syntax.erased Syntax.mut Element.behind; ref = λ x. x; },
-          (Num.vFld 18 (List._∷_ (Syntax.field 2) List.[]) 16 λ x. Plan.struct .as-values x .1 .1 .0, (record { pos = 23; st = List.[]; d = 0; at = λ x. x }, tt))) (m57 (c .before .before) (c .before
+      After-store-set·gave = λ c. Called.given ps·6 r·6 (claims· .13) T70 (
+        record { pos = 34; ty = Syntax.tyRef Syntax.erased Syntax.mut Element.behind; ref = λ x. x },
+        (Num.vFld 18 (List._∷_ (Syntax.field 2) List.[]) 16 λ x. Plan.struct .as-values x .1 .1 .0, (record { pos = 23; st = List.[]; d = 0; at = λ x. x }, tt)),
+      ) (m57 (c .before .before) (c .before
           .store-set-arg .given)) (c .store-set)
 
       abbrev pub m59 : (before : After-store-set-arg) → (given : s66 (before .before .before .before .before .before .before .before .before .before .before .before .before .before .before .before
@@ -4481,13 +5306,22 @@ module _ (claims· : Claims) where
 
       module _ (before· : After-emit-pass-at-arg2) where
         abbrev pub After-emit-pass-at·own : Type 0
-        After-emit-pass-at·own = Called.Called ps·7 r·7 (claims· .15) T85
-            (record { pos = 36; ty = Syntax.tyRef Syntax.erased Syntax.imm (Syntax.tyInt Syntax.w16); ref = λ x. x; },
-            (record { pos = 38; ty = Syntax.tyRef Syntax.erased Syntax.mut (Syntax.tyInt Syntax.w16); ref = λ x. x; },
-            (Num.vAt 15 λ x. x,
-            (Bool.bAt 14 λ x. x,
-            (record { pos = 8; ty = Syntax.tyRef (Syntax.named 4) Syntax.imm (Syntax.tyArray (Syntax.tyInt Syntax.w16) 768); ref = λ x. x; },
-            (record { pos = 9; st = List.[]; d = 0; at = λ x. x }, (record { pos = 10; st = List.[]; d = 0; at = λ x. x }, (Num.vAt 11 λ x. x, (Num.vAt 17 λ x. x, (Bool.bAt 12 λ x. x, tt)))))))))) (m68
+        After-emit-pass-at·own = Called.Called ps·7 r·7 (claims· .15) T85 (
+          record { pos = 36; ty = Syntax.tyRef Syntax.erased Syntax.imm (Syntax.tyInt Syntax.w16); ref = λ x. x },
+          (
+            record { pos = 38; ty = Syntax.tyRef Syntax.erased Syntax.mut (Syntax.tyInt Syntax.w16); ref = λ x. x },
+            (
+              Num.vAt 15 λ x. x,
+              (
+                Bool.bAt 14 λ x. x,
+                (
+                  record { pos = 8; ty = Syntax.tyRef (Syntax.named 4) Syntax.imm (Syntax.tyArray (Syntax.tyInt Syntax.w16) 768); ref = λ x. x },
+                  (record { pos = 9; st = List.[]; d = 0; at = λ x. x }, (record { pos = 10; st = List.[]; d = 0; at = λ x. x }, (Num.vAt 11 λ x. x, (Num.vAt 17 λ x. x, (Bool.bAt 12 λ x. x, tt))))),
+                ),
+              ),
+            ),
+          ),
+        ) (m68
             (before· .before) (before· .emit-pass-at-arg2 .given))
 
       pub record After-emit-pass-at : Type 0 where
@@ -4496,13 +5330,22 @@ module _ (claims· : Claims) where
 
       abbrev pub After-emit-pass-at·gave : (c : After-emit-pass-at) → s81 (c .before .before .before .before .before .before .before .before .before .before .before .before .before .before .before
           .before .before .before .before .before .before .before .before .before .before .before .before .before .blocks) .gives (m68 (c .before .before) (c .before .emit-pass-at-arg2 .given))
-      After-emit-pass-at·gave = λ c. Called.given ps·7 r·7 (claims· .15) T85
-          (record { pos = 36; ty = Syntax.tyRef Syntax.erased Syntax.imm (Syntax.tyInt Syntax.w16); ref = λ x. x; },
-          (record { pos = 38; ty = Syntax.tyRef Syntax.erased Syntax.mut (Syntax.tyInt Syntax.w16); ref = λ x. x; },
-          (Num.vAt 15 λ x. x,
-          (Bool.bAt 14 λ x. x,
-          (record { pos = 8; ty = Syntax.tyRef (Syntax.named 4) Syntax.imm (Syntax.tyArray (Syntax.tyInt Syntax.w16) 768); ref = λ x. x; },
-          (record { pos = 9; st = List.[]; d = 0; at = λ x. x }, (record { pos = 10; st = List.[]; d = 0; at = λ x. x }, (Num.vAt 11 λ x. x, (Num.vAt 17 λ x. x, (Bool.bAt 12 λ x. x, tt)))))))))) (m68 (c
+      After-emit-pass-at·gave = λ c. Called.given ps·7 r·7 (claims· .15) T85 (
+        record { pos = 36; ty = Syntax.tyRef Syntax.erased Syntax.imm (Syntax.tyInt Syntax.w16); ref = λ x. x },
+        (
+          record { pos = 38; ty = Syntax.tyRef Syntax.erased Syntax.mut (Syntax.tyInt Syntax.w16); ref = λ x. x },
+          (
+            Num.vAt 15 λ x. x,
+            (
+              Bool.bAt 14 λ x. x,
+              (
+                record { pos = 8; ty = Syntax.tyRef (Syntax.named 4) Syntax.imm (Syntax.tyArray (Syntax.tyInt Syntax.w16) 768); ref = λ x. x },
+                (record { pos = 9; st = List.[]; d = 0; at = λ x. x }, (record { pos = 10; st = List.[]; d = 0; at = λ x. x }, (Num.vAt 11 λ x. x, (Num.vAt 17 λ x. x, (Bool.bAt 12 λ x. x, tt))))),
+              ),
+            ),
+          ),
+        ),
+      ) (m68 (c
           .before .before) (c .before .emit-pass-at-arg2 .given)) (c .emit-pass-at)
 
       abbrev pub m70 : (before : After-emit-pass-at-arg2) → (given : s81 (before .before .before .before .before .before .before .before .before .before .before .before .before .before .before .before
@@ -4712,7 +5555,7 @@ module _ (claims· : Claims) where
       module _ (before· : After-at) where
         abbrev pub After-is-past·own : Type 0
         After-is-past·own = Called.Called ps·8 r·8 (claims· .17) T98
-            (record { pos = 1; ty = Syntax.tyRef (Syntax.named 0) Syntax.imm (Syntax.tyInt Syntax.w8); ref = λ x. x; }, (record { pos = 24; st = List.[]; d = 0; at = λ x. x }, tt)) (m77 (before· .before)
+            (record { pos = 1; ty = Syntax.tyRef (Syntax.named 0) Syntax.imm (Syntax.tyInt Syntax.w8); ref = λ x. x }, (record { pos = 24; st = List.[]; d = 0; at = λ x. x }, tt)) (m77 (before· .before)
             (before· .at .given))
 
       pub record After-is-past : Type 0 where
@@ -4721,7 +5564,7 @@ module _ (claims· : Claims) where
 
       abbrev pub After-is-past·gave : (c : After-is-past) → s94 (c .before .before .before .before .before .before .before .before .blocks) .gives (m77 (c .before .before) (c .before .at .given))
       After-is-past·gave = λ c. Called.given ps·8 r·8 (claims· .17) T98
-          (record { pos = 1; ty = Syntax.tyRef (Syntax.named 0) Syntax.imm (Syntax.tyInt Syntax.w8); ref = λ x. x; }, (record { pos = 24; st = List.[]; d = 0; at = λ x. x }, tt)) (m77 (c .before .before)
+          (record { pos = 1; ty = Syntax.tyRef (Syntax.named 0) Syntax.imm (Syntax.tyInt Syntax.w8); ref = λ x. x }, (record { pos = 24; st = List.[]; d = 0; at = λ x. x }, tt)) (m77 (c .before .before)
           (c .before .at .given)) (c .is-past)
 
       abbrev W6 : (before : After-at) → (given : s94 (before .before .before .before .before .before .before .before .blocks) .gives (m77 (before .before) (before .at .given))) → Typed.Want O6
@@ -4849,48 +5692,82 @@ module _ (claims· : Claims) where
           (returns-2 : Need-returns-2) (same-length-7 : Need-same-length-7) (same-length-8 : Need-same-length-8) (same-length-9 : Need-same-length-9) (returns-3 : Need-returns-3) where
         lay15 : (c : Else2) → at114 (c .before .before .before .before .before .before .before .before .before .blocks) (W0 (c .before .before .before .before .before .before .before .before .before
             .κs) (c .before .before .before .before .before .before .before .before .before .args) (c .before .before .before .before .before .before .before .before .before .blocks)) (m89 (c .before))
-        lay15 = λ c.
-            ((Path'.refl,
-            (tt,
-            (MutSlice.fix-len (Row.get 3 (T119 .locals) (m97 (c .before)) .ptr) (Row.get 3 (T119 .locals) (m97 (c .before)) .name) (Row.get 3 (T119 .locals) (m97 (c .before)) .now) (dens (c .before
-            .before .before .before .before .before .before .before .before .κs) (c .before .before .before .before .before .before .before .before .before .args) .1 .1 .0 .now) (same-length-7 record
-            { before = c .before; if2 = c .if2 }),
-            (MutSlice.fix-len (Row.get 4 (T119 .locals) (m97 (c .before)) .ptr) (Row.get 4 (T119 .locals) (m97 (c .before)) .name) (Row.get 4 (T119 .locals) (m97 (c .before)) .now) (dens (c .before
-            .before .before .before .before .before .before .before .before .κs) (c .before .before .before .before .before .before .before .before .before .args) .1 .1 .1 .0 .now) (same-length-8 record
-            { before = c .before; if2 = c .if2 }),
-            (MutSlice.fix-len (Row.get 5 (T119 .locals) (m97 (c .before)) .ptr) (Row.get 5 (T119 .locals) (m97 (c .before)) .name) (Row.get 5 (T119 .locals) (m97 (c .before)) .now) (dens (c .before
-            .before .before .before .before .before .before .before .before .κs) (c .before .before .before .before .before .before .before .before .before .args) .1 .1 .1 .1 .0 .now) (same-length-9
-            record { before = c .before; if2 = c .if2 }), (tt, (tt, (Path'.refl, (tt, (tt, (tt, (tt, tt)))))))))))), returns-3 record { before = c .before; if2 = c .if2 })
+        lay15 = λ c. (
+          (
+            Path'.refl,
+            (
+              tt,
+              (
+                MutSlice.fix-len (Row.get 3 (T119 .locals) (m97 (c .before)) .ptr) (Row.get 3 (T119 .locals) (m97 (c .before)) .name) (Row.get 3 (T119 .locals) (m97 (c .before)) .now) (dens (c .before
+                    .before .before .before .before .before .before .before .before .κs) (c .before .before .before .before .before .before .before .before .before .args) .1 .1 .0 .now) (same-length-7 record
+                    { before = c .before; if2 = c .if2 }),
+                (
+                  MutSlice.fix-len (Row.get 4 (T119 .locals) (m97 (c .before)) .ptr) (Row.get 4 (T119 .locals) (m97 (c .before)) .name) (Row.get 4 (T119 .locals) (m97 (c .before)) .now) (dens (c .before
+                      .before .before .before .before .before .before .before .before .κs) (c .before .before .before .before .before .before .before .before .before .args) .1 .1 .1 .0 .now) (same-length-8 record
+                      { before = c .before; if2 = c .if2 }),
+                  (
+                    MutSlice.fix-len (Row.get 5 (T119 .locals) (m97 (c .before)) .ptr) (Row.get 5 (T119 .locals) (m97 (c .before)) .name) (Row.get 5 (T119 .locals) (m97 (c .before)) .now) (dens (c .before
+                        .before .before .before .before .before .before .before .before .κs) (c .before .before .before .before .before .before .before .before .before .args) .1 .1 .1 .1 .0 .now) (same-length-9
+                        record { before = c .before; if2 = c .if2 }),
+                    (tt, (tt, (Path'.refl, (tt, (tt, (tt, (tt, tt))))))),
+                  ),
+                ),
+              ),
+            ),
+          ),
+          returns-3 record { before = c .before; if2 = c .if2 },
+        )
 
         lay14 : (c : After-is-past) → at115 (c .before .before .before .before .before .before .before .before .blocks) (W0 (c .before .before .before .before .before .before .before .before .κs) (c
             .before .before .before .before .before .before .before .before .args) (c .before .before .before .before .before .before .before .before .blocks)) (m78 (c .before) (After-is-past·gave c))
-        lay14 = λ c.
-            (λ taken.
-            ((Path'.refl,
-            (tt,
-            (MutSlice.fix-len (Row.get 3 (T110 .locals) (m88 record { before = c .before; is-past = c .is-past; }) .ptr) (Row.get 3 (T110 .locals) (m88 record
-            { before = c .before; is-past = c .is-past; }) .name) (Row.get 3 (T110 .locals) (m88 record { before = c .before; is-past = c .is-past; }) .now) (dens (c .before .before .before .before
-            .before .before .before .before .κs) (c .before .before .before .before .before .before .before .before .args) .1 .1 .0 .now) (same-length-4 record
-            { before = record { before = c .before; is-past = c .is-past }; if2 = record { taken = taken }; }),
-            (MutSlice.fix-len (Row.get 4 (T110 .locals) (m88 record { before = c .before; is-past = c .is-past; }) .ptr) (Row.get 4 (T110 .locals) (m88 record
-            { before = c .before; is-past = c .is-past; }) .name) (Row.get 4 (T110 .locals) (m88 record { before = c .before; is-past = c .is-past; }) .now) (dens (c .before .before .before .before
-            .before .before .before .before .κs) (c .before .before .before .before .before .before .before .before .args) .1 .1 .1 .0 .now) (same-length-5 record
-            { before = record { before = c .before; is-past = c .is-past }; if2 = record { taken = taken }; }),
-            (MutSlice.fix-len (Row.get 5 (T110 .locals) (m88 record { before = c .before; is-past = c .is-past; }) .ptr) (Row.get 5 (T110 .locals) (m88 record
-            { before = c .before; is-past = c .is-past; }) .name) (Row.get 5 (T110 .locals) (m88 record { before = c .before; is-past = c .is-past; }) .now) (dens (c .before .before .before .before
-            .before .before .before .before .κs) (c .before .before .before .before .before .before .before .before .args) .1 .1 .1 .1 .0 .now) (same-length-6 record
-            { before = record { before = c .before; is-past = c .is-past }; if2 = record { taken = taken }; }), (tt, (tt, (Path'.refl, (tt, (tt, (tt, (tt, tt)))))))))))), returns-2 record
-            { before = record { before = c .before; is-past = c .is-past }; if2 = record { taken = taken }; }), λ left. lay15 record
-            { before = record { before = c .before; is-past = c .is-past }; if2 = record { left = left }; })
+        lay14 = λ c. (
+          λ taken. (
+            (
+              Path'.refl,
+              (
+                tt,
+                (
+                  MutSlice.fix-len (Row.get 3 (T110 .locals) (m88 record { before = c .before; is-past = c .is-past }) .ptr) (Row.get 3 (T110 .locals) (m88 record
+                      { before = c .before; is-past = c .is-past }) .name) (Row.get 3 (T110 .locals) (m88 record { before = c .before; is-past = c .is-past }) .now) (dens (c .before .before .before .before
+                      .before .before .before .before .κs) (c .before .before .before .before .before .before .before .before .args) .1 .1 .0 .now) (same-length-4 record
+                      { before = record { before = c .before; is-past = c .is-past }; if2 = record { taken = taken } }),
+                  (
+                    MutSlice.fix-len (Row.get 4 (T110 .locals) (m88 record { before = c .before; is-past = c .is-past }) .ptr) (Row.get 4 (T110 .locals) (m88 record
+                        { before = c .before; is-past = c .is-past }) .name) (Row.get 4 (T110 .locals) (m88 record { before = c .before; is-past = c .is-past }) .now) (dens (c .before .before .before .before
+                        .before .before .before .before .κs) (c .before .before .before .before .before .before .before .before .args) .1 .1 .1 .0 .now) (same-length-5 record
+                        { before = record { before = c .before; is-past = c .is-past }; if2 = record { taken = taken } }),
+                    (
+                      MutSlice.fix-len (Row.get 5 (T110 .locals) (m88 record { before = c .before; is-past = c .is-past }) .ptr) (Row.get 5 (T110 .locals) (m88 record
+                          { before = c .before; is-past = c .is-past }) .name) (Row.get 5 (T110 .locals) (m88 record { before = c .before; is-past = c .is-past }) .now) (dens (c .before .before .before .before
+                          .before .before .before .before .κs) (c .before .before .before .before .before .before .before .before .args) .1 .1 .1 .1 .0 .now) (same-length-6 record
+                          { before = record { before = c .before; is-past = c .is-past }; if2 = record { taken = taken } }),
+                      (tt, (tt, (Path'.refl, (tt, (tt, (tt, (tt, tt))))))),
+                    ),
+                  ),
+                ),
+              ),
+            ),
+            returns-2 record
+                { before = record { before = c .before; is-past = c .is-past }; if2 = record { taken = taken } },
+          ),
+          λ left. lay15 record
+              { before = record { before = c .before; is-past = c .is-past }; if2 = record { left = left } },
+        )
 
         lay13 : (c : After-loop) → at117 (c .before .before .before .before .before .before .blocks) (W0 (c .before .before .before .before .before .before .κs) (c .before .before .before .before
             .before .before .args) (c .before .before .before .before .before .before .blocks)) (m17 (c .before))
-        lay13 = λ c.
-            (tt, λ g.
-            (is-past-requires record { before = record { before = c .before; loop-test = c .loop-test }; at = record { given = g }; }, λ g'. lay14 record
-            { before = record { before = record { before = c .before; loop-test = c .loop-test }; at = record { given = g }; }; is-past = Called.called ps·8 r·8 (claims· .17) T98
-            (record { pos = 1; ty = Syntax.tyRef (Syntax.named 0) Syntax.imm (Syntax.tyInt Syntax.w8); ref = λ x. x; }, (record { pos = 24; st = List.[]; d = 0; at = λ x. x }, tt)) (m77 record
-            { before = c .before; loop-test = c .loop-test } g) g'; }))
+        lay13 = λ c. (
+          tt,
+          λ g. (
+            is-past-requires record { before = record { before = c .before; loop-test = c .loop-test }; at = record { given = g } },
+            λ g'. lay14 record {
+              before = record { before = record { before = c .before; loop-test = c .loop-test }; at = record { given = g } };
+              is-past = Called.called ps·8 r·8 (claims· .17) T98
+                  (record { pos = 1; ty = Syntax.tyRef (Syntax.named 0) Syntax.imm (Syntax.tyInt Syntax.w8); ref = λ x. x }, (record { pos = 24; st = List.[]; d = 0; at = λ x. x }, tt)) (m77 record
+                  { before = c .before; loop-test = c .loop-test } g) g';
+            },
+          ),
+        )
 
         lay12 : (c : After-emit-pass-at) → at35 (c .before .before .before .before .before .before .before .before .before .before .before .before .before .before .before .before .before .before
             .before .before .before .before .before .before .before .before .before .before .blocks) (W3 (c .before .before .before .before .before .before .before .before .before .before .before .before
@@ -4900,99 +5777,116 @@ module _ (claims· : Claims) where
             .before .before .before .before .before .before .before .before .before .before .before .before .before .before .loop .image) (c .before .before .before .before .before .before .before .before
             .before .before .before .before .before .before .before .before .before .before .before .before .before .before .before .loop .place) (c .before .before .before .before .before .before .before
             .before .before .before .before .before .before .before .before .before .before .before .before .before .before .before .before .loop .i)) (m69 (c .before) (After-emit-pass-at·gave c))
-        lay12 = λ c.
-            (Path'.refl, λ g. λ g'.
-            (add-i record { before = record { before = record { before = c .before; emit-pass-at = c .emit-pass-at }; image = record { given = g }; }; slice-known5 = record { given = g' }; },
-            (μ·0 (Row.get 1 (T11 .locals) (m10 (c .before .before .before .before .before .before .before .before .before .before .before .before .before .before .before .before .before .before .before
-            .before .before .before .before .before .before) (After-width·gave (c .before .before .before .before .before .before .before .before .before .before .before .before .before .before .before
-            .before .before .before .before .before .before .before .before .before))) .now) (Row.get 3 (T11 .locals) (m10 (c .before .before .before .before .before .before .before .before .before
-            .before .before .before .before .before .before .before .before .before .before .before .before .before .before .before .before) (After-width·gave (c .before .before .before .before .before
-            .before .before .before .before .before .before .before .before .before .before .before .before .before .before .before .before .before .before .before))) .now) (Row.get 4 (T11 .locals) (m10
-            (c .before .before .before .before .before .before .before .before .before .before .before .before .before .before .before .before .before .before .before .before .before .before .before
-            .before .before) (After-width·gave (c .before .before .before .before .before .before .before .before .before .before .before .before .before .before .before .before .before .before .before
-            .before .before .before .before .before))) .now) (Row.get 5 (T11 .locals) (m10 (c .before .before .before .before .before .before .before .before .before .before .before .before .before
-            .before .before .before .before .before .before .before .before .before .before .before .before) (After-width·gave (c .before .before .before .before .before .before .before .before .before
-            .before .before .before .before .before .before .before .before .before .before .before .before .before .before .before))) .now) (Row.get 7 (T11 .locals) (m10 (c .before .before .before
-            .before .before .before .before .before .before .before .before .before .before .before .before .before .before .before .before .before .before .before .before .before .before)
-            (After-width·gave (c .before .before .before .before .before .before .before .before .before .before .before .before .before .before .before .before .before .before .before .before .before
-            .before .before .before)))) (Row.get 8 (T11 .locals) (m10 (c .before .before .before .before .before .before .before .before .before .before .before .before .before .before .before .before
-            .before .before .before .before .before .before .before .before .before) (After-width·gave (c .before .before .before .before .before .before .before .before .before .before .before .before
-            .before .before .before .before .before .before .before .before .before .before .before .before))) .now) (Row.get 9 (T11 .locals) (m10 (c .before .before .before .before .before .before
-            .before .before .before .before .before .before .before .before .before .before .before .before .before .before .before .before .before .before .before) (After-width·gave (c .before .before
-            .before .before .before .before .before .before .before .before .before .before .before .before .before .before .before .before .before .before .before .before .before .before)))) (Row.get 10
-            (T11 .locals) (m10 (c .before .before .before .before .before .before .before .before .before .before .before .before .before .before .before .before .before .before .before .before .before
-            .before .before .before .before) (After-width·gave (c .before .before .before .before .before .before .before .before .before .before .before .before .before .before .before .before .before
-            .before .before .before .before .before .before .before)))) (Row.get 11 (T11 .locals) (m10 (c .before .before .before .before .before .before .before .before .before .before .before .before
-            .before .before .before .before .before .before .before .before .before .before .before .before .before) (After-width·gave (c .before .before .before .before .before .before .before .before
-            .before .before .before .before .before .before .before .before .before .before .before .before .before .before .before .before)))) (Row.get 12 (T11 .locals) (m10 (c .before .before .before
-            .before .before .before .before .before .before .before .before .before .before .before .before .before .before .before .before .before .before .before .before .before .before)
-            (After-width·gave (c .before .before .before .before .before .before .before .before .before .before .before .before .before .before .before .before .before .before .before .before .before
-            .before .before .before)))) (Row.get 13 (T11 .locals) (m10 (c .before .before .before .before .before .before .before .before .before .before .before .before .before .before .before .before
-            .before .before .before .before .before .before .before .before .before) (After-width·gave (c .before .before .before .before .before .before .before .before .before .before .before .before
-            .before .before .before .before .before .before .before .before .before .before .before .before)))) (Row.get 14 (T11 .locals) (m10 (c .before .before .before .before .before .before .before
-            .before .before .before .before .before .before .before .before .before .before .before .before .before .before .before .before .before .before) (After-width·gave (c .before .before .before
-            .before .before .before .before .before .before .before .before .before .before .before .before .before .before .before .before .before .before .before .before .before)))) (Row.get 15 (T11
-            .locals) (m10 (c .before .before .before .before .before .before .before .before .before .before .before .before .before .before .before .before .before .before .before .before .before .before
-            .before .before .before) (After-width·gave (c .before .before .before .before .before .before .before .before .before .before .before .before .before .before .before .before .before .before
-            .before .before .before .before .before .before)))) (Row.get 16 (T11 .locals) (m10 (c .before .before .before .before .before .before .before .before .before .before .before .before .before
-            .before .before .before .before .before .before .before .before .before .before .before .before) (After-width·gave (c .before .before .before .before .before .before .before .before .before
-            .before .before .before .before .before .before .before .before .before .before .before .before .before .before .before)))) (Row.get 17 (T11 .locals) (m10 (c .before .before .before .before
-            .before .before .before .before .before .before .before .before .before .before .before .before .before .before .before .before .before .before .before .before .before) (After-width·gave (c
-            .before .before .before .before .before .before .before .before .before .before .before .before .before .before .before .before .before .before .before .before .before .before .before
-            .before)))) (Row.get 3 (T11 .locals) (m76 record { before = record { before = c .before; emit-pass-at = c .emit-pass-at }; image = record { given = g }; } g') .now) (Row.get 4 (T11 .locals)
-            (m76 record { before = record { before = c .before; emit-pass-at = c .emit-pass-at }; image = record { given = g }; } g') .now) (Row.get 5 (T11 .locals) (m76 record
-            { before = record { before = c .before; emit-pass-at = c .emit-pass-at }; image = record { given = g }; } g') .now) (Row.get 16 (T11 .locals) (m76 record
-            { before = record { before = c .before; emit-pass-at = c .emit-pass-at }; image = record { given = g }; } g')) (Row.get 17 (T11 .locals) (m76 record
-            { before = record { before = c .before; emit-pass-at = c .emit-pass-at }; image = record { given = g }; } g')), loop-less record
-            { before = record { before = record { before = c .before; emit-pass-at = c .emit-pass-at }; image = record { given = g }; }; slice-known5 = record { given = g' }; },
-            ((Row.get 3 (T11 .locals) (m76 record { before = record { before = c .before; emit-pass-at = c .emit-pass-at }; image = record { given = g }; } g') .now, Row.get 4 (T11 .locals) (m76 record
-            { before = record { before = c .before; emit-pass-at = c .emit-pass-at }; image = record { given = g }; } g') .now, Row.get 5 (T11 .locals) (m76 record
-            { before = record { before = c .before; emit-pass-at = c .emit-pass-at }; image = record { given = g }; } g') .now, Row.get 16 (T11 .locals) (m76 record
-            { before = record { before = c .before; emit-pass-at = c .emit-pass-at }; image = record { given = g }; } g'), Row.get 17 (T11 .locals) (m76 record
-            { before = record { before = c .before; emit-pass-at = c .emit-pass-at }; image = record { given = g }; } g')), Path'.refl {a = m76 record
-            { before = record { before = c .before; emit-pass-at = c .emit-pass-at }; image = record { given = g }; } g'}, loop-again record
-            { before = record { before = record { before = c .before; emit-pass-at = c .emit-pass-at }; image = record { given = g }; }; slice-known5 = record { given = g' }; }, Path'.refl {a = μ·0
-            (Row.get 1 (T11 .locals) (m10 (c .before .before .before .before .before .before .before .before .before .before .before .before .before .before .before .before .before .before .before .before
-            .before .before .before .before .before) (After-width·gave (c .before .before .before .before .before .before .before .before .before .before .before .before .before .before .before .before
-            .before .before .before .before .before .before .before .before))) .now) (Row.get 3 (T11 .locals) (m10 (c .before .before .before .before .before .before .before .before .before .before
-            .before .before .before .before .before .before .before .before .before .before .before .before .before .before .before) (After-width·gave (c .before .before .before .before .before .before
-            .before .before .before .before .before .before .before .before .before .before .before .before .before .before .before .before .before .before))) .now) (Row.get 4 (T11 .locals) (m10 (c
-            .before .before .before .before .before .before .before .before .before .before .before .before .before .before .before .before .before .before .before .before .before .before .before .before
-            .before) (After-width·gave (c .before .before .before .before .before .before .before .before .before .before .before .before .before .before .before .before .before .before .before .before
-            .before .before .before .before))) .now) (Row.get 5 (T11 .locals) (m10 (c .before .before .before .before .before .before .before .before .before .before .before .before .before .before
-            .before .before .before .before .before .before .before .before .before .before .before) (After-width·gave (c .before .before .before .before .before .before .before .before .before .before
-            .before .before .before .before .before .before .before .before .before .before .before .before .before .before))) .now) (Row.get 7 (T11 .locals) (m10 (c .before .before .before .before
-            .before .before .before .before .before .before .before .before .before .before .before .before .before .before .before .before .before .before .before .before .before) (After-width·gave (c
-            .before .before .before .before .before .before .before .before .before .before .before .before .before .before .before .before .before .before .before .before .before .before .before
-            .before)))) (Row.get 8 (T11 .locals) (m10 (c .before .before .before .before .before .before .before .before .before .before .before .before .before .before .before .before .before .before
-            .before .before .before .before .before .before .before) (After-width·gave (c .before .before .before .before .before .before .before .before .before .before .before .before .before .before
-            .before .before .before .before .before .before .before .before .before .before))) .now) (Row.get 9 (T11 .locals) (m10 (c .before .before .before .before .before .before .before .before
-            .before .before .before .before .before .before .before .before .before .before .before .before .before .before .before .before .before) (After-width·gave (c .before .before .before .before
-            .before .before .before .before .before .before .before .before .before .before .before .before .before .before .before .before .before .before .before .before)))) (Row.get 10 (T11 .locals)
-            (m10 (c .before .before .before .before .before .before .before .before .before .before .before .before .before .before .before .before .before .before .before .before .before .before .before
-            .before .before) (After-width·gave (c .before .before .before .before .before .before .before .before .before .before .before .before .before .before .before .before .before .before .before
-            .before .before .before .before .before)))) (Row.get 11 (T11 .locals) (m10 (c .before .before .before .before .before .before .before .before .before .before .before .before .before .before
-            .before .before .before .before .before .before .before .before .before .before .before) (After-width·gave (c .before .before .before .before .before .before .before .before .before .before
-            .before .before .before .before .before .before .before .before .before .before .before .before .before .before)))) (Row.get 12 (T11 .locals) (m10 (c .before .before .before .before .before
-            .before .before .before .before .before .before .before .before .before .before .before .before .before .before .before .before .before .before .before .before) (After-width·gave (c .before
-            .before .before .before .before .before .before .before .before .before .before .before .before .before .before .before .before .before .before .before .before .before .before .before))))
-            (Row.get 13 (T11 .locals) (m10 (c .before .before .before .before .before .before .before .before .before .before .before .before .before .before .before .before .before .before .before
-            .before .before .before .before .before .before) (After-width·gave (c .before .before .before .before .before .before .before .before .before .before .before .before .before .before .before
-            .before .before .before .before .before .before .before .before .before)))) (Row.get 14 (T11 .locals) (m10 (c .before .before .before .before .before .before .before .before .before .before
-            .before .before .before .before .before .before .before .before .before .before .before .before .before .before .before) (After-width·gave (c .before .before .before .before .before .before
-            .before .before .before .before .before .before .before .before .before .before .before .before .before .before .before .before .before .before)))) (Row.get 15 (T11 .locals) (m10 (c .before
-            .before .before .before .before .before .before .before .before .before .before .before .before .before .before .before .before .before .before .before .before .before .before .before .before)
-            (After-width·gave (c .before .before .before .before .before .before .before .before .before .before .before .before .before .before .before .before .before .before .before .before .before
-            .before .before .before)))) (Row.get 16 (T11 .locals) (m10 (c .before .before .before .before .before .before .before .before .before .before .before .before .before .before .before .before
-            .before .before .before .before .before .before .before .before .before) (After-width·gave (c .before .before .before .before .before .before .before .before .before .before .before .before
-            .before .before .before .before .before .before .before .before .before .before .before .before)))) (Row.get 17 (T11 .locals) (m10 (c .before .before .before .before .before .before .before
-            .before .before .before .before .before .before .before .before .before .before .before .before .before .before .before .before .before .before) (After-width·gave (c .before .before .before
-            .before .before .before .before .before .before .before .before .before .before .before .before .before .before .before .before .before .before .before .before .before)))) (Row.get 3 (T11
-            .locals) (m76 record { before = record { before = c .before; emit-pass-at = c .emit-pass-at }; image = record { given = g }; } g') .now) (Row.get 4 (T11 .locals) (m76 record
-            { before = record { before = c .before; emit-pass-at = c .emit-pass-at }; image = record { given = g }; } g') .now) (Row.get 5 (T11 .locals) (m76 record
-            { before = record { before = c .before; emit-pass-at = c .emit-pass-at }; image = record { given = g }; } g') .now) (Row.get 16 (T11 .locals) (m76 record
-            { before = record { before = c .before; emit-pass-at = c .emit-pass-at }; image = record { given = g }; } g')) (Row.get 17 (T11 .locals) (m76 record
-            { before = record { before = c .before; emit-pass-at = c .emit-pass-at }; image = record { given = g }; } g'))}))))
+        lay12 = λ c. (
+          Path'.refl,
+          λ g. λ g'. (
+            add-i record { before = record { before = record { before = c .before; emit-pass-at = c .emit-pass-at }; image = record { given = g } }; slice-known5 = record { given = g' } },
+            (
+              μ·0 (Row.get 1 (T11 .locals) (m10 (c .before .before .before .before .before .before .before .before .before .before .before .before .before .before .before .before .before .before .before
+                  .before .before .before .before .before .before) (After-width·gave (c .before .before .before .before .before .before .before .before .before .before .before .before .before .before .before
+                  .before .before .before .before .before .before .before .before .before))) .now) (Row.get 3 (T11 .locals) (m10 (c .before .before .before .before .before .before .before .before .before
+                  .before .before .before .before .before .before .before .before .before .before .before .before .before .before .before .before) (After-width·gave (c .before .before .before .before .before
+                  .before .before .before .before .before .before .before .before .before .before .before .before .before .before .before .before .before .before .before))) .now) (Row.get 4 (T11 .locals) (m10
+                  (c .before .before .before .before .before .before .before .before .before .before .before .before .before .before .before .before .before .before .before .before .before .before .before
+                  .before .before) (After-width·gave (c .before .before .before .before .before .before .before .before .before .before .before .before .before .before .before .before .before .before .before
+                  .before .before .before .before .before))) .now) (Row.get 5 (T11 .locals) (m10 (c .before .before .before .before .before .before .before .before .before .before .before .before .before
+                  .before .before .before .before .before .before .before .before .before .before .before .before) (After-width·gave (c .before .before .before .before .before .before .before .before .before
+                  .before .before .before .before .before .before .before .before .before .before .before .before .before .before .before))) .now) (Row.get 7 (T11 .locals) (m10 (c .before .before .before
+                  .before .before .before .before .before .before .before .before .before .before .before .before .before .before .before .before .before .before .before .before .before .before)
+                  (After-width·gave (c .before .before .before .before .before .before .before .before .before .before .before .before .before .before .before .before .before .before .before .before .before
+                  .before .before .before)))) (Row.get 8 (T11 .locals) (m10 (c .before .before .before .before .before .before .before .before .before .before .before .before .before .before .before .before
+                  .before .before .before .before .before .before .before .before .before) (After-width·gave (c .before .before .before .before .before .before .before .before .before .before .before .before
+                  .before .before .before .before .before .before .before .before .before .before .before .before))) .now) (Row.get 9 (T11 .locals) (m10 (c .before .before .before .before .before .before
+                  .before .before .before .before .before .before .before .before .before .before .before .before .before .before .before .before .before .before .before) (After-width·gave (c .before .before
+                  .before .before .before .before .before .before .before .before .before .before .before .before .before .before .before .before .before .before .before .before .before .before)))) (Row.get 10
+                  (T11 .locals) (m10 (c .before .before .before .before .before .before .before .before .before .before .before .before .before .before .before .before .before .before .before .before .before
+                  .before .before .before .before) (After-width·gave (c .before .before .before .before .before .before .before .before .before .before .before .before .before .before .before .before .before
+                  .before .before .before .before .before .before .before)))) (Row.get 11 (T11 .locals) (m10 (c .before .before .before .before .before .before .before .before .before .before .before .before
+                  .before .before .before .before .before .before .before .before .before .before .before .before .before) (After-width·gave (c .before .before .before .before .before .before .before .before
+                  .before .before .before .before .before .before .before .before .before .before .before .before .before .before .before .before)))) (Row.get 12 (T11 .locals) (m10 (c .before .before .before
+                  .before .before .before .before .before .before .before .before .before .before .before .before .before .before .before .before .before .before .before .before .before .before)
+                  (After-width·gave (c .before .before .before .before .before .before .before .before .before .before .before .before .before .before .before .before .before .before .before .before .before
+                  .before .before .before)))) (Row.get 13 (T11 .locals) (m10 (c .before .before .before .before .before .before .before .before .before .before .before .before .before .before .before .before
+                  .before .before .before .before .before .before .before .before .before) (After-width·gave (c .before .before .before .before .before .before .before .before .before .before .before .before
+                  .before .before .before .before .before .before .before .before .before .before .before .before)))) (Row.get 14 (T11 .locals) (m10 (c .before .before .before .before .before .before .before
+                  .before .before .before .before .before .before .before .before .before .before .before .before .before .before .before .before .before .before) (After-width·gave (c .before .before .before
+                  .before .before .before .before .before .before .before .before .before .before .before .before .before .before .before .before .before .before .before .before .before)))) (Row.get 15 (T11
+                  .locals) (m10 (c .before .before .before .before .before .before .before .before .before .before .before .before .before .before .before .before .before .before .before .before .before .before
+                  .before .before .before) (After-width·gave (c .before .before .before .before .before .before .before .before .before .before .before .before .before .before .before .before .before .before
+                  .before .before .before .before .before .before)))) (Row.get 16 (T11 .locals) (m10 (c .before .before .before .before .before .before .before .before .before .before .before .before .before
+                  .before .before .before .before .before .before .before .before .before .before .before .before) (After-width·gave (c .before .before .before .before .before .before .before .before .before
+                  .before .before .before .before .before .before .before .before .before .before .before .before .before .before .before)))) (Row.get 17 (T11 .locals) (m10 (c .before .before .before .before
+                  .before .before .before .before .before .before .before .before .before .before .before .before .before .before .before .before .before .before .before .before .before) (After-width·gave (c
+                  .before .before .before .before .before .before .before .before .before .before .before .before .before .before .before .before .before .before .before .before .before .before .before
+                  .before)))) (Row.get 3 (T11 .locals) (m76 record { before = record { before = c .before; emit-pass-at = c .emit-pass-at }; image = record { given = g } } g') .now) (Row.get 4 (T11 .locals)
+                  (m76 record { before = record { before = c .before; emit-pass-at = c .emit-pass-at }; image = record { given = g } } g') .now) (Row.get 5 (T11 .locals) (m76 record
+                  { before = record { before = c .before; emit-pass-at = c .emit-pass-at }; image = record { given = g } } g') .now) (Row.get 16 (T11 .locals) (m76 record
+                  { before = record { before = c .before; emit-pass-at = c .emit-pass-at }; image = record { given = g } } g')) (Row.get 17 (T11 .locals) (m76 record
+                  { before = record { before = c .before; emit-pass-at = c .emit-pass-at }; image = record { given = g } } g')),
+              loop-less record
+                  { before = record { before = record { before = c .before; emit-pass-at = c .emit-pass-at }; image = record { given = g } }; slice-known5 = record { given = g' } },
+              (
+                (
+                  Row.get 3 (T11 .locals) (m76 record { before = record { before = c .before; emit-pass-at = c .emit-pass-at }; image = record { given = g } } g') .now,
+                  Row.get 4 (T11 .locals) (m76 record
+                      { before = record { before = c .before; emit-pass-at = c .emit-pass-at }; image = record { given = g } } g') .now,
+                  Row.get 5 (T11 .locals) (m76 record
+                      { before = record { before = c .before; emit-pass-at = c .emit-pass-at }; image = record { given = g } } g') .now,
+                  Row.get 16 (T11 .locals) (m76 record
+                      { before = record { before = c .before; emit-pass-at = c .emit-pass-at }; image = record { given = g } } g'),
+                  Row.get 17 (T11 .locals) (m76 record
+                      { before = record { before = c .before; emit-pass-at = c .emit-pass-at }; image = record { given = g } } g'),
+                ),
+                Path'.refl {a = m76 record
+                    { before = record { before = c .before; emit-pass-at = c .emit-pass-at }; image = record { given = g } } g'},
+                loop-again record
+                    { before = record { before = record { before = c .before; emit-pass-at = c .emit-pass-at }; image = record { given = g } }; slice-known5 = record { given = g' } },
+                Path'.refl {a = μ·0
+                    (Row.get 1 (T11 .locals) (m10 (c .before .before .before .before .before .before .before .before .before .before .before .before .before .before .before .before .before .before .before .before
+                    .before .before .before .before .before) (After-width·gave (c .before .before .before .before .before .before .before .before .before .before .before .before .before .before .before .before
+                    .before .before .before .before .before .before .before .before))) .now) (Row.get 3 (T11 .locals) (m10 (c .before .before .before .before .before .before .before .before .before .before
+                    .before .before .before .before .before .before .before .before .before .before .before .before .before .before .before) (After-width·gave (c .before .before .before .before .before .before
+                    .before .before .before .before .before .before .before .before .before .before .before .before .before .before .before .before .before .before))) .now) (Row.get 4 (T11 .locals) (m10 (c
+                    .before .before .before .before .before .before .before .before .before .before .before .before .before .before .before .before .before .before .before .before .before .before .before .before
+                    .before) (After-width·gave (c .before .before .before .before .before .before .before .before .before .before .before .before .before .before .before .before .before .before .before .before
+                    .before .before .before .before))) .now) (Row.get 5 (T11 .locals) (m10 (c .before .before .before .before .before .before .before .before .before .before .before .before .before .before
+                    .before .before .before .before .before .before .before .before .before .before .before) (After-width·gave (c .before .before .before .before .before .before .before .before .before .before
+                    .before .before .before .before .before .before .before .before .before .before .before .before .before .before))) .now) (Row.get 7 (T11 .locals) (m10 (c .before .before .before .before
+                    .before .before .before .before .before .before .before .before .before .before .before .before .before .before .before .before .before .before .before .before .before) (After-width·gave (c
+                    .before .before .before .before .before .before .before .before .before .before .before .before .before .before .before .before .before .before .before .before .before .before .before
+                    .before)))) (Row.get 8 (T11 .locals) (m10 (c .before .before .before .before .before .before .before .before .before .before .before .before .before .before .before .before .before .before
+                    .before .before .before .before .before .before .before) (After-width·gave (c .before .before .before .before .before .before .before .before .before .before .before .before .before .before
+                    .before .before .before .before .before .before .before .before .before .before))) .now) (Row.get 9 (T11 .locals) (m10 (c .before .before .before .before .before .before .before .before
+                    .before .before .before .before .before .before .before .before .before .before .before .before .before .before .before .before .before) (After-width·gave (c .before .before .before .before
+                    .before .before .before .before .before .before .before .before .before .before .before .before .before .before .before .before .before .before .before .before)))) (Row.get 10 (T11 .locals)
+                    (m10 (c .before .before .before .before .before .before .before .before .before .before .before .before .before .before .before .before .before .before .before .before .before .before .before
+                    .before .before) (After-width·gave (c .before .before .before .before .before .before .before .before .before .before .before .before .before .before .before .before .before .before .before
+                    .before .before .before .before .before)))) (Row.get 11 (T11 .locals) (m10 (c .before .before .before .before .before .before .before .before .before .before .before .before .before .before
+                    .before .before .before .before .before .before .before .before .before .before .before) (After-width·gave (c .before .before .before .before .before .before .before .before .before .before
+                    .before .before .before .before .before .before .before .before .before .before .before .before .before .before)))) (Row.get 12 (T11 .locals) (m10 (c .before .before .before .before .before
+                    .before .before .before .before .before .before .before .before .before .before .before .before .before .before .before .before .before .before .before .before) (After-width·gave (c .before
+                    .before .before .before .before .before .before .before .before .before .before .before .before .before .before .before .before .before .before .before .before .before .before .before))))
+                    (Row.get 13 (T11 .locals) (m10 (c .before .before .before .before .before .before .before .before .before .before .before .before .before .before .before .before .before .before .before
+                    .before .before .before .before .before .before) (After-width·gave (c .before .before .before .before .before .before .before .before .before .before .before .before .before .before .before
+                    .before .before .before .before .before .before .before .before .before)))) (Row.get 14 (T11 .locals) (m10 (c .before .before .before .before .before .before .before .before .before .before
+                    .before .before .before .before .before .before .before .before .before .before .before .before .before .before .before) (After-width·gave (c .before .before .before .before .before .before
+                    .before .before .before .before .before .before .before .before .before .before .before .before .before .before .before .before .before .before)))) (Row.get 15 (T11 .locals) (m10 (c .before
+                    .before .before .before .before .before .before .before .before .before .before .before .before .before .before .before .before .before .before .before .before .before .before .before .before)
+                    (After-width·gave (c .before .before .before .before .before .before .before .before .before .before .before .before .before .before .before .before .before .before .before .before .before
+                    .before .before .before)))) (Row.get 16 (T11 .locals) (m10 (c .before .before .before .before .before .before .before .before .before .before .before .before .before .before .before .before
+                    .before .before .before .before .before .before .before .before .before) (After-width·gave (c .before .before .before .before .before .before .before .before .before .before .before .before
+                    .before .before .before .before .before .before .before .before .before .before .before .before)))) (Row.get 17 (T11 .locals) (m10 (c .before .before .before .before .before .before .before
+                    .before .before .before .before .before .before .before .before .before .before .before .before .before .before .before .before .before .before) (After-width·gave (c .before .before .before
+                    .before .before .before .before .before .before .before .before .before .before .before .before .before .before .before .before .before .before .before .before .before)))) (Row.get 3 (T11
+                    .locals) (m76 record { before = record { before = c .before; emit-pass-at = c .emit-pass-at }; image = record { given = g } } g') .now) (Row.get 4 (T11 .locals) (m76 record
+                    { before = record { before = c .before; emit-pass-at = c .emit-pass-at }; image = record { given = g } } g') .now) (Row.get 5 (T11 .locals) (m76 record
+                    { before = record { before = c .before; emit-pass-at = c .emit-pass-at }; image = record { given = g } } g') .now) (Row.get 16 (T11 .locals) (m76 record
+                    { before = record { before = c .before; emit-pass-at = c .emit-pass-at }; image = record { given = g } } g')) (Row.get 17 (T11 .locals) (m76 record
+                    { before = record { before = c .before; emit-pass-at = c .emit-pass-at }; image = record { given = g } } g'))},
+              ),
+            ),
+          ),
+        )
 
         lay11 : (c : After-store-set) → at50 (c .before .before .before .before .before .before .before .before .before .before .before .before .before .before .before .before .before .before .before
             .before .before .before .before .blocks) (W3 (c .before .before .before .before .before .before .before .before .before .before .before .before .before .before .before .before .before .before
@@ -5001,28 +5895,59 @@ module _ (claims· : Claims) where
             .before .before .before .before .before .before .before .before .before .before .before .before .loop .image) (c .before .before .before .before .before .before .before .before .before .before
             .before .before .before .before .before .before .before .before .loop .place) (c .before .before .before .before .before .before .before .before .before .before .before .before .before .before
             .before .before .before .before .loop .i)) (m58 (c .before) (After-store-set·gave c))
-        lay11 = λ c.
-            (Path'.refl, λ g.
-            (tt, λ g'. λ g''.
-            (Path'.refl, λ g'3.
-            (Path'.refl,
-            (emit-pass-at-requires record
-            { before = record
-            { before = record { before = record { before = record { before = c .before; store-set = c .store-set }; rs2 = record { given = g }; }; place = record { given = g' }; }; emit-pass-at-arg =
-            record { given = g'' }; }; emit-pass-at-arg2 = record { given = g'3 }; }, λ g'4. lay12 record
-            { before = record
-            { before = record
-            { before = record { before = record { before = record { before = c .before; store-set = c .store-set }; rs2 = record { given = g }; }; place = record { given = g' }; }; emit-pass-at-arg =
-            record { given = g'' }; }; emit-pass-at-arg2 = record { given = g'3 }; }; emit-pass-at = Called.called ps·7 r·7 (claims· .15) T85
-            (record { pos = 36; ty = Syntax.tyRef Syntax.erased Syntax.imm (Syntax.tyInt Syntax.w16); ref = λ x. x; },
-            (record { pos = 38; ty = Syntax.tyRef Syntax.erased Syntax.mut (Syntax.tyInt Syntax.w16); ref = λ x. x; },
-            (Num.vAt 15 λ x. x,
-            (Bool.bAt 14 λ x. x,
-            (record { pos = 8; ty = Syntax.tyRef (Syntax.named 4) Syntax.imm (Syntax.tyArray (Syntax.tyInt Syntax.w16) 768); ref = λ x. x; },
-            (record { pos = 9; st = List.[]; d = 0; at = λ x. x }, (record { pos = 10; st = List.[]; d = 0; at = λ x. x }, (Num.vAt 11 λ x. x, (Num.vAt 17 λ x. x, (Bool.bAt 12 λ x. x, tt)))))))))) (m68
-            record
-            { before = record { before = record { before = record { before = c .before; store-set = c .store-set }; rs2 = record { given = g }; }; place = record { given = g' }; }; emit-pass-at-arg =
-            record { given = g'' }; } g'3) g'4; })))))
+        lay11 = λ c. (
+          Path'.refl,
+          λ g. (
+            tt,
+            λ g'. λ g''. (
+              Path'.refl,
+              λ g'3. (
+                Path'.refl,
+                (
+                  emit-pass-at-requires record {
+                    before = record {
+                      before = record { before = record { before = record { before = c .before; store-set = c .store-set }; rs2 = record { given = g } }; place = record { given = g' } };
+                      emit-pass-at-arg =
+                          record { given = g'' };
+                    };
+                    emit-pass-at-arg2 = record { given = g'3 };
+                  },
+                  λ g'4. lay12 record {
+                    before = record {
+                      before = record {
+                        before = record { before = record { before = record { before = c .before; store-set = c .store-set }; rs2 = record { given = g } }; place = record { given = g' } };
+                        emit-pass-at-arg =
+                            record { given = g'' };
+                      };
+                      emit-pass-at-arg2 = record { given = g'3 };
+                    };
+                    emit-pass-at = Called.called ps·7 r·7 (claims· .15) T85 (
+                      record { pos = 36; ty = Syntax.tyRef Syntax.erased Syntax.imm (Syntax.tyInt Syntax.w16); ref = λ x. x },
+                      (
+                        record { pos = 38; ty = Syntax.tyRef Syntax.erased Syntax.mut (Syntax.tyInt Syntax.w16); ref = λ x. x },
+                        (
+                          Num.vAt 15 λ x. x,
+                          (
+                            Bool.bAt 14 λ x. x,
+                            (
+                              record { pos = 8; ty = Syntax.tyRef (Syntax.named 4) Syntax.imm (Syntax.tyArray (Syntax.tyInt Syntax.w16) 768); ref = λ x. x },
+                              (record { pos = 9; st = List.[]; d = 0; at = λ x. x }, (record { pos = 10; st = List.[]; d = 0; at = λ x. x }, (Num.vAt 11 λ x. x, (Num.vAt 17 λ x. x, (Bool.bAt 12 λ x. x, tt))))),
+                            ),
+                          ),
+                        ),
+                      ),
+                    ) (m68
+                        record {
+                          before = record { before = record { before = record { before = c .before; store-set = c .store-set }; rs2 = record { given = g } }; place = record { given = g' } };
+                          emit-pass-at-arg =
+                              record { given = g'' };
+                        } g'3) g'4;
+                  },
+                ),
+              ),
+            ),
+          ),
+        )
 
         lay10 : (c : Else1) → at55 (c .before .before .before .before .before .before .before .before .before .before .before .before .before .before .before .before .before .before .before .before
             .blocks) (W3 (c .before .before .before .before .before .before .before .before .before .before .before .before .before .before .before .before) (c .before .before .before .before .before
@@ -5030,113 +5955,205 @@ module _ (claims· : Claims) where
             .before .before .before .loop .rs) (c .before .before .before .before .before .before .before .before .before .before .before .before .before .before .before .loop .image) (c .before .before
             .before .before .before .before .before .before .before .before .before .before .before .before .before .loop .place) (c .before .before .before .before .before .before .before .before .before
             .before .before .before .before .before .before .loop .i)) (m54 (c .before))
-        lay10 = λ c.
-            (tt, λ g. λ g'.
-            (Path'.refl,
-            (store-set-requires record { before = record { before = record { before = c .before; if1 = c .if1 }; new = record { given = g }; }; store-set-arg = record { given = g' }; }, λ g''. lay11
-            record
-            { before = record { before = record { before = record { before = c .before; if1 = c .if1 }; new = record { given = g }; }; store-set-arg = record { given = g' }; }; store-set = Called.called
-            ps·6 r·6 (claims· .13) T70
-            (record { pos = 34; ty = Syntax.tyRef Syntax.erased Syntax.mut Element.behind; ref = λ x. x; },
-            (Num.vFld 18 (List._∷_ (Syntax.field 2) List.[]) 16 λ x. Plan.struct .as-values x .1 .1 .0, (record { pos = 23; st = List.[]; d = 0; at = λ x. x }, tt))) (m57 record
-            { before = record { before = c .before; if1 = c .if1 }; new = record { given = g }; } g') g''; })))
+        lay10 = λ c. (
+          tt,
+          λ g. λ g'. (
+            Path'.refl,
+            (
+              store-set-requires record { before = record { before = record { before = c .before; if1 = c .if1 }; new = record { given = g } }; store-set-arg = record { given = g' } },
+              λ g''. lay11
+                  record {
+                    before = record { before = record { before = record { before = c .before; if1 = c .if1 }; new = record { given = g } }; store-set-arg = record { given = g' } };
+                    store-set = Called.called
+                        ps·6 r·6 (claims· .13) T70 (
+                          record { pos = 34; ty = Syntax.tyRef Syntax.erased Syntax.mut Element.behind; ref = λ x. x },
+                          (Num.vFld 18 (List._∷_ (Syntax.field 2) List.[]) 16 λ x. Plan.struct .as-values x .1 .1 .0, (record { pos = 23; st = List.[]; d = 0; at = λ x. x }, tt)),
+                        ) (m57 record
+                        { before = record { before = c .before; if1 = c .if1 }; new = record { given = g } } g') g'';
+                  },
+            ),
+          ),
+        )
 
         lay9 : (c : After-pass) → at65 (c .before .before .before .before .before .before .before .before .before .before .before .before .before .before .before .before .before .blocks) (W3 (c
             .before .before .before .before .before .before .before .before .before .before .before .before .before) (c .before .before .before .before .before .before .before .before .before .before
             .before .before .loop .lines) (c .before .before .before .before .before .before .before .before .before .before .before .before .loop .rs) (c .before .before .before .before .before .before
             .before .before .before .before .before .before .loop .image) (c .before .before .before .before .before .before .before .before .before .before .before .before .loop .place) (c .before
             .before .before .before .before .before .before .before .before .before .before .before .loop .i)) (m32 (c .before) (After-pass·gave c))
-        lay9 = λ c.
-            (Path'.refl, λ g. λ g'.
-            (tt,
-            (λ taken.
-            ((Path'.refl,
-            (tt,
-            (MutSlice.fix-len (Row.get 3 (T65 .locals) (m53 record
-            { before = record { before = record { before = c .before; pass = c .pass }; lines2 = record { given = g }; }; slice-known4 = record { given = g' }; }) .ptr) (Row.get 3 (T65 .locals) (m53
-            record { before = record { before = record { before = c .before; pass = c .pass }; lines2 = record { given = g }; }; slice-known4 = record { given = g' }; }) .name) (Row.get 3 (T65 .locals)
-            (m53 record { before = record { before = record { before = c .before; pass = c .pass }; lines2 = record { given = g }; }; slice-known4 = record { given = g' }; }) .now) (dens (c .before
-            .before .before .before .before .before .before .before .before .before .before .before .before .before .before .before .before .κs) (c .before .before .before .before .before .before .before
-            .before .before .before .before .before .before .before .before .before .before .args) .1 .1 .0 .now) (same-length record
-            { before = record { before = record { before = record { before = c .before; pass = c .pass }; lines2 = record { given = g }; }; slice-known4 = record { given = g' }; }; if1 = record { taken =
-            taken }; }),
-            (MutSlice.fix-len (Row.get 4 (T65 .locals) (m53 record
-            { before = record { before = record { before = c .before; pass = c .pass }; lines2 = record { given = g }; }; slice-known4 = record { given = g' }; }) .ptr) (Row.get 4 (T65 .locals) (m53
-            record { before = record { before = record { before = c .before; pass = c .pass }; lines2 = record { given = g }; }; slice-known4 = record { given = g' }; }) .name) (Row.get 4 (T65 .locals)
-            (m53 record { before = record { before = record { before = c .before; pass = c .pass }; lines2 = record { given = g }; }; slice-known4 = record { given = g' }; }) .now) (dens (c .before
-            .before .before .before .before .before .before .before .before .before .before .before .before .before .before .before .before .κs) (c .before .before .before .before .before .before .before
-            .before .before .before .before .before .before .before .before .before .before .args) .1 .1 .1 .0 .now) (same-length-2 record
-            { before = record { before = record { before = record { before = c .before; pass = c .pass }; lines2 = record { given = g }; }; slice-known4 = record { given = g' }; }; if1 = record { taken =
-            taken }; }),
-            (MutSlice.fix-len (Row.get 5 (T65 .locals) (m53 record
-            { before = record { before = record { before = c .before; pass = c .pass }; lines2 = record { given = g }; }; slice-known4 = record { given = g' }; }) .ptr) (Row.get 5 (T65 .locals) (m53
-            record { before = record { before = record { before = c .before; pass = c .pass }; lines2 = record { given = g }; }; slice-known4 = record { given = g' }; }) .name) (Row.get 5 (T65 .locals)
-            (m53 record { before = record { before = record { before = c .before; pass = c .pass }; lines2 = record { given = g }; }; slice-known4 = record { given = g' }; }) .now) (dens (c .before
-            .before .before .before .before .before .before .before .before .before .before .before .before .before .before .before .before .κs) (c .before .before .before .before .before .before .before
-            .before .before .before .before .before .before .before .before .before .before .args) .1 .1 .1 .1 .0 .now) (same-length-3 record
-            { before = record { before = record { before = record { before = c .before; pass = c .pass }; lines2 = record { given = g }; }; slice-known4 = record { given = g' }; }; if1 = record { taken =
-            taken }; }), (tt, (tt, (Path'.refl, (tt, (tt, (tt, (tt, tt)))))))))))), returns record
-            { before = record { before = record { before = record { before = c .before; pass = c .pass }; lines2 = record { given = g }; }; slice-known4 = record { given = g' }; }; if1 = record { taken =
-            taken }; }), λ left. lay10 record
-            { before = record { before = record { before = record { before = c .before; pass = c .pass }; lines2 = record { given = g }; }; slice-known4 = record { given = g' }; }; if1 = record { left =
-            left }; })))
+        lay9 = λ c. (
+          Path'.refl,
+          λ g. λ g'. (
+            tt,
+            (
+              λ taken. (
+                (
+                  Path'.refl,
+                  (
+                    tt,
+                    (
+                      MutSlice.fix-len (Row.get 3 (T65 .locals) (m53 record
+                          { before = record { before = record { before = c .before; pass = c .pass }; lines2 = record { given = g } }; slice-known4 = record { given = g' } }) .ptr) (Row.get 3 (T65 .locals) (m53
+                          record { before = record { before = record { before = c .before; pass = c .pass }; lines2 = record { given = g } }; slice-known4 = record { given = g' } }) .name) (Row.get 3 (T65 .locals)
+                          (m53 record { before = record { before = record { before = c .before; pass = c .pass }; lines2 = record { given = g } }; slice-known4 = record { given = g' } }) .now) (dens (c .before
+                          .before .before .before .before .before .before .before .before .before .before .before .before .before .before .before .before .κs) (c .before .before .before .before .before .before .before
+                          .before .before .before .before .before .before .before .before .before .before .args) .1 .1 .0 .now) (same-length record {
+                            before = record { before = record { before = record { before = c .before; pass = c .pass }; lines2 = record { given = g } }; slice-known4 = record { given = g' } };
+                            if1 = record {
+                              taken =
+                                  taken;
+                            };
+                          }),
+                      (
+                        MutSlice.fix-len (Row.get 4 (T65 .locals) (m53 record
+                            { before = record { before = record { before = c .before; pass = c .pass }; lines2 = record { given = g } }; slice-known4 = record { given = g' } }) .ptr) (Row.get 4 (T65 .locals) (m53
+                            record { before = record { before = record { before = c .before; pass = c .pass }; lines2 = record { given = g } }; slice-known4 = record { given = g' } }) .name) (Row.get 4 (T65 .locals)
+                            (m53 record { before = record { before = record { before = c .before; pass = c .pass }; lines2 = record { given = g } }; slice-known4 = record { given = g' } }) .now) (dens (c .before
+                            .before .before .before .before .before .before .before .before .before .before .before .before .before .before .before .before .κs) (c .before .before .before .before .before .before .before
+                            .before .before .before .before .before .before .before .before .before .before .args) .1 .1 .1 .0 .now) (same-length-2 record {
+                              before = record { before = record { before = record { before = c .before; pass = c .pass }; lines2 = record { given = g } }; slice-known4 = record { given = g' } };
+                              if1 = record {
+                                taken =
+                                    taken;
+                              };
+                            }),
+                        (
+                          MutSlice.fix-len (Row.get 5 (T65 .locals) (m53 record
+                              { before = record { before = record { before = c .before; pass = c .pass }; lines2 = record { given = g } }; slice-known4 = record { given = g' } }) .ptr) (Row.get 5 (T65 .locals) (m53
+                              record { before = record { before = record { before = c .before; pass = c .pass }; lines2 = record { given = g } }; slice-known4 = record { given = g' } }) .name) (Row.get 5 (T65 .locals)
+                              (m53 record { before = record { before = record { before = c .before; pass = c .pass }; lines2 = record { given = g } }; slice-known4 = record { given = g' } }) .now) (dens (c .before
+                              .before .before .before .before .before .before .before .before .before .before .before .before .before .before .before .before .κs) (c .before .before .before .before .before .before .before
+                              .before .before .before .before .before .before .before .before .before .before .args) .1 .1 .1 .1 .0 .now) (same-length-3 record {
+                                before = record { before = record { before = record { before = c .before; pass = c .pass }; lines2 = record { given = g } }; slice-known4 = record { given = g' } };
+                                if1 = record {
+                                  taken =
+                                      taken;
+                                };
+                              }),
+                          (tt, (tt, (Path'.refl, (tt, (tt, (tt, (tt, tt))))))),
+                        ),
+                      ),
+                    ),
+                  ),
+                ),
+                returns record {
+                  before = record { before = record { before = record { before = c .before; pass = c .pass }; lines2 = record { given = g } }; slice-known4 = record { given = g' } };
+                  if1 = record {
+                    taken =
+                        taken;
+                  };
+                },
+              ),
+              λ left. lay10 record {
+                before = record { before = record { before = record { before = c .before; pass = c .pass }; lines2 = record { given = g } }; slice-known4 = record { given = g' } };
+                if1 = record {
+                  left =
+                      left;
+                };
+              },
+            ),
+          ),
+        )
 
         lay8 : (c : After-load-set) → at72 (c .before .before .before .before .before .before .before .before .before .before .before .before .before .before .blocks) (W3 (c .before .before .before
             .before .before .before .before .before .before .before) (c .before .before .before .before .before .before .before .before .before .loop .lines) (c .before .before .before .before .before
             .before .before .before .before .loop .rs) (c .before .before .before .before .before .before .before .before .before .loop .image) (c .before .before .before .before .before .before .before
             .before .before .loop .place) (c .before .before .before .before .before .before .before .before .before .loop .i)) (m28 (c .before) (After-load-set·gave c))
-        lay8 = λ c.
-            (Path'.refl, λ g. λ g'.
-            (Path'.refl,
-            (pass-requires record { before = record { before = record { before = c .before; load-set = c .load-set }; rs = record { given = g }; }; pass-arg = record { given = g' }; }, λ g''. lay9 record
-            { before = record { before = record { before = record { before = c .before; load-set = c .load-set }; rs = record { given = g }; }; pass-arg = record { given = g' }; }; pass = Called.called
-            ps·5 r·5 (claims· .11) T40
-            (record { pos = 1; ty = Syntax.tyRef (Syntax.named 0) Syntax.imm (Syntax.tyInt Syntax.w8); ref = λ x. x; },
-            (record { pos = 16; st = List.[]; d = 0; at = λ x. x },
-            (record { pos = 32; ty = Syntax.tyRef Syntax.erased Syntax.mut (Syntax.tyInt Syntax.w16); ref = λ x. x; },
-            (record { pos = 20; st = List.[]; d = 0; at = λ x. x },
-            (Num.vAt 15 λ x. x, (record { pos = 19; st = List.[]; d = 0; at = λ x. x }, (record { pos = 7; st = List.[]; d = 0; at = λ x. x }, (Num.vAt 13 λ x. x, tt)))))))) (m31 record
-            { before = record { before = c .before; load-set = c .load-set }; rs = record { given = g }; } g') g''; })))
+        lay8 = λ c. (
+          Path'.refl,
+          λ g. λ g'. (
+            Path'.refl,
+            (
+              pass-requires record { before = record { before = record { before = c .before; load-set = c .load-set }; rs = record { given = g } }; pass-arg = record { given = g' } },
+              λ g''. lay9 record {
+                before = record { before = record { before = record { before = c .before; load-set = c .load-set }; rs = record { given = g } }; pass-arg = record { given = g' } };
+                pass = Called.called
+                    ps·5 r·5 (claims· .11) T40 (
+                      record { pos = 1; ty = Syntax.tyRef (Syntax.named 0) Syntax.imm (Syntax.tyInt Syntax.w8); ref = λ x. x },
+                      (
+                        record { pos = 16; st = List.[]; d = 0; at = λ x. x },
+                        (
+                          record { pos = 32; ty = Syntax.tyRef Syntax.erased Syntax.mut (Syntax.tyInt Syntax.w16); ref = λ x. x },
+                          (
+                            record { pos = 20; st = List.[]; d = 0; at = λ x. x },
+                            (Num.vAt 15 λ x. x, (record { pos = 19; st = List.[]; d = 0; at = λ x. x }, (record { pos = 7; st = List.[]; d = 0; at = λ x. x }, (Num.vAt 13 λ x. x, tt)))),
+                          ),
+                        ),
+                      ),
+                    ) (m31 record
+                    { before = record { before = c .before; load-set = c .load-set }; rs = record { given = g } } g') g'';
+              },
+            ),
+          ),
+        )
 
         lay7 : (c : After-enter) → at81 (c .before .before .before .before .before .before .before .before .before .before .blocks) (W3 (c .before .before .before .before .before .before) (c .before
             .before .before .before .before .loop .lines) (c .before .before .before .before .before .loop .rs) (c .before .before .before .before .before .loop .image) (c .before .before .before .before
             .before .loop .place) (c .before .before .before .before .before .loop .i)) (m22 (c .before) (After-enter·gave c))
-        lay7 = λ c.
-            (Path'.refl, λ g. λ g'. λ g''.
-            (Path'.refl,
-            (load-set-requires record
-            { before = record { before = record { before = record { before = c .before; enter = c .enter }; lines = record { given = g }; }; slice-known3 = record { given = g' }; }; load-set-arg = record
-            { given = g'' }; }, λ g'3. lay8 record
-            { before = record
-            { before = record { before = record { before = record { before = c .before; enter = c .enter }; lines = record { given = g }; }; slice-known3 = record { given = g' }; }; load-set-arg = record
-            { given = g'' }; }; load-set = Called.called ps·4 r·4 (claims· .9) T33
-            (record { pos = 30; ty = Syntax.tyRef Syntax.erased Syntax.mut Element.behind; ref = λ x. x; }, (Num.vFld 18 (List._∷_ (Syntax.field 2) List.[]) 16 λ x. Plan.struct .as-values x .1 .1 .0, tt))
-            (m27 record { before = record { before = record { before = c .before; enter = c .enter }; lines = record { given = g }; }; slice-known3 = record { given = g' }; } g'') g'3; })))
+        lay7 = λ c. (
+          Path'.refl,
+          λ g. λ g'. λ g''. (
+            Path'.refl,
+            (
+              load-set-requires record {
+                before = record { before = record { before = record { before = c .before; enter = c .enter }; lines = record { given = g } }; slice-known3 = record { given = g' } };
+                load-set-arg = record
+                    { given = g'' };
+              },
+              λ g'3. lay8 record {
+                before = record {
+                  before = record { before = record { before = record { before = c .before; enter = c .enter }; lines = record { given = g } }; slice-known3 = record { given = g' } };
+                  load-set-arg = record
+                      { given = g'' };
+                };
+                load-set = Called.called ps·4 r·4 (claims· .9) T33
+                    (record { pos = 30; ty = Syntax.tyRef Syntax.erased Syntax.mut Element.behind; ref = λ x. x }, (Num.vFld 18 (List._∷_ (Syntax.field 2) List.[]) 16 λ x. Plan.struct .as-values x .1 .1 .0, tt))
+                    (m27 record { before = record { before = record { before = c .before; enter = c .enter }; lines = record { given = g } }; slice-known3 = record { given = g' } } g'') g'3;
+              },
+            ),
+          ),
+        )
 
         lay6 : (c : After-window-plan) → at85 (c .before .before .before .before .before .before .before .before .blocks) (W3 (c .before .before .before .before) (c .before .before .before .loop
             .lines) (c .before .before .before .loop .rs) (c .before .before .before .loop .image) (c .before .before .before .loop .place) (c .before .before .before .loop .i)) (m19 (c .before)
             (After-window-plan·gave c))
-        lay6 = λ c. λ g.
-            (Path'.refl,
-            (enter-requires record { before = record { before = c .before; window-plan = c .window-plan }; enter-arg = record { given = g }; }, λ g'. lay7 record
-            { before = record { before = record { before = c .before; window-plan = c .window-plan }; enter-arg = record { given = g }; }; enter = Called.called ps·3 r·3 (claims· .7) T24
-            (record { pos = 28; ty = Syntax.tyRef Syntax.erased Syntax.mut (Syntax.tyInt Syntax.w16); ref = λ x. x; },
-            (Num.vAt 15 λ x. x,
-            (Num.vFld 19 (List._∷_ (Syntax.field 0) List.[]) 0 λ x. Plan.struct .as-values x .0,
-            (Num.vFld 19 (List._∷_ (Syntax.field 1) List.[]) 8 λ x. Plan.struct .as-values x .1 .0, (Bool.bAt 12 λ x. x, tt))))) (m21 record { before = c .before; window-plan = c .window-plan } g) g'; }))
+        lay6 = λ c. λ g. (
+          Path'.refl,
+          (
+            enter-requires record { before = record { before = c .before; window-plan = c .window-plan }; enter-arg = record { given = g } },
+            λ g'. lay7 record {
+              before = record { before = record { before = c .before; window-plan = c .window-plan }; enter-arg = record { given = g } };
+              enter = Called.called ps·3 r·3 (claims· .7) T24 (
+                record { pos = 28; ty = Syntax.tyRef Syntax.erased Syntax.mut (Syntax.tyInt Syntax.w16); ref = λ x. x },
+                (
+                  Num.vAt 15 λ x. x,
+                  (
+                    Num.vFld 19 (List._∷_ (Syntax.field 0) List.[]) 0 λ x. Plan.struct .as-values x .0,
+                    (Num.vFld 19 (List._∷_ (Syntax.field 1) List.[]) 8 λ x. Plan.struct .as-values x .1 .0, (Bool.bAt 12 λ x. x, tt)),
+                  ),
+                ),
+              ) (m21 record { before = c .before; window-plan = c .window-plan } g) g';
+            },
+          ),
+        )
 
         lay5 : (c : After-plan-at) → at86 (c .before .before .before .before .before .before .before .blocks) (W3 (c .before .before .before) (c .before .before .loop .lines) (c .before .before .loop
             .rs) (c .before .before .loop .image) (c .before .before .loop .place) (c .before .before .loop .i)) (m18 (c .before) (After-plan-at·gave c))
-        lay5 = λ c.
-            (window-plan-requires record { before = c .before; plan-at = c .plan-at }, λ g. lay6 record
-            { before = record { before = c .before; plan-at = c .plan-at }; window-plan = Called.called ps·2 r·2 (claims· .5) T20
-            (record { pos = 18; st = List.[]; d = 0; at = λ x. x }, (Bool.bAt 12 λ x. x, tt)) (m18 (c .before) (After-plan-at·gave c)) g; })
+        lay5 = λ c. (
+          window-plan-requires record { before = c .before; plan-at = c .plan-at },
+          λ g. lay6 record {
+            before = record { before = c .before; plan-at = c .plan-at };
+            window-plan = Called.called ps·2 r·2 (claims· .5) T20
+                (record { pos = 18; st = List.[]; d = 0; at = λ x. x }, (Bool.bAt 12 λ x. x, tt)) (m18 (c .before) (After-plan-at·gave c)) g;
+          },
+        )
 
         lay4 : (c : In-loop) → at87 (c .before .before .before .before .before .before .blocks) (W3 (c .before .before) (c .before .loop .lines) (c .before .loop .rs) (c .before .loop .image) (c
             .before .loop .place) (c .before .loop .i)) (m13 (c .before))
-        lay4 = λ c.
-            (plan-at-requires record { before = c .before; loop-test = c .loop-test }, λ g. lay5 record
-            { before = record { before = c .before; loop-test = c .loop-test }; plan-at = Called.called ps·1 r·1 (claims· .3) T14 (Num.vAt 17 λ x. x, (Bool.bAt 14 λ x. x, tt)) (m13 (c .before)) g; })
+        lay4 = λ c. (
+          plan-at-requires record { before = c .before; loop-test = c .loop-test },
+          λ g. lay5 record
+              { before = record { before = c .before; loop-test = c .loop-test }; plan-at = Called.called ps·1 r·1 (claims· .3) T14 (Num.vAt 17 λ x. x, (Bool.bAt 14 λ x. x, tt)) (m13 (c .before)) g },
+        )
 
         lay3 : (c : After-loop) → at6 (c .before .before .before .before .before .before .blocks) (W4 (c .before .before) (c .before .loop .lines) (c .before .loop .rs) (c .before .loop .image) (c
             .before .loop .place) (c .before .loop .i)) (m12 (c .before .before) (c .before .loop .lines) (c .before .loop .rs) (c .before .loop .image) (c .before .loop .place) (c .before .loop .i))
@@ -5148,35 +6165,76 @@ module _ (claims· : Claims) where
 
         lay1 : (c : After-width) → at121 (c .before .before .before .before .blocks) (W0 (c .before .before .before .before .κs) (c .before .before .before .before .args) (c .before .before .before
             .before .blocks)) (m7 (c .before) (After-width·gave c))
-        lay1 = λ c.
-            (((Row.get 3 (T11 .locals) (m10 (c .before) (After-width·gave c)) .now, Row.get 4 (T11 .locals) (m10 (c .before) (After-width·gave c)) .now, Row.get 5 (T11 .locals) (m10 (c .before)
-            (After-width·gave c)) .now, Row.get 16 (T11 .locals) (m10 (c .before) (After-width·gave c)), Row.get 17 (T11 .locals) (m10 (c .before) (After-width·gave c))), Path'.refl {a = m10 (c .before)
-            (After-width·gave c)}, loop-holds record { before = c .before; width = c .width }), λ vs inv.
-            (tt,
-            (λ taken. lay2 record
-            { before = record { before = record { before = c .before; width = c .width }; loop = record { lines = vs .0; rs = vs .1; image = vs .2; place = vs .3; i = vs .4; inv = inv; }; }; loop-test =
-            record { taken = Tests.ltb-true (Row.get 17 (T11 .locals) (m11 record { before = c .before; width = c .width; } (vs .0) (vs .1) (vs .2) (vs .3) (vs .4))) 6 taken; }; }, λ left. lay3 record
-            { before = record { before = record { before = c .before; width = c .width }; loop = record { lines = vs .0; rs = vs .1; image = vs .2; place = vs .3; i = vs .4; inv = inv; }; }; loop-test =
-            record { left = Tests.ltb-false (Row.get 17 (T11 .locals) (m11 record { before = c .before; width = c .width; } (vs .0) (vs .1) (vs .2) (vs .3) (vs .4))) 6 left; }; })))
+        lay1 = λ c. (
+          (
+            (
+              Row.get 3 (T11 .locals) (m10 (c .before) (After-width·gave c)) .now,
+              Row.get 4 (T11 .locals) (m10 (c .before) (After-width·gave c)) .now,
+              Row.get 5 (T11 .locals) (m10 (c .before)
+                  (After-width·gave c)) .now,
+              Row.get 16 (T11 .locals) (m10 (c .before) (After-width·gave c)),
+              Row.get 17 (T11 .locals) (m10 (c .before) (After-width·gave c)),
+            ),
+            Path'.refl {a = m10 (c .before)
+                (After-width·gave c)},
+            loop-holds record { before = c .before; width = c .width },
+          ),
+          λ vs inv. (
+            tt,
+            (
+              λ taken. lay2 record {
+                before = record { before = record { before = c .before; width = c .width }; loop = record { lines = vs .0; rs = vs .1; image = vs .2; place = vs .3; i = vs .4; inv = inv } };
+                loop-test =
+                    record { taken = Tests.ltb-true (Row.get 17 (T11 .locals) (m11 record { before = c .before; width = c .width } (vs .0) (vs .1) (vs .2) (vs .3) (vs .4))) 6 taken };
+              },
+              λ left. lay3 record {
+                before = record { before = record { before = c .before; width = c .width }; loop = record { lines = vs .0; rs = vs .1; image = vs .2; place = vs .3; i = vs .4; inv = inv } };
+                loop-test =
+                    record { left = Tests.ltb-false (Row.get 17 (T11 .locals) (m11 record { before = c .before; width = c .width } (vs .0) (vs .1) (vs .2) (vs .3) (vs .4))) 6 left };
+              },
+            ),
+          ),
+        )
 
         pub laid : (c : Start) → at128 (c .blocks) (W0 (c .κs) (c .args) (c .blocks)) (m0 (c .κs) (c .args) (c .blocks))
-        laid = λ c. λ g. λ g'. λ g''.
-            (width-requires record
-            { before = record { before = record { before = c; shared-slice-known = record { given = g } }; slice-known = record { given = g' }; }; slice-known2 = record { given = g'' }; }, λ g'3. lay1
-            record
-            { before = record
-            { before = record { before = record { before = c; shared-slice-known = record { given = g } }; slice-known = record { given = g' }; }; slice-known2 = record { given = g'' }; }; width =
-            Called.called ps·0 r·0 (claims· .1) T7 (Bool.bAt 14 λ x. x, tt) (m6 record { before = record { before = c; shared-slice-known = record { given = g } }; slice-known = record { given = g' }; }
-            g'') g'3; })
+        laid = λ c. λ g. λ g'. λ g''. (
+          width-requires record
+              { before = record { before = record { before = c; shared-slice-known = record { given = g } }; slice-known = record { given = g' } }; slice-known2 = record { given = g'' } },
+          λ g'3. lay1
+              record {
+                before = record
+                    { before = record { before = record { before = c; shared-slice-known = record { given = g } }; slice-known = record { given = g' } }; slice-known2 = record { given = g'' } };
+                width =
+                    Called.called ps·0 r·0 (claims· .1) T7 (Bool.bAt 14 λ x. x, tt) (m6 record { before = record { before = c; shared-slice-known = record { given = g } }; slice-known = record { given = g' } }
+                    g'') g'3;
+              },
+        )
 
         module _ (κs : Lifetimes.Lfts 5) (qs : Lifetimes.Shares 5) where
           pub asked : (a : Kinds.Dens κs ps) → (good : Kinds.GoodsP κs ps a) → (pre : Pre· κs a) → (bs : List.List Nat.ℕ) → Φ bs (Any.wantQ 5 ps r xs m κs qs a (Post· κs a)) (Function.init 5 ps r xs m
               κs qs a)
-          asked = λ a good pre bs. laid record
-              { κs = κs; args = record
-              { block = a .0; from = a .1 .0; lines = a .1 .1 .0; rs = a .1 .1 .1 .0; image = a .1 .1 .1 .1 .0; form = a .1 .1 .1 .1 .1 .0; qs = a .1 .1 .1 .1 .1 .1 .0; places = a .1 .1 .1 .1 .1 .1 .1 .0;
-              tile = a .1 .1 .1 .1 .1 .1 .1 .1 .0; part = a .1 .1 .1 .1 .1 .1 .1 .1 .1 .0; n = a .1 .1 .1 .1 .1 .1 .1 .1 .1 .1 .0; windowed = a .1 .1 .1 .1 .1 .1 .1 .1 .1 .1 .1 .0; }; blocks = bs; good =
-              good; fits = record { n = record { fits = good .1 .1 .1 .1 .1 .1 .1 .1 .1 .1 .0 .1 } }; pre = pre; }
+          asked = λ a good pre bs. laid record {
+            κs = κs;
+            args = record {
+              block = a .0;
+              from = a .1 .0;
+              lines = a .1 .1 .0;
+              rs = a .1 .1 .1 .0;
+              image = a .1 .1 .1 .1 .0;
+              form = a .1 .1 .1 .1 .1 .0;
+              qs = a .1 .1 .1 .1 .1 .1 .0;
+              places = a .1 .1 .1 .1 .1 .1 .1 .0;
+              tile = a .1 .1 .1 .1 .1 .1 .1 .1 .0;
+              part = a .1 .1 .1 .1 .1 .1 .1 .1 .1 .0;
+              n = a .1 .1 .1 .1 .1 .1 .1 .1 .1 .1 .0;
+              windowed = a .1 .1 .1 .1 .1 .1 .1 .1 .1 .1 .1 .0;
+            };
+            blocks = bs;
+            good =
+                good;
+            fits = record { n = record { fits = good .1 .1 .1 .1 .1 .1 .1 .1 .1 .1 .0 .1 } };
+            pre = pre;
+          }
 
         module _ {M : Type 1} (𝓤 : URA.URA M) (H : Wp.Heap 𝓤) (A : Atoms.Atoms 𝓤) (W : Kit.Given 𝓤 H A) (𝓣 : Wp.Tables 𝓤 H) (known0 : Plain.Known 𝓤 H A W 𝓣 0 ps·0 r·0 (claims· .0) (claims· .1)
             "map::width") (known1 : Plain.Known 𝓤 H A W 𝓣 0 ps·1 r·1 (claims· .2) (claims· .3) "steps::plan_at") (known2 : Plain.Known 𝓤 H A W 𝓣 0 ps·2 r·2 (claims· .4) (claims· .5) "pass::window_plan")

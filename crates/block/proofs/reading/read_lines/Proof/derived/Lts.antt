@@ -143,28 +143,79 @@ y12 = Syntax.tyStruct (List._∷_ 99 (List._∷_ 97 (List._∷_ 109 (List._∷_ 
 
 abbrev pub ps : List.List (Kinds.PK 6)
 ps = List._∷_ (ShrSlice.pShrS (Referent.rtF (Referent.fInt Syntax.w8)) 0 tt) (List._∷_ (ShrSlice.pShrS (Referent.rtF (Referent.fInt Syntax.w8)) 1 tt) (List._∷_ (MutSlice.pMutS (Referent.rtF
-    (Referent.fInt Syntax.w16)) 2 tt) (List._∷_ (MutSlice.pMutS (Element.type) 3 tt) (List._∷_ (MutSlice.pMutS (Referent.rtF (Referent.fInt Syntax.w16)) 4 tt) (List._∷_ (Value.pVal record
-    { ty = Declared'.row Form.the-type; one = Path'.refl; val = Laws'10.val Form.the-type Laws.the-laws; tells = Laws'10.tells Form.the-type Laws.the-laws; still = Laws'10.still Form.the-type
-    Laws.the-copy Exit.yes; row = Rows'.whole (Declared'.row Form.the-type); rd = λ x. x; mk = λ x. x; } λ M 𝓤 H A W. record
-    { copies = Laws'10.copy Form.the-type Laws.the-copy 𝓤 H A W; lawful = Laws'10.lawful Form.the-type Laws.the-laws 𝓤 H A W; makes = Laws'10.makes Form.the-type Laws.the-plain 𝓤 H A; in-mem =
-    Local.mem-whole 𝓤 H A W (Declared'.row Form.the-type); of-mem = Local.whole-mem 𝓤 H A W (Declared'.row Form.the-type); }) (List._∷_ (ShrRef.pShr (Array'.Array (Referent.rtF (Referent.fInt Syntax.w16))
-    768) 5 tt) (List._∷_ (Array.pArr (Array.eInt Syntax.w8) (Array.eInt-laws Syntax.w8) 36) (List._∷_ (Value.pVal record
-    { ty = Declared'.row Part.the-type; one = Path'.refl; val = Laws'10.val Part.the-type Laws'5.the-laws; tells = Laws'10.tells Part.the-type Laws'5.the-laws; still = Laws'10.still Part.the-type
-    Laws'5.the-copy Exit.yes; row = Rows'.whole (Declared'.row Part.the-type); rd = λ x. x; mk = λ x. x; } λ M 𝓤 H A W. record
-    { copies = Laws'10.copy Part.the-type Laws'5.the-copy 𝓤 H A W; lawful = Laws'10.lawful Part.the-type Laws'5.the-laws 𝓤 H A W; makes = Laws'10.makes Part.the-type Laws'5.the-plain 𝓤 H A; in-mem =
-    Local.mem-whole 𝓤 H A W (Declared'.row Part.the-type); of-mem = Local.whole-mem 𝓤 H A W (Declared'.row Part.the-type); }) (List._∷_ (Num.pNum Syntax.w64) (List._∷_ Bool.pBool (List._∷_ (Value.pVal
-    record
-    { ty = Declared'.row Entries.the-type; one = Path'.refl; val = Laws'10.val Entries.the-type Laws'3.the-laws; tells = Laws'10.tells Entries.the-type Laws'3.the-laws; still = Laws'10.still
-    Entries.the-type Laws'3.the-copy Exit.yes; row = Rows'.whole (Declared'.row Entries.the-type); rd = λ x. x; mk = λ x. x; } λ M 𝓤 H A W. record
-    { copies = Laws'10.copy Entries.the-type Laws'3.the-copy 𝓤 H A W; lawful = Laws'10.lawful Entries.the-type Laws'3.the-laws 𝓤 H A W; makes = Laws'10.makes Entries.the-type Laws'3.the-plain 𝓤 H A;
-    in-mem = Local.mem-whole 𝓤 H A W (Declared'.row Entries.the-type); of-mem = Local.whole-mem 𝓤 H A W (Declared'.row Entries.the-type); }) List.[])))))))))))
+    (Referent.fInt Syntax.w16)) 2 tt) (List._∷_ (MutSlice.pMutS (Element.type) 3 tt) (List._∷_ (MutSlice.pMutS (Referent.rtF (Referent.fInt Syntax.w16)) 4 tt) (List._∷_ (Value.pVal record {
+      ty = Declared'.row Form.the-type;
+      one = Path'.refl;
+      val = Laws'10.val Form.the-type Laws.the-laws;
+      tells = Laws'10.tells Form.the-type Laws.the-laws;
+      still = Laws'10.still Form.the-type
+          Laws.the-copy Exit.yes;
+      row = Rows'.whole (Declared'.row Form.the-type);
+      rd = λ x. x;
+      mk = λ x. x;
+    } λ M 𝓤 H A W. record {
+      copies = Laws'10.copy Form.the-type Laws.the-copy 𝓤 H A W;
+      lawful = Laws'10.lawful Form.the-type Laws.the-laws 𝓤 H A W;
+      makes = Laws'10.makes Form.the-type Laws.the-plain 𝓤 H A;
+      in-mem =
+          Local.mem-whole 𝓤 H A W (Declared'.row Form.the-type);
+      of-mem = Local.whole-mem 𝓤 H A W (Declared'.row Form.the-type);
+    }) (List._∷_ (ShrRef.pShr (Array'.Array (Referent.rtF (Referent.fInt Syntax.w16))
+    768) 5 tt) (List._∷_ (Array.pArr (Array.eInt Syntax.w8) (Array.eInt-laws Syntax.w8) 36) (List._∷_ (Value.pVal record {
+      ty = Declared'.row Part.the-type;
+      one = Path'.refl;
+      val = Laws'10.val Part.the-type Laws'5.the-laws;
+      tells = Laws'10.tells Part.the-type Laws'5.the-laws;
+      still = Laws'10.still Part.the-type
+          Laws'5.the-copy Exit.yes;
+      row = Rows'.whole (Declared'.row Part.the-type);
+      rd = λ x. x;
+      mk = λ x. x;
+    } λ M 𝓤 H A W. record {
+      copies = Laws'10.copy Part.the-type Laws'5.the-copy 𝓤 H A W;
+      lawful = Laws'10.lawful Part.the-type Laws'5.the-laws 𝓤 H A W;
+      makes = Laws'10.makes Part.the-type Laws'5.the-plain 𝓤 H A;
+      in-mem =
+          Local.mem-whole 𝓤 H A W (Declared'.row Part.the-type);
+      of-mem = Local.whole-mem 𝓤 H A W (Declared'.row Part.the-type);
+    }) (List._∷_ (Num.pNum Syntax.w64) (List._∷_ Bool.pBool (List._∷_ (Value.pVal
+    record {
+      ty = Declared'.row Entries.the-type;
+      one = Path'.refl;
+      val = Laws'10.val Entries.the-type Laws'3.the-laws;
+      tells = Laws'10.tells Entries.the-type Laws'3.the-laws;
+      still = Laws'10.still
+          Entries.the-type Laws'3.the-copy Exit.yes;
+      row = Rows'.whole (Declared'.row Entries.the-type);
+      rd = λ x. x;
+      mk = λ x. x;
+    } λ M 𝓤 H A W. record {
+      copies = Laws'10.copy Entries.the-type Laws'3.the-copy 𝓤 H A W;
+      lawful = Laws'10.lawful Entries.the-type Laws'3.the-laws 𝓤 H A W;
+      makes = Laws'10.makes Entries.the-type Laws'3.the-plain 𝓤 H A;
+      in-mem = Local.mem-whole 𝓤 H A W (Declared'.row Entries.the-type);
+      of-mem = Local.whole-mem 𝓤 H A W (Declared'.row Entries.the-type);
+    }) List.[])))))))))))
 
 abbrev pub r : Kinds.RK 6
-r = Value.rVal record
-    { ty = Declared.row Walked.the-type; one = Path'.refl; val = Laws'9.val Walked.the-type Laws''.the-laws; tells = Laws'9.tells Walked.the-type Laws''.the-laws; still = Laws'9.still Walked.the-type
-    Laws''.the-copy Exit.yes; row = Rows'.whole (Declared.row Walked.the-type); rd = λ x. x; mk = λ x. x; } λ M 𝓤 H A W. record
-    { copies = Laws'9.copy Walked.the-type Laws''.the-copy 𝓤 H A W; lawful = Laws'9.lawful Walked.the-type Laws''.the-laws 𝓤 H A W tt; makes = Laws'9.makes Walked.the-type Laws''.the-plain 𝓤 H A; in-mem =
-    Local.mem-whole 𝓤 H A W (Declared.row Walked.the-type); of-mem = Local.whole-mem 𝓤 H A W (Declared.row Walked.the-type); }
+r = Value.rVal record {
+  ty = Declared.row Walked.the-type;
+  one = Path'.refl;
+  val = Laws'9.val Walked.the-type Laws''.the-laws;
+  tells = Laws'9.tells Walked.the-type Laws''.the-laws;
+  still = Laws'9.still Walked.the-type
+      Laws''.the-copy Exit.yes;
+  row = Rows'.whole (Declared.row Walked.the-type);
+  rd = λ x. x;
+  mk = λ x. x;
+} λ M 𝓤 H A W. record {
+  copies = Laws'9.copy Walked.the-type Laws''.the-copy 𝓤 H A W;
+  lawful = Laws'9.lawful Walked.the-type Laws''.the-laws 𝓤 H A W tt;
+  makes = Laws'9.makes Walked.the-type Laws''.the-plain 𝓤 H A;
+  in-mem =
+      Local.mem-whole 𝓤 H A W (Declared.row Walked.the-type);
+  of-mem = Local.whole-mem 𝓤 H A W (Declared.row Walked.the-type);
+}
 
 abbrev pub xs : List.List Syntax.Ty
 xs = List._∷_ (Syntax.tyInt Syntax.w32) (List._∷_ Syntax.tyBool (List._∷_ (Syntax.tyInt Syntax.w64) (List._∷_ y10 (List._∷_ y9 (List._∷_ (Syntax.tyInt Syntax.w64) (List._∷_ (Syntax.tyInt Syntax.w32)
@@ -208,21 +259,47 @@ abbrev pub ps·4 : List.List (Kinds.PK 0)
 ps·4 = List.[]
 
 abbrev pub r·4 : Kinds.RK 0
-r·4 = Value.rVal record
-    { ty = Declared'.row Place.the-type; one = Path'.refl; val = Laws'10.val Place.the-type Laws'4.the-laws; tells = Laws'10.tells Place.the-type Laws'4.the-laws; still = Laws'10.still Place.the-type
-    Laws'4.the-copy Exit.yes; row = Rows'.whole (Declared'.row Place.the-type); rd = λ x. x; mk = λ x. x; } λ M 𝓤 H A W. record
-    { copies = Laws'10.copy Place.the-type Laws'4.the-copy 𝓤 H A W; lawful = Laws'10.lawful Place.the-type Laws'4.the-laws 𝓤 H A W; makes = Laws'10.makes Place.the-type Laws'4.the-plain 𝓤 H A; in-mem =
-    Local.mem-whole 𝓤 H A W (Declared'.row Place.the-type); of-mem = Local.whole-mem 𝓤 H A W (Declared'.row Place.the-type); }
+r·4 = Value.rVal record {
+  ty = Declared'.row Place.the-type;
+  one = Path'.refl;
+  val = Laws'10.val Place.the-type Laws'4.the-laws;
+  tells = Laws'10.tells Place.the-type Laws'4.the-laws;
+  still = Laws'10.still Place.the-type
+      Laws'4.the-copy Exit.yes;
+  row = Rows'.whole (Declared'.row Place.the-type);
+  rd = λ x. x;
+  mk = λ x. x;
+} λ M 𝓤 H A W. record {
+  copies = Laws'10.copy Place.the-type Laws'4.the-copy 𝓤 H A W;
+  lawful = Laws'10.lawful Place.the-type Laws'4.the-laws 𝓤 H A W;
+  makes = Laws'10.makes Place.the-type Laws'4.the-plain 𝓤 H A;
+  in-mem =
+      Local.mem-whole 𝓤 H A W (Declared'.row Place.the-type);
+  of-mem = Local.whole-mem 𝓤 H A W (Declared'.row Place.the-type);
+}
 
 abbrev pub ps·5 : List.List (Kinds.PK 0)
 ps·5 = List.[]
 
 abbrev pub r·5 : Kinds.RK 0
-r·5 = Value.rVal record
-    { ty = Declared'.row TightLines.the-type; one = Path'.refl; val = Laws'10.val TightLines.the-type Laws'7.the-laws; tells = Laws'10.tells TightLines.the-type Laws'7.the-laws; still = Laws'10.still
-    TightLines.the-type Laws'7.the-copy Exit.yes; row = Rows'.whole (Declared'.row TightLines.the-type); rd = λ x. x; mk = λ x. x; } λ M 𝓤 H A W. record
-    { copies = Laws'10.copy TightLines.the-type Laws'7.the-copy 𝓤 H A W; lawful = Laws'10.lawful TightLines.the-type Laws'7.the-laws 𝓤 H A W; makes = Laws'10.makes TightLines.the-type Laws'7.the-plain 𝓤 H
-    A; in-mem = Local.mem-whole 𝓤 H A W (Declared'.row TightLines.the-type); of-mem = Local.whole-mem 𝓤 H A W (Declared'.row TightLines.the-type); }
+r·5 = Value.rVal record {
+  ty = Declared'.row TightLines.the-type;
+  one = Path'.refl;
+  val = Laws'10.val TightLines.the-type Laws'7.the-laws;
+  tells = Laws'10.tells TightLines.the-type Laws'7.the-laws;
+  still = Laws'10.still
+      TightLines.the-type Laws'7.the-copy Exit.yes;
+  row = Rows'.whole (Declared'.row TightLines.the-type);
+  rd = λ x. x;
+  mk = λ x. x;
+} λ M 𝓤 H A W. record {
+  copies = Laws'10.copy TightLines.the-type Laws'7.the-copy 𝓤 H A W;
+  lawful = Laws'10.lawful TightLines.the-type Laws'7.the-laws 𝓤 H A W;
+  makes = Laws'10.makes TightLines.the-type Laws'7.the-plain 𝓤 H
+      A;
+  in-mem = Local.mem-whole 𝓤 H A W (Declared'.row TightLines.the-type);
+  of-mem = Local.whole-mem 𝓤 H A W (Declared'.row TightLines.the-type);
+}
 
 abbrev pub ps·6 : List.List (Kinds.PK 1)
 ps·6 = List._∷_ (MutSlice.pMutS (Referent.rtF (Referent.fInt Syntax.w16)) 0 tt) (List._∷_ (Num.pNum Syntax.w64) (List._∷_ Bool.pBool List.[]))
@@ -243,99 +320,280 @@ abbrev pub r·8 : Kinds.RK 1
 r·8 = Unit'.rUnit
 
 abbrev pub ps·9 : List.List (Kinds.PK 0)
-ps·9 = List._∷_ (Value.pVal record
-    { ty = Declared'.row Entries.the-type; one = Path'.refl; val = Laws'10.val Entries.the-type Laws'3.the-laws; tells = Laws'10.tells Entries.the-type Laws'3.the-laws; still = Laws'10.still
-    Entries.the-type Laws'3.the-copy Exit.yes; row = Rows'.whole (Declared'.row Entries.the-type); rd = λ x. x; mk = λ x. x; } λ M 𝓤 H A W. record
-    { copies = Laws'10.copy Entries.the-type Laws'3.the-copy 𝓤 H A W; lawful = Laws'10.lawful Entries.the-type Laws'3.the-laws 𝓤 H A W; makes = Laws'10.makes Entries.the-type Laws'3.the-plain 𝓤 H A;
-    in-mem = Local.mem-whole 𝓤 H A W (Declared'.row Entries.the-type); of-mem = Local.whole-mem 𝓤 H A W (Declared'.row Entries.the-type); }) (List._∷_ (Num.pNum Syntax.w32) (List._∷_ (Num.pNum Syntax.w32)
+ps·9 = List._∷_ (Value.pVal record {
+  ty = Declared'.row Entries.the-type;
+  one = Path'.refl;
+  val = Laws'10.val Entries.the-type Laws'3.the-laws;
+  tells = Laws'10.tells Entries.the-type Laws'3.the-laws;
+  still = Laws'10.still
+      Entries.the-type Laws'3.the-copy Exit.yes;
+  row = Rows'.whole (Declared'.row Entries.the-type);
+  rd = λ x. x;
+  mk = λ x. x;
+} λ M 𝓤 H A W. record {
+  copies = Laws'10.copy Entries.the-type Laws'3.the-copy 𝓤 H A W;
+  lawful = Laws'10.lawful Entries.the-type Laws'3.the-laws 𝓤 H A W;
+  makes = Laws'10.makes Entries.the-type Laws'3.the-plain 𝓤 H A;
+  in-mem = Local.mem-whole 𝓤 H A W (Declared'.row Entries.the-type);
+  of-mem = Local.whole-mem 𝓤 H A W (Declared'.row Entries.the-type);
+}) (List._∷_ (Num.pNum Syntax.w32) (List._∷_ (Num.pNum Syntax.w32)
     List.[]))
 
 abbrev pub r·9 : Kinds.RK 0
-r·9 = Value.rVal record
-    { ty = Declared'.row Quantisers.the-type; one = Path'.refl; val = Laws'10.val Quantisers.the-type Laws'6.the-laws; tells = Laws'10.tells Quantisers.the-type Laws'6.the-laws; still = Laws'10.still
-    Quantisers.the-type Laws'6.the-copy Exit.yes; row = Rows'.whole (Declared'.row Quantisers.the-type); rd = λ x. x; mk = λ x. x; } λ M 𝓤 H A W. record
-    { copies = Laws'10.copy Quantisers.the-type Laws'6.the-copy 𝓤 H A W; lawful = Laws'10.lawful Quantisers.the-type Laws'6.the-laws 𝓤 H A W; makes = Laws'10.makes Quantisers.the-type Laws'6.the-plain 𝓤 H
-    A; in-mem = Local.mem-whole 𝓤 H A W (Declared'.row Quantisers.the-type); of-mem = Local.whole-mem 𝓤 H A W (Declared'.row Quantisers.the-type); }
+r·9 = Value.rVal record {
+  ty = Declared'.row Quantisers.the-type;
+  one = Path'.refl;
+  val = Laws'10.val Quantisers.the-type Laws'6.the-laws;
+  tells = Laws'10.tells Quantisers.the-type Laws'6.the-laws;
+  still = Laws'10.still
+      Quantisers.the-type Laws'6.the-copy Exit.yes;
+  row = Rows'.whole (Declared'.row Quantisers.the-type);
+  rd = λ x. x;
+  mk = λ x. x;
+} λ M 𝓤 H A W. record {
+  copies = Laws'10.copy Quantisers.the-type Laws'6.the-copy 𝓤 H A W;
+  lawful = Laws'10.lawful Quantisers.the-type Laws'6.the-laws 𝓤 H A W;
+  makes = Laws'10.makes Quantisers.the-type Laws'6.the-plain 𝓤 H
+      A;
+  in-mem = Local.mem-whole 𝓤 H A W (Declared'.row Quantisers.the-type);
+  of-mem = Local.whole-mem 𝓤 H A W (Declared'.row Quantisers.the-type);
+}
 
 abbrev pub ps·10 : List.List (Kinds.PK 5)
-ps·10 = List._∷_ (ShrSlice.pShrS (Referent.rtF (Referent.fInt Syntax.w8)) 0 tt) (List._∷_ (Value.pVal record
-    { ty = Declared'.row Place.the-type; one = Path'.refl; val = Laws'10.val Place.the-type Laws'4.the-laws; tells = Laws'10.tells Place.the-type Laws'4.the-laws; still = Laws'10.still Place.the-type
-    Laws'4.the-copy Exit.yes; row = Rows'.whole (Declared'.row Place.the-type); rd = λ x. x; mk = λ x. x; } λ M 𝓤 H A W. record
-    { copies = Laws'10.copy Place.the-type Laws'4.the-copy 𝓤 H A W; lawful = Laws'10.lawful Place.the-type Laws'4.the-laws 𝓤 H A W; makes = Laws'10.makes Place.the-type Laws'4.the-plain 𝓤 H A; in-mem =
-    Local.mem-whole 𝓤 H A W (Declared'.row Place.the-type); of-mem = Local.whole-mem 𝓤 H A W (Declared'.row Place.the-type); }) (List._∷_ (MutSlice.pMutS (Referent.rtF (Referent.fInt Syntax.w16)) 1 tt)
-    (List._∷_ (MutSlice.pMutS (Element.type) 2 tt) (List._∷_ (MutSlice.pMutS (Referent.rtF (Referent.fInt Syntax.w16)) 3 tt) (List._∷_ (Value.pVal record
-    { ty = Declared'.row Form.the-type; one = Path'.refl; val = Laws'10.val Form.the-type Laws.the-laws; tells = Laws'10.tells Form.the-type Laws.the-laws; still = Laws'10.still Form.the-type
-    Laws.the-copy Exit.yes; row = Rows'.whole (Declared'.row Form.the-type); rd = λ x. x; mk = λ x. x; } λ M 𝓤 H A W. record
-    { copies = Laws'10.copy Form.the-type Laws.the-copy 𝓤 H A W; lawful = Laws'10.lawful Form.the-type Laws.the-laws 𝓤 H A W; makes = Laws'10.makes Form.the-type Laws.the-plain 𝓤 H A; in-mem =
-    Local.mem-whole 𝓤 H A W (Declared'.row Form.the-type); of-mem = Local.whole-mem 𝓤 H A W (Declared'.row Form.the-type); }) (List._∷_ (Value.pVal record
-    { ty = Declared'.row Quantisers.the-type; one = Path'.refl; val = Laws'10.val Quantisers.the-type Laws'6.the-laws; tells = Laws'10.tells Quantisers.the-type Laws'6.the-laws; still = Laws'10.still
-    Quantisers.the-type Laws'6.the-copy Exit.yes; row = Rows'.whole (Declared'.row Quantisers.the-type); rd = λ x. x; mk = λ x. x; } λ M 𝓤 H A W. record
-    { copies = Laws'10.copy Quantisers.the-type Laws'6.the-copy 𝓤 H A W; lawful = Laws'10.lawful Quantisers.the-type Laws'6.the-laws 𝓤 H A W; makes = Laws'10.makes Quantisers.the-type Laws'6.the-plain 𝓤 H
-    A; in-mem = Local.mem-whole 𝓤 H A W (Declared'.row Quantisers.the-type); of-mem = Local.whole-mem 𝓤 H A W (Declared'.row Quantisers.the-type); }) (List._∷_ (ShrRef.pShr (Array'.Array (Referent.rtF
-    (Referent.fInt Syntax.w16)) 768) 4 tt) (List._∷_ (Array.pArr (Array.eInt Syntax.w8) (Array.eInt-laws Syntax.w8) 36) (List._∷_ (Value.pVal record
-    { ty = Declared'.row Part.the-type; one = Path'.refl; val = Laws'10.val Part.the-type Laws'5.the-laws; tells = Laws'10.tells Part.the-type Laws'5.the-laws; still = Laws'10.still Part.the-type
-    Laws'5.the-copy Exit.yes; row = Rows'.whole (Declared'.row Part.the-type); rd = λ x. x; mk = λ x. x; } λ M 𝓤 H A W. record
-    { copies = Laws'10.copy Part.the-type Laws'5.the-copy 𝓤 H A W; lawful = Laws'10.lawful Part.the-type Laws'5.the-laws 𝓤 H A W; makes = Laws'10.makes Part.the-type Laws'5.the-plain 𝓤 H A; in-mem =
-    Local.mem-whole 𝓤 H A W (Declared'.row Part.the-type); of-mem = Local.whole-mem 𝓤 H A W (Declared'.row Part.the-type); }) (List._∷_ (Num.pNum Syntax.w64) (List._∷_ Bool.pBool List.[])))))))))))
+ps·10 = List._∷_ (ShrSlice.pShrS (Referent.rtF (Referent.fInt Syntax.w8)) 0 tt) (List._∷_ (Value.pVal record {
+  ty = Declared'.row Place.the-type;
+  one = Path'.refl;
+  val = Laws'10.val Place.the-type Laws'4.the-laws;
+  tells = Laws'10.tells Place.the-type Laws'4.the-laws;
+  still = Laws'10.still Place.the-type
+      Laws'4.the-copy Exit.yes;
+  row = Rows'.whole (Declared'.row Place.the-type);
+  rd = λ x. x;
+  mk = λ x. x;
+} λ M 𝓤 H A W. record {
+  copies = Laws'10.copy Place.the-type Laws'4.the-copy 𝓤 H A W;
+  lawful = Laws'10.lawful Place.the-type Laws'4.the-laws 𝓤 H A W;
+  makes = Laws'10.makes Place.the-type Laws'4.the-plain 𝓤 H A;
+  in-mem =
+      Local.mem-whole 𝓤 H A W (Declared'.row Place.the-type);
+  of-mem = Local.whole-mem 𝓤 H A W (Declared'.row Place.the-type);
+}) (List._∷_ (MutSlice.pMutS (Referent.rtF (Referent.fInt Syntax.w16)) 1 tt)
+    (List._∷_ (MutSlice.pMutS (Element.type) 2 tt) (List._∷_ (MutSlice.pMutS (Referent.rtF (Referent.fInt Syntax.w16)) 3 tt) (List._∷_ (Value.pVal record {
+      ty = Declared'.row Form.the-type;
+      one = Path'.refl;
+      val = Laws'10.val Form.the-type Laws.the-laws;
+      tells = Laws'10.tells Form.the-type Laws.the-laws;
+      still = Laws'10.still Form.the-type
+          Laws.the-copy Exit.yes;
+      row = Rows'.whole (Declared'.row Form.the-type);
+      rd = λ x. x;
+      mk = λ x. x;
+    } λ M 𝓤 H A W. record {
+      copies = Laws'10.copy Form.the-type Laws.the-copy 𝓤 H A W;
+      lawful = Laws'10.lawful Form.the-type Laws.the-laws 𝓤 H A W;
+      makes = Laws'10.makes Form.the-type Laws.the-plain 𝓤 H A;
+      in-mem =
+          Local.mem-whole 𝓤 H A W (Declared'.row Form.the-type);
+      of-mem = Local.whole-mem 𝓤 H A W (Declared'.row Form.the-type);
+    }) (List._∷_ (Value.pVal record {
+      ty = Declared'.row Quantisers.the-type;
+      one = Path'.refl;
+      val = Laws'10.val Quantisers.the-type Laws'6.the-laws;
+      tells = Laws'10.tells Quantisers.the-type Laws'6.the-laws;
+      still = Laws'10.still
+          Quantisers.the-type Laws'6.the-copy Exit.yes;
+      row = Rows'.whole (Declared'.row Quantisers.the-type);
+      rd = λ x. x;
+      mk = λ x. x;
+    } λ M 𝓤 H A W. record {
+      copies = Laws'10.copy Quantisers.the-type Laws'6.the-copy 𝓤 H A W;
+      lawful = Laws'10.lawful Quantisers.the-type Laws'6.the-laws 𝓤 H A W;
+      makes = Laws'10.makes Quantisers.the-type Laws'6.the-plain 𝓤 H
+          A;
+      in-mem = Local.mem-whole 𝓤 H A W (Declared'.row Quantisers.the-type);
+      of-mem = Local.whole-mem 𝓤 H A W (Declared'.row Quantisers.the-type);
+    }) (List._∷_ (ShrRef.pShr (Array'.Array (Referent.rtF
+    (Referent.fInt Syntax.w16)) 768) 4 tt) (List._∷_ (Array.pArr (Array.eInt Syntax.w8) (Array.eInt-laws Syntax.w8) 36) (List._∷_ (Value.pVal record {
+      ty = Declared'.row Part.the-type;
+      one = Path'.refl;
+      val = Laws'10.val Part.the-type Laws'5.the-laws;
+      tells = Laws'10.tells Part.the-type Laws'5.the-laws;
+      still = Laws'10.still Part.the-type
+          Laws'5.the-copy Exit.yes;
+      row = Rows'.whole (Declared'.row Part.the-type);
+      rd = λ x. x;
+      mk = λ x. x;
+    } λ M 𝓤 H A W. record {
+      copies = Laws'10.copy Part.the-type Laws'5.the-copy 𝓤 H A W;
+      lawful = Laws'10.lawful Part.the-type Laws'5.the-laws 𝓤 H A W;
+      makes = Laws'10.makes Part.the-type Laws'5.the-plain 𝓤 H A;
+      in-mem =
+          Local.mem-whole 𝓤 H A W (Declared'.row Part.the-type);
+      of-mem = Local.whole-mem 𝓤 H A W (Declared'.row Part.the-type);
+    }) (List._∷_ (Num.pNum Syntax.w64) (List._∷_ Bool.pBool List.[])))))))))))
 
 abbrev pub r·10 : Kinds.RK 5
-r·10 = Value.rVal record
-    { ty = Declared.row Lined.the-type; one = Path'.refl; val = Laws'9.val Lined.the-type Laws'.the-laws; tells = Laws'9.tells Lined.the-type Laws'.the-laws; still = Laws'9.still Lined.the-type
-    Laws'.the-copy Exit.yes; row = Rows'.whole (Declared.row Lined.the-type); rd = λ x. x; mk = λ x. x; } λ M 𝓤 H A W. record
-    { copies = Laws'9.copy Lined.the-type Laws'.the-copy 𝓤 H A W; lawful = Laws'9.lawful Lined.the-type Laws'.the-laws 𝓤 H A W tt; makes = Laws'9.makes Lined.the-type Laws'.the-plain 𝓤 H A; in-mem =
-    Local.mem-whole 𝓤 H A W (Declared.row Lined.the-type); of-mem = Local.whole-mem 𝓤 H A W (Declared.row Lined.the-type); }
+r·10 = Value.rVal record {
+  ty = Declared.row Lined.the-type;
+  one = Path'.refl;
+  val = Laws'9.val Lined.the-type Laws'.the-laws;
+  tells = Laws'9.tells Lined.the-type Laws'.the-laws;
+  still = Laws'9.still Lined.the-type
+      Laws'.the-copy Exit.yes;
+  row = Rows'.whole (Declared.row Lined.the-type);
+  rd = λ x. x;
+  mk = λ x. x;
+} λ M 𝓤 H A W. record {
+  copies = Laws'9.copy Lined.the-type Laws'.the-copy 𝓤 H A W;
+  lawful = Laws'9.lawful Lined.the-type Laws'.the-laws 𝓤 H A W tt;
+  makes = Laws'9.makes Lined.the-type Laws'.the-plain 𝓤 H A;
+  in-mem =
+      Local.mem-whole 𝓤 H A W (Declared.row Lined.the-type);
+  of-mem = Local.whole-mem 𝓤 H A W (Declared.row Lined.the-type);
+}
 
 abbrev pub ps·11 : List.List (Kinds.PK 1)
-ps·11 = List._∷_ (MutSlice.pMutS (Referent.rtF (Referent.fInt Syntax.w16)) 0 tt) (List._∷_ (Value.pVal record
-    { ty = Declared'.row Part.the-type; one = Path'.refl; val = Laws'10.val Part.the-type Laws'5.the-laws; tells = Laws'10.tells Part.the-type Laws'5.the-laws; still = Laws'10.still Part.the-type
-    Laws'5.the-copy Exit.yes; row = Rows'.whole (Declared'.row Part.the-type); rd = λ x. x; mk = λ x. x; } λ M 𝓤 H A W. record
-    { copies = Laws'10.copy Part.the-type Laws'5.the-copy 𝓤 H A W; lawful = Laws'10.lawful Part.the-type Laws'5.the-laws 𝓤 H A W; makes = Laws'10.makes Part.the-type Laws'5.the-plain 𝓤 H A; in-mem =
-    Local.mem-whole 𝓤 H A W (Declared'.row Part.the-type); of-mem = Local.whole-mem 𝓤 H A W (Declared'.row Part.the-type); }) (List._∷_ (Num.pNum Syntax.w64) (List._∷_ Bool.pBool List.[])))
+ps·11 = List._∷_ (MutSlice.pMutS (Referent.rtF (Referent.fInt Syntax.w16)) 0 tt) (List._∷_ (Value.pVal record {
+  ty = Declared'.row Part.the-type;
+  one = Path'.refl;
+  val = Laws'10.val Part.the-type Laws'5.the-laws;
+  tells = Laws'10.tells Part.the-type Laws'5.the-laws;
+  still = Laws'10.still Part.the-type
+      Laws'5.the-copy Exit.yes;
+  row = Rows'.whole (Declared'.row Part.the-type);
+  rd = λ x. x;
+  mk = λ x. x;
+} λ M 𝓤 H A W. record {
+  copies = Laws'10.copy Part.the-type Laws'5.the-copy 𝓤 H A W;
+  lawful = Laws'10.lawful Part.the-type Laws'5.the-laws 𝓤 H A W;
+  makes = Laws'10.makes Part.the-type Laws'5.the-plain 𝓤 H A;
+  in-mem =
+      Local.mem-whole 𝓤 H A W (Declared'.row Part.the-type);
+  of-mem = Local.whole-mem 𝓤 H A W (Declared'.row Part.the-type);
+}) (List._∷_ (Num.pNum Syntax.w64) (List._∷_ Bool.pBool List.[])))
 
 abbrev pub r·11 : Kinds.RK 1
 r·11 = Unit'.rUnit
 
 abbrev pub ps·12 : List.List (Kinds.PK 0)
-ps·12 = List._∷_ (Value.pVal record
-    { ty = Declared'.row Place.the-type; one = Path'.refl; val = Laws'10.val Place.the-type Laws'4.the-laws; tells = Laws'10.tells Place.the-type Laws'4.the-laws; still = Laws'10.still Place.the-type
-    Laws'4.the-copy Exit.yes; row = Rows'.whole (Declared'.row Place.the-type); rd = λ x. x; mk = λ x. x; } λ M 𝓤 H A W. record
-    { copies = Laws'10.copy Place.the-type Laws'4.the-copy 𝓤 H A W; lawful = Laws'10.lawful Place.the-type Laws'4.the-laws 𝓤 H A W; makes = Laws'10.makes Place.the-type Laws'4.the-plain 𝓤 H A; in-mem =
-    Local.mem-whole 𝓤 H A W (Declared'.row Place.the-type); of-mem = Local.whole-mem 𝓤 H A W (Declared'.row Place.the-type); }) List.[]
+ps·12 = List._∷_ (Value.pVal record {
+  ty = Declared'.row Place.the-type;
+  one = Path'.refl;
+  val = Laws'10.val Place.the-type Laws'4.the-laws;
+  tells = Laws'10.tells Place.the-type Laws'4.the-laws;
+  still = Laws'10.still Place.the-type
+      Laws'4.the-copy Exit.yes;
+  row = Rows'.whole (Declared'.row Place.the-type);
+  rd = λ x. x;
+  mk = λ x. x;
+} λ M 𝓤 H A W. record {
+  copies = Laws'10.copy Place.the-type Laws'4.the-copy 𝓤 H A W;
+  lawful = Laws'10.lawful Place.the-type Laws'4.the-laws 𝓤 H A W;
+  makes = Laws'10.makes Place.the-type Laws'4.the-plain 𝓤 H A;
+  in-mem =
+      Local.mem-whole 𝓤 H A W (Declared'.row Place.the-type);
+  of-mem = Local.whole-mem 𝓤 H A W (Declared'.row Place.the-type);
+}) List.[]
 
 abbrev pub r·12 : Kinds.RK 0
-r·12 = Value.rVal record
-    { ty = Declared'.row Totals.the-type; one = Path'.refl; val = Laws'10.val Totals.the-type Laws'8.the-laws; tells = Laws'10.tells Totals.the-type Laws'8.the-laws; still = Laws'10.still Totals.the-type
-    Laws'8.the-copy Exit.yes; row = Rows'.whole (Declared'.row Totals.the-type); rd = λ x. x; mk = λ x. x; } λ M 𝓤 H A W. record
-    { copies = Laws'10.copy Totals.the-type Laws'8.the-copy 𝓤 H A W; lawful = Laws'10.lawful Totals.the-type Laws'8.the-laws 𝓤 H A W; makes = Laws'10.makes Totals.the-type Laws'8.the-plain 𝓤 H A; in-mem =
-    Local.mem-whole 𝓤 H A W (Declared'.row Totals.the-type); of-mem = Local.whole-mem 𝓤 H A W (Declared'.row Totals.the-type); }
+r·12 = Value.rVal record {
+  ty = Declared'.row Totals.the-type;
+  one = Path'.refl;
+  val = Laws'10.val Totals.the-type Laws'8.the-laws;
+  tells = Laws'10.tells Totals.the-type Laws'8.the-laws;
+  still = Laws'10.still Totals.the-type
+      Laws'8.the-copy Exit.yes;
+  row = Rows'.whole (Declared'.row Totals.the-type);
+  rd = λ x. x;
+  mk = λ x. x;
+} λ M 𝓤 H A W. record {
+  copies = Laws'10.copy Totals.the-type Laws'8.the-copy 𝓤 H A W;
+  lawful = Laws'10.lawful Totals.the-type Laws'8.the-laws 𝓤 H A W;
+  makes = Laws'10.makes Totals.the-type Laws'8.the-plain 𝓤 H A;
+  in-mem =
+      Local.mem-whole 𝓤 H A W (Declared'.row Totals.the-type);
+  of-mem = Local.whole-mem 𝓤 H A W (Declared'.row Totals.the-type);
+}
 
 abbrev pub ps·13 : List.List (Kinds.PK 0)
-ps·13 = List._∷_ (Value.pVal record
-    { ty = Declared'.row TightLines.the-type; one = Path'.refl; val = Laws'10.val TightLines.the-type Laws'7.the-laws; tells = Laws'10.tells TightLines.the-type Laws'7.the-laws; still = Laws'10.still
-    TightLines.the-type Laws'7.the-copy Exit.yes; row = Rows'.whole (Declared'.row TightLines.the-type); rd = λ x. x; mk = λ x. x; } λ M 𝓤 H A W. record
-    { copies = Laws'10.copy TightLines.the-type Laws'7.the-copy 𝓤 H A W; lawful = Laws'10.lawful TightLines.the-type Laws'7.the-laws 𝓤 H A W; makes = Laws'10.makes TightLines.the-type Laws'7.the-plain 𝓤 H
-    A; in-mem = Local.mem-whole 𝓤 H A W (Declared'.row TightLines.the-type); of-mem = Local.whole-mem 𝓤 H A W (Declared'.row TightLines.the-type); }) (List._∷_ (Num.pNum Syntax.w64) (List._∷_ Bool.pBool
-    (List._∷_ (Value.pVal record
-    { ty = Declared'.row Totals.the-type; one = Path'.refl; val = Laws'10.val Totals.the-type Laws'8.the-laws; tells = Laws'10.tells Totals.the-type Laws'8.the-laws; still = Laws'10.still Totals.the-type
-    Laws'8.the-copy Exit.yes; row = Rows'.whole (Declared'.row Totals.the-type); rd = λ x. x; mk = λ x. x; } λ M 𝓤 H A W. record
-    { copies = Laws'10.copy Totals.the-type Laws'8.the-copy 𝓤 H A W; lawful = Laws'10.lawful Totals.the-type Laws'8.the-laws 𝓤 H A W; makes = Laws'10.makes Totals.the-type Laws'8.the-plain 𝓤 H A; in-mem =
-    Local.mem-whole 𝓤 H A W (Declared'.row Totals.the-type); of-mem = Local.whole-mem 𝓤 H A W (Declared'.row Totals.the-type); }) List.[])))
+ps·13 = List._∷_ (Value.pVal record {
+  ty = Declared'.row TightLines.the-type;
+  one = Path'.refl;
+  val = Laws'10.val TightLines.the-type Laws'7.the-laws;
+  tells = Laws'10.tells TightLines.the-type Laws'7.the-laws;
+  still = Laws'10.still
+      TightLines.the-type Laws'7.the-copy Exit.yes;
+  row = Rows'.whole (Declared'.row TightLines.the-type);
+  rd = λ x. x;
+  mk = λ x. x;
+} λ M 𝓤 H A W. record {
+  copies = Laws'10.copy TightLines.the-type Laws'7.the-copy 𝓤 H A W;
+  lawful = Laws'10.lawful TightLines.the-type Laws'7.the-laws 𝓤 H A W;
+  makes = Laws'10.makes TightLines.the-type Laws'7.the-plain 𝓤 H
+      A;
+  in-mem = Local.mem-whole 𝓤 H A W (Declared'.row TightLines.the-type);
+  of-mem = Local.whole-mem 𝓤 H A W (Declared'.row TightLines.the-type);
+}) (List._∷_ (Num.pNum Syntax.w64) (List._∷_ Bool.pBool
+    (List._∷_ (Value.pVal record {
+      ty = Declared'.row Totals.the-type;
+      one = Path'.refl;
+      val = Laws'10.val Totals.the-type Laws'8.the-laws;
+      tells = Laws'10.tells Totals.the-type Laws'8.the-laws;
+      still = Laws'10.still Totals.the-type
+          Laws'8.the-copy Exit.yes;
+      row = Rows'.whole (Declared'.row Totals.the-type);
+      rd = λ x. x;
+      mk = λ x. x;
+    } λ M 𝓤 H A W. record {
+      copies = Laws'10.copy Totals.the-type Laws'8.the-copy 𝓤 H A W;
+      lawful = Laws'10.lawful Totals.the-type Laws'8.the-laws 𝓤 H A W;
+      makes = Laws'10.makes Totals.the-type Laws'8.the-plain 𝓤 H A;
+      in-mem =
+          Local.mem-whole 𝓤 H A W (Declared'.row Totals.the-type);
+      of-mem = Local.whole-mem 𝓤 H A W (Declared'.row Totals.the-type);
+    }) List.[])))
 
 abbrev pub r·13 : Kinds.RK 0
-r·13 = Value.rVal record
-    { ty = Declared'.row TightLines.the-type; one = Path'.refl; val = Laws'10.val TightLines.the-type Laws'7.the-laws; tells = Laws'10.tells TightLines.the-type Laws'7.the-laws; still = Laws'10.still
-    TightLines.the-type Laws'7.the-copy Exit.yes; row = Rows'.whole (Declared'.row TightLines.the-type); rd = λ x. x; mk = λ x. x; } λ M 𝓤 H A W. record
-    { copies = Laws'10.copy TightLines.the-type Laws'7.the-copy 𝓤 H A W; lawful = Laws'10.lawful TightLines.the-type Laws'7.the-laws 𝓤 H A W; makes = Laws'10.makes TightLines.the-type Laws'7.the-plain 𝓤 H
-    A; in-mem = Local.mem-whole 𝓤 H A W (Declared'.row TightLines.the-type); of-mem = Local.whole-mem 𝓤 H A W (Declared'.row TightLines.the-type); }
+r·13 = Value.rVal record {
+  ty = Declared'.row TightLines.the-type;
+  one = Path'.refl;
+  val = Laws'10.val TightLines.the-type Laws'7.the-laws;
+  tells = Laws'10.tells TightLines.the-type Laws'7.the-laws;
+  still = Laws'10.still
+      TightLines.the-type Laws'7.the-copy Exit.yes;
+  row = Rows'.whole (Declared'.row TightLines.the-type);
+  rd = λ x. x;
+  mk = λ x. x;
+} λ M 𝓤 H A W. record {
+  copies = Laws'10.copy TightLines.the-type Laws'7.the-copy 𝓤 H A W;
+  lawful = Laws'10.lawful TightLines.the-type Laws'7.the-laws 𝓤 H A W;
+  makes = Laws'10.makes TightLines.the-type Laws'7.the-plain 𝓤 H
+      A;
+  in-mem = Local.mem-whole 𝓤 H A W (Declared'.row TightLines.the-type);
+  of-mem = Local.whole-mem 𝓤 H A W (Declared'.row TightLines.the-type);
+}
 
 abbrev pub ps·14 : List.List (Kinds.PK 3)
 ps·14 = List._∷_ (ShrSlice.pShrS (Referent.rtF (Referent.fInt Syntax.w16)) 0 tt) (List._∷_ (MutSlice.pMutS (Referent.rtF (Referent.fInt Syntax.w16)) 1 tt) (List._∷_ (Num.pNum Syntax.w64) (List._∷_
     Bool.pBool (List._∷_ (ShrRef.pShr (Array'.Array (Referent.rtF (Referent.fInt Syntax.w16)) 768) 2 tt) (List._∷_ (Array.pArr (Array.eInt Syntax.w8) (Array.eInt-laws Syntax.w8) 36) (List._∷_ (Value.pVal
-    record
-    { ty = Declared'.row Part.the-type; one = Path'.refl; val = Laws'10.val Part.the-type Laws'5.the-laws; tells = Laws'10.tells Part.the-type Laws'5.the-laws; still = Laws'10.still Part.the-type
-    Laws'5.the-copy Exit.yes; row = Rows'.whole (Declared'.row Part.the-type); rd = λ x. x; mk = λ x. x; } λ M 𝓤 H A W. record
-    { copies = Laws'10.copy Part.the-type Laws'5.the-copy 𝓤 H A W; lawful = Laws'10.lawful Part.the-type Laws'5.the-laws 𝓤 H A W; makes = Laws'10.makes Part.the-type Laws'5.the-plain 𝓤 H A; in-mem =
-    Local.mem-whole 𝓤 H A W (Declared'.row Part.the-type); of-mem = Local.whole-mem 𝓤 H A W (Declared'.row Part.the-type); }) (List._∷_ (Num.pNum Syntax.w64) (List._∷_ Bool.pBool List.[]))))))))
+    record {
+      ty = Declared'.row Part.the-type;
+      one = Path'.refl;
+      val = Laws'10.val Part.the-type Laws'5.the-laws;
+      tells = Laws'10.tells Part.the-type Laws'5.the-laws;
+      still = Laws'10.still Part.the-type
+          Laws'5.the-copy Exit.yes;
+      row = Rows'.whole (Declared'.row Part.the-type);
+      rd = λ x. x;
+      mk = λ x. x;
+    } λ M 𝓤 H A W. record {
+      copies = Laws'10.copy Part.the-type Laws'5.the-copy 𝓤 H A W;
+      lawful = Laws'10.lawful Part.the-type Laws'5.the-laws 𝓤 H A W;
+      makes = Laws'10.makes Part.the-type Laws'5.the-plain 𝓤 H A;
+      in-mem =
+          Local.mem-whole 𝓤 H A W (Declared'.row Part.the-type);
+      of-mem = Local.whole-mem 𝓤 H A W (Declared'.row Part.the-type);
+    }) (List._∷_ (Num.pNum Syntax.w64) (List._∷_ Bool.pBool List.[]))))))))
 
 abbrev pub r·14 : Kinds.RK 3
 r·14 = Unit'.rUnit
@@ -703,9 +961,11 @@ Claims = Kinds.In 0 ps·0 × Kinds.Out 0 ps·0 r·0 × Kinds.In 1 ps·1 × Kinds
     Kinds.In 3 ps·14 × Kinds.Out 3 ps·14 r·14
 
 abbrev pub e0 : Row.Entry
-e0 =
-    (0, Rows'.any-gone (Syntax.tyEnum (List._∷_ 98 (List._∷_ 108 (List._∷_ 111 (List._∷_ 99 (List._∷_ 107 (List._∷_ 58 (List._∷_ 58 (List._∷_ 87 (List._∷_ 97 (List._∷_ 108 (List._∷_ 107 (List._∷_ 101
-    (List._∷_ 100 List.[]))))))))))))) (Syntax.ttcons (Syntax.tcons y3 (Syntax.tcons y9 Syntax.tnil)) (Syntax.ttcons (Syntax.tcons (Syntax.tyInt Syntax.w64) (Syntax.tcons y3 Syntax.tnil)) Syntax.ttnil))))
+e0 = (
+  0,
+  Rows'.any-gone (Syntax.tyEnum (List._∷_ 98 (List._∷_ 108 (List._∷_ 111 (List._∷_ 99 (List._∷_ 107 (List._∷_ 58 (List._∷_ 58 (List._∷_ 87 (List._∷_ 97 (List._∷_ 108 (List._∷_ 107 (List._∷_ 101
+      (List._∷_ 100 List.[]))))))))))))) (Syntax.ttcons (Syntax.tcons y3 (Syntax.tcons y9 Syntax.tnil)) (Syntax.ttcons (Syntax.tcons (Syntax.tyInt Syntax.w64) (Syntax.tcons y3 Syntax.tnil)) Syntax.ttnil))),
+)
 
 abbrev pub e1 : Row.Entry
 e1 = (0, Rows'.whole (Declared.row Walked.the-type))
@@ -777,9 +1037,11 @@ abbrev pub e23 : Row.Entry
 e23 = (2, Rows'.sslice (Referent.rtF (Referent.fInt Syntax.w8)) (Syntax.tyRef (Syntax.named 1) Syntax.imm (Syntax.tyInt Syntax.w8)) 1)
 
 abbrev pub e24 : Row.Entry
-e24 =
-    (20, Rows'.any-gone (Syntax.tyEnum (List._∷_ 98 (List._∷_ 108 (List._∷_ 111 (List._∷_ 99 (List._∷_ 107 (List._∷_ 58 (List._∷_ 58 (List._∷_ 76 (List._∷_ 105 (List._∷_ 110 (List._∷_ 101 (List._∷_ 100
-    List.[])))))))))))) (Syntax.ttcons (Syntax.tcons y10 Syntax.tnil) (Syntax.ttcons Syntax.tnil Syntax.ttnil))))
+e24 = (
+  20,
+  Rows'.any-gone (Syntax.tyEnum (List._∷_ 98 (List._∷_ 108 (List._∷_ 111 (List._∷_ 99 (List._∷_ 107 (List._∷_ 58 (List._∷_ 58 (List._∷_ 76 (List._∷_ 105 (List._∷_ 110 (List._∷_ 101 (List._∷_ 100
+      List.[])))))))))))) (Syntax.ttcons (Syntax.tcons y10 Syntax.tnil) (Syntax.ttcons Syntax.tnil Syntax.ttnil))),
+)
 
 abbrev pub e25 : Row.Entry
 e25 = (20, Rows'.whole (Declared.row Lined.the-type))
@@ -1812,7 +2074,7 @@ module _ (claims· : Claims) where
       Syntax.w16)) (Syntax.tyRef Syntax.erased Syntax.mut (Syntax.tyInt Syntax.w16)) (λ x. x) (Scalar.oFld 3 (List._∷_ (Syntax.field 1) List.[]) (Syntax.tyInt Syntax.w64) 8 λ v. Shared.lenV (v .0))
 
   abbrev s10 : Typed.Both T11 T12
-  s10 = Call.callB ps·1 r·1 (claims· .2) (claims· .3) T11 (record { pos = 24; ty = Syntax.tyRef Syntax.erased Syntax.mut (Syntax.tyInt Syntax.w16); ref = λ x. x; }, tt) 22 (List._∷_ 6 List.[])
+  s10 = Call.callB ps·1 r·1 (claims· .2) (claims· .3) T11 (record { pos = 24; ty = Syntax.tyRef Syntax.erased Syntax.mut (Syntax.tyInt Syntax.w16); ref = λ x. x }, tt) 22 (List._∷_ 6 List.[])
       Syntax.tyUnit
 
   abbrev s11 : Typed.Mo T12 → Typed.Mo T13
@@ -1833,11 +2095,11 @@ module _ (claims· : Claims) where
       x. x) (Scalar.oFld 4 (List._∷_ (Syntax.field 1) List.[]) (Syntax.tyInt Syntax.w64) 8 λ v. Shared.lenV (v .0))
 
   abbrev s19 : Typed.Both T20 T21
-  s19 = Call.callB ps·2 r·2 (claims· .4) (claims· .5) T20 (record { pos = 2; ty = Syntax.tyRef (Syntax.named 1) Syntax.imm (Syntax.tyInt Syntax.w8); ref = λ x. x; }, (Num.vLit 0, tt)) 27 (List._∷_ 1
+  s19 = Call.callB ps·2 r·2 (claims· .4) (claims· .5) T20 (record { pos = 2; ty = Syntax.tyRef (Syntax.named 1) Syntax.imm (Syntax.tyInt Syntax.w8); ref = λ x. x }, (Num.vLit 0, tt)) 27 (List._∷_ 1
       List.[]) (Syntax.tyInt Syntax.w32)
 
   abbrev s20 : Typed.Both T21 T22
-  s20 = Call.callB ps·3 r·3 (claims· .6) (claims· .7) T21 (record { pos = 26; ty = Syntax.tyRef Syntax.erased Syntax.mut Element.behind; ref = λ x. x; }, (Num.vAt 13 λ x. x, (Num.vAt 27 λ x. x, tt)))
+  s20 = Call.callB ps·3 r·3 (claims· .6) (claims· .7) T21 (record { pos = 26; ty = Syntax.tyRef Syntax.erased Syntax.mut Element.behind; ref = λ x. x }, (Num.vAt 13 λ x. x, (Num.vAt 27 λ x. x, tt)))
       22 (List._∷_ 7 List.[]) Syntax.tyUnit
 
   abbrev s21 : Typed.Mo T22 → Typed.Mo T23
@@ -1893,7 +2155,7 @@ module _ (claims· : Claims) where
 
   abbrev s40 : Typed.Both T43 T44
   s40 = Call.callB ps·6 r·6 (claims· .12) (claims· .13) T43
-      (record { pos = 31; ty = Syntax.tyRef Syntax.erased Syntax.mut (Syntax.tyInt Syntax.w16); ref = λ x. x; }, (Num.vAt 15 λ x. x, (Bool.bAt 28 λ x. x, tt))) 29 (List._∷_ 8 List.[]) Syntax.tyUnit
+      (record { pos = 31; ty = Syntax.tyRef Syntax.erased Syntax.mut (Syntax.tyInt Syntax.w16); ref = λ x. x }, (Num.vAt 15 λ x. x, (Bool.bAt 28 λ x. x, tt))) 29 (List._∷_ 8 List.[]) Syntax.tyUnit
 
   abbrev s41 : Typed.Mo T44 → Typed.Mo T45
   s41 = Scalar.n-room T44 28 Syntax.tyBool
@@ -1909,7 +2171,7 @@ module _ (claims· : Claims) where
   s45 = Know.k-sl-known (Referent.fInt Syntax.w16) T48 3 2 (Syntax.tyRef (Syntax.named 2) Syntax.mut (Syntax.tyInt Syntax.w16)) Row.off 0 λ x. x
 
   abbrev s47 : Typed.Both T49 T51
-  s47 = Call.callB ps·2 r·2 (claims· .4) (claims· .5) T49 (record { pos = 2; ty = Syntax.tyRef (Syntax.named 1) Syntax.imm (Syntax.tyInt Syntax.w8); ref = λ x. x; }, (Num.vAt 18 λ x. x, tt)) 19
+  s47 = Call.callB ps·2 r·2 (claims· .4) (claims· .5) T49 (record { pos = 2; ty = Syntax.tyRef (Syntax.named 1) Syntax.imm (Syntax.tyInt Syntax.w8); ref = λ x. x }, (Num.vAt 18 λ x. x, tt)) 19
       (List._∷_ 1 List.[]) (Syntax.tyInt Syntax.w32)
 
   abbrev s49 : Typed.Gives T51 T53
@@ -1920,12 +2182,12 @@ module _ (claims· : Claims) where
       x. x) (Scalar.oFld 4 (List._∷_ (Syntax.field 1) List.[]) (Syntax.tyInt Syntax.w64) 8 λ v. Shared.lenV (v .0))
 
   abbrev s51 : Typed.Both T54 T55
-  s51 = Call.callB ps·7 r·7 (claims· .14) (claims· .15) T54 (record { pos = 2; ty = Syntax.tyRef (Syntax.named 1) Syntax.imm (Syntax.tyInt Syntax.w8); ref = λ x. x; }, (Num.vAt 18 λ x. x, tt)) 28
+  s51 = Call.callB ps·7 r·7 (claims· .14) (claims· .15) T54 (record { pos = 2; ty = Syntax.tyRef (Syntax.named 1) Syntax.imm (Syntax.tyInt Syntax.w8); ref = λ x. x }, (Num.vAt 18 λ x. x, tt)) 28
       (List._∷_ 1 List.[]) Syntax.tyBool
 
   abbrev s52 : Typed.Both T55 T56
   s52 = Call.callB ps·8 r·8 (claims· .16) (claims· .17) T55
-      (record { pos = 33; ty = Syntax.tyRef Syntax.erased Syntax.mut Element.behind; ref = λ x. x; }, (Num.vAt 13 λ x. x, (Num.vAt 19 λ x. x, (Bool.bAt 28 λ x. x, tt)))) 29 (List._∷_ 9 List.[])
+      (record { pos = 33; ty = Syntax.tyRef Syntax.erased Syntax.mut Element.behind; ref = λ x. x }, (Num.vAt 13 λ x. x, (Num.vAt 19 λ x. x, (Bool.bAt 28 λ x. x, tt)))) 29 (List._∷_ 9 List.[])
       Syntax.tyUnit
 
   abbrev s53 : Typed.Mo T56 → Typed.Mo T57
@@ -1964,16 +2226,31 @@ module _ (claims· : Claims) where
   s67 = Call.callB ps·9 r·9 (claims· .18) (claims· .19) T70 (record { pos = 12; st = List.[]; d = 0; at = λ x. x }, (Num.vAt 13 λ x. x, (Num.vAt 19 λ x. x, tt))) 40 List.[] y2
 
   abbrev s68 : Typed.Both T71 T72
-  s68 = Call.callB ps·10 r·10 (claims· .20) (claims· .21) T71
-      (record { pos = 1; ty = Syntax.tyRef (Syntax.named 0) Syntax.imm (Syntax.tyInt Syntax.w8); ref = λ x. x; },
-      (record { pos = 16; st = List.[]; d = 0; at = λ x. x },
-      (record { pos = 35; ty = Syntax.tyRef Syntax.erased Syntax.mut (Syntax.tyInt Syntax.w16); ref = λ x. x; },
-      (record { pos = 37; ty = Syntax.tyRef Syntax.erased Syntax.mut Element.behind; ref = λ x. x; },
-      (record { pos = 39; ty = Syntax.tyRef Syntax.erased Syntax.mut (Syntax.tyInt Syntax.w16); ref = λ x. x; },
-      (record { pos = 6; st = List.[]; d = 0; at = λ x. x },
-      (record { pos = 40; st = List.[]; d = 0; at = λ x. x },
-      (record { pos = 7; ty = Syntax.tyRef (Syntax.named 5) Syntax.imm (Syntax.tyArray (Syntax.tyInt Syntax.w16) 768); ref = λ x. x; },
-      (record { pos = 8; st = List.[]; d = 0; at = λ x. x }, (record { pos = 9; st = List.[]; d = 0; at = λ x. x }, (Num.vAt 18 λ x. x, (Bool.bAt 11 λ x. x, tt)))))))))))) 20 (List._∷_ 0 (List._∷_ 10
+  s68 = Call.callB ps·10 r·10 (claims· .20) (claims· .21) T71 (
+    record { pos = 1; ty = Syntax.tyRef (Syntax.named 0) Syntax.imm (Syntax.tyInt Syntax.w8); ref = λ x. x },
+    (
+      record { pos = 16; st = List.[]; d = 0; at = λ x. x },
+      (
+        record { pos = 35; ty = Syntax.tyRef Syntax.erased Syntax.mut (Syntax.tyInt Syntax.w16); ref = λ x. x },
+        (
+          record { pos = 37; ty = Syntax.tyRef Syntax.erased Syntax.mut Element.behind; ref = λ x. x },
+          (
+            record { pos = 39; ty = Syntax.tyRef Syntax.erased Syntax.mut (Syntax.tyInt Syntax.w16); ref = λ x. x },
+            (
+              record { pos = 6; st = List.[]; d = 0; at = λ x. x },
+              (
+                record { pos = 40; st = List.[]; d = 0; at = λ x. x },
+                (
+                  record { pos = 7; ty = Syntax.tyRef (Syntax.named 5) Syntax.imm (Syntax.tyArray (Syntax.tyInt Syntax.w16) 768); ref = λ x. x },
+                  (record { pos = 8; st = List.[]; d = 0; at = λ x. x }, (record { pos = 9; st = List.[]; d = 0; at = λ x. x }, (Num.vAt 18 λ x. x, (Bool.bAt 11 λ x. x, tt)))),
+                ),
+              ),
+            ),
+          ),
+        ),
+      ),
+    ),
+  ) 20 (List._∷_ 0 (List._∷_ 10
       (List._∷_ 11 (List._∷_ 12 (List._∷_ 5 List.[]))))) (Syntax.tyEnum (List._∷_ 98 (List._∷_ 108 (List._∷_ 111 (List._∷_ 99 (List._∷_ 107 (List._∷_ 58 (List._∷_ 58 (List._∷_ 76 (List._∷_ 105 (List._∷_
       110 (List._∷_ 101 (List._∷_ 100 List.[])))))))))))) (Syntax.ttcons (Syntax.tcons y10 Syntax.tnil) (Syntax.ttcons Syntax.tnil Syntax.ttnil)))
 
@@ -2041,9 +2318,10 @@ module _ (claims· : Claims) where
       Syntax.w16)) (Syntax.tyRef Syntax.erased Syntax.mut (Syntax.tyInt Syntax.w16)) (λ x. x) (Scalar.oFld 5 (List._∷_ (Syntax.field 1) List.[]) (Syntax.tyInt Syntax.w64) 8 λ v. Shared.lenV (v .0))
 
   abbrev s95 : Typed.Both T99 T100
-  s95 = Call.callB ps·11 r·11 (claims· .22) (claims· .23) T99
-      (record { pos = 43; ty = Syntax.tyRef Syntax.erased Syntax.mut (Syntax.tyInt Syntax.w16); ref = λ x. x; },
-      (record { pos = 9; st = List.[]; d = 0; at = λ x. x }, (Num.vAt 18 λ x. x, (Bool.bAt 11 λ x. x, tt)))) 41 (List._∷_ 13 List.[]) Syntax.tyUnit
+  s95 = Call.callB ps·11 r·11 (claims· .22) (claims· .23) T99 (
+    record { pos = 43; ty = Syntax.tyRef Syntax.erased Syntax.mut (Syntax.tyInt Syntax.w16); ref = λ x. x },
+    (record { pos = 9; st = List.[]; d = 0; at = λ x. x }, (Num.vAt 18 λ x. x, (Bool.bAt 11 λ x. x, tt))),
+  ) 41 (List._∷_ 13 List.[]) Syntax.tyUnit
 
   abbrev s96 : Typed.Mo T100 → Typed.Mo T101
   s96 = Scalar.n-room T100 9 y0
@@ -2065,9 +2343,10 @@ module _ (claims· : Claims) where
   s103 = Scalar.n-room T107 16 y10
 
   abbrev s104 : Typed.Mo T108 → Typed.Mo T109
-  s104 = Make.n-enum-make Walked.the-type T108 0 λ m. Walked.enum .make (Logic.inr (Logic.inl
-      (m .1 .1 .1 .1 .1 .1 .1 .1 .1 .1 .1 .1 .1 .1 .1 .1 .1 .1 .0,
-      (m .1 .1 .1 .1 .1 .1 .1 .1 .1 .1 .1 .1 .1 .1 .1 .1 .1 .1 .1 .1 .1 .1 .1 .1 .1 .1 .1 .1 .1 .1 .1 .1 .1 .1 .1 .1 .1 .1 .1 .1 .1 .1 .1 .1 .0, tt))))
+  s104 = Make.n-enum-make Walked.the-type T108 0 λ m. Walked.enum .make (Logic.inr (Logic.inl (
+    m .1 .1 .1 .1 .1 .1 .1 .1 .1 .1 .1 .1 .1 .1 .1 .1 .1 .1 .0,
+    (m .1 .1 .1 .1 .1 .1 .1 .1 .1 .1 .1 .1 .1 .1 .1 .1 .1 .1 .1 .1 .1 .1 .1 .1 .1 .1 .1 .1 .1 .1 .1 .1 .1 .1 .1 .1 .1 .1 .1 .1 .1 .1 .1 .1 .0, tt),
+  )))
 
   abbrev s105 : Typed.Mo T109 → Typed.Mo T110
   s105 = Scalar.n-room T109 44 y3
@@ -2103,9 +2382,10 @@ module _ (claims· : Claims) where
   s115 = Call.callB ps·12 r·12 (claims· .24) (claims· .25) T119 (record { pos = 16; st = List.[]; d = 0; at = λ x. x }, tt) 45 List.[] y3
 
   abbrev s116 : Typed.Both T120 T121
-  s116 = Call.callB ps·13 r·13 (claims· .26) (claims· .27) T120
-      (record { pos = 17; st = List.[]; d = 0; at = λ x. x },
-      (Num.vAt 18 λ x. x, (Bool.bFld 16 (List._∷_ (Syntax.field 1) List.[]) 8 λ x. Place.struct .as-values x .1 .0, (record { pos = 45; st = List.[]; d = 0; at = λ x. x }, tt)))) 17 List.[] y9
+  s116 = Call.callB ps·13 r·13 (claims· .26) (claims· .27) T120 (
+    record { pos = 17; st = List.[]; d = 0; at = λ x. x },
+    (Num.vAt 18 λ x. x, (Bool.bFld 16 (List._∷_ (Syntax.field 1) List.[]) 8 λ x. Place.struct .as-values x .1 .0, (record { pos = 45; st = List.[]; d = 0; at = λ x. x }, tt))),
+  ) 17 List.[] y9
 
   abbrev s117 : Typed.Mo T121 → Typed.Mo T122
   s117 = Scalar.n-room T121 45 y3
@@ -2130,13 +2410,22 @@ module _ (claims· : Claims) where
   s124 = Scalar.k-op1 T128 Syntax.bitNot (Scalar.oAt 11 Syntax.tyBool (Row.valS Row.sBool)) 28 (Rows'.sc-here Row.sBool) (Row.sBool .of)
 
   abbrev s125 : Typed.Both T129 T130
-  s125 = Call.callB ps·14 r·14 (claims· .28) (claims· .29) T129
-      (record { pos = 47; ty = Syntax.tyRef Syntax.erased Syntax.imm (Syntax.tyInt Syntax.w16); ref = λ x. x; },
-      (record { pos = 49; ty = Syntax.tyRef Syntax.erased Syntax.mut (Syntax.tyInt Syntax.w16); ref = λ x. x; },
-      (Num.vAt 15 λ x. x,
-      (Bool.bAt 14 λ x. x,
-      (record { pos = 7; ty = Syntax.tyRef (Syntax.named 5) Syntax.imm (Syntax.tyArray (Syntax.tyInt Syntax.w16) 768); ref = λ x. x; },
-      (record { pos = 8; st = List.[]; d = 0; at = λ x. x }, (record { pos = 9; st = List.[]; d = 0; at = λ x. x }, (Num.vAt 18 λ x. x, (Bool.bAt 28 λ x. x, tt))))))))) 29 (List._∷_ 14 (List._∷_ 15
+  s125 = Call.callB ps·14 r·14 (claims· .28) (claims· .29) T129 (
+    record { pos = 47; ty = Syntax.tyRef Syntax.erased Syntax.imm (Syntax.tyInt Syntax.w16); ref = λ x. x },
+    (
+      record { pos = 49; ty = Syntax.tyRef Syntax.erased Syntax.mut (Syntax.tyInt Syntax.w16); ref = λ x. x },
+      (
+        Num.vAt 15 λ x. x,
+        (
+          Bool.bAt 14 λ x. x,
+          (
+            record { pos = 7; ty = Syntax.tyRef (Syntax.named 5) Syntax.imm (Syntax.tyArray (Syntax.tyInt Syntax.w16) 768); ref = λ x. x },
+            (record { pos = 8; st = List.[]; d = 0; at = λ x. x }, (record { pos = 9; st = List.[]; d = 0; at = λ x. x }, (Num.vAt 18 λ x. x, (Bool.bAt 28 λ x. x, tt)))),
+          ),
+        ),
+      ),
+    ),
+  ) 29 (List._∷_ 14 (List._∷_ 15
       (List._∷_ 5 List.[]))) Syntax.tyUnit
 
   abbrev s126 : Typed.Mo T130 → Typed.Mo T131
@@ -2172,9 +2461,10 @@ module _ (claims· : Claims) where
   s139 = Scalar.n-room T143 16 y10
 
   abbrev s140 : Typed.Mo T144 → Typed.Mo T145
-  s140 = Make.n-enum-make Walked.the-type T144 0 λ m. Walked.enum .make (Logic.inl
-      (m .1 .1 .1 .1 .1 .1 .1 .1 .1 .1 .1 .1 .1 .1 .1 .1 .1 .1 .1 .1 .1 .1 .1 .1 .1 .1 .1 .1 .1 .1 .1 .1 .1 .1 .1 .1 .1 .1 .1 .1 .1 .1 .1 .1 .1 .1 .1 .1 .1 .1 .0,
-      (m .1 .1 .1 .1 .1 .1 .1 .1 .1 .1 .1 .1 .1 .1 .1 .1 .1 .0, tt)))
+  s140 = Make.n-enum-make Walked.the-type T144 0 λ m. Walked.enum .make (Logic.inl (
+    m .1 .1 .1 .1 .1 .1 .1 .1 .1 .1 .1 .1 .1 .1 .1 .1 .1 .1 .1 .1 .1 .1 .1 .1 .1 .1 .1 .1 .1 .1 .1 .1 .1 .1 .1 .1 .1 .1 .1 .1 .1 .1 .1 .1 .1 .1 .1 .1 .1 .1 .0,
+    (m .1 .1 .1 .1 .1 .1 .1 .1 .1 .1 .1 .1 .1 .1 .1 .1 .1 .0, tt),
+  ))
 
   abbrev s141 : Typed.Mo T145 → Typed.Mo T146
   s141 = Scalar.n-room T145 13 (Syntax.tyInt Syntax.w32)
@@ -2205,10 +2495,10 @@ module _ (claims· : Claims) where
   put0 = λ vs u. Row.set 18 (18, Rows'.sc-here (Row.sInt Syntax.w64)) (vs .5) (T30 .locals) (Row.set 17 (17, Rows'.whole (Declared'.row TightLines.the-type)) (vs .4) (T30 .locals) (Row.set 16
       (16, Rows'.whole (Declared'.row Place.the-type)) (vs .3) (T30 .locals) (Row.set 5
       (5, Mut.mslice (Referent.rtF (Referent.fInt Syntax.w16)) (Syntax.tyRef (Syntax.named 4) Syntax.mut (Syntax.tyInt Syntax.w16)) 4) record
-      { ptr = Row.get 5 (T30 .locals) u .ptr; name = Row.get 5 (T30 .locals) u .name; now = vs .2; } (T30 .locals) (Row.set 4
-      (4, Mut.mslice (Element.type) (Syntax.tyRef (Syntax.named 3) Syntax.mut Element.behind) 3) record { ptr = Row.get 4 (T30 .locals) u .ptr; name = Row.get 4 (T30 .locals) u .name; now = vs .1; } (T30
+      { ptr = Row.get 5 (T30 .locals) u .ptr; name = Row.get 5 (T30 .locals) u .name; now = vs .2 } (T30 .locals) (Row.set 4
+      (4, Mut.mslice (Element.type) (Syntax.tyRef (Syntax.named 3) Syntax.mut Element.behind) 3) record { ptr = Row.get 4 (T30 .locals) u .ptr; name = Row.get 4 (T30 .locals) u .name; now = vs .1 } (T30
       .locals) (Row.set 3 (3, Mut.mslice (Referent.rtF (Referent.fInt Syntax.w16)) (Syntax.tyRef (Syntax.named 2) Syntax.mut (Syntax.tyInt Syntax.w16)) 2) record
-      { ptr = Row.get 3 (T30 .locals) u .ptr; name = Row.get 3 (T30 .locals) u .name; now = vs .0; } (T30 .locals) u)))))
+      { ptr = Row.get 3 (T30 .locals) u .ptr; name = Row.get 3 (T30 .locals) u .name; now = vs .0 } (T30 .locals) u)))))
 
   module _ (Pre· : (κs : Lifetimes.Lfts 6) → Kinds.Dens κs ps → Type 0) (Post· : (κs : Lifetimes.Lfts 6) → (a : Kinds.Dens κs ps) → Kinds.Plain 6 ps r κs) where
     module _ (M : Type 1) where
@@ -2796,1017 +3086,1325 @@ module _ (claims· : Claims) where
             (List._∷_ e85 (List._∷_ e86 (List._∷_ e88 (List._∷_ e90 (List._∷_ e4 (List._∷_ e6 (List._∷_ e8 (List._∷_ e10 (List._∷_ e12 (List._∷_ e14 List.[])))))))))))))))
 
         abbrev G0 : Row.Cx
-        G0 = record
-            { locals = List._++_ t0 (List._++_ t1 (List._++_ t2 t3)); slots = List._∷_ (Row.lease (κs .0) (qs .0)) (List._∷_ (Row.lease (κs .1 .0) (qs .1 .0)) (List._∷_ (Row.lease (κs .1 .1 .0) (qs .1 .1
-            .0)) (List._∷_ (Row.lease (κs .1 .1 .1 .0) (qs .1 .1 .1 .0)) (List._∷_ (Row.lease (κs .1 .1 .1 .1 .0) (qs .1 .1 .1 .1 .0)) (List._∷_ (Row.lease (κs .1 .1 .1 .1 .1 .0) (qs .1 .1 .1 .1 .1 .0))
-            (List._∷_ Row.off (List._∷_ Row.off (List._∷_ Row.off (List._∷_ Row.off (List._∷_ Row.off (List._∷_ Row.off (List._∷_ Row.off (List._∷_ Row.off (List._∷_ Row.off (List._∷_ Row.off
-            List.[]))))))))))))))); }
+        G0 = record {
+          locals = List._++_ t0 (List._++_ t1 (List._++_ t2 t3));
+          slots = List._∷_ (Row.lease (κs .0) (qs .0)) (List._∷_ (Row.lease (κs .1 .0) (qs .1 .0)) (List._∷_ (Row.lease (κs .1 .1 .0) (qs .1 .1
+              .0)) (List._∷_ (Row.lease (κs .1 .1 .1 .0) (qs .1 .1 .1 .0)) (List._∷_ (Row.lease (κs .1 .1 .1 .1 .0) (qs .1 .1 .1 .1 .0)) (List._∷_ (Row.lease (κs .1 .1 .1 .1 .1 .0) (qs .1 .1 .1 .1 .1 .0))
+              (List._∷_ Row.off (List._∷_ Row.off (List._∷_ Row.off (List._∷_ Row.off (List._∷_ Row.off (List._∷_ Row.off (List._∷_ Row.off (List._∷_ Row.off (List._∷_ Row.off (List._∷_ Row.off
+              List.[])))))))))))))));
+        }
 
         abbrev G1 : Row.Cx
-        G1 = record
-            { locals = List._++_ t4 (List._++_ t1 (List._++_ t2 t3)); slots = List._∷_ (Row.lease (κs .0) (qs .0)) (List._∷_ (Row.lease (κs .1 .0) (qs .1 .0)) (List._∷_ (Row.lease (κs .1 .1 .0) (qs .1 .1
-            .0)) (List._∷_ (Row.lease (κs .1 .1 .1 .0) (qs .1 .1 .1 .0)) (List._∷_ (Row.lease (κs .1 .1 .1 .1 .0) (qs .1 .1 .1 .1 .0)) (List._∷_ (Row.lease (κs .1 .1 .1 .1 .1 .0) (qs .1 .1 .1 .1 .1 .0))
-            (List._∷_ Row.off (List._∷_ Row.off (List._∷_ Row.off (List._∷_ Row.off (List._∷_ Row.off (List._∷_ Row.off (List._∷_ Row.off (List._∷_ Row.off (List._∷_ Row.off (List._∷_ Row.off
-            List.[]))))))))))))))); }
+        G1 = record {
+          locals = List._++_ t4 (List._++_ t1 (List._++_ t2 t3));
+          slots = List._∷_ (Row.lease (κs .0) (qs .0)) (List._∷_ (Row.lease (κs .1 .0) (qs .1 .0)) (List._∷_ (Row.lease (κs .1 .1 .0) (qs .1 .1
+              .0)) (List._∷_ (Row.lease (κs .1 .1 .1 .0) (qs .1 .1 .1 .0)) (List._∷_ (Row.lease (κs .1 .1 .1 .1 .0) (qs .1 .1 .1 .1 .0)) (List._∷_ (Row.lease (κs .1 .1 .1 .1 .1 .0) (qs .1 .1 .1 .1 .1 .0))
+              (List._∷_ Row.off (List._∷_ Row.off (List._∷_ Row.off (List._∷_ Row.off (List._∷_ Row.off (List._∷_ Row.off (List._∷_ Row.off (List._∷_ Row.off (List._∷_ Row.off (List._∷_ Row.off
+              List.[])))))))))))))));
+        }
 
         abbrev G2 : Row.Cx
-        G2 = record
-            { locals = List._++_ t0 (List._++_ t1 (List._++_ t2 t3)); slots = List._∷_ (Row.lease (κs .0) (qs .0)) (List._∷_ (Row.lease (κs .1 .0) (qs .1 .0)) (List._∷_ (Row.lease (κs .1 .1 .0) (qs .1 .1
-            .0)) (List._∷_ (Row.lease (κs .1 .1 .1 .0) (qs .1 .1 .1 .0)) (List._∷_ (Row.lease (κs .1 .1 .1 .1 .0) (qs .1 .1 .1 .1 .0)) (List._∷_ (Row.lease (κs .1 .1 .1 .1 .1 .0) (qs .1 .1 .1 .1 .1 .0))
-            (List._∷_ Row.off (List._∷_ Row.off (List._∷_ Row.off (List._∷_ Row.off (List._∷_ Row.off (List._∷_ Row.off (List._∷_ Row.off (List._∷_ Row.off (List._∷_ Row.off (List._∷_ Row.off
-            List.[]))))))))))))))); }
+        G2 = record {
+          locals = List._++_ t0 (List._++_ t1 (List._++_ t2 t3));
+          slots = List._∷_ (Row.lease (κs .0) (qs .0)) (List._∷_ (Row.lease (κs .1 .0) (qs .1 .0)) (List._∷_ (Row.lease (κs .1 .1 .0) (qs .1 .1
+              .0)) (List._∷_ (Row.lease (κs .1 .1 .1 .0) (qs .1 .1 .1 .0)) (List._∷_ (Row.lease (κs .1 .1 .1 .1 .0) (qs .1 .1 .1 .1 .0)) (List._∷_ (Row.lease (κs .1 .1 .1 .1 .1 .0) (qs .1 .1 .1 .1 .1 .0))
+              (List._∷_ Row.off (List._∷_ Row.off (List._∷_ Row.off (List._∷_ Row.off (List._∷_ Row.off (List._∷_ Row.off (List._∷_ Row.off (List._∷_ Row.off (List._∷_ Row.off (List._∷_ Row.off
+              List.[])))))))))))))));
+        }
 
         abbrev G3 : Row.Cx
-        G3 = record
-            { locals = List._++_ t0 (List._++_ t1 (List._++_ t2 t3)); slots = List._∷_ (Row.lease (κs .0) (qs .0)) (List._∷_ (Row.lease (κs .1 .0) (qs .1 .0)) (List._∷_ (Row.lease (κs .1 .1 .0) (qs .1 .1
-            .0)) (List._∷_ (Row.lease (κs .1 .1 .1 .0) (qs .1 .1 .1 .0)) (List._∷_ (Row.lease (κs .1 .1 .1 .1 .0) (qs .1 .1 .1 .1 .0)) (List._∷_ (Row.lease (κs .1 .1 .1 .1 .1 .0) (qs .1 .1 .1 .1 .1 .0))
-            (List._∷_ Row.off (List._∷_ Row.off (List._∷_ Row.off (List._∷_ Row.off (List._∷_ Row.off (List._∷_ Row.off (List._∷_ Row.off (List._∷_ Row.off (List._∷_ Row.off (List._∷_ Row.off
-            List.[]))))))))))))))); }
+        G3 = record {
+          locals = List._++_ t0 (List._++_ t1 (List._++_ t2 t3));
+          slots = List._∷_ (Row.lease (κs .0) (qs .0)) (List._∷_ (Row.lease (κs .1 .0) (qs .1 .0)) (List._∷_ (Row.lease (κs .1 .1 .0) (qs .1 .1
+              .0)) (List._∷_ (Row.lease (κs .1 .1 .1 .0) (qs .1 .1 .1 .0)) (List._∷_ (Row.lease (κs .1 .1 .1 .1 .0) (qs .1 .1 .1 .1 .0)) (List._∷_ (Row.lease (κs .1 .1 .1 .1 .1 .0) (qs .1 .1 .1 .1 .1 .0))
+              (List._∷_ Row.off (List._∷_ Row.off (List._∷_ Row.off (List._∷_ Row.off (List._∷_ Row.off (List._∷_ Row.off (List._∷_ Row.off (List._∷_ Row.off (List._∷_ Row.off (List._∷_ Row.off
+              List.[])))))))))))))));
+        }
 
         abbrev G4 : Row.Cx
-        G4 = record
-            { locals = List._++_ t0 (List._++_ t1 (List._++_ t2 t3)); slots = List._∷_ (Row.lease (κs .0) (qs .0)) (List._∷_ (Row.lease (κs .1 .0) (qs .1 .0)) (List._∷_ (Row.lease (κs .1 .1 .0) (qs .1 .1
-            .0)) (List._∷_ (Row.lease (κs .1 .1 .1 .0) (qs .1 .1 .1 .0)) (List._∷_ (Row.lease (κs .1 .1 .1 .1 .0) (qs .1 .1 .1 .1 .0)) (List._∷_ (Row.lease (κs .1 .1 .1 .1 .1 .0) (qs .1 .1 .1 .1 .1 .0))
-            (List._∷_ Row.off (List._∷_ Row.off (List._∷_ Row.off (List._∷_ Row.off (List._∷_ Row.off (List._∷_ Row.off (List._∷_ Row.off (List._∷_ Row.off (List._∷_ Row.off (List._∷_ Row.off
-            List.[]))))))))))))))); }
+        G4 = record {
+          locals = List._++_ t0 (List._++_ t1 (List._++_ t2 t3));
+          slots = List._∷_ (Row.lease (κs .0) (qs .0)) (List._∷_ (Row.lease (κs .1 .0) (qs .1 .0)) (List._∷_ (Row.lease (κs .1 .1 .0) (qs .1 .1
+              .0)) (List._∷_ (Row.lease (κs .1 .1 .1 .0) (qs .1 .1 .1 .0)) (List._∷_ (Row.lease (κs .1 .1 .1 .1 .0) (qs .1 .1 .1 .1 .0)) (List._∷_ (Row.lease (κs .1 .1 .1 .1 .1 .0) (qs .1 .1 .1 .1 .1 .0))
+              (List._∷_ Row.off (List._∷_ Row.off (List._∷_ Row.off (List._∷_ Row.off (List._∷_ Row.off (List._∷_ Row.off (List._∷_ Row.off (List._∷_ Row.off (List._∷_ Row.off (List._∷_ Row.off
+              List.[])))))))))))))));
+        }
 
         abbrev G5 : Row.Cx
-        G5 = record
-            { locals = List._++_ t0 (List._++_ t1 (List._++_ t2 t3)); slots = List._∷_ (Row.lease (κs .0) (qs .0)) (List._∷_ (Row.lease (κs .1 .0) (qs .1 .0)) (List._∷_ (Row.lease (κs .1 .1 .0) (qs .1 .1
-            .0)) (List._∷_ (Row.lease (κs .1 .1 .1 .0) (qs .1 .1 .1 .0)) (List._∷_ (Row.lease (κs .1 .1 .1 .1 .0) (qs .1 .1 .1 .1 .0)) (List._∷_ (Row.lease (κs .1 .1 .1 .1 .1 .0) (qs .1 .1 .1 .1 .1 .0))
-            (List._∷_ Row.off (List._∷_ Row.off (List._∷_ Row.off (List._∷_ Row.off (List._∷_ Row.off (List._∷_ Row.off (List._∷_ Row.off (List._∷_ Row.off (List._∷_ Row.off (List._∷_ Row.off
-            List.[]))))))))))))))); }
+        G5 = record {
+          locals = List._++_ t0 (List._++_ t1 (List._++_ t2 t3));
+          slots = List._∷_ (Row.lease (κs .0) (qs .0)) (List._∷_ (Row.lease (κs .1 .0) (qs .1 .0)) (List._∷_ (Row.lease (κs .1 .1 .0) (qs .1 .1
+              .0)) (List._∷_ (Row.lease (κs .1 .1 .1 .0) (qs .1 .1 .1 .0)) (List._∷_ (Row.lease (κs .1 .1 .1 .1 .0) (qs .1 .1 .1 .1 .0)) (List._∷_ (Row.lease (κs .1 .1 .1 .1 .1 .0) (qs .1 .1 .1 .1 .1 .0))
+              (List._∷_ Row.off (List._∷_ Row.off (List._∷_ Row.off (List._∷_ Row.off (List._∷_ Row.off (List._∷_ Row.off (List._∷_ Row.off (List._∷_ Row.off (List._∷_ Row.off (List._∷_ Row.off
+              List.[])))))))))))))));
+        }
 
         abbrev G6 : Row.Cx
-        G6 = record
-            { locals = List._++_ t5 (List._++_ t1 (List._++_ t2 t3)); slots = List._∷_ (Row.lease (κs .0) (qs .0)) (List._∷_ (Row.lease (κs .1 .0) (qs .1 .0)) (List._∷_ (Row.lease (κs .1 .1 .0) (qs .1 .1
-            .0)) (List._∷_ (Row.lease (κs .1 .1 .1 .0) (qs .1 .1 .1 .0)) (List._∷_ (Row.lease (κs .1 .1 .1 .1 .0) (qs .1 .1 .1 .1 .0)) (List._∷_ (Row.lease (κs .1 .1 .1 .1 .1 .0) (qs .1 .1 .1 .1 .1 .0))
-            (List._∷_ Row.off (List._∷_ Row.off (List._∷_ Row.off (List._∷_ Row.off (List._∷_ Row.off (List._∷_ Row.off (List._∷_ Row.off (List._∷_ Row.off (List._∷_ Row.off (List._∷_ Row.off
-            List.[]))))))))))))))); }
+        G6 = record {
+          locals = List._++_ t5 (List._++_ t1 (List._++_ t2 t3));
+          slots = List._∷_ (Row.lease (κs .0) (qs .0)) (List._∷_ (Row.lease (κs .1 .0) (qs .1 .0)) (List._∷_ (Row.lease (κs .1 .1 .0) (qs .1 .1
+              .0)) (List._∷_ (Row.lease (κs .1 .1 .1 .0) (qs .1 .1 .1 .0)) (List._∷_ (Row.lease (κs .1 .1 .1 .1 .0) (qs .1 .1 .1 .1 .0)) (List._∷_ (Row.lease (κs .1 .1 .1 .1 .1 .0) (qs .1 .1 .1 .1 .1 .0))
+              (List._∷_ Row.off (List._∷_ Row.off (List._∷_ Row.off (List._∷_ Row.off (List._∷_ Row.off (List._∷_ Row.off (List._∷_ Row.off (List._∷_ Row.off (List._∷_ Row.off (List._∷_ Row.off
+              List.[])))))))))))))));
+        }
 
         abbrev G7 : Row.Cx
-        G7 = record
-            { locals = List._++_ t6 (List._++_ t1 (List._++_ t2 t3)); slots = List._∷_ (Row.lease (κs .0) (qs .0)) (List._∷_ (Row.lease (κs .1 .0) (qs .1 .0)) (List._∷_ (Row.lease (κs .1 .1 .0) (qs .1 .1
-            .0)) (List._∷_ (Row.lease (κs .1 .1 .1 .0) (qs .1 .1 .1 .0)) (List._∷_ (Row.lease (κs .1 .1 .1 .1 .0) (qs .1 .1 .1 .1 .0)) (List._∷_ (Row.lease (κs .1 .1 .1 .1 .1 .0) (qs .1 .1 .1 .1 .1 .0))
-            (List._∷_ Row.off (List._∷_ Row.off (List._∷_ Row.off (List._∷_ Row.off (List._∷_ Row.off (List._∷_ Row.off (List._∷_ Row.off (List._∷_ Row.off (List._∷_ Row.off (List._∷_ Row.off
-            List.[]))))))))))))))); }
+        G7 = record {
+          locals = List._++_ t6 (List._++_ t1 (List._++_ t2 t3));
+          slots = List._∷_ (Row.lease (κs .0) (qs .0)) (List._∷_ (Row.lease (κs .1 .0) (qs .1 .0)) (List._∷_ (Row.lease (κs .1 .1 .0) (qs .1 .1
+              .0)) (List._∷_ (Row.lease (κs .1 .1 .1 .0) (qs .1 .1 .1 .0)) (List._∷_ (Row.lease (κs .1 .1 .1 .1 .0) (qs .1 .1 .1 .1 .0)) (List._∷_ (Row.lease (κs .1 .1 .1 .1 .1 .0) (qs .1 .1 .1 .1 .1 .0))
+              (List._∷_ Row.off (List._∷_ Row.off (List._∷_ Row.off (List._∷_ Row.off (List._∷_ Row.off (List._∷_ Row.off (List._∷_ Row.off (List._∷_ Row.off (List._∷_ Row.off (List._∷_ Row.off
+              List.[])))))))))))))));
+        }
 
         abbrev G8 : Row.Cx
-        G8 = record
-            { locals = List._++_ t7 (List._++_ t1 (List._++_ t2 t3)); slots = List._∷_ (Row.lease (κs .0) (qs .0)) (List._∷_ (Row.lease (κs .1 .0) (qs .1 .0)) (List._∷_ (Row.lease (κs .1 .1 .0) (qs .1 .1
-            .0)) (List._∷_ (Row.lease (κs .1 .1 .1 .0) (qs .1 .1 .1 .0)) (List._∷_ (Row.lease (κs .1 .1 .1 .1 .0) (qs .1 .1 .1 .1 .0)) (List._∷_ (Row.lease (κs .1 .1 .1 .1 .1 .0) (qs .1 .1 .1 .1 .1 .0))
-            (List._∷_ Row.off (List._∷_ Row.off (List._∷_ Row.off (List._∷_ Row.off (List._∷_ Row.off (List._∷_ Row.off (List._∷_ Row.off (List._∷_ Row.off (List._∷_ Row.off (List._∷_ Row.off
-            List.[]))))))))))))))); }
+        G8 = record {
+          locals = List._++_ t7 (List._++_ t1 (List._++_ t2 t3));
+          slots = List._∷_ (Row.lease (κs .0) (qs .0)) (List._∷_ (Row.lease (κs .1 .0) (qs .1 .0)) (List._∷_ (Row.lease (κs .1 .1 .0) (qs .1 .1
+              .0)) (List._∷_ (Row.lease (κs .1 .1 .1 .0) (qs .1 .1 .1 .0)) (List._∷_ (Row.lease (κs .1 .1 .1 .1 .0) (qs .1 .1 .1 .1 .0)) (List._∷_ (Row.lease (κs .1 .1 .1 .1 .1 .0) (qs .1 .1 .1 .1 .1 .0))
+              (List._∷_ Row.off (List._∷_ Row.off (List._∷_ Row.off (List._∷_ Row.off (List._∷_ Row.off (List._∷_ Row.off (List._∷_ Row.off (List._∷_ Row.off (List._∷_ Row.off (List._∷_ Row.off
+              List.[])))))))))))))));
+        }
 
         abbrev G9 : Row.Cx
-        G9 = record
-            { locals = List._++_ t7 (List._++_ t1 (List._++_ t2 t3)); slots = List._∷_ (Row.lease (κs .0) (qs .0)) (List._∷_ (Row.lease (κs .1 .0) (qs .1 .0)) (List._∷_ (Row.lease (κs .1 .1 .0) (qs .1 .1
-            .0)) (List._∷_ (Row.lease (κs .1 .1 .1 .0) (qs .1 .1 .1 .0)) (List._∷_ (Row.lease (κs .1 .1 .1 .1 .0) (qs .1 .1 .1 .1 .0)) (List._∷_ (Row.lease (κs .1 .1 .1 .1 .1 .0) (qs .1 .1 .1 .1 .1 .0))
-            (List._∷_ Row.alive (List._∷_ Row.off (List._∷_ Row.off (List._∷_ Row.off (List._∷_ Row.off (List._∷_ Row.off (List._∷_ Row.off (List._∷_ Row.off (List._∷_ Row.off (List._∷_ Row.off
-            List.[]))))))))))))))); }
+        G9 = record {
+          locals = List._++_ t7 (List._++_ t1 (List._++_ t2 t3));
+          slots = List._∷_ (Row.lease (κs .0) (qs .0)) (List._∷_ (Row.lease (κs .1 .0) (qs .1 .0)) (List._∷_ (Row.lease (κs .1 .1 .0) (qs .1 .1
+              .0)) (List._∷_ (Row.lease (κs .1 .1 .1 .0) (qs .1 .1 .1 .0)) (List._∷_ (Row.lease (κs .1 .1 .1 .1 .0) (qs .1 .1 .1 .1 .0)) (List._∷_ (Row.lease (κs .1 .1 .1 .1 .1 .0) (qs .1 .1 .1 .1 .1 .0))
+              (List._∷_ Row.alive (List._∷_ Row.off (List._∷_ Row.off (List._∷_ Row.off (List._∷_ Row.off (List._∷_ Row.off (List._∷_ Row.off (List._∷_ Row.off (List._∷_ Row.off (List._∷_ Row.off
+              List.[])))))))))))))));
+        }
 
         abbrev G10 : Row.Cx
-        G10 = record
-            { locals = List._++_ g8 (List._++_ t9 (List._++_ t2 t3)); slots = List._∷_ (Row.lease (κs .0) (qs .0)) (List._∷_ (Row.lease (κs .1 .0) (qs .1 .0)) (List._∷_ Row.off (List._∷_ (Row.lease (κs .1
-            .1 .1 .0) (qs .1 .1 .1 .0)) (List._∷_ (Row.lease (κs .1 .1 .1 .1 .0) (qs .1 .1 .1 .1 .0)) (List._∷_ (Row.lease (κs .1 .1 .1 .1 .1 .0) (qs .1 .1 .1 .1 .1 .0)) (List._∷_ Row.alive (List._∷_
-            Row.off (List._∷_ Row.off (List._∷_ Row.off (List._∷_ Row.off (List._∷_ Row.off (List._∷_ Row.off (List._∷_ Row.off (List._∷_ Row.off (List._∷_ Row.off List.[]))))))))))))))); }
+        G10 = record {
+          locals = List._++_ g8 (List._++_ t9 (List._++_ t2 t3));
+          slots = List._∷_ (Row.lease (κs .0) (qs .0)) (List._∷_ (Row.lease (κs .1 .0) (qs .1 .0)) (List._∷_ Row.off (List._∷_ (Row.lease (κs .1
+              .1 .1 .0) (qs .1 .1 .1 .0)) (List._∷_ (Row.lease (κs .1 .1 .1 .1 .0) (qs .1 .1 .1 .1 .0)) (List._∷_ (Row.lease (κs .1 .1 .1 .1 .1 .0) (qs .1 .1 .1 .1 .1 .0)) (List._∷_ Row.alive (List._∷_
+              Row.off (List._∷_ Row.off (List._∷_ Row.off (List._∷_ Row.off (List._∷_ Row.off (List._∷_ Row.off (List._∷_ Row.off (List._∷_ Row.off (List._∷_ Row.off List.[])))))))))))))));
+        }
 
         abbrev G11 : Row.Cx
-        G11 = record
-            { locals = List._++_ g8 (List._++_ t10 (List._++_ t2 t3)); slots = List._∷_ (Row.lease (κs .0) (qs .0)) (List._∷_ (Row.lease (κs .1 .0) (qs .1 .0)) (List._∷_ Row.off (List._∷_ (Row.lease (κs
-            .1 .1 .1 .0) (qs .1 .1 .1 .0)) (List._∷_ (Row.lease (κs .1 .1 .1 .1 .0) (qs .1 .1 .1 .1 .0)) (List._∷_ (Row.lease (κs .1 .1 .1 .1 .1 .0) (qs .1 .1 .1 .1 .1 .0)) (List._∷_ Row.alive (List._∷_
-            Row.off (List._∷_ Row.off (List._∷_ Row.off (List._∷_ Row.off (List._∷_ Row.off (List._∷_ Row.off (List._∷_ Row.off (List._∷_ Row.off (List._∷_ Row.off List.[]))))))))))))))); }
+        G11 = record {
+          locals = List._++_ g8 (List._++_ t10 (List._++_ t2 t3));
+          slots = List._∷_ (Row.lease (κs .0) (qs .0)) (List._∷_ (Row.lease (κs .1 .0) (qs .1 .0)) (List._∷_ Row.off (List._∷_ (Row.lease (κs
+              .1 .1 .1 .0) (qs .1 .1 .1 .0)) (List._∷_ (Row.lease (κs .1 .1 .1 .1 .0) (qs .1 .1 .1 .1 .0)) (List._∷_ (Row.lease (κs .1 .1 .1 .1 .1 .0) (qs .1 .1 .1 .1 .1 .0)) (List._∷_ Row.alive (List._∷_
+              Row.off (List._∷_ Row.off (List._∷_ Row.off (List._∷_ Row.off (List._∷_ Row.off (List._∷_ Row.off (List._∷_ Row.off (List._∷_ Row.off (List._∷_ Row.off List.[])))))))))))))));
+        }
 
         abbrev G12 : Row.Cx
-        G12 = record
-            { locals = List._++_ g8 (List._++_ t11 (List._++_ t2 t3)); slots = List._∷_ (Row.lease (κs .0) (qs .0)) (List._∷_ (Row.lease (κs .1 .0) (qs .1 .0)) (List._∷_ Row.off (List._∷_ (Row.lease (κs
-            .1 .1 .1 .0) (qs .1 .1 .1 .0)) (List._∷_ (Row.lease (κs .1 .1 .1 .1 .0) (qs .1 .1 .1 .1 .0)) (List._∷_ (Row.lease (κs .1 .1 .1 .1 .1 .0) (qs .1 .1 .1 .1 .1 .0)) (List._∷_ Row.alive (List._∷_
-            Row.off (List._∷_ Row.off (List._∷_ Row.off (List._∷_ Row.off (List._∷_ Row.off (List._∷_ Row.off (List._∷_ Row.off (List._∷_ Row.off (List._∷_ Row.off List.[]))))))))))))))); }
+        G12 = record {
+          locals = List._++_ g8 (List._++_ t11 (List._++_ t2 t3));
+          slots = List._∷_ (Row.lease (κs .0) (qs .0)) (List._∷_ (Row.lease (κs .1 .0) (qs .1 .0)) (List._∷_ Row.off (List._∷_ (Row.lease (κs
+              .1 .1 .1 .0) (qs .1 .1 .1 .0)) (List._∷_ (Row.lease (κs .1 .1 .1 .1 .0) (qs .1 .1 .1 .1 .0)) (List._∷_ (Row.lease (κs .1 .1 .1 .1 .1 .0) (qs .1 .1 .1 .1 .1 .0)) (List._∷_ Row.alive (List._∷_
+              Row.off (List._∷_ Row.off (List._∷_ Row.off (List._∷_ Row.off (List._∷_ Row.off (List._∷_ Row.off (List._∷_ Row.off (List._∷_ Row.off (List._∷_ Row.off List.[])))))))))))))));
+        }
 
         abbrev G13 : Row.Cx
-        G13 = record
-            { locals = List._++_ g8 (List._++_ t12 (List._++_ t2 t3)); slots = List._∷_ (Row.lease (κs .0) (qs .0)) (List._∷_ (Row.lease (κs .1 .0) (qs .1 .0)) (List._∷_ Row.off (List._∷_ (Row.lease (κs
-            .1 .1 .1 .0) (qs .1 .1 .1 .0)) (List._∷_ (Row.lease (κs .1 .1 .1 .1 .0) (qs .1 .1 .1 .1 .0)) (List._∷_ (Row.lease (κs .1 .1 .1 .1 .1 .0) (qs .1 .1 .1 .1 .1 .0)) (List._∷_ Row.alive (List._∷_
-            Row.off (List._∷_ Row.off (List._∷_ Row.off (List._∷_ Row.off (List._∷_ Row.off (List._∷_ Row.off (List._∷_ Row.off (List._∷_ Row.off (List._∷_ Row.off List.[]))))))))))))))); }
+        G13 = record {
+          locals = List._++_ g8 (List._++_ t12 (List._++_ t2 t3));
+          slots = List._∷_ (Row.lease (κs .0) (qs .0)) (List._∷_ (Row.lease (κs .1 .0) (qs .1 .0)) (List._∷_ Row.off (List._∷_ (Row.lease (κs
+              .1 .1 .1 .0) (qs .1 .1 .1 .0)) (List._∷_ (Row.lease (κs .1 .1 .1 .1 .0) (qs .1 .1 .1 .1 .0)) (List._∷_ (Row.lease (κs .1 .1 .1 .1 .1 .0) (qs .1 .1 .1 .1 .1 .0)) (List._∷_ Row.alive (List._∷_
+              Row.off (List._∷_ Row.off (List._∷_ Row.off (List._∷_ Row.off (List._∷_ Row.off (List._∷_ Row.off (List._∷_ Row.off (List._∷_ Row.off (List._∷_ Row.off List.[])))))))))))))));
+        }
 
         abbrev G14 : Row.Cx
-        G14 = record
-            { locals = List._++_ g8 (List._++_ t12 (List._++_ t2 t3)); slots = List._∷_ (Row.lease (κs .0) (qs .0)) (List._∷_ (Row.lease (κs .1 .0) (qs .1 .0)) (List._∷_ Row.off (List._∷_ (Row.lease (κs
-            .1 .1 .1 .0) (qs .1 .1 .1 .0)) (List._∷_ (Row.lease (κs .1 .1 .1 .1 .0) (qs .1 .1 .1 .1 .0)) (List._∷_ (Row.lease (κs .1 .1 .1 .1 .1 .0) (qs .1 .1 .1 .1 .1 .0)) (List._∷_ Row.dead (List._∷_
-            Row.off (List._∷_ Row.off (List._∷_ Row.off (List._∷_ Row.off (List._∷_ Row.off (List._∷_ Row.off (List._∷_ Row.off (List._∷_ Row.off (List._∷_ Row.off List.[]))))))))))))))); }
+        G14 = record {
+          locals = List._++_ g8 (List._++_ t12 (List._++_ t2 t3));
+          slots = List._∷_ (Row.lease (κs .0) (qs .0)) (List._∷_ (Row.lease (κs .1 .0) (qs .1 .0)) (List._∷_ Row.off (List._∷_ (Row.lease (κs
+              .1 .1 .1 .0) (qs .1 .1 .1 .0)) (List._∷_ (Row.lease (κs .1 .1 .1 .1 .0) (qs .1 .1 .1 .1 .0)) (List._∷_ (Row.lease (κs .1 .1 .1 .1 .1 .0) (qs .1 .1 .1 .1 .1 .0)) (List._∷_ Row.dead (List._∷_
+              Row.off (List._∷_ Row.off (List._∷_ Row.off (List._∷_ Row.off (List._∷_ Row.off (List._∷_ Row.off (List._∷_ Row.off (List._∷_ Row.off (List._∷_ Row.off List.[])))))))))))))));
+        }
 
         abbrev G15 : Row.Cx
-        G15 = record
-            { locals = List._++_ t7 (List._++_ t1 (List._++_ t2 t3)); slots = List._∷_ (Row.lease (κs .0) (qs .0)) (List._∷_ (Row.lease (κs .1 .0) (qs .1 .0)) (List._∷_ (Row.lease (κs .1 .1 .0) (qs .1 .1
-            .0)) (List._∷_ (Row.lease (κs .1 .1 .1 .0) (qs .1 .1 .1 .0)) (List._∷_ (Row.lease (κs .1 .1 .1 .1 .0) (qs .1 .1 .1 .1 .0)) (List._∷_ (Row.lease (κs .1 .1 .1 .1 .1 .0) (qs .1 .1 .1 .1 .1 .0))
-            (List._∷_ Row.dead (List._∷_ Row.off (List._∷_ Row.off (List._∷_ Row.off (List._∷_ Row.off (List._∷_ Row.off (List._∷_ Row.off (List._∷_ Row.off (List._∷_ Row.off (List._∷_ Row.off
-            List.[]))))))))))))))); }
+        G15 = record {
+          locals = List._++_ t7 (List._++_ t1 (List._++_ t2 t3));
+          slots = List._∷_ (Row.lease (κs .0) (qs .0)) (List._∷_ (Row.lease (κs .1 .0) (qs .1 .0)) (List._∷_ (Row.lease (κs .1 .1 .0) (qs .1 .1
+              .0)) (List._∷_ (Row.lease (κs .1 .1 .1 .0) (qs .1 .1 .1 .0)) (List._∷_ (Row.lease (κs .1 .1 .1 .1 .0) (qs .1 .1 .1 .1 .0)) (List._∷_ (Row.lease (κs .1 .1 .1 .1 .1 .0) (qs .1 .1 .1 .1 .1 .0))
+              (List._∷_ Row.dead (List._∷_ Row.off (List._∷_ Row.off (List._∷_ Row.off (List._∷_ Row.off (List._∷_ Row.off (List._∷_ Row.off (List._∷_ Row.off (List._∷_ Row.off (List._∷_ Row.off
+              List.[])))))))))))))));
+        }
 
         abbrev G16 : Row.Cx
-        G16 = record
-            { locals = List._++_ t7 (List._++_ t1 (List._++_ t2 t3)); slots = List._∷_ (Row.lease (κs .0) (qs .0)) (List._∷_ (Row.lease (κs .1 .0) (qs .1 .0)) (List._∷_ (Row.lease (κs .1 .1 .0) (qs .1 .1
-            .0)) (List._∷_ (Row.lease (κs .1 .1 .1 .0) (qs .1 .1 .1 .0)) (List._∷_ (Row.lease (κs .1 .1 .1 .1 .0) (qs .1 .1 .1 .1 .0)) (List._∷_ (Row.lease (κs .1 .1 .1 .1 .1 .0) (qs .1 .1 .1 .1 .1 .0))
-            (List._∷_ Row.dead (List._∷_ Row.off (List._∷_ Row.off (List._∷_ Row.off (List._∷_ Row.off (List._∷_ Row.off (List._∷_ Row.off (List._∷_ Row.off (List._∷_ Row.off (List._∷_ Row.off
-            List.[]))))))))))))))); }
+        G16 = record {
+          locals = List._++_ t7 (List._++_ t1 (List._++_ t2 t3));
+          slots = List._∷_ (Row.lease (κs .0) (qs .0)) (List._∷_ (Row.lease (κs .1 .0) (qs .1 .0)) (List._∷_ (Row.lease (κs .1 .1 .0) (qs .1 .1
+              .0)) (List._∷_ (Row.lease (κs .1 .1 .1 .0) (qs .1 .1 .1 .0)) (List._∷_ (Row.lease (κs .1 .1 .1 .1 .0) (qs .1 .1 .1 .1 .0)) (List._∷_ (Row.lease (κs .1 .1 .1 .1 .1 .0) (qs .1 .1 .1 .1 .1 .0))
+              (List._∷_ Row.dead (List._∷_ Row.off (List._∷_ Row.off (List._∷_ Row.off (List._∷_ Row.off (List._∷_ Row.off (List._∷_ Row.off (List._∷_ Row.off (List._∷_ Row.off (List._∷_ Row.off
+              List.[])))))))))))))));
+        }
 
         abbrev G17 : Row.Cx
-        G17 = record
-            { locals = List._++_ t7 (List._++_ t1 (List._++_ t2 t3)); slots = List._∷_ (Row.lease (κs .0) (qs .0)) (List._∷_ (Row.lease (κs .1 .0) (qs .1 .0)) (List._∷_ (Row.lease (κs .1 .1 .0) (qs .1 .1
-            .0)) (List._∷_ (Row.lease (κs .1 .1 .1 .0) (qs .1 .1 .1 .0)) (List._∷_ (Row.lease (κs .1 .1 .1 .1 .0) (qs .1 .1 .1 .1 .0)) (List._∷_ (Row.lease (κs .1 .1 .1 .1 .1 .0) (qs .1 .1 .1 .1 .1 .0))
-            (List._∷_ Row.off (List._∷_ Row.off (List._∷_ Row.off (List._∷_ Row.off (List._∷_ Row.off (List._∷_ Row.off (List._∷_ Row.off (List._∷_ Row.off (List._∷_ Row.off (List._∷_ Row.off
-            List.[]))))))))))))))); }
+        G17 = record {
+          locals = List._++_ t7 (List._++_ t1 (List._++_ t2 t3));
+          slots = List._∷_ (Row.lease (κs .0) (qs .0)) (List._∷_ (Row.lease (κs .1 .0) (qs .1 .0)) (List._∷_ (Row.lease (κs .1 .1 .0) (qs .1 .1
+              .0)) (List._∷_ (Row.lease (κs .1 .1 .1 .0) (qs .1 .1 .1 .0)) (List._∷_ (Row.lease (κs .1 .1 .1 .1 .0) (qs .1 .1 .1 .1 .0)) (List._∷_ (Row.lease (κs .1 .1 .1 .1 .1 .0) (qs .1 .1 .1 .1 .1 .0))
+              (List._∷_ Row.off (List._∷_ Row.off (List._∷_ Row.off (List._∷_ Row.off (List._∷_ Row.off (List._∷_ Row.off (List._∷_ Row.off (List._∷_ Row.off (List._∷_ Row.off (List._∷_ Row.off
+              List.[])))))))))))))));
+        }
 
         abbrev G18 : Row.Cx
-        G18 = record
-            { locals = List._++_ t7 (List._++_ t1 (List._++_ t2 t3)); slots = List._∷_ (Row.lease (κs .0) (qs .0)) (List._∷_ (Row.lease (κs .1 .0) (qs .1 .0)) (List._∷_ (Row.lease (κs .1 .1 .0) (qs .1 .1
-            .0)) (List._∷_ (Row.lease (κs .1 .1 .1 .0) (qs .1 .1 .1 .0)) (List._∷_ (Row.lease (κs .1 .1 .1 .1 .0) (qs .1 .1 .1 .1 .0)) (List._∷_ (Row.lease (κs .1 .1 .1 .1 .1 .0) (qs .1 .1 .1 .1 .1 .0))
-            (List._∷_ Row.off (List._∷_ Row.alive (List._∷_ Row.off (List._∷_ Row.off (List._∷_ Row.off (List._∷_ Row.off (List._∷_ Row.off (List._∷_ Row.off (List._∷_ Row.off (List._∷_ Row.off
-            List.[]))))))))))))))); }
+        G18 = record {
+          locals = List._++_ t7 (List._++_ t1 (List._++_ t2 t3));
+          slots = List._∷_ (Row.lease (κs .0) (qs .0)) (List._∷_ (Row.lease (κs .1 .0) (qs .1 .0)) (List._∷_ (Row.lease (κs .1 .1 .0) (qs .1 .1
+              .0)) (List._∷_ (Row.lease (κs .1 .1 .1 .0) (qs .1 .1 .1 .0)) (List._∷_ (Row.lease (κs .1 .1 .1 .1 .0) (qs .1 .1 .1 .1 .0)) (List._∷_ (Row.lease (κs .1 .1 .1 .1 .1 .0) (qs .1 .1 .1 .1 .1 .0))
+              (List._∷_ Row.off (List._∷_ Row.alive (List._∷_ Row.off (List._∷_ Row.off (List._∷_ Row.off (List._∷_ Row.off (List._∷_ Row.off (List._∷_ Row.off (List._∷_ Row.off (List._∷_ Row.off
+              List.[])))))))))))))));
+        }
 
         abbrev G19 : Row.Cx
-        G19 = record
-            { locals = List._++_ g13 (List._++_ t14 (List._++_ t2 t3)); slots = List._∷_ (Row.lease (κs .0) (qs .0)) (List._∷_ (Row.lease (κs .1 .0) (qs .1 .0)) (List._∷_ (Row.lease (κs .1 .1 .0) (qs .1
-            .1 .0)) (List._∷_ Row.off (List._∷_ (Row.lease (κs .1 .1 .1 .1 .0) (qs .1 .1 .1 .1 .0)) (List._∷_ (Row.lease (κs .1 .1 .1 .1 .1 .0) (qs .1 .1 .1 .1 .1 .0)) (List._∷_ Row.off (List._∷_
-            Row.alive (List._∷_ Row.off (List._∷_ Row.off (List._∷_ Row.off (List._∷_ Row.off (List._∷_ Row.off (List._∷_ Row.off (List._∷_ Row.off (List._∷_ Row.off List.[]))))))))))))))); }
+        G19 = record {
+          locals = List._++_ g13 (List._++_ t14 (List._++_ t2 t3));
+          slots = List._∷_ (Row.lease (κs .0) (qs .0)) (List._∷_ (Row.lease (κs .1 .0) (qs .1 .0)) (List._∷_ (Row.lease (κs .1 .1 .0) (qs .1
+              .1 .0)) (List._∷_ Row.off (List._∷_ (Row.lease (κs .1 .1 .1 .1 .0) (qs .1 .1 .1 .1 .0)) (List._∷_ (Row.lease (κs .1 .1 .1 .1 .1 .0) (qs .1 .1 .1 .1 .1 .0)) (List._∷_ Row.off (List._∷_
+              Row.alive (List._∷_ Row.off (List._∷_ Row.off (List._∷_ Row.off (List._∷_ Row.off (List._∷_ Row.off (List._∷_ Row.off (List._∷_ Row.off (List._∷_ Row.off List.[])))))))))))))));
+        }
 
         abbrev G20 : Row.Cx
-        G20 = record
-            { locals = List._++_ g13 (List._++_ t15 (List._++_ t2 t3)); slots = List._∷_ (Row.lease (κs .0) (qs .0)) (List._∷_ (Row.lease (κs .1 .0) (qs .1 .0)) (List._∷_ (Row.lease (κs .1 .1 .0) (qs .1
-            .1 .0)) (List._∷_ Row.off (List._∷_ (Row.lease (κs .1 .1 .1 .1 .0) (qs .1 .1 .1 .1 .0)) (List._∷_ (Row.lease (κs .1 .1 .1 .1 .1 .0) (qs .1 .1 .1 .1 .1 .0)) (List._∷_ Row.off (List._∷_
-            Row.alive (List._∷_ Row.off (List._∷_ Row.off (List._∷_ Row.off (List._∷_ Row.off (List._∷_ Row.off (List._∷_ Row.off (List._∷_ Row.off (List._∷_ Row.off List.[]))))))))))))))); }
+        G20 = record {
+          locals = List._++_ g13 (List._++_ t15 (List._++_ t2 t3));
+          slots = List._∷_ (Row.lease (κs .0) (qs .0)) (List._∷_ (Row.lease (κs .1 .0) (qs .1 .0)) (List._∷_ (Row.lease (κs .1 .1 .0) (qs .1
+              .1 .0)) (List._∷_ Row.off (List._∷_ (Row.lease (κs .1 .1 .1 .1 .0) (qs .1 .1 .1 .1 .0)) (List._∷_ (Row.lease (κs .1 .1 .1 .1 .1 .0) (qs .1 .1 .1 .1 .1 .0)) (List._∷_ Row.off (List._∷_
+              Row.alive (List._∷_ Row.off (List._∷_ Row.off (List._∷_ Row.off (List._∷_ Row.off (List._∷_ Row.off (List._∷_ Row.off (List._∷_ Row.off (List._∷_ Row.off List.[])))))))))))))));
+        }
 
         abbrev G21 : Row.Cx
-        G21 = record
-            { locals = List._++_ g13 (List._++_ t16 (List._++_ t2 t3)); slots = List._∷_ (Row.lease (κs .0) (qs .0)) (List._∷_ (Row.lease (κs .1 .0) (qs .1 .0)) (List._∷_ (Row.lease (κs .1 .1 .0) (qs .1
-            .1 .0)) (List._∷_ Row.off (List._∷_ (Row.lease (κs .1 .1 .1 .1 .0) (qs .1 .1 .1 .1 .0)) (List._∷_ (Row.lease (κs .1 .1 .1 .1 .1 .0) (qs .1 .1 .1 .1 .1 .0)) (List._∷_ Row.off (List._∷_
-            Row.alive (List._∷_ Row.off (List._∷_ Row.off (List._∷_ Row.off (List._∷_ Row.off (List._∷_ Row.off (List._∷_ Row.off (List._∷_ Row.off (List._∷_ Row.off List.[]))))))))))))))); }
+        G21 = record {
+          locals = List._++_ g13 (List._++_ t16 (List._++_ t2 t3));
+          slots = List._∷_ (Row.lease (κs .0) (qs .0)) (List._∷_ (Row.lease (κs .1 .0) (qs .1 .0)) (List._∷_ (Row.lease (κs .1 .1 .0) (qs .1
+              .1 .0)) (List._∷_ Row.off (List._∷_ (Row.lease (κs .1 .1 .1 .1 .0) (qs .1 .1 .1 .1 .0)) (List._∷_ (Row.lease (κs .1 .1 .1 .1 .1 .0) (qs .1 .1 .1 .1 .1 .0)) (List._∷_ Row.off (List._∷_
+              Row.alive (List._∷_ Row.off (List._∷_ Row.off (List._∷_ Row.off (List._∷_ Row.off (List._∷_ Row.off (List._∷_ Row.off (List._∷_ Row.off (List._∷_ Row.off List.[])))))))))))))));
+        }
 
         abbrev G22 : Row.Cx
-        G22 = record
-            { locals = List._++_ g13 (List._++_ t17 (List._++_ t2 t3)); slots = List._∷_ (Row.lease (κs .0) (qs .0)) (List._∷_ (Row.lease (κs .1 .0) (qs .1 .0)) (List._∷_ (Row.lease (κs .1 .1 .0) (qs .1
-            .1 .0)) (List._∷_ Row.off (List._∷_ (Row.lease (κs .1 .1 .1 .1 .0) (qs .1 .1 .1 .1 .0)) (List._∷_ (Row.lease (κs .1 .1 .1 .1 .1 .0) (qs .1 .1 .1 .1 .1 .0)) (List._∷_ Row.off (List._∷_
-            Row.alive (List._∷_ Row.off (List._∷_ Row.off (List._∷_ Row.off (List._∷_ Row.off (List._∷_ Row.off (List._∷_ Row.off (List._∷_ Row.off (List._∷_ Row.off List.[]))))))))))))))); }
+        G22 = record {
+          locals = List._++_ g13 (List._++_ t17 (List._++_ t2 t3));
+          slots = List._∷_ (Row.lease (κs .0) (qs .0)) (List._∷_ (Row.lease (κs .1 .0) (qs .1 .0)) (List._∷_ (Row.lease (κs .1 .1 .0) (qs .1
+              .1 .0)) (List._∷_ Row.off (List._∷_ (Row.lease (κs .1 .1 .1 .1 .0) (qs .1 .1 .1 .1 .0)) (List._∷_ (Row.lease (κs .1 .1 .1 .1 .1 .0) (qs .1 .1 .1 .1 .1 .0)) (List._∷_ Row.off (List._∷_
+              Row.alive (List._∷_ Row.off (List._∷_ Row.off (List._∷_ Row.off (List._∷_ Row.off (List._∷_ Row.off (List._∷_ Row.off (List._∷_ Row.off (List._∷_ Row.off List.[])))))))))))))));
+        }
 
         abbrev G23 : Row.Cx
-        G23 = record
-            { locals = List._++_ g13 (List._++_ t18 (List._++_ t2 t3)); slots = List._∷_ (Row.lease (κs .0) (qs .0)) (List._∷_ (Row.lease (κs .1 .0) (qs .1 .0)) (List._∷_ (Row.lease (κs .1 .1 .0) (qs .1
-            .1 .0)) (List._∷_ Row.off (List._∷_ (Row.lease (κs .1 .1 .1 .1 .0) (qs .1 .1 .1 .1 .0)) (List._∷_ (Row.lease (κs .1 .1 .1 .1 .1 .0) (qs .1 .1 .1 .1 .1 .0)) (List._∷_ Row.off (List._∷_
-            Row.alive (List._∷_ Row.off (List._∷_ Row.off (List._∷_ Row.off (List._∷_ Row.off (List._∷_ Row.off (List._∷_ Row.off (List._∷_ Row.off (List._∷_ Row.off List.[]))))))))))))))); }
+        G23 = record {
+          locals = List._++_ g13 (List._++_ t18 (List._++_ t2 t3));
+          slots = List._∷_ (Row.lease (κs .0) (qs .0)) (List._∷_ (Row.lease (κs .1 .0) (qs .1 .0)) (List._∷_ (Row.lease (κs .1 .1 .0) (qs .1
+              .1 .0)) (List._∷_ Row.off (List._∷_ (Row.lease (κs .1 .1 .1 .1 .0) (qs .1 .1 .1 .1 .0)) (List._∷_ (Row.lease (κs .1 .1 .1 .1 .1 .0) (qs .1 .1 .1 .1 .1 .0)) (List._∷_ Row.off (List._∷_
+              Row.alive (List._∷_ Row.off (List._∷_ Row.off (List._∷_ Row.off (List._∷_ Row.off (List._∷_ Row.off (List._∷_ Row.off (List._∷_ Row.off (List._∷_ Row.off List.[])))))))))))))));
+        }
 
         abbrev G24 : Row.Cx
-        G24 = record
-            { locals = List._++_ g13 (List._++_ t19 (List._++_ t2 t3)); slots = List._∷_ (Row.lease (κs .0) (qs .0)) (List._∷_ (Row.lease (κs .1 .0) (qs .1 .0)) (List._∷_ (Row.lease (κs .1 .1 .0) (qs .1
-            .1 .0)) (List._∷_ Row.off (List._∷_ (Row.lease (κs .1 .1 .1 .1 .0) (qs .1 .1 .1 .1 .0)) (List._∷_ (Row.lease (κs .1 .1 .1 .1 .1 .0) (qs .1 .1 .1 .1 .1 .0)) (List._∷_ Row.off (List._∷_
-            Row.alive (List._∷_ Row.off (List._∷_ Row.off (List._∷_ Row.off (List._∷_ Row.off (List._∷_ Row.off (List._∷_ Row.off (List._∷_ Row.off (List._∷_ Row.off List.[]))))))))))))))); }
+        G24 = record {
+          locals = List._++_ g13 (List._++_ t19 (List._++_ t2 t3));
+          slots = List._∷_ (Row.lease (κs .0) (qs .0)) (List._∷_ (Row.lease (κs .1 .0) (qs .1 .0)) (List._∷_ (Row.lease (κs .1 .1 .0) (qs .1
+              .1 .0)) (List._∷_ Row.off (List._∷_ (Row.lease (κs .1 .1 .1 .1 .0) (qs .1 .1 .1 .1 .0)) (List._∷_ (Row.lease (κs .1 .1 .1 .1 .1 .0) (qs .1 .1 .1 .1 .1 .0)) (List._∷_ Row.off (List._∷_
+              Row.alive (List._∷_ Row.off (List._∷_ Row.off (List._∷_ Row.off (List._∷_ Row.off (List._∷_ Row.off (List._∷_ Row.off (List._∷_ Row.off (List._∷_ Row.off List.[])))))))))))))));
+        }
 
         abbrev G25 : Row.Cx
-        G25 = record
-            { locals = List._++_ g13 (List._++_ t19 (List._++_ t2 t3)); slots = List._∷_ (Row.lease (κs .0) (qs .0)) (List._∷_ (Row.lease (κs .1 .0) (qs .1 .0)) (List._∷_ (Row.lease (κs .1 .1 .0) (qs .1
-            .1 .0)) (List._∷_ Row.off (List._∷_ (Row.lease (κs .1 .1 .1 .1 .0) (qs .1 .1 .1 .1 .0)) (List._∷_ (Row.lease (κs .1 .1 .1 .1 .1 .0) (qs .1 .1 .1 .1 .1 .0)) (List._∷_ Row.off (List._∷_ Row.dead
-            (List._∷_ Row.off (List._∷_ Row.off (List._∷_ Row.off (List._∷_ Row.off (List._∷_ Row.off (List._∷_ Row.off (List._∷_ Row.off (List._∷_ Row.off List.[]))))))))))))))); }
+        G25 = record {
+          locals = List._++_ g13 (List._++_ t19 (List._++_ t2 t3));
+          slots = List._∷_ (Row.lease (κs .0) (qs .0)) (List._∷_ (Row.lease (κs .1 .0) (qs .1 .0)) (List._∷_ (Row.lease (κs .1 .1 .0) (qs .1
+              .1 .0)) (List._∷_ Row.off (List._∷_ (Row.lease (κs .1 .1 .1 .1 .0) (qs .1 .1 .1 .1 .0)) (List._∷_ (Row.lease (κs .1 .1 .1 .1 .1 .0) (qs .1 .1 .1 .1 .1 .0)) (List._∷_ Row.off (List._∷_ Row.dead
+              (List._∷_ Row.off (List._∷_ Row.off (List._∷_ Row.off (List._∷_ Row.off (List._∷_ Row.off (List._∷_ Row.off (List._∷_ Row.off (List._∷_ Row.off List.[])))))))))))))));
+        }
 
         abbrev G26 : Row.Cx
-        G26 = record
-            { locals = List._++_ t7 (List._++_ t1 (List._++_ t2 t3)); slots = List._∷_ (Row.lease (κs .0) (qs .0)) (List._∷_ (Row.lease (κs .1 .0) (qs .1 .0)) (List._∷_ (Row.lease (κs .1 .1 .0) (qs .1 .1
-            .0)) (List._∷_ (Row.lease (κs .1 .1 .1 .0) (qs .1 .1 .1 .0)) (List._∷_ (Row.lease (κs .1 .1 .1 .1 .0) (qs .1 .1 .1 .1 .0)) (List._∷_ (Row.lease (κs .1 .1 .1 .1 .1 .0) (qs .1 .1 .1 .1 .1 .0))
-            (List._∷_ Row.off (List._∷_ Row.dead (List._∷_ Row.off (List._∷_ Row.off (List._∷_ Row.off (List._∷_ Row.off (List._∷_ Row.off (List._∷_ Row.off (List._∷_ Row.off (List._∷_ Row.off
-            List.[]))))))))))))))); }
+        G26 = record {
+          locals = List._++_ t7 (List._++_ t1 (List._++_ t2 t3));
+          slots = List._∷_ (Row.lease (κs .0) (qs .0)) (List._∷_ (Row.lease (κs .1 .0) (qs .1 .0)) (List._∷_ (Row.lease (κs .1 .1 .0) (qs .1 .1
+              .0)) (List._∷_ (Row.lease (κs .1 .1 .1 .0) (qs .1 .1 .1 .0)) (List._∷_ (Row.lease (κs .1 .1 .1 .1 .0) (qs .1 .1 .1 .1 .0)) (List._∷_ (Row.lease (κs .1 .1 .1 .1 .1 .0) (qs .1 .1 .1 .1 .1 .0))
+              (List._∷_ Row.off (List._∷_ Row.dead (List._∷_ Row.off (List._∷_ Row.off (List._∷_ Row.off (List._∷_ Row.off (List._∷_ Row.off (List._∷_ Row.off (List._∷_ Row.off (List._∷_ Row.off
+              List.[])))))))))))))));
+        }
 
         abbrev G27 : Row.Cx
-        G27 = record
-            { locals = List._++_ t7 (List._++_ t1 (List._++_ t2 t3)); slots = List._∷_ (Row.lease (κs .0) (qs .0)) (List._∷_ (Row.lease (κs .1 .0) (qs .1 .0)) (List._∷_ (Row.lease (κs .1 .1 .0) (qs .1 .1
-            .0)) (List._∷_ (Row.lease (κs .1 .1 .1 .0) (qs .1 .1 .1 .0)) (List._∷_ (Row.lease (κs .1 .1 .1 .1 .0) (qs .1 .1 .1 .1 .0)) (List._∷_ (Row.lease (κs .1 .1 .1 .1 .1 .0) (qs .1 .1 .1 .1 .1 .0))
-            (List._∷_ Row.off (List._∷_ Row.off (List._∷_ Row.off (List._∷_ Row.off (List._∷_ Row.off (List._∷_ Row.off (List._∷_ Row.off (List._∷_ Row.off (List._∷_ Row.off (List._∷_ Row.off
-            List.[]))))))))))))))); }
+        G27 = record {
+          locals = List._++_ t7 (List._++_ t1 (List._++_ t2 t3));
+          slots = List._∷_ (Row.lease (κs .0) (qs .0)) (List._∷_ (Row.lease (κs .1 .0) (qs .1 .0)) (List._∷_ (Row.lease (κs .1 .1 .0) (qs .1 .1
+              .0)) (List._∷_ (Row.lease (κs .1 .1 .1 .0) (qs .1 .1 .1 .0)) (List._∷_ (Row.lease (κs .1 .1 .1 .1 .0) (qs .1 .1 .1 .1 .0)) (List._∷_ (Row.lease (κs .1 .1 .1 .1 .1 .0) (qs .1 .1 .1 .1 .1 .0))
+              (List._∷_ Row.off (List._∷_ Row.off (List._∷_ Row.off (List._∷_ Row.off (List._∷_ Row.off (List._∷_ Row.off (List._∷_ Row.off (List._∷_ Row.off (List._∷_ Row.off (List._∷_ Row.off
+              List.[])))))))))))))));
+        }
 
         abbrev G28 : Row.Cx
-        G28 = record
-            { locals = List._++_ t7 (List._++_ t20 (List._++_ t2 t3)); slots = List._∷_ (Row.lease (κs .0) (qs .0)) (List._∷_ (Row.lease (κs .1 .0) (qs .1 .0)) (List._∷_ (Row.lease (κs .1 .1 .0) (qs .1 .1
-            .0)) (List._∷_ (Row.lease (κs .1 .1 .1 .0) (qs .1 .1 .1 .0)) (List._∷_ (Row.lease (κs .1 .1 .1 .1 .0) (qs .1 .1 .1 .1 .0)) (List._∷_ (Row.lease (κs .1 .1 .1 .1 .1 .0) (qs .1 .1 .1 .1 .1 .0))
-            (List._∷_ Row.off (List._∷_ Row.off (List._∷_ Row.off (List._∷_ Row.off (List._∷_ Row.off (List._∷_ Row.off (List._∷_ Row.off (List._∷_ Row.off (List._∷_ Row.off (List._∷_ Row.off
-            List.[]))))))))))))))); }
+        G28 = record {
+          locals = List._++_ t7 (List._++_ t20 (List._++_ t2 t3));
+          slots = List._∷_ (Row.lease (κs .0) (qs .0)) (List._∷_ (Row.lease (κs .1 .0) (qs .1 .0)) (List._∷_ (Row.lease (κs .1 .1 .0) (qs .1 .1
+              .0)) (List._∷_ (Row.lease (κs .1 .1 .1 .0) (qs .1 .1 .1 .0)) (List._∷_ (Row.lease (κs .1 .1 .1 .1 .0) (qs .1 .1 .1 .1 .0)) (List._∷_ (Row.lease (κs .1 .1 .1 .1 .1 .0) (qs .1 .1 .1 .1 .1 .0))
+              (List._∷_ Row.off (List._∷_ Row.off (List._∷_ Row.off (List._∷_ Row.off (List._∷_ Row.off (List._∷_ Row.off (List._∷_ Row.off (List._∷_ Row.off (List._∷_ Row.off (List._∷_ Row.off
+              List.[])))))))))))))));
+        }
 
         abbrev G29 : Row.Cx
-        G29 = record
-            { locals = List._++_ t7 (List._++_ t21 (List._++_ t2 t3)); slots = List._∷_ (Row.lease (κs .0) (qs .0)) (List._∷_ (Row.lease (κs .1 .0) (qs .1 .0)) (List._∷_ (Row.lease (κs .1 .1 .0) (qs .1 .1
-            .0)) (List._∷_ (Row.lease (κs .1 .1 .1 .0) (qs .1 .1 .1 .0)) (List._∷_ (Row.lease (κs .1 .1 .1 .1 .0) (qs .1 .1 .1 .1 .0)) (List._∷_ (Row.lease (κs .1 .1 .1 .1 .1 .0) (qs .1 .1 .1 .1 .1 .0))
-            (List._∷_ Row.off (List._∷_ Row.off (List._∷_ Row.off (List._∷_ Row.off (List._∷_ Row.off (List._∷_ Row.off (List._∷_ Row.off (List._∷_ Row.off (List._∷_ Row.off (List._∷_ Row.off
-            List.[]))))))))))))))); }
+        G29 = record {
+          locals = List._++_ t7 (List._++_ t21 (List._++_ t2 t3));
+          slots = List._∷_ (Row.lease (κs .0) (qs .0)) (List._∷_ (Row.lease (κs .1 .0) (qs .1 .0)) (List._∷_ (Row.lease (κs .1 .1 .0) (qs .1 .1
+              .0)) (List._∷_ (Row.lease (κs .1 .1 .1 .0) (qs .1 .1 .1 .0)) (List._∷_ (Row.lease (κs .1 .1 .1 .1 .0) (qs .1 .1 .1 .1 .0)) (List._∷_ (Row.lease (κs .1 .1 .1 .1 .1 .0) (qs .1 .1 .1 .1 .1 .0))
+              (List._∷_ Row.off (List._∷_ Row.off (List._∷_ Row.off (List._∷_ Row.off (List._∷_ Row.off (List._∷_ Row.off (List._∷_ Row.off (List._∷_ Row.off (List._∷_ Row.off (List._∷_ Row.off
+              List.[])))))))))))))));
+        }
 
         abbrev G30 : Row.Cx
-        G30 = record
-            { locals = List._++_ t7 (List._++_ t22 (List._++_ t2 t3)); slots = List._∷_ (Row.lease (κs .0) (qs .0)) (List._∷_ (Row.lease (κs .1 .0) (qs .1 .0)) (List._∷_ (Row.lease (κs .1 .1 .0) (qs .1 .1
-            .0)) (List._∷_ (Row.lease (κs .1 .1 .1 .0) (qs .1 .1 .1 .0)) (List._∷_ (Row.lease (κs .1 .1 .1 .1 .0) (qs .1 .1 .1 .1 .0)) (List._∷_ (Row.lease (κs .1 .1 .1 .1 .1 .0) (qs .1 .1 .1 .1 .1 .0))
-            (List._∷_ Row.off (List._∷_ Row.off (List._∷_ Row.off (List._∷_ Row.off (List._∷_ Row.off (List._∷_ Row.off (List._∷_ Row.off (List._∷_ Row.off (List._∷_ Row.off (List._∷_ Row.off
-            List.[]))))))))))))))); }
+        G30 = record {
+          locals = List._++_ t7 (List._++_ t22 (List._++_ t2 t3));
+          slots = List._∷_ (Row.lease (κs .0) (qs .0)) (List._∷_ (Row.lease (κs .1 .0) (qs .1 .0)) (List._∷_ (Row.lease (κs .1 .1 .0) (qs .1 .1
+              .0)) (List._∷_ (Row.lease (κs .1 .1 .1 .0) (qs .1 .1 .1 .0)) (List._∷_ (Row.lease (κs .1 .1 .1 .1 .0) (qs .1 .1 .1 .1 .0)) (List._∷_ (Row.lease (κs .1 .1 .1 .1 .1 .0) (qs .1 .1 .1 .1 .1 .0))
+              (List._∷_ Row.off (List._∷_ Row.off (List._∷_ Row.off (List._∷_ Row.off (List._∷_ Row.off (List._∷_ Row.off (List._∷_ Row.off (List._∷_ Row.off (List._∷_ Row.off (List._∷_ Row.off
+              List.[])))))))))))))));
+        }
 
         abbrev G31 : Row.Cx
-        G31 = record
-            { locals = List._++_ t23 (List._++_ t22 (List._++_ t2 t3)); slots = List._∷_ (Row.lease (κs .0) (qs .0)) (List._∷_ (Row.lease (κs .1 .0) (qs .1 .0)) (List._∷_ (Row.lease (κs .1 .1 .0) (qs .1
-            .1 .0)) (List._∷_ (Row.lease (κs .1 .1 .1 .0) (qs .1 .1 .1 .0)) (List._∷_ (Row.lease (κs .1 .1 .1 .1 .0) (qs .1 .1 .1 .1 .0)) (List._∷_ (Row.lease (κs .1 .1 .1 .1 .1 .0) (qs .1 .1 .1 .1 .1
-            .0)) (List._∷_ Row.off (List._∷_ Row.off (List._∷_ Row.off (List._∷_ Row.off (List._∷_ Row.off (List._∷_ Row.off (List._∷_ Row.off (List._∷_ Row.off (List._∷_ Row.off (List._∷_ Row.off
-            List.[]))))))))))))))); }
+        G31 = record {
+          locals = List._++_ t23 (List._++_ t22 (List._++_ t2 t3));
+          slots = List._∷_ (Row.lease (κs .0) (qs .0)) (List._∷_ (Row.lease (κs .1 .0) (qs .1 .0)) (List._∷_ (Row.lease (κs .1 .1 .0) (qs .1
+              .1 .0)) (List._∷_ (Row.lease (κs .1 .1 .1 .0) (qs .1 .1 .1 .0)) (List._∷_ (Row.lease (κs .1 .1 .1 .1 .0) (qs .1 .1 .1 .1 .0)) (List._∷_ (Row.lease (κs .1 .1 .1 .1 .1 .0) (qs .1 .1 .1 .1 .1
+              .0)) (List._∷_ Row.off (List._∷_ Row.off (List._∷_ Row.off (List._∷_ Row.off (List._∷_ Row.off (List._∷_ Row.off (List._∷_ Row.off (List._∷_ Row.off (List._∷_ Row.off (List._∷_ Row.off
+              List.[])))))))))))))));
+        }
 
         abbrev G32 : Row.Cx
-        G32 = record
-            { locals = List._++_ t7 (List._++_ t24 (List._++_ t2 t3)); slots = List._∷_ (Row.lease (κs .0) (qs .0)) (List._∷_ (Row.lease (κs .1 .0) (qs .1 .0)) (List._∷_ (Row.lease (κs .1 .1 .0) (qs .1 .1
-            .0)) (List._∷_ (Row.lease (κs .1 .1 .1 .0) (qs .1 .1 .1 .0)) (List._∷_ (Row.lease (κs .1 .1 .1 .1 .0) (qs .1 .1 .1 .1 .0)) (List._∷_ (Row.lease (κs .1 .1 .1 .1 .1 .0) (qs .1 .1 .1 .1 .1 .0))
-            (List._∷_ Row.off (List._∷_ Row.off (List._∷_ Row.off (List._∷_ Row.off (List._∷_ Row.off (List._∷_ Row.off (List._∷_ Row.off (List._∷_ Row.off (List._∷_ Row.off (List._∷_ Row.off
-            List.[]))))))))))))))); }
+        G32 = record {
+          locals = List._++_ t7 (List._++_ t24 (List._++_ t2 t3));
+          slots = List._∷_ (Row.lease (κs .0) (qs .0)) (List._∷_ (Row.lease (κs .1 .0) (qs .1 .0)) (List._∷_ (Row.lease (κs .1 .1 .0) (qs .1 .1
+              .0)) (List._∷_ (Row.lease (κs .1 .1 .1 .0) (qs .1 .1 .1 .0)) (List._∷_ (Row.lease (κs .1 .1 .1 .1 .0) (qs .1 .1 .1 .1 .0)) (List._∷_ (Row.lease (κs .1 .1 .1 .1 .1 .0) (qs .1 .1 .1 .1 .1 .0))
+              (List._∷_ Row.off (List._∷_ Row.off (List._∷_ Row.off (List._∷_ Row.off (List._∷_ Row.off (List._∷_ Row.off (List._∷_ Row.off (List._∷_ Row.off (List._∷_ Row.off (List._∷_ Row.off
+              List.[])))))))))))))));
+        }
 
         abbrev G33 : Row.Cx
-        G33 = record
-            { locals = List._++_ t7 (List._++_ t22 (List._++_ t2 t3)); slots = List._∷_ (Row.lease (κs .0) (qs .0)) (List._∷_ (Row.lease (κs .1 .0) (qs .1 .0)) (List._∷_ (Row.lease (κs .1 .1 .0) (qs .1 .1
-            .0)) (List._∷_ (Row.lease (κs .1 .1 .1 .0) (qs .1 .1 .1 .0)) (List._∷_ (Row.lease (κs .1 .1 .1 .1 .0) (qs .1 .1 .1 .1 .0)) (List._∷_ (Row.lease (κs .1 .1 .1 .1 .1 .0) (qs .1 .1 .1 .1 .1 .0))
-            (List._∷_ Row.off (List._∷_ Row.off (List._∷_ Row.off (List._∷_ Row.off (List._∷_ Row.off (List._∷_ Row.off (List._∷_ Row.off (List._∷_ Row.off (List._∷_ Row.off (List._∷_ Row.off
-            List.[]))))))))))))))); }
+        G33 = record {
+          locals = List._++_ t7 (List._++_ t22 (List._++_ t2 t3));
+          slots = List._∷_ (Row.lease (κs .0) (qs .0)) (List._∷_ (Row.lease (κs .1 .0) (qs .1 .0)) (List._∷_ (Row.lease (κs .1 .1 .0) (qs .1 .1
+              .0)) (List._∷_ (Row.lease (κs .1 .1 .1 .0) (qs .1 .1 .1 .0)) (List._∷_ (Row.lease (κs .1 .1 .1 .1 .0) (qs .1 .1 .1 .1 .0)) (List._∷_ (Row.lease (κs .1 .1 .1 .1 .1 .0) (qs .1 .1 .1 .1 .1 .0))
+              (List._∷_ Row.off (List._∷_ Row.off (List._∷_ Row.off (List._∷_ Row.off (List._∷_ Row.off (List._∷_ Row.off (List._∷_ Row.off (List._∷_ Row.off (List._∷_ Row.off (List._∷_ Row.off
+              List.[])))))))))))))));
+        }
 
         abbrev G34 : Row.Cx
-        G34 = record
-            { locals = List._++_ t7 (List._++_ t22 (List._++_ t2 t3)); slots = List._∷_ (Row.lease (κs .0) (qs .0)) (List._∷_ (Row.lease (κs .1 .0) (qs .1 .0)) (List._∷_ (Row.lease (κs .1 .1 .0) (qs .1 .1
-            .0)) (List._∷_ (Row.lease (κs .1 .1 .1 .0) (qs .1 .1 .1 .0)) (List._∷_ (Row.lease (κs .1 .1 .1 .1 .0) (qs .1 .1 .1 .1 .0)) (List._∷_ (Row.lease (κs .1 .1 .1 .1 .1 .0) (qs .1 .1 .1 .1 .1 .0))
-            (List._∷_ Row.off (List._∷_ Row.off (List._∷_ Row.off (List._∷_ Row.off (List._∷_ Row.off (List._∷_ Row.off (List._∷_ Row.off (List._∷_ Row.off (List._∷_ Row.off (List._∷_ Row.off
-            List.[]))))))))))))))); }
+        G34 = record {
+          locals = List._++_ t7 (List._++_ t22 (List._++_ t2 t3));
+          slots = List._∷_ (Row.lease (κs .0) (qs .0)) (List._∷_ (Row.lease (κs .1 .0) (qs .1 .0)) (List._∷_ (Row.lease (κs .1 .1 .0) (qs .1 .1
+              .0)) (List._∷_ (Row.lease (κs .1 .1 .1 .0) (qs .1 .1 .1 .0)) (List._∷_ (Row.lease (κs .1 .1 .1 .1 .0) (qs .1 .1 .1 .1 .0)) (List._∷_ (Row.lease (κs .1 .1 .1 .1 .1 .0) (qs .1 .1 .1 .1 .1 .0))
+              (List._∷_ Row.off (List._∷_ Row.off (List._∷_ Row.off (List._∷_ Row.off (List._∷_ Row.off (List._∷_ Row.off (List._∷_ Row.off (List._∷_ Row.off (List._∷_ Row.off (List._∷_ Row.off
+              List.[])))))))))))))));
+        }
 
         abbrev G35 : Row.Cx
-        G35 = record
-            { locals = List._++_ t25 (List._++_ t24 (List._++_ t2 t3)); slots = List._∷_ (Row.lease (κs .0) (qs .0)) (List._∷_ (Row.lease (κs .1 .0) (qs .1 .0)) (List._∷_ (Row.lease (κs .1 .1 .0) (qs .1
-            .1 .0)) (List._∷_ (Row.lease (κs .1 .1 .1 .0) (qs .1 .1 .1 .0)) (List._∷_ (Row.lease (κs .1 .1 .1 .1 .0) (qs .1 .1 .1 .1 .0)) (List._∷_ (Row.lease (κs .1 .1 .1 .1 .1 .0) (qs .1 .1 .1 .1 .1
-            .0)) (List._∷_ Row.off (List._∷_ Row.off (List._∷_ Row.off (List._∷_ Row.off (List._∷_ Row.off (List._∷_ Row.off (List._∷_ Row.off (List._∷_ Row.off (List._∷_ Row.off (List._∷_ Row.off
-            List.[]))))))))))))))); }
+        G35 = record {
+          locals = List._++_ t25 (List._++_ t24 (List._++_ t2 t3));
+          slots = List._∷_ (Row.lease (κs .0) (qs .0)) (List._∷_ (Row.lease (κs .1 .0) (qs .1 .0)) (List._∷_ (Row.lease (κs .1 .1 .0) (qs .1
+              .1 .0)) (List._∷_ (Row.lease (κs .1 .1 .1 .0) (qs .1 .1 .1 .0)) (List._∷_ (Row.lease (κs .1 .1 .1 .1 .0) (qs .1 .1 .1 .1 .0)) (List._∷_ (Row.lease (κs .1 .1 .1 .1 .1 .0) (qs .1 .1 .1 .1 .1
+              .0)) (List._∷_ Row.off (List._∷_ Row.off (List._∷_ Row.off (List._∷_ Row.off (List._∷_ Row.off (List._∷_ Row.off (List._∷_ Row.off (List._∷_ Row.off (List._∷_ Row.off (List._∷_ Row.off
+              List.[])))))))))))))));
+        }
 
         abbrev G36 : Row.Cx
-        G36 = record
-            { locals = List._++_ t26 (List._++_ t24 (List._++_ t2 t3)); slots = List._∷_ (Row.lease (κs .0) (qs .0)) (List._∷_ (Row.lease (κs .1 .0) (qs .1 .0)) (List._∷_ (Row.lease (κs .1 .1 .0) (qs .1
-            .1 .0)) (List._∷_ (Row.lease (κs .1 .1 .1 .0) (qs .1 .1 .1 .0)) (List._∷_ (Row.lease (κs .1 .1 .1 .1 .0) (qs .1 .1 .1 .1 .0)) (List._∷_ (Row.lease (κs .1 .1 .1 .1 .1 .0) (qs .1 .1 .1 .1 .1
-            .0)) (List._∷_ Row.off (List._∷_ Row.off (List._∷_ Row.off (List._∷_ Row.off (List._∷_ Row.off (List._∷_ Row.off (List._∷_ Row.off (List._∷_ Row.off (List._∷_ Row.off (List._∷_ Row.off
-            List.[]))))))))))))))); }
+        G36 = record {
+          locals = List._++_ t26 (List._++_ t24 (List._++_ t2 t3));
+          slots = List._∷_ (Row.lease (κs .0) (qs .0)) (List._∷_ (Row.lease (κs .1 .0) (qs .1 .0)) (List._∷_ (Row.lease (κs .1 .1 .0) (qs .1
+              .1 .0)) (List._∷_ (Row.lease (κs .1 .1 .1 .0) (qs .1 .1 .1 .0)) (List._∷_ (Row.lease (κs .1 .1 .1 .1 .0) (qs .1 .1 .1 .1 .0)) (List._∷_ (Row.lease (κs .1 .1 .1 .1 .1 .0) (qs .1 .1 .1 .1 .1
+              .0)) (List._∷_ Row.off (List._∷_ Row.off (List._∷_ Row.off (List._∷_ Row.off (List._∷_ Row.off (List._∷_ Row.off (List._∷_ Row.off (List._∷_ Row.off (List._∷_ Row.off (List._∷_ Row.off
+              List.[])))))))))))))));
+        }
 
         abbrev G37 : Row.Cx
-        G37 = record
-            { locals = List._++_ t27 (List._++_ t24 (List._++_ t2 t3)); slots = List._∷_ (Row.lease (κs .0) (qs .0)) (List._∷_ (Row.lease (κs .1 .0) (qs .1 .0)) (List._∷_ (Row.lease (κs .1 .1 .0) (qs .1
-            .1 .0)) (List._∷_ (Row.lease (κs .1 .1 .1 .0) (qs .1 .1 .1 .0)) (List._∷_ (Row.lease (κs .1 .1 .1 .1 .0) (qs .1 .1 .1 .1 .0)) (List._∷_ (Row.lease (κs .1 .1 .1 .1 .1 .0) (qs .1 .1 .1 .1 .1
-            .0)) (List._∷_ Row.off (List._∷_ Row.off (List._∷_ Row.off (List._∷_ Row.off (List._∷_ Row.off (List._∷_ Row.off (List._∷_ Row.off (List._∷_ Row.off (List._∷_ Row.off (List._∷_ Row.off
-            List.[]))))))))))))))); }
+        G37 = record {
+          locals = List._++_ t27 (List._++_ t24 (List._++_ t2 t3));
+          slots = List._∷_ (Row.lease (κs .0) (qs .0)) (List._∷_ (Row.lease (κs .1 .0) (qs .1 .0)) (List._∷_ (Row.lease (κs .1 .1 .0) (qs .1
+              .1 .0)) (List._∷_ (Row.lease (κs .1 .1 .1 .0) (qs .1 .1 .1 .0)) (List._∷_ (Row.lease (κs .1 .1 .1 .1 .0) (qs .1 .1 .1 .1 .0)) (List._∷_ (Row.lease (κs .1 .1 .1 .1 .1 .0) (qs .1 .1 .1 .1 .1
+              .0)) (List._∷_ Row.off (List._∷_ Row.off (List._∷_ Row.off (List._∷_ Row.off (List._∷_ Row.off (List._∷_ Row.off (List._∷_ Row.off (List._∷_ Row.off (List._∷_ Row.off (List._∷_ Row.off
+              List.[])))))))))))))));
+        }
 
         abbrev G38 : Row.Cx
-        G38 = record
-            { locals = List._++_ t23 (List._++_ t24 (List._++_ t2 t3)); slots = List._∷_ (Row.lease (κs .0) (qs .0)) (List._∷_ (Row.lease (κs .1 .0) (qs .1 .0)) (List._∷_ (Row.lease (κs .1 .1 .0) (qs .1
-            .1 .0)) (List._∷_ (Row.lease (κs .1 .1 .1 .0) (qs .1 .1 .1 .0)) (List._∷_ (Row.lease (κs .1 .1 .1 .1 .0) (qs .1 .1 .1 .1 .0)) (List._∷_ (Row.lease (κs .1 .1 .1 .1 .1 .0) (qs .1 .1 .1 .1 .1
-            .0)) (List._∷_ Row.off (List._∷_ Row.off (List._∷_ Row.off (List._∷_ Row.off (List._∷_ Row.off (List._∷_ Row.off (List._∷_ Row.off (List._∷_ Row.off (List._∷_ Row.off (List._∷_ Row.off
-            List.[]))))))))))))))); }
+        G38 = record {
+          locals = List._++_ t23 (List._++_ t24 (List._++_ t2 t3));
+          slots = List._∷_ (Row.lease (κs .0) (qs .0)) (List._∷_ (Row.lease (κs .1 .0) (qs .1 .0)) (List._∷_ (Row.lease (κs .1 .1 .0) (qs .1
+              .1 .0)) (List._∷_ (Row.lease (κs .1 .1 .1 .0) (qs .1 .1 .1 .0)) (List._∷_ (Row.lease (κs .1 .1 .1 .1 .0) (qs .1 .1 .1 .1 .0)) (List._∷_ (Row.lease (κs .1 .1 .1 .1 .1 .0) (qs .1 .1 .1 .1 .1
+              .0)) (List._∷_ Row.off (List._∷_ Row.off (List._∷_ Row.off (List._∷_ Row.off (List._∷_ Row.off (List._∷_ Row.off (List._∷_ Row.off (List._∷_ Row.off (List._∷_ Row.off (List._∷_ Row.off
+              List.[])))))))))))))));
+        }
 
         abbrev G39 : Row.Cx
-        G39 = record
-            { locals = List._++_ t23 (List._++_ t22 (List._++_ t2 t3)); slots = List._∷_ (Row.lease (κs .0) (qs .0)) (List._∷_ (Row.lease (κs .1 .0) (qs .1 .0)) (List._∷_ (Row.lease (κs .1 .1 .0) (qs .1
-            .1 .0)) (List._∷_ (Row.lease (κs .1 .1 .1 .0) (qs .1 .1 .1 .0)) (List._∷_ (Row.lease (κs .1 .1 .1 .1 .0) (qs .1 .1 .1 .1 .0)) (List._∷_ (Row.lease (κs .1 .1 .1 .1 .1 .0) (qs .1 .1 .1 .1 .1
-            .0)) (List._∷_ Row.off (List._∷_ Row.off (List._∷_ Row.off (List._∷_ Row.off (List._∷_ Row.off (List._∷_ Row.off (List._∷_ Row.off (List._∷_ Row.off (List._∷_ Row.off (List._∷_ Row.off
-            List.[]))))))))))))))); }
+        G39 = record {
+          locals = List._++_ t23 (List._++_ t22 (List._++_ t2 t3));
+          slots = List._∷_ (Row.lease (κs .0) (qs .0)) (List._∷_ (Row.lease (κs .1 .0) (qs .1 .0)) (List._∷_ (Row.lease (κs .1 .1 .0) (qs .1
+              .1 .0)) (List._∷_ (Row.lease (κs .1 .1 .1 .0) (qs .1 .1 .1 .0)) (List._∷_ (Row.lease (κs .1 .1 .1 .1 .0) (qs .1 .1 .1 .1 .0)) (List._∷_ (Row.lease (κs .1 .1 .1 .1 .1 .0) (qs .1 .1 .1 .1 .1
+              .0)) (List._∷_ Row.off (List._∷_ Row.off (List._∷_ Row.off (List._∷_ Row.off (List._∷_ Row.off (List._∷_ Row.off (List._∷_ Row.off (List._∷_ Row.off (List._∷_ Row.off (List._∷_ Row.off
+              List.[])))))))))))))));
+        }
 
         abbrev G40 : Row.Cx
-        G40 = record
-            { locals = List._++_ t7 (List._++_ t22 (List._++_ t2 t3)); slots = List._∷_ (Row.lease (κs .0) (qs .0)) (List._∷_ (Row.lease (κs .1 .0) (qs .1 .0)) (List._∷_ (Row.lease (κs .1 .1 .0) (qs .1 .1
-            .0)) (List._∷_ (Row.lease (κs .1 .1 .1 .0) (qs .1 .1 .1 .0)) (List._∷_ (Row.lease (κs .1 .1 .1 .1 .0) (qs .1 .1 .1 .1 .0)) (List._∷_ (Row.lease (κs .1 .1 .1 .1 .1 .0) (qs .1 .1 .1 .1 .1 .0))
-            (List._∷_ Row.off (List._∷_ Row.off (List._∷_ Row.alive (List._∷_ Row.off (List._∷_ Row.off (List._∷_ Row.off (List._∷_ Row.off (List._∷_ Row.off (List._∷_ Row.off (List._∷_ Row.off
-            List.[]))))))))))))))); }
+        G40 = record {
+          locals = List._++_ t7 (List._++_ t22 (List._++_ t2 t3));
+          slots = List._∷_ (Row.lease (κs .0) (qs .0)) (List._∷_ (Row.lease (κs .1 .0) (qs .1 .0)) (List._∷_ (Row.lease (κs .1 .1 .0) (qs .1 .1
+              .0)) (List._∷_ (Row.lease (κs .1 .1 .1 .0) (qs .1 .1 .1 .0)) (List._∷_ (Row.lease (κs .1 .1 .1 .1 .0) (qs .1 .1 .1 .1 .0)) (List._∷_ (Row.lease (κs .1 .1 .1 .1 .1 .0) (qs .1 .1 .1 .1 .1 .0))
+              (List._∷_ Row.off (List._∷_ Row.off (List._∷_ Row.alive (List._∷_ Row.off (List._∷_ Row.off (List._∷_ Row.off (List._∷_ Row.off (List._∷_ Row.off (List._∷_ Row.off (List._∷_ Row.off
+              List.[])))))))))))))));
+        }
 
         abbrev G41 : Row.Cx
-        G41 = record
-            { locals = List._++_ g28 (List._++_ t29 (List._++_ t2 t3)); slots = List._∷_ (Row.lease (κs .0) (qs .0)) (List._∷_ (Row.lease (κs .1 .0) (qs .1 .0)) (List._∷_ Row.off (List._∷_ (Row.lease (κs
-            .1 .1 .1 .0) (qs .1 .1 .1 .0)) (List._∷_ (Row.lease (κs .1 .1 .1 .1 .0) (qs .1 .1 .1 .1 .0)) (List._∷_ (Row.lease (κs .1 .1 .1 .1 .1 .0) (qs .1 .1 .1 .1 .1 .0)) (List._∷_ Row.off (List._∷_
-            Row.off (List._∷_ Row.alive (List._∷_ Row.off (List._∷_ Row.off (List._∷_ Row.off (List._∷_ Row.off (List._∷_ Row.off (List._∷_ Row.off (List._∷_ Row.off List.[]))))))))))))))); }
+        G41 = record {
+          locals = List._++_ g28 (List._++_ t29 (List._++_ t2 t3));
+          slots = List._∷_ (Row.lease (κs .0) (qs .0)) (List._∷_ (Row.lease (κs .1 .0) (qs .1 .0)) (List._∷_ Row.off (List._∷_ (Row.lease (κs
+              .1 .1 .1 .0) (qs .1 .1 .1 .0)) (List._∷_ (Row.lease (κs .1 .1 .1 .1 .0) (qs .1 .1 .1 .1 .0)) (List._∷_ (Row.lease (κs .1 .1 .1 .1 .1 .0) (qs .1 .1 .1 .1 .1 .0)) (List._∷_ Row.off (List._∷_
+              Row.off (List._∷_ Row.alive (List._∷_ Row.off (List._∷_ Row.off (List._∷_ Row.off (List._∷_ Row.off (List._∷_ Row.off (List._∷_ Row.off (List._∷_ Row.off List.[])))))))))))))));
+        }
 
         abbrev G42 : Row.Cx
-        G42 = record
-            { locals = List._++_ g28 (List._++_ t30 (List._++_ t2 t3)); slots = List._∷_ (Row.lease (κs .0) (qs .0)) (List._∷_ (Row.lease (κs .1 .0) (qs .1 .0)) (List._∷_ Row.off (List._∷_ (Row.lease (κs
-            .1 .1 .1 .0) (qs .1 .1 .1 .0)) (List._∷_ (Row.lease (κs .1 .1 .1 .1 .0) (qs .1 .1 .1 .1 .0)) (List._∷_ (Row.lease (κs .1 .1 .1 .1 .1 .0) (qs .1 .1 .1 .1 .1 .0)) (List._∷_ Row.off (List._∷_
-            Row.off (List._∷_ Row.alive (List._∷_ Row.off (List._∷_ Row.off (List._∷_ Row.off (List._∷_ Row.off (List._∷_ Row.off (List._∷_ Row.off (List._∷_ Row.off List.[]))))))))))))))); }
+        G42 = record {
+          locals = List._++_ g28 (List._++_ t30 (List._++_ t2 t3));
+          slots = List._∷_ (Row.lease (κs .0) (qs .0)) (List._∷_ (Row.lease (κs .1 .0) (qs .1 .0)) (List._∷_ Row.off (List._∷_ (Row.lease (κs
+              .1 .1 .1 .0) (qs .1 .1 .1 .0)) (List._∷_ (Row.lease (κs .1 .1 .1 .1 .0) (qs .1 .1 .1 .1 .0)) (List._∷_ (Row.lease (κs .1 .1 .1 .1 .1 .0) (qs .1 .1 .1 .1 .1 .0)) (List._∷_ Row.off (List._∷_
+              Row.off (List._∷_ Row.alive (List._∷_ Row.off (List._∷_ Row.off (List._∷_ Row.off (List._∷_ Row.off (List._∷_ Row.off (List._∷_ Row.off (List._∷_ Row.off List.[])))))))))))))));
+        }
 
         abbrev G43 : Row.Cx
-        G43 = record
-            { locals = List._++_ g28 (List._++_ t31 (List._++_ t2 t3)); slots = List._∷_ (Row.lease (κs .0) (qs .0)) (List._∷_ (Row.lease (κs .1 .0) (qs .1 .0)) (List._∷_ Row.off (List._∷_ (Row.lease (κs
-            .1 .1 .1 .0) (qs .1 .1 .1 .0)) (List._∷_ (Row.lease (κs .1 .1 .1 .1 .0) (qs .1 .1 .1 .1 .0)) (List._∷_ (Row.lease (κs .1 .1 .1 .1 .1 .0) (qs .1 .1 .1 .1 .1 .0)) (List._∷_ Row.off (List._∷_
-            Row.off (List._∷_ Row.alive (List._∷_ Row.off (List._∷_ Row.off (List._∷_ Row.off (List._∷_ Row.off (List._∷_ Row.off (List._∷_ Row.off (List._∷_ Row.off List.[]))))))))))))))); }
+        G43 = record {
+          locals = List._++_ g28 (List._++_ t31 (List._++_ t2 t3));
+          slots = List._∷_ (Row.lease (κs .0) (qs .0)) (List._∷_ (Row.lease (κs .1 .0) (qs .1 .0)) (List._∷_ Row.off (List._∷_ (Row.lease (κs
+              .1 .1 .1 .0) (qs .1 .1 .1 .0)) (List._∷_ (Row.lease (κs .1 .1 .1 .1 .0) (qs .1 .1 .1 .1 .0)) (List._∷_ (Row.lease (κs .1 .1 .1 .1 .1 .0) (qs .1 .1 .1 .1 .1 .0)) (List._∷_ Row.off (List._∷_
+              Row.off (List._∷_ Row.alive (List._∷_ Row.off (List._∷_ Row.off (List._∷_ Row.off (List._∷_ Row.off (List._∷_ Row.off (List._∷_ Row.off (List._∷_ Row.off List.[])))))))))))))));
+        }
 
         abbrev G44 : Row.Cx
-        G44 = record
-            { locals = List._++_ g28 (List._++_ t32 (List._++_ t2 t3)); slots = List._∷_ (Row.lease (κs .0) (qs .0)) (List._∷_ (Row.lease (κs .1 .0) (qs .1 .0)) (List._∷_ Row.off (List._∷_ (Row.lease (κs
-            .1 .1 .1 .0) (qs .1 .1 .1 .0)) (List._∷_ (Row.lease (κs .1 .1 .1 .1 .0) (qs .1 .1 .1 .1 .0)) (List._∷_ (Row.lease (κs .1 .1 .1 .1 .1 .0) (qs .1 .1 .1 .1 .1 .0)) (List._∷_ Row.off (List._∷_
-            Row.off (List._∷_ Row.alive (List._∷_ Row.off (List._∷_ Row.off (List._∷_ Row.off (List._∷_ Row.off (List._∷_ Row.off (List._∷_ Row.off (List._∷_ Row.off List.[]))))))))))))))); }
+        G44 = record {
+          locals = List._++_ g28 (List._++_ t32 (List._++_ t2 t3));
+          slots = List._∷_ (Row.lease (κs .0) (qs .0)) (List._∷_ (Row.lease (κs .1 .0) (qs .1 .0)) (List._∷_ Row.off (List._∷_ (Row.lease (κs
+              .1 .1 .1 .0) (qs .1 .1 .1 .0)) (List._∷_ (Row.lease (κs .1 .1 .1 .1 .0) (qs .1 .1 .1 .1 .0)) (List._∷_ (Row.lease (κs .1 .1 .1 .1 .1 .0) (qs .1 .1 .1 .1 .1 .0)) (List._∷_ Row.off (List._∷_
+              Row.off (List._∷_ Row.alive (List._∷_ Row.off (List._∷_ Row.off (List._∷_ Row.off (List._∷_ Row.off (List._∷_ Row.off (List._∷_ Row.off (List._∷_ Row.off List.[])))))))))))))));
+        }
 
         abbrev G45 : Row.Cx
-        G45 = record
-            { locals = List._++_ g28 (List._++_ t33 (List._++_ t2 t3)); slots = List._∷_ (Row.lease (κs .0) (qs .0)) (List._∷_ (Row.lease (κs .1 .0) (qs .1 .0)) (List._∷_ Row.off (List._∷_ (Row.lease (κs
-            .1 .1 .1 .0) (qs .1 .1 .1 .0)) (List._∷_ (Row.lease (κs .1 .1 .1 .1 .0) (qs .1 .1 .1 .1 .0)) (List._∷_ (Row.lease (κs .1 .1 .1 .1 .1 .0) (qs .1 .1 .1 .1 .1 .0)) (List._∷_ Row.off (List._∷_
-            Row.off (List._∷_ Row.alive (List._∷_ Row.off (List._∷_ Row.off (List._∷_ Row.off (List._∷_ Row.off (List._∷_ Row.off (List._∷_ Row.off (List._∷_ Row.off List.[]))))))))))))))); }
+        G45 = record {
+          locals = List._++_ g28 (List._++_ t33 (List._++_ t2 t3));
+          slots = List._∷_ (Row.lease (κs .0) (qs .0)) (List._∷_ (Row.lease (κs .1 .0) (qs .1 .0)) (List._∷_ Row.off (List._∷_ (Row.lease (κs
+              .1 .1 .1 .0) (qs .1 .1 .1 .0)) (List._∷_ (Row.lease (κs .1 .1 .1 .1 .0) (qs .1 .1 .1 .1 .0)) (List._∷_ (Row.lease (κs .1 .1 .1 .1 .1 .0) (qs .1 .1 .1 .1 .1 .0)) (List._∷_ Row.off (List._∷_
+              Row.off (List._∷_ Row.alive (List._∷_ Row.off (List._∷_ Row.off (List._∷_ Row.off (List._∷_ Row.off (List._∷_ Row.off (List._∷_ Row.off (List._∷_ Row.off List.[])))))))))))))));
+        }
 
         abbrev G46 : Row.Cx
-        G46 = record
-            { locals = List._++_ g28 (List._++_ t34 (List._++_ t2 t3)); slots = List._∷_ (Row.lease (κs .0) (qs .0)) (List._∷_ (Row.lease (κs .1 .0) (qs .1 .0)) (List._∷_ Row.off (List._∷_ (Row.lease (κs
-            .1 .1 .1 .0) (qs .1 .1 .1 .0)) (List._∷_ (Row.lease (κs .1 .1 .1 .1 .0) (qs .1 .1 .1 .1 .0)) (List._∷_ (Row.lease (κs .1 .1 .1 .1 .1 .0) (qs .1 .1 .1 .1 .1 .0)) (List._∷_ Row.off (List._∷_
-            Row.off (List._∷_ Row.alive (List._∷_ Row.off (List._∷_ Row.off (List._∷_ Row.off (List._∷_ Row.off (List._∷_ Row.off (List._∷_ Row.off (List._∷_ Row.off List.[]))))))))))))))); }
+        G46 = record {
+          locals = List._++_ g28 (List._++_ t34 (List._++_ t2 t3));
+          slots = List._∷_ (Row.lease (κs .0) (qs .0)) (List._∷_ (Row.lease (κs .1 .0) (qs .1 .0)) (List._∷_ Row.off (List._∷_ (Row.lease (κs
+              .1 .1 .1 .0) (qs .1 .1 .1 .0)) (List._∷_ (Row.lease (κs .1 .1 .1 .1 .0) (qs .1 .1 .1 .1 .0)) (List._∷_ (Row.lease (κs .1 .1 .1 .1 .1 .0) (qs .1 .1 .1 .1 .1 .0)) (List._∷_ Row.off (List._∷_
+              Row.off (List._∷_ Row.alive (List._∷_ Row.off (List._∷_ Row.off (List._∷_ Row.off (List._∷_ Row.off (List._∷_ Row.off (List._∷_ Row.off (List._∷_ Row.off List.[])))))))))))))));
+        }
 
         abbrev G47 : Row.Cx
-        G47 = record
-            { locals = List._++_ g28 (List._++_ t34 (List._++_ t2 t3)); slots = List._∷_ (Row.lease (κs .0) (qs .0)) (List._∷_ (Row.lease (κs .1 .0) (qs .1 .0)) (List._∷_ Row.off (List._∷_ (Row.lease (κs
-            .1 .1 .1 .0) (qs .1 .1 .1 .0)) (List._∷_ (Row.lease (κs .1 .1 .1 .1 .0) (qs .1 .1 .1 .1 .0)) (List._∷_ (Row.lease (κs .1 .1 .1 .1 .1 .0) (qs .1 .1 .1 .1 .1 .0)) (List._∷_ Row.off (List._∷_
-            Row.off (List._∷_ Row.dead (List._∷_ Row.off (List._∷_ Row.off (List._∷_ Row.off (List._∷_ Row.off (List._∷_ Row.off (List._∷_ Row.off (List._∷_ Row.off List.[]))))))))))))))); }
+        G47 = record {
+          locals = List._++_ g28 (List._++_ t34 (List._++_ t2 t3));
+          slots = List._∷_ (Row.lease (κs .0) (qs .0)) (List._∷_ (Row.lease (κs .1 .0) (qs .1 .0)) (List._∷_ Row.off (List._∷_ (Row.lease (κs
+              .1 .1 .1 .0) (qs .1 .1 .1 .0)) (List._∷_ (Row.lease (κs .1 .1 .1 .1 .0) (qs .1 .1 .1 .1 .0)) (List._∷_ (Row.lease (κs .1 .1 .1 .1 .1 .0) (qs .1 .1 .1 .1 .1 .0)) (List._∷_ Row.off (List._∷_
+              Row.off (List._∷_ Row.dead (List._∷_ Row.off (List._∷_ Row.off (List._∷_ Row.off (List._∷_ Row.off (List._∷_ Row.off (List._∷_ Row.off (List._∷_ Row.off List.[])))))))))))))));
+        }
 
         abbrev G48 : Row.Cx
-        G48 = record
-            { locals = List._++_ t7 (List._++_ t22 (List._++_ t2 t3)); slots = List._∷_ (Row.lease (κs .0) (qs .0)) (List._∷_ (Row.lease (κs .1 .0) (qs .1 .0)) (List._∷_ (Row.lease (κs .1 .1 .0) (qs .1 .1
-            .0)) (List._∷_ (Row.lease (κs .1 .1 .1 .0) (qs .1 .1 .1 .0)) (List._∷_ (Row.lease (κs .1 .1 .1 .1 .0) (qs .1 .1 .1 .1 .0)) (List._∷_ (Row.lease (κs .1 .1 .1 .1 .1 .0) (qs .1 .1 .1 .1 .1 .0))
-            (List._∷_ Row.off (List._∷_ Row.off (List._∷_ Row.dead (List._∷_ Row.off (List._∷_ Row.off (List._∷_ Row.off (List._∷_ Row.off (List._∷_ Row.off (List._∷_ Row.off (List._∷_ Row.off
-            List.[]))))))))))))))); }
+        G48 = record {
+          locals = List._++_ t7 (List._++_ t22 (List._++_ t2 t3));
+          slots = List._∷_ (Row.lease (κs .0) (qs .0)) (List._∷_ (Row.lease (κs .1 .0) (qs .1 .0)) (List._∷_ (Row.lease (κs .1 .1 .0) (qs .1 .1
+              .0)) (List._∷_ (Row.lease (κs .1 .1 .1 .0) (qs .1 .1 .1 .0)) (List._∷_ (Row.lease (κs .1 .1 .1 .1 .0) (qs .1 .1 .1 .1 .0)) (List._∷_ (Row.lease (κs .1 .1 .1 .1 .1 .0) (qs .1 .1 .1 .1 .1 .0))
+              (List._∷_ Row.off (List._∷_ Row.off (List._∷_ Row.dead (List._∷_ Row.off (List._∷_ Row.off (List._∷_ Row.off (List._∷_ Row.off (List._∷_ Row.off (List._∷_ Row.off (List._∷_ Row.off
+              List.[])))))))))))))));
+        }
 
         abbrev G49 : Row.Cx
-        G49 = record
-            { locals = List._++_ t7 (List._++_ t22 (List._++_ t2 t3)); slots = List._∷_ (Row.lease (κs .0) (qs .0)) (List._∷_ (Row.lease (κs .1 .0) (qs .1 .0)) (List._∷_ (Row.lease (κs .1 .1 .0) (qs .1 .1
-            .0)) (List._∷_ (Row.lease (κs .1 .1 .1 .0) (qs .1 .1 .1 .0)) (List._∷_ (Row.lease (κs .1 .1 .1 .1 .0) (qs .1 .1 .1 .1 .0)) (List._∷_ (Row.lease (κs .1 .1 .1 .1 .1 .0) (qs .1 .1 .1 .1 .1 .0))
-            (List._∷_ Row.off (List._∷_ Row.off (List._∷_ Row.dead (List._∷_ Row.off (List._∷_ Row.off (List._∷_ Row.off (List._∷_ Row.off (List._∷_ Row.off (List._∷_ Row.off (List._∷_ Row.off
-            List.[]))))))))))))))); }
+        G49 = record {
+          locals = List._++_ t7 (List._++_ t22 (List._++_ t2 t3));
+          slots = List._∷_ (Row.lease (κs .0) (qs .0)) (List._∷_ (Row.lease (κs .1 .0) (qs .1 .0)) (List._∷_ (Row.lease (κs .1 .1 .0) (qs .1 .1
+              .0)) (List._∷_ (Row.lease (κs .1 .1 .1 .0) (qs .1 .1 .1 .0)) (List._∷_ (Row.lease (κs .1 .1 .1 .1 .0) (qs .1 .1 .1 .1 .0)) (List._∷_ (Row.lease (κs .1 .1 .1 .1 .1 .0) (qs .1 .1 .1 .1 .1 .0))
+              (List._∷_ Row.off (List._∷_ Row.off (List._∷_ Row.dead (List._∷_ Row.off (List._∷_ Row.off (List._∷_ Row.off (List._∷_ Row.off (List._∷_ Row.off (List._∷_ Row.off (List._∷_ Row.off
+              List.[])))))))))))))));
+        }
 
         abbrev G50 : Row.Cx
-        G50 = record
-            { locals = List._++_ t7 (List._++_ t22 (List._++_ t2 t3)); slots = List._∷_ (Row.lease (κs .0) (qs .0)) (List._∷_ (Row.lease (κs .1 .0) (qs .1 .0)) (List._∷_ (Row.lease (κs .1 .1 .0) (qs .1 .1
-            .0)) (List._∷_ (Row.lease (κs .1 .1 .1 .0) (qs .1 .1 .1 .0)) (List._∷_ (Row.lease (κs .1 .1 .1 .1 .0) (qs .1 .1 .1 .1 .0)) (List._∷_ (Row.lease (κs .1 .1 .1 .1 .1 .0) (qs .1 .1 .1 .1 .1 .0))
-            (List._∷_ Row.off (List._∷_ Row.off (List._∷_ Row.off (List._∷_ Row.off (List._∷_ Row.off (List._∷_ Row.off (List._∷_ Row.off (List._∷_ Row.off (List._∷_ Row.off (List._∷_ Row.off
-            List.[]))))))))))))))); }
+        G50 = record {
+          locals = List._++_ t7 (List._++_ t22 (List._++_ t2 t3));
+          slots = List._∷_ (Row.lease (κs .0) (qs .0)) (List._∷_ (Row.lease (κs .1 .0) (qs .1 .0)) (List._∷_ (Row.lease (κs .1 .1 .0) (qs .1 .1
+              .0)) (List._∷_ (Row.lease (κs .1 .1 .1 .0) (qs .1 .1 .1 .0)) (List._∷_ (Row.lease (κs .1 .1 .1 .1 .0) (qs .1 .1 .1 .1 .0)) (List._∷_ (Row.lease (κs .1 .1 .1 .1 .1 .0) (qs .1 .1 .1 .1 .1 .0))
+              (List._∷_ Row.off (List._∷_ Row.off (List._∷_ Row.off (List._∷_ Row.off (List._∷_ Row.off (List._∷_ Row.off (List._∷_ Row.off (List._∷_ Row.off (List._∷_ Row.off (List._∷_ Row.off
+              List.[])))))))))))))));
+        }
 
         abbrev G51 : Row.Cx
-        G51 = record
-            { locals = List._++_ t7 (List._++_ t35 (List._++_ t2 t3)); slots = List._∷_ (Row.lease (κs .0) (qs .0)) (List._∷_ (Row.lease (κs .1 .0) (qs .1 .0)) (List._∷_ (Row.lease (κs .1 .1 .0) (qs .1 .1
-            .0)) (List._∷_ (Row.lease (κs .1 .1 .1 .0) (qs .1 .1 .1 .0)) (List._∷_ (Row.lease (κs .1 .1 .1 .1 .0) (qs .1 .1 .1 .1 .0)) (List._∷_ (Row.lease (κs .1 .1 .1 .1 .1 .0) (qs .1 .1 .1 .1 .1 .0))
-            (List._∷_ Row.off (List._∷_ Row.off (List._∷_ Row.off (List._∷_ Row.off (List._∷_ Row.off (List._∷_ Row.off (List._∷_ Row.off (List._∷_ Row.off (List._∷_ Row.off (List._∷_ Row.off
-            List.[]))))))))))))))); }
+        G51 = record {
+          locals = List._++_ t7 (List._++_ t35 (List._++_ t2 t3));
+          slots = List._∷_ (Row.lease (κs .0) (qs .0)) (List._∷_ (Row.lease (κs .1 .0) (qs .1 .0)) (List._∷_ (Row.lease (κs .1 .1 .0) (qs .1 .1
+              .0)) (List._∷_ (Row.lease (κs .1 .1 .1 .0) (qs .1 .1 .1 .0)) (List._∷_ (Row.lease (κs .1 .1 .1 .1 .0) (qs .1 .1 .1 .1 .0)) (List._∷_ (Row.lease (κs .1 .1 .1 .1 .1 .0) (qs .1 .1 .1 .1 .1 .0))
+              (List._∷_ Row.off (List._∷_ Row.off (List._∷_ Row.off (List._∷_ Row.off (List._∷_ Row.off (List._∷_ Row.off (List._∷_ Row.off (List._∷_ Row.off (List._∷_ Row.off (List._∷_ Row.off
+              List.[])))))))))))))));
+        }
 
         abbrev G52 : Row.Cx
-        G52 = record
-            { locals = List._++_ t7 (List._++_ t35 (List._++_ t2 t3)); slots = List._∷_ (Row.lease (κs .0) (qs .0)) (List._∷_ (Row.lease (κs .1 .0) (qs .1 .0)) (List._∷_ (Row.lease (κs .1 .1 .0) (qs .1 .1
-            .0)) (List._∷_ (Row.lease (κs .1 .1 .1 .0) (qs .1 .1 .1 .0)) (List._∷_ (Row.lease (κs .1 .1 .1 .1 .0) (qs .1 .1 .1 .1 .0)) (List._∷_ (Row.lease (κs .1 .1 .1 .1 .1 .0) (qs .1 .1 .1 .1 .1 .0))
-            (List._∷_ Row.off (List._∷_ Row.off (List._∷_ Row.off (List._∷_ Row.alive (List._∷_ Row.off (List._∷_ Row.off (List._∷_ Row.off (List._∷_ Row.off (List._∷_ Row.off (List._∷_ Row.off
-            List.[]))))))))))))))); }
+        G52 = record {
+          locals = List._++_ t7 (List._++_ t35 (List._++_ t2 t3));
+          slots = List._∷_ (Row.lease (κs .0) (qs .0)) (List._∷_ (Row.lease (κs .1 .0) (qs .1 .0)) (List._∷_ (Row.lease (κs .1 .1 .0) (qs .1 .1
+              .0)) (List._∷_ (Row.lease (κs .1 .1 .1 .0) (qs .1 .1 .1 .0)) (List._∷_ (Row.lease (κs .1 .1 .1 .1 .0) (qs .1 .1 .1 .1 .0)) (List._∷_ (Row.lease (κs .1 .1 .1 .1 .1 .0) (qs .1 .1 .1 .1 .1 .0))
+              (List._∷_ Row.off (List._∷_ Row.off (List._∷_ Row.off (List._∷_ Row.alive (List._∷_ Row.off (List._∷_ Row.off (List._∷_ Row.off (List._∷_ Row.off (List._∷_ Row.off (List._∷_ Row.off
+              List.[])))))))))))))));
+        }
 
         abbrev G53 : Row.Cx
-        G53 = record
-            { locals = List._++_ g36 (List._++_ t35 (List._++_ t37 t3)); slots = List._∷_ (Row.lease (κs .0) (qs .0)) (List._∷_ (Row.lease (κs .1 .0) (qs .1 .0)) (List._∷_ (Row.lease (κs .1 .1 .0) (qs .1
-            .1 .0)) (List._∷_ Row.off (List._∷_ (Row.lease (κs .1 .1 .1 .1 .0) (qs .1 .1 .1 .1 .0)) (List._∷_ (Row.lease (κs .1 .1 .1 .1 .1 .0) (qs .1 .1 .1 .1 .1 .0)) (List._∷_ Row.off (List._∷_ Row.off
-            (List._∷_ Row.off (List._∷_ Row.alive (List._∷_ Row.off (List._∷_ Row.off (List._∷_ Row.off (List._∷_ Row.off (List._∷_ Row.off (List._∷_ Row.off List.[]))))))))))))))); }
+        G53 = record {
+          locals = List._++_ g36 (List._++_ t35 (List._++_ t37 t3));
+          slots = List._∷_ (Row.lease (κs .0) (qs .0)) (List._∷_ (Row.lease (κs .1 .0) (qs .1 .0)) (List._∷_ (Row.lease (κs .1 .1 .0) (qs .1
+              .1 .0)) (List._∷_ Row.off (List._∷_ (Row.lease (κs .1 .1 .1 .1 .0) (qs .1 .1 .1 .1 .0)) (List._∷_ (Row.lease (κs .1 .1 .1 .1 .1 .0) (qs .1 .1 .1 .1 .1 .0)) (List._∷_ Row.off (List._∷_ Row.off
+              (List._∷_ Row.off (List._∷_ Row.alive (List._∷_ Row.off (List._∷_ Row.off (List._∷_ Row.off (List._∷_ Row.off (List._∷_ Row.off (List._∷_ Row.off List.[])))))))))))))));
+        }
 
         abbrev G54 : Row.Cx
-        G54 = record
-            { locals = List._++_ g36 (List._++_ t35 (List._++_ t38 t3)); slots = List._∷_ (Row.lease (κs .0) (qs .0)) (List._∷_ (Row.lease (κs .1 .0) (qs .1 .0)) (List._∷_ (Row.lease (κs .1 .1 .0) (qs .1
-            .1 .0)) (List._∷_ Row.off (List._∷_ (Row.lease (κs .1 .1 .1 .1 .0) (qs .1 .1 .1 .1 .0)) (List._∷_ (Row.lease (κs .1 .1 .1 .1 .1 .0) (qs .1 .1 .1 .1 .1 .0)) (List._∷_ Row.off (List._∷_ Row.off
-            (List._∷_ Row.off (List._∷_ Row.alive (List._∷_ Row.off (List._∷_ Row.off (List._∷_ Row.off (List._∷_ Row.off (List._∷_ Row.off (List._∷_ Row.off List.[]))))))))))))))); }
+        G54 = record {
+          locals = List._++_ g36 (List._++_ t35 (List._++_ t38 t3));
+          slots = List._∷_ (Row.lease (κs .0) (qs .0)) (List._∷_ (Row.lease (κs .1 .0) (qs .1 .0)) (List._∷_ (Row.lease (κs .1 .1 .0) (qs .1
+              .1 .0)) (List._∷_ Row.off (List._∷_ (Row.lease (κs .1 .1 .1 .1 .0) (qs .1 .1 .1 .1 .0)) (List._∷_ (Row.lease (κs .1 .1 .1 .1 .1 .0) (qs .1 .1 .1 .1 .1 .0)) (List._∷_ Row.off (List._∷_ Row.off
+              (List._∷_ Row.off (List._∷_ Row.alive (List._∷_ Row.off (List._∷_ Row.off (List._∷_ Row.off (List._∷_ Row.off (List._∷_ Row.off (List._∷_ Row.off List.[])))))))))))))));
+        }
 
         abbrev G55 : Row.Cx
-        G55 = record
-            { locals = List._++_ g36 (List._++_ t39 (List._++_ t38 t3)); slots = List._∷_ (Row.lease (κs .0) (qs .0)) (List._∷_ (Row.lease (κs .1 .0) (qs .1 .0)) (List._∷_ (Row.lease (κs .1 .1 .0) (qs .1
-            .1 .0)) (List._∷_ Row.off (List._∷_ (Row.lease (κs .1 .1 .1 .1 .0) (qs .1 .1 .1 .1 .0)) (List._∷_ (Row.lease (κs .1 .1 .1 .1 .1 .0) (qs .1 .1 .1 .1 .1 .0)) (List._∷_ Row.off (List._∷_ Row.off
-            (List._∷_ Row.off (List._∷_ Row.alive (List._∷_ Row.off (List._∷_ Row.off (List._∷_ Row.off (List._∷_ Row.off (List._∷_ Row.off (List._∷_ Row.off List.[]))))))))))))))); }
+        G55 = record {
+          locals = List._++_ g36 (List._++_ t39 (List._++_ t38 t3));
+          slots = List._∷_ (Row.lease (κs .0) (qs .0)) (List._∷_ (Row.lease (κs .1 .0) (qs .1 .0)) (List._∷_ (Row.lease (κs .1 .1 .0) (qs .1
+              .1 .0)) (List._∷_ Row.off (List._∷_ (Row.lease (κs .1 .1 .1 .1 .0) (qs .1 .1 .1 .1 .0)) (List._∷_ (Row.lease (κs .1 .1 .1 .1 .1 .0) (qs .1 .1 .1 .1 .1 .0)) (List._∷_ Row.off (List._∷_ Row.off
+              (List._∷_ Row.off (List._∷_ Row.alive (List._∷_ Row.off (List._∷_ Row.off (List._∷_ Row.off (List._∷_ Row.off (List._∷_ Row.off (List._∷_ Row.off List.[])))))))))))))));
+        }
 
         abbrev G56 : Row.Cx
-        G56 = record
-            { locals = List._++_ g36 (List._++_ t40 (List._++_ t41 t3)); slots = List._∷_ (Row.lease (κs .0) (qs .0)) (List._∷_ (Row.lease (κs .1 .0) (qs .1 .0)) (List._∷_ (Row.lease (κs .1 .1 .0) (qs .1
-            .1 .0)) (List._∷_ Row.off (List._∷_ (Row.lease (κs .1 .1 .1 .1 .0) (qs .1 .1 .1 .1 .0)) (List._∷_ (Row.lease (κs .1 .1 .1 .1 .1 .0) (qs .1 .1 .1 .1 .1 .0)) (List._∷_ Row.off (List._∷_ Row.off
-            (List._∷_ Row.off (List._∷_ Row.alive (List._∷_ Row.off (List._∷_ Row.off (List._∷_ Row.off (List._∷_ Row.off (List._∷_ Row.off (List._∷_ Row.off List.[]))))))))))))))); }
+        G56 = record {
+          locals = List._++_ g36 (List._++_ t40 (List._++_ t41 t3));
+          slots = List._∷_ (Row.lease (κs .0) (qs .0)) (List._∷_ (Row.lease (κs .1 .0) (qs .1 .0)) (List._∷_ (Row.lease (κs .1 .1 .0) (qs .1
+              .1 .0)) (List._∷_ Row.off (List._∷_ (Row.lease (κs .1 .1 .1 .1 .0) (qs .1 .1 .1 .1 .0)) (List._∷_ (Row.lease (κs .1 .1 .1 .1 .1 .0) (qs .1 .1 .1 .1 .1 .0)) (List._∷_ Row.off (List._∷_ Row.off
+              (List._∷_ Row.off (List._∷_ Row.alive (List._∷_ Row.off (List._∷_ Row.off (List._∷_ Row.off (List._∷_ Row.off (List._∷_ Row.off (List._∷_ Row.off List.[])))))))))))))));
+        }
 
         abbrev G57 : Row.Cx
-        G57 = record
-            { locals = List._++_ g36 (List._++_ t42 (List._++_ t41 t3)); slots = List._∷_ (Row.lease (κs .0) (qs .0)) (List._∷_ (Row.lease (κs .1 .0) (qs .1 .0)) (List._∷_ (Row.lease (κs .1 .1 .0) (qs .1
-            .1 .0)) (List._∷_ Row.off (List._∷_ (Row.lease (κs .1 .1 .1 .1 .0) (qs .1 .1 .1 .1 .0)) (List._∷_ (Row.lease (κs .1 .1 .1 .1 .1 .0) (qs .1 .1 .1 .1 .1 .0)) (List._∷_ Row.off (List._∷_ Row.off
-            (List._∷_ Row.off (List._∷_ Row.alive (List._∷_ Row.off (List._∷_ Row.off (List._∷_ Row.off (List._∷_ Row.off (List._∷_ Row.off (List._∷_ Row.off List.[]))))))))))))))); }
+        G57 = record {
+          locals = List._++_ g36 (List._++_ t42 (List._++_ t41 t3));
+          slots = List._∷_ (Row.lease (κs .0) (qs .0)) (List._∷_ (Row.lease (κs .1 .0) (qs .1 .0)) (List._∷_ (Row.lease (κs .1 .1 .0) (qs .1
+              .1 .0)) (List._∷_ Row.off (List._∷_ (Row.lease (κs .1 .1 .1 .1 .0) (qs .1 .1 .1 .1 .0)) (List._∷_ (Row.lease (κs .1 .1 .1 .1 .1 .0) (qs .1 .1 .1 .1 .1 .0)) (List._∷_ Row.off (List._∷_ Row.off
+              (List._∷_ Row.off (List._∷_ Row.alive (List._∷_ Row.off (List._∷_ Row.off (List._∷_ Row.off (List._∷_ Row.off (List._∷_ Row.off (List._∷_ Row.off List.[])))))))))))))));
+        }
 
         abbrev G58 : Row.Cx
-        G58 = record
-            { locals = List._++_ g36 (List._++_ t35 (List._++_ t41 t3)); slots = List._∷_ (Row.lease (κs .0) (qs .0)) (List._∷_ (Row.lease (κs .1 .0) (qs .1 .0)) (List._∷_ (Row.lease (κs .1 .1 .0) (qs .1
-            .1 .0)) (List._∷_ Row.off (List._∷_ (Row.lease (κs .1 .1 .1 .1 .0) (qs .1 .1 .1 .1 .0)) (List._∷_ (Row.lease (κs .1 .1 .1 .1 .1 .0) (qs .1 .1 .1 .1 .1 .0)) (List._∷_ Row.off (List._∷_ Row.off
-            (List._∷_ Row.off (List._∷_ Row.alive (List._∷_ Row.off (List._∷_ Row.off (List._∷_ Row.off (List._∷_ Row.off (List._∷_ Row.off (List._∷_ Row.off List.[]))))))))))))))); }
+        G58 = record {
+          locals = List._++_ g36 (List._++_ t35 (List._++_ t41 t3));
+          slots = List._∷_ (Row.lease (κs .0) (qs .0)) (List._∷_ (Row.lease (κs .1 .0) (qs .1 .0)) (List._∷_ (Row.lease (κs .1 .1 .0) (qs .1
+              .1 .0)) (List._∷_ Row.off (List._∷_ (Row.lease (κs .1 .1 .1 .1 .0) (qs .1 .1 .1 .1 .0)) (List._∷_ (Row.lease (κs .1 .1 .1 .1 .1 .0) (qs .1 .1 .1 .1 .1 .0)) (List._∷_ Row.off (List._∷_ Row.off
+              (List._∷_ Row.off (List._∷_ Row.alive (List._∷_ Row.off (List._∷_ Row.off (List._∷_ Row.off (List._∷_ Row.off (List._∷_ Row.off (List._∷_ Row.off List.[])))))))))))))));
+        }
 
         abbrev G59 : Row.Cx
-        G59 = record
-            { locals = List._++_ g36 (List._++_ t35 (List._++_ t41 t3)); slots = List._∷_ (Row.lease (κs .0) (qs .0)) (List._∷_ (Row.lease (κs .1 .0) (qs .1 .0)) (List._∷_ (Row.lease (κs .1 .1 .0) (qs .1
-            .1 .0)) (List._∷_ Row.off (List._∷_ (Row.lease (κs .1 .1 .1 .1 .0) (qs .1 .1 .1 .1 .0)) (List._∷_ (Row.lease (κs .1 .1 .1 .1 .1 .0) (qs .1 .1 .1 .1 .1 .0)) (List._∷_ Row.off (List._∷_ Row.off
-            (List._∷_ Row.off (List._∷_ Row.dead (List._∷_ Row.off (List._∷_ Row.off (List._∷_ Row.off (List._∷_ Row.off (List._∷_ Row.off (List._∷_ Row.off List.[]))))))))))))))); }
+        G59 = record {
+          locals = List._++_ g36 (List._++_ t35 (List._++_ t41 t3));
+          slots = List._∷_ (Row.lease (κs .0) (qs .0)) (List._∷_ (Row.lease (κs .1 .0) (qs .1 .0)) (List._∷_ (Row.lease (κs .1 .1 .0) (qs .1
+              .1 .0)) (List._∷_ Row.off (List._∷_ (Row.lease (κs .1 .1 .1 .1 .0) (qs .1 .1 .1 .1 .0)) (List._∷_ (Row.lease (κs .1 .1 .1 .1 .1 .0) (qs .1 .1 .1 .1 .1 .0)) (List._∷_ Row.off (List._∷_ Row.off
+              (List._∷_ Row.off (List._∷_ Row.dead (List._∷_ Row.off (List._∷_ Row.off (List._∷_ Row.off (List._∷_ Row.off (List._∷_ Row.off (List._∷_ Row.off List.[])))))))))))))));
+        }
 
         abbrev G60 : Row.Cx
-        G60 = record
-            { locals = List._++_ t7 (List._++_ t35 (List._++_ t2 t3)); slots = List._∷_ (Row.lease (κs .0) (qs .0)) (List._∷_ (Row.lease (κs .1 .0) (qs .1 .0)) (List._∷_ (Row.lease (κs .1 .1 .0) (qs .1 .1
-            .0)) (List._∷_ (Row.lease (κs .1 .1 .1 .0) (qs .1 .1 .1 .0)) (List._∷_ (Row.lease (κs .1 .1 .1 .1 .0) (qs .1 .1 .1 .1 .0)) (List._∷_ (Row.lease (κs .1 .1 .1 .1 .1 .0) (qs .1 .1 .1 .1 .1 .0))
-            (List._∷_ Row.off (List._∷_ Row.off (List._∷_ Row.off (List._∷_ Row.dead (List._∷_ Row.off (List._∷_ Row.off (List._∷_ Row.off (List._∷_ Row.off (List._∷_ Row.off (List._∷_ Row.off
-            List.[]))))))))))))))); }
+        G60 = record {
+          locals = List._++_ t7 (List._++_ t35 (List._++_ t2 t3));
+          slots = List._∷_ (Row.lease (κs .0) (qs .0)) (List._∷_ (Row.lease (κs .1 .0) (qs .1 .0)) (List._∷_ (Row.lease (κs .1 .1 .0) (qs .1 .1
+              .0)) (List._∷_ (Row.lease (κs .1 .1 .1 .0) (qs .1 .1 .1 .0)) (List._∷_ (Row.lease (κs .1 .1 .1 .1 .0) (qs .1 .1 .1 .1 .0)) (List._∷_ (Row.lease (κs .1 .1 .1 .1 .1 .0) (qs .1 .1 .1 .1 .1 .0))
+              (List._∷_ Row.off (List._∷_ Row.off (List._∷_ Row.off (List._∷_ Row.dead (List._∷_ Row.off (List._∷_ Row.off (List._∷_ Row.off (List._∷_ Row.off (List._∷_ Row.off (List._∷_ Row.off
+              List.[])))))))))))))));
+        }
 
         abbrev G61 : Row.Cx
-        G61 = record
-            { locals = List._++_ t7 (List._++_ t35 (List._++_ t2 t3)); slots = List._∷_ (Row.lease (κs .0) (qs .0)) (List._∷_ (Row.lease (κs .1 .0) (qs .1 .0)) (List._∷_ (Row.lease (κs .1 .1 .0) (qs .1 .1
-            .0)) (List._∷_ (Row.lease (κs .1 .1 .1 .0) (qs .1 .1 .1 .0)) (List._∷_ (Row.lease (κs .1 .1 .1 .1 .0) (qs .1 .1 .1 .1 .0)) (List._∷_ (Row.lease (κs .1 .1 .1 .1 .1 .0) (qs .1 .1 .1 .1 .1 .0))
-            (List._∷_ Row.off (List._∷_ Row.off (List._∷_ Row.off (List._∷_ Row.off (List._∷_ Row.off (List._∷_ Row.off (List._∷_ Row.off (List._∷_ Row.off (List._∷_ Row.off (List._∷_ Row.off
-            List.[]))))))))))))))); }
+        G61 = record {
+          locals = List._++_ t7 (List._++_ t35 (List._++_ t2 t3));
+          slots = List._∷_ (Row.lease (κs .0) (qs .0)) (List._∷_ (Row.lease (κs .1 .0) (qs .1 .0)) (List._∷_ (Row.lease (κs .1 .1 .0) (qs .1 .1
+              .0)) (List._∷_ (Row.lease (κs .1 .1 .1 .0) (qs .1 .1 .1 .0)) (List._∷_ (Row.lease (κs .1 .1 .1 .1 .0) (qs .1 .1 .1 .1 .0)) (List._∷_ (Row.lease (κs .1 .1 .1 .1 .1 .0) (qs .1 .1 .1 .1 .1 .0))
+              (List._∷_ Row.off (List._∷_ Row.off (List._∷_ Row.off (List._∷_ Row.off (List._∷_ Row.off (List._∷_ Row.off (List._∷_ Row.off (List._∷_ Row.off (List._∷_ Row.off (List._∷_ Row.off
+              List.[])))))))))))))));
+        }
 
         abbrev G62 : Row.Cx
-        G62 = record
-            { locals = List._++_ t7 (List._++_ t35 (List._++_ t2 t3)); slots = List._∷_ (Row.lease (κs .0) (qs .0)) (List._∷_ (Row.lease (κs .1 .0) (qs .1 .0)) (List._∷_ (Row.lease (κs .1 .1 .0) (qs .1 .1
-            .0)) (List._∷_ (Row.lease (κs .1 .1 .1 .0) (qs .1 .1 .1 .0)) (List._∷_ (Row.lease (κs .1 .1 .1 .1 .0) (qs .1 .1 .1 .1 .0)) (List._∷_ (Row.lease (κs .1 .1 .1 .1 .1 .0) (qs .1 .1 .1 .1 .1 .0))
-            (List._∷_ Row.off (List._∷_ Row.off (List._∷_ Row.off (List._∷_ Row.off (List._∷_ Row.alive (List._∷_ Row.off (List._∷_ Row.off (List._∷_ Row.off (List._∷_ Row.off (List._∷_ Row.off
-            List.[]))))))))))))))); }
+        G62 = record {
+          locals = List._++_ t7 (List._++_ t35 (List._++_ t2 t3));
+          slots = List._∷_ (Row.lease (κs .0) (qs .0)) (List._∷_ (Row.lease (κs .1 .0) (qs .1 .0)) (List._∷_ (Row.lease (κs .1 .1 .0) (qs .1 .1
+              .0)) (List._∷_ (Row.lease (κs .1 .1 .1 .0) (qs .1 .1 .1 .0)) (List._∷_ (Row.lease (κs .1 .1 .1 .1 .0) (qs .1 .1 .1 .1 .0)) (List._∷_ (Row.lease (κs .1 .1 .1 .1 .1 .0) (qs .1 .1 .1 .1 .1 .0))
+              (List._∷_ Row.off (List._∷_ Row.off (List._∷_ Row.off (List._∷_ Row.off (List._∷_ Row.alive (List._∷_ Row.off (List._∷_ Row.off (List._∷_ Row.off (List._∷_ Row.off (List._∷_ Row.off
+              List.[])))))))))))))));
+        }
 
         abbrev G63 : Row.Cx
-        G63 = record
-            { locals = List._++_ g43 (List._++_ t35 (List._++_ t44 t3)); slots = List._∷_ (Row.lease (κs .0) (qs .0)) (List._∷_ (Row.lease (κs .1 .0) (qs .1 .0)) (List._∷_ Row.off (List._∷_ (Row.lease (κs
-            .1 .1 .1 .0) (qs .1 .1 .1 .0)) (List._∷_ (Row.lease (κs .1 .1 .1 .1 .0) (qs .1 .1 .1 .1 .0)) (List._∷_ (Row.lease (κs .1 .1 .1 .1 .1 .0) (qs .1 .1 .1 .1 .1 .0)) (List._∷_ Row.off (List._∷_
-            Row.off (List._∷_ Row.off (List._∷_ Row.off (List._∷_ Row.alive (List._∷_ Row.off (List._∷_ Row.off (List._∷_ Row.off (List._∷_ Row.off (List._∷_ Row.off List.[]))))))))))))))); }
+        G63 = record {
+          locals = List._++_ g43 (List._++_ t35 (List._++_ t44 t3));
+          slots = List._∷_ (Row.lease (κs .0) (qs .0)) (List._∷_ (Row.lease (κs .1 .0) (qs .1 .0)) (List._∷_ Row.off (List._∷_ (Row.lease (κs
+              .1 .1 .1 .0) (qs .1 .1 .1 .0)) (List._∷_ (Row.lease (κs .1 .1 .1 .1 .0) (qs .1 .1 .1 .1 .0)) (List._∷_ (Row.lease (κs .1 .1 .1 .1 .1 .0) (qs .1 .1 .1 .1 .1 .0)) (List._∷_ Row.off (List._∷_
+              Row.off (List._∷_ Row.off (List._∷_ Row.off (List._∷_ Row.alive (List._∷_ Row.off (List._∷_ Row.off (List._∷_ Row.off (List._∷_ Row.off (List._∷_ Row.off List.[])))))))))))))));
+        }
 
         abbrev G64 : Row.Cx
-        G64 = record
-            { locals = List._++_ g43 (List._++_ t35 (List._++_ t45 t3)); slots = List._∷_ (Row.lease (κs .0) (qs .0)) (List._∷_ (Row.lease (κs .1 .0) (qs .1 .0)) (List._∷_ Row.off (List._∷_ (Row.lease (κs
-            .1 .1 .1 .0) (qs .1 .1 .1 .0)) (List._∷_ (Row.lease (κs .1 .1 .1 .1 .0) (qs .1 .1 .1 .1 .0)) (List._∷_ (Row.lease (κs .1 .1 .1 .1 .1 .0) (qs .1 .1 .1 .1 .1 .0)) (List._∷_ Row.off (List._∷_
-            Row.off (List._∷_ Row.off (List._∷_ Row.off (List._∷_ Row.alive (List._∷_ Row.off (List._∷_ Row.off (List._∷_ Row.off (List._∷_ Row.off (List._∷_ Row.off List.[]))))))))))))))); }
+        G64 = record {
+          locals = List._++_ g43 (List._++_ t35 (List._++_ t45 t3));
+          slots = List._∷_ (Row.lease (κs .0) (qs .0)) (List._∷_ (Row.lease (κs .1 .0) (qs .1 .0)) (List._∷_ Row.off (List._∷_ (Row.lease (κs
+              .1 .1 .1 .0) (qs .1 .1 .1 .0)) (List._∷_ (Row.lease (κs .1 .1 .1 .1 .0) (qs .1 .1 .1 .1 .0)) (List._∷_ (Row.lease (κs .1 .1 .1 .1 .1 .0) (qs .1 .1 .1 .1 .1 .0)) (List._∷_ Row.off (List._∷_
+              Row.off (List._∷_ Row.off (List._∷_ Row.off (List._∷_ Row.alive (List._∷_ Row.off (List._∷_ Row.off (List._∷_ Row.off (List._∷_ Row.off (List._∷_ Row.off List.[])))))))))))))));
+        }
 
         abbrev G65 : Row.Cx
-        G65 = record
-            { locals = List._++_ g43 (List._++_ t35 (List._++_ t45 t3)); slots = List._∷_ (Row.lease (κs .0) (qs .0)) (List._∷_ (Row.lease (κs .1 .0) (qs .1 .0)) (List._∷_ Row.off (List._∷_ (Row.lease (κs
-            .1 .1 .1 .0) (qs .1 .1 .1 .0)) (List._∷_ (Row.lease (κs .1 .1 .1 .1 .0) (qs .1 .1 .1 .1 .0)) (List._∷_ (Row.lease (κs .1 .1 .1 .1 .1 .0) (qs .1 .1 .1 .1 .1 .0)) (List._∷_ Row.off (List._∷_
-            Row.off (List._∷_ Row.off (List._∷_ Row.off (List._∷_ Row.alive (List._∷_ Row.alive (List._∷_ Row.off (List._∷_ Row.off (List._∷_ Row.off (List._∷_ Row.off List.[]))))))))))))))); }
+        G65 = record {
+          locals = List._++_ g43 (List._++_ t35 (List._++_ t45 t3));
+          slots = List._∷_ (Row.lease (κs .0) (qs .0)) (List._∷_ (Row.lease (κs .1 .0) (qs .1 .0)) (List._∷_ Row.off (List._∷_ (Row.lease (κs
+              .1 .1 .1 .0) (qs .1 .1 .1 .0)) (List._∷_ (Row.lease (κs .1 .1 .1 .1 .0) (qs .1 .1 .1 .1 .0)) (List._∷_ (Row.lease (κs .1 .1 .1 .1 .1 .0) (qs .1 .1 .1 .1 .1 .0)) (List._∷_ Row.off (List._∷_
+              Row.off (List._∷_ Row.off (List._∷_ Row.off (List._∷_ Row.alive (List._∷_ Row.alive (List._∷_ Row.off (List._∷_ Row.off (List._∷_ Row.off (List._∷_ Row.off List.[])))))))))))))));
+        }
 
         abbrev G66 : Row.Cx
-        G66 = record
-            { locals = List._++_ g46 (List._++_ t35 (List._++_ t47 t3)); slots = List._∷_ (Row.lease (κs .0) (qs .0)) (List._∷_ (Row.lease (κs .1 .0) (qs .1 .0)) (List._∷_ Row.off (List._∷_ Row.off
-            (List._∷_ (Row.lease (κs .1 .1 .1 .1 .0) (qs .1 .1 .1 .1 .0)) (List._∷_ (Row.lease (κs .1 .1 .1 .1 .1 .0) (qs .1 .1 .1 .1 .1 .0)) (List._∷_ Row.off (List._∷_ Row.off (List._∷_ Row.off
-            (List._∷_ Row.off (List._∷_ Row.alive (List._∷_ Row.alive (List._∷_ Row.off (List._∷_ Row.off (List._∷_ Row.off (List._∷_ Row.off List.[]))))))))))))))); }
+        G66 = record {
+          locals = List._++_ g46 (List._++_ t35 (List._++_ t47 t3));
+          slots = List._∷_ (Row.lease (κs .0) (qs .0)) (List._∷_ (Row.lease (κs .1 .0) (qs .1 .0)) (List._∷_ Row.off (List._∷_ Row.off
+              (List._∷_ (Row.lease (κs .1 .1 .1 .1 .0) (qs .1 .1 .1 .1 .0)) (List._∷_ (Row.lease (κs .1 .1 .1 .1 .1 .0) (qs .1 .1 .1 .1 .1 .0)) (List._∷_ Row.off (List._∷_ Row.off (List._∷_ Row.off
+              (List._∷_ Row.off (List._∷_ Row.alive (List._∷_ Row.alive (List._∷_ Row.off (List._∷_ Row.off (List._∷_ Row.off (List._∷_ Row.off List.[])))))))))))))));
+        }
 
         abbrev G67 : Row.Cx
-        G67 = record
-            { locals = List._++_ g46 (List._++_ t35 (List._++_ t48 t3)); slots = List._∷_ (Row.lease (κs .0) (qs .0)) (List._∷_ (Row.lease (κs .1 .0) (qs .1 .0)) (List._∷_ Row.off (List._∷_ Row.off
-            (List._∷_ (Row.lease (κs .1 .1 .1 .1 .0) (qs .1 .1 .1 .1 .0)) (List._∷_ (Row.lease (κs .1 .1 .1 .1 .1 .0) (qs .1 .1 .1 .1 .1 .0)) (List._∷_ Row.off (List._∷_ Row.off (List._∷_ Row.off
-            (List._∷_ Row.off (List._∷_ Row.alive (List._∷_ Row.alive (List._∷_ Row.off (List._∷_ Row.off (List._∷_ Row.off (List._∷_ Row.off List.[]))))))))))))))); }
+        G67 = record {
+          locals = List._++_ g46 (List._++_ t35 (List._++_ t48 t3));
+          slots = List._∷_ (Row.lease (κs .0) (qs .0)) (List._∷_ (Row.lease (κs .1 .0) (qs .1 .0)) (List._∷_ Row.off (List._∷_ Row.off
+              (List._∷_ (Row.lease (κs .1 .1 .1 .1 .0) (qs .1 .1 .1 .1 .0)) (List._∷_ (Row.lease (κs .1 .1 .1 .1 .1 .0) (qs .1 .1 .1 .1 .1 .0)) (List._∷_ Row.off (List._∷_ Row.off (List._∷_ Row.off
+              (List._∷_ Row.off (List._∷_ Row.alive (List._∷_ Row.alive (List._∷_ Row.off (List._∷_ Row.off (List._∷_ Row.off (List._∷_ Row.off List.[])))))))))))))));
+        }
 
         abbrev G68 : Row.Cx
-        G68 = record
-            { locals = List._++_ g46 (List._++_ t35 (List._++_ t48 t3)); slots = List._∷_ (Row.lease (κs .0) (qs .0)) (List._∷_ (Row.lease (κs .1 .0) (qs .1 .0)) (List._∷_ Row.off (List._∷_ Row.off
-            (List._∷_ (Row.lease (κs .1 .1 .1 .1 .0) (qs .1 .1 .1 .1 .0)) (List._∷_ (Row.lease (κs .1 .1 .1 .1 .1 .0) (qs .1 .1 .1 .1 .1 .0)) (List._∷_ Row.off (List._∷_ Row.off (List._∷_ Row.off
-            (List._∷_ Row.off (List._∷_ Row.alive (List._∷_ Row.alive (List._∷_ Row.alive (List._∷_ Row.off (List._∷_ Row.off (List._∷_ Row.off List.[]))))))))))))))); }
+        G68 = record {
+          locals = List._++_ g46 (List._++_ t35 (List._++_ t48 t3));
+          slots = List._∷_ (Row.lease (κs .0) (qs .0)) (List._∷_ (Row.lease (κs .1 .0) (qs .1 .0)) (List._∷_ Row.off (List._∷_ Row.off
+              (List._∷_ (Row.lease (κs .1 .1 .1 .1 .0) (qs .1 .1 .1 .1 .0)) (List._∷_ (Row.lease (κs .1 .1 .1 .1 .1 .0) (qs .1 .1 .1 .1 .1 .0)) (List._∷_ Row.off (List._∷_ Row.off (List._∷_ Row.off
+              (List._∷_ Row.off (List._∷_ Row.alive (List._∷_ Row.alive (List._∷_ Row.alive (List._∷_ Row.off (List._∷_ Row.off (List._∷_ Row.off List.[])))))))))))))));
+        }
 
         abbrev G69 : Row.Cx
-        G69 = record
-            { locals = List._++_ g49 (List._++_ t35 (List._++_ t50 t3)); slots = List._∷_ (Row.lease (κs .0) (qs .0)) (List._∷_ (Row.lease (κs .1 .0) (qs .1 .0)) (List._∷_ Row.off (List._∷_ Row.off
-            (List._∷_ Row.off (List._∷_ (Row.lease (κs .1 .1 .1 .1 .1 .0) (qs .1 .1 .1 .1 .1 .0)) (List._∷_ Row.off (List._∷_ Row.off (List._∷_ Row.off (List._∷_ Row.off (List._∷_ Row.alive (List._∷_
-            Row.alive (List._∷_ Row.alive (List._∷_ Row.off (List._∷_ Row.off (List._∷_ Row.off List.[]))))))))))))))); }
+        G69 = record {
+          locals = List._++_ g49 (List._++_ t35 (List._++_ t50 t3));
+          slots = List._∷_ (Row.lease (κs .0) (qs .0)) (List._∷_ (Row.lease (κs .1 .0) (qs .1 .0)) (List._∷_ Row.off (List._∷_ Row.off
+              (List._∷_ Row.off (List._∷_ (Row.lease (κs .1 .1 .1 .1 .1 .0) (qs .1 .1 .1 .1 .1 .0)) (List._∷_ Row.off (List._∷_ Row.off (List._∷_ Row.off (List._∷_ Row.off (List._∷_ Row.alive (List._∷_
+              Row.alive (List._∷_ Row.alive (List._∷_ Row.off (List._∷_ Row.off (List._∷_ Row.off List.[])))))))))))))));
+        }
 
         abbrev G70 : Row.Cx
-        G70 = record
-            { locals = List._++_ g49 (List._++_ t35 (List._++_ t51 t3)); slots = List._∷_ (Row.lease (κs .0) (qs .0)) (List._∷_ (Row.lease (κs .1 .0) (qs .1 .0)) (List._∷_ Row.off (List._∷_ Row.off
-            (List._∷_ Row.off (List._∷_ (Row.lease (κs .1 .1 .1 .1 .1 .0) (qs .1 .1 .1 .1 .1 .0)) (List._∷_ Row.off (List._∷_ Row.off (List._∷_ Row.off (List._∷_ Row.off (List._∷_ Row.alive (List._∷_
-            Row.alive (List._∷_ Row.alive (List._∷_ Row.off (List._∷_ Row.off (List._∷_ Row.off List.[]))))))))))))))); }
+        G70 = record {
+          locals = List._++_ g49 (List._++_ t35 (List._++_ t51 t3));
+          slots = List._∷_ (Row.lease (κs .0) (qs .0)) (List._∷_ (Row.lease (κs .1 .0) (qs .1 .0)) (List._∷_ Row.off (List._∷_ Row.off
+              (List._∷_ Row.off (List._∷_ (Row.lease (κs .1 .1 .1 .1 .1 .0) (qs .1 .1 .1 .1 .1 .0)) (List._∷_ Row.off (List._∷_ Row.off (List._∷_ Row.off (List._∷_ Row.off (List._∷_ Row.alive (List._∷_
+              Row.alive (List._∷_ Row.alive (List._∷_ Row.off (List._∷_ Row.off (List._∷_ Row.off List.[])))))))))))))));
+        }
 
         abbrev G71 : Row.Cx
-        G71 = record
-            { locals = List._++_ g49 (List._++_ t35 (List._++_ t52 t3)); slots = List._∷_ (Row.lease (κs .0) (qs .0)) (List._∷_ (Row.lease (κs .1 .0) (qs .1 .0)) (List._∷_ Row.off (List._∷_ Row.off
-            (List._∷_ Row.off (List._∷_ (Row.lease (κs .1 .1 .1 .1 .1 .0) (qs .1 .1 .1 .1 .1 .0)) (List._∷_ Row.off (List._∷_ Row.off (List._∷_ Row.off (List._∷_ Row.off (List._∷_ Row.alive (List._∷_
-            Row.alive (List._∷_ Row.alive (List._∷_ Row.off (List._∷_ Row.off (List._∷_ Row.off List.[]))))))))))))))); }
+        G71 = record {
+          locals = List._++_ g49 (List._++_ t35 (List._++_ t52 t3));
+          slots = List._∷_ (Row.lease (κs .0) (qs .0)) (List._∷_ (Row.lease (κs .1 .0) (qs .1 .0)) (List._∷_ Row.off (List._∷_ Row.off
+              (List._∷_ Row.off (List._∷_ (Row.lease (κs .1 .1 .1 .1 .1 .0) (qs .1 .1 .1 .1 .1 .0)) (List._∷_ Row.off (List._∷_ Row.off (List._∷_ Row.off (List._∷_ Row.off (List._∷_ Row.alive (List._∷_
+              Row.alive (List._∷_ Row.alive (List._∷_ Row.off (List._∷_ Row.off (List._∷_ Row.off List.[])))))))))))))));
+        }
 
         abbrev G72 : Row.Cx
-        G72 = record
-            { locals = List._++_ g49 (List._++_ t53 (List._++_ t54 t3)); slots = List._∷_ (Row.lease (κs .0) (qs .0)) (List._∷_ (Row.lease (κs .1 .0) (qs .1 .0)) (List._∷_ Row.off (List._∷_ Row.off
-            (List._∷_ Row.off (List._∷_ (Row.lease (κs .1 .1 .1 .1 .1 .0) (qs .1 .1 .1 .1 .1 .0)) (List._∷_ Row.off (List._∷_ Row.off (List._∷_ Row.off (List._∷_ Row.off (List._∷_ Row.alive (List._∷_
-            Row.alive (List._∷_ Row.alive (List._∷_ Row.off (List._∷_ Row.off (List._∷_ Row.off List.[]))))))))))))))); }
+        G72 = record {
+          locals = List._++_ g49 (List._++_ t53 (List._++_ t54 t3));
+          slots = List._∷_ (Row.lease (κs .0) (qs .0)) (List._∷_ (Row.lease (κs .1 .0) (qs .1 .0)) (List._∷_ Row.off (List._∷_ Row.off
+              (List._∷_ Row.off (List._∷_ (Row.lease (κs .1 .1 .1 .1 .1 .0) (qs .1 .1 .1 .1 .1 .0)) (List._∷_ Row.off (List._∷_ Row.off (List._∷_ Row.off (List._∷_ Row.off (List._∷_ Row.alive (List._∷_
+              Row.alive (List._∷_ Row.alive (List._∷_ Row.off (List._∷_ Row.off (List._∷_ Row.off List.[])))))))))))))));
+        }
 
         abbrev G73 : Row.Cx
-        G73 = record
-            { locals = List._++_ t7 (List._++_ t55 (List._++_ t2 t3)); slots = List._∷_ (Row.lease (κs .0) (qs .0)) (List._∷_ (Row.lease (κs .1 .0) (qs .1 .0)) (List._∷_ (Row.lease (κs .1 .1 .0) (qs .1 .1
-            .0)) (List._∷_ (Row.lease (κs .1 .1 .1 .0) (qs .1 .1 .1 .0)) (List._∷_ (Row.lease (κs .1 .1 .1 .1 .0) (qs .1 .1 .1 .1 .0)) (List._∷_ (Row.lease (κs .1 .1 .1 .1 .1 .0) (qs .1 .1 .1 .1 .1 .0))
-            (List._∷_ Row.off (List._∷_ Row.off (List._∷_ Row.off (List._∷_ Row.off (List._∷_ Row.off (List._∷_ Row.off (List._∷_ Row.off (List._∷_ Row.off (List._∷_ Row.off (List._∷_ Row.off
-            List.[]))))))))))))))); }
+        G73 = record {
+          locals = List._++_ t7 (List._++_ t55 (List._++_ t2 t3));
+          slots = List._∷_ (Row.lease (κs .0) (qs .0)) (List._∷_ (Row.lease (κs .1 .0) (qs .1 .0)) (List._∷_ (Row.lease (κs .1 .1 .0) (qs .1 .1
+              .0)) (List._∷_ (Row.lease (κs .1 .1 .1 .0) (qs .1 .1 .1 .0)) (List._∷_ (Row.lease (κs .1 .1 .1 .1 .0) (qs .1 .1 .1 .1 .0)) (List._∷_ (Row.lease (κs .1 .1 .1 .1 .1 .0) (qs .1 .1 .1 .1 .1 .0))
+              (List._∷_ Row.off (List._∷_ Row.off (List._∷_ Row.off (List._∷_ Row.off (List._∷_ Row.off (List._∷_ Row.off (List._∷_ Row.off (List._∷_ Row.off (List._∷_ Row.off (List._∷_ Row.off
+              List.[])))))))))))))));
+        }
 
         abbrev G74 : Row.Cx
-        G74 = record
-            { locals = List._++_ g49 (List._++_ t53 (List._++_ t56 t3)); slots = List._∷_ (Row.lease (κs .0) (qs .0)) (List._∷_ (Row.lease (κs .1 .0) (qs .1 .0)) (List._∷_ Row.off (List._∷_ Row.off
-            (List._∷_ Row.off (List._∷_ (Row.lease (κs .1 .1 .1 .1 .1 .0) (qs .1 .1 .1 .1 .1 .0)) (List._∷_ Row.off (List._∷_ Row.off (List._∷_ Row.off (List._∷_ Row.off (List._∷_ Row.alive (List._∷_
-            Row.alive (List._∷_ Row.alive (List._∷_ Row.off (List._∷_ Row.off (List._∷_ Row.off List.[]))))))))))))))); }
+        G74 = record {
+          locals = List._++_ g49 (List._++_ t53 (List._++_ t56 t3));
+          slots = List._∷_ (Row.lease (κs .0) (qs .0)) (List._∷_ (Row.lease (κs .1 .0) (qs .1 .0)) (List._∷_ Row.off (List._∷_ Row.off
+              (List._∷_ Row.off (List._∷_ (Row.lease (κs .1 .1 .1 .1 .1 .0) (qs .1 .1 .1 .1 .1 .0)) (List._∷_ Row.off (List._∷_ Row.off (List._∷_ Row.off (List._∷_ Row.off (List._∷_ Row.alive (List._∷_
+              Row.alive (List._∷_ Row.alive (List._∷_ Row.off (List._∷_ Row.off (List._∷_ Row.off List.[])))))))))))))));
+        }
 
         abbrev G75 : Row.Cx
-        G75 = record
-            { locals = List._++_ g49 (List._++_ t53 (List._++_ t56 t3)); slots = List._∷_ (Row.lease (κs .0) (qs .0)) (List._∷_ (Row.lease (κs .1 .0) (qs .1 .0)) (List._∷_ Row.off (List._∷_ Row.off
-            (List._∷_ Row.off (List._∷_ (Row.lease (κs .1 .1 .1 .1 .1 .0) (qs .1 .1 .1 .1 .1 .0)) (List._∷_ Row.off (List._∷_ Row.off (List._∷_ Row.off (List._∷_ Row.off (List._∷_ Row.dead (List._∷_
-            Row.alive (List._∷_ Row.alive (List._∷_ Row.off (List._∷_ Row.off (List._∷_ Row.off List.[]))))))))))))))); }
+        G75 = record {
+          locals = List._++_ g49 (List._++_ t53 (List._++_ t56 t3));
+          slots = List._∷_ (Row.lease (κs .0) (qs .0)) (List._∷_ (Row.lease (κs .1 .0) (qs .1 .0)) (List._∷_ Row.off (List._∷_ Row.off
+              (List._∷_ Row.off (List._∷_ (Row.lease (κs .1 .1 .1 .1 .1 .0) (qs .1 .1 .1 .1 .1 .0)) (List._∷_ Row.off (List._∷_ Row.off (List._∷_ Row.off (List._∷_ Row.off (List._∷_ Row.dead (List._∷_
+              Row.alive (List._∷_ Row.alive (List._∷_ Row.off (List._∷_ Row.off (List._∷_ Row.off List.[])))))))))))))));
+        }
 
         abbrev G76 : Row.Cx
-        G76 = record
-            { locals = List._++_ g57 (List._++_ t53 (List._++_ t58 t3)); slots = List._∷_ (Row.lease (κs .0) (qs .0)) (List._∷_ (Row.lease (κs .1 .0) (qs .1 .0)) (List._∷_ (Row.lease (κs .1 .1 .0) (qs .1
-            .1 .0)) (List._∷_ Row.off (List._∷_ Row.off (List._∷_ (Row.lease (κs .1 .1 .1 .1 .1 .0) (qs .1 .1 .1 .1 .1 .0)) (List._∷_ Row.off (List._∷_ Row.off (List._∷_ Row.off (List._∷_ Row.off
-            (List._∷_ Row.dead (List._∷_ Row.alive (List._∷_ Row.alive (List._∷_ Row.off (List._∷_ Row.off (List._∷_ Row.off List.[]))))))))))))))); }
+        G76 = record {
+          locals = List._++_ g57 (List._++_ t53 (List._++_ t58 t3));
+          slots = List._∷_ (Row.lease (κs .0) (qs .0)) (List._∷_ (Row.lease (κs .1 .0) (qs .1 .0)) (List._∷_ (Row.lease (κs .1 .1 .0) (qs .1
+              .1 .0)) (List._∷_ Row.off (List._∷_ Row.off (List._∷_ (Row.lease (κs .1 .1 .1 .1 .1 .0) (qs .1 .1 .1 .1 .1 .0)) (List._∷_ Row.off (List._∷_ Row.off (List._∷_ Row.off (List._∷_ Row.off
+              (List._∷_ Row.dead (List._∷_ Row.alive (List._∷_ Row.alive (List._∷_ Row.off (List._∷_ Row.off (List._∷_ Row.off List.[])))))))))))))));
+        }
 
         abbrev G77 : Row.Cx
-        G77 = record
-            { locals = List._++_ g57 (List._++_ t53 (List._++_ t58 t3)); slots = List._∷_ (Row.lease (κs .0) (qs .0)) (List._∷_ (Row.lease (κs .1 .0) (qs .1 .0)) (List._∷_ (Row.lease (κs .1 .1 .0) (qs .1
-            .1 .0)) (List._∷_ Row.off (List._∷_ Row.off (List._∷_ (Row.lease (κs .1 .1 .1 .1 .1 .0) (qs .1 .1 .1 .1 .1 .0)) (List._∷_ Row.off (List._∷_ Row.off (List._∷_ Row.off (List._∷_ Row.off
-            (List._∷_ Row.dead (List._∷_ Row.alive (List._∷_ Row.alive (List._∷_ Row.off (List._∷_ Row.off (List._∷_ Row.off List.[]))))))))))))))); }
+        G77 = record {
+          locals = List._++_ g57 (List._++_ t53 (List._++_ t58 t3));
+          slots = List._∷_ (Row.lease (κs .0) (qs .0)) (List._∷_ (Row.lease (κs .1 .0) (qs .1 .0)) (List._∷_ (Row.lease (κs .1 .1 .0) (qs .1
+              .1 .0)) (List._∷_ Row.off (List._∷_ Row.off (List._∷_ (Row.lease (κs .1 .1 .1 .1 .1 .0) (qs .1 .1 .1 .1 .1 .0)) (List._∷_ Row.off (List._∷_ Row.off (List._∷_ Row.off (List._∷_ Row.off
+              (List._∷_ Row.dead (List._∷_ Row.alive (List._∷_ Row.alive (List._∷_ Row.off (List._∷_ Row.off (List._∷_ Row.off List.[])))))))))))))));
+        }
 
         abbrev G78 : Row.Cx
-        G78 = record
-            { locals = List._++_ g57 (List._++_ t53 (List._++_ t58 t3)); slots = List._∷_ (Row.lease (κs .0) (qs .0)) (List._∷_ (Row.lease (κs .1 .0) (qs .1 .0)) (List._∷_ (Row.lease (κs .1 .1 .0) (qs .1
-            .1 .0)) (List._∷_ Row.off (List._∷_ Row.off (List._∷_ (Row.lease (κs .1 .1 .1 .1 .1 .0) (qs .1 .1 .1 .1 .1 .0)) (List._∷_ Row.off (List._∷_ Row.off (List._∷_ Row.off (List._∷_ Row.off
-            (List._∷_ Row.off (List._∷_ Row.alive (List._∷_ Row.alive (List._∷_ Row.off (List._∷_ Row.off (List._∷_ Row.off List.[]))))))))))))))); }
+        G78 = record {
+          locals = List._++_ g57 (List._++_ t53 (List._++_ t58 t3));
+          slots = List._∷_ (Row.lease (κs .0) (qs .0)) (List._∷_ (Row.lease (κs .1 .0) (qs .1 .0)) (List._∷_ (Row.lease (κs .1 .1 .0) (qs .1
+              .1 .0)) (List._∷_ Row.off (List._∷_ Row.off (List._∷_ (Row.lease (κs .1 .1 .1 .1 .1 .0) (qs .1 .1 .1 .1 .1 .0)) (List._∷_ Row.off (List._∷_ Row.off (List._∷_ Row.off (List._∷_ Row.off
+              (List._∷_ Row.off (List._∷_ Row.alive (List._∷_ Row.alive (List._∷_ Row.off (List._∷_ Row.off (List._∷_ Row.off List.[])))))))))))))));
+        }
 
         abbrev G79 : Row.Cx
-        G79 = record
-            { locals = List._++_ g57 (List._++_ t53 (List._++_ t58 t3)); slots = List._∷_ (Row.lease (κs .0) (qs .0)) (List._∷_ (Row.lease (κs .1 .0) (qs .1 .0)) (List._∷_ (Row.lease (κs .1 .1 .0) (qs .1
-            .1 .0)) (List._∷_ Row.off (List._∷_ Row.off (List._∷_ (Row.lease (κs .1 .1 .1 .1 .1 .0) (qs .1 .1 .1 .1 .1 .0)) (List._∷_ Row.off (List._∷_ Row.off (List._∷_ Row.off (List._∷_ Row.off
-            (List._∷_ Row.off (List._∷_ Row.dead (List._∷_ Row.alive (List._∷_ Row.off (List._∷_ Row.off (List._∷_ Row.off List.[]))))))))))))))); }
+        G79 = record {
+          locals = List._++_ g57 (List._++_ t53 (List._++_ t58 t3));
+          slots = List._∷_ (Row.lease (κs .0) (qs .0)) (List._∷_ (Row.lease (κs .1 .0) (qs .1 .0)) (List._∷_ (Row.lease (κs .1 .1 .0) (qs .1
+              .1 .0)) (List._∷_ Row.off (List._∷_ Row.off (List._∷_ (Row.lease (κs .1 .1 .1 .1 .1 .0) (qs .1 .1 .1 .1 .1 .0)) (List._∷_ Row.off (List._∷_ Row.off (List._∷_ Row.off (List._∷_ Row.off
+              (List._∷_ Row.off (List._∷_ Row.dead (List._∷_ Row.alive (List._∷_ Row.off (List._∷_ Row.off (List._∷_ Row.off List.[])))))))))))))));
+        }
 
         abbrev G80 : Row.Cx
-        G80 = record
-            { locals = List._++_ g59 (List._++_ t53 (List._++_ t60 t3)); slots = List._∷_ (Row.lease (κs .0) (qs .0)) (List._∷_ (Row.lease (κs .1 .0) (qs .1 .0)) (List._∷_ (Row.lease (κs .1 .1 .0) (qs .1
-            .1 .0)) (List._∷_ (Row.lease (κs .1 .1 .1 .0) (qs .1 .1 .1 .0)) (List._∷_ Row.off (List._∷_ (Row.lease (κs .1 .1 .1 .1 .1 .0) (qs .1 .1 .1 .1 .1 .0)) (List._∷_ Row.off (List._∷_ Row.off
-            (List._∷_ Row.off (List._∷_ Row.off (List._∷_ Row.off (List._∷_ Row.dead (List._∷_ Row.alive (List._∷_ Row.off (List._∷_ Row.off (List._∷_ Row.off List.[]))))))))))))))); }
+        G80 = record {
+          locals = List._++_ g59 (List._++_ t53 (List._++_ t60 t3));
+          slots = List._∷_ (Row.lease (κs .0) (qs .0)) (List._∷_ (Row.lease (κs .1 .0) (qs .1 .0)) (List._∷_ (Row.lease (κs .1 .1 .0) (qs .1
+              .1 .0)) (List._∷_ (Row.lease (κs .1 .1 .1 .0) (qs .1 .1 .1 .0)) (List._∷_ Row.off (List._∷_ (Row.lease (κs .1 .1 .1 .1 .1 .0) (qs .1 .1 .1 .1 .1 .0)) (List._∷_ Row.off (List._∷_ Row.off
+              (List._∷_ Row.off (List._∷_ Row.off (List._∷_ Row.off (List._∷_ Row.dead (List._∷_ Row.alive (List._∷_ Row.off (List._∷_ Row.off (List._∷_ Row.off List.[])))))))))))))));
+        }
 
         abbrev G81 : Row.Cx
-        G81 = record
-            { locals = List._++_ g59 (List._++_ t53 (List._++_ t60 t3)); slots = List._∷_ (Row.lease (κs .0) (qs .0)) (List._∷_ (Row.lease (κs .1 .0) (qs .1 .0)) (List._∷_ (Row.lease (κs .1 .1 .0) (qs .1
-            .1 .0)) (List._∷_ (Row.lease (κs .1 .1 .1 .0) (qs .1 .1 .1 .0)) (List._∷_ Row.off (List._∷_ (Row.lease (κs .1 .1 .1 .1 .1 .0) (qs .1 .1 .1 .1 .1 .0)) (List._∷_ Row.off (List._∷_ Row.off
-            (List._∷_ Row.off (List._∷_ Row.off (List._∷_ Row.off (List._∷_ Row.off (List._∷_ Row.alive (List._∷_ Row.off (List._∷_ Row.off (List._∷_ Row.off List.[]))))))))))))))); }
+        G81 = record {
+          locals = List._++_ g59 (List._++_ t53 (List._++_ t60 t3));
+          slots = List._∷_ (Row.lease (κs .0) (qs .0)) (List._∷_ (Row.lease (κs .1 .0) (qs .1 .0)) (List._∷_ (Row.lease (κs .1 .1 .0) (qs .1
+              .1 .0)) (List._∷_ (Row.lease (κs .1 .1 .1 .0) (qs .1 .1 .1 .0)) (List._∷_ Row.off (List._∷_ (Row.lease (κs .1 .1 .1 .1 .1 .0) (qs .1 .1 .1 .1 .1 .0)) (List._∷_ Row.off (List._∷_ Row.off
+              (List._∷_ Row.off (List._∷_ Row.off (List._∷_ Row.off (List._∷_ Row.off (List._∷_ Row.alive (List._∷_ Row.off (List._∷_ Row.off (List._∷_ Row.off List.[])))))))))))))));
+        }
 
         abbrev G82 : Row.Cx
-        G82 = record
-            { locals = List._++_ g59 (List._++_ t53 (List._++_ t60 t3)); slots = List._∷_ (Row.lease (κs .0) (qs .0)) (List._∷_ (Row.lease (κs .1 .0) (qs .1 .0)) (List._∷_ (Row.lease (κs .1 .1 .0) (qs .1
-            .1 .0)) (List._∷_ (Row.lease (κs .1 .1 .1 .0) (qs .1 .1 .1 .0)) (List._∷_ Row.off (List._∷_ (Row.lease (κs .1 .1 .1 .1 .1 .0) (qs .1 .1 .1 .1 .1 .0)) (List._∷_ Row.off (List._∷_ Row.off
-            (List._∷_ Row.off (List._∷_ Row.off (List._∷_ Row.off (List._∷_ Row.off (List._∷_ Row.dead (List._∷_ Row.off (List._∷_ Row.off (List._∷_ Row.off List.[]))))))))))))))); }
+        G82 = record {
+          locals = List._++_ g59 (List._++_ t53 (List._++_ t60 t3));
+          slots = List._∷_ (Row.lease (κs .0) (qs .0)) (List._∷_ (Row.lease (κs .1 .0) (qs .1 .0)) (List._∷_ (Row.lease (κs .1 .1 .0) (qs .1
+              .1 .0)) (List._∷_ (Row.lease (κs .1 .1 .1 .0) (qs .1 .1 .1 .0)) (List._∷_ Row.off (List._∷_ (Row.lease (κs .1 .1 .1 .1 .1 .0) (qs .1 .1 .1 .1 .1 .0)) (List._∷_ Row.off (List._∷_ Row.off
+              (List._∷_ Row.off (List._∷_ Row.off (List._∷_ Row.off (List._∷_ Row.off (List._∷_ Row.dead (List._∷_ Row.off (List._∷_ Row.off (List._∷_ Row.off List.[])))))))))))))));
+        }
 
         abbrev G83 : Row.Cx
-        G83 = record
-            { locals = List._++_ t7 (List._++_ t53 (List._++_ t2 t3)); slots = List._∷_ (Row.lease (κs .0) (qs .0)) (List._∷_ (Row.lease (κs .1 .0) (qs .1 .0)) (List._∷_ (Row.lease (κs .1 .1 .0) (qs .1 .1
-            .0)) (List._∷_ (Row.lease (κs .1 .1 .1 .0) (qs .1 .1 .1 .0)) (List._∷_ (Row.lease (κs .1 .1 .1 .1 .0) (qs .1 .1 .1 .1 .0)) (List._∷_ (Row.lease (κs .1 .1 .1 .1 .1 .0) (qs .1 .1 .1 .1 .1 .0))
-            (List._∷_ Row.off (List._∷_ Row.off (List._∷_ Row.off (List._∷_ Row.off (List._∷_ Row.off (List._∷_ Row.off (List._∷_ Row.dead (List._∷_ Row.off (List._∷_ Row.off (List._∷_ Row.off
-            List.[]))))))))))))))); }
+        G83 = record {
+          locals = List._++_ t7 (List._++_ t53 (List._++_ t2 t3));
+          slots = List._∷_ (Row.lease (κs .0) (qs .0)) (List._∷_ (Row.lease (κs .1 .0) (qs .1 .0)) (List._∷_ (Row.lease (κs .1 .1 .0) (qs .1 .1
+              .0)) (List._∷_ (Row.lease (κs .1 .1 .1 .0) (qs .1 .1 .1 .0)) (List._∷_ (Row.lease (κs .1 .1 .1 .1 .0) (qs .1 .1 .1 .1 .0)) (List._∷_ (Row.lease (κs .1 .1 .1 .1 .1 .0) (qs .1 .1 .1 .1 .1 .0))
+              (List._∷_ Row.off (List._∷_ Row.off (List._∷_ Row.off (List._∷_ Row.off (List._∷_ Row.off (List._∷_ Row.off (List._∷_ Row.dead (List._∷_ Row.off (List._∷_ Row.off (List._∷_ Row.off
+              List.[])))))))))))))));
+        }
 
         abbrev G84 : Row.Cx
-        G84 = record
-            { locals = List._++_ t7 (List._++_ t53 (List._++_ t2 t3)); slots = List._∷_ (Row.lease (κs .0) (qs .0)) (List._∷_ (Row.lease (κs .1 .0) (qs .1 .0)) (List._∷_ (Row.lease (κs .1 .1 .0) (qs .1 .1
-            .0)) (List._∷_ (Row.lease (κs .1 .1 .1 .0) (qs .1 .1 .1 .0)) (List._∷_ (Row.lease (κs .1 .1 .1 .1 .0) (qs .1 .1 .1 .1 .0)) (List._∷_ (Row.lease (κs .1 .1 .1 .1 .1 .0) (qs .1 .1 .1 .1 .1 .0))
-            (List._∷_ Row.off (List._∷_ Row.off (List._∷_ Row.off (List._∷_ Row.off (List._∷_ Row.off (List._∷_ Row.off (List._∷_ Row.dead (List._∷_ Row.off (List._∷_ Row.off (List._∷_ Row.off
-            List.[]))))))))))))))); }
+        G84 = record {
+          locals = List._++_ t7 (List._++_ t53 (List._++_ t2 t3));
+          slots = List._∷_ (Row.lease (κs .0) (qs .0)) (List._∷_ (Row.lease (κs .1 .0) (qs .1 .0)) (List._∷_ (Row.lease (κs .1 .1 .0) (qs .1 .1
+              .0)) (List._∷_ (Row.lease (κs .1 .1 .1 .0) (qs .1 .1 .1 .0)) (List._∷_ (Row.lease (κs .1 .1 .1 .1 .0) (qs .1 .1 .1 .1 .0)) (List._∷_ (Row.lease (κs .1 .1 .1 .1 .1 .0) (qs .1 .1 .1 .1 .1 .0))
+              (List._∷_ Row.off (List._∷_ Row.off (List._∷_ Row.off (List._∷_ Row.off (List._∷_ Row.off (List._∷_ Row.off (List._∷_ Row.dead (List._∷_ Row.off (List._∷_ Row.off (List._∷_ Row.off
+              List.[])))))))))))))));
+        }
 
         abbrev G85 : Row.Cx
-        G85 = record
-            { locals = List._++_ t7 (List._++_ t53 (List._++_ t2 t3)); slots = List._∷_ (Row.lease (κs .0) (qs .0)) (List._∷_ (Row.lease (κs .1 .0) (qs .1 .0)) (List._∷_ (Row.lease (κs .1 .1 .0) (qs .1 .1
-            .0)) (List._∷_ (Row.lease (κs .1 .1 .1 .0) (qs .1 .1 .1 .0)) (List._∷_ (Row.lease (κs .1 .1 .1 .1 .0) (qs .1 .1 .1 .1 .0)) (List._∷_ (Row.lease (κs .1 .1 .1 .1 .1 .0) (qs .1 .1 .1 .1 .1 .0))
-            (List._∷_ Row.off (List._∷_ Row.off (List._∷_ Row.off (List._∷_ Row.off (List._∷_ Row.off (List._∷_ Row.off (List._∷_ Row.off (List._∷_ Row.off (List._∷_ Row.off (List._∷_ Row.off
-            List.[]))))))))))))))); }
+        G85 = record {
+          locals = List._++_ t7 (List._++_ t53 (List._++_ t2 t3));
+          slots = List._∷_ (Row.lease (κs .0) (qs .0)) (List._∷_ (Row.lease (κs .1 .0) (qs .1 .0)) (List._∷_ (Row.lease (κs .1 .1 .0) (qs .1 .1
+              .0)) (List._∷_ (Row.lease (κs .1 .1 .1 .0) (qs .1 .1 .1 .0)) (List._∷_ (Row.lease (κs .1 .1 .1 .1 .0) (qs .1 .1 .1 .1 .0)) (List._∷_ (Row.lease (κs .1 .1 .1 .1 .1 .0) (qs .1 .1 .1 .1 .1 .0))
+              (List._∷_ Row.off (List._∷_ Row.off (List._∷_ Row.off (List._∷_ Row.off (List._∷_ Row.off (List._∷_ Row.off (List._∷_ Row.off (List._∷_ Row.off (List._∷_ Row.off (List._∷_ Row.off
+              List.[])))))))))))))));
+        }
 
         abbrev G86 : Row.Cx
-        G86 = record
-            { locals = List._++_ t7 (List._++_ t61 (List._++_ t2 t3)); slots = List._∷_ (Row.lease (κs .0) (qs .0)) (List._∷_ (Row.lease (κs .1 .0) (qs .1 .0)) (List._∷_ (Row.lease (κs .1 .1 .0) (qs .1 .1
-            .0)) (List._∷_ (Row.lease (κs .1 .1 .1 .0) (qs .1 .1 .1 .0)) (List._∷_ (Row.lease (κs .1 .1 .1 .1 .0) (qs .1 .1 .1 .1 .0)) (List._∷_ (Row.lease (κs .1 .1 .1 .1 .1 .0) (qs .1 .1 .1 .1 .1 .0))
-            (List._∷_ Row.off (List._∷_ Row.off (List._∷_ Row.off (List._∷_ Row.off (List._∷_ Row.off (List._∷_ Row.off (List._∷_ Row.off (List._∷_ Row.off (List._∷_ Row.off (List._∷_ Row.off
-            List.[]))))))))))))))); }
+        G86 = record {
+          locals = List._++_ t7 (List._++_ t61 (List._++_ t2 t3));
+          slots = List._∷_ (Row.lease (κs .0) (qs .0)) (List._∷_ (Row.lease (κs .1 .0) (qs .1 .0)) (List._∷_ (Row.lease (κs .1 .1 .0) (qs .1 .1
+              .0)) (List._∷_ (Row.lease (κs .1 .1 .1 .0) (qs .1 .1 .1 .0)) (List._∷_ (Row.lease (κs .1 .1 .1 .1 .0) (qs .1 .1 .1 .1 .0)) (List._∷_ (Row.lease (κs .1 .1 .1 .1 .1 .0) (qs .1 .1 .1 .1 .1 .0))
+              (List._∷_ Row.off (List._∷_ Row.off (List._∷_ Row.off (List._∷_ Row.off (List._∷_ Row.off (List._∷_ Row.off (List._∷_ Row.off (List._∷_ Row.off (List._∷_ Row.off (List._∷_ Row.off
+              List.[])))))))))))))));
+        }
 
         abbrev G87 : Row.Cx
-        G87 = record
-            { locals = List._++_ t7 (List._++_ t61 (List._++_ t2 t3)); slots = List._∷_ (Row.lease (κs .0) (qs .0)) (List._∷_ (Row.lease (κs .1 .0) (qs .1 .0)) (List._∷_ (Row.lease (κs .1 .1 .0) (qs .1 .1
-            .0)) (List._∷_ (Row.lease (κs .1 .1 .1 .0) (qs .1 .1 .1 .0)) (List._∷_ (Row.lease (κs .1 .1 .1 .1 .0) (qs .1 .1 .1 .1 .0)) (List._∷_ (Row.lease (κs .1 .1 .1 .1 .1 .0) (qs .1 .1 .1 .1 .1 .0))
-            (List._∷_ Row.off (List._∷_ Row.off (List._∷_ Row.off (List._∷_ Row.off (List._∷_ Row.off (List._∷_ Row.off (List._∷_ Row.off (List._∷_ Row.off (List._∷_ Row.off (List._∷_ Row.off
-            List.[]))))))))))))))); }
+        G87 = record {
+          locals = List._++_ t7 (List._++_ t61 (List._++_ t2 t3));
+          slots = List._∷_ (Row.lease (κs .0) (qs .0)) (List._∷_ (Row.lease (κs .1 .0) (qs .1 .0)) (List._∷_ (Row.lease (κs .1 .1 .0) (qs .1 .1
+              .0)) (List._∷_ (Row.lease (κs .1 .1 .1 .0) (qs .1 .1 .1 .0)) (List._∷_ (Row.lease (κs .1 .1 .1 .1 .0) (qs .1 .1 .1 .1 .0)) (List._∷_ (Row.lease (κs .1 .1 .1 .1 .1 .0) (qs .1 .1 .1 .1 .1 .0))
+              (List._∷_ Row.off (List._∷_ Row.off (List._∷_ Row.off (List._∷_ Row.off (List._∷_ Row.off (List._∷_ Row.off (List._∷_ Row.off (List._∷_ Row.off (List._∷_ Row.off (List._∷_ Row.off
+              List.[])))))))))))))));
+        }
 
         abbrev G88 : Row.Cx
-        G88 = record
-            { locals = List._++_ t7 (List._++_ t62 (List._++_ t2 t3)); slots = List._∷_ (Row.lease (κs .0) (qs .0)) (List._∷_ (Row.lease (κs .1 .0) (qs .1 .0)) (List._∷_ (Row.lease (κs .1 .1 .0) (qs .1 .1
-            .0)) (List._∷_ (Row.lease (κs .1 .1 .1 .0) (qs .1 .1 .1 .0)) (List._∷_ (Row.lease (κs .1 .1 .1 .1 .0) (qs .1 .1 .1 .1 .0)) (List._∷_ (Row.lease (κs .1 .1 .1 .1 .1 .0) (qs .1 .1 .1 .1 .1 .0))
-            (List._∷_ Row.off (List._∷_ Row.off (List._∷_ Row.off (List._∷_ Row.off (List._∷_ Row.off (List._∷_ Row.off (List._∷_ Row.off (List._∷_ Row.off (List._∷_ Row.off (List._∷_ Row.off
-            List.[]))))))))))))))); }
+        G88 = record {
+          locals = List._++_ t7 (List._++_ t62 (List._++_ t2 t3));
+          slots = List._∷_ (Row.lease (κs .0) (qs .0)) (List._∷_ (Row.lease (κs .1 .0) (qs .1 .0)) (List._∷_ (Row.lease (κs .1 .1 .0) (qs .1 .1
+              .0)) (List._∷_ (Row.lease (κs .1 .1 .1 .0) (qs .1 .1 .1 .0)) (List._∷_ (Row.lease (κs .1 .1 .1 .1 .0) (qs .1 .1 .1 .1 .0)) (List._∷_ (Row.lease (κs .1 .1 .1 .1 .1 .0) (qs .1 .1 .1 .1 .1 .0))
+              (List._∷_ Row.off (List._∷_ Row.off (List._∷_ Row.off (List._∷_ Row.off (List._∷_ Row.off (List._∷_ Row.off (List._∷_ Row.off (List._∷_ Row.off (List._∷_ Row.off (List._∷_ Row.off
+              List.[])))))))))))))));
+        }
 
         abbrev G89 : Row.Cx
-        G89 = record
-            { locals = List._++_ t7 (List._++_ t63 (List._++_ t2 t3)); slots = List._∷_ (Row.lease (κs .0) (qs .0)) (List._∷_ (Row.lease (κs .1 .0) (qs .1 .0)) (List._∷_ (Row.lease (κs .1 .1 .0) (qs .1 .1
-            .0)) (List._∷_ (Row.lease (κs .1 .1 .1 .0) (qs .1 .1 .1 .0)) (List._∷_ (Row.lease (κs .1 .1 .1 .1 .0) (qs .1 .1 .1 .1 .0)) (List._∷_ (Row.lease (κs .1 .1 .1 .1 .1 .0) (qs .1 .1 .1 .1 .1 .0))
-            (List._∷_ Row.off (List._∷_ Row.off (List._∷_ Row.off (List._∷_ Row.off (List._∷_ Row.off (List._∷_ Row.off (List._∷_ Row.off (List._∷_ Row.off (List._∷_ Row.off (List._∷_ Row.off
-            List.[]))))))))))))))); }
+        G89 = record {
+          locals = List._++_ t7 (List._++_ t63 (List._++_ t2 t3));
+          slots = List._∷_ (Row.lease (κs .0) (qs .0)) (List._∷_ (Row.lease (κs .1 .0) (qs .1 .0)) (List._∷_ (Row.lease (κs .1 .1 .0) (qs .1 .1
+              .0)) (List._∷_ (Row.lease (κs .1 .1 .1 .0) (qs .1 .1 .1 .0)) (List._∷_ (Row.lease (κs .1 .1 .1 .1 .0) (qs .1 .1 .1 .1 .0)) (List._∷_ (Row.lease (κs .1 .1 .1 .1 .1 .0) (qs .1 .1 .1 .1 .1 .0))
+              (List._∷_ Row.off (List._∷_ Row.off (List._∷_ Row.off (List._∷_ Row.off (List._∷_ Row.off (List._∷_ Row.off (List._∷_ Row.off (List._∷_ Row.off (List._∷_ Row.off (List._∷_ Row.off
+              List.[])))))))))))))));
+        }
 
         abbrev G90 : Row.Cx
-        G90 = record
-            { locals = List._++_ t7 (List._++_ t55 (List._++_ t2 t3)); slots = List._∷_ (Row.lease (κs .0) (qs .0)) (List._∷_ (Row.lease (κs .1 .0) (qs .1 .0)) (List._∷_ (Row.lease (κs .1 .1 .0) (qs .1 .1
-            .0)) (List._∷_ (Row.lease (κs .1 .1 .1 .0) (qs .1 .1 .1 .0)) (List._∷_ (Row.lease (κs .1 .1 .1 .1 .0) (qs .1 .1 .1 .1 .0)) (List._∷_ (Row.lease (κs .1 .1 .1 .1 .1 .0) (qs .1 .1 .1 .1 .1 .0))
-            (List._∷_ Row.off (List._∷_ Row.off (List._∷_ Row.off (List._∷_ Row.off (List._∷_ Row.off (List._∷_ Row.off (List._∷_ Row.off (List._∷_ Row.off (List._∷_ Row.off (List._∷_ Row.off
-            List.[]))))))))))))))); }
+        G90 = record {
+          locals = List._++_ t7 (List._++_ t55 (List._++_ t2 t3));
+          slots = List._∷_ (Row.lease (κs .0) (qs .0)) (List._∷_ (Row.lease (κs .1 .0) (qs .1 .0)) (List._∷_ (Row.lease (κs .1 .1 .0) (qs .1 .1
+              .0)) (List._∷_ (Row.lease (κs .1 .1 .1 .0) (qs .1 .1 .1 .0)) (List._∷_ (Row.lease (κs .1 .1 .1 .1 .0) (qs .1 .1 .1 .1 .0)) (List._∷_ (Row.lease (κs .1 .1 .1 .1 .1 .0) (qs .1 .1 .1 .1 .1 .0))
+              (List._∷_ Row.off (List._∷_ Row.off (List._∷_ Row.off (List._∷_ Row.off (List._∷_ Row.off (List._∷_ Row.off (List._∷_ Row.off (List._∷_ Row.off (List._∷_ Row.off (List._∷_ Row.off
+              List.[])))))))))))))));
+        }
 
         abbrev G91 : Row.Cx
-        G91 = record
-            { locals = List._++_ t7 (List._++_ t53 (List._++_ t2 t3)); slots = List._∷_ (Row.lease (κs .0) (qs .0)) (List._∷_ (Row.lease (κs .1 .0) (qs .1 .0)) (List._∷_ (Row.lease (κs .1 .1 .0) (qs .1 .1
-            .0)) (List._∷_ (Row.lease (κs .1 .1 .1 .0) (qs .1 .1 .1 .0)) (List._∷_ (Row.lease (κs .1 .1 .1 .1 .0) (qs .1 .1 .1 .1 .0)) (List._∷_ (Row.lease (κs .1 .1 .1 .1 .1 .0) (qs .1 .1 .1 .1 .1 .0))
-            (List._∷_ Row.off (List._∷_ Row.off (List._∷_ Row.off (List._∷_ Row.off (List._∷_ Row.off (List._∷_ Row.off (List._∷_ Row.off (List._∷_ Row.off (List._∷_ Row.off (List._∷_ Row.off
-            List.[]))))))))))))))); }
+        G91 = record {
+          locals = List._++_ t7 (List._++_ t53 (List._++_ t2 t3));
+          slots = List._∷_ (Row.lease (κs .0) (qs .0)) (List._∷_ (Row.lease (κs .1 .0) (qs .1 .0)) (List._∷_ (Row.lease (κs .1 .1 .0) (qs .1 .1
+              .0)) (List._∷_ (Row.lease (κs .1 .1 .1 .0) (qs .1 .1 .1 .0)) (List._∷_ (Row.lease (κs .1 .1 .1 .1 .0) (qs .1 .1 .1 .1 .0)) (List._∷_ (Row.lease (κs .1 .1 .1 .1 .1 .0) (qs .1 .1 .1 .1 .1 .0))
+              (List._∷_ Row.off (List._∷_ Row.off (List._∷_ Row.off (List._∷_ Row.off (List._∷_ Row.off (List._∷_ Row.off (List._∷_ Row.off (List._∷_ Row.off (List._∷_ Row.off (List._∷_ Row.off
+              List.[])))))))))))))));
+        }
 
         abbrev G92 : Row.Cx
-        G92 = record
-            { locals = List._++_ t25 (List._++_ t53 (List._++_ t2 t3)); slots = List._∷_ (Row.lease (κs .0) (qs .0)) (List._∷_ (Row.lease (κs .1 .0) (qs .1 .0)) (List._∷_ (Row.lease (κs .1 .1 .0) (qs .1
-            .1 .0)) (List._∷_ (Row.lease (κs .1 .1 .1 .0) (qs .1 .1 .1 .0)) (List._∷_ (Row.lease (κs .1 .1 .1 .1 .0) (qs .1 .1 .1 .1 .0)) (List._∷_ (Row.lease (κs .1 .1 .1 .1 .1 .0) (qs .1 .1 .1 .1 .1
-            .0)) (List._∷_ Row.off (List._∷_ Row.off (List._∷_ Row.off (List._∷_ Row.off (List._∷_ Row.off (List._∷_ Row.off (List._∷_ Row.off (List._∷_ Row.off (List._∷_ Row.off (List._∷_ Row.off
-            List.[]))))))))))))))); }
+        G92 = record {
+          locals = List._++_ t25 (List._++_ t53 (List._++_ t2 t3));
+          slots = List._∷_ (Row.lease (κs .0) (qs .0)) (List._∷_ (Row.lease (κs .1 .0) (qs .1 .0)) (List._∷_ (Row.lease (κs .1 .1 .0) (qs .1
+              .1 .0)) (List._∷_ (Row.lease (κs .1 .1 .1 .0) (qs .1 .1 .1 .0)) (List._∷_ (Row.lease (κs .1 .1 .1 .1 .0) (qs .1 .1 .1 .1 .0)) (List._∷_ (Row.lease (κs .1 .1 .1 .1 .1 .0) (qs .1 .1 .1 .1 .1
+              .0)) (List._∷_ Row.off (List._∷_ Row.off (List._∷_ Row.off (List._∷_ Row.off (List._∷_ Row.off (List._∷_ Row.off (List._∷_ Row.off (List._∷_ Row.off (List._∷_ Row.off (List._∷_ Row.off
+              List.[])))))))))))))));
+        }
 
         abbrev G93 : Row.Cx
-        G93 = record
-            { locals = List._++_ t26 (List._++_ t53 (List._++_ t2 t3)); slots = List._∷_ (Row.lease (κs .0) (qs .0)) (List._∷_ (Row.lease (κs .1 .0) (qs .1 .0)) (List._∷_ (Row.lease (κs .1 .1 .0) (qs .1
-            .1 .0)) (List._∷_ (Row.lease (κs .1 .1 .1 .0) (qs .1 .1 .1 .0)) (List._∷_ (Row.lease (κs .1 .1 .1 .1 .0) (qs .1 .1 .1 .1 .0)) (List._∷_ (Row.lease (κs .1 .1 .1 .1 .1 .0) (qs .1 .1 .1 .1 .1
-            .0)) (List._∷_ Row.off (List._∷_ Row.off (List._∷_ Row.off (List._∷_ Row.off (List._∷_ Row.off (List._∷_ Row.off (List._∷_ Row.off (List._∷_ Row.off (List._∷_ Row.off (List._∷_ Row.off
-            List.[]))))))))))))))); }
+        G93 = record {
+          locals = List._++_ t26 (List._++_ t53 (List._++_ t2 t3));
+          slots = List._∷_ (Row.lease (κs .0) (qs .0)) (List._∷_ (Row.lease (κs .1 .0) (qs .1 .0)) (List._∷_ (Row.lease (κs .1 .1 .0) (qs .1
+              .1 .0)) (List._∷_ (Row.lease (κs .1 .1 .1 .0) (qs .1 .1 .1 .0)) (List._∷_ (Row.lease (κs .1 .1 .1 .1 .0) (qs .1 .1 .1 .1 .0)) (List._∷_ (Row.lease (κs .1 .1 .1 .1 .1 .0) (qs .1 .1 .1 .1 .1
+              .0)) (List._∷_ Row.off (List._∷_ Row.off (List._∷_ Row.off (List._∷_ Row.off (List._∷_ Row.off (List._∷_ Row.off (List._∷_ Row.off (List._∷_ Row.off (List._∷_ Row.off (List._∷_ Row.off
+              List.[])))))))))))))));
+        }
 
         abbrev G94 : Row.Cx
-        G94 = record
-            { locals = List._++_ t64 (List._++_ t53 (List._++_ t2 t3)); slots = List._∷_ (Row.lease (κs .0) (qs .0)) (List._∷_ (Row.lease (κs .1 .0) (qs .1 .0)) (List._∷_ (Row.lease (κs .1 .1 .0) (qs .1
-            .1 .0)) (List._∷_ (Row.lease (κs .1 .1 .1 .0) (qs .1 .1 .1 .0)) (List._∷_ (Row.lease (κs .1 .1 .1 .1 .0) (qs .1 .1 .1 .1 .0)) (List._∷_ (Row.lease (κs .1 .1 .1 .1 .1 .0) (qs .1 .1 .1 .1 .1
-            .0)) (List._∷_ Row.off (List._∷_ Row.off (List._∷_ Row.off (List._∷_ Row.off (List._∷_ Row.off (List._∷_ Row.off (List._∷_ Row.off (List._∷_ Row.off (List._∷_ Row.off (List._∷_ Row.off
-            List.[]))))))))))))))); }
+        G94 = record {
+          locals = List._++_ t64 (List._++_ t53 (List._++_ t2 t3));
+          slots = List._∷_ (Row.lease (κs .0) (qs .0)) (List._∷_ (Row.lease (κs .1 .0) (qs .1 .0)) (List._∷_ (Row.lease (κs .1 .1 .0) (qs .1
+              .1 .0)) (List._∷_ (Row.lease (κs .1 .1 .1 .0) (qs .1 .1 .1 .0)) (List._∷_ (Row.lease (κs .1 .1 .1 .1 .0) (qs .1 .1 .1 .1 .0)) (List._∷_ (Row.lease (κs .1 .1 .1 .1 .1 .0) (qs .1 .1 .1 .1 .1
+              .0)) (List._∷_ Row.off (List._∷_ Row.off (List._∷_ Row.off (List._∷_ Row.off (List._∷_ Row.off (List._∷_ Row.off (List._∷_ Row.off (List._∷_ Row.off (List._∷_ Row.off (List._∷_ Row.off
+              List.[])))))))))))))));
+        }
 
         abbrev G95 : Row.Cx
-        G95 = record
-            { locals = List._++_ t64 (List._++_ t65 (List._++_ t2 t3)); slots = List._∷_ (Row.lease (κs .0) (qs .0)) (List._∷_ (Row.lease (κs .1 .0) (qs .1 .0)) (List._∷_ (Row.lease (κs .1 .1 .0) (qs .1
-            .1 .0)) (List._∷_ (Row.lease (κs .1 .1 .1 .0) (qs .1 .1 .1 .0)) (List._∷_ (Row.lease (κs .1 .1 .1 .1 .0) (qs .1 .1 .1 .1 .0)) (List._∷_ (Row.lease (κs .1 .1 .1 .1 .1 .0) (qs .1 .1 .1 .1 .1
-            .0)) (List._∷_ Row.off (List._∷_ Row.off (List._∷_ Row.off (List._∷_ Row.off (List._∷_ Row.off (List._∷_ Row.off (List._∷_ Row.off (List._∷_ Row.off (List._∷_ Row.off (List._∷_ Row.off
-            List.[]))))))))))))))); }
+        G95 = record {
+          locals = List._++_ t64 (List._++_ t65 (List._++_ t2 t3));
+          slots = List._∷_ (Row.lease (κs .0) (qs .0)) (List._∷_ (Row.lease (κs .1 .0) (qs .1 .0)) (List._∷_ (Row.lease (κs .1 .1 .0) (qs .1
+              .1 .0)) (List._∷_ (Row.lease (κs .1 .1 .1 .0) (qs .1 .1 .1 .0)) (List._∷_ (Row.lease (κs .1 .1 .1 .1 .0) (qs .1 .1 .1 .1 .0)) (List._∷_ (Row.lease (κs .1 .1 .1 .1 .1 .0) (qs .1 .1 .1 .1 .1
+              .0)) (List._∷_ Row.off (List._∷_ Row.off (List._∷_ Row.off (List._∷_ Row.off (List._∷_ Row.off (List._∷_ Row.off (List._∷_ Row.off (List._∷_ Row.off (List._∷_ Row.off (List._∷_ Row.off
+              List.[])))))))))))))));
+        }
 
         abbrev G96 : Row.Cx
-        G96 = record
-            { locals = List._++_ t64 (List._++_ t66 (List._++_ t2 t3)); slots = List._∷_ (Row.lease (κs .0) (qs .0)) (List._∷_ (Row.lease (κs .1 .0) (qs .1 .0)) (List._∷_ (Row.lease (κs .1 .1 .0) (qs .1
-            .1 .0)) (List._∷_ (Row.lease (κs .1 .1 .1 .0) (qs .1 .1 .1 .0)) (List._∷_ (Row.lease (κs .1 .1 .1 .1 .0) (qs .1 .1 .1 .1 .0)) (List._∷_ (Row.lease (κs .1 .1 .1 .1 .1 .0) (qs .1 .1 .1 .1 .1
-            .0)) (List._∷_ Row.off (List._∷_ Row.off (List._∷_ Row.off (List._∷_ Row.off (List._∷_ Row.off (List._∷_ Row.off (List._∷_ Row.off (List._∷_ Row.off (List._∷_ Row.off (List._∷_ Row.off
-            List.[]))))))))))))))); }
+        G96 = record {
+          locals = List._++_ t64 (List._++_ t66 (List._++_ t2 t3));
+          slots = List._∷_ (Row.lease (κs .0) (qs .0)) (List._∷_ (Row.lease (κs .1 .0) (qs .1 .0)) (List._∷_ (Row.lease (κs .1 .1 .0) (qs .1
+              .1 .0)) (List._∷_ (Row.lease (κs .1 .1 .1 .0) (qs .1 .1 .1 .0)) (List._∷_ (Row.lease (κs .1 .1 .1 .1 .0) (qs .1 .1 .1 .1 .0)) (List._∷_ (Row.lease (κs .1 .1 .1 .1 .1 .0) (qs .1 .1 .1 .1 .1
+              .0)) (List._∷_ Row.off (List._∷_ Row.off (List._∷_ Row.off (List._∷_ Row.off (List._∷_ Row.off (List._∷_ Row.off (List._∷_ Row.off (List._∷_ Row.off (List._∷_ Row.off (List._∷_ Row.off
+              List.[])))))))))))))));
+        }
 
         abbrev G97 : Row.Cx
-        G97 = record
-            { locals = List._++_ t64 (List._++_ t66 (List._++_ t2 t3)); slots = List._∷_ (Row.lease (κs .0) (qs .0)) (List._∷_ (Row.lease (κs .1 .0) (qs .1 .0)) (List._∷_ (Row.lease (κs .1 .1 .0) (qs .1
-            .1 .0)) (List._∷_ (Row.lease (κs .1 .1 .1 .0) (qs .1 .1 .1 .0)) (List._∷_ (Row.lease (κs .1 .1 .1 .1 .0) (qs .1 .1 .1 .1 .0)) (List._∷_ (Row.lease (κs .1 .1 .1 .1 .1 .0) (qs .1 .1 .1 .1 .1
-            .0)) (List._∷_ Row.off (List._∷_ Row.off (List._∷_ Row.off (List._∷_ Row.off (List._∷_ Row.off (List._∷_ Row.off (List._∷_ Row.off (List._∷_ Row.alive (List._∷_ Row.off (List._∷_ Row.off
-            List.[]))))))))))))))); }
+        G97 = record {
+          locals = List._++_ t64 (List._++_ t66 (List._++_ t2 t3));
+          slots = List._∷_ (Row.lease (κs .0) (qs .0)) (List._∷_ (Row.lease (κs .1 .0) (qs .1 .0)) (List._∷_ (Row.lease (κs .1 .1 .0) (qs .1
+              .1 .0)) (List._∷_ (Row.lease (κs .1 .1 .1 .0) (qs .1 .1 .1 .0)) (List._∷_ (Row.lease (κs .1 .1 .1 .1 .0) (qs .1 .1 .1 .1 .0)) (List._∷_ (Row.lease (κs .1 .1 .1 .1 .1 .0) (qs .1 .1 .1 .1 .1
+              .0)) (List._∷_ Row.off (List._∷_ Row.off (List._∷_ Row.off (List._∷_ Row.off (List._∷_ Row.off (List._∷_ Row.off (List._∷_ Row.off (List._∷_ Row.alive (List._∷_ Row.off (List._∷_ Row.off
+              List.[])))))))))))))));
+        }
 
         abbrev G98 : Row.Cx
-        G98 = record
-            { locals = List._++_ g67 (List._++_ t66 (List._++_ t68 t3)); slots = List._∷_ (Row.lease (κs .0) (qs .0)) (List._∷_ (Row.lease (κs .1 .0) (qs .1 .0)) (List._∷_ (Row.lease (κs .1 .1 .0) (qs .1
-            .1 .0)) (List._∷_ (Row.lease (κs .1 .1 .1 .0) (qs .1 .1 .1 .0)) (List._∷_ Row.off (List._∷_ (Row.lease (κs .1 .1 .1 .1 .1 .0) (qs .1 .1 .1 .1 .1 .0)) (List._∷_ Row.off (List._∷_ Row.off
-            (List._∷_ Row.off (List._∷_ Row.off (List._∷_ Row.off (List._∷_ Row.off (List._∷_ Row.off (List._∷_ Row.alive (List._∷_ Row.off (List._∷_ Row.off List.[]))))))))))))))); }
+        G98 = record {
+          locals = List._++_ g67 (List._++_ t66 (List._++_ t68 t3));
+          slots = List._∷_ (Row.lease (κs .0) (qs .0)) (List._∷_ (Row.lease (κs .1 .0) (qs .1 .0)) (List._∷_ (Row.lease (κs .1 .1 .0) (qs .1
+              .1 .0)) (List._∷_ (Row.lease (κs .1 .1 .1 .0) (qs .1 .1 .1 .0)) (List._∷_ Row.off (List._∷_ (Row.lease (κs .1 .1 .1 .1 .1 .0) (qs .1 .1 .1 .1 .1 .0)) (List._∷_ Row.off (List._∷_ Row.off
+              (List._∷_ Row.off (List._∷_ Row.off (List._∷_ Row.off (List._∷_ Row.off (List._∷_ Row.off (List._∷_ Row.alive (List._∷_ Row.off (List._∷_ Row.off List.[])))))))))))))));
+        }
 
         abbrev G99 : Row.Cx
-        G99 = record
-            { locals = List._++_ g67 (List._++_ t66 (List._++_ t69 t3)); slots = List._∷_ (Row.lease (κs .0) (qs .0)) (List._∷_ (Row.lease (κs .1 .0) (qs .1 .0)) (List._∷_ (Row.lease (κs .1 .1 .0) (qs .1
-            .1 .0)) (List._∷_ (Row.lease (κs .1 .1 .1 .0) (qs .1 .1 .1 .0)) (List._∷_ Row.off (List._∷_ (Row.lease (κs .1 .1 .1 .1 .1 .0) (qs .1 .1 .1 .1 .1 .0)) (List._∷_ Row.off (List._∷_ Row.off
-            (List._∷_ Row.off (List._∷_ Row.off (List._∷_ Row.off (List._∷_ Row.off (List._∷_ Row.off (List._∷_ Row.alive (List._∷_ Row.off (List._∷_ Row.off List.[]))))))))))))))); }
+        G99 = record {
+          locals = List._++_ g67 (List._++_ t66 (List._++_ t69 t3));
+          slots = List._∷_ (Row.lease (κs .0) (qs .0)) (List._∷_ (Row.lease (κs .1 .0) (qs .1 .0)) (List._∷_ (Row.lease (κs .1 .1 .0) (qs .1
+              .1 .0)) (List._∷_ (Row.lease (κs .1 .1 .1 .0) (qs .1 .1 .1 .0)) (List._∷_ Row.off (List._∷_ (Row.lease (κs .1 .1 .1 .1 .1 .0) (qs .1 .1 .1 .1 .1 .0)) (List._∷_ Row.off (List._∷_ Row.off
+              (List._∷_ Row.off (List._∷_ Row.off (List._∷_ Row.off (List._∷_ Row.off (List._∷_ Row.off (List._∷_ Row.alive (List._∷_ Row.off (List._∷_ Row.off List.[])))))))))))))));
+        }
 
         abbrev G100 : Row.Cx
-        G100 = record
-            { locals = List._++_ g67 (List._++_ t66 (List._++_ t70 t3)); slots = List._∷_ (Row.lease (κs .0) (qs .0)) (List._∷_ (Row.lease (κs .1 .0) (qs .1 .0)) (List._∷_ (Row.lease (κs .1 .1 .0) (qs .1
-            .1 .0)) (List._∷_ (Row.lease (κs .1 .1 .1 .0) (qs .1 .1 .1 .0)) (List._∷_ Row.off (List._∷_ (Row.lease (κs .1 .1 .1 .1 .1 .0) (qs .1 .1 .1 .1 .1 .0)) (List._∷_ Row.off (List._∷_ Row.off
-            (List._∷_ Row.off (List._∷_ Row.off (List._∷_ Row.off (List._∷_ Row.off (List._∷_ Row.off (List._∷_ Row.alive (List._∷_ Row.off (List._∷_ Row.off List.[]))))))))))))))); }
+        G100 = record {
+          locals = List._++_ g67 (List._++_ t66 (List._++_ t70 t3));
+          slots = List._∷_ (Row.lease (κs .0) (qs .0)) (List._∷_ (Row.lease (κs .1 .0) (qs .1 .0)) (List._∷_ (Row.lease (κs .1 .1 .0) (qs .1
+              .1 .0)) (List._∷_ (Row.lease (κs .1 .1 .1 .0) (qs .1 .1 .1 .0)) (List._∷_ Row.off (List._∷_ (Row.lease (κs .1 .1 .1 .1 .1 .0) (qs .1 .1 .1 .1 .1 .0)) (List._∷_ Row.off (List._∷_ Row.off
+              (List._∷_ Row.off (List._∷_ Row.off (List._∷_ Row.off (List._∷_ Row.off (List._∷_ Row.off (List._∷_ Row.alive (List._∷_ Row.off (List._∷_ Row.off List.[])))))))))))))));
+        }
 
         abbrev G101 : Row.Cx
-        G101 = record
-            { locals = List._++_ g71 (List._++_ t66 (List._++_ t70 t3)); slots = List._∷_ (Row.lease (κs .0) (qs .0)) (List._∷_ (Row.lease (κs .1 .0) (qs .1 .0)) (List._∷_ (Row.lease (κs .1 .1 .0) (qs .1
-            .1 .0)) (List._∷_ (Row.lease (κs .1 .1 .1 .0) (qs .1 .1 .1 .0)) (List._∷_ Row.off (List._∷_ (Row.lease (κs .1 .1 .1 .1 .1 .0) (qs .1 .1 .1 .1 .1 .0)) (List._∷_ Row.off (List._∷_ Row.off
-            (List._∷_ Row.off (List._∷_ Row.off (List._∷_ Row.off (List._∷_ Row.off (List._∷_ Row.off (List._∷_ Row.alive (List._∷_ Row.off (List._∷_ Row.off List.[]))))))))))))))); }
+        G101 = record {
+          locals = List._++_ g71 (List._++_ t66 (List._++_ t70 t3));
+          slots = List._∷_ (Row.lease (κs .0) (qs .0)) (List._∷_ (Row.lease (κs .1 .0) (qs .1 .0)) (List._∷_ (Row.lease (κs .1 .1 .0) (qs .1
+              .1 .0)) (List._∷_ (Row.lease (κs .1 .1 .1 .0) (qs .1 .1 .1 .0)) (List._∷_ Row.off (List._∷_ (Row.lease (κs .1 .1 .1 .1 .1 .0) (qs .1 .1 .1 .1 .1 .0)) (List._∷_ Row.off (List._∷_ Row.off
+              (List._∷_ Row.off (List._∷_ Row.off (List._∷_ Row.off (List._∷_ Row.off (List._∷_ Row.off (List._∷_ Row.alive (List._∷_ Row.off (List._∷_ Row.off List.[])))))))))))))));
+        }
 
         abbrev G102 : Row.Cx
-        G102 = record
-            { locals = List._++_ g71 (List._++_ t66 (List._++_ t72 t3)); slots = List._∷_ (Row.lease (κs .0) (qs .0)) (List._∷_ (Row.lease (κs .1 .0) (qs .1 .0)) (List._∷_ (Row.lease (κs .1 .1 .0) (qs .1
-            .1 .0)) (List._∷_ (Row.lease (κs .1 .1 .1 .0) (qs .1 .1 .1 .0)) (List._∷_ Row.off (List._∷_ (Row.lease (κs .1 .1 .1 .1 .1 .0) (qs .1 .1 .1 .1 .1 .0)) (List._∷_ Row.off (List._∷_ Row.off
-            (List._∷_ Row.off (List._∷_ Row.off (List._∷_ Row.off (List._∷_ Row.off (List._∷_ Row.off (List._∷_ Row.alive (List._∷_ Row.off (List._∷_ Row.off List.[]))))))))))))))); }
+        G102 = record {
+          locals = List._++_ g71 (List._++_ t66 (List._++_ t72 t3));
+          slots = List._∷_ (Row.lease (κs .0) (qs .0)) (List._∷_ (Row.lease (κs .1 .0) (qs .1 .0)) (List._∷_ (Row.lease (κs .1 .1 .0) (qs .1
+              .1 .0)) (List._∷_ (Row.lease (κs .1 .1 .1 .0) (qs .1 .1 .1 .0)) (List._∷_ Row.off (List._∷_ (Row.lease (κs .1 .1 .1 .1 .1 .0) (qs .1 .1 .1 .1 .1 .0)) (List._∷_ Row.off (List._∷_ Row.off
+              (List._∷_ Row.off (List._∷_ Row.off (List._∷_ Row.off (List._∷_ Row.off (List._∷_ Row.off (List._∷_ Row.alive (List._∷_ Row.off (List._∷_ Row.off List.[])))))))))))))));
+        }
 
         abbrev G103 : Row.Cx
-        G103 = record
-            { locals = List._++_ g71 (List._++_ t66 (List._++_ t72 t3)); slots = List._∷_ (Row.lease (κs .0) (qs .0)) (List._∷_ (Row.lease (κs .1 .0) (qs .1 .0)) (List._∷_ (Row.lease (κs .1 .1 .0) (qs .1
-            .1 .0)) (List._∷_ (Row.lease (κs .1 .1 .1 .0) (qs .1 .1 .1 .0)) (List._∷_ Row.off (List._∷_ (Row.lease (κs .1 .1 .1 .1 .1 .0) (qs .1 .1 .1 .1 .1 .0)) (List._∷_ Row.off (List._∷_ Row.off
-            (List._∷_ Row.off (List._∷_ Row.off (List._∷_ Row.off (List._∷_ Row.off (List._∷_ Row.off (List._∷_ Row.dead (List._∷_ Row.off (List._∷_ Row.off List.[]))))))))))))))); }
+        G103 = record {
+          locals = List._++_ g71 (List._++_ t66 (List._++_ t72 t3));
+          slots = List._∷_ (Row.lease (κs .0) (qs .0)) (List._∷_ (Row.lease (κs .1 .0) (qs .1 .0)) (List._∷_ (Row.lease (κs .1 .1 .0) (qs .1
+              .1 .0)) (List._∷_ (Row.lease (κs .1 .1 .1 .0) (qs .1 .1 .1 .0)) (List._∷_ Row.off (List._∷_ (Row.lease (κs .1 .1 .1 .1 .1 .0) (qs .1 .1 .1 .1 .1 .0)) (List._∷_ Row.off (List._∷_ Row.off
+              (List._∷_ Row.off (List._∷_ Row.off (List._∷_ Row.off (List._∷_ Row.off (List._∷_ Row.off (List._∷_ Row.dead (List._∷_ Row.off (List._∷_ Row.off List.[])))))))))))))));
+        }
 
         abbrev G104 : Row.Cx
-        G104 = record
-            { locals = List._++_ t23 (List._++_ t66 (List._++_ t2 t3)); slots = List._∷_ (Row.lease (κs .0) (qs .0)) (List._∷_ (Row.lease (κs .1 .0) (qs .1 .0)) (List._∷_ (Row.lease (κs .1 .1 .0) (qs .1
-            .1 .0)) (List._∷_ (Row.lease (κs .1 .1 .1 .0) (qs .1 .1 .1 .0)) (List._∷_ (Row.lease (κs .1 .1 .1 .1 .0) (qs .1 .1 .1 .1 .0)) (List._∷_ (Row.lease (κs .1 .1 .1 .1 .1 .0) (qs .1 .1 .1 .1 .1
-            .0)) (List._∷_ Row.off (List._∷_ Row.off (List._∷_ Row.off (List._∷_ Row.off (List._∷_ Row.off (List._∷_ Row.off (List._∷_ Row.off (List._∷_ Row.dead (List._∷_ Row.off (List._∷_ Row.off
-            List.[]))))))))))))))); }
+        G104 = record {
+          locals = List._++_ t23 (List._++_ t66 (List._++_ t2 t3));
+          slots = List._∷_ (Row.lease (κs .0) (qs .0)) (List._∷_ (Row.lease (κs .1 .0) (qs .1 .0)) (List._∷_ (Row.lease (κs .1 .1 .0) (qs .1
+              .1 .0)) (List._∷_ (Row.lease (κs .1 .1 .1 .0) (qs .1 .1 .1 .0)) (List._∷_ (Row.lease (κs .1 .1 .1 .1 .0) (qs .1 .1 .1 .1 .0)) (List._∷_ (Row.lease (κs .1 .1 .1 .1 .1 .0) (qs .1 .1 .1 .1 .1
+              .0)) (List._∷_ Row.off (List._∷_ Row.off (List._∷_ Row.off (List._∷_ Row.off (List._∷_ Row.off (List._∷_ Row.off (List._∷_ Row.off (List._∷_ Row.dead (List._∷_ Row.off (List._∷_ Row.off
+              List.[])))))))))))))));
+        }
 
         abbrev G105 : Row.Cx
-        G105 = record
-            { locals = List._++_ t23 (List._++_ t66 (List._++_ t2 t3)); slots = List._∷_ (Row.lease (κs .0) (qs .0)) (List._∷_ (Row.lease (κs .1 .0) (qs .1 .0)) (List._∷_ (Row.lease (κs .1 .1 .0) (qs .1
-            .1 .0)) (List._∷_ (Row.lease (κs .1 .1 .1 .0) (qs .1 .1 .1 .0)) (List._∷_ (Row.lease (κs .1 .1 .1 .1 .0) (qs .1 .1 .1 .1 .0)) (List._∷_ (Row.lease (κs .1 .1 .1 .1 .1 .0) (qs .1 .1 .1 .1 .1
-            .0)) (List._∷_ Row.off (List._∷_ Row.off (List._∷_ Row.off (List._∷_ Row.off (List._∷_ Row.off (List._∷_ Row.off (List._∷_ Row.off (List._∷_ Row.dead (List._∷_ Row.off (List._∷_ Row.off
-            List.[]))))))))))))))); }
+        G105 = record {
+          locals = List._++_ t23 (List._++_ t66 (List._++_ t2 t3));
+          slots = List._∷_ (Row.lease (κs .0) (qs .0)) (List._∷_ (Row.lease (κs .1 .0) (qs .1 .0)) (List._∷_ (Row.lease (κs .1 .1 .0) (qs .1
+              .1 .0)) (List._∷_ (Row.lease (κs .1 .1 .1 .0) (qs .1 .1 .1 .0)) (List._∷_ (Row.lease (κs .1 .1 .1 .1 .0) (qs .1 .1 .1 .1 .0)) (List._∷_ (Row.lease (κs .1 .1 .1 .1 .1 .0) (qs .1 .1 .1 .1 .1
+              .0)) (List._∷_ Row.off (List._∷_ Row.off (List._∷_ Row.off (List._∷_ Row.off (List._∷_ Row.off (List._∷_ Row.off (List._∷_ Row.off (List._∷_ Row.dead (List._∷_ Row.off (List._∷_ Row.off
+              List.[])))))))))))))));
+        }
 
         abbrev G106 : Row.Cx
-        G106 = record
-            { locals = List._++_ t23 (List._++_ t66 (List._++_ t2 t3)); slots = List._∷_ (Row.lease (κs .0) (qs .0)) (List._∷_ (Row.lease (κs .1 .0) (qs .1 .0)) (List._∷_ (Row.lease (κs .1 .1 .0) (qs .1
-            .1 .0)) (List._∷_ (Row.lease (κs .1 .1 .1 .0) (qs .1 .1 .1 .0)) (List._∷_ (Row.lease (κs .1 .1 .1 .1 .0) (qs .1 .1 .1 .1 .0)) (List._∷_ (Row.lease (κs .1 .1 .1 .1 .1 .0) (qs .1 .1 .1 .1 .1
-            .0)) (List._∷_ Row.off (List._∷_ Row.off (List._∷_ Row.off (List._∷_ Row.off (List._∷_ Row.off (List._∷_ Row.off (List._∷_ Row.off (List._∷_ Row.off (List._∷_ Row.off (List._∷_ Row.off
-            List.[]))))))))))))))); }
+        G106 = record {
+          locals = List._++_ t23 (List._++_ t66 (List._++_ t2 t3));
+          slots = List._∷_ (Row.lease (κs .0) (qs .0)) (List._∷_ (Row.lease (κs .1 .0) (qs .1 .0)) (List._∷_ (Row.lease (κs .1 .1 .0) (qs .1
+              .1 .0)) (List._∷_ (Row.lease (κs .1 .1 .1 .0) (qs .1 .1 .1 .0)) (List._∷_ (Row.lease (κs .1 .1 .1 .1 .0) (qs .1 .1 .1 .1 .0)) (List._∷_ (Row.lease (κs .1 .1 .1 .1 .1 .0) (qs .1 .1 .1 .1 .1
+              .0)) (List._∷_ Row.off (List._∷_ Row.off (List._∷_ Row.off (List._∷_ Row.off (List._∷_ Row.off (List._∷_ Row.off (List._∷_ Row.off (List._∷_ Row.off (List._∷_ Row.off (List._∷_ Row.off
+              List.[])))))))))))))));
+        }
 
         abbrev G107 : Row.Cx
-        G107 = record
-            { locals = List._++_ t23 (List._++_ t66 (List._++_ t73 t3)); slots = List._∷_ (Row.lease (κs .0) (qs .0)) (List._∷_ (Row.lease (κs .1 .0) (qs .1 .0)) (List._∷_ (Row.lease (κs .1 .1 .0) (qs .1
-            .1 .0)) (List._∷_ (Row.lease (κs .1 .1 .1 .0) (qs .1 .1 .1 .0)) (List._∷_ (Row.lease (κs .1 .1 .1 .1 .0) (qs .1 .1 .1 .1 .0)) (List._∷_ (Row.lease (κs .1 .1 .1 .1 .1 .0) (qs .1 .1 .1 .1 .1
-            .0)) (List._∷_ Row.off (List._∷_ Row.off (List._∷_ Row.off (List._∷_ Row.off (List._∷_ Row.off (List._∷_ Row.off (List._∷_ Row.off (List._∷_ Row.off (List._∷_ Row.off (List._∷_ Row.off
-            List.[]))))))))))))))); }
+        G107 = record {
+          locals = List._++_ t23 (List._++_ t66 (List._++_ t73 t3));
+          slots = List._∷_ (Row.lease (κs .0) (qs .0)) (List._∷_ (Row.lease (κs .1 .0) (qs .1 .0)) (List._∷_ (Row.lease (κs .1 .1 .0) (qs .1
+              .1 .0)) (List._∷_ (Row.lease (κs .1 .1 .1 .0) (qs .1 .1 .1 .0)) (List._∷_ (Row.lease (κs .1 .1 .1 .1 .0) (qs .1 .1 .1 .1 .0)) (List._∷_ (Row.lease (κs .1 .1 .1 .1 .1 .0) (qs .1 .1 .1 .1 .1
+              .0)) (List._∷_ Row.off (List._∷_ Row.off (List._∷_ Row.off (List._∷_ Row.off (List._∷_ Row.off (List._∷_ Row.off (List._∷_ Row.off (List._∷_ Row.off (List._∷_ Row.off (List._∷_ Row.off
+              List.[])))))))))))))));
+        }
 
         abbrev G108 : Row.Cx
-        G108 = record
-            { locals = List._++_ t23 (List._++_ t74 (List._++_ t73 t3)); slots = List._∷_ (Row.lease (κs .0) (qs .0)) (List._∷_ (Row.lease (κs .1 .0) (qs .1 .0)) (List._∷_ (Row.lease (κs .1 .1 .0) (qs .1
-            .1 .0)) (List._∷_ (Row.lease (κs .1 .1 .1 .0) (qs .1 .1 .1 .0)) (List._∷_ (Row.lease (κs .1 .1 .1 .1 .0) (qs .1 .1 .1 .1 .0)) (List._∷_ (Row.lease (κs .1 .1 .1 .1 .1 .0) (qs .1 .1 .1 .1 .1
-            .0)) (List._∷_ Row.off (List._∷_ Row.off (List._∷_ Row.off (List._∷_ Row.off (List._∷_ Row.off (List._∷_ Row.off (List._∷_ Row.off (List._∷_ Row.off (List._∷_ Row.off (List._∷_ Row.off
-            List.[]))))))))))))))); }
+        G108 = record {
+          locals = List._++_ t23 (List._++_ t74 (List._++_ t73 t3));
+          slots = List._∷_ (Row.lease (κs .0) (qs .0)) (List._∷_ (Row.lease (κs .1 .0) (qs .1 .0)) (List._∷_ (Row.lease (κs .1 .1 .0) (qs .1
+              .1 .0)) (List._∷_ (Row.lease (κs .1 .1 .1 .0) (qs .1 .1 .1 .0)) (List._∷_ (Row.lease (κs .1 .1 .1 .1 .0) (qs .1 .1 .1 .1 .0)) (List._∷_ (Row.lease (κs .1 .1 .1 .1 .1 .0) (qs .1 .1 .1 .1 .1
+              .0)) (List._∷_ Row.off (List._∷_ Row.off (List._∷_ Row.off (List._∷_ Row.off (List._∷_ Row.off (List._∷_ Row.off (List._∷_ Row.off (List._∷_ Row.off (List._∷_ Row.off (List._∷_ Row.off
+              List.[])))))))))))))));
+        }
 
         abbrev G109 : Row.Cx
-        G109 = record
-            { locals = List._++_ t75 (List._++_ t74 (List._++_ t73 t3)); slots = List._∷_ (Row.lease (κs .0) (qs .0)) (List._∷_ (Row.lease (κs .1 .0) (qs .1 .0)) (List._∷_ (Row.lease (κs .1 .1 .0) (qs .1
-            .1 .0)) (List._∷_ (Row.lease (κs .1 .1 .1 .0) (qs .1 .1 .1 .0)) (List._∷_ (Row.lease (κs .1 .1 .1 .1 .0) (qs .1 .1 .1 .1 .0)) (List._∷_ (Row.lease (κs .1 .1 .1 .1 .1 .0) (qs .1 .1 .1 .1 .1
-            .0)) (List._∷_ Row.off (List._∷_ Row.off (List._∷_ Row.off (List._∷_ Row.off (List._∷_ Row.off (List._∷_ Row.off (List._∷_ Row.off (List._∷_ Row.off (List._∷_ Row.off (List._∷_ Row.off
-            List.[]))))))))))))))); }
+        G109 = record {
+          locals = List._++_ t75 (List._++_ t74 (List._++_ t73 t3));
+          slots = List._∷_ (Row.lease (κs .0) (qs .0)) (List._∷_ (Row.lease (κs .1 .0) (qs .1 .0)) (List._∷_ (Row.lease (κs .1 .1 .0) (qs .1
+              .1 .0)) (List._∷_ (Row.lease (κs .1 .1 .1 .0) (qs .1 .1 .1 .0)) (List._∷_ (Row.lease (κs .1 .1 .1 .1 .0) (qs .1 .1 .1 .1 .0)) (List._∷_ (Row.lease (κs .1 .1 .1 .1 .1 .0) (qs .1 .1 .1 .1 .1
+              .0)) (List._∷_ Row.off (List._∷_ Row.off (List._∷_ Row.off (List._∷_ Row.off (List._∷_ Row.off (List._∷_ Row.off (List._∷_ Row.off (List._∷_ Row.off (List._∷_ Row.off (List._∷_ Row.off
+              List.[])))))))))))))));
+        }
 
         abbrev G110 : Row.Cx
-        G110 = record
-            { locals = List._++_ t75 (List._++_ t74 (List._++_ t2 t3)); slots = List._∷_ (Row.lease (κs .0) (qs .0)) (List._∷_ (Row.lease (κs .1 .0) (qs .1 .0)) (List._∷_ (Row.lease (κs .1 .1 .0) (qs .1
-            .1 .0)) (List._∷_ (Row.lease (κs .1 .1 .1 .0) (qs .1 .1 .1 .0)) (List._∷_ (Row.lease (κs .1 .1 .1 .1 .0) (qs .1 .1 .1 .1 .0)) (List._∷_ (Row.lease (κs .1 .1 .1 .1 .1 .0) (qs .1 .1 .1 .1 .1
-            .0)) (List._∷_ Row.off (List._∷_ Row.off (List._∷_ Row.off (List._∷_ Row.off (List._∷_ Row.off (List._∷_ Row.off (List._∷_ Row.off (List._∷_ Row.off (List._∷_ Row.off (List._∷_ Row.off
-            List.[]))))))))))))))); }
+        G110 = record {
+          locals = List._++_ t75 (List._++_ t74 (List._++_ t2 t3));
+          slots = List._∷_ (Row.lease (κs .0) (qs .0)) (List._∷_ (Row.lease (κs .1 .0) (qs .1 .0)) (List._∷_ (Row.lease (κs .1 .1 .0) (qs .1
+              .1 .0)) (List._∷_ (Row.lease (κs .1 .1 .1 .0) (qs .1 .1 .1 .0)) (List._∷_ (Row.lease (κs .1 .1 .1 .1 .0) (qs .1 .1 .1 .1 .0)) (List._∷_ (Row.lease (κs .1 .1 .1 .1 .1 .0) (qs .1 .1 .1 .1 .1
+              .0)) (List._∷_ Row.off (List._∷_ Row.off (List._∷_ Row.off (List._∷_ Row.off (List._∷_ Row.off (List._∷_ Row.off (List._∷_ Row.off (List._∷_ Row.off (List._∷_ Row.off (List._∷_ Row.off
+              List.[])))))))))))))));
+        }
 
         abbrev G111 : Row.Cx
-        G111 = record
-            { locals = List._++_ t76 (List._++_ t74 (List._++_ t2 t3)); slots = List._∷_ (Row.lease (κs .0) (qs .0)) (List._∷_ (Row.lease (κs .1 .0) (qs .1 .0)) (List._∷_ (Row.lease (κs .1 .1 .0) (qs .1
-            .1 .0)) (List._∷_ (Row.lease (κs .1 .1 .1 .0) (qs .1 .1 .1 .0)) (List._∷_ (Row.lease (κs .1 .1 .1 .1 .0) (qs .1 .1 .1 .1 .0)) (List._∷_ (Row.lease (κs .1 .1 .1 .1 .1 .0) (qs .1 .1 .1 .1 .1
-            .0)) (List._∷_ Row.off (List._∷_ Row.off (List._∷_ Row.off (List._∷_ Row.off (List._∷_ Row.off (List._∷_ Row.off (List._∷_ Row.off (List._∷_ Row.off (List._∷_ Row.off (List._∷_ Row.off
-            List.[]))))))))))))))); }
+        G111 = record {
+          locals = List._++_ t76 (List._++_ t74 (List._++_ t2 t3));
+          slots = List._∷_ (Row.lease (κs .0) (qs .0)) (List._∷_ (Row.lease (κs .1 .0) (qs .1 .0)) (List._∷_ (Row.lease (κs .1 .1 .0) (qs .1
+              .1 .0)) (List._∷_ (Row.lease (κs .1 .1 .1 .0) (qs .1 .1 .1 .0)) (List._∷_ (Row.lease (κs .1 .1 .1 .1 .0) (qs .1 .1 .1 .1 .0)) (List._∷_ (Row.lease (κs .1 .1 .1 .1 .1 .0) (qs .1 .1 .1 .1 .1
+              .0)) (List._∷_ Row.off (List._∷_ Row.off (List._∷_ Row.off (List._∷_ Row.off (List._∷_ Row.off (List._∷_ Row.off (List._∷_ Row.off (List._∷_ Row.off (List._∷_ Row.off (List._∷_ Row.off
+              List.[])))))))))))))));
+        }
 
         abbrev G112 : Row.Cx
-        G112 = record
-            { locals = List._++_ t77 (List._++_ t74 (List._++_ t2 t3)); slots = List._∷_ (Row.lease (κs .0) (qs .0)) (List._∷_ (Row.lease (κs .1 .0) (qs .1 .0)) (List._∷_ (Row.lease (κs .1 .1 .0) (qs .1
-            .1 .0)) (List._∷_ (Row.lease (κs .1 .1 .1 .0) (qs .1 .1 .1 .0)) (List._∷_ (Row.lease (κs .1 .1 .1 .1 .0) (qs .1 .1 .1 .1 .0)) (List._∷_ (Row.lease (κs .1 .1 .1 .1 .1 .0) (qs .1 .1 .1 .1 .1
-            .0)) (List._∷_ Row.off (List._∷_ Row.off (List._∷_ Row.off (List._∷_ Row.off (List._∷_ Row.off (List._∷_ Row.off (List._∷_ Row.off (List._∷_ Row.off (List._∷_ Row.off (List._∷_ Row.off
-            List.[]))))))))))))))); }
+        G112 = record {
+          locals = List._++_ t77 (List._++_ t74 (List._++_ t2 t3));
+          slots = List._∷_ (Row.lease (κs .0) (qs .0)) (List._∷_ (Row.lease (κs .1 .0) (qs .1 .0)) (List._∷_ (Row.lease (κs .1 .1 .0) (qs .1
+              .1 .0)) (List._∷_ (Row.lease (κs .1 .1 .1 .0) (qs .1 .1 .1 .0)) (List._∷_ (Row.lease (κs .1 .1 .1 .1 .0) (qs .1 .1 .1 .1 .0)) (List._∷_ (Row.lease (κs .1 .1 .1 .1 .1 .0) (qs .1 .1 .1 .1 .1
+              .0)) (List._∷_ Row.off (List._∷_ Row.off (List._∷_ Row.off (List._∷_ Row.off (List._∷_ Row.off (List._∷_ Row.off (List._∷_ Row.off (List._∷_ Row.off (List._∷_ Row.off (List._∷_ Row.off
+              List.[])))))))))))))));
+        }
 
         abbrev G113 : Row.Cx
-        G113 = record
-            { locals = List._++_ t78 (List._++_ t74 (List._++_ t2 t3)); slots = List._∷_ (Row.lease (κs .0) (qs .0)) (List._∷_ (Row.lease (κs .1 .0) (qs .1 .0)) (List._∷_ (Row.lease (κs .1 .1 .0) (qs .1
-            .1 .0)) (List._∷_ (Row.lease (κs .1 .1 .1 .0) (qs .1 .1 .1 .0)) (List._∷_ (Row.lease (κs .1 .1 .1 .1 .0) (qs .1 .1 .1 .1 .0)) (List._∷_ (Row.lease (κs .1 .1 .1 .1 .1 .0) (qs .1 .1 .1 .1 .1
-            .0)) (List._∷_ Row.off (List._∷_ Row.off (List._∷_ Row.off (List._∷_ Row.off (List._∷_ Row.off (List._∷_ Row.off (List._∷_ Row.off (List._∷_ Row.off (List._∷_ Row.off (List._∷_ Row.off
-            List.[]))))))))))))))); }
+        G113 = record {
+          locals = List._++_ t78 (List._++_ t74 (List._++_ t2 t3));
+          slots = List._∷_ (Row.lease (κs .0) (qs .0)) (List._∷_ (Row.lease (κs .1 .0) (qs .1 .0)) (List._∷_ (Row.lease (κs .1 .1 .0) (qs .1
+              .1 .0)) (List._∷_ (Row.lease (κs .1 .1 .1 .0) (qs .1 .1 .1 .0)) (List._∷_ (Row.lease (κs .1 .1 .1 .1 .0) (qs .1 .1 .1 .1 .0)) (List._∷_ (Row.lease (κs .1 .1 .1 .1 .1 .0) (qs .1 .1 .1 .1 .1
+              .0)) (List._∷_ Row.off (List._∷_ Row.off (List._∷_ Row.off (List._∷_ Row.off (List._∷_ Row.off (List._∷_ Row.off (List._∷_ Row.off (List._∷_ Row.off (List._∷_ Row.off (List._∷_ Row.off
+              List.[])))))))))))))));
+        }
 
         abbrev G114 : Row.Cx
-        G114 = record
-            { locals = List._++_ t79 (List._++_ t74 (List._++_ t2 t3)); slots = List._∷_ (Row.lease (κs .0) (qs .0)) (List._∷_ (Row.lease (κs .1 .0) (qs .1 .0)) (List._∷_ (Row.lease (κs .1 .1 .0) (qs .1
-            .1 .0)) (List._∷_ (Row.lease (κs .1 .1 .1 .0) (qs .1 .1 .1 .0)) (List._∷_ (Row.lease (κs .1 .1 .1 .1 .0) (qs .1 .1 .1 .1 .0)) (List._∷_ (Row.lease (κs .1 .1 .1 .1 .1 .0) (qs .1 .1 .1 .1 .1
-            .0)) (List._∷_ Row.off (List._∷_ Row.off (List._∷_ Row.off (List._∷_ Row.off (List._∷_ Row.off (List._∷_ Row.off (List._∷_ Row.off (List._∷_ Row.off (List._∷_ Row.off (List._∷_ Row.off
-            List.[]))))))))))))))); }
+        G114 = record {
+          locals = List._++_ t79 (List._++_ t74 (List._++_ t2 t3));
+          slots = List._∷_ (Row.lease (κs .0) (qs .0)) (List._∷_ (Row.lease (κs .1 .0) (qs .1 .0)) (List._∷_ (Row.lease (κs .1 .1 .0) (qs .1
+              .1 .0)) (List._∷_ (Row.lease (κs .1 .1 .1 .0) (qs .1 .1 .1 .0)) (List._∷_ (Row.lease (κs .1 .1 .1 .1 .0) (qs .1 .1 .1 .1 .0)) (List._∷_ (Row.lease (κs .1 .1 .1 .1 .1 .0) (qs .1 .1 .1 .1 .1
+              .0)) (List._∷_ Row.off (List._∷_ Row.off (List._∷_ Row.off (List._∷_ Row.off (List._∷_ Row.off (List._∷_ Row.off (List._∷_ Row.off (List._∷_ Row.off (List._∷_ Row.off (List._∷_ Row.off
+              List.[])))))))))))))));
+        }
 
         abbrev G115 : Row.Cx
-        G115 = record
-            { locals = List._++_ t4 (List._++_ t74 (List._++_ t2 t3)); slots = List._∷_ (Row.lease (κs .0) (qs .0)) (List._∷_ (Row.lease (κs .1 .0) (qs .1 .0)) (List._∷_ (Row.lease (κs .1 .1 .0) (qs .1 .1
-            .0)) (List._∷_ (Row.lease (κs .1 .1 .1 .0) (qs .1 .1 .1 .0)) (List._∷_ (Row.lease (κs .1 .1 .1 .1 .0) (qs .1 .1 .1 .1 .0)) (List._∷_ (Row.lease (κs .1 .1 .1 .1 .1 .0) (qs .1 .1 .1 .1 .1 .0))
-            (List._∷_ Row.off (List._∷_ Row.off (List._∷_ Row.off (List._∷_ Row.off (List._∷_ Row.off (List._∷_ Row.off (List._∷_ Row.off (List._∷_ Row.off (List._∷_ Row.off (List._∷_ Row.off
-            List.[]))))))))))))))); }
+        G115 = record {
+          locals = List._++_ t4 (List._++_ t74 (List._++_ t2 t3));
+          slots = List._∷_ (Row.lease (κs .0) (qs .0)) (List._∷_ (Row.lease (κs .1 .0) (qs .1 .0)) (List._∷_ (Row.lease (κs .1 .1 .0) (qs .1 .1
+              .0)) (List._∷_ (Row.lease (κs .1 .1 .1 .0) (qs .1 .1 .1 .0)) (List._∷_ (Row.lease (κs .1 .1 .1 .1 .0) (qs .1 .1 .1 .1 .0)) (List._∷_ (Row.lease (κs .1 .1 .1 .1 .1 .0) (qs .1 .1 .1 .1 .1 .0))
+              (List._∷_ Row.off (List._∷_ Row.off (List._∷_ Row.off (List._∷_ Row.off (List._∷_ Row.off (List._∷_ Row.off (List._∷_ Row.off (List._∷_ Row.off (List._∷_ Row.off (List._∷_ Row.off
+              List.[])))))))))))))));
+        }
 
         abbrev G116 : Row.Cx
-        G116 = record
-            { locals = List._++_ t4 (List._++_ t80 (List._++_ t2 t3)); slots = List._∷_ (Row.lease (κs .0) (qs .0)) (List._∷_ (Row.lease (κs .1 .0) (qs .1 .0)) (List._∷_ (Row.lease (κs .1 .1 .0) (qs .1 .1
-            .0)) (List._∷_ (Row.lease (κs .1 .1 .1 .0) (qs .1 .1 .1 .0)) (List._∷_ (Row.lease (κs .1 .1 .1 .1 .0) (qs .1 .1 .1 .1 .0)) (List._∷_ (Row.lease (κs .1 .1 .1 .1 .1 .0) (qs .1 .1 .1 .1 .1 .0))
-            (List._∷_ Row.off (List._∷_ Row.off (List._∷_ Row.off (List._∷_ Row.off (List._∷_ Row.off (List._∷_ Row.off (List._∷_ Row.off (List._∷_ Row.off (List._∷_ Row.off (List._∷_ Row.off
-            List.[]))))))))))))))); }
+        G116 = record {
+          locals = List._++_ t4 (List._++_ t80 (List._++_ t2 t3));
+          slots = List._∷_ (Row.lease (κs .0) (qs .0)) (List._∷_ (Row.lease (κs .1 .0) (qs .1 .0)) (List._∷_ (Row.lease (κs .1 .1 .0) (qs .1 .1
+              .0)) (List._∷_ (Row.lease (κs .1 .1 .1 .0) (qs .1 .1 .1 .0)) (List._∷_ (Row.lease (κs .1 .1 .1 .1 .0) (qs .1 .1 .1 .1 .0)) (List._∷_ (Row.lease (κs .1 .1 .1 .1 .1 .0) (qs .1 .1 .1 .1 .1 .0))
+              (List._∷_ Row.off (List._∷_ Row.off (List._∷_ Row.off (List._∷_ Row.off (List._∷_ Row.off (List._∷_ Row.off (List._∷_ Row.off (List._∷_ Row.off (List._∷_ Row.off (List._∷_ Row.off
+              List.[])))))))))))))));
+        }
 
         abbrev G117 : Row.Cx
-        G117 = record
-            { locals = List._++_ t4 (List._++_ t1 (List._++_ t2 t3)); slots = List._∷_ (Row.lease (κs .0) (qs .0)) (List._∷_ (Row.lease (κs .1 .0) (qs .1 .0)) (List._∷_ (Row.lease (κs .1 .1 .0) (qs .1 .1
-            .0)) (List._∷_ (Row.lease (κs .1 .1 .1 .0) (qs .1 .1 .1 .0)) (List._∷_ (Row.lease (κs .1 .1 .1 .1 .0) (qs .1 .1 .1 .1 .0)) (List._∷_ (Row.lease (κs .1 .1 .1 .1 .1 .0) (qs .1 .1 .1 .1 .1 .0))
-            (List._∷_ Row.off (List._∷_ Row.off (List._∷_ Row.off (List._∷_ Row.off (List._∷_ Row.off (List._∷_ Row.off (List._∷_ Row.off (List._∷_ Row.off (List._∷_ Row.off (List._∷_ Row.off
-            List.[]))))))))))))))); }
+        G117 = record {
+          locals = List._++_ t4 (List._++_ t1 (List._++_ t2 t3));
+          slots = List._∷_ (Row.lease (κs .0) (qs .0)) (List._∷_ (Row.lease (κs .1 .0) (qs .1 .0)) (List._∷_ (Row.lease (κs .1 .1 .0) (qs .1 .1
+              .0)) (List._∷_ (Row.lease (κs .1 .1 .1 .0) (qs .1 .1 .1 .0)) (List._∷_ (Row.lease (κs .1 .1 .1 .1 .0) (qs .1 .1 .1 .1 .0)) (List._∷_ (Row.lease (κs .1 .1 .1 .1 .1 .0) (qs .1 .1 .1 .1 .1 .0))
+              (List._∷_ Row.off (List._∷_ Row.off (List._∷_ Row.off (List._∷_ Row.off (List._∷_ Row.off (List._∷_ Row.off (List._∷_ Row.off (List._∷_ Row.off (List._∷_ Row.off (List._∷_ Row.off
+              List.[])))))))))))))));
+        }
 
         abbrev G118 : Row.Cx
-        G118 = record
-            { locals = List._++_ t7 (List._++_ t81 (List._++_ t2 t3)); slots = List._∷_ (Row.lease (κs .0) (qs .0)) (List._∷_ (Row.lease (κs .1 .0) (qs .1 .0)) (List._∷_ (Row.lease (κs .1 .1 .0) (qs .1 .1
-            .0)) (List._∷_ (Row.lease (κs .1 .1 .1 .0) (qs .1 .1 .1 .0)) (List._∷_ (Row.lease (κs .1 .1 .1 .1 .0) (qs .1 .1 .1 .1 .0)) (List._∷_ (Row.lease (κs .1 .1 .1 .1 .1 .0) (qs .1 .1 .1 .1 .1 .0))
-            (List._∷_ Row.off (List._∷_ Row.off (List._∷_ Row.off (List._∷_ Row.off (List._∷_ Row.off (List._∷_ Row.off (List._∷_ Row.off (List._∷_ Row.off (List._∷_ Row.off (List._∷_ Row.off
-            List.[]))))))))))))))); }
+        G118 = record {
+          locals = List._++_ t7 (List._++_ t81 (List._++_ t2 t3));
+          slots = List._∷_ (Row.lease (κs .0) (qs .0)) (List._∷_ (Row.lease (κs .1 .0) (qs .1 .0)) (List._∷_ (Row.lease (κs .1 .1 .0) (qs .1 .1
+              .0)) (List._∷_ (Row.lease (κs .1 .1 .1 .0) (qs .1 .1 .1 .0)) (List._∷_ (Row.lease (κs .1 .1 .1 .1 .0) (qs .1 .1 .1 .1 .0)) (List._∷_ (Row.lease (κs .1 .1 .1 .1 .1 .0) (qs .1 .1 .1 .1 .1 .0))
+              (List._∷_ Row.off (List._∷_ Row.off (List._∷_ Row.off (List._∷_ Row.off (List._∷_ Row.off (List._∷_ Row.off (List._∷_ Row.off (List._∷_ Row.off (List._∷_ Row.off (List._∷_ Row.off
+              List.[])))))))))))))));
+        }
 
         abbrev G119 : Row.Cx
-        G119 = record
-            { locals = List._++_ t7 (List._++_ t35 (List._++_ t2 t3)); slots = List._∷_ (Row.lease (κs .0) (qs .0)) (List._∷_ (Row.lease (κs .1 .0) (qs .1 .0)) (List._∷_ (Row.lease (κs .1 .1 .0) (qs .1 .1
-            .0)) (List._∷_ (Row.lease (κs .1 .1 .1 .0) (qs .1 .1 .1 .0)) (List._∷_ (Row.lease (κs .1 .1 .1 .1 .0) (qs .1 .1 .1 .1 .0)) (List._∷_ (Row.lease (κs .1 .1 .1 .1 .1 .0) (qs .1 .1 .1 .1 .1 .0))
-            (List._∷_ Row.off (List._∷_ Row.off (List._∷_ Row.off (List._∷_ Row.off (List._∷_ Row.off (List._∷_ Row.off (List._∷_ Row.off (List._∷_ Row.off (List._∷_ Row.off (List._∷_ Row.off
-            List.[]))))))))))))))); }
+        G119 = record {
+          locals = List._++_ t7 (List._++_ t35 (List._++_ t2 t3));
+          slots = List._∷_ (Row.lease (κs .0) (qs .0)) (List._∷_ (Row.lease (κs .1 .0) (qs .1 .0)) (List._∷_ (Row.lease (κs .1 .1 .0) (qs .1 .1
+              .0)) (List._∷_ (Row.lease (κs .1 .1 .1 .0) (qs .1 .1 .1 .0)) (List._∷_ (Row.lease (κs .1 .1 .1 .1 .0) (qs .1 .1 .1 .1 .0)) (List._∷_ (Row.lease (κs .1 .1 .1 .1 .1 .0) (qs .1 .1 .1 .1 .1 .0))
+              (List._∷_ Row.off (List._∷_ Row.off (List._∷_ Row.off (List._∷_ Row.off (List._∷_ Row.off (List._∷_ Row.off (List._∷_ Row.off (List._∷_ Row.off (List._∷_ Row.off (List._∷_ Row.off
+              List.[])))))))))))))));
+        }
 
         abbrev G120 : Row.Cx
-        G120 = record
-            { locals = List._++_ t7 (List._++_ t35 (List._++_ t82 t3)); slots = List._∷_ (Row.lease (κs .0) (qs .0)) (List._∷_ (Row.lease (κs .1 .0) (qs .1 .0)) (List._∷_ (Row.lease (κs .1 .1 .0) (qs .1
-            .1 .0)) (List._∷_ (Row.lease (κs .1 .1 .1 .0) (qs .1 .1 .1 .0)) (List._∷_ (Row.lease (κs .1 .1 .1 .1 .0) (qs .1 .1 .1 .1 .0)) (List._∷_ (Row.lease (κs .1 .1 .1 .1 .1 .0) (qs .1 .1 .1 .1 .1
-            .0)) (List._∷_ Row.off (List._∷_ Row.off (List._∷_ Row.off (List._∷_ Row.off (List._∷_ Row.off (List._∷_ Row.off (List._∷_ Row.off (List._∷_ Row.off (List._∷_ Row.off (List._∷_ Row.off
-            List.[]))))))))))))))); }
+        G120 = record {
+          locals = List._++_ t7 (List._++_ t35 (List._++_ t82 t3));
+          slots = List._∷_ (Row.lease (κs .0) (qs .0)) (List._∷_ (Row.lease (κs .1 .0) (qs .1 .0)) (List._∷_ (Row.lease (κs .1 .1 .0) (qs .1
+              .1 .0)) (List._∷_ (Row.lease (κs .1 .1 .1 .0) (qs .1 .1 .1 .0)) (List._∷_ (Row.lease (κs .1 .1 .1 .1 .0) (qs .1 .1 .1 .1 .0)) (List._∷_ (Row.lease (κs .1 .1 .1 .1 .1 .0) (qs .1 .1 .1 .1 .1
+              .0)) (List._∷_ Row.off (List._∷_ Row.off (List._∷_ Row.off (List._∷_ Row.off (List._∷_ Row.off (List._∷_ Row.off (List._∷_ Row.off (List._∷_ Row.off (List._∷_ Row.off (List._∷_ Row.off
+              List.[])))))))))))))));
+        }
 
         abbrev G121 : Row.Cx
-        G121 = record
-            { locals = List._++_ t7 (List._++_ t35 (List._++_ t82 t3)); slots = List._∷_ (Row.lease (κs .0) (qs .0)) (List._∷_ (Row.lease (κs .1 .0) (qs .1 .0)) (List._∷_ (Row.lease (κs .1 .1 .0) (qs .1
-            .1 .0)) (List._∷_ (Row.lease (κs .1 .1 .1 .0) (qs .1 .1 .1 .0)) (List._∷_ (Row.lease (κs .1 .1 .1 .1 .0) (qs .1 .1 .1 .1 .0)) (List._∷_ (Row.lease (κs .1 .1 .1 .1 .1 .0) (qs .1 .1 .1 .1 .1
-            .0)) (List._∷_ Row.off (List._∷_ Row.off (List._∷_ Row.off (List._∷_ Row.off (List._∷_ Row.off (List._∷_ Row.off (List._∷_ Row.off (List._∷_ Row.off (List._∷_ Row.off (List._∷_ Row.off
-            List.[]))))))))))))))); }
+        G121 = record {
+          locals = List._++_ t7 (List._++_ t35 (List._++_ t82 t3));
+          slots = List._∷_ (Row.lease (κs .0) (qs .0)) (List._∷_ (Row.lease (κs .1 .0) (qs .1 .0)) (List._∷_ (Row.lease (κs .1 .1 .0) (qs .1
+              .1 .0)) (List._∷_ (Row.lease (κs .1 .1 .1 .0) (qs .1 .1 .1 .0)) (List._∷_ (Row.lease (κs .1 .1 .1 .1 .0) (qs .1 .1 .1 .1 .0)) (List._∷_ (Row.lease (κs .1 .1 .1 .1 .1 .0) (qs .1 .1 .1 .1 .1
+              .0)) (List._∷_ Row.off (List._∷_ Row.off (List._∷_ Row.off (List._∷_ Row.off (List._∷_ Row.off (List._∷_ Row.off (List._∷_ Row.off (List._∷_ Row.off (List._∷_ Row.off (List._∷_ Row.off
+              List.[])))))))))))))));
+        }
 
         abbrev G122 : Row.Cx
-        G122 = record
-            { locals = List._++_ t7 (List._++_ t35 (List._++_ t2 t3)); slots = List._∷_ (Row.lease (κs .0) (qs .0)) (List._∷_ (Row.lease (κs .1 .0) (qs .1 .0)) (List._∷_ (Row.lease (κs .1 .1 .0) (qs .1 .1
-            .0)) (List._∷_ (Row.lease (κs .1 .1 .1 .0) (qs .1 .1 .1 .0)) (List._∷_ (Row.lease (κs .1 .1 .1 .1 .0) (qs .1 .1 .1 .1 .0)) (List._∷_ (Row.lease (κs .1 .1 .1 .1 .1 .0) (qs .1 .1 .1 .1 .1 .0))
-            (List._∷_ Row.off (List._∷_ Row.off (List._∷_ Row.off (List._∷_ Row.off (List._∷_ Row.off (List._∷_ Row.off (List._∷_ Row.off (List._∷_ Row.off (List._∷_ Row.off (List._∷_ Row.off
-            List.[]))))))))))))))); }
+        G122 = record {
+          locals = List._++_ t7 (List._++_ t35 (List._++_ t2 t3));
+          slots = List._∷_ (Row.lease (κs .0) (qs .0)) (List._∷_ (Row.lease (κs .1 .0) (qs .1 .0)) (List._∷_ (Row.lease (κs .1 .1 .0) (qs .1 .1
+              .0)) (List._∷_ (Row.lease (κs .1 .1 .1 .0) (qs .1 .1 .1 .0)) (List._∷_ (Row.lease (κs .1 .1 .1 .1 .0) (qs .1 .1 .1 .1 .0)) (List._∷_ (Row.lease (κs .1 .1 .1 .1 .1 .0) (qs .1 .1 .1 .1 .1 .0))
+              (List._∷_ Row.off (List._∷_ Row.off (List._∷_ Row.off (List._∷_ Row.off (List._∷_ Row.off (List._∷_ Row.off (List._∷_ Row.off (List._∷_ Row.off (List._∷_ Row.off (List._∷_ Row.off
+              List.[])))))))))))))));
+        }
 
         abbrev G123 : Row.Cx
-        G123 = record
-            { locals = List._++_ t7 (List._++_ t35 (List._++_ t2 t3)); slots = List._∷_ (Row.lease (κs .0) (qs .0)) (List._∷_ (Row.lease (κs .1 .0) (qs .1 .0)) (List._∷_ (Row.lease (κs .1 .1 .0) (qs .1 .1
-            .0)) (List._∷_ (Row.lease (κs .1 .1 .1 .0) (qs .1 .1 .1 .0)) (List._∷_ (Row.lease (κs .1 .1 .1 .1 .0) (qs .1 .1 .1 .1 .0)) (List._∷_ (Row.lease (κs .1 .1 .1 .1 .1 .0) (qs .1 .1 .1 .1 .1 .0))
-            (List._∷_ Row.off (List._∷_ Row.off (List._∷_ Row.off (List._∷_ Row.off (List._∷_ Row.off (List._∷_ Row.off (List._∷_ Row.off (List._∷_ Row.off (List._∷_ Row.alive (List._∷_ Row.off
-            List.[]))))))))))))))); }
+        G123 = record {
+          locals = List._++_ t7 (List._++_ t35 (List._++_ t2 t3));
+          slots = List._∷_ (Row.lease (κs .0) (qs .0)) (List._∷_ (Row.lease (κs .1 .0) (qs .1 .0)) (List._∷_ (Row.lease (κs .1 .1 .0) (qs .1 .1
+              .0)) (List._∷_ (Row.lease (κs .1 .1 .1 .0) (qs .1 .1 .1 .0)) (List._∷_ (Row.lease (κs .1 .1 .1 .1 .0) (qs .1 .1 .1 .1 .0)) (List._∷_ (Row.lease (κs .1 .1 .1 .1 .1 .0) (qs .1 .1 .1 .1 .1 .0))
+              (List._∷_ Row.off (List._∷_ Row.off (List._∷_ Row.off (List._∷_ Row.off (List._∷_ Row.off (List._∷_ Row.off (List._∷_ Row.off (List._∷_ Row.off (List._∷_ Row.alive (List._∷_ Row.off
+              List.[])))))))))))))));
+        }
 
         abbrev G124 : Row.Cx
-        G124 = record
-            { locals = List._++_ g83 (List._++_ t35 (List._++_ t84 t3)); slots = List._∷_ (Row.lease (κs .0) (qs .0)) (List._∷_ (Row.lease (κs .1 .0) (qs .1 .0)) (List._∷_ Row.off (List._∷_ (Row.lease (κs
-            .1 .1 .1 .0) (qs .1 .1 .1 .0)) (List._∷_ (Row.lease (κs .1 .1 .1 .1 .0) (qs .1 .1 .1 .1 .0)) (List._∷_ (Row.lease (κs .1 .1 .1 .1 .1 .0) (qs .1 .1 .1 .1 .1 .0)) (List._∷_ Row.off (List._∷_
-            Row.off (List._∷_ Row.off (List._∷_ Row.off (List._∷_ Row.off (List._∷_ Row.off (List._∷_ Row.off (List._∷_ Row.off (List._∷_ Row.alive (List._∷_ Row.off List.[]))))))))))))))); }
+        G124 = record {
+          locals = List._++_ g83 (List._++_ t35 (List._++_ t84 t3));
+          slots = List._∷_ (Row.lease (κs .0) (qs .0)) (List._∷_ (Row.lease (κs .1 .0) (qs .1 .0)) (List._∷_ Row.off (List._∷_ (Row.lease (κs
+              .1 .1 .1 .0) (qs .1 .1 .1 .0)) (List._∷_ (Row.lease (κs .1 .1 .1 .1 .0) (qs .1 .1 .1 .1 .0)) (List._∷_ (Row.lease (κs .1 .1 .1 .1 .1 .0) (qs .1 .1 .1 .1 .1 .0)) (List._∷_ Row.off (List._∷_
+              Row.off (List._∷_ Row.off (List._∷_ Row.off (List._∷_ Row.off (List._∷_ Row.off (List._∷_ Row.off (List._∷_ Row.off (List._∷_ Row.alive (List._∷_ Row.off List.[])))))))))))))));
+        }
 
         abbrev G125 : Row.Cx
-        G125 = record
-            { locals = List._++_ g83 (List._++_ t35 (List._++_ t85 t3)); slots = List._∷_ (Row.lease (κs .0) (qs .0)) (List._∷_ (Row.lease (κs .1 .0) (qs .1 .0)) (List._∷_ Row.off (List._∷_ (Row.lease (κs
-            .1 .1 .1 .0) (qs .1 .1 .1 .0)) (List._∷_ (Row.lease (κs .1 .1 .1 .1 .0) (qs .1 .1 .1 .1 .0)) (List._∷_ (Row.lease (κs .1 .1 .1 .1 .1 .0) (qs .1 .1 .1 .1 .1 .0)) (List._∷_ Row.off (List._∷_
-            Row.off (List._∷_ Row.off (List._∷_ Row.off (List._∷_ Row.off (List._∷_ Row.off (List._∷_ Row.off (List._∷_ Row.off (List._∷_ Row.alive (List._∷_ Row.off List.[]))))))))))))))); }
+        G125 = record {
+          locals = List._++_ g83 (List._++_ t35 (List._++_ t85 t3));
+          slots = List._∷_ (Row.lease (κs .0) (qs .0)) (List._∷_ (Row.lease (κs .1 .0) (qs .1 .0)) (List._∷_ Row.off (List._∷_ (Row.lease (κs
+              .1 .1 .1 .0) (qs .1 .1 .1 .0)) (List._∷_ (Row.lease (κs .1 .1 .1 .1 .0) (qs .1 .1 .1 .1 .0)) (List._∷_ (Row.lease (κs .1 .1 .1 .1 .1 .0) (qs .1 .1 .1 .1 .1 .0)) (List._∷_ Row.off (List._∷_
+              Row.off (List._∷_ Row.off (List._∷_ Row.off (List._∷_ Row.off (List._∷_ Row.off (List._∷_ Row.off (List._∷_ Row.off (List._∷_ Row.alive (List._∷_ Row.off List.[])))))))))))))));
+        }
 
         abbrev G126 : Row.Cx
-        G126 = record
-            { locals = List._++_ g83 (List._++_ t35 (List._++_ t85 t3)); slots = List._∷_ (Row.lease (κs .0) (qs .0)) (List._∷_ (Row.lease (κs .1 .0) (qs .1 .0)) (List._∷_ Row.off (List._∷_ (Row.lease (κs
-            .1 .1 .1 .0) (qs .1 .1 .1 .0)) (List._∷_ (Row.lease (κs .1 .1 .1 .1 .0) (qs .1 .1 .1 .1 .0)) (List._∷_ (Row.lease (κs .1 .1 .1 .1 .1 .0) (qs .1 .1 .1 .1 .1 .0)) (List._∷_ Row.off (List._∷_
-            Row.off (List._∷_ Row.off (List._∷_ Row.off (List._∷_ Row.off (List._∷_ Row.off (List._∷_ Row.off (List._∷_ Row.off (List._∷_ Row.alive (List._∷_ Row.alive List.[]))))))))))))))); }
+        G126 = record {
+          locals = List._++_ g83 (List._++_ t35 (List._++_ t85 t3));
+          slots = List._∷_ (Row.lease (κs .0) (qs .0)) (List._∷_ (Row.lease (κs .1 .0) (qs .1 .0)) (List._∷_ Row.off (List._∷_ (Row.lease (κs
+              .1 .1 .1 .0) (qs .1 .1 .1 .0)) (List._∷_ (Row.lease (κs .1 .1 .1 .1 .0) (qs .1 .1 .1 .1 .0)) (List._∷_ (Row.lease (κs .1 .1 .1 .1 .1 .0) (qs .1 .1 .1 .1 .1 .0)) (List._∷_ Row.off (List._∷_
+              Row.off (List._∷_ Row.off (List._∷_ Row.off (List._∷_ Row.off (List._∷_ Row.off (List._∷_ Row.off (List._∷_ Row.off (List._∷_ Row.alive (List._∷_ Row.alive List.[])))))))))))))));
+        }
 
         abbrev G127 : Row.Cx
-        G127 = record
-            { locals = List._++_ g86 (List._++_ t35 (List._++_ t85 t87)); slots = List._∷_ (Row.lease (κs .0) (qs .0)) (List._∷_ (Row.lease (κs .1 .0) (qs .1 .0)) (List._∷_ Row.off (List._∷_ (Row.lease
-            (κs .1 .1 .1 .0) (qs .1 .1 .1 .0)) (List._∷_ Row.off (List._∷_ (Row.lease (κs .1 .1 .1 .1 .1 .0) (qs .1 .1 .1 .1 .1 .0)) (List._∷_ Row.off (List._∷_ Row.off (List._∷_ Row.off (List._∷_ Row.off
-            (List._∷_ Row.off (List._∷_ Row.off (List._∷_ Row.off (List._∷_ Row.off (List._∷_ Row.alive (List._∷_ Row.alive List.[]))))))))))))))); }
+        G127 = record {
+          locals = List._++_ g86 (List._++_ t35 (List._++_ t85 t87));
+          slots = List._∷_ (Row.lease (κs .0) (qs .0)) (List._∷_ (Row.lease (κs .1 .0) (qs .1 .0)) (List._∷_ Row.off (List._∷_ (Row.lease
+              (κs .1 .1 .1 .0) (qs .1 .1 .1 .0)) (List._∷_ Row.off (List._∷_ (Row.lease (κs .1 .1 .1 .1 .1 .0) (qs .1 .1 .1 .1 .1 .0)) (List._∷_ Row.off (List._∷_ Row.off (List._∷_ Row.off (List._∷_ Row.off
+              (List._∷_ Row.off (List._∷_ Row.off (List._∷_ Row.off (List._∷_ Row.off (List._∷_ Row.alive (List._∷_ Row.alive List.[])))))))))))))));
+        }
 
         abbrev G128 : Row.Cx
-        G128 = record
-            { locals = List._++_ g86 (List._++_ t35 (List._++_ t85 t88)); slots = List._∷_ (Row.lease (κs .0) (qs .0)) (List._∷_ (Row.lease (κs .1 .0) (qs .1 .0)) (List._∷_ Row.off (List._∷_ (Row.lease
-            (κs .1 .1 .1 .0) (qs .1 .1 .1 .0)) (List._∷_ Row.off (List._∷_ (Row.lease (κs .1 .1 .1 .1 .1 .0) (qs .1 .1 .1 .1 .1 .0)) (List._∷_ Row.off (List._∷_ Row.off (List._∷_ Row.off (List._∷_ Row.off
-            (List._∷_ Row.off (List._∷_ Row.off (List._∷_ Row.off (List._∷_ Row.off (List._∷_ Row.alive (List._∷_ Row.alive List.[]))))))))))))))); }
+        G128 = record {
+          locals = List._++_ g86 (List._++_ t35 (List._++_ t85 t88));
+          slots = List._∷_ (Row.lease (κs .0) (qs .0)) (List._∷_ (Row.lease (κs .1 .0) (qs .1 .0)) (List._∷_ Row.off (List._∷_ (Row.lease
+              (κs .1 .1 .1 .0) (qs .1 .1 .1 .0)) (List._∷_ Row.off (List._∷_ (Row.lease (κs .1 .1 .1 .1 .1 .0) (qs .1 .1 .1 .1 .1 .0)) (List._∷_ Row.off (List._∷_ Row.off (List._∷_ Row.off (List._∷_ Row.off
+              (List._∷_ Row.off (List._∷_ Row.off (List._∷_ Row.off (List._∷_ Row.off (List._∷_ Row.alive (List._∷_ Row.alive List.[])))))))))))))));
+        }
 
         abbrev G129 : Row.Cx
-        G129 = record
-            { locals = List._++_ g86 (List._++_ t39 (List._++_ t85 t88)); slots = List._∷_ (Row.lease (κs .0) (qs .0)) (List._∷_ (Row.lease (κs .1 .0) (qs .1 .0)) (List._∷_ Row.off (List._∷_ (Row.lease
-            (κs .1 .1 .1 .0) (qs .1 .1 .1 .0)) (List._∷_ Row.off (List._∷_ (Row.lease (κs .1 .1 .1 .1 .1 .0) (qs .1 .1 .1 .1 .1 .0)) (List._∷_ Row.off (List._∷_ Row.off (List._∷_ Row.off (List._∷_ Row.off
-            (List._∷_ Row.off (List._∷_ Row.off (List._∷_ Row.off (List._∷_ Row.off (List._∷_ Row.alive (List._∷_ Row.alive List.[]))))))))))))))); }
+        G129 = record {
+          locals = List._++_ g86 (List._++_ t39 (List._++_ t85 t88));
+          slots = List._∷_ (Row.lease (κs .0) (qs .0)) (List._∷_ (Row.lease (κs .1 .0) (qs .1 .0)) (List._∷_ Row.off (List._∷_ (Row.lease
+              (κs .1 .1 .1 .0) (qs .1 .1 .1 .0)) (List._∷_ Row.off (List._∷_ (Row.lease (κs .1 .1 .1 .1 .1 .0) (qs .1 .1 .1 .1 .1 .0)) (List._∷_ Row.off (List._∷_ Row.off (List._∷_ Row.off (List._∷_ Row.off
+              (List._∷_ Row.off (List._∷_ Row.off (List._∷_ Row.off (List._∷_ Row.off (List._∷_ Row.alive (List._∷_ Row.alive List.[])))))))))))))));
+        }
 
         abbrev G130 : Row.Cx
-        G130 = record
-            { locals = List._++_ g86 (List._++_ t40 (List._++_ t85 t89)); slots = List._∷_ (Row.lease (κs .0) (qs .0)) (List._∷_ (Row.lease (κs .1 .0) (qs .1 .0)) (List._∷_ Row.off (List._∷_ (Row.lease
-            (κs .1 .1 .1 .0) (qs .1 .1 .1 .0)) (List._∷_ Row.off (List._∷_ (Row.lease (κs .1 .1 .1 .1 .1 .0) (qs .1 .1 .1 .1 .1 .0)) (List._∷_ Row.off (List._∷_ Row.off (List._∷_ Row.off (List._∷_ Row.off
-            (List._∷_ Row.off (List._∷_ Row.off (List._∷_ Row.off (List._∷_ Row.off (List._∷_ Row.alive (List._∷_ Row.alive List.[]))))))))))))))); }
+        G130 = record {
+          locals = List._++_ g86 (List._++_ t40 (List._++_ t85 t89));
+          slots = List._∷_ (Row.lease (κs .0) (qs .0)) (List._∷_ (Row.lease (κs .1 .0) (qs .1 .0)) (List._∷_ Row.off (List._∷_ (Row.lease
+              (κs .1 .1 .1 .0) (qs .1 .1 .1 .0)) (List._∷_ Row.off (List._∷_ (Row.lease (κs .1 .1 .1 .1 .1 .0) (qs .1 .1 .1 .1 .1 .0)) (List._∷_ Row.off (List._∷_ Row.off (List._∷_ Row.off (List._∷_ Row.off
+              (List._∷_ Row.off (List._∷_ Row.off (List._∷_ Row.off (List._∷_ Row.off (List._∷_ Row.alive (List._∷_ Row.alive List.[])))))))))))))));
+        }
 
         abbrev G131 : Row.Cx
-        G131 = record
-            { locals = List._++_ g86 (List._++_ t40 (List._++_ t2 t89)); slots = List._∷_ (Row.lease (κs .0) (qs .0)) (List._∷_ (Row.lease (κs .1 .0) (qs .1 .0)) (List._∷_ Row.off (List._∷_ (Row.lease (κs
-            .1 .1 .1 .0) (qs .1 .1 .1 .0)) (List._∷_ Row.off (List._∷_ (Row.lease (κs .1 .1 .1 .1 .1 .0) (qs .1 .1 .1 .1 .1 .0)) (List._∷_ Row.off (List._∷_ Row.off (List._∷_ Row.off (List._∷_ Row.off
-            (List._∷_ Row.off (List._∷_ Row.off (List._∷_ Row.off (List._∷_ Row.off (List._∷_ Row.alive (List._∷_ Row.alive List.[]))))))))))))))); }
+        G131 = record {
+          locals = List._++_ g86 (List._++_ t40 (List._++_ t2 t89));
+          slots = List._∷_ (Row.lease (κs .0) (qs .0)) (List._∷_ (Row.lease (κs .1 .0) (qs .1 .0)) (List._∷_ Row.off (List._∷_ (Row.lease (κs
+              .1 .1 .1 .0) (qs .1 .1 .1 .0)) (List._∷_ Row.off (List._∷_ (Row.lease (κs .1 .1 .1 .1 .1 .0) (qs .1 .1 .1 .1 .1 .0)) (List._∷_ Row.off (List._∷_ Row.off (List._∷_ Row.off (List._∷_ Row.off
+              (List._∷_ Row.off (List._∷_ Row.off (List._∷_ Row.off (List._∷_ Row.off (List._∷_ Row.alive (List._∷_ Row.alive List.[])))))))))))))));
+        }
 
         abbrev G132 : Row.Cx
-        G132 = record
-            { locals = List._++_ g86 (List._++_ t42 (List._++_ t2 t89)); slots = List._∷_ (Row.lease (κs .0) (qs .0)) (List._∷_ (Row.lease (κs .1 .0) (qs .1 .0)) (List._∷_ Row.off (List._∷_ (Row.lease (κs
-            .1 .1 .1 .0) (qs .1 .1 .1 .0)) (List._∷_ Row.off (List._∷_ (Row.lease (κs .1 .1 .1 .1 .1 .0) (qs .1 .1 .1 .1 .1 .0)) (List._∷_ Row.off (List._∷_ Row.off (List._∷_ Row.off (List._∷_ Row.off
-            (List._∷_ Row.off (List._∷_ Row.off (List._∷_ Row.off (List._∷_ Row.off (List._∷_ Row.alive (List._∷_ Row.alive List.[]))))))))))))))); }
+        G132 = record {
+          locals = List._++_ g86 (List._++_ t42 (List._++_ t2 t89));
+          slots = List._∷_ (Row.lease (κs .0) (qs .0)) (List._∷_ (Row.lease (κs .1 .0) (qs .1 .0)) (List._∷_ Row.off (List._∷_ (Row.lease (κs
+              .1 .1 .1 .0) (qs .1 .1 .1 .0)) (List._∷_ Row.off (List._∷_ (Row.lease (κs .1 .1 .1 .1 .1 .0) (qs .1 .1 .1 .1 .1 .0)) (List._∷_ Row.off (List._∷_ Row.off (List._∷_ Row.off (List._∷_ Row.off
+              (List._∷_ Row.off (List._∷_ Row.off (List._∷_ Row.off (List._∷_ Row.off (List._∷_ Row.alive (List._∷_ Row.alive List.[])))))))))))))));
+        }
 
         abbrev G133 : Row.Cx
-        G133 = record
-            { locals = List._++_ g86 (List._++_ t35 (List._++_ t2 t89)); slots = List._∷_ (Row.lease (κs .0) (qs .0)) (List._∷_ (Row.lease (κs .1 .0) (qs .1 .0)) (List._∷_ Row.off (List._∷_ (Row.lease (κs
-            .1 .1 .1 .0) (qs .1 .1 .1 .0)) (List._∷_ Row.off (List._∷_ (Row.lease (κs .1 .1 .1 .1 .1 .0) (qs .1 .1 .1 .1 .1 .0)) (List._∷_ Row.off (List._∷_ Row.off (List._∷_ Row.off (List._∷_ Row.off
-            (List._∷_ Row.off (List._∷_ Row.off (List._∷_ Row.off (List._∷_ Row.off (List._∷_ Row.alive (List._∷_ Row.alive List.[]))))))))))))))); }
+        G133 = record {
+          locals = List._++_ g86 (List._++_ t35 (List._++_ t2 t89));
+          slots = List._∷_ (Row.lease (κs .0) (qs .0)) (List._∷_ (Row.lease (κs .1 .0) (qs .1 .0)) (List._∷_ Row.off (List._∷_ (Row.lease (κs
+              .1 .1 .1 .0) (qs .1 .1 .1 .0)) (List._∷_ Row.off (List._∷_ (Row.lease (κs .1 .1 .1 .1 .1 .0) (qs .1 .1 .1 .1 .1 .0)) (List._∷_ Row.off (List._∷_ Row.off (List._∷_ Row.off (List._∷_ Row.off
+              (List._∷_ Row.off (List._∷_ Row.off (List._∷_ Row.off (List._∷_ Row.off (List._∷_ Row.alive (List._∷_ Row.alive List.[])))))))))))))));
+        }
 
         abbrev G134 : Row.Cx
-        G134 = record
-            { locals = List._++_ g86 (List._++_ t35 (List._++_ t2 t89)); slots = List._∷_ (Row.lease (κs .0) (qs .0)) (List._∷_ (Row.lease (κs .1 .0) (qs .1 .0)) (List._∷_ Row.off (List._∷_ (Row.lease (κs
-            .1 .1 .1 .0) (qs .1 .1 .1 .0)) (List._∷_ Row.off (List._∷_ (Row.lease (κs .1 .1 .1 .1 .1 .0) (qs .1 .1 .1 .1 .1 .0)) (List._∷_ Row.off (List._∷_ Row.off (List._∷_ Row.off (List._∷_ Row.off
-            (List._∷_ Row.off (List._∷_ Row.off (List._∷_ Row.off (List._∷_ Row.off (List._∷_ Row.dead (List._∷_ Row.alive List.[]))))))))))))))); }
+        G134 = record {
+          locals = List._++_ g86 (List._++_ t35 (List._++_ t2 t89));
+          slots = List._∷_ (Row.lease (κs .0) (qs .0)) (List._∷_ (Row.lease (κs .1 .0) (qs .1 .0)) (List._∷_ Row.off (List._∷_ (Row.lease (κs
+              .1 .1 .1 .0) (qs .1 .1 .1 .0)) (List._∷_ Row.off (List._∷_ (Row.lease (κs .1 .1 .1 .1 .1 .0) (qs .1 .1 .1 .1 .1 .0)) (List._∷_ Row.off (List._∷_ Row.off (List._∷_ Row.off (List._∷_ Row.off
+              (List._∷_ Row.off (List._∷_ Row.off (List._∷_ Row.off (List._∷_ Row.off (List._∷_ Row.dead (List._∷_ Row.alive List.[])))))))))))))));
+        }
 
         abbrev G135 : Row.Cx
-        G135 = record
-            { locals = List._++_ g90 (List._++_ t35 (List._++_ t2 t89)); slots = List._∷_ (Row.lease (κs .0) (qs .0)) (List._∷_ (Row.lease (κs .1 .0) (qs .1 .0)) (List._∷_ (Row.lease (κs .1 .1 .0) (qs .1
-            .1 .0)) (List._∷_ (Row.lease (κs .1 .1 .1 .0) (qs .1 .1 .1 .0)) (List._∷_ Row.off (List._∷_ (Row.lease (κs .1 .1 .1 .1 .1 .0) (qs .1 .1 .1 .1 .1 .0)) (List._∷_ Row.off (List._∷_ Row.off
-            (List._∷_ Row.off (List._∷_ Row.off (List._∷_ Row.off (List._∷_ Row.off (List._∷_ Row.off (List._∷_ Row.off (List._∷_ Row.dead (List._∷_ Row.alive List.[]))))))))))))))); }
+        G135 = record {
+          locals = List._++_ g90 (List._++_ t35 (List._++_ t2 t89));
+          slots = List._∷_ (Row.lease (κs .0) (qs .0)) (List._∷_ (Row.lease (κs .1 .0) (qs .1 .0)) (List._∷_ (Row.lease (κs .1 .1 .0) (qs .1
+              .1 .0)) (List._∷_ (Row.lease (κs .1 .1 .1 .0) (qs .1 .1 .1 .0)) (List._∷_ Row.off (List._∷_ (Row.lease (κs .1 .1 .1 .1 .1 .0) (qs .1 .1 .1 .1 .1 .0)) (List._∷_ Row.off (List._∷_ Row.off
+              (List._∷_ Row.off (List._∷_ Row.off (List._∷_ Row.off (List._∷_ Row.off (List._∷_ Row.off (List._∷_ Row.off (List._∷_ Row.dead (List._∷_ Row.alive List.[])))))))))))))));
+        }
 
         abbrev G136 : Row.Cx
-        G136 = record
-            { locals = List._++_ g90 (List._++_ t35 (List._++_ t2 t89)); slots = List._∷_ (Row.lease (κs .0) (qs .0)) (List._∷_ (Row.lease (κs .1 .0) (qs .1 .0)) (List._∷_ (Row.lease (κs .1 .1 .0) (qs .1
-            .1 .0)) (List._∷_ (Row.lease (κs .1 .1 .1 .0) (qs .1 .1 .1 .0)) (List._∷_ Row.off (List._∷_ (Row.lease (κs .1 .1 .1 .1 .1 .0) (qs .1 .1 .1 .1 .1 .0)) (List._∷_ Row.off (List._∷_ Row.off
-            (List._∷_ Row.off (List._∷_ Row.off (List._∷_ Row.off (List._∷_ Row.off (List._∷_ Row.off (List._∷_ Row.off (List._∷_ Row.off (List._∷_ Row.alive List.[]))))))))))))))); }
+        G136 = record {
+          locals = List._++_ g90 (List._++_ t35 (List._++_ t2 t89));
+          slots = List._∷_ (Row.lease (κs .0) (qs .0)) (List._∷_ (Row.lease (κs .1 .0) (qs .1 .0)) (List._∷_ (Row.lease (κs .1 .1 .0) (qs .1
+              .1 .0)) (List._∷_ (Row.lease (κs .1 .1 .1 .0) (qs .1 .1 .1 .0)) (List._∷_ Row.off (List._∷_ (Row.lease (κs .1 .1 .1 .1 .1 .0) (qs .1 .1 .1 .1 .1 .0)) (List._∷_ Row.off (List._∷_ Row.off
+              (List._∷_ Row.off (List._∷_ Row.off (List._∷_ Row.off (List._∷_ Row.off (List._∷_ Row.off (List._∷_ Row.off (List._∷_ Row.off (List._∷_ Row.alive List.[])))))))))))))));
+        }
 
         abbrev G137 : Row.Cx
-        G137 = record
-            { locals = List._++_ g90 (List._++_ t35 (List._++_ t2 t89)); slots = List._∷_ (Row.lease (κs .0) (qs .0)) (List._∷_ (Row.lease (κs .1 .0) (qs .1 .0)) (List._∷_ (Row.lease (κs .1 .1 .0) (qs .1
-            .1 .0)) (List._∷_ (Row.lease (κs .1 .1 .1 .0) (qs .1 .1 .1 .0)) (List._∷_ Row.off (List._∷_ (Row.lease (κs .1 .1 .1 .1 .1 .0) (qs .1 .1 .1 .1 .1 .0)) (List._∷_ Row.off (List._∷_ Row.off
-            (List._∷_ Row.off (List._∷_ Row.off (List._∷_ Row.off (List._∷_ Row.off (List._∷_ Row.off (List._∷_ Row.off (List._∷_ Row.off (List._∷_ Row.dead List.[]))))))))))))))); }
+        G137 = record {
+          locals = List._++_ g90 (List._++_ t35 (List._++_ t2 t89));
+          slots = List._∷_ (Row.lease (κs .0) (qs .0)) (List._∷_ (Row.lease (κs .1 .0) (qs .1 .0)) (List._∷_ (Row.lease (κs .1 .1 .0) (qs .1
+              .1 .0)) (List._∷_ (Row.lease (κs .1 .1 .1 .0) (qs .1 .1 .1 .0)) (List._∷_ Row.off (List._∷_ (Row.lease (κs .1 .1 .1 .1 .1 .0) (qs .1 .1 .1 .1 .1 .0)) (List._∷_ Row.off (List._∷_ Row.off
+              (List._∷_ Row.off (List._∷_ Row.off (List._∷_ Row.off (List._∷_ Row.off (List._∷_ Row.off (List._∷_ Row.off (List._∷_ Row.off (List._∷_ Row.dead List.[])))))))))))))));
+        }
 
         abbrev G138 : Row.Cx
-        G138 = record
-            { locals = List._++_ t7 (List._++_ t35 (List._++_ t2 t3)); slots = List._∷_ (Row.lease (κs .0) (qs .0)) (List._∷_ (Row.lease (κs .1 .0) (qs .1 .0)) (List._∷_ (Row.lease (κs .1 .1 .0) (qs .1 .1
-            .0)) (List._∷_ (Row.lease (κs .1 .1 .1 .0) (qs .1 .1 .1 .0)) (List._∷_ (Row.lease (κs .1 .1 .1 .1 .0) (qs .1 .1 .1 .1 .0)) (List._∷_ (Row.lease (κs .1 .1 .1 .1 .1 .0) (qs .1 .1 .1 .1 .1 .0))
-            (List._∷_ Row.off (List._∷_ Row.off (List._∷_ Row.off (List._∷_ Row.off (List._∷_ Row.off (List._∷_ Row.off (List._∷_ Row.off (List._∷_ Row.off (List._∷_ Row.off (List._∷_ Row.dead
-            List.[]))))))))))))))); }
+        G138 = record {
+          locals = List._++_ t7 (List._++_ t35 (List._++_ t2 t3));
+          slots = List._∷_ (Row.lease (κs .0) (qs .0)) (List._∷_ (Row.lease (κs .1 .0) (qs .1 .0)) (List._∷_ (Row.lease (κs .1 .1 .0) (qs .1 .1
+              .0)) (List._∷_ (Row.lease (κs .1 .1 .1 .0) (qs .1 .1 .1 .0)) (List._∷_ (Row.lease (κs .1 .1 .1 .1 .0) (qs .1 .1 .1 .1 .0)) (List._∷_ (Row.lease (κs .1 .1 .1 .1 .1 .0) (qs .1 .1 .1 .1 .1 .0))
+              (List._∷_ Row.off (List._∷_ Row.off (List._∷_ Row.off (List._∷_ Row.off (List._∷_ Row.off (List._∷_ Row.off (List._∷_ Row.off (List._∷_ Row.off (List._∷_ Row.off (List._∷_ Row.dead
+              List.[])))))))))))))));
+        }
 
         abbrev G139 : Row.Cx
-        G139 = record
-            { locals = List._++_ t7 (List._++_ t35 (List._++_ t2 t3)); slots = List._∷_ (Row.lease (κs .0) (qs .0)) (List._∷_ (Row.lease (κs .1 .0) (qs .1 .0)) (List._∷_ (Row.lease (κs .1 .1 .0) (qs .1 .1
-            .0)) (List._∷_ (Row.lease (κs .1 .1 .1 .0) (qs .1 .1 .1 .0)) (List._∷_ (Row.lease (κs .1 .1 .1 .1 .0) (qs .1 .1 .1 .1 .0)) (List._∷_ (Row.lease (κs .1 .1 .1 .1 .1 .0) (qs .1 .1 .1 .1 .1 .0))
-            (List._∷_ Row.off (List._∷_ Row.off (List._∷_ Row.off (List._∷_ Row.off (List._∷_ Row.off (List._∷_ Row.off (List._∷_ Row.off (List._∷_ Row.off (List._∷_ Row.off (List._∷_ Row.dead
-            List.[]))))))))))))))); }
+        G139 = record {
+          locals = List._++_ t7 (List._++_ t35 (List._++_ t2 t3));
+          slots = List._∷_ (Row.lease (κs .0) (qs .0)) (List._∷_ (Row.lease (κs .1 .0) (qs .1 .0)) (List._∷_ (Row.lease (κs .1 .1 .0) (qs .1 .1
+              .0)) (List._∷_ (Row.lease (κs .1 .1 .1 .0) (qs .1 .1 .1 .0)) (List._∷_ (Row.lease (κs .1 .1 .1 .1 .0) (qs .1 .1 .1 .1 .0)) (List._∷_ (Row.lease (κs .1 .1 .1 .1 .1 .0) (qs .1 .1 .1 .1 .1 .0))
+              (List._∷_ Row.off (List._∷_ Row.off (List._∷_ Row.off (List._∷_ Row.off (List._∷_ Row.off (List._∷_ Row.off (List._∷_ Row.off (List._∷_ Row.off (List._∷_ Row.off (List._∷_ Row.dead
+              List.[])))))))))))))));
+        }
 
         abbrev G140 : Row.Cx
-        G140 = record
-            { locals = List._++_ t7 (List._++_ t35 (List._++_ t2 t3)); slots = List._∷_ (Row.lease (κs .0) (qs .0)) (List._∷_ (Row.lease (κs .1 .0) (qs .1 .0)) (List._∷_ (Row.lease (κs .1 .1 .0) (qs .1 .1
-            .0)) (List._∷_ (Row.lease (κs .1 .1 .1 .0) (qs .1 .1 .1 .0)) (List._∷_ (Row.lease (κs .1 .1 .1 .1 .0) (qs .1 .1 .1 .1 .0)) (List._∷_ (Row.lease (κs .1 .1 .1 .1 .1 .0) (qs .1 .1 .1 .1 .1 .0))
-            (List._∷_ Row.off (List._∷_ Row.off (List._∷_ Row.off (List._∷_ Row.off (List._∷_ Row.off (List._∷_ Row.off (List._∷_ Row.off (List._∷_ Row.off (List._∷_ Row.off (List._∷_ Row.off
-            List.[]))))))))))))))); }
+        G140 = record {
+          locals = List._++_ t7 (List._++_ t35 (List._++_ t2 t3));
+          slots = List._∷_ (Row.lease (κs .0) (qs .0)) (List._∷_ (Row.lease (κs .1 .0) (qs .1 .0)) (List._∷_ (Row.lease (κs .1 .1 .0) (qs .1 .1
+              .0)) (List._∷_ (Row.lease (κs .1 .1 .1 .0) (qs .1 .1 .1 .0)) (List._∷_ (Row.lease (κs .1 .1 .1 .1 .0) (qs .1 .1 .1 .1 .0)) (List._∷_ (Row.lease (κs .1 .1 .1 .1 .1 .0) (qs .1 .1 .1 .1 .1 .0))
+              (List._∷_ Row.off (List._∷_ Row.off (List._∷_ Row.off (List._∷_ Row.off (List._∷_ Row.off (List._∷_ Row.off (List._∷_ Row.off (List._∷_ Row.off (List._∷_ Row.off (List._∷_ Row.off
+              List.[])))))))))))))));
+        }
 
         abbrev G141 : Row.Cx
-        G141 = record
-            { locals = List._++_ t7 (List._++_ t35 (List._++_ t2 t3)); slots = List._∷_ (Row.lease (κs .0) (qs .0)) (List._∷_ (Row.lease (κs .1 .0) (qs .1 .0)) (List._∷_ (Row.lease (κs .1 .1 .0) (qs .1 .1
-            .0)) (List._∷_ (Row.lease (κs .1 .1 .1 .0) (qs .1 .1 .1 .0)) (List._∷_ (Row.lease (κs .1 .1 .1 .1 .0) (qs .1 .1 .1 .1 .0)) (List._∷_ (Row.lease (κs .1 .1 .1 .1 .1 .0) (qs .1 .1 .1 .1 .1 .0))
-            (List._∷_ Row.off (List._∷_ Row.off (List._∷_ Row.off (List._∷_ Row.off (List._∷_ Row.off (List._∷_ Row.off (List._∷_ Row.off (List._∷_ Row.off (List._∷_ Row.off (List._∷_ Row.off
-            List.[]))))))))))))))); }
+        G141 = record {
+          locals = List._++_ t7 (List._++_ t35 (List._++_ t2 t3));
+          slots = List._∷_ (Row.lease (κs .0) (qs .0)) (List._∷_ (Row.lease (κs .1 .0) (qs .1 .0)) (List._∷_ (Row.lease (κs .1 .1 .0) (qs .1 .1
+              .0)) (List._∷_ (Row.lease (κs .1 .1 .1 .0) (qs .1 .1 .1 .0)) (List._∷_ (Row.lease (κs .1 .1 .1 .1 .0) (qs .1 .1 .1 .1 .0)) (List._∷_ (Row.lease (κs .1 .1 .1 .1 .1 .0) (qs .1 .1 .1 .1 .1 .0))
+              (List._∷_ Row.off (List._∷_ Row.off (List._∷_ Row.off (List._∷_ Row.off (List._∷_ Row.off (List._∷_ Row.off (List._∷_ Row.off (List._∷_ Row.off (List._∷_ Row.off (List._∷_ Row.off
+              List.[])))))))))))))));
+        }
 
         abbrev G142 : Row.Cx
-        G142 = record
-            { locals = List._++_ t7 (List._++_ t22 (List._++_ t2 t3)); slots = List._∷_ (Row.lease (κs .0) (qs .0)) (List._∷_ (Row.lease (κs .1 .0) (qs .1 .0)) (List._∷_ (Row.lease (κs .1 .1 .0) (qs .1 .1
-            .0)) (List._∷_ (Row.lease (κs .1 .1 .1 .0) (qs .1 .1 .1 .0)) (List._∷_ (Row.lease (κs .1 .1 .1 .1 .0) (qs .1 .1 .1 .1 .0)) (List._∷_ (Row.lease (κs .1 .1 .1 .1 .1 .0) (qs .1 .1 .1 .1 .1 .0))
-            (List._∷_ Row.off (List._∷_ Row.off (List._∷_ Row.off (List._∷_ Row.off (List._∷_ Row.off (List._∷_ Row.off (List._∷_ Row.off (List._∷_ Row.off (List._∷_ Row.off (List._∷_ Row.off
-            List.[]))))))))))))))); }
+        G142 = record {
+          locals = List._++_ t7 (List._++_ t22 (List._++_ t2 t3));
+          slots = List._∷_ (Row.lease (κs .0) (qs .0)) (List._∷_ (Row.lease (κs .1 .0) (qs .1 .0)) (List._∷_ (Row.lease (κs .1 .1 .0) (qs .1 .1
+              .0)) (List._∷_ (Row.lease (κs .1 .1 .1 .0) (qs .1 .1 .1 .0)) (List._∷_ (Row.lease (κs .1 .1 .1 .1 .0) (qs .1 .1 .1 .1 .0)) (List._∷_ (Row.lease (κs .1 .1 .1 .1 .1 .0) (qs .1 .1 .1 .1 .1 .0))
+              (List._∷_ Row.off (List._∷_ Row.off (List._∷_ Row.off (List._∷_ Row.off (List._∷_ Row.off (List._∷_ Row.off (List._∷_ Row.off (List._∷_ Row.off (List._∷_ Row.off (List._∷_ Row.off
+              List.[])))))))))))))));
+        }
 
         abbrev G143 : Row.Cx
-        G143 = record
-            { locals = List._++_ t23 (List._++_ t22 (List._++_ t2 t91)); slots = List._∷_ (Row.lease (κs .0) (qs .0)) (List._∷_ (Row.lease (κs .1 .0) (qs .1 .0)) (List._∷_ (Row.lease (κs .1 .1 .0) (qs .1
-            .1 .0)) (List._∷_ (Row.lease (κs .1 .1 .1 .0) (qs .1 .1 .1 .0)) (List._∷_ (Row.lease (κs .1 .1 .1 .1 .0) (qs .1 .1 .1 .1 .0)) (List._∷_ (Row.lease (κs .1 .1 .1 .1 .1 .0) (qs .1 .1 .1 .1 .1
-            .0)) (List._∷_ Row.off (List._∷_ Row.off (List._∷_ Row.off (List._∷_ Row.off (List._∷_ Row.off (List._∷_ Row.off (List._∷_ Row.off (List._∷_ Row.off (List._∷_ Row.off (List._∷_ Row.off
-            List.[]))))))))))))))); }
+        G143 = record {
+          locals = List._++_ t23 (List._++_ t22 (List._++_ t2 t91));
+          slots = List._∷_ (Row.lease (κs .0) (qs .0)) (List._∷_ (Row.lease (κs .1 .0) (qs .1 .0)) (List._∷_ (Row.lease (κs .1 .1 .0) (qs .1
+              .1 .0)) (List._∷_ (Row.lease (κs .1 .1 .1 .0) (qs .1 .1 .1 .0)) (List._∷_ (Row.lease (κs .1 .1 .1 .1 .0) (qs .1 .1 .1 .1 .0)) (List._∷_ (Row.lease (κs .1 .1 .1 .1 .1 .0) (qs .1 .1 .1 .1 .1
+              .0)) (List._∷_ Row.off (List._∷_ Row.off (List._∷_ Row.off (List._∷_ Row.off (List._∷_ Row.off (List._∷_ Row.off (List._∷_ Row.off (List._∷_ Row.off (List._∷_ Row.off (List._∷_ Row.off
+              List.[])))))))))))))));
+        }
 
         abbrev G144 : Row.Cx
-        G144 = record
-            { locals = List._++_ t23 (List._++_ t92 (List._++_ t2 t91)); slots = List._∷_ (Row.lease (κs .0) (qs .0)) (List._∷_ (Row.lease (κs .1 .0) (qs .1 .0)) (List._∷_ (Row.lease (κs .1 .1 .0) (qs .1
-            .1 .0)) (List._∷_ (Row.lease (κs .1 .1 .1 .0) (qs .1 .1 .1 .0)) (List._∷_ (Row.lease (κs .1 .1 .1 .1 .0) (qs .1 .1 .1 .1 .0)) (List._∷_ (Row.lease (κs .1 .1 .1 .1 .1 .0) (qs .1 .1 .1 .1 .1
-            .0)) (List._∷_ Row.off (List._∷_ Row.off (List._∷_ Row.off (List._∷_ Row.off (List._∷_ Row.off (List._∷_ Row.off (List._∷_ Row.off (List._∷_ Row.off (List._∷_ Row.off (List._∷_ Row.off
-            List.[]))))))))))))))); }
+        G144 = record {
+          locals = List._++_ t23 (List._++_ t92 (List._++_ t2 t91));
+          slots = List._∷_ (Row.lease (κs .0) (qs .0)) (List._∷_ (Row.lease (κs .1 .0) (qs .1 .0)) (List._∷_ (Row.lease (κs .1 .1 .0) (qs .1
+              .1 .0)) (List._∷_ (Row.lease (κs .1 .1 .1 .0) (qs .1 .1 .1 .0)) (List._∷_ (Row.lease (κs .1 .1 .1 .1 .0) (qs .1 .1 .1 .1 .0)) (List._∷_ (Row.lease (κs .1 .1 .1 .1 .1 .0) (qs .1 .1 .1 .1 .1
+              .0)) (List._∷_ Row.off (List._∷_ Row.off (List._∷_ Row.off (List._∷_ Row.off (List._∷_ Row.off (List._∷_ Row.off (List._∷_ Row.off (List._∷_ Row.off (List._∷_ Row.off (List._∷_ Row.off
+              List.[])))))))))))))));
+        }
 
         abbrev G145 : Row.Cx
-        G145 = record
-            { locals = List._++_ t75 (List._++_ t92 (List._++_ t2 t91)); slots = List._∷_ (Row.lease (κs .0) (qs .0)) (List._∷_ (Row.lease (κs .1 .0) (qs .1 .0)) (List._∷_ (Row.lease (κs .1 .1 .0) (qs .1
-            .1 .0)) (List._∷_ (Row.lease (κs .1 .1 .1 .0) (qs .1 .1 .1 .0)) (List._∷_ (Row.lease (κs .1 .1 .1 .1 .0) (qs .1 .1 .1 .1 .0)) (List._∷_ (Row.lease (κs .1 .1 .1 .1 .1 .0) (qs .1 .1 .1 .1 .1
-            .0)) (List._∷_ Row.off (List._∷_ Row.off (List._∷_ Row.off (List._∷_ Row.off (List._∷_ Row.off (List._∷_ Row.off (List._∷_ Row.off (List._∷_ Row.off (List._∷_ Row.off (List._∷_ Row.off
-            List.[]))))))))))))))); }
+        G145 = record {
+          locals = List._++_ t75 (List._++_ t92 (List._++_ t2 t91));
+          slots = List._∷_ (Row.lease (κs .0) (qs .0)) (List._∷_ (Row.lease (κs .1 .0) (qs .1 .0)) (List._∷_ (Row.lease (κs .1 .1 .0) (qs .1
+              .1 .0)) (List._∷_ (Row.lease (κs .1 .1 .1 .0) (qs .1 .1 .1 .0)) (List._∷_ (Row.lease (κs .1 .1 .1 .1 .0) (qs .1 .1 .1 .1 .0)) (List._∷_ (Row.lease (κs .1 .1 .1 .1 .1 .0) (qs .1 .1 .1 .1 .1
+              .0)) (List._∷_ Row.off (List._∷_ Row.off (List._∷_ Row.off (List._∷_ Row.off (List._∷_ Row.off (List._∷_ Row.off (List._∷_ Row.off (List._∷_ Row.off (List._∷_ Row.off (List._∷_ Row.off
+              List.[])))))))))))))));
+        }
 
         abbrev G146 : Row.Cx
-        G146 = record
-            { locals = List._++_ t93 (List._++_ t92 (List._++_ t2 t91)); slots = List._∷_ (Row.lease (κs .0) (qs .0)) (List._∷_ (Row.lease (κs .1 .0) (qs .1 .0)) (List._∷_ (Row.lease (κs .1 .1 .0) (qs .1
-            .1 .0)) (List._∷_ (Row.lease (κs .1 .1 .1 .0) (qs .1 .1 .1 .0)) (List._∷_ (Row.lease (κs .1 .1 .1 .1 .0) (qs .1 .1 .1 .1 .0)) (List._∷_ (Row.lease (κs .1 .1 .1 .1 .1 .0) (qs .1 .1 .1 .1 .1
-            .0)) (List._∷_ Row.off (List._∷_ Row.off (List._∷_ Row.off (List._∷_ Row.off (List._∷_ Row.off (List._∷_ Row.off (List._∷_ Row.off (List._∷_ Row.off (List._∷_ Row.off (List._∷_ Row.off
-            List.[]))))))))))))))); }
+        G146 = record {
+          locals = List._++_ t93 (List._++_ t92 (List._++_ t2 t91));
+          slots = List._∷_ (Row.lease (κs .0) (qs .0)) (List._∷_ (Row.lease (κs .1 .0) (qs .1 .0)) (List._∷_ (Row.lease (κs .1 .1 .0) (qs .1
+              .1 .0)) (List._∷_ (Row.lease (κs .1 .1 .1 .0) (qs .1 .1 .1 .0)) (List._∷_ (Row.lease (κs .1 .1 .1 .1 .0) (qs .1 .1 .1 .1 .0)) (List._∷_ (Row.lease (κs .1 .1 .1 .1 .1 .0) (qs .1 .1 .1 .1 .1
+              .0)) (List._∷_ Row.off (List._∷_ Row.off (List._∷_ Row.off (List._∷_ Row.off (List._∷_ Row.off (List._∷_ Row.off (List._∷_ Row.off (List._∷_ Row.off (List._∷_ Row.off (List._∷_ Row.off
+              List.[])))))))))))))));
+        }
 
         abbrev G147 : Row.Cx
-        G147 = record
-            { locals = List._++_ t94 (List._++_ t92 (List._++_ t2 t91)); slots = List._∷_ (Row.lease (κs .0) (qs .0)) (List._∷_ (Row.lease (κs .1 .0) (qs .1 .0)) (List._∷_ (Row.lease (κs .1 .1 .0) (qs .1
-            .1 .0)) (List._∷_ (Row.lease (κs .1 .1 .1 .0) (qs .1 .1 .1 .0)) (List._∷_ (Row.lease (κs .1 .1 .1 .1 .0) (qs .1 .1 .1 .1 .0)) (List._∷_ (Row.lease (κs .1 .1 .1 .1 .1 .0) (qs .1 .1 .1 .1 .1
-            .0)) (List._∷_ Row.off (List._∷_ Row.off (List._∷_ Row.off (List._∷_ Row.off (List._∷_ Row.off (List._∷_ Row.off (List._∷_ Row.off (List._∷_ Row.off (List._∷_ Row.off (List._∷_ Row.off
-            List.[]))))))))))))))); }
+        G147 = record {
+          locals = List._++_ t94 (List._++_ t92 (List._++_ t2 t91));
+          slots = List._∷_ (Row.lease (κs .0) (qs .0)) (List._∷_ (Row.lease (κs .1 .0) (qs .1 .0)) (List._∷_ (Row.lease (κs .1 .1 .0) (qs .1
+              .1 .0)) (List._∷_ (Row.lease (κs .1 .1 .1 .0) (qs .1 .1 .1 .0)) (List._∷_ (Row.lease (κs .1 .1 .1 .1 .0) (qs .1 .1 .1 .1 .0)) (List._∷_ (Row.lease (κs .1 .1 .1 .1 .1 .0) (qs .1 .1 .1 .1 .1
+              .0)) (List._∷_ Row.off (List._∷_ Row.off (List._∷_ Row.off (List._∷_ Row.off (List._∷_ Row.off (List._∷_ Row.off (List._∷_ Row.off (List._∷_ Row.off (List._∷_ Row.off (List._∷_ Row.off
+              List.[])))))))))))))));
+        }
 
         abbrev G148 : Row.Cx
-        G148 = record
-            { locals = List._++_ t95 (List._++_ t92 (List._++_ t2 t91)); slots = List._∷_ (Row.lease (κs .0) (qs .0)) (List._∷_ (Row.lease (κs .1 .0) (qs .1 .0)) (List._∷_ (Row.lease (κs .1 .1 .0) (qs .1
-            .1 .0)) (List._∷_ (Row.lease (κs .1 .1 .1 .0) (qs .1 .1 .1 .0)) (List._∷_ (Row.lease (κs .1 .1 .1 .1 .0) (qs .1 .1 .1 .1 .0)) (List._∷_ (Row.lease (κs .1 .1 .1 .1 .1 .0) (qs .1 .1 .1 .1 .1
-            .0)) (List._∷_ Row.off (List._∷_ Row.off (List._∷_ Row.off (List._∷_ Row.off (List._∷_ Row.off (List._∷_ Row.off (List._∷_ Row.off (List._∷_ Row.off (List._∷_ Row.off (List._∷_ Row.off
-            List.[]))))))))))))))); }
+        G148 = record {
+          locals = List._++_ t95 (List._++_ t92 (List._++_ t2 t91));
+          slots = List._∷_ (Row.lease (κs .0) (qs .0)) (List._∷_ (Row.lease (κs .1 .0) (qs .1 .0)) (List._∷_ (Row.lease (κs .1 .1 .0) (qs .1
+              .1 .0)) (List._∷_ (Row.lease (κs .1 .1 .1 .0) (qs .1 .1 .1 .0)) (List._∷_ (Row.lease (κs .1 .1 .1 .1 .0) (qs .1 .1 .1 .1 .0)) (List._∷_ (Row.lease (κs .1 .1 .1 .1 .1 .0) (qs .1 .1 .1 .1 .1
+              .0)) (List._∷_ Row.off (List._∷_ Row.off (List._∷_ Row.off (List._∷_ Row.off (List._∷_ Row.off (List._∷_ Row.off (List._∷_ Row.off (List._∷_ Row.off (List._∷_ Row.off (List._∷_ Row.off
+              List.[])))))))))))))));
+        }
 
         abbrev G149 : Row.Cx
-        G149 = record
-            { locals = List._++_ t95 (List._++_ t96 (List._++_ t2 t91)); slots = List._∷_ (Row.lease (κs .0) (qs .0)) (List._∷_ (Row.lease (κs .1 .0) (qs .1 .0)) (List._∷_ (Row.lease (κs .1 .1 .0) (qs .1
-            .1 .0)) (List._∷_ (Row.lease (κs .1 .1 .1 .0) (qs .1 .1 .1 .0)) (List._∷_ (Row.lease (κs .1 .1 .1 .1 .0) (qs .1 .1 .1 .1 .0)) (List._∷_ (Row.lease (κs .1 .1 .1 .1 .1 .0) (qs .1 .1 .1 .1 .1
-            .0)) (List._∷_ Row.off (List._∷_ Row.off (List._∷_ Row.off (List._∷_ Row.off (List._∷_ Row.off (List._∷_ Row.off (List._∷_ Row.off (List._∷_ Row.off (List._∷_ Row.off (List._∷_ Row.off
-            List.[]))))))))))))))); }
+        G149 = record {
+          locals = List._++_ t95 (List._++_ t96 (List._++_ t2 t91));
+          slots = List._∷_ (Row.lease (κs .0) (qs .0)) (List._∷_ (Row.lease (κs .1 .0) (qs .1 .0)) (List._∷_ (Row.lease (κs .1 .1 .0) (qs .1
+              .1 .0)) (List._∷_ (Row.lease (κs .1 .1 .1 .0) (qs .1 .1 .1 .0)) (List._∷_ (Row.lease (κs .1 .1 .1 .1 .0) (qs .1 .1 .1 .1 .0)) (List._∷_ (Row.lease (κs .1 .1 .1 .1 .1 .0) (qs .1 .1 .1 .1 .1
+              .0)) (List._∷_ Row.off (List._∷_ Row.off (List._∷_ Row.off (List._∷_ Row.off (List._∷_ Row.off (List._∷_ Row.off (List._∷_ Row.off (List._∷_ Row.off (List._∷_ Row.off (List._∷_ Row.off
+              List.[])))))))))))))));
+        }
 
         abbrev G150 : Row.Cx
-        G150 = record
-            { locals = List._++_ t95 (List._++_ t1 (List._++_ t2 t91)); slots = List._∷_ (Row.lease (κs .0) (qs .0)) (List._∷_ (Row.lease (κs .1 .0) (qs .1 .0)) (List._∷_ (Row.lease (κs .1 .1 .0) (qs .1
-            .1 .0)) (List._∷_ (Row.lease (κs .1 .1 .1 .0) (qs .1 .1 .1 .0)) (List._∷_ (Row.lease (κs .1 .1 .1 .1 .0) (qs .1 .1 .1 .1 .0)) (List._∷_ (Row.lease (κs .1 .1 .1 .1 .1 .0) (qs .1 .1 .1 .1 .1
-            .0)) (List._∷_ Row.off (List._∷_ Row.off (List._∷_ Row.off (List._∷_ Row.off (List._∷_ Row.off (List._∷_ Row.off (List._∷_ Row.off (List._∷_ Row.off (List._∷_ Row.off (List._∷_ Row.off
-            List.[]))))))))))))))); }
+        G150 = record {
+          locals = List._++_ t95 (List._++_ t1 (List._++_ t2 t91));
+          slots = List._∷_ (Row.lease (κs .0) (qs .0)) (List._∷_ (Row.lease (κs .1 .0) (qs .1 .0)) (List._∷_ (Row.lease (κs .1 .1 .0) (qs .1
+              .1 .0)) (List._∷_ (Row.lease (κs .1 .1 .1 .0) (qs .1 .1 .1 .0)) (List._∷_ (Row.lease (κs .1 .1 .1 .1 .0) (qs .1 .1 .1 .1 .0)) (List._∷_ (Row.lease (κs .1 .1 .1 .1 .1 .0) (qs .1 .1 .1 .1 .1
+              .0)) (List._∷_ Row.off (List._∷_ Row.off (List._∷_ Row.off (List._∷_ Row.off (List._∷_ Row.off (List._∷_ Row.off (List._∷_ Row.off (List._∷_ Row.off (List._∷_ Row.off (List._∷_ Row.off
+              List.[])))))))))))))));
+        }
 
         abbrev G151 : Row.Cx
-        G151 = record
-            { locals = List._++_ t95 (List._++_ t1 (List._++_ t2 t3)); slots = List._∷_ (Row.lease (κs .0) (qs .0)) (List._∷_ (Row.lease (κs .1 .0) (qs .1 .0)) (List._∷_ (Row.lease (κs .1 .1 .0) (qs .1 .1
-            .0)) (List._∷_ (Row.lease (κs .1 .1 .1 .0) (qs .1 .1 .1 .0)) (List._∷_ (Row.lease (κs .1 .1 .1 .1 .0) (qs .1 .1 .1 .1 .0)) (List._∷_ (Row.lease (κs .1 .1 .1 .1 .1 .0) (qs .1 .1 .1 .1 .1 .0))
-            (List._∷_ Row.off (List._∷_ Row.off (List._∷_ Row.off (List._∷_ Row.off (List._∷_ Row.off (List._∷_ Row.off (List._∷_ Row.off (List._∷_ Row.off (List._∷_ Row.off (List._∷_ Row.off
-            List.[]))))))))))))))); }
+        G151 = record {
+          locals = List._++_ t95 (List._++_ t1 (List._++_ t2 t3));
+          slots = List._∷_ (Row.lease (κs .0) (qs .0)) (List._∷_ (Row.lease (κs .1 .0) (qs .1 .0)) (List._∷_ (Row.lease (κs .1 .1 .0) (qs .1 .1
+              .0)) (List._∷_ (Row.lease (κs .1 .1 .1 .0) (qs .1 .1 .1 .0)) (List._∷_ (Row.lease (κs .1 .1 .1 .1 .0) (qs .1 .1 .1 .1 .0)) (List._∷_ (Row.lease (κs .1 .1 .1 .1 .1 .0) (qs .1 .1 .1 .1 .1 .0))
+              (List._∷_ Row.off (List._∷_ Row.off (List._∷_ Row.off (List._∷_ Row.off (List._∷_ Row.off (List._∷_ Row.off (List._∷_ Row.off (List._∷_ Row.off (List._∷_ Row.off (List._∷_ Row.off
+              List.[])))))))))))))));
+        }
 
         abbrev G152 : Row.Cx
-        G152 = record
-            { locals = List._++_ t97 (List._++_ t1 (List._++_ t2 t3)); slots = List._∷_ (Row.lease (κs .0) (qs .0)) (List._∷_ (Row.lease (κs .1 .0) (qs .1 .0)) (List._∷_ (Row.lease (κs .1 .1 .0) (qs .1 .1
-            .0)) (List._∷_ (Row.lease (κs .1 .1 .1 .0) (qs .1 .1 .1 .0)) (List._∷_ (Row.lease (κs .1 .1 .1 .1 .0) (qs .1 .1 .1 .1 .0)) (List._∷_ (Row.lease (κs .1 .1 .1 .1 .1 .0) (qs .1 .1 .1 .1 .1 .0))
-            (List._∷_ Row.off (List._∷_ Row.off (List._∷_ Row.off (List._∷_ Row.off (List._∷_ Row.off (List._∷_ Row.off (List._∷_ Row.off (List._∷_ Row.off (List._∷_ Row.off (List._∷_ Row.off
-            List.[]))))))))))))))); }
+        G152 = record {
+          locals = List._++_ t97 (List._++_ t1 (List._++_ t2 t3));
+          slots = List._∷_ (Row.lease (κs .0) (qs .0)) (List._∷_ (Row.lease (κs .1 .0) (qs .1 .0)) (List._∷_ (Row.lease (κs .1 .1 .0) (qs .1 .1
+              .0)) (List._∷_ (Row.lease (κs .1 .1 .1 .0) (qs .1 .1 .1 .0)) (List._∷_ (Row.lease (κs .1 .1 .1 .1 .0) (qs .1 .1 .1 .1 .0)) (List._∷_ (Row.lease (κs .1 .1 .1 .1 .1 .0) (qs .1 .1 .1 .1 .1 .0))
+              (List._∷_ Row.off (List._∷_ Row.off (List._∷_ Row.off (List._∷_ Row.off (List._∷_ Row.off (List._∷_ Row.off (List._∷_ Row.off (List._∷_ Row.off (List._∷_ Row.off (List._∷_ Row.off
+              List.[])))))))))))))));
+        }
 
         abbrev G153 : Row.Cx
-        G153 = record
-            { locals = List._++_ t4 (List._++_ t1 (List._++_ t2 t3)); slots = List._∷_ (Row.lease (κs .0) (qs .0)) (List._∷_ (Row.lease (κs .1 .0) (qs .1 .0)) (List._∷_ (Row.lease (κs .1 .1 .0) (qs .1 .1
-            .0)) (List._∷_ (Row.lease (κs .1 .1 .1 .0) (qs .1 .1 .1 .0)) (List._∷_ (Row.lease (κs .1 .1 .1 .1 .0) (qs .1 .1 .1 .1 .0)) (List._∷_ (Row.lease (κs .1 .1 .1 .1 .1 .0) (qs .1 .1 .1 .1 .1 .0))
-            (List._∷_ Row.off (List._∷_ Row.off (List._∷_ Row.off (List._∷_ Row.off (List._∷_ Row.off (List._∷_ Row.off (List._∷_ Row.off (List._∷_ Row.off (List._∷_ Row.off (List._∷_ Row.off
-            List.[]))))))))))))))); }
+        G153 = record {
+          locals = List._++_ t4 (List._++_ t1 (List._++_ t2 t3));
+          slots = List._∷_ (Row.lease (κs .0) (qs .0)) (List._∷_ (Row.lease (κs .1 .0) (qs .1 .0)) (List._∷_ (Row.lease (κs .1 .1 .0) (qs .1 .1
+              .0)) (List._∷_ (Row.lease (κs .1 .1 .1 .0) (qs .1 .1 .1 .0)) (List._∷_ (Row.lease (κs .1 .1 .1 .1 .0) (qs .1 .1 .1 .1 .0)) (List._∷_ (Row.lease (κs .1 .1 .1 .1 .1 .0) (qs .1 .1 .1 .1 .1 .0))
+              (List._∷_ Row.off (List._∷_ Row.off (List._∷_ Row.off (List._∷_ Row.off (List._∷_ Row.off (List._∷_ Row.off (List._∷_ Row.off (List._∷_ Row.off (List._∷_ Row.off (List._∷_ Row.off
+              List.[])))))))))))))));
+        }
 
         abbrev Δ0 : Typed.Outs
         Δ0 = record { next = Option.none; exits = List.[]; returns = Option.some G1 }
@@ -3864,9 +4462,11 @@ module _ (claims· : Claims) where
               s85) (CopyOut.t-copy-told 𝓤 H A W E 𝓣 (Declared'.row Place.the-type) Path'.refl (Laws'10.val Place.the-type Laws'4.the-laws) (Laws'10.lawful Place.the-type Laws'4.the-laws 𝓤 H A W)
               (Laws'10.makes Place.the-type Laws'4.the-plain 𝓤 H A) G88 21 (Scalar.oFld 20 (List._∷_ (Syntax.variant 0) (List._∷_ (Syntax.field 1) List.[])) y10 8 λ v. Laws'10.val Place.the-type
               Laws'4.the-laws (v .0)) (λ m. m .1 .1 .1 .1 .1 .1 .1 .1 .1 .1 .1 .1 .1 .1 .1 .1 .1 .1 .1 .1 .0 .0) (λ m. Laws'9.Fields (Declared.variants Lined.the-type) (Laws'9.spellss (Lined.enum .parts)
-              Laws'.the-laws) (Lined.the-type .to (Known.at Lined.enum 0 (m .1 .1 .1 .1 .1 .1 .1 .1 .1 .1 .1 .1 .1 .1 .1 .1 .1 .1 .1 .1 .0)))) (Reads'.room-gone 𝓤 H A y10)
-              (Match.reads-payload 𝓤 H A W Lined.enum Laws'.the-laws 0 Path'.refl Path'.refl (λ v. Val.vcons (Laws'10.val Place.the-type Laws'4.the-laws (v .0)) Val.vnil) (λ v. Path'.refl) 0 y10 8
-              Path'.refl, Path'.refl) Path'.refl (λ ρ m. Make'.tells-row 𝓤 H A W E ρ (Row.out 21 (G88 .locals)) m 20 (Laws'9.Fields (Declared.variants Lined.the-type) (Laws'9.spellss (Lined.enum .parts)
+              Laws'.the-laws) (Lined.the-type .to (Known.at Lined.enum 0 (m .1 .1 .1 .1 .1 .1 .1 .1 .1 .1 .1 .1 .1 .1 .1 .1 .1 .1 .1 .1 .0)))) (Reads'.room-gone 𝓤 H A y10) (
+                Match.reads-payload 𝓤 H A W Lined.enum Laws'.the-laws 0 Path'.refl Path'.refl (λ v. Val.vcons (Laws'10.val Place.the-type Laws'4.the-laws (v .0)) Val.vnil) (λ v. Path'.refl) 0 y10 8
+                    Path'.refl,
+                Path'.refl,
+              ) Path'.refl (λ ρ m. Make'.tells-row 𝓤 H A W E ρ (Row.out 21 (G88 .locals)) m 20 (Laws'9.Fields (Declared.variants Lined.the-type) (Laws'9.spellss (Lined.enum .parts)
               Laws'.the-laws) (Lined.the-type .to (Known.at Lined.enum 0 (m .1 .1 .1 .1 .1 .1 .1 .1 .1 .1 .1 .1 .1 .1 .1 .1 .1 .1 .1 .1 .0)))) (Known.known-is 𝓤 H A W E Lined.enum 0 Laws'.the-laws ρ 20 (m
               .1 .1 .1 .1 .1 .1 .1 .1 .1 .1 .1 .1 .1 .1 .1 .1 .1 .1 .1 .1 .0))) (λ m k wa. Path'.refl) λ m k wa. k .0) (Scalar.g-room 𝓤 H A W E G89 20 (Syntax.tyEnum (List._∷_ 98 (List._∷_ 108 (List._∷_
               111 (List._∷_ 99 (List._∷_ 107 (List._∷_ 58 (List._∷_ 58 (List._∷_ 76 (List._∷_ 105 (List._∷_ 110 (List._∷_ 101 (List._∷_ 100 List.[])))))))))))) (Syntax.ttcons (Syntax.tcons y10
@@ -3916,26 +4516,37 @@ module _ (claims· : Claims) where
           d22 : Typed.Typed 𝓤 H A 𝓣 E G108 b41 Δ5 at22
           d22 = Typed.s-seq 𝓤 H A W 𝓣 E G108 G109 b39 b40 Δ5 (Typed.pass T108 T109 s104) at21 (Make.t-enum-make-wt 𝓤 H A W E 𝓣 Walked.the-type Laws''.the-laws Laws''.the-plain tt G108 0 (List._∷_
               (Scalar.oInt Syntax.w8 1) (List._∷_ (Scalar.oAt 18 (Syntax.tyInt Syntax.w64) (Row.valS (Row.sInt Syntax.w64))) (List._∷_ (Scalar.oAt 44 y3 (Laws'10.val Totals.the-type Laws'8.the-laws))
-              List.[]))) (λ m. Walked.enum .make (Logic.inr (Logic.inl
-              (m .1 .1 .1 .1 .1 .1 .1 .1 .1 .1 .1 .1 .1 .1 .1 .1 .1 .1 .0,
-              (m .1 .1 .1 .1 .1 .1 .1 .1 .1 .1 .1 .1 .1 .1 .1 .1 .1 .1 .1 .1 .1 .1 .1 .1 .1 .1 .1 .1 .1 .1 .1 .1 .1 .1 .1 .1 .1 .1 .1 .1 .1 .1 .1 .1 .0, tt))))) (Reads'.room-gone 𝓤 H A (Syntax.tyEnum
+              List.[]))) (λ m. Walked.enum .make (Logic.inr (Logic.inl (
+                m .1 .1 .1 .1 .1 .1 .1 .1 .1 .1 .1 .1 .1 .1 .1 .1 .1 .1 .0,
+                (m .1 .1 .1 .1 .1 .1 .1 .1 .1 .1 .1 .1 .1 .1 .1 .1 .1 .1 .1 .1 .1 .1 .1 .1 .1 .1 .1 .1 .1 .1 .1 .1 .1 .1 .1 .1 .1 .1 .1 .1 .1 .1 .1 .1 .0, tt),
+              )))) (Reads'.room-gone 𝓤 H A (Syntax.tyEnum
               (List._∷_ 98 (List._∷_ 108 (List._∷_ 111 (List._∷_ 99 (List._∷_ 107 (List._∷_ 58 (List._∷_ 58 (List._∷_ 87 (List._∷_ 97 (List._∷_ 108 (List._∷_ 107 (List._∷_ 101 (List._∷_ 100
               List.[]))))))))))))) (Syntax.ttcons (Syntax.tcons y3 (Syntax.tcons y9 Syntax.tnil)) (Syntax.ttcons (Syntax.tcons (Syntax.tyInt Syntax.w64) (Syntax.tcons y3 Syntax.tnil)) Syntax.ttnil))))
               (tt, ((Scalar.reads-sc 𝓤 H A W (Row.sInt Syntax.w64), Path'.refl), ((Reads.reads-struct 𝓤 H A W Totals.the-type Laws'8.the-laws, Path'.refl), tt))) Path'.refl (λ m wa. Make.made-val
               Walked.the-type Laws''.the-laws (List._∷_ (Laws''.the-laws .1 .0 .0 .val (m .1 .1 .1 .1 .1 .1 .1 .1 .1 .1 .1 .1 .1 .1 .1 .1 .1 .1 .0)) (List._∷_ (Laws'10.val Totals.the-type Laws'8.the-laws
-              (m .1 .1 .1 .1 .1 .1 .1 .1 .1 .1 .1 .1 .1 .1 .1 .1 .1 .1 .1 .1 .1 .1 .1 .1 .1 .1 .1 .1 .1 .1 .1 .1 .1 .1 .1 .1 .1 .1 .1 .1 .1 .1 .1 .1 .0)) List.[])) (Walked.enum .make (Logic.inr (Logic.inl
-              (m .1 .1 .1 .1 .1 .1 .1 .1 .1 .1 .1 .1 .1 .1 .1 .1 .1 .1 .0,
-              (m .1 .1 .1 .1 .1 .1 .1 .1 .1 .1 .1 .1 .1 .1 .1 .1 .1 .1 .1 .1 .1 .1 .1 .1 .1 .1 .1 .1 .1 .1 .1 .1 .1 .1 .1 .1 .1 .1 .1 .1 .1 .1 .1 .1 .0, tt)))))
-              (Signed.made-wt Field.u64-field (Laws''.the-laws .1 .0 .0) Make'.u64-wt (m .1 .1 .1 .1 .1 .1 .1 .1 .1 .1 .1 .1 .1 .1 .1 .1 .1 .1 .0),
-              (Signed.made-wt Totals.the-field Laws'8.the-field-laws (Make'.struct-wt Totals.the-type Laws'8.the-laws (Make'.u64-wt, (Make'.u64-wt, tt))) (Totals.the-type .to (m .1 .1 .1 .1 .1 .1 .1 .1 .1
-              .1 .1 .1 .1 .1 .1 .1 .1 .1 .1 .1 .1 .1 .1 .1 .1 .1 .1 .1 .1 .1 .1 .1 .1 .1 .1 .1 .1 .1 .1 .1 .1 .1 .1 .1 .0)), tt)) (wa .1)) λ m wa. Make.made-is Walked.the-type Laws''.the-laws (List._∷_
+              (m .1 .1 .1 .1 .1 .1 .1 .1 .1 .1 .1 .1 .1 .1 .1 .1 .1 .1 .1 .1 .1 .1 .1 .1 .1 .1 .1 .1 .1 .1 .1 .1 .1 .1 .1 .1 .1 .1 .1 .1 .1 .1 .1 .1 .0)) List.[])) (Walked.enum .make (Logic.inr (Logic.inl (
+                m .1 .1 .1 .1 .1 .1 .1 .1 .1 .1 .1 .1 .1 .1 .1 .1 .1 .1 .0,
+                (m .1 .1 .1 .1 .1 .1 .1 .1 .1 .1 .1 .1 .1 .1 .1 .1 .1 .1 .1 .1 .1 .1 .1 .1 .1 .1 .1 .1 .1 .1 .1 .1 .1 .1 .1 .1 .1 .1 .1 .1 .1 .1 .1 .1 .0, tt),
+              )))) (
+                Signed.made-wt Field.u64-field (Laws''.the-laws .1 .0 .0) Make'.u64-wt (m .1 .1 .1 .1 .1 .1 .1 .1 .1 .1 .1 .1 .1 .1 .1 .1 .1 .1 .0),
+                (
+                  Signed.made-wt Totals.the-field Laws'8.the-field-laws (Make'.struct-wt Totals.the-type Laws'8.the-laws (Make'.u64-wt, (Make'.u64-wt, tt))) (Totals.the-type .to (m .1 .1 .1 .1 .1 .1 .1 .1 .1
+                      .1 .1 .1 .1 .1 .1 .1 .1 .1 .1 .1 .1 .1 .1 .1 .1 .1 .1 .1 .1 .1 .1 .1 .1 .1 .1 .1 .1 .1 .1 .1 .1 .1 .1 .1 .0)),
+                  tt,
+                ),
+              ) (wa .1)) λ m wa. Make.made-is Walked.the-type Laws''.the-laws (List._∷_
               (Laws''.the-laws .1 .0 .0 .val (m .1 .1 .1 .1 .1 .1 .1 .1 .1 .1 .1 .1 .1 .1 .1 .1 .1 .1 .0)) (List._∷_ (Laws'10.val Totals.the-type Laws'8.the-laws (m .1 .1 .1 .1 .1 .1 .1 .1 .1 .1 .1 .1 .1
-              .1 .1 .1 .1 .1 .1 .1 .1 .1 .1 .1 .1 .1 .1 .1 .1 .1 .1 .1 .1 .1 .1 .1 .1 .1 .1 .1 .1 .1 .1 .1 .0)) List.[])) (Walked.enum .make (Logic.inr (Logic.inl
-              (m .1 .1 .1 .1 .1 .1 .1 .1 .1 .1 .1 .1 .1 .1 .1 .1 .1 .1 .0,
-              (m .1 .1 .1 .1 .1 .1 .1 .1 .1 .1 .1 .1 .1 .1 .1 .1 .1 .1 .1 .1 .1 .1 .1 .1 .1 .1 .1 .1 .1 .1 .1 .1 .1 .1 .1 .1 .1 .1 .1 .1 .1 .1 .1 .1 .0, tt)))))
-              (Signed.made-wt Field.u64-field (Laws''.the-laws .1 .0 .0) Make'.u64-wt (m .1 .1 .1 .1 .1 .1 .1 .1 .1 .1 .1 .1 .1 .1 .1 .1 .1 .1 .0),
-              (Signed.made-wt Totals.the-field Laws'8.the-field-laws (Make'.struct-wt Totals.the-type Laws'8.the-laws (Make'.u64-wt, (Make'.u64-wt, tt))) (Totals.the-type .to (m .1 .1 .1 .1 .1 .1 .1 .1 .1
-              .1 .1 .1 .1 .1 .1 .1 .1 .1 .1 .1 .1 .1 .1 .1 .1 .1 .1 .1 .1 .1 .1 .1 .1 .1 .1 .1 .1 .1 .1 .1 .1 .1 .1 .1 .0)), tt)) (wa .1)) d21
+              .1 .1 .1 .1 .1 .1 .1 .1 .1 .1 .1 .1 .1 .1 .1 .1 .1 .1 .1 .1 .1 .1 .1 .1 .1 .1 .1 .1 .1 .1 .1 .0)) List.[])) (Walked.enum .make (Logic.inr (Logic.inl (
+                m .1 .1 .1 .1 .1 .1 .1 .1 .1 .1 .1 .1 .1 .1 .1 .1 .1 .1 .0,
+                (m .1 .1 .1 .1 .1 .1 .1 .1 .1 .1 .1 .1 .1 .1 .1 .1 .1 .1 .1 .1 .1 .1 .1 .1 .1 .1 .1 .1 .1 .1 .1 .1 .1 .1 .1 .1 .1 .1 .1 .1 .1 .1 .1 .1 .0, tt),
+              )))) (
+                Signed.made-wt Field.u64-field (Laws''.the-laws .1 .0 .0) Make'.u64-wt (m .1 .1 .1 .1 .1 .1 .1 .1 .1 .1 .1 .1 .1 .1 .1 .1 .1 .1 .0),
+                (
+                  Signed.made-wt Totals.the-field Laws'8.the-field-laws (Make'.struct-wt Totals.the-type Laws'8.the-laws (Make'.u64-wt, (Make'.u64-wt, tt))) (Totals.the-type .to (m .1 .1 .1 .1 .1 .1 .1 .1 .1
+                      .1 .1 .1 .1 .1 .1 .1 .1 .1 .1 .1 .1 .1 .1 .1 .1 .1 .1 .1 .1 .1 .1 .1 .1 .1 .1 .1 .1 .1 .1 .1 .1 .1 .1 .1 .0)),
+                  tt,
+                ),
+              ) (wa .1)) d21
 
           d23 : Typed.Typed 𝓤 H A 𝓣 E G107 b41 Δ5 at23
           d23 = Typed.g-pre 𝓤 H A W 𝓣 E G107 G108 b41 Δ5 (Typed.pass T107 T108 s103) at22 (Scalar.g-room 𝓤 H A W E G107 16 y10 (Local.room-whole 𝓤 H A W (Declared'.row Place.the-type) y10 Path'.refl))
@@ -3943,9 +4554,14 @@ module _ (claims· : Claims) where
 
           d24 : Typed.Typed 𝓤 H A 𝓣 E G106 b42 Δ5 at24
           d24 = Typed.s-seq 𝓤 H A W 𝓣 E G106 G107 b38 b41 Δ5 (Typed.both s102) at23 (Plain.t-call-plain 𝓤 H A W 𝓣 0 ps·12 r·12 (claims· .24) (claims· .25) "block::reading::totals_at" (known .12) E (λ
-              pos β. β) G106 (record { pos = 16; st = List.[]; d = 0; at = λ x. x }, tt) 44 List.[] (Call.sub-id 𝓤 H A W (G106 .slots))
-              ((Yields.yields-copy 𝓤 H A W (λ ρ. Unit) (Declared'.row Place.the-type) Path'.refl (Copies.cStruct Place.the-type Laws'4.the-laws Laws'4.the-copy .copy 𝓤 H A W) (Rows'.whole (Declared'.row
-              Place.the-type)) (λ x. x) (λ x. x) (λ ρ told. Local.mem-whole 𝓤 H A W (Declared'.row Place.the-type) ρ) λ ρ told. Local.whole-mem 𝓤 H A W (Declared'.row Place.the-type) ρ, Path'.refl), tt)
+              pos β. β) G106 (record { pos = 16; st = List.[]; d = 0; at = λ x. x }, tt) 44 List.[] (Call.sub-id 𝓤 H A W (G106 .slots)) (
+                (
+                  Yields.yields-copy 𝓤 H A W (λ ρ. Unit) (Declared'.row Place.the-type) Path'.refl (Copies.cStruct Place.the-type Laws'4.the-laws Laws'4.the-copy .copy 𝓤 H A W) (Rows'.whole (Declared'.row
+                      Place.the-type)) (λ x. x) (λ x. x) (λ ρ told. Local.mem-whole 𝓤 H A W (Declared'.row Place.the-type) ρ) λ ρ told. Local.whole-mem 𝓤 H A W (Declared'.row Place.the-type) ρ,
+                  Path'.refl,
+                ),
+                tt,
+              )
               (Reads'.room-gone 𝓤 H A y3) tt Path'.refl) d23
 
           d25 : Typed.Typed 𝓤 H A 𝓣 E G105 b42 Δ5 at25
@@ -3973,22 +4589,33 @@ module _ (claims· : Claims) where
 
           d31 : Typed.Typed 𝓤 H A 𝓣 E G99 b43 Δ5 at31
           d31 = Typed.s-seq 𝓤 H A W 𝓣 E G99 G100 b37 b42 Δ5 (Typed.both s95) at30 (Plain.t-call-plain 𝓤 H A W 𝓣 1 ps·11 r·11 (claims· .22) (claims· .23) "map::windows::zero_line" (known .11) E (λ pos
-              β. β) G99
-              (record { pos = 43; ty = Syntax.tyRef Syntax.erased Syntax.mut (Syntax.tyInt Syntax.w16); ref = λ x. x; },
-              (record { pos = 9; st = List.[]; d = 0; at = λ x. x }, (Num.vAt 18 λ x. x, (Bool.bAt 11 λ x. x, tt)))) 41 (List._∷_ 13 List.[]) (Call.sub-id 𝓤 H A W (G99 .slots))
-              (Reads'.as-is 𝓤 H A (Mut.mslice (Referent.rtF (Referent.fInt Syntax.w16)) (Syntax.tyRef Syntax.erased Syntax.mut (Syntax.tyInt Syntax.w16)) 13), Mut.reads-mslice 𝓤 H A W (Referent.rtF
-              (Referent.fInt Syntax.w16)) (Syntax.tyRef Syntax.erased Syntax.mut (Syntax.tyInt Syntax.w16)) 13, Path'.refl,
-              ((Yields.yields-copy 𝓤 H A W (λ ρ. Unit) (Declared'.row Part.the-type) Path'.refl (Copies.cStruct Part.the-type Laws'5.the-laws Laws'5.the-copy .copy 𝓤 H A W) (Rows'.whole (Declared'.row
-              Part.the-type)) (λ x. x) (λ x. x) (λ ρ told. Local.mem-whole 𝓤 H A W (Declared'.row Part.the-type) ρ) λ ρ told. Local.whole-mem 𝓤 H A W (Declared'.row Part.the-type) ρ, Path'.refl),
-              ((Scalar.reads-sc 𝓤 H A W (Row.sInt Syntax.w64), Path'.refl), ((Scalar.reads-sc 𝓤 H A W Row.sBool, Path'.refl), tt)))) (Reads'.room-gone 𝓤 H A Syntax.tyUnit) (tt, tt) Path'.refl) d30
+              β. β) G99 (
+                record { pos = 43; ty = Syntax.tyRef Syntax.erased Syntax.mut (Syntax.tyInt Syntax.w16); ref = λ x. x },
+                (record { pos = 9; st = List.[]; d = 0; at = λ x. x }, (Num.vAt 18 λ x. x, (Bool.bAt 11 λ x. x, tt))),
+              ) 41 (List._∷_ 13 List.[]) (Call.sub-id 𝓤 H A W (G99 .slots)) (
+                Reads'.as-is 𝓤 H A (Mut.mslice (Referent.rtF (Referent.fInt Syntax.w16)) (Syntax.tyRef Syntax.erased Syntax.mut (Syntax.tyInt Syntax.w16)) 13),
+                Mut.reads-mslice 𝓤 H A W (Referent.rtF
+                    (Referent.fInt Syntax.w16)) (Syntax.tyRef Syntax.erased Syntax.mut (Syntax.tyInt Syntax.w16)) 13,
+                Path'.refl,
+                (
+                  (
+                    Yields.yields-copy 𝓤 H A W (λ ρ. Unit) (Declared'.row Part.the-type) Path'.refl (Copies.cStruct Part.the-type Laws'5.the-laws Laws'5.the-copy .copy 𝓤 H A W) (Rows'.whole (Declared'.row
+                        Part.the-type)) (λ x. x) (λ x. x) (λ ρ told. Local.mem-whole 𝓤 H A W (Declared'.row Part.the-type) ρ) λ ρ told. Local.whole-mem 𝓤 H A W (Declared'.row Part.the-type) ρ,
+                    Path'.refl,
+                  ),
+                  ((Scalar.reads-sc 𝓤 H A W (Row.sInt Syntax.w64), Path'.refl), ((Scalar.reads-sc 𝓤 H A W Row.sBool, Path'.refl), tt)),
+                ),
+              ) (Reads'.room-gone 𝓤 H A Syntax.tyUnit) (tt, tt) Path'.refl) d30
 
           d32 : Typed.Typed 𝓤 H A 𝓣 E G98 b44 Δ5 at32
           d32 = Typed.s-seq 𝓤 H A W 𝓣 E G98 G99 b36 b43 Δ5 (Typed.ask s94) at31 (Relend.t-sl-aggregate 𝓤 H A W E (Referent.rtF (Referent.fInt Syntax.w16)) 𝓣 (Relend.asMut (Referent.rtF (Referent.fInt
               Syntax.w16))) G98 42 43 13 (Syntax.tyRef Syntax.erased Syntax.mut (Syntax.tyInt Syntax.w16)) (Syntax.tyRef Syntax.erased Syntax.mut (Syntax.tyInt Syntax.w16)) (λ x. x) (Scalar.oFld 5
               (List._∷_ (Syntax.field 1) List.[]) (Syntax.tyInt Syntax.w64) 8 λ v. Shared.lenV (v .0)) (Reads'.as-is 𝓤 H A (Relend.msptr (Referent.rtF (Referent.fInt Syntax.w16)) (Syntax.tyRef
-              Syntax.erased Syntax.mut (Syntax.tyInt Syntax.w16)) 13)) (Reads'.room-gone 𝓤 H A y5)
-              (Relend.reads-owed-len 𝓤 H A W (Referent.rtF (Referent.fInt Syntax.w16)) (Syntax.tyRef (Syntax.named 4) Syntax.mut (Syntax.tyInt Syntax.w16)) 4 13 (Row.lease (κs .1 .1 .1 .1 .0) (qs .1 .1 .1
-              .1 .0)) 8 Path'.refl, Path'.refl) Path'.refl Path'.refl λ b o k. tt) d31
+              Syntax.erased Syntax.mut (Syntax.tyInt Syntax.w16)) 13)) (Reads'.room-gone 𝓤 H A y5) (
+                Relend.reads-owed-len 𝓤 H A W (Referent.rtF (Referent.fInt Syntax.w16)) (Syntax.tyRef (Syntax.named 4) Syntax.mut (Syntax.tyInt Syntax.w16)) 4 13 (Row.lease (κs .1 .1 .1 .1 .0) (qs .1 .1 .1
+                    .1 .0)) 8 Path'.refl,
+                Path'.refl,
+              ) Path'.refl Path'.refl λ b o k. tt) d31
 
           d33 : Typed.Typed 𝓤 H A 𝓣 E G97 b45 Δ5 at33
           d33 = Typed.s-seq 𝓤 H A W 𝓣 E G97 G98 b35 b44 Δ5 (Typed.give s93) at32 (Relend.t-sl-relend 𝓤 H A W E (Referent.rtF (Referent.fInt Syntax.w16)) 𝓣 G97 5 42 4 13 (Syntax.tyRef (Syntax.named 4)
@@ -3997,32 +4624,79 @@ module _ (claims· : Claims) where
               (Syntax.tyInt Syntax.w16))) Path'.refl tt Path'.refl Path'.refl Path'.refl λ b o. tt) d32
 
           d34 : Typed.Typed 𝓤 H A 𝓣 E G96 b45 Δ5 at34
-          d34 = Typed.g-pre 𝓤 H A W 𝓣 E G96 G97 b45 Δ5 (λ Ψ. Ψ) at33 (Lifetime.g-begin 𝓤 H A W E G96 13
-              (tt,
-              (tt,
-              (tt,
-              (tt,
-              (tt,
-              (tt,
-              (tt,
-              (tt,
-              (tt,
-              (tt,
-              (tt,
-              (tt,
-              (tt,
-              (tt,
-              (tt,
-              (tt,
-              (tt,
-              (tt,
-              (tt,
-              (tt,
-              (tt,
-              (tt,
-              (tt,
-              (tt,
-              (tt, (tt, (tt, (tt, (tt, (tt, (tt, (tt, (tt, (tt, (tt, (tt, (tt, (tt, (tt, (tt, (tt, (tt, (tt, (tt, (tt, (tt, (tt, (tt, (tt, (tt, (tt, tt))))))))))))))))))))))))))))))))))))))))))))))))))))
+          d34 = Typed.g-pre 𝓤 H A W 𝓣 E G96 G97 b45 Δ5 (λ Ψ. Ψ) at33 (Lifetime.g-begin 𝓤 H A W E G96 13 (
+            tt,
+            (
+              tt,
+              (
+                tt,
+                (
+                  tt,
+                  (
+                    tt,
+                    (
+                      tt,
+                      (
+                        tt,
+                        (
+                          tt,
+                          (
+                            tt,
+                            (
+                              tt,
+                              (
+                                tt,
+                                (
+                                  tt,
+                                  (
+                                    tt,
+                                    (
+                                      tt,
+                                      (
+                                        tt,
+                                        (
+                                          tt,
+                                          (
+                                            tt,
+                                            (
+                                              tt,
+                                              (
+                                                tt,
+                                                (
+                                                  tt,
+                                                  (
+                                                    tt,
+                                                    (
+                                                      tt,
+                                                      (
+                                                        tt,
+                                                        (
+                                                          tt,
+                                                          (tt, (tt, (tt, (tt, (tt, (tt, (tt, (tt, (tt, (tt, (tt, (tt, (tt, (tt, (tt, (tt, (tt, (tt, (tt, (tt, (tt, (tt, (tt, (tt, (tt, (tt, (tt, tt))))))))))))))))))))))))))),
+                                                        ),
+                                                      ),
+                                                    ),
+                                                  ),
+                                                ),
+                                              ),
+                                            ),
+                                          ),
+                                        ),
+                                      ),
+                                    ),
+                                  ),
+                                ),
+                              ),
+                            ),
+                          ),
+                        ),
+                      ),
+                    ),
+                  ),
+                ),
+              ),
+            ),
+          ))
               d33
 
           d35 : Typed.Typed 𝓤 H A 𝓣 E G95 b45 Δ5 at35
@@ -4152,27 +4826,56 @@ module _ (claims· : Claims) where
 
           d65 : Typed.Typed 𝓤 H A 𝓣 E G129 b57 Δ3 at65
           d65 = Typed.s-seq 𝓤 H A W 𝓣 E G129 G130 b55 b56 Δ3 (Typed.both s125) at64 (Plain.t-call-plain 𝓤 H A W 𝓣 3 ps·14 r·14 (claims· .28) (claims· .29) "map::windows::emit_line_if" (known .14) E (λ
-              pos β. β) G129
-              (record { pos = 47; ty = Syntax.tyRef Syntax.erased Syntax.imm (Syntax.tyInt Syntax.w16); ref = λ x. x; },
-              (record { pos = 49; ty = Syntax.tyRef Syntax.erased Syntax.mut (Syntax.tyInt Syntax.w16); ref = λ x. x; },
-              (Num.vAt 15 λ x. x,
-              (Bool.bAt 14 λ x. x,
-              (record { pos = 7; ty = Syntax.tyRef (Syntax.named 5) Syntax.imm (Syntax.tyArray (Syntax.tyInt Syntax.w16) 768); ref = λ x. x; },
-              (record { pos = 8; st = List.[]; d = 0; at = λ x. x }, (record { pos = 9; st = List.[]; d = 0; at = λ x. x }, (Num.vAt 18 λ x. x, (Bool.bAt 28 λ x. x, tt))))))))) 29 (List._∷_ 14 (List._∷_
-              15 (List._∷_ 5 List.[]))) (Call.sub-id 𝓤 H A W (G129 .slots))
-              (ShrSlice.spares-sslice 𝓤 H A W (Referent.rtF (Referent.fInt Syntax.w16)) (Syntax.tyRef Syntax.erased Syntax.imm (Syntax.tyInt Syntax.w16)) 14, Shared.reads-sslice 𝓤 H A W (Referent.rtF
-              (Referent.fInt Syntax.w16)) (Syntax.tyRef Syntax.erased Syntax.imm (Syntax.tyInt Syntax.w16)) 14, Path'.refl,
-              (Reads'.as-is 𝓤 H A (Mut.mslice (Referent.rtF (Referent.fInt Syntax.w16)) (Syntax.tyRef Syntax.erased Syntax.mut (Syntax.tyInt Syntax.w16)) 15), Mut.reads-mslice 𝓤 H A W (Referent.rtF
-              (Referent.fInt Syntax.w16)) (Syntax.tyRef Syntax.erased Syntax.mut (Syntax.tyInt Syntax.w16)) 15, Path'.refl,
-              ((Scalar.reads-sc 𝓤 H A W (Row.sInt Syntax.w64), Path'.refl),
-              ((Scalar.reads-sc 𝓤 H A W Row.sBool, Path'.refl),
-              (ShrRef.spares-sref 𝓤 H A W (Array'.Array (Referent.rtF (Referent.fInt Syntax.w16)) 768) (Syntax.tyRef (Syntax.named 5) Syntax.imm (Syntax.tyArray (Syntax.tyInt Syntax.w16) 768)) 5,
-              Reads'.reads-sref 𝓤 H A W (Array'.Array (Referent.rtF (Referent.fInt Syntax.w16)) 768) (Syntax.tyRef (Syntax.named 5) Syntax.imm (Syntax.tyArray (Syntax.tyInt Syntax.w16) 768)) 5,
-              Path'.refl,
-              ((Array.arr-yields 𝓤 H A W (Array.eInt Syntax.w8) (Array.eInt-laws Syntax.w8) 36, Path'.refl),
-              ((Yields.yields-copy 𝓤 H A W (λ ρ. Unit) (Declared'.row Part.the-type) Path'.refl (Copies.cStruct Part.the-type Laws'5.the-laws Laws'5.the-copy .copy 𝓤 H A W) (Rows'.whole (Declared'.row
-              Part.the-type)) (λ x. x) (λ x. x) (λ ρ told. Local.mem-whole 𝓤 H A W (Declared'.row Part.the-type) ρ) λ ρ told. Local.whole-mem 𝓤 H A W (Declared'.row Part.the-type) ρ, Path'.refl),
-              ((Scalar.reads-sc 𝓤 H A W (Row.sInt Syntax.w64), Path'.refl), ((Scalar.reads-sc 𝓤 H A W Row.sBool, Path'.refl), tt))))))))) (Reads'.room-gone 𝓤 H A Syntax.tyUnit) (tt, (tt, (tt, tt)))
+              pos β. β) G129 (
+                record { pos = 47; ty = Syntax.tyRef Syntax.erased Syntax.imm (Syntax.tyInt Syntax.w16); ref = λ x. x },
+                (
+                  record { pos = 49; ty = Syntax.tyRef Syntax.erased Syntax.mut (Syntax.tyInt Syntax.w16); ref = λ x. x },
+                  (
+                    Num.vAt 15 λ x. x,
+                    (
+                      Bool.bAt 14 λ x. x,
+                      (
+                        record { pos = 7; ty = Syntax.tyRef (Syntax.named 5) Syntax.imm (Syntax.tyArray (Syntax.tyInt Syntax.w16) 768); ref = λ x. x },
+                        (record { pos = 8; st = List.[]; d = 0; at = λ x. x }, (record { pos = 9; st = List.[]; d = 0; at = λ x. x }, (Num.vAt 18 λ x. x, (Bool.bAt 28 λ x. x, tt)))),
+                      ),
+                    ),
+                  ),
+                ),
+              ) 29 (List._∷_ 14 (List._∷_
+              15 (List._∷_ 5 List.[]))) (Call.sub-id 𝓤 H A W (G129 .slots)) (
+                ShrSlice.spares-sslice 𝓤 H A W (Referent.rtF (Referent.fInt Syntax.w16)) (Syntax.tyRef Syntax.erased Syntax.imm (Syntax.tyInt Syntax.w16)) 14,
+                Shared.reads-sslice 𝓤 H A W (Referent.rtF
+                    (Referent.fInt Syntax.w16)) (Syntax.tyRef Syntax.erased Syntax.imm (Syntax.tyInt Syntax.w16)) 14,
+                Path'.refl,
+                (
+                  Reads'.as-is 𝓤 H A (Mut.mslice (Referent.rtF (Referent.fInt Syntax.w16)) (Syntax.tyRef Syntax.erased Syntax.mut (Syntax.tyInt Syntax.w16)) 15),
+                  Mut.reads-mslice 𝓤 H A W (Referent.rtF
+                      (Referent.fInt Syntax.w16)) (Syntax.tyRef Syntax.erased Syntax.mut (Syntax.tyInt Syntax.w16)) 15,
+                  Path'.refl,
+                  (
+                    (Scalar.reads-sc 𝓤 H A W (Row.sInt Syntax.w64), Path'.refl),
+                    (
+                      (Scalar.reads-sc 𝓤 H A W Row.sBool, Path'.refl),
+                      (
+                        ShrRef.spares-sref 𝓤 H A W (Array'.Array (Referent.rtF (Referent.fInt Syntax.w16)) 768) (Syntax.tyRef (Syntax.named 5) Syntax.imm (Syntax.tyArray (Syntax.tyInt Syntax.w16) 768)) 5,
+                        Reads'.reads-sref 𝓤 H A W (Array'.Array (Referent.rtF (Referent.fInt Syntax.w16)) 768) (Syntax.tyRef (Syntax.named 5) Syntax.imm (Syntax.tyArray (Syntax.tyInt Syntax.w16) 768)) 5,
+                        Path'.refl,
+                        (
+                          (Array.arr-yields 𝓤 H A W (Array.eInt Syntax.w8) (Array.eInt-laws Syntax.w8) 36, Path'.refl),
+                          (
+                            (
+                              Yields.yields-copy 𝓤 H A W (λ ρ. Unit) (Declared'.row Part.the-type) Path'.refl (Copies.cStruct Part.the-type Laws'5.the-laws Laws'5.the-copy .copy 𝓤 H A W) (Rows'.whole (Declared'.row
+                                  Part.the-type)) (λ x. x) (λ x. x) (λ ρ told. Local.mem-whole 𝓤 H A W (Declared'.row Part.the-type) ρ) λ ρ told. Local.whole-mem 𝓤 H A W (Declared'.row Part.the-type) ρ,
+                              Path'.refl,
+                            ),
+                            ((Scalar.reads-sc 𝓤 H A W (Row.sInt Syntax.w64), Path'.refl), ((Scalar.reads-sc 𝓤 H A W Row.sBool, Path'.refl), tt)),
+                          ),
+                        ),
+                      ),
+                    ),
+                  ),
+                ),
+              ) (Reads'.room-gone 𝓤 H A Syntax.tyUnit) (tt, (tt, (tt, tt)))
               Path'.refl) d64
 
           d66 : Typed.Typed 𝓤 H A 𝓣 E G128 b58 Δ3 at66
@@ -4184,9 +4887,11 @@ module _ (claims· : Claims) where
           d67 = Typed.s-seq 𝓤 H A W 𝓣 E G127 G128 b53 b58 Δ3 (Typed.ask s123) at66 (Relend.t-sl-aggregate 𝓤 H A W E (Referent.rtF (Referent.fInt Syntax.w16)) 𝓣 (Relend.asMut (Referent.rtF
               (Referent.fInt Syntax.w16))) G127 48 49 15 (Syntax.tyRef Syntax.erased Syntax.mut (Syntax.tyInt Syntax.w16)) (Syntax.tyRef Syntax.erased Syntax.mut (Syntax.tyInt Syntax.w16)) (λ x. x)
               (Scalar.oFld 5 (List._∷_ (Syntax.field 1) List.[]) (Syntax.tyInt Syntax.w64) 8 λ v. Shared.lenV (v .0)) (Reads'.as-is 𝓤 H A (Relend.msptr (Referent.rtF (Referent.fInt Syntax.w16))
-              (Syntax.tyRef Syntax.erased Syntax.mut (Syntax.tyInt Syntax.w16)) 15)) (Reads'.room-gone 𝓤 H A y5)
-              (Relend.reads-owed-len 𝓤 H A W (Referent.rtF (Referent.fInt Syntax.w16)) (Syntax.tyRef (Syntax.named 4) Syntax.mut (Syntax.tyInt Syntax.w16)) 4 15 (Row.lease (κs .1 .1 .1 .1 .0) (qs .1 .1 .1
-              .1 .0)) 8 Path'.refl, Path'.refl) Path'.refl Path'.refl λ b o k. tt) d66
+              (Syntax.tyRef Syntax.erased Syntax.mut (Syntax.tyInt Syntax.w16)) 15)) (Reads'.room-gone 𝓤 H A y5) (
+                Relend.reads-owed-len 𝓤 H A W (Referent.rtF (Referent.fInt Syntax.w16)) (Syntax.tyRef (Syntax.named 4) Syntax.mut (Syntax.tyInt Syntax.w16)) 4 15 (Row.lease (κs .1 .1 .1 .1 .0) (qs .1 .1 .1
+                    .1 .0)) 8 Path'.refl,
+                Path'.refl,
+              ) Path'.refl Path'.refl λ b o k. tt) d66
 
           d68 : Typed.Typed 𝓤 H A 𝓣 E G126 b60 Δ3 at68
           d68 = Typed.s-seq 𝓤 H A W 𝓣 E G126 G127 b52 b59 Δ3 (Typed.give s122) at67 (Relend.t-sl-relend 𝓤 H A W E (Referent.rtF (Referent.fInt Syntax.w16)) 𝓣 G126 5 48 4 15 (Syntax.tyRef (Syntax.named
@@ -4195,41 +4900,90 @@ module _ (claims· : Claims) where
               (Syntax.tyInt Syntax.w16))) Path'.refl tt Path'.refl Path'.refl Path'.refl λ b o. tt) d67
 
           d69 : Typed.Typed 𝓤 H A 𝓣 E G125 b60 Δ3 at69
-          d69 = Typed.g-pre 𝓤 H A W 𝓣 E G125 G126 b60 Δ3 (λ Ψ. Ψ) at68 (Lifetime.g-begin 𝓤 H A W E G125 15
-              (tt,
-              (tt,
-              (tt,
-              ((tt, tt),
-              (tt,
-              (tt,
-              (tt,
-              (tt,
-              (tt,
-              (tt,
-              (tt,
-              (tt,
-              (tt,
-              (tt,
-              (tt,
-              (tt,
-              (tt,
-              (tt,
-              (tt,
-              (tt,
-              (tt,
-              (tt,
-              (tt,
-              (tt,
-              (tt, (tt, (tt, (tt, (tt, (tt, (tt, (tt, (tt, (tt, (tt, (tt, (tt, (tt, (tt, (tt, (tt, (tt, (tt, (tt, (tt, (tt, (tt, (tt, (tt, (tt, (tt, tt))))))))))))))))))))))))))))))))))))))))))))))))))))
+          d69 = Typed.g-pre 𝓤 H A W 𝓣 E G125 G126 b60 Δ3 (λ Ψ. Ψ) at68 (Lifetime.g-begin 𝓤 H A W E G125 15 (
+            tt,
+            (
+              tt,
+              (
+                tt,
+                (
+                  (tt, tt),
+                  (
+                    tt,
+                    (
+                      tt,
+                      (
+                        tt,
+                        (
+                          tt,
+                          (
+                            tt,
+                            (
+                              tt,
+                              (
+                                tt,
+                                (
+                                  tt,
+                                  (
+                                    tt,
+                                    (
+                                      tt,
+                                      (
+                                        tt,
+                                        (
+                                          tt,
+                                          (
+                                            tt,
+                                            (
+                                              tt,
+                                              (
+                                                tt,
+                                                (
+                                                  tt,
+                                                  (
+                                                    tt,
+                                                    (
+                                                      tt,
+                                                      (
+                                                        tt,
+                                                        (
+                                                          tt,
+                                                          (tt, (tt, (tt, (tt, (tt, (tt, (tt, (tt, (tt, (tt, (tt, (tt, (tt, (tt, (tt, (tt, (tt, (tt, (tt, (tt, (tt, (tt, (tt, (tt, (tt, (tt, (tt, tt))))))))))))))))))))))))))),
+                                                        ),
+                                                      ),
+                                                    ),
+                                                  ),
+                                                ),
+                                              ),
+                                            ),
+                                          ),
+                                        ),
+                                      ),
+                                    ),
+                                  ),
+                                ),
+                              ),
+                            ),
+                          ),
+                        ),
+                      ),
+                    ),
+                  ),
+                ),
+              ),
+            ),
+          ))
               d68
 
           d70 : Typed.Typed 𝓤 H A 𝓣 E G124 b61 Δ3 at70
           d70 = Typed.s-seq 𝓤 H A W 𝓣 E G124 G125 b51 b60 Δ3 (Typed.ask s120) at69 (Relend.t-sl-aggregate 𝓤 H A W E (Referent.rtF (Referent.fInt Syntax.w16)) 𝓣 (Relend.asShr (Referent.rtF
               (Referent.fInt Syntax.w16))) G124 46 47 14 (Syntax.tyRef Syntax.erased Syntax.imm (Syntax.tyInt Syntax.w16)) (Syntax.tyRef Syntax.erased Syntax.imm (Syntax.tyInt Syntax.w16)) (λ x. x)
               (Scalar.oFld 3 (List._∷_ (Syntax.field 1) List.[]) (Syntax.tyInt Syntax.w64) 8 λ v. Shared.lenV (v .0)) (Reads'.as-is 𝓤 H A (Relend.ssptr (Referent.rtF (Referent.fInt Syntax.w16))
-              (Syntax.tyRef Syntax.erased Syntax.imm (Syntax.tyInt Syntax.w16)) 14)) (Reads'.room-gone 𝓤 H A y4)
-              (Reshare.reads-owedS-len 𝓤 H A W (Referent.rtF (Referent.fInt Syntax.w16)) (Syntax.tyRef (Syntax.named 2) Syntax.mut (Syntax.tyInt Syntax.w16)) 2 14 (Row.lease (κs .1 .1 .0) (qs .1 .1 .0)) 8
-              Path'.refl, Path'.refl) Path'.refl Path'.refl λ b o k. tt) d69
+              (Syntax.tyRef Syntax.erased Syntax.imm (Syntax.tyInt Syntax.w16)) 14)) (Reads'.room-gone 𝓤 H A y4) (
+                Reshare.reads-owedS-len 𝓤 H A W (Referent.rtF (Referent.fInt Syntax.w16)) (Syntax.tyRef (Syntax.named 2) Syntax.mut (Syntax.tyInt Syntax.w16)) 2 14 (Row.lease (κs .1 .1 .0) (qs .1 .1 .0)) 8
+                    Path'.refl,
+                Path'.refl,
+              ) Path'.refl Path'.refl λ b o k. tt) d69
 
           d71 : Typed.Typed 𝓤 H A 𝓣 E G123 b62 Δ3 at71
           d71 = Typed.s-seq 𝓤 H A W 𝓣 E G123 G124 b50 b61 Δ3 (Typed.give s119) at70 (Reshare.t-sl-reshare 𝓤 H A W E (Referent.rtF (Referent.fInt Syntax.w16)) 𝓣 G123 3 46 2 14 (Syntax.tyRef
@@ -4238,32 +4992,79 @@ module _ (claims· : Claims) where
               Syntax.imm (Syntax.tyInt Syntax.w16))) Path'.refl tt Path'.refl Path'.refl Path'.refl λ b o. tt) d70
 
           d72 : Typed.Typed 𝓤 H A 𝓣 E G122 b62 Δ3 at72
-          d72 = Typed.g-pre 𝓤 H A W 𝓣 E G122 G123 b62 Δ3 (λ Ψ. Ψ) at71 (Lifetime.g-begin 𝓤 H A W E G122 14
-              (tt,
-              (tt,
-              (tt,
-              (tt,
-              (tt,
-              (tt,
-              (tt,
-              (tt,
-              (tt,
-              (tt,
-              (tt,
-              (tt,
-              (tt,
-              (tt,
-              (tt,
-              (tt,
-              (tt,
-              (tt,
-              (tt,
-              (tt,
-              (tt,
-              (tt,
-              (tt,
-              (tt,
-              (tt, (tt, (tt, (tt, (tt, (tt, (tt, (tt, (tt, (tt, (tt, (tt, (tt, (tt, (tt, (tt, (tt, (tt, (tt, (tt, (tt, (tt, (tt, (tt, (tt, (tt, (tt, tt))))))))))))))))))))))))))))))))))))))))))))))))))))
+          d72 = Typed.g-pre 𝓤 H A W 𝓣 E G122 G123 b62 Δ3 (λ Ψ. Ψ) at71 (Lifetime.g-begin 𝓤 H A W E G122 14 (
+            tt,
+            (
+              tt,
+              (
+                tt,
+                (
+                  tt,
+                  (
+                    tt,
+                    (
+                      tt,
+                      (
+                        tt,
+                        (
+                          tt,
+                          (
+                            tt,
+                            (
+                              tt,
+                              (
+                                tt,
+                                (
+                                  tt,
+                                  (
+                                    tt,
+                                    (
+                                      tt,
+                                      (
+                                        tt,
+                                        (
+                                          tt,
+                                          (
+                                            tt,
+                                            (
+                                              tt,
+                                              (
+                                                tt,
+                                                (
+                                                  tt,
+                                                  (
+                                                    tt,
+                                                    (
+                                                      tt,
+                                                      (
+                                                        tt,
+                                                        (
+                                                          tt,
+                                                          (tt, (tt, (tt, (tt, (tt, (tt, (tt, (tt, (tt, (tt, (tt, (tt, (tt, (tt, (tt, (tt, (tt, (tt, (tt, (tt, (tt, (tt, (tt, (tt, (tt, (tt, (tt, tt))))))))))))))))))))))))))),
+                                                        ),
+                                                      ),
+                                                    ),
+                                                  ),
+                                                ),
+                                              ),
+                                            ),
+                                          ),
+                                        ),
+                                      ),
+                                    ),
+                                  ),
+                                ),
+                              ),
+                            ),
+                          ),
+                        ),
+                      ),
+                    ),
+                  ),
+                ),
+              ),
+            ),
+          ))
               d71
 
           d73 : Typed.Typed 𝓤 H A 𝓣 E G121 b62 Δ3 at73
@@ -4272,24 +5073,43 @@ module _ (claims· : Claims) where
 
           d74 : Typed.Typed 𝓤 H A 𝓣 E G120 b63 Δ3 at74
           d74 = Typed.s-seq 𝓤 H A W 𝓣 E G120 G121 b49 b62 Δ3 (Typed.both s116) at73 (Plain.t-call-plain 𝓤 H A W 𝓣 0 ps·13 r·13 (claims· .26) (claims· .27) "totals::with_line" (known .13) E (λ pos β.
-              β) G120
-              (record { pos = 17; st = List.[]; d = 0; at = λ x. x },
-              (Num.vAt 18 λ x. x, (Bool.bFld 16 (List._∷_ (Syntax.field 1) List.[]) 8 λ x. Place.struct .as-values x .1 .0, (record { pos = 45; st = List.[]; d = 0; at = λ x. x }, tt)))) 17 List.[]
-              (Call.sub-id 𝓤 H A W (G120 .slots))
-              ((Yields.yields-copy 𝓤 H A W (λ ρ. Unit) (Declared'.row TightLines.the-type) Path'.refl (Copies.cStruct TightLines.the-type Laws'7.the-laws Laws'7.the-copy .copy 𝓤 H A W) (Rows'.whole
-              (Declared'.row TightLines.the-type)) (λ x. x) (λ x. x) (λ ρ told. Local.mem-whole 𝓤 H A W (Declared'.row TightLines.the-type) ρ) λ ρ told. Local.whole-mem 𝓤 H A W (Declared'.row
-              TightLines.the-type) ρ, Path'.refl),
-              ((Scalar.reads-sc 𝓤 H A W (Row.sInt Syntax.w64), Path'.refl),
-              ((Reads.reads-field 𝓤 H A W Place.the-type Laws'4.the-laws 1 Syntax.tyBool 8 Path'.refl, Path'.refl),
-              ((Yields.yields-copy 𝓤 H A W (λ ρ. Unit) (Declared'.row Totals.the-type) Path'.refl (Copies.cStruct Totals.the-type Laws'8.the-laws Laws'8.the-copy .copy 𝓤 H A W) (Rows'.whole (Declared'.row
-              Totals.the-type)) (λ x. x) (λ x. x) (λ ρ told. Local.mem-whole 𝓤 H A W (Declared'.row Totals.the-type) ρ) λ ρ told. Local.whole-mem 𝓤 H A W (Declared'.row Totals.the-type) ρ, Path'.refl),
-              tt)))) (Local.room-whole 𝓤 H A W (Declared'.row TightLines.the-type) y9 Path'.refl) tt Path'.refl) d73
+              β) G120 (
+                record { pos = 17; st = List.[]; d = 0; at = λ x. x },
+                (Num.vAt 18 λ x. x, (Bool.bFld 16 (List._∷_ (Syntax.field 1) List.[]) 8 λ x. Place.struct .as-values x .1 .0, (record { pos = 45; st = List.[]; d = 0; at = λ x. x }, tt))),
+              ) 17 List.[]
+              (Call.sub-id 𝓤 H A W (G120 .slots)) (
+                (
+                  Yields.yields-copy 𝓤 H A W (λ ρ. Unit) (Declared'.row TightLines.the-type) Path'.refl (Copies.cStruct TightLines.the-type Laws'7.the-laws Laws'7.the-copy .copy 𝓤 H A W) (Rows'.whole
+                      (Declared'.row TightLines.the-type)) (λ x. x) (λ x. x) (λ ρ told. Local.mem-whole 𝓤 H A W (Declared'.row TightLines.the-type) ρ) λ ρ told. Local.whole-mem 𝓤 H A W (Declared'.row
+                      TightLines.the-type) ρ,
+                  Path'.refl,
+                ),
+                (
+                  (Scalar.reads-sc 𝓤 H A W (Row.sInt Syntax.w64), Path'.refl),
+                  (
+                    (Reads.reads-field 𝓤 H A W Place.the-type Laws'4.the-laws 1 Syntax.tyBool 8 Path'.refl, Path'.refl),
+                    (
+                      (
+                        Yields.yields-copy 𝓤 H A W (λ ρ. Unit) (Declared'.row Totals.the-type) Path'.refl (Copies.cStruct Totals.the-type Laws'8.the-laws Laws'8.the-copy .copy 𝓤 H A W) (Rows'.whole (Declared'.row
+                            Totals.the-type)) (λ x. x) (λ x. x) (λ ρ told. Local.mem-whole 𝓤 H A W (Declared'.row Totals.the-type) ρ) λ ρ told. Local.whole-mem 𝓤 H A W (Declared'.row Totals.the-type) ρ,
+                        Path'.refl,
+                      ),
+                      tt,
+                    ),
+                  ),
+                ),
+              ) (Local.room-whole 𝓤 H A W (Declared'.row TightLines.the-type) y9 Path'.refl) tt Path'.refl) d73
 
           d75 : Typed.Typed 𝓤 H A 𝓣 E G119 b64 Δ3 at75
           d75 = Typed.s-seq 𝓤 H A W 𝓣 E G119 G120 b48 b63 Δ3 (Typed.both s115) at74 (Plain.t-call-plain 𝓤 H A W 𝓣 0 ps·12 r·12 (claims· .24) (claims· .25) "block::reading::totals_at" (known .12) E (λ
-              pos β. β) G119 (record { pos = 16; st = List.[]; d = 0; at = λ x. x }, tt) 45 List.[] (Call.sub-id 𝓤 H A W (G119 .slots))
-              ((Yields.yields-copy 𝓤 H A W (λ ρ. Unit) (Declared'.row Place.the-type) Path'.refl (Copies.cStruct Place.the-type Laws'4.the-laws Laws'4.the-copy .copy 𝓤 H A W) (Rows'.whole (Declared'.row
-              Place.the-type)) (λ x. x) (λ x. x) (λ ρ told. Local.mem-whole 𝓤 H A W (Declared'.row Place.the-type) ρ) λ ρ told. Local.whole-mem 𝓤 H A W (Declared'.row Place.the-type) ρ, Path'.refl), tt)
+              pos β. β) G119 (record { pos = 16; st = List.[]; d = 0; at = λ x. x }, tt) 45 List.[] (Call.sub-id 𝓤 H A W (G119 .slots)) (
+                (
+                  Yields.yields-copy 𝓤 H A W (λ ρ. Unit) (Declared'.row Place.the-type) Path'.refl (Copies.cStruct Place.the-type Laws'4.the-laws Laws'4.the-copy .copy 𝓤 H A W) (Rows'.whole (Declared'.row
+                      Place.the-type)) (λ x. x) (λ x. x) (λ ρ told. Local.mem-whole 𝓤 H A W (Declared'.row Place.the-type) ρ) λ ρ told. Local.whole-mem 𝓤 H A W (Declared'.row Place.the-type) ρ,
+                  Path'.refl,
+                ),
+                tt,
+              )
               (Reads'.room-gone 𝓤 H A y3) tt Path'.refl) d74
 
           d76 : Typed.Typed 𝓤 H A 𝓣 E G118 b64 Δ3 at76
@@ -4309,57 +5129,118 @@ module _ (claims· : Claims) where
 
           d79 : Typed.Typed 𝓤 H A 𝓣 E G71 b67 Δ3 at79
           d79 = Typed.s-seq 𝓤 H A W 𝓣 E G71 G72 b33 b66 Δ3 (Typed.both s68) at78 (Plain.t-call-plain 𝓤 H A W 𝓣 5 ps·10 r·10 (claims· .20) (claims· .21) "block::reading::line" (known .10) E (λ pos β.
-              β) G71
-              (record { pos = 1; ty = Syntax.tyRef (Syntax.named 0) Syntax.imm (Syntax.tyInt Syntax.w8); ref = λ x. x; },
-              (record { pos = 16; st = List.[]; d = 0; at = λ x. x },
-              (record { pos = 35; ty = Syntax.tyRef Syntax.erased Syntax.mut (Syntax.tyInt Syntax.w16); ref = λ x. x; },
-              (record { pos = 37; ty = Syntax.tyRef Syntax.erased Syntax.mut Element.behind; ref = λ x. x; },
-              (record { pos = 39; ty = Syntax.tyRef Syntax.erased Syntax.mut (Syntax.tyInt Syntax.w16); ref = λ x. x; },
-              (record { pos = 6; st = List.[]; d = 0; at = λ x. x },
-              (record { pos = 40; st = List.[]; d = 0; at = λ x. x },
-              (record { pos = 7; ty = Syntax.tyRef (Syntax.named 5) Syntax.imm (Syntax.tyArray (Syntax.tyInt Syntax.w16) 768); ref = λ x. x; },
-              (record { pos = 8; st = List.[]; d = 0; at = λ x. x }, (record { pos = 9; st = List.[]; d = 0; at = λ x. x }, (Num.vAt 18 λ x. x, (Bool.bAt 11 λ x. x, tt)))))))))))) 20 (List._∷_ 0 (List._∷_
-              10 (List._∷_ 11 (List._∷_ 12 (List._∷_ 5 List.[]))))) (Call.sub-id 𝓤 H A W (G71 .slots))
-              (ShrSlice.spares-sslice 𝓤 H A W (Referent.rtF (Referent.fInt Syntax.w8)) (Syntax.tyRef (Syntax.named 0) Syntax.imm (Syntax.tyInt Syntax.w8)) 0, Shared.reads-sslice 𝓤 H A W (Referent.rtF
-              (Referent.fInt Syntax.w8)) (Syntax.tyRef (Syntax.named 0) Syntax.imm (Syntax.tyInt Syntax.w8)) 0, Path'.refl,
-              ((Yields.yields-copy 𝓤 H A W (λ ρ. Unit) (Declared'.row Place.the-type) Path'.refl (Copies.cStruct Place.the-type Laws'4.the-laws Laws'4.the-copy .copy 𝓤 H A W) (Rows'.whole (Declared'.row
-              Place.the-type)) (λ x. x) (λ x. x) (λ ρ told. Local.mem-whole 𝓤 H A W (Declared'.row Place.the-type) ρ) λ ρ told. Local.whole-mem 𝓤 H A W (Declared'.row Place.the-type) ρ, Path'.refl),
-              (Reads'.as-is 𝓤 H A (Mut.mslice (Referent.rtF (Referent.fInt Syntax.w16)) (Syntax.tyRef Syntax.erased Syntax.mut (Syntax.tyInt Syntax.w16)) 10), Mut.reads-mslice 𝓤 H A W (Referent.rtF
-              (Referent.fInt Syntax.w16)) (Syntax.tyRef Syntax.erased Syntax.mut (Syntax.tyInt Syntax.w16)) 10, Path'.refl,
-              (Reads'.as-is 𝓤 H A (Mut.mslice (Element.type) (Syntax.tyRef Syntax.erased Syntax.mut Element.behind) 11), Mut.reads-mslice 𝓤 H A W (Element.type) (Syntax.tyRef Syntax.erased Syntax.mut
-              Element.behind) 11, Path'.refl,
-              (Reads'.as-is 𝓤 H A (Mut.mslice (Referent.rtF (Referent.fInt Syntax.w16)) (Syntax.tyRef Syntax.erased Syntax.mut (Syntax.tyInt Syntax.w16)) 12), Mut.reads-mslice 𝓤 H A W (Referent.rtF
-              (Referent.fInt Syntax.w16)) (Syntax.tyRef Syntax.erased Syntax.mut (Syntax.tyInt Syntax.w16)) 12, Path'.refl,
-              ((Yields.yields-copy 𝓤 H A W (λ ρ. Unit) (Declared'.row Form.the-type) Path'.refl (Copies.cStruct Form.the-type Laws.the-laws Laws.the-copy .copy 𝓤 H A W) (Rows'.whole (Declared'.row
-              Form.the-type)) (λ x. x) (λ x. x) (λ ρ told. Local.mem-whole 𝓤 H A W (Declared'.row Form.the-type) ρ) λ ρ told. Local.whole-mem 𝓤 H A W (Declared'.row Form.the-type) ρ, Path'.refl),
-              ((Yields.yields-copy 𝓤 H A W (λ ρ. Unit) (Declared'.row Quantisers.the-type) Path'.refl (Copies.cStruct Quantisers.the-type Laws'6.the-laws Laws'6.the-copy .copy 𝓤 H A W) (Rows'.whole
-              (Declared'.row Quantisers.the-type)) (λ x. x) (λ x. x) (λ ρ told. Local.mem-whole 𝓤 H A W (Declared'.row Quantisers.the-type) ρ) λ ρ told. Local.whole-mem 𝓤 H A W (Declared'.row
-              Quantisers.the-type) ρ, Path'.refl),
-              (ShrRef.spares-sref 𝓤 H A W (Array'.Array (Referent.rtF (Referent.fInt Syntax.w16)) 768) (Syntax.tyRef (Syntax.named 5) Syntax.imm (Syntax.tyArray (Syntax.tyInt Syntax.w16) 768)) 5,
-              Reads'.reads-sref 𝓤 H A W (Array'.Array (Referent.rtF (Referent.fInt Syntax.w16)) 768) (Syntax.tyRef (Syntax.named 5) Syntax.imm (Syntax.tyArray (Syntax.tyInt Syntax.w16) 768)) 5,
-              Path'.refl,
-              ((Array.arr-yields 𝓤 H A W (Array.eInt Syntax.w8) (Array.eInt-laws Syntax.w8) 36, Path'.refl),
-              ((Yields.yields-copy 𝓤 H A W (λ ρ. Unit) (Declared'.row Part.the-type) Path'.refl (Copies.cStruct Part.the-type Laws'5.the-laws Laws'5.the-copy .copy 𝓤 H A W) (Rows'.whole (Declared'.row
-              Part.the-type)) (λ x. x) (λ x. x) (λ ρ told. Local.mem-whole 𝓤 H A W (Declared'.row Part.the-type) ρ) λ ρ told. Local.whole-mem 𝓤 H A W (Declared'.row Part.the-type) ρ, Path'.refl),
-              ((Scalar.reads-sc 𝓤 H A W (Row.sInt Syntax.w64), Path'.refl), ((Scalar.reads-sc 𝓤 H A W Row.sBool, Path'.refl), tt)))))))))))) (Reads'.room-gone 𝓤 H A (Syntax.tyEnum (List._∷_ 98 (List._∷_
+              β) G71 (
+                record { pos = 1; ty = Syntax.tyRef (Syntax.named 0) Syntax.imm (Syntax.tyInt Syntax.w8); ref = λ x. x },
+                (
+                  record { pos = 16; st = List.[]; d = 0; at = λ x. x },
+                  (
+                    record { pos = 35; ty = Syntax.tyRef Syntax.erased Syntax.mut (Syntax.tyInt Syntax.w16); ref = λ x. x },
+                    (
+                      record { pos = 37; ty = Syntax.tyRef Syntax.erased Syntax.mut Element.behind; ref = λ x. x },
+                      (
+                        record { pos = 39; ty = Syntax.tyRef Syntax.erased Syntax.mut (Syntax.tyInt Syntax.w16); ref = λ x. x },
+                        (
+                          record { pos = 6; st = List.[]; d = 0; at = λ x. x },
+                          (
+                            record { pos = 40; st = List.[]; d = 0; at = λ x. x },
+                            (
+                              record { pos = 7; ty = Syntax.tyRef (Syntax.named 5) Syntax.imm (Syntax.tyArray (Syntax.tyInt Syntax.w16) 768); ref = λ x. x },
+                              (record { pos = 8; st = List.[]; d = 0; at = λ x. x }, (record { pos = 9; st = List.[]; d = 0; at = λ x. x }, (Num.vAt 18 λ x. x, (Bool.bAt 11 λ x. x, tt)))),
+                            ),
+                          ),
+                        ),
+                      ),
+                    ),
+                  ),
+                ),
+              ) 20 (List._∷_ 0 (List._∷_
+              10 (List._∷_ 11 (List._∷_ 12 (List._∷_ 5 List.[]))))) (Call.sub-id 𝓤 H A W (G71 .slots)) (
+                ShrSlice.spares-sslice 𝓤 H A W (Referent.rtF (Referent.fInt Syntax.w8)) (Syntax.tyRef (Syntax.named 0) Syntax.imm (Syntax.tyInt Syntax.w8)) 0,
+                Shared.reads-sslice 𝓤 H A W (Referent.rtF
+                    (Referent.fInt Syntax.w8)) (Syntax.tyRef (Syntax.named 0) Syntax.imm (Syntax.tyInt Syntax.w8)) 0,
+                Path'.refl,
+                (
+                  (
+                    Yields.yields-copy 𝓤 H A W (λ ρ. Unit) (Declared'.row Place.the-type) Path'.refl (Copies.cStruct Place.the-type Laws'4.the-laws Laws'4.the-copy .copy 𝓤 H A W) (Rows'.whole (Declared'.row
+                        Place.the-type)) (λ x. x) (λ x. x) (λ ρ told. Local.mem-whole 𝓤 H A W (Declared'.row Place.the-type) ρ) λ ρ told. Local.whole-mem 𝓤 H A W (Declared'.row Place.the-type) ρ,
+                    Path'.refl,
+                  ),
+                  (
+                    Reads'.as-is 𝓤 H A (Mut.mslice (Referent.rtF (Referent.fInt Syntax.w16)) (Syntax.tyRef Syntax.erased Syntax.mut (Syntax.tyInt Syntax.w16)) 10),
+                    Mut.reads-mslice 𝓤 H A W (Referent.rtF
+                        (Referent.fInt Syntax.w16)) (Syntax.tyRef Syntax.erased Syntax.mut (Syntax.tyInt Syntax.w16)) 10,
+                    Path'.refl,
+                    (
+                      Reads'.as-is 𝓤 H A (Mut.mslice (Element.type) (Syntax.tyRef Syntax.erased Syntax.mut Element.behind) 11),
+                      Mut.reads-mslice 𝓤 H A W (Element.type) (Syntax.tyRef Syntax.erased Syntax.mut
+                          Element.behind) 11,
+                      Path'.refl,
+                      (
+                        Reads'.as-is 𝓤 H A (Mut.mslice (Referent.rtF (Referent.fInt Syntax.w16)) (Syntax.tyRef Syntax.erased Syntax.mut (Syntax.tyInt Syntax.w16)) 12),
+                        Mut.reads-mslice 𝓤 H A W (Referent.rtF
+                            (Referent.fInt Syntax.w16)) (Syntax.tyRef Syntax.erased Syntax.mut (Syntax.tyInt Syntax.w16)) 12,
+                        Path'.refl,
+                        (
+                          (
+                            Yields.yields-copy 𝓤 H A W (λ ρ. Unit) (Declared'.row Form.the-type) Path'.refl (Copies.cStruct Form.the-type Laws.the-laws Laws.the-copy .copy 𝓤 H A W) (Rows'.whole (Declared'.row
+                                Form.the-type)) (λ x. x) (λ x. x) (λ ρ told. Local.mem-whole 𝓤 H A W (Declared'.row Form.the-type) ρ) λ ρ told. Local.whole-mem 𝓤 H A W (Declared'.row Form.the-type) ρ,
+                            Path'.refl,
+                          ),
+                          (
+                            (
+                              Yields.yields-copy 𝓤 H A W (λ ρ. Unit) (Declared'.row Quantisers.the-type) Path'.refl (Copies.cStruct Quantisers.the-type Laws'6.the-laws Laws'6.the-copy .copy 𝓤 H A W) (Rows'.whole
+                                  (Declared'.row Quantisers.the-type)) (λ x. x) (λ x. x) (λ ρ told. Local.mem-whole 𝓤 H A W (Declared'.row Quantisers.the-type) ρ) λ ρ told. Local.whole-mem 𝓤 H A W (Declared'.row
+                                  Quantisers.the-type) ρ,
+                              Path'.refl,
+                            ),
+                            (
+                              ShrRef.spares-sref 𝓤 H A W (Array'.Array (Referent.rtF (Referent.fInt Syntax.w16)) 768) (Syntax.tyRef (Syntax.named 5) Syntax.imm (Syntax.tyArray (Syntax.tyInt Syntax.w16) 768)) 5,
+                              Reads'.reads-sref 𝓤 H A W (Array'.Array (Referent.rtF (Referent.fInt Syntax.w16)) 768) (Syntax.tyRef (Syntax.named 5) Syntax.imm (Syntax.tyArray (Syntax.tyInt Syntax.w16) 768)) 5,
+                              Path'.refl,
+                              (
+                                (Array.arr-yields 𝓤 H A W (Array.eInt Syntax.w8) (Array.eInt-laws Syntax.w8) 36, Path'.refl),
+                                (
+                                  (
+                                    Yields.yields-copy 𝓤 H A W (λ ρ. Unit) (Declared'.row Part.the-type) Path'.refl (Copies.cStruct Part.the-type Laws'5.the-laws Laws'5.the-copy .copy 𝓤 H A W) (Rows'.whole (Declared'.row
+                                        Part.the-type)) (λ x. x) (λ x. x) (λ ρ told. Local.mem-whole 𝓤 H A W (Declared'.row Part.the-type) ρ) λ ρ told. Local.whole-mem 𝓤 H A W (Declared'.row Part.the-type) ρ,
+                                    Path'.refl,
+                                  ),
+                                  ((Scalar.reads-sc 𝓤 H A W (Row.sInt Syntax.w64), Path'.refl), ((Scalar.reads-sc 𝓤 H A W Row.sBool, Path'.refl), tt)),
+                                ),
+                              ),
+                            ),
+                          ),
+                        ),
+                      ),
+                    ),
+                  ),
+                ),
+              ) (Reads'.room-gone 𝓤 H A (Syntax.tyEnum (List._∷_ 98 (List._∷_
               108 (List._∷_ 111 (List._∷_ 99 (List._∷_ 107 (List._∷_ 58 (List._∷_ 58 (List._∷_ 76 (List._∷_ 105 (List._∷_ 110 (List._∷_ 101 (List._∷_ 100 List.[])))))))))))) (Syntax.ttcons (Syntax.tcons
               y10 Syntax.tnil) (Syntax.ttcons Syntax.tnil Syntax.ttnil)))) (tt, (tt, (tt, (tt, (tt, tt))))) Path'.refl) d78
 
           d80 : Typed.Typed 𝓤 H A 𝓣 E G70 b68 Δ3 at80
           d80 = Typed.s-seq 𝓤 H A W 𝓣 E G70 G71 b32 b67 Δ3 (Typed.both s67) at79 (Plain.t-call-plain 𝓤 H A W 𝓣 0 ps·9 r·9 (claims· .18) (claims· .19) "block::reading::quantisers_in" (known .9) E (λ
-              pos β. β) G70 (record { pos = 12; st = List.[]; d = 0; at = λ x. x }, (Num.vAt 13 λ x. x, (Num.vAt 19 λ x. x, tt))) 40 List.[] (Call.sub-id 𝓤 H A W (G70 .slots))
-              ((Yields.yields-copy 𝓤 H A W (λ ρ. Unit) (Declared'.row Entries.the-type) Path'.refl (Copies.cStruct Entries.the-type Laws'3.the-laws Laws'3.the-copy .copy 𝓤 H A W) (Rows'.whole
-              (Declared'.row Entries.the-type)) (λ x. x) (λ x. x) (λ ρ told. Local.mem-whole 𝓤 H A W (Declared'.row Entries.the-type) ρ) λ ρ told. Local.whole-mem 𝓤 H A W (Declared'.row Entries.the-type)
-              ρ, Path'.refl), ((Scalar.reads-sc 𝓤 H A W (Row.sInt Syntax.w32), Path'.refl), ((Scalar.reads-sc 𝓤 H A W (Row.sInt Syntax.w32), Path'.refl), tt))) (Reads'.room-gone 𝓤 H A y2) tt Path'.refl)
+              pos β. β) G70 (record { pos = 12; st = List.[]; d = 0; at = λ x. x }, (Num.vAt 13 λ x. x, (Num.vAt 19 λ x. x, tt))) 40 List.[] (Call.sub-id 𝓤 H A W (G70 .slots)) (
+                (
+                  Yields.yields-copy 𝓤 H A W (λ ρ. Unit) (Declared'.row Entries.the-type) Path'.refl (Copies.cStruct Entries.the-type Laws'3.the-laws Laws'3.the-copy .copy 𝓤 H A W) (Rows'.whole
+                      (Declared'.row Entries.the-type)) (λ x. x) (λ x. x) (λ ρ told. Local.mem-whole 𝓤 H A W (Declared'.row Entries.the-type) ρ) λ ρ told. Local.whole-mem 𝓤 H A W (Declared'.row Entries.the-type)
+                      ρ,
+                  Path'.refl,
+                ),
+                ((Scalar.reads-sc 𝓤 H A W (Row.sInt Syntax.w32), Path'.refl), ((Scalar.reads-sc 𝓤 H A W (Row.sInt Syntax.w32), Path'.refl), tt)),
+              ) (Reads'.room-gone 𝓤 H A y2) tt Path'.refl)
               d79
 
           d81 : Typed.Typed 𝓤 H A 𝓣 E G69 b69 Δ3 at81
           d81 = Typed.s-seq 𝓤 H A W 𝓣 E G69 G70 b31 b68 Δ3 (Typed.ask s66) at80 (Relend.t-sl-aggregate 𝓤 H A W E (Referent.rtF (Referent.fInt Syntax.w16)) 𝓣 (Relend.asMut (Referent.rtF (Referent.fInt
               Syntax.w16))) G69 38 39 12 (Syntax.tyRef Syntax.erased Syntax.mut (Syntax.tyInt Syntax.w16)) (Syntax.tyRef Syntax.erased Syntax.mut (Syntax.tyInt Syntax.w16)) (λ x. x) (Scalar.oFld 5
               (List._∷_ (Syntax.field 1) List.[]) (Syntax.tyInt Syntax.w64) 8 λ v. Shared.lenV (v .0)) (Reads'.as-is 𝓤 H A (Relend.msptr (Referent.rtF (Referent.fInt Syntax.w16)) (Syntax.tyRef
-              Syntax.erased Syntax.mut (Syntax.tyInt Syntax.w16)) 12)) (Reads'.room-gone 𝓤 H A y5)
-              (Relend.reads-owed-len 𝓤 H A W (Referent.rtF (Referent.fInt Syntax.w16)) (Syntax.tyRef (Syntax.named 4) Syntax.mut (Syntax.tyInt Syntax.w16)) 4 12 (Row.lease (κs .1 .1 .1 .1 .0) (qs .1 .1 .1
-              .1 .0)) 8 Path'.refl, Path'.refl) Path'.refl Path'.refl λ b o k. tt) d80
+              Syntax.erased Syntax.mut (Syntax.tyInt Syntax.w16)) 12)) (Reads'.room-gone 𝓤 H A y5) (
+                Relend.reads-owed-len 𝓤 H A W (Referent.rtF (Referent.fInt Syntax.w16)) (Syntax.tyRef (Syntax.named 4) Syntax.mut (Syntax.tyInt Syntax.w16)) 4 12 (Row.lease (κs .1 .1 .1 .1 .0) (qs .1 .1 .1
+                    .1 .0)) 8 Path'.refl,
+                Path'.refl,
+              ) Path'.refl Path'.refl λ b o k. tt) d80
 
           d82 : Typed.Typed 𝓤 H A 𝓣 E G68 b70 Δ3 at82
           d82 = Typed.s-seq 𝓤 H A W 𝓣 E G68 G69 b30 b69 Δ3 (Typed.give s65) at81 (Relend.t-sl-relend 𝓤 H A W E (Referent.rtF (Referent.fInt Syntax.w16)) 𝓣 G68 5 38 4 12 (Syntax.tyRef (Syntax.named 4)
@@ -4368,32 +5249,79 @@ module _ (claims· : Claims) where
               (Syntax.tyInt Syntax.w16))) Path'.refl tt Path'.refl Path'.refl Path'.refl λ b o. tt) d81
 
           d83 : Typed.Typed 𝓤 H A 𝓣 E G67 b70 Δ3 at83
-          d83 = Typed.g-pre 𝓤 H A W 𝓣 E G67 G68 b70 Δ3 (λ Ψ. Ψ) at82 (Lifetime.g-begin 𝓤 H A W E G67 12
-              (tt,
-              (tt,
-              (tt,
-              ((tt, tt),
-              ((tt, tt),
-              (tt,
-              (tt,
-              (tt,
-              (tt,
-              (tt,
-              (tt,
-              (tt,
-              (tt,
-              (tt,
-              (tt,
-              (tt,
-              (tt,
-              (tt,
-              (tt,
-              (tt,
-              (tt,
-              (tt,
-              (tt,
-              (tt,
-              (tt, (tt, (tt, (tt, (tt, (tt, (tt, (tt, (tt, (tt, (tt, (tt, (tt, (tt, (tt, (tt, (tt, (tt, (tt, (tt, (tt, (tt, (tt, (tt, (tt, (tt, (tt, tt))))))))))))))))))))))))))))))))))))))))))))))))))))
+          d83 = Typed.g-pre 𝓤 H A W 𝓣 E G67 G68 b70 Δ3 (λ Ψ. Ψ) at82 (Lifetime.g-begin 𝓤 H A W E G67 12 (
+            tt,
+            (
+              tt,
+              (
+                tt,
+                (
+                  (tt, tt),
+                  (
+                    (tt, tt),
+                    (
+                      tt,
+                      (
+                        tt,
+                        (
+                          tt,
+                          (
+                            tt,
+                            (
+                              tt,
+                              (
+                                tt,
+                                (
+                                  tt,
+                                  (
+                                    tt,
+                                    (
+                                      tt,
+                                      (
+                                        tt,
+                                        (
+                                          tt,
+                                          (
+                                            tt,
+                                            (
+                                              tt,
+                                              (
+                                                tt,
+                                                (
+                                                  tt,
+                                                  (
+                                                    tt,
+                                                    (
+                                                      tt,
+                                                      (
+                                                        tt,
+                                                        (
+                                                          tt,
+                                                          (tt, (tt, (tt, (tt, (tt, (tt, (tt, (tt, (tt, (tt, (tt, (tt, (tt, (tt, (tt, (tt, (tt, (tt, (tt, (tt, (tt, (tt, (tt, (tt, (tt, (tt, (tt, tt))))))))))))))))))))))))))),
+                                                        ),
+                                                      ),
+                                                    ),
+                                                  ),
+                                                ),
+                                              ),
+                                            ),
+                                          ),
+                                        ),
+                                      ),
+                                    ),
+                                  ),
+                                ),
+                              ),
+                            ),
+                          ),
+                        ),
+                      ),
+                    ),
+                  ),
+                ),
+              ),
+            ),
+          ))
               d82
 
           d84 : Typed.Typed 𝓤 H A 𝓣 E G66 b71 Δ3 at84
@@ -4409,41 +5337,90 @@ module _ (claims· : Claims) where
               Syntax.mut Element.behind) 3)) (Reads'.room-gone 𝓤 H A (Syntax.tyRef Syntax.erased Syntax.mut Element.behind)) Path'.refl tt Path'.refl Path'.refl Path'.refl λ b o. tt) d84
 
           d86 : Typed.Typed 𝓤 H A 𝓣 E G64 b72 Δ3 at86
-          d86 = Typed.g-pre 𝓤 H A W 𝓣 E G64 G65 b72 Δ3 (λ Ψ. Ψ) at85 (Lifetime.g-begin 𝓤 H A W E G64 11
-              (tt,
-              (tt,
-              (tt,
-              ((tt, tt),
-              (tt,
-              (tt,
-              (tt,
-              (tt,
-              (tt,
-              (tt,
-              (tt,
-              (tt,
-              (tt,
-              (tt,
-              (tt,
-              (tt,
-              (tt,
-              (tt,
-              (tt,
-              (tt,
-              (tt,
-              (tt,
-              (tt,
-              (tt,
-              (tt, (tt, (tt, (tt, (tt, (tt, (tt, (tt, (tt, (tt, (tt, (tt, (tt, (tt, (tt, (tt, (tt, (tt, (tt, (tt, (tt, (tt, (tt, (tt, (tt, (tt, (tt, tt))))))))))))))))))))))))))))))))))))))))))))))))))))
+          d86 = Typed.g-pre 𝓤 H A W 𝓣 E G64 G65 b72 Δ3 (λ Ψ. Ψ) at85 (Lifetime.g-begin 𝓤 H A W E G64 11 (
+            tt,
+            (
+              tt,
+              (
+                tt,
+                (
+                  (tt, tt),
+                  (
+                    tt,
+                    (
+                      tt,
+                      (
+                        tt,
+                        (
+                          tt,
+                          (
+                            tt,
+                            (
+                              tt,
+                              (
+                                tt,
+                                (
+                                  tt,
+                                  (
+                                    tt,
+                                    (
+                                      tt,
+                                      (
+                                        tt,
+                                        (
+                                          tt,
+                                          (
+                                            tt,
+                                            (
+                                              tt,
+                                              (
+                                                tt,
+                                                (
+                                                  tt,
+                                                  (
+                                                    tt,
+                                                    (
+                                                      tt,
+                                                      (
+                                                        tt,
+                                                        (
+                                                          tt,
+                                                          (tt, (tt, (tt, (tt, (tt, (tt, (tt, (tt, (tt, (tt, (tt, (tt, (tt, (tt, (tt, (tt, (tt, (tt, (tt, (tt, (tt, (tt, (tt, (tt, (tt, (tt, (tt, tt))))))))))))))))))))))))))),
+                                                        ),
+                                                      ),
+                                                    ),
+                                                  ),
+                                                ),
+                                              ),
+                                            ),
+                                          ),
+                                        ),
+                                      ),
+                                    ),
+                                  ),
+                                ),
+                              ),
+                            ),
+                          ),
+                        ),
+                      ),
+                    ),
+                  ),
+                ),
+              ),
+            ),
+          ))
               d85
 
           d87 : Typed.Typed 𝓤 H A 𝓣 E G63 b73 Δ3 at87
           d87 = Typed.s-seq 𝓤 H A W 𝓣 E G63 G64 b27 b72 Δ3 (Typed.ask s60) at86 (Relend.t-sl-aggregate 𝓤 H A W E (Referent.rtF (Referent.fInt Syntax.w16)) 𝓣 (Relend.asMut (Referent.rtF (Referent.fInt
               Syntax.w16))) G63 34 35 10 (Syntax.tyRef Syntax.erased Syntax.mut (Syntax.tyInt Syntax.w16)) (Syntax.tyRef Syntax.erased Syntax.mut (Syntax.tyInt Syntax.w16)) (λ x. x) (Scalar.oFld 3
               (List._∷_ (Syntax.field 1) List.[]) (Syntax.tyInt Syntax.w64) 8 λ v. Shared.lenV (v .0)) (Reads'.as-is 𝓤 H A (Relend.msptr (Referent.rtF (Referent.fInt Syntax.w16)) (Syntax.tyRef
-              Syntax.erased Syntax.mut (Syntax.tyInt Syntax.w16)) 10)) (Reads'.room-gone 𝓤 H A y5)
-              (Relend.reads-owed-len 𝓤 H A W (Referent.rtF (Referent.fInt Syntax.w16)) (Syntax.tyRef (Syntax.named 2) Syntax.mut (Syntax.tyInt Syntax.w16)) 2 10 (Row.lease (κs .1 .1 .0) (qs .1 .1 .0)) 8
-              Path'.refl, Path'.refl) Path'.refl Path'.refl λ b o k. tt) d86
+              Syntax.erased Syntax.mut (Syntax.tyInt Syntax.w16)) 10)) (Reads'.room-gone 𝓤 H A y5) (
+                Relend.reads-owed-len 𝓤 H A W (Referent.rtF (Referent.fInt Syntax.w16)) (Syntax.tyRef (Syntax.named 2) Syntax.mut (Syntax.tyInt Syntax.w16)) 2 10 (Row.lease (κs .1 .1 .0) (qs .1 .1 .0)) 8
+                    Path'.refl,
+                Path'.refl,
+              ) Path'.refl Path'.refl λ b o k. tt) d86
 
           d88 : Typed.Typed 𝓤 H A 𝓣 E G62 b74 Δ3 at88
           d88 = Typed.s-seq 𝓤 H A W 𝓣 E G62 G63 b26 b73 Δ3 (Typed.give s59) at87 (Relend.t-sl-relend 𝓤 H A W E (Referent.rtF (Referent.fInt Syntax.w16)) 𝓣 G62 3 34 2 10 (Syntax.tyRef (Syntax.named 2)
@@ -4452,32 +5429,79 @@ module _ (claims· : Claims) where
               (Syntax.tyInt Syntax.w16))) Path'.refl tt Path'.refl Path'.refl Path'.refl λ b o. tt) d87
 
           d89 : Typed.Typed 𝓤 H A 𝓣 E G61 b74 Δ3 at89
-          d89 = Typed.g-pre 𝓤 H A W 𝓣 E G61 G62 b74 Δ3 (λ Ψ. Ψ) at88 (Lifetime.g-begin 𝓤 H A W E G61 10
-              (tt,
-              (tt,
-              (tt,
-              (tt,
-              (tt,
-              (tt,
-              (tt,
-              (tt,
-              (tt,
-              (tt,
-              (tt,
-              (tt,
-              (tt,
-              (tt,
-              (tt,
-              (tt,
-              (tt,
-              (tt,
-              (tt,
-              (tt,
-              (tt,
-              (tt,
-              (tt,
-              (tt,
-              (tt, (tt, (tt, (tt, (tt, (tt, (tt, (tt, (tt, (tt, (tt, (tt, (tt, (tt, (tt, (tt, (tt, (tt, (tt, (tt, (tt, (tt, (tt, (tt, (tt, (tt, (tt, tt))))))))))))))))))))))))))))))))))))))))))))))))))))
+          d89 = Typed.g-pre 𝓤 H A W 𝓣 E G61 G62 b74 Δ3 (λ Ψ. Ψ) at88 (Lifetime.g-begin 𝓤 H A W E G61 10 (
+            tt,
+            (
+              tt,
+              (
+                tt,
+                (
+                  tt,
+                  (
+                    tt,
+                    (
+                      tt,
+                      (
+                        tt,
+                        (
+                          tt,
+                          (
+                            tt,
+                            (
+                              tt,
+                              (
+                                tt,
+                                (
+                                  tt,
+                                  (
+                                    tt,
+                                    (
+                                      tt,
+                                      (
+                                        tt,
+                                        (
+                                          tt,
+                                          (
+                                            tt,
+                                            (
+                                              tt,
+                                              (
+                                                tt,
+                                                (
+                                                  tt,
+                                                  (
+                                                    tt,
+                                                    (
+                                                      tt,
+                                                      (
+                                                        tt,
+                                                        (
+                                                          tt,
+                                                          (tt, (tt, (tt, (tt, (tt, (tt, (tt, (tt, (tt, (tt, (tt, (tt, (tt, (tt, (tt, (tt, (tt, (tt, (tt, (tt, (tt, (tt, (tt, (tt, (tt, (tt, (tt, tt))))))))))))))))))))))))))),
+                                                        ),
+                                                      ),
+                                                    ),
+                                                  ),
+                                                ),
+                                              ),
+                                            ),
+                                          ),
+                                        ),
+                                      ),
+                                    ),
+                                  ),
+                                ),
+                              ),
+                            ),
+                          ),
+                        ),
+                      ),
+                    ),
+                  ),
+                ),
+              ),
+            ),
+          ))
               d88
 
           d90 : Typed.Typed 𝓤 H A 𝓣 E G60 b74 Δ3 at90
@@ -4500,19 +5524,26 @@ module _ (claims· : Claims) where
 
           d95 : Typed.Typed 𝓤 H A 𝓣 E G55 b75 Δ3 at95
           d95 = Typed.s-seq 𝓤 H A W 𝓣 E G55 G56 b25 b74 Δ3 (Typed.both s52) at94 (Plain.t-call-plain 𝓤 H A W 𝓣 1 ps·8 r·8 (claims· .16) (claims· .17) "block::records::restart" (known .8) E (λ pos β.
-              β) G55 (record { pos = 33; ty = Syntax.tyRef Syntax.erased Syntax.mut Element.behind; ref = λ x. x; }, (Num.vAt 13 λ x. x, (Num.vAt 19 λ x. x, (Bool.bAt 28 λ x. x, tt)))) 29 (List._∷_ 9
-              List.[]) (Call.sub-id 𝓤 H A W (G55 .slots))
-              (Reads'.as-is 𝓤 H A (Mut.mslice (Element.type) (Syntax.tyRef Syntax.erased Syntax.mut Element.behind) 9), Mut.reads-mslice 𝓤 H A W (Element.type) (Syntax.tyRef Syntax.erased Syntax.mut
-              Element.behind) 9, Path'.refl,
-              ((Scalar.reads-sc 𝓤 H A W (Row.sInt Syntax.w32), Path'.refl), ((Scalar.reads-sc 𝓤 H A W (Row.sInt Syntax.w32), Path'.refl), ((Scalar.reads-sc 𝓤 H A W Row.sBool, Path'.refl), tt))))
+              β) G55 (record { pos = 33; ty = Syntax.tyRef Syntax.erased Syntax.mut Element.behind; ref = λ x. x }, (Num.vAt 13 λ x. x, (Num.vAt 19 λ x. x, (Bool.bAt 28 λ x. x, tt)))) 29 (List._∷_ 9
+              List.[]) (Call.sub-id 𝓤 H A W (G55 .slots)) (
+                Reads'.as-is 𝓤 H A (Mut.mslice (Element.type) (Syntax.tyRef Syntax.erased Syntax.mut Element.behind) 9),
+                Mut.reads-mslice 𝓤 H A W (Element.type) (Syntax.tyRef Syntax.erased Syntax.mut
+                    Element.behind) 9,
+                Path'.refl,
+                ((Scalar.reads-sc 𝓤 H A W (Row.sInt Syntax.w32), Path'.refl), ((Scalar.reads-sc 𝓤 H A W (Row.sInt Syntax.w32), Path'.refl), ((Scalar.reads-sc 𝓤 H A W Row.sBool, Path'.refl), tt))),
+              )
               (Reads'.room-gone 𝓤 H A Syntax.tyUnit) (tt, tt) Path'.refl) d94
 
           d96 : Typed.Typed 𝓤 H A 𝓣 E G54 b76 Δ3 at96
           d96 = Typed.s-seq 𝓤 H A W 𝓣 E G54 G55 b24 b75 Δ3 (Typed.both s51) at95 (Plain.t-call-plain 𝓤 H A W 𝓣 1 ps·7 r·7 (claims· .14) (claims· .15) "block::reading::is_restarted" (known .7) E (λ pos
-              β. β) G54 (record { pos = 2; ty = Syntax.tyRef (Syntax.named 1) Syntax.imm (Syntax.tyInt Syntax.w8); ref = λ x. x; }, (Num.vAt 18 λ x. x, tt)) 28 (List._∷_ 1 List.[]) (Call.sub-id 𝓤 H A W
-              (G54 .slots))
-              (ShrSlice.spares-sslice 𝓤 H A W (Referent.rtF (Referent.fInt Syntax.w8)) (Syntax.tyRef (Syntax.named 1) Syntax.imm (Syntax.tyInt Syntax.w8)) 1, Shared.reads-sslice 𝓤 H A W (Referent.rtF
-              (Referent.fInt Syntax.w8)) (Syntax.tyRef (Syntax.named 1) Syntax.imm (Syntax.tyInt Syntax.w8)) 1, Path'.refl, ((Scalar.reads-sc 𝓤 H A W (Row.sInt Syntax.w64), Path'.refl), tt))
+              β. β) G54 (record { pos = 2; ty = Syntax.tyRef (Syntax.named 1) Syntax.imm (Syntax.tyInt Syntax.w8); ref = λ x. x }, (Num.vAt 18 λ x. x, tt)) 28 (List._∷_ 1 List.[]) (Call.sub-id 𝓤 H A W
+              (G54 .slots)) (
+                ShrSlice.spares-sslice 𝓤 H A W (Referent.rtF (Referent.fInt Syntax.w8)) (Syntax.tyRef (Syntax.named 1) Syntax.imm (Syntax.tyInt Syntax.w8)) 1,
+                Shared.reads-sslice 𝓤 H A W (Referent.rtF
+                    (Referent.fInt Syntax.w8)) (Syntax.tyRef (Syntax.named 1) Syntax.imm (Syntax.tyInt Syntax.w8)) 1,
+                Path'.refl,
+                ((Scalar.reads-sc 𝓤 H A W (Row.sInt Syntax.w64), Path'.refl), tt),
+              )
               (Reads'.room-gone 𝓤 H A Syntax.tyBool) (tt, tt) Path'.refl) d95
 
           d97 : Typed.Typed 𝓤 H A 𝓣 E G53 b77 Δ3 at97
@@ -4528,40 +5559,91 @@ module _ (claims· : Claims) where
               Syntax.mut Element.behind) 3)) (Reads'.room-gone 𝓤 H A (Syntax.tyRef Syntax.erased Syntax.mut Element.behind)) Path'.refl tt Path'.refl Path'.refl Path'.refl λ b o. tt) d97
 
           d99 : Typed.Typed 𝓤 H A 𝓣 E G51 b78 Δ3 at99
-          d99 = Typed.g-pre 𝓤 H A W 𝓣 E G51 G52 b78 Δ3 (λ Ψ. Ψ) at98 (Lifetime.g-begin 𝓤 H A W E G51 9
-              (tt,
-              (tt,
-              (tt,
-              (tt,
-              (tt,
-              (tt,
-              (tt,
-              (tt,
-              (tt,
-              (tt,
-              (tt,
-              (tt,
-              (tt,
-              (tt,
-              (tt,
-              (tt,
-              (tt,
-              (tt,
-              (tt,
-              (tt,
-              (tt,
-              (tt,
-              (tt,
-              (tt,
-              (tt, (tt, (tt, (tt, (tt, (tt, (tt, (tt, (tt, (tt, (tt, (tt, (tt, (tt, (tt, (tt, (tt, (tt, (tt, (tt, (tt, (tt, (tt, (tt, (tt, (tt, (tt, tt))))))))))))))))))))))))))))))))))))))))))))))))))))
+          d99 = Typed.g-pre 𝓤 H A W 𝓣 E G51 G52 b78 Δ3 (λ Ψ. Ψ) at98 (Lifetime.g-begin 𝓤 H A W E G51 9 (
+            tt,
+            (
+              tt,
+              (
+                tt,
+                (
+                  tt,
+                  (
+                    tt,
+                    (
+                      tt,
+                      (
+                        tt,
+                        (
+                          tt,
+                          (
+                            tt,
+                            (
+                              tt,
+                              (
+                                tt,
+                                (
+                                  tt,
+                                  (
+                                    tt,
+                                    (
+                                      tt,
+                                      (
+                                        tt,
+                                        (
+                                          tt,
+                                          (
+                                            tt,
+                                            (
+                                              tt,
+                                              (
+                                                tt,
+                                                (
+                                                  tt,
+                                                  (
+                                                    tt,
+                                                    (
+                                                      tt,
+                                                      (
+                                                        tt,
+                                                        (
+                                                          tt,
+                                                          (tt, (tt, (tt, (tt, (tt, (tt, (tt, (tt, (tt, (tt, (tt, (tt, (tt, (tt, (tt, (tt, (tt, (tt, (tt, (tt, (tt, (tt, (tt, (tt, (tt, (tt, (tt, tt))))))))))))))))))))))))))),
+                                                        ),
+                                                      ),
+                                                    ),
+                                                  ),
+                                                ),
+                                              ),
+                                            ),
+                                          ),
+                                        ),
+                                      ),
+                                    ),
+                                  ),
+                                ),
+                              ),
+                            ),
+                          ),
+                        ),
+                      ),
+                    ),
+                  ),
+                ),
+              ),
+            ),
+          ))
               d98
 
           d100 : Typed.Typed 𝓤 H A 𝓣 E G50 b79 Δ3 at100
           d100 = Typed.s-seq 𝓤 H A W 𝓣 E G50 G51 b21 b78 Δ3 (Typed.both s47) at99 (Plain.t-call-plain 𝓤 H A W 𝓣 1 ps·2 r·2 (claims· .4) (claims· .5) "cameras::base_of" (known .2) E (λ pos β. β) G50
-              (record { pos = 2; ty = Syntax.tyRef (Syntax.named 1) Syntax.imm (Syntax.tyInt Syntax.w8); ref = λ x. x; }, (Num.vAt 18 λ x. x, tt)) 19 (List._∷_ 1 List.[]) (Call.sub-id 𝓤 H A W (G50
-              .slots))
-              (ShrSlice.spares-sslice 𝓤 H A W (Referent.rtF (Referent.fInt Syntax.w8)) (Syntax.tyRef (Syntax.named 1) Syntax.imm (Syntax.tyInt Syntax.w8)) 1, Shared.reads-sslice 𝓤 H A W (Referent.rtF
-              (Referent.fInt Syntax.w8)) (Syntax.tyRef (Syntax.named 1) Syntax.imm (Syntax.tyInt Syntax.w8)) 1, Path'.refl, ((Scalar.reads-sc 𝓤 H A W (Row.sInt Syntax.w64), Path'.refl), tt))
+              (record { pos = 2; ty = Syntax.tyRef (Syntax.named 1) Syntax.imm (Syntax.tyInt Syntax.w8); ref = λ x. x }, (Num.vAt 18 λ x. x, tt)) 19 (List._∷_ 1 List.[]) (Call.sub-id 𝓤 H A W (G50
+              .slots)) (
+                ShrSlice.spares-sslice 𝓤 H A W (Referent.rtF (Referent.fInt Syntax.w8)) (Syntax.tyRef (Syntax.named 1) Syntax.imm (Syntax.tyInt Syntax.w8)) 1,
+                Shared.reads-sslice 𝓤 H A W (Referent.rtF
+                    (Referent.fInt Syntax.w8)) (Syntax.tyRef (Syntax.named 1) Syntax.imm (Syntax.tyInt Syntax.w8)) 1,
+                Path'.refl,
+                ((Scalar.reads-sc 𝓤 H A W (Row.sInt Syntax.w64), Path'.refl), tt),
+              )
               (Reads'.room-gone 𝓤 H A (Syntax.tyInt Syntax.w32)) (tt, tt) Path'.refl) d99
 
           d101 : Typed.Typed 𝓤 H A 𝓣 E G49 b79 Δ3 at101
@@ -4589,11 +5671,14 @@ module _ (claims· : Claims) where
 
           d107 : Typed.Typed 𝓤 H A 𝓣 E G43 b80 Δ3 at107
           d107 = Typed.s-seq 𝓤 H A W 𝓣 E G43 G44 b20 b79 Δ3 (Typed.both s40) at106 (Plain.t-call-plain 𝓤 H A W 𝓣 1 ps·6 r·6 (claims· .12) (claims· .13) "lines::turn_if" (known .6) E (λ pos β. β) G43
-              (record { pos = 31; ty = Syntax.tyRef Syntax.erased Syntax.mut (Syntax.tyInt Syntax.w16); ref = λ x. x; }, (Num.vAt 15 λ x. x, (Bool.bAt 28 λ x. x, tt))) 29 (List._∷_ 8 List.[]) (Call.sub-id
-              𝓤 H A W (G43 .slots))
-              (Reads'.as-is 𝓤 H A (Mut.mslice (Referent.rtF (Referent.fInt Syntax.w16)) (Syntax.tyRef Syntax.erased Syntax.mut (Syntax.tyInt Syntax.w16)) 8), Mut.reads-mslice 𝓤 H A W (Referent.rtF
-              (Referent.fInt Syntax.w16)) (Syntax.tyRef Syntax.erased Syntax.mut (Syntax.tyInt Syntax.w16)) 8, Path'.refl,
-              ((Scalar.reads-sc 𝓤 H A W (Row.sInt Syntax.w64), Path'.refl), ((Scalar.reads-sc 𝓤 H A W Row.sBool, Path'.refl), tt))) (Reads'.room-gone 𝓤 H A Syntax.tyUnit) (tt, tt) Path'.refl) d106
+              (record { pos = 31; ty = Syntax.tyRef Syntax.erased Syntax.mut (Syntax.tyInt Syntax.w16); ref = λ x. x }, (Num.vAt 15 λ x. x, (Bool.bAt 28 λ x. x, tt))) 29 (List._∷_ 8 List.[]) (Call.sub-id
+              𝓤 H A W (G43 .slots)) (
+                Reads'.as-is 𝓤 H A (Mut.mslice (Referent.rtF (Referent.fInt Syntax.w16)) (Syntax.tyRef Syntax.erased Syntax.mut (Syntax.tyInt Syntax.w16)) 8),
+                Mut.reads-mslice 𝓤 H A W (Referent.rtF
+                    (Referent.fInt Syntax.w16)) (Syntax.tyRef Syntax.erased Syntax.mut (Syntax.tyInt Syntax.w16)) 8,
+                Path'.refl,
+                ((Scalar.reads-sc 𝓤 H A W (Row.sInt Syntax.w64), Path'.refl), ((Scalar.reads-sc 𝓤 H A W Row.sBool, Path'.refl), tt)),
+              ) (Reads'.room-gone 𝓤 H A Syntax.tyUnit) (tt, tt) Path'.refl) d106
 
           d108 : Typed.Typed 𝓤 H A 𝓣 E G42 b81 Δ3 at108
           d108 = Typed.s-seq 𝓤 H A W 𝓣 E G42 G43 b19 b80 Δ3 (Typed.ask s39) at107 (Scalar.t-op1 𝓤 H A W E 𝓣 G42 Syntax.bitNot (Scalar.oAt 11 Syntax.tyBool (Row.valS Row.sBool)) 28 (Rows'.sc-here
@@ -4604,9 +5689,11 @@ module _ (claims· : Claims) where
           d109 = Typed.s-seq 𝓤 H A W 𝓣 E G41 G42 b18 b81 Δ3 (Typed.ask s38) at108 (Relend.t-sl-aggregate 𝓤 H A W E (Referent.rtF (Referent.fInt Syntax.w16)) 𝓣 (Relend.asMut (Referent.rtF
               (Referent.fInt Syntax.w16))) G41 30 31 8 (Syntax.tyRef Syntax.erased Syntax.mut (Syntax.tyInt Syntax.w16)) (Syntax.tyRef Syntax.erased Syntax.mut (Syntax.tyInt Syntax.w16)) (λ x. x)
               (Scalar.oFld 3 (List._∷_ (Syntax.field 1) List.[]) (Syntax.tyInt Syntax.w64) 8 λ v. Shared.lenV (v .0)) (Reads'.as-is 𝓤 H A (Relend.msptr (Referent.rtF (Referent.fInt Syntax.w16))
-              (Syntax.tyRef Syntax.erased Syntax.mut (Syntax.tyInt Syntax.w16)) 8)) (Reads'.room-gone 𝓤 H A y5)
-              (Relend.reads-owed-len 𝓤 H A W (Referent.rtF (Referent.fInt Syntax.w16)) (Syntax.tyRef (Syntax.named 2) Syntax.mut (Syntax.tyInt Syntax.w16)) 2 8 (Row.lease (κs .1 .1 .0) (qs .1 .1 .0)) 8
-              Path'.refl, Path'.refl) Path'.refl Path'.refl λ b o k. tt) d108
+              (Syntax.tyRef Syntax.erased Syntax.mut (Syntax.tyInt Syntax.w16)) 8)) (Reads'.room-gone 𝓤 H A y5) (
+                Relend.reads-owed-len 𝓤 H A W (Referent.rtF (Referent.fInt Syntax.w16)) (Syntax.tyRef (Syntax.named 2) Syntax.mut (Syntax.tyInt Syntax.w16)) 2 8 (Row.lease (κs .1 .1 .0) (qs .1 .1 .0)) 8
+                    Path'.refl,
+                Path'.refl,
+              ) Path'.refl Path'.refl λ b o k. tt) d108
 
           d110 : Typed.Typed 𝓤 H A 𝓣 E G40 b83 Δ3 at110
           d110 = Typed.s-seq 𝓤 H A W 𝓣 E G40 G41 b17 b82 Δ3 (Typed.give s37) at109 (Relend.t-sl-relend 𝓤 H A W E (Referent.rtF (Referent.fInt Syntax.w16)) 𝓣 G40 3 30 2 8 (Syntax.tyRef (Syntax.named 2)
@@ -4615,32 +5702,79 @@ module _ (claims· : Claims) where
               (Syntax.tyInt Syntax.w16))) Path'.refl tt Path'.refl Path'.refl Path'.refl λ b o. tt) d109
 
           d111 : Typed.Typed 𝓤 H A 𝓣 E G33 b83 Δ3 at111
-          d111 = Typed.g-pre 𝓤 H A W 𝓣 E G33 G40 b83 Δ3 (λ Ψ. Ψ) at110 (Lifetime.g-begin 𝓤 H A W E G33 8
-              (tt,
-              (tt,
-              (tt,
-              (tt,
-              (tt,
-              (tt,
-              (tt,
-              (tt,
-              (tt,
-              (tt,
-              (tt,
-              (tt,
-              (tt,
-              (tt,
-              (tt,
-              (tt,
-              (tt,
-              (tt,
-              (tt,
-              (tt,
-              (tt,
-              (tt,
-              (tt,
-              (tt,
-              (tt, (tt, (tt, (tt, (tt, (tt, (tt, (tt, (tt, (tt, (tt, (tt, (tt, (tt, (tt, (tt, (tt, (tt, (tt, (tt, (tt, (tt, (tt, (tt, (tt, (tt, (tt, tt))))))))))))))))))))))))))))))))))))))))))))))))))))
+          d111 = Typed.g-pre 𝓤 H A W 𝓣 E G33 G40 b83 Δ3 (λ Ψ. Ψ) at110 (Lifetime.g-begin 𝓤 H A W E G33 8 (
+            tt,
+            (
+              tt,
+              (
+                tt,
+                (
+                  tt,
+                  (
+                    tt,
+                    (
+                      tt,
+                      (
+                        tt,
+                        (
+                          tt,
+                          (
+                            tt,
+                            (
+                              tt,
+                              (
+                                tt,
+                                (
+                                  tt,
+                                  (
+                                    tt,
+                                    (
+                                      tt,
+                                      (
+                                        tt,
+                                        (
+                                          tt,
+                                          (
+                                            tt,
+                                            (
+                                              tt,
+                                              (
+                                                tt,
+                                                (
+                                                  tt,
+                                                  (
+                                                    tt,
+                                                    (
+                                                      tt,
+                                                      (
+                                                        tt,
+                                                        (
+                                                          tt,
+                                                          (tt, (tt, (tt, (tt, (tt, (tt, (tt, (tt, (tt, (tt, (tt, (tt, (tt, (tt, (tt, (tt, (tt, (tt, (tt, (tt, (tt, (tt, (tt, (tt, (tt, (tt, (tt, tt))))))))))))))))))))))))))),
+                                                        ),
+                                                      ),
+                                                    ),
+                                                  ),
+                                                ),
+                                              ),
+                                            ),
+                                          ),
+                                        ),
+                                      ),
+                                    ),
+                                  ),
+                                ),
+                              ),
+                            ),
+                          ),
+                        ),
+                      ),
+                    ),
+                  ),
+                ),
+              ),
+            ),
+          ))
               d110
 
           d112 : Typed.Typed 𝓤 H A 𝓣 E G32 b84 Δ3 at112
@@ -4700,31 +5834,40 @@ module _ (claims· : Claims) where
           d125 : Typed.Typed 𝓤 H A 𝓣 E G144 b91 Δ0 at125
           d125 = Typed.s-seq 𝓤 H A W 𝓣 E G144 G145 b89 b90 Δ0 (Typed.pass T144 T145 s140) at124 (Make.t-enum-make-wt 𝓤 H A W E 𝓣 Walked.the-type Laws''.the-laws Laws''.the-plain tt G144 0 (List._∷_
               (Scalar.oInt Syntax.w8 0) (List._∷_ (Scalar.oAt 50 y3 (Laws'10.val Totals.the-type Laws'8.the-laws)) (List._∷_ (Scalar.oAt 17 y9 (Laws'10.val TightLines.the-type Laws'7.the-laws)) List.[])))
-              (λ m. Walked.enum .make (Logic.inl
-              (m .1 .1 .1 .1 .1 .1 .1 .1 .1 .1 .1 .1 .1 .1 .1 .1 .1 .1 .1 .1 .1 .1 .1 .1 .1 .1 .1 .1 .1 .1 .1 .1 .1 .1 .1 .1 .1 .1 .1 .1 .1 .1 .1 .1 .1 .1 .1 .1 .1 .1 .0,
-              (m .1 .1 .1 .1 .1 .1 .1 .1 .1 .1 .1 .1 .1 .1 .1 .1 .1 .0, tt)))) (Reads'.room-gone 𝓤 H A (Syntax.tyEnum (List._∷_ 98 (List._∷_ 108 (List._∷_ 111 (List._∷_ 99 (List._∷_ 107 (List._∷_ 58
+              (λ m. Walked.enum .make (Logic.inl (
+                m .1 .1 .1 .1 .1 .1 .1 .1 .1 .1 .1 .1 .1 .1 .1 .1 .1 .1 .1 .1 .1 .1 .1 .1 .1 .1 .1 .1 .1 .1 .1 .1 .1 .1 .1 .1 .1 .1 .1 .1 .1 .1 .1 .1 .1 .1 .1 .1 .1 .1 .0,
+                (m .1 .1 .1 .1 .1 .1 .1 .1 .1 .1 .1 .1 .1 .1 .1 .1 .1 .0, tt),
+              ))) (Reads'.room-gone 𝓤 H A (Syntax.tyEnum (List._∷_ 98 (List._∷_ 108 (List._∷_ 111 (List._∷_ 99 (List._∷_ 107 (List._∷_ 58
               (List._∷_ 58 (List._∷_ 87 (List._∷_ 97 (List._∷_ 108 (List._∷_ 107 (List._∷_ 101 (List._∷_ 100 List.[]))))))))))))) (Syntax.ttcons (Syntax.tcons y3 (Syntax.tcons y9 Syntax.tnil))
               (Syntax.ttcons (Syntax.tcons (Syntax.tyInt Syntax.w64) (Syntax.tcons y3 Syntax.tnil)) Syntax.ttnil))))
               (tt, ((Reads.reads-struct 𝓤 H A W Totals.the-type Laws'8.the-laws, Path'.refl), ((Reads.reads-struct 𝓤 H A W TightLines.the-type Laws'7.the-laws, Path'.refl), tt))) Path'.refl (λ m wa.
               Make.made-val Walked.the-type Laws''.the-laws (List._∷_ (Laws'10.val Totals.the-type Laws'8.the-laws (m .1 .1 .1 .1 .1 .1 .1 .1 .1 .1 .1 .1 .1 .1 .1 .1 .1 .1 .1 .1 .1 .1 .1 .1 .1 .1 .1 .1 .1
               .1 .1 .1 .1 .1 .1 .1 .1 .1 .1 .1 .1 .1 .1 .1 .1 .1 .1 .1 .1 .1 .0)) (List._∷_ (Laws'10.val TightLines.the-type Laws'7.the-laws (m .1 .1 .1 .1 .1 .1 .1 .1 .1 .1 .1 .1 .1 .1 .1 .1 .1 .0))
-              List.[])) (Walked.enum .make (Logic.inl
-              (m .1 .1 .1 .1 .1 .1 .1 .1 .1 .1 .1 .1 .1 .1 .1 .1 .1 .1 .1 .1 .1 .1 .1 .1 .1 .1 .1 .1 .1 .1 .1 .1 .1 .1 .1 .1 .1 .1 .1 .1 .1 .1 .1 .1 .1 .1 .1 .1 .1 .1 .0,
-              (m .1 .1 .1 .1 .1 .1 .1 .1 .1 .1 .1 .1 .1 .1 .1 .1 .1 .0, tt))))
-              (Signed.made-wt Totals.the-field Laws'8.the-field-laws (Make'.struct-wt Totals.the-type Laws'8.the-laws (Make'.u64-wt, (Make'.u64-wt, tt))) (Totals.the-type .to (m .1 .1 .1 .1 .1 .1 .1 .1 .1
-              .1 .1 .1 .1 .1 .1 .1 .1 .1 .1 .1 .1 .1 .1 .1 .1 .1 .1 .1 .1 .1 .1 .1 .1 .1 .1 .1 .1 .1 .1 .1 .1 .1 .1 .1 .1 .1 .1 .1 .1 .1 .0)),
-              (Signed.made-wt TightLines.the-field Laws'7.the-field-laws (Make'.struct-wt TightLines.the-type Laws'7.the-laws
-              (Make'.u64-wt, (Make'.struct-wt Totals.the-type Laws'8.the-laws (Make'.u64-wt, (Make'.u64-wt, tt)), tt))) (TightLines.the-type .to (m .1 .1 .1 .1 .1 .1 .1 .1 .1 .1 .1 .1 .1 .1 .1 .1 .1 .0)),
-              tt)) (wa .1)) λ m wa. Make.made-is Walked.the-type Laws''.the-laws (List._∷_ (Laws'10.val Totals.the-type Laws'8.the-laws (m .1 .1 .1 .1 .1 .1 .1 .1 .1 .1 .1 .1 .1 .1 .1 .1 .1 .1 .1 .1 .1 .1
+              List.[])) (Walked.enum .make (Logic.inl (
+                m .1 .1 .1 .1 .1 .1 .1 .1 .1 .1 .1 .1 .1 .1 .1 .1 .1 .1 .1 .1 .1 .1 .1 .1 .1 .1 .1 .1 .1 .1 .1 .1 .1 .1 .1 .1 .1 .1 .1 .1 .1 .1 .1 .1 .1 .1 .1 .1 .1 .1 .0,
+                (m .1 .1 .1 .1 .1 .1 .1 .1 .1 .1 .1 .1 .1 .1 .1 .1 .1 .0, tt),
+              ))) (
+                Signed.made-wt Totals.the-field Laws'8.the-field-laws (Make'.struct-wt Totals.the-type Laws'8.the-laws (Make'.u64-wt, (Make'.u64-wt, tt))) (Totals.the-type .to (m .1 .1 .1 .1 .1 .1 .1 .1 .1
+                    .1 .1 .1 .1 .1 .1 .1 .1 .1 .1 .1 .1 .1 .1 .1 .1 .1 .1 .1 .1 .1 .1 .1 .1 .1 .1 .1 .1 .1 .1 .1 .1 .1 .1 .1 .1 .1 .1 .1 .1 .1 .0)),
+                (
+                  Signed.made-wt TightLines.the-field Laws'7.the-field-laws (Make'.struct-wt TightLines.the-type Laws'7.the-laws
+                      (Make'.u64-wt, (Make'.struct-wt Totals.the-type Laws'8.the-laws (Make'.u64-wt, (Make'.u64-wt, tt)), tt))) (TightLines.the-type .to (m .1 .1 .1 .1 .1 .1 .1 .1 .1 .1 .1 .1 .1 .1 .1 .1 .1 .0)),
+                  tt,
+                ),
+              ) (wa .1)) λ m wa. Make.made-is Walked.the-type Laws''.the-laws (List._∷_ (Laws'10.val Totals.the-type Laws'8.the-laws (m .1 .1 .1 .1 .1 .1 .1 .1 .1 .1 .1 .1 .1 .1 .1 .1 .1 .1 .1 .1 .1 .1
               .1 .1 .1 .1 .1 .1 .1 .1 .1 .1 .1 .1 .1 .1 .1 .1 .1 .1 .1 .1 .1 .1 .1 .1 .1 .1 .1 .1 .0)) (List._∷_ (Laws'10.val TightLines.the-type Laws'7.the-laws (m .1 .1 .1 .1 .1 .1 .1 .1 .1 .1 .1 .1 .1
-              .1 .1 .1 .1 .0)) List.[])) (Walked.enum .make (Logic.inl
-              (m .1 .1 .1 .1 .1 .1 .1 .1 .1 .1 .1 .1 .1 .1 .1 .1 .1 .1 .1 .1 .1 .1 .1 .1 .1 .1 .1 .1 .1 .1 .1 .1 .1 .1 .1 .1 .1 .1 .1 .1 .1 .1 .1 .1 .1 .1 .1 .1 .1 .1 .0,
-              (m .1 .1 .1 .1 .1 .1 .1 .1 .1 .1 .1 .1 .1 .1 .1 .1 .1 .0, tt))))
-              (Signed.made-wt Totals.the-field Laws'8.the-field-laws (Make'.struct-wt Totals.the-type Laws'8.the-laws (Make'.u64-wt, (Make'.u64-wt, tt))) (Totals.the-type .to (m .1 .1 .1 .1 .1 .1 .1 .1 .1
-              .1 .1 .1 .1 .1 .1 .1 .1 .1 .1 .1 .1 .1 .1 .1 .1 .1 .1 .1 .1 .1 .1 .1 .1 .1 .1 .1 .1 .1 .1 .1 .1 .1 .1 .1 .1 .1 .1 .1 .1 .1 .0)),
-              (Signed.made-wt TightLines.the-field Laws'7.the-field-laws (Make'.struct-wt TightLines.the-type Laws'7.the-laws
-              (Make'.u64-wt, (Make'.struct-wt Totals.the-type Laws'8.the-laws (Make'.u64-wt, (Make'.u64-wt, tt)), tt))) (TightLines.the-type .to (m .1 .1 .1 .1 .1 .1 .1 .1 .1 .1 .1 .1 .1 .1 .1 .1 .1 .0)),
-              tt)) (wa .1)) d124
+              .1 .1 .1 .1 .0)) List.[])) (Walked.enum .make (Logic.inl (
+                m .1 .1 .1 .1 .1 .1 .1 .1 .1 .1 .1 .1 .1 .1 .1 .1 .1 .1 .1 .1 .1 .1 .1 .1 .1 .1 .1 .1 .1 .1 .1 .1 .1 .1 .1 .1 .1 .1 .1 .1 .1 .1 .1 .1 .1 .1 .1 .1 .1 .1 .0,
+                (m .1 .1 .1 .1 .1 .1 .1 .1 .1 .1 .1 .1 .1 .1 .1 .1 .1 .0, tt),
+              ))) (
+                Signed.made-wt Totals.the-field Laws'8.the-field-laws (Make'.struct-wt Totals.the-type Laws'8.the-laws (Make'.u64-wt, (Make'.u64-wt, tt))) (Totals.the-type .to (m .1 .1 .1 .1 .1 .1 .1 .1 .1
+                    .1 .1 .1 .1 .1 .1 .1 .1 .1 .1 .1 .1 .1 .1 .1 .1 .1 .1 .1 .1 .1 .1 .1 .1 .1 .1 .1 .1 .1 .1 .1 .1 .1 .1 .1 .1 .1 .1 .1 .1 .1 .0)),
+                (
+                  Signed.made-wt TightLines.the-field Laws'7.the-field-laws (Make'.struct-wt TightLines.the-type Laws'7.the-laws
+                      (Make'.u64-wt, (Make'.struct-wt Totals.the-type Laws'8.the-laws (Make'.u64-wt, (Make'.u64-wt, tt)), tt))) (TightLines.the-type .to (m .1 .1 .1 .1 .1 .1 .1 .1 .1 .1 .1 .1 .1 .1 .1 .1 .1 .0)),
+                  tt,
+                ),
+              ) (wa .1)) d124
 
           d126 : Typed.Typed 𝓤 H A 𝓣 E G143 b91 Δ0 at126
           d126 = Typed.g-pre 𝓤 H A W 𝓣 E G143 G144 b91 Δ0 (Typed.pass T143 T144 s139) at125 (Scalar.g-room 𝓤 H A W E G143 16 y10 (Local.room-whole 𝓤 H A W (Declared'.row Place.the-type) y10
@@ -4732,9 +5875,14 @@ module _ (claims· : Claims) where
 
           d127 : Typed.Typed 𝓤 H A 𝓣 E G31 b92 Δ0 at127
           d127 = Typed.s-seq 𝓤 H A W 𝓣 E G31 G143 b88 b91 Δ0 (Typed.both s138) at126 (Plain.t-call-plain 𝓤 H A W 𝓣 0 ps·12 r·12 (claims· .24) (claims· .25) "block::reading::totals_at" (known .12) E (λ
-              pos β. β) G31 (record { pos = 16; st = List.[]; d = 0; at = λ x. x }, tt) 50 List.[] (Call.sub-id 𝓤 H A W (G31 .slots))
-              ((Yields.yields-copy 𝓤 H A W (λ ρ. Unit) (Declared'.row Place.the-type) Path'.refl (Copies.cStruct Place.the-type Laws'4.the-laws Laws'4.the-copy .copy 𝓤 H A W) (Rows'.whole (Declared'.row
-              Place.the-type)) (λ x. x) (λ x. x) (λ ρ told. Local.mem-whole 𝓤 H A W (Declared'.row Place.the-type) ρ) λ ρ told. Local.whole-mem 𝓤 H A W (Declared'.row Place.the-type) ρ, Path'.refl), tt)
+              pos β. β) G31 (record { pos = 16; st = List.[]; d = 0; at = λ x. x }, tt) 50 List.[] (Call.sub-id 𝓤 H A W (G31 .slots)) (
+                (
+                  Yields.yields-copy 𝓤 H A W (λ ρ. Unit) (Declared'.row Place.the-type) Path'.refl (Copies.cStruct Place.the-type Laws'4.the-laws Laws'4.the-copy .copy 𝓤 H A W) (Rows'.whole (Declared'.row
+                      Place.the-type)) (λ x. x) (λ x. x) (λ ρ told. Local.mem-whole 𝓤 H A W (Declared'.row Place.the-type) ρ) λ ρ told. Local.whole-mem 𝓤 H A W (Declared'.row Place.the-type) ρ,
+                  Path'.refl,
+                ),
+                tt,
+              )
               (Reads'.room-gone 𝓤 H A y3) tt Path'.refl) d126
 
           d128 : Typed.Typed 𝓤 H A 𝓣 E G30 b93 Δ0 at128
@@ -4773,17 +5921,25 @@ module _ (claims· : Claims) where
 
           d137 : Typed.Typed 𝓤 H A 𝓣 E G21 b97 Δ0 at137
           d137 = Typed.s-seq 𝓤 H A W 𝓣 E G21 G22 b9 b96 Δ0 (Typed.both s20) at136 (Plain.t-call-plain 𝓤 H A W 𝓣 1 ps·3 r·3 (claims· .6) (claims· .7) "block::records::start_records" (known .3) E (λ pos
-              β. β) G21 (record { pos = 26; ty = Syntax.tyRef Syntax.erased Syntax.mut Element.behind; ref = λ x. x; }, (Num.vAt 13 λ x. x, (Num.vAt 27 λ x. x, tt))) 22 (List._∷_ 7 List.[]) (Call.sub-id 𝓤
-              H A W (G21 .slots))
-              (Reads'.as-is 𝓤 H A (Mut.mslice (Element.type) (Syntax.tyRef Syntax.erased Syntax.mut Element.behind) 7), Mut.reads-mslice 𝓤 H A W (Element.type) (Syntax.tyRef Syntax.erased Syntax.mut
-              Element.behind) 7, Path'.refl, ((Scalar.reads-sc 𝓤 H A W (Row.sInt Syntax.w32), Path'.refl), ((Scalar.reads-sc 𝓤 H A W (Row.sInt Syntax.w32), Path'.refl), tt))) (Reads'.room-gone 𝓤 H A
+              β. β) G21 (record { pos = 26; ty = Syntax.tyRef Syntax.erased Syntax.mut Element.behind; ref = λ x. x }, (Num.vAt 13 λ x. x, (Num.vAt 27 λ x. x, tt))) 22 (List._∷_ 7 List.[]) (Call.sub-id 𝓤
+              H A W (G21 .slots)) (
+                Reads'.as-is 𝓤 H A (Mut.mslice (Element.type) (Syntax.tyRef Syntax.erased Syntax.mut Element.behind) 7),
+                Mut.reads-mslice 𝓤 H A W (Element.type) (Syntax.tyRef Syntax.erased Syntax.mut
+                    Element.behind) 7,
+                Path'.refl,
+                ((Scalar.reads-sc 𝓤 H A W (Row.sInt Syntax.w32), Path'.refl), ((Scalar.reads-sc 𝓤 H A W (Row.sInt Syntax.w32), Path'.refl), tt)),
+              ) (Reads'.room-gone 𝓤 H A
               Syntax.tyUnit) (tt, tt) Path'.refl) d136
 
           d138 : Typed.Typed 𝓤 H A 𝓣 E G20 b98 Δ0 at138
           d138 = Typed.s-seq 𝓤 H A W 𝓣 E G20 G21 b8 b97 Δ0 (Typed.both s19) at137 (Plain.t-call-plain 𝓤 H A W 𝓣 1 ps·2 r·2 (claims· .4) (claims· .5) "cameras::base_of" (known .2) E (λ pos β. β) G20
-              (record { pos = 2; ty = Syntax.tyRef (Syntax.named 1) Syntax.imm (Syntax.tyInt Syntax.w8); ref = λ x. x; }, (Num.vLit 0, tt)) 27 (List._∷_ 1 List.[]) (Call.sub-id 𝓤 H A W (G20 .slots))
-              (ShrSlice.spares-sslice 𝓤 H A W (Referent.rtF (Referent.fInt Syntax.w8)) (Syntax.tyRef (Syntax.named 1) Syntax.imm (Syntax.tyInt Syntax.w8)) 1, Shared.reads-sslice 𝓤 H A W (Referent.rtF
-              (Referent.fInt Syntax.w8)) (Syntax.tyRef (Syntax.named 1) Syntax.imm (Syntax.tyInt Syntax.w8)) 1, Path'.refl, (tt, tt)) (Reads'.room-gone 𝓤 H A (Syntax.tyInt Syntax.w32)) (tt, tt)
+              (record { pos = 2; ty = Syntax.tyRef (Syntax.named 1) Syntax.imm (Syntax.tyInt Syntax.w8); ref = λ x. x }, (Num.vLit 0, tt)) 27 (List._∷_ 1 List.[]) (Call.sub-id 𝓤 H A W (G20 .slots)) (
+                ShrSlice.spares-sslice 𝓤 H A W (Referent.rtF (Referent.fInt Syntax.w8)) (Syntax.tyRef (Syntax.named 1) Syntax.imm (Syntax.tyInt Syntax.w8)) 1,
+                Shared.reads-sslice 𝓤 H A W (Referent.rtF
+                    (Referent.fInt Syntax.w8)) (Syntax.tyRef (Syntax.named 1) Syntax.imm (Syntax.tyInt Syntax.w8)) 1,
+                Path'.refl,
+                (tt, tt),
+              ) (Reads'.room-gone 𝓤 H A (Syntax.tyInt Syntax.w32)) (tt, tt)
               Path'.refl) d137
 
           d139 : Typed.Typed 𝓤 H A 𝓣 E G19 b99 Δ0 at139
@@ -4799,32 +5955,79 @@ module _ (claims· : Claims) where
               Syntax.mut Element.behind) 3)) (Reads'.room-gone 𝓤 H A (Syntax.tyRef Syntax.erased Syntax.mut Element.behind)) Path'.refl tt Path'.refl Path'.refl Path'.refl λ b o. tt) d139
 
           d141 : Typed.Typed 𝓤 H A 𝓣 E G17 b100 Δ0 at141
-          d141 = Typed.g-pre 𝓤 H A W 𝓣 E G17 G18 b100 Δ0 (λ Ψ. Ψ) at140 (Lifetime.g-begin 𝓤 H A W E G17 7
-              (tt,
-              (tt,
-              (tt,
-              (tt,
-              (tt,
-              (tt,
-              (tt,
-              (tt,
-              (tt,
-              (tt,
-              (tt,
-              (tt,
-              (tt,
-              (tt,
-              (tt,
-              (tt,
-              (tt,
-              (tt,
-              (tt,
-              (tt,
-              (tt,
-              (tt,
-              (tt,
-              (tt,
-              (tt, (tt, (tt, (tt, (tt, (tt, (tt, (tt, (tt, (tt, (tt, (tt, (tt, (tt, (tt, (tt, (tt, (tt, (tt, (tt, (tt, (tt, (tt, (tt, (tt, (tt, (tt, tt))))))))))))))))))))))))))))))))))))))))))))))))))))
+          d141 = Typed.g-pre 𝓤 H A W 𝓣 E G17 G18 b100 Δ0 (λ Ψ. Ψ) at140 (Lifetime.g-begin 𝓤 H A W E G17 7 (
+            tt,
+            (
+              tt,
+              (
+                tt,
+                (
+                  tt,
+                  (
+                    tt,
+                    (
+                      tt,
+                      (
+                        tt,
+                        (
+                          tt,
+                          (
+                            tt,
+                            (
+                              tt,
+                              (
+                                tt,
+                                (
+                                  tt,
+                                  (
+                                    tt,
+                                    (
+                                      tt,
+                                      (
+                                        tt,
+                                        (
+                                          tt,
+                                          (
+                                            tt,
+                                            (
+                                              tt,
+                                              (
+                                                tt,
+                                                (
+                                                  tt,
+                                                  (
+                                                    tt,
+                                                    (
+                                                      tt,
+                                                      (
+                                                        tt,
+                                                        (
+                                                          tt,
+                                                          (tt, (tt, (tt, (tt, (tt, (tt, (tt, (tt, (tt, (tt, (tt, (tt, (tt, (tt, (tt, (tt, (tt, (tt, (tt, (tt, (tt, (tt, (tt, (tt, (tt, (tt, (tt, tt))))))))))))))))))))))))))),
+                                                        ),
+                                                      ),
+                                                    ),
+                                                  ),
+                                                ),
+                                              ),
+                                            ),
+                                          ),
+                                        ),
+                                      ),
+                                    ),
+                                  ),
+                                ),
+                              ),
+                            ),
+                          ),
+                        ),
+                      ),
+                    ),
+                  ),
+                ),
+              ),
+            ),
+          ))
               d140
 
           d142 : Typed.Typed 𝓤 H A 𝓣 E G16 b100 Δ0 at142
@@ -4849,17 +6052,23 @@ module _ (claims· : Claims) where
 
           d147 : Typed.Typed 𝓤 H A 𝓣 E G11 b101 Δ0 at147
           d147 = Typed.s-seq 𝓤 H A W 𝓣 E G11 G12 b5 b100 Δ0 (Typed.both s10) at146 (Plain.t-call-plain 𝓤 H A W 𝓣 1 ps·1 r·1 (claims· .2) (claims· .3) "lines::clear" (known .1) E (λ pos β. β) G11
-              (record { pos = 24; ty = Syntax.tyRef Syntax.erased Syntax.mut (Syntax.tyInt Syntax.w16); ref = λ x. x; }, tt) 22 (List._∷_ 6 List.[]) (Call.sub-id 𝓤 H A W (G11 .slots))
-              (Reads'.as-is 𝓤 H A (Mut.mslice (Referent.rtF (Referent.fInt Syntax.w16)) (Syntax.tyRef Syntax.erased Syntax.mut (Syntax.tyInt Syntax.w16)) 6), Mut.reads-mslice 𝓤 H A W (Referent.rtF
-              (Referent.fInt Syntax.w16)) (Syntax.tyRef Syntax.erased Syntax.mut (Syntax.tyInt Syntax.w16)) 6, Path'.refl, tt) (Reads'.room-gone 𝓤 H A Syntax.tyUnit) (tt, tt) Path'.refl) d146
+              (record { pos = 24; ty = Syntax.tyRef Syntax.erased Syntax.mut (Syntax.tyInt Syntax.w16); ref = λ x. x }, tt) 22 (List._∷_ 6 List.[]) (Call.sub-id 𝓤 H A W (G11 .slots)) (
+                Reads'.as-is 𝓤 H A (Mut.mslice (Referent.rtF (Referent.fInt Syntax.w16)) (Syntax.tyRef Syntax.erased Syntax.mut (Syntax.tyInt Syntax.w16)) 6),
+                Mut.reads-mslice 𝓤 H A W (Referent.rtF
+                    (Referent.fInt Syntax.w16)) (Syntax.tyRef Syntax.erased Syntax.mut (Syntax.tyInt Syntax.w16)) 6,
+                Path'.refl,
+                tt,
+              ) (Reads'.room-gone 𝓤 H A Syntax.tyUnit) (tt, tt) Path'.refl) d146
 
           d148 : Typed.Typed 𝓤 H A 𝓣 E G10 b102 Δ0 at148
           d148 = Typed.s-seq 𝓤 H A W 𝓣 E G10 G11 b4 b101 Δ0 (Typed.ask s9) at147 (Relend.t-sl-aggregate 𝓤 H A W E (Referent.rtF (Referent.fInt Syntax.w16)) 𝓣 (Relend.asMut (Referent.rtF (Referent.fInt
               Syntax.w16))) G10 23 24 6 (Syntax.tyRef Syntax.erased Syntax.mut (Syntax.tyInt Syntax.w16)) (Syntax.tyRef Syntax.erased Syntax.mut (Syntax.tyInt Syntax.w16)) (λ x. x) (Scalar.oFld 3
               (List._∷_ (Syntax.field 1) List.[]) (Syntax.tyInt Syntax.w64) 8 λ v. Shared.lenV (v .0)) (Reads'.as-is 𝓤 H A (Relend.msptr (Referent.rtF (Referent.fInt Syntax.w16)) (Syntax.tyRef
-              Syntax.erased Syntax.mut (Syntax.tyInt Syntax.w16)) 6)) (Reads'.room-gone 𝓤 H A y5)
-              (Relend.reads-owed-len 𝓤 H A W (Referent.rtF (Referent.fInt Syntax.w16)) (Syntax.tyRef (Syntax.named 2) Syntax.mut (Syntax.tyInt Syntax.w16)) 2 6 (Row.lease (κs .1 .1 .0) (qs .1 .1 .0)) 8
-              Path'.refl, Path'.refl) Path'.refl Path'.refl λ b o k. tt) d147
+              Syntax.erased Syntax.mut (Syntax.tyInt Syntax.w16)) 6)) (Reads'.room-gone 𝓤 H A y5) (
+                Relend.reads-owed-len 𝓤 H A W (Referent.rtF (Referent.fInt Syntax.w16)) (Syntax.tyRef (Syntax.named 2) Syntax.mut (Syntax.tyInt Syntax.w16)) 2 6 (Row.lease (κs .1 .1 .0) (qs .1 .1 .0)) 8
+                    Path'.refl,
+                Path'.refl,
+              ) Path'.refl Path'.refl λ b o k. tt) d147
 
           d149 : Typed.Typed 𝓤 H A 𝓣 E G9 b103 Δ0 at149
           d149 = Typed.s-seq 𝓤 H A W 𝓣 E G9 G10 b3 b102 Δ0 (Typed.give s8) at148 (Relend.t-sl-relend 𝓤 H A W E (Referent.rtF (Referent.fInt Syntax.w16)) 𝓣 G9 3 23 2 6 (Syntax.tyRef (Syntax.named 2)
@@ -4868,32 +6077,79 @@ module _ (claims· : Claims) where
               (Syntax.tyInt Syntax.w16))) Path'.refl tt Path'.refl Path'.refl Path'.refl λ b o. tt) d148
 
           d150 : Typed.Typed 𝓤 H A 𝓣 E G8 b103 Δ0 at150
-          d150 = Typed.g-pre 𝓤 H A W 𝓣 E G8 G9 b103 Δ0 (λ Ψ. Ψ) at149 (Lifetime.g-begin 𝓤 H A W E G8 6
-              (tt,
-              (tt,
-              (tt,
-              (tt,
-              (tt,
-              (tt,
-              (tt,
-              (tt,
-              (tt,
-              (tt,
-              (tt,
-              (tt,
-              (tt,
-              (tt,
-              (tt,
-              (tt,
-              (tt,
-              (tt,
-              (tt,
-              (tt,
-              (tt,
-              (tt,
-              (tt,
-              (tt,
-              (tt, (tt, (tt, (tt, (tt, (tt, (tt, (tt, (tt, (tt, (tt, (tt, (tt, (tt, (tt, (tt, (tt, (tt, (tt, (tt, (tt, (tt, (tt, (tt, (tt, (tt, (tt, tt))))))))))))))))))))))))))))))))))))))))))))))))))))
+          d150 = Typed.g-pre 𝓤 H A W 𝓣 E G8 G9 b103 Δ0 (λ Ψ. Ψ) at149 (Lifetime.g-begin 𝓤 H A W E G8 6 (
+            tt,
+            (
+              tt,
+              (
+                tt,
+                (
+                  tt,
+                  (
+                    tt,
+                    (
+                      tt,
+                      (
+                        tt,
+                        (
+                          tt,
+                          (
+                            tt,
+                            (
+                              tt,
+                              (
+                                tt,
+                                (
+                                  tt,
+                                  (
+                                    tt,
+                                    (
+                                      tt,
+                                      (
+                                        tt,
+                                        (
+                                          tt,
+                                          (
+                                            tt,
+                                            (
+                                              tt,
+                                              (
+                                                tt,
+                                                (
+                                                  tt,
+                                                  (
+                                                    tt,
+                                                    (
+                                                      tt,
+                                                      (
+                                                        tt,
+                                                        (
+                                                          tt,
+                                                          (tt, (tt, (tt, (tt, (tt, (tt, (tt, (tt, (tt, (tt, (tt, (tt, (tt, (tt, (tt, (tt, (tt, (tt, (tt, (tt, (tt, (tt, (tt, (tt, (tt, (tt, (tt, tt))))))))))))))))))))))))))),
+                                                        ),
+                                                      ),
+                                                    ),
+                                                  ),
+                                                ),
+                                              ),
+                                            ),
+                                          ),
+                                        ),
+                                      ),
+                                    ),
+                                  ),
+                                ),
+                              ),
+                            ),
+                          ),
+                        ),
+                      ),
+                    ),
+                  ),
+                ),
+              ),
+            ),
+          ))
               d149
 
           d151 : Typed.Typed 𝓤 H A 𝓣 E G7 b104 Δ0 at151
@@ -4943,25 +6199,63 @@ module _ (claims· : Claims) where
           pub lines : Kinds.Den {n = 6} κs (MutSlice.pMutS (Referent.rtF (Referent.fInt Syntax.w16)) 2 tt)
           pub rs : Kinds.Den {n = 6} κs (MutSlice.pMutS (Element.type) 3 tt)
           pub image : Kinds.Den {n = 6} κs (MutSlice.pMutS (Referent.rtF (Referent.fInt Syntax.w16)) 4 tt)
-          pub form : Kinds.Den {n = 6} κs (Value.pVal record
-              { ty = Declared'.row Form.the-type; one = Path'.refl; val = Laws'10.val Form.the-type Laws.the-laws; tells = Laws'10.tells Form.the-type Laws.the-laws; still = Laws'10.still Form.the-type
-              Laws.the-copy Exit.yes; row = Rows'.whole (Declared'.row Form.the-type); rd = λ x. x; mk = λ x. x; } λ M 𝓤 H A W. record
-              { copies = Laws'10.copy Form.the-type Laws.the-copy 𝓤 H A W; lawful = Laws'10.lawful Form.the-type Laws.the-laws 𝓤 H A W; makes = Laws'10.makes Form.the-type Laws.the-plain 𝓤 H A; in-mem =
-              Local.mem-whole 𝓤 H A W (Declared'.row Form.the-type); of-mem = Local.whole-mem 𝓤 H A W (Declared'.row Form.the-type); })
+          pub form : Kinds.Den {n = 6} κs (Value.pVal record {
+            ty = Declared'.row Form.the-type;
+            one = Path'.refl;
+            val = Laws'10.val Form.the-type Laws.the-laws;
+            tells = Laws'10.tells Form.the-type Laws.the-laws;
+            still = Laws'10.still Form.the-type
+                Laws.the-copy Exit.yes;
+            row = Rows'.whole (Declared'.row Form.the-type);
+            rd = λ x. x;
+            mk = λ x. x;
+          } λ M 𝓤 H A W. record {
+            copies = Laws'10.copy Form.the-type Laws.the-copy 𝓤 H A W;
+            lawful = Laws'10.lawful Form.the-type Laws.the-laws 𝓤 H A W;
+            makes = Laws'10.makes Form.the-type Laws.the-plain 𝓤 H A;
+            in-mem =
+                Local.mem-whole 𝓤 H A W (Declared'.row Form.the-type);
+            of-mem = Local.whole-mem 𝓤 H A W (Declared'.row Form.the-type);
+          })
           pub places : Kinds.Den {n = 6} κs (ShrRef.pShr (Array'.Array (Referent.rtF (Referent.fInt Syntax.w16)) 768) 5 tt)
           pub tile : Kinds.Den {n = 6} κs (Array.pArr (Array.eInt Syntax.w8) (Array.eInt-laws Syntax.w8) 36)
-          pub part : Kinds.Den {n = 6} κs (Value.pVal record
-              { ty = Declared'.row Part.the-type; one = Path'.refl; val = Laws'10.val Part.the-type Laws'5.the-laws; tells = Laws'10.tells Part.the-type Laws'5.the-laws; still = Laws'10.still
-              Part.the-type Laws'5.the-copy Exit.yes; row = Rows'.whole (Declared'.row Part.the-type); rd = λ x. x; mk = λ x. x; } λ M 𝓤 H A W. record
-              { copies = Laws'10.copy Part.the-type Laws'5.the-copy 𝓤 H A W; lawful = Laws'10.lawful Part.the-type Laws'5.the-laws 𝓤 H A W; makes = Laws'10.makes Part.the-type Laws'5.the-plain 𝓤 H A;
-              in-mem = Local.mem-whole 𝓤 H A W (Declared'.row Part.the-type); of-mem = Local.whole-mem 𝓤 H A W (Declared'.row Part.the-type); })
+          pub part : Kinds.Den {n = 6} κs (Value.pVal record {
+            ty = Declared'.row Part.the-type;
+            one = Path'.refl;
+            val = Laws'10.val Part.the-type Laws'5.the-laws;
+            tells = Laws'10.tells Part.the-type Laws'5.the-laws;
+            still = Laws'10.still
+                Part.the-type Laws'5.the-copy Exit.yes;
+            row = Rows'.whole (Declared'.row Part.the-type);
+            rd = λ x. x;
+            mk = λ x. x;
+          } λ M 𝓤 H A W. record {
+            copies = Laws'10.copy Part.the-type Laws'5.the-copy 𝓤 H A W;
+            lawful = Laws'10.lawful Part.the-type Laws'5.the-laws 𝓤 H A W;
+            makes = Laws'10.makes Part.the-type Laws'5.the-plain 𝓤 H A;
+            in-mem = Local.mem-whole 𝓤 H A W (Declared'.row Part.the-type);
+            of-mem = Local.whole-mem 𝓤 H A W (Declared'.row Part.the-type);
+          })
           pub count : Kinds.Den {n = 6} κs (Num.pNum Syntax.w64)
           pub windowed : Kinds.Den {n = 6} κs Bool.pBool
-          pub entries : Kinds.Den {n = 6} κs (Value.pVal record
-              { ty = Declared'.row Entries.the-type; one = Path'.refl; val = Laws'10.val Entries.the-type Laws'3.the-laws; tells = Laws'10.tells Entries.the-type Laws'3.the-laws; still = Laws'10.still
-              Entries.the-type Laws'3.the-copy Exit.yes; row = Rows'.whole (Declared'.row Entries.the-type); rd = λ x. x; mk = λ x. x; } λ M 𝓤 H A W. record
-              { copies = Laws'10.copy Entries.the-type Laws'3.the-copy 𝓤 H A W; lawful = Laws'10.lawful Entries.the-type Laws'3.the-laws 𝓤 H A W; makes = Laws'10.makes Entries.the-type Laws'3.the-plain 𝓤
-              H A; in-mem = Local.mem-whole 𝓤 H A W (Declared'.row Entries.the-type); of-mem = Local.whole-mem 𝓤 H A W (Declared'.row Entries.the-type); })
+          pub entries : Kinds.Den {n = 6} κs (Value.pVal record {
+            ty = Declared'.row Entries.the-type;
+            one = Path'.refl;
+            val = Laws'10.val Entries.the-type Laws'3.the-laws;
+            tells = Laws'10.tells Entries.the-type Laws'3.the-laws;
+            still = Laws'10.still
+                Entries.the-type Laws'3.the-copy Exit.yes;
+            row = Rows'.whole (Declared'.row Entries.the-type);
+            rd = λ x. x;
+            mk = λ x. x;
+          } λ M 𝓤 H A W. record {
+            copies = Laws'10.copy Entries.the-type Laws'3.the-copy 𝓤 H A W;
+            lawful = Laws'10.lawful Entries.the-type Laws'3.the-laws 𝓤 H A W;
+            makes = Laws'10.makes Entries.the-type Laws'3.the-plain 𝓤
+                H A;
+            in-mem = Local.mem-whole 𝓤 H A W (Declared'.row Entries.the-type);
+            of-mem = Local.whole-mem 𝓤 H A W (Declared'.row Entries.the-type);
+          })
 
         abbrev pub dens : (a : Args) → Kinds.Dens κs ps
         dens = λ a. (a .block, (a .bases, (a .lines, (a .rs, (a .image, (a .form, (a .places, (a .tile, (a .part, (a .count, (a .windowed, (a .entries, tt))))))))))))
@@ -4974,9 +6268,12 @@ module _ (claims· : Claims) where
       m0 = λ κs args. (tt, Enter.partsP κs 1 ps xs (dens κs args))
 
       abbrev W0 : (κs : Lifetimes.Lfts 6) → (args : Args κs) → Typed.Want O0
-      W0 = λ κs args.
-          (λ u. ⊥, tt, λ u. Enter.Fixs κs 1 ps xs (dens κs args) (u .1) × Post· κs (dens κs args) (Function.resV r κs (u .0)) (Clauses.atExit (Kinds.endedOf 6 ps r) κs (dens κs args) (Enter.lastsP κs 1 ps
-          xs (dens κs args) (u .1))))
+      W0 = λ κs args. (
+        λ u. ⊥,
+        tt,
+        λ u. Enter.Fixs κs 1 ps xs (dens κs args) (u .1) × Post· κs (dens κs args) (Function.resV r κs (u .0)) (Clauses.atExit (Kinds.endedOf 6 ps r) κs (dens κs args) (Enter.lastsP κs 1 ps
+            xs (dens κs args) (u .1))),
+      )
 
       pub record Start : Type 0 where
         pub κs : Lifetimes.Lfts 6
@@ -5074,7 +6371,7 @@ module _ (claims· : Claims) where
 
       module _ (before· : After-clear-arg) where
         abbrev pub After-clear·own : Type 0
-        After-clear·own = Called.Called ps·1 r·1 (claims· .3) T11 (record { pos = 24; ty = Syntax.tyRef Syntax.erased Syntax.mut (Syntax.tyInt Syntax.w16); ref = λ x. x; }, tt) (m9 (before· .before)
+        After-clear·own = Called.Called ps·1 r·1 (claims· .3) T11 (record { pos = 24; ty = Syntax.tyRef Syntax.erased Syntax.mut (Syntax.tyInt Syntax.w16); ref = λ x. x }, tt) (m9 (before· .before)
             (before· .clear-arg .given))
 
       pub record After-clear : Type 0 where
@@ -5082,7 +6379,7 @@ module _ (claims· : Claims) where
         pub clear : After-clear·own before
 
       abbrev pub After-clear·gave : (c : After-clear) → s10 .gives (m9 (c .before .before) (c .before .clear-arg .given))
-      After-clear·gave = λ c. Called.given ps·1 r·1 (claims· .3) T11 (record { pos = 24; ty = Syntax.tyRef Syntax.erased Syntax.mut (Syntax.tyInt Syntax.w16); ref = λ x. x; }, tt) (m9 (c .before
+      After-clear·gave = λ c. Called.given ps·1 r·1 (claims· .3) T11 (record { pos = 24; ty = Syntax.tyRef Syntax.erased Syntax.mut (Syntax.tyInt Syntax.w16); ref = λ x. x }, tt) (m9 (c .before
           .before) (c .before .clear-arg .given)) (c .clear)
 
       abbrev pub m11 : (before : After-clear-arg) → (given : s10 .gives (m9 (before .before) (before .clear-arg .given))) → Typed.Mo T13
@@ -5132,7 +6429,7 @@ module _ (claims· : Claims) where
 
       module _ (before· : After-start-records-arg) where
         abbrev pub After-base-of·own : Type 0
-        After-base-of·own = Called.Called ps·2 r·2 (claims· .5) T20 (record { pos = 2; ty = Syntax.tyRef (Syntax.named 1) Syntax.imm (Syntax.tyInt Syntax.w8); ref = λ x. x; }, (Num.vLit 0, tt)) (m15
+        After-base-of·own = Called.Called ps·2 r·2 (claims· .5) T20 (record { pos = 2; ty = Syntax.tyRef (Syntax.named 1) Syntax.imm (Syntax.tyInt Syntax.w8); ref = λ x. x }, (Num.vLit 0, tt)) (m15
             (before· .before) (before· .start-records-arg .given))
 
       pub record After-base-of : Type 0 where
@@ -5140,7 +6437,7 @@ module _ (claims· : Claims) where
         pub base-of : After-base-of·own before
 
       abbrev pub After-base-of·gave : (c : After-base-of) → s19 .gives (m15 (c .before .before) (c .before .start-records-arg .given))
-      After-base-of·gave = λ c. Called.given ps·2 r·2 (claims· .5) T20 (record { pos = 2; ty = Syntax.tyRef (Syntax.named 1) Syntax.imm (Syntax.tyInt Syntax.w8); ref = λ x. x; }, (Num.vLit 0, tt))
+      After-base-of·gave = λ c. Called.given ps·2 r·2 (claims· .5) T20 (record { pos = 2; ty = Syntax.tyRef (Syntax.named 1) Syntax.imm (Syntax.tyInt Syntax.w8); ref = λ x. x }, (Num.vLit 0, tt))
           (m15 (c .before .before) (c .before .start-records-arg .given)) (c .base-of)
 
       abbrev pub Need-start-records-requires : Type 0
@@ -5152,7 +6449,7 @@ module _ (claims· : Claims) where
       module _ (before· : After-base-of) where
         abbrev pub After-start-records·own : Type 0
         After-start-records·own = Called.Called ps·3 r·3 (claims· .7) T21
-            (record { pos = 26; ty = Syntax.tyRef Syntax.erased Syntax.mut Element.behind; ref = λ x. x; }, (Num.vAt 13 λ x. x, (Num.vAt 27 λ x. x, tt))) (m16 (before· .before) (After-base-of·gave
+            (record { pos = 26; ty = Syntax.tyRef Syntax.erased Syntax.mut Element.behind; ref = λ x. x }, (Num.vAt 13 λ x. x, (Num.vAt 27 λ x. x, tt))) (m16 (before· .before) (After-base-of·gave
             before·))
 
       pub record After-start-records : Type 0 where
@@ -5161,7 +6458,7 @@ module _ (claims· : Claims) where
 
       abbrev pub After-start-records·gave : (c : After-start-records) → s20 .gives (m16 (c .before .before) (After-base-of·gave (c .before)))
       After-start-records·gave = λ c. Called.given ps·3 r·3 (claims· .7) T21
-          (record { pos = 26; ty = Syntax.tyRef Syntax.erased Syntax.mut Element.behind; ref = λ x. x; }, (Num.vAt 13 λ x. x, (Num.vAt 27 λ x. x, tt))) (m16 (c .before .before) (After-base-of·gave (c
+          (record { pos = 26; ty = Syntax.tyRef Syntax.erased Syntax.mut Element.behind; ref = λ x. x }, (Num.vAt 13 λ x. x, (Num.vAt 27 λ x. x, tt))) (m16 (c .before .before) (After-base-of·gave (c
           .before))) (c .start-records)
 
       abbrev pub m18 : (before : After-base-of) → (given : s20 .gives (m16 (before .before) (After-base-of·gave before))) → Typed.Mo T23
@@ -5254,14 +6551,14 @@ module _ (claims· : Claims) where
           (4, Mut.mslice (Element.type) (Syntax.tyRef (Syntax.named 3) Syntax.mut Element.behind) 3) (Row.setRow 3
           (3, Mut.mslice (Referent.rtF (Referent.fInt Syntax.w16)) (Syntax.tyRef (Syntax.named 2) Syntax.mut (Syntax.tyInt Syntax.w16)) 2) (T30 .locals)))) (Row.set 5
           (5, Mut.mslice (Referent.rtF (Referent.fInt Syntax.w16)) (Syntax.tyRef (Syntax.named 4) Syntax.mut (Syntax.tyInt Syntax.w16)) 4) record
-          { ptr = Row.get 5 (T30 .locals) (m23 (before .before) (After-no-lines·gave before)) .ptr; name = Row.get 5 (T30 .locals) (m23 (before .before) (After-no-lines·gave before)) .name; now = image; }
+          { ptr = Row.get 5 (T30 .locals) (m23 (before .before) (After-no-lines·gave before)) .ptr; name = Row.get 5 (T30 .locals) (m23 (before .before) (After-no-lines·gave before)) .name; now = image }
           (Row.setRow 4 (4, Mut.mslice (Element.type) (Syntax.tyRef (Syntax.named 3) Syntax.mut Element.behind) 3) (Row.setRow 3
           (3, Mut.mslice (Referent.rtF (Referent.fInt Syntax.w16)) (Syntax.tyRef (Syntax.named 2) Syntax.mut (Syntax.tyInt Syntax.w16)) 2) (T30 .locals))) (Row.set 4
           (4, Mut.mslice (Element.type) (Syntax.tyRef (Syntax.named 3) Syntax.mut Element.behind) 3) record
-          { ptr = Row.get 4 (T30 .locals) (m23 (before .before) (After-no-lines·gave before)) .ptr; name = Row.get 4 (T30 .locals) (m23 (before .before) (After-no-lines·gave before)) .name; now = rs; }
+          { ptr = Row.get 4 (T30 .locals) (m23 (before .before) (After-no-lines·gave before)) .ptr; name = Row.get 4 (T30 .locals) (m23 (before .before) (After-no-lines·gave before)) .name; now = rs }
           (Row.setRow 3 (3, Mut.mslice (Referent.rtF (Referent.fInt Syntax.w16)) (Syntax.tyRef (Syntax.named 2) Syntax.mut (Syntax.tyInt Syntax.w16)) 2) (T30 .locals)) (Row.set 3
           (3, Mut.mslice (Referent.rtF (Referent.fInt Syntax.w16)) (Syntax.tyRef (Syntax.named 2) Syntax.mut (Syntax.tyInt Syntax.w16)) 2) record
-          { ptr = Row.get 3 (T30 .locals) (m23 (before .before) (After-no-lines·gave before)) .ptr; name = Row.get 3 (T30 .locals) (m23 (before .before) (After-no-lines·gave before)) .name; now = lines; }
+          { ptr = Row.get 3 (T30 .locals) (m23 (before .before) (After-no-lines·gave before)) .ptr; name = Row.get 3 (T30 .locals) (m23 (before .before) (After-no-lines·gave before)) .name; now = lines }
           (T30 .locals) (m23 (before .before) (After-no-lines·gave before)))))))
 
       abbrev W3 : (before : After-no-lines) → (lines : List.List (Referent.rtF (Referent.fInt Syntax.w16) .Denot)) → (rs : List.List (Element.type .Denot)) → (image : List.List (Referent.rtF
@@ -5372,7 +6669,7 @@ module _ (claims· : Claims) where
       module _ (before· : After-turn-if-arg) where
         abbrev pub After-turn-if·own : Type 0
         After-turn-if·own = Called.Called ps·6 r·6 (claims· .13) T43
-            (record { pos = 31; ty = Syntax.tyRef Syntax.erased Syntax.mut (Syntax.tyInt Syntax.w16); ref = λ x. x; }, (Num.vAt 15 λ x. x, (Bool.bAt 28 λ x. x, tt))) (m34 (before· .before) (before·
+            (record { pos = 31; ty = Syntax.tyRef Syntax.erased Syntax.mut (Syntax.tyInt Syntax.w16); ref = λ x. x }, (Num.vAt 15 λ x. x, (Bool.bAt 28 λ x. x, tt))) (m34 (before· .before) (before·
             .turn-if-arg .given))
 
       pub record After-turn-if : Type 0 where
@@ -5381,7 +6678,7 @@ module _ (claims· : Claims) where
 
       abbrev pub After-turn-if·gave : (c : After-turn-if) → s40 .gives (m34 (c .before .before) (c .before .turn-if-arg .given))
       After-turn-if·gave = λ c. Called.given ps·6 r·6 (claims· .13) T43
-          (record { pos = 31; ty = Syntax.tyRef Syntax.erased Syntax.mut (Syntax.tyInt Syntax.w16); ref = λ x. x; }, (Num.vAt 15 λ x. x, (Bool.bAt 28 λ x. x, tt))) (m34 (c .before .before) (c .before
+          (record { pos = 31; ty = Syntax.tyRef Syntax.erased Syntax.mut (Syntax.tyInt Syntax.w16); ref = λ x. x }, (Num.vAt 15 λ x. x, (Bool.bAt 28 λ x. x, tt))) (m34 (c .before .before) (c .before
           .turn-if-arg .given)) (c .turn-if)
 
       abbrev pub m36 : (before : After-turn-if-arg) → (given : s40 .gives (m34 (before .before) (before .turn-if-arg .given))) → Typed.Mo T45
@@ -5421,7 +6718,7 @@ module _ (claims· : Claims) where
       module _ (before· : After-slice-known4) where
         abbrev pub After-base-of2·own : Type 0
         After-base-of2·own = Called.Called ps·2 r·2 (claims· .5) T49
-            (record { pos = 2; ty = Syntax.tyRef (Syntax.named 1) Syntax.imm (Syntax.tyInt Syntax.w8); ref = λ x. x; }, (Num.vAt 18 λ x. x, tt)) (m39 (before· .before) (before· .slice-known4 .given))
+            (record { pos = 2; ty = Syntax.tyRef (Syntax.named 1) Syntax.imm (Syntax.tyInt Syntax.w8); ref = λ x. x }, (Num.vAt 18 λ x. x, tt)) (m39 (before· .before) (before· .slice-known4 .given))
 
       pub record After-base-of2 : Type 0 where
         pub before : After-slice-known4
@@ -5429,7 +6726,7 @@ module _ (claims· : Claims) where
 
       abbrev pub After-base-of2·gave : (c : After-base-of2) → s47 .gives (m39 (c .before .before) (c .before .slice-known4 .given))
       After-base-of2·gave = λ c. Called.given ps·2 r·2 (claims· .5) T49
-          (record { pos = 2; ty = Syntax.tyRef (Syntax.named 1) Syntax.imm (Syntax.tyInt Syntax.w8); ref = λ x. x; }, (Num.vAt 18 λ x. x, tt)) (m39 (c .before .before) (c .before .slice-known4 .given)) (c
+          (record { pos = 2; ty = Syntax.tyRef (Syntax.named 1) Syntax.imm (Syntax.tyInt Syntax.w8); ref = λ x. x }, (Num.vAt 18 λ x. x, tt)) (m39 (c .before .before) (c .before .slice-known4 .given)) (c
           .base-of2)
 
       abbrev pub m41 : (before : After-base-of2) → (given : s49 .gives (m40 (before .before) (After-base-of2·gave before))) → Typed.Mo T53
@@ -5455,7 +6752,7 @@ module _ (claims· : Claims) where
       module _ (before· : After-restart-arg) where
         abbrev pub After-is-restarted·own : Type 0
         After-is-restarted·own = Called.Called ps·7 r·7 (claims· .15) T54
-            (record { pos = 2; ty = Syntax.tyRef (Syntax.named 1) Syntax.imm (Syntax.tyInt Syntax.w8); ref = λ x. x; }, (Num.vAt 18 λ x. x, tt)) (m42 (before· .before) (before· .restart-arg .given))
+            (record { pos = 2; ty = Syntax.tyRef (Syntax.named 1) Syntax.imm (Syntax.tyInt Syntax.w8); ref = λ x. x }, (Num.vAt 18 λ x. x, tt)) (m42 (before· .before) (before· .restart-arg .given))
 
       pub record After-is-restarted : Type 0 where
         pub before : After-restart-arg
@@ -5463,7 +6760,7 @@ module _ (claims· : Claims) where
 
       abbrev pub After-is-restarted·gave : (c : After-is-restarted) → s51 .gives (m42 (c .before .before) (c .before .restart-arg .given))
       After-is-restarted·gave = λ c. Called.given ps·7 r·7 (claims· .15) T54
-          (record { pos = 2; ty = Syntax.tyRef (Syntax.named 1) Syntax.imm (Syntax.tyInt Syntax.w8); ref = λ x. x; }, (Num.vAt 18 λ x. x, tt)) (m42 (c .before .before) (c .before .restart-arg .given)) (c
+          (record { pos = 2; ty = Syntax.tyRef (Syntax.named 1) Syntax.imm (Syntax.tyInt Syntax.w8); ref = λ x. x }, (Num.vAt 18 λ x. x, tt)) (m42 (c .before .before) (c .before .restart-arg .given)) (c
           .is-restarted)
 
       abbrev pub Need-restart-requires : Type 0
@@ -5475,7 +6772,7 @@ module _ (claims· : Claims) where
       module _ (before· : After-is-restarted) where
         abbrev pub After-restart·own : Type 0
         After-restart·own = Called.Called ps·8 r·8 (claims· .17) T55
-            (record { pos = 33; ty = Syntax.tyRef Syntax.erased Syntax.mut Element.behind; ref = λ x. x; }, (Num.vAt 13 λ x. x, (Num.vAt 19 λ x. x, (Bool.bAt 28 λ x. x, tt)))) (m43 (before· .before)
+            (record { pos = 33; ty = Syntax.tyRef Syntax.erased Syntax.mut Element.behind; ref = λ x. x }, (Num.vAt 13 λ x. x, (Num.vAt 19 λ x. x, (Bool.bAt 28 λ x. x, tt)))) (m43 (before· .before)
             (After-is-restarted·gave before·))
 
       pub record After-restart : Type 0 where
@@ -5484,7 +6781,7 @@ module _ (claims· : Claims) where
 
       abbrev pub After-restart·gave : (c : After-restart) → s52 .gives (m43 (c .before .before) (After-is-restarted·gave (c .before)))
       After-restart·gave = λ c. Called.given ps·8 r·8 (claims· .17) T55
-          (record { pos = 33; ty = Syntax.tyRef Syntax.erased Syntax.mut Element.behind; ref = λ x. x; }, (Num.vAt 13 λ x. x, (Num.vAt 19 λ x. x, (Bool.bAt 28 λ x. x, tt)))) (m43 (c .before .before)
+          (record { pos = 33; ty = Syntax.tyRef Syntax.erased Syntax.mut Element.behind; ref = λ x. x }, (Num.vAt 13 λ x. x, (Num.vAt 19 λ x. x, (Bool.bAt 28 λ x. x, tt)))) (m43 (c .before .before)
           (After-is-restarted·gave (c .before))) (c .restart)
 
       abbrev pub m45 : (before : After-is-restarted) → (given : s52 .gives (m43 (before .before) (After-is-restarted·gave before))) → Typed.Mo T57
@@ -5573,16 +6870,31 @@ module _ (claims· : Claims) where
 
       module _ (before· : After-quantisers-in) where
         abbrev pub After-line·own : Type 0
-        After-line·own = Called.Called ps·10 r·10 (claims· .21) T71
-            (record { pos = 1; ty = Syntax.tyRef (Syntax.named 0) Syntax.imm (Syntax.tyInt Syntax.w8); ref = λ x. x; },
-            (record { pos = 16; st = List.[]; d = 0; at = λ x. x },
-            (record { pos = 35; ty = Syntax.tyRef Syntax.erased Syntax.mut (Syntax.tyInt Syntax.w16); ref = λ x. x; },
-            (record { pos = 37; ty = Syntax.tyRef Syntax.erased Syntax.mut Element.behind; ref = λ x. x; },
-            (record { pos = 39; ty = Syntax.tyRef Syntax.erased Syntax.mut (Syntax.tyInt Syntax.w16); ref = λ x. x; },
-            (record { pos = 6; st = List.[]; d = 0; at = λ x. x },
-            (record { pos = 40; st = List.[]; d = 0; at = λ x. x },
-            (record { pos = 7; ty = Syntax.tyRef (Syntax.named 5) Syntax.imm (Syntax.tyArray (Syntax.tyInt Syntax.w16) 768); ref = λ x. x; },
-            (record { pos = 8; st = List.[]; d = 0; at = λ x. x }, (record { pos = 9; st = List.[]; d = 0; at = λ x. x }, (Num.vAt 18 λ x. x, (Bool.bAt 11 λ x. x, tt)))))))))))) (m54 (before· .before)
+        After-line·own = Called.Called ps·10 r·10 (claims· .21) T71 (
+          record { pos = 1; ty = Syntax.tyRef (Syntax.named 0) Syntax.imm (Syntax.tyInt Syntax.w8); ref = λ x. x },
+          (
+            record { pos = 16; st = List.[]; d = 0; at = λ x. x },
+            (
+              record { pos = 35; ty = Syntax.tyRef Syntax.erased Syntax.mut (Syntax.tyInt Syntax.w16); ref = λ x. x },
+              (
+                record { pos = 37; ty = Syntax.tyRef Syntax.erased Syntax.mut Element.behind; ref = λ x. x },
+                (
+                  record { pos = 39; ty = Syntax.tyRef Syntax.erased Syntax.mut (Syntax.tyInt Syntax.w16); ref = λ x. x },
+                  (
+                    record { pos = 6; st = List.[]; d = 0; at = λ x. x },
+                    (
+                      record { pos = 40; st = List.[]; d = 0; at = λ x. x },
+                      (
+                        record { pos = 7; ty = Syntax.tyRef (Syntax.named 5) Syntax.imm (Syntax.tyArray (Syntax.tyInt Syntax.w16) 768); ref = λ x. x },
+                        (record { pos = 8; st = List.[]; d = 0; at = λ x. x }, (record { pos = 9; st = List.[]; d = 0; at = λ x. x }, (Num.vAt 18 λ x. x, (Bool.bAt 11 λ x. x, tt)))),
+                      ),
+                    ),
+                  ),
+                ),
+              ),
+            ),
+          ),
+        ) (m54 (before· .before)
             (After-quantisers-in·gave before·))
 
       pub record After-line : Type 0 where
@@ -5590,16 +6902,31 @@ module _ (claims· : Claims) where
         pub line : After-line·own before
 
       abbrev pub After-line·gave : (c : After-line) → s68 .gives (m54 (c .before .before) (After-quantisers-in·gave (c .before)))
-      After-line·gave = λ c. Called.given ps·10 r·10 (claims· .21) T71
-          (record { pos = 1; ty = Syntax.tyRef (Syntax.named 0) Syntax.imm (Syntax.tyInt Syntax.w8); ref = λ x. x; },
-          (record { pos = 16; st = List.[]; d = 0; at = λ x. x },
-          (record { pos = 35; ty = Syntax.tyRef Syntax.erased Syntax.mut (Syntax.tyInt Syntax.w16); ref = λ x. x; },
-          (record { pos = 37; ty = Syntax.tyRef Syntax.erased Syntax.mut Element.behind; ref = λ x. x; },
-          (record { pos = 39; ty = Syntax.tyRef Syntax.erased Syntax.mut (Syntax.tyInt Syntax.w16); ref = λ x. x; },
-          (record { pos = 6; st = List.[]; d = 0; at = λ x. x },
-          (record { pos = 40; st = List.[]; d = 0; at = λ x. x },
-          (record { pos = 7; ty = Syntax.tyRef (Syntax.named 5) Syntax.imm (Syntax.tyArray (Syntax.tyInt Syntax.w16) 768); ref = λ x. x; },
-          (record { pos = 8; st = List.[]; d = 0; at = λ x. x }, (record { pos = 9; st = List.[]; d = 0; at = λ x. x }, (Num.vAt 18 λ x. x, (Bool.bAt 11 λ x. x, tt)))))))))))) (m54 (c .before .before)
+      After-line·gave = λ c. Called.given ps·10 r·10 (claims· .21) T71 (
+        record { pos = 1; ty = Syntax.tyRef (Syntax.named 0) Syntax.imm (Syntax.tyInt Syntax.w8); ref = λ x. x },
+        (
+          record { pos = 16; st = List.[]; d = 0; at = λ x. x },
+          (
+            record { pos = 35; ty = Syntax.tyRef Syntax.erased Syntax.mut (Syntax.tyInt Syntax.w16); ref = λ x. x },
+            (
+              record { pos = 37; ty = Syntax.tyRef Syntax.erased Syntax.mut Element.behind; ref = λ x. x },
+              (
+                record { pos = 39; ty = Syntax.tyRef Syntax.erased Syntax.mut (Syntax.tyInt Syntax.w16); ref = λ x. x },
+                (
+                  record { pos = 6; st = List.[]; d = 0; at = λ x. x },
+                  (
+                    record { pos = 40; st = List.[]; d = 0; at = λ x. x },
+                    (
+                      record { pos = 7; ty = Syntax.tyRef (Syntax.named 5) Syntax.imm (Syntax.tyArray (Syntax.tyInt Syntax.w16) 768); ref = λ x. x },
+                      (record { pos = 8; st = List.[]; d = 0; at = λ x. x }, (record { pos = 9; st = List.[]; d = 0; at = λ x. x }, (Num.vAt 18 λ x. x, (Bool.bAt 11 λ x. x, tt)))),
+                    ),
+                  ),
+                ),
+              ),
+            ),
+          ),
+        ),
+      ) (m54 (c .before .before)
           (After-quantisers-in·gave (c .before))) (c .line)
 
       abbrev W5 : (before : After-quantisers-in) → (given : s68 .gives (m54 (before .before) (After-quantisers-in·gave before))) → Typed.Want O5
@@ -5774,18 +7101,20 @@ module _ (claims· : Claims) where
 
       module _ (before· : After-zero-line-arg) where
         abbrev pub After-zero-line·own : Type 0
-        After-zero-line·own = Called.Called ps·11 r·11 (claims· .23) T99
-            (record { pos = 43; ty = Syntax.tyRef Syntax.erased Syntax.mut (Syntax.tyInt Syntax.w16); ref = λ x. x; },
-            (record { pos = 9; st = List.[]; d = 0; at = λ x. x }, (Num.vAt 18 λ x. x, (Bool.bAt 11 λ x. x, tt)))) (m74 (before· .before) (before· .zero-line-arg .given))
+        After-zero-line·own = Called.Called ps·11 r·11 (claims· .23) T99 (
+          record { pos = 43; ty = Syntax.tyRef Syntax.erased Syntax.mut (Syntax.tyInt Syntax.w16); ref = λ x. x },
+          (record { pos = 9; st = List.[]; d = 0; at = λ x. x }, (Num.vAt 18 λ x. x, (Bool.bAt 11 λ x. x, tt))),
+        ) (m74 (before· .before) (before· .zero-line-arg .given))
 
       pub record After-zero-line : Type 0 where
         pub before : After-zero-line-arg
         pub zero-line : After-zero-line·own before
 
       abbrev pub After-zero-line·gave : (c : After-zero-line) → s95 .gives (m74 (c .before .before) (c .before .zero-line-arg .given))
-      After-zero-line·gave = λ c. Called.given ps·11 r·11 (claims· .23) T99
-          (record { pos = 43; ty = Syntax.tyRef Syntax.erased Syntax.mut (Syntax.tyInt Syntax.w16); ref = λ x. x; },
-          (record { pos = 9; st = List.[]; d = 0; at = λ x. x }, (Num.vAt 18 λ x. x, (Bool.bAt 11 λ x. x, tt)))) (m74 (c .before .before) (c .before .zero-line-arg .given)) (c .zero-line)
+      After-zero-line·gave = λ c. Called.given ps·11 r·11 (claims· .23) T99 (
+        record { pos = 43; ty = Syntax.tyRef Syntax.erased Syntax.mut (Syntax.tyInt Syntax.w16); ref = λ x. x },
+        (record { pos = 9; st = List.[]; d = 0; at = λ x. x }, (Num.vAt 18 λ x. x, (Bool.bAt 11 λ x. x, tt))),
+      ) (m74 (c .before .before) (c .before .zero-line-arg .given)) (c .zero-line)
 
       abbrev pub m76 : (before : After-zero-line-arg) → (given : s95 .gives (m74 (before .before) (before .zero-line-arg .given))) → Typed.Mo T101
       m76 = λ before given. s96 (m75 before given)
@@ -5938,9 +7267,10 @@ module _ (claims· : Claims) where
 
       module _ (before· : After-totals-at2) where
         abbrev pub After-with-line·own : Type 0
-        After-with-line·own = Called.Called ps·13 r·13 (claims· .27) T120
-            (record { pos = 17; st = List.[]; d = 0; at = λ x. x },
-            (Num.vAt 18 λ x. x, (Bool.bFld 16 (List._∷_ (Syntax.field 1) List.[]) 8 λ x. Place.struct .as-values x .1 .0, (record { pos = 45; st = List.[]; d = 0; at = λ x. x }, tt)))) (m93 (before·
+        After-with-line·own = Called.Called ps·13 r·13 (claims· .27) T120 (
+          record { pos = 17; st = List.[]; d = 0; at = λ x. x },
+          (Num.vAt 18 λ x. x, (Bool.bFld 16 (List._∷_ (Syntax.field 1) List.[]) 8 λ x. Place.struct .as-values x .1 .0, (record { pos = 45; st = List.[]; d = 0; at = λ x. x }, tt))),
+        ) (m93 (before·
             .before) (After-totals-at2·gave before·))
 
       pub record After-with-line : Type 0 where
@@ -5948,9 +7278,10 @@ module _ (claims· : Claims) where
         pub with-line : After-with-line·own before
 
       abbrev pub After-with-line·gave : (c : After-with-line) → s116 .gives (m93 (c .before .before) (After-totals-at2·gave (c .before)))
-      After-with-line·gave = λ c. Called.given ps·13 r·13 (claims· .27) T120
-          (record { pos = 17; st = List.[]; d = 0; at = λ x. x },
-          (Num.vAt 18 λ x. x, (Bool.bFld 16 (List._∷_ (Syntax.field 1) List.[]) 8 λ x. Place.struct .as-values x .1 .0, (record { pos = 45; st = List.[]; d = 0; at = λ x. x }, tt)))) (m93 (c .before
+      After-with-line·gave = λ c. Called.given ps·13 r·13 (claims· .27) T120 (
+        record { pos = 17; st = List.[]; d = 0; at = λ x. x },
+        (Num.vAt 18 λ x. x, (Bool.bFld 16 (List._∷_ (Syntax.field 1) List.[]) 8 λ x. Place.struct .as-values x .1 .0, (record { pos = 45; st = List.[]; d = 0; at = λ x. x }, tt))),
+      ) (m93 (c .before
           .before) (After-totals-at2·gave (c .before))) (c .with-line)
 
       abbrev pub m95 : (before : After-totals-at2) → (given : s116 .gives (m93 (before .before) (After-totals-at2·gave before))) → Typed.Mo T122
@@ -5995,13 +7326,22 @@ module _ (claims· : Claims) where
 
       module _ (before· : After-emit-line-if-arg2) where
         abbrev pub After-emit-line-if·own : Type 0
-        After-emit-line-if·own = Called.Called ps·14 r·14 (claims· .29) T129
-            (record { pos = 47; ty = Syntax.tyRef Syntax.erased Syntax.imm (Syntax.tyInt Syntax.w16); ref = λ x. x; },
-            (record { pos = 49; ty = Syntax.tyRef Syntax.erased Syntax.mut (Syntax.tyInt Syntax.w16); ref = λ x. x; },
-            (Num.vAt 15 λ x. x,
-            (Bool.bAt 14 λ x. x,
-            (record { pos = 7; ty = Syntax.tyRef (Syntax.named 5) Syntax.imm (Syntax.tyArray (Syntax.tyInt Syntax.w16) 768); ref = λ x. x; },
-            (record { pos = 8; st = List.[]; d = 0; at = λ x. x }, (record { pos = 9; st = List.[]; d = 0; at = λ x. x }, (Num.vAt 18 λ x. x, (Bool.bAt 28 λ x. x, tt))))))))) (m100 (before· .before)
+        After-emit-line-if·own = Called.Called ps·14 r·14 (claims· .29) T129 (
+          record { pos = 47; ty = Syntax.tyRef Syntax.erased Syntax.imm (Syntax.tyInt Syntax.w16); ref = λ x. x },
+          (
+            record { pos = 49; ty = Syntax.tyRef Syntax.erased Syntax.mut (Syntax.tyInt Syntax.w16); ref = λ x. x },
+            (
+              Num.vAt 15 λ x. x,
+              (
+                Bool.bAt 14 λ x. x,
+                (
+                  record { pos = 7; ty = Syntax.tyRef (Syntax.named 5) Syntax.imm (Syntax.tyArray (Syntax.tyInt Syntax.w16) 768); ref = λ x. x },
+                  (record { pos = 8; st = List.[]; d = 0; at = λ x. x }, (record { pos = 9; st = List.[]; d = 0; at = λ x. x }, (Num.vAt 18 λ x. x, (Bool.bAt 28 λ x. x, tt)))),
+                ),
+              ),
+            ),
+          ),
+        ) (m100 (before· .before)
             (before· .emit-line-if-arg2 .given))
 
       pub record After-emit-line-if : Type 0 where
@@ -6009,13 +7349,22 @@ module _ (claims· : Claims) where
         pub emit-line-if : After-emit-line-if·own before
 
       abbrev pub After-emit-line-if·gave : (c : After-emit-line-if) → s125 .gives (m100 (c .before .before) (c .before .emit-line-if-arg2 .given))
-      After-emit-line-if·gave = λ c. Called.given ps·14 r·14 (claims· .29) T129
-          (record { pos = 47; ty = Syntax.tyRef Syntax.erased Syntax.imm (Syntax.tyInt Syntax.w16); ref = λ x. x; },
-          (record { pos = 49; ty = Syntax.tyRef Syntax.erased Syntax.mut (Syntax.tyInt Syntax.w16); ref = λ x. x; },
-          (Num.vAt 15 λ x. x,
-          (Bool.bAt 14 λ x. x,
-          (record { pos = 7; ty = Syntax.tyRef (Syntax.named 5) Syntax.imm (Syntax.tyArray (Syntax.tyInt Syntax.w16) 768); ref = λ x. x; },
-          (record { pos = 8; st = List.[]; d = 0; at = λ x. x }, (record { pos = 9; st = List.[]; d = 0; at = λ x. x }, (Num.vAt 18 λ x. x, (Bool.bAt 28 λ x. x, tt))))))))) (m100 (c .before .before) (c
+      After-emit-line-if·gave = λ c. Called.given ps·14 r·14 (claims· .29) T129 (
+        record { pos = 47; ty = Syntax.tyRef Syntax.erased Syntax.imm (Syntax.tyInt Syntax.w16); ref = λ x. x },
+        (
+          record { pos = 49; ty = Syntax.tyRef Syntax.erased Syntax.mut (Syntax.tyInt Syntax.w16); ref = λ x. x },
+          (
+            Num.vAt 15 λ x. x,
+            (
+              Bool.bAt 14 λ x. x,
+              (
+                record { pos = 7; ty = Syntax.tyRef (Syntax.named 5) Syntax.imm (Syntax.tyArray (Syntax.tyInt Syntax.w16) 768); ref = λ x. x },
+                (record { pos = 8; st = List.[]; d = 0; at = λ x. x }, (record { pos = 9; st = List.[]; d = 0; at = λ x. x }, (Num.vAt 18 λ x. x, (Bool.bAt 28 λ x. x, tt)))),
+              ),
+            ),
+          ),
+        ),
+      ) (m100 (c .before .before) (c
           .before .emit-line-if-arg2 .given)) (c .emit-line-if)
 
       abbrev pub m102 : (before : After-emit-line-if-arg2) → (given : s125 .gives (m100 (before .before) (before .emit-line-if-arg2 .given))) → Typed.Mo T131
@@ -6323,29 +7672,46 @@ module _ (claims· : Claims) where
         lay23 : (c : After-totals-at3) → at126 (W0 (c .before .before .before .before .before .before .before .before .before .before .before .before .before .before .before .before .before .before
             .κs) (c .before .before .before .before .before .before .before .before .before .before .before .before .before .before .before .before .before .before .args)) (m110 (c .before)
             (After-totals-at3·gave c))
-        lay23 = λ c.
-            ((Path'.refl,
-            (Path'.refl,
-            (MutSlice.fix-len (Row.get 3 (T153 .locals) (m120 (c .before) (After-totals-at3·gave c)) .ptr) (Row.get 3 (T153 .locals) (m120 (c .before) (After-totals-at3·gave c)) .name) (Row.get 3 (T153
-            .locals) (m120 (c .before) (After-totals-at3·gave c)) .now) (dens (c .before .before .before .before .before .before .before .before .before .before .before .before .before .before .before
-            .before .before .before .κs) (c .before .before .before .before .before .before .before .before .before .before .before .before .before .before .before .before .before .before .args) .1 .1 .0
-            .now) (same-length-4 record { before = c .before; totals-at3 = c .totals-at3 }),
-            (MutSlice.fix-len (Row.get 4 (T153 .locals) (m120 (c .before) (After-totals-at3·gave c)) .ptr) (Row.get 4 (T153 .locals) (m120 (c .before) (After-totals-at3·gave c)) .name) (Row.get 4 (T153
-            .locals) (m120 (c .before) (After-totals-at3·gave c)) .now) (dens (c .before .before .before .before .before .before .before .before .before .before .before .before .before .before .before
-            .before .before .before .κs) (c .before .before .before .before .before .before .before .before .before .before .before .before .before .before .before .before .before .before .args) .1 .1 .1
-            .0 .now) (same-length-5 record { before = c .before; totals-at3 = c .totals-at3 }),
-            (MutSlice.fix-len (Row.get 5 (T153 .locals) (m120 (c .before) (After-totals-at3·gave c)) .ptr) (Row.get 5 (T153 .locals) (m120 (c .before) (After-totals-at3·gave c)) .name) (Row.get 5 (T153
-            .locals) (m120 (c .before) (After-totals-at3·gave c)) .now) (dens (c .before .before .before .before .before .before .before .before .before .before .before .before .before .before .before
-            .before .before .before .κs) (c .before .before .before .before .before .before .before .before .before .before .before .before .before .before .before .before .before .before .args) .1 .1 .1
-            .1 .0 .now) (same-length-6 record { before = c .before; totals-at3 = c .totals-at3 }), (tt, (Path'.refl, (tt, (tt, (tt, (tt, (tt, tt)))))))))))), returns-2 record
-            { before = c .before; totals-at3 = c .totals-at3 })
+        lay23 = λ c. (
+          (
+            Path'.refl,
+            (
+              Path'.refl,
+              (
+                MutSlice.fix-len (Row.get 3 (T153 .locals) (m120 (c .before) (After-totals-at3·gave c)) .ptr) (Row.get 3 (T153 .locals) (m120 (c .before) (After-totals-at3·gave c)) .name) (Row.get 3 (T153
+                    .locals) (m120 (c .before) (After-totals-at3·gave c)) .now) (dens (c .before .before .before .before .before .before .before .before .before .before .before .before .before .before .before
+                    .before .before .before .κs) (c .before .before .before .before .before .before .before .before .before .before .before .before .before .before .before .before .before .before .args) .1 .1 .0
+                    .now) (same-length-4 record { before = c .before; totals-at3 = c .totals-at3 }),
+                (
+                  MutSlice.fix-len (Row.get 4 (T153 .locals) (m120 (c .before) (After-totals-at3·gave c)) .ptr) (Row.get 4 (T153 .locals) (m120 (c .before) (After-totals-at3·gave c)) .name) (Row.get 4 (T153
+                      .locals) (m120 (c .before) (After-totals-at3·gave c)) .now) (dens (c .before .before .before .before .before .before .before .before .before .before .before .before .before .before .before
+                      .before .before .before .κs) (c .before .before .before .before .before .before .before .before .before .before .before .before .before .before .before .before .before .before .args) .1 .1 .1
+                      .0 .now) (same-length-5 record { before = c .before; totals-at3 = c .totals-at3 }),
+                  (
+                    MutSlice.fix-len (Row.get 5 (T153 .locals) (m120 (c .before) (After-totals-at3·gave c)) .ptr) (Row.get 5 (T153 .locals) (m120 (c .before) (After-totals-at3·gave c)) .name) (Row.get 5 (T153
+                        .locals) (m120 (c .before) (After-totals-at3·gave c)) .now) (dens (c .before .before .before .before .before .before .before .before .before .before .before .before .before .before .before
+                        .before .before .before .κs) (c .before .before .before .before .before .before .before .before .before .before .before .before .before .before .before .before .before .before .args) .1 .1 .1
+                        .1 .0 .now) (same-length-6 record { before = c .before; totals-at3 = c .totals-at3 }),
+                    (tt, (Path'.refl, (tt, (tt, (tt, (tt, (tt, tt))))))),
+                  ),
+                ),
+              ),
+            ),
+          ),
+          returns-2 record
+              { before = c .before; totals-at3 = c .totals-at3 },
+        )
 
         lay22 : (c : After-loop) → at127 (W0 (c .before .before .before .before .before .before .before .before .before .before .before .before .before .before .before .before .before .κs) (c .before
             .before .before .before .before .before .before .before .before .before .before .before .before .before .before .before .before .args)) (m31 (c .before))
-        lay22 = λ c.
-            (totals-at-requires-3 record { before = c .before; loop-test = c .loop-test }, λ g. lay23 record
-            { before = record { before = c .before; loop-test = c .loop-test }; totals-at3 = Called.called ps·12 r·12 (claims· .25) T31 (record { pos = 16; st = List.[]; d = 0; at = λ x. x }, tt) (m31 (c
-            .before)) g; })
+        lay22 = λ c. (
+          totals-at-requires-3 record { before = c .before; loop-test = c .loop-test },
+          λ g. lay23 record {
+            before = record { before = c .before; loop-test = c .loop-test };
+            totals-at3 = Called.called ps·12 r·12 (claims· .25) T31 (record { pos = 16; st = List.[]; d = 0; at = λ x. x }, tt) (m31 (c
+                .before)) g;
+          },
+        )
 
         lay21 : (c : After-emit-line-if) → at64 (W3 (c .before .before .before .before .before .before .before .before .before .before .before .before .before .before .before .before .before .before
             .before .before .before .before .before .before .before .before .before .before .before) (c .before .before .before .before .before .before .before .before .before .before .before .before
@@ -6357,132 +7723,150 @@ module _ (claims· : Claims) where
             .before .before .before .before .before .before .before .before .before .before .before .before .before .before .before .before .loop .tight-lines) (c .before .before .before .before .before
             .before .before .before .before .before .before .before .before .before .before .before .before .before .before .before .before .before .before .before .before .before .before .before .loop
             .n)) (m101 (c .before) (After-emit-line-if·gave c))
-        lay21 = λ c.
-            (Path'.refl, λ g. λ g'.
-            (add-n record { before = record { before = record { before = c .before; emit-line-if = c .emit-line-if }; image3 = record { given = g }; }; slice-known8 = record { given = g' }; },
-            (μ·0 (Row.get 1 (T30 .locals) (m23 (c .before .before .before .before .before .before .before .before .before .before .before .before .before .before .before .before .before .before .before
-            .before .before .before .before .before .before .before .before .before .before .before) (After-no-lines·gave (c .before .before .before .before .before .before .before .before .before .before
-            .before .before .before .before .before .before .before .before .before .before .before .before .before .before .before .before .before .before .before))) .now) (Row.get 2 (T30 .locals) (m23
-            (c .before .before .before .before .before .before .before .before .before .before .before .before .before .before .before .before .before .before .before .before .before .before .before
-            .before .before .before .before .before .before .before) (After-no-lines·gave (c .before .before .before .before .before .before .before .before .before .before .before .before .before .before
-            .before .before .before .before .before .before .before .before .before .before .before .before .before .before .before))) .now) (Row.get 3 (T30 .locals) (m23 (c .before .before .before
-            .before .before .before .before .before .before .before .before .before .before .before .before .before .before .before .before .before .before .before .before .before .before .before .before
-            .before .before .before) (After-no-lines·gave (c .before .before .before .before .before .before .before .before .before .before .before .before .before .before .before .before .before .before
-            .before .before .before .before .before .before .before .before .before .before .before))) .now) (Row.get 4 (T30 .locals) (m23 (c .before .before .before .before .before .before .before
-            .before .before .before .before .before .before .before .before .before .before .before .before .before .before .before .before .before .before .before .before .before .before .before)
-            (After-no-lines·gave (c .before .before .before .before .before .before .before .before .before .before .before .before .before .before .before .before .before .before .before .before .before
-            .before .before .before .before .before .before .before .before))) .now) (Row.get 5 (T30 .locals) (m23 (c .before .before .before .before .before .before .before .before .before .before
-            .before .before .before .before .before .before .before .before .before .before .before .before .before .before .before .before .before .before .before .before) (After-no-lines·gave (c .before
-            .before .before .before .before .before .before .before .before .before .before .before .before .before .before .before .before .before .before .before .before .before .before .before .before
-            .before .before .before .before))) .now) (Row.get 6 (T30 .locals) (m23 (c .before .before .before .before .before .before .before .before .before .before .before .before .before .before
-            .before .before .before .before .before .before .before .before .before .before .before .before .before .before .before .before) (After-no-lines·gave (c .before .before .before .before .before
-            .before .before .before .before .before .before .before .before .before .before .before .before .before .before .before .before .before .before .before .before .before .before .before
-            .before)))) (Row.get 7 (T30 .locals) (m23 (c .before .before .before .before .before .before .before .before .before .before .before .before .before .before .before .before .before .before
-            .before .before .before .before .before .before .before .before .before .before .before .before) (After-no-lines·gave (c .before .before .before .before .before .before .before .before .before
-            .before .before .before .before .before .before .before .before .before .before .before .before .before .before .before .before .before .before .before .before))) .now) (Row.get 8 (T30
-            .locals) (m23 (c .before .before .before .before .before .before .before .before .before .before .before .before .before .before .before .before .before .before .before .before .before .before
-            .before .before .before .before .before .before .before .before) (After-no-lines·gave (c .before .before .before .before .before .before .before .before .before .before .before .before .before
-            .before .before .before .before .before .before .before .before .before .before .before .before .before .before .before .before)))) (Row.get 9 (T30 .locals) (m23 (c .before .before .before
-            .before .before .before .before .before .before .before .before .before .before .before .before .before .before .before .before .before .before .before .before .before .before .before .before
-            .before .before .before) (After-no-lines·gave (c .before .before .before .before .before .before .before .before .before .before .before .before .before .before .before .before .before .before
-            .before .before .before .before .before .before .before .before .before .before .before)))) (Row.get 10 (T30 .locals) (m23 (c .before .before .before .before .before .before .before .before
-            .before .before .before .before .before .before .before .before .before .before .before .before .before .before .before .before .before .before .before .before .before .before)
-            (After-no-lines·gave (c .before .before .before .before .before .before .before .before .before .before .before .before .before .before .before .before .before .before .before .before .before
-            .before .before .before .before .before .before .before .before)))) (Row.get 11 (T30 .locals) (m23 (c .before .before .before .before .before .before .before .before .before .before .before
-            .before .before .before .before .before .before .before .before .before .before .before .before .before .before .before .before .before .before .before) (After-no-lines·gave (c .before .before
-            .before .before .before .before .before .before .before .before .before .before .before .before .before .before .before .before .before .before .before .before .before .before .before .before
-            .before .before .before)))) (Row.get 12 (T30 .locals) (m23 (c .before .before .before .before .before .before .before .before .before .before .before .before .before .before .before .before
-            .before .before .before .before .before .before .before .before .before .before .before .before .before .before) (After-no-lines·gave (c .before .before .before .before .before .before .before
-            .before .before .before .before .before .before .before .before .before .before .before .before .before .before .before .before .before .before .before .before .before .before)))) (Row.get 13
-            (T30 .locals) (m23 (c .before .before .before .before .before .before .before .before .before .before .before .before .before .before .before .before .before .before .before .before .before
-            .before .before .before .before .before .before .before .before .before) (After-no-lines·gave (c .before .before .before .before .before .before .before .before .before .before .before .before
-            .before .before .before .before .before .before .before .before .before .before .before .before .before .before .before .before .before)))) (Row.get 14 (T30 .locals) (m23 (c .before .before
-            .before .before .before .before .before .before .before .before .before .before .before .before .before .before .before .before .before .before .before .before .before .before .before .before
-            .before .before .before .before) (After-no-lines·gave (c .before .before .before .before .before .before .before .before .before .before .before .before .before .before .before .before .before
-            .before .before .before .before .before .before .before .before .before .before .before .before)))) (Row.get 15 (T30 .locals) (m23 (c .before .before .before .before .before .before .before
-            .before .before .before .before .before .before .before .before .before .before .before .before .before .before .before .before .before .before .before .before .before .before .before)
-            (After-no-lines·gave (c .before .before .before .before .before .before .before .before .before .before .before .before .before .before .before .before .before .before .before .before .before
-            .before .before .before .before .before .before .before .before)))) (Row.get 16 (T30 .locals) (m23 (c .before .before .before .before .before .before .before .before .before .before .before
-            .before .before .before .before .before .before .before .before .before .before .before .before .before .before .before .before .before .before .before) (After-no-lines·gave (c .before .before
-            .before .before .before .before .before .before .before .before .before .before .before .before .before .before .before .before .before .before .before .before .before .before .before .before
-            .before .before .before)))) (Row.get 17 (T30 .locals) (m23 (c .before .before .before .before .before .before .before .before .before .before .before .before .before .before .before .before
-            .before .before .before .before .before .before .before .before .before .before .before .before .before .before) (After-no-lines·gave (c .before .before .before .before .before .before .before
-            .before .before .before .before .before .before .before .before .before .before .before .before .before .before .before .before .before .before .before .before .before .before)))) (Row.get 18
-            (T30 .locals) (m23 (c .before .before .before .before .before .before .before .before .before .before .before .before .before .before .before .before .before .before .before .before .before
-            .before .before .before .before .before .before .before .before .before) (After-no-lines·gave (c .before .before .before .before .before .before .before .before .before .before .before .before
-            .before .before .before .before .before .before .before .before .before .before .before .before .before .before .before .before .before)))) (Row.get 3 (T30 .locals) (m109 record
-            { before = record { before = c .before; emit-line-if = c .emit-line-if }; image3 = record { given = g }; } g') .now) (Row.get 4 (T30 .locals) (m109 record
-            { before = record { before = c .before; emit-line-if = c .emit-line-if }; image3 = record { given = g }; } g') .now) (Row.get 5 (T30 .locals) (m109 record
-            { before = record { before = c .before; emit-line-if = c .emit-line-if }; image3 = record { given = g }; } g') .now) (Row.get 16 (T30 .locals) (m109 record
-            { before = record { before = c .before; emit-line-if = c .emit-line-if }; image3 = record { given = g }; } g')) (Row.get 17 (T30 .locals) (m109 record
-            { before = record { before = c .before; emit-line-if = c .emit-line-if }; image3 = record { given = g }; } g')) (Row.get 18 (T30 .locals) (m109 record
-            { before = record { before = c .before; emit-line-if = c .emit-line-if }; image3 = record { given = g }; } g')), loop-less record
-            { before = record { before = record { before = c .before; emit-line-if = c .emit-line-if }; image3 = record { given = g }; }; slice-known8 = record { given = g' }; },
-            ((Row.get 3 (T30 .locals) (m109 record { before = record { before = c .before; emit-line-if = c .emit-line-if }; image3 = record { given = g }; } g') .now, Row.get 4 (T30 .locals) (m109 record
-            { before = record { before = c .before; emit-line-if = c .emit-line-if }; image3 = record { given = g }; } g') .now, Row.get 5 (T30 .locals) (m109 record
-            { before = record { before = c .before; emit-line-if = c .emit-line-if }; image3 = record { given = g }; } g') .now, Row.get 16 (T30 .locals) (m109 record
-            { before = record { before = c .before; emit-line-if = c .emit-line-if }; image3 = record { given = g }; } g'), Row.get 17 (T30 .locals) (m109 record
-            { before = record { before = c .before; emit-line-if = c .emit-line-if }; image3 = record { given = g }; } g'), Row.get 18 (T30 .locals) (m109 record
-            { before = record { before = c .before; emit-line-if = c .emit-line-if }; image3 = record { given = g }; } g')), Path'.refl {a = m109 record
-            { before = record { before = c .before; emit-line-if = c .emit-line-if }; image3 = record { given = g }; } g'}, loop-again record
-            { before = record { before = record { before = c .before; emit-line-if = c .emit-line-if }; image3 = record { given = g }; }; slice-known8 = record { given = g' }; }, Path'.refl {a = μ·0
-            (Row.get 1 (T30 .locals) (m23 (c .before .before .before .before .before .before .before .before .before .before .before .before .before .before .before .before .before .before .before .before
-            .before .before .before .before .before .before .before .before .before .before) (After-no-lines·gave (c .before .before .before .before .before .before .before .before .before .before .before
-            .before .before .before .before .before .before .before .before .before .before .before .before .before .before .before .before .before .before))) .now) (Row.get 2 (T30 .locals) (m23 (c
-            .before .before .before .before .before .before .before .before .before .before .before .before .before .before .before .before .before .before .before .before .before .before .before .before
-            .before .before .before .before .before .before) (After-no-lines·gave (c .before .before .before .before .before .before .before .before .before .before .before .before .before .before .before
-            .before .before .before .before .before .before .before .before .before .before .before .before .before .before))) .now) (Row.get 3 (T30 .locals) (m23 (c .before .before .before .before
-            .before .before .before .before .before .before .before .before .before .before .before .before .before .before .before .before .before .before .before .before .before .before .before .before
-            .before .before) (After-no-lines·gave (c .before .before .before .before .before .before .before .before .before .before .before .before .before .before .before .before .before .before .before
-            .before .before .before .before .before .before .before .before .before .before))) .now) (Row.get 4 (T30 .locals) (m23 (c .before .before .before .before .before .before .before .before
-            .before .before .before .before .before .before .before .before .before .before .before .before .before .before .before .before .before .before .before .before .before .before)
-            (After-no-lines·gave (c .before .before .before .before .before .before .before .before .before .before .before .before .before .before .before .before .before .before .before .before .before
-            .before .before .before .before .before .before .before .before))) .now) (Row.get 5 (T30 .locals) (m23 (c .before .before .before .before .before .before .before .before .before .before
-            .before .before .before .before .before .before .before .before .before .before .before .before .before .before .before .before .before .before .before .before) (After-no-lines·gave (c .before
-            .before .before .before .before .before .before .before .before .before .before .before .before .before .before .before .before .before .before .before .before .before .before .before .before
-            .before .before .before .before))) .now) (Row.get 6 (T30 .locals) (m23 (c .before .before .before .before .before .before .before .before .before .before .before .before .before .before
-            .before .before .before .before .before .before .before .before .before .before .before .before .before .before .before .before) (After-no-lines·gave (c .before .before .before .before .before
-            .before .before .before .before .before .before .before .before .before .before .before .before .before .before .before .before .before .before .before .before .before .before .before
-            .before)))) (Row.get 7 (T30 .locals) (m23 (c .before .before .before .before .before .before .before .before .before .before .before .before .before .before .before .before .before .before
-            .before .before .before .before .before .before .before .before .before .before .before .before) (After-no-lines·gave (c .before .before .before .before .before .before .before .before .before
-            .before .before .before .before .before .before .before .before .before .before .before .before .before .before .before .before .before .before .before .before))) .now) (Row.get 8 (T30
-            .locals) (m23 (c .before .before .before .before .before .before .before .before .before .before .before .before .before .before .before .before .before .before .before .before .before .before
-            .before .before .before .before .before .before .before .before) (After-no-lines·gave (c .before .before .before .before .before .before .before .before .before .before .before .before .before
-            .before .before .before .before .before .before .before .before .before .before .before .before .before .before .before .before)))) (Row.get 9 (T30 .locals) (m23 (c .before .before .before
-            .before .before .before .before .before .before .before .before .before .before .before .before .before .before .before .before .before .before .before .before .before .before .before .before
-            .before .before .before) (After-no-lines·gave (c .before .before .before .before .before .before .before .before .before .before .before .before .before .before .before .before .before .before
-            .before .before .before .before .before .before .before .before .before .before .before)))) (Row.get 10 (T30 .locals) (m23 (c .before .before .before .before .before .before .before .before
-            .before .before .before .before .before .before .before .before .before .before .before .before .before .before .before .before .before .before .before .before .before .before)
-            (After-no-lines·gave (c .before .before .before .before .before .before .before .before .before .before .before .before .before .before .before .before .before .before .before .before .before
-            .before .before .before .before .before .before .before .before)))) (Row.get 11 (T30 .locals) (m23 (c .before .before .before .before .before .before .before .before .before .before .before
-            .before .before .before .before .before .before .before .before .before .before .before .before .before .before .before .before .before .before .before) (After-no-lines·gave (c .before .before
-            .before .before .before .before .before .before .before .before .before .before .before .before .before .before .before .before .before .before .before .before .before .before .before .before
-            .before .before .before)))) (Row.get 12 (T30 .locals) (m23 (c .before .before .before .before .before .before .before .before .before .before .before .before .before .before .before .before
-            .before .before .before .before .before .before .before .before .before .before .before .before .before .before) (After-no-lines·gave (c .before .before .before .before .before .before .before
-            .before .before .before .before .before .before .before .before .before .before .before .before .before .before .before .before .before .before .before .before .before .before)))) (Row.get 13
-            (T30 .locals) (m23 (c .before .before .before .before .before .before .before .before .before .before .before .before .before .before .before .before .before .before .before .before .before
-            .before .before .before .before .before .before .before .before .before) (After-no-lines·gave (c .before .before .before .before .before .before .before .before .before .before .before .before
-            .before .before .before .before .before .before .before .before .before .before .before .before .before .before .before .before .before)))) (Row.get 14 (T30 .locals) (m23 (c .before .before
-            .before .before .before .before .before .before .before .before .before .before .before .before .before .before .before .before .before .before .before .before .before .before .before .before
-            .before .before .before .before) (After-no-lines·gave (c .before .before .before .before .before .before .before .before .before .before .before .before .before .before .before .before .before
-            .before .before .before .before .before .before .before .before .before .before .before .before)))) (Row.get 15 (T30 .locals) (m23 (c .before .before .before .before .before .before .before
-            .before .before .before .before .before .before .before .before .before .before .before .before .before .before .before .before .before .before .before .before .before .before .before)
-            (After-no-lines·gave (c .before .before .before .before .before .before .before .before .before .before .before .before .before .before .before .before .before .before .before .before .before
-            .before .before .before .before .before .before .before .before)))) (Row.get 16 (T30 .locals) (m23 (c .before .before .before .before .before .before .before .before .before .before .before
-            .before .before .before .before .before .before .before .before .before .before .before .before .before .before .before .before .before .before .before) (After-no-lines·gave (c .before .before
-            .before .before .before .before .before .before .before .before .before .before .before .before .before .before .before .before .before .before .before .before .before .before .before .before
-            .before .before .before)))) (Row.get 17 (T30 .locals) (m23 (c .before .before .before .before .before .before .before .before .before .before .before .before .before .before .before .before
-            .before .before .before .before .before .before .before .before .before .before .before .before .before .before) (After-no-lines·gave (c .before .before .before .before .before .before .before
-            .before .before .before .before .before .before .before .before .before .before .before .before .before .before .before .before .before .before .before .before .before .before)))) (Row.get 18
-            (T30 .locals) (m23 (c .before .before .before .before .before .before .before .before .before .before .before .before .before .before .before .before .before .before .before .before .before
-            .before .before .before .before .before .before .before .before .before) (After-no-lines·gave (c .before .before .before .before .before .before .before .before .before .before .before .before
-            .before .before .before .before .before .before .before .before .before .before .before .before .before .before .before .before .before)))) (Row.get 3 (T30 .locals) (m109 record
-            { before = record { before = c .before; emit-line-if = c .emit-line-if }; image3 = record { given = g }; } g') .now) (Row.get 4 (T30 .locals) (m109 record
-            { before = record { before = c .before; emit-line-if = c .emit-line-if }; image3 = record { given = g }; } g') .now) (Row.get 5 (T30 .locals) (m109 record
-            { before = record { before = c .before; emit-line-if = c .emit-line-if }; image3 = record { given = g }; } g') .now) (Row.get 16 (T30 .locals) (m109 record
-            { before = record { before = c .before; emit-line-if = c .emit-line-if }; image3 = record { given = g }; } g')) (Row.get 17 (T30 .locals) (m109 record
-            { before = record { before = c .before; emit-line-if = c .emit-line-if }; image3 = record { given = g }; } g')) (Row.get 18 (T30 .locals) (m109 record
-            { before = record { before = c .before; emit-line-if = c .emit-line-if }; image3 = record { given = g }; } g'))}))))
+        lay21 = λ c. (
+          Path'.refl,
+          λ g. λ g'. (
+            add-n record { before = record { before = record { before = c .before; emit-line-if = c .emit-line-if }; image3 = record { given = g } }; slice-known8 = record { given = g' } },
+            (
+              μ·0 (Row.get 1 (T30 .locals) (m23 (c .before .before .before .before .before .before .before .before .before .before .before .before .before .before .before .before .before .before .before
+                  .before .before .before .before .before .before .before .before .before .before .before) (After-no-lines·gave (c .before .before .before .before .before .before .before .before .before .before
+                  .before .before .before .before .before .before .before .before .before .before .before .before .before .before .before .before .before .before .before))) .now) (Row.get 2 (T30 .locals) (m23
+                  (c .before .before .before .before .before .before .before .before .before .before .before .before .before .before .before .before .before .before .before .before .before .before .before
+                  .before .before .before .before .before .before .before) (After-no-lines·gave (c .before .before .before .before .before .before .before .before .before .before .before .before .before .before
+                  .before .before .before .before .before .before .before .before .before .before .before .before .before .before .before))) .now) (Row.get 3 (T30 .locals) (m23 (c .before .before .before
+                  .before .before .before .before .before .before .before .before .before .before .before .before .before .before .before .before .before .before .before .before .before .before .before .before
+                  .before .before .before) (After-no-lines·gave (c .before .before .before .before .before .before .before .before .before .before .before .before .before .before .before .before .before .before
+                  .before .before .before .before .before .before .before .before .before .before .before))) .now) (Row.get 4 (T30 .locals) (m23 (c .before .before .before .before .before .before .before
+                  .before .before .before .before .before .before .before .before .before .before .before .before .before .before .before .before .before .before .before .before .before .before .before)
+                  (After-no-lines·gave (c .before .before .before .before .before .before .before .before .before .before .before .before .before .before .before .before .before .before .before .before .before
+                  .before .before .before .before .before .before .before .before))) .now) (Row.get 5 (T30 .locals) (m23 (c .before .before .before .before .before .before .before .before .before .before
+                  .before .before .before .before .before .before .before .before .before .before .before .before .before .before .before .before .before .before .before .before) (After-no-lines·gave (c .before
+                  .before .before .before .before .before .before .before .before .before .before .before .before .before .before .before .before .before .before .before .before .before .before .before .before
+                  .before .before .before .before))) .now) (Row.get 6 (T30 .locals) (m23 (c .before .before .before .before .before .before .before .before .before .before .before .before .before .before
+                  .before .before .before .before .before .before .before .before .before .before .before .before .before .before .before .before) (After-no-lines·gave (c .before .before .before .before .before
+                  .before .before .before .before .before .before .before .before .before .before .before .before .before .before .before .before .before .before .before .before .before .before .before
+                  .before)))) (Row.get 7 (T30 .locals) (m23 (c .before .before .before .before .before .before .before .before .before .before .before .before .before .before .before .before .before .before
+                  .before .before .before .before .before .before .before .before .before .before .before .before) (After-no-lines·gave (c .before .before .before .before .before .before .before .before .before
+                  .before .before .before .before .before .before .before .before .before .before .before .before .before .before .before .before .before .before .before .before))) .now) (Row.get 8 (T30
+                  .locals) (m23 (c .before .before .before .before .before .before .before .before .before .before .before .before .before .before .before .before .before .before .before .before .before .before
+                  .before .before .before .before .before .before .before .before) (After-no-lines·gave (c .before .before .before .before .before .before .before .before .before .before .before .before .before
+                  .before .before .before .before .before .before .before .before .before .before .before .before .before .before .before .before)))) (Row.get 9 (T30 .locals) (m23 (c .before .before .before
+                  .before .before .before .before .before .before .before .before .before .before .before .before .before .before .before .before .before .before .before .before .before .before .before .before
+                  .before .before .before) (After-no-lines·gave (c .before .before .before .before .before .before .before .before .before .before .before .before .before .before .before .before .before .before
+                  .before .before .before .before .before .before .before .before .before .before .before)))) (Row.get 10 (T30 .locals) (m23 (c .before .before .before .before .before .before .before .before
+                  .before .before .before .before .before .before .before .before .before .before .before .before .before .before .before .before .before .before .before .before .before .before)
+                  (After-no-lines·gave (c .before .before .before .before .before .before .before .before .before .before .before .before .before .before .before .before .before .before .before .before .before
+                  .before .before .before .before .before .before .before .before)))) (Row.get 11 (T30 .locals) (m23 (c .before .before .before .before .before .before .before .before .before .before .before
+                  .before .before .before .before .before .before .before .before .before .before .before .before .before .before .before .before .before .before .before) (After-no-lines·gave (c .before .before
+                  .before .before .before .before .before .before .before .before .before .before .before .before .before .before .before .before .before .before .before .before .before .before .before .before
+                  .before .before .before)))) (Row.get 12 (T30 .locals) (m23 (c .before .before .before .before .before .before .before .before .before .before .before .before .before .before .before .before
+                  .before .before .before .before .before .before .before .before .before .before .before .before .before .before) (After-no-lines·gave (c .before .before .before .before .before .before .before
+                  .before .before .before .before .before .before .before .before .before .before .before .before .before .before .before .before .before .before .before .before .before .before)))) (Row.get 13
+                  (T30 .locals) (m23 (c .before .before .before .before .before .before .before .before .before .before .before .before .before .before .before .before .before .before .before .before .before
+                  .before .before .before .before .before .before .before .before .before) (After-no-lines·gave (c .before .before .before .before .before .before .before .before .before .before .before .before
+                  .before .before .before .before .before .before .before .before .before .before .before .before .before .before .before .before .before)))) (Row.get 14 (T30 .locals) (m23 (c .before .before
+                  .before .before .before .before .before .before .before .before .before .before .before .before .before .before .before .before .before .before .before .before .before .before .before .before
+                  .before .before .before .before) (After-no-lines·gave (c .before .before .before .before .before .before .before .before .before .before .before .before .before .before .before .before .before
+                  .before .before .before .before .before .before .before .before .before .before .before .before)))) (Row.get 15 (T30 .locals) (m23 (c .before .before .before .before .before .before .before
+                  .before .before .before .before .before .before .before .before .before .before .before .before .before .before .before .before .before .before .before .before .before .before .before)
+                  (After-no-lines·gave (c .before .before .before .before .before .before .before .before .before .before .before .before .before .before .before .before .before .before .before .before .before
+                  .before .before .before .before .before .before .before .before)))) (Row.get 16 (T30 .locals) (m23 (c .before .before .before .before .before .before .before .before .before .before .before
+                  .before .before .before .before .before .before .before .before .before .before .before .before .before .before .before .before .before .before .before) (After-no-lines·gave (c .before .before
+                  .before .before .before .before .before .before .before .before .before .before .before .before .before .before .before .before .before .before .before .before .before .before .before .before
+                  .before .before .before)))) (Row.get 17 (T30 .locals) (m23 (c .before .before .before .before .before .before .before .before .before .before .before .before .before .before .before .before
+                  .before .before .before .before .before .before .before .before .before .before .before .before .before .before) (After-no-lines·gave (c .before .before .before .before .before .before .before
+                  .before .before .before .before .before .before .before .before .before .before .before .before .before .before .before .before .before .before .before .before .before .before)))) (Row.get 18
+                  (T30 .locals) (m23 (c .before .before .before .before .before .before .before .before .before .before .before .before .before .before .before .before .before .before .before .before .before
+                  .before .before .before .before .before .before .before .before .before) (After-no-lines·gave (c .before .before .before .before .before .before .before .before .before .before .before .before
+                  .before .before .before .before .before .before .before .before .before .before .before .before .before .before .before .before .before)))) (Row.get 3 (T30 .locals) (m109 record
+                  { before = record { before = c .before; emit-line-if = c .emit-line-if }; image3 = record { given = g } } g') .now) (Row.get 4 (T30 .locals) (m109 record
+                  { before = record { before = c .before; emit-line-if = c .emit-line-if }; image3 = record { given = g } } g') .now) (Row.get 5 (T30 .locals) (m109 record
+                  { before = record { before = c .before; emit-line-if = c .emit-line-if }; image3 = record { given = g } } g') .now) (Row.get 16 (T30 .locals) (m109 record
+                  { before = record { before = c .before; emit-line-if = c .emit-line-if }; image3 = record { given = g } } g')) (Row.get 17 (T30 .locals) (m109 record
+                  { before = record { before = c .before; emit-line-if = c .emit-line-if }; image3 = record { given = g } } g')) (Row.get 18 (T30 .locals) (m109 record
+                  { before = record { before = c .before; emit-line-if = c .emit-line-if }; image3 = record { given = g } } g')),
+              loop-less record
+                  { before = record { before = record { before = c .before; emit-line-if = c .emit-line-if }; image3 = record { given = g } }; slice-known8 = record { given = g' } },
+              (
+                (
+                  Row.get 3 (T30 .locals) (m109 record { before = record { before = c .before; emit-line-if = c .emit-line-if }; image3 = record { given = g } } g') .now,
+                  Row.get 4 (T30 .locals) (m109 record
+                      { before = record { before = c .before; emit-line-if = c .emit-line-if }; image3 = record { given = g } } g') .now,
+                  Row.get 5 (T30 .locals) (m109 record
+                      { before = record { before = c .before; emit-line-if = c .emit-line-if }; image3 = record { given = g } } g') .now,
+                  Row.get 16 (T30 .locals) (m109 record
+                      { before = record { before = c .before; emit-line-if = c .emit-line-if }; image3 = record { given = g } } g'),
+                  Row.get 17 (T30 .locals) (m109 record
+                      { before = record { before = c .before; emit-line-if = c .emit-line-if }; image3 = record { given = g } } g'),
+                  Row.get 18 (T30 .locals) (m109 record
+                      { before = record { before = c .before; emit-line-if = c .emit-line-if }; image3 = record { given = g } } g'),
+                ),
+                Path'.refl {a = m109 record
+                    { before = record { before = c .before; emit-line-if = c .emit-line-if }; image3 = record { given = g } } g'},
+                loop-again record
+                    { before = record { before = record { before = c .before; emit-line-if = c .emit-line-if }; image3 = record { given = g } }; slice-known8 = record { given = g' } },
+                Path'.refl {a = μ·0
+                    (Row.get 1 (T30 .locals) (m23 (c .before .before .before .before .before .before .before .before .before .before .before .before .before .before .before .before .before .before .before .before
+                    .before .before .before .before .before .before .before .before .before .before) (After-no-lines·gave (c .before .before .before .before .before .before .before .before .before .before .before
+                    .before .before .before .before .before .before .before .before .before .before .before .before .before .before .before .before .before .before))) .now) (Row.get 2 (T30 .locals) (m23 (c
+                    .before .before .before .before .before .before .before .before .before .before .before .before .before .before .before .before .before .before .before .before .before .before .before .before
+                    .before .before .before .before .before .before) (After-no-lines·gave (c .before .before .before .before .before .before .before .before .before .before .before .before .before .before .before
+                    .before .before .before .before .before .before .before .before .before .before .before .before .before .before))) .now) (Row.get 3 (T30 .locals) (m23 (c .before .before .before .before
+                    .before .before .before .before .before .before .before .before .before .before .before .before .before .before .before .before .before .before .before .before .before .before .before .before
+                    .before .before) (After-no-lines·gave (c .before .before .before .before .before .before .before .before .before .before .before .before .before .before .before .before .before .before .before
+                    .before .before .before .before .before .before .before .before .before .before))) .now) (Row.get 4 (T30 .locals) (m23 (c .before .before .before .before .before .before .before .before
+                    .before .before .before .before .before .before .before .before .before .before .before .before .before .before .before .before .before .before .before .before .before .before)
+                    (After-no-lines·gave (c .before .before .before .before .before .before .before .before .before .before .before .before .before .before .before .before .before .before .before .before .before
+                    .before .before .before .before .before .before .before .before))) .now) (Row.get 5 (T30 .locals) (m23 (c .before .before .before .before .before .before .before .before .before .before
+                    .before .before .before .before .before .before .before .before .before .before .before .before .before .before .before .before .before .before .before .before) (After-no-lines·gave (c .before
+                    .before .before .before .before .before .before .before .before .before .before .before .before .before .before .before .before .before .before .before .before .before .before .before .before
+                    .before .before .before .before))) .now) (Row.get 6 (T30 .locals) (m23 (c .before .before .before .before .before .before .before .before .before .before .before .before .before .before
+                    .before .before .before .before .before .before .before .before .before .before .before .before .before .before .before .before) (After-no-lines·gave (c .before .before .before .before .before
+                    .before .before .before .before .before .before .before .before .before .before .before .before .before .before .before .before .before .before .before .before .before .before .before
+                    .before)))) (Row.get 7 (T30 .locals) (m23 (c .before .before .before .before .before .before .before .before .before .before .before .before .before .before .before .before .before .before
+                    .before .before .before .before .before .before .before .before .before .before .before .before) (After-no-lines·gave (c .before .before .before .before .before .before .before .before .before
+                    .before .before .before .before .before .before .before .before .before .before .before .before .before .before .before .before .before .before .before .before))) .now) (Row.get 8 (T30
+                    .locals) (m23 (c .before .before .before .before .before .before .before .before .before .before .before .before .before .before .before .before .before .before .before .before .before .before
+                    .before .before .before .before .before .before .before .before) (After-no-lines·gave (c .before .before .before .before .before .before .before .before .before .before .before .before .before
+                    .before .before .before .before .before .before .before .before .before .before .before .before .before .before .before .before)))) (Row.get 9 (T30 .locals) (m23 (c .before .before .before
+                    .before .before .before .before .before .before .before .before .before .before .before .before .before .before .before .before .before .before .before .before .before .before .before .before
+                    .before .before .before) (After-no-lines·gave (c .before .before .before .before .before .before .before .before .before .before .before .before .before .before .before .before .before .before
+                    .before .before .before .before .before .before .before .before .before .before .before)))) (Row.get 10 (T30 .locals) (m23 (c .before .before .before .before .before .before .before .before
+                    .before .before .before .before .before .before .before .before .before .before .before .before .before .before .before .before .before .before .before .before .before .before)
+                    (After-no-lines·gave (c .before .before .before .before .before .before .before .before .before .before .before .before .before .before .before .before .before .before .before .before .before
+                    .before .before .before .before .before .before .before .before)))) (Row.get 11 (T30 .locals) (m23 (c .before .before .before .before .before .before .before .before .before .before .before
+                    .before .before .before .before .before .before .before .before .before .before .before .before .before .before .before .before .before .before .before) (After-no-lines·gave (c .before .before
+                    .before .before .before .before .before .before .before .before .before .before .before .before .before .before .before .before .before .before .before .before .before .before .before .before
+                    .before .before .before)))) (Row.get 12 (T30 .locals) (m23 (c .before .before .before .before .before .before .before .before .before .before .before .before .before .before .before .before
+                    .before .before .before .before .before .before .before .before .before .before .before .before .before .before) (After-no-lines·gave (c .before .before .before .before .before .before .before
+                    .before .before .before .before .before .before .before .before .before .before .before .before .before .before .before .before .before .before .before .before .before .before)))) (Row.get 13
+                    (T30 .locals) (m23 (c .before .before .before .before .before .before .before .before .before .before .before .before .before .before .before .before .before .before .before .before .before
+                    .before .before .before .before .before .before .before .before .before) (After-no-lines·gave (c .before .before .before .before .before .before .before .before .before .before .before .before
+                    .before .before .before .before .before .before .before .before .before .before .before .before .before .before .before .before .before)))) (Row.get 14 (T30 .locals) (m23 (c .before .before
+                    .before .before .before .before .before .before .before .before .before .before .before .before .before .before .before .before .before .before .before .before .before .before .before .before
+                    .before .before .before .before) (After-no-lines·gave (c .before .before .before .before .before .before .before .before .before .before .before .before .before .before .before .before .before
+                    .before .before .before .before .before .before .before .before .before .before .before .before)))) (Row.get 15 (T30 .locals) (m23 (c .before .before .before .before .before .before .before
+                    .before .before .before .before .before .before .before .before .before .before .before .before .before .before .before .before .before .before .before .before .before .before .before)
+                    (After-no-lines·gave (c .before .before .before .before .before .before .before .before .before .before .before .before .before .before .before .before .before .before .before .before .before
+                    .before .before .before .before .before .before .before .before)))) (Row.get 16 (T30 .locals) (m23 (c .before .before .before .before .before .before .before .before .before .before .before
+                    .before .before .before .before .before .before .before .before .before .before .before .before .before .before .before .before .before .before .before) (After-no-lines·gave (c .before .before
+                    .before .before .before .before .before .before .before .before .before .before .before .before .before .before .before .before .before .before .before .before .before .before .before .before
+                    .before .before .before)))) (Row.get 17 (T30 .locals) (m23 (c .before .before .before .before .before .before .before .before .before .before .before .before .before .before .before .before
+                    .before .before .before .before .before .before .before .before .before .before .before .before .before .before) (After-no-lines·gave (c .before .before .before .before .before .before .before
+                    .before .before .before .before .before .before .before .before .before .before .before .before .before .before .before .before .before .before .before .before .before .before)))) (Row.get 18
+                    (T30 .locals) (m23 (c .before .before .before .before .before .before .before .before .before .before .before .before .before .before .before .before .before .before .before .before .before
+                    .before .before .before .before .before .before .before .before .before) (After-no-lines·gave (c .before .before .before .before .before .before .before .before .before .before .before .before
+                    .before .before .before .before .before .before .before .before .before .before .before .before .before .before .before .before .before)))) (Row.get 3 (T30 .locals) (m109 record
+                    { before = record { before = c .before; emit-line-if = c .emit-line-if }; image3 = record { given = g } } g') .now) (Row.get 4 (T30 .locals) (m109 record
+                    { before = record { before = c .before; emit-line-if = c .emit-line-if }; image3 = record { given = g } } g') .now) (Row.get 5 (T30 .locals) (m109 record
+                    { before = record { before = c .before; emit-line-if = c .emit-line-if }; image3 = record { given = g } } g') .now) (Row.get 16 (T30 .locals) (m109 record
+                    { before = record { before = c .before; emit-line-if = c .emit-line-if }; image3 = record { given = g } } g')) (Row.get 17 (T30 .locals) (m109 record
+                    { before = record { before = c .before; emit-line-if = c .emit-line-if }; image3 = record { given = g } } g')) (Row.get 18 (T30 .locals) (m109 record
+                    { before = record { before = c .before; emit-line-if = c .emit-line-if }; image3 = record { given = g } } g'))},
+              ),
+            ),
+          ),
+        )
 
         lay20 : (c : After-with-line) → at73 (W3 (c .before .before .before .before .before .before .before .before .before .before .before .before .before .before .before .before .before .before
             .before .before .before .before .before .before .before .before) (c .before .before .before .before .before .before .before .before .before .before .before .before .before .before .before
@@ -6493,23 +7877,42 @@ module _ (claims· : Claims) where
             .before .before .before .before .before .before .before .before .before .before .before .before .before .before .before .before .before .before .before .before .before .before .loop
             .tight-lines) (c .before .before .before .before .before .before .before .before .before .before .before .before .before .before .before .before .before .before .before .before .before .before
             .before .before .before .loop .n)) (m94 (c .before) (After-with-line·gave c))
-        lay20 = λ c. λ g.
-            (Path'.refl, λ g'.
-            (Path'.refl,
-            (tt,
-            (emit-line-if-requires record
-            { before = record { before = record { before = c .before; with-line = c .with-line }; emit-line-if-arg = record { given = g }; }; emit-line-if-arg2 = record { given = g' }; }, λ g''. lay21
-            record
-            { before = record
-            { before = record { before = record { before = c .before; with-line = c .with-line }; emit-line-if-arg = record { given = g }; }; emit-line-if-arg2 = record { given = g' }; }; emit-line-if =
-            Called.called ps·14 r·14 (claims· .29) T129
-            (record { pos = 47; ty = Syntax.tyRef Syntax.erased Syntax.imm (Syntax.tyInt Syntax.w16); ref = λ x. x; },
-            (record { pos = 49; ty = Syntax.tyRef Syntax.erased Syntax.mut (Syntax.tyInt Syntax.w16); ref = λ x. x; },
-            (Num.vAt 15 λ x. x,
-            (Bool.bAt 14 λ x. x,
-            (record { pos = 7; ty = Syntax.tyRef (Syntax.named 5) Syntax.imm (Syntax.tyArray (Syntax.tyInt Syntax.w16) 768); ref = λ x. x; },
-            (record { pos = 8; st = List.[]; d = 0; at = λ x. x }, (record { pos = 9; st = List.[]; d = 0; at = λ x. x }, (Num.vAt 18 λ x. x, (Bool.bAt 28 λ x. x, tt))))))))) (m100 record
-            { before = record { before = c .before; with-line = c .with-line }; emit-line-if-arg = record { given = g }; } g') g''; }))))
+        lay20 = λ c. λ g. (
+          Path'.refl,
+          λ g'. (
+            Path'.refl,
+            (
+              tt,
+              (
+                emit-line-if-requires record
+                    { before = record { before = record { before = c .before; with-line = c .with-line }; emit-line-if-arg = record { given = g } }; emit-line-if-arg2 = record { given = g' } },
+                λ g''. lay21
+                    record {
+                      before = record
+                          { before = record { before = record { before = c .before; with-line = c .with-line }; emit-line-if-arg = record { given = g } }; emit-line-if-arg2 = record { given = g' } };
+                      emit-line-if =
+                          Called.called ps·14 r·14 (claims· .29) T129 (
+                            record { pos = 47; ty = Syntax.tyRef Syntax.erased Syntax.imm (Syntax.tyInt Syntax.w16); ref = λ x. x },
+                            (
+                              record { pos = 49; ty = Syntax.tyRef Syntax.erased Syntax.mut (Syntax.tyInt Syntax.w16); ref = λ x. x },
+                              (
+                                Num.vAt 15 λ x. x,
+                                (
+                                  Bool.bAt 14 λ x. x,
+                                  (
+                                    record { pos = 7; ty = Syntax.tyRef (Syntax.named 5) Syntax.imm (Syntax.tyArray (Syntax.tyInt Syntax.w16) 768); ref = λ x. x },
+                                    (record { pos = 8; st = List.[]; d = 0; at = λ x. x }, (record { pos = 9; st = List.[]; d = 0; at = λ x. x }, (Num.vAt 18 λ x. x, (Bool.bAt 28 λ x. x, tt)))),
+                                  ),
+                                ),
+                              ),
+                            ),
+                          ) (m100 record
+                          { before = record { before = c .before; with-line = c .with-line }; emit-line-if-arg = record { given = g } } g') g'';
+                    },
+              ),
+            ),
+          ),
+        )
 
         lay19 : (c : After-totals-at2) → at74 (W3 (c .before .before .before .before .before .before .before .before .before .before .before .before .before .before .before .before .before .before
             .before .before .before .before .before .before .before) (c .before .before .before .before .before .before .before .before .before .before .before .before .before .before .before .before
@@ -6520,12 +7923,17 @@ module _ (claims· : Claims) where
             .before .before .before .before .before .before .before .before .before .before .before .before .before .before .before .before .loop .tight-lines) (c .before .before .before .before .before
             .before .before .before .before .before .before .before .before .before .before .before .before .before .before .before .before .before .before .before .loop .n)) (m93 (c .before)
             (After-totals-at2·gave c))
-        lay19 = λ c.
-            (with-line-requires record { before = c .before; totals-at2 = c .totals-at2 }, λ g. lay20 record
-            { before = record { before = c .before; totals-at2 = c .totals-at2 }; with-line = Called.called ps·13 r·13 (claims· .27) T120
-            (record { pos = 17; st = List.[]; d = 0; at = λ x. x },
-            (Num.vAt 18 λ x. x, (Bool.bFld 16 (List._∷_ (Syntax.field 1) List.[]) 8 λ x. Place.struct .as-values x .1 .0, (record { pos = 45; st = List.[]; d = 0; at = λ x. x }, tt)))) (m93 (c .before)
-            (After-totals-at2·gave c)) g; })
+        lay19 = λ c. (
+          with-line-requires record { before = c .before; totals-at2 = c .totals-at2 },
+          λ g. lay20 record {
+            before = record { before = c .before; totals-at2 = c .totals-at2 };
+            with-line = Called.called ps·13 r·13 (claims· .27) T120 (
+              record { pos = 17; st = List.[]; d = 0; at = λ x. x },
+              (Num.vAt 18 λ x. x, (Bool.bFld 16 (List._∷_ (Syntax.field 1) List.[]) 8 λ x. Place.struct .as-values x .1 .0, (record { pos = 45; st = List.[]; d = 0; at = λ x. x }, tt))),
+            ) (m93 (c .before)
+                (After-totals-at2·gave c)) g;
+          },
+        )
 
         lay18 : (c : After-known-told) → at77 (W3 (c .before .before .before .before .before .before .before .before .before .before .before .before .before .before .before .before .before .before
             .before .before .before .before .before .before) (c .before .before .before .before .before .before .before .before .before .before .before .before .before .before .before .before .before
@@ -6535,45 +7943,68 @@ module _ (claims· : Claims) where
             .before .before .before .before .before .before .before .before .before .loop .place) (c .before .before .before .before .before .before .before .before .before .before .before .before .before
             .before .before .before .before .before .before .before .before .before .before .loop .tight-lines) (c .before .before .before .before .before .before .before .before .before .before .before
             .before .before .before .before .before .before .before .before .before .before .before .before .loop .n)) (m66 (c .before) (c .known-told .given))
-        lay18 = λ c.
-            (totals-at-requires-2 record { before = c .before; known-told = c .known-told }, λ g. lay19 record
-            { before = record { before = c .before; known-told = c .known-told }; totals-at2 = Called.called ps·12 r·12 (claims· .25) T119 (record { pos = 16; st = List.[]; d = 0; at = λ x. x }, tt) (m92
-            (c .before) (c .known-told .given)) g; })
+        lay18 = λ c. (
+          totals-at-requires-2 record { before = c .before; known-told = c .known-told },
+          λ g. lay19 record {
+            before = record { before = c .before; known-told = c .known-told };
+            totals-at2 = Called.called ps·12 r·12 (claims· .25) T119 (record { pos = 16; st = List.[]; d = 0; at = λ x. x }, tt) (m92
+                (c .before) (c .known-told .given)) g;
+          },
+        )
 
         lay17 : (c : After-totals-at) → at23 (W5 (c .before .before .before .before .before .before .before .before .before .before .before .before .before) (After-line·gave (c .before .before .before
             .before .before .before .before .before .before .before .before .before))) (m80 (c .before) (After-totals-at·gave c))
-        lay17 = λ c.
-            ((Path'.refl,
-            (Path'.refl,
-            (MutSlice.fix-len (Row.get 3 (T117 .locals) (m90 (c .before) (After-totals-at·gave c)) .ptr) (Row.get 3 (T117 .locals) (m90 (c .before) (After-totals-at·gave c)) .name) (Row.get 3 (T117
-            .locals) (m90 (c .before) (After-totals-at·gave c)) .now) (dens (c .before .before .before .before .before .before .before .before .before .before .before .before .before .before .before
-            .before .before .before .before .before .before .before .before .before .before .before .before .before .before .before .before .before .before .before .before .before .before .before .before
-            .before .before .before .before .κs) (c .before .before .before .before .before .before .before .before .before .before .before .before .before .before .before .before .before .before .before
-            .before .before .before .before .before .before .before .before .before .before .before .before .before .before .before .before .before .before .before .before .before .before .before .before
-            .args) .1 .1 .0 .now) (same-length record { before = c .before; totals-at = c .totals-at }),
-            (MutSlice.fix-len (Row.get 4 (T117 .locals) (m90 (c .before) (After-totals-at·gave c)) .ptr) (Row.get 4 (T117 .locals) (m90 (c .before) (After-totals-at·gave c)) .name) (Row.get 4 (T117
-            .locals) (m90 (c .before) (After-totals-at·gave c)) .now) (dens (c .before .before .before .before .before .before .before .before .before .before .before .before .before .before .before
-            .before .before .before .before .before .before .before .before .before .before .before .before .before .before .before .before .before .before .before .before .before .before .before .before
-            .before .before .before .before .κs) (c .before .before .before .before .before .before .before .before .before .before .before .before .before .before .before .before .before .before .before
-            .before .before .before .before .before .before .before .before .before .before .before .before .before .before .before .before .before .before .before .before .before .before .before .before
-            .args) .1 .1 .1 .0 .now) (same-length-2 record { before = c .before; totals-at = c .totals-at }),
-            (MutSlice.fix-len (Row.get 5 (T117 .locals) (m90 (c .before) (After-totals-at·gave c)) .ptr) (Row.get 5 (T117 .locals) (m90 (c .before) (After-totals-at·gave c)) .name) (Row.get 5 (T117
-            .locals) (m90 (c .before) (After-totals-at·gave c)) .now) (dens (c .before .before .before .before .before .before .before .before .before .before .before .before .before .before .before
-            .before .before .before .before .before .before .before .before .before .before .before .before .before .before .before .before .before .before .before .before .before .before .before .before
-            .before .before .before .before .κs) (c .before .before .before .before .before .before .before .before .before .before .before .before .before .before .before .before .before .before .before
-            .before .before .before .before .before .before .before .before .before .before .before .before .before .before .before .before .before .before .before .before .before .before .before .before
-            .args) .1 .1 .1 .1 .0 .now) (same-length-3 record { before = c .before; totals-at = c .totals-at }), (tt, (Path'.refl, (tt, (tt, (tt, (tt, (tt, tt)))))))))))), returns record
-            { before = c .before; totals-at = c .totals-at })
+        lay17 = λ c. (
+          (
+            Path'.refl,
+            (
+              Path'.refl,
+              (
+                MutSlice.fix-len (Row.get 3 (T117 .locals) (m90 (c .before) (After-totals-at·gave c)) .ptr) (Row.get 3 (T117 .locals) (m90 (c .before) (After-totals-at·gave c)) .name) (Row.get 3 (T117
+                    .locals) (m90 (c .before) (After-totals-at·gave c)) .now) (dens (c .before .before .before .before .before .before .before .before .before .before .before .before .before .before .before
+                    .before .before .before .before .before .before .before .before .before .before .before .before .before .before .before .before .before .before .before .before .before .before .before .before
+                    .before .before .before .before .κs) (c .before .before .before .before .before .before .before .before .before .before .before .before .before .before .before .before .before .before .before
+                    .before .before .before .before .before .before .before .before .before .before .before .before .before .before .before .before .before .before .before .before .before .before .before .before
+                    .args) .1 .1 .0 .now) (same-length record { before = c .before; totals-at = c .totals-at }),
+                (
+                  MutSlice.fix-len (Row.get 4 (T117 .locals) (m90 (c .before) (After-totals-at·gave c)) .ptr) (Row.get 4 (T117 .locals) (m90 (c .before) (After-totals-at·gave c)) .name) (Row.get 4 (T117
+                      .locals) (m90 (c .before) (After-totals-at·gave c)) .now) (dens (c .before .before .before .before .before .before .before .before .before .before .before .before .before .before .before
+                      .before .before .before .before .before .before .before .before .before .before .before .before .before .before .before .before .before .before .before .before .before .before .before .before
+                      .before .before .before .before .κs) (c .before .before .before .before .before .before .before .before .before .before .before .before .before .before .before .before .before .before .before
+                      .before .before .before .before .before .before .before .before .before .before .before .before .before .before .before .before .before .before .before .before .before .before .before .before
+                      .args) .1 .1 .1 .0 .now) (same-length-2 record { before = c .before; totals-at = c .totals-at }),
+                  (
+                    MutSlice.fix-len (Row.get 5 (T117 .locals) (m90 (c .before) (After-totals-at·gave c)) .ptr) (Row.get 5 (T117 .locals) (m90 (c .before) (After-totals-at·gave c)) .name) (Row.get 5 (T117
+                        .locals) (m90 (c .before) (After-totals-at·gave c)) .now) (dens (c .before .before .before .before .before .before .before .before .before .before .before .before .before .before .before
+                        .before .before .before .before .before .before .before .before .before .before .before .before .before .before .before .before .before .before .before .before .before .before .before .before
+                        .before .before .before .before .κs) (c .before .before .before .before .before .before .before .before .before .before .before .before .before .before .before .before .before .before .before
+                        .before .before .before .before .before .before .before .before .before .before .before .before .before .before .before .before .before .before .before .before .before .before .before .before
+                        .args) .1 .1 .1 .1 .0 .now) (same-length-3 record { before = c .before; totals-at = c .totals-at }),
+                    (tt, (Path'.refl, (tt, (tt, (tt, (tt, (tt, tt))))))),
+                  ),
+                ),
+              ),
+            ),
+          ),
+          returns record
+              { before = c .before; totals-at = c .totals-at },
+        )
 
         lay16 : (c : After-zero-line) → at30 (W5 (c .before .before .before .before .before .before .before .before .before .before) (After-line·gave (c .before .before .before .before .before .before
             .before .before .before))) (m75 (c .before) (After-zero-line·gave c))
-        lay16 = λ c.
-            (Path'.refl, λ g. λ g'.
-            (totals-at-requires record { before = record { before = record { before = c .before; zero-line = c .zero-line }; image2 = record { given = g }; }; slice-known7 = record { given = g' }; }, λ
-            g''. lay17 record
-            { before = record { before = record { before = record { before = c .before; zero-line = c .zero-line }; image2 = record { given = g }; }; slice-known7 = record { given = g' }; }; totals-at =
-            Called.called ps·12 r·12 (claims· .25) T105 (record { pos = 16; st = List.[]; d = 0; at = λ x. x }, tt) (m79 record
-            { before = record { before = c .before; zero-line = c .zero-line }; image2 = record { given = g }; } g') g''; }))
+        lay16 = λ c. (
+          Path'.refl,
+          λ g. λ g'. (
+            totals-at-requires record { before = record { before = record { before = c .before; zero-line = c .zero-line }; image2 = record { given = g } }; slice-known7 = record { given = g' } },
+            λ
+                g''. lay17 record {
+                  before = record { before = record { before = record { before = c .before; zero-line = c .zero-line }; image2 = record { given = g } }; slice-known7 = record { given = g' } };
+                  totals-at =
+                      Called.called ps·12 r·12 (claims· .25) T105 (record { pos = 16; st = List.[]; d = 0; at = λ x. x }, tt) (m79 record
+                      { before = record { before = c .before; zero-line = c .zero-line }; image2 = record { given = g } } g') g'';
+                },
+          ),
+        )
 
         lay15 : (c : After-line) → at78 (W3 (c .before .before .before .before .before .before .before .before .before .before .before .before .before .before .before .before) (c .before .before
             .before .before .before .before .before .before .before .before .before .before .before .before .before .loop .lines) (c .before .before .before .before .before .before .before .before .before
@@ -6581,67 +8012,177 @@ module _ (claims· : Claims) where
             .image) (c .before .before .before .before .before .before .before .before .before .before .before .before .before .before .before .loop .place) (c .before .before .before .before .before
             .before .before .before .before .before .before .before .before .before .before .loop .tight-lines) (c .before .before .before .before .before .before .before .before .before .before .before
             .before .before .before .before .loop .n)) (m55 (c .before) (After-line·gave c))
-        lay15 = λ c.
-            (Path'.refl, λ g. λ g'.
-            (Path'.refl, λ g''.
-            (Path'.refl, λ g'3. λ g'4.
-            (λ k.
-            (enum-known-got record
-            { before = record
-            { before = record
-            { before = record
-            { before = record { before = record { before = record { before = c .before; line = c .line }; lines3 = record { given = g }; }; slice-known5 = record { given = g' }; }; rs3 = record { given =
-            g'' }; }; image = record { given = g'3 }; }; slice-known6 = record { given = g'4 }; }; match = record { keys1 = k }; }, λ g'5. λ g'6. lay18 record
-            { before = record
-            { before = record
-            { before = record
-            { before = record
-            { before = record
-            { before = record { before = record { before = record { before = c .before; line = c .line }; lines3 = record { given = g }; }; slice-known5 = record { given = g' }; }; rs3 = record { given =
-            g'' }; }; image = record { given = g'3 }; }; slice-known6 = record { given = g'4 }; }; match = record { keys1 = k }; }; got = record { given = g'5 }; }; known-told = record { given = g'6 };
-            }),
-            (λ k.
-            (enum-told record
-            { before = record
-            { before = record
-            { before = record
-            { before = record { before = record { before = record { before = c .before; line = c .line }; lines3 = record { given = g }; }; slice-known5 = record { given = g' }; }; rs3 = record { given =
-            g'' }; }; image = record { given = g'3 }; }; slice-known6 = record { given = g'4 }; }; match = record { keys2 = k }; }, λ g'7. λ g'8.
-            (Path'.refl,
-            (zero-line-requires record
-            { before = record
-            { before = record
-            { before = record
-            { before = record
-            { before = record
-            { before = record { before = record { before = record { before = c .before; line = c .line }; lines3 = record { given = g }; }; slice-known5 = record { given = g' }; }; rs3 = record { given =
-            g'' }; }; image = record { given = g'3 }; }; slice-known6 = record { given = g'4 }; }; match = record { keys2 = k }; }; enum-told = record { given = g'7 }; }; zero-line-arg = record { given =
-            g'8 }; }, λ g'9. lay16 record
-            { before = record
-            { before = record
-            { before = record
-            { before = record
-            { before = record
-            { before = record
-            { before = record { before = record { before = record { before = c .before; line = c .line }; lines3 = record { given = g }; }; slice-known5 = record { given = g' }; }; rs3 = record { given =
-            g'' }; }; image = record { given = g'3 }; }; slice-known6 = record { given = g'4 }; }; match = record { keys2 = k }; }; enum-told = record { given = g'7 }; }; zero-line-arg = record { given =
-            g'8 }; }; zero-line = Called.called ps·11 r·11 (claims· .23) T99
-            (record { pos = 43; ty = Syntax.tyRef Syntax.erased Syntax.mut (Syntax.tyInt Syntax.w16); ref = λ x. x; },
-            (record { pos = 9; st = List.[]; d = 0; at = λ x. x }, (Num.vAt 18 λ x. x, (Bool.bAt 11 λ x. x, tt)))) (m74 record
-            { before = record
-            { before = record
-            { before = record
-            { before = record
-            { before = record { before = record { before = record { before = c .before; line = c .line }; lines3 = record { given = g }; }; slice-known5 = record { given = g' }; }; rs3 = record { given =
-            g'' }; }; image = record { given = g'3 }; }; slice-known6 = record { given = g'4 }; }; match = record { keys2 = k }; }; enum-told = record { given = g'7 }; } g'8) g'9; }))), Match.each-below 2
-            (λ j. (Unit {0} × (Run.OneOf (List._∷_ 0 List.[]) j → ⊥)) × (Run.OneOf (List._∷_ 1 List.[]) j → ⊥) → ⊥) (λ n. n .1 Path'.refl, (λ n. n .0 .1 Path'.refl, tt)) (Declared.tagOf Lined.the-type
-            (Row.get 20 (T84 .locals) (m61 record
-            { before = record
-            { before = record { before = record { before = record { before = c .before; line = c .line }; lines3 = record { given = g }; }; slice-known5 = record { given = g' }; }; rs3 = record { given =
-            g'' }; }; image = record { given = g'3 }; } g'4))) (Match.tag-small Lined.the-type (Row.get 20 (T84 .locals) (m61 record
-            { before = record
-            { before = record { before = record { before = record { before = c .before; line = c .line }; lines3 = record { given = g }; }; slice-known5 = record { given = g' }; }; rs3 = record { given =
-            g'' }; }; image = record { given = g'3 }; } g'4))))))))
+        lay15 = λ c. (
+          Path'.refl,
+          λ g. λ g'. (
+            Path'.refl,
+            λ g''. (
+              Path'.refl,
+              λ g'3. λ g'4. (
+                λ k. (
+                  enum-known-got record {
+                    before = record {
+                      before = record {
+                        before = record {
+                          before = record { before = record { before = record { before = c .before; line = c .line }; lines3 = record { given = g } }; slice-known5 = record { given = g' } };
+                          rs3 = record {
+                            given =
+                                g'';
+                          };
+                        };
+                        image = record { given = g'3 };
+                      };
+                      slice-known6 = record { given = g'4 };
+                    };
+                    match = record { keys1 = k };
+                  },
+                  λ g'5. λ g'6. lay18 record {
+                    before = record {
+                      before = record {
+                        before = record {
+                          before = record {
+                            before = record {
+                              before = record { before = record { before = record { before = c .before; line = c .line }; lines3 = record { given = g } }; slice-known5 = record { given = g' } };
+                              rs3 = record {
+                                given =
+                                    g'';
+                              };
+                            };
+                            image = record { given = g'3 };
+                          };
+                          slice-known6 = record { given = g'4 };
+                        };
+                        match = record { keys1 = k };
+                      };
+                      got = record { given = g'5 };
+                    };
+                    known-told = record { given = g'6 };
+                  },
+                ),
+                (
+                  λ k. (
+                    enum-told record {
+                      before = record {
+                        before = record {
+                          before = record {
+                            before = record { before = record { before = record { before = c .before; line = c .line }; lines3 = record { given = g } }; slice-known5 = record { given = g' } };
+                            rs3 = record {
+                              given =
+                                  g'';
+                            };
+                          };
+                          image = record { given = g'3 };
+                        };
+                        slice-known6 = record { given = g'4 };
+                      };
+                      match = record { keys2 = k };
+                    },
+                    λ g'7. λ g'8. (
+                      Path'.refl,
+                      (
+                        zero-line-requires record {
+                          before = record {
+                            before = record {
+                              before = record {
+                                before = record {
+                                  before = record {
+                                    before = record { before = record { before = record { before = c .before; line = c .line }; lines3 = record { given = g } }; slice-known5 = record { given = g' } };
+                                    rs3 = record {
+                                      given =
+                                          g'';
+                                    };
+                                  };
+                                  image = record { given = g'3 };
+                                };
+                                slice-known6 = record { given = g'4 };
+                              };
+                              match = record { keys2 = k };
+                            };
+                            enum-told = record { given = g'7 };
+                          };
+                          zero-line-arg = record {
+                            given =
+                                g'8;
+                          };
+                        },
+                        λ g'9. lay16 record {
+                          before = record {
+                            before = record {
+                              before = record {
+                                before = record {
+                                  before = record {
+                                    before = record {
+                                      before = record { before = record { before = record { before = c .before; line = c .line }; lines3 = record { given = g } }; slice-known5 = record { given = g' } };
+                                      rs3 = record {
+                                        given =
+                                            g'';
+                                      };
+                                    };
+                                    image = record { given = g'3 };
+                                  };
+                                  slice-known6 = record { given = g'4 };
+                                };
+                                match = record { keys2 = k };
+                              };
+                              enum-told = record { given = g'7 };
+                            };
+                            zero-line-arg = record {
+                              given =
+                                  g'8;
+                            };
+                          };
+                          zero-line = Called.called ps·11 r·11 (claims· .23) T99 (
+                            record { pos = 43; ty = Syntax.tyRef Syntax.erased Syntax.mut (Syntax.tyInt Syntax.w16); ref = λ x. x },
+                            (record { pos = 9; st = List.[]; d = 0; at = λ x. x }, (Num.vAt 18 λ x. x, (Bool.bAt 11 λ x. x, tt))),
+                          ) (m74 record {
+                            before = record {
+                              before = record {
+                                before = record {
+                                  before = record {
+                                    before = record { before = record { before = record { before = c .before; line = c .line }; lines3 = record { given = g } }; slice-known5 = record { given = g' } };
+                                    rs3 = record {
+                                      given =
+                                          g'';
+                                    };
+                                  };
+                                  image = record { given = g'3 };
+                                };
+                                slice-known6 = record { given = g'4 };
+                              };
+                              match = record { keys2 = k };
+                            };
+                            enum-told = record { given = g'7 };
+                          } g'8) g'9;
+                        },
+                      ),
+                    ),
+                  ),
+                  Match.each-below 2
+                      (λ j. (Unit {0} × (Run.OneOf (List._∷_ 0 List.[]) j → ⊥)) × (Run.OneOf (List._∷_ 1 List.[]) j → ⊥) → ⊥) (λ n. n .1 Path'.refl, (λ n. n .0 .1 Path'.refl, tt)) (Declared.tagOf Lined.the-type
+                      (Row.get 20 (T84 .locals) (m61 record {
+                        before = record {
+                          before = record { before = record { before = record { before = c .before; line = c .line }; lines3 = record { given = g } }; slice-known5 = record { given = g' } };
+                          rs3 = record {
+                            given =
+                                g'';
+                          };
+                        };
+                        image = record { given = g'3 };
+                      } g'4))) (Match.tag-small Lined.the-type (Row.get 20 (T84 .locals) (m61 record {
+                        before = record {
+                          before = record { before = record { before = record { before = c .before; line = c .line }; lines3 = record { given = g } }; slice-known5 = record { given = g' } };
+                          rs3 = record {
+                            given =
+                                g'';
+                          };
+                        };
+                        image = record { given = g'3 };
+                      } g'4))),
+                ),
+              ),
+            ),
+          ),
+        )
 
         lay14 : (c : After-quantisers-in) → at79 (W3 (c .before .before .before .before .before .before .before .before .before .before .before .before .before .before .before) (c .before .before
             .before .before .before .before .before .before .before .before .before .before .before .before .loop .lines) (c .before .before .before .before .before .before .before .before .before .before
@@ -6649,80 +8190,148 @@ module _ (claims· : Claims) where
             .before .before .before .before .before .before .before .before .before .before .before .before .loop .place) (c .before .before .before .before .before .before .before .before .before .before
             .before .before .before .before .loop .tight-lines) (c .before .before .before .before .before .before .before .before .before .before .before .before .before .before .loop .n)) (m54 (c
             .before) (After-quantisers-in·gave c))
-        lay14 = λ c.
-            (line-requires record { before = c .before; quantisers-in = c .quantisers-in }, λ g. lay15 record
-            { before = record { before = c .before; quantisers-in = c .quantisers-in }; line = Called.called ps·10 r·10 (claims· .21) T71
-            (record { pos = 1; ty = Syntax.tyRef (Syntax.named 0) Syntax.imm (Syntax.tyInt Syntax.w8); ref = λ x. x; },
-            (record { pos = 16; st = List.[]; d = 0; at = λ x. x },
-            (record { pos = 35; ty = Syntax.tyRef Syntax.erased Syntax.mut (Syntax.tyInt Syntax.w16); ref = λ x. x; },
-            (record { pos = 37; ty = Syntax.tyRef Syntax.erased Syntax.mut Element.behind; ref = λ x. x; },
-            (record { pos = 39; ty = Syntax.tyRef Syntax.erased Syntax.mut (Syntax.tyInt Syntax.w16); ref = λ x. x; },
-            (record { pos = 6; st = List.[]; d = 0; at = λ x. x },
-            (record { pos = 40; st = List.[]; d = 0; at = λ x. x },
-            (record { pos = 7; ty = Syntax.tyRef (Syntax.named 5) Syntax.imm (Syntax.tyArray (Syntax.tyInt Syntax.w16) 768); ref = λ x. x; },
-            (record { pos = 8; st = List.[]; d = 0; at = λ x. x }, (record { pos = 9; st = List.[]; d = 0; at = λ x. x }, (Num.vAt 18 λ x. x, (Bool.bAt 11 λ x. x, tt)))))))))))) (m54 (c .before)
-            (After-quantisers-in·gave c)) g; })
+        lay14 = λ c. (
+          line-requires record { before = c .before; quantisers-in = c .quantisers-in },
+          λ g. lay15 record {
+            before = record { before = c .before; quantisers-in = c .quantisers-in };
+            line = Called.called ps·10 r·10 (claims· .21) T71 (
+              record { pos = 1; ty = Syntax.tyRef (Syntax.named 0) Syntax.imm (Syntax.tyInt Syntax.w8); ref = λ x. x },
+              (
+                record { pos = 16; st = List.[]; d = 0; at = λ x. x },
+                (
+                  record { pos = 35; ty = Syntax.tyRef Syntax.erased Syntax.mut (Syntax.tyInt Syntax.w16); ref = λ x. x },
+                  (
+                    record { pos = 37; ty = Syntax.tyRef Syntax.erased Syntax.mut Element.behind; ref = λ x. x },
+                    (
+                      record { pos = 39; ty = Syntax.tyRef Syntax.erased Syntax.mut (Syntax.tyInt Syntax.w16); ref = λ x. x },
+                      (
+                        record { pos = 6; st = List.[]; d = 0; at = λ x. x },
+                        (
+                          record { pos = 40; st = List.[]; d = 0; at = λ x. x },
+                          (
+                            record { pos = 7; ty = Syntax.tyRef (Syntax.named 5) Syntax.imm (Syntax.tyArray (Syntax.tyInt Syntax.w16) 768); ref = λ x. x },
+                            (record { pos = 8; st = List.[]; d = 0; at = λ x. x }, (record { pos = 9; st = List.[]; d = 0; at = λ x. x }, (Num.vAt 18 λ x. x, (Bool.bAt 11 λ x. x, tt)))),
+                          ),
+                        ),
+                      ),
+                    ),
+                  ),
+                ),
+              ),
+            ) (m54 (c .before)
+                (After-quantisers-in·gave c)) g;
+          },
+        )
 
         lay13 : (c : After-restart) → at94 (W3 (c .before .before .before .before .before .before .before .before .before .before) (c .before .before .before .before .before .before .before .before
             .before .loop .lines) (c .before .before .before .before .before .before .before .before .before .loop .rs) (c .before .before .before .before .before .before .before .before .before .loop
             .image) (c .before .before .before .before .before .before .before .before .before .loop .place) (c .before .before .before .before .before .before .before .before .before .loop .tight-lines)
             (c .before .before .before .before .before .before .before .before .before .loop .n)) (m44 (c .before) (After-restart·gave c))
-        lay13 = λ c.
-            (Path'.refl, λ g. λ g'.
-            (Path'.refl, λ g''.
-            (Path'.refl, λ g'3.
-            (Path'.refl,
-            (quantisers-in-requires record
-            { before = record
-            { before = record { before = record { before = record { before = c .before; restart = c .restart }; rs2 = record { given = g }; }; line-arg = record { given = g' }; }; line-arg2 = record {
-            given = g'' }; }; line-arg3 = record { given = g'3 }; }, λ g'4. lay14 record
-            { before = record
-            { before = record
-            { before = record { before = record { before = record { before = c .before; restart = c .restart }; rs2 = record { given = g }; }; line-arg = record { given = g' }; }; line-arg2 = record {
-            given = g'' }; }; line-arg3 = record { given = g'3 }; }; quantisers-in = Called.called ps·9 r·9 (claims· .19) T70
-            (record { pos = 12; st = List.[]; d = 0; at = λ x. x }, (Num.vAt 13 λ x. x, (Num.vAt 19 λ x. x, tt))) (m53 record
-            { before = record { before = record { before = record { before = c .before; restart = c .restart }; rs2 = record { given = g }; }; line-arg = record { given = g' }; }; line-arg2 = record {
-            given = g'' }; } g'3) g'4; })))))
+        lay13 = λ c. (
+          Path'.refl,
+          λ g. λ g'. (
+            Path'.refl,
+            λ g''. (
+              Path'.refl,
+              λ g'3. (
+                Path'.refl,
+                (
+                  quantisers-in-requires record {
+                    before = record {
+                      before = record { before = record { before = record { before = c .before; restart = c .restart }; rs2 = record { given = g } }; line-arg = record { given = g' } };
+                      line-arg2 = record {
+                        given = g'';
+                      };
+                    };
+                    line-arg3 = record { given = g'3 };
+                  },
+                  λ g'4. lay14 record {
+                    before = record {
+                      before = record {
+                        before = record { before = record { before = record { before = c .before; restart = c .restart }; rs2 = record { given = g } }; line-arg = record { given = g' } };
+                        line-arg2 = record {
+                          given = g'';
+                        };
+                      };
+                      line-arg3 = record { given = g'3 };
+                    };
+                    quantisers-in = Called.called ps·9 r·9 (claims· .19) T70
+                        (record { pos = 12; st = List.[]; d = 0; at = λ x. x }, (Num.vAt 13 λ x. x, (Num.vAt 19 λ x. x, tt))) (m53 record {
+                          before = record { before = record { before = record { before = c .before; restart = c .restart }; rs2 = record { given = g } }; line-arg = record { given = g' } };
+                          line-arg2 = record {
+                            given = g'';
+                          };
+                        } g'3) g'4;
+                  },
+                ),
+              ),
+            ),
+          ),
+        )
 
         lay12 : (c : After-is-restarted) → at95 (W3 (c .before .before .before .before .before .before .before .before .before) (c .before .before .before .before .before .before .before .before .loop
             .lines) (c .before .before .before .before .before .before .before .before .loop .rs) (c .before .before .before .before .before .before .before .before .loop .image) (c .before .before
             .before .before .before .before .before .before .loop .place) (c .before .before .before .before .before .before .before .before .loop .tight-lines) (c .before .before .before .before .before
             .before .before .before .loop .n)) (m43 (c .before) (After-is-restarted·gave c))
-        lay12 = λ c.
-            (restart-requires record { before = c .before; is-restarted = c .is-restarted }, λ g. lay13 record
-            { before = record { before = c .before; is-restarted = c .is-restarted }; restart = Called.called ps·8 r·8 (claims· .17) T55
-            (record { pos = 33; ty = Syntax.tyRef Syntax.erased Syntax.mut Element.behind; ref = λ x. x; }, (Num.vAt 13 λ x. x, (Num.vAt 19 λ x. x, (Bool.bAt 28 λ x. x, tt)))) (m43 (c .before)
-            (After-is-restarted·gave c)) g; })
+        lay12 = λ c. (
+          restart-requires record { before = c .before; is-restarted = c .is-restarted },
+          λ g. lay13 record {
+            before = record { before = c .before; is-restarted = c .is-restarted };
+            restart = Called.called ps·8 r·8 (claims· .17) T55
+                (record { pos = 33; ty = Syntax.tyRef Syntax.erased Syntax.mut Element.behind; ref = λ x. x }, (Num.vAt 13 λ x. x, (Num.vAt 19 λ x. x, (Bool.bAt 28 λ x. x, tt)))) (m43 (c .before)
+                (After-is-restarted·gave c)) g;
+          },
+        )
 
         lay11 : (c : After-base-of2) → at99 (W3 (c .before .before .before .before .before .before .before) (c .before .before .before .before .before .before .loop .lines) (c .before .before .before
             .before .before .before .loop .rs) (c .before .before .before .before .before .before .loop .image) (c .before .before .before .before .before .before .loop .place) (c .before .before .before
             .before .before .before .loop .tight-lines) (c .before .before .before .before .before .before .loop .n)) (m40 (c .before) (After-base-of2·gave c))
-        lay11 = λ c. λ g.
-            (Path'.refl,
-            (is-restarted-requires record { before = record { before = c .before; base-of2 = c .base-of2 }; restart-arg = record { given = g }; }, λ g'. lay12 record
-            { before = record { before = record { before = c .before; base-of2 = c .base-of2 }; restart-arg = record { given = g }; }; is-restarted = Called.called ps·7 r·7 (claims· .15) T54
-            (record { pos = 2; ty = Syntax.tyRef (Syntax.named 1) Syntax.imm (Syntax.tyInt Syntax.w8); ref = λ x. x; }, (Num.vAt 18 λ x. x, tt)) (m42 record { before = c .before; base-of2 = c .base-of2 }
-            g) g'; }))
+        lay11 = λ c. λ g. (
+          Path'.refl,
+          (
+            is-restarted-requires record { before = record { before = c .before; base-of2 = c .base-of2 }; restart-arg = record { given = g } },
+            λ g'. lay12 record {
+              before = record { before = record { before = c .before; base-of2 = c .base-of2 }; restart-arg = record { given = g } };
+              is-restarted = Called.called ps·7 r·7 (claims· .15) T54
+                  (record { pos = 2; ty = Syntax.tyRef (Syntax.named 1) Syntax.imm (Syntax.tyInt Syntax.w8); ref = λ x. x }, (Num.vAt 18 λ x. x, tt)) (m42 record { before = c .before; base-of2 = c .base-of2 }
+                  g) g';
+            },
+          ),
+        )
 
         lay10 : (c : After-turn-if) → at106 (W3 (c .before .before .before .before) (c .before .before .before .loop .lines) (c .before .before .before .loop .rs) (c .before .before .before .loop
             .image) (c .before .before .before .loop .place) (c .before .before .before .loop .tight-lines) (c .before .before .before .loop .n)) (m35 (c .before) (After-turn-if·gave c))
-        lay10 = λ c.
-            (Path'.refl, λ g. λ g'.
-            (base-of-requires-2 record { before = record { before = record { before = c .before; turn-if = c .turn-if }; lines2 = record { given = g }; }; slice-known4 = record { given = g' }; }, λ g''.
-            lay11 record
-            { before = record { before = record { before = record { before = c .before; turn-if = c .turn-if }; lines2 = record { given = g }; }; slice-known4 = record { given = g' }; }; base-of2 =
-            Called.called ps·2 r·2 (claims· .5) T49 (record { pos = 2; ty = Syntax.tyRef (Syntax.named 1) Syntax.imm (Syntax.tyInt Syntax.w8); ref = λ x. x; }, (Num.vAt 18 λ x. x, tt)) (m39 record
-            { before = record { before = c .before; turn-if = c .turn-if }; lines2 = record { given = g }; } g') g''; }))
+        lay10 = λ c. (
+          Path'.refl,
+          λ g. λ g'. (
+            base-of-requires-2 record { before = record { before = record { before = c .before; turn-if = c .turn-if }; lines2 = record { given = g } }; slice-known4 = record { given = g' } },
+            λ g''.
+                lay11 record {
+                  before = record { before = record { before = record { before = c .before; turn-if = c .turn-if }; lines2 = record { given = g } }; slice-known4 = record { given = g' } };
+                  base-of2 =
+                      Called.called ps·2 r·2 (claims· .5) T49 (record { pos = 2; ty = Syntax.tyRef (Syntax.named 1) Syntax.imm (Syntax.tyInt Syntax.w8); ref = λ x. x }, (Num.vAt 18 λ x. x, tt)) (m39 record
+                      { before = record { before = c .before; turn-if = c .turn-if }; lines2 = record { given = g } } g') g'';
+                },
+          ),
+        )
 
         lay9 : (c : In-loop) → at111 (W3 (c .before .before) (c .before .loop .lines) (c .before .loop .rs) (c .before .loop .image) (c .before .loop .place) (c .before .loop .tight-lines) (c .before
             .loop .n)) (m26 (c .before))
-        lay9 = λ c. λ g.
-            (Path'.refl,
-            (tt,
-            (turn-if-requires record { before = record { before = c .before; loop-test = c .loop-test }; turn-if-arg = record { given = g }; }, λ g'. lay10 record
-            { before = record { before = record { before = c .before; loop-test = c .loop-test }; turn-if-arg = record { given = g }; }; turn-if = Called.called ps·6 r·6 (claims· .13) T43
-            (record { pos = 31; ty = Syntax.tyRef Syntax.erased Syntax.mut (Syntax.tyInt Syntax.w16); ref = λ x. x; }, (Num.vAt 15 λ x. x, (Bool.bAt 28 λ x. x, tt))) (m34 record
-            { before = c .before; loop-test = c .loop-test } g) g'; })))
+        lay9 = λ c. λ g. (
+          Path'.refl,
+          (
+            tt,
+            (
+              turn-if-requires record { before = record { before = c .before; loop-test = c .loop-test }; turn-if-arg = record { given = g } },
+              λ g'. lay10 record {
+                before = record { before = record { before = c .before; loop-test = c .loop-test }; turn-if-arg = record { given = g } };
+                turn-if = Called.called ps·6 r·6 (claims· .13) T43
+                    (record { pos = 31; ty = Syntax.tyRef Syntax.erased Syntax.mut (Syntax.tyInt Syntax.w16); ref = λ x. x }, (Num.vAt 15 λ x. x, (Bool.bAt 28 λ x. x, tt))) (m34 record
+                    { before = c .before; loop-test = c .loop-test } g) g';
+              },
+            ),
+          ),
+        )
 
         lay8 : (c : After-loop) → at7 (W4 (c .before .before) (c .before .loop .lines) (c .before .loop .rs) (c .before .loop .image) (c .before .loop .place) (c .before .loop .tight-lines) (c .before
             .loop .n)) (m25 (c .before .before) (c .before .loop .lines) (c .before .loop .rs) (c .before .loop .image) (c .before .loop .place) (c .before .loop .tight-lines) (c .before .loop .n))
@@ -6734,86 +8343,159 @@ module _ (claims· : Claims) where
 
         lay6 : (c : After-no-lines) → at129 (W0 (c .before .before .before .before .before .before .before .before .before .before .before .before .before .before .before .κs) (c .before .before
             .before .before .before .before .before .before .before .before .before .before .before .before .before .args)) (m22 (c .before) (After-no-lines·gave c))
-        lay6 = λ c.
-            (((Row.get 3 (T30 .locals) (m23 (c .before) (After-no-lines·gave c)) .now, Row.get 4 (T30 .locals) (m23 (c .before) (After-no-lines·gave c)) .now, Row.get 5 (T30 .locals) (m23 (c .before)
-            (After-no-lines·gave c)) .now, Row.get 16 (T30 .locals) (m23 (c .before) (After-no-lines·gave c)), Row.get 17 (T30 .locals) (m23 (c .before) (After-no-lines·gave c)), Row.get 18 (T30 .locals)
-            (m23 (c .before) (After-no-lines·gave c))), Path'.refl {a = m23 (c .before) (After-no-lines·gave c)}, loop-holds record { before = c .before; no-lines = c .no-lines }), λ vs inv.
-            (tt,
-            (λ taken. lay7 record
-            { before = record
-            { before = record { before = c .before; no-lines = c .no-lines }; loop = record { lines = vs .0; rs = vs .1; image = vs .2; place = vs .3; tight-lines = vs .4; n = vs .5; inv = inv; }; };
-            loop-test = record
-            { taken = Tests.ltb-true (Row.get 18 (T30 .locals) (m24 record { before = c .before; no-lines = c .no-lines; } (vs .0) (vs .1) (vs .2) (vs .3) (vs .4) (vs .5))) (Row.get 10 (T30 .locals) (m24
-            record { before = c .before; no-lines = c .no-lines; } (vs .0) (vs .1) (vs .2) (vs .3) (vs .4) (vs .5))) taken; }; }, λ left. lay8 record
-            { before = record
-            { before = record { before = c .before; no-lines = c .no-lines }; loop = record { lines = vs .0; rs = vs .1; image = vs .2; place = vs .3; tight-lines = vs .4; n = vs .5; inv = inv; }; };
-            loop-test = record
-            { left = Tests.ltb-false (Row.get 18 (T30 .locals) (m24 record { before = c .before; no-lines = c .no-lines; } (vs .0) (vs .1) (vs .2) (vs .3) (vs .4) (vs .5))) (Row.get 10 (T30 .locals) (m24
-            record { before = c .before; no-lines = c .no-lines; } (vs .0) (vs .1) (vs .2) (vs .3) (vs .4) (vs .5))) left; }; })))
+        lay6 = λ c. (
+          (
+            (
+              Row.get 3 (T30 .locals) (m23 (c .before) (After-no-lines·gave c)) .now,
+              Row.get 4 (T30 .locals) (m23 (c .before) (After-no-lines·gave c)) .now,
+              Row.get 5 (T30 .locals) (m23 (c .before)
+                  (After-no-lines·gave c)) .now,
+              Row.get 16 (T30 .locals) (m23 (c .before) (After-no-lines·gave c)),
+              Row.get 17 (T30 .locals) (m23 (c .before) (After-no-lines·gave c)),
+              Row.get 18 (T30 .locals)
+                  (m23 (c .before) (After-no-lines·gave c)),
+            ),
+            Path'.refl {a = m23 (c .before) (After-no-lines·gave c)},
+            loop-holds record { before = c .before; no-lines = c .no-lines },
+          ),
+          λ vs inv. (
+            tt,
+            (
+              λ taken. lay7 record {
+                before = record
+                    { before = record { before = c .before; no-lines = c .no-lines }; loop = record { lines = vs .0; rs = vs .1; image = vs .2; place = vs .3; tight-lines = vs .4; n = vs .5; inv = inv } };
+                loop-test = record {
+                  taken = Tests.ltb-true (Row.get 18 (T30 .locals) (m24 record { before = c .before; no-lines = c .no-lines } (vs .0) (vs .1) (vs .2) (vs .3) (vs .4) (vs .5))) (Row.get 10 (T30 .locals) (m24
+                      record { before = c .before; no-lines = c .no-lines } (vs .0) (vs .1) (vs .2) (vs .3) (vs .4) (vs .5))) taken;
+                };
+              },
+              λ left. lay8 record {
+                before = record
+                    { before = record { before = c .before; no-lines = c .no-lines }; loop = record { lines = vs .0; rs = vs .1; image = vs .2; place = vs .3; tight-lines = vs .4; n = vs .5; inv = inv } };
+                loop-test = record {
+                  left = Tests.ltb-false (Row.get 18 (T30 .locals) (m24 record { before = c .before; no-lines = c .no-lines } (vs .0) (vs .1) (vs .2) (vs .3) (vs .4) (vs .5))) (Row.get 10 (T30 .locals) (m24
+                      record { before = c .before; no-lines = c .no-lines } (vs .0) (vs .1) (vs .2) (vs .3) (vs .4) (vs .5))) left;
+                };
+              },
+            ),
+          ),
+        )
 
         lay5 : (c : After-start-place) → at130 (W0 (c .before .before .before .before .before .before .before .before .before .before .before .before .before .before .κs) (c .before .before .before
             .before .before .before .before .before .before .before .before .before .before .before .args)) (m21 (c .before) (After-start-place·gave c))
-        lay5 = λ c.
-            (no-lines-requires record { before = c .before; start-place = c .start-place }, λ g. lay6 record
-            { before = record { before = c .before; start-place = c .start-place }; no-lines = Called.called ps·5 r·5 (claims· .11) T28 tt (m21 (c .before) (After-start-place·gave c)) g; })
+        lay5 = λ c. (
+          no-lines-requires record { before = c .before; start-place = c .start-place },
+          λ g. lay6 record
+              { before = record { before = c .before; start-place = c .start-place }; no-lines = Called.called ps·5 r·5 (claims· .11) T28 tt (m21 (c .before) (After-start-place·gave c)) g },
+        )
 
         lay4 : (c : After-start-records) → at136 (W0 (c .before .before .before .before .before .before .before .before .before .before .before .before .κs) (c .before .before .before .before .before
             .before .before .before .before .before .before .before .args)) (m17 (c .before) (After-start-records·gave c))
-        lay4 = λ c.
-            (Path'.refl, λ g.
-            (start-place-requires record { before = record { before = c .before; start-records = c .start-records }; rs = record { given = g }; }, λ g'. lay5 record
-            { before = record { before = record { before = c .before; start-records = c .start-records }; rs = record { given = g }; }; start-place = Called.called ps·4 r·4 (claims· .9) T26 tt (m20 record
-            { before = c .before; start-records = c .start-records; } g) g'; }))
+        lay4 = λ c. (
+          Path'.refl,
+          λ g. (
+            start-place-requires record { before = record { before = c .before; start-records = c .start-records }; rs = record { given = g } },
+            λ g'. lay5 record {
+              before = record { before = record { before = c .before; start-records = c .start-records }; rs = record { given = g } };
+              start-place = Called.called ps·4 r·4 (claims· .9) T26 tt (m20 record
+                  { before = c .before; start-records = c .start-records } g) g';
+            },
+          ),
+        )
 
         lay3 : (c : After-base-of) → at137 (W0 (c .before .before .before .before .before .before .before .before .before .before .before .κs) (c .before .before .before .before .before .before
             .before .before .before .before .before .args)) (m16 (c .before) (After-base-of·gave c))
-        lay3 = λ c.
-            (start-records-requires record { before = c .before; base-of = c .base-of }, λ g. lay4 record
-            { before = record { before = c .before; base-of = c .base-of }; start-records = Called.called ps·3 r·3 (claims· .7) T21
-            (record { pos = 26; ty = Syntax.tyRef Syntax.erased Syntax.mut Element.behind; ref = λ x. x; }, (Num.vAt 13 λ x. x, (Num.vAt 27 λ x. x, tt))) (m16 (c .before) (After-base-of·gave c)) g; })
+        lay3 = λ c. (
+          start-records-requires record { before = c .before; base-of = c .base-of },
+          λ g. lay4 record {
+            before = record { before = c .before; base-of = c .base-of };
+            start-records = Called.called ps·3 r·3 (claims· .7) T21
+                (record { pos = 26; ty = Syntax.tyRef Syntax.erased Syntax.mut Element.behind; ref = λ x. x }, (Num.vAt 13 λ x. x, (Num.vAt 27 λ x. x, tt))) (m16 (c .before) (After-base-of·gave c)) g;
+          },
+        )
 
         lay2 : (c : After-clear) → at146 (W0 (c .before .before .before .before .before .before .before .κs) (c .before .before .before .before .before .before .before .args)) (m10 (c .before)
             (After-clear·gave c))
-        lay2 = λ c.
-            (Path'.refl, λ g. λ g'. λ g''.
-            (Path'.refl,
-            (base-of-requires record
-            { before = record { before = record { before = record { before = c .before; clear = c .clear }; lines = record { given = g }; }; slice-known3 = record { given = g' }; }; start-records-arg =
-            record { given = g'' }; }, λ g'3. lay3 record
-            { before = record
-            { before = record { before = record { before = record { before = c .before; clear = c .clear }; lines = record { given = g }; }; slice-known3 = record { given = g' }; }; start-records-arg =
-            record { given = g'' }; }; base-of = Called.called ps·2 r·2 (claims· .5) T20
-            (record { pos = 2; ty = Syntax.tyRef (Syntax.named 1) Syntax.imm (Syntax.tyInt Syntax.w8); ref = λ x. x; }, (Num.vLit 0, tt)) (m15 record
-            { before = record { before = record { before = c .before; clear = c .clear }; lines = record { given = g }; }; slice-known3 = record { given = g' }; } g'') g'3; })))
+        lay2 = λ c. (
+          Path'.refl,
+          λ g. λ g'. λ g''. (
+            Path'.refl,
+            (
+              base-of-requires record {
+                before = record { before = record { before = record { before = c .before; clear = c .clear }; lines = record { given = g } }; slice-known3 = record { given = g' } };
+                start-records-arg =
+                    record { given = g'' };
+              },
+              λ g'3. lay3 record {
+                before = record {
+                  before = record { before = record { before = record { before = c .before; clear = c .clear }; lines = record { given = g } }; slice-known3 = record { given = g' } };
+                  start-records-arg =
+                      record { given = g'' };
+                };
+                base-of = Called.called ps·2 r·2 (claims· .5) T20
+                    (record { pos = 2; ty = Syntax.tyRef (Syntax.named 1) Syntax.imm (Syntax.tyInt Syntax.w8); ref = λ x. x }, (Num.vLit 0, tt)) (m15 record
+                    { before = record { before = record { before = c .before; clear = c .clear }; lines = record { given = g } }; slice-known3 = record { given = g' } } g'') g'3;
+              },
+            ),
+          ),
+        )
 
         lay1 : (c : After-width) → at150 (W0 (c .before .before .before .before .before .κs) (c .before .before .before .before .before .args)) (m7 (c .before) (After-width·gave c))
-        lay1 = λ c. λ g.
-            (Path'.refl,
-            (clear-requires record { before = record { before = c .before; width = c .width }; clear-arg = record { given = g }; }, λ g'. lay2 record
-            { before = record { before = record { before = c .before; width = c .width }; clear-arg = record { given = g }; }; clear = Called.called ps·1 r·1 (claims· .3) T11
-            (record { pos = 24; ty = Syntax.tyRef Syntax.erased Syntax.mut (Syntax.tyInt Syntax.w16); ref = λ x. x; }, tt) (m9 record { before = c .before; width = c .width } g) g'; }))
+        lay1 = λ c. λ g. (
+          Path'.refl,
+          (
+            clear-requires record { before = record { before = c .before; width = c .width }; clear-arg = record { given = g } },
+            λ g'. lay2 record {
+              before = record { before = record { before = c .before; width = c .width }; clear-arg = record { given = g } };
+              clear = Called.called ps·1 r·1 (claims· .3) T11
+                  (record { pos = 24; ty = Syntax.tyRef Syntax.erased Syntax.mut (Syntax.tyInt Syntax.w16); ref = λ x. x }, tt) (m9 record { before = c .before; width = c .width } g) g';
+            },
+          ),
+        )
 
         pub laid : (c : Start) → at157 (W0 (c .κs) (c .args)) (m0 (c .κs) (c .args))
-        laid = λ c. λ g. λ g'. λ g''. λ g'3.
-            (width-requires record
-            { before = record
-            { before = record { before = record { before = c; shared-slice-known = record { given = g } }; shared-slice-known2 = record { given = g' }; }; slice-known = record { given = g'' }; };
-            slice-known2 = record { given = g'3 }; }, λ g'4. lay1 record
-            { before = record
-            { before = record
-            { before = record { before = record { before = c; shared-slice-known = record { given = g } }; shared-slice-known2 = record { given = g' }; }; slice-known = record { given = g'' }; };
-            slice-known2 = record { given = g'3 }; }; width = Called.called ps·0 r·0 (claims· .1) T7 (Bool.bAt 14 λ x. x, tt) (m6 record
-            { before = record { before = record { before = c; shared-slice-known = record { given = g } }; shared-slice-known2 = record { given = g' }; }; slice-known = record { given = g'' }; } g'3) g'4;
-            })
+        laid = λ c. λ g. λ g'. λ g''. λ g'3. (
+          width-requires record {
+            before = record
+                { before = record { before = record { before = c; shared-slice-known = record { given = g } }; shared-slice-known2 = record { given = g' } }; slice-known = record { given = g'' } };
+            slice-known2 = record { given = g'3 };
+          },
+          λ g'4. lay1 record {
+            before = record {
+              before = record
+                  { before = record { before = record { before = c; shared-slice-known = record { given = g } }; shared-slice-known2 = record { given = g' } }; slice-known = record { given = g'' } };
+              slice-known2 = record { given = g'3 };
+            };
+            width = Called.called ps·0 r·0 (claims· .1) T7 (Bool.bAt 14 λ x. x, tt) (m6 record
+                { before = record { before = record { before = c; shared-slice-known = record { given = g } }; shared-slice-known2 = record { given = g' } }; slice-known = record { given = g'' } } g'3) g'4;
+          },
+        )
 
         module _ (κs : Lifetimes.Lfts 6) (qs : Lifetimes.Shares 6) where
           pub asked : (a : Kinds.Dens κs ps) → (good : Kinds.GoodsP κs ps a) → (pre : Pre· κs a) → (bs : List.List Nat.ℕ) → Φ (Any.wantQ 6 ps r xs m κs qs a (Post· κs a)) (Function.init 6 ps r xs m κs
               qs a)
-          asked = λ a good pre bs. laid record
-              { κs = κs; args = record
-              { block = a .0; bases = a .1 .0; lines = a .1 .1 .0; rs = a .1 .1 .1 .0; image = a .1 .1 .1 .1 .0; form = a .1 .1 .1 .1 .1 .0; places = a .1 .1 .1 .1 .1 .1 .0; tile = a .1 .1 .1 .1 .1 .1 .1
-              .0; part = a .1 .1 .1 .1 .1 .1 .1 .1 .0; count = a .1 .1 .1 .1 .1 .1 .1 .1 .1 .0; windowed = a .1 .1 .1 .1 .1 .1 .1 .1 .1 .1 .0; entries = a .1 .1 .1 .1 .1 .1 .1 .1 .1 .1 .1 .0; }; good =
-              good; fits = record { count = record { fits = good .1 .1 .1 .1 .1 .1 .1 .1 .1 .0 .1 } }; pre = pre; }
+          asked = λ a good pre bs. laid record {
+            κs = κs;
+            args = record {
+              block = a .0;
+              bases = a .1 .0;
+              lines = a .1 .1 .0;
+              rs = a .1 .1 .1 .0;
+              image = a .1 .1 .1 .1 .0;
+              form = a .1 .1 .1 .1 .1 .0;
+              places = a .1 .1 .1 .1 .1 .1 .0;
+              tile = a .1 .1 .1 .1 .1 .1 .1
+                  .0;
+              part = a .1 .1 .1 .1 .1 .1 .1 .1 .0;
+              count = a .1 .1 .1 .1 .1 .1 .1 .1 .1 .0;
+              windowed = a .1 .1 .1 .1 .1 .1 .1 .1 .1 .1 .0;
+              entries = a .1 .1 .1 .1 .1 .1 .1 .1 .1 .1 .1 .0;
+            };
+            good =
+                good;
+            fits = record { count = record { fits = good .1 .1 .1 .1 .1 .1 .1 .1 .1 .0 .1 } };
+            pre = pre;
+          }
 
         module _ {M : Type 1} (𝓤 : URA.URA M) (H : Wp.Heap 𝓤) (A : Atoms.Atoms 𝓤) (W : Kit.Given 𝓤 H A) (𝓣 : Wp.Tables 𝓤 H) (known0 : Plain.Known 𝓤 H A W 𝓣 0 ps·0 r·0 (claims· .0) (claims· .1)
             "map::width") (known1 : Plain.Known 𝓤 H A W 𝓣 1 ps·1 r·1 (claims· .2) (claims· .3) "lines::clear") (known2 : Plain.Known 𝓤 H A W 𝓣 1 ps·2 r·2 (claims· .4) (claims· .5) "cameras::base_of")

@@ -102,28 +102,80 @@ y8 = Syntax.tyStruct (List._∷_ 99 (List._∷_ 97 (List._∷_ 109 (List._∷_ 1
 
 abbrev pub ps : List.List (Kinds.PK 6)
 ps = List._∷_ (ShrSlice.pShrS (Referent.rtF (Referent.fInt Syntax.w8)) 0 tt) (List._∷_ (ShrSlice.pShrS (Referent.rtF (Referent.fInt Syntax.w8)) 1 tt) (List._∷_ (MutSlice.pMutS (Referent.rtF
-    (Referent.fInt Syntax.w16)) 2 tt) (List._∷_ (MutSlice.pMutS (Element.type) 3 tt) (List._∷_ (MutSlice.pMutS (Referent.rtF (Referent.fInt Syntax.w16)) 4 tt) (List._∷_ (Value.pVal record
-    { ty = Declared'.row Form.the-type; one = Path'.refl; val = Laws'5.val Form.the-type Laws.the-laws; tells = Laws'5.tells Form.the-type Laws.the-laws; still = Laws'5.still Form.the-type Laws.the-copy
-    Exit.yes; row = Rows'.whole (Declared'.row Form.the-type); rd = λ x. x; mk = λ x. x; } λ M 𝓤 H A W. record
-    { copies = Laws'5.copy Form.the-type Laws.the-copy 𝓤 H A W; lawful = Laws'5.lawful Form.the-type Laws.the-laws 𝓤 H A W; makes = Laws'5.makes Form.the-type Laws.the-plain 𝓤 H A; in-mem =
-    Local.mem-whole 𝓤 H A W (Declared'.row Form.the-type); of-mem = Local.whole-mem 𝓤 H A W (Declared'.row Form.the-type); }) (List._∷_ (ShrRef.pShr (Array'.Array (Referent.rtF (Referent.fInt Syntax.w16))
-    768) 5 tt) (List._∷_ (Array.pArr (Array.eInt Syntax.w8) (Array.eInt-laws Syntax.w8) 36) (List._∷_ (Value.pVal record
-    { ty = Declared'.row Part.the-type; one = Path'.refl; val = Laws'5.val Part.the-type Laws'3.the-laws; tells = Laws'5.tells Part.the-type Laws'3.the-laws; still = Laws'5.still Part.the-type
-    Laws'3.the-copy Exit.yes; row = Rows'.whole (Declared'.row Part.the-type); rd = λ x. x; mk = λ x. x; } λ M 𝓤 H A W. record
-    { copies = Laws'5.copy Part.the-type Laws'3.the-copy 𝓤 H A W; lawful = Laws'5.lawful Part.the-type Laws'3.the-laws 𝓤 H A W; makes = Laws'5.makes Part.the-type Laws'3.the-plain 𝓤 H A; in-mem =
-    Local.mem-whole 𝓤 H A W (Declared'.row Part.the-type); of-mem = Local.whole-mem 𝓤 H A W (Declared'.row Part.the-type); }) (List._∷_ (Num.pNum Syntax.w64) (List._∷_ Bool.pBool (List._∷_ (Value.pVal
-    record
-    { ty = Declared'.row Entries.the-type; one = Path'.refl; val = Laws'5.val Entries.the-type Laws''.the-laws; tells = Laws'5.tells Entries.the-type Laws''.the-laws; still = Laws'5.still Entries.the-type
-    Laws''.the-copy Exit.yes; row = Rows'.whole (Declared'.row Entries.the-type); rd = λ x. x; mk = λ x. x; } λ M 𝓤 H A W. record
-    { copies = Laws'5.copy Entries.the-type Laws''.the-copy 𝓤 H A W; lawful = Laws'5.lawful Entries.the-type Laws''.the-laws 𝓤 H A W; makes = Laws'5.makes Entries.the-type Laws''.the-plain 𝓤 H A; in-mem =
-    Local.mem-whole 𝓤 H A W (Declared'.row Entries.the-type); of-mem = Local.whole-mem 𝓤 H A W (Declared'.row Entries.the-type); }) List.[])))))))))))
+    (Referent.fInt Syntax.w16)) 2 tt) (List._∷_ (MutSlice.pMutS (Element.type) 3 tt) (List._∷_ (MutSlice.pMutS (Referent.rtF (Referent.fInt Syntax.w16)) 4 tt) (List._∷_ (Value.pVal record {
+      ty = Declared'.row Form.the-type;
+      one = Path'.refl;
+      val = Laws'5.val Form.the-type Laws.the-laws;
+      tells = Laws'5.tells Form.the-type Laws.the-laws;
+      still = Laws'5.still Form.the-type Laws.the-copy
+          Exit.yes;
+      row = Rows'.whole (Declared'.row Form.the-type);
+      rd = λ x. x;
+      mk = λ x. x;
+    } λ M 𝓤 H A W. record {
+      copies = Laws'5.copy Form.the-type Laws.the-copy 𝓤 H A W;
+      lawful = Laws'5.lawful Form.the-type Laws.the-laws 𝓤 H A W;
+      makes = Laws'5.makes Form.the-type Laws.the-plain 𝓤 H A;
+      in-mem =
+          Local.mem-whole 𝓤 H A W (Declared'.row Form.the-type);
+      of-mem = Local.whole-mem 𝓤 H A W (Declared'.row Form.the-type);
+    }) (List._∷_ (ShrRef.pShr (Array'.Array (Referent.rtF (Referent.fInt Syntax.w16))
+    768) 5 tt) (List._∷_ (Array.pArr (Array.eInt Syntax.w8) (Array.eInt-laws Syntax.w8) 36) (List._∷_ (Value.pVal record {
+      ty = Declared'.row Part.the-type;
+      one = Path'.refl;
+      val = Laws'5.val Part.the-type Laws'3.the-laws;
+      tells = Laws'5.tells Part.the-type Laws'3.the-laws;
+      still = Laws'5.still Part.the-type
+          Laws'3.the-copy Exit.yes;
+      row = Rows'.whole (Declared'.row Part.the-type);
+      rd = λ x. x;
+      mk = λ x. x;
+    } λ M 𝓤 H A W. record {
+      copies = Laws'5.copy Part.the-type Laws'3.the-copy 𝓤 H A W;
+      lawful = Laws'5.lawful Part.the-type Laws'3.the-laws 𝓤 H A W;
+      makes = Laws'5.makes Part.the-type Laws'3.the-plain 𝓤 H A;
+      in-mem =
+          Local.mem-whole 𝓤 H A W (Declared'.row Part.the-type);
+      of-mem = Local.whole-mem 𝓤 H A W (Declared'.row Part.the-type);
+    }) (List._∷_ (Num.pNum Syntax.w64) (List._∷_ Bool.pBool (List._∷_ (Value.pVal
+    record {
+      ty = Declared'.row Entries.the-type;
+      one = Path'.refl;
+      val = Laws'5.val Entries.the-type Laws''.the-laws;
+      tells = Laws'5.tells Entries.the-type Laws''.the-laws;
+      still = Laws'5.still Entries.the-type
+          Laws''.the-copy Exit.yes;
+      row = Rows'.whole (Declared'.row Entries.the-type);
+      rd = λ x. x;
+      mk = λ x. x;
+    } λ M 𝓤 H A W. record {
+      copies = Laws'5.copy Entries.the-type Laws''.the-copy 𝓤 H A W;
+      lawful = Laws'5.lawful Entries.the-type Laws''.the-laws 𝓤 H A W;
+      makes = Laws'5.makes Entries.the-type Laws''.the-plain 𝓤 H A;
+      in-mem =
+          Local.mem-whole 𝓤 H A W (Declared'.row Entries.the-type);
+      of-mem = Local.whole-mem 𝓤 H A W (Declared'.row Entries.the-type);
+    }) List.[])))))))))))
 
 abbrev pub r : Kinds.RK 6
-r = Value.rVal record
-    { ty = Declared.row Walked.the-type; one = Path'.refl; val = Laws'4.val Walked.the-type Laws'.the-laws; tells = Laws'4.tells Walked.the-type Laws'.the-laws; still = Laws'4.still Walked.the-type
-    Laws'.the-copy Exit.yes; row = Rows'.whole (Declared.row Walked.the-type); rd = λ x. x; mk = λ x. x; } λ M 𝓤 H A W. record
-    { copies = Laws'4.copy Walked.the-type Laws'.the-copy 𝓤 H A W; lawful = Laws'4.lawful Walked.the-type Laws'.the-laws 𝓤 H A W tt; makes = Laws'4.makes Walked.the-type Laws'.the-plain 𝓤 H A; in-mem =
-    Local.mem-whole 𝓤 H A W (Declared.row Walked.the-type); of-mem = Local.whole-mem 𝓤 H A W (Declared.row Walked.the-type); }
+r = Value.rVal record {
+  ty = Declared.row Walked.the-type;
+  one = Path'.refl;
+  val = Laws'4.val Walked.the-type Laws'.the-laws;
+  tells = Laws'4.tells Walked.the-type Laws'.the-laws;
+  still = Laws'4.still Walked.the-type
+      Laws'.the-copy Exit.yes;
+  row = Rows'.whole (Declared.row Walked.the-type);
+  rd = λ x. x;
+  mk = λ x. x;
+} λ M 𝓤 H A W. record {
+  copies = Laws'4.copy Walked.the-type Laws'.the-copy 𝓤 H A W;
+  lawful = Laws'4.lawful Walked.the-type Laws'.the-laws 𝓤 H A W tt;
+  makes = Laws'4.makes Walked.the-type Laws'.the-plain 𝓤 H A;
+  in-mem =
+      Local.mem-whole 𝓤 H A W (Declared.row Walked.the-type);
+  of-mem = Local.whole-mem 𝓤 H A W (Declared.row Walked.the-type);
+}
 
 abbrev pub xs : List.List Syntax.Ty
 xs = List._∷_ (Syntax.tyEnum (List._∷_ 98 (List._∷_ 108 (List._∷_ 111 (List._∷_ 99 (List._∷_ 107 (List._∷_ 58 (List._∷_ 58 (List._∷_ 87 (List._∷_ 97 (List._∷_ 108 (List._∷_ 107 (List._∷_ 101 (List._∷_
@@ -137,28 +189,80 @@ m = 5
 
 abbrev pub ps·0 : List.List (Kinds.PK 6)
 ps·0 = List._∷_ (ShrSlice.pShrS (Referent.rtF (Referent.fInt Syntax.w8)) 0 tt) (List._∷_ (ShrSlice.pShrS (Referent.rtF (Referent.fInt Syntax.w8)) 1 tt) (List._∷_ (MutSlice.pMutS (Referent.rtF
-    (Referent.fInt Syntax.w16)) 2 tt) (List._∷_ (MutSlice.pMutS (Element.type) 3 tt) (List._∷_ (MutSlice.pMutS (Referent.rtF (Referent.fInt Syntax.w16)) 4 tt) (List._∷_ (Value.pVal record
-    { ty = Declared'.row Form.the-type; one = Path'.refl; val = Laws'5.val Form.the-type Laws.the-laws; tells = Laws'5.tells Form.the-type Laws.the-laws; still = Laws'5.still Form.the-type Laws.the-copy
-    Exit.yes; row = Rows'.whole (Declared'.row Form.the-type); rd = λ x. x; mk = λ x. x; } λ M 𝓤 H A W. record
-    { copies = Laws'5.copy Form.the-type Laws.the-copy 𝓤 H A W; lawful = Laws'5.lawful Form.the-type Laws.the-laws 𝓤 H A W; makes = Laws'5.makes Form.the-type Laws.the-plain 𝓤 H A; in-mem =
-    Local.mem-whole 𝓤 H A W (Declared'.row Form.the-type); of-mem = Local.whole-mem 𝓤 H A W (Declared'.row Form.the-type); }) (List._∷_ (ShrRef.pShr (Array'.Array (Referent.rtF (Referent.fInt Syntax.w16))
-    768) 5 tt) (List._∷_ (Array.pArr (Array.eInt Syntax.w8) (Array.eInt-laws Syntax.w8) 36) (List._∷_ (Value.pVal record
-    { ty = Declared'.row Part.the-type; one = Path'.refl; val = Laws'5.val Part.the-type Laws'3.the-laws; tells = Laws'5.tells Part.the-type Laws'3.the-laws; still = Laws'5.still Part.the-type
-    Laws'3.the-copy Exit.yes; row = Rows'.whole (Declared'.row Part.the-type); rd = λ x. x; mk = λ x. x; } λ M 𝓤 H A W. record
-    { copies = Laws'5.copy Part.the-type Laws'3.the-copy 𝓤 H A W; lawful = Laws'5.lawful Part.the-type Laws'3.the-laws 𝓤 H A W; makes = Laws'5.makes Part.the-type Laws'3.the-plain 𝓤 H A; in-mem =
-    Local.mem-whole 𝓤 H A W (Declared'.row Part.the-type); of-mem = Local.whole-mem 𝓤 H A W (Declared'.row Part.the-type); }) (List._∷_ (Num.pNum Syntax.w64) (List._∷_ Bool.pBool (List._∷_ (Value.pVal
-    record
-    { ty = Declared'.row Entries.the-type; one = Path'.refl; val = Laws'5.val Entries.the-type Laws''.the-laws; tells = Laws'5.tells Entries.the-type Laws''.the-laws; still = Laws'5.still Entries.the-type
-    Laws''.the-copy Exit.yes; row = Rows'.whole (Declared'.row Entries.the-type); rd = λ x. x; mk = λ x. x; } λ M 𝓤 H A W. record
-    { copies = Laws'5.copy Entries.the-type Laws''.the-copy 𝓤 H A W; lawful = Laws'5.lawful Entries.the-type Laws''.the-laws 𝓤 H A W; makes = Laws'5.makes Entries.the-type Laws''.the-plain 𝓤 H A; in-mem =
-    Local.mem-whole 𝓤 H A W (Declared'.row Entries.the-type); of-mem = Local.whole-mem 𝓤 H A W (Declared'.row Entries.the-type); }) List.[])))))))))))
+    (Referent.fInt Syntax.w16)) 2 tt) (List._∷_ (MutSlice.pMutS (Element.type) 3 tt) (List._∷_ (MutSlice.pMutS (Referent.rtF (Referent.fInt Syntax.w16)) 4 tt) (List._∷_ (Value.pVal record {
+      ty = Declared'.row Form.the-type;
+      one = Path'.refl;
+      val = Laws'5.val Form.the-type Laws.the-laws;
+      tells = Laws'5.tells Form.the-type Laws.the-laws;
+      still = Laws'5.still Form.the-type Laws.the-copy
+          Exit.yes;
+      row = Rows'.whole (Declared'.row Form.the-type);
+      rd = λ x. x;
+      mk = λ x. x;
+    } λ M 𝓤 H A W. record {
+      copies = Laws'5.copy Form.the-type Laws.the-copy 𝓤 H A W;
+      lawful = Laws'5.lawful Form.the-type Laws.the-laws 𝓤 H A W;
+      makes = Laws'5.makes Form.the-type Laws.the-plain 𝓤 H A;
+      in-mem =
+          Local.mem-whole 𝓤 H A W (Declared'.row Form.the-type);
+      of-mem = Local.whole-mem 𝓤 H A W (Declared'.row Form.the-type);
+    }) (List._∷_ (ShrRef.pShr (Array'.Array (Referent.rtF (Referent.fInt Syntax.w16))
+    768) 5 tt) (List._∷_ (Array.pArr (Array.eInt Syntax.w8) (Array.eInt-laws Syntax.w8) 36) (List._∷_ (Value.pVal record {
+      ty = Declared'.row Part.the-type;
+      one = Path'.refl;
+      val = Laws'5.val Part.the-type Laws'3.the-laws;
+      tells = Laws'5.tells Part.the-type Laws'3.the-laws;
+      still = Laws'5.still Part.the-type
+          Laws'3.the-copy Exit.yes;
+      row = Rows'.whole (Declared'.row Part.the-type);
+      rd = λ x. x;
+      mk = λ x. x;
+    } λ M 𝓤 H A W. record {
+      copies = Laws'5.copy Part.the-type Laws'3.the-copy 𝓤 H A W;
+      lawful = Laws'5.lawful Part.the-type Laws'3.the-laws 𝓤 H A W;
+      makes = Laws'5.makes Part.the-type Laws'3.the-plain 𝓤 H A;
+      in-mem =
+          Local.mem-whole 𝓤 H A W (Declared'.row Part.the-type);
+      of-mem = Local.whole-mem 𝓤 H A W (Declared'.row Part.the-type);
+    }) (List._∷_ (Num.pNum Syntax.w64) (List._∷_ Bool.pBool (List._∷_ (Value.pVal
+    record {
+      ty = Declared'.row Entries.the-type;
+      one = Path'.refl;
+      val = Laws'5.val Entries.the-type Laws''.the-laws;
+      tells = Laws'5.tells Entries.the-type Laws''.the-laws;
+      still = Laws'5.still Entries.the-type
+          Laws''.the-copy Exit.yes;
+      row = Rows'.whole (Declared'.row Entries.the-type);
+      rd = λ x. x;
+      mk = λ x. x;
+    } λ M 𝓤 H A W. record {
+      copies = Laws'5.copy Entries.the-type Laws''.the-copy 𝓤 H A W;
+      lawful = Laws'5.lawful Entries.the-type Laws''.the-laws 𝓤 H A W;
+      makes = Laws'5.makes Entries.the-type Laws''.the-plain 𝓤 H A;
+      in-mem =
+          Local.mem-whole 𝓤 H A W (Declared'.row Entries.the-type);
+      of-mem = Local.whole-mem 𝓤 H A W (Declared'.row Entries.the-type);
+    }) List.[])))))))))))
 
 abbrev pub r·0 : Kinds.RK 6
-r·0 = Value.rVal record
-    { ty = Declared.row Walked.the-type; one = Path'.refl; val = Laws'4.val Walked.the-type Laws'.the-laws; tells = Laws'4.tells Walked.the-type Laws'.the-laws; still = Laws'4.still Walked.the-type
-    Laws'.the-copy Exit.yes; row = Rows'.whole (Declared.row Walked.the-type); rd = λ x. x; mk = λ x. x; } λ M 𝓤 H A W. record
-    { copies = Laws'4.copy Walked.the-type Laws'.the-copy 𝓤 H A W; lawful = Laws'4.lawful Walked.the-type Laws'.the-laws 𝓤 H A W tt; makes = Laws'4.makes Walked.the-type Laws'.the-plain 𝓤 H A; in-mem =
-    Local.mem-whole 𝓤 H A W (Declared.row Walked.the-type); of-mem = Local.whole-mem 𝓤 H A W (Declared.row Walked.the-type); }
+r·0 = Value.rVal record {
+  ty = Declared.row Walked.the-type;
+  one = Path'.refl;
+  val = Laws'4.val Walked.the-type Laws'.the-laws;
+  tells = Laws'4.tells Walked.the-type Laws'.the-laws;
+  still = Laws'4.still Walked.the-type
+      Laws'.the-copy Exit.yes;
+  row = Rows'.whole (Declared.row Walked.the-type);
+  rd = λ x. x;
+  mk = λ x. x;
+} λ M 𝓤 H A W. record {
+  copies = Laws'4.copy Walked.the-type Laws'.the-copy 𝓤 H A W;
+  lawful = Laws'4.lawful Walked.the-type Laws'.the-laws 𝓤 H A W tt;
+  makes = Laws'4.makes Walked.the-type Laws'.the-plain 𝓤 H A;
+  in-mem =
+      Local.mem-whole 𝓤 H A W (Declared.row Walked.the-type);
+  of-mem = Local.whole-mem 𝓤 H A W (Declared.row Walked.the-type);
+}
 
 abbrev pub ps·1 : List.List (Kinds.PK 1)
 ps·1 = List._∷_ (MutSlice.pMutS (Referent.rtF (Referent.fInt Syntax.w16)) 0 tt) List.[]
@@ -276,9 +380,11 @@ abbrev pub Claims : Type 1
 Claims = Kinds.In 6 ps·0 × Kinds.Out 6 ps·0 r·0 × Kinds.In 1 ps·1 × Kinds.Out 1 ps·1 r·1 × Kinds.In 1 ps·2 × Kinds.Out 1 ps·2 r·2
 
 abbrev pub e0 : Row.Entry
-e0 =
-    (0, Rows'.any-gone (Syntax.tyEnum (List._∷_ 98 (List._∷_ 108 (List._∷_ 111 (List._∷_ 99 (List._∷_ 107 (List._∷_ 58 (List._∷_ 58 (List._∷_ 87 (List._∷_ 97 (List._∷_ 108 (List._∷_ 107 (List._∷_ 101
-    (List._∷_ 100 List.[]))))))))))))) (Syntax.ttcons (Syntax.tcons y2 (Syntax.tcons y6 Syntax.tnil)) (Syntax.ttcons (Syntax.tcons (Syntax.tyInt Syntax.w64) (Syntax.tcons y2 Syntax.tnil)) Syntax.ttnil))))
+e0 = (
+  0,
+  Rows'.any-gone (Syntax.tyEnum (List._∷_ 98 (List._∷_ 108 (List._∷_ 111 (List._∷_ 99 (List._∷_ 107 (List._∷_ 58 (List._∷_ 58 (List._∷_ 87 (List._∷_ 97 (List._∷_ 108 (List._∷_ 107 (List._∷_ 101
+      (List._∷_ 100 List.[]))))))))))))) (Syntax.ttcons (Syntax.tcons y2 (Syntax.tcons y6 Syntax.tnil)) (Syntax.ttcons (Syntax.tcons (Syntax.tyInt Syntax.w64) (Syntax.tcons y2 Syntax.tnil)) Syntax.ttnil))),
+)
 
 abbrev pub e1 : Row.Entry
 e1 = (0, Rows'.whole (Declared.row Walked.the-type))
@@ -302,9 +408,11 @@ abbrev pub e7 : Row.Entry
 e7 = (12, Rows'.whole (Declared'.row Entries.the-type))
 
 abbrev pub e8 : Row.Entry
-e8 =
-    (13, Rows'.any-gone (Syntax.tyEnum (List._∷_ 98 (List._∷_ 108 (List._∷_ 111 (List._∷_ 99 (List._∷_ 107 (List._∷_ 58 (List._∷_ 58 (List._∷_ 87 (List._∷_ 97 (List._∷_ 108 (List._∷_ 107 (List._∷_ 101
-    (List._∷_ 100 List.[]))))))))))))) (Syntax.ttcons (Syntax.tcons y2 (Syntax.tcons y6 Syntax.tnil)) (Syntax.ttcons (Syntax.tcons (Syntax.tyInt Syntax.w64) (Syntax.tcons y2 Syntax.tnil)) Syntax.ttnil))))
+e8 = (
+  13,
+  Rows'.any-gone (Syntax.tyEnum (List._∷_ 98 (List._∷_ 108 (List._∷_ 111 (List._∷_ 99 (List._∷_ 107 (List._∷_ 58 (List._∷_ 58 (List._∷_ 87 (List._∷_ 97 (List._∷_ 108 (List._∷_ 107 (List._∷_ 101
+      (List._∷_ 100 List.[]))))))))))))) (Syntax.ttcons (Syntax.tcons y2 (Syntax.tcons y6 Syntax.tnil)) (Syntax.ttcons (Syntax.tcons (Syntax.tyInt Syntax.w64) (Syntax.tcons y2 Syntax.tnil)) Syntax.ttnil))),
+)
 
 abbrev pub e9 : Row.Entry
 e9 = (13, Rows'.whole (Declared.row Walked.the-type))
@@ -689,16 +797,31 @@ module _ (claims· : Claims) where
       Syntax.w16)) (Syntax.tyRef Syntax.erased Syntax.mut (Syntax.tyInt Syntax.w16)) (λ x. x) (Scalar.oFld 5 (List._∷_ (Syntax.field 1) List.[]) (Syntax.tyInt Syntax.w64) 8 λ v. Shared.lenV (v .0))
 
   abbrev s13 : Typed.Both T14 T15
-  s13 = Call.callB ps·0 r·0 (claims· .0) (claims· .1) T14
-      (record { pos = 1; ty = Syntax.tyRef (Syntax.named 0) Syntax.imm (Syntax.tyInt Syntax.w8); ref = λ x. x; },
-      (record { pos = 2; ty = Syntax.tyRef (Syntax.named 1) Syntax.imm (Syntax.tyInt Syntax.w8); ref = λ x. x; },
-      (record { pos = 15; ty = Syntax.tyRef Syntax.erased Syntax.mut (Syntax.tyInt Syntax.w16); ref = λ x. x; },
-      (record { pos = 17; ty = Syntax.tyRef Syntax.erased Syntax.mut Element.behind; ref = λ x. x; },
-      (record { pos = 19; ty = Syntax.tyRef Syntax.erased Syntax.mut (Syntax.tyInt Syntax.w16); ref = λ x. x; },
-      (record { pos = 6; st = List.[]; d = 0; at = λ x. x },
-      (record { pos = 7; ty = Syntax.tyRef (Syntax.named 5) Syntax.imm (Syntax.tyArray (Syntax.tyInt Syntax.w16) 768); ref = λ x. x; },
-      (record { pos = 8; st = List.[]; d = 0; at = λ x. x },
-      (record { pos = 9; st = List.[]; d = 0; at = λ x. x }, (Num.vAt 10 λ x. x, (Bool.bAt 11 λ x. x, (record { pos = 12; st = List.[]; d = 0; at = λ x. x }, tt)))))))))))) 13 (List._∷_ 0 (List._∷_ 1
+  s13 = Call.callB ps·0 r·0 (claims· .0) (claims· .1) T14 (
+    record { pos = 1; ty = Syntax.tyRef (Syntax.named 0) Syntax.imm (Syntax.tyInt Syntax.w8); ref = λ x. x },
+    (
+      record { pos = 2; ty = Syntax.tyRef (Syntax.named 1) Syntax.imm (Syntax.tyInt Syntax.w8); ref = λ x. x },
+      (
+        record { pos = 15; ty = Syntax.tyRef Syntax.erased Syntax.mut (Syntax.tyInt Syntax.w16); ref = λ x. x },
+        (
+          record { pos = 17; ty = Syntax.tyRef Syntax.erased Syntax.mut Element.behind; ref = λ x. x },
+          (
+            record { pos = 19; ty = Syntax.tyRef Syntax.erased Syntax.mut (Syntax.tyInt Syntax.w16); ref = λ x. x },
+            (
+              record { pos = 6; st = List.[]; d = 0; at = λ x. x },
+              (
+                record { pos = 7; ty = Syntax.tyRef (Syntax.named 5) Syntax.imm (Syntax.tyArray (Syntax.tyInt Syntax.w16) 768); ref = λ x. x },
+                (
+                  record { pos = 8; st = List.[]; d = 0; at = λ x. x },
+                  (record { pos = 9; st = List.[]; d = 0; at = λ x. x }, (Num.vAt 10 λ x. x, (Bool.bAt 11 λ x. x, (record { pos = 12; st = List.[]; d = 0; at = λ x. x }, tt)))),
+                ),
+              ),
+            ),
+          ),
+        ),
+      ),
+    ),
+  ) 13 (List._∷_ 0 (List._∷_ 1
       (List._∷_ 6 (List._∷_ 7 (List._∷_ 8 (List._∷_ 5 List.[])))))) (Syntax.tyEnum (List._∷_ 98 (List._∷_ 108 (List._∷_ 111 (List._∷_ 99 (List._∷_ 107 (List._∷_ 58 (List._∷_ 58 (List._∷_ 87 (List._∷_ 97
       (List._∷_ 108 (List._∷_ 107 (List._∷_ 101 (List._∷_ 100 List.[]))))))))))))) (Syntax.ttcons (Syntax.tcons y2 (Syntax.tcons y6 Syntax.tnil)) (Syntax.ttcons (Syntax.tcons (Syntax.tyInt Syntax.w64)
       (Syntax.tcons y2 Syntax.tnil)) Syntax.ttnil)))
@@ -741,7 +864,7 @@ module _ (claims· : Claims) where
       Syntax.w16)) (Syntax.tyRef Syntax.erased Syntax.mut (Syntax.tyInt Syntax.w16)) (λ x. x) (Scalar.oFld 3 (List._∷_ (Syntax.field 1) List.[]) (Syntax.tyInt Syntax.w64) 8 λ v. Shared.lenV (v .0))
 
   abbrev s32 : Typed.Both T33 T34
-  s32 = Call.callB ps·1 r·1 (claims· .2) (claims· .3) T33 (record { pos = 22; ty = Syntax.tyRef Syntax.erased Syntax.mut (Syntax.tyInt Syntax.w16); ref = λ x. x; }, tt) 20 (List._∷_ 9 List.[])
+  s32 = Call.callB ps·1 r·1 (claims· .2) (claims· .3) T33 (record { pos = 22; ty = Syntax.tyRef Syntax.erased Syntax.mut (Syntax.tyInt Syntax.w16); ref = λ x. x }, tt) 20 (List._∷_ 9 List.[])
       Syntax.tyUnit
 
   abbrev s33 : Typed.Mo T34 → Typed.Mo T35
@@ -762,7 +885,7 @@ module _ (claims· : Claims) where
       x. x) (Scalar.oFld 4 (List._∷_ (Syntax.field 1) List.[]) (Syntax.tyInt Syntax.w64) 8 λ v. Shared.lenV (v .0))
 
   abbrev s41 : Typed.Both T42 T43
-  s41 = Call.callB ps·2 r·2 (claims· .4) (claims· .5) T42 (record { pos = 24; ty = Syntax.tyRef Syntax.erased Syntax.mut Element.behind; ref = λ x. x; }, tt) 20 (List._∷_ 10 List.[]) Syntax.tyUnit
+  s41 = Call.callB ps·2 r·2 (claims· .4) (claims· .5) T42 (record { pos = 24; ty = Syntax.tyRef Syntax.erased Syntax.mut Element.behind; ref = λ x. x }, tt) 20 (List._∷_ 10 List.[]) Syntax.tyUnit
 
   abbrev s42 : Typed.Mo T43 → Typed.Mo T44
   s42 = Scalar.n-room T43 20 Syntax.tyUnit
@@ -1034,308 +1157,412 @@ module _ (claims· : Claims) where
             (List._∷_ e39 (List._∷_ e41 (List._∷_ e4 (List._∷_ e5 (List._∷_ e6 (List._∷_ e9 (List._∷_ e11 (List._∷_ e14 List.[])))))))))))))))
 
         abbrev G0 : Row.Cx
-        G0 = record
-            { locals = List._++_ t0 t1; slots = List._∷_ (Row.lease (κs .0) (qs .0)) (List._∷_ (Row.lease (κs .1 .0) (qs .1 .0)) (List._∷_ (Row.lease (κs .1 .1 .0) (qs .1 .1 .0)) (List._∷_ (Row.lease (κs
-            .1 .1 .1 .0) (qs .1 .1 .1 .0)) (List._∷_ (Row.lease (κs .1 .1 .1 .1 .0) (qs .1 .1 .1 .1 .0)) (List._∷_ (Row.lease (κs .1 .1 .1 .1 .1 .0) (qs .1 .1 .1 .1 .1 .0)) (List._∷_ Row.off (List._∷_
-            Row.off (List._∷_ Row.off (List._∷_ Row.off (List._∷_ Row.off List.[])))))))))); }
+        G0 = record {
+          locals = List._++_ t0 t1;
+          slots = List._∷_ (Row.lease (κs .0) (qs .0)) (List._∷_ (Row.lease (κs .1 .0) (qs .1 .0)) (List._∷_ (Row.lease (κs .1 .1 .0) (qs .1 .1 .0)) (List._∷_ (Row.lease (κs
+              .1 .1 .1 .0) (qs .1 .1 .1 .0)) (List._∷_ (Row.lease (κs .1 .1 .1 .1 .0) (qs .1 .1 .1 .1 .0)) (List._∷_ (Row.lease (κs .1 .1 .1 .1 .1 .0) (qs .1 .1 .1 .1 .1 .0)) (List._∷_ Row.off (List._∷_
+              Row.off (List._∷_ Row.off (List._∷_ Row.off (List._∷_ Row.off List.[]))))))))));
+        }
 
         abbrev G1 : Row.Cx
-        G1 = record
-            { locals = List._++_ t2 t1; slots = List._∷_ (Row.lease (κs .0) (qs .0)) (List._∷_ (Row.lease (κs .1 .0) (qs .1 .0)) (List._∷_ (Row.lease (κs .1 .1 .0) (qs .1 .1 .0)) (List._∷_ (Row.lease (κs
-            .1 .1 .1 .0) (qs .1 .1 .1 .0)) (List._∷_ (Row.lease (κs .1 .1 .1 .1 .0) (qs .1 .1 .1 .1 .0)) (List._∷_ (Row.lease (κs .1 .1 .1 .1 .1 .0) (qs .1 .1 .1 .1 .1 .0)) (List._∷_ Row.off (List._∷_
-            Row.off (List._∷_ Row.off (List._∷_ Row.off (List._∷_ Row.off List.[])))))))))); }
+        G1 = record {
+          locals = List._++_ t2 t1;
+          slots = List._∷_ (Row.lease (κs .0) (qs .0)) (List._∷_ (Row.lease (κs .1 .0) (qs .1 .0)) (List._∷_ (Row.lease (κs .1 .1 .0) (qs .1 .1 .0)) (List._∷_ (Row.lease (κs
+              .1 .1 .1 .0) (qs .1 .1 .1 .0)) (List._∷_ (Row.lease (κs .1 .1 .1 .1 .0) (qs .1 .1 .1 .1 .0)) (List._∷_ (Row.lease (κs .1 .1 .1 .1 .1 .0) (qs .1 .1 .1 .1 .1 .0)) (List._∷_ Row.off (List._∷_
+              Row.off (List._∷_ Row.off (List._∷_ Row.off (List._∷_ Row.off List.[]))))))))));
+        }
 
         abbrev G2 : Row.Cx
-        G2 = record
-            { locals = List._++_ t0 t1; slots = List._∷_ (Row.lease (κs .0) (qs .0)) (List._∷_ (Row.lease (κs .1 .0) (qs .1 .0)) (List._∷_ (Row.lease (κs .1 .1 .0) (qs .1 .1 .0)) (List._∷_ (Row.lease (κs
-            .1 .1 .1 .0) (qs .1 .1 .1 .0)) (List._∷_ (Row.lease (κs .1 .1 .1 .1 .0) (qs .1 .1 .1 .1 .0)) (List._∷_ (Row.lease (κs .1 .1 .1 .1 .1 .0) (qs .1 .1 .1 .1 .1 .0)) (List._∷_ Row.off (List._∷_
-            Row.off (List._∷_ Row.off (List._∷_ Row.off (List._∷_ Row.off List.[])))))))))); }
+        G2 = record {
+          locals = List._++_ t0 t1;
+          slots = List._∷_ (Row.lease (κs .0) (qs .0)) (List._∷_ (Row.lease (κs .1 .0) (qs .1 .0)) (List._∷_ (Row.lease (κs .1 .1 .0) (qs .1 .1 .0)) (List._∷_ (Row.lease (κs
+              .1 .1 .1 .0) (qs .1 .1 .1 .0)) (List._∷_ (Row.lease (κs .1 .1 .1 .1 .0) (qs .1 .1 .1 .1 .0)) (List._∷_ (Row.lease (κs .1 .1 .1 .1 .1 .0) (qs .1 .1 .1 .1 .1 .0)) (List._∷_ Row.off (List._∷_
+              Row.off (List._∷_ Row.off (List._∷_ Row.off (List._∷_ Row.off List.[]))))))))));
+        }
 
         abbrev G3 : Row.Cx
-        G3 = record
-            { locals = List._++_ t0 t1; slots = List._∷_ (Row.lease (κs .0) (qs .0)) (List._∷_ (Row.lease (κs .1 .0) (qs .1 .0)) (List._∷_ (Row.lease (κs .1 .1 .0) (qs .1 .1 .0)) (List._∷_ (Row.lease (κs
-            .1 .1 .1 .0) (qs .1 .1 .1 .0)) (List._∷_ (Row.lease (κs .1 .1 .1 .1 .0) (qs .1 .1 .1 .1 .0)) (List._∷_ (Row.lease (κs .1 .1 .1 .1 .1 .0) (qs .1 .1 .1 .1 .1 .0)) (List._∷_ Row.off (List._∷_
-            Row.off (List._∷_ Row.off (List._∷_ Row.off (List._∷_ Row.off List.[])))))))))); }
+        G3 = record {
+          locals = List._++_ t0 t1;
+          slots = List._∷_ (Row.lease (κs .0) (qs .0)) (List._∷_ (Row.lease (κs .1 .0) (qs .1 .0)) (List._∷_ (Row.lease (κs .1 .1 .0) (qs .1 .1 .0)) (List._∷_ (Row.lease (κs
+              .1 .1 .1 .0) (qs .1 .1 .1 .0)) (List._∷_ (Row.lease (κs .1 .1 .1 .1 .0) (qs .1 .1 .1 .1 .0)) (List._∷_ (Row.lease (κs .1 .1 .1 .1 .1 .0) (qs .1 .1 .1 .1 .1 .0)) (List._∷_ Row.off (List._∷_
+              Row.off (List._∷_ Row.off (List._∷_ Row.off (List._∷_ Row.off List.[]))))))))));
+        }
 
         abbrev G4 : Row.Cx
-        G4 = record
-            { locals = List._++_ t0 t1; slots = List._∷_ (Row.lease (κs .0) (qs .0)) (List._∷_ (Row.lease (κs .1 .0) (qs .1 .0)) (List._∷_ (Row.lease (κs .1 .1 .0) (qs .1 .1 .0)) (List._∷_ (Row.lease (κs
-            .1 .1 .1 .0) (qs .1 .1 .1 .0)) (List._∷_ (Row.lease (κs .1 .1 .1 .1 .0) (qs .1 .1 .1 .1 .0)) (List._∷_ (Row.lease (κs .1 .1 .1 .1 .1 .0) (qs .1 .1 .1 .1 .1 .0)) (List._∷_ Row.off (List._∷_
-            Row.off (List._∷_ Row.off (List._∷_ Row.off (List._∷_ Row.off List.[])))))))))); }
+        G4 = record {
+          locals = List._++_ t0 t1;
+          slots = List._∷_ (Row.lease (κs .0) (qs .0)) (List._∷_ (Row.lease (κs .1 .0) (qs .1 .0)) (List._∷_ (Row.lease (κs .1 .1 .0) (qs .1 .1 .0)) (List._∷_ (Row.lease (κs
+              .1 .1 .1 .0) (qs .1 .1 .1 .0)) (List._∷_ (Row.lease (κs .1 .1 .1 .1 .0) (qs .1 .1 .1 .1 .0)) (List._∷_ (Row.lease (κs .1 .1 .1 .1 .1 .0) (qs .1 .1 .1 .1 .1 .0)) (List._∷_ Row.off (List._∷_
+              Row.off (List._∷_ Row.off (List._∷_ Row.off (List._∷_ Row.off List.[]))))))))));
+        }
 
         abbrev G5 : Row.Cx
-        G5 = record
-            { locals = List._++_ t0 t1; slots = List._∷_ (Row.lease (κs .0) (qs .0)) (List._∷_ (Row.lease (κs .1 .0) (qs .1 .0)) (List._∷_ (Row.lease (κs .1 .1 .0) (qs .1 .1 .0)) (List._∷_ (Row.lease (κs
-            .1 .1 .1 .0) (qs .1 .1 .1 .0)) (List._∷_ (Row.lease (κs .1 .1 .1 .1 .0) (qs .1 .1 .1 .1 .0)) (List._∷_ (Row.lease (κs .1 .1 .1 .1 .1 .0) (qs .1 .1 .1 .1 .1 .0)) (List._∷_ Row.off (List._∷_
-            Row.off (List._∷_ Row.off (List._∷_ Row.off (List._∷_ Row.off List.[])))))))))); }
+        G5 = record {
+          locals = List._++_ t0 t1;
+          slots = List._∷_ (Row.lease (κs .0) (qs .0)) (List._∷_ (Row.lease (κs .1 .0) (qs .1 .0)) (List._∷_ (Row.lease (κs .1 .1 .0) (qs .1 .1 .0)) (List._∷_ (Row.lease (κs
+              .1 .1 .1 .0) (qs .1 .1 .1 .0)) (List._∷_ (Row.lease (κs .1 .1 .1 .1 .0) (qs .1 .1 .1 .1 .0)) (List._∷_ (Row.lease (κs .1 .1 .1 .1 .1 .0) (qs .1 .1 .1 .1 .1 .0)) (List._∷_ Row.off (List._∷_
+              Row.off (List._∷_ Row.off (List._∷_ Row.off (List._∷_ Row.off List.[]))))))))));
+        }
 
         abbrev G6 : Row.Cx
-        G6 = record
-            { locals = List._++_ t0 t1; slots = List._∷_ (Row.lease (κs .0) (qs .0)) (List._∷_ (Row.lease (κs .1 .0) (qs .1 .0)) (List._∷_ (Row.lease (κs .1 .1 .0) (qs .1 .1 .0)) (List._∷_ (Row.lease (κs
-            .1 .1 .1 .0) (qs .1 .1 .1 .0)) (List._∷_ (Row.lease (κs .1 .1 .1 .1 .0) (qs .1 .1 .1 .1 .0)) (List._∷_ (Row.lease (κs .1 .1 .1 .1 .1 .0) (qs .1 .1 .1 .1 .1 .0)) (List._∷_ Row.alive (List._∷_
-            Row.off (List._∷_ Row.off (List._∷_ Row.off (List._∷_ Row.off List.[])))))))))); }
+        G6 = record {
+          locals = List._++_ t0 t1;
+          slots = List._∷_ (Row.lease (κs .0) (qs .0)) (List._∷_ (Row.lease (κs .1 .0) (qs .1 .0)) (List._∷_ (Row.lease (κs .1 .1 .0) (qs .1 .1 .0)) (List._∷_ (Row.lease (κs
+              .1 .1 .1 .0) (qs .1 .1 .1 .0)) (List._∷_ (Row.lease (κs .1 .1 .1 .1 .0) (qs .1 .1 .1 .1 .0)) (List._∷_ (Row.lease (κs .1 .1 .1 .1 .1 .0) (qs .1 .1 .1 .1 .1 .0)) (List._∷_ Row.alive (List._∷_
+              Row.off (List._∷_ Row.off (List._∷_ Row.off (List._∷_ Row.off List.[]))))))))));
+        }
 
         abbrev G7 : Row.Cx
-        G7 = record
-            { locals = List._++_ g3 t1; slots = List._∷_ (Row.lease (κs .0) (qs .0)) (List._∷_ (Row.lease (κs .1 .0) (qs .1 .0)) (List._∷_ Row.off (List._∷_ (Row.lease (κs .1 .1 .1 .0) (qs .1 .1 .1 .0))
-            (List._∷_ (Row.lease (κs .1 .1 .1 .1 .0) (qs .1 .1 .1 .1 .0)) (List._∷_ (Row.lease (κs .1 .1 .1 .1 .1 .0) (qs .1 .1 .1 .1 .1 .0)) (List._∷_ Row.alive (List._∷_ Row.off (List._∷_ Row.off
-            (List._∷_ Row.off (List._∷_ Row.off List.[])))))))))); }
+        G7 = record {
+          locals = List._++_ g3 t1;
+          slots = List._∷_ (Row.lease (κs .0) (qs .0)) (List._∷_ (Row.lease (κs .1 .0) (qs .1 .0)) (List._∷_ Row.off (List._∷_ (Row.lease (κs .1 .1 .1 .0) (qs .1 .1 .1 .0))
+              (List._∷_ (Row.lease (κs .1 .1 .1 .1 .0) (qs .1 .1 .1 .1 .0)) (List._∷_ (Row.lease (κs .1 .1 .1 .1 .1 .0) (qs .1 .1 .1 .1 .1 .0)) (List._∷_ Row.alive (List._∷_ Row.off (List._∷_ Row.off
+              (List._∷_ Row.off (List._∷_ Row.off List.[]))))))))));
+        }
 
         abbrev G8 : Row.Cx
-        G8 = record
-            { locals = List._++_ g4 t1; slots = List._∷_ (Row.lease (κs .0) (qs .0)) (List._∷_ (Row.lease (κs .1 .0) (qs .1 .0)) (List._∷_ Row.off (List._∷_ (Row.lease (κs .1 .1 .1 .0) (qs .1 .1 .1 .0))
-            (List._∷_ (Row.lease (κs .1 .1 .1 .1 .0) (qs .1 .1 .1 .1 .0)) (List._∷_ (Row.lease (κs .1 .1 .1 .1 .1 .0) (qs .1 .1 .1 .1 .1 .0)) (List._∷_ Row.alive (List._∷_ Row.off (List._∷_ Row.off
-            (List._∷_ Row.off (List._∷_ Row.off List.[])))))))))); }
+        G8 = record {
+          locals = List._++_ g4 t1;
+          slots = List._∷_ (Row.lease (κs .0) (qs .0)) (List._∷_ (Row.lease (κs .1 .0) (qs .1 .0)) (List._∷_ Row.off (List._∷_ (Row.lease (κs .1 .1 .1 .0) (qs .1 .1 .1 .0))
+              (List._∷_ (Row.lease (κs .1 .1 .1 .1 .0) (qs .1 .1 .1 .1 .0)) (List._∷_ (Row.lease (κs .1 .1 .1 .1 .1 .0) (qs .1 .1 .1 .1 .1 .0)) (List._∷_ Row.alive (List._∷_ Row.off (List._∷_ Row.off
+              (List._∷_ Row.off (List._∷_ Row.off List.[]))))))))));
+        }
 
         abbrev G9 : Row.Cx
-        G9 = record
-            { locals = List._++_ g4 t1; slots = List._∷_ (Row.lease (κs .0) (qs .0)) (List._∷_ (Row.lease (κs .1 .0) (qs .1 .0)) (List._∷_ Row.off (List._∷_ (Row.lease (κs .1 .1 .1 .0) (qs .1 .1 .1 .0))
-            (List._∷_ (Row.lease (κs .1 .1 .1 .1 .0) (qs .1 .1 .1 .1 .0)) (List._∷_ (Row.lease (κs .1 .1 .1 .1 .1 .0) (qs .1 .1 .1 .1 .1 .0)) (List._∷_ Row.alive (List._∷_ Row.alive (List._∷_ Row.off
-            (List._∷_ Row.off (List._∷_ Row.off List.[])))))))))); }
+        G9 = record {
+          locals = List._++_ g4 t1;
+          slots = List._∷_ (Row.lease (κs .0) (qs .0)) (List._∷_ (Row.lease (κs .1 .0) (qs .1 .0)) (List._∷_ Row.off (List._∷_ (Row.lease (κs .1 .1 .1 .0) (qs .1 .1 .1 .0))
+              (List._∷_ (Row.lease (κs .1 .1 .1 .1 .0) (qs .1 .1 .1 .1 .0)) (List._∷_ (Row.lease (κs .1 .1 .1 .1 .1 .0) (qs .1 .1 .1 .1 .1 .0)) (List._∷_ Row.alive (List._∷_ Row.alive (List._∷_ Row.off
+              (List._∷_ Row.off (List._∷_ Row.off List.[]))))))))));
+        }
 
         abbrev G10 : Row.Cx
-        G10 = record
-            { locals = List._++_ g5 t6; slots = List._∷_ (Row.lease (κs .0) (qs .0)) (List._∷_ (Row.lease (κs .1 .0) (qs .1 .0)) (List._∷_ Row.off (List._∷_ Row.off (List._∷_ (Row.lease (κs .1 .1 .1 .1
-            .0) (qs .1 .1 .1 .1 .0)) (List._∷_ (Row.lease (κs .1 .1 .1 .1 .1 .0) (qs .1 .1 .1 .1 .1 .0)) (List._∷_ Row.alive (List._∷_ Row.alive (List._∷_ Row.off (List._∷_ Row.off (List._∷_ Row.off
-            List.[])))))))))); }
+        G10 = record {
+          locals = List._++_ g5 t6;
+          slots = List._∷_ (Row.lease (κs .0) (qs .0)) (List._∷_ (Row.lease (κs .1 .0) (qs .1 .0)) (List._∷_ Row.off (List._∷_ Row.off (List._∷_ (Row.lease (κs .1 .1 .1 .1
+              .0) (qs .1 .1 .1 .1 .0)) (List._∷_ (Row.lease (κs .1 .1 .1 .1 .1 .0) (qs .1 .1 .1 .1 .1 .0)) (List._∷_ Row.alive (List._∷_ Row.alive (List._∷_ Row.off (List._∷_ Row.off (List._∷_ Row.off
+              List.[]))))))))));
+        }
 
         abbrev G11 : Row.Cx
-        G11 = record
-            { locals = List._++_ g5 t7; slots = List._∷_ (Row.lease (κs .0) (qs .0)) (List._∷_ (Row.lease (κs .1 .0) (qs .1 .0)) (List._∷_ Row.off (List._∷_ Row.off (List._∷_ (Row.lease (κs .1 .1 .1 .1
-            .0) (qs .1 .1 .1 .1 .0)) (List._∷_ (Row.lease (κs .1 .1 .1 .1 .1 .0) (qs .1 .1 .1 .1 .1 .0)) (List._∷_ Row.alive (List._∷_ Row.alive (List._∷_ Row.off (List._∷_ Row.off (List._∷_ Row.off
-            List.[])))))))))); }
+        G11 = record {
+          locals = List._++_ g5 t7;
+          slots = List._∷_ (Row.lease (κs .0) (qs .0)) (List._∷_ (Row.lease (κs .1 .0) (qs .1 .0)) (List._∷_ Row.off (List._∷_ Row.off (List._∷_ (Row.lease (κs .1 .1 .1 .1
+              .0) (qs .1 .1 .1 .1 .0)) (List._∷_ (Row.lease (κs .1 .1 .1 .1 .1 .0) (qs .1 .1 .1 .1 .1 .0)) (List._∷_ Row.alive (List._∷_ Row.alive (List._∷_ Row.off (List._∷_ Row.off (List._∷_ Row.off
+              List.[]))))))))));
+        }
 
         abbrev G12 : Row.Cx
-        G12 = record
-            { locals = List._++_ g5 t7; slots = List._∷_ (Row.lease (κs .0) (qs .0)) (List._∷_ (Row.lease (κs .1 .0) (qs .1 .0)) (List._∷_ Row.off (List._∷_ Row.off (List._∷_ (Row.lease (κs .1 .1 .1 .1
-            .0) (qs .1 .1 .1 .1 .0)) (List._∷_ (Row.lease (κs .1 .1 .1 .1 .1 .0) (qs .1 .1 .1 .1 .1 .0)) (List._∷_ Row.alive (List._∷_ Row.alive (List._∷_ Row.alive (List._∷_ Row.off (List._∷_ Row.off
-            List.[])))))))))); }
+        G12 = record {
+          locals = List._++_ g5 t7;
+          slots = List._∷_ (Row.lease (κs .0) (qs .0)) (List._∷_ (Row.lease (κs .1 .0) (qs .1 .0)) (List._∷_ Row.off (List._∷_ Row.off (List._∷_ (Row.lease (κs .1 .1 .1 .1
+              .0) (qs .1 .1 .1 .1 .0)) (List._∷_ (Row.lease (κs .1 .1 .1 .1 .1 .0) (qs .1 .1 .1 .1 .1 .0)) (List._∷_ Row.alive (List._∷_ Row.alive (List._∷_ Row.alive (List._∷_ Row.off (List._∷_ Row.off
+              List.[]))))))))));
+        }
 
         abbrev G13 : Row.Cx
-        G13 = record
-            { locals = List._++_ g8 t9; slots = List._∷_ (Row.lease (κs .0) (qs .0)) (List._∷_ (Row.lease (κs .1 .0) (qs .1 .0)) (List._∷_ Row.off (List._∷_ Row.off (List._∷_ Row.off (List._∷_ (Row.lease
-            (κs .1 .1 .1 .1 .1 .0) (qs .1 .1 .1 .1 .1 .0)) (List._∷_ Row.alive (List._∷_ Row.alive (List._∷_ Row.alive (List._∷_ Row.off (List._∷_ Row.off List.[])))))))))); }
+        G13 = record {
+          locals = List._++_ g8 t9;
+          slots = List._∷_ (Row.lease (κs .0) (qs .0)) (List._∷_ (Row.lease (κs .1 .0) (qs .1 .0)) (List._∷_ Row.off (List._∷_ Row.off (List._∷_ Row.off (List._∷_ (Row.lease
+              (κs .1 .1 .1 .1 .1 .0) (qs .1 .1 .1 .1 .1 .0)) (List._∷_ Row.alive (List._∷_ Row.alive (List._∷_ Row.alive (List._∷_ Row.off (List._∷_ Row.off List.[]))))))))));
+        }
 
         abbrev G14 : Row.Cx
-        G14 = record
-            { locals = List._++_ g8 t10; slots = List._∷_ (Row.lease (κs .0) (qs .0)) (List._∷_ (Row.lease (κs .1 .0) (qs .1 .0)) (List._∷_ Row.off (List._∷_ Row.off (List._∷_ Row.off (List._∷_ (Row.lease
-            (κs .1 .1 .1 .1 .1 .0) (qs .1 .1 .1 .1 .1 .0)) (List._∷_ Row.alive (List._∷_ Row.alive (List._∷_ Row.alive (List._∷_ Row.off (List._∷_ Row.off List.[])))))))))); }
+        G14 = record {
+          locals = List._++_ g8 t10;
+          slots = List._∷_ (Row.lease (κs .0) (qs .0)) (List._∷_ (Row.lease (κs .1 .0) (qs .1 .0)) (List._∷_ Row.off (List._∷_ Row.off (List._∷_ Row.off (List._∷_ (Row.lease
+              (κs .1 .1 .1 .1 .1 .0) (qs .1 .1 .1 .1 .1 .0)) (List._∷_ Row.alive (List._∷_ Row.alive (List._∷_ Row.alive (List._∷_ Row.off (List._∷_ Row.off List.[]))))))))));
+        }
 
         abbrev G15 : Row.Cx
-        G15 = record
-            { locals = List._++_ g11 t12; slots = List._∷_ (Row.lease (κs .0) (qs .0)) (List._∷_ (Row.lease (κs .1 .0) (qs .1 .0)) (List._∷_ Row.off (List._∷_ Row.off (List._∷_ Row.off (List._∷_
-            (Row.lease (κs .1 .1 .1 .1 .1 .0) (qs .1 .1 .1 .1 .1 .0)) (List._∷_ Row.alive (List._∷_ Row.alive (List._∷_ Row.alive (List._∷_ Row.off (List._∷_ Row.off List.[])))))))))); }
+        G15 = record {
+          locals = List._++_ g11 t12;
+          slots = List._∷_ (Row.lease (κs .0) (qs .0)) (List._∷_ (Row.lease (κs .1 .0) (qs .1 .0)) (List._∷_ Row.off (List._∷_ Row.off (List._∷_ Row.off (List._∷_
+              (Row.lease (κs .1 .1 .1 .1 .1 .0) (qs .1 .1 .1 .1 .1 .0)) (List._∷_ Row.alive (List._∷_ Row.alive (List._∷_ Row.alive (List._∷_ Row.off (List._∷_ Row.off List.[]))))))))));
+        }
 
         abbrev G16 : Row.Cx
-        G16 = record
-            { locals = List._++_ g13 t12; slots = List._∷_ (Row.lease (κs .0) (qs .0)) (List._∷_ (Row.lease (κs .1 .0) (qs .1 .0)) (List._∷_ Row.off (List._∷_ Row.off (List._∷_ Row.off (List._∷_
-            (Row.lease (κs .1 .1 .1 .1 .1 .0) (qs .1 .1 .1 .1 .1 .0)) (List._∷_ Row.alive (List._∷_ Row.alive (List._∷_ Row.alive (List._∷_ Row.off (List._∷_ Row.off List.[])))))))))); }
+        G16 = record {
+          locals = List._++_ g13 t12;
+          slots = List._∷_ (Row.lease (κs .0) (qs .0)) (List._∷_ (Row.lease (κs .1 .0) (qs .1 .0)) (List._∷_ Row.off (List._∷_ Row.off (List._∷_ Row.off (List._∷_
+              (Row.lease (κs .1 .1 .1 .1 .1 .0) (qs .1 .1 .1 .1 .1 .0)) (List._∷_ Row.alive (List._∷_ Row.alive (List._∷_ Row.alive (List._∷_ Row.off (List._∷_ Row.off List.[]))))))))));
+        }
 
         abbrev G17 : Row.Cx
-        G17 = record
-            { locals = List._++_ g14 t12; slots = List._∷_ (Row.lease (κs .0) (qs .0)) (List._∷_ (Row.lease (κs .1 .0) (qs .1 .0)) (List._∷_ Row.off (List._∷_ Row.off (List._∷_ Row.off (List._∷_
-            (Row.lease (κs .1 .1 .1 .1 .1 .0) (qs .1 .1 .1 .1 .1 .0)) (List._∷_ Row.alive (List._∷_ Row.alive (List._∷_ Row.alive (List._∷_ Row.off (List._∷_ Row.off List.[])))))))))); }
+        G17 = record {
+          locals = List._++_ g14 t12;
+          slots = List._∷_ (Row.lease (κs .0) (qs .0)) (List._∷_ (Row.lease (κs .1 .0) (qs .1 .0)) (List._∷_ Row.off (List._∷_ Row.off (List._∷_ Row.off (List._∷_
+              (Row.lease (κs .1 .1 .1 .1 .1 .0) (qs .1 .1 .1 .1 .1 .0)) (List._∷_ Row.alive (List._∷_ Row.alive (List._∷_ Row.alive (List._∷_ Row.off (List._∷_ Row.off List.[]))))))))));
+        }
 
         abbrev G18 : Row.Cx
-        G18 = record
-            { locals = List._++_ g15 t12; slots = List._∷_ (Row.lease (κs .0) (qs .0)) (List._∷_ (Row.lease (κs .1 .0) (qs .1 .0)) (List._∷_ Row.off (List._∷_ Row.off (List._∷_ Row.off (List._∷_
-            (Row.lease (κs .1 .1 .1 .1 .1 .0) (qs .1 .1 .1 .1 .1 .0)) (List._∷_ Row.alive (List._∷_ Row.alive (List._∷_ Row.alive (List._∷_ Row.off (List._∷_ Row.off List.[])))))))))); }
+        G18 = record {
+          locals = List._++_ g15 t12;
+          slots = List._∷_ (Row.lease (κs .0) (qs .0)) (List._∷_ (Row.lease (κs .1 .0) (qs .1 .0)) (List._∷_ Row.off (List._∷_ Row.off (List._∷_ Row.off (List._∷_
+              (Row.lease (κs .1 .1 .1 .1 .1 .0) (qs .1 .1 .1 .1 .1 .0)) (List._∷_ Row.alive (List._∷_ Row.alive (List._∷_ Row.alive (List._∷_ Row.off (List._∷_ Row.off List.[]))))))))));
+        }
 
         abbrev G19 : Row.Cx
-        G19 = record
-            { locals = List._++_ g16 t12; slots = List._∷_ (Row.lease (κs .0) (qs .0)) (List._∷_ (Row.lease (κs .1 .0) (qs .1 .0)) (List._∷_ Row.off (List._∷_ Row.off (List._∷_ Row.off (List._∷_
-            (Row.lease (κs .1 .1 .1 .1 .1 .0) (qs .1 .1 .1 .1 .1 .0)) (List._∷_ Row.alive (List._∷_ Row.alive (List._∷_ Row.alive (List._∷_ Row.off (List._∷_ Row.off List.[])))))))))); }
+        G19 = record {
+          locals = List._++_ g16 t12;
+          slots = List._∷_ (Row.lease (κs .0) (qs .0)) (List._∷_ (Row.lease (κs .1 .0) (qs .1 .0)) (List._∷_ Row.off (List._∷_ Row.off (List._∷_ Row.off (List._∷_
+              (Row.lease (κs .1 .1 .1 .1 .1 .0) (qs .1 .1 .1 .1 .1 .0)) (List._∷_ Row.alive (List._∷_ Row.alive (List._∷_ Row.alive (List._∷_ Row.off (List._∷_ Row.off List.[]))))))))));
+        }
 
         abbrev G20 : Row.Cx
-        G20 = record
-            { locals = List._++_ g16 t12; slots = List._∷_ (Row.lease (κs .0) (qs .0)) (List._∷_ (Row.lease (κs .1 .0) (qs .1 .0)) (List._∷_ Row.off (List._∷_ Row.off (List._∷_ Row.off (List._∷_
-            (Row.lease (κs .1 .1 .1 .1 .1 .0) (qs .1 .1 .1 .1 .1 .0)) (List._∷_ Row.dead (List._∷_ Row.alive (List._∷_ Row.alive (List._∷_ Row.off (List._∷_ Row.off List.[])))))))))); }
+        G20 = record {
+          locals = List._++_ g16 t12;
+          slots = List._∷_ (Row.lease (κs .0) (qs .0)) (List._∷_ (Row.lease (κs .1 .0) (qs .1 .0)) (List._∷_ Row.off (List._∷_ Row.off (List._∷_ Row.off (List._∷_
+              (Row.lease (κs .1 .1 .1 .1 .1 .0) (qs .1 .1 .1 .1 .1 .0)) (List._∷_ Row.dead (List._∷_ Row.alive (List._∷_ Row.alive (List._∷_ Row.off (List._∷_ Row.off List.[]))))))))));
+        }
 
         abbrev G21 : Row.Cx
-        G21 = record
-            { locals = List._++_ g17 t12; slots = List._∷_ (Row.lease (κs .0) (qs .0)) (List._∷_ (Row.lease (κs .1 .0) (qs .1 .0)) (List._∷_ (Row.lease (κs .1 .1 .0) (qs .1 .1 .0)) (List._∷_ Row.off
-            (List._∷_ Row.off (List._∷_ (Row.lease (κs .1 .1 .1 .1 .1 .0) (qs .1 .1 .1 .1 .1 .0)) (List._∷_ Row.dead (List._∷_ Row.alive (List._∷_ Row.alive (List._∷_ Row.off (List._∷_ Row.off
-            List.[])))))))))); }
+        G21 = record {
+          locals = List._++_ g17 t12;
+          slots = List._∷_ (Row.lease (κs .0) (qs .0)) (List._∷_ (Row.lease (κs .1 .0) (qs .1 .0)) (List._∷_ (Row.lease (κs .1 .1 .0) (qs .1 .1 .0)) (List._∷_ Row.off
+              (List._∷_ Row.off (List._∷_ (Row.lease (κs .1 .1 .1 .1 .1 .0) (qs .1 .1 .1 .1 .1 .0)) (List._∷_ Row.dead (List._∷_ Row.alive (List._∷_ Row.alive (List._∷_ Row.off (List._∷_ Row.off
+              List.[]))))))))));
+        }
 
         abbrev G22 : Row.Cx
-        G22 = record
-            { locals = List._++_ g17 t12; slots = List._∷_ (Row.lease (κs .0) (qs .0)) (List._∷_ (Row.lease (κs .1 .0) (qs .1 .0)) (List._∷_ (Row.lease (κs .1 .1 .0) (qs .1 .1 .0)) (List._∷_ Row.off
-            (List._∷_ Row.off (List._∷_ (Row.lease (κs .1 .1 .1 .1 .1 .0) (qs .1 .1 .1 .1 .1 .0)) (List._∷_ Row.dead (List._∷_ Row.alive (List._∷_ Row.alive (List._∷_ Row.off (List._∷_ Row.off
-            List.[])))))))))); }
+        G22 = record {
+          locals = List._++_ g17 t12;
+          slots = List._∷_ (Row.lease (κs .0) (qs .0)) (List._∷_ (Row.lease (κs .1 .0) (qs .1 .0)) (List._∷_ (Row.lease (κs .1 .1 .0) (qs .1 .1 .0)) (List._∷_ Row.off
+              (List._∷_ Row.off (List._∷_ (Row.lease (κs .1 .1 .1 .1 .1 .0) (qs .1 .1 .1 .1 .1 .0)) (List._∷_ Row.dead (List._∷_ Row.alive (List._∷_ Row.alive (List._∷_ Row.off (List._∷_ Row.off
+              List.[]))))))))));
+        }
 
         abbrev G23 : Row.Cx
-        G23 = record
-            { locals = List._++_ g17 t12; slots = List._∷_ (Row.lease (κs .0) (qs .0)) (List._∷_ (Row.lease (κs .1 .0) (qs .1 .0)) (List._∷_ (Row.lease (κs .1 .1 .0) (qs .1 .1 .0)) (List._∷_ Row.off
-            (List._∷_ Row.off (List._∷_ (Row.lease (κs .1 .1 .1 .1 .1 .0) (qs .1 .1 .1 .1 .1 .0)) (List._∷_ Row.off (List._∷_ Row.alive (List._∷_ Row.alive (List._∷_ Row.off (List._∷_ Row.off
-            List.[])))))))))); }
+        G23 = record {
+          locals = List._++_ g17 t12;
+          slots = List._∷_ (Row.lease (κs .0) (qs .0)) (List._∷_ (Row.lease (κs .1 .0) (qs .1 .0)) (List._∷_ (Row.lease (κs .1 .1 .0) (qs .1 .1 .0)) (List._∷_ Row.off
+              (List._∷_ Row.off (List._∷_ (Row.lease (κs .1 .1 .1 .1 .1 .0) (qs .1 .1 .1 .1 .1 .0)) (List._∷_ Row.off (List._∷_ Row.alive (List._∷_ Row.alive (List._∷_ Row.off (List._∷_ Row.off
+              List.[]))))))))));
+        }
 
         abbrev G24 : Row.Cx
-        G24 = record
-            { locals = List._++_ g17 t12; slots = List._∷_ (Row.lease (κs .0) (qs .0)) (List._∷_ (Row.lease (κs .1 .0) (qs .1 .0)) (List._∷_ (Row.lease (κs .1 .1 .0) (qs .1 .1 .0)) (List._∷_ Row.off
-            (List._∷_ Row.off (List._∷_ (Row.lease (κs .1 .1 .1 .1 .1 .0) (qs .1 .1 .1 .1 .1 .0)) (List._∷_ Row.off (List._∷_ Row.dead (List._∷_ Row.alive (List._∷_ Row.off (List._∷_ Row.off
-            List.[])))))))))); }
+        G24 = record {
+          locals = List._++_ g17 t12;
+          slots = List._∷_ (Row.lease (κs .0) (qs .0)) (List._∷_ (Row.lease (κs .1 .0) (qs .1 .0)) (List._∷_ (Row.lease (κs .1 .1 .0) (qs .1 .1 .0)) (List._∷_ Row.off
+              (List._∷_ Row.off (List._∷_ (Row.lease (κs .1 .1 .1 .1 .1 .0) (qs .1 .1 .1 .1 .1 .0)) (List._∷_ Row.off (List._∷_ Row.dead (List._∷_ Row.alive (List._∷_ Row.off (List._∷_ Row.off
+              List.[]))))))))));
+        }
 
         abbrev G25 : Row.Cx
-        G25 = record
-            { locals = List._++_ g18 t19; slots = List._∷_ (Row.lease (κs .0) (qs .0)) (List._∷_ (Row.lease (κs .1 .0) (qs .1 .0)) (List._∷_ (Row.lease (κs .1 .1 .0) (qs .1 .1 .0)) (List._∷_ (Row.lease
-            (κs .1 .1 .1 .0) (qs .1 .1 .1 .0)) (List._∷_ Row.off (List._∷_ (Row.lease (κs .1 .1 .1 .1 .1 .0) (qs .1 .1 .1 .1 .1 .0)) (List._∷_ Row.off (List._∷_ Row.dead (List._∷_ Row.alive (List._∷_
-            Row.off (List._∷_ Row.off List.[])))))))))); }
+        G25 = record {
+          locals = List._++_ g18 t19;
+          slots = List._∷_ (Row.lease (κs .0) (qs .0)) (List._∷_ (Row.lease (κs .1 .0) (qs .1 .0)) (List._∷_ (Row.lease (κs .1 .1 .0) (qs .1 .1 .0)) (List._∷_ (Row.lease
+              (κs .1 .1 .1 .0) (qs .1 .1 .1 .0)) (List._∷_ Row.off (List._∷_ (Row.lease (κs .1 .1 .1 .1 .1 .0) (qs .1 .1 .1 .1 .1 .0)) (List._∷_ Row.off (List._∷_ Row.dead (List._∷_ Row.alive (List._∷_
+              Row.off (List._∷_ Row.off List.[]))))))))));
+        }
 
         abbrev G26 : Row.Cx
-        G26 = record
-            { locals = List._++_ g18 t19; slots = List._∷_ (Row.lease (κs .0) (qs .0)) (List._∷_ (Row.lease (κs .1 .0) (qs .1 .0)) (List._∷_ (Row.lease (κs .1 .1 .0) (qs .1 .1 .0)) (List._∷_ (Row.lease
-            (κs .1 .1 .1 .0) (qs .1 .1 .1 .0)) (List._∷_ Row.off (List._∷_ (Row.lease (κs .1 .1 .1 .1 .1 .0) (qs .1 .1 .1 .1 .1 .0)) (List._∷_ Row.off (List._∷_ Row.off (List._∷_ Row.alive (List._∷_
-            Row.off (List._∷_ Row.off List.[])))))))))); }
+        G26 = record {
+          locals = List._++_ g18 t19;
+          slots = List._∷_ (Row.lease (κs .0) (qs .0)) (List._∷_ (Row.lease (κs .1 .0) (qs .1 .0)) (List._∷_ (Row.lease (κs .1 .1 .0) (qs .1 .1 .0)) (List._∷_ (Row.lease
+              (κs .1 .1 .1 .0) (qs .1 .1 .1 .0)) (List._∷_ Row.off (List._∷_ (Row.lease (κs .1 .1 .1 .1 .1 .0) (qs .1 .1 .1 .1 .1 .0)) (List._∷_ Row.off (List._∷_ Row.off (List._∷_ Row.alive (List._∷_
+              Row.off (List._∷_ Row.off List.[]))))))))));
+        }
 
         abbrev G27 : Row.Cx
-        G27 = record
-            { locals = List._++_ g18 t19; slots = List._∷_ (Row.lease (κs .0) (qs .0)) (List._∷_ (Row.lease (κs .1 .0) (qs .1 .0)) (List._∷_ (Row.lease (κs .1 .1 .0) (qs .1 .1 .0)) (List._∷_ (Row.lease
-            (κs .1 .1 .1 .0) (qs .1 .1 .1 .0)) (List._∷_ Row.off (List._∷_ (Row.lease (κs .1 .1 .1 .1 .1 .0) (qs .1 .1 .1 .1 .1 .0)) (List._∷_ Row.off (List._∷_ Row.off (List._∷_ Row.dead (List._∷_
-            Row.off (List._∷_ Row.off List.[])))))))))); }
+        G27 = record {
+          locals = List._++_ g18 t19;
+          slots = List._∷_ (Row.lease (κs .0) (qs .0)) (List._∷_ (Row.lease (κs .1 .0) (qs .1 .0)) (List._∷_ (Row.lease (κs .1 .1 .0) (qs .1 .1 .0)) (List._∷_ (Row.lease
+              (κs .1 .1 .1 .0) (qs .1 .1 .1 .0)) (List._∷_ Row.off (List._∷_ (Row.lease (κs .1 .1 .1 .1 .1 .0) (qs .1 .1 .1 .1 .1 .0)) (List._∷_ Row.off (List._∷_ Row.off (List._∷_ Row.dead (List._∷_
+              Row.off (List._∷_ Row.off List.[]))))))))));
+        }
 
         abbrev G28 : Row.Cx
-        G28 = record
-            { locals = List._++_ t20 t1; slots = List._∷_ (Row.lease (κs .0) (qs .0)) (List._∷_ (Row.lease (κs .1 .0) (qs .1 .0)) (List._∷_ (Row.lease (κs .1 .1 .0) (qs .1 .1 .0)) (List._∷_ (Row.lease (κs
-            .1 .1 .1 .0) (qs .1 .1 .1 .0)) (List._∷_ (Row.lease (κs .1 .1 .1 .1 .0) (qs .1 .1 .1 .1 .0)) (List._∷_ (Row.lease (κs .1 .1 .1 .1 .1 .0) (qs .1 .1 .1 .1 .1 .0)) (List._∷_ Row.off (List._∷_
-            Row.off (List._∷_ Row.dead (List._∷_ Row.off (List._∷_ Row.off List.[])))))))))); }
+        G28 = record {
+          locals = List._++_ t20 t1;
+          slots = List._∷_ (Row.lease (κs .0) (qs .0)) (List._∷_ (Row.lease (κs .1 .0) (qs .1 .0)) (List._∷_ (Row.lease (κs .1 .1 .0) (qs .1 .1 .0)) (List._∷_ (Row.lease (κs
+              .1 .1 .1 .0) (qs .1 .1 .1 .0)) (List._∷_ (Row.lease (κs .1 .1 .1 .1 .0) (qs .1 .1 .1 .1 .0)) (List._∷_ (Row.lease (κs .1 .1 .1 .1 .1 .0) (qs .1 .1 .1 .1 .1 .0)) (List._∷_ Row.off (List._∷_
+              Row.off (List._∷_ Row.dead (List._∷_ Row.off (List._∷_ Row.off List.[]))))))))));
+        }
 
         abbrev G29 : Row.Cx
-        G29 = record
-            { locals = List._++_ t20 t1; slots = List._∷_ (Row.lease (κs .0) (qs .0)) (List._∷_ (Row.lease (κs .1 .0) (qs .1 .0)) (List._∷_ (Row.lease (κs .1 .1 .0) (qs .1 .1 .0)) (List._∷_ (Row.lease (κs
-            .1 .1 .1 .0) (qs .1 .1 .1 .0)) (List._∷_ (Row.lease (κs .1 .1 .1 .1 .0) (qs .1 .1 .1 .1 .0)) (List._∷_ (Row.lease (κs .1 .1 .1 .1 .1 .0) (qs .1 .1 .1 .1 .1 .0)) (List._∷_ Row.off (List._∷_
-            Row.off (List._∷_ Row.dead (List._∷_ Row.off (List._∷_ Row.off List.[])))))))))); }
+        G29 = record {
+          locals = List._++_ t20 t1;
+          slots = List._∷_ (Row.lease (κs .0) (qs .0)) (List._∷_ (Row.lease (κs .1 .0) (qs .1 .0)) (List._∷_ (Row.lease (κs .1 .1 .0) (qs .1 .1 .0)) (List._∷_ (Row.lease (κs
+              .1 .1 .1 .0) (qs .1 .1 .1 .0)) (List._∷_ (Row.lease (κs .1 .1 .1 .1 .0) (qs .1 .1 .1 .1 .0)) (List._∷_ (Row.lease (κs .1 .1 .1 .1 .1 .0) (qs .1 .1 .1 .1 .1 .0)) (List._∷_ Row.off (List._∷_
+              Row.off (List._∷_ Row.dead (List._∷_ Row.off (List._∷_ Row.off List.[]))))))))));
+        }
 
         abbrev G30 : Row.Cx
-        G30 = record
-            { locals = List._++_ t20 t1; slots = List._∷_ (Row.lease (κs .0) (qs .0)) (List._∷_ (Row.lease (κs .1 .0) (qs .1 .0)) (List._∷_ (Row.lease (κs .1 .1 .0) (qs .1 .1 .0)) (List._∷_ (Row.lease (κs
-            .1 .1 .1 .0) (qs .1 .1 .1 .0)) (List._∷_ (Row.lease (κs .1 .1 .1 .1 .0) (qs .1 .1 .1 .1 .0)) (List._∷_ (Row.lease (κs .1 .1 .1 .1 .1 .0) (qs .1 .1 .1 .1 .1 .0)) (List._∷_ Row.off (List._∷_
-            Row.off (List._∷_ Row.off (List._∷_ Row.off (List._∷_ Row.off List.[])))))))))); }
+        G30 = record {
+          locals = List._++_ t20 t1;
+          slots = List._∷_ (Row.lease (κs .0) (qs .0)) (List._∷_ (Row.lease (κs .1 .0) (qs .1 .0)) (List._∷_ (Row.lease (κs .1 .1 .0) (qs .1 .1 .0)) (List._∷_ (Row.lease (κs
+              .1 .1 .1 .0) (qs .1 .1 .1 .0)) (List._∷_ (Row.lease (κs .1 .1 .1 .1 .0) (qs .1 .1 .1 .1 .0)) (List._∷_ (Row.lease (κs .1 .1 .1 .1 .1 .0) (qs .1 .1 .1 .1 .1 .0)) (List._∷_ Row.off (List._∷_
+              Row.off (List._∷_ Row.off (List._∷_ Row.off (List._∷_ Row.off List.[]))))))))));
+        }
 
         abbrev G31 : Row.Cx
-        G31 = record
-            { locals = List._++_ t20 t1; slots = List._∷_ (Row.lease (κs .0) (qs .0)) (List._∷_ (Row.lease (κs .1 .0) (qs .1 .0)) (List._∷_ (Row.lease (κs .1 .1 .0) (qs .1 .1 .0)) (List._∷_ (Row.lease (κs
-            .1 .1 .1 .0) (qs .1 .1 .1 .0)) (List._∷_ (Row.lease (κs .1 .1 .1 .1 .0) (qs .1 .1 .1 .1 .0)) (List._∷_ (Row.lease (κs .1 .1 .1 .1 .1 .0) (qs .1 .1 .1 .1 .1 .0)) (List._∷_ Row.off (List._∷_
-            Row.off (List._∷_ Row.off (List._∷_ Row.alive (List._∷_ Row.off List.[])))))))))); }
+        G31 = record {
+          locals = List._++_ t20 t1;
+          slots = List._∷_ (Row.lease (κs .0) (qs .0)) (List._∷_ (Row.lease (κs .1 .0) (qs .1 .0)) (List._∷_ (Row.lease (κs .1 .1 .0) (qs .1 .1 .0)) (List._∷_ (Row.lease (κs
+              .1 .1 .1 .0) (qs .1 .1 .1 .0)) (List._∷_ (Row.lease (κs .1 .1 .1 .1 .0) (qs .1 .1 .1 .1 .0)) (List._∷_ (Row.lease (κs .1 .1 .1 .1 .1 .0) (qs .1 .1 .1 .1 .1 .0)) (List._∷_ Row.off (List._∷_
+              Row.off (List._∷_ Row.off (List._∷_ Row.alive (List._∷_ Row.off List.[]))))))))));
+        }
 
         abbrev G32 : Row.Cx
-        G32 = record
-            { locals = List._++_ g21 t22; slots = List._∷_ (Row.lease (κs .0) (qs .0)) (List._∷_ (Row.lease (κs .1 .0) (qs .1 .0)) (List._∷_ Row.off (List._∷_ (Row.lease (κs .1 .1 .1 .0) (qs .1 .1 .1 .0))
-            (List._∷_ (Row.lease (κs .1 .1 .1 .1 .0) (qs .1 .1 .1 .1 .0)) (List._∷_ (Row.lease (κs .1 .1 .1 .1 .1 .0) (qs .1 .1 .1 .1 .1 .0)) (List._∷_ Row.off (List._∷_ Row.off (List._∷_ Row.off
-            (List._∷_ Row.alive (List._∷_ Row.off List.[])))))))))); }
+        G32 = record {
+          locals = List._++_ g21 t22;
+          slots = List._∷_ (Row.lease (κs .0) (qs .0)) (List._∷_ (Row.lease (κs .1 .0) (qs .1 .0)) (List._∷_ Row.off (List._∷_ (Row.lease (κs .1 .1 .1 .0) (qs .1 .1 .1 .0))
+              (List._∷_ (Row.lease (κs .1 .1 .1 .1 .0) (qs .1 .1 .1 .1 .0)) (List._∷_ (Row.lease (κs .1 .1 .1 .1 .1 .0) (qs .1 .1 .1 .1 .1 .0)) (List._∷_ Row.off (List._∷_ Row.off (List._∷_ Row.off
+              (List._∷_ Row.alive (List._∷_ Row.off List.[]))))))))));
+        }
 
         abbrev G33 : Row.Cx
-        G33 = record
-            { locals = List._++_ g21 t23; slots = List._∷_ (Row.lease (κs .0) (qs .0)) (List._∷_ (Row.lease (κs .1 .0) (qs .1 .0)) (List._∷_ Row.off (List._∷_ (Row.lease (κs .1 .1 .1 .0) (qs .1 .1 .1 .0))
-            (List._∷_ (Row.lease (κs .1 .1 .1 .1 .0) (qs .1 .1 .1 .1 .0)) (List._∷_ (Row.lease (κs .1 .1 .1 .1 .1 .0) (qs .1 .1 .1 .1 .1 .0)) (List._∷_ Row.off (List._∷_ Row.off (List._∷_ Row.off
-            (List._∷_ Row.alive (List._∷_ Row.off List.[])))))))))); }
+        G33 = record {
+          locals = List._++_ g21 t23;
+          slots = List._∷_ (Row.lease (κs .0) (qs .0)) (List._∷_ (Row.lease (κs .1 .0) (qs .1 .0)) (List._∷_ Row.off (List._∷_ (Row.lease (κs .1 .1 .1 .0) (qs .1 .1 .1 .0))
+              (List._∷_ (Row.lease (κs .1 .1 .1 .1 .0) (qs .1 .1 .1 .1 .0)) (List._∷_ (Row.lease (κs .1 .1 .1 .1 .1 .0) (qs .1 .1 .1 .1 .1 .0)) (List._∷_ Row.off (List._∷_ Row.off (List._∷_ Row.off
+              (List._∷_ Row.alive (List._∷_ Row.off List.[]))))))))));
+        }
 
         abbrev G34 : Row.Cx
-        G34 = record
-            { locals = List._++_ g21 t24; slots = List._∷_ (Row.lease (κs .0) (qs .0)) (List._∷_ (Row.lease (κs .1 .0) (qs .1 .0)) (List._∷_ Row.off (List._∷_ (Row.lease (κs .1 .1 .1 .0) (qs .1 .1 .1 .0))
-            (List._∷_ (Row.lease (κs .1 .1 .1 .1 .0) (qs .1 .1 .1 .1 .0)) (List._∷_ (Row.lease (κs .1 .1 .1 .1 .1 .0) (qs .1 .1 .1 .1 .1 .0)) (List._∷_ Row.off (List._∷_ Row.off (List._∷_ Row.off
-            (List._∷_ Row.alive (List._∷_ Row.off List.[])))))))))); }
+        G34 = record {
+          locals = List._++_ g21 t24;
+          slots = List._∷_ (Row.lease (κs .0) (qs .0)) (List._∷_ (Row.lease (κs .1 .0) (qs .1 .0)) (List._∷_ Row.off (List._∷_ (Row.lease (κs .1 .1 .1 .0) (qs .1 .1 .1 .0))
+              (List._∷_ (Row.lease (κs .1 .1 .1 .1 .0) (qs .1 .1 .1 .1 .0)) (List._∷_ (Row.lease (κs .1 .1 .1 .1 .1 .0) (qs .1 .1 .1 .1 .1 .0)) (List._∷_ Row.off (List._∷_ Row.off (List._∷_ Row.off
+              (List._∷_ Row.alive (List._∷_ Row.off List.[]))))))))));
+        }
 
         abbrev G35 : Row.Cx
-        G35 = record
-            { locals = List._++_ g21 t25; slots = List._∷_ (Row.lease (κs .0) (qs .0)) (List._∷_ (Row.lease (κs .1 .0) (qs .1 .0)) (List._∷_ Row.off (List._∷_ (Row.lease (κs .1 .1 .1 .0) (qs .1 .1 .1 .0))
-            (List._∷_ (Row.lease (κs .1 .1 .1 .1 .0) (qs .1 .1 .1 .1 .0)) (List._∷_ (Row.lease (κs .1 .1 .1 .1 .1 .0) (qs .1 .1 .1 .1 .1 .0)) (List._∷_ Row.off (List._∷_ Row.off (List._∷_ Row.off
-            (List._∷_ Row.alive (List._∷_ Row.off List.[])))))))))); }
+        G35 = record {
+          locals = List._++_ g21 t25;
+          slots = List._∷_ (Row.lease (κs .0) (qs .0)) (List._∷_ (Row.lease (κs .1 .0) (qs .1 .0)) (List._∷_ Row.off (List._∷_ (Row.lease (κs .1 .1 .1 .0) (qs .1 .1 .1 .0))
+              (List._∷_ (Row.lease (κs .1 .1 .1 .1 .0) (qs .1 .1 .1 .1 .0)) (List._∷_ (Row.lease (κs .1 .1 .1 .1 .1 .0) (qs .1 .1 .1 .1 .1 .0)) (List._∷_ Row.off (List._∷_ Row.off (List._∷_ Row.off
+              (List._∷_ Row.alive (List._∷_ Row.off List.[]))))))))));
+        }
 
         abbrev G36 : Row.Cx
-        G36 = record
-            { locals = List._++_ g21 t25; slots = List._∷_ (Row.lease (κs .0) (qs .0)) (List._∷_ (Row.lease (κs .1 .0) (qs .1 .0)) (List._∷_ Row.off (List._∷_ (Row.lease (κs .1 .1 .1 .0) (qs .1 .1 .1 .0))
-            (List._∷_ (Row.lease (κs .1 .1 .1 .1 .0) (qs .1 .1 .1 .1 .0)) (List._∷_ (Row.lease (κs .1 .1 .1 .1 .1 .0) (qs .1 .1 .1 .1 .1 .0)) (List._∷_ Row.off (List._∷_ Row.off (List._∷_ Row.off
-            (List._∷_ Row.dead (List._∷_ Row.off List.[])))))))))); }
+        G36 = record {
+          locals = List._++_ g21 t25;
+          slots = List._∷_ (Row.lease (κs .0) (qs .0)) (List._∷_ (Row.lease (κs .1 .0) (qs .1 .0)) (List._∷_ Row.off (List._∷_ (Row.lease (κs .1 .1 .1 .0) (qs .1 .1 .1 .0))
+              (List._∷_ (Row.lease (κs .1 .1 .1 .1 .0) (qs .1 .1 .1 .1 .0)) (List._∷_ (Row.lease (κs .1 .1 .1 .1 .1 .0) (qs .1 .1 .1 .1 .1 .0)) (List._∷_ Row.off (List._∷_ Row.off (List._∷_ Row.off
+              (List._∷_ Row.dead (List._∷_ Row.off List.[]))))))))));
+        }
 
         abbrev G37 : Row.Cx
-        G37 = record
-            { locals = List._++_ t20 t1; slots = List._∷_ (Row.lease (κs .0) (qs .0)) (List._∷_ (Row.lease (κs .1 .0) (qs .1 .0)) (List._∷_ (Row.lease (κs .1 .1 .0) (qs .1 .1 .0)) (List._∷_ (Row.lease (κs
-            .1 .1 .1 .0) (qs .1 .1 .1 .0)) (List._∷_ (Row.lease (κs .1 .1 .1 .1 .0) (qs .1 .1 .1 .1 .0)) (List._∷_ (Row.lease (κs .1 .1 .1 .1 .1 .0) (qs .1 .1 .1 .1 .1 .0)) (List._∷_ Row.off (List._∷_
-            Row.off (List._∷_ Row.off (List._∷_ Row.dead (List._∷_ Row.off List.[])))))))))); }
+        G37 = record {
+          locals = List._++_ t20 t1;
+          slots = List._∷_ (Row.lease (κs .0) (qs .0)) (List._∷_ (Row.lease (κs .1 .0) (qs .1 .0)) (List._∷_ (Row.lease (κs .1 .1 .0) (qs .1 .1 .0)) (List._∷_ (Row.lease (κs
+              .1 .1 .1 .0) (qs .1 .1 .1 .0)) (List._∷_ (Row.lease (κs .1 .1 .1 .1 .0) (qs .1 .1 .1 .1 .0)) (List._∷_ (Row.lease (κs .1 .1 .1 .1 .1 .0) (qs .1 .1 .1 .1 .1 .0)) (List._∷_ Row.off (List._∷_
+              Row.off (List._∷_ Row.off (List._∷_ Row.dead (List._∷_ Row.off List.[]))))))))));
+        }
 
         abbrev G38 : Row.Cx
-        G38 = record
-            { locals = List._++_ t20 t1; slots = List._∷_ (Row.lease (κs .0) (qs .0)) (List._∷_ (Row.lease (κs .1 .0) (qs .1 .0)) (List._∷_ (Row.lease (κs .1 .1 .0) (qs .1 .1 .0)) (List._∷_ (Row.lease (κs
-            .1 .1 .1 .0) (qs .1 .1 .1 .0)) (List._∷_ (Row.lease (κs .1 .1 .1 .1 .0) (qs .1 .1 .1 .1 .0)) (List._∷_ (Row.lease (κs .1 .1 .1 .1 .1 .0) (qs .1 .1 .1 .1 .1 .0)) (List._∷_ Row.off (List._∷_
-            Row.off (List._∷_ Row.off (List._∷_ Row.dead (List._∷_ Row.off List.[])))))))))); }
+        G38 = record {
+          locals = List._++_ t20 t1;
+          slots = List._∷_ (Row.lease (κs .0) (qs .0)) (List._∷_ (Row.lease (κs .1 .0) (qs .1 .0)) (List._∷_ (Row.lease (κs .1 .1 .0) (qs .1 .1 .0)) (List._∷_ (Row.lease (κs
+              .1 .1 .1 .0) (qs .1 .1 .1 .0)) (List._∷_ (Row.lease (κs .1 .1 .1 .1 .0) (qs .1 .1 .1 .1 .0)) (List._∷_ (Row.lease (κs .1 .1 .1 .1 .1 .0) (qs .1 .1 .1 .1 .1 .0)) (List._∷_ Row.off (List._∷_
+              Row.off (List._∷_ Row.off (List._∷_ Row.dead (List._∷_ Row.off List.[]))))))))));
+        }
 
         abbrev G39 : Row.Cx
-        G39 = record
-            { locals = List._++_ t20 t1; slots = List._∷_ (Row.lease (κs .0) (qs .0)) (List._∷_ (Row.lease (κs .1 .0) (qs .1 .0)) (List._∷_ (Row.lease (κs .1 .1 .0) (qs .1 .1 .0)) (List._∷_ (Row.lease (κs
-            .1 .1 .1 .0) (qs .1 .1 .1 .0)) (List._∷_ (Row.lease (κs .1 .1 .1 .1 .0) (qs .1 .1 .1 .1 .0)) (List._∷_ (Row.lease (κs .1 .1 .1 .1 .1 .0) (qs .1 .1 .1 .1 .1 .0)) (List._∷_ Row.off (List._∷_
-            Row.off (List._∷_ Row.off (List._∷_ Row.off (List._∷_ Row.off List.[])))))))))); }
+        G39 = record {
+          locals = List._++_ t20 t1;
+          slots = List._∷_ (Row.lease (κs .0) (qs .0)) (List._∷_ (Row.lease (κs .1 .0) (qs .1 .0)) (List._∷_ (Row.lease (κs .1 .1 .0) (qs .1 .1 .0)) (List._∷_ (Row.lease (κs
+              .1 .1 .1 .0) (qs .1 .1 .1 .0)) (List._∷_ (Row.lease (κs .1 .1 .1 .1 .0) (qs .1 .1 .1 .1 .0)) (List._∷_ (Row.lease (κs .1 .1 .1 .1 .1 .0) (qs .1 .1 .1 .1 .1 .0)) (List._∷_ Row.off (List._∷_
+              Row.off (List._∷_ Row.off (List._∷_ Row.off (List._∷_ Row.off List.[]))))))))));
+        }
 
         abbrev G40 : Row.Cx
-        G40 = record
-            { locals = List._++_ t20 t1; slots = List._∷_ (Row.lease (κs .0) (qs .0)) (List._∷_ (Row.lease (κs .1 .0) (qs .1 .0)) (List._∷_ (Row.lease (κs .1 .1 .0) (qs .1 .1 .0)) (List._∷_ (Row.lease (κs
-            .1 .1 .1 .0) (qs .1 .1 .1 .0)) (List._∷_ (Row.lease (κs .1 .1 .1 .1 .0) (qs .1 .1 .1 .1 .0)) (List._∷_ (Row.lease (κs .1 .1 .1 .1 .1 .0) (qs .1 .1 .1 .1 .1 .0)) (List._∷_ Row.off (List._∷_
-            Row.off (List._∷_ Row.off (List._∷_ Row.off (List._∷_ Row.alive List.[])))))))))); }
+        G40 = record {
+          locals = List._++_ t20 t1;
+          slots = List._∷_ (Row.lease (κs .0) (qs .0)) (List._∷_ (Row.lease (κs .1 .0) (qs .1 .0)) (List._∷_ (Row.lease (κs .1 .1 .0) (qs .1 .1 .0)) (List._∷_ (Row.lease (κs
+              .1 .1 .1 .0) (qs .1 .1 .1 .0)) (List._∷_ (Row.lease (κs .1 .1 .1 .1 .0) (qs .1 .1 .1 .1 .0)) (List._∷_ (Row.lease (κs .1 .1 .1 .1 .1 .0) (qs .1 .1 .1 .1 .1 .0)) (List._∷_ Row.off (List._∷_
+              Row.off (List._∷_ Row.off (List._∷_ Row.off (List._∷_ Row.alive List.[]))))))))));
+        }
 
         abbrev G41 : Row.Cx
-        G41 = record
-            { locals = List._++_ g26 t27; slots = List._∷_ (Row.lease (κs .0) (qs .0)) (List._∷_ (Row.lease (κs .1 .0) (qs .1 .0)) (List._∷_ (Row.lease (κs .1 .1 .0) (qs .1 .1 .0)) (List._∷_ Row.off
-            (List._∷_ (Row.lease (κs .1 .1 .1 .1 .0) (qs .1 .1 .1 .1 .0)) (List._∷_ (Row.lease (κs .1 .1 .1 .1 .1 .0) (qs .1 .1 .1 .1 .1 .0)) (List._∷_ Row.off (List._∷_ Row.off (List._∷_ Row.off
-            (List._∷_ Row.off (List._∷_ Row.alive List.[])))))))))); }
+        G41 = record {
+          locals = List._++_ g26 t27;
+          slots = List._∷_ (Row.lease (κs .0) (qs .0)) (List._∷_ (Row.lease (κs .1 .0) (qs .1 .0)) (List._∷_ (Row.lease (κs .1 .1 .0) (qs .1 .1 .0)) (List._∷_ Row.off
+              (List._∷_ (Row.lease (κs .1 .1 .1 .1 .0) (qs .1 .1 .1 .1 .0)) (List._∷_ (Row.lease (κs .1 .1 .1 .1 .1 .0) (qs .1 .1 .1 .1 .1 .0)) (List._∷_ Row.off (List._∷_ Row.off (List._∷_ Row.off
+              (List._∷_ Row.off (List._∷_ Row.alive List.[]))))))))));
+        }
 
         abbrev G42 : Row.Cx
-        G42 = record
-            { locals = List._++_ g26 t28; slots = List._∷_ (Row.lease (κs .0) (qs .0)) (List._∷_ (Row.lease (κs .1 .0) (qs .1 .0)) (List._∷_ (Row.lease (κs .1 .1 .0) (qs .1 .1 .0)) (List._∷_ Row.off
-            (List._∷_ (Row.lease (κs .1 .1 .1 .1 .0) (qs .1 .1 .1 .1 .0)) (List._∷_ (Row.lease (κs .1 .1 .1 .1 .1 .0) (qs .1 .1 .1 .1 .1 .0)) (List._∷_ Row.off (List._∷_ Row.off (List._∷_ Row.off
-            (List._∷_ Row.off (List._∷_ Row.alive List.[])))))))))); }
+        G42 = record {
+          locals = List._++_ g26 t28;
+          slots = List._∷_ (Row.lease (κs .0) (qs .0)) (List._∷_ (Row.lease (κs .1 .0) (qs .1 .0)) (List._∷_ (Row.lease (κs .1 .1 .0) (qs .1 .1 .0)) (List._∷_ Row.off
+              (List._∷_ (Row.lease (κs .1 .1 .1 .1 .0) (qs .1 .1 .1 .1 .0)) (List._∷_ (Row.lease (κs .1 .1 .1 .1 .1 .0) (qs .1 .1 .1 .1 .1 .0)) (List._∷_ Row.off (List._∷_ Row.off (List._∷_ Row.off
+              (List._∷_ Row.off (List._∷_ Row.alive List.[]))))))))));
+        }
 
         abbrev G43 : Row.Cx
-        G43 = record
-            { locals = List._++_ g26 t29; slots = List._∷_ (Row.lease (κs .0) (qs .0)) (List._∷_ (Row.lease (κs .1 .0) (qs .1 .0)) (List._∷_ (Row.lease (κs .1 .1 .0) (qs .1 .1 .0)) (List._∷_ Row.off
-            (List._∷_ (Row.lease (κs .1 .1 .1 .1 .0) (qs .1 .1 .1 .1 .0)) (List._∷_ (Row.lease (κs .1 .1 .1 .1 .1 .0) (qs .1 .1 .1 .1 .1 .0)) (List._∷_ Row.off (List._∷_ Row.off (List._∷_ Row.off
-            (List._∷_ Row.off (List._∷_ Row.alive List.[])))))))))); }
+        G43 = record {
+          locals = List._++_ g26 t29;
+          slots = List._∷_ (Row.lease (κs .0) (qs .0)) (List._∷_ (Row.lease (κs .1 .0) (qs .1 .0)) (List._∷_ (Row.lease (κs .1 .1 .0) (qs .1 .1 .0)) (List._∷_ Row.off
+              (List._∷_ (Row.lease (κs .1 .1 .1 .1 .0) (qs .1 .1 .1 .1 .0)) (List._∷_ (Row.lease (κs .1 .1 .1 .1 .1 .0) (qs .1 .1 .1 .1 .1 .0)) (List._∷_ Row.off (List._∷_ Row.off (List._∷_ Row.off
+              (List._∷_ Row.off (List._∷_ Row.alive List.[]))))))))));
+        }
 
         abbrev G44 : Row.Cx
-        G44 = record
-            { locals = List._++_ g26 t30; slots = List._∷_ (Row.lease (κs .0) (qs .0)) (List._∷_ (Row.lease (κs .1 .0) (qs .1 .0)) (List._∷_ (Row.lease (κs .1 .1 .0) (qs .1 .1 .0)) (List._∷_ Row.off
-            (List._∷_ (Row.lease (κs .1 .1 .1 .1 .0) (qs .1 .1 .1 .1 .0)) (List._∷_ (Row.lease (κs .1 .1 .1 .1 .1 .0) (qs .1 .1 .1 .1 .1 .0)) (List._∷_ Row.off (List._∷_ Row.off (List._∷_ Row.off
-            (List._∷_ Row.off (List._∷_ Row.alive List.[])))))))))); }
+        G44 = record {
+          locals = List._++_ g26 t30;
+          slots = List._∷_ (Row.lease (κs .0) (qs .0)) (List._∷_ (Row.lease (κs .1 .0) (qs .1 .0)) (List._∷_ (Row.lease (κs .1 .1 .0) (qs .1 .1 .0)) (List._∷_ Row.off
+              (List._∷_ (Row.lease (κs .1 .1 .1 .1 .0) (qs .1 .1 .1 .1 .0)) (List._∷_ (Row.lease (κs .1 .1 .1 .1 .1 .0) (qs .1 .1 .1 .1 .1 .0)) (List._∷_ Row.off (List._∷_ Row.off (List._∷_ Row.off
+              (List._∷_ Row.off (List._∷_ Row.alive List.[]))))))))));
+        }
 
         abbrev G45 : Row.Cx
-        G45 = record
-            { locals = List._++_ g26 t30; slots = List._∷_ (Row.lease (κs .0) (qs .0)) (List._∷_ (Row.lease (κs .1 .0) (qs .1 .0)) (List._∷_ (Row.lease (κs .1 .1 .0) (qs .1 .1 .0)) (List._∷_ Row.off
-            (List._∷_ (Row.lease (κs .1 .1 .1 .1 .0) (qs .1 .1 .1 .1 .0)) (List._∷_ (Row.lease (κs .1 .1 .1 .1 .1 .0) (qs .1 .1 .1 .1 .1 .0)) (List._∷_ Row.off (List._∷_ Row.off (List._∷_ Row.off
-            (List._∷_ Row.off (List._∷_ Row.dead List.[])))))))))); }
+        G45 = record {
+          locals = List._++_ g26 t30;
+          slots = List._∷_ (Row.lease (κs .0) (qs .0)) (List._∷_ (Row.lease (κs .1 .0) (qs .1 .0)) (List._∷_ (Row.lease (κs .1 .1 .0) (qs .1 .1 .0)) (List._∷_ Row.off
+              (List._∷_ (Row.lease (κs .1 .1 .1 .1 .0) (qs .1 .1 .1 .1 .0)) (List._∷_ (Row.lease (κs .1 .1 .1 .1 .1 .0) (qs .1 .1 .1 .1 .1 .0)) (List._∷_ Row.off (List._∷_ Row.off (List._∷_ Row.off
+              (List._∷_ Row.off (List._∷_ Row.dead List.[]))))))))));
+        }
 
         abbrev G46 : Row.Cx
-        G46 = record
-            { locals = List._++_ t20 t1; slots = List._∷_ (Row.lease (κs .0) (qs .0)) (List._∷_ (Row.lease (κs .1 .0) (qs .1 .0)) (List._∷_ (Row.lease (κs .1 .1 .0) (qs .1 .1 .0)) (List._∷_ (Row.lease (κs
-            .1 .1 .1 .0) (qs .1 .1 .1 .0)) (List._∷_ (Row.lease (κs .1 .1 .1 .1 .0) (qs .1 .1 .1 .1 .0)) (List._∷_ (Row.lease (κs .1 .1 .1 .1 .1 .0) (qs .1 .1 .1 .1 .1 .0)) (List._∷_ Row.off (List._∷_
-            Row.off (List._∷_ Row.off (List._∷_ Row.off (List._∷_ Row.dead List.[])))))))))); }
+        G46 = record {
+          locals = List._++_ t20 t1;
+          slots = List._∷_ (Row.lease (κs .0) (qs .0)) (List._∷_ (Row.lease (κs .1 .0) (qs .1 .0)) (List._∷_ (Row.lease (κs .1 .1 .0) (qs .1 .1 .0)) (List._∷_ (Row.lease (κs
+              .1 .1 .1 .0) (qs .1 .1 .1 .0)) (List._∷_ (Row.lease (κs .1 .1 .1 .1 .0) (qs .1 .1 .1 .1 .0)) (List._∷_ (Row.lease (κs .1 .1 .1 .1 .1 .0) (qs .1 .1 .1 .1 .1 .0)) (List._∷_ Row.off (List._∷_
+              Row.off (List._∷_ Row.off (List._∷_ Row.off (List._∷_ Row.dead List.[]))))))))));
+        }
 
         abbrev G47 : Row.Cx
-        G47 = record
-            { locals = List._++_ t20 t1; slots = List._∷_ (Row.lease (κs .0) (qs .0)) (List._∷_ (Row.lease (κs .1 .0) (qs .1 .0)) (List._∷_ (Row.lease (κs .1 .1 .0) (qs .1 .1 .0)) (List._∷_ (Row.lease (κs
-            .1 .1 .1 .0) (qs .1 .1 .1 .0)) (List._∷_ (Row.lease (κs .1 .1 .1 .1 .0) (qs .1 .1 .1 .1 .0)) (List._∷_ (Row.lease (κs .1 .1 .1 .1 .1 .0) (qs .1 .1 .1 .1 .1 .0)) (List._∷_ Row.off (List._∷_
-            Row.off (List._∷_ Row.off (List._∷_ Row.off (List._∷_ Row.off List.[])))))))))); }
+        G47 = record {
+          locals = List._++_ t20 t1;
+          slots = List._∷_ (Row.lease (κs .0) (qs .0)) (List._∷_ (Row.lease (κs .1 .0) (qs .1 .0)) (List._∷_ (Row.lease (κs .1 .1 .0) (qs .1 .1 .0)) (List._∷_ (Row.lease (κs
+              .1 .1 .1 .0) (qs .1 .1 .1 .0)) (List._∷_ (Row.lease (κs .1 .1 .1 .1 .0) (qs .1 .1 .1 .1 .0)) (List._∷_ (Row.lease (κs .1 .1 .1 .1 .1 .0) (qs .1 .1 .1 .1 .1 .0)) (List._∷_ Row.off (List._∷_
+              Row.off (List._∷_ Row.off (List._∷_ Row.off (List._∷_ Row.off List.[]))))))))));
+        }
 
         abbrev G48 : Row.Cx
-        G48 = record
-            { locals = List._++_ t31 t1; slots = List._∷_ (Row.lease (κs .0) (qs .0)) (List._∷_ (Row.lease (κs .1 .0) (qs .1 .0)) (List._∷_ (Row.lease (κs .1 .1 .0) (qs .1 .1 .0)) (List._∷_ (Row.lease (κs
-            .1 .1 .1 .0) (qs .1 .1 .1 .0)) (List._∷_ (Row.lease (κs .1 .1 .1 .1 .0) (qs .1 .1 .1 .1 .0)) (List._∷_ (Row.lease (κs .1 .1 .1 .1 .1 .0) (qs .1 .1 .1 .1 .1 .0)) (List._∷_ Row.off (List._∷_
-            Row.off (List._∷_ Row.off (List._∷_ Row.off (List._∷_ Row.off List.[])))))))))); }
+        G48 = record {
+          locals = List._++_ t31 t1;
+          slots = List._∷_ (Row.lease (κs .0) (qs .0)) (List._∷_ (Row.lease (κs .1 .0) (qs .1 .0)) (List._∷_ (Row.lease (κs .1 .1 .0) (qs .1 .1 .0)) (List._∷_ (Row.lease (κs
+              .1 .1 .1 .0) (qs .1 .1 .1 .0)) (List._∷_ (Row.lease (κs .1 .1 .1 .1 .0) (qs .1 .1 .1 .1 .0)) (List._∷_ (Row.lease (κs .1 .1 .1 .1 .1 .0) (qs .1 .1 .1 .1 .1 .0)) (List._∷_ Row.off (List._∷_
+              Row.off (List._∷_ Row.off (List._∷_ Row.off (List._∷_ Row.off List.[]))))))))));
+        }
 
         abbrev G49 : Row.Cx
-        G49 = record
-            { locals = List._++_ t32 t1; slots = List._∷_ (Row.lease (κs .0) (qs .0)) (List._∷_ (Row.lease (κs .1 .0) (qs .1 .0)) (List._∷_ (Row.lease (κs .1 .1 .0) (qs .1 .1 .0)) (List._∷_ (Row.lease (κs
-            .1 .1 .1 .0) (qs .1 .1 .1 .0)) (List._∷_ (Row.lease (κs .1 .1 .1 .1 .0) (qs .1 .1 .1 .1 .0)) (List._∷_ (Row.lease (κs .1 .1 .1 .1 .1 .0) (qs .1 .1 .1 .1 .1 .0)) (List._∷_ Row.off (List._∷_
-            Row.off (List._∷_ Row.off (List._∷_ Row.off (List._∷_ Row.off List.[])))))))))); }
+        G49 = record {
+          locals = List._++_ t32 t1;
+          slots = List._∷_ (Row.lease (κs .0) (qs .0)) (List._∷_ (Row.lease (κs .1 .0) (qs .1 .0)) (List._∷_ (Row.lease (κs .1 .1 .0) (qs .1 .1 .0)) (List._∷_ (Row.lease (κs
+              .1 .1 .1 .0) (qs .1 .1 .1 .0)) (List._∷_ (Row.lease (κs .1 .1 .1 .1 .0) (qs .1 .1 .1 .1 .0)) (List._∷_ (Row.lease (κs .1 .1 .1 .1 .1 .0) (qs .1 .1 .1 .1 .1 .0)) (List._∷_ Row.off (List._∷_
+              Row.off (List._∷_ Row.off (List._∷_ Row.off (List._∷_ Row.off List.[]))))))))));
+        }
 
         abbrev G50 : Row.Cx
-        G50 = record
-            { locals = List._++_ t33 t1; slots = List._∷_ (Row.lease (κs .0) (qs .0)) (List._∷_ (Row.lease (κs .1 .0) (qs .1 .0)) (List._∷_ (Row.lease (κs .1 .1 .0) (qs .1 .1 .0)) (List._∷_ (Row.lease (κs
-            .1 .1 .1 .0) (qs .1 .1 .1 .0)) (List._∷_ (Row.lease (κs .1 .1 .1 .1 .0) (qs .1 .1 .1 .1 .0)) (List._∷_ (Row.lease (κs .1 .1 .1 .1 .1 .0) (qs .1 .1 .1 .1 .1 .0)) (List._∷_ Row.off (List._∷_
-            Row.off (List._∷_ Row.off (List._∷_ Row.off (List._∷_ Row.off List.[])))))))))); }
+        G50 = record {
+          locals = List._++_ t33 t1;
+          slots = List._∷_ (Row.lease (κs .0) (qs .0)) (List._∷_ (Row.lease (κs .1 .0) (qs .1 .0)) (List._∷_ (Row.lease (κs .1 .1 .0) (qs .1 .1 .0)) (List._∷_ (Row.lease (κs
+              .1 .1 .1 .0) (qs .1 .1 .1 .0)) (List._∷_ (Row.lease (κs .1 .1 .1 .1 .0) (qs .1 .1 .1 .1 .0)) (List._∷_ (Row.lease (κs .1 .1 .1 .1 .1 .0) (qs .1 .1 .1 .1 .1 .0)) (List._∷_ Row.off (List._∷_
+              Row.off (List._∷_ Row.off (List._∷_ Row.off (List._∷_ Row.off List.[]))))))))));
+        }
 
         abbrev G51 : Row.Cx
-        G51 = record
-            { locals = List._++_ t2 t1; slots = List._∷_ (Row.lease (κs .0) (qs .0)) (List._∷_ (Row.lease (κs .1 .0) (qs .1 .0)) (List._∷_ (Row.lease (κs .1 .1 .0) (qs .1 .1 .0)) (List._∷_ (Row.lease (κs
-            .1 .1 .1 .0) (qs .1 .1 .1 .0)) (List._∷_ (Row.lease (κs .1 .1 .1 .1 .0) (qs .1 .1 .1 .1 .0)) (List._∷_ (Row.lease (κs .1 .1 .1 .1 .1 .0) (qs .1 .1 .1 .1 .1 .0)) (List._∷_ Row.off (List._∷_
-            Row.off (List._∷_ Row.off (List._∷_ Row.off (List._∷_ Row.off List.[])))))))))); }
+        G51 = record {
+          locals = List._++_ t2 t1;
+          slots = List._∷_ (Row.lease (κs .0) (qs .0)) (List._∷_ (Row.lease (κs .1 .0) (qs .1 .0)) (List._∷_ (Row.lease (κs .1 .1 .0) (qs .1 .1 .0)) (List._∷_ (Row.lease (κs
+              .1 .1 .1 .0) (qs .1 .1 .1 .0)) (List._∷_ (Row.lease (κs .1 .1 .1 .1 .0) (qs .1 .1 .1 .1 .0)) (List._∷_ (Row.lease (κs .1 .1 .1 .1 .1 .0) (qs .1 .1 .1 .1 .1 .0)) (List._∷_ Row.off (List._∷_
+              Row.off (List._∷_ Row.off (List._∷_ Row.off (List._∷_ Row.off List.[]))))))))));
+        }
 
         abbrev Δ0 : Typed.Outs
         Δ0 = record { next = Option.none; exits = List.[]; returns = Option.some G1 }
@@ -1392,9 +1619,13 @@ module _ (claims· : Claims) where
 
           d9 : Typed.Typed 𝓤 H A 𝓣 E G42 b16 Δ0 at9
           d9 = Typed.s-seq 𝓤 H A W 𝓣 E G42 G43 b12 b15 Δ0 (Typed.both s41) at8 (Plain.t-call-plain 𝓤 H A W 𝓣 1 ps·2 r·2 (claims· .4) (claims· .5) "block::records::clear_records" (known .2) E (λ pos β.
-              β) G42 (record { pos = 24; ty = Syntax.tyRef Syntax.erased Syntax.mut Element.behind; ref = λ x. x; }, tt) 20 (List._∷_ 10 List.[]) (Call.sub-id 𝓤 H A W (G42 .slots))
-              (Reads.as-is 𝓤 H A (Mut.mslice (Element.type) (Syntax.tyRef Syntax.erased Syntax.mut Element.behind) 10), Mut.reads-mslice 𝓤 H A W (Element.type) (Syntax.tyRef Syntax.erased Syntax.mut
-              Element.behind) 10, Path'.refl, tt) (Reads.room-gone 𝓤 H A Syntax.tyUnit) (tt, tt) Path'.refl) d8
+              β) G42 (record { pos = 24; ty = Syntax.tyRef Syntax.erased Syntax.mut Element.behind; ref = λ x. x }, tt) 20 (List._∷_ 10 List.[]) (Call.sub-id 𝓤 H A W (G42 .slots)) (
+                Reads.as-is 𝓤 H A (Mut.mslice (Element.type) (Syntax.tyRef Syntax.erased Syntax.mut Element.behind) 10),
+                Mut.reads-mslice 𝓤 H A W (Element.type) (Syntax.tyRef Syntax.erased Syntax.mut
+                    Element.behind) 10,
+                Path'.refl,
+                tt,
+              ) (Reads.room-gone 𝓤 H A Syntax.tyUnit) (tt, tt) Path'.refl) d8
 
           d10 : Typed.Typed 𝓤 H A 𝓣 E G41 b17 Δ0 at10
           d10 = Typed.s-seq 𝓤 H A W 𝓣 E G41 G42 b11 b16 Δ0 (Typed.ask s40) at9 (Relend.t-sl-aggregate 𝓤 H A W E (Element.type) 𝓣 (Relend.asMut (Element.type)) G41 23 24 10 (Syntax.tyRef Syntax.erased
@@ -1434,17 +1665,23 @@ module _ (claims· : Claims) where
 
           d18 : Typed.Typed 𝓤 H A 𝓣 E G33 b19 Δ0 at18
           d18 = Typed.s-seq 𝓤 H A W 𝓣 E G33 G34 b9 b18 Δ0 (Typed.both s32) at17 (Plain.t-call-plain 𝓤 H A W 𝓣 1 ps·1 r·1 (claims· .2) (claims· .3) "lines::clear" (known .1) E (λ pos β. β) G33
-              (record { pos = 22; ty = Syntax.tyRef Syntax.erased Syntax.mut (Syntax.tyInt Syntax.w16); ref = λ x. x; }, tt) 20 (List._∷_ 9 List.[]) (Call.sub-id 𝓤 H A W (G33 .slots))
-              (Reads.as-is 𝓤 H A (Mut.mslice (Referent.rtF (Referent.fInt Syntax.w16)) (Syntax.tyRef Syntax.erased Syntax.mut (Syntax.tyInt Syntax.w16)) 9), Mut.reads-mslice 𝓤 H A W (Referent.rtF
-              (Referent.fInt Syntax.w16)) (Syntax.tyRef Syntax.erased Syntax.mut (Syntax.tyInt Syntax.w16)) 9, Path'.refl, tt) (Reads.room-gone 𝓤 H A Syntax.tyUnit) (tt, tt) Path'.refl) d17
+              (record { pos = 22; ty = Syntax.tyRef Syntax.erased Syntax.mut (Syntax.tyInt Syntax.w16); ref = λ x. x }, tt) 20 (List._∷_ 9 List.[]) (Call.sub-id 𝓤 H A W (G33 .slots)) (
+                Reads.as-is 𝓤 H A (Mut.mslice (Referent.rtF (Referent.fInt Syntax.w16)) (Syntax.tyRef Syntax.erased Syntax.mut (Syntax.tyInt Syntax.w16)) 9),
+                Mut.reads-mslice 𝓤 H A W (Referent.rtF
+                    (Referent.fInt Syntax.w16)) (Syntax.tyRef Syntax.erased Syntax.mut (Syntax.tyInt Syntax.w16)) 9,
+                Path'.refl,
+                tt,
+              ) (Reads.room-gone 𝓤 H A Syntax.tyUnit) (tt, tt) Path'.refl) d17
 
           d19 : Typed.Typed 𝓤 H A 𝓣 E G32 b20 Δ0 at19
           d19 = Typed.s-seq 𝓤 H A W 𝓣 E G32 G33 b8 b19 Δ0 (Typed.ask s31) at18 (Relend.t-sl-aggregate 𝓤 H A W E (Referent.rtF (Referent.fInt Syntax.w16)) 𝓣 (Relend.asMut (Referent.rtF (Referent.fInt
               Syntax.w16))) G32 21 22 9 (Syntax.tyRef Syntax.erased Syntax.mut (Syntax.tyInt Syntax.w16)) (Syntax.tyRef Syntax.erased Syntax.mut (Syntax.tyInt Syntax.w16)) (λ x. x) (Scalar.oFld 3
               (List._∷_ (Syntax.field 1) List.[]) (Syntax.tyInt Syntax.w64) 8 λ v. Shared.lenV (v .0)) (Reads.as-is 𝓤 H A (Relend.msptr (Referent.rtF (Referent.fInt Syntax.w16)) (Syntax.tyRef
-              Syntax.erased Syntax.mut (Syntax.tyInt Syntax.w16)) 9)) (Reads.room-gone 𝓤 H A y3)
-              (Relend.reads-owed-len 𝓤 H A W (Referent.rtF (Referent.fInt Syntax.w16)) (Syntax.tyRef (Syntax.named 2) Syntax.mut (Syntax.tyInt Syntax.w16)) 2 9 (Row.lease (κs .1 .1 .0) (qs .1 .1 .0)) 8
-              Path'.refl, Path'.refl) Path'.refl Path'.refl λ b o k. tt) d18
+              Syntax.erased Syntax.mut (Syntax.tyInt Syntax.w16)) 9)) (Reads.room-gone 𝓤 H A y3) (
+                Relend.reads-owed-len 𝓤 H A W (Referent.rtF (Referent.fInt Syntax.w16)) (Syntax.tyRef (Syntax.named 2) Syntax.mut (Syntax.tyInt Syntax.w16)) 2 9 (Row.lease (κs .1 .1 .0) (qs .1 .1 .0)) 8
+                    Path'.refl,
+                Path'.refl,
+              ) Path'.refl Path'.refl λ b o k. tt) d18
 
           d20 : Typed.Typed 𝓤 H A 𝓣 E G31 b21 Δ0 at20
           d20 = Typed.s-seq 𝓤 H A W 𝓣 E G31 G32 b7 b20 Δ0 (Typed.give s30) at19 (Relend.t-sl-relend 𝓤 H A W E (Referent.rtF (Referent.fInt Syntax.w16)) 𝓣 G31 3 21 2 9 (Syntax.tyRef (Syntax.named 2)
@@ -1517,39 +1754,98 @@ module _ (claims· : Claims) where
 
           d37 : Typed.Typed 𝓤 H A 𝓣 E G14 b22 Δ0 at37
           d37 = Typed.s-seq 𝓤 H A W 𝓣 E G14 G15 b6 b21 Δ0 (Typed.both s13) at36 (Plain.t-call-plain 𝓤 H A W 𝓣 6 ps·0 r·0 (claims· .0) (claims· .1) "block::reading::read_lines" (known .0) E (λ pos β.
-              β) G14
-              (record { pos = 1; ty = Syntax.tyRef (Syntax.named 0) Syntax.imm (Syntax.tyInt Syntax.w8); ref = λ x. x; },
-              (record { pos = 2; ty = Syntax.tyRef (Syntax.named 1) Syntax.imm (Syntax.tyInt Syntax.w8); ref = λ x. x; },
-              (record { pos = 15; ty = Syntax.tyRef Syntax.erased Syntax.mut (Syntax.tyInt Syntax.w16); ref = λ x. x; },
-              (record { pos = 17; ty = Syntax.tyRef Syntax.erased Syntax.mut Element.behind; ref = λ x. x; },
-              (record { pos = 19; ty = Syntax.tyRef Syntax.erased Syntax.mut (Syntax.tyInt Syntax.w16); ref = λ x. x; },
-              (record { pos = 6; st = List.[]; d = 0; at = λ x. x },
-              (record { pos = 7; ty = Syntax.tyRef (Syntax.named 5) Syntax.imm (Syntax.tyArray (Syntax.tyInt Syntax.w16) 768); ref = λ x. x; },
-              (record { pos = 8; st = List.[]; d = 0; at = λ x. x },
-              (record { pos = 9; st = List.[]; d = 0; at = λ x. x }, (Num.vAt 10 λ x. x, (Bool.bAt 11 λ x. x, (record { pos = 12; st = List.[]; d = 0; at = λ x. x }, tt)))))))))))) 13 (List._∷_ 0
-              (List._∷_ 1 (List._∷_ 6 (List._∷_ 7 (List._∷_ 8 (List._∷_ 5 List.[])))))) (Call.sub-id 𝓤 H A W (G14 .slots))
-              (ShrSlice.spares-sslice 𝓤 H A W (Referent.rtF (Referent.fInt Syntax.w8)) (Syntax.tyRef (Syntax.named 0) Syntax.imm (Syntax.tyInt Syntax.w8)) 0, Shared.reads-sslice 𝓤 H A W (Referent.rtF
-              (Referent.fInt Syntax.w8)) (Syntax.tyRef (Syntax.named 0) Syntax.imm (Syntax.tyInt Syntax.w8)) 0, Path'.refl,
-              (ShrSlice.spares-sslice 𝓤 H A W (Referent.rtF (Referent.fInt Syntax.w8)) (Syntax.tyRef (Syntax.named 1) Syntax.imm (Syntax.tyInt Syntax.w8)) 1, Shared.reads-sslice 𝓤 H A W (Referent.rtF
-              (Referent.fInt Syntax.w8)) (Syntax.tyRef (Syntax.named 1) Syntax.imm (Syntax.tyInt Syntax.w8)) 1, Path'.refl,
-              (Reads.as-is 𝓤 H A (Mut.mslice (Referent.rtF (Referent.fInt Syntax.w16)) (Syntax.tyRef Syntax.erased Syntax.mut (Syntax.tyInt Syntax.w16)) 6), Mut.reads-mslice 𝓤 H A W (Referent.rtF
-              (Referent.fInt Syntax.w16)) (Syntax.tyRef Syntax.erased Syntax.mut (Syntax.tyInt Syntax.w16)) 6, Path'.refl,
-              (Reads.as-is 𝓤 H A (Mut.mslice (Element.type) (Syntax.tyRef Syntax.erased Syntax.mut Element.behind) 7), Mut.reads-mslice 𝓤 H A W (Element.type) (Syntax.tyRef Syntax.erased Syntax.mut
-              Element.behind) 7, Path'.refl,
-              (Reads.as-is 𝓤 H A (Mut.mslice (Referent.rtF (Referent.fInt Syntax.w16)) (Syntax.tyRef Syntax.erased Syntax.mut (Syntax.tyInt Syntax.w16)) 8), Mut.reads-mslice 𝓤 H A W (Referent.rtF
-              (Referent.fInt Syntax.w16)) (Syntax.tyRef Syntax.erased Syntax.mut (Syntax.tyInt Syntax.w16)) 8, Path'.refl,
-              ((Yields.yields-copy 𝓤 H A W (λ ρ. Unit) (Declared'.row Form.the-type) Path'.refl (Copies.cStruct Form.the-type Laws.the-laws Laws.the-copy .copy 𝓤 H A W) (Rows'.whole (Declared'.row
-              Form.the-type)) (λ x. x) (λ x. x) (λ ρ told. Local.mem-whole 𝓤 H A W (Declared'.row Form.the-type) ρ) λ ρ told. Local.whole-mem 𝓤 H A W (Declared'.row Form.the-type) ρ, Path'.refl),
-              (ShrRef.spares-sref 𝓤 H A W (Array'.Array (Referent.rtF (Referent.fInt Syntax.w16)) 768) (Syntax.tyRef (Syntax.named 5) Syntax.imm (Syntax.tyArray (Syntax.tyInt Syntax.w16) 768)) 5,
-              Reads.reads-sref 𝓤 H A W (Array'.Array (Referent.rtF (Referent.fInt Syntax.w16)) 768) (Syntax.tyRef (Syntax.named 5) Syntax.imm (Syntax.tyArray (Syntax.tyInt Syntax.w16) 768)) 5, Path'.refl,
-              ((Array.arr-yields 𝓤 H A W (Array.eInt Syntax.w8) (Array.eInt-laws Syntax.w8) 36, Path'.refl),
-              ((Yields.yields-copy 𝓤 H A W (λ ρ. Unit) (Declared'.row Part.the-type) Path'.refl (Copies.cStruct Part.the-type Laws'3.the-laws Laws'3.the-copy .copy 𝓤 H A W) (Rows'.whole (Declared'.row
-              Part.the-type)) (λ x. x) (λ x. x) (λ ρ told. Local.mem-whole 𝓤 H A W (Declared'.row Part.the-type) ρ) λ ρ told. Local.whole-mem 𝓤 H A W (Declared'.row Part.the-type) ρ, Path'.refl),
-              ((Scalar.reads-sc 𝓤 H A W (Row.sInt Syntax.w64), Path'.refl),
-              ((Scalar.reads-sc 𝓤 H A W Row.sBool, Path'.refl),
-              ((Yields.yields-copy 𝓤 H A W (λ ρ. Unit) (Declared'.row Entries.the-type) Path'.refl (Copies.cStruct Entries.the-type Laws''.the-laws Laws''.the-copy .copy 𝓤 H A W) (Rows'.whole
-              (Declared'.row Entries.the-type)) (λ x. x) (λ x. x) (λ ρ told. Local.mem-whole 𝓤 H A W (Declared'.row Entries.the-type) ρ) λ ρ told. Local.whole-mem 𝓤 H A W (Declared'.row Entries.the-type)
-              ρ, Path'.refl), tt)))))))))))) (Reads.room-gone 𝓤 H A (Syntax.tyEnum (List._∷_ 98 (List._∷_ 108 (List._∷_ 111 (List._∷_ 99 (List._∷_ 107 (List._∷_ 58 (List._∷_ 58 (List._∷_ 87 (List._∷_ 97
+              β) G14 (
+                record { pos = 1; ty = Syntax.tyRef (Syntax.named 0) Syntax.imm (Syntax.tyInt Syntax.w8); ref = λ x. x },
+                (
+                  record { pos = 2; ty = Syntax.tyRef (Syntax.named 1) Syntax.imm (Syntax.tyInt Syntax.w8); ref = λ x. x },
+                  (
+                    record { pos = 15; ty = Syntax.tyRef Syntax.erased Syntax.mut (Syntax.tyInt Syntax.w16); ref = λ x. x },
+                    (
+                      record { pos = 17; ty = Syntax.tyRef Syntax.erased Syntax.mut Element.behind; ref = λ x. x },
+                      (
+                        record { pos = 19; ty = Syntax.tyRef Syntax.erased Syntax.mut (Syntax.tyInt Syntax.w16); ref = λ x. x },
+                        (
+                          record { pos = 6; st = List.[]; d = 0; at = λ x. x },
+                          (
+                            record { pos = 7; ty = Syntax.tyRef (Syntax.named 5) Syntax.imm (Syntax.tyArray (Syntax.tyInt Syntax.w16) 768); ref = λ x. x },
+                            (
+                              record { pos = 8; st = List.[]; d = 0; at = λ x. x },
+                              (record { pos = 9; st = List.[]; d = 0; at = λ x. x }, (Num.vAt 10 λ x. x, (Bool.bAt 11 λ x. x, (record { pos = 12; st = List.[]; d = 0; at = λ x. x }, tt)))),
+                            ),
+                          ),
+                        ),
+                      ),
+                    ),
+                  ),
+                ),
+              ) 13 (List._∷_ 0
+              (List._∷_ 1 (List._∷_ 6 (List._∷_ 7 (List._∷_ 8 (List._∷_ 5 List.[])))))) (Call.sub-id 𝓤 H A W (G14 .slots)) (
+                ShrSlice.spares-sslice 𝓤 H A W (Referent.rtF (Referent.fInt Syntax.w8)) (Syntax.tyRef (Syntax.named 0) Syntax.imm (Syntax.tyInt Syntax.w8)) 0,
+                Shared.reads-sslice 𝓤 H A W (Referent.rtF
+                    (Referent.fInt Syntax.w8)) (Syntax.tyRef (Syntax.named 0) Syntax.imm (Syntax.tyInt Syntax.w8)) 0,
+                Path'.refl,
+                (
+                  ShrSlice.spares-sslice 𝓤 H A W (Referent.rtF (Referent.fInt Syntax.w8)) (Syntax.tyRef (Syntax.named 1) Syntax.imm (Syntax.tyInt Syntax.w8)) 1,
+                  Shared.reads-sslice 𝓤 H A W (Referent.rtF
+                      (Referent.fInt Syntax.w8)) (Syntax.tyRef (Syntax.named 1) Syntax.imm (Syntax.tyInt Syntax.w8)) 1,
+                  Path'.refl,
+                  (
+                    Reads.as-is 𝓤 H A (Mut.mslice (Referent.rtF (Referent.fInt Syntax.w16)) (Syntax.tyRef Syntax.erased Syntax.mut (Syntax.tyInt Syntax.w16)) 6),
+                    Mut.reads-mslice 𝓤 H A W (Referent.rtF
+                        (Referent.fInt Syntax.w16)) (Syntax.tyRef Syntax.erased Syntax.mut (Syntax.tyInt Syntax.w16)) 6,
+                    Path'.refl,
+                    (
+                      Reads.as-is 𝓤 H A (Mut.mslice (Element.type) (Syntax.tyRef Syntax.erased Syntax.mut Element.behind) 7),
+                      Mut.reads-mslice 𝓤 H A W (Element.type) (Syntax.tyRef Syntax.erased Syntax.mut
+                          Element.behind) 7,
+                      Path'.refl,
+                      (
+                        Reads.as-is 𝓤 H A (Mut.mslice (Referent.rtF (Referent.fInt Syntax.w16)) (Syntax.tyRef Syntax.erased Syntax.mut (Syntax.tyInt Syntax.w16)) 8),
+                        Mut.reads-mslice 𝓤 H A W (Referent.rtF
+                            (Referent.fInt Syntax.w16)) (Syntax.tyRef Syntax.erased Syntax.mut (Syntax.tyInt Syntax.w16)) 8,
+                        Path'.refl,
+                        (
+                          (
+                            Yields.yields-copy 𝓤 H A W (λ ρ. Unit) (Declared'.row Form.the-type) Path'.refl (Copies.cStruct Form.the-type Laws.the-laws Laws.the-copy .copy 𝓤 H A W) (Rows'.whole (Declared'.row
+                                Form.the-type)) (λ x. x) (λ x. x) (λ ρ told. Local.mem-whole 𝓤 H A W (Declared'.row Form.the-type) ρ) λ ρ told. Local.whole-mem 𝓤 H A W (Declared'.row Form.the-type) ρ,
+                            Path'.refl,
+                          ),
+                          (
+                            ShrRef.spares-sref 𝓤 H A W (Array'.Array (Referent.rtF (Referent.fInt Syntax.w16)) 768) (Syntax.tyRef (Syntax.named 5) Syntax.imm (Syntax.tyArray (Syntax.tyInt Syntax.w16) 768)) 5,
+                            Reads.reads-sref 𝓤 H A W (Array'.Array (Referent.rtF (Referent.fInt Syntax.w16)) 768) (Syntax.tyRef (Syntax.named 5) Syntax.imm (Syntax.tyArray (Syntax.tyInt Syntax.w16) 768)) 5,
+                            Path'.refl,
+                            (
+                              (Array.arr-yields 𝓤 H A W (Array.eInt Syntax.w8) (Array.eInt-laws Syntax.w8) 36, Path'.refl),
+                              (
+                                (
+                                  Yields.yields-copy 𝓤 H A W (λ ρ. Unit) (Declared'.row Part.the-type) Path'.refl (Copies.cStruct Part.the-type Laws'3.the-laws Laws'3.the-copy .copy 𝓤 H A W) (Rows'.whole (Declared'.row
+                                      Part.the-type)) (λ x. x) (λ x. x) (λ ρ told. Local.mem-whole 𝓤 H A W (Declared'.row Part.the-type) ρ) λ ρ told. Local.whole-mem 𝓤 H A W (Declared'.row Part.the-type) ρ,
+                                  Path'.refl,
+                                ),
+                                (
+                                  (Scalar.reads-sc 𝓤 H A W (Row.sInt Syntax.w64), Path'.refl),
+                                  (
+                                    (Scalar.reads-sc 𝓤 H A W Row.sBool, Path'.refl),
+                                    (
+                                      (
+                                        Yields.yields-copy 𝓤 H A W (λ ρ. Unit) (Declared'.row Entries.the-type) Path'.refl (Copies.cStruct Entries.the-type Laws''.the-laws Laws''.the-copy .copy 𝓤 H A W) (Rows'.whole
+                                            (Declared'.row Entries.the-type)) (λ x. x) (λ x. x) (λ ρ told. Local.mem-whole 𝓤 H A W (Declared'.row Entries.the-type) ρ) λ ρ told. Local.whole-mem 𝓤 H A W (Declared'.row Entries.the-type)
+                                            ρ,
+                                        Path'.refl,
+                                      ),
+                                      tt,
+                                    ),
+                                  ),
+                                ),
+                              ),
+                            ),
+                          ),
+                        ),
+                      ),
+                    ),
+                  ),
+                ),
+              ) (Reads.room-gone 𝓤 H A (Syntax.tyEnum (List._∷_ 98 (List._∷_ 108 (List._∷_ 111 (List._∷_ 99 (List._∷_ 107 (List._∷_ 58 (List._∷_ 58 (List._∷_ 87 (List._∷_ 97
               (List._∷_ 108 (List._∷_ 107 (List._∷_ 101 (List._∷_ 100 List.[]))))))))))))) (Syntax.ttcons (Syntax.tcons y2 (Syntax.tcons y6 Syntax.tnil)) (Syntax.ttcons (Syntax.tcons (Syntax.tyInt
               Syntax.w64) (Syntax.tcons y2 Syntax.tnil)) Syntax.ttnil)))) (tt, (tt, (tt, (tt, (tt, (tt, tt)))))) Path'.refl) d36
 
@@ -1557,9 +1853,11 @@ module _ (claims· : Claims) where
           d38 = Typed.s-seq 𝓤 H A W 𝓣 E G13 G14 b5 b22 Δ0 (Typed.ask s12) at37 (Relend.t-sl-aggregate 𝓤 H A W E (Referent.rtF (Referent.fInt Syntax.w16)) 𝓣 (Relend.asMut (Referent.rtF (Referent.fInt
               Syntax.w16))) G13 18 19 8 (Syntax.tyRef Syntax.erased Syntax.mut (Syntax.tyInt Syntax.w16)) (Syntax.tyRef Syntax.erased Syntax.mut (Syntax.tyInt Syntax.w16)) (λ x. x) (Scalar.oFld 5
               (List._∷_ (Syntax.field 1) List.[]) (Syntax.tyInt Syntax.w64) 8 λ v. Shared.lenV (v .0)) (Reads.as-is 𝓤 H A (Relend.msptr (Referent.rtF (Referent.fInt Syntax.w16)) (Syntax.tyRef
-              Syntax.erased Syntax.mut (Syntax.tyInt Syntax.w16)) 8)) (Reads.room-gone 𝓤 H A y3)
-              (Relend.reads-owed-len 𝓤 H A W (Referent.rtF (Referent.fInt Syntax.w16)) (Syntax.tyRef (Syntax.named 4) Syntax.mut (Syntax.tyInt Syntax.w16)) 4 8 (Row.lease (κs .1 .1 .1 .1 .0) (qs .1 .1 .1
-              .1 .0)) 8 Path'.refl, Path'.refl) Path'.refl Path'.refl λ b o k. tt) d37
+              Syntax.erased Syntax.mut (Syntax.tyInt Syntax.w16)) 8)) (Reads.room-gone 𝓤 H A y3) (
+                Relend.reads-owed-len 𝓤 H A W (Referent.rtF (Referent.fInt Syntax.w16)) (Syntax.tyRef (Syntax.named 4) Syntax.mut (Syntax.tyInt Syntax.w16)) 4 8 (Row.lease (κs .1 .1 .1 .1 .0) (qs .1 .1 .1
+                    .1 .0)) 8 Path'.refl,
+                Path'.refl,
+              ) Path'.refl Path'.refl λ b o k. tt) d37
 
           d39 : Typed.Typed 𝓤 H A 𝓣 E G12 b24 Δ0 at39
           d39 = Typed.s-seq 𝓤 H A W 𝓣 E G12 G13 b4 b23 Δ0 (Typed.give s11) at38 (Relend.t-sl-relend 𝓤 H A W E (Referent.rtF (Referent.fInt Syntax.w16)) 𝓣 G12 5 18 4 8 (Syntax.tyRef (Syntax.named 4)
@@ -1591,9 +1889,11 @@ module _ (claims· : Claims) where
           d44 = Typed.s-seq 𝓤 H A W 𝓣 E G7 G8 b1 b26 Δ0 (Typed.ask s6) at43 (Relend.t-sl-aggregate 𝓤 H A W E (Referent.rtF (Referent.fInt Syntax.w16)) 𝓣 (Relend.asMut (Referent.rtF (Referent.fInt
               Syntax.w16))) G7 14 15 6 (Syntax.tyRef Syntax.erased Syntax.mut (Syntax.tyInt Syntax.w16)) (Syntax.tyRef Syntax.erased Syntax.mut (Syntax.tyInt Syntax.w16)) (λ x. x) (Scalar.oFld 3 (List._∷_
               (Syntax.field 1) List.[]) (Syntax.tyInt Syntax.w64) 8 λ v. Shared.lenV (v .0)) (Reads.as-is 𝓤 H A (Relend.msptr (Referent.rtF (Referent.fInt Syntax.w16)) (Syntax.tyRef Syntax.erased
-              Syntax.mut (Syntax.tyInt Syntax.w16)) 6)) (Reads.room-gone 𝓤 H A y3)
-              (Relend.reads-owed-len 𝓤 H A W (Referent.rtF (Referent.fInt Syntax.w16)) (Syntax.tyRef (Syntax.named 2) Syntax.mut (Syntax.tyInt Syntax.w16)) 2 6 (Row.lease (κs .1 .1 .0) (qs .1 .1 .0)) 8
-              Path'.refl, Path'.refl) Path'.refl Path'.refl λ b o k. tt) d43
+              Syntax.mut (Syntax.tyInt Syntax.w16)) 6)) (Reads.room-gone 𝓤 H A y3) (
+                Relend.reads-owed-len 𝓤 H A W (Referent.rtF (Referent.fInt Syntax.w16)) (Syntax.tyRef (Syntax.named 2) Syntax.mut (Syntax.tyInt Syntax.w16)) 2 6 (Row.lease (κs .1 .1 .0) (qs .1 .1 .0)) 8
+                    Path'.refl,
+                Path'.refl,
+              ) Path'.refl Path'.refl λ b o k. tt) d43
 
           d45 : Typed.Typed 𝓤 H A 𝓣 E G6 b28 Δ0 at45
           d45 = Typed.s-seq 𝓤 H A W 𝓣 E G6 G7 b0 b27 Δ0 (Typed.give s5) at44 (Relend.t-sl-relend 𝓤 H A W E (Referent.rtF (Referent.fInt Syntax.w16)) 𝓣 G6 3 14 2 6 (Syntax.tyRef (Syntax.named 2)
@@ -1635,25 +1935,64 @@ module _ (claims· : Claims) where
           pub lines : Kinds.Den {n = 6} κs (MutSlice.pMutS (Referent.rtF (Referent.fInt Syntax.w16)) 2 tt)
           pub rs : Kinds.Den {n = 6} κs (MutSlice.pMutS (Element.type) 3 tt)
           pub image : Kinds.Den {n = 6} κs (MutSlice.pMutS (Referent.rtF (Referent.fInt Syntax.w16)) 4 tt)
-          pub form : Kinds.Den {n = 6} κs (Value.pVal record
-              { ty = Declared'.row Form.the-type; one = Path'.refl; val = Laws'5.val Form.the-type Laws.the-laws; tells = Laws'5.tells Form.the-type Laws.the-laws; still = Laws'5.still Form.the-type
-              Laws.the-copy Exit.yes; row = Rows'.whole (Declared'.row Form.the-type); rd = λ x. x; mk = λ x. x; } λ M 𝓤 H A W. record
-              { copies = Laws'5.copy Form.the-type Laws.the-copy 𝓤 H A W; lawful = Laws'5.lawful Form.the-type Laws.the-laws 𝓤 H A W; makes = Laws'5.makes Form.the-type Laws.the-plain 𝓤 H A; in-mem =
-              Local.mem-whole 𝓤 H A W (Declared'.row Form.the-type); of-mem = Local.whole-mem 𝓤 H A W (Declared'.row Form.the-type); })
+          pub form : Kinds.Den {n = 6} κs (Value.pVal record {
+            ty = Declared'.row Form.the-type;
+            one = Path'.refl;
+            val = Laws'5.val Form.the-type Laws.the-laws;
+            tells = Laws'5.tells Form.the-type Laws.the-laws;
+            still = Laws'5.still Form.the-type
+                Laws.the-copy Exit.yes;
+            row = Rows'.whole (Declared'.row Form.the-type);
+            rd = λ x. x;
+            mk = λ x. x;
+          } λ M 𝓤 H A W. record {
+            copies = Laws'5.copy Form.the-type Laws.the-copy 𝓤 H A W;
+            lawful = Laws'5.lawful Form.the-type Laws.the-laws 𝓤 H A W;
+            makes = Laws'5.makes Form.the-type Laws.the-plain 𝓤 H A;
+            in-mem =
+                Local.mem-whole 𝓤 H A W (Declared'.row Form.the-type);
+            of-mem = Local.whole-mem 𝓤 H A W (Declared'.row Form.the-type);
+          })
           pub places : Kinds.Den {n = 6} κs (ShrRef.pShr (Array'.Array (Referent.rtF (Referent.fInt Syntax.w16)) 768) 5 tt)
           pub tile : Kinds.Den {n = 6} κs (Array.pArr (Array.eInt Syntax.w8) (Array.eInt-laws Syntax.w8) 36)
-          pub part : Kinds.Den {n = 6} κs (Value.pVal record
-              { ty = Declared'.row Part.the-type; one = Path'.refl; val = Laws'5.val Part.the-type Laws'3.the-laws; tells = Laws'5.tells Part.the-type Laws'3.the-laws; still = Laws'5.still Part.the-type
-              Laws'3.the-copy Exit.yes; row = Rows'.whole (Declared'.row Part.the-type); rd = λ x. x; mk = λ x. x; } λ M 𝓤 H A W. record
-              { copies = Laws'5.copy Part.the-type Laws'3.the-copy 𝓤 H A W; lawful = Laws'5.lawful Part.the-type Laws'3.the-laws 𝓤 H A W; makes = Laws'5.makes Part.the-type Laws'3.the-plain 𝓤 H A; in-mem
-              = Local.mem-whole 𝓤 H A W (Declared'.row Part.the-type); of-mem = Local.whole-mem 𝓤 H A W (Declared'.row Part.the-type); })
+          pub part : Kinds.Den {n = 6} κs (Value.pVal record {
+            ty = Declared'.row Part.the-type;
+            one = Path'.refl;
+            val = Laws'5.val Part.the-type Laws'3.the-laws;
+            tells = Laws'5.tells Part.the-type Laws'3.the-laws;
+            still = Laws'5.still Part.the-type
+                Laws'3.the-copy Exit.yes;
+            row = Rows'.whole (Declared'.row Part.the-type);
+            rd = λ x. x;
+            mk = λ x. x;
+          } λ M 𝓤 H A W. record {
+            copies = Laws'5.copy Part.the-type Laws'3.the-copy 𝓤 H A W;
+            lawful = Laws'5.lawful Part.the-type Laws'3.the-laws 𝓤 H A W;
+            makes = Laws'5.makes Part.the-type Laws'3.the-plain 𝓤 H A;
+            in-mem
+                = Local.mem-whole 𝓤 H A W (Declared'.row Part.the-type);
+            of-mem = Local.whole-mem 𝓤 H A W (Declared'.row Part.the-type);
+          })
           pub count : Kinds.Den {n = 6} κs (Num.pNum Syntax.w64)
           pub windowed : Kinds.Den {n = 6} κs Bool.pBool
-          pub entries : Kinds.Den {n = 6} κs (Value.pVal record
-              { ty = Declared'.row Entries.the-type; one = Path'.refl; val = Laws'5.val Entries.the-type Laws''.the-laws; tells = Laws'5.tells Entries.the-type Laws''.the-laws; still = Laws'5.still
-              Entries.the-type Laws''.the-copy Exit.yes; row = Rows'.whole (Declared'.row Entries.the-type); rd = λ x. x; mk = λ x. x; } λ M 𝓤 H A W. record
-              { copies = Laws'5.copy Entries.the-type Laws''.the-copy 𝓤 H A W; lawful = Laws'5.lawful Entries.the-type Laws''.the-laws 𝓤 H A W; makes = Laws'5.makes Entries.the-type Laws''.the-plain 𝓤 H
-              A; in-mem = Local.mem-whole 𝓤 H A W (Declared'.row Entries.the-type); of-mem = Local.whole-mem 𝓤 H A W (Declared'.row Entries.the-type); })
+          pub entries : Kinds.Den {n = 6} κs (Value.pVal record {
+            ty = Declared'.row Entries.the-type;
+            one = Path'.refl;
+            val = Laws'5.val Entries.the-type Laws''.the-laws;
+            tells = Laws'5.tells Entries.the-type Laws''.the-laws;
+            still = Laws'5.still
+                Entries.the-type Laws''.the-copy Exit.yes;
+            row = Rows'.whole (Declared'.row Entries.the-type);
+            rd = λ x. x;
+            mk = λ x. x;
+          } λ M 𝓤 H A W. record {
+            copies = Laws'5.copy Entries.the-type Laws''.the-copy 𝓤 H A W;
+            lawful = Laws'5.lawful Entries.the-type Laws''.the-laws 𝓤 H A W;
+            makes = Laws'5.makes Entries.the-type Laws''.the-plain 𝓤 H
+                A;
+            in-mem = Local.mem-whole 𝓤 H A W (Declared'.row Entries.the-type);
+            of-mem = Local.whole-mem 𝓤 H A W (Declared'.row Entries.the-type);
+          })
 
         abbrev pub dens : (a : Args) → Kinds.Dens κs ps
         dens = λ a. (a .block, (a .bases, (a .lines, (a .rs, (a .image, (a .form, (a .places, (a .tile, (a .part, (a .count, (a .windowed, (a .entries, tt))))))))))))
@@ -1666,9 +2005,12 @@ module _ (claims· : Claims) where
       m0 = λ κs args. (tt, Enter.partsP κs 1 ps xs (dens κs args))
 
       abbrev W0 : (κs : Lifetimes.Lfts 6) → (args : Args κs) → Typed.Want O0
-      W0 = λ κs args.
-          (λ u. ⊥, tt, λ u. Enter.Fixs κs 1 ps xs (dens κs args) (u .1) × Post· κs (dens κs args) (Function.resV r κs (u .0)) (Clauses.atExit (Kinds.endedOf 6 ps r) κs (dens κs args) (Enter.lastsP κs 1 ps
-          xs (dens κs args) (u .1))))
+      W0 = λ κs args. (
+        λ u. ⊥,
+        tt,
+        λ u. Enter.Fixs κs 1 ps xs (dens κs args) (u .1) × Post· κs (dens κs args) (Function.resV r κs (u .0)) (Clauses.atExit (Kinds.endedOf 6 ps r) κs (dens κs args) (Enter.lastsP κs 1 ps
+            xs (dens κs args) (u .1))),
+      )
 
       pub record Start : Type 0 where
         pub κs : Lifetimes.Lfts 6
@@ -1771,16 +2113,31 @@ module _ (claims· : Claims) where
 
       module _ (before· : After-read-lines-arg3) where
         abbrev pub After-read-lines·own : Type 0
-        After-read-lines·own = Called.Called ps·0 r·0 (claims· .1) T14
-            (record { pos = 1; ty = Syntax.tyRef (Syntax.named 0) Syntax.imm (Syntax.tyInt Syntax.w8); ref = λ x. x; },
-            (record { pos = 2; ty = Syntax.tyRef (Syntax.named 1) Syntax.imm (Syntax.tyInt Syntax.w8); ref = λ x. x; },
-            (record { pos = 15; ty = Syntax.tyRef Syntax.erased Syntax.mut (Syntax.tyInt Syntax.w16); ref = λ x. x; },
-            (record { pos = 17; ty = Syntax.tyRef Syntax.erased Syntax.mut Element.behind; ref = λ x. x; },
-            (record { pos = 19; ty = Syntax.tyRef Syntax.erased Syntax.mut (Syntax.tyInt Syntax.w16); ref = λ x. x; },
-            (record { pos = 6; st = List.[]; d = 0; at = λ x. x },
-            (record { pos = 7; ty = Syntax.tyRef (Syntax.named 5) Syntax.imm (Syntax.tyArray (Syntax.tyInt Syntax.w16) 768); ref = λ x. x; },
-            (record { pos = 8; st = List.[]; d = 0; at = λ x. x },
-            (record { pos = 9; st = List.[]; d = 0; at = λ x. x }, (Num.vAt 10 λ x. x, (Bool.bAt 11 λ x. x, (record { pos = 12; st = List.[]; d = 0; at = λ x. x }, tt)))))))))))) (m10 (before· .before)
+        After-read-lines·own = Called.Called ps·0 r·0 (claims· .1) T14 (
+          record { pos = 1; ty = Syntax.tyRef (Syntax.named 0) Syntax.imm (Syntax.tyInt Syntax.w8); ref = λ x. x },
+          (
+            record { pos = 2; ty = Syntax.tyRef (Syntax.named 1) Syntax.imm (Syntax.tyInt Syntax.w8); ref = λ x. x },
+            (
+              record { pos = 15; ty = Syntax.tyRef Syntax.erased Syntax.mut (Syntax.tyInt Syntax.w16); ref = λ x. x },
+              (
+                record { pos = 17; ty = Syntax.tyRef Syntax.erased Syntax.mut Element.behind; ref = λ x. x },
+                (
+                  record { pos = 19; ty = Syntax.tyRef Syntax.erased Syntax.mut (Syntax.tyInt Syntax.w16); ref = λ x. x },
+                  (
+                    record { pos = 6; st = List.[]; d = 0; at = λ x. x },
+                    (
+                      record { pos = 7; ty = Syntax.tyRef (Syntax.named 5) Syntax.imm (Syntax.tyArray (Syntax.tyInt Syntax.w16) 768); ref = λ x. x },
+                      (
+                        record { pos = 8; st = List.[]; d = 0; at = λ x. x },
+                        (record { pos = 9; st = List.[]; d = 0; at = λ x. x }, (Num.vAt 10 λ x. x, (Bool.bAt 11 λ x. x, (record { pos = 12; st = List.[]; d = 0; at = λ x. x }, tt)))),
+                      ),
+                    ),
+                  ),
+                ),
+              ),
+            ),
+          ),
+        ) (m10 (before· .before)
             (before· .read-lines-arg3 .given))
 
       pub record After-read-lines : Type 0 where
@@ -1788,16 +2145,31 @@ module _ (claims· : Claims) where
         pub read-lines : After-read-lines·own before
 
       abbrev pub After-read-lines·gave : (c : After-read-lines) → s13 .gives (m10 (c .before .before) (c .before .read-lines-arg3 .given))
-      After-read-lines·gave = λ c. Called.given ps·0 r·0 (claims· .1) T14
-          (record { pos = 1; ty = Syntax.tyRef (Syntax.named 0) Syntax.imm (Syntax.tyInt Syntax.w8); ref = λ x. x; },
-          (record { pos = 2; ty = Syntax.tyRef (Syntax.named 1) Syntax.imm (Syntax.tyInt Syntax.w8); ref = λ x. x; },
-          (record { pos = 15; ty = Syntax.tyRef Syntax.erased Syntax.mut (Syntax.tyInt Syntax.w16); ref = λ x. x; },
-          (record { pos = 17; ty = Syntax.tyRef Syntax.erased Syntax.mut Element.behind; ref = λ x. x; },
-          (record { pos = 19; ty = Syntax.tyRef Syntax.erased Syntax.mut (Syntax.tyInt Syntax.w16); ref = λ x. x; },
-          (record { pos = 6; st = List.[]; d = 0; at = λ x. x },
-          (record { pos = 7; ty = Syntax.tyRef (Syntax.named 5) Syntax.imm (Syntax.tyArray (Syntax.tyInt Syntax.w16) 768); ref = λ x. x; },
-          (record { pos = 8; st = List.[]; d = 0; at = λ x. x },
-          (record { pos = 9; st = List.[]; d = 0; at = λ x. x }, (Num.vAt 10 λ x. x, (Bool.bAt 11 λ x. x, (record { pos = 12; st = List.[]; d = 0; at = λ x. x }, tt)))))))))))) (m10 (c .before .before) (c
+      After-read-lines·gave = λ c. Called.given ps·0 r·0 (claims· .1) T14 (
+        record { pos = 1; ty = Syntax.tyRef (Syntax.named 0) Syntax.imm (Syntax.tyInt Syntax.w8); ref = λ x. x },
+        (
+          record { pos = 2; ty = Syntax.tyRef (Syntax.named 1) Syntax.imm (Syntax.tyInt Syntax.w8); ref = λ x. x },
+          (
+            record { pos = 15; ty = Syntax.tyRef Syntax.erased Syntax.mut (Syntax.tyInt Syntax.w16); ref = λ x. x },
+            (
+              record { pos = 17; ty = Syntax.tyRef Syntax.erased Syntax.mut Element.behind; ref = λ x. x },
+              (
+                record { pos = 19; ty = Syntax.tyRef Syntax.erased Syntax.mut (Syntax.tyInt Syntax.w16); ref = λ x. x },
+                (
+                  record { pos = 6; st = List.[]; d = 0; at = λ x. x },
+                  (
+                    record { pos = 7; ty = Syntax.tyRef (Syntax.named 5) Syntax.imm (Syntax.tyArray (Syntax.tyInt Syntax.w16) 768); ref = λ x. x },
+                    (
+                      record { pos = 8; st = List.[]; d = 0; at = λ x. x },
+                      (record { pos = 9; st = List.[]; d = 0; at = λ x. x }, (Num.vAt 10 λ x. x, (Bool.bAt 11 λ x. x, (record { pos = 12; st = List.[]; d = 0; at = λ x. x }, tt)))),
+                    ),
+                  ),
+                ),
+              ),
+            ),
+          ),
+        ),
+      ) (m10 (c .before .before) (c
           .before .read-lines-arg3 .given)) (c .read-lines)
 
       abbrev pub m12 : (before : After-read-lines-arg3) → (given : s13 .gives (m10 (before .before) (before .read-lines-arg3 .given))) → Typed.Mo T16
@@ -1889,7 +2261,7 @@ module _ (claims· : Claims) where
 
       module _ (before· : After-clear-arg) where
         abbrev pub After-clear·own : Type 0
-        After-clear·own = Called.Called ps·1 r·1 (claims· .3) T33 (record { pos = 22; ty = Syntax.tyRef Syntax.erased Syntax.mut (Syntax.tyInt Syntax.w16); ref = λ x. x; }, tt) (m22 (before· .before)
+        After-clear·own = Called.Called ps·1 r·1 (claims· .3) T33 (record { pos = 22; ty = Syntax.tyRef Syntax.erased Syntax.mut (Syntax.tyInt Syntax.w16); ref = λ x. x }, tt) (m22 (before· .before)
             (before· .clear-arg .given))
 
       pub record After-clear : Type 0 where
@@ -1897,7 +2269,7 @@ module _ (claims· : Claims) where
         pub clear : After-clear·own before
 
       abbrev pub After-clear·gave : (c : After-clear) → s32 .gives (m22 (c .before .before) (c .before .clear-arg .given))
-      After-clear·gave = λ c. Called.given ps·1 r·1 (claims· .3) T33 (record { pos = 22; ty = Syntax.tyRef Syntax.erased Syntax.mut (Syntax.tyInt Syntax.w16); ref = λ x. x; }, tt) (m22 (c .before
+      After-clear·gave = λ c. Called.given ps·1 r·1 (claims· .3) T33 (record { pos = 22; ty = Syntax.tyRef Syntax.erased Syntax.mut (Syntax.tyInt Syntax.w16); ref = λ x. x }, tt) (m22 (c .before
           .before) (c .before .clear-arg .given)) (c .clear)
 
       abbrev pub m24 : (before : After-clear-arg) → (given : s32 .gives (m22 (before .before) (before .clear-arg .given))) → Typed.Mo T35
@@ -1947,7 +2319,7 @@ module _ (claims· : Claims) where
 
       module _ (before· : After-clear-records-arg) where
         abbrev pub After-clear-records·own : Type 0
-        After-clear-records·own = Called.Called ps·2 r·2 (claims· .5) T42 (record { pos = 24; ty = Syntax.tyRef Syntax.erased Syntax.mut Element.behind; ref = λ x. x; }, tt) (m28 (before· .before)
+        After-clear-records·own = Called.Called ps·2 r·2 (claims· .5) T42 (record { pos = 24; ty = Syntax.tyRef Syntax.erased Syntax.mut Element.behind; ref = λ x. x }, tt) (m28 (before· .before)
             (before· .clear-records-arg .given))
 
       pub record After-clear-records : Type 0 where
@@ -1955,7 +2327,7 @@ module _ (claims· : Claims) where
         pub clear-records : After-clear-records·own before
 
       abbrev pub After-clear-records·gave : (c : After-clear-records) → s41 .gives (m28 (c .before .before) (c .before .clear-records-arg .given))
-      After-clear-records·gave = λ c. Called.given ps·2 r·2 (claims· .5) T42 (record { pos = 24; ty = Syntax.tyRef Syntax.erased Syntax.mut Element.behind; ref = λ x. x; }, tt) (m28 (c .before
+      After-clear-records·gave = λ c. Called.given ps·2 r·2 (claims· .5) T42 (record { pos = 24; ty = Syntax.tyRef Syntax.erased Syntax.mut Element.behind; ref = λ x. x }, tt) (m28 (c .before
           .before) (c .before .clear-records-arg .given)) (c .clear-records)
 
       abbrev pub m30 : (before : After-clear-records-arg) → (given : s41 .gives (m28 (before .before) (before .clear-records-arg .given))) → Typed.Mo T44
@@ -2016,109 +2388,231 @@ module _ (claims· : Claims) where
         lay3 : (c : After-clear-records) → at8 (W0 (c .before .before .before .before .before .before .before .before .before .before .before .before .before .before .before .before .before .before
             .before .κs) (c .before .before .before .before .before .before .before .before .before .before .before .before .before .before .before .before .before .before .before .args)) (m29 (c .before)
             (After-clear-records·gave c))
-        lay3 = λ c.
-            (Path'.refl, λ g.
-            ((Path'.refl,
-            (Path'.refl,
-            (MutSlice.fix-len (Row.get 3 (T51 .locals) (m35 record { before = c .before; clear-records = c .clear-records; } g) .ptr) (Row.get 3 (T51 .locals) (m35 record
-            { before = c .before; clear-records = c .clear-records; } g) .name) (Row.get 3 (T51 .locals) (m35 record { before = c .before; clear-records = c .clear-records; } g) .now) (dens (c .before
-            .before .before .before .before .before .before .before .before .before .before .before .before .before .before .before .before .before .before .κs) (c .before .before .before .before .before
-            .before .before .before .before .before .before .before .before .before .before .before .before .before .before .args) .1 .1 .0 .now) (same-length record
-            { before = record { before = c .before; clear-records = c .clear-records }; rs2 = record { given = g }; }),
-            (MutSlice.fix-len (Row.get 4 (T51 .locals) (m35 record { before = c .before; clear-records = c .clear-records; } g) .ptr) (Row.get 4 (T51 .locals) (m35 record
-            { before = c .before; clear-records = c .clear-records; } g) .name) (Row.get 4 (T51 .locals) (m35 record { before = c .before; clear-records = c .clear-records; } g) .now) (dens (c .before
-            .before .before .before .before .before .before .before .before .before .before .before .before .before .before .before .before .before .before .κs) (c .before .before .before .before .before
-            .before .before .before .before .before .before .before .before .before .before .before .before .before .before .args) .1 .1 .1 .0 .now) (same-length-2 record
-            { before = record { before = c .before; clear-records = c .clear-records; }; rs2 = record { given = g }; }),
-            (MutSlice.fix-len (Row.get 5 (T51 .locals) (m35 record { before = c .before; clear-records = c .clear-records; } g) .ptr) (Row.get 5 (T51 .locals) (m35 record
-            { before = c .before; clear-records = c .clear-records; } g) .name) (Row.get 5 (T51 .locals) (m35 record { before = c .before; clear-records = c .clear-records; } g) .now) (dens (c .before
-            .before .before .before .before .before .before .before .before .before .before .before .before .before .before .before .before .before .before .κs) (c .before .before .before .before .before
-            .before .before .before .before .before .before .before .before .before .before .before .before .before .before .args) .1 .1 .1 .1 .0 .now) (same-length-3 record
-            { before = record { before = c .before; clear-records = c .clear-records; }; rs2 = record { given = g }; }), (tt, (Path'.refl, (tt, (tt, (tt, (tt, (tt, tt)))))))))))), returns record
-            { before = record { before = c .before; clear-records = c .clear-records }; rs2 = record { given = g }; }))
+        lay3 = λ c. (
+          Path'.refl,
+          λ g. (
+            (
+              Path'.refl,
+              (
+                Path'.refl,
+                (
+                  MutSlice.fix-len (Row.get 3 (T51 .locals) (m35 record { before = c .before; clear-records = c .clear-records } g) .ptr) (Row.get 3 (T51 .locals) (m35 record
+                      { before = c .before; clear-records = c .clear-records } g) .name) (Row.get 3 (T51 .locals) (m35 record { before = c .before; clear-records = c .clear-records } g) .now) (dens (c .before
+                      .before .before .before .before .before .before .before .before .before .before .before .before .before .before .before .before .before .before .κs) (c .before .before .before .before .before
+                      .before .before .before .before .before .before .before .before .before .before .before .before .before .before .args) .1 .1 .0 .now) (same-length record
+                      { before = record { before = c .before; clear-records = c .clear-records }; rs2 = record { given = g } }),
+                  (
+                    MutSlice.fix-len (Row.get 4 (T51 .locals) (m35 record { before = c .before; clear-records = c .clear-records } g) .ptr) (Row.get 4 (T51 .locals) (m35 record
+                        { before = c .before; clear-records = c .clear-records } g) .name) (Row.get 4 (T51 .locals) (m35 record { before = c .before; clear-records = c .clear-records } g) .now) (dens (c .before
+                        .before .before .before .before .before .before .before .before .before .before .before .before .before .before .before .before .before .before .κs) (c .before .before .before .before .before
+                        .before .before .before .before .before .before .before .before .before .before .before .before .before .before .args) .1 .1 .1 .0 .now) (same-length-2 record
+                        { before = record { before = c .before; clear-records = c .clear-records }; rs2 = record { given = g } }),
+                    (
+                      MutSlice.fix-len (Row.get 5 (T51 .locals) (m35 record { before = c .before; clear-records = c .clear-records } g) .ptr) (Row.get 5 (T51 .locals) (m35 record
+                          { before = c .before; clear-records = c .clear-records } g) .name) (Row.get 5 (T51 .locals) (m35 record { before = c .before; clear-records = c .clear-records } g) .now) (dens (c .before
+                          .before .before .before .before .before .before .before .before .before .before .before .before .before .before .before .before .before .before .κs) (c .before .before .before .before .before
+                          .before .before .before .before .before .before .before .before .before .before .before .before .before .before .args) .1 .1 .1 .1 .0 .now) (same-length-3 record
+                          { before = record { before = c .before; clear-records = c .clear-records }; rs2 = record { given = g } }),
+                      (tt, (Path'.refl, (tt, (tt, (tt, (tt, (tt, tt))))))),
+                    ),
+                  ),
+                ),
+              ),
+            ),
+            returns record
+                { before = record { before = c .before; clear-records = c .clear-records }; rs2 = record { given = g } },
+          ),
+        )
 
         lay2 : (c : After-clear) → at17 (W0 (c .before .before .before .before .before .before .before .before .before .before .before .before .before .before .before .κs) (c .before .before .before
             .before .before .before .before .before .before .before .before .before .before .before .before .args)) (m23 (c .before) (After-clear·gave c))
-        lay2 = λ c.
-            (Path'.refl, λ g. λ g'. λ g''.
-            (Path'.refl,
-            (clear-records-requires record
-            { before = record { before = record { before = record { before = c .before; clear = c .clear }; lines2 = record { given = g }; }; slice-known5 = record { given = g' }; }; clear-records-arg =
-            record { given = g'' }; }, λ g'3. lay3 record
-            { before = record
-            { before = record { before = record { before = record { before = c .before; clear = c .clear }; lines2 = record { given = g }; }; slice-known5 = record { given = g' }; }; clear-records-arg =
-            record { given = g'' }; }; clear-records = Called.called ps·2 r·2 (claims· .5) T42 (record { pos = 24; ty = Syntax.tyRef Syntax.erased Syntax.mut Element.behind; ref = λ x. x; }, tt) (m28
-            record { before = record { before = record { before = c .before; clear = c .clear }; lines2 = record { given = g }; }; slice-known5 = record { given = g' }; } g'') g'3; })))
+        lay2 = λ c. (
+          Path'.refl,
+          λ g. λ g'. λ g''. (
+            Path'.refl,
+            (
+              clear-records-requires record {
+                before = record { before = record { before = record { before = c .before; clear = c .clear }; lines2 = record { given = g } }; slice-known5 = record { given = g' } };
+                clear-records-arg =
+                    record { given = g'' };
+              },
+              λ g'3. lay3 record {
+                before = record {
+                  before = record { before = record { before = record { before = c .before; clear = c .clear }; lines2 = record { given = g } }; slice-known5 = record { given = g' } };
+                  clear-records-arg =
+                      record { given = g'' };
+                };
+                clear-records = Called.called ps·2 r·2 (claims· .5) T42 (record { pos = 24; ty = Syntax.tyRef Syntax.erased Syntax.mut Element.behind; ref = λ x. x }, tt) (m28
+                    record { before = record { before = record { before = c .before; clear = c .clear }; lines2 = record { given = g } }; slice-known5 = record { given = g' } } g'') g'3;
+              },
+            ),
+          ),
+        )
 
         lay1 : (c : After-read-lines) → at36 (W0 (c .before .before .before .before .before .before .before .before .κs) (c .before .before .before .before .before .before .before .before .args)) (m11
             (c .before) (After-read-lines·gave c))
-        lay1 = λ c.
-            (Path'.refl, λ g. λ g'.
-            (Path'.refl, λ g''.
-            (Path'.refl, λ g'3. λ g'4. λ g'5.
-            (Path'.refl,
-            (clear-requires record
-            { before = record
-            { before = record
-            { before = record
-            { before = record { before = record { before = record { before = c .before; read-lines = c .read-lines }; lines = record { given = g }; }; slice-known3 = record { given = g' }; }; rs = record
-            { given = g'' }; }; image = record { given = g'3 }; }; slice-known4 = record { given = g'4 }; }; clear-arg = record { given = g'5 }; }, λ g'6. lay2 record
-            { before = record
-            { before = record
-            { before = record
-            { before = record
-            { before = record { before = record { before = record { before = c .before; read-lines = c .read-lines; }; lines = record { given = g }; }; slice-known3 = record { given = g' }; }; rs = record
-            { given = g'' }; }; image = record { given = g'3 }; }; slice-known4 = record { given = g'4 }; }; clear-arg = record { given = g'5 }; }; clear = Called.called ps·1 r·1 (claims· .3) T33
-            (record { pos = 22; ty = Syntax.tyRef Syntax.erased Syntax.mut (Syntax.tyInt Syntax.w16); ref = λ x. x; }, tt) (m22 record
-            { before = record
-            { before = record
-            { before = record { before = record { before = record { before = c .before; read-lines = c .read-lines }; lines = record { given = g }; }; slice-known3 = record { given = g' }; }; rs = record
-            { given = g'' }; }; image = record { given = g'3 }; }; slice-known4 = record { given = g'4 }; } g'5) g'6; })))))
+        lay1 = λ c. (
+          Path'.refl,
+          λ g. λ g'. (
+            Path'.refl,
+            λ g''. (
+              Path'.refl,
+              λ g'3. λ g'4. λ g'5. (
+                Path'.refl,
+                (
+                  clear-requires record {
+                    before = record {
+                      before = record {
+                        before = record {
+                          before = record { before = record { before = record { before = c .before; read-lines = c .read-lines }; lines = record { given = g } }; slice-known3 = record { given = g' } };
+                          rs = record
+                              { given = g'' };
+                        };
+                        image = record { given = g'3 };
+                      };
+                      slice-known4 = record { given = g'4 };
+                    };
+                    clear-arg = record { given = g'5 };
+                  },
+                  λ g'6. lay2 record {
+                    before = record {
+                      before = record {
+                        before = record {
+                          before = record {
+                            before = record { before = record { before = record { before = c .before; read-lines = c .read-lines }; lines = record { given = g } }; slice-known3 = record { given = g' } };
+                            rs = record
+                                { given = g'' };
+                          };
+                          image = record { given = g'3 };
+                        };
+                        slice-known4 = record { given = g'4 };
+                      };
+                      clear-arg = record { given = g'5 };
+                    };
+                    clear = Called.called ps·1 r·1 (claims· .3) T33
+                        (record { pos = 22; ty = Syntax.tyRef Syntax.erased Syntax.mut (Syntax.tyInt Syntax.w16); ref = λ x. x }, tt) (m22 record {
+                          before = record {
+                            before = record {
+                              before = record { before = record { before = record { before = c .before; read-lines = c .read-lines }; lines = record { given = g } }; slice-known3 = record { given = g' } };
+                              rs = record
+                                  { given = g'' };
+                            };
+                            image = record { given = g'3 };
+                          };
+                          slice-known4 = record { given = g'4 };
+                        } g'5) g'6;
+                  },
+                ),
+              ),
+            ),
+          ),
+        )
 
         pub laid : (c : Start) → at50 (W0 (c .κs) (c .args)) (m0 (c .κs) (c .args))
-        laid = λ c. λ g. λ g'. λ g''. λ g'3. λ g'4.
-            (Path'.refl, λ g'5.
-            (Path'.refl, λ g'6.
-            (Path'.refl,
-            (read-lines-requires record
-            { before = record
-            { before = record
-            { before = record
-            { before = record
-            { before = record { before = record { before = c; shared-slice-known = record { given = g }; }; shared-slice-known2 = record { given = g' }; }; slice-known = record { given = g'' }; };
-            slice-known2 = record { given = g'3 }; }; read-lines-arg = record { given = g'4 }; }; read-lines-arg2 = record { given = g'5 }; }; read-lines-arg3 = record { given = g'6 }; }, λ g'7. lay1
-            record
-            { before = record
-            { before = record
-            { before = record
-            { before = record
-            { before = record
-            { before = record { before = record { before = c; shared-slice-known = record { given = g }; }; shared-slice-known2 = record { given = g' }; }; slice-known = record { given = g'' }; };
-            slice-known2 = record { given = g'3 }; }; read-lines-arg = record { given = g'4 }; }; read-lines-arg2 = record { given = g'5 }; }; read-lines-arg3 = record { given = g'6 }; }; read-lines =
-            Called.called ps·0 r·0 (claims· .1) T14
-            (record { pos = 1; ty = Syntax.tyRef (Syntax.named 0) Syntax.imm (Syntax.tyInt Syntax.w8); ref = λ x. x; },
-            (record { pos = 2; ty = Syntax.tyRef (Syntax.named 1) Syntax.imm (Syntax.tyInt Syntax.w8); ref = λ x. x; },
-            (record { pos = 15; ty = Syntax.tyRef Syntax.erased Syntax.mut (Syntax.tyInt Syntax.w16); ref = λ x. x; },
-            (record { pos = 17; ty = Syntax.tyRef Syntax.erased Syntax.mut Element.behind; ref = λ x. x; },
-            (record { pos = 19; ty = Syntax.tyRef Syntax.erased Syntax.mut (Syntax.tyInt Syntax.w16); ref = λ x. x; },
-            (record { pos = 6; st = List.[]; d = 0; at = λ x. x },
-            (record { pos = 7; ty = Syntax.tyRef (Syntax.named 5) Syntax.imm (Syntax.tyArray (Syntax.tyInt Syntax.w16) 768); ref = λ x. x; },
-            (record { pos = 8; st = List.[]; d = 0; at = λ x. x },
-            (record { pos = 9; st = List.[]; d = 0; at = λ x. x }, (Num.vAt 10 λ x. x, (Bool.bAt 11 λ x. x, (record { pos = 12; st = List.[]; d = 0; at = λ x. x }, tt)))))))))))) (m10 record
-            { before = record
-            { before = record
-            { before = record
-            { before = record { before = record { before = c; shared-slice-known = record { given = g }; }; shared-slice-known2 = record { given = g' }; }; slice-known = record { given = g'' }; };
-            slice-known2 = record { given = g'3 }; }; read-lines-arg = record { given = g'4 }; }; read-lines-arg2 = record { given = g'5 }; } g'6) g'7; }))))
+        laid = λ c. λ g. λ g'. λ g''. λ g'3. λ g'4. (
+          Path'.refl,
+          λ g'5. (
+            Path'.refl,
+            λ g'6. (
+              Path'.refl,
+              (
+                read-lines-requires record {
+                  before = record {
+                    before = record {
+                      before = record {
+                        before = record
+                            { before = record { before = record { before = c; shared-slice-known = record { given = g } }; shared-slice-known2 = record { given = g' } }; slice-known = record { given = g'' } };
+                        slice-known2 = record { given = g'3 };
+                      };
+                      read-lines-arg = record { given = g'4 };
+                    };
+                    read-lines-arg2 = record { given = g'5 };
+                  };
+                  read-lines-arg3 = record { given = g'6 };
+                },
+                λ g'7. lay1
+                    record {
+                      before = record {
+                        before = record {
+                          before = record {
+                            before = record {
+                              before = record
+                                  { before = record { before = record { before = c; shared-slice-known = record { given = g } }; shared-slice-known2 = record { given = g' } }; slice-known = record { given = g'' } };
+                              slice-known2 = record { given = g'3 };
+                            };
+                            read-lines-arg = record { given = g'4 };
+                          };
+                          read-lines-arg2 = record { given = g'5 };
+                        };
+                        read-lines-arg3 = record { given = g'6 };
+                      };
+                      read-lines =
+                          Called.called ps·0 r·0 (claims· .1) T14 (
+                            record { pos = 1; ty = Syntax.tyRef (Syntax.named 0) Syntax.imm (Syntax.tyInt Syntax.w8); ref = λ x. x },
+                            (
+                              record { pos = 2; ty = Syntax.tyRef (Syntax.named 1) Syntax.imm (Syntax.tyInt Syntax.w8); ref = λ x. x },
+                              (
+                                record { pos = 15; ty = Syntax.tyRef Syntax.erased Syntax.mut (Syntax.tyInt Syntax.w16); ref = λ x. x },
+                                (
+                                  record { pos = 17; ty = Syntax.tyRef Syntax.erased Syntax.mut Element.behind; ref = λ x. x },
+                                  (
+                                    record { pos = 19; ty = Syntax.tyRef Syntax.erased Syntax.mut (Syntax.tyInt Syntax.w16); ref = λ x. x },
+                                    (
+                                      record { pos = 6; st = List.[]; d = 0; at = λ x. x },
+                                      (
+                                        record { pos = 7; ty = Syntax.tyRef (Syntax.named 5) Syntax.imm (Syntax.tyArray (Syntax.tyInt Syntax.w16) 768); ref = λ x. x },
+                                        (
+                                          record { pos = 8; st = List.[]; d = 0; at = λ x. x },
+                                          (record { pos = 9; st = List.[]; d = 0; at = λ x. x }, (Num.vAt 10 λ x. x, (Bool.bAt 11 λ x. x, (record { pos = 12; st = List.[]; d = 0; at = λ x. x }, tt)))),
+                                        ),
+                                      ),
+                                    ),
+                                  ),
+                                ),
+                              ),
+                            ),
+                          ) (m10 record {
+                            before = record {
+                              before = record {
+                                before = record
+                                    { before = record { before = record { before = c; shared-slice-known = record { given = g } }; shared-slice-known2 = record { given = g' } }; slice-known = record { given = g'' } };
+                                slice-known2 = record { given = g'3 };
+                              };
+                              read-lines-arg = record { given = g'4 };
+                            };
+                            read-lines-arg2 = record { given = g'5 };
+                          } g'6) g'7;
+                    },
+              ),
+            ),
+          ),
+        )
 
         module _ (κs : Lifetimes.Lfts 6) (qs : Lifetimes.Shares 6) where
           pub asked : (a : Kinds.Dens κs ps) → (good : Kinds.GoodsP κs ps a) → (pre : Pre· κs a) → (bs : List.List Nat.ℕ) → Φ (Any.wantQ 6 ps r xs m κs qs a (Post· κs a)) (Function.init 6 ps r xs m κs
               qs a)
-          asked = λ a good pre bs. laid record
-              { κs = κs; args = record
-              { block = a .0; bases = a .1 .0; lines = a .1 .1 .0; rs = a .1 .1 .1 .0; image = a .1 .1 .1 .1 .0; form = a .1 .1 .1 .1 .1 .0; places = a .1 .1 .1 .1 .1 .1 .0; tile = a .1 .1 .1 .1 .1 .1 .1
-              .0; part = a .1 .1 .1 .1 .1 .1 .1 .1 .0; count = a .1 .1 .1 .1 .1 .1 .1 .1 .1 .0; windowed = a .1 .1 .1 .1 .1 .1 .1 .1 .1 .1 .0; entries = a .1 .1 .1 .1 .1 .1 .1 .1 .1 .1 .1 .0; }; good =
-              good; fits = record { count = record { fits = good .1 .1 .1 .1 .1 .1 .1 .1 .1 .0 .1 } }; pre = pre; }
+          asked = λ a good pre bs. laid record {
+            κs = κs;
+            args = record {
+              block = a .0;
+              bases = a .1 .0;
+              lines = a .1 .1 .0;
+              rs = a .1 .1 .1 .0;
+              image = a .1 .1 .1 .1 .0;
+              form = a .1 .1 .1 .1 .1 .0;
+              places = a .1 .1 .1 .1 .1 .1 .0;
+              tile = a .1 .1 .1 .1 .1 .1 .1
+                  .0;
+              part = a .1 .1 .1 .1 .1 .1 .1 .1 .0;
+              count = a .1 .1 .1 .1 .1 .1 .1 .1 .1 .0;
+              windowed = a .1 .1 .1 .1 .1 .1 .1 .1 .1 .1 .0;
+              entries = a .1 .1 .1 .1 .1 .1 .1 .1 .1 .1 .1 .0;
+            };
+            good =
+                good;
+            fits = record { count = record { fits = good .1 .1 .1 .1 .1 .1 .1 .1 .1 .0 .1 } };
+            pre = pre;
+          }
 
         module _ {M : Type 1} (𝓤 : URA.URA M) (H : Wp.Heap 𝓤) (A : Atoms.Atoms 𝓤) (W : Kit.Given 𝓤 H A) (𝓣 : Wp.Tables 𝓤 H) (known0 : Plain.Known 𝓤 H A W 𝓣 6 ps·0 r·0 (claims· .0) (claims· .1)
             "block::reading::read_lines") (known1 : Plain.Known 𝓤 H A W 𝓣 1 ps·1 r·1 (claims· .2) (claims· .3) "lines::clear") (known2 : Plain.Known 𝓤 H A W 𝓣 1 ps·2 r·2 (claims· .4) (claims· .5)

@@ -113,23 +113,62 @@ y8 = Syntax.tyStruct (List._∷_ 99 (List._∷_ 97 (List._∷_ 109 (List._∷_ 1
 
 abbrev pub ps : List.List (Kinds.PK 3)
 ps = List._∷_ (ShrSlice.pShrS (Referent.rtF (Referent.fInt Syntax.w8)) 0 tt) (List._∷_ (ShrSlice.pShrS (Referent.rtF (Referent.fInt Syntax.w8)) 1 tt) (List._∷_ (MutSlice.pMutS (Referent.rtF
-    (Referent.fInt Syntax.w16)) 2 tt) (List._∷_ (Value.pVal record
-    { ty = Declared'.row Form.the-type; one = Path'.refl; val = Laws'5.val Form.the-type Laws.the-laws; tells = Laws'5.tells Form.the-type Laws.the-laws; still = Laws'5.still Form.the-type Laws.the-copy
-    Exit.yes; row = Rows'.whole (Declared'.row Form.the-type); rd = λ x. x; mk = λ x. x; } λ M 𝓤 H A W. record
-    { copies = Laws'5.copy Form.the-type Laws.the-copy 𝓤 H A W; lawful = Laws'5.lawful Form.the-type Laws.the-laws 𝓤 H A W; makes = Laws'5.makes Form.the-type Laws.the-plain 𝓤 H A; in-mem =
-    Local.mem-whole 𝓤 H A W (Declared'.row Form.the-type); of-mem = Local.whole-mem 𝓤 H A W (Declared'.row Form.the-type); }) (List._∷_ (Array.pArr (Array.eInt Syntax.w8) (Array.eInt-laws Syntax.w8) 36)
-    (List._∷_ (Value.pVal record
-    { ty = Declared'.row Part.the-type; one = Path'.refl; val = Laws'5.val Part.the-type Laws'3.the-laws; tells = Laws'5.tells Part.the-type Laws'3.the-laws; still = Laws'5.still Part.the-type
-    Laws'3.the-copy Exit.yes; row = Rows'.whole (Declared'.row Part.the-type); rd = λ x. x; mk = λ x. x; } λ M 𝓤 H A W. record
-    { copies = Laws'5.copy Part.the-type Laws'3.the-copy 𝓤 H A W; lawful = Laws'5.lawful Part.the-type Laws'3.the-laws 𝓤 H A W; makes = Laws'5.makes Part.the-type Laws'3.the-plain 𝓤 H A; in-mem =
-    Local.mem-whole 𝓤 H A W (Declared'.row Part.the-type); of-mem = Local.whole-mem 𝓤 H A W (Declared'.row Part.the-type); }) (List._∷_ (Num.pNum Syntax.w64) List.[]))))))
+    (Referent.fInt Syntax.w16)) 2 tt) (List._∷_ (Value.pVal record {
+      ty = Declared'.row Form.the-type;
+      one = Path'.refl;
+      val = Laws'5.val Form.the-type Laws.the-laws;
+      tells = Laws'5.tells Form.the-type Laws.the-laws;
+      still = Laws'5.still Form.the-type Laws.the-copy
+          Exit.yes;
+      row = Rows'.whole (Declared'.row Form.the-type);
+      rd = λ x. x;
+      mk = λ x. x;
+    } λ M 𝓤 H A W. record {
+      copies = Laws'5.copy Form.the-type Laws.the-copy 𝓤 H A W;
+      lawful = Laws'5.lawful Form.the-type Laws.the-laws 𝓤 H A W;
+      makes = Laws'5.makes Form.the-type Laws.the-plain 𝓤 H A;
+      in-mem =
+          Local.mem-whole 𝓤 H A W (Declared'.row Form.the-type);
+      of-mem = Local.whole-mem 𝓤 H A W (Declared'.row Form.the-type);
+    }) (List._∷_ (Array.pArr (Array.eInt Syntax.w8) (Array.eInt-laws Syntax.w8) 36)
+    (List._∷_ (Value.pVal record {
+      ty = Declared'.row Part.the-type;
+      one = Path'.refl;
+      val = Laws'5.val Part.the-type Laws'3.the-laws;
+      tells = Laws'5.tells Part.the-type Laws'3.the-laws;
+      still = Laws'5.still Part.the-type
+          Laws'3.the-copy Exit.yes;
+      row = Rows'.whole (Declared'.row Part.the-type);
+      rd = λ x. x;
+      mk = λ x. x;
+    } λ M 𝓤 H A W. record {
+      copies = Laws'5.copy Part.the-type Laws'3.the-copy 𝓤 H A W;
+      lawful = Laws'5.lawful Part.the-type Laws'3.the-laws 𝓤 H A W;
+      makes = Laws'5.makes Part.the-type Laws'3.the-plain 𝓤 H A;
+      in-mem =
+          Local.mem-whole 𝓤 H A W (Declared'.row Part.the-type);
+      of-mem = Local.whole-mem 𝓤 H A W (Declared'.row Part.the-type);
+    }) (List._∷_ (Num.pNum Syntax.w64) List.[]))))))
 
 abbrev pub r : Kinds.RK 3
-r = Value.rVal record
-    { ty = Declared.row Walked.the-type; one = Path'.refl; val = Laws'4.val Walked.the-type Laws'.the-laws; tells = Laws'4.tells Walked.the-type Laws'.the-laws; still = Laws'4.still Walked.the-type
-    Laws'.the-copy Exit.yes; row = Rows'.whole (Declared.row Walked.the-type); rd = λ x. x; mk = λ x. x; } λ M 𝓤 H A W. record
-    { copies = Laws'4.copy Walked.the-type Laws'.the-copy 𝓤 H A W; lawful = Laws'4.lawful Walked.the-type Laws'.the-laws 𝓤 H A W tt; makes = Laws'4.makes Walked.the-type Laws'.the-plain 𝓤 H A; in-mem =
-    Local.mem-whole 𝓤 H A W (Declared.row Walked.the-type); of-mem = Local.whole-mem 𝓤 H A W (Declared.row Walked.the-type); }
+r = Value.rVal record {
+  ty = Declared.row Walked.the-type;
+  one = Path'.refl;
+  val = Laws'4.val Walked.the-type Laws'.the-laws;
+  tells = Laws'4.tells Walked.the-type Laws'.the-laws;
+  still = Laws'4.still Walked.the-type
+      Laws'.the-copy Exit.yes;
+  row = Rows'.whole (Declared.row Walked.the-type);
+  rd = λ x. x;
+  mk = λ x. x;
+} λ M 𝓤 H A W. record {
+  copies = Laws'4.copy Walked.the-type Laws'.the-copy 𝓤 H A W;
+  lawful = Laws'4.lawful Walked.the-type Laws'.the-laws 𝓤 H A W tt;
+  makes = Laws'4.makes Walked.the-type Laws'.the-plain 𝓤 H A;
+  in-mem =
+      Local.mem-whole 𝓤 H A W (Declared.row Walked.the-type);
+  of-mem = Local.whole-mem 𝓤 H A W (Declared.row Walked.the-type);
+}
 
 abbrev pub xs : List.List Syntax.Ty
 xs = List._∷_ (Syntax.tyArray (Syntax.tyInt Syntax.w16) 768) (List._∷_ (Syntax.tyArray (Syntax.tyInt Syntax.w16) 9252) (List._∷_ (Syntax.tyArray (Element.held) 336) (List._∷_ (Syntax.tyInt Syntax.w64)
@@ -162,36 +201,101 @@ abbrev pub ps·3 : List.List (Kinds.PK 0)
 ps·3 = List.[]
 
 abbrev pub r·3 : Kinds.RK 0
-r·3 = Value.rVal record
-    { ty = Declared'.row Entries.the-type; one = Path'.refl; val = Laws'5.val Entries.the-type Laws''.the-laws; tells = Laws'5.tells Entries.the-type Laws''.the-laws; still = Laws'5.still Entries.the-type
-    Laws''.the-copy Exit.yes; row = Rows'.whole (Declared'.row Entries.the-type); rd = λ x. x; mk = λ x. x; } λ M 𝓤 H A W. record
-    { copies = Laws'5.copy Entries.the-type Laws''.the-copy 𝓤 H A W; lawful = Laws'5.lawful Entries.the-type Laws''.the-laws 𝓤 H A W; makes = Laws'5.makes Entries.the-type Laws''.the-plain 𝓤 H A; in-mem =
-    Local.mem-whole 𝓤 H A W (Declared'.row Entries.the-type); of-mem = Local.whole-mem 𝓤 H A W (Declared'.row Entries.the-type); }
+r·3 = Value.rVal record {
+  ty = Declared'.row Entries.the-type;
+  one = Path'.refl;
+  val = Laws'5.val Entries.the-type Laws''.the-laws;
+  tells = Laws'5.tells Entries.the-type Laws''.the-laws;
+  still = Laws'5.still Entries.the-type
+      Laws''.the-copy Exit.yes;
+  row = Rows'.whole (Declared'.row Entries.the-type);
+  rd = λ x. x;
+  mk = λ x. x;
+} λ M 𝓤 H A W. record {
+  copies = Laws'5.copy Entries.the-type Laws''.the-copy 𝓤 H A W;
+  lawful = Laws'5.lawful Entries.the-type Laws''.the-laws 𝓤 H A W;
+  makes = Laws'5.makes Entries.the-type Laws''.the-plain 𝓤 H A;
+  in-mem =
+      Local.mem-whole 𝓤 H A W (Declared'.row Entries.the-type);
+  of-mem = Local.whole-mem 𝓤 H A W (Declared'.row Entries.the-type);
+}
 
 abbrev pub ps·4 : List.List (Kinds.PK 6)
 ps·4 = List._∷_ (ShrSlice.pShrS (Referent.rtF (Referent.fInt Syntax.w8)) 0 tt) (List._∷_ (ShrSlice.pShrS (Referent.rtF (Referent.fInt Syntax.w8)) 1 tt) (List._∷_ (MutSlice.pMutS (Referent.rtF
-    (Referent.fInt Syntax.w16)) 2 tt) (List._∷_ (MutSlice.pMutS (Element.type) 3 tt) (List._∷_ (MutSlice.pMutS (Referent.rtF (Referent.fInt Syntax.w16)) 4 tt) (List._∷_ (Value.pVal record
-    { ty = Declared'.row Form.the-type; one = Path'.refl; val = Laws'5.val Form.the-type Laws.the-laws; tells = Laws'5.tells Form.the-type Laws.the-laws; still = Laws'5.still Form.the-type Laws.the-copy
-    Exit.yes; row = Rows'.whole (Declared'.row Form.the-type); rd = λ x. x; mk = λ x. x; } λ M 𝓤 H A W. record
-    { copies = Laws'5.copy Form.the-type Laws.the-copy 𝓤 H A W; lawful = Laws'5.lawful Form.the-type Laws.the-laws 𝓤 H A W; makes = Laws'5.makes Form.the-type Laws.the-plain 𝓤 H A; in-mem =
-    Local.mem-whole 𝓤 H A W (Declared'.row Form.the-type); of-mem = Local.whole-mem 𝓤 H A W (Declared'.row Form.the-type); }) (List._∷_ (ShrRef.pShr (Array'.Array (Referent.rtF (Referent.fInt Syntax.w16))
-    768) 5 tt) (List._∷_ (Array.pArr (Array.eInt Syntax.w8) (Array.eInt-laws Syntax.w8) 36) (List._∷_ (Value.pVal record
-    { ty = Declared'.row Part.the-type; one = Path'.refl; val = Laws'5.val Part.the-type Laws'3.the-laws; tells = Laws'5.tells Part.the-type Laws'3.the-laws; still = Laws'5.still Part.the-type
-    Laws'3.the-copy Exit.yes; row = Rows'.whole (Declared'.row Part.the-type); rd = λ x. x; mk = λ x. x; } λ M 𝓤 H A W. record
-    { copies = Laws'5.copy Part.the-type Laws'3.the-copy 𝓤 H A W; lawful = Laws'5.lawful Part.the-type Laws'3.the-laws 𝓤 H A W; makes = Laws'5.makes Part.the-type Laws'3.the-plain 𝓤 H A; in-mem =
-    Local.mem-whole 𝓤 H A W (Declared'.row Part.the-type); of-mem = Local.whole-mem 𝓤 H A W (Declared'.row Part.the-type); }) (List._∷_ (Num.pNum Syntax.w64) (List._∷_ Bool.pBool (List._∷_ (Value.pVal
-    record
-    { ty = Declared'.row Entries.the-type; one = Path'.refl; val = Laws'5.val Entries.the-type Laws''.the-laws; tells = Laws'5.tells Entries.the-type Laws''.the-laws; still = Laws'5.still Entries.the-type
-    Laws''.the-copy Exit.yes; row = Rows'.whole (Declared'.row Entries.the-type); rd = λ x. x; mk = λ x. x; } λ M 𝓤 H A W. record
-    { copies = Laws'5.copy Entries.the-type Laws''.the-copy 𝓤 H A W; lawful = Laws'5.lawful Entries.the-type Laws''.the-laws 𝓤 H A W; makes = Laws'5.makes Entries.the-type Laws''.the-plain 𝓤 H A; in-mem =
-    Local.mem-whole 𝓤 H A W (Declared'.row Entries.the-type); of-mem = Local.whole-mem 𝓤 H A W (Declared'.row Entries.the-type); }) List.[])))))))))))
+    (Referent.fInt Syntax.w16)) 2 tt) (List._∷_ (MutSlice.pMutS (Element.type) 3 tt) (List._∷_ (MutSlice.pMutS (Referent.rtF (Referent.fInt Syntax.w16)) 4 tt) (List._∷_ (Value.pVal record {
+      ty = Declared'.row Form.the-type;
+      one = Path'.refl;
+      val = Laws'5.val Form.the-type Laws.the-laws;
+      tells = Laws'5.tells Form.the-type Laws.the-laws;
+      still = Laws'5.still Form.the-type Laws.the-copy
+          Exit.yes;
+      row = Rows'.whole (Declared'.row Form.the-type);
+      rd = λ x. x;
+      mk = λ x. x;
+    } λ M 𝓤 H A W. record {
+      copies = Laws'5.copy Form.the-type Laws.the-copy 𝓤 H A W;
+      lawful = Laws'5.lawful Form.the-type Laws.the-laws 𝓤 H A W;
+      makes = Laws'5.makes Form.the-type Laws.the-plain 𝓤 H A;
+      in-mem =
+          Local.mem-whole 𝓤 H A W (Declared'.row Form.the-type);
+      of-mem = Local.whole-mem 𝓤 H A W (Declared'.row Form.the-type);
+    }) (List._∷_ (ShrRef.pShr (Array'.Array (Referent.rtF (Referent.fInt Syntax.w16))
+    768) 5 tt) (List._∷_ (Array.pArr (Array.eInt Syntax.w8) (Array.eInt-laws Syntax.w8) 36) (List._∷_ (Value.pVal record {
+      ty = Declared'.row Part.the-type;
+      one = Path'.refl;
+      val = Laws'5.val Part.the-type Laws'3.the-laws;
+      tells = Laws'5.tells Part.the-type Laws'3.the-laws;
+      still = Laws'5.still Part.the-type
+          Laws'3.the-copy Exit.yes;
+      row = Rows'.whole (Declared'.row Part.the-type);
+      rd = λ x. x;
+      mk = λ x. x;
+    } λ M 𝓤 H A W. record {
+      copies = Laws'5.copy Part.the-type Laws'3.the-copy 𝓤 H A W;
+      lawful = Laws'5.lawful Part.the-type Laws'3.the-laws 𝓤 H A W;
+      makes = Laws'5.makes Part.the-type Laws'3.the-plain 𝓤 H A;
+      in-mem =
+          Local.mem-whole 𝓤 H A W (Declared'.row Part.the-type);
+      of-mem = Local.whole-mem 𝓤 H A W (Declared'.row Part.the-type);
+    }) (List._∷_ (Num.pNum Syntax.w64) (List._∷_ Bool.pBool (List._∷_ (Value.pVal
+    record {
+      ty = Declared'.row Entries.the-type;
+      one = Path'.refl;
+      val = Laws'5.val Entries.the-type Laws''.the-laws;
+      tells = Laws'5.tells Entries.the-type Laws''.the-laws;
+      still = Laws'5.still Entries.the-type
+          Laws''.the-copy Exit.yes;
+      row = Rows'.whole (Declared'.row Entries.the-type);
+      rd = λ x. x;
+      mk = λ x. x;
+    } λ M 𝓤 H A W. record {
+      copies = Laws'5.copy Entries.the-type Laws''.the-copy 𝓤 H A W;
+      lawful = Laws'5.lawful Entries.the-type Laws''.the-laws 𝓤 H A W;
+      makes = Laws'5.makes Entries.the-type Laws''.the-plain 𝓤 H A;
+      in-mem =
+          Local.mem-whole 𝓤 H A W (Declared'.row Entries.the-type);
+      of-mem = Local.whole-mem 𝓤 H A W (Declared'.row Entries.the-type);
+    }) List.[])))))))))))
 
 abbrev pub r·4 : Kinds.RK 6
-r·4 = Value.rVal record
-    { ty = Declared.row Walked.the-type; one = Path'.refl; val = Laws'4.val Walked.the-type Laws'.the-laws; tells = Laws'4.tells Walked.the-type Laws'.the-laws; still = Laws'4.still Walked.the-type
-    Laws'.the-copy Exit.yes; row = Rows'.whole (Declared.row Walked.the-type); rd = λ x. x; mk = λ x. x; } λ M 𝓤 H A W. record
-    { copies = Laws'4.copy Walked.the-type Laws'.the-copy 𝓤 H A W; lawful = Laws'4.lawful Walked.the-type Laws'.the-laws 𝓤 H A W tt; makes = Laws'4.makes Walked.the-type Laws'.the-plain 𝓤 H A; in-mem =
-    Local.mem-whole 𝓤 H A W (Declared.row Walked.the-type); of-mem = Local.whole-mem 𝓤 H A W (Declared.row Walked.the-type); }
+r·4 = Value.rVal record {
+  ty = Declared.row Walked.the-type;
+  one = Path'.refl;
+  val = Laws'4.val Walked.the-type Laws'.the-laws;
+  tells = Laws'4.tells Walked.the-type Laws'.the-laws;
+  still = Laws'4.still Walked.the-type
+      Laws'.the-copy Exit.yes;
+  row = Rows'.whole (Declared.row Walked.the-type);
+  rd = λ x. x;
+  mk = λ x. x;
+} λ M 𝓤 H A W. record {
+  copies = Laws'4.copy Walked.the-type Laws'.the-copy 𝓤 H A W;
+  lawful = Laws'4.lawful Walked.the-type Laws'.the-laws 𝓤 H A W tt;
+  makes = Laws'4.makes Walked.the-type Laws'.the-plain 𝓤 H A;
+  in-mem =
+      Local.mem-whole 𝓤 H A W (Declared.row Walked.the-type);
+  of-mem = Local.whole-mem 𝓤 H A W (Declared.row Walked.the-type);
+}
 
 abbrev pub hs : List.List Syntax.Home
 hs = List._∷_ Syntax.valueLocal (List._∷_ Syntax.valueLocal (List._∷_ Syntax.valueLocal (List._∷_ Syntax.valueLocal (List._∷_ Syntax.valueLocal (List._∷_ Syntax.valueLocal (List._∷_ Syntax.valueLocal
@@ -322,9 +426,11 @@ Claims = Kinds.In 0 ps·0 × Kinds.Out 0 ps·0 r·0 × Kinds.In 0 ps·1 × Kinds
     6 ps·4 r·4
 
 abbrev pub e0 : Row.Entry
-e0 =
-    (0, Rows'.any-gone (Syntax.tyEnum (List._∷_ 98 (List._∷_ 108 (List._∷_ 111 (List._∷_ 99 (List._∷_ 107 (List._∷_ 58 (List._∷_ 58 (List._∷_ 87 (List._∷_ 97 (List._∷_ 108 (List._∷_ 107 (List._∷_ 101
-    (List._∷_ 100 List.[]))))))))))))) (Syntax.ttcons (Syntax.tcons y2 (Syntax.tcons y6 Syntax.tnil)) (Syntax.ttcons (Syntax.tcons (Syntax.tyInt Syntax.w64) (Syntax.tcons y2 Syntax.tnil)) Syntax.ttnil))))
+e0 = (
+  0,
+  Rows'.any-gone (Syntax.tyEnum (List._∷_ 98 (List._∷_ 108 (List._∷_ 111 (List._∷_ 99 (List._∷_ 107 (List._∷_ 58 (List._∷_ 58 (List._∷_ 87 (List._∷_ 97 (List._∷_ 108 (List._∷_ 107 (List._∷_ 101
+      (List._∷_ 100 List.[]))))))))))))) (Syntax.ttcons (Syntax.tcons y2 (Syntax.tcons y6 Syntax.tnil)) (Syntax.ttcons (Syntax.tcons (Syntax.tyInt Syntax.w64) (Syntax.tcons y2 Syntax.tnil)) Syntax.ttnil))),
+)
 
 abbrev pub e1 : Row.Entry
 e1 = (0, Rows'.whole (Declared.row Walked.the-type))
@@ -881,16 +987,31 @@ module _ (claims· : Claims) where
   s30 = λ bs. Call.callB ps·3 r·3 (claims· .6) (claims· .7) T31 tt 24 List.[] y8
 
   abbrev s31 : (bs : List.List Nat.ℕ) → Typed.Both T32 T33
-  s31 = λ bs. Call.callB ps·4 r·4 (claims· .8) (claims· .9) T32
-      (record { pos = 1; ty = Syntax.tyRef (Syntax.named 0) Syntax.imm (Syntax.tyInt Syntax.w8); ref = λ x. x; },
-      (record { pos = 2; ty = Syntax.tyRef (Syntax.named 1) Syntax.imm (Syntax.tyInt Syntax.w8); ref = λ x. x; },
-      (record { pos = 18; ty = Syntax.tyRef Syntax.erased Syntax.mut (Syntax.tyInt Syntax.w16); ref = λ x. x; },
-      (record { pos = 20; ty = Syntax.tyRef Syntax.erased Syntax.mut Element.behind; ref = λ x. x; },
-      (record { pos = 22; ty = Syntax.tyRef Syntax.erased Syntax.mut (Syntax.tyInt Syntax.w16); ref = λ x. x; },
-      (record { pos = 4; st = List.[]; d = 0; at = λ x. x },
-      (record { pos = 23; ty = Syntax.tyRef Syntax.erased Syntax.imm (Syntax.tyArray (Syntax.tyInt Syntax.w16) 768); ref = λ x. x; },
-      (record { pos = 5; st = List.[]; d = 0; at = λ x. x },
-      (record { pos = 6; st = List.[]; d = 0; at = λ x. x }, (Num.vAt 7 λ x. x, (Bool.bLit Bool'.false, (record { pos = 24; st = List.[]; d = 0; at = λ x. x }, tt)))))))))))) 0 (List._∷_ 0 (List._∷_ 1
+  s31 = λ bs. Call.callB ps·4 r·4 (claims· .8) (claims· .9) T32 (
+    record { pos = 1; ty = Syntax.tyRef (Syntax.named 0) Syntax.imm (Syntax.tyInt Syntax.w8); ref = λ x. x },
+    (
+      record { pos = 2; ty = Syntax.tyRef (Syntax.named 1) Syntax.imm (Syntax.tyInt Syntax.w8); ref = λ x. x },
+      (
+        record { pos = 18; ty = Syntax.tyRef Syntax.erased Syntax.mut (Syntax.tyInt Syntax.w16); ref = λ x. x },
+        (
+          record { pos = 20; ty = Syntax.tyRef Syntax.erased Syntax.mut Element.behind; ref = λ x. x },
+          (
+            record { pos = 22; ty = Syntax.tyRef Syntax.erased Syntax.mut (Syntax.tyInt Syntax.w16); ref = λ x. x },
+            (
+              record { pos = 4; st = List.[]; d = 0; at = λ x. x },
+              (
+                record { pos = 23; ty = Syntax.tyRef Syntax.erased Syntax.imm (Syntax.tyArray (Syntax.tyInt Syntax.w16) 768); ref = λ x. x },
+                (
+                  record { pos = 5; st = List.[]; d = 0; at = λ x. x },
+                  (record { pos = 6; st = List.[]; d = 0; at = λ x. x }, (Num.vAt 7 λ x. x, (Bool.bLit Bool'.false, (record { pos = 24; st = List.[]; d = 0; at = λ x. x }, tt)))),
+                ),
+              ),
+            ),
+          ),
+        ),
+      ),
+    ),
+  ) 0 (List._∷_ 0 (List._∷_ 1
       (List._∷_ 3 (List._∷_ 4 (List._∷_ 5 (List._∷_ 6 List.[])))))) (Syntax.tyEnum (List._∷_ 98 (List._∷_ 108 (List._∷_ 111 (List._∷_ 99 (List._∷_ 107 (List._∷_ 58 (List._∷_ 58 (List._∷_ 87 (List._∷_ 97
       (List._∷_ 108 (List._∷_ 107 (List._∷_ 101 (List._∷_ 100 List.[]))))))))))))) (Syntax.ttcons (Syntax.tcons y2 (Syntax.tcons y6 Syntax.tnil)) (Syntax.ttcons (Syntax.tcons (Syntax.tyInt Syntax.w64)
       (Syntax.tcons y2 Syntax.tnil)) Syntax.ttnil)))
@@ -1184,289 +1305,403 @@ module _ (claims· : Claims) where
             (List._∷_ e39 (List._∷_ e41 (List._∷_ e43 (List._∷_ e45 (List._∷_ e47 (List._∷_ e3 (List._∷_ e6 (List._∷_ e8 (List._∷_ e11 (List._∷_ e12 (List._∷_ e14 List.[])))))))))))))))
 
         abbrev G0 : Row.Cx
-        G0 = record
-            { locals = List._++_ t0 t1; slots = List._∷_ (Row.lease (κs .0) (qs .0)) (List._∷_ (Row.lease (κs .1 .0) (qs .1 .0)) (List._∷_ (Row.lease (κs .1 .1 .0) (qs .1 .1 .0)) (List._∷_ Row.off
-            (List._∷_ Row.off (List._∷_ Row.off (List._∷_ Row.off List.[])))))); }
+        G0 = record {
+          locals = List._++_ t0 t1;
+          slots = List._∷_ (Row.lease (κs .0) (qs .0)) (List._∷_ (Row.lease (κs .1 .0) (qs .1 .0)) (List._∷_ (Row.lease (κs .1 .1 .0) (qs .1 .1 .0)) (List._∷_ Row.off
+              (List._∷_ Row.off (List._∷_ Row.off (List._∷_ Row.off List.[]))))));
+        }
 
         abbrev G1 : Row.Cx
-        G1 = record
-            { locals = List._++_ t2 t1; slots = List._∷_ (Row.lease (κs .0) (qs .0)) (List._∷_ (Row.lease (κs .1 .0) (qs .1 .0)) (List._∷_ (Row.lease (κs .1 .1 .0) (qs .1 .1 .0)) (List._∷_ Row.off
-            (List._∷_ Row.off (List._∷_ Row.off (List._∷_ Row.off List.[])))))); }
+        G1 = record {
+          locals = List._++_ t2 t1;
+          slots = List._∷_ (Row.lease (κs .0) (qs .0)) (List._∷_ (Row.lease (κs .1 .0) (qs .1 .0)) (List._∷_ (Row.lease (κs .1 .1 .0) (qs .1 .1 .0)) (List._∷_ Row.off
+              (List._∷_ Row.off (List._∷_ Row.off (List._∷_ Row.off List.[]))))));
+        }
 
         abbrev G2 : Row.Cx
-        G2 = record
-            { locals = List._++_ t0 t1; slots = List._∷_ (Row.lease (κs .0) (qs .0)) (List._∷_ (Row.lease (κs .1 .0) (qs .1 .0)) (List._∷_ (Row.lease (κs .1 .1 .0) (qs .1 .1 .0)) (List._∷_ Row.off
-            (List._∷_ Row.off (List._∷_ Row.off (List._∷_ Row.off List.[])))))); }
+        G2 = record {
+          locals = List._++_ t0 t1;
+          slots = List._∷_ (Row.lease (κs .0) (qs .0)) (List._∷_ (Row.lease (κs .1 .0) (qs .1 .0)) (List._∷_ (Row.lease (κs .1 .1 .0) (qs .1 .1 .0)) (List._∷_ Row.off
+              (List._∷_ Row.off (List._∷_ Row.off (List._∷_ Row.off List.[]))))));
+        }
 
         abbrev G3 : Row.Cx
-        G3 = record
-            { locals = List._++_ t0 t1; slots = List._∷_ (Row.lease (κs .0) (qs .0)) (List._∷_ (Row.lease (κs .1 .0) (qs .1 .0)) (List._∷_ (Row.lease (κs .1 .1 .0) (qs .1 .1 .0)) (List._∷_ Row.off
-            (List._∷_ Row.off (List._∷_ Row.off (List._∷_ Row.off List.[])))))); }
+        G3 = record {
+          locals = List._++_ t0 t1;
+          slots = List._∷_ (Row.lease (κs .0) (qs .0)) (List._∷_ (Row.lease (κs .1 .0) (qs .1 .0)) (List._∷_ (Row.lease (κs .1 .1 .0) (qs .1 .1 .0)) (List._∷_ Row.off
+              (List._∷_ Row.off (List._∷_ Row.off (List._∷_ Row.off List.[]))))));
+        }
 
         abbrev G4 : Row.Cx
-        G4 = record
-            { locals = List._++_ t0 t1; slots = List._∷_ (Row.lease (κs .0) (qs .0)) (List._∷_ (Row.lease (κs .1 .0) (qs .1 .0)) (List._∷_ (Row.lease (κs .1 .1 .0) (qs .1 .1 .0)) (List._∷_ Row.off
-            (List._∷_ Row.off (List._∷_ Row.off (List._∷_ Row.off List.[])))))); }
+        G4 = record {
+          locals = List._++_ t0 t1;
+          slots = List._∷_ (Row.lease (κs .0) (qs .0)) (List._∷_ (Row.lease (κs .1 .0) (qs .1 .0)) (List._∷_ (Row.lease (κs .1 .1 .0) (qs .1 .1 .0)) (List._∷_ Row.off
+              (List._∷_ Row.off (List._∷_ Row.off (List._∷_ Row.off List.[]))))));
+        }
 
         abbrev G5 : Row.Cx
-        G5 = record
-            { locals = List._++_ t3 t1; slots = List._∷_ (Row.lease (κs .0) (qs .0)) (List._∷_ (Row.lease (κs .1 .0) (qs .1 .0)) (List._∷_ (Row.lease (κs .1 .1 .0) (qs .1 .1 .0)) (List._∷_ Row.off
-            (List._∷_ Row.off (List._∷_ Row.off (List._∷_ Row.off List.[])))))); }
+        G5 = record {
+          locals = List._++_ t3 t1;
+          slots = List._∷_ (Row.lease (κs .0) (qs .0)) (List._∷_ (Row.lease (κs .1 .0) (qs .1 .0)) (List._∷_ (Row.lease (κs .1 .1 .0) (qs .1 .1 .0)) (List._∷_ Row.off
+              (List._∷_ Row.off (List._∷_ Row.off (List._∷_ Row.off List.[]))))));
+        }
 
         abbrev G6 : Row.Cx
-        G6 = record
-            { locals = List._++_ t4 t1; slots = List._∷_ (Row.lease (κs .0) (qs .0)) (List._∷_ (Row.lease (κs .1 .0) (qs .1 .0)) (List._∷_ (Row.lease (κs .1 .1 .0) (qs .1 .1 .0)) (List._∷_ Row.off
-            (List._∷_ Row.off (List._∷_ Row.off (List._∷_ Row.off List.[])))))); }
+        G6 = record {
+          locals = List._++_ t4 t1;
+          slots = List._∷_ (Row.lease (κs .0) (qs .0)) (List._∷_ (Row.lease (κs .1 .0) (qs .1 .0)) (List._∷_ (Row.lease (κs .1 .1 .0) (qs .1 .1 .0)) (List._∷_ Row.off
+              (List._∷_ Row.off (List._∷_ Row.off (List._∷_ Row.off List.[]))))));
+        }
 
         abbrev G7 : Row.Cx
-        G7 = record
-            { locals = List._++_ t5 t1; slots = List._∷_ (Row.lease (κs .0) (qs .0)) (List._∷_ (Row.lease (κs .1 .0) (qs .1 .0)) (List._∷_ (Row.lease (κs .1 .1 .0) (qs .1 .1 .0)) (List._∷_ Row.off
-            (List._∷_ Row.off (List._∷_ Row.off (List._∷_ Row.off List.[])))))); }
+        G7 = record {
+          locals = List._++_ t5 t1;
+          slots = List._∷_ (Row.lease (κs .0) (qs .0)) (List._∷_ (Row.lease (κs .1 .0) (qs .1 .0)) (List._∷_ (Row.lease (κs .1 .1 .0) (qs .1 .1 .0)) (List._∷_ Row.off
+              (List._∷_ Row.off (List._∷_ Row.off (List._∷_ Row.off List.[]))))));
+        }
 
         abbrev G8 : Row.Cx
-        G8 = record
-            { locals = List._++_ t6 t1; slots = List._∷_ (Row.lease (κs .0) (qs .0)) (List._∷_ (Row.lease (κs .1 .0) (qs .1 .0)) (List._∷_ (Row.lease (κs .1 .1 .0) (qs .1 .1 .0)) (List._∷_ Row.off
-            (List._∷_ Row.off (List._∷_ Row.off (List._∷_ Row.off List.[])))))); }
+        G8 = record {
+          locals = List._++_ t6 t1;
+          slots = List._∷_ (Row.lease (κs .0) (qs .0)) (List._∷_ (Row.lease (κs .1 .0) (qs .1 .0)) (List._∷_ (Row.lease (κs .1 .1 .0) (qs .1 .1 .0)) (List._∷_ Row.off
+              (List._∷_ Row.off (List._∷_ Row.off (List._∷_ Row.off List.[]))))));
+        }
 
         abbrev G9 : Row.Cx
-        G9 = record
-            { locals = List._++_ t7 t1; slots = List._∷_ (Row.lease (κs .0) (qs .0)) (List._∷_ (Row.lease (κs .1 .0) (qs .1 .0)) (List._∷_ (Row.lease (κs .1 .1 .0) (qs .1 .1 .0)) (List._∷_ Row.off
-            (List._∷_ Row.off (List._∷_ Row.off (List._∷_ Row.off List.[])))))); }
+        G9 = record {
+          locals = List._++_ t7 t1;
+          slots = List._∷_ (Row.lease (κs .0) (qs .0)) (List._∷_ (Row.lease (κs .1 .0) (qs .1 .0)) (List._∷_ (Row.lease (κs .1 .1 .0) (qs .1 .1 .0)) (List._∷_ Row.off
+              (List._∷_ Row.off (List._∷_ Row.off (List._∷_ Row.off List.[]))))));
+        }
 
         abbrev G10 : Row.Cx
-        G10 = record
-            { locals = List._++_ t8 t1; slots = List._∷_ (Row.lease (κs .0) (qs .0)) (List._∷_ (Row.lease (κs .1 .0) (qs .1 .0)) (List._∷_ (Row.lease (κs .1 .1 .0) (qs .1 .1 .0)) (List._∷_ Row.off
-            (List._∷_ Row.off (List._∷_ Row.off (List._∷_ Row.off List.[])))))); }
+        G10 = record {
+          locals = List._++_ t8 t1;
+          slots = List._∷_ (Row.lease (κs .0) (qs .0)) (List._∷_ (Row.lease (κs .1 .0) (qs .1 .0)) (List._∷_ (Row.lease (κs .1 .1 .0) (qs .1 .1 .0)) (List._∷_ Row.off
+              (List._∷_ Row.off (List._∷_ Row.off (List._∷_ Row.off List.[]))))));
+        }
 
         abbrev G11 : Row.Cx
-        G11 = record
-            { locals = List._++_ t9 t1; slots = List._∷_ (Row.lease (κs .0) (qs .0)) (List._∷_ (Row.lease (κs .1 .0) (qs .1 .0)) (List._∷_ (Row.lease (κs .1 .1 .0) (qs .1 .1 .0)) (List._∷_ Row.off
-            (List._∷_ Row.off (List._∷_ Row.off (List._∷_ Row.off List.[])))))); }
+        G11 = record {
+          locals = List._++_ t9 t1;
+          slots = List._∷_ (Row.lease (κs .0) (qs .0)) (List._∷_ (Row.lease (κs .1 .0) (qs .1 .0)) (List._∷_ (Row.lease (κs .1 .1 .0) (qs .1 .1 .0)) (List._∷_ Row.off
+              (List._∷_ Row.off (List._∷_ Row.off (List._∷_ Row.off List.[]))))));
+        }
 
         abbrev G12 : Row.Cx
-        G12 = record
-            { locals = List._++_ t10 t1; slots = List._∷_ (Row.lease (κs .0) (qs .0)) (List._∷_ (Row.lease (κs .1 .0) (qs .1 .0)) (List._∷_ (Row.lease (κs .1 .1 .0) (qs .1 .1 .0)) (List._∷_ Row.off
-            (List._∷_ Row.off (List._∷_ Row.off (List._∷_ Row.off List.[])))))); }
+        G12 = record {
+          locals = List._++_ t10 t1;
+          slots = List._∷_ (Row.lease (κs .0) (qs .0)) (List._∷_ (Row.lease (κs .1 .0) (qs .1 .0)) (List._∷_ (Row.lease (κs .1 .1 .0) (qs .1 .1 .0)) (List._∷_ Row.off
+              (List._∷_ Row.off (List._∷_ Row.off (List._∷_ Row.off List.[]))))));
+        }
 
         abbrev G13 : Row.Cx
-        G13 = record
-            { locals = List._++_ t11 t1; slots = List._∷_ (Row.lease (κs .0) (qs .0)) (List._∷_ (Row.lease (κs .1 .0) (qs .1 .0)) (List._∷_ (Row.lease (κs .1 .1 .0) (qs .1 .1 .0)) (List._∷_ Row.off
-            (List._∷_ Row.off (List._∷_ Row.off (List._∷_ Row.off List.[])))))); }
+        G13 = record {
+          locals = List._++_ t11 t1;
+          slots = List._∷_ (Row.lease (κs .0) (qs .0)) (List._∷_ (Row.lease (κs .1 .0) (qs .1 .0)) (List._∷_ (Row.lease (κs .1 .1 .0) (qs .1 .1 .0)) (List._∷_ Row.off
+              (List._∷_ Row.off (List._∷_ Row.off (List._∷_ Row.off List.[]))))));
+        }
 
         abbrev G14 : Row.Cx
-        G14 = record
-            { locals = List._++_ t12 t1; slots = List._∷_ (Row.lease (κs .0) (qs .0)) (List._∷_ (Row.lease (κs .1 .0) (qs .1 .0)) (List._∷_ (Row.lease (κs .1 .1 .0) (qs .1 .1 .0)) (List._∷_ Row.off
-            (List._∷_ Row.off (List._∷_ Row.off (List._∷_ Row.off List.[])))))); }
+        G14 = record {
+          locals = List._++_ t12 t1;
+          slots = List._∷_ (Row.lease (κs .0) (qs .0)) (List._∷_ (Row.lease (κs .1 .0) (qs .1 .0)) (List._∷_ (Row.lease (κs .1 .1 .0) (qs .1 .1 .0)) (List._∷_ Row.off
+              (List._∷_ Row.off (List._∷_ Row.off (List._∷_ Row.off List.[]))))));
+        }
 
         abbrev G15 : Row.Cx
-        G15 = record
-            { locals = List._++_ t13 t1; slots = List._∷_ (Row.lease (κs .0) (qs .0)) (List._∷_ (Row.lease (κs .1 .0) (qs .1 .0)) (List._∷_ (Row.lease (κs .1 .1 .0) (qs .1 .1 .0)) (List._∷_ Row.off
-            (List._∷_ Row.off (List._∷_ Row.off (List._∷_ Row.off List.[])))))); }
+        G15 = record {
+          locals = List._++_ t13 t1;
+          slots = List._∷_ (Row.lease (κs .0) (qs .0)) (List._∷_ (Row.lease (κs .1 .0) (qs .1 .0)) (List._∷_ (Row.lease (κs .1 .1 .0) (qs .1 .1 .0)) (List._∷_ Row.off
+              (List._∷_ Row.off (List._∷_ Row.off (List._∷_ Row.off List.[]))))));
+        }
 
         abbrev G16 : Row.Cx
-        G16 = record
-            { locals = List._++_ t14 t1; slots = List._∷_ (Row.lease (κs .0) (qs .0)) (List._∷_ (Row.lease (κs .1 .0) (qs .1 .0)) (List._∷_ (Row.lease (κs .1 .1 .0) (qs .1 .1 .0)) (List._∷_ Row.off
-            (List._∷_ Row.off (List._∷_ Row.off (List._∷_ Row.off List.[])))))); }
+        G16 = record {
+          locals = List._++_ t14 t1;
+          slots = List._∷_ (Row.lease (κs .0) (qs .0)) (List._∷_ (Row.lease (κs .1 .0) (qs .1 .0)) (List._∷_ (Row.lease (κs .1 .1 .0) (qs .1 .1 .0)) (List._∷_ Row.off
+              (List._∷_ Row.off (List._∷_ Row.off (List._∷_ Row.off List.[]))))));
+        }
 
         abbrev G17 : Row.Cx
-        G17 = record
-            { locals = List._++_ t15 t1; slots = List._∷_ (Row.lease (κs .0) (qs .0)) (List._∷_ (Row.lease (κs .1 .0) (qs .1 .0)) (List._∷_ (Row.lease (κs .1 .1 .0) (qs .1 .1 .0)) (List._∷_ Row.off
-            (List._∷_ Row.off (List._∷_ Row.off (List._∷_ Row.off List.[])))))); }
+        G17 = record {
+          locals = List._++_ t15 t1;
+          slots = List._∷_ (Row.lease (κs .0) (qs .0)) (List._∷_ (Row.lease (κs .1 .0) (qs .1 .0)) (List._∷_ (Row.lease (κs .1 .1 .0) (qs .1 .1 .0)) (List._∷_ Row.off
+              (List._∷_ Row.off (List._∷_ Row.off (List._∷_ Row.off List.[]))))));
+        }
 
         abbrev G18 : Row.Cx
-        G18 = record
-            { locals = List._++_ t15 t16; slots = List._∷_ (Row.lease (κs .0) (qs .0)) (List._∷_ (Row.lease (κs .1 .0) (qs .1 .0)) (List._∷_ (Row.lease (κs .1 .1 .0) (qs .1 .1 .0)) (List._∷_ Row.off
-            (List._∷_ Row.off (List._∷_ Row.off (List._∷_ Row.off List.[])))))); }
+        G18 = record {
+          locals = List._++_ t15 t16;
+          slots = List._∷_ (Row.lease (κs .0) (qs .0)) (List._∷_ (Row.lease (κs .1 .0) (qs .1 .0)) (List._∷_ (Row.lease (κs .1 .1 .0) (qs .1 .1 .0)) (List._∷_ Row.off
+              (List._∷_ Row.off (List._∷_ Row.off (List._∷_ Row.off List.[]))))));
+        }
 
         abbrev G19 : Row.Cx
-        G19 = record
-            { locals = List._++_ t15 t16; slots = List._∷_ (Row.lease (κs .0) (qs .0)) (List._∷_ (Row.lease (κs .1 .0) (qs .1 .0)) (List._∷_ (Row.lease (κs .1 .1 .0) (qs .1 .1 .0)) (List._∷_ Row.alive
-            (List._∷_ Row.off (List._∷_ Row.off (List._∷_ Row.off List.[])))))); }
+        G19 = record {
+          locals = List._++_ t15 t16;
+          slots = List._∷_ (Row.lease (κs .0) (qs .0)) (List._∷_ (Row.lease (κs .1 .0) (qs .1 .0)) (List._∷_ (Row.lease (κs .1 .1 .0) (qs .1 .1 .0)) (List._∷_ Row.alive
+              (List._∷_ Row.off (List._∷_ Row.off (List._∷_ Row.off List.[]))))));
+        }
 
         abbrev G20 : Row.Cx
-        G20 = record
-            { locals = List._++_ t17 t18; slots = List._∷_ (Row.lease (κs .0) (qs .0)) (List._∷_ (Row.lease (κs .1 .0) (qs .1 .0)) (List._∷_ (Row.lease (κs .1 .1 .0) (qs .1 .1 .0)) (List._∷_ Row.alive
-            (List._∷_ Row.off (List._∷_ Row.off (List._∷_ Row.off List.[])))))); }
+        G20 = record {
+          locals = List._++_ t17 t18;
+          slots = List._∷_ (Row.lease (κs .0) (qs .0)) (List._∷_ (Row.lease (κs .1 .0) (qs .1 .0)) (List._∷_ (Row.lease (κs .1 .1 .0) (qs .1 .1 .0)) (List._∷_ Row.alive
+              (List._∷_ Row.off (List._∷_ Row.off (List._∷_ Row.off List.[]))))));
+        }
 
         abbrev G21 : Row.Cx
-        G21 = record
-            { locals = List._++_ t19 t18; slots = List._∷_ (Row.lease (κs .0) (qs .0)) (List._∷_ (Row.lease (κs .1 .0) (qs .1 .0)) (List._∷_ (Row.lease (κs .1 .1 .0) (qs .1 .1 .0)) (List._∷_ Row.alive
-            (List._∷_ Row.off (List._∷_ Row.off (List._∷_ Row.off List.[])))))); }
+        G21 = record {
+          locals = List._++_ t19 t18;
+          slots = List._∷_ (Row.lease (κs .0) (qs .0)) (List._∷_ (Row.lease (κs .1 .0) (qs .1 .0)) (List._∷_ (Row.lease (κs .1 .1 .0) (qs .1 .1 .0)) (List._∷_ Row.alive
+              (List._∷_ Row.off (List._∷_ Row.off (List._∷_ Row.off List.[]))))));
+        }
 
         abbrev G22 : Row.Cx
-        G22 = record
-            { locals = List._++_ t19 t20; slots = List._∷_ (Row.lease (κs .0) (qs .0)) (List._∷_ (Row.lease (κs .1 .0) (qs .1 .0)) (List._∷_ (Row.lease (κs .1 .1 .0) (qs .1 .1 .0)) (List._∷_ Row.alive
-            (List._∷_ Row.off (List._∷_ Row.off (List._∷_ Row.off List.[])))))); }
+        G22 = record {
+          locals = List._++_ t19 t20;
+          slots = List._∷_ (Row.lease (κs .0) (qs .0)) (List._∷_ (Row.lease (κs .1 .0) (qs .1 .0)) (List._∷_ (Row.lease (κs .1 .1 .0) (qs .1 .1 .0)) (List._∷_ Row.alive
+              (List._∷_ Row.off (List._∷_ Row.off (List._∷_ Row.off List.[]))))));
+        }
 
         abbrev G23 : Row.Cx
-        G23 = record
-            { locals = List._++_ t19 t21; slots = List._∷_ (Row.lease (κs .0) (qs .0)) (List._∷_ (Row.lease (κs .1 .0) (qs .1 .0)) (List._∷_ (Row.lease (κs .1 .1 .0) (qs .1 .1 .0)) (List._∷_ Row.alive
-            (List._∷_ Row.off (List._∷_ Row.off (List._∷_ Row.off List.[])))))); }
+        G23 = record {
+          locals = List._++_ t19 t21;
+          slots = List._∷_ (Row.lease (κs .0) (qs .0)) (List._∷_ (Row.lease (κs .1 .0) (qs .1 .0)) (List._∷_ (Row.lease (κs .1 .1 .0) (qs .1 .1 .0)) (List._∷_ Row.alive
+              (List._∷_ Row.off (List._∷_ Row.off (List._∷_ Row.off List.[]))))));
+        }
 
         abbrev G24 : Row.Cx
-        G24 = record
-            { locals = List._++_ t19 t21; slots = List._∷_ (Row.lease (κs .0) (qs .0)) (List._∷_ (Row.lease (κs .1 .0) (qs .1 .0)) (List._∷_ (Row.lease (κs .1 .1 .0) (qs .1 .1 .0)) (List._∷_ Row.alive
-            (List._∷_ Row.alive (List._∷_ Row.off (List._∷_ Row.off List.[])))))); }
+        G24 = record {
+          locals = List._++_ t19 t21;
+          slots = List._∷_ (Row.lease (κs .0) (qs .0)) (List._∷_ (Row.lease (κs .1 .0) (qs .1 .0)) (List._∷_ (Row.lease (κs .1 .1 .0) (qs .1 .1 .0)) (List._∷_ Row.alive
+              (List._∷_ Row.alive (List._∷_ Row.off (List._∷_ Row.off List.[]))))));
+        }
 
         abbrev G25 : Row.Cx
-        G25 = record
-            { locals = List._++_ t22 t23; slots = List._∷_ (Row.lease (κs .0) (qs .0)) (List._∷_ (Row.lease (κs .1 .0) (qs .1 .0)) (List._∷_ (Row.lease (κs .1 .1 .0) (qs .1 .1 .0)) (List._∷_ Row.alive
-            (List._∷_ Row.alive (List._∷_ Row.off (List._∷_ Row.off List.[])))))); }
+        G25 = record {
+          locals = List._++_ t22 t23;
+          slots = List._∷_ (Row.lease (κs .0) (qs .0)) (List._∷_ (Row.lease (κs .1 .0) (qs .1 .0)) (List._∷_ (Row.lease (κs .1 .1 .0) (qs .1 .1 .0)) (List._∷_ Row.alive
+              (List._∷_ Row.alive (List._∷_ Row.off (List._∷_ Row.off List.[]))))));
+        }
 
         abbrev G26 : Row.Cx
-        G26 = record
-            { locals = List._++_ t22 t24; slots = List._∷_ (Row.lease (κs .0) (qs .0)) (List._∷_ (Row.lease (κs .1 .0) (qs .1 .0)) (List._∷_ (Row.lease (κs .1 .1 .0) (qs .1 .1 .0)) (List._∷_ Row.alive
-            (List._∷_ Row.alive (List._∷_ Row.off (List._∷_ Row.off List.[])))))); }
+        G26 = record {
+          locals = List._++_ t22 t24;
+          slots = List._∷_ (Row.lease (κs .0) (qs .0)) (List._∷_ (Row.lease (κs .1 .0) (qs .1 .0)) (List._∷_ (Row.lease (κs .1 .1 .0) (qs .1 .1 .0)) (List._∷_ Row.alive
+              (List._∷_ Row.alive (List._∷_ Row.off (List._∷_ Row.off List.[]))))));
+        }
 
         abbrev G27 : Row.Cx
-        G27 = record
-            { locals = List._++_ t22 t24; slots = List._∷_ (Row.lease (κs .0) (qs .0)) (List._∷_ (Row.lease (κs .1 .0) (qs .1 .0)) (List._∷_ (Row.lease (κs .1 .1 .0) (qs .1 .1 .0)) (List._∷_ Row.alive
-            (List._∷_ Row.alive (List._∷_ Row.alive (List._∷_ Row.off List.[])))))); }
+        G27 = record {
+          locals = List._++_ t22 t24;
+          slots = List._∷_ (Row.lease (κs .0) (qs .0)) (List._∷_ (Row.lease (κs .1 .0) (qs .1 .0)) (List._∷_ (Row.lease (κs .1 .1 .0) (qs .1 .1 .0)) (List._∷_ Row.alive
+              (List._∷_ Row.alive (List._∷_ Row.alive (List._∷_ Row.off List.[]))))));
+        }
 
         abbrev G28 : Row.Cx
-        G28 = record
-            { locals = List._++_ g25 t26; slots = List._∷_ (Row.lease (κs .0) (qs .0)) (List._∷_ (Row.lease (κs .1 .0) (qs .1 .0)) (List._∷_ Row.off (List._∷_ Row.alive (List._∷_ Row.alive (List._∷_
-            Row.alive (List._∷_ Row.off List.[])))))); }
+        G28 = record {
+          locals = List._++_ g25 t26;
+          slots = List._∷_ (Row.lease (κs .0) (qs .0)) (List._∷_ (Row.lease (κs .1 .0) (qs .1 .0)) (List._∷_ Row.off (List._∷_ Row.alive (List._∷_ Row.alive (List._∷_
+              Row.alive (List._∷_ Row.off List.[]))))));
+        }
 
         abbrev G29 : Row.Cx
-        G29 = record
-            { locals = List._++_ g25 t27; slots = List._∷_ (Row.lease (κs .0) (qs .0)) (List._∷_ (Row.lease (κs .1 .0) (qs .1 .0)) (List._∷_ Row.off (List._∷_ Row.alive (List._∷_ Row.alive (List._∷_
-            Row.alive (List._∷_ Row.off List.[])))))); }
+        G29 = record {
+          locals = List._++_ g25 t27;
+          slots = List._∷_ (Row.lease (κs .0) (qs .0)) (List._∷_ (Row.lease (κs .1 .0) (qs .1 .0)) (List._∷_ Row.off (List._∷_ Row.alive (List._∷_ Row.alive (List._∷_
+              Row.alive (List._∷_ Row.off List.[]))))));
+        }
 
         abbrev G30 : Row.Cx
-        G30 = record
-            { locals = List._++_ g25 t27; slots = List._∷_ (Row.lease (κs .0) (qs .0)) (List._∷_ (Row.lease (κs .1 .0) (qs .1 .0)) (List._∷_ Row.off (List._∷_ Row.alive (List._∷_ Row.alive (List._∷_
-            Row.alive (List._∷_ Row.alive List.[])))))); }
+        G30 = record {
+          locals = List._++_ g25 t27;
+          slots = List._∷_ (Row.lease (κs .0) (qs .0)) (List._∷_ (Row.lease (κs .1 .0) (qs .1 .0)) (List._∷_ Row.off (List._∷_ Row.alive (List._∷_ Row.alive (List._∷_
+              Row.alive (List._∷_ Row.alive List.[]))))));
+        }
 
         abbrev G31 : Row.Cx
-        G31 = record
-            { locals = List._++_ g28 t29; slots = List._∷_ (Row.lease (κs .0) (qs .0)) (List._∷_ (Row.lease (κs .1 .0) (qs .1 .0)) (List._∷_ Row.off (List._∷_ Row.alive (List._∷_ Row.alive (List._∷_
-            Row.alive (List._∷_ Row.alive List.[])))))); }
+        G31 = record {
+          locals = List._++_ g28 t29;
+          slots = List._∷_ (Row.lease (κs .0) (qs .0)) (List._∷_ (Row.lease (κs .1 .0) (qs .1 .0)) (List._∷_ Row.off (List._∷_ Row.alive (List._∷_ Row.alive (List._∷_
+              Row.alive (List._∷_ Row.alive List.[]))))));
+        }
 
         abbrev G32 : Row.Cx
-        G32 = record
-            { locals = List._++_ g28 t30; slots = List._∷_ (Row.lease (κs .0) (qs .0)) (List._∷_ (Row.lease (κs .1 .0) (qs .1 .0)) (List._∷_ Row.off (List._∷_ Row.alive (List._∷_ Row.alive (List._∷_
-            Row.alive (List._∷_ Row.alive List.[])))))); }
+        G32 = record {
+          locals = List._++_ g28 t30;
+          slots = List._∷_ (Row.lease (κs .0) (qs .0)) (List._∷_ (Row.lease (κs .1 .0) (qs .1 .0)) (List._∷_ Row.off (List._∷_ Row.alive (List._∷_ Row.alive (List._∷_
+              Row.alive (List._∷_ Row.alive List.[]))))));
+        }
 
         abbrev G33 : Row.Cx
-        G33 = record
-            { locals = List._++_ g31 t32; slots = List._∷_ (Row.lease (κs .0) (qs .0)) (List._∷_ (Row.lease (κs .1 .0) (qs .1 .0)) (List._∷_ Row.off (List._∷_ Row.alive (List._∷_ Row.alive (List._∷_
-            Row.alive (List._∷_ Row.alive List.[])))))); }
+        G33 = record {
+          locals = List._++_ g31 t32;
+          slots = List._∷_ (Row.lease (κs .0) (qs .0)) (List._∷_ (Row.lease (κs .1 .0) (qs .1 .0)) (List._∷_ Row.off (List._∷_ Row.alive (List._∷_ Row.alive (List._∷_
+              Row.alive (List._∷_ Row.alive List.[]))))));
+        }
 
         abbrev G34 : Row.Cx
-        G34 = record
-            { locals = List._++_ g31 t33; slots = List._∷_ (Row.lease (κs .0) (qs .0)) (List._∷_ (Row.lease (κs .1 .0) (qs .1 .0)) (List._∷_ Row.off (List._∷_ Row.alive (List._∷_ Row.alive (List._∷_
-            Row.alive (List._∷_ Row.alive List.[])))))); }
+        G34 = record {
+          locals = List._++_ g31 t33;
+          slots = List._∷_ (Row.lease (κs .0) (qs .0)) (List._∷_ (Row.lease (κs .1 .0) (qs .1 .0)) (List._∷_ Row.off (List._∷_ Row.alive (List._∷_ Row.alive (List._∷_
+              Row.alive (List._∷_ Row.alive List.[]))))));
+        }
 
         abbrev G35 : Row.Cx
-        G35 = record
-            { locals = List._++_ g34 t33; slots = List._∷_ (Row.lease (κs .0) (qs .0)) (List._∷_ (Row.lease (κs .1 .0) (qs .1 .0)) (List._∷_ Row.off (List._∷_ Row.alive (List._∷_ Row.alive (List._∷_
-            Row.alive (List._∷_ Row.alive List.[])))))); }
+        G35 = record {
+          locals = List._++_ g34 t33;
+          slots = List._∷_ (Row.lease (κs .0) (qs .0)) (List._∷_ (Row.lease (κs .1 .0) (qs .1 .0)) (List._∷_ Row.off (List._∷_ Row.alive (List._∷_ Row.alive (List._∷_
+              Row.alive (List._∷_ Row.alive List.[]))))));
+        }
 
         abbrev G36 : Row.Cx
-        G36 = record
-            { locals = List._++_ g35 t33; slots = List._∷_ (Row.lease (κs .0) (qs .0)) (List._∷_ (Row.lease (κs .1 .0) (qs .1 .0)) (List._∷_ Row.off (List._∷_ Row.alive (List._∷_ Row.alive (List._∷_
-            Row.alive (List._∷_ Row.alive List.[])))))); }
+        G36 = record {
+          locals = List._++_ g35 t33;
+          slots = List._∷_ (Row.lease (κs .0) (qs .0)) (List._∷_ (Row.lease (κs .1 .0) (qs .1 .0)) (List._∷_ Row.off (List._∷_ Row.alive (List._∷_ Row.alive (List._∷_
+              Row.alive (List._∷_ Row.alive List.[]))))));
+        }
 
         abbrev G37 : Row.Cx
-        G37 = record
-            { locals = List._++_ g36 t33; slots = List._∷_ (Row.lease (κs .0) (qs .0)) (List._∷_ (Row.lease (κs .1 .0) (qs .1 .0)) (List._∷_ Row.off (List._∷_ Row.alive (List._∷_ Row.alive (List._∷_
-            Row.alive (List._∷_ Row.alive List.[])))))); }
+        G37 = record {
+          locals = List._++_ g36 t33;
+          slots = List._∷_ (Row.lease (κs .0) (qs .0)) (List._∷_ (Row.lease (κs .1 .0) (qs .1 .0)) (List._∷_ Row.off (List._∷_ Row.alive (List._∷_ Row.alive (List._∷_
+              Row.alive (List._∷_ Row.alive List.[]))))));
+        }
 
         abbrev G38 : Row.Cx
-        G38 = record
-            { locals = List._++_ g37 t33; slots = List._∷_ (Row.lease (κs .0) (qs .0)) (List._∷_ (Row.lease (κs .1 .0) (qs .1 .0)) (List._∷_ Row.off (List._∷_ Row.alive (List._∷_ Row.alive (List._∷_
-            Row.alive (List._∷_ Row.alive List.[])))))); }
+        G38 = record {
+          locals = List._++_ g37 t33;
+          slots = List._∷_ (Row.lease (κs .0) (qs .0)) (List._∷_ (Row.lease (κs .1 .0) (qs .1 .0)) (List._∷_ Row.off (List._∷_ Row.alive (List._∷_ Row.alive (List._∷_
+              Row.alive (List._∷_ Row.alive List.[]))))));
+        }
 
         abbrev G39 : Row.Cx
-        G39 = record
-            { locals = List._++_ g37 t38; slots = List._∷_ (Row.lease (κs .0) (qs .0)) (List._∷_ (Row.lease (κs .1 .0) (qs .1 .0)) (List._∷_ Row.off (List._∷_ Row.alive (List._∷_ Row.alive (List._∷_
-            Row.alive (List._∷_ Row.alive List.[])))))); }
+        G39 = record {
+          locals = List._++_ g37 t38;
+          slots = List._∷_ (Row.lease (κs .0) (qs .0)) (List._∷_ (Row.lease (κs .1 .0) (qs .1 .0)) (List._∷_ Row.off (List._∷_ Row.alive (List._∷_ Row.alive (List._∷_
+              Row.alive (List._∷_ Row.alive List.[]))))));
+        }
 
         abbrev G40 : Row.Cx
-        G40 = record
-            { locals = List._++_ g37 t38; slots = List._∷_ (Row.lease (κs .0) (qs .0)) (List._∷_ (Row.lease (κs .1 .0) (qs .1 .0)) (List._∷_ Row.off (List._∷_ Row.dead (List._∷_ Row.alive (List._∷_
-            Row.alive (List._∷_ Row.alive List.[])))))); }
+        G40 = record {
+          locals = List._++_ g37 t38;
+          slots = List._∷_ (Row.lease (κs .0) (qs .0)) (List._∷_ (Row.lease (κs .1 .0) (qs .1 .0)) (List._∷_ Row.off (List._∷_ Row.dead (List._∷_ Row.alive (List._∷_
+              Row.alive (List._∷_ Row.alive List.[]))))));
+        }
 
         abbrev G41 : Row.Cx
-        G41 = record
-            { locals = List._++_ g39 t40; slots = List._∷_ (Row.lease (κs .0) (qs .0)) (List._∷_ (Row.lease (κs .1 .0) (qs .1 .0)) (List._∷_ Row.off (List._∷_ Row.dead (List._∷_ Row.alive (List._∷_
-            Row.alive (List._∷_ Row.alive List.[])))))); }
+        G41 = record {
+          locals = List._++_ g39 t40;
+          slots = List._∷_ (Row.lease (κs .0) (qs .0)) (List._∷_ (Row.lease (κs .1 .0) (qs .1 .0)) (List._∷_ Row.off (List._∷_ Row.dead (List._∷_ Row.alive (List._∷_
+              Row.alive (List._∷_ Row.alive List.[]))))));
+        }
 
         abbrev G42 : Row.Cx
-        G42 = record
-            { locals = List._++_ g39 t40; slots = List._∷_ (Row.lease (κs .0) (qs .0)) (List._∷_ (Row.lease (κs .1 .0) (qs .1 .0)) (List._∷_ Row.off (List._∷_ Row.off (List._∷_ Row.alive (List._∷_
-            Row.alive (List._∷_ Row.alive List.[])))))); }
+        G42 = record {
+          locals = List._++_ g39 t40;
+          slots = List._∷_ (Row.lease (κs .0) (qs .0)) (List._∷_ (Row.lease (κs .1 .0) (qs .1 .0)) (List._∷_ Row.off (List._∷_ Row.off (List._∷_ Row.alive (List._∷_
+              Row.alive (List._∷_ Row.alive List.[]))))));
+        }
 
         abbrev G43 : Row.Cx
-        G43 = record
-            { locals = List._++_ g41 t40; slots = List._∷_ (Row.lease (κs .0) (qs .0)) (List._∷_ (Row.lease (κs .1 .0) (qs .1 .0)) (List._∷_ Row.off (List._∷_ Row.off (List._∷_ Row.alive (List._∷_
-            Row.alive (List._∷_ Row.alive List.[])))))); }
+        G43 = record {
+          locals = List._++_ g41 t40;
+          slots = List._∷_ (Row.lease (κs .0) (qs .0)) (List._∷_ (Row.lease (κs .1 .0) (qs .1 .0)) (List._∷_ Row.off (List._∷_ Row.off (List._∷_ Row.alive (List._∷_
+              Row.alive (List._∷_ Row.alive List.[]))))));
+        }
 
         abbrev G44 : Row.Cx
-        G44 = record
-            { locals = List._++_ g41 t40; slots = List._∷_ (Row.lease (κs .0) (qs .0)) (List._∷_ (Row.lease (κs .1 .0) (qs .1 .0)) (List._∷_ Row.off (List._∷_ Row.off (List._∷_ Row.dead (List._∷_
-            Row.alive (List._∷_ Row.alive List.[])))))); }
+        G44 = record {
+          locals = List._++_ g41 t40;
+          slots = List._∷_ (Row.lease (κs .0) (qs .0)) (List._∷_ (Row.lease (κs .1 .0) (qs .1 .0)) (List._∷_ Row.off (List._∷_ Row.off (List._∷_ Row.dead (List._∷_
+              Row.alive (List._∷_ Row.alive List.[]))))));
+        }
 
         abbrev G45 : Row.Cx
-        G45 = record
-            { locals = List._++_ g42 t43; slots = List._∷_ (Row.lease (κs .0) (qs .0)) (List._∷_ (Row.lease (κs .1 .0) (qs .1 .0)) (List._∷_ Row.off (List._∷_ Row.off (List._∷_ Row.dead (List._∷_
-            Row.alive (List._∷_ Row.alive List.[])))))); }
+        G45 = record {
+          locals = List._++_ g42 t43;
+          slots = List._∷_ (Row.lease (κs .0) (qs .0)) (List._∷_ (Row.lease (κs .1 .0) (qs .1 .0)) (List._∷_ Row.off (List._∷_ Row.off (List._∷_ Row.dead (List._∷_
+              Row.alive (List._∷_ Row.alive List.[]))))));
+        }
 
         abbrev G46 : Row.Cx
-        G46 = record
-            { locals = List._++_ g42 t43; slots = List._∷_ (Row.lease (κs .0) (qs .0)) (List._∷_ (Row.lease (κs .1 .0) (qs .1 .0)) (List._∷_ Row.off (List._∷_ Row.off (List._∷_ Row.off (List._∷_ Row.alive
-            (List._∷_ Row.alive List.[])))))); }
+        G46 = record {
+          locals = List._++_ g42 t43;
+          slots = List._∷_ (Row.lease (κs .0) (qs .0)) (List._∷_ (Row.lease (κs .1 .0) (qs .1 .0)) (List._∷_ Row.off (List._∷_ Row.off (List._∷_ Row.off (List._∷_ Row.alive
+              (List._∷_ Row.alive List.[]))))));
+        }
 
         abbrev G47 : Row.Cx
-        G47 = record
-            { locals = List._++_ g44 t43; slots = List._∷_ (Row.lease (κs .0) (qs .0)) (List._∷_ (Row.lease (κs .1 .0) (qs .1 .0)) (List._∷_ Row.off (List._∷_ Row.off (List._∷_ Row.off (List._∷_ Row.alive
-            (List._∷_ Row.alive List.[])))))); }
+        G47 = record {
+          locals = List._++_ g44 t43;
+          slots = List._∷_ (Row.lease (κs .0) (qs .0)) (List._∷_ (Row.lease (κs .1 .0) (qs .1 .0)) (List._∷_ Row.off (List._∷_ Row.off (List._∷_ Row.off (List._∷_ Row.alive
+              (List._∷_ Row.alive List.[]))))));
+        }
 
         abbrev G48 : Row.Cx
-        G48 = record
-            { locals = List._++_ g44 t43; slots = List._∷_ (Row.lease (κs .0) (qs .0)) (List._∷_ (Row.lease (κs .1 .0) (qs .1 .0)) (List._∷_ Row.off (List._∷_ Row.off (List._∷_ Row.off (List._∷_ Row.dead
-            (List._∷_ Row.alive List.[])))))); }
+        G48 = record {
+          locals = List._++_ g44 t43;
+          slots = List._∷_ (Row.lease (κs .0) (qs .0)) (List._∷_ (Row.lease (κs .1 .0) (qs .1 .0)) (List._∷_ Row.off (List._∷_ Row.off (List._∷_ Row.off (List._∷_ Row.dead
+              (List._∷_ Row.alive List.[]))))));
+        }
 
         abbrev G49 : Row.Cx
-        G49 = record
-            { locals = List._++_ t45 t1; slots = List._∷_ (Row.lease (κs .0) (qs .0)) (List._∷_ (Row.lease (κs .1 .0) (qs .1 .0)) (List._∷_ (Row.lease (κs .1 .1 .0) (qs .1 .1 .0)) (List._∷_ Row.off
-            (List._∷_ Row.off (List._∷_ Row.dead (List._∷_ Row.alive List.[])))))); }
+        G49 = record {
+          locals = List._++_ t45 t1;
+          slots = List._∷_ (Row.lease (κs .0) (qs .0)) (List._∷_ (Row.lease (κs .1 .0) (qs .1 .0)) (List._∷_ (Row.lease (κs .1 .1 .0) (qs .1 .1 .0)) (List._∷_ Row.off
+              (List._∷_ Row.off (List._∷_ Row.dead (List._∷_ Row.alive List.[]))))));
+        }
 
         abbrev G50 : Row.Cx
-        G50 = record
-            { locals = List._++_ t45 t1; slots = List._∷_ (Row.lease (κs .0) (qs .0)) (List._∷_ (Row.lease (κs .1 .0) (qs .1 .0)) (List._∷_ (Row.lease (κs .1 .1 .0) (qs .1 .1 .0)) (List._∷_ Row.off
-            (List._∷_ Row.off (List._∷_ Row.dead (List._∷_ Row.alive List.[])))))); }
+        G50 = record {
+          locals = List._++_ t45 t1;
+          slots = List._∷_ (Row.lease (κs .0) (qs .0)) (List._∷_ (Row.lease (κs .1 .0) (qs .1 .0)) (List._∷_ (Row.lease (κs .1 .1 .0) (qs .1 .1 .0)) (List._∷_ Row.off
+              (List._∷_ Row.off (List._∷_ Row.dead (List._∷_ Row.alive List.[]))))));
+        }
 
         abbrev G51 : Row.Cx
-        G51 = record
-            { locals = List._++_ t45 t1; slots = List._∷_ (Row.lease (κs .0) (qs .0)) (List._∷_ (Row.lease (κs .1 .0) (qs .1 .0)) (List._∷_ (Row.lease (κs .1 .1 .0) (qs .1 .1 .0)) (List._∷_ Row.off
-            (List._∷_ Row.off (List._∷_ Row.off (List._∷_ Row.alive List.[])))))); }
+        G51 = record {
+          locals = List._++_ t45 t1;
+          slots = List._∷_ (Row.lease (κs .0) (qs .0)) (List._∷_ (Row.lease (κs .1 .0) (qs .1 .0)) (List._∷_ (Row.lease (κs .1 .1 .0) (qs .1 .1 .0)) (List._∷_ Row.off
+              (List._∷_ Row.off (List._∷_ Row.off (List._∷_ Row.alive List.[]))))));
+        }
 
         abbrev G52 : Row.Cx
-        G52 = record
-            { locals = List._++_ t45 t1; slots = List._∷_ (Row.lease (κs .0) (qs .0)) (List._∷_ (Row.lease (κs .1 .0) (qs .1 .0)) (List._∷_ (Row.lease (κs .1 .1 .0) (qs .1 .1 .0)) (List._∷_ Row.off
-            (List._∷_ Row.off (List._∷_ Row.off (List._∷_ Row.dead List.[])))))); }
+        G52 = record {
+          locals = List._++_ t45 t1;
+          slots = List._∷_ (Row.lease (κs .0) (qs .0)) (List._∷_ (Row.lease (κs .1 .0) (qs .1 .0)) (List._∷_ (Row.lease (κs .1 .1 .0) (qs .1 .1 .0)) (List._∷_ Row.off
+              (List._∷_ Row.off (List._∷_ Row.off (List._∷_ Row.dead List.[]))))));
+        }
 
         abbrev G53 : Row.Cx
-        G53 = record
-            { locals = List._++_ t46 t1; slots = List._∷_ (Row.lease (κs .0) (qs .0)) (List._∷_ (Row.lease (κs .1 .0) (qs .1 .0)) (List._∷_ (Row.lease (κs .1 .1 .0) (qs .1 .1 .0)) (List._∷_ Row.off
-            (List._∷_ Row.off (List._∷_ Row.off (List._∷_ Row.dead List.[])))))); }
+        G53 = record {
+          locals = List._++_ t46 t1;
+          slots = List._∷_ (Row.lease (κs .0) (qs .0)) (List._∷_ (Row.lease (κs .1 .0) (qs .1 .0)) (List._∷_ (Row.lease (κs .1 .1 .0) (qs .1 .1 .0)) (List._∷_ Row.off
+              (List._∷_ Row.off (List._∷_ Row.off (List._∷_ Row.dead List.[]))))));
+        }
 
         abbrev G54 : Row.Cx
-        G54 = record
-            { locals = List._++_ t46 t1; slots = List._∷_ (Row.lease (κs .0) (qs .0)) (List._∷_ (Row.lease (κs .1 .0) (qs .1 .0)) (List._∷_ (Row.lease (κs .1 .1 .0) (qs .1 .1 .0)) (List._∷_ Row.off
-            (List._∷_ Row.off (List._∷_ Row.off (List._∷_ Row.off List.[])))))); }
+        G54 = record {
+          locals = List._++_ t46 t1;
+          slots = List._∷_ (Row.lease (κs .0) (qs .0)) (List._∷_ (Row.lease (κs .1 .0) (qs .1 .0)) (List._∷_ (Row.lease (κs .1 .1 .0) (qs .1 .1 .0)) (List._∷_ Row.off
+              (List._∷_ Row.off (List._∷_ Row.off (List._∷_ Row.off List.[]))))));
+        }
 
         abbrev G55 : Row.Cx
-        G55 = record
-            { locals = List._++_ t47 t1; slots = List._∷_ (Row.lease (κs .0) (qs .0)) (List._∷_ (Row.lease (κs .1 .0) (qs .1 .0)) (List._∷_ (Row.lease (κs .1 .1 .0) (qs .1 .1 .0)) (List._∷_ Row.off
-            (List._∷_ Row.off (List._∷_ Row.off (List._∷_ Row.off List.[])))))); }
+        G55 = record {
+          locals = List._++_ t47 t1;
+          slots = List._∷_ (Row.lease (κs .0) (qs .0)) (List._∷_ (Row.lease (κs .1 .0) (qs .1 .0)) (List._∷_ (Row.lease (κs .1 .1 .0) (qs .1 .1 .0)) (List._∷_ Row.off
+              (List._∷_ Row.off (List._∷_ Row.off (List._∷_ Row.off List.[]))))));
+        }
 
         abbrev G56 : Row.Cx
-        G56 = record
-            { locals = List._++_ t2 t1; slots = List._∷_ (Row.lease (κs .0) (qs .0)) (List._∷_ (Row.lease (κs .1 .0) (qs .1 .0)) (List._∷_ (Row.lease (κs .1 .1 .0) (qs .1 .1 .0)) (List._∷_ Row.off
-            (List._∷_ Row.off (List._∷_ Row.off (List._∷_ Row.off List.[])))))); }
+        G56 = record {
+          locals = List._++_ t2 t1;
+          slots = List._∷_ (Row.lease (κs .0) (qs .0)) (List._∷_ (Row.lease (κs .1 .0) (qs .1 .0)) (List._∷_ (Row.lease (κs .1 .1 .0) (qs .1 .1 .0)) (List._∷_ Row.off
+              (List._∷_ Row.off (List._∷_ Row.off (List._∷_ Row.off List.[]))))));
+        }
 
         abbrev Δ0 : Typed.Outs
         Δ0 = record { next = Option.none; exits = List.[]; returns = Option.some G1 }
@@ -1572,39 +1807,98 @@ module _ (claims· : Claims) where
 
           d24 : Typed.Typed 𝓤 H A 𝓣 E G32 b19 Δ0 (at24 bs)
           d24 = Typed.s-seq 𝓤 H A W 𝓣 E G32 G33 b17 b18 Δ0 (Typed.both (s31 bs)) (at23 bs) (Plain.t-call-plain 𝓤 H A W 𝓣 6 ps·4 r·4 (claims· .8) (claims· .9) "block::reading::walk" (known .4) E (λ pos
-              β. β) G32
-              (record { pos = 1; ty = Syntax.tyRef (Syntax.named 0) Syntax.imm (Syntax.tyInt Syntax.w8); ref = λ x. x; },
-              (record { pos = 2; ty = Syntax.tyRef (Syntax.named 1) Syntax.imm (Syntax.tyInt Syntax.w8); ref = λ x. x; },
-              (record { pos = 18; ty = Syntax.tyRef Syntax.erased Syntax.mut (Syntax.tyInt Syntax.w16); ref = λ x. x; },
-              (record { pos = 20; ty = Syntax.tyRef Syntax.erased Syntax.mut Element.behind; ref = λ x. x; },
-              (record { pos = 22; ty = Syntax.tyRef Syntax.erased Syntax.mut (Syntax.tyInt Syntax.w16); ref = λ x. x; },
-              (record { pos = 4; st = List.[]; d = 0; at = λ x. x },
-              (record { pos = 23; ty = Syntax.tyRef Syntax.erased Syntax.imm (Syntax.tyArray (Syntax.tyInt Syntax.w16) 768); ref = λ x. x; },
-              (record { pos = 5; st = List.[]; d = 0; at = λ x. x },
-              (record { pos = 6; st = List.[]; d = 0; at = λ x. x }, (Num.vAt 7 λ x. x, (Bool.bLit Bool'.false, (record { pos = 24; st = List.[]; d = 0; at = λ x. x }, tt)))))))))))) 0 (List._∷_ 0
-              (List._∷_ 1 (List._∷_ 3 (List._∷_ 4 (List._∷_ 5 (List._∷_ 6 List.[])))))) (Call.sub-id 𝓤 H A W (G32 .slots))
-              (ShrSlice.spares-sslice 𝓤 H A W (Referent.rtF (Referent.fInt Syntax.w8)) (Syntax.tyRef (Syntax.named 0) Syntax.imm (Syntax.tyInt Syntax.w8)) 0, Shared.reads-sslice 𝓤 H A W (Referent.rtF
-              (Referent.fInt Syntax.w8)) (Syntax.tyRef (Syntax.named 0) Syntax.imm (Syntax.tyInt Syntax.w8)) 0, Path'.refl,
-              (ShrSlice.spares-sslice 𝓤 H A W (Referent.rtF (Referent.fInt Syntax.w8)) (Syntax.tyRef (Syntax.named 1) Syntax.imm (Syntax.tyInt Syntax.w8)) 1, Shared.reads-sslice 𝓤 H A W (Referent.rtF
-              (Referent.fInt Syntax.w8)) (Syntax.tyRef (Syntax.named 1) Syntax.imm (Syntax.tyInt Syntax.w8)) 1, Path'.refl,
-              (Reads'.as-is 𝓤 H A (Mut.mslice (Referent.rtF (Referent.fInt Syntax.w16)) (Syntax.tyRef Syntax.erased Syntax.mut (Syntax.tyInt Syntax.w16)) 3), Mut.reads-mslice 𝓤 H A W (Referent.rtF
-              (Referent.fInt Syntax.w16)) (Syntax.tyRef Syntax.erased Syntax.mut (Syntax.tyInt Syntax.w16)) 3, Path'.refl,
-              (Reads'.as-is 𝓤 H A (Mut.mslice (Element.type) (Syntax.tyRef Syntax.erased Syntax.mut Element.behind) 4), Mut.reads-mslice 𝓤 H A W (Element.type) (Syntax.tyRef Syntax.erased Syntax.mut
-              Element.behind) 4, Path'.refl,
-              (Reads'.as-is 𝓤 H A (Mut.mslice (Referent.rtF (Referent.fInt Syntax.w16)) (Syntax.tyRef Syntax.erased Syntax.mut (Syntax.tyInt Syntax.w16)) 5), Mut.reads-mslice 𝓤 H A W (Referent.rtF
-              (Referent.fInt Syntax.w16)) (Syntax.tyRef Syntax.erased Syntax.mut (Syntax.tyInt Syntax.w16)) 5, Path'.refl,
-              ((Yields.yields-copy 𝓤 H A W (λ ρ. Unit) (Declared'.row Form.the-type) Path'.refl (Copies.cStruct Form.the-type Laws.the-laws Laws.the-copy .copy 𝓤 H A W) (Rows'.whole (Declared'.row
-              Form.the-type)) (λ x. x) (λ x. x) (λ ρ told. Local.mem-whole 𝓤 H A W (Declared'.row Form.the-type) ρ) λ ρ told. Local.whole-mem 𝓤 H A W (Declared'.row Form.the-type) ρ, Path'.refl),
-              (ShrRef.spares-sref 𝓤 H A W (Array'.Array (Referent.rtF (Referent.fInt Syntax.w16)) 768) (Syntax.tyRef Syntax.erased Syntax.imm (Syntax.tyArray (Syntax.tyInt Syntax.w16) 768)) 6,
-              Reads'.reads-sref 𝓤 H A W (Array'.Array (Referent.rtF (Referent.fInt Syntax.w16)) 768) (Syntax.tyRef Syntax.erased Syntax.imm (Syntax.tyArray (Syntax.tyInt Syntax.w16) 768)) 6, Path'.refl,
-              ((Array.arr-yields 𝓤 H A W (Array.eInt Syntax.w8) (Array.eInt-laws Syntax.w8) 36, Path'.refl),
-              ((Yields.yields-copy 𝓤 H A W (λ ρ. Unit) (Declared'.row Part.the-type) Path'.refl (Copies.cStruct Part.the-type Laws'3.the-laws Laws'3.the-copy .copy 𝓤 H A W) (Rows'.whole (Declared'.row
-              Part.the-type)) (λ x. x) (λ x. x) (λ ρ told. Local.mem-whole 𝓤 H A W (Declared'.row Part.the-type) ρ) λ ρ told. Local.whole-mem 𝓤 H A W (Declared'.row Part.the-type) ρ, Path'.refl),
-              ((Scalar.reads-sc 𝓤 H A W (Row.sInt Syntax.w64), Path'.refl),
-              (tt,
-              ((Yields.yields-copy 𝓤 H A W (λ ρ. Unit) (Declared'.row Entries.the-type) Path'.refl (Copies.cStruct Entries.the-type Laws''.the-laws Laws''.the-copy .copy 𝓤 H A W) (Rows'.whole
-              (Declared'.row Entries.the-type)) (λ x. x) (λ x. x) (λ ρ told. Local.mem-whole 𝓤 H A W (Declared'.row Entries.the-type) ρ) λ ρ told. Local.whole-mem 𝓤 H A W (Declared'.row Entries.the-type)
-              ρ, Path'.refl), tt)))))))))))) (Reads'.room-gone 𝓤 H A (Syntax.tyEnum (List._∷_ 98 (List._∷_ 108 (List._∷_ 111 (List._∷_ 99 (List._∷_ 107 (List._∷_ 58 (List._∷_ 58 (List._∷_ 87 (List._∷_ 97
+              β. β) G32 (
+                record { pos = 1; ty = Syntax.tyRef (Syntax.named 0) Syntax.imm (Syntax.tyInt Syntax.w8); ref = λ x. x },
+                (
+                  record { pos = 2; ty = Syntax.tyRef (Syntax.named 1) Syntax.imm (Syntax.tyInt Syntax.w8); ref = λ x. x },
+                  (
+                    record { pos = 18; ty = Syntax.tyRef Syntax.erased Syntax.mut (Syntax.tyInt Syntax.w16); ref = λ x. x },
+                    (
+                      record { pos = 20; ty = Syntax.tyRef Syntax.erased Syntax.mut Element.behind; ref = λ x. x },
+                      (
+                        record { pos = 22; ty = Syntax.tyRef Syntax.erased Syntax.mut (Syntax.tyInt Syntax.w16); ref = λ x. x },
+                        (
+                          record { pos = 4; st = List.[]; d = 0; at = λ x. x },
+                          (
+                            record { pos = 23; ty = Syntax.tyRef Syntax.erased Syntax.imm (Syntax.tyArray (Syntax.tyInt Syntax.w16) 768); ref = λ x. x },
+                            (
+                              record { pos = 5; st = List.[]; d = 0; at = λ x. x },
+                              (record { pos = 6; st = List.[]; d = 0; at = λ x. x }, (Num.vAt 7 λ x. x, (Bool.bLit Bool'.false, (record { pos = 24; st = List.[]; d = 0; at = λ x. x }, tt)))),
+                            ),
+                          ),
+                        ),
+                      ),
+                    ),
+                  ),
+                ),
+              ) 0 (List._∷_ 0
+              (List._∷_ 1 (List._∷_ 3 (List._∷_ 4 (List._∷_ 5 (List._∷_ 6 List.[])))))) (Call.sub-id 𝓤 H A W (G32 .slots)) (
+                ShrSlice.spares-sslice 𝓤 H A W (Referent.rtF (Referent.fInt Syntax.w8)) (Syntax.tyRef (Syntax.named 0) Syntax.imm (Syntax.tyInt Syntax.w8)) 0,
+                Shared.reads-sslice 𝓤 H A W (Referent.rtF
+                    (Referent.fInt Syntax.w8)) (Syntax.tyRef (Syntax.named 0) Syntax.imm (Syntax.tyInt Syntax.w8)) 0,
+                Path'.refl,
+                (
+                  ShrSlice.spares-sslice 𝓤 H A W (Referent.rtF (Referent.fInt Syntax.w8)) (Syntax.tyRef (Syntax.named 1) Syntax.imm (Syntax.tyInt Syntax.w8)) 1,
+                  Shared.reads-sslice 𝓤 H A W (Referent.rtF
+                      (Referent.fInt Syntax.w8)) (Syntax.tyRef (Syntax.named 1) Syntax.imm (Syntax.tyInt Syntax.w8)) 1,
+                  Path'.refl,
+                  (
+                    Reads'.as-is 𝓤 H A (Mut.mslice (Referent.rtF (Referent.fInt Syntax.w16)) (Syntax.tyRef Syntax.erased Syntax.mut (Syntax.tyInt Syntax.w16)) 3),
+                    Mut.reads-mslice 𝓤 H A W (Referent.rtF
+                        (Referent.fInt Syntax.w16)) (Syntax.tyRef Syntax.erased Syntax.mut (Syntax.tyInt Syntax.w16)) 3,
+                    Path'.refl,
+                    (
+                      Reads'.as-is 𝓤 H A (Mut.mslice (Element.type) (Syntax.tyRef Syntax.erased Syntax.mut Element.behind) 4),
+                      Mut.reads-mslice 𝓤 H A W (Element.type) (Syntax.tyRef Syntax.erased Syntax.mut
+                          Element.behind) 4,
+                      Path'.refl,
+                      (
+                        Reads'.as-is 𝓤 H A (Mut.mslice (Referent.rtF (Referent.fInt Syntax.w16)) (Syntax.tyRef Syntax.erased Syntax.mut (Syntax.tyInt Syntax.w16)) 5),
+                        Mut.reads-mslice 𝓤 H A W (Referent.rtF
+                            (Referent.fInt Syntax.w16)) (Syntax.tyRef Syntax.erased Syntax.mut (Syntax.tyInt Syntax.w16)) 5,
+                        Path'.refl,
+                        (
+                          (
+                            Yields.yields-copy 𝓤 H A W (λ ρ. Unit) (Declared'.row Form.the-type) Path'.refl (Copies.cStruct Form.the-type Laws.the-laws Laws.the-copy .copy 𝓤 H A W) (Rows'.whole (Declared'.row
+                                Form.the-type)) (λ x. x) (λ x. x) (λ ρ told. Local.mem-whole 𝓤 H A W (Declared'.row Form.the-type) ρ) λ ρ told. Local.whole-mem 𝓤 H A W (Declared'.row Form.the-type) ρ,
+                            Path'.refl,
+                          ),
+                          (
+                            ShrRef.spares-sref 𝓤 H A W (Array'.Array (Referent.rtF (Referent.fInt Syntax.w16)) 768) (Syntax.tyRef Syntax.erased Syntax.imm (Syntax.tyArray (Syntax.tyInt Syntax.w16) 768)) 6,
+                            Reads'.reads-sref 𝓤 H A W (Array'.Array (Referent.rtF (Referent.fInt Syntax.w16)) 768) (Syntax.tyRef Syntax.erased Syntax.imm (Syntax.tyArray (Syntax.tyInt Syntax.w16) 768)) 6,
+                            Path'.refl,
+                            (
+                              (Array.arr-yields 𝓤 H A W (Array.eInt Syntax.w8) (Array.eInt-laws Syntax.w8) 36, Path'.refl),
+                              (
+                                (
+                                  Yields.yields-copy 𝓤 H A W (λ ρ. Unit) (Declared'.row Part.the-type) Path'.refl (Copies.cStruct Part.the-type Laws'3.the-laws Laws'3.the-copy .copy 𝓤 H A W) (Rows'.whole (Declared'.row
+                                      Part.the-type)) (λ x. x) (λ x. x) (λ ρ told. Local.mem-whole 𝓤 H A W (Declared'.row Part.the-type) ρ) λ ρ told. Local.whole-mem 𝓤 H A W (Declared'.row Part.the-type) ρ,
+                                  Path'.refl,
+                                ),
+                                (
+                                  (Scalar.reads-sc 𝓤 H A W (Row.sInt Syntax.w64), Path'.refl),
+                                  (
+                                    tt,
+                                    (
+                                      (
+                                        Yields.yields-copy 𝓤 H A W (λ ρ. Unit) (Declared'.row Entries.the-type) Path'.refl (Copies.cStruct Entries.the-type Laws''.the-laws Laws''.the-copy .copy 𝓤 H A W) (Rows'.whole
+                                            (Declared'.row Entries.the-type)) (λ x. x) (λ x. x) (λ ρ told. Local.mem-whole 𝓤 H A W (Declared'.row Entries.the-type) ρ) λ ρ told. Local.whole-mem 𝓤 H A W (Declared'.row Entries.the-type)
+                                            ρ,
+                                        Path'.refl,
+                                      ),
+                                      tt,
+                                    ),
+                                  ),
+                                ),
+                              ),
+                            ),
+                          ),
+                        ),
+                      ),
+                    ),
+                  ),
+                ),
+              ) (Reads'.room-gone 𝓤 H A (Syntax.tyEnum (List._∷_ 98 (List._∷_ 108 (List._∷_ 111 (List._∷_ 99 (List._∷_ 107 (List._∷_ 58 (List._∷_ 58 (List._∷_ 87 (List._∷_ 97
               (List._∷_ 108 (List._∷_ 107 (List._∷_ 101 (List._∷_ 100 List.[]))))))))))))) (Syntax.ttcons (Syntax.tcons y2 (Syntax.tcons y6 Syntax.tnil)) (Syntax.ttcons (Syntax.tcons (Syntax.tyInt
               Syntax.w64) (Syntax.tcons y2 Syntax.tnil)) Syntax.ttnil)))) (tt, (tt, (tt, (tt, (tt, (tt, tt)))))) Path'.refl) d23
 
@@ -1625,9 +1919,11 @@ module _ (claims· : Claims) where
           d28 = Typed.s-seq 𝓤 H A W 𝓣 E G28 G29 b14 b21 Δ0 (Typed.ask (s27 bs)) (at27 bs) (Relend.t-sl-aggregate 𝓤 H A W E (Referent.rtF (Referent.fInt Syntax.w16)) 𝓣 (Relend.asMut (Referent.rtF
               (Referent.fInt Syntax.w16))) G28 21 22 5 (Syntax.tyRef Syntax.erased Syntax.mut (Syntax.tyInt Syntax.w16)) (Syntax.tyRef Syntax.erased Syntax.mut (Syntax.tyInt Syntax.w16)) (λ x. x)
               (Scalar.oFld 3 (List._∷_ (Syntax.field 1) List.[]) (Syntax.tyInt Syntax.w64) 8 λ v. Shared.lenV (v .0)) (Reads'.as-is 𝓤 H A (Relend.msptr (Referent.rtF (Referent.fInt Syntax.w16))
-              (Syntax.tyRef Syntax.erased Syntax.mut (Syntax.tyInt Syntax.w16)) 5)) (Reads'.room-gone 𝓤 H A y3)
-              (Relend.reads-owed-len 𝓤 H A W (Referent.rtF (Referent.fInt Syntax.w16)) (Syntax.tyRef (Syntax.named 2) Syntax.mut (Syntax.tyInt Syntax.w16)) 2 5 (Row.lease (κs .1 .1 .0) (qs .1 .1 .0)) 8
-              Path'.refl, Path'.refl) Path'.refl Path'.refl λ b o k. tt) d27
+              (Syntax.tyRef Syntax.erased Syntax.mut (Syntax.tyInt Syntax.w16)) 5)) (Reads'.room-gone 𝓤 H A y3) (
+                Relend.reads-owed-len 𝓤 H A W (Referent.rtF (Referent.fInt Syntax.w16)) (Syntax.tyRef (Syntax.named 2) Syntax.mut (Syntax.tyInt Syntax.w16)) 2 5 (Row.lease (κs .1 .1 .0) (qs .1 .1 .0)) 8
+                    Path'.refl,
+                Path'.refl,
+              ) Path'.refl Path'.refl λ b o k. tt) d27
 
           d29 : Typed.Typed 𝓤 H A 𝓣 E G27 b23 Δ0 (at29 bs)
           d29 = Typed.s-seq 𝓤 H A W 𝓣 E G27 G28 b13 b22 Δ0 (Typed.give (s26 bs)) (at28 bs) (Relend.t-sl-relend 𝓤 H A W E (Referent.rtF (Referent.fInt Syntax.w16)) 𝓣 G27 3 21 2 5 (Syntax.tyRef
@@ -1766,17 +2062,43 @@ module _ (claims· : Claims) where
           pub block : Kinds.Den {n = 3} κs (ShrSlice.pShrS (Referent.rtF (Referent.fInt Syntax.w8)) 0 tt)
           pub bases : Kinds.Den {n = 3} κs (ShrSlice.pShrS (Referent.rtF (Referent.fInt Syntax.w8)) 1 tt)
           pub image : Kinds.Den {n = 3} κs (MutSlice.pMutS (Referent.rtF (Referent.fInt Syntax.w16)) 2 tt)
-          pub form : Kinds.Den {n = 3} κs (Value.pVal record
-              { ty = Declared'.row Form.the-type; one = Path'.refl; val = Laws'5.val Form.the-type Laws.the-laws; tells = Laws'5.tells Form.the-type Laws.the-laws; still = Laws'5.still Form.the-type
-              Laws.the-copy Exit.yes; row = Rows'.whole (Declared'.row Form.the-type); rd = λ x. x; mk = λ x. x; } λ M 𝓤 H A W. record
-              { copies = Laws'5.copy Form.the-type Laws.the-copy 𝓤 H A W; lawful = Laws'5.lawful Form.the-type Laws.the-laws 𝓤 H A W; makes = Laws'5.makes Form.the-type Laws.the-plain 𝓤 H A; in-mem =
-              Local.mem-whole 𝓤 H A W (Declared'.row Form.the-type); of-mem = Local.whole-mem 𝓤 H A W (Declared'.row Form.the-type); })
+          pub form : Kinds.Den {n = 3} κs (Value.pVal record {
+            ty = Declared'.row Form.the-type;
+            one = Path'.refl;
+            val = Laws'5.val Form.the-type Laws.the-laws;
+            tells = Laws'5.tells Form.the-type Laws.the-laws;
+            still = Laws'5.still Form.the-type
+                Laws.the-copy Exit.yes;
+            row = Rows'.whole (Declared'.row Form.the-type);
+            rd = λ x. x;
+            mk = λ x. x;
+          } λ M 𝓤 H A W. record {
+            copies = Laws'5.copy Form.the-type Laws.the-copy 𝓤 H A W;
+            lawful = Laws'5.lawful Form.the-type Laws.the-laws 𝓤 H A W;
+            makes = Laws'5.makes Form.the-type Laws.the-plain 𝓤 H A;
+            in-mem =
+                Local.mem-whole 𝓤 H A W (Declared'.row Form.the-type);
+            of-mem = Local.whole-mem 𝓤 H A W (Declared'.row Form.the-type);
+          })
           pub tile : Kinds.Den {n = 3} κs (Array.pArr (Array.eInt Syntax.w8) (Array.eInt-laws Syntax.w8) 36)
-          pub part : Kinds.Den {n = 3} κs (Value.pVal record
-              { ty = Declared'.row Part.the-type; one = Path'.refl; val = Laws'5.val Part.the-type Laws'3.the-laws; tells = Laws'5.tells Part.the-type Laws'3.the-laws; still = Laws'5.still Part.the-type
-              Laws'3.the-copy Exit.yes; row = Rows'.whole (Declared'.row Part.the-type); rd = λ x. x; mk = λ x. x; } λ M 𝓤 H A W. record
-              { copies = Laws'5.copy Part.the-type Laws'3.the-copy 𝓤 H A W; lawful = Laws'5.lawful Part.the-type Laws'3.the-laws 𝓤 H A W; makes = Laws'5.makes Part.the-type Laws'3.the-plain 𝓤 H A; in-mem
-              = Local.mem-whole 𝓤 H A W (Declared'.row Part.the-type); of-mem = Local.whole-mem 𝓤 H A W (Declared'.row Part.the-type); })
+          pub part : Kinds.Den {n = 3} κs (Value.pVal record {
+            ty = Declared'.row Part.the-type;
+            one = Path'.refl;
+            val = Laws'5.val Part.the-type Laws'3.the-laws;
+            tells = Laws'5.tells Part.the-type Laws'3.the-laws;
+            still = Laws'5.still Part.the-type
+                Laws'3.the-copy Exit.yes;
+            row = Rows'.whole (Declared'.row Part.the-type);
+            rd = λ x. x;
+            mk = λ x. x;
+          } λ M 𝓤 H A W. record {
+            copies = Laws'5.copy Part.the-type Laws'3.the-copy 𝓤 H A W;
+            lawful = Laws'5.lawful Part.the-type Laws'3.the-laws 𝓤 H A W;
+            makes = Laws'5.makes Part.the-type Laws'3.the-plain 𝓤 H A;
+            in-mem
+                = Local.mem-whole 𝓤 H A W (Declared'.row Part.the-type);
+            of-mem = Local.whole-mem 𝓤 H A W (Declared'.row Part.the-type);
+          })
           pub count : Kinds.Den {n = 3} κs (Num.pNum Syntax.w64)
 
         abbrev pub dens : (a : Args) → Kinds.Dens κs ps
@@ -1790,9 +2112,12 @@ module _ (claims· : Claims) where
       m0 = λ κs args blocks. (tt, Enter.partsP κs 1 ps xs (dens κs args))
 
       abbrev W0 : (κs : Lifetimes.Lfts 3) → (args : Args κs) → (blocks : List.List Nat.ℕ) → Typed.Want O0
-      W0 = λ κs args blocks.
-          (λ u. ⊥, tt, λ u. Enter.Fixs κs 1 ps xs (dens κs args) (u .1) × Post· κs (dens κs args) (Function.resV r κs (u .0)) (Clauses.atExit (Kinds.endedOf 3 ps r) κs (dens κs args) (Enter.lastsP κs 1 ps
-          xs (dens κs args) (u .1))))
+      W0 = λ κs args blocks. (
+        λ u. ⊥,
+        tt,
+        λ u. Enter.Fixs κs 1 ps xs (dens κs args) (u .1) × Post· κs (dens κs args) (Function.resV r κs (u .0)) (Clauses.atExit (Kinds.endedOf 3 ps r) κs (dens κs args) (Enter.lastsP κs 1 ps
+            xs (dens κs args) (u .1))),
+      )
 
       pub record Start : Type 0 where
         pub κs : Lifetimes.Lfts 3
@@ -1929,7 +2254,7 @@ module _ (claims· : Claims) where
       Need-part-lines-start = (c : After-samples-needed) → PartAt.PartFrom T18 (λ u. 0) (λ u. u .1 .1 .1 .1 .1 .1 .1 .1 .1 .1 .1 .0) (m17 (c .before) (After-samples-needed·gave c))
 
       abbrev pub Need-part-lines-end : Type 0
-      Need-part-lines-end = (c : After-samples-needed) → PartAt.PartTo T18 9 15 (λ x. record { ptr = (0, 0); name = 0; now = x; }) (λ u. u .1 .1 .1 .1 .1 .1 .1 .1 .1 .1 .1 .0) (m17 (c .before)
+      Need-part-lines-end = (c : After-samples-needed) → PartAt.PartTo T18 9 15 (λ x. record { ptr = (0, 0); name = 0; now = x }) (λ u. u .1 .1 .1 .1 .1 .1 .1 .1 .1 .1 .1 .0) (m17 (c .before)
           (After-samples-needed·gave c))
 
       abbrev pub m18 : (before : After-samples-needed) → (given : s18 (before .before .before .before .before .before .before .blocks) .gives (m17 (before .before) (After-samples-needed·gave before)))
@@ -2033,16 +2358,31 @@ module _ (claims· : Claims) where
 
       module _ (before· : After-no-entries) where
         abbrev pub After-walk·own : Type 0
-        After-walk·own = Called.Called ps·4 r·4 (claims· .9) T32
-            (record { pos = 1; ty = Syntax.tyRef (Syntax.named 0) Syntax.imm (Syntax.tyInt Syntax.w8); ref = λ x. x; },
-            (record { pos = 2; ty = Syntax.tyRef (Syntax.named 1) Syntax.imm (Syntax.tyInt Syntax.w8); ref = λ x. x; },
-            (record { pos = 18; ty = Syntax.tyRef Syntax.erased Syntax.mut (Syntax.tyInt Syntax.w16); ref = λ x. x; },
-            (record { pos = 20; ty = Syntax.tyRef Syntax.erased Syntax.mut Element.behind; ref = λ x. x; },
-            (record { pos = 22; ty = Syntax.tyRef Syntax.erased Syntax.mut (Syntax.tyInt Syntax.w16); ref = λ x. x; },
-            (record { pos = 4; st = List.[]; d = 0; at = λ x. x },
-            (record { pos = 23; ty = Syntax.tyRef Syntax.erased Syntax.imm (Syntax.tyArray (Syntax.tyInt Syntax.w16) 768); ref = λ x. x; },
-            (record { pos = 5; st = List.[]; d = 0; at = λ x. x },
-            (record { pos = 6; st = List.[]; d = 0; at = λ x. x }, (Num.vAt 7 λ x. x, (Bool.bLit Bool'.false, (record { pos = 24; st = List.[]; d = 0; at = λ x. x }, tt)))))))))))) (m27 (before· .before)
+        After-walk·own = Called.Called ps·4 r·4 (claims· .9) T32 (
+          record { pos = 1; ty = Syntax.tyRef (Syntax.named 0) Syntax.imm (Syntax.tyInt Syntax.w8); ref = λ x. x },
+          (
+            record { pos = 2; ty = Syntax.tyRef (Syntax.named 1) Syntax.imm (Syntax.tyInt Syntax.w8); ref = λ x. x },
+            (
+              record { pos = 18; ty = Syntax.tyRef Syntax.erased Syntax.mut (Syntax.tyInt Syntax.w16); ref = λ x. x },
+              (
+                record { pos = 20; ty = Syntax.tyRef Syntax.erased Syntax.mut Element.behind; ref = λ x. x },
+                (
+                  record { pos = 22; ty = Syntax.tyRef Syntax.erased Syntax.mut (Syntax.tyInt Syntax.w16); ref = λ x. x },
+                  (
+                    record { pos = 4; st = List.[]; d = 0; at = λ x. x },
+                    (
+                      record { pos = 23; ty = Syntax.tyRef Syntax.erased Syntax.imm (Syntax.tyArray (Syntax.tyInt Syntax.w16) 768); ref = λ x. x },
+                      (
+                        record { pos = 5; st = List.[]; d = 0; at = λ x. x },
+                        (record { pos = 6; st = List.[]; d = 0; at = λ x. x }, (Num.vAt 7 λ x. x, (Bool.bLit Bool'.false, (record { pos = 24; st = List.[]; d = 0; at = λ x. x }, tt)))),
+                      ),
+                    ),
+                  ),
+                ),
+              ),
+            ),
+          ),
+        ) (m27 (before· .before)
             (After-no-entries·gave before·))
 
       pub record After-walk : Type 0 where
@@ -2051,16 +2391,31 @@ module _ (claims· : Claims) where
 
       abbrev pub After-walk·gave : (c : After-walk) → s31 (c .before .before .before .before .before .before .before .before .before .before .before .before .blocks) .gives (m27 (c .before .before)
           (After-no-entries·gave (c .before)))
-      After-walk·gave = λ c. Called.given ps·4 r·4 (claims· .9) T32
-          (record { pos = 1; ty = Syntax.tyRef (Syntax.named 0) Syntax.imm (Syntax.tyInt Syntax.w8); ref = λ x. x; },
-          (record { pos = 2; ty = Syntax.tyRef (Syntax.named 1) Syntax.imm (Syntax.tyInt Syntax.w8); ref = λ x. x; },
-          (record { pos = 18; ty = Syntax.tyRef Syntax.erased Syntax.mut (Syntax.tyInt Syntax.w16); ref = λ x. x; },
-          (record { pos = 20; ty = Syntax.tyRef Syntax.erased Syntax.mut Element.behind; ref = λ x. x; },
-          (record { pos = 22; ty = Syntax.tyRef Syntax.erased Syntax.mut (Syntax.tyInt Syntax.w16); ref = λ x. x; },
-          (record { pos = 4; st = List.[]; d = 0; at = λ x. x },
-          (record { pos = 23; ty = Syntax.tyRef Syntax.erased Syntax.imm (Syntax.tyArray (Syntax.tyInt Syntax.w16) 768); ref = λ x. x; },
-          (record { pos = 5; st = List.[]; d = 0; at = λ x. x },
-          (record { pos = 6; st = List.[]; d = 0; at = λ x. x }, (Num.vAt 7 λ x. x, (Bool.bLit Bool'.false, (record { pos = 24; st = List.[]; d = 0; at = λ x. x }, tt)))))))))))) (m27 (c .before .before)
+      After-walk·gave = λ c. Called.given ps·4 r·4 (claims· .9) T32 (
+        record { pos = 1; ty = Syntax.tyRef (Syntax.named 0) Syntax.imm (Syntax.tyInt Syntax.w8); ref = λ x. x },
+        (
+          record { pos = 2; ty = Syntax.tyRef (Syntax.named 1) Syntax.imm (Syntax.tyInt Syntax.w8); ref = λ x. x },
+          (
+            record { pos = 18; ty = Syntax.tyRef Syntax.erased Syntax.mut (Syntax.tyInt Syntax.w16); ref = λ x. x },
+            (
+              record { pos = 20; ty = Syntax.tyRef Syntax.erased Syntax.mut Element.behind; ref = λ x. x },
+              (
+                record { pos = 22; ty = Syntax.tyRef Syntax.erased Syntax.mut (Syntax.tyInt Syntax.w16); ref = λ x. x },
+                (
+                  record { pos = 4; st = List.[]; d = 0; at = λ x. x },
+                  (
+                    record { pos = 23; ty = Syntax.tyRef Syntax.erased Syntax.imm (Syntax.tyArray (Syntax.tyInt Syntax.w16) 768); ref = λ x. x },
+                    (
+                      record { pos = 5; st = List.[]; d = 0; at = λ x. x },
+                      (record { pos = 6; st = List.[]; d = 0; at = λ x. x }, (Num.vAt 7 λ x. x, (Bool.bLit Bool'.false, (record { pos = 24; st = List.[]; d = 0; at = λ x. x }, tt)))),
+                    ),
+                  ),
+                ),
+              ),
+            ),
+          ),
+        ),
+      ) (m27 (c .before .before)
           (After-no-entries·gave (c .before))) (c .walk)
 
       abbrev pub m29 : (before : After-no-entries) → (given : s31 (before .before .before .before .before .before .before .before .before .before .before .before .blocks) .gives (m27 (before .before)
@@ -2184,96 +2539,184 @@ module _ (claims· : Claims) where
         lay5 : (c : After-walk) → at23 (c .before .before .before .before .before .before .before .before .before .before .before .before .blocks) (W0 (c .before .before .before .before .before
             .before .before .before .before .before .before .before .κs) (c .before .before .before .before .before .before .before .before .before .before .before .before .args) (c .before .before
             .before .before .before .before .before .before .before .before .before .before .blocks)) (m28 (c .before) (After-walk·gave c))
-        lay5 = λ c.
-            (Path'.refl, λ g.
-            (Path'.refl, λ g'.
-            (Path'.refl, λ g''. λ g'3.
-            ((Path'.refl,
-            (Path'.refl,
-            (MutSlice.fix-len (Row.get 3 (T56 .locals) (m43 record
-            { before = record { before = record { before = record { before = c .before; walk = c .walk }; lines2 = record { given = g }; }; rs2 = record { given = g' }; }; image = record { given = g'' };
-            } g'3) .ptr) (Row.get 3 (T56 .locals) (m43 record
-            { before = record { before = record { before = record { before = c .before; walk = c .walk }; lines2 = record { given = g }; }; rs2 = record { given = g' }; }; image = record { given = g'' };
-            } g'3) .name) (Row.get 3 (T56 .locals) (m43 record
-            { before = record { before = record { before = record { before = c .before; walk = c .walk }; lines2 = record { given = g }; }; rs2 = record { given = g' }; }; image = record { given = g'' };
-            } g'3) .now) (dens (c .before .before .before .before .before .before .before .before .before .before .before .before .κs) (c .before .before .before .before .before .before .before .before
-            .before .before .before .before .args) .1 .1 .0 .now) (same-length record
-            { before = record
-            { before = record { before = record { before = record { before = c .before; walk = c .walk }; lines2 = record { given = g }; }; rs2 = record { given = g' }; }; image = record { given = g'' };
-            }; slice-known2 = record { given = g'3 }; }), (tt, (tt, (tt, (tt, tt))))))), returns record
-            { before = record
-            { before = record { before = record { before = record { before = c .before; walk = c .walk }; lines2 = record { given = g }; }; rs2 = record { given = g' }; }; image = record { given = g'' };
-            }; slice-known2 = record { given = g'3 }; }))))
+        lay5 = λ c. (
+          Path'.refl,
+          λ g. (
+            Path'.refl,
+            λ g'. (
+              Path'.refl,
+              λ g''. λ g'3. (
+                (
+                  Path'.refl,
+                  (
+                    Path'.refl,
+                    (
+                      MutSlice.fix-len (Row.get 3 (T56 .locals) (m43 record {
+                        before = record { before = record { before = record { before = c .before; walk = c .walk }; lines2 = record { given = g } }; rs2 = record { given = g' } };
+                        image = record { given = g'' };
+                      } g'3) .ptr) (Row.get 3 (T56 .locals) (m43 record {
+                        before = record { before = record { before = record { before = c .before; walk = c .walk }; lines2 = record { given = g } }; rs2 = record { given = g' } };
+                        image = record { given = g'' };
+                      } g'3) .name) (Row.get 3 (T56 .locals) (m43 record {
+                        before = record { before = record { before = record { before = c .before; walk = c .walk }; lines2 = record { given = g } }; rs2 = record { given = g' } };
+                        image = record { given = g'' };
+                      } g'3) .now) (dens (c .before .before .before .before .before .before .before .before .before .before .before .before .κs) (c .before .before .before .before .before .before .before .before
+                          .before .before .before .before .args) .1 .1 .0 .now) (same-length record {
+                            before = record {
+                              before = record { before = record { before = record { before = c .before; walk = c .walk }; lines2 = record { given = g } }; rs2 = record { given = g' } };
+                              image = record { given = g'' };
+                            };
+                            slice-known2 = record { given = g'3 };
+                          }),
+                      (tt, (tt, (tt, (tt, tt)))),
+                    ),
+                  ),
+                ),
+                returns record {
+                  before = record {
+                    before = record { before = record { before = record { before = c .before; walk = c .walk }; lines2 = record { given = g } }; rs2 = record { given = g' } };
+                    image = record { given = g'' };
+                  };
+                  slice-known2 = record { given = g'3 };
+                },
+              ),
+            ),
+          ),
+        )
 
         lay4 : (c : After-no-entries) → at24 (c .before .before .before .before .before .before .before .before .before .before .before .blocks) (W0 (c .before .before .before .before .before .before
             .before .before .before .before .before .κs) (c .before .before .before .before .before .before .before .before .before .before .before .args) (c .before .before .before .before .before
             .before .before .before .before .before .before .blocks)) (m27 (c .before) (After-no-entries·gave c))
-        lay4 = λ c.
-            (walk-requires record { before = c .before; no-entries = c .no-entries }, λ g. lay5 record
-            { before = record { before = c .before; no-entries = c .no-entries }; walk = Called.called ps·4 r·4 (claims· .9) T32
-            (record { pos = 1; ty = Syntax.tyRef (Syntax.named 0) Syntax.imm (Syntax.tyInt Syntax.w8); ref = λ x. x; },
-            (record { pos = 2; ty = Syntax.tyRef (Syntax.named 1) Syntax.imm (Syntax.tyInt Syntax.w8); ref = λ x. x; },
-            (record { pos = 18; ty = Syntax.tyRef Syntax.erased Syntax.mut (Syntax.tyInt Syntax.w16); ref = λ x. x; },
-            (record { pos = 20; ty = Syntax.tyRef Syntax.erased Syntax.mut Element.behind; ref = λ x. x; },
-            (record { pos = 22; ty = Syntax.tyRef Syntax.erased Syntax.mut (Syntax.tyInt Syntax.w16); ref = λ x. x; },
-            (record { pos = 4; st = List.[]; d = 0; at = λ x. x },
-            (record { pos = 23; ty = Syntax.tyRef Syntax.erased Syntax.imm (Syntax.tyArray (Syntax.tyInt Syntax.w16) 768); ref = λ x. x; },
-            (record { pos = 5; st = List.[]; d = 0; at = λ x. x },
-            (record { pos = 6; st = List.[]; d = 0; at = λ x. x }, (Num.vAt 7 λ x. x, (Bool.bLit Bool'.false, (record { pos = 24; st = List.[]; d = 0; at = λ x. x }, tt)))))))))))) (m27 (c .before)
-            (After-no-entries·gave c)) g; })
+        lay4 = λ c. (
+          walk-requires record { before = c .before; no-entries = c .no-entries },
+          λ g. lay5 record {
+            before = record { before = c .before; no-entries = c .no-entries };
+            walk = Called.called ps·4 r·4 (claims· .9) T32 (
+              record { pos = 1; ty = Syntax.tyRef (Syntax.named 0) Syntax.imm (Syntax.tyInt Syntax.w8); ref = λ x. x },
+              (
+                record { pos = 2; ty = Syntax.tyRef (Syntax.named 1) Syntax.imm (Syntax.tyInt Syntax.w8); ref = λ x. x },
+                (
+                  record { pos = 18; ty = Syntax.tyRef Syntax.erased Syntax.mut (Syntax.tyInt Syntax.w16); ref = λ x. x },
+                  (
+                    record { pos = 20; ty = Syntax.tyRef Syntax.erased Syntax.mut Element.behind; ref = λ x. x },
+                    (
+                      record { pos = 22; ty = Syntax.tyRef Syntax.erased Syntax.mut (Syntax.tyInt Syntax.w16); ref = λ x. x },
+                      (
+                        record { pos = 4; st = List.[]; d = 0; at = λ x. x },
+                        (
+                          record { pos = 23; ty = Syntax.tyRef Syntax.erased Syntax.imm (Syntax.tyArray (Syntax.tyInt Syntax.w16) 768); ref = λ x. x },
+                          (
+                            record { pos = 5; st = List.[]; d = 0; at = λ x. x },
+                            (record { pos = 6; st = List.[]; d = 0; at = λ x. x }, (Num.vAt 7 λ x. x, (Bool.bLit Bool'.false, (record { pos = 24; st = List.[]; d = 0; at = λ x. x }, tt)))),
+                          ),
+                        ),
+                      ),
+                    ),
+                  ),
+                ),
+              ),
+            ) (m27 (c .before)
+                (After-no-entries·gave c)) g;
+          },
+        )
 
         lay3 : (c : After-samples-needed) → at42 (c .before .before .before .before .before .before .blocks) (W0 (c .before .before .before .before .before .before .κs) (c .before .before .before
             .before .before .before .args) (c .before .before .before .before .before .before .blocks)) (m13 (c .before) (After-samples-needed·gave c))
-        lay3 = λ c.
-            (tt,
-            (sub-walk record { before = c .before; samples-needed = c .samples-needed },
-            ((Path'.refl, Path'.refl, part-lines-start record { before = c .before; samples-needed = c .samples-needed; }, part-lines-end record
-            { before = c .before; samples-needed = c .samples-needed }), λ g.
-            (Relend.count-is T21 17 18 (λ x. x) (λ u. u .1 .1 .1 .1 .1 .1 .1 .1 .1 .1 .1 .1 .1 .1 .1 .1 .0) (m19 record { before = c .before; samples-needed = c .samples-needed } g) (g .1), λ g'.
-            (Relend.count-is T25 19 20 (λ x. x) (λ u. 336) (m22 record { before = record { before = c .before; samples-needed = c .samples-needed }; lines = record { given = g }; } g')
-            (slice-aggregate-walk record { before = record { before = record { before = c .before; samples-needed = c .samples-needed }; lines = record { given = g }; }; rs = record { given = g' }; }), λ
-            g''.
-            (Path'.refl, λ g'3.
-            (no-entries-requires record
-            { before = record
-            { before = record { before = record { before = record { before = c .before; samples-needed = c .samples-needed; }; lines = record { given = g }; }; rs = record { given = g' }; }; walk-arg =
-            record { given = g'' }; }; places = record { given = g'3 }; }, λ g'4. lay4 record
-            { before = record
-            { before = record
-            { before = record { before = record { before = record { before = c .before; samples-needed = c .samples-needed; }; lines = record { given = g }; }; rs = record { given = g' }; }; walk-arg =
-            record { given = g'' }; }; places = record { given = g'3 }; }; no-entries = Called.called ps·3 r·3 (claims· .7) T31 tt (m26 record
-            { before = record { before = record { before = record { before = c .before; samples-needed = c .samples-needed; }; lines = record { given = g }; }; rs = record { given = g' }; }; walk-arg =
-            record { given = g'' }; } g'3) g'4; })))))))
+        lay3 = λ c. (
+          tt,
+          (
+            sub-walk record { before = c .before; samples-needed = c .samples-needed },
+            (
+              (
+                Path'.refl,
+                Path'.refl,
+                part-lines-start record { before = c .before; samples-needed = c .samples-needed },
+                part-lines-end record
+                    { before = c .before; samples-needed = c .samples-needed },
+              ),
+              λ g. (
+                Relend.count-is T21 17 18 (λ x. x) (λ u. u .1 .1 .1 .1 .1 .1 .1 .1 .1 .1 .1 .1 .1 .1 .1 .1 .0) (m19 record { before = c .before; samples-needed = c .samples-needed } g) (g .1),
+                λ g'. (
+                  Relend.count-is T25 19 20 (λ x. x) (λ u. 336) (m22 record { before = record { before = c .before; samples-needed = c .samples-needed }; lines = record { given = g } } g')
+                      (slice-aggregate-walk record { before = record { before = record { before = c .before; samples-needed = c .samples-needed }; lines = record { given = g } }; rs = record { given = g' } }),
+                  λ
+                      g''. (
+                        Path'.refl,
+                        λ g'3. (
+                          no-entries-requires record {
+                            before = record {
+                              before = record { before = record { before = record { before = c .before; samples-needed = c .samples-needed }; lines = record { given = g } }; rs = record { given = g' } };
+                              walk-arg =
+                                  record { given = g'' };
+                            };
+                            places = record { given = g'3 };
+                          },
+                          λ g'4. lay4 record {
+                            before = record {
+                              before = record {
+                                before = record { before = record { before = record { before = c .before; samples-needed = c .samples-needed }; lines = record { given = g } }; rs = record { given = g' } };
+                                walk-arg =
+                                    record { given = g'' };
+                              };
+                              places = record { given = g'3 };
+                            };
+                            no-entries = Called.called ps·3 r·3 (claims· .7) T31 tt (m26 record {
+                              before = record { before = record { before = record { before = c .before; samples-needed = c .samples-needed }; lines = record { given = g } }; rs = record { given = g' } };
+                              walk-arg =
+                                  record { given = g'' };
+                            } g'3) g'4;
+                          },
+                        ),
+                      ),
+                ),
+              ),
+            ),
+          ),
+        )
 
         lay2 : (c : After-cleared) → at46 (c .before .before .before .before .before .blocks) (W0 (c .before .before .before .before .before .κs) (c .before .before .before .before .before .args) (c
             .before .before .before .before .before .blocks)) (m9 (c .before) (After-cleared·gave c))
-        lay2 = λ c.
-            (samples-needed-requires record { before = c .before; cleared = c .cleared }, λ g. lay3 record
-            { before = record { before = c .before; cleared = c .cleared }; samples-needed = Called.called ps·2 r·2 (claims· .5) T13
-            (Bool.bFld 4 (List._∷_ (Syntax.field 1) List.[]) 4 λ x. Form.struct .as-values x .1 .0, tt) (m12 (c .before) (After-cleared·gave c)) g; })
+        lay2 = λ c. (
+          samples-needed-requires record { before = c .before; cleared = c .cleared },
+          λ g. lay3 record {
+            before = record { before = c .before; cleared = c .cleared };
+            samples-needed = Called.called ps·2 r·2 (claims· .5) T13
+                (Bool.bFld 4 (List._∷_ (Syntax.field 1) List.[]) 4 λ x. Form.struct .as-values x .1 .0, tt) (m12 (c .before) (After-cleared·gave c)) g;
+          },
+        )
 
         lay1 : (c : After-xtrans-places) → at51 (c .before .before .before .before .blocks) (W0 (c .before .before .before .before .κs) (c .before .before .before .before .args) (c .before .before
             .before .before .blocks)) (m4 (c .before) (After-xtrans-places·gave c))
-        lay1 = λ c.
-            (cleared-requires record { before = c .before; xtrans-places = c .xtrans-places }, λ g. lay2 record
-            { before = record { before = c .before; xtrans-places = c .xtrans-places }; cleared = Called.called ps·1 r·1 (claims· .3) T9 tt (m8 (c .before) (After-xtrans-places·gave c)) g; })
+        lay1 = λ c. (
+          cleared-requires record { before = c .before; xtrans-places = c .xtrans-places },
+          λ g. lay2 record
+              { before = record { before = c .before; xtrans-places = c .xtrans-places }; cleared = Called.called ps·1 r·1 (claims· .3) T9 tt (m8 (c .before) (After-xtrans-places·gave c)) g },
+        )
 
         pub laid : (c : Start) → at55 (c .blocks) (W0 (c .κs) (c .args) (c .blocks)) (m0 (c .κs) (c .args) (c .blocks))
-        laid = λ c. λ g. λ g'. λ g''.
-            (xtrans-places-requires record
-            { before = record { before = record { before = c; shared-slice-known = record { given = g } }; shared-slice-known2 = record { given = g' }; }; slice-known = record { given = g'' }; }, λ g'3.
-            lay1 record
-            { before = record
-            { before = record { before = record { before = c; shared-slice-known = record { given = g } }; shared-slice-known2 = record { given = g' }; }; slice-known = record { given = g'' }; };
-            xtrans-places = Called.called ps·0 r·0 (claims· .1) T4 tt (m3 record { before = record { before = c; shared-slice-known = record { given = g } }; shared-slice-known2 = record { given = g' }; }
-            g'') g'3; })
+        laid = λ c. λ g. λ g'. λ g''. (
+          xtrans-places-requires record
+              { before = record { before = record { before = c; shared-slice-known = record { given = g } }; shared-slice-known2 = record { given = g' } }; slice-known = record { given = g'' } },
+          λ g'3.
+              lay1 record {
+                before = record
+                    { before = record { before = record { before = c; shared-slice-known = record { given = g } }; shared-slice-known2 = record { given = g' } }; slice-known = record { given = g'' } };
+                xtrans-places = Called.called ps·0 r·0 (claims· .1) T4 tt (m3 record { before = record { before = c; shared-slice-known = record { given = g } }; shared-slice-known2 = record { given = g' } }
+                    g'') g'3;
+              },
+        )
 
         module _ (κs : Lifetimes.Lfts 3) (qs : Lifetimes.Shares 3) where
           pub asked : (a : Kinds.Dens κs ps) → (good : Kinds.GoodsP κs ps a) → (pre : Pre· κs a) → (bs : List.List Nat.ℕ) → Φ bs (Any.wantQ 3 ps r xs m κs qs a (Post· κs a)) (Function.init 3 ps r xs m
               κs qs a)
-          asked = λ a good pre bs. laid record
-              { κs = κs; args = record { block = a .0; bases = a .1 .0; image = a .1 .1 .0; form = a .1 .1 .1 .0; tile = a .1 .1 .1 .1 .0; part = a .1 .1 .1 .1 .1 .0; count = a .1 .1 .1 .1 .1 .1 .0; };
-              blocks = bs; good = good; fits = record { count = record { fits = good .1 .1 .1 .1 .1 .1 .0 .1 } }; pre = pre; }
+          asked = λ a good pre bs. laid record {
+            κs = κs;
+            args = record { block = a .0; bases = a .1 .0; image = a .1 .1 .0; form = a .1 .1 .1 .0; tile = a .1 .1 .1 .1 .0; part = a .1 .1 .1 .1 .1 .0; count = a .1 .1 .1 .1 .1 .1 .0 };
+            blocks = bs;
+            good = good;
+            fits = record { count = record { fits = good .1 .1 .1 .1 .1 .1 .0 .1 } };
+            pre = pre;
+          }
 
         module _ {M : Type 1} (𝓤 : URA.URA M) (H : Wp.Heap 𝓤) (A : Atoms.Atoms 𝓤) (W : Kit.Given 𝓤 H A) (𝓣 : Wp.Tables 𝓤 H) (known0 : Plain.Known 𝓤 H A W 𝓣 0 ps·0 r·0 (claims· .0) (claims· .1)
             "map::xtrans_places") (known1 : Plain.Known 𝓤 H A W 𝓣 0 ps·1 r·1 (claims· .2) (claims· .3) "block::records::cleared") (known2 : Plain.Known 𝓤 H A W 𝓣 0 ps·2 r·2 (claims· .4) (claims· .5)

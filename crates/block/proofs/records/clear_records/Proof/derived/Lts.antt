@@ -68,18 +68,44 @@ abbrev pub ps·0 : List.List (Kinds.PK 0)
 ps·0 = List.[]
 
 abbrev pub r·0 : Kinds.RK 0
-r·0 = Value.rVal record
-    { ty = Declared.row Record.the-type; one = Path'.refl; val = Laws'.val Record.the-type Laws.the-laws; tells = Laws'.tells Record.the-type Laws.the-laws; still = Laws'.still Record.the-type
-    Laws.the-copy Exit.yes; row = Rows.whole (Declared.row Record.the-type); rd = λ x. x; mk = λ x. x; } λ M 𝓤 H A W. record
-    { copies = Laws'.copy Record.the-type Laws.the-copy 𝓤 H A W; lawful = Laws'.lawful Record.the-type Laws.the-laws 𝓤 H A W; makes = Laws'.makes Record.the-type Laws.the-plain 𝓤 H A; in-mem =
-    Local.mem-whole 𝓤 H A W (Declared.row Record.the-type); of-mem = Local.whole-mem 𝓤 H A W (Declared.row Record.the-type); }
+r·0 = Value.rVal record {
+  ty = Declared.row Record.the-type;
+  one = Path'.refl;
+  val = Laws'.val Record.the-type Laws.the-laws;
+  tells = Laws'.tells Record.the-type Laws.the-laws;
+  still = Laws'.still Record.the-type
+      Laws.the-copy Exit.yes;
+  row = Rows.whole (Declared.row Record.the-type);
+  rd = λ x. x;
+  mk = λ x. x;
+} λ M 𝓤 H A W. record {
+  copies = Laws'.copy Record.the-type Laws.the-copy 𝓤 H A W;
+  lawful = Laws'.lawful Record.the-type Laws.the-laws 𝓤 H A W;
+  makes = Laws'.makes Record.the-type Laws.the-plain 𝓤 H A;
+  in-mem =
+      Local.mem-whole 𝓤 H A W (Declared.row Record.the-type);
+  of-mem = Local.whole-mem 𝓤 H A W (Declared.row Record.the-type);
+}
 
 abbrev pub ps·1 : List.List (Kinds.PK 1)
-ps·1 = List._∷_ (MutSlice.pMutS (Element.type) 0 tt) (List._∷_ (Num.pNum Syntax.w64) (List._∷_ (Value.pVal record
-    { ty = Declared.row Record.the-type; one = Path'.refl; val = Laws'.val Record.the-type Laws.the-laws; tells = Laws'.tells Record.the-type Laws.the-laws; still = Laws'.still Record.the-type
-    Laws.the-copy Exit.yes; row = Rows.whole (Declared.row Record.the-type); rd = λ x. x; mk = λ x. x; } λ M 𝓤 H A W. record
-    { copies = Laws'.copy Record.the-type Laws.the-copy 𝓤 H A W; lawful = Laws'.lawful Record.the-type Laws.the-laws 𝓤 H A W; makes = Laws'.makes Record.the-type Laws.the-plain 𝓤 H A; in-mem =
-    Local.mem-whole 𝓤 H A W (Declared.row Record.the-type); of-mem = Local.whole-mem 𝓤 H A W (Declared.row Record.the-type); }) List.[]))
+ps·1 = List._∷_ (MutSlice.pMutS (Element.type) 0 tt) (List._∷_ (Num.pNum Syntax.w64) (List._∷_ (Value.pVal record {
+  ty = Declared.row Record.the-type;
+  one = Path'.refl;
+  val = Laws'.val Record.the-type Laws.the-laws;
+  tells = Laws'.tells Record.the-type Laws.the-laws;
+  still = Laws'.still Record.the-type
+      Laws.the-copy Exit.yes;
+  row = Rows.whole (Declared.row Record.the-type);
+  rd = λ x. x;
+  mk = λ x. x;
+} λ M 𝓤 H A W. record {
+  copies = Laws'.copy Record.the-type Laws.the-copy 𝓤 H A W;
+  lawful = Laws'.lawful Record.the-type Laws.the-laws 𝓤 H A W;
+  makes = Laws'.makes Record.the-type Laws.the-plain 𝓤 H A;
+  in-mem =
+      Local.mem-whole 𝓤 H A W (Declared.row Record.the-type);
+  of-mem = Local.whole-mem 𝓤 H A W (Declared.row Record.the-type);
+}) List.[]))
 
 abbrev pub r·1 : Kinds.RK 1
 r·1 = Unit'.rUnit
@@ -345,7 +371,7 @@ module _ (claims· : Claims) where
 
   abbrev s8 : Typed.Both T11 T12
   s8 = Call.callB ps·1 r·1 (claims· .2) (claims· .3) T11
-      (record { pos = 6; ty = Syntax.tyRef Syntax.erased Syntax.mut Element.behind; ref = λ x. x; }, (Num.vAt 2 λ x. x, (record { pos = 7; st = List.[]; d = 0; at = λ x. x }, tt))) 4 (List._∷_ 1 List.[])
+      (record { pos = 6; ty = Syntax.tyRef Syntax.erased Syntax.mut Element.behind; ref = λ x. x }, (Num.vAt 2 λ x. x, (record { pos = 7; st = List.[]; d = 0; at = λ x. x }, tt))) 4 (List._∷_ 1 List.[])
       Syntax.tyUnit
 
   abbrev s9 : Typed.Mo T12 → Typed.Mo T13
@@ -369,7 +395,7 @@ module _ (claims· : Claims) where
 
   abbrev put0 : List.List (Element.type .Denot) × Rows.sc-here (Row.sInt Syntax.w64) .Mod → Typed.Mo T2 → Typed.Mo T2
   put0 = λ vs u. Row.set 2 (2, Rows.sc-here (Row.sInt Syntax.w64)) (vs .1) (T2 .locals) (Row.set 1 (1, Mut.mslice (Element.type) (Syntax.tyRef (Syntax.named 0) Syntax.mut Element.behind) 0) record
-      { ptr = Row.get 1 (T2 .locals) u .ptr; name = Row.get 1 (T2 .locals) u .name; now = vs .0; } (T2 .locals) u)
+      { ptr = Row.get 1 (T2 .locals) u .ptr; name = Row.get 1 (T2 .locals) u .name; now = vs .0 } (T2 .locals) u)
 
   module _ (Pre· : (κs : Lifetimes.Lfts 1) → Kinds.Dens κs ps → Type 0) (Post· : (κs : Lifetimes.Lfts 1) → (a : Kinds.Dens κs ps) → Kinds.Plain 1 ps r κs) where
     module _ (M : Type 1) where
@@ -488,31 +514,31 @@ module _ (claims· : Claims) where
             e7 (List._∷_ e10 (List._∷_ e11 (List._∷_ e14 List.[])))))))
 
         abbrev G0 : Row.Cx
-        G0 = record { locals = t0; slots = List._∷_ (Row.lease (κs .0) (qs .0)) (List._∷_ Row.off List.[]); }
+        G0 = record { locals = t0; slots = List._∷_ (Row.lease (κs .0) (qs .0)) (List._∷_ Row.off List.[]) }
 
         abbrev G1 : Row.Cx
-        G1 = record { locals = t1; slots = List._∷_ (Row.lease (κs .0) (qs .0)) (List._∷_ Row.off List.[]); }
+        G1 = record { locals = t1; slots = List._∷_ (Row.lease (κs .0) (qs .0)) (List._∷_ Row.off List.[]) }
 
         abbrev G2 : Row.Cx
-        G2 = record { locals = t2; slots = List._∷_ (Row.lease (κs .0) (qs .0)) (List._∷_ Row.off List.[]); }
+        G2 = record { locals = t2; slots = List._∷_ (Row.lease (κs .0) (qs .0)) (List._∷_ Row.off List.[]) }
 
         abbrev G3 : Row.Cx
-        G3 = record { locals = t2; slots = List._∷_ (Row.lease (κs .0) (qs .0)) (List._∷_ Row.off List.[]); }
+        G3 = record { locals = t2; slots = List._∷_ (Row.lease (κs .0) (qs .0)) (List._∷_ Row.off List.[]) }
 
         abbrev G4 : Row.Cx
-        G4 = record { locals = t3; slots = List._∷_ (Row.lease (κs .0) (qs .0)) (List._∷_ Row.off List.[]); }
+        G4 = record { locals = t3; slots = List._∷_ (Row.lease (κs .0) (qs .0)) (List._∷_ Row.off List.[]) }
 
         abbrev G5 : Row.Cx
-        G5 = record { locals = t2; slots = List._∷_ (Row.lease (κs .0) (qs .0)) (List._∷_ Row.off List.[]); }
+        G5 = record { locals = t2; slots = List._∷_ (Row.lease (κs .0) (qs .0)) (List._∷_ Row.off List.[]) }
 
         abbrev G6 : Row.Cx
-        G6 = record { locals = t2; slots = List._∷_ (Row.lease (κs .0) (qs .0)) (List._∷_ Row.off List.[]); }
+        G6 = record { locals = t2; slots = List._∷_ (Row.lease (κs .0) (qs .0)) (List._∷_ Row.off List.[]) }
 
         abbrev G7 : Row.Cx
-        G7 = record { locals = t2; slots = List._∷_ (Row.lease (κs .0) (qs .0)) (List._∷_ Row.off List.[]); }
+        G7 = record { locals = t2; slots = List._∷_ (Row.lease (κs .0) (qs .0)) (List._∷_ Row.off List.[]) }
 
         abbrev G8 : Row.Cx
-        G8 = record { locals = t2; slots = List._∷_ (Row.lease (κs .0) (qs .0)) (List._∷_ Row.alive List.[]); }
+        G8 = record { locals = t2; slots = List._∷_ (Row.lease (κs .0) (qs .0)) (List._∷_ Row.alive List.[]) }
 
         abbrev G9 : Row.Cx
         G9 = record { locals = g4; slots = List._∷_ Row.off (List._∷_ Row.alive List.[]) }
@@ -536,19 +562,19 @@ module _ (claims· : Claims) where
         G15 = record { locals = g9; slots = List._∷_ Row.off (List._∷_ Row.dead List.[]) }
 
         abbrev G16 : Row.Cx
-        G16 = record { locals = t2; slots = List._∷_ (Row.lease (κs .0) (qs .0)) (List._∷_ Row.dead List.[]); }
+        G16 = record { locals = t2; slots = List._∷_ (Row.lease (κs .0) (qs .0)) (List._∷_ Row.dead List.[]) }
 
         abbrev G17 : Row.Cx
-        G17 = record { locals = t2; slots = List._∷_ (Row.lease (κs .0) (qs .0)) (List._∷_ Row.off List.[]); }
+        G17 = record { locals = t2; slots = List._∷_ (Row.lease (κs .0) (qs .0)) (List._∷_ Row.off List.[]) }
 
         abbrev G18 : Row.Cx
-        G18 = record { locals = t2; slots = List._∷_ (Row.lease (κs .0) (qs .0)) (List._∷_ Row.off List.[]); }
+        G18 = record { locals = t2; slots = List._∷_ (Row.lease (κs .0) (qs .0)) (List._∷_ Row.off List.[]) }
 
         abbrev G19 : Row.Cx
-        G19 = record { locals = t10; slots = List._∷_ (Row.lease (κs .0) (qs .0)) (List._∷_ Row.off List.[]); }
+        G19 = record { locals = t10; slots = List._∷_ (Row.lease (κs .0) (qs .0)) (List._∷_ Row.off List.[]) }
 
         abbrev G20 : Row.Cx
-        G20 = record { locals = t1; slots = List._∷_ (Row.lease (κs .0) (qs .0)) (List._∷_ Row.off List.[]); }
+        G20 = record { locals = t1; slots = List._∷_ (Row.lease (κs .0) (qs .0)) (List._∷_ Row.off List.[]) }
 
         abbrev Δ0 : Typed.Outs
         Δ0 = record { next = Option.none; exits = List.[]; returns = Option.some G1 }
@@ -610,14 +636,24 @@ module _ (claims· : Claims) where
 
           d11 : Typed.Typed 𝓤 H A 𝓣 E G11 b10 Δ3 at11
           d11 = Typed.s-seq 𝓤 H A W 𝓣 E G11 G12 b8 b9 Δ3 (Typed.both s8) at10 (Plain.t-call-plain 𝓤 H A W 𝓣 1 ps·1 r·1 (claims· .2) (claims· .3) "block::records::update" (known .1) E (λ pos β. β) G11
-              (record { pos = 6; ty = Syntax.tyRef Syntax.erased Syntax.mut Element.behind; ref = λ x. x; }, (Num.vAt 2 λ x. x, (record { pos = 7; st = List.[]; d = 0; at = λ x. x }, tt))) 4 (List._∷_ 1
-              List.[]) (Call.sub-id 𝓤 H A W (G11 .slots))
-              (Reads.as-is 𝓤 H A (Mut.mslice (Element.type) (Syntax.tyRef Syntax.erased Syntax.mut Element.behind) 1), Mut.reads-mslice 𝓤 H A W (Element.type) (Syntax.tyRef Syntax.erased Syntax.mut
-              Element.behind) 1, Path'.refl,
-              ((Scalar.reads-sc 𝓤 H A W (Row.sInt Syntax.w64), Path'.refl),
-              ((Yields.yields-copy 𝓤 H A W (λ ρ. Unit) (Declared.row Record.the-type) Path'.refl (Copies.cStruct Record.the-type Laws.the-laws Laws.the-copy .copy 𝓤 H A W) (Rows.whole (Declared.row
-              Record.the-type)) (λ x. x) (λ x. x) (λ ρ told. Local.mem-whole 𝓤 H A W (Declared.row Record.the-type) ρ) λ ρ told. Local.whole-mem 𝓤 H A W (Declared.row Record.the-type) ρ, Path'.refl),
-              tt))) (Reads.room-gone 𝓤 H A Syntax.tyUnit) (tt, tt) Path'.refl) d10
+              (record { pos = 6; ty = Syntax.tyRef Syntax.erased Syntax.mut Element.behind; ref = λ x. x }, (Num.vAt 2 λ x. x, (record { pos = 7; st = List.[]; d = 0; at = λ x. x }, tt))) 4 (List._∷_ 1
+              List.[]) (Call.sub-id 𝓤 H A W (G11 .slots)) (
+                Reads.as-is 𝓤 H A (Mut.mslice (Element.type) (Syntax.tyRef Syntax.erased Syntax.mut Element.behind) 1),
+                Mut.reads-mslice 𝓤 H A W (Element.type) (Syntax.tyRef Syntax.erased Syntax.mut
+                    Element.behind) 1,
+                Path'.refl,
+                (
+                  (Scalar.reads-sc 𝓤 H A W (Row.sInt Syntax.w64), Path'.refl),
+                  (
+                    (
+                      Yields.yields-copy 𝓤 H A W (λ ρ. Unit) (Declared.row Record.the-type) Path'.refl (Copies.cStruct Record.the-type Laws.the-laws Laws.the-copy .copy 𝓤 H A W) (Rows.whole (Declared.row
+                          Record.the-type)) (λ x. x) (λ x. x) (λ ρ told. Local.mem-whole 𝓤 H A W (Declared.row Record.the-type) ρ) λ ρ told. Local.whole-mem 𝓤 H A W (Declared.row Record.the-type) ρ,
+                      Path'.refl,
+                    ),
+                    tt,
+                  ),
+                ),
+              ) (Reads.room-gone 𝓤 H A Syntax.tyUnit) (tt, tt) Path'.refl) d10
 
           d12 : Typed.Typed 𝓤 H A 𝓣 E G10 b11 Δ3 at12
           d12 = Typed.s-seq 𝓤 H A W 𝓣 E G10 G11 b7 b10 Δ3 (Typed.both s7) at11 (Plain.t-call-plain 𝓤 H A W 𝓣 0 ps·0 r·0 (claims· .0) (claims· .1) "block::records::cleared" (known .0) E (λ pos β. β)
@@ -685,9 +721,12 @@ module _ (claims· : Claims) where
       m0 = λ κs args. (tt, Enter.partsP κs 1 ps xs (dens κs args))
 
       abbrev W0 : (κs : Lifetimes.Lfts 1) → (args : Args κs) → Typed.Want O0
-      W0 = λ κs args.
-          (λ u. ⊥, tt, λ u. Enter.Fixs κs 1 ps xs (dens κs args) (u .1) × Post· κs (dens κs args) (Function.resV r κs (u .0)) (Clauses.atExit (Kinds.endedOf 1 ps r) κs (dens κs args) (Enter.lastsP κs 1 ps
-          xs (dens κs args) (u .1))))
+      W0 = λ κs args. (
+        λ u. ⊥,
+        tt,
+        λ u. Enter.Fixs κs 1 ps xs (dens κs args) (u .1) × Post· κs (dens κs args) (Function.resV r κs (u .0)) (Clauses.atExit (Kinds.endedOf 1 ps r) κs (dens κs args) (Enter.lastsP κs 1 ps
+            xs (dens κs args) (u .1))),
+      )
 
       pub record Start : Type 0 where
         pub κs : Lifetimes.Lfts 1
@@ -711,7 +750,7 @@ module _ (claims· : Claims) where
       abbrev pub m2 : (before : Start) → (rs : List.List (Element.type .Denot)) → (j : Rows.sc-here (Row.sInt Syntax.w64) .Mod) → Typed.Mo T2
       m2 = λ before rs j. Row.set 2 (2, Rows.sc-here (Row.sInt Syntax.w64)) j (Row.setRow 1 (1, Mut.mslice (Element.type) (Syntax.tyRef (Syntax.named 0) Syntax.mut Element.behind) 0) (T2 .locals))
           (Row.set 1 (1, Mut.mslice (Element.type) (Syntax.tyRef (Syntax.named 0) Syntax.mut Element.behind) 0) record
-          { ptr = Row.get 1 (T2 .locals) (m1 (before .κs) (before .args)) .ptr; name = Row.get 1 (T2 .locals) (m1 (before .κs) (before .args)) .name; now = rs; } (T2 .locals) (m1 (before .κs) (before
+          { ptr = Row.get 1 (T2 .locals) (m1 (before .κs) (before .args)) .ptr; name = Row.get 1 (T2 .locals) (m1 (before .κs) (before .args)) .name; now = rs } (T2 .locals) (m1 (before .κs) (before
           .args)))
 
       abbrev W3 : (before : Start) → (rs : List.List (Element.type .Denot)) → (j : Rows.sc-here (Row.sInt Syntax.w64) .Mod) → Typed.Want O3
@@ -796,7 +835,7 @@ module _ (claims· : Claims) where
       module _ (before· : After-cleared) where
         abbrev pub After-update·own : Type 0
         After-update·own = Called.Called ps·1 r·1 (claims· .3) T11
-            (record { pos = 6; ty = Syntax.tyRef Syntax.erased Syntax.mut Element.behind; ref = λ x. x; }, (Num.vAt 2 λ x. x, (record { pos = 7; st = List.[]; d = 0; at = λ x. x }, tt))) (m8 (before·
+            (record { pos = 6; ty = Syntax.tyRef Syntax.erased Syntax.mut Element.behind; ref = λ x. x }, (Num.vAt 2 λ x. x, (record { pos = 7; st = List.[]; d = 0; at = λ x. x }, tt))) (m8 (before·
             .before) (After-cleared·gave before·))
 
       pub record After-update : Type 0 where
@@ -805,7 +844,7 @@ module _ (claims· : Claims) where
 
       abbrev pub After-update·gave : (c : After-update) → s8 .gives (m8 (c .before .before) (After-cleared·gave (c .before)))
       After-update·gave = λ c. Called.given ps·1 r·1 (claims· .3) T11
-          (record { pos = 6; ty = Syntax.tyRef Syntax.erased Syntax.mut Element.behind; ref = λ x. x; }, (Num.vAt 2 λ x. x, (record { pos = 7; st = List.[]; d = 0; at = λ x. x }, tt))) (m8 (c .before
+          (record { pos = 6; ty = Syntax.tyRef Syntax.erased Syntax.mut Element.behind; ref = λ x. x }, (Num.vAt 2 λ x. x, (record { pos = 7; st = List.[]; d = 0; at = λ x. x }, tt))) (m8 (c .before
           .before) (After-cleared·gave (c .before))) (c .update)
 
       abbrev pub m10 : (before : After-cleared) → (given : s8 .gives (m8 (before .before) (After-cleared·gave before))) → Typed.Mo T13
@@ -860,37 +899,63 @@ module _ (claims· : Claims) where
       module _ (loop-holds : Need-loop-holds) (cleared-requires : Need-cleared-requires) (update-requires : Need-update-requires) (add-j : Need-add-j) (loop-less : Need-loop-less) (loop-again :
           Need-loop-again) (same-length : Need-same-length) (returns : Need-returns) where
         lay6 : (c : After-loop) → at22 (W0 (c .before .before .κs) (c .before .before .args)) (m5 (c .before))
-        lay6 = λ c.
-            ((MutSlice.fix-len (Row.get 1 (T20 .locals) (m15 (c .before)) .ptr) (Row.get 1 (T20 .locals) (m15 (c .before)) .name) (Row.get 1 (T20 .locals) (m15 (c .before)) .now) (dens (c .before .before
-            .κs) (c .before .before .args) .0 .now) (same-length record { before = c .before; loop-test = c .loop-test }), tt), returns record { before = c .before; loop-test = c .loop-test })
+        lay6 = λ c. (
+          (
+            MutSlice.fix-len (Row.get 1 (T20 .locals) (m15 (c .before)) .ptr) (Row.get 1 (T20 .locals) (m15 (c .before)) .name) (Row.get 1 (T20 .locals) (m15 (c .before)) .now) (dens (c .before .before
+                .κs) (c .before .before .args) .0 .now) (same-length record { before = c .before; loop-test = c .loop-test }),
+            tt,
+          ),
+          returns record { before = c .before; loop-test = c .loop-test },
+        )
 
         lay5 : (c : After-update) → at10 (W3 (c .before .before .before .before .before) (c .before .before .before .before .loop .rs) (c .before .before .before .before .loop .j)) (m9 (c .before)
             (After-update·gave c))
-        lay5 = λ c.
-            (Path'.refl, λ g.
-            (add-j record { before = record { before = c .before; update = c .update }; rs = record { given = g }; },
-            (μ·0 (Row.get 1 (T2 .locals) (m1 (c .before .before .before .before .before .κs) (c .before .before .before .before .before .args)) .now) (Row.get 2 (T2 .locals) (m1 (c .before .before .before
-            .before .before .κs) (c .before .before .before .before .before .args))) (Row.get 1 (T2 .locals) (m13 record { before = c .before; update = c .update } g) .now) (Row.get 2 (T2 .locals) (m13
-            record { before = c .before; update = c .update } g)), loop-less record { before = record { before = c .before; update = c .update }; rs = record { given = g }; },
-            ((Row.get 1 (T2 .locals) (m13 record { before = c .before; update = c .update } g) .now, Row.get 2 (T2 .locals) (m13 record { before = c .before; update = c .update } g)), Path'.refl {a = m13
-            record { before = c .before; update = c .update } g}, loop-again record { before = record { before = c .before; update = c .update }; rs = record { given = g }; }, Path'.refl {a = μ·0 (Row.get
-            1 (T2 .locals) (m1 (c .before .before .before .before .before .κs) (c .before .before .before .before .before .args)) .now) (Row.get 2 (T2 .locals) (m1 (c .before .before .before .before
-            .before .κs) (c .before .before .before .before .before .args))) (Row.get 1 (T2 .locals) (m13 record { before = c .before; update = c .update } g) .now) (Row.get 2 (T2 .locals) (m13 record
-            { before = c .before; update = c .update } g))}))))
+        lay5 = λ c. (
+          Path'.refl,
+          λ g. (
+            add-j record { before = record { before = c .before; update = c .update }; rs = record { given = g } },
+            (
+              μ·0 (Row.get 1 (T2 .locals) (m1 (c .before .before .before .before .before .κs) (c .before .before .before .before .before .args)) .now) (Row.get 2 (T2 .locals) (m1 (c .before .before .before
+                  .before .before .κs) (c .before .before .before .before .before .args))) (Row.get 1 (T2 .locals) (m13 record { before = c .before; update = c .update } g) .now) (Row.get 2 (T2 .locals) (m13
+                  record { before = c .before; update = c .update } g)),
+              loop-less record { before = record { before = c .before; update = c .update }; rs = record { given = g } },
+              (
+                (Row.get 1 (T2 .locals) (m13 record { before = c .before; update = c .update } g) .now, Row.get 2 (T2 .locals) (m13 record { before = c .before; update = c .update } g)),
+                Path'.refl {a = m13
+                    record { before = c .before; update = c .update } g},
+                loop-again record { before = record { before = c .before; update = c .update }; rs = record { given = g } },
+                Path'.refl {a = μ·0 (Row.get
+                    1 (T2 .locals) (m1 (c .before .before .before .before .before .κs) (c .before .before .before .before .before .args)) .now) (Row.get 2 (T2 .locals) (m1 (c .before .before .before .before
+                    .before .κs) (c .before .before .before .before .before .args))) (Row.get 1 (T2 .locals) (m13 record { before = c .before; update = c .update } g) .now) (Row.get 2 (T2 .locals) (m13 record
+                    { before = c .before; update = c .update } g))},
+              ),
+            ),
+          ),
+        )
 
         lay4 : (c : After-cleared) → at11 (W3 (c .before .before .before .before) (c .before .before .before .loop .rs) (c .before .before .before .loop .j)) (m8 (c .before) (After-cleared·gave c))
-        lay4 = λ c.
-            (update-requires record { before = c .before; cleared = c .cleared }, λ g. lay5 record
-            { before = record { before = c .before; cleared = c .cleared }; update = Called.called ps·1 r·1 (claims· .3) T11
-            (record { pos = 6; ty = Syntax.tyRef Syntax.erased Syntax.mut Element.behind; ref = λ x. x; }, (Num.vAt 2 λ x. x, (record { pos = 7; st = List.[]; d = 0; at = λ x. x }, tt))) (m8 (c .before)
-            (After-cleared·gave c)) g; })
+        lay4 = λ c. (
+          update-requires record { before = c .before; cleared = c .cleared },
+          λ g. lay5 record {
+            before = record { before = c .before; cleared = c .cleared };
+            update = Called.called ps·1 r·1 (claims· .3) T11
+                (record { pos = 6; ty = Syntax.tyRef Syntax.erased Syntax.mut Element.behind; ref = λ x. x }, (Num.vAt 2 λ x. x, (record { pos = 7; st = List.[]; d = 0; at = λ x. x }, tt))) (m8 (c .before)
+                (After-cleared·gave c)) g;
+          },
+        )
 
         lay3 : (c : In-loop) → at15 (W3 (c .before .before) (c .before .loop .rs) (c .before .loop .j)) (m4 (c .before))
-        lay3 = λ c. λ g.
-            (Path'.refl,
-            (cleared-requires record { before = record { before = c .before; loop-test = c .loop-test }; update-arg = record { given = g }; }, λ g'. lay4 record
-            { before = record { before = record { before = c .before; loop-test = c .loop-test }; update-arg = record { given = g }; }; cleared = Called.called ps·0 r·0 (claims· .1) T10 tt (m7 record
-            { before = c .before; loop-test = c .loop-test; } g) g'; }))
+        lay3 = λ c. λ g. (
+          Path'.refl,
+          (
+            cleared-requires record { before = record { before = c .before; loop-test = c .loop-test }; update-arg = record { given = g } },
+            λ g'. lay4 record {
+              before = record { before = record { before = c .before; loop-test = c .loop-test }; update-arg = record { given = g } };
+              cleared = Called.called ps·0 r·0 (claims· .1) T10 tt (m7 record
+                  { before = c .before; loop-test = c .loop-test } g) g';
+            },
+          ),
+        )
 
         lay2 : (c : After-loop) → at3 (W4 (c .before .before) (c .before .loop .rs) (c .before .loop .j)) (m3 (c .before .before) (c .before .loop .rs) (c .before .loop .j))
         lay2 = λ c. lay6 record { before = c .before; loop-test = c .loop-test }
@@ -899,19 +964,27 @@ module _ (claims· : Claims) where
         lay1 = λ c. lay3 record { before = c .before; loop-test = c .loop-test }
 
         pub laid : (c : Start) → at24 (W0 (c .κs) (c .args)) (m0 (c .κs) (c .args))
-        laid = λ c.
-            (((Row.get 1 (T2 .locals) (m1 (c .κs) (c .args)) .now, Row.get 2 (T2 .locals) (m1 (c .κs) (c .args))), Path'.refl {a = m1 (c .κs) (c .args)}, loop-holds c), λ vs inv.
-            (tt,
-            (λ taken. lay1 record
-            { before = record { before = c; loop = record { rs = vs .0; j = vs .1; inv = inv }; }; loop-test = record { taken = Tests.ltb-true (Row.get 2 (T2 .locals) (m2 c (vs .0) (vs .1))) 336 taken; };
-            }, λ left. lay2 record
-            { before = record { before = c; loop = record { rs = vs .0; j = vs .1; inv = inv }; }; loop-test = record { left = Tests.ltb-false (Row.get 2 (T2 .locals) (m2 c (vs .0) (vs .1))) 336 left; };
-            })))
+        laid = λ c. (
+          ((Row.get 1 (T2 .locals) (m1 (c .κs) (c .args)) .now, Row.get 2 (T2 .locals) (m1 (c .κs) (c .args))), Path'.refl {a = m1 (c .κs) (c .args)}, loop-holds c),
+          λ vs inv. (
+            tt,
+            (
+              λ taken. lay1 record {
+                before = record { before = c; loop = record { rs = vs .0; j = vs .1; inv = inv } };
+                loop-test = record { taken = Tests.ltb-true (Row.get 2 (T2 .locals) (m2 c (vs .0) (vs .1))) 336 taken };
+              },
+              λ left. lay2 record {
+                before = record { before = c; loop = record { rs = vs .0; j = vs .1; inv = inv } };
+                loop-test = record { left = Tests.ltb-false (Row.get 2 (T2 .locals) (m2 c (vs .0) (vs .1))) 336 left };
+              },
+            ),
+          ),
+        )
 
         module _ (κs : Lifetimes.Lfts 1) (qs : Lifetimes.Shares 1) where
           pub asked : (a : Kinds.Dens κs ps) → (good : Kinds.GoodsP κs ps a) → (pre : Pre· κs a) → (bs : List.List Nat.ℕ) → Φ (Any.wantQ 1 ps r xs m κs qs a (Post· κs a)) (Function.init 1 ps r xs m κs
               qs a)
-          asked = λ a good pre bs. laid record { κs = κs; args = record { rs = a .0 }; good = good; pre = pre; }
+          asked = λ a good pre bs. laid record { κs = κs; args = record { rs = a .0 }; good = good; pre = pre }
 
         module _ {M : Type 1} (𝓤 : URA.URA M) (H : Wp.Heap 𝓤) (A : Atoms.Atoms 𝓤) (W : Kit.Given 𝓤 H A) (𝓣 : Wp.Tables 𝓤 H) (known0 : Plain.Known 𝓤 H A W 𝓣 0 ps·0 r·0 (claims· .0) (claims· .1)
             "block::records::cleared") (known1 : Plain.Known 𝓤 H A W 𝓣 1 ps·1 r·1 (claims· .2) (claims· .3) "block::records::update") where

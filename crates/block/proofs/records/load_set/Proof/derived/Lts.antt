@@ -81,11 +81,24 @@ abbrev pub ps : List.List (Kinds.PK 1)
 ps = List._∷_ (MutSlice.pMutS (Element.type) 0 tt) (List._∷_ (Num.pNum Syntax.w64) List.[])
 
 abbrev pub r : Kinds.RK 1
-r = Value.rVal record
-    { ty = Declared.row Set.the-type; one = Path'.refl; val = Laws''.val Set.the-type Laws'.the-laws; tells = Laws''.tells Set.the-type Laws'.the-laws; still = Laws''.still Set.the-type Laws'.the-copy
-    Exit.yes; row = Rows'.whole (Declared.row Set.the-type); rd = λ x. x; mk = λ x. x; } λ M 𝓤 H A W. record
-    { copies = Laws''.copy Set.the-type Laws'.the-copy 𝓤 H A W; lawful = Laws''.lawful Set.the-type Laws'.the-laws 𝓤 H A W; makes = Laws''.makes Set.the-type Laws'.the-plain 𝓤 H A; in-mem =
-    Local.mem-whole 𝓤 H A W (Declared.row Set.the-type); of-mem = Local.whole-mem 𝓤 H A W (Declared.row Set.the-type); }
+r = Value.rVal record {
+  ty = Declared.row Set.the-type;
+  one = Path'.refl;
+  val = Laws''.val Set.the-type Laws'.the-laws;
+  tells = Laws''.tells Set.the-type Laws'.the-laws;
+  still = Laws''.still Set.the-type Laws'.the-copy
+      Exit.yes;
+  row = Rows'.whole (Declared.row Set.the-type);
+  rd = λ x. x;
+  mk = λ x. x;
+} λ M 𝓤 H A W. record {
+  copies = Laws''.copy Set.the-type Laws'.the-copy 𝓤 H A W;
+  lawful = Laws''.lawful Set.the-type Laws'.the-laws 𝓤 H A W;
+  makes = Laws''.makes Set.the-type Laws'.the-plain 𝓤 H A;
+  in-mem =
+      Local.mem-whole 𝓤 H A W (Declared.row Set.the-type);
+  of-mem = Local.whole-mem 𝓤 H A W (Declared.row Set.the-type);
+}
 
 abbrev pub xs : List.List Syntax.Ty
 xs = List._∷_ (Syntax.tyArray (Syntax.tyInt Syntax.w32) 112) (List._∷_ (Syntax.tyArray (Syntax.tyInt Syntax.w32) 112) (List._∷_ (Syntax.tyInt Syntax.w64) (List._∷_ y1 (List._∷_ Syntax.tyBool (List._∷_
@@ -99,11 +112,24 @@ abbrev pub ps·0 : List.List (Kinds.PK 1)
 ps·0 = List._∷_ (MutSlice.pMutS (Element.type) 0 tt) (List._∷_ (Num.pNum Syntax.w64) List.[])
 
 abbrev pub r·0 : Kinds.RK 1
-r·0 = Value.rVal record
-    { ty = Declared.row Record.the-type; one = Path'.refl; val = Laws''.val Record.the-type Laws.the-laws; tells = Laws''.tells Record.the-type Laws.the-laws; still = Laws''.still Record.the-type
-    Laws.the-copy Exit.yes; row = Rows'.whole (Declared.row Record.the-type); rd = λ x. x; mk = λ x. x; } λ M 𝓤 H A W. record
-    { copies = Laws''.copy Record.the-type Laws.the-copy 𝓤 H A W; lawful = Laws''.lawful Record.the-type Laws.the-laws 𝓤 H A W; makes = Laws''.makes Record.the-type Laws.the-plain 𝓤 H A; in-mem =
-    Local.mem-whole 𝓤 H A W (Declared.row Record.the-type); of-mem = Local.whole-mem 𝓤 H A W (Declared.row Record.the-type); }
+r·0 = Value.rVal record {
+  ty = Declared.row Record.the-type;
+  one = Path'.refl;
+  val = Laws''.val Record.the-type Laws.the-laws;
+  tells = Laws''.tells Record.the-type Laws.the-laws;
+  still = Laws''.still Record.the-type
+      Laws.the-copy Exit.yes;
+  row = Rows'.whole (Declared.row Record.the-type);
+  rd = λ x. x;
+  mk = λ x. x;
+} λ M 𝓤 H A W. record {
+  copies = Laws''.copy Record.the-type Laws.the-copy 𝓤 H A W;
+  lawful = Laws''.lawful Record.the-type Laws.the-laws 𝓤 H A W;
+  makes = Laws''.makes Record.the-type Laws.the-plain 𝓤 H A;
+  in-mem =
+      Local.mem-whole 𝓤 H A W (Declared.row Record.the-type);
+  of-mem = Local.whole-mem 𝓤 H A W (Declared.row Record.the-type);
+}
 
 abbrev pub hs : List.List Syntax.Home
 hs = List._∷_ Syntax.valueLocal (List._∷_ Syntax.valueLocal (List._∷_ Syntax.valueLocal (List._∷_ Syntax.memorySlot (List._∷_ Syntax.memorySlot (List._∷_ Syntax.valueLocal (List._∷_ Syntax.valueLocal
@@ -719,7 +745,7 @@ module _ (claims· : Claims) where
   s13 = λ bs. Scalar.n-room T16 10 (Syntax.tyInt Syntax.w64)
 
   abbrev s14 : (bs : List.List Nat.ℕ) → Typed.Both T17 T18
-  s14 = λ bs. Call.callB ps·0 r·0 (claims· .0) (claims· .1) T17 (record { pos = 9; ty = Syntax.tyRef Syntax.erased Syntax.mut Element.behind; ref = λ x. x; }, (Num.vAt 11 λ x. x, tt)) 6 (List._∷_ 1
+  s14 = λ bs. Call.callB ps·0 r·0 (claims· .0) (claims· .1) T17 (record { pos = 9; ty = Syntax.tyRef Syntax.erased Syntax.mut Element.behind; ref = λ x. x }, (Num.vAt 11 λ x. x, tt)) 6 (List._∷_ 1
       List.[]) y1
 
   abbrev s15 : (bs : List.List Nat.ℕ) → Typed.Mo T18 → Typed.Mo T19
@@ -819,7 +845,7 @@ module _ (claims· : Claims) where
       (Row.sInt Syntax.w64) .Mod → Typed.Mo T6 → Typed.Mo T6
   put0 = λ vs u. Row.set 5 (5, Rows'.sc-here (Row.sInt Syntax.w64)) (vs .3) (T6 .locals) (Row.set 4 (4, Rows.arrF (Referent.rtF (Referent.fInt Syntax.w32)) 112 0) (vs .2) (T6 .locals) (Row.set 3
       (3, Rows.arrF (Referent.rtF (Referent.fInt Syntax.w32)) 112 0) (vs .1) (T6 .locals) (Row.set 1 (1, Mut.mslice (Element.type) (Syntax.tyRef (Syntax.named 0) Syntax.mut Element.behind) 0) record
-      { ptr = Row.get 1 (T6 .locals) u .ptr; name = Row.get 1 (T6 .locals) u .name; now = vs .0; } (T6 .locals) u)))
+      { ptr = Row.get 1 (T6 .locals) u .ptr; name = Row.get 1 (T6 .locals) u .name; now = vs .0 } (T6 .locals) u)))
 
   module _ (Pre· : (κs : Lifetimes.Lfts 1) → Kinds.Dens κs ps → Type 0) (Post· : (κs : Lifetimes.Lfts 1) → (a : Kinds.Dens κs ps) → Kinds.Plain 1 ps r κs) where
     module _ (M : Type 1) where
@@ -1026,151 +1052,151 @@ module _ (claims· : Claims) where
             (List._∷_ e25 (List._∷_ e27 (List._∷_ e29 (List._∷_ e30 (List._∷_ e32 (List._∷_ e33 (List._∷_ e4 (List._∷_ e6 (List._∷_ e8 (List._∷_ e10 (List._∷_ e12 (List._∷_ e14 List.[])))))))))))))))
 
         abbrev G0 : Row.Cx
-        G0 = record { locals = List._++_ t0 t1; slots = List._∷_ (Row.lease (κs .0) (qs .0)) (List._∷_ Row.off List.[]); }
+        G0 = record { locals = List._++_ t0 t1; slots = List._∷_ (Row.lease (κs .0) (qs .0)) (List._∷_ Row.off List.[]) }
 
         abbrev G1 : Row.Cx
-        G1 = record { locals = List._++_ t2 t1; slots = List._∷_ (Row.lease (κs .0) (qs .0)) (List._∷_ Row.off List.[]); }
+        G1 = record { locals = List._++_ t2 t1; slots = List._∷_ (Row.lease (κs .0) (qs .0)) (List._∷_ Row.off List.[]) }
 
         abbrev G2 : Row.Cx
-        G2 = record { locals = List._++_ t3 t1; slots = List._∷_ (Row.lease (κs .0) (qs .0)) (List._∷_ Row.off List.[]); }
+        G2 = record { locals = List._++_ t3 t1; slots = List._∷_ (Row.lease (κs .0) (qs .0)) (List._∷_ Row.off List.[]) }
 
         abbrev G3 : Row.Cx
-        G3 = record { locals = List._++_ t4 t1; slots = List._∷_ (Row.lease (κs .0) (qs .0)) (List._∷_ Row.off List.[]); }
+        G3 = record { locals = List._++_ t4 t1; slots = List._∷_ (Row.lease (κs .0) (qs .0)) (List._∷_ Row.off List.[]) }
 
         abbrev G4 : Row.Cx
-        G4 = record { locals = List._++_ t5 t1; slots = List._∷_ (Row.lease (κs .0) (qs .0)) (List._∷_ Row.off List.[]); }
+        G4 = record { locals = List._++_ t5 t1; slots = List._∷_ (Row.lease (κs .0) (qs .0)) (List._∷_ Row.off List.[]) }
 
         abbrev G5 : Row.Cx
-        G5 = record { locals = List._++_ t6 t1; slots = List._∷_ (Row.lease (κs .0) (qs .0)) (List._∷_ Row.off List.[]); }
+        G5 = record { locals = List._++_ t6 t1; slots = List._∷_ (Row.lease (κs .0) (qs .0)) (List._∷_ Row.off List.[]) }
 
         abbrev G6 : Row.Cx
-        G6 = record { locals = List._++_ t7 t1; slots = List._∷_ (Row.lease (κs .0) (qs .0)) (List._∷_ Row.off List.[]); }
+        G6 = record { locals = List._++_ t7 t1; slots = List._∷_ (Row.lease (κs .0) (qs .0)) (List._∷_ Row.off List.[]) }
 
         abbrev G7 : Row.Cx
-        G7 = record { locals = List._++_ t7 t1; slots = List._∷_ (Row.lease (κs .0) (qs .0)) (List._∷_ Row.off List.[]); }
+        G7 = record { locals = List._++_ t7 t1; slots = List._∷_ (Row.lease (κs .0) (qs .0)) (List._∷_ Row.off List.[]) }
 
         abbrev G8 : Row.Cx
-        G8 = record { locals = List._++_ t8 t1; slots = List._∷_ (Row.lease (κs .0) (qs .0)) (List._∷_ Row.off List.[]); }
+        G8 = record { locals = List._++_ t8 t1; slots = List._∷_ (Row.lease (κs .0) (qs .0)) (List._∷_ Row.off List.[]) }
 
         abbrev G9 : Row.Cx
-        G9 = record { locals = List._++_ t7 t1; slots = List._∷_ (Row.lease (κs .0) (qs .0)) (List._∷_ Row.off List.[]); }
+        G9 = record { locals = List._++_ t7 t1; slots = List._∷_ (Row.lease (κs .0) (qs .0)) (List._∷_ Row.off List.[]) }
 
         abbrev G10 : Row.Cx
-        G10 = record { locals = List._++_ t7 t1; slots = List._∷_ (Row.lease (κs .0) (qs .0)) (List._∷_ Row.off List.[]); }
+        G10 = record { locals = List._++_ t7 t1; slots = List._∷_ (Row.lease (κs .0) (qs .0)) (List._∷_ Row.off List.[]) }
 
         abbrev G11 : Row.Cx
-        G11 = record { locals = List._++_ t7 t1; slots = List._∷_ (Row.lease (κs .0) (qs .0)) (List._∷_ Row.off List.[]); }
+        G11 = record { locals = List._++_ t7 t1; slots = List._∷_ (Row.lease (κs .0) (qs .0)) (List._∷_ Row.off List.[]) }
 
         abbrev G12 : Row.Cx
-        G12 = record { locals = List._++_ t7 t1; slots = List._∷_ (Row.lease (κs .0) (qs .0)) (List._∷_ Row.alive List.[]); }
+        G12 = record { locals = List._++_ t7 t1; slots = List._∷_ (Row.lease (κs .0) (qs .0)) (List._∷_ Row.alive List.[]) }
 
         abbrev G13 : Row.Cx
-        G13 = record { locals = List._++_ g9 t1; slots = List._∷_ Row.off (List._∷_ Row.alive List.[]); }
+        G13 = record { locals = List._++_ g9 t1; slots = List._∷_ Row.off (List._∷_ Row.alive List.[]) }
 
         abbrev G14 : Row.Cx
-        G14 = record { locals = List._++_ g10 t1; slots = List._∷_ Row.off (List._∷_ Row.alive List.[]); }
+        G14 = record { locals = List._++_ g10 t1; slots = List._∷_ Row.off (List._∷_ Row.alive List.[]) }
 
         abbrev G15 : Row.Cx
-        G15 = record { locals = List._++_ g11 t1; slots = List._∷_ Row.off (List._∷_ Row.alive List.[]); }
+        G15 = record { locals = List._++_ g11 t1; slots = List._∷_ Row.off (List._∷_ Row.alive List.[]) }
 
         abbrev G16 : Row.Cx
-        G16 = record { locals = List._++_ g12 t1; slots = List._∷_ Row.off (List._∷_ Row.alive List.[]); }
+        G16 = record { locals = List._++_ g12 t1; slots = List._∷_ Row.off (List._∷_ Row.alive List.[]) }
 
         abbrev G17 : Row.Cx
-        G17 = record { locals = List._++_ g13 t1; slots = List._∷_ Row.off (List._∷_ Row.alive List.[]); }
+        G17 = record { locals = List._++_ g13 t1; slots = List._∷_ Row.off (List._∷_ Row.alive List.[]) }
 
         abbrev G18 : Row.Cx
-        G18 = record { locals = List._++_ g14 t1; slots = List._∷_ Row.off (List._∷_ Row.alive List.[]); }
+        G18 = record { locals = List._++_ g14 t1; slots = List._∷_ Row.off (List._∷_ Row.alive List.[]) }
 
         abbrev G19 : Row.Cx
-        G19 = record { locals = List._++_ g15 t1; slots = List._∷_ Row.off (List._∷_ Row.alive List.[]); }
+        G19 = record { locals = List._++_ g15 t1; slots = List._∷_ Row.off (List._∷_ Row.alive List.[]) }
 
         abbrev G20 : Row.Cx
-        G20 = record { locals = List._++_ g15 t1; slots = List._∷_ Row.off (List._∷_ Row.dead List.[]); }
+        G20 = record { locals = List._++_ g15 t1; slots = List._∷_ Row.off (List._∷_ Row.dead List.[]) }
 
         abbrev G21 : Row.Cx
-        G21 = record { locals = List._++_ t16 t1; slots = List._∷_ (Row.lease (κs .0) (qs .0)) (List._∷_ Row.dead List.[]); }
+        G21 = record { locals = List._++_ t16 t1; slots = List._∷_ (Row.lease (κs .0) (qs .0)) (List._∷_ Row.dead List.[]) }
 
         abbrev G22 : Row.Cx
-        G22 = record { locals = List._++_ t16 t1; slots = List._∷_ (Row.lease (κs .0) (qs .0)) (List._∷_ Row.off List.[]); }
+        G22 = record { locals = List._++_ t16 t1; slots = List._∷_ (Row.lease (κs .0) (qs .0)) (List._∷_ Row.off List.[]) }
 
         abbrev G23 : Row.Cx
-        G23 = record { locals = List._++_ t17 t1; slots = List._∷_ (Row.lease (κs .0) (qs .0)) (List._∷_ Row.off List.[]); }
+        G23 = record { locals = List._++_ t17 t1; slots = List._∷_ (Row.lease (κs .0) (qs .0)) (List._∷_ Row.off List.[]) }
 
         abbrev G24 : Row.Cx
-        G24 = record { locals = List._++_ t18 t1; slots = List._∷_ (Row.lease (κs .0) (qs .0)) (List._∷_ Row.off List.[]); }
+        G24 = record { locals = List._++_ t18 t1; slots = List._∷_ (Row.lease (κs .0) (qs .0)) (List._∷_ Row.off List.[]) }
 
         abbrev G25 : Row.Cx
-        G25 = record { locals = List._++_ t19 t1; slots = List._∷_ (Row.lease (κs .0) (qs .0)) (List._∷_ Row.off List.[]); }
+        G25 = record { locals = List._++_ t19 t1; slots = List._∷_ (Row.lease (κs .0) (qs .0)) (List._∷_ Row.off List.[]) }
 
         abbrev G26 : Row.Cx
-        G26 = record { locals = List._++_ t20 t1; slots = List._∷_ (Row.lease (κs .0) (qs .0)) (List._∷_ Row.off List.[]); }
+        G26 = record { locals = List._++_ t20 t1; slots = List._∷_ (Row.lease (κs .0) (qs .0)) (List._∷_ Row.off List.[]) }
 
         abbrev G27 : Row.Cx
-        G27 = record { locals = List._++_ t20 t1; slots = List._∷_ (Row.lease (κs .0) (qs .0)) (List._∷_ Row.off List.[]); }
+        G27 = record { locals = List._++_ t20 t1; slots = List._∷_ (Row.lease (κs .0) (qs .0)) (List._∷_ Row.off List.[]) }
 
         abbrev G28 : Row.Cx
-        G28 = record { locals = List._++_ t21 t1; slots = List._∷_ (Row.lease (κs .0) (qs .0)) (List._∷_ Row.off List.[]); }
+        G28 = record { locals = List._++_ t21 t1; slots = List._∷_ (Row.lease (κs .0) (qs .0)) (List._∷_ Row.off List.[]) }
 
         abbrev G29 : Row.Cx
-        G29 = record { locals = List._++_ t16 t1; slots = List._∷_ (Row.lease (κs .0) (qs .0)) (List._∷_ Row.off List.[]); }
+        G29 = record { locals = List._++_ t16 t1; slots = List._∷_ (Row.lease (κs .0) (qs .0)) (List._∷_ Row.off List.[]) }
 
         abbrev G30 : Row.Cx
-        G30 = record { locals = List._++_ t22 t1; slots = List._∷_ (Row.lease (κs .0) (qs .0)) (List._∷_ Row.off List.[]); }
+        G30 = record { locals = List._++_ t22 t1; slots = List._∷_ (Row.lease (κs .0) (qs .0)) (List._∷_ Row.off List.[]) }
 
         abbrev G31 : Row.Cx
-        G31 = record { locals = List._++_ t23 t1; slots = List._∷_ (Row.lease (κs .0) (qs .0)) (List._∷_ Row.off List.[]); }
+        G31 = record { locals = List._++_ t23 t1; slots = List._∷_ (Row.lease (κs .0) (qs .0)) (List._∷_ Row.off List.[]) }
 
         abbrev G32 : Row.Cx
-        G32 = record { locals = List._++_ t24 t1; slots = List._∷_ (Row.lease (κs .0) (qs .0)) (List._∷_ Row.off List.[]); }
+        G32 = record { locals = List._++_ t24 t1; slots = List._∷_ (Row.lease (κs .0) (qs .0)) (List._∷_ Row.off List.[]) }
 
         abbrev G33 : Row.Cx
-        G33 = record { locals = List._++_ t25 t1; slots = List._∷_ (Row.lease (κs .0) (qs .0)) (List._∷_ Row.off List.[]); }
+        G33 = record { locals = List._++_ t25 t1; slots = List._∷_ (Row.lease (κs .0) (qs .0)) (List._∷_ Row.off List.[]) }
 
         abbrev G34 : Row.Cx
-        G34 = record { locals = List._++_ t25 t1; slots = List._∷_ (Row.lease (κs .0) (qs .0)) (List._∷_ Row.off List.[]); }
+        G34 = record { locals = List._++_ t25 t1; slots = List._∷_ (Row.lease (κs .0) (qs .0)) (List._∷_ Row.off List.[]) }
 
         abbrev G35 : Row.Cx
-        G35 = record { locals = List._++_ t26 t1; slots = List._∷_ (Row.lease (κs .0) (qs .0)) (List._∷_ Row.off List.[]); }
+        G35 = record { locals = List._++_ t26 t1; slots = List._∷_ (Row.lease (κs .0) (qs .0)) (List._∷_ Row.off List.[]) }
 
         abbrev G36 : Row.Cx
-        G36 = record { locals = List._++_ t27 t1; slots = List._∷_ (Row.lease (κs .0) (qs .0)) (List._∷_ Row.off List.[]); }
+        G36 = record { locals = List._++_ t27 t1; slots = List._∷_ (Row.lease (κs .0) (qs .0)) (List._∷_ Row.off List.[]) }
 
         abbrev G37 : Row.Cx
-        G37 = record { locals = List._++_ t7 t1; slots = List._∷_ (Row.lease (κs .0) (qs .0)) (List._∷_ Row.off List.[]); }
+        G37 = record { locals = List._++_ t7 t1; slots = List._∷_ (Row.lease (κs .0) (qs .0)) (List._∷_ Row.off List.[]) }
 
         abbrev G38 : Row.Cx
-        G38 = record { locals = List._++_ t7 t1; slots = List._∷_ (Row.lease (κs .0) (qs .0)) (List._∷_ Row.off List.[]); }
+        G38 = record { locals = List._++_ t7 t1; slots = List._∷_ (Row.lease (κs .0) (qs .0)) (List._∷_ Row.off List.[]) }
 
         abbrev G39 : Row.Cx
-        G39 = record { locals = List._++_ t7 t28; slots = List._∷_ (Row.lease (κs .0) (qs .0)) (List._∷_ Row.off List.[]); }
+        G39 = record { locals = List._++_ t7 t28; slots = List._∷_ (Row.lease (κs .0) (qs .0)) (List._∷_ Row.off List.[]) }
 
         abbrev G40 : Row.Cx
-        G40 = record { locals = List._++_ t29 t28; slots = List._∷_ (Row.lease (κs .0) (qs .0)) (List._∷_ Row.off List.[]); }
+        G40 = record { locals = List._++_ t29 t28; slots = List._∷_ (Row.lease (κs .0) (qs .0)) (List._∷_ Row.off List.[]) }
 
         abbrev G41 : Row.Cx
-        G41 = record { locals = List._++_ t29 t30; slots = List._∷_ (Row.lease (κs .0) (qs .0)) (List._∷_ Row.off List.[]); }
+        G41 = record { locals = List._++_ t29 t30; slots = List._∷_ (Row.lease (κs .0) (qs .0)) (List._∷_ Row.off List.[]) }
 
         abbrev G42 : Row.Cx
-        G42 = record { locals = List._++_ t31 t30; slots = List._∷_ (Row.lease (κs .0) (qs .0)) (List._∷_ Row.off List.[]); }
+        G42 = record { locals = List._++_ t31 t30; slots = List._∷_ (Row.lease (κs .0) (qs .0)) (List._∷_ Row.off List.[]) }
 
         abbrev G43 : Row.Cx
-        G43 = record { locals = List._++_ t32 t30; slots = List._∷_ (Row.lease (κs .0) (qs .0)) (List._∷_ Row.off List.[]); }
+        G43 = record { locals = List._++_ t32 t30; slots = List._∷_ (Row.lease (κs .0) (qs .0)) (List._∷_ Row.off List.[]) }
 
         abbrev G44 : Row.Cx
-        G44 = record { locals = List._++_ t33 t30; slots = List._∷_ (Row.lease (κs .0) (qs .0)) (List._∷_ Row.off List.[]); }
+        G44 = record { locals = List._++_ t33 t30; slots = List._∷_ (Row.lease (κs .0) (qs .0)) (List._∷_ Row.off List.[]) }
 
         abbrev G45 : Row.Cx
-        G45 = record { locals = List._++_ t33 t34; slots = List._∷_ (Row.lease (κs .0) (qs .0)) (List._∷_ Row.off List.[]); }
+        G45 = record { locals = List._++_ t33 t34; slots = List._∷_ (Row.lease (κs .0) (qs .0)) (List._∷_ Row.off List.[]) }
 
         abbrev G46 : Row.Cx
-        G46 = record { locals = List._++_ t33 t1; slots = List._∷_ (Row.lease (κs .0) (qs .0)) (List._∷_ Row.off List.[]); }
+        G46 = record { locals = List._++_ t33 t1; slots = List._∷_ (Row.lease (κs .0) (qs .0)) (List._∷_ Row.off List.[]) }
 
         abbrev G47 : Row.Cx
-        G47 = record { locals = List._++_ t35 t1; slots = List._∷_ (Row.lease (κs .0) (qs .0)) (List._∷_ Row.off List.[]); }
+        G47 = record { locals = List._++_ t35 t1; slots = List._∷_ (Row.lease (κs .0) (qs .0)) (List._∷_ Row.off List.[]) }
 
         abbrev G48 : Row.Cx
-        G48 = record { locals = List._++_ t2 t1; slots = List._∷_ (Row.lease (κs .0) (qs .0)) (List._∷_ Row.off List.[]); }
+        G48 = record { locals = List._++_ t2 t1; slots = List._∷_ (Row.lease (κs .0) (qs .0)) (List._∷_ Row.off List.[]) }
 
         abbrev Δ0 : Typed.Outs
         Δ0 = record { next = Option.none; exits = List.[]; returns = Option.some G1 }
@@ -1295,9 +1321,13 @@ module _ (claims· : Claims) where
 
           d25 : Typed.Typed 𝓤 H A 𝓣 E G17 b29 Δ3 (at25 bs)
           d25 = Typed.s-seq 𝓤 H A W 𝓣 E G17 G18 b11 b28 Δ3 (Typed.both (s14 bs)) (at24 bs) (Plain.t-call-plain 𝓤 H A W 𝓣 1 ps·0 r·0 (claims· .0) (claims· .1) "block::records::fetch" known E (λ pos β.
-              β) G17 (record { pos = 9; ty = Syntax.tyRef Syntax.erased Syntax.mut Element.behind; ref = λ x. x; }, (Num.vAt 11 λ x. x, tt)) 6 (List._∷_ 1 List.[]) (Call.sub-id 𝓤 H A W (G17 .slots))
-              (Reads'.as-is 𝓤 H A (Mut.mslice (Element.type) (Syntax.tyRef Syntax.erased Syntax.mut Element.behind) 1), Mut.reads-mslice 𝓤 H A W (Element.type) (Syntax.tyRef Syntax.erased Syntax.mut
-              Element.behind) 1, Path'.refl, ((Scalar.reads-sc 𝓤 H A W (Row.sInt Syntax.w64), Path'.refl), tt)) (Reads'.room-gone 𝓤 H A y1) (tt, tt) Path'.refl) d24
+              β) G17 (record { pos = 9; ty = Syntax.tyRef Syntax.erased Syntax.mut Element.behind; ref = λ x. x }, (Num.vAt 11 λ x. x, tt)) 6 (List._∷_ 1 List.[]) (Call.sub-id 𝓤 H A W (G17 .slots)) (
+                Reads'.as-is 𝓤 H A (Mut.mslice (Element.type) (Syntax.tyRef Syntax.erased Syntax.mut Element.behind) 1),
+                Mut.reads-mslice 𝓤 H A W (Element.type) (Syntax.tyRef Syntax.erased Syntax.mut
+                    Element.behind) 1,
+                Path'.refl,
+                ((Scalar.reads-sc 𝓤 H A W (Row.sInt Syntax.w64), Path'.refl), tt),
+              ) (Reads'.room-gone 𝓤 H A y1) (tt, tt) Path'.refl) d24
 
           d26 : Typed.Typed 𝓤 H A 𝓣 E G16 b29 Δ3 (at26 bs)
           d26 = Typed.g-pre 𝓤 H A W 𝓣 E G16 G17 b29 Δ3 (Typed.pass T16 T17 (s13 bs)) (at25 bs) (Scalar.g-room 𝓤 H A W E G16 10 (Syntax.tyInt Syntax.w64) (Scalar.room-sc 𝓤 H A W (Row.sInt Syntax.w64)))
@@ -1376,23 +1406,26 @@ module _ (claims· : Claims) where
               (List._∷_ (Scalar.oAt 16 (Syntax.tyArray (Syntax.tyInt Syntax.w32) 112) λ xs. Array'.arrayVal (List.map (Laws''.u32-laws .val) xs)) (List._∷_ (Scalar.oAt 17 (Syntax.tyArray (Syntax.tyInt
               Syntax.w32) 112) λ xs. Array'.arrayVal (List.map (Laws''.u32-laws .val) xs)) List.[])) (λ m.
               (m .1 .1 .1 .1 .1 .1 .1 .1 .1 .1 .1 .1 .1 .1 .1 .1 .0, (m .1 .1 .1 .1 .1 .1 .1 .1 .1 .1 .1 .1 .1 .1 .1 .1 .1 .0, tt))) (λ m. Path'._≡_ (ListN.length (m .1 .1 .1 .1 .1 .1 .1 .1 .1 .1 .1 .1 .1
-              .1 .1 .1 .0)) 112 × Path'._≡_ (ListN.length (m .1 .1 .1 .1 .1 .1 .1 .1 .1 .1 .1 .1 .1 .1 .1 .1 .1 .0)) 112) (Reads'.room-gone 𝓤 H A y0)
-              ((Array.arr-reads 𝓤 H A W (Array.eInt Syntax.w32) (Array.eInt-laws Syntax.w32) 112, Path'.refl),
-              ((Array.arr-reads 𝓤 H A W (Array.eInt Syntax.w32) (Array.eInt-laws Syntax.w32) 112, Path'.refl), tt)) Path'.refl (λ ρ m. Make.tells-both 𝓤 H A W E ρ (Row.out 0 (G42 .locals)) m (Path'._≡_
+              .1 .1 .1 .0)) 112 × Path'._≡_ (ListN.length (m .1 .1 .1 .1 .1 .1 .1 .1 .1 .1 .1 .1 .1 .1 .1 .1 .1 .0)) 112) (Reads'.room-gone 𝓤 H A y0) (
+                (Array.arr-reads 𝓤 H A W (Array.eInt Syntax.w32) (Array.eInt-laws Syntax.w32) 112, Path'.refl),
+                ((Array.arr-reads 𝓤 H A W (Array.eInt Syntax.w32) (Array.eInt-laws Syntax.w32) 112, Path'.refl), tt),
+              ) Path'.refl (λ ρ m. Make.tells-both 𝓤 H A W E ρ (Row.out 0 (G42 .locals)) m (Path'._≡_
               (ListN.length (m .1 .1 .1 .1 .1 .1 .1 .1 .1 .1 .1 .1 .1 .1 .1 .1 .0)) 112) (Path'._≡_ (ListN.length (m .1 .1 .1 .1 .1 .1 .1 .1 .1 .1 .1 .1 .1 .1 .1 .1 .1 .0)) 112) (Make.tells-row 𝓤 H A W E
               ρ (Row.out 0 (G42 .locals)) m 16 (Path'._≡_ (ListN.length (m .1 .1 .1 .1 .1 .1 .1 .1 .1 .1 .1 .1 .1 .1 .1 .1 .0)) 112) (Init.arr-len 𝓤 H A W E (Referent.rtF (Referent.fInt Syntax.w32)) ρ 16
               112 Nat.zero (m .1 .1 .1 .1 .1 .1 .1 .1 .1 .1 .1 .1 .1 .1 .1 .1 .0))) (Make.tells-row 𝓤 H A W E ρ (Row.out 0 (G42 .locals)) m 17 (Path'._≡_ (ListN.length (m .1 .1 .1 .1 .1 .1 .1 .1 .1 .1 .1
               .1 .1 .1 .1 .1 .1 .0)) 112) (Init.arr-len 𝓤 H A W E (Referent.rtF (Referent.fInt Syntax.w32)) ρ 17 112 Nat.zero (m .1 .1 .1 .1 .1 .1 .1 .1 .1 .1 .1 .1 .1 .1 .1 .1 .1 .0)))) (λ m q.
               Signed.made-val (Apart.apartT Set.the-type) Laws'.the-laws (List._∷_ (Array'.arrayVal (List.map (Laws''.u32-laws .val) (m .1 .1 .1 .1 .1 .1 .1 .1 .1 .1 .1 .1 .1 .1 .1 .1 .0))) (List._∷_
               (Array'.arrayVal (List.map (Laws''.u32-laws .val) (m .1 .1 .1 .1 .1 .1 .1 .1 .1 .1 .1 .1 .1 .1 .1 .1 .1 .0))) List.[]))
-              (m .1 .1 .1 .1 .1 .1 .1 .1 .1 .1 .1 .1 .1 .1 .1 .1 .0, (m .1 .1 .1 .1 .1 .1 .1 .1 .1 .1 .1 .1 .1 .1 .1 .1 .1 .0, tt))
-              (Items.array-made Field.u32-field Laws''.u32-laws Make.u32-wt 112 (m .1 .1 .1 .1 .1 .1 .1 .1 .1 .1 .1 .1 .1 .1 .1 .1 .0) (q .0),
-              (Items.array-made Field.u32-field Laws''.u32-laws Make.u32-wt 112 (m .1 .1 .1 .1 .1 .1 .1 .1 .1 .1 .1 .1 .1 .1 .1 .1 .1 .0) (q .1), tt))) λ m q. Signed.made-is (Apart.apartT Set.the-type)
+              (m .1 .1 .1 .1 .1 .1 .1 .1 .1 .1 .1 .1 .1 .1 .1 .1 .0, (m .1 .1 .1 .1 .1 .1 .1 .1 .1 .1 .1 .1 .1 .1 .1 .1 .1 .0, tt)) (
+                Items.array-made Field.u32-field Laws''.u32-laws Make.u32-wt 112 (m .1 .1 .1 .1 .1 .1 .1 .1 .1 .1 .1 .1 .1 .1 .1 .1 .0) (q .0),
+                (Items.array-made Field.u32-field Laws''.u32-laws Make.u32-wt 112 (m .1 .1 .1 .1 .1 .1 .1 .1 .1 .1 .1 .1 .1 .1 .1 .1 .1 .0) (q .1), tt),
+              )) λ m q. Signed.made-is (Apart.apartT Set.the-type)
               Laws'.the-laws (List._∷_ (Array'.arrayVal (List.map (Laws''.u32-laws .val) (m .1 .1 .1 .1 .1 .1 .1 .1 .1 .1 .1 .1 .1 .1 .1 .1 .0))) (List._∷_ (Array'.arrayVal (List.map (Laws''.u32-laws
               .val) (m .1 .1 .1 .1 .1 .1 .1 .1 .1 .1 .1 .1 .1 .1 .1 .1 .1 .0))) List.[]))
-              (m .1 .1 .1 .1 .1 .1 .1 .1 .1 .1 .1 .1 .1 .1 .1 .1 .0, (m .1 .1 .1 .1 .1 .1 .1 .1 .1 .1 .1 .1 .1 .1 .1 .1 .1 .0, tt))
-              (Items.array-made Field.u32-field Laws''.u32-laws Make.u32-wt 112 (m .1 .1 .1 .1 .1 .1 .1 .1 .1 .1 .1 .1 .1 .1 .1 .1 .0) (q .0),
-              (Items.array-made Field.u32-field Laws''.u32-laws Make.u32-wt 112 (m .1 .1 .1 .1 .1 .1 .1 .1 .1 .1 .1 .1 .1 .1 .1 .1 .1 .0) (q .1), tt))) d41
+              (m .1 .1 .1 .1 .1 .1 .1 .1 .1 .1 .1 .1 .1 .1 .1 .1 .0, (m .1 .1 .1 .1 .1 .1 .1 .1 .1 .1 .1 .1 .1 .1 .1 .1 .1 .0, tt)) (
+                Items.array-made Field.u32-field Laws''.u32-laws Make.u32-wt 112 (m .1 .1 .1 .1 .1 .1 .1 .1 .1 .1 .1 .1 .1 .1 .1 .1 .0) (q .0),
+                (Items.array-made Field.u32-field Laws''.u32-laws Make.u32-wt 112 (m .1 .1 .1 .1 .1 .1 .1 .1 .1 .1 .1 .1 .1 .1 .1 .1 .1 .0) (q .1), tt),
+              )) d41
 
           d43 : Typed.Typed 𝓤 H A 𝓣 E G41 b42 Δ0 (at43 bs)
           d43 = Typed.g-pre 𝓤 H A W 𝓣 E G41 G42 b42 Δ0 (Typed.pass T41 T42 (s38 bs)) (at42 bs) (Scalar.g-room 𝓤 H A W E G41 4 (Syntax.tyArray (Syntax.tyInt Syntax.w32) 112) (Init.room-arr 𝓤 H A W
@@ -1467,9 +1500,12 @@ module _ (claims· : Claims) where
       m0 = λ κs args blocks. (tt, Enter.partsP κs 1 ps xs (dens κs args))
 
       abbrev W0 : (κs : Lifetimes.Lfts 1) → (args : Args κs) → (blocks : List.List Nat.ℕ) → Typed.Want O0
-      W0 = λ κs args blocks.
-          (λ u. ⊥, tt, λ u. Enter.Fixs κs 1 ps xs (dens κs args) (u .1) × Post· κs (dens κs args) (Function.resV r κs (u .0)) (Clauses.atExit (Kinds.endedOf 1 ps r) κs (dens κs args) (Enter.lastsP κs 1 ps
-          xs (dens κs args) (u .1))))
+      W0 = λ κs args blocks. (
+        λ u. ⊥,
+        tt,
+        λ u. Enter.Fixs κs 1 ps xs (dens κs args) (u .1) × Post· κs (dens κs args) (Function.resV r κs (u .0)) (Clauses.atExit (Kinds.endedOf 1 ps r) κs (dens κs args) (Enter.lastsP κs 1 ps
+            xs (dens κs args) (u .1))),
+      )
 
       pub record Start : Type 0 where
         pub κs : Lifetimes.Lfts 1
@@ -1514,7 +1550,7 @@ module _ (claims· : Claims) where
           (1, Mut.mslice (Element.type) (Syntax.tyRef (Syntax.named 0) Syntax.mut Element.behind) 0) (T6 .locals))) (Row.set 3 (3, Rows.arrF (Referent.rtF (Referent.fInt Syntax.w32)) 112 0) sums
           (Row.setRow 1 (1, Mut.mslice (Element.type) (Syntax.tyRef (Syntax.named 0) Syntax.mut Element.behind) 0) (T6 .locals)) (Row.set 1
           (1, Mut.mslice (Element.type) (Syntax.tyRef (Syntax.named 0) Syntax.mut Element.behind) 0) record
-          { ptr = Row.get 1 (T6 .locals) (m5 (before .κs) (before .args) (before .blocks)) .ptr; name = Row.get 1 (T6 .locals) (m5 (before .κs) (before .args) (before .blocks)) .name; now = rs; } (T6
+          { ptr = Row.get 1 (T6 .locals) (m5 (before .κs) (before .args) (before .blocks)) .ptr; name = Row.get 1 (T6 .locals) (m5 (before .κs) (before .args) (before .blocks)) .name; now = rs } (T6
           .locals) (m5 (before .κs) (before .args) (before .blocks)))))
 
       abbrev W3 : (before : Start) → (rs : List.List (Element.type .Denot)) → (sums : Rows.arrF (Referent.rtF (Referent.fInt Syntax.w32)) 112 0 .Mod) → (ns : Rows.arrF (Referent.rtF (Referent.fInt
@@ -1605,7 +1641,7 @@ module _ (claims· : Claims) where
 
       module _ (before· : After-fetch-arg) where
         abbrev pub After-fetch·own : Type 0
-        After-fetch·own = Called.Called ps·0 r·0 (claims· .1) T17 (record { pos = 9; ty = Syntax.tyRef Syntax.erased Syntax.mut Element.behind; ref = λ x. x; }, (Num.vAt 11 λ x. x, tt)) (m14 (before·
+        After-fetch·own = Called.Called ps·0 r·0 (claims· .1) T17 (record { pos = 9; ty = Syntax.tyRef Syntax.erased Syntax.mut Element.behind; ref = λ x. x }, (Num.vAt 11 λ x. x, tt)) (m14 (before·
             .before) (before· .fetch-arg .given))
 
       pub record After-fetch : Type 0 where
@@ -1613,7 +1649,7 @@ module _ (claims· : Claims) where
         pub fetch : After-fetch·own before
 
       abbrev pub After-fetch·gave : (c : After-fetch) → s14 (c .before .before .before .before .blocks) .gives (m14 (c .before .before) (c .before .fetch-arg .given))
-      After-fetch·gave = λ c. Called.given ps·0 r·0 (claims· .1) T17 (record { pos = 9; ty = Syntax.tyRef Syntax.erased Syntax.mut Element.behind; ref = λ x. x; }, (Num.vAt 11 λ x. x, tt)) (m14 (c
+      After-fetch·gave = λ c. Called.given ps·0 r·0 (claims· .1) T17 (record { pos = 9; ty = Syntax.tyRef Syntax.erased Syntax.mut Element.behind; ref = λ x. x }, (Num.vAt 11 λ x. x, tt)) (m14 (c
           .before .before) (c .before .fetch-arg .given)) (c .fetch)
 
       abbrev pub m16 : (before : After-fetch-arg) → (given : s14 (before .before .before .before .blocks) .gives (m14 (before .before) (before .fetch-arg .given))) → Typed.Mo T19
@@ -1758,47 +1794,89 @@ module _ (claims· : Claims) where
           Need-array-write-sums) (mul-ns : Need-mul-ns) (array-write-ns : Need-array-write-ns) (add-i : Need-add-i) (loop-less : Need-loop-less) (loop-again : Need-loop-again) (same-length :
           Need-same-length) (returns : Need-returns) where
         lay5 : (c : After-loop) → at46 (c .before .before .blocks) (W0 (c .before .before .κs) (c .before .before .args) (c .before .before .blocks)) (m9 (c .before))
-        lay5 = λ c.
-            ((MutSlice.fix-len (Row.get 1 (T48 .locals) (m43 (c .before)) .ptr) (Row.get 1 (T48 .locals) (m43 (c .before)) .name) (Row.get 1 (T48 .locals) (m43 (c .before)) .now) (dens (c .before .before
-            .κs) (c .before .before .args) .0 .now) (same-length record { before = c .before; loop-test = c .loop-test }), (tt, tt)), returns record { before = c .before; loop-test = c .loop-test })
+        lay5 = λ c. (
+          (
+            MutSlice.fix-len (Row.get 1 (T48 .locals) (m43 (c .before)) .ptr) (Row.get 1 (T48 .locals) (m43 (c .before)) .name) (Row.get 1 (T48 .locals) (m43 (c .before)) .now) (dens (c .before .before
+                .κs) (c .before .before .args) .0 .now) (same-length record { before = c .before; loop-test = c .loop-test }),
+            (tt, tt),
+          ),
+          returns record { before = c .before; loop-test = c .loop-test },
+        )
 
         lay4 : (c : After-fetch) → at24 (c .before .before .before .before .blocks) (W3 (c .before .before .before .before) (c .before .before .before .loop .rs) (c .before .before .before .loop
             .sums) (c .before .before .before .loop .ns) (c .before .before .before .loop .i)) (m15 (c .before) (After-fetch·gave c))
-        lay4 = λ c.
-            (Path'.refl, λ g.
-            (mul-sums record { before = record { before = c .before; fetch = c .fetch }; rs = record { given = g }; },
-            (tt,
-            (((Path'.refl, Path'.refl), array-write-sums record { before = record { before = c .before; fetch = c .fetch }; rs = record { given = g }; }),
-            (mul-ns record { before = record { before = c .before; fetch = c .fetch }; rs = record { given = g }; },
-            (tt,
-            (((Path'.refl, Path'.refl), array-write-ns record { before = record { before = c .before; fetch = c .fetch }; rs = record { given = g }; }),
-            (add-i record { before = record { before = c .before; fetch = c .fetch }; rs = record { given = g }; },
-            (μ·0 (Row.get 1 (T6 .locals) (m5 (c .before .before .before .before .κs) (c .before .before .before .before .args) (c .before .before .before .before .blocks)) .now) (Row.get 2 (T6 .locals)
-            (m5 (c .before .before .before .before .κs) (c .before .before .before .before .args) (c .before .before .before .before .blocks))) (Row.get 3 (T6 .locals) (m5 (c .before .before .before
-            .before .κs) (c .before .before .before .before .args) (c .before .before .before .before .blocks))) (Row.get 4 (T6 .locals) (m5 (c .before .before .before .before .κs) (c .before .before
-            .before .before .args) (c .before .before .before .before .blocks))) (Row.get 5 (T6 .locals) (m5 (c .before .before .before .before .κs) (c .before .before .before .before .args) (c .before
-            .before .before .before .blocks))) (Row.get 1 (T6 .locals) (m33 record { before = c .before; fetch = c .fetch; } g) .now) (Row.get 3 (T6 .locals) (m33 record
-            { before = c .before; fetch = c .fetch; } g)) (Row.get 4 (T6 .locals) (m33 record { before = c .before; fetch = c .fetch; } g)) (Row.get 5 (T6 .locals) (m33 record
-            { before = c .before; fetch = c .fetch; } g)), loop-less record { before = record { before = c .before; fetch = c .fetch }; rs = record { given = g }; },
-            ((Row.get 1 (T6 .locals) (m33 record { before = c .before; fetch = c .fetch; } g) .now, Row.get 3 (T6 .locals) (m33 record { before = c .before; fetch = c .fetch; } g), Row.get 4 (T6 .locals)
-            (m33 record { before = c .before; fetch = c .fetch; } g), Row.get 5 (T6 .locals) (m33 record { before = c .before; fetch = c .fetch; } g)), Path'.refl {a = m33 record
-            { before = c .before; fetch = c .fetch } g}, loop-again record { before = record { before = c .before; fetch = c .fetch }; rs = record { given = g }; }, Path'.refl {a = μ·0 (Row.get 1 (T6
-            .locals) (m5 (c .before .before .before .before .κs) (c .before .before .before .before .args) (c .before .before .before .before .blocks)) .now) (Row.get 2 (T6 .locals) (m5 (c .before .before
-            .before .before .κs) (c .before .before .before .before .args) (c .before .before .before .before .blocks))) (Row.get 3 (T6 .locals) (m5 (c .before .before .before .before .κs) (c .before
-            .before .before .before .args) (c .before .before .before .before .blocks))) (Row.get 4 (T6 .locals) (m5 (c .before .before .before .before .κs) (c .before .before .before .before .args) (c
-            .before .before .before .before .blocks))) (Row.get 5 (T6 .locals) (m5 (c .before .before .before .before .κs) (c .before .before .before .before .args) (c .before .before .before .before
-            .blocks))) (Row.get 1 (T6 .locals) (m33 record { before = c .before; fetch = c .fetch; } g) .now) (Row.get 3 (T6 .locals) (m33 record { before = c .before; fetch = c .fetch; } g)) (Row.get 4
-            (T6 .locals) (m33 record { before = c .before; fetch = c .fetch; } g)) (Row.get 5 (T6 .locals) (m33 record { before = c .before; fetch = c .fetch; } g))}))))))))))
+        lay4 = λ c. (
+          Path'.refl,
+          λ g. (
+            mul-sums record { before = record { before = c .before; fetch = c .fetch }; rs = record { given = g } },
+            (
+              tt,
+              (
+                ((Path'.refl, Path'.refl), array-write-sums record { before = record { before = c .before; fetch = c .fetch }; rs = record { given = g } }),
+                (
+                  mul-ns record { before = record { before = c .before; fetch = c .fetch }; rs = record { given = g } },
+                  (
+                    tt,
+                    (
+                      ((Path'.refl, Path'.refl), array-write-ns record { before = record { before = c .before; fetch = c .fetch }; rs = record { given = g } }),
+                      (
+                        add-i record { before = record { before = c .before; fetch = c .fetch }; rs = record { given = g } },
+                        (
+                          μ·0 (Row.get 1 (T6 .locals) (m5 (c .before .before .before .before .κs) (c .before .before .before .before .args) (c .before .before .before .before .blocks)) .now) (Row.get 2 (T6 .locals)
+                              (m5 (c .before .before .before .before .κs) (c .before .before .before .before .args) (c .before .before .before .before .blocks))) (Row.get 3 (T6 .locals) (m5 (c .before .before .before
+                              .before .κs) (c .before .before .before .before .args) (c .before .before .before .before .blocks))) (Row.get 4 (T6 .locals) (m5 (c .before .before .before .before .κs) (c .before .before
+                              .before .before .args) (c .before .before .before .before .blocks))) (Row.get 5 (T6 .locals) (m5 (c .before .before .before .before .κs) (c .before .before .before .before .args) (c .before
+                              .before .before .before .blocks))) (Row.get 1 (T6 .locals) (m33 record { before = c .before; fetch = c .fetch } g) .now) (Row.get 3 (T6 .locals) (m33 record
+                              { before = c .before; fetch = c .fetch } g)) (Row.get 4 (T6 .locals) (m33 record { before = c .before; fetch = c .fetch } g)) (Row.get 5 (T6 .locals) (m33 record
+                              { before = c .before; fetch = c .fetch } g)),
+                          loop-less record { before = record { before = c .before; fetch = c .fetch }; rs = record { given = g } },
+                          (
+                            (
+                              Row.get 1 (T6 .locals) (m33 record { before = c .before; fetch = c .fetch } g) .now,
+                              Row.get 3 (T6 .locals) (m33 record { before = c .before; fetch = c .fetch } g),
+                              Row.get 4 (T6 .locals)
+                                  (m33 record { before = c .before; fetch = c .fetch } g),
+                              Row.get 5 (T6 .locals) (m33 record { before = c .before; fetch = c .fetch } g),
+                            ),
+                            Path'.refl {a = m33 record
+                                { before = c .before; fetch = c .fetch } g},
+                            loop-again record { before = record { before = c .before; fetch = c .fetch }; rs = record { given = g } },
+                            Path'.refl {a = μ·0 (Row.get 1 (T6
+                                .locals) (m5 (c .before .before .before .before .κs) (c .before .before .before .before .args) (c .before .before .before .before .blocks)) .now) (Row.get 2 (T6 .locals) (m5 (c .before .before
+                                .before .before .κs) (c .before .before .before .before .args) (c .before .before .before .before .blocks))) (Row.get 3 (T6 .locals) (m5 (c .before .before .before .before .κs) (c .before
+                                .before .before .before .args) (c .before .before .before .before .blocks))) (Row.get 4 (T6 .locals) (m5 (c .before .before .before .before .κs) (c .before .before .before .before .args) (c
+                                .before .before .before .before .blocks))) (Row.get 5 (T6 .locals) (m5 (c .before .before .before .before .κs) (c .before .before .before .before .args) (c .before .before .before .before
+                                .blocks))) (Row.get 1 (T6 .locals) (m33 record { before = c .before; fetch = c .fetch } g) .now) (Row.get 3 (T6 .locals) (m33 record { before = c .before; fetch = c .fetch } g)) (Row.get 4
+                                (T6 .locals) (m33 record { before = c .before; fetch = c .fetch } g)) (Row.get 5 (T6 .locals) (m33 record { before = c .before; fetch = c .fetch } g))},
+                          ),
+                        ),
+                      ),
+                    ),
+                  ),
+                ),
+              ),
+            ),
+          ),
+        )
 
         lay3 : (c : In-loop) → at31 (c .before .before .blocks) (W3 (c .before .before) (c .before .loop .rs) (c .before .loop .sums) (c .before .loop .ns) (c .before .loop .i)) (m8 (c .before))
-        lay3 = λ c. λ g.
-            (Path'.refl,
-            (mul-fetch record { before = record { before = c .before; loop-test = c .loop-test }; fetch-arg = record { given = g }; },
-            (add-fetch record { before = record { before = c .before; loop-test = c .loop-test }; fetch-arg = record { given = g }; },
-            (fetch-requires record { before = record { before = c .before; loop-test = c .loop-test }; fetch-arg = record { given = g }; }, λ g'. lay4 record
-            { before = record { before = record { before = c .before; loop-test = c .loop-test }; fetch-arg = record { given = g }; }; fetch = Called.called ps·0 r·0 (claims· .1) T17
-            (record { pos = 9; ty = Syntax.tyRef Syntax.erased Syntax.mut Element.behind; ref = λ x. x; }, (Num.vAt 11 λ x. x, tt)) (m14 record { before = c .before; loop-test = c .loop-test } g) g';
-            }))))
+        lay3 = λ c. λ g. (
+          Path'.refl,
+          (
+            mul-fetch record { before = record { before = c .before; loop-test = c .loop-test }; fetch-arg = record { given = g } },
+            (
+              add-fetch record { before = record { before = c .before; loop-test = c .loop-test }; fetch-arg = record { given = g } },
+              (
+                fetch-requires record { before = record { before = c .before; loop-test = c .loop-test }; fetch-arg = record { given = g } },
+                λ g'. lay4 record {
+                  before = record { before = record { before = c .before; loop-test = c .loop-test }; fetch-arg = record { given = g } };
+                  fetch = Called.called ps·0 r·0 (claims· .1) T17
+                      (record { pos = 9; ty = Syntax.tyRef Syntax.erased Syntax.mut Element.behind; ref = λ x. x }, (Num.vAt 11 λ x. x, tt)) (m14 record { before = c .before; loop-test = c .loop-test } g) g';
+                },
+              ),
+            ),
+          ),
+        )
 
         lay2 : (c : After-loop) → at3 (c .before .before .blocks) (W4 (c .before .before) (c .before .loop .rs) (c .before .loop .sums) (c .before .loop .ns) (c .before .loop .i)) (m7 (c .before
             .before) (c .before .loop .rs) (c .before .loop .sums) (c .before .loop .ns) (c .before .loop .i))
@@ -1809,20 +1887,39 @@ module _ (claims· : Claims) where
         lay1 = λ c. lay3 record { before = c .before; loop-test = c .loop-test }
 
         pub laid : (c : Start) → at52 (c .blocks) (W0 (c .κs) (c .args) (c .blocks)) (m0 (c .κs) (c .args) (c .blocks))
-        laid = λ c.
-            (((Row.get 1 (T6 .locals) (m5 (c .κs) (c .args) (c .blocks)) .now, Row.get 3 (T6 .locals) (m5 (c .κs) (c .args) (c .blocks)), Row.get 4 (T6 .locals) (m5 (c .κs) (c .args) (c .blocks)), Row.get
-            5 (T6 .locals) (m5 (c .κs) (c .args) (c .blocks))), Path'.refl {a = m5 (c .κs) (c .args) (c .blocks)}, loop-holds c), λ vs inv.
-            (tt,
-            (λ taken. lay1 record
-            { before = record { before = c; loop = record { rs = vs .0; sums = vs .1; ns = vs .2; i = vs .3; inv = inv }; }; loop-test = record
-            { taken = Tests.ltb-true (Row.get 5 (T6 .locals) (m6 c (vs .0) (vs .1) (vs .2) (vs .3))) 112 taken; }; }, λ left. lay2 record
-            { before = record { before = c; loop = record { rs = vs .0; sums = vs .1; ns = vs .2; i = vs .3; inv = inv }; }; loop-test = record
-            { left = Tests.ltb-false (Row.get 5 (T6 .locals) (m6 c (vs .0) (vs .1) (vs .2) (vs .3))) 112 left; }; })))
+        laid = λ c. (
+          (
+            (
+              Row.get 1 (T6 .locals) (m5 (c .κs) (c .args) (c .blocks)) .now,
+              Row.get 3 (T6 .locals) (m5 (c .κs) (c .args) (c .blocks)),
+              Row.get 4 (T6 .locals) (m5 (c .κs) (c .args) (c .blocks)),
+              Row.get
+                  5 (T6 .locals) (m5 (c .κs) (c .args) (c .blocks)),
+            ),
+            Path'.refl {a = m5 (c .κs) (c .args) (c .blocks)},
+            loop-holds c,
+          ),
+          λ vs inv. (
+            tt,
+            (
+              λ taken. lay1 record {
+                before = record { before = c; loop = record { rs = vs .0; sums = vs .1; ns = vs .2; i = vs .3; inv = inv } };
+                loop-test = record
+                    { taken = Tests.ltb-true (Row.get 5 (T6 .locals) (m6 c (vs .0) (vs .1) (vs .2) (vs .3))) 112 taken };
+              },
+              λ left. lay2 record {
+                before = record { before = c; loop = record { rs = vs .0; sums = vs .1; ns = vs .2; i = vs .3; inv = inv } };
+                loop-test = record
+                    { left = Tests.ltb-false (Row.get 5 (T6 .locals) (m6 c (vs .0) (vs .1) (vs .2) (vs .3))) 112 left };
+              },
+            ),
+          ),
+        )
 
         module _ (κs : Lifetimes.Lfts 1) (qs : Lifetimes.Shares 1) where
           pub asked : (a : Kinds.Dens κs ps) → (good : Kinds.GoodsP κs ps a) → (pre : Pre· κs a) → (bs : List.List Nat.ℕ) → Φ bs (Any.wantQ 1 ps r xs m κs qs a (Post· κs a)) (Function.init 1 ps r xs m
               κs qs a)
-          asked = λ a good pre bs. laid record { κs = κs; args = record { rs = a .0; g = a .1 .0 }; blocks = bs; good = good; fits = record { g = record { fits = good .1 .0 .1 } }; pre = pre; }
+          asked = λ a good pre bs. laid record { κs = κs; args = record { rs = a .0; g = a .1 .0 }; blocks = bs; good = good; fits = record { g = record { fits = good .1 .0 .1 } }; pre = pre }
 
         module _ {M : Type 1} (𝓤 : URA.URA M) (H : Wp.Heap 𝓤) (A : Atoms.Atoms 𝓤) (W : Kit.Given 𝓤 H A) (𝓣 : Wp.Tables 𝓤 H) (known0 : Plain.Known 𝓤 H A W 𝓣 1 ps·0 r·0 (claims· .0) (claims· .1)
             "block::records::fetch") where

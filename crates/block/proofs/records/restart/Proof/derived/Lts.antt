@@ -256,7 +256,7 @@ module _ (claims· : Claims) where
       x) (Scalar.oFld 1 (List._∷_ (Syntax.field 1) List.[]) (Syntax.tyInt Syntax.w64) 8 λ v. Shared.lenV (v .0))
 
   abbrev s5 : Typed.Both T7 T8
-  s5 = Call.callB ps·0 r·0 (claims· .0) (claims· .1) T7 (record { pos = 8; ty = Syntax.tyRef Syntax.erased Syntax.mut Element.behind; ref = λ x. x; }, (Num.vAt 2 λ x. x, (Num.vAt 3 λ x. x, tt))) 6
+  s5 = Call.callB ps·0 r·0 (claims· .0) (claims· .1) T7 (record { pos = 8; ty = Syntax.tyRef Syntax.erased Syntax.mut Element.behind; ref = λ x. x }, (Num.vAt 2 λ x. x, (Num.vAt 3 λ x. x, tt))) 6
       (List._∷_ 1 List.[]) Syntax.tyUnit
 
   abbrev s6 : Typed.Mo T8 → Typed.Mo T9
@@ -357,22 +357,22 @@ module _ (claims· : Claims) where
             e8 (List._∷_ e9 (List._∷_ e10 (List._∷_ e13 (List._∷_ e14 List.[]))))))))
 
         abbrev G0 : Row.Cx
-        G0 = record { locals = t0; slots = List._∷_ (Row.lease (κs .0) (qs .0)) (List._∷_ Row.off List.[]); }
+        G0 = record { locals = t0; slots = List._∷_ (Row.lease (κs .0) (qs .0)) (List._∷_ Row.off List.[]) }
 
         abbrev G1 : Row.Cx
-        G1 = record { locals = t1; slots = List._∷_ (Row.lease (κs .0) (qs .0)) (List._∷_ Row.off List.[]); }
+        G1 = record { locals = t1; slots = List._∷_ (Row.lease (κs .0) (qs .0)) (List._∷_ Row.off List.[]) }
 
         abbrev G2 : Row.Cx
-        G2 = record { locals = t2; slots = List._∷_ (Row.lease (κs .0) (qs .0)) (List._∷_ Row.off List.[]); }
+        G2 = record { locals = t2; slots = List._∷_ (Row.lease (κs .0) (qs .0)) (List._∷_ Row.off List.[]) }
 
         abbrev G3 : Row.Cx
-        G3 = record { locals = t0; slots = List._∷_ (Row.lease (κs .0) (qs .0)) (List._∷_ Row.off List.[]); }
+        G3 = record { locals = t0; slots = List._∷_ (Row.lease (κs .0) (qs .0)) (List._∷_ Row.off List.[]) }
 
         abbrev G4 : Row.Cx
-        G4 = record { locals = t0; slots = List._∷_ (Row.lease (κs .0) (qs .0)) (List._∷_ Row.off List.[]); }
+        G4 = record { locals = t0; slots = List._∷_ (Row.lease (κs .0) (qs .0)) (List._∷_ Row.off List.[]) }
 
         abbrev G5 : Row.Cx
-        G5 = record { locals = t0; slots = List._∷_ (Row.lease (κs .0) (qs .0)) (List._∷_ Row.alive List.[]); }
+        G5 = record { locals = t0; slots = List._∷_ (Row.lease (κs .0) (qs .0)) (List._∷_ Row.alive List.[]) }
 
         abbrev G6 : Row.Cx
         G6 = record { locals = g3; slots = List._∷_ Row.off (List._∷_ Row.alive List.[]) }
@@ -390,25 +390,25 @@ module _ (claims· : Claims) where
         G10 = record { locals = g6; slots = List._∷_ Row.off (List._∷_ Row.dead List.[]) }
 
         abbrev G11 : Row.Cx
-        G11 = record { locals = t0; slots = List._∷_ (Row.lease (κs .0) (qs .0)) (List._∷_ Row.dead List.[]); }
+        G11 = record { locals = t0; slots = List._∷_ (Row.lease (κs .0) (qs .0)) (List._∷_ Row.dead List.[]) }
 
         abbrev G12 : Row.Cx
-        G12 = record { locals = t0; slots = List._∷_ (Row.lease (κs .0) (qs .0)) (List._∷_ Row.off List.[]); }
+        G12 = record { locals = t0; slots = List._∷_ (Row.lease (κs .0) (qs .0)) (List._∷_ Row.off List.[]) }
 
         abbrev G13 : Row.Cx
-        G13 = record { locals = t0; slots = List._∷_ (Row.lease (κs .0) (qs .0)) (List._∷_ Row.off List.[]); }
+        G13 = record { locals = t0; slots = List._∷_ (Row.lease (κs .0) (qs .0)) (List._∷_ Row.off List.[]) }
 
         abbrev G14 : Row.Cx
-        G14 = record { locals = t7; slots = List._∷_ (Row.lease (κs .0) (qs .0)) (List._∷_ Row.off List.[]); }
+        G14 = record { locals = t7; slots = List._∷_ (Row.lease (κs .0) (qs .0)) (List._∷_ Row.off List.[]) }
 
         abbrev G15 : Row.Cx
-        G15 = record { locals = t8; slots = List._∷_ (Row.lease (κs .0) (qs .0)) (List._∷_ Row.off List.[]); }
+        G15 = record { locals = t8; slots = List._∷_ (Row.lease (κs .0) (qs .0)) (List._∷_ Row.off List.[]) }
 
         abbrev G16 : Row.Cx
-        G16 = record { locals = t9; slots = List._∷_ (Row.lease (κs .0) (qs .0)) (List._∷_ Row.off List.[]); }
+        G16 = record { locals = t9; slots = List._∷_ (Row.lease (κs .0) (qs .0)) (List._∷_ Row.off List.[]) }
 
         abbrev G17 : Row.Cx
-        G17 = record { locals = t1; slots = List._∷_ (Row.lease (κs .0) (qs .0)) (List._∷_ Row.off List.[]); }
+        G17 = record { locals = t1; slots = List._∷_ (Row.lease (κs .0) (qs .0)) (List._∷_ Row.off List.[]) }
 
         abbrev Δ0 : Typed.Outs
         Δ0 = record { next = Option.none; exits = List.[]; returns = Option.some G1 }
@@ -426,10 +426,14 @@ module _ (claims· : Claims) where
               (Typed.both s8 Ψ))) (λ Ψ. Ψ) (Typed.g-post 𝓤 H A W 𝓣 E G7 G10 G11 b3 (λ Ψ. Typed.both s5 (Typed.pass T8 T9 s6 Ψ)) (Typed.both s8) (Typed.g-post 𝓤 H A W 𝓣 E G7 G9 G10 b3 (λ Ψ. Typed.both s5
               (Typed.pass T8 T9 s6 Ψ)) (λ Ψ. Ψ) (Typed.g-post 𝓤 H A W 𝓣 E G7 G8 G9 b3 (Typed.both s5) (Typed.pass T8 T9 s6) (Plain.t-call-plain 𝓤 H A W 𝓣 1 ps·0 r·0 (claims· .0) (claims· .1)
               "block::records::restart_main" known E (λ pos β. β) G7
-              (record { pos = 8; ty = Syntax.tyRef Syntax.erased Syntax.mut Element.behind; ref = λ x. x; }, (Num.vAt 2 λ x. x, (Num.vAt 3 λ x. x, tt))) 6 (List._∷_ 1 List.[]) (Call.sub-id 𝓤 H A W (G7
-              .slots))
-              (Reads.as-is 𝓤 H A (Mut.mslice (Element.type) (Syntax.tyRef Syntax.erased Syntax.mut Element.behind) 1), Mut.reads-mslice 𝓤 H A W (Element.type) (Syntax.tyRef Syntax.erased Syntax.mut
-              Element.behind) 1, Path'.refl, ((Scalar.reads-sc 𝓤 H A W (Row.sInt Syntax.w32), Path'.refl), ((Scalar.reads-sc 𝓤 H A W (Row.sInt Syntax.w32), Path'.refl), tt))) (Reads.room-gone 𝓤 H A
+              (record { pos = 8; ty = Syntax.tyRef Syntax.erased Syntax.mut Element.behind; ref = λ x. x }, (Num.vAt 2 λ x. x, (Num.vAt 3 λ x. x, tt))) 6 (List._∷_ 1 List.[]) (Call.sub-id 𝓤 H A W (G7
+              .slots)) (
+                Reads.as-is 𝓤 H A (Mut.mslice (Element.type) (Syntax.tyRef Syntax.erased Syntax.mut Element.behind) 1),
+                Mut.reads-mslice 𝓤 H A W (Element.type) (Syntax.tyRef Syntax.erased Syntax.mut
+                    Element.behind) 1,
+                Path'.refl,
+                ((Scalar.reads-sc 𝓤 H A W (Row.sInt Syntax.w32), Path'.refl), ((Scalar.reads-sc 𝓤 H A W (Row.sInt Syntax.w32), Path'.refl), tt)),
+              ) (Reads.room-gone 𝓤 H A
               Syntax.tyUnit) (tt, tt) Path'.refl) (Scalar.g-room 𝓤 H A W E G8 6 Syntax.tyUnit (Scalar.room-sc 𝓤 H A W Row.sUnit))) (Lifetime.g-end 𝓤 H A W E G9 1 Path'.refl)) (Relend.g-back-sl 𝓤 H A W E
               (Element.type) G10 8 1 0 1 (Syntax.tyRef (Syntax.named 0) Syntax.mut Element.behind) (Syntax.tyRef Syntax.erased Syntax.mut Element.behind) (Row.lease (κs .0) (qs .0)) (λ x. x) (λ x. x)
               (Reads.as-is 𝓤 H A (Mut.msleft (Element.type) (Syntax.tyRef Syntax.erased Syntax.mut Element.behind))) (Reads.as-is 𝓤 H A (Relend.mslice-owed (Element.type) (Syntax.tyRef (Syntax.named 0)
@@ -508,9 +512,12 @@ module _ (claims· : Claims) where
       m0 = λ κs args. (tt, Enter.partsP κs 1 ps xs (dens κs args))
 
       abbrev W0 : (κs : Lifetimes.Lfts 1) → (args : Args κs) → Typed.Want O0
-      W0 = λ κs args.
-          (λ u. ⊥, tt, λ u. Enter.Fixs κs 1 ps xs (dens κs args) (u .1) × Post· κs (dens κs args) (Function.resV r κs (u .0)) (Clauses.atExit (Kinds.endedOf 1 ps r) κs (dens κs args) (Enter.lastsP κs 1 ps
-          xs (dens κs args) (u .1))))
+      W0 = λ κs args. (
+        λ u. ⊥,
+        tt,
+        λ u. Enter.Fixs κs 1 ps xs (dens κs args) (u .1) × Post· κs (dens κs args) (Function.resV r κs (u .0)) (Clauses.atExit (Kinds.endedOf 1 ps r) κs (dens κs args) (Enter.lastsP κs 1 ps
+            xs (dens κs args) (u .1))),
+      )
 
       pub record Start : Type 0 where
         pub κs : Lifetimes.Lfts 1
@@ -562,7 +569,7 @@ module _ (claims· : Claims) where
       module _ (before· : After-restart-main-arg) where
         abbrev pub After-restart-main·own : Type 0
         After-restart-main·own = Called.Called ps·0 r·0 (claims· .1) T7
-            (record { pos = 8; ty = Syntax.tyRef Syntax.erased Syntax.mut Element.behind; ref = λ x. x; }, (Num.vAt 2 λ x. x, (Num.vAt 3 λ x. x, tt))) (m4 (before· .before) (before· .restart-main-arg
+            (record { pos = 8; ty = Syntax.tyRef Syntax.erased Syntax.mut Element.behind; ref = λ x. x }, (Num.vAt 2 λ x. x, (Num.vAt 3 λ x. x, tt))) (m4 (before· .before) (before· .restart-main-arg
             .given))
 
       pub record After-restart-main : Type 0 where
@@ -571,7 +578,7 @@ module _ (claims· : Claims) where
 
       abbrev pub After-restart-main·gave : (c : After-restart-main) → s5 .gives (m4 (c .before .before) (c .before .restart-main-arg .given))
       After-restart-main·gave = λ c. Called.given ps·0 r·0 (claims· .1) T7
-          (record { pos = 8; ty = Syntax.tyRef Syntax.erased Syntax.mut Element.behind; ref = λ x. x; }, (Num.vAt 2 λ x. x, (Num.vAt 3 λ x. x, tt))) (m4 (c .before .before) (c .before .restart-main-arg
+          (record { pos = 8; ty = Syntax.tyRef Syntax.erased Syntax.mut Element.behind; ref = λ x. x }, (Num.vAt 2 λ x. x, (Num.vAt 3 λ x. x, tt))) (m4 (c .before .before) (c .before .restart-main-arg
           .given)) (c .restart-main)
 
       abbrev pub m7 : (before : After-restart-main) → (given : s8 .gives (m6 (before .before) (After-restart-main·gave before))) → Typed.Mo T11
@@ -639,28 +646,49 @@ module _ (claims· : Claims) where
         lay2 = λ c. ((Path'.refl, (tt, (tt, (tt, tt)))), returns-2 record { before = c .before; if1 = c .if1 })
 
         lay1 : (c : After-rs) → at12 (W0 (c .before .before .before .before .κs) (c .before .before .before .before .args)) (m7 (c .before) (c .rs .given))
-        lay1 = λ c.
-            ((MutSlice.fix-len (Row.get 1 (T17 .locals) (m12 (c .before) (c .rs .given)) .ptr) (Row.get 1 (T17 .locals) (m12 (c .before) (c .rs .given)) .name) (Row.get 1 (T17 .locals) (m12 (c .before) (c
-            .rs .given)) .now) (dens (c .before .before .before .before .κs) (c .before .before .before .before .args) .0 .now) (same-length record { before = c .before; rs = c .rs }),
-            (tt, (tt, (tt, tt)))), returns record { before = c .before; rs = c .rs })
+        lay1 = λ c. (
+          (
+            MutSlice.fix-len (Row.get 1 (T17 .locals) (m12 (c .before) (c .rs .given)) .ptr) (Row.get 1 (T17 .locals) (m12 (c .before) (c .rs .given)) .name) (Row.get 1 (T17 .locals) (m12 (c .before) (c
+                .rs .given)) .now) (dens (c .before .before .before .before .κs) (c .before .before .before .before .args) .0 .now) (same-length record { before = c .before; rs = c .rs }),
+            (tt, (tt, (tt, tt))),
+          ),
+          returns record { before = c .before; rs = c .rs },
+        )
 
         pub laid : (c : Start) → at14 (W0 (c .κs) (c .args)) (m0 (c .κs) (c .args))
-        laid = λ c.
-            (λ taken. λ g.
-            (Path'.refl,
-            (restart-main-requires record { before = record { before = c; if1 = record { taken = taken } }; restart-main-arg = record { given = g }; }, λ g'.
-            (Path'.refl, λ g''. lay1 record
-            { before = record
-            { before = record { before = record { before = c; if1 = record { taken = taken } }; restart-main-arg = record { given = g }; }; restart-main = Called.called ps·0 r·0 (claims· .1) T7
-            (record { pos = 8; ty = Syntax.tyRef Syntax.erased Syntax.mut Element.behind; ref = λ x. x; }, (Num.vAt 2 λ x. x, (Num.vAt 3 λ x. x, tt))) (m4 record
-            { before = c; if1 = record { taken = taken } } g) g'; }; rs = record { given = g'' }; }))), λ left. lay2 record { before = c; if1 = record { left = left } })
+        laid = λ c. (
+          λ taken. λ g. (
+            Path'.refl,
+            (
+              restart-main-requires record { before = record { before = c; if1 = record { taken = taken } }; restart-main-arg = record { given = g } },
+              λ g'. (
+                Path'.refl,
+                λ g''. lay1 record {
+                  before = record {
+                    before = record { before = record { before = c; if1 = record { taken = taken } }; restart-main-arg = record { given = g } };
+                    restart-main = Called.called ps·0 r·0 (claims· .1) T7
+                        (record { pos = 8; ty = Syntax.tyRef Syntax.erased Syntax.mut Element.behind; ref = λ x. x }, (Num.vAt 2 λ x. x, (Num.vAt 3 λ x. x, tt))) (m4 record
+                        { before = c; if1 = record { taken = taken } } g) g';
+                  };
+                  rs = record { given = g'' };
+                },
+              ),
+            ),
+          ),
+          λ left. lay2 record { before = c; if1 = record { left = left } },
+        )
 
         module _ (κs : Lifetimes.Lfts 1) (qs : Lifetimes.Shares 1) where
           pub asked : (a : Kinds.Dens κs ps) → (good : Kinds.GoodsP κs ps a) → (pre : Pre· κs a) → (bs : List.List Nat.ℕ) → Φ (Any.wantQ 1 ps r xs m κs qs a (Post· κs a)) (Function.init 1 ps r xs m κs
               qs a)
-          asked = λ a good pre bs. laid record
-              { κs = κs; args = record { rs = a .0; bits = a .1 .0; base = a .1 .1 .0; wanted = a .1 .1 .1 .0; }; good = good; fits = record
-              { bits = record { fits = good .1 .0 .1 }; base = record { fits = good .1 .1 .0 .1 }; }; pre = pre; }
+          asked = λ a good pre bs. laid record {
+            κs = κs;
+            args = record { rs = a .0; bits = a .1 .0; base = a .1 .1 .0; wanted = a .1 .1 .1 .0 };
+            good = good;
+            fits = record
+                { bits = record { fits = good .1 .0 .1 }; base = record { fits = good .1 .1 .0 .1 } };
+            pre = pre;
+          }
 
         module _ {M : Type 1} (𝓤 : URA.URA M) (H : Wp.Heap 𝓤) (A : Atoms.Atoms 𝓤) (W : Kit.Given 𝓤 H A) (𝓣 : Wp.Tables 𝓤 H) (known0 : Plain.Known 𝓤 H A W 𝓣 1 ps·0 r·0 (claims· .0) (claims· .1)
             "block::records::restart_main") where

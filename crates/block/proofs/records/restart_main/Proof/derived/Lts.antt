@@ -70,33 +70,85 @@ abbrev pub ps·0 : List.List (Kinds.PK 1)
 ps·0 = List._∷_ (MutSlice.pMutS (Element.type) 0 tt) (List._∷_ (Num.pNum Syntax.w64) List.[])
 
 abbrev pub r·0 : Kinds.RK 1
-r·0 = Value.rVal record
-    { ty = Declared.row Record.the-type; one = Path'.refl; val = Laws'.val Record.the-type Laws.the-laws; tells = Laws'.tells Record.the-type Laws.the-laws; still = Laws'.still Record.the-type
-    Laws.the-copy Exit.yes; row = Rows.whole (Declared.row Record.the-type); rd = λ x. x; mk = λ x. x; } λ M 𝓤 H A W. record
-    { copies = Laws'.copy Record.the-type Laws.the-copy 𝓤 H A W; lawful = Laws'.lawful Record.the-type Laws.the-laws 𝓤 H A W; makes = Laws'.makes Record.the-type Laws.the-plain 𝓤 H A; in-mem =
-    Local.mem-whole 𝓤 H A W (Declared.row Record.the-type); of-mem = Local.whole-mem 𝓤 H A W (Declared.row Record.the-type); }
+r·0 = Value.rVal record {
+  ty = Declared.row Record.the-type;
+  one = Path'.refl;
+  val = Laws'.val Record.the-type Laws.the-laws;
+  tells = Laws'.tells Record.the-type Laws.the-laws;
+  still = Laws'.still Record.the-type
+      Laws.the-copy Exit.yes;
+  row = Rows.whole (Declared.row Record.the-type);
+  rd = λ x. x;
+  mk = λ x. x;
+} λ M 𝓤 H A W. record {
+  copies = Laws'.copy Record.the-type Laws.the-copy 𝓤 H A W;
+  lawful = Laws'.lawful Record.the-type Laws.the-laws 𝓤 H A W;
+  makes = Laws'.makes Record.the-type Laws.the-plain 𝓤 H A;
+  in-mem =
+      Local.mem-whole 𝓤 H A W (Declared.row Record.the-type);
+  of-mem = Local.whole-mem 𝓤 H A W (Declared.row Record.the-type);
+}
 
 abbrev pub ps·1 : List.List (Kinds.PK 0)
-ps·1 = List._∷_ (Value.pVal record
-    { ty = Declared.row Record.the-type; one = Path'.refl; val = Laws'.val Record.the-type Laws.the-laws; tells = Laws'.tells Record.the-type Laws.the-laws; still = Laws'.still Record.the-type
-    Laws.the-copy Exit.yes; row = Rows.whole (Declared.row Record.the-type); rd = λ x. x; mk = λ x. x; } λ M 𝓤 H A W. record
-    { copies = Laws'.copy Record.the-type Laws.the-copy 𝓤 H A W; lawful = Laws'.lawful Record.the-type Laws.the-laws 𝓤 H A W; makes = Laws'.makes Record.the-type Laws.the-plain 𝓤 H A; in-mem =
-    Local.mem-whole 𝓤 H A W (Declared.row Record.the-type); of-mem = Local.whole-mem 𝓤 H A W (Declared.row Record.the-type); }) (List._∷_ (Num.pNum Syntax.w32) (List._∷_ (Num.pNum Syntax.w32) (List._∷_
+ps·1 = List._∷_ (Value.pVal record {
+  ty = Declared.row Record.the-type;
+  one = Path'.refl;
+  val = Laws'.val Record.the-type Laws.the-laws;
+  tells = Laws'.tells Record.the-type Laws.the-laws;
+  still = Laws'.still Record.the-type
+      Laws.the-copy Exit.yes;
+  row = Rows.whole (Declared.row Record.the-type);
+  rd = λ x. x;
+  mk = λ x. x;
+} λ M 𝓤 H A W. record {
+  copies = Laws'.copy Record.the-type Laws.the-copy 𝓤 H A W;
+  lawful = Laws'.lawful Record.the-type Laws.the-laws 𝓤 H A W;
+  makes = Laws'.makes Record.the-type Laws.the-plain 𝓤 H A;
+  in-mem =
+      Local.mem-whole 𝓤 H A W (Declared.row Record.the-type);
+  of-mem = Local.whole-mem 𝓤 H A W (Declared.row Record.the-type);
+}) (List._∷_ (Num.pNum Syntax.w32) (List._∷_ (Num.pNum Syntax.w32) (List._∷_
     (Num.pNum Syntax.w64) List.[])))
 
 abbrev pub r·1 : Kinds.RK 0
-r·1 = Value.rVal record
-    { ty = Declared.row Record.the-type; one = Path'.refl; val = Laws'.val Record.the-type Laws.the-laws; tells = Laws'.tells Record.the-type Laws.the-laws; still = Laws'.still Record.the-type
-    Laws.the-copy Exit.yes; row = Rows.whole (Declared.row Record.the-type); rd = λ x. x; mk = λ x. x; } λ M 𝓤 H A W. record
-    { copies = Laws'.copy Record.the-type Laws.the-copy 𝓤 H A W; lawful = Laws'.lawful Record.the-type Laws.the-laws 𝓤 H A W; makes = Laws'.makes Record.the-type Laws.the-plain 𝓤 H A; in-mem =
-    Local.mem-whole 𝓤 H A W (Declared.row Record.the-type); of-mem = Local.whole-mem 𝓤 H A W (Declared.row Record.the-type); }
+r·1 = Value.rVal record {
+  ty = Declared.row Record.the-type;
+  one = Path'.refl;
+  val = Laws'.val Record.the-type Laws.the-laws;
+  tells = Laws'.tells Record.the-type Laws.the-laws;
+  still = Laws'.still Record.the-type
+      Laws.the-copy Exit.yes;
+  row = Rows.whole (Declared.row Record.the-type);
+  rd = λ x. x;
+  mk = λ x. x;
+} λ M 𝓤 H A W. record {
+  copies = Laws'.copy Record.the-type Laws.the-copy 𝓤 H A W;
+  lawful = Laws'.lawful Record.the-type Laws.the-laws 𝓤 H A W;
+  makes = Laws'.makes Record.the-type Laws.the-plain 𝓤 H A;
+  in-mem =
+      Local.mem-whole 𝓤 H A W (Declared.row Record.the-type);
+  of-mem = Local.whole-mem 𝓤 H A W (Declared.row Record.the-type);
+}
 
 abbrev pub ps·2 : List.List (Kinds.PK 1)
-ps·2 = List._∷_ (MutSlice.pMutS (Element.type) 0 tt) (List._∷_ (Num.pNum Syntax.w64) (List._∷_ (Value.pVal record
-    { ty = Declared.row Record.the-type; one = Path'.refl; val = Laws'.val Record.the-type Laws.the-laws; tells = Laws'.tells Record.the-type Laws.the-laws; still = Laws'.still Record.the-type
-    Laws.the-copy Exit.yes; row = Rows.whole (Declared.row Record.the-type); rd = λ x. x; mk = λ x. x; } λ M 𝓤 H A W. record
-    { copies = Laws'.copy Record.the-type Laws.the-copy 𝓤 H A W; lawful = Laws'.lawful Record.the-type Laws.the-laws 𝓤 H A W; makes = Laws'.makes Record.the-type Laws.the-plain 𝓤 H A; in-mem =
-    Local.mem-whole 𝓤 H A W (Declared.row Record.the-type); of-mem = Local.whole-mem 𝓤 H A W (Declared.row Record.the-type); }) List.[]))
+ps·2 = List._∷_ (MutSlice.pMutS (Element.type) 0 tt) (List._∷_ (Num.pNum Syntax.w64) (List._∷_ (Value.pVal record {
+  ty = Declared.row Record.the-type;
+  one = Path'.refl;
+  val = Laws'.val Record.the-type Laws.the-laws;
+  tells = Laws'.tells Record.the-type Laws.the-laws;
+  still = Laws'.still Record.the-type
+      Laws.the-copy Exit.yes;
+  row = Rows.whole (Declared.row Record.the-type);
+  rd = λ x. x;
+  mk = λ x. x;
+} λ M 𝓤 H A W. record {
+  copies = Laws'.copy Record.the-type Laws.the-copy 𝓤 H A W;
+  lawful = Laws'.lawful Record.the-type Laws.the-laws 𝓤 H A W;
+  makes = Laws'.makes Record.the-type Laws.the-plain 𝓤 H A;
+  in-mem =
+      Local.mem-whole 𝓤 H A W (Declared.row Record.the-type);
+  of-mem = Local.whole-mem 𝓤 H A W (Declared.row Record.the-type);
+}) List.[]))
 
 abbrev pub r·2 : Kinds.RK 1
 r·2 = Unit'.rUnit
@@ -473,7 +525,7 @@ module _ (claims· : Claims) where
       x) (Scalar.oFld 1 (List._∷_ (Syntax.field 1) List.[]) (Syntax.tyInt Syntax.w64) 8 λ v. Shared.lenV (v .0))
 
   abbrev s7 : Typed.Both T10 T11
-  s7 = Call.callB ps·0 r·0 (claims· .0) (claims· .1) T10 (record { pos = 9; ty = Syntax.tyRef Syntax.erased Syntax.mut Element.behind; ref = λ x. x; }, (Num.vAt 4 λ x. x, tt)) 5 (List._∷_ 1 List.[])
+  s7 = Call.callB ps·0 r·0 (claims· .0) (claims· .1) T10 (record { pos = 9; ty = Syntax.tyRef Syntax.erased Syntax.mut Element.behind; ref = λ x. x }, (Num.vAt 4 λ x. x, tt)) 5 (List._∷_ 1 List.[])
       y0
 
   abbrev s9 : Typed.Both T11 T13
@@ -494,7 +546,7 @@ module _ (claims· : Claims) where
 
   abbrev s16 : Typed.Both T19 T20
   s16 = Call.callB ps·2 r·2 (claims· .4) (claims· .5) T19
-      (record { pos = 12; ty = Syntax.tyRef Syntax.erased Syntax.mut Element.behind; ref = λ x. x; }, (Num.vAt 4 λ x. x, (record { pos = 6; st = List.[]; d = 0; at = λ x. x }, tt))) 10 (List._∷_ 2
+      (record { pos = 12; ty = Syntax.tyRef Syntax.erased Syntax.mut Element.behind; ref = λ x. x }, (Num.vAt 4 λ x. x, (record { pos = 6; st = List.[]; d = 0; at = λ x. x }, tt))) 10 (List._∷_ 2
       List.[]) Syntax.tyUnit
 
   abbrev s17 : Typed.Mo T20 → Typed.Mo T21
@@ -524,7 +576,7 @@ module _ (claims· : Claims) where
 
   abbrev put0 : List.List (Element.type .Denot) × Rows.sc-here (Row.sInt Syntax.w64) .Mod → Typed.Mo T2 → Typed.Mo T2
   put0 = λ vs u. Row.set 4 (4, Rows.sc-here (Row.sInt Syntax.w64)) (vs .1) (T2 .locals) (Row.set 1 (1, Mut.mslice (Element.type) (Syntax.tyRef (Syntax.named 0) Syntax.mut Element.behind) 0) record
-      { ptr = Row.get 1 (T2 .locals) u .ptr; name = Row.get 1 (T2 .locals) u .name; now = vs .0; } (T2 .locals) u)
+      { ptr = Row.get 1 (T2 .locals) u .ptr; name = Row.get 1 (T2 .locals) u .name; now = vs .0 } (T2 .locals) u)
 
   module _ (Pre· : (κs : Lifetimes.Lfts 1) → Kinds.Dens κs ps → Type 0) (Post· : (κs : Lifetimes.Lfts 1) → (a : Kinds.Dens κs ps) → Kinds.Plain 1 ps r κs) where
     module _ (M : Type 1) where
@@ -682,97 +734,97 @@ module _ (claims· : Claims) where
             (List._∷_ e16 (List._∷_ e17 (List._∷_ e19 (List._∷_ e21 (List._∷_ e23 (List._∷_ e26 (List._∷_ e5 (List._∷_ e8 (List._∷_ e9 List.[]))))))))))))
 
         abbrev G0 : Row.Cx
-        G0 = record { locals = t0; slots = List._∷_ (Row.lease (κs .0) (qs .0)) (List._∷_ Row.off (List._∷_ Row.off List.[])); }
+        G0 = record { locals = t0; slots = List._∷_ (Row.lease (κs .0) (qs .0)) (List._∷_ Row.off (List._∷_ Row.off List.[])) }
 
         abbrev G1 : Row.Cx
-        G1 = record { locals = t1; slots = List._∷_ (Row.lease (κs .0) (qs .0)) (List._∷_ Row.off (List._∷_ Row.off List.[])); }
+        G1 = record { locals = t1; slots = List._∷_ (Row.lease (κs .0) (qs .0)) (List._∷_ Row.off (List._∷_ Row.off List.[])) }
 
         abbrev G2 : Row.Cx
-        G2 = record { locals = t2; slots = List._∷_ (Row.lease (κs .0) (qs .0)) (List._∷_ Row.off (List._∷_ Row.off List.[])); }
+        G2 = record { locals = t2; slots = List._∷_ (Row.lease (κs .0) (qs .0)) (List._∷_ Row.off (List._∷_ Row.off List.[])) }
 
         abbrev G3 : Row.Cx
-        G3 = record { locals = t2; slots = List._∷_ (Row.lease (κs .0) (qs .0)) (List._∷_ Row.off (List._∷_ Row.off List.[])); }
+        G3 = record { locals = t2; slots = List._∷_ (Row.lease (κs .0) (qs .0)) (List._∷_ Row.off (List._∷_ Row.off List.[])) }
 
         abbrev G4 : Row.Cx
-        G4 = record { locals = t3; slots = List._∷_ (Row.lease (κs .0) (qs .0)) (List._∷_ Row.off (List._∷_ Row.off List.[])); }
+        G4 = record { locals = t3; slots = List._∷_ (Row.lease (κs .0) (qs .0)) (List._∷_ Row.off (List._∷_ Row.off List.[])) }
 
         abbrev G5 : Row.Cx
-        G5 = record { locals = t2; slots = List._∷_ (Row.lease (κs .0) (qs .0)) (List._∷_ Row.off (List._∷_ Row.off List.[])); }
+        G5 = record { locals = t2; slots = List._∷_ (Row.lease (κs .0) (qs .0)) (List._∷_ Row.off (List._∷_ Row.off List.[])) }
 
         abbrev G6 : Row.Cx
-        G6 = record { locals = t2; slots = List._∷_ (Row.lease (κs .0) (qs .0)) (List._∷_ Row.off (List._∷_ Row.off List.[])); }
+        G6 = record { locals = t2; slots = List._∷_ (Row.lease (κs .0) (qs .0)) (List._∷_ Row.off (List._∷_ Row.off List.[])) }
 
         abbrev G7 : Row.Cx
-        G7 = record { locals = t2; slots = List._∷_ (Row.lease (κs .0) (qs .0)) (List._∷_ Row.off (List._∷_ Row.off List.[])); }
+        G7 = record { locals = t2; slots = List._∷_ (Row.lease (κs .0) (qs .0)) (List._∷_ Row.off (List._∷_ Row.off List.[])) }
 
         abbrev G8 : Row.Cx
-        G8 = record { locals = t2; slots = List._∷_ (Row.lease (κs .0) (qs .0)) (List._∷_ Row.alive (List._∷_ Row.off List.[])); }
+        G8 = record { locals = t2; slots = List._∷_ (Row.lease (κs .0) (qs .0)) (List._∷_ Row.alive (List._∷_ Row.off List.[])) }
 
         abbrev G9 : Row.Cx
-        G9 = record { locals = g4; slots = List._∷_ Row.off (List._∷_ Row.alive (List._∷_ Row.off List.[])); }
+        G9 = record { locals = g4; slots = List._∷_ Row.off (List._∷_ Row.alive (List._∷_ Row.off List.[])) }
 
         abbrev G10 : Row.Cx
-        G10 = record { locals = g5; slots = List._∷_ Row.off (List._∷_ Row.alive (List._∷_ Row.off List.[])); }
+        G10 = record { locals = g5; slots = List._∷_ Row.off (List._∷_ Row.alive (List._∷_ Row.off List.[])) }
 
         abbrev G11 : Row.Cx
-        G11 = record { locals = g6; slots = List._∷_ Row.off (List._∷_ Row.alive (List._∷_ Row.off List.[])); }
+        G11 = record { locals = g6; slots = List._∷_ Row.off (List._∷_ Row.alive (List._∷_ Row.off List.[])) }
 
         abbrev G12 : Row.Cx
-        G12 = record { locals = g6; slots = List._∷_ Row.off (List._∷_ Row.dead (List._∷_ Row.off List.[])); }
+        G12 = record { locals = g6; slots = List._∷_ Row.off (List._∷_ Row.dead (List._∷_ Row.off List.[])) }
 
         abbrev G13 : Row.Cx
-        G13 = record { locals = t7; slots = List._∷_ (Row.lease (κs .0) (qs .0)) (List._∷_ Row.dead (List._∷_ Row.off List.[])); }
+        G13 = record { locals = t7; slots = List._∷_ (Row.lease (κs .0) (qs .0)) (List._∷_ Row.dead (List._∷_ Row.off List.[])) }
 
         abbrev G14 : Row.Cx
-        G14 = record { locals = t7; slots = List._∷_ (Row.lease (κs .0) (qs .0)) (List._∷_ Row.off (List._∷_ Row.off List.[])); }
+        G14 = record { locals = t7; slots = List._∷_ (Row.lease (κs .0) (qs .0)) (List._∷_ Row.off (List._∷_ Row.off List.[])) }
 
         abbrev G15 : Row.Cx
-        G15 = record { locals = t8; slots = List._∷_ (Row.lease (κs .0) (qs .0)) (List._∷_ Row.off (List._∷_ Row.off List.[])); }
+        G15 = record { locals = t8; slots = List._∷_ (Row.lease (κs .0) (qs .0)) (List._∷_ Row.off (List._∷_ Row.off List.[])) }
 
         abbrev G16 : Row.Cx
-        G16 = record { locals = t9; slots = List._∷_ (Row.lease (κs .0) (qs .0)) (List._∷_ Row.off (List._∷_ Row.off List.[])); }
+        G16 = record { locals = t9; slots = List._∷_ (Row.lease (κs .0) (qs .0)) (List._∷_ Row.off (List._∷_ Row.off List.[])) }
 
         abbrev G17 : Row.Cx
-        G17 = record { locals = t9; slots = List._∷_ (Row.lease (κs .0) (qs .0)) (List._∷_ Row.off (List._∷_ Row.alive List.[])); }
+        G17 = record { locals = t9; slots = List._∷_ (Row.lease (κs .0) (qs .0)) (List._∷_ Row.off (List._∷_ Row.alive List.[])) }
 
         abbrev G18 : Row.Cx
-        G18 = record { locals = g10; slots = List._∷_ Row.off (List._∷_ Row.off (List._∷_ Row.alive List.[])); }
+        G18 = record { locals = g10; slots = List._∷_ Row.off (List._∷_ Row.off (List._∷_ Row.alive List.[])) }
 
         abbrev G19 : Row.Cx
-        G19 = record { locals = g11; slots = List._∷_ Row.off (List._∷_ Row.off (List._∷_ Row.alive List.[])); }
+        G19 = record { locals = g11; slots = List._∷_ Row.off (List._∷_ Row.off (List._∷_ Row.alive List.[])) }
 
         abbrev G20 : Row.Cx
-        G20 = record { locals = g12; slots = List._∷_ Row.off (List._∷_ Row.off (List._∷_ Row.alive List.[])); }
+        G20 = record { locals = g12; slots = List._∷_ Row.off (List._∷_ Row.off (List._∷_ Row.alive List.[])) }
 
         abbrev G21 : Row.Cx
-        G21 = record { locals = g13; slots = List._∷_ Row.off (List._∷_ Row.off (List._∷_ Row.alive List.[])); }
+        G21 = record { locals = g13; slots = List._∷_ Row.off (List._∷_ Row.off (List._∷_ Row.alive List.[])) }
 
         abbrev G22 : Row.Cx
-        G22 = record { locals = g14; slots = List._∷_ Row.off (List._∷_ Row.off (List._∷_ Row.alive List.[])); }
+        G22 = record { locals = g14; slots = List._∷_ Row.off (List._∷_ Row.off (List._∷_ Row.alive List.[])) }
 
         abbrev G23 : Row.Cx
-        G23 = record { locals = g14; slots = List._∷_ Row.off (List._∷_ Row.off (List._∷_ Row.dead List.[])); }
+        G23 = record { locals = g14; slots = List._∷_ Row.off (List._∷_ Row.off (List._∷_ Row.dead List.[])) }
 
         abbrev G24 : Row.Cx
-        G24 = record { locals = t2; slots = List._∷_ (Row.lease (κs .0) (qs .0)) (List._∷_ Row.off (List._∷_ Row.dead List.[])); }
+        G24 = record { locals = t2; slots = List._∷_ (Row.lease (κs .0) (qs .0)) (List._∷_ Row.off (List._∷_ Row.dead List.[])) }
 
         abbrev G25 : Row.Cx
-        G25 = record { locals = t2; slots = List._∷_ (Row.lease (κs .0) (qs .0)) (List._∷_ Row.off (List._∷_ Row.off List.[])); }
+        G25 = record { locals = t2; slots = List._∷_ (Row.lease (κs .0) (qs .0)) (List._∷_ Row.off (List._∷_ Row.off List.[])) }
 
         abbrev G26 : Row.Cx
-        G26 = record { locals = t2; slots = List._∷_ (Row.lease (κs .0) (qs .0)) (List._∷_ Row.off (List._∷_ Row.off List.[])); }
+        G26 = record { locals = t2; slots = List._∷_ (Row.lease (κs .0) (qs .0)) (List._∷_ Row.off (List._∷_ Row.off List.[])) }
 
         abbrev G27 : Row.Cx
-        G27 = record { locals = t15; slots = List._∷_ (Row.lease (κs .0) (qs .0)) (List._∷_ Row.off (List._∷_ Row.off List.[])); }
+        G27 = record { locals = t15; slots = List._∷_ (Row.lease (κs .0) (qs .0)) (List._∷_ Row.off (List._∷_ Row.off List.[])) }
 
         abbrev G28 : Row.Cx
-        G28 = record { locals = t16; slots = List._∷_ (Row.lease (κs .0) (qs .0)) (List._∷_ Row.off (List._∷_ Row.off List.[])); }
+        G28 = record { locals = t16; slots = List._∷_ (Row.lease (κs .0) (qs .0)) (List._∷_ Row.off (List._∷_ Row.off List.[])) }
 
         abbrev G29 : Row.Cx
-        G29 = record { locals = t17; slots = List._∷_ (Row.lease (κs .0) (qs .0)) (List._∷_ Row.off (List._∷_ Row.off List.[])); }
+        G29 = record { locals = t17; slots = List._∷_ (Row.lease (κs .0) (qs .0)) (List._∷_ Row.off (List._∷_ Row.off List.[])) }
 
         abbrev G30 : Row.Cx
-        G30 = record { locals = t1; slots = List._∷_ (Row.lease (κs .0) (qs .0)) (List._∷_ Row.off (List._∷_ Row.off List.[])); }
+        G30 = record { locals = t1; slots = List._∷_ (Row.lease (κs .0) (qs .0)) (List._∷_ Row.off (List._∷_ Row.off List.[])) }
 
         abbrev Δ0 : Typed.Outs
         Δ0 = record { next = Option.none; exits = List.[]; returns = Option.some G1 }
@@ -834,14 +886,24 @@ module _ (claims· : Claims) where
 
           d11 : Typed.Typed 𝓤 H A 𝓣 E G19 b13 Δ3 at11
           d11 = Typed.s-seq 𝓤 H A W 𝓣 E G19 G20 b11 b12 Δ3 (Typed.both s16) at10 (Plain.t-call-plain 𝓤 H A W 𝓣 1 ps·2 r·2 (claims· .4) (claims· .5) "block::records::update" (known .2) E (λ pos β. β)
-              G19 (record { pos = 12; ty = Syntax.tyRef Syntax.erased Syntax.mut Element.behind; ref = λ x. x; }, (Num.vAt 4 λ x. x, (record { pos = 6; st = List.[]; d = 0; at = λ x. x }, tt))) 10
-              (List._∷_ 2 List.[]) (Call.sub-id 𝓤 H A W (G19 .slots))
-              (Reads.as-is 𝓤 H A (Mut.mslice (Element.type) (Syntax.tyRef Syntax.erased Syntax.mut Element.behind) 2), Mut.reads-mslice 𝓤 H A W (Element.type) (Syntax.tyRef Syntax.erased Syntax.mut
-              Element.behind) 2, Path'.refl,
-              ((Scalar.reads-sc 𝓤 H A W (Row.sInt Syntax.w64), Path'.refl),
-              ((Yields.yields-copy 𝓤 H A W (λ ρ. Unit) (Declared.row Record.the-type) Path'.refl (Copies.cStruct Record.the-type Laws.the-laws Laws.the-copy .copy 𝓤 H A W) (Rows.whole (Declared.row
-              Record.the-type)) (λ x. x) (λ x. x) (λ ρ told. Local.mem-whole 𝓤 H A W (Declared.row Record.the-type) ρ) λ ρ told. Local.whole-mem 𝓤 H A W (Declared.row Record.the-type) ρ, Path'.refl),
-              tt))) (Reads.room-gone 𝓤 H A Syntax.tyUnit) (tt, tt) Path'.refl) d10
+              G19 (record { pos = 12; ty = Syntax.tyRef Syntax.erased Syntax.mut Element.behind; ref = λ x. x }, (Num.vAt 4 λ x. x, (record { pos = 6; st = List.[]; d = 0; at = λ x. x }, tt))) 10
+              (List._∷_ 2 List.[]) (Call.sub-id 𝓤 H A W (G19 .slots)) (
+                Reads.as-is 𝓤 H A (Mut.mslice (Element.type) (Syntax.tyRef Syntax.erased Syntax.mut Element.behind) 2),
+                Mut.reads-mslice 𝓤 H A W (Element.type) (Syntax.tyRef Syntax.erased Syntax.mut
+                    Element.behind) 2,
+                Path'.refl,
+                (
+                  (Scalar.reads-sc 𝓤 H A W (Row.sInt Syntax.w64), Path'.refl),
+                  (
+                    (
+                      Yields.yields-copy 𝓤 H A W (λ ρ. Unit) (Declared.row Record.the-type) Path'.refl (Copies.cStruct Record.the-type Laws.the-laws Laws.the-copy .copy 𝓤 H A W) (Rows.whole (Declared.row
+                          Record.the-type)) (λ x. x) (λ x. x) (λ ρ told. Local.mem-whole 𝓤 H A W (Declared.row Record.the-type) ρ) λ ρ told. Local.whole-mem 𝓤 H A W (Declared.row Record.the-type) ρ,
+                      Path'.refl,
+                    ),
+                    tt,
+                  ),
+                ),
+              ) (Reads.room-gone 𝓤 H A Syntax.tyUnit) (tt, tt) Path'.refl) d10
 
           d12 : Typed.Typed 𝓤 H A 𝓣 E G18 b14 Δ3 at12
           d12 = Typed.s-seq 𝓤 H A W 𝓣 E G18 G19 b10 b13 Δ3 (Typed.ask s15) at11 (Relend.t-sl-aggregate 𝓤 H A W E (Element.type) 𝓣 (Relend.asMut (Element.type)) G18 11 12 2 (Syntax.tyRef Syntax.erased
@@ -863,11 +925,17 @@ module _ (claims· : Claims) where
 
           d16 : Typed.Typed 𝓤 H A 𝓣 E G14 b16 Δ3 at16
           d16 = Typed.s-seq 𝓤 H A W 𝓣 E G14 G15 b8 b15 Δ3 (Typed.both s11) at15 (Plain.t-call-plain 𝓤 H A W 𝓣 0 ps·1 r·1 (claims· .2) (claims· .3) "block::records::restarted_record" (known .1) E (λ
-              pos β. β) G14 (record { pos = 5; st = List.[]; d = 0; at = λ x. x }, (Num.vAt 2 λ x. x, (Num.vAt 3 λ x. x, (Num.vAt 4 λ x. x, tt)))) 6 List.[] (Call.sub-id 𝓤 H A W (G14 .slots))
-              ((Yields.yields-copy 𝓤 H A W (λ ρ. Unit) (Declared.row Record.the-type) Path'.refl (Copies.cStruct Record.the-type Laws.the-laws Laws.the-copy .copy 𝓤 H A W) (Rows.whole (Declared.row
-              Record.the-type)) (λ x. x) (λ x. x) (λ ρ told. Local.mem-whole 𝓤 H A W (Declared.row Record.the-type) ρ) λ ρ told. Local.whole-mem 𝓤 H A W (Declared.row Record.the-type) ρ, Path'.refl),
-              ((Scalar.reads-sc 𝓤 H A W (Row.sInt Syntax.w32), Path'.refl),
-              ((Scalar.reads-sc 𝓤 H A W (Row.sInt Syntax.w32), Path'.refl), ((Scalar.reads-sc 𝓤 H A W (Row.sInt Syntax.w64), Path'.refl), tt)))) (Reads.room-gone 𝓤 H A y0) tt Path'.refl) d15
+              pos β. β) G14 (record { pos = 5; st = List.[]; d = 0; at = λ x. x }, (Num.vAt 2 λ x. x, (Num.vAt 3 λ x. x, (Num.vAt 4 λ x. x, tt)))) 6 List.[] (Call.sub-id 𝓤 H A W (G14 .slots)) (
+                (
+                  Yields.yields-copy 𝓤 H A W (λ ρ. Unit) (Declared.row Record.the-type) Path'.refl (Copies.cStruct Record.the-type Laws.the-laws Laws.the-copy .copy 𝓤 H A W) (Rows.whole (Declared.row
+                      Record.the-type)) (λ x. x) (λ x. x) (λ ρ told. Local.mem-whole 𝓤 H A W (Declared.row Record.the-type) ρ) λ ρ told. Local.whole-mem 𝓤 H A W (Declared.row Record.the-type) ρ,
+                  Path'.refl,
+                ),
+                (
+                  (Scalar.reads-sc 𝓤 H A W (Row.sInt Syntax.w32), Path'.refl),
+                  ((Scalar.reads-sc 𝓤 H A W (Row.sInt Syntax.w32), Path'.refl), ((Scalar.reads-sc 𝓤 H A W (Row.sInt Syntax.w64), Path'.refl), tt)),
+                ),
+              ) (Reads.room-gone 𝓤 H A y0) tt Path'.refl) d15
 
           d17 : Typed.Typed 𝓤 H A 𝓣 E G13 b16 Δ3 at17
           d17 = Typed.g-pre 𝓤 H A W 𝓣 E G13 G14 b16 Δ3 (λ Ψ. Ψ) at16 (Lifetime.g-forget 𝓤 H A W E G13 1 Row.dead Path'.refl) d16
@@ -882,9 +950,13 @@ module _ (claims· : Claims) where
 
           d20 : Typed.Typed 𝓤 H A 𝓣 E G10 b17 Δ3 at20
           d20 = Typed.s-seq 𝓤 H A W 𝓣 E G10 G11 b7 b16 Δ3 (Typed.both s7) at19 (Plain.t-call-plain 𝓤 H A W 𝓣 1 ps·0 r·0 (claims· .0) (claims· .1) "block::records::fetch" (known .0) E (λ pos β. β) G10
-              (record { pos = 9; ty = Syntax.tyRef Syntax.erased Syntax.mut Element.behind; ref = λ x. x; }, (Num.vAt 4 λ x. x, tt)) 5 (List._∷_ 1 List.[]) (Call.sub-id 𝓤 H A W (G10 .slots))
-              (Reads.as-is 𝓤 H A (Mut.mslice (Element.type) (Syntax.tyRef Syntax.erased Syntax.mut Element.behind) 1), Mut.reads-mslice 𝓤 H A W (Element.type) (Syntax.tyRef Syntax.erased Syntax.mut
-              Element.behind) 1, Path'.refl, ((Scalar.reads-sc 𝓤 H A W (Row.sInt Syntax.w64), Path'.refl), tt)) (Reads.room-gone 𝓤 H A y0) (tt, tt) Path'.refl) d19
+              (record { pos = 9; ty = Syntax.tyRef Syntax.erased Syntax.mut Element.behind; ref = λ x. x }, (Num.vAt 4 λ x. x, tt)) 5 (List._∷_ 1 List.[]) (Call.sub-id 𝓤 H A W (G10 .slots)) (
+                Reads.as-is 𝓤 H A (Mut.mslice (Element.type) (Syntax.tyRef Syntax.erased Syntax.mut Element.behind) 1),
+                Mut.reads-mslice 𝓤 H A W (Element.type) (Syntax.tyRef Syntax.erased Syntax.mut
+                    Element.behind) 1,
+                Path'.refl,
+                ((Scalar.reads-sc 𝓤 H A W (Row.sInt Syntax.w64), Path'.refl), tt),
+              ) (Reads.room-gone 𝓤 H A y0) (tt, tt) Path'.refl) d19
 
           d21 : Typed.Typed 𝓤 H A 𝓣 E G9 b18 Δ3 at21
           d21 = Typed.s-seq 𝓤 H A W 𝓣 E G9 G10 b6 b17 Δ3 (Typed.ask s6) at20 (Relend.t-sl-aggregate 𝓤 H A W E (Element.type) 𝓣 (Relend.asMut (Element.type)) G9 8 9 1 (Syntax.tyRef Syntax.erased
@@ -961,9 +1033,12 @@ module _ (claims· : Claims) where
       m0 = λ κs args. (tt, Enter.partsP κs 1 ps xs (dens κs args))
 
       abbrev W0 : (κs : Lifetimes.Lfts 1) → (args : Args κs) → Typed.Want O0
-      W0 = λ κs args.
-          (λ u. ⊥, tt, λ u. Enter.Fixs κs 1 ps xs (dens κs args) (u .1) × Post· κs (dens κs args) (Function.resV r κs (u .0)) (Clauses.atExit (Kinds.endedOf 1 ps r) κs (dens κs args) (Enter.lastsP κs 1 ps
-          xs (dens κs args) (u .1))))
+      W0 = λ κs args. (
+        λ u. ⊥,
+        tt,
+        λ u. Enter.Fixs κs 1 ps xs (dens κs args) (u .1) × Post· κs (dens κs args) (Function.resV r κs (u .0)) (Clauses.atExit (Kinds.endedOf 1 ps r) κs (dens κs args) (Enter.lastsP κs 1 ps
+            xs (dens κs args) (u .1))),
+      )
 
       pub record Start : Type 0 where
         pub κs : Lifetimes.Lfts 1
@@ -988,7 +1063,7 @@ module _ (claims· : Claims) where
       abbrev pub m2 : (before : Start) → (rs : List.List (Element.type .Denot)) → (j : Rows.sc-here (Row.sInt Syntax.w64) .Mod) → Typed.Mo T2
       m2 = λ before rs j. Row.set 4 (4, Rows.sc-here (Row.sInt Syntax.w64)) j (Row.setRow 1 (1, Mut.mslice (Element.type) (Syntax.tyRef (Syntax.named 0) Syntax.mut Element.behind) 0) (T2 .locals))
           (Row.set 1 (1, Mut.mslice (Element.type) (Syntax.tyRef (Syntax.named 0) Syntax.mut Element.behind) 0) record
-          { ptr = Row.get 1 (T2 .locals) (m1 (before .κs) (before .args)) .ptr; name = Row.get 1 (T2 .locals) (m1 (before .κs) (before .args)) .name; now = rs; } (T2 .locals) (m1 (before .κs) (before
+          { ptr = Row.get 1 (T2 .locals) (m1 (before .κs) (before .args)) .ptr; name = Row.get 1 (T2 .locals) (m1 (before .κs) (before .args)) .name; now = rs } (T2 .locals) (m1 (before .κs) (before
           .args)))
 
       abbrev W3 : (before : Start) → (rs : List.List (Element.type .Denot)) → (j : Rows.sc-here (Row.sInt Syntax.w64) .Mod) → Typed.Want O3
@@ -1057,7 +1132,7 @@ module _ (claims· : Claims) where
 
       module _ (before· : After-fetch-arg) where
         abbrev pub After-fetch·own : Type 0
-        After-fetch·own = Called.Called ps·0 r·0 (claims· .1) T10 (record { pos = 9; ty = Syntax.tyRef Syntax.erased Syntax.mut Element.behind; ref = λ x. x; }, (Num.vAt 4 λ x. x, tt)) (m7 (before·
+        After-fetch·own = Called.Called ps·0 r·0 (claims· .1) T10 (record { pos = 9; ty = Syntax.tyRef Syntax.erased Syntax.mut Element.behind; ref = λ x. x }, (Num.vAt 4 λ x. x, tt)) (m7 (before·
             .before) (before· .fetch-arg .given))
 
       pub record After-fetch : Type 0 where
@@ -1065,7 +1140,7 @@ module _ (claims· : Claims) where
         pub fetch : After-fetch·own before
 
       abbrev pub After-fetch·gave : (c : After-fetch) → s7 .gives (m7 (c .before .before) (c .before .fetch-arg .given))
-      After-fetch·gave = λ c. Called.given ps·0 r·0 (claims· .1) T10 (record { pos = 9; ty = Syntax.tyRef Syntax.erased Syntax.mut Element.behind; ref = λ x. x; }, (Num.vAt 4 λ x. x, tt)) (m7 (c
+      After-fetch·gave = λ c. Called.given ps·0 r·0 (claims· .1) T10 (record { pos = 9; ty = Syntax.tyRef Syntax.erased Syntax.mut Element.behind; ref = λ x. x }, (Num.vAt 4 λ x. x, tt)) (m7 (c
           .before .before) (c .before .fetch-arg .given)) (c .fetch)
 
       abbrev pub m9 : (before : After-fetch) → (given : s9 .gives (m8 (before .before) (After-fetch·gave before))) → Typed.Mo T13
@@ -1124,7 +1199,7 @@ module _ (claims· : Claims) where
       module _ (before· : After-update-arg) where
         abbrev pub After-update·own : Type 0
         After-update·own = Called.Called ps·2 r·2 (claims· .5) T19
-            (record { pos = 12; ty = Syntax.tyRef Syntax.erased Syntax.mut Element.behind; ref = λ x. x; }, (Num.vAt 4 λ x. x, (record { pos = 6; st = List.[]; d = 0; at = λ x. x }, tt))) (m13 (before·
+            (record { pos = 12; ty = Syntax.tyRef Syntax.erased Syntax.mut Element.behind; ref = λ x. x }, (Num.vAt 4 λ x. x, (record { pos = 6; st = List.[]; d = 0; at = λ x. x }, tt))) (m13 (before·
             .before) (before· .update-arg .given))
 
       pub record After-update : Type 0 where
@@ -1133,7 +1208,7 @@ module _ (claims· : Claims) where
 
       abbrev pub After-update·gave : (c : After-update) → s16 .gives (m13 (c .before .before) (c .before .update-arg .given))
       After-update·gave = λ c. Called.given ps·2 r·2 (claims· .5) T19
-          (record { pos = 12; ty = Syntax.tyRef Syntax.erased Syntax.mut Element.behind; ref = λ x. x; }, (Num.vAt 4 λ x. x, (record { pos = 6; st = List.[]; d = 0; at = λ x. x }, tt))) (m13 (c .before
+          (record { pos = 12; ty = Syntax.tyRef Syntax.erased Syntax.mut Element.behind; ref = λ x. x }, (Num.vAt 4 λ x. x, (record { pos = 6; st = List.[]; d = 0; at = λ x. x }, tt))) (m13 (c .before
           .before) (c .before .update-arg .given)) (c .update)
 
       abbrev pub m15 : (before : After-update-arg) → (given : s16 .gives (m13 (before .before) (before .update-arg .given))) → Typed.Mo T21
@@ -1201,51 +1276,85 @@ module _ (claims· : Claims) where
       module _ (loop-holds : Need-loop-holds) (fetch-requires : Need-fetch-requires) (restarted-record-requires : Need-restarted-record-requires) (update-requires : Need-update-requires) (add-j :
           Need-add-j) (loop-less : Need-loop-less) (loop-again : Need-loop-again) (same-length : Need-same-length) (returns : Need-returns) where
         lay7 : (c : After-loop) → at32 (W0 (c .before .before .κs) (c .before .before .args)) (m5 (c .before))
-        lay7 = λ c.
-            ((MutSlice.fix-len (Row.get 1 (T30 .locals) (m22 (c .before)) .ptr) (Row.get 1 (T30 .locals) (m22 (c .before)) .name) (Row.get 1 (T30 .locals) (m22 (c .before)) .now) (dens (c .before .before
-            .κs) (c .before .before .args) .0 .now) (same-length record { before = c .before; loop-test = c .loop-test }), (tt, (tt, tt))), returns record { before = c .before; loop-test = c .loop-test })
+        lay7 = λ c. (
+          (
+            MutSlice.fix-len (Row.get 1 (T30 .locals) (m22 (c .before)) .ptr) (Row.get 1 (T30 .locals) (m22 (c .before)) .name) (Row.get 1 (T30 .locals) (m22 (c .before)) .now) (dens (c .before .before
+                .κs) (c .before .before .args) .0 .now) (same-length record { before = c .before; loop-test = c .loop-test }),
+            (tt, (tt, tt)),
+          ),
+          returns record { before = c .before; loop-test = c .loop-test },
+        )
 
         lay6 : (c : After-update) → at10 (W3 (c .before .before .before .before .before .before .before .before) (c .before .before .before .before .before .before .before .loop .rs) (c .before
             .before .before .before .before .before .before .loop .j)) (m14 (c .before) (After-update·gave c))
-        lay6 = λ c.
-            (Path'.refl, λ g.
-            (add-j record { before = record { before = c .before; update = c .update }; rs2 = record { given = g }; },
-            (μ·0 (Row.get 1 (T2 .locals) (m1 (c .before .before .before .before .before .before .before .before .κs) (c .before .before .before .before .before .before .before .before .args)) .now)
-            (Row.get 2 (T2 .locals) (m1 (c .before .before .before .before .before .before .before .before .κs) (c .before .before .before .before .before .before .before .before .args))) (Row.get 3 (T2
-            .locals) (m1 (c .before .before .before .before .before .before .before .before .κs) (c .before .before .before .before .before .before .before .before .args))) (Row.get 4 (T2 .locals) (m1 (c
-            .before .before .before .before .before .before .before .before .κs) (c .before .before .before .before .before .before .before .before .args))) (Row.get 1 (T2 .locals) (m18 record
-            { before = c .before; update = c .update } g) .now) (Row.get 4 (T2 .locals) (m18 record { before = c .before; update = c .update } g)), loop-less record
-            { before = record { before = c .before; update = c .update }; rs2 = record { given = g }; },
-            ((Row.get 1 (T2 .locals) (m18 record { before = c .before; update = c .update } g) .now, Row.get 4 (T2 .locals) (m18 record { before = c .before; update = c .update } g)), Path'.refl {a = m18
-            record { before = c .before; update = c .update } g}, loop-again record { before = record { before = c .before; update = c .update }; rs2 = record { given = g }; }, Path'.refl {a = μ·0
-            (Row.get 1 (T2 .locals) (m1 (c .before .before .before .before .before .before .before .before .κs) (c .before .before .before .before .before .before .before .before .args)) .now) (Row.get 2
-            (T2 .locals) (m1 (c .before .before .before .before .before .before .before .before .κs) (c .before .before .before .before .before .before .before .before .args))) (Row.get 3 (T2 .locals) (m1
-            (c .before .before .before .before .before .before .before .before .κs) (c .before .before .before .before .before .before .before .before .args))) (Row.get 4 (T2 .locals) (m1 (c .before
-            .before .before .before .before .before .before .before .κs) (c .before .before .before .before .before .before .before .before .args))) (Row.get 1 (T2 .locals) (m18 record
-            { before = c .before; update = c .update } g) .now) (Row.get 4 (T2 .locals) (m18 record { before = c .before; update = c .update } g))}))))
+        lay6 = λ c. (
+          Path'.refl,
+          λ g. (
+            add-j record { before = record { before = c .before; update = c .update }; rs2 = record { given = g } },
+            (
+              μ·0 (Row.get 1 (T2 .locals) (m1 (c .before .before .before .before .before .before .before .before .κs) (c .before .before .before .before .before .before .before .before .args)) .now)
+                  (Row.get 2 (T2 .locals) (m1 (c .before .before .before .before .before .before .before .before .κs) (c .before .before .before .before .before .before .before .before .args))) (Row.get 3 (T2
+                  .locals) (m1 (c .before .before .before .before .before .before .before .before .κs) (c .before .before .before .before .before .before .before .before .args))) (Row.get 4 (T2 .locals) (m1 (c
+                  .before .before .before .before .before .before .before .before .κs) (c .before .before .before .before .before .before .before .before .args))) (Row.get 1 (T2 .locals) (m18 record
+                  { before = c .before; update = c .update } g) .now) (Row.get 4 (T2 .locals) (m18 record { before = c .before; update = c .update } g)),
+              loop-less record
+                  { before = record { before = c .before; update = c .update }; rs2 = record { given = g } },
+              (
+                (Row.get 1 (T2 .locals) (m18 record { before = c .before; update = c .update } g) .now, Row.get 4 (T2 .locals) (m18 record { before = c .before; update = c .update } g)),
+                Path'.refl {a = m18
+                    record { before = c .before; update = c .update } g},
+                loop-again record { before = record { before = c .before; update = c .update }; rs2 = record { given = g } },
+                Path'.refl {a = μ·0
+                    (Row.get 1 (T2 .locals) (m1 (c .before .before .before .before .before .before .before .before .κs) (c .before .before .before .before .before .before .before .before .args)) .now) (Row.get 2
+                    (T2 .locals) (m1 (c .before .before .before .before .before .before .before .before .κs) (c .before .before .before .before .before .before .before .before .args))) (Row.get 3 (T2 .locals) (m1
+                    (c .before .before .before .before .before .before .before .before .κs) (c .before .before .before .before .before .before .before .before .args))) (Row.get 4 (T2 .locals) (m1 (c .before
+                    .before .before .before .before .before .before .before .κs) (c .before .before .before .before .before .before .before .before .args))) (Row.get 1 (T2 .locals) (m18 record
+                    { before = c .before; update = c .update } g) .now) (Row.get 4 (T2 .locals) (m18 record { before = c .before; update = c .update } g))},
+              ),
+            ),
+          ),
+        )
 
         lay5 : (c : After-restarted-record) → at15 (W3 (c .before .before .before .before .before .before) (c .before .before .before .before .before .loop .rs) (c .before .before .before .before
             .before .loop .j)) (m10 (c .before) (After-restarted-record·gave c))
-        lay5 = λ c. λ g.
-            (Path'.refl,
-            (update-requires record { before = record { before = c .before; restarted-record = c .restarted-record }; update-arg = record { given = g }; }, λ g'. lay6 record
-            { before = record { before = record { before = c .before; restarted-record = c .restarted-record }; update-arg = record { given = g }; }; update = Called.called ps·2 r·2 (claims· .5) T19
-            (record { pos = 12; ty = Syntax.tyRef Syntax.erased Syntax.mut Element.behind; ref = λ x. x; }, (Num.vAt 4 λ x. x, (record { pos = 6; st = List.[]; d = 0; at = λ x. x }, tt))) (m13 record
-            { before = c .before; restarted-record = c .restarted-record } g) g'; }))
+        lay5 = λ c. λ g. (
+          Path'.refl,
+          (
+            update-requires record { before = record { before = c .before; restarted-record = c .restarted-record }; update-arg = record { given = g } },
+            λ g'. lay6 record {
+              before = record { before = record { before = c .before; restarted-record = c .restarted-record }; update-arg = record { given = g } };
+              update = Called.called ps·2 r·2 (claims· .5) T19
+                  (record { pos = 12; ty = Syntax.tyRef Syntax.erased Syntax.mut Element.behind; ref = λ x. x }, (Num.vAt 4 λ x. x, (record { pos = 6; st = List.[]; d = 0; at = λ x. x }, tt))) (m13 record
+                  { before = c .before; restarted-record = c .restarted-record } g) g';
+            },
+          ),
+        )
 
         lay4 : (c : After-fetch) → at19 (W3 (c .before .before .before .before) (c .before .before .before .loop .rs) (c .before .before .before .loop .j)) (m8 (c .before) (After-fetch·gave c))
-        lay4 = λ c.
-            (Path'.refl, λ g.
-            (restarted-record-requires record { before = record { before = c .before; fetch = c .fetch }; rs = record { given = g }; }, λ g'. lay5 record
-            { before = record { before = record { before = c .before; fetch = c .fetch }; rs = record { given = g }; }; restarted-record = Called.called ps·1 r·1 (claims· .3) T13
-            (record { pos = 5; st = List.[]; d = 0; at = λ x. x }, (Num.vAt 2 λ x. x, (Num.vAt 3 λ x. x, (Num.vAt 4 λ x. x, tt)))) (m9 record { before = c .before; fetch = c .fetch } g) g'; }))
+        lay4 = λ c. (
+          Path'.refl,
+          λ g. (
+            restarted-record-requires record { before = record { before = c .before; fetch = c .fetch }; rs = record { given = g } },
+            λ g'. lay5 record {
+              before = record { before = record { before = c .before; fetch = c .fetch }; rs = record { given = g } };
+              restarted-record = Called.called ps·1 r·1 (claims· .3) T13
+                  (record { pos = 5; st = List.[]; d = 0; at = λ x. x }, (Num.vAt 2 λ x. x, (Num.vAt 3 λ x. x, (Num.vAt 4 λ x. x, tt)))) (m9 record { before = c .before; fetch = c .fetch } g) g';
+            },
+          ),
+        )
 
         lay3 : (c : In-loop) → at23 (W3 (c .before .before) (c .before .loop .rs) (c .before .loop .j)) (m4 (c .before))
-        lay3 = λ c. λ g.
-            (Path'.refl,
-            (fetch-requires record { before = record { before = c .before; loop-test = c .loop-test }; fetch-arg = record { given = g }; }, λ g'. lay4 record
-            { before = record { before = record { before = c .before; loop-test = c .loop-test }; fetch-arg = record { given = g }; }; fetch = Called.called ps·0 r·0 (claims· .1) T10
-            (record { pos = 9; ty = Syntax.tyRef Syntax.erased Syntax.mut Element.behind; ref = λ x. x; }, (Num.vAt 4 λ x. x, tt)) (m7 record { before = c .before; loop-test = c .loop-test } g) g'; }))
+        lay3 = λ c. λ g. (
+          Path'.refl,
+          (
+            fetch-requires record { before = record { before = c .before; loop-test = c .loop-test }; fetch-arg = record { given = g } },
+            λ g'. lay4 record {
+              before = record { before = record { before = c .before; loop-test = c .loop-test }; fetch-arg = record { given = g } };
+              fetch = Called.called ps·0 r·0 (claims· .1) T10
+                  (record { pos = 9; ty = Syntax.tyRef Syntax.erased Syntax.mut Element.behind; ref = λ x. x }, (Num.vAt 4 λ x. x, tt)) (m7 record { before = c .before; loop-test = c .loop-test } g) g';
+            },
+          ),
+        )
 
         lay2 : (c : After-loop) → at3 (W4 (c .before .before) (c .before .loop .rs) (c .before .loop .j)) (m3 (c .before .before) (c .before .loop .rs) (c .before .loop .j))
         lay2 = λ c. lay7 record { before = c .before; loop-test = c .loop-test }
@@ -1254,21 +1363,33 @@ module _ (claims· : Claims) where
         lay1 = λ c. lay3 record { before = c .before; loop-test = c .loop-test }
 
         pub laid : (c : Start) → at34 (W0 (c .κs) (c .args)) (m0 (c .κs) (c .args))
-        laid = λ c.
-            (((Row.get 1 (T2 .locals) (m1 (c .κs) (c .args)) .now, Row.get 4 (T2 .locals) (m1 (c .κs) (c .args))), Path'.refl {a = m1 (c .κs) (c .args)}, loop-holds c), λ vs inv.
-            (tt,
-            (λ taken. lay1 record
-            { before = record { before = c; loop = record { rs = vs .0; j = vs .1; inv = inv }; }; loop-test = record { taken = Tests.ltb-true (Row.get 4 (T2 .locals) (m2 c (vs .0) (vs .1))) 336 taken; };
-            }, λ left. lay2 record
-            { before = record { before = c; loop = record { rs = vs .0; j = vs .1; inv = inv }; }; loop-test = record { left = Tests.ltb-false (Row.get 4 (T2 .locals) (m2 c (vs .0) (vs .1))) 336 left; };
-            })))
+        laid = λ c. (
+          ((Row.get 1 (T2 .locals) (m1 (c .κs) (c .args)) .now, Row.get 4 (T2 .locals) (m1 (c .κs) (c .args))), Path'.refl {a = m1 (c .κs) (c .args)}, loop-holds c),
+          λ vs inv. (
+            tt,
+            (
+              λ taken. lay1 record {
+                before = record { before = c; loop = record { rs = vs .0; j = vs .1; inv = inv } };
+                loop-test = record { taken = Tests.ltb-true (Row.get 4 (T2 .locals) (m2 c (vs .0) (vs .1))) 336 taken };
+              },
+              λ left. lay2 record {
+                before = record { before = c; loop = record { rs = vs .0; j = vs .1; inv = inv } };
+                loop-test = record { left = Tests.ltb-false (Row.get 4 (T2 .locals) (m2 c (vs .0) (vs .1))) 336 left };
+              },
+            ),
+          ),
+        )
 
         module _ (κs : Lifetimes.Lfts 1) (qs : Lifetimes.Shares 1) where
           pub asked : (a : Kinds.Dens κs ps) → (good : Kinds.GoodsP κs ps a) → (pre : Pre· κs a) → (bs : List.List Nat.ℕ) → Φ (Any.wantQ 1 ps r xs m κs qs a (Post· κs a)) (Function.init 1 ps r xs m κs
               qs a)
-          asked = λ a good pre bs. laid record
-              { κs = κs; args = record { rs = a .0; bits = a .1 .0; base = a .1 .1 .0 }; good = good; fits = record { bits = record { fits = good .1 .0 .1 }; base = record { fits = good .1 .1 .0 .1 }; };
-              pre = pre; }
+          asked = λ a good pre bs. laid record {
+            κs = κs;
+            args = record { rs = a .0; bits = a .1 .0; base = a .1 .1 .0 };
+            good = good;
+            fits = record { bits = record { fits = good .1 .0 .1 }; base = record { fits = good .1 .1 .0 .1 } };
+            pre = pre;
+          }
 
         module _ {M : Type 1} (𝓤 : URA.URA M) (H : Wp.Heap 𝓤) (A : Atoms.Atoms 𝓤) (W : Kit.Given 𝓤 H A) (𝓣 : Wp.Tables 𝓤 H) (known0 : Plain.Known 𝓤 H A W 𝓣 1 ps·0 r·0 (claims· .0) (claims· .1)
             "block::records::fetch") (known1 : Plain.Known 𝓤 H A W 𝓣 0 ps·1 r·1 (claims· .2) (claims· .3) "block::records::restarted_record") (known2 : Plain.Known 𝓤 H A W 𝓣 1 ps·2 r·2 (claims· .4)

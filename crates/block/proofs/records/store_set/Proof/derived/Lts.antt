@@ -76,11 +76,24 @@ abbrev pub y2 : Syntax.Ty
 y2 = Syntax.tyStruct (List._∷_ 38 (List._∷_ 91 (List._∷_ 93 List.[]))) (Syntax.tcons (Syntax.tyRef Syntax.erased Syntax.mut Element.behind) (Syntax.tcons (Syntax.tyInt Syntax.w64) Syntax.tnil))
 
 abbrev pub ps : List.List (Kinds.PK 1)
-ps = List._∷_ (MutSlice.pMutS (Element.type) 0 tt) (List._∷_ (Num.pNum Syntax.w64) (List._∷_ (Value.pVal record
-    { ty = Declared.row Set.the-type; one = Path'.refl; val = Laws''.val Set.the-type Laws'.the-laws; tells = Laws''.tells Set.the-type Laws'.the-laws; still = Laws''.still Set.the-type Laws'.the-copy
-    Exit.yes; row = Rows'.whole (Declared.row Set.the-type); rd = λ x. x; mk = λ x. x; } λ M 𝓤 H A W. record
-    { copies = Laws''.copy Set.the-type Laws'.the-copy 𝓤 H A W; lawful = Laws''.lawful Set.the-type Laws'.the-laws 𝓤 H A W; makes = Laws''.makes Set.the-type Laws'.the-plain 𝓤 H A; in-mem =
-    Local.mem-whole 𝓤 H A W (Declared.row Set.the-type); of-mem = Local.whole-mem 𝓤 H A W (Declared.row Set.the-type); }) List.[]))
+ps = List._∷_ (MutSlice.pMutS (Element.type) 0 tt) (List._∷_ (Num.pNum Syntax.w64) (List._∷_ (Value.pVal record {
+  ty = Declared.row Set.the-type;
+  one = Path'.refl;
+  val = Laws''.val Set.the-type Laws'.the-laws;
+  tells = Laws''.tells Set.the-type Laws'.the-laws;
+  still = Laws''.still Set.the-type Laws'.the-copy
+      Exit.yes;
+  row = Rows'.whole (Declared.row Set.the-type);
+  rd = λ x. x;
+  mk = λ x. x;
+} λ M 𝓤 H A W. record {
+  copies = Laws''.copy Set.the-type Laws'.the-copy 𝓤 H A W;
+  lawful = Laws''.lawful Set.the-type Laws'.the-laws 𝓤 H A W;
+  makes = Laws''.makes Set.the-type Laws'.the-plain 𝓤 H A;
+  in-mem =
+      Local.mem-whole 𝓤 H A W (Declared.row Set.the-type);
+  of-mem = Local.whole-mem 𝓤 H A W (Declared.row Set.the-type);
+}) List.[]))
 
 abbrev pub r : Kinds.RK 1
 r = Unit'.rUnit
@@ -94,11 +107,24 @@ abbrev pub m : Nat.ℕ
 m = 1
 
 abbrev pub ps·0 : List.List (Kinds.PK 1)
-ps·0 = List._∷_ (MutSlice.pMutS (Element.type) 0 tt) (List._∷_ (Num.pNum Syntax.w64) (List._∷_ (Value.pVal record
-    { ty = Declared.row Record.the-type; one = Path'.refl; val = Laws''.val Record.the-type Laws.the-laws; tells = Laws''.tells Record.the-type Laws.the-laws; still = Laws''.still Record.the-type
-    Laws.the-copy Exit.yes; row = Rows'.whole (Declared.row Record.the-type); rd = λ x. x; mk = λ x. x; } λ M 𝓤 H A W. record
-    { copies = Laws''.copy Record.the-type Laws.the-copy 𝓤 H A W; lawful = Laws''.lawful Record.the-type Laws.the-laws 𝓤 H A W; makes = Laws''.makes Record.the-type Laws.the-plain 𝓤 H A; in-mem =
-    Local.mem-whole 𝓤 H A W (Declared.row Record.the-type); of-mem = Local.whole-mem 𝓤 H A W (Declared.row Record.the-type); }) List.[]))
+ps·0 = List._∷_ (MutSlice.pMutS (Element.type) 0 tt) (List._∷_ (Num.pNum Syntax.w64) (List._∷_ (Value.pVal record {
+  ty = Declared.row Record.the-type;
+  one = Path'.refl;
+  val = Laws''.val Record.the-type Laws.the-laws;
+  tells = Laws''.tells Record.the-type Laws.the-laws;
+  still = Laws''.still Record.the-type
+      Laws.the-copy Exit.yes;
+  row = Rows'.whole (Declared.row Record.the-type);
+  rd = λ x. x;
+  mk = λ x. x;
+} λ M 𝓤 H A W. record {
+  copies = Laws''.copy Record.the-type Laws.the-copy 𝓤 H A W;
+  lawful = Laws''.lawful Record.the-type Laws.the-laws 𝓤 H A W;
+  makes = Laws''.makes Record.the-type Laws.the-plain 𝓤 H A;
+  in-mem =
+      Local.mem-whole 𝓤 H A W (Declared.row Record.the-type);
+  of-mem = Local.whole-mem 𝓤 H A W (Declared.row Record.the-type);
+}) List.[]))
 
 abbrev pub r·0 : Kinds.RK 1
 r·0 = Unit'.rUnit
@@ -679,12 +705,12 @@ MeasureT-loop = List.List (Element.type .Denot) → Rows'.sc-here (Row.sInt Synt
 module _ (claims· : Claims) where
   abbrev s0 : (bs : List.List Nat.ℕ) → Typed.Both T0 T2
   s0 = λ bs. WayStmt.k-way-copy-out T0 (Row.out 3 (T0 .locals)) (λ u. Row.drop 3 (T0 .locals) u) 4 (Rows.arrF (Referent.rtF (Referent.fInt Syntax.w32)) 112 0) (λ u. At.getAt (Set.the-type .parts) 0
-      (Set.struct .as-values (u .1 .1 .1 .0))) (λ T′. record { locals = Row.setRow 3 (3, Rows'.whole (Declared.row Set.the-type)) T′; slots = List.[]; }) (λ u T′ m′. Row.set 3
+      (Set.struct .as-values (u .1 .1 .1 .0))) (λ T′. record { locals = Row.setRow 3 (3, Rows'.whole (Declared.row Set.the-type)) T′; slots = List.[] }) (λ u T′ m′. Row.set 3
       (3, Rows'.whole (Declared.row Set.the-type)) (u .1 .1 .1 .0) T′ m′) (λ u. Unit) λ u. Unit
 
   abbrev s1 : (bs : List.List Nat.ℕ) → Typed.Both T2 T3
   s1 = λ bs. WayStmt.k-way-copy-out T2 (Row.out 3 (T2 .locals)) (λ u. Row.drop 3 (T2 .locals) u) 5 (Rows.arrF (Referent.rtF (Referent.fInt Syntax.w32)) 112 0) (λ u. At.getAt (Set.the-type .parts) 1
-      (Set.struct .as-values (u .1 .1 .1 .0))) (λ T′. record { locals = Row.setRow 3 (3, Rows'.whole (Declared.row Set.the-type)) T′; slots = List.[]; }) (λ u T′ m′. Row.set 3
+      (Set.struct .as-values (u .1 .1 .1 .0))) (λ T′. record { locals = Row.setRow 3 (3, Rows'.whole (Declared.row Set.the-type)) T′; slots = List.[] }) (λ u T′ m′. Row.set 3
       (3, Rows'.whole (Declared.row Set.the-type)) (u .1 .1 .1 .0) T′ m′) (λ u. Unit) λ u. Unit
 
   abbrev s2 : (bs : List.List Nat.ℕ) → Typed.Mo T3 → Typed.Mo T4
@@ -789,7 +815,7 @@ module _ (claims· : Claims) where
 
   abbrev s33 : (bs : List.List Nat.ℕ) → Typed.Both T36 T37
   s33 = λ bs. Call.callB ps·0 r·0 (claims· .0) (claims· .1) T36
-      (record { pos = 19; ty = Syntax.tyRef Syntax.erased Syntax.mut Element.behind; ref = λ x. x; }, (Num.vAt 13 λ x. x, (record { pos = 7; st = List.[]; d = 0; at = λ x. x }, tt))) 17 (List._∷_ 1
+      (record { pos = 19; ty = Syntax.tyRef Syntax.erased Syntax.mut Element.behind; ref = λ x. x }, (Num.vAt 13 λ x. x, (record { pos = 7; st = List.[]; d = 0; at = λ x. x }, tt))) 17 (List._∷_ 1
       List.[]) Syntax.tyUnit
 
   abbrev s34 : (bs : List.List Nat.ℕ) → Typed.Mo T37 → Typed.Mo T38
@@ -819,7 +845,7 @@ module _ (claims· : Claims) where
 
   abbrev put0 : List.List (Element.type .Denot) × Rows'.sc-here (Row.sInt Syntax.w64) .Mod → Typed.Mo T5 → Typed.Mo T5
   put0 = λ vs u. Row.set 6 (6, Rows'.sc-here (Row.sInt Syntax.w64)) (vs .1) (T5 .locals) (Row.set 1 (1, Mut.mslice (Element.type) (Syntax.tyRef (Syntax.named 0) Syntax.mut Element.behind) 0) record
-      { ptr = Row.get 1 (T5 .locals) u .ptr; name = Row.get 1 (T5 .locals) u .name; now = vs .0; } (T5 .locals) u)
+      { ptr = Row.get 1 (T5 .locals) u .ptr; name = Row.get 1 (T5 .locals) u .name; now = vs .0 } (T5 .locals) u)
 
   module _ (Pre· : (κs : Lifetimes.Lfts 1) → Kinds.Dens κs ps → Type 0) (Post· : (κs : Lifetimes.Lfts 1) → (a : Kinds.Dens κs ps) → Kinds.Plain 1 ps r κs) where
     module _ (M : Type 1) where
@@ -1023,148 +1049,148 @@ module _ (claims· : Claims) where
             (List._∷_ e25 (List._∷_ e27 (List._∷_ e29 (List._∷_ e30 (List._∷_ e33 (List._∷_ e35 (List._∷_ e4 (List._∷_ e6 (List._∷_ e8 (List._∷_ e10 (List._∷_ e12 (List._∷_ e14 List.[])))))))))))))))
 
         abbrev G0 : Row.Cx
-        G0 = record { locals = List._++_ t0 t1; slots = List._∷_ (Row.lease (κs .0) (qs .0)) (List._∷_ Row.off List.[]); }
+        G0 = record { locals = List._++_ t0 t1; slots = List._∷_ (Row.lease (κs .0) (qs .0)) (List._∷_ Row.off List.[]) }
 
         abbrev G1 : Row.Cx
-        G1 = record { locals = List._++_ t2 t1; slots = List._∷_ (Row.lease (κs .0) (qs .0)) (List._∷_ Row.off List.[]); }
+        G1 = record { locals = List._++_ t2 t1; slots = List._∷_ (Row.lease (κs .0) (qs .0)) (List._∷_ Row.off List.[]) }
 
         abbrev G2 : Row.Cx
-        G2 = record { locals = List._++_ t3 t1; slots = List._∷_ (Row.lease (κs .0) (qs .0)) (List._∷_ Row.off List.[]); }
+        G2 = record { locals = List._++_ t3 t1; slots = List._∷_ (Row.lease (κs .0) (qs .0)) (List._∷_ Row.off List.[]) }
 
         abbrev G3 : Row.Cx
-        G3 = record { locals = List._++_ t4 t1; slots = List._∷_ (Row.lease (κs .0) (qs .0)) (List._∷_ Row.off List.[]); }
+        G3 = record { locals = List._++_ t4 t1; slots = List._∷_ (Row.lease (κs .0) (qs .0)) (List._∷_ Row.off List.[]) }
 
         abbrev G4 : Row.Cx
-        G4 = record { locals = List._++_ t5 t1; slots = List._∷_ (Row.lease (κs .0) (qs .0)) (List._∷_ Row.off List.[]); }
+        G4 = record { locals = List._++_ t5 t1; slots = List._∷_ (Row.lease (κs .0) (qs .0)) (List._∷_ Row.off List.[]) }
 
         abbrev G5 : Row.Cx
-        G5 = record { locals = List._++_ t6 t1; slots = List._∷_ (Row.lease (κs .0) (qs .0)) (List._∷_ Row.off List.[]); }
+        G5 = record { locals = List._++_ t6 t1; slots = List._∷_ (Row.lease (κs .0) (qs .0)) (List._∷_ Row.off List.[]) }
 
         abbrev G6 : Row.Cx
-        G6 = record { locals = List._++_ t7 t1; slots = List._∷_ (Row.lease (κs .0) (qs .0)) (List._∷_ Row.off List.[]); }
+        G6 = record { locals = List._++_ t7 t1; slots = List._∷_ (Row.lease (κs .0) (qs .0)) (List._∷_ Row.off List.[]) }
 
         abbrev G7 : Row.Cx
-        G7 = record { locals = List._++_ t8 t1; slots = List._∷_ (Row.lease (κs .0) (qs .0)) (List._∷_ Row.off List.[]); }
+        G7 = record { locals = List._++_ t8 t1; slots = List._∷_ (Row.lease (κs .0) (qs .0)) (List._∷_ Row.off List.[]) }
 
         abbrev G8 : Row.Cx
-        G8 = record { locals = List._++_ t6 t1; slots = List._∷_ (Row.lease (κs .0) (qs .0)) (List._∷_ Row.off List.[]); }
+        G8 = record { locals = List._++_ t6 t1; slots = List._∷_ (Row.lease (κs .0) (qs .0)) (List._∷_ Row.off List.[]) }
 
         abbrev G9 : Row.Cx
-        G9 = record { locals = List._++_ t6 t1; slots = List._∷_ (Row.lease (κs .0) (qs .0)) (List._∷_ Row.off List.[]); }
+        G9 = record { locals = List._++_ t6 t1; slots = List._∷_ (Row.lease (κs .0) (qs .0)) (List._∷_ Row.off List.[]) }
 
         abbrev G10 : Row.Cx
-        G10 = record { locals = List._++_ t9 t1; slots = List._∷_ (Row.lease (κs .0) (qs .0)) (List._∷_ Row.off List.[]); }
+        G10 = record { locals = List._++_ t9 t1; slots = List._∷_ (Row.lease (κs .0) (qs .0)) (List._∷_ Row.off List.[]) }
 
         abbrev G11 : Row.Cx
-        G11 = record { locals = List._++_ t10 t1; slots = List._∷_ (Row.lease (κs .0) (qs .0)) (List._∷_ Row.off List.[]); }
+        G11 = record { locals = List._++_ t10 t1; slots = List._∷_ (Row.lease (κs .0) (qs .0)) (List._∷_ Row.off List.[]) }
 
         abbrev G12 : Row.Cx
-        G12 = record { locals = List._++_ t7 t1; slots = List._∷_ (Row.lease (κs .0) (qs .0)) (List._∷_ Row.off List.[]); }
+        G12 = record { locals = List._++_ t7 t1; slots = List._∷_ (Row.lease (κs .0) (qs .0)) (List._∷_ Row.off List.[]) }
 
         abbrev G13 : Row.Cx
-        G13 = record { locals = List._++_ t11 t1; slots = List._∷_ (Row.lease (κs .0) (qs .0)) (List._∷_ Row.off List.[]); }
+        G13 = record { locals = List._++_ t11 t1; slots = List._∷_ (Row.lease (κs .0) (qs .0)) (List._∷_ Row.off List.[]) }
 
         abbrev G14 : Row.Cx
-        G14 = record { locals = List._++_ t12 t1; slots = List._∷_ (Row.lease (κs .0) (qs .0)) (List._∷_ Row.off List.[]); }
+        G14 = record { locals = List._++_ t12 t1; slots = List._∷_ (Row.lease (κs .0) (qs .0)) (List._∷_ Row.off List.[]) }
 
         abbrev G15 : Row.Cx
-        G15 = record { locals = List._++_ t13 t1; slots = List._∷_ (Row.lease (κs .0) (qs .0)) (List._∷_ Row.off List.[]); }
+        G15 = record { locals = List._++_ t13 t1; slots = List._∷_ (Row.lease (κs .0) (qs .0)) (List._∷_ Row.off List.[]) }
 
         abbrev G16 : Row.Cx
-        G16 = record { locals = List._++_ t14 t1; slots = List._∷_ (Row.lease (κs .0) (qs .0)) (List._∷_ Row.off List.[]); }
+        G16 = record { locals = List._++_ t14 t1; slots = List._∷_ (Row.lease (κs .0) (qs .0)) (List._∷_ Row.off List.[]) }
 
         abbrev G17 : Row.Cx
-        G17 = record { locals = List._++_ t15 t1; slots = List._∷_ (Row.lease (κs .0) (qs .0)) (List._∷_ Row.off List.[]); }
+        G17 = record { locals = List._++_ t15 t1; slots = List._∷_ (Row.lease (κs .0) (qs .0)) (List._∷_ Row.off List.[]) }
 
         abbrev G18 : Row.Cx
-        G18 = record { locals = List._++_ t16 t1; slots = List._∷_ (Row.lease (κs .0) (qs .0)) (List._∷_ Row.off List.[]); }
+        G18 = record { locals = List._++_ t16 t1; slots = List._∷_ (Row.lease (κs .0) (qs .0)) (List._∷_ Row.off List.[]) }
 
         abbrev G19 : Row.Cx
-        G19 = record { locals = List._++_ t17 t1; slots = List._∷_ (Row.lease (κs .0) (qs .0)) (List._∷_ Row.off List.[]); }
+        G19 = record { locals = List._++_ t17 t1; slots = List._∷_ (Row.lease (κs .0) (qs .0)) (List._∷_ Row.off List.[]) }
 
         abbrev G20 : Row.Cx
-        G20 = record { locals = List._++_ t18 t1; slots = List._∷_ (Row.lease (κs .0) (qs .0)) (List._∷_ Row.off List.[]); }
+        G20 = record { locals = List._++_ t18 t1; slots = List._∷_ (Row.lease (κs .0) (qs .0)) (List._∷_ Row.off List.[]) }
 
         abbrev G21 : Row.Cx
-        G21 = record { locals = List._++_ t19 t1; slots = List._∷_ (Row.lease (κs .0) (qs .0)) (List._∷_ Row.off List.[]); }
+        G21 = record { locals = List._++_ t19 t1; slots = List._∷_ (Row.lease (κs .0) (qs .0)) (List._∷_ Row.off List.[]) }
 
         abbrev G22 : Row.Cx
-        G22 = record { locals = List._++_ t20 t1; slots = List._∷_ (Row.lease (κs .0) (qs .0)) (List._∷_ Row.off List.[]); }
+        G22 = record { locals = List._++_ t20 t1; slots = List._∷_ (Row.lease (κs .0) (qs .0)) (List._∷_ Row.off List.[]) }
 
         abbrev G23 : Row.Cx
-        G23 = record { locals = List._++_ t21 t1; slots = List._∷_ (Row.lease (κs .0) (qs .0)) (List._∷_ Row.off List.[]); }
+        G23 = record { locals = List._++_ t21 t1; slots = List._∷_ (Row.lease (κs .0) (qs .0)) (List._∷_ Row.off List.[]) }
 
         abbrev G24 : Row.Cx
-        G24 = record { locals = List._++_ t21 t22; slots = List._∷_ (Row.lease (κs .0) (qs .0)) (List._∷_ Row.off List.[]); }
+        G24 = record { locals = List._++_ t21 t22; slots = List._∷_ (Row.lease (κs .0) (qs .0)) (List._∷_ Row.off List.[]) }
 
         abbrev G25 : Row.Cx
-        G25 = record { locals = List._++_ t23 t22; slots = List._∷_ (Row.lease (κs .0) (qs .0)) (List._∷_ Row.off List.[]); }
+        G25 = record { locals = List._++_ t23 t22; slots = List._∷_ (Row.lease (κs .0) (qs .0)) (List._∷_ Row.off List.[]) }
 
         abbrev G26 : Row.Cx
-        G26 = record { locals = List._++_ t17 t22; slots = List._∷_ (Row.lease (κs .0) (qs .0)) (List._∷_ Row.off List.[]); }
+        G26 = record { locals = List._++_ t17 t22; slots = List._∷_ (Row.lease (κs .0) (qs .0)) (List._∷_ Row.off List.[]) }
 
         abbrev G27 : Row.Cx
-        G27 = record { locals = List._++_ t24 t22; slots = List._∷_ (Row.lease (κs .0) (qs .0)) (List._∷_ Row.off List.[]); }
+        G27 = record { locals = List._++_ t24 t22; slots = List._∷_ (Row.lease (κs .0) (qs .0)) (List._∷_ Row.off List.[]) }
 
         abbrev G28 : Row.Cx
-        G28 = record { locals = List._++_ t25 t22; slots = List._∷_ (Row.lease (κs .0) (qs .0)) (List._∷_ Row.off List.[]); }
+        G28 = record { locals = List._++_ t25 t22; slots = List._∷_ (Row.lease (κs .0) (qs .0)) (List._∷_ Row.off List.[]) }
 
         abbrev G29 : Row.Cx
-        G29 = record { locals = List._++_ t25 t1; slots = List._∷_ (Row.lease (κs .0) (qs .0)) (List._∷_ Row.off List.[]); }
+        G29 = record { locals = List._++_ t25 t1; slots = List._∷_ (Row.lease (κs .0) (qs .0)) (List._∷_ Row.off List.[]) }
 
         abbrev G30 : Row.Cx
-        G30 = record { locals = List._++_ t25 t1; slots = List._∷_ (Row.lease (κs .0) (qs .0)) (List._∷_ Row.alive List.[]); }
+        G30 = record { locals = List._++_ t25 t1; slots = List._∷_ (Row.lease (κs .0) (qs .0)) (List._∷_ Row.alive List.[]) }
 
         abbrev G31 : Row.Cx
-        G31 = record { locals = List._++_ g26 t27; slots = List._∷_ Row.off (List._∷_ Row.alive List.[]); }
+        G31 = record { locals = List._++_ g26 t27; slots = List._∷_ Row.off (List._∷_ Row.alive List.[]) }
 
         abbrev G32 : Row.Cx
-        G32 = record { locals = List._++_ g26 t28; slots = List._∷_ Row.off (List._∷_ Row.alive List.[]); }
+        G32 = record { locals = List._++_ g26 t28; slots = List._∷_ Row.off (List._∷_ Row.alive List.[]) }
 
         abbrev G33 : Row.Cx
-        G33 = record { locals = List._++_ g29 t28; slots = List._∷_ Row.off (List._∷_ Row.alive List.[]); }
+        G33 = record { locals = List._++_ g29 t28; slots = List._∷_ Row.off (List._∷_ Row.alive List.[]) }
 
         abbrev G34 : Row.Cx
-        G34 = record { locals = List._++_ g30 t28; slots = List._∷_ Row.off (List._∷_ Row.alive List.[]); }
+        G34 = record { locals = List._++_ g30 t28; slots = List._∷_ Row.off (List._∷_ Row.alive List.[]) }
 
         abbrev G35 : Row.Cx
-        G35 = record { locals = List._++_ g31 t28; slots = List._∷_ Row.off (List._∷_ Row.alive List.[]); }
+        G35 = record { locals = List._++_ g31 t28; slots = List._∷_ Row.off (List._∷_ Row.alive List.[]) }
 
         abbrev G36 : Row.Cx
-        G36 = record { locals = List._++_ g32 t28; slots = List._∷_ Row.off (List._∷_ Row.alive List.[]); }
+        G36 = record { locals = List._++_ g32 t28; slots = List._∷_ Row.off (List._∷_ Row.alive List.[]) }
 
         abbrev G37 : Row.Cx
-        G37 = record { locals = List._++_ g32 t33; slots = List._∷_ Row.off (List._∷_ Row.alive List.[]); }
+        G37 = record { locals = List._++_ g32 t33; slots = List._∷_ Row.off (List._∷_ Row.alive List.[]) }
 
         abbrev G38 : Row.Cx
-        G38 = record { locals = List._++_ g34 t33; slots = List._∷_ Row.off (List._∷_ Row.alive List.[]); }
+        G38 = record { locals = List._++_ g34 t33; slots = List._∷_ Row.off (List._∷_ Row.alive List.[]) }
 
         abbrev G39 : Row.Cx
-        G39 = record { locals = List._++_ g35 t33; slots = List._∷_ Row.off (List._∷_ Row.alive List.[]); }
+        G39 = record { locals = List._++_ g35 t33; slots = List._∷_ Row.off (List._∷_ Row.alive List.[]) }
 
         abbrev G40 : Row.Cx
-        G40 = record { locals = List._++_ g35 t36; slots = List._∷_ Row.off (List._∷_ Row.alive List.[]); }
+        G40 = record { locals = List._++_ g35 t36; slots = List._∷_ Row.off (List._∷_ Row.alive List.[]) }
 
         abbrev G41 : Row.Cx
-        G41 = record { locals = List._++_ g35 t36; slots = List._∷_ Row.off (List._∷_ Row.dead List.[]); }
+        G41 = record { locals = List._++_ g35 t36; slots = List._∷_ Row.off (List._∷_ Row.dead List.[]) }
 
         abbrev G42 : Row.Cx
-        G42 = record { locals = List._++_ t6 t1; slots = List._∷_ (Row.lease (κs .0) (qs .0)) (List._∷_ Row.dead List.[]); }
+        G42 = record { locals = List._++_ t6 t1; slots = List._∷_ (Row.lease (κs .0) (qs .0)) (List._∷_ Row.dead List.[]) }
 
         abbrev G43 : Row.Cx
-        G43 = record { locals = List._++_ t6 t1; slots = List._∷_ (Row.lease (κs .0) (qs .0)) (List._∷_ Row.off List.[]); }
+        G43 = record { locals = List._++_ t6 t1; slots = List._∷_ (Row.lease (κs .0) (qs .0)) (List._∷_ Row.off List.[]) }
 
         abbrev G44 : Row.Cx
-        G44 = record { locals = List._++_ t6 t1; slots = List._∷_ (Row.lease (κs .0) (qs .0)) (List._∷_ Row.off List.[]); }
+        G44 = record { locals = List._++_ t6 t1; slots = List._∷_ (Row.lease (κs .0) (qs .0)) (List._∷_ Row.off List.[]) }
 
         abbrev G45 : Row.Cx
-        G45 = record { locals = List._++_ t37 t1; slots = List._∷_ (Row.lease (κs .0) (qs .0)) (List._∷_ Row.off List.[]); }
+        G45 = record { locals = List._++_ t37 t1; slots = List._∷_ (Row.lease (κs .0) (qs .0)) (List._∷_ Row.off List.[]) }
 
         abbrev G46 : Row.Cx
-        G46 = record { locals = List._++_ t38 t1; slots = List._∷_ (Row.lease (κs .0) (qs .0)) (List._∷_ Row.off List.[]); }
+        G46 = record { locals = List._++_ t38 t1; slots = List._∷_ (Row.lease (κs .0) (qs .0)) (List._∷_ Row.off List.[]) }
 
         abbrev G47 : Row.Cx
-        G47 = record { locals = List._++_ t2 t1; slots = List._∷_ (Row.lease (κs .0) (qs .0)) (List._∷_ Row.off List.[]); }
+        G47 = record { locals = List._++_ t2 t1; slots = List._∷_ (Row.lease (κs .0) (qs .0)) (List._∷_ Row.off List.[]) }
 
         abbrev Δ0 : Typed.Outs
         Δ0 = record { next = Option.none; exits = List.[]; returns = Option.some G1 }
@@ -1239,14 +1265,24 @@ module _ (claims· : Claims) where
 
           d14 : Typed.Typed 𝓤 H A 𝓣 E G36 b22 Δ3 (at14 bs)
           d14 = Typed.s-seq 𝓤 H A W 𝓣 E G36 G37 b20 b21 Δ3 (Typed.both (s33 bs)) (at13 bs) (Plain.t-call-plain 𝓤 H A W 𝓣 1 ps·0 r·0 (claims· .0) (claims· .1) "block::records::update" known E (λ pos β.
-              β) G36 (record { pos = 19; ty = Syntax.tyRef Syntax.erased Syntax.mut Element.behind; ref = λ x. x; }, (Num.vAt 13 λ x. x, (record { pos = 7; st = List.[]; d = 0; at = λ x. x }, tt))) 17
-              (List._∷_ 1 List.[]) (Call.sub-id 𝓤 H A W (G36 .slots))
-              (Reads.as-is 𝓤 H A (Mut.mslice (Element.type) (Syntax.tyRef Syntax.erased Syntax.mut Element.behind) 1), Mut.reads-mslice 𝓤 H A W (Element.type) (Syntax.tyRef Syntax.erased Syntax.mut
-              Element.behind) 1, Path'.refl,
-              ((Scalar.reads-sc 𝓤 H A W (Row.sInt Syntax.w64), Path'.refl),
-              ((Yields.yields-copy 𝓤 H A W (λ ρ. Unit) (Declared.row Record.the-type) Path'.refl (Copies.cStruct Record.the-type Laws.the-laws Laws.the-copy .copy 𝓤 H A W) (Rows'.whole (Declared.row
-              Record.the-type)) (λ x. x) (λ x. x) (λ ρ told. Local.mem-whole 𝓤 H A W (Declared.row Record.the-type) ρ) λ ρ told. Local.whole-mem 𝓤 H A W (Declared.row Record.the-type) ρ, Path'.refl),
-              tt))) (Reads.room-gone 𝓤 H A Syntax.tyUnit) (tt, tt) Path'.refl) d13
+              β) G36 (record { pos = 19; ty = Syntax.tyRef Syntax.erased Syntax.mut Element.behind; ref = λ x. x }, (Num.vAt 13 λ x. x, (record { pos = 7; st = List.[]; d = 0; at = λ x. x }, tt))) 17
+              (List._∷_ 1 List.[]) (Call.sub-id 𝓤 H A W (G36 .slots)) (
+                Reads.as-is 𝓤 H A (Mut.mslice (Element.type) (Syntax.tyRef Syntax.erased Syntax.mut Element.behind) 1),
+                Mut.reads-mslice 𝓤 H A W (Element.type) (Syntax.tyRef Syntax.erased Syntax.mut
+                    Element.behind) 1,
+                Path'.refl,
+                (
+                  (Scalar.reads-sc 𝓤 H A W (Row.sInt Syntax.w64), Path'.refl),
+                  (
+                    (
+                      Yields.yields-copy 𝓤 H A W (λ ρ. Unit) (Declared.row Record.the-type) Path'.refl (Copies.cStruct Record.the-type Laws.the-laws Laws.the-copy .copy 𝓤 H A W) (Rows'.whole (Declared.row
+                          Record.the-type)) (λ x. x) (λ x. x) (λ ρ told. Local.mem-whole 𝓤 H A W (Declared.row Record.the-type) ρ) λ ρ told. Local.whole-mem 𝓤 H A W (Declared.row Record.the-type) ρ,
+                      Path'.refl,
+                    ),
+                    tt,
+                  ),
+                ),
+              ) (Reads.room-gone 𝓤 H A Syntax.tyUnit) (tt, tt) Path'.refl) d13
 
           d15 : Typed.Typed 𝓤 H A 𝓣 E G35 b22 Δ3 (at15 bs)
           d15 = Typed.g-pre 𝓤 H A W 𝓣 E G35 G36 b22 Δ3 (Typed.pass T35 T36 (s32 bs)) (at14 bs) (AtSlots.g-as-by 𝓤 H A W E (λ ρ. Unit) G35 7 (Rows'.whole (Declared.row Record.the-type)) (λ v.
@@ -1406,7 +1442,7 @@ module _ (claims· : Claims) where
               (Copies.cArr (Referent.rtF (Referent.fInt Syntax.w32)) (Copies.cRf (Referent.fInt Syntax.w32)) 112 .copy 𝓤 H A W) (λ ρ. Unit) G2 (Row.out 3 (G2 .locals)) (λ u. Row.drop 3 (G2 .locals) u) (G2
               .slots) 3 (λ t. List._∷_ (Syntax.field 1) t) (Syntax.tyArray (Syntax.tyInt Syntax.w32) 112) (Syntax.tyArray (Syntax.tyInt Syntax.w32) 112) 5 (Rows.arrF (Referent.rtF (Referent.fInt
               Syntax.w32)) 112 0) (λ x. x) (λ u. At.getAt (Set.the-type .parts) 1 (Set.struct .as-values (u .1 .1 .1 .0))) (λ u. (Row.hd 0 (Row.tl (Row.tl (Row.tl bs))), Nat._+_ 0 448)) (λ T′. record
-              { locals = Row.setRow 3 (3, Rows'.whole (Declared.row Set.the-type)) T′; slots = G2 .slots; }) (λ u T′ m′. Row.set 3 (3, Rows'.whole (Declared.row Set.the-type)) (u .1 .1 .1 .0) T′ m′) (λ u.
+              { locals = Row.setRow 3 (3, Rows'.whole (Declared.row Set.the-type)) T′; slots = G2 .slots }) (λ u T′ m′. Row.set 3 (3, Rows'.whole (Declared.row Set.the-type)) (u .1 .1 .1 .0) T′ m′) (λ u.
               Unit) (λ x. Unit) (Own.told-none 𝓤 H A (G2 .slots)) (DerefMove.learns-nothing 𝓤 H A (Array.Array (Referent.rtF (Referent.fInt Syntax.w32)) 112)) (λ ρ told u asked. Way'.w-partˢ 𝓤 H A W E
               (Declared.row Set.the-type) (Array.Array (Referent.rtF (Referent.fInt Syntax.w32)) 112) y0 (Syntax.tyArray (Syntax.tyInt Syntax.w32) 112) 1 448 (u .1 .1 .1 .0) (At.getAt (Set.the-type
               .parts) 1 (Set.struct .as-values (u .1 .1 .1 .0))) (Row.hd 0 (Row.tl (Row.tl (Row.tl bs))), 0) (Way.w-look 𝓤 H A W E (Way.w-local 𝓤 H A W E G2 ρ u (G2 .slots) 3 (Declared.row Set.the-type)
@@ -1423,7 +1459,7 @@ module _ (claims· : Claims) where
               (Copies.cArr (Referent.rtF (Referent.fInt Syntax.w32)) (Copies.cRf (Referent.fInt Syntax.w32)) 112 .copy 𝓤 H A W) (λ ρ. Unit) G0 (Row.out 3 (G0 .locals)) (λ u. Row.drop 3 (G0 .locals) u) (G0
               .slots) 3 (λ t. List._∷_ (Syntax.field 0) t) (Syntax.tyArray (Syntax.tyInt Syntax.w32) 112) (Syntax.tyArray (Syntax.tyInt Syntax.w32) 112) 4 (Rows.arrF (Referent.rtF (Referent.fInt
               Syntax.w32)) 112 0) (λ x. x) (λ u. At.getAt (Set.the-type .parts) 0 (Set.struct .as-values (u .1 .1 .1 .0))) (λ u. (Row.hd 0 (Row.tl (Row.tl (Row.tl bs))), Nat._+_ 0 0)) (λ T′. record
-              { locals = Row.setRow 3 (3, Rows'.whole (Declared.row Set.the-type)) T′; slots = G0 .slots; }) (λ u T′ m′. Row.set 3 (3, Rows'.whole (Declared.row Set.the-type)) (u .1 .1 .1 .0) T′ m′) (λ u.
+              { locals = Row.setRow 3 (3, Rows'.whole (Declared.row Set.the-type)) T′; slots = G0 .slots }) (λ u T′ m′. Row.set 3 (3, Rows'.whole (Declared.row Set.the-type)) (u .1 .1 .1 .0) T′ m′) (λ u.
               Unit) (λ x. Unit) (Own.told-none 𝓤 H A (G0 .slots)) (DerefMove.learns-nothing 𝓤 H A (Array.Array (Referent.rtF (Referent.fInt Syntax.w32)) 112)) (λ ρ told u asked. Way'.w-partˢ 𝓤 H A W E
               (Declared.row Set.the-type) (Array.Array (Referent.rtF (Referent.fInt Syntax.w32)) 112) y0 (Syntax.tyArray (Syntax.tyInt Syntax.w32) 112) 0 0 (u .1 .1 .1 .0) (At.getAt (Set.the-type .parts)
               0 (Set.struct .as-values (u .1 .1 .1 .0))) (Row.hd 0 (Row.tl (Row.tl (Row.tl bs))), 0) (Way.w-look 𝓤 H A W E (Way.w-local 𝓤 H A W E G0 ρ u (G0 .slots) 3 (Declared.row Set.the-type)
@@ -1442,11 +1478,24 @@ module _ (claims· : Claims) where
         pub record Args : Type 0 where
           pub rs : Kinds.Den {n = 1} κs (MutSlice.pMutS (Element.type) 0 tt)
           pub g : Kinds.Den {n = 1} κs (Num.pNum Syntax.w64)
-          pub set : Kinds.Den {n = 1} κs (Value.pVal record
-              { ty = Declared.row Set.the-type; one = Path'.refl; val = Laws''.val Set.the-type Laws'.the-laws; tells = Laws''.tells Set.the-type Laws'.the-laws; still = Laws''.still Set.the-type
-              Laws'.the-copy Exit.yes; row = Rows'.whole (Declared.row Set.the-type); rd = λ x. x; mk = λ x. x; } λ M 𝓤 H A W. record
-              { copies = Laws''.copy Set.the-type Laws'.the-copy 𝓤 H A W; lawful = Laws''.lawful Set.the-type Laws'.the-laws 𝓤 H A W; makes = Laws''.makes Set.the-type Laws'.the-plain 𝓤 H A; in-mem =
-              Local.mem-whole 𝓤 H A W (Declared.row Set.the-type); of-mem = Local.whole-mem 𝓤 H A W (Declared.row Set.the-type); })
+          pub set : Kinds.Den {n = 1} κs (Value.pVal record {
+            ty = Declared.row Set.the-type;
+            one = Path'.refl;
+            val = Laws''.val Set.the-type Laws'.the-laws;
+            tells = Laws''.tells Set.the-type Laws'.the-laws;
+            still = Laws''.still Set.the-type
+                Laws'.the-copy Exit.yes;
+            row = Rows'.whole (Declared.row Set.the-type);
+            rd = λ x. x;
+            mk = λ x. x;
+          } λ M 𝓤 H A W. record {
+            copies = Laws''.copy Set.the-type Laws'.the-copy 𝓤 H A W;
+            lawful = Laws''.lawful Set.the-type Laws'.the-laws 𝓤 H A W;
+            makes = Laws''.makes Set.the-type Laws'.the-plain 𝓤 H A;
+            in-mem =
+                Local.mem-whole 𝓤 H A W (Declared.row Set.the-type);
+            of-mem = Local.whole-mem 𝓤 H A W (Declared.row Set.the-type);
+          })
 
         abbrev pub dens : (a : Args) → Kinds.Dens κs ps
         dens = λ a. (a .rs, (a .g, (a .set, tt)))
@@ -1459,9 +1508,12 @@ module _ (claims· : Claims) where
       m0 = λ κs args blocks. (tt, Enter.partsP κs 1 ps xs (dens κs args))
 
       abbrev W0 : (κs : Lifetimes.Lfts 1) → (args : Args κs) → (blocks : List.List Nat.ℕ) → Typed.Want O0
-      W0 = λ κs args blocks.
-          (λ u. ⊥, tt, λ u. Enter.Fixs κs 1 ps xs (dens κs args) (u .1) × Post· κs (dens κs args) (Function.resV r κs (u .0)) (Clauses.atExit (Kinds.endedOf 1 ps r) κs (dens κs args) (Enter.lastsP κs 1 ps
-          xs (dens κs args) (u .1))))
+      W0 = λ κs args blocks. (
+        λ u. ⊥,
+        tt,
+        λ u. Enter.Fixs κs 1 ps xs (dens κs args) (u .1) × Post· κs (dens κs args) (Function.resV r κs (u .0)) (Clauses.atExit (Kinds.endedOf 1 ps r) κs (dens κs args) (Enter.lastsP κs 1 ps
+            xs (dens κs args) (u .1))),
+      )
 
       pub record Start : Type 0 where
         pub κs : Lifetimes.Lfts 1
@@ -1514,7 +1566,7 @@ module _ (claims· : Claims) where
       abbrev pub m5 : (before : After-ns) → (rs : List.List (Element.type .Denot)) → (i : Rows'.sc-here (Row.sInt Syntax.w64) .Mod) → Typed.Mo T5
       m5 = λ before rs i. Row.set 6 (6, Rows'.sc-here (Row.sInt Syntax.w64)) i (Row.setRow 1 (1, Mut.mslice (Element.type) (Syntax.tyRef (Syntax.named 0) Syntax.mut Element.behind) 0) (T5 .locals))
           (Row.set 1 (1, Mut.mslice (Element.type) (Syntax.tyRef (Syntax.named 0) Syntax.mut Element.behind) 0) record
-          { ptr = Row.get 1 (T5 .locals) (m4 (before .before) (before .ns .given)) .ptr; name = Row.get 1 (T5 .locals) (m4 (before .before) (before .ns .given)) .name; now = rs; } (T5 .locals) (m4 (before
+          { ptr = Row.get 1 (T5 .locals) (m4 (before .before) (before .ns .given)) .ptr; name = Row.get 1 (T5 .locals) (m4 (before .before) (before .ns .given)) .name; now = rs } (T5 .locals) (m4 (before
           .before) (before .ns .given)))
 
       abbrev W3 : (before : After-ns) → (rs : List.List (Element.type .Denot)) → (i : Rows'.sc-here (Row.sInt Syntax.w64) .Mod) → Typed.Want O3
@@ -1671,7 +1723,7 @@ module _ (claims· : Claims) where
       module _ (before· : After-update-arg) where
         abbrev pub After-update·own : Type 0
         After-update·own = Called.Called ps·0 r·0 (claims· .1) T36
-            (record { pos = 19; ty = Syntax.tyRef Syntax.erased Syntax.mut Element.behind; ref = λ x. x; }, (Num.vAt 13 λ x. x, (record { pos = 7; st = List.[]; d = 0; at = λ x. x }, tt))) (m33 (before·
+            (record { pos = 19; ty = Syntax.tyRef Syntax.erased Syntax.mut Element.behind; ref = λ x. x }, (Num.vAt 13 λ x. x, (record { pos = 7; st = List.[]; d = 0; at = λ x. x }, tt))) (m33 (before·
             .before) (before· .update-arg .given))
 
       pub record After-update : Type 0 where
@@ -1680,7 +1732,7 @@ module _ (claims· : Claims) where
 
       abbrev pub After-update·gave : (c : After-update) → s33 (c .before .before .before .before .before .before .blocks) .gives (m33 (c .before .before) (c .before .update-arg .given))
       After-update·gave = λ c. Called.given ps·0 r·0 (claims· .1) T36
-          (record { pos = 19; ty = Syntax.tyRef Syntax.erased Syntax.mut Element.behind; ref = λ x. x; }, (Num.vAt 13 λ x. x, (record { pos = 7; st = List.[]; d = 0; at = λ x. x }, tt))) (m33 (c .before
+          (record { pos = 19; ty = Syntax.tyRef Syntax.erased Syntax.mut Element.behind; ref = λ x. x }, (Num.vAt 13 λ x. x, (record { pos = 7; st = List.[]; d = 0; at = λ x. x }, tt))) (m33 (c .before
           .before) (c .before .update-arg .given)) (c .update)
 
       abbrev pub m35 : (before : After-update-arg) → (given : s33 (before .before .before .before .before .before .blocks) .gives (m33 (before .before) (before .update-arg .given))) → Typed.Mo T38
@@ -1750,44 +1802,82 @@ module _ (claims· : Claims) where
           Need-same-length) (returns : Need-returns) where
         lay5 : (c : After-loop) → at46 (c .before .before .before .before .blocks) (W0 (c .before .before .before .before .κs) (c .before .before .before .before .args) (c .before .before .before
             .before .blocks)) (m10 (c .before))
-        lay5 = λ c.
-            ((MutSlice.fix-len (Row.get 1 (T47 .locals) (m42 (c .before)) .ptr) (Row.get 1 (T47 .locals) (m42 (c .before)) .name) (Row.get 1 (T47 .locals) (m42 (c .before)) .now) (dens (c .before .before
-            .before .before .κs) (c .before .before .before .before .args) .0 .now) (same-length record { before = c .before; loop-test = c .loop-test }), (tt, (tt, tt))), returns record
-            { before = c .before; loop-test = c .loop-test })
+        lay5 = λ c. (
+          (
+            MutSlice.fix-len (Row.get 1 (T47 .locals) (m42 (c .before)) .ptr) (Row.get 1 (T47 .locals) (m42 (c .before)) .name) (Row.get 1 (T47 .locals) (m42 (c .before)) .now) (dens (c .before .before
+                .before .before .κs) (c .before .before .before .before .args) .0 .now) (same-length record { before = c .before; loop-test = c .loop-test }),
+            (tt, (tt, tt)),
+          ),
+          returns record
+              { before = c .before; loop-test = c .loop-test },
+        )
 
         lay4 : (c : After-update) → at13 (c .before .before .before .before .before .before .blocks) (W3 (c .before .before .before .before) (c .before .before .before .loop .rs) (c .before .before
             .before .loop .i)) (m34 (c .before) (After-update·gave c))
-        lay4 = λ c.
-            (Path'.refl, λ g.
-            (add-i record { before = record { before = c .before; update = c .update }; rs = record { given = g }; },
-            (μ·0 (Row.get 1 (T5 .locals) (m4 (c .before .before .before .before .before) (c .before .before .before .before .ns .given)) .now) (Row.get 2 (T5 .locals) (m4 (c .before .before .before
-            .before .before) (c .before .before .before .before .ns .given))) (Row.get 4 (T5 .locals) (m4 (c .before .before .before .before .before) (c .before .before .before .before .ns .given)))
-            (Row.get 5 (T5 .locals) (m4 (c .before .before .before .before .before) (c .before .before .before .before .ns .given))) (Row.get 6 (T5 .locals) (m4 (c .before .before .before .before .before)
-            (c .before .before .before .before .ns .given))) (Row.get 1 (T5 .locals) (m39 record { before = c .before; update = c .update } g) .now) (Row.get 6 (T5 .locals) (m39 record
-            { before = c .before; update = c .update } g)), loop-less record { before = record { before = c .before; update = c .update }; rs = record { given = g }; },
-            ((Row.get 1 (T5 .locals) (m39 record { before = c .before; update = c .update } g) .now, Row.get 6 (T5 .locals) (m39 record { before = c .before; update = c .update } g)), Path'.refl {a = m39
-            record { before = c .before; update = c .update } g}, loop-again record { before = record { before = c .before; update = c .update }; rs = record { given = g }; }, Path'.refl {a = μ·0 (Row.get
-            1 (T5 .locals) (m4 (c .before .before .before .before .before) (c .before .before .before .before .ns .given)) .now) (Row.get 2 (T5 .locals) (m4 (c .before .before .before .before .before) (c
-            .before .before .before .before .ns .given))) (Row.get 4 (T5 .locals) (m4 (c .before .before .before .before .before) (c .before .before .before .before .ns .given))) (Row.get 5 (T5 .locals)
-            (m4 (c .before .before .before .before .before) (c .before .before .before .before .ns .given))) (Row.get 6 (T5 .locals) (m4 (c .before .before .before .before .before) (c .before .before
-            .before .before .ns .given))) (Row.get 1 (T5 .locals) (m39 record { before = c .before; update = c .update } g) .now) (Row.get 6 (T5 .locals) (m39 record
-            { before = c .before; update = c .update } g))}))))
+        lay4 = λ c. (
+          Path'.refl,
+          λ g. (
+            add-i record { before = record { before = c .before; update = c .update }; rs = record { given = g } },
+            (
+              μ·0 (Row.get 1 (T5 .locals) (m4 (c .before .before .before .before .before) (c .before .before .before .before .ns .given)) .now) (Row.get 2 (T5 .locals) (m4 (c .before .before .before
+                  .before .before) (c .before .before .before .before .ns .given))) (Row.get 4 (T5 .locals) (m4 (c .before .before .before .before .before) (c .before .before .before .before .ns .given)))
+                  (Row.get 5 (T5 .locals) (m4 (c .before .before .before .before .before) (c .before .before .before .before .ns .given))) (Row.get 6 (T5 .locals) (m4 (c .before .before .before .before .before)
+                  (c .before .before .before .before .ns .given))) (Row.get 1 (T5 .locals) (m39 record { before = c .before; update = c .update } g) .now) (Row.get 6 (T5 .locals) (m39 record
+                  { before = c .before; update = c .update } g)),
+              loop-less record { before = record { before = c .before; update = c .update }; rs = record { given = g } },
+              (
+                (Row.get 1 (T5 .locals) (m39 record { before = c .before; update = c .update } g) .now, Row.get 6 (T5 .locals) (m39 record { before = c .before; update = c .update } g)),
+                Path'.refl {a = m39
+                    record { before = c .before; update = c .update } g},
+                loop-again record { before = record { before = c .before; update = c .update }; rs = record { given = g } },
+                Path'.refl {a = μ·0 (Row.get
+                    1 (T5 .locals) (m4 (c .before .before .before .before .before) (c .before .before .before .before .ns .given)) .now) (Row.get 2 (T5 .locals) (m4 (c .before .before .before .before .before) (c
+                    .before .before .before .before .ns .given))) (Row.get 4 (T5 .locals) (m4 (c .before .before .before .before .before) (c .before .before .before .before .ns .given))) (Row.get 5 (T5 .locals)
+                    (m4 (c .before .before .before .before .before) (c .before .before .before .before .ns .given))) (Row.get 6 (T5 .locals) (m4 (c .before .before .before .before .before) (c .before .before
+                    .before .before .ns .given))) (Row.get 1 (T5 .locals) (m39 record { before = c .before; update = c .update } g) .now) (Row.get 6 (T5 .locals) (m39 record
+                    { before = c .before; update = c .update } g))},
+              ),
+            ),
+          ),
+        )
 
         lay3 : (c : In-loop) → at38 (c .before .before .before .before .blocks) (W3 (c .before .before) (c .before .loop .rs) (c .before .loop .i)) (m7 (c .before))
-        lay3 = λ c.
-            (mul-t9 record { before = c .before; loop-test = c .loop-test },
-            (tt,
-            (((Path'.refl, Path'.refl), array-read-t12 record { before = c .before; loop-test = c .loop-test }),
-            (mul-t13 record { before = c .before; loop-test = c .loop-test },
-            (tt,
-            (((Path'.refl, Path'.refl), array-read-t16 record { before = c .before; loop-test = c .loop-test }), λ g.
-            (Path'.refl,
-            (mul-update record { before = record { before = c .before; loop-test = c .loop-test }; update-arg = record { given = g }; },
-            (add-update record { before = record { before = c .before; loop-test = c .loop-test }; update-arg = record { given = g }; },
-            (update-requires record { before = record { before = c .before; loop-test = c .loop-test }; update-arg = record { given = g }; }, λ g'. lay4 record
-            { before = record { before = record { before = c .before; loop-test = c .loop-test }; update-arg = record { given = g }; }; update = Called.called ps·0 r·0 (claims· .1) T36
-            (record { pos = 19; ty = Syntax.tyRef Syntax.erased Syntax.mut Element.behind; ref = λ x. x; }, (Num.vAt 13 λ x. x, (record { pos = 7; st = List.[]; d = 0; at = λ x. x }, tt))) (m33 record
-            { before = c .before; loop-test = c .loop-test } g) g'; }))))))))))
+        lay3 = λ c. (
+          mul-t9 record { before = c .before; loop-test = c .loop-test },
+          (
+            tt,
+            (
+              ((Path'.refl, Path'.refl), array-read-t12 record { before = c .before; loop-test = c .loop-test }),
+              (
+                mul-t13 record { before = c .before; loop-test = c .loop-test },
+                (
+                  tt,
+                  (
+                    ((Path'.refl, Path'.refl), array-read-t16 record { before = c .before; loop-test = c .loop-test }),
+                    λ g. (
+                      Path'.refl,
+                      (
+                        mul-update record { before = record { before = c .before; loop-test = c .loop-test }; update-arg = record { given = g } },
+                        (
+                          add-update record { before = record { before = c .before; loop-test = c .loop-test }; update-arg = record { given = g } },
+                          (
+                            update-requires record { before = record { before = c .before; loop-test = c .loop-test }; update-arg = record { given = g } },
+                            λ g'. lay4 record {
+                              before = record { before = record { before = c .before; loop-test = c .loop-test }; update-arg = record { given = g } };
+                              update = Called.called ps·0 r·0 (claims· .1) T36
+                                  (record { pos = 19; ty = Syntax.tyRef Syntax.erased Syntax.mut Element.behind; ref = λ x. x }, (Num.vAt 13 λ x. x, (record { pos = 7; st = List.[]; d = 0; at = λ x. x }, tt))) (m33 record
+                                  { before = c .before; loop-test = c .loop-test } g) g';
+                            },
+                          ),
+                        ),
+                      ),
+                    ),
+                  ),
+                ),
+              ),
+            ),
+          ),
+        )
 
         lay2 : (c : After-loop) → at5 (c .before .before .before .before .blocks) (W4 (c .before .before) (c .before .loop .rs) (c .before .loop .i)) (m6 (c .before .before) (c .before .loop .rs) (c
             .before .loop .i))
@@ -1798,26 +1888,42 @@ module _ (claims· : Claims) where
         lay1 = λ c. lay3 record { before = c .before; loop-test = c .loop-test }
 
         pub laid : (c : Start) → at51 (c .blocks) (W0 (c .κs) (c .args) (c .blocks)) (m0 (c .κs) (c .args) (c .blocks))
-        laid = λ c.
-            (tt, λ g.
-            (tt, λ g'.
-            (((Row.get 1 (T5 .locals) (m4 record { before = c; sums = record { given = g } } g') .now, Row.get 6 (T5 .locals) (m4 record { before = c; sums = record { given = g } } g')), Path'.refl {a =
-            m4 record { before = c; sums = record { given = g } } g'}, loop-holds record { before = record { before = c; sums = record { given = g } }; ns = record { given = g' }; }), λ vs inv.
-            (tt,
-            (λ taken. lay1 record
-            { before = record { before = record { before = record { before = c; sums = record { given = g } }; ns = record { given = g' }; }; loop = record { rs = vs .0; i = vs .1; inv = inv }; };
-            loop-test = record
-            { taken = Tests.ltb-true (Row.get 6 (T5 .locals) (m5 record { before = record { before = c; sums = record { given = g } }; ns = record { given = g' }; } (vs .0) (vs .1))) 112 taken; }; }, λ
-            left. lay2 record
-            { before = record { before = record { before = record { before = c; sums = record { given = g } }; ns = record { given = g' }; }; loop = record { rs = vs .0; i = vs .1; inv = inv }; };
-            loop-test = record
-            { left = Tests.ltb-false (Row.get 6 (T5 .locals) (m5 record { before = record { before = c; sums = record { given = g } }; ns = record { given = g' }; } (vs .0) (vs .1))) 112 left; }; })))))
+        laid = λ c. (
+          tt,
+          λ g. (
+            tt,
+            λ g'. (
+              (
+                (Row.get 1 (T5 .locals) (m4 record { before = c; sums = record { given = g } } g') .now, Row.get 6 (T5 .locals) (m4 record { before = c; sums = record { given = g } } g')),
+                Path'.refl {a =
+                    m4 record { before = c; sums = record { given = g } } g'},
+                loop-holds record { before = record { before = c; sums = record { given = g } }; ns = record { given = g' } },
+              ),
+              λ vs inv. (
+                tt,
+                (
+                  λ taken. lay1 record {
+                    before = record { before = record { before = record { before = c; sums = record { given = g } }; ns = record { given = g' } }; loop = record { rs = vs .0; i = vs .1; inv = inv } };
+                    loop-test = record
+                        { taken = Tests.ltb-true (Row.get 6 (T5 .locals) (m5 record { before = record { before = c; sums = record { given = g } }; ns = record { given = g' } } (vs .0) (vs .1))) 112 taken };
+                  },
+                  λ
+                      left. lay2 record {
+                        before = record { before = record { before = record { before = c; sums = record { given = g } }; ns = record { given = g' } }; loop = record { rs = vs .0; i = vs .1; inv = inv } };
+                        loop-test = record
+                            { left = Tests.ltb-false (Row.get 6 (T5 .locals) (m5 record { before = record { before = c; sums = record { given = g } }; ns = record { given = g' } } (vs .0) (vs .1))) 112 left };
+                      },
+                ),
+              ),
+            ),
+          ),
+        )
 
         module _ (κs : Lifetimes.Lfts 1) (qs : Lifetimes.Shares 1) where
           pub asked : (a : Kinds.Dens κs ps) → (good : Kinds.GoodsP κs ps a) → (pre : Pre· κs a) → (bs : List.List Nat.ℕ) → Φ bs (Any.wantQ 1 ps r xs m κs qs a (Post· κs a)) (Function.init 1 ps r xs m
               κs qs a)
           asked = λ a good pre bs. laid record
-              { κs = κs; args = record { rs = a .0; g = a .1 .0; set = a .1 .1 .0 }; blocks = bs; good = good; fits = record { g = record { fits = good .1 .0 .1 } }; pre = pre; }
+              { κs = κs; args = record { rs = a .0; g = a .1 .0; set = a .1 .1 .0 }; blocks = bs; good = good; fits = record { g = record { fits = good .1 .0 .1 } }; pre = pre }
 
         module _ {M : Type 1} (𝓤 : URA.URA M) (H : Wp.Heap 𝓤) (A : Atoms.Atoms 𝓤) (W : Kit.Given 𝓤 H A) (𝓣 : Wp.Tables 𝓤 H) (known0 : Plain.Known 𝓤 H A W 𝓣 1 ps·0 r·0 (claims· .0) (claims· .1)
             "block::records::update") where

@@ -132,29 +132,80 @@ y7 = Syntax.tyStruct (List._∷_ 98 (List._∷_ 108 (List._∷_ 111 (List._∷_ 
     Syntax.ttnil))) (Syntax.tcons y6 Syntax.tnil))
 
 abbrev pub ps : List.List (Kinds.PK 4)
-ps = List._∷_ (Value.pVal record
-    { ty = Declared.row Camera.the-type; one = Path'.refl; val = Laws'8.val Camera.the-type Laws'3.the-laws; tells = Laws'8.tells Camera.the-type Laws'3.the-laws; still = Laws'8.still Camera.the-type
-    Laws'3.the-copy Exit.yes; row = Rows'.whole (Declared.row Camera.the-type); rd = λ x. x; mk = λ x. x; } λ M 𝓤 H A W. record
-    { copies = Laws'8.copy Camera.the-type Laws'3.the-copy 𝓤 H A W; lawful = Laws'8.lawful Camera.the-type Laws'3.the-laws 𝓤 H A W tt; makes = Laws'8.makes Camera.the-type Laws'3.the-plain 𝓤 H A; in-mem =
-    Local.mem-whole 𝓤 H A W (Declared.row Camera.the-type); of-mem = Local.whole-mem 𝓤 H A W (Declared.row Camera.the-type); }) (List._∷_ (Value.pVal record
-    { ty = Declared'.row Entries.the-type; one = Path'.refl; val = Laws'10.val Entries.the-type Laws'4.the-laws; tells = Laws'10.tells Entries.the-type Laws'4.the-laws; still = Laws'10.still
-    Entries.the-type Laws'4.the-copy Exit.yes; row = Rows'.whole (Declared'.row Entries.the-type); rd = λ x. x; mk = λ x. x; } λ M 𝓤 H A W. record
-    { copies = Laws'10.copy Entries.the-type Laws'4.the-copy 𝓤 H A W; lawful = Laws'10.lawful Entries.the-type Laws'4.the-laws 𝓤 H A W; makes = Laws'10.makes Entries.the-type Laws'4.the-plain 𝓤 H A;
-    in-mem = Local.mem-whole 𝓤 H A W (Declared'.row Entries.the-type); of-mem = Local.whole-mem 𝓤 H A W (Declared'.row Entries.the-type); }) (List._∷_ (ShrSlice.pShrS (Referent.rtF (Referent.fInt
-    Syntax.w8)) 0 tt) (List._∷_ (Value.pVal record
-    { ty = Declared'.row Rect.the-type; one = Path'.refl; val = Laws'10.val Rect.the-type Laws'5.the-laws; tells = Laws'10.tells Rect.the-type Laws'5.the-laws; still = Laws'10.still Rect.the-type
-    Laws'5.the-copy Exit.yes; row = Rows'.whole (Declared'.row Rect.the-type); rd = λ x. x; mk = λ x. x; } λ M 𝓤 H A W. record
-    { copies = Laws'10.copy Rect.the-type Laws'5.the-copy 𝓤 H A W; lawful = Laws'10.lawful Rect.the-type Laws'5.the-laws 𝓤 H A W; makes = Laws'10.makes Rect.the-type Laws'5.the-plain 𝓤 H A; in-mem =
-    Local.mem-whole 𝓤 H A W (Declared'.row Rect.the-type); of-mem = Local.whole-mem 𝓤 H A W (Declared'.row Rect.the-type); }) (List._∷_ (Array.pArr (Array.eInt Syntax.w8) (Array.eInt-laws Syntax.w8) 36)
+ps = List._∷_ (Value.pVal record {
+  ty = Declared.row Camera.the-type;
+  one = Path'.refl;
+  val = Laws'8.val Camera.the-type Laws'3.the-laws;
+  tells = Laws'8.tells Camera.the-type Laws'3.the-laws;
+  still = Laws'8.still Camera.the-type
+      Laws'3.the-copy Exit.yes;
+  row = Rows'.whole (Declared.row Camera.the-type);
+  rd = λ x. x;
+  mk = λ x. x;
+} λ M 𝓤 H A W. record {
+  copies = Laws'8.copy Camera.the-type Laws'3.the-copy 𝓤 H A W;
+  lawful = Laws'8.lawful Camera.the-type Laws'3.the-laws 𝓤 H A W tt;
+  makes = Laws'8.makes Camera.the-type Laws'3.the-plain 𝓤 H A;
+  in-mem =
+      Local.mem-whole 𝓤 H A W (Declared.row Camera.the-type);
+  of-mem = Local.whole-mem 𝓤 H A W (Declared.row Camera.the-type);
+}) (List._∷_ (Value.pVal record {
+  ty = Declared'.row Entries.the-type;
+  one = Path'.refl;
+  val = Laws'10.val Entries.the-type Laws'4.the-laws;
+  tells = Laws'10.tells Entries.the-type Laws'4.the-laws;
+  still = Laws'10.still
+      Entries.the-type Laws'4.the-copy Exit.yes;
+  row = Rows'.whole (Declared'.row Entries.the-type);
+  rd = λ x. x;
+  mk = λ x. x;
+} λ M 𝓤 H A W. record {
+  copies = Laws'10.copy Entries.the-type Laws'4.the-copy 𝓤 H A W;
+  lawful = Laws'10.lawful Entries.the-type Laws'4.the-laws 𝓤 H A W;
+  makes = Laws'10.makes Entries.the-type Laws'4.the-plain 𝓤 H A;
+  in-mem = Local.mem-whole 𝓤 H A W (Declared'.row Entries.the-type);
+  of-mem = Local.whole-mem 𝓤 H A W (Declared'.row Entries.the-type);
+}) (List._∷_ (ShrSlice.pShrS (Referent.rtF (Referent.fInt
+    Syntax.w8)) 0 tt) (List._∷_ (Value.pVal record {
+      ty = Declared'.row Rect.the-type;
+      one = Path'.refl;
+      val = Laws'10.val Rect.the-type Laws'5.the-laws;
+      tells = Laws'10.tells Rect.the-type Laws'5.the-laws;
+      still = Laws'10.still Rect.the-type
+          Laws'5.the-copy Exit.yes;
+      row = Rows'.whole (Declared'.row Rect.the-type);
+      rd = λ x. x;
+      mk = λ x. x;
+    } λ M 𝓤 H A W. record {
+      copies = Laws'10.copy Rect.the-type Laws'5.the-copy 𝓤 H A W;
+      lawful = Laws'10.lawful Rect.the-type Laws'5.the-laws 𝓤 H A W;
+      makes = Laws'10.makes Rect.the-type Laws'5.the-plain 𝓤 H A;
+      in-mem =
+          Local.mem-whole 𝓤 H A W (Declared'.row Rect.the-type);
+      of-mem = Local.whole-mem 𝓤 H A W (Declared'.row Rect.the-type);
+    }) (List._∷_ (Array.pArr (Array.eInt Syntax.w8) (Array.eInt-laws Syntax.w8) 36)
     (List._∷_ (MutSlice.pMutS (Referent.rtF (Referent.fInt Syntax.w16)) 1 tt) (List._∷_ (MutSlice.pMutS (Referent.rtF (Referent.fInt Syntax.w16)) 2 tt) (List._∷_ (MutSlice.pMutS (Element.type) 3 tt)
     List.[])))))))
 
 abbrev pub r : Kinds.RK 4
-r = Value.rVal record
-    { ty = Declared'.row SharedAnswer.the-type; one = Path'.refl; val = Laws'10.val SharedAnswer.the-type Laws''.the-laws; tells = Laws'10.tells SharedAnswer.the-type Laws''.the-laws; still =
-    Laws'10.still SharedAnswer.the-type Laws''.the-copy Exit.yes; row = Rows'.whole (Declared'.row SharedAnswer.the-type); rd = λ x. x; mk = λ x. x; } λ M 𝓤 H A W. record
-    { copies = Laws'10.copy SharedAnswer.the-type Laws''.the-copy 𝓤 H A W; lawful = Laws'10.lawful SharedAnswer.the-type Laws''.the-laws 𝓤 H A W; makes = Laws'10.makes SharedAnswer.the-type
-    Laws''.the-plain 𝓤 H A; in-mem = Local.mem-whole 𝓤 H A W (Declared'.row SharedAnswer.the-type); of-mem = Local.whole-mem 𝓤 H A W (Declared'.row SharedAnswer.the-type); }
+r = Value.rVal record {
+  ty = Declared'.row SharedAnswer.the-type;
+  one = Path'.refl;
+  val = Laws'10.val SharedAnswer.the-type Laws''.the-laws;
+  tells = Laws'10.tells SharedAnswer.the-type Laws''.the-laws;
+  still =
+      Laws'10.still SharedAnswer.the-type Laws''.the-copy Exit.yes;
+  row = Rows'.whole (Declared'.row SharedAnswer.the-type);
+  rd = λ x. x;
+  mk = λ x. x;
+} λ M 𝓤 H A W. record {
+  copies = Laws'10.copy SharedAnswer.the-type Laws''.the-copy 𝓤 H A W;
+  lawful = Laws'10.lawful SharedAnswer.the-type Laws''.the-laws 𝓤 H A W;
+  makes = Laws'10.makes SharedAnswer.the-type
+      Laws''.the-plain 𝓤 H A;
+  in-mem = Local.mem-whole 𝓤 H A W (Declared'.row SharedAnswer.the-type);
+  of-mem = Local.whole-mem 𝓤 H A W (Declared'.row SharedAnswer.the-type);
+}
 
 abbrev pub xs : List.List Syntax.Ty
 xs = List._∷_ (Syntax.tyEnum (List._∷_ 98 (List._∷_ 101 (List._∷_ 103 (List._∷_ 105 (List._∷_ 110 (List._∷_ 58 (List._∷_ 58 (List._∷_ 66 (List._∷_ 101 (List._∷_ 103 (List._∷_ 105 (List._∷_ 110
@@ -207,55 +258,155 @@ abbrev pub m : Nat.ℕ
 m = 3
 
 abbrev pub ps·0 : List.List (Kinds.PK 1)
-ps·0 = List._∷_ (ShrSlice.pShrS (Referent.rtF (Referent.fInt Syntax.w8)) 0 tt) (List._∷_ (Value.pVal record
-    { ty = Declared'.row Rect.the-type; one = Path'.refl; val = Laws'10.val Rect.the-type Laws'5.the-laws; tells = Laws'10.tells Rect.the-type Laws'5.the-laws; still = Laws'10.still Rect.the-type
-    Laws'5.the-copy Exit.yes; row = Rows'.whole (Declared'.row Rect.the-type); rd = λ x. x; mk = λ x. x; } λ M 𝓤 H A W. record
-    { copies = Laws'10.copy Rect.the-type Laws'5.the-copy 𝓤 H A W; lawful = Laws'10.lawful Rect.the-type Laws'5.the-laws 𝓤 H A W; makes = Laws'10.makes Rect.the-type Laws'5.the-plain 𝓤 H A; in-mem =
-    Local.mem-whole 𝓤 H A W (Declared'.row Rect.the-type); of-mem = Local.whole-mem 𝓤 H A W (Declared'.row Rect.the-type); }) (List._∷_ (Num.pNum Syntax.w64) (List._∷_ (Num.pNum Syntax.w64) (List._∷_
+ps·0 = List._∷_ (ShrSlice.pShrS (Referent.rtF (Referent.fInt Syntax.w8)) 0 tt) (List._∷_ (Value.pVal record {
+  ty = Declared'.row Rect.the-type;
+  one = Path'.refl;
+  val = Laws'10.val Rect.the-type Laws'5.the-laws;
+  tells = Laws'10.tells Rect.the-type Laws'5.the-laws;
+  still = Laws'10.still Rect.the-type
+      Laws'5.the-copy Exit.yes;
+  row = Rows'.whole (Declared'.row Rect.the-type);
+  rd = λ x. x;
+  mk = λ x. x;
+} λ M 𝓤 H A W. record {
+  copies = Laws'10.copy Rect.the-type Laws'5.the-copy 𝓤 H A W;
+  lawful = Laws'10.lawful Rect.the-type Laws'5.the-laws 𝓤 H A W;
+  makes = Laws'10.makes Rect.the-type Laws'5.the-plain 𝓤 H A;
+  in-mem =
+      Local.mem-whole 𝓤 H A W (Declared'.row Rect.the-type);
+  of-mem = Local.whole-mem 𝓤 H A W (Declared'.row Rect.the-type);
+}) (List._∷_ (Num.pNum Syntax.w64) (List._∷_ (Num.pNum Syntax.w64) (List._∷_
     (Num.pNum Syntax.w64) List.[]))))
 
 abbrev pub r·0 : Kinds.RK 1
-r·0 = Value.rVal record
-    { ty = Declared.row Beginning.the-type; one = Path'.refl; val = Laws'8.val Beginning.the-type Laws.the-laws; tells = Laws'8.tells Beginning.the-type Laws.the-laws; still = Laws'8.still
-    Beginning.the-type Laws.the-copy Exit.yes; row = Rows'.whole (Declared.row Beginning.the-type); rd = λ x. x; mk = λ x. x; } λ M 𝓤 H A W. record
-    { copies = Laws'8.copy Beginning.the-type Laws.the-copy 𝓤 H A W; lawful = Laws'8.lawful Beginning.the-type Laws.the-laws 𝓤 H A W tt; makes = Laws'8.makes Beginning.the-type Laws.the-plain 𝓤 H A;
-    in-mem = Local.mem-whole 𝓤 H A W (Declared.row Beginning.the-type); of-mem = Local.whole-mem 𝓤 H A W (Declared.row Beginning.the-type); }
+r·0 = Value.rVal record {
+  ty = Declared.row Beginning.the-type;
+  one = Path'.refl;
+  val = Laws'8.val Beginning.the-type Laws.the-laws;
+  tells = Laws'8.tells Beginning.the-type Laws.the-laws;
+  still = Laws'8.still
+      Beginning.the-type Laws.the-copy Exit.yes;
+  row = Rows'.whole (Declared.row Beginning.the-type);
+  rd = λ x. x;
+  mk = λ x. x;
+} λ M 𝓤 H A W. record {
+  copies = Laws'8.copy Beginning.the-type Laws.the-copy 𝓤 H A W;
+  lawful = Laws'8.lawful Beginning.the-type Laws.the-laws 𝓤 H A W tt;
+  makes = Laws'8.makes Beginning.the-type Laws.the-plain 𝓤 H A;
+  in-mem = Local.mem-whole 𝓤 H A W (Declared.row Beginning.the-type);
+  of-mem = Local.whole-mem 𝓤 H A W (Declared.row Beginning.the-type);
+}
 
 abbrev pub ps·1 : List.List (Kinds.PK 0)
-ps·1 = List._∷_ (Value.pVal record
-    { ty = Declared'.row Entries.the-type; one = Path'.refl; val = Laws'10.val Entries.the-type Laws'4.the-laws; tells = Laws'10.tells Entries.the-type Laws'4.the-laws; still = Laws'10.still
-    Entries.the-type Laws'4.the-copy Exit.yes; row = Rows'.whole (Declared'.row Entries.the-type); rd = λ x. x; mk = λ x. x; } λ M 𝓤 H A W. record
-    { copies = Laws'10.copy Entries.the-type Laws'4.the-copy 𝓤 H A W; lawful = Laws'10.lawful Entries.the-type Laws'4.the-laws 𝓤 H A W; makes = Laws'10.makes Entries.the-type Laws'4.the-plain 𝓤 H A;
-    in-mem = Local.mem-whole 𝓤 H A W (Declared'.row Entries.the-type); of-mem = Local.whole-mem 𝓤 H A W (Declared'.row Entries.the-type); }) List.[]
+ps·1 = List._∷_ (Value.pVal record {
+  ty = Declared'.row Entries.the-type;
+  one = Path'.refl;
+  val = Laws'10.val Entries.the-type Laws'4.the-laws;
+  tells = Laws'10.tells Entries.the-type Laws'4.the-laws;
+  still = Laws'10.still
+      Entries.the-type Laws'4.the-copy Exit.yes;
+  row = Rows'.whole (Declared'.row Entries.the-type);
+  rd = λ x. x;
+  mk = λ x. x;
+} λ M 𝓤 H A W. record {
+  copies = Laws'10.copy Entries.the-type Laws'4.the-copy 𝓤 H A W;
+  lawful = Laws'10.lawful Entries.the-type Laws'4.the-laws 𝓤 H A W;
+  makes = Laws'10.makes Entries.the-type Laws'4.the-plain 𝓤 H A;
+  in-mem = Local.mem-whole 𝓤 H A W (Declared'.row Entries.the-type);
+  of-mem = Local.whole-mem 𝓤 H A W (Declared'.row Entries.the-type);
+}) List.[]
 
 abbrev pub r·1 : Kinds.RK 0
-r·1 = Value.rVal record
-    { ty = Declared'.row Entries.the-type; one = Path'.refl; val = Laws'10.val Entries.the-type Laws'4.the-laws; tells = Laws'10.tells Entries.the-type Laws'4.the-laws; still = Laws'10.still
-    Entries.the-type Laws'4.the-copy Exit.yes; row = Rows'.whole (Declared'.row Entries.the-type); rd = λ x. x; mk = λ x. x; } λ M 𝓤 H A W. record
-    { copies = Laws'10.copy Entries.the-type Laws'4.the-copy 𝓤 H A W; lawful = Laws'10.lawful Entries.the-type Laws'4.the-laws 𝓤 H A W; makes = Laws'10.makes Entries.the-type Laws'4.the-plain 𝓤 H A;
-    in-mem = Local.mem-whole 𝓤 H A W (Declared'.row Entries.the-type); of-mem = Local.whole-mem 𝓤 H A W (Declared'.row Entries.the-type); }
+r·1 = Value.rVal record {
+  ty = Declared'.row Entries.the-type;
+  one = Path'.refl;
+  val = Laws'10.val Entries.the-type Laws'4.the-laws;
+  tells = Laws'10.tells Entries.the-type Laws'4.the-laws;
+  still = Laws'10.still
+      Entries.the-type Laws'4.the-copy Exit.yes;
+  row = Rows'.whole (Declared'.row Entries.the-type);
+  rd = λ x. x;
+  mk = λ x. x;
+} λ M 𝓤 H A W. record {
+  copies = Laws'10.copy Entries.the-type Laws'4.the-copy 𝓤 H A W;
+  lawful = Laws'10.lawful Entries.the-type Laws'4.the-laws 𝓤 H A W;
+  makes = Laws'10.makes Entries.the-type Laws'4.the-plain 𝓤 H A;
+  in-mem = Local.mem-whole 𝓤 H A W (Declared'.row Entries.the-type);
+  of-mem = Local.whole-mem 𝓤 H A W (Declared'.row Entries.the-type);
+}
 
 abbrev pub ps·2 : List.List (Kinds.PK 0)
-ps·2 = List._∷_ (Value.pVal record
-    { ty = Declared.row Camera.the-type; one = Path'.refl; val = Laws'8.val Camera.the-type Laws'3.the-laws; tells = Laws'8.tells Camera.the-type Laws'3.the-laws; still = Laws'8.still Camera.the-type
-    Laws'3.the-copy Exit.yes; row = Rows'.whole (Declared.row Camera.the-type); rd = λ x. x; mk = λ x. x; } λ M 𝓤 H A W. record
-    { copies = Laws'8.copy Camera.the-type Laws'3.the-copy 𝓤 H A W; lawful = Laws'8.lawful Camera.the-type Laws'3.the-laws 𝓤 H A W tt; makes = Laws'8.makes Camera.the-type Laws'3.the-plain 𝓤 H A; in-mem =
-    Local.mem-whole 𝓤 H A W (Declared.row Camera.the-type); of-mem = Local.whole-mem 𝓤 H A W (Declared.row Camera.the-type); }) (List._∷_ (Value.pVal record
-    { ty = Declared'.row Entries.the-type; one = Path'.refl; val = Laws'10.val Entries.the-type Laws'4.the-laws; tells = Laws'10.tells Entries.the-type Laws'4.the-laws; still = Laws'10.still
-    Entries.the-type Laws'4.the-copy Exit.yes; row = Rows'.whole (Declared'.row Entries.the-type); rd = λ x. x; mk = λ x. x; } λ M 𝓤 H A W. record
-    { copies = Laws'10.copy Entries.the-type Laws'4.the-copy 𝓤 H A W; lawful = Laws'10.lawful Entries.the-type Laws'4.the-laws 𝓤 H A W; makes = Laws'10.makes Entries.the-type Laws'4.the-plain 𝓤 H A;
-    in-mem = Local.mem-whole 𝓤 H A W (Declared'.row Entries.the-type); of-mem = Local.whole-mem 𝓤 H A W (Declared'.row Entries.the-type); }) (List._∷_ (Value.pVal record
-    { ty = Declared.row Decoded.the-type; one = Path'.refl; val = Laws'8.val Decoded.the-type Laws'.the-laws; tells = Laws'8.tells Decoded.the-type Laws'.the-laws; still = Laws'8.still Decoded.the-type
-    Laws'.the-copy Exit.yes; row = Rows'.whole (Declared.row Decoded.the-type); rd = λ x. x; mk = λ x. x; } λ M 𝓤 H A W. record
-    { copies = Laws'8.copy Decoded.the-type Laws'.the-copy 𝓤 H A W; lawful = Laws'8.lawful Decoded.the-type Laws'.the-laws 𝓤 H A W tt; makes = Laws'8.makes Decoded.the-type Laws'.the-plain 𝓤 H A; in-mem =
-    Local.mem-whole 𝓤 H A W (Declared.row Decoded.the-type); of-mem = Local.whole-mem 𝓤 H A W (Declared.row Decoded.the-type); }) List.[]))
+ps·2 = List._∷_ (Value.pVal record {
+  ty = Declared.row Camera.the-type;
+  one = Path'.refl;
+  val = Laws'8.val Camera.the-type Laws'3.the-laws;
+  tells = Laws'8.tells Camera.the-type Laws'3.the-laws;
+  still = Laws'8.still Camera.the-type
+      Laws'3.the-copy Exit.yes;
+  row = Rows'.whole (Declared.row Camera.the-type);
+  rd = λ x. x;
+  mk = λ x. x;
+} λ M 𝓤 H A W. record {
+  copies = Laws'8.copy Camera.the-type Laws'3.the-copy 𝓤 H A W;
+  lawful = Laws'8.lawful Camera.the-type Laws'3.the-laws 𝓤 H A W tt;
+  makes = Laws'8.makes Camera.the-type Laws'3.the-plain 𝓤 H A;
+  in-mem =
+      Local.mem-whole 𝓤 H A W (Declared.row Camera.the-type);
+  of-mem = Local.whole-mem 𝓤 H A W (Declared.row Camera.the-type);
+}) (List._∷_ (Value.pVal record {
+  ty = Declared'.row Entries.the-type;
+  one = Path'.refl;
+  val = Laws'10.val Entries.the-type Laws'4.the-laws;
+  tells = Laws'10.tells Entries.the-type Laws'4.the-laws;
+  still = Laws'10.still
+      Entries.the-type Laws'4.the-copy Exit.yes;
+  row = Rows'.whole (Declared'.row Entries.the-type);
+  rd = λ x. x;
+  mk = λ x. x;
+} λ M 𝓤 H A W. record {
+  copies = Laws'10.copy Entries.the-type Laws'4.the-copy 𝓤 H A W;
+  lawful = Laws'10.lawful Entries.the-type Laws'4.the-laws 𝓤 H A W;
+  makes = Laws'10.makes Entries.the-type Laws'4.the-plain 𝓤 H A;
+  in-mem = Local.mem-whole 𝓤 H A W (Declared'.row Entries.the-type);
+  of-mem = Local.whole-mem 𝓤 H A W (Declared'.row Entries.the-type);
+}) (List._∷_ (Value.pVal record {
+  ty = Declared.row Decoded.the-type;
+  one = Path'.refl;
+  val = Laws'8.val Decoded.the-type Laws'.the-laws;
+  tells = Laws'8.tells Decoded.the-type Laws'.the-laws;
+  still = Laws'8.still Decoded.the-type
+      Laws'.the-copy Exit.yes;
+  row = Rows'.whole (Declared.row Decoded.the-type);
+  rd = λ x. x;
+  mk = λ x. x;
+} λ M 𝓤 H A W. record {
+  copies = Laws'8.copy Decoded.the-type Laws'.the-copy 𝓤 H A W;
+  lawful = Laws'8.lawful Decoded.the-type Laws'.the-laws 𝓤 H A W tt;
+  makes = Laws'8.makes Decoded.the-type Laws'.the-plain 𝓤 H A;
+  in-mem =
+      Local.mem-whole 𝓤 H A W (Declared.row Decoded.the-type);
+  of-mem = Local.whole-mem 𝓤 H A W (Declared.row Decoded.the-type);
+}) List.[]))
 
 abbrev pub r·2 : Kinds.RK 0
-r·2 = Value.rVal record
-    { ty = Declared'.row SharedAnswer.the-type; one = Path'.refl; val = Laws'10.val SharedAnswer.the-type Laws''.the-laws; tells = Laws'10.tells SharedAnswer.the-type Laws''.the-laws; still =
-    Laws'10.still SharedAnswer.the-type Laws''.the-copy Exit.yes; row = Rows'.whole (Declared'.row SharedAnswer.the-type); rd = λ x. x; mk = λ x. x; } λ M 𝓤 H A W. record
-    { copies = Laws'10.copy SharedAnswer.the-type Laws''.the-copy 𝓤 H A W; lawful = Laws'10.lawful SharedAnswer.the-type Laws''.the-laws 𝓤 H A W; makes = Laws'10.makes SharedAnswer.the-type
-    Laws''.the-plain 𝓤 H A; in-mem = Local.mem-whole 𝓤 H A W (Declared'.row SharedAnswer.the-type); of-mem = Local.whole-mem 𝓤 H A W (Declared'.row SharedAnswer.the-type); }
+r·2 = Value.rVal record {
+  ty = Declared'.row SharedAnswer.the-type;
+  one = Path'.refl;
+  val = Laws'10.val SharedAnswer.the-type Laws''.the-laws;
+  tells = Laws'10.tells SharedAnswer.the-type Laws''.the-laws;
+  still =
+      Laws'10.still SharedAnswer.the-type Laws''.the-copy Exit.yes;
+  row = Rows'.whole (Declared'.row SharedAnswer.the-type);
+  rd = λ x. x;
+  mk = λ x. x;
+} λ M 𝓤 H A W. record {
+  copies = Laws'10.copy SharedAnswer.the-type Laws''.the-copy 𝓤 H A W;
+  lawful = Laws'10.lawful SharedAnswer.the-type Laws''.the-laws 𝓤 H A W;
+  makes = Laws'10.makes SharedAnswer.the-type
+      Laws''.the-plain 𝓤 H A;
+  in-mem = Local.mem-whole 𝓤 H A W (Declared'.row SharedAnswer.the-type);
+  of-mem = Local.whole-mem 𝓤 H A W (Declared'.row SharedAnswer.the-type);
+}
 
 abbrev pub ps·3 : List.List (Kinds.PK 0)
 ps·3 = List._∷_ Bool.pBool List.[]
@@ -264,33 +415,97 @@ abbrev pub r·3 : Kinds.RK 0
 r·3 = Num.rNum Syntax.w64
 
 abbrev pub ps·4 : List.List (Kinds.PK 4)
-ps·4 = List._∷_ (Value.pVal record
-    { ty = Declared.row Camera.the-type; one = Path'.refl; val = Laws'8.val Camera.the-type Laws'3.the-laws; tells = Laws'8.tells Camera.the-type Laws'3.the-laws; still = Laws'8.still Camera.the-type
-    Laws'3.the-copy Exit.yes; row = Rows'.whole (Declared.row Camera.the-type); rd = λ x. x; mk = λ x. x; } λ M 𝓤 H A W. record
-    { copies = Laws'8.copy Camera.the-type Laws'3.the-copy 𝓤 H A W; lawful = Laws'8.lawful Camera.the-type Laws'3.the-laws 𝓤 H A W tt; makes = Laws'8.makes Camera.the-type Laws'3.the-plain 𝓤 H A; in-mem =
-    Local.mem-whole 𝓤 H A W (Declared.row Camera.the-type); of-mem = Local.whole-mem 𝓤 H A W (Declared.row Camera.the-type); }) (List._∷_ (Value.pVal record
-    { ty = Declared'.row Entries.the-type; one = Path'.refl; val = Laws'10.val Entries.the-type Laws'4.the-laws; tells = Laws'10.tells Entries.the-type Laws'4.the-laws; still = Laws'10.still
-    Entries.the-type Laws'4.the-copy Exit.yes; row = Rows'.whole (Declared'.row Entries.the-type); rd = λ x. x; mk = λ x. x; } λ M 𝓤 H A W. record
-    { copies = Laws'10.copy Entries.the-type Laws'4.the-copy 𝓤 H A W; lawful = Laws'10.lawful Entries.the-type Laws'4.the-laws 𝓤 H A W; makes = Laws'10.makes Entries.the-type Laws'4.the-plain 𝓤 H A;
-    in-mem = Local.mem-whole 𝓤 H A W (Declared'.row Entries.the-type); of-mem = Local.whole-mem 𝓤 H A W (Declared'.row Entries.the-type); }) (List._∷_ (ShrSlice.pShrS (Referent.rtF (Referent.fInt
-    Syntax.w8)) 0 tt) (List._∷_ (Value.pVal record
-    { ty = Declared'.row FujiHeader.the-type; one = Path'.refl; val = Laws'10.val FujiHeader.the-type Laws'6.the-laws; tells = Laws'10.tells FujiHeader.the-type Laws'6.the-laws; still = Laws'10.still
-    FujiHeader.the-type Laws'6.the-copy Exit.yes; row = Rows'.whole (Declared'.row FujiHeader.the-type); rd = λ x. x; mk = λ x. x; } λ M 𝓤 H A W. record
-    { copies = Laws'10.copy FujiHeader.the-type Laws'6.the-copy 𝓤 H A W; lawful = Laws'10.lawful FujiHeader.the-type Laws'6.the-laws 𝓤 H A W; makes = Laws'10.makes FujiHeader.the-type Laws'6.the-plain 𝓤 H
-    A; in-mem = Local.mem-whole 𝓤 H A W (Declared'.row FujiHeader.the-type); of-mem = Local.whole-mem 𝓤 H A W (Declared'.row FujiHeader.the-type); }) (List._∷_ (Value.pVal record
-    { ty = Declared'.row Rect.the-type; one = Path'.refl; val = Laws'10.val Rect.the-type Laws'5.the-laws; tells = Laws'10.tells Rect.the-type Laws'5.the-laws; still = Laws'10.still Rect.the-type
-    Laws'5.the-copy Exit.yes; row = Rows'.whole (Declared'.row Rect.the-type); rd = λ x. x; mk = λ x. x; } λ M 𝓤 H A W. record
-    { copies = Laws'10.copy Rect.the-type Laws'5.the-copy 𝓤 H A W; lawful = Laws'10.lawful Rect.the-type Laws'5.the-laws 𝓤 H A W; makes = Laws'10.makes Rect.the-type Laws'5.the-plain 𝓤 H A; in-mem =
-    Local.mem-whole 𝓤 H A W (Declared'.row Rect.the-type); of-mem = Local.whole-mem 𝓤 H A W (Declared'.row Rect.the-type); }) (List._∷_ (Array.pArr (Array.eInt Syntax.w8) (Array.eInt-laws Syntax.w8) 36)
+ps·4 = List._∷_ (Value.pVal record {
+  ty = Declared.row Camera.the-type;
+  one = Path'.refl;
+  val = Laws'8.val Camera.the-type Laws'3.the-laws;
+  tells = Laws'8.tells Camera.the-type Laws'3.the-laws;
+  still = Laws'8.still Camera.the-type
+      Laws'3.the-copy Exit.yes;
+  row = Rows'.whole (Declared.row Camera.the-type);
+  rd = λ x. x;
+  mk = λ x. x;
+} λ M 𝓤 H A W. record {
+  copies = Laws'8.copy Camera.the-type Laws'3.the-copy 𝓤 H A W;
+  lawful = Laws'8.lawful Camera.the-type Laws'3.the-laws 𝓤 H A W tt;
+  makes = Laws'8.makes Camera.the-type Laws'3.the-plain 𝓤 H A;
+  in-mem =
+      Local.mem-whole 𝓤 H A W (Declared.row Camera.the-type);
+  of-mem = Local.whole-mem 𝓤 H A W (Declared.row Camera.the-type);
+}) (List._∷_ (Value.pVal record {
+  ty = Declared'.row Entries.the-type;
+  one = Path'.refl;
+  val = Laws'10.val Entries.the-type Laws'4.the-laws;
+  tells = Laws'10.tells Entries.the-type Laws'4.the-laws;
+  still = Laws'10.still
+      Entries.the-type Laws'4.the-copy Exit.yes;
+  row = Rows'.whole (Declared'.row Entries.the-type);
+  rd = λ x. x;
+  mk = λ x. x;
+} λ M 𝓤 H A W. record {
+  copies = Laws'10.copy Entries.the-type Laws'4.the-copy 𝓤 H A W;
+  lawful = Laws'10.lawful Entries.the-type Laws'4.the-laws 𝓤 H A W;
+  makes = Laws'10.makes Entries.the-type Laws'4.the-plain 𝓤 H A;
+  in-mem = Local.mem-whole 𝓤 H A W (Declared'.row Entries.the-type);
+  of-mem = Local.whole-mem 𝓤 H A W (Declared'.row Entries.the-type);
+}) (List._∷_ (ShrSlice.pShrS (Referent.rtF (Referent.fInt
+    Syntax.w8)) 0 tt) (List._∷_ (Value.pVal record {
+      ty = Declared'.row FujiHeader.the-type;
+      one = Path'.refl;
+      val = Laws'10.val FujiHeader.the-type Laws'6.the-laws;
+      tells = Laws'10.tells FujiHeader.the-type Laws'6.the-laws;
+      still = Laws'10.still
+          FujiHeader.the-type Laws'6.the-copy Exit.yes;
+      row = Rows'.whole (Declared'.row FujiHeader.the-type);
+      rd = λ x. x;
+      mk = λ x. x;
+    } λ M 𝓤 H A W. record {
+      copies = Laws'10.copy FujiHeader.the-type Laws'6.the-copy 𝓤 H A W;
+      lawful = Laws'10.lawful FujiHeader.the-type Laws'6.the-laws 𝓤 H A W;
+      makes = Laws'10.makes FujiHeader.the-type Laws'6.the-plain 𝓤 H
+          A;
+      in-mem = Local.mem-whole 𝓤 H A W (Declared'.row FujiHeader.the-type);
+      of-mem = Local.whole-mem 𝓤 H A W (Declared'.row FujiHeader.the-type);
+    }) (List._∷_ (Value.pVal record {
+      ty = Declared'.row Rect.the-type;
+      one = Path'.refl;
+      val = Laws'10.val Rect.the-type Laws'5.the-laws;
+      tells = Laws'10.tells Rect.the-type Laws'5.the-laws;
+      still = Laws'10.still Rect.the-type
+          Laws'5.the-copy Exit.yes;
+      row = Rows'.whole (Declared'.row Rect.the-type);
+      rd = λ x. x;
+      mk = λ x. x;
+    } λ M 𝓤 H A W. record {
+      copies = Laws'10.copy Rect.the-type Laws'5.the-copy 𝓤 H A W;
+      lawful = Laws'10.lawful Rect.the-type Laws'5.the-laws 𝓤 H A W;
+      makes = Laws'10.makes Rect.the-type Laws'5.the-plain 𝓤 H A;
+      in-mem =
+          Local.mem-whole 𝓤 H A W (Declared'.row Rect.the-type);
+      of-mem = Local.whole-mem 𝓤 H A W (Declared'.row Rect.the-type);
+    }) (List._∷_ (Array.pArr (Array.eInt Syntax.w8) (Array.eInt-laws Syntax.w8) 36)
     (List._∷_ (MutSlice.pMutS (Referent.rtF (Referent.fInt Syntax.w16)) 1 tt) (List._∷_ (MutSlice.pMutS (Referent.rtF (Referent.fInt Syntax.w16)) 2 tt) (List._∷_ (MutSlice.pMutS (Element.type) 3 tt)
     List.[]))))))))
 
 abbrev pub r·4 : Kinds.RK 4
-r·4 = Value.rVal record
-    { ty = Declared'.row SharedAnswer.the-type; one = Path'.refl; val = Laws'10.val SharedAnswer.the-type Laws''.the-laws; tells = Laws'10.tells SharedAnswer.the-type Laws''.the-laws; still =
-    Laws'10.still SharedAnswer.the-type Laws''.the-copy Exit.yes; row = Rows'.whole (Declared'.row SharedAnswer.the-type); rd = λ x. x; mk = λ x. x; } λ M 𝓤 H A W. record
-    { copies = Laws'10.copy SharedAnswer.the-type Laws''.the-copy 𝓤 H A W; lawful = Laws'10.lawful SharedAnswer.the-type Laws''.the-laws 𝓤 H A W; makes = Laws'10.makes SharedAnswer.the-type
-    Laws''.the-plain 𝓤 H A; in-mem = Local.mem-whole 𝓤 H A W (Declared'.row SharedAnswer.the-type); of-mem = Local.whole-mem 𝓤 H A W (Declared'.row SharedAnswer.the-type); }
+r·4 = Value.rVal record {
+  ty = Declared'.row SharedAnswer.the-type;
+  one = Path'.refl;
+  val = Laws'10.val SharedAnswer.the-type Laws''.the-laws;
+  tells = Laws'10.tells SharedAnswer.the-type Laws''.the-laws;
+  still =
+      Laws'10.still SharedAnswer.the-type Laws''.the-copy Exit.yes;
+  row = Rows'.whole (Declared'.row SharedAnswer.the-type);
+  rd = λ x. x;
+  mk = λ x. x;
+} λ M 𝓤 H A W. record {
+  copies = Laws'10.copy SharedAnswer.the-type Laws''.the-copy 𝓤 H A W;
+  lawful = Laws'10.lawful SharedAnswer.the-type Laws''.the-laws 𝓤 H A W;
+  makes = Laws'10.makes SharedAnswer.the-type
+      Laws''.the-plain 𝓤 H A;
+  in-mem = Local.mem-whole 𝓤 H A W (Declared'.row SharedAnswer.the-type);
+  of-mem = Local.whole-mem 𝓤 H A W (Declared'.row SharedAnswer.the-type);
+}
 
 abbrev pub hs : List.List Syntax.Home
 hs = List._∷_ Syntax.valueLocal (List._∷_ Syntax.valueLocal (List._∷_ Syntax.valueLocal (List._∷_ Syntax.valueLocal (List._∷_ Syntax.valueLocal (List._∷_ Syntax.valueLocal (List._∷_ Syntax.valueLocal
@@ -474,9 +689,11 @@ abbrev pub e0 : Row.Entry
 e0 = (0, Rows'.any-gone y7)
 
 abbrev pub e1 : Row.Entry
-e1 =
-    (1, Rows'.any-gone (Syntax.tyEnum (List._∷_ 99 (List._∷_ 97 (List._∷_ 109 (List._∷_ 101 (List._∷_ 114 (List._∷_ 97 (List._∷_ 115 (List._∷_ 58 (List._∷_ 58 (List._∷_ 67 (List._∷_ 97 (List._∷_ 109
-    (List._∷_ 101 (List._∷_ 114 (List._∷_ 97 List.[]))))))))))))))) (Syntax.ttcons Syntax.tnil (Syntax.ttcons Syntax.tnil Syntax.ttnil))))
+e1 = (
+  1,
+  Rows'.any-gone (Syntax.tyEnum (List._∷_ 99 (List._∷_ 97 (List._∷_ 109 (List._∷_ 101 (List._∷_ 114 (List._∷_ 97 (List._∷_ 115 (List._∷_ 58 (List._∷_ 58 (List._∷_ 67 (List._∷_ 97 (List._∷_ 109
+      (List._∷_ 101 (List._∷_ 114 (List._∷_ 97 List.[]))))))))))))))) (Syntax.ttcons Syntax.tnil (Syntax.ttcons Syntax.tnil Syntax.ttnil))),
+)
 
 abbrev pub e2 : Row.Entry
 e2 = (1, Rows'.whole (Declared.row Camera.the-type))
@@ -488,14 +705,16 @@ abbrev pub e4 : Row.Entry
 e4 = (10, Rows'.whole (Declared'.row Entries.the-type))
 
 abbrev pub e5 : Row.Entry
-e5 =
-    (11, Rows'.any-gone (Syntax.tyEnum (List._∷_ 115 (List._∷_ 116 (List._∷_ 114 (List._∷_ 101 (List._∷_ 97 (List._∷_ 109 (List._∷_ 58 (List._∷_ 58 (List._∷_ 82 (List._∷_ 101 (List._∷_ 102 (List._∷_ 117
-    (List._∷_ 115 (List._∷_ 97 (List._∷_ 108 List.[]))))))))))))))) (Syntax.ttcons Syntax.tnil (Syntax.ttcons Syntax.tnil (Syntax.ttcons Syntax.tnil (Syntax.ttcons (Syntax.tcons (Syntax.tyInt Syntax.w64)
-    Syntax.tnil) (Syntax.ttcons Syntax.tnil (Syntax.ttcons Syntax.tnil (Syntax.ttcons Syntax.tnil (Syntax.ttcons Syntax.tnil (Syntax.ttcons Syntax.tnil (Syntax.ttcons Syntax.tnil (Syntax.ttcons
-    (Syntax.tcons (Syntax.tyInt Syntax.w64) Syntax.tnil) (Syntax.ttcons (Syntax.tcons (Syntax.tyInt Syntax.w64) Syntax.tnil) (Syntax.ttcons Syntax.tnil (Syntax.ttcons (Syntax.tcons (Syntax.tyInt
-    Syntax.w64) (Syntax.tcons (Syntax.tyInt Syntax.w64) Syntax.tnil)) (Syntax.ttcons (Syntax.tcons (Syntax.tyInt Syntax.w64) Syntax.tnil) (Syntax.ttcons Syntax.tnil (Syntax.ttcons Syntax.tnil
-    (Syntax.ttcons (Syntax.tcons (Syntax.tyInt Syntax.w64) Syntax.tnil) (Syntax.ttcons (Syntax.tcons (Syntax.tyInt Syntax.w64) Syntax.tnil) (Syntax.ttcons (Syntax.tcons (Syntax.tyInt Syntax.w64)
-    Syntax.tnil) (Syntax.ttcons (Syntax.tcons (Syntax.tyInt Syntax.w64) (Syntax.tcons (Syntax.tyInt Syntax.w64) Syntax.tnil)) (Syntax.ttcons Syntax.tnil Syntax.ttnil))))))))))))))))))))))))
+e5 = (
+  11,
+  Rows'.any-gone (Syntax.tyEnum (List._∷_ 115 (List._∷_ 116 (List._∷_ 114 (List._∷_ 101 (List._∷_ 97 (List._∷_ 109 (List._∷_ 58 (List._∷_ 58 (List._∷_ 82 (List._∷_ 101 (List._∷_ 102 (List._∷_ 117
+      (List._∷_ 115 (List._∷_ 97 (List._∷_ 108 List.[]))))))))))))))) (Syntax.ttcons Syntax.tnil (Syntax.ttcons Syntax.tnil (Syntax.ttcons Syntax.tnil (Syntax.ttcons (Syntax.tcons (Syntax.tyInt Syntax.w64)
+      Syntax.tnil) (Syntax.ttcons Syntax.tnil (Syntax.ttcons Syntax.tnil (Syntax.ttcons Syntax.tnil (Syntax.ttcons Syntax.tnil (Syntax.ttcons Syntax.tnil (Syntax.ttcons Syntax.tnil (Syntax.ttcons
+      (Syntax.tcons (Syntax.tyInt Syntax.w64) Syntax.tnil) (Syntax.ttcons (Syntax.tcons (Syntax.tyInt Syntax.w64) Syntax.tnil) (Syntax.ttcons Syntax.tnil (Syntax.ttcons (Syntax.tcons (Syntax.tyInt
+      Syntax.w64) (Syntax.tcons (Syntax.tyInt Syntax.w64) Syntax.tnil)) (Syntax.ttcons (Syntax.tcons (Syntax.tyInt Syntax.w64) Syntax.tnil) (Syntax.ttcons Syntax.tnil (Syntax.ttcons Syntax.tnil
+      (Syntax.ttcons (Syntax.tcons (Syntax.tyInt Syntax.w64) Syntax.tnil) (Syntax.ttcons (Syntax.tcons (Syntax.tyInt Syntax.w64) Syntax.tnil) (Syntax.ttcons (Syntax.tcons (Syntax.tyInt Syntax.w64)
+      Syntax.tnil) (Syntax.ttcons (Syntax.tcons (Syntax.tyInt Syntax.w64) (Syntax.tcons (Syntax.tyInt Syntax.w64) Syntax.tnil)) (Syntax.ttcons Syntax.tnil Syntax.ttnil))))))))))))))))))))))),
+)
 
 abbrev pub e6 : Row.Entry
 e6 = (11, Rows'.whole (Declared.row Refusal.the-type))
@@ -519,16 +738,18 @@ abbrev pub e12 : Row.Entry
 e12 = (14, Rows'.whole (Declared'.row SharedAnswer.the-type))
 
 abbrev pub e13 : Row.Entry
-e13 =
-    (15, Rows'.any-gone (Syntax.tyEnum (List._∷_ 98 (List._∷_ 108 (List._∷_ 111 (List._∷_ 99 (List._∷_ 107 (List._∷_ 58 (List._∷_ 58 (List._∷_ 68 (List._∷_ 101 (List._∷_ 99 (List._∷_ 111 (List._∷_ 100
-    (List._∷_ 101 (List._∷_ 100 List.[])))))))))))))) (Syntax.ttcons Syntax.tnil (Syntax.ttcons (Syntax.tcons (Syntax.tyEnum (List._∷_ 115 (List._∷_ 116 (List._∷_ 114 (List._∷_ 101 (List._∷_ 97 (List._∷_
-    109 (List._∷_ 58 (List._∷_ 58 (List._∷_ 82 (List._∷_ 101 (List._∷_ 102 (List._∷_ 117 (List._∷_ 115 (List._∷_ 97 (List._∷_ 108 List.[]))))))))))))))) (Syntax.ttcons Syntax.tnil (Syntax.ttcons
-    Syntax.tnil (Syntax.ttcons Syntax.tnil (Syntax.ttcons (Syntax.tcons (Syntax.tyInt Syntax.w64) Syntax.tnil) (Syntax.ttcons Syntax.tnil (Syntax.ttcons Syntax.tnil (Syntax.ttcons Syntax.tnil
-    (Syntax.ttcons Syntax.tnil (Syntax.ttcons Syntax.tnil (Syntax.ttcons Syntax.tnil (Syntax.ttcons (Syntax.tcons (Syntax.tyInt Syntax.w64) Syntax.tnil) (Syntax.ttcons (Syntax.tcons (Syntax.tyInt
-    Syntax.w64) Syntax.tnil) (Syntax.ttcons Syntax.tnil (Syntax.ttcons (Syntax.tcons (Syntax.tyInt Syntax.w64) (Syntax.tcons (Syntax.tyInt Syntax.w64) Syntax.tnil)) (Syntax.ttcons (Syntax.tcons
-    (Syntax.tyInt Syntax.w64) Syntax.tnil) (Syntax.ttcons Syntax.tnil (Syntax.ttcons Syntax.tnil (Syntax.ttcons (Syntax.tcons (Syntax.tyInt Syntax.w64) Syntax.tnil) (Syntax.ttcons (Syntax.tcons
-    (Syntax.tyInt Syntax.w64) Syntax.tnil) (Syntax.ttcons (Syntax.tcons (Syntax.tyInt Syntax.w64) Syntax.tnil) (Syntax.ttcons (Syntax.tcons (Syntax.tyInt Syntax.w64) (Syntax.tcons (Syntax.tyInt
-    Syntax.w64) Syntax.tnil)) (Syntax.ttcons Syntax.tnil Syntax.ttnil))))))))))))))))))))))) Syntax.tnil) Syntax.ttnil))))
+e13 = (
+  15,
+  Rows'.any-gone (Syntax.tyEnum (List._∷_ 98 (List._∷_ 108 (List._∷_ 111 (List._∷_ 99 (List._∷_ 107 (List._∷_ 58 (List._∷_ 58 (List._∷_ 68 (List._∷_ 101 (List._∷_ 99 (List._∷_ 111 (List._∷_ 100
+      (List._∷_ 101 (List._∷_ 100 List.[])))))))))))))) (Syntax.ttcons Syntax.tnil (Syntax.ttcons (Syntax.tcons (Syntax.tyEnum (List._∷_ 115 (List._∷_ 116 (List._∷_ 114 (List._∷_ 101 (List._∷_ 97 (List._∷_
+      109 (List._∷_ 58 (List._∷_ 58 (List._∷_ 82 (List._∷_ 101 (List._∷_ 102 (List._∷_ 117 (List._∷_ 115 (List._∷_ 97 (List._∷_ 108 List.[]))))))))))))))) (Syntax.ttcons Syntax.tnil (Syntax.ttcons
+      Syntax.tnil (Syntax.ttcons Syntax.tnil (Syntax.ttcons (Syntax.tcons (Syntax.tyInt Syntax.w64) Syntax.tnil) (Syntax.ttcons Syntax.tnil (Syntax.ttcons Syntax.tnil (Syntax.ttcons Syntax.tnil
+      (Syntax.ttcons Syntax.tnil (Syntax.ttcons Syntax.tnil (Syntax.ttcons Syntax.tnil (Syntax.ttcons (Syntax.tcons (Syntax.tyInt Syntax.w64) Syntax.tnil) (Syntax.ttcons (Syntax.tcons (Syntax.tyInt
+      Syntax.w64) Syntax.tnil) (Syntax.ttcons Syntax.tnil (Syntax.ttcons (Syntax.tcons (Syntax.tyInt Syntax.w64) (Syntax.tcons (Syntax.tyInt Syntax.w64) Syntax.tnil)) (Syntax.ttcons (Syntax.tcons
+      (Syntax.tyInt Syntax.w64) Syntax.tnil) (Syntax.ttcons Syntax.tnil (Syntax.ttcons Syntax.tnil (Syntax.ttcons (Syntax.tcons (Syntax.tyInt Syntax.w64) Syntax.tnil) (Syntax.ttcons (Syntax.tcons
+      (Syntax.tyInt Syntax.w64) Syntax.tnil) (Syntax.ttcons (Syntax.tcons (Syntax.tyInt Syntax.w64) Syntax.tnil) (Syntax.ttcons (Syntax.tcons (Syntax.tyInt Syntax.w64) (Syntax.tcons (Syntax.tyInt
+      Syntax.w64) Syntax.tnil)) (Syntax.ttcons Syntax.tnil Syntax.ttnil))))))))))))))))))))))) Syntax.tnil) Syntax.ttnil))),
+)
 
 abbrev pub e14 : Row.Entry
 e14 = (15, Rows'.whole (Declared.row Decoded.the-type))
@@ -564,31 +785,35 @@ abbrev pub e24 : Row.Entry
 e24 = (2, Rows'.whole (Declared'.row Entries.the-type))
 
 abbrev pub e25 : Row.Entry
-e25 =
-    (20, Rows'.any-gone (Syntax.tyEnum (List._∷_ 98 (List._∷_ 108 (List._∷_ 111 (List._∷_ 99 (List._∷_ 107 (List._∷_ 58 (List._∷_ 58 (List._∷_ 68 (List._∷_ 101 (List._∷_ 99 (List._∷_ 111 (List._∷_ 100
-    (List._∷_ 101 (List._∷_ 100 List.[])))))))))))))) (Syntax.ttcons Syntax.tnil (Syntax.ttcons (Syntax.tcons (Syntax.tyEnum (List._∷_ 115 (List._∷_ 116 (List._∷_ 114 (List._∷_ 101 (List._∷_ 97 (List._∷_
-    109 (List._∷_ 58 (List._∷_ 58 (List._∷_ 82 (List._∷_ 101 (List._∷_ 102 (List._∷_ 117 (List._∷_ 115 (List._∷_ 97 (List._∷_ 108 List.[]))))))))))))))) (Syntax.ttcons Syntax.tnil (Syntax.ttcons
-    Syntax.tnil (Syntax.ttcons Syntax.tnil (Syntax.ttcons (Syntax.tcons (Syntax.tyInt Syntax.w64) Syntax.tnil) (Syntax.ttcons Syntax.tnil (Syntax.ttcons Syntax.tnil (Syntax.ttcons Syntax.tnil
-    (Syntax.ttcons Syntax.tnil (Syntax.ttcons Syntax.tnil (Syntax.ttcons Syntax.tnil (Syntax.ttcons (Syntax.tcons (Syntax.tyInt Syntax.w64) Syntax.tnil) (Syntax.ttcons (Syntax.tcons (Syntax.tyInt
-    Syntax.w64) Syntax.tnil) (Syntax.ttcons Syntax.tnil (Syntax.ttcons (Syntax.tcons (Syntax.tyInt Syntax.w64) (Syntax.tcons (Syntax.tyInt Syntax.w64) Syntax.tnil)) (Syntax.ttcons (Syntax.tcons
-    (Syntax.tyInt Syntax.w64) Syntax.tnil) (Syntax.ttcons Syntax.tnil (Syntax.ttcons Syntax.tnil (Syntax.ttcons (Syntax.tcons (Syntax.tyInt Syntax.w64) Syntax.tnil) (Syntax.ttcons (Syntax.tcons
-    (Syntax.tyInt Syntax.w64) Syntax.tnil) (Syntax.ttcons (Syntax.tcons (Syntax.tyInt Syntax.w64) Syntax.tnil) (Syntax.ttcons (Syntax.tcons (Syntax.tyInt Syntax.w64) (Syntax.tcons (Syntax.tyInt
-    Syntax.w64) Syntax.tnil)) (Syntax.ttcons Syntax.tnil Syntax.ttnil))))))))))))))))))))))) Syntax.tnil) Syntax.ttnil))))
+e25 = (
+  20,
+  Rows'.any-gone (Syntax.tyEnum (List._∷_ 98 (List._∷_ 108 (List._∷_ 111 (List._∷_ 99 (List._∷_ 107 (List._∷_ 58 (List._∷_ 58 (List._∷_ 68 (List._∷_ 101 (List._∷_ 99 (List._∷_ 111 (List._∷_ 100
+      (List._∷_ 101 (List._∷_ 100 List.[])))))))))))))) (Syntax.ttcons Syntax.tnil (Syntax.ttcons (Syntax.tcons (Syntax.tyEnum (List._∷_ 115 (List._∷_ 116 (List._∷_ 114 (List._∷_ 101 (List._∷_ 97 (List._∷_
+      109 (List._∷_ 58 (List._∷_ 58 (List._∷_ 82 (List._∷_ 101 (List._∷_ 102 (List._∷_ 117 (List._∷_ 115 (List._∷_ 97 (List._∷_ 108 List.[]))))))))))))))) (Syntax.ttcons Syntax.tnil (Syntax.ttcons
+      Syntax.tnil (Syntax.ttcons Syntax.tnil (Syntax.ttcons (Syntax.tcons (Syntax.tyInt Syntax.w64) Syntax.tnil) (Syntax.ttcons Syntax.tnil (Syntax.ttcons Syntax.tnil (Syntax.ttcons Syntax.tnil
+      (Syntax.ttcons Syntax.tnil (Syntax.ttcons Syntax.tnil (Syntax.ttcons Syntax.tnil (Syntax.ttcons (Syntax.tcons (Syntax.tyInt Syntax.w64) Syntax.tnil) (Syntax.ttcons (Syntax.tcons (Syntax.tyInt
+      Syntax.w64) Syntax.tnil) (Syntax.ttcons Syntax.tnil (Syntax.ttcons (Syntax.tcons (Syntax.tyInt Syntax.w64) (Syntax.tcons (Syntax.tyInt Syntax.w64) Syntax.tnil)) (Syntax.ttcons (Syntax.tcons
+      (Syntax.tyInt Syntax.w64) Syntax.tnil) (Syntax.ttcons Syntax.tnil (Syntax.ttcons Syntax.tnil (Syntax.ttcons (Syntax.tcons (Syntax.tyInt Syntax.w64) Syntax.tnil) (Syntax.ttcons (Syntax.tcons
+      (Syntax.tyInt Syntax.w64) Syntax.tnil) (Syntax.ttcons (Syntax.tcons (Syntax.tyInt Syntax.w64) Syntax.tnil) (Syntax.ttcons (Syntax.tcons (Syntax.tyInt Syntax.w64) (Syntax.tcons (Syntax.tyInt
+      Syntax.w64) Syntax.tnil)) (Syntax.ttcons Syntax.tnil Syntax.ttnil))))))))))))))))))))))) Syntax.tnil) Syntax.ttnil))),
+)
 
 abbrev pub e26 : Row.Entry
 e26 = (20, Rows'.whole (Declared.row Decoded.the-type))
 
 abbrev pub e27 : Row.Entry
-e27 =
-    (21, Rows'.any-gone (Syntax.tyEnum (List._∷_ 98 (List._∷_ 108 (List._∷_ 111 (List._∷_ 99 (List._∷_ 107 (List._∷_ 58 (List._∷_ 58 (List._∷_ 68 (List._∷_ 101 (List._∷_ 99 (List._∷_ 111 (List._∷_ 100
-    (List._∷_ 101 (List._∷_ 100 List.[])))))))))))))) (Syntax.ttcons Syntax.tnil (Syntax.ttcons (Syntax.tcons (Syntax.tyEnum (List._∷_ 115 (List._∷_ 116 (List._∷_ 114 (List._∷_ 101 (List._∷_ 97 (List._∷_
-    109 (List._∷_ 58 (List._∷_ 58 (List._∷_ 82 (List._∷_ 101 (List._∷_ 102 (List._∷_ 117 (List._∷_ 115 (List._∷_ 97 (List._∷_ 108 List.[]))))))))))))))) (Syntax.ttcons Syntax.tnil (Syntax.ttcons
-    Syntax.tnil (Syntax.ttcons Syntax.tnil (Syntax.ttcons (Syntax.tcons (Syntax.tyInt Syntax.w64) Syntax.tnil) (Syntax.ttcons Syntax.tnil (Syntax.ttcons Syntax.tnil (Syntax.ttcons Syntax.tnil
-    (Syntax.ttcons Syntax.tnil (Syntax.ttcons Syntax.tnil (Syntax.ttcons Syntax.tnil (Syntax.ttcons (Syntax.tcons (Syntax.tyInt Syntax.w64) Syntax.tnil) (Syntax.ttcons (Syntax.tcons (Syntax.tyInt
-    Syntax.w64) Syntax.tnil) (Syntax.ttcons Syntax.tnil (Syntax.ttcons (Syntax.tcons (Syntax.tyInt Syntax.w64) (Syntax.tcons (Syntax.tyInt Syntax.w64) Syntax.tnil)) (Syntax.ttcons (Syntax.tcons
-    (Syntax.tyInt Syntax.w64) Syntax.tnil) (Syntax.ttcons Syntax.tnil (Syntax.ttcons Syntax.tnil (Syntax.ttcons (Syntax.tcons (Syntax.tyInt Syntax.w64) Syntax.tnil) (Syntax.ttcons (Syntax.tcons
-    (Syntax.tyInt Syntax.w64) Syntax.tnil) (Syntax.ttcons (Syntax.tcons (Syntax.tyInt Syntax.w64) Syntax.tnil) (Syntax.ttcons (Syntax.tcons (Syntax.tyInt Syntax.w64) (Syntax.tcons (Syntax.tyInt
-    Syntax.w64) Syntax.tnil)) (Syntax.ttcons Syntax.tnil Syntax.ttnil))))))))))))))))))))))) Syntax.tnil) Syntax.ttnil))))
+e27 = (
+  21,
+  Rows'.any-gone (Syntax.tyEnum (List._∷_ 98 (List._∷_ 108 (List._∷_ 111 (List._∷_ 99 (List._∷_ 107 (List._∷_ 58 (List._∷_ 58 (List._∷_ 68 (List._∷_ 101 (List._∷_ 99 (List._∷_ 111 (List._∷_ 100
+      (List._∷_ 101 (List._∷_ 100 List.[])))))))))))))) (Syntax.ttcons Syntax.tnil (Syntax.ttcons (Syntax.tcons (Syntax.tyEnum (List._∷_ 115 (List._∷_ 116 (List._∷_ 114 (List._∷_ 101 (List._∷_ 97 (List._∷_
+      109 (List._∷_ 58 (List._∷_ 58 (List._∷_ 82 (List._∷_ 101 (List._∷_ 102 (List._∷_ 117 (List._∷_ 115 (List._∷_ 97 (List._∷_ 108 List.[]))))))))))))))) (Syntax.ttcons Syntax.tnil (Syntax.ttcons
+      Syntax.tnil (Syntax.ttcons Syntax.tnil (Syntax.ttcons (Syntax.tcons (Syntax.tyInt Syntax.w64) Syntax.tnil) (Syntax.ttcons Syntax.tnil (Syntax.ttcons Syntax.tnil (Syntax.ttcons Syntax.tnil
+      (Syntax.ttcons Syntax.tnil (Syntax.ttcons Syntax.tnil (Syntax.ttcons Syntax.tnil (Syntax.ttcons (Syntax.tcons (Syntax.tyInt Syntax.w64) Syntax.tnil) (Syntax.ttcons (Syntax.tcons (Syntax.tyInt
+      Syntax.w64) Syntax.tnil) (Syntax.ttcons Syntax.tnil (Syntax.ttcons (Syntax.tcons (Syntax.tyInt Syntax.w64) (Syntax.tcons (Syntax.tyInt Syntax.w64) Syntax.tnil)) (Syntax.ttcons (Syntax.tcons
+      (Syntax.tyInt Syntax.w64) Syntax.tnil) (Syntax.ttcons Syntax.tnil (Syntax.ttcons Syntax.tnil (Syntax.ttcons (Syntax.tcons (Syntax.tyInt Syntax.w64) Syntax.tnil) (Syntax.ttcons (Syntax.tcons
+      (Syntax.tyInt Syntax.w64) Syntax.tnil) (Syntax.ttcons (Syntax.tcons (Syntax.tyInt Syntax.w64) Syntax.tnil) (Syntax.ttcons (Syntax.tcons (Syntax.tyInt Syntax.w64) (Syntax.tcons (Syntax.tyInt
+      Syntax.w64) Syntax.tnil)) (Syntax.ttcons Syntax.tnil Syntax.ttnil))))))))))))))))))))))) Syntax.tnil) Syntax.ttnil))),
+)
 
 abbrev pub e28 : Row.Entry
 e28 = (21, Rows'.whole (Declared.row Decoded.the-type))
@@ -690,16 +915,18 @@ abbrev pub e60 : Row.Entry
 e60 = (8, PartMut.mslice-owedM (Element.type) (Syntax.tyRef (Syntax.named 3) Syntax.mut Element.behind) 3 6 Row.off)
 
 abbrev pub e61 : Row.Entry
-e61 =
-    (9, Rows'.any-gone (Syntax.tyEnum (List._∷_ 98 (List._∷_ 101 (List._∷_ 103 (List._∷_ 105 (List._∷_ 110 (List._∷_ 58 (List._∷_ 58 (List._∷_ 66 (List._∷_ 101 (List._∷_ 103 (List._∷_ 105 (List._∷_ 110
-    (List._∷_ 110 (List._∷_ 105 (List._∷_ 110 (List._∷_ 103 List.[])))))))))))))))) (Syntax.ttcons (Syntax.tcons (Syntax.tyEnum (List._∷_ 115 (List._∷_ 116 (List._∷_ 114 (List._∷_ 101 (List._∷_ 97
-    (List._∷_ 109 (List._∷_ 58 (List._∷_ 58 (List._∷_ 82 (List._∷_ 101 (List._∷_ 102 (List._∷_ 117 (List._∷_ 115 (List._∷_ 97 (List._∷_ 108 List.[]))))))))))))))) (Syntax.ttcons Syntax.tnil (Syntax.ttcons
-    Syntax.tnil (Syntax.ttcons Syntax.tnil (Syntax.ttcons (Syntax.tcons (Syntax.tyInt Syntax.w64) Syntax.tnil) (Syntax.ttcons Syntax.tnil (Syntax.ttcons Syntax.tnil (Syntax.ttcons Syntax.tnil
-    (Syntax.ttcons Syntax.tnil (Syntax.ttcons Syntax.tnil (Syntax.ttcons Syntax.tnil (Syntax.ttcons (Syntax.tcons (Syntax.tyInt Syntax.w64) Syntax.tnil) (Syntax.ttcons (Syntax.tcons (Syntax.tyInt
-    Syntax.w64) Syntax.tnil) (Syntax.ttcons Syntax.tnil (Syntax.ttcons (Syntax.tcons (Syntax.tyInt Syntax.w64) (Syntax.tcons (Syntax.tyInt Syntax.w64) Syntax.tnil)) (Syntax.ttcons (Syntax.tcons
-    (Syntax.tyInt Syntax.w64) Syntax.tnil) (Syntax.ttcons Syntax.tnil (Syntax.ttcons Syntax.tnil (Syntax.ttcons (Syntax.tcons (Syntax.tyInt Syntax.w64) Syntax.tnil) (Syntax.ttcons (Syntax.tcons
-    (Syntax.tyInt Syntax.w64) Syntax.tnil) (Syntax.ttcons (Syntax.tcons (Syntax.tyInt Syntax.w64) Syntax.tnil) (Syntax.ttcons (Syntax.tcons (Syntax.tyInt Syntax.w64) (Syntax.tcons (Syntax.tyInt
-    Syntax.w64) Syntax.tnil)) (Syntax.ttcons Syntax.tnil Syntax.ttnil))))))))))))))))))))))) Syntax.tnil) (Syntax.ttcons Syntax.tnil (Syntax.ttcons (Syntax.tcons y2 Syntax.tnil) Syntax.ttnil)))))
+e61 = (
+  9,
+  Rows'.any-gone (Syntax.tyEnum (List._∷_ 98 (List._∷_ 101 (List._∷_ 103 (List._∷_ 105 (List._∷_ 110 (List._∷_ 58 (List._∷_ 58 (List._∷_ 66 (List._∷_ 101 (List._∷_ 103 (List._∷_ 105 (List._∷_ 110
+      (List._∷_ 110 (List._∷_ 105 (List._∷_ 110 (List._∷_ 103 List.[])))))))))))))))) (Syntax.ttcons (Syntax.tcons (Syntax.tyEnum (List._∷_ 115 (List._∷_ 116 (List._∷_ 114 (List._∷_ 101 (List._∷_ 97
+      (List._∷_ 109 (List._∷_ 58 (List._∷_ 58 (List._∷_ 82 (List._∷_ 101 (List._∷_ 102 (List._∷_ 117 (List._∷_ 115 (List._∷_ 97 (List._∷_ 108 List.[]))))))))))))))) (Syntax.ttcons Syntax.tnil (Syntax.ttcons
+      Syntax.tnil (Syntax.ttcons Syntax.tnil (Syntax.ttcons (Syntax.tcons (Syntax.tyInt Syntax.w64) Syntax.tnil) (Syntax.ttcons Syntax.tnil (Syntax.ttcons Syntax.tnil (Syntax.ttcons Syntax.tnil
+      (Syntax.ttcons Syntax.tnil (Syntax.ttcons Syntax.tnil (Syntax.ttcons Syntax.tnil (Syntax.ttcons (Syntax.tcons (Syntax.tyInt Syntax.w64) Syntax.tnil) (Syntax.ttcons (Syntax.tcons (Syntax.tyInt
+      Syntax.w64) Syntax.tnil) (Syntax.ttcons Syntax.tnil (Syntax.ttcons (Syntax.tcons (Syntax.tyInt Syntax.w64) (Syntax.tcons (Syntax.tyInt Syntax.w64) Syntax.tnil)) (Syntax.ttcons (Syntax.tcons
+      (Syntax.tyInt Syntax.w64) Syntax.tnil) (Syntax.ttcons Syntax.tnil (Syntax.ttcons Syntax.tnil (Syntax.ttcons (Syntax.tcons (Syntax.tyInt Syntax.w64) Syntax.tnil) (Syntax.ttcons (Syntax.tcons
+      (Syntax.tyInt Syntax.w64) Syntax.tnil) (Syntax.ttcons (Syntax.tcons (Syntax.tyInt Syntax.w64) Syntax.tnil) (Syntax.ttcons (Syntax.tcons (Syntax.tyInt Syntax.w64) (Syntax.tcons (Syntax.tyInt
+      Syntax.w64) Syntax.tnil)) (Syntax.ttcons Syntax.tnil Syntax.ttnil))))))))))))))))))))))) Syntax.tnil) (Syntax.ttcons Syntax.tnil (Syntax.ttcons (Syntax.tcons y2 Syntax.tnil) Syntax.ttnil)))),
+)
 
 abbrev pub e62 : Row.Entry
 e62 = (9, Rows'.whole (Declared.row Beginning.the-type))
@@ -1205,9 +1432,10 @@ module _ (claims· : Claims) where
   s5 = Scalar.n-use T6 (Scalar.oFld 8 (List._∷_ (Syntax.field 1) List.[]) (Syntax.tyInt Syntax.w64) 8 Shared.lenV) 18 (Rows'.sc-here (Row.sInt Syntax.w64)) (Row.sInt Syntax.w64 .of)
 
   abbrev s6 : Typed.Both T7 T8
-  s6 = Call.callB ps·0 r·0 (claims· .0) (claims· .1) T7
-      (record { pos = 3; ty = Syntax.tyRef (Syntax.named 0) Syntax.imm (Syntax.tyInt Syntax.w8); ref = λ x. x; },
-      (record { pos = 4; st = List.[]; d = 0; at = λ x. x }, (Num.vAt 16 λ x. x, (Num.vAt 17 λ x. x, (Num.vAt 18 λ x. x, tt))))) 9 (List._∷_ 0 List.[]) (Syntax.tyEnum (List._∷_ 98 (List._∷_ 101 (List._∷_
+  s6 = Call.callB ps·0 r·0 (claims· .0) (claims· .1) T7 (
+    record { pos = 3; ty = Syntax.tyRef (Syntax.named 0) Syntax.imm (Syntax.tyInt Syntax.w8); ref = λ x. x },
+    (record { pos = 4; st = List.[]; d = 0; at = λ x. x }, (Num.vAt 16 λ x. x, (Num.vAt 17 λ x. x, (Num.vAt 18 λ x. x, tt)))),
+  ) 9 (List._∷_ 0 List.[]) (Syntax.tyEnum (List._∷_ 98 (List._∷_ 101 (List._∷_
       103 (List._∷_ 105 (List._∷_ 110 (List._∷_ 58 (List._∷_ 58 (List._∷_ 66 (List._∷_ 101 (List._∷_ 103 (List._∷_ 105 (List._∷_ 110 (List._∷_ 110 (List._∷_ 105 (List._∷_ 110 (List._∷_ 103
       List.[])))))))))))))))) (Syntax.ttcons (Syntax.tcons (Syntax.tyEnum (List._∷_ 115 (List._∷_ 116 (List._∷_ 114 (List._∷_ 101 (List._∷_ 97 (List._∷_ 109 (List._∷_ 58 (List._∷_ 58 (List._∷_ 82
       (List._∷_ 101 (List._∷_ 102 (List._∷_ 117 (List._∷_ 115 (List._∷_ 97 (List._∷_ 108 List.[]))))))))))))))) (Syntax.ttcons Syntax.tnil (Syntax.ttcons Syntax.tnil (Syntax.ttcons Syntax.tnil
@@ -1417,16 +1645,31 @@ module _ (claims· : Claims) where
   s54 = Scalar.n-room T56 29 (Syntax.tyInt Syntax.w64)
 
   abbrev s55 : Typed.Both T57 T58
-  s55 = Call.callB ps·4 r·4 (claims· .8) (claims· .9) T57
-      (record { pos = 1; st = List.[]; d = 0; at = λ x. x },
-      (record { pos = 10; st = List.[]; d = 0; at = λ x. x },
-      (record { pos = 3; ty = Syntax.tyRef (Syntax.named 0) Syntax.imm (Syntax.tyInt Syntax.w8); ref = λ x. x; },
-      (record { pos = 12; st = List.[]; d = 0; at = λ x. x },
-      (record { pos = 4; st = List.[]; d = 0; at = λ x. x },
-      (record { pos = 5; st = List.[]; d = 0; at = λ x. x },
-      (record { pos = 23; ty = Syntax.tyRef Syntax.erased Syntax.mut (Syntax.tyInt Syntax.w16); ref = λ x. x; },
-      (record { pos = 27; ty = Syntax.tyRef Syntax.erased Syntax.mut (Syntax.tyInt Syntax.w16); ref = λ x. x; },
-      (record { pos = 31; ty = Syntax.tyRef Syntax.erased Syntax.mut Element.behind; ref = λ x. x; }, tt))))))))) 14 (List._∷_ 0 (List._∷_ 4 (List._∷_ 5 (List._∷_ 6 List.[])))) y7
+  s55 = Call.callB ps·4 r·4 (claims· .8) (claims· .9) T57 (
+    record { pos = 1; st = List.[]; d = 0; at = λ x. x },
+    (
+      record { pos = 10; st = List.[]; d = 0; at = λ x. x },
+      (
+        record { pos = 3; ty = Syntax.tyRef (Syntax.named 0) Syntax.imm (Syntax.tyInt Syntax.w8); ref = λ x. x },
+        (
+          record { pos = 12; st = List.[]; d = 0; at = λ x. x },
+          (
+            record { pos = 4; st = List.[]; d = 0; at = λ x. x },
+            (
+              record { pos = 5; st = List.[]; d = 0; at = λ x. x },
+              (
+                record { pos = 23; ty = Syntax.tyRef Syntax.erased Syntax.mut (Syntax.tyInt Syntax.w16); ref = λ x. x },
+                (
+                  record { pos = 27; ty = Syntax.tyRef Syntax.erased Syntax.mut (Syntax.tyInt Syntax.w16); ref = λ x. x },
+                  (record { pos = 31; ty = Syntax.tyRef Syntax.erased Syntax.mut Element.behind; ref = λ x. x }, tt),
+                ),
+              ),
+            ),
+          ),
+        ),
+      ),
+    ),
+  ) 14 (List._∷_ 0 (List._∷_ 4 (List._∷_ 5 (List._∷_ 6 List.[])))) y7
 
   abbrev s56 : Typed.Mo T58 → Typed.Mo T59
   s56 = Scalar.n-room T58 4 y1
@@ -1461,9 +1704,10 @@ module _ (claims· : Claims) where
   s71 = Make'.n-make (Declared.row Decoded.the-type) T72 15 λ m. SharedAnswer.struct .as-values (m .1 .1 .1 .1 .1 .1 .1 .1 .1 .1 .1 .1 .1 .1 .0) .0
 
   abbrev s72 : Typed.Both T74 T75
-  s72 = Call.callB ps·2 r·2 (claims· .4) (claims· .5) T74
-      (record { pos = 1; st = List.[]; d = 0; at = λ x. x },
-      (record { pos = 14; st = List._∷_ (Syntax.field 1) List.[]; d = 32; at = λ x. SharedAnswer.struct .as-values x .1 .0; }, (record { pos = 15; st = List.[]; d = 0; at = λ x. x }, tt))) 19 List.[] y7
+  s72 = Call.callB ps·2 r·2 (claims· .4) (claims· .5) T74 (
+    record { pos = 1; st = List.[]; d = 0; at = λ x. x },
+    (record { pos = 14; st = List._∷_ (Syntax.field 1) List.[]; d = 32; at = λ x. SharedAnswer.struct .as-values x .1 .0 }, (record { pos = 15; st = List.[]; d = 0; at = λ x. x }, tt)),
+  ) 19 List.[] y7
 
   abbrev s73 : Typed.Mo T75 → Typed.Mo T76
   s73 = Scalar.n-room T75 1 (Syntax.tyEnum (List._∷_ 99 (List._∷_ 97 (List._∷_ 109 (List._∷_ 101 (List._∷_ 114 (List._∷_ 97 (List._∷_ 115 (List._∷_ 58 (List._∷_ 58 (List._∷_ 67 (List._∷_ 97 (List._∷_
@@ -1794,414 +2038,578 @@ module _ (claims· : Claims) where
             (List._∷_ e7 (List._∷_ e10 (List._∷_ e12 (List._∷_ e13 List.[])))))))))))))))
 
         abbrev G0 : Row.Cx
-        G0 = record
-            { locals = List._++_ t0 t1; slots = List._∷_ (Row.lease (κs .0) (qs .0)) (List._∷_ (Row.lease (κs .1 .0) (qs .1 .0)) (List._∷_ (Row.lease (κs .1 .1 .0) (qs .1 .1 .0)) (List._∷_ (Row.lease (κs
-            .1 .1 .1 .0) (qs .1 .1 .1 .0)) (List._∷_ Row.off (List._∷_ Row.off (List._∷_ Row.off List.[])))))); }
+        G0 = record {
+          locals = List._++_ t0 t1;
+          slots = List._∷_ (Row.lease (κs .0) (qs .0)) (List._∷_ (Row.lease (κs .1 .0) (qs .1 .0)) (List._∷_ (Row.lease (κs .1 .1 .0) (qs .1 .1 .0)) (List._∷_ (Row.lease (κs
+              .1 .1 .1 .0) (qs .1 .1 .1 .0)) (List._∷_ Row.off (List._∷_ Row.off (List._∷_ Row.off List.[]))))));
+        }
 
         abbrev G1 : Row.Cx
-        G1 = record
-            { locals = List._++_ t2 t1; slots = List._∷_ (Row.lease (κs .0) (qs .0)) (List._∷_ (Row.lease (κs .1 .0) (qs .1 .0)) (List._∷_ (Row.lease (κs .1 .1 .0) (qs .1 .1 .0)) (List._∷_ (Row.lease (κs
-            .1 .1 .1 .0) (qs .1 .1 .1 .0)) (List._∷_ Row.off (List._∷_ Row.off (List._∷_ Row.off List.[])))))); }
+        G1 = record {
+          locals = List._++_ t2 t1;
+          slots = List._∷_ (Row.lease (κs .0) (qs .0)) (List._∷_ (Row.lease (κs .1 .0) (qs .1 .0)) (List._∷_ (Row.lease (κs .1 .1 .0) (qs .1 .1 .0)) (List._∷_ (Row.lease (κs
+              .1 .1 .1 .0) (qs .1 .1 .1 .0)) (List._∷_ Row.off (List._∷_ Row.off (List._∷_ Row.off List.[]))))));
+        }
 
         abbrev G2 : Row.Cx
-        G2 = record
-            { locals = List._++_ t0 t1; slots = List._∷_ (Row.lease (κs .0) (qs .0)) (List._∷_ (Row.lease (κs .1 .0) (qs .1 .0)) (List._∷_ (Row.lease (κs .1 .1 .0) (qs .1 .1 .0)) (List._∷_ (Row.lease (κs
-            .1 .1 .1 .0) (qs .1 .1 .1 .0)) (List._∷_ Row.off (List._∷_ Row.off (List._∷_ Row.off List.[])))))); }
+        G2 = record {
+          locals = List._++_ t0 t1;
+          slots = List._∷_ (Row.lease (κs .0) (qs .0)) (List._∷_ (Row.lease (κs .1 .0) (qs .1 .0)) (List._∷_ (Row.lease (κs .1 .1 .0) (qs .1 .1 .0)) (List._∷_ (Row.lease (κs
+              .1 .1 .1 .0) (qs .1 .1 .1 .0)) (List._∷_ Row.off (List._∷_ Row.off (List._∷_ Row.off List.[]))))));
+        }
 
         abbrev G3 : Row.Cx
-        G3 = record
-            { locals = List._++_ t0 t1; slots = List._∷_ (Row.lease (κs .0) (qs .0)) (List._∷_ (Row.lease (κs .1 .0) (qs .1 .0)) (List._∷_ (Row.lease (κs .1 .1 .0) (qs .1 .1 .0)) (List._∷_ (Row.lease (κs
-            .1 .1 .1 .0) (qs .1 .1 .1 .0)) (List._∷_ Row.off (List._∷_ Row.off (List._∷_ Row.off List.[])))))); }
+        G3 = record {
+          locals = List._++_ t0 t1;
+          slots = List._∷_ (Row.lease (κs .0) (qs .0)) (List._∷_ (Row.lease (κs .1 .0) (qs .1 .0)) (List._∷_ (Row.lease (κs .1 .1 .0) (qs .1 .1 .0)) (List._∷_ (Row.lease (κs
+              .1 .1 .1 .0) (qs .1 .1 .1 .0)) (List._∷_ Row.off (List._∷_ Row.off (List._∷_ Row.off List.[]))))));
+        }
 
         abbrev G4 : Row.Cx
-        G4 = record
-            { locals = List._++_ t0 t1; slots = List._∷_ (Row.lease (κs .0) (qs .0)) (List._∷_ (Row.lease (κs .1 .0) (qs .1 .0)) (List._∷_ (Row.lease (κs .1 .1 .0) (qs .1 .1 .0)) (List._∷_ (Row.lease (κs
-            .1 .1 .1 .0) (qs .1 .1 .1 .0)) (List._∷_ Row.off (List._∷_ Row.off (List._∷_ Row.off List.[])))))); }
+        G4 = record {
+          locals = List._++_ t0 t1;
+          slots = List._∷_ (Row.lease (κs .0) (qs .0)) (List._∷_ (Row.lease (κs .1 .0) (qs .1 .0)) (List._∷_ (Row.lease (κs .1 .1 .0) (qs .1 .1 .0)) (List._∷_ (Row.lease (κs
+              .1 .1 .1 .0) (qs .1 .1 .1 .0)) (List._∷_ Row.off (List._∷_ Row.off (List._∷_ Row.off List.[]))))));
+        }
 
         abbrev G5 : Row.Cx
-        G5 = record
-            { locals = List._++_ t0 t3; slots = List._∷_ (Row.lease (κs .0) (qs .0)) (List._∷_ (Row.lease (κs .1 .0) (qs .1 .0)) (List._∷_ (Row.lease (κs .1 .1 .0) (qs .1 .1 .0)) (List._∷_ (Row.lease (κs
-            .1 .1 .1 .0) (qs .1 .1 .1 .0)) (List._∷_ Row.off (List._∷_ Row.off (List._∷_ Row.off List.[])))))); }
+        G5 = record {
+          locals = List._++_ t0 t3;
+          slots = List._∷_ (Row.lease (κs .0) (qs .0)) (List._∷_ (Row.lease (κs .1 .0) (qs .1 .0)) (List._∷_ (Row.lease (κs .1 .1 .0) (qs .1 .1 .0)) (List._∷_ (Row.lease (κs
+              .1 .1 .1 .0) (qs .1 .1 .1 .0)) (List._∷_ Row.off (List._∷_ Row.off (List._∷_ Row.off List.[]))))));
+        }
 
         abbrev G6 : Row.Cx
-        G6 = record
-            { locals = List._++_ t0 t4; slots = List._∷_ (Row.lease (κs .0) (qs .0)) (List._∷_ (Row.lease (κs .1 .0) (qs .1 .0)) (List._∷_ (Row.lease (κs .1 .1 .0) (qs .1 .1 .0)) (List._∷_ (Row.lease (κs
-            .1 .1 .1 .0) (qs .1 .1 .1 .0)) (List._∷_ Row.off (List._∷_ Row.off (List._∷_ Row.off List.[])))))); }
+        G6 = record {
+          locals = List._++_ t0 t4;
+          slots = List._∷_ (Row.lease (κs .0) (qs .0)) (List._∷_ (Row.lease (κs .1 .0) (qs .1 .0)) (List._∷_ (Row.lease (κs .1 .1 .0) (qs .1 .1 .0)) (List._∷_ (Row.lease (κs
+              .1 .1 .1 .0) (qs .1 .1 .1 .0)) (List._∷_ Row.off (List._∷_ Row.off (List._∷_ Row.off List.[]))))));
+        }
 
         abbrev G7 : Row.Cx
-        G7 = record
-            { locals = List._++_ t0 t5; slots = List._∷_ (Row.lease (κs .0) (qs .0)) (List._∷_ (Row.lease (κs .1 .0) (qs .1 .0)) (List._∷_ (Row.lease (κs .1 .1 .0) (qs .1 .1 .0)) (List._∷_ (Row.lease (κs
-            .1 .1 .1 .0) (qs .1 .1 .1 .0)) (List._∷_ Row.off (List._∷_ Row.off (List._∷_ Row.off List.[])))))); }
+        G7 = record {
+          locals = List._++_ t0 t5;
+          slots = List._∷_ (Row.lease (κs .0) (qs .0)) (List._∷_ (Row.lease (κs .1 .0) (qs .1 .0)) (List._∷_ (Row.lease (κs .1 .1 .0) (qs .1 .1 .0)) (List._∷_ (Row.lease (κs
+              .1 .1 .1 .0) (qs .1 .1 .1 .0)) (List._∷_ Row.off (List._∷_ Row.off (List._∷_ Row.off List.[]))))));
+        }
 
         abbrev G8 : Row.Cx
-        G8 = record
-            { locals = List._++_ t6 t5; slots = List._∷_ (Row.lease (κs .0) (qs .0)) (List._∷_ (Row.lease (κs .1 .0) (qs .1 .0)) (List._∷_ (Row.lease (κs .1 .1 .0) (qs .1 .1 .0)) (List._∷_ (Row.lease (κs
-            .1 .1 .1 .0) (qs .1 .1 .1 .0)) (List._∷_ Row.off (List._∷_ Row.off (List._∷_ Row.off List.[])))))); }
+        G8 = record {
+          locals = List._++_ t6 t5;
+          slots = List._∷_ (Row.lease (κs .0) (qs .0)) (List._∷_ (Row.lease (κs .1 .0) (qs .1 .0)) (List._∷_ (Row.lease (κs .1 .1 .0) (qs .1 .1 .0)) (List._∷_ (Row.lease (κs
+              .1 .1 .1 .0) (qs .1 .1 .1 .0)) (List._∷_ Row.off (List._∷_ Row.off (List._∷_ Row.off List.[]))))));
+        }
 
         abbrev G9 : Row.Cx
-        G9 = record
-            { locals = List._++_ t6 t7; slots = List._∷_ (Row.lease (κs .0) (qs .0)) (List._∷_ (Row.lease (κs .1 .0) (qs .1 .0)) (List._∷_ (Row.lease (κs .1 .1 .0) (qs .1 .1 .0)) (List._∷_ (Row.lease (κs
-            .1 .1 .1 .0) (qs .1 .1 .1 .0)) (List._∷_ Row.off (List._∷_ Row.off (List._∷_ Row.off List.[])))))); }
+        G9 = record {
+          locals = List._++_ t6 t7;
+          slots = List._∷_ (Row.lease (κs .0) (qs .0)) (List._∷_ (Row.lease (κs .1 .0) (qs .1 .0)) (List._∷_ (Row.lease (κs .1 .1 .0) (qs .1 .1 .0)) (List._∷_ (Row.lease (κs
+              .1 .1 .1 .0) (qs .1 .1 .1 .0)) (List._∷_ Row.off (List._∷_ Row.off (List._∷_ Row.off List.[]))))));
+        }
 
         abbrev G10 : Row.Cx
-        G10 = record
-            { locals = List._++_ t6 t8; slots = List._∷_ (Row.lease (κs .0) (qs .0)) (List._∷_ (Row.lease (κs .1 .0) (qs .1 .0)) (List._∷_ (Row.lease (κs .1 .1 .0) (qs .1 .1 .0)) (List._∷_ (Row.lease (κs
-            .1 .1 .1 .0) (qs .1 .1 .1 .0)) (List._∷_ Row.off (List._∷_ Row.off (List._∷_ Row.off List.[])))))); }
+        G10 = record {
+          locals = List._++_ t6 t8;
+          slots = List._∷_ (Row.lease (κs .0) (qs .0)) (List._∷_ (Row.lease (κs .1 .0) (qs .1 .0)) (List._∷_ (Row.lease (κs .1 .1 .0) (qs .1 .1 .0)) (List._∷_ (Row.lease (κs
+              .1 .1 .1 .0) (qs .1 .1 .1 .0)) (List._∷_ Row.off (List._∷_ Row.off (List._∷_ Row.off List.[]))))));
+        }
 
         abbrev G11 : Row.Cx
-        G11 = record
-            { locals = List._++_ t6 t1; slots = List._∷_ (Row.lease (κs .0) (qs .0)) (List._∷_ (Row.lease (κs .1 .0) (qs .1 .0)) (List._∷_ (Row.lease (κs .1 .1 .0) (qs .1 .1 .0)) (List._∷_ (Row.lease (κs
-            .1 .1 .1 .0) (qs .1 .1 .1 .0)) (List._∷_ Row.off (List._∷_ Row.off (List._∷_ Row.off List.[])))))); }
+        G11 = record {
+          locals = List._++_ t6 t1;
+          slots = List._∷_ (Row.lease (κs .0) (qs .0)) (List._∷_ (Row.lease (κs .1 .0) (qs .1 .0)) (List._∷_ (Row.lease (κs .1 .1 .0) (qs .1 .1 .0)) (List._∷_ (Row.lease (κs
+              .1 .1 .1 .0) (qs .1 .1 .1 .0)) (List._∷_ Row.off (List._∷_ Row.off (List._∷_ Row.off List.[]))))));
+        }
 
         abbrev G12 : Row.Cx
-        G12 = record
-            { locals = List._++_ t9 t1; slots = List._∷_ (Row.lease (κs .0) (qs .0)) (List._∷_ (Row.lease (κs .1 .0) (qs .1 .0)) (List._∷_ (Row.lease (κs .1 .1 .0) (qs .1 .1 .0)) (List._∷_ (Row.lease (κs
-            .1 .1 .1 .0) (qs .1 .1 .1 .0)) (List._∷_ Row.off (List._∷_ Row.off (List._∷_ Row.off List.[])))))); }
+        G12 = record {
+          locals = List._++_ t9 t1;
+          slots = List._∷_ (Row.lease (κs .0) (qs .0)) (List._∷_ (Row.lease (κs .1 .0) (qs .1 .0)) (List._∷_ (Row.lease (κs .1 .1 .0) (qs .1 .1 .0)) (List._∷_ (Row.lease (κs
+              .1 .1 .1 .0) (qs .1 .1 .1 .0)) (List._∷_ Row.off (List._∷_ Row.off (List._∷_ Row.off List.[]))))));
+        }
 
         abbrev G13 : Row.Cx
-        G13 = record
-            { locals = List._++_ t10 t11; slots = List._∷_ (Row.lease (κs .0) (qs .0)) (List._∷_ (Row.lease (κs .1 .0) (qs .1 .0)) (List._∷_ (Row.lease (κs .1 .1 .0) (qs .1 .1 .0)) (List._∷_ (Row.lease
-            (κs .1 .1 .1 .0) (qs .1 .1 .1 .0)) (List._∷_ Row.off (List._∷_ Row.off (List._∷_ Row.off List.[])))))); }
+        G13 = record {
+          locals = List._++_ t10 t11;
+          slots = List._∷_ (Row.lease (κs .0) (qs .0)) (List._∷_ (Row.lease (κs .1 .0) (qs .1 .0)) (List._∷_ (Row.lease (κs .1 .1 .0) (qs .1 .1 .0)) (List._∷_ (Row.lease
+              (κs .1 .1 .1 .0) (qs .1 .1 .1 .0)) (List._∷_ Row.off (List._∷_ Row.off (List._∷_ Row.off List.[]))))));
+        }
 
         abbrev G14 : Row.Cx
-        G14 = record
-            { locals = List._++_ t12 t1; slots = List._∷_ (Row.lease (κs .0) (qs .0)) (List._∷_ (Row.lease (κs .1 .0) (qs .1 .0)) (List._∷_ (Row.lease (κs .1 .1 .0) (qs .1 .1 .0)) (List._∷_ (Row.lease (κs
-            .1 .1 .1 .0) (qs .1 .1 .1 .0)) (List._∷_ Row.off (List._∷_ Row.off (List._∷_ Row.off List.[])))))); }
+        G14 = record {
+          locals = List._++_ t12 t1;
+          slots = List._∷_ (Row.lease (κs .0) (qs .0)) (List._∷_ (Row.lease (κs .1 .0) (qs .1 .0)) (List._∷_ (Row.lease (κs .1 .1 .0) (qs .1 .1 .0)) (List._∷_ (Row.lease (κs
+              .1 .1 .1 .0) (qs .1 .1 .1 .0)) (List._∷_ Row.off (List._∷_ Row.off (List._∷_ Row.off List.[]))))));
+        }
 
         abbrev G15 : Row.Cx
-        G15 = record
-            { locals = List._++_ t13 t1; slots = List._∷_ (Row.lease (κs .0) (qs .0)) (List._∷_ (Row.lease (κs .1 .0) (qs .1 .0)) (List._∷_ (Row.lease (κs .1 .1 .0) (qs .1 .1 .0)) (List._∷_ (Row.lease (κs
-            .1 .1 .1 .0) (qs .1 .1 .1 .0)) (List._∷_ Row.off (List._∷_ Row.off (List._∷_ Row.off List.[])))))); }
+        G15 = record {
+          locals = List._++_ t13 t1;
+          slots = List._∷_ (Row.lease (κs .0) (qs .0)) (List._∷_ (Row.lease (κs .1 .0) (qs .1 .0)) (List._∷_ (Row.lease (κs .1 .1 .0) (qs .1 .1 .0)) (List._∷_ (Row.lease (κs
+              .1 .1 .1 .0) (qs .1 .1 .1 .0)) (List._∷_ Row.off (List._∷_ Row.off (List._∷_ Row.off List.[]))))));
+        }
 
         abbrev G16 : Row.Cx
-        G16 = record
-            { locals = List._++_ t13 t1; slots = List._∷_ (Row.lease (κs .0) (qs .0)) (List._∷_ (Row.lease (κs .1 .0) (qs .1 .0)) (List._∷_ (Row.lease (κs .1 .1 .0) (qs .1 .1 .0)) (List._∷_ (Row.lease (κs
-            .1 .1 .1 .0) (qs .1 .1 .1 .0)) (List._∷_ Row.off (List._∷_ Row.off (List._∷_ Row.off List.[])))))); }
+        G16 = record {
+          locals = List._++_ t13 t1;
+          slots = List._∷_ (Row.lease (κs .0) (qs .0)) (List._∷_ (Row.lease (κs .1 .0) (qs .1 .0)) (List._∷_ (Row.lease (κs .1 .1 .0) (qs .1 .1 .0)) (List._∷_ (Row.lease (κs
+              .1 .1 .1 .0) (qs .1 .1 .1 .0)) (List._∷_ Row.off (List._∷_ Row.off (List._∷_ Row.off List.[]))))));
+        }
 
         abbrev G17 : Row.Cx
-        G17 = record
-            { locals = List._++_ t14 t1; slots = List._∷_ (Row.lease (κs .0) (qs .0)) (List._∷_ (Row.lease (κs .1 .0) (qs .1 .0)) (List._∷_ (Row.lease (κs .1 .1 .0) (qs .1 .1 .0)) (List._∷_ (Row.lease (κs
-            .1 .1 .1 .0) (qs .1 .1 .1 .0)) (List._∷_ Row.off (List._∷_ Row.off (List._∷_ Row.off List.[])))))); }
+        G17 = record {
+          locals = List._++_ t14 t1;
+          slots = List._∷_ (Row.lease (κs .0) (qs .0)) (List._∷_ (Row.lease (κs .1 .0) (qs .1 .0)) (List._∷_ (Row.lease (κs .1 .1 .0) (qs .1 .1 .0)) (List._∷_ (Row.lease (κs
+              .1 .1 .1 .0) (qs .1 .1 .1 .0)) (List._∷_ Row.off (List._∷_ Row.off (List._∷_ Row.off List.[]))))));
+        }
 
         abbrev G18 : Row.Cx
-        G18 = record
-            { locals = List._++_ t15 t1; slots = List._∷_ (Row.lease (κs .0) (qs .0)) (List._∷_ (Row.lease (κs .1 .0) (qs .1 .0)) (List._∷_ (Row.lease (κs .1 .1 .0) (qs .1 .1 .0)) (List._∷_ (Row.lease (κs
-            .1 .1 .1 .0) (qs .1 .1 .1 .0)) (List._∷_ Row.off (List._∷_ Row.off (List._∷_ Row.off List.[])))))); }
+        G18 = record {
+          locals = List._++_ t15 t1;
+          slots = List._∷_ (Row.lease (κs .0) (qs .0)) (List._∷_ (Row.lease (κs .1 .0) (qs .1 .0)) (List._∷_ (Row.lease (κs .1 .1 .0) (qs .1 .1 .0)) (List._∷_ (Row.lease (κs
+              .1 .1 .1 .0) (qs .1 .1 .1 .0)) (List._∷_ Row.off (List._∷_ Row.off (List._∷_ Row.off List.[]))))));
+        }
 
         abbrev G19 : Row.Cx
-        G19 = record
-            { locals = List._++_ t16 t1; slots = List._∷_ (Row.lease (κs .0) (qs .0)) (List._∷_ (Row.lease (κs .1 .0) (qs .1 .0)) (List._∷_ (Row.lease (κs .1 .1 .0) (qs .1 .1 .0)) (List._∷_ (Row.lease (κs
-            .1 .1 .1 .0) (qs .1 .1 .1 .0)) (List._∷_ Row.off (List._∷_ Row.off (List._∷_ Row.off List.[])))))); }
+        G19 = record {
+          locals = List._++_ t16 t1;
+          slots = List._∷_ (Row.lease (κs .0) (qs .0)) (List._∷_ (Row.lease (κs .1 .0) (qs .1 .0)) (List._∷_ (Row.lease (κs .1 .1 .0) (qs .1 .1 .0)) (List._∷_ (Row.lease (κs
+              .1 .1 .1 .0) (qs .1 .1 .1 .0)) (List._∷_ Row.off (List._∷_ Row.off (List._∷_ Row.off List.[]))))));
+        }
 
         abbrev G20 : Row.Cx
-        G20 = record
-            { locals = List._++_ t17 t1; slots = List._∷_ (Row.lease (κs .0) (qs .0)) (List._∷_ (Row.lease (κs .1 .0) (qs .1 .0)) (List._∷_ (Row.lease (κs .1 .1 .0) (qs .1 .1 .0)) (List._∷_ (Row.lease (κs
-            .1 .1 .1 .0) (qs .1 .1 .1 .0)) (List._∷_ Row.off (List._∷_ Row.off (List._∷_ Row.off List.[])))))); }
+        G20 = record {
+          locals = List._++_ t17 t1;
+          slots = List._∷_ (Row.lease (κs .0) (qs .0)) (List._∷_ (Row.lease (κs .1 .0) (qs .1 .0)) (List._∷_ (Row.lease (κs .1 .1 .0) (qs .1 .1 .0)) (List._∷_ (Row.lease (κs
+              .1 .1 .1 .0) (qs .1 .1 .1 .0)) (List._∷_ Row.off (List._∷_ Row.off (List._∷_ Row.off List.[]))))));
+        }
 
         abbrev G21 : Row.Cx
-        G21 = record
-            { locals = List._++_ t17 t18; slots = List._∷_ (Row.lease (κs .0) (qs .0)) (List._∷_ (Row.lease (κs .1 .0) (qs .1 .0)) (List._∷_ (Row.lease (κs .1 .1 .0) (qs .1 .1 .0)) (List._∷_ (Row.lease
-            (κs .1 .1 .1 .0) (qs .1 .1 .1 .0)) (List._∷_ Row.off (List._∷_ Row.off (List._∷_ Row.off List.[])))))); }
+        G21 = record {
+          locals = List._++_ t17 t18;
+          slots = List._∷_ (Row.lease (κs .0) (qs .0)) (List._∷_ (Row.lease (κs .1 .0) (qs .1 .0)) (List._∷_ (Row.lease (κs .1 .1 .0) (qs .1 .1 .0)) (List._∷_ (Row.lease
+              (κs .1 .1 .1 .0) (qs .1 .1 .1 .0)) (List._∷_ Row.off (List._∷_ Row.off (List._∷_ Row.off List.[]))))));
+        }
 
         abbrev G22 : Row.Cx
-        G22 = record
-            { locals = List._++_ t19 t18; slots = List._∷_ (Row.lease (κs .0) (qs .0)) (List._∷_ (Row.lease (κs .1 .0) (qs .1 .0)) (List._∷_ (Row.lease (κs .1 .1 .0) (qs .1 .1 .0)) (List._∷_ (Row.lease
-            (κs .1 .1 .1 .0) (qs .1 .1 .1 .0)) (List._∷_ Row.off (List._∷_ Row.off (List._∷_ Row.off List.[])))))); }
+        G22 = record {
+          locals = List._++_ t19 t18;
+          slots = List._∷_ (Row.lease (κs .0) (qs .0)) (List._∷_ (Row.lease (κs .1 .0) (qs .1 .0)) (List._∷_ (Row.lease (κs .1 .1 .0) (qs .1 .1 .0)) (List._∷_ (Row.lease
+              (κs .1 .1 .1 .0) (qs .1 .1 .1 .0)) (List._∷_ Row.off (List._∷_ Row.off (List._∷_ Row.off List.[]))))));
+        }
 
         abbrev G23 : Row.Cx
-        G23 = record
-            { locals = List._++_ t19 t20; slots = List._∷_ (Row.lease (κs .0) (qs .0)) (List._∷_ (Row.lease (κs .1 .0) (qs .1 .0)) (List._∷_ (Row.lease (κs .1 .1 .0) (qs .1 .1 .0)) (List._∷_ (Row.lease
-            (κs .1 .1 .1 .0) (qs .1 .1 .1 .0)) (List._∷_ Row.off (List._∷_ Row.off (List._∷_ Row.off List.[])))))); }
+        G23 = record {
+          locals = List._++_ t19 t20;
+          slots = List._∷_ (Row.lease (κs .0) (qs .0)) (List._∷_ (Row.lease (κs .1 .0) (qs .1 .0)) (List._∷_ (Row.lease (κs .1 .1 .0) (qs .1 .1 .0)) (List._∷_ (Row.lease
+              (κs .1 .1 .1 .0) (qs .1 .1 .1 .0)) (List._∷_ Row.off (List._∷_ Row.off (List._∷_ Row.off List.[]))))));
+        }
 
         abbrev G24 : Row.Cx
-        G24 = record
-            { locals = List._++_ t21 t20; slots = List._∷_ (Row.lease (κs .0) (qs .0)) (List._∷_ (Row.lease (κs .1 .0) (qs .1 .0)) (List._∷_ (Row.lease (κs .1 .1 .0) (qs .1 .1 .0)) (List._∷_ (Row.lease
-            (κs .1 .1 .1 .0) (qs .1 .1 .1 .0)) (List._∷_ Row.off (List._∷_ Row.off (List._∷_ Row.off List.[])))))); }
+        G24 = record {
+          locals = List._++_ t21 t20;
+          slots = List._∷_ (Row.lease (κs .0) (qs .0)) (List._∷_ (Row.lease (κs .1 .0) (qs .1 .0)) (List._∷_ (Row.lease (κs .1 .1 .0) (qs .1 .1 .0)) (List._∷_ (Row.lease
+              (κs .1 .1 .1 .0) (qs .1 .1 .1 .0)) (List._∷_ Row.off (List._∷_ Row.off (List._∷_ Row.off List.[]))))));
+        }
 
         abbrev G25 : Row.Cx
-        G25 = record
-            { locals = List._++_ t10 t20; slots = List._∷_ (Row.lease (κs .0) (qs .0)) (List._∷_ (Row.lease (κs .1 .0) (qs .1 .0)) (List._∷_ (Row.lease (κs .1 .1 .0) (qs .1 .1 .0)) (List._∷_ (Row.lease
-            (κs .1 .1 .1 .0) (qs .1 .1 .1 .0)) (List._∷_ Row.off (List._∷_ Row.off (List._∷_ Row.off List.[])))))); }
+        G25 = record {
+          locals = List._++_ t10 t20;
+          slots = List._∷_ (Row.lease (κs .0) (qs .0)) (List._∷_ (Row.lease (κs .1 .0) (qs .1 .0)) (List._∷_ (Row.lease (κs .1 .1 .0) (qs .1 .1 .0)) (List._∷_ (Row.lease
+              (κs .1 .1 .1 .0) (qs .1 .1 .1 .0)) (List._∷_ Row.off (List._∷_ Row.off (List._∷_ Row.off List.[]))))));
+        }
 
         abbrev G26 : Row.Cx
-        G26 = record
-            { locals = List._++_ t10 t11; slots = List._∷_ (Row.lease (κs .0) (qs .0)) (List._∷_ (Row.lease (κs .1 .0) (qs .1 .0)) (List._∷_ (Row.lease (κs .1 .1 .0) (qs .1 .1 .0)) (List._∷_ (Row.lease
-            (κs .1 .1 .1 .0) (qs .1 .1 .1 .0)) (List._∷_ Row.off (List._∷_ Row.off (List._∷_ Row.off List.[])))))); }
+        G26 = record {
+          locals = List._++_ t10 t11;
+          slots = List._∷_ (Row.lease (κs .0) (qs .0)) (List._∷_ (Row.lease (κs .1 .0) (qs .1 .0)) (List._∷_ (Row.lease (κs .1 .1 .0) (qs .1 .1 .0)) (List._∷_ (Row.lease
+              (κs .1 .1 .1 .0) (qs .1 .1 .1 .0)) (List._∷_ Row.off (List._∷_ Row.off (List._∷_ Row.off List.[]))))));
+        }
 
         abbrev G27 : Row.Cx
-        G27 = record
-            { locals = List._++_ t12 t1; slots = List._∷_ (Row.lease (κs .0) (qs .0)) (List._∷_ (Row.lease (κs .1 .0) (qs .1 .0)) (List._∷_ (Row.lease (κs .1 .1 .0) (qs .1 .1 .0)) (List._∷_ (Row.lease (κs
-            .1 .1 .1 .0) (qs .1 .1 .1 .0)) (List._∷_ Row.off (List._∷_ Row.off (List._∷_ Row.off List.[])))))); }
+        G27 = record {
+          locals = List._++_ t12 t1;
+          slots = List._∷_ (Row.lease (κs .0) (qs .0)) (List._∷_ (Row.lease (κs .1 .0) (qs .1 .0)) (List._∷_ (Row.lease (κs .1 .1 .0) (qs .1 .1 .0)) (List._∷_ (Row.lease (κs
+              .1 .1 .1 .0) (qs .1 .1 .1 .0)) (List._∷_ Row.off (List._∷_ Row.off (List._∷_ Row.off List.[]))))));
+        }
 
         abbrev G28 : Row.Cx
-        G28 = record
-            { locals = List._++_ t22 t1; slots = List._∷_ (Row.lease (κs .0) (qs .0)) (List._∷_ (Row.lease (κs .1 .0) (qs .1 .0)) (List._∷_ (Row.lease (κs .1 .1 .0) (qs .1 .1 .0)) (List._∷_ (Row.lease (κs
-            .1 .1 .1 .0) (qs .1 .1 .1 .0)) (List._∷_ Row.off (List._∷_ Row.off (List._∷_ Row.off List.[])))))); }
+        G28 = record {
+          locals = List._++_ t22 t1;
+          slots = List._∷_ (Row.lease (κs .0) (qs .0)) (List._∷_ (Row.lease (κs .1 .0) (qs .1 .0)) (List._∷_ (Row.lease (κs .1 .1 .0) (qs .1 .1 .0)) (List._∷_ (Row.lease (κs
+              .1 .1 .1 .0) (qs .1 .1 .1 .0)) (List._∷_ Row.off (List._∷_ Row.off (List._∷_ Row.off List.[]))))));
+        }
 
         abbrev G29 : Row.Cx
-        G29 = record
-            { locals = List._++_ t23 t1; slots = List._∷_ (Row.lease (κs .0) (qs .0)) (List._∷_ (Row.lease (κs .1 .0) (qs .1 .0)) (List._∷_ (Row.lease (κs .1 .1 .0) (qs .1 .1 .0)) (List._∷_ (Row.lease (κs
-            .1 .1 .1 .0) (qs .1 .1 .1 .0)) (List._∷_ Row.off (List._∷_ Row.off (List._∷_ Row.off List.[])))))); }
+        G29 = record {
+          locals = List._++_ t23 t1;
+          slots = List._∷_ (Row.lease (κs .0) (qs .0)) (List._∷_ (Row.lease (κs .1 .0) (qs .1 .0)) (List._∷_ (Row.lease (κs .1 .1 .0) (qs .1 .1 .0)) (List._∷_ (Row.lease (κs
+              .1 .1 .1 .0) (qs .1 .1 .1 .0)) (List._∷_ Row.off (List._∷_ Row.off (List._∷_ Row.off List.[]))))));
+        }
 
         abbrev G30 : Row.Cx
-        G30 = record
-            { locals = List._++_ t19 t1; slots = List._∷_ (Row.lease (κs .0) (qs .0)) (List._∷_ (Row.lease (κs .1 .0) (qs .1 .0)) (List._∷_ (Row.lease (κs .1 .1 .0) (qs .1 .1 .0)) (List._∷_ (Row.lease (κs
-            .1 .1 .1 .0) (qs .1 .1 .1 .0)) (List._∷_ Row.off (List._∷_ Row.off (List._∷_ Row.off List.[])))))); }
+        G30 = record {
+          locals = List._++_ t19 t1;
+          slots = List._∷_ (Row.lease (κs .0) (qs .0)) (List._∷_ (Row.lease (κs .1 .0) (qs .1 .0)) (List._∷_ (Row.lease (κs .1 .1 .0) (qs .1 .1 .0)) (List._∷_ (Row.lease (κs
+              .1 .1 .1 .0) (qs .1 .1 .1 .0)) (List._∷_ Row.off (List._∷_ Row.off (List._∷_ Row.off List.[]))))));
+        }
 
         abbrev G31 : Row.Cx
-        G31 = record
-            { locals = List._++_ t19 t24; slots = List._∷_ (Row.lease (κs .0) (qs .0)) (List._∷_ (Row.lease (κs .1 .0) (qs .1 .0)) (List._∷_ (Row.lease (κs .1 .1 .0) (qs .1 .1 .0)) (List._∷_ (Row.lease
-            (κs .1 .1 .1 .0) (qs .1 .1 .1 .0)) (List._∷_ Row.off (List._∷_ Row.off (List._∷_ Row.off List.[])))))); }
+        G31 = record {
+          locals = List._++_ t19 t24;
+          slots = List._∷_ (Row.lease (κs .0) (qs .0)) (List._∷_ (Row.lease (κs .1 .0) (qs .1 .0)) (List._∷_ (Row.lease (κs .1 .1 .0) (qs .1 .1 .0)) (List._∷_ (Row.lease
+              (κs .1 .1 .1 .0) (qs .1 .1 .1 .0)) (List._∷_ Row.off (List._∷_ Row.off (List._∷_ Row.off List.[]))))));
+        }
 
         abbrev G32 : Row.Cx
-        G32 = record
-            { locals = List._++_ t19 t25; slots = List._∷_ (Row.lease (κs .0) (qs .0)) (List._∷_ (Row.lease (κs .1 .0) (qs .1 .0)) (List._∷_ (Row.lease (κs .1 .1 .0) (qs .1 .1 .0)) (List._∷_ (Row.lease
-            (κs .1 .1 .1 .0) (qs .1 .1 .1 .0)) (List._∷_ Row.off (List._∷_ Row.off (List._∷_ Row.off List.[])))))); }
+        G32 = record {
+          locals = List._++_ t19 t25;
+          slots = List._∷_ (Row.lease (κs .0) (qs .0)) (List._∷_ (Row.lease (κs .1 .0) (qs .1 .0)) (List._∷_ (Row.lease (κs .1 .1 .0) (qs .1 .1 .0)) (List._∷_ (Row.lease
+              (κs .1 .1 .1 .0) (qs .1 .1 .1 .0)) (List._∷_ Row.off (List._∷_ Row.off (List._∷_ Row.off List.[]))))));
+        }
 
         abbrev G33 : Row.Cx
-        G33 = record
-            { locals = List._++_ t21 t25; slots = List._∷_ (Row.lease (κs .0) (qs .0)) (List._∷_ (Row.lease (κs .1 .0) (qs .1 .0)) (List._∷_ (Row.lease (κs .1 .1 .0) (qs .1 .1 .0)) (List._∷_ (Row.lease
-            (κs .1 .1 .1 .0) (qs .1 .1 .1 .0)) (List._∷_ Row.off (List._∷_ Row.off (List._∷_ Row.off List.[])))))); }
+        G33 = record {
+          locals = List._++_ t21 t25;
+          slots = List._∷_ (Row.lease (κs .0) (qs .0)) (List._∷_ (Row.lease (κs .1 .0) (qs .1 .0)) (List._∷_ (Row.lease (κs .1 .1 .0) (qs .1 .1 .0)) (List._∷_ (Row.lease
+              (κs .1 .1 .1 .0) (qs .1 .1 .1 .0)) (List._∷_ Row.off (List._∷_ Row.off (List._∷_ Row.off List.[]))))));
+        }
 
         abbrev G34 : Row.Cx
-        G34 = record
-            { locals = List._++_ t10 t25; slots = List._∷_ (Row.lease (κs .0) (qs .0)) (List._∷_ (Row.lease (κs .1 .0) (qs .1 .0)) (List._∷_ (Row.lease (κs .1 .1 .0) (qs .1 .1 .0)) (List._∷_ (Row.lease
-            (κs .1 .1 .1 .0) (qs .1 .1 .1 .0)) (List._∷_ Row.off (List._∷_ Row.off (List._∷_ Row.off List.[])))))); }
+        G34 = record {
+          locals = List._++_ t10 t25;
+          slots = List._∷_ (Row.lease (κs .0) (qs .0)) (List._∷_ (Row.lease (κs .1 .0) (qs .1 .0)) (List._∷_ (Row.lease (κs .1 .1 .0) (qs .1 .1 .0)) (List._∷_ (Row.lease
+              (κs .1 .1 .1 .0) (qs .1 .1 .1 .0)) (List._∷_ Row.off (List._∷_ Row.off (List._∷_ Row.off List.[]))))));
+        }
 
         abbrev G35 : Row.Cx
-        G35 = record
-            { locals = List._++_ t10 t11; slots = List._∷_ (Row.lease (κs .0) (qs .0)) (List._∷_ (Row.lease (κs .1 .0) (qs .1 .0)) (List._∷_ (Row.lease (κs .1 .1 .0) (qs .1 .1 .0)) (List._∷_ (Row.lease
-            (κs .1 .1 .1 .0) (qs .1 .1 .1 .0)) (List._∷_ Row.off (List._∷_ Row.off (List._∷_ Row.off List.[])))))); }
+        G35 = record {
+          locals = List._++_ t10 t11;
+          slots = List._∷_ (Row.lease (κs .0) (qs .0)) (List._∷_ (Row.lease (κs .1 .0) (qs .1 .0)) (List._∷_ (Row.lease (κs .1 .1 .0) (qs .1 .1 .0)) (List._∷_ (Row.lease
+              (κs .1 .1 .1 .0) (qs .1 .1 .1 .0)) (List._∷_ Row.off (List._∷_ Row.off (List._∷_ Row.off List.[]))))));
+        }
 
         abbrev G36 : Row.Cx
-        G36 = record
-            { locals = List._++_ t26 t1; slots = List._∷_ (Row.lease (κs .0) (qs .0)) (List._∷_ (Row.lease (κs .1 .0) (qs .1 .0)) (List._∷_ (Row.lease (κs .1 .1 .0) (qs .1 .1 .0)) (List._∷_ (Row.lease (κs
-            .1 .1 .1 .0) (qs .1 .1 .1 .0)) (List._∷_ Row.off (List._∷_ Row.off (List._∷_ Row.off List.[])))))); }
+        G36 = record {
+          locals = List._++_ t26 t1;
+          slots = List._∷_ (Row.lease (κs .0) (qs .0)) (List._∷_ (Row.lease (κs .1 .0) (qs .1 .0)) (List._∷_ (Row.lease (κs .1 .1 .0) (qs .1 .1 .0)) (List._∷_ (Row.lease (κs
+              .1 .1 .1 .0) (qs .1 .1 .1 .0)) (List._∷_ Row.off (List._∷_ Row.off (List._∷_ Row.off List.[]))))));
+        }
 
         abbrev G37 : Row.Cx
-        G37 = record
-            { locals = List._++_ t26 t1; slots = List._∷_ (Row.lease (κs .0) (qs .0)) (List._∷_ (Row.lease (κs .1 .0) (qs .1 .0)) (List._∷_ (Row.lease (κs .1 .1 .0) (qs .1 .1 .0)) (List._∷_ (Row.lease (κs
-            .1 .1 .1 .0) (qs .1 .1 .1 .0)) (List._∷_ Row.off (List._∷_ Row.off (List._∷_ Row.off List.[])))))); }
+        G37 = record {
+          locals = List._++_ t26 t1;
+          slots = List._∷_ (Row.lease (κs .0) (qs .0)) (List._∷_ (Row.lease (κs .1 .0) (qs .1 .0)) (List._∷_ (Row.lease (κs .1 .1 .0) (qs .1 .1 .0)) (List._∷_ (Row.lease (κs
+              .1 .1 .1 .0) (qs .1 .1 .1 .0)) (List._∷_ Row.off (List._∷_ Row.off (List._∷_ Row.off List.[]))))));
+        }
 
         abbrev G38 : Row.Cx
-        G38 = record
-            { locals = List._++_ t27 t1; slots = List._∷_ (Row.lease (κs .0) (qs .0)) (List._∷_ (Row.lease (κs .1 .0) (qs .1 .0)) (List._∷_ (Row.lease (κs .1 .1 .0) (qs .1 .1 .0)) (List._∷_ (Row.lease (κs
-            .1 .1 .1 .0) (qs .1 .1 .1 .0)) (List._∷_ Row.off (List._∷_ Row.off (List._∷_ Row.off List.[])))))); }
+        G38 = record {
+          locals = List._++_ t27 t1;
+          slots = List._∷_ (Row.lease (κs .0) (qs .0)) (List._∷_ (Row.lease (κs .1 .0) (qs .1 .0)) (List._∷_ (Row.lease (κs .1 .1 .0) (qs .1 .1 .0)) (List._∷_ (Row.lease (κs
+              .1 .1 .1 .0) (qs .1 .1 .1 .0)) (List._∷_ Row.off (List._∷_ Row.off (List._∷_ Row.off List.[]))))));
+        }
 
         abbrev G39 : Row.Cx
-        G39 = record
-            { locals = List._++_ t28 t1; slots = List._∷_ (Row.lease (κs .0) (qs .0)) (List._∷_ (Row.lease (κs .1 .0) (qs .1 .0)) (List._∷_ (Row.lease (κs .1 .1 .0) (qs .1 .1 .0)) (List._∷_ (Row.lease (κs
-            .1 .1 .1 .0) (qs .1 .1 .1 .0)) (List._∷_ Row.off (List._∷_ Row.off (List._∷_ Row.off List.[])))))); }
+        G39 = record {
+          locals = List._++_ t28 t1;
+          slots = List._∷_ (Row.lease (κs .0) (qs .0)) (List._∷_ (Row.lease (κs .1 .0) (qs .1 .0)) (List._∷_ (Row.lease (κs .1 .1 .0) (qs .1 .1 .0)) (List._∷_ (Row.lease (κs
+              .1 .1 .1 .0) (qs .1 .1 .1 .0)) (List._∷_ Row.off (List._∷_ Row.off (List._∷_ Row.off List.[]))))));
+        }
 
         abbrev G40 : Row.Cx
-        G40 = record
-            { locals = List._++_ t29 t1; slots = List._∷_ (Row.lease (κs .0) (qs .0)) (List._∷_ (Row.lease (κs .1 .0) (qs .1 .0)) (List._∷_ (Row.lease (κs .1 .1 .0) (qs .1 .1 .0)) (List._∷_ (Row.lease (κs
-            .1 .1 .1 .0) (qs .1 .1 .1 .0)) (List._∷_ Row.off (List._∷_ Row.off (List._∷_ Row.off List.[])))))); }
+        G40 = record {
+          locals = List._++_ t29 t1;
+          slots = List._∷_ (Row.lease (κs .0) (qs .0)) (List._∷_ (Row.lease (κs .1 .0) (qs .1 .0)) (List._∷_ (Row.lease (κs .1 .1 .0) (qs .1 .1 .0)) (List._∷_ (Row.lease (κs
+              .1 .1 .1 .0) (qs .1 .1 .1 .0)) (List._∷_ Row.off (List._∷_ Row.off (List._∷_ Row.off List.[]))))));
+        }
 
         abbrev G41 : Row.Cx
-        G41 = record
-            { locals = List._++_ t29 t1; slots = List._∷_ (Row.lease (κs .0) (qs .0)) (List._∷_ (Row.lease (κs .1 .0) (qs .1 .0)) (List._∷_ (Row.lease (κs .1 .1 .0) (qs .1 .1 .0)) (List._∷_ (Row.lease (κs
-            .1 .1 .1 .0) (qs .1 .1 .1 .0)) (List._∷_ Row.alive (List._∷_ Row.off (List._∷_ Row.off List.[])))))); }
+        G41 = record {
+          locals = List._++_ t29 t1;
+          slots = List._∷_ (Row.lease (κs .0) (qs .0)) (List._∷_ (Row.lease (κs .1 .0) (qs .1 .0)) (List._∷_ (Row.lease (κs .1 .1 .0) (qs .1 .1 .0)) (List._∷_ (Row.lease (κs
+              .1 .1 .1 .0) (qs .1 .1 .1 .0)) (List._∷_ Row.alive (List._∷_ Row.off (List._∷_ Row.off List.[]))))));
+        }
 
         abbrev G42 : Row.Cx
-        G42 = record
-            { locals = List._++_ g30 t31; slots = List._∷_ (Row.lease (κs .0) (qs .0)) (List._∷_ Row.off (List._∷_ (Row.lease (κs .1 .1 .0) (qs .1 .1 .0)) (List._∷_ (Row.lease (κs .1 .1 .1 .0) (qs .1 .1
-            .1 .0)) (List._∷_ Row.alive (List._∷_ Row.off (List._∷_ Row.off List.[])))))); }
+        G42 = record {
+          locals = List._++_ g30 t31;
+          slots = List._∷_ (Row.lease (κs .0) (qs .0)) (List._∷_ Row.off (List._∷_ (Row.lease (κs .1 .1 .0) (qs .1 .1 .0)) (List._∷_ (Row.lease (κs .1 .1 .1 .0) (qs .1 .1
+              .1 .0)) (List._∷_ Row.alive (List._∷_ Row.off (List._∷_ Row.off List.[]))))));
+        }
 
         abbrev G43 : Row.Cx
-        G43 = record
-            { locals = List._++_ g30 t32; slots = List._∷_ (Row.lease (κs .0) (qs .0)) (List._∷_ Row.off (List._∷_ (Row.lease (κs .1 .1 .0) (qs .1 .1 .0)) (List._∷_ (Row.lease (κs .1 .1 .1 .0) (qs .1 .1
-            .1 .0)) (List._∷_ Row.alive (List._∷_ Row.off (List._∷_ Row.off List.[])))))); }
+        G43 = record {
+          locals = List._++_ g30 t32;
+          slots = List._∷_ (Row.lease (κs .0) (qs .0)) (List._∷_ Row.off (List._∷_ (Row.lease (κs .1 .1 .0) (qs .1 .1 .0)) (List._∷_ (Row.lease (κs .1 .1 .1 .0) (qs .1 .1
+              .1 .0)) (List._∷_ Row.alive (List._∷_ Row.off (List._∷_ Row.off List.[]))))));
+        }
 
         abbrev G44 : Row.Cx
-        G44 = record
-            { locals = List._++_ g30 t33; slots = List._∷_ (Row.lease (κs .0) (qs .0)) (List._∷_ Row.off (List._∷_ (Row.lease (κs .1 .1 .0) (qs .1 .1 .0)) (List._∷_ (Row.lease (κs .1 .1 .1 .0) (qs .1 .1
-            .1 .0)) (List._∷_ Row.alive (List._∷_ Row.off (List._∷_ Row.off List.[])))))); }
+        G44 = record {
+          locals = List._++_ g30 t33;
+          slots = List._∷_ (Row.lease (κs .0) (qs .0)) (List._∷_ Row.off (List._∷_ (Row.lease (κs .1 .1 .0) (qs .1 .1 .0)) (List._∷_ (Row.lease (κs .1 .1 .1 .0) (qs .1 .1
+              .1 .0)) (List._∷_ Row.alive (List._∷_ Row.off (List._∷_ Row.off List.[]))))));
+        }
 
         abbrev G45 : Row.Cx
-        G45 = record
-            { locals = List._++_ g30 t34; slots = List._∷_ (Row.lease (κs .0) (qs .0)) (List._∷_ Row.off (List._∷_ (Row.lease (κs .1 .1 .0) (qs .1 .1 .0)) (List._∷_ (Row.lease (κs .1 .1 .1 .0) (qs .1 .1
-            .1 .0)) (List._∷_ Row.alive (List._∷_ Row.off (List._∷_ Row.off List.[])))))); }
+        G45 = record {
+          locals = List._++_ g30 t34;
+          slots = List._∷_ (Row.lease (κs .0) (qs .0)) (List._∷_ Row.off (List._∷_ (Row.lease (κs .1 .1 .0) (qs .1 .1 .0)) (List._∷_ (Row.lease (κs .1 .1 .1 .0) (qs .1 .1
+              .1 .0)) (List._∷_ Row.alive (List._∷_ Row.off (List._∷_ Row.off List.[]))))));
+        }
 
         abbrev G46 : Row.Cx
-        G46 = record
-            { locals = List._++_ g30 t34; slots = List._∷_ (Row.lease (κs .0) (qs .0)) (List._∷_ Row.off (List._∷_ (Row.lease (κs .1 .1 .0) (qs .1 .1 .0)) (List._∷_ (Row.lease (κs .1 .1 .1 .0) (qs .1 .1
-            .1 .0)) (List._∷_ Row.alive (List._∷_ Row.alive (List._∷_ Row.off List.[])))))); }
+        G46 = record {
+          locals = List._++_ g30 t34;
+          slots = List._∷_ (Row.lease (κs .0) (qs .0)) (List._∷_ Row.off (List._∷_ (Row.lease (κs .1 .1 .0) (qs .1 .1 .0)) (List._∷_ (Row.lease (κs .1 .1 .1 .0) (qs .1 .1
+              .1 .0)) (List._∷_ Row.alive (List._∷_ Row.alive (List._∷_ Row.off List.[]))))));
+        }
 
         abbrev G47 : Row.Cx
-        G47 = record
-            { locals = List._++_ g35 t36; slots = List._∷_ (Row.lease (κs .0) (qs .0)) (List._∷_ Row.off (List._∷_ Row.off (List._∷_ (Row.lease (κs .1 .1 .1 .0) (qs .1 .1 .1 .0)) (List._∷_ Row.alive
-            (List._∷_ Row.alive (List._∷_ Row.off List.[])))))); }
+        G47 = record {
+          locals = List._++_ g35 t36;
+          slots = List._∷_ (Row.lease (κs .0) (qs .0)) (List._∷_ Row.off (List._∷_ Row.off (List._∷_ (Row.lease (κs .1 .1 .1 .0) (qs .1 .1 .1 .0)) (List._∷_ Row.alive
+              (List._∷_ Row.alive (List._∷_ Row.off List.[]))))));
+        }
 
         abbrev G48 : Row.Cx
-        G48 = record
-            { locals = List._++_ g35 t37; slots = List._∷_ (Row.lease (κs .0) (qs .0)) (List._∷_ Row.off (List._∷_ Row.off (List._∷_ (Row.lease (κs .1 .1 .1 .0) (qs .1 .1 .1 .0)) (List._∷_ Row.alive
-            (List._∷_ Row.alive (List._∷_ Row.off List.[])))))); }
+        G48 = record {
+          locals = List._++_ g35 t37;
+          slots = List._∷_ (Row.lease (κs .0) (qs .0)) (List._∷_ Row.off (List._∷_ Row.off (List._∷_ (Row.lease (κs .1 .1 .1 .0) (qs .1 .1 .1 .0)) (List._∷_ Row.alive
+              (List._∷_ Row.alive (List._∷_ Row.off List.[]))))));
+        }
 
         abbrev G49 : Row.Cx
-        G49 = record
-            { locals = List._++_ g35 t38; slots = List._∷_ (Row.lease (κs .0) (qs .0)) (List._∷_ Row.off (List._∷_ Row.off (List._∷_ (Row.lease (κs .1 .1 .1 .0) (qs .1 .1 .1 .0)) (List._∷_ Row.alive
-            (List._∷_ Row.alive (List._∷_ Row.off List.[])))))); }
+        G49 = record {
+          locals = List._++_ g35 t38;
+          slots = List._∷_ (Row.lease (κs .0) (qs .0)) (List._∷_ Row.off (List._∷_ Row.off (List._∷_ (Row.lease (κs .1 .1 .1 .0) (qs .1 .1 .1 .0)) (List._∷_ Row.alive
+              (List._∷_ Row.alive (List._∷_ Row.off List.[]))))));
+        }
 
         abbrev G50 : Row.Cx
-        G50 = record
-            { locals = List._++_ g35 t39; slots = List._∷_ (Row.lease (κs .0) (qs .0)) (List._∷_ Row.off (List._∷_ Row.off (List._∷_ (Row.lease (κs .1 .1 .1 .0) (qs .1 .1 .1 .0)) (List._∷_ Row.alive
-            (List._∷_ Row.alive (List._∷_ Row.off List.[])))))); }
+        G50 = record {
+          locals = List._++_ g35 t39;
+          slots = List._∷_ (Row.lease (κs .0) (qs .0)) (List._∷_ Row.off (List._∷_ Row.off (List._∷_ (Row.lease (κs .1 .1 .1 .0) (qs .1 .1 .1 .0)) (List._∷_ Row.alive
+              (List._∷_ Row.alive (List._∷_ Row.off List.[]))))));
+        }
 
         abbrev G51 : Row.Cx
-        G51 = record
-            { locals = List._++_ g35 t40; slots = List._∷_ (Row.lease (κs .0) (qs .0)) (List._∷_ Row.off (List._∷_ Row.off (List._∷_ (Row.lease (κs .1 .1 .1 .0) (qs .1 .1 .1 .0)) (List._∷_ Row.alive
-            (List._∷_ Row.alive (List._∷_ Row.off List.[])))))); }
+        G51 = record {
+          locals = List._++_ g35 t40;
+          slots = List._∷_ (Row.lease (κs .0) (qs .0)) (List._∷_ Row.off (List._∷_ Row.off (List._∷_ (Row.lease (κs .1 .1 .1 .0) (qs .1 .1 .1 .0)) (List._∷_ Row.alive
+              (List._∷_ Row.alive (List._∷_ Row.off List.[]))))));
+        }
 
         abbrev G52 : Row.Cx
-        G52 = record
-            { locals = List._++_ g35 t41; slots = List._∷_ (Row.lease (κs .0) (qs .0)) (List._∷_ Row.off (List._∷_ Row.off (List._∷_ (Row.lease (κs .1 .1 .1 .0) (qs .1 .1 .1 .0)) (List._∷_ Row.alive
-            (List._∷_ Row.alive (List._∷_ Row.off List.[])))))); }
+        G52 = record {
+          locals = List._++_ g35 t41;
+          slots = List._∷_ (Row.lease (κs .0) (qs .0)) (List._∷_ Row.off (List._∷_ Row.off (List._∷_ (Row.lease (κs .1 .1 .1 .0) (qs .1 .1 .1 .0)) (List._∷_ Row.alive
+              (List._∷_ Row.alive (List._∷_ Row.off List.[]))))));
+        }
 
         abbrev G53 : Row.Cx
-        G53 = record
-            { locals = List._++_ g35 t41; slots = List._∷_ (Row.lease (κs .0) (qs .0)) (List._∷_ Row.off (List._∷_ Row.off (List._∷_ (Row.lease (κs .1 .1 .1 .0) (qs .1 .1 .1 .0)) (List._∷_ Row.alive
-            (List._∷_ Row.alive (List._∷_ Row.alive List.[])))))); }
+        G53 = record {
+          locals = List._++_ g35 t41;
+          slots = List._∷_ (Row.lease (κs .0) (qs .0)) (List._∷_ Row.off (List._∷_ Row.off (List._∷_ (Row.lease (κs .1 .1 .1 .0) (qs .1 .1 .1 .0)) (List._∷_ Row.alive
+              (List._∷_ Row.alive (List._∷_ Row.alive List.[]))))));
+        }
 
         abbrev G54 : Row.Cx
-        G54 = record
-            { locals = List._++_ g42 t43; slots = List._∷_ (Row.lease (κs .0) (qs .0)) (List._∷_ Row.off (List._∷_ Row.off (List._∷_ Row.off (List._∷_ Row.alive (List._∷_ Row.alive (List._∷_ Row.alive
-            List.[])))))); }
+        G54 = record {
+          locals = List._++_ g42 t43;
+          slots = List._∷_ (Row.lease (κs .0) (qs .0)) (List._∷_ Row.off (List._∷_ Row.off (List._∷_ Row.off (List._∷_ Row.alive (List._∷_ Row.alive (List._∷_ Row.alive
+              List.[]))))));
+        }
 
         abbrev G55 : Row.Cx
-        G55 = record
-            { locals = List._++_ g42 t44; slots = List._∷_ (Row.lease (κs .0) (qs .0)) (List._∷_ Row.off (List._∷_ Row.off (List._∷_ Row.off (List._∷_ Row.alive (List._∷_ Row.alive (List._∷_ Row.alive
-            List.[])))))); }
+        G55 = record {
+          locals = List._++_ g42 t44;
+          slots = List._∷_ (Row.lease (κs .0) (qs .0)) (List._∷_ Row.off (List._∷_ Row.off (List._∷_ Row.off (List._∷_ Row.alive (List._∷_ Row.alive (List._∷_ Row.alive
+              List.[]))))));
+        }
 
         abbrev G56 : Row.Cx
-        G56 = record
-            { locals = List._++_ g42 t45; slots = List._∷_ (Row.lease (κs .0) (qs .0)) (List._∷_ Row.off (List._∷_ Row.off (List._∷_ Row.off (List._∷_ Row.alive (List._∷_ Row.alive (List._∷_ Row.alive
-            List.[])))))); }
+        G56 = record {
+          locals = List._++_ g42 t45;
+          slots = List._∷_ (Row.lease (κs .0) (qs .0)) (List._∷_ Row.off (List._∷_ Row.off (List._∷_ Row.off (List._∷_ Row.alive (List._∷_ Row.alive (List._∷_ Row.alive
+              List.[]))))));
+        }
 
         abbrev G57 : Row.Cx
-        G57 = record
-            { locals = List._++_ g42 t46; slots = List._∷_ (Row.lease (κs .0) (qs .0)) (List._∷_ Row.off (List._∷_ Row.off (List._∷_ Row.off (List._∷_ Row.alive (List._∷_ Row.alive (List._∷_ Row.alive
-            List.[])))))); }
+        G57 = record {
+          locals = List._++_ g42 t46;
+          slots = List._∷_ (Row.lease (κs .0) (qs .0)) (List._∷_ Row.off (List._∷_ Row.off (List._∷_ Row.off (List._∷_ Row.alive (List._∷_ Row.alive (List._∷_ Row.alive
+              List.[]))))));
+        }
 
         abbrev G58 : Row.Cx
-        G58 = record
-            { locals = List._++_ g47 t48; slots = List._∷_ (Row.lease (κs .0) (qs .0)) (List._∷_ Row.off (List._∷_ Row.off (List._∷_ Row.off (List._∷_ Row.alive (List._∷_ Row.alive (List._∷_ Row.alive
-            List.[])))))); }
+        G58 = record {
+          locals = List._++_ g47 t48;
+          slots = List._∷_ (Row.lease (κs .0) (qs .0)) (List._∷_ Row.off (List._∷_ Row.off (List._∷_ Row.off (List._∷_ Row.alive (List._∷_ Row.alive (List._∷_ Row.alive
+              List.[]))))));
+        }
 
         abbrev G59 : Row.Cx
-        G59 = record
-            { locals = List._++_ g49 t48; slots = List._∷_ (Row.lease (κs .0) (qs .0)) (List._∷_ Row.off (List._∷_ Row.off (List._∷_ Row.off (List._∷_ Row.alive (List._∷_ Row.alive (List._∷_ Row.alive
-            List.[])))))); }
+        G59 = record {
+          locals = List._++_ g49 t48;
+          slots = List._∷_ (Row.lease (κs .0) (qs .0)) (List._∷_ Row.off (List._∷_ Row.off (List._∷_ Row.off (List._∷_ Row.alive (List._∷_ Row.alive (List._∷_ Row.alive
+              List.[]))))));
+        }
 
         abbrev G60 : Row.Cx
-        G60 = record
-            { locals = List._++_ g50 t48; slots = List._∷_ (Row.lease (κs .0) (qs .0)) (List._∷_ Row.off (List._∷_ Row.off (List._∷_ Row.off (List._∷_ Row.alive (List._∷_ Row.alive (List._∷_ Row.alive
-            List.[])))))); }
+        G60 = record {
+          locals = List._++_ g50 t48;
+          slots = List._∷_ (Row.lease (κs .0) (qs .0)) (List._∷_ Row.off (List._∷_ Row.off (List._∷_ Row.off (List._∷_ Row.alive (List._∷_ Row.alive (List._∷_ Row.alive
+              List.[]))))));
+        }
 
         abbrev G61 : Row.Cx
-        G61 = record
-            { locals = List._++_ g51 t48; slots = List._∷_ (Row.lease (κs .0) (qs .0)) (List._∷_ Row.off (List._∷_ Row.off (List._∷_ Row.off (List._∷_ Row.alive (List._∷_ Row.alive (List._∷_ Row.alive
-            List.[])))))); }
+        G61 = record {
+          locals = List._++_ g51 t48;
+          slots = List._∷_ (Row.lease (κs .0) (qs .0)) (List._∷_ Row.off (List._∷_ Row.off (List._∷_ Row.off (List._∷_ Row.alive (List._∷_ Row.alive (List._∷_ Row.alive
+              List.[]))))));
+        }
 
         abbrev G62 : Row.Cx
-        G62 = record
-            { locals = List._++_ g52 t48; slots = List._∷_ (Row.lease (κs .0) (qs .0)) (List._∷_ Row.off (List._∷_ Row.off (List._∷_ Row.off (List._∷_ Row.alive (List._∷_ Row.alive (List._∷_ Row.alive
-            List.[])))))); }
+        G62 = record {
+          locals = List._++_ g52 t48;
+          slots = List._∷_ (Row.lease (κs .0) (qs .0)) (List._∷_ Row.off (List._∷_ Row.off (List._∷_ Row.off (List._∷_ Row.alive (List._∷_ Row.alive (List._∷_ Row.alive
+              List.[]))))));
+        }
 
         abbrev G63 : Row.Cx
-        G63 = record
-            { locals = List._++_ g52 t48; slots = List._∷_ (Row.lease (κs .0) (qs .0)) (List._∷_ Row.off (List._∷_ Row.off (List._∷_ Row.off (List._∷_ Row.dead (List._∷_ Row.alive (List._∷_ Row.alive
-            List.[])))))); }
+        G63 = record {
+          locals = List._++_ g52 t48;
+          slots = List._∷_ (Row.lease (κs .0) (qs .0)) (List._∷_ Row.off (List._∷_ Row.off (List._∷_ Row.off (List._∷_ Row.dead (List._∷_ Row.alive (List._∷_ Row.alive
+              List.[]))))));
+        }
 
         abbrev G64 : Row.Cx
-        G64 = record
-            { locals = List._++_ g53 t54; slots = List._∷_ (Row.lease (κs .0) (qs .0)) (List._∷_ (Row.lease (κs .1 .0) (qs .1 .0)) (List._∷_ Row.off (List._∷_ Row.off (List._∷_ Row.dead (List._∷_
-            Row.alive (List._∷_ Row.alive List.[])))))); }
+        G64 = record {
+          locals = List._++_ g53 t54;
+          slots = List._∷_ (Row.lease (κs .0) (qs .0)) (List._∷_ (Row.lease (κs .1 .0) (qs .1 .0)) (List._∷_ Row.off (List._∷_ Row.off (List._∷_ Row.dead (List._∷_
+              Row.alive (List._∷_ Row.alive List.[]))))));
+        }
 
         abbrev G65 : Row.Cx
-        G65 = record
-            { locals = List._++_ g53 t54; slots = List._∷_ (Row.lease (κs .0) (qs .0)) (List._∷_ (Row.lease (κs .1 .0) (qs .1 .0)) (List._∷_ Row.off (List._∷_ Row.off (List._∷_ Row.dead (List._∷_
-            Row.alive (List._∷_ Row.alive List.[])))))); }
+        G65 = record {
+          locals = List._++_ g53 t54;
+          slots = List._∷_ (Row.lease (κs .0) (qs .0)) (List._∷_ (Row.lease (κs .1 .0) (qs .1 .0)) (List._∷_ Row.off (List._∷_ Row.off (List._∷_ Row.dead (List._∷_
+              Row.alive (List._∷_ Row.alive List.[]))))));
+        }
 
         abbrev G66 : Row.Cx
-        G66 = record
-            { locals = List._++_ g53 t54; slots = List._∷_ (Row.lease (κs .0) (qs .0)) (List._∷_ (Row.lease (κs .1 .0) (qs .1 .0)) (List._∷_ Row.off (List._∷_ Row.off (List._∷_ Row.off (List._∷_ Row.alive
-            (List._∷_ Row.alive List.[])))))); }
+        G66 = record {
+          locals = List._++_ g53 t54;
+          slots = List._∷_ (Row.lease (κs .0) (qs .0)) (List._∷_ (Row.lease (κs .1 .0) (qs .1 .0)) (List._∷_ Row.off (List._∷_ Row.off (List._∷_ Row.off (List._∷_ Row.alive
+              (List._∷_ Row.alive List.[]))))));
+        }
 
         abbrev G67 : Row.Cx
-        G67 = record
-            { locals = List._++_ g53 t54; slots = List._∷_ (Row.lease (κs .0) (qs .0)) (List._∷_ (Row.lease (κs .1 .0) (qs .1 .0)) (List._∷_ Row.off (List._∷_ Row.off (List._∷_ Row.off (List._∷_ Row.dead
-            (List._∷_ Row.alive List.[])))))); }
+        G67 = record {
+          locals = List._++_ g53 t54;
+          slots = List._∷_ (Row.lease (κs .0) (qs .0)) (List._∷_ (Row.lease (κs .1 .0) (qs .1 .0)) (List._∷_ Row.off (List._∷_ Row.off (List._∷_ Row.off (List._∷_ Row.dead
+              (List._∷_ Row.alive List.[]))))));
+        }
 
         abbrev G68 : Row.Cx
-        G68 = record
-            { locals = List._++_ g55 t56; slots = List._∷_ (Row.lease (κs .0) (qs .0)) (List._∷_ (Row.lease (κs .1 .0) (qs .1 .0)) (List._∷_ (Row.lease (κs .1 .1 .0) (qs .1 .1 .0)) (List._∷_ Row.off
-            (List._∷_ Row.off (List._∷_ Row.dead (List._∷_ Row.alive List.[])))))); }
+        G68 = record {
+          locals = List._++_ g55 t56;
+          slots = List._∷_ (Row.lease (κs .0) (qs .0)) (List._∷_ (Row.lease (κs .1 .0) (qs .1 .0)) (List._∷_ (Row.lease (κs .1 .1 .0) (qs .1 .1 .0)) (List._∷_ Row.off
+              (List._∷_ Row.off (List._∷_ Row.dead (List._∷_ Row.alive List.[]))))));
+        }
 
         abbrev G69 : Row.Cx
-        G69 = record
-            { locals = List._++_ g55 t56; slots = List._∷_ (Row.lease (κs .0) (qs .0)) (List._∷_ (Row.lease (κs .1 .0) (qs .1 .0)) (List._∷_ (Row.lease (κs .1 .1 .0) (qs .1 .1 .0)) (List._∷_ Row.off
-            (List._∷_ Row.off (List._∷_ Row.dead (List._∷_ Row.alive List.[])))))); }
+        G69 = record {
+          locals = List._++_ g55 t56;
+          slots = List._∷_ (Row.lease (κs .0) (qs .0)) (List._∷_ (Row.lease (κs .1 .0) (qs .1 .0)) (List._∷_ (Row.lease (κs .1 .1 .0) (qs .1 .1 .0)) (List._∷_ Row.off
+              (List._∷_ Row.off (List._∷_ Row.dead (List._∷_ Row.alive List.[]))))));
+        }
 
         abbrev G70 : Row.Cx
-        G70 = record
-            { locals = List._++_ g55 t56; slots = List._∷_ (Row.lease (κs .0) (qs .0)) (List._∷_ (Row.lease (κs .1 .0) (qs .1 .0)) (List._∷_ (Row.lease (κs .1 .1 .0) (qs .1 .1 .0)) (List._∷_ Row.off
-            (List._∷_ Row.off (List._∷_ Row.off (List._∷_ Row.alive List.[])))))); }
+        G70 = record {
+          locals = List._++_ g55 t56;
+          slots = List._∷_ (Row.lease (κs .0) (qs .0)) (List._∷_ (Row.lease (κs .1 .0) (qs .1 .0)) (List._∷_ (Row.lease (κs .1 .1 .0) (qs .1 .1 .0)) (List._∷_ Row.off
+              (List._∷_ Row.off (List._∷_ Row.off (List._∷_ Row.alive List.[]))))));
+        }
 
         abbrev G71 : Row.Cx
-        G71 = record
-            { locals = List._++_ g55 t56; slots = List._∷_ (Row.lease (κs .0) (qs .0)) (List._∷_ (Row.lease (κs .1 .0) (qs .1 .0)) (List._∷_ (Row.lease (κs .1 .1 .0) (qs .1 .1 .0)) (List._∷_ Row.off
-            (List._∷_ Row.off (List._∷_ Row.off (List._∷_ Row.dead List.[])))))); }
+        G71 = record {
+          locals = List._++_ g55 t56;
+          slots = List._∷_ (Row.lease (κs .0) (qs .0)) (List._∷_ (Row.lease (κs .1 .0) (qs .1 .0)) (List._∷_ (Row.lease (κs .1 .1 .0) (qs .1 .1 .0)) (List._∷_ Row.off
+              (List._∷_ Row.off (List._∷_ Row.off (List._∷_ Row.dead List.[]))))));
+        }
 
         abbrev G72 : Row.Cx
-        G72 = record
-            { locals = List._++_ t57 t1; slots = List._∷_ (Row.lease (κs .0) (qs .0)) (List._∷_ (Row.lease (κs .1 .0) (qs .1 .0)) (List._∷_ (Row.lease (κs .1 .1 .0) (qs .1 .1 .0)) (List._∷_ (Row.lease (κs
-            .1 .1 .1 .0) (qs .1 .1 .1 .0)) (List._∷_ Row.off (List._∷_ Row.off (List._∷_ Row.dead List.[])))))); }
+        G72 = record {
+          locals = List._++_ t57 t1;
+          slots = List._∷_ (Row.lease (κs .0) (qs .0)) (List._∷_ (Row.lease (κs .1 .0) (qs .1 .0)) (List._∷_ (Row.lease (κs .1 .1 .0) (qs .1 .1 .0)) (List._∷_ (Row.lease (κs
+              .1 .1 .1 .0) (qs .1 .1 .1 .0)) (List._∷_ Row.off (List._∷_ Row.off (List._∷_ Row.dead List.[]))))));
+        }
 
         abbrev G73 : Row.Cx
-        G73 = record
-            { locals = List._++_ t57 t1; slots = List._∷_ (Row.lease (κs .0) (qs .0)) (List._∷_ (Row.lease (κs .1 .0) (qs .1 .0)) (List._∷_ (Row.lease (κs .1 .1 .0) (qs .1 .1 .0)) (List._∷_ (Row.lease (κs
-            .1 .1 .1 .0) (qs .1 .1 .1 .0)) (List._∷_ Row.off (List._∷_ Row.off (List._∷_ Row.off List.[])))))); }
+        G73 = record {
+          locals = List._++_ t57 t1;
+          slots = List._∷_ (Row.lease (κs .0) (qs .0)) (List._∷_ (Row.lease (κs .1 .0) (qs .1 .0)) (List._∷_ (Row.lease (κs .1 .1 .0) (qs .1 .1 .0)) (List._∷_ (Row.lease (κs
+              .1 .1 .1 .0) (qs .1 .1 .1 .0)) (List._∷_ Row.off (List._∷_ Row.off (List._∷_ Row.off List.[]))))));
+        }
 
         abbrev G74 : Row.Cx
-        G74 = record
-            { locals = List._++_ t58 t1; slots = List._∷_ (Row.lease (κs .0) (qs .0)) (List._∷_ (Row.lease (κs .1 .0) (qs .1 .0)) (List._∷_ (Row.lease (κs .1 .1 .0) (qs .1 .1 .0)) (List._∷_ (Row.lease (κs
-            .1 .1 .1 .0) (qs .1 .1 .1 .0)) (List._∷_ Row.off (List._∷_ Row.off (List._∷_ Row.off List.[])))))); }
+        G74 = record {
+          locals = List._++_ t58 t1;
+          slots = List._∷_ (Row.lease (κs .0) (qs .0)) (List._∷_ (Row.lease (κs .1 .0) (qs .1 .0)) (List._∷_ (Row.lease (κs .1 .1 .0) (qs .1 .1 .0)) (List._∷_ (Row.lease (κs
+              .1 .1 .1 .0) (qs .1 .1 .1 .0)) (List._∷_ Row.off (List._∷_ Row.off (List._∷_ Row.off List.[]))))));
+        }
 
         abbrev G75 : Row.Cx
-        G75 = record
-            { locals = List._++_ t58 t11; slots = List._∷_ (Row.lease (κs .0) (qs .0)) (List._∷_ (Row.lease (κs .1 .0) (qs .1 .0)) (List._∷_ (Row.lease (κs .1 .1 .0) (qs .1 .1 .0)) (List._∷_ (Row.lease
-            (κs .1 .1 .1 .0) (qs .1 .1 .1 .0)) (List._∷_ Row.off (List._∷_ Row.off (List._∷_ Row.off List.[])))))); }
+        G75 = record {
+          locals = List._++_ t58 t11;
+          slots = List._∷_ (Row.lease (κs .0) (qs .0)) (List._∷_ (Row.lease (κs .1 .0) (qs .1 .0)) (List._∷_ (Row.lease (κs .1 .1 .0) (qs .1 .1 .0)) (List._∷_ (Row.lease
+              (κs .1 .1 .1 .0) (qs .1 .1 .1 .0)) (List._∷_ Row.off (List._∷_ Row.off (List._∷_ Row.off List.[]))))));
+        }
 
         abbrev G76 : Row.Cx
-        G76 = record
-            { locals = List._++_ t59 t11; slots = List._∷_ (Row.lease (κs .0) (qs .0)) (List._∷_ (Row.lease (κs .1 .0) (qs .1 .0)) (List._∷_ (Row.lease (κs .1 .1 .0) (qs .1 .1 .0)) (List._∷_ (Row.lease
-            (κs .1 .1 .1 .0) (qs .1 .1 .1 .0)) (List._∷_ Row.off (List._∷_ Row.off (List._∷_ Row.off List.[])))))); }
+        G76 = record {
+          locals = List._++_ t59 t11;
+          slots = List._∷_ (Row.lease (κs .0) (qs .0)) (List._∷_ (Row.lease (κs .1 .0) (qs .1 .0)) (List._∷_ (Row.lease (κs .1 .1 .0) (qs .1 .1 .0)) (List._∷_ (Row.lease
+              (κs .1 .1 .1 .0) (qs .1 .1 .1 .0)) (List._∷_ Row.off (List._∷_ Row.off (List._∷_ Row.off List.[]))))));
+        }
 
         abbrev G77 : Row.Cx
-        G77 = record
-            { locals = List._++_ t60 t11; slots = List._∷_ (Row.lease (κs .0) (qs .0)) (List._∷_ (Row.lease (κs .1 .0) (qs .1 .0)) (List._∷_ (Row.lease (κs .1 .1 .0) (qs .1 .1 .0)) (List._∷_ (Row.lease
-            (κs .1 .1 .1 .0) (qs .1 .1 .1 .0)) (List._∷_ Row.off (List._∷_ Row.off (List._∷_ Row.off List.[])))))); }
+        G77 = record {
+          locals = List._++_ t60 t11;
+          slots = List._∷_ (Row.lease (κs .0) (qs .0)) (List._∷_ (Row.lease (κs .1 .0) (qs .1 .0)) (List._∷_ (Row.lease (κs .1 .1 .0) (qs .1 .1 .0)) (List._∷_ (Row.lease
+              (κs .1 .1 .1 .0) (qs .1 .1 .1 .0)) (List._∷_ Row.off (List._∷_ Row.off (List._∷_ Row.off List.[]))))));
+        }
 
         abbrev G78 : Row.Cx
-        G78 = record
-            { locals = List._++_ t61 t11; slots = List._∷_ (Row.lease (κs .0) (qs .0)) (List._∷_ (Row.lease (κs .1 .0) (qs .1 .0)) (List._∷_ (Row.lease (κs .1 .1 .0) (qs .1 .1 .0)) (List._∷_ (Row.lease
-            (κs .1 .1 .1 .0) (qs .1 .1 .1 .0)) (List._∷_ Row.off (List._∷_ Row.off (List._∷_ Row.off List.[])))))); }
+        G78 = record {
+          locals = List._++_ t61 t11;
+          slots = List._∷_ (Row.lease (κs .0) (qs .0)) (List._∷_ (Row.lease (κs .1 .0) (qs .1 .0)) (List._∷_ (Row.lease (κs .1 .1 .0) (qs .1 .1 .0)) (List._∷_ (Row.lease
+              (κs .1 .1 .1 .0) (qs .1 .1 .1 .0)) (List._∷_ Row.off (List._∷_ Row.off (List._∷_ Row.off List.[]))))));
+        }
 
         abbrev G79 : Row.Cx
-        G79 = record
-            { locals = List._++_ t10 t11; slots = List._∷_ (Row.lease (κs .0) (qs .0)) (List._∷_ (Row.lease (κs .1 .0) (qs .1 .0)) (List._∷_ (Row.lease (κs .1 .1 .0) (qs .1 .1 .0)) (List._∷_ (Row.lease
-            (κs .1 .1 .1 .0) (qs .1 .1 .1 .0)) (List._∷_ Row.off (List._∷_ Row.off (List._∷_ Row.off List.[])))))); }
+        G79 = record {
+          locals = List._++_ t10 t11;
+          slots = List._∷_ (Row.lease (κs .0) (qs .0)) (List._∷_ (Row.lease (κs .1 .0) (qs .1 .0)) (List._∷_ (Row.lease (κs .1 .1 .0) (qs .1 .1 .0)) (List._∷_ (Row.lease
+              (κs .1 .1 .1 .0) (qs .1 .1 .1 .0)) (List._∷_ Row.off (List._∷_ Row.off (List._∷_ Row.off List.[]))))));
+        }
 
         abbrev G80 : Row.Cx
-        G80 = record
-            { locals = List._++_ t2 t11; slots = List._∷_ (Row.lease (κs .0) (qs .0)) (List._∷_ (Row.lease (κs .1 .0) (qs .1 .0)) (List._∷_ (Row.lease (κs .1 .1 .0) (qs .1 .1 .0)) (List._∷_ (Row.lease (κs
-            .1 .1 .1 .0) (qs .1 .1 .1 .0)) (List._∷_ Row.off (List._∷_ Row.off (List._∷_ Row.off List.[])))))); }
+        G80 = record {
+          locals = List._++_ t2 t11;
+          slots = List._∷_ (Row.lease (κs .0) (qs .0)) (List._∷_ (Row.lease (κs .1 .0) (qs .1 .0)) (List._∷_ (Row.lease (κs .1 .1 .0) (qs .1 .1 .0)) (List._∷_ (Row.lease (κs
+              .1 .1 .1 .0) (qs .1 .1 .1 .0)) (List._∷_ Row.off (List._∷_ Row.off (List._∷_ Row.off List.[]))))));
+        }
 
         abbrev G81 : Row.Cx
-        G81 = record
-            { locals = List._++_ t2 t1; slots = List._∷_ (Row.lease (κs .0) (qs .0)) (List._∷_ (Row.lease (κs .1 .0) (qs .1 .0)) (List._∷_ (Row.lease (κs .1 .1 .0) (qs .1 .1 .0)) (List._∷_ (Row.lease (κs
-            .1 .1 .1 .0) (qs .1 .1 .1 .0)) (List._∷_ Row.off (List._∷_ Row.off (List._∷_ Row.off List.[])))))); }
+        G81 = record {
+          locals = List._++_ t2 t1;
+          slots = List._∷_ (Row.lease (κs .0) (qs .0)) (List._∷_ (Row.lease (κs .1 .0) (qs .1 .0)) (List._∷_ (Row.lease (κs .1 .1 .0) (qs .1 .1 .0)) (List._∷_ (Row.lease (κs
+              .1 .1 .1 .0) (qs .1 .1 .1 .0)) (List._∷_ Row.off (List._∷_ Row.off (List._∷_ Row.off List.[]))))));
+        }
 
         abbrev Δ0 : Typed.Outs
         Δ0 = record { next = Option.none; exits = List.[]; returns = Option.some G1 }
@@ -2220,15 +2628,29 @@ module _ (claims· : Claims) where
               (Typed.pass T24 T25 s22) (Typed.g-post 𝓤 H A W 𝓣 E G22 G23 G24 b7 (Typed.both s20) (Typed.pass T23 T24 s21) (Plain.t-call-plain 𝓤 H A W 𝓣 0 ps·2 r·2 (claims· .4) (claims· .5)
               "block::sharing::handed_back" (known .2) E (λ pos β. β) G22
               (record { pos = 1; st = List.[]; d = 0; at = λ x. x }, (record { pos = 10; st = List.[]; d = 0; at = λ x. x }, (record { pos = 20; st = List.[]; d = 0; at = λ x. x }, tt))) 19 List.[]
-              (Call.sub-id 𝓤 H A W (G22 .slots))
-              ((Yields.yields-copy 𝓤 H A W (λ ρ. Unit) (Declared.row Camera.the-type) Path'.refl (Copies.cEnum Camera.the-type Laws'3.the-laws Laws'3.the-copy .copy 𝓤 H A W) (Rows'.whole (Declared.row
-              Camera.the-type)) (λ x. x) (λ x. x) (λ ρ told. Local.mem-whole 𝓤 H A W (Declared.row Camera.the-type) ρ) λ ρ told. Local.whole-mem 𝓤 H A W (Declared.row Camera.the-type) ρ, Path'.refl),
-              ((Yields.yields-copy 𝓤 H A W (λ ρ. Unit) (Declared'.row Entries.the-type) Path'.refl (Copies.cStruct Entries.the-type Laws'4.the-laws Laws'4.the-copy .copy 𝓤 H A W) (Rows'.whole
-              (Declared'.row Entries.the-type)) (λ x. x) (λ x. x) (λ ρ told. Local.mem-whole 𝓤 H A W (Declared'.row Entries.the-type) ρ) λ ρ told. Local.whole-mem 𝓤 H A W (Declared'.row Entries.the-type)
-              ρ, Path'.refl),
-              ((Yields.yields-copy 𝓤 H A W (λ ρ. Unit) (Declared.row Decoded.the-type) Path'.refl (Copies.cEnum Decoded.the-type Laws'.the-laws Laws'.the-copy .copy 𝓤 H A W) (Rows'.whole (Declared.row
-              Decoded.the-type)) (λ x. x) (λ x. x) (λ ρ told. Local.mem-whole 𝓤 H A W (Declared.row Decoded.the-type) ρ) λ ρ told. Local.whole-mem 𝓤 H A W (Declared.row Decoded.the-type) ρ, Path'.refl),
-              tt))) (Reads'.room-gone 𝓤 H A y7) tt Path'.refl) (Scalar.g-room 𝓤 H A W E G23 1 (Syntax.tyEnum (List._∷_ 99 (List._∷_ 97 (List._∷_ 109 (List._∷_ 101 (List._∷_ 114 (List._∷_ 97 (List._∷_ 115
+              (Call.sub-id 𝓤 H A W (G22 .slots)) (
+                (
+                  Yields.yields-copy 𝓤 H A W (λ ρ. Unit) (Declared.row Camera.the-type) Path'.refl (Copies.cEnum Camera.the-type Laws'3.the-laws Laws'3.the-copy .copy 𝓤 H A W) (Rows'.whole (Declared.row
+                      Camera.the-type)) (λ x. x) (λ x. x) (λ ρ told. Local.mem-whole 𝓤 H A W (Declared.row Camera.the-type) ρ) λ ρ told. Local.whole-mem 𝓤 H A W (Declared.row Camera.the-type) ρ,
+                  Path'.refl,
+                ),
+                (
+                  (
+                    Yields.yields-copy 𝓤 H A W (λ ρ. Unit) (Declared'.row Entries.the-type) Path'.refl (Copies.cStruct Entries.the-type Laws'4.the-laws Laws'4.the-copy .copy 𝓤 H A W) (Rows'.whole
+                        (Declared'.row Entries.the-type)) (λ x. x) (λ x. x) (λ ρ told. Local.mem-whole 𝓤 H A W (Declared'.row Entries.the-type) ρ) λ ρ told. Local.whole-mem 𝓤 H A W (Declared'.row Entries.the-type)
+                        ρ,
+                    Path'.refl,
+                  ),
+                  (
+                    (
+                      Yields.yields-copy 𝓤 H A W (λ ρ. Unit) (Declared.row Decoded.the-type) Path'.refl (Copies.cEnum Decoded.the-type Laws'.the-laws Laws'.the-copy .copy 𝓤 H A W) (Rows'.whole (Declared.row
+                          Decoded.the-type)) (λ x. x) (λ x. x) (λ ρ told. Local.mem-whole 𝓤 H A W (Declared.row Decoded.the-type) ρ) λ ρ told. Local.whole-mem 𝓤 H A W (Declared.row Decoded.the-type) ρ,
+                      Path'.refl,
+                    ),
+                    tt,
+                  ),
+                ),
+              ) (Reads'.room-gone 𝓤 H A y7) tt Path'.refl) (Scalar.g-room 𝓤 H A W E G23 1 (Syntax.tyEnum (List._∷_ 99 (List._∷_ 97 (List._∷_ 109 (List._∷_ 101 (List._∷_ 114 (List._∷_ 97 (List._∷_ 115
               (List._∷_ 58 (List._∷_ 58 (List._∷_ 67 (List._∷_ 97 (List._∷_ 109 (List._∷_ 101 (List._∷_ 114 (List._∷_ 97 List.[]))))))))))))))) (Syntax.ttcons Syntax.tnil (Syntax.ttcons Syntax.tnil
               Syntax.ttnil))) (Local.room-whole 𝓤 H A W (Declared.row Camera.the-type) (Syntax.tyEnum (List._∷_ 99 (List._∷_ 97 (List._∷_ 109 (List._∷_ 101 (List._∷_ 114 (List._∷_ 97 (List._∷_ 115
               (List._∷_ 58 (List._∷_ 58 (List._∷_ 67 (List._∷_ 97 (List._∷_ 109 (List._∷_ 101 (List._∷_ 114 (List._∷_ 97 List.[]))))))))))))))) (Syntax.ttcons Syntax.tnil (Syntax.ttcons Syntax.tnil
@@ -2289,42 +2711,100 @@ module _ (claims· : Claims) where
               (Syntax.tyInt Syntax.w64) Syntax.tnil) (Syntax.ttcons (Syntax.tcons (Syntax.tyInt Syntax.w64) Syntax.tnil) (Syntax.ttcons (Syntax.tcons (Syntax.tyInt Syntax.w64) Syntax.tnil) (Syntax.ttcons
               (Syntax.tcons (Syntax.tyInt Syntax.w64) (Syntax.tcons (Syntax.tyInt Syntax.w64) Syntax.tnil)) (Syntax.ttcons Syntax.tnil Syntax.ttnil))))))))))))))))))))))) Syntax.tnil) Syntax.ttnil))))
               (tt, ((Whole.reads-enum 𝓤 H A W Refusal.the-type Laws'7.the-laws, Path'.refl), tt)) Path'.refl (λ m wa. Make.made-val Decoded.the-type Laws'.the-laws (List._∷_ (Laws'8.val Refusal.the-type
-              Laws'7.the-laws (m .1 .1 .1 .1 .1 .1 .1 .1 .1 .1 .1 .0)) List.[]) (Decoded.enum .make (Logic.inr (Logic.inl (m .1 .1 .1 .1 .1 .1 .1 .1 .1 .1 .1 .0, tt))))
-              (Signed.made-wt Refusal.the-field Laws'7.the-field-laws (Whole.enum-wt Refusal.the-type Laws'7.the-laws
-              (tt,
-              (tt,
-              (tt,
-              ((Make'.u64-wt, tt),
-              (tt,
-              (tt,
-              (tt,
-              (tt,
-              (tt,
-              (tt,
-              ((Make'.u64-wt, tt),
-              ((Make'.u64-wt, tt),
-              (tt,
-              ((Make'.u64-wt, (Make'.u64-wt, tt)),
-              ((Make'.u64-wt, tt), (tt, (tt, ((Make'.u64-wt, tt), ((Make'.u64-wt, tt), ((Make'.u64-wt, tt), ((Make'.u64-wt, (Make'.u64-wt, tt)), (tt, tt))))))))))))))))))))))) (Refusal.the-type .to (m .1
-              .1 .1 .1 .1 .1 .1 .1 .1 .1 .1 .0)), tt) (wa .1)) λ m wa. Make.made-is Decoded.the-type Laws'.the-laws (List._∷_ (Laws'8.val Refusal.the-type Laws'7.the-laws (m .1 .1 .1 .1 .1 .1 .1 .1 .1 .1
-              .1 .0)) List.[]) (Decoded.enum .make (Logic.inr (Logic.inl (m .1 .1 .1 .1 .1 .1 .1 .1 .1 .1 .1 .0, tt))))
-              (Signed.made-wt Refusal.the-field Laws'7.the-field-laws (Whole.enum-wt Refusal.the-type Laws'7.the-laws
-              (tt,
-              (tt,
-              (tt,
-              ((Make'.u64-wt, tt),
-              (tt,
-              (tt,
-              (tt,
-              (tt,
-              (tt,
-              (tt,
-              ((Make'.u64-wt, tt),
-              ((Make'.u64-wt, tt),
-              (tt,
-              ((Make'.u64-wt, (Make'.u64-wt, tt)),
-              ((Make'.u64-wt, tt), (tt, (tt, ((Make'.u64-wt, tt), ((Make'.u64-wt, tt), ((Make'.u64-wt, tt), ((Make'.u64-wt, (Make'.u64-wt, tt)), (tt, tt))))))))))))))))))))))) (Refusal.the-type .to (m .1
-              .1 .1 .1 .1 .1 .1 .1 .1 .1 .1 .0)), tt) (wa .1)) d1
+              Laws'7.the-laws (m .1 .1 .1 .1 .1 .1 .1 .1 .1 .1 .1 .0)) List.[]) (Decoded.enum .make (Logic.inr (Logic.inl (m .1 .1 .1 .1 .1 .1 .1 .1 .1 .1 .1 .0, tt)))) (
+                Signed.made-wt Refusal.the-field Laws'7.the-field-laws (Whole.enum-wt Refusal.the-type Laws'7.the-laws (
+                  tt,
+                  (
+                    tt,
+                    (
+                      tt,
+                      (
+                        (Make'.u64-wt, tt),
+                        (
+                          tt,
+                          (
+                            tt,
+                            (
+                              tt,
+                              (
+                                tt,
+                                (
+                                  tt,
+                                  (
+                                    tt,
+                                    (
+                                      (Make'.u64-wt, tt),
+                                      (
+                                        (Make'.u64-wt, tt),
+                                        (
+                                          tt,
+                                          (
+                                            (Make'.u64-wt, (Make'.u64-wt, tt)),
+                                            ((Make'.u64-wt, tt), (tt, (tt, ((Make'.u64-wt, tt), ((Make'.u64-wt, tt), ((Make'.u64-wt, tt), ((Make'.u64-wt, (Make'.u64-wt, tt)), (tt, tt)))))))),
+                                          ),
+                                        ),
+                                      ),
+                                    ),
+                                  ),
+                                ),
+                              ),
+                            ),
+                          ),
+                        ),
+                      ),
+                    ),
+                  ),
+                )) (Refusal.the-type .to (m .1
+                    .1 .1 .1 .1 .1 .1 .1 .1 .1 .1 .0)),
+                tt,
+              ) (wa .1)) λ m wa. Make.made-is Decoded.the-type Laws'.the-laws (List._∷_ (Laws'8.val Refusal.the-type Laws'7.the-laws (m .1 .1 .1 .1 .1 .1 .1 .1 .1 .1
+              .1 .0)) List.[]) (Decoded.enum .make (Logic.inr (Logic.inl (m .1 .1 .1 .1 .1 .1 .1 .1 .1 .1 .1 .0, tt)))) (
+                Signed.made-wt Refusal.the-field Laws'7.the-field-laws (Whole.enum-wt Refusal.the-type Laws'7.the-laws (
+                  tt,
+                  (
+                    tt,
+                    (
+                      tt,
+                      (
+                        (Make'.u64-wt, tt),
+                        (
+                          tt,
+                          (
+                            tt,
+                            (
+                              tt,
+                              (
+                                tt,
+                                (
+                                  tt,
+                                  (
+                                    tt,
+                                    (
+                                      (Make'.u64-wt, tt),
+                                      (
+                                        (Make'.u64-wt, tt),
+                                        (
+                                          tt,
+                                          (
+                                            (Make'.u64-wt, (Make'.u64-wt, tt)),
+                                            ((Make'.u64-wt, tt), (tt, (tt, ((Make'.u64-wt, tt), ((Make'.u64-wt, tt), ((Make'.u64-wt, tt), ((Make'.u64-wt, (Make'.u64-wt, tt)), (tt, tt)))))))),
+                                          ),
+                                        ),
+                                      ),
+                                    ),
+                                  ),
+                                ),
+                              ),
+                            ),
+                          ),
+                        ),
+                      ),
+                    ),
+                  ),
+                )) (Refusal.the-type .to (m .1
+                    .1 .1 .1 .1 .1 .1 .1 .1 .1 .1 .0)),
+                tt,
+              ) (wa .1)) d1
 
           d3 : Typed.Typed 𝓤 H A 𝓣 E G19 b8 Δ1 at3
           d3 = Typed.g-pre 𝓤 H A W 𝓣 E G19 G20 b8 Δ1 (Typed.pass T19 T20 s17) at2 (Scalar.g-room 𝓤 H A W E G19 9 (Syntax.tyEnum (List._∷_ 98 (List._∷_ 101 (List._∷_ 103 (List._∷_ 105 (List._∷_ 110
@@ -2367,16 +2847,18 @@ module _ (claims· : Claims) where
               (Syntax.tcons (Syntax.tyInt Syntax.w64) (Syntax.tcons (Syntax.tyInt Syntax.w64) Syntax.tnil)) (Syntax.ttcons (Syntax.tcons (Syntax.tyInt Syntax.w64) Syntax.tnil) (Syntax.ttcons Syntax.tnil
               (Syntax.ttcons Syntax.tnil (Syntax.ttcons (Syntax.tcons (Syntax.tyInt Syntax.w64) Syntax.tnil) (Syntax.ttcons (Syntax.tcons (Syntax.tyInt Syntax.w64) Syntax.tnil) (Syntax.ttcons
               (Syntax.tcons (Syntax.tyInt Syntax.w64) Syntax.tnil) (Syntax.ttcons (Syntax.tcons (Syntax.tyInt Syntax.w64) (Syntax.tcons (Syntax.tyInt Syntax.w64) Syntax.tnil)) (Syntax.ttcons Syntax.tnil
-              Syntax.ttnil))))))))))))))))))))))))
-              (Match.reads-payload 𝓤 H A W Beginning.enum Laws.the-laws 0 Path'.refl Path'.refl (λ v. Val.vcons (Laws'8.val Refusal.the-type Laws'7.the-laws (v .0)) Val.vnil) (λ v. Path'.refl) 0
-              (Syntax.tyEnum (List._∷_ 115 (List._∷_ 116 (List._∷_ 114 (List._∷_ 101 (List._∷_ 97 (List._∷_ 109 (List._∷_ 58 (List._∷_ 58 (List._∷_ 82 (List._∷_ 101 (List._∷_ 102 (List._∷_ 117 (List._∷_
-              115 (List._∷_ 97 (List._∷_ 108 List.[]))))))))))))))) (Syntax.ttcons Syntax.tnil (Syntax.ttcons Syntax.tnil (Syntax.ttcons Syntax.tnil (Syntax.ttcons (Syntax.tcons (Syntax.tyInt Syntax.w64)
-              Syntax.tnil) (Syntax.ttcons Syntax.tnil (Syntax.ttcons Syntax.tnil (Syntax.ttcons Syntax.tnil (Syntax.ttcons Syntax.tnil (Syntax.ttcons Syntax.tnil (Syntax.ttcons Syntax.tnil (Syntax.ttcons
-              (Syntax.tcons (Syntax.tyInt Syntax.w64) Syntax.tnil) (Syntax.ttcons (Syntax.tcons (Syntax.tyInt Syntax.w64) Syntax.tnil) (Syntax.ttcons Syntax.tnil (Syntax.ttcons (Syntax.tcons (Syntax.tyInt
-              Syntax.w64) (Syntax.tcons (Syntax.tyInt Syntax.w64) Syntax.tnil)) (Syntax.ttcons (Syntax.tcons (Syntax.tyInt Syntax.w64) Syntax.tnil) (Syntax.ttcons Syntax.tnil (Syntax.ttcons Syntax.tnil
-              (Syntax.ttcons (Syntax.tcons (Syntax.tyInt Syntax.w64) Syntax.tnil) (Syntax.ttcons (Syntax.tcons (Syntax.tyInt Syntax.w64) Syntax.tnil) (Syntax.ttcons (Syntax.tcons (Syntax.tyInt Syntax.w64)
-              Syntax.tnil) (Syntax.ttcons (Syntax.tcons (Syntax.tyInt Syntax.w64) (Syntax.tcons (Syntax.tyInt Syntax.w64) Syntax.tnil)) (Syntax.ttcons Syntax.tnil Syntax.ttnil))))))))))))))))))))))) 8
-              Path'.refl, Path'.refl) Path'.refl (λ ρ m. Make'.tells-row 𝓤 H A W E ρ (Row.out 11 (G18 .locals)) m 9 (Laws'8.Fields (Declared.variants Beginning.the-type) (Laws'8.spellss (Beginning.enum
+              Syntax.ttnil)))))))))))))))))))))))) (
+                Match.reads-payload 𝓤 H A W Beginning.enum Laws.the-laws 0 Path'.refl Path'.refl (λ v. Val.vcons (Laws'8.val Refusal.the-type Laws'7.the-laws (v .0)) Val.vnil) (λ v. Path'.refl) 0
+                    (Syntax.tyEnum (List._∷_ 115 (List._∷_ 116 (List._∷_ 114 (List._∷_ 101 (List._∷_ 97 (List._∷_ 109 (List._∷_ 58 (List._∷_ 58 (List._∷_ 82 (List._∷_ 101 (List._∷_ 102 (List._∷_ 117 (List._∷_
+                    115 (List._∷_ 97 (List._∷_ 108 List.[]))))))))))))))) (Syntax.ttcons Syntax.tnil (Syntax.ttcons Syntax.tnil (Syntax.ttcons Syntax.tnil (Syntax.ttcons (Syntax.tcons (Syntax.tyInt Syntax.w64)
+                    Syntax.tnil) (Syntax.ttcons Syntax.tnil (Syntax.ttcons Syntax.tnil (Syntax.ttcons Syntax.tnil (Syntax.ttcons Syntax.tnil (Syntax.ttcons Syntax.tnil (Syntax.ttcons Syntax.tnil (Syntax.ttcons
+                    (Syntax.tcons (Syntax.tyInt Syntax.w64) Syntax.tnil) (Syntax.ttcons (Syntax.tcons (Syntax.tyInt Syntax.w64) Syntax.tnil) (Syntax.ttcons Syntax.tnil (Syntax.ttcons (Syntax.tcons (Syntax.tyInt
+                    Syntax.w64) (Syntax.tcons (Syntax.tyInt Syntax.w64) Syntax.tnil)) (Syntax.ttcons (Syntax.tcons (Syntax.tyInt Syntax.w64) Syntax.tnil) (Syntax.ttcons Syntax.tnil (Syntax.ttcons Syntax.tnil
+                    (Syntax.ttcons (Syntax.tcons (Syntax.tyInt Syntax.w64) Syntax.tnil) (Syntax.ttcons (Syntax.tcons (Syntax.tyInt Syntax.w64) Syntax.tnil) (Syntax.ttcons (Syntax.tcons (Syntax.tyInt Syntax.w64)
+                    Syntax.tnil) (Syntax.ttcons (Syntax.tcons (Syntax.tyInt Syntax.w64) (Syntax.tcons (Syntax.tyInt Syntax.w64) Syntax.tnil)) (Syntax.ttcons Syntax.tnil Syntax.ttnil))))))))))))))))))))))) 8
+                    Path'.refl,
+                Path'.refl,
+              ) Path'.refl (λ ρ m. Make'.tells-row 𝓤 H A W E ρ (Row.out 11 (G18 .locals)) m 9 (Laws'8.Fields (Declared.variants Beginning.the-type) (Laws'8.spellss (Beginning.enum
               .parts) Laws.the-laws) (Beginning.the-type .to (Known.at Beginning.enum 0 (m .1 .1 .1 .1 .1 .1 .1 .1 .1 .0)))) (Known.known-is 𝓤 H A W E Beginning.enum 0 Laws.the-laws ρ 9 (m .1 .1 .1 .1 .1
               .1 .1 .1 .1 .0))) (λ m k wa. Path'.refl) λ m k wa. k .0) d3
 
@@ -2401,15 +2883,29 @@ module _ (claims· : Claims) where
               (Typed.pass T33 T34 s31) (Typed.g-post 𝓤 H A W 𝓣 E G31 G32 G33 b11 (Typed.both s29) (Typed.pass T32 T33 s30) (Plain.t-call-plain 𝓤 H A W 𝓣 0 ps·2 r·2 (claims· .4) (claims· .5)
               "block::sharing::handed_back" (known .2) E (λ pos β. β) G31
               (record { pos = 1; st = List.[]; d = 0; at = λ x. x }, (record { pos = 10; st = List.[]; d = 0; at = λ x. x }, (record { pos = 21; st = List.[]; d = 0; at = λ x. x }, tt))) 19 List.[]
-              (Call.sub-id 𝓤 H A W (G31 .slots))
-              ((Yields.yields-copy 𝓤 H A W (λ ρ. Unit) (Declared.row Camera.the-type) Path'.refl (Copies.cEnum Camera.the-type Laws'3.the-laws Laws'3.the-copy .copy 𝓤 H A W) (Rows'.whole (Declared.row
-              Camera.the-type)) (λ x. x) (λ x. x) (λ ρ told. Local.mem-whole 𝓤 H A W (Declared.row Camera.the-type) ρ) λ ρ told. Local.whole-mem 𝓤 H A W (Declared.row Camera.the-type) ρ, Path'.refl),
-              ((Yields.yields-copy 𝓤 H A W (λ ρ. Unit) (Declared'.row Entries.the-type) Path'.refl (Copies.cStruct Entries.the-type Laws'4.the-laws Laws'4.the-copy .copy 𝓤 H A W) (Rows'.whole
-              (Declared'.row Entries.the-type)) (λ x. x) (λ x. x) (λ ρ told. Local.mem-whole 𝓤 H A W (Declared'.row Entries.the-type) ρ) λ ρ told. Local.whole-mem 𝓤 H A W (Declared'.row Entries.the-type)
-              ρ, Path'.refl),
-              ((Yields.yields-copy 𝓤 H A W (λ ρ. Unit) (Declared.row Decoded.the-type) Path'.refl (Copies.cEnum Decoded.the-type Laws'.the-laws Laws'.the-copy .copy 𝓤 H A W) (Rows'.whole (Declared.row
-              Decoded.the-type)) (λ x. x) (λ x. x) (λ ρ told. Local.mem-whole 𝓤 H A W (Declared.row Decoded.the-type) ρ) λ ρ told. Local.whole-mem 𝓤 H A W (Declared.row Decoded.the-type) ρ, Path'.refl),
-              tt))) (Reads'.room-gone 𝓤 H A y7) tt Path'.refl) (Scalar.g-room 𝓤 H A W E G32 1 (Syntax.tyEnum (List._∷_ 99 (List._∷_ 97 (List._∷_ 109 (List._∷_ 101 (List._∷_ 114 (List._∷_ 97 (List._∷_ 115
+              (Call.sub-id 𝓤 H A W (G31 .slots)) (
+                (
+                  Yields.yields-copy 𝓤 H A W (λ ρ. Unit) (Declared.row Camera.the-type) Path'.refl (Copies.cEnum Camera.the-type Laws'3.the-laws Laws'3.the-copy .copy 𝓤 H A W) (Rows'.whole (Declared.row
+                      Camera.the-type)) (λ x. x) (λ x. x) (λ ρ told. Local.mem-whole 𝓤 H A W (Declared.row Camera.the-type) ρ) λ ρ told. Local.whole-mem 𝓤 H A W (Declared.row Camera.the-type) ρ,
+                  Path'.refl,
+                ),
+                (
+                  (
+                    Yields.yields-copy 𝓤 H A W (λ ρ. Unit) (Declared'.row Entries.the-type) Path'.refl (Copies.cStruct Entries.the-type Laws'4.the-laws Laws'4.the-copy .copy 𝓤 H A W) (Rows'.whole
+                        (Declared'.row Entries.the-type)) (λ x. x) (λ x. x) (λ ρ told. Local.mem-whole 𝓤 H A W (Declared'.row Entries.the-type) ρ) λ ρ told. Local.whole-mem 𝓤 H A W (Declared'.row Entries.the-type)
+                        ρ,
+                    Path'.refl,
+                  ),
+                  (
+                    (
+                      Yields.yields-copy 𝓤 H A W (λ ρ. Unit) (Declared.row Decoded.the-type) Path'.refl (Copies.cEnum Decoded.the-type Laws'.the-laws Laws'.the-copy .copy 𝓤 H A W) (Rows'.whole (Declared.row
+                          Decoded.the-type)) (λ x. x) (λ x. x) (λ ρ told. Local.mem-whole 𝓤 H A W (Declared.row Decoded.the-type) ρ) λ ρ told. Local.whole-mem 𝓤 H A W (Declared.row Decoded.the-type) ρ,
+                      Path'.refl,
+                    ),
+                    tt,
+                  ),
+                ),
+              ) (Reads'.room-gone 𝓤 H A y7) tt Path'.refl) (Scalar.g-room 𝓤 H A W E G32 1 (Syntax.tyEnum (List._∷_ 99 (List._∷_ 97 (List._∷_ 109 (List._∷_ 101 (List._∷_ 114 (List._∷_ 97 (List._∷_ 115
               (List._∷_ 58 (List._∷_ 58 (List._∷_ 67 (List._∷_ 97 (List._∷_ 109 (List._∷_ 101 (List._∷_ 114 (List._∷_ 97 List.[]))))))))))))))) (Syntax.ttcons Syntax.tnil (Syntax.ttcons Syntax.tnil
               Syntax.ttnil))) (Local.room-whole 𝓤 H A W (Declared.row Camera.the-type) (Syntax.tyEnum (List._∷_ 99 (List._∷_ 97 (List._∷_ 109 (List._∷_ 101 (List._∷_ 114 (List._∷_ 97 (List._∷_ 115
               (List._∷_ 58 (List._∷_ 58 (List._∷_ 67 (List._∷_ 97 (List._∷_ 109 (List._∷_ 101 (List._∷_ 114 (List._∷_ 97 List.[]))))))))))))))) (Syntax.ttcons Syntax.tnil (Syntax.ttcons Syntax.tnil
@@ -2484,20 +2980,35 @@ module _ (claims· : Claims) where
               W 𝓣 E G74 G78 G79 b27 (λ Ψ. Typed.both s72 (Typed.pass T75 T76 s73 (Typed.pass T76 T77 s74 (Typed.pass T77 T78 s75 Ψ)))) (Typed.pass T78 T79 s76) (Typed.g-post 𝓤 H A W 𝓣 E G74 G77 G78 b27 (λ
               Ψ. Typed.both s72 (Typed.pass T75 T76 s73 (Typed.pass T76 T77 s74 Ψ))) (Typed.pass T77 T78 s75) (Typed.g-post 𝓤 H A W 𝓣 E G74 G76 G77 b27 (λ Ψ. Typed.both s72 (Typed.pass T75 T76 s73 Ψ))
               (Typed.pass T76 T77 s74) (Typed.g-post 𝓤 H A W 𝓣 E G74 G75 G76 b27 (Typed.both s72) (Typed.pass T75 T76 s73) (Plain.t-call-plain 𝓤 H A W 𝓣 0 ps·2 r·2 (claims· .4) (claims· .5)
-              "block::sharing::handed_back" (known .2) E (λ pos β. β) G74
-              (record { pos = 1; st = List.[]; d = 0; at = λ x. x },
-              (record { pos = 14; st = List._∷_ (Syntax.field 1) List.[]; d = 32; at = λ x. SharedAnswer.struct .as-values x .1 .0; }, (record { pos = 15; st = List.[]; d = 0; at = λ x. x }, tt))) 19
-              List.[] (Call.sub-id 𝓤 H A W (G74 .slots))
-              ((Yields.yields-copy 𝓤 H A W (λ ρ. Unit) (Declared.row Camera.the-type) Path'.refl (Copies.cEnum Camera.the-type Laws'3.the-laws Laws'3.the-copy .copy 𝓤 H A W) (Rows'.whole (Declared.row
-              Camera.the-type)) (λ x. x) (λ x. x) (λ ρ told. Local.mem-whole 𝓤 H A W (Declared.row Camera.the-type) ρ) λ ρ told. Local.whole-mem 𝓤 H A W (Declared.row Camera.the-type) ρ, Path'.refl),
-              ((Yields'.yields-acc 𝓤 H A W (Rows'.whole (Declared'.row SharedAnswer.the-type)) (Declared'.row Entries.the-type) 32 (λ x. SharedAnswer.struct .as-values x .1 .0) Path'.refl (Copies.cStruct
-              Entries.the-type Laws'4.the-laws Laws'4.the-copy .copy 𝓤 H A W) (Yields'.acc-record 𝓤 H A W (Rows'.whole (Declared'.row SharedAnswer.the-type)) Entries.the-type 32 (λ x. SharedAnswer.struct
-              .as-values x .1 .0) (Yields'.acc-part 𝓤 H A W (Rows'.whole (Declared'.row SharedAnswer.the-type)) (Declared'.row SharedAnswer.the-type) (Struct.Struct (Declared'.shape Entries.the-type)) 0
-              32 (λ x. x) (λ y. Entries.the-type .to (SharedAnswer.struct .as-values y .1 .0)) (Yields'.acc-whole 𝓤 H A W (Declared'.row SharedAnswer.the-type)) λ y a. Behind.look-at 𝓤 H A W
-              TreeShare.fullShare SharedAnswer.the-type Laws''.the-laws 1 32 Path'.refl Path'.refl a y (SharedAnswer.struct .as-values y) Path'.refl)), Path'.refl),
-              ((Yields.yields-copy 𝓤 H A W (λ ρ. Unit) (Declared.row Decoded.the-type) Path'.refl (Copies.cEnum Decoded.the-type Laws'.the-laws Laws'.the-copy .copy 𝓤 H A W) (Rows'.whole (Declared.row
-              Decoded.the-type)) (λ x. x) (λ x. x) (λ ρ told. Local.mem-whole 𝓤 H A W (Declared.row Decoded.the-type) ρ) λ ρ told. Local.whole-mem 𝓤 H A W (Declared.row Decoded.the-type) ρ, Path'.refl),
-              tt))) (Reads'.room-gone 𝓤 H A y7) tt Path'.refl) (Scalar.g-room 𝓤 H A W E G75 1 (Syntax.tyEnum (List._∷_ 99 (List._∷_ 97 (List._∷_ 109 (List._∷_ 101 (List._∷_ 114 (List._∷_ 97 (List._∷_ 115
+              "block::sharing::handed_back" (known .2) E (λ pos β. β) G74 (
+                record { pos = 1; st = List.[]; d = 0; at = λ x. x },
+                (record { pos = 14; st = List._∷_ (Syntax.field 1) List.[]; d = 32; at = λ x. SharedAnswer.struct .as-values x .1 .0 }, (record { pos = 15; st = List.[]; d = 0; at = λ x. x }, tt)),
+              ) 19
+              List.[] (Call.sub-id 𝓤 H A W (G74 .slots)) (
+                (
+                  Yields.yields-copy 𝓤 H A W (λ ρ. Unit) (Declared.row Camera.the-type) Path'.refl (Copies.cEnum Camera.the-type Laws'3.the-laws Laws'3.the-copy .copy 𝓤 H A W) (Rows'.whole (Declared.row
+                      Camera.the-type)) (λ x. x) (λ x. x) (λ ρ told. Local.mem-whole 𝓤 H A W (Declared.row Camera.the-type) ρ) λ ρ told. Local.whole-mem 𝓤 H A W (Declared.row Camera.the-type) ρ,
+                  Path'.refl,
+                ),
+                (
+                  (
+                    Yields'.yields-acc 𝓤 H A W (Rows'.whole (Declared'.row SharedAnswer.the-type)) (Declared'.row Entries.the-type) 32 (λ x. SharedAnswer.struct .as-values x .1 .0) Path'.refl (Copies.cStruct
+                        Entries.the-type Laws'4.the-laws Laws'4.the-copy .copy 𝓤 H A W) (Yields'.acc-record 𝓤 H A W (Rows'.whole (Declared'.row SharedAnswer.the-type)) Entries.the-type 32 (λ x. SharedAnswer.struct
+                        .as-values x .1 .0) (Yields'.acc-part 𝓤 H A W (Rows'.whole (Declared'.row SharedAnswer.the-type)) (Declared'.row SharedAnswer.the-type) (Struct.Struct (Declared'.shape Entries.the-type)) 0
+                        32 (λ x. x) (λ y. Entries.the-type .to (SharedAnswer.struct .as-values y .1 .0)) (Yields'.acc-whole 𝓤 H A W (Declared'.row SharedAnswer.the-type)) λ y a. Behind.look-at 𝓤 H A W
+                        TreeShare.fullShare SharedAnswer.the-type Laws''.the-laws 1 32 Path'.refl Path'.refl a y (SharedAnswer.struct .as-values y) Path'.refl)),
+                    Path'.refl,
+                  ),
+                  (
+                    (
+                      Yields.yields-copy 𝓤 H A W (λ ρ. Unit) (Declared.row Decoded.the-type) Path'.refl (Copies.cEnum Decoded.the-type Laws'.the-laws Laws'.the-copy .copy 𝓤 H A W) (Rows'.whole (Declared.row
+                          Decoded.the-type)) (λ x. x) (λ x. x) (λ ρ told. Local.mem-whole 𝓤 H A W (Declared.row Decoded.the-type) ρ) λ ρ told. Local.whole-mem 𝓤 H A W (Declared.row Decoded.the-type) ρ,
+                      Path'.refl,
+                    ),
+                    tt,
+                  ),
+                ),
+              ) (Reads'.room-gone 𝓤 H A y7) tt Path'.refl) (Scalar.g-room 𝓤 H A W E G75 1 (Syntax.tyEnum (List._∷_ 99 (List._∷_ 97 (List._∷_ 109 (List._∷_ 101 (List._∷_ 114 (List._∷_ 97 (List._∷_ 115
               (List._∷_ 58 (List._∷_ 58 (List._∷_ 67 (List._∷_ 97 (List._∷_ 109 (List._∷_ 101 (List._∷_ 114 (List._∷_ 97 List.[]))))))))))))))) (Syntax.ttcons Syntax.tnil (Syntax.ttcons Syntax.tnil
               Syntax.ttnil))) (Local.room-whole 𝓤 H A W (Declared.row Camera.the-type) (Syntax.tyEnum (List._∷_ 99 (List._∷_ 97 (List._∷_ 109 (List._∷_ 101 (List._∷_ 114 (List._∷_ 97 (List._∷_ 115
               (List._∷_ 58 (List._∷_ 58 (List._∷_ 67 (List._∷_ 97 (List._∷_ 109 (List._∷_ 101 (List._∷_ 114 (List._∷_ 97 List.[]))))))))))))))) (Syntax.ttcons Syntax.tnil (Syntax.ttcons Syntax.tnil
@@ -2544,17 +3055,19 @@ module _ (claims· : Claims) where
               Syntax.tnil) (Syntax.ttcons Syntax.tnil (Syntax.ttcons (Syntax.tcons (Syntax.tyInt Syntax.w64) (Syntax.tcons (Syntax.tyInt Syntax.w64) Syntax.tnil)) (Syntax.ttcons (Syntax.tcons
               (Syntax.tyInt Syntax.w64) Syntax.tnil) (Syntax.ttcons Syntax.tnil (Syntax.ttcons Syntax.tnil (Syntax.ttcons (Syntax.tcons (Syntax.tyInt Syntax.w64) Syntax.tnil) (Syntax.ttcons (Syntax.tcons
               (Syntax.tyInt Syntax.w64) Syntax.tnil) (Syntax.ttcons (Syntax.tcons (Syntax.tyInt Syntax.w64) Syntax.tnil) (Syntax.ttcons (Syntax.tcons (Syntax.tyInt Syntax.w64) (Syntax.tcons (Syntax.tyInt
-              Syntax.w64) Syntax.tnil)) (Syntax.ttcons Syntax.tnil Syntax.ttnil))))))))))))))))))))))) Syntax.tnil) Syntax.ttnil))))
-              (Reads.reads-field 𝓤 H A W SharedAnswer.the-type Laws''.the-laws 0 (Syntax.tyEnum (List._∷_ 98 (List._∷_ 108 (List._∷_ 111 (List._∷_ 99 (List._∷_ 107 (List._∷_ 58 (List._∷_ 58 (List._∷_ 68
-              (List._∷_ 101 (List._∷_ 99 (List._∷_ 111 (List._∷_ 100 (List._∷_ 101 (List._∷_ 100 List.[])))))))))))))) (Syntax.ttcons Syntax.tnil (Syntax.ttcons (Syntax.tcons (Syntax.tyEnum (List._∷_ 115
-              (List._∷_ 116 (List._∷_ 114 (List._∷_ 101 (List._∷_ 97 (List._∷_ 109 (List._∷_ 58 (List._∷_ 58 (List._∷_ 82 (List._∷_ 101 (List._∷_ 102 (List._∷_ 117 (List._∷_ 115 (List._∷_ 97 (List._∷_ 108
-              List.[]))))))))))))))) (Syntax.ttcons Syntax.tnil (Syntax.ttcons Syntax.tnil (Syntax.ttcons Syntax.tnil (Syntax.ttcons (Syntax.tcons (Syntax.tyInt Syntax.w64) Syntax.tnil) (Syntax.ttcons
-              Syntax.tnil (Syntax.ttcons Syntax.tnil (Syntax.ttcons Syntax.tnil (Syntax.ttcons Syntax.tnil (Syntax.ttcons Syntax.tnil (Syntax.ttcons Syntax.tnil (Syntax.ttcons (Syntax.tcons (Syntax.tyInt
-              Syntax.w64) Syntax.tnil) (Syntax.ttcons (Syntax.tcons (Syntax.tyInt Syntax.w64) Syntax.tnil) (Syntax.ttcons Syntax.tnil (Syntax.ttcons (Syntax.tcons (Syntax.tyInt Syntax.w64) (Syntax.tcons
-              (Syntax.tyInt Syntax.w64) Syntax.tnil)) (Syntax.ttcons (Syntax.tcons (Syntax.tyInt Syntax.w64) Syntax.tnil) (Syntax.ttcons Syntax.tnil (Syntax.ttcons Syntax.tnil (Syntax.ttcons (Syntax.tcons
-              (Syntax.tyInt Syntax.w64) Syntax.tnil) (Syntax.ttcons (Syntax.tcons (Syntax.tyInt Syntax.w64) Syntax.tnil) (Syntax.ttcons (Syntax.tcons (Syntax.tyInt Syntax.w64) Syntax.tnil) (Syntax.ttcons
-              (Syntax.tcons (Syntax.tyInt Syntax.w64) (Syntax.tcons (Syntax.tyInt Syntax.w64) Syntax.tnil)) (Syntax.ttcons Syntax.tnil Syntax.ttnil))))))))))))))))))))))) Syntax.tnil) Syntax.ttnil))) 0
-              Path'.refl, Path'.refl) Path'.refl (λ ρ m. Make'.tells-row 𝓤 H A W E ρ (Row.out 15 (G73 .locals)) m 14 (Laws'9.Is (Declared'.row SharedAnswer.the-type) (m .1 .1 .1 .1 .1 .1 .1 .1 .1 .1 .1 .1
+              Syntax.w64) Syntax.tnil)) (Syntax.ttcons Syntax.tnil Syntax.ttnil))))))))))))))))))))))) Syntax.tnil) Syntax.ttnil)))) (
+                Reads.reads-field 𝓤 H A W SharedAnswer.the-type Laws''.the-laws 0 (Syntax.tyEnum (List._∷_ 98 (List._∷_ 108 (List._∷_ 111 (List._∷_ 99 (List._∷_ 107 (List._∷_ 58 (List._∷_ 58 (List._∷_ 68
+                    (List._∷_ 101 (List._∷_ 99 (List._∷_ 111 (List._∷_ 100 (List._∷_ 101 (List._∷_ 100 List.[])))))))))))))) (Syntax.ttcons Syntax.tnil (Syntax.ttcons (Syntax.tcons (Syntax.tyEnum (List._∷_ 115
+                    (List._∷_ 116 (List._∷_ 114 (List._∷_ 101 (List._∷_ 97 (List._∷_ 109 (List._∷_ 58 (List._∷_ 58 (List._∷_ 82 (List._∷_ 101 (List._∷_ 102 (List._∷_ 117 (List._∷_ 115 (List._∷_ 97 (List._∷_ 108
+                    List.[]))))))))))))))) (Syntax.ttcons Syntax.tnil (Syntax.ttcons Syntax.tnil (Syntax.ttcons Syntax.tnil (Syntax.ttcons (Syntax.tcons (Syntax.tyInt Syntax.w64) Syntax.tnil) (Syntax.ttcons
+                    Syntax.tnil (Syntax.ttcons Syntax.tnil (Syntax.ttcons Syntax.tnil (Syntax.ttcons Syntax.tnil (Syntax.ttcons Syntax.tnil (Syntax.ttcons Syntax.tnil (Syntax.ttcons (Syntax.tcons (Syntax.tyInt
+                    Syntax.w64) Syntax.tnil) (Syntax.ttcons (Syntax.tcons (Syntax.tyInt Syntax.w64) Syntax.tnil) (Syntax.ttcons Syntax.tnil (Syntax.ttcons (Syntax.tcons (Syntax.tyInt Syntax.w64) (Syntax.tcons
+                    (Syntax.tyInt Syntax.w64) Syntax.tnil)) (Syntax.ttcons (Syntax.tcons (Syntax.tyInt Syntax.w64) Syntax.tnil) (Syntax.ttcons Syntax.tnil (Syntax.ttcons Syntax.tnil (Syntax.ttcons (Syntax.tcons
+                    (Syntax.tyInt Syntax.w64) Syntax.tnil) (Syntax.ttcons (Syntax.tcons (Syntax.tyInt Syntax.w64) Syntax.tnil) (Syntax.ttcons (Syntax.tcons (Syntax.tyInt Syntax.w64) Syntax.tnil) (Syntax.ttcons
+                    (Syntax.tcons (Syntax.tyInt Syntax.w64) (Syntax.tcons (Syntax.tyInt Syntax.w64) Syntax.tnil)) (Syntax.ttcons Syntax.tnil Syntax.ttnil))))))))))))))))))))))) Syntax.tnil) Syntax.ttnil))) 0
+                    Path'.refl,
+                Path'.refl,
+              ) Path'.refl (λ ρ m. Make'.tells-row 𝓤 H A W E ρ (Row.out 15 (G73 .locals)) m 14 (Laws'9.Is (Declared'.row SharedAnswer.the-type) (m .1 .1 .1 .1 .1 .1 .1 .1 .1 .1 .1 .1
               .1 .1 .0) (Laws'10.vals SharedAnswer.the-type Laws''.the-laws (m .1 .1 .1 .1 .1 .1 .1 .1 .1 .1 .1 .1 .1 .1 .0))) (Make'.whole-is 𝓤 H A W E (Declared'.row SharedAnswer.the-type) Path'.refl
               (Laws'10.val SharedAnswer.the-type Laws''.the-laws) (Laws'10.tells SharedAnswer.the-type Laws''.the-laws) ρ 14 (m .1 .1 .1 .1 .1 .1 .1 .1 .1 .1 .1 .1 .1 .1 .0))) (λ m k wa. Path'.refl) λ m k
               wa. Laws'10.owed SharedAnswer.the-type Laws''.the-laws (m .1 .1 .1 .1 .1 .1 .1 .1 .1 .1 .1 .1 .1 .1 .0) (Laws'10.vals SharedAnswer.the-type Laws''.the-laws (m .1 .1 .1 .1 .1 .1 .1 .1 .1 .1
@@ -2622,36 +3135,89 @@ module _ (claims· : Claims) where
 
           d32 : Typed.Typed 𝓤 H A 𝓣 E G57 b29 Δ1 at32
           d32 = Typed.s-seq 𝓤 H A W 𝓣 E G57 G58 b25 b28 Δ1 (Typed.both s55) at31 (Plain.t-call-plain 𝓤 H A W 𝓣 4 ps·4 r·4 (claims· .8) (claims· .9) "block::sharing::decode_shared_blocks" (known .4) E
-              (λ pos β. β) G57
-              (record { pos = 1; st = List.[]; d = 0; at = λ x. x },
-              (record { pos = 10; st = List.[]; d = 0; at = λ x. x },
-              (record { pos = 3; ty = Syntax.tyRef (Syntax.named 0) Syntax.imm (Syntax.tyInt Syntax.w8); ref = λ x. x; },
-              (record { pos = 12; st = List.[]; d = 0; at = λ x. x },
-              (record { pos = 4; st = List.[]; d = 0; at = λ x. x },
-              (record { pos = 5; st = List.[]; d = 0; at = λ x. x },
-              (record { pos = 23; ty = Syntax.tyRef Syntax.erased Syntax.mut (Syntax.tyInt Syntax.w16); ref = λ x. x; },
-              (record { pos = 27; ty = Syntax.tyRef Syntax.erased Syntax.mut (Syntax.tyInt Syntax.w16); ref = λ x. x; },
-              (record { pos = 31; ty = Syntax.tyRef Syntax.erased Syntax.mut Element.behind; ref = λ x. x; }, tt))))))))) 14 (List._∷_ 0 (List._∷_ 4 (List._∷_ 5 (List._∷_ 6 List.[])))) (Call.sub-id 𝓤 H A
-              W (G57 .slots))
-              ((Yields.yields-copy 𝓤 H A W (λ ρ. Unit) (Declared.row Camera.the-type) Path'.refl (Copies.cEnum Camera.the-type Laws'3.the-laws Laws'3.the-copy .copy 𝓤 H A W) (Rows'.whole (Declared.row
-              Camera.the-type)) (λ x. x) (λ x. x) (λ ρ told. Local.mem-whole 𝓤 H A W (Declared.row Camera.the-type) ρ) λ ρ told. Local.whole-mem 𝓤 H A W (Declared.row Camera.the-type) ρ, Path'.refl),
-              ((Yields.yields-copy 𝓤 H A W (λ ρ. Unit) (Declared'.row Entries.the-type) Path'.refl (Copies.cStruct Entries.the-type Laws'4.the-laws Laws'4.the-copy .copy 𝓤 H A W) (Rows'.whole
-              (Declared'.row Entries.the-type)) (λ x. x) (λ x. x) (λ ρ told. Local.mem-whole 𝓤 H A W (Declared'.row Entries.the-type) ρ) λ ρ told. Local.whole-mem 𝓤 H A W (Declared'.row Entries.the-type)
-              ρ, Path'.refl),
-              (ShrSlice.spares-sslice 𝓤 H A W (Referent.rtF (Referent.fInt Syntax.w8)) (Syntax.tyRef (Syntax.named 0) Syntax.imm (Syntax.tyInt Syntax.w8)) 0, Shared.reads-sslice 𝓤 H A W (Referent.rtF
-              (Referent.fInt Syntax.w8)) (Syntax.tyRef (Syntax.named 0) Syntax.imm (Syntax.tyInt Syntax.w8)) 0, Path'.refl,
-              ((Yields.yields-copy 𝓤 H A W (λ ρ. Unit) (Declared'.row FujiHeader.the-type) Path'.refl (Copies.cStruct FujiHeader.the-type Laws'6.the-laws Laws'6.the-copy .copy 𝓤 H A W) (Rows'.whole
-              (Declared'.row FujiHeader.the-type)) (λ x. x) (λ x. x) (λ ρ told. Local.mem-whole 𝓤 H A W (Declared'.row FujiHeader.the-type) ρ) λ ρ told. Local.whole-mem 𝓤 H A W (Declared'.row
-              FujiHeader.the-type) ρ, Path'.refl),
-              ((Yields.yields-copy 𝓤 H A W (λ ρ. Unit) (Declared'.row Rect.the-type) Path'.refl (Copies.cStruct Rect.the-type Laws'5.the-laws Laws'5.the-copy .copy 𝓤 H A W) (Rows'.whole (Declared'.row
-              Rect.the-type)) (λ x. x) (λ x. x) (λ ρ told. Local.mem-whole 𝓤 H A W (Declared'.row Rect.the-type) ρ) λ ρ told. Local.whole-mem 𝓤 H A W (Declared'.row Rect.the-type) ρ, Path'.refl),
-              ((Array.arr-yields 𝓤 H A W (Array.eInt Syntax.w8) (Array.eInt-laws Syntax.w8) 36, Path'.refl),
-              (Reads'.as-is 𝓤 H A (Mut.mslice (Referent.rtF (Referent.fInt Syntax.w16)) (Syntax.tyRef Syntax.erased Syntax.mut (Syntax.tyInt Syntax.w16)) 4), Mut.reads-mslice 𝓤 H A W (Referent.rtF
-              (Referent.fInt Syntax.w16)) (Syntax.tyRef Syntax.erased Syntax.mut (Syntax.tyInt Syntax.w16)) 4, Path'.refl,
-              (Reads'.as-is 𝓤 H A (Mut.mslice (Referent.rtF (Referent.fInt Syntax.w16)) (Syntax.tyRef Syntax.erased Syntax.mut (Syntax.tyInt Syntax.w16)) 5), Mut.reads-mslice 𝓤 H A W (Referent.rtF
-              (Referent.fInt Syntax.w16)) (Syntax.tyRef Syntax.erased Syntax.mut (Syntax.tyInt Syntax.w16)) 5, Path'.refl,
-              (Reads'.as-is 𝓤 H A (Mut.mslice (Element.type) (Syntax.tyRef Syntax.erased Syntax.mut Element.behind) 6), Mut.reads-mslice 𝓤 H A W (Element.type) (Syntax.tyRef Syntax.erased Syntax.mut
-              Element.behind) 6, Path'.refl, tt))))))))) (Reads'.room-gone 𝓤 H A y7) (tt, (tt, (tt, (tt, tt)))) Path'.refl) d31
+              (λ pos β. β) G57 (
+                record { pos = 1; st = List.[]; d = 0; at = λ x. x },
+                (
+                  record { pos = 10; st = List.[]; d = 0; at = λ x. x },
+                  (
+                    record { pos = 3; ty = Syntax.tyRef (Syntax.named 0) Syntax.imm (Syntax.tyInt Syntax.w8); ref = λ x. x },
+                    (
+                      record { pos = 12; st = List.[]; d = 0; at = λ x. x },
+                      (
+                        record { pos = 4; st = List.[]; d = 0; at = λ x. x },
+                        (
+                          record { pos = 5; st = List.[]; d = 0; at = λ x. x },
+                          (
+                            record { pos = 23; ty = Syntax.tyRef Syntax.erased Syntax.mut (Syntax.tyInt Syntax.w16); ref = λ x. x },
+                            (
+                              record { pos = 27; ty = Syntax.tyRef Syntax.erased Syntax.mut (Syntax.tyInt Syntax.w16); ref = λ x. x },
+                              (record { pos = 31; ty = Syntax.tyRef Syntax.erased Syntax.mut Element.behind; ref = λ x. x }, tt),
+                            ),
+                          ),
+                        ),
+                      ),
+                    ),
+                  ),
+                ),
+              ) 14 (List._∷_ 0 (List._∷_ 4 (List._∷_ 5 (List._∷_ 6 List.[])))) (Call.sub-id 𝓤 H A
+              W (G57 .slots)) (
+                (
+                  Yields.yields-copy 𝓤 H A W (λ ρ. Unit) (Declared.row Camera.the-type) Path'.refl (Copies.cEnum Camera.the-type Laws'3.the-laws Laws'3.the-copy .copy 𝓤 H A W) (Rows'.whole (Declared.row
+                      Camera.the-type)) (λ x. x) (λ x. x) (λ ρ told. Local.mem-whole 𝓤 H A W (Declared.row Camera.the-type) ρ) λ ρ told. Local.whole-mem 𝓤 H A W (Declared.row Camera.the-type) ρ,
+                  Path'.refl,
+                ),
+                (
+                  (
+                    Yields.yields-copy 𝓤 H A W (λ ρ. Unit) (Declared'.row Entries.the-type) Path'.refl (Copies.cStruct Entries.the-type Laws'4.the-laws Laws'4.the-copy .copy 𝓤 H A W) (Rows'.whole
+                        (Declared'.row Entries.the-type)) (λ x. x) (λ x. x) (λ ρ told. Local.mem-whole 𝓤 H A W (Declared'.row Entries.the-type) ρ) λ ρ told. Local.whole-mem 𝓤 H A W (Declared'.row Entries.the-type)
+                        ρ,
+                    Path'.refl,
+                  ),
+                  (
+                    ShrSlice.spares-sslice 𝓤 H A W (Referent.rtF (Referent.fInt Syntax.w8)) (Syntax.tyRef (Syntax.named 0) Syntax.imm (Syntax.tyInt Syntax.w8)) 0,
+                    Shared.reads-sslice 𝓤 H A W (Referent.rtF
+                        (Referent.fInt Syntax.w8)) (Syntax.tyRef (Syntax.named 0) Syntax.imm (Syntax.tyInt Syntax.w8)) 0,
+                    Path'.refl,
+                    (
+                      (
+                        Yields.yields-copy 𝓤 H A W (λ ρ. Unit) (Declared'.row FujiHeader.the-type) Path'.refl (Copies.cStruct FujiHeader.the-type Laws'6.the-laws Laws'6.the-copy .copy 𝓤 H A W) (Rows'.whole
+                            (Declared'.row FujiHeader.the-type)) (λ x. x) (λ x. x) (λ ρ told. Local.mem-whole 𝓤 H A W (Declared'.row FujiHeader.the-type) ρ) λ ρ told. Local.whole-mem 𝓤 H A W (Declared'.row
+                            FujiHeader.the-type) ρ,
+                        Path'.refl,
+                      ),
+                      (
+                        (
+                          Yields.yields-copy 𝓤 H A W (λ ρ. Unit) (Declared'.row Rect.the-type) Path'.refl (Copies.cStruct Rect.the-type Laws'5.the-laws Laws'5.the-copy .copy 𝓤 H A W) (Rows'.whole (Declared'.row
+                              Rect.the-type)) (λ x. x) (λ x. x) (λ ρ told. Local.mem-whole 𝓤 H A W (Declared'.row Rect.the-type) ρ) λ ρ told. Local.whole-mem 𝓤 H A W (Declared'.row Rect.the-type) ρ,
+                          Path'.refl,
+                        ),
+                        (
+                          (Array.arr-yields 𝓤 H A W (Array.eInt Syntax.w8) (Array.eInt-laws Syntax.w8) 36, Path'.refl),
+                          (
+                            Reads'.as-is 𝓤 H A (Mut.mslice (Referent.rtF (Referent.fInt Syntax.w16)) (Syntax.tyRef Syntax.erased Syntax.mut (Syntax.tyInt Syntax.w16)) 4),
+                            Mut.reads-mslice 𝓤 H A W (Referent.rtF
+                                (Referent.fInt Syntax.w16)) (Syntax.tyRef Syntax.erased Syntax.mut (Syntax.tyInt Syntax.w16)) 4,
+                            Path'.refl,
+                            (
+                              Reads'.as-is 𝓤 H A (Mut.mslice (Referent.rtF (Referent.fInt Syntax.w16)) (Syntax.tyRef Syntax.erased Syntax.mut (Syntax.tyInt Syntax.w16)) 5),
+                              Mut.reads-mslice 𝓤 H A W (Referent.rtF
+                                  (Referent.fInt Syntax.w16)) (Syntax.tyRef Syntax.erased Syntax.mut (Syntax.tyInt Syntax.w16)) 5,
+                              Path'.refl,
+                              (
+                                Reads'.as-is 𝓤 H A (Mut.mslice (Element.type) (Syntax.tyRef Syntax.erased Syntax.mut Element.behind) 6),
+                                Mut.reads-mslice 𝓤 H A W (Element.type) (Syntax.tyRef Syntax.erased Syntax.mut
+                                    Element.behind) 6,
+                                Path'.refl,
+                                tt,
+                              ),
+                            ),
+                          ),
+                        ),
+                      ),
+                    ),
+                  ),
+                ),
+              ) (Reads'.room-gone 𝓤 H A y7) (tt, (tt, (tt, (tt, tt)))) Path'.refl) d31
 
           d33 : Typed.Typed 𝓤 H A 𝓣 E G56 b29 Δ1 at33
           d33 = Typed.g-pre 𝓤 H A W 𝓣 E G56 G57 b29 Δ1 (Typed.pass T56 T57 s54) at32 (Scalar.g-room 𝓤 H A W E G56 29 (Syntax.tyInt Syntax.w64) (Scalar.room-sc 𝓤 H A W (Row.sInt Syntax.w64))) d32
@@ -2672,12 +3238,19 @@ module _ (claims· : Claims) where
               (Reads'.room-gone 𝓤 H A (Syntax.tyRef Syntax.erased Syntax.mut Element.behind)) Path'.refl tt Path'.refl Path'.refl λ b o. tt) d35
 
           d37 : Typed.Typed 𝓤 H A 𝓣 E G52 b31 Δ1 at37
-          d37 = Typed.g-pre 𝓤 H A W 𝓣 E G52 G53 b31 Δ1 (λ Ψ. Ψ) at36 (Lifetime.g-begin 𝓤 H A W E G52 6
-              (tt,
-              (tt,
-              (tt,
-              (tt,
-              (tt, (tt, ((tt, tt), ((tt, tt), (tt, (tt, (tt, (tt, (tt, (tt, (tt, (tt, (tt, (tt, (tt, (tt, (tt, (tt, (tt, (tt, (tt, (tt, (tt, (tt, (tt, (tt, (tt, (tt, tt)))))))))))))))))))))))))))))))))
+          d37 = Typed.g-pre 𝓤 H A W 𝓣 E G52 G53 b31 Δ1 (λ Ψ. Ψ) at36 (Lifetime.g-begin 𝓤 H A W E G52 6 (
+            tt,
+            (
+              tt,
+              (
+                tt,
+                (
+                  tt,
+                  (tt, (tt, ((tt, tt), ((tt, tt), (tt, (tt, (tt, (tt, (tt, (tt, (tt, (tt, (tt, (tt, (tt, (tt, (tt, (tt, (tt, (tt, (tt, (tt, (tt, (tt, (tt, (tt, (tt, (tt, tt)))))))))))))))))))))))))))),
+                ),
+              ),
+            ),
+          ))
               d36
 
           d38 : Typed.Typed 𝓤 H A 𝓣 E G51 b32 Δ1 at38
@@ -2711,11 +3284,16 @@ module _ (claims· : Claims) where
               (Syntax.tyInt Syntax.w16))) Path'.refl tt Path'.refl Path'.refl λ b o. tt) d42
 
           d44 : Typed.Typed 𝓤 H A 𝓣 E G45 b35 Δ1 at44
-          d44 = Typed.g-pre 𝓤 H A W 𝓣 E G45 G46 b35 Δ1 (λ Ψ. Ψ) at43 (Lifetime.g-begin 𝓤 H A W E G45 5
-              (tt,
-              (tt,
-              (tt,
-              (tt, (tt, (tt, ((tt, tt), (tt, (tt, (tt, (tt, (tt, (tt, (tt, (tt, (tt, (tt, (tt, (tt, (tt, (tt, (tt, (tt, (tt, (tt, (tt, (tt, (tt, (tt, (tt, (tt, (tt, tt))))))))))))))))))))))))))))))))) d43
+          d44 = Typed.g-pre 𝓤 H A W 𝓣 E G45 G46 b35 Δ1 (λ Ψ. Ψ) at43 (Lifetime.g-begin 𝓤 H A W E G45 5 (
+            tt,
+            (
+              tt,
+              (
+                tt,
+                (tt, (tt, (tt, ((tt, tt), (tt, (tt, (tt, (tt, (tt, (tt, (tt, (tt, (tt, (tt, (tt, (tt, (tt, (tt, (tt, (tt, (tt, (tt, (tt, (tt, (tt, (tt, (tt, (tt, (tt, tt))))))))))))))))))))))))))))),
+              ),
+            ),
+          )) d43
 
           d45 : Typed.Typed 𝓤 H A 𝓣 E G44 b36 Δ1 at45
           d45 = Typed.s-seq 𝓤 H A W 𝓣 E G44 G45 b18 b35 Δ1 (Typed.ask s42) at44 (Scalar.t-op2 𝓤 H A W E 𝓣 G44 (Syntax.sub Syntax.unsigned) (Scalar.oAt 13 (Syntax.tyInt Syntax.w64) (Row.valS (Row.sInt
@@ -2733,9 +3311,11 @@ module _ (claims· : Claims) where
           d47 = Typed.s-seq 𝓤 H A W 𝓣 E G42 G43 b16 b37 Δ1 (Typed.ask s40) at46 (Relend.t-sl-aggregate 𝓤 H A W E (Referent.rtF (Referent.fInt Syntax.w16)) 𝓣 (Relend.asMut (Referent.rtF (Referent.fInt
               Syntax.w16))) G42 22 23 4 (Syntax.tyRef Syntax.erased Syntax.mut (Syntax.tyInt Syntax.w16)) (Syntax.tyRef Syntax.erased Syntax.mut (Syntax.tyInt Syntax.w16)) (λ x. x) (Scalar.oFld 6
               (List._∷_ (Syntax.field 1) List.[]) (Syntax.tyInt Syntax.w64) 8 λ v. Shared.lenV (v .0)) (Reads'.as-is 𝓤 H A (Relend.msptr (Referent.rtF (Referent.fInt Syntax.w16)) (Syntax.tyRef
-              Syntax.erased Syntax.mut (Syntax.tyInt Syntax.w16)) 4)) (Reads'.room-gone 𝓤 H A y3)
-              (Relend.reads-owed-len 𝓤 H A W (Referent.rtF (Referent.fInt Syntax.w16)) (Syntax.tyRef (Syntax.named 1) Syntax.mut (Syntax.tyInt Syntax.w16)) 1 4 (Row.lease (κs .1 .0) (qs .1 .0)) 8
-              Path'.refl, Path'.refl) Path'.refl Path'.refl λ b o k. tt) d46
+              Syntax.erased Syntax.mut (Syntax.tyInt Syntax.w16)) 4)) (Reads'.room-gone 𝓤 H A y3) (
+                Relend.reads-owed-len 𝓤 H A W (Referent.rtF (Referent.fInt Syntax.w16)) (Syntax.tyRef (Syntax.named 1) Syntax.mut (Syntax.tyInt Syntax.w16)) 1 4 (Row.lease (κs .1 .0) (qs .1 .0)) 8
+                    Path'.refl,
+                Path'.refl,
+              ) Path'.refl Path'.refl λ b o k. tt) d46
 
           d48 : Typed.Typed 𝓤 H A 𝓣 E G41 b39 Δ1 at48
           d48 = Typed.s-seq 𝓤 H A W 𝓣 E G41 G42 b15 b38 Δ1 (Typed.give s39) at47 (Relend.t-sl-relend 𝓤 H A W E (Referent.rtF (Referent.fInt Syntax.w16)) 𝓣 G41 6 22 1 4 (Syntax.tyRef (Syntax.named 1)
@@ -2744,9 +3324,10 @@ module _ (claims· : Claims) where
               (Syntax.tyInt Syntax.w16))) Path'.refl tt Path'.refl Path'.refl Path'.refl λ b o. tt) d47
 
           d49 : Typed.Typed 𝓤 H A 𝓣 E G40 b39 Δ1 at49
-          d49 = Typed.g-pre 𝓤 H A W 𝓣 E G40 G41 b39 Δ1 (λ Ψ. Ψ) at48 (Lifetime.g-begin 𝓤 H A W E G40 4
-              (tt,
-              (tt, (tt, (tt, (tt, (tt, (tt, (tt, (tt, (tt, (tt, (tt, (tt, (tt, (tt, (tt, (tt, (tt, (tt, (tt, (tt, (tt, (tt, (tt, (tt, (tt, (tt, (tt, (tt, (tt, (tt, (tt, tt)))))))))))))))))))))))))))))))))
+          d49 = Typed.g-pre 𝓤 H A W 𝓣 E G40 G41 b39 Δ1 (λ Ψ. Ψ) at48 (Lifetime.g-begin 𝓤 H A W E G40 4 (
+            tt,
+            (tt, (tt, (tt, (tt, (tt, (tt, (tt, (tt, (tt, (tt, (tt, (tt, (tt, (tt, (tt, (tt, (tt, (tt, (tt, (tt, (tt, (tt, (tt, (tt, (tt, (tt, (tt, (tt, (tt, (tt, (tt, tt))))))))))))))))))))))))))))))),
+          ))
               d48
 
           d50 : Typed.Typed 𝓤 H A 𝓣 E G39 b40 Δ1 at50
@@ -2781,9 +3362,11 @@ module _ (claims· : Claims) where
               FujiHeader.the-type Laws'6.the-laws) (Laws'10.lawful FujiHeader.the-type Laws'6.the-laws 𝓤 H A W) (Laws'10.makes FujiHeader.the-type Laws'6.the-plain 𝓤 H A) G37 12 (Scalar.oFld 9 (List._∷_
               (Syntax.variant 2) (List._∷_ (Syntax.field 1) List.[])) y2 4 λ v. Laws'10.val FujiHeader.the-type Laws'6.the-laws (v .0)) (λ m. m .1 .1 .1 .1 .1 .1 .1 .1 .1 .0 .0) (λ m. Laws'8.Fields
               (Declared.variants Beginning.the-type) (Laws'8.spellss (Beginning.enum .parts) Laws.the-laws) (Beginning.the-type .to (Known.at Beginning.enum 2 (m .1 .1 .1 .1 .1 .1 .1 .1 .1 .0))))
-              (Reads'.room-gone 𝓤 H A y2)
-              (Match.reads-payload 𝓤 H A W Beginning.enum Laws.the-laws 2 Path'.refl Path'.refl (λ v. Val.vcons (Laws'10.val FujiHeader.the-type Laws'6.the-laws (v .0)) Val.vnil) (λ v. Path'.refl) 0 y2 4
-              Path'.refl, Path'.refl) Path'.refl (λ ρ m. Make'.tells-row 𝓤 H A W E ρ (Row.out 12 (G37 .locals)) m 9 (Laws'8.Fields (Declared.variants Beginning.the-type) (Laws'8.spellss (Beginning.enum
+              (Reads'.room-gone 𝓤 H A y2) (
+                Match.reads-payload 𝓤 H A W Beginning.enum Laws.the-laws 2 Path'.refl Path'.refl (λ v. Val.vcons (Laws'10.val FujiHeader.the-type Laws'6.the-laws (v .0)) Val.vnil) (λ v. Path'.refl) 0 y2 4
+                    Path'.refl,
+                Path'.refl,
+              ) Path'.refl (λ ρ m. Make'.tells-row 𝓤 H A W E ρ (Row.out 12 (G37 .locals)) m 9 (Laws'8.Fields (Declared.variants Beginning.the-type) (Laws'8.spellss (Beginning.enum
               .parts) Laws.the-laws) (Beginning.the-type .to (Known.at Beginning.enum 2 (m .1 .1 .1 .1 .1 .1 .1 .1 .1 .0)))) (Known.known-is 𝓤 H A W E Beginning.enum 2 Laws.the-laws ρ 9 (m .1 .1 .1 .1 .1
               .1 .1 .1 .1 .0))) (λ m k wa. Path'.refl) λ m k wa. k .0) d51
 
@@ -2825,10 +3408,15 @@ module _ (claims· : Claims) where
 
           d61 : Typed.Typed 𝓤 H A 𝓣 E G11 b47 Δ0 at61
           d61 = Typed.s-seq 𝓤 H A W 𝓣 E G11 G12 b4 b46 Δ0 (Typed.both s10) at60 (Plain.t-call-plain 𝓤 H A W 𝓣 0 ps·1 r·1 (claims· .2) (claims· .3) "cameras::mended" (known .1) E (λ pos β. β) G11
-              (record { pos = 2; st = List.[]; d = 0; at = λ x. x }, tt) 10 List.[] (Call.sub-id 𝓤 H A W (G11 .slots))
-              ((Yields.yields-copy 𝓤 H A W (λ ρ. Unit) (Declared'.row Entries.the-type) Path'.refl (Copies.cStruct Entries.the-type Laws'4.the-laws Laws'4.the-copy .copy 𝓤 H A W) (Rows'.whole
-              (Declared'.row Entries.the-type)) (λ x. x) (λ x. x) (λ ρ told. Local.mem-whole 𝓤 H A W (Declared'.row Entries.the-type) ρ) λ ρ told. Local.whole-mem 𝓤 H A W (Declared'.row Entries.the-type)
-              ρ, Path'.refl), tt) (Reads'.room-gone 𝓤 H A y6) tt Path'.refl) d60
+              (record { pos = 2; st = List.[]; d = 0; at = λ x. x }, tt) 10 List.[] (Call.sub-id 𝓤 H A W (G11 .slots)) (
+                (
+                  Yields.yields-copy 𝓤 H A W (λ ρ. Unit) (Declared'.row Entries.the-type) Path'.refl (Copies.cStruct Entries.the-type Laws'4.the-laws Laws'4.the-copy .copy 𝓤 H A W) (Rows'.whole
+                      (Declared'.row Entries.the-type)) (λ x. x) (λ x. x) (λ ρ told. Local.mem-whole 𝓤 H A W (Declared'.row Entries.the-type) ρ) λ ρ told. Local.whole-mem 𝓤 H A W (Declared'.row Entries.the-type)
+                      ρ,
+                  Path'.refl,
+                ),
+                tt,
+              ) (Reads'.room-gone 𝓤 H A y6) tt Path'.refl) d60
 
           d62 : Typed.Typed 𝓤 H A 𝓣 E G10 b47 Δ0 at62
           d62 = Typed.g-pre 𝓤 H A W 𝓣 E G10 G11 b47 Δ0 (Typed.pass T10 T11 s9) at61 (Scalar.g-room 𝓤 H A W E G10 18 (Syntax.tyInt Syntax.w64) (Scalar.room-sc 𝓤 H A W (Row.sInt Syntax.w64))) d61
@@ -2840,15 +3428,26 @@ module _ (claims· : Claims) where
           d64 = Typed.g-pre 𝓤 H A W 𝓣 E G8 G9 b47 Δ0 (Typed.pass T8 T9 s7) at63 (Scalar.g-room 𝓤 H A W E G8 16 (Syntax.tyInt Syntax.w64) (Scalar.room-sc 𝓤 H A W (Row.sInt Syntax.w64))) d63
 
           d65 : Typed.Typed 𝓤 H A 𝓣 E G7 b48 Δ0 at65
-          d65 = Typed.s-seq 𝓤 H A W 𝓣 E G7 G8 b3 b47 Δ0 (Typed.both s6) at64 (Plain.t-call-plain 𝓤 H A W 𝓣 1 ps·0 r·0 (claims· .0) (claims· .1) "begin::region_begins" (known .0) E (λ pos β. β) G7
-              (record { pos = 3; ty = Syntax.tyRef (Syntax.named 0) Syntax.imm (Syntax.tyInt Syntax.w8); ref = λ x. x; },
-              (record { pos = 4; st = List.[]; d = 0; at = λ x. x }, (Num.vAt 16 λ x. x, (Num.vAt 17 λ x. x, (Num.vAt 18 λ x. x, tt))))) 9 (List._∷_ 0 List.[]) (Call.sub-id 𝓤 H A W (G7 .slots))
-              (ShrSlice.spares-sslice 𝓤 H A W (Referent.rtF (Referent.fInt Syntax.w8)) (Syntax.tyRef (Syntax.named 0) Syntax.imm (Syntax.tyInt Syntax.w8)) 0, Shared.reads-sslice 𝓤 H A W (Referent.rtF
-              (Referent.fInt Syntax.w8)) (Syntax.tyRef (Syntax.named 0) Syntax.imm (Syntax.tyInt Syntax.w8)) 0, Path'.refl,
-              ((Yields.yields-copy 𝓤 H A W (λ ρ. Unit) (Declared'.row Rect.the-type) Path'.refl (Copies.cStruct Rect.the-type Laws'5.the-laws Laws'5.the-copy .copy 𝓤 H A W) (Rows'.whole (Declared'.row
-              Rect.the-type)) (λ x. x) (λ x. x) (λ ρ told. Local.mem-whole 𝓤 H A W (Declared'.row Rect.the-type) ρ) λ ρ told. Local.whole-mem 𝓤 H A W (Declared'.row Rect.the-type) ρ, Path'.refl),
-              ((Scalar.reads-sc 𝓤 H A W (Row.sInt Syntax.w64), Path'.refl),
-              ((Scalar.reads-sc 𝓤 H A W (Row.sInt Syntax.w64), Path'.refl), ((Scalar.reads-sc 𝓤 H A W (Row.sInt Syntax.w64), Path'.refl), tt))))) (Reads'.room-gone 𝓤 H A (Syntax.tyEnum (List._∷_ 98
+          d65 = Typed.s-seq 𝓤 H A W 𝓣 E G7 G8 b3 b47 Δ0 (Typed.both s6) at64 (Plain.t-call-plain 𝓤 H A W 𝓣 1 ps·0 r·0 (claims· .0) (claims· .1) "begin::region_begins" (known .0) E (λ pos β. β) G7 (
+            record { pos = 3; ty = Syntax.tyRef (Syntax.named 0) Syntax.imm (Syntax.tyInt Syntax.w8); ref = λ x. x },
+            (record { pos = 4; st = List.[]; d = 0; at = λ x. x }, (Num.vAt 16 λ x. x, (Num.vAt 17 λ x. x, (Num.vAt 18 λ x. x, tt)))),
+          ) 9 (List._∷_ 0 List.[]) (Call.sub-id 𝓤 H A W (G7 .slots)) (
+            ShrSlice.spares-sslice 𝓤 H A W (Referent.rtF (Referent.fInt Syntax.w8)) (Syntax.tyRef (Syntax.named 0) Syntax.imm (Syntax.tyInt Syntax.w8)) 0,
+            Shared.reads-sslice 𝓤 H A W (Referent.rtF
+                (Referent.fInt Syntax.w8)) (Syntax.tyRef (Syntax.named 0) Syntax.imm (Syntax.tyInt Syntax.w8)) 0,
+            Path'.refl,
+            (
+              (
+                Yields.yields-copy 𝓤 H A W (λ ρ. Unit) (Declared'.row Rect.the-type) Path'.refl (Copies.cStruct Rect.the-type Laws'5.the-laws Laws'5.the-copy .copy 𝓤 H A W) (Rows'.whole (Declared'.row
+                    Rect.the-type)) (λ x. x) (λ x. x) (λ ρ told. Local.mem-whole 𝓤 H A W (Declared'.row Rect.the-type) ρ) λ ρ told. Local.whole-mem 𝓤 H A W (Declared'.row Rect.the-type) ρ,
+                Path'.refl,
+              ),
+              (
+                (Scalar.reads-sc 𝓤 H A W (Row.sInt Syntax.w64), Path'.refl),
+                ((Scalar.reads-sc 𝓤 H A W (Row.sInt Syntax.w64), Path'.refl), ((Scalar.reads-sc 𝓤 H A W (Row.sInt Syntax.w64), Path'.refl), tt)),
+              ),
+            ),
+          ) (Reads'.room-gone 𝓤 H A (Syntax.tyEnum (List._∷_ 98
               (List._∷_ 101 (List._∷_ 103 (List._∷_ 105 (List._∷_ 110 (List._∷_ 58 (List._∷_ 58 (List._∷_ 66 (List._∷_ 101 (List._∷_ 103 (List._∷_ 105 (List._∷_ 110 (List._∷_ 110 (List._∷_ 105 (List._∷_
               110 (List._∷_ 103 List.[])))))))))))))))) (Syntax.ttcons (Syntax.tcons (Syntax.tyEnum (List._∷_ 115 (List._∷_ 116 (List._∷_ 114 (List._∷_ 101 (List._∷_ 97 (List._∷_ 109 (List._∷_ 58
               (List._∷_ 58 (List._∷_ 82 (List._∷_ 101 (List._∷_ 102 (List._∷_ 117 (List._∷_ 115 (List._∷_ 97 (List._∷_ 108 List.[]))))))))))))))) (Syntax.ttcons Syntax.tnil (Syntax.ttcons Syntax.tnil
@@ -2898,22 +3497,60 @@ module _ (claims· : Claims) where
 
       module _ (κs : Lifetimes.Lfts 4) where
         pub record Args : Type 0 where
-          pub camera : Kinds.Den {n = 4} κs (Value.pVal record
-              { ty = Declared.row Camera.the-type; one = Path'.refl; val = Laws'8.val Camera.the-type Laws'3.the-laws; tells = Laws'8.tells Camera.the-type Laws'3.the-laws; still = Laws'8.still
-              Camera.the-type Laws'3.the-copy Exit.yes; row = Rows'.whole (Declared.row Camera.the-type); rd = λ x. x; mk = λ x. x; } λ M 𝓤 H A W. record
-              { copies = Laws'8.copy Camera.the-type Laws'3.the-copy 𝓤 H A W; lawful = Laws'8.lawful Camera.the-type Laws'3.the-laws 𝓤 H A W tt; makes = Laws'8.makes Camera.the-type Laws'3.the-plain 𝓤 H
-              A; in-mem = Local.mem-whole 𝓤 H A W (Declared.row Camera.the-type); of-mem = Local.whole-mem 𝓤 H A W (Declared.row Camera.the-type); })
-          pub entries : Kinds.Den {n = 4} κs (Value.pVal record
-              { ty = Declared'.row Entries.the-type; one = Path'.refl; val = Laws'10.val Entries.the-type Laws'4.the-laws; tells = Laws'10.tells Entries.the-type Laws'4.the-laws; still = Laws'10.still
-              Entries.the-type Laws'4.the-copy Exit.yes; row = Rows'.whole (Declared'.row Entries.the-type); rd = λ x. x; mk = λ x. x; } λ M 𝓤 H A W. record
-              { copies = Laws'10.copy Entries.the-type Laws'4.the-copy 𝓤 H A W; lawful = Laws'10.lawful Entries.the-type Laws'4.the-laws 𝓤 H A W; makes = Laws'10.makes Entries.the-type Laws'4.the-plain 𝓤
-              H A; in-mem = Local.mem-whole 𝓤 H A W (Declared'.row Entries.the-type); of-mem = Local.whole-mem 𝓤 H A W (Declared'.row Entries.the-type); })
+          pub camera : Kinds.Den {n = 4} κs (Value.pVal record {
+            ty = Declared.row Camera.the-type;
+            one = Path'.refl;
+            val = Laws'8.val Camera.the-type Laws'3.the-laws;
+            tells = Laws'8.tells Camera.the-type Laws'3.the-laws;
+            still = Laws'8.still
+                Camera.the-type Laws'3.the-copy Exit.yes;
+            row = Rows'.whole (Declared.row Camera.the-type);
+            rd = λ x. x;
+            mk = λ x. x;
+          } λ M 𝓤 H A W. record {
+            copies = Laws'8.copy Camera.the-type Laws'3.the-copy 𝓤 H A W;
+            lawful = Laws'8.lawful Camera.the-type Laws'3.the-laws 𝓤 H A W tt;
+            makes = Laws'8.makes Camera.the-type Laws'3.the-plain 𝓤 H
+                A;
+            in-mem = Local.mem-whole 𝓤 H A W (Declared.row Camera.the-type);
+            of-mem = Local.whole-mem 𝓤 H A W (Declared.row Camera.the-type);
+          })
+          pub entries : Kinds.Den {n = 4} κs (Value.pVal record {
+            ty = Declared'.row Entries.the-type;
+            one = Path'.refl;
+            val = Laws'10.val Entries.the-type Laws'4.the-laws;
+            tells = Laws'10.tells Entries.the-type Laws'4.the-laws;
+            still = Laws'10.still
+                Entries.the-type Laws'4.the-copy Exit.yes;
+            row = Rows'.whole (Declared'.row Entries.the-type);
+            rd = λ x. x;
+            mk = λ x. x;
+          } λ M 𝓤 H A W. record {
+            copies = Laws'10.copy Entries.the-type Laws'4.the-copy 𝓤 H A W;
+            lawful = Laws'10.lawful Entries.the-type Laws'4.the-laws 𝓤 H A W;
+            makes = Laws'10.makes Entries.the-type Laws'4.the-plain 𝓤
+                H A;
+            in-mem = Local.mem-whole 𝓤 H A W (Declared'.row Entries.the-type);
+            of-mem = Local.whole-mem 𝓤 H A W (Declared'.row Entries.the-type);
+          })
           pub d : Kinds.Den {n = 4} κs (ShrSlice.pShrS (Referent.rtF (Referent.fInt Syntax.w8)) 0 tt)
-          pub r : Kinds.Den {n = 4} κs (Value.pVal record
-              { ty = Declared'.row Rect.the-type; one = Path'.refl; val = Laws'10.val Rect.the-type Laws'5.the-laws; tells = Laws'10.tells Rect.the-type Laws'5.the-laws; still = Laws'10.still
-              Rect.the-type Laws'5.the-copy Exit.yes; row = Rows'.whole (Declared'.row Rect.the-type); rd = λ x. x; mk = λ x. x; } λ M 𝓤 H A W. record
-              { copies = Laws'10.copy Rect.the-type Laws'5.the-copy 𝓤 H A W; lawful = Laws'10.lawful Rect.the-type Laws'5.the-laws 𝓤 H A W; makes = Laws'10.makes Rect.the-type Laws'5.the-plain 𝓤 H A;
-              in-mem = Local.mem-whole 𝓤 H A W (Declared'.row Rect.the-type); of-mem = Local.whole-mem 𝓤 H A W (Declared'.row Rect.the-type); })
+          pub r : Kinds.Den {n = 4} κs (Value.pVal record {
+            ty = Declared'.row Rect.the-type;
+            one = Path'.refl;
+            val = Laws'10.val Rect.the-type Laws'5.the-laws;
+            tells = Laws'10.tells Rect.the-type Laws'5.the-laws;
+            still = Laws'10.still
+                Rect.the-type Laws'5.the-copy Exit.yes;
+            row = Rows'.whole (Declared'.row Rect.the-type);
+            rd = λ x. x;
+            mk = λ x. x;
+          } λ M 𝓤 H A W. record {
+            copies = Laws'10.copy Rect.the-type Laws'5.the-copy 𝓤 H A W;
+            lawful = Laws'10.lawful Rect.the-type Laws'5.the-laws 𝓤 H A W;
+            makes = Laws'10.makes Rect.the-type Laws'5.the-plain 𝓤 H A;
+            in-mem = Local.mem-whole 𝓤 H A W (Declared'.row Rect.the-type);
+            of-mem = Local.whole-mem 𝓤 H A W (Declared'.row Rect.the-type);
+          })
           pub tile : Kinds.Den {n = 4} κs (Array.pArr (Array.eInt Syntax.w8) (Array.eInt-laws Syntax.w8) 36)
           pub image : Kinds.Den {n = 4} κs (MutSlice.pMutS (Referent.rtF (Referent.fInt Syntax.w16)) 1 tt)
           pub lines : Kinds.Den {n = 4} κs (MutSlice.pMutS (Referent.rtF (Referent.fInt Syntax.w16)) 2 tt)
@@ -2926,9 +3563,12 @@ module _ (claims· : Claims) where
       m0 = λ κs args. (tt, Enter.partsP κs 1 ps xs (dens κs args))
 
       abbrev W0 : (κs : Lifetimes.Lfts 4) → (args : Args κs) → Typed.Want O0
-      W0 = λ κs args.
-          (λ u. ⊥, tt, λ u. Enter.Fixs κs 1 ps xs (dens κs args) (u .1) × Post· κs (dens κs args) (Function.resV r κs (u .0)) (Clauses.atExit (Kinds.endedOf 4 ps r) κs (dens κs args) (Enter.lastsP κs 1 ps
-          xs (dens κs args) (u .1))))
+      W0 = λ κs args. (
+        λ u. ⊥,
+        tt,
+        λ u. Enter.Fixs κs 1 ps xs (dens κs args) (u .1) × Post· κs (dens κs args) (Function.resV r κs (u .0)) (Clauses.atExit (Kinds.endedOf 4 ps r) κs (dens κs args) (Enter.lastsP κs 1 ps
+            xs (dens κs args) (u .1))),
+      )
 
       pub record Start : Type 0 where
         pub κs : Lifetimes.Lfts 4
@@ -2986,18 +3626,20 @@ module _ (claims· : Claims) where
 
       module _ (before· : After-slice-known2) where
         abbrev pub After-region-begins·own : Type 0
-        After-region-begins·own = Called.Called ps·0 r·0 (claims· .1) T7
-            (record { pos = 3; ty = Syntax.tyRef (Syntax.named 0) Syntax.imm (Syntax.tyInt Syntax.w8); ref = λ x. x; },
-            (record { pos = 4; st = List.[]; d = 0; at = λ x. x }, (Num.vAt 16 λ x. x, (Num.vAt 17 λ x. x, (Num.vAt 18 λ x. x, tt))))) (m6 (before· .before) (before· .slice-known2 .given))
+        After-region-begins·own = Called.Called ps·0 r·0 (claims· .1) T7 (
+          record { pos = 3; ty = Syntax.tyRef (Syntax.named 0) Syntax.imm (Syntax.tyInt Syntax.w8); ref = λ x. x },
+          (record { pos = 4; st = List.[]; d = 0; at = λ x. x }, (Num.vAt 16 λ x. x, (Num.vAt 17 λ x. x, (Num.vAt 18 λ x. x, tt)))),
+        ) (m6 (before· .before) (before· .slice-known2 .given))
 
       pub record After-region-begins : Type 0 where
         pub before : After-slice-known2
         pub region-begins : After-region-begins·own before
 
       abbrev pub After-region-begins·gave : (c : After-region-begins) → s6 .gives (m6 (c .before .before) (c .before .slice-known2 .given))
-      After-region-begins·gave = λ c. Called.given ps·0 r·0 (claims· .1) T7
-          (record { pos = 3; ty = Syntax.tyRef (Syntax.named 0) Syntax.imm (Syntax.tyInt Syntax.w8); ref = λ x. x; },
-          (record { pos = 4; st = List.[]; d = 0; at = λ x. x }, (Num.vAt 16 λ x. x, (Num.vAt 17 λ x. x, (Num.vAt 18 λ x. x, tt))))) (m6 (c .before .before) (c .before .slice-known2 .given)) (c
+      After-region-begins·gave = λ c. Called.given ps·0 r·0 (claims· .1) T7 (
+        record { pos = 3; ty = Syntax.tyRef (Syntax.named 0) Syntax.imm (Syntax.tyInt Syntax.w8); ref = λ x. x },
+        (record { pos = 4; st = List.[]; d = 0; at = λ x. x }, (Num.vAt 16 λ x. x, (Num.vAt 17 λ x. x, (Num.vAt 18 λ x. x, tt)))),
+      ) (m6 (c .before .before) (c .before .slice-known2 .given)) (c
           .region-begins)
 
       abbrev pub m8 : (before : After-slice-known2) → (given : s6 .gives (m6 (before .before) (before .slice-known2 .given))) → Typed.Mo T9
@@ -3331,32 +3973,62 @@ module _ (claims· : Claims) where
 
       module _ (before· : After-decode-shared-blocks-arg3) where
         abbrev pub After-decode-shared-blocks·own : Type 0
-        After-decode-shared-blocks·own = Called.Called ps·4 r·4 (claims· .9) T57
-            (record { pos = 1; st = List.[]; d = 0; at = λ x. x },
-            (record { pos = 10; st = List.[]; d = 0; at = λ x. x },
-            (record { pos = 3; ty = Syntax.tyRef (Syntax.named 0) Syntax.imm (Syntax.tyInt Syntax.w8); ref = λ x. x; },
-            (record { pos = 12; st = List.[]; d = 0; at = λ x. x },
-            (record { pos = 4; st = List.[]; d = 0; at = λ x. x },
-            (record { pos = 5; st = List.[]; d = 0; at = λ x. x },
-            (record { pos = 23; ty = Syntax.tyRef Syntax.erased Syntax.mut (Syntax.tyInt Syntax.w16); ref = λ x. x; },
-            (record { pos = 27; ty = Syntax.tyRef Syntax.erased Syntax.mut (Syntax.tyInt Syntax.w16); ref = λ x. x; },
-            (record { pos = 31; ty = Syntax.tyRef Syntax.erased Syntax.mut Element.behind; ref = λ x. x; }, tt))))))))) (m52 (before· .before) (before· .decode-shared-blocks-arg3 .given))
+        After-decode-shared-blocks·own = Called.Called ps·4 r·4 (claims· .9) T57 (
+          record { pos = 1; st = List.[]; d = 0; at = λ x. x },
+          (
+            record { pos = 10; st = List.[]; d = 0; at = λ x. x },
+            (
+              record { pos = 3; ty = Syntax.tyRef (Syntax.named 0) Syntax.imm (Syntax.tyInt Syntax.w8); ref = λ x. x },
+              (
+                record { pos = 12; st = List.[]; d = 0; at = λ x. x },
+                (
+                  record { pos = 4; st = List.[]; d = 0; at = λ x. x },
+                  (
+                    record { pos = 5; st = List.[]; d = 0; at = λ x. x },
+                    (
+                      record { pos = 23; ty = Syntax.tyRef Syntax.erased Syntax.mut (Syntax.tyInt Syntax.w16); ref = λ x. x },
+                      (
+                        record { pos = 27; ty = Syntax.tyRef Syntax.erased Syntax.mut (Syntax.tyInt Syntax.w16); ref = λ x. x },
+                        (record { pos = 31; ty = Syntax.tyRef Syntax.erased Syntax.mut Element.behind; ref = λ x. x }, tt),
+                      ),
+                    ),
+                  ),
+                ),
+              ),
+            ),
+          ),
+        ) (m52 (before· .before) (before· .decode-shared-blocks-arg3 .given))
 
       pub record After-decode-shared-blocks : Type 0 where
         pub before : After-decode-shared-blocks-arg3
         pub decode-shared-blocks : After-decode-shared-blocks·own before
 
       abbrev pub After-decode-shared-blocks·gave : (c : After-decode-shared-blocks) → s55 .gives (m52 (c .before .before) (c .before .decode-shared-blocks-arg3 .given))
-      After-decode-shared-blocks·gave = λ c. Called.given ps·4 r·4 (claims· .9) T57
-          (record { pos = 1; st = List.[]; d = 0; at = λ x. x },
-          (record { pos = 10; st = List.[]; d = 0; at = λ x. x },
-          (record { pos = 3; ty = Syntax.tyRef (Syntax.named 0) Syntax.imm (Syntax.tyInt Syntax.w8); ref = λ x. x; },
-          (record { pos = 12; st = List.[]; d = 0; at = λ x. x },
-          (record { pos = 4; st = List.[]; d = 0; at = λ x. x },
-          (record { pos = 5; st = List.[]; d = 0; at = λ x. x },
-          (record { pos = 23; ty = Syntax.tyRef Syntax.erased Syntax.mut (Syntax.tyInt Syntax.w16); ref = λ x. x; },
-          (record { pos = 27; ty = Syntax.tyRef Syntax.erased Syntax.mut (Syntax.tyInt Syntax.w16); ref = λ x. x; },
-          (record { pos = 31; ty = Syntax.tyRef Syntax.erased Syntax.mut Element.behind; ref = λ x. x; }, tt))))))))) (m52 (c .before .before) (c .before .decode-shared-blocks-arg3 .given)) (c
+      After-decode-shared-blocks·gave = λ c. Called.given ps·4 r·4 (claims· .9) T57 (
+        record { pos = 1; st = List.[]; d = 0; at = λ x. x },
+        (
+          record { pos = 10; st = List.[]; d = 0; at = λ x. x },
+          (
+            record { pos = 3; ty = Syntax.tyRef (Syntax.named 0) Syntax.imm (Syntax.tyInt Syntax.w8); ref = λ x. x },
+            (
+              record { pos = 12; st = List.[]; d = 0; at = λ x. x },
+              (
+                record { pos = 4; st = List.[]; d = 0; at = λ x. x },
+                (
+                  record { pos = 5; st = List.[]; d = 0; at = λ x. x },
+                  (
+                    record { pos = 23; ty = Syntax.tyRef Syntax.erased Syntax.mut (Syntax.tyInt Syntax.w16); ref = λ x. x },
+                    (
+                      record { pos = 27; ty = Syntax.tyRef Syntax.erased Syntax.mut (Syntax.tyInt Syntax.w16); ref = λ x. x },
+                      (record { pos = 31; ty = Syntax.tyRef Syntax.erased Syntax.mut Element.behind; ref = λ x. x }, tt),
+                    ),
+                  ),
+                ),
+              ),
+            ),
+          ),
+        ),
+      ) (m52 (c .before .before) (c .before .decode-shared-blocks-arg3 .given)) (c
           .decode-shared-blocks)
 
       abbrev pub m54 : (before : After-decode-shared-blocks-arg3) → (given : s55 .gives (m52 (before .before) (before .decode-shared-blocks-arg3 .given))) → Typed.Mo T59
@@ -3449,9 +4121,10 @@ module _ (claims· : Claims) where
 
       module _ (before· : After-rs) where
         abbrev pub After-handed-back3·own : Type 0
-        After-handed-back3·own = Called.Called ps·2 r·2 (claims· .5) T74
-            (record { pos = 1; st = List.[]; d = 0; at = λ x. x },
-            (record { pos = 14; st = List._∷_ (Syntax.field 1) List.[]; d = 32; at = λ x. SharedAnswer.struct .as-values x .1 .0; }, (record { pos = 15; st = List.[]; d = 0; at = λ x. x }, tt))) (m63
+        After-handed-back3·own = Called.Called ps·2 r·2 (claims· .5) T74 (
+          record { pos = 1; st = List.[]; d = 0; at = λ x. x },
+          (record { pos = 14; st = List._∷_ (Syntax.field 1) List.[]; d = 32; at = λ x. SharedAnswer.struct .as-values x .1 .0 }, (record { pos = 15; st = List.[]; d = 0; at = λ x. x }, tt)),
+        ) (m63
             (before· .before) (before· .rs .given))
 
       pub record After-handed-back3 : Type 0 where
@@ -3459,9 +4132,10 @@ module _ (claims· : Claims) where
         pub handed-back3 : After-handed-back3·own before
 
       abbrev pub After-handed-back3·gave : (c : After-handed-back3) → s72 .gives (m63 (c .before .before) (c .before .rs .given))
-      After-handed-back3·gave = λ c. Called.given ps·2 r·2 (claims· .5) T74
-          (record { pos = 1; st = List.[]; d = 0; at = λ x. x },
-          (record { pos = 14; st = List._∷_ (Syntax.field 1) List.[]; d = 32; at = λ x. SharedAnswer.struct .as-values x .1 .0; }, (record { pos = 15; st = List.[]; d = 0; at = λ x. x }, tt))) (m63 (c
+      After-handed-back3·gave = λ c. Called.given ps·2 r·2 (claims· .5) T74 (
+        record { pos = 1; st = List.[]; d = 0; at = λ x. x },
+        (record { pos = 14; st = List._∷_ (Syntax.field 1) List.[]; d = 32; at = λ x. SharedAnswer.struct .as-values x .1 .0 }, (record { pos = 15; st = List.[]; d = 0; at = λ x. x }, tt)),
+      ) (m63 (c
           .before .before) (c .before .rs .given)) (c .handed-back3)
 
       abbrev pub m69 : (before : After-known-told) → (given : s20 .gives (m20 (before .before) (before .known-told .given))) → Typed.Mo T80
@@ -3535,25 +4209,44 @@ module _ (claims· : Claims) where
         lay7 : (c : After-handed-back3) → at59 (W0 (c .before .before .before .before .before .before .before .before .before .before .before .before .before .before .before .before .before .before
             .before .κs) (c .before .before .before .before .before .before .before .before .before .before .before .before .before .before .before .before .before .before .before .args)) (m68 (c .before)
             (After-handed-back3·gave c))
-        lay7 = λ c.
-            ((tt,
-            (tt,
-            (Path'.refl,
-            (tt,
-            (tt,
-            (MutSlice.fix-len (Row.get 6 (T81 .locals) (m74 (c .before) (After-handed-back3·gave c)) .ptr) (Row.get 6 (T81 .locals) (m74 (c .before) (After-handed-back3·gave c)) .name) (Row.get 6 (T81
-            .locals) (m74 (c .before) (After-handed-back3·gave c)) .now) (dens (c .before .before .before .before .before .before .before .before .before .before .before .before .before .before .before
-            .before .before .before .before .κs) (c .before .before .before .before .before .before .before .before .before .before .before .before .before .before .before .before .before .before .before
-            .args) .1 .1 .1 .1 .1 .0 .now) (same-length record { before = c .before; handed-back3 = c .handed-back3 }),
-            (MutSlice.fix-len (Row.get 7 (T81 .locals) (m74 (c .before) (After-handed-back3·gave c)) .ptr) (Row.get 7 (T81 .locals) (m74 (c .before) (After-handed-back3·gave c)) .name) (Row.get 7 (T81
-            .locals) (m74 (c .before) (After-handed-back3·gave c)) .now) (dens (c .before .before .before .before .before .before .before .before .before .before .before .before .before .before .before
-            .before .before .before .before .κs) (c .before .before .before .before .before .before .before .before .before .before .before .before .before .before .before .before .before .before .before
-            .args) .1 .1 .1 .1 .1 .1 .0 .now) (same-length-2 record { before = c .before; handed-back3 = c .handed-back3 }),
-            (MutSlice.fix-len (Row.get 8 (T81 .locals) (m74 (c .before) (After-handed-back3·gave c)) .ptr) (Row.get 8 (T81 .locals) (m74 (c .before) (After-handed-back3·gave c)) .name) (Row.get 8 (T81
-            .locals) (m74 (c .before) (After-handed-back3·gave c)) .now) (dens (c .before .before .before .before .before .before .before .before .before .before .before .before .before .before .before
-            .before .before .before .before .κs) (c .before .before .before .before .before .before .before .before .before .before .before .before .before .before .before .before .before .before .before
-            .args) .1 .1 .1 .1 .1 .1 .1 .0 .now) (same-length-3 record { before = c .before; handed-back3 = c .handed-back3 }), tt)))))))), returns-3 record
-            { before = c .before; handed-back3 = c .handed-back3 })
+        lay7 = λ c. (
+          (
+            tt,
+            (
+              tt,
+              (
+                Path'.refl,
+                (
+                  tt,
+                  (
+                    tt,
+                    (
+                      MutSlice.fix-len (Row.get 6 (T81 .locals) (m74 (c .before) (After-handed-back3·gave c)) .ptr) (Row.get 6 (T81 .locals) (m74 (c .before) (After-handed-back3·gave c)) .name) (Row.get 6 (T81
+                          .locals) (m74 (c .before) (After-handed-back3·gave c)) .now) (dens (c .before .before .before .before .before .before .before .before .before .before .before .before .before .before .before
+                          .before .before .before .before .κs) (c .before .before .before .before .before .before .before .before .before .before .before .before .before .before .before .before .before .before .before
+                          .args) .1 .1 .1 .1 .1 .0 .now) (same-length record { before = c .before; handed-back3 = c .handed-back3 }),
+                      (
+                        MutSlice.fix-len (Row.get 7 (T81 .locals) (m74 (c .before) (After-handed-back3·gave c)) .ptr) (Row.get 7 (T81 .locals) (m74 (c .before) (After-handed-back3·gave c)) .name) (Row.get 7 (T81
+                            .locals) (m74 (c .before) (After-handed-back3·gave c)) .now) (dens (c .before .before .before .before .before .before .before .before .before .before .before .before .before .before .before
+                            .before .before .before .before .κs) (c .before .before .before .before .before .before .before .before .before .before .before .before .before .before .before .before .before .before .before
+                            .args) .1 .1 .1 .1 .1 .1 .0 .now) (same-length-2 record { before = c .before; handed-back3 = c .handed-back3 }),
+                        (
+                          MutSlice.fix-len (Row.get 8 (T81 .locals) (m74 (c .before) (After-handed-back3·gave c)) .ptr) (Row.get 8 (T81 .locals) (m74 (c .before) (After-handed-back3·gave c)) .name) (Row.get 8 (T81
+                              .locals) (m74 (c .before) (After-handed-back3·gave c)) .now) (dens (c .before .before .before .before .before .before .before .before .before .before .before .before .before .before .before
+                              .before .before .before .before .κs) (c .before .before .before .before .before .before .before .before .before .before .before .before .before .before .before .before .before .before .before
+                              .args) .1 .1 .1 .1 .1 .1 .1 .0 .now) (same-length-3 record { before = c .before; handed-back3 = c .handed-back3 }),
+                          tt,
+                        ),
+                      ),
+                    ),
+                  ),
+                ),
+              ),
+            ),
+          ),
+          returns-3 record
+              { before = c .before; handed-back3 = c .handed-back3 },
+        )
 
         lay6 : (c : After-handed-back2) → at59 (W0 (c .before .before .before .before .before .before .before .before .κs) (c .before .before .before .before .before .before .before .before .args))
             (m33 (c .before) (After-handed-back2·gave c))
@@ -3565,131 +4258,295 @@ module _ (claims· : Claims) where
 
         lay4 : (c : After-decode-shared-blocks) → at31 (W1 (c .before .before .before .before .before .before .before .before .before) (After-mended·gave (c .before .before .before .before .before
             .before .before .before))) (m53 (c .before) (After-decode-shared-blocks·gave c))
-        lay4 = λ c.
-            (Path'.refl, λ g. λ g'.
-            (Path'.refl, λ g''. λ g'3.
-            (Path'.refl, λ g'4.
-            (handed-back-requires-3 record
-            { before = record
-            { before = record
-            { before = record
-            { before = record { before = record { before = c .before; decode-shared-blocks = c .decode-shared-blocks; }; image = record { given = g }; }; slice-known3 = record { given = g' }; }; lines =
-            record { given = g'' }; }; slice-known4 = record { given = g'3 }; }; rs = record { given = g'4 }; }, λ g'5. lay7 record
-            { before = record
-            { before = record
-            { before = record
-            { before = record
-            { before = record { before = record { before = c .before; decode-shared-blocks = c .decode-shared-blocks; }; image = record { given = g }; }; slice-known3 = record { given = g' }; }; lines =
-            record { given = g'' }; }; slice-known4 = record { given = g'3 }; }; rs = record { given = g'4 }; }; handed-back3 = Called.called ps·2 r·2 (claims· .5) T74
-            (record { pos = 1; st = List.[]; d = 0; at = λ x. x },
-            (record { pos = 14; st = List._∷_ (Syntax.field 1) List.[]; d = 32; at = λ x. SharedAnswer.struct .as-values x .1 .0; }, (record { pos = 15; st = List.[]; d = 0; at = λ x. x }, tt))) (m63
-            record
-            { before = record
-            { before = record
-            { before = record { before = record { before = c .before; decode-shared-blocks = c .decode-shared-blocks; }; image = record { given = g }; }; slice-known3 = record { given = g' }; }; lines =
-            record { given = g'' }; }; slice-known4 = record { given = g'3 }; } g'4) g'5; }))))
+        lay4 = λ c. (
+          Path'.refl,
+          λ g. λ g'. (
+            Path'.refl,
+            λ g''. λ g'3. (
+              Path'.refl,
+              λ g'4. (
+                handed-back-requires-3 record {
+                  before = record {
+                    before = record {
+                      before = record
+                          { before = record { before = record { before = c .before; decode-shared-blocks = c .decode-shared-blocks }; image = record { given = g } }; slice-known3 = record { given = g' } };
+                      lines =
+                          record { given = g'' };
+                    };
+                    slice-known4 = record { given = g'3 };
+                  };
+                  rs = record { given = g'4 };
+                },
+                λ g'5. lay7 record {
+                  before = record {
+                    before = record {
+                      before = record {
+                        before = record
+                            { before = record { before = record { before = c .before; decode-shared-blocks = c .decode-shared-blocks }; image = record { given = g } }; slice-known3 = record { given = g' } };
+                        lines =
+                            record { given = g'' };
+                      };
+                      slice-known4 = record { given = g'3 };
+                    };
+                    rs = record { given = g'4 };
+                  };
+                  handed-back3 = Called.called ps·2 r·2 (claims· .5) T74 (
+                    record { pos = 1; st = List.[]; d = 0; at = λ x. x },
+                    (record { pos = 14; st = List._∷_ (Syntax.field 1) List.[]; d = 32; at = λ x. SharedAnswer.struct .as-values x .1 .0 }, (record { pos = 15; st = List.[]; d = 0; at = λ x. x }, tt)),
+                  ) (m63
+                      record {
+                        before = record {
+                          before = record
+                              { before = record { before = record { before = c .before; decode-shared-blocks = c .decode-shared-blocks }; image = record { given = g } }; slice-known3 = record { given = g' } };
+                          lines =
+                              record { given = g'' };
+                        };
+                        slice-known4 = record { given = g'3 };
+                      } g'4) g'5;
+                },
+              ),
+            ),
+          ),
+        )
 
         lay3 : (c : After-samples-needed) → at49 (W1 (c .before .before .before .before .before) (After-mended·gave (c .before .before .before .before))) (m38 (c .before) (After-samples-needed·gave
             c))
-        lay3 = λ c. λ g.
-            (Path'.refl,
-            (tt,
-            (sub-decode-shared-blocks record { before = record { before = c .before; samples-needed = c .samples-needed }; decode-shared-blocks-arg = record { given = g }; },
-            ((Path'.refl, Path'.refl, part-decode-shared-blocks-start record
-            { before = record { before = c .before; samples-needed = c .samples-needed }; decode-shared-blocks-arg = record { given = g }; }, part-decode-shared-blocks-end record
-            { before = record { before = c .before; samples-needed = c .samples-needed }; decode-shared-blocks-arg = record { given = g }; }), λ g'.
-            (Relend.count-is T48 26 27 (λ x. x) (λ u. u .1 .1 .1 .1 .1 .1 .1 .1 .1 .1 .1 .1 .1 .1 .1 .1 .1 .1 .1 .1 .1 .1 .1 .1 .1 .0) (m44 record
-            { before = record { before = c .before; samples-needed = c .samples-needed; }; decode-shared-blocks-arg = record { given = g }; } g') (g' .1),
-            (tt,
-            (sub-decode-shared-blocks-2 record
-            { before = record { before = record { before = c .before; samples-needed = c .samples-needed; }; decode-shared-blocks-arg = record { given = g }; }; decode-shared-blocks-arg2 = record { given
-            = g' }; },
-            ((Path'.refl, Path'.refl, part-decode-shared-blocks-start-2 record
-            { before = record { before = record { before = c .before; samples-needed = c .samples-needed; }; decode-shared-blocks-arg = record { given = g }; }; decode-shared-blocks-arg2 = record { given
-            = g' }; }, part-decode-shared-blocks-end-2 record
-            { before = record { before = record { before = c .before; samples-needed = c .samples-needed; }; decode-shared-blocks-arg = record { given = g }; }; decode-shared-blocks-arg2 = record { given
-            = g' }; }), λ g''.
-            (Relend.count-is T55 30 31 (λ x. x) (λ u. u .1 .1 .1 .1 .1 .1 .1 .1 .1 .1 .1 .1 .1 .1 .1 .1 .1 .1 .1 .1 .1 .1 .1 .1 .1 .1 .1 .1 .1 .0) (m50 record
-            { before = record { before = record { before = c .before; samples-needed = c .samples-needed; }; decode-shared-blocks-arg = record { given = g }; }; decode-shared-blocks-arg2 = record { given
-            = g' }; } g'') (g'' .1),
-            (decode-shared-blocks-requires record
-            { before = record
-            { before = record { before = record { before = c .before; samples-needed = c .samples-needed; }; decode-shared-blocks-arg = record { given = g }; }; decode-shared-blocks-arg2 = record { given
-            = g' }; }; decode-shared-blocks-arg3 = record { given = g'' }; }, λ g'3. lay4 record
-            { before = record
-            { before = record
-            { before = record { before = record { before = c .before; samples-needed = c .samples-needed; }; decode-shared-blocks-arg = record { given = g }; }; decode-shared-blocks-arg2 = record { given
-            = g' }; }; decode-shared-blocks-arg3 = record { given = g'' }; }; decode-shared-blocks = Called.called ps·4 r·4 (claims· .9) T57
-            (record { pos = 1; st = List.[]; d = 0; at = λ x. x },
-            (record { pos = 10; st = List.[]; d = 0; at = λ x. x },
-            (record { pos = 3; ty = Syntax.tyRef (Syntax.named 0) Syntax.imm (Syntax.tyInt Syntax.w8); ref = λ x. x; },
-            (record { pos = 12; st = List.[]; d = 0; at = λ x. x },
-            (record { pos = 4; st = List.[]; d = 0; at = λ x. x },
-            (record { pos = 5; st = List.[]; d = 0; at = λ x. x },
-            (record { pos = 23; ty = Syntax.tyRef Syntax.erased Syntax.mut (Syntax.tyInt Syntax.w16); ref = λ x. x; },
-            (record { pos = 27; ty = Syntax.tyRef Syntax.erased Syntax.mut (Syntax.tyInt Syntax.w16); ref = λ x. x; },
-            (record { pos = 31; ty = Syntax.tyRef Syntax.erased Syntax.mut Element.behind; ref = λ x. x; }, tt))))))))) (m52 record
-            { before = record { before = record { before = c .before; samples-needed = c .samples-needed; }; decode-shared-blocks-arg = record { given = g }; }; decode-shared-blocks-arg2 = record { given
-            = g' }; } g'') g'3; }))))))))))
+        lay3 = λ c. λ g. (
+          Path'.refl,
+          (
+            tt,
+            (
+              sub-decode-shared-blocks record { before = record { before = c .before; samples-needed = c .samples-needed }; decode-shared-blocks-arg = record { given = g } },
+              (
+                (
+                  Path'.refl,
+                  Path'.refl,
+                  part-decode-shared-blocks-start record
+                      { before = record { before = c .before; samples-needed = c .samples-needed }; decode-shared-blocks-arg = record { given = g } },
+                  part-decode-shared-blocks-end record
+                      { before = record { before = c .before; samples-needed = c .samples-needed }; decode-shared-blocks-arg = record { given = g } },
+                ),
+                λ g'. (
+                  Relend.count-is T48 26 27 (λ x. x) (λ u. u .1 .1 .1 .1 .1 .1 .1 .1 .1 .1 .1 .1 .1 .1 .1 .1 .1 .1 .1 .1 .1 .1 .1 .1 .1 .0) (m44 record
+                      { before = record { before = c .before; samples-needed = c .samples-needed }; decode-shared-blocks-arg = record { given = g } } g') (g' .1),
+                  (
+                    tt,
+                    (
+                      sub-decode-shared-blocks-2 record {
+                        before = record { before = record { before = c .before; samples-needed = c .samples-needed }; decode-shared-blocks-arg = record { given = g } };
+                        decode-shared-blocks-arg2 = record {
+                          given
+                              = g';
+                        };
+                      },
+                      (
+                        (
+                          Path'.refl,
+                          Path'.refl,
+                          part-decode-shared-blocks-start-2 record {
+                            before = record { before = record { before = c .before; samples-needed = c .samples-needed }; decode-shared-blocks-arg = record { given = g } };
+                            decode-shared-blocks-arg2 = record {
+                              given
+                                  = g';
+                            };
+                          },
+                          part-decode-shared-blocks-end-2 record {
+                            before = record { before = record { before = c .before; samples-needed = c .samples-needed }; decode-shared-blocks-arg = record { given = g } };
+                            decode-shared-blocks-arg2 = record {
+                              given
+                                  = g';
+                            };
+                          },
+                        ),
+                        λ g''. (
+                          Relend.count-is T55 30 31 (λ x. x) (λ u. u .1 .1 .1 .1 .1 .1 .1 .1 .1 .1 .1 .1 .1 .1 .1 .1 .1 .1 .1 .1 .1 .1 .1 .1 .1 .1 .1 .1 .1 .0) (m50 record {
+                            before = record { before = record { before = c .before; samples-needed = c .samples-needed }; decode-shared-blocks-arg = record { given = g } };
+                            decode-shared-blocks-arg2 = record {
+                              given
+                                  = g';
+                            };
+                          } g'') (g'' .1),
+                          (
+                            decode-shared-blocks-requires record {
+                              before = record {
+                                before = record { before = record { before = c .before; samples-needed = c .samples-needed }; decode-shared-blocks-arg = record { given = g } };
+                                decode-shared-blocks-arg2 = record {
+                                  given
+                                      = g';
+                                };
+                              };
+                              decode-shared-blocks-arg3 = record { given = g'' };
+                            },
+                            λ g'3. lay4 record {
+                              before = record {
+                                before = record {
+                                  before = record { before = record { before = c .before; samples-needed = c .samples-needed }; decode-shared-blocks-arg = record { given = g } };
+                                  decode-shared-blocks-arg2 = record {
+                                    given
+                                        = g';
+                                  };
+                                };
+                                decode-shared-blocks-arg3 = record { given = g'' };
+                              };
+                              decode-shared-blocks = Called.called ps·4 r·4 (claims· .9) T57 (
+                                record { pos = 1; st = List.[]; d = 0; at = λ x. x },
+                                (
+                                  record { pos = 10; st = List.[]; d = 0; at = λ x. x },
+                                  (
+                                    record { pos = 3; ty = Syntax.tyRef (Syntax.named 0) Syntax.imm (Syntax.tyInt Syntax.w8); ref = λ x. x },
+                                    (
+                                      record { pos = 12; st = List.[]; d = 0; at = λ x. x },
+                                      (
+                                        record { pos = 4; st = List.[]; d = 0; at = λ x. x },
+                                        (
+                                          record { pos = 5; st = List.[]; d = 0; at = λ x. x },
+                                          (
+                                            record { pos = 23; ty = Syntax.tyRef Syntax.erased Syntax.mut (Syntax.tyInt Syntax.w16); ref = λ x. x },
+                                            (
+                                              record { pos = 27; ty = Syntax.tyRef Syntax.erased Syntax.mut (Syntax.tyInt Syntax.w16); ref = λ x. x },
+                                              (record { pos = 31; ty = Syntax.tyRef Syntax.erased Syntax.mut Element.behind; ref = λ x. x }, tt),
+                                            ),
+                                          ),
+                                        ),
+                                      ),
+                                    ),
+                                  ),
+                                ),
+                              ) (m52 record {
+                                before = record { before = record { before = c .before; samples-needed = c .samples-needed }; decode-shared-blocks-arg = record { given = g } };
+                                decode-shared-blocks-arg2 = record {
+                                  given
+                                      = g';
+                                };
+                              } g'') g'3;
+                            },
+                          ),
+                        ),
+                      ),
+                    ),
+                  ),
+                ),
+              ),
+            ),
+          ),
+        )
 
         lay2 : (c : After-mended) → at60 (W0 (c .before .before .before .before .before .κs) (c .before .before .before .before .before .args)) (m11 (c .before) (After-mended·gave c))
-        lay2 = λ c.
-            (λ k.
-            (enum-known-begins record { before = record { before = c .before; mended = c .mended }; match = record { keys1 = k }; }, λ g. λ g'.
-            (handed-back-requires record
-            { before = record { before = record { before = record { before = c .before; mended = c .mended }; match = record { keys1 = k }; }; begins = record { given = g }; }; known-told = record { given
-            = g' }; }, λ g''. lay5 record
-            { before = record
-            { before = record { before = record { before = record { before = c .before; mended = c .mended }; match = record { keys1 = k }; }; begins = record { given = g }; }; known-told = record { given
-            = g' }; }; handed-back = Called.called ps·2 r·2 (claims· .5) T22
-            (record { pos = 1; st = List.[]; d = 0; at = λ x. x }, (record { pos = 10; st = List.[]; d = 0; at = λ x. x }, (record { pos = 20; st = List.[]; d = 0; at = λ x. x }, tt))) (m20 record
-            { before = record { before = record { before = c .before; mended = c .mended }; match = record { keys1 = k }; }; begins = record { given = g }; } g') g''; })),
-            (λ k.
-            (enum-told record { before = record { before = c .before; mended = c .mended }; match = record { keys2 = k }; }, λ g.
-            (handed-back-requires-2 record { before = record { before = record { before = c .before; mended = c .mended }; match = record { keys2 = k }; }; enum-told = record { given = g }; }, λ g'3. lay6
-            record
-            { before = record { before = record { before = record { before = c .before; mended = c .mended }; match = record { keys2 = k }; }; enum-told = record { given = g }; }; handed-back2 =
-            Called.called ps·2 r·2 (claims· .5) T31
-            (record { pos = 1; st = List.[]; d = 0; at = λ x. x }, (record { pos = 10; st = List.[]; d = 0; at = λ x. x }, (record { pos = 21; st = List.[]; d = 0; at = λ x. x }, tt))) (m29 record
-            { before = record { before = c .before; mended = c .mended }; match = record { keys2 = k }; } g) g'3; })),
-            (λ k.
-            (enum-known-begins-2 record { before = record { before = c .before; mended = c .mended }; match = record { keys3 = k }; }, λ g. λ g'4.
-            (samples-needed-requires record
-            { before = record { before = record { before = record { before = c .before; mended = c .mended }; match = record { keys3 = k }; }; begins2 = record { given = g }; }; known-told2 = record {
-            given = g'4 }; }, λ g'5. lay3 record
-            { before = record
-            { before = record { before = record { before = record { before = c .before; mended = c .mended }; match = record { keys3 = k }; }; begins2 = record { given = g }; }; known-told2 = record {
-            given = g'4 }; }; samples-needed = Called.called ps·3 r·3 (claims· .7) T39 (Bool.bFld 12 (List._∷_ (Syntax.field 1) List.[]) 1 λ x. FujiHeader.struct .as-values x .1 .0, tt) (m37 record
-            { before = record { before = record { before = c .before; mended = c .mended }; match = record { keys3 = k }; }; begins2 = record { given = g }; } g'4) g'5; })), Match.each-below 3 (λ j.
-            ((Unit {0} × (Run.OneOf (List._∷_ 0 List.[]) j → ⊥)) × (Run.OneOf (List._∷_ 1 List.[]) j → ⊥)) × (Run.OneOf (List._∷_ 2 List.[]) j → ⊥) → ⊥)
-            (λ n. n .1 Path'.refl, (λ n. n .0 .1 Path'.refl, (λ n. n .0 .0 .1 Path'.refl, tt))) (Declared.tagOf Beginning.the-type (Row.get 9 (T14 .locals) (m12 (c .before) (After-mended·gave c))))
-            (Match.tag-small Beginning.the-type (Row.get 9 (T14 .locals) (m12 (c .before) (After-mended·gave c)))))))
+        lay2 = λ c. (
+          λ k. (
+            enum-known-begins record { before = record { before = c .before; mended = c .mended }; match = record { keys1 = k } },
+            λ g. λ g'. (
+              handed-back-requires record {
+                before = record { before = record { before = record { before = c .before; mended = c .mended }; match = record { keys1 = k } }; begins = record { given = g } };
+                known-told = record {
+                  given
+                      = g';
+                };
+              },
+              λ g''. lay5 record {
+                before = record {
+                  before = record { before = record { before = record { before = c .before; mended = c .mended }; match = record { keys1 = k } }; begins = record { given = g } };
+                  known-told = record {
+                    given
+                        = g';
+                  };
+                };
+                handed-back = Called.called ps·2 r·2 (claims· .5) T22
+                    (record { pos = 1; st = List.[]; d = 0; at = λ x. x }, (record { pos = 10; st = List.[]; d = 0; at = λ x. x }, (record { pos = 20; st = List.[]; d = 0; at = λ x. x }, tt))) (m20 record
+                    { before = record { before = record { before = c .before; mended = c .mended }; match = record { keys1 = k } }; begins = record { given = g } } g') g'';
+              },
+            ),
+          ),
+          (
+            λ k. (
+              enum-told record { before = record { before = c .before; mended = c .mended }; match = record { keys2 = k } },
+              λ g. (
+                handed-back-requires-2 record { before = record { before = record { before = c .before; mended = c .mended }; match = record { keys2 = k } }; enum-told = record { given = g } },
+                λ g'3. lay6
+                    record {
+                      before = record { before = record { before = record { before = c .before; mended = c .mended }; match = record { keys2 = k } }; enum-told = record { given = g } };
+                      handed-back2 =
+                          Called.called ps·2 r·2 (claims· .5) T31
+                          (record { pos = 1; st = List.[]; d = 0; at = λ x. x }, (record { pos = 10; st = List.[]; d = 0; at = λ x. x }, (record { pos = 21; st = List.[]; d = 0; at = λ x. x }, tt))) (m29 record
+                          { before = record { before = c .before; mended = c .mended }; match = record { keys2 = k } } g) g'3;
+                    },
+              ),
+            ),
+            (
+              λ k. (
+                enum-known-begins-2 record { before = record { before = c .before; mended = c .mended }; match = record { keys3 = k } },
+                λ g. λ g'4. (
+                  samples-needed-requires record {
+                    before = record { before = record { before = record { before = c .before; mended = c .mended }; match = record { keys3 = k } }; begins2 = record { given = g } };
+                    known-told2 = record {
+                      given = g'4;
+                    };
+                  },
+                  λ g'5. lay3 record {
+                    before = record {
+                      before = record { before = record { before = record { before = c .before; mended = c .mended }; match = record { keys3 = k } }; begins2 = record { given = g } };
+                      known-told2 = record {
+                        given = g'4;
+                      };
+                    };
+                    samples-needed = Called.called ps·3 r·3 (claims· .7) T39 (Bool.bFld 12 (List._∷_ (Syntax.field 1) List.[]) 1 λ x. FujiHeader.struct .as-values x .1 .0, tt) (m37 record
+                        { before = record { before = record { before = c .before; mended = c .mended }; match = record { keys3 = k } }; begins2 = record { given = g } } g'4) g'5;
+                  },
+                ),
+              ),
+              Match.each-below 3 (λ j.
+                  ((Unit {0} × (Run.OneOf (List._∷_ 0 List.[]) j → ⊥)) × (Run.OneOf (List._∷_ 1 List.[]) j → ⊥)) × (Run.OneOf (List._∷_ 2 List.[]) j → ⊥) → ⊥)
+                  (λ n. n .1 Path'.refl, (λ n. n .0 .1 Path'.refl, (λ n. n .0 .0 .1 Path'.refl, tt))) (Declared.tagOf Beginning.the-type (Row.get 9 (T14 .locals) (m12 (c .before) (After-mended·gave c))))
+                  (Match.tag-small Beginning.the-type (Row.get 9 (T14 .locals) (m12 (c .before) (After-mended·gave c)))),
+            ),
+          ),
+        )
 
         lay1 : (c : After-region-begins) → at64 (W0 (c .before .before .before .before .κs) (c .before .before .before .before .args)) (m7 (c .before) (After-region-begins·gave c))
-        lay1 = λ c.
-            (mended-requires record { before = c .before; region-begins = c .region-begins }, λ g. lay2 record
-            { before = record { before = c .before; region-begins = c .region-begins }; mended = Called.called ps·1 r·1 (claims· .3) T11 (record { pos = 2; st = List.[]; d = 0; at = λ x. x }, tt) (m10 (c
-            .before) (After-region-begins·gave c)) g; })
+        lay1 = λ c. (
+          mended-requires record { before = c .before; region-begins = c .region-begins },
+          λ g. lay2 record {
+            before = record { before = c .before; region-begins = c .region-begins };
+            mended = Called.called ps·1 r·1 (claims· .3) T11 (record { pos = 2; st = List.[]; d = 0; at = λ x. x }, tt) (m10 (c
+                .before) (After-region-begins·gave c)) g;
+          },
+        )
 
         pub laid : (c : Start) → at71 (W0 (c .κs) (c .args)) (m0 (c .κs) (c .args))
-        laid = λ c. λ g. λ g'. λ g''.
-            (region-begins-requires record
-            { before = record { before = record { before = c; shared-slice-known = record { given = g } }; slice-known = record { given = g' }; }; slice-known2 = record { given = g'' }; }, λ g'3. lay1
-            record
-            { before = record
-            { before = record { before = record { before = c; shared-slice-known = record { given = g } }; slice-known = record { given = g' }; }; slice-known2 = record { given = g'' }; }; region-begins =
-            Called.called ps·0 r·0 (claims· .1) T7
-            (record { pos = 3; ty = Syntax.tyRef (Syntax.named 0) Syntax.imm (Syntax.tyInt Syntax.w8); ref = λ x. x; },
-            (record { pos = 4; st = List.[]; d = 0; at = λ x. x }, (Num.vAt 16 λ x. x, (Num.vAt 17 λ x. x, (Num.vAt 18 λ x. x, tt))))) (m6 record
-            { before = record { before = c; shared-slice-known = record { given = g } }; slice-known = record { given = g' }; } g'') g'3; })
+        laid = λ c. λ g. λ g'. λ g''. (
+          region-begins-requires record
+              { before = record { before = record { before = c; shared-slice-known = record { given = g } }; slice-known = record { given = g' } }; slice-known2 = record { given = g'' } },
+          λ g'3. lay1
+              record {
+                before = record
+                    { before = record { before = record { before = c; shared-slice-known = record { given = g } }; slice-known = record { given = g' } }; slice-known2 = record { given = g'' } };
+                region-begins =
+                    Called.called ps·0 r·0 (claims· .1) T7 (
+                      record { pos = 3; ty = Syntax.tyRef (Syntax.named 0) Syntax.imm (Syntax.tyInt Syntax.w8); ref = λ x. x },
+                      (record { pos = 4; st = List.[]; d = 0; at = λ x. x }, (Num.vAt 16 λ x. x, (Num.vAt 17 λ x. x, (Num.vAt 18 λ x. x, tt)))),
+                    ) (m6 record
+                    { before = record { before = c; shared-slice-known = record { given = g } }; slice-known = record { given = g' } } g'') g'3;
+              },
+        )
 
         module _ (κs : Lifetimes.Lfts 4) (qs : Lifetimes.Shares 4) where
           pub asked : (a : Kinds.Dens κs ps) → (good : Kinds.GoodsP κs ps a) → (pre : Pre· κs a) → (bs : List.List Nat.ℕ) → Φ (Any.wantQ 4 ps r xs m κs qs a (Post· κs a)) (Function.init 4 ps r xs m κs
               qs a)
-          asked = λ a good pre bs. laid record
-              { κs = κs; args = record
-              { camera = a .0; entries = a .1 .0; d = a .1 .1 .0; r = a .1 .1 .1 .0; tile = a .1 .1 .1 .1 .0; image = a .1 .1 .1 .1 .1 .0; lines = a .1 .1 .1 .1 .1 .1 .0; rs = a .1 .1 .1 .1 .1 .1 .1 .0;
-              }; good = good; pre = pre; }
+          asked = λ a good pre bs. laid record {
+            κs = κs;
+            args = record {
+              camera = a .0;
+              entries = a .1 .0;
+              d = a .1 .1 .0;
+              r = a .1 .1 .1 .0;
+              tile = a .1 .1 .1 .1 .0;
+              image = a .1 .1 .1 .1 .1 .0;
+              lines = a .1 .1 .1 .1 .1 .1 .0;
+              rs = a .1 .1 .1 .1 .1 .1 .1 .0;
+            };
+            good = good;
+            pre = pre;
+          }
 
         module _ {M : Type 1} (𝓤 : URA.URA M) (H : Wp.Heap 𝓤) (A : Atoms.Atoms 𝓤) (W : Kit.Given 𝓤 H A) (𝓣 : Wp.Tables 𝓤 H) (known0 : Plain.Known 𝓤 H A W 𝓣 1 ps·0 r·0 (claims· .0) (claims· .1)
             "begin::region_begins") (known1 : Plain.Known 𝓤 H A W 𝓣 0 ps·1 r·1 (claims· .2) (claims· .3) "cameras::mended") (known2 : Plain.Known 𝓤 H A W 𝓣 0 ps·2 r·2 (claims· .4) (claims· .5)

@@ -168,33 +168,96 @@ y14 = Syntax.tyStruct (List._∷_ 99 (List._∷_ 97 (List._∷_ 109 (List._∷_ 
     List.[]))))))))))))) (Syntax.tcons (Syntax.tyInt Syntax.w64) (Syntax.tcons y12 Syntax.tnil))
 
 abbrev pub ps : List.List (Kinds.PK 4)
-ps = List._∷_ (Value.pVal record
-    { ty = Declared.row Camera.the-type; one = Path'.refl; val = Laws'12.val Camera.the-type Laws'4.the-laws; tells = Laws'12.tells Camera.the-type Laws'4.the-laws; still = Laws'12.still Camera.the-type
-    Laws'4.the-copy Exit.yes; row = Rows'.whole (Declared.row Camera.the-type); rd = λ x. x; mk = λ x. x; } λ M 𝓤 H A W. record
-    { copies = Laws'12.copy Camera.the-type Laws'4.the-copy 𝓤 H A W; lawful = Laws'12.lawful Camera.the-type Laws'4.the-laws 𝓤 H A W tt; makes = Laws'12.makes Camera.the-type Laws'4.the-plain 𝓤 H A;
-    in-mem = Local.mem-whole 𝓤 H A W (Declared.row Camera.the-type); of-mem = Local.whole-mem 𝓤 H A W (Declared.row Camera.the-type); }) (List._∷_ (Value.pVal record
-    { ty = Declared'.row Entries.the-type; one = Path'.refl; val = Laws'14.val Entries.the-type Laws'5.the-laws; tells = Laws'14.tells Entries.the-type Laws'5.the-laws; still = Laws'14.still
-    Entries.the-type Laws'5.the-copy Exit.yes; row = Rows'.whole (Declared'.row Entries.the-type); rd = λ x. x; mk = λ x. x; } λ M 𝓤 H A W. record
-    { copies = Laws'14.copy Entries.the-type Laws'5.the-copy 𝓤 H A W; lawful = Laws'14.lawful Entries.the-type Laws'5.the-laws 𝓤 H A W; makes = Laws'14.makes Entries.the-type Laws'5.the-plain 𝓤 H A;
-    in-mem = Local.mem-whole 𝓤 H A W (Declared'.row Entries.the-type); of-mem = Local.whole-mem 𝓤 H A W (Declared'.row Entries.the-type); }) (List._∷_ (ShrSlice.pShrS (Referent.rtF (Referent.fInt
-    Syntax.w8)) 0 tt) (List._∷_ (Value.pVal record
-    { ty = Declared'.row FujiHeader.the-type; one = Path'.refl; val = Laws'14.val FujiHeader.the-type Laws'10.the-laws; tells = Laws'14.tells FujiHeader.the-type Laws'10.the-laws; still = Laws'14.still
-    FujiHeader.the-type Laws'10.the-copy Exit.yes; row = Rows'.whole (Declared'.row FujiHeader.the-type); rd = λ x. x; mk = λ x. x; } λ M 𝓤 H A W. record
-    { copies = Laws'14.copy FujiHeader.the-type Laws'10.the-copy 𝓤 H A W; lawful = Laws'14.lawful FujiHeader.the-type Laws'10.the-laws 𝓤 H A W; makes = Laws'14.makes FujiHeader.the-type Laws'10.the-plain
-    𝓤 H A; in-mem = Local.mem-whole 𝓤 H A W (Declared'.row FujiHeader.the-type); of-mem = Local.whole-mem 𝓤 H A W (Declared'.row FujiHeader.the-type); }) (List._∷_ (Value.pVal record
-    { ty = Declared'.row Rect.the-type; one = Path'.refl; val = Laws'14.val Rect.the-type Laws'8.the-laws; tells = Laws'14.tells Rect.the-type Laws'8.the-laws; still = Laws'14.still Rect.the-type
-    Laws'8.the-copy Exit.yes; row = Rows'.whole (Declared'.row Rect.the-type); rd = λ x. x; mk = λ x. x; } λ M 𝓤 H A W. record
-    { copies = Laws'14.copy Rect.the-type Laws'8.the-copy 𝓤 H A W; lawful = Laws'14.lawful Rect.the-type Laws'8.the-laws 𝓤 H A W; makes = Laws'14.makes Rect.the-type Laws'8.the-plain 𝓤 H A; in-mem =
-    Local.mem-whole 𝓤 H A W (Declared'.row Rect.the-type); of-mem = Local.whole-mem 𝓤 H A W (Declared'.row Rect.the-type); }) (List._∷_ (Array.pArr (Array.eInt Syntax.w8) (Array.eInt-laws Syntax.w8) 36)
+ps = List._∷_ (Value.pVal record {
+  ty = Declared.row Camera.the-type;
+  one = Path'.refl;
+  val = Laws'12.val Camera.the-type Laws'4.the-laws;
+  tells = Laws'12.tells Camera.the-type Laws'4.the-laws;
+  still = Laws'12.still Camera.the-type
+      Laws'4.the-copy Exit.yes;
+  row = Rows'.whole (Declared.row Camera.the-type);
+  rd = λ x. x;
+  mk = λ x. x;
+} λ M 𝓤 H A W. record {
+  copies = Laws'12.copy Camera.the-type Laws'4.the-copy 𝓤 H A W;
+  lawful = Laws'12.lawful Camera.the-type Laws'4.the-laws 𝓤 H A W tt;
+  makes = Laws'12.makes Camera.the-type Laws'4.the-plain 𝓤 H A;
+  in-mem = Local.mem-whole 𝓤 H A W (Declared.row Camera.the-type);
+  of-mem = Local.whole-mem 𝓤 H A W (Declared.row Camera.the-type);
+}) (List._∷_ (Value.pVal record {
+  ty = Declared'.row Entries.the-type;
+  one = Path'.refl;
+  val = Laws'14.val Entries.the-type Laws'5.the-laws;
+  tells = Laws'14.tells Entries.the-type Laws'5.the-laws;
+  still = Laws'14.still
+      Entries.the-type Laws'5.the-copy Exit.yes;
+  row = Rows'.whole (Declared'.row Entries.the-type);
+  rd = λ x. x;
+  mk = λ x. x;
+} λ M 𝓤 H A W. record {
+  copies = Laws'14.copy Entries.the-type Laws'5.the-copy 𝓤 H A W;
+  lawful = Laws'14.lawful Entries.the-type Laws'5.the-laws 𝓤 H A W;
+  makes = Laws'14.makes Entries.the-type Laws'5.the-plain 𝓤 H A;
+  in-mem = Local.mem-whole 𝓤 H A W (Declared'.row Entries.the-type);
+  of-mem = Local.whole-mem 𝓤 H A W (Declared'.row Entries.the-type);
+}) (List._∷_ (ShrSlice.pShrS (Referent.rtF (Referent.fInt
+    Syntax.w8)) 0 tt) (List._∷_ (Value.pVal record {
+      ty = Declared'.row FujiHeader.the-type;
+      one = Path'.refl;
+      val = Laws'14.val FujiHeader.the-type Laws'10.the-laws;
+      tells = Laws'14.tells FujiHeader.the-type Laws'10.the-laws;
+      still = Laws'14.still
+          FujiHeader.the-type Laws'10.the-copy Exit.yes;
+      row = Rows'.whole (Declared'.row FujiHeader.the-type);
+      rd = λ x. x;
+      mk = λ x. x;
+    } λ M 𝓤 H A W. record {
+      copies = Laws'14.copy FujiHeader.the-type Laws'10.the-copy 𝓤 H A W;
+      lawful = Laws'14.lawful FujiHeader.the-type Laws'10.the-laws 𝓤 H A W;
+      makes = Laws'14.makes FujiHeader.the-type Laws'10.the-plain
+          𝓤 H A;
+      in-mem = Local.mem-whole 𝓤 H A W (Declared'.row FujiHeader.the-type);
+      of-mem = Local.whole-mem 𝓤 H A W (Declared'.row FujiHeader.the-type);
+    }) (List._∷_ (Value.pVal record {
+      ty = Declared'.row Rect.the-type;
+      one = Path'.refl;
+      val = Laws'14.val Rect.the-type Laws'8.the-laws;
+      tells = Laws'14.tells Rect.the-type Laws'8.the-laws;
+      still = Laws'14.still Rect.the-type
+          Laws'8.the-copy Exit.yes;
+      row = Rows'.whole (Declared'.row Rect.the-type);
+      rd = λ x. x;
+      mk = λ x. x;
+    } λ M 𝓤 H A W. record {
+      copies = Laws'14.copy Rect.the-type Laws'8.the-copy 𝓤 H A W;
+      lawful = Laws'14.lawful Rect.the-type Laws'8.the-laws 𝓤 H A W;
+      makes = Laws'14.makes Rect.the-type Laws'8.the-plain 𝓤 H A;
+      in-mem =
+          Local.mem-whole 𝓤 H A W (Declared'.row Rect.the-type);
+      of-mem = Local.whole-mem 𝓤 H A W (Declared'.row Rect.the-type);
+    }) (List._∷_ (Array.pArr (Array.eInt Syntax.w8) (Array.eInt-laws Syntax.w8) 36)
     (List._∷_ (MutSlice.pMutS (Referent.rtF (Referent.fInt Syntax.w16)) 1 tt) (List._∷_ (MutSlice.pMutS (Referent.rtF (Referent.fInt Syntax.w16)) 2 tt) (List._∷_ (MutSlice.pMutS (Element.type) 3 tt)
     List.[]))))))))
 
 abbrev pub r : Kinds.RK 4
-r = Value.rVal record
-    { ty = Declared'.row SharedAnswer.the-type; one = Path'.refl; val = Laws'14.val SharedAnswer.the-type Laws''.the-laws; tells = Laws'14.tells SharedAnswer.the-type Laws''.the-laws; still =
-    Laws'14.still SharedAnswer.the-type Laws''.the-copy Exit.yes; row = Rows'.whole (Declared'.row SharedAnswer.the-type); rd = λ x. x; mk = λ x. x; } λ M 𝓤 H A W. record
-    { copies = Laws'14.copy SharedAnswer.the-type Laws''.the-copy 𝓤 H A W; lawful = Laws'14.lawful SharedAnswer.the-type Laws''.the-laws 𝓤 H A W; makes = Laws'14.makes SharedAnswer.the-type
-    Laws''.the-plain 𝓤 H A; in-mem = Local.mem-whole 𝓤 H A W (Declared'.row SharedAnswer.the-type); of-mem = Local.whole-mem 𝓤 H A W (Declared'.row SharedAnswer.the-type); }
+r = Value.rVal record {
+  ty = Declared'.row SharedAnswer.the-type;
+  one = Path'.refl;
+  val = Laws'14.val SharedAnswer.the-type Laws''.the-laws;
+  tells = Laws'14.tells SharedAnswer.the-type Laws''.the-laws;
+  still =
+      Laws'14.still SharedAnswer.the-type Laws''.the-copy Exit.yes;
+  row = Rows'.whole (Declared'.row SharedAnswer.the-type);
+  rd = λ x. x;
+  mk = λ x. x;
+} λ M 𝓤 H A W. record {
+  copies = Laws'14.copy SharedAnswer.the-type Laws''.the-copy 𝓤 H A W;
+  lawful = Laws'14.lawful SharedAnswer.the-type Laws''.the-laws 𝓤 H A W;
+  makes = Laws'14.makes SharedAnswer.the-type
+      Laws''.the-plain 𝓤 H A;
+  in-mem = Local.mem-whole 𝓤 H A W (Declared'.row SharedAnswer.the-type);
+  of-mem = Local.whole-mem 𝓤 H A W (Declared'.row SharedAnswer.the-type);
+}
 
 abbrev pub xs : List.List Syntax.Ty
 xs = List._∷_ y3 (List._∷_ (Syntax.tyInt Syntax.w64) (List._∷_ (Syntax.tyInt Syntax.w64) (List._∷_ (Syntax.tyInt Syntax.w32) (List._∷_ (Syntax.tyArray (Syntax.tyInt Syntax.w16) 768) (List._∷_ y12
@@ -233,18 +296,44 @@ abbrev pub m : Nat.ℕ
 m = 4
 
 abbrev pub ps·0 : List.List (Kinds.PK 0)
-ps·0 = List._∷_ (Value.pVal record
-    { ty = Declared'.row Rect.the-type; one = Path'.refl; val = Laws'14.val Rect.the-type Laws'8.the-laws; tells = Laws'14.tells Rect.the-type Laws'8.the-laws; still = Laws'14.still Rect.the-type
-    Laws'8.the-copy Exit.yes; row = Rows'.whole (Declared'.row Rect.the-type); rd = λ x. x; mk = λ x. x; } λ M 𝓤 H A W. record
-    { copies = Laws'14.copy Rect.the-type Laws'8.the-copy 𝓤 H A W; lawful = Laws'14.lawful Rect.the-type Laws'8.the-laws 𝓤 H A W; makes = Laws'14.makes Rect.the-type Laws'8.the-plain 𝓤 H A; in-mem =
-    Local.mem-whole 𝓤 H A W (Declared'.row Rect.the-type); of-mem = Local.whole-mem 𝓤 H A W (Declared'.row Rect.the-type); }) List.[]
+ps·0 = List._∷_ (Value.pVal record {
+  ty = Declared'.row Rect.the-type;
+  one = Path'.refl;
+  val = Laws'14.val Rect.the-type Laws'8.the-laws;
+  tells = Laws'14.tells Rect.the-type Laws'8.the-laws;
+  still = Laws'14.still Rect.the-type
+      Laws'8.the-copy Exit.yes;
+  row = Rows'.whole (Declared'.row Rect.the-type);
+  rd = λ x. x;
+  mk = λ x. x;
+} λ M 𝓤 H A W. record {
+  copies = Laws'14.copy Rect.the-type Laws'8.the-copy 𝓤 H A W;
+  lawful = Laws'14.lawful Rect.the-type Laws'8.the-laws 𝓤 H A W;
+  makes = Laws'14.makes Rect.the-type Laws'8.the-plain 𝓤 H A;
+  in-mem =
+      Local.mem-whole 𝓤 H A W (Declared'.row Rect.the-type);
+  of-mem = Local.whole-mem 𝓤 H A W (Declared'.row Rect.the-type);
+}) List.[]
 
 abbrev pub r·0 : Kinds.RK 0
-r·0 = Value.rVal record
-    { ty = Declared'.row Span.the-type; one = Path'.refl; val = Laws'14.val Span.the-type Laws'9.the-laws; tells = Laws'14.tells Span.the-type Laws'9.the-laws; still = Laws'14.still Span.the-type
-    Laws'9.the-copy Exit.yes; row = Rows'.whole (Declared'.row Span.the-type); rd = λ x. x; mk = λ x. x; } λ M 𝓤 H A W. record
-    { copies = Laws'14.copy Span.the-type Laws'9.the-copy 𝓤 H A W; lawful = Laws'14.lawful Span.the-type Laws'9.the-laws 𝓤 H A W; makes = Laws'14.makes Span.the-type Laws'9.the-plain 𝓤 H A; in-mem =
-    Local.mem-whole 𝓤 H A W (Declared'.row Span.the-type); of-mem = Local.whole-mem 𝓤 H A W (Declared'.row Span.the-type); }
+r·0 = Value.rVal record {
+  ty = Declared'.row Span.the-type;
+  one = Path'.refl;
+  val = Laws'14.val Span.the-type Laws'9.the-laws;
+  tells = Laws'14.tells Span.the-type Laws'9.the-laws;
+  still = Laws'14.still Span.the-type
+      Laws'9.the-copy Exit.yes;
+  row = Rows'.whole (Declared'.row Span.the-type);
+  rd = λ x. x;
+  mk = λ x. x;
+} λ M 𝓤 H A W. record {
+  copies = Laws'14.copy Span.the-type Laws'9.the-copy 𝓤 H A W;
+  lawful = Laws'14.lawful Span.the-type Laws'9.the-laws 𝓤 H A W;
+  makes = Laws'14.makes Span.the-type Laws'9.the-plain 𝓤 H A;
+  in-mem =
+      Local.mem-whole 𝓤 H A W (Declared'.row Span.the-type);
+  of-mem = Local.whole-mem 𝓤 H A W (Declared'.row Span.the-type);
+}
 
 abbrev pub ps·1 : List.List (Kinds.PK 0)
 ps·1 = List.[]
@@ -253,18 +342,44 @@ abbrev pub r·1 : Kinds.RK 0
 r·1 = Array.rArr (Array.eInt Syntax.w16) (Array.eInt-laws Syntax.w16) 768
 
 abbrev pub ps·2 : List.List (Kinds.PK 0)
-ps·2 = List._∷_ (Value.pVal record
-    { ty = Declared'.row FujiHeader.the-type; one = Path'.refl; val = Laws'14.val FujiHeader.the-type Laws'10.the-laws; tells = Laws'14.tells FujiHeader.the-type Laws'10.the-laws; still = Laws'14.still
-    FujiHeader.the-type Laws'10.the-copy Exit.yes; row = Rows'.whole (Declared'.row FujiHeader.the-type); rd = λ x. x; mk = λ x. x; } λ M 𝓤 H A W. record
-    { copies = Laws'14.copy FujiHeader.the-type Laws'10.the-copy 𝓤 H A W; lawful = Laws'14.lawful FujiHeader.the-type Laws'10.the-laws 𝓤 H A W; makes = Laws'14.makes FujiHeader.the-type Laws'10.the-plain
-    𝓤 H A; in-mem = Local.mem-whole 𝓤 H A W (Declared'.row FujiHeader.the-type); of-mem = Local.whole-mem 𝓤 H A W (Declared'.row FujiHeader.the-type); }) List.[]
+ps·2 = List._∷_ (Value.pVal record {
+  ty = Declared'.row FujiHeader.the-type;
+  one = Path'.refl;
+  val = Laws'14.val FujiHeader.the-type Laws'10.the-laws;
+  tells = Laws'14.tells FujiHeader.the-type Laws'10.the-laws;
+  still = Laws'14.still
+      FujiHeader.the-type Laws'10.the-copy Exit.yes;
+  row = Rows'.whole (Declared'.row FujiHeader.the-type);
+  rd = λ x. x;
+  mk = λ x. x;
+} λ M 𝓤 H A W. record {
+  copies = Laws'14.copy FujiHeader.the-type Laws'10.the-copy 𝓤 H A W;
+  lawful = Laws'14.lawful FujiHeader.the-type Laws'10.the-laws 𝓤 H A W;
+  makes = Laws'14.makes FujiHeader.the-type Laws'10.the-plain
+      𝓤 H A;
+  in-mem = Local.mem-whole 𝓤 H A W (Declared'.row FujiHeader.the-type);
+  of-mem = Local.whole-mem 𝓤 H A W (Declared'.row FujiHeader.the-type);
+}) List.[]
 
 abbrev pub r·2 : Kinds.RK 0
-r·2 = Value.rVal record
-    { ty = Declared'.row Form.the-type; one = Path'.refl; val = Laws'14.val Form.the-type Laws'.the-laws; tells = Laws'14.tells Form.the-type Laws'.the-laws; still = Laws'14.still Form.the-type
-    Laws'.the-copy Exit.yes; row = Rows'.whole (Declared'.row Form.the-type); rd = λ x. x; mk = λ x. x; } λ M 𝓤 H A W. record
-    { copies = Laws'14.copy Form.the-type Laws'.the-copy 𝓤 H A W; lawful = Laws'14.lawful Form.the-type Laws'.the-laws 𝓤 H A W; makes = Laws'14.makes Form.the-type Laws'.the-plain 𝓤 H A; in-mem =
-    Local.mem-whole 𝓤 H A W (Declared'.row Form.the-type); of-mem = Local.whole-mem 𝓤 H A W (Declared'.row Form.the-type); }
+r·2 = Value.rVal record {
+  ty = Declared'.row Form.the-type;
+  one = Path'.refl;
+  val = Laws'14.val Form.the-type Laws'.the-laws;
+  tells = Laws'14.tells Form.the-type Laws'.the-laws;
+  still = Laws'14.still Form.the-type
+      Laws'.the-copy Exit.yes;
+  row = Rows'.whole (Declared'.row Form.the-type);
+  rd = λ x. x;
+  mk = λ x. x;
+} λ M 𝓤 H A W. record {
+  copies = Laws'14.copy Form.the-type Laws'.the-copy 𝓤 H A W;
+  lawful = Laws'14.lawful Form.the-type Laws'.the-laws 𝓤 H A W;
+  makes = Laws'14.makes Form.the-type Laws'.the-plain 𝓤 H A;
+  in-mem =
+      Local.mem-whole 𝓤 H A W (Declared'.row Form.the-type);
+  of-mem = Local.whole-mem 𝓤 H A W (Declared'.row Form.the-type);
+}
 
 abbrev pub ps·3 : List.List (Kinds.PK 1)
 ps·3 = List._∷_ (ShrSlice.pShrS (Referent.rtF (Referent.fInt Syntax.w8)) 0 tt) (List._∷_ (Num.pNum Syntax.w64) List.[])
@@ -279,91 +394,252 @@ abbrev pub r·4 : Kinds.RK 1
 r·4 = ShrSlice.rShrS (Referent.rtF (Referent.fInt Syntax.w8)) 0 tt
 
 abbrev pub ps·5 : List.List (Kinds.PK 0)
-ps·5 = List._∷_ (Value.pVal record
-    { ty = Declared'.row Rect.the-type; one = Path'.refl; val = Laws'14.val Rect.the-type Laws'8.the-laws; tells = Laws'14.tells Rect.the-type Laws'8.the-laws; still = Laws'14.still Rect.the-type
-    Laws'8.the-copy Exit.yes; row = Rows'.whole (Declared'.row Rect.the-type); rd = λ x. x; mk = λ x. x; } λ M 𝓤 H A W. record
-    { copies = Laws'14.copy Rect.the-type Laws'8.the-copy 𝓤 H A W; lawful = Laws'14.lawful Rect.the-type Laws'8.the-laws 𝓤 H A W; makes = Laws'14.makes Rect.the-type Laws'8.the-plain 𝓤 H A; in-mem =
-    Local.mem-whole 𝓤 H A W (Declared'.row Rect.the-type); of-mem = Local.whole-mem 𝓤 H A W (Declared'.row Rect.the-type); }) (List._∷_ (Num.pNum Syntax.w64) List.[])
+ps·5 = List._∷_ (Value.pVal record {
+  ty = Declared'.row Rect.the-type;
+  one = Path'.refl;
+  val = Laws'14.val Rect.the-type Laws'8.the-laws;
+  tells = Laws'14.tells Rect.the-type Laws'8.the-laws;
+  still = Laws'14.still Rect.the-type
+      Laws'8.the-copy Exit.yes;
+  row = Rows'.whole (Declared'.row Rect.the-type);
+  rd = λ x. x;
+  mk = λ x. x;
+} λ M 𝓤 H A W. record {
+  copies = Laws'14.copy Rect.the-type Laws'8.the-copy 𝓤 H A W;
+  lawful = Laws'14.lawful Rect.the-type Laws'8.the-laws 𝓤 H A W;
+  makes = Laws'14.makes Rect.the-type Laws'8.the-plain 𝓤 H A;
+  in-mem =
+      Local.mem-whole 𝓤 H A W (Declared'.row Rect.the-type);
+  of-mem = Local.whole-mem 𝓤 H A W (Declared'.row Rect.the-type);
+}) (List._∷_ (Num.pNum Syntax.w64) List.[])
 
 abbrev pub r·5 : Kinds.RK 0
-r·5 = Value.rVal record
-    { ty = Declared'.row Part.the-type; one = Path'.refl; val = Laws'14.val Part.the-type Laws'7.the-laws; tells = Laws'14.tells Part.the-type Laws'7.the-laws; still = Laws'14.still Part.the-type
-    Laws'7.the-copy Exit.yes; row = Rows'.whole (Declared'.row Part.the-type); rd = λ x. x; mk = λ x. x; } λ M 𝓤 H A W. record
-    { copies = Laws'14.copy Part.the-type Laws'7.the-copy 𝓤 H A W; lawful = Laws'14.lawful Part.the-type Laws'7.the-laws 𝓤 H A W; makes = Laws'14.makes Part.the-type Laws'7.the-plain 𝓤 H A; in-mem =
-    Local.mem-whole 𝓤 H A W (Declared'.row Part.the-type); of-mem = Local.whole-mem 𝓤 H A W (Declared'.row Part.the-type); }
+r·5 = Value.rVal record {
+  ty = Declared'.row Part.the-type;
+  one = Path'.refl;
+  val = Laws'14.val Part.the-type Laws'7.the-laws;
+  tells = Laws'14.tells Part.the-type Laws'7.the-laws;
+  still = Laws'14.still Part.the-type
+      Laws'7.the-copy Exit.yes;
+  row = Rows'.whole (Declared'.row Part.the-type);
+  rd = λ x. x;
+  mk = λ x. x;
+} λ M 𝓤 H A W. record {
+  copies = Laws'14.copy Part.the-type Laws'7.the-copy 𝓤 H A W;
+  lawful = Laws'14.lawful Part.the-type Laws'7.the-laws 𝓤 H A W;
+  makes = Laws'14.makes Part.the-type Laws'7.the-plain 𝓤 H A;
+  in-mem =
+      Local.mem-whole 𝓤 H A W (Declared'.row Part.the-type);
+  of-mem = Local.whole-mem 𝓤 H A W (Declared'.row Part.the-type);
+}
 
 abbrev pub ps·6 : List.List (Kinds.PK 1)
-ps·6 = List._∷_ (Value.pVal record
-    { ty = Declared.row Camera.the-type; one = Path'.refl; val = Laws'12.val Camera.the-type Laws'4.the-laws; tells = Laws'12.tells Camera.the-type Laws'4.the-laws; still = Laws'12.still Camera.the-type
-    Laws'4.the-copy Exit.yes; row = Rows'.whole (Declared.row Camera.the-type); rd = λ x. x; mk = λ x. x; } λ M 𝓤 H A W. record
-    { copies = Laws'12.copy Camera.the-type Laws'4.the-copy 𝓤 H A W; lawful = Laws'12.lawful Camera.the-type Laws'4.the-laws 𝓤 H A W tt; makes = Laws'12.makes Camera.the-type Laws'4.the-plain 𝓤 H A;
-    in-mem = Local.mem-whole 𝓤 H A W (Declared.row Camera.the-type); of-mem = Local.whole-mem 𝓤 H A W (Declared.row Camera.the-type); }) (List._∷_ (Value.pVal record
-    { ty = Declared'.row Entries.the-type; one = Path'.refl; val = Laws'14.val Entries.the-type Laws'5.the-laws; tells = Laws'14.tells Entries.the-type Laws'5.the-laws; still = Laws'14.still
-    Entries.the-type Laws'5.the-copy Exit.yes; row = Rows'.whole (Declared'.row Entries.the-type); rd = λ x. x; mk = λ x. x; } λ M 𝓤 H A W. record
-    { copies = Laws'14.copy Entries.the-type Laws'5.the-copy 𝓤 H A W; lawful = Laws'14.lawful Entries.the-type Laws'5.the-laws 𝓤 H A W; makes = Laws'14.makes Entries.the-type Laws'5.the-plain 𝓤 H A;
-    in-mem = Local.mem-whole 𝓤 H A W (Declared'.row Entries.the-type); of-mem = Local.whole-mem 𝓤 H A W (Declared'.row Entries.the-type); }) (List._∷_ (Num.pNum Syntax.w32) (List._∷_ (ShrSlice.pShrS
+ps·6 = List._∷_ (Value.pVal record {
+  ty = Declared.row Camera.the-type;
+  one = Path'.refl;
+  val = Laws'12.val Camera.the-type Laws'4.the-laws;
+  tells = Laws'12.tells Camera.the-type Laws'4.the-laws;
+  still = Laws'12.still Camera.the-type
+      Laws'4.the-copy Exit.yes;
+  row = Rows'.whole (Declared.row Camera.the-type);
+  rd = λ x. x;
+  mk = λ x. x;
+} λ M 𝓤 H A W. record {
+  copies = Laws'12.copy Camera.the-type Laws'4.the-copy 𝓤 H A W;
+  lawful = Laws'12.lawful Camera.the-type Laws'4.the-laws 𝓤 H A W tt;
+  makes = Laws'12.makes Camera.the-type Laws'4.the-plain 𝓤 H A;
+  in-mem = Local.mem-whole 𝓤 H A W (Declared.row Camera.the-type);
+  of-mem = Local.whole-mem 𝓤 H A W (Declared.row Camera.the-type);
+}) (List._∷_ (Value.pVal record {
+  ty = Declared'.row Entries.the-type;
+  one = Path'.refl;
+  val = Laws'14.val Entries.the-type Laws'5.the-laws;
+  tells = Laws'14.tells Entries.the-type Laws'5.the-laws;
+  still = Laws'14.still
+      Entries.the-type Laws'5.the-copy Exit.yes;
+  row = Rows'.whole (Declared'.row Entries.the-type);
+  rd = λ x. x;
+  mk = λ x. x;
+} λ M 𝓤 H A W. record {
+  copies = Laws'14.copy Entries.the-type Laws'5.the-copy 𝓤 H A W;
+  lawful = Laws'14.lawful Entries.the-type Laws'5.the-laws 𝓤 H A W;
+  makes = Laws'14.makes Entries.the-type Laws'5.the-plain 𝓤 H A;
+  in-mem = Local.mem-whole 𝓤 H A W (Declared'.row Entries.the-type);
+  of-mem = Local.whole-mem 𝓤 H A W (Declared'.row Entries.the-type);
+}) (List._∷_ (Num.pNum Syntax.w32) (List._∷_ (ShrSlice.pShrS
     (Referent.rtF (Referent.fInt Syntax.w8)) 0 tt) (List._∷_ (Num.pNum Syntax.w64) List.[]))))
 
 abbrev pub r·6 : Kinds.RK 1
-r·6 = Value.rVal record
-    { ty = Declared'.row Took.the-type; one = Path'.refl; val = Laws'14.val Took.the-type Laws'6.the-laws; tells = Laws'14.tells Took.the-type Laws'6.the-laws; still = Laws'14.still Took.the-type
-    Laws'6.the-copy Exit.yes; row = Rows'.whole (Declared'.row Took.the-type); rd = λ x. x; mk = λ x. x; } λ M 𝓤 H A W. record
-    { copies = Laws'14.copy Took.the-type Laws'6.the-copy 𝓤 H A W; lawful = Laws'14.lawful Took.the-type Laws'6.the-laws 𝓤 H A W; makes = Laws'14.makes Took.the-type Laws'6.the-plain 𝓤 H A; in-mem =
-    Local.mem-whole 𝓤 H A W (Declared'.row Took.the-type); of-mem = Local.whole-mem 𝓤 H A W (Declared'.row Took.the-type); }
+r·6 = Value.rVal record {
+  ty = Declared'.row Took.the-type;
+  one = Path'.refl;
+  val = Laws'14.val Took.the-type Laws'6.the-laws;
+  tells = Laws'14.tells Took.the-type Laws'6.the-laws;
+  still = Laws'14.still Took.the-type
+      Laws'6.the-copy Exit.yes;
+  row = Rows'.whole (Declared'.row Took.the-type);
+  rd = λ x. x;
+  mk = λ x. x;
+} λ M 𝓤 H A W. record {
+  copies = Laws'14.copy Took.the-type Laws'6.the-copy 𝓤 H A W;
+  lawful = Laws'14.lawful Took.the-type Laws'6.the-laws 𝓤 H A W;
+  makes = Laws'14.makes Took.the-type Laws'6.the-plain 𝓤 H A;
+  in-mem =
+      Local.mem-whole 𝓤 H A W (Declared'.row Took.the-type);
+  of-mem = Local.whole-mem 𝓤 H A W (Declared'.row Took.the-type);
+}
 
 abbrev pub ps·7 : List.List (Kinds.PK 6)
 ps·7 = List._∷_ (ShrSlice.pShrS (Referent.rtF (Referent.fInt Syntax.w8)) 0 tt) (List._∷_ (ShrSlice.pShrS (Referent.rtF (Referent.fInt Syntax.w8)) 1 tt) (List._∷_ (MutSlice.pMutS (Referent.rtF
-    (Referent.fInt Syntax.w16)) 2 tt) (List._∷_ (MutSlice.pMutS (Element.type) 3 tt) (List._∷_ (MutSlice.pMutS (Referent.rtF (Referent.fInt Syntax.w16)) 4 tt) (List._∷_ (Value.pVal record
-    { ty = Declared'.row Form.the-type; one = Path'.refl; val = Laws'14.val Form.the-type Laws'.the-laws; tells = Laws'14.tells Form.the-type Laws'.the-laws; still = Laws'14.still Form.the-type
-    Laws'.the-copy Exit.yes; row = Rows'.whole (Declared'.row Form.the-type); rd = λ x. x; mk = λ x. x; } λ M 𝓤 H A W. record
-    { copies = Laws'14.copy Form.the-type Laws'.the-copy 𝓤 H A W; lawful = Laws'14.lawful Form.the-type Laws'.the-laws 𝓤 H A W; makes = Laws'14.makes Form.the-type Laws'.the-plain 𝓤 H A; in-mem =
-    Local.mem-whole 𝓤 H A W (Declared'.row Form.the-type); of-mem = Local.whole-mem 𝓤 H A W (Declared'.row Form.the-type); }) (List._∷_ (ShrRef.pShr (Array'.Array (Referent.rtF (Referent.fInt Syntax.w16))
-    768) 5 tt) (List._∷_ (Array.pArr (Array.eInt Syntax.w8) (Array.eInt-laws Syntax.w8) 36) (List._∷_ (Value.pVal record
-    { ty = Declared'.row Part.the-type; one = Path'.refl; val = Laws'14.val Part.the-type Laws'7.the-laws; tells = Laws'14.tells Part.the-type Laws'7.the-laws; still = Laws'14.still Part.the-type
-    Laws'7.the-copy Exit.yes; row = Rows'.whole (Declared'.row Part.the-type); rd = λ x. x; mk = λ x. x; } λ M 𝓤 H A W. record
-    { copies = Laws'14.copy Part.the-type Laws'7.the-copy 𝓤 H A W; lawful = Laws'14.lawful Part.the-type Laws'7.the-laws 𝓤 H A W; makes = Laws'14.makes Part.the-type Laws'7.the-plain 𝓤 H A; in-mem =
-    Local.mem-whole 𝓤 H A W (Declared'.row Part.the-type); of-mem = Local.whole-mem 𝓤 H A W (Declared'.row Part.the-type); }) (List._∷_ (Num.pNum Syntax.w64) (List._∷_ Bool.pBool (List._∷_ (Value.pVal
-    record
-    { ty = Declared'.row Entries.the-type; one = Path'.refl; val = Laws'14.val Entries.the-type Laws'5.the-laws; tells = Laws'14.tells Entries.the-type Laws'5.the-laws; still = Laws'14.still
-    Entries.the-type Laws'5.the-copy Exit.yes; row = Rows'.whole (Declared'.row Entries.the-type); rd = λ x. x; mk = λ x. x; } λ M 𝓤 H A W. record
-    { copies = Laws'14.copy Entries.the-type Laws'5.the-copy 𝓤 H A W; lawful = Laws'14.lawful Entries.the-type Laws'5.the-laws 𝓤 H A W; makes = Laws'14.makes Entries.the-type Laws'5.the-plain 𝓤 H A;
-    in-mem = Local.mem-whole 𝓤 H A W (Declared'.row Entries.the-type); of-mem = Local.whole-mem 𝓤 H A W (Declared'.row Entries.the-type); }) List.[])))))))))))
+    (Referent.fInt Syntax.w16)) 2 tt) (List._∷_ (MutSlice.pMutS (Element.type) 3 tt) (List._∷_ (MutSlice.pMutS (Referent.rtF (Referent.fInt Syntax.w16)) 4 tt) (List._∷_ (Value.pVal record {
+      ty = Declared'.row Form.the-type;
+      one = Path'.refl;
+      val = Laws'14.val Form.the-type Laws'.the-laws;
+      tells = Laws'14.tells Form.the-type Laws'.the-laws;
+      still = Laws'14.still Form.the-type
+          Laws'.the-copy Exit.yes;
+      row = Rows'.whole (Declared'.row Form.the-type);
+      rd = λ x. x;
+      mk = λ x. x;
+    } λ M 𝓤 H A W. record {
+      copies = Laws'14.copy Form.the-type Laws'.the-copy 𝓤 H A W;
+      lawful = Laws'14.lawful Form.the-type Laws'.the-laws 𝓤 H A W;
+      makes = Laws'14.makes Form.the-type Laws'.the-plain 𝓤 H A;
+      in-mem =
+          Local.mem-whole 𝓤 H A W (Declared'.row Form.the-type);
+      of-mem = Local.whole-mem 𝓤 H A W (Declared'.row Form.the-type);
+    }) (List._∷_ (ShrRef.pShr (Array'.Array (Referent.rtF (Referent.fInt Syntax.w16))
+    768) 5 tt) (List._∷_ (Array.pArr (Array.eInt Syntax.w8) (Array.eInt-laws Syntax.w8) 36) (List._∷_ (Value.pVal record {
+      ty = Declared'.row Part.the-type;
+      one = Path'.refl;
+      val = Laws'14.val Part.the-type Laws'7.the-laws;
+      tells = Laws'14.tells Part.the-type Laws'7.the-laws;
+      still = Laws'14.still Part.the-type
+          Laws'7.the-copy Exit.yes;
+      row = Rows'.whole (Declared'.row Part.the-type);
+      rd = λ x. x;
+      mk = λ x. x;
+    } λ M 𝓤 H A W. record {
+      copies = Laws'14.copy Part.the-type Laws'7.the-copy 𝓤 H A W;
+      lawful = Laws'14.lawful Part.the-type Laws'7.the-laws 𝓤 H A W;
+      makes = Laws'14.makes Part.the-type Laws'7.the-plain 𝓤 H A;
+      in-mem =
+          Local.mem-whole 𝓤 H A W (Declared'.row Part.the-type);
+      of-mem = Local.whole-mem 𝓤 H A W (Declared'.row Part.the-type);
+    }) (List._∷_ (Num.pNum Syntax.w64) (List._∷_ Bool.pBool (List._∷_ (Value.pVal
+    record {
+      ty = Declared'.row Entries.the-type;
+      one = Path'.refl;
+      val = Laws'14.val Entries.the-type Laws'5.the-laws;
+      tells = Laws'14.tells Entries.the-type Laws'5.the-laws;
+      still = Laws'14.still
+          Entries.the-type Laws'5.the-copy Exit.yes;
+      row = Rows'.whole (Declared'.row Entries.the-type);
+      rd = λ x. x;
+      mk = λ x. x;
+    } λ M 𝓤 H A W. record {
+      copies = Laws'14.copy Entries.the-type Laws'5.the-copy 𝓤 H A W;
+      lawful = Laws'14.lawful Entries.the-type Laws'5.the-laws 𝓤 H A W;
+      makes = Laws'14.makes Entries.the-type Laws'5.the-plain 𝓤 H A;
+      in-mem = Local.mem-whole 𝓤 H A W (Declared'.row Entries.the-type);
+      of-mem = Local.whole-mem 𝓤 H A W (Declared'.row Entries.the-type);
+    }) List.[])))))))))))
 
 abbrev pub r·7 : Kinds.RK 6
-r·7 = Value.rVal record
-    { ty = Declared.row Walked.the-type; one = Path'.refl; val = Laws'12.val Walked.the-type Laws'3.the-laws; tells = Laws'12.tells Walked.the-type Laws'3.the-laws; still = Laws'12.still Walked.the-type
-    Laws'3.the-copy Exit.yes; row = Rows'.whole (Declared.row Walked.the-type); rd = λ x. x; mk = λ x. x; } λ M 𝓤 H A W. record
-    { copies = Laws'12.copy Walked.the-type Laws'3.the-copy 𝓤 H A W; lawful = Laws'12.lawful Walked.the-type Laws'3.the-laws 𝓤 H A W tt; makes = Laws'12.makes Walked.the-type Laws'3.the-plain 𝓤 H A;
-    in-mem = Local.mem-whole 𝓤 H A W (Declared.row Walked.the-type); of-mem = Local.whole-mem 𝓤 H A W (Declared.row Walked.the-type); }
+r·7 = Value.rVal record {
+  ty = Declared.row Walked.the-type;
+  one = Path'.refl;
+  val = Laws'12.val Walked.the-type Laws'3.the-laws;
+  tells = Laws'12.tells Walked.the-type Laws'3.the-laws;
+  still = Laws'12.still Walked.the-type
+      Laws'3.the-copy Exit.yes;
+  row = Rows'.whole (Declared.row Walked.the-type);
+  rd = λ x. x;
+  mk = λ x. x;
+} λ M 𝓤 H A W. record {
+  copies = Laws'12.copy Walked.the-type Laws'3.the-copy 𝓤 H A W;
+  lawful = Laws'12.lawful Walked.the-type Laws'3.the-laws 𝓤 H A W tt;
+  makes = Laws'12.makes Walked.the-type Laws'3.the-plain 𝓤 H A;
+  in-mem = Local.mem-whole 𝓤 H A W (Declared.row Walked.the-type);
+  of-mem = Local.whole-mem 𝓤 H A W (Declared.row Walked.the-type);
+}
 
 abbrev pub ps·8 : List.List (Kinds.PK 0)
-ps·8 = List._∷_ (Value.pVal record
-    { ty = Declared.row Walked.the-type; one = Path'.refl; val = Laws'12.val Walked.the-type Laws'3.the-laws; tells = Laws'12.tells Walked.the-type Laws'3.the-laws; still = Laws'12.still Walked.the-type
-    Laws'3.the-copy Exit.yes; row = Rows'.whole (Declared.row Walked.the-type); rd = λ x. x; mk = λ x. x; } λ M 𝓤 H A W. record
-    { copies = Laws'12.copy Walked.the-type Laws'3.the-copy 𝓤 H A W; lawful = Laws'12.lawful Walked.the-type Laws'3.the-laws 𝓤 H A W tt; makes = Laws'12.makes Walked.the-type Laws'3.the-plain 𝓤 H A;
-    in-mem = Local.mem-whole 𝓤 H A W (Declared.row Walked.the-type); of-mem = Local.whole-mem 𝓤 H A W (Declared.row Walked.the-type); }) (List._∷_ (Num.pNum Syntax.w64) List.[])
+ps·8 = List._∷_ (Value.pVal record {
+  ty = Declared.row Walked.the-type;
+  one = Path'.refl;
+  val = Laws'12.val Walked.the-type Laws'3.the-laws;
+  tells = Laws'12.tells Walked.the-type Laws'3.the-laws;
+  still = Laws'12.still Walked.the-type
+      Laws'3.the-copy Exit.yes;
+  row = Rows'.whole (Declared.row Walked.the-type);
+  rd = λ x. x;
+  mk = λ x. x;
+} λ M 𝓤 H A W. record {
+  copies = Laws'12.copy Walked.the-type Laws'3.the-copy 𝓤 H A W;
+  lawful = Laws'12.lawful Walked.the-type Laws'3.the-laws 𝓤 H A W tt;
+  makes = Laws'12.makes Walked.the-type Laws'3.the-plain 𝓤 H A;
+  in-mem = Local.mem-whole 𝓤 H A W (Declared.row Walked.the-type);
+  of-mem = Local.whole-mem 𝓤 H A W (Declared.row Walked.the-type);
+}) (List._∷_ (Num.pNum Syntax.w64) List.[])
 
 abbrev pub r·8 : Kinds.RK 0
 r·8 = Num.rNum Syntax.w64
 
 abbrev pub ps·9 : List.List (Kinds.PK 1)
-ps·9 = List._∷_ (Value.pVal record
-    { ty = Declared.row Camera.the-type; one = Path'.refl; val = Laws'12.val Camera.the-type Laws'4.the-laws; tells = Laws'12.tells Camera.the-type Laws'4.the-laws; still = Laws'12.still Camera.the-type
-    Laws'4.the-copy Exit.yes; row = Rows'.whole (Declared.row Camera.the-type); rd = λ x. x; mk = λ x. x; } λ M 𝓤 H A W. record
-    { copies = Laws'12.copy Camera.the-type Laws'4.the-copy 𝓤 H A W; lawful = Laws'12.lawful Camera.the-type Laws'4.the-laws 𝓤 H A W tt; makes = Laws'12.makes Camera.the-type Laws'4.the-plain 𝓤 H A;
-    in-mem = Local.mem-whole 𝓤 H A W (Declared.row Camera.the-type); of-mem = Local.whole-mem 𝓤 H A W (Declared.row Camera.the-type); }) (List._∷_ (Value.pVal record
-    { ty = Declared'.row Entries.the-type; one = Path'.refl; val = Laws'14.val Entries.the-type Laws'5.the-laws; tells = Laws'14.tells Entries.the-type Laws'5.the-laws; still = Laws'14.still
-    Entries.the-type Laws'5.the-copy Exit.yes; row = Rows'.whole (Declared'.row Entries.the-type); rd = λ x. x; mk = λ x. x; } λ M 𝓤 H A W. record
-    { copies = Laws'14.copy Entries.the-type Laws'5.the-copy 𝓤 H A W; lawful = Laws'14.lawful Entries.the-type Laws'5.the-laws 𝓤 H A W; makes = Laws'14.makes Entries.the-type Laws'5.the-plain 𝓤 H A;
-    in-mem = Local.mem-whole 𝓤 H A W (Declared'.row Entries.the-type); of-mem = Local.whole-mem 𝓤 H A W (Declared'.row Entries.the-type); }) (List._∷_ (Num.pNum Syntax.w32) (List._∷_ (ShrSlice.pShrS
+ps·9 = List._∷_ (Value.pVal record {
+  ty = Declared.row Camera.the-type;
+  one = Path'.refl;
+  val = Laws'12.val Camera.the-type Laws'4.the-laws;
+  tells = Laws'12.tells Camera.the-type Laws'4.the-laws;
+  still = Laws'12.still Camera.the-type
+      Laws'4.the-copy Exit.yes;
+  row = Rows'.whole (Declared.row Camera.the-type);
+  rd = λ x. x;
+  mk = λ x. x;
+} λ M 𝓤 H A W. record {
+  copies = Laws'12.copy Camera.the-type Laws'4.the-copy 𝓤 H A W;
+  lawful = Laws'12.lawful Camera.the-type Laws'4.the-laws 𝓤 H A W tt;
+  makes = Laws'12.makes Camera.the-type Laws'4.the-plain 𝓤 H A;
+  in-mem = Local.mem-whole 𝓤 H A W (Declared.row Camera.the-type);
+  of-mem = Local.whole-mem 𝓤 H A W (Declared.row Camera.the-type);
+}) (List._∷_ (Value.pVal record {
+  ty = Declared'.row Entries.the-type;
+  one = Path'.refl;
+  val = Laws'14.val Entries.the-type Laws'5.the-laws;
+  tells = Laws'14.tells Entries.the-type Laws'5.the-laws;
+  still = Laws'14.still
+      Entries.the-type Laws'5.the-copy Exit.yes;
+  row = Rows'.whole (Declared'.row Entries.the-type);
+  rd = λ x. x;
+  mk = λ x. x;
+} λ M 𝓤 H A W. record {
+  copies = Laws'14.copy Entries.the-type Laws'5.the-copy 𝓤 H A W;
+  lawful = Laws'14.lawful Entries.the-type Laws'5.the-laws 𝓤 H A W;
+  makes = Laws'14.makes Entries.the-type Laws'5.the-plain 𝓤 H A;
+  in-mem = Local.mem-whole 𝓤 H A W (Declared'.row Entries.the-type);
+  of-mem = Local.whole-mem 𝓤 H A W (Declared'.row Entries.the-type);
+}) (List._∷_ (Num.pNum Syntax.w32) (List._∷_ (ShrSlice.pShrS
     (Referent.rtF (Referent.fInt Syntax.w8)) 0 tt) (List._∷_ (Num.pNum Syntax.w64) (List._∷_ (Num.pNum Syntax.w64) List.[])))))
 
 abbrev pub r·9 : Kinds.RK 1
-r·9 = Value.rVal record
-    { ty = Declared'.row Entries.the-type; one = Path'.refl; val = Laws'14.val Entries.the-type Laws'5.the-laws; tells = Laws'14.tells Entries.the-type Laws'5.the-laws; still = Laws'14.still
-    Entries.the-type Laws'5.the-copy Exit.yes; row = Rows'.whole (Declared'.row Entries.the-type); rd = λ x. x; mk = λ x. x; } λ M 𝓤 H A W. record
-    { copies = Laws'14.copy Entries.the-type Laws'5.the-copy 𝓤 H A W; lawful = Laws'14.lawful Entries.the-type Laws'5.the-laws 𝓤 H A W; makes = Laws'14.makes Entries.the-type Laws'5.the-plain 𝓤 H A;
-    in-mem = Local.mem-whole 𝓤 H A W (Declared'.row Entries.the-type); of-mem = Local.whole-mem 𝓤 H A W (Declared'.row Entries.the-type); }
+r·9 = Value.rVal record {
+  ty = Declared'.row Entries.the-type;
+  one = Path'.refl;
+  val = Laws'14.val Entries.the-type Laws'5.the-laws;
+  tells = Laws'14.tells Entries.the-type Laws'5.the-laws;
+  still = Laws'14.still
+      Entries.the-type Laws'5.the-copy Exit.yes;
+  row = Rows'.whole (Declared'.row Entries.the-type);
+  rd = λ x. x;
+  mk = λ x. x;
+} λ M 𝓤 H A W. record {
+  copies = Laws'14.copy Entries.the-type Laws'5.the-copy 𝓤 H A W;
+  lawful = Laws'14.lawful Entries.the-type Laws'5.the-laws 𝓤 H A W;
+  makes = Laws'14.makes Entries.the-type Laws'5.the-plain 𝓤 H A;
+  in-mem = Local.mem-whole 𝓤 H A W (Declared'.row Entries.the-type);
+  of-mem = Local.whole-mem 𝓤 H A W (Declared'.row Entries.the-type);
+}
 
 abbrev pub ps·10 : List.List (Kinds.PK 0)
 ps·10 = List._∷_ (Num.pNum Syntax.w64) (List._∷_ (Num.pNum Syntax.w64) (List._∷_ (Num.pNum Syntax.w64) List.[]))
@@ -372,22 +648,60 @@ abbrev pub r·10 : Kinds.RK 0
 r·10 = Bool.rBool
 
 abbrev pub ps·11 : List.List (Kinds.PK 0)
-ps·11 = List._∷_ (Value.pVal record
-    { ty = Declared.row Decoded.the-type; one = Path'.refl; val = Laws'12.val Decoded.the-type Laws.the-laws; tells = Laws'12.tells Decoded.the-type Laws.the-laws; still = Laws'12.still Decoded.the-type
-    Laws.the-copy Exit.yes; row = Rows'.whole (Declared.row Decoded.the-type); rd = λ x. x; mk = λ x. x; } λ M 𝓤 H A W. record
-    { copies = Laws'12.copy Decoded.the-type Laws.the-copy 𝓤 H A W; lawful = Laws'12.lawful Decoded.the-type Laws.the-laws 𝓤 H A W tt; makes = Laws'12.makes Decoded.the-type Laws.the-plain 𝓤 H A; in-mem =
-    Local.mem-whole 𝓤 H A W (Declared.row Decoded.the-type); of-mem = Local.whole-mem 𝓤 H A W (Declared.row Decoded.the-type); }) (List._∷_ (Num.pNum Syntax.w64) (List._∷_ (Value.pVal record
-    { ty = Declared.row Walked.the-type; one = Path'.refl; val = Laws'12.val Walked.the-type Laws'3.the-laws; tells = Laws'12.tells Walked.the-type Laws'3.the-laws; still = Laws'12.still Walked.the-type
-    Laws'3.the-copy Exit.yes; row = Rows'.whole (Declared.row Walked.the-type); rd = λ x. x; mk = λ x. x; } λ M 𝓤 H A W. record
-    { copies = Laws'12.copy Walked.the-type Laws'3.the-copy 𝓤 H A W; lawful = Laws'12.lawful Walked.the-type Laws'3.the-laws 𝓤 H A W tt; makes = Laws'12.makes Walked.the-type Laws'3.the-plain 𝓤 H A;
-    in-mem = Local.mem-whole 𝓤 H A W (Declared.row Walked.the-type); of-mem = Local.whole-mem 𝓤 H A W (Declared.row Walked.the-type); }) List.[]))
+ps·11 = List._∷_ (Value.pVal record {
+  ty = Declared.row Decoded.the-type;
+  one = Path'.refl;
+  val = Laws'12.val Decoded.the-type Laws.the-laws;
+  tells = Laws'12.tells Decoded.the-type Laws.the-laws;
+  still = Laws'12.still Decoded.the-type
+      Laws.the-copy Exit.yes;
+  row = Rows'.whole (Declared.row Decoded.the-type);
+  rd = λ x. x;
+  mk = λ x. x;
+} λ M 𝓤 H A W. record {
+  copies = Laws'12.copy Decoded.the-type Laws.the-copy 𝓤 H A W;
+  lawful = Laws'12.lawful Decoded.the-type Laws.the-laws 𝓤 H A W tt;
+  makes = Laws'12.makes Decoded.the-type Laws.the-plain 𝓤 H A;
+  in-mem =
+      Local.mem-whole 𝓤 H A W (Declared.row Decoded.the-type);
+  of-mem = Local.whole-mem 𝓤 H A W (Declared.row Decoded.the-type);
+}) (List._∷_ (Num.pNum Syntax.w64) (List._∷_ (Value.pVal record {
+  ty = Declared.row Walked.the-type;
+  one = Path'.refl;
+  val = Laws'12.val Walked.the-type Laws'3.the-laws;
+  tells = Laws'12.tells Walked.the-type Laws'3.the-laws;
+  still = Laws'12.still Walked.the-type
+      Laws'3.the-copy Exit.yes;
+  row = Rows'.whole (Declared.row Walked.the-type);
+  rd = λ x. x;
+  mk = λ x. x;
+} λ M 𝓤 H A W. record {
+  copies = Laws'12.copy Walked.the-type Laws'3.the-copy 𝓤 H A W;
+  lawful = Laws'12.lawful Walked.the-type Laws'3.the-laws 𝓤 H A W tt;
+  makes = Laws'12.makes Walked.the-type Laws'3.the-plain 𝓤 H A;
+  in-mem = Local.mem-whole 𝓤 H A W (Declared.row Walked.the-type);
+  of-mem = Local.whole-mem 𝓤 H A W (Declared.row Walked.the-type);
+}) List.[]))
 
 abbrev pub r·11 : Kinds.RK 0
-r·11 = Value.rVal record
-    { ty = Declared.row Decoded.the-type; one = Path'.refl; val = Laws'12.val Decoded.the-type Laws.the-laws; tells = Laws'12.tells Decoded.the-type Laws.the-laws; still = Laws'12.still Decoded.the-type
-    Laws.the-copy Exit.yes; row = Rows'.whole (Declared.row Decoded.the-type); rd = λ x. x; mk = λ x. x; } λ M 𝓤 H A W. record
-    { copies = Laws'12.copy Decoded.the-type Laws.the-copy 𝓤 H A W; lawful = Laws'12.lawful Decoded.the-type Laws.the-laws 𝓤 H A W tt; makes = Laws'12.makes Decoded.the-type Laws.the-plain 𝓤 H A; in-mem =
-    Local.mem-whole 𝓤 H A W (Declared.row Decoded.the-type); of-mem = Local.whole-mem 𝓤 H A W (Declared.row Decoded.the-type); }
+r·11 = Value.rVal record {
+  ty = Declared.row Decoded.the-type;
+  one = Path'.refl;
+  val = Laws'12.val Decoded.the-type Laws.the-laws;
+  tells = Laws'12.tells Decoded.the-type Laws.the-laws;
+  still = Laws'12.still Decoded.the-type
+      Laws.the-copy Exit.yes;
+  row = Rows'.whole (Declared.row Decoded.the-type);
+  rd = λ x. x;
+  mk = λ x. x;
+} λ M 𝓤 H A W. record {
+  copies = Laws'12.copy Decoded.the-type Laws.the-copy 𝓤 H A W;
+  lawful = Laws'12.lawful Decoded.the-type Laws.the-laws 𝓤 H A W tt;
+  makes = Laws'12.makes Decoded.the-type Laws.the-plain 𝓤 H A;
+  in-mem =
+      Local.mem-whole 𝓤 H A W (Declared.row Decoded.the-type);
+  of-mem = Local.whole-mem 𝓤 H A W (Declared.row Decoded.the-type);
+}
 
 abbrev pub hs : List.List Syntax.Home
 hs = List._∷_ Syntax.valueLocal (List._∷_ Syntax.valueLocal (List._∷_ Syntax.valueLocal (List._∷_ Syntax.valueLocal (List._∷_ Syntax.valueLocal (List._∷_ Syntax.valueLocal (List._∷_ Syntax.valueLocal
@@ -654,9 +968,11 @@ abbrev pub e1 : Row.Entry
 e1 = (0, Rows'.whole (Declared'.row (Apart.apartT SharedAnswer.the-type)))
 
 abbrev pub e2 : Row.Entry
-e2 =
-    (1, Rows'.any-gone (Syntax.tyEnum (List._∷_ 99 (List._∷_ 97 (List._∷_ 109 (List._∷_ 101 (List._∷_ 114 (List._∷_ 97 (List._∷_ 115 (List._∷_ 58 (List._∷_ 58 (List._∷_ 67 (List._∷_ 97 (List._∷_ 109
-    (List._∷_ 101 (List._∷_ 114 (List._∷_ 97 List.[]))))))))))))))) (Syntax.ttcons Syntax.tnil (Syntax.ttcons Syntax.tnil Syntax.ttnil))))
+e2 = (
+  1,
+  Rows'.any-gone (Syntax.tyEnum (List._∷_ 99 (List._∷_ 97 (List._∷_ 109 (List._∷_ 101 (List._∷_ 114 (List._∷_ 97 (List._∷_ 115 (List._∷_ 58 (List._∷_ 58 (List._∷_ 67 (List._∷_ 97 (List._∷_ 109
+      (List._∷_ 101 (List._∷_ 114 (List._∷_ 97 List.[]))))))))))))))) (Syntax.ttcons Syntax.tnil (Syntax.ttcons Syntax.tnil Syntax.ttnil))),
+)
 
 abbrev pub e3 : Row.Entry
 e3 = (1, Rows'.whole (Declared.row Camera.the-type))
@@ -701,16 +1017,18 @@ abbrev pub e16 : Row.Entry
 e16 = (15, Rows'.whole (Declared'.row Entries.the-type))
 
 abbrev pub e17 : Row.Entry
-e17 =
-    (16, Rows'.any-gone (Syntax.tyEnum (List._∷_ 98 (List._∷_ 108 (List._∷_ 111 (List._∷_ 99 (List._∷_ 107 (List._∷_ 58 (List._∷_ 58 (List._∷_ 68 (List._∷_ 101 (List._∷_ 99 (List._∷_ 111 (List._∷_ 100
-    (List._∷_ 101 (List._∷_ 100 List.[])))))))))))))) (Syntax.ttcons Syntax.tnil (Syntax.ttcons (Syntax.tcons (Syntax.tyEnum (List._∷_ 115 (List._∷_ 116 (List._∷_ 114 (List._∷_ 101 (List._∷_ 97 (List._∷_
-    109 (List._∷_ 58 (List._∷_ 58 (List._∷_ 82 (List._∷_ 101 (List._∷_ 102 (List._∷_ 117 (List._∷_ 115 (List._∷_ 97 (List._∷_ 108 List.[]))))))))))))))) (Syntax.ttcons Syntax.tnil (Syntax.ttcons
-    Syntax.tnil (Syntax.ttcons Syntax.tnil (Syntax.ttcons (Syntax.tcons (Syntax.tyInt Syntax.w64) Syntax.tnil) (Syntax.ttcons Syntax.tnil (Syntax.ttcons Syntax.tnil (Syntax.ttcons Syntax.tnil
-    (Syntax.ttcons Syntax.tnil (Syntax.ttcons Syntax.tnil (Syntax.ttcons Syntax.tnil (Syntax.ttcons (Syntax.tcons (Syntax.tyInt Syntax.w64) Syntax.tnil) (Syntax.ttcons (Syntax.tcons (Syntax.tyInt
-    Syntax.w64) Syntax.tnil) (Syntax.ttcons Syntax.tnil (Syntax.ttcons (Syntax.tcons (Syntax.tyInt Syntax.w64) (Syntax.tcons (Syntax.tyInt Syntax.w64) Syntax.tnil)) (Syntax.ttcons (Syntax.tcons
-    (Syntax.tyInt Syntax.w64) Syntax.tnil) (Syntax.ttcons Syntax.tnil (Syntax.ttcons Syntax.tnil (Syntax.ttcons (Syntax.tcons (Syntax.tyInt Syntax.w64) Syntax.tnil) (Syntax.ttcons (Syntax.tcons
-    (Syntax.tyInt Syntax.w64) Syntax.tnil) (Syntax.ttcons (Syntax.tcons (Syntax.tyInt Syntax.w64) Syntax.tnil) (Syntax.ttcons (Syntax.tcons (Syntax.tyInt Syntax.w64) (Syntax.tcons (Syntax.tyInt
-    Syntax.w64) Syntax.tnil)) (Syntax.ttcons Syntax.tnil Syntax.ttnil))))))))))))))))))))))) Syntax.tnil) Syntax.ttnil))))
+e17 = (
+  16,
+  Rows'.any-gone (Syntax.tyEnum (List._∷_ 98 (List._∷_ 108 (List._∷_ 111 (List._∷_ 99 (List._∷_ 107 (List._∷_ 58 (List._∷_ 58 (List._∷_ 68 (List._∷_ 101 (List._∷_ 99 (List._∷_ 111 (List._∷_ 100
+      (List._∷_ 101 (List._∷_ 100 List.[])))))))))))))) (Syntax.ttcons Syntax.tnil (Syntax.ttcons (Syntax.tcons (Syntax.tyEnum (List._∷_ 115 (List._∷_ 116 (List._∷_ 114 (List._∷_ 101 (List._∷_ 97 (List._∷_
+      109 (List._∷_ 58 (List._∷_ 58 (List._∷_ 82 (List._∷_ 101 (List._∷_ 102 (List._∷_ 117 (List._∷_ 115 (List._∷_ 97 (List._∷_ 108 List.[]))))))))))))))) (Syntax.ttcons Syntax.tnil (Syntax.ttcons
+      Syntax.tnil (Syntax.ttcons Syntax.tnil (Syntax.ttcons (Syntax.tcons (Syntax.tyInt Syntax.w64) Syntax.tnil) (Syntax.ttcons Syntax.tnil (Syntax.ttcons Syntax.tnil (Syntax.ttcons Syntax.tnil
+      (Syntax.ttcons Syntax.tnil (Syntax.ttcons Syntax.tnil (Syntax.ttcons Syntax.tnil (Syntax.ttcons (Syntax.tcons (Syntax.tyInt Syntax.w64) Syntax.tnil) (Syntax.ttcons (Syntax.tcons (Syntax.tyInt
+      Syntax.w64) Syntax.tnil) (Syntax.ttcons Syntax.tnil (Syntax.ttcons (Syntax.tcons (Syntax.tyInt Syntax.w64) (Syntax.tcons (Syntax.tyInt Syntax.w64) Syntax.tnil)) (Syntax.ttcons (Syntax.tcons
+      (Syntax.tyInt Syntax.w64) Syntax.tnil) (Syntax.ttcons Syntax.tnil (Syntax.ttcons Syntax.tnil (Syntax.ttcons (Syntax.tcons (Syntax.tyInt Syntax.w64) Syntax.tnil) (Syntax.ttcons (Syntax.tcons
+      (Syntax.tyInt Syntax.w64) Syntax.tnil) (Syntax.ttcons (Syntax.tcons (Syntax.tyInt Syntax.w64) Syntax.tnil) (Syntax.ttcons (Syntax.tcons (Syntax.tyInt Syntax.w64) (Syntax.tcons (Syntax.tyInt
+      Syntax.w64) Syntax.tnil)) (Syntax.ttcons Syntax.tnil Syntax.ttnil))))))))))))))))))))))) Syntax.tnil) Syntax.ttnil))),
+)
 
 abbrev pub e18 : Row.Entry
 e18 = (16, Rows'.whole (Declared.row Decoded.the-type))
@@ -764,10 +1082,12 @@ abbrev pub e34 : Row.Entry
 e34 = (23, Rows'.sc-here (Row.sInt Syntax.w64))
 
 abbrev pub e35 : Row.Entry
-e35 =
-    (24, Rows'.any-gone (Syntax.tyEnum (List._∷_ 98 (List._∷_ 108 (List._∷_ 111 (List._∷_ 99 (List._∷_ 107 (List._∷_ 58 (List._∷_ 58 (List._∷_ 87 (List._∷_ 97 (List._∷_ 108 (List._∷_ 107 (List._∷_ 101
-    (List._∷_ 100 List.[]))))))))))))) (Syntax.ttcons (Syntax.tcons y5 (Syntax.tcons y10 Syntax.tnil)) (Syntax.ttcons (Syntax.tcons (Syntax.tyInt Syntax.w64) (Syntax.tcons y5 Syntax.tnil))
-    Syntax.ttnil))))
+e35 = (
+  24,
+  Rows'.any-gone (Syntax.tyEnum (List._∷_ 98 (List._∷_ 108 (List._∷_ 111 (List._∷_ 99 (List._∷_ 107 (List._∷_ 58 (List._∷_ 58 (List._∷_ 87 (List._∷_ 97 (List._∷_ 108 (List._∷_ 107 (List._∷_ 101
+      (List._∷_ 100 List.[]))))))))))))) (Syntax.ttcons (Syntax.tcons y5 (Syntax.tcons y10 Syntax.tnil)) (Syntax.ttcons (Syntax.tcons (Syntax.tyInt Syntax.w64) (Syntax.tcons y5 Syntax.tnil))
+      Syntax.ttnil))),
+)
 
 abbrev pub e36 : Row.Entry
 e36 = (24, Rows'.whole (Declared.row Walked.the-type))
@@ -779,16 +1099,18 @@ abbrev pub e38 : Row.Entry
 e38 = (25, Rows'.sc-here (Row.sInt Syntax.w64))
 
 abbrev pub e39 : Row.Entry
-e39 =
-    (26, Rows'.any-gone (Syntax.tyEnum (List._∷_ 98 (List._∷_ 108 (List._∷_ 111 (List._∷_ 99 (List._∷_ 107 (List._∷_ 58 (List._∷_ 58 (List._∷_ 68 (List._∷_ 101 (List._∷_ 99 (List._∷_ 111 (List._∷_ 100
-    (List._∷_ 101 (List._∷_ 100 List.[])))))))))))))) (Syntax.ttcons Syntax.tnil (Syntax.ttcons (Syntax.tcons (Syntax.tyEnum (List._∷_ 115 (List._∷_ 116 (List._∷_ 114 (List._∷_ 101 (List._∷_ 97 (List._∷_
-    109 (List._∷_ 58 (List._∷_ 58 (List._∷_ 82 (List._∷_ 101 (List._∷_ 102 (List._∷_ 117 (List._∷_ 115 (List._∷_ 97 (List._∷_ 108 List.[]))))))))))))))) (Syntax.ttcons Syntax.tnil (Syntax.ttcons
-    Syntax.tnil (Syntax.ttcons Syntax.tnil (Syntax.ttcons (Syntax.tcons (Syntax.tyInt Syntax.w64) Syntax.tnil) (Syntax.ttcons Syntax.tnil (Syntax.ttcons Syntax.tnil (Syntax.ttcons Syntax.tnil
-    (Syntax.ttcons Syntax.tnil (Syntax.ttcons Syntax.tnil (Syntax.ttcons Syntax.tnil (Syntax.ttcons (Syntax.tcons (Syntax.tyInt Syntax.w64) Syntax.tnil) (Syntax.ttcons (Syntax.tcons (Syntax.tyInt
-    Syntax.w64) Syntax.tnil) (Syntax.ttcons Syntax.tnil (Syntax.ttcons (Syntax.tcons (Syntax.tyInt Syntax.w64) (Syntax.tcons (Syntax.tyInt Syntax.w64) Syntax.tnil)) (Syntax.ttcons (Syntax.tcons
-    (Syntax.tyInt Syntax.w64) Syntax.tnil) (Syntax.ttcons Syntax.tnil (Syntax.ttcons Syntax.tnil (Syntax.ttcons (Syntax.tcons (Syntax.tyInt Syntax.w64) Syntax.tnil) (Syntax.ttcons (Syntax.tcons
-    (Syntax.tyInt Syntax.w64) Syntax.tnil) (Syntax.ttcons (Syntax.tcons (Syntax.tyInt Syntax.w64) Syntax.tnil) (Syntax.ttcons (Syntax.tcons (Syntax.tyInt Syntax.w64) (Syntax.tcons (Syntax.tyInt
-    Syntax.w64) Syntax.tnil)) (Syntax.ttcons Syntax.tnil Syntax.ttnil))))))))))))))))))))))) Syntax.tnil) Syntax.ttnil))))
+e39 = (
+  26,
+  Rows'.any-gone (Syntax.tyEnum (List._∷_ 98 (List._∷_ 108 (List._∷_ 111 (List._∷_ 99 (List._∷_ 107 (List._∷_ 58 (List._∷_ 58 (List._∷_ 68 (List._∷_ 101 (List._∷_ 99 (List._∷_ 111 (List._∷_ 100
+      (List._∷_ 101 (List._∷_ 100 List.[])))))))))))))) (Syntax.ttcons Syntax.tnil (Syntax.ttcons (Syntax.tcons (Syntax.tyEnum (List._∷_ 115 (List._∷_ 116 (List._∷_ 114 (List._∷_ 101 (List._∷_ 97 (List._∷_
+      109 (List._∷_ 58 (List._∷_ 58 (List._∷_ 82 (List._∷_ 101 (List._∷_ 102 (List._∷_ 117 (List._∷_ 115 (List._∷_ 97 (List._∷_ 108 List.[]))))))))))))))) (Syntax.ttcons Syntax.tnil (Syntax.ttcons
+      Syntax.tnil (Syntax.ttcons Syntax.tnil (Syntax.ttcons (Syntax.tcons (Syntax.tyInt Syntax.w64) Syntax.tnil) (Syntax.ttcons Syntax.tnil (Syntax.ttcons Syntax.tnil (Syntax.ttcons Syntax.tnil
+      (Syntax.ttcons Syntax.tnil (Syntax.ttcons Syntax.tnil (Syntax.ttcons Syntax.tnil (Syntax.ttcons (Syntax.tcons (Syntax.tyInt Syntax.w64) Syntax.tnil) (Syntax.ttcons (Syntax.tcons (Syntax.tyInt
+      Syntax.w64) Syntax.tnil) (Syntax.ttcons Syntax.tnil (Syntax.ttcons (Syntax.tcons (Syntax.tyInt Syntax.w64) (Syntax.tcons (Syntax.tyInt Syntax.w64) Syntax.tnil)) (Syntax.ttcons (Syntax.tcons
+      (Syntax.tyInt Syntax.w64) Syntax.tnil) (Syntax.ttcons Syntax.tnil (Syntax.ttcons Syntax.tnil (Syntax.ttcons (Syntax.tcons (Syntax.tyInt Syntax.w64) Syntax.tnil) (Syntax.ttcons (Syntax.tcons
+      (Syntax.tyInt Syntax.w64) Syntax.tnil) (Syntax.ttcons (Syntax.tcons (Syntax.tyInt Syntax.w64) Syntax.tnil) (Syntax.ttcons (Syntax.tcons (Syntax.tyInt Syntax.w64) (Syntax.tcons (Syntax.tyInt
+      Syntax.w64) Syntax.tnil)) (Syntax.ttcons Syntax.tnil Syntax.ttnil))))))))))))))))))))))) Syntax.tnil) Syntax.ttnil))),
+)
 
 abbrev pub e40 : Row.Entry
 e40 = (27, Rows'.any-gone (Syntax.tyArray (Syntax.tyInt Syntax.w16) 768))
@@ -845,14 +1167,16 @@ abbrev pub e57 : Row.Entry
 e57 = (36, Rows'.any-gone Syntax.tyBool)
 
 abbrev pub e58 : Row.Entry
-e58 =
-    (37, Rows'.any-gone (Syntax.tyEnum (List._∷_ 115 (List._∷_ 116 (List._∷_ 114 (List._∷_ 101 (List._∷_ 97 (List._∷_ 109 (List._∷_ 58 (List._∷_ 58 (List._∷_ 82 (List._∷_ 101 (List._∷_ 102 (List._∷_ 117
-    (List._∷_ 115 (List._∷_ 97 (List._∷_ 108 List.[]))))))))))))))) (Syntax.ttcons Syntax.tnil (Syntax.ttcons Syntax.tnil (Syntax.ttcons Syntax.tnil (Syntax.ttcons (Syntax.tcons (Syntax.tyInt Syntax.w64)
-    Syntax.tnil) (Syntax.ttcons Syntax.tnil (Syntax.ttcons Syntax.tnil (Syntax.ttcons Syntax.tnil (Syntax.ttcons Syntax.tnil (Syntax.ttcons Syntax.tnil (Syntax.ttcons Syntax.tnil (Syntax.ttcons
-    (Syntax.tcons (Syntax.tyInt Syntax.w64) Syntax.tnil) (Syntax.ttcons (Syntax.tcons (Syntax.tyInt Syntax.w64) Syntax.tnil) (Syntax.ttcons Syntax.tnil (Syntax.ttcons (Syntax.tcons (Syntax.tyInt
-    Syntax.w64) (Syntax.tcons (Syntax.tyInt Syntax.w64) Syntax.tnil)) (Syntax.ttcons (Syntax.tcons (Syntax.tyInt Syntax.w64) Syntax.tnil) (Syntax.ttcons Syntax.tnil (Syntax.ttcons Syntax.tnil
-    (Syntax.ttcons (Syntax.tcons (Syntax.tyInt Syntax.w64) Syntax.tnil) (Syntax.ttcons (Syntax.tcons (Syntax.tyInt Syntax.w64) Syntax.tnil) (Syntax.ttcons (Syntax.tcons (Syntax.tyInt Syntax.w64)
-    Syntax.tnil) (Syntax.ttcons (Syntax.tcons (Syntax.tyInt Syntax.w64) (Syntax.tcons (Syntax.tyInt Syntax.w64) Syntax.tnil)) (Syntax.ttcons Syntax.tnil Syntax.ttnil))))))))))))))))))))))))
+e58 = (
+  37,
+  Rows'.any-gone (Syntax.tyEnum (List._∷_ 115 (List._∷_ 116 (List._∷_ 114 (List._∷_ 101 (List._∷_ 97 (List._∷_ 109 (List._∷_ 58 (List._∷_ 58 (List._∷_ 82 (List._∷_ 101 (List._∷_ 102 (List._∷_ 117
+      (List._∷_ 115 (List._∷_ 97 (List._∷_ 108 List.[]))))))))))))))) (Syntax.ttcons Syntax.tnil (Syntax.ttcons Syntax.tnil (Syntax.ttcons Syntax.tnil (Syntax.ttcons (Syntax.tcons (Syntax.tyInt Syntax.w64)
+      Syntax.tnil) (Syntax.ttcons Syntax.tnil (Syntax.ttcons Syntax.tnil (Syntax.ttcons Syntax.tnil (Syntax.ttcons Syntax.tnil (Syntax.ttcons Syntax.tnil (Syntax.ttcons Syntax.tnil (Syntax.ttcons
+      (Syntax.tcons (Syntax.tyInt Syntax.w64) Syntax.tnil) (Syntax.ttcons (Syntax.tcons (Syntax.tyInt Syntax.w64) Syntax.tnil) (Syntax.ttcons Syntax.tnil (Syntax.ttcons (Syntax.tcons (Syntax.tyInt
+      Syntax.w64) (Syntax.tcons (Syntax.tyInt Syntax.w64) Syntax.tnil)) (Syntax.ttcons (Syntax.tcons (Syntax.tyInt Syntax.w64) Syntax.tnil) (Syntax.ttcons Syntax.tnil (Syntax.ttcons Syntax.tnil
+      (Syntax.ttcons (Syntax.tcons (Syntax.tyInt Syntax.w64) Syntax.tnil) (Syntax.ttcons (Syntax.tcons (Syntax.tyInt Syntax.w64) Syntax.tnil) (Syntax.ttcons (Syntax.tcons (Syntax.tyInt Syntax.w64)
+      Syntax.tnil) (Syntax.ttcons (Syntax.tcons (Syntax.tyInt Syntax.w64) (Syntax.tcons (Syntax.tyInt Syntax.w64) Syntax.tnil)) (Syntax.ttcons Syntax.tnil Syntax.ttnil))))))))))))))))))))))),
+)
 
 abbrev pub e59 : Row.Entry
 e59 = (4, Rows'.any-gone y4)
@@ -1558,21 +1882,24 @@ module _ (claims· : Claims) where
   s24 = Call.callB ps·2 r·2 (claims· .4) (claims· .5) T20 (record { pos = 4; st = List.[]; d = 0; at = λ x. x }, tt) 18 List.[] y9
 
   abbrev s25 : Typed.Both T28 T29
-  s25 = Call.callB ps·3 r·3 (claims· .6) (claims· .7) T28 (record { pos = 3; ty = Syntax.tyRef (Syntax.named 0) Syntax.imm (Syntax.tyInt Syntax.w8); ref = λ x. x; }, (Num.vAt 17 λ x. x, tt)) 19
+  s25 = Call.callB ps·3 r·3 (claims· .6) (claims· .7) T28 (record { pos = 3; ty = Syntax.tyRef (Syntax.named 0) Syntax.imm (Syntax.tyInt Syntax.w8); ref = λ x. x }, (Num.vAt 17 λ x. x, tt)) 19
       (List._∷_ 0 List.[]) y6
 
   abbrev s26 : Typed.Both T29 T30
-  s26 = Call.callB ps·4 r·4 (claims· .8) (claims· .9) T29 (record { pos = 3; ty = Syntax.tyRef (Syntax.named 0) Syntax.imm (Syntax.tyInt Syntax.w8); ref = λ x. x; }, (Num.vAt 17 λ x. x, tt)) 20
+  s26 = Call.callB ps·4 r·4 (claims· .8) (claims· .9) T29 (record { pos = 3; ty = Syntax.tyRef (Syntax.named 0) Syntax.imm (Syntax.tyInt Syntax.w8); ref = λ x. x }, (Num.vAt 17 λ x. x, tt)) 20
       (List._∷_ 0 List.[]) y6
 
   abbrev s27 : Typed.Both T30 T31
   s27 = Call.callB ps·5 r·5 (claims· .10) (claims· .11) T30 (record { pos = 5; st = List.[]; d = 0; at = λ x. x }, (Num.vAt 17 λ x. x, tt)) 21 List.[] y0
 
   abbrev s28 : Typed.Both T31 T32
-  s28 = Call.callB ps·6 r·6 (claims· .12) (claims· .13) T31
-      (record { pos = 1; st = List.[]; d = 0; at = λ x. x },
-      (record { pos = 15; st = List.[]; d = 0; at = λ x. x },
-      (Num.vAt 13 λ x. x, (record { pos = 20; ty = Syntax.tyRef Syntax.erased Syntax.imm (Syntax.tyInt Syntax.w8); ref = λ x. x; }, (Num.vAt 11 λ x. x, tt))))) 22 (List._∷_ 0 List.[]) y14
+  s28 = Call.callB ps·6 r·6 (claims· .12) (claims· .13) T31 (
+    record { pos = 1; st = List.[]; d = 0; at = λ x. x },
+    (
+      record { pos = 15; st = List.[]; d = 0; at = λ x. x },
+      (Num.vAt 13 λ x. x, (record { pos = 20; ty = Syntax.tyRef Syntax.erased Syntax.imm (Syntax.tyInt Syntax.w8); ref = λ x. x }, (Num.vAt 11 λ x. x, tt))),
+    ),
+  ) 22 (List._∷_ 0 List.[]) y14
 
   abbrev s29 : Typed.Mo T32 → Typed.Mo T33
   s29 = Scalar.n-use T32 (Scalar.oFld 22 (List._∷_ (Syntax.field 0) List.[]) (Syntax.tyInt Syntax.w64) 0 (Reads.fieldV Took.the-type Laws'6.the-laws 0)) 23 (Rows'.sc-here (Row.sInt Syntax.w64))
@@ -1605,17 +1932,34 @@ module _ (claims· : Claims) where
   s40 = Local.k-sc-share T42 14 35 7 (Array'.Array (Referent.rtF (Referent.fInt Syntax.w16)) 768) (Syntax.tyRef Syntax.erased Syntax.imm (Syntax.tyArray (Syntax.tyInt Syntax.w16) 768)) λ x. x
 
   abbrev s41 : Typed.Both T44 T45
-  s41 = Call.callB ps·7 r·7 (claims· .14) (claims· .15) T44
-      (record { pos = 19; ty = Syntax.tyRef Syntax.erased Syntax.imm (Syntax.tyInt Syntax.w8); ref = λ x. x; },
-      (record { pos = 20; ty = Syntax.tyRef Syntax.erased Syntax.imm (Syntax.tyInt Syntax.w8); ref = λ x. x; },
-      (record { pos = 30; ty = Syntax.tyRef Syntax.erased Syntax.mut (Syntax.tyInt Syntax.w16); ref = λ x. x; },
-      (record { pos = 32; ty = Syntax.tyRef Syntax.erased Syntax.mut Element.behind; ref = λ x. x; },
-      (record { pos = 34; ty = Syntax.tyRef Syntax.erased Syntax.mut (Syntax.tyInt Syntax.w16); ref = λ x. x; },
-      (record { pos = 18; st = List.[]; d = 0; at = λ x. x },
-      (record { pos = 35; ty = Syntax.tyRef Syntax.erased Syntax.imm (Syntax.tyArray (Syntax.tyInt Syntax.w16) 768); ref = λ x. x; },
-      (record { pos = 6; st = List.[]; d = 0; at = λ x. x },
-      (record { pos = 21; st = List.[]; d = 0; at = λ x. x },
-      (Num.vAt 23 λ x. x, (Bool.bLit Bool'.false, (record { pos = 22; st = List._∷_ (Syntax.field 1) List.[]; d = 8; at = λ x. Took.struct .as-values x .1 .0; }, tt)))))))))))) 24 (List._∷_ 0 (List._∷_ 0
+  s41 = Call.callB ps·7 r·7 (claims· .14) (claims· .15) T44 (
+    record { pos = 19; ty = Syntax.tyRef Syntax.erased Syntax.imm (Syntax.tyInt Syntax.w8); ref = λ x. x },
+    (
+      record { pos = 20; ty = Syntax.tyRef Syntax.erased Syntax.imm (Syntax.tyInt Syntax.w8); ref = λ x. x },
+      (
+        record { pos = 30; ty = Syntax.tyRef Syntax.erased Syntax.mut (Syntax.tyInt Syntax.w16); ref = λ x. x },
+        (
+          record { pos = 32; ty = Syntax.tyRef Syntax.erased Syntax.mut Element.behind; ref = λ x. x },
+          (
+            record { pos = 34; ty = Syntax.tyRef Syntax.erased Syntax.mut (Syntax.tyInt Syntax.w16); ref = λ x. x },
+            (
+              record { pos = 18; st = List.[]; d = 0; at = λ x. x },
+              (
+                record { pos = 35; ty = Syntax.tyRef Syntax.erased Syntax.imm (Syntax.tyArray (Syntax.tyInt Syntax.w16) 768); ref = λ x. x },
+                (
+                  record { pos = 6; st = List.[]; d = 0; at = λ x. x },
+                  (
+                    record { pos = 21; st = List.[]; d = 0; at = λ x. x },
+                    (Num.vAt 23 λ x. x, (Bool.bLit Bool'.false, (record { pos = 22; st = List._∷_ (Syntax.field 1) List.[]; d = 8; at = λ x. Took.struct .as-values x .1 .0 }, tt))),
+                  ),
+                ),
+              ),
+            ),
+          ),
+        ),
+      ),
+    ),
+  ) 24 (List._∷_ 0 (List._∷_ 0
       (List._∷_ 4 (List._∷_ 5 (List._∷_ 6 (List._∷_ 7 List.[])))))) (Syntax.tyEnum (List._∷_ 98 (List._∷_ 108 (List._∷_ 111 (List._∷_ 99 (List._∷_ 107 (List._∷_ 58 (List._∷_ 58 (List._∷_ 87 (List._∷_ 97
       (List._∷_ 108 (List._∷_ 107 (List._∷_ 101 (List._∷_ 100 List.[]))))))))))))) (Syntax.ttcons (Syntax.tcons y5 (Syntax.tcons y10 Syntax.tnil)) (Syntax.ttcons (Syntax.tcons (Syntax.tyInt Syntax.w64)
       (Syntax.tcons y5 Syntax.tnil)) Syntax.ttnil)))
@@ -1659,10 +2003,13 @@ module _ (claims· : Claims) where
   s61 = Call.callB ps·8 r·8 (claims· .16) (claims· .17) T63 (record { pos = 24; st = List.[]; d = 0; at = λ x. x }, (Num.vAt 23 λ x. x, tt)) 25 List.[] (Syntax.tyInt Syntax.w64)
 
   abbrev s62 : Typed.Both T65 T66
-  s62 = Call.callB ps·9 r·9 (claims· .18) (claims· .19) T65
-      (record { pos = 1; st = List.[]; d = 0; at = λ x. x },
-      (record { pos = 15; st = List.[]; d = 0; at = λ x. x },
-      (Num.vAt 13 λ x. x, (record { pos = 20; ty = Syntax.tyRef Syntax.erased Syntax.imm (Syntax.tyInt Syntax.w8); ref = λ x. x; }, (Num.vAt 23 λ x. x, (Num.vAt 25 λ x. x, tt)))))) 15 (List._∷_ 0 List.[])
+  s62 = Call.callB ps·9 r·9 (claims· .18) (claims· .19) T65 (
+    record { pos = 1; st = List.[]; d = 0; at = λ x. x },
+    (
+      record { pos = 15; st = List.[]; d = 0; at = λ x. x },
+      (Num.vAt 13 λ x. x, (record { pos = 20; ty = Syntax.tyRef Syntax.erased Syntax.imm (Syntax.tyInt Syntax.w8); ref = λ x. x }, (Num.vAt 23 λ x. x, (Num.vAt 25 λ x. x, tt)))),
+    ),
+  ) 15 (List._∷_ 0 List.[])
       y12
 
   abbrev s63 : Typed.Mo T66 → Typed.Mo T67
@@ -1830,11 +2177,11 @@ module _ (claims· : Claims) where
       Entries.the-type) .Mod × Rows'.whole (Declared.row Decoded.the-type) .Mod × Rows'.sc-here (Row.sInt Syntax.w64) .Mod → Typed.Mo T18 → Typed.Mo T18
   put0 = λ vs u. Row.set 17 (17, Rows'.sc-here (Row.sInt Syntax.w64)) (vs .5) (T18 .locals) (Row.set 16 (16, Rows'.whole (Declared.row Decoded.the-type)) (vs .4) (T18 .locals) (Row.set 15
       (15, Rows'.whole (Declared'.row Entries.the-type)) (vs .3) (T18 .locals) (Row.set 9 (9, Mut.mslice (Element.type) (Syntax.tyRef (Syntax.named 3) Syntax.mut Element.behind) 3) record
-      { ptr = Row.get 9 (T18 .locals) u .ptr; name = Row.get 9 (T18 .locals) u .name; now = vs .2; } (T18 .locals) (Row.set 8
+      { ptr = Row.get 9 (T18 .locals) u .ptr; name = Row.get 9 (T18 .locals) u .name; now = vs .2 } (T18 .locals) (Row.set 8
       (8, Mut.mslice (Referent.rtF (Referent.fInt Syntax.w16)) (Syntax.tyRef (Syntax.named 2) Syntax.mut (Syntax.tyInt Syntax.w16)) 2) record
-      { ptr = Row.get 8 (T18 .locals) u .ptr; name = Row.get 8 (T18 .locals) u .name; now = vs .1; } (T18 .locals) (Row.set 7
+      { ptr = Row.get 8 (T18 .locals) u .ptr; name = Row.get 8 (T18 .locals) u .name; now = vs .1 } (T18 .locals) (Row.set 7
       (7, Mut.mslice (Referent.rtF (Referent.fInt Syntax.w16)) (Syntax.tyRef (Syntax.named 1) Syntax.mut (Syntax.tyInt Syntax.w16)) 1) record
-      { ptr = Row.get 7 (T18 .locals) u .ptr; name = Row.get 7 (T18 .locals) u .name; now = vs .0; } (T18 .locals) u)))))
+      { ptr = Row.get 7 (T18 .locals) u .ptr; name = Row.get 7 (T18 .locals) u .name; now = vs .0 } (T18 .locals) u)))))
 
   module _ (Pre· : (κs : Lifetimes.Lfts 4) → Kinds.Dens κs ps → Type 0) (Post· : (κs : Lifetimes.Lfts 4) → (a : Kinds.Dens κs ps) → Kinds.Plain 4 ps r κs) where
     module _ (M : Type 1) where
@@ -2233,529 +2580,739 @@ module _ (claims· : Claims) where
             (List._∷_ e69 (List._∷_ e4 (List._∷_ e7 (List._∷_ e9 (List._∷_ e11 (List._∷_ e13 (List._∷_ e16 List.[])))))))))))))))
 
         abbrev G0 : Row.Cx
-        G0 = record
-            { locals = List._++_ t0 (List._++_ t1 t2); slots = List._∷_ (Row.lease (κs .0) (qs .0)) (List._∷_ (Row.lease (κs .1 .0) (qs .1 .0)) (List._∷_ (Row.lease (κs .1 .1 .0) (qs .1 .1 .0)) (List._∷_
-            (Row.lease (κs .1 .1 .1 .0) (qs .1 .1 .1 .0)) (List._∷_ Row.off (List._∷_ Row.off (List._∷_ Row.off (List._∷_ Row.off List.[]))))))); }
+        G0 = record {
+          locals = List._++_ t0 (List._++_ t1 t2);
+          slots = List._∷_ (Row.lease (κs .0) (qs .0)) (List._∷_ (Row.lease (κs .1 .0) (qs .1 .0)) (List._∷_ (Row.lease (κs .1 .1 .0) (qs .1 .1 .0)) (List._∷_
+              (Row.lease (κs .1 .1 .1 .0) (qs .1 .1 .1 .0)) (List._∷_ Row.off (List._∷_ Row.off (List._∷_ Row.off (List._∷_ Row.off List.[])))))));
+        }
 
         abbrev G1 : Row.Cx
-        G1 = record
-            { locals = List._++_ t3 (List._++_ t1 t2); slots = List._∷_ (Row.lease (κs .0) (qs .0)) (List._∷_ (Row.lease (κs .1 .0) (qs .1 .0)) (List._∷_ (Row.lease (κs .1 .1 .0) (qs .1 .1 .0)) (List._∷_
-            (Row.lease (κs .1 .1 .1 .0) (qs .1 .1 .1 .0)) (List._∷_ Row.off (List._∷_ Row.off (List._∷_ Row.off (List._∷_ Row.off List.[]))))))); }
+        G1 = record {
+          locals = List._++_ t3 (List._++_ t1 t2);
+          slots = List._∷_ (Row.lease (κs .0) (qs .0)) (List._∷_ (Row.lease (κs .1 .0) (qs .1 .0)) (List._∷_ (Row.lease (κs .1 .1 .0) (qs .1 .1 .0)) (List._∷_
+              (Row.lease (κs .1 .1 .1 .0) (qs .1 .1 .1 .0)) (List._∷_ Row.off (List._∷_ Row.off (List._∷_ Row.off (List._∷_ Row.off List.[])))))));
+        }
 
         abbrev G2 : Row.Cx
-        G2 = record
-            { locals = List._++_ t0 (List._++_ t1 t2); slots = List._∷_ (Row.lease (κs .0) (qs .0)) (List._∷_ (Row.lease (κs .1 .0) (qs .1 .0)) (List._∷_ (Row.lease (κs .1 .1 .0) (qs .1 .1 .0)) (List._∷_
-            (Row.lease (κs .1 .1 .1 .0) (qs .1 .1 .1 .0)) (List._∷_ Row.off (List._∷_ Row.off (List._∷_ Row.off (List._∷_ Row.off List.[]))))))); }
+        G2 = record {
+          locals = List._++_ t0 (List._++_ t1 t2);
+          slots = List._∷_ (Row.lease (κs .0) (qs .0)) (List._∷_ (Row.lease (κs .1 .0) (qs .1 .0)) (List._∷_ (Row.lease (κs .1 .1 .0) (qs .1 .1 .0)) (List._∷_
+              (Row.lease (κs .1 .1 .1 .0) (qs .1 .1 .1 .0)) (List._∷_ Row.off (List._∷_ Row.off (List._∷_ Row.off (List._∷_ Row.off List.[])))))));
+        }
 
         abbrev G3 : Row.Cx
-        G3 = record
-            { locals = List._++_ t0 (List._++_ t1 t2); slots = List._∷_ (Row.lease (κs .0) (qs .0)) (List._∷_ (Row.lease (κs .1 .0) (qs .1 .0)) (List._∷_ (Row.lease (κs .1 .1 .0) (qs .1 .1 .0)) (List._∷_
-            (Row.lease (κs .1 .1 .1 .0) (qs .1 .1 .1 .0)) (List._∷_ Row.off (List._∷_ Row.off (List._∷_ Row.off (List._∷_ Row.off List.[]))))))); }
+        G3 = record {
+          locals = List._++_ t0 (List._++_ t1 t2);
+          slots = List._∷_ (Row.lease (κs .0) (qs .0)) (List._∷_ (Row.lease (κs .1 .0) (qs .1 .0)) (List._∷_ (Row.lease (κs .1 .1 .0) (qs .1 .1 .0)) (List._∷_
+              (Row.lease (κs .1 .1 .1 .0) (qs .1 .1 .1 .0)) (List._∷_ Row.off (List._∷_ Row.off (List._∷_ Row.off (List._∷_ Row.off List.[])))))));
+        }
 
         abbrev G4 : Row.Cx
-        G4 = record
-            { locals = List._++_ t0 (List._++_ t1 t2); slots = List._∷_ (Row.lease (κs .0) (qs .0)) (List._∷_ (Row.lease (κs .1 .0) (qs .1 .0)) (List._∷_ (Row.lease (κs .1 .1 .0) (qs .1 .1 .0)) (List._∷_
-            (Row.lease (κs .1 .1 .1 .0) (qs .1 .1 .1 .0)) (List._∷_ Row.off (List._∷_ Row.off (List._∷_ Row.off (List._∷_ Row.off List.[]))))))); }
+        G4 = record {
+          locals = List._++_ t0 (List._++_ t1 t2);
+          slots = List._∷_ (Row.lease (κs .0) (qs .0)) (List._∷_ (Row.lease (κs .1 .0) (qs .1 .0)) (List._∷_ (Row.lease (κs .1 .1 .0) (qs .1 .1 .0)) (List._∷_
+              (Row.lease (κs .1 .1 .1 .0) (qs .1 .1 .1 .0)) (List._∷_ Row.off (List._∷_ Row.off (List._∷_ Row.off (List._∷_ Row.off List.[])))))));
+        }
 
         abbrev G5 : Row.Cx
-        G5 = record
-            { locals = List._++_ t4 (List._++_ t1 t2); slots = List._∷_ (Row.lease (κs .0) (qs .0)) (List._∷_ (Row.lease (κs .1 .0) (qs .1 .0)) (List._∷_ (Row.lease (κs .1 .1 .0) (qs .1 .1 .0)) (List._∷_
-            (Row.lease (κs .1 .1 .1 .0) (qs .1 .1 .1 .0)) (List._∷_ Row.off (List._∷_ Row.off (List._∷_ Row.off (List._∷_ Row.off List.[]))))))); }
+        G5 = record {
+          locals = List._++_ t4 (List._++_ t1 t2);
+          slots = List._∷_ (Row.lease (κs .0) (qs .0)) (List._∷_ (Row.lease (κs .1 .0) (qs .1 .0)) (List._∷_ (Row.lease (κs .1 .1 .0) (qs .1 .1 .0)) (List._∷_
+              (Row.lease (κs .1 .1 .1 .0) (qs .1 .1 .1 .0)) (List._∷_ Row.off (List._∷_ Row.off (List._∷_ Row.off (List._∷_ Row.off List.[])))))));
+        }
 
         abbrev G6 : Row.Cx
-        G6 = record
-            { locals = List._++_ t5 (List._++_ t1 t2); slots = List._∷_ (Row.lease (κs .0) (qs .0)) (List._∷_ (Row.lease (κs .1 .0) (qs .1 .0)) (List._∷_ (Row.lease (κs .1 .1 .0) (qs .1 .1 .0)) (List._∷_
-            (Row.lease (κs .1 .1 .1 .0) (qs .1 .1 .1 .0)) (List._∷_ Row.off (List._∷_ Row.off (List._∷_ Row.off (List._∷_ Row.off List.[]))))))); }
+        G6 = record {
+          locals = List._++_ t5 (List._++_ t1 t2);
+          slots = List._∷_ (Row.lease (κs .0) (qs .0)) (List._∷_ (Row.lease (κs .1 .0) (qs .1 .0)) (List._∷_ (Row.lease (κs .1 .1 .0) (qs .1 .1 .0)) (List._∷_
+              (Row.lease (κs .1 .1 .1 .0) (qs .1 .1 .1 .0)) (List._∷_ Row.off (List._∷_ Row.off (List._∷_ Row.off (List._∷_ Row.off List.[])))))));
+        }
 
         abbrev G7 : Row.Cx
-        G7 = record
-            { locals = List._++_ t5 (List._++_ t1 t2); slots = List._∷_ (Row.lease (κs .0) (qs .0)) (List._∷_ (Row.lease (κs .1 .0) (qs .1 .0)) (List._∷_ (Row.lease (κs .1 .1 .0) (qs .1 .1 .0)) (List._∷_
-            (Row.lease (κs .1 .1 .1 .0) (qs .1 .1 .1 .0)) (List._∷_ Row.off (List._∷_ Row.off (List._∷_ Row.off (List._∷_ Row.off List.[]))))))); }
+        G7 = record {
+          locals = List._++_ t5 (List._++_ t1 t2);
+          slots = List._∷_ (Row.lease (κs .0) (qs .0)) (List._∷_ (Row.lease (κs .1 .0) (qs .1 .0)) (List._∷_ (Row.lease (κs .1 .1 .0) (qs .1 .1 .0)) (List._∷_
+              (Row.lease (κs .1 .1 .1 .0) (qs .1 .1 .1 .0)) (List._∷_ Row.off (List._∷_ Row.off (List._∷_ Row.off (List._∷_ Row.off List.[])))))));
+        }
 
         abbrev G8 : Row.Cx
-        G8 = record
-            { locals = List._++_ t6 (List._++_ t1 t2); slots = List._∷_ (Row.lease (κs .0) (qs .0)) (List._∷_ (Row.lease (κs .1 .0) (qs .1 .0)) (List._∷_ (Row.lease (κs .1 .1 .0) (qs .1 .1 .0)) (List._∷_
-            (Row.lease (κs .1 .1 .1 .0) (qs .1 .1 .1 .0)) (List._∷_ Row.off (List._∷_ Row.off (List._∷_ Row.off (List._∷_ Row.off List.[]))))))); }
+        G8 = record {
+          locals = List._++_ t6 (List._++_ t1 t2);
+          slots = List._∷_ (Row.lease (κs .0) (qs .0)) (List._∷_ (Row.lease (κs .1 .0) (qs .1 .0)) (List._∷_ (Row.lease (κs .1 .1 .0) (qs .1 .1 .0)) (List._∷_
+              (Row.lease (κs .1 .1 .1 .0) (qs .1 .1 .1 .0)) (List._∷_ Row.off (List._∷_ Row.off (List._∷_ Row.off (List._∷_ Row.off List.[])))))));
+        }
 
         abbrev G9 : Row.Cx
-        G9 = record
-            { locals = List._++_ t7 (List._++_ t1 t2); slots = List._∷_ (Row.lease (κs .0) (qs .0)) (List._∷_ (Row.lease (κs .1 .0) (qs .1 .0)) (List._∷_ (Row.lease (κs .1 .1 .0) (qs .1 .1 .0)) (List._∷_
-            (Row.lease (κs .1 .1 .1 .0) (qs .1 .1 .1 .0)) (List._∷_ Row.off (List._∷_ Row.off (List._∷_ Row.off (List._∷_ Row.off List.[]))))))); }
+        G9 = record {
+          locals = List._++_ t7 (List._++_ t1 t2);
+          slots = List._∷_ (Row.lease (κs .0) (qs .0)) (List._∷_ (Row.lease (κs .1 .0) (qs .1 .0)) (List._∷_ (Row.lease (κs .1 .1 .0) (qs .1 .1 .0)) (List._∷_
+              (Row.lease (κs .1 .1 .1 .0) (qs .1 .1 .1 .0)) (List._∷_ Row.off (List._∷_ Row.off (List._∷_ Row.off (List._∷_ Row.off List.[])))))));
+        }
 
         abbrev G10 : Row.Cx
-        G10 = record
-            { locals = List._++_ t7 (List._++_ t8 t2); slots = List._∷_ (Row.lease (κs .0) (qs .0)) (List._∷_ (Row.lease (κs .1 .0) (qs .1 .0)) (List._∷_ (Row.lease (κs .1 .1 .0) (qs .1 .1 .0)) (List._∷_
-            (Row.lease (κs .1 .1 .1 .0) (qs .1 .1 .1 .0)) (List._∷_ Row.off (List._∷_ Row.off (List._∷_ Row.off (List._∷_ Row.off List.[]))))))); }
+        G10 = record {
+          locals = List._++_ t7 (List._++_ t8 t2);
+          slots = List._∷_ (Row.lease (κs .0) (qs .0)) (List._∷_ (Row.lease (κs .1 .0) (qs .1 .0)) (List._∷_ (Row.lease (κs .1 .1 .0) (qs .1 .1 .0)) (List._∷_
+              (Row.lease (κs .1 .1 .1 .0) (qs .1 .1 .1 .0)) (List._∷_ Row.off (List._∷_ Row.off (List._∷_ Row.off (List._∷_ Row.off List.[])))))));
+        }
 
         abbrev G11 : Row.Cx
-        G11 = record
-            { locals = List._++_ t9 (List._++_ t8 t2); slots = List._∷_ (Row.lease (κs .0) (qs .0)) (List._∷_ (Row.lease (κs .1 .0) (qs .1 .0)) (List._∷_ (Row.lease (κs .1 .1 .0) (qs .1 .1 .0)) (List._∷_
-            (Row.lease (κs .1 .1 .1 .0) (qs .1 .1 .1 .0)) (List._∷_ Row.off (List._∷_ Row.off (List._∷_ Row.off (List._∷_ Row.off List.[]))))))); }
+        G11 = record {
+          locals = List._++_ t9 (List._++_ t8 t2);
+          slots = List._∷_ (Row.lease (κs .0) (qs .0)) (List._∷_ (Row.lease (κs .1 .0) (qs .1 .0)) (List._∷_ (Row.lease (κs .1 .1 .0) (qs .1 .1 .0)) (List._∷_
+              (Row.lease (κs .1 .1 .1 .0) (qs .1 .1 .1 .0)) (List._∷_ Row.off (List._∷_ Row.off (List._∷_ Row.off (List._∷_ Row.off List.[])))))));
+        }
 
         abbrev G12 : Row.Cx
-        G12 = record
-            { locals = List._++_ t9 (List._++_ t1 t2); slots = List._∷_ (Row.lease (κs .0) (qs .0)) (List._∷_ (Row.lease (κs .1 .0) (qs .1 .0)) (List._∷_ (Row.lease (κs .1 .1 .0) (qs .1 .1 .0)) (List._∷_
-            (Row.lease (κs .1 .1 .1 .0) (qs .1 .1 .1 .0)) (List._∷_ Row.off (List._∷_ Row.off (List._∷_ Row.off (List._∷_ Row.off List.[]))))))); }
+        G12 = record {
+          locals = List._++_ t9 (List._++_ t1 t2);
+          slots = List._∷_ (Row.lease (κs .0) (qs .0)) (List._∷_ (Row.lease (κs .1 .0) (qs .1 .0)) (List._∷_ (Row.lease (κs .1 .1 .0) (qs .1 .1 .0)) (List._∷_
+              (Row.lease (κs .1 .1 .1 .0) (qs .1 .1 .1 .0)) (List._∷_ Row.off (List._∷_ Row.off (List._∷_ Row.off (List._∷_ Row.off List.[])))))));
+        }
 
         abbrev G13 : Row.Cx
-        G13 = record
-            { locals = List._++_ t10 (List._++_ t1 t2); slots = List._∷_ (Row.lease (κs .0) (qs .0)) (List._∷_ (Row.lease (κs .1 .0) (qs .1 .0)) (List._∷_ (Row.lease (κs .1 .1 .0) (qs .1 .1 .0)) (List._∷_
-            (Row.lease (κs .1 .1 .1 .0) (qs .1 .1 .1 .0)) (List._∷_ Row.off (List._∷_ Row.off (List._∷_ Row.off (List._∷_ Row.off List.[]))))))); }
+        G13 = record {
+          locals = List._++_ t10 (List._++_ t1 t2);
+          slots = List._∷_ (Row.lease (κs .0) (qs .0)) (List._∷_ (Row.lease (κs .1 .0) (qs .1 .0)) (List._∷_ (Row.lease (κs .1 .1 .0) (qs .1 .1 .0)) (List._∷_
+              (Row.lease (κs .1 .1 .1 .0) (qs .1 .1 .1 .0)) (List._∷_ Row.off (List._∷_ Row.off (List._∷_ Row.off (List._∷_ Row.off List.[])))))));
+        }
 
         abbrev G14 : Row.Cx
-        G14 = record
-            { locals = List._++_ t11 (List._++_ t1 t2); slots = List._∷_ (Row.lease (κs .0) (qs .0)) (List._∷_ (Row.lease (κs .1 .0) (qs .1 .0)) (List._∷_ (Row.lease (κs .1 .1 .0) (qs .1 .1 .0)) (List._∷_
-            (Row.lease (κs .1 .1 .1 .0) (qs .1 .1 .1 .0)) (List._∷_ Row.off (List._∷_ Row.off (List._∷_ Row.off (List._∷_ Row.off List.[]))))))); }
+        G14 = record {
+          locals = List._++_ t11 (List._++_ t1 t2);
+          slots = List._∷_ (Row.lease (κs .0) (qs .0)) (List._∷_ (Row.lease (κs .1 .0) (qs .1 .0)) (List._∷_ (Row.lease (κs .1 .1 .0) (qs .1 .1 .0)) (List._∷_
+              (Row.lease (κs .1 .1 .1 .0) (qs .1 .1 .1 .0)) (List._∷_ Row.off (List._∷_ Row.off (List._∷_ Row.off (List._∷_ Row.off List.[])))))));
+        }
 
         abbrev G15 : Row.Cx
-        G15 = record
-            { locals = List._++_ t11 (List._++_ t12 t2); slots = List._∷_ (Row.lease (κs .0) (qs .0)) (List._∷_ (Row.lease (κs .1 .0) (qs .1 .0)) (List._∷_ (Row.lease (κs .1 .1 .0) (qs .1 .1 .0))
-            (List._∷_ (Row.lease (κs .1 .1 .1 .0) (qs .1 .1 .1 .0)) (List._∷_ Row.off (List._∷_ Row.off (List._∷_ Row.off (List._∷_ Row.off List.[]))))))); }
+        G15 = record {
+          locals = List._++_ t11 (List._++_ t12 t2);
+          slots = List._∷_ (Row.lease (κs .0) (qs .0)) (List._∷_ (Row.lease (κs .1 .0) (qs .1 .0)) (List._∷_ (Row.lease (κs .1 .1 .0) (qs .1 .1 .0))
+              (List._∷_ (Row.lease (κs .1 .1 .1 .0) (qs .1 .1 .1 .0)) (List._∷_ Row.off (List._∷_ Row.off (List._∷_ Row.off (List._∷_ Row.off List.[])))))));
+        }
 
         abbrev G16 : Row.Cx
-        G16 = record
-            { locals = List._++_ t11 (List._++_ t13 t2); slots = List._∷_ (Row.lease (κs .0) (qs .0)) (List._∷_ (Row.lease (κs .1 .0) (qs .1 .0)) (List._∷_ (Row.lease (κs .1 .1 .0) (qs .1 .1 .0))
-            (List._∷_ (Row.lease (κs .1 .1 .1 .0) (qs .1 .1 .1 .0)) (List._∷_ Row.off (List._∷_ Row.off (List._∷_ Row.off (List._∷_ Row.off List.[]))))))); }
+        G16 = record {
+          locals = List._++_ t11 (List._++_ t13 t2);
+          slots = List._∷_ (Row.lease (κs .0) (qs .0)) (List._∷_ (Row.lease (κs .1 .0) (qs .1 .0)) (List._∷_ (Row.lease (κs .1 .1 .0) (qs .1 .1 .0))
+              (List._∷_ (Row.lease (κs .1 .1 .1 .0) (qs .1 .1 .1 .0)) (List._∷_ Row.off (List._∷_ Row.off (List._∷_ Row.off (List._∷_ Row.off List.[])))))));
+        }
 
         abbrev G17 : Row.Cx
-        G17 = record
-            { locals = List._++_ t14 (List._++_ t13 t2); slots = List._∷_ (Row.lease (κs .0) (qs .0)) (List._∷_ (Row.lease (κs .1 .0) (qs .1 .0)) (List._∷_ (Row.lease (κs .1 .1 .0) (qs .1 .1 .0))
-            (List._∷_ (Row.lease (κs .1 .1 .1 .0) (qs .1 .1 .1 .0)) (List._∷_ Row.off (List._∷_ Row.off (List._∷_ Row.off (List._∷_ Row.off List.[]))))))); }
+        G17 = record {
+          locals = List._++_ t14 (List._++_ t13 t2);
+          slots = List._∷_ (Row.lease (κs .0) (qs .0)) (List._∷_ (Row.lease (κs .1 .0) (qs .1 .0)) (List._∷_ (Row.lease (κs .1 .1 .0) (qs .1 .1 .0))
+              (List._∷_ (Row.lease (κs .1 .1 .1 .0) (qs .1 .1 .1 .0)) (List._∷_ Row.off (List._∷_ Row.off (List._∷_ Row.off (List._∷_ Row.off List.[])))))));
+        }
 
         abbrev G18 : Row.Cx
-        G18 = record
-            { locals = List._++_ t15 (List._++_ t13 t2); slots = List._∷_ (Row.lease (κs .0) (qs .0)) (List._∷_ (Row.lease (κs .1 .0) (qs .1 .0)) (List._∷_ (Row.lease (κs .1 .1 .0) (qs .1 .1 .0))
-            (List._∷_ (Row.lease (κs .1 .1 .1 .0) (qs .1 .1 .1 .0)) (List._∷_ Row.off (List._∷_ Row.off (List._∷_ Row.off (List._∷_ Row.off List.[]))))))); }
+        G18 = record {
+          locals = List._++_ t15 (List._++_ t13 t2);
+          slots = List._∷_ (Row.lease (κs .0) (qs .0)) (List._∷_ (Row.lease (κs .1 .0) (qs .1 .0)) (List._∷_ (Row.lease (κs .1 .1 .0) (qs .1 .1 .0))
+              (List._∷_ (Row.lease (κs .1 .1 .1 .0) (qs .1 .1 .1 .0)) (List._∷_ Row.off (List._∷_ Row.off (List._∷_ Row.off (List._∷_ Row.off List.[])))))));
+        }
 
         abbrev G19 : Row.Cx
-        G19 = record
-            { locals = List._++_ t15 (List._++_ t16 t2); slots = List._∷_ (Row.lease (κs .0) (qs .0)) (List._∷_ (Row.lease (κs .1 .0) (qs .1 .0)) (List._∷_ (Row.lease (κs .1 .1 .0) (qs .1 .1 .0))
-            (List._∷_ (Row.lease (κs .1 .1 .1 .0) (qs .1 .1 .1 .0)) (List._∷_ Row.off (List._∷_ Row.off (List._∷_ Row.off (List._∷_ Row.off List.[]))))))); }
+        G19 = record {
+          locals = List._++_ t15 (List._++_ t16 t2);
+          slots = List._∷_ (Row.lease (κs .0) (qs .0)) (List._∷_ (Row.lease (κs .1 .0) (qs .1 .0)) (List._∷_ (Row.lease (κs .1 .1 .0) (qs .1 .1 .0))
+              (List._∷_ (Row.lease (κs .1 .1 .1 .0) (qs .1 .1 .1 .0)) (List._∷_ Row.off (List._∷_ Row.off (List._∷_ Row.off (List._∷_ Row.off List.[])))))));
+        }
 
         abbrev G20 : Row.Cx
-        G20 = record
-            { locals = List._++_ t15 (List._++_ t13 t2); slots = List._∷_ (Row.lease (κs .0) (qs .0)) (List._∷_ (Row.lease (κs .1 .0) (qs .1 .0)) (List._∷_ (Row.lease (κs .1 .1 .0) (qs .1 .1 .0))
-            (List._∷_ (Row.lease (κs .1 .1 .1 .0) (qs .1 .1 .1 .0)) (List._∷_ Row.off (List._∷_ Row.off (List._∷_ Row.off (List._∷_ Row.off List.[]))))))); }
+        G20 = record {
+          locals = List._++_ t15 (List._++_ t13 t2);
+          slots = List._∷_ (Row.lease (κs .0) (qs .0)) (List._∷_ (Row.lease (κs .1 .0) (qs .1 .0)) (List._∷_ (Row.lease (κs .1 .1 .0) (qs .1 .1 .0))
+              (List._∷_ (Row.lease (κs .1 .1 .1 .0) (qs .1 .1 .1 .0)) (List._∷_ Row.off (List._∷_ Row.off (List._∷_ Row.off (List._∷_ Row.off List.[])))))));
+        }
 
         abbrev G21 : Row.Cx
-        G21 = record
-            { locals = List._++_ t15 (List._++_ t13 t2); slots = List._∷_ (Row.lease (κs .0) (qs .0)) (List._∷_ (Row.lease (κs .1 .0) (qs .1 .0)) (List._∷_ (Row.lease (κs .1 .1 .0) (qs .1 .1 .0))
-            (List._∷_ (Row.lease (κs .1 .1 .1 .0) (qs .1 .1 .1 .0)) (List._∷_ Row.off (List._∷_ Row.off (List._∷_ Row.off (List._∷_ Row.off List.[]))))))); }
+        G21 = record {
+          locals = List._++_ t15 (List._++_ t13 t2);
+          slots = List._∷_ (Row.lease (κs .0) (qs .0)) (List._∷_ (Row.lease (κs .1 .0) (qs .1 .0)) (List._∷_ (Row.lease (κs .1 .1 .0) (qs .1 .1 .0))
+              (List._∷_ (Row.lease (κs .1 .1 .1 .0) (qs .1 .1 .1 .0)) (List._∷_ Row.off (List._∷_ Row.off (List._∷_ Row.off (List._∷_ Row.off List.[])))))));
+        }
 
         abbrev G22 : Row.Cx
-        G22 = record
-            { locals = List._++_ t17 (List._++_ t16 t2); slots = List._∷_ (Row.lease (κs .0) (qs .0)) (List._∷_ (Row.lease (κs .1 .0) (qs .1 .0)) (List._∷_ (Row.lease (κs .1 .1 .0) (qs .1 .1 .0))
-            (List._∷_ (Row.lease (κs .1 .1 .1 .0) (qs .1 .1 .1 .0)) (List._∷_ Row.off (List._∷_ Row.off (List._∷_ Row.off (List._∷_ Row.off List.[]))))))); }
+        G22 = record {
+          locals = List._++_ t17 (List._++_ t16 t2);
+          slots = List._∷_ (Row.lease (κs .0) (qs .0)) (List._∷_ (Row.lease (κs .1 .0) (qs .1 .0)) (List._∷_ (Row.lease (κs .1 .1 .0) (qs .1 .1 .0))
+              (List._∷_ (Row.lease (κs .1 .1 .1 .0) (qs .1 .1 .1 .0)) (List._∷_ Row.off (List._∷_ Row.off (List._∷_ Row.off (List._∷_ Row.off List.[])))))));
+        }
 
         abbrev G23 : Row.Cx
-        G23 = record
-            { locals = List._++_ t18 (List._++_ t16 t2); slots = List._∷_ (Row.lease (κs .0) (qs .0)) (List._∷_ (Row.lease (κs .1 .0) (qs .1 .0)) (List._∷_ (Row.lease (κs .1 .1 .0) (qs .1 .1 .0))
-            (List._∷_ (Row.lease (κs .1 .1 .1 .0) (qs .1 .1 .1 .0)) (List._∷_ Row.off (List._∷_ Row.off (List._∷_ Row.off (List._∷_ Row.off List.[]))))))); }
+        G23 = record {
+          locals = List._++_ t18 (List._++_ t16 t2);
+          slots = List._∷_ (Row.lease (κs .0) (qs .0)) (List._∷_ (Row.lease (κs .1 .0) (qs .1 .0)) (List._∷_ (Row.lease (κs .1 .1 .0) (qs .1 .1 .0))
+              (List._∷_ (Row.lease (κs .1 .1 .1 .0) (qs .1 .1 .1 .0)) (List._∷_ Row.off (List._∷_ Row.off (List._∷_ Row.off (List._∷_ Row.off List.[])))))));
+        }
 
         abbrev G24 : Row.Cx
-        G24 = record
-            { locals = List._++_ t19 (List._++_ t16 t2); slots = List._∷_ (Row.lease (κs .0) (qs .0)) (List._∷_ (Row.lease (κs .1 .0) (qs .1 .0)) (List._∷_ (Row.lease (κs .1 .1 .0) (qs .1 .1 .0))
-            (List._∷_ (Row.lease (κs .1 .1 .1 .0) (qs .1 .1 .1 .0)) (List._∷_ Row.off (List._∷_ Row.off (List._∷_ Row.off (List._∷_ Row.off List.[]))))))); }
+        G24 = record {
+          locals = List._++_ t19 (List._++_ t16 t2);
+          slots = List._∷_ (Row.lease (κs .0) (qs .0)) (List._∷_ (Row.lease (κs .1 .0) (qs .1 .0)) (List._∷_ (Row.lease (κs .1 .1 .0) (qs .1 .1 .0))
+              (List._∷_ (Row.lease (κs .1 .1 .1 .0) (qs .1 .1 .1 .0)) (List._∷_ Row.off (List._∷_ Row.off (List._∷_ Row.off (List._∷_ Row.off List.[])))))));
+        }
 
         abbrev G25 : Row.Cx
-        G25 = record
-            { locals = List._++_ t20 (List._++_ t16 t2); slots = List._∷_ (Row.lease (κs .0) (qs .0)) (List._∷_ (Row.lease (κs .1 .0) (qs .1 .0)) (List._∷_ (Row.lease (κs .1 .1 .0) (qs .1 .1 .0))
-            (List._∷_ (Row.lease (κs .1 .1 .1 .0) (qs .1 .1 .1 .0)) (List._∷_ Row.off (List._∷_ Row.off (List._∷_ Row.off (List._∷_ Row.off List.[]))))))); }
+        G25 = record {
+          locals = List._++_ t20 (List._++_ t16 t2);
+          slots = List._∷_ (Row.lease (κs .0) (qs .0)) (List._∷_ (Row.lease (κs .1 .0) (qs .1 .0)) (List._∷_ (Row.lease (κs .1 .1 .0) (qs .1 .1 .0))
+              (List._∷_ (Row.lease (κs .1 .1 .1 .0) (qs .1 .1 .1 .0)) (List._∷_ Row.off (List._∷_ Row.off (List._∷_ Row.off (List._∷_ Row.off List.[])))))));
+        }
 
         abbrev G26 : Row.Cx
-        G26 = record
-            { locals = List._++_ t14 (List._++_ t16 t2); slots = List._∷_ (Row.lease (κs .0) (qs .0)) (List._∷_ (Row.lease (κs .1 .0) (qs .1 .0)) (List._∷_ (Row.lease (κs .1 .1 .0) (qs .1 .1 .0))
-            (List._∷_ (Row.lease (κs .1 .1 .1 .0) (qs .1 .1 .1 .0)) (List._∷_ Row.off (List._∷_ Row.off (List._∷_ Row.off (List._∷_ Row.off List.[]))))))); }
+        G26 = record {
+          locals = List._++_ t14 (List._++_ t16 t2);
+          slots = List._∷_ (Row.lease (κs .0) (qs .0)) (List._∷_ (Row.lease (κs .1 .0) (qs .1 .0)) (List._∷_ (Row.lease (κs .1 .1 .0) (qs .1 .1 .0))
+              (List._∷_ (Row.lease (κs .1 .1 .1 .0) (qs .1 .1 .1 .0)) (List._∷_ Row.off (List._∷_ Row.off (List._∷_ Row.off (List._∷_ Row.off List.[])))))));
+        }
 
         abbrev G27 : Row.Cx
-        G27 = record
-            { locals = List._++_ t14 (List._++_ t13 t2); slots = List._∷_ (Row.lease (κs .0) (qs .0)) (List._∷_ (Row.lease (κs .1 .0) (qs .1 .0)) (List._∷_ (Row.lease (κs .1 .1 .0) (qs .1 .1 .0))
-            (List._∷_ (Row.lease (κs .1 .1 .1 .0) (qs .1 .1 .1 .0)) (List._∷_ Row.off (List._∷_ Row.off (List._∷_ Row.off (List._∷_ Row.off List.[]))))))); }
+        G27 = record {
+          locals = List._++_ t14 (List._++_ t13 t2);
+          slots = List._∷_ (Row.lease (κs .0) (qs .0)) (List._∷_ (Row.lease (κs .1 .0) (qs .1 .0)) (List._∷_ (Row.lease (κs .1 .1 .0) (qs .1 .1 .0))
+              (List._∷_ (Row.lease (κs .1 .1 .1 .0) (qs .1 .1 .1 .0)) (List._∷_ Row.off (List._∷_ Row.off (List._∷_ Row.off (List._∷_ Row.off List.[])))))));
+        }
 
         abbrev G28 : Row.Cx
-        G28 = record
-            { locals = List._++_ t15 (List._++_ t21 t2); slots = List._∷_ (Row.lease (κs .0) (qs .0)) (List._∷_ (Row.lease (κs .1 .0) (qs .1 .0)) (List._∷_ (Row.lease (κs .1 .1 .0) (qs .1 .1 .0))
-            (List._∷_ (Row.lease (κs .1 .1 .1 .0) (qs .1 .1 .1 .0)) (List._∷_ Row.off (List._∷_ Row.off (List._∷_ Row.off (List._∷_ Row.off List.[]))))))); }
+        G28 = record {
+          locals = List._++_ t15 (List._++_ t21 t2);
+          slots = List._∷_ (Row.lease (κs .0) (qs .0)) (List._∷_ (Row.lease (κs .1 .0) (qs .1 .0)) (List._∷_ (Row.lease (κs .1 .1 .0) (qs .1 .1 .0))
+              (List._∷_ (Row.lease (κs .1 .1 .1 .0) (qs .1 .1 .1 .0)) (List._∷_ Row.off (List._∷_ Row.off (List._∷_ Row.off (List._∷_ Row.off List.[])))))));
+        }
 
         abbrev G29 : Row.Cx
-        G29 = record
-            { locals = List._++_ t15 (List._++_ t22 t2); slots = List._∷_ (Row.lease (κs .0) (qs .0)) (List._∷_ (Row.lease (κs .1 .0) (qs .1 .0)) (List._∷_ (Row.lease (κs .1 .1 .0) (qs .1 .1 .0))
-            (List._∷_ (Row.lease (κs .1 .1 .1 .0) (qs .1 .1 .1 .0)) (List._∷_ Row.off (List._∷_ Row.off (List._∷_ Row.off (List._∷_ Row.off List.[]))))))); }
+        G29 = record {
+          locals = List._++_ t15 (List._++_ t22 t2);
+          slots = List._∷_ (Row.lease (κs .0) (qs .0)) (List._∷_ (Row.lease (κs .1 .0) (qs .1 .0)) (List._∷_ (Row.lease (κs .1 .1 .0) (qs .1 .1 .0))
+              (List._∷_ (Row.lease (κs .1 .1 .1 .0) (qs .1 .1 .1 .0)) (List._∷_ Row.off (List._∷_ Row.off (List._∷_ Row.off (List._∷_ Row.off List.[])))))));
+        }
 
         abbrev G30 : Row.Cx
-        G30 = record
-            { locals = List._++_ t15 (List._++_ t23 t2); slots = List._∷_ (Row.lease (κs .0) (qs .0)) (List._∷_ (Row.lease (κs .1 .0) (qs .1 .0)) (List._∷_ (Row.lease (κs .1 .1 .0) (qs .1 .1 .0))
-            (List._∷_ (Row.lease (κs .1 .1 .1 .0) (qs .1 .1 .1 .0)) (List._∷_ Row.off (List._∷_ Row.off (List._∷_ Row.off (List._∷_ Row.off List.[]))))))); }
+        G30 = record {
+          locals = List._++_ t15 (List._++_ t23 t2);
+          slots = List._∷_ (Row.lease (κs .0) (qs .0)) (List._∷_ (Row.lease (κs .1 .0) (qs .1 .0)) (List._∷_ (Row.lease (κs .1 .1 .0) (qs .1 .1 .0))
+              (List._∷_ (Row.lease (κs .1 .1 .1 .0) (qs .1 .1 .1 .0)) (List._∷_ Row.off (List._∷_ Row.off (List._∷_ Row.off (List._∷_ Row.off List.[])))))));
+        }
 
         abbrev G31 : Row.Cx
-        G31 = record
-            { locals = List._++_ t15 (List._++_ t24 t2); slots = List._∷_ (Row.lease (κs .0) (qs .0)) (List._∷_ (Row.lease (κs .1 .0) (qs .1 .0)) (List._∷_ (Row.lease (κs .1 .1 .0) (qs .1 .1 .0))
-            (List._∷_ (Row.lease (κs .1 .1 .1 .0) (qs .1 .1 .1 .0)) (List._∷_ Row.off (List._∷_ Row.off (List._∷_ Row.off (List._∷_ Row.off List.[]))))))); }
+        G31 = record {
+          locals = List._++_ t15 (List._++_ t24 t2);
+          slots = List._∷_ (Row.lease (κs .0) (qs .0)) (List._∷_ (Row.lease (κs .1 .0) (qs .1 .0)) (List._∷_ (Row.lease (κs .1 .1 .0) (qs .1 .1 .0))
+              (List._∷_ (Row.lease (κs .1 .1 .1 .0) (qs .1 .1 .1 .0)) (List._∷_ Row.off (List._∷_ Row.off (List._∷_ Row.off (List._∷_ Row.off List.[])))))));
+        }
 
         abbrev G32 : Row.Cx
-        G32 = record
-            { locals = List._++_ t15 (List._++_ t25 t2); slots = List._∷_ (Row.lease (κs .0) (qs .0)) (List._∷_ (Row.lease (κs .1 .0) (qs .1 .0)) (List._∷_ (Row.lease (κs .1 .1 .0) (qs .1 .1 .0))
-            (List._∷_ (Row.lease (κs .1 .1 .1 .0) (qs .1 .1 .1 .0)) (List._∷_ Row.off (List._∷_ Row.off (List._∷_ Row.off (List._∷_ Row.off List.[]))))))); }
+        G32 = record {
+          locals = List._++_ t15 (List._++_ t25 t2);
+          slots = List._∷_ (Row.lease (κs .0) (qs .0)) (List._∷_ (Row.lease (κs .1 .0) (qs .1 .0)) (List._∷_ (Row.lease (κs .1 .1 .0) (qs .1 .1 .0))
+              (List._∷_ (Row.lease (κs .1 .1 .1 .0) (qs .1 .1 .1 .0)) (List._∷_ Row.off (List._∷_ Row.off (List._∷_ Row.off (List._∷_ Row.off List.[])))))));
+        }
 
         abbrev G33 : Row.Cx
-        G33 = record
-            { locals = List._++_ t15 (List._++_ t26 t2); slots = List._∷_ (Row.lease (κs .0) (qs .0)) (List._∷_ (Row.lease (κs .1 .0) (qs .1 .0)) (List._∷_ (Row.lease (κs .1 .1 .0) (qs .1 .1 .0))
-            (List._∷_ (Row.lease (κs .1 .1 .1 .0) (qs .1 .1 .1 .0)) (List._∷_ Row.off (List._∷_ Row.off (List._∷_ Row.off (List._∷_ Row.off List.[]))))))); }
+        G33 = record {
+          locals = List._++_ t15 (List._++_ t26 t2);
+          slots = List._∷_ (Row.lease (κs .0) (qs .0)) (List._∷_ (Row.lease (κs .1 .0) (qs .1 .0)) (List._∷_ (Row.lease (κs .1 .1 .0) (qs .1 .1 .0))
+              (List._∷_ (Row.lease (κs .1 .1 .1 .0) (qs .1 .1 .1 .0)) (List._∷_ Row.off (List._∷_ Row.off (List._∷_ Row.off (List._∷_ Row.off List.[])))))));
+        }
 
         abbrev G34 : Row.Cx
-        G34 = record
-            { locals = List._++_ t15 (List._++_ t26 t2); slots = List._∷_ (Row.lease (κs .0) (qs .0)) (List._∷_ (Row.lease (κs .1 .0) (qs .1 .0)) (List._∷_ (Row.lease (κs .1 .1 .0) (qs .1 .1 .0))
-            (List._∷_ (Row.lease (κs .1 .1 .1 .0) (qs .1 .1 .1 .0)) (List._∷_ Row.alive (List._∷_ Row.off (List._∷_ Row.off (List._∷_ Row.off List.[]))))))); }
+        G34 = record {
+          locals = List._++_ t15 (List._++_ t26 t2);
+          slots = List._∷_ (Row.lease (κs .0) (qs .0)) (List._∷_ (Row.lease (κs .1 .0) (qs .1 .0)) (List._∷_ (Row.lease (κs .1 .1 .0) (qs .1 .1 .0))
+              (List._∷_ (Row.lease (κs .1 .1 .1 .0) (qs .1 .1 .1 .0)) (List._∷_ Row.alive (List._∷_ Row.off (List._∷_ Row.off (List._∷_ Row.off List.[])))))));
+        }
 
         abbrev G35 : Row.Cx
-        G35 = record
-            { locals = List._++_ g27 (List._++_ t28 t2); slots = List._∷_ (Row.lease (κs .0) (qs .0)) (List._∷_ (Row.lease (κs .1 .0) (qs .1 .0)) (List._∷_ Row.off (List._∷_ (Row.lease (κs .1 .1 .1 .0)
-            (qs .1 .1 .1 .0)) (List._∷_ Row.alive (List._∷_ Row.off (List._∷_ Row.off (List._∷_ Row.off List.[]))))))); }
+        G35 = record {
+          locals = List._++_ g27 (List._++_ t28 t2);
+          slots = List._∷_ (Row.lease (κs .0) (qs .0)) (List._∷_ (Row.lease (κs .1 .0) (qs .1 .0)) (List._∷_ Row.off (List._∷_ (Row.lease (κs .1 .1 .1 .0)
+              (qs .1 .1 .1 .0)) (List._∷_ Row.alive (List._∷_ Row.off (List._∷_ Row.off (List._∷_ Row.off List.[])))))));
+        }
 
         abbrev G36 : Row.Cx
-        G36 = record
-            { locals = List._++_ g27 (List._++_ t29 t2); slots = List._∷_ (Row.lease (κs .0) (qs .0)) (List._∷_ (Row.lease (κs .1 .0) (qs .1 .0)) (List._∷_ Row.off (List._∷_ (Row.lease (κs .1 .1 .1 .0)
-            (qs .1 .1 .1 .0)) (List._∷_ Row.alive (List._∷_ Row.off (List._∷_ Row.off (List._∷_ Row.off List.[]))))))); }
+        G36 = record {
+          locals = List._++_ g27 (List._++_ t29 t2);
+          slots = List._∷_ (Row.lease (κs .0) (qs .0)) (List._∷_ (Row.lease (κs .1 .0) (qs .1 .0)) (List._∷_ Row.off (List._∷_ (Row.lease (κs .1 .1 .1 .0)
+              (qs .1 .1 .1 .0)) (List._∷_ Row.alive (List._∷_ Row.off (List._∷_ Row.off (List._∷_ Row.off List.[])))))));
+        }
 
         abbrev G37 : Row.Cx
-        G37 = record
-            { locals = List._++_ g27 (List._++_ t29 t2); slots = List._∷_ (Row.lease (κs .0) (qs .0)) (List._∷_ (Row.lease (κs .1 .0) (qs .1 .0)) (List._∷_ Row.off (List._∷_ (Row.lease (κs .1 .1 .1 .0)
-            (qs .1 .1 .1 .0)) (List._∷_ Row.alive (List._∷_ Row.alive (List._∷_ Row.off (List._∷_ Row.off List.[]))))))); }
+        G37 = record {
+          locals = List._++_ g27 (List._++_ t29 t2);
+          slots = List._∷_ (Row.lease (κs .0) (qs .0)) (List._∷_ (Row.lease (κs .1 .0) (qs .1 .0)) (List._∷_ Row.off (List._∷_ (Row.lease (κs .1 .1 .1 .0)
+              (qs .1 .1 .1 .0)) (List._∷_ Row.alive (List._∷_ Row.alive (List._∷_ Row.off (List._∷_ Row.off List.[])))))));
+        }
 
         abbrev G38 : Row.Cx
-        G38 = record
-            { locals = List._++_ g30 (List._++_ t31 t2); slots = List._∷_ (Row.lease (κs .0) (qs .0)) (List._∷_ (Row.lease (κs .1 .0) (qs .1 .0)) (List._∷_ Row.off (List._∷_ Row.off (List._∷_ Row.alive
-            (List._∷_ Row.alive (List._∷_ Row.off (List._∷_ Row.off List.[]))))))); }
+        G38 = record {
+          locals = List._++_ g30 (List._++_ t31 t2);
+          slots = List._∷_ (Row.lease (κs .0) (qs .0)) (List._∷_ (Row.lease (κs .1 .0) (qs .1 .0)) (List._∷_ Row.off (List._∷_ Row.off (List._∷_ Row.alive
+              (List._∷_ Row.alive (List._∷_ Row.off (List._∷_ Row.off List.[])))))));
+        }
 
         abbrev G39 : Row.Cx
-        G39 = record
-            { locals = List._++_ g30 (List._++_ t29 t32); slots = List._∷_ (Row.lease (κs .0) (qs .0)) (List._∷_ (Row.lease (κs .1 .0) (qs .1 .0)) (List._∷_ Row.off (List._∷_ Row.off (List._∷_ Row.alive
-            (List._∷_ Row.alive (List._∷_ Row.off (List._∷_ Row.off List.[]))))))); }
+        G39 = record {
+          locals = List._++_ g30 (List._++_ t29 t32);
+          slots = List._∷_ (Row.lease (κs .0) (qs .0)) (List._∷_ (Row.lease (κs .1 .0) (qs .1 .0)) (List._∷_ Row.off (List._∷_ Row.off (List._∷_ Row.alive
+              (List._∷_ Row.alive (List._∷_ Row.off (List._∷_ Row.off List.[])))))));
+        }
 
         abbrev G40 : Row.Cx
-        G40 = record
-            { locals = List._++_ g30 (List._++_ t29 t32); slots = List._∷_ (Row.lease (κs .0) (qs .0)) (List._∷_ (Row.lease (κs .1 .0) (qs .1 .0)) (List._∷_ Row.off (List._∷_ Row.off (List._∷_ Row.alive
-            (List._∷_ Row.alive (List._∷_ Row.alive (List._∷_ Row.off List.[]))))))); }
+        G40 = record {
+          locals = List._++_ g30 (List._++_ t29 t32);
+          slots = List._∷_ (Row.lease (κs .0) (qs .0)) (List._∷_ (Row.lease (κs .1 .0) (qs .1 .0)) (List._∷_ Row.off (List._∷_ Row.off (List._∷_ Row.alive
+              (List._∷_ Row.alive (List._∷_ Row.alive (List._∷_ Row.off List.[])))))));
+        }
 
         abbrev G41 : Row.Cx
-        G41 = record
-            { locals = List._++_ g33 (List._++_ t29 t34); slots = List._∷_ (Row.lease (κs .0) (qs .0)) (List._∷_ Row.off (List._∷_ Row.off (List._∷_ Row.off (List._∷_ Row.alive (List._∷_ Row.alive
-            (List._∷_ Row.alive (List._∷_ Row.off List.[]))))))); }
+        G41 = record {
+          locals = List._++_ g33 (List._++_ t29 t34);
+          slots = List._∷_ (Row.lease (κs .0) (qs .0)) (List._∷_ Row.off (List._∷_ Row.off (List._∷_ Row.off (List._∷_ Row.alive (List._∷_ Row.alive
+              (List._∷_ Row.alive (List._∷_ Row.off List.[])))))));
+        }
 
         abbrev G42 : Row.Cx
-        G42 = record
-            { locals = List._++_ g33 (List._++_ t29 t35); slots = List._∷_ (Row.lease (κs .0) (qs .0)) (List._∷_ Row.off (List._∷_ Row.off (List._∷_ Row.off (List._∷_ Row.alive (List._∷_ Row.alive
-            (List._∷_ Row.alive (List._∷_ Row.off List.[]))))))); }
+        G42 = record {
+          locals = List._++_ g33 (List._++_ t29 t35);
+          slots = List._∷_ (Row.lease (κs .0) (qs .0)) (List._∷_ Row.off (List._∷_ Row.off (List._∷_ Row.off (List._∷_ Row.alive (List._∷_ Row.alive
+              (List._∷_ Row.alive (List._∷_ Row.off List.[])))))));
+        }
 
         abbrev G43 : Row.Cx
-        G43 = record
-            { locals = List._++_ g33 (List._++_ t29 t35); slots = List._∷_ (Row.lease (κs .0) (qs .0)) (List._∷_ Row.off (List._∷_ Row.off (List._∷_ Row.off (List._∷_ Row.alive (List._∷_ Row.alive
-            (List._∷_ Row.alive (List._∷_ Row.alive List.[]))))))); }
+        G43 = record {
+          locals = List._++_ g33 (List._++_ t29 t35);
+          slots = List._∷_ (Row.lease (κs .0) (qs .0)) (List._∷_ Row.off (List._∷_ Row.off (List._∷_ Row.off (List._∷_ Row.alive (List._∷_ Row.alive
+              (List._∷_ Row.alive (List._∷_ Row.alive List.[])))))));
+        }
 
         abbrev G44 : Row.Cx
-        G44 = record
-            { locals = List._++_ g36 (List._++_ t29 t37); slots = List._∷_ (Row.lease (κs .0) (qs .0)) (List._∷_ Row.off (List._∷_ Row.off (List._∷_ Row.off (List._∷_ Row.alive (List._∷_ Row.alive
-            (List._∷_ Row.alive (List._∷_ Row.alive List.[]))))))); }
+        G44 = record {
+          locals = List._++_ g36 (List._++_ t29 t37);
+          slots = List._∷_ (Row.lease (κs .0) (qs .0)) (List._∷_ Row.off (List._∷_ Row.off (List._∷_ Row.off (List._∷_ Row.alive (List._∷_ Row.alive
+              (List._∷_ Row.alive (List._∷_ Row.alive List.[])))))));
+        }
 
         abbrev G45 : Row.Cx
-        G45 = record
-            { locals = List._++_ g36 (List._++_ t38 t39); slots = List._∷_ (Row.lease (κs .0) (qs .0)) (List._∷_ Row.off (List._∷_ Row.off (List._∷_ Row.off (List._∷_ Row.alive (List._∷_ Row.alive
-            (List._∷_ Row.alive (List._∷_ Row.alive List.[]))))))); }
+        G45 = record {
+          locals = List._++_ g36 (List._++_ t38 t39);
+          slots = List._∷_ (Row.lease (κs .0) (qs .0)) (List._∷_ Row.off (List._∷_ Row.off (List._∷_ Row.off (List._∷_ Row.alive (List._∷_ Row.alive
+              (List._∷_ Row.alive (List._∷_ Row.alive List.[])))))));
+        }
 
         abbrev G46 : Row.Cx
-        G46 = record
-            { locals = List._++_ g36 (List._++_ t40 t39); slots = List._∷_ (Row.lease (κs .0) (qs .0)) (List._∷_ Row.off (List._∷_ Row.off (List._∷_ Row.off (List._∷_ Row.alive (List._∷_ Row.alive
-            (List._∷_ Row.alive (List._∷_ Row.alive List.[]))))))); }
+        G46 = record {
+          locals = List._++_ g36 (List._++_ t40 t39);
+          slots = List._∷_ (Row.lease (κs .0) (qs .0)) (List._∷_ Row.off (List._∷_ Row.off (List._∷_ Row.off (List._∷_ Row.alive (List._∷_ Row.alive
+              (List._∷_ Row.alive (List._∷_ Row.alive List.[])))))));
+        }
 
         abbrev G47 : Row.Cx
-        G47 = record
-            { locals = List._++_ g36 (List._++_ t40 t41); slots = List._∷_ (Row.lease (κs .0) (qs .0)) (List._∷_ Row.off (List._∷_ Row.off (List._∷_ Row.off (List._∷_ Row.alive (List._∷_ Row.alive
-            (List._∷_ Row.alive (List._∷_ Row.alive List.[]))))))); }
+        G47 = record {
+          locals = List._++_ g36 (List._++_ t40 t41);
+          slots = List._∷_ (Row.lease (κs .0) (qs .0)) (List._∷_ Row.off (List._∷_ Row.off (List._∷_ Row.off (List._∷_ Row.alive (List._∷_ Row.alive
+              (List._∷_ Row.alive (List._∷_ Row.alive List.[])))))));
+        }
 
         abbrev G48 : Row.Cx
-        G48 = record
-            { locals = List._++_ g36 (List._++_ t42 t41); slots = List._∷_ (Row.lease (κs .0) (qs .0)) (List._∷_ Row.off (List._∷_ Row.off (List._∷_ Row.off (List._∷_ Row.alive (List._∷_ Row.alive
-            (List._∷_ Row.alive (List._∷_ Row.alive List.[]))))))); }
+        G48 = record {
+          locals = List._++_ g36 (List._++_ t42 t41);
+          slots = List._∷_ (Row.lease (κs .0) (qs .0)) (List._∷_ Row.off (List._∷_ Row.off (List._∷_ Row.off (List._∷_ Row.alive (List._∷_ Row.alive
+              (List._∷_ Row.alive (List._∷_ Row.alive List.[])))))));
+        }
 
         abbrev G49 : Row.Cx
-        G49 = record
-            { locals = List._++_ g36 (List._++_ t43 t41); slots = List._∷_ (Row.lease (κs .0) (qs .0)) (List._∷_ Row.off (List._∷_ Row.off (List._∷_ Row.off (List._∷_ Row.alive (List._∷_ Row.alive
-            (List._∷_ Row.alive (List._∷_ Row.alive List.[]))))))); }
+        G49 = record {
+          locals = List._++_ g36 (List._++_ t43 t41);
+          slots = List._∷_ (Row.lease (κs .0) (qs .0)) (List._∷_ Row.off (List._∷_ Row.off (List._∷_ Row.off (List._∷_ Row.alive (List._∷_ Row.alive
+              (List._∷_ Row.alive (List._∷_ Row.alive List.[])))))));
+        }
 
         abbrev G50 : Row.Cx
-        G50 = record
-            { locals = List._++_ g36 (List._++_ t44 t41); slots = List._∷_ (Row.lease (κs .0) (qs .0)) (List._∷_ Row.off (List._∷_ Row.off (List._∷_ Row.off (List._∷_ Row.alive (List._∷_ Row.alive
-            (List._∷_ Row.alive (List._∷_ Row.alive List.[]))))))); }
+        G50 = record {
+          locals = List._++_ g36 (List._++_ t44 t41);
+          slots = List._∷_ (Row.lease (κs .0) (qs .0)) (List._∷_ Row.off (List._∷_ Row.off (List._∷_ Row.off (List._∷_ Row.alive (List._∷_ Row.alive
+              (List._∷_ Row.alive (List._∷_ Row.alive List.[])))))));
+        }
 
         abbrev G51 : Row.Cx
-        G51 = record
-            { locals = List._++_ g36 (List._++_ t44 t41); slots = List._∷_ (Row.lease (κs .0) (qs .0)) (List._∷_ Row.off (List._∷_ Row.off (List._∷_ Row.off (List._∷_ Row.dead (List._∷_ Row.alive
-            (List._∷_ Row.alive (List._∷_ Row.alive List.[]))))))); }
+        G51 = record {
+          locals = List._++_ g36 (List._++_ t44 t41);
+          slots = List._∷_ (Row.lease (κs .0) (qs .0)) (List._∷_ Row.off (List._∷_ Row.off (List._∷_ Row.off (List._∷_ Row.dead (List._∷_ Row.alive
+              (List._∷_ Row.alive (List._∷_ Row.alive List.[])))))));
+        }
 
         abbrev G52 : Row.Cx
-        G52 = record
-            { locals = List._++_ g45 (List._++_ t46 t41); slots = List._∷_ (Row.lease (κs .0) (qs .0)) (List._∷_ Row.off (List._∷_ (Row.lease (κs .1 .1 .0) (qs .1 .1 .0)) (List._∷_ Row.off (List._∷_
-            Row.dead (List._∷_ Row.alive (List._∷_ Row.alive (List._∷_ Row.alive List.[]))))))); }
+        G52 = record {
+          locals = List._++_ g45 (List._++_ t46 t41);
+          slots = List._∷_ (Row.lease (κs .0) (qs .0)) (List._∷_ Row.off (List._∷_ (Row.lease (κs .1 .1 .0) (qs .1 .1 .0)) (List._∷_ Row.off (List._∷_
+              Row.dead (List._∷_ Row.alive (List._∷_ Row.alive (List._∷_ Row.alive List.[])))))));
+        }
 
         abbrev G53 : Row.Cx
-        G53 = record
-            { locals = List._++_ g45 (List._++_ t46 t41); slots = List._∷_ (Row.lease (κs .0) (qs .0)) (List._∷_ Row.off (List._∷_ (Row.lease (κs .1 .1 .0) (qs .1 .1 .0)) (List._∷_ Row.off (List._∷_
-            Row.dead (List._∷_ Row.alive (List._∷_ Row.alive (List._∷_ Row.alive List.[]))))))); }
+        G53 = record {
+          locals = List._++_ g45 (List._++_ t46 t41);
+          slots = List._∷_ (Row.lease (κs .0) (qs .0)) (List._∷_ Row.off (List._∷_ (Row.lease (κs .1 .1 .0) (qs .1 .1 .0)) (List._∷_ Row.off (List._∷_
+              Row.dead (List._∷_ Row.alive (List._∷_ Row.alive (List._∷_ Row.alive List.[])))))));
+        }
 
         abbrev G54 : Row.Cx
-        G54 = record
-            { locals = List._++_ g45 (List._++_ t46 t41); slots = List._∷_ (Row.lease (κs .0) (qs .0)) (List._∷_ Row.off (List._∷_ (Row.lease (κs .1 .1 .0) (qs .1 .1 .0)) (List._∷_ Row.off (List._∷_
-            Row.off (List._∷_ Row.alive (List._∷_ Row.alive (List._∷_ Row.alive List.[]))))))); }
+        G54 = record {
+          locals = List._++_ g45 (List._++_ t46 t41);
+          slots = List._∷_ (Row.lease (κs .0) (qs .0)) (List._∷_ Row.off (List._∷_ (Row.lease (κs .1 .1 .0) (qs .1 .1 .0)) (List._∷_ Row.off (List._∷_
+              Row.off (List._∷_ Row.alive (List._∷_ Row.alive (List._∷_ Row.alive List.[])))))));
+        }
 
         abbrev G55 : Row.Cx
-        G55 = record
-            { locals = List._++_ g45 (List._++_ t46 t41); slots = List._∷_ (Row.lease (κs .0) (qs .0)) (List._∷_ Row.off (List._∷_ (Row.lease (κs .1 .1 .0) (qs .1 .1 .0)) (List._∷_ Row.off (List._∷_
-            Row.off (List._∷_ Row.dead (List._∷_ Row.alive (List._∷_ Row.alive List.[]))))))); }
+        G55 = record {
+          locals = List._++_ g45 (List._++_ t46 t41);
+          slots = List._∷_ (Row.lease (κs .0) (qs .0)) (List._∷_ Row.off (List._∷_ (Row.lease (κs .1 .1 .0) (qs .1 .1 .0)) (List._∷_ Row.off (List._∷_
+              Row.off (List._∷_ Row.dead (List._∷_ Row.alive (List._∷_ Row.alive List.[])))))));
+        }
 
         abbrev G56 : Row.Cx
-        G56 = record
-            { locals = List._++_ g47 (List._++_ t46 t48); slots = List._∷_ (Row.lease (κs .0) (qs .0)) (List._∷_ Row.off (List._∷_ (Row.lease (κs .1 .1 .0) (qs .1 .1 .0)) (List._∷_ (Row.lease (κs .1 .1 .1
-            .0) (qs .1 .1 .1 .0)) (List._∷_ Row.off (List._∷_ Row.dead (List._∷_ Row.alive (List._∷_ Row.alive List.[]))))))); }
+        G56 = record {
+          locals = List._++_ g47 (List._++_ t46 t48);
+          slots = List._∷_ (Row.lease (κs .0) (qs .0)) (List._∷_ Row.off (List._∷_ (Row.lease (κs .1 .1 .0) (qs .1 .1 .0)) (List._∷_ (Row.lease (κs .1 .1 .1
+              .0) (qs .1 .1 .1 .0)) (List._∷_ Row.off (List._∷_ Row.dead (List._∷_ Row.alive (List._∷_ Row.alive List.[])))))));
+        }
 
         abbrev G57 : Row.Cx
-        G57 = record
-            { locals = List._++_ g47 (List._++_ t46 t48); slots = List._∷_ (Row.lease (κs .0) (qs .0)) (List._∷_ Row.off (List._∷_ (Row.lease (κs .1 .1 .0) (qs .1 .1 .0)) (List._∷_ (Row.lease (κs .1 .1 .1
-            .0) (qs .1 .1 .1 .0)) (List._∷_ Row.off (List._∷_ Row.off (List._∷_ Row.alive (List._∷_ Row.alive List.[]))))))); }
+        G57 = record {
+          locals = List._++_ g47 (List._++_ t46 t48);
+          slots = List._∷_ (Row.lease (κs .0) (qs .0)) (List._∷_ Row.off (List._∷_ (Row.lease (κs .1 .1 .0) (qs .1 .1 .0)) (List._∷_ (Row.lease (κs .1 .1 .1
+              .0) (qs .1 .1 .1 .0)) (List._∷_ Row.off (List._∷_ Row.off (List._∷_ Row.alive (List._∷_ Row.alive List.[])))))));
+        }
 
         abbrev G58 : Row.Cx
-        G58 = record
-            { locals = List._++_ g47 (List._++_ t46 t48); slots = List._∷_ (Row.lease (κs .0) (qs .0)) (List._∷_ Row.off (List._∷_ (Row.lease (κs .1 .1 .0) (qs .1 .1 .0)) (List._∷_ (Row.lease (κs .1 .1 .1
-            .0) (qs .1 .1 .1 .0)) (List._∷_ Row.off (List._∷_ Row.off (List._∷_ Row.dead (List._∷_ Row.alive List.[]))))))); }
+        G58 = record {
+          locals = List._++_ g47 (List._++_ t46 t48);
+          slots = List._∷_ (Row.lease (κs .0) (qs .0)) (List._∷_ Row.off (List._∷_ (Row.lease (κs .1 .1 .0) (qs .1 .1 .0)) (List._∷_ (Row.lease (κs .1 .1 .1
+              .0) (qs .1 .1 .1 .0)) (List._∷_ Row.off (List._∷_ Row.off (List._∷_ Row.dead (List._∷_ Row.alive List.[])))))));
+        }
 
         abbrev G59 : Row.Cx
-        G59 = record
-            { locals = List._++_ t49 (List._++_ t46 t2); slots = List._∷_ (Row.lease (κs .0) (qs .0)) (List._∷_ (Row.lease (κs .1 .0) (qs .1 .0)) (List._∷_ (Row.lease (κs .1 .1 .0) (qs .1 .1 .0))
-            (List._∷_ (Row.lease (κs .1 .1 .1 .0) (qs .1 .1 .1 .0)) (List._∷_ Row.off (List._∷_ Row.off (List._∷_ Row.dead (List._∷_ Row.alive List.[]))))))); }
+        G59 = record {
+          locals = List._++_ t49 (List._++_ t46 t2);
+          slots = List._∷_ (Row.lease (κs .0) (qs .0)) (List._∷_ (Row.lease (κs .1 .0) (qs .1 .0)) (List._∷_ (Row.lease (κs .1 .1 .0) (qs .1 .1 .0))
+              (List._∷_ (Row.lease (κs .1 .1 .1 .0) (qs .1 .1 .1 .0)) (List._∷_ Row.off (List._∷_ Row.off (List._∷_ Row.dead (List._∷_ Row.alive List.[])))))));
+        }
 
         abbrev G60 : Row.Cx
-        G60 = record
-            { locals = List._++_ t49 (List._++_ t46 t2); slots = List._∷_ (Row.lease (κs .0) (qs .0)) (List._∷_ (Row.lease (κs .1 .0) (qs .1 .0)) (List._∷_ (Row.lease (κs .1 .1 .0) (qs .1 .1 .0))
-            (List._∷_ (Row.lease (κs .1 .1 .1 .0) (qs .1 .1 .1 .0)) (List._∷_ Row.off (List._∷_ Row.off (List._∷_ Row.dead (List._∷_ Row.alive List.[]))))))); }
+        G60 = record {
+          locals = List._++_ t49 (List._++_ t46 t2);
+          slots = List._∷_ (Row.lease (κs .0) (qs .0)) (List._∷_ (Row.lease (κs .1 .0) (qs .1 .0)) (List._∷_ (Row.lease (κs .1 .1 .0) (qs .1 .1 .0))
+              (List._∷_ (Row.lease (κs .1 .1 .1 .0) (qs .1 .1 .1 .0)) (List._∷_ Row.off (List._∷_ Row.off (List._∷_ Row.dead (List._∷_ Row.alive List.[])))))));
+        }
 
         abbrev G61 : Row.Cx
-        G61 = record
-            { locals = List._++_ t49 (List._++_ t46 t2); slots = List._∷_ (Row.lease (κs .0) (qs .0)) (List._∷_ (Row.lease (κs .1 .0) (qs .1 .0)) (List._∷_ (Row.lease (κs .1 .1 .0) (qs .1 .1 .0))
-            (List._∷_ (Row.lease (κs .1 .1 .1 .0) (qs .1 .1 .1 .0)) (List._∷_ Row.off (List._∷_ Row.off (List._∷_ Row.off (List._∷_ Row.alive List.[]))))))); }
+        G61 = record {
+          locals = List._++_ t49 (List._++_ t46 t2);
+          slots = List._∷_ (Row.lease (κs .0) (qs .0)) (List._∷_ (Row.lease (κs .1 .0) (qs .1 .0)) (List._∷_ (Row.lease (κs .1 .1 .0) (qs .1 .1 .0))
+              (List._∷_ (Row.lease (κs .1 .1 .1 .0) (qs .1 .1 .1 .0)) (List._∷_ Row.off (List._∷_ Row.off (List._∷_ Row.off (List._∷_ Row.alive List.[])))))));
+        }
 
         abbrev G62 : Row.Cx
-        G62 = record
-            { locals = List._++_ t49 (List._++_ t46 t2); slots = List._∷_ (Row.lease (κs .0) (qs .0)) (List._∷_ (Row.lease (κs .1 .0) (qs .1 .0)) (List._∷_ (Row.lease (κs .1 .1 .0) (qs .1 .1 .0))
-            (List._∷_ (Row.lease (κs .1 .1 .1 .0) (qs .1 .1 .1 .0)) (List._∷_ Row.off (List._∷_ Row.off (List._∷_ Row.off (List._∷_ Row.dead List.[]))))))); }
+        G62 = record {
+          locals = List._++_ t49 (List._++_ t46 t2);
+          slots = List._∷_ (Row.lease (κs .0) (qs .0)) (List._∷_ (Row.lease (κs .1 .0) (qs .1 .0)) (List._∷_ (Row.lease (κs .1 .1 .0) (qs .1 .1 .0))
+              (List._∷_ (Row.lease (κs .1 .1 .1 .0) (qs .1 .1 .1 .0)) (List._∷_ Row.off (List._∷_ Row.off (List._∷_ Row.off (List._∷_ Row.dead List.[])))))));
+        }
 
         abbrev G63 : Row.Cx
-        G63 = record
-            { locals = List._++_ t15 (List._++_ t46 t2); slots = List._∷_ (Row.lease (κs .0) (qs .0)) (List._∷_ (Row.lease (κs .1 .0) (qs .1 .0)) (List._∷_ (Row.lease (κs .1 .1 .0) (qs .1 .1 .0))
-            (List._∷_ (Row.lease (κs .1 .1 .1 .0) (qs .1 .1 .1 .0)) (List._∷_ Row.off (List._∷_ Row.off (List._∷_ Row.off (List._∷_ Row.dead List.[]))))))); }
+        G63 = record {
+          locals = List._++_ t15 (List._++_ t46 t2);
+          slots = List._∷_ (Row.lease (κs .0) (qs .0)) (List._∷_ (Row.lease (κs .1 .0) (qs .1 .0)) (List._∷_ (Row.lease (κs .1 .1 .0) (qs .1 .1 .0))
+              (List._∷_ (Row.lease (κs .1 .1 .1 .0) (qs .1 .1 .1 .0)) (List._∷_ Row.off (List._∷_ Row.off (List._∷_ Row.off (List._∷_ Row.dead List.[])))))));
+        }
 
         abbrev G64 : Row.Cx
-        G64 = record
-            { locals = List._++_ t15 (List._++_ t46 t2); slots = List._∷_ (Row.lease (κs .0) (qs .0)) (List._∷_ (Row.lease (κs .1 .0) (qs .1 .0)) (List._∷_ (Row.lease (κs .1 .1 .0) (qs .1 .1 .0))
-            (List._∷_ (Row.lease (κs .1 .1 .1 .0) (qs .1 .1 .1 .0)) (List._∷_ Row.off (List._∷_ Row.off (List._∷_ Row.off (List._∷_ Row.off List.[]))))))); }
+        G64 = record {
+          locals = List._++_ t15 (List._++_ t46 t2);
+          slots = List._∷_ (Row.lease (κs .0) (qs .0)) (List._∷_ (Row.lease (κs .1 .0) (qs .1 .0)) (List._∷_ (Row.lease (κs .1 .1 .0) (qs .1 .1 .0))
+              (List._∷_ (Row.lease (κs .1 .1 .1 .0) (qs .1 .1 .1 .0)) (List._∷_ Row.off (List._∷_ Row.off (List._∷_ Row.off (List._∷_ Row.off List.[])))))));
+        }
 
         abbrev G65 : Row.Cx
-        G65 = record
-            { locals = List._++_ t15 (List._++_ t50 t2); slots = List._∷_ (Row.lease (κs .0) (qs .0)) (List._∷_ (Row.lease (κs .1 .0) (qs .1 .0)) (List._∷_ (Row.lease (κs .1 .1 .0) (qs .1 .1 .0))
-            (List._∷_ (Row.lease (κs .1 .1 .1 .0) (qs .1 .1 .1 .0)) (List._∷_ Row.off (List._∷_ Row.off (List._∷_ Row.off (List._∷_ Row.off List.[]))))))); }
+        G65 = record {
+          locals = List._++_ t15 (List._++_ t50 t2);
+          slots = List._∷_ (Row.lease (κs .0) (qs .0)) (List._∷_ (Row.lease (κs .1 .0) (qs .1 .0)) (List._∷_ (Row.lease (κs .1 .1 .0) (qs .1 .1 .0))
+              (List._∷_ (Row.lease (κs .1 .1 .1 .0) (qs .1 .1 .1 .0)) (List._∷_ Row.off (List._∷_ Row.off (List._∷_ Row.off (List._∷_ Row.off List.[])))))));
+        }
 
         abbrev G66 : Row.Cx
-        G66 = record
-            { locals = List._++_ t15 (List._++_ t50 t2); slots = List._∷_ (Row.lease (κs .0) (qs .0)) (List._∷_ (Row.lease (κs .1 .0) (qs .1 .0)) (List._∷_ (Row.lease (κs .1 .1 .0) (qs .1 .1 .0))
-            (List._∷_ (Row.lease (κs .1 .1 .1 .0) (qs .1 .1 .1 .0)) (List._∷_ Row.off (List._∷_ Row.off (List._∷_ Row.off (List._∷_ Row.off List.[]))))))); }
+        G66 = record {
+          locals = List._++_ t15 (List._++_ t50 t2);
+          slots = List._∷_ (Row.lease (κs .0) (qs .0)) (List._∷_ (Row.lease (κs .1 .0) (qs .1 .0)) (List._∷_ (Row.lease (κs .1 .1 .0) (qs .1 .1 .0))
+              (List._∷_ (Row.lease (κs .1 .1 .1 .0) (qs .1 .1 .1 .0)) (List._∷_ Row.off (List._∷_ Row.off (List._∷_ Row.off (List._∷_ Row.off List.[])))))));
+        }
 
         abbrev G67 : Row.Cx
-        G67 = record
-            { locals = List._++_ t15 (List._++_ t51 t2); slots = List._∷_ (Row.lease (κs .0) (qs .0)) (List._∷_ (Row.lease (κs .1 .0) (qs .1 .0)) (List._∷_ (Row.lease (κs .1 .1 .0) (qs .1 .1 .0))
-            (List._∷_ (Row.lease (κs .1 .1 .1 .0) (qs .1 .1 .1 .0)) (List._∷_ Row.off (List._∷_ Row.off (List._∷_ Row.off (List._∷_ Row.off List.[]))))))); }
+        G67 = record {
+          locals = List._++_ t15 (List._++_ t51 t2);
+          slots = List._∷_ (Row.lease (κs .0) (qs .0)) (List._∷_ (Row.lease (κs .1 .0) (qs .1 .0)) (List._∷_ (Row.lease (κs .1 .1 .0) (qs .1 .1 .0))
+              (List._∷_ (Row.lease (κs .1 .1 .1 .0) (qs .1 .1 .1 .0)) (List._∷_ Row.off (List._∷_ Row.off (List._∷_ Row.off (List._∷_ Row.off List.[])))))));
+        }
 
         abbrev G68 : Row.Cx
-        G68 = record
-            { locals = List._++_ t15 (List._++_ t51 t52); slots = List._∷_ (Row.lease (κs .0) (qs .0)) (List._∷_ (Row.lease (κs .1 .0) (qs .1 .0)) (List._∷_ (Row.lease (κs .1 .1 .0) (qs .1 .1 .0))
-            (List._∷_ (Row.lease (κs .1 .1 .1 .0) (qs .1 .1 .1 .0)) (List._∷_ Row.off (List._∷_ Row.off (List._∷_ Row.off (List._∷_ Row.off List.[]))))))); }
+        G68 = record {
+          locals = List._++_ t15 (List._++_ t51 t52);
+          slots = List._∷_ (Row.lease (κs .0) (qs .0)) (List._∷_ (Row.lease (κs .1 .0) (qs .1 .0)) (List._∷_ (Row.lease (κs .1 .1 .0) (qs .1 .1 .0))
+              (List._∷_ (Row.lease (κs .1 .1 .1 .0) (qs .1 .1 .1 .0)) (List._∷_ Row.off (List._∷_ Row.off (List._∷_ Row.off (List._∷_ Row.off List.[])))))));
+        }
 
         abbrev G69 : Row.Cx
-        G69 = record
-            { locals = List._++_ t15 (List._++_ t51 t2); slots = List._∷_ (Row.lease (κs .0) (qs .0)) (List._∷_ (Row.lease (κs .1 .0) (qs .1 .0)) (List._∷_ (Row.lease (κs .1 .1 .0) (qs .1 .1 .0))
-            (List._∷_ (Row.lease (κs .1 .1 .1 .0) (qs .1 .1 .1 .0)) (List._∷_ Row.off (List._∷_ Row.off (List._∷_ Row.off (List._∷_ Row.off List.[]))))))); }
+        G69 = record {
+          locals = List._++_ t15 (List._++_ t51 t2);
+          slots = List._∷_ (Row.lease (κs .0) (qs .0)) (List._∷_ (Row.lease (κs .1 .0) (qs .1 .0)) (List._∷_ (Row.lease (κs .1 .1 .0) (qs .1 .1 .0))
+              (List._∷_ (Row.lease (κs .1 .1 .1 .0) (qs .1 .1 .1 .0)) (List._∷_ Row.off (List._∷_ Row.off (List._∷_ Row.off (List._∷_ Row.off List.[])))))));
+        }
 
         abbrev G70 : Row.Cx
-        G70 = record
-            { locals = List._++_ t17 (List._++_ t51 t52); slots = List._∷_ (Row.lease (κs .0) (qs .0)) (List._∷_ (Row.lease (κs .1 .0) (qs .1 .0)) (List._∷_ (Row.lease (κs .1 .1 .0) (qs .1 .1 .0))
-            (List._∷_ (Row.lease (κs .1 .1 .1 .0) (qs .1 .1 .1 .0)) (List._∷_ Row.off (List._∷_ Row.off (List._∷_ Row.off (List._∷_ Row.off List.[]))))))); }
+        G70 = record {
+          locals = List._++_ t17 (List._++_ t51 t52);
+          slots = List._∷_ (Row.lease (κs .0) (qs .0)) (List._∷_ (Row.lease (κs .1 .0) (qs .1 .0)) (List._∷_ (Row.lease (κs .1 .1 .0) (qs .1 .1 .0))
+              (List._∷_ (Row.lease (κs .1 .1 .1 .0) (qs .1 .1 .1 .0)) (List._∷_ Row.off (List._∷_ Row.off (List._∷_ Row.off (List._∷_ Row.off List.[])))))));
+        }
 
         abbrev G71 : Row.Cx
-        G71 = record
-            { locals = List._++_ t18 (List._++_ t51 t52); slots = List._∷_ (Row.lease (κs .0) (qs .0)) (List._∷_ (Row.lease (κs .1 .0) (qs .1 .0)) (List._∷_ (Row.lease (κs .1 .1 .0) (qs .1 .1 .0))
-            (List._∷_ (Row.lease (κs .1 .1 .1 .0) (qs .1 .1 .1 .0)) (List._∷_ Row.off (List._∷_ Row.off (List._∷_ Row.off (List._∷_ Row.off List.[]))))))); }
+        G71 = record {
+          locals = List._++_ t18 (List._++_ t51 t52);
+          slots = List._∷_ (Row.lease (κs .0) (qs .0)) (List._∷_ (Row.lease (κs .1 .0) (qs .1 .0)) (List._∷_ (Row.lease (κs .1 .1 .0) (qs .1 .1 .0))
+              (List._∷_ (Row.lease (κs .1 .1 .1 .0) (qs .1 .1 .1 .0)) (List._∷_ Row.off (List._∷_ Row.off (List._∷_ Row.off (List._∷_ Row.off List.[])))))));
+        }
 
         abbrev G72 : Row.Cx
-        G72 = record
-            { locals = List._++_ t19 (List._++_ t51 t52); slots = List._∷_ (Row.lease (κs .0) (qs .0)) (List._∷_ (Row.lease (κs .1 .0) (qs .1 .0)) (List._∷_ (Row.lease (κs .1 .1 .0) (qs .1 .1 .0))
-            (List._∷_ (Row.lease (κs .1 .1 .1 .0) (qs .1 .1 .1 .0)) (List._∷_ Row.off (List._∷_ Row.off (List._∷_ Row.off (List._∷_ Row.off List.[]))))))); }
+        G72 = record {
+          locals = List._++_ t19 (List._++_ t51 t52);
+          slots = List._∷_ (Row.lease (κs .0) (qs .0)) (List._∷_ (Row.lease (κs .1 .0) (qs .1 .0)) (List._∷_ (Row.lease (κs .1 .1 .0) (qs .1 .1 .0))
+              (List._∷_ (Row.lease (κs .1 .1 .1 .0) (qs .1 .1 .1 .0)) (List._∷_ Row.off (List._∷_ Row.off (List._∷_ Row.off (List._∷_ Row.off List.[])))))));
+        }
 
         abbrev G73 : Row.Cx
-        G73 = record
-            { locals = List._++_ t20 (List._++_ t51 t52); slots = List._∷_ (Row.lease (κs .0) (qs .0)) (List._∷_ (Row.lease (κs .1 .0) (qs .1 .0)) (List._∷_ (Row.lease (κs .1 .1 .0) (qs .1 .1 .0))
-            (List._∷_ (Row.lease (κs .1 .1 .1 .0) (qs .1 .1 .1 .0)) (List._∷_ Row.off (List._∷_ Row.off (List._∷_ Row.off (List._∷_ Row.off List.[]))))))); }
+        G73 = record {
+          locals = List._++_ t20 (List._++_ t51 t52);
+          slots = List._∷_ (Row.lease (κs .0) (qs .0)) (List._∷_ (Row.lease (κs .1 .0) (qs .1 .0)) (List._∷_ (Row.lease (κs .1 .1 .0) (qs .1 .1 .0))
+              (List._∷_ (Row.lease (κs .1 .1 .1 .0) (qs .1 .1 .1 .0)) (List._∷_ Row.off (List._∷_ Row.off (List._∷_ Row.off (List._∷_ Row.off List.[])))))));
+        }
 
         abbrev G74 : Row.Cx
-        G74 = record
-            { locals = List._++_ t14 (List._++_ t51 t52); slots = List._∷_ (Row.lease (κs .0) (qs .0)) (List._∷_ (Row.lease (κs .1 .0) (qs .1 .0)) (List._∷_ (Row.lease (κs .1 .1 .0) (qs .1 .1 .0))
-            (List._∷_ (Row.lease (κs .1 .1 .1 .0) (qs .1 .1 .1 .0)) (List._∷_ Row.off (List._∷_ Row.off (List._∷_ Row.off (List._∷_ Row.off List.[]))))))); }
+        G74 = record {
+          locals = List._++_ t14 (List._++_ t51 t52);
+          slots = List._∷_ (Row.lease (κs .0) (qs .0)) (List._∷_ (Row.lease (κs .1 .0) (qs .1 .0)) (List._∷_ (Row.lease (κs .1 .1 .0) (qs .1 .1 .0))
+              (List._∷_ (Row.lease (κs .1 .1 .1 .0) (qs .1 .1 .1 .0)) (List._∷_ Row.off (List._∷_ Row.off (List._∷_ Row.off (List._∷_ Row.off List.[])))))));
+        }
 
         abbrev G75 : Row.Cx
-        G75 = record
-            { locals = List._++_ t14 (List._++_ t53 t52); slots = List._∷_ (Row.lease (κs .0) (qs .0)) (List._∷_ (Row.lease (κs .1 .0) (qs .1 .0)) (List._∷_ (Row.lease (κs .1 .1 .0) (qs .1 .1 .0))
-            (List._∷_ (Row.lease (κs .1 .1 .1 .0) (qs .1 .1 .1 .0)) (List._∷_ Row.off (List._∷_ Row.off (List._∷_ Row.off (List._∷_ Row.off List.[]))))))); }
+        G75 = record {
+          locals = List._++_ t14 (List._++_ t53 t52);
+          slots = List._∷_ (Row.lease (κs .0) (qs .0)) (List._∷_ (Row.lease (κs .1 .0) (qs .1 .0)) (List._∷_ (Row.lease (κs .1 .1 .0) (qs .1 .1 .0))
+              (List._∷_ (Row.lease (κs .1 .1 .1 .0) (qs .1 .1 .1 .0)) (List._∷_ Row.off (List._∷_ Row.off (List._∷_ Row.off (List._∷_ Row.off List.[])))))));
+        }
 
         abbrev G76 : Row.Cx
-        G76 = record
-            { locals = List._++_ t14 (List._++_ t54 t52); slots = List._∷_ (Row.lease (κs .0) (qs .0)) (List._∷_ (Row.lease (κs .1 .0) (qs .1 .0)) (List._∷_ (Row.lease (κs .1 .1 .0) (qs .1 .1 .0))
-            (List._∷_ (Row.lease (κs .1 .1 .1 .0) (qs .1 .1 .1 .0)) (List._∷_ Row.off (List._∷_ Row.off (List._∷_ Row.off (List._∷_ Row.off List.[]))))))); }
+        G76 = record {
+          locals = List._++_ t14 (List._++_ t54 t52);
+          slots = List._∷_ (Row.lease (κs .0) (qs .0)) (List._∷_ (Row.lease (κs .1 .0) (qs .1 .0)) (List._∷_ (Row.lease (κs .1 .1 .0) (qs .1 .1 .0))
+              (List._∷_ (Row.lease (κs .1 .1 .1 .0) (qs .1 .1 .1 .0)) (List._∷_ Row.off (List._∷_ Row.off (List._∷_ Row.off (List._∷_ Row.off List.[])))))));
+        }
 
         abbrev G77 : Row.Cx
-        G77 = record
-            { locals = List._++_ t14 (List._++_ t54 t2); slots = List._∷_ (Row.lease (κs .0) (qs .0)) (List._∷_ (Row.lease (κs .1 .0) (qs .1 .0)) (List._∷_ (Row.lease (κs .1 .1 .0) (qs .1 .1 .0))
-            (List._∷_ (Row.lease (κs .1 .1 .1 .0) (qs .1 .1 .1 .0)) (List._∷_ Row.off (List._∷_ Row.off (List._∷_ Row.off (List._∷_ Row.off List.[]))))))); }
+        G77 = record {
+          locals = List._++_ t14 (List._++_ t54 t2);
+          slots = List._∷_ (Row.lease (κs .0) (qs .0)) (List._∷_ (Row.lease (κs .1 .0) (qs .1 .0)) (List._∷_ (Row.lease (κs .1 .1 .0) (qs .1 .1 .0))
+              (List._∷_ (Row.lease (κs .1 .1 .1 .0) (qs .1 .1 .1 .0)) (List._∷_ Row.off (List._∷_ Row.off (List._∷_ Row.off (List._∷_ Row.off List.[])))))));
+        }
 
         abbrev G78 : Row.Cx
-        G78 = record
-            { locals = List._++_ t14 (List._++_ t54 t55); slots = List._∷_ (Row.lease (κs .0) (qs .0)) (List._∷_ (Row.lease (κs .1 .0) (qs .1 .0)) (List._∷_ (Row.lease (κs .1 .1 .0) (qs .1 .1 .0))
-            (List._∷_ (Row.lease (κs .1 .1 .1 .0) (qs .1 .1 .1 .0)) (List._∷_ Row.off (List._∷_ Row.off (List._∷_ Row.off (List._∷_ Row.off List.[]))))))); }
+        G78 = record {
+          locals = List._++_ t14 (List._++_ t54 t55);
+          slots = List._∷_ (Row.lease (κs .0) (qs .0)) (List._∷_ (Row.lease (κs .1 .0) (qs .1 .0)) (List._∷_ (Row.lease (κs .1 .1 .0) (qs .1 .1 .0))
+              (List._∷_ (Row.lease (κs .1 .1 .1 .0) (qs .1 .1 .1 .0)) (List._∷_ Row.off (List._∷_ Row.off (List._∷_ Row.off (List._∷_ Row.off List.[])))))));
+        }
 
         abbrev G79 : Row.Cx
-        G79 = record
-            { locals = List._++_ t14 (List._++_ t56 t55); slots = List._∷_ (Row.lease (κs .0) (qs .0)) (List._∷_ (Row.lease (κs .1 .0) (qs .1 .0)) (List._∷_ (Row.lease (κs .1 .1 .0) (qs .1 .1 .0))
-            (List._∷_ (Row.lease (κs .1 .1 .1 .0) (qs .1 .1 .1 .0)) (List._∷_ Row.off (List._∷_ Row.off (List._∷_ Row.off (List._∷_ Row.off List.[]))))))); }
+        G79 = record {
+          locals = List._++_ t14 (List._++_ t56 t55);
+          slots = List._∷_ (Row.lease (κs .0) (qs .0)) (List._∷_ (Row.lease (κs .1 .0) (qs .1 .0)) (List._∷_ (Row.lease (κs .1 .1 .0) (qs .1 .1 .0))
+              (List._∷_ (Row.lease (κs .1 .1 .1 .0) (qs .1 .1 .1 .0)) (List._∷_ Row.off (List._∷_ Row.off (List._∷_ Row.off (List._∷_ Row.off List.[])))))));
+        }
 
         abbrev G80 : Row.Cx
-        G80 = record
-            { locals = List._++_ t14 (List._++_ t56 t2); slots = List._∷_ (Row.lease (κs .0) (qs .0)) (List._∷_ (Row.lease (κs .1 .0) (qs .1 .0)) (List._∷_ (Row.lease (κs .1 .1 .0) (qs .1 .1 .0))
-            (List._∷_ (Row.lease (κs .1 .1 .1 .0) (qs .1 .1 .1 .0)) (List._∷_ Row.off (List._∷_ Row.off (List._∷_ Row.off (List._∷_ Row.off List.[]))))))); }
+        G80 = record {
+          locals = List._++_ t14 (List._++_ t56 t2);
+          slots = List._∷_ (Row.lease (κs .0) (qs .0)) (List._∷_ (Row.lease (κs .1 .0) (qs .1 .0)) (List._∷_ (Row.lease (κs .1 .1 .0) (qs .1 .1 .0))
+              (List._∷_ (Row.lease (κs .1 .1 .1 .0) (qs .1 .1 .1 .0)) (List._∷_ Row.off (List._∷_ Row.off (List._∷_ Row.off (List._∷_ Row.off List.[])))))));
+        }
 
         abbrev G81 : Row.Cx
-        G81 = record
-            { locals = List._++_ t57 (List._++_ t56 t2); slots = List._∷_ (Row.lease (κs .0) (qs .0)) (List._∷_ (Row.lease (κs .1 .0) (qs .1 .0)) (List._∷_ (Row.lease (κs .1 .1 .0) (qs .1 .1 .0))
-            (List._∷_ (Row.lease (κs .1 .1 .1 .0) (qs .1 .1 .1 .0)) (List._∷_ Row.off (List._∷_ Row.off (List._∷_ Row.off (List._∷_ Row.off List.[]))))))); }
+        G81 = record {
+          locals = List._++_ t57 (List._++_ t56 t2);
+          slots = List._∷_ (Row.lease (κs .0) (qs .0)) (List._∷_ (Row.lease (κs .1 .0) (qs .1 .0)) (List._∷_ (Row.lease (κs .1 .1 .0) (qs .1 .1 .0))
+              (List._∷_ (Row.lease (κs .1 .1 .1 .0) (qs .1 .1 .1 .0)) (List._∷_ Row.off (List._∷_ Row.off (List._∷_ Row.off (List._∷_ Row.off List.[])))))));
+        }
 
         abbrev G82 : Row.Cx
-        G82 = record
-            { locals = List._++_ t58 (List._++_ t56 t2); slots = List._∷_ (Row.lease (κs .0) (qs .0)) (List._∷_ (Row.lease (κs .1 .0) (qs .1 .0)) (List._∷_ (Row.lease (κs .1 .1 .0) (qs .1 .1 .0))
-            (List._∷_ (Row.lease (κs .1 .1 .1 .0) (qs .1 .1 .1 .0)) (List._∷_ Row.off (List._∷_ Row.off (List._∷_ Row.off (List._∷_ Row.off List.[]))))))); }
+        G82 = record {
+          locals = List._++_ t58 (List._++_ t56 t2);
+          slots = List._∷_ (Row.lease (κs .0) (qs .0)) (List._∷_ (Row.lease (κs .1 .0) (qs .1 .0)) (List._∷_ (Row.lease (κs .1 .1 .0) (qs .1 .1 .0))
+              (List._∷_ (Row.lease (κs .1 .1 .1 .0) (qs .1 .1 .1 .0)) (List._∷_ Row.off (List._∷_ Row.off (List._∷_ Row.off (List._∷_ Row.off List.[])))))));
+        }
 
         abbrev G83 : Row.Cx
-        G83 = record
-            { locals = List._++_ t58 (List._++_ t54 t2); slots = List._∷_ (Row.lease (κs .0) (qs .0)) (List._∷_ (Row.lease (κs .1 .0) (qs .1 .0)) (List._∷_ (Row.lease (κs .1 .1 .0) (qs .1 .1 .0))
-            (List._∷_ (Row.lease (κs .1 .1 .1 .0) (qs .1 .1 .1 .0)) (List._∷_ Row.off (List._∷_ Row.off (List._∷_ Row.off (List._∷_ Row.off List.[]))))))); }
+        G83 = record {
+          locals = List._++_ t58 (List._++_ t54 t2);
+          slots = List._∷_ (Row.lease (κs .0) (qs .0)) (List._∷_ (Row.lease (κs .1 .0) (qs .1 .0)) (List._∷_ (Row.lease (κs .1 .1 .0) (qs .1 .1 .0))
+              (List._∷_ (Row.lease (κs .1 .1 .1 .0) (qs .1 .1 .1 .0)) (List._∷_ Row.off (List._∷_ Row.off (List._∷_ Row.off (List._∷_ Row.off List.[])))))));
+        }
 
         abbrev G84 : Row.Cx
-        G84 = record
-            { locals = List._++_ t59 (List._++_ t54 t2); slots = List._∷_ (Row.lease (κs .0) (qs .0)) (List._∷_ (Row.lease (κs .1 .0) (qs .1 .0)) (List._∷_ (Row.lease (κs .1 .1 .0) (qs .1 .1 .0))
-            (List._∷_ (Row.lease (κs .1 .1 .1 .0) (qs .1 .1 .1 .0)) (List._∷_ Row.off (List._∷_ Row.off (List._∷_ Row.off (List._∷_ Row.off List.[]))))))); }
+        G84 = record {
+          locals = List._++_ t59 (List._++_ t54 t2);
+          slots = List._∷_ (Row.lease (κs .0) (qs .0)) (List._∷_ (Row.lease (κs .1 .0) (qs .1 .0)) (List._∷_ (Row.lease (κs .1 .1 .0) (qs .1 .1 .0))
+              (List._∷_ (Row.lease (κs .1 .1 .1 .0) (qs .1 .1 .1 .0)) (List._∷_ Row.off (List._∷_ Row.off (List._∷_ Row.off (List._∷_ Row.off List.[])))))));
+        }
 
         abbrev G85 : Row.Cx
-        G85 = record
-            { locals = List._++_ t60 (List._++_ t54 t2); slots = List._∷_ (Row.lease (κs .0) (qs .0)) (List._∷_ (Row.lease (κs .1 .0) (qs .1 .0)) (List._∷_ (Row.lease (κs .1 .1 .0) (qs .1 .1 .0))
-            (List._∷_ (Row.lease (κs .1 .1 .1 .0) (qs .1 .1 .1 .0)) (List._∷_ Row.off (List._∷_ Row.off (List._∷_ Row.off (List._∷_ Row.off List.[]))))))); }
+        G85 = record {
+          locals = List._++_ t60 (List._++_ t54 t2);
+          slots = List._∷_ (Row.lease (κs .0) (qs .0)) (List._∷_ (Row.lease (κs .1 .0) (qs .1 .0)) (List._∷_ (Row.lease (κs .1 .1 .0) (qs .1 .1 .0))
+              (List._∷_ (Row.lease (κs .1 .1 .1 .0) (qs .1 .1 .1 .0)) (List._∷_ Row.off (List._∷_ Row.off (List._∷_ Row.off (List._∷_ Row.off List.[])))))));
+        }
 
         abbrev G86 : Row.Cx
-        G86 = record
-            { locals = List._++_ t61 (List._++_ t54 t2); slots = List._∷_ (Row.lease (κs .0) (qs .0)) (List._∷_ (Row.lease (κs .1 .0) (qs .1 .0)) (List._∷_ (Row.lease (κs .1 .1 .0) (qs .1 .1 .0))
-            (List._∷_ (Row.lease (κs .1 .1 .1 .0) (qs .1 .1 .1 .0)) (List._∷_ Row.off (List._∷_ Row.off (List._∷_ Row.off (List._∷_ Row.off List.[]))))))); }
+        G86 = record {
+          locals = List._++_ t61 (List._++_ t54 t2);
+          slots = List._∷_ (Row.lease (κs .0) (qs .0)) (List._∷_ (Row.lease (κs .1 .0) (qs .1 .0)) (List._∷_ (Row.lease (κs .1 .1 .0) (qs .1 .1 .0))
+              (List._∷_ (Row.lease (κs .1 .1 .1 .0) (qs .1 .1 .1 .0)) (List._∷_ Row.off (List._∷_ Row.off (List._∷_ Row.off (List._∷_ Row.off List.[])))))));
+        }
 
         abbrev G87 : Row.Cx
-        G87 = record
-            { locals = List._++_ t61 (List._++_ t62 t2); slots = List._∷_ (Row.lease (κs .0) (qs .0)) (List._∷_ (Row.lease (κs .1 .0) (qs .1 .0)) (List._∷_ (Row.lease (κs .1 .1 .0) (qs .1 .1 .0))
-            (List._∷_ (Row.lease (κs .1 .1 .1 .0) (qs .1 .1 .1 .0)) (List._∷_ Row.off (List._∷_ Row.off (List._∷_ Row.off (List._∷_ Row.off List.[]))))))); }
+        G87 = record {
+          locals = List._++_ t61 (List._++_ t62 t2);
+          slots = List._∷_ (Row.lease (κs .0) (qs .0)) (List._∷_ (Row.lease (κs .1 .0) (qs .1 .0)) (List._∷_ (Row.lease (κs .1 .1 .0) (qs .1 .1 .0))
+              (List._∷_ (Row.lease (κs .1 .1 .1 .0) (qs .1 .1 .1 .0)) (List._∷_ Row.off (List._∷_ Row.off (List._∷_ Row.off (List._∷_ Row.off List.[])))))));
+        }
 
         abbrev G88 : Row.Cx
-        G88 = record
-            { locals = List._++_ t61 (List._++_ t63 t2); slots = List._∷_ (Row.lease (κs .0) (qs .0)) (List._∷_ (Row.lease (κs .1 .0) (qs .1 .0)) (List._∷_ (Row.lease (κs .1 .1 .0) (qs .1 .1 .0))
-            (List._∷_ (Row.lease (κs .1 .1 .1 .0) (qs .1 .1 .1 .0)) (List._∷_ Row.off (List._∷_ Row.off (List._∷_ Row.off (List._∷_ Row.off List.[]))))))); }
+        G88 = record {
+          locals = List._++_ t61 (List._++_ t63 t2);
+          slots = List._∷_ (Row.lease (κs .0) (qs .0)) (List._∷_ (Row.lease (κs .1 .0) (qs .1 .0)) (List._∷_ (Row.lease (κs .1 .1 .0) (qs .1 .1 .0))
+              (List._∷_ (Row.lease (κs .1 .1 .1 .0) (qs .1 .1 .1 .0)) (List._∷_ Row.off (List._∷_ Row.off (List._∷_ Row.off (List._∷_ Row.off List.[])))))));
+        }
 
         abbrev G89 : Row.Cx
-        G89 = record
-            { locals = List._++_ t61 (List._++_ t1 t2); slots = List._∷_ (Row.lease (κs .0) (qs .0)) (List._∷_ (Row.lease (κs .1 .0) (qs .1 .0)) (List._∷_ (Row.lease (κs .1 .1 .0) (qs .1 .1 .0)) (List._∷_
-            (Row.lease (κs .1 .1 .1 .0) (qs .1 .1 .1 .0)) (List._∷_ Row.off (List._∷_ Row.off (List._∷_ Row.off (List._∷_ Row.off List.[]))))))); }
+        G89 = record {
+          locals = List._++_ t61 (List._++_ t1 t2);
+          slots = List._∷_ (Row.lease (κs .0) (qs .0)) (List._∷_ (Row.lease (κs .1 .0) (qs .1 .0)) (List._∷_ (Row.lease (κs .1 .1 .0) (qs .1 .1 .0)) (List._∷_
+              (Row.lease (κs .1 .1 .1 .0) (qs .1 .1 .1 .0)) (List._∷_ Row.off (List._∷_ Row.off (List._∷_ Row.off (List._∷_ Row.off List.[])))))));
+        }
 
         abbrev G90 : Row.Cx
-        G90 = record
-            { locals = List._++_ t3 (List._++_ t1 t2); slots = List._∷_ (Row.lease (κs .0) (qs .0)) (List._∷_ (Row.lease (κs .1 .0) (qs .1 .0)) (List._∷_ (Row.lease (κs .1 .1 .0) (qs .1 .1 .0)) (List._∷_
-            (Row.lease (κs .1 .1 .1 .0) (qs .1 .1 .1 .0)) (List._∷_ Row.off (List._∷_ Row.off (List._∷_ Row.off (List._∷_ Row.off List.[]))))))); }
+        G90 = record {
+          locals = List._++_ t3 (List._++_ t1 t2);
+          slots = List._∷_ (Row.lease (κs .0) (qs .0)) (List._∷_ (Row.lease (κs .1 .0) (qs .1 .0)) (List._∷_ (Row.lease (κs .1 .1 .0) (qs .1 .1 .0)) (List._∷_
+              (Row.lease (κs .1 .1 .1 .0) (qs .1 .1 .1 .0)) (List._∷_ Row.off (List._∷_ Row.off (List._∷_ Row.off (List._∷_ Row.off List.[])))))));
+        }
 
         abbrev G91 : Row.Cx
-        G91 = record
-            { locals = List._++_ t15 (List._++_ t51 t2); slots = List._∷_ (Row.lease (κs .0) (qs .0)) (List._∷_ (Row.lease (κs .1 .0) (qs .1 .0)) (List._∷_ (Row.lease (κs .1 .1 .0) (qs .1 .1 .0))
-            (List._∷_ (Row.lease (κs .1 .1 .1 .0) (qs .1 .1 .1 .0)) (List._∷_ Row.off (List._∷_ Row.off (List._∷_ Row.off (List._∷_ Row.off List.[]))))))); }
+        G91 = record {
+          locals = List._++_ t15 (List._++_ t51 t2);
+          slots = List._∷_ (Row.lease (κs .0) (qs .0)) (List._∷_ (Row.lease (κs .1 .0) (qs .1 .0)) (List._∷_ (Row.lease (κs .1 .1 .0) (qs .1 .1 .0))
+              (List._∷_ (Row.lease (κs .1 .1 .1 .0) (qs .1 .1 .1 .0)) (List._∷_ Row.off (List._∷_ Row.off (List._∷_ Row.off (List._∷_ Row.off List.[])))))));
+        }
 
         abbrev G92 : Row.Cx
-        G92 = record
-            { locals = List._++_ t15 (List._++_ t51 t2); slots = List._∷_ (Row.lease (κs .0) (qs .0)) (List._∷_ (Row.lease (κs .1 .0) (qs .1 .0)) (List._∷_ (Row.lease (κs .1 .1 .0) (qs .1 .1 .0))
-            (List._∷_ (Row.lease (κs .1 .1 .1 .0) (qs .1 .1 .1 .0)) (List._∷_ Row.off (List._∷_ Row.off (List._∷_ Row.off (List._∷_ Row.off List.[]))))))); }
+        G92 = record {
+          locals = List._++_ t15 (List._++_ t51 t2);
+          slots = List._∷_ (Row.lease (κs .0) (qs .0)) (List._∷_ (Row.lease (κs .1 .0) (qs .1 .0)) (List._∷_ (Row.lease (κs .1 .1 .0) (qs .1 .1 .0))
+              (List._∷_ (Row.lease (κs .1 .1 .1 .0) (qs .1 .1 .1 .0)) (List._∷_ Row.off (List._∷_ Row.off (List._∷_ Row.off (List._∷_ Row.off List.[])))))));
+        }
 
         abbrev G93 : Row.Cx
-        G93 = record
-            { locals = List._++_ t15 (List._++_ t64 t2); slots = List._∷_ (Row.lease (κs .0) (qs .0)) (List._∷_ (Row.lease (κs .1 .0) (qs .1 .0)) (List._∷_ (Row.lease (κs .1 .1 .0) (qs .1 .1 .0))
-            (List._∷_ (Row.lease (κs .1 .1 .1 .0) (qs .1 .1 .1 .0)) (List._∷_ Row.off (List._∷_ Row.off (List._∷_ Row.off (List._∷_ Row.off List.[]))))))); }
+        G93 = record {
+          locals = List._++_ t15 (List._++_ t64 t2);
+          slots = List._∷_ (Row.lease (κs .0) (qs .0)) (List._∷_ (Row.lease (κs .1 .0) (qs .1 .0)) (List._∷_ (Row.lease (κs .1 .1 .0) (qs .1 .1 .0))
+              (List._∷_ (Row.lease (κs .1 .1 .1 .0) (qs .1 .1 .1 .0)) (List._∷_ Row.off (List._∷_ Row.off (List._∷_ Row.off (List._∷_ Row.off List.[])))))));
+        }
 
         abbrev G94 : Row.Cx
-        G94 = record
-            { locals = List._++_ t15 (List._++_ t64 t2); slots = List._∷_ (Row.lease (κs .0) (qs .0)) (List._∷_ (Row.lease (κs .1 .0) (qs .1 .0)) (List._∷_ (Row.lease (κs .1 .1 .0) (qs .1 .1 .0))
-            (List._∷_ (Row.lease (κs .1 .1 .1 .0) (qs .1 .1 .1 .0)) (List._∷_ Row.off (List._∷_ Row.off (List._∷_ Row.off (List._∷_ Row.off List.[]))))))); }
+        G94 = record {
+          locals = List._++_ t15 (List._++_ t64 t2);
+          slots = List._∷_ (Row.lease (κs .0) (qs .0)) (List._∷_ (Row.lease (κs .1 .0) (qs .1 .0)) (List._∷_ (Row.lease (κs .1 .1 .0) (qs .1 .1 .0))
+              (List._∷_ (Row.lease (κs .1 .1 .1 .0) (qs .1 .1 .1 .0)) (List._∷_ Row.off (List._∷_ Row.off (List._∷_ Row.off (List._∷_ Row.off List.[])))))));
+        }
 
         abbrev G95 : Row.Cx
-        G95 = record
-            { locals = List._++_ t15 (List._++_ t65 t2); slots = List._∷_ (Row.lease (κs .0) (qs .0)) (List._∷_ (Row.lease (κs .1 .0) (qs .1 .0)) (List._∷_ (Row.lease (κs .1 .1 .0) (qs .1 .1 .0))
-            (List._∷_ (Row.lease (κs .1 .1 .1 .0) (qs .1 .1 .1 .0)) (List._∷_ Row.off (List._∷_ Row.off (List._∷_ Row.off (List._∷_ Row.off List.[]))))))); }
+        G95 = record {
+          locals = List._++_ t15 (List._++_ t65 t2);
+          slots = List._∷_ (Row.lease (κs .0) (qs .0)) (List._∷_ (Row.lease (κs .1 .0) (qs .1 .0)) (List._∷_ (Row.lease (κs .1 .1 .0) (qs .1 .1 .0))
+              (List._∷_ (Row.lease (κs .1 .1 .1 .0) (qs .1 .1 .1 .0)) (List._∷_ Row.off (List._∷_ Row.off (List._∷_ Row.off (List._∷_ Row.off List.[])))))));
+        }
 
         abbrev G96 : Row.Cx
-        G96 = record
-            { locals = List._++_ t15 (List._++_ t13 t2); slots = List._∷_ (Row.lease (κs .0) (qs .0)) (List._∷_ (Row.lease (κs .1 .0) (qs .1 .0)) (List._∷_ (Row.lease (κs .1 .1 .0) (qs .1 .1 .0))
-            (List._∷_ (Row.lease (κs .1 .1 .1 .0) (qs .1 .1 .1 .0)) (List._∷_ Row.off (List._∷_ Row.off (List._∷_ Row.off (List._∷_ Row.off List.[]))))))); }
+        G96 = record {
+          locals = List._++_ t15 (List._++_ t13 t2);
+          slots = List._∷_ (Row.lease (κs .0) (qs .0)) (List._∷_ (Row.lease (κs .1 .0) (qs .1 .0)) (List._∷_ (Row.lease (κs .1 .1 .0) (qs .1 .1 .0))
+              (List._∷_ (Row.lease (κs .1 .1 .1 .0) (qs .1 .1 .1 .0)) (List._∷_ Row.off (List._∷_ Row.off (List._∷_ Row.off (List._∷_ Row.off List.[])))))));
+        }
 
         abbrev G97 : Row.Cx
-        G97 = record
-            { locals = List._++_ t57 (List._++_ t13 t2); slots = List._∷_ (Row.lease (κs .0) (qs .0)) (List._∷_ (Row.lease (κs .1 .0) (qs .1 .0)) (List._∷_ (Row.lease (κs .1 .1 .0) (qs .1 .1 .0))
-            (List._∷_ (Row.lease (κs .1 .1 .1 .0) (qs .1 .1 .1 .0)) (List._∷_ Row.off (List._∷_ Row.off (List._∷_ Row.off (List._∷_ Row.off List.[]))))))); }
+        G97 = record {
+          locals = List._++_ t57 (List._++_ t13 t2);
+          slots = List._∷_ (Row.lease (κs .0) (qs .0)) (List._∷_ (Row.lease (κs .1 .0) (qs .1 .0)) (List._∷_ (Row.lease (κs .1 .1 .0) (qs .1 .1 .0))
+              (List._∷_ (Row.lease (κs .1 .1 .1 .0) (qs .1 .1 .1 .0)) (List._∷_ Row.off (List._∷_ Row.off (List._∷_ Row.off (List._∷_ Row.off List.[])))))));
+        }
 
         abbrev G98 : Row.Cx
-        G98 = record
-            { locals = List._++_ t66 (List._++_ t13 t2); slots = List._∷_ (Row.lease (κs .0) (qs .0)) (List._∷_ (Row.lease (κs .1 .0) (qs .1 .0)) (List._∷_ (Row.lease (κs .1 .1 .0) (qs .1 .1 .0))
-            (List._∷_ (Row.lease (κs .1 .1 .1 .0) (qs .1 .1 .1 .0)) (List._∷_ Row.off (List._∷_ Row.off (List._∷_ Row.off (List._∷_ Row.off List.[]))))))); }
+        G98 = record {
+          locals = List._++_ t66 (List._++_ t13 t2);
+          slots = List._∷_ (Row.lease (κs .0) (qs .0)) (List._∷_ (Row.lease (κs .1 .0) (qs .1 .0)) (List._∷_ (Row.lease (κs .1 .1 .0) (qs .1 .1 .0))
+              (List._∷_ (Row.lease (κs .1 .1 .1 .0) (qs .1 .1 .1 .0)) (List._∷_ Row.off (List._∷_ Row.off (List._∷_ Row.off (List._∷_ Row.off List.[])))))));
+        }
 
         abbrev G99 : Row.Cx
-        G99 = record
-            { locals = List._++_ t67 (List._++_ t13 t2); slots = List._∷_ (Row.lease (κs .0) (qs .0)) (List._∷_ (Row.lease (κs .1 .0) (qs .1 .0)) (List._∷_ (Row.lease (κs .1 .1 .0) (qs .1 .1 .0))
-            (List._∷_ (Row.lease (κs .1 .1 .1 .0) (qs .1 .1 .1 .0)) (List._∷_ Row.off (List._∷_ Row.off (List._∷_ Row.off (List._∷_ Row.off List.[]))))))); }
+        G99 = record {
+          locals = List._++_ t67 (List._++_ t13 t2);
+          slots = List._∷_ (Row.lease (κs .0) (qs .0)) (List._∷_ (Row.lease (κs .1 .0) (qs .1 .0)) (List._∷_ (Row.lease (κs .1 .1 .0) (qs .1 .1 .0))
+              (List._∷_ (Row.lease (κs .1 .1 .1 .0) (qs .1 .1 .1 .0)) (List._∷_ Row.off (List._∷_ Row.off (List._∷_ Row.off (List._∷_ Row.off List.[])))))));
+        }
 
         abbrev G100 : Row.Cx
-        G100 = record
-            { locals = List._++_ t68 (List._++_ t13 t2); slots = List._∷_ (Row.lease (κs .0) (qs .0)) (List._∷_ (Row.lease (κs .1 .0) (qs .1 .0)) (List._∷_ (Row.lease (κs .1 .1 .0) (qs .1 .1 .0))
-            (List._∷_ (Row.lease (κs .1 .1 .1 .0) (qs .1 .1 .1 .0)) (List._∷_ Row.off (List._∷_ Row.off (List._∷_ Row.off (List._∷_ Row.off List.[]))))))); }
+        G100 = record {
+          locals = List._++_ t68 (List._++_ t13 t2);
+          slots = List._∷_ (Row.lease (κs .0) (qs .0)) (List._∷_ (Row.lease (κs .1 .0) (qs .1 .0)) (List._∷_ (Row.lease (κs .1 .1 .0) (qs .1 .1 .0))
+              (List._∷_ (Row.lease (κs .1 .1 .1 .0) (qs .1 .1 .1 .0)) (List._∷_ Row.off (List._∷_ Row.off (List._∷_ Row.off (List._∷_ Row.off List.[])))))));
+        }
 
         abbrev G101 : Row.Cx
-        G101 = record
-            { locals = List._++_ t61 (List._++_ t13 t2); slots = List._∷_ (Row.lease (κs .0) (qs .0)) (List._∷_ (Row.lease (κs .1 .0) (qs .1 .0)) (List._∷_ (Row.lease (κs .1 .1 .0) (qs .1 .1 .0))
-            (List._∷_ (Row.lease (κs .1 .1 .1 .0) (qs .1 .1 .1 .0)) (List._∷_ Row.off (List._∷_ Row.off (List._∷_ Row.off (List._∷_ Row.off List.[]))))))); }
+        G101 = record {
+          locals = List._++_ t61 (List._++_ t13 t2);
+          slots = List._∷_ (Row.lease (κs .0) (qs .0)) (List._∷_ (Row.lease (κs .1 .0) (qs .1 .0)) (List._∷_ (Row.lease (κs .1 .1 .0) (qs .1 .1 .0))
+              (List._∷_ (Row.lease (κs .1 .1 .1 .0) (qs .1 .1 .1 .0)) (List._∷_ Row.off (List._∷_ Row.off (List._∷_ Row.off (List._∷_ Row.off List.[])))))));
+        }
 
         abbrev G102 : Row.Cx
-        G102 = record
-            { locals = List._++_ t61 (List._++_ t69 t2); slots = List._∷_ (Row.lease (κs .0) (qs .0)) (List._∷_ (Row.lease (κs .1 .0) (qs .1 .0)) (List._∷_ (Row.lease (κs .1 .1 .0) (qs .1 .1 .0))
-            (List._∷_ (Row.lease (κs .1 .1 .1 .0) (qs .1 .1 .1 .0)) (List._∷_ Row.off (List._∷_ Row.off (List._∷_ Row.off (List._∷_ Row.off List.[]))))))); }
+        G102 = record {
+          locals = List._++_ t61 (List._++_ t69 t2);
+          slots = List._∷_ (Row.lease (κs .0) (qs .0)) (List._∷_ (Row.lease (κs .1 .0) (qs .1 .0)) (List._∷_ (Row.lease (κs .1 .1 .0) (qs .1 .1 .0))
+              (List._∷_ (Row.lease (κs .1 .1 .1 .0) (qs .1 .1 .1 .0)) (List._∷_ Row.off (List._∷_ Row.off (List._∷_ Row.off (List._∷_ Row.off List.[])))))));
+        }
 
         abbrev G103 : Row.Cx
-        G103 = record
-            { locals = List._++_ t61 (List._++_ t1 t2); slots = List._∷_ (Row.lease (κs .0) (qs .0)) (List._∷_ (Row.lease (κs .1 .0) (qs .1 .0)) (List._∷_ (Row.lease (κs .1 .1 .0) (qs .1 .1 .0)) (List._∷_
-            (Row.lease (κs .1 .1 .1 .0) (qs .1 .1 .1 .0)) (List._∷_ Row.off (List._∷_ Row.off (List._∷_ Row.off (List._∷_ Row.off List.[]))))))); }
+        G103 = record {
+          locals = List._++_ t61 (List._++_ t1 t2);
+          slots = List._∷_ (Row.lease (κs .0) (qs .0)) (List._∷_ (Row.lease (κs .1 .0) (qs .1 .0)) (List._∷_ (Row.lease (κs .1 .1 .0) (qs .1 .1 .0)) (List._∷_
+              (Row.lease (κs .1 .1 .1 .0) (qs .1 .1 .1 .0)) (List._∷_ Row.off (List._∷_ Row.off (List._∷_ Row.off (List._∷_ Row.off List.[])))))));
+        }
 
         abbrev G104 : Row.Cx
-        G104 = record
-            { locals = List._++_ t3 (List._++_ t1 t2); slots = List._∷_ (Row.lease (κs .0) (qs .0)) (List._∷_ (Row.lease (κs .1 .0) (qs .1 .0)) (List._∷_ (Row.lease (κs .1 .1 .0) (qs .1 .1 .0)) (List._∷_
-            (Row.lease (κs .1 .1 .1 .0) (qs .1 .1 .1 .0)) (List._∷_ Row.off (List._∷_ Row.off (List._∷_ Row.off (List._∷_ Row.off List.[]))))))); }
+        G104 = record {
+          locals = List._++_ t3 (List._++_ t1 t2);
+          slots = List._∷_ (Row.lease (κs .0) (qs .0)) (List._∷_ (Row.lease (κs .1 .0) (qs .1 .0)) (List._∷_ (Row.lease (κs .1 .1 .0) (qs .1 .1 .0)) (List._∷_
+              (Row.lease (κs .1 .1 .1 .0) (qs .1 .1 .1 .0)) (List._∷_ Row.off (List._∷_ Row.off (List._∷_ Row.off (List._∷_ Row.off List.[])))))));
+        }
 
         abbrev Δ0 : Typed.Outs
         Δ0 = record { next = Option.none; exits = List.[]; returns = Option.some G1 }
@@ -2894,14 +3451,16 @@ module _ (claims· : Claims) where
               .1 .1 .1 .1 .1 .1 .0))) (Make'.whole-is 𝓤 H A W E (Declared'.row Entries.the-type) Path'.refl (Laws'14.val Entries.the-type Laws'5.the-laws) (Laws'14.tells Entries.the-type Laws'5.the-laws)
               ρ 15 (m .1 .1 .1 .1 .1 .1 .1 .1 .1 .1 .1 .1 .1 .1 .1 .0)))) (λ m q. Signed.made-val (Apart.apartT SharedAnswer.the-type) Laws''.the-laws (List._∷_ (Laws'12.val Decoded.the-type Laws.the-laws
               (m .1 .1 .1 .1 .1 .1 .1 .1 .1 .1 .1 .1 .1 .1 .1 .1 .1 .1 .1 .1 .1 .1 .1 .1 .1 .1 .0)) (List._∷_ (Laws'14.val Entries.the-type Laws'5.the-laws (m .1 .1 .1 .1 .1 .1 .1 .1 .1 .1 .1 .1 .1 .1 .1
-              .0)) List.[])) (m .1 .1 .1 .1 .1 .1 .1 .1 .1 .1 .1 .1 .1 .1 .1 .1 .1 .1 .1 .1 .1 .1 .1 .1 .1 .1 .0, (m .1 .1 .1 .1 .1 .1 .1 .1 .1 .1 .1 .1 .1 .1 .1 .0, tt))
-              (Make.made-enum Decoded.the-type Laws.the-laws tt Laws.lowers (m .1 .1 .1 .1 .1 .1 .1 .1 .1 .1 .1 .1 .1 .1 .1 .1 .1 .1 .1 .1 .1 .1 .1 .1 .1 .1 .0) (q .0),
-              (Signed.made-struct Entries.the-type Laws'5.the-laws Laws'5.lowers (m .1 .1 .1 .1 .1 .1 .1 .1 .1 .1 .1 .1 .1 .1 .1 .0) (q .1), tt))) λ m q. Signed.made-is (Apart.apartT
+              .0)) List.[])) (m .1 .1 .1 .1 .1 .1 .1 .1 .1 .1 .1 .1 .1 .1 .1 .1 .1 .1 .1 .1 .1 .1 .1 .1 .1 .1 .0, (m .1 .1 .1 .1 .1 .1 .1 .1 .1 .1 .1 .1 .1 .1 .1 .0, tt)) (
+                Make.made-enum Decoded.the-type Laws.the-laws tt Laws.lowers (m .1 .1 .1 .1 .1 .1 .1 .1 .1 .1 .1 .1 .1 .1 .1 .1 .1 .1 .1 .1 .1 .1 .1 .1 .1 .1 .0) (q .0),
+                (Signed.made-struct Entries.the-type Laws'5.the-laws Laws'5.lowers (m .1 .1 .1 .1 .1 .1 .1 .1 .1 .1 .1 .1 .1 .1 .1 .0) (q .1), tt),
+              )) λ m q. Signed.made-is (Apart.apartT
               SharedAnswer.the-type) Laws''.the-laws (List._∷_ (Laws'12.val Decoded.the-type Laws.the-laws (m .1 .1 .1 .1 .1 .1 .1 .1 .1 .1 .1 .1 .1 .1 .1 .1 .1 .1 .1 .1 .1 .1 .1 .1 .1 .1 .0)) (List._∷_
               (Laws'14.val Entries.the-type Laws'5.the-laws (m .1 .1 .1 .1 .1 .1 .1 .1 .1 .1 .1 .1 .1 .1 .1 .0)) List.[]))
-              (m .1 .1 .1 .1 .1 .1 .1 .1 .1 .1 .1 .1 .1 .1 .1 .1 .1 .1 .1 .1 .1 .1 .1 .1 .1 .1 .0, (m .1 .1 .1 .1 .1 .1 .1 .1 .1 .1 .1 .1 .1 .1 .1 .0, tt))
-              (Make.made-enum Decoded.the-type Laws.the-laws tt Laws.lowers (m .1 .1 .1 .1 .1 .1 .1 .1 .1 .1 .1 .1 .1 .1 .1 .1 .1 .1 .1 .1 .1 .1 .1 .1 .1 .1 .0) (q .0),
-              (Signed.made-struct Entries.the-type Laws'5.the-laws Laws'5.lowers (m .1 .1 .1 .1 .1 .1 .1 .1 .1 .1 .1 .1 .1 .1 .1 .0) (q .1), tt))) d19
+              (m .1 .1 .1 .1 .1 .1 .1 .1 .1 .1 .1 .1 .1 .1 .1 .1 .1 .1 .1 .1 .1 .1 .1 .1 .1 .1 .0, (m .1 .1 .1 .1 .1 .1 .1 .1 .1 .1 .1 .1 .1 .1 .1 .0, tt)) (
+                Make.made-enum Decoded.the-type Laws.the-laws tt Laws.lowers (m .1 .1 .1 .1 .1 .1 .1 .1 .1 .1 .1 .1 .1 .1 .1 .1 .1 .1 .1 .1 .1 .1 .1 .1 .1 .1 .0) (q .0),
+                (Signed.made-struct Entries.the-type Laws'5.the-laws Laws'5.lowers (m .1 .1 .1 .1 .1 .1 .1 .1 .1 .1 .1 .1 .1 .1 .1 .0) (q .1), tt),
+              )) d19
 
           d21 : Typed.Typed 𝓤 H A 𝓣 E G79 b34 Δ5 at21
           d21 = Typed.g-pre 𝓤 H A W 𝓣 E G79 G80 b34 Δ5 (Typed.pass T79 T80 s75) at20 (Scalar.g-room 𝓤 H A W E G79 37 (Syntax.tyEnum (List._∷_ 115 (List._∷_ 116 (List._∷_ 114 (List._∷_ 101 (List._∷_ 97
@@ -2942,43 +3501,101 @@ module _ (claims· : Claims) where
               (Syntax.ttcons Syntax.tnil Syntax.ttnil))))))))))))))))))))))) Syntax.tnil) Syntax.ttnil)))) (tt, ((Whole.reads-enum 𝓤 H A W Refusal.the-type Laws'11.the-laws, Path'.refl), tt)) Path'.refl
               (λ m wa. Make.made-val Decoded.the-type Laws.the-laws (List._∷_ (Laws'12.val Refusal.the-type Laws'11.the-laws (m .1 .1 .1 .1 .1 .1 .1 .1 .1 .1 .1 .1 .1 .1 .1 .1 .1 .1 .1 .1 .1 .1 .1 .1 .1
               .1 .1 .1 .1 .1 .1 .1 .1 .1 .1 .1 .1 .0)) List.[]) (Decoded.enum .make (Logic.inr (Logic.inl
-              (m .1 .1 .1 .1 .1 .1 .1 .1 .1 .1 .1 .1 .1 .1 .1 .1 .1 .1 .1 .1 .1 .1 .1 .1 .1 .1 .1 .1 .1 .1 .1 .1 .1 .1 .1 .1 .1 .0, tt))))
-              (Signed.made-wt Refusal.the-field Laws'11.the-field-laws (Whole.enum-wt Refusal.the-type Laws'11.the-laws
-              (tt,
-              (tt,
-              (tt,
-              ((Make'.u64-wt, tt),
-              (tt,
-              (tt,
-              (tt,
-              (tt,
-              (tt,
-              (tt,
-              ((Make'.u64-wt, tt),
-              ((Make'.u64-wt, tt),
-              (tt,
-              ((Make'.u64-wt, (Make'.u64-wt, tt)),
-              ((Make'.u64-wt, tt), (tt, (tt, ((Make'.u64-wt, tt), ((Make'.u64-wt, tt), ((Make'.u64-wt, tt), ((Make'.u64-wt, (Make'.u64-wt, tt)), (tt, tt))))))))))))))))))))))) (Refusal.the-type .to (m .1
-              .1 .1 .1 .1 .1 .1 .1 .1 .1 .1 .1 .1 .1 .1 .1 .1 .1 .1 .1 .1 .1 .1 .1 .1 .1 .1 .1 .1 .1 .1 .1 .1 .1 .1 .1 .1 .0)), tt) (wa .1)) λ m wa. Make.made-is Decoded.the-type Laws.the-laws (List._∷_
+              (m .1 .1 .1 .1 .1 .1 .1 .1 .1 .1 .1 .1 .1 .1 .1 .1 .1 .1 .1 .1 .1 .1 .1 .1 .1 .1 .1 .1 .1 .1 .1 .1 .1 .1 .1 .1 .1 .0, tt)))) (
+                Signed.made-wt Refusal.the-field Laws'11.the-field-laws (Whole.enum-wt Refusal.the-type Laws'11.the-laws (
+                  tt,
+                  (
+                    tt,
+                    (
+                      tt,
+                      (
+                        (Make'.u64-wt, tt),
+                        (
+                          tt,
+                          (
+                            tt,
+                            (
+                              tt,
+                              (
+                                tt,
+                                (
+                                  tt,
+                                  (
+                                    tt,
+                                    (
+                                      (Make'.u64-wt, tt),
+                                      (
+                                        (Make'.u64-wt, tt),
+                                        (
+                                          tt,
+                                          (
+                                            (Make'.u64-wt, (Make'.u64-wt, tt)),
+                                            ((Make'.u64-wt, tt), (tt, (tt, ((Make'.u64-wt, tt), ((Make'.u64-wt, tt), ((Make'.u64-wt, tt), ((Make'.u64-wt, (Make'.u64-wt, tt)), (tt, tt)))))))),
+                                          ),
+                                        ),
+                                      ),
+                                    ),
+                                  ),
+                                ),
+                              ),
+                            ),
+                          ),
+                        ),
+                      ),
+                    ),
+                  ),
+                )) (Refusal.the-type .to (m .1
+                    .1 .1 .1 .1 .1 .1 .1 .1 .1 .1 .1 .1 .1 .1 .1 .1 .1 .1 .1 .1 .1 .1 .1 .1 .1 .1 .1 .1 .1 .1 .1 .1 .1 .1 .1 .1 .0)),
+                tt,
+              ) (wa .1)) λ m wa. Make.made-is Decoded.the-type Laws.the-laws (List._∷_
               (Laws'12.val Refusal.the-type Laws'11.the-laws (m .1 .1 .1 .1 .1 .1 .1 .1 .1 .1 .1 .1 .1 .1 .1 .1 .1 .1 .1 .1 .1 .1 .1 .1 .1 .1 .1 .1 .1 .1 .1 .1 .1 .1 .1 .1 .1 .0)) List.[]) (Decoded.enum
-              .make (Logic.inr (Logic.inl (m .1 .1 .1 .1 .1 .1 .1 .1 .1 .1 .1 .1 .1 .1 .1 .1 .1 .1 .1 .1 .1 .1 .1 .1 .1 .1 .1 .1 .1 .1 .1 .1 .1 .1 .1 .1 .1 .0, tt))))
-              (Signed.made-wt Refusal.the-field Laws'11.the-field-laws (Whole.enum-wt Refusal.the-type Laws'11.the-laws
-              (tt,
-              (tt,
-              (tt,
-              ((Make'.u64-wt, tt),
-              (tt,
-              (tt,
-              (tt,
-              (tt,
-              (tt,
-              (tt,
-              ((Make'.u64-wt, tt),
-              ((Make'.u64-wt, tt),
-              (tt,
-              ((Make'.u64-wt, (Make'.u64-wt, tt)),
-              ((Make'.u64-wt, tt), (tt, (tt, ((Make'.u64-wt, tt), ((Make'.u64-wt, tt), ((Make'.u64-wt, tt), ((Make'.u64-wt, (Make'.u64-wt, tt)), (tt, tt))))))))))))))))))))))) (Refusal.the-type .to (m .1
-              .1 .1 .1 .1 .1 .1 .1 .1 .1 .1 .1 .1 .1 .1 .1 .1 .1 .1 .1 .1 .1 .1 .1 .1 .1 .1 .1 .1 .1 .1 .1 .1 .1 .1 .1 .1 .0)), tt) (wa .1)) d21
+              .make (Logic.inr (Logic.inl (m .1 .1 .1 .1 .1 .1 .1 .1 .1 .1 .1 .1 .1 .1 .1 .1 .1 .1 .1 .1 .1 .1 .1 .1 .1 .1 .1 .1 .1 .1 .1 .1 .1 .1 .1 .1 .1 .0, tt)))) (
+                Signed.made-wt Refusal.the-field Laws'11.the-field-laws (Whole.enum-wt Refusal.the-type Laws'11.the-laws (
+                  tt,
+                  (
+                    tt,
+                    (
+                      tt,
+                      (
+                        (Make'.u64-wt, tt),
+                        (
+                          tt,
+                          (
+                            tt,
+                            (
+                              tt,
+                              (
+                                tt,
+                                (
+                                  tt,
+                                  (
+                                    tt,
+                                    (
+                                      (Make'.u64-wt, tt),
+                                      (
+                                        (Make'.u64-wt, tt),
+                                        (
+                                          tt,
+                                          (
+                                            (Make'.u64-wt, (Make'.u64-wt, tt)),
+                                            ((Make'.u64-wt, tt), (tt, (tt, ((Make'.u64-wt, tt), ((Make'.u64-wt, tt), ((Make'.u64-wt, tt), ((Make'.u64-wt, (Make'.u64-wt, tt)), (tt, tt)))))))),
+                                          ),
+                                        ),
+                                      ),
+                                    ),
+                                  ),
+                                ),
+                              ),
+                            ),
+                          ),
+                        ),
+                      ),
+                    ),
+                  ),
+                )) (Refusal.the-type .to (m .1
+                    .1 .1 .1 .1 .1 .1 .1 .1 .1 .1 .1 .1 .1 .1 .1 .1 .1 .1 .1 .1 .1 .1 .1 .1 .1 .1 .1 .1 .1 .1 .1 .1 .1 .1 .1 .1 .0)),
+                tt,
+              ) (wa .1)) d21
 
           d23 : Typed.Typed 𝓤 H A 𝓣 E G77 b36 Δ5 at23
           d23 = Typed.s-seq 𝓤 H A W 𝓣 E G77 G78 b30 b35 Δ5 (Typed.pass T77 T78 s73) at22 (Make.t-enum-make-wt 𝓤 H A W E 𝓣 Refusal.the-type Laws'11.the-laws Laws'11.the-plain tt G77 37 (List._∷_
@@ -2998,17 +3615,25 @@ module _ (claims· : Claims) where
               (Laws'11.the-laws .1 .1 .1 .1 .1 .1 .1 .1 .1 .1 .1 .1 .1 .1 .1 .1 .1 .1 .1 .1 .0 .1 .0 .val (m .1 .1 .1 .1 .1 .1 .1 .1 .1 .1 .1 .1 .1 .1 .1 .1 .1 .1 .1 .1 .1 .1 .1 .0)) List.[]))
               (Refusal.enum .make (Logic.inr (Logic.inr (Logic.inr (Logic.inr (Logic.inr (Logic.inr (Logic.inr (Logic.inr (Logic.inr (Logic.inr (Logic.inr (Logic.inr (Logic.inr (Logic.inr (Logic.inr
               (Logic.inr (Logic.inr (Logic.inr (Logic.inr (Logic.inr (Logic.inl
-              (m .1 .1 .1 .1 .1 .1 .1 .1 .1 .1 .1 .1 .1 .1 .1 .1 .1 .0, (m .1 .1 .1 .1 .1 .1 .1 .1 .1 .1 .1 .1 .1 .1 .1 .1 .1 .1 .1 .1 .1 .1 .1 .0, tt))))))))))))))))))))))))
-              (Signed.made-wt Field.u64-field (Laws'11.the-laws .1 .1 .1 .1 .1 .1 .1 .1 .1 .1 .1 .1 .1 .1 .1 .1 .1 .1 .1 .1 .0 .0) Make'.u64-wt (m .1 .1 .1 .1 .1 .1 .1 .1 .1 .1 .1 .1 .1 .1 .1 .1 .1 .0),
-              (Signed.made-wt Field.u64-field (Laws'11.the-laws .1 .1 .1 .1 .1 .1 .1 .1 .1 .1 .1 .1 .1 .1 .1 .1 .1 .1 .1 .1 .0 .1 .0) Make'.u64-wt (m .1 .1 .1 .1 .1 .1 .1 .1 .1 .1 .1 .1 .1 .1 .1 .1 .1 .1
-              .1 .1 .1 .1 .1 .0), tt)) (wa .1)) λ m wa. Make.made-is Refusal.the-type Laws'11.the-laws (List._∷_ (Laws'11.the-laws .1 .1 .1 .1 .1 .1 .1 .1 .1 .1 .1 .1 .1 .1 .1 .1 .1 .1 .1 .1 .0 .0 .val (m
+              (m .1 .1 .1 .1 .1 .1 .1 .1 .1 .1 .1 .1 .1 .1 .1 .1 .1 .0, (m .1 .1 .1 .1 .1 .1 .1 .1 .1 .1 .1 .1 .1 .1 .1 .1 .1 .1 .1 .1 .1 .1 .1 .0, tt)))))))))))))))))))))))) (
+                Signed.made-wt Field.u64-field (Laws'11.the-laws .1 .1 .1 .1 .1 .1 .1 .1 .1 .1 .1 .1 .1 .1 .1 .1 .1 .1 .1 .1 .0 .0) Make'.u64-wt (m .1 .1 .1 .1 .1 .1 .1 .1 .1 .1 .1 .1 .1 .1 .1 .1 .1 .0),
+                (
+                  Signed.made-wt Field.u64-field (Laws'11.the-laws .1 .1 .1 .1 .1 .1 .1 .1 .1 .1 .1 .1 .1 .1 .1 .1 .1 .1 .1 .1 .0 .1 .0) Make'.u64-wt (m .1 .1 .1 .1 .1 .1 .1 .1 .1 .1 .1 .1 .1 .1 .1 .1 .1 .1
+                      .1 .1 .1 .1 .1 .0),
+                  tt,
+                ),
+              ) (wa .1)) λ m wa. Make.made-is Refusal.the-type Laws'11.the-laws (List._∷_ (Laws'11.the-laws .1 .1 .1 .1 .1 .1 .1 .1 .1 .1 .1 .1 .1 .1 .1 .1 .1 .1 .1 .1 .0 .0 .val (m
               .1 .1 .1 .1 .1 .1 .1 .1 .1 .1 .1 .1 .1 .1 .1 .1 .1 .0)) (List._∷_ (Laws'11.the-laws .1 .1 .1 .1 .1 .1 .1 .1 .1 .1 .1 .1 .1 .1 .1 .1 .1 .1 .1 .1 .0 .1 .0 .val (m .1 .1 .1 .1 .1 .1 .1 .1 .1 .1
               .1 .1 .1 .1 .1 .1 .1 .1 .1 .1 .1 .1 .1 .0)) List.[])) (Refusal.enum .make (Logic.inr (Logic.inr (Logic.inr (Logic.inr (Logic.inr (Logic.inr (Logic.inr (Logic.inr (Logic.inr (Logic.inr
               (Logic.inr (Logic.inr (Logic.inr (Logic.inr (Logic.inr (Logic.inr (Logic.inr (Logic.inr (Logic.inr (Logic.inr (Logic.inl
-              (m .1 .1 .1 .1 .1 .1 .1 .1 .1 .1 .1 .1 .1 .1 .1 .1 .1 .0, (m .1 .1 .1 .1 .1 .1 .1 .1 .1 .1 .1 .1 .1 .1 .1 .1 .1 .1 .1 .1 .1 .1 .1 .0, tt))))))))))))))))))))))))
-              (Signed.made-wt Field.u64-field (Laws'11.the-laws .1 .1 .1 .1 .1 .1 .1 .1 .1 .1 .1 .1 .1 .1 .1 .1 .1 .1 .1 .1 .0 .0) Make'.u64-wt (m .1 .1 .1 .1 .1 .1 .1 .1 .1 .1 .1 .1 .1 .1 .1 .1 .1 .0),
-              (Signed.made-wt Field.u64-field (Laws'11.the-laws .1 .1 .1 .1 .1 .1 .1 .1 .1 .1 .1 .1 .1 .1 .1 .1 .1 .1 .1 .1 .0 .1 .0) Make'.u64-wt (m .1 .1 .1 .1 .1 .1 .1 .1 .1 .1 .1 .1 .1 .1 .1 .1 .1 .1
-              .1 .1 .1 .1 .1 .0), tt)) (wa .1)) d22
+              (m .1 .1 .1 .1 .1 .1 .1 .1 .1 .1 .1 .1 .1 .1 .1 .1 .1 .0, (m .1 .1 .1 .1 .1 .1 .1 .1 .1 .1 .1 .1 .1 .1 .1 .1 .1 .1 .1 .1 .1 .1 .1 .0, tt)))))))))))))))))))))))) (
+                Signed.made-wt Field.u64-field (Laws'11.the-laws .1 .1 .1 .1 .1 .1 .1 .1 .1 .1 .1 .1 .1 .1 .1 .1 .1 .1 .1 .1 .0 .0) Make'.u64-wt (m .1 .1 .1 .1 .1 .1 .1 .1 .1 .1 .1 .1 .1 .1 .1 .1 .1 .0),
+                (
+                  Signed.made-wt Field.u64-field (Laws'11.the-laws .1 .1 .1 .1 .1 .1 .1 .1 .1 .1 .1 .1 .1 .1 .1 .1 .1 .1 .1 .1 .0 .1 .0) Make'.u64-wt (m .1 .1 .1 .1 .1 .1 .1 .1 .1 .1 .1 .1 .1 .1 .1 .1 .1 .1
+                      .1 .1 .1 .1 .1 .0),
+                  tt,
+                ),
+              ) (wa .1)) d22
 
           d24 : Typed.Typed 𝓤 H A 𝓣 E G76 b36 Δ5 at24
           d24 = Typed.g-pre 𝓤 H A W 𝓣 E G76 G77 b36 Δ5 (Typed.pass T76 T77 s72) at23 (Scalar.g-room 𝓤 H A W E G76 36 Syntax.tyBool (Scalar.room-sc 𝓤 H A W Row.sBool)) d23
@@ -3091,13 +3716,24 @@ module _ (claims· : Claims) where
           d37 : Typed.Typed 𝓤 H A 𝓣 E G69 b41 Δ3 at37
           d37 = Typed.s-seq 𝓤 H A W 𝓣 E G69 G92 b39 b40 Δ3 (Typed.both s87) at36 (Plain.t-call-plain 𝓤 H A W 𝓣 0 ps·11 r·11 (claims· .22) (claims· .23) "block::decoding::judged" (known .11) E (λ pos
               β. β) G69 (record { pos = 16; st = List.[]; d = 0; at = λ x. x }, (Num.vAt 17 λ x. x, (record { pos = 24; st = List.[]; d = 0; at = λ x. x }, tt))) 16 List.[] (Call.sub-id 𝓤 H A W (G69
-              .slots))
-              ((Yields.yields-copy 𝓤 H A W (λ ρ. Unit) (Declared.row Decoded.the-type) Path'.refl (Copies.cEnum Decoded.the-type Laws.the-laws Laws.the-copy .copy 𝓤 H A W) (Rows'.whole (Declared.row
-              Decoded.the-type)) (λ x. x) (λ x. x) (λ ρ told. Local.mem-whole 𝓤 H A W (Declared.row Decoded.the-type) ρ) λ ρ told. Local.whole-mem 𝓤 H A W (Declared.row Decoded.the-type) ρ, Path'.refl),
-              ((Scalar.reads-sc 𝓤 H A W (Row.sInt Syntax.w64), Path'.refl),
-              ((Yields.yields-copy 𝓤 H A W (λ ρ. Unit) (Declared.row Walked.the-type) Path'.refl (Copies.cEnum Walked.the-type Laws'3.the-laws Laws'3.the-copy .copy 𝓤 H A W) (Rows'.whole (Declared.row
-              Walked.the-type)) (λ x. x) (λ x. x) (λ ρ told. Local.mem-whole 𝓤 H A W (Declared.row Walked.the-type) ρ) λ ρ told. Local.whole-mem 𝓤 H A W (Declared.row Walked.the-type) ρ, Path'.refl),
-              tt))) (Local.room-whole 𝓤 H A W (Declared.row Decoded.the-type) (Syntax.tyEnum (List._∷_ 98 (List._∷_ 108 (List._∷_ 111 (List._∷_ 99 (List._∷_ 107 (List._∷_ 58 (List._∷_ 58 (List._∷_ 68
+              .slots)) (
+                (
+                  Yields.yields-copy 𝓤 H A W (λ ρ. Unit) (Declared.row Decoded.the-type) Path'.refl (Copies.cEnum Decoded.the-type Laws.the-laws Laws.the-copy .copy 𝓤 H A W) (Rows'.whole (Declared.row
+                      Decoded.the-type)) (λ x. x) (λ x. x) (λ ρ told. Local.mem-whole 𝓤 H A W (Declared.row Decoded.the-type) ρ) λ ρ told. Local.whole-mem 𝓤 H A W (Declared.row Decoded.the-type) ρ,
+                  Path'.refl,
+                ),
+                (
+                  (Scalar.reads-sc 𝓤 H A W (Row.sInt Syntax.w64), Path'.refl),
+                  (
+                    (
+                      Yields.yields-copy 𝓤 H A W (λ ρ. Unit) (Declared.row Walked.the-type) Path'.refl (Copies.cEnum Walked.the-type Laws'3.the-laws Laws'3.the-copy .copy 𝓤 H A W) (Rows'.whole (Declared.row
+                          Walked.the-type)) (λ x. x) (λ x. x) (λ ρ told. Local.mem-whole 𝓤 H A W (Declared.row Walked.the-type) ρ) λ ρ told. Local.whole-mem 𝓤 H A W (Declared.row Walked.the-type) ρ,
+                      Path'.refl,
+                    ),
+                    tt,
+                  ),
+                ),
+              ) (Local.room-whole 𝓤 H A W (Declared.row Decoded.the-type) (Syntax.tyEnum (List._∷_ 98 (List._∷_ 108 (List._∷_ 111 (List._∷_ 99 (List._∷_ 107 (List._∷_ 58 (List._∷_ 58 (List._∷_ 68
               (List._∷_ 101 (List._∷_ 99 (List._∷_ 111 (List._∷_ 100 (List._∷_ 101 (List._∷_ 100 List.[])))))))))))))) (Syntax.ttcons Syntax.tnil (Syntax.ttcons (Syntax.tcons (Syntax.tyEnum (List._∷_ 115
               (List._∷_ 116 (List._∷_ 114 (List._∷_ 101 (List._∷_ 97 (List._∷_ 109 (List._∷_ 58 (List._∷_ 58 (List._∷_ 82 (List._∷_ 101 (List._∷_ 102 (List._∷_ 117 (List._∷_ 115 (List._∷_ 97 (List._∷_ 108
               List.[]))))))))))))))) (Syntax.ttcons Syntax.tnil (Syntax.ttcons Syntax.tnil (Syntax.ttcons Syntax.tnil (Syntax.ttcons (Syntax.tcons (Syntax.tyInt Syntax.w64) Syntax.tnil) (Syntax.ttcons
@@ -3113,9 +3749,10 @@ module _ (claims· : Claims) where
 
           d39 : Typed.Typed 𝓤 H A 𝓣 E G67 b43 Δ3 at39
           d39 = Typed.s-seq 𝓤 H A W 𝓣 E G67 G68 b29 b42 Δ3 (Typed.both s64) at38 (Plain.t-call-plain 𝓤 H A W 𝓣 0 ps·10 r·10 (claims· .20) (claims· .21) "cameras::is_stopped" (known .10) E (λ pos β. β)
-              G67 (Num.vAt 25 λ x. x, (Num.vAt 23 λ x. x, (Num.vAt 11 λ x. x, tt))) 36 List.[] (Call.sub-id 𝓤 H A W (G67 .slots))
-              ((Scalar.reads-sc 𝓤 H A W (Row.sInt Syntax.w64), Path'.refl),
-              ((Scalar.reads-sc 𝓤 H A W (Row.sInt Syntax.w64), Path'.refl), ((Scalar.reads-sc 𝓤 H A W (Row.sInt Syntax.w64), Path'.refl), tt))) (Reads'.room-gone 𝓤 H A Syntax.tyBool) tt Path'.refl) d38
+              G67 (Num.vAt 25 λ x. x, (Num.vAt 23 λ x. x, (Num.vAt 11 λ x. x, tt))) 36 List.[] (Call.sub-id 𝓤 H A W (G67 .slots)) (
+                (Scalar.reads-sc 𝓤 H A W (Row.sInt Syntax.w64), Path'.refl),
+                ((Scalar.reads-sc 𝓤 H A W (Row.sInt Syntax.w64), Path'.refl), ((Scalar.reads-sc 𝓤 H A W (Row.sInt Syntax.w64), Path'.refl), tt)),
+              ) (Reads'.room-gone 𝓤 H A Syntax.tyBool) tt Path'.refl) d38
 
           d40 : Typed.Typed 𝓤 H A 𝓣 E G66 b43 Δ3 at40
           d40 = Typed.g-pre 𝓤 H A W 𝓣 E G66 G67 b43 Δ3 (Typed.pass T66 T67 s63) at39 (Scalar.g-room 𝓤 H A W E G66 20 y6 (Shared.room-sslice 𝓤 H A W (Referent.rtF (Referent.fInt Syntax.w8))
@@ -3123,28 +3760,50 @@ module _ (claims· : Claims) where
 
           d41 : Typed.Typed 𝓤 H A 𝓣 E G65 b44 Δ3 at41
           d41 = Typed.s-seq 𝓤 H A W 𝓣 E G65 G66 b28 b43 Δ3 (Typed.both s62) at40 (Plain.t-call-plain 𝓤 H A W 𝓣 1 ps·9 r·9 (claims· .18) (claims· .19) "cameras::after_block" (known .9) E (λ pos β. β)
-              G65
-              (record { pos = 1; st = List.[]; d = 0; at = λ x. x },
-              (record { pos = 15; st = List.[]; d = 0; at = λ x. x },
-              (Num.vAt 13 λ x. x, (record { pos = 20; ty = Syntax.tyRef Syntax.erased Syntax.imm (Syntax.tyInt Syntax.w8); ref = λ x. x; }, (Num.vAt 23 λ x. x, (Num.vAt 25 λ x. x, tt)))))) 15 (List._∷_ 0
-              List.[]) (Call.sub-id 𝓤 H A W (G65 .slots))
-              ((Yields.yields-copy 𝓤 H A W (λ ρ. Unit) (Declared.row Camera.the-type) Path'.refl (Copies.cEnum Camera.the-type Laws'4.the-laws Laws'4.the-copy .copy 𝓤 H A W) (Rows'.whole (Declared.row
-              Camera.the-type)) (λ x. x) (λ x. x) (λ ρ told. Local.mem-whole 𝓤 H A W (Declared.row Camera.the-type) ρ) λ ρ told. Local.whole-mem 𝓤 H A W (Declared.row Camera.the-type) ρ, Path'.refl),
-              ((Yields.yields-copy 𝓤 H A W (λ ρ. Unit) (Declared'.row Entries.the-type) Path'.refl (Copies.cStruct Entries.the-type Laws'5.the-laws Laws'5.the-copy .copy 𝓤 H A W) (Rows'.whole
-              (Declared'.row Entries.the-type)) (λ x. x) (λ x. x) (λ ρ told. Local.mem-whole 𝓤 H A W (Declared'.row Entries.the-type) ρ) λ ρ told. Local.whole-mem 𝓤 H A W (Declared'.row Entries.the-type)
-              ρ, Path'.refl),
-              ((Scalar.reads-sc 𝓤 H A W (Row.sInt Syntax.w32), Path'.refl),
-              (ShrSlice.spares-sslice 𝓤 H A W (Referent.rtF (Referent.fInt Syntax.w8)) (Syntax.tyRef Syntax.erased Syntax.imm (Syntax.tyInt Syntax.w8)) 0, Shared.reads-sslice 𝓤 H A W (Referent.rtF
-              (Referent.fInt Syntax.w8)) (Syntax.tyRef Syntax.erased Syntax.imm (Syntax.tyInt Syntax.w8)) 0, Path'.refl,
-              ((Scalar.reads-sc 𝓤 H A W (Row.sInt Syntax.w64), Path'.refl), ((Scalar.reads-sc 𝓤 H A W (Row.sInt Syntax.w64), Path'.refl), tt)))))) (Local.room-whole 𝓤 H A W (Declared'.row
+              G65 (
+                record { pos = 1; st = List.[]; d = 0; at = λ x. x },
+                (
+                  record { pos = 15; st = List.[]; d = 0; at = λ x. x },
+                  (Num.vAt 13 λ x. x, (record { pos = 20; ty = Syntax.tyRef Syntax.erased Syntax.imm (Syntax.tyInt Syntax.w8); ref = λ x. x }, (Num.vAt 23 λ x. x, (Num.vAt 25 λ x. x, tt)))),
+                ),
+              ) 15 (List._∷_ 0
+              List.[]) (Call.sub-id 𝓤 H A W (G65 .slots)) (
+                (
+                  Yields.yields-copy 𝓤 H A W (λ ρ. Unit) (Declared.row Camera.the-type) Path'.refl (Copies.cEnum Camera.the-type Laws'4.the-laws Laws'4.the-copy .copy 𝓤 H A W) (Rows'.whole (Declared.row
+                      Camera.the-type)) (λ x. x) (λ x. x) (λ ρ told. Local.mem-whole 𝓤 H A W (Declared.row Camera.the-type) ρ) λ ρ told. Local.whole-mem 𝓤 H A W (Declared.row Camera.the-type) ρ,
+                  Path'.refl,
+                ),
+                (
+                  (
+                    Yields.yields-copy 𝓤 H A W (λ ρ. Unit) (Declared'.row Entries.the-type) Path'.refl (Copies.cStruct Entries.the-type Laws'5.the-laws Laws'5.the-copy .copy 𝓤 H A W) (Rows'.whole
+                        (Declared'.row Entries.the-type)) (λ x. x) (λ x. x) (λ ρ told. Local.mem-whole 𝓤 H A W (Declared'.row Entries.the-type) ρ) λ ρ told. Local.whole-mem 𝓤 H A W (Declared'.row Entries.the-type)
+                        ρ,
+                    Path'.refl,
+                  ),
+                  (
+                    (Scalar.reads-sc 𝓤 H A W (Row.sInt Syntax.w32), Path'.refl),
+                    (
+                      ShrSlice.spares-sslice 𝓤 H A W (Referent.rtF (Referent.fInt Syntax.w8)) (Syntax.tyRef Syntax.erased Syntax.imm (Syntax.tyInt Syntax.w8)) 0,
+                      Shared.reads-sslice 𝓤 H A W (Referent.rtF
+                          (Referent.fInt Syntax.w8)) (Syntax.tyRef Syntax.erased Syntax.imm (Syntax.tyInt Syntax.w8)) 0,
+                      Path'.refl,
+                      ((Scalar.reads-sc 𝓤 H A W (Row.sInt Syntax.w64), Path'.refl), ((Scalar.reads-sc 𝓤 H A W (Row.sInt Syntax.w64), Path'.refl), tt)),
+                    ),
+                  ),
+                ),
+              ) (Local.room-whole 𝓤 H A W (Declared'.row
               Entries.the-type) y12 Path'.refl) (tt, tt) Path'.refl) d40
 
           d42 : Typed.Typed 𝓤 H A 𝓣 E G64 b45 Δ3 at42
           d42 = Typed.s-seq 𝓤 H A W 𝓣 E G64 G65 b27 b44 Δ3 (Typed.both s61) at41 (Plain.t-call-plain 𝓤 H A W 𝓣 0 ps·8 r·8 (claims· .16) (claims· .17) "block::sharing::lines_read" (known .8) E (λ pos
-              β. β) G64 (record { pos = 24; st = List.[]; d = 0; at = λ x. x }, (Num.vAt 23 λ x. x, tt)) 25 List.[] (Call.sub-id 𝓤 H A W (G64 .slots))
-              ((Yields.yields-copy 𝓤 H A W (λ ρ. Unit) (Declared.row Walked.the-type) Path'.refl (Copies.cEnum Walked.the-type Laws'3.the-laws Laws'3.the-copy .copy 𝓤 H A W) (Rows'.whole (Declared.row
-              Walked.the-type)) (λ x. x) (λ x. x) (λ ρ told. Local.mem-whole 𝓤 H A W (Declared.row Walked.the-type) ρ) λ ρ told. Local.whole-mem 𝓤 H A W (Declared.row Walked.the-type) ρ, Path'.refl),
-              ((Scalar.reads-sc 𝓤 H A W (Row.sInt Syntax.w64), Path'.refl), tt)) (Reads'.room-gone 𝓤 H A (Syntax.tyInt Syntax.w64)) tt Path'.refl) d41
+              β. β) G64 (record { pos = 24; st = List.[]; d = 0; at = λ x. x }, (Num.vAt 23 λ x. x, tt)) 25 List.[] (Call.sub-id 𝓤 H A W (G64 .slots)) (
+                (
+                  Yields.yields-copy 𝓤 H A W (λ ρ. Unit) (Declared.row Walked.the-type) Path'.refl (Copies.cEnum Walked.the-type Laws'3.the-laws Laws'3.the-copy .copy 𝓤 H A W) (Rows'.whole (Declared.row
+                      Walked.the-type)) (λ x. x) (λ x. x) (λ ρ told. Local.mem-whole 𝓤 H A W (Declared.row Walked.the-type) ρ) λ ρ told. Local.whole-mem 𝓤 H A W (Declared.row Walked.the-type) ρ,
+                  Path'.refl,
+                ),
+                ((Scalar.reads-sc 𝓤 H A W (Row.sInt Syntax.w64), Path'.refl), tt),
+              ) (Reads'.room-gone 𝓤 H A (Syntax.tyInt Syntax.w64)) tt Path'.refl) d41
 
           d43 : Typed.Typed 𝓤 H A 𝓣 E G63 b45 Δ3 at43
           d43 = Typed.g-pre 𝓤 H A W 𝓣 E G63 G64 b45 Δ3 (λ Ψ. Ψ) at42 (Lifetime.g-forget 𝓤 H A W E G63 7 Row.dead Path'.refl) d42
@@ -3224,42 +3883,103 @@ module _ (claims· : Claims) where
 
           d62 : Typed.Typed 𝓤 H A 𝓣 E G44 b46 Δ3 at62
           d62 = Typed.s-seq 𝓤 H A W 𝓣 E G44 G45 b26 b45 Δ3 (Typed.both s41) at61 (Plain.t-call-plain 𝓤 H A W 𝓣 6 ps·7 r·7 (claims· .14) (claims· .15) "block::reading::walk" (known .7) E (λ pos β. β)
-              G44
-              (record { pos = 19; ty = Syntax.tyRef Syntax.erased Syntax.imm (Syntax.tyInt Syntax.w8); ref = λ x. x; },
-              (record { pos = 20; ty = Syntax.tyRef Syntax.erased Syntax.imm (Syntax.tyInt Syntax.w8); ref = λ x. x; },
-              (record { pos = 30; ty = Syntax.tyRef Syntax.erased Syntax.mut (Syntax.tyInt Syntax.w16); ref = λ x. x; },
-              (record { pos = 32; ty = Syntax.tyRef Syntax.erased Syntax.mut Element.behind; ref = λ x. x; },
-              (record { pos = 34; ty = Syntax.tyRef Syntax.erased Syntax.mut (Syntax.tyInt Syntax.w16); ref = λ x. x; },
-              (record { pos = 18; st = List.[]; d = 0; at = λ x. x },
-              (record { pos = 35; ty = Syntax.tyRef Syntax.erased Syntax.imm (Syntax.tyArray (Syntax.tyInt Syntax.w16) 768); ref = λ x. x; },
-              (record { pos = 6; st = List.[]; d = 0; at = λ x. x },
-              (record { pos = 21; st = List.[]; d = 0; at = λ x. x },
-              (Num.vAt 23 λ x. x, (Bool.bLit Bool'.false, (record { pos = 22; st = List._∷_ (Syntax.field 1) List.[]; d = 8; at = λ x. Took.struct .as-values x .1 .0; }, tt)))))))))))) 24 (List._∷_ 0
-              (List._∷_ 0 (List._∷_ 4 (List._∷_ 5 (List._∷_ 6 (List._∷_ 7 List.[])))))) (Call.sub-id 𝓤 H A W (G44 .slots))
-              (ShrSlice.spares-sslice 𝓤 H A W (Referent.rtF (Referent.fInt Syntax.w8)) (Syntax.tyRef Syntax.erased Syntax.imm (Syntax.tyInt Syntax.w8)) 0, Shared.reads-sslice 𝓤 H A W (Referent.rtF
-              (Referent.fInt Syntax.w8)) (Syntax.tyRef Syntax.erased Syntax.imm (Syntax.tyInt Syntax.w8)) 0, Path'.refl,
-              (ShrSlice.spares-sslice 𝓤 H A W (Referent.rtF (Referent.fInt Syntax.w8)) (Syntax.tyRef Syntax.erased Syntax.imm (Syntax.tyInt Syntax.w8)) 0, Shared.reads-sslice 𝓤 H A W (Referent.rtF
-              (Referent.fInt Syntax.w8)) (Syntax.tyRef Syntax.erased Syntax.imm (Syntax.tyInt Syntax.w8)) 0, Path'.refl,
-              (Reads'.as-is 𝓤 H A (Mut.mslice (Referent.rtF (Referent.fInt Syntax.w16)) (Syntax.tyRef Syntax.erased Syntax.mut (Syntax.tyInt Syntax.w16)) 4), Mut.reads-mslice 𝓤 H A W (Referent.rtF
-              (Referent.fInt Syntax.w16)) (Syntax.tyRef Syntax.erased Syntax.mut (Syntax.tyInt Syntax.w16)) 4, Path'.refl,
-              (Reads'.as-is 𝓤 H A (Mut.mslice (Element.type) (Syntax.tyRef Syntax.erased Syntax.mut Element.behind) 5), Mut.reads-mslice 𝓤 H A W (Element.type) (Syntax.tyRef Syntax.erased Syntax.mut
-              Element.behind) 5, Path'.refl,
-              (Reads'.as-is 𝓤 H A (Mut.mslice (Referent.rtF (Referent.fInt Syntax.w16)) (Syntax.tyRef Syntax.erased Syntax.mut (Syntax.tyInt Syntax.w16)) 6), Mut.reads-mslice 𝓤 H A W (Referent.rtF
-              (Referent.fInt Syntax.w16)) (Syntax.tyRef Syntax.erased Syntax.mut (Syntax.tyInt Syntax.w16)) 6, Path'.refl,
-              ((Yields.yields-copy 𝓤 H A W (λ ρ. Unit) (Declared'.row Form.the-type) Path'.refl (Copies.cStruct Form.the-type Laws'.the-laws Laws'.the-copy .copy 𝓤 H A W) (Rows'.whole (Declared'.row
-              Form.the-type)) (λ x. x) (λ x. x) (λ ρ told. Local.mem-whole 𝓤 H A W (Declared'.row Form.the-type) ρ) λ ρ told. Local.whole-mem 𝓤 H A W (Declared'.row Form.the-type) ρ, Path'.refl),
-              (ShrRef.spares-sref 𝓤 H A W (Array'.Array (Referent.rtF (Referent.fInt Syntax.w16)) 768) (Syntax.tyRef Syntax.erased Syntax.imm (Syntax.tyArray (Syntax.tyInt Syntax.w16) 768)) 7,
-              Reads'.reads-sref 𝓤 H A W (Array'.Array (Referent.rtF (Referent.fInt Syntax.w16)) 768) (Syntax.tyRef Syntax.erased Syntax.imm (Syntax.tyArray (Syntax.tyInt Syntax.w16) 768)) 7, Path'.refl,
-              ((Array.arr-yields 𝓤 H A W (Array.eInt Syntax.w8) (Array.eInt-laws Syntax.w8) 36, Path'.refl),
-              ((Yields.yields-copy 𝓤 H A W (λ ρ. Unit) (Declared'.row Part.the-type) Path'.refl (Copies.cStruct Part.the-type Laws'7.the-laws Laws'7.the-copy .copy 𝓤 H A W) (Rows'.whole (Declared'.row
-              Part.the-type)) (λ x. x) (λ x. x) (λ ρ told. Local.mem-whole 𝓤 H A W (Declared'.row Part.the-type) ρ) λ ρ told. Local.whole-mem 𝓤 H A W (Declared'.row Part.the-type) ρ, Path'.refl),
-              ((Scalar.reads-sc 𝓤 H A W (Row.sInt Syntax.w64), Path'.refl),
-              (tt,
-              ((Yields'.yields-acc 𝓤 H A W (Rows'.whole (Declared'.row Took.the-type)) (Declared'.row Entries.the-type) 8 (λ x. Took.struct .as-values x .1 .0) Path'.refl (Copies.cStruct Entries.the-type
-              Laws'5.the-laws Laws'5.the-copy .copy 𝓤 H A W) (Yields'.acc-record 𝓤 H A W (Rows'.whole (Declared'.row Took.the-type)) Entries.the-type 8 (λ x. Took.struct .as-values x .1 .0)
-              (Yields'.acc-part 𝓤 H A W (Rows'.whole (Declared'.row Took.the-type)) (Declared'.row Took.the-type) (Struct.Struct (Declared'.shape Entries.the-type)) 0 8 (λ x. x) (λ y. Entries.the-type .to
-              (Took.struct .as-values y .1 .0)) (Yields'.acc-whole 𝓤 H A W (Declared'.row Took.the-type)) λ y a. Behind.look-at 𝓤 H A W TreeShare.fullShare Took.the-type Laws'6.the-laws 1 8 Path'.refl
-              Path'.refl a y (Took.struct .as-values y) Path'.refl)), Path'.refl), tt)))))))))))) (Reads'.room-gone 𝓤 H A (Syntax.tyEnum (List._∷_ 98 (List._∷_ 108 (List._∷_ 111 (List._∷_ 99 (List._∷_ 107
+              G44 (
+                record { pos = 19; ty = Syntax.tyRef Syntax.erased Syntax.imm (Syntax.tyInt Syntax.w8); ref = λ x. x },
+                (
+                  record { pos = 20; ty = Syntax.tyRef Syntax.erased Syntax.imm (Syntax.tyInt Syntax.w8); ref = λ x. x },
+                  (
+                    record { pos = 30; ty = Syntax.tyRef Syntax.erased Syntax.mut (Syntax.tyInt Syntax.w16); ref = λ x. x },
+                    (
+                      record { pos = 32; ty = Syntax.tyRef Syntax.erased Syntax.mut Element.behind; ref = λ x. x },
+                      (
+                        record { pos = 34; ty = Syntax.tyRef Syntax.erased Syntax.mut (Syntax.tyInt Syntax.w16); ref = λ x. x },
+                        (
+                          record { pos = 18; st = List.[]; d = 0; at = λ x. x },
+                          (
+                            record { pos = 35; ty = Syntax.tyRef Syntax.erased Syntax.imm (Syntax.tyArray (Syntax.tyInt Syntax.w16) 768); ref = λ x. x },
+                            (
+                              record { pos = 6; st = List.[]; d = 0; at = λ x. x },
+                              (
+                                record { pos = 21; st = List.[]; d = 0; at = λ x. x },
+                                (Num.vAt 23 λ x. x, (Bool.bLit Bool'.false, (record { pos = 22; st = List._∷_ (Syntax.field 1) List.[]; d = 8; at = λ x. Took.struct .as-values x .1 .0 }, tt))),
+                              ),
+                            ),
+                          ),
+                        ),
+                      ),
+                    ),
+                  ),
+                ),
+              ) 24 (List._∷_ 0
+              (List._∷_ 0 (List._∷_ 4 (List._∷_ 5 (List._∷_ 6 (List._∷_ 7 List.[])))))) (Call.sub-id 𝓤 H A W (G44 .slots)) (
+                ShrSlice.spares-sslice 𝓤 H A W (Referent.rtF (Referent.fInt Syntax.w8)) (Syntax.tyRef Syntax.erased Syntax.imm (Syntax.tyInt Syntax.w8)) 0,
+                Shared.reads-sslice 𝓤 H A W (Referent.rtF
+                    (Referent.fInt Syntax.w8)) (Syntax.tyRef Syntax.erased Syntax.imm (Syntax.tyInt Syntax.w8)) 0,
+                Path'.refl,
+                (
+                  ShrSlice.spares-sslice 𝓤 H A W (Referent.rtF (Referent.fInt Syntax.w8)) (Syntax.tyRef Syntax.erased Syntax.imm (Syntax.tyInt Syntax.w8)) 0,
+                  Shared.reads-sslice 𝓤 H A W (Referent.rtF
+                      (Referent.fInt Syntax.w8)) (Syntax.tyRef Syntax.erased Syntax.imm (Syntax.tyInt Syntax.w8)) 0,
+                  Path'.refl,
+                  (
+                    Reads'.as-is 𝓤 H A (Mut.mslice (Referent.rtF (Referent.fInt Syntax.w16)) (Syntax.tyRef Syntax.erased Syntax.mut (Syntax.tyInt Syntax.w16)) 4),
+                    Mut.reads-mslice 𝓤 H A W (Referent.rtF
+                        (Referent.fInt Syntax.w16)) (Syntax.tyRef Syntax.erased Syntax.mut (Syntax.tyInt Syntax.w16)) 4,
+                    Path'.refl,
+                    (
+                      Reads'.as-is 𝓤 H A (Mut.mslice (Element.type) (Syntax.tyRef Syntax.erased Syntax.mut Element.behind) 5),
+                      Mut.reads-mslice 𝓤 H A W (Element.type) (Syntax.tyRef Syntax.erased Syntax.mut
+                          Element.behind) 5,
+                      Path'.refl,
+                      (
+                        Reads'.as-is 𝓤 H A (Mut.mslice (Referent.rtF (Referent.fInt Syntax.w16)) (Syntax.tyRef Syntax.erased Syntax.mut (Syntax.tyInt Syntax.w16)) 6),
+                        Mut.reads-mslice 𝓤 H A W (Referent.rtF
+                            (Referent.fInt Syntax.w16)) (Syntax.tyRef Syntax.erased Syntax.mut (Syntax.tyInt Syntax.w16)) 6,
+                        Path'.refl,
+                        (
+                          (
+                            Yields.yields-copy 𝓤 H A W (λ ρ. Unit) (Declared'.row Form.the-type) Path'.refl (Copies.cStruct Form.the-type Laws'.the-laws Laws'.the-copy .copy 𝓤 H A W) (Rows'.whole (Declared'.row
+                                Form.the-type)) (λ x. x) (λ x. x) (λ ρ told. Local.mem-whole 𝓤 H A W (Declared'.row Form.the-type) ρ) λ ρ told. Local.whole-mem 𝓤 H A W (Declared'.row Form.the-type) ρ,
+                            Path'.refl,
+                          ),
+                          (
+                            ShrRef.spares-sref 𝓤 H A W (Array'.Array (Referent.rtF (Referent.fInt Syntax.w16)) 768) (Syntax.tyRef Syntax.erased Syntax.imm (Syntax.tyArray (Syntax.tyInt Syntax.w16) 768)) 7,
+                            Reads'.reads-sref 𝓤 H A W (Array'.Array (Referent.rtF (Referent.fInt Syntax.w16)) 768) (Syntax.tyRef Syntax.erased Syntax.imm (Syntax.tyArray (Syntax.tyInt Syntax.w16) 768)) 7,
+                            Path'.refl,
+                            (
+                              (Array.arr-yields 𝓤 H A W (Array.eInt Syntax.w8) (Array.eInt-laws Syntax.w8) 36, Path'.refl),
+                              (
+                                (
+                                  Yields.yields-copy 𝓤 H A W (λ ρ. Unit) (Declared'.row Part.the-type) Path'.refl (Copies.cStruct Part.the-type Laws'7.the-laws Laws'7.the-copy .copy 𝓤 H A W) (Rows'.whole (Declared'.row
+                                      Part.the-type)) (λ x. x) (λ x. x) (λ ρ told. Local.mem-whole 𝓤 H A W (Declared'.row Part.the-type) ρ) λ ρ told. Local.whole-mem 𝓤 H A W (Declared'.row Part.the-type) ρ,
+                                  Path'.refl,
+                                ),
+                                (
+                                  (Scalar.reads-sc 𝓤 H A W (Row.sInt Syntax.w64), Path'.refl),
+                                  (
+                                    tt,
+                                    (
+                                      (
+                                        Yields'.yields-acc 𝓤 H A W (Rows'.whole (Declared'.row Took.the-type)) (Declared'.row Entries.the-type) 8 (λ x. Took.struct .as-values x .1 .0) Path'.refl (Copies.cStruct Entries.the-type
+                                            Laws'5.the-laws Laws'5.the-copy .copy 𝓤 H A W) (Yields'.acc-record 𝓤 H A W (Rows'.whole (Declared'.row Took.the-type)) Entries.the-type 8 (λ x. Took.struct .as-values x .1 .0)
+                                            (Yields'.acc-part 𝓤 H A W (Rows'.whole (Declared'.row Took.the-type)) (Declared'.row Took.the-type) (Struct.Struct (Declared'.shape Entries.the-type)) 0 8 (λ x. x) (λ y. Entries.the-type .to
+                                            (Took.struct .as-values y .1 .0)) (Yields'.acc-whole 𝓤 H A W (Declared'.row Took.the-type)) λ y a. Behind.look-at 𝓤 H A W TreeShare.fullShare Took.the-type Laws'6.the-laws 1 8 Path'.refl
+                                            Path'.refl a y (Took.struct .as-values y) Path'.refl)),
+                                        Path'.refl,
+                                      ),
+                                      tt,
+                                    ),
+                                  ),
+                                ),
+                              ),
+                            ),
+                          ),
+                        ),
+                      ),
+                    ),
+                  ),
+                ),
+              ) (Reads'.room-gone 𝓤 H A (Syntax.tyEnum (List._∷_ 98 (List._∷_ 108 (List._∷_ 111 (List._∷_ 99 (List._∷_ 107
               (List._∷_ 58 (List._∷_ 58 (List._∷_ 87 (List._∷_ 97 (List._∷_ 108 (List._∷_ 107 (List._∷_ 101 (List._∷_ 100 List.[]))))))))))))) (Syntax.ttcons (Syntax.tcons y5 (Syntax.tcons y10
               Syntax.tnil)) (Syntax.ttcons (Syntax.tcons (Syntax.tyInt Syntax.w64) (Syntax.tcons y5 Syntax.tnil)) Syntax.ttnil)))) (tt, (tt, (tt, (tt, (tt, (tt, tt)))))) Path'.refl) d61
 
@@ -3269,26 +3989,47 @@ module _ (claims· : Claims) where
               Syntax.erased Syntax.imm (Syntax.tyArray (Syntax.tyInt Syntax.w16) 768))) Path'.refl λ b o. tt) d62
 
           d64 : Typed.Typed 𝓤 H A 𝓣 E G42 b47 Δ3 at64
-          d64 = Typed.g-pre 𝓤 H A W 𝓣 E G42 G43 b47 Δ3 (λ Ψ. Ψ) at63 (Lifetime.g-begin 𝓤 H A W E G42 7
-              (tt,
-              (tt,
-              (tt,
-              (tt,
-              (tt,
-              (tt,
-              (tt,
-              ((tt, tt),
-              ((tt, tt),
-              ((tt, tt),
-              (tt, (tt, (tt, (tt, (tt, (tt, (tt, (tt, (tt, (tt, (tt, (tt, (tt, (tt, (tt, (tt, (tt, (tt, (tt, (tt, (tt, (tt, (tt, (tt, (tt, (tt, (tt, (tt, tt))))))))))))))))))))))))))))))))))))))) d63
+          d64 = Typed.g-pre 𝓤 H A W 𝓣 E G42 G43 b47 Δ3 (λ Ψ. Ψ) at63 (Lifetime.g-begin 𝓤 H A W E G42 7 (
+            tt,
+            (
+              tt,
+              (
+                tt,
+                (
+                  tt,
+                  (
+                    tt,
+                    (
+                      tt,
+                      (
+                        tt,
+                        (
+                          (tt, tt),
+                          (
+                            (tt, tt),
+                            (
+                              (tt, tt),
+                              (tt, (tt, (tt, (tt, (tt, (tt, (tt, (tt, (tt, (tt, (tt, (tt, (tt, (tt, (tt, (tt, (tt, (tt, (tt, (tt, (tt, (tt, (tt, (tt, (tt, (tt, (tt, (tt, tt)))))))))))))))))))))))))))),
+                            ),
+                          ),
+                        ),
+                      ),
+                    ),
+                  ),
+                ),
+              ),
+            ),
+          )) d63
 
           d65 : Typed.Typed 𝓤 H A 𝓣 E G41 b48 Δ3 at65
           d65 = Typed.s-seq 𝓤 H A W 𝓣 E G41 G42 b24 b47 Δ3 (Typed.ask s38) at64 (Relend.t-sl-aggregate 𝓤 H A W E (Referent.rtF (Referent.fInt Syntax.w16)) 𝓣 (Relend.asMut (Referent.rtF (Referent.fInt
               Syntax.w16))) G41 33 34 6 (Syntax.tyRef Syntax.erased Syntax.mut (Syntax.tyInt Syntax.w16)) (Syntax.tyRef Syntax.erased Syntax.mut (Syntax.tyInt Syntax.w16)) (λ x. x) (Scalar.oFld 7
               (List._∷_ (Syntax.field 1) List.[]) (Syntax.tyInt Syntax.w64) 8 λ v. Shared.lenV (v .0)) (Reads'.as-is 𝓤 H A (Relend.msptr (Referent.rtF (Referent.fInt Syntax.w16)) (Syntax.tyRef
-              Syntax.erased Syntax.mut (Syntax.tyInt Syntax.w16)) 6)) (Reads'.room-gone 𝓤 H A y7)
-              (Relend.reads-owed-len 𝓤 H A W (Referent.rtF (Referent.fInt Syntax.w16)) (Syntax.tyRef (Syntax.named 1) Syntax.mut (Syntax.tyInt Syntax.w16)) 1 6 (Row.lease (κs .1 .0) (qs .1 .0)) 8
-              Path'.refl, Path'.refl) Path'.refl Path'.refl λ b o k. tt) d64
+              Syntax.erased Syntax.mut (Syntax.tyInt Syntax.w16)) 6)) (Reads'.room-gone 𝓤 H A y7) (
+                Relend.reads-owed-len 𝓤 H A W (Referent.rtF (Referent.fInt Syntax.w16)) (Syntax.tyRef (Syntax.named 1) Syntax.mut (Syntax.tyInt Syntax.w16)) 1 6 (Row.lease (κs .1 .0) (qs .1 .0)) 8
+                    Path'.refl,
+                Path'.refl,
+              ) Path'.refl Path'.refl λ b o k. tt) d64
 
           d66 : Typed.Typed 𝓤 H A 𝓣 E G40 b49 Δ3 at66
           d66 = Typed.s-seq 𝓤 H A W 𝓣 E G40 G41 b23 b48 Δ3 (Typed.give s37) at65 (Relend.t-sl-relend 𝓤 H A W E (Referent.rtF (Referent.fInt Syntax.w16)) 𝓣 G40 7 33 1 6 (Syntax.tyRef (Syntax.named 1)
@@ -3297,18 +4038,37 @@ module _ (claims· : Claims) where
               (Syntax.tyInt Syntax.w16))) Path'.refl tt Path'.refl Path'.refl Path'.refl λ b o. tt) d65
 
           d67 : Typed.Typed 𝓤 H A 𝓣 E G39 b49 Δ3 at67
-          d67 = Typed.g-pre 𝓤 H A W 𝓣 E G39 G40 b49 Δ3 (λ Ψ. Ψ) at66 (Lifetime.g-begin 𝓤 H A W E G39 6
-              (tt,
-              (tt,
-              (tt,
-              (tt,
-              (tt,
-              (tt,
-              (tt,
-              (tt,
-              ((tt, tt),
-              ((tt, tt),
-              (tt, (tt, (tt, (tt, (tt, (tt, (tt, (tt, (tt, (tt, (tt, (tt, (tt, (tt, (tt, (tt, (tt, (tt, (tt, (tt, (tt, (tt, (tt, (tt, (tt, (tt, (tt, (tt, tt))))))))))))))))))))))))))))))))))))))) d66
+          d67 = Typed.g-pre 𝓤 H A W 𝓣 E G39 G40 b49 Δ3 (λ Ψ. Ψ) at66 (Lifetime.g-begin 𝓤 H A W E G39 6 (
+            tt,
+            (
+              tt,
+              (
+                tt,
+                (
+                  tt,
+                  (
+                    tt,
+                    (
+                      tt,
+                      (
+                        tt,
+                        (
+                          tt,
+                          (
+                            (tt, tt),
+                            (
+                              (tt, tt),
+                              (tt, (tt, (tt, (tt, (tt, (tt, (tt, (tt, (tt, (tt, (tt, (tt, (tt, (tt, (tt, (tt, (tt, (tt, (tt, (tt, (tt, (tt, (tt, (tt, (tt, (tt, (tt, (tt, tt)))))))))))))))))))))))))))),
+                            ),
+                          ),
+                        ),
+                      ),
+                    ),
+                  ),
+                ),
+              ),
+            ),
+          )) d66
 
           d68 : Typed.Typed 𝓤 H A 𝓣 E G38 b50 Δ3 at68
           d68 = Typed.s-seq 𝓤 H A W 𝓣 E G38 G39 b22 b49 Δ3 (Typed.ask s35) at67 (Relend.t-sl-aggregate 𝓤 H A W E (Element.type) 𝓣 (Relend.asMut (Element.type)) G38 31 32 5 (Syntax.tyRef Syntax.erased
@@ -3323,25 +4083,44 @@ module _ (claims· : Claims) where
               Syntax.mut Element.behind) 3)) (Reads'.room-gone 𝓤 H A (Syntax.tyRef Syntax.erased Syntax.mut Element.behind)) Path'.refl tt Path'.refl Path'.refl Path'.refl λ b o. tt) d68
 
           d70 : Typed.Typed 𝓤 H A 𝓣 E G36 b51 Δ3 at70
-          d70 = Typed.g-pre 𝓤 H A W 𝓣 E G36 G37 b51 Δ3 (λ Ψ. Ψ) at69 (Lifetime.g-begin 𝓤 H A W E G36 5
-              (tt,
-              (tt,
-              (tt,
-              (tt,
-              (tt,
-              (tt,
-              (tt,
-              (tt,
-              ((tt, tt),
-              (tt, (tt, (tt, (tt, (tt, (tt, (tt, (tt, (tt, (tt, (tt, (tt, (tt, (tt, (tt, (tt, (tt, (tt, (tt, (tt, (tt, (tt, (tt, (tt, (tt, (tt, (tt, (tt, (tt, tt))))))))))))))))))))))))))))))))))))))) d69
+          d70 = Typed.g-pre 𝓤 H A W 𝓣 E G36 G37 b51 Δ3 (λ Ψ. Ψ) at69 (Lifetime.g-begin 𝓤 H A W E G36 5 (
+            tt,
+            (
+              tt,
+              (
+                tt,
+                (
+                  tt,
+                  (
+                    tt,
+                    (
+                      tt,
+                      (
+                        tt,
+                        (
+                          tt,
+                          (
+                            (tt, tt),
+                            (tt, (tt, (tt, (tt, (tt, (tt, (tt, (tt, (tt, (tt, (tt, (tt, (tt, (tt, (tt, (tt, (tt, (tt, (tt, (tt, (tt, (tt, (tt, (tt, (tt, (tt, (tt, (tt, (tt, tt))))))))))))))))))))))))))))),
+                          ),
+                        ),
+                      ),
+                    ),
+                  ),
+                ),
+              ),
+            ),
+          )) d69
 
           d71 : Typed.Typed 𝓤 H A 𝓣 E G35 b52 Δ3 at71
           d71 = Typed.s-seq 𝓤 H A W 𝓣 E G35 G36 b20 b51 Δ3 (Typed.ask s32) at70 (Relend.t-sl-aggregate 𝓤 H A W E (Referent.rtF (Referent.fInt Syntax.w16)) 𝓣 (Relend.asMut (Referent.rtF (Referent.fInt
               Syntax.w16))) G35 29 30 4 (Syntax.tyRef Syntax.erased Syntax.mut (Syntax.tyInt Syntax.w16)) (Syntax.tyRef Syntax.erased Syntax.mut (Syntax.tyInt Syntax.w16)) (λ x. x) (Scalar.oFld 8
               (List._∷_ (Syntax.field 1) List.[]) (Syntax.tyInt Syntax.w64) 8 λ v. Shared.lenV (v .0)) (Reads'.as-is 𝓤 H A (Relend.msptr (Referent.rtF (Referent.fInt Syntax.w16)) (Syntax.tyRef
-              Syntax.erased Syntax.mut (Syntax.tyInt Syntax.w16)) 4)) (Reads'.room-gone 𝓤 H A y7)
-              (Relend.reads-owed-len 𝓤 H A W (Referent.rtF (Referent.fInt Syntax.w16)) (Syntax.tyRef (Syntax.named 2) Syntax.mut (Syntax.tyInt Syntax.w16)) 2 4 (Row.lease (κs .1 .1 .0) (qs .1 .1 .0)) 8
-              Path'.refl, Path'.refl) Path'.refl Path'.refl λ b o k. tt) d70
+              Syntax.erased Syntax.mut (Syntax.tyInt Syntax.w16)) 4)) (Reads'.room-gone 𝓤 H A y7) (
+                Relend.reads-owed-len 𝓤 H A W (Referent.rtF (Referent.fInt Syntax.w16)) (Syntax.tyRef (Syntax.named 2) Syntax.mut (Syntax.tyInt Syntax.w16)) 2 4 (Row.lease (κs .1 .1 .0) (qs .1 .1 .0)) 8
+                    Path'.refl,
+                Path'.refl,
+              ) Path'.refl Path'.refl λ b o k. tt) d70
 
           d72 : Typed.Typed 𝓤 H A 𝓣 E G34 b53 Δ3 at72
           d72 = Typed.s-seq 𝓤 H A W 𝓣 E G34 G35 b19 b52 Δ3 (Typed.give s31) at71 (Relend.t-sl-relend 𝓤 H A W E (Referent.rtF (Referent.fInt Syntax.w16)) 𝓣 G34 8 29 2 4 (Syntax.tyRef (Syntax.named 2)
@@ -3350,17 +4129,34 @@ module _ (claims· : Claims) where
               (Syntax.tyInt Syntax.w16))) Path'.refl tt Path'.refl Path'.refl Path'.refl λ b o. tt) d71
 
           d73 : Typed.Typed 𝓤 H A 𝓣 E G33 b53 Δ3 at73
-          d73 = Typed.g-pre 𝓤 H A W 𝓣 E G33 G34 b53 Δ3 (λ Ψ. Ψ) at72 (Lifetime.g-begin 𝓤 H A W E G33 4
-              (tt,
-              (tt,
-              (tt,
-              (tt,
-              (tt,
-              (tt,
-              (tt,
-              (tt,
-              (tt,
-              (tt, (tt, (tt, (tt, (tt, (tt, (tt, (tt, (tt, (tt, (tt, (tt, (tt, (tt, (tt, (tt, (tt, (tt, (tt, (tt, (tt, (tt, (tt, (tt, (tt, (tt, (tt, (tt, (tt, tt))))))))))))))))))))))))))))))))))))))) d72
+          d73 = Typed.g-pre 𝓤 H A W 𝓣 E G33 G34 b53 Δ3 (λ Ψ. Ψ) at72 (Lifetime.g-begin 𝓤 H A W E G33 4 (
+            tt,
+            (
+              tt,
+              (
+                tt,
+                (
+                  tt,
+                  (
+                    tt,
+                    (
+                      tt,
+                      (
+                        tt,
+                        (
+                          tt,
+                          (
+                            tt,
+                            (tt, (tt, (tt, (tt, (tt, (tt, (tt, (tt, (tt, (tt, (tt, (tt, (tt, (tt, (tt, (tt, (tt, (tt, (tt, (tt, (tt, (tt, (tt, (tt, (tt, (tt, (tt, (tt, (tt, tt))))))))))))))))))))))))))))),
+                          ),
+                        ),
+                      ),
+                    ),
+                  ),
+                ),
+              ),
+            ),
+          )) d72
 
           d74 : Typed.Typed 𝓤 H A 𝓣 E G32 b54 Δ3 at74
           d74 = Typed.s-seq 𝓤 H A W 𝓣 E G32 G33 b18 b53 Δ3 (Typed.pass T32 T33 s29) at73 (Scalar.t-use 𝓤 H A W E 𝓣 G32 (Scalar.oFld 22 (List._∷_ (Syntax.field 0) List.[]) (Syntax.tyInt Syntax.w64) 0
@@ -3370,50 +4166,86 @@ module _ (claims· : Claims) where
 
           d75 : Typed.Typed 𝓤 H A 𝓣 E G31 b55 Δ3 at75
           d75 = Typed.s-seq 𝓤 H A W 𝓣 E G31 G32 b17 b54 Δ3 (Typed.both s28) at74 (Plain.t-call-plain 𝓤 H A W 𝓣 1 ps·6 r·6 (claims· .12) (claims· .13) "cameras::take_lines" (known .6) E (λ pos β. β)
-              G31
-              (record { pos = 1; st = List.[]; d = 0; at = λ x. x },
-              (record { pos = 15; st = List.[]; d = 0; at = λ x. x },
-              (Num.vAt 13 λ x. x, (record { pos = 20; ty = Syntax.tyRef Syntax.erased Syntax.imm (Syntax.tyInt Syntax.w8); ref = λ x. x; }, (Num.vAt 11 λ x. x, tt))))) 22 (List._∷_ 0 List.[]) (Call.sub-id
-              𝓤 H A W (G31 .slots))
-              ((Yields.yields-copy 𝓤 H A W (λ ρ. Unit) (Declared.row Camera.the-type) Path'.refl (Copies.cEnum Camera.the-type Laws'4.the-laws Laws'4.the-copy .copy 𝓤 H A W) (Rows'.whole (Declared.row
-              Camera.the-type)) (λ x. x) (λ x. x) (λ ρ told. Local.mem-whole 𝓤 H A W (Declared.row Camera.the-type) ρ) λ ρ told. Local.whole-mem 𝓤 H A W (Declared.row Camera.the-type) ρ, Path'.refl),
-              ((Yields.yields-copy 𝓤 H A W (λ ρ. Unit) (Declared'.row Entries.the-type) Path'.refl (Copies.cStruct Entries.the-type Laws'5.the-laws Laws'5.the-copy .copy 𝓤 H A W) (Rows'.whole
-              (Declared'.row Entries.the-type)) (λ x. x) (λ x. x) (λ ρ told. Local.mem-whole 𝓤 H A W (Declared'.row Entries.the-type) ρ) λ ρ told. Local.whole-mem 𝓤 H A W (Declared'.row Entries.the-type)
-              ρ, Path'.refl),
-              ((Scalar.reads-sc 𝓤 H A W (Row.sInt Syntax.w32), Path'.refl),
-              (ShrSlice.spares-sslice 𝓤 H A W (Referent.rtF (Referent.fInt Syntax.w8)) (Syntax.tyRef Syntax.erased Syntax.imm (Syntax.tyInt Syntax.w8)) 0, Shared.reads-sslice 𝓤 H A W (Referent.rtF
-              (Referent.fInt Syntax.w8)) (Syntax.tyRef Syntax.erased Syntax.imm (Syntax.tyInt Syntax.w8)) 0, Path'.refl, ((Scalar.reads-sc 𝓤 H A W (Row.sInt Syntax.w64), Path'.refl), tt)))))
+              G31 (
+                record { pos = 1; st = List.[]; d = 0; at = λ x. x },
+                (
+                  record { pos = 15; st = List.[]; d = 0; at = λ x. x },
+                  (Num.vAt 13 λ x. x, (record { pos = 20; ty = Syntax.tyRef Syntax.erased Syntax.imm (Syntax.tyInt Syntax.w8); ref = λ x. x }, (Num.vAt 11 λ x. x, tt))),
+                ),
+              ) 22 (List._∷_ 0 List.[]) (Call.sub-id
+              𝓤 H A W (G31 .slots)) (
+                (
+                  Yields.yields-copy 𝓤 H A W (λ ρ. Unit) (Declared.row Camera.the-type) Path'.refl (Copies.cEnum Camera.the-type Laws'4.the-laws Laws'4.the-copy .copy 𝓤 H A W) (Rows'.whole (Declared.row
+                      Camera.the-type)) (λ x. x) (λ x. x) (λ ρ told. Local.mem-whole 𝓤 H A W (Declared.row Camera.the-type) ρ) λ ρ told. Local.whole-mem 𝓤 H A W (Declared.row Camera.the-type) ρ,
+                  Path'.refl,
+                ),
+                (
+                  (
+                    Yields.yields-copy 𝓤 H A W (λ ρ. Unit) (Declared'.row Entries.the-type) Path'.refl (Copies.cStruct Entries.the-type Laws'5.the-laws Laws'5.the-copy .copy 𝓤 H A W) (Rows'.whole
+                        (Declared'.row Entries.the-type)) (λ x. x) (λ x. x) (λ ρ told. Local.mem-whole 𝓤 H A W (Declared'.row Entries.the-type) ρ) λ ρ told. Local.whole-mem 𝓤 H A W (Declared'.row Entries.the-type)
+                        ρ,
+                    Path'.refl,
+                  ),
+                  (
+                    (Scalar.reads-sc 𝓤 H A W (Row.sInt Syntax.w32), Path'.refl),
+                    (
+                      ShrSlice.spares-sslice 𝓤 H A W (Referent.rtF (Referent.fInt Syntax.w8)) (Syntax.tyRef Syntax.erased Syntax.imm (Syntax.tyInt Syntax.w8)) 0,
+                      Shared.reads-sslice 𝓤 H A W (Referent.rtF
+                          (Referent.fInt Syntax.w8)) (Syntax.tyRef Syntax.erased Syntax.imm (Syntax.tyInt Syntax.w8)) 0,
+                      Path'.refl,
+                      ((Scalar.reads-sc 𝓤 H A W (Row.sInt Syntax.w64), Path'.refl), tt),
+                    ),
+                  ),
+                ),
+              )
               (Reads'.room-gone 𝓤 H A y14) (tt, tt) Path'.refl) d74
 
           d76 : Typed.Typed 𝓤 H A 𝓣 E G30 b56 Δ3 at76
           d76 = Typed.s-seq 𝓤 H A W 𝓣 E G30 G31 b16 b55 Δ3 (Typed.both s27) at75 (Plain.t-call-plain 𝓤 H A W 𝓣 0 ps·5 r·5 (claims· .10) (claims· .11) "region::part" (known .5) E (λ pos β. β) G30
-              (record { pos = 5; st = List.[]; d = 0; at = λ x. x }, (Num.vAt 17 λ x. x, tt)) 21 List.[] (Call.sub-id 𝓤 H A W (G30 .slots))
-              ((Yields.yields-copy 𝓤 H A W (λ ρ. Unit) (Declared'.row Rect.the-type) Path'.refl (Copies.cStruct Rect.the-type Laws'8.the-laws Laws'8.the-copy .copy 𝓤 H A W) (Rows'.whole (Declared'.row
-              Rect.the-type)) (λ x. x) (λ x. x) (λ ρ told. Local.mem-whole 𝓤 H A W (Declared'.row Rect.the-type) ρ) λ ρ told. Local.whole-mem 𝓤 H A W (Declared'.row Rect.the-type) ρ, Path'.refl),
-              ((Scalar.reads-sc 𝓤 H A W (Row.sInt Syntax.w64), Path'.refl), tt)) (Reads'.room-gone 𝓤 H A y0) tt Path'.refl) d75
+              (record { pos = 5; st = List.[]; d = 0; at = λ x. x }, (Num.vAt 17 λ x. x, tt)) 21 List.[] (Call.sub-id 𝓤 H A W (G30 .slots)) (
+                (
+                  Yields.yields-copy 𝓤 H A W (λ ρ. Unit) (Declared'.row Rect.the-type) Path'.refl (Copies.cStruct Rect.the-type Laws'8.the-laws Laws'8.the-copy .copy 𝓤 H A W) (Rows'.whole (Declared'.row
+                      Rect.the-type)) (λ x. x) (λ x. x) (λ ρ told. Local.mem-whole 𝓤 H A W (Declared'.row Rect.the-type) ρ) λ ρ told. Local.whole-mem 𝓤 H A W (Declared'.row Rect.the-type) ρ,
+                  Path'.refl,
+                ),
+                ((Scalar.reads-sc 𝓤 H A W (Row.sInt Syntax.w64), Path'.refl), tt),
+              ) (Reads'.room-gone 𝓤 H A y0) tt Path'.refl) d75
 
           d77 : Typed.Typed 𝓤 H A 𝓣 E G29 b57 Δ3 at77
           d77 = Typed.s-seq 𝓤 H A W 𝓣 E G29 G30 b15 b56 Δ3 (Typed.both s26) at76 (Plain.t-call-plain 𝓤 H A W 𝓣 1 ps·4 r·4 (claims· .8) (claims· .9) "stream::base_row" (known .4) E (λ pos β. β) G29
-              (record { pos = 3; ty = Syntax.tyRef (Syntax.named 0) Syntax.imm (Syntax.tyInt Syntax.w8); ref = λ x. x; }, (Num.vAt 17 λ x. x, tt)) 20 (List._∷_ 0 List.[]) (Call.sub-id 𝓤 H A W (G29
-              .slots))
-              (ShrSlice.spares-sslice 𝓤 H A W (Referent.rtF (Referent.fInt Syntax.w8)) (Syntax.tyRef (Syntax.named 0) Syntax.imm (Syntax.tyInt Syntax.w8)) 0, Shared.reads-sslice 𝓤 H A W (Referent.rtF
-              (Referent.fInt Syntax.w8)) (Syntax.tyRef (Syntax.named 0) Syntax.imm (Syntax.tyInt Syntax.w8)) 0, Path'.refl, ((Scalar.reads-sc 𝓤 H A W (Row.sInt Syntax.w64), Path'.refl), tt))
+              (record { pos = 3; ty = Syntax.tyRef (Syntax.named 0) Syntax.imm (Syntax.tyInt Syntax.w8); ref = λ x. x }, (Num.vAt 17 λ x. x, tt)) 20 (List._∷_ 0 List.[]) (Call.sub-id 𝓤 H A W (G29
+              .slots)) (
+                ShrSlice.spares-sslice 𝓤 H A W (Referent.rtF (Referent.fInt Syntax.w8)) (Syntax.tyRef (Syntax.named 0) Syntax.imm (Syntax.tyInt Syntax.w8)) 0,
+                Shared.reads-sslice 𝓤 H A W (Referent.rtF
+                    (Referent.fInt Syntax.w8)) (Syntax.tyRef (Syntax.named 0) Syntax.imm (Syntax.tyInt Syntax.w8)) 0,
+                Path'.refl,
+                ((Scalar.reads-sc 𝓤 H A W (Row.sInt Syntax.w64), Path'.refl), tt),
+              )
               (Reads'.room-gone 𝓤 H A y6) (tt, tt) (Path'.refl, λ b o k. tt)) d76
 
           d78 : Typed.Typed 𝓤 H A 𝓣 E G28 b58 Δ3 at78
           d78 = Typed.s-seq 𝓤 H A W 𝓣 E G28 G29 b14 b57 Δ3 (Typed.both s25) at77 (Plain.t-call-plain 𝓤 H A W 𝓣 1 ps·3 r·3 (claims· .6) (claims· .7) "stream::block_bytes" (known .3) E (λ pos β. β) G28
-              (record { pos = 3; ty = Syntax.tyRef (Syntax.named 0) Syntax.imm (Syntax.tyInt Syntax.w8); ref = λ x. x; }, (Num.vAt 17 λ x. x, tt)) 19 (List._∷_ 0 List.[]) (Call.sub-id 𝓤 H A W (G28
-              .slots))
-              (ShrSlice.spares-sslice 𝓤 H A W (Referent.rtF (Referent.fInt Syntax.w8)) (Syntax.tyRef (Syntax.named 0) Syntax.imm (Syntax.tyInt Syntax.w8)) 0, Shared.reads-sslice 𝓤 H A W (Referent.rtF
-              (Referent.fInt Syntax.w8)) (Syntax.tyRef (Syntax.named 0) Syntax.imm (Syntax.tyInt Syntax.w8)) 0, Path'.refl, ((Scalar.reads-sc 𝓤 H A W (Row.sInt Syntax.w64), Path'.refl), tt))
+              (record { pos = 3; ty = Syntax.tyRef (Syntax.named 0) Syntax.imm (Syntax.tyInt Syntax.w8); ref = λ x. x }, (Num.vAt 17 λ x. x, tt)) 19 (List._∷_ 0 List.[]) (Call.sub-id 𝓤 H A W (G28
+              .slots)) (
+                ShrSlice.spares-sslice 𝓤 H A W (Referent.rtF (Referent.fInt Syntax.w8)) (Syntax.tyRef (Syntax.named 0) Syntax.imm (Syntax.tyInt Syntax.w8)) 0,
+                Shared.reads-sslice 𝓤 H A W (Referent.rtF
+                    (Referent.fInt Syntax.w8)) (Syntax.tyRef (Syntax.named 0) Syntax.imm (Syntax.tyInt Syntax.w8)) 0,
+                Path'.refl,
+                ((Scalar.reads-sc 𝓤 H A W (Row.sInt Syntax.w64), Path'.refl), tt),
+              )
               (Reads'.room-gone 𝓤 H A y6) (tt, tt) (Path'.refl, λ b o k. tt)) d77
 
           d79 : Typed.Typed 𝓤 H A 𝓣 E G20 b59 Δ3 at79
           d79 = Typed.s-seq 𝓤 H A W 𝓣 E G20 G28 b13 b58 Δ3 (Typed.both s24) at78 (Plain.t-call-plain 𝓤 H A W 𝓣 0 ps·2 r·2 (claims· .4) (claims· .5) "block::form_of" (known .2) E (λ pos β. β) G20
-              (record { pos = 4; st = List.[]; d = 0; at = λ x. x }, tt) 18 List.[] (Call.sub-id 𝓤 H A W (G20 .slots))
-              ((Yields.yields-copy 𝓤 H A W (λ ρ. Unit) (Declared'.row FujiHeader.the-type) Path'.refl (Copies.cStruct FujiHeader.the-type Laws'10.the-laws Laws'10.the-copy .copy 𝓤 H A W) (Rows'.whole
-              (Declared'.row FujiHeader.the-type)) (λ x. x) (λ x. x) (λ ρ told. Local.mem-whole 𝓤 H A W (Declared'.row FujiHeader.the-type) ρ) λ ρ told. Local.whole-mem 𝓤 H A W (Declared'.row
-              FujiHeader.the-type) ρ, Path'.refl), tt) (Reads'.room-gone 𝓤 H A y9) tt Path'.refl) d78
+              (record { pos = 4; st = List.[]; d = 0; at = λ x. x }, tt) 18 List.[] (Call.sub-id 𝓤 H A W (G20 .slots)) (
+                (
+                  Yields.yields-copy 𝓤 H A W (λ ρ. Unit) (Declared'.row FujiHeader.the-type) Path'.refl (Copies.cStruct FujiHeader.the-type Laws'10.the-laws Laws'10.the-copy .copy 𝓤 H A W) (Rows'.whole
+                      (Declared'.row FujiHeader.the-type)) (λ x. x) (λ x. x) (λ ρ told. Local.mem-whole 𝓤 H A W (Declared'.row FujiHeader.the-type) ρ) λ ρ told. Local.whole-mem 𝓤 H A W (Declared'.row
+                      FujiHeader.the-type) ρ,
+                  Path'.refl,
+                ),
+                tt,
+              ) (Reads'.room-gone 𝓤 H A y9) tt Path'.refl) d78
 
           d80 : Typed.Typed 𝓤 H A 𝓣 E G19 b60 Δ3 at80
           d80 = Typed.t-seq 𝓤 H A W 𝓣 E G19 G20 b12 b59 Δ3 at9 at79 d9 d79
@@ -3509,13 +4341,15 @@ module _ (claims· : Claims) where
               Laws'5.the-laws (m .1 .1 .1 .1 .1 .1 .1 .1 .1 .1 .1 .1 .1 .1 .1 .0))) (Make'.whole-is 𝓤 H A W E (Declared'.row Entries.the-type) Path'.refl (Laws'14.val Entries.the-type Laws'5.the-laws)
               (Laws'14.tells Entries.the-type Laws'5.the-laws) ρ 15 (m .1 .1 .1 .1 .1 .1 .1 .1 .1 .1 .1 .1 .1 .1 .1 .0)))) (λ m q. Signed.made-val (Apart.apartT SharedAnswer.the-type) Laws''.the-laws
               (List._∷_ (Laws'12.val Decoded.the-type Laws.the-laws (m .1 .1 .1 .1 .1 .1 .1 .1 .1 .1 .1 .1 .1 .1 .1 .1 .0)) (List._∷_ (Laws'14.val Entries.the-type Laws'5.the-laws (m .1 .1 .1 .1 .1 .1 .1
-              .1 .1 .1 .1 .1 .1 .1 .1 .0)) List.[])) (m .1 .1 .1 .1 .1 .1 .1 .1 .1 .1 .1 .1 .1 .1 .1 .1 .0, (m .1 .1 .1 .1 .1 .1 .1 .1 .1 .1 .1 .1 .1 .1 .1 .0, tt))
-              (Make.made-enum Decoded.the-type Laws.the-laws tt Laws.lowers (m .1 .1 .1 .1 .1 .1 .1 .1 .1 .1 .1 .1 .1 .1 .1 .1 .0) (q .0),
-              (Signed.made-struct Entries.the-type Laws'5.the-laws Laws'5.lowers (m .1 .1 .1 .1 .1 .1 .1 .1 .1 .1 .1 .1 .1 .1 .1 .0) (q .1), tt))) λ m q. Signed.made-is (Apart.apartT
+              .1 .1 .1 .1 .1 .1 .1 .1 .0)) List.[])) (m .1 .1 .1 .1 .1 .1 .1 .1 .1 .1 .1 .1 .1 .1 .1 .1 .0, (m .1 .1 .1 .1 .1 .1 .1 .1 .1 .1 .1 .1 .1 .1 .1 .0, tt)) (
+                Make.made-enum Decoded.the-type Laws.the-laws tt Laws.lowers (m .1 .1 .1 .1 .1 .1 .1 .1 .1 .1 .1 .1 .1 .1 .1 .1 .0) (q .0),
+                (Signed.made-struct Entries.the-type Laws'5.the-laws Laws'5.lowers (m .1 .1 .1 .1 .1 .1 .1 .1 .1 .1 .1 .1 .1 .1 .1 .0) (q .1), tt),
+              )) λ m q. Signed.made-is (Apart.apartT
               SharedAnswer.the-type) Laws''.the-laws (List._∷_ (Laws'12.val Decoded.the-type Laws.the-laws (m .1 .1 .1 .1 .1 .1 .1 .1 .1 .1 .1 .1 .1 .1 .1 .1 .0)) (List._∷_ (Laws'14.val Entries.the-type
-              Laws'5.the-laws (m .1 .1 .1 .1 .1 .1 .1 .1 .1 .1 .1 .1 .1 .1 .1 .0)) List.[])) (m .1 .1 .1 .1 .1 .1 .1 .1 .1 .1 .1 .1 .1 .1 .1 .1 .0, (m .1 .1 .1 .1 .1 .1 .1 .1 .1 .1 .1 .1 .1 .1 .1 .0, tt))
-              (Make.made-enum Decoded.the-type Laws.the-laws tt Laws.lowers (m .1 .1 .1 .1 .1 .1 .1 .1 .1 .1 .1 .1 .1 .1 .1 .1 .0) (q .0),
-              (Signed.made-struct Entries.the-type Laws'5.the-laws Laws'5.lowers (m .1 .1 .1 .1 .1 .1 .1 .1 .1 .1 .1 .1 .1 .1 .1 .0) (q .1), tt))) d92
+              Laws'5.the-laws (m .1 .1 .1 .1 .1 .1 .1 .1 .1 .1 .1 .1 .1 .1 .1 .0)) List.[])) (m .1 .1 .1 .1 .1 .1 .1 .1 .1 .1 .1 .1 .1 .1 .1 .1 .0, (m .1 .1 .1 .1 .1 .1 .1 .1 .1 .1 .1 .1 .1 .1 .1 .0, tt)) (
+                Make.made-enum Decoded.the-type Laws.the-laws tt Laws.lowers (m .1 .1 .1 .1 .1 .1 .1 .1 .1 .1 .1 .1 .1 .1 .1 .1 .0) (q .0),
+                (Signed.made-struct Entries.the-type Laws'5.the-laws Laws'5.lowers (m .1 .1 .1 .1 .1 .1 .1 .1 .1 .1 .1 .1 .1 .1 .1 .0) (q .1), tt),
+              )) d92
 
           d94 : Typed.Typed 𝓤 H A 𝓣 E G16 b67 Δ0 at94
           d94 = Typed.t-seq 𝓤 H A W 𝓣 E G16 G17 b63 b66 Δ0 at84 at93 d84 d93
@@ -3593,9 +4427,14 @@ module _ (claims· : Claims) where
 
           d106 : Typed.Typed 𝓤 H A 𝓣 E G4 b76 Δ0 at106
           d106 = Typed.s-seq 𝓤 H A W 𝓣 E G4 G5 b0 b75 Δ0 (Typed.both s3) at105 (Plain.t-call-plain 𝓤 H A W 𝓣 0 ps·0 r·0 (claims· .0) (claims· .1) "region::span_of" (known .0) E (λ pos β. β) G4
-              (record { pos = 5; st = List.[]; d = 0; at = λ x. x }, tt) 10 List.[] (Call.sub-id 𝓤 H A W (G4 .slots))
-              ((Yields.yields-copy 𝓤 H A W (λ ρ. Unit) (Declared'.row Rect.the-type) Path'.refl (Copies.cStruct Rect.the-type Laws'8.the-laws Laws'8.the-copy .copy 𝓤 H A W) (Rows'.whole (Declared'.row
-              Rect.the-type)) (λ x. x) (λ x. x) (λ ρ told. Local.mem-whole 𝓤 H A W (Declared'.row Rect.the-type) ρ) λ ρ told. Local.whole-mem 𝓤 H A W (Declared'.row Rect.the-type) ρ, Path'.refl), tt)
+              (record { pos = 5; st = List.[]; d = 0; at = λ x. x }, tt) 10 List.[] (Call.sub-id 𝓤 H A W (G4 .slots)) (
+                (
+                  Yields.yields-copy 𝓤 H A W (λ ρ. Unit) (Declared'.row Rect.the-type) Path'.refl (Copies.cStruct Rect.the-type Laws'8.the-laws Laws'8.the-copy .copy 𝓤 H A W) (Rows'.whole (Declared'.row
+                      Rect.the-type)) (λ x. x) (λ x. x) (λ ρ told. Local.mem-whole 𝓤 H A W (Declared'.row Rect.the-type) ρ) λ ρ told. Local.whole-mem 𝓤 H A W (Declared'.row Rect.the-type) ρ,
+                  Path'.refl,
+                ),
+                tt,
+              )
               (Reads'.room-gone 𝓤 H A y3) tt Path'.refl) d105
 
           d107 : Typed.Typed 𝓤 H A 𝓣 E G3 b76 Δ0 at107
@@ -3618,27 +4457,78 @@ module _ (claims· : Claims) where
 
       module _ (κs : Lifetimes.Lfts 4) where
         pub record Args : Type 0 where
-          pub camera : Kinds.Den {n = 4} κs (Value.pVal record
-              { ty = Declared.row Camera.the-type; one = Path'.refl; val = Laws'12.val Camera.the-type Laws'4.the-laws; tells = Laws'12.tells Camera.the-type Laws'4.the-laws; still = Laws'12.still
-              Camera.the-type Laws'4.the-copy Exit.yes; row = Rows'.whole (Declared.row Camera.the-type); rd = λ x. x; mk = λ x. x; } λ M 𝓤 H A W. record
-              { copies = Laws'12.copy Camera.the-type Laws'4.the-copy 𝓤 H A W; lawful = Laws'12.lawful Camera.the-type Laws'4.the-laws 𝓤 H A W tt; makes = Laws'12.makes Camera.the-type Laws'4.the-plain 𝓤
-              H A; in-mem = Local.mem-whole 𝓤 H A W (Declared.row Camera.the-type); of-mem = Local.whole-mem 𝓤 H A W (Declared.row Camera.the-type); })
-          pub entries : Kinds.Den {n = 4} κs (Value.pVal record
-              { ty = Declared'.row Entries.the-type; one = Path'.refl; val = Laws'14.val Entries.the-type Laws'5.the-laws; tells = Laws'14.tells Entries.the-type Laws'5.the-laws; still = Laws'14.still
-              Entries.the-type Laws'5.the-copy Exit.yes; row = Rows'.whole (Declared'.row Entries.the-type); rd = λ x. x; mk = λ x. x; } λ M 𝓤 H A W. record
-              { copies = Laws'14.copy Entries.the-type Laws'5.the-copy 𝓤 H A W; lawful = Laws'14.lawful Entries.the-type Laws'5.the-laws 𝓤 H A W; makes = Laws'14.makes Entries.the-type Laws'5.the-plain 𝓤
-              H A; in-mem = Local.mem-whole 𝓤 H A W (Declared'.row Entries.the-type); of-mem = Local.whole-mem 𝓤 H A W (Declared'.row Entries.the-type); })
+          pub camera : Kinds.Den {n = 4} κs (Value.pVal record {
+            ty = Declared.row Camera.the-type;
+            one = Path'.refl;
+            val = Laws'12.val Camera.the-type Laws'4.the-laws;
+            tells = Laws'12.tells Camera.the-type Laws'4.the-laws;
+            still = Laws'12.still
+                Camera.the-type Laws'4.the-copy Exit.yes;
+            row = Rows'.whole (Declared.row Camera.the-type);
+            rd = λ x. x;
+            mk = λ x. x;
+          } λ M 𝓤 H A W. record {
+            copies = Laws'12.copy Camera.the-type Laws'4.the-copy 𝓤 H A W;
+            lawful = Laws'12.lawful Camera.the-type Laws'4.the-laws 𝓤 H A W tt;
+            makes = Laws'12.makes Camera.the-type Laws'4.the-plain 𝓤
+                H A;
+            in-mem = Local.mem-whole 𝓤 H A W (Declared.row Camera.the-type);
+            of-mem = Local.whole-mem 𝓤 H A W (Declared.row Camera.the-type);
+          })
+          pub entries : Kinds.Den {n = 4} κs (Value.pVal record {
+            ty = Declared'.row Entries.the-type;
+            one = Path'.refl;
+            val = Laws'14.val Entries.the-type Laws'5.the-laws;
+            tells = Laws'14.tells Entries.the-type Laws'5.the-laws;
+            still = Laws'14.still
+                Entries.the-type Laws'5.the-copy Exit.yes;
+            row = Rows'.whole (Declared'.row Entries.the-type);
+            rd = λ x. x;
+            mk = λ x. x;
+          } λ M 𝓤 H A W. record {
+            copies = Laws'14.copy Entries.the-type Laws'5.the-copy 𝓤 H A W;
+            lawful = Laws'14.lawful Entries.the-type Laws'5.the-laws 𝓤 H A W;
+            makes = Laws'14.makes Entries.the-type Laws'5.the-plain 𝓤
+                H A;
+            in-mem = Local.mem-whole 𝓤 H A W (Declared'.row Entries.the-type);
+            of-mem = Local.whole-mem 𝓤 H A W (Declared'.row Entries.the-type);
+          })
           pub d : Kinds.Den {n = 4} κs (ShrSlice.pShrS (Referent.rtF (Referent.fInt Syntax.w8)) 0 tt)
-          pub h : Kinds.Den {n = 4} κs (Value.pVal record
-              { ty = Declared'.row FujiHeader.the-type; one = Path'.refl; val = Laws'14.val FujiHeader.the-type Laws'10.the-laws; tells = Laws'14.tells FujiHeader.the-type Laws'10.the-laws; still =
-              Laws'14.still FujiHeader.the-type Laws'10.the-copy Exit.yes; row = Rows'.whole (Declared'.row FujiHeader.the-type); rd = λ x. x; mk = λ x. x; } λ M 𝓤 H A W. record
-              { copies = Laws'14.copy FujiHeader.the-type Laws'10.the-copy 𝓤 H A W; lawful = Laws'14.lawful FujiHeader.the-type Laws'10.the-laws 𝓤 H A W; makes = Laws'14.makes FujiHeader.the-type
-              Laws'10.the-plain 𝓤 H A; in-mem = Local.mem-whole 𝓤 H A W (Declared'.row FujiHeader.the-type); of-mem = Local.whole-mem 𝓤 H A W (Declared'.row FujiHeader.the-type); })
-          pub r : Kinds.Den {n = 4} κs (Value.pVal record
-              { ty = Declared'.row Rect.the-type; one = Path'.refl; val = Laws'14.val Rect.the-type Laws'8.the-laws; tells = Laws'14.tells Rect.the-type Laws'8.the-laws; still = Laws'14.still
-              Rect.the-type Laws'8.the-copy Exit.yes; row = Rows'.whole (Declared'.row Rect.the-type); rd = λ x. x; mk = λ x. x; } λ M 𝓤 H A W. record
-              { copies = Laws'14.copy Rect.the-type Laws'8.the-copy 𝓤 H A W; lawful = Laws'14.lawful Rect.the-type Laws'8.the-laws 𝓤 H A W; makes = Laws'14.makes Rect.the-type Laws'8.the-plain 𝓤 H A;
-              in-mem = Local.mem-whole 𝓤 H A W (Declared'.row Rect.the-type); of-mem = Local.whole-mem 𝓤 H A W (Declared'.row Rect.the-type); })
+          pub h : Kinds.Den {n = 4} κs (Value.pVal record {
+            ty = Declared'.row FujiHeader.the-type;
+            one = Path'.refl;
+            val = Laws'14.val FujiHeader.the-type Laws'10.the-laws;
+            tells = Laws'14.tells FujiHeader.the-type Laws'10.the-laws;
+            still =
+                Laws'14.still FujiHeader.the-type Laws'10.the-copy Exit.yes;
+            row = Rows'.whole (Declared'.row FujiHeader.the-type);
+            rd = λ x. x;
+            mk = λ x. x;
+          } λ M 𝓤 H A W. record {
+            copies = Laws'14.copy FujiHeader.the-type Laws'10.the-copy 𝓤 H A W;
+            lawful = Laws'14.lawful FujiHeader.the-type Laws'10.the-laws 𝓤 H A W;
+            makes = Laws'14.makes FujiHeader.the-type
+                Laws'10.the-plain 𝓤 H A;
+            in-mem = Local.mem-whole 𝓤 H A W (Declared'.row FujiHeader.the-type);
+            of-mem = Local.whole-mem 𝓤 H A W (Declared'.row FujiHeader.the-type);
+          })
+          pub r : Kinds.Den {n = 4} κs (Value.pVal record {
+            ty = Declared'.row Rect.the-type;
+            one = Path'.refl;
+            val = Laws'14.val Rect.the-type Laws'8.the-laws;
+            tells = Laws'14.tells Rect.the-type Laws'8.the-laws;
+            still = Laws'14.still
+                Rect.the-type Laws'8.the-copy Exit.yes;
+            row = Rows'.whole (Declared'.row Rect.the-type);
+            rd = λ x. x;
+            mk = λ x. x;
+          } λ M 𝓤 H A W. record {
+            copies = Laws'14.copy Rect.the-type Laws'8.the-copy 𝓤 H A W;
+            lawful = Laws'14.lawful Rect.the-type Laws'8.the-laws 𝓤 H A W;
+            makes = Laws'14.makes Rect.the-type Laws'8.the-plain 𝓤 H A;
+            in-mem = Local.mem-whole 𝓤 H A W (Declared'.row Rect.the-type);
+            of-mem = Local.whole-mem 𝓤 H A W (Declared'.row Rect.the-type);
+          })
           pub tile : Kinds.Den {n = 4} κs (Array.pArr (Array.eInt Syntax.w8) (Array.eInt-laws Syntax.w8) 36)
           pub image : Kinds.Den {n = 4} κs (MutSlice.pMutS (Referent.rtF (Referent.fInt Syntax.w16)) 1 tt)
           pub lines : Kinds.Den {n = 4} κs (MutSlice.pMutS (Referent.rtF (Referent.fInt Syntax.w16)) 2 tt)
@@ -3651,9 +4541,12 @@ module _ (claims· : Claims) where
       m0 = λ κs args. (tt, Enter.partsP κs 1 ps xs (dens κs args))
 
       abbrev W0 : (κs : Lifetimes.Lfts 4) → (args : Args κs) → Typed.Want O0
-      W0 = λ κs args.
-          (λ u. ⊥, tt, λ u. Enter.Fixs κs 1 ps xs (dens κs args) (u .1) × Post· κs (dens κs args) (Function.resV r κs (u .0)) (Clauses.atExit (Kinds.endedOf 4 ps r) κs (dens κs args) (Enter.lastsP κs 1 ps
-          xs (dens κs args) (u .1))))
+      W0 = λ κs args. (
+        λ u. ⊥,
+        tt,
+        λ u. Enter.Fixs κs 1 ps xs (dens κs args) (u .1) × Post· κs (dens κs args) (Function.resV r κs (u .0)) (Clauses.atExit (Kinds.endedOf 4 ps r) κs (dens κs args) (Enter.lastsP κs 1 ps
+            xs (dens κs args) (u .1))),
+      )
 
       pub record Start : Type 0 where
         pub κs : Lifetimes.Lfts 4
@@ -3804,16 +4697,25 @@ module _ (claims· : Claims) where
           (15, Rows'.whole (Declared'.row Entries.the-type)) held (Row.setRow 9 (9, Mut.mslice (Element.type) (Syntax.tyRef (Syntax.named 3) Syntax.mut Element.behind) 3) (Row.setRow 8
           (8, Mut.mslice (Referent.rtF (Referent.fInt Syntax.w16)) (Syntax.tyRef (Syntax.named 2) Syntax.mut (Syntax.tyInt Syntax.w16)) 2) (Row.setRow 7
           (7, Mut.mslice (Referent.rtF (Referent.fInt Syntax.w16)) (Syntax.tyRef (Syntax.named 1) Syntax.mut (Syntax.tyInt Syntax.w16)) 1) (T18 .locals)))) (Row.set 9
-          (9, Mut.mslice (Element.type) (Syntax.tyRef (Syntax.named 3) Syntax.mut Element.behind) 3) record
-          { ptr = Row.get 9 (T18 .locals) (m16 (before .before) (After-xtrans-places·gave before)) .ptr; name = Row.get 9 (T18 .locals) (m16 (before .before) (After-xtrans-places·gave before)) .name; now
-          = rs; } (Row.setRow 8 (8, Mut.mslice (Referent.rtF (Referent.fInt Syntax.w16)) (Syntax.tyRef (Syntax.named 2) Syntax.mut (Syntax.tyInt Syntax.w16)) 2) (Row.setRow 7
+          (9, Mut.mslice (Element.type) (Syntax.tyRef (Syntax.named 3) Syntax.mut Element.behind) 3) record {
+            ptr = Row.get 9 (T18 .locals) (m16 (before .before) (After-xtrans-places·gave before)) .ptr;
+            name = Row.get 9 (T18 .locals) (m16 (before .before) (After-xtrans-places·gave before)) .name;
+            now
+                = rs;
+          } (Row.setRow 8 (8, Mut.mslice (Referent.rtF (Referent.fInt Syntax.w16)) (Syntax.tyRef (Syntax.named 2) Syntax.mut (Syntax.tyInt Syntax.w16)) 2) (Row.setRow 7
           (7, Mut.mslice (Referent.rtF (Referent.fInt Syntax.w16)) (Syntax.tyRef (Syntax.named 1) Syntax.mut (Syntax.tyInt Syntax.w16)) 1) (T18 .locals))) (Row.set 8
-          (8, Mut.mslice (Referent.rtF (Referent.fInt Syntax.w16)) (Syntax.tyRef (Syntax.named 2) Syntax.mut (Syntax.tyInt Syntax.w16)) 2) record
-          { ptr = Row.get 8 (T18 .locals) (m16 (before .before) (After-xtrans-places·gave before)) .ptr; name = Row.get 8 (T18 .locals) (m16 (before .before) (After-xtrans-places·gave before)) .name; now
-          = lines; } (Row.setRow 7 (7, Mut.mslice (Referent.rtF (Referent.fInt Syntax.w16)) (Syntax.tyRef (Syntax.named 1) Syntax.mut (Syntax.tyInt Syntax.w16)) 1) (T18 .locals)) (Row.set 7
-          (7, Mut.mslice (Referent.rtF (Referent.fInt Syntax.w16)) (Syntax.tyRef (Syntax.named 1) Syntax.mut (Syntax.tyInt Syntax.w16)) 1) record
-          { ptr = Row.get 7 (T18 .locals) (m16 (before .before) (After-xtrans-places·gave before)) .ptr; name = Row.get 7 (T18 .locals) (m16 (before .before) (After-xtrans-places·gave before)) .name; now
-          = image; } (T18 .locals) (m16 (before .before) (After-xtrans-places·gave before)))))))
+          (8, Mut.mslice (Referent.rtF (Referent.fInt Syntax.w16)) (Syntax.tyRef (Syntax.named 2) Syntax.mut (Syntax.tyInt Syntax.w16)) 2) record {
+            ptr = Row.get 8 (T18 .locals) (m16 (before .before) (After-xtrans-places·gave before)) .ptr;
+            name = Row.get 8 (T18 .locals) (m16 (before .before) (After-xtrans-places·gave before)) .name;
+            now
+                = lines;
+          } (Row.setRow 7 (7, Mut.mslice (Referent.rtF (Referent.fInt Syntax.w16)) (Syntax.tyRef (Syntax.named 1) Syntax.mut (Syntax.tyInt Syntax.w16)) 1) (T18 .locals)) (Row.set 7
+          (7, Mut.mslice (Referent.rtF (Referent.fInt Syntax.w16)) (Syntax.tyRef (Syntax.named 1) Syntax.mut (Syntax.tyInt Syntax.w16)) 1) record {
+            ptr = Row.get 7 (T18 .locals) (m16 (before .before) (After-xtrans-places·gave before)) .ptr;
+            name = Row.get 7 (T18 .locals) (m16 (before .before) (After-xtrans-places·gave before)) .name;
+            now
+                = image;
+          } (T18 .locals) (m16 (before .before) (After-xtrans-places·gave before)))))))
 
       abbrev W3 : (before : After-xtrans-places) → (image : List.List (Referent.rtF (Referent.fInt Syntax.w16) .Denot)) → (lines : List.List (Referent.rtF (Referent.fInt Syntax.w16) .Denot)) → (rs :
           List.List (Element.type .Denot)) → (held : Rows'.whole (Declared'.row Entries.the-type) .Mod) → (answer : Rows'.whole (Declared.row Decoded.the-type) .Mod) → (b : Rows'.sc-here (Row.sInt
@@ -3924,7 +4826,7 @@ module _ (claims· : Claims) where
       module _ (before· : After-form-of) where
         abbrev pub After-block-bytes·own : Type 0
         After-block-bytes·own = Called.Called ps·3 r·3 (claims· .7) T28
-            (record { pos = 3; ty = Syntax.tyRef (Syntax.named 0) Syntax.imm (Syntax.tyInt Syntax.w8); ref = λ x. x; }, (Num.vAt 17 λ x. x, tt)) (m26 (before· .before) (After-form-of·gave before·))
+            (record { pos = 3; ty = Syntax.tyRef (Syntax.named 0) Syntax.imm (Syntax.tyInt Syntax.w8); ref = λ x. x }, (Num.vAt 17 λ x. x, tt)) (m26 (before· .before) (After-form-of·gave before·))
 
       pub record After-block-bytes : Type 0 where
         pub before : After-form-of
@@ -3932,7 +4834,7 @@ module _ (claims· : Claims) where
 
       abbrev pub After-block-bytes·gave : (c : After-block-bytes) → s25 .gives (m26 (c .before .before) (After-form-of·gave (c .before)))
       After-block-bytes·gave = λ c. Called.given ps·3 r·3 (claims· .7) T28
-          (record { pos = 3; ty = Syntax.tyRef (Syntax.named 0) Syntax.imm (Syntax.tyInt Syntax.w8); ref = λ x. x; }, (Num.vAt 17 λ x. x, tt)) (m26 (c .before .before) (After-form-of·gave (c .before))) (c
+          (record { pos = 3; ty = Syntax.tyRef (Syntax.named 0) Syntax.imm (Syntax.tyInt Syntax.w8); ref = λ x. x }, (Num.vAt 17 λ x. x, tt)) (m26 (c .before .before) (After-form-of·gave (c .before))) (c
           .block-bytes)
 
       abbrev pub Need-base-row-requires : Type 0
@@ -3944,7 +4846,7 @@ module _ (claims· : Claims) where
       module _ (before· : After-block-bytes) where
         abbrev pub After-base-row·own : Type 0
         After-base-row·own = Called.Called ps·4 r·4 (claims· .9) T29
-            (record { pos = 3; ty = Syntax.tyRef (Syntax.named 0) Syntax.imm (Syntax.tyInt Syntax.w8); ref = λ x. x; }, (Num.vAt 17 λ x. x, tt)) (m27 (before· .before) (After-block-bytes·gave before·))
+            (record { pos = 3; ty = Syntax.tyRef (Syntax.named 0) Syntax.imm (Syntax.tyInt Syntax.w8); ref = λ x. x }, (Num.vAt 17 λ x. x, tt)) (m27 (before· .before) (After-block-bytes·gave before·))
 
       pub record After-base-row : Type 0 where
         pub before : After-block-bytes
@@ -3952,7 +4854,7 @@ module _ (claims· : Claims) where
 
       abbrev pub After-base-row·gave : (c : After-base-row) → s26 .gives (m27 (c .before .before) (After-block-bytes·gave (c .before)))
       After-base-row·gave = λ c. Called.given ps·4 r·4 (claims· .9) T29
-          (record { pos = 3; ty = Syntax.tyRef (Syntax.named 0) Syntax.imm (Syntax.tyInt Syntax.w8); ref = λ x. x; }, (Num.vAt 17 λ x. x, tt)) (m27 (c .before .before) (After-block-bytes·gave (c
+          (record { pos = 3; ty = Syntax.tyRef (Syntax.named 0) Syntax.imm (Syntax.tyInt Syntax.w8); ref = λ x. x }, (Num.vAt 17 λ x. x, tt)) (m27 (c .before .before) (After-block-bytes·gave (c
           .before))) (c .base-row)
 
       abbrev pub Need-part-requires : Type 0
@@ -3981,10 +4883,13 @@ module _ (claims· : Claims) where
 
       module _ (before· : After-part) where
         abbrev pub After-take-lines·own : Type 0
-        After-take-lines·own = Called.Called ps·6 r·6 (claims· .13) T31
-            (record { pos = 1; st = List.[]; d = 0; at = λ x. x },
-            (record { pos = 15; st = List.[]; d = 0; at = λ x. x },
-            (Num.vAt 13 λ x. x, (record { pos = 20; ty = Syntax.tyRef Syntax.erased Syntax.imm (Syntax.tyInt Syntax.w8); ref = λ x. x; }, (Num.vAt 11 λ x. x, tt))))) (m29 (before· .before)
+        After-take-lines·own = Called.Called ps·6 r·6 (claims· .13) T31 (
+          record { pos = 1; st = List.[]; d = 0; at = λ x. x },
+          (
+            record { pos = 15; st = List.[]; d = 0; at = λ x. x },
+            (Num.vAt 13 λ x. x, (record { pos = 20; ty = Syntax.tyRef Syntax.erased Syntax.imm (Syntax.tyInt Syntax.w8); ref = λ x. x }, (Num.vAt 11 λ x. x, tt))),
+          ),
+        ) (m29 (before· .before)
             (After-part·gave before·))
 
       pub record After-take-lines : Type 0 where
@@ -3992,10 +4897,13 @@ module _ (claims· : Claims) where
         pub take-lines : After-take-lines·own before
 
       abbrev pub After-take-lines·gave : (c : After-take-lines) → s28 .gives (m29 (c .before .before) (After-part·gave (c .before)))
-      After-take-lines·gave = λ c. Called.given ps·6 r·6 (claims· .13) T31
-          (record { pos = 1; st = List.[]; d = 0; at = λ x. x },
-          (record { pos = 15; st = List.[]; d = 0; at = λ x. x },
-          (Num.vAt 13 λ x. x, (record { pos = 20; ty = Syntax.tyRef Syntax.erased Syntax.imm (Syntax.tyInt Syntax.w8); ref = λ x. x; }, (Num.vAt 11 λ x. x, tt))))) (m29 (c .before .before)
+      After-take-lines·gave = λ c. Called.given ps·6 r·6 (claims· .13) T31 (
+        record { pos = 1; st = List.[]; d = 0; at = λ x. x },
+        (
+          record { pos = 15; st = List.[]; d = 0; at = λ x. x },
+          (Num.vAt 13 λ x. x, (record { pos = 20; ty = Syntax.tyRef Syntax.erased Syntax.imm (Syntax.tyInt Syntax.w8); ref = λ x. x }, (Num.vAt 11 λ x. x, tt))),
+        ),
+      ) (m29 (c .before .before)
           (After-part·gave (c .before))) (c .take-lines)
 
       abbrev pub m31 : (before : After-part) → (given : s28 .gives (m29 (before .before) (After-part·gave before))) → Typed.Mo T33
@@ -4062,17 +4970,34 @@ module _ (claims· : Claims) where
 
       module _ (before· : After-places) where
         abbrev pub After-walk·own : Type 0
-        After-walk·own = Called.Called ps·7 r·7 (claims· .15) T44
-            (record { pos = 19; ty = Syntax.tyRef Syntax.erased Syntax.imm (Syntax.tyInt Syntax.w8); ref = λ x. x; },
-            (record { pos = 20; ty = Syntax.tyRef Syntax.erased Syntax.imm (Syntax.tyInt Syntax.w8); ref = λ x. x; },
-            (record { pos = 30; ty = Syntax.tyRef Syntax.erased Syntax.mut (Syntax.tyInt Syntax.w16); ref = λ x. x; },
-            (record { pos = 32; ty = Syntax.tyRef Syntax.erased Syntax.mut Element.behind; ref = λ x. x; },
-            (record { pos = 34; ty = Syntax.tyRef Syntax.erased Syntax.mut (Syntax.tyInt Syntax.w16); ref = λ x. x; },
-            (record { pos = 18; st = List.[]; d = 0; at = λ x. x },
-            (record { pos = 35; ty = Syntax.tyRef Syntax.erased Syntax.imm (Syntax.tyArray (Syntax.tyInt Syntax.w16) 768); ref = λ x. x; },
-            (record { pos = 6; st = List.[]; d = 0; at = λ x. x },
-            (record { pos = 21; st = List.[]; d = 0; at = λ x. x },
-            (Num.vAt 23 λ x. x, (Bool.bLit Bool'.false, (record { pos = 22; st = List._∷_ (Syntax.field 1) List.[]; d = 8; at = λ x. Took.struct .as-values x .1 .0; }, tt)))))))))))) (m38 (before·
+        After-walk·own = Called.Called ps·7 r·7 (claims· .15) T44 (
+          record { pos = 19; ty = Syntax.tyRef Syntax.erased Syntax.imm (Syntax.tyInt Syntax.w8); ref = λ x. x },
+          (
+            record { pos = 20; ty = Syntax.tyRef Syntax.erased Syntax.imm (Syntax.tyInt Syntax.w8); ref = λ x. x },
+            (
+              record { pos = 30; ty = Syntax.tyRef Syntax.erased Syntax.mut (Syntax.tyInt Syntax.w16); ref = λ x. x },
+              (
+                record { pos = 32; ty = Syntax.tyRef Syntax.erased Syntax.mut Element.behind; ref = λ x. x },
+                (
+                  record { pos = 34; ty = Syntax.tyRef Syntax.erased Syntax.mut (Syntax.tyInt Syntax.w16); ref = λ x. x },
+                  (
+                    record { pos = 18; st = List.[]; d = 0; at = λ x. x },
+                    (
+                      record { pos = 35; ty = Syntax.tyRef Syntax.erased Syntax.imm (Syntax.tyArray (Syntax.tyInt Syntax.w16) 768); ref = λ x. x },
+                      (
+                        record { pos = 6; st = List.[]; d = 0; at = λ x. x },
+                        (
+                          record { pos = 21; st = List.[]; d = 0; at = λ x. x },
+                          (Num.vAt 23 λ x. x, (Bool.bLit Bool'.false, (record { pos = 22; st = List._∷_ (Syntax.field 1) List.[]; d = 8; at = λ x. Took.struct .as-values x .1 .0 }, tt))),
+                        ),
+                      ),
+                    ),
+                  ),
+                ),
+              ),
+            ),
+          ),
+        ) (m38 (before·
             .before) (before· .places .given))
 
       pub record After-walk : Type 0 where
@@ -4080,17 +5005,34 @@ module _ (claims· : Claims) where
         pub walk : After-walk·own before
 
       abbrev pub After-walk·gave : (c : After-walk) → s41 .gives (m38 (c .before .before) (c .before .places .given))
-      After-walk·gave = λ c. Called.given ps·7 r·7 (claims· .15) T44
-          (record { pos = 19; ty = Syntax.tyRef Syntax.erased Syntax.imm (Syntax.tyInt Syntax.w8); ref = λ x. x; },
-          (record { pos = 20; ty = Syntax.tyRef Syntax.erased Syntax.imm (Syntax.tyInt Syntax.w8); ref = λ x. x; },
-          (record { pos = 30; ty = Syntax.tyRef Syntax.erased Syntax.mut (Syntax.tyInt Syntax.w16); ref = λ x. x; },
-          (record { pos = 32; ty = Syntax.tyRef Syntax.erased Syntax.mut Element.behind; ref = λ x. x; },
-          (record { pos = 34; ty = Syntax.tyRef Syntax.erased Syntax.mut (Syntax.tyInt Syntax.w16); ref = λ x. x; },
-          (record { pos = 18; st = List.[]; d = 0; at = λ x. x },
-          (record { pos = 35; ty = Syntax.tyRef Syntax.erased Syntax.imm (Syntax.tyArray (Syntax.tyInt Syntax.w16) 768); ref = λ x. x; },
-          (record { pos = 6; st = List.[]; d = 0; at = λ x. x },
-          (record { pos = 21; st = List.[]; d = 0; at = λ x. x },
-          (Num.vAt 23 λ x. x, (Bool.bLit Bool'.false, (record { pos = 22; st = List._∷_ (Syntax.field 1) List.[]; d = 8; at = λ x. Took.struct .as-values x .1 .0; }, tt)))))))))))) (m38 (c .before
+      After-walk·gave = λ c. Called.given ps·7 r·7 (claims· .15) T44 (
+        record { pos = 19; ty = Syntax.tyRef Syntax.erased Syntax.imm (Syntax.tyInt Syntax.w8); ref = λ x. x },
+        (
+          record { pos = 20; ty = Syntax.tyRef Syntax.erased Syntax.imm (Syntax.tyInt Syntax.w8); ref = λ x. x },
+          (
+            record { pos = 30; ty = Syntax.tyRef Syntax.erased Syntax.mut (Syntax.tyInt Syntax.w16); ref = λ x. x },
+            (
+              record { pos = 32; ty = Syntax.tyRef Syntax.erased Syntax.mut Element.behind; ref = λ x. x },
+              (
+                record { pos = 34; ty = Syntax.tyRef Syntax.erased Syntax.mut (Syntax.tyInt Syntax.w16); ref = λ x. x },
+                (
+                  record { pos = 18; st = List.[]; d = 0; at = λ x. x },
+                  (
+                    record { pos = 35; ty = Syntax.tyRef Syntax.erased Syntax.imm (Syntax.tyArray (Syntax.tyInt Syntax.w16) 768); ref = λ x. x },
+                    (
+                      record { pos = 6; st = List.[]; d = 0; at = λ x. x },
+                      (
+                        record { pos = 21; st = List.[]; d = 0; at = λ x. x },
+                        (Num.vAt 23 λ x. x, (Bool.bLit Bool'.false, (record { pos = 22; st = List._∷_ (Syntax.field 1) List.[]; d = 8; at = λ x. Took.struct .as-values x .1 .0 }, tt))),
+                      ),
+                    ),
+                  ),
+                ),
+              ),
+            ),
+          ),
+        ),
+      ) (m38 (c .before
           .before) (c .before .places .given)) (c .walk)
 
       abbrev pub m40 : (before : After-places) → (given : s41 .gives (m38 (before .before) (before .places .given))) → Typed.Mo T46
@@ -4193,10 +5135,13 @@ module _ (claims· : Claims) where
 
       module _ (before· : After-lines-read) where
         abbrev pub After-after-block·own : Type 0
-        After-after-block·own = Called.Called ps·9 r·9 (claims· .19) T65
-            (record { pos = 1; st = List.[]; d = 0; at = λ x. x },
-            (record { pos = 15; st = List.[]; d = 0; at = λ x. x },
-            (Num.vAt 13 λ x. x, (record { pos = 20; ty = Syntax.tyRef Syntax.erased Syntax.imm (Syntax.tyInt Syntax.w8); ref = λ x. x; }, (Num.vAt 23 λ x. x, (Num.vAt 25 λ x. x, tt)))))) (m51 (before·
+        After-after-block·own = Called.Called ps·9 r·9 (claims· .19) T65 (
+          record { pos = 1; st = List.[]; d = 0; at = λ x. x },
+          (
+            record { pos = 15; st = List.[]; d = 0; at = λ x. x },
+            (Num.vAt 13 λ x. x, (record { pos = 20; ty = Syntax.tyRef Syntax.erased Syntax.imm (Syntax.tyInt Syntax.w8); ref = λ x. x }, (Num.vAt 23 λ x. x, (Num.vAt 25 λ x. x, tt)))),
+          ),
+        ) (m51 (before·
             .before) (After-lines-read·gave before·))
 
       pub record After-after-block : Type 0 where
@@ -4204,10 +5149,13 @@ module _ (claims· : Claims) where
         pub after-block : After-after-block·own before
 
       abbrev pub After-after-block·gave : (c : After-after-block) → s62 .gives (m51 (c .before .before) (After-lines-read·gave (c .before)))
-      After-after-block·gave = λ c. Called.given ps·9 r·9 (claims· .19) T65
-          (record { pos = 1; st = List.[]; d = 0; at = λ x. x },
-          (record { pos = 15; st = List.[]; d = 0; at = λ x. x },
-          (Num.vAt 13 λ x. x, (record { pos = 20; ty = Syntax.tyRef Syntax.erased Syntax.imm (Syntax.tyInt Syntax.w8); ref = λ x. x; }, (Num.vAt 23 λ x. x, (Num.vAt 25 λ x. x, tt)))))) (m51 (c .before
+      After-after-block·gave = λ c. Called.given ps·9 r·9 (claims· .19) T65 (
+        record { pos = 1; st = List.[]; d = 0; at = λ x. x },
+        (
+          record { pos = 15; st = List.[]; d = 0; at = λ x. x },
+          (Num.vAt 13 λ x. x, (record { pos = 20; ty = Syntax.tyRef Syntax.erased Syntax.imm (Syntax.tyInt Syntax.w8); ref = λ x. x }, (Num.vAt 23 λ x. x, (Num.vAt 25 λ x. x, tt)))),
+        ),
+      ) (m51 (c .before
           .before) (After-lines-read·gave (c .before))) (c .after-block)
 
       abbrev pub m53 : (before : After-lines-read) → (given : s62 .gives (m51 (before .before) (After-lines-read·gave before))) → Typed.Mo T67
@@ -4560,22 +5508,43 @@ module _ (claims· : Claims) where
           Need-same-length-6) (returns-2 : Need-returns-2) where
         lay17 : (c : After-loop) → at93 (W0 (c .before .before .before .before .before .before .before .before .κs) (c .before .before .before .before .before .before .before .before .args)) (m25 (c
             .before))
-        lay17 = λ c.
-            ((tt,
-            (tt,
-            (Path'.refl,
-            (tt,
-            (tt,
-            (tt,
-            (MutSlice.fix-len (Row.get 7 (T104 .locals) (m89 (c .before)) .ptr) (Row.get 7 (T104 .locals) (m89 (c .before)) .name) (Row.get 7 (T104 .locals) (m89 (c .before)) .now) (dens (c .before
-            .before .before .before .before .before .before .before .κs) (c .before .before .before .before .before .before .before .before .args) .1 .1 .1 .1 .1 .1 .0 .now) (same-length-4 record
-            { before = c .before; loop-test = c .loop-test }),
-            (MutSlice.fix-len (Row.get 8 (T104 .locals) (m89 (c .before)) .ptr) (Row.get 8 (T104 .locals) (m89 (c .before)) .name) (Row.get 8 (T104 .locals) (m89 (c .before)) .now) (dens (c .before
-            .before .before .before .before .before .before .before .κs) (c .before .before .before .before .before .before .before .before .args) .1 .1 .1 .1 .1 .1 .1 .0 .now) (same-length-5 record
-            { before = c .before; loop-test = c .loop-test }),
-            (MutSlice.fix-len (Row.get 9 (T104 .locals) (m89 (c .before)) .ptr) (Row.get 9 (T104 .locals) (m89 (c .before)) .name) (Row.get 9 (T104 .locals) (m89 (c .before)) .now) (dens (c .before
-            .before .before .before .before .before .before .before .κs) (c .before .before .before .before .before .before .before .before .args) .1 .1 .1 .1 .1 .1 .1 .1 .0 .now) (same-length-6 record
-            { before = c .before; loop-test = c .loop-test }), tt))))))))), returns-2 record { before = c .before; loop-test = c .loop-test })
+        lay17 = λ c. (
+          (
+            tt,
+            (
+              tt,
+              (
+                Path'.refl,
+                (
+                  tt,
+                  (
+                    tt,
+                    (
+                      tt,
+                      (
+                        MutSlice.fix-len (Row.get 7 (T104 .locals) (m89 (c .before)) .ptr) (Row.get 7 (T104 .locals) (m89 (c .before)) .name) (Row.get 7 (T104 .locals) (m89 (c .before)) .now) (dens (c .before
+                            .before .before .before .before .before .before .before .κs) (c .before .before .before .before .before .before .before .before .args) .1 .1 .1 .1 .1 .1 .0 .now) (same-length-4 record
+                            { before = c .before; loop-test = c .loop-test }),
+                        (
+                          MutSlice.fix-len (Row.get 8 (T104 .locals) (m89 (c .before)) .ptr) (Row.get 8 (T104 .locals) (m89 (c .before)) .name) (Row.get 8 (T104 .locals) (m89 (c .before)) .now) (dens (c .before
+                              .before .before .before .before .before .before .before .κs) (c .before .before .before .before .before .before .before .before .args) .1 .1 .1 .1 .1 .1 .1 .0 .now) (same-length-5 record
+                              { before = c .before; loop-test = c .loop-test }),
+                          (
+                            MutSlice.fix-len (Row.get 9 (T104 .locals) (m89 (c .before)) .ptr) (Row.get 9 (T104 .locals) (m89 (c .before)) .name) (Row.get 9 (T104 .locals) (m89 (c .before)) .now) (dens (c .before
+                                .before .before .before .before .before .before .before .κs) (c .before .before .before .before .before .before .before .before .args) .1 .1 .1 .1 .1 .1 .1 .1 .0 .now) (same-length-6 record
+                                { before = c .before; loop-test = c .loop-test }),
+                            tt,
+                          ),
+                        ),
+                      ),
+                    ),
+                  ),
+                ),
+              ),
+            ),
+          ),
+          returns-2 record { before = c .before; loop-test = c .loop-test },
+        )
 
         lay16 : (c : After-judged) → at36 (W3 (c .before .before .before .before .before .before .before .before .before .before .before .before .before .before .before .before .before .before .before
             .before .before .before) (c .before .before .before .before .before .before .before .before .before .before .before .before .before .before .before .before .before .before .before .before
@@ -4585,85 +5554,101 @@ module _ (claims· : Claims) where
             .before .before .before .before .before .before .before .before .before .before .before .before .before .before .before .before .before .before .before .before .before .loop .answer) (c
             .before .before .before .before .before .before .before .before .before .before .before .before .before .before .before .before .before .before .before .before .before .loop .b)) (m77 (c
             .before) (After-judged·gave c))
-        lay16 = λ c.
-            (add-b record { before = c .before; judged = c .judged },
-            (μ·0 (Row.get 1 (T18 .locals) (m16 (c .before .before .before .before .before .before .before .before .before .before .before .before .before .before .before .before .before .before .before
-            .before .before .before .before) (After-xtrans-places·gave (c .before .before .before .before .before .before .before .before .before .before .before .before .before .before .before .before
-            .before .before .before .before .before .before)))) (Row.get 3 (T18 .locals) (m16 (c .before .before .before .before .before .before .before .before .before .before .before .before .before
-            .before .before .before .before .before .before .before .before .before .before) (After-xtrans-places·gave (c .before .before .before .before .before .before .before .before .before .before
-            .before .before .before .before .before .before .before .before .before .before .before .before))) .now) (Row.get 4 (T18 .locals) (m16 (c .before .before .before .before .before .before
-            .before .before .before .before .before .before .before .before .before .before .before .before .before .before .before .before .before) (After-xtrans-places·gave (c .before .before .before
-            .before .before .before .before .before .before .before .before .before .before .before .before .before .before .before .before .before .before .before)))) (Row.get 5 (T18 .locals) (m16 (c
-            .before .before .before .before .before .before .before .before .before .before .before .before .before .before .before .before .before .before .before .before .before .before .before)
-            (After-xtrans-places·gave (c .before .before .before .before .before .before .before .before .before .before .before .before .before .before .before .before .before .before .before .before
-            .before .before)))) (Row.get 6 (T18 .locals) (m16 (c .before .before .before .before .before .before .before .before .before .before .before .before .before .before .before .before .before
-            .before .before .before .before .before .before) (After-xtrans-places·gave (c .before .before .before .before .before .before .before .before .before .before .before .before .before .before
-            .before .before .before .before .before .before .before .before)))) (Row.get 7 (T18 .locals) (m16 (c .before .before .before .before .before .before .before .before .before .before .before
-            .before .before .before .before .before .before .before .before .before .before .before .before) (After-xtrans-places·gave (c .before .before .before .before .before .before .before .before
-            .before .before .before .before .before .before .before .before .before .before .before .before .before .before))) .now) (Row.get 8 (T18 .locals) (m16 (c .before .before .before .before
-            .before .before .before .before .before .before .before .before .before .before .before .before .before .before .before .before .before .before .before) (After-xtrans-places·gave (c .before
-            .before .before .before .before .before .before .before .before .before .before .before .before .before .before .before .before .before .before .before .before .before))) .now) (Row.get 9 (T18
-            .locals) (m16 (c .before .before .before .before .before .before .before .before .before .before .before .before .before .before .before .before .before .before .before .before .before .before
-            .before) (After-xtrans-places·gave (c .before .before .before .before .before .before .before .before .before .before .before .before .before .before .before .before .before .before .before
-            .before .before .before))) .now) (Row.get 11 (T18 .locals) (m16 (c .before .before .before .before .before .before .before .before .before .before .before .before .before .before .before
-            .before .before .before .before .before .before .before .before) (After-xtrans-places·gave (c .before .before .before .before .before .before .before .before .before .before .before .before
-            .before .before .before .before .before .before .before .before .before .before)))) (Row.get 12 (T18 .locals) (m16 (c .before .before .before .before .before .before .before .before .before
-            .before .before .before .before .before .before .before .before .before .before .before .before .before .before) (After-xtrans-places·gave (c .before .before .before .before .before .before
-            .before .before .before .before .before .before .before .before .before .before .before .before .before .before .before .before)))) (Row.get 13 (T18 .locals) (m16 (c .before .before .before
-            .before .before .before .before .before .before .before .before .before .before .before .before .before .before .before .before .before .before .before .before) (After-xtrans-places·gave (c
-            .before .before .before .before .before .before .before .before .before .before .before .before .before .before .before .before .before .before .before .before .before .before)))) (Row.get 14
-            (T18 .locals) (m16 (c .before .before .before .before .before .before .before .before .before .before .before .before .before .before .before .before .before .before .before .before .before
-            .before .before) (After-xtrans-places·gave (c .before .before .before .before .before .before .before .before .before .before .before .before .before .before .before .before .before .before
-            .before .before .before .before)))) (Row.get 15 (T18 .locals) (m16 (c .before .before .before .before .before .before .before .before .before .before .before .before .before .before .before
-            .before .before .before .before .before .before .before .before) (After-xtrans-places·gave (c .before .before .before .before .before .before .before .before .before .before .before .before
-            .before .before .before .before .before .before .before .before .before .before)))) (Row.get 16 (T18 .locals) (m16 (c .before .before .before .before .before .before .before .before .before
-            .before .before .before .before .before .before .before .before .before .before .before .before .before .before) (After-xtrans-places·gave (c .before .before .before .before .before .before
-            .before .before .before .before .before .before .before .before .before .before .before .before .before .before .before .before)))) (Row.get 17 (T18 .locals) (m16 (c .before .before .before
-            .before .before .before .before .before .before .before .before .before .before .before .before .before .before .before .before .before .before .before .before) (After-xtrans-places·gave (c
-            .before .before .before .before .before .before .before .before .before .before .before .before .before .before .before .before .before .before .before .before .before .before)))) (Row.get 7
-            (T18 .locals) (m81 (c .before) (After-judged·gave c)) .now) (Row.get 8 (T18 .locals) (m81 (c .before) (After-judged·gave c)) .now) (Row.get 9 (T18 .locals) (m81 (c .before) (After-judged·gave
-            c)) .now) (Row.get 15 (T18 .locals) (m81 (c .before) (After-judged·gave c))) (Row.get 16 (T18 .locals) (m81 (c .before) (After-judged·gave c))) (Row.get 17 (T18 .locals) (m81 (c .before)
-            (After-judged·gave c))), loop-less record { before = c .before; judged = c .judged },
-            ((Row.get 7 (T18 .locals) (m81 (c .before) (After-judged·gave c)) .now, Row.get 8 (T18 .locals) (m81 (c .before) (After-judged·gave c)) .now, Row.get 9 (T18 .locals) (m81 (c .before)
-            (After-judged·gave c)) .now, Row.get 15 (T18 .locals) (m81 (c .before) (After-judged·gave c)), Row.get 16 (T18 .locals) (m81 (c .before) (After-judged·gave c)), Row.get 17 (T18 .locals) (m81
-            (c .before) (After-judged·gave c))), Path'.refl {a = m81 (c .before) (After-judged·gave c)}, loop-again record { before = c .before; judged = c .judged }, Path'.refl {a = μ·0 (Row.get 1 (T18
-            .locals) (m16 (c .before .before .before .before .before .before .before .before .before .before .before .before .before .before .before .before .before .before .before .before .before .before
-            .before) (After-xtrans-places·gave (c .before .before .before .before .before .before .before .before .before .before .before .before .before .before .before .before .before .before .before
-            .before .before .before)))) (Row.get 3 (T18 .locals) (m16 (c .before .before .before .before .before .before .before .before .before .before .before .before .before .before .before .before
-            .before .before .before .before .before .before .before) (After-xtrans-places·gave (c .before .before .before .before .before .before .before .before .before .before .before .before .before
-            .before .before .before .before .before .before .before .before .before))) .now) (Row.get 4 (T18 .locals) (m16 (c .before .before .before .before .before .before .before .before .before
-            .before .before .before .before .before .before .before .before .before .before .before .before .before .before) (After-xtrans-places·gave (c .before .before .before .before .before .before
-            .before .before .before .before .before .before .before .before .before .before .before .before .before .before .before .before)))) (Row.get 5 (T18 .locals) (m16 (c .before .before .before
-            .before .before .before .before .before .before .before .before .before .before .before .before .before .before .before .before .before .before .before .before) (After-xtrans-places·gave (c
-            .before .before .before .before .before .before .before .before .before .before .before .before .before .before .before .before .before .before .before .before .before .before)))) (Row.get 6
-            (T18 .locals) (m16 (c .before .before .before .before .before .before .before .before .before .before .before .before .before .before .before .before .before .before .before .before .before
-            .before .before) (After-xtrans-places·gave (c .before .before .before .before .before .before .before .before .before .before .before .before .before .before .before .before .before .before
-            .before .before .before .before)))) (Row.get 7 (T18 .locals) (m16 (c .before .before .before .before .before .before .before .before .before .before .before .before .before .before .before
-            .before .before .before .before .before .before .before .before) (After-xtrans-places·gave (c .before .before .before .before .before .before .before .before .before .before .before .before
-            .before .before .before .before .before .before .before .before .before .before))) .now) (Row.get 8 (T18 .locals) (m16 (c .before .before .before .before .before .before .before .before
-            .before .before .before .before .before .before .before .before .before .before .before .before .before .before .before) (After-xtrans-places·gave (c .before .before .before .before .before
-            .before .before .before .before .before .before .before .before .before .before .before .before .before .before .before .before .before))) .now) (Row.get 9 (T18 .locals) (m16 (c .before
-            .before .before .before .before .before .before .before .before .before .before .before .before .before .before .before .before .before .before .before .before .before .before)
-            (After-xtrans-places·gave (c .before .before .before .before .before .before .before .before .before .before .before .before .before .before .before .before .before .before .before .before
-            .before .before))) .now) (Row.get 11 (T18 .locals) (m16 (c .before .before .before .before .before .before .before .before .before .before .before .before .before .before .before .before
-            .before .before .before .before .before .before .before) (After-xtrans-places·gave (c .before .before .before .before .before .before .before .before .before .before .before .before .before
-            .before .before .before .before .before .before .before .before .before)))) (Row.get 12 (T18 .locals) (m16 (c .before .before .before .before .before .before .before .before .before .before
-            .before .before .before .before .before .before .before .before .before .before .before .before .before) (After-xtrans-places·gave (c .before .before .before .before .before .before .before
-            .before .before .before .before .before .before .before .before .before .before .before .before .before .before .before)))) (Row.get 13 (T18 .locals) (m16 (c .before .before .before .before
-            .before .before .before .before .before .before .before .before .before .before .before .before .before .before .before .before .before .before .before) (After-xtrans-places·gave (c .before
-            .before .before .before .before .before .before .before .before .before .before .before .before .before .before .before .before .before .before .before .before .before)))) (Row.get 14 (T18
-            .locals) (m16 (c .before .before .before .before .before .before .before .before .before .before .before .before .before .before .before .before .before .before .before .before .before .before
-            .before) (After-xtrans-places·gave (c .before .before .before .before .before .before .before .before .before .before .before .before .before .before .before .before .before .before .before
-            .before .before .before)))) (Row.get 15 (T18 .locals) (m16 (c .before .before .before .before .before .before .before .before .before .before .before .before .before .before .before .before
-            .before .before .before .before .before .before .before) (After-xtrans-places·gave (c .before .before .before .before .before .before .before .before .before .before .before .before .before
-            .before .before .before .before .before .before .before .before .before)))) (Row.get 16 (T18 .locals) (m16 (c .before .before .before .before .before .before .before .before .before .before
-            .before .before .before .before .before .before .before .before .before .before .before .before .before) (After-xtrans-places·gave (c .before .before .before .before .before .before .before
-            .before .before .before .before .before .before .before .before .before .before .before .before .before .before .before)))) (Row.get 17 (T18 .locals) (m16 (c .before .before .before .before
-            .before .before .before .before .before .before .before .before .before .before .before .before .before .before .before .before .before .before .before) (After-xtrans-places·gave (c .before
-            .before .before .before .before .before .before .before .before .before .before .before .before .before .before .before .before .before .before .before .before .before)))) (Row.get 7 (T18
-            .locals) (m81 (c .before) (After-judged·gave c)) .now) (Row.get 8 (T18 .locals) (m81 (c .before) (After-judged·gave c)) .now) (Row.get 9 (T18 .locals) (m81 (c .before) (After-judged·gave c))
-            .now) (Row.get 15 (T18 .locals) (m81 (c .before) (After-judged·gave c))) (Row.get 16 (T18 .locals) (m81 (c .before) (After-judged·gave c))) (Row.get 17 (T18 .locals) (m81 (c .before)
-            (After-judged·gave c)))})))
+        lay16 = λ c. (
+          add-b record { before = c .before; judged = c .judged },
+          (
+            μ·0 (Row.get 1 (T18 .locals) (m16 (c .before .before .before .before .before .before .before .before .before .before .before .before .before .before .before .before .before .before .before
+                .before .before .before .before) (After-xtrans-places·gave (c .before .before .before .before .before .before .before .before .before .before .before .before .before .before .before .before
+                .before .before .before .before .before .before)))) (Row.get 3 (T18 .locals) (m16 (c .before .before .before .before .before .before .before .before .before .before .before .before .before
+                .before .before .before .before .before .before .before .before .before .before) (After-xtrans-places·gave (c .before .before .before .before .before .before .before .before .before .before
+                .before .before .before .before .before .before .before .before .before .before .before .before))) .now) (Row.get 4 (T18 .locals) (m16 (c .before .before .before .before .before .before
+                .before .before .before .before .before .before .before .before .before .before .before .before .before .before .before .before .before) (After-xtrans-places·gave (c .before .before .before
+                .before .before .before .before .before .before .before .before .before .before .before .before .before .before .before .before .before .before .before)))) (Row.get 5 (T18 .locals) (m16 (c
+                .before .before .before .before .before .before .before .before .before .before .before .before .before .before .before .before .before .before .before .before .before .before .before)
+                (After-xtrans-places·gave (c .before .before .before .before .before .before .before .before .before .before .before .before .before .before .before .before .before .before .before .before
+                .before .before)))) (Row.get 6 (T18 .locals) (m16 (c .before .before .before .before .before .before .before .before .before .before .before .before .before .before .before .before .before
+                .before .before .before .before .before .before) (After-xtrans-places·gave (c .before .before .before .before .before .before .before .before .before .before .before .before .before .before
+                .before .before .before .before .before .before .before .before)))) (Row.get 7 (T18 .locals) (m16 (c .before .before .before .before .before .before .before .before .before .before .before
+                .before .before .before .before .before .before .before .before .before .before .before .before) (After-xtrans-places·gave (c .before .before .before .before .before .before .before .before
+                .before .before .before .before .before .before .before .before .before .before .before .before .before .before))) .now) (Row.get 8 (T18 .locals) (m16 (c .before .before .before .before
+                .before .before .before .before .before .before .before .before .before .before .before .before .before .before .before .before .before .before .before) (After-xtrans-places·gave (c .before
+                .before .before .before .before .before .before .before .before .before .before .before .before .before .before .before .before .before .before .before .before .before))) .now) (Row.get 9 (T18
+                .locals) (m16 (c .before .before .before .before .before .before .before .before .before .before .before .before .before .before .before .before .before .before .before .before .before .before
+                .before) (After-xtrans-places·gave (c .before .before .before .before .before .before .before .before .before .before .before .before .before .before .before .before .before .before .before
+                .before .before .before))) .now) (Row.get 11 (T18 .locals) (m16 (c .before .before .before .before .before .before .before .before .before .before .before .before .before .before .before
+                .before .before .before .before .before .before .before .before) (After-xtrans-places·gave (c .before .before .before .before .before .before .before .before .before .before .before .before
+                .before .before .before .before .before .before .before .before .before .before)))) (Row.get 12 (T18 .locals) (m16 (c .before .before .before .before .before .before .before .before .before
+                .before .before .before .before .before .before .before .before .before .before .before .before .before .before) (After-xtrans-places·gave (c .before .before .before .before .before .before
+                .before .before .before .before .before .before .before .before .before .before .before .before .before .before .before .before)))) (Row.get 13 (T18 .locals) (m16 (c .before .before .before
+                .before .before .before .before .before .before .before .before .before .before .before .before .before .before .before .before .before .before .before .before) (After-xtrans-places·gave (c
+                .before .before .before .before .before .before .before .before .before .before .before .before .before .before .before .before .before .before .before .before .before .before)))) (Row.get 14
+                (T18 .locals) (m16 (c .before .before .before .before .before .before .before .before .before .before .before .before .before .before .before .before .before .before .before .before .before
+                .before .before) (After-xtrans-places·gave (c .before .before .before .before .before .before .before .before .before .before .before .before .before .before .before .before .before .before
+                .before .before .before .before)))) (Row.get 15 (T18 .locals) (m16 (c .before .before .before .before .before .before .before .before .before .before .before .before .before .before .before
+                .before .before .before .before .before .before .before .before) (After-xtrans-places·gave (c .before .before .before .before .before .before .before .before .before .before .before .before
+                .before .before .before .before .before .before .before .before .before .before)))) (Row.get 16 (T18 .locals) (m16 (c .before .before .before .before .before .before .before .before .before
+                .before .before .before .before .before .before .before .before .before .before .before .before .before .before) (After-xtrans-places·gave (c .before .before .before .before .before .before
+                .before .before .before .before .before .before .before .before .before .before .before .before .before .before .before .before)))) (Row.get 17 (T18 .locals) (m16 (c .before .before .before
+                .before .before .before .before .before .before .before .before .before .before .before .before .before .before .before .before .before .before .before .before) (After-xtrans-places·gave (c
+                .before .before .before .before .before .before .before .before .before .before .before .before .before .before .before .before .before .before .before .before .before .before)))) (Row.get 7
+                (T18 .locals) (m81 (c .before) (After-judged·gave c)) .now) (Row.get 8 (T18 .locals) (m81 (c .before) (After-judged·gave c)) .now) (Row.get 9 (T18 .locals) (m81 (c .before) (After-judged·gave
+                c)) .now) (Row.get 15 (T18 .locals) (m81 (c .before) (After-judged·gave c))) (Row.get 16 (T18 .locals) (m81 (c .before) (After-judged·gave c))) (Row.get 17 (T18 .locals) (m81 (c .before)
+                (After-judged·gave c))),
+            loop-less record { before = c .before; judged = c .judged },
+            (
+              (
+                Row.get 7 (T18 .locals) (m81 (c .before) (After-judged·gave c)) .now,
+                Row.get 8 (T18 .locals) (m81 (c .before) (After-judged·gave c)) .now,
+                Row.get 9 (T18 .locals) (m81 (c .before)
+                    (After-judged·gave c)) .now,
+                Row.get 15 (T18 .locals) (m81 (c .before) (After-judged·gave c)),
+                Row.get 16 (T18 .locals) (m81 (c .before) (After-judged·gave c)),
+                Row.get 17 (T18 .locals) (m81
+                    (c .before) (After-judged·gave c)),
+              ),
+              Path'.refl {a = m81 (c .before) (After-judged·gave c)},
+              loop-again record { before = c .before; judged = c .judged },
+              Path'.refl {a = μ·0 (Row.get 1 (T18
+                  .locals) (m16 (c .before .before .before .before .before .before .before .before .before .before .before .before .before .before .before .before .before .before .before .before .before .before
+                  .before) (After-xtrans-places·gave (c .before .before .before .before .before .before .before .before .before .before .before .before .before .before .before .before .before .before .before
+                  .before .before .before)))) (Row.get 3 (T18 .locals) (m16 (c .before .before .before .before .before .before .before .before .before .before .before .before .before .before .before .before
+                  .before .before .before .before .before .before .before) (After-xtrans-places·gave (c .before .before .before .before .before .before .before .before .before .before .before .before .before
+                  .before .before .before .before .before .before .before .before .before))) .now) (Row.get 4 (T18 .locals) (m16 (c .before .before .before .before .before .before .before .before .before
+                  .before .before .before .before .before .before .before .before .before .before .before .before .before .before) (After-xtrans-places·gave (c .before .before .before .before .before .before
+                  .before .before .before .before .before .before .before .before .before .before .before .before .before .before .before .before)))) (Row.get 5 (T18 .locals) (m16 (c .before .before .before
+                  .before .before .before .before .before .before .before .before .before .before .before .before .before .before .before .before .before .before .before .before) (After-xtrans-places·gave (c
+                  .before .before .before .before .before .before .before .before .before .before .before .before .before .before .before .before .before .before .before .before .before .before)))) (Row.get 6
+                  (T18 .locals) (m16 (c .before .before .before .before .before .before .before .before .before .before .before .before .before .before .before .before .before .before .before .before .before
+                  .before .before) (After-xtrans-places·gave (c .before .before .before .before .before .before .before .before .before .before .before .before .before .before .before .before .before .before
+                  .before .before .before .before)))) (Row.get 7 (T18 .locals) (m16 (c .before .before .before .before .before .before .before .before .before .before .before .before .before .before .before
+                  .before .before .before .before .before .before .before .before) (After-xtrans-places·gave (c .before .before .before .before .before .before .before .before .before .before .before .before
+                  .before .before .before .before .before .before .before .before .before .before))) .now) (Row.get 8 (T18 .locals) (m16 (c .before .before .before .before .before .before .before .before
+                  .before .before .before .before .before .before .before .before .before .before .before .before .before .before .before) (After-xtrans-places·gave (c .before .before .before .before .before
+                  .before .before .before .before .before .before .before .before .before .before .before .before .before .before .before .before .before))) .now) (Row.get 9 (T18 .locals) (m16 (c .before
+                  .before .before .before .before .before .before .before .before .before .before .before .before .before .before .before .before .before .before .before .before .before .before)
+                  (After-xtrans-places·gave (c .before .before .before .before .before .before .before .before .before .before .before .before .before .before .before .before .before .before .before .before
+                  .before .before))) .now) (Row.get 11 (T18 .locals) (m16 (c .before .before .before .before .before .before .before .before .before .before .before .before .before .before .before .before
+                  .before .before .before .before .before .before .before) (After-xtrans-places·gave (c .before .before .before .before .before .before .before .before .before .before .before .before .before
+                  .before .before .before .before .before .before .before .before .before)))) (Row.get 12 (T18 .locals) (m16 (c .before .before .before .before .before .before .before .before .before .before
+                  .before .before .before .before .before .before .before .before .before .before .before .before .before) (After-xtrans-places·gave (c .before .before .before .before .before .before .before
+                  .before .before .before .before .before .before .before .before .before .before .before .before .before .before .before)))) (Row.get 13 (T18 .locals) (m16 (c .before .before .before .before
+                  .before .before .before .before .before .before .before .before .before .before .before .before .before .before .before .before .before .before .before) (After-xtrans-places·gave (c .before
+                  .before .before .before .before .before .before .before .before .before .before .before .before .before .before .before .before .before .before .before .before .before)))) (Row.get 14 (T18
+                  .locals) (m16 (c .before .before .before .before .before .before .before .before .before .before .before .before .before .before .before .before .before .before .before .before .before .before
+                  .before) (After-xtrans-places·gave (c .before .before .before .before .before .before .before .before .before .before .before .before .before .before .before .before .before .before .before
+                  .before .before .before)))) (Row.get 15 (T18 .locals) (m16 (c .before .before .before .before .before .before .before .before .before .before .before .before .before .before .before .before
+                  .before .before .before .before .before .before .before) (After-xtrans-places·gave (c .before .before .before .before .before .before .before .before .before .before .before .before .before
+                  .before .before .before .before .before .before .before .before .before)))) (Row.get 16 (T18 .locals) (m16 (c .before .before .before .before .before .before .before .before .before .before
+                  .before .before .before .before .before .before .before .before .before .before .before .before .before) (After-xtrans-places·gave (c .before .before .before .before .before .before .before
+                  .before .before .before .before .before .before .before .before .before .before .before .before .before .before .before)))) (Row.get 17 (T18 .locals) (m16 (c .before .before .before .before
+                  .before .before .before .before .before .before .before .before .before .before .before .before .before .before .before .before .before .before .before) (After-xtrans-places·gave (c .before
+                  .before .before .before .before .before .before .before .before .before .before .before .before .before .before .before .before .before .before .before .before .before)))) (Row.get 7 (T18
+                  .locals) (m81 (c .before) (After-judged·gave c)) .now) (Row.get 8 (T18 .locals) (m81 (c .before) (After-judged·gave c)) .now) (Row.get 9 (T18 .locals) (m81 (c .before) (After-judged·gave c))
+                  .now) (Row.get 15 (T18 .locals) (m81 (c .before) (After-judged·gave c))) (Row.get 16 (T18 .locals) (m81 (c .before) (After-judged·gave c))) (Row.get 17 (T18 .locals) (m81 (c .before)
+                  (After-judged·gave c)))},
+            ),
+          ),
+        )
 
         lay15 : (c : Else1) → at37 (W3 (c .before .before .before .before .before .before .before .before .before .before .before .before .before .before .before .before .before .before .before
             .before .before) (c .before .before .before .before .before .before .before .before .before .before .before .before .before .before .before .before .before .before .before .before .loop
@@ -4672,10 +5657,14 @@ module _ (claims· : Claims) where
             .before .before .before .before .before .before .before .before .before .before .before .before .before .before .before .before .before .before .loop .held) (c .before .before .before .before
             .before .before .before .before .before .before .before .before .before .before .before .before .before .before .before .before .loop .answer) (c .before .before .before .before .before
             .before .before .before .before .before .before .before .before .before .before .before .before .before .before .before .loop .b)) (m76 (c .before))
-        lay15 = λ c.
-            (judged-requires record { before = c .before; if1 = c .if1 }, λ g. lay16 record
-            { before = record { before = c .before; if1 = c .if1 }; judged = Called.called ps·11 r·11 (claims· .23) T69
-            (record { pos = 16; st = List.[]; d = 0; at = λ x. x }, (Num.vAt 17 λ x. x, (record { pos = 24; st = List.[]; d = 0; at = λ x. x }, tt))) (m76 (c .before)) g; })
+        lay15 = λ c. (
+          judged-requires record { before = c .before; if1 = c .if1 },
+          λ g. lay16 record {
+            before = record { before = c .before; if1 = c .if1 };
+            judged = Called.called ps·11 r·11 (claims· .23) T69
+                (record { pos = 16; st = List.[]; d = 0; at = λ x. x }, (Num.vAt 17 λ x. x, (record { pos = 24; st = List.[]; d = 0; at = λ x. x }, tt))) (m76 (c .before)) g;
+          },
+        )
 
         lay14 : (c : After-is-stopped) → at38 (W3 (c .before .before .before .before .before .before .before .before .before .before .before .before .before .before .before .before .before .before
             .before .before) (c .before .before .before .before .before .before .before .before .before .before .before .before .before .before .before .before .before .before .before .loop .image) (c
@@ -4684,31 +5673,53 @@ module _ (claims· : Claims) where
             .before .before .before .before .before .before .before .before .before .before .before .before .before .loop .held) (c .before .before .before .before .before .before .before .before .before
             .before .before .before .before .before .before .before .before .before .before .loop .answer) (c .before .before .before .before .before .before .before .before .before .before .before
             .before .before .before .before .before .before .before .before .loop .b)) (m54 (c .before) (After-is-stopped·gave c))
-        lay14 = λ c.
-            (λ taken.
-            ((tt,
-            (tt,
-            (Path'.refl,
-            (tt,
-            (tt,
-            (tt,
-            (MutSlice.fix-len (Row.get 7 (T90 .locals) (m75 record { before = c .before; is-stopped = c .is-stopped; }) .ptr) (Row.get 7 (T90 .locals) (m75 record
-            { before = c .before; is-stopped = c .is-stopped; }) .name) (Row.get 7 (T90 .locals) (m75 record { before = c .before; is-stopped = c .is-stopped; }) .now) (dens (c .before .before .before
-            .before .before .before .before .before .before .before .before .before .before .before .before .before .before .before .before .before .before .before .before .before .before .before .κs) (c
-            .before .before .before .before .before .before .before .before .before .before .before .before .before .before .before .before .before .before .before .before .before .before .before .before
-            .before .before .args) .1 .1 .1 .1 .1 .1 .0 .now) (same-length record { before = record { before = c .before; is-stopped = c .is-stopped; }; if1 = record { taken = taken }; }),
-            (MutSlice.fix-len (Row.get 8 (T90 .locals) (m75 record { before = c .before; is-stopped = c .is-stopped; }) .ptr) (Row.get 8 (T90 .locals) (m75 record
-            { before = c .before; is-stopped = c .is-stopped; }) .name) (Row.get 8 (T90 .locals) (m75 record { before = c .before; is-stopped = c .is-stopped; }) .now) (dens (c .before .before .before
-            .before .before .before .before .before .before .before .before .before .before .before .before .before .before .before .before .before .before .before .before .before .before .before .κs) (c
-            .before .before .before .before .before .before .before .before .before .before .before .before .before .before .before .before .before .before .before .before .before .before .before .before
-            .before .before .args) .1 .1 .1 .1 .1 .1 .1 .0 .now) (same-length-2 record { before = record { before = c .before; is-stopped = c .is-stopped; }; if1 = record { taken = taken }; }),
-            (MutSlice.fix-len (Row.get 9 (T90 .locals) (m75 record { before = c .before; is-stopped = c .is-stopped; }) .ptr) (Row.get 9 (T90 .locals) (m75 record
-            { before = c .before; is-stopped = c .is-stopped; }) .name) (Row.get 9 (T90 .locals) (m75 record { before = c .before; is-stopped = c .is-stopped; }) .now) (dens (c .before .before .before
-            .before .before .before .before .before .before .before .before .before .before .before .before .before .before .before .before .before .before .before .before .before .before .before .κs) (c
-            .before .before .before .before .before .before .before .before .before .before .before .before .before .before .before .before .before .before .before .before .before .before .before .before
-            .before .before .args) .1 .1 .1 .1 .1 .1 .1 .1 .0 .now) (same-length-3 record { before = record { before = c .before; is-stopped = c .is-stopped; }; if1 = record { taken = taken }; }),
-            tt))))))))), returns record { before = record { before = c .before; is-stopped = c .is-stopped }; if1 = record { taken = taken }; }), λ left. lay15 record
-            { before = record { before = c .before; is-stopped = c .is-stopped }; if1 = record { left = left }; })
+        lay14 = λ c. (
+          λ taken. (
+            (
+              tt,
+              (
+                tt,
+                (
+                  Path'.refl,
+                  (
+                    tt,
+                    (
+                      tt,
+                      (
+                        tt,
+                        (
+                          MutSlice.fix-len (Row.get 7 (T90 .locals) (m75 record { before = c .before; is-stopped = c .is-stopped }) .ptr) (Row.get 7 (T90 .locals) (m75 record
+                              { before = c .before; is-stopped = c .is-stopped }) .name) (Row.get 7 (T90 .locals) (m75 record { before = c .before; is-stopped = c .is-stopped }) .now) (dens (c .before .before .before
+                              .before .before .before .before .before .before .before .before .before .before .before .before .before .before .before .before .before .before .before .before .before .before .before .κs) (c
+                              .before .before .before .before .before .before .before .before .before .before .before .before .before .before .before .before .before .before .before .before .before .before .before .before
+                              .before .before .args) .1 .1 .1 .1 .1 .1 .0 .now) (same-length record { before = record { before = c .before; is-stopped = c .is-stopped }; if1 = record { taken = taken } }),
+                          (
+                            MutSlice.fix-len (Row.get 8 (T90 .locals) (m75 record { before = c .before; is-stopped = c .is-stopped }) .ptr) (Row.get 8 (T90 .locals) (m75 record
+                                { before = c .before; is-stopped = c .is-stopped }) .name) (Row.get 8 (T90 .locals) (m75 record { before = c .before; is-stopped = c .is-stopped }) .now) (dens (c .before .before .before
+                                .before .before .before .before .before .before .before .before .before .before .before .before .before .before .before .before .before .before .before .before .before .before .before .κs) (c
+                                .before .before .before .before .before .before .before .before .before .before .before .before .before .before .before .before .before .before .before .before .before .before .before .before
+                                .before .before .args) .1 .1 .1 .1 .1 .1 .1 .0 .now) (same-length-2 record { before = record { before = c .before; is-stopped = c .is-stopped }; if1 = record { taken = taken } }),
+                            (
+                              MutSlice.fix-len (Row.get 9 (T90 .locals) (m75 record { before = c .before; is-stopped = c .is-stopped }) .ptr) (Row.get 9 (T90 .locals) (m75 record
+                                  { before = c .before; is-stopped = c .is-stopped }) .name) (Row.get 9 (T90 .locals) (m75 record { before = c .before; is-stopped = c .is-stopped }) .now) (dens (c .before .before .before
+                                  .before .before .before .before .before .before .before .before .before .before .before .before .before .before .before .before .before .before .before .before .before .before .before .κs) (c
+                                  .before .before .before .before .before .before .before .before .before .before .before .before .before .before .before .before .before .before .before .before .before .before .before .before
+                                  .before .before .args) .1 .1 .1 .1 .1 .1 .1 .1 .0 .now) (same-length-3 record { before = record { before = c .before; is-stopped = c .is-stopped }; if1 = record { taken = taken } }),
+                              tt,
+                            ),
+                          ),
+                        ),
+                      ),
+                    ),
+                  ),
+                ),
+              ),
+            ),
+            returns record { before = record { before = c .before; is-stopped = c .is-stopped }; if1 = record { taken = taken } },
+          ),
+          λ left. lay15 record
+              { before = record { before = c .before; is-stopped = c .is-stopped }; if1 = record { left = left } },
+        )
 
         lay13 : (c : After-after-block) → at40 (W3 (c .before .before .before .before .before .before .before .before .before .before .before .before .before .before .before .before .before .before
             .before) (c .before .before .before .before .before .before .before .before .before .before .before .before .before .before .before .before .before .before .loop .image) (c .before .before
@@ -4717,10 +5728,14 @@ module _ (claims· : Claims) where
             .before .before .before .before .before .before .before .before .loop .held) (c .before .before .before .before .before .before .before .before .before .before .before .before .before .before
             .before .before .before .before .loop .answer) (c .before .before .before .before .before .before .before .before .before .before .before .before .before .before .before .before .before
             .before .loop .b)) (m52 (c .before) (After-after-block·gave c))
-        lay13 = λ c.
-            (is-stopped-requires record { before = c .before; after-block = c .after-block }, λ g. lay14 record
-            { before = record { before = c .before; after-block = c .after-block }; is-stopped = Called.called ps·10 r·10 (claims· .21) T67
-            (Num.vAt 25 λ x. x, (Num.vAt 23 λ x. x, (Num.vAt 11 λ x. x, tt))) (m53 (c .before) (After-after-block·gave c)) g; })
+        lay13 = λ c. (
+          is-stopped-requires record { before = c .before; after-block = c .after-block },
+          λ g. lay14 record {
+            before = record { before = c .before; after-block = c .after-block };
+            is-stopped = Called.called ps·10 r·10 (claims· .21) T67
+                (Num.vAt 25 λ x. x, (Num.vAt 23 λ x. x, (Num.vAt 11 λ x. x, tt))) (m53 (c .before) (After-after-block·gave c)) g;
+          },
+        )
 
         lay12 : (c : After-lines-read) → at41 (W3 (c .before .before .before .before .before .before .before .before .before .before .before .before .before .before .before .before .before .before) (c
             .before .before .before .before .before .before .before .before .before .before .before .before .before .before .before .before .before .loop .image) (c .before .before .before .before .before
@@ -4728,105 +5743,204 @@ module _ (claims· : Claims) where
             .before .before .before .before .before .before .before .loop .rs) (c .before .before .before .before .before .before .before .before .before .before .before .before .before .before .before
             .before .before .loop .held) (c .before .before .before .before .before .before .before .before .before .before .before .before .before .before .before .before .before .loop .answer) (c
             .before .before .before .before .before .before .before .before .before .before .before .before .before .before .before .before .before .loop .b)) (m51 (c .before) (After-lines-read·gave c))
-        lay12 = λ c.
-            (after-block-requires record { before = c .before; lines-read = c .lines-read }, λ g. lay13 record
-            { before = record { before = c .before; lines-read = c .lines-read }; after-block = Called.called ps·9 r·9 (claims· .19) T65
-            (record { pos = 1; st = List.[]; d = 0; at = λ x. x },
-            (record { pos = 15; st = List.[]; d = 0; at = λ x. x },
-            (Num.vAt 13 λ x. x, (record { pos = 20; ty = Syntax.tyRef Syntax.erased Syntax.imm (Syntax.tyInt Syntax.w8); ref = λ x. x; }, (Num.vAt 23 λ x. x, (Num.vAt 25 λ x. x, tt)))))) (m51 (c .before)
-            (After-lines-read·gave c)) g; })
+        lay12 = λ c. (
+          after-block-requires record { before = c .before; lines-read = c .lines-read },
+          λ g. lay13 record {
+            before = record { before = c .before; lines-read = c .lines-read };
+            after-block = Called.called ps·9 r·9 (claims· .19) T65 (
+              record { pos = 1; st = List.[]; d = 0; at = λ x. x },
+              (
+                record { pos = 15; st = List.[]; d = 0; at = λ x. x },
+                (Num.vAt 13 λ x. x, (record { pos = 20; ty = Syntax.tyRef Syntax.erased Syntax.imm (Syntax.tyInt Syntax.w8); ref = λ x. x }, (Num.vAt 23 λ x. x, (Num.vAt 25 λ x. x, tt)))),
+              ),
+            ) (m51 (c .before)
+                (After-lines-read·gave c)) g;
+          },
+        )
 
         lay11 : (c : After-walk) → at61 (W3 (c .before .before .before .before .before .before .before .before .before .before .before .before) (c .before .before .before .before .before .before
             .before .before .before .before .before .loop .image) (c .before .before .before .before .before .before .before .before .before .before .before .loop .lines) (c .before .before .before
             .before .before .before .before .before .before .before .before .loop .rs) (c .before .before .before .before .before .before .before .before .before .before .before .loop .held) (c .before
             .before .before .before .before .before .before .before .before .before .before .loop .answer) (c .before .before .before .before .before .before .before .before .before .before .before .loop
             .b)) (m39 (c .before) (After-walk·gave c))
-        lay11 = λ c.
-            (Path'.refl, λ g. λ g'.
-            (Path'.refl, λ g''.
-            (Path'.refl, λ g'3. λ g'4.
-            (lines-read-requires record
-            { before = record
-            { before = record
-            { before = record { before = record { before = record { before = c .before; walk = c .walk }; lines = record { given = g }; }; slice-known3 = record { given = g' }; }; rs = record { given =
-            g'' }; }; image = record { given = g'3 }; }; slice-known4 = record { given = g'4 }; }, λ g'5. lay12 record
-            { before = record
-            { before = record
-            { before = record
-            { before = record { before = record { before = record { before = c .before; walk = c .walk }; lines = record { given = g }; }; slice-known3 = record { given = g' }; }; rs = record { given =
-            g'' }; }; image = record { given = g'3 }; }; slice-known4 = record { given = g'4 }; }; lines-read = Called.called ps·8 r·8 (claims· .17) T63
-            (record { pos = 24; st = List.[]; d = 0; at = λ x. x }, (Num.vAt 23 λ x. x, tt)) (m50 record
-            { before = record
-            { before = record { before = record { before = record { before = c .before; walk = c .walk }; lines = record { given = g }; }; slice-known3 = record { given = g' }; }; rs = record { given =
-            g'' }; }; image = record { given = g'3 }; } g'4) g'5; }))))
+        lay11 = λ c. (
+          Path'.refl,
+          λ g. λ g'. (
+            Path'.refl,
+            λ g''. (
+              Path'.refl,
+              λ g'3. λ g'4. (
+                lines-read-requires record {
+                  before = record {
+                    before = record {
+                      before = record { before = record { before = record { before = c .before; walk = c .walk }; lines = record { given = g } }; slice-known3 = record { given = g' } };
+                      rs = record {
+                        given =
+                            g'';
+                      };
+                    };
+                    image = record { given = g'3 };
+                  };
+                  slice-known4 = record { given = g'4 };
+                },
+                λ g'5. lay12 record {
+                  before = record {
+                    before = record {
+                      before = record {
+                        before = record { before = record { before = record { before = c .before; walk = c .walk }; lines = record { given = g } }; slice-known3 = record { given = g' } };
+                        rs = record {
+                          given =
+                              g'';
+                        };
+                      };
+                      image = record { given = g'3 };
+                    };
+                    slice-known4 = record { given = g'4 };
+                  };
+                  lines-read = Called.called ps·8 r·8 (claims· .17) T63
+                      (record { pos = 24; st = List.[]; d = 0; at = λ x. x }, (Num.vAt 23 λ x. x, tt)) (m50 record {
+                        before = record {
+                          before = record { before = record { before = record { before = c .before; walk = c .walk }; lines = record { given = g } }; slice-known3 = record { given = g' } };
+                          rs = record {
+                            given =
+                                g'';
+                          };
+                        };
+                        image = record { given = g'3 };
+                      } g'4) g'5;
+                },
+              ),
+            ),
+          ),
+        )
 
         lay10 : (c : After-take-lines) → at74 (W3 (c .before .before .before .before .before .before .before) (c .before .before .before .before .before .before .loop .image) (c .before .before
             .before .before .before .before .loop .lines) (c .before .before .before .before .before .before .loop .rs) (c .before .before .before .before .before .before .loop .held) (c .before .before
             .before .before .before .before .loop .answer) (c .before .before .before .before .before .before .loop .b)) (m30 (c .before) (After-take-lines·gave c))
-        lay10 = λ c. λ g.
-            (Path'.refl, λ g'.
-            (Path'.refl, λ g''.
-            (Path'.refl, λ g'3.
-            (walk-requires record
-            { before = record
-            { before = record { before = record { before = record { before = c .before; take-lines = c .take-lines }; walk-arg = record { given = g }; }; walk-arg2 = record { given = g' }; }; walk-arg3 =
-            record { given = g'' }; }; places = record { given = g'3 }; }, λ g'4. lay11 record
-            { before = record
-            { before = record
-            { before = record { before = record { before = record { before = c .before; take-lines = c .take-lines }; walk-arg = record { given = g }; }; walk-arg2 = record { given = g' }; }; walk-arg3 =
-            record { given = g'' }; }; places = record { given = g'3 }; }; walk = Called.called ps·7 r·7 (claims· .15) T44
-            (record { pos = 19; ty = Syntax.tyRef Syntax.erased Syntax.imm (Syntax.tyInt Syntax.w8); ref = λ x. x; },
-            (record { pos = 20; ty = Syntax.tyRef Syntax.erased Syntax.imm (Syntax.tyInt Syntax.w8); ref = λ x. x; },
-            (record { pos = 30; ty = Syntax.tyRef Syntax.erased Syntax.mut (Syntax.tyInt Syntax.w16); ref = λ x. x; },
-            (record { pos = 32; ty = Syntax.tyRef Syntax.erased Syntax.mut Element.behind; ref = λ x. x; },
-            (record { pos = 34; ty = Syntax.tyRef Syntax.erased Syntax.mut (Syntax.tyInt Syntax.w16); ref = λ x. x; },
-            (record { pos = 18; st = List.[]; d = 0; at = λ x. x },
-            (record { pos = 35; ty = Syntax.tyRef Syntax.erased Syntax.imm (Syntax.tyArray (Syntax.tyInt Syntax.w16) 768); ref = λ x. x; },
-            (record { pos = 6; st = List.[]; d = 0; at = λ x. x },
-            (record { pos = 21; st = List.[]; d = 0; at = λ x. x },
-            (Num.vAt 23 λ x. x, (Bool.bLit Bool'.false, (record { pos = 22; st = List._∷_ (Syntax.field 1) List.[]; d = 8; at = λ x. Took.struct .as-values x .1 .0; }, tt)))))))))))) (m38 record
-            { before = record { before = record { before = record { before = c .before; take-lines = c .take-lines }; walk-arg = record { given = g }; }; walk-arg2 = record { given = g' }; }; walk-arg3 =
-            record { given = g'' }; } g'3) g'4; }))))
+        lay10 = λ c. λ g. (
+          Path'.refl,
+          λ g'. (
+            Path'.refl,
+            λ g''. (
+              Path'.refl,
+              λ g'3. (
+                walk-requires record {
+                  before = record {
+                    before = record { before = record { before = record { before = c .before; take-lines = c .take-lines }; walk-arg = record { given = g } }; walk-arg2 = record { given = g' } };
+                    walk-arg3 =
+                        record { given = g'' };
+                  };
+                  places = record { given = g'3 };
+                },
+                λ g'4. lay11 record {
+                  before = record {
+                    before = record {
+                      before = record { before = record { before = record { before = c .before; take-lines = c .take-lines }; walk-arg = record { given = g } }; walk-arg2 = record { given = g' } };
+                      walk-arg3 =
+                          record { given = g'' };
+                    };
+                    places = record { given = g'3 };
+                  };
+                  walk = Called.called ps·7 r·7 (claims· .15) T44 (
+                    record { pos = 19; ty = Syntax.tyRef Syntax.erased Syntax.imm (Syntax.tyInt Syntax.w8); ref = λ x. x },
+                    (
+                      record { pos = 20; ty = Syntax.tyRef Syntax.erased Syntax.imm (Syntax.tyInt Syntax.w8); ref = λ x. x },
+                      (
+                        record { pos = 30; ty = Syntax.tyRef Syntax.erased Syntax.mut (Syntax.tyInt Syntax.w16); ref = λ x. x },
+                        (
+                          record { pos = 32; ty = Syntax.tyRef Syntax.erased Syntax.mut Element.behind; ref = λ x. x },
+                          (
+                            record { pos = 34; ty = Syntax.tyRef Syntax.erased Syntax.mut (Syntax.tyInt Syntax.w16); ref = λ x. x },
+                            (
+                              record { pos = 18; st = List.[]; d = 0; at = λ x. x },
+                              (
+                                record { pos = 35; ty = Syntax.tyRef Syntax.erased Syntax.imm (Syntax.tyArray (Syntax.tyInt Syntax.w16) 768); ref = λ x. x },
+                                (
+                                  record { pos = 6; st = List.[]; d = 0; at = λ x. x },
+                                  (
+                                    record { pos = 21; st = List.[]; d = 0; at = λ x. x },
+                                    (Num.vAt 23 λ x. x, (Bool.bLit Bool'.false, (record { pos = 22; st = List._∷_ (Syntax.field 1) List.[]; d = 8; at = λ x. Took.struct .as-values x .1 .0 }, tt))),
+                                  ),
+                                ),
+                              ),
+                            ),
+                          ),
+                        ),
+                      ),
+                    ),
+                  ) (m38 record {
+                    before = record { before = record { before = record { before = c .before; take-lines = c .take-lines }; walk-arg = record { given = g } }; walk-arg2 = record { given = g' } };
+                    walk-arg3 =
+                        record { given = g'' };
+                  } g'3) g'4;
+                },
+              ),
+            ),
+          ),
+        )
 
         lay9 : (c : After-part) → at75 (W3 (c .before .before .before .before .before .before) (c .before .before .before .before .before .loop .image) (c .before .before .before .before .before .loop
             .lines) (c .before .before .before .before .before .loop .rs) (c .before .before .before .before .before .loop .held) (c .before .before .before .before .before .loop .answer) (c .before
             .before .before .before .before .loop .b)) (m29 (c .before) (After-part·gave c))
-        lay9 = λ c.
-            (take-lines-requires record { before = c .before; part = c .part }, λ g. lay10 record
-            { before = record { before = c .before; part = c .part }; take-lines = Called.called ps·6 r·6 (claims· .13) T31
-            (record { pos = 1; st = List.[]; d = 0; at = λ x. x },
-            (record { pos = 15; st = List.[]; d = 0; at = λ x. x },
-            (Num.vAt 13 λ x. x, (record { pos = 20; ty = Syntax.tyRef Syntax.erased Syntax.imm (Syntax.tyInt Syntax.w8); ref = λ x. x; }, (Num.vAt 11 λ x. x, tt))))) (m29 (c .before) (After-part·gave c))
-            g; })
+        lay9 = λ c. (
+          take-lines-requires record { before = c .before; part = c .part },
+          λ g. lay10 record {
+            before = record { before = c .before; part = c .part };
+            take-lines = Called.called ps·6 r·6 (claims· .13) T31 (
+              record { pos = 1; st = List.[]; d = 0; at = λ x. x },
+              (
+                record { pos = 15; st = List.[]; d = 0; at = λ x. x },
+                (Num.vAt 13 λ x. x, (record { pos = 20; ty = Syntax.tyRef Syntax.erased Syntax.imm (Syntax.tyInt Syntax.w8); ref = λ x. x }, (Num.vAt 11 λ x. x, tt))),
+              ),
+            ) (m29 (c .before) (After-part·gave c))
+                g;
+          },
+        )
 
         lay8 : (c : After-base-row) → at76 (W3 (c .before .before .before .before .before) (c .before .before .before .before .loop .image) (c .before .before .before .before .loop .lines) (c .before
             .before .before .before .loop .rs) (c .before .before .before .before .loop .held) (c .before .before .before .before .loop .answer) (c .before .before .before .before .loop .b)) (m28 (c
             .before) (After-base-row·gave c))
-        lay8 = λ c.
-            (part-requires record { before = c .before; base-row = c .base-row }, λ g. lay9 record
-            { before = record { before = c .before; base-row = c .base-row }; part = Called.called ps·5 r·5 (claims· .11) T30
-            (record { pos = 5; st = List.[]; d = 0; at = λ x. x }, (Num.vAt 17 λ x. x, tt)) (m28 (c .before) (After-base-row·gave c)) g; })
+        lay8 = λ c. (
+          part-requires record { before = c .before; base-row = c .base-row },
+          λ g. lay9 record {
+            before = record { before = c .before; base-row = c .base-row };
+            part = Called.called ps·5 r·5 (claims· .11) T30
+                (record { pos = 5; st = List.[]; d = 0; at = λ x. x }, (Num.vAt 17 λ x. x, tt)) (m28 (c .before) (After-base-row·gave c)) g;
+          },
+        )
 
         lay7 : (c : After-block-bytes) → at77 (W3 (c .before .before .before .before) (c .before .before .before .loop .image) (c .before .before .before .loop .lines) (c .before .before .before .loop
             .rs) (c .before .before .before .loop .held) (c .before .before .before .loop .answer) (c .before .before .before .loop .b)) (m27 (c .before) (After-block-bytes·gave c))
-        lay7 = λ c.
-            (base-row-requires record { before = c .before; block-bytes = c .block-bytes }, λ g. lay8 record
-            { before = record { before = c .before; block-bytes = c .block-bytes }; base-row = Called.called ps·4 r·4 (claims· .9) T29
-            (record { pos = 3; ty = Syntax.tyRef (Syntax.named 0) Syntax.imm (Syntax.tyInt Syntax.w8); ref = λ x. x; }, (Num.vAt 17 λ x. x, tt)) (m27 (c .before) (After-block-bytes·gave c)) g; })
+        lay7 = λ c. (
+          base-row-requires record { before = c .before; block-bytes = c .block-bytes },
+          λ g. lay8 record {
+            before = record { before = c .before; block-bytes = c .block-bytes };
+            base-row = Called.called ps·4 r·4 (claims· .9) T29
+                (record { pos = 3; ty = Syntax.tyRef (Syntax.named 0) Syntax.imm (Syntax.tyInt Syntax.w8); ref = λ x. x }, (Num.vAt 17 λ x. x, tt)) (m27 (c .before) (After-block-bytes·gave c)) g;
+          },
+        )
 
         lay6 : (c : After-form-of) → at78 (W3 (c .before .before .before) (c .before .before .loop .image) (c .before .before .loop .lines) (c .before .before .loop .rs) (c .before .before .loop
             .held) (c .before .before .loop .answer) (c .before .before .loop .b)) (m26 (c .before) (After-form-of·gave c))
-        lay6 = λ c.
-            (block-bytes-requires record { before = c .before; form-of = c .form-of }, λ g. lay7 record
-            { before = record { before = c .before; form-of = c .form-of }; block-bytes = Called.called ps·3 r·3 (claims· .7) T28
-            (record { pos = 3; ty = Syntax.tyRef (Syntax.named 0) Syntax.imm (Syntax.tyInt Syntax.w8); ref = λ x. x; }, (Num.vAt 17 λ x. x, tt)) (m26 (c .before) (After-form-of·gave c)) g; })
+        lay6 = λ c. (
+          block-bytes-requires record { before = c .before; form-of = c .form-of },
+          λ g. lay7 record {
+            before = record { before = c .before; form-of = c .form-of };
+            block-bytes = Called.called ps·3 r·3 (claims· .7) T28
+                (record { pos = 3; ty = Syntax.tyRef (Syntax.named 0) Syntax.imm (Syntax.tyInt Syntax.w8); ref = λ x. x }, (Num.vAt 17 λ x. x, tt)) (m26 (c .before) (After-form-of·gave c)) g;
+          },
+        )
 
         lay5 : (c : In-loop) → at79 (W3 (c .before .before) (c .before .loop .image) (c .before .loop .lines) (c .before .loop .rs) (c .before .loop .held) (c .before .loop .answer) (c .before .loop
             .b)) (m19 (c .before))
-        lay5 = λ c.
-            (form-of-requires record { before = c .before; loop-test = c .loop-test }, λ g. lay6 record
-            { before = record { before = c .before; loop-test = c .loop-test }; form-of = Called.called ps·2 r·2 (claims· .5) T20 (record { pos = 4; st = List.[]; d = 0; at = λ x. x }, tt) (m19 (c
-            .before)) g; })
+        lay5 = λ c. (
+          form-of-requires record { before = c .before; loop-test = c .loop-test },
+          λ g. lay6 record {
+            before = record { before = c .before; loop-test = c .loop-test };
+            form-of = Called.called ps·2 r·2 (claims· .5) T20 (record { pos = 4; st = List.[]; d = 0; at = λ x. x }, tt) (m19 (c
+                .before)) g;
+          },
+        )
 
         lay4 : (c : After-loop) → at8 (W4 (c .before .before) (c .before .loop .image) (c .before .loop .lines) (c .before .loop .rs) (c .before .loop .held) (c .before .loop .answer) (c .before .loop
             .b)) (m18 (c .before .before) (c .before .loop .image) (c .before .loop .lines) (c .before .loop .rs) (c .before .loop .held) (c .before .loop .answer) (c .before .loop .b))
@@ -4838,48 +5952,91 @@ module _ (claims· : Claims) where
 
         lay2 : (c : After-xtrans-places) → at100 (W0 (c .before .before .before .before .before .before .κs) (c .before .before .before .before .before .before .args)) (m9 (c .before)
             (After-xtrans-places·gave c))
-        lay2 = λ c.
-            (((Row.get 7 (T18 .locals) (m16 (c .before) (After-xtrans-places·gave c)) .now, Row.get 8 (T18 .locals) (m16 (c .before) (After-xtrans-places·gave c)) .now, Row.get 9 (T18 .locals) (m16 (c
-            .before) (After-xtrans-places·gave c)) .now, Row.get 15 (T18 .locals) (m16 (c .before) (After-xtrans-places·gave c)), Row.get 16 (T18 .locals) (m16 (c .before) (After-xtrans-places·gave c)),
-            Row.get 17 (T18 .locals) (m16 (c .before) (After-xtrans-places·gave c))), Path'.refl {a = m16 (c .before) (After-xtrans-places·gave c)}, loop-holds record
-            { before = c .before; xtrans-places = c .xtrans-places }), λ vs inv.
-            (tt,
-            (λ taken. lay3 record
-            { before = record
-            { before = record { before = c .before; xtrans-places = c .xtrans-places }; loop = record { image = vs .0; lines = vs .1; rs = vs .2; held = vs .3; answer = vs .4; b = vs .5; inv = inv; }; };
-            loop-test = record
-            { taken = Tests.ltb-true (Row.get 17 (T18 .locals) (m17 record { before = c .before; xtrans-places = c .xtrans-places; } (vs .0) (vs .1) (vs .2) (vs .3) (vs .4) (vs .5))) (Row.get 12 (T18
-            .locals) (m17 record { before = c .before; xtrans-places = c .xtrans-places; } (vs .0) (vs .1) (vs .2) (vs .3) (vs .4) (vs .5))) taken; }; }, λ left. lay4 record
-            { before = record
-            { before = record { before = c .before; xtrans-places = c .xtrans-places }; loop = record { image = vs .0; lines = vs .1; rs = vs .2; held = vs .3; answer = vs .4; b = vs .5; inv = inv; }; };
-            loop-test = record
-            { left = Tests.ltb-false (Row.get 17 (T18 .locals) (m17 record { before = c .before; xtrans-places = c .xtrans-places; } (vs .0) (vs .1) (vs .2) (vs .3) (vs .4) (vs .5))) (Row.get 12 (T18
-            .locals) (m17 record { before = c .before; xtrans-places = c .xtrans-places; } (vs .0) (vs .1) (vs .2) (vs .3) (vs .4) (vs .5))) left; }; })))
+        lay2 = λ c. (
+          (
+            (
+              Row.get 7 (T18 .locals) (m16 (c .before) (After-xtrans-places·gave c)) .now,
+              Row.get 8 (T18 .locals) (m16 (c .before) (After-xtrans-places·gave c)) .now,
+              Row.get 9 (T18 .locals) (m16 (c
+                  .before) (After-xtrans-places·gave c)) .now,
+              Row.get 15 (T18 .locals) (m16 (c .before) (After-xtrans-places·gave c)),
+              Row.get 16 (T18 .locals) (m16 (c .before) (After-xtrans-places·gave c)),
+              Row.get 17 (T18 .locals) (m16 (c .before) (After-xtrans-places·gave c)),
+            ),
+            Path'.refl {a = m16 (c .before) (After-xtrans-places·gave c)},
+            loop-holds record
+                { before = c .before; xtrans-places = c .xtrans-places },
+          ),
+          λ vs inv. (
+            tt,
+            (
+              λ taken. lay3 record {
+                before = record
+                    { before = record { before = c .before; xtrans-places = c .xtrans-places }; loop = record { image = vs .0; lines = vs .1; rs = vs .2; held = vs .3; answer = vs .4; b = vs .5; inv = inv } };
+                loop-test = record {
+                  taken = Tests.ltb-true (Row.get 17 (T18 .locals) (m17 record { before = c .before; xtrans-places = c .xtrans-places } (vs .0) (vs .1) (vs .2) (vs .3) (vs .4) (vs .5))) (Row.get 12 (T18
+                      .locals) (m17 record { before = c .before; xtrans-places = c .xtrans-places } (vs .0) (vs .1) (vs .2) (vs .3) (vs .4) (vs .5))) taken;
+                };
+              },
+              λ left. lay4 record {
+                before = record
+                    { before = record { before = c .before; xtrans-places = c .xtrans-places }; loop = record { image = vs .0; lines = vs .1; rs = vs .2; held = vs .3; answer = vs .4; b = vs .5; inv = inv } };
+                loop-test = record {
+                  left = Tests.ltb-false (Row.get 17 (T18 .locals) (m17 record { before = c .before; xtrans-places = c .xtrans-places } (vs .0) (vs .1) (vs .2) (vs .3) (vs .4) (vs .5))) (Row.get 12 (T18
+                      .locals) (m17 record { before = c .before; xtrans-places = c .xtrans-places } (vs .0) (vs .1) (vs .2) (vs .3) (vs .4) (vs .5))) left;
+                };
+              },
+            ),
+          ),
+        )
 
         lay1 : (c : After-span-of) → at105 (W0 (c .before .before .before .before .κs) (c .before .before .before .before .args)) (m4 (c .before) (After-span-of·gave c))
-        lay1 = λ c. λ g.
-            (add-end record { before = record { before = c .before; span-of = c .span-of }; struct-known = record { given = g }; },
-            (xtrans-places-requires record { before = record { before = c .before; span-of = c .span-of }; struct-known = record { given = g }; }, λ g'. lay2 record
-            { before = record { before = record { before = c .before; span-of = c .span-of }; struct-known = record { given = g }; }; xtrans-places = Called.called ps·1 r·1 (claims· .3) T9 tt (m8 record
-            { before = c .before; span-of = c .span-of; } g) g'; }))
+        lay1 = λ c. λ g. (
+          add-end record { before = record { before = c .before; span-of = c .span-of }; struct-known = record { given = g } },
+          (
+            xtrans-places-requires record { before = record { before = c .before; span-of = c .span-of }; struct-known = record { given = g } },
+            λ g'. lay2 record {
+              before = record { before = record { before = c .before; span-of = c .span-of }; struct-known = record { given = g } };
+              xtrans-places = Called.called ps·1 r·1 (claims· .3) T9 tt (m8 record
+                  { before = c .before; span-of = c .span-of } g) g';
+            },
+          ),
+        )
 
         pub laid : (c : Start) → at109 (W0 (c .κs) (c .args)) (m0 (c .κs) (c .args))
-        laid = λ c. λ g. λ g'. λ g''.
-            (span-of-requires record
-            { before = record { before = record { before = c; shared-slice-known = record { given = g } }; slice-known = record { given = g' }; }; slice-known2 = record { given = g'' }; }, λ g'3. lay1
-            record
-            { before = record
-            { before = record { before = record { before = c; shared-slice-known = record { given = g } }; slice-known = record { given = g' }; }; slice-known2 = record { given = g'' }; }; span-of =
-            Called.called ps·0 r·0 (claims· .1) T4 (record { pos = 5; st = List.[]; d = 0; at = λ x. x }, tt) (m3 record
-            { before = record { before = c; shared-slice-known = record { given = g } }; slice-known = record { given = g' }; } g'') g'3; })
+        laid = λ c. λ g. λ g'. λ g''. (
+          span-of-requires record
+              { before = record { before = record { before = c; shared-slice-known = record { given = g } }; slice-known = record { given = g' } }; slice-known2 = record { given = g'' } },
+          λ g'3. lay1
+              record {
+                before = record
+                    { before = record { before = record { before = c; shared-slice-known = record { given = g } }; slice-known = record { given = g' } }; slice-known2 = record { given = g'' } };
+                span-of =
+                    Called.called ps·0 r·0 (claims· .1) T4 (record { pos = 5; st = List.[]; d = 0; at = λ x. x }, tt) (m3 record
+                    { before = record { before = c; shared-slice-known = record { given = g } }; slice-known = record { given = g' } } g'') g'3;
+              },
+        )
 
         module _ (κs : Lifetimes.Lfts 4) (qs : Lifetimes.Shares 4) where
           pub asked : (a : Kinds.Dens κs ps) → (good : Kinds.GoodsP κs ps a) → (pre : Pre· κs a) → (bs : List.List Nat.ℕ) → Φ (Any.wantQ 4 ps r xs m κs qs a (Post· κs a)) (Function.init 4 ps r xs m κs
               qs a)
-          asked = λ a good pre bs. laid record
-              { κs = κs; args = record
-              { camera = a .0; entries = a .1 .0; d = a .1 .1 .0; h = a .1 .1 .1 .0; r = a .1 .1 .1 .1 .0; tile = a .1 .1 .1 .1 .1 .0; image = a .1 .1 .1 .1 .1 .1 .0; lines = a .1 .1 .1 .1 .1 .1 .1 .0; rs
-              = a .1 .1 .1 .1 .1 .1 .1 .1 .0; }; good = good; pre = pre; }
+          asked = λ a good pre bs. laid record {
+            κs = κs;
+            args = record {
+              camera = a .0;
+              entries = a .1 .0;
+              d = a .1 .1 .0;
+              h = a .1 .1 .1 .0;
+              r = a .1 .1 .1 .1 .0;
+              tile = a .1 .1 .1 .1 .1 .0;
+              image = a .1 .1 .1 .1 .1 .1 .0;
+              lines = a .1 .1 .1 .1 .1 .1 .1 .0;
+              rs
+                  = a .1 .1 .1 .1 .1 .1 .1 .1 .0;
+            };
+            good = good;
+            pre = pre;
+          }
 
         module _ {M : Type 1} (𝓤 : URA.URA M) (H : Wp.Heap 𝓤) (A : Atoms.Atoms 𝓤) (W : Kit.Given 𝓤 H A) (𝓣 : Wp.Tables 𝓤 H) (known0 : Plain.Known 𝓤 H A W 𝓣 0 ps·0 r·0 (claims· .0) (claims· .1)
             "region::span_of") (known1 : Plain.Known 𝓤 H A W 𝓣 0 ps·1 r·1 (claims· .2) (claims· .3) "map::xtrans_places") (known2 : Plain.Known 𝓤 H A W 𝓣 0 ps·2 r·2 (claims· .4) (claims· .5)

@@ -110,11 +110,24 @@ ps = List._∷_ (ShrSlice.pShrS (Referent.rtF (Referent.fInt Syntax.w8)) 0 tt) (
     (MutSlice.pMutS (Element.type) 2 tt) List.[])))
 
 abbrev pub r : Kinds.RK 3
-r = Value.rVal record
-    { ty = Declared'.row Counted.the-type; one = Path'.refl; val = Laws'6.val Counted.the-type Laws.the-laws; tells = Laws'6.tells Counted.the-type Laws.the-laws; still = Laws'6.still Counted.the-type
-    Laws.the-copy Exit.yes; row = Rows.whole (Declared'.row Counted.the-type); rd = λ x. x; mk = λ x. x; } λ M 𝓤 H A W. record
-    { copies = Laws'6.copy Counted.the-type Laws.the-copy 𝓤 H A W; lawful = Laws'6.lawful Counted.the-type Laws.the-laws 𝓤 H A W; makes = Laws'6.makes Counted.the-type Laws.the-plain 𝓤 H A; in-mem =
-    Local.mem-whole 𝓤 H A W (Declared'.row Counted.the-type); of-mem = Local.whole-mem 𝓤 H A W (Declared'.row Counted.the-type); }
+r = Value.rVal record {
+  ty = Declared'.row Counted.the-type;
+  one = Path'.refl;
+  val = Laws'6.val Counted.the-type Laws.the-laws;
+  tells = Laws'6.tells Counted.the-type Laws.the-laws;
+  still = Laws'6.still Counted.the-type
+      Laws.the-copy Exit.yes;
+  row = Rows.whole (Declared'.row Counted.the-type);
+  rd = λ x. x;
+  mk = λ x. x;
+} λ M 𝓤 H A W. record {
+  copies = Laws'6.copy Counted.the-type Laws.the-copy 𝓤 H A W;
+  lawful = Laws'6.lawful Counted.the-type Laws.the-laws 𝓤 H A W;
+  makes = Laws'6.makes Counted.the-type Laws.the-plain 𝓤 H A;
+  in-mem =
+      Local.mem-whole 𝓤 H A W (Declared'.row Counted.the-type);
+  of-mem = Local.whole-mem 𝓤 H A W (Declared'.row Counted.the-type);
+}
 
 abbrev pub xs : List.List Syntax.Ty
 xs = List._∷_ (Syntax.tyEnum (List._∷_ 115 (List._∷_ 116 (List._∷_ 114 (List._∷_ 101 (List._∷_ 97 (List._∷_ 109 (List._∷_ 58 (List._∷_ 58 (List._∷_ 80 (List._∷_ 97 (List._∷_ 114 (List._∷_ 115
@@ -146,25 +159,63 @@ ps·0 = List._∷_ (ShrSlice.pShrS (Referent.rtF (Referent.fInt Syntax.w8)) 0 tt
     List.[]))))
 
 abbrev pub r·0 : Kinds.RK 1
-r·0 = Value.rVal record
-    { ty = Declared.row Parsed.the-type; one = Path'.refl; val = Laws'5.val Parsed.the-type Laws'3.the-laws; tells = Laws'5.tells Parsed.the-type Laws'3.the-laws; still = Laws'5.still Parsed.the-type
-    Laws'3.the-copy Exit.yes; row = Rows.whole (Declared.row Parsed.the-type); rd = λ x. x; mk = λ x. x; } λ M 𝓤 H A W. record
-    { copies = Laws'5.copy Parsed.the-type Laws'3.the-copy 𝓤 H A W; lawful = Laws'5.lawful Parsed.the-type Laws'3.the-laws 𝓤 H A W tt; makes = Laws'5.makes Parsed.the-type Laws'3.the-plain 𝓤 H A; in-mem =
-    Local.mem-whole 𝓤 H A W (Declared.row Parsed.the-type); of-mem = Local.whole-mem 𝓤 H A W (Declared.row Parsed.the-type); }
+r·0 = Value.rVal record {
+  ty = Declared.row Parsed.the-type;
+  one = Path'.refl;
+  val = Laws'5.val Parsed.the-type Laws'3.the-laws;
+  tells = Laws'5.tells Parsed.the-type Laws'3.the-laws;
+  still = Laws'5.still Parsed.the-type
+      Laws'3.the-copy Exit.yes;
+  row = Rows.whole (Declared.row Parsed.the-type);
+  rd = λ x. x;
+  mk = λ x. x;
+} λ M 𝓤 H A W. record {
+  copies = Laws'5.copy Parsed.the-type Laws'3.the-copy 𝓤 H A W;
+  lawful = Laws'5.lawful Parsed.the-type Laws'3.the-laws 𝓤 H A W tt;
+  makes = Laws'5.makes Parsed.the-type Laws'3.the-plain 𝓤 H A;
+  in-mem =
+      Local.mem-whole 𝓤 H A W (Declared.row Parsed.the-type);
+  of-mem = Local.whole-mem 𝓤 H A W (Declared.row Parsed.the-type);
+}
 
 abbrev pub ps·1 : List.List (Kinds.PK 0)
-ps·1 = List._∷_ (Value.pVal record
-    { ty = Declared.row Refusal.the-type; one = Path'.refl; val = Laws'5.val Refusal.the-type Laws'4.the-laws; tells = Laws'5.tells Refusal.the-type Laws'4.the-laws; still = Laws'5.still Refusal.the-type
-    Laws'4.the-copy Exit.yes; row = Rows.whole (Declared.row Refusal.the-type); rd = λ x. x; mk = λ x. x; } λ M 𝓤 H A W. record
-    { copies = Laws'5.copy Refusal.the-type Laws'4.the-copy 𝓤 H A W; lawful = Laws'5.lawful Refusal.the-type Laws'4.the-laws 𝓤 H A W tt; makes = Laws'5.makes Refusal.the-type Laws'4.the-plain 𝓤 H A;
-    in-mem = Local.mem-whole 𝓤 H A W (Declared.row Refusal.the-type); of-mem = Local.whole-mem 𝓤 H A W (Declared.row Refusal.the-type); }) List.[]
+ps·1 = List._∷_ (Value.pVal record {
+  ty = Declared.row Refusal.the-type;
+  one = Path'.refl;
+  val = Laws'5.val Refusal.the-type Laws'4.the-laws;
+  tells = Laws'5.tells Refusal.the-type Laws'4.the-laws;
+  still = Laws'5.still Refusal.the-type
+      Laws'4.the-copy Exit.yes;
+  row = Rows.whole (Declared.row Refusal.the-type);
+  rd = λ x. x;
+  mk = λ x. x;
+} λ M 𝓤 H A W. record {
+  copies = Laws'5.copy Refusal.the-type Laws'4.the-copy 𝓤 H A W;
+  lawful = Laws'5.lawful Refusal.the-type Laws'4.the-laws 𝓤 H A W tt;
+  makes = Laws'5.makes Refusal.the-type Laws'4.the-plain 𝓤 H A;
+  in-mem = Local.mem-whole 𝓤 H A W (Declared.row Refusal.the-type);
+  of-mem = Local.whole-mem 𝓤 H A W (Declared.row Refusal.the-type);
+}) List.[]
 
 abbrev pub r·1 : Kinds.RK 0
-r·1 = Value.rVal record
-    { ty = Declared'.row Counted.the-type; one = Path'.refl; val = Laws'6.val Counted.the-type Laws.the-laws; tells = Laws'6.tells Counted.the-type Laws.the-laws; still = Laws'6.still Counted.the-type
-    Laws.the-copy Exit.yes; row = Rows.whole (Declared'.row Counted.the-type); rd = λ x. x; mk = λ x. x; } λ M 𝓤 H A W. record
-    { copies = Laws'6.copy Counted.the-type Laws.the-copy 𝓤 H A W; lawful = Laws'6.lawful Counted.the-type Laws.the-laws 𝓤 H A W; makes = Laws'6.makes Counted.the-type Laws.the-plain 𝓤 H A; in-mem =
-    Local.mem-whole 𝓤 H A W (Declared'.row Counted.the-type); of-mem = Local.whole-mem 𝓤 H A W (Declared'.row Counted.the-type); }
+r·1 = Value.rVal record {
+  ty = Declared'.row Counted.the-type;
+  one = Path'.refl;
+  val = Laws'6.val Counted.the-type Laws.the-laws;
+  tells = Laws'6.tells Counted.the-type Laws.the-laws;
+  still = Laws'6.still Counted.the-type
+      Laws.the-copy Exit.yes;
+  row = Rows.whole (Declared'.row Counted.the-type);
+  rd = λ x. x;
+  mk = λ x. x;
+} λ M 𝓤 H A W. record {
+  copies = Laws'6.copy Counted.the-type Laws.the-copy 𝓤 H A W;
+  lawful = Laws'6.lawful Counted.the-type Laws.the-laws 𝓤 H A W;
+  makes = Laws'6.makes Counted.the-type Laws.the-plain 𝓤 H A;
+  in-mem =
+      Local.mem-whole 𝓤 H A W (Declared'.row Counted.the-type);
+  of-mem = Local.whole-mem 𝓤 H A W (Declared'.row Counted.the-type);
+}
 
 abbrev pub ps·2 : List.List (Kinds.PK 0)
 ps·2 = List._∷_ Bool.pBool List.[]
@@ -173,33 +224,84 @@ abbrev pub r·2 : Kinds.RK 0
 r·2 = Num.rNum Syntax.w64
 
 abbrev pub ps·3 : List.List (Kinds.PK 3)
-ps·3 = List._∷_ (ShrSlice.pShrS (Referent.rtF (Referent.fInt Syntax.w8)) 0 tt) (List._∷_ (Value.pVal record
-    { ty = Declared'.row FujiHeader.the-type; one = Path'.refl; val = Laws'6.val FujiHeader.the-type Laws''.the-laws; tells = Laws'6.tells FujiHeader.the-type Laws''.the-laws; still = Laws'6.still
-    FujiHeader.the-type Laws''.the-copy Exit.yes; row = Rows.whole (Declared'.row FujiHeader.the-type); rd = λ x. x; mk = λ x. x; } λ M 𝓤 H A W. record
-    { copies = Laws'6.copy FujiHeader.the-type Laws''.the-copy 𝓤 H A W; lawful = Laws'6.lawful FujiHeader.the-type Laws''.the-laws 𝓤 H A W; makes = Laws'6.makes FujiHeader.the-type Laws''.the-plain 𝓤 H A;
-    in-mem = Local.mem-whole 𝓤 H A W (Declared'.row FujiHeader.the-type); of-mem = Local.whole-mem 𝓤 H A W (Declared'.row FujiHeader.the-type); }) (List._∷_ (Num.pNum Syntax.w64) (List._∷_ (MutSlice.pMutS
+ps·3 = List._∷_ (ShrSlice.pShrS (Referent.rtF (Referent.fInt Syntax.w8)) 0 tt) (List._∷_ (Value.pVal record {
+  ty = Declared'.row FujiHeader.the-type;
+  one = Path'.refl;
+  val = Laws'6.val FujiHeader.the-type Laws''.the-laws;
+  tells = Laws'6.tells FujiHeader.the-type Laws''.the-laws;
+  still = Laws'6.still
+      FujiHeader.the-type Laws''.the-copy Exit.yes;
+  row = Rows.whole (Declared'.row FujiHeader.the-type);
+  rd = λ x. x;
+  mk = λ x. x;
+} λ M 𝓤 H A W. record {
+  copies = Laws'6.copy FujiHeader.the-type Laws''.the-copy 𝓤 H A W;
+  lawful = Laws'6.lawful FujiHeader.the-type Laws''.the-laws 𝓤 H A W;
+  makes = Laws'6.makes FujiHeader.the-type Laws''.the-plain 𝓤 H A;
+  in-mem = Local.mem-whole 𝓤 H A W (Declared'.row FujiHeader.the-type);
+  of-mem = Local.whole-mem 𝓤 H A W (Declared'.row FujiHeader.the-type);
+}) (List._∷_ (Num.pNum Syntax.w64) (List._∷_ (MutSlice.pMutS
     (Referent.rtF (Referent.fInt Syntax.w16)) 1 tt) (List._∷_ (MutSlice.pMutS (Element.type) 2 tt) List.[]))))
 
 abbrev pub r·3 : Kinds.RK 3
-r·3 = Value.rVal record
-    { ty = Declared.row Walked.the-type; one = Path'.refl; val = Laws'5.val Walked.the-type Laws'.the-laws; tells = Laws'5.tells Walked.the-type Laws'.the-laws; still = Laws'5.still Walked.the-type
-    Laws'.the-copy Exit.yes; row = Rows.whole (Declared.row Walked.the-type); rd = λ x. x; mk = λ x. x; } λ M 𝓤 H A W. record
-    { copies = Laws'5.copy Walked.the-type Laws'.the-copy 𝓤 H A W; lawful = Laws'5.lawful Walked.the-type Laws'.the-laws 𝓤 H A W tt; makes = Laws'5.makes Walked.the-type Laws'.the-plain 𝓤 H A; in-mem =
-    Local.mem-whole 𝓤 H A W (Declared.row Walked.the-type); of-mem = Local.whole-mem 𝓤 H A W (Declared.row Walked.the-type); }
+r·3 = Value.rVal record {
+  ty = Declared.row Walked.the-type;
+  one = Path'.refl;
+  val = Laws'5.val Walked.the-type Laws'.the-laws;
+  tells = Laws'5.tells Walked.the-type Laws'.the-laws;
+  still = Laws'5.still Walked.the-type
+      Laws'.the-copy Exit.yes;
+  row = Rows.whole (Declared.row Walked.the-type);
+  rd = λ x. x;
+  mk = λ x. x;
+} λ M 𝓤 H A W. record {
+  copies = Laws'5.copy Walked.the-type Laws'.the-copy 𝓤 H A W;
+  lawful = Laws'5.lawful Walked.the-type Laws'.the-laws 𝓤 H A W tt;
+  makes = Laws'5.makes Walked.the-type Laws'.the-plain 𝓤 H A;
+  in-mem =
+      Local.mem-whole 𝓤 H A W (Declared.row Walked.the-type);
+  of-mem = Local.whole-mem 𝓤 H A W (Declared.row Walked.the-type);
+}
 
 abbrev pub ps·4 : List.List (Kinds.PK 0)
-ps·4 = List._∷_ (Num.pNum Syntax.w64) (List._∷_ (Value.pVal record
-    { ty = Declared.row Walked.the-type; one = Path'.refl; val = Laws'5.val Walked.the-type Laws'.the-laws; tells = Laws'5.tells Walked.the-type Laws'.the-laws; still = Laws'5.still Walked.the-type
-    Laws'.the-copy Exit.yes; row = Rows.whole (Declared.row Walked.the-type); rd = λ x. x; mk = λ x. x; } λ M 𝓤 H A W. record
-    { copies = Laws'5.copy Walked.the-type Laws'.the-copy 𝓤 H A W; lawful = Laws'5.lawful Walked.the-type Laws'.the-laws 𝓤 H A W tt; makes = Laws'5.makes Walked.the-type Laws'.the-plain 𝓤 H A; in-mem =
-    Local.mem-whole 𝓤 H A W (Declared.row Walked.the-type); of-mem = Local.whole-mem 𝓤 H A W (Declared.row Walked.the-type); }) List.[])
+ps·4 = List._∷_ (Num.pNum Syntax.w64) (List._∷_ (Value.pVal record {
+  ty = Declared.row Walked.the-type;
+  one = Path'.refl;
+  val = Laws'5.val Walked.the-type Laws'.the-laws;
+  tells = Laws'5.tells Walked.the-type Laws'.the-laws;
+  still = Laws'5.still Walked.the-type
+      Laws'.the-copy Exit.yes;
+  row = Rows.whole (Declared.row Walked.the-type);
+  rd = λ x. x;
+  mk = λ x. x;
+} λ M 𝓤 H A W. record {
+  copies = Laws'5.copy Walked.the-type Laws'.the-copy 𝓤 H A W;
+  lawful = Laws'5.lawful Walked.the-type Laws'.the-laws 𝓤 H A W tt;
+  makes = Laws'5.makes Walked.the-type Laws'.the-plain 𝓤 H A;
+  in-mem =
+      Local.mem-whole 𝓤 H A W (Declared.row Walked.the-type);
+  of-mem = Local.whole-mem 𝓤 H A W (Declared.row Walked.the-type);
+}) List.[])
 
 abbrev pub r·4 : Kinds.RK 0
-r·4 = Value.rVal record
-    { ty = Declared'.row Counted.the-type; one = Path'.refl; val = Laws'6.val Counted.the-type Laws.the-laws; tells = Laws'6.tells Counted.the-type Laws.the-laws; still = Laws'6.still Counted.the-type
-    Laws.the-copy Exit.yes; row = Rows.whole (Declared'.row Counted.the-type); rd = λ x. x; mk = λ x. x; } λ M 𝓤 H A W. record
-    { copies = Laws'6.copy Counted.the-type Laws.the-copy 𝓤 H A W; lawful = Laws'6.lawful Counted.the-type Laws.the-laws 𝓤 H A W; makes = Laws'6.makes Counted.the-type Laws.the-plain 𝓤 H A; in-mem =
-    Local.mem-whole 𝓤 H A W (Declared'.row Counted.the-type); of-mem = Local.whole-mem 𝓤 H A W (Declared'.row Counted.the-type); }
+r·4 = Value.rVal record {
+  ty = Declared'.row Counted.the-type;
+  one = Path'.refl;
+  val = Laws'6.val Counted.the-type Laws.the-laws;
+  tells = Laws'6.tells Counted.the-type Laws.the-laws;
+  still = Laws'6.still Counted.the-type
+      Laws.the-copy Exit.yes;
+  row = Rows.whole (Declared'.row Counted.the-type);
+  rd = λ x. x;
+  mk = λ x. x;
+} λ M 𝓤 H A W. record {
+  copies = Laws'6.copy Counted.the-type Laws.the-copy 𝓤 H A W;
+  lawful = Laws'6.lawful Counted.the-type Laws.the-laws 𝓤 H A W;
+  makes = Laws'6.makes Counted.the-type Laws.the-plain 𝓤 H A;
+  in-mem =
+      Local.mem-whole 𝓤 H A W (Declared'.row Counted.the-type);
+  of-mem = Local.whole-mem 𝓤 H A W (Declared'.row Counted.the-type);
+}
 
 abbrev pub hs : List.List Syntax.Home
 hs = List._∷_ Syntax.valueLocal (List._∷_ Syntax.valueLocal (List._∷_ Syntax.valueLocal (List._∷_ Syntax.valueLocal (List._∷_ Syntax.valueLocal (List._∷_ Syntax.valueLocal (List._∷_ Syntax.valueLocal
@@ -422,16 +524,18 @@ abbrev pub e30 : Row.Entry
 e30 = (4, PartMut.mslice-owedM (Element.type) (Syntax.tyRef (Syntax.named 2) Syntax.mut Element.behind) 2 4 Row.off)
 
 abbrev pub e31 : Row.Entry
-e31 =
-    (5, Rows.any-gone (Syntax.tyEnum (List._∷_ 115 (List._∷_ 116 (List._∷_ 114 (List._∷_ 101 (List._∷_ 97 (List._∷_ 109 (List._∷_ 58 (List._∷_ 58 (List._∷_ 80 (List._∷_ 97 (List._∷_ 114 (List._∷_ 115
-    (List._∷_ 101 (List._∷_ 100 List.[])))))))))))))) (Syntax.ttcons (Syntax.tcons y0 Syntax.tnil) (Syntax.ttcons (Syntax.tcons (Syntax.tyEnum (List._∷_ 115 (List._∷_ 116 (List._∷_ 114 (List._∷_ 101
-    (List._∷_ 97 (List._∷_ 109 (List._∷_ 58 (List._∷_ 58 (List._∷_ 82 (List._∷_ 101 (List._∷_ 102 (List._∷_ 117 (List._∷_ 115 (List._∷_ 97 (List._∷_ 108 List.[]))))))))))))))) (Syntax.ttcons Syntax.tnil
-    (Syntax.ttcons Syntax.tnil (Syntax.ttcons Syntax.tnil (Syntax.ttcons (Syntax.tcons (Syntax.tyInt Syntax.w64) Syntax.tnil) (Syntax.ttcons Syntax.tnil (Syntax.ttcons Syntax.tnil (Syntax.ttcons
-    Syntax.tnil (Syntax.ttcons Syntax.tnil (Syntax.ttcons Syntax.tnil (Syntax.ttcons Syntax.tnil (Syntax.ttcons (Syntax.tcons (Syntax.tyInt Syntax.w64) Syntax.tnil) (Syntax.ttcons (Syntax.tcons
-    (Syntax.tyInt Syntax.w64) Syntax.tnil) (Syntax.ttcons Syntax.tnil (Syntax.ttcons (Syntax.tcons (Syntax.tyInt Syntax.w64) (Syntax.tcons (Syntax.tyInt Syntax.w64) Syntax.tnil)) (Syntax.ttcons
-    (Syntax.tcons (Syntax.tyInt Syntax.w64) Syntax.tnil) (Syntax.ttcons Syntax.tnil (Syntax.ttcons Syntax.tnil (Syntax.ttcons (Syntax.tcons (Syntax.tyInt Syntax.w64) Syntax.tnil) (Syntax.ttcons
-    (Syntax.tcons (Syntax.tyInt Syntax.w64) Syntax.tnil) (Syntax.ttcons (Syntax.tcons (Syntax.tyInt Syntax.w64) Syntax.tnil) (Syntax.ttcons (Syntax.tcons (Syntax.tyInt Syntax.w64) (Syntax.tcons
-    (Syntax.tyInt Syntax.w64) Syntax.tnil)) (Syntax.ttcons Syntax.tnil Syntax.ttnil))))))))))))))))))))))) Syntax.tnil) Syntax.ttnil))))
+e31 = (
+  5,
+  Rows.any-gone (Syntax.tyEnum (List._∷_ 115 (List._∷_ 116 (List._∷_ 114 (List._∷_ 101 (List._∷_ 97 (List._∷_ 109 (List._∷_ 58 (List._∷_ 58 (List._∷_ 80 (List._∷_ 97 (List._∷_ 114 (List._∷_ 115
+      (List._∷_ 101 (List._∷_ 100 List.[])))))))))))))) (Syntax.ttcons (Syntax.tcons y0 Syntax.tnil) (Syntax.ttcons (Syntax.tcons (Syntax.tyEnum (List._∷_ 115 (List._∷_ 116 (List._∷_ 114 (List._∷_ 101
+      (List._∷_ 97 (List._∷_ 109 (List._∷_ 58 (List._∷_ 58 (List._∷_ 82 (List._∷_ 101 (List._∷_ 102 (List._∷_ 117 (List._∷_ 115 (List._∷_ 97 (List._∷_ 108 List.[]))))))))))))))) (Syntax.ttcons Syntax.tnil
+      (Syntax.ttcons Syntax.tnil (Syntax.ttcons Syntax.tnil (Syntax.ttcons (Syntax.tcons (Syntax.tyInt Syntax.w64) Syntax.tnil) (Syntax.ttcons Syntax.tnil (Syntax.ttcons Syntax.tnil (Syntax.ttcons
+      Syntax.tnil (Syntax.ttcons Syntax.tnil (Syntax.ttcons Syntax.tnil (Syntax.ttcons Syntax.tnil (Syntax.ttcons (Syntax.tcons (Syntax.tyInt Syntax.w64) Syntax.tnil) (Syntax.ttcons (Syntax.tcons
+      (Syntax.tyInt Syntax.w64) Syntax.tnil) (Syntax.ttcons Syntax.tnil (Syntax.ttcons (Syntax.tcons (Syntax.tyInt Syntax.w64) (Syntax.tcons (Syntax.tyInt Syntax.w64) Syntax.tnil)) (Syntax.ttcons
+      (Syntax.tcons (Syntax.tyInt Syntax.w64) Syntax.tnil) (Syntax.ttcons Syntax.tnil (Syntax.ttcons Syntax.tnil (Syntax.ttcons (Syntax.tcons (Syntax.tyInt Syntax.w64) Syntax.tnil) (Syntax.ttcons
+      (Syntax.tcons (Syntax.tyInt Syntax.w64) Syntax.tnil) (Syntax.ttcons (Syntax.tcons (Syntax.tyInt Syntax.w64) Syntax.tnil) (Syntax.ttcons (Syntax.tcons (Syntax.tyInt Syntax.w64) (Syntax.tcons
+      (Syntax.tyInt Syntax.w64) Syntax.tnil)) (Syntax.ttcons Syntax.tnil Syntax.ttnil))))))))))))))))))))))) Syntax.tnil) Syntax.ttnil))),
+)
 
 abbrev pub e32 : Row.Entry
 e32 = (5, Rows.whole (Declared.row Parsed.the-type))
@@ -443,14 +547,16 @@ abbrev pub e34 : Row.Entry
 e34 = (5, Rows.whole (Known.Known Parsed.enum 1))
 
 abbrev pub e35 : Row.Entry
-e35 =
-    (6, Rows.any-gone (Syntax.tyEnum (List._∷_ 115 (List._∷_ 116 (List._∷_ 114 (List._∷_ 101 (List._∷_ 97 (List._∷_ 109 (List._∷_ 58 (List._∷_ 58 (List._∷_ 82 (List._∷_ 101 (List._∷_ 102 (List._∷_ 117
-    (List._∷_ 115 (List._∷_ 97 (List._∷_ 108 List.[]))))))))))))))) (Syntax.ttcons Syntax.tnil (Syntax.ttcons Syntax.tnil (Syntax.ttcons Syntax.tnil (Syntax.ttcons (Syntax.tcons (Syntax.tyInt Syntax.w64)
-    Syntax.tnil) (Syntax.ttcons Syntax.tnil (Syntax.ttcons Syntax.tnil (Syntax.ttcons Syntax.tnil (Syntax.ttcons Syntax.tnil (Syntax.ttcons Syntax.tnil (Syntax.ttcons Syntax.tnil (Syntax.ttcons
-    (Syntax.tcons (Syntax.tyInt Syntax.w64) Syntax.tnil) (Syntax.ttcons (Syntax.tcons (Syntax.tyInt Syntax.w64) Syntax.tnil) (Syntax.ttcons Syntax.tnil (Syntax.ttcons (Syntax.tcons (Syntax.tyInt
-    Syntax.w64) (Syntax.tcons (Syntax.tyInt Syntax.w64) Syntax.tnil)) (Syntax.ttcons (Syntax.tcons (Syntax.tyInt Syntax.w64) Syntax.tnil) (Syntax.ttcons Syntax.tnil (Syntax.ttcons Syntax.tnil
-    (Syntax.ttcons (Syntax.tcons (Syntax.tyInt Syntax.w64) Syntax.tnil) (Syntax.ttcons (Syntax.tcons (Syntax.tyInt Syntax.w64) Syntax.tnil) (Syntax.ttcons (Syntax.tcons (Syntax.tyInt Syntax.w64)
-    Syntax.tnil) (Syntax.ttcons (Syntax.tcons (Syntax.tyInt Syntax.w64) (Syntax.tcons (Syntax.tyInt Syntax.w64) Syntax.tnil)) (Syntax.ttcons Syntax.tnil Syntax.ttnil))))))))))))))))))))))))
+e35 = (
+  6,
+  Rows.any-gone (Syntax.tyEnum (List._∷_ 115 (List._∷_ 116 (List._∷_ 114 (List._∷_ 101 (List._∷_ 97 (List._∷_ 109 (List._∷_ 58 (List._∷_ 58 (List._∷_ 82 (List._∷_ 101 (List._∷_ 102 (List._∷_ 117
+      (List._∷_ 115 (List._∷_ 97 (List._∷_ 108 List.[]))))))))))))))) (Syntax.ttcons Syntax.tnil (Syntax.ttcons Syntax.tnil (Syntax.ttcons Syntax.tnil (Syntax.ttcons (Syntax.tcons (Syntax.tyInt Syntax.w64)
+      Syntax.tnil) (Syntax.ttcons Syntax.tnil (Syntax.ttcons Syntax.tnil (Syntax.ttcons Syntax.tnil (Syntax.ttcons Syntax.tnil (Syntax.ttcons Syntax.tnil (Syntax.ttcons Syntax.tnil (Syntax.ttcons
+      (Syntax.tcons (Syntax.tyInt Syntax.w64) Syntax.tnil) (Syntax.ttcons (Syntax.tcons (Syntax.tyInt Syntax.w64) Syntax.tnil) (Syntax.ttcons Syntax.tnil (Syntax.ttcons (Syntax.tcons (Syntax.tyInt
+      Syntax.w64) (Syntax.tcons (Syntax.tyInt Syntax.w64) Syntax.tnil)) (Syntax.ttcons (Syntax.tcons (Syntax.tyInt Syntax.w64) Syntax.tnil) (Syntax.ttcons Syntax.tnil (Syntax.ttcons Syntax.tnil
+      (Syntax.ttcons (Syntax.tcons (Syntax.tyInt Syntax.w64) Syntax.tnil) (Syntax.ttcons (Syntax.tcons (Syntax.tyInt Syntax.w64) Syntax.tnil) (Syntax.ttcons (Syntax.tcons (Syntax.tyInt Syntax.w64)
+      Syntax.tnil) (Syntax.ttcons (Syntax.tcons (Syntax.tyInt Syntax.w64) (Syntax.tcons (Syntax.tyInt Syntax.w64) Syntax.tnil)) (Syntax.ttcons Syntax.tnil Syntax.ttnil))))))))))))))))))))))),
+)
 
 abbrev pub e36 : Row.Entry
 e36 = (6, Rows.whole (Declared.row Refusal.the-type))
@@ -468,9 +574,11 @@ abbrev pub e40 : Row.Entry
 e40 = (8, Rows.sc-here (Row.sInt Syntax.w64))
 
 abbrev pub e41 : Row.Entry
-e41 =
-    (9, Rows.any-gone (Syntax.tyEnum (List._∷_ 98 (List._∷_ 108 (List._∷_ 111 (List._∷_ 99 (List._∷_ 107 (List._∷_ 58 (List._∷_ 58 (List._∷_ 87 (List._∷_ 97 (List._∷_ 108 (List._∷_ 107 (List._∷_ 101
-    (List._∷_ 100 List.[]))))))))))))) (Syntax.ttcons (Syntax.tcons y1 (Syntax.tcons y4 Syntax.tnil)) (Syntax.ttcons (Syntax.tcons (Syntax.tyInt Syntax.w64) (Syntax.tcons y1 Syntax.tnil)) Syntax.ttnil))))
+e41 = (
+  9,
+  Rows.any-gone (Syntax.tyEnum (List._∷_ 98 (List._∷_ 108 (List._∷_ 111 (List._∷_ 99 (List._∷_ 107 (List._∷_ 58 (List._∷_ 58 (List._∷_ 87 (List._∷_ 97 (List._∷_ 108 (List._∷_ 107 (List._∷_ 101
+      (List._∷_ 100 List.[]))))))))))))) (Syntax.ttcons (Syntax.tcons y1 (Syntax.tcons y4 Syntax.tnil)) (Syntax.ttcons (Syntax.tcons (Syntax.tyInt Syntax.w64) (Syntax.tcons y1 Syntax.tnil)) Syntax.ttnil))),
+)
 
 abbrev pub e42 : Row.Entry
 e42 = (9, Rows.whole (Declared.row Walked.the-type))
@@ -783,7 +891,7 @@ module _ (claims· : Claims) where
 
   abbrev s4 : Typed.Both T5 T6
   s4 = Call.callB ps·0 r·0 (claims· .0) (claims· .1) T5
-      (record { pos = 1; ty = Syntax.tyRef (Syntax.named 0) Syntax.imm (Syntax.tyInt Syntax.w8); ref = λ x. x; }, (Num.vAt 2 λ x. x, (Bool.bLit Bool'.false, (Num.vAt 10 λ x. x, (Num.vAt 11 λ x. x, tt)))))
+      (record { pos = 1; ty = Syntax.tyRef (Syntax.named 0) Syntax.imm (Syntax.tyInt Syntax.w8); ref = λ x. x }, (Num.vAt 2 λ x. x, (Bool.bLit Bool'.false, (Num.vAt 10 λ x. x, (Num.vAt 11 λ x. x, tt)))))
       5 (List._∷_ 0 List.[]) (Syntax.tyEnum (List._∷_ 115 (List._∷_ 116 (List._∷_ 114 (List._∷_ 101 (List._∷_ 97 (List._∷_ 109 (List._∷_ 58 (List._∷_ 58 (List._∷_ 80 (List._∷_ 97 (List._∷_ 114 (List._∷_
       115 (List._∷_ 101 (List._∷_ 100 List.[])))))))))))))) (Syntax.ttcons (Syntax.tcons y0 Syntax.tnil) (Syntax.ttcons (Syntax.tcons (Syntax.tyEnum (List._∷_ 115 (List._∷_ 116 (List._∷_ 114 (List._∷_ 101
       (List._∷_ 97 (List._∷_ 109 (List._∷_ 58 (List._∷_ 58 (List._∷_ 82 (List._∷_ 101 (List._∷_ 102 (List._∷_ 117 (List._∷_ 115 (List._∷_ 97 (List._∷_ 108 List.[]))))))))))))))) (Syntax.ttcons Syntax.tnil
@@ -900,12 +1008,19 @@ module _ (claims· : Claims) where
   s31 = Scalar.n-room T33 18 (Syntax.tyInt Syntax.w64)
 
   abbrev s32 : Typed.Both T34 T35
-  s32 = Call.callB ps·3 r·3 (claims· .6) (claims· .7) T34
-      (record { pos = 1; ty = Syntax.tyRef (Syntax.named 0) Syntax.imm (Syntax.tyInt Syntax.w8); ref = λ x. x; },
-      (record { pos = 7; st = List.[]; d = 0; at = λ x. x },
-      (Num.vAt 2 λ x. x,
-      (record { pos = 16; ty = Syntax.tyRef Syntax.erased Syntax.mut (Syntax.tyInt Syntax.w16); ref = λ x. x; },
-      (record { pos = 20; ty = Syntax.tyRef Syntax.erased Syntax.mut Element.behind; ref = λ x. x; }, tt))))) 9 (List._∷_ 0 (List._∷_ 3 (List._∷_ 4 List.[]))) (Syntax.tyEnum (List._∷_ 98 (List._∷_ 108
+  s32 = Call.callB ps·3 r·3 (claims· .6) (claims· .7) T34 (
+    record { pos = 1; ty = Syntax.tyRef (Syntax.named 0) Syntax.imm (Syntax.tyInt Syntax.w8); ref = λ x. x },
+    (
+      record { pos = 7; st = List.[]; d = 0; at = λ x. x },
+      (
+        Num.vAt 2 λ x. x,
+        (
+          record { pos = 16; ty = Syntax.tyRef Syntax.erased Syntax.mut (Syntax.tyInt Syntax.w16); ref = λ x. x },
+          (record { pos = 20; ty = Syntax.tyRef Syntax.erased Syntax.mut Element.behind; ref = λ x. x }, tt),
+        ),
+      ),
+    ),
+  ) 9 (List._∷_ 0 (List._∷_ 3 (List._∷_ 4 List.[]))) (Syntax.tyEnum (List._∷_ 98 (List._∷_ 108
       (List._∷_ 111 (List._∷_ 99 (List._∷_ 107 (List._∷_ 58 (List._∷_ 58 (List._∷_ 87 (List._∷_ 97 (List._∷_ 108 (List._∷_ 107 (List._∷_ 101 (List._∷_ 100 List.[]))))))))))))) (Syntax.ttcons (Syntax.tcons
       y1 (Syntax.tcons y4 Syntax.tnil)) (Syntax.ttcons (Syntax.tcons (Syntax.tyInt Syntax.w64) (Syntax.tcons y1 Syntax.tnil)) Syntax.ttnil)))
 
@@ -1146,236 +1261,312 @@ module _ (claims· : Claims) where
             (List._∷_ e40 (List._∷_ e42 (List._∷_ e3 (List._∷_ e5 (List._∷_ e7 (List._∷_ e9 (List._∷_ e11 (List._∷_ e14 List.[])))))))))))))))
 
         abbrev G0 : Row.Cx
-        G0 = record
-            { locals = List._++_ t0 t1; slots = List._∷_ (Row.lease (κs .0) (qs .0)) (List._∷_ (Row.lease (κs .1 .0) (qs .1 .0)) (List._∷_ (Row.lease (κs .1 .1 .0) (qs .1 .1 .0)) (List._∷_ Row.off
-            (List._∷_ Row.off List.[])))); }
+        G0 = record {
+          locals = List._++_ t0 t1;
+          slots = List._∷_ (Row.lease (κs .0) (qs .0)) (List._∷_ (Row.lease (κs .1 .0) (qs .1 .0)) (List._∷_ (Row.lease (κs .1 .1 .0) (qs .1 .1 .0)) (List._∷_ Row.off
+              (List._∷_ Row.off List.[]))));
+        }
 
         abbrev G1 : Row.Cx
-        G1 = record
-            { locals = List._++_ t2 t1; slots = List._∷_ (Row.lease (κs .0) (qs .0)) (List._∷_ (Row.lease (κs .1 .0) (qs .1 .0)) (List._∷_ (Row.lease (κs .1 .1 .0) (qs .1 .1 .0)) (List._∷_ Row.off
-            (List._∷_ Row.off List.[])))); }
+        G1 = record {
+          locals = List._++_ t2 t1;
+          slots = List._∷_ (Row.lease (κs .0) (qs .0)) (List._∷_ (Row.lease (κs .1 .0) (qs .1 .0)) (List._∷_ (Row.lease (κs .1 .1 .0) (qs .1 .1 .0)) (List._∷_ Row.off
+              (List._∷_ Row.off List.[]))));
+        }
 
         abbrev G2 : Row.Cx
-        G2 = record
-            { locals = List._++_ t0 t1; slots = List._∷_ (Row.lease (κs .0) (qs .0)) (List._∷_ (Row.lease (κs .1 .0) (qs .1 .0)) (List._∷_ (Row.lease (κs .1 .1 .0) (qs .1 .1 .0)) (List._∷_ Row.off
-            (List._∷_ Row.off List.[])))); }
+        G2 = record {
+          locals = List._++_ t0 t1;
+          slots = List._∷_ (Row.lease (κs .0) (qs .0)) (List._∷_ (Row.lease (κs .1 .0) (qs .1 .0)) (List._∷_ (Row.lease (κs .1 .1 .0) (qs .1 .1 .0)) (List._∷_ Row.off
+              (List._∷_ Row.off List.[]))));
+        }
 
         abbrev G3 : Row.Cx
-        G3 = record
-            { locals = List._++_ t0 t1; slots = List._∷_ (Row.lease (κs .0) (qs .0)) (List._∷_ (Row.lease (κs .1 .0) (qs .1 .0)) (List._∷_ (Row.lease (κs .1 .1 .0) (qs .1 .1 .0)) (List._∷_ Row.off
-            (List._∷_ Row.off List.[])))); }
+        G3 = record {
+          locals = List._++_ t0 t1;
+          slots = List._∷_ (Row.lease (κs .0) (qs .0)) (List._∷_ (Row.lease (κs .1 .0) (qs .1 .0)) (List._∷_ (Row.lease (κs .1 .1 .0) (qs .1 .1 .0)) (List._∷_ Row.off
+              (List._∷_ Row.off List.[]))));
+        }
 
         abbrev G4 : Row.Cx
-        G4 = record
-            { locals = List._++_ t3 t1; slots = List._∷_ (Row.lease (κs .0) (qs .0)) (List._∷_ (Row.lease (κs .1 .0) (qs .1 .0)) (List._∷_ (Row.lease (κs .1 .1 .0) (qs .1 .1 .0)) (List._∷_ Row.off
-            (List._∷_ Row.off List.[])))); }
+        G4 = record {
+          locals = List._++_ t3 t1;
+          slots = List._∷_ (Row.lease (κs .0) (qs .0)) (List._∷_ (Row.lease (κs .1 .0) (qs .1 .0)) (List._∷_ (Row.lease (κs .1 .1 .0) (qs .1 .1 .0)) (List._∷_ Row.off
+              (List._∷_ Row.off List.[]))));
+        }
 
         abbrev G5 : Row.Cx
-        G5 = record
-            { locals = List._++_ t4 t1; slots = List._∷_ (Row.lease (κs .0) (qs .0)) (List._∷_ (Row.lease (κs .1 .0) (qs .1 .0)) (List._∷_ (Row.lease (κs .1 .1 .0) (qs .1 .1 .0)) (List._∷_ Row.off
-            (List._∷_ Row.off List.[])))); }
+        G5 = record {
+          locals = List._++_ t4 t1;
+          slots = List._∷_ (Row.lease (κs .0) (qs .0)) (List._∷_ (Row.lease (κs .1 .0) (qs .1 .0)) (List._∷_ (Row.lease (κs .1 .1 .0) (qs .1 .1 .0)) (List._∷_ Row.off
+              (List._∷_ Row.off List.[]))));
+        }
 
         abbrev G6 : Row.Cx
-        G6 = record
-            { locals = List._++_ t5 t1; slots = List._∷_ (Row.lease (κs .0) (qs .0)) (List._∷_ (Row.lease (κs .1 .0) (qs .1 .0)) (List._∷_ (Row.lease (κs .1 .1 .0) (qs .1 .1 .0)) (List._∷_ Row.off
-            (List._∷_ Row.off List.[])))); }
+        G6 = record {
+          locals = List._++_ t5 t1;
+          slots = List._∷_ (Row.lease (κs .0) (qs .0)) (List._∷_ (Row.lease (κs .1 .0) (qs .1 .0)) (List._∷_ (Row.lease (κs .1 .1 .0) (qs .1 .1 .0)) (List._∷_ Row.off
+              (List._∷_ Row.off List.[]))));
+        }
 
         abbrev G7 : Row.Cx
-        G7 = record
-            { locals = List._++_ t6 t1; slots = List._∷_ (Row.lease (κs .0) (qs .0)) (List._∷_ (Row.lease (κs .1 .0) (qs .1 .0)) (List._∷_ (Row.lease (κs .1 .1 .0) (qs .1 .1 .0)) (List._∷_ Row.off
-            (List._∷_ Row.off List.[])))); }
+        G7 = record {
+          locals = List._++_ t6 t1;
+          slots = List._∷_ (Row.lease (κs .0) (qs .0)) (List._∷_ (Row.lease (κs .1 .0) (qs .1 .0)) (List._∷_ (Row.lease (κs .1 .1 .0) (qs .1 .1 .0)) (List._∷_ Row.off
+              (List._∷_ Row.off List.[]))));
+        }
 
         abbrev G8 : Row.Cx
-        G8 = record
-            { locals = List._++_ t7 t1; slots = List._∷_ (Row.lease (κs .0) (qs .0)) (List._∷_ (Row.lease (κs .1 .0) (qs .1 .0)) (List._∷_ (Row.lease (κs .1 .1 .0) (qs .1 .1 .0)) (List._∷_ Row.off
-            (List._∷_ Row.off List.[])))); }
+        G8 = record {
+          locals = List._++_ t7 t1;
+          slots = List._∷_ (Row.lease (κs .0) (qs .0)) (List._∷_ (Row.lease (κs .1 .0) (qs .1 .0)) (List._∷_ (Row.lease (κs .1 .1 .0) (qs .1 .1 .0)) (List._∷_ Row.off
+              (List._∷_ Row.off List.[]))));
+        }
 
         abbrev G9 : Row.Cx
-        G9 = record
-            { locals = List._++_ t8 t1; slots = List._∷_ (Row.lease (κs .0) (qs .0)) (List._∷_ (Row.lease (κs .1 .0) (qs .1 .0)) (List._∷_ (Row.lease (κs .1 .1 .0) (qs .1 .1 .0)) (List._∷_ Row.off
-            (List._∷_ Row.off List.[])))); }
+        G9 = record {
+          locals = List._++_ t8 t1;
+          slots = List._∷_ (Row.lease (κs .0) (qs .0)) (List._∷_ (Row.lease (κs .1 .0) (qs .1 .0)) (List._∷_ (Row.lease (κs .1 .1 .0) (qs .1 .1 .0)) (List._∷_ Row.off
+              (List._∷_ Row.off List.[]))));
+        }
 
         abbrev G10 : Row.Cx
-        G10 = record
-            { locals = List._++_ t9 t1; slots = List._∷_ (Row.lease (κs .0) (qs .0)) (List._∷_ (Row.lease (κs .1 .0) (qs .1 .0)) (List._∷_ (Row.lease (κs .1 .1 .0) (qs .1 .1 .0)) (List._∷_ Row.off
-            (List._∷_ Row.off List.[])))); }
+        G10 = record {
+          locals = List._++_ t9 t1;
+          slots = List._∷_ (Row.lease (κs .0) (qs .0)) (List._∷_ (Row.lease (κs .1 .0) (qs .1 .0)) (List._∷_ (Row.lease (κs .1 .1 .0) (qs .1 .1 .0)) (List._∷_ Row.off
+              (List._∷_ Row.off List.[]))));
+        }
 
         abbrev G11 : Row.Cx
-        G11 = record
-            { locals = List._++_ t9 t1; slots = List._∷_ (Row.lease (κs .0) (qs .0)) (List._∷_ (Row.lease (κs .1 .0) (qs .1 .0)) (List._∷_ (Row.lease (κs .1 .1 .0) (qs .1 .1 .0)) (List._∷_ Row.off
-            (List._∷_ Row.off List.[])))); }
+        G11 = record {
+          locals = List._++_ t9 t1;
+          slots = List._∷_ (Row.lease (κs .0) (qs .0)) (List._∷_ (Row.lease (κs .1 .0) (qs .1 .0)) (List._∷_ (Row.lease (κs .1 .1 .0) (qs .1 .1 .0)) (List._∷_ Row.off
+              (List._∷_ Row.off List.[]))));
+        }
 
         abbrev G12 : Row.Cx
-        G12 = record
-            { locals = List._++_ t10 t1; slots = List._∷_ (Row.lease (κs .0) (qs .0)) (List._∷_ (Row.lease (κs .1 .0) (qs .1 .0)) (List._∷_ (Row.lease (κs .1 .1 .0) (qs .1 .1 .0)) (List._∷_ Row.off
-            (List._∷_ Row.off List.[])))); }
+        G12 = record {
+          locals = List._++_ t10 t1;
+          slots = List._∷_ (Row.lease (κs .0) (qs .0)) (List._∷_ (Row.lease (κs .1 .0) (qs .1 .0)) (List._∷_ (Row.lease (κs .1 .1 .0) (qs .1 .1 .0)) (List._∷_ Row.off
+              (List._∷_ Row.off List.[]))));
+        }
 
         abbrev G13 : Row.Cx
-        G13 = record
-            { locals = List._++_ t11 t1; slots = List._∷_ (Row.lease (κs .0) (qs .0)) (List._∷_ (Row.lease (κs .1 .0) (qs .1 .0)) (List._∷_ (Row.lease (κs .1 .1 .0) (qs .1 .1 .0)) (List._∷_ Row.off
-            (List._∷_ Row.off List.[])))); }
+        G13 = record {
+          locals = List._++_ t11 t1;
+          slots = List._∷_ (Row.lease (κs .0) (qs .0)) (List._∷_ (Row.lease (κs .1 .0) (qs .1 .0)) (List._∷_ (Row.lease (κs .1 .1 .0) (qs .1 .1 .0)) (List._∷_ Row.off
+              (List._∷_ Row.off List.[]))));
+        }
 
         abbrev G14 : Row.Cx
-        G14 = record
-            { locals = List._++_ t12 t1; slots = List._∷_ (Row.lease (κs .0) (qs .0)) (List._∷_ (Row.lease (κs .1 .0) (qs .1 .0)) (List._∷_ (Row.lease (κs .1 .1 .0) (qs .1 .1 .0)) (List._∷_ Row.off
-            (List._∷_ Row.off List.[])))); }
+        G14 = record {
+          locals = List._++_ t12 t1;
+          slots = List._∷_ (Row.lease (κs .0) (qs .0)) (List._∷_ (Row.lease (κs .1 .0) (qs .1 .0)) (List._∷_ (Row.lease (κs .1 .1 .0) (qs .1 .1 .0)) (List._∷_ Row.off
+              (List._∷_ Row.off List.[]))));
+        }
 
         abbrev G15 : Row.Cx
-        G15 = record
-            { locals = List._++_ t6 t1; slots = List._∷_ (Row.lease (κs .0) (qs .0)) (List._∷_ (Row.lease (κs .1 .0) (qs .1 .0)) (List._∷_ (Row.lease (κs .1 .1 .0) (qs .1 .1 .0)) (List._∷_ Row.off
-            (List._∷_ Row.off List.[])))); }
+        G15 = record {
+          locals = List._++_ t6 t1;
+          slots = List._∷_ (Row.lease (κs .0) (qs .0)) (List._∷_ (Row.lease (κs .1 .0) (qs .1 .0)) (List._∷_ (Row.lease (κs .1 .1 .0) (qs .1 .1 .0)) (List._∷_ Row.off
+              (List._∷_ Row.off List.[]))));
+        }
 
         abbrev G16 : Row.Cx
-        G16 = record
-            { locals = List._++_ t13 t1; slots = List._∷_ (Row.lease (κs .0) (qs .0)) (List._∷_ (Row.lease (κs .1 .0) (qs .1 .0)) (List._∷_ (Row.lease (κs .1 .1 .0) (qs .1 .1 .0)) (List._∷_ Row.off
-            (List._∷_ Row.off List.[])))); }
+        G16 = record {
+          locals = List._++_ t13 t1;
+          slots = List._∷_ (Row.lease (κs .0) (qs .0)) (List._∷_ (Row.lease (κs .1 .0) (qs .1 .0)) (List._∷_ (Row.lease (κs .1 .1 .0) (qs .1 .1 .0)) (List._∷_ Row.off
+              (List._∷_ Row.off List.[]))));
+        }
 
         abbrev G17 : Row.Cx
-        G17 = record
-            { locals = List._++_ t13 t1; slots = List._∷_ (Row.lease (κs .0) (qs .0)) (List._∷_ (Row.lease (κs .1 .0) (qs .1 .0)) (List._∷_ (Row.lease (κs .1 .1 .0) (qs .1 .1 .0)) (List._∷_ Row.off
-            (List._∷_ Row.off List.[])))); }
+        G17 = record {
+          locals = List._++_ t13 t1;
+          slots = List._∷_ (Row.lease (κs .0) (qs .0)) (List._∷_ (Row.lease (κs .1 .0) (qs .1 .0)) (List._∷_ (Row.lease (κs .1 .1 .0) (qs .1 .1 .0)) (List._∷_ Row.off
+              (List._∷_ Row.off List.[]))));
+        }
 
         abbrev G18 : Row.Cx
-        G18 = record
-            { locals = List._++_ t14 t1; slots = List._∷_ (Row.lease (κs .0) (qs .0)) (List._∷_ (Row.lease (κs .1 .0) (qs .1 .0)) (List._∷_ (Row.lease (κs .1 .1 .0) (qs .1 .1 .0)) (List._∷_ Row.off
-            (List._∷_ Row.off List.[])))); }
+        G18 = record {
+          locals = List._++_ t14 t1;
+          slots = List._∷_ (Row.lease (κs .0) (qs .0)) (List._∷_ (Row.lease (κs .1 .0) (qs .1 .0)) (List._∷_ (Row.lease (κs .1 .1 .0) (qs .1 .1 .0)) (List._∷_ Row.off
+              (List._∷_ Row.off List.[]))));
+        }
 
         abbrev G19 : Row.Cx
-        G19 = record
-            { locals = List._++_ t15 t1; slots = List._∷_ (Row.lease (κs .0) (qs .0)) (List._∷_ (Row.lease (κs .1 .0) (qs .1 .0)) (List._∷_ (Row.lease (κs .1 .1 .0) (qs .1 .1 .0)) (List._∷_ Row.off
-            (List._∷_ Row.off List.[])))); }
+        G19 = record {
+          locals = List._++_ t15 t1;
+          slots = List._∷_ (Row.lease (κs .0) (qs .0)) (List._∷_ (Row.lease (κs .1 .0) (qs .1 .0)) (List._∷_ (Row.lease (κs .1 .1 .0) (qs .1 .1 .0)) (List._∷_ Row.off
+              (List._∷_ Row.off List.[]))));
+        }
 
         abbrev G20 : Row.Cx
-        G20 = record
-            { locals = List._++_ t16 t1; slots = List._∷_ (Row.lease (κs .0) (qs .0)) (List._∷_ (Row.lease (κs .1 .0) (qs .1 .0)) (List._∷_ (Row.lease (κs .1 .1 .0) (qs .1 .1 .0)) (List._∷_ Row.off
-            (List._∷_ Row.off List.[])))); }
+        G20 = record {
+          locals = List._++_ t16 t1;
+          slots = List._∷_ (Row.lease (κs .0) (qs .0)) (List._∷_ (Row.lease (κs .1 .0) (qs .1 .0)) (List._∷_ (Row.lease (κs .1 .1 .0) (qs .1 .1 .0)) (List._∷_ Row.off
+              (List._∷_ Row.off List.[]))));
+        }
 
         abbrev G21 : Row.Cx
-        G21 = record
-            { locals = List._++_ t17 t1; slots = List._∷_ (Row.lease (κs .0) (qs .0)) (List._∷_ (Row.lease (κs .1 .0) (qs .1 .0)) (List._∷_ (Row.lease (κs .1 .1 .0) (qs .1 .1 .0)) (List._∷_ Row.off
-            (List._∷_ Row.off List.[])))); }
+        G21 = record {
+          locals = List._++_ t17 t1;
+          slots = List._∷_ (Row.lease (κs .0) (qs .0)) (List._∷_ (Row.lease (κs .1 .0) (qs .1 .0)) (List._∷_ (Row.lease (κs .1 .1 .0) (qs .1 .1 .0)) (List._∷_ Row.off
+              (List._∷_ Row.off List.[]))));
+        }
 
         abbrev G22 : Row.Cx
-        G22 = record
-            { locals = List._++_ t18 t1; slots = List._∷_ (Row.lease (κs .0) (qs .0)) (List._∷_ (Row.lease (κs .1 .0) (qs .1 .0)) (List._∷_ (Row.lease (κs .1 .1 .0) (qs .1 .1 .0)) (List._∷_ Row.off
-            (List._∷_ Row.off List.[])))); }
+        G22 = record {
+          locals = List._++_ t18 t1;
+          slots = List._∷_ (Row.lease (κs .0) (qs .0)) (List._∷_ (Row.lease (κs .1 .0) (qs .1 .0)) (List._∷_ (Row.lease (κs .1 .1 .0) (qs .1 .1 .0)) (List._∷_ Row.off
+              (List._∷_ Row.off List.[]))));
+        }
 
         abbrev G23 : Row.Cx
-        G23 = record
-            { locals = List._++_ t18 t1; slots = List._∷_ (Row.lease (κs .0) (qs .0)) (List._∷_ (Row.lease (κs .1 .0) (qs .1 .0)) (List._∷_ (Row.lease (κs .1 .1 .0) (qs .1 .1 .0)) (List._∷_ Row.alive
-            (List._∷_ Row.off List.[])))); }
+        G23 = record {
+          locals = List._++_ t18 t1;
+          slots = List._∷_ (Row.lease (κs .0) (qs .0)) (List._∷_ (Row.lease (κs .1 .0) (qs .1 .0)) (List._∷_ (Row.lease (κs .1 .1 .0) (qs .1 .1 .0)) (List._∷_ Row.alive
+              (List._∷_ Row.off List.[]))));
+        }
 
         abbrev G24 : Row.Cx
-        G24 = record
-            { locals = List._++_ g19 t1; slots = List._∷_ (Row.lease (κs .0) (qs .0)) (List._∷_ Row.off (List._∷_ (Row.lease (κs .1 .1 .0) (qs .1 .1 .0)) (List._∷_ Row.alive (List._∷_ Row.off List.[]))));
-            }
+        G24 = record {
+          locals = List._++_ g19 t1;
+          slots = List._∷_ (Row.lease (κs .0) (qs .0)) (List._∷_ Row.off (List._∷_ (Row.lease (κs .1 .1 .0) (qs .1 .1 .0)) (List._∷_ Row.alive (List._∷_ Row.off List.[]))));
+        }
 
         abbrev G25 : Row.Cx
-        G25 = record
-            { locals = List._++_ g20 t1; slots = List._∷_ (Row.lease (κs .0) (qs .0)) (List._∷_ Row.off (List._∷_ (Row.lease (κs .1 .1 .0) (qs .1 .1 .0)) (List._∷_ Row.alive (List._∷_ Row.off List.[]))));
-            }
+        G25 = record {
+          locals = List._++_ g20 t1;
+          slots = List._∷_ (Row.lease (κs .0) (qs .0)) (List._∷_ Row.off (List._∷_ (Row.lease (κs .1 .1 .0) (qs .1 .1 .0)) (List._∷_ Row.alive (List._∷_ Row.off List.[]))));
+        }
 
         abbrev G26 : Row.Cx
-        G26 = record
-            { locals = List._++_ g21 t22; slots = List._∷_ (Row.lease (κs .0) (qs .0)) (List._∷_ Row.off (List._∷_ (Row.lease (κs .1 .1 .0) (qs .1 .1 .0)) (List._∷_ Row.alive (List._∷_ Row.off
-            List.[])))); }
+        G26 = record {
+          locals = List._++_ g21 t22;
+          slots = List._∷_ (Row.lease (κs .0) (qs .0)) (List._∷_ Row.off (List._∷_ (Row.lease (κs .1 .1 .0) (qs .1 .1 .0)) (List._∷_ Row.alive (List._∷_ Row.off
+              List.[]))));
+        }
 
         abbrev G27 : Row.Cx
-        G27 = record
-            { locals = List._++_ g23 t22; slots = List._∷_ (Row.lease (κs .0) (qs .0)) (List._∷_ Row.off (List._∷_ (Row.lease (κs .1 .1 .0) (qs .1 .1 .0)) (List._∷_ Row.alive (List._∷_ Row.off
-            List.[])))); }
+        G27 = record {
+          locals = List._++_ g23 t22;
+          slots = List._∷_ (Row.lease (κs .0) (qs .0)) (List._∷_ Row.off (List._∷_ (Row.lease (κs .1 .1 .0) (qs .1 .1 .0)) (List._∷_ Row.alive (List._∷_ Row.off
+              List.[]))));
+        }
 
         abbrev G28 : Row.Cx
-        G28 = record
-            { locals = List._++_ g23 t24; slots = List._∷_ (Row.lease (κs .0) (qs .0)) (List._∷_ Row.off (List._∷_ (Row.lease (κs .1 .1 .0) (qs .1 .1 .0)) (List._∷_ Row.alive (List._∷_ Row.off
-            List.[])))); }
+        G28 = record {
+          locals = List._++_ g23 t24;
+          slots = List._∷_ (Row.lease (κs .0) (qs .0)) (List._∷_ Row.off (List._∷_ (Row.lease (κs .1 .1 .0) (qs .1 .1 .0)) (List._∷_ Row.alive (List._∷_ Row.off
+              List.[]))));
+        }
 
         abbrev G29 : Row.Cx
-        G29 = record
-            { locals = List._++_ g23 t25; slots = List._∷_ (Row.lease (κs .0) (qs .0)) (List._∷_ Row.off (List._∷_ (Row.lease (κs .1 .1 .0) (qs .1 .1 .0)) (List._∷_ Row.alive (List._∷_ Row.off
-            List.[])))); }
+        G29 = record {
+          locals = List._++_ g23 t25;
+          slots = List._∷_ (Row.lease (κs .0) (qs .0)) (List._∷_ Row.off (List._∷_ (Row.lease (κs .1 .1 .0) (qs .1 .1 .0)) (List._∷_ Row.alive (List._∷_ Row.off
+              List.[]))));
+        }
 
         abbrev G30 : Row.Cx
-        G30 = record
-            { locals = List._++_ g23 t25; slots = List._∷_ (Row.lease (κs .0) (qs .0)) (List._∷_ Row.off (List._∷_ (Row.lease (κs .1 .1 .0) (qs .1 .1 .0)) (List._∷_ Row.alive (List._∷_ Row.alive
-            List.[])))); }
+        G30 = record {
+          locals = List._++_ g23 t25;
+          slots = List._∷_ (Row.lease (κs .0) (qs .0)) (List._∷_ Row.off (List._∷_ (Row.lease (κs .1 .1 .0) (qs .1 .1 .0)) (List._∷_ Row.alive (List._∷_ Row.alive
+              List.[]))));
+        }
 
         abbrev G31 : Row.Cx
-        G31 = record { locals = List._++_ g26 t27; slots = List._∷_ (Row.lease (κs .0) (qs .0)) (List._∷_ Row.off (List._∷_ Row.off (List._∷_ Row.alive (List._∷_ Row.alive List.[])))); }
+        G31 = record { locals = List._++_ g26 t27; slots = List._∷_ (Row.lease (κs .0) (qs .0)) (List._∷_ Row.off (List._∷_ Row.off (List._∷_ Row.alive (List._∷_ Row.alive List.[])))) }
 
         abbrev G32 : Row.Cx
-        G32 = record { locals = List._++_ g26 t28; slots = List._∷_ (Row.lease (κs .0) (qs .0)) (List._∷_ Row.off (List._∷_ Row.off (List._∷_ Row.alive (List._∷_ Row.alive List.[])))); }
+        G32 = record { locals = List._++_ g26 t28; slots = List._∷_ (Row.lease (κs .0) (qs .0)) (List._∷_ Row.off (List._∷_ Row.off (List._∷_ Row.alive (List._∷_ Row.alive List.[])))) }
 
         abbrev G33 : Row.Cx
-        G33 = record { locals = List._++_ g26 t29; slots = List._∷_ (Row.lease (κs .0) (qs .0)) (List._∷_ Row.off (List._∷_ Row.off (List._∷_ Row.alive (List._∷_ Row.alive List.[])))); }
+        G33 = record { locals = List._++_ g26 t29; slots = List._∷_ (Row.lease (κs .0) (qs .0)) (List._∷_ Row.off (List._∷_ Row.off (List._∷_ Row.alive (List._∷_ Row.alive List.[])))) }
 
         abbrev G34 : Row.Cx
-        G34 = record { locals = List._++_ g26 t30; slots = List._∷_ (Row.lease (κs .0) (qs .0)) (List._∷_ Row.off (List._∷_ Row.off (List._∷_ Row.alive (List._∷_ Row.alive List.[])))); }
+        G34 = record { locals = List._++_ g26 t30; slots = List._∷_ (Row.lease (κs .0) (qs .0)) (List._∷_ Row.off (List._∷_ Row.off (List._∷_ Row.alive (List._∷_ Row.alive List.[])))) }
 
         abbrev G35 : Row.Cx
-        G35 = record { locals = List._++_ g31 t32; slots = List._∷_ (Row.lease (κs .0) (qs .0)) (List._∷_ Row.off (List._∷_ Row.off (List._∷_ Row.alive (List._∷_ Row.alive List.[])))); }
+        G35 = record { locals = List._++_ g31 t32; slots = List._∷_ (Row.lease (κs .0) (qs .0)) (List._∷_ Row.off (List._∷_ Row.off (List._∷_ Row.alive (List._∷_ Row.alive List.[])))) }
 
         abbrev G36 : Row.Cx
-        G36 = record { locals = List._++_ g33 t32; slots = List._∷_ (Row.lease (κs .0) (qs .0)) (List._∷_ Row.off (List._∷_ Row.off (List._∷_ Row.alive (List._∷_ Row.alive List.[])))); }
+        G36 = record { locals = List._++_ g33 t32; slots = List._∷_ (Row.lease (κs .0) (qs .0)) (List._∷_ Row.off (List._∷_ Row.off (List._∷_ Row.alive (List._∷_ Row.alive List.[])))) }
 
         abbrev G37 : Row.Cx
-        G37 = record { locals = List._++_ g33 t32; slots = List._∷_ (Row.lease (κs .0) (qs .0)) (List._∷_ Row.off (List._∷_ Row.off (List._∷_ Row.dead (List._∷_ Row.alive List.[])))); }
+        G37 = record { locals = List._++_ g33 t32; slots = List._∷_ (Row.lease (κs .0) (qs .0)) (List._∷_ Row.off (List._∷_ Row.off (List._∷_ Row.dead (List._∷_ Row.alive List.[])))) }
 
         abbrev G38 : Row.Cx
         G38 = record
-            { locals = List._++_ g34 t35; slots = List._∷_ (Row.lease (κs .0) (qs .0)) (List._∷_ (Row.lease (κs .1 .0) (qs .1 .0)) (List._∷_ Row.off (List._∷_ Row.dead (List._∷_ Row.alive List.[])))); }
+            { locals = List._++_ g34 t35; slots = List._∷_ (Row.lease (κs .0) (qs .0)) (List._∷_ (Row.lease (κs .1 .0) (qs .1 .0)) (List._∷_ Row.off (List._∷_ Row.dead (List._∷_ Row.alive List.[])))) }
 
         abbrev G39 : Row.Cx
         G39 = record
-            { locals = List._++_ g34 t35; slots = List._∷_ (Row.lease (κs .0) (qs .0)) (List._∷_ (Row.lease (κs .1 .0) (qs .1 .0)) (List._∷_ Row.off (List._∷_ Row.dead (List._∷_ Row.alive List.[])))); }
+            { locals = List._++_ g34 t35; slots = List._∷_ (Row.lease (κs .0) (qs .0)) (List._∷_ (Row.lease (κs .1 .0) (qs .1 .0)) (List._∷_ Row.off (List._∷_ Row.dead (List._∷_ Row.alive List.[])))) }
 
         abbrev G40 : Row.Cx
         G40 = record
-            { locals = List._++_ g34 t35; slots = List._∷_ (Row.lease (κs .0) (qs .0)) (List._∷_ (Row.lease (κs .1 .0) (qs .1 .0)) (List._∷_ Row.off (List._∷_ Row.off (List._∷_ Row.alive List.[])))); }
+            { locals = List._++_ g34 t35; slots = List._∷_ (Row.lease (κs .0) (qs .0)) (List._∷_ (Row.lease (κs .1 .0) (qs .1 .0)) (List._∷_ Row.off (List._∷_ Row.off (List._∷_ Row.alive List.[])))) }
 
         abbrev G41 : Row.Cx
         G41 = record
-            { locals = List._++_ g34 t35; slots = List._∷_ (Row.lease (κs .0) (qs .0)) (List._∷_ (Row.lease (κs .1 .0) (qs .1 .0)) (List._∷_ Row.off (List._∷_ Row.off (List._∷_ Row.dead List.[])))); }
+            { locals = List._++_ g34 t35; slots = List._∷_ (Row.lease (κs .0) (qs .0)) (List._∷_ (Row.lease (κs .1 .0) (qs .1 .0)) (List._∷_ Row.off (List._∷_ Row.off (List._∷_ Row.dead List.[])))) }
 
         abbrev G42 : Row.Cx
-        G42 = record
-            { locals = List._++_ t36 t1; slots = List._∷_ (Row.lease (κs .0) (qs .0)) (List._∷_ (Row.lease (κs .1 .0) (qs .1 .0)) (List._∷_ (Row.lease (κs .1 .1 .0) (qs .1 .1 .0)) (List._∷_ Row.off
-            (List._∷_ Row.dead List.[])))); }
+        G42 = record {
+          locals = List._++_ t36 t1;
+          slots = List._∷_ (Row.lease (κs .0) (qs .0)) (List._∷_ (Row.lease (κs .1 .0) (qs .1 .0)) (List._∷_ (Row.lease (κs .1 .1 .0) (qs .1 .1 .0)) (List._∷_ Row.off
+              (List._∷_ Row.dead List.[]))));
+        }
 
         abbrev G43 : Row.Cx
-        G43 = record
-            { locals = List._++_ t36 t1; slots = List._∷_ (Row.lease (κs .0) (qs .0)) (List._∷_ (Row.lease (κs .1 .0) (qs .1 .0)) (List._∷_ (Row.lease (κs .1 .1 .0) (qs .1 .1 .0)) (List._∷_ Row.off
-            (List._∷_ Row.off List.[])))); }
+        G43 = record {
+          locals = List._++_ t36 t1;
+          slots = List._∷_ (Row.lease (κs .0) (qs .0)) (List._∷_ (Row.lease (κs .1 .0) (qs .1 .0)) (List._∷_ (Row.lease (κs .1 .1 .0) (qs .1 .1 .0)) (List._∷_ Row.off
+              (List._∷_ Row.off List.[]))));
+        }
 
         abbrev G44 : Row.Cx
-        G44 = record
-            { locals = List._++_ t37 t1; slots = List._∷_ (Row.lease (κs .0) (qs .0)) (List._∷_ (Row.lease (κs .1 .0) (qs .1 .0)) (List._∷_ (Row.lease (κs .1 .1 .0) (qs .1 .1 .0)) (List._∷_ Row.off
-            (List._∷_ Row.off List.[])))); }
+        G44 = record {
+          locals = List._++_ t37 t1;
+          slots = List._∷_ (Row.lease (κs .0) (qs .0)) (List._∷_ (Row.lease (κs .1 .0) (qs .1 .0)) (List._∷_ (Row.lease (κs .1 .1 .0) (qs .1 .1 .0)) (List._∷_ Row.off
+              (List._∷_ Row.off List.[]))));
+        }
 
         abbrev G45 : Row.Cx
-        G45 = record
-            { locals = List._++_ t38 t1; slots = List._∷_ (Row.lease (κs .0) (qs .0)) (List._∷_ (Row.lease (κs .1 .0) (qs .1 .0)) (List._∷_ (Row.lease (κs .1 .1 .0) (qs .1 .1 .0)) (List._∷_ Row.off
-            (List._∷_ Row.off List.[])))); }
+        G45 = record {
+          locals = List._++_ t38 t1;
+          slots = List._∷_ (Row.lease (κs .0) (qs .0)) (List._∷_ (Row.lease (κs .1 .0) (qs .1 .0)) (List._∷_ (Row.lease (κs .1 .1 .0) (qs .1 .1 .0)) (List._∷_ Row.off
+              (List._∷_ Row.off List.[]))));
+        }
 
         abbrev G46 : Row.Cx
-        G46 = record
-            { locals = List._++_ t6 t1; slots = List._∷_ (Row.lease (κs .0) (qs .0)) (List._∷_ (Row.lease (κs .1 .0) (qs .1 .0)) (List._∷_ (Row.lease (κs .1 .1 .0) (qs .1 .1 .0)) (List._∷_ Row.off
-            (List._∷_ Row.off List.[])))); }
+        G46 = record {
+          locals = List._++_ t6 t1;
+          slots = List._∷_ (Row.lease (κs .0) (qs .0)) (List._∷_ (Row.lease (κs .1 .0) (qs .1 .0)) (List._∷_ (Row.lease (κs .1 .1 .0) (qs .1 .1 .0)) (List._∷_ Row.off
+              (List._∷_ Row.off List.[]))));
+        }
 
         abbrev G47 : Row.Cx
-        G47 = record
-            { locals = List._++_ t39 t1; slots = List._∷_ (Row.lease (κs .0) (qs .0)) (List._∷_ (Row.lease (κs .1 .0) (qs .1 .0)) (List._∷_ (Row.lease (κs .1 .1 .0) (qs .1 .1 .0)) (List._∷_ Row.off
-            (List._∷_ Row.off List.[])))); }
+        G47 = record {
+          locals = List._++_ t39 t1;
+          slots = List._∷_ (Row.lease (κs .0) (qs .0)) (List._∷_ (Row.lease (κs .1 .0) (qs .1 .0)) (List._∷_ (Row.lease (κs .1 .1 .0) (qs .1 .1 .0)) (List._∷_ Row.off
+              (List._∷_ Row.off List.[]))));
+        }
 
         abbrev G48 : Row.Cx
-        G48 = record
-            { locals = List._++_ t40 t1; slots = List._∷_ (Row.lease (κs .0) (qs .0)) (List._∷_ (Row.lease (κs .1 .0) (qs .1 .0)) (List._∷_ (Row.lease (κs .1 .1 .0) (qs .1 .1 .0)) (List._∷_ Row.off
-            (List._∷_ Row.off List.[])))); }
+        G48 = record {
+          locals = List._++_ t40 t1;
+          slots = List._∷_ (Row.lease (κs .0) (qs .0)) (List._∷_ (Row.lease (κs .1 .0) (qs .1 .0)) (List._∷_ (Row.lease (κs .1 .1 .0) (qs .1 .1 .0)) (List._∷_ Row.off
+              (List._∷_ Row.off List.[]))));
+        }
 
         abbrev G49 : Row.Cx
-        G49 = record
-            { locals = List._++_ t2 t1; slots = List._∷_ (Row.lease (κs .0) (qs .0)) (List._∷_ (Row.lease (κs .1 .0) (qs .1 .0)) (List._∷_ (Row.lease (κs .1 .1 .0) (qs .1 .1 .0)) (List._∷_ Row.off
-            (List._∷_ Row.off List.[])))); }
+        G49 = record {
+          locals = List._++_ t2 t1;
+          slots = List._∷_ (Row.lease (κs .0) (qs .0)) (List._∷_ (Row.lease (κs .1 .0) (qs .1 .0)) (List._∷_ (Row.lease (κs .1 .1 .0) (qs .1 .1 .0)) (List._∷_ Row.off
+              (List._∷_ Row.off List.[]))));
+        }
 
         abbrev Δ0 : Typed.Outs
         Δ0 = record { next = Option.none; exits = List.[]; returns = Option.some G1 }
@@ -1391,10 +1582,14 @@ module _ (claims· : Claims) where
           d0 : Typed.Typed 𝓤 H A 𝓣 E G13 b4 Δ1 at0
           d0 = Typed.s-typed 𝓤 H A W 𝓣 E G13 b4 Δ1 (λ Ψ. Typed.both s11 (Typed.pass T14 T15 s12 Ψ)) tt (Typed.g-post 𝓤 H A W 𝓣 E G13 G14 G15 b4 (Typed.both s11) (Typed.pass T14 T15 s12)
               (Plain.t-call-plain 𝓤 H A W 𝓣 0 ps·1 r·1 (claims· .2) (claims· .3) "block::tight::refused" (known .1) E (λ pos β. β) G13 (record { pos = 6; st = List.[]; d = 0; at = λ x. x }, tt) 12 List.[]
-              (Call.sub-id 𝓤 H A W (G13 .slots))
-              ((Yields.yields-copy 𝓤 H A W (λ ρ. Unit) (Declared.row Refusal.the-type) Path'.refl (Copies.cEnum Refusal.the-type Laws'4.the-laws Laws'4.the-copy .copy 𝓤 H A W) (Rows.whole (Declared.row
-              Refusal.the-type)) (λ x. x) (λ x. x) (λ ρ told. Local.mem-whole 𝓤 H A W (Declared.row Refusal.the-type) ρ) λ ρ told. Local.whole-mem 𝓤 H A W (Declared.row Refusal.the-type) ρ, Path'.refl),
-              tt) (Reads'.room-gone 𝓤 H A y5) tt Path'.refl) (Scalar.g-room 𝓤 H A W E G14 6 (Syntax.tyEnum (List._∷_ 115 (List._∷_ 116 (List._∷_ 114 (List._∷_ 101 (List._∷_ 97 (List._∷_ 109 (List._∷_ 58
+              (Call.sub-id 𝓤 H A W (G13 .slots)) (
+                (
+                  Yields.yields-copy 𝓤 H A W (λ ρ. Unit) (Declared.row Refusal.the-type) Path'.refl (Copies.cEnum Refusal.the-type Laws'4.the-laws Laws'4.the-copy .copy 𝓤 H A W) (Rows.whole (Declared.row
+                      Refusal.the-type)) (λ x. x) (λ x. x) (λ ρ told. Local.mem-whole 𝓤 H A W (Declared.row Refusal.the-type) ρ) λ ρ told. Local.whole-mem 𝓤 H A W (Declared.row Refusal.the-type) ρ,
+                  Path'.refl,
+                ),
+                tt,
+              ) (Reads'.room-gone 𝓤 H A y5) tt Path'.refl) (Scalar.g-room 𝓤 H A W E G14 6 (Syntax.tyEnum (List._∷_ 115 (List._∷_ 116 (List._∷_ 114 (List._∷_ 101 (List._∷_ 97 (List._∷_ 109 (List._∷_ 58
               (List._∷_ 58 (List._∷_ 82 (List._∷_ 101 (List._∷_ 102 (List._∷_ 117 (List._∷_ 115 (List._∷_ 97 (List._∷_ 108 List.[]))))))))))))))) (Syntax.ttcons Syntax.tnil (Syntax.ttcons Syntax.tnil
               (Syntax.ttcons Syntax.tnil (Syntax.ttcons (Syntax.tcons (Syntax.tyInt Syntax.w64) Syntax.tnil) (Syntax.ttcons Syntax.tnil (Syntax.ttcons Syntax.tnil (Syntax.ttcons Syntax.tnil (Syntax.ttcons
               Syntax.tnil (Syntax.ttcons Syntax.tnil (Syntax.ttcons Syntax.tnil (Syntax.ttcons (Syntax.tcons (Syntax.tyInt Syntax.w64) Syntax.tnil) (Syntax.ttcons (Syntax.tcons (Syntax.tyInt Syntax.w64)
@@ -1449,16 +1644,18 @@ module _ (claims· : Claims) where
               Syntax.w64) Syntax.tnil) (Syntax.ttcons (Syntax.tcons (Syntax.tyInt Syntax.w64) Syntax.tnil) (Syntax.ttcons Syntax.tnil (Syntax.ttcons (Syntax.tcons (Syntax.tyInt Syntax.w64) (Syntax.tcons
               (Syntax.tyInt Syntax.w64) Syntax.tnil)) (Syntax.ttcons (Syntax.tcons (Syntax.tyInt Syntax.w64) Syntax.tnil) (Syntax.ttcons Syntax.tnil (Syntax.ttcons Syntax.tnil (Syntax.ttcons (Syntax.tcons
               (Syntax.tyInt Syntax.w64) Syntax.tnil) (Syntax.ttcons (Syntax.tcons (Syntax.tyInt Syntax.w64) Syntax.tnil) (Syntax.ttcons (Syntax.tcons (Syntax.tyInt Syntax.w64) Syntax.tnil) (Syntax.ttcons
-              (Syntax.tcons (Syntax.tyInt Syntax.w64) (Syntax.tcons (Syntax.tyInt Syntax.w64) Syntax.tnil)) (Syntax.ttcons Syntax.tnil Syntax.ttnil))))))))))))))))))))))))
-              (Match.reads-payload 𝓤 H A W Parsed.enum Laws'3.the-laws 1 Path'.refl Path'.refl (λ v. Val.vcons (Laws'5.val Refusal.the-type Laws'4.the-laws (v .0)) Val.vnil) (λ v. Path'.refl) 0
-              (Syntax.tyEnum (List._∷_ 115 (List._∷_ 116 (List._∷_ 114 (List._∷_ 101 (List._∷_ 97 (List._∷_ 109 (List._∷_ 58 (List._∷_ 58 (List._∷_ 82 (List._∷_ 101 (List._∷_ 102 (List._∷_ 117 (List._∷_
-              115 (List._∷_ 97 (List._∷_ 108 List.[]))))))))))))))) (Syntax.ttcons Syntax.tnil (Syntax.ttcons Syntax.tnil (Syntax.ttcons Syntax.tnil (Syntax.ttcons (Syntax.tcons (Syntax.tyInt Syntax.w64)
-              Syntax.tnil) (Syntax.ttcons Syntax.tnil (Syntax.ttcons Syntax.tnil (Syntax.ttcons Syntax.tnil (Syntax.ttcons Syntax.tnil (Syntax.ttcons Syntax.tnil (Syntax.ttcons Syntax.tnil (Syntax.ttcons
-              (Syntax.tcons (Syntax.tyInt Syntax.w64) Syntax.tnil) (Syntax.ttcons (Syntax.tcons (Syntax.tyInt Syntax.w64) Syntax.tnil) (Syntax.ttcons Syntax.tnil (Syntax.ttcons (Syntax.tcons (Syntax.tyInt
-              Syntax.w64) (Syntax.tcons (Syntax.tyInt Syntax.w64) Syntax.tnil)) (Syntax.ttcons (Syntax.tcons (Syntax.tyInt Syntax.w64) Syntax.tnil) (Syntax.ttcons Syntax.tnil (Syntax.ttcons Syntax.tnil
-              (Syntax.ttcons (Syntax.tcons (Syntax.tyInt Syntax.w64) Syntax.tnil) (Syntax.ttcons (Syntax.tcons (Syntax.tyInt Syntax.w64) Syntax.tnil) (Syntax.ttcons (Syntax.tcons (Syntax.tyInt Syntax.w64)
-              Syntax.tnil) (Syntax.ttcons (Syntax.tcons (Syntax.tyInt Syntax.w64) (Syntax.tcons (Syntax.tyInt Syntax.w64) Syntax.tnil)) (Syntax.ttcons Syntax.tnil Syntax.ttnil))))))))))))))))))))))) 8
-              Path'.refl, Path'.refl) Path'.refl (λ ρ m. Make.tells-row 𝓤 H A W E ρ (Row.out 6 (G11 .locals)) m 5 (Laws'5.Fields (Declared.variants Parsed.the-type) (Laws'5.spellss (Parsed.enum .parts)
+              (Syntax.tcons (Syntax.tyInt Syntax.w64) (Syntax.tcons (Syntax.tyInt Syntax.w64) Syntax.tnil)) (Syntax.ttcons Syntax.tnil Syntax.ttnil)))))))))))))))))))))))) (
+                Match.reads-payload 𝓤 H A W Parsed.enum Laws'3.the-laws 1 Path'.refl Path'.refl (λ v. Val.vcons (Laws'5.val Refusal.the-type Laws'4.the-laws (v .0)) Val.vnil) (λ v. Path'.refl) 0
+                    (Syntax.tyEnum (List._∷_ 115 (List._∷_ 116 (List._∷_ 114 (List._∷_ 101 (List._∷_ 97 (List._∷_ 109 (List._∷_ 58 (List._∷_ 58 (List._∷_ 82 (List._∷_ 101 (List._∷_ 102 (List._∷_ 117 (List._∷_
+                    115 (List._∷_ 97 (List._∷_ 108 List.[]))))))))))))))) (Syntax.ttcons Syntax.tnil (Syntax.ttcons Syntax.tnil (Syntax.ttcons Syntax.tnil (Syntax.ttcons (Syntax.tcons (Syntax.tyInt Syntax.w64)
+                    Syntax.tnil) (Syntax.ttcons Syntax.tnil (Syntax.ttcons Syntax.tnil (Syntax.ttcons Syntax.tnil (Syntax.ttcons Syntax.tnil (Syntax.ttcons Syntax.tnil (Syntax.ttcons Syntax.tnil (Syntax.ttcons
+                    (Syntax.tcons (Syntax.tyInt Syntax.w64) Syntax.tnil) (Syntax.ttcons (Syntax.tcons (Syntax.tyInt Syntax.w64) Syntax.tnil) (Syntax.ttcons Syntax.tnil (Syntax.ttcons (Syntax.tcons (Syntax.tyInt
+                    Syntax.w64) (Syntax.tcons (Syntax.tyInt Syntax.w64) Syntax.tnil)) (Syntax.ttcons (Syntax.tcons (Syntax.tyInt Syntax.w64) Syntax.tnil) (Syntax.ttcons Syntax.tnil (Syntax.ttcons Syntax.tnil
+                    (Syntax.ttcons (Syntax.tcons (Syntax.tyInt Syntax.w64) Syntax.tnil) (Syntax.ttcons (Syntax.tcons (Syntax.tyInt Syntax.w64) Syntax.tnil) (Syntax.ttcons (Syntax.tcons (Syntax.tyInt Syntax.w64)
+                    Syntax.tnil) (Syntax.ttcons (Syntax.tcons (Syntax.tyInt Syntax.w64) (Syntax.tcons (Syntax.tyInt Syntax.w64) Syntax.tnil)) (Syntax.ttcons Syntax.tnil Syntax.ttnil))))))))))))))))))))))) 8
+                    Path'.refl,
+                Path'.refl,
+              ) Path'.refl (λ ρ m. Make.tells-row 𝓤 H A W E ρ (Row.out 6 (G11 .locals)) m 5 (Laws'5.Fields (Declared.variants Parsed.the-type) (Laws'5.spellss (Parsed.enum .parts)
               Laws'3.the-laws) (Parsed.the-type .to (Known.at Parsed.enum 1 (m .1 .1 .1 .1 .1 .0)))) (Known.known-is 𝓤 H A W E Parsed.enum 1 Laws'3.the-laws ρ 5 (m .1 .1 .1 .1 .1 .0))) (λ m k wa.
               Path'.refl) λ m k wa. k .0) d1
 
@@ -1473,10 +1670,17 @@ module _ (claims· : Claims) where
           d5 = Typed.s-typed 𝓤 H A W 𝓣 E G43 b17 Δ1 (λ Ψ. Typed.both s41 (Typed.pass T44 T45 s42 (Typed.pass T45 T46 s43 Ψ))) tt (Typed.g-post 𝓤 H A W 𝓣 E G43 G45 G46 b17 (λ Ψ. Typed.both s41
               (Typed.pass T44 T45 s42 Ψ)) (Typed.pass T45 T46 s43) (Typed.g-post 𝓤 H A W 𝓣 E G43 G44 G45 b17 (Typed.both s41) (Typed.pass T44 T45 s42) (Plain.t-call-plain 𝓤 H A W 𝓣 0 ps·4 r·4 (claims· .8)
               (claims· .9) "block::tight::read_answer" (known .4) E (λ pos β. β) G43 (Num.vAt 2 λ x. x, (record { pos = 9; st = List.[]; d = 0; at = λ x. x }, tt)) 12 List.[] (Call.sub-id 𝓤 H A W (G43
-              .slots))
-              ((Scalar.reads-sc 𝓤 H A W (Row.sInt Syntax.w64), Path'.refl),
-              ((Yields.yields-copy 𝓤 H A W (λ ρ. Unit) (Declared.row Walked.the-type) Path'.refl (Copies.cEnum Walked.the-type Laws'.the-laws Laws'.the-copy .copy 𝓤 H A W) (Rows.whole (Declared.row
-              Walked.the-type)) (λ x. x) (λ x. x) (λ ρ told. Local.mem-whole 𝓤 H A W (Declared.row Walked.the-type) ρ) λ ρ told. Local.whole-mem 𝓤 H A W (Declared.row Walked.the-type) ρ, Path'.refl), tt))
+              .slots)) (
+                (Scalar.reads-sc 𝓤 H A W (Row.sInt Syntax.w64), Path'.refl),
+                (
+                  (
+                    Yields.yields-copy 𝓤 H A W (λ ρ. Unit) (Declared.row Walked.the-type) Path'.refl (Copies.cEnum Walked.the-type Laws'.the-laws Laws'.the-copy .copy 𝓤 H A W) (Rows.whole (Declared.row
+                        Walked.the-type)) (λ x. x) (λ x. x) (λ ρ told. Local.mem-whole 𝓤 H A W (Declared.row Walked.the-type) ρ) λ ρ told. Local.whole-mem 𝓤 H A W (Declared.row Walked.the-type) ρ,
+                    Path'.refl,
+                  ),
+                  tt,
+                ),
+              )
               (Reads'.room-gone 𝓤 H A y5) tt Path'.refl) (Scalar.g-room 𝓤 H A W E G44 8 (Syntax.tyInt Syntax.w64) (Scalar.room-sc 𝓤 H A W (Row.sInt Syntax.w64)))) (Scalar.g-room 𝓤 H A W E G45 9
               (Syntax.tyEnum (List._∷_ 98 (List._∷_ 108 (List._∷_ 111 (List._∷_ 99 (List._∷_ 107 (List._∷_ 58 (List._∷_ 58 (List._∷_ 87 (List._∷_ 97 (List._∷_ 108 (List._∷_ 107 (List._∷_ 101 (List._∷_ 100
               List.[]))))))))))))) (Syntax.ttcons (Syntax.tcons y1 (Syntax.tcons y4 Syntax.tnil)) (Syntax.ttcons (Syntax.tcons (Syntax.tyInt Syntax.w64) (Syntax.tcons y1 Syntax.tnil)) Syntax.ttnil)))
@@ -1518,22 +1722,48 @@ module _ (claims· : Claims) where
 
           d14 : Typed.Typed 𝓤 H A 𝓣 E G34 b18 Δ1 at14
           d14 = Typed.s-seq 𝓤 H A W 𝓣 E G34 G35 b16 b17 Δ1 (Typed.both s32) at13 (Plain.t-call-plain 𝓤 H A W 𝓣 3 ps·3 r·3 (claims· .6) (claims· .7) "block::tight::walk_block" (known .3) E (λ pos β. β)
-              G34
-              (record { pos = 1; ty = Syntax.tyRef (Syntax.named 0) Syntax.imm (Syntax.tyInt Syntax.w8); ref = λ x. x; },
-              (record { pos = 7; st = List.[]; d = 0; at = λ x. x },
-              (Num.vAt 2 λ x. x,
-              (record { pos = 16; ty = Syntax.tyRef Syntax.erased Syntax.mut (Syntax.tyInt Syntax.w16); ref = λ x. x; },
-              (record { pos = 20; ty = Syntax.tyRef Syntax.erased Syntax.mut Element.behind; ref = λ x. x; }, tt))))) 9 (List._∷_ 0 (List._∷_ 3 (List._∷_ 4 List.[]))) (Call.sub-id 𝓤 H A W (G34 .slots))
-              (ShrSlice.spares-sslice 𝓤 H A W (Referent.rtF (Referent.fInt Syntax.w8)) (Syntax.tyRef (Syntax.named 0) Syntax.imm (Syntax.tyInt Syntax.w8)) 0, Shared.reads-sslice 𝓤 H A W (Referent.rtF
-              (Referent.fInt Syntax.w8)) (Syntax.tyRef (Syntax.named 0) Syntax.imm (Syntax.tyInt Syntax.w8)) 0, Path'.refl,
-              ((Yields.yields-copy 𝓤 H A W (λ ρ. Unit) (Declared'.row FujiHeader.the-type) Path'.refl (Copies.cStruct FujiHeader.the-type Laws''.the-laws Laws''.the-copy .copy 𝓤 H A W) (Rows.whole
-              (Declared'.row FujiHeader.the-type)) (λ x. x) (λ x. x) (λ ρ told. Local.mem-whole 𝓤 H A W (Declared'.row FujiHeader.the-type) ρ) λ ρ told. Local.whole-mem 𝓤 H A W (Declared'.row
-              FujiHeader.the-type) ρ, Path'.refl),
-              ((Scalar.reads-sc 𝓤 H A W (Row.sInt Syntax.w64), Path'.refl),
-              (Reads'.as-is 𝓤 H A (Mut.mslice (Referent.rtF (Referent.fInt Syntax.w16)) (Syntax.tyRef Syntax.erased Syntax.mut (Syntax.tyInt Syntax.w16)) 3), Mut.reads-mslice 𝓤 H A W (Referent.rtF
-              (Referent.fInt Syntax.w16)) (Syntax.tyRef Syntax.erased Syntax.mut (Syntax.tyInt Syntax.w16)) 3, Path'.refl,
-              (Reads'.as-is 𝓤 H A (Mut.mslice (Element.type) (Syntax.tyRef Syntax.erased Syntax.mut Element.behind) 4), Mut.reads-mslice 𝓤 H A W (Element.type) (Syntax.tyRef Syntax.erased Syntax.mut
-              Element.behind) 4, Path'.refl, tt))))) (Reads'.room-gone 𝓤 H A (Syntax.tyEnum (List._∷_ 98 (List._∷_ 108 (List._∷_ 111 (List._∷_ 99 (List._∷_ 107 (List._∷_ 58 (List._∷_ 58 (List._∷_ 87
+              G34 (
+                record { pos = 1; ty = Syntax.tyRef (Syntax.named 0) Syntax.imm (Syntax.tyInt Syntax.w8); ref = λ x. x },
+                (
+                  record { pos = 7; st = List.[]; d = 0; at = λ x. x },
+                  (
+                    Num.vAt 2 λ x. x,
+                    (
+                      record { pos = 16; ty = Syntax.tyRef Syntax.erased Syntax.mut (Syntax.tyInt Syntax.w16); ref = λ x. x },
+                      (record { pos = 20; ty = Syntax.tyRef Syntax.erased Syntax.mut Element.behind; ref = λ x. x }, tt),
+                    ),
+                  ),
+                ),
+              ) 9 (List._∷_ 0 (List._∷_ 3 (List._∷_ 4 List.[]))) (Call.sub-id 𝓤 H A W (G34 .slots)) (
+                ShrSlice.spares-sslice 𝓤 H A W (Referent.rtF (Referent.fInt Syntax.w8)) (Syntax.tyRef (Syntax.named 0) Syntax.imm (Syntax.tyInt Syntax.w8)) 0,
+                Shared.reads-sslice 𝓤 H A W (Referent.rtF
+                    (Referent.fInt Syntax.w8)) (Syntax.tyRef (Syntax.named 0) Syntax.imm (Syntax.tyInt Syntax.w8)) 0,
+                Path'.refl,
+                (
+                  (
+                    Yields.yields-copy 𝓤 H A W (λ ρ. Unit) (Declared'.row FujiHeader.the-type) Path'.refl (Copies.cStruct FujiHeader.the-type Laws''.the-laws Laws''.the-copy .copy 𝓤 H A W) (Rows.whole
+                        (Declared'.row FujiHeader.the-type)) (λ x. x) (λ x. x) (λ ρ told. Local.mem-whole 𝓤 H A W (Declared'.row FujiHeader.the-type) ρ) λ ρ told. Local.whole-mem 𝓤 H A W (Declared'.row
+                        FujiHeader.the-type) ρ,
+                    Path'.refl,
+                  ),
+                  (
+                    (Scalar.reads-sc 𝓤 H A W (Row.sInt Syntax.w64), Path'.refl),
+                    (
+                      Reads'.as-is 𝓤 H A (Mut.mslice (Referent.rtF (Referent.fInt Syntax.w16)) (Syntax.tyRef Syntax.erased Syntax.mut (Syntax.tyInt Syntax.w16)) 3),
+                      Mut.reads-mslice 𝓤 H A W (Referent.rtF
+                          (Referent.fInt Syntax.w16)) (Syntax.tyRef Syntax.erased Syntax.mut (Syntax.tyInt Syntax.w16)) 3,
+                      Path'.refl,
+                      (
+                        Reads'.as-is 𝓤 H A (Mut.mslice (Element.type) (Syntax.tyRef Syntax.erased Syntax.mut Element.behind) 4),
+                        Mut.reads-mslice 𝓤 H A W (Element.type) (Syntax.tyRef Syntax.erased Syntax.mut
+                            Element.behind) 4,
+                        Path'.refl,
+                        tt,
+                      ),
+                    ),
+                  ),
+                ),
+              ) (Reads'.room-gone 𝓤 H A (Syntax.tyEnum (List._∷_ 98 (List._∷_ 108 (List._∷_ 111 (List._∷_ 99 (List._∷_ 107 (List._∷_ 58 (List._∷_ 58 (List._∷_ 87
               (List._∷_ 97 (List._∷_ 108 (List._∷_ 107 (List._∷_ 101 (List._∷_ 100 List.[]))))))))))))) (Syntax.ttcons (Syntax.tcons y1 (Syntax.tcons y4 Syntax.tnil)) (Syntax.ttcons (Syntax.tcons
               (Syntax.tyInt Syntax.w64) (Syntax.tcons y1 Syntax.tnil)) Syntax.ttnil)))) (tt, (tt, (tt, tt))) Path'.refl) d13
 
@@ -1635,9 +1865,11 @@ module _ (claims· : Claims) where
           d31 = Typed.s-seq 𝓤 H A W 𝓣 E G17 G18 b6 b27 Δ1 (Typed.pass T17 T18 s15) at30 (CopyOut.t-copy-told 𝓤 H A W E 𝓣 (Declared'.row FujiHeader.the-type) Path'.refl (Laws'6.val FujiHeader.the-type
               Laws''.the-laws) (Laws'6.lawful FujiHeader.the-type Laws''.the-laws 𝓤 H A W) (Laws'6.makes FujiHeader.the-type Laws''.the-plain 𝓤 H A) G17 7 (Scalar.oFld 5 (List._∷_ (Syntax.variant 0)
               (List._∷_ (Syntax.field 1) List.[])) y0 4 λ v. Laws'6.val FujiHeader.the-type Laws''.the-laws (v .0)) (λ m. m .1 .1 .1 .1 .1 .0 .0) (λ m. Laws'5.Fields (Declared.variants Parsed.the-type)
-              (Laws'5.spellss (Parsed.enum .parts) Laws'3.the-laws) (Parsed.the-type .to (Known.at Parsed.enum 0 (m .1 .1 .1 .1 .1 .0)))) (Reads'.room-gone 𝓤 H A y0)
-              (Match.reads-payload 𝓤 H A W Parsed.enum Laws'3.the-laws 0 Path'.refl Path'.refl (λ v. Val.vcons (Laws'6.val FujiHeader.the-type Laws''.the-laws (v .0)) Val.vnil) (λ v. Path'.refl) 0 y0 4
-              Path'.refl, Path'.refl) Path'.refl (λ ρ m. Make.tells-row 𝓤 H A W E ρ (Row.out 7 (G17 .locals)) m 5 (Laws'5.Fields (Declared.variants Parsed.the-type) (Laws'5.spellss (Parsed.enum .parts)
+              (Laws'5.spellss (Parsed.enum .parts) Laws'3.the-laws) (Parsed.the-type .to (Known.at Parsed.enum 0 (m .1 .1 .1 .1 .1 .0)))) (Reads'.room-gone 𝓤 H A y0) (
+                Match.reads-payload 𝓤 H A W Parsed.enum Laws'3.the-laws 0 Path'.refl Path'.refl (λ v. Val.vcons (Laws'6.val FujiHeader.the-type Laws''.the-laws (v .0)) Val.vnil) (λ v. Path'.refl) 0 y0 4
+                    Path'.refl,
+                Path'.refl,
+              ) Path'.refl (λ ρ m. Make.tells-row 𝓤 H A W E ρ (Row.out 7 (G17 .locals)) m 5 (Laws'5.Fields (Declared.variants Parsed.the-type) (Laws'5.spellss (Parsed.enum .parts)
               Laws'3.the-laws) (Parsed.the-type .to (Known.at Parsed.enum 0 (m .1 .1 .1 .1 .1 .0)))) (Known.known-is 𝓤 H A W E Parsed.enum 0 Laws'3.the-laws ρ 5 (m .1 .1 .1 .1 .1 .0))) (λ m k wa.
               Path'.refl) λ m k wa. k .0) d30
 
@@ -1683,13 +1915,19 @@ module _ (claims· : Claims) where
           d41 = Typed.t-seq 𝓤 H A W 𝓣 E G6 G7 b29 b32 Δ0 at36 at40 d36 d40
 
           d42 : Typed.Typed 𝓤 H A 𝓣 E G5 b34 Δ0 at42
-          d42 = Typed.s-seq 𝓤 H A W 𝓣 E G5 G6 b2 b33 Δ0 (Typed.both s4) at41 (Plain.t-call-plain 𝓤 H A W 𝓣 1 ps·0 r·0 (claims· .0) (claims· .1) "begin::block_begins" (known .0) E (λ pos β. β) G5
-              (record { pos = 1; ty = Syntax.tyRef (Syntax.named 0) Syntax.imm (Syntax.tyInt Syntax.w8); ref = λ x. x; },
-              (Num.vAt 2 λ x. x, (Bool.bLit Bool'.false, (Num.vAt 10 λ x. x, (Num.vAt 11 λ x. x, tt))))) 5 (List._∷_ 0 List.[]) (Call.sub-id 𝓤 H A W (G5 .slots))
-              (ShrSlice.spares-sslice 𝓤 H A W (Referent.rtF (Referent.fInt Syntax.w8)) (Syntax.tyRef (Syntax.named 0) Syntax.imm (Syntax.tyInt Syntax.w8)) 0, Shared.reads-sslice 𝓤 H A W (Referent.rtF
-              (Referent.fInt Syntax.w8)) (Syntax.tyRef (Syntax.named 0) Syntax.imm (Syntax.tyInt Syntax.w8)) 0, Path'.refl,
-              ((Scalar.reads-sc 𝓤 H A W (Row.sInt Syntax.w64), Path'.refl),
-              (tt, ((Scalar.reads-sc 𝓤 H A W (Row.sInt Syntax.w64), Path'.refl), ((Scalar.reads-sc 𝓤 H A W (Row.sInt Syntax.w64), Path'.refl), tt))))) (Reads'.room-gone 𝓤 H A (Syntax.tyEnum (List._∷_ 115
+          d42 = Typed.s-seq 𝓤 H A W 𝓣 E G5 G6 b2 b33 Δ0 (Typed.both s4) at41 (Plain.t-call-plain 𝓤 H A W 𝓣 1 ps·0 r·0 (claims· .0) (claims· .1) "begin::block_begins" (known .0) E (λ pos β. β) G5 (
+            record { pos = 1; ty = Syntax.tyRef (Syntax.named 0) Syntax.imm (Syntax.tyInt Syntax.w8); ref = λ x. x },
+            (Num.vAt 2 λ x. x, (Bool.bLit Bool'.false, (Num.vAt 10 λ x. x, (Num.vAt 11 λ x. x, tt)))),
+          ) 5 (List._∷_ 0 List.[]) (Call.sub-id 𝓤 H A W (G5 .slots)) (
+            ShrSlice.spares-sslice 𝓤 H A W (Referent.rtF (Referent.fInt Syntax.w8)) (Syntax.tyRef (Syntax.named 0) Syntax.imm (Syntax.tyInt Syntax.w8)) 0,
+            Shared.reads-sslice 𝓤 H A W (Referent.rtF
+                (Referent.fInt Syntax.w8)) (Syntax.tyRef (Syntax.named 0) Syntax.imm (Syntax.tyInt Syntax.w8)) 0,
+            Path'.refl,
+            (
+              (Scalar.reads-sc 𝓤 H A W (Row.sInt Syntax.w64), Path'.refl),
+              (tt, ((Scalar.reads-sc 𝓤 H A W (Row.sInt Syntax.w64), Path'.refl), ((Scalar.reads-sc 𝓤 H A W (Row.sInt Syntax.w64), Path'.refl), tt))),
+            ),
+          ) (Reads'.room-gone 𝓤 H A (Syntax.tyEnum (List._∷_ 115
               (List._∷_ 116 (List._∷_ 114 (List._∷_ 101 (List._∷_ 97 (List._∷_ 109 (List._∷_ 58 (List._∷_ 58 (List._∷_ 80 (List._∷_ 97 (List._∷_ 114 (List._∷_ 115 (List._∷_ 101 (List._∷_ 100
               List.[])))))))))))))) (Syntax.ttcons (Syntax.tcons y0 Syntax.tnil) (Syntax.ttcons (Syntax.tcons (Syntax.tyEnum (List._∷_ 115 (List._∷_ 116 (List._∷_ 114 (List._∷_ 101 (List._∷_ 97 (List._∷_
               109 (List._∷_ 58 (List._∷_ 58 (List._∷_ 82 (List._∷_ 101 (List._∷_ 102 (List._∷_ 117 (List._∷_ 115 (List._∷_ 97 (List._∷_ 108 List.[]))))))))))))))) (Syntax.ttcons Syntax.tnil (Syntax.ttcons
@@ -1743,9 +1981,12 @@ module _ (claims· : Claims) where
       m0 = λ κs args. (tt, Enter.partsP κs 1 ps xs (dens κs args))
 
       abbrev W0 : (κs : Lifetimes.Lfts 3) → (args : Args κs) → Typed.Want O0
-      W0 = λ κs args.
-          (λ u. ⊥, tt, λ u. Enter.Fixs κs 1 ps xs (dens κs args) (u .1) × Post· κs (dens κs args) (Function.resV r κs (u .0)) (Clauses.atExit (Kinds.endedOf 3 ps r) κs (dens κs args) (Enter.lastsP κs 1 ps
-          xs (dens κs args) (u .1))))
+      W0 = λ κs args. (
+        λ u. ⊥,
+        tt,
+        λ u. Enter.Fixs κs 1 ps xs (dens κs args) (u .1) × Post· κs (dens κs args) (Function.resV r κs (u .0)) (Clauses.atExit (Kinds.endedOf 3 ps r) κs (dens κs args) (Enter.lastsP κs 1 ps
+            xs (dens κs args) (u .1))),
+      )
 
       pub record Start : Type 0 where
         pub κs : Lifetimes.Lfts 3
@@ -1790,18 +2031,20 @@ module _ (claims· : Claims) where
 
       module _ (before· : After-slice-known) where
         abbrev pub After-block-begins·own : Type 0
-        After-block-begins·own = Called.Called ps·0 r·0 (claims· .1) T5
-            (record { pos = 1; ty = Syntax.tyRef (Syntax.named 0) Syntax.imm (Syntax.tyInt Syntax.w8); ref = λ x. x; },
-            (Num.vAt 2 λ x. x, (Bool.bLit Bool'.false, (Num.vAt 10 λ x. x, (Num.vAt 11 λ x. x, tt))))) (m4 (before· .before) (before· .slice-known .given))
+        After-block-begins·own = Called.Called ps·0 r·0 (claims· .1) T5 (
+          record { pos = 1; ty = Syntax.tyRef (Syntax.named 0) Syntax.imm (Syntax.tyInt Syntax.w8); ref = λ x. x },
+          (Num.vAt 2 λ x. x, (Bool.bLit Bool'.false, (Num.vAt 10 λ x. x, (Num.vAt 11 λ x. x, tt)))),
+        ) (m4 (before· .before) (before· .slice-known .given))
 
       pub record After-block-begins : Type 0 where
         pub before : After-slice-known
         pub block-begins : After-block-begins·own before
 
       abbrev pub After-block-begins·gave : (c : After-block-begins) → s4 .gives (m4 (c .before .before) (c .before .slice-known .given))
-      After-block-begins·gave = λ c. Called.given ps·0 r·0 (claims· .1) T5
-          (record { pos = 1; ty = Syntax.tyRef (Syntax.named 0) Syntax.imm (Syntax.tyInt Syntax.w8); ref = λ x. x; },
-          (Num.vAt 2 λ x. x, (Bool.bLit Bool'.false, (Num.vAt 10 λ x. x, (Num.vAt 11 λ x. x, tt))))) (m4 (c .before .before) (c .before .slice-known .given)) (c .block-begins)
+      After-block-begins·gave = λ c. Called.given ps·0 r·0 (claims· .1) T5 (
+        record { pos = 1; ty = Syntax.tyRef (Syntax.named 0) Syntax.imm (Syntax.tyInt Syntax.w8); ref = λ x. x },
+        (Num.vAt 2 λ x. x, (Bool.bLit Bool'.false, (Num.vAt 10 λ x. x, (Num.vAt 11 λ x. x, tt)))),
+      ) (m4 (c .before .before) (c .before .slice-known .given)) (c .block-begins)
 
       abbrev W1 : (before : After-slice-known) → (given : s4 .gives (m4 (before .before) (before .slice-known .given))) → Typed.Want O1
       W1 = λ before given. Typed.wantNext T7 O0 (at40 (W0 (before .before .before .κs) (before .before .before .args))) (W0 (before .before .before .κs) (before .before .before .args))
@@ -2007,24 +2250,38 @@ module _ (claims· : Claims) where
 
       module _ (before· : After-walk-block-arg2) where
         abbrev pub After-walk-block·own : Type 0
-        After-walk-block·own = Called.Called ps·3 r·3 (claims· .7) T34
-            (record { pos = 1; ty = Syntax.tyRef (Syntax.named 0) Syntax.imm (Syntax.tyInt Syntax.w8); ref = λ x. x; },
-            (record { pos = 7; st = List.[]; d = 0; at = λ x. x },
-            (Num.vAt 2 λ x. x,
-            (record { pos = 16; ty = Syntax.tyRef Syntax.erased Syntax.mut (Syntax.tyInt Syntax.w16); ref = λ x. x; },
-            (record { pos = 20; ty = Syntax.tyRef Syntax.erased Syntax.mut Element.behind; ref = λ x. x; }, tt))))) (m30 (before· .before) (before· .walk-block-arg2 .given))
+        After-walk-block·own = Called.Called ps·3 r·3 (claims· .7) T34 (
+          record { pos = 1; ty = Syntax.tyRef (Syntax.named 0) Syntax.imm (Syntax.tyInt Syntax.w8); ref = λ x. x },
+          (
+            record { pos = 7; st = List.[]; d = 0; at = λ x. x },
+            (
+              Num.vAt 2 λ x. x,
+              (
+                record { pos = 16; ty = Syntax.tyRef Syntax.erased Syntax.mut (Syntax.tyInt Syntax.w16); ref = λ x. x },
+                (record { pos = 20; ty = Syntax.tyRef Syntax.erased Syntax.mut Element.behind; ref = λ x. x }, tt),
+              ),
+            ),
+          ),
+        ) (m30 (before· .before) (before· .walk-block-arg2 .given))
 
       pub record After-walk-block : Type 0 where
         pub before : After-walk-block-arg2
         pub walk-block : After-walk-block·own before
 
       abbrev pub After-walk-block·gave : (c : After-walk-block) → s32 .gives (m30 (c .before .before) (c .before .walk-block-arg2 .given))
-      After-walk-block·gave = λ c. Called.given ps·3 r·3 (claims· .7) T34
-          (record { pos = 1; ty = Syntax.tyRef (Syntax.named 0) Syntax.imm (Syntax.tyInt Syntax.w8); ref = λ x. x; },
-          (record { pos = 7; st = List.[]; d = 0; at = λ x. x },
-          (Num.vAt 2 λ x. x,
-          (record { pos = 16; ty = Syntax.tyRef Syntax.erased Syntax.mut (Syntax.tyInt Syntax.w16); ref = λ x. x; },
-          (record { pos = 20; ty = Syntax.tyRef Syntax.erased Syntax.mut Element.behind; ref = λ x. x; }, tt))))) (m30 (c .before .before) (c .before .walk-block-arg2 .given)) (c .walk-block)
+      After-walk-block·gave = λ c. Called.given ps·3 r·3 (claims· .7) T34 (
+        record { pos = 1; ty = Syntax.tyRef (Syntax.named 0) Syntax.imm (Syntax.tyInt Syntax.w8); ref = λ x. x },
+        (
+          record { pos = 7; st = List.[]; d = 0; at = λ x. x },
+          (
+            Num.vAt 2 λ x. x,
+            (
+              record { pos = 16; ty = Syntax.tyRef Syntax.erased Syntax.mut (Syntax.tyInt Syntax.w16); ref = λ x. x },
+              (record { pos = 20; ty = Syntax.tyRef Syntax.erased Syntax.mut Element.behind; ref = λ x. x }, tt),
+            ),
+          ),
+        ),
+      ) (m30 (c .before .before) (c .before .walk-block-arg2 .given)) (c .walk-block)
 
       abbrev pub m32 : (before : After-walk-block-arg2) → (given : s32 .gives (m30 (before .before) (before .walk-block-arg2 .given))) → Typed.Mo T36
       m32 = λ before given. s33 (m31 before given)
@@ -2138,17 +2395,28 @@ module _ (claims· : Claims) where
           (same-length-2 : Need-same-length-2) (returns-2 : Need-returns-2) where
         lay5 : (c : After-read-answer) → at40 (W0 (c .before .before .before .before .before .before .before .before .before .before .before .before .before .before .κs) (c .before .before .before
             .before .before .before .before .before .before .before .before .before .before .before .args)) (m38 (c .before) (After-read-answer·gave c))
-        lay5 = λ c.
-            ((Path'.refl,
-            (tt,
-            (MutSlice.fix-len (Row.get 3 (T49 .locals) (m44 (c .before) (After-read-answer·gave c)) .ptr) (Row.get 3 (T49 .locals) (m44 (c .before) (After-read-answer·gave c)) .name) (Row.get 3 (T49
-            .locals) (m44 (c .before) (After-read-answer·gave c)) .now) (dens (c .before .before .before .before .before .before .before .before .before .before .before .before .before .before .κs) (c
-            .before .before .before .before .before .before .before .before .before .before .before .before .before .before .args) .1 .1 .0 .now) (same-length record
-            { before = c .before; read-answer = c .read-answer }),
-            (MutSlice.fix-len (Row.get 4 (T49 .locals) (m44 (c .before) (After-read-answer·gave c)) .ptr) (Row.get 4 (T49 .locals) (m44 (c .before) (After-read-answer·gave c)) .name) (Row.get 4 (T49
-            .locals) (m44 (c .before) (After-read-answer·gave c)) .now) (dens (c .before .before .before .before .before .before .before .before .before .before .before .before .before .before .κs) (c
-            .before .before .before .before .before .before .before .before .before .before .before .before .before .before .args) .1 .1 .1 .0 .now) (same-length-2 record
-            { before = c .before; read-answer = c .read-answer }), tt)))), returns-2 record { before = c .before; read-answer = c .read-answer })
+        lay5 = λ c. (
+          (
+            Path'.refl,
+            (
+              tt,
+              (
+                MutSlice.fix-len (Row.get 3 (T49 .locals) (m44 (c .before) (After-read-answer·gave c)) .ptr) (Row.get 3 (T49 .locals) (m44 (c .before) (After-read-answer·gave c)) .name) (Row.get 3 (T49
+                    .locals) (m44 (c .before) (After-read-answer·gave c)) .now) (dens (c .before .before .before .before .before .before .before .before .before .before .before .before .before .before .κs) (c
+                    .before .before .before .before .before .before .before .before .before .before .before .before .before .before .args) .1 .1 .0 .now) (same-length record
+                    { before = c .before; read-answer = c .read-answer }),
+                (
+                  MutSlice.fix-len (Row.get 4 (T49 .locals) (m44 (c .before) (After-read-answer·gave c)) .ptr) (Row.get 4 (T49 .locals) (m44 (c .before) (After-read-answer·gave c)) .name) (Row.get 4 (T49
+                      .locals) (m44 (c .before) (After-read-answer·gave c)) .now) (dens (c .before .before .before .before .before .before .before .before .before .before .before .before .before .before .κs) (c
+                      .before .before .before .before .before .before .before .before .before .before .before .before .before .before .args) .1 .1 .1 .0 .now) (same-length-2 record
+                      { before = c .before; read-answer = c .read-answer }),
+                  tt,
+                ),
+              ),
+            ),
+          ),
+          returns-2 record { before = c .before; read-answer = c .read-answer },
+        )
 
         lay4 : (c : After-refused) → at40 (W0 (c .before .before .before .before .before .before .before .κs) (c .before .before .before .before .before .before .before .args)) (m13 (c .before)
             (After-refused·gave c))
@@ -2156,79 +2424,154 @@ module _ (claims· : Claims) where
 
         lay3 : (c : After-walk-block) → at13 (W1 (c .before .before .before .before .before .before .before .before) (After-block-begins·gave (c .before .before .before .before .before .before
             .before))) (m31 (c .before) (After-walk-block·gave c))
-        lay3 = λ c.
-            (Path'.refl, λ g. λ g'.
-            (Path'.refl, λ g''.
-            (read-answer-requires record
-            { before = record { before = record { before = record { before = c .before; walk-block = c .walk-block }; lines = record { given = g }; }; slice-known2 = record { given = g' }; }; rs = record
-            { given = g'' }; }, λ g'3. lay5 record
-            { before = record
-            { before = record { before = record { before = record { before = c .before; walk-block = c .walk-block }; lines = record { given = g }; }; slice-known2 = record { given = g' }; }; rs = record
-            { given = g'' }; }; read-answer = Called.called ps·4 r·4 (claims· .9) T42 (Num.vAt 2 λ x. x, (record { pos = 9; st = List.[]; d = 0; at = λ x. x }, tt)) (m35 record
-            { before = record { before = record { before = c .before; walk-block = c .walk-block }; lines = record { given = g }; }; slice-known2 = record { given = g' }; } g'') g'3; })))
+        lay3 = λ c. (
+          Path'.refl,
+          λ g. λ g'. (
+            Path'.refl,
+            λ g''. (
+              read-answer-requires record {
+                before = record { before = record { before = record { before = c .before; walk-block = c .walk-block }; lines = record { given = g } }; slice-known2 = record { given = g' } };
+                rs = record
+                    { given = g'' };
+              },
+              λ g'3. lay5 record {
+                before = record {
+                  before = record { before = record { before = record { before = c .before; walk-block = c .walk-block }; lines = record { given = g } }; slice-known2 = record { given = g' } };
+                  rs = record
+                      { given = g'' };
+                };
+                read-answer = Called.called ps·4 r·4 (claims· .9) T42 (Num.vAt 2 λ x. x, (record { pos = 9; st = List.[]; d = 0; at = λ x. x }, tt)) (m35 record
+                    { before = record { before = record { before = c .before; walk-block = c .walk-block }; lines = record { given = g } }; slice-known2 = record { given = g' } } g'') g'3;
+              },
+            ),
+          ),
+        )
 
         lay2 : (c : After-samples-needed) → at28 (W1 (c .before .before .before .before .before) (After-block-begins·gave (c .before .before .before .before))) (m18 (c .before)
             (After-samples-needed·gave c))
-        lay2 = λ c.
-            (tt,
-            (sub-walk-block record { before = c .before; samples-needed = c .samples-needed },
-            ((Path'.refl, Path'.refl, part-walk-block-start record { before = c .before; samples-needed = c .samples-needed; }, part-walk-block-end record
-            { before = c .before; samples-needed = c .samples-needed; }), λ g.
-            (Relend.count-is T25 15 16 (λ x. x) (λ u. u .1 .1 .1 .1 .1 .1 .1 .1 .1 .1 .1 .1 .1 .1 .0) (m22 record { before = c .before; samples-needed = c .samples-needed } g) (g .1),
-            (tt,
-            (sub-walk-block-2 record { before = record { before = c .before; samples-needed = c .samples-needed }; walk-block-arg = record { given = g }; },
-            ((Path'.refl, Path'.refl, part-walk-block-start-2 record { before = record { before = c .before; samples-needed = c .samples-needed; }; walk-block-arg = record { given = g }; },
-            part-walk-block-end-2 record { before = record { before = c .before; samples-needed = c .samples-needed; }; walk-block-arg = record { given = g }; }), λ g'.
-            (Relend.count-is T32 19 20 (λ x. x) (λ u. u .1 .1 .1 .1 .1 .1 .1 .1 .1 .1 .1 .1 .1 .1 .1 .1 .1 .1 .0) (m28 record
-            { before = record { before = c .before; samples-needed = c .samples-needed; }; walk-block-arg = record { given = g }; } g') (g' .1),
-            (walk-block-requires record
-            { before = record { before = record { before = c .before; samples-needed = c .samples-needed; }; walk-block-arg = record { given = g }; }; walk-block-arg2 = record { given = g' }; }, λ g''.
-            lay3 record
-            { before = record
-            { before = record { before = record { before = c .before; samples-needed = c .samples-needed; }; walk-block-arg = record { given = g }; }; walk-block-arg2 = record { given = g' }; };
-            walk-block = Called.called ps·3 r·3 (claims· .7) T34
-            (record { pos = 1; ty = Syntax.tyRef (Syntax.named 0) Syntax.imm (Syntax.tyInt Syntax.w8); ref = λ x. x; },
-            (record { pos = 7; st = List.[]; d = 0; at = λ x. x },
-            (Num.vAt 2 λ x. x,
-            (record { pos = 16; ty = Syntax.tyRef Syntax.erased Syntax.mut (Syntax.tyInt Syntax.w16); ref = λ x. x; },
-            (record { pos = 20; ty = Syntax.tyRef Syntax.erased Syntax.mut Element.behind; ref = λ x. x; }, tt))))) (m30 record
-            { before = record { before = c .before; samples-needed = c .samples-needed; }; walk-block-arg = record { given = g }; } g') g''; })))))))))
+        lay2 = λ c. (
+          tt,
+          (
+            sub-walk-block record { before = c .before; samples-needed = c .samples-needed },
+            (
+              (
+                Path'.refl,
+                Path'.refl,
+                part-walk-block-start record { before = c .before; samples-needed = c .samples-needed },
+                part-walk-block-end record
+                    { before = c .before; samples-needed = c .samples-needed },
+              ),
+              λ g. (
+                Relend.count-is T25 15 16 (λ x. x) (λ u. u .1 .1 .1 .1 .1 .1 .1 .1 .1 .1 .1 .1 .1 .1 .0) (m22 record { before = c .before; samples-needed = c .samples-needed } g) (g .1),
+                (
+                  tt,
+                  (
+                    sub-walk-block-2 record { before = record { before = c .before; samples-needed = c .samples-needed }; walk-block-arg = record { given = g } },
+                    (
+                      (
+                        Path'.refl,
+                        Path'.refl,
+                        part-walk-block-start-2 record { before = record { before = c .before; samples-needed = c .samples-needed }; walk-block-arg = record { given = g } },
+                        part-walk-block-end-2 record { before = record { before = c .before; samples-needed = c .samples-needed }; walk-block-arg = record { given = g } },
+                      ),
+                      λ g'. (
+                        Relend.count-is T32 19 20 (λ x. x) (λ u. u .1 .1 .1 .1 .1 .1 .1 .1 .1 .1 .1 .1 .1 .1 .1 .1 .1 .1 .0) (m28 record
+                            { before = record { before = c .before; samples-needed = c .samples-needed }; walk-block-arg = record { given = g } } g') (g' .1),
+                        (
+                          walk-block-requires record
+                              { before = record { before = record { before = c .before; samples-needed = c .samples-needed }; walk-block-arg = record { given = g } }; walk-block-arg2 = record { given = g' } },
+                          λ g''.
+                              lay3 record {
+                                before = record
+                                    { before = record { before = record { before = c .before; samples-needed = c .samples-needed }; walk-block-arg = record { given = g } }; walk-block-arg2 = record { given = g' } };
+                                walk-block = Called.called ps·3 r·3 (claims· .7) T34 (
+                                  record { pos = 1; ty = Syntax.tyRef (Syntax.named 0) Syntax.imm (Syntax.tyInt Syntax.w8); ref = λ x. x },
+                                  (
+                                    record { pos = 7; st = List.[]; d = 0; at = λ x. x },
+                                    (
+                                      Num.vAt 2 λ x. x,
+                                      (
+                                        record { pos = 16; ty = Syntax.tyRef Syntax.erased Syntax.mut (Syntax.tyInt Syntax.w16); ref = λ x. x },
+                                        (record { pos = 20; ty = Syntax.tyRef Syntax.erased Syntax.mut Element.behind; ref = λ x. x }, tt),
+                                      ),
+                                    ),
+                                  ),
+                                ) (m30 record
+                                    { before = record { before = c .before; samples-needed = c .samples-needed }; walk-block-arg = record { given = g } } g') g'';
+                              },
+                        ),
+                      ),
+                    ),
+                  ),
+                ),
+              ),
+            ),
+          ),
+        )
 
         lay1 : (c : After-block-begins) → at41 (W0 (c .before .before .before .κs) (c .before .before .before .args)) (m5 (c .before) (After-block-begins·gave c))
-        lay1 = λ c.
-            (λ k.
-            (enum-known-begins record { before = record { before = c .before; block-begins = c .block-begins }; match = record { keys1 = k }; }, λ g. λ g'.
-            (refused-requires record
-            { before = record { before = record { before = record { before = c .before; block-begins = c .block-begins }; match = record { keys1 = k }; }; begins = record { given = g }; }; known-told =
-            record { given = g' }; }, λ g''. lay4 record
-            { before = record
-            { before = record { before = record { before = record { before = c .before; block-begins = c .block-begins }; match = record { keys1 = k }; }; begins = record { given = g }; }; known-told =
-            record { given = g' }; }; refused = Called.called ps·1 r·1 (claims· .3) T13 (record { pos = 6; st = List.[]; d = 0; at = λ x. x }, tt) (m11 record
-            { before = record { before = record { before = c .before; block-begins = c .block-begins }; match = record { keys1 = k }; }; begins = record { given = g }; } g') g''; })),
-            (λ k.
-            (enum-known-begins-2 record { before = record { before = c .before; block-begins = c .block-begins }; match = record { keys2 = k }; }, λ g. λ g'3.
-            (samples-needed-requires record
-            { before = record { before = record { before = record { before = c .before; block-begins = c .block-begins }; match = record { keys2 = k }; }; begins2 = record { given = g }; }; known-told2 =
-            record { given = g'3 }; }, λ g'4. lay2 record
-            { before = record
-            { before = record { before = record { before = record { before = c .before; block-begins = c .block-begins }; match = record { keys2 = k }; }; begins2 = record { given = g }; }; known-told2 =
-            record { given = g'3 }; }; samples-needed = Called.called ps·2 r·2 (claims· .5) T19 (Bool.bFld 7 (List._∷_ (Syntax.field 1) List.[]) 1 λ x. FujiHeader.struct .as-values x .1 .0, tt) (m17
-            record { before = record { before = record { before = c .before; block-begins = c .block-begins }; match = record { keys2 = k }; }; begins2 = record { given = g }; } g'3) g'4; })),
+        lay1 = λ c. (
+          λ k. (
+            enum-known-begins record { before = record { before = c .before; block-begins = c .block-begins }; match = record { keys1 = k } },
+            λ g. λ g'. (
+              refused-requires record {
+                before = record { before = record { before = record { before = c .before; block-begins = c .block-begins }; match = record { keys1 = k } }; begins = record { given = g } };
+                known-told =
+                    record { given = g' };
+              },
+              λ g''. lay4 record {
+                before = record {
+                  before = record { before = record { before = record { before = c .before; block-begins = c .block-begins }; match = record { keys1 = k } }; begins = record { given = g } };
+                  known-told =
+                      record { given = g' };
+                };
+                refused = Called.called ps·1 r·1 (claims· .3) T13 (record { pos = 6; st = List.[]; d = 0; at = λ x. x }, tt) (m11 record
+                    { before = record { before = record { before = c .before; block-begins = c .block-begins }; match = record { keys1 = k } }; begins = record { given = g } } g') g'';
+              },
+            ),
+          ),
+          (
+            λ k. (
+              enum-known-begins-2 record { before = record { before = c .before; block-begins = c .block-begins }; match = record { keys2 = k } },
+              λ g. λ g'3. (
+                samples-needed-requires record {
+                  before = record { before = record { before = record { before = c .before; block-begins = c .block-begins }; match = record { keys2 = k } }; begins2 = record { given = g } };
+                  known-told2 =
+                      record { given = g'3 };
+                },
+                λ g'4. lay2 record {
+                  before = record {
+                    before = record { before = record { before = record { before = c .before; block-begins = c .block-begins }; match = record { keys2 = k } }; begins2 = record { given = g } };
+                    known-told2 =
+                        record { given = g'3 };
+                  };
+                  samples-needed = Called.called ps·2 r·2 (claims· .5) T19 (Bool.bFld 7 (List._∷_ (Syntax.field 1) List.[]) 1 λ x. FujiHeader.struct .as-values x .1 .0, tt) (m17
+                      record { before = record { before = record { before = c .before; block-begins = c .block-begins }; match = record { keys2 = k } }; begins2 = record { given = g } } g'3) g'4;
+                },
+              ),
+            ),
             Match.each-below 2 (λ j. (Unit {0} × (Run.OneOf (List._∷_ 1 List.[]) j → ⊥)) × (Run.OneOf (List._∷_ 0 List.[]) j → ⊥) → ⊥) (λ n. n .0 .1 Path'.refl, (λ n. n .1 Path'.refl, tt)) (Declared.tagOf
-            Parsed.the-type (Row.get 5 (T9 .locals) (m7 (c .before) (After-block-begins·gave c)))) (Match.tag-small Parsed.the-type (Row.get 5 (T9 .locals) (m7 (c .before) (After-block-begins·gave c))))))
+                Parsed.the-type (Row.get 5 (T9 .locals) (m7 (c .before) (After-block-begins·gave c)))) (Match.tag-small Parsed.the-type (Row.get 5 (T9 .locals) (m7 (c .before) (After-block-begins·gave c)))),
+          ),
+        )
 
         pub laid : (c : Start) → at46 (W0 (c .κs) (c .args)) (m0 (c .κs) (c .args))
-        laid = λ c. λ g. λ g'.
-            (block-begins-requires record { before = record { before = c; shared-slice-known = record { given = g } }; slice-known = record { given = g' }; }, λ g''. lay1 record
-            { before = record { before = record { before = c; shared-slice-known = record { given = g } }; slice-known = record { given = g' }; }; block-begins = Called.called ps·0 r·0 (claims· .1) T5
-            (record { pos = 1; ty = Syntax.tyRef (Syntax.named 0) Syntax.imm (Syntax.tyInt Syntax.w8); ref = λ x. x; },
-            (Num.vAt 2 λ x. x, (Bool.bLit Bool'.false, (Num.vAt 10 λ x. x, (Num.vAt 11 λ x. x, tt))))) (m4 record { before = c; shared-slice-known = record { given = g } } g') g''; })
+        laid = λ c. λ g. λ g'. (
+          block-begins-requires record { before = record { before = c; shared-slice-known = record { given = g } }; slice-known = record { given = g' } },
+          λ g''. lay1 record {
+            before = record { before = record { before = c; shared-slice-known = record { given = g } }; slice-known = record { given = g' } };
+            block-begins = Called.called ps·0 r·0 (claims· .1) T5 (
+              record { pos = 1; ty = Syntax.tyRef (Syntax.named 0) Syntax.imm (Syntax.tyInt Syntax.w8); ref = λ x. x },
+              (Num.vAt 2 λ x. x, (Bool.bLit Bool'.false, (Num.vAt 10 λ x. x, (Num.vAt 11 λ x. x, tt)))),
+            ) (m4 record { before = c; shared-slice-known = record { given = g } } g') g'';
+          },
+        )
 
         module _ (κs : Lifetimes.Lfts 3) (qs : Lifetimes.Shares 3) where
           pub asked : (a : Kinds.Dens κs ps) → (good : Kinds.GoodsP κs ps a) → (pre : Pre· κs a) → (bs : List.List Nat.ℕ) → Φ (Any.wantQ 3 ps r xs m κs qs a (Post· κs a)) (Function.init 3 ps r xs m κs
               qs a)
           asked = λ a good pre bs. laid record
-              { κs = κs; args = record { d = a .0; b = a .1 .0; lines = a .1 .1 .0; rs = a .1 .1 .1 .0 }; good = good; fits = record { b = record { fits = good .1 .0 .1 } }; pre = pre; }
+              { κs = κs; args = record { d = a .0; b = a .1 .0; lines = a .1 .1 .0; rs = a .1 .1 .1 .0 }; good = good; fits = record { b = record { fits = good .1 .0 .1 } }; pre = pre }
 
         module _ {M : Type 1} (𝓤 : URA.URA M) (H : Wp.Heap 𝓤) (A : Atoms.Atoms 𝓤) (W : Kit.Given 𝓤 H A) (𝓣 : Wp.Tables 𝓤 H) (known0 : Plain.Known 𝓤 H A W 𝓣 1 ps·0 r·0 (claims· .0) (claims· .1)
             "begin::block_begins") (known1 : Plain.Known 𝓤 H A W 𝓣 0 ps·1 r·1 (claims· .2) (claims· .3) "block::tight::refused") (known2 : Plain.Known 𝓤 H A W 𝓣 0 ps·2 r·2 (claims· .4) (claims· .5)

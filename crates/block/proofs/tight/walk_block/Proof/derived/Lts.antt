@@ -121,19 +121,44 @@ y10 = Syntax.tyStruct (List._∷_ 99 (List._∷_ 97 (List._∷_ 109 (List._∷_ 
     (List._∷_ 105 (List._∷_ 101 (List._∷_ 115 List.[])))))))))))))))) (Syntax.tcons (Syntax.tyArray y9 16) Syntax.tnil)
 
 abbrev pub ps : List.List (Kinds.PK 3)
-ps = List._∷_ (ShrSlice.pShrS (Referent.rtF (Referent.fInt Syntax.w8)) 0 tt) (List._∷_ (Value.pVal record
-    { ty = Declared'.row FujiHeader.the-type; one = Path'.refl; val = Laws'6.val FujiHeader.the-type Laws'4.the-laws; tells = Laws'6.tells FujiHeader.the-type Laws'4.the-laws; still = Laws'6.still
-    FujiHeader.the-type Laws'4.the-copy Exit.yes; row = Rows'.whole (Declared'.row FujiHeader.the-type); rd = λ x. x; mk = λ x. x; } λ M 𝓤 H A W. record
-    { copies = Laws'6.copy FujiHeader.the-type Laws'4.the-copy 𝓤 H A W; lawful = Laws'6.lawful FujiHeader.the-type Laws'4.the-laws 𝓤 H A W; makes = Laws'6.makes FujiHeader.the-type Laws'4.the-plain 𝓤 H A;
-    in-mem = Local.mem-whole 𝓤 H A W (Declared'.row FujiHeader.the-type); of-mem = Local.whole-mem 𝓤 H A W (Declared'.row FujiHeader.the-type); }) (List._∷_ (Num.pNum Syntax.w64) (List._∷_ (MutSlice.pMutS
+ps = List._∷_ (ShrSlice.pShrS (Referent.rtF (Referent.fInt Syntax.w8)) 0 tt) (List._∷_ (Value.pVal record {
+  ty = Declared'.row FujiHeader.the-type;
+  one = Path'.refl;
+  val = Laws'6.val FujiHeader.the-type Laws'4.the-laws;
+  tells = Laws'6.tells FujiHeader.the-type Laws'4.the-laws;
+  still = Laws'6.still
+      FujiHeader.the-type Laws'4.the-copy Exit.yes;
+  row = Rows'.whole (Declared'.row FujiHeader.the-type);
+  rd = λ x. x;
+  mk = λ x. x;
+} λ M 𝓤 H A W. record {
+  copies = Laws'6.copy FujiHeader.the-type Laws'4.the-copy 𝓤 H A W;
+  lawful = Laws'6.lawful FujiHeader.the-type Laws'4.the-laws 𝓤 H A W;
+  makes = Laws'6.makes FujiHeader.the-type Laws'4.the-plain 𝓤 H A;
+  in-mem = Local.mem-whole 𝓤 H A W (Declared'.row FujiHeader.the-type);
+  of-mem = Local.whole-mem 𝓤 H A W (Declared'.row FujiHeader.the-type);
+}) (List._∷_ (Num.pNum Syntax.w64) (List._∷_ (MutSlice.pMutS
     (Referent.rtF (Referent.fInt Syntax.w16)) 1 tt) (List._∷_ (MutSlice.pMutS (Element.type) 2 tt) List.[]))))
 
 abbrev pub r : Kinds.RK 3
-r = Value.rVal record
-    { ty = Declared.row Walked.the-type; one = Path'.refl; val = Laws'5.val Walked.the-type Laws'.the-laws; tells = Laws'5.tells Walked.the-type Laws'.the-laws; still = Laws'5.still Walked.the-type
-    Laws'.the-copy Exit.yes; row = Rows'.whole (Declared.row Walked.the-type); rd = λ x. x; mk = λ x. x; } λ M 𝓤 H A W. record
-    { copies = Laws'5.copy Walked.the-type Laws'.the-copy 𝓤 H A W; lawful = Laws'5.lawful Walked.the-type Laws'.the-laws 𝓤 H A W tt; makes = Laws'5.makes Walked.the-type Laws'.the-plain 𝓤 H A; in-mem =
-    Local.mem-whole 𝓤 H A W (Declared.row Walked.the-type); of-mem = Local.whole-mem 𝓤 H A W (Declared.row Walked.the-type); }
+r = Value.rVal record {
+  ty = Declared.row Walked.the-type;
+  one = Path'.refl;
+  val = Laws'5.val Walked.the-type Laws'.the-laws;
+  tells = Laws'5.tells Walked.the-type Laws'.the-laws;
+  still = Laws'5.still Walked.the-type
+      Laws'.the-copy Exit.yes;
+  row = Rows'.whole (Declared.row Walked.the-type);
+  rd = λ x. x;
+  mk = λ x. x;
+} λ M 𝓤 H A W. record {
+  copies = Laws'5.copy Walked.the-type Laws'.the-copy 𝓤 H A W;
+  lawful = Laws'5.lawful Walked.the-type Laws'.the-laws 𝓤 H A W tt;
+  makes = Laws'5.makes Walked.the-type Laws'.the-plain 𝓤 H A;
+  in-mem =
+      Local.mem-whole 𝓤 H A W (Declared.row Walked.the-type);
+  of-mem = Local.whole-mem 𝓤 H A W (Declared.row Walked.the-type);
+}
 
 abbrev pub xs : List.List Syntax.Ty
 xs = List._∷_ y7 (List._∷_ (Syntax.tyInt Syntax.w64) (List._∷_ y4 (List._∷_ y4 (List._∷_ (Syntax.tyArray (Syntax.tyInt Syntax.w16) 768) (List._∷_ (Syntax.tyArray (Syntax.tyInt Syntax.w16) 1) (List._∷_
@@ -145,25 +170,62 @@ abbrev pub m : Nat.ℕ
 m = 4
 
 abbrev pub ps·0 : List.List (Kinds.PK 0)
-ps·0 = List._∷_ (Value.pVal record
-    { ty = Declared'.row FujiHeader.the-type; one = Path'.refl; val = Laws'6.val FujiHeader.the-type Laws'4.the-laws; tells = Laws'6.tells FujiHeader.the-type Laws'4.the-laws; still = Laws'6.still
-    FujiHeader.the-type Laws'4.the-copy Exit.yes; row = Rows'.whole (Declared'.row FujiHeader.the-type); rd = λ x. x; mk = λ x. x; } λ M 𝓤 H A W. record
-    { copies = Laws'6.copy FujiHeader.the-type Laws'4.the-copy 𝓤 H A W; lawful = Laws'6.lawful FujiHeader.the-type Laws'4.the-laws 𝓤 H A W; makes = Laws'6.makes FujiHeader.the-type Laws'4.the-plain 𝓤 H A;
-    in-mem = Local.mem-whole 𝓤 H A W (Declared'.row FujiHeader.the-type); of-mem = Local.whole-mem 𝓤 H A W (Declared'.row FujiHeader.the-type); }) List.[]
+ps·0 = List._∷_ (Value.pVal record {
+  ty = Declared'.row FujiHeader.the-type;
+  one = Path'.refl;
+  val = Laws'6.val FujiHeader.the-type Laws'4.the-laws;
+  tells = Laws'6.tells FujiHeader.the-type Laws'4.the-laws;
+  still = Laws'6.still
+      FujiHeader.the-type Laws'4.the-copy Exit.yes;
+  row = Rows'.whole (Declared'.row FujiHeader.the-type);
+  rd = λ x. x;
+  mk = λ x. x;
+} λ M 𝓤 H A W. record {
+  copies = Laws'6.copy FujiHeader.the-type Laws'4.the-copy 𝓤 H A W;
+  lawful = Laws'6.lawful FujiHeader.the-type Laws'4.the-laws 𝓤 H A W;
+  makes = Laws'6.makes FujiHeader.the-type Laws'4.the-plain 𝓤 H A;
+  in-mem = Local.mem-whole 𝓤 H A W (Declared'.row FujiHeader.the-type);
+  of-mem = Local.whole-mem 𝓤 H A W (Declared'.row FujiHeader.the-type);
+}) List.[]
 
 abbrev pub r·0 : Kinds.RK 0
-r·0 = Value.rVal record
-    { ty = Declared'.row Form.the-type; one = Path'.refl; val = Laws'6.val Form.the-type Laws.the-laws; tells = Laws'6.tells Form.the-type Laws.the-laws; still = Laws'6.still Form.the-type Laws.the-copy
-    Exit.yes; row = Rows'.whole (Declared'.row Form.the-type); rd = λ x. x; mk = λ x. x; } λ M 𝓤 H A W. record
-    { copies = Laws'6.copy Form.the-type Laws.the-copy 𝓤 H A W; lawful = Laws'6.lawful Form.the-type Laws.the-laws 𝓤 H A W; makes = Laws'6.makes Form.the-type Laws.the-plain 𝓤 H A; in-mem =
-    Local.mem-whole 𝓤 H A W (Declared'.row Form.the-type); of-mem = Local.whole-mem 𝓤 H A W (Declared'.row Form.the-type); }
+r·0 = Value.rVal record {
+  ty = Declared'.row Form.the-type;
+  one = Path'.refl;
+  val = Laws'6.val Form.the-type Laws.the-laws;
+  tells = Laws'6.tells Form.the-type Laws.the-laws;
+  still = Laws'6.still Form.the-type Laws.the-copy
+      Exit.yes;
+  row = Rows'.whole (Declared'.row Form.the-type);
+  rd = λ x. x;
+  mk = λ x. x;
+} λ M 𝓤 H A W. record {
+  copies = Laws'6.copy Form.the-type Laws.the-copy 𝓤 H A W;
+  lawful = Laws'6.lawful Form.the-type Laws.the-laws 𝓤 H A W;
+  makes = Laws'6.makes Form.the-type Laws.the-plain 𝓤 H A;
+  in-mem =
+      Local.mem-whole 𝓤 H A W (Declared'.row Form.the-type);
+  of-mem = Local.whole-mem 𝓤 H A W (Declared'.row Form.the-type);
+}
 
 abbrev pub ps·1 : List.List (Kinds.PK 0)
-ps·1 = List._∷_ (Value.pVal record
-    { ty = Declared'.row FujiHeader.the-type; one = Path'.refl; val = Laws'6.val FujiHeader.the-type Laws'4.the-laws; tells = Laws'6.tells FujiHeader.the-type Laws'4.the-laws; still = Laws'6.still
-    FujiHeader.the-type Laws'4.the-copy Exit.yes; row = Rows'.whole (Declared'.row FujiHeader.the-type); rd = λ x. x; mk = λ x. x; } λ M 𝓤 H A W. record
-    { copies = Laws'6.copy FujiHeader.the-type Laws'4.the-copy 𝓤 H A W; lawful = Laws'6.lawful FujiHeader.the-type Laws'4.the-laws 𝓤 H A W; makes = Laws'6.makes FujiHeader.the-type Laws'4.the-plain 𝓤 H A;
-    in-mem = Local.mem-whole 𝓤 H A W (Declared'.row FujiHeader.the-type); of-mem = Local.whole-mem 𝓤 H A W (Declared'.row FujiHeader.the-type); }) List.[]
+ps·1 = List._∷_ (Value.pVal record {
+  ty = Declared'.row FujiHeader.the-type;
+  one = Path'.refl;
+  val = Laws'6.val FujiHeader.the-type Laws'4.the-laws;
+  tells = Laws'6.tells FujiHeader.the-type Laws'4.the-laws;
+  still = Laws'6.still
+      FujiHeader.the-type Laws'4.the-copy Exit.yes;
+  row = Rows'.whole (Declared'.row FujiHeader.the-type);
+  rd = λ x. x;
+  mk = λ x. x;
+} λ M 𝓤 H A W. record {
+  copies = Laws'6.copy FujiHeader.the-type Laws'4.the-copy 𝓤 H A W;
+  lawful = Laws'6.lawful FujiHeader.the-type Laws'4.the-laws 𝓤 H A W;
+  makes = Laws'6.makes FujiHeader.the-type Laws'4.the-plain 𝓤 H A;
+  in-mem = Local.mem-whole 𝓤 H A W (Declared'.row FujiHeader.the-type);
+  of-mem = Local.whole-mem 𝓤 H A W (Declared'.row FujiHeader.the-type);
+}) List.[]
 
 abbrev pub r·1 : Kinds.RK 0
 r·1 = Num.rNum Syntax.w64
@@ -190,46 +252,124 @@ abbrev pub ps·5 : List.List (Kinds.PK 0)
 ps·5 = List.[]
 
 abbrev pub r·5 : Kinds.RK 0
-r·5 = Value.rVal record
-    { ty = Declared'.row Part.the-type; one = Path'.refl; val = Laws'6.val Part.the-type Laws'3.the-laws; tells = Laws'6.tells Part.the-type Laws'3.the-laws; still = Laws'6.still Part.the-type
-    Laws'3.the-copy Exit.yes; row = Rows'.whole (Declared'.row Part.the-type); rd = λ x. x; mk = λ x. x; } λ M 𝓤 H A W. record
-    { copies = Laws'6.copy Part.the-type Laws'3.the-copy 𝓤 H A W; lawful = Laws'6.lawful Part.the-type Laws'3.the-laws 𝓤 H A W; makes = Laws'6.makes Part.the-type Laws'3.the-plain 𝓤 H A; in-mem =
-    Local.mem-whole 𝓤 H A W (Declared'.row Part.the-type); of-mem = Local.whole-mem 𝓤 H A W (Declared'.row Part.the-type); }
+r·5 = Value.rVal record {
+  ty = Declared'.row Part.the-type;
+  one = Path'.refl;
+  val = Laws'6.val Part.the-type Laws'3.the-laws;
+  tells = Laws'6.tells Part.the-type Laws'3.the-laws;
+  still = Laws'6.still Part.the-type
+      Laws'3.the-copy Exit.yes;
+  row = Rows'.whole (Declared'.row Part.the-type);
+  rd = λ x. x;
+  mk = λ x. x;
+} λ M 𝓤 H A W. record {
+  copies = Laws'6.copy Part.the-type Laws'3.the-copy 𝓤 H A W;
+  lawful = Laws'6.lawful Part.the-type Laws'3.the-laws 𝓤 H A W;
+  makes = Laws'6.makes Part.the-type Laws'3.the-plain 𝓤 H A;
+  in-mem =
+      Local.mem-whole 𝓤 H A W (Declared'.row Part.the-type);
+  of-mem = Local.whole-mem 𝓤 H A W (Declared'.row Part.the-type);
+}
 
 abbrev pub ps·6 : List.List (Kinds.PK 0)
 ps·6 = List.[]
 
 abbrev pub r·6 : Kinds.RK 0
-r·6 = Value.rVal record
-    { ty = Declared'.row Entries.the-type; one = Path'.refl; val = Laws'6.val Entries.the-type Laws''.the-laws; tells = Laws'6.tells Entries.the-type Laws''.the-laws; still = Laws'6.still Entries.the-type
-    Laws''.the-copy Exit.yes; row = Rows'.whole (Declared'.row Entries.the-type); rd = λ x. x; mk = λ x. x; } λ M 𝓤 H A W. record
-    { copies = Laws'6.copy Entries.the-type Laws''.the-copy 𝓤 H A W; lawful = Laws'6.lawful Entries.the-type Laws''.the-laws 𝓤 H A W; makes = Laws'6.makes Entries.the-type Laws''.the-plain 𝓤 H A; in-mem =
-    Local.mem-whole 𝓤 H A W (Declared'.row Entries.the-type); of-mem = Local.whole-mem 𝓤 H A W (Declared'.row Entries.the-type); }
+r·6 = Value.rVal record {
+  ty = Declared'.row Entries.the-type;
+  one = Path'.refl;
+  val = Laws'6.val Entries.the-type Laws''.the-laws;
+  tells = Laws'6.tells Entries.the-type Laws''.the-laws;
+  still = Laws'6.still Entries.the-type
+      Laws''.the-copy Exit.yes;
+  row = Rows'.whole (Declared'.row Entries.the-type);
+  rd = λ x. x;
+  mk = λ x. x;
+} λ M 𝓤 H A W. record {
+  copies = Laws'6.copy Entries.the-type Laws''.the-copy 𝓤 H A W;
+  lawful = Laws'6.lawful Entries.the-type Laws''.the-laws 𝓤 H A W;
+  makes = Laws'6.makes Entries.the-type Laws''.the-plain 𝓤 H A;
+  in-mem =
+      Local.mem-whole 𝓤 H A W (Declared'.row Entries.the-type);
+  of-mem = Local.whole-mem 𝓤 H A W (Declared'.row Entries.the-type);
+}
 
 abbrev pub ps·7 : List.List (Kinds.PK 6)
 ps·7 = List._∷_ (ShrSlice.pShrS (Referent.rtF (Referent.fInt Syntax.w8)) 0 tt) (List._∷_ (ShrSlice.pShrS (Referent.rtF (Referent.fInt Syntax.w8)) 1 tt) (List._∷_ (MutSlice.pMutS (Referent.rtF
-    (Referent.fInt Syntax.w16)) 2 tt) (List._∷_ (MutSlice.pMutS (Element.type) 3 tt) (List._∷_ (MutSlice.pMutS (Referent.rtF (Referent.fInt Syntax.w16)) 4 tt) (List._∷_ (Value.pVal record
-    { ty = Declared'.row Form.the-type; one = Path'.refl; val = Laws'6.val Form.the-type Laws.the-laws; tells = Laws'6.tells Form.the-type Laws.the-laws; still = Laws'6.still Form.the-type Laws.the-copy
-    Exit.yes; row = Rows'.whole (Declared'.row Form.the-type); rd = λ x. x; mk = λ x. x; } λ M 𝓤 H A W. record
-    { copies = Laws'6.copy Form.the-type Laws.the-copy 𝓤 H A W; lawful = Laws'6.lawful Form.the-type Laws.the-laws 𝓤 H A W; makes = Laws'6.makes Form.the-type Laws.the-plain 𝓤 H A; in-mem =
-    Local.mem-whole 𝓤 H A W (Declared'.row Form.the-type); of-mem = Local.whole-mem 𝓤 H A W (Declared'.row Form.the-type); }) (List._∷_ (ShrRef.pShr (Array'.Array (Referent.rtF (Referent.fInt Syntax.w16))
-    768) 5 tt) (List._∷_ (Array.pArr (Array.eInt Syntax.w8) (Array.eInt-laws Syntax.w8) 36) (List._∷_ (Value.pVal record
-    { ty = Declared'.row Part.the-type; one = Path'.refl; val = Laws'6.val Part.the-type Laws'3.the-laws; tells = Laws'6.tells Part.the-type Laws'3.the-laws; still = Laws'6.still Part.the-type
-    Laws'3.the-copy Exit.yes; row = Rows'.whole (Declared'.row Part.the-type); rd = λ x. x; mk = λ x. x; } λ M 𝓤 H A W. record
-    { copies = Laws'6.copy Part.the-type Laws'3.the-copy 𝓤 H A W; lawful = Laws'6.lawful Part.the-type Laws'3.the-laws 𝓤 H A W; makes = Laws'6.makes Part.the-type Laws'3.the-plain 𝓤 H A; in-mem =
-    Local.mem-whole 𝓤 H A W (Declared'.row Part.the-type); of-mem = Local.whole-mem 𝓤 H A W (Declared'.row Part.the-type); }) (List._∷_ (Num.pNum Syntax.w64) (List._∷_ Bool.pBool (List._∷_ (Value.pVal
-    record
-    { ty = Declared'.row Entries.the-type; one = Path'.refl; val = Laws'6.val Entries.the-type Laws''.the-laws; tells = Laws'6.tells Entries.the-type Laws''.the-laws; still = Laws'6.still Entries.the-type
-    Laws''.the-copy Exit.yes; row = Rows'.whole (Declared'.row Entries.the-type); rd = λ x. x; mk = λ x. x; } λ M 𝓤 H A W. record
-    { copies = Laws'6.copy Entries.the-type Laws''.the-copy 𝓤 H A W; lawful = Laws'6.lawful Entries.the-type Laws''.the-laws 𝓤 H A W; makes = Laws'6.makes Entries.the-type Laws''.the-plain 𝓤 H A; in-mem =
-    Local.mem-whole 𝓤 H A W (Declared'.row Entries.the-type); of-mem = Local.whole-mem 𝓤 H A W (Declared'.row Entries.the-type); }) List.[])))))))))))
+    (Referent.fInt Syntax.w16)) 2 tt) (List._∷_ (MutSlice.pMutS (Element.type) 3 tt) (List._∷_ (MutSlice.pMutS (Referent.rtF (Referent.fInt Syntax.w16)) 4 tt) (List._∷_ (Value.pVal record {
+      ty = Declared'.row Form.the-type;
+      one = Path'.refl;
+      val = Laws'6.val Form.the-type Laws.the-laws;
+      tells = Laws'6.tells Form.the-type Laws.the-laws;
+      still = Laws'6.still Form.the-type Laws.the-copy
+          Exit.yes;
+      row = Rows'.whole (Declared'.row Form.the-type);
+      rd = λ x. x;
+      mk = λ x. x;
+    } λ M 𝓤 H A W. record {
+      copies = Laws'6.copy Form.the-type Laws.the-copy 𝓤 H A W;
+      lawful = Laws'6.lawful Form.the-type Laws.the-laws 𝓤 H A W;
+      makes = Laws'6.makes Form.the-type Laws.the-plain 𝓤 H A;
+      in-mem =
+          Local.mem-whole 𝓤 H A W (Declared'.row Form.the-type);
+      of-mem = Local.whole-mem 𝓤 H A W (Declared'.row Form.the-type);
+    }) (List._∷_ (ShrRef.pShr (Array'.Array (Referent.rtF (Referent.fInt Syntax.w16))
+    768) 5 tt) (List._∷_ (Array.pArr (Array.eInt Syntax.w8) (Array.eInt-laws Syntax.w8) 36) (List._∷_ (Value.pVal record {
+      ty = Declared'.row Part.the-type;
+      one = Path'.refl;
+      val = Laws'6.val Part.the-type Laws'3.the-laws;
+      tells = Laws'6.tells Part.the-type Laws'3.the-laws;
+      still = Laws'6.still Part.the-type
+          Laws'3.the-copy Exit.yes;
+      row = Rows'.whole (Declared'.row Part.the-type);
+      rd = λ x. x;
+      mk = λ x. x;
+    } λ M 𝓤 H A W. record {
+      copies = Laws'6.copy Part.the-type Laws'3.the-copy 𝓤 H A W;
+      lawful = Laws'6.lawful Part.the-type Laws'3.the-laws 𝓤 H A W;
+      makes = Laws'6.makes Part.the-type Laws'3.the-plain 𝓤 H A;
+      in-mem =
+          Local.mem-whole 𝓤 H A W (Declared'.row Part.the-type);
+      of-mem = Local.whole-mem 𝓤 H A W (Declared'.row Part.the-type);
+    }) (List._∷_ (Num.pNum Syntax.w64) (List._∷_ Bool.pBool (List._∷_ (Value.pVal
+    record {
+      ty = Declared'.row Entries.the-type;
+      one = Path'.refl;
+      val = Laws'6.val Entries.the-type Laws''.the-laws;
+      tells = Laws'6.tells Entries.the-type Laws''.the-laws;
+      still = Laws'6.still Entries.the-type
+          Laws''.the-copy Exit.yes;
+      row = Rows'.whole (Declared'.row Entries.the-type);
+      rd = λ x. x;
+      mk = λ x. x;
+    } λ M 𝓤 H A W. record {
+      copies = Laws'6.copy Entries.the-type Laws''.the-copy 𝓤 H A W;
+      lawful = Laws'6.lawful Entries.the-type Laws''.the-laws 𝓤 H A W;
+      makes = Laws'6.makes Entries.the-type Laws''.the-plain 𝓤 H A;
+      in-mem =
+          Local.mem-whole 𝓤 H A W (Declared'.row Entries.the-type);
+      of-mem = Local.whole-mem 𝓤 H A W (Declared'.row Entries.the-type);
+    }) List.[])))))))))))
 
 abbrev pub r·7 : Kinds.RK 6
-r·7 = Value.rVal record
-    { ty = Declared.row Walked.the-type; one = Path'.refl; val = Laws'5.val Walked.the-type Laws'.the-laws; tells = Laws'5.tells Walked.the-type Laws'.the-laws; still = Laws'5.still Walked.the-type
-    Laws'.the-copy Exit.yes; row = Rows'.whole (Declared.row Walked.the-type); rd = λ x. x; mk = λ x. x; } λ M 𝓤 H A W. record
-    { copies = Laws'5.copy Walked.the-type Laws'.the-copy 𝓤 H A W; lawful = Laws'5.lawful Walked.the-type Laws'.the-laws 𝓤 H A W tt; makes = Laws'5.makes Walked.the-type Laws'.the-plain 𝓤 H A; in-mem =
-    Local.mem-whole 𝓤 H A W (Declared.row Walked.the-type); of-mem = Local.whole-mem 𝓤 H A W (Declared.row Walked.the-type); }
+r·7 = Value.rVal record {
+  ty = Declared.row Walked.the-type;
+  one = Path'.refl;
+  val = Laws'5.val Walked.the-type Laws'.the-laws;
+  tells = Laws'5.tells Walked.the-type Laws'.the-laws;
+  still = Laws'5.still Walked.the-type
+      Laws'.the-copy Exit.yes;
+  row = Rows'.whole (Declared.row Walked.the-type);
+  rd = λ x. x;
+  mk = λ x. x;
+} λ M 𝓤 H A W. record {
+  copies = Laws'5.copy Walked.the-type Laws'.the-copy 𝓤 H A W;
+  lawful = Laws'5.lawful Walked.the-type Laws'.the-laws 𝓤 H A W tt;
+  makes = Laws'5.makes Walked.the-type Laws'.the-plain 𝓤 H A;
+  in-mem =
+      Local.mem-whole 𝓤 H A W (Declared.row Walked.the-type);
+  of-mem = Local.whole-mem 𝓤 H A W (Declared.row Walked.the-type);
+}
 
 abbrev pub hs : List.List Syntax.Home
 hs = List._∷_ Syntax.valueLocal (List._∷_ Syntax.valueLocal (List._∷_ Syntax.valueLocal (List._∷_ Syntax.valueLocal (List._∷_ Syntax.valueLocal (List._∷_ Syntax.valueLocal (List._∷_ Syntax.valueLocal
@@ -360,9 +500,11 @@ Claims = Kinds.In 0 ps·0 × Kinds.Out 0 ps·0 r·0 × Kinds.In 0 ps·1 × Kinds
     0 ps·4 r·4 × Kinds.In 0 ps·5 × Kinds.Out 0 ps·5 r·5 × Kinds.In 0 ps·6 × Kinds.Out 0 ps·6 r·6 × Kinds.In 6 ps·7 × Kinds.Out 6 ps·7 r·7
 
 abbrev pub e0 : Row.Entry
-e0 =
-    (0, Rows'.any-gone (Syntax.tyEnum (List._∷_ 98 (List._∷_ 108 (List._∷_ 111 (List._∷_ 99 (List._∷_ 107 (List._∷_ 58 (List._∷_ 58 (List._∷_ 87 (List._∷_ 97 (List._∷_ 108 (List._∷_ 107 (List._∷_ 101
-    (List._∷_ 100 List.[]))))))))))))) (Syntax.ttcons (Syntax.tcons y3 (Syntax.tcons y8 Syntax.tnil)) (Syntax.ttcons (Syntax.tcons (Syntax.tyInt Syntax.w64) (Syntax.tcons y3 Syntax.tnil)) Syntax.ttnil))))
+e0 = (
+  0,
+  Rows'.any-gone (Syntax.tyEnum (List._∷_ 98 (List._∷_ 108 (List._∷_ 111 (List._∷_ 99 (List._∷_ 107 (List._∷_ 58 (List._∷_ 58 (List._∷_ 87 (List._∷_ 97 (List._∷_ 108 (List._∷_ 107 (List._∷_ 101
+      (List._∷_ 100 List.[]))))))))))))) (Syntax.ttcons (Syntax.tcons y3 (Syntax.tcons y8 Syntax.tnil)) (Syntax.ttcons (Syntax.tcons (Syntax.tyInt Syntax.w64) (Syntax.tcons y3 Syntax.tnil)) Syntax.ttnil))),
+)
 
 abbrev pub e1 : Row.Entry
 e1 = (0, Rows'.whole (Declared.row Walked.the-type))
@@ -813,11 +955,11 @@ module _ (claims· : Claims) where
   s4 = λ bs. Scalar.n-room T5 2 y2
 
   abbrev s5 : (bs : List.List Nat.ℕ) → Typed.Both T6 T7
-  s5 = λ bs. Call.callB ps·2 r·2 (claims· .4) (claims· .5) T6 (record { pos = 1; ty = Syntax.tyRef (Syntax.named 0) Syntax.imm (Syntax.tyInt Syntax.w8); ref = λ x. x; }, (Num.vAt 3 λ x. x, tt)) 8
+  s5 = λ bs. Call.callB ps·2 r·2 (claims· .4) (claims· .5) T6 (record { pos = 1; ty = Syntax.tyRef (Syntax.named 0) Syntax.imm (Syntax.tyInt Syntax.w8); ref = λ x. x }, (Num.vAt 3 λ x. x, tt)) 8
       (List._∷_ 0 List.[]) y4
 
   abbrev s6 : (bs : List.List Nat.ℕ) → Typed.Both T7 T8
-  s6 = λ bs. Call.callB ps·3 r·3 (claims· .6) (claims· .7) T7 (record { pos = 1; ty = Syntax.tyRef (Syntax.named 0) Syntax.imm (Syntax.tyInt Syntax.w8); ref = λ x. x; }, (Num.vAt 3 λ x. x, tt)) 9
+  s6 = λ bs. Call.callB ps·3 r·3 (claims· .6) (claims· .7) T7 (record { pos = 1; ty = Syntax.tyRef (Syntax.named 0) Syntax.imm (Syntax.tyInt Syntax.w8); ref = λ x. x }, (Num.vAt 3 λ x. x, tt)) 9
       (List._∷_ 0 List.[]) y4
 
   abbrev s7 : (bs : List.List Nat.ℕ) → Typed.Both T8 T9
@@ -875,16 +1017,31 @@ module _ (claims· : Claims) where
   s26 = λ bs. Call.callB ps·6 r·6 (claims· .12) (claims· .13) T27 tt 22 List.[] y10
 
   abbrev s27 : (bs : List.List Nat.ℕ) → Typed.Both T28 T29
-  s27 = λ bs. Call.callB ps·7 r·7 (claims· .14) (claims· .15) T28
-      (record { pos = 8; ty = Syntax.tyRef Syntax.erased Syntax.imm (Syntax.tyInt Syntax.w8); ref = λ x. x; },
-      (record { pos = 9; ty = Syntax.tyRef Syntax.erased Syntax.imm (Syntax.tyInt Syntax.w8); ref = λ x. x; },
-      (record { pos = 14; ty = Syntax.tyRef Syntax.erased Syntax.mut (Syntax.tyInt Syntax.w16); ref = λ x. x; },
-      (record { pos = 16; ty = Syntax.tyRef Syntax.erased Syntax.mut Element.behind; ref = λ x. x; },
-      (record { pos = 18; ty = Syntax.tyRef Syntax.erased Syntax.mut (Syntax.tyInt Syntax.w16); ref = λ x. x; },
-      (record { pos = 6; st = List.[]; d = 0; at = λ x. x },
-      (record { pos = 19; ty = Syntax.tyRef Syntax.erased Syntax.imm (Syntax.tyArray (Syntax.tyInt Syntax.w16) 768); ref = λ x. x; },
-      (record { pos = 20; st = List.[]; d = 0; at = λ x. x },
-      (record { pos = 21; st = List.[]; d = 0; at = λ x. x }, (Num.vAt 7 λ x. x, (Bool.bLit Bool'.false, (record { pos = 22; st = List.[]; d = 0; at = λ x. x }, tt)))))))))))) 0 (List._∷_ 0 (List._∷_ 0
+  s27 = λ bs. Call.callB ps·7 r·7 (claims· .14) (claims· .15) T28 (
+    record { pos = 8; ty = Syntax.tyRef Syntax.erased Syntax.imm (Syntax.tyInt Syntax.w8); ref = λ x. x },
+    (
+      record { pos = 9; ty = Syntax.tyRef Syntax.erased Syntax.imm (Syntax.tyInt Syntax.w8); ref = λ x. x },
+      (
+        record { pos = 14; ty = Syntax.tyRef Syntax.erased Syntax.mut (Syntax.tyInt Syntax.w16); ref = λ x. x },
+        (
+          record { pos = 16; ty = Syntax.tyRef Syntax.erased Syntax.mut Element.behind; ref = λ x. x },
+          (
+            record { pos = 18; ty = Syntax.tyRef Syntax.erased Syntax.mut (Syntax.tyInt Syntax.w16); ref = λ x. x },
+            (
+              record { pos = 6; st = List.[]; d = 0; at = λ x. x },
+              (
+                record { pos = 19; ty = Syntax.tyRef Syntax.erased Syntax.imm (Syntax.tyArray (Syntax.tyInt Syntax.w16) 768); ref = λ x. x },
+                (
+                  record { pos = 20; st = List.[]; d = 0; at = λ x. x },
+                  (record { pos = 21; st = List.[]; d = 0; at = λ x. x }, (Num.vAt 7 λ x. x, (Bool.bLit Bool'.false, (record { pos = 22; st = List.[]; d = 0; at = λ x. x }, tt)))),
+                ),
+              ),
+            ),
+          ),
+        ),
+      ),
+    ),
+  ) 0 (List._∷_ 0 (List._∷_ 0
       (List._∷_ 3 (List._∷_ 4 (List._∷_ 5 (List._∷_ 6 List.[])))))) (Syntax.tyEnum (List._∷_ 98 (List._∷_ 108 (List._∷_ 111 (List._∷_ 99 (List._∷_ 107 (List._∷_ 58 (List._∷_ 58 (List._∷_ 87 (List._∷_ 97
       (List._∷_ 108 (List._∷_ 107 (List._∷_ 101 (List._∷_ 100 List.[]))))))))))))) (Syntax.ttcons (Syntax.tcons y3 (Syntax.tcons y8 Syntax.tnil)) (Syntax.ttcons (Syntax.tcons (Syntax.tyInt Syntax.w64)
       (Syntax.tcons y3 Syntax.tnil)) Syntax.ttnil)))
@@ -1189,274 +1346,382 @@ module _ (claims· : Claims) where
             e46 (List._∷_ e4 (List._∷_ e7 (List._∷_ e9 (List._∷_ e12 (List._∷_ e15 (List._∷_ e17 List.[])))))))))))))))
 
         abbrev G0 : Row.Cx
-        G0 = record
-            { locals = List._++_ t0 t1; slots = List._∷_ (Row.lease (κs .0) (qs .0)) (List._∷_ (Row.lease (κs .1 .0) (qs .1 .0)) (List._∷_ (Row.lease (κs .1 .1 .0) (qs .1 .1 .0)) (List._∷_ Row.off
-            (List._∷_ Row.off (List._∷_ Row.off (List._∷_ Row.off List.[])))))); }
+        G0 = record {
+          locals = List._++_ t0 t1;
+          slots = List._∷_ (Row.lease (κs .0) (qs .0)) (List._∷_ (Row.lease (κs .1 .0) (qs .1 .0)) (List._∷_ (Row.lease (κs .1 .1 .0) (qs .1 .1 .0)) (List._∷_ Row.off
+              (List._∷_ Row.off (List._∷_ Row.off (List._∷_ Row.off List.[]))))));
+        }
 
         abbrev G1 : Row.Cx
-        G1 = record
-            { locals = List._++_ t2 t1; slots = List._∷_ (Row.lease (κs .0) (qs .0)) (List._∷_ (Row.lease (κs .1 .0) (qs .1 .0)) (List._∷_ (Row.lease (κs .1 .1 .0) (qs .1 .1 .0)) (List._∷_ Row.off
-            (List._∷_ Row.off (List._∷_ Row.off (List._∷_ Row.off List.[])))))); }
+        G1 = record {
+          locals = List._++_ t2 t1;
+          slots = List._∷_ (Row.lease (κs .0) (qs .0)) (List._∷_ (Row.lease (κs .1 .0) (qs .1 .0)) (List._∷_ (Row.lease (κs .1 .1 .0) (qs .1 .1 .0)) (List._∷_ Row.off
+              (List._∷_ Row.off (List._∷_ Row.off (List._∷_ Row.off List.[]))))));
+        }
 
         abbrev G2 : Row.Cx
-        G2 = record
-            { locals = List._++_ t0 t1; slots = List._∷_ (Row.lease (κs .0) (qs .0)) (List._∷_ (Row.lease (κs .1 .0) (qs .1 .0)) (List._∷_ (Row.lease (κs .1 .1 .0) (qs .1 .1 .0)) (List._∷_ Row.off
-            (List._∷_ Row.off (List._∷_ Row.off (List._∷_ Row.off List.[])))))); }
+        G2 = record {
+          locals = List._++_ t0 t1;
+          slots = List._∷_ (Row.lease (κs .0) (qs .0)) (List._∷_ (Row.lease (κs .1 .0) (qs .1 .0)) (List._∷_ (Row.lease (κs .1 .1 .0) (qs .1 .1 .0)) (List._∷_ Row.off
+              (List._∷_ Row.off (List._∷_ Row.off (List._∷_ Row.off List.[]))))));
+        }
 
         abbrev G3 : Row.Cx
-        G3 = record
-            { locals = List._++_ t0 t1; slots = List._∷_ (Row.lease (κs .0) (qs .0)) (List._∷_ (Row.lease (κs .1 .0) (qs .1 .0)) (List._∷_ (Row.lease (κs .1 .1 .0) (qs .1 .1 .0)) (List._∷_ Row.off
-            (List._∷_ Row.off (List._∷_ Row.off (List._∷_ Row.off List.[])))))); }
+        G3 = record {
+          locals = List._++_ t0 t1;
+          slots = List._∷_ (Row.lease (κs .0) (qs .0)) (List._∷_ (Row.lease (κs .1 .0) (qs .1 .0)) (List._∷_ (Row.lease (κs .1 .1 .0) (qs .1 .1 .0)) (List._∷_ Row.off
+              (List._∷_ Row.off (List._∷_ Row.off (List._∷_ Row.off List.[]))))));
+        }
 
         abbrev G4 : Row.Cx
-        G4 = record
-            { locals = List._++_ t3 t1; slots = List._∷_ (Row.lease (κs .0) (qs .0)) (List._∷_ (Row.lease (κs .1 .0) (qs .1 .0)) (List._∷_ (Row.lease (κs .1 .1 .0) (qs .1 .1 .0)) (List._∷_ Row.off
-            (List._∷_ Row.off (List._∷_ Row.off (List._∷_ Row.off List.[])))))); }
+        G4 = record {
+          locals = List._++_ t3 t1;
+          slots = List._∷_ (Row.lease (κs .0) (qs .0)) (List._∷_ (Row.lease (κs .1 .0) (qs .1 .0)) (List._∷_ (Row.lease (κs .1 .1 .0) (qs .1 .1 .0)) (List._∷_ Row.off
+              (List._∷_ Row.off (List._∷_ Row.off (List._∷_ Row.off List.[]))))));
+        }
 
         abbrev G5 : Row.Cx
-        G5 = record
-            { locals = List._++_ t4 t1; slots = List._∷_ (Row.lease (κs .0) (qs .0)) (List._∷_ (Row.lease (κs .1 .0) (qs .1 .0)) (List._∷_ (Row.lease (κs .1 .1 .0) (qs .1 .1 .0)) (List._∷_ Row.off
-            (List._∷_ Row.off (List._∷_ Row.off (List._∷_ Row.off List.[])))))); }
+        G5 = record {
+          locals = List._++_ t4 t1;
+          slots = List._∷_ (Row.lease (κs .0) (qs .0)) (List._∷_ (Row.lease (κs .1 .0) (qs .1 .0)) (List._∷_ (Row.lease (κs .1 .1 .0) (qs .1 .1 .0)) (List._∷_ Row.off
+              (List._∷_ Row.off (List._∷_ Row.off (List._∷_ Row.off List.[]))))));
+        }
 
         abbrev G6 : Row.Cx
-        G6 = record
-            { locals = List._++_ t5 t1; slots = List._∷_ (Row.lease (κs .0) (qs .0)) (List._∷_ (Row.lease (κs .1 .0) (qs .1 .0)) (List._∷_ (Row.lease (κs .1 .1 .0) (qs .1 .1 .0)) (List._∷_ Row.off
-            (List._∷_ Row.off (List._∷_ Row.off (List._∷_ Row.off List.[])))))); }
+        G6 = record {
+          locals = List._++_ t5 t1;
+          slots = List._∷_ (Row.lease (κs .0) (qs .0)) (List._∷_ (Row.lease (κs .1 .0) (qs .1 .0)) (List._∷_ (Row.lease (κs .1 .1 .0) (qs .1 .1 .0)) (List._∷_ Row.off
+              (List._∷_ Row.off (List._∷_ Row.off (List._∷_ Row.off List.[]))))));
+        }
 
         abbrev G7 : Row.Cx
-        G7 = record
-            { locals = List._++_ t6 t1; slots = List._∷_ (Row.lease (κs .0) (qs .0)) (List._∷_ (Row.lease (κs .1 .0) (qs .1 .0)) (List._∷_ (Row.lease (κs .1 .1 .0) (qs .1 .1 .0)) (List._∷_ Row.off
-            (List._∷_ Row.off (List._∷_ Row.off (List._∷_ Row.off List.[])))))); }
+        G7 = record {
+          locals = List._++_ t6 t1;
+          slots = List._∷_ (Row.lease (κs .0) (qs .0)) (List._∷_ (Row.lease (κs .1 .0) (qs .1 .0)) (List._∷_ (Row.lease (κs .1 .1 .0) (qs .1 .1 .0)) (List._∷_ Row.off
+              (List._∷_ Row.off (List._∷_ Row.off (List._∷_ Row.off List.[]))))));
+        }
 
         abbrev G8 : Row.Cx
-        G8 = record
-            { locals = List._++_ t7 t1; slots = List._∷_ (Row.lease (κs .0) (qs .0)) (List._∷_ (Row.lease (κs .1 .0) (qs .1 .0)) (List._∷_ (Row.lease (κs .1 .1 .0) (qs .1 .1 .0)) (List._∷_ Row.off
-            (List._∷_ Row.off (List._∷_ Row.off (List._∷_ Row.off List.[])))))); }
+        G8 = record {
+          locals = List._++_ t7 t1;
+          slots = List._∷_ (Row.lease (κs .0) (qs .0)) (List._∷_ (Row.lease (κs .1 .0) (qs .1 .0)) (List._∷_ (Row.lease (κs .1 .1 .0) (qs .1 .1 .0)) (List._∷_ Row.off
+              (List._∷_ Row.off (List._∷_ Row.off (List._∷_ Row.off List.[]))))));
+        }
 
         abbrev G9 : Row.Cx
-        G9 = record
-            { locals = List._++_ t8 t1; slots = List._∷_ (Row.lease (κs .0) (qs .0)) (List._∷_ (Row.lease (κs .1 .0) (qs .1 .0)) (List._∷_ (Row.lease (κs .1 .1 .0) (qs .1 .1 .0)) (List._∷_ Row.off
-            (List._∷_ Row.off (List._∷_ Row.off (List._∷_ Row.off List.[])))))); }
+        G9 = record {
+          locals = List._++_ t8 t1;
+          slots = List._∷_ (Row.lease (κs .0) (qs .0)) (List._∷_ (Row.lease (κs .1 .0) (qs .1 .0)) (List._∷_ (Row.lease (κs .1 .1 .0) (qs .1 .1 .0)) (List._∷_ Row.off
+              (List._∷_ Row.off (List._∷_ Row.off (List._∷_ Row.off List.[]))))));
+        }
 
         abbrev G10 : Row.Cx
-        G10 = record
-            { locals = List._++_ t9 t1; slots = List._∷_ (Row.lease (κs .0) (qs .0)) (List._∷_ (Row.lease (κs .1 .0) (qs .1 .0)) (List._∷_ (Row.lease (κs .1 .1 .0) (qs .1 .1 .0)) (List._∷_ Row.off
-            (List._∷_ Row.off (List._∷_ Row.off (List._∷_ Row.off List.[])))))); }
+        G10 = record {
+          locals = List._++_ t9 t1;
+          slots = List._∷_ (Row.lease (κs .0) (qs .0)) (List._∷_ (Row.lease (κs .1 .0) (qs .1 .0)) (List._∷_ (Row.lease (κs .1 .1 .0) (qs .1 .1 .0)) (List._∷_ Row.off
+              (List._∷_ Row.off (List._∷_ Row.off (List._∷_ Row.off List.[]))))));
+        }
 
         abbrev G11 : Row.Cx
-        G11 = record
-            { locals = List._++_ t10 t1; slots = List._∷_ (Row.lease (κs .0) (qs .0)) (List._∷_ (Row.lease (κs .1 .0) (qs .1 .0)) (List._∷_ (Row.lease (κs .1 .1 .0) (qs .1 .1 .0)) (List._∷_ Row.off
-            (List._∷_ Row.off (List._∷_ Row.off (List._∷_ Row.off List.[])))))); }
+        G11 = record {
+          locals = List._++_ t10 t1;
+          slots = List._∷_ (Row.lease (κs .0) (qs .0)) (List._∷_ (Row.lease (κs .1 .0) (qs .1 .0)) (List._∷_ (Row.lease (κs .1 .1 .0) (qs .1 .1 .0)) (List._∷_ Row.off
+              (List._∷_ Row.off (List._∷_ Row.off (List._∷_ Row.off List.[]))))));
+        }
 
         abbrev G12 : Row.Cx
-        G12 = record
-            { locals = List._++_ t11 t1; slots = List._∷_ (Row.lease (κs .0) (qs .0)) (List._∷_ (Row.lease (κs .1 .0) (qs .1 .0)) (List._∷_ (Row.lease (κs .1 .1 .0) (qs .1 .1 .0)) (List._∷_ Row.off
-            (List._∷_ Row.off (List._∷_ Row.off (List._∷_ Row.off List.[])))))); }
+        G12 = record {
+          locals = List._++_ t11 t1;
+          slots = List._∷_ (Row.lease (κs .0) (qs .0)) (List._∷_ (Row.lease (κs .1 .0) (qs .1 .0)) (List._∷_ (Row.lease (κs .1 .1 .0) (qs .1 .1 .0)) (List._∷_ Row.off
+              (List._∷_ Row.off (List._∷_ Row.off (List._∷_ Row.off List.[]))))));
+        }
 
         abbrev G13 : Row.Cx
-        G13 = record
-            { locals = List._++_ t12 t1; slots = List._∷_ (Row.lease (κs .0) (qs .0)) (List._∷_ (Row.lease (κs .1 .0) (qs .1 .0)) (List._∷_ (Row.lease (κs .1 .1 .0) (qs .1 .1 .0)) (List._∷_ Row.off
-            (List._∷_ Row.off (List._∷_ Row.off (List._∷_ Row.off List.[])))))); }
+        G13 = record {
+          locals = List._++_ t12 t1;
+          slots = List._∷_ (Row.lease (κs .0) (qs .0)) (List._∷_ (Row.lease (κs .1 .0) (qs .1 .0)) (List._∷_ (Row.lease (κs .1 .1 .0) (qs .1 .1 .0)) (List._∷_ Row.off
+              (List._∷_ Row.off (List._∷_ Row.off (List._∷_ Row.off List.[]))))));
+        }
 
         abbrev G14 : Row.Cx
-        G14 = record
-            { locals = List._++_ t12 t1; slots = List._∷_ (Row.lease (κs .0) (qs .0)) (List._∷_ (Row.lease (κs .1 .0) (qs .1 .0)) (List._∷_ (Row.lease (κs .1 .1 .0) (qs .1 .1 .0)) (List._∷_ Row.alive
-            (List._∷_ Row.off (List._∷_ Row.off (List._∷_ Row.off List.[])))))); }
+        G14 = record {
+          locals = List._++_ t12 t1;
+          slots = List._∷_ (Row.lease (κs .0) (qs .0)) (List._∷_ (Row.lease (κs .1 .0) (qs .1 .0)) (List._∷_ (Row.lease (κs .1 .1 .0) (qs .1 .1 .0)) (List._∷_ Row.alive
+              (List._∷_ Row.off (List._∷_ Row.off (List._∷_ Row.off List.[]))))));
+        }
 
         abbrev G15 : Row.Cx
-        G15 = record
-            { locals = List._++_ g13 t1; slots = List._∷_ (Row.lease (κs .0) (qs .0)) (List._∷_ Row.off (List._∷_ (Row.lease (κs .1 .1 .0) (qs .1 .1 .0)) (List._∷_ Row.alive (List._∷_ Row.off (List._∷_
-            Row.off (List._∷_ Row.off List.[])))))); }
+        G15 = record {
+          locals = List._++_ g13 t1;
+          slots = List._∷_ (Row.lease (κs .0) (qs .0)) (List._∷_ Row.off (List._∷_ (Row.lease (κs .1 .1 .0) (qs .1 .1 .0)) (List._∷_ Row.alive (List._∷_ Row.off (List._∷_
+              Row.off (List._∷_ Row.off List.[]))))));
+        }
 
         abbrev G16 : Row.Cx
-        G16 = record
-            { locals = List._++_ g14 t1; slots = List._∷_ (Row.lease (κs .0) (qs .0)) (List._∷_ Row.off (List._∷_ (Row.lease (κs .1 .1 .0) (qs .1 .1 .0)) (List._∷_ Row.alive (List._∷_ Row.off (List._∷_
-            Row.off (List._∷_ Row.off List.[])))))); }
+        G16 = record {
+          locals = List._++_ g14 t1;
+          slots = List._∷_ (Row.lease (κs .0) (qs .0)) (List._∷_ Row.off (List._∷_ (Row.lease (κs .1 .1 .0) (qs .1 .1 .0)) (List._∷_ Row.alive (List._∷_ Row.off (List._∷_
+              Row.off (List._∷_ Row.off List.[]))))));
+        }
 
         abbrev G17 : Row.Cx
-        G17 = record
-            { locals = List._++_ g14 t1; slots = List._∷_ (Row.lease (κs .0) (qs .0)) (List._∷_ Row.off (List._∷_ (Row.lease (κs .1 .1 .0) (qs .1 .1 .0)) (List._∷_ Row.alive (List._∷_ Row.alive (List._∷_
-            Row.off (List._∷_ Row.off List.[])))))); }
+        G17 = record {
+          locals = List._++_ g14 t1;
+          slots = List._∷_ (Row.lease (κs .0) (qs .0)) (List._∷_ Row.off (List._∷_ (Row.lease (κs .1 .1 .0) (qs .1 .1 .0)) (List._∷_ Row.alive (List._∷_ Row.alive (List._∷_
+              Row.off (List._∷_ Row.off List.[]))))));
+        }
 
         abbrev G18 : Row.Cx
-        G18 = record
-            { locals = List._++_ g15 t1; slots = List._∷_ (Row.lease (κs .0) (qs .0)) (List._∷_ Row.off (List._∷_ Row.off (List._∷_ Row.alive (List._∷_ Row.alive (List._∷_ Row.off (List._∷_ Row.off
-            List.[])))))); }
+        G18 = record {
+          locals = List._++_ g15 t1;
+          slots = List._∷_ (Row.lease (κs .0) (qs .0)) (List._∷_ Row.off (List._∷_ Row.off (List._∷_ Row.alive (List._∷_ Row.alive (List._∷_ Row.off (List._∷_ Row.off
+              List.[]))))));
+        }
 
         abbrev G19 : Row.Cx
-        G19 = record
-            { locals = List._++_ g16 t17; slots = List._∷_ (Row.lease (κs .0) (qs .0)) (List._∷_ Row.off (List._∷_ Row.off (List._∷_ Row.alive (List._∷_ Row.alive (List._∷_ Row.off (List._∷_ Row.off
-            List.[])))))); }
+        G19 = record {
+          locals = List._++_ g16 t17;
+          slots = List._∷_ (Row.lease (κs .0) (qs .0)) (List._∷_ Row.off (List._∷_ Row.off (List._∷_ Row.alive (List._∷_ Row.alive (List._∷_ Row.off (List._∷_ Row.off
+              List.[]))))));
+        }
 
         abbrev G20 : Row.Cx
-        G20 = record
-            { locals = List._++_ g16 t17; slots = List._∷_ (Row.lease (κs .0) (qs .0)) (List._∷_ Row.off (List._∷_ Row.off (List._∷_ Row.alive (List._∷_ Row.alive (List._∷_ Row.alive (List._∷_ Row.off
-            List.[])))))); }
+        G20 = record {
+          locals = List._++_ g16 t17;
+          slots = List._∷_ (Row.lease (κs .0) (qs .0)) (List._∷_ Row.off (List._∷_ Row.off (List._∷_ Row.alive (List._∷_ Row.alive (List._∷_ Row.alive (List._∷_ Row.off
+              List.[]))))));
+        }
 
         abbrev G21 : Row.Cx
-        G21 = record
-            { locals = List._++_ g18 t19; slots = List._∷_ (Row.lease (κs .0) (qs .0)) (List._∷_ Row.off (List._∷_ Row.off (List._∷_ Row.alive (List._∷_ Row.alive (List._∷_ Row.alive (List._∷_ Row.off
-            List.[])))))); }
+        G21 = record {
+          locals = List._++_ g18 t19;
+          slots = List._∷_ (Row.lease (κs .0) (qs .0)) (List._∷_ Row.off (List._∷_ Row.off (List._∷_ Row.alive (List._∷_ Row.alive (List._∷_ Row.alive (List._∷_ Row.off
+              List.[]))))));
+        }
 
         abbrev G22 : Row.Cx
-        G22 = record
-            { locals = List._++_ g18 t20; slots = List._∷_ (Row.lease (κs .0) (qs .0)) (List._∷_ Row.off (List._∷_ Row.off (List._∷_ Row.alive (List._∷_ Row.alive (List._∷_ Row.alive (List._∷_ Row.off
-            List.[])))))); }
+        G22 = record {
+          locals = List._++_ g18 t20;
+          slots = List._∷_ (Row.lease (κs .0) (qs .0)) (List._∷_ Row.off (List._∷_ Row.off (List._∷_ Row.alive (List._∷_ Row.alive (List._∷_ Row.alive (List._∷_ Row.off
+              List.[]))))));
+        }
 
         abbrev G23 : Row.Cx
-        G23 = record
-            { locals = List._++_ g18 t20; slots = List._∷_ (Row.lease (κs .0) (qs .0)) (List._∷_ Row.off (List._∷_ Row.off (List._∷_ Row.alive (List._∷_ Row.alive (List._∷_ Row.alive (List._∷_ Row.alive
-            List.[])))))); }
+        G23 = record {
+          locals = List._++_ g18 t20;
+          slots = List._∷_ (Row.lease (κs .0) (qs .0)) (List._∷_ Row.off (List._∷_ Row.off (List._∷_ Row.alive (List._∷_ Row.alive (List._∷_ Row.alive (List._∷_ Row.alive
+              List.[]))))));
+        }
 
         abbrev G24 : Row.Cx
-        G24 = record
-            { locals = List._++_ g21 t22; slots = List._∷_ (Row.lease (κs .0) (qs .0)) (List._∷_ Row.off (List._∷_ Row.off (List._∷_ Row.alive (List._∷_ Row.alive (List._∷_ Row.alive (List._∷_ Row.alive
-            List.[])))))); }
+        G24 = record {
+          locals = List._++_ g21 t22;
+          slots = List._∷_ (Row.lease (κs .0) (qs .0)) (List._∷_ Row.off (List._∷_ Row.off (List._∷_ Row.alive (List._∷_ Row.alive (List._∷_ Row.alive (List._∷_ Row.alive
+              List.[]))))));
+        }
 
         abbrev G25 : Row.Cx
-        G25 = record
-            { locals = List._++_ g21 t23; slots = List._∷_ (Row.lease (κs .0) (qs .0)) (List._∷_ Row.off (List._∷_ Row.off (List._∷_ Row.alive (List._∷_ Row.alive (List._∷_ Row.alive (List._∷_ Row.alive
-            List.[])))))); }
+        G25 = record {
+          locals = List._++_ g21 t23;
+          slots = List._∷_ (Row.lease (κs .0) (qs .0)) (List._∷_ Row.off (List._∷_ Row.off (List._∷_ Row.alive (List._∷_ Row.alive (List._∷_ Row.alive (List._∷_ Row.alive
+              List.[]))))));
+        }
 
         abbrev G26 : Row.Cx
-        G26 = record
-            { locals = List._++_ g21 t24; slots = List._∷_ (Row.lease (κs .0) (qs .0)) (List._∷_ Row.off (List._∷_ Row.off (List._∷_ Row.alive (List._∷_ Row.alive (List._∷_ Row.alive (List._∷_ Row.alive
-            List.[])))))); }
+        G26 = record {
+          locals = List._++_ g21 t24;
+          slots = List._∷_ (Row.lease (κs .0) (qs .0)) (List._∷_ Row.off (List._∷_ Row.off (List._∷_ Row.alive (List._∷_ Row.alive (List._∷_ Row.alive (List._∷_ Row.alive
+              List.[]))))));
+        }
 
         abbrev G27 : Row.Cx
-        G27 = record
-            { locals = List._++_ g21 t25; slots = List._∷_ (Row.lease (κs .0) (qs .0)) (List._∷_ Row.off (List._∷_ Row.off (List._∷_ Row.alive (List._∷_ Row.alive (List._∷_ Row.alive (List._∷_ Row.alive
-            List.[])))))); }
+        G27 = record {
+          locals = List._++_ g21 t25;
+          slots = List._∷_ (Row.lease (κs .0) (qs .0)) (List._∷_ Row.off (List._∷_ Row.off (List._∷_ Row.alive (List._∷_ Row.alive (List._∷_ Row.alive (List._∷_ Row.alive
+              List.[]))))));
+        }
 
         abbrev G28 : Row.Cx
-        G28 = record
-            { locals = List._++_ g21 t26; slots = List._∷_ (Row.lease (κs .0) (qs .0)) (List._∷_ Row.off (List._∷_ Row.off (List._∷_ Row.alive (List._∷_ Row.alive (List._∷_ Row.alive (List._∷_ Row.alive
-            List.[])))))); }
+        G28 = record {
+          locals = List._++_ g21 t26;
+          slots = List._∷_ (Row.lease (κs .0) (qs .0)) (List._∷_ Row.off (List._∷_ Row.off (List._∷_ Row.alive (List._∷_ Row.alive (List._∷_ Row.alive (List._∷_ Row.alive
+              List.[]))))));
+        }
 
         abbrev G29 : Row.Cx
-        G29 = record
-            { locals = List._++_ g27 t28; slots = List._∷_ (Row.lease (κs .0) (qs .0)) (List._∷_ Row.off (List._∷_ Row.off (List._∷_ Row.alive (List._∷_ Row.alive (List._∷_ Row.alive (List._∷_ Row.alive
-            List.[])))))); }
+        G29 = record {
+          locals = List._++_ g27 t28;
+          slots = List._∷_ (Row.lease (κs .0) (qs .0)) (List._∷_ Row.off (List._∷_ Row.off (List._∷_ Row.alive (List._∷_ Row.alive (List._∷_ Row.alive (List._∷_ Row.alive
+              List.[]))))));
+        }
 
         abbrev G30 : Row.Cx
-        G30 = record
-            { locals = List._++_ g29 t28; slots = List._∷_ (Row.lease (κs .0) (qs .0)) (List._∷_ Row.off (List._∷_ Row.off (List._∷_ Row.alive (List._∷_ Row.alive (List._∷_ Row.alive (List._∷_ Row.alive
-            List.[])))))); }
+        G30 = record {
+          locals = List._++_ g29 t28;
+          slots = List._∷_ (Row.lease (κs .0) (qs .0)) (List._∷_ Row.off (List._∷_ Row.off (List._∷_ Row.alive (List._∷_ Row.alive (List._∷_ Row.alive (List._∷_ Row.alive
+              List.[]))))));
+        }
 
         abbrev G31 : Row.Cx
-        G31 = record
-            { locals = List._++_ g30 t28; slots = List._∷_ (Row.lease (κs .0) (qs .0)) (List._∷_ Row.off (List._∷_ Row.off (List._∷_ Row.alive (List._∷_ Row.alive (List._∷_ Row.alive (List._∷_ Row.alive
-            List.[])))))); }
+        G31 = record {
+          locals = List._++_ g30 t28;
+          slots = List._∷_ (Row.lease (κs .0) (qs .0)) (List._∷_ Row.off (List._∷_ Row.off (List._∷_ Row.alive (List._∷_ Row.alive (List._∷_ Row.alive (List._∷_ Row.alive
+              List.[]))))));
+        }
 
         abbrev G32 : Row.Cx
-        G32 = record
-            { locals = List._++_ g30 t31; slots = List._∷_ (Row.lease (κs .0) (qs .0)) (List._∷_ Row.off (List._∷_ Row.off (List._∷_ Row.alive (List._∷_ Row.alive (List._∷_ Row.alive (List._∷_ Row.alive
-            List.[])))))); }
+        G32 = record {
+          locals = List._++_ g30 t31;
+          slots = List._∷_ (Row.lease (κs .0) (qs .0)) (List._∷_ Row.off (List._∷_ Row.off (List._∷_ Row.alive (List._∷_ Row.alive (List._∷_ Row.alive (List._∷_ Row.alive
+              List.[]))))));
+        }
 
         abbrev G33 : Row.Cx
-        G33 = record
-            { locals = List._++_ g32 t31; slots = List._∷_ (Row.lease (κs .0) (qs .0)) (List._∷_ Row.off (List._∷_ Row.off (List._∷_ Row.alive (List._∷_ Row.alive (List._∷_ Row.alive (List._∷_ Row.alive
-            List.[])))))); }
+        G33 = record {
+          locals = List._++_ g32 t31;
+          slots = List._∷_ (Row.lease (κs .0) (qs .0)) (List._∷_ Row.off (List._∷_ Row.off (List._∷_ Row.alive (List._∷_ Row.alive (List._∷_ Row.alive (List._∷_ Row.alive
+              List.[]))))));
+        }
 
         abbrev G34 : Row.Cx
-        G34 = record
-            { locals = List._++_ g33 t31; slots = List._∷_ (Row.lease (κs .0) (qs .0)) (List._∷_ Row.off (List._∷_ Row.off (List._∷_ Row.alive (List._∷_ Row.alive (List._∷_ Row.alive (List._∷_ Row.alive
-            List.[])))))); }
+        G34 = record {
+          locals = List._++_ g33 t31;
+          slots = List._∷_ (Row.lease (κs .0) (qs .0)) (List._∷_ Row.off (List._∷_ Row.off (List._∷_ Row.alive (List._∷_ Row.alive (List._∷_ Row.alive (List._∷_ Row.alive
+              List.[]))))));
+        }
 
         abbrev G35 : Row.Cx
-        G35 = record
-            { locals = List._++_ g33 t34; slots = List._∷_ (Row.lease (κs .0) (qs .0)) (List._∷_ Row.off (List._∷_ Row.off (List._∷_ Row.alive (List._∷_ Row.alive (List._∷_ Row.alive (List._∷_ Row.alive
-            List.[])))))); }
+        G35 = record {
+          locals = List._++_ g33 t34;
+          slots = List._∷_ (Row.lease (κs .0) (qs .0)) (List._∷_ Row.off (List._∷_ Row.off (List._∷_ Row.alive (List._∷_ Row.alive (List._∷_ Row.alive (List._∷_ Row.alive
+              List.[]))))));
+        }
 
         abbrev G36 : Row.Cx
-        G36 = record
-            { locals = List._++_ g33 t35; slots = List._∷_ (Row.lease (κs .0) (qs .0)) (List._∷_ Row.off (List._∷_ Row.off (List._∷_ Row.alive (List._∷_ Row.alive (List._∷_ Row.alive (List._∷_ Row.alive
-            List.[])))))); }
+        G36 = record {
+          locals = List._++_ g33 t35;
+          slots = List._∷_ (Row.lease (κs .0) (qs .0)) (List._∷_ Row.off (List._∷_ Row.off (List._∷_ Row.alive (List._∷_ Row.alive (List._∷_ Row.alive (List._∷_ Row.alive
+              List.[]))))));
+        }
 
         abbrev G37 : Row.Cx
-        G37 = record
-            { locals = List._++_ g33 t36; slots = List._∷_ (Row.lease (κs .0) (qs .0)) (List._∷_ Row.off (List._∷_ Row.off (List._∷_ Row.alive (List._∷_ Row.alive (List._∷_ Row.alive (List._∷_ Row.alive
-            List.[])))))); }
+        G37 = record {
+          locals = List._++_ g33 t36;
+          slots = List._∷_ (Row.lease (κs .0) (qs .0)) (List._∷_ Row.off (List._∷_ Row.off (List._∷_ Row.alive (List._∷_ Row.alive (List._∷_ Row.alive (List._∷_ Row.alive
+              List.[]))))));
+        }
 
         abbrev G38 : Row.Cx
-        G38 = record
-            { locals = List._++_ g33 t36; slots = List._∷_ (Row.lease (κs .0) (qs .0)) (List._∷_ Row.off (List._∷_ Row.off (List._∷_ Row.dead (List._∷_ Row.alive (List._∷_ Row.alive (List._∷_ Row.alive
-            List.[])))))); }
+        G38 = record {
+          locals = List._++_ g33 t36;
+          slots = List._∷_ (Row.lease (κs .0) (qs .0)) (List._∷_ Row.off (List._∷_ Row.off (List._∷_ Row.dead (List._∷_ Row.alive (List._∷_ Row.alive (List._∷_ Row.alive
+              List.[]))))));
+        }
 
         abbrev G39 : Row.Cx
-        G39 = record
-            { locals = List._++_ g37 t36; slots = List._∷_ (Row.lease (κs .0) (qs .0)) (List._∷_ (Row.lease (κs .1 .0) (qs .1 .0)) (List._∷_ Row.off (List._∷_ Row.dead (List._∷_ Row.alive (List._∷_
-            Row.alive (List._∷_ Row.alive List.[])))))); }
+        G39 = record {
+          locals = List._++_ g37 t36;
+          slots = List._∷_ (Row.lease (κs .0) (qs .0)) (List._∷_ (Row.lease (κs .1 .0) (qs .1 .0)) (List._∷_ Row.off (List._∷_ Row.dead (List._∷_ Row.alive (List._∷_
+              Row.alive (List._∷_ Row.alive List.[]))))));
+        }
 
         abbrev G40 : Row.Cx
-        G40 = record
-            { locals = List._++_ g37 t36; slots = List._∷_ (Row.lease (κs .0) (qs .0)) (List._∷_ (Row.lease (κs .1 .0) (qs .1 .0)) (List._∷_ Row.off (List._∷_ Row.dead (List._∷_ Row.alive (List._∷_
-            Row.alive (List._∷_ Row.alive List.[])))))); }
+        G40 = record {
+          locals = List._++_ g37 t36;
+          slots = List._∷_ (Row.lease (κs .0) (qs .0)) (List._∷_ (Row.lease (κs .1 .0) (qs .1 .0)) (List._∷_ Row.off (List._∷_ Row.dead (List._∷_ Row.alive (List._∷_
+              Row.alive (List._∷_ Row.alive List.[]))))));
+        }
 
         abbrev G41 : Row.Cx
-        G41 = record
-            { locals = List._++_ g37 t36; slots = List._∷_ (Row.lease (κs .0) (qs .0)) (List._∷_ (Row.lease (κs .1 .0) (qs .1 .0)) (List._∷_ Row.off (List._∷_ Row.off (List._∷_ Row.alive (List._∷_
-            Row.alive (List._∷_ Row.alive List.[])))))); }
+        G41 = record {
+          locals = List._++_ g37 t36;
+          slots = List._∷_ (Row.lease (κs .0) (qs .0)) (List._∷_ (Row.lease (κs .1 .0) (qs .1 .0)) (List._∷_ Row.off (List._∷_ Row.off (List._∷_ Row.alive (List._∷_
+              Row.alive (List._∷_ Row.alive List.[]))))));
+        }
 
         abbrev G42 : Row.Cx
-        G42 = record
-            { locals = List._++_ g37 t36; slots = List._∷_ (Row.lease (κs .0) (qs .0)) (List._∷_ (Row.lease (κs .1 .0) (qs .1 .0)) (List._∷_ Row.off (List._∷_ Row.off (List._∷_ Row.dead (List._∷_
-            Row.alive (List._∷_ Row.alive List.[])))))); }
+        G42 = record {
+          locals = List._++_ g37 t36;
+          slots = List._∷_ (Row.lease (κs .0) (qs .0)) (List._∷_ (Row.lease (κs .1 .0) (qs .1 .0)) (List._∷_ Row.off (List._∷_ Row.off (List._∷_ Row.dead (List._∷_
+              Row.alive (List._∷_ Row.alive List.[]))))));
+        }
 
         abbrev G43 : Row.Cx
-        G43 = record
-            { locals = List._++_ t38 t39; slots = List._∷_ (Row.lease (κs .0) (qs .0)) (List._∷_ (Row.lease (κs .1 .0) (qs .1 .0)) (List._∷_ (Row.lease (κs .1 .1 .0) (qs .1 .1 .0)) (List._∷_ Row.off
-            (List._∷_ Row.dead (List._∷_ Row.alive (List._∷_ Row.alive List.[])))))); }
+        G43 = record {
+          locals = List._++_ t38 t39;
+          slots = List._∷_ (Row.lease (κs .0) (qs .0)) (List._∷_ (Row.lease (κs .1 .0) (qs .1 .0)) (List._∷_ (Row.lease (κs .1 .1 .0) (qs .1 .1 .0)) (List._∷_ Row.off
+              (List._∷_ Row.dead (List._∷_ Row.alive (List._∷_ Row.alive List.[]))))));
+        }
 
         abbrev G44 : Row.Cx
-        G44 = record
-            { locals = List._++_ t38 t39; slots = List._∷_ (Row.lease (κs .0) (qs .0)) (List._∷_ (Row.lease (κs .1 .0) (qs .1 .0)) (List._∷_ (Row.lease (κs .1 .1 .0) (qs .1 .1 .0)) (List._∷_ Row.off
-            (List._∷_ Row.off (List._∷_ Row.alive (List._∷_ Row.alive List.[])))))); }
+        G44 = record {
+          locals = List._++_ t38 t39;
+          slots = List._∷_ (Row.lease (κs .0) (qs .0)) (List._∷_ (Row.lease (κs .1 .0) (qs .1 .0)) (List._∷_ (Row.lease (κs .1 .1 .0) (qs .1 .1 .0)) (List._∷_ Row.off
+              (List._∷_ Row.off (List._∷_ Row.alive (List._∷_ Row.alive List.[]))))));
+        }
 
         abbrev G45 : Row.Cx
-        G45 = record
-            { locals = List._++_ t38 t39; slots = List._∷_ (Row.lease (κs .0) (qs .0)) (List._∷_ (Row.lease (κs .1 .0) (qs .1 .0)) (List._∷_ (Row.lease (κs .1 .1 .0) (qs .1 .1 .0)) (List._∷_ Row.off
-            (List._∷_ Row.off (List._∷_ Row.dead (List._∷_ Row.alive List.[])))))); }
+        G45 = record {
+          locals = List._++_ t38 t39;
+          slots = List._∷_ (Row.lease (κs .0) (qs .0)) (List._∷_ (Row.lease (κs .1 .0) (qs .1 .0)) (List._∷_ (Row.lease (κs .1 .1 .0) (qs .1 .1 .0)) (List._∷_ Row.off
+              (List._∷_ Row.off (List._∷_ Row.dead (List._∷_ Row.alive List.[]))))));
+        }
 
         abbrev G46 : Row.Cx
-        G46 = record
-            { locals = List._++_ t40 t1; slots = List._∷_ (Row.lease (κs .0) (qs .0)) (List._∷_ (Row.lease (κs .1 .0) (qs .1 .0)) (List._∷_ (Row.lease (κs .1 .1 .0) (qs .1 .1 .0)) (List._∷_ Row.off
-            (List._∷_ Row.off (List._∷_ Row.dead (List._∷_ Row.alive List.[])))))); }
+        G46 = record {
+          locals = List._++_ t40 t1;
+          slots = List._∷_ (Row.lease (κs .0) (qs .0)) (List._∷_ (Row.lease (κs .1 .0) (qs .1 .0)) (List._∷_ (Row.lease (κs .1 .1 .0) (qs .1 .1 .0)) (List._∷_ Row.off
+              (List._∷_ Row.off (List._∷_ Row.dead (List._∷_ Row.alive List.[]))))));
+        }
 
         abbrev G47 : Row.Cx
-        G47 = record
-            { locals = List._++_ t40 t1; slots = List._∷_ (Row.lease (κs .0) (qs .0)) (List._∷_ (Row.lease (κs .1 .0) (qs .1 .0)) (List._∷_ (Row.lease (κs .1 .1 .0) (qs .1 .1 .0)) (List._∷_ Row.off
-            (List._∷_ Row.off (List._∷_ Row.off (List._∷_ Row.alive List.[])))))); }
+        G47 = record {
+          locals = List._++_ t40 t1;
+          slots = List._∷_ (Row.lease (κs .0) (qs .0)) (List._∷_ (Row.lease (κs .1 .0) (qs .1 .0)) (List._∷_ (Row.lease (κs .1 .1 .0) (qs .1 .1 .0)) (List._∷_ Row.off
+              (List._∷_ Row.off (List._∷_ Row.off (List._∷_ Row.alive List.[]))))));
+        }
 
         abbrev G48 : Row.Cx
-        G48 = record
-            { locals = List._++_ t41 t1; slots = List._∷_ (Row.lease (κs .0) (qs .0)) (List._∷_ (Row.lease (κs .1 .0) (qs .1 .0)) (List._∷_ (Row.lease (κs .1 .1 .0) (qs .1 .1 .0)) (List._∷_ Row.off
-            (List._∷_ Row.off (List._∷_ Row.off (List._∷_ Row.alive List.[])))))); }
+        G48 = record {
+          locals = List._++_ t41 t1;
+          slots = List._∷_ (Row.lease (κs .0) (qs .0)) (List._∷_ (Row.lease (κs .1 .0) (qs .1 .0)) (List._∷_ (Row.lease (κs .1 .1 .0) (qs .1 .1 .0)) (List._∷_ Row.off
+              (List._∷_ Row.off (List._∷_ Row.off (List._∷_ Row.alive List.[]))))));
+        }
 
         abbrev G49 : Row.Cx
-        G49 = record
-            { locals = List._++_ t41 t1; slots = List._∷_ (Row.lease (κs .0) (qs .0)) (List._∷_ (Row.lease (κs .1 .0) (qs .1 .0)) (List._∷_ (Row.lease (κs .1 .1 .0) (qs .1 .1 .0)) (List._∷_ Row.off
-            (List._∷_ Row.off (List._∷_ Row.off (List._∷_ Row.dead List.[])))))); }
+        G49 = record {
+          locals = List._++_ t41 t1;
+          slots = List._∷_ (Row.lease (κs .0) (qs .0)) (List._∷_ (Row.lease (κs .1 .0) (qs .1 .0)) (List._∷_ (Row.lease (κs .1 .1 .0) (qs .1 .1 .0)) (List._∷_ Row.off
+              (List._∷_ Row.off (List._∷_ Row.off (List._∷_ Row.dead List.[]))))));
+        }
 
         abbrev G50 : Row.Cx
-        G50 = record
-            { locals = List._++_ t42 t1; slots = List._∷_ (Row.lease (κs .0) (qs .0)) (List._∷_ (Row.lease (κs .1 .0) (qs .1 .0)) (List._∷_ (Row.lease (κs .1 .1 .0) (qs .1 .1 .0)) (List._∷_ Row.off
-            (List._∷_ Row.off (List._∷_ Row.off (List._∷_ Row.dead List.[])))))); }
+        G50 = record {
+          locals = List._++_ t42 t1;
+          slots = List._∷_ (Row.lease (κs .0) (qs .0)) (List._∷_ (Row.lease (κs .1 .0) (qs .1 .0)) (List._∷_ (Row.lease (κs .1 .1 .0) (qs .1 .1 .0)) (List._∷_ Row.off
+              (List._∷_ Row.off (List._∷_ Row.off (List._∷_ Row.dead List.[]))))));
+        }
 
         abbrev G51 : Row.Cx
-        G51 = record
-            { locals = List._++_ t42 t1; slots = List._∷_ (Row.lease (κs .0) (qs .0)) (List._∷_ (Row.lease (κs .1 .0) (qs .1 .0)) (List._∷_ (Row.lease (κs .1 .1 .0) (qs .1 .1 .0)) (List._∷_ Row.off
-            (List._∷_ Row.off (List._∷_ Row.off (List._∷_ Row.off List.[])))))); }
+        G51 = record {
+          locals = List._++_ t42 t1;
+          slots = List._∷_ (Row.lease (κs .0) (qs .0)) (List._∷_ (Row.lease (κs .1 .0) (qs .1 .0)) (List._∷_ (Row.lease (κs .1 .1 .0) (qs .1 .1 .0)) (List._∷_ Row.off
+              (List._∷_ Row.off (List._∷_ Row.off (List._∷_ Row.off List.[]))))));
+        }
 
         abbrev G52 : Row.Cx
-        G52 = record
-            { locals = List._++_ t43 t1; slots = List._∷_ (Row.lease (κs .0) (qs .0)) (List._∷_ (Row.lease (κs .1 .0) (qs .1 .0)) (List._∷_ (Row.lease (κs .1 .1 .0) (qs .1 .1 .0)) (List._∷_ Row.off
-            (List._∷_ Row.off (List._∷_ Row.off (List._∷_ Row.off List.[])))))); }
+        G52 = record {
+          locals = List._++_ t43 t1;
+          slots = List._∷_ (Row.lease (κs .0) (qs .0)) (List._∷_ (Row.lease (κs .1 .0) (qs .1 .0)) (List._∷_ (Row.lease (κs .1 .1 .0) (qs .1 .1 .0)) (List._∷_ Row.off
+              (List._∷_ Row.off (List._∷_ Row.off (List._∷_ Row.off List.[]))))));
+        }
 
         abbrev G53 : Row.Cx
-        G53 = record
-            { locals = List._++_ t2 t1; slots = List._∷_ (Row.lease (κs .0) (qs .0)) (List._∷_ (Row.lease (κs .1 .0) (qs .1 .0)) (List._∷_ (Row.lease (κs .1 .1 .0) (qs .1 .1 .0)) (List._∷_ Row.off
-            (List._∷_ Row.off (List._∷_ Row.off (List._∷_ Row.off List.[])))))); }
+        G53 = record {
+          locals = List._++_ t2 t1;
+          slots = List._∷_ (Row.lease (κs .0) (qs .0)) (List._∷_ (Row.lease (κs .1 .0) (qs .1 .0)) (List._∷_ (Row.lease (κs .1 .1 .0) (qs .1 .1 .0)) (List._∷_ Row.off
+              (List._∷_ Row.off (List._∷_ Row.off (List._∷_ Row.off List.[]))))));
+        }
 
         abbrev Δ0 : Typed.Outs
         Δ0 = record { next = Option.none; exits = List.[]; returns = Option.some G1 }
@@ -1567,39 +1832,98 @@ module _ (claims· : Claims) where
 
           d25 : Typed.Typed 𝓤 H A 𝓣 E G28 b19 Δ0 (at25 bs)
           d25 = Typed.s-seq 𝓤 H A W 𝓣 E G28 G29 b17 b18 Δ0 (Typed.both (s27 bs)) (at24 bs) (Plain.t-call-plain 𝓤 H A W 𝓣 6 ps·7 r·7 (claims· .14) (claims· .15) "block::reading::walk" (known .7) E (λ
-              pos β. β) G28
-              (record { pos = 8; ty = Syntax.tyRef Syntax.erased Syntax.imm (Syntax.tyInt Syntax.w8); ref = λ x. x; },
-              (record { pos = 9; ty = Syntax.tyRef Syntax.erased Syntax.imm (Syntax.tyInt Syntax.w8); ref = λ x. x; },
-              (record { pos = 14; ty = Syntax.tyRef Syntax.erased Syntax.mut (Syntax.tyInt Syntax.w16); ref = λ x. x; },
-              (record { pos = 16; ty = Syntax.tyRef Syntax.erased Syntax.mut Element.behind; ref = λ x. x; },
-              (record { pos = 18; ty = Syntax.tyRef Syntax.erased Syntax.mut (Syntax.tyInt Syntax.w16); ref = λ x. x; },
-              (record { pos = 6; st = List.[]; d = 0; at = λ x. x },
-              (record { pos = 19; ty = Syntax.tyRef Syntax.erased Syntax.imm (Syntax.tyArray (Syntax.tyInt Syntax.w16) 768); ref = λ x. x; },
-              (record { pos = 20; st = List.[]; d = 0; at = λ x. x },
-              (record { pos = 21; st = List.[]; d = 0; at = λ x. x }, (Num.vAt 7 λ x. x, (Bool.bLit Bool'.false, (record { pos = 22; st = List.[]; d = 0; at = λ x. x }, tt)))))))))))) 0 (List._∷_ 0
-              (List._∷_ 0 (List._∷_ 3 (List._∷_ 4 (List._∷_ 5 (List._∷_ 6 List.[])))))) (Call.sub-id 𝓤 H A W (G28 .slots))
-              (ShrSlice.spares-sslice 𝓤 H A W (Referent.rtF (Referent.fInt Syntax.w8)) (Syntax.tyRef Syntax.erased Syntax.imm (Syntax.tyInt Syntax.w8)) 0, Shared.reads-sslice 𝓤 H A W (Referent.rtF
-              (Referent.fInt Syntax.w8)) (Syntax.tyRef Syntax.erased Syntax.imm (Syntax.tyInt Syntax.w8)) 0, Path'.refl,
-              (ShrSlice.spares-sslice 𝓤 H A W (Referent.rtF (Referent.fInt Syntax.w8)) (Syntax.tyRef Syntax.erased Syntax.imm (Syntax.tyInt Syntax.w8)) 0, Shared.reads-sslice 𝓤 H A W (Referent.rtF
-              (Referent.fInt Syntax.w8)) (Syntax.tyRef Syntax.erased Syntax.imm (Syntax.tyInt Syntax.w8)) 0, Path'.refl,
-              (Reads.as-is 𝓤 H A (Mut.mslice (Referent.rtF (Referent.fInt Syntax.w16)) (Syntax.tyRef Syntax.erased Syntax.mut (Syntax.tyInt Syntax.w16)) 3), Mut.reads-mslice 𝓤 H A W (Referent.rtF
-              (Referent.fInt Syntax.w16)) (Syntax.tyRef Syntax.erased Syntax.mut (Syntax.tyInt Syntax.w16)) 3, Path'.refl,
-              (Reads.as-is 𝓤 H A (Mut.mslice (Element.type) (Syntax.tyRef Syntax.erased Syntax.mut Element.behind) 4), Mut.reads-mslice 𝓤 H A W (Element.type) (Syntax.tyRef Syntax.erased Syntax.mut
-              Element.behind) 4, Path'.refl,
-              (Reads.as-is 𝓤 H A (Mut.mslice (Referent.rtF (Referent.fInt Syntax.w16)) (Syntax.tyRef Syntax.erased Syntax.mut (Syntax.tyInt Syntax.w16)) 5), Mut.reads-mslice 𝓤 H A W (Referent.rtF
-              (Referent.fInt Syntax.w16)) (Syntax.tyRef Syntax.erased Syntax.mut (Syntax.tyInt Syntax.w16)) 5, Path'.refl,
-              ((Yields.yields-copy 𝓤 H A W (λ ρ. Unit) (Declared'.row Form.the-type) Path'.refl (Copies.cStruct Form.the-type Laws.the-laws Laws.the-copy .copy 𝓤 H A W) (Rows'.whole (Declared'.row
-              Form.the-type)) (λ x. x) (λ x. x) (λ ρ told. Local.mem-whole 𝓤 H A W (Declared'.row Form.the-type) ρ) λ ρ told. Local.whole-mem 𝓤 H A W (Declared'.row Form.the-type) ρ, Path'.refl),
-              (ShrRef.spares-sref 𝓤 H A W (Array'.Array (Referent.rtF (Referent.fInt Syntax.w16)) 768) (Syntax.tyRef Syntax.erased Syntax.imm (Syntax.tyArray (Syntax.tyInt Syntax.w16) 768)) 6,
-              Reads.reads-sref 𝓤 H A W (Array'.Array (Referent.rtF (Referent.fInt Syntax.w16)) 768) (Syntax.tyRef Syntax.erased Syntax.imm (Syntax.tyArray (Syntax.tyInt Syntax.w16) 768)) 6, Path'.refl,
-              ((Array.arr-yields 𝓤 H A W (Array.eInt Syntax.w8) (Array.eInt-laws Syntax.w8) 36, Path'.refl),
-              ((Yields.yields-copy 𝓤 H A W (λ ρ. Unit) (Declared'.row Part.the-type) Path'.refl (Copies.cStruct Part.the-type Laws'3.the-laws Laws'3.the-copy .copy 𝓤 H A W) (Rows'.whole (Declared'.row
-              Part.the-type)) (λ x. x) (λ x. x) (λ ρ told. Local.mem-whole 𝓤 H A W (Declared'.row Part.the-type) ρ) λ ρ told. Local.whole-mem 𝓤 H A W (Declared'.row Part.the-type) ρ, Path'.refl),
-              ((Scalar.reads-sc 𝓤 H A W (Row.sInt Syntax.w64), Path'.refl),
-              (tt,
-              ((Yields.yields-copy 𝓤 H A W (λ ρ. Unit) (Declared'.row Entries.the-type) Path'.refl (Copies.cStruct Entries.the-type Laws''.the-laws Laws''.the-copy .copy 𝓤 H A W) (Rows'.whole
-              (Declared'.row Entries.the-type)) (λ x. x) (λ x. x) (λ ρ told. Local.mem-whole 𝓤 H A W (Declared'.row Entries.the-type) ρ) λ ρ told. Local.whole-mem 𝓤 H A W (Declared'.row Entries.the-type)
-              ρ, Path'.refl), tt)))))))))))) (Reads.room-gone 𝓤 H A (Syntax.tyEnum (List._∷_ 98 (List._∷_ 108 (List._∷_ 111 (List._∷_ 99 (List._∷_ 107 (List._∷_ 58 (List._∷_ 58 (List._∷_ 87 (List._∷_ 97
+              pos β. β) G28 (
+                record { pos = 8; ty = Syntax.tyRef Syntax.erased Syntax.imm (Syntax.tyInt Syntax.w8); ref = λ x. x },
+                (
+                  record { pos = 9; ty = Syntax.tyRef Syntax.erased Syntax.imm (Syntax.tyInt Syntax.w8); ref = λ x. x },
+                  (
+                    record { pos = 14; ty = Syntax.tyRef Syntax.erased Syntax.mut (Syntax.tyInt Syntax.w16); ref = λ x. x },
+                    (
+                      record { pos = 16; ty = Syntax.tyRef Syntax.erased Syntax.mut Element.behind; ref = λ x. x },
+                      (
+                        record { pos = 18; ty = Syntax.tyRef Syntax.erased Syntax.mut (Syntax.tyInt Syntax.w16); ref = λ x. x },
+                        (
+                          record { pos = 6; st = List.[]; d = 0; at = λ x. x },
+                          (
+                            record { pos = 19; ty = Syntax.tyRef Syntax.erased Syntax.imm (Syntax.tyArray (Syntax.tyInt Syntax.w16) 768); ref = λ x. x },
+                            (
+                              record { pos = 20; st = List.[]; d = 0; at = λ x. x },
+                              (record { pos = 21; st = List.[]; d = 0; at = λ x. x }, (Num.vAt 7 λ x. x, (Bool.bLit Bool'.false, (record { pos = 22; st = List.[]; d = 0; at = λ x. x }, tt)))),
+                            ),
+                          ),
+                        ),
+                      ),
+                    ),
+                  ),
+                ),
+              ) 0 (List._∷_ 0
+              (List._∷_ 0 (List._∷_ 3 (List._∷_ 4 (List._∷_ 5 (List._∷_ 6 List.[])))))) (Call.sub-id 𝓤 H A W (G28 .slots)) (
+                ShrSlice.spares-sslice 𝓤 H A W (Referent.rtF (Referent.fInt Syntax.w8)) (Syntax.tyRef Syntax.erased Syntax.imm (Syntax.tyInt Syntax.w8)) 0,
+                Shared.reads-sslice 𝓤 H A W (Referent.rtF
+                    (Referent.fInt Syntax.w8)) (Syntax.tyRef Syntax.erased Syntax.imm (Syntax.tyInt Syntax.w8)) 0,
+                Path'.refl,
+                (
+                  ShrSlice.spares-sslice 𝓤 H A W (Referent.rtF (Referent.fInt Syntax.w8)) (Syntax.tyRef Syntax.erased Syntax.imm (Syntax.tyInt Syntax.w8)) 0,
+                  Shared.reads-sslice 𝓤 H A W (Referent.rtF
+                      (Referent.fInt Syntax.w8)) (Syntax.tyRef Syntax.erased Syntax.imm (Syntax.tyInt Syntax.w8)) 0,
+                  Path'.refl,
+                  (
+                    Reads.as-is 𝓤 H A (Mut.mslice (Referent.rtF (Referent.fInt Syntax.w16)) (Syntax.tyRef Syntax.erased Syntax.mut (Syntax.tyInt Syntax.w16)) 3),
+                    Mut.reads-mslice 𝓤 H A W (Referent.rtF
+                        (Referent.fInt Syntax.w16)) (Syntax.tyRef Syntax.erased Syntax.mut (Syntax.tyInt Syntax.w16)) 3,
+                    Path'.refl,
+                    (
+                      Reads.as-is 𝓤 H A (Mut.mslice (Element.type) (Syntax.tyRef Syntax.erased Syntax.mut Element.behind) 4),
+                      Mut.reads-mslice 𝓤 H A W (Element.type) (Syntax.tyRef Syntax.erased Syntax.mut
+                          Element.behind) 4,
+                      Path'.refl,
+                      (
+                        Reads.as-is 𝓤 H A (Mut.mslice (Referent.rtF (Referent.fInt Syntax.w16)) (Syntax.tyRef Syntax.erased Syntax.mut (Syntax.tyInt Syntax.w16)) 5),
+                        Mut.reads-mslice 𝓤 H A W (Referent.rtF
+                            (Referent.fInt Syntax.w16)) (Syntax.tyRef Syntax.erased Syntax.mut (Syntax.tyInt Syntax.w16)) 5,
+                        Path'.refl,
+                        (
+                          (
+                            Yields.yields-copy 𝓤 H A W (λ ρ. Unit) (Declared'.row Form.the-type) Path'.refl (Copies.cStruct Form.the-type Laws.the-laws Laws.the-copy .copy 𝓤 H A W) (Rows'.whole (Declared'.row
+                                Form.the-type)) (λ x. x) (λ x. x) (λ ρ told. Local.mem-whole 𝓤 H A W (Declared'.row Form.the-type) ρ) λ ρ told. Local.whole-mem 𝓤 H A W (Declared'.row Form.the-type) ρ,
+                            Path'.refl,
+                          ),
+                          (
+                            ShrRef.spares-sref 𝓤 H A W (Array'.Array (Referent.rtF (Referent.fInt Syntax.w16)) 768) (Syntax.tyRef Syntax.erased Syntax.imm (Syntax.tyArray (Syntax.tyInt Syntax.w16) 768)) 6,
+                            Reads.reads-sref 𝓤 H A W (Array'.Array (Referent.rtF (Referent.fInt Syntax.w16)) 768) (Syntax.tyRef Syntax.erased Syntax.imm (Syntax.tyArray (Syntax.tyInt Syntax.w16) 768)) 6,
+                            Path'.refl,
+                            (
+                              (Array.arr-yields 𝓤 H A W (Array.eInt Syntax.w8) (Array.eInt-laws Syntax.w8) 36, Path'.refl),
+                              (
+                                (
+                                  Yields.yields-copy 𝓤 H A W (λ ρ. Unit) (Declared'.row Part.the-type) Path'.refl (Copies.cStruct Part.the-type Laws'3.the-laws Laws'3.the-copy .copy 𝓤 H A W) (Rows'.whole (Declared'.row
+                                      Part.the-type)) (λ x. x) (λ x. x) (λ ρ told. Local.mem-whole 𝓤 H A W (Declared'.row Part.the-type) ρ) λ ρ told. Local.whole-mem 𝓤 H A W (Declared'.row Part.the-type) ρ,
+                                  Path'.refl,
+                                ),
+                                (
+                                  (Scalar.reads-sc 𝓤 H A W (Row.sInt Syntax.w64), Path'.refl),
+                                  (
+                                    tt,
+                                    (
+                                      (
+                                        Yields.yields-copy 𝓤 H A W (λ ρ. Unit) (Declared'.row Entries.the-type) Path'.refl (Copies.cStruct Entries.the-type Laws''.the-laws Laws''.the-copy .copy 𝓤 H A W) (Rows'.whole
+                                            (Declared'.row Entries.the-type)) (λ x. x) (λ x. x) (λ ρ told. Local.mem-whole 𝓤 H A W (Declared'.row Entries.the-type) ρ) λ ρ told. Local.whole-mem 𝓤 H A W (Declared'.row Entries.the-type)
+                                            ρ,
+                                        Path'.refl,
+                                      ),
+                                      tt,
+                                    ),
+                                  ),
+                                ),
+                              ),
+                            ),
+                          ),
+                        ),
+                      ),
+                    ),
+                  ),
+                ),
+              ) (Reads.room-gone 𝓤 H A (Syntax.tyEnum (List._∷_ 98 (List._∷_ 108 (List._∷_ 111 (List._∷_ 99 (List._∷_ 107 (List._∷_ 58 (List._∷_ 58 (List._∷_ 87 (List._∷_ 97
               (List._∷_ 108 (List._∷_ 107 (List._∷_ 101 (List._∷_ 100 List.[]))))))))))))) (Syntax.ttcons (Syntax.tcons y3 (Syntax.tcons y8 Syntax.tnil)) (Syntax.ttcons (Syntax.tcons (Syntax.tyInt
               Syntax.w64) (Syntax.tcons y3 Syntax.tnil)) Syntax.ttnil)))) (tt, (tt, (tt, (tt, (tt, (tt, tt)))))) Path'.refl) d24
 
@@ -1664,9 +1988,11 @@ module _ (claims· : Claims) where
           d38 = Typed.s-seq 𝓤 H A W 𝓣 E G15 G16 b8 b27 Δ0 (Typed.ask (s14 bs)) (at37 bs) (Relend.t-sl-aggregate 𝓤 H A W E (Referent.rtF (Referent.fInt Syntax.w16)) 𝓣 (Relend.asMut (Referent.rtF
               (Referent.fInt Syntax.w16))) G15 13 14 3 (Syntax.tyRef Syntax.erased Syntax.mut (Syntax.tyInt Syntax.w16)) (Syntax.tyRef Syntax.erased Syntax.mut (Syntax.tyInt Syntax.w16)) (λ x. x)
               (Scalar.oFld 4 (List._∷_ (Syntax.field 1) List.[]) (Syntax.tyInt Syntax.w64) 8 λ v. Shared.lenV (v .0)) (Reads.as-is 𝓤 H A (Relend.msptr (Referent.rtF (Referent.fInt Syntax.w16))
-              (Syntax.tyRef Syntax.erased Syntax.mut (Syntax.tyInt Syntax.w16)) 3)) (Reads.room-gone 𝓤 H A y5)
-              (Relend.reads-owed-len 𝓤 H A W (Referent.rtF (Referent.fInt Syntax.w16)) (Syntax.tyRef (Syntax.named 1) Syntax.mut (Syntax.tyInt Syntax.w16)) 1 3 (Row.lease (κs .1 .0) (qs .1 .0)) 8
-              Path'.refl, Path'.refl) Path'.refl Path'.refl λ b o k. tt) d37
+              (Syntax.tyRef Syntax.erased Syntax.mut (Syntax.tyInt Syntax.w16)) 3)) (Reads.room-gone 𝓤 H A y5) (
+                Relend.reads-owed-len 𝓤 H A W (Referent.rtF (Referent.fInt Syntax.w16)) (Syntax.tyRef (Syntax.named 1) Syntax.mut (Syntax.tyInt Syntax.w16)) 1 3 (Row.lease (κs .1 .0) (qs .1 .0)) 8
+                    Path'.refl,
+                Path'.refl,
+              ) Path'.refl Path'.refl λ b o k. tt) d37
 
           d39 : Typed.Typed 𝓤 H A 𝓣 E G14 b29 Δ0 (at39 bs)
           d39 = Typed.s-seq 𝓤 H A W 𝓣 E G14 G15 b7 b28 Δ0 (Typed.give (s13 bs)) (at38 bs) (Relend.t-sl-relend 𝓤 H A W E (Referent.rtF (Referent.fInt Syntax.w16)) 𝓣 G14 4 13 1 3 (Syntax.tyRef
@@ -1709,18 +2035,26 @@ module _ (claims· : Claims) where
 
           d46 : Typed.Typed 𝓤 H A 𝓣 E G7 b33 Δ0 (at46 bs)
           d46 = Typed.s-seq 𝓤 H A W 𝓣 E G7 G8 b3 b32 Δ0 (Typed.both (s6 bs)) (at45 bs) (Plain.t-call-plain 𝓤 H A W 𝓣 1 ps·3 r·3 (claims· .6) (claims· .7) "stream::base_row" (known .3) E (λ pos β. β)
-              G7 (record { pos = 1; ty = Syntax.tyRef (Syntax.named 0) Syntax.imm (Syntax.tyInt Syntax.w8); ref = λ x. x; }, (Num.vAt 3 λ x. x, tt)) 9 (List._∷_ 0 List.[]) (Call.sub-id 𝓤 H A W (G7
-              .slots))
-              (ShrSlice.spares-sslice 𝓤 H A W (Referent.rtF (Referent.fInt Syntax.w8)) (Syntax.tyRef (Syntax.named 0) Syntax.imm (Syntax.tyInt Syntax.w8)) 0, Shared.reads-sslice 𝓤 H A W (Referent.rtF
-              (Referent.fInt Syntax.w8)) (Syntax.tyRef (Syntax.named 0) Syntax.imm (Syntax.tyInt Syntax.w8)) 0, Path'.refl, ((Scalar.reads-sc 𝓤 H A W (Row.sInt Syntax.w64), Path'.refl), tt))
+              G7 (record { pos = 1; ty = Syntax.tyRef (Syntax.named 0) Syntax.imm (Syntax.tyInt Syntax.w8); ref = λ x. x }, (Num.vAt 3 λ x. x, tt)) 9 (List._∷_ 0 List.[]) (Call.sub-id 𝓤 H A W (G7
+              .slots)) (
+                ShrSlice.spares-sslice 𝓤 H A W (Referent.rtF (Referent.fInt Syntax.w8)) (Syntax.tyRef (Syntax.named 0) Syntax.imm (Syntax.tyInt Syntax.w8)) 0,
+                Shared.reads-sslice 𝓤 H A W (Referent.rtF
+                    (Referent.fInt Syntax.w8)) (Syntax.tyRef (Syntax.named 0) Syntax.imm (Syntax.tyInt Syntax.w8)) 0,
+                Path'.refl,
+                ((Scalar.reads-sc 𝓤 H A W (Row.sInt Syntax.w64), Path'.refl), tt),
+              )
               (Reads.room-gone 𝓤 H A y4) (tt, tt) (Path'.refl, λ b o k. tt)) d45
 
           d47 : Typed.Typed 𝓤 H A 𝓣 E G6 b34 Δ0 (at47 bs)
           d47 = Typed.s-seq 𝓤 H A W 𝓣 E G6 G7 b2 b33 Δ0 (Typed.both (s5 bs)) (at46 bs) (Plain.t-call-plain 𝓤 H A W 𝓣 1 ps·2 r·2 (claims· .4) (claims· .5) "stream::block_bytes" (known .2) E (λ pos β.
-              β) G6 (record { pos = 1; ty = Syntax.tyRef (Syntax.named 0) Syntax.imm (Syntax.tyInt Syntax.w8); ref = λ x. x; }, (Num.vAt 3 λ x. x, tt)) 8 (List._∷_ 0 List.[]) (Call.sub-id 𝓤 H A W (G6
-              .slots))
-              (ShrSlice.spares-sslice 𝓤 H A W (Referent.rtF (Referent.fInt Syntax.w8)) (Syntax.tyRef (Syntax.named 0) Syntax.imm (Syntax.tyInt Syntax.w8)) 0, Shared.reads-sslice 𝓤 H A W (Referent.rtF
-              (Referent.fInt Syntax.w8)) (Syntax.tyRef (Syntax.named 0) Syntax.imm (Syntax.tyInt Syntax.w8)) 0, Path'.refl, ((Scalar.reads-sc 𝓤 H A W (Row.sInt Syntax.w64), Path'.refl), tt))
+              β) G6 (record { pos = 1; ty = Syntax.tyRef (Syntax.named 0) Syntax.imm (Syntax.tyInt Syntax.w8); ref = λ x. x }, (Num.vAt 3 λ x. x, tt)) 8 (List._∷_ 0 List.[]) (Call.sub-id 𝓤 H A W (G6
+              .slots)) (
+                ShrSlice.spares-sslice 𝓤 H A W (Referent.rtF (Referent.fInt Syntax.w8)) (Syntax.tyRef (Syntax.named 0) Syntax.imm (Syntax.tyInt Syntax.w8)) 0,
+                Shared.reads-sslice 𝓤 H A W (Referent.rtF
+                    (Referent.fInt Syntax.w8)) (Syntax.tyRef (Syntax.named 0) Syntax.imm (Syntax.tyInt Syntax.w8)) 0,
+                Path'.refl,
+                ((Scalar.reads-sc 𝓤 H A W (Row.sInt Syntax.w64), Path'.refl), tt),
+              )
               (Reads.room-gone 𝓤 H A y4) (tt, tt) (Path'.refl, λ b o k. tt)) d46
 
           d48 : Typed.Typed 𝓤 H A 𝓣 E G5 b34 Δ0 (at48 bs)
@@ -1729,17 +2063,27 @@ module _ (claims· : Claims) where
 
           d49 : Typed.Typed 𝓤 H A 𝓣 E G4 b35 Δ0 (at49 bs)
           d49 = Typed.s-seq 𝓤 H A W 𝓣 E G4 G5 b1 b34 Δ0 (Typed.both (s3 bs)) (at48 bs) (Plain.t-call-plain 𝓤 H A W 𝓣 0 ps·1 r·1 (claims· .2) (claims· .3) "block::tight::line_count" (known .1) E (λ pos
-              β. β) G4 (record { pos = 2; st = List.[]; d = 0; at = λ x. x }, tt) 7 List.[] (Call.sub-id 𝓤 H A W (G4 .slots))
-              ((Yields.yields-copy 𝓤 H A W (λ ρ. Unit) (Declared'.row FujiHeader.the-type) Path'.refl (Copies.cStruct FujiHeader.the-type Laws'4.the-laws Laws'4.the-copy .copy 𝓤 H A W) (Rows'.whole
-              (Declared'.row FujiHeader.the-type)) (λ x. x) (λ x. x) (λ ρ told. Local.mem-whole 𝓤 H A W (Declared'.row FujiHeader.the-type) ρ) λ ρ told. Local.whole-mem 𝓤 H A W (Declared'.row
-              FujiHeader.the-type) ρ, Path'.refl), tt) (Reads.room-gone 𝓤 H A (Syntax.tyInt Syntax.w64)) tt Path'.refl) d48
+              β. β) G4 (record { pos = 2; st = List.[]; d = 0; at = λ x. x }, tt) 7 List.[] (Call.sub-id 𝓤 H A W (G4 .slots)) (
+                (
+                  Yields.yields-copy 𝓤 H A W (λ ρ. Unit) (Declared'.row FujiHeader.the-type) Path'.refl (Copies.cStruct FujiHeader.the-type Laws'4.the-laws Laws'4.the-copy .copy 𝓤 H A W) (Rows'.whole
+                      (Declared'.row FujiHeader.the-type)) (λ x. x) (λ x. x) (λ ρ told. Local.mem-whole 𝓤 H A W (Declared'.row FujiHeader.the-type) ρ) λ ρ told. Local.whole-mem 𝓤 H A W (Declared'.row
+                      FujiHeader.the-type) ρ,
+                  Path'.refl,
+                ),
+                tt,
+              ) (Reads.room-gone 𝓤 H A (Syntax.tyInt Syntax.w64)) tt Path'.refl) d48
 
           d50 : Typed.Typed 𝓤 H A 𝓣 E G3 b36 Δ0 (at50 bs)
           d50 = Typed.s-seq 𝓤 H A W 𝓣 E G3 G4 b0 b35 Δ0 (Typed.both (s2 bs)) (at49 bs) (Plain.t-call-plain 𝓤 H A W 𝓣 0 ps·0 r·0 (claims· .0) (claims· .1) "block::form_of" (known .0) E (λ pos β. β) G3
-              (record { pos = 2; st = List.[]; d = 0; at = λ x. x }, tt) 6 List.[] (Call.sub-id 𝓤 H A W (G3 .slots))
-              ((Yields.yields-copy 𝓤 H A W (λ ρ. Unit) (Declared'.row FujiHeader.the-type) Path'.refl (Copies.cStruct FujiHeader.the-type Laws'4.the-laws Laws'4.the-copy .copy 𝓤 H A W) (Rows'.whole
-              (Declared'.row FujiHeader.the-type)) (λ x. x) (λ x. x) (λ ρ told. Local.mem-whole 𝓤 H A W (Declared'.row FujiHeader.the-type) ρ) λ ρ told. Local.whole-mem 𝓤 H A W (Declared'.row
-              FujiHeader.the-type) ρ, Path'.refl), tt) (Reads.room-gone 𝓤 H A y7) tt Path'.refl) d49
+              (record { pos = 2; st = List.[]; d = 0; at = λ x. x }, tt) 6 List.[] (Call.sub-id 𝓤 H A W (G3 .slots)) (
+                (
+                  Yields.yields-copy 𝓤 H A W (λ ρ. Unit) (Declared'.row FujiHeader.the-type) Path'.refl (Copies.cStruct FujiHeader.the-type Laws'4.the-laws Laws'4.the-copy .copy 𝓤 H A W) (Rows'.whole
+                      (Declared'.row FujiHeader.the-type)) (λ x. x) (λ x. x) (λ ρ told. Local.mem-whole 𝓤 H A W (Declared'.row FujiHeader.the-type) ρ) λ ρ told. Local.whole-mem 𝓤 H A W (Declared'.row
+                      FujiHeader.the-type) ρ,
+                  Path'.refl,
+                ),
+                tt,
+              ) (Reads.room-gone 𝓤 H A y7) tt Path'.refl) d49
 
           d51 : Typed.Typed 𝓤 H A 𝓣 E G2 b36 Δ0 (at51 bs)
           d51 = Typed.g-pre 𝓤 H A W 𝓣 E G2 G3 b36 Δ0 (Typed.give (s1 bs)) (at50 bs) (Know.g-sl-known 𝓤 H A W (Referent.fInt Syntax.w16) E G2 4 1 (Syntax.tyRef (Syntax.named 1) Syntax.mut (Syntax.tyInt
@@ -1757,11 +2101,24 @@ module _ (claims· : Claims) where
       module _ (κs : Lifetimes.Lfts 3) where
         pub record Args : Type 0 where
           pub d : Kinds.Den {n = 3} κs (ShrSlice.pShrS (Referent.rtF (Referent.fInt Syntax.w8)) 0 tt)
-          pub h : Kinds.Den {n = 3} κs (Value.pVal record
-              { ty = Declared'.row FujiHeader.the-type; one = Path'.refl; val = Laws'6.val FujiHeader.the-type Laws'4.the-laws; tells = Laws'6.tells FujiHeader.the-type Laws'4.the-laws; still =
-              Laws'6.still FujiHeader.the-type Laws'4.the-copy Exit.yes; row = Rows'.whole (Declared'.row FujiHeader.the-type); rd = λ x. x; mk = λ x. x; } λ M 𝓤 H A W. record
-              { copies = Laws'6.copy FujiHeader.the-type Laws'4.the-copy 𝓤 H A W; lawful = Laws'6.lawful FujiHeader.the-type Laws'4.the-laws 𝓤 H A W; makes = Laws'6.makes FujiHeader.the-type
-              Laws'4.the-plain 𝓤 H A; in-mem = Local.mem-whole 𝓤 H A W (Declared'.row FujiHeader.the-type); of-mem = Local.whole-mem 𝓤 H A W (Declared'.row FujiHeader.the-type); })
+          pub h : Kinds.Den {n = 3} κs (Value.pVal record {
+            ty = Declared'.row FujiHeader.the-type;
+            one = Path'.refl;
+            val = Laws'6.val FujiHeader.the-type Laws'4.the-laws;
+            tells = Laws'6.tells FujiHeader.the-type Laws'4.the-laws;
+            still =
+                Laws'6.still FujiHeader.the-type Laws'4.the-copy Exit.yes;
+            row = Rows'.whole (Declared'.row FujiHeader.the-type);
+            rd = λ x. x;
+            mk = λ x. x;
+          } λ M 𝓤 H A W. record {
+            copies = Laws'6.copy FujiHeader.the-type Laws'4.the-copy 𝓤 H A W;
+            lawful = Laws'6.lawful FujiHeader.the-type Laws'4.the-laws 𝓤 H A W;
+            makes = Laws'6.makes FujiHeader.the-type
+                Laws'4.the-plain 𝓤 H A;
+            in-mem = Local.mem-whole 𝓤 H A W (Declared'.row FujiHeader.the-type);
+            of-mem = Local.whole-mem 𝓤 H A W (Declared'.row FujiHeader.the-type);
+          })
           pub b : Kinds.Den {n = 3} κs (Num.pNum Syntax.w64)
           pub lines : Kinds.Den {n = 3} κs (MutSlice.pMutS (Referent.rtF (Referent.fInt Syntax.w16)) 1 tt)
           pub rs : Kinds.Den {n = 3} κs (MutSlice.pMutS (Element.type) 2 tt)
@@ -1777,9 +2134,12 @@ module _ (claims· : Claims) where
       m0 = λ κs args blocks. (tt, Enter.partsP κs 1 ps xs (dens κs args))
 
       abbrev W0 : (κs : Lifetimes.Lfts 3) → (args : Args κs) → (blocks : List.List Nat.ℕ) → Typed.Want O0
-      W0 = λ κs args blocks.
-          (λ u. ⊥, tt, λ u. Enter.Fixs κs 1 ps xs (dens κs args) (u .1) × Post· κs (dens κs args) (Function.resV r κs (u .0)) (Clauses.atExit (Kinds.endedOf 3 ps r) κs (dens κs args) (Enter.lastsP κs 1 ps
-          xs (dens κs args) (u .1))))
+      W0 = λ κs args blocks. (
+        λ u. ⊥,
+        tt,
+        λ u. Enter.Fixs κs 1 ps xs (dens κs args) (u .1) × Post· κs (dens κs args) (Function.resV r κs (u .0)) (Clauses.atExit (Kinds.endedOf 3 ps r) κs (dens κs args) (Enter.lastsP κs 1 ps
+            xs (dens κs args) (u .1))),
+      )
 
       pub record Start : Type 0 where
         pub κs : Lifetimes.Lfts 3
@@ -1858,7 +2218,7 @@ module _ (claims· : Claims) where
       module _ (before· : After-line-count) where
         abbrev pub After-block-bytes·own : Type 0
         After-block-bytes·own = Called.Called ps·2 r·2 (claims· .5) T6
-            (record { pos = 1; ty = Syntax.tyRef (Syntax.named 0) Syntax.imm (Syntax.tyInt Syntax.w8); ref = λ x. x; }, (Num.vAt 3 λ x. x, tt)) (m5 (before· .before) (After-line-count·gave before·))
+            (record { pos = 1; ty = Syntax.tyRef (Syntax.named 0) Syntax.imm (Syntax.tyInt Syntax.w8); ref = λ x. x }, (Num.vAt 3 λ x. x, tt)) (m5 (before· .before) (After-line-count·gave before·))
 
       pub record After-block-bytes : Type 0 where
         pub before : After-line-count
@@ -1866,7 +2226,7 @@ module _ (claims· : Claims) where
 
       abbrev pub After-block-bytes·gave : (c : After-block-bytes) → s5 (c .before .before .before .before .before .blocks) .gives (m5 (c .before .before) (After-line-count·gave (c .before)))
       After-block-bytes·gave = λ c. Called.given ps·2 r·2 (claims· .5) T6
-          (record { pos = 1; ty = Syntax.tyRef (Syntax.named 0) Syntax.imm (Syntax.tyInt Syntax.w8); ref = λ x. x; }, (Num.vAt 3 λ x. x, tt)) (m5 (c .before .before) (After-line-count·gave (c .before)))
+          (record { pos = 1; ty = Syntax.tyRef (Syntax.named 0) Syntax.imm (Syntax.tyInt Syntax.w8); ref = λ x. x }, (Num.vAt 3 λ x. x, tt)) (m5 (c .before .before) (After-line-count·gave (c .before)))
           (c .block-bytes)
 
       abbrev pub Need-base-row-requires : Type 0
@@ -1877,7 +2237,7 @@ module _ (claims· : Claims) where
 
       module _ (before· : After-block-bytes) where
         abbrev pub After-base-row·own : Type 0
-        After-base-row·own = Called.Called ps·3 r·3 (claims· .7) T7 (record { pos = 1; ty = Syntax.tyRef (Syntax.named 0) Syntax.imm (Syntax.tyInt Syntax.w8); ref = λ x. x; }, (Num.vAt 3 λ x. x, tt))
+        After-base-row·own = Called.Called ps·3 r·3 (claims· .7) T7 (record { pos = 1; ty = Syntax.tyRef (Syntax.named 0) Syntax.imm (Syntax.tyInt Syntax.w8); ref = λ x. x }, (Num.vAt 3 λ x. x, tt))
             (m6 (before· .before) (After-block-bytes·gave before·))
 
       pub record After-base-row : Type 0 where
@@ -1886,7 +2246,7 @@ module _ (claims· : Claims) where
 
       abbrev pub After-base-row·gave : (c : After-base-row) → s6 (c .before .before .before .before .before .before .blocks) .gives (m6 (c .before .before) (After-block-bytes·gave (c .before)))
       After-base-row·gave = λ c. Called.given ps·3 r·3 (claims· .7) T7
-          (record { pos = 1; ty = Syntax.tyRef (Syntax.named 0) Syntax.imm (Syntax.tyInt Syntax.w8); ref = λ x. x; }, (Num.vAt 3 λ x. x, tt)) (m6 (c .before .before) (After-block-bytes·gave (c .before)))
+          (record { pos = 1; ty = Syntax.tyRef (Syntax.named 0) Syntax.imm (Syntax.tyInt Syntax.w8); ref = λ x. x }, (Num.vAt 3 λ x. x, tt)) (m6 (c .before .before) (After-block-bytes·gave (c .before)))
           (c .base-row)
 
       abbrev pub Need-xtrans-places-requires : Type 0
@@ -2044,16 +2404,31 @@ module _ (claims· : Claims) where
 
       module _ (before· : After-no-entries) where
         abbrev pub After-walk·own : Type 0
-        After-walk·own = Called.Called ps·7 r·7 (claims· .15) T28
-            (record { pos = 8; ty = Syntax.tyRef Syntax.erased Syntax.imm (Syntax.tyInt Syntax.w8); ref = λ x. x; },
-            (record { pos = 9; ty = Syntax.tyRef Syntax.erased Syntax.imm (Syntax.tyInt Syntax.w8); ref = λ x. x; },
-            (record { pos = 14; ty = Syntax.tyRef Syntax.erased Syntax.mut (Syntax.tyInt Syntax.w16); ref = λ x. x; },
-            (record { pos = 16; ty = Syntax.tyRef Syntax.erased Syntax.mut Element.behind; ref = λ x. x; },
-            (record { pos = 18; ty = Syntax.tyRef Syntax.erased Syntax.mut (Syntax.tyInt Syntax.w16); ref = λ x. x; },
-            (record { pos = 6; st = List.[]; d = 0; at = λ x. x },
-            (record { pos = 19; ty = Syntax.tyRef Syntax.erased Syntax.imm (Syntax.tyArray (Syntax.tyInt Syntax.w16) 768); ref = λ x. x; },
-            (record { pos = 20; st = List.[]; d = 0; at = λ x. x },
-            (record { pos = 21; st = List.[]; d = 0; at = λ x. x }, (Num.vAt 7 λ x. x, (Bool.bLit Bool'.false, (record { pos = 22; st = List.[]; d = 0; at = λ x. x }, tt)))))))))))) (m23 (before· .before)
+        After-walk·own = Called.Called ps·7 r·7 (claims· .15) T28 (
+          record { pos = 8; ty = Syntax.tyRef Syntax.erased Syntax.imm (Syntax.tyInt Syntax.w8); ref = λ x. x },
+          (
+            record { pos = 9; ty = Syntax.tyRef Syntax.erased Syntax.imm (Syntax.tyInt Syntax.w8); ref = λ x. x },
+            (
+              record { pos = 14; ty = Syntax.tyRef Syntax.erased Syntax.mut (Syntax.tyInt Syntax.w16); ref = λ x. x },
+              (
+                record { pos = 16; ty = Syntax.tyRef Syntax.erased Syntax.mut Element.behind; ref = λ x. x },
+                (
+                  record { pos = 18; ty = Syntax.tyRef Syntax.erased Syntax.mut (Syntax.tyInt Syntax.w16); ref = λ x. x },
+                  (
+                    record { pos = 6; st = List.[]; d = 0; at = λ x. x },
+                    (
+                      record { pos = 19; ty = Syntax.tyRef Syntax.erased Syntax.imm (Syntax.tyArray (Syntax.tyInt Syntax.w16) 768); ref = λ x. x },
+                      (
+                        record { pos = 20; st = List.[]; d = 0; at = λ x. x },
+                        (record { pos = 21; st = List.[]; d = 0; at = λ x. x }, (Num.vAt 7 λ x. x, (Bool.bLit Bool'.false, (record { pos = 22; st = List.[]; d = 0; at = λ x. x }, tt)))),
+                      ),
+                    ),
+                  ),
+                ),
+              ),
+            ),
+          ),
+        ) (m23 (before· .before)
             (After-no-entries·gave before·))
 
       pub record After-walk : Type 0 where
@@ -2062,16 +2437,31 @@ module _ (claims· : Claims) where
 
       abbrev pub After-walk·gave : (c : After-walk) → s27 (c .before .before .before .before .before .before .before .before .before .before .before .before .before .before .blocks) .gives (m23 (c
           .before .before) (After-no-entries·gave (c .before)))
-      After-walk·gave = λ c. Called.given ps·7 r·7 (claims· .15) T28
-          (record { pos = 8; ty = Syntax.tyRef Syntax.erased Syntax.imm (Syntax.tyInt Syntax.w8); ref = λ x. x; },
-          (record { pos = 9; ty = Syntax.tyRef Syntax.erased Syntax.imm (Syntax.tyInt Syntax.w8); ref = λ x. x; },
-          (record { pos = 14; ty = Syntax.tyRef Syntax.erased Syntax.mut (Syntax.tyInt Syntax.w16); ref = λ x. x; },
-          (record { pos = 16; ty = Syntax.tyRef Syntax.erased Syntax.mut Element.behind; ref = λ x. x; },
-          (record { pos = 18; ty = Syntax.tyRef Syntax.erased Syntax.mut (Syntax.tyInt Syntax.w16); ref = λ x. x; },
-          (record { pos = 6; st = List.[]; d = 0; at = λ x. x },
-          (record { pos = 19; ty = Syntax.tyRef Syntax.erased Syntax.imm (Syntax.tyArray (Syntax.tyInt Syntax.w16) 768); ref = λ x. x; },
-          (record { pos = 20; st = List.[]; d = 0; at = λ x. x },
-          (record { pos = 21; st = List.[]; d = 0; at = λ x. x }, (Num.vAt 7 λ x. x, (Bool.bLit Bool'.false, (record { pos = 22; st = List.[]; d = 0; at = λ x. x }, tt)))))))))))) (m23 (c .before .before)
+      After-walk·gave = λ c. Called.given ps·7 r·7 (claims· .15) T28 (
+        record { pos = 8; ty = Syntax.tyRef Syntax.erased Syntax.imm (Syntax.tyInt Syntax.w8); ref = λ x. x },
+        (
+          record { pos = 9; ty = Syntax.tyRef Syntax.erased Syntax.imm (Syntax.tyInt Syntax.w8); ref = λ x. x },
+          (
+            record { pos = 14; ty = Syntax.tyRef Syntax.erased Syntax.mut (Syntax.tyInt Syntax.w16); ref = λ x. x },
+            (
+              record { pos = 16; ty = Syntax.tyRef Syntax.erased Syntax.mut Element.behind; ref = λ x. x },
+              (
+                record { pos = 18; ty = Syntax.tyRef Syntax.erased Syntax.mut (Syntax.tyInt Syntax.w16); ref = λ x. x },
+                (
+                  record { pos = 6; st = List.[]; d = 0; at = λ x. x },
+                  (
+                    record { pos = 19; ty = Syntax.tyRef Syntax.erased Syntax.imm (Syntax.tyArray (Syntax.tyInt Syntax.w16) 768); ref = λ x. x },
+                    (
+                      record { pos = 20; st = List.[]; d = 0; at = λ x. x },
+                      (record { pos = 21; st = List.[]; d = 0; at = λ x. x }, (Num.vAt 7 λ x. x, (Bool.bLit Bool'.false, (record { pos = 22; st = List.[]; d = 0; at = λ x. x }, tt)))),
+                    ),
+                  ),
+                ),
+              ),
+            ),
+          ),
+        ),
+      ) (m23 (c .before .before)
           (After-no-entries·gave (c .before))) (c .walk)
 
       abbrev pub m25 : (before : After-no-entries) → (given : s27 (before .before .before .before .before .before .before .before .before .before .before .before .before .before .blocks) .gives (m23
@@ -2210,123 +2600,251 @@ module _ (claims· : Claims) where
         lay8 : (c : After-walk) → at24 (c .before .before .before .before .before .before .before .before .before .before .before .before .before .before .blocks) (W0 (c .before .before .before
             .before .before .before .before .before .before .before .before .before .before .before .κs) (c .before .before .before .before .before .before .before .before .before .before .before .before
             .before .before .args) (c .before .before .before .before .before .before .before .before .before .before .before .before .before .before .blocks)) (m24 (c .before) (After-walk·gave c))
-        lay8 = λ c.
-            (Path'.refl, λ g. λ g'.
-            (Path'.refl, λ g''.
-            (Path'.refl, λ g'3.
-            ((Path'.refl,
-            (tt,
-            (tt,
-            (MutSlice.fix-len (Row.get 4 (T53 .locals) (m40 record
-            { before = record { before = record { before = record { before = c .before; walk = c .walk }; lines = record { given = g }; }; slice-known2 = record { given = g' }; }; rs = record { given =
-            g'' }; } g'3) .ptr) (Row.get 4 (T53 .locals) (m40 record
-            { before = record { before = record { before = record { before = c .before; walk = c .walk }; lines = record { given = g }; }; slice-known2 = record { given = g' }; }; rs = record { given =
-            g'' }; } g'3) .name) (Row.get 4 (T53 .locals) (m40 record
-            { before = record { before = record { before = record { before = c .before; walk = c .walk }; lines = record { given = g }; }; slice-known2 = record { given = g' }; }; rs = record { given =
-            g'' }; } g'3) .now) (dens (c .before .before .before .before .before .before .before .before .before .before .before .before .before .before .κs) (c .before .before .before .before .before
-            .before .before .before .before .before .before .before .before .before .args) .1 .1 .1 .0 .now) (same-length record
-            { before = record
-            { before = record { before = record { before = record { before = c .before; walk = c .walk }; lines = record { given = g }; }; slice-known2 = record { given = g' }; }; rs = record { given =
-            g'' }; }; nothing2 = record { given = g'3 }; }),
-            (MutSlice.fix-len (Row.get 5 (T53 .locals) (m40 record
-            { before = record { before = record { before = record { before = c .before; walk = c .walk }; lines = record { given = g }; }; slice-known2 = record { given = g' }; }; rs = record { given =
-            g'' }; } g'3) .ptr) (Row.get 5 (T53 .locals) (m40 record
-            { before = record { before = record { before = record { before = c .before; walk = c .walk }; lines = record { given = g }; }; slice-known2 = record { given = g' }; }; rs = record { given =
-            g'' }; } g'3) .name) (Row.get 5 (T53 .locals) (m40 record
-            { before = record { before = record { before = record { before = c .before; walk = c .walk }; lines = record { given = g }; }; slice-known2 = record { given = g' }; }; rs = record { given =
-            g'' }; } g'3) .now) (dens (c .before .before .before .before .before .before .before .before .before .before .before .before .before .before .κs) (c .before .before .before .before .before
-            .before .before .before .before .before .before .before .before .before .args) .1 .1 .1 .1 .0 .now) (same-length-2 record
-            { before = record
-            { before = record { before = record { before = record { before = c .before; walk = c .walk }; lines = record { given = g }; }; slice-known2 = record { given = g' }; }; rs = record { given =
-            g'' }; }; nothing2 = record { given = g'3 }; }), tt))))), returns record
-            { before = record
-            { before = record { before = record { before = record { before = c .before; walk = c .walk }; lines = record { given = g }; }; slice-known2 = record { given = g' }; }; rs = record { given =
-            g'' }; }; nothing2 = record { given = g'3 }; }))))
+        lay8 = λ c. (
+          Path'.refl,
+          λ g. λ g'. (
+            Path'.refl,
+            λ g''. (
+              Path'.refl,
+              λ g'3. (
+                (
+                  Path'.refl,
+                  (
+                    tt,
+                    (
+                      tt,
+                      (
+                        MutSlice.fix-len (Row.get 4 (T53 .locals) (m40 record {
+                          before = record { before = record { before = record { before = c .before; walk = c .walk }; lines = record { given = g } }; slice-known2 = record { given = g' } };
+                          rs = record {
+                            given =
+                                g'';
+                          };
+                        } g'3) .ptr) (Row.get 4 (T53 .locals) (m40 record {
+                          before = record { before = record { before = record { before = c .before; walk = c .walk }; lines = record { given = g } }; slice-known2 = record { given = g' } };
+                          rs = record {
+                            given =
+                                g'';
+                          };
+                        } g'3) .name) (Row.get 4 (T53 .locals) (m40 record {
+                          before = record { before = record { before = record { before = c .before; walk = c .walk }; lines = record { given = g } }; slice-known2 = record { given = g' } };
+                          rs = record {
+                            given =
+                                g'';
+                          };
+                        } g'3) .now) (dens (c .before .before .before .before .before .before .before .before .before .before .before .before .before .before .κs) (c .before .before .before .before .before
+                            .before .before .before .before .before .before .before .before .before .args) .1 .1 .1 .0 .now) (same-length record {
+                              before = record {
+                                before = record { before = record { before = record { before = c .before; walk = c .walk }; lines = record { given = g } }; slice-known2 = record { given = g' } };
+                                rs = record {
+                                  given =
+                                      g'';
+                                };
+                              };
+                              nothing2 = record { given = g'3 };
+                            }),
+                        (
+                          MutSlice.fix-len (Row.get 5 (T53 .locals) (m40 record {
+                            before = record { before = record { before = record { before = c .before; walk = c .walk }; lines = record { given = g } }; slice-known2 = record { given = g' } };
+                            rs = record {
+                              given =
+                                  g'';
+                            };
+                          } g'3) .ptr) (Row.get 5 (T53 .locals) (m40 record {
+                            before = record { before = record { before = record { before = c .before; walk = c .walk }; lines = record { given = g } }; slice-known2 = record { given = g' } };
+                            rs = record {
+                              given =
+                                  g'';
+                            };
+                          } g'3) .name) (Row.get 5 (T53 .locals) (m40 record {
+                            before = record { before = record { before = record { before = c .before; walk = c .walk }; lines = record { given = g } }; slice-known2 = record { given = g' } };
+                            rs = record {
+                              given =
+                                  g'';
+                            };
+                          } g'3) .now) (dens (c .before .before .before .before .before .before .before .before .before .before .before .before .before .before .κs) (c .before .before .before .before .before
+                              .before .before .before .before .before .before .before .before .before .args) .1 .1 .1 .1 .0 .now) (same-length-2 record {
+                                before = record {
+                                  before = record { before = record { before = record { before = c .before; walk = c .walk }; lines = record { given = g } }; slice-known2 = record { given = g' } };
+                                  rs = record {
+                                    given =
+                                        g'';
+                                  };
+                                };
+                                nothing2 = record { given = g'3 };
+                              }),
+                          tt,
+                        ),
+                      ),
+                    ),
+                  ),
+                ),
+                returns record {
+                  before = record {
+                    before = record { before = record { before = record { before = c .before; walk = c .walk }; lines = record { given = g } }; slice-known2 = record { given = g' } };
+                    rs = record {
+                      given =
+                          g'';
+                    };
+                  };
+                  nothing2 = record { given = g'3 };
+                },
+              ),
+            ),
+          ),
+        )
 
         lay7 : (c : After-no-entries) → at25 (c .before .before .before .before .before .before .before .before .before .before .before .before .before .blocks) (W0 (c .before .before .before .before
             .before .before .before .before .before .before .before .before .before .κs) (c .before .before .before .before .before .before .before .before .before .before .before .before .before .args)
             (c .before .before .before .before .before .before .before .before .before .before .before .before .before .blocks)) (m23 (c .before) (After-no-entries·gave c))
-        lay7 = λ c.
-            (walk-requires record { before = c .before; no-entries = c .no-entries }, λ g. lay8 record
-            { before = record { before = c .before; no-entries = c .no-entries }; walk = Called.called ps·7 r·7 (claims· .15) T28
-            (record { pos = 8; ty = Syntax.tyRef Syntax.erased Syntax.imm (Syntax.tyInt Syntax.w8); ref = λ x. x; },
-            (record { pos = 9; ty = Syntax.tyRef Syntax.erased Syntax.imm (Syntax.tyInt Syntax.w8); ref = λ x. x; },
-            (record { pos = 14; ty = Syntax.tyRef Syntax.erased Syntax.mut (Syntax.tyInt Syntax.w16); ref = λ x. x; },
-            (record { pos = 16; ty = Syntax.tyRef Syntax.erased Syntax.mut Element.behind; ref = λ x. x; },
-            (record { pos = 18; ty = Syntax.tyRef Syntax.erased Syntax.mut (Syntax.tyInt Syntax.w16); ref = λ x. x; },
-            (record { pos = 6; st = List.[]; d = 0; at = λ x. x },
-            (record { pos = 19; ty = Syntax.tyRef Syntax.erased Syntax.imm (Syntax.tyArray (Syntax.tyInt Syntax.w16) 768); ref = λ x. x; },
-            (record { pos = 20; st = List.[]; d = 0; at = λ x. x },
-            (record { pos = 21; st = List.[]; d = 0; at = λ x. x }, (Num.vAt 7 λ x. x, (Bool.bLit Bool'.false, (record { pos = 22; st = List.[]; d = 0; at = λ x. x }, tt)))))))))))) (m23 (c .before)
-            (After-no-entries·gave c)) g; })
+        lay7 = λ c. (
+          walk-requires record { before = c .before; no-entries = c .no-entries },
+          λ g. lay8 record {
+            before = record { before = c .before; no-entries = c .no-entries };
+            walk = Called.called ps·7 r·7 (claims· .15) T28 (
+              record { pos = 8; ty = Syntax.tyRef Syntax.erased Syntax.imm (Syntax.tyInt Syntax.w8); ref = λ x. x },
+              (
+                record { pos = 9; ty = Syntax.tyRef Syntax.erased Syntax.imm (Syntax.tyInt Syntax.w8); ref = λ x. x },
+                (
+                  record { pos = 14; ty = Syntax.tyRef Syntax.erased Syntax.mut (Syntax.tyInt Syntax.w16); ref = λ x. x },
+                  (
+                    record { pos = 16; ty = Syntax.tyRef Syntax.erased Syntax.mut Element.behind; ref = λ x. x },
+                    (
+                      record { pos = 18; ty = Syntax.tyRef Syntax.erased Syntax.mut (Syntax.tyInt Syntax.w16); ref = λ x. x },
+                      (
+                        record { pos = 6; st = List.[]; d = 0; at = λ x. x },
+                        (
+                          record { pos = 19; ty = Syntax.tyRef Syntax.erased Syntax.imm (Syntax.tyArray (Syntax.tyInt Syntax.w16) 768); ref = λ x. x },
+                          (
+                            record { pos = 20; st = List.[]; d = 0; at = λ x. x },
+                            (record { pos = 21; st = List.[]; d = 0; at = λ x. x }, (Num.vAt 7 λ x. x, (Bool.bLit Bool'.false, (record { pos = 22; st = List.[]; d = 0; at = λ x. x }, tt)))),
+                          ),
+                        ),
+                      ),
+                    ),
+                  ),
+                ),
+              ),
+            ) (m23 (c .before)
+                (After-no-entries·gave c)) g;
+          },
+        )
 
         lay6 : (c : After-no-part) → at26 (c .before .before .before .before .before .before .before .before .before .before .before .before .blocks) (W0 (c .before .before .before .before .before
             .before .before .before .before .before .before .before .κs) (c .before .before .before .before .before .before .before .before .before .before .before .before .args) (c .before .before
             .before .before .before .before .before .before .before .before .before .before .blocks)) (m22 (c .before) (After-no-part·gave c))
-        lay6 = λ c.
-            (no-entries-requires record { before = c .before; no-part = c .no-part }, λ g. lay7 record
-            { before = record { before = c .before; no-part = c .no-part }; no-entries = Called.called ps·6 r·6 (claims· .13) T27 tt (m22 (c .before) (After-no-part·gave c)) g; })
+        lay6 = λ c. (
+          no-entries-requires record { before = c .before; no-part = c .no-part },
+          λ g. lay7 record
+              { before = record { before = c .before; no-part = c .no-part }; no-entries = Called.called ps·6 r·6 (claims· .13) T27 tt (m22 (c .before) (After-no-part·gave c)) g },
+        )
 
         lay5 : (c : After-xtrans-places) → at44 (c .before .before .before .before .before .before .before .blocks) (W0 (c .before .before .before .before .before .before .before .κs) (c .before
             .before .before .before .before .before .before .args) (c .before .before .before .before .before .before .before .blocks)) (m8 (c .before) (After-xtrans-places·gave c))
-        lay5 = λ c. λ g.
-            (Path'.refl, λ g'.
-            (Path'.refl, λ g''.
-            (Relend.count-is T21 17 18 (λ x. x) (λ u. 1) (m17 record
-            { before = record { before = record { before = c .before; xtrans-places = c .xtrans-places }; walk-arg = record { given = g }; }; walk-arg2 = record { given = g' }; } g'')
-            (slice-aggregate-walk record
-            { before = record { before = record { before = record { before = c .before; xtrans-places = c .xtrans-places }; walk-arg = record { given = g }; }; walk-arg2 = record { given = g' }; };
-            nothing = record { given = g'' }; }), λ g'3.
-            (no-part-requires record
-            { before = record
-            { before = record { before = record { before = record { before = c .before; xtrans-places = c .xtrans-places }; walk-arg = record { given = g }; }; walk-arg2 = record { given = g' }; };
-            nothing = record { given = g'' }; }; places = record { given = g'3 }; }, λ g'4. lay6 record
-            { before = record
-            { before = record
-            { before = record { before = record { before = record { before = c .before; xtrans-places = c .xtrans-places; }; walk-arg = record { given = g }; }; walk-arg2 = record { given = g' }; };
-            nothing = record { given = g'' }; }; places = record { given = g'3 }; }; no-part = Called.called ps·5 r·5 (claims· .11) T26 tt (m21 record
-            { before = record { before = record { before = record { before = c .before; xtrans-places = c .xtrans-places }; walk-arg = record { given = g }; }; walk-arg2 = record { given = g' }; };
-            nothing = record { given = g'' }; } g'3) g'4; }))))
+        lay5 = λ c. λ g. (
+          Path'.refl,
+          λ g'. (
+            Path'.refl,
+            λ g''. (
+              Relend.count-is T21 17 18 (λ x. x) (λ u. 1) (m17 record
+                  { before = record { before = record { before = c .before; xtrans-places = c .xtrans-places }; walk-arg = record { given = g } }; walk-arg2 = record { given = g' } } g'')
+                  (slice-aggregate-walk record {
+                    before = record { before = record { before = record { before = c .before; xtrans-places = c .xtrans-places }; walk-arg = record { given = g } }; walk-arg2 = record { given = g' } };
+                    nothing = record { given = g'' };
+                  }),
+              λ g'3. (
+                no-part-requires record {
+                  before = record {
+                    before = record { before = record { before = record { before = c .before; xtrans-places = c .xtrans-places }; walk-arg = record { given = g } }; walk-arg2 = record { given = g' } };
+                    nothing = record { given = g'' };
+                  };
+                  places = record { given = g'3 };
+                },
+                λ g'4. lay6 record {
+                  before = record {
+                    before = record {
+                      before = record { before = record { before = record { before = c .before; xtrans-places = c .xtrans-places }; walk-arg = record { given = g } }; walk-arg2 = record { given = g' } };
+                      nothing = record { given = g'' };
+                    };
+                    places = record { given = g'3 };
+                  };
+                  no-part = Called.called ps·5 r·5 (claims· .11) T26 tt (m21 record {
+                    before = record { before = record { before = record { before = c .before; xtrans-places = c .xtrans-places }; walk-arg = record { given = g } }; walk-arg2 = record { given = g' } };
+                    nothing = record { given = g'' };
+                  } g'3) g'4;
+                },
+              ),
+            ),
+          ),
+        )
 
         lay4 : (c : After-base-row) → at45 (c .before .before .before .before .before .before .blocks) (W0 (c .before .before .before .before .before .before .κs) (c .before .before .before .before
             .before .before .args) (c .before .before .before .before .before .before .blocks)) (m7 (c .before) (After-base-row·gave c))
-        lay4 = λ c.
-            (xtrans-places-requires record { before = c .before; base-row = c .base-row }, λ g. lay5 record
-            { before = record { before = c .before; base-row = c .base-row }; xtrans-places = Called.called ps·4 r·4 (claims· .9) T8 tt (m7 (c .before) (After-base-row·gave c)) g; })
+        lay4 = λ c. (
+          xtrans-places-requires record { before = c .before; base-row = c .base-row },
+          λ g. lay5 record
+              { before = record { before = c .before; base-row = c .base-row }; xtrans-places = Called.called ps·4 r·4 (claims· .9) T8 tt (m7 (c .before) (After-base-row·gave c)) g },
+        )
 
         lay3 : (c : After-block-bytes) → at46 (c .before .before .before .before .before .blocks) (W0 (c .before .before .before .before .before .κs) (c .before .before .before .before .before .args)
             (c .before .before .before .before .before .blocks)) (m6 (c .before) (After-block-bytes·gave c))
-        lay3 = λ c.
-            (base-row-requires record { before = c .before; block-bytes = c .block-bytes }, λ g. lay4 record
-            { before = record { before = c .before; block-bytes = c .block-bytes }; base-row = Called.called ps·3 r·3 (claims· .7) T7
-            (record { pos = 1; ty = Syntax.tyRef (Syntax.named 0) Syntax.imm (Syntax.tyInt Syntax.w8); ref = λ x. x; }, (Num.vAt 3 λ x. x, tt)) (m6 (c .before) (After-block-bytes·gave c)) g; })
+        lay3 = λ c. (
+          base-row-requires record { before = c .before; block-bytes = c .block-bytes },
+          λ g. lay4 record {
+            before = record { before = c .before; block-bytes = c .block-bytes };
+            base-row = Called.called ps·3 r·3 (claims· .7) T7
+                (record { pos = 1; ty = Syntax.tyRef (Syntax.named 0) Syntax.imm (Syntax.tyInt Syntax.w8); ref = λ x. x }, (Num.vAt 3 λ x. x, tt)) (m6 (c .before) (After-block-bytes·gave c)) g;
+          },
+        )
 
         lay2 : (c : After-line-count) → at48 (c .before .before .before .before .blocks) (W0 (c .before .before .before .before .κs) (c .before .before .before .before .args) (c .before .before
             .before .before .blocks)) (m4 (c .before) (After-line-count·gave c))
-        lay2 = λ c.
-            (block-bytes-requires record { before = c .before; line-count = c .line-count }, λ g. lay3 record
-            { before = record { before = c .before; line-count = c .line-count }; block-bytes = Called.called ps·2 r·2 (claims· .5) T6
-            (record { pos = 1; ty = Syntax.tyRef (Syntax.named 0) Syntax.imm (Syntax.tyInt Syntax.w8); ref = λ x. x; }, (Num.vAt 3 λ x. x, tt)) (m5 (c .before) (After-line-count·gave c)) g; })
+        lay2 = λ c. (
+          block-bytes-requires record { before = c .before; line-count = c .line-count },
+          λ g. lay3 record {
+            before = record { before = c .before; line-count = c .line-count };
+            block-bytes = Called.called ps·2 r·2 (claims· .5) T6
+                (record { pos = 1; ty = Syntax.tyRef (Syntax.named 0) Syntax.imm (Syntax.tyInt Syntax.w8); ref = λ x. x }, (Num.vAt 3 λ x. x, tt)) (m5 (c .before) (After-line-count·gave c)) g;
+          },
+        )
 
         lay1 : (c : After-form-of) → at49 (c .before .before .before .blocks) (W0 (c .before .before .before .κs) (c .before .before .before .args) (c .before .before .before .blocks)) (m3 (c .before)
             (After-form-of·gave c))
-        lay1 = λ c.
-            (line-count-requires record { before = c .before; form-of = c .form-of }, λ g. lay2 record
-            { before = record { before = c .before; form-of = c .form-of }; line-count = Called.called ps·1 r·1 (claims· .3) T4 (record { pos = 2; st = List.[]; d = 0; at = λ x. x }, tt) (m3 (c .before)
-            (After-form-of·gave c)) g; })
+        lay1 = λ c. (
+          line-count-requires record { before = c .before; form-of = c .form-of },
+          λ g. lay2 record {
+            before = record { before = c .before; form-of = c .form-of };
+            line-count = Called.called ps·1 r·1 (claims· .3) T4 (record { pos = 2; st = List.[]; d = 0; at = λ x. x }, tt) (m3 (c .before)
+                (After-form-of·gave c)) g;
+          },
+        )
 
         pub laid : (c : Start) → at52 (c .blocks) (W0 (c .κs) (c .args) (c .blocks)) (m0 (c .κs) (c .args) (c .blocks))
-        laid = λ c. λ g. λ g'.
-            (form-of-requires record { before = record { before = c; shared-slice-known = record { given = g } }; slice-known = record { given = g' }; }, λ g''. lay1 record
-            { before = record { before = record { before = c; shared-slice-known = record { given = g } }; slice-known = record { given = g' }; }; form-of = Called.called ps·0 r·0 (claims· .1) T3
-            (record { pos = 2; st = List.[]; d = 0; at = λ x. x }, tt) (m2 record { before = c; shared-slice-known = record { given = g } } g') g''; })
+        laid = λ c. λ g. λ g'. (
+          form-of-requires record { before = record { before = c; shared-slice-known = record { given = g } }; slice-known = record { given = g' } },
+          λ g''. lay1 record {
+            before = record { before = record { before = c; shared-slice-known = record { given = g } }; slice-known = record { given = g' } };
+            form-of = Called.called ps·0 r·0 (claims· .1) T3
+                (record { pos = 2; st = List.[]; d = 0; at = λ x. x }, tt) (m2 record { before = c; shared-slice-known = record { given = g } } g') g'';
+          },
+        )
 
         module _ (κs : Lifetimes.Lfts 3) (qs : Lifetimes.Shares 3) where
           pub asked : (a : Kinds.Dens κs ps) → (good : Kinds.GoodsP κs ps a) → (pre : Pre· κs a) → (bs : List.List Nat.ℕ) → Φ bs (Any.wantQ 3 ps r xs m κs qs a (Post· κs a)) (Function.init 3 ps r xs m
               κs qs a)
-          asked = λ a good pre bs. laid record
-              { κs = κs; args = record { d = a .0; h = a .1 .0; b = a .1 .1 .0; lines = a .1 .1 .1 .0; rs = a .1 .1 .1 .1 .0; }; blocks = bs; good = good; fits = record { b = record { fits = good .1 .1 .0
-              .1 } }; pre = pre; }
+          asked = λ a good pre bs. laid record {
+            κs = κs;
+            args = record { d = a .0; h = a .1 .0; b = a .1 .1 .0; lines = a .1 .1 .1 .0; rs = a .1 .1 .1 .1 .0 };
+            blocks = bs;
+            good = good;
+            fits = record {
+              b = record {
+                fits = good .1 .1 .0
+                    .1;
+              };
+            };
+            pre = pre;
+          }
 
         module _ {M : Type 1} (𝓤 : URA.URA M) (H : Wp.Heap 𝓤) (A : Atoms.Atoms 𝓤) (W : Kit.Given 𝓤 H A) (𝓣 : Wp.Tables 𝓤 H) (known0 : Plain.Known 𝓤 H A W 𝓣 0 ps·0 r·0 (claims· .0) (claims· .1)
             "block::form_of") (known1 : Plain.Known 𝓤 H A W 𝓣 0 ps·1 r·1 (claims· .2) (claims· .3) "block::tight::line_count") (known2 : Plain.Known 𝓤 H A W 𝓣 1 ps·2 r·2 (claims· .4) (claims· .5)

@@ -61,11 +61,23 @@ ps = List._∷_ (ShrSlice.pShrS (Referent.rtF (Referent.fInt Syntax.w8)) 0 tt) (
     (Referent.fInt Syntax.w8)) 2 tt) (List._∷_ (MutSlice.pMutS (Referent.rtF (Referent.fInt Syntax.w16)) 3 tt) (List._∷_ (MutSlice.pMutS (Element.type) 4 tt) List.[]))))
 
 abbrev pub r : Kinds.RK 5
-r = Value.rVal record
-    { ty = Declared.row BlockLength.the-type; one = Path'.refl; val = Laws'.val BlockLength.the-type Laws.the-laws; tells = Laws'.tells BlockLength.the-type Laws.the-laws; still = Laws'.still
-    BlockLength.the-type Laws.the-copy Exit.yes; row = Rows.whole (Declared.row BlockLength.the-type); rd = λ x. x; mk = λ x. x; } λ M 𝓤 H A W. record
-    { copies = Laws'.copy BlockLength.the-type Laws.the-copy 𝓤 H A W; lawful = Laws'.lawful BlockLength.the-type Laws.the-laws 𝓤 H A W tt; makes = Laws'.makes BlockLength.the-type Laws.the-plain 𝓤 H A;
-    in-mem = Local.mem-whole 𝓤 H A W (Declared.row BlockLength.the-type); of-mem = Local.whole-mem 𝓤 H A W (Declared.row BlockLength.the-type); }
+r = Value.rVal record {
+  ty = Declared.row BlockLength.the-type;
+  one = Path'.refl;
+  val = Laws'.val BlockLength.the-type Laws.the-laws;
+  tells = Laws'.tells BlockLength.the-type Laws.the-laws;
+  still = Laws'.still
+      BlockLength.the-type Laws.the-copy Exit.yes;
+  row = Rows.whole (Declared.row BlockLength.the-type);
+  rd = λ x. x;
+  mk = λ x. x;
+} λ M 𝓤 H A W. record {
+  copies = Laws'.copy BlockLength.the-type Laws.the-copy 𝓤 H A W;
+  lawful = Laws'.lawful BlockLength.the-type Laws.the-laws 𝓤 H A W tt;
+  makes = Laws'.makes BlockLength.the-type Laws.the-plain 𝓤 H A;
+  in-mem = Local.mem-whole 𝓤 H A W (Declared.row BlockLength.the-type);
+  of-mem = Local.whole-mem 𝓤 H A W (Declared.row BlockLength.the-type);
+}
 
 abbrev pub xs : List.List Syntax.Ty
 xs = List._∷_ (Syntax.tyRef Syntax.erased Syntax.mut (Syntax.tyInt Syntax.w8)) (List._∷_ y1 (List._∷_ (Syntax.tyRef Syntax.erased Syntax.mut (Syntax.tyInt Syntax.w16)) (List._∷_ y0 (List._∷_
@@ -79,11 +91,23 @@ ps·0 = List._∷_ (ShrSlice.pShrS (Referent.rtF (Referent.fInt Syntax.w8)) 0 tt
     (Referent.fInt Syntax.w8)) 2 tt) (List._∷_ Bool.pBool (List._∷_ (MutSlice.pMutS (Referent.rtF (Referent.fInt Syntax.w16)) 3 tt) (List._∷_ (MutSlice.pMutS (Element.type) 4 tt) List.[])))))
 
 abbrev pub r·0 : Kinds.RK 5
-r·0 = Value.rVal record
-    { ty = Declared.row BlockLength.the-type; one = Path'.refl; val = Laws'.val BlockLength.the-type Laws.the-laws; tells = Laws'.tells BlockLength.the-type Laws.the-laws; still = Laws'.still
-    BlockLength.the-type Laws.the-copy Exit.yes; row = Rows.whole (Declared.row BlockLength.the-type); rd = λ x. x; mk = λ x. x; } λ M 𝓤 H A W. record
-    { copies = Laws'.copy BlockLength.the-type Laws.the-copy 𝓤 H A W; lawful = Laws'.lawful BlockLength.the-type Laws.the-laws 𝓤 H A W tt; makes = Laws'.makes BlockLength.the-type Laws.the-plain 𝓤 H A;
-    in-mem = Local.mem-whole 𝓤 H A W (Declared.row BlockLength.the-type); of-mem = Local.whole-mem 𝓤 H A W (Declared.row BlockLength.the-type); }
+r·0 = Value.rVal record {
+  ty = Declared.row BlockLength.the-type;
+  one = Path'.refl;
+  val = Laws'.val BlockLength.the-type Laws.the-laws;
+  tells = Laws'.tells BlockLength.the-type Laws.the-laws;
+  still = Laws'.still
+      BlockLength.the-type Laws.the-copy Exit.yes;
+  row = Rows.whole (Declared.row BlockLength.the-type);
+  rd = λ x. x;
+  mk = λ x. x;
+} λ M 𝓤 H A W. record {
+  copies = Laws'.copy BlockLength.the-type Laws.the-copy 𝓤 H A W;
+  lawful = Laws'.lawful BlockLength.the-type Laws.the-laws 𝓤 H A W tt;
+  makes = Laws'.makes BlockLength.the-type Laws.the-plain 𝓤 H A;
+  in-mem = Local.mem-whole 𝓤 H A W (Declared.row BlockLength.the-type);
+  of-mem = Local.whole-mem 𝓤 H A W (Declared.row BlockLength.the-type);
+}
 
 abbrev pub hs : List.List Syntax.Home
 hs = List._∷_ Syntax.valueLocal (List._∷_ Syntax.valueLocal (List._∷_ Syntax.valueLocal (List._∷_ Syntax.valueLocal (List._∷_ Syntax.valueLocal (List._∷_ Syntax.valueLocal (List._∷_ Syntax.valueLocal
@@ -142,17 +166,19 @@ abbrev pub Claims : Type 1
 Claims = Kinds.In 5 ps·0 × Kinds.Out 5 ps·0 r·0
 
 abbrev pub e0 : Row.Entry
-e0 =
-    (0, Rows.any-gone (Syntax.tyEnum (List._∷_ 115 (List._∷_ 116 (List._∷_ 114 (List._∷_ 101 (List._∷_ 97 (List._∷_ 109 (List._∷_ 58 (List._∷_ 58 (List._∷_ 66 (List._∷_ 108 (List._∷_ 111 (List._∷_ 99
-    (List._∷_ 107 (List._∷_ 76 (List._∷_ 101 (List._∷_ 110 (List._∷_ 103 (List._∷_ 116 (List._∷_ 104 List.[]))))))))))))))))))) (Syntax.ttcons (Syntax.tcons (Syntax.tyInt Syntax.w64) Syntax.tnil)
-    (Syntax.ttcons (Syntax.tcons (Syntax.tyEnum (List._∷_ 115 (List._∷_ 116 (List._∷_ 114 (List._∷_ 101 (List._∷_ 97 (List._∷_ 109 (List._∷_ 58 (List._∷_ 58 (List._∷_ 82 (List._∷_ 101 (List._∷_ 102
-    (List._∷_ 117 (List._∷_ 115 (List._∷_ 97 (List._∷_ 108 List.[]))))))))))))))) (Syntax.ttcons Syntax.tnil (Syntax.ttcons Syntax.tnil (Syntax.ttcons Syntax.tnil (Syntax.ttcons (Syntax.tcons
-    (Syntax.tyInt Syntax.w64) Syntax.tnil) (Syntax.ttcons Syntax.tnil (Syntax.ttcons Syntax.tnil (Syntax.ttcons Syntax.tnil (Syntax.ttcons Syntax.tnil (Syntax.ttcons Syntax.tnil (Syntax.ttcons Syntax.tnil
-    (Syntax.ttcons (Syntax.tcons (Syntax.tyInt Syntax.w64) Syntax.tnil) (Syntax.ttcons (Syntax.tcons (Syntax.tyInt Syntax.w64) Syntax.tnil) (Syntax.ttcons Syntax.tnil (Syntax.ttcons (Syntax.tcons
-    (Syntax.tyInt Syntax.w64) (Syntax.tcons (Syntax.tyInt Syntax.w64) Syntax.tnil)) (Syntax.ttcons (Syntax.tcons (Syntax.tyInt Syntax.w64) Syntax.tnil) (Syntax.ttcons Syntax.tnil (Syntax.ttcons
-    Syntax.tnil (Syntax.ttcons (Syntax.tcons (Syntax.tyInt Syntax.w64) Syntax.tnil) (Syntax.ttcons (Syntax.tcons (Syntax.tyInt Syntax.w64) Syntax.tnil) (Syntax.ttcons (Syntax.tcons (Syntax.tyInt
-    Syntax.w64) Syntax.tnil) (Syntax.ttcons (Syntax.tcons (Syntax.tyInt Syntax.w64) (Syntax.tcons (Syntax.tyInt Syntax.w64) Syntax.tnil)) (Syntax.ttcons Syntax.tnil Syntax.ttnil)))))))))))))))))))))))
-    Syntax.tnil) Syntax.ttnil))))
+e0 = (
+  0,
+  Rows.any-gone (Syntax.tyEnum (List._∷_ 115 (List._∷_ 116 (List._∷_ 114 (List._∷_ 101 (List._∷_ 97 (List._∷_ 109 (List._∷_ 58 (List._∷_ 58 (List._∷_ 66 (List._∷_ 108 (List._∷_ 111 (List._∷_ 99
+      (List._∷_ 107 (List._∷_ 76 (List._∷_ 101 (List._∷_ 110 (List._∷_ 103 (List._∷_ 116 (List._∷_ 104 List.[]))))))))))))))))))) (Syntax.ttcons (Syntax.tcons (Syntax.tyInt Syntax.w64) Syntax.tnil)
+      (Syntax.ttcons (Syntax.tcons (Syntax.tyEnum (List._∷_ 115 (List._∷_ 116 (List._∷_ 114 (List._∷_ 101 (List._∷_ 97 (List._∷_ 109 (List._∷_ 58 (List._∷_ 58 (List._∷_ 82 (List._∷_ 101 (List._∷_ 102
+      (List._∷_ 117 (List._∷_ 115 (List._∷_ 97 (List._∷_ 108 List.[]))))))))))))))) (Syntax.ttcons Syntax.tnil (Syntax.ttcons Syntax.tnil (Syntax.ttcons Syntax.tnil (Syntax.ttcons (Syntax.tcons
+      (Syntax.tyInt Syntax.w64) Syntax.tnil) (Syntax.ttcons Syntax.tnil (Syntax.ttcons Syntax.tnil (Syntax.ttcons Syntax.tnil (Syntax.ttcons Syntax.tnil (Syntax.ttcons Syntax.tnil (Syntax.ttcons Syntax.tnil
+      (Syntax.ttcons (Syntax.tcons (Syntax.tyInt Syntax.w64) Syntax.tnil) (Syntax.ttcons (Syntax.tcons (Syntax.tyInt Syntax.w64) Syntax.tnil) (Syntax.ttcons Syntax.tnil (Syntax.ttcons (Syntax.tcons
+      (Syntax.tyInt Syntax.w64) (Syntax.tcons (Syntax.tyInt Syntax.w64) Syntax.tnil)) (Syntax.ttcons (Syntax.tcons (Syntax.tyInt Syntax.w64) Syntax.tnil) (Syntax.ttcons Syntax.tnil (Syntax.ttcons
+      Syntax.tnil (Syntax.ttcons (Syntax.tcons (Syntax.tyInt Syntax.w64) Syntax.tnil) (Syntax.ttcons (Syntax.tcons (Syntax.tyInt Syntax.w64) Syntax.tnil) (Syntax.ttcons (Syntax.tcons (Syntax.tyInt
+      Syntax.w64) Syntax.tnil) (Syntax.ttcons (Syntax.tcons (Syntax.tyInt Syntax.w64) (Syntax.tcons (Syntax.tyInt Syntax.w64) Syntax.tnil)) (Syntax.ttcons Syntax.tnil Syntax.ttnil)))))))))))))))))))))))
+      Syntax.tnil) Syntax.ttnil))),
+)
 
 abbrev pub e1 : Row.Entry
 e1 = (0, Rows.whole (Declared.row BlockLength.the-type))
@@ -353,13 +379,22 @@ module _ (claims· : Claims) where
       x. x) (Scalar.oFld 5 (List._∷_ (Syntax.field 1) List.[]) (Syntax.tyInt Syntax.w64) 8 λ v. Shared.lenV (v .0))
 
   abbrev s13 : Typed.Both T14 T15
-  s13 = Call.callB ps·0 r·0 (claims· .0) (claims· .1) T14
-      (record { pos = 1; ty = Syntax.tyRef (Syntax.named 0) Syntax.imm (Syntax.tyInt Syntax.w8); ref = λ x. x; },
-      (record { pos = 2; ty = Syntax.tyRef (Syntax.named 1) Syntax.imm (Syntax.tyInt Syntax.w16); ref = λ x. x; },
-      (record { pos = 7; ty = Syntax.tyRef Syntax.erased Syntax.mut (Syntax.tyInt Syntax.w8); ref = λ x. x; },
-      (Bool.bLit Bool'.false,
-      (record { pos = 9; ty = Syntax.tyRef Syntax.erased Syntax.mut (Syntax.tyInt Syntax.w16); ref = λ x. x; },
-      (record { pos = 11; ty = Syntax.tyRef Syntax.erased Syntax.mut Element.behind; ref = λ x. x; }, tt)))))) 0 (List._∷_ 0 (List._∷_ 1 (List._∷_ 5 (List._∷_ 6 (List._∷_ 7 List.[]))))) (Syntax.tyEnum
+  s13 = Call.callB ps·0 r·0 (claims· .0) (claims· .1) T14 (
+    record { pos = 1; ty = Syntax.tyRef (Syntax.named 0) Syntax.imm (Syntax.tyInt Syntax.w8); ref = λ x. x },
+    (
+      record { pos = 2; ty = Syntax.tyRef (Syntax.named 1) Syntax.imm (Syntax.tyInt Syntax.w16); ref = λ x. x },
+      (
+        record { pos = 7; ty = Syntax.tyRef Syntax.erased Syntax.mut (Syntax.tyInt Syntax.w8); ref = λ x. x },
+        (
+          Bool.bLit Bool'.false,
+          (
+            record { pos = 9; ty = Syntax.tyRef Syntax.erased Syntax.mut (Syntax.tyInt Syntax.w16); ref = λ x. x },
+            (record { pos = 11; ty = Syntax.tyRef Syntax.erased Syntax.mut Element.behind; ref = λ x. x }, tt),
+          ),
+        ),
+      ),
+    ),
+  ) 0 (List._∷_ 0 (List._∷_ 1 (List._∷_ 5 (List._∷_ 6 (List._∷_ 7 List.[]))))) (Syntax.tyEnum
       (List._∷_ 115 (List._∷_ 116 (List._∷_ 114 (List._∷_ 101 (List._∷_ 97 (List._∷_ 109 (List._∷_ 58 (List._∷_ 58 (List._∷_ 66 (List._∷_ 108 (List._∷_ 111 (List._∷_ 99 (List._∷_ 107 (List._∷_ 76
       (List._∷_ 101 (List._∷_ 110 (List._∷_ 103 (List._∷_ 116 (List._∷_ 104 List.[]))))))))))))))))))) (Syntax.ttcons (Syntax.tcons (Syntax.tyInt Syntax.w64) Syntax.tnil) (Syntax.ttcons (Syntax.tcons
       (Syntax.tyEnum (List._∷_ 115 (List._∷_ 116 (List._∷_ 114 (List._∷_ 101 (List._∷_ 97 (List._∷_ 109 (List._∷_ 58 (List._∷_ 58 (List._∷_ 82 (List._∷_ 101 (List._∷_ 102 (List._∷_ 117 (List._∷_ 115
@@ -536,139 +571,193 @@ module _ (claims· : Claims) where
             e21 (List._∷_ e24 (List._∷_ e4 (List._∷_ e5 List.[])))))))))))
 
         abbrev G0 : Row.Cx
-        G0 = record
-            { locals = t0; slots = List._∷_ (Row.lease (κs .0) (qs .0)) (List._∷_ (Row.lease (κs .1 .0) (qs .1 .0)) (List._∷_ (Row.lease (κs .1 .1 .0) (qs .1 .1 .0)) (List._∷_ (Row.lease (κs .1 .1 .1 .0)
-            (qs .1 .1 .1 .0)) (List._∷_ (Row.lease (κs .1 .1 .1 .1 .0) (qs .1 .1 .1 .1 .0)) (List._∷_ Row.off (List._∷_ Row.off (List._∷_ Row.off List.[]))))))); }
+        G0 = record {
+          locals = t0;
+          slots = List._∷_ (Row.lease (κs .0) (qs .0)) (List._∷_ (Row.lease (κs .1 .0) (qs .1 .0)) (List._∷_ (Row.lease (κs .1 .1 .0) (qs .1 .1 .0)) (List._∷_ (Row.lease (κs .1 .1 .1 .0)
+              (qs .1 .1 .1 .0)) (List._∷_ (Row.lease (κs .1 .1 .1 .1 .0) (qs .1 .1 .1 .1 .0)) (List._∷_ Row.off (List._∷_ Row.off (List._∷_ Row.off List.[])))))));
+        }
 
         abbrev G1 : Row.Cx
-        G1 = record
-            { locals = t1; slots = List._∷_ (Row.lease (κs .0) (qs .0)) (List._∷_ (Row.lease (κs .1 .0) (qs .1 .0)) (List._∷_ (Row.lease (κs .1 .1 .0) (qs .1 .1 .0)) (List._∷_ (Row.lease (κs .1 .1 .1 .0)
-            (qs .1 .1 .1 .0)) (List._∷_ (Row.lease (κs .1 .1 .1 .1 .0) (qs .1 .1 .1 .1 .0)) (List._∷_ Row.off (List._∷_ Row.off (List._∷_ Row.off List.[]))))))); }
+        G1 = record {
+          locals = t1;
+          slots = List._∷_ (Row.lease (κs .0) (qs .0)) (List._∷_ (Row.lease (κs .1 .0) (qs .1 .0)) (List._∷_ (Row.lease (κs .1 .1 .0) (qs .1 .1 .0)) (List._∷_ (Row.lease (κs .1 .1 .1 .0)
+              (qs .1 .1 .1 .0)) (List._∷_ (Row.lease (κs .1 .1 .1 .1 .0) (qs .1 .1 .1 .1 .0)) (List._∷_ Row.off (List._∷_ Row.off (List._∷_ Row.off List.[])))))));
+        }
 
         abbrev G2 : Row.Cx
-        G2 = record
-            { locals = t0; slots = List._∷_ (Row.lease (κs .0) (qs .0)) (List._∷_ (Row.lease (κs .1 .0) (qs .1 .0)) (List._∷_ (Row.lease (κs .1 .1 .0) (qs .1 .1 .0)) (List._∷_ (Row.lease (κs .1 .1 .1 .0)
-            (qs .1 .1 .1 .0)) (List._∷_ (Row.lease (κs .1 .1 .1 .1 .0) (qs .1 .1 .1 .1 .0)) (List._∷_ Row.off (List._∷_ Row.off (List._∷_ Row.off List.[]))))))); }
+        G2 = record {
+          locals = t0;
+          slots = List._∷_ (Row.lease (κs .0) (qs .0)) (List._∷_ (Row.lease (κs .1 .0) (qs .1 .0)) (List._∷_ (Row.lease (κs .1 .1 .0) (qs .1 .1 .0)) (List._∷_ (Row.lease (κs .1 .1 .1 .0)
+              (qs .1 .1 .1 .0)) (List._∷_ (Row.lease (κs .1 .1 .1 .1 .0) (qs .1 .1 .1 .1 .0)) (List._∷_ Row.off (List._∷_ Row.off (List._∷_ Row.off List.[])))))));
+        }
 
         abbrev G3 : Row.Cx
-        G3 = record
-            { locals = t0; slots = List._∷_ (Row.lease (κs .0) (qs .0)) (List._∷_ (Row.lease (κs .1 .0) (qs .1 .0)) (List._∷_ (Row.lease (κs .1 .1 .0) (qs .1 .1 .0)) (List._∷_ (Row.lease (κs .1 .1 .1 .0)
-            (qs .1 .1 .1 .0)) (List._∷_ (Row.lease (κs .1 .1 .1 .1 .0) (qs .1 .1 .1 .1 .0)) (List._∷_ Row.off (List._∷_ Row.off (List._∷_ Row.off List.[]))))))); }
+        G3 = record {
+          locals = t0;
+          slots = List._∷_ (Row.lease (κs .0) (qs .0)) (List._∷_ (Row.lease (κs .1 .0) (qs .1 .0)) (List._∷_ (Row.lease (κs .1 .1 .0) (qs .1 .1 .0)) (List._∷_ (Row.lease (κs .1 .1 .1 .0)
+              (qs .1 .1 .1 .0)) (List._∷_ (Row.lease (κs .1 .1 .1 .1 .0) (qs .1 .1 .1 .1 .0)) (List._∷_ Row.off (List._∷_ Row.off (List._∷_ Row.off List.[])))))));
+        }
 
         abbrev G4 : Row.Cx
-        G4 = record
-            { locals = t0; slots = List._∷_ (Row.lease (κs .0) (qs .0)) (List._∷_ (Row.lease (κs .1 .0) (qs .1 .0)) (List._∷_ (Row.lease (κs .1 .1 .0) (qs .1 .1 .0)) (List._∷_ (Row.lease (κs .1 .1 .1 .0)
-            (qs .1 .1 .1 .0)) (List._∷_ (Row.lease (κs .1 .1 .1 .1 .0) (qs .1 .1 .1 .1 .0)) (List._∷_ Row.off (List._∷_ Row.off (List._∷_ Row.off List.[]))))))); }
+        G4 = record {
+          locals = t0;
+          slots = List._∷_ (Row.lease (κs .0) (qs .0)) (List._∷_ (Row.lease (κs .1 .0) (qs .1 .0)) (List._∷_ (Row.lease (κs .1 .1 .0) (qs .1 .1 .0)) (List._∷_ (Row.lease (κs .1 .1 .1 .0)
+              (qs .1 .1 .1 .0)) (List._∷_ (Row.lease (κs .1 .1 .1 .1 .0) (qs .1 .1 .1 .1 .0)) (List._∷_ Row.off (List._∷_ Row.off (List._∷_ Row.off List.[])))))));
+        }
 
         abbrev G5 : Row.Cx
-        G5 = record
-            { locals = t0; slots = List._∷_ (Row.lease (κs .0) (qs .0)) (List._∷_ (Row.lease (κs .1 .0) (qs .1 .0)) (List._∷_ (Row.lease (κs .1 .1 .0) (qs .1 .1 .0)) (List._∷_ (Row.lease (κs .1 .1 .1 .0)
-            (qs .1 .1 .1 .0)) (List._∷_ (Row.lease (κs .1 .1 .1 .1 .0) (qs .1 .1 .1 .1 .0)) (List._∷_ Row.off (List._∷_ Row.off (List._∷_ Row.off List.[]))))))); }
+        G5 = record {
+          locals = t0;
+          slots = List._∷_ (Row.lease (κs .0) (qs .0)) (List._∷_ (Row.lease (κs .1 .0) (qs .1 .0)) (List._∷_ (Row.lease (κs .1 .1 .0) (qs .1 .1 .0)) (List._∷_ (Row.lease (κs .1 .1 .1 .0)
+              (qs .1 .1 .1 .0)) (List._∷_ (Row.lease (κs .1 .1 .1 .1 .0) (qs .1 .1 .1 .1 .0)) (List._∷_ Row.off (List._∷_ Row.off (List._∷_ Row.off List.[])))))));
+        }
 
         abbrev G6 : Row.Cx
-        G6 = record
-            { locals = t0; slots = List._∷_ (Row.lease (κs .0) (qs .0)) (List._∷_ (Row.lease (κs .1 .0) (qs .1 .0)) (List._∷_ (Row.lease (κs .1 .1 .0) (qs .1 .1 .0)) (List._∷_ (Row.lease (κs .1 .1 .1 .0)
-            (qs .1 .1 .1 .0)) (List._∷_ (Row.lease (κs .1 .1 .1 .1 .0) (qs .1 .1 .1 .1 .0)) (List._∷_ Row.alive (List._∷_ Row.off (List._∷_ Row.off List.[]))))))); }
+        G6 = record {
+          locals = t0;
+          slots = List._∷_ (Row.lease (κs .0) (qs .0)) (List._∷_ (Row.lease (κs .1 .0) (qs .1 .0)) (List._∷_ (Row.lease (κs .1 .1 .0) (qs .1 .1 .0)) (List._∷_ (Row.lease (κs .1 .1 .1 .0)
+              (qs .1 .1 .1 .0)) (List._∷_ (Row.lease (κs .1 .1 .1 .1 .0) (qs .1 .1 .1 .1 .0)) (List._∷_ Row.alive (List._∷_ Row.off (List._∷_ Row.off List.[])))))));
+        }
 
         abbrev G7 : Row.Cx
-        G7 = record
-            { locals = g2; slots = List._∷_ (Row.lease (κs .0) (qs .0)) (List._∷_ (Row.lease (κs .1 .0) (qs .1 .0)) (List._∷_ Row.off (List._∷_ (Row.lease (κs .1 .1 .1 .0) (qs .1 .1 .1 .0)) (List._∷_
-            (Row.lease (κs .1 .1 .1 .1 .0) (qs .1 .1 .1 .1 .0)) (List._∷_ Row.alive (List._∷_ Row.off (List._∷_ Row.off List.[]))))))); }
+        G7 = record {
+          locals = g2;
+          slots = List._∷_ (Row.lease (κs .0) (qs .0)) (List._∷_ (Row.lease (κs .1 .0) (qs .1 .0)) (List._∷_ Row.off (List._∷_ (Row.lease (κs .1 .1 .1 .0) (qs .1 .1 .1 .0)) (List._∷_
+              (Row.lease (κs .1 .1 .1 .1 .0) (qs .1 .1 .1 .1 .0)) (List._∷_ Row.alive (List._∷_ Row.off (List._∷_ Row.off List.[])))))));
+        }
 
         abbrev G8 : Row.Cx
-        G8 = record
-            { locals = g3; slots = List._∷_ (Row.lease (κs .0) (qs .0)) (List._∷_ (Row.lease (κs .1 .0) (qs .1 .0)) (List._∷_ Row.off (List._∷_ (Row.lease (κs .1 .1 .1 .0) (qs .1 .1 .1 .0)) (List._∷_
-            (Row.lease (κs .1 .1 .1 .1 .0) (qs .1 .1 .1 .1 .0)) (List._∷_ Row.alive (List._∷_ Row.off (List._∷_ Row.off List.[]))))))); }
+        G8 = record {
+          locals = g3;
+          slots = List._∷_ (Row.lease (κs .0) (qs .0)) (List._∷_ (Row.lease (κs .1 .0) (qs .1 .0)) (List._∷_ Row.off (List._∷_ (Row.lease (κs .1 .1 .1 .0) (qs .1 .1 .1 .0)) (List._∷_
+              (Row.lease (κs .1 .1 .1 .1 .0) (qs .1 .1 .1 .1 .0)) (List._∷_ Row.alive (List._∷_ Row.off (List._∷_ Row.off List.[])))))));
+        }
 
         abbrev G9 : Row.Cx
-        G9 = record
-            { locals = g3; slots = List._∷_ (Row.lease (κs .0) (qs .0)) (List._∷_ (Row.lease (κs .1 .0) (qs .1 .0)) (List._∷_ Row.off (List._∷_ (Row.lease (κs .1 .1 .1 .0) (qs .1 .1 .1 .0)) (List._∷_
-            (Row.lease (κs .1 .1 .1 .1 .0) (qs .1 .1 .1 .1 .0)) (List._∷_ Row.alive (List._∷_ Row.alive (List._∷_ Row.off List.[]))))))); }
+        G9 = record {
+          locals = g3;
+          slots = List._∷_ (Row.lease (κs .0) (qs .0)) (List._∷_ (Row.lease (κs .1 .0) (qs .1 .0)) (List._∷_ Row.off (List._∷_ (Row.lease (κs .1 .1 .1 .0) (qs .1 .1 .1 .0)) (List._∷_
+              (Row.lease (κs .1 .1 .1 .1 .0) (qs .1 .1 .1 .1 .0)) (List._∷_ Row.alive (List._∷_ Row.alive (List._∷_ Row.off List.[])))))));
+        }
 
         abbrev G10 : Row.Cx
-        G10 = record
-            { locals = g4; slots = List._∷_ (Row.lease (κs .0) (qs .0)) (List._∷_ (Row.lease (κs .1 .0) (qs .1 .0)) (List._∷_ Row.off (List._∷_ Row.off (List._∷_ (Row.lease (κs .1 .1 .1 .1 .0) (qs .1 .1
-            .1 .1 .0)) (List._∷_ Row.alive (List._∷_ Row.alive (List._∷_ Row.off List.[]))))))); }
+        G10 = record {
+          locals = g4;
+          slots = List._∷_ (Row.lease (κs .0) (qs .0)) (List._∷_ (Row.lease (κs .1 .0) (qs .1 .0)) (List._∷_ Row.off (List._∷_ Row.off (List._∷_ (Row.lease (κs .1 .1 .1 .1 .0) (qs .1 .1
+              .1 .1 .0)) (List._∷_ Row.alive (List._∷_ Row.alive (List._∷_ Row.off List.[])))))));
+        }
 
         abbrev G11 : Row.Cx
-        G11 = record
-            { locals = g5; slots = List._∷_ (Row.lease (κs .0) (qs .0)) (List._∷_ (Row.lease (κs .1 .0) (qs .1 .0)) (List._∷_ Row.off (List._∷_ Row.off (List._∷_ (Row.lease (κs .1 .1 .1 .1 .0) (qs .1 .1
-            .1 .1 .0)) (List._∷_ Row.alive (List._∷_ Row.alive (List._∷_ Row.off List.[]))))))); }
+        G11 = record {
+          locals = g5;
+          slots = List._∷_ (Row.lease (κs .0) (qs .0)) (List._∷_ (Row.lease (κs .1 .0) (qs .1 .0)) (List._∷_ Row.off (List._∷_ Row.off (List._∷_ (Row.lease (κs .1 .1 .1 .1 .0) (qs .1 .1
+              .1 .1 .0)) (List._∷_ Row.alive (List._∷_ Row.alive (List._∷_ Row.off List.[])))))));
+        }
 
         abbrev G12 : Row.Cx
-        G12 = record
-            { locals = g5; slots = List._∷_ (Row.lease (κs .0) (qs .0)) (List._∷_ (Row.lease (κs .1 .0) (qs .1 .0)) (List._∷_ Row.off (List._∷_ Row.off (List._∷_ (Row.lease (κs .1 .1 .1 .1 .0) (qs .1 .1
-            .1 .1 .0)) (List._∷_ Row.alive (List._∷_ Row.alive (List._∷_ Row.alive List.[]))))))); }
+        G12 = record {
+          locals = g5;
+          slots = List._∷_ (Row.lease (κs .0) (qs .0)) (List._∷_ (Row.lease (κs .1 .0) (qs .1 .0)) (List._∷_ Row.off (List._∷_ Row.off (List._∷_ (Row.lease (κs .1 .1 .1 .1 .0) (qs .1 .1
+              .1 .1 .0)) (List._∷_ Row.alive (List._∷_ Row.alive (List._∷_ Row.alive List.[])))))));
+        }
 
         abbrev G13 : Row.Cx
-        G13 = record
-            { locals = g6; slots = List._∷_ (Row.lease (κs .0) (qs .0)) (List._∷_ (Row.lease (κs .1 .0) (qs .1 .0)) (List._∷_ Row.off (List._∷_ Row.off (List._∷_ Row.off (List._∷_ Row.alive (List._∷_
-            Row.alive (List._∷_ Row.alive List.[]))))))); }
+        G13 = record {
+          locals = g6;
+          slots = List._∷_ (Row.lease (κs .0) (qs .0)) (List._∷_ (Row.lease (κs .1 .0) (qs .1 .0)) (List._∷_ Row.off (List._∷_ Row.off (List._∷_ Row.off (List._∷_ Row.alive (List._∷_
+              Row.alive (List._∷_ Row.alive List.[])))))));
+        }
 
         abbrev G14 : Row.Cx
-        G14 = record
-            { locals = g7; slots = List._∷_ (Row.lease (κs .0) (qs .0)) (List._∷_ (Row.lease (κs .1 .0) (qs .1 .0)) (List._∷_ Row.off (List._∷_ Row.off (List._∷_ Row.off (List._∷_ Row.alive (List._∷_
-            Row.alive (List._∷_ Row.alive List.[]))))))); }
+        G14 = record {
+          locals = g7;
+          slots = List._∷_ (Row.lease (κs .0) (qs .0)) (List._∷_ (Row.lease (κs .1 .0) (qs .1 .0)) (List._∷_ Row.off (List._∷_ Row.off (List._∷_ Row.off (List._∷_ Row.alive (List._∷_
+              Row.alive (List._∷_ Row.alive List.[])))))));
+        }
 
         abbrev G15 : Row.Cx
-        G15 = record
-            { locals = g8; slots = List._∷_ (Row.lease (κs .0) (qs .0)) (List._∷_ (Row.lease (κs .1 .0) (qs .1 .0)) (List._∷_ Row.off (List._∷_ Row.off (List._∷_ Row.off (List._∷_ Row.alive (List._∷_
-            Row.alive (List._∷_ Row.alive List.[]))))))); }
+        G15 = record {
+          locals = g8;
+          slots = List._∷_ (Row.lease (κs .0) (qs .0)) (List._∷_ (Row.lease (κs .1 .0) (qs .1 .0)) (List._∷_ Row.off (List._∷_ Row.off (List._∷_ Row.off (List._∷_ Row.alive (List._∷_
+              Row.alive (List._∷_ Row.alive List.[])))))));
+        }
 
         abbrev G16 : Row.Cx
-        G16 = record
-            { locals = g8; slots = List._∷_ (Row.lease (κs .0) (qs .0)) (List._∷_ (Row.lease (κs .1 .0) (qs .1 .0)) (List._∷_ Row.off (List._∷_ Row.off (List._∷_ Row.off (List._∷_ Row.dead (List._∷_
-            Row.alive (List._∷_ Row.alive List.[]))))))); }
+        G16 = record {
+          locals = g8;
+          slots = List._∷_ (Row.lease (κs .0) (qs .0)) (List._∷_ (Row.lease (κs .1 .0) (qs .1 .0)) (List._∷_ Row.off (List._∷_ Row.off (List._∷_ Row.off (List._∷_ Row.dead (List._∷_
+              Row.alive (List._∷_ Row.alive List.[])))))));
+        }
 
         abbrev G17 : Row.Cx
-        G17 = record
-            { locals = g9; slots = List._∷_ (Row.lease (κs .0) (qs .0)) (List._∷_ (Row.lease (κs .1 .0) (qs .1 .0)) (List._∷_ (Row.lease (κs .1 .1 .0) (qs .1 .1 .0)) (List._∷_ Row.off (List._∷_ Row.off
-            (List._∷_ Row.dead (List._∷_ Row.alive (List._∷_ Row.alive List.[]))))))); }
+        G17 = record {
+          locals = g9;
+          slots = List._∷_ (Row.lease (κs .0) (qs .0)) (List._∷_ (Row.lease (κs .1 .0) (qs .1 .0)) (List._∷_ (Row.lease (κs .1 .1 .0) (qs .1 .1 .0)) (List._∷_ Row.off (List._∷_ Row.off
+              (List._∷_ Row.dead (List._∷_ Row.alive (List._∷_ Row.alive List.[])))))));
+        }
 
         abbrev G18 : Row.Cx
-        G18 = record
-            { locals = g9; slots = List._∷_ (Row.lease (κs .0) (qs .0)) (List._∷_ (Row.lease (κs .1 .0) (qs .1 .0)) (List._∷_ (Row.lease (κs .1 .1 .0) (qs .1 .1 .0)) (List._∷_ Row.off (List._∷_ Row.off
-            (List._∷_ Row.dead (List._∷_ Row.alive (List._∷_ Row.alive List.[]))))))); }
+        G18 = record {
+          locals = g9;
+          slots = List._∷_ (Row.lease (κs .0) (qs .0)) (List._∷_ (Row.lease (κs .1 .0) (qs .1 .0)) (List._∷_ (Row.lease (κs .1 .1 .0) (qs .1 .1 .0)) (List._∷_ Row.off (List._∷_ Row.off
+              (List._∷_ Row.dead (List._∷_ Row.alive (List._∷_ Row.alive List.[])))))));
+        }
 
         abbrev G19 : Row.Cx
-        G19 = record
-            { locals = g9; slots = List._∷_ (Row.lease (κs .0) (qs .0)) (List._∷_ (Row.lease (κs .1 .0) (qs .1 .0)) (List._∷_ (Row.lease (κs .1 .1 .0) (qs .1 .1 .0)) (List._∷_ Row.off (List._∷_ Row.off
-            (List._∷_ Row.off (List._∷_ Row.alive (List._∷_ Row.alive List.[]))))))); }
+        G19 = record {
+          locals = g9;
+          slots = List._∷_ (Row.lease (κs .0) (qs .0)) (List._∷_ (Row.lease (κs .1 .0) (qs .1 .0)) (List._∷_ (Row.lease (κs .1 .1 .0) (qs .1 .1 .0)) (List._∷_ Row.off (List._∷_ Row.off
+              (List._∷_ Row.off (List._∷_ Row.alive (List._∷_ Row.alive List.[])))))));
+        }
 
         abbrev G20 : Row.Cx
-        G20 = record
-            { locals = g9; slots = List._∷_ (Row.lease (κs .0) (qs .0)) (List._∷_ (Row.lease (κs .1 .0) (qs .1 .0)) (List._∷_ (Row.lease (κs .1 .1 .0) (qs .1 .1 .0)) (List._∷_ Row.off (List._∷_ Row.off
-            (List._∷_ Row.off (List._∷_ Row.dead (List._∷_ Row.alive List.[]))))))); }
+        G20 = record {
+          locals = g9;
+          slots = List._∷_ (Row.lease (κs .0) (qs .0)) (List._∷_ (Row.lease (κs .1 .0) (qs .1 .0)) (List._∷_ (Row.lease (κs .1 .1 .0) (qs .1 .1 .0)) (List._∷_ Row.off (List._∷_ Row.off
+              (List._∷_ Row.off (List._∷_ Row.dead (List._∷_ Row.alive List.[])))))));
+        }
 
         abbrev G21 : Row.Cx
-        G21 = record
-            { locals = g10; slots = List._∷_ (Row.lease (κs .0) (qs .0)) (List._∷_ (Row.lease (κs .1 .0) (qs .1 .0)) (List._∷_ (Row.lease (κs .1 .1 .0) (qs .1 .1 .0)) (List._∷_ (Row.lease (κs .1 .1 .1 .0)
-            (qs .1 .1 .1 .0)) (List._∷_ Row.off (List._∷_ Row.off (List._∷_ Row.dead (List._∷_ Row.alive List.[]))))))); }
+        G21 = record {
+          locals = g10;
+          slots = List._∷_ (Row.lease (κs .0) (qs .0)) (List._∷_ (Row.lease (κs .1 .0) (qs .1 .0)) (List._∷_ (Row.lease (κs .1 .1 .0) (qs .1 .1 .0)) (List._∷_ (Row.lease (κs .1 .1 .1 .0)
+              (qs .1 .1 .1 .0)) (List._∷_ Row.off (List._∷_ Row.off (List._∷_ Row.dead (List._∷_ Row.alive List.[])))))));
+        }
 
         abbrev G22 : Row.Cx
-        G22 = record
-            { locals = g10; slots = List._∷_ (Row.lease (κs .0) (qs .0)) (List._∷_ (Row.lease (κs .1 .0) (qs .1 .0)) (List._∷_ (Row.lease (κs .1 .1 .0) (qs .1 .1 .0)) (List._∷_ (Row.lease (κs .1 .1 .1 .0)
-            (qs .1 .1 .1 .0)) (List._∷_ Row.off (List._∷_ Row.off (List._∷_ Row.dead (List._∷_ Row.alive List.[]))))))); }
+        G22 = record {
+          locals = g10;
+          slots = List._∷_ (Row.lease (κs .0) (qs .0)) (List._∷_ (Row.lease (κs .1 .0) (qs .1 .0)) (List._∷_ (Row.lease (κs .1 .1 .0) (qs .1 .1 .0)) (List._∷_ (Row.lease (κs .1 .1 .1 .0)
+              (qs .1 .1 .1 .0)) (List._∷_ Row.off (List._∷_ Row.off (List._∷_ Row.dead (List._∷_ Row.alive List.[])))))));
+        }
 
         abbrev G23 : Row.Cx
-        G23 = record
-            { locals = g10; slots = List._∷_ (Row.lease (κs .0) (qs .0)) (List._∷_ (Row.lease (κs .1 .0) (qs .1 .0)) (List._∷_ (Row.lease (κs .1 .1 .0) (qs .1 .1 .0)) (List._∷_ (Row.lease (κs .1 .1 .1 .0)
-            (qs .1 .1 .1 .0)) (List._∷_ Row.off (List._∷_ Row.off (List._∷_ Row.off (List._∷_ Row.alive List.[]))))))); }
+        G23 = record {
+          locals = g10;
+          slots = List._∷_ (Row.lease (κs .0) (qs .0)) (List._∷_ (Row.lease (κs .1 .0) (qs .1 .0)) (List._∷_ (Row.lease (κs .1 .1 .0) (qs .1 .1 .0)) (List._∷_ (Row.lease (κs .1 .1 .1 .0)
+              (qs .1 .1 .1 .0)) (List._∷_ Row.off (List._∷_ Row.off (List._∷_ Row.off (List._∷_ Row.alive List.[])))))));
+        }
 
         abbrev G24 : Row.Cx
-        G24 = record
-            { locals = g10; slots = List._∷_ (Row.lease (κs .0) (qs .0)) (List._∷_ (Row.lease (κs .1 .0) (qs .1 .0)) (List._∷_ (Row.lease (κs .1 .1 .0) (qs .1 .1 .0)) (List._∷_ (Row.lease (κs .1 .1 .1 .0)
-            (qs .1 .1 .1 .0)) (List._∷_ Row.off (List._∷_ Row.off (List._∷_ Row.off (List._∷_ Row.dead List.[]))))))); }
+        G24 = record {
+          locals = g10;
+          slots = List._∷_ (Row.lease (κs .0) (qs .0)) (List._∷_ (Row.lease (κs .1 .0) (qs .1 .0)) (List._∷_ (Row.lease (κs .1 .1 .0) (qs .1 .1 .0)) (List._∷_ (Row.lease (κs .1 .1 .1 .0)
+              (qs .1 .1 .1 .0)) (List._∷_ Row.off (List._∷_ Row.off (List._∷_ Row.off (List._∷_ Row.dead List.[])))))));
+        }
 
         abbrev G25 : Row.Cx
-        G25 = record
-            { locals = t1; slots = List._∷_ (Row.lease (κs .0) (qs .0)) (List._∷_ (Row.lease (κs .1 .0) (qs .1 .0)) (List._∷_ (Row.lease (κs .1 .1 .0) (qs .1 .1 .0)) (List._∷_ (Row.lease (κs .1 .1 .1 .0)
-            (qs .1 .1 .1 .0)) (List._∷_ (Row.lease (κs .1 .1 .1 .1 .0) (qs .1 .1 .1 .1 .0)) (List._∷_ Row.off (List._∷_ Row.off (List._∷_ Row.dead List.[]))))))); }
+        G25 = record {
+          locals = t1;
+          slots = List._∷_ (Row.lease (κs .0) (qs .0)) (List._∷_ (Row.lease (κs .1 .0) (qs .1 .0)) (List._∷_ (Row.lease (κs .1 .1 .0) (qs .1 .1 .0)) (List._∷_ (Row.lease (κs .1 .1 .1 .0)
+              (qs .1 .1 .1 .0)) (List._∷_ (Row.lease (κs .1 .1 .1 .1 .0) (qs .1 .1 .1 .1 .0)) (List._∷_ Row.off (List._∷_ Row.off (List._∷_ Row.dead List.[])))))));
+        }
 
         abbrev G26 : Row.Cx
-        G26 = record
-            { locals = t1; slots = List._∷_ (Row.lease (κs .0) (qs .0)) (List._∷_ (Row.lease (κs .1 .0) (qs .1 .0)) (List._∷_ (Row.lease (κs .1 .1 .0) (qs .1 .1 .0)) (List._∷_ (Row.lease (κs .1 .1 .1 .0)
-            (qs .1 .1 .1 .0)) (List._∷_ (Row.lease (κs .1 .1 .1 .1 .0) (qs .1 .1 .1 .1 .0)) (List._∷_ Row.off (List._∷_ Row.off (List._∷_ Row.off List.[]))))))); }
+        G26 = record {
+          locals = t1;
+          slots = List._∷_ (Row.lease (κs .0) (qs .0)) (List._∷_ (Row.lease (κs .1 .0) (qs .1 .0)) (List._∷_ (Row.lease (κs .1 .1 .0) (qs .1 .1 .0)) (List._∷_ (Row.lease (κs .1 .1 .1 .0)
+              (qs .1 .1 .1 .0)) (List._∷_ (Row.lease (κs .1 .1 .1 .1 .0) (qs .1 .1 .1 .1 .0)) (List._∷_ Row.off (List._∷_ Row.off (List._∷_ Row.off List.[])))))));
+        }
 
         abbrev Δ0 : Typed.Outs
         Δ0 = record { next = Option.none; exits = List.[]; returns = Option.some G1 }
@@ -728,25 +817,56 @@ module _ (claims· : Claims) where
           d11 = Typed.g-pre 𝓤 H A W 𝓣 E G15 G16 b7 Δ0 (λ Ψ. Ψ) at10 (Lifetime.g-end 𝓤 H A W E G15 5 Path'.refl) d10
 
           d12 : Typed.Typed 𝓤 H A 𝓣 E G14 b8 Δ0 at12
-          d12 = Typed.s-seq 𝓤 H A W 𝓣 E G14 G15 b6 b7 Δ0 (Typed.both s13) at11 (Plain.t-call-plain 𝓤 H A W 𝓣 5 ps·0 r·0 (claims· .0) (claims· .1) "block::writer::write_in" known E (λ pos β. β) G14
-              (record { pos = 1; ty = Syntax.tyRef (Syntax.named 0) Syntax.imm (Syntax.tyInt Syntax.w8); ref = λ x. x; },
-              (record { pos = 2; ty = Syntax.tyRef (Syntax.named 1) Syntax.imm (Syntax.tyInt Syntax.w16); ref = λ x. x; },
-              (record { pos = 7; ty = Syntax.tyRef Syntax.erased Syntax.mut (Syntax.tyInt Syntax.w8); ref = λ x. x; },
-              (Bool.bLit Bool'.false,
-              (record { pos = 9; ty = Syntax.tyRef Syntax.erased Syntax.mut (Syntax.tyInt Syntax.w16); ref = λ x. x; },
-              (record { pos = 11; ty = Syntax.tyRef Syntax.erased Syntax.mut Element.behind; ref = λ x. x; }, tt)))))) 0 (List._∷_ 0 (List._∷_ 1 (List._∷_ 5 (List._∷_ 6 (List._∷_ 7 List.[])))))
-              (Call.sub-id 𝓤 H A W (G14 .slots))
-              (ShrSlice.spares-sslice 𝓤 H A W (Referent.rtF (Referent.fInt Syntax.w8)) (Syntax.tyRef (Syntax.named 0) Syntax.imm (Syntax.tyInt Syntax.w8)) 0, Shared.reads-sslice 𝓤 H A W (Referent.rtF
-              (Referent.fInt Syntax.w8)) (Syntax.tyRef (Syntax.named 0) Syntax.imm (Syntax.tyInt Syntax.w8)) 0, Path'.refl,
-              (ShrSlice.spares-sslice 𝓤 H A W (Referent.rtF (Referent.fInt Syntax.w16)) (Syntax.tyRef (Syntax.named 1) Syntax.imm (Syntax.tyInt Syntax.w16)) 1, Shared.reads-sslice 𝓤 H A W (Referent.rtF
-              (Referent.fInt Syntax.w16)) (Syntax.tyRef (Syntax.named 1) Syntax.imm (Syntax.tyInt Syntax.w16)) 1, Path'.refl,
-              (Reads.as-is 𝓤 H A (Mut.mslice (Referent.rtF (Referent.fInt Syntax.w8)) (Syntax.tyRef Syntax.erased Syntax.mut (Syntax.tyInt Syntax.w8)) 5), Mut.reads-mslice 𝓤 H A W (Referent.rtF
-              (Referent.fInt Syntax.w8)) (Syntax.tyRef Syntax.erased Syntax.mut (Syntax.tyInt Syntax.w8)) 5, Path'.refl,
-              (tt,
-              (Reads.as-is 𝓤 H A (Mut.mslice (Referent.rtF (Referent.fInt Syntax.w16)) (Syntax.tyRef Syntax.erased Syntax.mut (Syntax.tyInt Syntax.w16)) 6), Mut.reads-mslice 𝓤 H A W (Referent.rtF
-              (Referent.fInt Syntax.w16)) (Syntax.tyRef Syntax.erased Syntax.mut (Syntax.tyInt Syntax.w16)) 6, Path'.refl,
-              (Reads.as-is 𝓤 H A (Mut.mslice (Element.type) (Syntax.tyRef Syntax.erased Syntax.mut Element.behind) 7), Mut.reads-mslice 𝓤 H A W (Element.type) (Syntax.tyRef Syntax.erased Syntax.mut
-              Element.behind) 7, Path'.refl, tt)))))) (Reads.room-gone 𝓤 H A (Syntax.tyEnum (List._∷_ 115 (List._∷_ 116 (List._∷_ 114 (List._∷_ 101 (List._∷_ 97 (List._∷_ 109 (List._∷_ 58 (List._∷_ 58
+          d12 = Typed.s-seq 𝓤 H A W 𝓣 E G14 G15 b6 b7 Δ0 (Typed.both s13) at11 (Plain.t-call-plain 𝓤 H A W 𝓣 5 ps·0 r·0 (claims· .0) (claims· .1) "block::writer::write_in" known E (λ pos β. β) G14 (
+            record { pos = 1; ty = Syntax.tyRef (Syntax.named 0) Syntax.imm (Syntax.tyInt Syntax.w8); ref = λ x. x },
+            (
+              record { pos = 2; ty = Syntax.tyRef (Syntax.named 1) Syntax.imm (Syntax.tyInt Syntax.w16); ref = λ x. x },
+              (
+                record { pos = 7; ty = Syntax.tyRef Syntax.erased Syntax.mut (Syntax.tyInt Syntax.w8); ref = λ x. x },
+                (
+                  Bool.bLit Bool'.false,
+                  (
+                    record { pos = 9; ty = Syntax.tyRef Syntax.erased Syntax.mut (Syntax.tyInt Syntax.w16); ref = λ x. x },
+                    (record { pos = 11; ty = Syntax.tyRef Syntax.erased Syntax.mut Element.behind; ref = λ x. x }, tt),
+                  ),
+                ),
+              ),
+            ),
+          ) 0 (List._∷_ 0 (List._∷_ 1 (List._∷_ 5 (List._∷_ 6 (List._∷_ 7 List.[])))))
+              (Call.sub-id 𝓤 H A W (G14 .slots)) (
+                ShrSlice.spares-sslice 𝓤 H A W (Referent.rtF (Referent.fInt Syntax.w8)) (Syntax.tyRef (Syntax.named 0) Syntax.imm (Syntax.tyInt Syntax.w8)) 0,
+                Shared.reads-sslice 𝓤 H A W (Referent.rtF
+                    (Referent.fInt Syntax.w8)) (Syntax.tyRef (Syntax.named 0) Syntax.imm (Syntax.tyInt Syntax.w8)) 0,
+                Path'.refl,
+                (
+                  ShrSlice.spares-sslice 𝓤 H A W (Referent.rtF (Referent.fInt Syntax.w16)) (Syntax.tyRef (Syntax.named 1) Syntax.imm (Syntax.tyInt Syntax.w16)) 1,
+                  Shared.reads-sslice 𝓤 H A W (Referent.rtF
+                      (Referent.fInt Syntax.w16)) (Syntax.tyRef (Syntax.named 1) Syntax.imm (Syntax.tyInt Syntax.w16)) 1,
+                  Path'.refl,
+                  (
+                    Reads.as-is 𝓤 H A (Mut.mslice (Referent.rtF (Referent.fInt Syntax.w8)) (Syntax.tyRef Syntax.erased Syntax.mut (Syntax.tyInt Syntax.w8)) 5),
+                    Mut.reads-mslice 𝓤 H A W (Referent.rtF
+                        (Referent.fInt Syntax.w8)) (Syntax.tyRef Syntax.erased Syntax.mut (Syntax.tyInt Syntax.w8)) 5,
+                    Path'.refl,
+                    (
+                      tt,
+                      (
+                        Reads.as-is 𝓤 H A (Mut.mslice (Referent.rtF (Referent.fInt Syntax.w16)) (Syntax.tyRef Syntax.erased Syntax.mut (Syntax.tyInt Syntax.w16)) 6),
+                        Mut.reads-mslice 𝓤 H A W (Referent.rtF
+                            (Referent.fInt Syntax.w16)) (Syntax.tyRef Syntax.erased Syntax.mut (Syntax.tyInt Syntax.w16)) 6,
+                        Path'.refl,
+                        (
+                          Reads.as-is 𝓤 H A (Mut.mslice (Element.type) (Syntax.tyRef Syntax.erased Syntax.mut Element.behind) 7),
+                          Mut.reads-mslice 𝓤 H A W (Element.type) (Syntax.tyRef Syntax.erased Syntax.mut
+                              Element.behind) 7,
+                          Path'.refl,
+                          tt,
+                        ),
+                      ),
+                    ),
+                  ),
+                ),
+              ) (Reads.room-gone 𝓤 H A (Syntax.tyEnum (List._∷_ 115 (List._∷_ 116 (List._∷_ 114 (List._∷_ 101 (List._∷_ 97 (List._∷_ 109 (List._∷_ 58 (List._∷_ 58
               (List._∷_ 66 (List._∷_ 108 (List._∷_ 111 (List._∷_ 99 (List._∷_ 107 (List._∷_ 76 (List._∷_ 101 (List._∷_ 110 (List._∷_ 103 (List._∷_ 116 (List._∷_ 104 List.[])))))))))))))))))))
               (Syntax.ttcons (Syntax.tcons (Syntax.tyInt Syntax.w64) Syntax.tnil) (Syntax.ttcons (Syntax.tcons (Syntax.tyEnum (List._∷_ 115 (List._∷_ 116 (List._∷_ 114 (List._∷_ 101 (List._∷_ 97 (List._∷_
               109 (List._∷_ 58 (List._∷_ 58 (List._∷_ 82 (List._∷_ 101 (List._∷_ 102 (List._∷_ 117 (List._∷_ 115 (List._∷_ 97 (List._∷_ 108 List.[]))))))))))))))) (Syntax.ttcons Syntax.tnil (Syntax.ttcons
@@ -776,9 +896,11 @@ module _ (claims· : Claims) where
           d16 = Typed.s-seq 𝓤 H A W 𝓣 E G10 G11 b3 b10 Δ0 (Typed.ask s9) at15 (Relend.t-sl-aggregate 𝓤 H A W E (Referent.rtF (Referent.fInt Syntax.w16)) 𝓣 (Relend.asMut (Referent.rtF (Referent.fInt
               Syntax.w16))) G10 8 9 6 (Syntax.tyRef Syntax.erased Syntax.mut (Syntax.tyInt Syntax.w16)) (Syntax.tyRef Syntax.erased Syntax.mut (Syntax.tyInt Syntax.w16)) (λ x. x) (Scalar.oFld 4 (List._∷_
               (Syntax.field 1) List.[]) (Syntax.tyInt Syntax.w64) 8 λ v. Shared.lenV (v .0)) (Reads.as-is 𝓤 H A (Relend.msptr (Referent.rtF (Referent.fInt Syntax.w16)) (Syntax.tyRef Syntax.erased
-              Syntax.mut (Syntax.tyInt Syntax.w16)) 6)) (Reads.room-gone 𝓤 H A y0)
-              (Relend.reads-owed-len 𝓤 H A W (Referent.rtF (Referent.fInt Syntax.w16)) (Syntax.tyRef (Syntax.named 3) Syntax.mut (Syntax.tyInt Syntax.w16)) 3 6 (Row.lease (κs .1 .1 .1 .0) (qs .1 .1 .1
-              .0)) 8 Path'.refl, Path'.refl) Path'.refl Path'.refl λ b o k. tt) d15
+              Syntax.mut (Syntax.tyInt Syntax.w16)) 6)) (Reads.room-gone 𝓤 H A y0) (
+                Relend.reads-owed-len 𝓤 H A W (Referent.rtF (Referent.fInt Syntax.w16)) (Syntax.tyRef (Syntax.named 3) Syntax.mut (Syntax.tyInt Syntax.w16)) 3 6 (Row.lease (κs .1 .1 .1 .0) (qs .1 .1 .1
+                    .0)) 8 Path'.refl,
+                Path'.refl,
+              ) Path'.refl Path'.refl λ b o k. tt) d15
 
           d17 : Typed.Typed 𝓤 H A 𝓣 E G9 b12 Δ0 at17
           d17 = Typed.s-seq 𝓤 H A W 𝓣 E G9 G10 b2 b11 Δ0 (Typed.give s8) at16 (Relend.t-sl-relend 𝓤 H A W E (Referent.rtF (Referent.fInt Syntax.w16)) 𝓣 G9 4 8 3 6 (Syntax.tyRef (Syntax.named 3)
@@ -793,9 +915,11 @@ module _ (claims· : Claims) where
           d19 = Typed.s-seq 𝓤 H A W 𝓣 E G7 G8 b1 b12 Δ0 (Typed.ask s6) at18 (Relend.t-sl-aggregate 𝓤 H A W E (Referent.rtF (Referent.fInt Syntax.w8)) 𝓣 (Relend.asMut (Referent.rtF (Referent.fInt
               Syntax.w8))) G7 6 7 5 (Syntax.tyRef Syntax.erased Syntax.mut (Syntax.tyInt Syntax.w8)) (Syntax.tyRef Syntax.erased Syntax.mut (Syntax.tyInt Syntax.w8)) (λ x. x) (Scalar.oFld 3 (List._∷_
               (Syntax.field 1) List.[]) (Syntax.tyInt Syntax.w64) 8 λ v. Shared.lenV (v .0)) (Reads.as-is 𝓤 H A (Relend.msptr (Referent.rtF (Referent.fInt Syntax.w8)) (Syntax.tyRef Syntax.erased
-              Syntax.mut (Syntax.tyInt Syntax.w8)) 5)) (Reads.room-gone 𝓤 H A y1)
-              (Relend.reads-owed-len 𝓤 H A W (Referent.rtF (Referent.fInt Syntax.w8)) (Syntax.tyRef (Syntax.named 2) Syntax.mut (Syntax.tyInt Syntax.w8)) 2 5 (Row.lease (κs .1 .1 .0) (qs .1 .1 .0)) 8
-              Path'.refl, Path'.refl) Path'.refl Path'.refl λ b o k. tt) d18
+              Syntax.mut (Syntax.tyInt Syntax.w8)) 5)) (Reads.room-gone 𝓤 H A y1) (
+                Relend.reads-owed-len 𝓤 H A W (Referent.rtF (Referent.fInt Syntax.w8)) (Syntax.tyRef (Syntax.named 2) Syntax.mut (Syntax.tyInt Syntax.w8)) 2 5 (Row.lease (κs .1 .1 .0) (qs .1 .1 .0)) 8
+                    Path'.refl,
+                Path'.refl,
+              ) Path'.refl Path'.refl λ b o k. tt) d18
 
           d20 : Typed.Typed 𝓤 H A 𝓣 E G6 b14 Δ0 at20
           d20 = Typed.s-seq 𝓤 H A W 𝓣 E G6 G7 b0 b13 Δ0 (Typed.give s5) at19 (Relend.t-sl-relend 𝓤 H A W E (Referent.rtF (Referent.fInt Syntax.w8)) 𝓣 G6 3 6 2 5 (Syntax.tyRef (Syntax.named 2)
@@ -844,9 +968,12 @@ module _ (claims· : Claims) where
       m0 = λ κs args. (tt, Enter.partsP κs 1 ps xs (dens κs args))
 
       abbrev W0 : (κs : Lifetimes.Lfts 5) → (args : Args κs) → Typed.Want O0
-      W0 = λ κs args.
-          (λ u. ⊥, tt, λ u. Enter.Fixs κs 1 ps xs (dens κs args) (u .1) × Post· κs (dens κs args) (Function.resV r κs (u .0)) (Clauses.atExit (Kinds.endedOf 5 ps r) κs (dens κs args) (Enter.lastsP κs 1 ps
-          xs (dens κs args) (u .1))))
+      W0 = λ κs args. (
+        λ u. ⊥,
+        tt,
+        λ u. Enter.Fixs κs 1 ps xs (dens κs args) (u .1) × Post· κs (dens κs args) (Function.resV r κs (u .0)) (Clauses.atExit (Kinds.endedOf 5 ps r) κs (dens κs args) (Enter.lastsP κs 1 ps
+            xs (dens κs args) (u .1))),
+      )
 
       pub record Start : Type 0 where
         pub κs : Lifetimes.Lfts 5
@@ -948,26 +1075,44 @@ module _ (claims· : Claims) where
 
       module _ (before· : After-write-in-arg3) where
         abbrev pub After-write-in·own : Type 0
-        After-write-in·own = Called.Called ps·0 r·0 (claims· .1) T14
-            (record { pos = 1; ty = Syntax.tyRef (Syntax.named 0) Syntax.imm (Syntax.tyInt Syntax.w8); ref = λ x. x; },
-            (record { pos = 2; ty = Syntax.tyRef (Syntax.named 1) Syntax.imm (Syntax.tyInt Syntax.w16); ref = λ x. x; },
-            (record { pos = 7; ty = Syntax.tyRef Syntax.erased Syntax.mut (Syntax.tyInt Syntax.w8); ref = λ x. x; },
-            (Bool.bLit Bool'.false,
-            (record { pos = 9; ty = Syntax.tyRef Syntax.erased Syntax.mut (Syntax.tyInt Syntax.w16); ref = λ x. x; },
-            (record { pos = 11; ty = Syntax.tyRef Syntax.erased Syntax.mut Element.behind; ref = λ x. x; }, tt)))))) (m10 (before· .before) (before· .write-in-arg3 .given))
+        After-write-in·own = Called.Called ps·0 r·0 (claims· .1) T14 (
+          record { pos = 1; ty = Syntax.tyRef (Syntax.named 0) Syntax.imm (Syntax.tyInt Syntax.w8); ref = λ x. x },
+          (
+            record { pos = 2; ty = Syntax.tyRef (Syntax.named 1) Syntax.imm (Syntax.tyInt Syntax.w16); ref = λ x. x },
+            (
+              record { pos = 7; ty = Syntax.tyRef Syntax.erased Syntax.mut (Syntax.tyInt Syntax.w8); ref = λ x. x },
+              (
+                Bool.bLit Bool'.false,
+                (
+                  record { pos = 9; ty = Syntax.tyRef Syntax.erased Syntax.mut (Syntax.tyInt Syntax.w16); ref = λ x. x },
+                  (record { pos = 11; ty = Syntax.tyRef Syntax.erased Syntax.mut Element.behind; ref = λ x. x }, tt),
+                ),
+              ),
+            ),
+          ),
+        ) (m10 (before· .before) (before· .write-in-arg3 .given))
 
       pub record After-write-in : Type 0 where
         pub before : After-write-in-arg3
         pub write-in : After-write-in·own before
 
       abbrev pub After-write-in·gave : (c : After-write-in) → s13 .gives (m10 (c .before .before) (c .before .write-in-arg3 .given))
-      After-write-in·gave = λ c. Called.given ps·0 r·0 (claims· .1) T14
-          (record { pos = 1; ty = Syntax.tyRef (Syntax.named 0) Syntax.imm (Syntax.tyInt Syntax.w8); ref = λ x. x; },
-          (record { pos = 2; ty = Syntax.tyRef (Syntax.named 1) Syntax.imm (Syntax.tyInt Syntax.w16); ref = λ x. x; },
-          (record { pos = 7; ty = Syntax.tyRef Syntax.erased Syntax.mut (Syntax.tyInt Syntax.w8); ref = λ x. x; },
-          (Bool.bLit Bool'.false,
-          (record { pos = 9; ty = Syntax.tyRef Syntax.erased Syntax.mut (Syntax.tyInt Syntax.w16); ref = λ x. x; },
-          (record { pos = 11; ty = Syntax.tyRef Syntax.erased Syntax.mut Element.behind; ref = λ x. x; }, tt)))))) (m10 (c .before .before) (c .before .write-in-arg3 .given)) (c .write-in)
+      After-write-in·gave = λ c. Called.given ps·0 r·0 (claims· .1) T14 (
+        record { pos = 1; ty = Syntax.tyRef (Syntax.named 0) Syntax.imm (Syntax.tyInt Syntax.w8); ref = λ x. x },
+        (
+          record { pos = 2; ty = Syntax.tyRef (Syntax.named 1) Syntax.imm (Syntax.tyInt Syntax.w16); ref = λ x. x },
+          (
+            record { pos = 7; ty = Syntax.tyRef Syntax.erased Syntax.mut (Syntax.tyInt Syntax.w8); ref = λ x. x },
+            (
+              Bool.bLit Bool'.false,
+              (
+                record { pos = 9; ty = Syntax.tyRef Syntax.erased Syntax.mut (Syntax.tyInt Syntax.w16); ref = λ x. x },
+                (record { pos = 11; ty = Syntax.tyRef Syntax.erased Syntax.mut Element.behind; ref = λ x. x }, tt),
+              ),
+            ),
+          ),
+        ),
+      ) (m10 (c .before .before) (c .before .write-in-arg3 .given)) (c .write-in)
 
       abbrev pub m12 : (before : After-write-in) → (given : s15 .gives (m11 (before .before) (After-write-in·gave before))) → Typed.Mo T17
       m12 = λ before given. s15 .next (m11 (before .before) (After-write-in·gave before)) given
@@ -1049,98 +1194,228 @@ module _ (claims· : Claims) where
       module _ (write-in-requires : Need-write-in-requires) (same-length : Need-same-length) (same-length-2 : Need-same-length-2) (same-length-3 : Need-same-length-3) (returns : Need-returns) where
         lay1 : (c : After-write-in) → at11 (W0 (c .before .before .before .before .before .before .before .before .κs) (c .before .before .before .before .before .before .before .before .args)) (m11
             (c .before) (After-write-in·gave c))
-        lay1 = λ c.
-            (Path'.refl, λ g. λ g'.
-            (Path'.refl, λ g''. λ g'3.
-            (Path'.refl, λ g'4.
-            ((Path'.refl,
-            (Path'.refl,
-            (MutSlice.fix-len (Row.get 3 (T25 .locals) (m16 record
-            { before = record
-            { before = record { before = record { before = record { before = c .before; write-in = c .write-in }; out = record { given = g }; }; slice-known3 = record { given = g' }; }; lines = record {
-            given = g'' }; }; slice-known4 = record { given = g'3 }; } g'4) .ptr) (Row.get 3 (T25 .locals) (m16 record
-            { before = record
-            { before = record { before = record { before = record { before = c .before; write-in = c .write-in }; out = record { given = g }; }; slice-known3 = record { given = g' }; }; lines = record {
-            given = g'' }; }; slice-known4 = record { given = g'3 }; } g'4) .name) (Row.get 3 (T25 .locals) (m16 record
-            { before = record
-            { before = record { before = record { before = record { before = c .before; write-in = c .write-in }; out = record { given = g }; }; slice-known3 = record { given = g' }; }; lines = record {
-            given = g'' }; }; slice-known4 = record { given = g'3 }; } g'4) .now) (dens (c .before .before .before .before .before .before .before .before .κs) (c .before .before .before .before .before
-            .before .before .before .args) .1 .1 .0 .now) (same-length record
-            { before = record
-            { before = record
-            { before = record { before = record { before = record { before = c .before; write-in = c .write-in; }; out = record { given = g }; }; slice-known3 = record { given = g' }; }; lines = record {
-            given = g'' }; }; slice-known4 = record { given = g'3 }; }; rs = record { given = g'4 }; }),
-            (MutSlice.fix-len (Row.get 4 (T25 .locals) (m16 record
-            { before = record
-            { before = record { before = record { before = record { before = c .before; write-in = c .write-in }; out = record { given = g }; }; slice-known3 = record { given = g' }; }; lines = record {
-            given = g'' }; }; slice-known4 = record { given = g'3 }; } g'4) .ptr) (Row.get 4 (T25 .locals) (m16 record
-            { before = record
-            { before = record { before = record { before = record { before = c .before; write-in = c .write-in }; out = record { given = g }; }; slice-known3 = record { given = g' }; }; lines = record {
-            given = g'' }; }; slice-known4 = record { given = g'3 }; } g'4) .name) (Row.get 4 (T25 .locals) (m16 record
-            { before = record
-            { before = record { before = record { before = record { before = c .before; write-in = c .write-in }; out = record { given = g }; }; slice-known3 = record { given = g' }; }; lines = record {
-            given = g'' }; }; slice-known4 = record { given = g'3 }; } g'4) .now) (dens (c .before .before .before .before .before .before .before .before .κs) (c .before .before .before .before .before
-            .before .before .before .args) .1 .1 .1 .0 .now) (same-length-2 record
-            { before = record
-            { before = record
-            { before = record { before = record { before = record { before = c .before; write-in = c .write-in; }; out = record { given = g }; }; slice-known3 = record { given = g' }; }; lines = record {
-            given = g'' }; }; slice-known4 = record { given = g'3 }; }; rs = record { given = g'4 }; }),
-            (MutSlice.fix-len (Row.get 5 (T25 .locals) (m16 record
-            { before = record
-            { before = record { before = record { before = record { before = c .before; write-in = c .write-in }; out = record { given = g }; }; slice-known3 = record { given = g' }; }; lines = record {
-            given = g'' }; }; slice-known4 = record { given = g'3 }; } g'4) .ptr) (Row.get 5 (T25 .locals) (m16 record
-            { before = record
-            { before = record { before = record { before = record { before = c .before; write-in = c .write-in }; out = record { given = g }; }; slice-known3 = record { given = g' }; }; lines = record {
-            given = g'' }; }; slice-known4 = record { given = g'3 }; } g'4) .name) (Row.get 5 (T25 .locals) (m16 record
-            { before = record
-            { before = record { before = record { before = record { before = c .before; write-in = c .write-in }; out = record { given = g }; }; slice-known3 = record { given = g' }; }; lines = record {
-            given = g'' }; }; slice-known4 = record { given = g'3 }; } g'4) .now) (dens (c .before .before .before .before .before .before .before .before .κs) (c .before .before .before .before .before
-            .before .before .before .args) .1 .1 .1 .1 .0 .now) (same-length-3 record
-            { before = record
-            { before = record
-            { before = record { before = record { before = record { before = c .before; write-in = c .write-in; }; out = record { given = g }; }; slice-known3 = record { given = g' }; }; lines = record {
-            given = g'' }; }; slice-known4 = record { given = g'3 }; }; rs = record { given = g'4 }; }), tt))))), returns record
-            { before = record
-            { before = record
-            { before = record { before = record { before = record { before = c .before; write-in = c .write-in }; out = record { given = g }; }; slice-known3 = record { given = g' }; }; lines = record {
-            given = g'' }; }; slice-known4 = record { given = g'3 }; }; rs = record { given = g'4 }; }))))
+        lay1 = λ c. (
+          Path'.refl,
+          λ g. λ g'. (
+            Path'.refl,
+            λ g''. λ g'3. (
+              Path'.refl,
+              λ g'4. (
+                (
+                  Path'.refl,
+                  (
+                    Path'.refl,
+                    (
+                      MutSlice.fix-len (Row.get 3 (T25 .locals) (m16 record {
+                        before = record {
+                          before = record { before = record { before = record { before = c .before; write-in = c .write-in }; out = record { given = g } }; slice-known3 = record { given = g' } };
+                          lines = record {
+                            given = g'';
+                          };
+                        };
+                        slice-known4 = record { given = g'3 };
+                      } g'4) .ptr) (Row.get 3 (T25 .locals) (m16 record {
+                        before = record {
+                          before = record { before = record { before = record { before = c .before; write-in = c .write-in }; out = record { given = g } }; slice-known3 = record { given = g' } };
+                          lines = record {
+                            given = g'';
+                          };
+                        };
+                        slice-known4 = record { given = g'3 };
+                      } g'4) .name) (Row.get 3 (T25 .locals) (m16 record {
+                        before = record {
+                          before = record { before = record { before = record { before = c .before; write-in = c .write-in }; out = record { given = g } }; slice-known3 = record { given = g' } };
+                          lines = record {
+                            given = g'';
+                          };
+                        };
+                        slice-known4 = record { given = g'3 };
+                      } g'4) .now) (dens (c .before .before .before .before .before .before .before .before .κs) (c .before .before .before .before .before
+                          .before .before .before .args) .1 .1 .0 .now) (same-length record {
+                            before = record {
+                              before = record {
+                                before = record { before = record { before = record { before = c .before; write-in = c .write-in }; out = record { given = g } }; slice-known3 = record { given = g' } };
+                                lines = record {
+                                  given = g'';
+                                };
+                              };
+                              slice-known4 = record { given = g'3 };
+                            };
+                            rs = record { given = g'4 };
+                          }),
+                      (
+                        MutSlice.fix-len (Row.get 4 (T25 .locals) (m16 record {
+                          before = record {
+                            before = record { before = record { before = record { before = c .before; write-in = c .write-in }; out = record { given = g } }; slice-known3 = record { given = g' } };
+                            lines = record {
+                              given = g'';
+                            };
+                          };
+                          slice-known4 = record { given = g'3 };
+                        } g'4) .ptr) (Row.get 4 (T25 .locals) (m16 record {
+                          before = record {
+                            before = record { before = record { before = record { before = c .before; write-in = c .write-in }; out = record { given = g } }; slice-known3 = record { given = g' } };
+                            lines = record {
+                              given = g'';
+                            };
+                          };
+                          slice-known4 = record { given = g'3 };
+                        } g'4) .name) (Row.get 4 (T25 .locals) (m16 record {
+                          before = record {
+                            before = record { before = record { before = record { before = c .before; write-in = c .write-in }; out = record { given = g } }; slice-known3 = record { given = g' } };
+                            lines = record {
+                              given = g'';
+                            };
+                          };
+                          slice-known4 = record { given = g'3 };
+                        } g'4) .now) (dens (c .before .before .before .before .before .before .before .before .κs) (c .before .before .before .before .before
+                            .before .before .before .args) .1 .1 .1 .0 .now) (same-length-2 record {
+                              before = record {
+                                before = record {
+                                  before = record { before = record { before = record { before = c .before; write-in = c .write-in }; out = record { given = g } }; slice-known3 = record { given = g' } };
+                                  lines = record {
+                                    given = g'';
+                                  };
+                                };
+                                slice-known4 = record { given = g'3 };
+                              };
+                              rs = record { given = g'4 };
+                            }),
+                        (
+                          MutSlice.fix-len (Row.get 5 (T25 .locals) (m16 record {
+                            before = record {
+                              before = record { before = record { before = record { before = c .before; write-in = c .write-in }; out = record { given = g } }; slice-known3 = record { given = g' } };
+                              lines = record {
+                                given = g'';
+                              };
+                            };
+                            slice-known4 = record { given = g'3 };
+                          } g'4) .ptr) (Row.get 5 (T25 .locals) (m16 record {
+                            before = record {
+                              before = record { before = record { before = record { before = c .before; write-in = c .write-in }; out = record { given = g } }; slice-known3 = record { given = g' } };
+                              lines = record {
+                                given = g'';
+                              };
+                            };
+                            slice-known4 = record { given = g'3 };
+                          } g'4) .name) (Row.get 5 (T25 .locals) (m16 record {
+                            before = record {
+                              before = record { before = record { before = record { before = c .before; write-in = c .write-in }; out = record { given = g } }; slice-known3 = record { given = g' } };
+                              lines = record {
+                                given = g'';
+                              };
+                            };
+                            slice-known4 = record { given = g'3 };
+                          } g'4) .now) (dens (c .before .before .before .before .before .before .before .before .κs) (c .before .before .before .before .before
+                              .before .before .before .args) .1 .1 .1 .1 .0 .now) (same-length-3 record {
+                                before = record {
+                                  before = record {
+                                    before = record { before = record { before = record { before = c .before; write-in = c .write-in }; out = record { given = g } }; slice-known3 = record { given = g' } };
+                                    lines = record {
+                                      given = g'';
+                                    };
+                                  };
+                                  slice-known4 = record { given = g'3 };
+                                };
+                                rs = record { given = g'4 };
+                              }),
+                          tt,
+                        ),
+                      ),
+                    ),
+                  ),
+                ),
+                returns record {
+                  before = record {
+                    before = record {
+                      before = record { before = record { before = record { before = c .before; write-in = c .write-in }; out = record { given = g } }; slice-known3 = record { given = g' } };
+                      lines = record {
+                        given = g'';
+                      };
+                    };
+                    slice-known4 = record { given = g'3 };
+                  };
+                  rs = record { given = g'4 };
+                },
+              ),
+            ),
+          ),
+        )
 
         pub laid : (c : Start) → at25 (W0 (c .κs) (c .args)) (m0 (c .κs) (c .args))
-        laid = λ c. λ g. λ g'. λ g''. λ g'3. λ g'4.
-            (Path'.refl, λ g'5.
-            (Path'.refl, λ g'6.
-            (Path'.refl,
-            (write-in-requires record
-            { before = record
-            { before = record
-            { before = record
-            { before = record
-            { before = record { before = record { before = c; shared-slice-known = record { given = g }; }; shared-slice-known2 = record { given = g' }; }; slice-known = record { given = g'' }; };
-            slice-known2 = record { given = g'3 }; }; write-in-arg = record { given = g'4 }; }; write-in-arg2 = record { given = g'5 }; }; write-in-arg3 = record { given = g'6 }; }, λ g'7. lay1 record
-            { before = record
-            { before = record
-            { before = record
-            { before = record
-            { before = record
-            { before = record { before = record { before = c; shared-slice-known = record { given = g }; }; shared-slice-known2 = record { given = g' }; }; slice-known = record { given = g'' }; };
-            slice-known2 = record { given = g'3 }; }; write-in-arg = record { given = g'4 }; }; write-in-arg2 = record { given = g'5 }; }; write-in-arg3 = record { given = g'6 }; }; write-in =
-            Called.called ps·0 r·0 (claims· .1) T14
-            (record { pos = 1; ty = Syntax.tyRef (Syntax.named 0) Syntax.imm (Syntax.tyInt Syntax.w8); ref = λ x. x; },
-            (record { pos = 2; ty = Syntax.tyRef (Syntax.named 1) Syntax.imm (Syntax.tyInt Syntax.w16); ref = λ x. x; },
-            (record { pos = 7; ty = Syntax.tyRef Syntax.erased Syntax.mut (Syntax.tyInt Syntax.w8); ref = λ x. x; },
-            (Bool.bLit Bool'.false,
-            (record { pos = 9; ty = Syntax.tyRef Syntax.erased Syntax.mut (Syntax.tyInt Syntax.w16); ref = λ x. x; },
-            (record { pos = 11; ty = Syntax.tyRef Syntax.erased Syntax.mut Element.behind; ref = λ x. x; }, tt)))))) (m10 record
-            { before = record
-            { before = record
-            { before = record
-            { before = record { before = record { before = c; shared-slice-known = record { given = g }; }; shared-slice-known2 = record { given = g' }; }; slice-known = record { given = g'' }; };
-            slice-known2 = record { given = g'3 }; }; write-in-arg = record { given = g'4 }; }; write-in-arg2 = record { given = g'5 }; } g'6) g'7; }))))
+        laid = λ c. λ g. λ g'. λ g''. λ g'3. λ g'4. (
+          Path'.refl,
+          λ g'5. (
+            Path'.refl,
+            λ g'6. (
+              Path'.refl,
+              (
+                write-in-requires record {
+                  before = record {
+                    before = record {
+                      before = record {
+                        before = record
+                            { before = record { before = record { before = c; shared-slice-known = record { given = g } }; shared-slice-known2 = record { given = g' } }; slice-known = record { given = g'' } };
+                        slice-known2 = record { given = g'3 };
+                      };
+                      write-in-arg = record { given = g'4 };
+                    };
+                    write-in-arg2 = record { given = g'5 };
+                  };
+                  write-in-arg3 = record { given = g'6 };
+                },
+                λ g'7. lay1 record {
+                  before = record {
+                    before = record {
+                      before = record {
+                        before = record {
+                          before = record
+                              { before = record { before = record { before = c; shared-slice-known = record { given = g } }; shared-slice-known2 = record { given = g' } }; slice-known = record { given = g'' } };
+                          slice-known2 = record { given = g'3 };
+                        };
+                        write-in-arg = record { given = g'4 };
+                      };
+                      write-in-arg2 = record { given = g'5 };
+                    };
+                    write-in-arg3 = record { given = g'6 };
+                  };
+                  write-in =
+                      Called.called ps·0 r·0 (claims· .1) T14 (
+                        record { pos = 1; ty = Syntax.tyRef (Syntax.named 0) Syntax.imm (Syntax.tyInt Syntax.w8); ref = λ x. x },
+                        (
+                          record { pos = 2; ty = Syntax.tyRef (Syntax.named 1) Syntax.imm (Syntax.tyInt Syntax.w16); ref = λ x. x },
+                          (
+                            record { pos = 7; ty = Syntax.tyRef Syntax.erased Syntax.mut (Syntax.tyInt Syntax.w8); ref = λ x. x },
+                            (
+                              Bool.bLit Bool'.false,
+                              (
+                                record { pos = 9; ty = Syntax.tyRef Syntax.erased Syntax.mut (Syntax.tyInt Syntax.w16); ref = λ x. x },
+                                (record { pos = 11; ty = Syntax.tyRef Syntax.erased Syntax.mut Element.behind; ref = λ x. x }, tt),
+                              ),
+                            ),
+                          ),
+                        ),
+                      ) (m10 record {
+                        before = record {
+                          before = record {
+                            before = record
+                                { before = record { before = record { before = c; shared-slice-known = record { given = g } }; shared-slice-known2 = record { given = g' } }; slice-known = record { given = g'' } };
+                            slice-known2 = record { given = g'3 };
+                          };
+                          write-in-arg = record { given = g'4 };
+                        };
+                        write-in-arg2 = record { given = g'5 };
+                      } g'6) g'7;
+                },
+              ),
+            ),
+          ),
+        )
 
         module _ (κs : Lifetimes.Lfts 5) (qs : Lifetimes.Shares 5) where
           pub asked : (a : Kinds.Dens κs ps) → (good : Kinds.GoodsP κs ps a) → (pre : Pre· κs a) → (bs : List.List Nat.ℕ) → Φ (Any.wantQ 5 ps r xs m κs qs a (Post· κs a)) (Function.init 5 ps r xs m κs
               qs a)
-          asked = λ a good pre bs. laid record { κs = κs; args = record { header = a .0; samples = a .1 .0; out = a .1 .1 .0; lines = a .1 .1 .1 .0; rs = a .1 .1 .1 .1 .0; }; good = good; pre = pre; }
+          asked = λ a good pre bs. laid record { κs = κs; args = record { header = a .0; samples = a .1 .0; out = a .1 .1 .0; lines = a .1 .1 .1 .0; rs = a .1 .1 .1 .1 .0 }; good = good; pre = pre }
 
         module _ {M : Type 1} (𝓤 : URA.URA M) (H : Wp.Heap 𝓤) (A : Atoms.Atoms 𝓤) (W : Kit.Given 𝓤 H A) (𝓣 : Wp.Tables 𝓤 H) (known0 : Plain.Known 𝓤 H A W 𝓣 5 ps·0 r·0 (claims· .0) (claims· .1)
             "block::writer::write_in") where

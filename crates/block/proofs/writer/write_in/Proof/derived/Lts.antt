@@ -104,11 +104,24 @@ ps = List._∷_ (ShrSlice.pShrS (Referent.rtF (Referent.fInt Syntax.w8)) 0 tt) (
     (Referent.fInt Syntax.w8)) 2 tt) (List._∷_ Bool.pBool (List._∷_ (MutSlice.pMutS (Referent.rtF (Referent.fInt Syntax.w16)) 3 tt) (List._∷_ (MutSlice.pMutS (Element.type) 4 tt) List.[])))))
 
 abbrev pub r : Kinds.RK 5
-r = Value.rVal record
-    { ty = Declared.row BlockLength.the-type; one = Path'.refl; val = Laws'5.val BlockLength.the-type Laws'.the-laws; tells = Laws'5.tells BlockLength.the-type Laws'.the-laws; still = Laws'5.still
-    BlockLength.the-type Laws'.the-copy Exit.yes; row = Rows.whole (Declared.row BlockLength.the-type); rd = λ x. x; mk = λ x. x; } λ M 𝓤 H A W. record
-    { copies = Laws'5.copy BlockLength.the-type Laws'.the-copy 𝓤 H A W; lawful = Laws'5.lawful BlockLength.the-type Laws'.the-laws 𝓤 H A W tt; makes = Laws'5.makes BlockLength.the-type Laws'.the-plain 𝓤 H
-    A; in-mem = Local.mem-whole 𝓤 H A W (Declared.row BlockLength.the-type); of-mem = Local.whole-mem 𝓤 H A W (Declared.row BlockLength.the-type); }
+r = Value.rVal record {
+  ty = Declared.row BlockLength.the-type;
+  one = Path'.refl;
+  val = Laws'5.val BlockLength.the-type Laws'.the-laws;
+  tells = Laws'5.tells BlockLength.the-type Laws'.the-laws;
+  still = Laws'5.still
+      BlockLength.the-type Laws'.the-copy Exit.yes;
+  row = Rows.whole (Declared.row BlockLength.the-type);
+  rd = λ x. x;
+  mk = λ x. x;
+} λ M 𝓤 H A W. record {
+  copies = Laws'5.copy BlockLength.the-type Laws'.the-copy 𝓤 H A W;
+  lawful = Laws'5.lawful BlockLength.the-type Laws'.the-laws 𝓤 H A W tt;
+  makes = Laws'5.makes BlockLength.the-type Laws'.the-plain 𝓤 H
+      A;
+  in-mem = Local.mem-whole 𝓤 H A W (Declared.row BlockLength.the-type);
+  of-mem = Local.whole-mem 𝓤 H A W (Declared.row BlockLength.the-type);
+}
 
 abbrev pub xs : List.List Syntax.Ty
 xs = List._∷_ (Syntax.tyEnum (List._∷_ 115 (List._∷_ 116 (List._∷_ 114 (List._∷_ 101 (List._∷_ 97 (List._∷_ 109 (List._∷_ 58 (List._∷_ 58 (List._∷_ 80 (List._∷_ 97 (List._∷_ 114 (List._∷_ 115
@@ -148,11 +161,24 @@ abbrev pub ps·0 : List.List (Kinds.PK 1)
 ps·0 = List._∷_ (ShrSlice.pShrS (Referent.rtF (Referent.fInt Syntax.w8)) 0 tt) (List._∷_ (Num.pNum Syntax.w64) (List._∷_ (Num.pNum Syntax.w64) (List._∷_ (Num.pNum Syntax.w64) List.[])))
 
 abbrev pub r·0 : Kinds.RK 1
-r·0 = Value.rVal record
-    { ty = Declared.row Parsed.the-type; one = Path'.refl; val = Laws'5.val Parsed.the-type Laws'3.the-laws; tells = Laws'5.tells Parsed.the-type Laws'3.the-laws; still = Laws'5.still Parsed.the-type
-    Laws'3.the-copy Exit.yes; row = Rows.whole (Declared.row Parsed.the-type); rd = λ x. x; mk = λ x. x; } λ M 𝓤 H A W. record
-    { copies = Laws'5.copy Parsed.the-type Laws'3.the-copy 𝓤 H A W; lawful = Laws'5.lawful Parsed.the-type Laws'3.the-laws 𝓤 H A W tt; makes = Laws'5.makes Parsed.the-type Laws'3.the-plain 𝓤 H A; in-mem =
-    Local.mem-whole 𝓤 H A W (Declared.row Parsed.the-type); of-mem = Local.whole-mem 𝓤 H A W (Declared.row Parsed.the-type); }
+r·0 = Value.rVal record {
+  ty = Declared.row Parsed.the-type;
+  one = Path'.refl;
+  val = Laws'5.val Parsed.the-type Laws'3.the-laws;
+  tells = Laws'5.tells Parsed.the-type Laws'3.the-laws;
+  still = Laws'5.still Parsed.the-type
+      Laws'3.the-copy Exit.yes;
+  row = Rows.whole (Declared.row Parsed.the-type);
+  rd = λ x. x;
+  mk = λ x. x;
+} λ M 𝓤 H A W. record {
+  copies = Laws'5.copy Parsed.the-type Laws'3.the-copy 𝓤 H A W;
+  lawful = Laws'5.lawful Parsed.the-type Laws'3.the-laws 𝓤 H A W tt;
+  makes = Laws'5.makes Parsed.the-type Laws'3.the-plain 𝓤 H A;
+  in-mem =
+      Local.mem-whole 𝓤 H A W (Declared.row Parsed.the-type);
+  of-mem = Local.whole-mem 𝓤 H A W (Declared.row Parsed.the-type);
+}
 
 abbrev pub ps·1 : List.List (Kinds.PK 0)
 ps·1 = List._∷_ Bool.pBool List.[]
@@ -161,44 +187,107 @@ abbrev pub r·1 : Kinds.RK 0
 r·1 = Num.rNum Syntax.w64
 
 abbrev pub ps·2 : List.List (Kinds.PK 0)
-ps·2 = List._∷_ (Value.pVal record
-    { ty = Declared'.row FujiHeader.the-type; one = Path'.refl; val = Laws'6.val FujiHeader.the-type Laws''.the-laws; tells = Laws'6.tells FujiHeader.the-type Laws''.the-laws; still = Laws'6.still
-    FujiHeader.the-type Laws''.the-copy Exit.yes; row = Rows.whole (Declared'.row FujiHeader.the-type); rd = λ x. x; mk = λ x. x; } λ M 𝓤 H A W. record
-    { copies = Laws'6.copy FujiHeader.the-type Laws''.the-copy 𝓤 H A W; lawful = Laws'6.lawful FujiHeader.the-type Laws''.the-laws 𝓤 H A W; makes = Laws'6.makes FujiHeader.the-type Laws''.the-plain 𝓤 H A;
-    in-mem = Local.mem-whole 𝓤 H A W (Declared'.row FujiHeader.the-type); of-mem = Local.whole-mem 𝓤 H A W (Declared'.row FujiHeader.the-type); }) List.[]
+ps·2 = List._∷_ (Value.pVal record {
+  ty = Declared'.row FujiHeader.the-type;
+  one = Path'.refl;
+  val = Laws'6.val FujiHeader.the-type Laws''.the-laws;
+  tells = Laws'6.tells FujiHeader.the-type Laws''.the-laws;
+  still = Laws'6.still
+      FujiHeader.the-type Laws''.the-copy Exit.yes;
+  row = Rows.whole (Declared'.row FujiHeader.the-type);
+  rd = λ x. x;
+  mk = λ x. x;
+} λ M 𝓤 H A W. record {
+  copies = Laws'6.copy FujiHeader.the-type Laws''.the-copy 𝓤 H A W;
+  lawful = Laws'6.lawful FujiHeader.the-type Laws''.the-laws 𝓤 H A W;
+  makes = Laws'6.makes FujiHeader.the-type Laws''.the-plain 𝓤 H A;
+  in-mem = Local.mem-whole 𝓤 H A W (Declared'.row FujiHeader.the-type);
+  of-mem = Local.whole-mem 𝓤 H A W (Declared'.row FujiHeader.the-type);
+}) List.[]
 
 abbrev pub r·2 : Kinds.RK 0
-r·2 = Value.rVal record
-    { ty = Declared'.row Form.the-type; one = Path'.refl; val = Laws'6.val Form.the-type Laws.the-laws; tells = Laws'6.tells Form.the-type Laws.the-laws; still = Laws'6.still Form.the-type Laws.the-copy
-    Exit.yes; row = Rows.whole (Declared'.row Form.the-type); rd = λ x. x; mk = λ x. x; } λ M 𝓤 H A W. record
-    { copies = Laws'6.copy Form.the-type Laws.the-copy 𝓤 H A W; lawful = Laws'6.lawful Form.the-type Laws.the-laws 𝓤 H A W; makes = Laws'6.makes Form.the-type Laws.the-plain 𝓤 H A; in-mem =
-    Local.mem-whole 𝓤 H A W (Declared'.row Form.the-type); of-mem = Local.whole-mem 𝓤 H A W (Declared'.row Form.the-type); }
+r·2 = Value.rVal record {
+  ty = Declared'.row Form.the-type;
+  one = Path'.refl;
+  val = Laws'6.val Form.the-type Laws.the-laws;
+  tells = Laws'6.tells Form.the-type Laws.the-laws;
+  still = Laws'6.still Form.the-type Laws.the-copy
+      Exit.yes;
+  row = Rows.whole (Declared'.row Form.the-type);
+  rd = λ x. x;
+  mk = λ x. x;
+} λ M 𝓤 H A W. record {
+  copies = Laws'6.copy Form.the-type Laws.the-copy 𝓤 H A W;
+  lawful = Laws'6.lawful Form.the-type Laws.the-laws 𝓤 H A W;
+  makes = Laws'6.makes Form.the-type Laws.the-plain 𝓤 H A;
+  in-mem =
+      Local.mem-whole 𝓤 H A W (Declared'.row Form.the-type);
+  of-mem = Local.whole-mem 𝓤 H A W (Declared'.row Form.the-type);
+}
 
 abbrev pub ps·3 : List.List (Kinds.PK 0)
-ps·3 = List._∷_ (Value.pVal record
-    { ty = Declared'.row FujiHeader.the-type; one = Path'.refl; val = Laws'6.val FujiHeader.the-type Laws''.the-laws; tells = Laws'6.tells FujiHeader.the-type Laws''.the-laws; still = Laws'6.still
-    FujiHeader.the-type Laws''.the-copy Exit.yes; row = Rows.whole (Declared'.row FujiHeader.the-type); rd = λ x. x; mk = λ x. x; } λ M 𝓤 H A W. record
-    { copies = Laws'6.copy FujiHeader.the-type Laws''.the-copy 𝓤 H A W; lawful = Laws'6.lawful FujiHeader.the-type Laws''.the-laws 𝓤 H A W; makes = Laws'6.makes FujiHeader.the-type Laws''.the-plain 𝓤 H A;
-    in-mem = Local.mem-whole 𝓤 H A W (Declared'.row FujiHeader.the-type); of-mem = Local.whole-mem 𝓤 H A W (Declared'.row FujiHeader.the-type); }) List.[]
+ps·3 = List._∷_ (Value.pVal record {
+  ty = Declared'.row FujiHeader.the-type;
+  one = Path'.refl;
+  val = Laws'6.val FujiHeader.the-type Laws''.the-laws;
+  tells = Laws'6.tells FujiHeader.the-type Laws''.the-laws;
+  still = Laws'6.still
+      FujiHeader.the-type Laws''.the-copy Exit.yes;
+  row = Rows.whole (Declared'.row FujiHeader.the-type);
+  rd = λ x. x;
+  mk = λ x. x;
+} λ M 𝓤 H A W. record {
+  copies = Laws'6.copy FujiHeader.the-type Laws''.the-copy 𝓤 H A W;
+  lawful = Laws'6.lawful FujiHeader.the-type Laws''.the-laws 𝓤 H A W;
+  makes = Laws'6.makes FujiHeader.the-type Laws''.the-plain 𝓤 H A;
+  in-mem = Local.mem-whole 𝓤 H A W (Declared'.row FujiHeader.the-type);
+  of-mem = Local.whole-mem 𝓤 H A W (Declared'.row FujiHeader.the-type);
+}) List.[]
 
 abbrev pub r·3 : Kinds.RK 0
 r·3 = Num.rNum Syntax.w64
 
 abbrev pub ps·4 : List.List (Kinds.PK 5)
 ps·4 = List._∷_ (ShrSlice.pShrS (Referent.rtF (Referent.fInt Syntax.w16)) 0 tt) (List._∷_ (MutSlice.pMutS (Referent.rtF (Referent.fInt Syntax.w8)) 1 tt) (List._∷_ Bool.pBool (List._∷_ (MutSlice.pMutS
-    (Referent.rtF (Referent.fInt Syntax.w16)) 2 tt) (List._∷_ (MutSlice.pMutS (Element.type) 3 tt) (List._∷_ (Value.pVal record
-    { ty = Declared'.row Form.the-type; one = Path'.refl; val = Laws'6.val Form.the-type Laws.the-laws; tells = Laws'6.tells Form.the-type Laws.the-laws; still = Laws'6.still Form.the-type Laws.the-copy
-    Exit.yes; row = Rows.whole (Declared'.row Form.the-type); rd = λ x. x; mk = λ x. x; } λ M 𝓤 H A W. record
-    { copies = Laws'6.copy Form.the-type Laws.the-copy 𝓤 H A W; lawful = Laws'6.lawful Form.the-type Laws.the-laws 𝓤 H A W; makes = Laws'6.makes Form.the-type Laws.the-plain 𝓤 H A; in-mem =
-    Local.mem-whole 𝓤 H A W (Declared'.row Form.the-type); of-mem = Local.whole-mem 𝓤 H A W (Declared'.row Form.the-type); }) (List._∷_ (ShrSlice.pShrS (Referent.rtF (Referent.fInt Syntax.w8)) 4 tt)
+    (Referent.rtF (Referent.fInt Syntax.w16)) 2 tt) (List._∷_ (MutSlice.pMutS (Element.type) 3 tt) (List._∷_ (Value.pVal record {
+      ty = Declared'.row Form.the-type;
+      one = Path'.refl;
+      val = Laws'6.val Form.the-type Laws.the-laws;
+      tells = Laws'6.tells Form.the-type Laws.the-laws;
+      still = Laws'6.still Form.the-type Laws.the-copy
+          Exit.yes;
+      row = Rows.whole (Declared'.row Form.the-type);
+      rd = λ x. x;
+      mk = λ x. x;
+    } λ M 𝓤 H A W. record {
+      copies = Laws'6.copy Form.the-type Laws.the-copy 𝓤 H A W;
+      lawful = Laws'6.lawful Form.the-type Laws.the-laws 𝓤 H A W;
+      makes = Laws'6.makes Form.the-type Laws.the-plain 𝓤 H A;
+      in-mem =
+          Local.mem-whole 𝓤 H A W (Declared'.row Form.the-type);
+      of-mem = Local.whole-mem 𝓤 H A W (Declared'.row Form.the-type);
+    }) (List._∷_ (ShrSlice.pShrS (Referent.rtF (Referent.fInt Syntax.w8)) 4 tt)
     (List._∷_ (Num.pNum Syntax.w64) List.[])))))))
 
 abbrev pub r·4 : Kinds.RK 5
-r·4 = Value.rVal record
-    { ty = Declared.row BlockLength.the-type; one = Path'.refl; val = Laws'5.val BlockLength.the-type Laws'.the-laws; tells = Laws'5.tells BlockLength.the-type Laws'.the-laws; still = Laws'5.still
-    BlockLength.the-type Laws'.the-copy Exit.yes; row = Rows.whole (Declared.row BlockLength.the-type); rd = λ x. x; mk = λ x. x; } λ M 𝓤 H A W. record
-    { copies = Laws'5.copy BlockLength.the-type Laws'.the-copy 𝓤 H A W; lawful = Laws'5.lawful BlockLength.the-type Laws'.the-laws 𝓤 H A W tt; makes = Laws'5.makes BlockLength.the-type Laws'.the-plain 𝓤 H
-    A; in-mem = Local.mem-whole 𝓤 H A W (Declared.row BlockLength.the-type); of-mem = Local.whole-mem 𝓤 H A W (Declared.row BlockLength.the-type); }
+r·4 = Value.rVal record {
+  ty = Declared.row BlockLength.the-type;
+  one = Path'.refl;
+  val = Laws'5.val BlockLength.the-type Laws'.the-laws;
+  tells = Laws'5.tells BlockLength.the-type Laws'.the-laws;
+  still = Laws'5.still
+      BlockLength.the-type Laws'.the-copy Exit.yes;
+  row = Rows.whole (Declared.row BlockLength.the-type);
+  rd = λ x. x;
+  mk = λ x. x;
+} λ M 𝓤 H A W. record {
+  copies = Laws'5.copy BlockLength.the-type Laws'.the-copy 𝓤 H A W;
+  lawful = Laws'5.lawful BlockLength.the-type Laws'.the-laws 𝓤 H A W tt;
+  makes = Laws'5.makes BlockLength.the-type Laws'.the-plain 𝓤 H
+      A;
+  in-mem = Local.mem-whole 𝓤 H A W (Declared.row BlockLength.the-type);
+  of-mem = Local.whole-mem 𝓤 H A W (Declared.row BlockLength.the-type);
+}
 
 abbrev pub hs : List.List Syntax.Home
 hs = List._∷_ Syntax.valueLocal (List._∷_ Syntax.valueLocal (List._∷_ Syntax.valueLocal (List._∷_ Syntax.valueLocal (List._∷_ Syntax.valueLocal (List._∷_ Syntax.valueLocal (List._∷_ Syntax.valueLocal
@@ -379,17 +468,19 @@ Claims = Kinds.In 1 ps·0 × Kinds.Out 1 ps·0 r·0 × Kinds.In 0 ps·1 × Kinds
     5 ps·4 r·4
 
 abbrev pub e0 : Row.Entry
-e0 =
-    (0, Rows.any-gone (Syntax.tyEnum (List._∷_ 115 (List._∷_ 116 (List._∷_ 114 (List._∷_ 101 (List._∷_ 97 (List._∷_ 109 (List._∷_ 58 (List._∷_ 58 (List._∷_ 66 (List._∷_ 108 (List._∷_ 111 (List._∷_ 99
-    (List._∷_ 107 (List._∷_ 76 (List._∷_ 101 (List._∷_ 110 (List._∷_ 103 (List._∷_ 116 (List._∷_ 104 List.[]))))))))))))))))))) (Syntax.ttcons (Syntax.tcons (Syntax.tyInt Syntax.w64) Syntax.tnil)
-    (Syntax.ttcons (Syntax.tcons (Syntax.tyEnum (List._∷_ 115 (List._∷_ 116 (List._∷_ 114 (List._∷_ 101 (List._∷_ 97 (List._∷_ 109 (List._∷_ 58 (List._∷_ 58 (List._∷_ 82 (List._∷_ 101 (List._∷_ 102
-    (List._∷_ 117 (List._∷_ 115 (List._∷_ 97 (List._∷_ 108 List.[]))))))))))))))) (Syntax.ttcons Syntax.tnil (Syntax.ttcons Syntax.tnil (Syntax.ttcons Syntax.tnil (Syntax.ttcons (Syntax.tcons
-    (Syntax.tyInt Syntax.w64) Syntax.tnil) (Syntax.ttcons Syntax.tnil (Syntax.ttcons Syntax.tnil (Syntax.ttcons Syntax.tnil (Syntax.ttcons Syntax.tnil (Syntax.ttcons Syntax.tnil (Syntax.ttcons Syntax.tnil
-    (Syntax.ttcons (Syntax.tcons (Syntax.tyInt Syntax.w64) Syntax.tnil) (Syntax.ttcons (Syntax.tcons (Syntax.tyInt Syntax.w64) Syntax.tnil) (Syntax.ttcons Syntax.tnil (Syntax.ttcons (Syntax.tcons
-    (Syntax.tyInt Syntax.w64) (Syntax.tcons (Syntax.tyInt Syntax.w64) Syntax.tnil)) (Syntax.ttcons (Syntax.tcons (Syntax.tyInt Syntax.w64) Syntax.tnil) (Syntax.ttcons Syntax.tnil (Syntax.ttcons
-    Syntax.tnil (Syntax.ttcons (Syntax.tcons (Syntax.tyInt Syntax.w64) Syntax.tnil) (Syntax.ttcons (Syntax.tcons (Syntax.tyInt Syntax.w64) Syntax.tnil) (Syntax.ttcons (Syntax.tcons (Syntax.tyInt
-    Syntax.w64) Syntax.tnil) (Syntax.ttcons (Syntax.tcons (Syntax.tyInt Syntax.w64) (Syntax.tcons (Syntax.tyInt Syntax.w64) Syntax.tnil)) (Syntax.ttcons Syntax.tnil Syntax.ttnil)))))))))))))))))))))))
-    Syntax.tnil) Syntax.ttnil))))
+e0 = (
+  0,
+  Rows.any-gone (Syntax.tyEnum (List._∷_ 115 (List._∷_ 116 (List._∷_ 114 (List._∷_ 101 (List._∷_ 97 (List._∷_ 109 (List._∷_ 58 (List._∷_ 58 (List._∷_ 66 (List._∷_ 108 (List._∷_ 111 (List._∷_ 99
+      (List._∷_ 107 (List._∷_ 76 (List._∷_ 101 (List._∷_ 110 (List._∷_ 103 (List._∷_ 116 (List._∷_ 104 List.[]))))))))))))))))))) (Syntax.ttcons (Syntax.tcons (Syntax.tyInt Syntax.w64) Syntax.tnil)
+      (Syntax.ttcons (Syntax.tcons (Syntax.tyEnum (List._∷_ 115 (List._∷_ 116 (List._∷_ 114 (List._∷_ 101 (List._∷_ 97 (List._∷_ 109 (List._∷_ 58 (List._∷_ 58 (List._∷_ 82 (List._∷_ 101 (List._∷_ 102
+      (List._∷_ 117 (List._∷_ 115 (List._∷_ 97 (List._∷_ 108 List.[]))))))))))))))) (Syntax.ttcons Syntax.tnil (Syntax.ttcons Syntax.tnil (Syntax.ttcons Syntax.tnil (Syntax.ttcons (Syntax.tcons
+      (Syntax.tyInt Syntax.w64) Syntax.tnil) (Syntax.ttcons Syntax.tnil (Syntax.ttcons Syntax.tnil (Syntax.ttcons Syntax.tnil (Syntax.ttcons Syntax.tnil (Syntax.ttcons Syntax.tnil (Syntax.ttcons Syntax.tnil
+      (Syntax.ttcons (Syntax.tcons (Syntax.tyInt Syntax.w64) Syntax.tnil) (Syntax.ttcons (Syntax.tcons (Syntax.tyInt Syntax.w64) Syntax.tnil) (Syntax.ttcons Syntax.tnil (Syntax.ttcons (Syntax.tcons
+      (Syntax.tyInt Syntax.w64) (Syntax.tcons (Syntax.tyInt Syntax.w64) Syntax.tnil)) (Syntax.ttcons (Syntax.tcons (Syntax.tyInt Syntax.w64) Syntax.tnil) (Syntax.ttcons Syntax.tnil (Syntax.ttcons
+      Syntax.tnil (Syntax.ttcons (Syntax.tcons (Syntax.tyInt Syntax.w64) Syntax.tnil) (Syntax.ttcons (Syntax.tcons (Syntax.tyInt Syntax.w64) Syntax.tnil) (Syntax.ttcons (Syntax.tcons (Syntax.tyInt
+      Syntax.w64) Syntax.tnil) (Syntax.ttcons (Syntax.tcons (Syntax.tyInt Syntax.w64) (Syntax.tcons (Syntax.tyInt Syntax.w64) Syntax.tnil)) (Syntax.ttcons Syntax.tnil Syntax.ttnil)))))))))))))))))))))))
+      Syntax.tnil) Syntax.ttnil))),
+)
 
 abbrev pub e1 : Row.Entry
 e1 = (0, Rows.whole (Declared.row BlockLength.the-type))
@@ -434,17 +525,19 @@ abbrev pub e14 : Row.Entry
 e14 = (15, Rows.sc-here (Row.sInt Syntax.w64))
 
 abbrev pub e15 : Row.Entry
-e15 =
-    (16, Rows.any-gone (Syntax.tyEnum (List._∷_ 115 (List._∷_ 116 (List._∷_ 114 (List._∷_ 101 (List._∷_ 97 (List._∷_ 109 (List._∷_ 58 (List._∷_ 58 (List._∷_ 66 (List._∷_ 108 (List._∷_ 111 (List._∷_ 99
-    (List._∷_ 107 (List._∷_ 76 (List._∷_ 101 (List._∷_ 110 (List._∷_ 103 (List._∷_ 116 (List._∷_ 104 List.[]))))))))))))))))))) (Syntax.ttcons (Syntax.tcons (Syntax.tyInt Syntax.w64) Syntax.tnil)
-    (Syntax.ttcons (Syntax.tcons (Syntax.tyEnum (List._∷_ 115 (List._∷_ 116 (List._∷_ 114 (List._∷_ 101 (List._∷_ 97 (List._∷_ 109 (List._∷_ 58 (List._∷_ 58 (List._∷_ 82 (List._∷_ 101 (List._∷_ 102
-    (List._∷_ 117 (List._∷_ 115 (List._∷_ 97 (List._∷_ 108 List.[]))))))))))))))) (Syntax.ttcons Syntax.tnil (Syntax.ttcons Syntax.tnil (Syntax.ttcons Syntax.tnil (Syntax.ttcons (Syntax.tcons
-    (Syntax.tyInt Syntax.w64) Syntax.tnil) (Syntax.ttcons Syntax.tnil (Syntax.ttcons Syntax.tnil (Syntax.ttcons Syntax.tnil (Syntax.ttcons Syntax.tnil (Syntax.ttcons Syntax.tnil (Syntax.ttcons Syntax.tnil
-    (Syntax.ttcons (Syntax.tcons (Syntax.tyInt Syntax.w64) Syntax.tnil) (Syntax.ttcons (Syntax.tcons (Syntax.tyInt Syntax.w64) Syntax.tnil) (Syntax.ttcons Syntax.tnil (Syntax.ttcons (Syntax.tcons
-    (Syntax.tyInt Syntax.w64) (Syntax.tcons (Syntax.tyInt Syntax.w64) Syntax.tnil)) (Syntax.ttcons (Syntax.tcons (Syntax.tyInt Syntax.w64) Syntax.tnil) (Syntax.ttcons Syntax.tnil (Syntax.ttcons
-    Syntax.tnil (Syntax.ttcons (Syntax.tcons (Syntax.tyInt Syntax.w64) Syntax.tnil) (Syntax.ttcons (Syntax.tcons (Syntax.tyInt Syntax.w64) Syntax.tnil) (Syntax.ttcons (Syntax.tcons (Syntax.tyInt
-    Syntax.w64) Syntax.tnil) (Syntax.ttcons (Syntax.tcons (Syntax.tyInt Syntax.w64) (Syntax.tcons (Syntax.tyInt Syntax.w64) Syntax.tnil)) (Syntax.ttcons Syntax.tnil Syntax.ttnil)))))))))))))))))))))))
-    Syntax.tnil) Syntax.ttnil))))
+e15 = (
+  16,
+  Rows.any-gone (Syntax.tyEnum (List._∷_ 115 (List._∷_ 116 (List._∷_ 114 (List._∷_ 101 (List._∷_ 97 (List._∷_ 109 (List._∷_ 58 (List._∷_ 58 (List._∷_ 66 (List._∷_ 108 (List._∷_ 111 (List._∷_ 99
+      (List._∷_ 107 (List._∷_ 76 (List._∷_ 101 (List._∷_ 110 (List._∷_ 103 (List._∷_ 116 (List._∷_ 104 List.[]))))))))))))))))))) (Syntax.ttcons (Syntax.tcons (Syntax.tyInt Syntax.w64) Syntax.tnil)
+      (Syntax.ttcons (Syntax.tcons (Syntax.tyEnum (List._∷_ 115 (List._∷_ 116 (List._∷_ 114 (List._∷_ 101 (List._∷_ 97 (List._∷_ 109 (List._∷_ 58 (List._∷_ 58 (List._∷_ 82 (List._∷_ 101 (List._∷_ 102
+      (List._∷_ 117 (List._∷_ 115 (List._∷_ 97 (List._∷_ 108 List.[]))))))))))))))) (Syntax.ttcons Syntax.tnil (Syntax.ttcons Syntax.tnil (Syntax.ttcons Syntax.tnil (Syntax.ttcons (Syntax.tcons
+      (Syntax.tyInt Syntax.w64) Syntax.tnil) (Syntax.ttcons Syntax.tnil (Syntax.ttcons Syntax.tnil (Syntax.ttcons Syntax.tnil (Syntax.ttcons Syntax.tnil (Syntax.ttcons Syntax.tnil (Syntax.ttcons Syntax.tnil
+      (Syntax.ttcons (Syntax.tcons (Syntax.tyInt Syntax.w64) Syntax.tnil) (Syntax.ttcons (Syntax.tcons (Syntax.tyInt Syntax.w64) Syntax.tnil) (Syntax.ttcons Syntax.tnil (Syntax.ttcons (Syntax.tcons
+      (Syntax.tyInt Syntax.w64) (Syntax.tcons (Syntax.tyInt Syntax.w64) Syntax.tnil)) (Syntax.ttcons (Syntax.tcons (Syntax.tyInt Syntax.w64) Syntax.tnil) (Syntax.ttcons Syntax.tnil (Syntax.ttcons
+      Syntax.tnil (Syntax.ttcons (Syntax.tcons (Syntax.tyInt Syntax.w64) Syntax.tnil) (Syntax.ttcons (Syntax.tcons (Syntax.tyInt Syntax.w64) Syntax.tnil) (Syntax.ttcons (Syntax.tcons (Syntax.tyInt
+      Syntax.w64) Syntax.tnil) (Syntax.ttcons (Syntax.tcons (Syntax.tyInt Syntax.w64) (Syntax.tcons (Syntax.tyInt Syntax.w64) Syntax.tnil)) (Syntax.ttcons Syntax.tnil Syntax.ttnil)))))))))))))))))))))))
+      Syntax.tnil) Syntax.ttnil))),
+)
 
 abbrev pub e16 : Row.Entry
 e16 = (16, Rows.whole (Declared.row BlockLength.the-type))
@@ -564,16 +657,18 @@ abbrev pub e54 : Row.Entry
 e54 = (6, PartMut.mslice-owedM (Element.type) (Syntax.tyRef (Syntax.named 4) Syntax.mut Element.behind) 4 7 Row.off)
 
 abbrev pub e55 : Row.Entry
-e55 =
-    (7, Rows.any-gone (Syntax.tyEnum (List._∷_ 115 (List._∷_ 116 (List._∷_ 114 (List._∷_ 101 (List._∷_ 97 (List._∷_ 109 (List._∷_ 58 (List._∷_ 58 (List._∷_ 80 (List._∷_ 97 (List._∷_ 114 (List._∷_ 115
-    (List._∷_ 101 (List._∷_ 100 List.[])))))))))))))) (Syntax.ttcons (Syntax.tcons y0 Syntax.tnil) (Syntax.ttcons (Syntax.tcons (Syntax.tyEnum (List._∷_ 115 (List._∷_ 116 (List._∷_ 114 (List._∷_ 101
-    (List._∷_ 97 (List._∷_ 109 (List._∷_ 58 (List._∷_ 58 (List._∷_ 82 (List._∷_ 101 (List._∷_ 102 (List._∷_ 117 (List._∷_ 115 (List._∷_ 97 (List._∷_ 108 List.[]))))))))))))))) (Syntax.ttcons Syntax.tnil
-    (Syntax.ttcons Syntax.tnil (Syntax.ttcons Syntax.tnil (Syntax.ttcons (Syntax.tcons (Syntax.tyInt Syntax.w64) Syntax.tnil) (Syntax.ttcons Syntax.tnil (Syntax.ttcons Syntax.tnil (Syntax.ttcons
-    Syntax.tnil (Syntax.ttcons Syntax.tnil (Syntax.ttcons Syntax.tnil (Syntax.ttcons Syntax.tnil (Syntax.ttcons (Syntax.tcons (Syntax.tyInt Syntax.w64) Syntax.tnil) (Syntax.ttcons (Syntax.tcons
-    (Syntax.tyInt Syntax.w64) Syntax.tnil) (Syntax.ttcons Syntax.tnil (Syntax.ttcons (Syntax.tcons (Syntax.tyInt Syntax.w64) (Syntax.tcons (Syntax.tyInt Syntax.w64) Syntax.tnil)) (Syntax.ttcons
-    (Syntax.tcons (Syntax.tyInt Syntax.w64) Syntax.tnil) (Syntax.ttcons Syntax.tnil (Syntax.ttcons Syntax.tnil (Syntax.ttcons (Syntax.tcons (Syntax.tyInt Syntax.w64) Syntax.tnil) (Syntax.ttcons
-    (Syntax.tcons (Syntax.tyInt Syntax.w64) Syntax.tnil) (Syntax.ttcons (Syntax.tcons (Syntax.tyInt Syntax.w64) Syntax.tnil) (Syntax.ttcons (Syntax.tcons (Syntax.tyInt Syntax.w64) (Syntax.tcons
-    (Syntax.tyInt Syntax.w64) Syntax.tnil)) (Syntax.ttcons Syntax.tnil Syntax.ttnil))))))))))))))))))))))) Syntax.tnil) Syntax.ttnil))))
+e55 = (
+  7,
+  Rows.any-gone (Syntax.tyEnum (List._∷_ 115 (List._∷_ 116 (List._∷_ 114 (List._∷_ 101 (List._∷_ 97 (List._∷_ 109 (List._∷_ 58 (List._∷_ 58 (List._∷_ 80 (List._∷_ 97 (List._∷_ 114 (List._∷_ 115
+      (List._∷_ 101 (List._∷_ 100 List.[])))))))))))))) (Syntax.ttcons (Syntax.tcons y0 Syntax.tnil) (Syntax.ttcons (Syntax.tcons (Syntax.tyEnum (List._∷_ 115 (List._∷_ 116 (List._∷_ 114 (List._∷_ 101
+      (List._∷_ 97 (List._∷_ 109 (List._∷_ 58 (List._∷_ 58 (List._∷_ 82 (List._∷_ 101 (List._∷_ 102 (List._∷_ 117 (List._∷_ 115 (List._∷_ 97 (List._∷_ 108 List.[]))))))))))))))) (Syntax.ttcons Syntax.tnil
+      (Syntax.ttcons Syntax.tnil (Syntax.ttcons Syntax.tnil (Syntax.ttcons (Syntax.tcons (Syntax.tyInt Syntax.w64) Syntax.tnil) (Syntax.ttcons Syntax.tnil (Syntax.ttcons Syntax.tnil (Syntax.ttcons
+      Syntax.tnil (Syntax.ttcons Syntax.tnil (Syntax.ttcons Syntax.tnil (Syntax.ttcons Syntax.tnil (Syntax.ttcons (Syntax.tcons (Syntax.tyInt Syntax.w64) Syntax.tnil) (Syntax.ttcons (Syntax.tcons
+      (Syntax.tyInt Syntax.w64) Syntax.tnil) (Syntax.ttcons Syntax.tnil (Syntax.ttcons (Syntax.tcons (Syntax.tyInt Syntax.w64) (Syntax.tcons (Syntax.tyInt Syntax.w64) Syntax.tnil)) (Syntax.ttcons
+      (Syntax.tcons (Syntax.tyInt Syntax.w64) Syntax.tnil) (Syntax.ttcons Syntax.tnil (Syntax.ttcons Syntax.tnil (Syntax.ttcons (Syntax.tcons (Syntax.tyInt Syntax.w64) Syntax.tnil) (Syntax.ttcons
+      (Syntax.tcons (Syntax.tyInt Syntax.w64) Syntax.tnil) (Syntax.ttcons (Syntax.tcons (Syntax.tyInt Syntax.w64) Syntax.tnil) (Syntax.ttcons (Syntax.tcons (Syntax.tyInt Syntax.w64) (Syntax.tcons
+      (Syntax.tyInt Syntax.w64) Syntax.tnil)) (Syntax.ttcons Syntax.tnil Syntax.ttnil))))))))))))))))))))))) Syntax.tnil) Syntax.ttnil))),
+)
 
 abbrev pub e56 : Row.Entry
 e56 = (7, Rows.whole (Declared.row Parsed.the-type))
@@ -585,14 +680,16 @@ abbrev pub e58 : Row.Entry
 e58 = (7, Rows.whole (Known.Known Parsed.enum 1))
 
 abbrev pub e59 : Row.Entry
-e59 =
-    (8, Rows.any-gone (Syntax.tyEnum (List._∷_ 115 (List._∷_ 116 (List._∷_ 114 (List._∷_ 101 (List._∷_ 97 (List._∷_ 109 (List._∷_ 58 (List._∷_ 58 (List._∷_ 82 (List._∷_ 101 (List._∷_ 102 (List._∷_ 117
-    (List._∷_ 115 (List._∷_ 97 (List._∷_ 108 List.[]))))))))))))))) (Syntax.ttcons Syntax.tnil (Syntax.ttcons Syntax.tnil (Syntax.ttcons Syntax.tnil (Syntax.ttcons (Syntax.tcons (Syntax.tyInt Syntax.w64)
-    Syntax.tnil) (Syntax.ttcons Syntax.tnil (Syntax.ttcons Syntax.tnil (Syntax.ttcons Syntax.tnil (Syntax.ttcons Syntax.tnil (Syntax.ttcons Syntax.tnil (Syntax.ttcons Syntax.tnil (Syntax.ttcons
-    (Syntax.tcons (Syntax.tyInt Syntax.w64) Syntax.tnil) (Syntax.ttcons (Syntax.tcons (Syntax.tyInt Syntax.w64) Syntax.tnil) (Syntax.ttcons Syntax.tnil (Syntax.ttcons (Syntax.tcons (Syntax.tyInt
-    Syntax.w64) (Syntax.tcons (Syntax.tyInt Syntax.w64) Syntax.tnil)) (Syntax.ttcons (Syntax.tcons (Syntax.tyInt Syntax.w64) Syntax.tnil) (Syntax.ttcons Syntax.tnil (Syntax.ttcons Syntax.tnil
-    (Syntax.ttcons (Syntax.tcons (Syntax.tyInt Syntax.w64) Syntax.tnil) (Syntax.ttcons (Syntax.tcons (Syntax.tyInt Syntax.w64) Syntax.tnil) (Syntax.ttcons (Syntax.tcons (Syntax.tyInt Syntax.w64)
-    Syntax.tnil) (Syntax.ttcons (Syntax.tcons (Syntax.tyInt Syntax.w64) (Syntax.tcons (Syntax.tyInt Syntax.w64) Syntax.tnil)) (Syntax.ttcons Syntax.tnil Syntax.ttnil))))))))))))))))))))))))
+e59 = (
+  8,
+  Rows.any-gone (Syntax.tyEnum (List._∷_ 115 (List._∷_ 116 (List._∷_ 114 (List._∷_ 101 (List._∷_ 97 (List._∷_ 109 (List._∷_ 58 (List._∷_ 58 (List._∷_ 82 (List._∷_ 101 (List._∷_ 102 (List._∷_ 117
+      (List._∷_ 115 (List._∷_ 97 (List._∷_ 108 List.[]))))))))))))))) (Syntax.ttcons Syntax.tnil (Syntax.ttcons Syntax.tnil (Syntax.ttcons Syntax.tnil (Syntax.ttcons (Syntax.tcons (Syntax.tyInt Syntax.w64)
+      Syntax.tnil) (Syntax.ttcons Syntax.tnil (Syntax.ttcons Syntax.tnil (Syntax.ttcons Syntax.tnil (Syntax.ttcons Syntax.tnil (Syntax.ttcons Syntax.tnil (Syntax.ttcons Syntax.tnil (Syntax.ttcons
+      (Syntax.tcons (Syntax.tyInt Syntax.w64) Syntax.tnil) (Syntax.ttcons (Syntax.tcons (Syntax.tyInt Syntax.w64) Syntax.tnil) (Syntax.ttcons Syntax.tnil (Syntax.ttcons (Syntax.tcons (Syntax.tyInt
+      Syntax.w64) (Syntax.tcons (Syntax.tyInt Syntax.w64) Syntax.tnil)) (Syntax.ttcons (Syntax.tcons (Syntax.tyInt Syntax.w64) Syntax.tnil) (Syntax.ttcons Syntax.tnil (Syntax.ttcons Syntax.tnil
+      (Syntax.ttcons (Syntax.tcons (Syntax.tyInt Syntax.w64) Syntax.tnil) (Syntax.ttcons (Syntax.tcons (Syntax.tyInt Syntax.w64) Syntax.tnil) (Syntax.ttcons (Syntax.tcons (Syntax.tyInt Syntax.w64)
+      Syntax.tnil) (Syntax.ttcons (Syntax.tcons (Syntax.tyInt Syntax.w64) (Syntax.tcons (Syntax.tyInt Syntax.w64) Syntax.tnil)) (Syntax.ttcons Syntax.tnil Syntax.ttnil))))))))))))))))))))))),
+)
 
 abbrev pub e60 : Row.Entry
 e60 = (8, Rows.whole (Declared.row Refusal.the-type))
@@ -1032,7 +1129,7 @@ module _ (claims· : Claims) where
 
   abbrev s7 : Typed.Both T8 T9
   s7 = Call.callB ps·0 r·0 (claims· .0) (claims· .1) T8
-      (record { pos = 1; ty = Syntax.tyRef (Syntax.named 0) Syntax.imm (Syntax.tyInt Syntax.w8); ref = λ x. x; }, (Num.vAt 13 λ x. x, (Num.vAt 14 λ x. x, (Num.vAt 15 λ x. x, tt)))) 7 (List._∷_ 0 List.[])
+      (record { pos = 1; ty = Syntax.tyRef (Syntax.named 0) Syntax.imm (Syntax.tyInt Syntax.w8); ref = λ x. x }, (Num.vAt 13 λ x. x, (Num.vAt 14 λ x. x, (Num.vAt 15 λ x. x, tt)))) 7 (List._∷_ 0 List.[])
       (Syntax.tyEnum (List._∷_ 115 (List._∷_ 116 (List._∷_ 114 (List._∷_ 101 (List._∷_ 97 (List._∷_ 109 (List._∷_ 58 (List._∷_ 58 (List._∷_ 80 (List._∷_ 97 (List._∷_ 114 (List._∷_ 115 (List._∷_ 101
       (List._∷_ 100 List.[])))))))))))))) (Syntax.ttcons (Syntax.tcons y0 Syntax.tnil) (Syntax.ttcons (Syntax.tcons (Syntax.tyEnum (List._∷_ 115 (List._∷_ 116 (List._∷_ 114 (List._∷_ 101 (List._∷_ 97
       (List._∷_ 109 (List._∷_ 58 (List._∷_ 58 (List._∷_ 82 (List._∷_ 101 (List._∷_ 102 (List._∷_ 117 (List._∷_ 115 (List._∷_ 97 (List._∷_ 108 List.[]))))))))))))))) (Syntax.ttcons Syntax.tnil
@@ -1190,13 +1287,22 @@ module _ (claims· : Claims) where
   s47 = Scalar.n-room T49 28 (Syntax.tyInt Syntax.w64)
 
   abbrev s48 : Typed.Both T50 T51
-  s48 = Call.callB ps·4 r·4 (claims· .8) (claims· .9) T50
-      (record { pos = 2; ty = Syntax.tyRef (Syntax.named 1) Syntax.imm (Syntax.tyInt Syntax.w16); ref = λ x. x; },
-      (record { pos = 18; ty = Syntax.tyRef Syntax.erased Syntax.mut (Syntax.tyInt Syntax.w8); ref = λ x. x; },
-      (Bool.bAt 4 λ x. x,
-      (record { pos = 22; ty = Syntax.tyRef Syntax.erased Syntax.mut (Syntax.tyInt Syntax.w16); ref = λ x. x; },
-      (record { pos = 26; ty = Syntax.tyRef Syntax.erased Syntax.mut Element.behind; ref = λ x. x; },
-      (record { pos = 11; st = List.[]; d = 0; at = λ x. x }, (record { pos = 30; ty = Syntax.tyRef Syntax.erased Syntax.imm (Syntax.tyInt Syntax.w8); ref = λ x. x; }, (Num.vAt 12 λ x. x, tt)))))))) 16
+  s48 = Call.callB ps·4 r·4 (claims· .8) (claims· .9) T50 (
+    record { pos = 2; ty = Syntax.tyRef (Syntax.named 1) Syntax.imm (Syntax.tyInt Syntax.w16); ref = λ x. x },
+    (
+      record { pos = 18; ty = Syntax.tyRef Syntax.erased Syntax.mut (Syntax.tyInt Syntax.w8); ref = λ x. x },
+      (
+        Bool.bAt 4 λ x. x,
+        (
+          record { pos = 22; ty = Syntax.tyRef Syntax.erased Syntax.mut (Syntax.tyInt Syntax.w16); ref = λ x. x },
+          (
+            record { pos = 26; ty = Syntax.tyRef Syntax.erased Syntax.mut Element.behind; ref = λ x. x },
+            (record { pos = 11; st = List.[]; d = 0; at = λ x. x }, (record { pos = 30; ty = Syntax.tyRef Syntax.erased Syntax.imm (Syntax.tyInt Syntax.w8); ref = λ x. x }, (Num.vAt 12 λ x. x, tt))),
+          ),
+        ),
+      ),
+    ),
+  ) 16
       (List._∷_ 1 (List._∷_ 5 (List._∷_ 6 (List._∷_ 7 (List._∷_ 0 List.[]))))) (Syntax.tyEnum (List._∷_ 115 (List._∷_ 116 (List._∷_ 114 (List._∷_ 101 (List._∷_ 97 (List._∷_ 109 (List._∷_ 58 (List._∷_ 58
       (List._∷_ 66 (List._∷_ 108 (List._∷_ 111 (List._∷_ 99 (List._∷_ 107 (List._∷_ 76 (List._∷_ 101 (List._∷_ 110 (List._∷_ 103 (List._∷_ 116 (List._∷_ 104 List.[]))))))))))))))))))) (Syntax.ttcons
       (Syntax.tcons (Syntax.tyInt Syntax.w64) Syntax.tnil) (Syntax.ttcons (Syntax.tcons (Syntax.tyEnum (List._∷_ 115 (List._∷_ 116 (List._∷_ 114 (List._∷_ 101 (List._∷_ 97 (List._∷_ 109 (List._∷_ 58
@@ -1493,354 +1599,494 @@ module _ (claims· : Claims) where
             e61 (List._∷_ e3 (List._∷_ e5 (List._∷_ e7 (List._∷_ e9 (List._∷_ e11 (List._∷_ e13 List.[])))))))))))))))
 
         abbrev G0 : Row.Cx
-        G0 = record
-            { locals = List._++_ t0 t1; slots = List._∷_ (Row.lease (κs .0) (qs .0)) (List._∷_ (Row.lease (κs .1 .0) (qs .1 .0)) (List._∷_ (Row.lease (κs .1 .1 .0) (qs .1 .1 .0)) (List._∷_ (Row.lease (κs
-            .1 .1 .1 .0) (qs .1 .1 .1 .0)) (List._∷_ (Row.lease (κs .1 .1 .1 .1 .0) (qs .1 .1 .1 .1 .0)) (List._∷_ Row.off (List._∷_ Row.off (List._∷_ Row.off List.[]))))))); }
+        G0 = record {
+          locals = List._++_ t0 t1;
+          slots = List._∷_ (Row.lease (κs .0) (qs .0)) (List._∷_ (Row.lease (κs .1 .0) (qs .1 .0)) (List._∷_ (Row.lease (κs .1 .1 .0) (qs .1 .1 .0)) (List._∷_ (Row.lease (κs
+              .1 .1 .1 .0) (qs .1 .1 .1 .0)) (List._∷_ (Row.lease (κs .1 .1 .1 .1 .0) (qs .1 .1 .1 .1 .0)) (List._∷_ Row.off (List._∷_ Row.off (List._∷_ Row.off List.[])))))));
+        }
 
         abbrev G1 : Row.Cx
-        G1 = record
-            { locals = List._++_ t2 t1; slots = List._∷_ (Row.lease (κs .0) (qs .0)) (List._∷_ (Row.lease (κs .1 .0) (qs .1 .0)) (List._∷_ (Row.lease (κs .1 .1 .0) (qs .1 .1 .0)) (List._∷_ (Row.lease (κs
-            .1 .1 .1 .0) (qs .1 .1 .1 .0)) (List._∷_ (Row.lease (κs .1 .1 .1 .1 .0) (qs .1 .1 .1 .1 .0)) (List._∷_ Row.off (List._∷_ Row.off (List._∷_ Row.off List.[]))))))); }
+        G1 = record {
+          locals = List._++_ t2 t1;
+          slots = List._∷_ (Row.lease (κs .0) (qs .0)) (List._∷_ (Row.lease (κs .1 .0) (qs .1 .0)) (List._∷_ (Row.lease (κs .1 .1 .0) (qs .1 .1 .0)) (List._∷_ (Row.lease (κs
+              .1 .1 .1 .0) (qs .1 .1 .1 .0)) (List._∷_ (Row.lease (κs .1 .1 .1 .1 .0) (qs .1 .1 .1 .1 .0)) (List._∷_ Row.off (List._∷_ Row.off (List._∷_ Row.off List.[])))))));
+        }
 
         abbrev G2 : Row.Cx
-        G2 = record
-            { locals = List._++_ t0 t1; slots = List._∷_ (Row.lease (κs .0) (qs .0)) (List._∷_ (Row.lease (κs .1 .0) (qs .1 .0)) (List._∷_ (Row.lease (κs .1 .1 .0) (qs .1 .1 .0)) (List._∷_ (Row.lease (κs
-            .1 .1 .1 .0) (qs .1 .1 .1 .0)) (List._∷_ (Row.lease (κs .1 .1 .1 .1 .0) (qs .1 .1 .1 .1 .0)) (List._∷_ Row.off (List._∷_ Row.off (List._∷_ Row.off List.[]))))))); }
+        G2 = record {
+          locals = List._++_ t0 t1;
+          slots = List._∷_ (Row.lease (κs .0) (qs .0)) (List._∷_ (Row.lease (κs .1 .0) (qs .1 .0)) (List._∷_ (Row.lease (κs .1 .1 .0) (qs .1 .1 .0)) (List._∷_ (Row.lease (κs
+              .1 .1 .1 .0) (qs .1 .1 .1 .0)) (List._∷_ (Row.lease (κs .1 .1 .1 .1 .0) (qs .1 .1 .1 .1 .0)) (List._∷_ Row.off (List._∷_ Row.off (List._∷_ Row.off List.[])))))));
+        }
 
         abbrev G3 : Row.Cx
-        G3 = record
-            { locals = List._++_ t0 t1; slots = List._∷_ (Row.lease (κs .0) (qs .0)) (List._∷_ (Row.lease (κs .1 .0) (qs .1 .0)) (List._∷_ (Row.lease (κs .1 .1 .0) (qs .1 .1 .0)) (List._∷_ (Row.lease (κs
-            .1 .1 .1 .0) (qs .1 .1 .1 .0)) (List._∷_ (Row.lease (κs .1 .1 .1 .1 .0) (qs .1 .1 .1 .1 .0)) (List._∷_ Row.off (List._∷_ Row.off (List._∷_ Row.off List.[]))))))); }
+        G3 = record {
+          locals = List._++_ t0 t1;
+          slots = List._∷_ (Row.lease (κs .0) (qs .0)) (List._∷_ (Row.lease (κs .1 .0) (qs .1 .0)) (List._∷_ (Row.lease (κs .1 .1 .0) (qs .1 .1 .0)) (List._∷_ (Row.lease (κs
+              .1 .1 .1 .0) (qs .1 .1 .1 .0)) (List._∷_ (Row.lease (κs .1 .1 .1 .1 .0) (qs .1 .1 .1 .1 .0)) (List._∷_ Row.off (List._∷_ Row.off (List._∷_ Row.off List.[])))))));
+        }
 
         abbrev G4 : Row.Cx
-        G4 = record
-            { locals = List._++_ t0 t1; slots = List._∷_ (Row.lease (κs .0) (qs .0)) (List._∷_ (Row.lease (κs .1 .0) (qs .1 .0)) (List._∷_ (Row.lease (κs .1 .1 .0) (qs .1 .1 .0)) (List._∷_ (Row.lease (κs
-            .1 .1 .1 .0) (qs .1 .1 .1 .0)) (List._∷_ (Row.lease (κs .1 .1 .1 .1 .0) (qs .1 .1 .1 .1 .0)) (List._∷_ Row.off (List._∷_ Row.off (List._∷_ Row.off List.[]))))))); }
+        G4 = record {
+          locals = List._++_ t0 t1;
+          slots = List._∷_ (Row.lease (κs .0) (qs .0)) (List._∷_ (Row.lease (κs .1 .0) (qs .1 .0)) (List._∷_ (Row.lease (κs .1 .1 .0) (qs .1 .1 .0)) (List._∷_ (Row.lease (κs
+              .1 .1 .1 .0) (qs .1 .1 .1 .0)) (List._∷_ (Row.lease (κs .1 .1 .1 .1 .0) (qs .1 .1 .1 .1 .0)) (List._∷_ Row.off (List._∷_ Row.off (List._∷_ Row.off List.[])))))));
+        }
 
         abbrev G5 : Row.Cx
-        G5 = record
-            { locals = List._++_ t0 t1; slots = List._∷_ (Row.lease (κs .0) (qs .0)) (List._∷_ (Row.lease (κs .1 .0) (qs .1 .0)) (List._∷_ (Row.lease (κs .1 .1 .0) (qs .1 .1 .0)) (List._∷_ (Row.lease (κs
-            .1 .1 .1 .0) (qs .1 .1 .1 .0)) (List._∷_ (Row.lease (κs .1 .1 .1 .1 .0) (qs .1 .1 .1 .1 .0)) (List._∷_ Row.off (List._∷_ Row.off (List._∷_ Row.off List.[]))))))); }
+        G5 = record {
+          locals = List._++_ t0 t1;
+          slots = List._∷_ (Row.lease (κs .0) (qs .0)) (List._∷_ (Row.lease (κs .1 .0) (qs .1 .0)) (List._∷_ (Row.lease (κs .1 .1 .0) (qs .1 .1 .0)) (List._∷_ (Row.lease (κs
+              .1 .1 .1 .0) (qs .1 .1 .1 .0)) (List._∷_ (Row.lease (κs .1 .1 .1 .1 .0) (qs .1 .1 .1 .1 .0)) (List._∷_ Row.off (List._∷_ Row.off (List._∷_ Row.off List.[])))))));
+        }
 
         abbrev G6 : Row.Cx
-        G6 = record
-            { locals = List._++_ t3 t1; slots = List._∷_ (Row.lease (κs .0) (qs .0)) (List._∷_ (Row.lease (κs .1 .0) (qs .1 .0)) (List._∷_ (Row.lease (κs .1 .1 .0) (qs .1 .1 .0)) (List._∷_ (Row.lease (κs
-            .1 .1 .1 .0) (qs .1 .1 .1 .0)) (List._∷_ (Row.lease (κs .1 .1 .1 .1 .0) (qs .1 .1 .1 .1 .0)) (List._∷_ Row.off (List._∷_ Row.off (List._∷_ Row.off List.[]))))))); }
+        G6 = record {
+          locals = List._++_ t3 t1;
+          slots = List._∷_ (Row.lease (κs .0) (qs .0)) (List._∷_ (Row.lease (κs .1 .0) (qs .1 .0)) (List._∷_ (Row.lease (κs .1 .1 .0) (qs .1 .1 .0)) (List._∷_ (Row.lease (κs
+              .1 .1 .1 .0) (qs .1 .1 .1 .0)) (List._∷_ (Row.lease (κs .1 .1 .1 .1 .0) (qs .1 .1 .1 .1 .0)) (List._∷_ Row.off (List._∷_ Row.off (List._∷_ Row.off List.[])))))));
+        }
 
         abbrev G7 : Row.Cx
-        G7 = record
-            { locals = List._++_ t4 t1; slots = List._∷_ (Row.lease (κs .0) (qs .0)) (List._∷_ (Row.lease (κs .1 .0) (qs .1 .0)) (List._∷_ (Row.lease (κs .1 .1 .0) (qs .1 .1 .0)) (List._∷_ (Row.lease (κs
-            .1 .1 .1 .0) (qs .1 .1 .1 .0)) (List._∷_ (Row.lease (κs .1 .1 .1 .1 .0) (qs .1 .1 .1 .1 .0)) (List._∷_ Row.off (List._∷_ Row.off (List._∷_ Row.off List.[]))))))); }
+        G7 = record {
+          locals = List._++_ t4 t1;
+          slots = List._∷_ (Row.lease (κs .0) (qs .0)) (List._∷_ (Row.lease (κs .1 .0) (qs .1 .0)) (List._∷_ (Row.lease (κs .1 .1 .0) (qs .1 .1 .0)) (List._∷_ (Row.lease (κs
+              .1 .1 .1 .0) (qs .1 .1 .1 .0)) (List._∷_ (Row.lease (κs .1 .1 .1 .1 .0) (qs .1 .1 .1 .1 .0)) (List._∷_ Row.off (List._∷_ Row.off (List._∷_ Row.off List.[])))))));
+        }
 
         abbrev G8 : Row.Cx
-        G8 = record
-            { locals = List._++_ t5 t1; slots = List._∷_ (Row.lease (κs .0) (qs .0)) (List._∷_ (Row.lease (κs .1 .0) (qs .1 .0)) (List._∷_ (Row.lease (κs .1 .1 .0) (qs .1 .1 .0)) (List._∷_ (Row.lease (κs
-            .1 .1 .1 .0) (qs .1 .1 .1 .0)) (List._∷_ (Row.lease (κs .1 .1 .1 .1 .0) (qs .1 .1 .1 .1 .0)) (List._∷_ Row.off (List._∷_ Row.off (List._∷_ Row.off List.[]))))))); }
+        G8 = record {
+          locals = List._++_ t5 t1;
+          slots = List._∷_ (Row.lease (κs .0) (qs .0)) (List._∷_ (Row.lease (κs .1 .0) (qs .1 .0)) (List._∷_ (Row.lease (κs .1 .1 .0) (qs .1 .1 .0)) (List._∷_ (Row.lease (κs
+              .1 .1 .1 .0) (qs .1 .1 .1 .0)) (List._∷_ (Row.lease (κs .1 .1 .1 .1 .0) (qs .1 .1 .1 .1 .0)) (List._∷_ Row.off (List._∷_ Row.off (List._∷_ Row.off List.[])))))));
+        }
 
         abbrev G9 : Row.Cx
-        G9 = record
-            { locals = List._++_ t6 t1; slots = List._∷_ (Row.lease (κs .0) (qs .0)) (List._∷_ (Row.lease (κs .1 .0) (qs .1 .0)) (List._∷_ (Row.lease (κs .1 .1 .0) (qs .1 .1 .0)) (List._∷_ (Row.lease (κs
-            .1 .1 .1 .0) (qs .1 .1 .1 .0)) (List._∷_ (Row.lease (κs .1 .1 .1 .1 .0) (qs .1 .1 .1 .1 .0)) (List._∷_ Row.off (List._∷_ Row.off (List._∷_ Row.off List.[]))))))); }
+        G9 = record {
+          locals = List._++_ t6 t1;
+          slots = List._∷_ (Row.lease (κs .0) (qs .0)) (List._∷_ (Row.lease (κs .1 .0) (qs .1 .0)) (List._∷_ (Row.lease (κs .1 .1 .0) (qs .1 .1 .0)) (List._∷_ (Row.lease (κs
+              .1 .1 .1 .0) (qs .1 .1 .1 .0)) (List._∷_ (Row.lease (κs .1 .1 .1 .1 .0) (qs .1 .1 .1 .1 .0)) (List._∷_ Row.off (List._∷_ Row.off (List._∷_ Row.off List.[])))))));
+        }
 
         abbrev G10 : Row.Cx
-        G10 = record
-            { locals = List._++_ t0 t7; slots = List._∷_ (Row.lease (κs .0) (qs .0)) (List._∷_ (Row.lease (κs .1 .0) (qs .1 .0)) (List._∷_ (Row.lease (κs .1 .1 .0) (qs .1 .1 .0)) (List._∷_ (Row.lease (κs
-            .1 .1 .1 .0) (qs .1 .1 .1 .0)) (List._∷_ (Row.lease (κs .1 .1 .1 .1 .0) (qs .1 .1 .1 .1 .0)) (List._∷_ Row.off (List._∷_ Row.off (List._∷_ Row.off List.[]))))))); }
+        G10 = record {
+          locals = List._++_ t0 t7;
+          slots = List._∷_ (Row.lease (κs .0) (qs .0)) (List._∷_ (Row.lease (κs .1 .0) (qs .1 .0)) (List._∷_ (Row.lease (κs .1 .1 .0) (qs .1 .1 .0)) (List._∷_ (Row.lease (κs
+              .1 .1 .1 .0) (qs .1 .1 .1 .0)) (List._∷_ (Row.lease (κs .1 .1 .1 .1 .0) (qs .1 .1 .1 .1 .0)) (List._∷_ Row.off (List._∷_ Row.off (List._∷_ Row.off List.[])))))));
+        }
 
         abbrev G11 : Row.Cx
-        G11 = record
-            { locals = List._++_ t8 t1; slots = List._∷_ (Row.lease (κs .0) (qs .0)) (List._∷_ (Row.lease (κs .1 .0) (qs .1 .0)) (List._∷_ (Row.lease (κs .1 .1 .0) (qs .1 .1 .0)) (List._∷_ (Row.lease (κs
-            .1 .1 .1 .0) (qs .1 .1 .1 .0)) (List._∷_ (Row.lease (κs .1 .1 .1 .1 .0) (qs .1 .1 .1 .1 .0)) (List._∷_ Row.off (List._∷_ Row.off (List._∷_ Row.off List.[]))))))); }
+        G11 = record {
+          locals = List._++_ t8 t1;
+          slots = List._∷_ (Row.lease (κs .0) (qs .0)) (List._∷_ (Row.lease (κs .1 .0) (qs .1 .0)) (List._∷_ (Row.lease (κs .1 .1 .0) (qs .1 .1 .0)) (List._∷_ (Row.lease (κs
+              .1 .1 .1 .0) (qs .1 .1 .1 .0)) (List._∷_ (Row.lease (κs .1 .1 .1 .1 .0) (qs .1 .1 .1 .1 .0)) (List._∷_ Row.off (List._∷_ Row.off (List._∷_ Row.off List.[])))))));
+        }
 
         abbrev G12 : Row.Cx
-        G12 = record
-            { locals = List._++_ t9 t1; slots = List._∷_ (Row.lease (κs .0) (qs .0)) (List._∷_ (Row.lease (κs .1 .0) (qs .1 .0)) (List._∷_ (Row.lease (κs .1 .1 .0) (qs .1 .1 .0)) (List._∷_ (Row.lease (κs
-            .1 .1 .1 .0) (qs .1 .1 .1 .0)) (List._∷_ (Row.lease (κs .1 .1 .1 .1 .0) (qs .1 .1 .1 .1 .0)) (List._∷_ Row.off (List._∷_ Row.off (List._∷_ Row.off List.[]))))))); }
+        G12 = record {
+          locals = List._++_ t9 t1;
+          slots = List._∷_ (Row.lease (κs .0) (qs .0)) (List._∷_ (Row.lease (κs .1 .0) (qs .1 .0)) (List._∷_ (Row.lease (κs .1 .1 .0) (qs .1 .1 .0)) (List._∷_ (Row.lease (κs
+              .1 .1 .1 .0) (qs .1 .1 .1 .0)) (List._∷_ (Row.lease (κs .1 .1 .1 .1 .0) (qs .1 .1 .1 .1 .0)) (List._∷_ Row.off (List._∷_ Row.off (List._∷_ Row.off List.[])))))));
+        }
 
         abbrev G13 : Row.Cx
-        G13 = record
-            { locals = List._++_ t10 t1; slots = List._∷_ (Row.lease (κs .0) (qs .0)) (List._∷_ (Row.lease (κs .1 .0) (qs .1 .0)) (List._∷_ (Row.lease (κs .1 .1 .0) (qs .1 .1 .0)) (List._∷_ (Row.lease (κs
-            .1 .1 .1 .0) (qs .1 .1 .1 .0)) (List._∷_ (Row.lease (κs .1 .1 .1 .1 .0) (qs .1 .1 .1 .1 .0)) (List._∷_ Row.off (List._∷_ Row.off (List._∷_ Row.off List.[]))))))); }
+        G13 = record {
+          locals = List._++_ t10 t1;
+          slots = List._∷_ (Row.lease (κs .0) (qs .0)) (List._∷_ (Row.lease (κs .1 .0) (qs .1 .0)) (List._∷_ (Row.lease (κs .1 .1 .0) (qs .1 .1 .0)) (List._∷_ (Row.lease (κs
+              .1 .1 .1 .0) (qs .1 .1 .1 .0)) (List._∷_ (Row.lease (κs .1 .1 .1 .1 .0) (qs .1 .1 .1 .1 .0)) (List._∷_ Row.off (List._∷_ Row.off (List._∷_ Row.off List.[])))))));
+        }
 
         abbrev G14 : Row.Cx
-        G14 = record
-            { locals = List._++_ t11 t1; slots = List._∷_ (Row.lease (κs .0) (qs .0)) (List._∷_ (Row.lease (κs .1 .0) (qs .1 .0)) (List._∷_ (Row.lease (κs .1 .1 .0) (qs .1 .1 .0)) (List._∷_ (Row.lease (κs
-            .1 .1 .1 .0) (qs .1 .1 .1 .0)) (List._∷_ (Row.lease (κs .1 .1 .1 .1 .0) (qs .1 .1 .1 .1 .0)) (List._∷_ Row.off (List._∷_ Row.off (List._∷_ Row.off List.[]))))))); }
+        G14 = record {
+          locals = List._++_ t11 t1;
+          slots = List._∷_ (Row.lease (κs .0) (qs .0)) (List._∷_ (Row.lease (κs .1 .0) (qs .1 .0)) (List._∷_ (Row.lease (κs .1 .1 .0) (qs .1 .1 .0)) (List._∷_ (Row.lease (κs
+              .1 .1 .1 .0) (qs .1 .1 .1 .0)) (List._∷_ (Row.lease (κs .1 .1 .1 .1 .0) (qs .1 .1 .1 .1 .0)) (List._∷_ Row.off (List._∷_ Row.off (List._∷_ Row.off List.[])))))));
+        }
 
         abbrev G15 : Row.Cx
-        G15 = record
-            { locals = List._++_ t11 t1; slots = List._∷_ (Row.lease (κs .0) (qs .0)) (List._∷_ (Row.lease (κs .1 .0) (qs .1 .0)) (List._∷_ (Row.lease (κs .1 .1 .0) (qs .1 .1 .0)) (List._∷_ (Row.lease (κs
-            .1 .1 .1 .0) (qs .1 .1 .1 .0)) (List._∷_ (Row.lease (κs .1 .1 .1 .1 .0) (qs .1 .1 .1 .1 .0)) (List._∷_ Row.off (List._∷_ Row.off (List._∷_ Row.off List.[]))))))); }
+        G15 = record {
+          locals = List._++_ t11 t1;
+          slots = List._∷_ (Row.lease (κs .0) (qs .0)) (List._∷_ (Row.lease (κs .1 .0) (qs .1 .0)) (List._∷_ (Row.lease (κs .1 .1 .0) (qs .1 .1 .0)) (List._∷_ (Row.lease (κs
+              .1 .1 .1 .0) (qs .1 .1 .1 .0)) (List._∷_ (Row.lease (κs .1 .1 .1 .1 .0) (qs .1 .1 .1 .1 .0)) (List._∷_ Row.off (List._∷_ Row.off (List._∷_ Row.off List.[])))))));
+        }
 
         abbrev G16 : Row.Cx
-        G16 = record
-            { locals = List._++_ t12 t1; slots = List._∷_ (Row.lease (κs .0) (qs .0)) (List._∷_ (Row.lease (κs .1 .0) (qs .1 .0)) (List._∷_ (Row.lease (κs .1 .1 .0) (qs .1 .1 .0)) (List._∷_ (Row.lease (κs
-            .1 .1 .1 .0) (qs .1 .1 .1 .0)) (List._∷_ (Row.lease (κs .1 .1 .1 .1 .0) (qs .1 .1 .1 .1 .0)) (List._∷_ Row.off (List._∷_ Row.off (List._∷_ Row.off List.[]))))))); }
+        G16 = record {
+          locals = List._++_ t12 t1;
+          slots = List._∷_ (Row.lease (κs .0) (qs .0)) (List._∷_ (Row.lease (κs .1 .0) (qs .1 .0)) (List._∷_ (Row.lease (κs .1 .1 .0) (qs .1 .1 .0)) (List._∷_ (Row.lease (κs
+              .1 .1 .1 .0) (qs .1 .1 .1 .0)) (List._∷_ (Row.lease (κs .1 .1 .1 .1 .0) (qs .1 .1 .1 .1 .0)) (List._∷_ Row.off (List._∷_ Row.off (List._∷_ Row.off List.[])))))));
+        }
 
         abbrev G17 : Row.Cx
-        G17 = record
-            { locals = List._++_ t13 t1; slots = List._∷_ (Row.lease (κs .0) (qs .0)) (List._∷_ (Row.lease (κs .1 .0) (qs .1 .0)) (List._∷_ (Row.lease (κs .1 .1 .0) (qs .1 .1 .0)) (List._∷_ (Row.lease (κs
-            .1 .1 .1 .0) (qs .1 .1 .1 .0)) (List._∷_ (Row.lease (κs .1 .1 .1 .1 .0) (qs .1 .1 .1 .1 .0)) (List._∷_ Row.off (List._∷_ Row.off (List._∷_ Row.off List.[]))))))); }
+        G17 = record {
+          locals = List._++_ t13 t1;
+          slots = List._∷_ (Row.lease (κs .0) (qs .0)) (List._∷_ (Row.lease (κs .1 .0) (qs .1 .0)) (List._∷_ (Row.lease (κs .1 .1 .0) (qs .1 .1 .0)) (List._∷_ (Row.lease (κs
+              .1 .1 .1 .0) (qs .1 .1 .1 .0)) (List._∷_ (Row.lease (κs .1 .1 .1 .1 .0) (qs .1 .1 .1 .1 .0)) (List._∷_ Row.off (List._∷_ Row.off (List._∷_ Row.off List.[])))))));
+        }
 
         abbrev G18 : Row.Cx
-        G18 = record
-            { locals = List._++_ t13 t7; slots = List._∷_ (Row.lease (κs .0) (qs .0)) (List._∷_ (Row.lease (κs .1 .0) (qs .1 .0)) (List._∷_ (Row.lease (κs .1 .1 .0) (qs .1 .1 .0)) (List._∷_ (Row.lease (κs
-            .1 .1 .1 .0) (qs .1 .1 .1 .0)) (List._∷_ (Row.lease (κs .1 .1 .1 .1 .0) (qs .1 .1 .1 .1 .0)) (List._∷_ Row.off (List._∷_ Row.off (List._∷_ Row.off List.[]))))))); }
+        G18 = record {
+          locals = List._++_ t13 t7;
+          slots = List._∷_ (Row.lease (κs .0) (qs .0)) (List._∷_ (Row.lease (κs .1 .0) (qs .1 .0)) (List._∷_ (Row.lease (κs .1 .1 .0) (qs .1 .1 .0)) (List._∷_ (Row.lease (κs
+              .1 .1 .1 .0) (qs .1 .1 .1 .0)) (List._∷_ (Row.lease (κs .1 .1 .1 .1 .0) (qs .1 .1 .1 .1 .0)) (List._∷_ Row.off (List._∷_ Row.off (List._∷_ Row.off List.[])))))));
+        }
 
         abbrev G19 : Row.Cx
-        G19 = record
-            { locals = List._++_ t0 t7; slots = List._∷_ (Row.lease (κs .0) (qs .0)) (List._∷_ (Row.lease (κs .1 .0) (qs .1 .0)) (List._∷_ (Row.lease (κs .1 .1 .0) (qs .1 .1 .0)) (List._∷_ (Row.lease (κs
-            .1 .1 .1 .0) (qs .1 .1 .1 .0)) (List._∷_ (Row.lease (κs .1 .1 .1 .1 .0) (qs .1 .1 .1 .1 .0)) (List._∷_ Row.off (List._∷_ Row.off (List._∷_ Row.off List.[]))))))); }
+        G19 = record {
+          locals = List._++_ t0 t7;
+          slots = List._∷_ (Row.lease (κs .0) (qs .0)) (List._∷_ (Row.lease (κs .1 .0) (qs .1 .0)) (List._∷_ (Row.lease (κs .1 .1 .0) (qs .1 .1 .0)) (List._∷_ (Row.lease (κs
+              .1 .1 .1 .0) (qs .1 .1 .1 .0)) (List._∷_ (Row.lease (κs .1 .1 .1 .1 .0) (qs .1 .1 .1 .1 .0)) (List._∷_ Row.off (List._∷_ Row.off (List._∷_ Row.off List.[])))))));
+        }
 
         abbrev G20 : Row.Cx
-        G20 = record
-            { locals = List._++_ t14 t1; slots = List._∷_ (Row.lease (κs .0) (qs .0)) (List._∷_ (Row.lease (κs .1 .0) (qs .1 .0)) (List._∷_ (Row.lease (κs .1 .1 .0) (qs .1 .1 .0)) (List._∷_ (Row.lease (κs
-            .1 .1 .1 .0) (qs .1 .1 .1 .0)) (List._∷_ (Row.lease (κs .1 .1 .1 .1 .0) (qs .1 .1 .1 .1 .0)) (List._∷_ Row.off (List._∷_ Row.off (List._∷_ Row.off List.[]))))))); }
+        G20 = record {
+          locals = List._++_ t14 t1;
+          slots = List._∷_ (Row.lease (κs .0) (qs .0)) (List._∷_ (Row.lease (κs .1 .0) (qs .1 .0)) (List._∷_ (Row.lease (κs .1 .1 .0) (qs .1 .1 .0)) (List._∷_ (Row.lease (κs
+              .1 .1 .1 .0) (qs .1 .1 .1 .0)) (List._∷_ (Row.lease (κs .1 .1 .1 .1 .0) (qs .1 .1 .1 .1 .0)) (List._∷_ Row.off (List._∷_ Row.off (List._∷_ Row.off List.[])))))));
+        }
 
         abbrev G21 : Row.Cx
-        G21 = record
-            { locals = List._++_ t14 t1; slots = List._∷_ (Row.lease (κs .0) (qs .0)) (List._∷_ (Row.lease (κs .1 .0) (qs .1 .0)) (List._∷_ (Row.lease (κs .1 .1 .0) (qs .1 .1 .0)) (List._∷_ (Row.lease (κs
-            .1 .1 .1 .0) (qs .1 .1 .1 .0)) (List._∷_ (Row.lease (κs .1 .1 .1 .1 .0) (qs .1 .1 .1 .1 .0)) (List._∷_ Row.off (List._∷_ Row.off (List._∷_ Row.off List.[]))))))); }
+        G21 = record {
+          locals = List._++_ t14 t1;
+          slots = List._∷_ (Row.lease (κs .0) (qs .0)) (List._∷_ (Row.lease (κs .1 .0) (qs .1 .0)) (List._∷_ (Row.lease (κs .1 .1 .0) (qs .1 .1 .0)) (List._∷_ (Row.lease (κs
+              .1 .1 .1 .0) (qs .1 .1 .1 .0)) (List._∷_ (Row.lease (κs .1 .1 .1 .1 .0) (qs .1 .1 .1 .1 .0)) (List._∷_ Row.off (List._∷_ Row.off (List._∷_ Row.off List.[])))))));
+        }
 
         abbrev G22 : Row.Cx
-        G22 = record
-            { locals = List._++_ t15 t1; slots = List._∷_ (Row.lease (κs .0) (qs .0)) (List._∷_ (Row.lease (κs .1 .0) (qs .1 .0)) (List._∷_ (Row.lease (κs .1 .1 .0) (qs .1 .1 .0)) (List._∷_ (Row.lease (κs
-            .1 .1 .1 .0) (qs .1 .1 .1 .0)) (List._∷_ (Row.lease (κs .1 .1 .1 .1 .0) (qs .1 .1 .1 .1 .0)) (List._∷_ Row.off (List._∷_ Row.off (List._∷_ Row.off List.[]))))))); }
+        G22 = record {
+          locals = List._++_ t15 t1;
+          slots = List._∷_ (Row.lease (κs .0) (qs .0)) (List._∷_ (Row.lease (κs .1 .0) (qs .1 .0)) (List._∷_ (Row.lease (κs .1 .1 .0) (qs .1 .1 .0)) (List._∷_ (Row.lease (κs
+              .1 .1 .1 .0) (qs .1 .1 .1 .0)) (List._∷_ (Row.lease (κs .1 .1 .1 .1 .0) (qs .1 .1 .1 .1 .0)) (List._∷_ Row.off (List._∷_ Row.off (List._∷_ Row.off List.[])))))));
+        }
 
         abbrev G23 : Row.Cx
-        G23 = record
-            { locals = List._++_ t16 t1; slots = List._∷_ (Row.lease (κs .0) (qs .0)) (List._∷_ (Row.lease (κs .1 .0) (qs .1 .0)) (List._∷_ (Row.lease (κs .1 .1 .0) (qs .1 .1 .0)) (List._∷_ (Row.lease (κs
-            .1 .1 .1 .0) (qs .1 .1 .1 .0)) (List._∷_ (Row.lease (κs .1 .1 .1 .1 .0) (qs .1 .1 .1 .1 .0)) (List._∷_ Row.off (List._∷_ Row.off (List._∷_ Row.off List.[]))))))); }
+        G23 = record {
+          locals = List._++_ t16 t1;
+          slots = List._∷_ (Row.lease (κs .0) (qs .0)) (List._∷_ (Row.lease (κs .1 .0) (qs .1 .0)) (List._∷_ (Row.lease (κs .1 .1 .0) (qs .1 .1 .0)) (List._∷_ (Row.lease (κs
+              .1 .1 .1 .0) (qs .1 .1 .1 .0)) (List._∷_ (Row.lease (κs .1 .1 .1 .1 .0) (qs .1 .1 .1 .1 .0)) (List._∷_ Row.off (List._∷_ Row.off (List._∷_ Row.off List.[])))))));
+        }
 
         abbrev G24 : Row.Cx
-        G24 = record
-            { locals = List._++_ t17 t1; slots = List._∷_ (Row.lease (κs .0) (qs .0)) (List._∷_ (Row.lease (κs .1 .0) (qs .1 .0)) (List._∷_ (Row.lease (κs .1 .1 .0) (qs .1 .1 .0)) (List._∷_ (Row.lease (κs
-            .1 .1 .1 .0) (qs .1 .1 .1 .0)) (List._∷_ (Row.lease (κs .1 .1 .1 .1 .0) (qs .1 .1 .1 .1 .0)) (List._∷_ Row.off (List._∷_ Row.off (List._∷_ Row.off List.[]))))))); }
+        G24 = record {
+          locals = List._++_ t17 t1;
+          slots = List._∷_ (Row.lease (κs .0) (qs .0)) (List._∷_ (Row.lease (κs .1 .0) (qs .1 .0)) (List._∷_ (Row.lease (κs .1 .1 .0) (qs .1 .1 .0)) (List._∷_ (Row.lease (κs
+              .1 .1 .1 .0) (qs .1 .1 .1 .0)) (List._∷_ (Row.lease (κs .1 .1 .1 .1 .0) (qs .1 .1 .1 .1 .0)) (List._∷_ Row.off (List._∷_ Row.off (List._∷_ Row.off List.[])))))));
+        }
 
         abbrev G25 : Row.Cx
-        G25 = record
-            { locals = List._++_ t18 t1; slots = List._∷_ (Row.lease (κs .0) (qs .0)) (List._∷_ (Row.lease (κs .1 .0) (qs .1 .0)) (List._∷_ (Row.lease (κs .1 .1 .0) (qs .1 .1 .0)) (List._∷_ (Row.lease (κs
-            .1 .1 .1 .0) (qs .1 .1 .1 .0)) (List._∷_ (Row.lease (κs .1 .1 .1 .1 .0) (qs .1 .1 .1 .1 .0)) (List._∷_ Row.off (List._∷_ Row.off (List._∷_ Row.off List.[]))))))); }
+        G25 = record {
+          locals = List._++_ t18 t1;
+          slots = List._∷_ (Row.lease (κs .0) (qs .0)) (List._∷_ (Row.lease (κs .1 .0) (qs .1 .0)) (List._∷_ (Row.lease (κs .1 .1 .0) (qs .1 .1 .0)) (List._∷_ (Row.lease (κs
+              .1 .1 .1 .0) (qs .1 .1 .1 .0)) (List._∷_ (Row.lease (κs .1 .1 .1 .1 .0) (qs .1 .1 .1 .1 .0)) (List._∷_ Row.off (List._∷_ Row.off (List._∷_ Row.off List.[])))))));
+        }
 
         abbrev G26 : Row.Cx
-        G26 = record
-            { locals = List._++_ t19 t1; slots = List._∷_ (Row.lease (κs .0) (qs .0)) (List._∷_ (Row.lease (κs .1 .0) (qs .1 .0)) (List._∷_ (Row.lease (κs .1 .1 .0) (qs .1 .1 .0)) (List._∷_ (Row.lease (κs
-            .1 .1 .1 .0) (qs .1 .1 .1 .0)) (List._∷_ (Row.lease (κs .1 .1 .1 .1 .0) (qs .1 .1 .1 .1 .0)) (List._∷_ Row.off (List._∷_ Row.off (List._∷_ Row.off List.[]))))))); }
+        G26 = record {
+          locals = List._++_ t19 t1;
+          slots = List._∷_ (Row.lease (κs .0) (qs .0)) (List._∷_ (Row.lease (κs .1 .0) (qs .1 .0)) (List._∷_ (Row.lease (κs .1 .1 .0) (qs .1 .1 .0)) (List._∷_ (Row.lease (κs
+              .1 .1 .1 .0) (qs .1 .1 .1 .0)) (List._∷_ (Row.lease (κs .1 .1 .1 .1 .0) (qs .1 .1 .1 .1 .0)) (List._∷_ Row.off (List._∷_ Row.off (List._∷_ Row.off List.[])))))));
+        }
 
         abbrev G27 : Row.Cx
-        G27 = record
-            { locals = List._++_ t20 t1; slots = List._∷_ (Row.lease (κs .0) (qs .0)) (List._∷_ (Row.lease (κs .1 .0) (qs .1 .0)) (List._∷_ (Row.lease (κs .1 .1 .0) (qs .1 .1 .0)) (List._∷_ (Row.lease (κs
-            .1 .1 .1 .0) (qs .1 .1 .1 .0)) (List._∷_ (Row.lease (κs .1 .1 .1 .1 .0) (qs .1 .1 .1 .1 .0)) (List._∷_ Row.off (List._∷_ Row.off (List._∷_ Row.off List.[]))))))); }
+        G27 = record {
+          locals = List._++_ t20 t1;
+          slots = List._∷_ (Row.lease (κs .0) (qs .0)) (List._∷_ (Row.lease (κs .1 .0) (qs .1 .0)) (List._∷_ (Row.lease (κs .1 .1 .0) (qs .1 .1 .0)) (List._∷_ (Row.lease (κs
+              .1 .1 .1 .0) (qs .1 .1 .1 .0)) (List._∷_ (Row.lease (κs .1 .1 .1 .1 .0) (qs .1 .1 .1 .1 .0)) (List._∷_ Row.off (List._∷_ Row.off (List._∷_ Row.off List.[])))))));
+        }
 
         abbrev G28 : Row.Cx
-        G28 = record
-            { locals = List._++_ t20 t1; slots = List._∷_ (Row.lease (κs .0) (qs .0)) (List._∷_ (Row.lease (κs .1 .0) (qs .1 .0)) (List._∷_ (Row.lease (κs .1 .1 .0) (qs .1 .1 .0)) (List._∷_ (Row.lease (κs
-            .1 .1 .1 .0) (qs .1 .1 .1 .0)) (List._∷_ (Row.lease (κs .1 .1 .1 .1 .0) (qs .1 .1 .1 .1 .0)) (List._∷_ Row.alive (List._∷_ Row.off (List._∷_ Row.off List.[]))))))); }
+        G28 = record {
+          locals = List._++_ t20 t1;
+          slots = List._∷_ (Row.lease (κs .0) (qs .0)) (List._∷_ (Row.lease (κs .1 .0) (qs .1 .0)) (List._∷_ (Row.lease (κs .1 .1 .0) (qs .1 .1 .0)) (List._∷_ (Row.lease (κs
+              .1 .1 .1 .0) (qs .1 .1 .1 .0)) (List._∷_ (Row.lease (κs .1 .1 .1 .1 .0) (qs .1 .1 .1 .1 .0)) (List._∷_ Row.alive (List._∷_ Row.off (List._∷_ Row.off List.[])))))));
+        }
 
         abbrev G29 : Row.Cx
-        G29 = record
-            { locals = List._++_ g21 t22; slots = List._∷_ (Row.lease (κs .0) (qs .0)) (List._∷_ (Row.lease (κs .1 .0) (qs .1 .0)) (List._∷_ Row.off (List._∷_ (Row.lease (κs .1 .1 .1 .0) (qs .1 .1 .1 .0))
-            (List._∷_ (Row.lease (κs .1 .1 .1 .1 .0) (qs .1 .1 .1 .1 .0)) (List._∷_ Row.alive (List._∷_ Row.off (List._∷_ Row.off List.[]))))))); }
+        G29 = record {
+          locals = List._++_ g21 t22;
+          slots = List._∷_ (Row.lease (κs .0) (qs .0)) (List._∷_ (Row.lease (κs .1 .0) (qs .1 .0)) (List._∷_ Row.off (List._∷_ (Row.lease (κs .1 .1 .1 .0) (qs .1 .1 .1 .0))
+              (List._∷_ (Row.lease (κs .1 .1 .1 .1 .0) (qs .1 .1 .1 .1 .0)) (List._∷_ Row.alive (List._∷_ Row.off (List._∷_ Row.off List.[])))))));
+        }
 
         abbrev G30 : Row.Cx
-        G30 = record
-            { locals = List._++_ g21 t23; slots = List._∷_ (Row.lease (κs .0) (qs .0)) (List._∷_ (Row.lease (κs .1 .0) (qs .1 .0)) (List._∷_ Row.off (List._∷_ (Row.lease (κs .1 .1 .1 .0) (qs .1 .1 .1 .0))
-            (List._∷_ (Row.lease (κs .1 .1 .1 .1 .0) (qs .1 .1 .1 .1 .0)) (List._∷_ Row.alive (List._∷_ Row.off (List._∷_ Row.off List.[]))))))); }
+        G30 = record {
+          locals = List._++_ g21 t23;
+          slots = List._∷_ (Row.lease (κs .0) (qs .0)) (List._∷_ (Row.lease (κs .1 .0) (qs .1 .0)) (List._∷_ Row.off (List._∷_ (Row.lease (κs .1 .1 .1 .0) (qs .1 .1 .1 .0))
+              (List._∷_ (Row.lease (κs .1 .1 .1 .1 .0) (qs .1 .1 .1 .1 .0)) (List._∷_ Row.alive (List._∷_ Row.off (List._∷_ Row.off List.[])))))));
+        }
 
         abbrev G31 : Row.Cx
-        G31 = record
-            { locals = List._++_ g21 t24; slots = List._∷_ (Row.lease (κs .0) (qs .0)) (List._∷_ (Row.lease (κs .1 .0) (qs .1 .0)) (List._∷_ Row.off (List._∷_ (Row.lease (κs .1 .1 .1 .0) (qs .1 .1 .1 .0))
-            (List._∷_ (Row.lease (κs .1 .1 .1 .1 .0) (qs .1 .1 .1 .1 .0)) (List._∷_ Row.alive (List._∷_ Row.off (List._∷_ Row.off List.[]))))))); }
+        G31 = record {
+          locals = List._++_ g21 t24;
+          slots = List._∷_ (Row.lease (κs .0) (qs .0)) (List._∷_ (Row.lease (κs .1 .0) (qs .1 .0)) (List._∷_ Row.off (List._∷_ (Row.lease (κs .1 .1 .1 .0) (qs .1 .1 .1 .0))
+              (List._∷_ (Row.lease (κs .1 .1 .1 .1 .0) (qs .1 .1 .1 .1 .0)) (List._∷_ Row.alive (List._∷_ Row.off (List._∷_ Row.off List.[])))))));
+        }
 
         abbrev G32 : Row.Cx
-        G32 = record
-            { locals = List._++_ g21 t25; slots = List._∷_ (Row.lease (κs .0) (qs .0)) (List._∷_ (Row.lease (κs .1 .0) (qs .1 .0)) (List._∷_ Row.off (List._∷_ (Row.lease (κs .1 .1 .1 .0) (qs .1 .1 .1 .0))
-            (List._∷_ (Row.lease (κs .1 .1 .1 .1 .0) (qs .1 .1 .1 .1 .0)) (List._∷_ Row.alive (List._∷_ Row.off (List._∷_ Row.off List.[]))))))); }
+        G32 = record {
+          locals = List._++_ g21 t25;
+          slots = List._∷_ (Row.lease (κs .0) (qs .0)) (List._∷_ (Row.lease (κs .1 .0) (qs .1 .0)) (List._∷_ Row.off (List._∷_ (Row.lease (κs .1 .1 .1 .0) (qs .1 .1 .1 .0))
+              (List._∷_ (Row.lease (κs .1 .1 .1 .1 .0) (qs .1 .1 .1 .1 .0)) (List._∷_ Row.alive (List._∷_ Row.off (List._∷_ Row.off List.[])))))));
+        }
 
         abbrev G33 : Row.Cx
-        G33 = record
-            { locals = List._++_ g21 t25; slots = List._∷_ (Row.lease (κs .0) (qs .0)) (List._∷_ (Row.lease (κs .1 .0) (qs .1 .0)) (List._∷_ Row.off (List._∷_ (Row.lease (κs .1 .1 .1 .0) (qs .1 .1 .1 .0))
-            (List._∷_ (Row.lease (κs .1 .1 .1 .1 .0) (qs .1 .1 .1 .1 .0)) (List._∷_ Row.alive (List._∷_ Row.alive (List._∷_ Row.off List.[]))))))); }
+        G33 = record {
+          locals = List._++_ g21 t25;
+          slots = List._∷_ (Row.lease (κs .0) (qs .0)) (List._∷_ (Row.lease (κs .1 .0) (qs .1 .0)) (List._∷_ Row.off (List._∷_ (Row.lease (κs .1 .1 .1 .0) (qs .1 .1 .1 .0))
+              (List._∷_ (Row.lease (κs .1 .1 .1 .1 .0) (qs .1 .1 .1 .1 .0)) (List._∷_ Row.alive (List._∷_ Row.alive (List._∷_ Row.off List.[])))))));
+        }
 
         abbrev G34 : Row.Cx
-        G34 = record
-            { locals = List._++_ g26 t27; slots = List._∷_ (Row.lease (κs .0) (qs .0)) (List._∷_ (Row.lease (κs .1 .0) (qs .1 .0)) (List._∷_ Row.off (List._∷_ Row.off (List._∷_ (Row.lease (κs .1 .1 .1 .1
-            .0) (qs .1 .1 .1 .1 .0)) (List._∷_ Row.alive (List._∷_ Row.alive (List._∷_ Row.off List.[]))))))); }
+        G34 = record {
+          locals = List._++_ g26 t27;
+          slots = List._∷_ (Row.lease (κs .0) (qs .0)) (List._∷_ (Row.lease (κs .1 .0) (qs .1 .0)) (List._∷_ Row.off (List._∷_ Row.off (List._∷_ (Row.lease (κs .1 .1 .1 .1
+              .0) (qs .1 .1 .1 .1 .0)) (List._∷_ Row.alive (List._∷_ Row.alive (List._∷_ Row.off List.[])))))));
+        }
 
         abbrev G35 : Row.Cx
-        G35 = record
-            { locals = List._++_ g26 t28; slots = List._∷_ (Row.lease (κs .0) (qs .0)) (List._∷_ (Row.lease (κs .1 .0) (qs .1 .0)) (List._∷_ Row.off (List._∷_ Row.off (List._∷_ (Row.lease (κs .1 .1 .1 .1
-            .0) (qs .1 .1 .1 .1 .0)) (List._∷_ Row.alive (List._∷_ Row.alive (List._∷_ Row.off List.[]))))))); }
+        G35 = record {
+          locals = List._++_ g26 t28;
+          slots = List._∷_ (Row.lease (κs .0) (qs .0)) (List._∷_ (Row.lease (κs .1 .0) (qs .1 .0)) (List._∷_ Row.off (List._∷_ Row.off (List._∷_ (Row.lease (κs .1 .1 .1 .1
+              .0) (qs .1 .1 .1 .1 .0)) (List._∷_ Row.alive (List._∷_ Row.alive (List._∷_ Row.off List.[])))))));
+        }
 
         abbrev G36 : Row.Cx
-        G36 = record
-            { locals = List._++_ g26 t29; slots = List._∷_ (Row.lease (κs .0) (qs .0)) (List._∷_ (Row.lease (κs .1 .0) (qs .1 .0)) (List._∷_ Row.off (List._∷_ Row.off (List._∷_ (Row.lease (κs .1 .1 .1 .1
-            .0) (qs .1 .1 .1 .1 .0)) (List._∷_ Row.alive (List._∷_ Row.alive (List._∷_ Row.off List.[]))))))); }
+        G36 = record {
+          locals = List._++_ g26 t29;
+          slots = List._∷_ (Row.lease (κs .0) (qs .0)) (List._∷_ (Row.lease (κs .1 .0) (qs .1 .0)) (List._∷_ Row.off (List._∷_ Row.off (List._∷_ (Row.lease (κs .1 .1 .1 .1
+              .0) (qs .1 .1 .1 .1 .0)) (List._∷_ Row.alive (List._∷_ Row.alive (List._∷_ Row.off List.[])))))));
+        }
 
         abbrev G37 : Row.Cx
-        G37 = record
-            { locals = List._++_ g26 t30; slots = List._∷_ (Row.lease (κs .0) (qs .0)) (List._∷_ (Row.lease (κs .1 .0) (qs .1 .0)) (List._∷_ Row.off (List._∷_ Row.off (List._∷_ (Row.lease (κs .1 .1 .1 .1
-            .0) (qs .1 .1 .1 .1 .0)) (List._∷_ Row.alive (List._∷_ Row.alive (List._∷_ Row.off List.[]))))))); }
+        G37 = record {
+          locals = List._++_ g26 t30;
+          slots = List._∷_ (Row.lease (κs .0) (qs .0)) (List._∷_ (Row.lease (κs .1 .0) (qs .1 .0)) (List._∷_ Row.off (List._∷_ Row.off (List._∷_ (Row.lease (κs .1 .1 .1 .1
+              .0) (qs .1 .1 .1 .1 .0)) (List._∷_ Row.alive (List._∷_ Row.alive (List._∷_ Row.off List.[])))))));
+        }
 
         abbrev G38 : Row.Cx
-        G38 = record
-            { locals = List._++_ g26 t31; slots = List._∷_ (Row.lease (κs .0) (qs .0)) (List._∷_ (Row.lease (κs .1 .0) (qs .1 .0)) (List._∷_ Row.off (List._∷_ Row.off (List._∷_ (Row.lease (κs .1 .1 .1 .1
-            .0) (qs .1 .1 .1 .1 .0)) (List._∷_ Row.alive (List._∷_ Row.alive (List._∷_ Row.off List.[]))))))); }
+        G38 = record {
+          locals = List._++_ g26 t31;
+          slots = List._∷_ (Row.lease (κs .0) (qs .0)) (List._∷_ (Row.lease (κs .1 .0) (qs .1 .0)) (List._∷_ Row.off (List._∷_ Row.off (List._∷_ (Row.lease (κs .1 .1 .1 .1
+              .0) (qs .1 .1 .1 .1 .0)) (List._∷_ Row.alive (List._∷_ Row.alive (List._∷_ Row.off List.[])))))));
+        }
 
         abbrev G39 : Row.Cx
-        G39 = record
-            { locals = List._++_ g26 t32; slots = List._∷_ (Row.lease (κs .0) (qs .0)) (List._∷_ (Row.lease (κs .1 .0) (qs .1 .0)) (List._∷_ Row.off (List._∷_ Row.off (List._∷_ (Row.lease (κs .1 .1 .1 .1
-            .0) (qs .1 .1 .1 .1 .0)) (List._∷_ Row.alive (List._∷_ Row.alive (List._∷_ Row.off List.[]))))))); }
+        G39 = record {
+          locals = List._++_ g26 t32;
+          slots = List._∷_ (Row.lease (κs .0) (qs .0)) (List._∷_ (Row.lease (κs .1 .0) (qs .1 .0)) (List._∷_ Row.off (List._∷_ Row.off (List._∷_ (Row.lease (κs .1 .1 .1 .1
+              .0) (qs .1 .1 .1 .1 .0)) (List._∷_ Row.alive (List._∷_ Row.alive (List._∷_ Row.off List.[])))))));
+        }
 
         abbrev G40 : Row.Cx
-        G40 = record
-            { locals = List._++_ g26 t32; slots = List._∷_ (Row.lease (κs .0) (qs .0)) (List._∷_ (Row.lease (κs .1 .0) (qs .1 .0)) (List._∷_ Row.off (List._∷_ Row.off (List._∷_ (Row.lease (κs .1 .1 .1 .1
-            .0) (qs .1 .1 .1 .1 .0)) (List._∷_ Row.alive (List._∷_ Row.alive (List._∷_ Row.alive List.[]))))))); }
+        G40 = record {
+          locals = List._++_ g26 t32;
+          slots = List._∷_ (Row.lease (κs .0) (qs .0)) (List._∷_ (Row.lease (κs .1 .0) (qs .1 .0)) (List._∷_ Row.off (List._∷_ Row.off (List._∷_ (Row.lease (κs .1 .1 .1 .1
+              .0) (qs .1 .1 .1 .1 .0)) (List._∷_ Row.alive (List._∷_ Row.alive (List._∷_ Row.alive List.[])))))));
+        }
 
         abbrev G41 : Row.Cx
-        G41 = record
-            { locals = List._++_ g33 t34; slots = List._∷_ (Row.lease (κs .0) (qs .0)) (List._∷_ (Row.lease (κs .1 .0) (qs .1 .0)) (List._∷_ Row.off (List._∷_ Row.off (List._∷_ Row.off (List._∷_ Row.alive
-            (List._∷_ Row.alive (List._∷_ Row.alive List.[]))))))); }
+        G41 = record {
+          locals = List._++_ g33 t34;
+          slots = List._∷_ (Row.lease (κs .0) (qs .0)) (List._∷_ (Row.lease (κs .1 .0) (qs .1 .0)) (List._∷_ Row.off (List._∷_ Row.off (List._∷_ Row.off (List._∷_ Row.alive
+              (List._∷_ Row.alive (List._∷_ Row.alive List.[])))))));
+        }
 
         abbrev G42 : Row.Cx
-        G42 = record
-            { locals = List._++_ g33 t35; slots = List._∷_ (Row.lease (κs .0) (qs .0)) (List._∷_ (Row.lease (κs .1 .0) (qs .1 .0)) (List._∷_ Row.off (List._∷_ Row.off (List._∷_ Row.off (List._∷_ Row.alive
-            (List._∷_ Row.alive (List._∷_ Row.alive List.[]))))))); }
+        G42 = record {
+          locals = List._++_ g33 t35;
+          slots = List._∷_ (Row.lease (κs .0) (qs .0)) (List._∷_ (Row.lease (κs .1 .0) (qs .1 .0)) (List._∷_ Row.off (List._∷_ Row.off (List._∷_ Row.off (List._∷_ Row.alive
+              (List._∷_ Row.alive (List._∷_ Row.alive List.[])))))));
+        }
 
         abbrev G43 : Row.Cx
-        G43 = record
-            { locals = List._++_ g33 t36; slots = List._∷_ (Row.lease (κs .0) (qs .0)) (List._∷_ (Row.lease (κs .1 .0) (qs .1 .0)) (List._∷_ Row.off (List._∷_ Row.off (List._∷_ Row.off (List._∷_ Row.alive
-            (List._∷_ Row.alive (List._∷_ Row.alive List.[]))))))); }
+        G43 = record {
+          locals = List._++_ g33 t36;
+          slots = List._∷_ (Row.lease (κs .0) (qs .0)) (List._∷_ (Row.lease (κs .1 .0) (qs .1 .0)) (List._∷_ Row.off (List._∷_ Row.off (List._∷_ Row.off (List._∷_ Row.alive
+              (List._∷_ Row.alive (List._∷_ Row.alive List.[])))))));
+        }
 
         abbrev G44 : Row.Cx
-        G44 = record
-            { locals = List._++_ g33 t37; slots = List._∷_ (Row.lease (κs .0) (qs .0)) (List._∷_ (Row.lease (κs .1 .0) (qs .1 .0)) (List._∷_ Row.off (List._∷_ Row.off (List._∷_ Row.off (List._∷_ Row.alive
-            (List._∷_ Row.alive (List._∷_ Row.alive List.[]))))))); }
+        G44 = record {
+          locals = List._++_ g33 t37;
+          slots = List._∷_ (Row.lease (κs .0) (qs .0)) (List._∷_ (Row.lease (κs .1 .0) (qs .1 .0)) (List._∷_ Row.off (List._∷_ Row.off (List._∷_ Row.off (List._∷_ Row.alive
+              (List._∷_ Row.alive (List._∷_ Row.alive List.[])))))));
+        }
 
         abbrev G45 : Row.Cx
-        G45 = record
-            { locals = List._++_ g33 t38; slots = List._∷_ (Row.lease (κs .0) (qs .0)) (List._∷_ (Row.lease (κs .1 .0) (qs .1 .0)) (List._∷_ Row.off (List._∷_ Row.off (List._∷_ Row.off (List._∷_ Row.alive
-            (List._∷_ Row.alive (List._∷_ Row.alive List.[]))))))); }
+        G45 = record {
+          locals = List._++_ g33 t38;
+          slots = List._∷_ (Row.lease (κs .0) (qs .0)) (List._∷_ (Row.lease (κs .1 .0) (qs .1 .0)) (List._∷_ Row.off (List._∷_ Row.off (List._∷_ Row.off (List._∷_ Row.alive
+              (List._∷_ Row.alive (List._∷_ Row.alive List.[])))))));
+        }
 
         abbrev G46 : Row.Cx
-        G46 = record
-            { locals = List._++_ g33 t39; slots = List._∷_ (Row.lease (κs .0) (qs .0)) (List._∷_ (Row.lease (κs .1 .0) (qs .1 .0)) (List._∷_ Row.off (List._∷_ Row.off (List._∷_ Row.off (List._∷_ Row.alive
-            (List._∷_ Row.alive (List._∷_ Row.alive List.[]))))))); }
+        G46 = record {
+          locals = List._++_ g33 t39;
+          slots = List._∷_ (Row.lease (κs .0) (qs .0)) (List._∷_ (Row.lease (κs .1 .0) (qs .1 .0)) (List._∷_ Row.off (List._∷_ Row.off (List._∷_ Row.off (List._∷_ Row.alive
+              (List._∷_ Row.alive (List._∷_ Row.alive List.[])))))));
+        }
 
         abbrev G47 : Row.Cx
-        G47 = record
-            { locals = List._++_ g33 t40; slots = List._∷_ (Row.lease (κs .0) (qs .0)) (List._∷_ (Row.lease (κs .1 .0) (qs .1 .0)) (List._∷_ Row.off (List._∷_ Row.off (List._∷_ Row.off (List._∷_ Row.alive
-            (List._∷_ Row.alive (List._∷_ Row.alive List.[]))))))); }
+        G47 = record {
+          locals = List._++_ g33 t40;
+          slots = List._∷_ (Row.lease (κs .0) (qs .0)) (List._∷_ (Row.lease (κs .1 .0) (qs .1 .0)) (List._∷_ Row.off (List._∷_ Row.off (List._∷_ Row.off (List._∷_ Row.alive
+              (List._∷_ Row.alive (List._∷_ Row.alive List.[])))))));
+        }
 
         abbrev G48 : Row.Cx
-        G48 = record
-            { locals = List._++_ g33 t41; slots = List._∷_ (Row.lease (κs .0) (qs .0)) (List._∷_ (Row.lease (κs .1 .0) (qs .1 .0)) (List._∷_ Row.off (List._∷_ Row.off (List._∷_ Row.off (List._∷_ Row.alive
-            (List._∷_ Row.alive (List._∷_ Row.alive List.[]))))))); }
+        G48 = record {
+          locals = List._++_ g33 t41;
+          slots = List._∷_ (Row.lease (κs .0) (qs .0)) (List._∷_ (Row.lease (κs .1 .0) (qs .1 .0)) (List._∷_ Row.off (List._∷_ Row.off (List._∷_ Row.off (List._∷_ Row.alive
+              (List._∷_ Row.alive (List._∷_ Row.alive List.[])))))));
+        }
 
         abbrev G49 : Row.Cx
-        G49 = record
-            { locals = List._++_ g33 t42; slots = List._∷_ (Row.lease (κs .0) (qs .0)) (List._∷_ (Row.lease (κs .1 .0) (qs .1 .0)) (List._∷_ Row.off (List._∷_ Row.off (List._∷_ Row.off (List._∷_ Row.alive
-            (List._∷_ Row.alive (List._∷_ Row.alive List.[]))))))); }
+        G49 = record {
+          locals = List._++_ g33 t42;
+          slots = List._∷_ (Row.lease (κs .0) (qs .0)) (List._∷_ (Row.lease (κs .1 .0) (qs .1 .0)) (List._∷_ Row.off (List._∷_ Row.off (List._∷_ Row.off (List._∷_ Row.alive
+              (List._∷_ Row.alive (List._∷_ Row.alive List.[])))))));
+        }
 
         abbrev G50 : Row.Cx
-        G50 = record
-            { locals = List._++_ g33 t43; slots = List._∷_ (Row.lease (κs .0) (qs .0)) (List._∷_ (Row.lease (κs .1 .0) (qs .1 .0)) (List._∷_ Row.off (List._∷_ Row.off (List._∷_ Row.off (List._∷_ Row.alive
-            (List._∷_ Row.alive (List._∷_ Row.alive List.[]))))))); }
+        G50 = record {
+          locals = List._++_ g33 t43;
+          slots = List._∷_ (Row.lease (κs .0) (qs .0)) (List._∷_ (Row.lease (κs .1 .0) (qs .1 .0)) (List._∷_ Row.off (List._∷_ Row.off (List._∷_ Row.off (List._∷_ Row.alive
+              (List._∷_ Row.alive (List._∷_ Row.alive List.[])))))));
+        }
 
         abbrev G51 : Row.Cx
-        G51 = record
-            { locals = List._++_ g33 t44; slots = List._∷_ (Row.lease (κs .0) (qs .0)) (List._∷_ (Row.lease (κs .1 .0) (qs .1 .0)) (List._∷_ Row.off (List._∷_ Row.off (List._∷_ Row.off (List._∷_ Row.alive
-            (List._∷_ Row.alive (List._∷_ Row.alive List.[]))))))); }
+        G51 = record {
+          locals = List._++_ g33 t44;
+          slots = List._∷_ (Row.lease (κs .0) (qs .0)) (List._∷_ (Row.lease (κs .1 .0) (qs .1 .0)) (List._∷_ Row.off (List._∷_ Row.off (List._∷_ Row.off (List._∷_ Row.alive
+              (List._∷_ Row.alive (List._∷_ Row.alive List.[])))))));
+        }
 
         abbrev G52 : Row.Cx
-        G52 = record
-            { locals = List._++_ g33 t45; slots = List._∷_ (Row.lease (κs .0) (qs .0)) (List._∷_ (Row.lease (κs .1 .0) (qs .1 .0)) (List._∷_ Row.off (List._∷_ Row.off (List._∷_ Row.off (List._∷_ Row.alive
-            (List._∷_ Row.alive (List._∷_ Row.alive List.[]))))))); }
+        G52 = record {
+          locals = List._++_ g33 t45;
+          slots = List._∷_ (Row.lease (κs .0) (qs .0)) (List._∷_ (Row.lease (κs .1 .0) (qs .1 .0)) (List._∷_ Row.off (List._∷_ Row.off (List._∷_ Row.off (List._∷_ Row.alive
+              (List._∷_ Row.alive (List._∷_ Row.alive List.[])))))));
+        }
 
         abbrev G53 : Row.Cx
-        G53 = record
-            { locals = List._++_ g46 t45; slots = List._∷_ (Row.lease (κs .0) (qs .0)) (List._∷_ (Row.lease (κs .1 .0) (qs .1 .0)) (List._∷_ Row.off (List._∷_ Row.off (List._∷_ Row.off (List._∷_ Row.alive
-            (List._∷_ Row.alive (List._∷_ Row.alive List.[]))))))); }
+        G53 = record {
+          locals = List._++_ g46 t45;
+          slots = List._∷_ (Row.lease (κs .0) (qs .0)) (List._∷_ (Row.lease (κs .1 .0) (qs .1 .0)) (List._∷_ Row.off (List._∷_ Row.off (List._∷_ Row.off (List._∷_ Row.alive
+              (List._∷_ Row.alive (List._∷_ Row.alive List.[])))))));
+        }
 
         abbrev G54 : Row.Cx
-        G54 = record
-            { locals = List._++_ g47 t45; slots = List._∷_ (Row.lease (κs .0) (qs .0)) (List._∷_ (Row.lease (κs .1 .0) (qs .1 .0)) (List._∷_ Row.off (List._∷_ Row.off (List._∷_ Row.off (List._∷_ Row.alive
-            (List._∷_ Row.alive (List._∷_ Row.alive List.[]))))))); }
+        G54 = record {
+          locals = List._++_ g47 t45;
+          slots = List._∷_ (Row.lease (κs .0) (qs .0)) (List._∷_ (Row.lease (κs .1 .0) (qs .1 .0)) (List._∷_ Row.off (List._∷_ Row.off (List._∷_ Row.off (List._∷_ Row.alive
+              (List._∷_ Row.alive (List._∷_ Row.alive List.[])))))));
+        }
 
         abbrev G55 : Row.Cx
-        G55 = record
-            { locals = List._++_ g48 t45; slots = List._∷_ (Row.lease (κs .0) (qs .0)) (List._∷_ (Row.lease (κs .1 .0) (qs .1 .0)) (List._∷_ Row.off (List._∷_ Row.off (List._∷_ Row.off (List._∷_ Row.alive
-            (List._∷_ Row.alive (List._∷_ Row.alive List.[]))))))); }
+        G55 = record {
+          locals = List._++_ g48 t45;
+          slots = List._∷_ (Row.lease (κs .0) (qs .0)) (List._∷_ (Row.lease (κs .1 .0) (qs .1 .0)) (List._∷_ Row.off (List._∷_ Row.off (List._∷_ Row.off (List._∷_ Row.alive
+              (List._∷_ Row.alive (List._∷_ Row.alive List.[])))))));
+        }
 
         abbrev G56 : Row.Cx
-        G56 = record
-            { locals = List._++_ g48 t45; slots = List._∷_ (Row.lease (κs .0) (qs .0)) (List._∷_ (Row.lease (κs .1 .0) (qs .1 .0)) (List._∷_ Row.off (List._∷_ Row.off (List._∷_ Row.off (List._∷_ Row.dead
-            (List._∷_ Row.alive (List._∷_ Row.alive List.[]))))))); }
+        G56 = record {
+          locals = List._++_ g48 t45;
+          slots = List._∷_ (Row.lease (κs .0) (qs .0)) (List._∷_ (Row.lease (κs .1 .0) (qs .1 .0)) (List._∷_ Row.off (List._∷_ Row.off (List._∷_ Row.off (List._∷_ Row.dead
+              (List._∷_ Row.alive (List._∷_ Row.alive List.[])))))));
+        }
 
         abbrev G57 : Row.Cx
-        G57 = record
-            { locals = List._++_ g49 t50; slots = List._∷_ (Row.lease (κs .0) (qs .0)) (List._∷_ (Row.lease (κs .1 .0) (qs .1 .0)) (List._∷_ (Row.lease (κs .1 .1 .0) (qs .1 .1 .0)) (List._∷_ Row.off
-            (List._∷_ Row.off (List._∷_ Row.dead (List._∷_ Row.alive (List._∷_ Row.alive List.[]))))))); }
+        G57 = record {
+          locals = List._++_ g49 t50;
+          slots = List._∷_ (Row.lease (κs .0) (qs .0)) (List._∷_ (Row.lease (κs .1 .0) (qs .1 .0)) (List._∷_ (Row.lease (κs .1 .1 .0) (qs .1 .1 .0)) (List._∷_ Row.off
+              (List._∷_ Row.off (List._∷_ Row.dead (List._∷_ Row.alive (List._∷_ Row.alive List.[])))))));
+        }
 
         abbrev G58 : Row.Cx
-        G58 = record
-            { locals = List._++_ g49 t50; slots = List._∷_ (Row.lease (κs .0) (qs .0)) (List._∷_ (Row.lease (κs .1 .0) (qs .1 .0)) (List._∷_ (Row.lease (κs .1 .1 .0) (qs .1 .1 .0)) (List._∷_ Row.off
-            (List._∷_ Row.off (List._∷_ Row.dead (List._∷_ Row.alive (List._∷_ Row.alive List.[]))))))); }
+        G58 = record {
+          locals = List._++_ g49 t50;
+          slots = List._∷_ (Row.lease (κs .0) (qs .0)) (List._∷_ (Row.lease (κs .1 .0) (qs .1 .0)) (List._∷_ (Row.lease (κs .1 .1 .0) (qs .1 .1 .0)) (List._∷_ Row.off
+              (List._∷_ Row.off (List._∷_ Row.dead (List._∷_ Row.alive (List._∷_ Row.alive List.[])))))));
+        }
 
         abbrev G59 : Row.Cx
-        G59 = record
-            { locals = List._++_ g49 t50; slots = List._∷_ (Row.lease (κs .0) (qs .0)) (List._∷_ (Row.lease (κs .1 .0) (qs .1 .0)) (List._∷_ (Row.lease (κs .1 .1 .0) (qs .1 .1 .0)) (List._∷_ Row.off
-            (List._∷_ Row.off (List._∷_ Row.off (List._∷_ Row.alive (List._∷_ Row.alive List.[]))))))); }
+        G59 = record {
+          locals = List._++_ g49 t50;
+          slots = List._∷_ (Row.lease (κs .0) (qs .0)) (List._∷_ (Row.lease (κs .1 .0) (qs .1 .0)) (List._∷_ (Row.lease (κs .1 .1 .0) (qs .1 .1 .0)) (List._∷_ Row.off
+              (List._∷_ Row.off (List._∷_ Row.off (List._∷_ Row.alive (List._∷_ Row.alive List.[])))))));
+        }
 
         abbrev G60 : Row.Cx
-        G60 = record
-            { locals = List._++_ g49 t50; slots = List._∷_ (Row.lease (κs .0) (qs .0)) (List._∷_ (Row.lease (κs .1 .0) (qs .1 .0)) (List._∷_ (Row.lease (κs .1 .1 .0) (qs .1 .1 .0)) (List._∷_ Row.off
-            (List._∷_ Row.off (List._∷_ Row.off (List._∷_ Row.dead (List._∷_ Row.alive List.[]))))))); }
+        G60 = record {
+          locals = List._++_ g49 t50;
+          slots = List._∷_ (Row.lease (κs .0) (qs .0)) (List._∷_ (Row.lease (κs .1 .0) (qs .1 .0)) (List._∷_ (Row.lease (κs .1 .1 .0) (qs .1 .1 .0)) (List._∷_ Row.off
+              (List._∷_ Row.off (List._∷_ Row.off (List._∷_ Row.dead (List._∷_ Row.alive List.[])))))));
+        }
 
         abbrev G61 : Row.Cx
-        G61 = record
-            { locals = List._++_ g51 t52; slots = List._∷_ (Row.lease (κs .0) (qs .0)) (List._∷_ (Row.lease (κs .1 .0) (qs .1 .0)) (List._∷_ (Row.lease (κs .1 .1 .0) (qs .1 .1 .0)) (List._∷_ (Row.lease
-            (κs .1 .1 .1 .0) (qs .1 .1 .1 .0)) (List._∷_ Row.off (List._∷_ Row.off (List._∷_ Row.dead (List._∷_ Row.alive List.[]))))))); }
+        G61 = record {
+          locals = List._++_ g51 t52;
+          slots = List._∷_ (Row.lease (κs .0) (qs .0)) (List._∷_ (Row.lease (κs .1 .0) (qs .1 .0)) (List._∷_ (Row.lease (κs .1 .1 .0) (qs .1 .1 .0)) (List._∷_ (Row.lease
+              (κs .1 .1 .1 .0) (qs .1 .1 .1 .0)) (List._∷_ Row.off (List._∷_ Row.off (List._∷_ Row.dead (List._∷_ Row.alive List.[])))))));
+        }
 
         abbrev G62 : Row.Cx
-        G62 = record
-            { locals = List._++_ g51 t52; slots = List._∷_ (Row.lease (κs .0) (qs .0)) (List._∷_ (Row.lease (κs .1 .0) (qs .1 .0)) (List._∷_ (Row.lease (κs .1 .1 .0) (qs .1 .1 .0)) (List._∷_ (Row.lease
-            (κs .1 .1 .1 .0) (qs .1 .1 .1 .0)) (List._∷_ Row.off (List._∷_ Row.off (List._∷_ Row.dead (List._∷_ Row.alive List.[]))))))); }
+        G62 = record {
+          locals = List._++_ g51 t52;
+          slots = List._∷_ (Row.lease (κs .0) (qs .0)) (List._∷_ (Row.lease (κs .1 .0) (qs .1 .0)) (List._∷_ (Row.lease (κs .1 .1 .0) (qs .1 .1 .0)) (List._∷_ (Row.lease
+              (κs .1 .1 .1 .0) (qs .1 .1 .1 .0)) (List._∷_ Row.off (List._∷_ Row.off (List._∷_ Row.dead (List._∷_ Row.alive List.[])))))));
+        }
 
         abbrev G63 : Row.Cx
-        G63 = record
-            { locals = List._++_ g51 t52; slots = List._∷_ (Row.lease (κs .0) (qs .0)) (List._∷_ (Row.lease (κs .1 .0) (qs .1 .0)) (List._∷_ (Row.lease (κs .1 .1 .0) (qs .1 .1 .0)) (List._∷_ (Row.lease
-            (κs .1 .1 .1 .0) (qs .1 .1 .1 .0)) (List._∷_ Row.off (List._∷_ Row.off (List._∷_ Row.off (List._∷_ Row.alive List.[]))))))); }
+        G63 = record {
+          locals = List._++_ g51 t52;
+          slots = List._∷_ (Row.lease (κs .0) (qs .0)) (List._∷_ (Row.lease (κs .1 .0) (qs .1 .0)) (List._∷_ (Row.lease (κs .1 .1 .0) (qs .1 .1 .0)) (List._∷_ (Row.lease
+              (κs .1 .1 .1 .0) (qs .1 .1 .1 .0)) (List._∷_ Row.off (List._∷_ Row.off (List._∷_ Row.off (List._∷_ Row.alive List.[])))))));
+        }
 
         abbrev G64 : Row.Cx
-        G64 = record
-            { locals = List._++_ g51 t52; slots = List._∷_ (Row.lease (κs .0) (qs .0)) (List._∷_ (Row.lease (κs .1 .0) (qs .1 .0)) (List._∷_ (Row.lease (κs .1 .1 .0) (qs .1 .1 .0)) (List._∷_ (Row.lease
-            (κs .1 .1 .1 .0) (qs .1 .1 .1 .0)) (List._∷_ Row.off (List._∷_ Row.off (List._∷_ Row.off (List._∷_ Row.dead List.[]))))))); }
+        G64 = record {
+          locals = List._++_ g51 t52;
+          slots = List._∷_ (Row.lease (κs .0) (qs .0)) (List._∷_ (Row.lease (κs .1 .0) (qs .1 .0)) (List._∷_ (Row.lease (κs .1 .1 .0) (qs .1 .1 .0)) (List._∷_ (Row.lease
+              (κs .1 .1 .1 .0) (qs .1 .1 .1 .0)) (List._∷_ Row.off (List._∷_ Row.off (List._∷_ Row.off (List._∷_ Row.dead List.[])))))));
+        }
 
         abbrev G65 : Row.Cx
-        G65 = record
-            { locals = List._++_ t0 t7; slots = List._∷_ (Row.lease (κs .0) (qs .0)) (List._∷_ (Row.lease (κs .1 .0) (qs .1 .0)) (List._∷_ (Row.lease (κs .1 .1 .0) (qs .1 .1 .0)) (List._∷_ (Row.lease (κs
-            .1 .1 .1 .0) (qs .1 .1 .1 .0)) (List._∷_ (Row.lease (κs .1 .1 .1 .1 .0) (qs .1 .1 .1 .1 .0)) (List._∷_ Row.off (List._∷_ Row.off (List._∷_ Row.dead List.[]))))))); }
+        G65 = record {
+          locals = List._++_ t0 t7;
+          slots = List._∷_ (Row.lease (κs .0) (qs .0)) (List._∷_ (Row.lease (κs .1 .0) (qs .1 .0)) (List._∷_ (Row.lease (κs .1 .1 .0) (qs .1 .1 .0)) (List._∷_ (Row.lease (κs
+              .1 .1 .1 .0) (qs .1 .1 .1 .0)) (List._∷_ (Row.lease (κs .1 .1 .1 .1 .0) (qs .1 .1 .1 .1 .0)) (List._∷_ Row.off (List._∷_ Row.off (List._∷_ Row.dead List.[])))))));
+        }
 
         abbrev G66 : Row.Cx
-        G66 = record
-            { locals = List._++_ t0 t7; slots = List._∷_ (Row.lease (κs .0) (qs .0)) (List._∷_ (Row.lease (κs .1 .0) (qs .1 .0)) (List._∷_ (Row.lease (κs .1 .1 .0) (qs .1 .1 .0)) (List._∷_ (Row.lease (κs
-            .1 .1 .1 .0) (qs .1 .1 .1 .0)) (List._∷_ (Row.lease (κs .1 .1 .1 .1 .0) (qs .1 .1 .1 .1 .0)) (List._∷_ Row.off (List._∷_ Row.off (List._∷_ Row.off List.[]))))))); }
+        G66 = record {
+          locals = List._++_ t0 t7;
+          slots = List._∷_ (Row.lease (κs .0) (qs .0)) (List._∷_ (Row.lease (κs .1 .0) (qs .1 .0)) (List._∷_ (Row.lease (κs .1 .1 .0) (qs .1 .1 .0)) (List._∷_ (Row.lease (κs
+              .1 .1 .1 .0) (qs .1 .1 .1 .0)) (List._∷_ (Row.lease (κs .1 .1 .1 .1 .0) (qs .1 .1 .1 .1 .0)) (List._∷_ Row.off (List._∷_ Row.off (List._∷_ Row.off List.[])))))));
+        }
 
         abbrev G67 : Row.Cx
-        G67 = record
-            { locals = List._++_ t53 t7; slots = List._∷_ (Row.lease (κs .0) (qs .0)) (List._∷_ (Row.lease (κs .1 .0) (qs .1 .0)) (List._∷_ (Row.lease (κs .1 .1 .0) (qs .1 .1 .0)) (List._∷_ (Row.lease (κs
-            .1 .1 .1 .0) (qs .1 .1 .1 .0)) (List._∷_ (Row.lease (κs .1 .1 .1 .1 .0) (qs .1 .1 .1 .1 .0)) (List._∷_ Row.off (List._∷_ Row.off (List._∷_ Row.off List.[]))))))); }
+        G67 = record {
+          locals = List._++_ t53 t7;
+          slots = List._∷_ (Row.lease (κs .0) (qs .0)) (List._∷_ (Row.lease (κs .1 .0) (qs .1 .0)) (List._∷_ (Row.lease (κs .1 .1 .0) (qs .1 .1 .0)) (List._∷_ (Row.lease (κs
+              .1 .1 .1 .0) (qs .1 .1 .1 .0)) (List._∷_ (Row.lease (κs .1 .1 .1 .1 .0) (qs .1 .1 .1 .1 .0)) (List._∷_ Row.off (List._∷_ Row.off (List._∷_ Row.off List.[])))))));
+        }
 
         abbrev G68 : Row.Cx
-        G68 = record
-            { locals = List._++_ t53 t1; slots = List._∷_ (Row.lease (κs .0) (qs .0)) (List._∷_ (Row.lease (κs .1 .0) (qs .1 .0)) (List._∷_ (Row.lease (κs .1 .1 .0) (qs .1 .1 .0)) (List._∷_ (Row.lease (κs
-            .1 .1 .1 .0) (qs .1 .1 .1 .0)) (List._∷_ (Row.lease (κs .1 .1 .1 .1 .0) (qs .1 .1 .1 .1 .0)) (List._∷_ Row.off (List._∷_ Row.off (List._∷_ Row.off List.[]))))))); }
+        G68 = record {
+          locals = List._++_ t53 t1;
+          slots = List._∷_ (Row.lease (κs .0) (qs .0)) (List._∷_ (Row.lease (κs .1 .0) (qs .1 .0)) (List._∷_ (Row.lease (κs .1 .1 .0) (qs .1 .1 .0)) (List._∷_ (Row.lease (κs
+              .1 .1 .1 .0) (qs .1 .1 .1 .0)) (List._∷_ (Row.lease (κs .1 .1 .1 .1 .0) (qs .1 .1 .1 .1 .0)) (List._∷_ Row.off (List._∷_ Row.off (List._∷_ Row.off List.[])))))));
+        }
 
         abbrev G69 : Row.Cx
-        G69 = record
-            { locals = List._++_ t2 t1; slots = List._∷_ (Row.lease (κs .0) (qs .0)) (List._∷_ (Row.lease (κs .1 .0) (qs .1 .0)) (List._∷_ (Row.lease (κs .1 .1 .0) (qs .1 .1 .0)) (List._∷_ (Row.lease (κs
-            .1 .1 .1 .0) (qs .1 .1 .1 .0)) (List._∷_ (Row.lease (κs .1 .1 .1 .1 .0) (qs .1 .1 .1 .1 .0)) (List._∷_ Row.off (List._∷_ Row.off (List._∷_ Row.off List.[]))))))); }
+        G69 = record {
+          locals = List._++_ t2 t1;
+          slots = List._∷_ (Row.lease (κs .0) (qs .0)) (List._∷_ (Row.lease (κs .1 .0) (qs .1 .0)) (List._∷_ (Row.lease (κs .1 .1 .0) (qs .1 .1 .0)) (List._∷_ (Row.lease (κs
+              .1 .1 .1 .0) (qs .1 .1 .1 .0)) (List._∷_ (Row.lease (κs .1 .1 .1 .1 .0) (qs .1 .1 .1 .1 .0)) (List._∷_ Row.off (List._∷_ Row.off (List._∷_ Row.off List.[])))))));
+        }
 
         abbrev Δ0 : Typed.Outs
         Δ0 = record { next = Option.none; exits = List.[]; returns = Option.some G1 }
@@ -1874,42 +2120,100 @@ module _ (claims· : Claims) where
               (Syntax.tyInt Syntax.w64) Syntax.tnil) (Syntax.ttcons (Syntax.tcons (Syntax.tyInt Syntax.w64) Syntax.tnil) (Syntax.ttcons (Syntax.tcons (Syntax.tyInt Syntax.w64) Syntax.tnil) (Syntax.ttcons
               (Syntax.tcons (Syntax.tyInt Syntax.w64) (Syntax.tcons (Syntax.tyInt Syntax.w64) Syntax.tnil)) (Syntax.ttcons Syntax.tnil Syntax.ttnil))))))))))))))))))))))) Syntax.tnil) Syntax.ttnil))))
               (tt, ((Whole.reads-enum 𝓤 H A W Refusal.the-type Laws'4.the-laws, Path'.refl), tt)) Path'.refl (λ m wa. Make.made-val BlockLength.the-type Laws'.the-laws (List._∷_ (Laws'5.val
-              Refusal.the-type Laws'4.the-laws (m .1 .1 .1 .1 .1 .1 .1 .1 .0)) List.[]) (BlockLength.enum .make (Logic.inr (Logic.inl (m .1 .1 .1 .1 .1 .1 .1 .1 .0, tt))))
-              (Signed.made-wt Refusal.the-field Laws'4.the-field-laws (Whole.enum-wt Refusal.the-type Laws'4.the-laws
-              (tt,
-              (tt,
-              (tt,
-              ((Make'.u64-wt, tt),
-              (tt,
-              (tt,
-              (tt,
-              (tt,
-              (tt,
-              (tt,
-              ((Make'.u64-wt, tt),
-              ((Make'.u64-wt, tt),
-              (tt,
-              ((Make'.u64-wt, (Make'.u64-wt, tt)),
-              ((Make'.u64-wt, tt), (tt, (tt, ((Make'.u64-wt, tt), ((Make'.u64-wt, tt), ((Make'.u64-wt, tt), ((Make'.u64-wt, (Make'.u64-wt, tt)), (tt, tt))))))))))))))))))))))) (Refusal.the-type .to (m .1
-              .1 .1 .1 .1 .1 .1 .1 .0)), tt) (wa .1)) λ m wa. Make.made-is BlockLength.the-type Laws'.the-laws (List._∷_ (Laws'5.val Refusal.the-type Laws'4.the-laws (m .1 .1 .1 .1 .1 .1 .1 .1 .0))
-              List.[]) (BlockLength.enum .make (Logic.inr (Logic.inl (m .1 .1 .1 .1 .1 .1 .1 .1 .0, tt))))
-              (Signed.made-wt Refusal.the-field Laws'4.the-field-laws (Whole.enum-wt Refusal.the-type Laws'4.the-laws
-              (tt,
-              (tt,
-              (tt,
-              ((Make'.u64-wt, tt),
-              (tt,
-              (tt,
-              (tt,
-              (tt,
-              (tt,
-              (tt,
-              ((Make'.u64-wt, tt),
-              ((Make'.u64-wt, tt),
-              (tt,
-              ((Make'.u64-wt, (Make'.u64-wt, tt)),
-              ((Make'.u64-wt, tt), (tt, (tt, ((Make'.u64-wt, tt), ((Make'.u64-wt, tt), ((Make'.u64-wt, tt), ((Make'.u64-wt, (Make'.u64-wt, tt)), (tt, tt))))))))))))))))))))))) (Refusal.the-type .to (m .1
-              .1 .1 .1 .1 .1 .1 .1 .0)), tt) (wa .1)) (Scalar.g-room 𝓤 H A W E G18 8 (Syntax.tyEnum (List._∷_ 115 (List._∷_ 116 (List._∷_ 114 (List._∷_ 101 (List._∷_ 97 (List._∷_ 109 (List._∷_ 58
+              Refusal.the-type Laws'4.the-laws (m .1 .1 .1 .1 .1 .1 .1 .1 .0)) List.[]) (BlockLength.enum .make (Logic.inr (Logic.inl (m .1 .1 .1 .1 .1 .1 .1 .1 .0, tt)))) (
+                Signed.made-wt Refusal.the-field Laws'4.the-field-laws (Whole.enum-wt Refusal.the-type Laws'4.the-laws (
+                  tt,
+                  (
+                    tt,
+                    (
+                      tt,
+                      (
+                        (Make'.u64-wt, tt),
+                        (
+                          tt,
+                          (
+                            tt,
+                            (
+                              tt,
+                              (
+                                tt,
+                                (
+                                  tt,
+                                  (
+                                    tt,
+                                    (
+                                      (Make'.u64-wt, tt),
+                                      (
+                                        (Make'.u64-wt, tt),
+                                        (
+                                          tt,
+                                          (
+                                            (Make'.u64-wt, (Make'.u64-wt, tt)),
+                                            ((Make'.u64-wt, tt), (tt, (tt, ((Make'.u64-wt, tt), ((Make'.u64-wt, tt), ((Make'.u64-wt, tt), ((Make'.u64-wt, (Make'.u64-wt, tt)), (tt, tt)))))))),
+                                          ),
+                                        ),
+                                      ),
+                                    ),
+                                  ),
+                                ),
+                              ),
+                            ),
+                          ),
+                        ),
+                      ),
+                    ),
+                  ),
+                )) (Refusal.the-type .to (m .1
+                    .1 .1 .1 .1 .1 .1 .1 .0)),
+                tt,
+              ) (wa .1)) λ m wa. Make.made-is BlockLength.the-type Laws'.the-laws (List._∷_ (Laws'5.val Refusal.the-type Laws'4.the-laws (m .1 .1 .1 .1 .1 .1 .1 .1 .0))
+              List.[]) (BlockLength.enum .make (Logic.inr (Logic.inl (m .1 .1 .1 .1 .1 .1 .1 .1 .0, tt)))) (
+                Signed.made-wt Refusal.the-field Laws'4.the-field-laws (Whole.enum-wt Refusal.the-type Laws'4.the-laws (
+                  tt,
+                  (
+                    tt,
+                    (
+                      tt,
+                      (
+                        (Make'.u64-wt, tt),
+                        (
+                          tt,
+                          (
+                            tt,
+                            (
+                              tt,
+                              (
+                                tt,
+                                (
+                                  tt,
+                                  (
+                                    tt,
+                                    (
+                                      (Make'.u64-wt, tt),
+                                      (
+                                        (Make'.u64-wt, tt),
+                                        (
+                                          tt,
+                                          (
+                                            (Make'.u64-wt, (Make'.u64-wt, tt)),
+                                            ((Make'.u64-wt, tt), (tt, (tt, ((Make'.u64-wt, tt), ((Make'.u64-wt, tt), ((Make'.u64-wt, tt), ((Make'.u64-wt, (Make'.u64-wt, tt)), (tt, tt)))))))),
+                                          ),
+                                        ),
+                                      ),
+                                    ),
+                                  ),
+                                ),
+                              ),
+                            ),
+                          ),
+                        ),
+                      ),
+                    ),
+                  ),
+                )) (Refusal.the-type .to (m .1
+                    .1 .1 .1 .1 .1 .1 .1 .0)),
+                tt,
+              ) (wa .1)) (Scalar.g-room 𝓤 H A W E G18 8 (Syntax.tyEnum (List._∷_ 115 (List._∷_ 116 (List._∷_ 114 (List._∷_ 101 (List._∷_ 97 (List._∷_ 109 (List._∷_ 58
               (List._∷_ 58 (List._∷_ 82 (List._∷_ 101 (List._∷_ 102 (List._∷_ 117 (List._∷_ 115 (List._∷_ 97 (List._∷_ 108 List.[]))))))))))))))) (Syntax.ttcons Syntax.tnil (Syntax.ttcons Syntax.tnil
               (Syntax.ttcons Syntax.tnil (Syntax.ttcons (Syntax.tcons (Syntax.tyInt Syntax.w64) Syntax.tnil) (Syntax.ttcons Syntax.tnil (Syntax.ttcons Syntax.tnil (Syntax.ttcons Syntax.tnil (Syntax.ttcons
               Syntax.tnil (Syntax.ttcons Syntax.tnil (Syntax.ttcons Syntax.tnil (Syntax.ttcons (Syntax.tcons (Syntax.tyInt Syntax.w64) Syntax.tnil) (Syntax.ttcons (Syntax.tcons (Syntax.tyInt Syntax.w64)
@@ -1964,16 +2268,18 @@ module _ (claims· : Claims) where
               (Syntax.tcons (Syntax.tyInt Syntax.w64) Syntax.tnil) (Syntax.ttcons (Syntax.tcons (Syntax.tyInt Syntax.w64) Syntax.tnil) (Syntax.ttcons Syntax.tnil (Syntax.ttcons (Syntax.tcons (Syntax.tyInt
               Syntax.w64) (Syntax.tcons (Syntax.tyInt Syntax.w64) Syntax.tnil)) (Syntax.ttcons (Syntax.tcons (Syntax.tyInt Syntax.w64) Syntax.tnil) (Syntax.ttcons Syntax.tnil (Syntax.ttcons Syntax.tnil
               (Syntax.ttcons (Syntax.tcons (Syntax.tyInt Syntax.w64) Syntax.tnil) (Syntax.ttcons (Syntax.tcons (Syntax.tyInt Syntax.w64) Syntax.tnil) (Syntax.ttcons (Syntax.tcons (Syntax.tyInt Syntax.w64)
-              Syntax.tnil) (Syntax.ttcons (Syntax.tcons (Syntax.tyInt Syntax.w64) (Syntax.tcons (Syntax.tyInt Syntax.w64) Syntax.tnil)) (Syntax.ttcons Syntax.tnil Syntax.ttnil))))))))))))))))))))))))
-              (Match.reads-payload 𝓤 H A W Parsed.enum Laws'3.the-laws 1 Path'.refl Path'.refl (λ v. Val.vcons (Laws'5.val Refusal.the-type Laws'4.the-laws (v .0)) Val.vnil) (λ v. Path'.refl) 0
-              (Syntax.tyEnum (List._∷_ 115 (List._∷_ 116 (List._∷_ 114 (List._∷_ 101 (List._∷_ 97 (List._∷_ 109 (List._∷_ 58 (List._∷_ 58 (List._∷_ 82 (List._∷_ 101 (List._∷_ 102 (List._∷_ 117 (List._∷_
-              115 (List._∷_ 97 (List._∷_ 108 List.[]))))))))))))))) (Syntax.ttcons Syntax.tnil (Syntax.ttcons Syntax.tnil (Syntax.ttcons Syntax.tnil (Syntax.ttcons (Syntax.tcons (Syntax.tyInt Syntax.w64)
-              Syntax.tnil) (Syntax.ttcons Syntax.tnil (Syntax.ttcons Syntax.tnil (Syntax.ttcons Syntax.tnil (Syntax.ttcons Syntax.tnil (Syntax.ttcons Syntax.tnil (Syntax.ttcons Syntax.tnil (Syntax.ttcons
-              (Syntax.tcons (Syntax.tyInt Syntax.w64) Syntax.tnil) (Syntax.ttcons (Syntax.tcons (Syntax.tyInt Syntax.w64) Syntax.tnil) (Syntax.ttcons Syntax.tnil (Syntax.ttcons (Syntax.tcons (Syntax.tyInt
-              Syntax.w64) (Syntax.tcons (Syntax.tyInt Syntax.w64) Syntax.tnil)) (Syntax.ttcons (Syntax.tcons (Syntax.tyInt Syntax.w64) Syntax.tnil) (Syntax.ttcons Syntax.tnil (Syntax.ttcons Syntax.tnil
-              (Syntax.ttcons (Syntax.tcons (Syntax.tyInt Syntax.w64) Syntax.tnil) (Syntax.ttcons (Syntax.tcons (Syntax.tyInt Syntax.w64) Syntax.tnil) (Syntax.ttcons (Syntax.tcons (Syntax.tyInt Syntax.w64)
-              Syntax.tnil) (Syntax.ttcons (Syntax.tcons (Syntax.tyInt Syntax.w64) (Syntax.tcons (Syntax.tyInt Syntax.w64) Syntax.tnil)) (Syntax.ttcons Syntax.tnil Syntax.ttnil))))))))))))))))))))))) 8
-              Path'.refl, Path'.refl) Path'.refl (λ ρ m. Make'.tells-row 𝓤 H A W E ρ (Row.out 8 (G15 .locals)) m 7 (Laws'5.Fields (Declared.variants Parsed.the-type) (Laws'5.spellss (Parsed.enum .parts)
+              Syntax.tnil) (Syntax.ttcons (Syntax.tcons (Syntax.tyInt Syntax.w64) (Syntax.tcons (Syntax.tyInt Syntax.w64) Syntax.tnil)) (Syntax.ttcons Syntax.tnil Syntax.ttnil)))))))))))))))))))))))) (
+                Match.reads-payload 𝓤 H A W Parsed.enum Laws'3.the-laws 1 Path'.refl Path'.refl (λ v. Val.vcons (Laws'5.val Refusal.the-type Laws'4.the-laws (v .0)) Val.vnil) (λ v. Path'.refl) 0
+                    (Syntax.tyEnum (List._∷_ 115 (List._∷_ 116 (List._∷_ 114 (List._∷_ 101 (List._∷_ 97 (List._∷_ 109 (List._∷_ 58 (List._∷_ 58 (List._∷_ 82 (List._∷_ 101 (List._∷_ 102 (List._∷_ 117 (List._∷_
+                    115 (List._∷_ 97 (List._∷_ 108 List.[]))))))))))))))) (Syntax.ttcons Syntax.tnil (Syntax.ttcons Syntax.tnil (Syntax.ttcons Syntax.tnil (Syntax.ttcons (Syntax.tcons (Syntax.tyInt Syntax.w64)
+                    Syntax.tnil) (Syntax.ttcons Syntax.tnil (Syntax.ttcons Syntax.tnil (Syntax.ttcons Syntax.tnil (Syntax.ttcons Syntax.tnil (Syntax.ttcons Syntax.tnil (Syntax.ttcons Syntax.tnil (Syntax.ttcons
+                    (Syntax.tcons (Syntax.tyInt Syntax.w64) Syntax.tnil) (Syntax.ttcons (Syntax.tcons (Syntax.tyInt Syntax.w64) Syntax.tnil) (Syntax.ttcons Syntax.tnil (Syntax.ttcons (Syntax.tcons (Syntax.tyInt
+                    Syntax.w64) (Syntax.tcons (Syntax.tyInt Syntax.w64) Syntax.tnil)) (Syntax.ttcons (Syntax.tcons (Syntax.tyInt Syntax.w64) Syntax.tnil) (Syntax.ttcons Syntax.tnil (Syntax.ttcons Syntax.tnil
+                    (Syntax.ttcons (Syntax.tcons (Syntax.tyInt Syntax.w64) Syntax.tnil) (Syntax.ttcons (Syntax.tcons (Syntax.tyInt Syntax.w64) Syntax.tnil) (Syntax.ttcons (Syntax.tcons (Syntax.tyInt Syntax.w64)
+                    Syntax.tnil) (Syntax.ttcons (Syntax.tcons (Syntax.tyInt Syntax.w64) (Syntax.tcons (Syntax.tyInt Syntax.w64) Syntax.tnil)) (Syntax.ttcons Syntax.tnil Syntax.ttnil))))))))))))))))))))))) 8
+                    Path'.refl,
+                Path'.refl,
+              ) Path'.refl (λ ρ m. Make'.tells-row 𝓤 H A W E ρ (Row.out 8 (G15 .locals)) m 7 (Laws'5.Fields (Declared.variants Parsed.the-type) (Laws'5.spellss (Parsed.enum .parts)
               Laws'3.the-laws) (Parsed.the-type .to (Known.at Parsed.enum 1 (m .1 .1 .1 .1 .1 .1 .1 .0)))) (Known.known-is 𝓤 H A W E Parsed.enum 1 Laws'3.the-laws ρ 7 (m .1 .1 .1 .1 .1 .1 .1 .0))) (λ m k
               wa. Path'.refl) λ m k wa. k .0) d1
 
@@ -2003,28 +2309,66 @@ module _ (claims· : Claims) where
               (Typed.pass T53 T54 s51 (Typed.pass T54 T55 s52 Ψ))))) (λ Ψ. Ψ) (Typed.g-post 𝓤 H A W 𝓣 E G50 G54 G55 b25 (λ Ψ. Typed.both s48 (Typed.pass T51 T52 s49 (Typed.pass T52 T53 s50 (Typed.pass T53
               T54 s51 Ψ)))) (Typed.pass T54 T55 s52) (Typed.g-post 𝓤 H A W 𝓣 E G50 G53 G54 b25 (λ Ψ. Typed.both s48 (Typed.pass T51 T52 s49 (Typed.pass T52 T53 s50 Ψ))) (Typed.pass T53 T54 s51)
               (Typed.g-post 𝓤 H A W 𝓣 E G50 G52 G53 b25 (λ Ψ. Typed.both s48 (Typed.pass T51 T52 s49 Ψ)) (Typed.pass T52 T53 s50) (Typed.g-post 𝓤 H A W 𝓣 E G50 G51 G52 b25 (Typed.both s48) (Typed.pass T51
-              T52 s49) (Plain.t-call-plain 𝓤 H A W 𝓣 5 ps·4 r·4 (claims· .8) (claims· .9) "block::writer::write_set" (known .4) E (λ pos β. β) G50
-              (record { pos = 2; ty = Syntax.tyRef (Syntax.named 1) Syntax.imm (Syntax.tyInt Syntax.w16); ref = λ x. x; },
-              (record { pos = 18; ty = Syntax.tyRef Syntax.erased Syntax.mut (Syntax.tyInt Syntax.w8); ref = λ x. x; },
-              (Bool.bAt 4 λ x. x,
-              (record { pos = 22; ty = Syntax.tyRef Syntax.erased Syntax.mut (Syntax.tyInt Syntax.w16); ref = λ x. x; },
-              (record { pos = 26; ty = Syntax.tyRef Syntax.erased Syntax.mut Element.behind; ref = λ x. x; },
-              (record { pos = 11; st = List.[]; d = 0; at = λ x. x },
-              (record { pos = 30; ty = Syntax.tyRef Syntax.erased Syntax.imm (Syntax.tyInt Syntax.w8); ref = λ x. x; }, (Num.vAt 12 λ x. x, tt)))))))) 16 (List._∷_ 1 (List._∷_ 5 (List._∷_ 6 (List._∷_ 7
-              (List._∷_ 0 List.[]))))) (Call.sub-id 𝓤 H A W (G50 .slots))
-              (ShrSlice.spares-sslice 𝓤 H A W (Referent.rtF (Referent.fInt Syntax.w16)) (Syntax.tyRef (Syntax.named 1) Syntax.imm (Syntax.tyInt Syntax.w16)) 1, Shared.reads-sslice 𝓤 H A W (Referent.rtF
-              (Referent.fInt Syntax.w16)) (Syntax.tyRef (Syntax.named 1) Syntax.imm (Syntax.tyInt Syntax.w16)) 1, Path'.refl,
-              (Reads'.as-is 𝓤 H A (Mut.mslice (Referent.rtF (Referent.fInt Syntax.w8)) (Syntax.tyRef Syntax.erased Syntax.mut (Syntax.tyInt Syntax.w8)) 5), Mut.reads-mslice 𝓤 H A W (Referent.rtF
-              (Referent.fInt Syntax.w8)) (Syntax.tyRef Syntax.erased Syntax.mut (Syntax.tyInt Syntax.w8)) 5, Path'.refl,
-              ((Scalar.reads-sc 𝓤 H A W Row.sBool, Path'.refl),
-              (Reads'.as-is 𝓤 H A (Mut.mslice (Referent.rtF (Referent.fInt Syntax.w16)) (Syntax.tyRef Syntax.erased Syntax.mut (Syntax.tyInt Syntax.w16)) 6), Mut.reads-mslice 𝓤 H A W (Referent.rtF
-              (Referent.fInt Syntax.w16)) (Syntax.tyRef Syntax.erased Syntax.mut (Syntax.tyInt Syntax.w16)) 6, Path'.refl,
-              (Reads'.as-is 𝓤 H A (Mut.mslice (Element.type) (Syntax.tyRef Syntax.erased Syntax.mut Element.behind) 7), Mut.reads-mslice 𝓤 H A W (Element.type) (Syntax.tyRef Syntax.erased Syntax.mut
-              Element.behind) 7, Path'.refl,
-              ((Yields.yields-copy 𝓤 H A W (λ ρ. Unit) (Declared'.row Form.the-type) Path'.refl (Copies.cStruct Form.the-type Laws.the-laws Laws.the-copy .copy 𝓤 H A W) (Rows.whole (Declared'.row
-              Form.the-type)) (λ x. x) (λ x. x) (λ ρ told. Local.mem-whole 𝓤 H A W (Declared'.row Form.the-type) ρ) λ ρ told. Local.whole-mem 𝓤 H A W (Declared'.row Form.the-type) ρ, Path'.refl),
-              (ShrSlice.spares-sslice 𝓤 H A W (Referent.rtF (Referent.fInt Syntax.w8)) (Syntax.tyRef Syntax.erased Syntax.imm (Syntax.tyInt Syntax.w8)) 0, Shared.reads-sslice 𝓤 H A W (Referent.rtF
-              (Referent.fInt Syntax.w8)) (Syntax.tyRef Syntax.erased Syntax.imm (Syntax.tyInt Syntax.w8)) 0, Path'.refl, ((Scalar.reads-sc 𝓤 H A W (Row.sInt Syntax.w64), Path'.refl), tt))))))))
+              T52 s49) (Plain.t-call-plain 𝓤 H A W 𝓣 5 ps·4 r·4 (claims· .8) (claims· .9) "block::writer::write_set" (known .4) E (λ pos β. β) G50 (
+                record { pos = 2; ty = Syntax.tyRef (Syntax.named 1) Syntax.imm (Syntax.tyInt Syntax.w16); ref = λ x. x },
+                (
+                  record { pos = 18; ty = Syntax.tyRef Syntax.erased Syntax.mut (Syntax.tyInt Syntax.w8); ref = λ x. x },
+                  (
+                    Bool.bAt 4 λ x. x,
+                    (
+                      record { pos = 22; ty = Syntax.tyRef Syntax.erased Syntax.mut (Syntax.tyInt Syntax.w16); ref = λ x. x },
+                      (
+                        record { pos = 26; ty = Syntax.tyRef Syntax.erased Syntax.mut Element.behind; ref = λ x. x },
+                        (
+                          record { pos = 11; st = List.[]; d = 0; at = λ x. x },
+                          (record { pos = 30; ty = Syntax.tyRef Syntax.erased Syntax.imm (Syntax.tyInt Syntax.w8); ref = λ x. x }, (Num.vAt 12 λ x. x, tt)),
+                        ),
+                      ),
+                    ),
+                  ),
+                ),
+              ) 16 (List._∷_ 1 (List._∷_ 5 (List._∷_ 6 (List._∷_ 7
+              (List._∷_ 0 List.[]))))) (Call.sub-id 𝓤 H A W (G50 .slots)) (
+                ShrSlice.spares-sslice 𝓤 H A W (Referent.rtF (Referent.fInt Syntax.w16)) (Syntax.tyRef (Syntax.named 1) Syntax.imm (Syntax.tyInt Syntax.w16)) 1,
+                Shared.reads-sslice 𝓤 H A W (Referent.rtF
+                    (Referent.fInt Syntax.w16)) (Syntax.tyRef (Syntax.named 1) Syntax.imm (Syntax.tyInt Syntax.w16)) 1,
+                Path'.refl,
+                (
+                  Reads'.as-is 𝓤 H A (Mut.mslice (Referent.rtF (Referent.fInt Syntax.w8)) (Syntax.tyRef Syntax.erased Syntax.mut (Syntax.tyInt Syntax.w8)) 5),
+                  Mut.reads-mslice 𝓤 H A W (Referent.rtF
+                      (Referent.fInt Syntax.w8)) (Syntax.tyRef Syntax.erased Syntax.mut (Syntax.tyInt Syntax.w8)) 5,
+                  Path'.refl,
+                  (
+                    (Scalar.reads-sc 𝓤 H A W Row.sBool, Path'.refl),
+                    (
+                      Reads'.as-is 𝓤 H A (Mut.mslice (Referent.rtF (Referent.fInt Syntax.w16)) (Syntax.tyRef Syntax.erased Syntax.mut (Syntax.tyInt Syntax.w16)) 6),
+                      Mut.reads-mslice 𝓤 H A W (Referent.rtF
+                          (Referent.fInt Syntax.w16)) (Syntax.tyRef Syntax.erased Syntax.mut (Syntax.tyInt Syntax.w16)) 6,
+                      Path'.refl,
+                      (
+                        Reads'.as-is 𝓤 H A (Mut.mslice (Element.type) (Syntax.tyRef Syntax.erased Syntax.mut Element.behind) 7),
+                        Mut.reads-mslice 𝓤 H A W (Element.type) (Syntax.tyRef Syntax.erased Syntax.mut
+                            Element.behind) 7,
+                        Path'.refl,
+                        (
+                          (
+                            Yields.yields-copy 𝓤 H A W (λ ρ. Unit) (Declared'.row Form.the-type) Path'.refl (Copies.cStruct Form.the-type Laws.the-laws Laws.the-copy .copy 𝓤 H A W) (Rows.whole (Declared'.row
+                                Form.the-type)) (λ x. x) (λ x. x) (λ ρ told. Local.mem-whole 𝓤 H A W (Declared'.row Form.the-type) ρ) λ ρ told. Local.whole-mem 𝓤 H A W (Declared'.row Form.the-type) ρ,
+                            Path'.refl,
+                          ),
+                          (
+                            ShrSlice.spares-sslice 𝓤 H A W (Referent.rtF (Referent.fInt Syntax.w8)) (Syntax.tyRef Syntax.erased Syntax.imm (Syntax.tyInt Syntax.w8)) 0,
+                            Shared.reads-sslice 𝓤 H A W (Referent.rtF
+                                (Referent.fInt Syntax.w8)) (Syntax.tyRef Syntax.erased Syntax.imm (Syntax.tyInt Syntax.w8)) 0,
+                            Path'.refl,
+                            ((Scalar.reads-sc 𝓤 H A W (Row.sInt Syntax.w64), Path'.refl), tt),
+                          ),
+                        ),
+                      ),
+                    ),
+                  ),
+                ),
+              )
               (Reads'.room-gone 𝓤 H A (Syntax.tyEnum (List._∷_ 115 (List._∷_ 116 (List._∷_ 114 (List._∷_ 101 (List._∷_ 97 (List._∷_ 109 (List._∷_ 58 (List._∷_ 58 (List._∷_ 66 (List._∷_ 108 (List._∷_ 111
               (List._∷_ 99 (List._∷_ 107 (List._∷_ 76 (List._∷_ 101 (List._∷_ 110 (List._∷_ 103 (List._∷_ 116 (List._∷_ 104 List.[]))))))))))))))))))) (Syntax.ttcons (Syntax.tcons (Syntax.tyInt
               Syntax.w64) Syntax.tnil) (Syntax.ttcons (Syntax.tcons (Syntax.tyEnum (List._∷_ 115 (List._∷_ 116 (List._∷_ 114 (List._∷_ 101 (List._∷_ 97 (List._∷_ 109 (List._∷_ 58 (List._∷_ 58 (List._∷_ 82
@@ -2103,11 +2447,16 @@ module _ (claims· : Claims) where
               (Reads'.room-gone 𝓤 H A (Syntax.tyRef Syntax.erased Syntax.mut Element.behind)) Path'.refl tt Path'.refl Path'.refl λ b o. tt) d14
 
           d16 : Typed.Typed 𝓤 H A 𝓣 E G39 b31 Δ1 at16
-          d16 = Typed.g-pre 𝓤 H A W 𝓣 E G39 G40 b31 Δ1 (λ Ψ. Ψ) at15 (Lifetime.g-begin 𝓤 H A W E G39 7
-              (tt,
-              (tt,
-              (tt,
-              ((tt, tt), (tt, ((tt, tt), (tt, (tt, (tt, (tt, (tt, (tt, (tt, (tt, (tt, (tt, (tt, (tt, (tt, (tt, (tt, (tt, (tt, (tt, (tt, (tt, (tt, (tt, (tt, (tt, (tt, tt)))))))))))))))))))))))))))))))) d15
+          d16 = Typed.g-pre 𝓤 H A W 𝓣 E G39 G40 b31 Δ1 (λ Ψ. Ψ) at15 (Lifetime.g-begin 𝓤 H A W E G39 7 (
+            tt,
+            (
+              tt,
+              (
+                tt,
+                ((tt, tt), (tt, ((tt, tt), (tt, (tt, (tt, (tt, (tt, (tt, (tt, (tt, (tt, (tt, (tt, (tt, (tt, (tt, (tt, (tt, (tt, (tt, (tt, (tt, (tt, (tt, (tt, (tt, (tt, tt)))))))))))))))))))))))))))),
+              ),
+            ),
+          )) d15
 
           d17 : Typed.Typed 𝓤 H A 𝓣 E G38 b32 Δ1 at17
           d17 = Typed.s-seq 𝓤 H A W 𝓣 E G38 G39 b18 b31 Δ1 (Typed.ask s36) at16 (Scalar.t-op2 𝓤 H A W E 𝓣 G38 (Syntax.sub Syntax.unsigned) (Scalar.oInt Syntax.w64 336) (Scalar.oInt Syntax.w64 0) 24
@@ -2140,9 +2489,10 @@ module _ (claims· : Claims) where
               Syntax.mut (Syntax.tyInt Syntax.w16))) Path'.refl tt Path'.refl Path'.refl λ b o. tt) d21
 
           d23 : Typed.Typed 𝓤 H A 𝓣 E G32 b35 Δ1 at23
-          d23 = Typed.g-pre 𝓤 H A W 𝓣 E G32 G33 b35 Δ1 (λ Ψ. Ψ) at22 (Lifetime.g-begin 𝓤 H A W E G32 6
-              (tt,
-              (tt, (tt, ((tt, tt), (tt, (tt, (tt, (tt, (tt, (tt, (tt, (tt, (tt, (tt, (tt, (tt, (tt, (tt, (tt, (tt, (tt, (tt, (tt, (tt, (tt, (tt, (tt, (tt, (tt, (tt, (tt, tt))))))))))))))))))))))))))))))))
+          d23 = Typed.g-pre 𝓤 H A W 𝓣 E G32 G33 b35 Δ1 (λ Ψ. Ψ) at22 (Lifetime.g-begin 𝓤 H A W E G32 6 (
+            tt,
+            (tt, (tt, ((tt, tt), (tt, (tt, (tt, (tt, (tt, (tt, (tt, (tt, (tt, (tt, (tt, (tt, (tt, (tt, (tt, (tt, (tt, (tt, (tt, (tt, (tt, (tt, (tt, (tt, (tt, (tt, (tt, tt)))))))))))))))))))))))))))))),
+          ))
               d22
 
           d24 : Typed.Typed 𝓤 H A 𝓣 E G31 b36 Δ1 at24
@@ -2161,9 +2511,11 @@ module _ (claims· : Claims) where
           d26 = Typed.s-seq 𝓤 H A W 𝓣 E G29 G30 b12 b37 Δ1 (Typed.ask s27) at25 (Relend.t-sl-aggregate 𝓤 H A W E (Referent.rtF (Referent.fInt Syntax.w8)) 𝓣 (Relend.asMut (Referent.rtF (Referent.fInt
               Syntax.w8))) G29 17 18 5 (Syntax.tyRef Syntax.erased Syntax.mut (Syntax.tyInt Syntax.w8)) (Syntax.tyRef Syntax.erased Syntax.mut (Syntax.tyInt Syntax.w8)) (λ x. x) (Scalar.oFld 3 (List._∷_
               (Syntax.field 1) List.[]) (Syntax.tyInt Syntax.w64) 8 λ v. Shared.lenV (v .0)) (Reads'.as-is 𝓤 H A (Relend.msptr (Referent.rtF (Referent.fInt Syntax.w8)) (Syntax.tyRef Syntax.erased
-              Syntax.mut (Syntax.tyInt Syntax.w8)) 5)) (Reads'.room-gone 𝓤 H A y3)
-              (Relend.reads-owed-len 𝓤 H A W (Referent.rtF (Referent.fInt Syntax.w8)) (Syntax.tyRef (Syntax.named 2) Syntax.mut (Syntax.tyInt Syntax.w8)) 2 5 (Row.lease (κs .1 .1 .0) (qs .1 .1 .0)) 8
-              Path'.refl, Path'.refl) Path'.refl Path'.refl λ b o k. tt) d25
+              Syntax.mut (Syntax.tyInt Syntax.w8)) 5)) (Reads'.room-gone 𝓤 H A y3) (
+                Relend.reads-owed-len 𝓤 H A W (Referent.rtF (Referent.fInt Syntax.w8)) (Syntax.tyRef (Syntax.named 2) Syntax.mut (Syntax.tyInt Syntax.w8)) 2 5 (Row.lease (κs .1 .1 .0) (qs .1 .1 .0)) 8
+                    Path'.refl,
+                Path'.refl,
+              ) Path'.refl Path'.refl λ b o k. tt) d25
 
           d27 : Typed.Typed 𝓤 H A 𝓣 E G28 b39 Δ1 at27
           d27 = Typed.s-seq 𝓤 H A W 𝓣 E G28 G29 b11 b38 Δ1 (Typed.give s26) at26 (Relend.t-sl-relend 𝓤 H A W E (Referent.rtF (Referent.fInt Syntax.w8)) 𝓣 G28 3 17 2 5 (Syntax.tyRef (Syntax.named 2)
@@ -2181,17 +2533,27 @@ module _ (claims· : Claims) where
 
           d30 : Typed.Typed 𝓤 H A 𝓣 E G25 b40 Δ1 at30
           d30 = Typed.s-seq 𝓤 H A W 𝓣 E G25 G26 b10 b39 Δ1 (Typed.both s23) at29 (Plain.t-call-plain 𝓤 H A W 𝓣 0 ps·3 r·3 (claims· .6) (claims· .7) "block::tight::line_count" (known .3) E (λ pos β. β)
-              G25 (record { pos = 9; st = List.[]; d = 0; at = λ x. x }, tt) 12 List.[] (Call.sub-id 𝓤 H A W (G25 .slots))
-              ((Yields.yields-copy 𝓤 H A W (λ ρ. Unit) (Declared'.row FujiHeader.the-type) Path'.refl (Copies.cStruct FujiHeader.the-type Laws''.the-laws Laws''.the-copy .copy 𝓤 H A W) (Rows.whole
-              (Declared'.row FujiHeader.the-type)) (λ x. x) (λ x. x) (λ ρ told. Local.mem-whole 𝓤 H A W (Declared'.row FujiHeader.the-type) ρ) λ ρ told. Local.whole-mem 𝓤 H A W (Declared'.row
-              FujiHeader.the-type) ρ, Path'.refl), tt) (Reads'.room-gone 𝓤 H A (Syntax.tyInt Syntax.w64)) tt Path'.refl) d29
+              G25 (record { pos = 9; st = List.[]; d = 0; at = λ x. x }, tt) 12 List.[] (Call.sub-id 𝓤 H A W (G25 .slots)) (
+                (
+                  Yields.yields-copy 𝓤 H A W (λ ρ. Unit) (Declared'.row FujiHeader.the-type) Path'.refl (Copies.cStruct FujiHeader.the-type Laws''.the-laws Laws''.the-copy .copy 𝓤 H A W) (Rows.whole
+                      (Declared'.row FujiHeader.the-type)) (λ x. x) (λ x. x) (λ ρ told. Local.mem-whole 𝓤 H A W (Declared'.row FujiHeader.the-type) ρ) λ ρ told. Local.whole-mem 𝓤 H A W (Declared'.row
+                      FujiHeader.the-type) ρ,
+                  Path'.refl,
+                ),
+                tt,
+              ) (Reads'.room-gone 𝓤 H A (Syntax.tyInt Syntax.w64)) tt Path'.refl) d29
 
           d31 : Typed.Typed 𝓤 H A 𝓣 E G24 b41 Δ1 at31
           d31 = Typed.s-seq 𝓤 H A W 𝓣 E G24 G25 b9 b40 Δ1 (Typed.both s22) at30 (Plain.t-call-plain 𝓤 H A W 𝓣 0 ps·2 r·2 (claims· .4) (claims· .5) "block::form_of" (known .2) E (λ pos β. β) G24
-              (record { pos = 9; st = List.[]; d = 0; at = λ x. x }, tt) 11 List.[] (Call.sub-id 𝓤 H A W (G24 .slots))
-              ((Yields.yields-copy 𝓤 H A W (λ ρ. Unit) (Declared'.row FujiHeader.the-type) Path'.refl (Copies.cStruct FujiHeader.the-type Laws''.the-laws Laws''.the-copy .copy 𝓤 H A W) (Rows.whole
-              (Declared'.row FujiHeader.the-type)) (λ x. x) (λ x. x) (λ ρ told. Local.mem-whole 𝓤 H A W (Declared'.row FujiHeader.the-type) ρ) λ ρ told. Local.whole-mem 𝓤 H A W (Declared'.row
-              FujiHeader.the-type) ρ, Path'.refl), tt) (Reads'.room-gone 𝓤 H A y5) tt Path'.refl) d30
+              (record { pos = 9; st = List.[]; d = 0; at = λ x. x }, tt) 11 List.[] (Call.sub-id 𝓤 H A W (G24 .slots)) (
+                (
+                  Yields.yields-copy 𝓤 H A W (λ ρ. Unit) (Declared'.row FujiHeader.the-type) Path'.refl (Copies.cStruct FujiHeader.the-type Laws''.the-laws Laws''.the-copy .copy 𝓤 H A W) (Rows.whole
+                      (Declared'.row FujiHeader.the-type)) (λ x. x) (λ x. x) (λ ρ told. Local.mem-whole 𝓤 H A W (Declared'.row FujiHeader.the-type) ρ) λ ρ told. Local.whole-mem 𝓤 H A W (Declared'.row
+                      FujiHeader.the-type) ρ,
+                  Path'.refl,
+                ),
+                tt,
+              ) (Reads'.room-gone 𝓤 H A y5) tt Path'.refl) d30
 
           d32 : Typed.Typed 𝓤 H A 𝓣 E G23 b42 Δ1 at32
           d32 = Typed.s-seq 𝓤 H A W 𝓣 E G23 G24 b8 b41 Δ1 (Typed.both s21) at31 (Plain.t-call-plain 𝓤 H A W 𝓣 0 ps·1 r·1 (claims· .2) (claims· .3) "begin::samples_needed" (known .1) E (λ pos β. β) G23
@@ -2223,9 +2585,11 @@ module _ (claims· : Claims) where
           d34 = Typed.s-seq 𝓤 H A W 𝓣 E G21 G22 b7 b42 Δ1 (Typed.pass T21 T22 s19) at33 (CopyOut.t-copy-told 𝓤 H A W E 𝓣 (Declared'.row FujiHeader.the-type) Path'.refl (Laws'6.val FujiHeader.the-type
               Laws''.the-laws) (Laws'6.lawful FujiHeader.the-type Laws''.the-laws 𝓤 H A W) (Laws'6.makes FujiHeader.the-type Laws''.the-plain 𝓤 H A) G21 9 (Scalar.oFld 7 (List._∷_ (Syntax.variant 0)
               (List._∷_ (Syntax.field 1) List.[])) y0 4 λ v. Laws'6.val FujiHeader.the-type Laws''.the-laws (v .0)) (λ m. m .1 .1 .1 .1 .1 .1 .1 .0 .0) (λ m. Laws'5.Fields (Declared.variants
-              Parsed.the-type) (Laws'5.spellss (Parsed.enum .parts) Laws'3.the-laws) (Parsed.the-type .to (Known.at Parsed.enum 0 (m .1 .1 .1 .1 .1 .1 .1 .0)))) (Reads'.room-gone 𝓤 H A y0)
-              (Match.reads-payload 𝓤 H A W Parsed.enum Laws'3.the-laws 0 Path'.refl Path'.refl (λ v. Val.vcons (Laws'6.val FujiHeader.the-type Laws''.the-laws (v .0)) Val.vnil) (λ v. Path'.refl) 0 y0 4
-              Path'.refl, Path'.refl) Path'.refl (λ ρ m. Make'.tells-row 𝓤 H A W E ρ (Row.out 9 (G21 .locals)) m 7 (Laws'5.Fields (Declared.variants Parsed.the-type) (Laws'5.spellss (Parsed.enum .parts)
+              Parsed.the-type) (Laws'5.spellss (Parsed.enum .parts) Laws'3.the-laws) (Parsed.the-type .to (Known.at Parsed.enum 0 (m .1 .1 .1 .1 .1 .1 .1 .0)))) (Reads'.room-gone 𝓤 H A y0) (
+                Match.reads-payload 𝓤 H A W Parsed.enum Laws'3.the-laws 0 Path'.refl Path'.refl (λ v. Val.vcons (Laws'6.val FujiHeader.the-type Laws''.the-laws (v .0)) Val.vnil) (λ v. Path'.refl) 0 y0 4
+                    Path'.refl,
+                Path'.refl,
+              ) Path'.refl (λ ρ m. Make'.tells-row 𝓤 H A W E ρ (Row.out 9 (G21 .locals)) m 7 (Laws'5.Fields (Declared.variants Parsed.the-type) (Laws'5.spellss (Parsed.enum .parts)
               Laws'3.the-laws) (Parsed.the-type .to (Known.at Parsed.enum 0 (m .1 .1 .1 .1 .1 .1 .1 .0)))) (Known.known-is 𝓤 H A W E Parsed.enum 0 Laws'3.the-laws ρ 7 (m .1 .1 .1 .1 .1 .1 .1 .0))) (λ m k
               wa. Path'.refl) λ m k wa. k .0) d33
 
@@ -2322,12 +2686,17 @@ module _ (claims· : Claims) where
 
           d46 : Typed.Typed 𝓤 H A 𝓣 E G8 b49 Δ0 at46
           d46 = Typed.s-seq 𝓤 H A W 𝓣 E G8 G9 b3 b48 Δ0 (Typed.both s7) at45 (Plain.t-call-plain 𝓤 H A W 𝓣 1 ps·0 r·0 (claims· .0) (claims· .1) "begin::writing_begins" (known .0) E (λ pos β. β) G8
-              (record { pos = 1; ty = Syntax.tyRef (Syntax.named 0) Syntax.imm (Syntax.tyInt Syntax.w8); ref = λ x. x; }, (Num.vAt 13 λ x. x, (Num.vAt 14 λ x. x, (Num.vAt 15 λ x. x, tt)))) 7 (List._∷_ 0
-              List.[]) (Call.sub-id 𝓤 H A W (G8 .slots))
-              (ShrSlice.spares-sslice 𝓤 H A W (Referent.rtF (Referent.fInt Syntax.w8)) (Syntax.tyRef (Syntax.named 0) Syntax.imm (Syntax.tyInt Syntax.w8)) 0, Shared.reads-sslice 𝓤 H A W (Referent.rtF
-              (Referent.fInt Syntax.w8)) (Syntax.tyRef (Syntax.named 0) Syntax.imm (Syntax.tyInt Syntax.w8)) 0, Path'.refl,
-              ((Scalar.reads-sc 𝓤 H A W (Row.sInt Syntax.w64), Path'.refl),
-              ((Scalar.reads-sc 𝓤 H A W (Row.sInt Syntax.w64), Path'.refl), ((Scalar.reads-sc 𝓤 H A W (Row.sInt Syntax.w64), Path'.refl), tt)))) (Reads'.room-gone 𝓤 H A (Syntax.tyEnum (List._∷_ 115
+              (record { pos = 1; ty = Syntax.tyRef (Syntax.named 0) Syntax.imm (Syntax.tyInt Syntax.w8); ref = λ x. x }, (Num.vAt 13 λ x. x, (Num.vAt 14 λ x. x, (Num.vAt 15 λ x. x, tt)))) 7 (List._∷_ 0
+              List.[]) (Call.sub-id 𝓤 H A W (G8 .slots)) (
+                ShrSlice.spares-sslice 𝓤 H A W (Referent.rtF (Referent.fInt Syntax.w8)) (Syntax.tyRef (Syntax.named 0) Syntax.imm (Syntax.tyInt Syntax.w8)) 0,
+                Shared.reads-sslice 𝓤 H A W (Referent.rtF
+                    (Referent.fInt Syntax.w8)) (Syntax.tyRef (Syntax.named 0) Syntax.imm (Syntax.tyInt Syntax.w8)) 0,
+                Path'.refl,
+                (
+                  (Scalar.reads-sc 𝓤 H A W (Row.sInt Syntax.w64), Path'.refl),
+                  ((Scalar.reads-sc 𝓤 H A W (Row.sInt Syntax.w64), Path'.refl), ((Scalar.reads-sc 𝓤 H A W (Row.sInt Syntax.w64), Path'.refl), tt)),
+                ),
+              ) (Reads'.room-gone 𝓤 H A (Syntax.tyEnum (List._∷_ 115
               (List._∷_ 116 (List._∷_ 114 (List._∷_ 101 (List._∷_ 97 (List._∷_ 109 (List._∷_ 58 (List._∷_ 58 (List._∷_ 80 (List._∷_ 97 (List._∷_ 114 (List._∷_ 115 (List._∷_ 101 (List._∷_ 100
               List.[])))))))))))))) (Syntax.ttcons (Syntax.tcons y0 Syntax.tnil) (Syntax.ttcons (Syntax.tcons (Syntax.tyEnum (List._∷_ 115 (List._∷_ 116 (List._∷_ 114 (List._∷_ 101 (List._∷_ 97 (List._∷_
               109 (List._∷_ 58 (List._∷_ 58 (List._∷_ 82 (List._∷_ 101 (List._∷_ 102 (List._∷_ 117 (List._∷_ 115 (List._∷_ 97 (List._∷_ 108 List.[]))))))))))))))) (Syntax.ttcons Syntax.tnil (Syntax.ttcons
@@ -2395,9 +2764,12 @@ module _ (claims· : Claims) where
       m0 = λ κs args. (tt, Enter.partsP κs 1 ps xs (dens κs args))
 
       abbrev W0 : (κs : Lifetimes.Lfts 5) → (args : Args κs) → Typed.Want O0
-      W0 = λ κs args.
-          (λ u. ⊥, tt, λ u. Enter.Fixs κs 1 ps xs (dens κs args) (u .1) × Post· κs (dens κs args) (Function.resV r κs (u .0)) (Clauses.atExit (Kinds.endedOf 5 ps r) κs (dens κs args) (Enter.lastsP κs 1 ps
-          xs (dens κs args) (u .1))))
+      W0 = λ κs args. (
+        λ u. ⊥,
+        tt,
+        λ u. Enter.Fixs κs 1 ps xs (dens κs args) (u .1) × Post· κs (dens κs args) (Function.resV r κs (u .0)) (Clauses.atExit (Kinds.endedOf 5 ps r) κs (dens κs args) (Enter.lastsP κs 1 ps
+            xs (dens κs args) (u .1))),
+      )
 
       pub record Start : Type 0 where
         pub κs : Lifetimes.Lfts 5
@@ -2467,7 +2839,7 @@ module _ (claims· : Claims) where
       module _ (before· : After-slice-known2) where
         abbrev pub After-writing-begins·own : Type 0
         After-writing-begins·own = Called.Called ps·0 r·0 (claims· .1) T8
-            (record { pos = 1; ty = Syntax.tyRef (Syntax.named 0) Syntax.imm (Syntax.tyInt Syntax.w8); ref = λ x. x; }, (Num.vAt 13 λ x. x, (Num.vAt 14 λ x. x, (Num.vAt 15 λ x. x, tt)))) (m7 (before·
+            (record { pos = 1; ty = Syntax.tyRef (Syntax.named 0) Syntax.imm (Syntax.tyInt Syntax.w8); ref = λ x. x }, (Num.vAt 13 λ x. x, (Num.vAt 14 λ x. x, (Num.vAt 15 λ x. x, tt)))) (m7 (before·
             .before) (before· .slice-known2 .given))
 
       pub record After-writing-begins : Type 0 where
@@ -2476,7 +2848,7 @@ module _ (claims· : Claims) where
 
       abbrev pub After-writing-begins·gave : (c : After-writing-begins) → s7 .gives (m7 (c .before .before) (c .before .slice-known2 .given))
       After-writing-begins·gave = λ c. Called.given ps·0 r·0 (claims· .1) T8
-          (record { pos = 1; ty = Syntax.tyRef (Syntax.named 0) Syntax.imm (Syntax.tyInt Syntax.w8); ref = λ x. x; }, (Num.vAt 13 λ x. x, (Num.vAt 14 λ x. x, (Num.vAt 15 λ x. x, tt)))) (m7 (c .before
+          (record { pos = 1; ty = Syntax.tyRef (Syntax.named 0) Syntax.imm (Syntax.tyInt Syntax.w8); ref = λ x. x }, (Num.vAt 13 λ x. x, (Num.vAt 14 λ x. x, (Num.vAt 15 λ x. x, tt)))) (m7 (c .before
           .before) (c .before .slice-known2 .given)) (c .writing-begins)
 
       abbrev W1 : (before : After-slice-known2) → (given : s7 .gives (m7 (before .before) (before .slice-known2 .given))) → Typed.Want O1
@@ -2773,13 +3145,22 @@ module _ (claims· : Claims) where
 
       module _ (before· : After-write-set-arg4) where
         abbrev pub After-write-set·own : Type 0
-        After-write-set·own = Called.Called ps·4 r·4 (claims· .9) T50
-            (record { pos = 2; ty = Syntax.tyRef (Syntax.named 1) Syntax.imm (Syntax.tyInt Syntax.w16); ref = λ x. x; },
-            (record { pos = 18; ty = Syntax.tyRef Syntax.erased Syntax.mut (Syntax.tyInt Syntax.w8); ref = λ x. x; },
-            (Bool.bAt 4 λ x. x,
-            (record { pos = 22; ty = Syntax.tyRef Syntax.erased Syntax.mut (Syntax.tyInt Syntax.w16); ref = λ x. x; },
-            (record { pos = 26; ty = Syntax.tyRef Syntax.erased Syntax.mut Element.behind; ref = λ x. x; },
-            (record { pos = 11; st = List.[]; d = 0; at = λ x. x }, (record { pos = 30; ty = Syntax.tyRef Syntax.erased Syntax.imm (Syntax.tyInt Syntax.w8); ref = λ x. x; }, (Num.vAt 12 λ x. x, tt))))))))
+        After-write-set·own = Called.Called ps·4 r·4 (claims· .9) T50 (
+          record { pos = 2; ty = Syntax.tyRef (Syntax.named 1) Syntax.imm (Syntax.tyInt Syntax.w16); ref = λ x. x },
+          (
+            record { pos = 18; ty = Syntax.tyRef Syntax.erased Syntax.mut (Syntax.tyInt Syntax.w8); ref = λ x. x },
+            (
+              Bool.bAt 4 λ x. x,
+              (
+                record { pos = 22; ty = Syntax.tyRef Syntax.erased Syntax.mut (Syntax.tyInt Syntax.w16); ref = λ x. x },
+                (
+                  record { pos = 26; ty = Syntax.tyRef Syntax.erased Syntax.mut Element.behind; ref = λ x. x },
+                  (record { pos = 11; st = List.[]; d = 0; at = λ x. x }, (record { pos = 30; ty = Syntax.tyRef Syntax.erased Syntax.imm (Syntax.tyInt Syntax.w8); ref = λ x. x }, (Num.vAt 12 λ x. x, tt))),
+                ),
+              ),
+            ),
+          ),
+        )
             (m45 (before· .before) (before· .write-set-arg4 .given))
 
       pub record After-write-set : Type 0 where
@@ -2787,13 +3168,22 @@ module _ (claims· : Claims) where
         pub write-set : After-write-set·own before
 
       abbrev pub After-write-set·gave : (c : After-write-set) → s48 .gives (m45 (c .before .before) (c .before .write-set-arg4 .given))
-      After-write-set·gave = λ c. Called.given ps·4 r·4 (claims· .9) T50
-          (record { pos = 2; ty = Syntax.tyRef (Syntax.named 1) Syntax.imm (Syntax.tyInt Syntax.w16); ref = λ x. x; },
-          (record { pos = 18; ty = Syntax.tyRef Syntax.erased Syntax.mut (Syntax.tyInt Syntax.w8); ref = λ x. x; },
-          (Bool.bAt 4 λ x. x,
-          (record { pos = 22; ty = Syntax.tyRef Syntax.erased Syntax.mut (Syntax.tyInt Syntax.w16); ref = λ x. x; },
-          (record { pos = 26; ty = Syntax.tyRef Syntax.erased Syntax.mut Element.behind; ref = λ x. x; },
-          (record { pos = 11; st = List.[]; d = 0; at = λ x. x }, (record { pos = 30; ty = Syntax.tyRef Syntax.erased Syntax.imm (Syntax.tyInt Syntax.w8); ref = λ x. x; }, (Num.vAt 12 λ x. x, tt))))))))
+      After-write-set·gave = λ c. Called.given ps·4 r·4 (claims· .9) T50 (
+        record { pos = 2; ty = Syntax.tyRef (Syntax.named 1) Syntax.imm (Syntax.tyInt Syntax.w16); ref = λ x. x },
+        (
+          record { pos = 18; ty = Syntax.tyRef Syntax.erased Syntax.mut (Syntax.tyInt Syntax.w8); ref = λ x. x },
+          (
+            Bool.bAt 4 λ x. x,
+            (
+              record { pos = 22; ty = Syntax.tyRef Syntax.erased Syntax.mut (Syntax.tyInt Syntax.w16); ref = λ x. x },
+              (
+                record { pos = 26; ty = Syntax.tyRef Syntax.erased Syntax.mut Element.behind; ref = λ x. x },
+                (record { pos = 11; st = List.[]; d = 0; at = λ x. x }, (record { pos = 30; ty = Syntax.tyRef Syntax.erased Syntax.imm (Syntax.tyInt Syntax.w8); ref = λ x. x }, (Num.vAt 12 λ x. x, tt))),
+              ),
+            ),
+          ),
+        ),
+      )
           (m45 (c .before .before) (c .before .write-set-arg4 .given)) (c .write-set)
 
       abbrev pub m51 : (before : After-write-set) → (given : s54 .gives (m50 (before .before) (After-write-set·gave before))) → Typed.Mo T57
@@ -2913,22 +3303,37 @@ module _ (claims· : Claims) where
         lay6 : (c : After-rs) → at44 (W0 (c .before .before .before .before .before .before .before .before .before .before .before .before .before .before .before .before .before .before .before
             .before .before .κs) (c .before .before .before .before .before .before .before .before .before .before .before .before .before .before .before .before .before .before .before .before .before
             .args)) (m55 (c .before) (c .rs .given))
-        lay6 = λ c.
-            ((Path'.refl,
-            (Path'.refl,
-            (MutSlice.fix-len (Row.get 3 (T69 .locals) (m61 (c .before) (c .rs .given)) .ptr) (Row.get 3 (T69 .locals) (m61 (c .before) (c .rs .given)) .name) (Row.get 3 (T69 .locals) (m61 (c .before) (c
-            .rs .given)) .now) (dens (c .before .before .before .before .before .before .before .before .before .before .before .before .before .before .before .before .before .before .before .before
-            .before .κs) (c .before .before .before .before .before .before .before .before .before .before .before .before .before .before .before .before .before .before .before .before .before .args)
-            .1 .1 .0 .now) (same-length record { before = c .before; rs = c .rs }),
-            (tt,
-            (MutSlice.fix-len (Row.get 5 (T69 .locals) (m61 (c .before) (c .rs .given)) .ptr) (Row.get 5 (T69 .locals) (m61 (c .before) (c .rs .given)) .name) (Row.get 5 (T69 .locals) (m61 (c .before) (c
-            .rs .given)) .now) (dens (c .before .before .before .before .before .before .before .before .before .before .before .before .before .before .before .before .before .before .before .before
-            .before .κs) (c .before .before .before .before .before .before .before .before .before .before .before .before .before .before .before .before .before .before .before .before .before .args)
-            .1 .1 .1 .1 .0 .now) (same-length-2 record { before = c .before; rs = c .rs }),
-            (MutSlice.fix-len (Row.get 6 (T69 .locals) (m61 (c .before) (c .rs .given)) .ptr) (Row.get 6 (T69 .locals) (m61 (c .before) (c .rs .given)) .name) (Row.get 6 (T69 .locals) (m61 (c .before) (c
-            .rs .given)) .now) (dens (c .before .before .before .before .before .before .before .before .before .before .before .before .before .before .before .before .before .before .before .before
-            .before .κs) (c .before .before .before .before .before .before .before .before .before .before .before .before .before .before .before .before .before .before .before .before .before .args)
-            .1 .1 .1 .1 .1 .0 .now) (same-length-3 record { before = c .before; rs = c .rs }), tt)))))), returns-2 record { before = c .before; rs = c .rs })
+        lay6 = λ c. (
+          (
+            Path'.refl,
+            (
+              Path'.refl,
+              (
+                MutSlice.fix-len (Row.get 3 (T69 .locals) (m61 (c .before) (c .rs .given)) .ptr) (Row.get 3 (T69 .locals) (m61 (c .before) (c .rs .given)) .name) (Row.get 3 (T69 .locals) (m61 (c .before) (c
+                    .rs .given)) .now) (dens (c .before .before .before .before .before .before .before .before .before .before .before .before .before .before .before .before .before .before .before .before
+                    .before .κs) (c .before .before .before .before .before .before .before .before .before .before .before .before .before .before .before .before .before .before .before .before .before .args)
+                    .1 .1 .0 .now) (same-length record { before = c .before; rs = c .rs }),
+                (
+                  tt,
+                  (
+                    MutSlice.fix-len (Row.get 5 (T69 .locals) (m61 (c .before) (c .rs .given)) .ptr) (Row.get 5 (T69 .locals) (m61 (c .before) (c .rs .given)) .name) (Row.get 5 (T69 .locals) (m61 (c .before) (c
+                        .rs .given)) .now) (dens (c .before .before .before .before .before .before .before .before .before .before .before .before .before .before .before .before .before .before .before .before
+                        .before .κs) (c .before .before .before .before .before .before .before .before .before .before .before .before .before .before .before .before .before .before .before .before .before .args)
+                        .1 .1 .1 .1 .0 .now) (same-length-2 record { before = c .before; rs = c .rs }),
+                    (
+                      MutSlice.fix-len (Row.get 6 (T69 .locals) (m61 (c .before) (c .rs .given)) .ptr) (Row.get 6 (T69 .locals) (m61 (c .before) (c .rs .given)) .name) (Row.get 6 (T69 .locals) (m61 (c .before) (c
+                          .rs .given)) .now) (dens (c .before .before .before .before .before .before .before .before .before .before .before .before .before .before .before .before .before .before .before .before
+                          .before .κs) (c .before .before .before .before .before .before .before .before .before .before .before .before .before .before .before .before .before .before .before .before .before .args)
+                          .1 .1 .1 .1 .1 .0 .now) (same-length-3 record { before = c .before; rs = c .rs }),
+                      tt,
+                    ),
+                  ),
+                ),
+              ),
+            ),
+          ),
+          returns-2 record { before = c .before; rs = c .rs },
+        )
 
         lay5 : (c : After-known-told) → at44 (W0 (c .before .before .before .before .before .before .before .before .κs) (c .before .before .before .before .before .before .before .before .args)) (m17
             (c .before) (c .known-told .given))
@@ -2936,114 +3341,226 @@ module _ (claims· : Claims) where
 
         lay4 : (c : After-line-count) → at29 (W1 (c .before .before .before .before .before .before .before) (After-writing-begins·gave (c .before .before .before .before .before .before))) (m24 (c
             .before) (After-line-count·gave c))
-        lay4 = λ c. λ g.
-            (Path'.refl,
-            (tt,
-            (sub-write-set record { before = record { before = c .before; line-count = c .line-count }; write-set-arg = record { given = g }; },
-            ((Path'.refl, Path'.refl, part-write-set-start record { before = record { before = c .before; line-count = c .line-count }; write-set-arg = record { given = g }; }, part-write-set-end record
-            { before = record { before = c .before; line-count = c .line-count }; write-set-arg = record { given = g }; }), λ g'.
-            (Relend.count-is T35 21 22 (λ x. x) (λ u. u .1 .1 .1 .1 .1 .1 .1 .1 .1 .1 .1 .1 .1 .1 .1 .1 .1 .1 .1 .1 .0) (m31 record
-            { before = record { before = c .before; line-count = c .line-count }; write-set-arg = record { given = g }; } g') (g' .1),
-            (tt,
-            (sub-write-set-2 record
-            { before = record { before = record { before = c .before; line-count = c .line-count }; write-set-arg = record { given = g }; }; write-set-arg2 = record { given = g' }; },
-            ((Path'.refl, Path'.refl, part-write-set-start-2 record
-            { before = record { before = record { before = c .before; line-count = c .line-count }; write-set-arg = record { given = g }; }; write-set-arg2 = record { given = g' }; }, part-write-set-end-2
-            record { before = record { before = record { before = c .before; line-count = c .line-count }; write-set-arg = record { given = g }; }; write-set-arg2 = record { given = g' }; }), λ g''.
-            (Relend.count-is T42 25 26 (λ x. x) (λ u. u .1 .1 .1 .1 .1 .1 .1 .1 .1 .1 .1 .1 .1 .1 .1 .1 .1 .1 .1 .1 .1 .1 .1 .1 .0) (m37 record
-            { before = record { before = record { before = c .before; line-count = c .line-count; }; write-set-arg = record { given = g }; }; write-set-arg2 = record { given = g' }; } g'') (g'' .1),
-            (tt,
-            (sub-write-set-3 record
-            { before = record { before = record { before = record { before = c .before; line-count = c .line-count; }; write-set-arg = record { given = g }; }; write-set-arg2 = record { given = g' }; };
-            write-set-arg3 = record { given = g'' }; },
-            ((Path'.refl, Path'.refl, part-write-set-start-3 record
-            { before = record { before = record { before = record { before = c .before; line-count = c .line-count; }; write-set-arg = record { given = g }; }; write-set-arg2 = record { given = g' }; };
-            write-set-arg3 = record { given = g'' }; }, part-write-set-end-3 record
-            { before = record { before = record { before = record { before = c .before; line-count = c .line-count; }; write-set-arg = record { given = g }; }; write-set-arg2 = record { given = g' }; };
-            write-set-arg3 = record { given = g'' }; }), λ g'3.
-            (Relend.count-is T48 29 30 (λ x. x) (λ u. u .1 .1 .1 .1 .1 .1 .1 .1 .1 .1 .1 .1 .1 .1 .1 .1 .1 .1 .1 .1 .1 .1 .1 .1 .1 .1 .1 .1 .0) (m43 record
-            { before = record { before = record { before = record { before = c .before; line-count = c .line-count; }; write-set-arg = record { given = g }; }; write-set-arg2 = record { given = g' }; };
-            write-set-arg3 = record { given = g'' }; } g'3) (g'3 .1),
-            (write-set-requires record
-            { before = record
-            { before = record { before = record { before = record { before = c .before; line-count = c .line-count; }; write-set-arg = record { given = g }; }; write-set-arg2 = record { given = g' }; };
-            write-set-arg3 = record { given = g'' }; }; write-set-arg4 = record { given = g'3 }; }, λ g'4.
-            (Path'.refl, λ g'5. λ g'6.
-            (Path'.refl, λ g'7. λ g'8.
-            (Path'.refl, λ g'9. lay6 record
-            { before = record
-            { before = record
-            { before = record
-            { before = record
-            { before = record
-            { before = record
-            { before = record
-            { before = record { before = record { before = record { before = c .before; line-count = c .line-count; }; write-set-arg = record { given = g; }; }; write-set-arg2 = record { given = g'; }; };
-            write-set-arg3 = record { given = g'' }; }; write-set-arg4 = record { given = g'3 }; }; write-set = Called.called ps·4 r·4 (claims· .9) T50
-            (record { pos = 2; ty = Syntax.tyRef (Syntax.named 1) Syntax.imm (Syntax.tyInt Syntax.w16); ref = λ x. x; },
-            (record { pos = 18; ty = Syntax.tyRef Syntax.erased Syntax.mut (Syntax.tyInt Syntax.w8); ref = λ x. x; },
-            (Bool.bAt 4 λ x. x,
-            (record { pos = 22; ty = Syntax.tyRef Syntax.erased Syntax.mut (Syntax.tyInt Syntax.w16); ref = λ x. x; },
-            (record { pos = 26; ty = Syntax.tyRef Syntax.erased Syntax.mut Element.behind; ref = λ x. x; },
-            (record { pos = 11; st = List.[]; d = 0; at = λ x. x; },
-            (record { pos = 30; ty = Syntax.tyRef Syntax.erased Syntax.imm (Syntax.tyInt Syntax.w8); ref = λ x. x; }, (Num.vAt 12 λ x. x, tt)))))))) (m45 record
-            { before = record { before = record { before = record { before = c .before; line-count = c .line-count; }; write-set-arg = record { given = g; }; }; write-set-arg2 = record { given = g'; }; };
-            write-set-arg3 = record { given = g''; }; } g'3) g'4; }; out = record { given = g'5 }; }; slice-known3 = record { given = g'6 }; }; lines = record { given = g'7 }; }; slice-known4 = record {
-            given = g'8 }; }; rs = record { given = g'9 }; })))))))))))))))))
+        lay4 = λ c. λ g. (
+          Path'.refl,
+          (
+            tt,
+            (
+              sub-write-set record { before = record { before = c .before; line-count = c .line-count }; write-set-arg = record { given = g } },
+              (
+                (
+                  Path'.refl,
+                  Path'.refl,
+                  part-write-set-start record { before = record { before = c .before; line-count = c .line-count }; write-set-arg = record { given = g } },
+                  part-write-set-end record
+                      { before = record { before = c .before; line-count = c .line-count }; write-set-arg = record { given = g } },
+                ),
+                λ g'. (
+                  Relend.count-is T35 21 22 (λ x. x) (λ u. u .1 .1 .1 .1 .1 .1 .1 .1 .1 .1 .1 .1 .1 .1 .1 .1 .1 .1 .1 .1 .0) (m31 record
+                      { before = record { before = c .before; line-count = c .line-count }; write-set-arg = record { given = g } } g') (g' .1),
+                  (
+                    tt,
+                    (
+                      sub-write-set-2 record
+                          { before = record { before = record { before = c .before; line-count = c .line-count }; write-set-arg = record { given = g } }; write-set-arg2 = record { given = g' } },
+                      (
+                        (
+                          Path'.refl,
+                          Path'.refl,
+                          part-write-set-start-2 record
+                              { before = record { before = record { before = c .before; line-count = c .line-count }; write-set-arg = record { given = g } }; write-set-arg2 = record { given = g' } },
+                          part-write-set-end-2
+                              record { before = record { before = record { before = c .before; line-count = c .line-count }; write-set-arg = record { given = g } }; write-set-arg2 = record { given = g' } },
+                        ),
+                        λ g''. (
+                          Relend.count-is T42 25 26 (λ x. x) (λ u. u .1 .1 .1 .1 .1 .1 .1 .1 .1 .1 .1 .1 .1 .1 .1 .1 .1 .1 .1 .1 .1 .1 .1 .1 .0) (m37 record
+                              { before = record { before = record { before = c .before; line-count = c .line-count }; write-set-arg = record { given = g } }; write-set-arg2 = record { given = g' } } g'') (g'' .1),
+                          (
+                            tt,
+                            (
+                              sub-write-set-3 record {
+                                before = record { before = record { before = record { before = c .before; line-count = c .line-count }; write-set-arg = record { given = g } }; write-set-arg2 = record { given = g' } };
+                                write-set-arg3 = record { given = g'' };
+                              },
+                              (
+                                (
+                                  Path'.refl,
+                                  Path'.refl,
+                                  part-write-set-start-3 record {
+                                    before = record { before = record { before = record { before = c .before; line-count = c .line-count }; write-set-arg = record { given = g } }; write-set-arg2 = record { given = g' } };
+                                    write-set-arg3 = record { given = g'' };
+                                  },
+                                  part-write-set-end-3 record {
+                                    before = record { before = record { before = record { before = c .before; line-count = c .line-count }; write-set-arg = record { given = g } }; write-set-arg2 = record { given = g' } };
+                                    write-set-arg3 = record { given = g'' };
+                                  },
+                                ),
+                                λ g'3. (
+                                  Relend.count-is T48 29 30 (λ x. x) (λ u. u .1 .1 .1 .1 .1 .1 .1 .1 .1 .1 .1 .1 .1 .1 .1 .1 .1 .1 .1 .1 .1 .1 .1 .1 .1 .1 .1 .1 .0) (m43 record {
+                                    before = record { before = record { before = record { before = c .before; line-count = c .line-count }; write-set-arg = record { given = g } }; write-set-arg2 = record { given = g' } };
+                                    write-set-arg3 = record { given = g'' };
+                                  } g'3) (g'3 .1),
+                                  (
+                                    write-set-requires record {
+                                      before = record {
+                                        before = record { before = record { before = record { before = c .before; line-count = c .line-count }; write-set-arg = record { given = g } }; write-set-arg2 = record { given = g' } };
+                                        write-set-arg3 = record { given = g'' };
+                                      };
+                                      write-set-arg4 = record { given = g'3 };
+                                    },
+                                    λ g'4. (
+                                      Path'.refl,
+                                      λ g'5. λ g'6. (
+                                        Path'.refl,
+                                        λ g'7. λ g'8. (
+                                          Path'.refl,
+                                          λ g'9. lay6 record {
+                                            before = record {
+                                              before = record {
+                                                before = record {
+                                                  before = record {
+                                                    before = record {
+                                                      before = record {
+                                                        before = record {
+                                                          before = record { before = record { before = record { before = c .before; line-count = c .line-count }; write-set-arg = record { given = g } }; write-set-arg2 = record { given = g' } };
+                                                          write-set-arg3 = record { given = g'' };
+                                                        };
+                                                        write-set-arg4 = record { given = g'3 };
+                                                      };
+                                                      write-set = Called.called ps·4 r·4 (claims· .9) T50 (
+                                                        record { pos = 2; ty = Syntax.tyRef (Syntax.named 1) Syntax.imm (Syntax.tyInt Syntax.w16); ref = λ x. x },
+                                                        (
+                                                          record { pos = 18; ty = Syntax.tyRef Syntax.erased Syntax.mut (Syntax.tyInt Syntax.w8); ref = λ x. x },
+                                                          (
+                                                            Bool.bAt 4 λ x. x,
+                                                            (
+                                                              record { pos = 22; ty = Syntax.tyRef Syntax.erased Syntax.mut (Syntax.tyInt Syntax.w16); ref = λ x. x },
+                                                              (
+                                                                record { pos = 26; ty = Syntax.tyRef Syntax.erased Syntax.mut Element.behind; ref = λ x. x },
+                                                                (
+                                                                  record { pos = 11; st = List.[]; d = 0; at = λ x. x },
+                                                                  (record { pos = 30; ty = Syntax.tyRef Syntax.erased Syntax.imm (Syntax.tyInt Syntax.w8); ref = λ x. x }, (Num.vAt 12 λ x. x, tt)),
+                                                                ),
+                                                              ),
+                                                            ),
+                                                          ),
+                                                        ),
+                                                      ) (m45 record {
+                                                        before = record { before = record { before = record { before = c .before; line-count = c .line-count }; write-set-arg = record { given = g } }; write-set-arg2 = record { given = g' } };
+                                                        write-set-arg3 = record { given = g'' };
+                                                      } g'3) g'4;
+                                                    };
+                                                    out = record { given = g'5 };
+                                                  };
+                                                  slice-known3 = record { given = g'6 };
+                                                };
+                                                lines = record { given = g'7 };
+                                              };
+                                              slice-known4 = record {
+                                                given = g'8;
+                                              };
+                                            };
+                                            rs = record { given = g'9 };
+                                          },
+                                        ),
+                                      ),
+                                    ),
+                                  ),
+                                ),
+                              ),
+                            ),
+                          ),
+                        ),
+                      ),
+                    ),
+                  ),
+                ),
+              ),
+            ),
+          ),
+        )
 
         lay3 : (c : After-form-of) → at30 (W1 (c .before .before .before .before .before .before) (After-writing-begins·gave (c .before .before .before .before .before))) (m23 (c .before)
             (After-form-of·gave c))
-        lay3 = λ c.
-            (line-count-requires record { before = c .before; form-of = c .form-of }, λ g. lay4 record
-            { before = record { before = c .before; form-of = c .form-of }; line-count = Called.called ps·3 r·3 (claims· .7) T25 (record { pos = 9; st = List.[]; d = 0; at = λ x. x }, tt) (m23 (c .before)
-            (After-form-of·gave c)) g; })
+        lay3 = λ c. (
+          line-count-requires record { before = c .before; form-of = c .form-of },
+          λ g. lay4 record {
+            before = record { before = c .before; form-of = c .form-of };
+            line-count = Called.called ps·3 r·3 (claims· .7) T25 (record { pos = 9; st = List.[]; d = 0; at = λ x. x }, tt) (m23 (c .before)
+                (After-form-of·gave c)) g;
+          },
+        )
 
         lay2 : (c : After-samples-needed) → at31 (W1 (c .before .before .before .before .before) (After-writing-begins·gave (c .before .before .before .before))) (m22 (c .before)
             (After-samples-needed·gave c))
-        lay2 = λ c.
-            (form-of-requires record { before = c .before; samples-needed = c .samples-needed }, λ g. lay3 record
-            { before = record { before = c .before; samples-needed = c .samples-needed }; form-of = Called.called ps·2 r·2 (claims· .5) T24 (record { pos = 9; st = List.[]; d = 0; at = λ x. x }, tt) (m22
-            (c .before) (After-samples-needed·gave c)) g; })
+        lay2 = λ c. (
+          form-of-requires record { before = c .before; samples-needed = c .samples-needed },
+          λ g. lay3 record {
+            before = record { before = c .before; samples-needed = c .samples-needed };
+            form-of = Called.called ps·2 r·2 (claims· .5) T24 (record { pos = 9; st = List.[]; d = 0; at = λ x. x }, tt) (m22
+                (c .before) (After-samples-needed·gave c)) g;
+          },
+        )
 
         lay1 : (c : After-writing-begins) → at45 (W0 (c .before .before .before .before .before .κs) (c .before .before .before .before .before .args)) (m8 (c .before) (After-writing-begins·gave c))
-        lay1 = λ c.
-            (λ k.
-            (enum-known-begins record { before = record { before = c .before; writing-begins = c .writing-begins }; match = record { keys1 = k }; }, λ g. λ g'. lay5 record
-            { before = record { before = record { before = record { before = c .before; writing-begins = c .writing-begins }; match = record { keys1 = k }; }; begins = record { given = g }; }; known-told
-            = record { given = g' }; }),
-            (λ k.
-            (enum-known-begins-2 record { before = record { before = c .before; writing-begins = c .writing-begins }; match = record { keys2 = k }; }, λ g. λ g''.
-            (samples-needed-requires record
-            { before = record { before = record { before = record { before = c .before; writing-begins = c .writing-begins }; match = record { keys2 = k }; }; begins2 = record { given = g }; };
-            known-told2 = record { given = g'' }; }, λ g'3. lay2 record
-            { before = record
-            { before = record { before = record { before = record { before = c .before; writing-begins = c .writing-begins; }; match = record { keys2 = k }; }; begins2 = record { given = g }; };
-            known-told2 = record { given = g'' }; }; samples-needed = Called.called ps·1 r·1 (claims· .3) T23
-            (Bool.bFld 9 (List._∷_ (Syntax.field 1) List.[]) 1 λ x. FujiHeader.struct .as-values x .1 .0, tt) (m21 record
-            { before = record { before = record { before = c .before; writing-begins = c .writing-begins }; match = record { keys2 = k }; }; begins2 = record { given = g }; } g'') g'3; })),
+        lay1 = λ c. (
+          λ k. (
+            enum-known-begins record { before = record { before = c .before; writing-begins = c .writing-begins }; match = record { keys1 = k } },
+            λ g. λ g'. lay5 record {
+              before = record { before = record { before = record { before = c .before; writing-begins = c .writing-begins }; match = record { keys1 = k } }; begins = record { given = g } };
+              known-told
+                  = record { given = g' };
+            },
+          ),
+          (
+            λ k. (
+              enum-known-begins-2 record { before = record { before = c .before; writing-begins = c .writing-begins }; match = record { keys2 = k } },
+              λ g. λ g''. (
+                samples-needed-requires record {
+                  before = record { before = record { before = record { before = c .before; writing-begins = c .writing-begins }; match = record { keys2 = k } }; begins2 = record { given = g } };
+                  known-told2 = record { given = g'' };
+                },
+                λ g'3. lay2 record {
+                  before = record {
+                    before = record { before = record { before = record { before = c .before; writing-begins = c .writing-begins }; match = record { keys2 = k } }; begins2 = record { given = g } };
+                    known-told2 = record { given = g'' };
+                  };
+                  samples-needed = Called.called ps·1 r·1 (claims· .3) T23
+                      (Bool.bFld 9 (List._∷_ (Syntax.field 1) List.[]) 1 λ x. FujiHeader.struct .as-values x .1 .0, tt) (m21 record
+                      { before = record { before = record { before = c .before; writing-begins = c .writing-begins }; match = record { keys2 = k } }; begins2 = record { given = g } } g'') g'3;
+                },
+              ),
+            ),
             Match.each-below 2 (λ j. (Unit {0} × (Run.OneOf (List._∷_ 1 List.[]) j → ⊥)) × (Run.OneOf (List._∷_ 0 List.[]) j → ⊥) → ⊥) (λ n. n .0 .1 Path'.refl, (λ n. n .1 Path'.refl, tt)) (Declared.tagOf
-            Parsed.the-type (Row.get 7 (T13 .locals) (m11 (c .before) (After-writing-begins·gave c)))) (Match.tag-small Parsed.the-type (Row.get 7 (T13 .locals) (m11 (c .before) (After-writing-begins·gave
-            c))))))
+                Parsed.the-type (Row.get 7 (T13 .locals) (m11 (c .before) (After-writing-begins·gave c)))) (Match.tag-small Parsed.the-type (Row.get 7 (T13 .locals) (m11 (c .before) (After-writing-begins·gave
+                c)))),
+          ),
+        )
 
         pub laid : (c : Start) → at53 (W0 (c .κs) (c .args)) (m0 (c .κs) (c .args))
-        laid = λ c. λ g. λ g'. λ g''. λ g'3.
-            (writing-begins-requires record
-            { before = record
-            { before = record { before = record { before = c; shared-slice-known = record { given = g } }; shared-slice-known2 = record { given = g' }; }; slice-known = record { given = g'' }; };
-            slice-known2 = record { given = g'3 }; }, λ g'4. lay1 record
-            { before = record
-            { before = record
-            { before = record { before = record { before = c; shared-slice-known = record { given = g } }; shared-slice-known2 = record { given = g' }; }; slice-known = record { given = g'' }; };
-            slice-known2 = record { given = g'3 }; }; writing-begins = Called.called ps·0 r·0 (claims· .1) T8
-            (record { pos = 1; ty = Syntax.tyRef (Syntax.named 0) Syntax.imm (Syntax.tyInt Syntax.w8); ref = λ x. x; }, (Num.vAt 13 λ x. x, (Num.vAt 14 λ x. x, (Num.vAt 15 λ x. x, tt)))) (m7 record
-            { before = record { before = record { before = c; shared-slice-known = record { given = g } }; shared-slice-known2 = record { given = g' }; }; slice-known = record { given = g'' }; } g'3) g'4;
-            })
+        laid = λ c. λ g. λ g'. λ g''. λ g'3. (
+          writing-begins-requires record {
+            before = record
+                { before = record { before = record { before = c; shared-slice-known = record { given = g } }; shared-slice-known2 = record { given = g' } }; slice-known = record { given = g'' } };
+            slice-known2 = record { given = g'3 };
+          },
+          λ g'4. lay1 record {
+            before = record {
+              before = record
+                  { before = record { before = record { before = c; shared-slice-known = record { given = g } }; shared-slice-known2 = record { given = g' } }; slice-known = record { given = g'' } };
+              slice-known2 = record { given = g'3 };
+            };
+            writing-begins = Called.called ps·0 r·0 (claims· .1) T8
+                (record { pos = 1; ty = Syntax.tyRef (Syntax.named 0) Syntax.imm (Syntax.tyInt Syntax.w8); ref = λ x. x }, (Num.vAt 13 λ x. x, (Num.vAt 14 λ x. x, (Num.vAt 15 λ x. x, tt)))) (m7 record
+                { before = record { before = record { before = c; shared-slice-known = record { given = g } }; shared-slice-known2 = record { given = g' } }; slice-known = record { given = g'' } } g'3) g'4;
+          },
+        )
 
         module _ (κs : Lifetimes.Lfts 5) (qs : Lifetimes.Shares 5) where
           pub asked : (a : Kinds.Dens κs ps) → (good : Kinds.GoodsP κs ps a) → (pre : Pre· κs a) → (bs : List.List Nat.ℕ) → Φ (Any.wantQ 5 ps r xs m κs qs a (Post· κs a)) (Function.init 5 ps r xs m κs
               qs a)
           asked = λ a good pre bs. laid record
-              { κs = κs; args = record { header = a .0; samples = a .1 .0; out = a .1 .1 .0; measure = a .1 .1 .1 .0; lines = a .1 .1 .1 .1 .0; rs = a .1 .1 .1 .1 .1 .0; }; good = good; pre = pre; }
+              { κs = κs; args = record { header = a .0; samples = a .1 .0; out = a .1 .1 .0; measure = a .1 .1 .1 .0; lines = a .1 .1 .1 .1 .0; rs = a .1 .1 .1 .1 .1 .0 }; good = good; pre = pre }
 
         module _ {M : Type 1} (𝓤 : URA.URA M) (H : Wp.Heap 𝓤) (A : Atoms.Atoms 𝓤) (W : Kit.Given 𝓤 H A) (𝓣 : Wp.Tables 𝓤 H) (known0 : Plain.Known 𝓤 H A W 𝓣 1 ps·0 r·0 (claims· .0) (claims· .1)
             "begin::writing_begins") (known1 : Plain.Known 𝓤 H A W 𝓣 0 ps·1 r·1 (claims· .2) (claims· .3) "begin::samples_needed") (known2 : Plain.Known 𝓤 H A W 𝓣 0 ps·2 r·2 (claims· .4) (claims· .5)

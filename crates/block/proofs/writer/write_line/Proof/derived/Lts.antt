@@ -119,27 +119,77 @@ y8 = Syntax.tyStruct (List._∷_ 119 (List._∷_ 114 (List._∷_ 105 (List._∷_
 
 abbrev pub ps : List.List (Kinds.PK 4)
 ps = List._∷_ (ShrSlice.pShrS (Referent.rtF (Referent.fInt Syntax.w16)) 0 tt) (List._∷_ (Num.pNum Syntax.w64) (List._∷_ (MutSlice.pMutS (Referent.rtF (Referent.fInt Syntax.w8)) 1 tt) (List._∷_
-    Bool.pBool (List._∷_ (Value.pVal record
-    { ty = Declared'.row BitPosition.the-type; one = Path'.refl; val = Laws'8.val BitPosition.the-type Laws.the-laws; tells = Laws'8.tells BitPosition.the-type Laws.the-laws; still = Laws'8.still
-    BitPosition.the-type Laws.the-copy Exit.yes; row = Rows.whole (Declared'.row BitPosition.the-type); rd = λ x. x; mk = λ x. x; } λ M 𝓤 H A W. record
-    { copies = Laws'8.copy BitPosition.the-type Laws.the-copy 𝓤 H A W; lawful = Laws'8.lawful BitPosition.the-type Laws.the-laws 𝓤 H A W; makes = Laws'8.makes BitPosition.the-type Laws.the-plain 𝓤 H A;
-    in-mem = Local.mem-whole 𝓤 H A W (Declared'.row BitPosition.the-type); of-mem = Local.whole-mem 𝓤 H A W (Declared'.row BitPosition.the-type); }) (List._∷_ (MutSlice.pMutS (Referent.rtF (Referent.fInt
-    Syntax.w16)) 2 tt) (List._∷_ (MutSlice.pMutS (Element.type) 3 tt) (List._∷_ (Value.pVal record
-    { ty = Declared'.row Form.the-type; one = Path'.refl; val = Laws'8.val Form.the-type Laws'.the-laws; tells = Laws'8.tells Form.the-type Laws'.the-laws; still = Laws'8.still Form.the-type
-    Laws'.the-copy Exit.yes; row = Rows.whole (Declared'.row Form.the-type); rd = λ x. x; mk = λ x. x; } λ M 𝓤 H A W. record
-    { copies = Laws'8.copy Form.the-type Laws'.the-copy 𝓤 H A W; lawful = Laws'8.lawful Form.the-type Laws'.the-laws 𝓤 H A W; makes = Laws'8.makes Form.the-type Laws'.the-plain 𝓤 H A; in-mem =
-    Local.mem-whole 𝓤 H A W (Declared'.row Form.the-type); of-mem = Local.whole-mem 𝓤 H A W (Declared'.row Form.the-type); }) (List._∷_ (Value.pVal record
-    { ty = Declared'.row Quantisers.the-type; one = Path'.refl; val = Laws'8.val Quantisers.the-type Laws'3.the-laws; tells = Laws'8.tells Quantisers.the-type Laws'3.the-laws; still = Laws'8.still
-    Quantisers.the-type Laws'3.the-copy Exit.yes; row = Rows.whole (Declared'.row Quantisers.the-type); rd = λ x. x; mk = λ x. x; } λ M 𝓤 H A W. record
-    { copies = Laws'8.copy Quantisers.the-type Laws'3.the-copy 𝓤 H A W; lawful = Laws'8.lawful Quantisers.the-type Laws'3.the-laws 𝓤 H A W; makes = Laws'8.makes Quantisers.the-type Laws'3.the-plain 𝓤 H A;
-    in-mem = Local.mem-whole 𝓤 H A W (Declared'.row Quantisers.the-type); of-mem = Local.whole-mem 𝓤 H A W (Declared'.row Quantisers.the-type); }) (List._∷_ Bool.pBool List.[])))))))))
+    Bool.pBool (List._∷_ (Value.pVal record {
+      ty = Declared'.row BitPosition.the-type;
+      one = Path'.refl;
+      val = Laws'8.val BitPosition.the-type Laws.the-laws;
+      tells = Laws'8.tells BitPosition.the-type Laws.the-laws;
+      still = Laws'8.still
+          BitPosition.the-type Laws.the-copy Exit.yes;
+      row = Rows.whole (Declared'.row BitPosition.the-type);
+      rd = λ x. x;
+      mk = λ x. x;
+    } λ M 𝓤 H A W. record {
+      copies = Laws'8.copy BitPosition.the-type Laws.the-copy 𝓤 H A W;
+      lawful = Laws'8.lawful BitPosition.the-type Laws.the-laws 𝓤 H A W;
+      makes = Laws'8.makes BitPosition.the-type Laws.the-plain 𝓤 H A;
+      in-mem = Local.mem-whole 𝓤 H A W (Declared'.row BitPosition.the-type);
+      of-mem = Local.whole-mem 𝓤 H A W (Declared'.row BitPosition.the-type);
+    }) (List._∷_ (MutSlice.pMutS (Referent.rtF (Referent.fInt
+    Syntax.w16)) 2 tt) (List._∷_ (MutSlice.pMutS (Element.type) 3 tt) (List._∷_ (Value.pVal record {
+      ty = Declared'.row Form.the-type;
+      one = Path'.refl;
+      val = Laws'8.val Form.the-type Laws'.the-laws;
+      tells = Laws'8.tells Form.the-type Laws'.the-laws;
+      still = Laws'8.still Form.the-type
+          Laws'.the-copy Exit.yes;
+      row = Rows.whole (Declared'.row Form.the-type);
+      rd = λ x. x;
+      mk = λ x. x;
+    } λ M 𝓤 H A W. record {
+      copies = Laws'8.copy Form.the-type Laws'.the-copy 𝓤 H A W;
+      lawful = Laws'8.lawful Form.the-type Laws'.the-laws 𝓤 H A W;
+      makes = Laws'8.makes Form.the-type Laws'.the-plain 𝓤 H A;
+      in-mem =
+          Local.mem-whole 𝓤 H A W (Declared'.row Form.the-type);
+      of-mem = Local.whole-mem 𝓤 H A W (Declared'.row Form.the-type);
+    }) (List._∷_ (Value.pVal record {
+      ty = Declared'.row Quantisers.the-type;
+      one = Path'.refl;
+      val = Laws'8.val Quantisers.the-type Laws'3.the-laws;
+      tells = Laws'8.tells Quantisers.the-type Laws'3.the-laws;
+      still = Laws'8.still
+          Quantisers.the-type Laws'3.the-copy Exit.yes;
+      row = Rows.whole (Declared'.row Quantisers.the-type);
+      rd = λ x. x;
+      mk = λ x. x;
+    } λ M 𝓤 H A W. record {
+      copies = Laws'8.copy Quantisers.the-type Laws'3.the-copy 𝓤 H A W;
+      lawful = Laws'8.lawful Quantisers.the-type Laws'3.the-laws 𝓤 H A W;
+      makes = Laws'8.makes Quantisers.the-type Laws'3.the-plain 𝓤 H A;
+      in-mem = Local.mem-whole 𝓤 H A W (Declared'.row Quantisers.the-type);
+      of-mem = Local.whole-mem 𝓤 H A W (Declared'.row Quantisers.the-type);
+    }) (List._∷_ Bool.pBool List.[])))))))))
 
 abbrev pub r : Kinds.RK 4
-r = Value.rVal record
-    { ty = Declared.row Put.the-type; one = Path'.refl; val = Laws'7.val Put.the-type Laws'6.the-laws; tells = Laws'7.tells Put.the-type Laws'6.the-laws; still = Laws'7.still Put.the-type Laws'6.the-copy
-    Exit.yes; row = Rows.whole (Declared.row Put.the-type); rd = λ x. x; mk = λ x. x; } λ M 𝓤 H A W. record
-    { copies = Laws'7.copy Put.the-type Laws'6.the-copy 𝓤 H A W; lawful = Laws'7.lawful Put.the-type Laws'6.the-laws 𝓤 H A W tt; makes = Laws'7.makes Put.the-type Laws'6.the-plain 𝓤 H A; in-mem =
-    Local.mem-whole 𝓤 H A W (Declared.row Put.the-type); of-mem = Local.whole-mem 𝓤 H A W (Declared.row Put.the-type); }
+r = Value.rVal record {
+  ty = Declared.row Put.the-type;
+  one = Path'.refl;
+  val = Laws'7.val Put.the-type Laws'6.the-laws;
+  tells = Laws'7.tells Put.the-type Laws'6.the-laws;
+  still = Laws'7.still Put.the-type Laws'6.the-copy
+      Exit.yes;
+  row = Rows.whole (Declared.row Put.the-type);
+  rd = λ x. x;
+  mk = λ x. x;
+} λ M 𝓤 H A W. record {
+  copies = Laws'7.copy Put.the-type Laws'6.the-copy 𝓤 H A W;
+  lawful = Laws'7.lawful Put.the-type Laws'6.the-laws 𝓤 H A W tt;
+  makes = Laws'7.makes Put.the-type Laws'6.the-plain 𝓤 H A;
+  in-mem =
+      Local.mem-whole 𝓤 H A W (Declared.row Put.the-type);
+  of-mem = Local.whole-mem 𝓤 H A W (Declared.row Put.the-type);
+}
 
 abbrev pub xs : List.List Syntax.Ty
 xs = List._∷_ (Syntax.tyInt Syntax.w32) (List._∷_ Syntax.tyBool (List._∷_ (Syntax.tyInt Syntax.w64) (List._∷_ y6 (List._∷_ (Syntax.tyInt Syntax.w64) (List._∷_ y0 (List._∷_ y2 (List._∷_ y8 (List._∷_
@@ -161,11 +211,24 @@ abbrev pub ps·1 : List.List (Kinds.PK 0)
 ps·1 = List._∷_ (Num.pNum Syntax.w64) (List._∷_ Bool.pBool List.[])
 
 abbrev pub r·1 : Kinds.RK 0
-r·1 = Value.rVal record
-    { ty = Declared'.row Plan.the-type; one = Path'.refl; val = Laws'8.val Plan.the-type Laws''.the-laws; tells = Laws'8.tells Plan.the-type Laws''.the-laws; still = Laws'8.still Plan.the-type
-    Laws''.the-copy Exit.yes; row = Rows.whole (Declared'.row Plan.the-type); rd = λ x. x; mk = λ x. x; } λ M 𝓤 H A W. record
-    { copies = Laws'8.copy Plan.the-type Laws''.the-copy 𝓤 H A W; lawful = Laws'8.lawful Plan.the-type Laws''.the-laws 𝓤 H A W; makes = Laws'8.makes Plan.the-type Laws''.the-plain 𝓤 H A; in-mem =
-    Local.mem-whole 𝓤 H A W (Declared'.row Plan.the-type); of-mem = Local.whole-mem 𝓤 H A W (Declared'.row Plan.the-type); }
+r·1 = Value.rVal record {
+  ty = Declared'.row Plan.the-type;
+  one = Path'.refl;
+  val = Laws'8.val Plan.the-type Laws''.the-laws;
+  tells = Laws'8.tells Plan.the-type Laws''.the-laws;
+  still = Laws'8.still Plan.the-type
+      Laws''.the-copy Exit.yes;
+  row = Rows.whole (Declared'.row Plan.the-type);
+  rd = λ x. x;
+  mk = λ x. x;
+} λ M 𝓤 H A W. record {
+  copies = Laws'8.copy Plan.the-type Laws''.the-copy 𝓤 H A W;
+  lawful = Laws'8.lawful Plan.the-type Laws''.the-laws 𝓤 H A W;
+  makes = Laws'8.makes Plan.the-type Laws''.the-plain 𝓤 H A;
+  in-mem =
+      Local.mem-whole 𝓤 H A W (Declared'.row Plan.the-type);
+  of-mem = Local.whole-mem 𝓤 H A W (Declared'.row Plan.the-type);
+}
 
 abbrev pub ps·2 : List.List (Kinds.PK 1)
 ps·2 = List._∷_ (MutSlice.pMutS (Referent.rtF (Referent.fInt Syntax.w16)) 0 tt) (List._∷_ (Num.pNum Syntax.w64) (List._∷_ (Num.pNum Syntax.w64) List.[]))
@@ -177,47 +240,136 @@ abbrev pub ps·3 : List.List (Kinds.PK 1)
 ps·3 = List._∷_ (MutSlice.pMutS (Element.type) 0 tt) (List._∷_ (Num.pNum Syntax.w64) List.[])
 
 abbrev pub r·3 : Kinds.RK 1
-r·3 = Value.rVal record
-    { ty = Declared'.row Set.the-type; one = Path'.refl; val = Laws'8.val Set.the-type Laws'4.the-laws; tells = Laws'8.tells Set.the-type Laws'4.the-laws; still = Laws'8.still Set.the-type Laws'4.the-copy
-    Exit.yes; row = Rows.whole (Declared'.row Set.the-type); rd = λ x. x; mk = λ x. x; } λ M 𝓤 H A W. record
-    { copies = Laws'8.copy Set.the-type Laws'4.the-copy 𝓤 H A W; lawful = Laws'8.lawful Set.the-type Laws'4.the-laws 𝓤 H A W; makes = Laws'8.makes Set.the-type Laws'4.the-plain 𝓤 H A; in-mem =
-    Local.mem-whole 𝓤 H A W (Declared'.row Set.the-type); of-mem = Local.whole-mem 𝓤 H A W (Declared'.row Set.the-type); }
+r·3 = Value.rVal record {
+  ty = Declared'.row Set.the-type;
+  one = Path'.refl;
+  val = Laws'8.val Set.the-type Laws'4.the-laws;
+  tells = Laws'8.tells Set.the-type Laws'4.the-laws;
+  still = Laws'8.still Set.the-type Laws'4.the-copy
+      Exit.yes;
+  row = Rows.whole (Declared'.row Set.the-type);
+  rd = λ x. x;
+  mk = λ x. x;
+} λ M 𝓤 H A W. record {
+  copies = Laws'8.copy Set.the-type Laws'4.the-copy 𝓤 H A W;
+  lawful = Laws'8.lawful Set.the-type Laws'4.the-laws 𝓤 H A W;
+  makes = Laws'8.makes Set.the-type Laws'4.the-plain 𝓤 H A;
+  in-mem =
+      Local.mem-whole 𝓤 H A W (Declared'.row Set.the-type);
+  of-mem = Local.whole-mem 𝓤 H A W (Declared'.row Set.the-type);
+}
 
 abbrev pub ps·4 : List.List (Kinds.PK 3)
 ps·4 = List._∷_ (ShrSlice.pShrS (Referent.rtF (Referent.fInt Syntax.w16)) 0 tt) (List._∷_ (Num.pNum Syntax.w64) (List._∷_ (MutSlice.pMutS (Referent.rtF (Referent.fInt Syntax.w8)) 1 tt) (List._∷_
-    Bool.pBool (List._∷_ (Value.pVal record
-    { ty = Declared'.row BitPosition.the-type; one = Path'.refl; val = Laws'8.val BitPosition.the-type Laws.the-laws; tells = Laws'8.tells BitPosition.the-type Laws.the-laws; still = Laws'8.still
-    BitPosition.the-type Laws.the-copy Exit.yes; row = Rows.whole (Declared'.row BitPosition.the-type); rd = λ x. x; mk = λ x. x; } λ M 𝓤 H A W. record
-    { copies = Laws'8.copy BitPosition.the-type Laws.the-copy 𝓤 H A W; lawful = Laws'8.lawful BitPosition.the-type Laws.the-laws 𝓤 H A W; makes = Laws'8.makes BitPosition.the-type Laws.the-plain 𝓤 H A;
-    in-mem = Local.mem-whole 𝓤 H A W (Declared'.row BitPosition.the-type); of-mem = Local.whole-mem 𝓤 H A W (Declared'.row BitPosition.the-type); }) (List._∷_ (MutSlice.pMutS (Referent.rtF (Referent.fInt
-    Syntax.w16)) 2 tt) (List._∷_ (Value.pVal record
-    { ty = Declared'.row Set.the-type; one = Path'.refl; val = Laws'8.val Set.the-type Laws'4.the-laws; tells = Laws'8.tells Set.the-type Laws'4.the-laws; still = Laws'8.still Set.the-type Laws'4.the-copy
-    Exit.yes; row = Rows.whole (Declared'.row Set.the-type); rd = λ x. x; mk = λ x. x; } λ M 𝓤 H A W. record
-    { copies = Laws'8.copy Set.the-type Laws'4.the-copy 𝓤 H A W; lawful = Laws'8.lawful Set.the-type Laws'4.the-laws 𝓤 H A W; makes = Laws'8.makes Set.the-type Laws'4.the-plain 𝓤 H A; in-mem =
-    Local.mem-whole 𝓤 H A W (Declared'.row Set.the-type); of-mem = Local.whole-mem 𝓤 H A W (Declared'.row Set.the-type); }) (List._∷_ (Num.pNum Syntax.w64) (List._∷_ (Value.pVal record
-    { ty = Declared'.row Plan.the-type; one = Path'.refl; val = Laws'8.val Plan.the-type Laws''.the-laws; tells = Laws'8.tells Plan.the-type Laws''.the-laws; still = Laws'8.still Plan.the-type
-    Laws''.the-copy Exit.yes; row = Rows.whole (Declared'.row Plan.the-type); rd = λ x. x; mk = λ x. x; } λ M 𝓤 H A W. record
-    { copies = Laws'8.copy Plan.the-type Laws''.the-copy 𝓤 H A W; lawful = Laws'8.lawful Plan.the-type Laws''.the-laws 𝓤 H A W; makes = Laws'8.makes Plan.the-type Laws''.the-plain 𝓤 H A; in-mem =
-    Local.mem-whole 𝓤 H A W (Declared'.row Plan.the-type); of-mem = Local.whole-mem 𝓤 H A W (Declared'.row Plan.the-type); }) (List._∷_ (Value.pVal record
-    { ty = Declared'.row Quantisers.the-type; one = Path'.refl; val = Laws'8.val Quantisers.the-type Laws'3.the-laws; tells = Laws'8.tells Quantisers.the-type Laws'3.the-laws; still = Laws'8.still
-    Quantisers.the-type Laws'3.the-copy Exit.yes; row = Rows.whole (Declared'.row Quantisers.the-type); rd = λ x. x; mk = λ x. x; } λ M 𝓤 H A W. record
-    { copies = Laws'8.copy Quantisers.the-type Laws'3.the-copy 𝓤 H A W; lawful = Laws'8.lawful Quantisers.the-type Laws'3.the-laws 𝓤 H A W; makes = Laws'8.makes Quantisers.the-type Laws'3.the-plain 𝓤 H A;
-    in-mem = Local.mem-whole 𝓤 H A W (Declared'.row Quantisers.the-type); of-mem = Local.whole-mem 𝓤 H A W (Declared'.row Quantisers.the-type); }) (List._∷_ (Num.pNum Syntax.w32) (List._∷_ Bool.pBool
+    Bool.pBool (List._∷_ (Value.pVal record {
+      ty = Declared'.row BitPosition.the-type;
+      one = Path'.refl;
+      val = Laws'8.val BitPosition.the-type Laws.the-laws;
+      tells = Laws'8.tells BitPosition.the-type Laws.the-laws;
+      still = Laws'8.still
+          BitPosition.the-type Laws.the-copy Exit.yes;
+      row = Rows.whole (Declared'.row BitPosition.the-type);
+      rd = λ x. x;
+      mk = λ x. x;
+    } λ M 𝓤 H A W. record {
+      copies = Laws'8.copy BitPosition.the-type Laws.the-copy 𝓤 H A W;
+      lawful = Laws'8.lawful BitPosition.the-type Laws.the-laws 𝓤 H A W;
+      makes = Laws'8.makes BitPosition.the-type Laws.the-plain 𝓤 H A;
+      in-mem = Local.mem-whole 𝓤 H A W (Declared'.row BitPosition.the-type);
+      of-mem = Local.whole-mem 𝓤 H A W (Declared'.row BitPosition.the-type);
+    }) (List._∷_ (MutSlice.pMutS (Referent.rtF (Referent.fInt
+    Syntax.w16)) 2 tt) (List._∷_ (Value.pVal record {
+      ty = Declared'.row Set.the-type;
+      one = Path'.refl;
+      val = Laws'8.val Set.the-type Laws'4.the-laws;
+      tells = Laws'8.tells Set.the-type Laws'4.the-laws;
+      still = Laws'8.still Set.the-type Laws'4.the-copy
+          Exit.yes;
+      row = Rows.whole (Declared'.row Set.the-type);
+      rd = λ x. x;
+      mk = λ x. x;
+    } λ M 𝓤 H A W. record {
+      copies = Laws'8.copy Set.the-type Laws'4.the-copy 𝓤 H A W;
+      lawful = Laws'8.lawful Set.the-type Laws'4.the-laws 𝓤 H A W;
+      makes = Laws'8.makes Set.the-type Laws'4.the-plain 𝓤 H A;
+      in-mem =
+          Local.mem-whole 𝓤 H A W (Declared'.row Set.the-type);
+      of-mem = Local.whole-mem 𝓤 H A W (Declared'.row Set.the-type);
+    }) (List._∷_ (Num.pNum Syntax.w64) (List._∷_ (Value.pVal record {
+      ty = Declared'.row Plan.the-type;
+      one = Path'.refl;
+      val = Laws'8.val Plan.the-type Laws''.the-laws;
+      tells = Laws'8.tells Plan.the-type Laws''.the-laws;
+      still = Laws'8.still Plan.the-type
+          Laws''.the-copy Exit.yes;
+      row = Rows.whole (Declared'.row Plan.the-type);
+      rd = λ x. x;
+      mk = λ x. x;
+    } λ M 𝓤 H A W. record {
+      copies = Laws'8.copy Plan.the-type Laws''.the-copy 𝓤 H A W;
+      lawful = Laws'8.lawful Plan.the-type Laws''.the-laws 𝓤 H A W;
+      makes = Laws'8.makes Plan.the-type Laws''.the-plain 𝓤 H A;
+      in-mem =
+          Local.mem-whole 𝓤 H A W (Declared'.row Plan.the-type);
+      of-mem = Local.whole-mem 𝓤 H A W (Declared'.row Plan.the-type);
+    }) (List._∷_ (Value.pVal record {
+      ty = Declared'.row Quantisers.the-type;
+      one = Path'.refl;
+      val = Laws'8.val Quantisers.the-type Laws'3.the-laws;
+      tells = Laws'8.tells Quantisers.the-type Laws'3.the-laws;
+      still = Laws'8.still
+          Quantisers.the-type Laws'3.the-copy Exit.yes;
+      row = Rows.whole (Declared'.row Quantisers.the-type);
+      rd = λ x. x;
+      mk = λ x. x;
+    } λ M 𝓤 H A W. record {
+      copies = Laws'8.copy Quantisers.the-type Laws'3.the-copy 𝓤 H A W;
+      lawful = Laws'8.lawful Quantisers.the-type Laws'3.the-laws 𝓤 H A W;
+      makes = Laws'8.makes Quantisers.the-type Laws'3.the-plain 𝓤 H A;
+      in-mem = Local.mem-whole 𝓤 H A W (Declared'.row Quantisers.the-type);
+      of-mem = Local.whole-mem 𝓤 H A W (Declared'.row Quantisers.the-type);
+    }) (List._∷_ (Num.pNum Syntax.w32) (List._∷_ Bool.pBool
     List.[])))))))))))
 
 abbrev pub r·4 : Kinds.RK 3
-r·4 = Value.rVal record
-    { ty = Declared'.row PassPut.the-type; one = Path'.refl; val = Laws'8.val PassPut.the-type Laws'5.the-laws; tells = Laws'8.tells PassPut.the-type Laws'5.the-laws; still = Laws'8.still PassPut.the-type
-    Laws'5.the-copy Exit.yes; row = Rows.whole (Declared'.row PassPut.the-type); rd = λ x. x; mk = λ x. x; } λ M 𝓤 H A W. record
-    { copies = Laws'8.copy PassPut.the-type Laws'5.the-copy 𝓤 H A W; lawful = Laws'8.lawful PassPut.the-type Laws'5.the-laws 𝓤 H A W; makes = Laws'8.makes PassPut.the-type Laws'5.the-plain 𝓤 H A; in-mem =
-    Local.mem-whole 𝓤 H A W (Declared'.row PassPut.the-type); of-mem = Local.whole-mem 𝓤 H A W (Declared'.row PassPut.the-type); }
+r·4 = Value.rVal record {
+  ty = Declared'.row PassPut.the-type;
+  one = Path'.refl;
+  val = Laws'8.val PassPut.the-type Laws'5.the-laws;
+  tells = Laws'8.tells PassPut.the-type Laws'5.the-laws;
+  still = Laws'8.still PassPut.the-type
+      Laws'5.the-copy Exit.yes;
+  row = Rows.whole (Declared'.row PassPut.the-type);
+  rd = λ x. x;
+  mk = λ x. x;
+} λ M 𝓤 H A W. record {
+  copies = Laws'8.copy PassPut.the-type Laws'5.the-copy 𝓤 H A W;
+  lawful = Laws'8.lawful PassPut.the-type Laws'5.the-laws 𝓤 H A W;
+  makes = Laws'8.makes PassPut.the-type Laws'5.the-plain 𝓤 H A;
+  in-mem =
+      Local.mem-whole 𝓤 H A W (Declared'.row PassPut.the-type);
+  of-mem = Local.whole-mem 𝓤 H A W (Declared'.row PassPut.the-type);
+}
 
 abbrev pub ps·5 : List.List (Kinds.PK 1)
-ps·5 = List._∷_ (MutSlice.pMutS (Element.type) 0 tt) (List._∷_ (Num.pNum Syntax.w64) (List._∷_ (Value.pVal record
-    { ty = Declared'.row Set.the-type; one = Path'.refl; val = Laws'8.val Set.the-type Laws'4.the-laws; tells = Laws'8.tells Set.the-type Laws'4.the-laws; still = Laws'8.still Set.the-type Laws'4.the-copy
-    Exit.yes; row = Rows.whole (Declared'.row Set.the-type); rd = λ x. x; mk = λ x. x; } λ M 𝓤 H A W. record
-    { copies = Laws'8.copy Set.the-type Laws'4.the-copy 𝓤 H A W; lawful = Laws'8.lawful Set.the-type Laws'4.the-laws 𝓤 H A W; makes = Laws'8.makes Set.the-type Laws'4.the-plain 𝓤 H A; in-mem =
-    Local.mem-whole 𝓤 H A W (Declared'.row Set.the-type); of-mem = Local.whole-mem 𝓤 H A W (Declared'.row Set.the-type); }) List.[]))
+ps·5 = List._∷_ (MutSlice.pMutS (Element.type) 0 tt) (List._∷_ (Num.pNum Syntax.w64) (List._∷_ (Value.pVal record {
+  ty = Declared'.row Set.the-type;
+  one = Path'.refl;
+  val = Laws'8.val Set.the-type Laws'4.the-laws;
+  tells = Laws'8.tells Set.the-type Laws'4.the-laws;
+  still = Laws'8.still Set.the-type Laws'4.the-copy
+      Exit.yes;
+  row = Rows.whole (Declared'.row Set.the-type);
+  rd = λ x. x;
+  mk = λ x. x;
+} λ M 𝓤 H A W. record {
+  copies = Laws'8.copy Set.the-type Laws'4.the-copy 𝓤 H A W;
+  lawful = Laws'8.lawful Set.the-type Laws'4.the-laws 𝓤 H A W;
+  makes = Laws'8.makes Set.the-type Laws'4.the-plain 𝓤 H A;
+  in-mem =
+      Local.mem-whole 𝓤 H A W (Declared'.row Set.the-type);
+  of-mem = Local.whole-mem 𝓤 H A W (Declared'.row Set.the-type);
+}) List.[]))
 
 abbrev pub r·5 : Kinds.RK 1
 r·5 = Unit'.rUnit
@@ -470,9 +622,11 @@ Claims = Kinds.In 0 ps·0 × Kinds.Out 0 ps·0 r·0 × Kinds.In 0 ps·1 × Kinds
     3 ps·4 r·4 × Kinds.In 1 ps·5 × Kinds.Out 1 ps·5 r·5
 
 abbrev pub e0 : Row.Entry
-e0 =
-    (0, Rows.any-gone (Syntax.tyEnum (List._∷_ 119 (List._∷_ 114 (List._∷_ 105 (List._∷_ 116 (List._∷_ 105 (List._∷_ 110 (List._∷_ 103 (List._∷_ 58 (List._∷_ 58 (List._∷_ 80 (List._∷_ 117 (List._∷_ 116
-    List.[])))))))))))) (Syntax.ttcons (Syntax.tcons y6 Syntax.tnil) (Syntax.ttcons (Syntax.tcons (Syntax.tyInt Syntax.w64) Syntax.tnil) Syntax.ttnil))))
+e0 = (
+  0,
+  Rows.any-gone (Syntax.tyEnum (List._∷_ 119 (List._∷_ 114 (List._∷_ 105 (List._∷_ 116 (List._∷_ 105 (List._∷_ 110 (List._∷_ 103 (List._∷_ 58 (List._∷_ 58 (List._∷_ 80 (List._∷_ 117 (List._∷_ 116
+      List.[])))))))))))) (Syntax.ttcons (Syntax.tcons y6 Syntax.tnil) (Syntax.ttcons (Syntax.tcons (Syntax.tyInt Syntax.w64) Syntax.tnil) Syntax.ttnil))),
+)
 
 abbrev pub e1 : Row.Entry
 e1 = (0, Rows.whole (Declared.row Put.the-type))
@@ -1279,9 +1433,10 @@ module _ (claims· : Claims) where
       Syntax.w16)) (Syntax.tyRef Syntax.erased Syntax.mut (Syntax.tyInt Syntax.w16)) (λ x. x) (Scalar.oFld 6 (List._∷_ (Syntax.field 1) List.[]) (Syntax.tyInt Syntax.w64) 8 λ v. Shared.lenV (v .0))
 
   abbrev s18 : (bs : List.List Nat.ℕ) → Typed.Both T21 T22
-  s18 = λ bs. Call.callB ps·2 r·2 (claims· .4) (claims· .5) T21
-      (record { pos = 24; ty = Syntax.tyRef Syntax.erased Syntax.mut (Syntax.tyInt Syntax.w16); ref = λ x. x; },
-      (Num.vAt 13 λ x. x, (Num.vFld 16 (List._∷_ (Syntax.field 0) List.[]) 0 λ x. Plan.struct .as-values x .0, tt))) 22 (List._∷_ 4 List.[]) Syntax.tyUnit
+  s18 = λ bs. Call.callB ps·2 r·2 (claims· .4) (claims· .5) T21 (
+    record { pos = 24; ty = Syntax.tyRef Syntax.erased Syntax.mut (Syntax.tyInt Syntax.w16); ref = λ x. x },
+    (Num.vAt 13 λ x. x, (Num.vFld 16 (List._∷_ (Syntax.field 0) List.[]) 0 λ x. Plan.struct .as-values x .0, tt)),
+  ) 22 (List._∷_ 4 List.[]) Syntax.tyUnit
 
   abbrev s19 : (bs : List.List Nat.ℕ) → Typed.Mo T22 → Typed.Mo T23
   s19 = λ bs. Scalar.n-room T22 22 Syntax.tyUnit
@@ -1302,9 +1457,10 @@ module _ (claims· : Claims) where
       Syntax.w16)) (Syntax.tyRef Syntax.erased Syntax.mut (Syntax.tyInt Syntax.w16)) (λ x. x) (Scalar.oFld 6 (List._∷_ (Syntax.field 1) List.[]) (Syntax.tyInt Syntax.w64) 8 λ v. Shared.lenV (v .0))
 
   abbrev s27 : (bs : List.List Nat.ℕ) → Typed.Both T30 T31
-  s27 = λ bs. Call.callB ps·2 r·2 (claims· .4) (claims· .5) T30
-      (record { pos = 26; ty = Syntax.tyRef Syntax.erased Syntax.mut (Syntax.tyInt Syntax.w16); ref = λ x. x; },
-      (Num.vAt 13 λ x. x, (Num.vFld 16 (List._∷_ (Syntax.field 1) List.[]) 8 λ x. Plan.struct .as-values x .1 .0, tt))) 22 (List._∷_ 5 List.[]) Syntax.tyUnit
+  s27 = λ bs. Call.callB ps·2 r·2 (claims· .4) (claims· .5) T30 (
+    record { pos = 26; ty = Syntax.tyRef Syntax.erased Syntax.mut (Syntax.tyInt Syntax.w16); ref = λ x. x },
+    (Num.vAt 13 λ x. x, (Num.vFld 16 (List._∷_ (Syntax.field 1) List.[]) 8 λ x. Plan.struct .as-values x .1 .0, tt)),
+  ) 22 (List._∷_ 5 List.[]) Syntax.tyUnit
 
   abbrev s28 : (bs : List.List Nat.ℕ) → Typed.Mo T31 → Typed.Mo T32
   s28 = λ bs. Scalar.n-room T31 22 Syntax.tyUnit
@@ -1325,7 +1481,7 @@ module _ (claims· : Claims) where
 
   abbrev s36 : (bs : List.List Nat.ℕ) → Typed.Both T39 T40
   s36 = λ bs. Call.callB ps·3 r·3 (claims· .6) (claims· .7) T39
-      (record { pos = 28; ty = Syntax.tyRef Syntax.erased Syntax.mut Element.behind; ref = λ x. x; }, (Num.vFld 16 (List._∷_ (Syntax.field 2) List.[]) 16 λ x. Plan.struct .as-values x .1 .1 .0, tt)) 17
+      (record { pos = 28; ty = Syntax.tyRef Syntax.erased Syntax.mut Element.behind; ref = λ x. x }, (Num.vFld 16 (List._∷_ (Syntax.field 2) List.[]) 16 λ x. Plan.struct .as-values x .1 .1 .0, tt)) 17
       (List._∷_ 6 List.[]) y2
 
   abbrev s38 : (bs : List.List Nat.ℕ) → Typed.Both T40 T42
@@ -1348,15 +1504,28 @@ module _ (claims· : Claims) where
       Syntax.w16)) (Syntax.tyRef Syntax.erased Syntax.mut (Syntax.tyInt Syntax.w16)) (λ x. x) (Scalar.oFld 6 (List._∷_ (Syntax.field 1) List.[]) (Syntax.tyInt Syntax.w64) 8 λ v. Shared.lenV (v .0))
 
   abbrev s46 : (bs : List.List Nat.ℕ) → Typed.Both T49 T50
-  s46 = λ bs. Call.callB ps·4 r·4 (claims· .8) (claims· .9) T49
-      (record { pos = 1; ty = Syntax.tyRef (Syntax.named 0) Syntax.imm (Syntax.tyInt Syntax.w16); ref = λ x. x; },
-      (Num.vAt 2 λ x. x,
-      (record { pos = 30; ty = Syntax.tyRef Syntax.erased Syntax.mut (Syntax.tyInt Syntax.w8); ref = λ x. x; },
-      (Bool.bAt 4 λ x. x,
-      (record { pos = 14; st = List.[]; d = 0; at = λ x. x },
-      (record { pos = 32; ty = Syntax.tyRef Syntax.erased Syntax.mut (Syntax.tyInt Syntax.w16); ref = λ x. x; },
-      (record { pos = 17; st = List.[]; d = 0; at = λ x. x },
-      (Num.vAt 13 λ x. x, (record { pos = 16; st = List.[]; d = 0; at = λ x. x }, (record { pos = 9; st = List.[]; d = 0; at = λ x. x }, (Num.vAt 11 λ x. x, (Bool.bAt 10 λ x. x, tt)))))))))))) 18
+  s46 = λ bs. Call.callB ps·4 r·4 (claims· .8) (claims· .9) T49 (
+    record { pos = 1; ty = Syntax.tyRef (Syntax.named 0) Syntax.imm (Syntax.tyInt Syntax.w16); ref = λ x. x },
+    (
+      Num.vAt 2 λ x. x,
+      (
+        record { pos = 30; ty = Syntax.tyRef Syntax.erased Syntax.mut (Syntax.tyInt Syntax.w8); ref = λ x. x },
+        (
+          Bool.bAt 4 λ x. x,
+          (
+            record { pos = 14; st = List.[]; d = 0; at = λ x. x },
+            (
+              record { pos = 32; ty = Syntax.tyRef Syntax.erased Syntax.mut (Syntax.tyInt Syntax.w16); ref = λ x. x },
+              (
+                record { pos = 17; st = List.[]; d = 0; at = λ x. x },
+                (Num.vAt 13 λ x. x, (record { pos = 16; st = List.[]; d = 0; at = λ x. x }, (record { pos = 9; st = List.[]; d = 0; at = λ x. x }, (Num.vAt 11 λ x. x, (Bool.bAt 10 λ x. x, tt))))),
+              ),
+            ),
+          ),
+        ),
+      ),
+    ),
+  ) 18
       (List._∷_ 0 (List._∷_ 7 (List._∷_ 8 List.[]))) y8
 
   abbrev s47 : (bs : List.List Nat.ℕ) → Typed.Mo T50 → Typed.Mo T51
@@ -1430,7 +1599,7 @@ module _ (claims· : Claims) where
   abbrev s73 : (bs : List.List Nat.ℕ) → Typed.Both T63 T78
   s73 = λ bs. WayStmt.k-way-copy-out T63 (Row.out 18 (T63 .locals)) (λ u. Row.drop 18 (T63 .locals) u) 20 (Rows.whole (Declared'.row Set.the-type)) (λ u. At.getAt (PassPut.the-type .parts) 3
       (PassPut.struct .as-values (u .1 .1 .1 .1 .1 .1 .1 .1 .1 .1 .1 .1 .1 .1 .1 .1 .1 .1 .0))) (λ T′. record
-      { locals = Row.setRow 18 (18, Rows.whole (Declared'.row PassPut.the-type)) T′; slots = List.[]; }) (λ u T′ m′. Row.set 18 (18, Rows.whole (Declared'.row PassPut.the-type)) (u .1 .1 .1 .1 .1 .1 .1 .1
+      { locals = Row.setRow 18 (18, Rows.whole (Declared'.row PassPut.the-type)) T′; slots = List.[] }) (λ u T′ m′. Row.set 18 (18, Rows.whole (Declared'.row PassPut.the-type)) (u .1 .1 .1 .1 .1 .1 .1 .1
       .1 .1 .1 .1 .1 .1 .1 .1 .1 .1 .0) T′ m′) (λ u. Unit) λ u. Unit
 
   abbrev s75 : (bs : List.List Nat.ℕ) → Typed.Gives T78 T80
@@ -1441,9 +1610,10 @@ module _ (claims· : Claims) where
       Element.behind) (λ x. x) (Scalar.oFld 7 (List._∷_ (Syntax.field 1) List.[]) (Syntax.tyInt Syntax.w64) 8 λ v. Shared.lenV (v .0))
 
   abbrev s77 : (bs : List.List Nat.ℕ) → Typed.Both T81 T82
-  s77 = λ bs. Call.callB ps·5 r·5 (claims· .10) (claims· .11) T81
-      (record { pos = 34; ty = Syntax.tyRef Syntax.erased Syntax.mut Element.behind; ref = λ x. x; },
-      (Num.vFld 16 (List._∷_ (Syntax.field 2) List.[]) 16 λ x. Plan.struct .as-values x .1 .1 .0, (record { pos = 20; st = List.[]; d = 0; at = λ x. x }, tt))) 22 (List._∷_ 9 List.[]) Syntax.tyUnit
+  s77 = λ bs. Call.callB ps·5 r·5 (claims· .10) (claims· .11) T81 (
+    record { pos = 34; ty = Syntax.tyRef Syntax.erased Syntax.mut Element.behind; ref = λ x. x },
+    (Num.vFld 16 (List._∷_ (Syntax.field 2) List.[]) 16 λ x. Plan.struct .as-values x .1 .1 .0, (record { pos = 20; st = List.[]; d = 0; at = λ x. x }, tt)),
+  ) 22 (List._∷_ 9 List.[]) Syntax.tyUnit
 
   abbrev s78 : (bs : List.List Nat.ℕ) → Typed.Mo T82 → Typed.Mo T83
   s78 = λ bs. Scalar.n-room T82 16 y0
@@ -1460,7 +1630,7 @@ module _ (claims· : Claims) where
   abbrev s84 : (bs : List.List Nat.ℕ) → Typed.Both T87 T89
   s84 = λ bs. WayStmt.k-way-copy-out T87 (Row.out 18 (T87 .locals)) (λ u. Row.drop 18 (T87 .locals) u) 14 (Rows.whole (Declared'.row BitPosition.the-type)) (λ u. At.getAt (PassPut.the-type .parts) 2
       (PassPut.struct .as-values (u .1 .1 .1 .1 .1 .1 .1 .1 .1 .1 .1 .1 .1 .1 .1 .1 .1 .1 .0))) (λ T′. record
-      { locals = Row.setRow 18 (18, Rows.whole (Declared'.row PassPut.the-type)) T′; slots = List.[]; }) (λ u T′ m′. Row.set 18 (18, Rows.whole (Declared'.row PassPut.the-type)) (u .1 .1 .1 .1 .1 .1 .1 .1
+      { locals = Row.setRow 18 (18, Rows.whole (Declared'.row PassPut.the-type)) T′; slots = List.[] }) (λ u T′ m′. Row.set 18 (18, Rows.whole (Declared'.row PassPut.the-type)) (u .1 .1 .1 .1 .1 .1 .1 .1
       .1 .1 .1 .1 .1 .1 .1 .1 .1 .1 .0) T′ m′) (λ u. Unit) λ u. Unit
 
   abbrev s85 : (bs : List.List Nat.ℕ) → Typed.Mo T89 → Typed.Mo T90
@@ -1503,11 +1673,11 @@ module _ (claims· : Claims) where
   abbrev put0 : List.List (Referent.rtF (Referent.fInt Syntax.w8) .Denot) × List.List (Referent.rtF (Referent.fInt Syntax.w16) .Denot) × List.List (Element.type .Denot) × Rows.whole (Declared'.row
       BitPosition.the-type) .Mod × Rows.sc-here (Row.sInt Syntax.w64) .Mod → Typed.Mo T11 → Typed.Mo T11
   put0 = λ vs u. Row.set 15 (15, Rows.sc-here (Row.sInt Syntax.w64)) (vs .4) (T11 .locals) (Row.set 14 (14, Rows.whole (Declared'.row BitPosition.the-type)) (vs .3) (T11 .locals) (Row.set 7
-      (7, Mut.mslice (Element.type) (Syntax.tyRef (Syntax.named 3) Syntax.mut Element.behind) 3) record { ptr = Row.get 7 (T11 .locals) u .ptr; name = Row.get 7 (T11 .locals) u .name; now = vs .2; } (T11
+      (7, Mut.mslice (Element.type) (Syntax.tyRef (Syntax.named 3) Syntax.mut Element.behind) 3) record { ptr = Row.get 7 (T11 .locals) u .ptr; name = Row.get 7 (T11 .locals) u .name; now = vs .2 } (T11
       .locals) (Row.set 6 (6, Mut.mslice (Referent.rtF (Referent.fInt Syntax.w16)) (Syntax.tyRef (Syntax.named 2) Syntax.mut (Syntax.tyInt Syntax.w16)) 2) record
-      { ptr = Row.get 6 (T11 .locals) u .ptr; name = Row.get 6 (T11 .locals) u .name; now = vs .1; } (T11 .locals) (Row.set 3
+      { ptr = Row.get 6 (T11 .locals) u .ptr; name = Row.get 6 (T11 .locals) u .name; now = vs .1 } (T11 .locals) (Row.set 3
       (3, Mut.mslice (Referent.rtF (Referent.fInt Syntax.w8)) (Syntax.tyRef (Syntax.named 1) Syntax.mut (Syntax.tyInt Syntax.w8)) 1) record
-      { ptr = Row.get 3 (T11 .locals) u .ptr; name = Row.get 3 (T11 .locals) u .name; now = vs .0; } (T11 .locals) u))))
+      { ptr = Row.get 3 (T11 .locals) u .ptr; name = Row.get 3 (T11 .locals) u .name; now = vs .0 } (T11 .locals) u))))
 
   module _ (Pre· : (κs : Lifetimes.Lfts 4) → Kinds.Dens κs ps → Type 0) (Post· : (κs : Lifetimes.Lfts 4) → (a : Kinds.Dens κs ps) → Kinds.Plain 4 ps r κs) where
     module _ (M : Type 1) where
@@ -1902,514 +2072,718 @@ module _ (claims· : Claims) where
             (List._∷_ e6 (List._∷_ e8 (List._∷_ e10 (List._∷_ e11 (List._∷_ e14 List.[])))))))))))))))
 
         abbrev G0 : Row.Cx
-        G0 = record
-            { locals = List._++_ t0 (List._++_ t1 t2); slots = List._∷_ (Row.lease (κs .0) (qs .0)) (List._∷_ (Row.lease (κs .1 .0) (qs .1 .0)) (List._∷_ (Row.lease (κs .1 .1 .0) (qs .1 .1 .0)) (List._∷_
-            (Row.lease (κs .1 .1 .1 .0) (qs .1 .1 .1 .0)) (List._∷_ Row.off (List._∷_ Row.off (List._∷_ Row.off (List._∷_ Row.off (List._∷_ Row.off (List._∷_ Row.off List.[]))))))))); }
+        G0 = record {
+          locals = List._++_ t0 (List._++_ t1 t2);
+          slots = List._∷_ (Row.lease (κs .0) (qs .0)) (List._∷_ (Row.lease (κs .1 .0) (qs .1 .0)) (List._∷_ (Row.lease (κs .1 .1 .0) (qs .1 .1 .0)) (List._∷_
+              (Row.lease (κs .1 .1 .1 .0) (qs .1 .1 .1 .0)) (List._∷_ Row.off (List._∷_ Row.off (List._∷_ Row.off (List._∷_ Row.off (List._∷_ Row.off (List._∷_ Row.off List.[])))))))));
+        }
 
         abbrev G1 : Row.Cx
-        G1 = record
-            { locals = List._++_ t3 (List._++_ t1 t2); slots = List._∷_ (Row.lease (κs .0) (qs .0)) (List._∷_ (Row.lease (κs .1 .0) (qs .1 .0)) (List._∷_ (Row.lease (κs .1 .1 .0) (qs .1 .1 .0)) (List._∷_
-            (Row.lease (κs .1 .1 .1 .0) (qs .1 .1 .1 .0)) (List._∷_ Row.off (List._∷_ Row.off (List._∷_ Row.off (List._∷_ Row.off (List._∷_ Row.off (List._∷_ Row.off List.[]))))))))); }
+        G1 = record {
+          locals = List._++_ t3 (List._++_ t1 t2);
+          slots = List._∷_ (Row.lease (κs .0) (qs .0)) (List._∷_ (Row.lease (κs .1 .0) (qs .1 .0)) (List._∷_ (Row.lease (κs .1 .1 .0) (qs .1 .1 .0)) (List._∷_
+              (Row.lease (κs .1 .1 .1 .0) (qs .1 .1 .1 .0)) (List._∷_ Row.off (List._∷_ Row.off (List._∷_ Row.off (List._∷_ Row.off (List._∷_ Row.off (List._∷_ Row.off List.[])))))))));
+        }
 
         abbrev G2 : Row.Cx
-        G2 = record
-            { locals = List._++_ t0 (List._++_ t1 t2); slots = List._∷_ (Row.lease (κs .0) (qs .0)) (List._∷_ (Row.lease (κs .1 .0) (qs .1 .0)) (List._∷_ (Row.lease (κs .1 .1 .0) (qs .1 .1 .0)) (List._∷_
-            (Row.lease (κs .1 .1 .1 .0) (qs .1 .1 .1 .0)) (List._∷_ Row.off (List._∷_ Row.off (List._∷_ Row.off (List._∷_ Row.off (List._∷_ Row.off (List._∷_ Row.off List.[]))))))))); }
+        G2 = record {
+          locals = List._++_ t0 (List._++_ t1 t2);
+          slots = List._∷_ (Row.lease (κs .0) (qs .0)) (List._∷_ (Row.lease (κs .1 .0) (qs .1 .0)) (List._∷_ (Row.lease (κs .1 .1 .0) (qs .1 .1 .0)) (List._∷_
+              (Row.lease (κs .1 .1 .1 .0) (qs .1 .1 .1 .0)) (List._∷_ Row.off (List._∷_ Row.off (List._∷_ Row.off (List._∷_ Row.off (List._∷_ Row.off (List._∷_ Row.off List.[])))))))));
+        }
 
         abbrev G3 : Row.Cx
-        G3 = record
-            { locals = List._++_ t0 (List._++_ t1 t2); slots = List._∷_ (Row.lease (κs .0) (qs .0)) (List._∷_ (Row.lease (κs .1 .0) (qs .1 .0)) (List._∷_ (Row.lease (κs .1 .1 .0) (qs .1 .1 .0)) (List._∷_
-            (Row.lease (κs .1 .1 .1 .0) (qs .1 .1 .1 .0)) (List._∷_ Row.off (List._∷_ Row.off (List._∷_ Row.off (List._∷_ Row.off (List._∷_ Row.off (List._∷_ Row.off List.[]))))))))); }
+        G3 = record {
+          locals = List._++_ t0 (List._++_ t1 t2);
+          slots = List._∷_ (Row.lease (κs .0) (qs .0)) (List._∷_ (Row.lease (κs .1 .0) (qs .1 .0)) (List._∷_ (Row.lease (κs .1 .1 .0) (qs .1 .1 .0)) (List._∷_
+              (Row.lease (κs .1 .1 .1 .0) (qs .1 .1 .1 .0)) (List._∷_ Row.off (List._∷_ Row.off (List._∷_ Row.off (List._∷_ Row.off (List._∷_ Row.off (List._∷_ Row.off List.[])))))))));
+        }
 
         abbrev G4 : Row.Cx
-        G4 = record
-            { locals = List._++_ t0 (List._++_ t1 t2); slots = List._∷_ (Row.lease (κs .0) (qs .0)) (List._∷_ (Row.lease (κs .1 .0) (qs .1 .0)) (List._∷_ (Row.lease (κs .1 .1 .0) (qs .1 .1 .0)) (List._∷_
-            (Row.lease (κs .1 .1 .1 .0) (qs .1 .1 .1 .0)) (List._∷_ Row.off (List._∷_ Row.off (List._∷_ Row.off (List._∷_ Row.off (List._∷_ Row.off (List._∷_ Row.off List.[]))))))))); }
+        G4 = record {
+          locals = List._++_ t0 (List._++_ t1 t2);
+          slots = List._∷_ (Row.lease (κs .0) (qs .0)) (List._∷_ (Row.lease (κs .1 .0) (qs .1 .0)) (List._∷_ (Row.lease (κs .1 .1 .0) (qs .1 .1 .0)) (List._∷_
+              (Row.lease (κs .1 .1 .1 .0) (qs .1 .1 .1 .0)) (List._∷_ Row.off (List._∷_ Row.off (List._∷_ Row.off (List._∷_ Row.off (List._∷_ Row.off (List._∷_ Row.off List.[])))))))));
+        }
 
         abbrev G5 : Row.Cx
-        G5 = record
-            { locals = List._++_ t4 (List._++_ t1 t2); slots = List._∷_ (Row.lease (κs .0) (qs .0)) (List._∷_ (Row.lease (κs .1 .0) (qs .1 .0)) (List._∷_ (Row.lease (κs .1 .1 .0) (qs .1 .1 .0)) (List._∷_
-            (Row.lease (κs .1 .1 .1 .0) (qs .1 .1 .1 .0)) (List._∷_ Row.off (List._∷_ Row.off (List._∷_ Row.off (List._∷_ Row.off (List._∷_ Row.off (List._∷_ Row.off List.[]))))))))); }
+        G5 = record {
+          locals = List._++_ t4 (List._++_ t1 t2);
+          slots = List._∷_ (Row.lease (κs .0) (qs .0)) (List._∷_ (Row.lease (κs .1 .0) (qs .1 .0)) (List._∷_ (Row.lease (κs .1 .1 .0) (qs .1 .1 .0)) (List._∷_
+              (Row.lease (κs .1 .1 .1 .0) (qs .1 .1 .1 .0)) (List._∷_ Row.off (List._∷_ Row.off (List._∷_ Row.off (List._∷_ Row.off (List._∷_ Row.off (List._∷_ Row.off List.[])))))))));
+        }
 
         abbrev G6 : Row.Cx
-        G6 = record
-            { locals = List._++_ t5 (List._++_ t1 t2); slots = List._∷_ (Row.lease (κs .0) (qs .0)) (List._∷_ (Row.lease (κs .1 .0) (qs .1 .0)) (List._∷_ (Row.lease (κs .1 .1 .0) (qs .1 .1 .0)) (List._∷_
-            (Row.lease (κs .1 .1 .1 .0) (qs .1 .1 .1 .0)) (List._∷_ Row.off (List._∷_ Row.off (List._∷_ Row.off (List._∷_ Row.off (List._∷_ Row.off (List._∷_ Row.off List.[]))))))))); }
+        G6 = record {
+          locals = List._++_ t5 (List._++_ t1 t2);
+          slots = List._∷_ (Row.lease (κs .0) (qs .0)) (List._∷_ (Row.lease (κs .1 .0) (qs .1 .0)) (List._∷_ (Row.lease (κs .1 .1 .0) (qs .1 .1 .0)) (List._∷_
+              (Row.lease (κs .1 .1 .1 .0) (qs .1 .1 .1 .0)) (List._∷_ Row.off (List._∷_ Row.off (List._∷_ Row.off (List._∷_ Row.off (List._∷_ Row.off (List._∷_ Row.off List.[])))))))));
+        }
 
         abbrev G7 : Row.Cx
-        G7 = record
-            { locals = List._++_ t6 (List._++_ t1 t2); slots = List._∷_ (Row.lease (κs .0) (qs .0)) (List._∷_ (Row.lease (κs .1 .0) (qs .1 .0)) (List._∷_ (Row.lease (κs .1 .1 .0) (qs .1 .1 .0)) (List._∷_
-            (Row.lease (κs .1 .1 .1 .0) (qs .1 .1 .1 .0)) (List._∷_ Row.off (List._∷_ Row.off (List._∷_ Row.off (List._∷_ Row.off (List._∷_ Row.off (List._∷_ Row.off List.[]))))))))); }
+        G7 = record {
+          locals = List._++_ t6 (List._++_ t1 t2);
+          slots = List._∷_ (Row.lease (κs .0) (qs .0)) (List._∷_ (Row.lease (κs .1 .0) (qs .1 .0)) (List._∷_ (Row.lease (κs .1 .1 .0) (qs .1 .1 .0)) (List._∷_
+              (Row.lease (κs .1 .1 .1 .0) (qs .1 .1 .1 .0)) (List._∷_ Row.off (List._∷_ Row.off (List._∷_ Row.off (List._∷_ Row.off (List._∷_ Row.off (List._∷_ Row.off List.[])))))))));
+        }
 
         abbrev G8 : Row.Cx
-        G8 = record
-            { locals = List._++_ t7 (List._++_ t1 t2); slots = List._∷_ (Row.lease (κs .0) (qs .0)) (List._∷_ (Row.lease (κs .1 .0) (qs .1 .0)) (List._∷_ (Row.lease (κs .1 .1 .0) (qs .1 .1 .0)) (List._∷_
-            (Row.lease (κs .1 .1 .1 .0) (qs .1 .1 .1 .0)) (List._∷_ Row.off (List._∷_ Row.off (List._∷_ Row.off (List._∷_ Row.off (List._∷_ Row.off (List._∷_ Row.off List.[]))))))))); }
+        G8 = record {
+          locals = List._++_ t7 (List._++_ t1 t2);
+          slots = List._∷_ (Row.lease (κs .0) (qs .0)) (List._∷_ (Row.lease (κs .1 .0) (qs .1 .0)) (List._∷_ (Row.lease (κs .1 .1 .0) (qs .1 .1 .0)) (List._∷_
+              (Row.lease (κs .1 .1 .1 .0) (qs .1 .1 .1 .0)) (List._∷_ Row.off (List._∷_ Row.off (List._∷_ Row.off (List._∷_ Row.off (List._∷_ Row.off (List._∷_ Row.off List.[])))))))));
+        }
 
         abbrev G9 : Row.Cx
-        G9 = record
-            { locals = List._++_ t8 (List._++_ t1 t2); slots = List._∷_ (Row.lease (κs .0) (qs .0)) (List._∷_ (Row.lease (κs .1 .0) (qs .1 .0)) (List._∷_ (Row.lease (κs .1 .1 .0) (qs .1 .1 .0)) (List._∷_
-            (Row.lease (κs .1 .1 .1 .0) (qs .1 .1 .1 .0)) (List._∷_ Row.off (List._∷_ Row.off (List._∷_ Row.off (List._∷_ Row.off (List._∷_ Row.off (List._∷_ Row.off List.[]))))))))); }
+        G9 = record {
+          locals = List._++_ t8 (List._++_ t1 t2);
+          slots = List._∷_ (Row.lease (κs .0) (qs .0)) (List._∷_ (Row.lease (κs .1 .0) (qs .1 .0)) (List._∷_ (Row.lease (κs .1 .1 .0) (qs .1 .1 .0)) (List._∷_
+              (Row.lease (κs .1 .1 .1 .0) (qs .1 .1 .1 .0)) (List._∷_ Row.off (List._∷_ Row.off (List._∷_ Row.off (List._∷_ Row.off (List._∷_ Row.off (List._∷_ Row.off List.[])))))))));
+        }
 
         abbrev G10 : Row.Cx
-        G10 = record
-            { locals = List._++_ t9 (List._++_ t1 t2); slots = List._∷_ (Row.lease (κs .0) (qs .0)) (List._∷_ (Row.lease (κs .1 .0) (qs .1 .0)) (List._∷_ (Row.lease (κs .1 .1 .0) (qs .1 .1 .0)) (List._∷_
-            (Row.lease (κs .1 .1 .1 .0) (qs .1 .1 .1 .0)) (List._∷_ Row.off (List._∷_ Row.off (List._∷_ Row.off (List._∷_ Row.off (List._∷_ Row.off (List._∷_ Row.off List.[]))))))))); }
+        G10 = record {
+          locals = List._++_ t9 (List._++_ t1 t2);
+          slots = List._∷_ (Row.lease (κs .0) (qs .0)) (List._∷_ (Row.lease (κs .1 .0) (qs .1 .0)) (List._∷_ (Row.lease (κs .1 .1 .0) (qs .1 .1 .0)) (List._∷_
+              (Row.lease (κs .1 .1 .1 .0) (qs .1 .1 .1 .0)) (List._∷_ Row.off (List._∷_ Row.off (List._∷_ Row.off (List._∷_ Row.off (List._∷_ Row.off (List._∷_ Row.off List.[])))))))));
+        }
 
         abbrev G11 : Row.Cx
-        G11 = record
-            { locals = List._++_ t10 (List._++_ t1 t2); slots = List._∷_ (Row.lease (κs .0) (qs .0)) (List._∷_ (Row.lease (κs .1 .0) (qs .1 .0)) (List._∷_ (Row.lease (κs .1 .1 .0) (qs .1 .1 .0)) (List._∷_
-            (Row.lease (κs .1 .1 .1 .0) (qs .1 .1 .1 .0)) (List._∷_ Row.off (List._∷_ Row.off (List._∷_ Row.off (List._∷_ Row.off (List._∷_ Row.off (List._∷_ Row.off List.[]))))))))); }
+        G11 = record {
+          locals = List._++_ t10 (List._++_ t1 t2);
+          slots = List._∷_ (Row.lease (κs .0) (qs .0)) (List._∷_ (Row.lease (κs .1 .0) (qs .1 .0)) (List._∷_ (Row.lease (κs .1 .1 .0) (qs .1 .1 .0)) (List._∷_
+              (Row.lease (κs .1 .1 .1 .0) (qs .1 .1 .1 .0)) (List._∷_ Row.off (List._∷_ Row.off (List._∷_ Row.off (List._∷_ Row.off (List._∷_ Row.off (List._∷_ Row.off List.[])))))))));
+        }
 
         abbrev G12 : Row.Cx
-        G12 = record
-            { locals = List._++_ t11 (List._++_ t1 t2); slots = List._∷_ (Row.lease (κs .0) (qs .0)) (List._∷_ (Row.lease (κs .1 .0) (qs .1 .0)) (List._∷_ (Row.lease (κs .1 .1 .0) (qs .1 .1 .0)) (List._∷_
-            (Row.lease (κs .1 .1 .1 .0) (qs .1 .1 .1 .0)) (List._∷_ Row.off (List._∷_ Row.off (List._∷_ Row.off (List._∷_ Row.off (List._∷_ Row.off (List._∷_ Row.off List.[]))))))))); }
+        G12 = record {
+          locals = List._++_ t11 (List._++_ t1 t2);
+          slots = List._∷_ (Row.lease (κs .0) (qs .0)) (List._∷_ (Row.lease (κs .1 .0) (qs .1 .0)) (List._∷_ (Row.lease (κs .1 .1 .0) (qs .1 .1 .0)) (List._∷_
+              (Row.lease (κs .1 .1 .1 .0) (qs .1 .1 .1 .0)) (List._∷_ Row.off (List._∷_ Row.off (List._∷_ Row.off (List._∷_ Row.off (List._∷_ Row.off (List._∷_ Row.off List.[])))))))));
+        }
 
         abbrev G13 : Row.Cx
-        G13 = record
-            { locals = List._++_ t10 (List._++_ t12 t2); slots = List._∷_ (Row.lease (κs .0) (qs .0)) (List._∷_ (Row.lease (κs .1 .0) (qs .1 .0)) (List._∷_ (Row.lease (κs .1 .1 .0) (qs .1 .1 .0))
-            (List._∷_ (Row.lease (κs .1 .1 .1 .0) (qs .1 .1 .1 .0)) (List._∷_ Row.off (List._∷_ Row.off (List._∷_ Row.off (List._∷_ Row.off (List._∷_ Row.off (List._∷_ Row.off List.[]))))))))); }
+        G13 = record {
+          locals = List._++_ t10 (List._++_ t12 t2);
+          slots = List._∷_ (Row.lease (κs .0) (qs .0)) (List._∷_ (Row.lease (κs .1 .0) (qs .1 .0)) (List._∷_ (Row.lease (κs .1 .1 .0) (qs .1 .1 .0))
+              (List._∷_ (Row.lease (κs .1 .1 .1 .0) (qs .1 .1 .1 .0)) (List._∷_ Row.off (List._∷_ Row.off (List._∷_ Row.off (List._∷_ Row.off (List._∷_ Row.off (List._∷_ Row.off List.[])))))))));
+        }
 
         abbrev G14 : Row.Cx
-        G14 = record
-            { locals = List._++_ t10 (List._++_ t1 t2); slots = List._∷_ (Row.lease (κs .0) (qs .0)) (List._∷_ (Row.lease (κs .1 .0) (qs .1 .0)) (List._∷_ (Row.lease (κs .1 .1 .0) (qs .1 .1 .0)) (List._∷_
-            (Row.lease (κs .1 .1 .1 .0) (qs .1 .1 .1 .0)) (List._∷_ Row.off (List._∷_ Row.off (List._∷_ Row.off (List._∷_ Row.off (List._∷_ Row.off (List._∷_ Row.off List.[]))))))))); }
+        G14 = record {
+          locals = List._++_ t10 (List._++_ t1 t2);
+          slots = List._∷_ (Row.lease (κs .0) (qs .0)) (List._∷_ (Row.lease (κs .1 .0) (qs .1 .0)) (List._∷_ (Row.lease (κs .1 .1 .0) (qs .1 .1 .0)) (List._∷_
+              (Row.lease (κs .1 .1 .1 .0) (qs .1 .1 .1 .0)) (List._∷_ Row.off (List._∷_ Row.off (List._∷_ Row.off (List._∷_ Row.off (List._∷_ Row.off (List._∷_ Row.off List.[])))))))));
+        }
 
         abbrev G15 : Row.Cx
-        G15 = record
-            { locals = List._++_ t10 (List._++_ t1 t2); slots = List._∷_ (Row.lease (κs .0) (qs .0)) (List._∷_ (Row.lease (κs .1 .0) (qs .1 .0)) (List._∷_ (Row.lease (κs .1 .1 .0) (qs .1 .1 .0)) (List._∷_
-            (Row.lease (κs .1 .1 .1 .0) (qs .1 .1 .1 .0)) (List._∷_ Row.off (List._∷_ Row.off (List._∷_ Row.off (List._∷_ Row.off (List._∷_ Row.off (List._∷_ Row.off List.[]))))))))); }
+        G15 = record {
+          locals = List._++_ t10 (List._++_ t1 t2);
+          slots = List._∷_ (Row.lease (κs .0) (qs .0)) (List._∷_ (Row.lease (κs .1 .0) (qs .1 .0)) (List._∷_ (Row.lease (κs .1 .1 .0) (qs .1 .1 .0)) (List._∷_
+              (Row.lease (κs .1 .1 .1 .0) (qs .1 .1 .1 .0)) (List._∷_ Row.off (List._∷_ Row.off (List._∷_ Row.off (List._∷_ Row.off (List._∷_ Row.off (List._∷_ Row.off List.[])))))))));
+        }
 
         abbrev G16 : Row.Cx
-        G16 = record
-            { locals = List._++_ t11 (List._++_ t12 t2); slots = List._∷_ (Row.lease (κs .0) (qs .0)) (List._∷_ (Row.lease (κs .1 .0) (qs .1 .0)) (List._∷_ (Row.lease (κs .1 .1 .0) (qs .1 .1 .0))
-            (List._∷_ (Row.lease (κs .1 .1 .1 .0) (qs .1 .1 .1 .0)) (List._∷_ Row.off (List._∷_ Row.off (List._∷_ Row.off (List._∷_ Row.off (List._∷_ Row.off (List._∷_ Row.off List.[]))))))))); }
+        G16 = record {
+          locals = List._++_ t11 (List._++_ t12 t2);
+          slots = List._∷_ (Row.lease (κs .0) (qs .0)) (List._∷_ (Row.lease (κs .1 .0) (qs .1 .0)) (List._∷_ (Row.lease (κs .1 .1 .0) (qs .1 .1 .0))
+              (List._∷_ (Row.lease (κs .1 .1 .1 .0) (qs .1 .1 .1 .0)) (List._∷_ Row.off (List._∷_ Row.off (List._∷_ Row.off (List._∷_ Row.off (List._∷_ Row.off (List._∷_ Row.off List.[])))))))));
+        }
 
         abbrev G17 : Row.Cx
-        G17 = record
-            { locals = List._++_ t11 (List._++_ t1 t2); slots = List._∷_ (Row.lease (κs .0) (qs .0)) (List._∷_ (Row.lease (κs .1 .0) (qs .1 .0)) (List._∷_ (Row.lease (κs .1 .1 .0) (qs .1 .1 .0)) (List._∷_
-            (Row.lease (κs .1 .1 .1 .0) (qs .1 .1 .1 .0)) (List._∷_ Row.off (List._∷_ Row.off (List._∷_ Row.off (List._∷_ Row.off (List._∷_ Row.off (List._∷_ Row.off List.[]))))))))); }
+        G17 = record {
+          locals = List._++_ t11 (List._++_ t1 t2);
+          slots = List._∷_ (Row.lease (κs .0) (qs .0)) (List._∷_ (Row.lease (κs .1 .0) (qs .1 .0)) (List._∷_ (Row.lease (κs .1 .1 .0) (qs .1 .1 .0)) (List._∷_
+              (Row.lease (κs .1 .1 .1 .0) (qs .1 .1 .1 .0)) (List._∷_ Row.off (List._∷_ Row.off (List._∷_ Row.off (List._∷_ Row.off (List._∷_ Row.off (List._∷_ Row.off List.[])))))))));
+        }
 
         abbrev G18 : Row.Cx
-        G18 = record
-            { locals = List._++_ t10 (List._++_ t13 t2); slots = List._∷_ (Row.lease (κs .0) (qs .0)) (List._∷_ (Row.lease (κs .1 .0) (qs .1 .0)) (List._∷_ (Row.lease (κs .1 .1 .0) (qs .1 .1 .0))
-            (List._∷_ (Row.lease (κs .1 .1 .1 .0) (qs .1 .1 .1 .0)) (List._∷_ Row.off (List._∷_ Row.off (List._∷_ Row.off (List._∷_ Row.off (List._∷_ Row.off (List._∷_ Row.off List.[]))))))))); }
+        G18 = record {
+          locals = List._++_ t10 (List._++_ t13 t2);
+          slots = List._∷_ (Row.lease (κs .0) (qs .0)) (List._∷_ (Row.lease (κs .1 .0) (qs .1 .0)) (List._∷_ (Row.lease (κs .1 .1 .0) (qs .1 .1 .0))
+              (List._∷_ (Row.lease (κs .1 .1 .1 .0) (qs .1 .1 .1 .0)) (List._∷_ Row.off (List._∷_ Row.off (List._∷_ Row.off (List._∷_ Row.off (List._∷_ Row.off (List._∷_ Row.off List.[])))))))));
+        }
 
         abbrev G19 : Row.Cx
-        G19 = record
-            { locals = List._++_ t10 (List._++_ t13 t2); slots = List._∷_ (Row.lease (κs .0) (qs .0)) (List._∷_ (Row.lease (κs .1 .0) (qs .1 .0)) (List._∷_ (Row.lease (κs .1 .1 .0) (qs .1 .1 .0))
-            (List._∷_ (Row.lease (κs .1 .1 .1 .0) (qs .1 .1 .1 .0)) (List._∷_ Row.alive (List._∷_ Row.off (List._∷_ Row.off (List._∷_ Row.off (List._∷_ Row.off (List._∷_ Row.off List.[]))))))))); }
+        G19 = record {
+          locals = List._++_ t10 (List._++_ t13 t2);
+          slots = List._∷_ (Row.lease (κs .0) (qs .0)) (List._∷_ (Row.lease (κs .1 .0) (qs .1 .0)) (List._∷_ (Row.lease (κs .1 .1 .0) (qs .1 .1 .0))
+              (List._∷_ (Row.lease (κs .1 .1 .1 .0) (qs .1 .1 .1 .0)) (List._∷_ Row.alive (List._∷_ Row.off (List._∷_ Row.off (List._∷_ Row.off (List._∷_ Row.off (List._∷_ Row.off List.[])))))))));
+        }
 
         abbrev G20 : Row.Cx
-        G20 = record
-            { locals = List._++_ g14 (List._++_ t15 t2); slots = List._∷_ (Row.lease (κs .0) (qs .0)) (List._∷_ (Row.lease (κs .1 .0) (qs .1 .0)) (List._∷_ Row.off (List._∷_ (Row.lease (κs .1 .1 .1 .0)
-            (qs .1 .1 .1 .0)) (List._∷_ Row.alive (List._∷_ Row.off (List._∷_ Row.off (List._∷_ Row.off (List._∷_ Row.off (List._∷_ Row.off List.[]))))))))); }
+        G20 = record {
+          locals = List._++_ g14 (List._++_ t15 t2);
+          slots = List._∷_ (Row.lease (κs .0) (qs .0)) (List._∷_ (Row.lease (κs .1 .0) (qs .1 .0)) (List._∷_ Row.off (List._∷_ (Row.lease (κs .1 .1 .1 .0)
+              (qs .1 .1 .1 .0)) (List._∷_ Row.alive (List._∷_ Row.off (List._∷_ Row.off (List._∷_ Row.off (List._∷_ Row.off (List._∷_ Row.off List.[])))))))));
+        }
 
         abbrev G21 : Row.Cx
-        G21 = record
-            { locals = List._++_ g14 (List._++_ t16 t2); slots = List._∷_ (Row.lease (κs .0) (qs .0)) (List._∷_ (Row.lease (κs .1 .0) (qs .1 .0)) (List._∷_ Row.off (List._∷_ (Row.lease (κs .1 .1 .1 .0)
-            (qs .1 .1 .1 .0)) (List._∷_ Row.alive (List._∷_ Row.off (List._∷_ Row.off (List._∷_ Row.off (List._∷_ Row.off (List._∷_ Row.off List.[]))))))))); }
+        G21 = record {
+          locals = List._++_ g14 (List._++_ t16 t2);
+          slots = List._∷_ (Row.lease (κs .0) (qs .0)) (List._∷_ (Row.lease (κs .1 .0) (qs .1 .0)) (List._∷_ Row.off (List._∷_ (Row.lease (κs .1 .1 .1 .0)
+              (qs .1 .1 .1 .0)) (List._∷_ Row.alive (List._∷_ Row.off (List._∷_ Row.off (List._∷_ Row.off (List._∷_ Row.off (List._∷_ Row.off List.[])))))))));
+        }
 
         abbrev G22 : Row.Cx
-        G22 = record
-            { locals = List._++_ g14 (List._++_ t17 t2); slots = List._∷_ (Row.lease (κs .0) (qs .0)) (List._∷_ (Row.lease (κs .1 .0) (qs .1 .0)) (List._∷_ Row.off (List._∷_ (Row.lease (κs .1 .1 .1 .0)
-            (qs .1 .1 .1 .0)) (List._∷_ Row.alive (List._∷_ Row.off (List._∷_ Row.off (List._∷_ Row.off (List._∷_ Row.off (List._∷_ Row.off List.[]))))))))); }
+        G22 = record {
+          locals = List._++_ g14 (List._++_ t17 t2);
+          slots = List._∷_ (Row.lease (κs .0) (qs .0)) (List._∷_ (Row.lease (κs .1 .0) (qs .1 .0)) (List._∷_ Row.off (List._∷_ (Row.lease (κs .1 .1 .1 .0)
+              (qs .1 .1 .1 .0)) (List._∷_ Row.alive (List._∷_ Row.off (List._∷_ Row.off (List._∷_ Row.off (List._∷_ Row.off (List._∷_ Row.off List.[])))))))));
+        }
 
         abbrev G23 : Row.Cx
-        G23 = record
-            { locals = List._++_ g14 (List._++_ t18 t2); slots = List._∷_ (Row.lease (κs .0) (qs .0)) (List._∷_ (Row.lease (κs .1 .0) (qs .1 .0)) (List._∷_ Row.off (List._∷_ (Row.lease (κs .1 .1 .1 .0)
-            (qs .1 .1 .1 .0)) (List._∷_ Row.alive (List._∷_ Row.off (List._∷_ Row.off (List._∷_ Row.off (List._∷_ Row.off (List._∷_ Row.off List.[]))))))))); }
+        G23 = record {
+          locals = List._++_ g14 (List._++_ t18 t2);
+          slots = List._∷_ (Row.lease (κs .0) (qs .0)) (List._∷_ (Row.lease (κs .1 .0) (qs .1 .0)) (List._∷_ Row.off (List._∷_ (Row.lease (κs .1 .1 .1 .0)
+              (qs .1 .1 .1 .0)) (List._∷_ Row.alive (List._∷_ Row.off (List._∷_ Row.off (List._∷_ Row.off (List._∷_ Row.off (List._∷_ Row.off List.[])))))))));
+        }
 
         abbrev G24 : Row.Cx
-        G24 = record
-            { locals = List._++_ g14 (List._++_ t18 t2); slots = List._∷_ (Row.lease (κs .0) (qs .0)) (List._∷_ (Row.lease (κs .1 .0) (qs .1 .0)) (List._∷_ Row.off (List._∷_ (Row.lease (κs .1 .1 .1 .0)
-            (qs .1 .1 .1 .0)) (List._∷_ Row.dead (List._∷_ Row.off (List._∷_ Row.off (List._∷_ Row.off (List._∷_ Row.off (List._∷_ Row.off List.[]))))))))); }
+        G24 = record {
+          locals = List._++_ g14 (List._++_ t18 t2);
+          slots = List._∷_ (Row.lease (κs .0) (qs .0)) (List._∷_ (Row.lease (κs .1 .0) (qs .1 .0)) (List._∷_ Row.off (List._∷_ (Row.lease (κs .1 .1 .1 .0)
+              (qs .1 .1 .1 .0)) (List._∷_ Row.dead (List._∷_ Row.off (List._∷_ Row.off (List._∷_ Row.off (List._∷_ Row.off (List._∷_ Row.off List.[])))))))));
+        }
 
         abbrev G25 : Row.Cx
-        G25 = record
-            { locals = List._++_ t10 (List._++_ t13 t2); slots = List._∷_ (Row.lease (κs .0) (qs .0)) (List._∷_ (Row.lease (κs .1 .0) (qs .1 .0)) (List._∷_ (Row.lease (κs .1 .1 .0) (qs .1 .1 .0))
-            (List._∷_ (Row.lease (κs .1 .1 .1 .0) (qs .1 .1 .1 .0)) (List._∷_ Row.dead (List._∷_ Row.off (List._∷_ Row.off (List._∷_ Row.off (List._∷_ Row.off (List._∷_ Row.off List.[]))))))))); }
+        G25 = record {
+          locals = List._++_ t10 (List._++_ t13 t2);
+          slots = List._∷_ (Row.lease (κs .0) (qs .0)) (List._∷_ (Row.lease (κs .1 .0) (qs .1 .0)) (List._∷_ (Row.lease (κs .1 .1 .0) (qs .1 .1 .0))
+              (List._∷_ (Row.lease (κs .1 .1 .1 .0) (qs .1 .1 .1 .0)) (List._∷_ Row.dead (List._∷_ Row.off (List._∷_ Row.off (List._∷_ Row.off (List._∷_ Row.off (List._∷_ Row.off List.[])))))))));
+        }
 
         abbrev G26 : Row.Cx
-        G26 = record
-            { locals = List._++_ t10 (List._++_ t13 t2); slots = List._∷_ (Row.lease (κs .0) (qs .0)) (List._∷_ (Row.lease (κs .1 .0) (qs .1 .0)) (List._∷_ (Row.lease (κs .1 .1 .0) (qs .1 .1 .0))
-            (List._∷_ (Row.lease (κs .1 .1 .1 .0) (qs .1 .1 .1 .0)) (List._∷_ Row.dead (List._∷_ Row.off (List._∷_ Row.off (List._∷_ Row.off (List._∷_ Row.off (List._∷_ Row.off List.[]))))))))); }
+        G26 = record {
+          locals = List._++_ t10 (List._++_ t13 t2);
+          slots = List._∷_ (Row.lease (κs .0) (qs .0)) (List._∷_ (Row.lease (κs .1 .0) (qs .1 .0)) (List._∷_ (Row.lease (κs .1 .1 .0) (qs .1 .1 .0))
+              (List._∷_ (Row.lease (κs .1 .1 .1 .0) (qs .1 .1 .1 .0)) (List._∷_ Row.dead (List._∷_ Row.off (List._∷_ Row.off (List._∷_ Row.off (List._∷_ Row.off (List._∷_ Row.off List.[])))))))));
+        }
 
         abbrev G27 : Row.Cx
-        G27 = record
-            { locals = List._++_ t10 (List._++_ t13 t2); slots = List._∷_ (Row.lease (κs .0) (qs .0)) (List._∷_ (Row.lease (κs .1 .0) (qs .1 .0)) (List._∷_ (Row.lease (κs .1 .1 .0) (qs .1 .1 .0))
-            (List._∷_ (Row.lease (κs .1 .1 .1 .0) (qs .1 .1 .1 .0)) (List._∷_ Row.off (List._∷_ Row.off (List._∷_ Row.off (List._∷_ Row.off (List._∷_ Row.off (List._∷_ Row.off List.[]))))))))); }
+        G27 = record {
+          locals = List._++_ t10 (List._++_ t13 t2);
+          slots = List._∷_ (Row.lease (κs .0) (qs .0)) (List._∷_ (Row.lease (κs .1 .0) (qs .1 .0)) (List._∷_ (Row.lease (κs .1 .1 .0) (qs .1 .1 .0))
+              (List._∷_ (Row.lease (κs .1 .1 .1 .0) (qs .1 .1 .1 .0)) (List._∷_ Row.off (List._∷_ Row.off (List._∷_ Row.off (List._∷_ Row.off (List._∷_ Row.off (List._∷_ Row.off List.[])))))))));
+        }
 
         abbrev G28 : Row.Cx
-        G28 = record
-            { locals = List._++_ t10 (List._++_ t13 t2); slots = List._∷_ (Row.lease (κs .0) (qs .0)) (List._∷_ (Row.lease (κs .1 .0) (qs .1 .0)) (List._∷_ (Row.lease (κs .1 .1 .0) (qs .1 .1 .0))
-            (List._∷_ (Row.lease (κs .1 .1 .1 .0) (qs .1 .1 .1 .0)) (List._∷_ Row.off (List._∷_ Row.alive (List._∷_ Row.off (List._∷_ Row.off (List._∷_ Row.off (List._∷_ Row.off List.[]))))))))); }
+        G28 = record {
+          locals = List._++_ t10 (List._++_ t13 t2);
+          slots = List._∷_ (Row.lease (κs .0) (qs .0)) (List._∷_ (Row.lease (κs .1 .0) (qs .1 .0)) (List._∷_ (Row.lease (κs .1 .1 .0) (qs .1 .1 .0))
+              (List._∷_ (Row.lease (κs .1 .1 .1 .0) (qs .1 .1 .1 .0)) (List._∷_ Row.off (List._∷_ Row.alive (List._∷_ Row.off (List._∷_ Row.off (List._∷_ Row.off (List._∷_ Row.off List.[])))))))));
+        }
 
         abbrev G29 : Row.Cx
-        G29 = record
-            { locals = List._++_ g19 (List._++_ t20 t2); slots = List._∷_ (Row.lease (κs .0) (qs .0)) (List._∷_ (Row.lease (κs .1 .0) (qs .1 .0)) (List._∷_ Row.off (List._∷_ (Row.lease (κs .1 .1 .1 .0)
-            (qs .1 .1 .1 .0)) (List._∷_ Row.off (List._∷_ Row.alive (List._∷_ Row.off (List._∷_ Row.off (List._∷_ Row.off (List._∷_ Row.off List.[]))))))))); }
+        G29 = record {
+          locals = List._++_ g19 (List._++_ t20 t2);
+          slots = List._∷_ (Row.lease (κs .0) (qs .0)) (List._∷_ (Row.lease (κs .1 .0) (qs .1 .0)) (List._∷_ Row.off (List._∷_ (Row.lease (κs .1 .1 .1 .0)
+              (qs .1 .1 .1 .0)) (List._∷_ Row.off (List._∷_ Row.alive (List._∷_ Row.off (List._∷_ Row.off (List._∷_ Row.off (List._∷_ Row.off List.[])))))))));
+        }
 
         abbrev G30 : Row.Cx
-        G30 = record
-            { locals = List._++_ g19 (List._++_ t21 t2); slots = List._∷_ (Row.lease (κs .0) (qs .0)) (List._∷_ (Row.lease (κs .1 .0) (qs .1 .0)) (List._∷_ Row.off (List._∷_ (Row.lease (κs .1 .1 .1 .0)
-            (qs .1 .1 .1 .0)) (List._∷_ Row.off (List._∷_ Row.alive (List._∷_ Row.off (List._∷_ Row.off (List._∷_ Row.off (List._∷_ Row.off List.[]))))))))); }
+        G30 = record {
+          locals = List._++_ g19 (List._++_ t21 t2);
+          slots = List._∷_ (Row.lease (κs .0) (qs .0)) (List._∷_ (Row.lease (κs .1 .0) (qs .1 .0)) (List._∷_ Row.off (List._∷_ (Row.lease (κs .1 .1 .1 .0)
+              (qs .1 .1 .1 .0)) (List._∷_ Row.off (List._∷_ Row.alive (List._∷_ Row.off (List._∷_ Row.off (List._∷_ Row.off (List._∷_ Row.off List.[])))))))));
+        }
 
         abbrev G31 : Row.Cx
-        G31 = record
-            { locals = List._++_ g19 (List._++_ t22 t2); slots = List._∷_ (Row.lease (κs .0) (qs .0)) (List._∷_ (Row.lease (κs .1 .0) (qs .1 .0)) (List._∷_ Row.off (List._∷_ (Row.lease (κs .1 .1 .1 .0)
-            (qs .1 .1 .1 .0)) (List._∷_ Row.off (List._∷_ Row.alive (List._∷_ Row.off (List._∷_ Row.off (List._∷_ Row.off (List._∷_ Row.off List.[]))))))))); }
+        G31 = record {
+          locals = List._++_ g19 (List._++_ t22 t2);
+          slots = List._∷_ (Row.lease (κs .0) (qs .0)) (List._∷_ (Row.lease (κs .1 .0) (qs .1 .0)) (List._∷_ Row.off (List._∷_ (Row.lease (κs .1 .1 .1 .0)
+              (qs .1 .1 .1 .0)) (List._∷_ Row.off (List._∷_ Row.alive (List._∷_ Row.off (List._∷_ Row.off (List._∷_ Row.off (List._∷_ Row.off List.[])))))))));
+        }
 
         abbrev G32 : Row.Cx
-        G32 = record
-            { locals = List._++_ g19 (List._++_ t23 t2); slots = List._∷_ (Row.lease (κs .0) (qs .0)) (List._∷_ (Row.lease (κs .1 .0) (qs .1 .0)) (List._∷_ Row.off (List._∷_ (Row.lease (κs .1 .1 .1 .0)
-            (qs .1 .1 .1 .0)) (List._∷_ Row.off (List._∷_ Row.alive (List._∷_ Row.off (List._∷_ Row.off (List._∷_ Row.off (List._∷_ Row.off List.[]))))))))); }
+        G32 = record {
+          locals = List._++_ g19 (List._++_ t23 t2);
+          slots = List._∷_ (Row.lease (κs .0) (qs .0)) (List._∷_ (Row.lease (κs .1 .0) (qs .1 .0)) (List._∷_ Row.off (List._∷_ (Row.lease (κs .1 .1 .1 .0)
+              (qs .1 .1 .1 .0)) (List._∷_ Row.off (List._∷_ Row.alive (List._∷_ Row.off (List._∷_ Row.off (List._∷_ Row.off (List._∷_ Row.off List.[])))))))));
+        }
 
         abbrev G33 : Row.Cx
-        G33 = record
-            { locals = List._++_ g19 (List._++_ t23 t2); slots = List._∷_ (Row.lease (κs .0) (qs .0)) (List._∷_ (Row.lease (κs .1 .0) (qs .1 .0)) (List._∷_ Row.off (List._∷_ (Row.lease (κs .1 .1 .1 .0)
-            (qs .1 .1 .1 .0)) (List._∷_ Row.off (List._∷_ Row.dead (List._∷_ Row.off (List._∷_ Row.off (List._∷_ Row.off (List._∷_ Row.off List.[]))))))))); }
+        G33 = record {
+          locals = List._++_ g19 (List._++_ t23 t2);
+          slots = List._∷_ (Row.lease (κs .0) (qs .0)) (List._∷_ (Row.lease (κs .1 .0) (qs .1 .0)) (List._∷_ Row.off (List._∷_ (Row.lease (κs .1 .1 .1 .0)
+              (qs .1 .1 .1 .0)) (List._∷_ Row.off (List._∷_ Row.dead (List._∷_ Row.off (List._∷_ Row.off (List._∷_ Row.off (List._∷_ Row.off List.[])))))))));
+        }
 
         abbrev G34 : Row.Cx
-        G34 = record
-            { locals = List._++_ t10 (List._++_ t13 t2); slots = List._∷_ (Row.lease (κs .0) (qs .0)) (List._∷_ (Row.lease (κs .1 .0) (qs .1 .0)) (List._∷_ (Row.lease (κs .1 .1 .0) (qs .1 .1 .0))
-            (List._∷_ (Row.lease (κs .1 .1 .1 .0) (qs .1 .1 .1 .0)) (List._∷_ Row.off (List._∷_ Row.dead (List._∷_ Row.off (List._∷_ Row.off (List._∷_ Row.off (List._∷_ Row.off List.[]))))))))); }
+        G34 = record {
+          locals = List._++_ t10 (List._++_ t13 t2);
+          slots = List._∷_ (Row.lease (κs .0) (qs .0)) (List._∷_ (Row.lease (κs .1 .0) (qs .1 .0)) (List._∷_ (Row.lease (κs .1 .1 .0) (qs .1 .1 .0))
+              (List._∷_ (Row.lease (κs .1 .1 .1 .0) (qs .1 .1 .1 .0)) (List._∷_ Row.off (List._∷_ Row.dead (List._∷_ Row.off (List._∷_ Row.off (List._∷_ Row.off (List._∷_ Row.off List.[])))))))));
+        }
 
         abbrev G35 : Row.Cx
-        G35 = record
-            { locals = List._++_ t10 (List._++_ t13 t2); slots = List._∷_ (Row.lease (κs .0) (qs .0)) (List._∷_ (Row.lease (κs .1 .0) (qs .1 .0)) (List._∷_ (Row.lease (κs .1 .1 .0) (qs .1 .1 .0))
-            (List._∷_ (Row.lease (κs .1 .1 .1 .0) (qs .1 .1 .1 .0)) (List._∷_ Row.off (List._∷_ Row.dead (List._∷_ Row.off (List._∷_ Row.off (List._∷_ Row.off (List._∷_ Row.off List.[]))))))))); }
+        G35 = record {
+          locals = List._++_ t10 (List._++_ t13 t2);
+          slots = List._∷_ (Row.lease (κs .0) (qs .0)) (List._∷_ (Row.lease (κs .1 .0) (qs .1 .0)) (List._∷_ (Row.lease (κs .1 .1 .0) (qs .1 .1 .0))
+              (List._∷_ (Row.lease (κs .1 .1 .1 .0) (qs .1 .1 .1 .0)) (List._∷_ Row.off (List._∷_ Row.dead (List._∷_ Row.off (List._∷_ Row.off (List._∷_ Row.off (List._∷_ Row.off List.[])))))))));
+        }
 
         abbrev G36 : Row.Cx
-        G36 = record
-            { locals = List._++_ t10 (List._++_ t13 t2); slots = List._∷_ (Row.lease (κs .0) (qs .0)) (List._∷_ (Row.lease (κs .1 .0) (qs .1 .0)) (List._∷_ (Row.lease (κs .1 .1 .0) (qs .1 .1 .0))
-            (List._∷_ (Row.lease (κs .1 .1 .1 .0) (qs .1 .1 .1 .0)) (List._∷_ Row.off (List._∷_ Row.off (List._∷_ Row.off (List._∷_ Row.off (List._∷_ Row.off (List._∷_ Row.off List.[]))))))))); }
+        G36 = record {
+          locals = List._++_ t10 (List._++_ t13 t2);
+          slots = List._∷_ (Row.lease (κs .0) (qs .0)) (List._∷_ (Row.lease (κs .1 .0) (qs .1 .0)) (List._∷_ (Row.lease (κs .1 .1 .0) (qs .1 .1 .0))
+              (List._∷_ (Row.lease (κs .1 .1 .1 .0) (qs .1 .1 .1 .0)) (List._∷_ Row.off (List._∷_ Row.off (List._∷_ Row.off (List._∷_ Row.off (List._∷_ Row.off (List._∷_ Row.off List.[])))))))));
+        }
 
         abbrev G37 : Row.Cx
-        G37 = record
-            { locals = List._++_ t10 (List._++_ t13 t2); slots = List._∷_ (Row.lease (κs .0) (qs .0)) (List._∷_ (Row.lease (κs .1 .0) (qs .1 .0)) (List._∷_ (Row.lease (κs .1 .1 .0) (qs .1 .1 .0))
-            (List._∷_ (Row.lease (κs .1 .1 .1 .0) (qs .1 .1 .1 .0)) (List._∷_ Row.off (List._∷_ Row.off (List._∷_ Row.alive (List._∷_ Row.off (List._∷_ Row.off (List._∷_ Row.off List.[]))))))))); }
+        G37 = record {
+          locals = List._++_ t10 (List._++_ t13 t2);
+          slots = List._∷_ (Row.lease (κs .0) (qs .0)) (List._∷_ (Row.lease (κs .1 .0) (qs .1 .0)) (List._∷_ (Row.lease (κs .1 .1 .0) (qs .1 .1 .0))
+              (List._∷_ (Row.lease (κs .1 .1 .1 .0) (qs .1 .1 .1 .0)) (List._∷_ Row.off (List._∷_ Row.off (List._∷_ Row.alive (List._∷_ Row.off (List._∷_ Row.off (List._∷_ Row.off List.[])))))))));
+        }
 
         abbrev G38 : Row.Cx
-        G38 = record
-            { locals = List._++_ g24 (List._++_ t25 t2); slots = List._∷_ (Row.lease (κs .0) (qs .0)) (List._∷_ (Row.lease (κs .1 .0) (qs .1 .0)) (List._∷_ (Row.lease (κs .1 .1 .0) (qs .1 .1 .0))
-            (List._∷_ Row.off (List._∷_ Row.off (List._∷_ Row.off (List._∷_ Row.alive (List._∷_ Row.off (List._∷_ Row.off (List._∷_ Row.off List.[]))))))))); }
+        G38 = record {
+          locals = List._++_ g24 (List._++_ t25 t2);
+          slots = List._∷_ (Row.lease (κs .0) (qs .0)) (List._∷_ (Row.lease (κs .1 .0) (qs .1 .0)) (List._∷_ (Row.lease (κs .1 .1 .0) (qs .1 .1 .0))
+              (List._∷_ Row.off (List._∷_ Row.off (List._∷_ Row.off (List._∷_ Row.alive (List._∷_ Row.off (List._∷_ Row.off (List._∷_ Row.off List.[])))))))));
+        }
 
         abbrev G39 : Row.Cx
-        G39 = record
-            { locals = List._++_ g24 (List._++_ t26 t2); slots = List._∷_ (Row.lease (κs .0) (qs .0)) (List._∷_ (Row.lease (κs .1 .0) (qs .1 .0)) (List._∷_ (Row.lease (κs .1 .1 .0) (qs .1 .1 .0))
-            (List._∷_ Row.off (List._∷_ Row.off (List._∷_ Row.off (List._∷_ Row.alive (List._∷_ Row.off (List._∷_ Row.off (List._∷_ Row.off List.[]))))))))); }
+        G39 = record {
+          locals = List._++_ g24 (List._++_ t26 t2);
+          slots = List._∷_ (Row.lease (κs .0) (qs .0)) (List._∷_ (Row.lease (κs .1 .0) (qs .1 .0)) (List._∷_ (Row.lease (κs .1 .1 .0) (qs .1 .1 .0))
+              (List._∷_ Row.off (List._∷_ Row.off (List._∷_ Row.off (List._∷_ Row.alive (List._∷_ Row.off (List._∷_ Row.off (List._∷_ Row.off List.[])))))))));
+        }
 
         abbrev G40 : Row.Cx
-        G40 = record
-            { locals = List._++_ g24 (List._++_ t27 t2); slots = List._∷_ (Row.lease (κs .0) (qs .0)) (List._∷_ (Row.lease (κs .1 .0) (qs .1 .0)) (List._∷_ (Row.lease (κs .1 .1 .0) (qs .1 .1 .0))
-            (List._∷_ Row.off (List._∷_ Row.off (List._∷_ Row.off (List._∷_ Row.alive (List._∷_ Row.off (List._∷_ Row.off (List._∷_ Row.off List.[]))))))))); }
+        G40 = record {
+          locals = List._++_ g24 (List._++_ t27 t2);
+          slots = List._∷_ (Row.lease (κs .0) (qs .0)) (List._∷_ (Row.lease (κs .1 .0) (qs .1 .0)) (List._∷_ (Row.lease (κs .1 .1 .0) (qs .1 .1 .0))
+              (List._∷_ Row.off (List._∷_ Row.off (List._∷_ Row.off (List._∷_ Row.alive (List._∷_ Row.off (List._∷_ Row.off (List._∷_ Row.off List.[])))))))));
+        }
 
         abbrev G41 : Row.Cx
-        G41 = record
-            { locals = List._++_ g24 (List._++_ t27 t2); slots = List._∷_ (Row.lease (κs .0) (qs .0)) (List._∷_ (Row.lease (κs .1 .0) (qs .1 .0)) (List._∷_ (Row.lease (κs .1 .1 .0) (qs .1 .1 .0))
-            (List._∷_ Row.off (List._∷_ Row.off (List._∷_ Row.off (List._∷_ Row.dead (List._∷_ Row.off (List._∷_ Row.off (List._∷_ Row.off List.[]))))))))); }
+        G41 = record {
+          locals = List._++_ g24 (List._++_ t27 t2);
+          slots = List._∷_ (Row.lease (κs .0) (qs .0)) (List._∷_ (Row.lease (κs .1 .0) (qs .1 .0)) (List._∷_ (Row.lease (κs .1 .1 .0) (qs .1 .1 .0))
+              (List._∷_ Row.off (List._∷_ Row.off (List._∷_ Row.off (List._∷_ Row.dead (List._∷_ Row.off (List._∷_ Row.off (List._∷_ Row.off List.[])))))))));
+        }
 
         abbrev G42 : Row.Cx
-        G42 = record
-            { locals = List._++_ t10 (List._++_ t28 t2); slots = List._∷_ (Row.lease (κs .0) (qs .0)) (List._∷_ (Row.lease (κs .1 .0) (qs .1 .0)) (List._∷_ (Row.lease (κs .1 .1 .0) (qs .1 .1 .0))
-            (List._∷_ (Row.lease (κs .1 .1 .1 .0) (qs .1 .1 .1 .0)) (List._∷_ Row.off (List._∷_ Row.off (List._∷_ Row.dead (List._∷_ Row.off (List._∷_ Row.off (List._∷_ Row.off List.[]))))))))); }
+        G42 = record {
+          locals = List._++_ t10 (List._++_ t28 t2);
+          slots = List._∷_ (Row.lease (κs .0) (qs .0)) (List._∷_ (Row.lease (κs .1 .0) (qs .1 .0)) (List._∷_ (Row.lease (κs .1 .1 .0) (qs .1 .1 .0))
+              (List._∷_ (Row.lease (κs .1 .1 .1 .0) (qs .1 .1 .1 .0)) (List._∷_ Row.off (List._∷_ Row.off (List._∷_ Row.dead (List._∷_ Row.off (List._∷_ Row.off (List._∷_ Row.off List.[])))))))));
+        }
 
         abbrev G43 : Row.Cx
-        G43 = record
-            { locals = List._++_ t10 (List._++_ t28 t2); slots = List._∷_ (Row.lease (κs .0) (qs .0)) (List._∷_ (Row.lease (κs .1 .0) (qs .1 .0)) (List._∷_ (Row.lease (κs .1 .1 .0) (qs .1 .1 .0))
-            (List._∷_ (Row.lease (κs .1 .1 .1 .0) (qs .1 .1 .1 .0)) (List._∷_ Row.off (List._∷_ Row.off (List._∷_ Row.off (List._∷_ Row.off (List._∷_ Row.off (List._∷_ Row.off List.[]))))))))); }
+        G43 = record {
+          locals = List._++_ t10 (List._++_ t28 t2);
+          slots = List._∷_ (Row.lease (κs .0) (qs .0)) (List._∷_ (Row.lease (κs .1 .0) (qs .1 .0)) (List._∷_ (Row.lease (κs .1 .1 .0) (qs .1 .1 .0))
+              (List._∷_ (Row.lease (κs .1 .1 .1 .0) (qs .1 .1 .1 .0)) (List._∷_ Row.off (List._∷_ Row.off (List._∷_ Row.off (List._∷_ Row.off (List._∷_ Row.off (List._∷_ Row.off List.[])))))))));
+        }
 
         abbrev G44 : Row.Cx
-        G44 = record
-            { locals = List._++_ t10 (List._++_ t28 t2); slots = List._∷_ (Row.lease (κs .0) (qs .0)) (List._∷_ (Row.lease (κs .1 .0) (qs .1 .0)) (List._∷_ (Row.lease (κs .1 .1 .0) (qs .1 .1 .0))
-            (List._∷_ (Row.lease (κs .1 .1 .1 .0) (qs .1 .1 .1 .0)) (List._∷_ Row.off (List._∷_ Row.off (List._∷_ Row.off (List._∷_ Row.alive (List._∷_ Row.off (List._∷_ Row.off List.[]))))))))); }
+        G44 = record {
+          locals = List._++_ t10 (List._++_ t28 t2);
+          slots = List._∷_ (Row.lease (κs .0) (qs .0)) (List._∷_ (Row.lease (κs .1 .0) (qs .1 .0)) (List._∷_ (Row.lease (κs .1 .1 .0) (qs .1 .1 .0))
+              (List._∷_ (Row.lease (κs .1 .1 .1 .0) (qs .1 .1 .1 .0)) (List._∷_ Row.off (List._∷_ Row.off (List._∷_ Row.off (List._∷_ Row.alive (List._∷_ Row.off (List._∷_ Row.off List.[])))))))));
+        }
 
         abbrev G45 : Row.Cx
-        G45 = record
-            { locals = List._++_ g29 (List._++_ t30 t2); slots = List._∷_ (Row.lease (κs .0) (qs .0)) (List._∷_ Row.off (List._∷_ (Row.lease (κs .1 .1 .0) (qs .1 .1 .0)) (List._∷_ (Row.lease (κs .1 .1 .1
-            .0) (qs .1 .1 .1 .0)) (List._∷_ Row.off (List._∷_ Row.off (List._∷_ Row.off (List._∷_ Row.alive (List._∷_ Row.off (List._∷_ Row.off List.[]))))))))); }
+        G45 = record {
+          locals = List._++_ g29 (List._++_ t30 t2);
+          slots = List._∷_ (Row.lease (κs .0) (qs .0)) (List._∷_ Row.off (List._∷_ (Row.lease (κs .1 .1 .0) (qs .1 .1 .0)) (List._∷_ (Row.lease (κs .1 .1 .1
+              .0) (qs .1 .1 .1 .0)) (List._∷_ Row.off (List._∷_ Row.off (List._∷_ Row.off (List._∷_ Row.alive (List._∷_ Row.off (List._∷_ Row.off List.[])))))))));
+        }
 
         abbrev G46 : Row.Cx
-        G46 = record
-            { locals = List._++_ g29 (List._++_ t31 t2); slots = List._∷_ (Row.lease (κs .0) (qs .0)) (List._∷_ Row.off (List._∷_ (Row.lease (κs .1 .1 .0) (qs .1 .1 .0)) (List._∷_ (Row.lease (κs .1 .1 .1
-            .0) (qs .1 .1 .1 .0)) (List._∷_ Row.off (List._∷_ Row.off (List._∷_ Row.off (List._∷_ Row.alive (List._∷_ Row.off (List._∷_ Row.off List.[]))))))))); }
+        G46 = record {
+          locals = List._++_ g29 (List._++_ t31 t2);
+          slots = List._∷_ (Row.lease (κs .0) (qs .0)) (List._∷_ Row.off (List._∷_ (Row.lease (κs .1 .1 .0) (qs .1 .1 .0)) (List._∷_ (Row.lease (κs .1 .1 .1
+              .0) (qs .1 .1 .1 .0)) (List._∷_ Row.off (List._∷_ Row.off (List._∷_ Row.off (List._∷_ Row.alive (List._∷_ Row.off (List._∷_ Row.off List.[])))))))));
+        }
 
         abbrev G47 : Row.Cx
-        G47 = record
-            { locals = List._++_ g29 (List._++_ t31 t2); slots = List._∷_ (Row.lease (κs .0) (qs .0)) (List._∷_ Row.off (List._∷_ (Row.lease (κs .1 .1 .0) (qs .1 .1 .0)) (List._∷_ (Row.lease (κs .1 .1 .1
-            .0) (qs .1 .1 .1 .0)) (List._∷_ Row.off (List._∷_ Row.off (List._∷_ Row.off (List._∷_ Row.alive (List._∷_ Row.alive (List._∷_ Row.off List.[]))))))))); }
+        G47 = record {
+          locals = List._++_ g29 (List._++_ t31 t2);
+          slots = List._∷_ (Row.lease (κs .0) (qs .0)) (List._∷_ Row.off (List._∷_ (Row.lease (κs .1 .1 .0) (qs .1 .1 .0)) (List._∷_ (Row.lease (κs .1 .1 .1
+              .0) (qs .1 .1 .1 .0)) (List._∷_ Row.off (List._∷_ Row.off (List._∷_ Row.off (List._∷_ Row.alive (List._∷_ Row.alive (List._∷_ Row.off List.[])))))))));
+        }
 
         abbrev G48 : Row.Cx
-        G48 = record
-            { locals = List._++_ g32 (List._++_ t33 t2); slots = List._∷_ (Row.lease (κs .0) (qs .0)) (List._∷_ Row.off (List._∷_ Row.off (List._∷_ (Row.lease (κs .1 .1 .1 .0) (qs .1 .1 .1 .0)) (List._∷_
-            Row.off (List._∷_ Row.off (List._∷_ Row.off (List._∷_ Row.alive (List._∷_ Row.alive (List._∷_ Row.off List.[]))))))))); }
+        G48 = record {
+          locals = List._++_ g32 (List._++_ t33 t2);
+          slots = List._∷_ (Row.lease (κs .0) (qs .0)) (List._∷_ Row.off (List._∷_ Row.off (List._∷_ (Row.lease (κs .1 .1 .1 .0) (qs .1 .1 .1 .0)) (List._∷_
+              Row.off (List._∷_ Row.off (List._∷_ Row.off (List._∷_ Row.alive (List._∷_ Row.alive (List._∷_ Row.off List.[])))))))));
+        }
 
         abbrev G49 : Row.Cx
-        G49 = record
-            { locals = List._++_ g32 (List._++_ t31 t34); slots = List._∷_ (Row.lease (κs .0) (qs .0)) (List._∷_ Row.off (List._∷_ Row.off (List._∷_ (Row.lease (κs .1 .1 .1 .0) (qs .1 .1 .1 .0)) (List._∷_
-            Row.off (List._∷_ Row.off (List._∷_ Row.off (List._∷_ Row.alive (List._∷_ Row.alive (List._∷_ Row.off List.[]))))))))); }
+        G49 = record {
+          locals = List._++_ g32 (List._++_ t31 t34);
+          slots = List._∷_ (Row.lease (κs .0) (qs .0)) (List._∷_ Row.off (List._∷_ Row.off (List._∷_ (Row.lease (κs .1 .1 .1 .0) (qs .1 .1 .1 .0)) (List._∷_
+              Row.off (List._∷_ Row.off (List._∷_ Row.off (List._∷_ Row.alive (List._∷_ Row.alive (List._∷_ Row.off List.[])))))))));
+        }
 
         abbrev G50 : Row.Cx
-        G50 = record
-            { locals = List._++_ g32 (List._++_ t35 t36); slots = List._∷_ (Row.lease (κs .0) (qs .0)) (List._∷_ Row.off (List._∷_ Row.off (List._∷_ (Row.lease (κs .1 .1 .1 .0) (qs .1 .1 .1 .0)) (List._∷_
-            Row.off (List._∷_ Row.off (List._∷_ Row.off (List._∷_ Row.alive (List._∷_ Row.alive (List._∷_ Row.off List.[]))))))))); }
+        G50 = record {
+          locals = List._++_ g32 (List._++_ t35 t36);
+          slots = List._∷_ (Row.lease (κs .0) (qs .0)) (List._∷_ Row.off (List._∷_ Row.off (List._∷_ (Row.lease (κs .1 .1 .1 .0) (qs .1 .1 .1 .0)) (List._∷_
+              Row.off (List._∷_ Row.off (List._∷_ Row.off (List._∷_ Row.alive (List._∷_ Row.alive (List._∷_ Row.off List.[])))))))));
+        }
 
         abbrev G51 : Row.Cx
-        G51 = record
-            { locals = List._++_ g37 (List._++_ t35 t36); slots = List._∷_ (Row.lease (κs .0) (qs .0)) (List._∷_ Row.off (List._∷_ Row.off (List._∷_ (Row.lease (κs .1 .1 .1 .0) (qs .1 .1 .1 .0)) (List._∷_
-            Row.off (List._∷_ Row.off (List._∷_ Row.off (List._∷_ Row.alive (List._∷_ Row.alive (List._∷_ Row.off List.[]))))))))); }
+        G51 = record {
+          locals = List._++_ g37 (List._++_ t35 t36);
+          slots = List._∷_ (Row.lease (κs .0) (qs .0)) (List._∷_ Row.off (List._∷_ Row.off (List._∷_ (Row.lease (κs .1 .1 .1 .0) (qs .1 .1 .1 .0)) (List._∷_
+              Row.off (List._∷_ Row.off (List._∷_ Row.off (List._∷_ Row.alive (List._∷_ Row.alive (List._∷_ Row.off List.[])))))))));
+        }
 
         abbrev G52 : Row.Cx
-        G52 = record
-            { locals = List._++_ g37 (List._++_ t38 t36); slots = List._∷_ (Row.lease (κs .0) (qs .0)) (List._∷_ Row.off (List._∷_ Row.off (List._∷_ (Row.lease (κs .1 .1 .1 .0) (qs .1 .1 .1 .0)) (List._∷_
-            Row.off (List._∷_ Row.off (List._∷_ Row.off (List._∷_ Row.alive (List._∷_ Row.alive (List._∷_ Row.off List.[]))))))))); }
+        G52 = record {
+          locals = List._++_ g37 (List._++_ t38 t36);
+          slots = List._∷_ (Row.lease (κs .0) (qs .0)) (List._∷_ Row.off (List._∷_ Row.off (List._∷_ (Row.lease (κs .1 .1 .1 .0) (qs .1 .1 .1 .0)) (List._∷_
+              Row.off (List._∷_ Row.off (List._∷_ Row.off (List._∷_ Row.alive (List._∷_ Row.alive (List._∷_ Row.off List.[])))))))));
+        }
 
         abbrev G53 : Row.Cx
-        G53 = record
-            { locals = List._++_ g37 (List._++_ t38 t36); slots = List._∷_ (Row.lease (κs .0) (qs .0)) (List._∷_ Row.off (List._∷_ Row.off (List._∷_ (Row.lease (κs .1 .1 .1 .0) (qs .1 .1 .1 .0)) (List._∷_
-            Row.off (List._∷_ Row.off (List._∷_ Row.off (List._∷_ Row.dead (List._∷_ Row.alive (List._∷_ Row.off List.[]))))))))); }
+        G53 = record {
+          locals = List._++_ g37 (List._++_ t38 t36);
+          slots = List._∷_ (Row.lease (κs .0) (qs .0)) (List._∷_ Row.off (List._∷_ Row.off (List._∷_ (Row.lease (κs .1 .1 .1 .0) (qs .1 .1 .1 .0)) (List._∷_
+              Row.off (List._∷_ Row.off (List._∷_ Row.off (List._∷_ Row.dead (List._∷_ Row.alive (List._∷_ Row.off List.[])))))))));
+        }
 
         abbrev G54 : Row.Cx
-        G54 = record
-            { locals = List._++_ g39 (List._++_ t40 t36); slots = List._∷_ (Row.lease (κs .0) (qs .0)) (List._∷_ (Row.lease (κs .1 .0) (qs .1 .0)) (List._∷_ Row.off (List._∷_ (Row.lease (κs .1 .1 .1 .0)
-            (qs .1 .1 .1 .0)) (List._∷_ Row.off (List._∷_ Row.off (List._∷_ Row.off (List._∷_ Row.dead (List._∷_ Row.alive (List._∷_ Row.off List.[]))))))))); }
+        G54 = record {
+          locals = List._++_ g39 (List._++_ t40 t36);
+          slots = List._∷_ (Row.lease (κs .0) (qs .0)) (List._∷_ (Row.lease (κs .1 .0) (qs .1 .0)) (List._∷_ Row.off (List._∷_ (Row.lease (κs .1 .1 .1 .0)
+              (qs .1 .1 .1 .0)) (List._∷_ Row.off (List._∷_ Row.off (List._∷_ Row.off (List._∷_ Row.dead (List._∷_ Row.alive (List._∷_ Row.off List.[])))))))));
+        }
 
         abbrev G55 : Row.Cx
-        G55 = record
-            { locals = List._++_ g39 (List._++_ t40 t36); slots = List._∷_ (Row.lease (κs .0) (qs .0)) (List._∷_ (Row.lease (κs .1 .0) (qs .1 .0)) (List._∷_ Row.off (List._∷_ (Row.lease (κs .1 .1 .1 .0)
-            (qs .1 .1 .1 .0)) (List._∷_ Row.off (List._∷_ Row.off (List._∷_ Row.off (List._∷_ Row.dead (List._∷_ Row.alive (List._∷_ Row.off List.[]))))))))); }
+        G55 = record {
+          locals = List._++_ g39 (List._++_ t40 t36);
+          slots = List._∷_ (Row.lease (κs .0) (qs .0)) (List._∷_ (Row.lease (κs .1 .0) (qs .1 .0)) (List._∷_ Row.off (List._∷_ (Row.lease (κs .1 .1 .1 .0)
+              (qs .1 .1 .1 .0)) (List._∷_ Row.off (List._∷_ Row.off (List._∷_ Row.off (List._∷_ Row.dead (List._∷_ Row.alive (List._∷_ Row.off List.[])))))))));
+        }
 
         abbrev G56 : Row.Cx
-        G56 = record
-            { locals = List._++_ g39 (List._++_ t40 t36); slots = List._∷_ (Row.lease (κs .0) (qs .0)) (List._∷_ (Row.lease (κs .1 .0) (qs .1 .0)) (List._∷_ Row.off (List._∷_ (Row.lease (κs .1 .1 .1 .0)
-            (qs .1 .1 .1 .0)) (List._∷_ Row.off (List._∷_ Row.off (List._∷_ Row.off (List._∷_ Row.off (List._∷_ Row.alive (List._∷_ Row.off List.[]))))))))); }
+        G56 = record {
+          locals = List._++_ g39 (List._++_ t40 t36);
+          slots = List._∷_ (Row.lease (κs .0) (qs .0)) (List._∷_ (Row.lease (κs .1 .0) (qs .1 .0)) (List._∷_ Row.off (List._∷_ (Row.lease (κs .1 .1 .1 .0)
+              (qs .1 .1 .1 .0)) (List._∷_ Row.off (List._∷_ Row.off (List._∷_ Row.off (List._∷_ Row.off (List._∷_ Row.alive (List._∷_ Row.off List.[])))))))));
+        }
 
         abbrev G57 : Row.Cx
-        G57 = record
-            { locals = List._++_ g39 (List._++_ t40 t36); slots = List._∷_ (Row.lease (κs .0) (qs .0)) (List._∷_ (Row.lease (κs .1 .0) (qs .1 .0)) (List._∷_ Row.off (List._∷_ (Row.lease (κs .1 .1 .1 .0)
-            (qs .1 .1 .1 .0)) (List._∷_ Row.off (List._∷_ Row.off (List._∷_ Row.off (List._∷_ Row.off (List._∷_ Row.dead (List._∷_ Row.off List.[]))))))))); }
+        G57 = record {
+          locals = List._++_ g39 (List._++_ t40 t36);
+          slots = List._∷_ (Row.lease (κs .0) (qs .0)) (List._∷_ (Row.lease (κs .1 .0) (qs .1 .0)) (List._∷_ Row.off (List._∷_ (Row.lease (κs .1 .1 .1 .0)
+              (qs .1 .1 .1 .0)) (List._∷_ Row.off (List._∷_ Row.off (List._∷_ Row.off (List._∷_ Row.off (List._∷_ Row.dead (List._∷_ Row.off List.[])))))))));
+        }
 
         abbrev G58 : Row.Cx
-        G58 = record
-            { locals = List._++_ t41 (List._++_ t40 t2); slots = List._∷_ (Row.lease (κs .0) (qs .0)) (List._∷_ (Row.lease (κs .1 .0) (qs .1 .0)) (List._∷_ (Row.lease (κs .1 .1 .0) (qs .1 .1 .0))
-            (List._∷_ (Row.lease (κs .1 .1 .1 .0) (qs .1 .1 .1 .0)) (List._∷_ Row.off (List._∷_ Row.off (List._∷_ Row.off (List._∷_ Row.off (List._∷_ Row.dead (List._∷_ Row.off List.[]))))))))); }
+        G58 = record {
+          locals = List._++_ t41 (List._++_ t40 t2);
+          slots = List._∷_ (Row.lease (κs .0) (qs .0)) (List._∷_ (Row.lease (κs .1 .0) (qs .1 .0)) (List._∷_ (Row.lease (κs .1 .1 .0) (qs .1 .1 .0))
+              (List._∷_ (Row.lease (κs .1 .1 .1 .0) (qs .1 .1 .1 .0)) (List._∷_ Row.off (List._∷_ Row.off (List._∷_ Row.off (List._∷_ Row.off (List._∷_ Row.dead (List._∷_ Row.off List.[])))))))));
+        }
 
         abbrev G59 : Row.Cx
-        G59 = record
-            { locals = List._++_ t41 (List._++_ t40 t2); slots = List._∷_ (Row.lease (κs .0) (qs .0)) (List._∷_ (Row.lease (κs .1 .0) (qs .1 .0)) (List._∷_ (Row.lease (κs .1 .1 .0) (qs .1 .1 .0))
-            (List._∷_ (Row.lease (κs .1 .1 .1 .0) (qs .1 .1 .1 .0)) (List._∷_ Row.off (List._∷_ Row.off (List._∷_ Row.off (List._∷_ Row.off (List._∷_ Row.dead (List._∷_ Row.off List.[]))))))))); }
+        G59 = record {
+          locals = List._++_ t41 (List._++_ t40 t2);
+          slots = List._∷_ (Row.lease (κs .0) (qs .0)) (List._∷_ (Row.lease (κs .1 .0) (qs .1 .0)) (List._∷_ (Row.lease (κs .1 .1 .0) (qs .1 .1 .0))
+              (List._∷_ (Row.lease (κs .1 .1 .1 .0) (qs .1 .1 .1 .0)) (List._∷_ Row.off (List._∷_ Row.off (List._∷_ Row.off (List._∷_ Row.off (List._∷_ Row.dead (List._∷_ Row.off List.[])))))))));
+        }
 
         abbrev G60 : Row.Cx
-        G60 = record
-            { locals = List._++_ t41 (List._++_ t40 t2); slots = List._∷_ (Row.lease (κs .0) (qs .0)) (List._∷_ (Row.lease (κs .1 .0) (qs .1 .0)) (List._∷_ (Row.lease (κs .1 .1 .0) (qs .1 .1 .0))
-            (List._∷_ (Row.lease (κs .1 .1 .1 .0) (qs .1 .1 .1 .0)) (List._∷_ Row.off (List._∷_ Row.off (List._∷_ Row.off (List._∷_ Row.off (List._∷_ Row.off (List._∷_ Row.off List.[]))))))))); }
+        G60 = record {
+          locals = List._++_ t41 (List._++_ t40 t2);
+          slots = List._∷_ (Row.lease (κs .0) (qs .0)) (List._∷_ (Row.lease (κs .1 .0) (qs .1 .0)) (List._∷_ (Row.lease (κs .1 .1 .0) (qs .1 .1 .0))
+              (List._∷_ (Row.lease (κs .1 .1 .1 .0) (qs .1 .1 .1 .0)) (List._∷_ Row.off (List._∷_ Row.off (List._∷_ Row.off (List._∷_ Row.off (List._∷_ Row.off (List._∷_ Row.off List.[])))))))));
+        }
 
         abbrev G61 : Row.Cx
-        G61 = record
-            { locals = List._++_ t41 (List._++_ t42 t2); slots = List._∷_ (Row.lease (κs .0) (qs .0)) (List._∷_ (Row.lease (κs .1 .0) (qs .1 .0)) (List._∷_ (Row.lease (κs .1 .1 .0) (qs .1 .1 .0))
-            (List._∷_ (Row.lease (κs .1 .1 .1 .0) (qs .1 .1 .1 .0)) (List._∷_ Row.off (List._∷_ Row.off (List._∷_ Row.off (List._∷_ Row.off (List._∷_ Row.off (List._∷_ Row.off List.[]))))))))); }
+        G61 = record {
+          locals = List._++_ t41 (List._++_ t42 t2);
+          slots = List._∷_ (Row.lease (κs .0) (qs .0)) (List._∷_ (Row.lease (κs .1 .0) (qs .1 .0)) (List._∷_ (Row.lease (κs .1 .1 .0) (qs .1 .1 .0))
+              (List._∷_ (Row.lease (κs .1 .1 .1 .0) (qs .1 .1 .1 .0)) (List._∷_ Row.off (List._∷_ Row.off (List._∷_ Row.off (List._∷_ Row.off (List._∷_ Row.off (List._∷_ Row.off List.[])))))))));
+        }
 
         abbrev G62 : Row.Cx
-        G62 = record
-            { locals = List._++_ t41 (List._++_ t43 t2); slots = List._∷_ (Row.lease (κs .0) (qs .0)) (List._∷_ (Row.lease (κs .1 .0) (qs .1 .0)) (List._∷_ (Row.lease (κs .1 .1 .0) (qs .1 .1 .0))
-            (List._∷_ (Row.lease (κs .1 .1 .1 .0) (qs .1 .1 .1 .0)) (List._∷_ Row.off (List._∷_ Row.off (List._∷_ Row.off (List._∷_ Row.off (List._∷_ Row.off (List._∷_ Row.off List.[]))))))))); }
+        G62 = record {
+          locals = List._++_ t41 (List._++_ t43 t2);
+          slots = List._∷_ (Row.lease (κs .0) (qs .0)) (List._∷_ (Row.lease (κs .1 .0) (qs .1 .0)) (List._∷_ (Row.lease (κs .1 .1 .0) (qs .1 .1 .0))
+              (List._∷_ (Row.lease (κs .1 .1 .1 .0) (qs .1 .1 .1 .0)) (List._∷_ Row.off (List._∷_ Row.off (List._∷_ Row.off (List._∷_ Row.off (List._∷_ Row.off (List._∷_ Row.off List.[])))))))));
+        }
 
         abbrev G63 : Row.Cx
-        G63 = record
-            { locals = List._++_ t41 (List._++_ t42 t2); slots = List._∷_ (Row.lease (κs .0) (qs .0)) (List._∷_ (Row.lease (κs .1 .0) (qs .1 .0)) (List._∷_ (Row.lease (κs .1 .1 .0) (qs .1 .1 .0))
-            (List._∷_ (Row.lease (κs .1 .1 .1 .0) (qs .1 .1 .1 .0)) (List._∷_ Row.off (List._∷_ Row.off (List._∷_ Row.off (List._∷_ Row.off (List._∷_ Row.off (List._∷_ Row.off List.[]))))))))); }
+        G63 = record {
+          locals = List._++_ t41 (List._++_ t42 t2);
+          slots = List._∷_ (Row.lease (κs .0) (qs .0)) (List._∷_ (Row.lease (κs .1 .0) (qs .1 .0)) (List._∷_ (Row.lease (κs .1 .1 .0) (qs .1 .1 .0))
+              (List._∷_ (Row.lease (κs .1 .1 .1 .0) (qs .1 .1 .1 .0)) (List._∷_ Row.off (List._∷_ Row.off (List._∷_ Row.off (List._∷_ Row.off (List._∷_ Row.off (List._∷_ Row.off List.[])))))))));
+        }
 
         abbrev G64 : Row.Cx
-        G64 = record
-            { locals = List._++_ t44 (List._++_ t43 t2); slots = List._∷_ (Row.lease (κs .0) (qs .0)) (List._∷_ (Row.lease (κs .1 .0) (qs .1 .0)) (List._∷_ (Row.lease (κs .1 .1 .0) (qs .1 .1 .0))
-            (List._∷_ (Row.lease (κs .1 .1 .1 .0) (qs .1 .1 .1 .0)) (List._∷_ Row.off (List._∷_ Row.off (List._∷_ Row.off (List._∷_ Row.off (List._∷_ Row.off (List._∷_ Row.off List.[]))))))))); }
+        G64 = record {
+          locals = List._++_ t44 (List._++_ t43 t2);
+          slots = List._∷_ (Row.lease (κs .0) (qs .0)) (List._∷_ (Row.lease (κs .1 .0) (qs .1 .0)) (List._∷_ (Row.lease (κs .1 .1 .0) (qs .1 .1 .0))
+              (List._∷_ (Row.lease (κs .1 .1 .1 .0) (qs .1 .1 .1 .0)) (List._∷_ Row.off (List._∷_ Row.off (List._∷_ Row.off (List._∷_ Row.off (List._∷_ Row.off (List._∷_ Row.off List.[])))))))));
+        }
 
         abbrev G65 : Row.Cx
-        G65 = record
-            { locals = List._++_ t44 (List._++_ t45 t2); slots = List._∷_ (Row.lease (κs .0) (qs .0)) (List._∷_ (Row.lease (κs .1 .0) (qs .1 .0)) (List._∷_ (Row.lease (κs .1 .1 .0) (qs .1 .1 .0))
-            (List._∷_ (Row.lease (κs .1 .1 .1 .0) (qs .1 .1 .1 .0)) (List._∷_ Row.off (List._∷_ Row.off (List._∷_ Row.off (List._∷_ Row.off (List._∷_ Row.off (List._∷_ Row.off List.[]))))))))); }
+        G65 = record {
+          locals = List._++_ t44 (List._++_ t45 t2);
+          slots = List._∷_ (Row.lease (κs .0) (qs .0)) (List._∷_ (Row.lease (κs .1 .0) (qs .1 .0)) (List._∷_ (Row.lease (κs .1 .1 .0) (qs .1 .1 .0))
+              (List._∷_ (Row.lease (κs .1 .1 .1 .0) (qs .1 .1 .1 .0)) (List._∷_ Row.off (List._∷_ Row.off (List._∷_ Row.off (List._∷_ Row.off (List._∷_ Row.off (List._∷_ Row.off List.[])))))))));
+        }
 
         abbrev G66 : Row.Cx
-        G66 = record
-            { locals = List._++_ t44 (List._++_ t46 t2); slots = List._∷_ (Row.lease (κs .0) (qs .0)) (List._∷_ (Row.lease (κs .1 .0) (qs .1 .0)) (List._∷_ (Row.lease (κs .1 .1 .0) (qs .1 .1 .0))
-            (List._∷_ (Row.lease (κs .1 .1 .1 .0) (qs .1 .1 .1 .0)) (List._∷_ Row.off (List._∷_ Row.off (List._∷_ Row.off (List._∷_ Row.off (List._∷_ Row.off (List._∷_ Row.off List.[]))))))))); }
+        G66 = record {
+          locals = List._++_ t44 (List._++_ t46 t2);
+          slots = List._∷_ (Row.lease (κs .0) (qs .0)) (List._∷_ (Row.lease (κs .1 .0) (qs .1 .0)) (List._∷_ (Row.lease (κs .1 .1 .0) (qs .1 .1 .0))
+              (List._∷_ (Row.lease (κs .1 .1 .1 .0) (qs .1 .1 .1 .0)) (List._∷_ Row.off (List._∷_ Row.off (List._∷_ Row.off (List._∷_ Row.off (List._∷_ Row.off (List._∷_ Row.off List.[])))))))));
+        }
 
         abbrev G67 : Row.Cx
-        G67 = record
-            { locals = List._++_ t47 (List._++_ t46 t2); slots = List._∷_ (Row.lease (κs .0) (qs .0)) (List._∷_ (Row.lease (κs .1 .0) (qs .1 .0)) (List._∷_ (Row.lease (κs .1 .1 .0) (qs .1 .1 .0))
-            (List._∷_ (Row.lease (κs .1 .1 .1 .0) (qs .1 .1 .1 .0)) (List._∷_ Row.off (List._∷_ Row.off (List._∷_ Row.off (List._∷_ Row.off (List._∷_ Row.off (List._∷_ Row.off List.[]))))))))); }
+        G67 = record {
+          locals = List._++_ t47 (List._++_ t46 t2);
+          slots = List._∷_ (Row.lease (κs .0) (qs .0)) (List._∷_ (Row.lease (κs .1 .0) (qs .1 .0)) (List._∷_ (Row.lease (κs .1 .1 .0) (qs .1 .1 .0))
+              (List._∷_ (Row.lease (κs .1 .1 .1 .0) (qs .1 .1 .1 .0)) (List._∷_ Row.off (List._∷_ Row.off (List._∷_ Row.off (List._∷_ Row.off (List._∷_ Row.off (List._∷_ Row.off List.[])))))))));
+        }
 
         abbrev G68 : Row.Cx
-        G68 = record
-            { locals = List._++_ t47 (List._++_ t48 t2); slots = List._∷_ (Row.lease (κs .0) (qs .0)) (List._∷_ (Row.lease (κs .1 .0) (qs .1 .0)) (List._∷_ (Row.lease (κs .1 .1 .0) (qs .1 .1 .0))
-            (List._∷_ (Row.lease (κs .1 .1 .1 .0) (qs .1 .1 .1 .0)) (List._∷_ Row.off (List._∷_ Row.off (List._∷_ Row.off (List._∷_ Row.off (List._∷_ Row.off (List._∷_ Row.off List.[]))))))))); }
+        G68 = record {
+          locals = List._++_ t47 (List._++_ t48 t2);
+          slots = List._∷_ (Row.lease (κs .0) (qs .0)) (List._∷_ (Row.lease (κs .1 .0) (qs .1 .0)) (List._∷_ (Row.lease (κs .1 .1 .0) (qs .1 .1 .0))
+              (List._∷_ (Row.lease (κs .1 .1 .1 .0) (qs .1 .1 .1 .0)) (List._∷_ Row.off (List._∷_ Row.off (List._∷_ Row.off (List._∷_ Row.off (List._∷_ Row.off (List._∷_ Row.off List.[])))))))));
+        }
 
         abbrev G69 : Row.Cx
-        G69 = record
-            { locals = List._++_ t49 (List._++_ t48 t2); slots = List._∷_ (Row.lease (κs .0) (qs .0)) (List._∷_ (Row.lease (κs .1 .0) (qs .1 .0)) (List._∷_ (Row.lease (κs .1 .1 .0) (qs .1 .1 .0))
-            (List._∷_ (Row.lease (κs .1 .1 .1 .0) (qs .1 .1 .1 .0)) (List._∷_ Row.off (List._∷_ Row.off (List._∷_ Row.off (List._∷_ Row.off (List._∷_ Row.off (List._∷_ Row.off List.[]))))))))); }
+        G69 = record {
+          locals = List._++_ t49 (List._++_ t48 t2);
+          slots = List._∷_ (Row.lease (κs .0) (qs .0)) (List._∷_ (Row.lease (κs .1 .0) (qs .1 .0)) (List._∷_ (Row.lease (κs .1 .1 .0) (qs .1 .1 .0))
+              (List._∷_ (Row.lease (κs .1 .1 .1 .0) (qs .1 .1 .1 .0)) (List._∷_ Row.off (List._∷_ Row.off (List._∷_ Row.off (List._∷_ Row.off (List._∷_ Row.off (List._∷_ Row.off List.[])))))))));
+        }
 
         abbrev G70 : Row.Cx
-        G70 = record
-            { locals = List._++_ t50 (List._++_ t48 t2); slots = List._∷_ (Row.lease (κs .0) (qs .0)) (List._∷_ (Row.lease (κs .1 .0) (qs .1 .0)) (List._∷_ (Row.lease (κs .1 .1 .0) (qs .1 .1 .0))
-            (List._∷_ (Row.lease (κs .1 .1 .1 .0) (qs .1 .1 .1 .0)) (List._∷_ Row.off (List._∷_ Row.off (List._∷_ Row.off (List._∷_ Row.off (List._∷_ Row.off (List._∷_ Row.off List.[]))))))))); }
+        G70 = record {
+          locals = List._++_ t50 (List._++_ t48 t2);
+          slots = List._∷_ (Row.lease (κs .0) (qs .0)) (List._∷_ (Row.lease (κs .1 .0) (qs .1 .0)) (List._∷_ (Row.lease (κs .1 .1 .0) (qs .1 .1 .0))
+              (List._∷_ (Row.lease (κs .1 .1 .1 .0) (qs .1 .1 .1 .0)) (List._∷_ Row.off (List._∷_ Row.off (List._∷_ Row.off (List._∷_ Row.off (List._∷_ Row.off (List._∷_ Row.off List.[])))))))));
+        }
 
         abbrev G71 : Row.Cx
-        G71 = record
-            { locals = List._++_ t51 (List._++_ t48 t2); slots = List._∷_ (Row.lease (κs .0) (qs .0)) (List._∷_ (Row.lease (κs .1 .0) (qs .1 .0)) (List._∷_ (Row.lease (κs .1 .1 .0) (qs .1 .1 .0))
-            (List._∷_ (Row.lease (κs .1 .1 .1 .0) (qs .1 .1 .1 .0)) (List._∷_ Row.off (List._∷_ Row.off (List._∷_ Row.off (List._∷_ Row.off (List._∷_ Row.off (List._∷_ Row.off List.[]))))))))); }
+        G71 = record {
+          locals = List._++_ t51 (List._++_ t48 t2);
+          slots = List._∷_ (Row.lease (κs .0) (qs .0)) (List._∷_ (Row.lease (κs .1 .0) (qs .1 .0)) (List._∷_ (Row.lease (κs .1 .1 .0) (qs .1 .1 .0))
+              (List._∷_ (Row.lease (κs .1 .1 .1 .0) (qs .1 .1 .1 .0)) (List._∷_ Row.off (List._∷_ Row.off (List._∷_ Row.off (List._∷_ Row.off (List._∷_ Row.off (List._∷_ Row.off List.[])))))))));
+        }
 
         abbrev G72 : Row.Cx
-        G72 = record
-            { locals = List._++_ t52 (List._++_ t48 t2); slots = List._∷_ (Row.lease (κs .0) (qs .0)) (List._∷_ (Row.lease (κs .1 .0) (qs .1 .0)) (List._∷_ (Row.lease (κs .1 .1 .0) (qs .1 .1 .0))
-            (List._∷_ (Row.lease (κs .1 .1 .1 .0) (qs .1 .1 .1 .0)) (List._∷_ Row.off (List._∷_ Row.off (List._∷_ Row.off (List._∷_ Row.off (List._∷_ Row.off (List._∷_ Row.off List.[]))))))))); }
+        G72 = record {
+          locals = List._++_ t52 (List._++_ t48 t2);
+          slots = List._∷_ (Row.lease (κs .0) (qs .0)) (List._∷_ (Row.lease (κs .1 .0) (qs .1 .0)) (List._∷_ (Row.lease (κs .1 .1 .0) (qs .1 .1 .0))
+              (List._∷_ (Row.lease (κs .1 .1 .1 .0) (qs .1 .1 .1 .0)) (List._∷_ Row.off (List._∷_ Row.off (List._∷_ Row.off (List._∷_ Row.off (List._∷_ Row.off (List._∷_ Row.off List.[])))))))));
+        }
 
         abbrev G73 : Row.Cx
-        G73 = record
-            { locals = List._++_ t53 (List._++_ t48 t2); slots = List._∷_ (Row.lease (κs .0) (qs .0)) (List._∷_ (Row.lease (κs .1 .0) (qs .1 .0)) (List._∷_ (Row.lease (κs .1 .1 .0) (qs .1 .1 .0))
-            (List._∷_ (Row.lease (κs .1 .1 .1 .0) (qs .1 .1 .1 .0)) (List._∷_ Row.off (List._∷_ Row.off (List._∷_ Row.off (List._∷_ Row.off (List._∷_ Row.off (List._∷_ Row.off List.[]))))))))); }
+        G73 = record {
+          locals = List._++_ t53 (List._++_ t48 t2);
+          slots = List._∷_ (Row.lease (κs .0) (qs .0)) (List._∷_ (Row.lease (κs .1 .0) (qs .1 .0)) (List._∷_ (Row.lease (κs .1 .1 .0) (qs .1 .1 .0))
+              (List._∷_ (Row.lease (κs .1 .1 .1 .0) (qs .1 .1 .1 .0)) (List._∷_ Row.off (List._∷_ Row.off (List._∷_ Row.off (List._∷_ Row.off (List._∷_ Row.off (List._∷_ Row.off List.[])))))))));
+        }
 
         abbrev G74 : Row.Cx
-        G74 = record
-            { locals = List._++_ t54 (List._++_ t48 t2); slots = List._∷_ (Row.lease (κs .0) (qs .0)) (List._∷_ (Row.lease (κs .1 .0) (qs .1 .0)) (List._∷_ (Row.lease (κs .1 .1 .0) (qs .1 .1 .0))
-            (List._∷_ (Row.lease (κs .1 .1 .1 .0) (qs .1 .1 .1 .0)) (List._∷_ Row.off (List._∷_ Row.off (List._∷_ Row.off (List._∷_ Row.off (List._∷_ Row.off (List._∷_ Row.off List.[]))))))))); }
+        G74 = record {
+          locals = List._++_ t54 (List._++_ t48 t2);
+          slots = List._∷_ (Row.lease (κs .0) (qs .0)) (List._∷_ (Row.lease (κs .1 .0) (qs .1 .0)) (List._∷_ (Row.lease (κs .1 .1 .0) (qs .1 .1 .0))
+              (List._∷_ (Row.lease (κs .1 .1 .1 .0) (qs .1 .1 .1 .0)) (List._∷_ Row.off (List._∷_ Row.off (List._∷_ Row.off (List._∷_ Row.off (List._∷_ Row.off (List._∷_ Row.off List.[])))))))));
+        }
 
         abbrev G75 : Row.Cx
-        G75 = record
-            { locals = List._++_ t3 (List._++_ t48 t2); slots = List._∷_ (Row.lease (κs .0) (qs .0)) (List._∷_ (Row.lease (κs .1 .0) (qs .1 .0)) (List._∷_ (Row.lease (κs .1 .1 .0) (qs .1 .1 .0)) (List._∷_
-            (Row.lease (κs .1 .1 .1 .0) (qs .1 .1 .1 .0)) (List._∷_ Row.off (List._∷_ Row.off (List._∷_ Row.off (List._∷_ Row.off (List._∷_ Row.off (List._∷_ Row.off List.[]))))))))); }
+        G75 = record {
+          locals = List._++_ t3 (List._++_ t48 t2);
+          slots = List._∷_ (Row.lease (κs .0) (qs .0)) (List._∷_ (Row.lease (κs .1 .0) (qs .1 .0)) (List._∷_ (Row.lease (κs .1 .1 .0) (qs .1 .1 .0)) (List._∷_
+              (Row.lease (κs .1 .1 .1 .0) (qs .1 .1 .1 .0)) (List._∷_ Row.off (List._∷_ Row.off (List._∷_ Row.off (List._∷_ Row.off (List._∷_ Row.off (List._∷_ Row.off List.[])))))))));
+        }
 
         abbrev G76 : Row.Cx
-        G76 = record
-            { locals = List._++_ t3 (List._++_ t1 t2); slots = List._∷_ (Row.lease (κs .0) (qs .0)) (List._∷_ (Row.lease (κs .1 .0) (qs .1 .0)) (List._∷_ (Row.lease (κs .1 .1 .0) (qs .1 .1 .0)) (List._∷_
-            (Row.lease (κs .1 .1 .1 .0) (qs .1 .1 .1 .0)) (List._∷_ Row.off (List._∷_ Row.off (List._∷_ Row.off (List._∷_ Row.off (List._∷_ Row.off (List._∷_ Row.off List.[]))))))))); }
+        G76 = record {
+          locals = List._++_ t3 (List._++_ t1 t2);
+          slots = List._∷_ (Row.lease (κs .0) (qs .0)) (List._∷_ (Row.lease (κs .1 .0) (qs .1 .0)) (List._∷_ (Row.lease (κs .1 .1 .0) (qs .1 .1 .0)) (List._∷_
+              (Row.lease (κs .1 .1 .1 .0) (qs .1 .1 .1 .0)) (List._∷_ Row.off (List._∷_ Row.off (List._∷_ Row.off (List._∷_ Row.off (List._∷_ Row.off (List._∷_ Row.off List.[])))))))));
+        }
 
         abbrev G77 : Row.Cx
-        G77 = record
-            { locals = List._++_ t41 (List._++_ t42 t2); slots = List._∷_ (Row.lease (κs .0) (qs .0)) (List._∷_ (Row.lease (κs .1 .0) (qs .1 .0)) (List._∷_ (Row.lease (κs .1 .1 .0) (qs .1 .1 .0))
-            (List._∷_ (Row.lease (κs .1 .1 .1 .0) (qs .1 .1 .1 .0)) (List._∷_ Row.off (List._∷_ Row.off (List._∷_ Row.off (List._∷_ Row.off (List._∷_ Row.off (List._∷_ Row.off List.[]))))))))); }
+        G77 = record {
+          locals = List._++_ t41 (List._++_ t42 t2);
+          slots = List._∷_ (Row.lease (κs .0) (qs .0)) (List._∷_ (Row.lease (κs .1 .0) (qs .1 .0)) (List._∷_ (Row.lease (κs .1 .1 .0) (qs .1 .1 .0))
+              (List._∷_ (Row.lease (κs .1 .1 .1 .0) (qs .1 .1 .1 .0)) (List._∷_ Row.off (List._∷_ Row.off (List._∷_ Row.off (List._∷_ Row.off (List._∷_ Row.off (List._∷_ Row.off List.[])))))))));
+        }
 
         abbrev G78 : Row.Cx
-        G78 = record
-            { locals = List._++_ t41 (List._++_ t55 t2); slots = List._∷_ (Row.lease (κs .0) (qs .0)) (List._∷_ (Row.lease (κs .1 .0) (qs .1 .0)) (List._∷_ (Row.lease (κs .1 .1 .0) (qs .1 .1 .0))
-            (List._∷_ (Row.lease (κs .1 .1 .1 .0) (qs .1 .1 .1 .0)) (List._∷_ Row.off (List._∷_ Row.off (List._∷_ Row.off (List._∷_ Row.off (List._∷_ Row.off (List._∷_ Row.off List.[]))))))))); }
+        G78 = record {
+          locals = List._++_ t41 (List._++_ t55 t2);
+          slots = List._∷_ (Row.lease (κs .0) (qs .0)) (List._∷_ (Row.lease (κs .1 .0) (qs .1 .0)) (List._∷_ (Row.lease (κs .1 .1 .0) (qs .1 .1 .0))
+              (List._∷_ (Row.lease (κs .1 .1 .1 .0) (qs .1 .1 .1 .0)) (List._∷_ Row.off (List._∷_ Row.off (List._∷_ Row.off (List._∷_ Row.off (List._∷_ Row.off (List._∷_ Row.off List.[])))))))));
+        }
 
         abbrev G79 : Row.Cx
-        G79 = record
-            { locals = List._++_ t41 (List._++_ t55 t2); slots = List._∷_ (Row.lease (κs .0) (qs .0)) (List._∷_ (Row.lease (κs .1 .0) (qs .1 .0)) (List._∷_ (Row.lease (κs .1 .1 .0) (qs .1 .1 .0))
-            (List._∷_ (Row.lease (κs .1 .1 .1 .0) (qs .1 .1 .1 .0)) (List._∷_ Row.off (List._∷_ Row.off (List._∷_ Row.off (List._∷_ Row.off (List._∷_ Row.off (List._∷_ Row.alive List.[]))))))))); }
+        G79 = record {
+          locals = List._++_ t41 (List._++_ t55 t2);
+          slots = List._∷_ (Row.lease (κs .0) (qs .0)) (List._∷_ (Row.lease (κs .1 .0) (qs .1 .0)) (List._∷_ (Row.lease (κs .1 .1 .0) (qs .1 .1 .0))
+              (List._∷_ (Row.lease (κs .1 .1 .1 .0) (qs .1 .1 .1 .0)) (List._∷_ Row.off (List._∷_ Row.off (List._∷_ Row.off (List._∷_ Row.off (List._∷_ Row.off (List._∷_ Row.alive List.[])))))))));
+        }
 
         abbrev G80 : Row.Cx
-        G80 = record
-            { locals = List._++_ g56 (List._++_ t55 t57); slots = List._∷_ (Row.lease (κs .0) (qs .0)) (List._∷_ (Row.lease (κs .1 .0) (qs .1 .0)) (List._∷_ (Row.lease (κs .1 .1 .0) (qs .1 .1 .0))
-            (List._∷_ Row.off (List._∷_ Row.off (List._∷_ Row.off (List._∷_ Row.off (List._∷_ Row.off (List._∷_ Row.off (List._∷_ Row.alive List.[]))))))))); }
+        G80 = record {
+          locals = List._++_ g56 (List._++_ t55 t57);
+          slots = List._∷_ (Row.lease (κs .0) (qs .0)) (List._∷_ (Row.lease (κs .1 .0) (qs .1 .0)) (List._∷_ (Row.lease (κs .1 .1 .0) (qs .1 .1 .0))
+              (List._∷_ Row.off (List._∷_ Row.off (List._∷_ Row.off (List._∷_ Row.off (List._∷_ Row.off (List._∷_ Row.off (List._∷_ Row.alive List.[])))))))));
+        }
 
         abbrev G81 : Row.Cx
-        G81 = record
-            { locals = List._++_ g56 (List._++_ t55 t58); slots = List._∷_ (Row.lease (κs .0) (qs .0)) (List._∷_ (Row.lease (κs .1 .0) (qs .1 .0)) (List._∷_ (Row.lease (κs .1 .1 .0) (qs .1 .1 .0))
-            (List._∷_ Row.off (List._∷_ Row.off (List._∷_ Row.off (List._∷_ Row.off (List._∷_ Row.off (List._∷_ Row.off (List._∷_ Row.alive List.[]))))))))); }
+        G81 = record {
+          locals = List._++_ g56 (List._++_ t55 t58);
+          slots = List._∷_ (Row.lease (κs .0) (qs .0)) (List._∷_ (Row.lease (κs .1 .0) (qs .1 .0)) (List._∷_ (Row.lease (κs .1 .1 .0) (qs .1 .1 .0))
+              (List._∷_ Row.off (List._∷_ Row.off (List._∷_ Row.off (List._∷_ Row.off (List._∷_ Row.off (List._∷_ Row.off (List._∷_ Row.alive List.[])))))))));
+        }
 
         abbrev G82 : Row.Cx
-        G82 = record
-            { locals = List._++_ g56 (List._++_ t59 t60); slots = List._∷_ (Row.lease (κs .0) (qs .0)) (List._∷_ (Row.lease (κs .1 .0) (qs .1 .0)) (List._∷_ (Row.lease (κs .1 .1 .0) (qs .1 .1 .0))
-            (List._∷_ Row.off (List._∷_ Row.off (List._∷_ Row.off (List._∷_ Row.off (List._∷_ Row.off (List._∷_ Row.off (List._∷_ Row.alive List.[]))))))))); }
+        G82 = record {
+          locals = List._++_ g56 (List._++_ t59 t60);
+          slots = List._∷_ (Row.lease (κs .0) (qs .0)) (List._∷_ (Row.lease (κs .1 .0) (qs .1 .0)) (List._∷_ (Row.lease (κs .1 .1 .0) (qs .1 .1 .0))
+              (List._∷_ Row.off (List._∷_ Row.off (List._∷_ Row.off (List._∷_ Row.off (List._∷_ Row.off (List._∷_ Row.off (List._∷_ Row.alive List.[])))))))));
+        }
 
         abbrev G83 : Row.Cx
-        G83 = record
-            { locals = List._++_ g56 (List._++_ t61 t60); slots = List._∷_ (Row.lease (κs .0) (qs .0)) (List._∷_ (Row.lease (κs .1 .0) (qs .1 .0)) (List._∷_ (Row.lease (κs .1 .1 .0) (qs .1 .1 .0))
-            (List._∷_ Row.off (List._∷_ Row.off (List._∷_ Row.off (List._∷_ Row.off (List._∷_ Row.off (List._∷_ Row.off (List._∷_ Row.alive List.[]))))))))); }
+        G83 = record {
+          locals = List._++_ g56 (List._++_ t61 t60);
+          slots = List._∷_ (Row.lease (κs .0) (qs .0)) (List._∷_ (Row.lease (κs .1 .0) (qs .1 .0)) (List._∷_ (Row.lease (κs .1 .1 .0) (qs .1 .1 .0))
+              (List._∷_ Row.off (List._∷_ Row.off (List._∷_ Row.off (List._∷_ Row.off (List._∷_ Row.off (List._∷_ Row.off (List._∷_ Row.alive List.[])))))))));
+        }
 
         abbrev G84 : Row.Cx
-        G84 = record
-            { locals = List._++_ g56 (List._++_ t62 t60); slots = List._∷_ (Row.lease (κs .0) (qs .0)) (List._∷_ (Row.lease (κs .1 .0) (qs .1 .0)) (List._∷_ (Row.lease (κs .1 .1 .0) (qs .1 .1 .0))
-            (List._∷_ Row.off (List._∷_ Row.off (List._∷_ Row.off (List._∷_ Row.off (List._∷_ Row.off (List._∷_ Row.off (List._∷_ Row.alive List.[]))))))))); }
+        G84 = record {
+          locals = List._++_ g56 (List._++_ t62 t60);
+          slots = List._∷_ (Row.lease (κs .0) (qs .0)) (List._∷_ (Row.lease (κs .1 .0) (qs .1 .0)) (List._∷_ (Row.lease (κs .1 .1 .0) (qs .1 .1 .0))
+              (List._∷_ Row.off (List._∷_ Row.off (List._∷_ Row.off (List._∷_ Row.off (List._∷_ Row.off (List._∷_ Row.off (List._∷_ Row.alive List.[])))))))));
+        }
 
         abbrev G85 : Row.Cx
-        G85 = record
-            { locals = List._++_ g56 (List._++_ t46 t60); slots = List._∷_ (Row.lease (κs .0) (qs .0)) (List._∷_ (Row.lease (κs .1 .0) (qs .1 .0)) (List._∷_ (Row.lease (κs .1 .1 .0) (qs .1 .1 .0))
-            (List._∷_ Row.off (List._∷_ Row.off (List._∷_ Row.off (List._∷_ Row.off (List._∷_ Row.off (List._∷_ Row.off (List._∷_ Row.alive List.[]))))))))); }
+        G85 = record {
+          locals = List._++_ g56 (List._++_ t46 t60);
+          slots = List._∷_ (Row.lease (κs .0) (qs .0)) (List._∷_ (Row.lease (κs .1 .0) (qs .1 .0)) (List._∷_ (Row.lease (κs .1 .1 .0) (qs .1 .1 .0))
+              (List._∷_ Row.off (List._∷_ Row.off (List._∷_ Row.off (List._∷_ Row.off (List._∷_ Row.off (List._∷_ Row.off (List._∷_ Row.alive List.[])))))))));
+        }
 
         abbrev G86 : Row.Cx
-        G86 = record
-            { locals = List._++_ g56 (List._++_ t46 t60); slots = List._∷_ (Row.lease (κs .0) (qs .0)) (List._∷_ (Row.lease (κs .1 .0) (qs .1 .0)) (List._∷_ (Row.lease (κs .1 .1 .0) (qs .1 .1 .0))
-            (List._∷_ Row.off (List._∷_ Row.off (List._∷_ Row.off (List._∷_ Row.off (List._∷_ Row.off (List._∷_ Row.off (List._∷_ Row.dead List.[]))))))))); }
+        G86 = record {
+          locals = List._++_ g56 (List._++_ t46 t60);
+          slots = List._∷_ (Row.lease (κs .0) (qs .0)) (List._∷_ (Row.lease (κs .1 .0) (qs .1 .0)) (List._∷_ (Row.lease (κs .1 .1 .0) (qs .1 .1 .0))
+              (List._∷_ Row.off (List._∷_ Row.off (List._∷_ Row.off (List._∷_ Row.off (List._∷_ Row.off (List._∷_ Row.off (List._∷_ Row.dead List.[])))))))));
+        }
 
         abbrev G87 : Row.Cx
-        G87 = record
-            { locals = List._++_ t41 (List._++_ t46 t2); slots = List._∷_ (Row.lease (κs .0) (qs .0)) (List._∷_ (Row.lease (κs .1 .0) (qs .1 .0)) (List._∷_ (Row.lease (κs .1 .1 .0) (qs .1 .1 .0))
-            (List._∷_ (Row.lease (κs .1 .1 .1 .0) (qs .1 .1 .1 .0)) (List._∷_ Row.off (List._∷_ Row.off (List._∷_ Row.off (List._∷_ Row.off (List._∷_ Row.off (List._∷_ Row.dead List.[]))))))))); }
+        G87 = record {
+          locals = List._++_ t41 (List._++_ t46 t2);
+          slots = List._∷_ (Row.lease (κs .0) (qs .0)) (List._∷_ (Row.lease (κs .1 .0) (qs .1 .0)) (List._∷_ (Row.lease (κs .1 .1 .0) (qs .1 .1 .0))
+              (List._∷_ (Row.lease (κs .1 .1 .1 .0) (qs .1 .1 .1 .0)) (List._∷_ Row.off (List._∷_ Row.off (List._∷_ Row.off (List._∷_ Row.off (List._∷_ Row.off (List._∷_ Row.dead List.[])))))))));
+        }
 
         abbrev G88 : Row.Cx
-        G88 = record
-            { locals = List._++_ t41 (List._++_ t46 t2); slots = List._∷_ (Row.lease (κs .0) (qs .0)) (List._∷_ (Row.lease (κs .1 .0) (qs .1 .0)) (List._∷_ (Row.lease (κs .1 .1 .0) (qs .1 .1 .0))
-            (List._∷_ (Row.lease (κs .1 .1 .1 .0) (qs .1 .1 .1 .0)) (List._∷_ Row.off (List._∷_ Row.off (List._∷_ Row.off (List._∷_ Row.off (List._∷_ Row.off (List._∷_ Row.off List.[]))))))))); }
+        G88 = record {
+          locals = List._++_ t41 (List._++_ t46 t2);
+          slots = List._∷_ (Row.lease (κs .0) (qs .0)) (List._∷_ (Row.lease (κs .1 .0) (qs .1 .0)) (List._∷_ (Row.lease (κs .1 .1 .0) (qs .1 .1 .0))
+              (List._∷_ (Row.lease (κs .1 .1 .1 .0) (qs .1 .1 .1 .0)) (List._∷_ Row.off (List._∷_ Row.off (List._∷_ Row.off (List._∷_ Row.off (List._∷_ Row.off (List._∷_ Row.off List.[])))))))));
+        }
 
         abbrev G89 : Row.Cx
-        G89 = record
-            { locals = List._++_ t10 (List._++_ t46 t2); slots = List._∷_ (Row.lease (κs .0) (qs .0)) (List._∷_ (Row.lease (κs .1 .0) (qs .1 .0)) (List._∷_ (Row.lease (κs .1 .1 .0) (qs .1 .1 .0))
-            (List._∷_ (Row.lease (κs .1 .1 .1 .0) (qs .1 .1 .1 .0)) (List._∷_ Row.off (List._∷_ Row.off (List._∷_ Row.off (List._∷_ Row.off (List._∷_ Row.off (List._∷_ Row.off List.[]))))))))); }
+        G89 = record {
+          locals = List._++_ t10 (List._++_ t46 t2);
+          slots = List._∷_ (Row.lease (κs .0) (qs .0)) (List._∷_ (Row.lease (κs .1 .0) (qs .1 .0)) (List._∷_ (Row.lease (κs .1 .1 .0) (qs .1 .1 .0))
+              (List._∷_ (Row.lease (κs .1 .1 .1 .0) (qs .1 .1 .1 .0)) (List._∷_ Row.off (List._∷_ Row.off (List._∷_ Row.off (List._∷_ Row.off (List._∷_ Row.off (List._∷_ Row.off List.[])))))))));
+        }
 
         abbrev G90 : Row.Cx
-        G90 = record
-            { locals = List._++_ t10 (List._++_ t48 t2); slots = List._∷_ (Row.lease (κs .0) (qs .0)) (List._∷_ (Row.lease (κs .1 .0) (qs .1 .0)) (List._∷_ (Row.lease (κs .1 .1 .0) (qs .1 .1 .0))
-            (List._∷_ (Row.lease (κs .1 .1 .1 .0) (qs .1 .1 .1 .0)) (List._∷_ Row.off (List._∷_ Row.off (List._∷_ Row.off (List._∷_ Row.off (List._∷_ Row.off (List._∷_ Row.off List.[]))))))))); }
+        G90 = record {
+          locals = List._++_ t10 (List._++_ t48 t2);
+          slots = List._∷_ (Row.lease (κs .0) (qs .0)) (List._∷_ (Row.lease (κs .1 .0) (qs .1 .0)) (List._∷_ (Row.lease (κs .1 .1 .0) (qs .1 .1 .0))
+              (List._∷_ (Row.lease (κs .1 .1 .1 .0) (qs .1 .1 .1 .0)) (List._∷_ Row.off (List._∷_ Row.off (List._∷_ Row.off (List._∷_ Row.off (List._∷_ Row.off (List._∷_ Row.off List.[])))))))));
+        }
 
         abbrev G91 : Row.Cx
-        G91 = record
-            { locals = List._++_ t10 (List._++_ t48 t2); slots = List._∷_ (Row.lease (κs .0) (qs .0)) (List._∷_ (Row.lease (κs .1 .0) (qs .1 .0)) (List._∷_ (Row.lease (κs .1 .1 .0) (qs .1 .1 .0))
-            (List._∷_ (Row.lease (κs .1 .1 .1 .0) (qs .1 .1 .1 .0)) (List._∷_ Row.off (List._∷_ Row.off (List._∷_ Row.off (List._∷_ Row.off (List._∷_ Row.off (List._∷_ Row.off List.[]))))))))); }
+        G91 = record {
+          locals = List._++_ t10 (List._++_ t48 t2);
+          slots = List._∷_ (Row.lease (κs .0) (qs .0)) (List._∷_ (Row.lease (κs .1 .0) (qs .1 .0)) (List._∷_ (Row.lease (κs .1 .1 .0) (qs .1 .1 .0))
+              (List._∷_ (Row.lease (κs .1 .1 .1 .0) (qs .1 .1 .1 .0)) (List._∷_ Row.off (List._∷_ Row.off (List._∷_ Row.off (List._∷_ Row.off (List._∷_ Row.off (List._∷_ Row.off List.[])))))))));
+        }
 
         abbrev G92 : Row.Cx
-        G92 = record
-            { locals = List._++_ t10 (List._++_ t1 t2); slots = List._∷_ (Row.lease (κs .0) (qs .0)) (List._∷_ (Row.lease (κs .1 .0) (qs .1 .0)) (List._∷_ (Row.lease (κs .1 .1 .0) (qs .1 .1 .0)) (List._∷_
-            (Row.lease (κs .1 .1 .1 .0) (qs .1 .1 .1 .0)) (List._∷_ Row.off (List._∷_ Row.off (List._∷_ Row.off (List._∷_ Row.off (List._∷_ Row.off (List._∷_ Row.off List.[]))))))))); }
+        G92 = record {
+          locals = List._++_ t10 (List._++_ t1 t2);
+          slots = List._∷_ (Row.lease (κs .0) (qs .0)) (List._∷_ (Row.lease (κs .1 .0) (qs .1 .0)) (List._∷_ (Row.lease (κs .1 .1 .0) (qs .1 .1 .0)) (List._∷_
+              (Row.lease (κs .1 .1 .1 .0) (qs .1 .1 .1 .0)) (List._∷_ Row.off (List._∷_ Row.off (List._∷_ Row.off (List._∷_ Row.off (List._∷_ Row.off (List._∷_ Row.off List.[])))))))));
+        }
 
         abbrev G93 : Row.Cx
-        G93 = record
-            { locals = List._++_ t63 (List._++_ t1 t2); slots = List._∷_ (Row.lease (κs .0) (qs .0)) (List._∷_ (Row.lease (κs .1 .0) (qs .1 .0)) (List._∷_ (Row.lease (κs .1 .1 .0) (qs .1 .1 .0)) (List._∷_
-            (Row.lease (κs .1 .1 .1 .0) (qs .1 .1 .1 .0)) (List._∷_ Row.off (List._∷_ Row.off (List._∷_ Row.off (List._∷_ Row.off (List._∷_ Row.off (List._∷_ Row.off List.[]))))))))); }
+        G93 = record {
+          locals = List._++_ t63 (List._++_ t1 t2);
+          slots = List._∷_ (Row.lease (κs .0) (qs .0)) (List._∷_ (Row.lease (κs .1 .0) (qs .1 .0)) (List._∷_ (Row.lease (κs .1 .1 .0) (qs .1 .1 .0)) (List._∷_
+              (Row.lease (κs .1 .1 .1 .0) (qs .1 .1 .1 .0)) (List._∷_ Row.off (List._∷_ Row.off (List._∷_ Row.off (List._∷_ Row.off (List._∷_ Row.off (List._∷_ Row.off List.[])))))))));
+        }
 
         abbrev G94 : Row.Cx
-        G94 = record
-            { locals = List._++_ t64 (List._++_ t1 t2); slots = List._∷_ (Row.lease (κs .0) (qs .0)) (List._∷_ (Row.lease (κs .1 .0) (qs .1 .0)) (List._∷_ (Row.lease (κs .1 .1 .0) (qs .1 .1 .0)) (List._∷_
-            (Row.lease (κs .1 .1 .1 .0) (qs .1 .1 .1 .0)) (List._∷_ Row.off (List._∷_ Row.off (List._∷_ Row.off (List._∷_ Row.off (List._∷_ Row.off (List._∷_ Row.off List.[]))))))))); }
+        G94 = record {
+          locals = List._++_ t64 (List._++_ t1 t2);
+          slots = List._∷_ (Row.lease (κs .0) (qs .0)) (List._∷_ (Row.lease (κs .1 .0) (qs .1 .0)) (List._∷_ (Row.lease (κs .1 .1 .0) (qs .1 .1 .0)) (List._∷_
+              (Row.lease (κs .1 .1 .1 .0) (qs .1 .1 .1 .0)) (List._∷_ Row.off (List._∷_ Row.off (List._∷_ Row.off (List._∷_ Row.off (List._∷_ Row.off (List._∷_ Row.off List.[])))))))));
+        }
 
         abbrev G95 : Row.Cx
-        G95 = record
-            { locals = List._++_ t65 (List._++_ t1 t2); slots = List._∷_ (Row.lease (κs .0) (qs .0)) (List._∷_ (Row.lease (κs .1 .0) (qs .1 .0)) (List._∷_ (Row.lease (κs .1 .1 .0) (qs .1 .1 .0)) (List._∷_
-            (Row.lease (κs .1 .1 .1 .0) (qs .1 .1 .1 .0)) (List._∷_ Row.off (List._∷_ Row.off (List._∷_ Row.off (List._∷_ Row.off (List._∷_ Row.off (List._∷_ Row.off List.[]))))))))); }
+        G95 = record {
+          locals = List._++_ t65 (List._++_ t1 t2);
+          slots = List._∷_ (Row.lease (κs .0) (qs .0)) (List._∷_ (Row.lease (κs .1 .0) (qs .1 .0)) (List._∷_ (Row.lease (κs .1 .1 .0) (qs .1 .1 .0)) (List._∷_
+              (Row.lease (κs .1 .1 .1 .0) (qs .1 .1 .1 .0)) (List._∷_ Row.off (List._∷_ Row.off (List._∷_ Row.off (List._∷_ Row.off (List._∷_ Row.off (List._∷_ Row.off List.[])))))))));
+        }
 
         abbrev G96 : Row.Cx
-        G96 = record
-            { locals = List._++_ t66 (List._++_ t1 t2); slots = List._∷_ (Row.lease (κs .0) (qs .0)) (List._∷_ (Row.lease (κs .1 .0) (qs .1 .0)) (List._∷_ (Row.lease (κs .1 .1 .0) (qs .1 .1 .0)) (List._∷_
-            (Row.lease (κs .1 .1 .1 .0) (qs .1 .1 .1 .0)) (List._∷_ Row.off (List._∷_ Row.off (List._∷_ Row.off (List._∷_ Row.off (List._∷_ Row.off (List._∷_ Row.off List.[]))))))))); }
+        G96 = record {
+          locals = List._++_ t66 (List._++_ t1 t2);
+          slots = List._∷_ (Row.lease (κs .0) (qs .0)) (List._∷_ (Row.lease (κs .1 .0) (qs .1 .0)) (List._∷_ (Row.lease (κs .1 .1 .0) (qs .1 .1 .0)) (List._∷_
+              (Row.lease (κs .1 .1 .1 .0) (qs .1 .1 .1 .0)) (List._∷_ Row.off (List._∷_ Row.off (List._∷_ Row.off (List._∷_ Row.off (List._∷_ Row.off (List._∷_ Row.off List.[])))))))));
+        }
 
         abbrev G97 : Row.Cx
-        G97 = record
-            { locals = List._++_ t67 (List._++_ t1 t2); slots = List._∷_ (Row.lease (κs .0) (qs .0)) (List._∷_ (Row.lease (κs .1 .0) (qs .1 .0)) (List._∷_ (Row.lease (κs .1 .1 .0) (qs .1 .1 .0)) (List._∷_
-            (Row.lease (κs .1 .1 .1 .0) (qs .1 .1 .1 .0)) (List._∷_ Row.off (List._∷_ Row.off (List._∷_ Row.off (List._∷_ Row.off (List._∷_ Row.off (List._∷_ Row.off List.[]))))))))); }
+        G97 = record {
+          locals = List._++_ t67 (List._++_ t1 t2);
+          slots = List._∷_ (Row.lease (κs .0) (qs .0)) (List._∷_ (Row.lease (κs .1 .0) (qs .1 .0)) (List._∷_ (Row.lease (κs .1 .1 .0) (qs .1 .1 .0)) (List._∷_
+              (Row.lease (κs .1 .1 .1 .0) (qs .1 .1 .1 .0)) (List._∷_ Row.off (List._∷_ Row.off (List._∷_ Row.off (List._∷_ Row.off (List._∷_ Row.off (List._∷_ Row.off List.[])))))))));
+        }
 
         abbrev G98 : Row.Cx
-        G98 = record
-            { locals = List._++_ t68 (List._++_ t1 t2); slots = List._∷_ (Row.lease (κs .0) (qs .0)) (List._∷_ (Row.lease (κs .1 .0) (qs .1 .0)) (List._∷_ (Row.lease (κs .1 .1 .0) (qs .1 .1 .0)) (List._∷_
-            (Row.lease (κs .1 .1 .1 .0) (qs .1 .1 .1 .0)) (List._∷_ Row.off (List._∷_ Row.off (List._∷_ Row.off (List._∷_ Row.off (List._∷_ Row.off (List._∷_ Row.off List.[]))))))))); }
+        G98 = record {
+          locals = List._++_ t68 (List._++_ t1 t2);
+          slots = List._∷_ (Row.lease (κs .0) (qs .0)) (List._∷_ (Row.lease (κs .1 .0) (qs .1 .0)) (List._∷_ (Row.lease (κs .1 .1 .0) (qs .1 .1 .0)) (List._∷_
+              (Row.lease (κs .1 .1 .1 .0) (qs .1 .1 .1 .0)) (List._∷_ Row.off (List._∷_ Row.off (List._∷_ Row.off (List._∷_ Row.off (List._∷_ Row.off (List._∷_ Row.off List.[])))))))));
+        }
 
         abbrev G99 : Row.Cx
-        G99 = record
-            { locals = List._++_ t69 (List._++_ t1 t2); slots = List._∷_ (Row.lease (κs .0) (qs .0)) (List._∷_ (Row.lease (κs .1 .0) (qs .1 .0)) (List._∷_ (Row.lease (κs .1 .1 .0) (qs .1 .1 .0)) (List._∷_
-            (Row.lease (κs .1 .1 .1 .0) (qs .1 .1 .1 .0)) (List._∷_ Row.off (List._∷_ Row.off (List._∷_ Row.off (List._∷_ Row.off (List._∷_ Row.off (List._∷_ Row.off List.[]))))))))); }
+        G99 = record {
+          locals = List._++_ t69 (List._++_ t1 t2);
+          slots = List._∷_ (Row.lease (κs .0) (qs .0)) (List._∷_ (Row.lease (κs .1 .0) (qs .1 .0)) (List._∷_ (Row.lease (κs .1 .1 .0) (qs .1 .1 .0)) (List._∷_
+              (Row.lease (κs .1 .1 .1 .0) (qs .1 .1 .1 .0)) (List._∷_ Row.off (List._∷_ Row.off (List._∷_ Row.off (List._∷_ Row.off (List._∷_ Row.off (List._∷_ Row.off List.[])))))))));
+        }
 
         abbrev G100 : Row.Cx
-        G100 = record
-            { locals = List._++_ t70 (List._++_ t1 t2); slots = List._∷_ (Row.lease (κs .0) (qs .0)) (List._∷_ (Row.lease (κs .1 .0) (qs .1 .0)) (List._∷_ (Row.lease (κs .1 .1 .0) (qs .1 .1 .0)) (List._∷_
-            (Row.lease (κs .1 .1 .1 .0) (qs .1 .1 .1 .0)) (List._∷_ Row.off (List._∷_ Row.off (List._∷_ Row.off (List._∷_ Row.off (List._∷_ Row.off (List._∷_ Row.off List.[]))))))))); }
+        G100 = record {
+          locals = List._++_ t70 (List._++_ t1 t2);
+          slots = List._∷_ (Row.lease (κs .0) (qs .0)) (List._∷_ (Row.lease (κs .1 .0) (qs .1 .0)) (List._∷_ (Row.lease (κs .1 .1 .0) (qs .1 .1 .0)) (List._∷_
+              (Row.lease (κs .1 .1 .1 .0) (qs .1 .1 .1 .0)) (List._∷_ Row.off (List._∷_ Row.off (List._∷_ Row.off (List._∷_ Row.off (List._∷_ Row.off (List._∷_ Row.off List.[])))))))));
+        }
 
         abbrev G101 : Row.Cx
-        G101 = record
-            { locals = List._++_ t3 (List._++_ t1 t2); slots = List._∷_ (Row.lease (κs .0) (qs .0)) (List._∷_ (Row.lease (κs .1 .0) (qs .1 .0)) (List._∷_ (Row.lease (κs .1 .1 .0) (qs .1 .1 .0)) (List._∷_
-            (Row.lease (κs .1 .1 .1 .0) (qs .1 .1 .1 .0)) (List._∷_ Row.off (List._∷_ Row.off (List._∷_ Row.off (List._∷_ Row.off (List._∷_ Row.off (List._∷_ Row.off List.[]))))))))); }
+        G101 = record {
+          locals = List._++_ t3 (List._++_ t1 t2);
+          slots = List._∷_ (Row.lease (κs .0) (qs .0)) (List._∷_ (Row.lease (κs .1 .0) (qs .1 .0)) (List._∷_ (Row.lease (κs .1 .1 .0) (qs .1 .1 .0)) (List._∷_
+              (Row.lease (κs .1 .1 .1 .0) (qs .1 .1 .1 .0)) (List._∷_ Row.off (List._∷_ Row.off (List._∷_ Row.off (List._∷_ Row.off (List._∷_ Row.off (List._∷_ Row.off List.[])))))))));
+        }
 
         abbrev Δ0 : Typed.Outs
         Δ0 = record { next = Option.none; exits = List.[]; returns = Option.some G1 }
@@ -2539,7 +2913,7 @@ module _ (claims· : Claims) where
               t) y6 y6 14 (Rows.whole (Declared'.row BitPosition.the-type)) (λ x. x) (λ u. At.getAt (PassPut.the-type .parts) 2 (PassPut.struct .as-values (u .1 .1 .1 .1 .1 .1 .1 .1 .1 .1 .1 .1 .1 .1 .1
               .1 .1 .1 .0))) (λ u.
               (Row.hd 0 (Row.tl (Row.tl (Row.tl (Row.tl (Row.tl (Row.tl (Row.tl (Row.tl (Row.tl (Row.tl (Row.tl (Row.tl (Row.tl (Row.tl (Row.tl (Row.tl (Row.tl (Row.tl bs)))))))))))))))))), Nat._+_ 0 16))
-              (λ T′. record { locals = Row.setRow 18 (18, Rows.whole (Declared'.row PassPut.the-type)) T′; slots = G88 .slots; }) (λ u T′ m′. Row.set 18 (18, Rows.whole (Declared'.row PassPut.the-type))
+              (λ T′. record { locals = Row.setRow 18 (18, Rows.whole (Declared'.row PassPut.the-type)) T′; slots = G88 .slots }) (λ u T′ m′. Row.set 18 (18, Rows.whole (Declared'.row PassPut.the-type))
               (u .1 .1 .1 .1 .1 .1 .1 .1 .1 .1 .1 .1 .1 .1 .1 .1 .1 .1 .0) T′ m′) (λ u. Unit) (λ x. Unit) (Own.told-none 𝓤 H A (G88 .slots)) (DerefMove.learns-nothing 𝓤 H A (Declared'.row
               BitPosition.the-type)) (λ ρ told u asked. Way'.w-partˢ 𝓤 H A W E (Declared'.row PassPut.the-type) (Declared'.row BitPosition.the-type) y8 y6 2 16 (u .1 .1 .1 .1 .1 .1 .1 .1 .1 .1 .1 .1 .1 .1
               .1 .1 .1 .1 .0) (At.getAt (PassPut.the-type .parts) 2 (PassPut.struct .as-values (u .1 .1 .1 .1 .1 .1 .1 .1 .1 .1 .1 .1 .1 .1 .1 .1 .1 .1 .0)))
@@ -2583,15 +2957,27 @@ module _ (claims· : Claims) where
 
           d32 : Typed.Typed 𝓤 H A 𝓣 E G81 b38 Δ3 (at32 bs)
           d32 = Typed.s-seq 𝓤 H A W 𝓣 E G81 G82 b34 b37 Δ3 (Typed.both (s77 bs)) (at31 bs) (Plain.t-call-plain 𝓤 H A W 𝓣 1 ps·5 r·5 (claims· .10) (claims· .11) "block::records::store_set" (known .5) E
-              (λ pos β. β) G81
-              (record { pos = 34; ty = Syntax.tyRef Syntax.erased Syntax.mut Element.behind; ref = λ x. x; },
-              (Num.vFld 16 (List._∷_ (Syntax.field 2) List.[]) 16 λ x. Plan.struct .as-values x .1 .1 .0, (record { pos = 20; st = List.[]; d = 0; at = λ x. x }, tt))) 22 (List._∷_ 9 List.[]) (Call.sub-id
-              𝓤 H A W (G81 .slots))
-              (Reads'.as-is 𝓤 H A (Mut.mslice (Element.type) (Syntax.tyRef Syntax.erased Syntax.mut Element.behind) 9), Mut.reads-mslice 𝓤 H A W (Element.type) (Syntax.tyRef Syntax.erased Syntax.mut
-              Element.behind) 9, Path'.refl,
-              ((Reads.reads-field 𝓤 H A W Plan.the-type Laws''.the-laws 2 (Syntax.tyInt Syntax.w64) 16 Path'.refl, Path'.refl),
-              ((Yields.yields-copy 𝓤 H A W (λ ρ. Unit) (Declared'.row Set.the-type) Path'.refl (Copies.cStruct Set.the-type Laws'4.the-laws Laws'4.the-copy .copy 𝓤 H A W) (Rows.whole (Declared'.row
-              Set.the-type)) (λ x. x) (λ x. x) (λ ρ told. Local.mem-whole 𝓤 H A W (Declared'.row Set.the-type) ρ) λ ρ told. Local.whole-mem 𝓤 H A W (Declared'.row Set.the-type) ρ, Path'.refl), tt)))
+              (λ pos β. β) G81 (
+                record { pos = 34; ty = Syntax.tyRef Syntax.erased Syntax.mut Element.behind; ref = λ x. x },
+                (Num.vFld 16 (List._∷_ (Syntax.field 2) List.[]) 16 λ x. Plan.struct .as-values x .1 .1 .0, (record { pos = 20; st = List.[]; d = 0; at = λ x. x }, tt)),
+              ) 22 (List._∷_ 9 List.[]) (Call.sub-id
+              𝓤 H A W (G81 .slots)) (
+                Reads'.as-is 𝓤 H A (Mut.mslice (Element.type) (Syntax.tyRef Syntax.erased Syntax.mut Element.behind) 9),
+                Mut.reads-mslice 𝓤 H A W (Element.type) (Syntax.tyRef Syntax.erased Syntax.mut
+                    Element.behind) 9,
+                Path'.refl,
+                (
+                  (Reads.reads-field 𝓤 H A W Plan.the-type Laws''.the-laws 2 (Syntax.tyInt Syntax.w64) 16 Path'.refl, Path'.refl),
+                  (
+                    (
+                      Yields.yields-copy 𝓤 H A W (λ ρ. Unit) (Declared'.row Set.the-type) Path'.refl (Copies.cStruct Set.the-type Laws'4.the-laws Laws'4.the-copy .copy 𝓤 H A W) (Rows.whole (Declared'.row
+                          Set.the-type)) (λ x. x) (λ x. x) (λ ρ told. Local.mem-whole 𝓤 H A W (Declared'.row Set.the-type) ρ) λ ρ told. Local.whole-mem 𝓤 H A W (Declared'.row Set.the-type) ρ,
+                      Path'.refl,
+                    ),
+                    tt,
+                  ),
+                ),
+              )
               (Reads'.room-gone 𝓤 H A Syntax.tyUnit) (tt, tt) Path'.refl) d31
 
           d33 : Typed.Typed 𝓤 H A 𝓣 E G80 b39 Δ3 (at33 bs)
@@ -2607,13 +2993,22 @@ module _ (claims· : Claims) where
               (Syntax.named 3) Syntax.mut Element.behind) 3)) (Reads'.room-gone 𝓤 H A (Syntax.tyRef Syntax.erased Syntax.mut Element.behind)) Path'.refl tt Path'.refl Path'.refl Path'.refl λ b o. tt) d33
 
           d35 : Typed.Typed 𝓤 H A 𝓣 E G78 b40 Δ3 (at35 bs)
-          d35 = Typed.g-pre 𝓤 H A W 𝓣 E G78 G79 b40 Δ3 (λ Ψ. Ψ) (at34 bs) (Lifetime.g-begin 𝓤 H A W E G78 9
-              (tt,
-              (tt,
-              (tt,
-              (tt,
-              (tt,
-              (tt, (tt, (tt, (tt, (tt, (tt, (tt, (tt, (tt, (tt, (tt, (tt, (tt, (tt, (tt, (tt, (tt, (tt, (tt, (tt, (tt, (tt, (tt, (tt, (tt, (tt, (tt, (tt, (tt, (tt, tt))))))))))))))))))))))))))))))))))))
+          d35 = Typed.g-pre 𝓤 H A W 𝓣 E G78 G79 b40 Δ3 (λ Ψ. Ψ) (at34 bs) (Lifetime.g-begin 𝓤 H A W E G78 9 (
+            tt,
+            (
+              tt,
+              (
+                tt,
+                (
+                  tt,
+                  (
+                    tt,
+                    (tt, (tt, (tt, (tt, (tt, (tt, (tt, (tt, (tt, (tt, (tt, (tt, (tt, (tt, (tt, (tt, (tt, (tt, (tt, (tt, (tt, (tt, (tt, (tt, (tt, (tt, (tt, (tt, (tt, (tt, tt)))))))))))))))))))))))))))))),
+                  ),
+                ),
+              ),
+            ),
+          ))
               d34
 
           d36 : Typed.Typed 𝓤 H A 𝓣 E G63 b41 Δ3 (at36 bs)
@@ -2621,7 +3016,7 @@ module _ (claims· : Claims) where
               Laws'4.the-laws Laws'4.the-copy .copy 𝓤 H A W) (λ ρ. Unit) G63 (Row.out 18 (G63 .locals)) (λ u. Row.drop 18 (G63 .locals) u) (G63 .slots) 18 (λ t. List._∷_ (Syntax.field 3) t) y2 y2 20
               (Rows.whole (Declared'.row Set.the-type)) (λ x. x) (λ u. At.getAt (PassPut.the-type .parts) 3 (PassPut.struct .as-values (u .1 .1 .1 .1 .1 .1 .1 .1 .1 .1 .1 .1 .1 .1 .1 .1 .1 .1 .0))) (λ u.
               (Row.hd 0 (Row.tl (Row.tl (Row.tl (Row.tl (Row.tl (Row.tl (Row.tl (Row.tl (Row.tl (Row.tl (Row.tl (Row.tl (Row.tl (Row.tl (Row.tl (Row.tl (Row.tl (Row.tl bs)))))))))))))))))), Nat._+_ 0 24))
-              (λ T′. record { locals = Row.setRow 18 (18, Rows.whole (Declared'.row PassPut.the-type)) T′; slots = G63 .slots; }) (λ u T′ m′. Row.set 18 (18, Rows.whole (Declared'.row PassPut.the-type))
+              (λ T′. record { locals = Row.setRow 18 (18, Rows.whole (Declared'.row PassPut.the-type)) T′; slots = G63 .slots }) (λ u T′ m′. Row.set 18 (18, Rows.whole (Declared'.row PassPut.the-type))
               (u .1 .1 .1 .1 .1 .1 .1 .1 .1 .1 .1 .1 .1 .1 .1 .1 .1 .1 .0) T′ m′) (λ u. Unit) (λ x. Unit) (Own.told-none 𝓤 H A (G63 .slots)) (DerefMove.learns-nothing 𝓤 H A (Declared'.row Set.the-type))
               (λ ρ told u asked. Way'.w-partˢ 𝓤 H A W E (Declared'.row PassPut.the-type) (Declared'.row Set.the-type) y8 y2 3 24 (u .1 .1 .1 .1 .1 .1 .1 .1 .1 .1 .1 .1 .1 .1 .1 .1 .1 .1 .0) (At.getAt
               (PassPut.the-type .parts) 3 (PassPut.struct .as-values (u .1 .1 .1 .1 .1 .1 .1 .1 .1 .1 .1 .1 .1 .1 .1 .1 .1 .1 .0)))
@@ -2698,44 +3093,97 @@ module _ (claims· : Claims) where
 
           d50 : Typed.Typed 𝓤 H A 𝓣 E G49 b45 Δ3 (at50 bs)
           d50 = Typed.s-seq 𝓤 H A W 𝓣 E G49 G50 b23 b44 Δ3 (Typed.both (s46 bs)) (at49 bs) (Plain.t-call-plain 𝓤 H A W 𝓣 3 ps·4 r·4 (claims· .8) (claims· .9) "writing::write_pass" (known .4) E (λ pos
-              β. β) G49
-              (record { pos = 1; ty = Syntax.tyRef (Syntax.named 0) Syntax.imm (Syntax.tyInt Syntax.w16); ref = λ x. x; },
-              (Num.vAt 2 λ x. x,
-              (record { pos = 30; ty = Syntax.tyRef Syntax.erased Syntax.mut (Syntax.tyInt Syntax.w8); ref = λ x. x; },
-              (Bool.bAt 4 λ x. x,
-              (record { pos = 14; st = List.[]; d = 0; at = λ x. x },
-              (record { pos = 32; ty = Syntax.tyRef Syntax.erased Syntax.mut (Syntax.tyInt Syntax.w16); ref = λ x. x; },
-              (record { pos = 17; st = List.[]; d = 0; at = λ x. x },
-              (Num.vAt 13 λ x. x, (record { pos = 16; st = List.[]; d = 0; at = λ x. x }, (record { pos = 9; st = List.[]; d = 0; at = λ x. x }, (Num.vAt 11 λ x. x, (Bool.bAt 10 λ x. x, tt)))))))))))) 18
-              (List._∷_ 0 (List._∷_ 7 (List._∷_ 8 List.[]))) (Call.sub-id 𝓤 H A W (G49 .slots))
-              (ShrSlice.spares-sslice 𝓤 H A W (Referent.rtF (Referent.fInt Syntax.w16)) (Syntax.tyRef (Syntax.named 0) Syntax.imm (Syntax.tyInt Syntax.w16)) 0, Shared.reads-sslice 𝓤 H A W (Referent.rtF
-              (Referent.fInt Syntax.w16)) (Syntax.tyRef (Syntax.named 0) Syntax.imm (Syntax.tyInt Syntax.w16)) 0, Path'.refl,
-              ((Scalar.reads-sc 𝓤 H A W (Row.sInt Syntax.w64), Path'.refl),
-              (Reads'.as-is 𝓤 H A (Mut.mslice (Referent.rtF (Referent.fInt Syntax.w8)) (Syntax.tyRef Syntax.erased Syntax.mut (Syntax.tyInt Syntax.w8)) 7), Mut.reads-mslice 𝓤 H A W (Referent.rtF
-              (Referent.fInt Syntax.w8)) (Syntax.tyRef Syntax.erased Syntax.mut (Syntax.tyInt Syntax.w8)) 7, Path'.refl,
-              ((Scalar.reads-sc 𝓤 H A W Row.sBool, Path'.refl),
-              ((Yields.yields-copy 𝓤 H A W (λ ρ. Unit) (Declared'.row BitPosition.the-type) Path'.refl (Copies.cStruct BitPosition.the-type Laws.the-laws Laws.the-copy .copy 𝓤 H A W) (Rows.whole
-              (Declared'.row BitPosition.the-type)) (λ x. x) (λ x. x) (λ ρ told. Local.mem-whole 𝓤 H A W (Declared'.row BitPosition.the-type) ρ) λ ρ told. Local.whole-mem 𝓤 H A W (Declared'.row
-              BitPosition.the-type) ρ, Path'.refl),
-              (Reads'.as-is 𝓤 H A (Mut.mslice (Referent.rtF (Referent.fInt Syntax.w16)) (Syntax.tyRef Syntax.erased Syntax.mut (Syntax.tyInt Syntax.w16)) 8), Mut.reads-mslice 𝓤 H A W (Referent.rtF
-              (Referent.fInt Syntax.w16)) (Syntax.tyRef Syntax.erased Syntax.mut (Syntax.tyInt Syntax.w16)) 8, Path'.refl,
-              ((Yields.yields-copy 𝓤 H A W (λ ρ. Unit) (Declared'.row Set.the-type) Path'.refl (Copies.cStruct Set.the-type Laws'4.the-laws Laws'4.the-copy .copy 𝓤 H A W) (Rows.whole (Declared'.row
-              Set.the-type)) (λ x. x) (λ x. x) (λ ρ told. Local.mem-whole 𝓤 H A W (Declared'.row Set.the-type) ρ) λ ρ told. Local.whole-mem 𝓤 H A W (Declared'.row Set.the-type) ρ, Path'.refl),
-              ((Scalar.reads-sc 𝓤 H A W (Row.sInt Syntax.w64), Path'.refl),
-              ((Yields.yields-copy 𝓤 H A W (λ ρ. Unit) (Declared'.row Plan.the-type) Path'.refl (Copies.cStruct Plan.the-type Laws''.the-laws Laws''.the-copy .copy 𝓤 H A W) (Rows.whole (Declared'.row
-              Plan.the-type)) (λ x. x) (λ x. x) (λ ρ told. Local.mem-whole 𝓤 H A W (Declared'.row Plan.the-type) ρ) λ ρ told. Local.whole-mem 𝓤 H A W (Declared'.row Plan.the-type) ρ, Path'.refl),
-              ((Yields.yields-copy 𝓤 H A W (λ ρ. Unit) (Declared'.row Quantisers.the-type) Path'.refl (Copies.cStruct Quantisers.the-type Laws'3.the-laws Laws'3.the-copy .copy 𝓤 H A W) (Rows.whole
-              (Declared'.row Quantisers.the-type)) (λ x. x) (λ x. x) (λ ρ told. Local.mem-whole 𝓤 H A W (Declared'.row Quantisers.the-type) ρ) λ ρ told. Local.whole-mem 𝓤 H A W (Declared'.row
-              Quantisers.the-type) ρ, Path'.refl), ((Scalar.reads-sc 𝓤 H A W (Row.sInt Syntax.w32), Path'.refl), ((Scalar.reads-sc 𝓤 H A W Row.sBool, Path'.refl), tt)))))))))))) (Reads'.room-gone 𝓤 H A
+              β. β) G49 (
+                record { pos = 1; ty = Syntax.tyRef (Syntax.named 0) Syntax.imm (Syntax.tyInt Syntax.w16); ref = λ x. x },
+                (
+                  Num.vAt 2 λ x. x,
+                  (
+                    record { pos = 30; ty = Syntax.tyRef Syntax.erased Syntax.mut (Syntax.tyInt Syntax.w8); ref = λ x. x },
+                    (
+                      Bool.bAt 4 λ x. x,
+                      (
+                        record { pos = 14; st = List.[]; d = 0; at = λ x. x },
+                        (
+                          record { pos = 32; ty = Syntax.tyRef Syntax.erased Syntax.mut (Syntax.tyInt Syntax.w16); ref = λ x. x },
+                          (
+                            record { pos = 17; st = List.[]; d = 0; at = λ x. x },
+                            (Num.vAt 13 λ x. x, (record { pos = 16; st = List.[]; d = 0; at = λ x. x }, (record { pos = 9; st = List.[]; d = 0; at = λ x. x }, (Num.vAt 11 λ x. x, (Bool.bAt 10 λ x. x, tt))))),
+                          ),
+                        ),
+                      ),
+                    ),
+                  ),
+                ),
+              ) 18
+              (List._∷_ 0 (List._∷_ 7 (List._∷_ 8 List.[]))) (Call.sub-id 𝓤 H A W (G49 .slots)) (
+                ShrSlice.spares-sslice 𝓤 H A W (Referent.rtF (Referent.fInt Syntax.w16)) (Syntax.tyRef (Syntax.named 0) Syntax.imm (Syntax.tyInt Syntax.w16)) 0,
+                Shared.reads-sslice 𝓤 H A W (Referent.rtF
+                    (Referent.fInt Syntax.w16)) (Syntax.tyRef (Syntax.named 0) Syntax.imm (Syntax.tyInt Syntax.w16)) 0,
+                Path'.refl,
+                (
+                  (Scalar.reads-sc 𝓤 H A W (Row.sInt Syntax.w64), Path'.refl),
+                  (
+                    Reads'.as-is 𝓤 H A (Mut.mslice (Referent.rtF (Referent.fInt Syntax.w8)) (Syntax.tyRef Syntax.erased Syntax.mut (Syntax.tyInt Syntax.w8)) 7),
+                    Mut.reads-mslice 𝓤 H A W (Referent.rtF
+                        (Referent.fInt Syntax.w8)) (Syntax.tyRef Syntax.erased Syntax.mut (Syntax.tyInt Syntax.w8)) 7,
+                    Path'.refl,
+                    (
+                      (Scalar.reads-sc 𝓤 H A W Row.sBool, Path'.refl),
+                      (
+                        (
+                          Yields.yields-copy 𝓤 H A W (λ ρ. Unit) (Declared'.row BitPosition.the-type) Path'.refl (Copies.cStruct BitPosition.the-type Laws.the-laws Laws.the-copy .copy 𝓤 H A W) (Rows.whole
+                              (Declared'.row BitPosition.the-type)) (λ x. x) (λ x. x) (λ ρ told. Local.mem-whole 𝓤 H A W (Declared'.row BitPosition.the-type) ρ) λ ρ told. Local.whole-mem 𝓤 H A W (Declared'.row
+                              BitPosition.the-type) ρ,
+                          Path'.refl,
+                        ),
+                        (
+                          Reads'.as-is 𝓤 H A (Mut.mslice (Referent.rtF (Referent.fInt Syntax.w16)) (Syntax.tyRef Syntax.erased Syntax.mut (Syntax.tyInt Syntax.w16)) 8),
+                          Mut.reads-mslice 𝓤 H A W (Referent.rtF
+                              (Referent.fInt Syntax.w16)) (Syntax.tyRef Syntax.erased Syntax.mut (Syntax.tyInt Syntax.w16)) 8,
+                          Path'.refl,
+                          (
+                            (
+                              Yields.yields-copy 𝓤 H A W (λ ρ. Unit) (Declared'.row Set.the-type) Path'.refl (Copies.cStruct Set.the-type Laws'4.the-laws Laws'4.the-copy .copy 𝓤 H A W) (Rows.whole (Declared'.row
+                                  Set.the-type)) (λ x. x) (λ x. x) (λ ρ told. Local.mem-whole 𝓤 H A W (Declared'.row Set.the-type) ρ) λ ρ told. Local.whole-mem 𝓤 H A W (Declared'.row Set.the-type) ρ,
+                              Path'.refl,
+                            ),
+                            (
+                              (Scalar.reads-sc 𝓤 H A W (Row.sInt Syntax.w64), Path'.refl),
+                              (
+                                (
+                                  Yields.yields-copy 𝓤 H A W (λ ρ. Unit) (Declared'.row Plan.the-type) Path'.refl (Copies.cStruct Plan.the-type Laws''.the-laws Laws''.the-copy .copy 𝓤 H A W) (Rows.whole (Declared'.row
+                                      Plan.the-type)) (λ x. x) (λ x. x) (λ ρ told. Local.mem-whole 𝓤 H A W (Declared'.row Plan.the-type) ρ) λ ρ told. Local.whole-mem 𝓤 H A W (Declared'.row Plan.the-type) ρ,
+                                  Path'.refl,
+                                ),
+                                (
+                                  (
+                                    Yields.yields-copy 𝓤 H A W (λ ρ. Unit) (Declared'.row Quantisers.the-type) Path'.refl (Copies.cStruct Quantisers.the-type Laws'3.the-laws Laws'3.the-copy .copy 𝓤 H A W) (Rows.whole
+                                        (Declared'.row Quantisers.the-type)) (λ x. x) (λ x. x) (λ ρ told. Local.mem-whole 𝓤 H A W (Declared'.row Quantisers.the-type) ρ) λ ρ told. Local.whole-mem 𝓤 H A W (Declared'.row
+                                        Quantisers.the-type) ρ,
+                                    Path'.refl,
+                                  ),
+                                  ((Scalar.reads-sc 𝓤 H A W (Row.sInt Syntax.w32), Path'.refl), ((Scalar.reads-sc 𝓤 H A W Row.sBool, Path'.refl), tt)),
+                                ),
+                              ),
+                            ),
+                          ),
+                        ),
+                      ),
+                    ),
+                  ),
+                ),
+              ) (Reads'.room-gone 𝓤 H A
               y8) (tt, (tt, (tt, tt))) Path'.refl) d49
 
           d51 : Typed.Typed 𝓤 H A 𝓣 E G48 b46 Δ3 (at51 bs)
           d51 = Typed.s-seq 𝓤 H A W 𝓣 E G48 G49 b22 b45 Δ3 (Typed.ask (s45 bs)) (at50 bs) (Relend.t-sl-aggregate 𝓤 H A W E (Referent.rtF (Referent.fInt Syntax.w16)) 𝓣 (Relend.asMut (Referent.rtF
               (Referent.fInt Syntax.w16))) G48 31 32 8 (Syntax.tyRef Syntax.erased Syntax.mut (Syntax.tyInt Syntax.w16)) (Syntax.tyRef Syntax.erased Syntax.mut (Syntax.tyInt Syntax.w16)) (λ x. x)
               (Scalar.oFld 6 (List._∷_ (Syntax.field 1) List.[]) (Syntax.tyInt Syntax.w64) 8 λ v. Shared.lenV (v .0)) (Reads'.as-is 𝓤 H A (Relend.msptr (Referent.rtF (Referent.fInt Syntax.w16))
-              (Syntax.tyRef Syntax.erased Syntax.mut (Syntax.tyInt Syntax.w16)) 8)) (Reads'.room-gone 𝓤 H A y3)
-              (Relend.reads-owed-len 𝓤 H A W (Referent.rtF (Referent.fInt Syntax.w16)) (Syntax.tyRef (Syntax.named 2) Syntax.mut (Syntax.tyInt Syntax.w16)) 2 8 (Row.lease (κs .1 .1 .0) (qs .1 .1 .0)) 8
-              Path'.refl, Path'.refl) Path'.refl Path'.refl λ b o k. tt) d50
+              (Syntax.tyRef Syntax.erased Syntax.mut (Syntax.tyInt Syntax.w16)) 8)) (Reads'.room-gone 𝓤 H A y3) (
+                Relend.reads-owed-len 𝓤 H A W (Referent.rtF (Referent.fInt Syntax.w16)) (Syntax.tyRef (Syntax.named 2) Syntax.mut (Syntax.tyInt Syntax.w16)) 2 8 (Row.lease (κs .1 .1 .0) (qs .1 .1 .0)) 8
+                    Path'.refl,
+                Path'.refl,
+              ) Path'.refl Path'.refl λ b o k. tt) d50
 
           d52 : Typed.Typed 𝓤 H A 𝓣 E G47 b47 Δ3 (at52 bs)
           d52 = Typed.s-seq 𝓤 H A W 𝓣 E G47 G48 b21 b46 Δ3 (Typed.give (s44 bs)) (at51 bs) (Relend.t-sl-relend 𝓤 H A W E (Referent.rtF (Referent.fInt Syntax.w16)) 𝓣 G47 6 31 2 8 (Syntax.tyRef
@@ -2744,22 +3192,33 @@ module _ (claims· : Claims) where
               Syntax.mut (Syntax.tyInt Syntax.w16))) Path'.refl tt Path'.refl Path'.refl Path'.refl λ b o. tt) d51
 
           d53 : Typed.Typed 𝓤 H A 𝓣 E G46 b47 Δ3 (at53 bs)
-          d53 = Typed.g-pre 𝓤 H A W 𝓣 E G46 G47 b47 Δ3 (λ Ψ. Ψ) (at52 bs) (Lifetime.g-begin 𝓤 H A W E G46 8
-              (tt,
-              (tt,
-              (tt,
-              ((tt, tt),
-              (tt,
-              (tt, (tt, (tt, (tt, (tt, (tt, (tt, (tt, (tt, (tt, (tt, (tt, (tt, (tt, (tt, (tt, (tt, (tt, (tt, (tt, (tt, (tt, (tt, (tt, (tt, (tt, (tt, (tt, (tt, (tt, tt))))))))))))))))))))))))))))))))))))
+          d53 = Typed.g-pre 𝓤 H A W 𝓣 E G46 G47 b47 Δ3 (λ Ψ. Ψ) (at52 bs) (Lifetime.g-begin 𝓤 H A W E G46 8 (
+            tt,
+            (
+              tt,
+              (
+                tt,
+                (
+                  (tt, tt),
+                  (
+                    tt,
+                    (tt, (tt, (tt, (tt, (tt, (tt, (tt, (tt, (tt, (tt, (tt, (tt, (tt, (tt, (tt, (tt, (tt, (tt, (tt, (tt, (tt, (tt, (tt, (tt, (tt, (tt, (tt, (tt, (tt, (tt, tt)))))))))))))))))))))))))))))),
+                  ),
+                ),
+              ),
+            ),
+          ))
               d52
 
           d54 : Typed.Typed 𝓤 H A 𝓣 E G45 b48 Δ3 (at54 bs)
           d54 = Typed.s-seq 𝓤 H A W 𝓣 E G45 G46 b20 b47 Δ3 (Typed.ask (s42 bs)) (at53 bs) (Relend.t-sl-aggregate 𝓤 H A W E (Referent.rtF (Referent.fInt Syntax.w8)) 𝓣 (Relend.asMut (Referent.rtF
               (Referent.fInt Syntax.w8))) G45 29 30 7 (Syntax.tyRef Syntax.erased Syntax.mut (Syntax.tyInt Syntax.w8)) (Syntax.tyRef Syntax.erased Syntax.mut (Syntax.tyInt Syntax.w8)) (λ x. x)
               (Scalar.oFld 3 (List._∷_ (Syntax.field 1) List.[]) (Syntax.tyInt Syntax.w64) 8 λ v. Shared.lenV (v .0)) (Reads'.as-is 𝓤 H A (Relend.msptr (Referent.rtF (Referent.fInt Syntax.w8))
-              (Syntax.tyRef Syntax.erased Syntax.mut (Syntax.tyInt Syntax.w8)) 7)) (Reads'.room-gone 𝓤 H A y4)
-              (Relend.reads-owed-len 𝓤 H A W (Referent.rtF (Referent.fInt Syntax.w8)) (Syntax.tyRef (Syntax.named 1) Syntax.mut (Syntax.tyInt Syntax.w8)) 1 7 (Row.lease (κs .1 .0) (qs .1 .0)) 8
-              Path'.refl, Path'.refl) Path'.refl Path'.refl λ b o k. tt) d53
+              (Syntax.tyRef Syntax.erased Syntax.mut (Syntax.tyInt Syntax.w8)) 7)) (Reads'.room-gone 𝓤 H A y4) (
+                Relend.reads-owed-len 𝓤 H A W (Referent.rtF (Referent.fInt Syntax.w8)) (Syntax.tyRef (Syntax.named 1) Syntax.mut (Syntax.tyInt Syntax.w8)) 1 7 (Row.lease (κs .1 .0) (qs .1 .0)) 8
+                    Path'.refl,
+                Path'.refl,
+              ) Path'.refl Path'.refl λ b o k. tt) d53
 
           d55 : Typed.Typed 𝓤 H A 𝓣 E G44 b49 Δ3 (at55 bs)
           d55 = Typed.s-seq 𝓤 H A W 𝓣 E G44 G45 b19 b48 Δ3 (Typed.give (s41 bs)) (at54 bs) (Relend.t-sl-relend 𝓤 H A W E (Referent.rtF (Referent.fInt Syntax.w8)) 𝓣 G44 3 29 1 7 (Syntax.tyRef
@@ -2768,13 +3227,22 @@ module _ (claims· : Claims) where
               (Syntax.tyInt Syntax.w8))) Path'.refl tt Path'.refl Path'.refl Path'.refl λ b o. tt) d54
 
           d56 : Typed.Typed 𝓤 H A 𝓣 E G43 b49 Δ3 (at56 bs)
-          d56 = Typed.g-pre 𝓤 H A W 𝓣 E G43 G44 b49 Δ3 (λ Ψ. Ψ) (at55 bs) (Lifetime.g-begin 𝓤 H A W E G43 7
-              (tt,
-              (tt,
-              (tt,
-              (tt,
-              (tt,
-              (tt, (tt, (tt, (tt, (tt, (tt, (tt, (tt, (tt, (tt, (tt, (tt, (tt, (tt, (tt, (tt, (tt, (tt, (tt, (tt, (tt, (tt, (tt, (tt, (tt, (tt, (tt, (tt, (tt, (tt, tt))))))))))))))))))))))))))))))))))))
+          d56 = Typed.g-pre 𝓤 H A W 𝓣 E G43 G44 b49 Δ3 (λ Ψ. Ψ) (at55 bs) (Lifetime.g-begin 𝓤 H A W E G43 7 (
+            tt,
+            (
+              tt,
+              (
+                tt,
+                (
+                  tt,
+                  (
+                    tt,
+                    (tt, (tt, (tt, (tt, (tt, (tt, (tt, (tt, (tt, (tt, (tt, (tt, (tt, (tt, (tt, (tt, (tt, (tt, (tt, (tt, (tt, (tt, (tt, (tt, (tt, (tt, (tt, (tt, (tt, (tt, tt)))))))))))))))))))))))))))))),
+                  ),
+                ),
+              ),
+            ),
+          ))
               d55
 
           d57 : Typed.Typed 𝓤 H A 𝓣 E G42 b49 Δ3 (at57 bs)
@@ -2791,11 +3259,16 @@ module _ (claims· : Claims) where
 
           d60 : Typed.Typed 𝓤 H A 𝓣 E G39 b50 Δ3 (at60 bs)
           d60 = Typed.s-seq 𝓤 H A W 𝓣 E G39 G40 b18 b49 Δ3 (Typed.both (s36 bs)) (at59 bs) (Plain.t-call-plain 𝓤 H A W 𝓣 1 ps·3 r·3 (claims· .6) (claims· .7) "block::records::load_set" (known .3) E (λ
-              pos β. β) G39
-              (record { pos = 28; ty = Syntax.tyRef Syntax.erased Syntax.mut Element.behind; ref = λ x. x; },
-              (Num.vFld 16 (List._∷_ (Syntax.field 2) List.[]) 16 λ x. Plan.struct .as-values x .1 .1 .0, tt)) 17 (List._∷_ 6 List.[]) (Call.sub-id 𝓤 H A W (G39 .slots))
-              (Reads'.as-is 𝓤 H A (Mut.mslice (Element.type) (Syntax.tyRef Syntax.erased Syntax.mut Element.behind) 6), Mut.reads-mslice 𝓤 H A W (Element.type) (Syntax.tyRef Syntax.erased Syntax.mut
-              Element.behind) 6, Path'.refl, ((Reads.reads-field 𝓤 H A W Plan.the-type Laws''.the-laws 2 (Syntax.tyInt Syntax.w64) 16 Path'.refl, Path'.refl), tt)) (Reads'.room-gone 𝓤 H A y2) (tt, tt)
+              pos β. β) G39 (
+                record { pos = 28; ty = Syntax.tyRef Syntax.erased Syntax.mut Element.behind; ref = λ x. x },
+                (Num.vFld 16 (List._∷_ (Syntax.field 2) List.[]) 16 λ x. Plan.struct .as-values x .1 .1 .0, tt),
+              ) 17 (List._∷_ 6 List.[]) (Call.sub-id 𝓤 H A W (G39 .slots)) (
+                Reads'.as-is 𝓤 H A (Mut.mslice (Element.type) (Syntax.tyRef Syntax.erased Syntax.mut Element.behind) 6),
+                Mut.reads-mslice 𝓤 H A W (Element.type) (Syntax.tyRef Syntax.erased Syntax.mut
+                    Element.behind) 6,
+                Path'.refl,
+                ((Reads.reads-field 𝓤 H A W Plan.the-type Laws''.the-laws 2 (Syntax.tyInt Syntax.w64) 16 Path'.refl, Path'.refl), tt),
+              ) (Reads'.room-gone 𝓤 H A y2) (tt, tt)
               Path'.refl) d59
 
           d61 : Typed.Typed 𝓤 H A 𝓣 E G38 b51 Δ3 (at61 bs)
@@ -2811,13 +3284,22 @@ module _ (claims· : Claims) where
               (Syntax.named 3) Syntax.mut Element.behind) 3)) (Reads'.room-gone 𝓤 H A (Syntax.tyRef Syntax.erased Syntax.mut Element.behind)) Path'.refl tt Path'.refl Path'.refl Path'.refl λ b o. tt) d61
 
           d63 : Typed.Typed 𝓤 H A 𝓣 E G36 b52 Δ3 (at63 bs)
-          d63 = Typed.g-pre 𝓤 H A W 𝓣 E G36 G37 b52 Δ3 (λ Ψ. Ψ) (at62 bs) (Lifetime.g-begin 𝓤 H A W E G36 6
-              (tt,
-              (tt,
-              (tt,
-              (tt,
-              (tt,
-              (tt, (tt, (tt, (tt, (tt, (tt, (tt, (tt, (tt, (tt, (tt, (tt, (tt, (tt, (tt, (tt, (tt, (tt, (tt, (tt, (tt, (tt, (tt, (tt, (tt, (tt, (tt, (tt, (tt, (tt, tt))))))))))))))))))))))))))))))))))))
+          d63 = Typed.g-pre 𝓤 H A W 𝓣 E G36 G37 b52 Δ3 (λ Ψ. Ψ) (at62 bs) (Lifetime.g-begin 𝓤 H A W E G36 6 (
+            tt,
+            (
+              tt,
+              (
+                tt,
+                (
+                  tt,
+                  (
+                    tt,
+                    (tt, (tt, (tt, (tt, (tt, (tt, (tt, (tt, (tt, (tt, (tt, (tt, (tt, (tt, (tt, (tt, (tt, (tt, (tt, (tt, (tt, (tt, (tt, (tt, (tt, (tt, (tt, (tt, (tt, (tt, tt)))))))))))))))))))))))))))))),
+                  ),
+                ),
+              ),
+            ),
+          ))
               d62
 
           d64 : Typed.Typed 𝓤 H A 𝓣 E G35 b52 Δ3 (at64 bs)
@@ -2842,21 +3324,27 @@ module _ (claims· : Claims) where
 
           d69 : Typed.Typed 𝓤 H A 𝓣 E G30 b53 Δ3 (at69 bs)
           d69 = Typed.s-seq 𝓤 H A W 𝓣 E G30 G31 b15 b52 Δ3 (Typed.both (s27 bs)) (at68 bs) (Plain.t-call-plain 𝓤 H A W 𝓣 1 ps·2 r·2 (claims· .4) (claims· .5) "lines::set_guards" (known .2) E (λ pos β.
-              β) G30
-              (record { pos = 26; ty = Syntax.tyRef Syntax.erased Syntax.mut (Syntax.tyInt Syntax.w16); ref = λ x. x; },
-              (Num.vAt 13 λ x. x, (Num.vFld 16 (List._∷_ (Syntax.field 1) List.[]) 8 λ x. Plan.struct .as-values x .1 .0, tt))) 22 (List._∷_ 5 List.[]) (Call.sub-id 𝓤 H A W (G30 .slots))
-              (Reads'.as-is 𝓤 H A (Mut.mslice (Referent.rtF (Referent.fInt Syntax.w16)) (Syntax.tyRef Syntax.erased Syntax.mut (Syntax.tyInt Syntax.w16)) 5), Mut.reads-mslice 𝓤 H A W (Referent.rtF
-              (Referent.fInt Syntax.w16)) (Syntax.tyRef Syntax.erased Syntax.mut (Syntax.tyInt Syntax.w16)) 5, Path'.refl,
-              ((Scalar.reads-sc 𝓤 H A W (Row.sInt Syntax.w64), Path'.refl), ((Reads.reads-field 𝓤 H A W Plan.the-type Laws''.the-laws 1 (Syntax.tyInt Syntax.w64) 8 Path'.refl, Path'.refl), tt)))
+              β) G30 (
+                record { pos = 26; ty = Syntax.tyRef Syntax.erased Syntax.mut (Syntax.tyInt Syntax.w16); ref = λ x. x },
+                (Num.vAt 13 λ x. x, (Num.vFld 16 (List._∷_ (Syntax.field 1) List.[]) 8 λ x. Plan.struct .as-values x .1 .0, tt)),
+              ) 22 (List._∷_ 5 List.[]) (Call.sub-id 𝓤 H A W (G30 .slots)) (
+                Reads'.as-is 𝓤 H A (Mut.mslice (Referent.rtF (Referent.fInt Syntax.w16)) (Syntax.tyRef Syntax.erased Syntax.mut (Syntax.tyInt Syntax.w16)) 5),
+                Mut.reads-mslice 𝓤 H A W (Referent.rtF
+                    (Referent.fInt Syntax.w16)) (Syntax.tyRef Syntax.erased Syntax.mut (Syntax.tyInt Syntax.w16)) 5,
+                Path'.refl,
+                ((Scalar.reads-sc 𝓤 H A W (Row.sInt Syntax.w64), Path'.refl), ((Reads.reads-field 𝓤 H A W Plan.the-type Laws''.the-laws 1 (Syntax.tyInt Syntax.w64) 8 Path'.refl, Path'.refl), tt)),
+              )
               (Reads'.room-gone 𝓤 H A Syntax.tyUnit) (tt, tt) Path'.refl) d68
 
           d70 : Typed.Typed 𝓤 H A 𝓣 E G29 b54 Δ3 (at70 bs)
           d70 = Typed.s-seq 𝓤 H A W 𝓣 E G29 G30 b14 b53 Δ3 (Typed.ask (s26 bs)) (at69 bs) (Relend.t-sl-aggregate 𝓤 H A W E (Referent.rtF (Referent.fInt Syntax.w16)) 𝓣 (Relend.asMut (Referent.rtF
               (Referent.fInt Syntax.w16))) G29 25 26 5 (Syntax.tyRef Syntax.erased Syntax.mut (Syntax.tyInt Syntax.w16)) (Syntax.tyRef Syntax.erased Syntax.mut (Syntax.tyInt Syntax.w16)) (λ x. x)
               (Scalar.oFld 6 (List._∷_ (Syntax.field 1) List.[]) (Syntax.tyInt Syntax.w64) 8 λ v. Shared.lenV (v .0)) (Reads'.as-is 𝓤 H A (Relend.msptr (Referent.rtF (Referent.fInt Syntax.w16))
-              (Syntax.tyRef Syntax.erased Syntax.mut (Syntax.tyInt Syntax.w16)) 5)) (Reads'.room-gone 𝓤 H A y3)
-              (Relend.reads-owed-len 𝓤 H A W (Referent.rtF (Referent.fInt Syntax.w16)) (Syntax.tyRef (Syntax.named 2) Syntax.mut (Syntax.tyInt Syntax.w16)) 2 5 (Row.lease (κs .1 .1 .0) (qs .1 .1 .0)) 8
-              Path'.refl, Path'.refl) Path'.refl Path'.refl λ b o k. tt) d69
+              (Syntax.tyRef Syntax.erased Syntax.mut (Syntax.tyInt Syntax.w16)) 5)) (Reads'.room-gone 𝓤 H A y3) (
+                Relend.reads-owed-len 𝓤 H A W (Referent.rtF (Referent.fInt Syntax.w16)) (Syntax.tyRef (Syntax.named 2) Syntax.mut (Syntax.tyInt Syntax.w16)) 2 5 (Row.lease (κs .1 .1 .0) (qs .1 .1 .0)) 8
+                    Path'.refl,
+                Path'.refl,
+              ) Path'.refl Path'.refl λ b o k. tt) d69
 
           d71 : Typed.Typed 𝓤 H A 𝓣 E G28 b55 Δ3 (at71 bs)
           d71 = Typed.s-seq 𝓤 H A W 𝓣 E G28 G29 b13 b54 Δ3 (Typed.give (s25 bs)) (at70 bs) (Relend.t-sl-relend 𝓤 H A W E (Referent.rtF (Referent.fInt Syntax.w16)) 𝓣 G28 6 25 2 5 (Syntax.tyRef
@@ -2865,13 +3353,22 @@ module _ (claims· : Claims) where
               Syntax.mut (Syntax.tyInt Syntax.w16))) Path'.refl tt Path'.refl Path'.refl Path'.refl λ b o. tt) d70
 
           d72 : Typed.Typed 𝓤 H A 𝓣 E G27 b55 Δ3 (at72 bs)
-          d72 = Typed.g-pre 𝓤 H A W 𝓣 E G27 G28 b55 Δ3 (λ Ψ. Ψ) (at71 bs) (Lifetime.g-begin 𝓤 H A W E G27 5
-              (tt,
-              (tt,
-              (tt,
-              (tt,
-              (tt,
-              (tt, (tt, (tt, (tt, (tt, (tt, (tt, (tt, (tt, (tt, (tt, (tt, (tt, (tt, (tt, (tt, (tt, (tt, (tt, (tt, (tt, (tt, (tt, (tt, (tt, (tt, (tt, (tt, (tt, (tt, tt))))))))))))))))))))))))))))))))))))
+          d72 = Typed.g-pre 𝓤 H A W 𝓣 E G27 G28 b55 Δ3 (λ Ψ. Ψ) (at71 bs) (Lifetime.g-begin 𝓤 H A W E G27 5 (
+            tt,
+            (
+              tt,
+              (
+                tt,
+                (
+                  tt,
+                  (
+                    tt,
+                    (tt, (tt, (tt, (tt, (tt, (tt, (tt, (tt, (tt, (tt, (tt, (tt, (tt, (tt, (tt, (tt, (tt, (tt, (tt, (tt, (tt, (tt, (tt, (tt, (tt, (tt, (tt, (tt, (tt, (tt, tt)))))))))))))))))))))))))))))),
+                  ),
+                ),
+              ),
+            ),
+          ))
               d71
 
           d73 : Typed.Typed 𝓤 H A 𝓣 E G26 b55 Δ3 (at73 bs)
@@ -2896,21 +3393,27 @@ module _ (claims· : Claims) where
 
           d78 : Typed.Typed 𝓤 H A 𝓣 E G21 b56 Δ3 (at78 bs)
           d78 = Typed.s-seq 𝓤 H A W 𝓣 E G21 G22 b12 b55 Δ3 (Typed.both (s18 bs)) (at77 bs) (Plain.t-call-plain 𝓤 H A W 𝓣 1 ps·2 r·2 (claims· .4) (claims· .5) "lines::set_guards" (known .2) E (λ pos β.
-              β) G21
-              (record { pos = 24; ty = Syntax.tyRef Syntax.erased Syntax.mut (Syntax.tyInt Syntax.w16); ref = λ x. x; },
-              (Num.vAt 13 λ x. x, (Num.vFld 16 (List._∷_ (Syntax.field 0) List.[]) 0 λ x. Plan.struct .as-values x .0, tt))) 22 (List._∷_ 4 List.[]) (Call.sub-id 𝓤 H A W (G21 .slots))
-              (Reads'.as-is 𝓤 H A (Mut.mslice (Referent.rtF (Referent.fInt Syntax.w16)) (Syntax.tyRef Syntax.erased Syntax.mut (Syntax.tyInt Syntax.w16)) 4), Mut.reads-mslice 𝓤 H A W (Referent.rtF
-              (Referent.fInt Syntax.w16)) (Syntax.tyRef Syntax.erased Syntax.mut (Syntax.tyInt Syntax.w16)) 4, Path'.refl,
-              ((Scalar.reads-sc 𝓤 H A W (Row.sInt Syntax.w64), Path'.refl), ((Reads.reads-field 𝓤 H A W Plan.the-type Laws''.the-laws 0 (Syntax.tyInt Syntax.w64) 0 Path'.refl, Path'.refl), tt)))
+              β) G21 (
+                record { pos = 24; ty = Syntax.tyRef Syntax.erased Syntax.mut (Syntax.tyInt Syntax.w16); ref = λ x. x },
+                (Num.vAt 13 λ x. x, (Num.vFld 16 (List._∷_ (Syntax.field 0) List.[]) 0 λ x. Plan.struct .as-values x .0, tt)),
+              ) 22 (List._∷_ 4 List.[]) (Call.sub-id 𝓤 H A W (G21 .slots)) (
+                Reads'.as-is 𝓤 H A (Mut.mslice (Referent.rtF (Referent.fInt Syntax.w16)) (Syntax.tyRef Syntax.erased Syntax.mut (Syntax.tyInt Syntax.w16)) 4),
+                Mut.reads-mslice 𝓤 H A W (Referent.rtF
+                    (Referent.fInt Syntax.w16)) (Syntax.tyRef Syntax.erased Syntax.mut (Syntax.tyInt Syntax.w16)) 4,
+                Path'.refl,
+                ((Scalar.reads-sc 𝓤 H A W (Row.sInt Syntax.w64), Path'.refl), ((Reads.reads-field 𝓤 H A W Plan.the-type Laws''.the-laws 0 (Syntax.tyInt Syntax.w64) 0 Path'.refl, Path'.refl), tt)),
+              )
               (Reads'.room-gone 𝓤 H A Syntax.tyUnit) (tt, tt) Path'.refl) d77
 
           d79 : Typed.Typed 𝓤 H A 𝓣 E G20 b57 Δ3 (at79 bs)
           d79 = Typed.s-seq 𝓤 H A W 𝓣 E G20 G21 b11 b56 Δ3 (Typed.ask (s17 bs)) (at78 bs) (Relend.t-sl-aggregate 𝓤 H A W E (Referent.rtF (Referent.fInt Syntax.w16)) 𝓣 (Relend.asMut (Referent.rtF
               (Referent.fInt Syntax.w16))) G20 23 24 4 (Syntax.tyRef Syntax.erased Syntax.mut (Syntax.tyInt Syntax.w16)) (Syntax.tyRef Syntax.erased Syntax.mut (Syntax.tyInt Syntax.w16)) (λ x. x)
               (Scalar.oFld 6 (List._∷_ (Syntax.field 1) List.[]) (Syntax.tyInt Syntax.w64) 8 λ v. Shared.lenV (v .0)) (Reads'.as-is 𝓤 H A (Relend.msptr (Referent.rtF (Referent.fInt Syntax.w16))
-              (Syntax.tyRef Syntax.erased Syntax.mut (Syntax.tyInt Syntax.w16)) 4)) (Reads'.room-gone 𝓤 H A y3)
-              (Relend.reads-owed-len 𝓤 H A W (Referent.rtF (Referent.fInt Syntax.w16)) (Syntax.tyRef (Syntax.named 2) Syntax.mut (Syntax.tyInt Syntax.w16)) 2 4 (Row.lease (κs .1 .1 .0) (qs .1 .1 .0)) 8
-              Path'.refl, Path'.refl) Path'.refl Path'.refl λ b o k. tt) d78
+              (Syntax.tyRef Syntax.erased Syntax.mut (Syntax.tyInt Syntax.w16)) 4)) (Reads'.room-gone 𝓤 H A y3) (
+                Relend.reads-owed-len 𝓤 H A W (Referent.rtF (Referent.fInt Syntax.w16)) (Syntax.tyRef (Syntax.named 2) Syntax.mut (Syntax.tyInt Syntax.w16)) 2 4 (Row.lease (κs .1 .1 .0) (qs .1 .1 .0)) 8
+                    Path'.refl,
+                Path'.refl,
+              ) Path'.refl Path'.refl λ b o k. tt) d78
 
           d80 : Typed.Typed 𝓤 H A 𝓣 E G19 b58 Δ3 (at80 bs)
           d80 = Typed.s-seq 𝓤 H A W 𝓣 E G19 G20 b10 b57 Δ3 (Typed.give (s16 bs)) (at79 bs) (Relend.t-sl-relend 𝓤 H A W E (Referent.rtF (Referent.fInt Syntax.w16)) 𝓣 G19 6 23 2 4 (Syntax.tyRef
@@ -2919,13 +3422,22 @@ module _ (claims· : Claims) where
               Syntax.mut (Syntax.tyInt Syntax.w16))) Path'.refl tt Path'.refl Path'.refl Path'.refl λ b o. tt) d79
 
           d81 : Typed.Typed 𝓤 H A 𝓣 E G18 b58 Δ3 (at81 bs)
-          d81 = Typed.g-pre 𝓤 H A W 𝓣 E G18 G19 b58 Δ3 (λ Ψ. Ψ) (at80 bs) (Lifetime.g-begin 𝓤 H A W E G18 4
-              (tt,
-              (tt,
-              (tt,
-              (tt,
-              (tt,
-              (tt, (tt, (tt, (tt, (tt, (tt, (tt, (tt, (tt, (tt, (tt, (tt, (tt, (tt, (tt, (tt, (tt, (tt, (tt, (tt, (tt, (tt, (tt, (tt, (tt, (tt, (tt, (tt, (tt, (tt, tt))))))))))))))))))))))))))))))))))))
+          d81 = Typed.g-pre 𝓤 H A W 𝓣 E G18 G19 b58 Δ3 (λ Ψ. Ψ) (at80 bs) (Lifetime.g-begin 𝓤 H A W E G18 4 (
+            tt,
+            (
+              tt,
+              (
+                tt,
+                (
+                  tt,
+                  (
+                    tt,
+                    (tt, (tt, (tt, (tt, (tt, (tt, (tt, (tt, (tt, (tt, (tt, (tt, (tt, (tt, (tt, (tt, (tt, (tt, (tt, (tt, (tt, (tt, (tt, (tt, (tt, (tt, (tt, (tt, (tt, (tt, tt)))))))))))))))))))))))))))))),
+                  ),
+                ),
+              ),
+            ),
+          ))
               d80
 
           d82 : Typed.Typed 𝓤 H A 𝓣 E G14 b59 Δ3 (at82 bs)
@@ -2990,12 +3502,16 @@ module _ (claims· : Claims) where
               (m .1 .1 .1 .1 .1 .1 .1 .1 .1 .1 .1 .1 .1 .1 .0, tt))) (Reads'.room-gone 𝓤 H A (Syntax.tyEnum (List._∷_ 119 (List._∷_ 114 (List._∷_ 105 (List._∷_ 116 (List._∷_ 105 (List._∷_ 110 (List._∷_
               103 (List._∷_ 58 (List._∷_ 58 (List._∷_ 80 (List._∷_ 117 (List._∷_ 116 List.[])))))))))))) (Syntax.ttcons (Syntax.tcons y6 Syntax.tnil) (Syntax.ttcons (Syntax.tcons (Syntax.tyInt Syntax.w64)
               Syntax.tnil) Syntax.ttnil)))) (tt, ((Reads.reads-struct 𝓤 H A W BitPosition.the-type Laws.the-laws, Path'.refl), tt)) Path'.refl (λ m wa. Make.made-val Put.the-type Laws'6.the-laws (List._∷_
-              (Laws'8.val BitPosition.the-type Laws.the-laws (m .1 .1 .1 .1 .1 .1 .1 .1 .1 .1 .1 .1 .1 .1 .0)) List.[]) (Put.enum .make (Logic.inl (m .1 .1 .1 .1 .1 .1 .1 .1 .1 .1 .1 .1 .1 .1 .0, tt)))
-              (Signed.made-wt BitPosition.the-field Laws.the-field-laws (Make'.struct-wt BitPosition.the-type Laws.the-laws (Make'.u64-wt, tt)) (BitPosition.the-type .to (m .1 .1 .1 .1 .1 .1 .1 .1 .1 .1
-              .1 .1 .1 .1 .0)), tt) (wa .1)) λ m wa. Make.made-is Put.the-type Laws'6.the-laws (List._∷_ (Laws'8.val BitPosition.the-type Laws.the-laws (m .1 .1 .1 .1 .1 .1 .1 .1 .1 .1 .1 .1 .1 .1 .0))
-              List.[]) (Put.enum .make (Logic.inl (m .1 .1 .1 .1 .1 .1 .1 .1 .1 .1 .1 .1 .1 .1 .0, tt)))
-              (Signed.made-wt BitPosition.the-field Laws.the-field-laws (Make'.struct-wt BitPosition.the-type Laws.the-laws (Make'.u64-wt, tt)) (BitPosition.the-type .to (m .1 .1 .1 .1 .1 .1 .1 .1 .1 .1
-              .1 .1 .1 .1 .0)), tt) (wa .1)) d95
+              (Laws'8.val BitPosition.the-type Laws.the-laws (m .1 .1 .1 .1 .1 .1 .1 .1 .1 .1 .1 .1 .1 .1 .0)) List.[]) (Put.enum .make (Logic.inl (m .1 .1 .1 .1 .1 .1 .1 .1 .1 .1 .1 .1 .1 .1 .0, tt))) (
+                Signed.made-wt BitPosition.the-field Laws.the-field-laws (Make'.struct-wt BitPosition.the-type Laws.the-laws (Make'.u64-wt, tt)) (BitPosition.the-type .to (m .1 .1 .1 .1 .1 .1 .1 .1 .1 .1
+                    .1 .1 .1 .1 .0)),
+                tt,
+              ) (wa .1)) λ m wa. Make.made-is Put.the-type Laws'6.the-laws (List._∷_ (Laws'8.val BitPosition.the-type Laws.the-laws (m .1 .1 .1 .1 .1 .1 .1 .1 .1 .1 .1 .1 .1 .1 .0))
+              List.[]) (Put.enum .make (Logic.inl (m .1 .1 .1 .1 .1 .1 .1 .1 .1 .1 .1 .1 .1 .1 .0, tt))) (
+                Signed.made-wt BitPosition.the-field Laws.the-field-laws (Make'.struct-wt BitPosition.the-type Laws.the-laws (Make'.u64-wt, tt)) (BitPosition.the-type .to (m .1 .1 .1 .1 .1 .1 .1 .1 .1 .1
+                    .1 .1 .1 .1 .0)),
+                tt,
+              ) (wa .1)) d95
 
           d97 : Typed.Typed 𝓤 H A 𝓣 E G11 b67 Δ0 (at97 bs)
           d97 = Typed.t-seq 𝓤 H A W 𝓣 E G11 G12 b63 b66 Δ0 (at86 bs) (at96 bs) d86 d96
@@ -3062,23 +3578,62 @@ module _ (claims· : Claims) where
           pub n : Kinds.Den {n = 4} κs (Num.pNum Syntax.w64)
           pub out : Kinds.Den {n = 4} κs (MutSlice.pMutS (Referent.rtF (Referent.fInt Syntax.w8)) 1 tt)
           pub store : Kinds.Den {n = 4} κs Bool.pBool
-          pub from : Kinds.Den {n = 4} κs (Value.pVal record
-              { ty = Declared'.row BitPosition.the-type; one = Path'.refl; val = Laws'8.val BitPosition.the-type Laws.the-laws; tells = Laws'8.tells BitPosition.the-type Laws.the-laws; still =
-              Laws'8.still BitPosition.the-type Laws.the-copy Exit.yes; row = Rows.whole (Declared'.row BitPosition.the-type); rd = λ x. x; mk = λ x. x; } λ M 𝓤 H A W. record
-              { copies = Laws'8.copy BitPosition.the-type Laws.the-copy 𝓤 H A W; lawful = Laws'8.lawful BitPosition.the-type Laws.the-laws 𝓤 H A W; makes = Laws'8.makes BitPosition.the-type Laws.the-plain
-              𝓤 H A; in-mem = Local.mem-whole 𝓤 H A W (Declared'.row BitPosition.the-type); of-mem = Local.whole-mem 𝓤 H A W (Declared'.row BitPosition.the-type); })
+          pub from : Kinds.Den {n = 4} κs (Value.pVal record {
+            ty = Declared'.row BitPosition.the-type;
+            one = Path'.refl;
+            val = Laws'8.val BitPosition.the-type Laws.the-laws;
+            tells = Laws'8.tells BitPosition.the-type Laws.the-laws;
+            still =
+                Laws'8.still BitPosition.the-type Laws.the-copy Exit.yes;
+            row = Rows.whole (Declared'.row BitPosition.the-type);
+            rd = λ x. x;
+            mk = λ x. x;
+          } λ M 𝓤 H A W. record {
+            copies = Laws'8.copy BitPosition.the-type Laws.the-copy 𝓤 H A W;
+            lawful = Laws'8.lawful BitPosition.the-type Laws.the-laws 𝓤 H A W;
+            makes = Laws'8.makes BitPosition.the-type Laws.the-plain
+                𝓤 H A;
+            in-mem = Local.mem-whole 𝓤 H A W (Declared'.row BitPosition.the-type);
+            of-mem = Local.whole-mem 𝓤 H A W (Declared'.row BitPosition.the-type);
+          })
           pub lines : Kinds.Den {n = 4} κs (MutSlice.pMutS (Referent.rtF (Referent.fInt Syntax.w16)) 2 tt)
           pub rs : Kinds.Den {n = 4} κs (MutSlice.pMutS (Element.type) 3 tt)
-          pub form : Kinds.Den {n = 4} κs (Value.pVal record
-              { ty = Declared'.row Form.the-type; one = Path'.refl; val = Laws'8.val Form.the-type Laws'.the-laws; tells = Laws'8.tells Form.the-type Laws'.the-laws; still = Laws'8.still Form.the-type
-              Laws'.the-copy Exit.yes; row = Rows.whole (Declared'.row Form.the-type); rd = λ x. x; mk = λ x. x; } λ M 𝓤 H A W. record
-              { copies = Laws'8.copy Form.the-type Laws'.the-copy 𝓤 H A W; lawful = Laws'8.lawful Form.the-type Laws'.the-laws 𝓤 H A W; makes = Laws'8.makes Form.the-type Laws'.the-plain 𝓤 H A; in-mem =
-              Local.mem-whole 𝓤 H A W (Declared'.row Form.the-type); of-mem = Local.whole-mem 𝓤 H A W (Declared'.row Form.the-type); })
-          pub qs : Kinds.Den {n = 4} κs (Value.pVal record
-              { ty = Declared'.row Quantisers.the-type; one = Path'.refl; val = Laws'8.val Quantisers.the-type Laws'3.the-laws; tells = Laws'8.tells Quantisers.the-type Laws'3.the-laws; still =
-              Laws'8.still Quantisers.the-type Laws'3.the-copy Exit.yes; row = Rows.whole (Declared'.row Quantisers.the-type); rd = λ x. x; mk = λ x. x; } λ M 𝓤 H A W. record
-              { copies = Laws'8.copy Quantisers.the-type Laws'3.the-copy 𝓤 H A W; lawful = Laws'8.lawful Quantisers.the-type Laws'3.the-laws 𝓤 H A W; makes = Laws'8.makes Quantisers.the-type
-              Laws'3.the-plain 𝓤 H A; in-mem = Local.mem-whole 𝓤 H A W (Declared'.row Quantisers.the-type); of-mem = Local.whole-mem 𝓤 H A W (Declared'.row Quantisers.the-type); })
+          pub form : Kinds.Den {n = 4} κs (Value.pVal record {
+            ty = Declared'.row Form.the-type;
+            one = Path'.refl;
+            val = Laws'8.val Form.the-type Laws'.the-laws;
+            tells = Laws'8.tells Form.the-type Laws'.the-laws;
+            still = Laws'8.still Form.the-type
+                Laws'.the-copy Exit.yes;
+            row = Rows.whole (Declared'.row Form.the-type);
+            rd = λ x. x;
+            mk = λ x. x;
+          } λ M 𝓤 H A W. record {
+            copies = Laws'8.copy Form.the-type Laws'.the-copy 𝓤 H A W;
+            lawful = Laws'8.lawful Form.the-type Laws'.the-laws 𝓤 H A W;
+            makes = Laws'8.makes Form.the-type Laws'.the-plain 𝓤 H A;
+            in-mem =
+                Local.mem-whole 𝓤 H A W (Declared'.row Form.the-type);
+            of-mem = Local.whole-mem 𝓤 H A W (Declared'.row Form.the-type);
+          })
+          pub qs : Kinds.Den {n = 4} κs (Value.pVal record {
+            ty = Declared'.row Quantisers.the-type;
+            one = Path'.refl;
+            val = Laws'8.val Quantisers.the-type Laws'3.the-laws;
+            tells = Laws'8.tells Quantisers.the-type Laws'3.the-laws;
+            still =
+                Laws'8.still Quantisers.the-type Laws'3.the-copy Exit.yes;
+            row = Rows.whole (Declared'.row Quantisers.the-type);
+            rd = λ x. x;
+            mk = λ x. x;
+          } λ M 𝓤 H A W. record {
+            copies = Laws'8.copy Quantisers.the-type Laws'3.the-copy 𝓤 H A W;
+            lawful = Laws'8.lawful Quantisers.the-type Laws'3.the-laws 𝓤 H A W;
+            makes = Laws'8.makes Quantisers.the-type
+                Laws'3.the-plain 𝓤 H A;
+            in-mem = Local.mem-whole 𝓤 H A W (Declared'.row Quantisers.the-type);
+            of-mem = Local.whole-mem 𝓤 H A W (Declared'.row Quantisers.the-type);
+          })
           pub strict : Kinds.Den {n = 4} κs Bool.pBool
 
         abbrev pub dens : (a : Args) → Kinds.Dens κs ps
@@ -3092,9 +3647,12 @@ module _ (claims· : Claims) where
       m0 = λ κs args blocks. (tt, Enter.partsP κs 1 ps xs (dens κs args))
 
       abbrev W0 : (κs : Lifetimes.Lfts 4) → (args : Args κs) → (blocks : List.List Nat.ℕ) → Typed.Want O0
-      W0 = λ κs args blocks.
-          (λ u. ⊥, tt, λ u. Enter.Fixs κs 1 ps xs (dens κs args) (u .1) × Post· κs (dens κs args) (Function.resV r κs (u .0)) (Clauses.atExit (Kinds.endedOf 4 ps r) κs (dens κs args) (Enter.lastsP κs 1 ps
-          xs (dens κs args) (u .1))))
+      W0 = λ κs args blocks. (
+        λ u. ⊥,
+        tt,
+        λ u. Enter.Fixs κs 1 ps xs (dens κs args) (u .1) × Post· κs (dens κs args) (Function.resV r κs (u .0)) (Clauses.atExit (Kinds.endedOf 4 ps r) κs (dens κs args) (Enter.lastsP κs 1 ps
+            xs (dens κs args) (u .1))),
+      )
 
       pub record Start : Type 0 where
         pub κs : Lifetimes.Lfts 4
@@ -3198,14 +3756,14 @@ module _ (claims· : Claims) where
           (6, Mut.mslice (Referent.rtF (Referent.fInt Syntax.w16)) (Syntax.tyRef (Syntax.named 2) Syntax.mut (Syntax.tyInt Syntax.w16)) 2) (Row.setRow 3
           (3, Mut.mslice (Referent.rtF (Referent.fInt Syntax.w8)) (Syntax.tyRef (Syntax.named 1) Syntax.mut (Syntax.tyInt Syntax.w8)) 1) (T11 .locals)))) (Row.set 7
           (7, Mut.mslice (Element.type) (Syntax.tyRef (Syntax.named 3) Syntax.mut Element.behind) 3) record
-          { ptr = Row.get 7 (T11 .locals) (m10 (before .before) (After-width·gave before)) .ptr; name = Row.get 7 (T11 .locals) (m10 (before .before) (After-width·gave before)) .name; now = rs; }
+          { ptr = Row.get 7 (T11 .locals) (m10 (before .before) (After-width·gave before)) .ptr; name = Row.get 7 (T11 .locals) (m10 (before .before) (After-width·gave before)) .name; now = rs }
           (Row.setRow 6 (6, Mut.mslice (Referent.rtF (Referent.fInt Syntax.w16)) (Syntax.tyRef (Syntax.named 2) Syntax.mut (Syntax.tyInt Syntax.w16)) 2) (Row.setRow 3
           (3, Mut.mslice (Referent.rtF (Referent.fInt Syntax.w8)) (Syntax.tyRef (Syntax.named 1) Syntax.mut (Syntax.tyInt Syntax.w8)) 1) (T11 .locals))) (Row.set 6
           (6, Mut.mslice (Referent.rtF (Referent.fInt Syntax.w16)) (Syntax.tyRef (Syntax.named 2) Syntax.mut (Syntax.tyInt Syntax.w16)) 2) record
-          { ptr = Row.get 6 (T11 .locals) (m10 (before .before) (After-width·gave before)) .ptr; name = Row.get 6 (T11 .locals) (m10 (before .before) (After-width·gave before)) .name; now = lines; }
+          { ptr = Row.get 6 (T11 .locals) (m10 (before .before) (After-width·gave before)) .ptr; name = Row.get 6 (T11 .locals) (m10 (before .before) (After-width·gave before)) .name; now = lines }
           (Row.setRow 3 (3, Mut.mslice (Referent.rtF (Referent.fInt Syntax.w8)) (Syntax.tyRef (Syntax.named 1) Syntax.mut (Syntax.tyInt Syntax.w8)) 1) (T11 .locals)) (Row.set 3
           (3, Mut.mslice (Referent.rtF (Referent.fInt Syntax.w8)) (Syntax.tyRef (Syntax.named 1) Syntax.mut (Syntax.tyInt Syntax.w8)) 1) record
-          { ptr = Row.get 3 (T11 .locals) (m10 (before .before) (After-width·gave before)) .ptr; name = Row.get 3 (T11 .locals) (m10 (before .before) (After-width·gave before)) .name; now = out; } (T11
+          { ptr = Row.get 3 (T11 .locals) (m10 (before .before) (After-width·gave before)) .ptr; name = Row.get 3 (T11 .locals) (m10 (before .before) (After-width·gave before)) .name; now = out } (T11
           .locals) (m10 (before .before) (After-width·gave before))))))
 
       abbrev W3 : (before : After-width) → (out : List.List (Referent.rtF (Referent.fInt Syntax.w8) .Denot)) → (lines : List.List (Referent.rtF (Referent.fInt Syntax.w16) .Denot)) → (rs : List.List
@@ -3312,9 +3870,10 @@ module _ (claims· : Claims) where
 
       module _ (before· : After-set-guards-arg) where
         abbrev pub After-set-guards·own : Type 0
-        After-set-guards·own = Called.Called ps·2 r·2 (claims· .5) T21
-            (record { pos = 24; ty = Syntax.tyRef Syntax.erased Syntax.mut (Syntax.tyInt Syntax.w16); ref = λ x. x; },
-            (Num.vAt 13 λ x. x, (Num.vFld 16 (List._∷_ (Syntax.field 0) List.[]) 0 λ x. Plan.struct .as-values x .0, tt))) (m18 (before· .before) (before· .set-guards-arg .given))
+        After-set-guards·own = Called.Called ps·2 r·2 (claims· .5) T21 (
+          record { pos = 24; ty = Syntax.tyRef Syntax.erased Syntax.mut (Syntax.tyInt Syntax.w16); ref = λ x. x },
+          (Num.vAt 13 λ x. x, (Num.vFld 16 (List._∷_ (Syntax.field 0) List.[]) 0 λ x. Plan.struct .as-values x .0, tt)),
+        ) (m18 (before· .before) (before· .set-guards-arg .given))
 
       pub record After-set-guards : Type 0 where
         pub before : After-set-guards-arg
@@ -3322,9 +3881,10 @@ module _ (claims· : Claims) where
 
       abbrev pub After-set-guards·gave : (c : After-set-guards) → s18 (c .before .before .before .before .before .before .before .before .before .blocks) .gives (m18 (c .before .before) (c .before
           .set-guards-arg .given))
-      After-set-guards·gave = λ c. Called.given ps·2 r·2 (claims· .5) T21
-          (record { pos = 24; ty = Syntax.tyRef Syntax.erased Syntax.mut (Syntax.tyInt Syntax.w16); ref = λ x. x; },
-          (Num.vAt 13 λ x. x, (Num.vFld 16 (List._∷_ (Syntax.field 0) List.[]) 0 λ x. Plan.struct .as-values x .0, tt))) (m18 (c .before .before) (c .before .set-guards-arg .given)) (c .set-guards)
+      After-set-guards·gave = λ c. Called.given ps·2 r·2 (claims· .5) T21 (
+        record { pos = 24; ty = Syntax.tyRef Syntax.erased Syntax.mut (Syntax.tyInt Syntax.w16); ref = λ x. x },
+        (Num.vAt 13 λ x. x, (Num.vFld 16 (List._∷_ (Syntax.field 0) List.[]) 0 λ x. Plan.struct .as-values x .0, tt)),
+      ) (m18 (c .before .before) (c .before .set-guards-arg .given)) (c .set-guards)
 
       abbrev pub m20 : (before : After-set-guards-arg) → (given : s18 (before .before .before .before .before .before .before .before .before .blocks) .gives (m18 (before .before) (before
           .set-guards-arg .given))) → Typed.Mo T23
@@ -3382,9 +3942,10 @@ module _ (claims· : Claims) where
 
       module _ (before· : After-set-guards-arg2) where
         abbrev pub After-set-guards2·own : Type 0
-        After-set-guards2·own = Called.Called ps·2 r·2 (claims· .5) T30
-            (record { pos = 26; ty = Syntax.tyRef Syntax.erased Syntax.mut (Syntax.tyInt Syntax.w16); ref = λ x. x; },
-            (Num.vAt 13 λ x. x, (Num.vFld 16 (List._∷_ (Syntax.field 1) List.[]) 8 λ x. Plan.struct .as-values x .1 .0, tt))) (m24 (before· .before) (before· .set-guards-arg2 .given))
+        After-set-guards2·own = Called.Called ps·2 r·2 (claims· .5) T30 (
+          record { pos = 26; ty = Syntax.tyRef Syntax.erased Syntax.mut (Syntax.tyInt Syntax.w16); ref = λ x. x },
+          (Num.vAt 13 λ x. x, (Num.vFld 16 (List._∷_ (Syntax.field 1) List.[]) 8 λ x. Plan.struct .as-values x .1 .0, tt)),
+        ) (m24 (before· .before) (before· .set-guards-arg2 .given))
 
       pub record After-set-guards2 : Type 0 where
         pub before : After-set-guards-arg2
@@ -3392,9 +3953,10 @@ module _ (claims· : Claims) where
 
       abbrev pub After-set-guards2·gave : (c : After-set-guards2) → s27 (c .before .before .before .before .before .before .before .before .before .before .before .before .before .blocks) .gives (m24
           (c .before .before) (c .before .set-guards-arg2 .given))
-      After-set-guards2·gave = λ c. Called.given ps·2 r·2 (claims· .5) T30
-          (record { pos = 26; ty = Syntax.tyRef Syntax.erased Syntax.mut (Syntax.tyInt Syntax.w16); ref = λ x. x; },
-          (Num.vAt 13 λ x. x, (Num.vFld 16 (List._∷_ (Syntax.field 1) List.[]) 8 λ x. Plan.struct .as-values x .1 .0, tt))) (m24 (c .before .before) (c .before .set-guards-arg2 .given)) (c .set-guards2)
+      After-set-guards2·gave = λ c. Called.given ps·2 r·2 (claims· .5) T30 (
+        record { pos = 26; ty = Syntax.tyRef Syntax.erased Syntax.mut (Syntax.tyInt Syntax.w16); ref = λ x. x },
+        (Num.vAt 13 λ x. x, (Num.vFld 16 (List._∷_ (Syntax.field 1) List.[]) 8 λ x. Plan.struct .as-values x .1 .0, tt)),
+      ) (m24 (c .before .before) (c .before .set-guards-arg2 .given)) (c .set-guards2)
 
       abbrev pub m26 : (before : After-set-guards-arg2) → (given : s27 (before .before .before .before .before .before .before .before .before .before .before .before .before .blocks) .gives (m24
           (before .before) (before .set-guards-arg2 .given))) → Typed.Mo T32
@@ -3458,7 +4020,7 @@ module _ (claims· : Claims) where
       module _ (before· : After-load-set-arg) where
         abbrev pub After-load-set·own : Type 0
         After-load-set·own = Called.Called ps·3 r·3 (claims· .7) T39
-            (record { pos = 28; ty = Syntax.tyRef Syntax.erased Syntax.mut Element.behind; ref = λ x. x; }, (Num.vFld 16 (List._∷_ (Syntax.field 2) List.[]) 16 λ x. Plan.struct .as-values x .1 .1 .0, tt))
+            (record { pos = 28; ty = Syntax.tyRef Syntax.erased Syntax.mut Element.behind; ref = λ x. x }, (Num.vFld 16 (List._∷_ (Syntax.field 2) List.[]) 16 λ x. Plan.struct .as-values x .1 .1 .0, tt))
             (m30 (before· .before) (before· .load-set-arg .given))
 
       pub record After-load-set : Type 0 where
@@ -3468,7 +4030,7 @@ module _ (claims· : Claims) where
       abbrev pub After-load-set·gave : (c : After-load-set) → s36 (c .before .before .before .before .before .before .before .before .before .before .before .before .before .before .before .before
           .before .blocks) .gives (m30 (c .before .before) (c .before .load-set-arg .given))
       After-load-set·gave = λ c. Called.given ps·3 r·3 (claims· .7) T39
-          (record { pos = 28; ty = Syntax.tyRef Syntax.erased Syntax.mut Element.behind; ref = λ x. x; }, (Num.vFld 16 (List._∷_ (Syntax.field 2) List.[]) 16 λ x. Plan.struct .as-values x .1 .1 .0, tt))
+          (record { pos = 28; ty = Syntax.tyRef Syntax.erased Syntax.mut Element.behind; ref = λ x. x }, (Num.vFld 16 (List._∷_ (Syntax.field 2) List.[]) 16 λ x. Plan.struct .as-values x .1 .1 .0, tt))
           (m30 (c .before .before) (c .before .load-set-arg .given)) (c .load-set)
 
       abbrev pub m32 : (before : After-load-set) → (given : s38 (before .before .before .before .before .before .before .before .before .before .before .before .before .before .before .before .before
@@ -3534,15 +4096,28 @@ module _ (claims· : Claims) where
 
       module _ (before· : After-write-pass-arg2) where
         abbrev pub After-write-pass·own : Type 0
-        After-write-pass·own = Called.Called ps·4 r·4 (claims· .9) T49
-            (record { pos = 1; ty = Syntax.tyRef (Syntax.named 0) Syntax.imm (Syntax.tyInt Syntax.w16); ref = λ x. x; },
-            (Num.vAt 2 λ x. x,
-            (record { pos = 30; ty = Syntax.tyRef Syntax.erased Syntax.mut (Syntax.tyInt Syntax.w8); ref = λ x. x; },
-            (Bool.bAt 4 λ x. x,
-            (record { pos = 14; st = List.[]; d = 0; at = λ x. x },
-            (record { pos = 32; ty = Syntax.tyRef Syntax.erased Syntax.mut (Syntax.tyInt Syntax.w16); ref = λ x. x; },
-            (record { pos = 17; st = List.[]; d = 0; at = λ x. x },
-            (Num.vAt 13 λ x. x, (record { pos = 16; st = List.[]; d = 0; at = λ x. x }, (record { pos = 9; st = List.[]; d = 0; at = λ x. x }, (Num.vAt 11 λ x. x, (Bool.bAt 10 λ x. x, tt)))))))))))) (m36
+        After-write-pass·own = Called.Called ps·4 r·4 (claims· .9) T49 (
+          record { pos = 1; ty = Syntax.tyRef (Syntax.named 0) Syntax.imm (Syntax.tyInt Syntax.w16); ref = λ x. x },
+          (
+            Num.vAt 2 λ x. x,
+            (
+              record { pos = 30; ty = Syntax.tyRef Syntax.erased Syntax.mut (Syntax.tyInt Syntax.w8); ref = λ x. x },
+              (
+                Bool.bAt 4 λ x. x,
+                (
+                  record { pos = 14; st = List.[]; d = 0; at = λ x. x },
+                  (
+                    record { pos = 32; ty = Syntax.tyRef Syntax.erased Syntax.mut (Syntax.tyInt Syntax.w16); ref = λ x. x },
+                    (
+                      record { pos = 17; st = List.[]; d = 0; at = λ x. x },
+                      (Num.vAt 13 λ x. x, (record { pos = 16; st = List.[]; d = 0; at = λ x. x }, (record { pos = 9; st = List.[]; d = 0; at = λ x. x }, (Num.vAt 11 λ x. x, (Bool.bAt 10 λ x. x, tt))))),
+                    ),
+                  ),
+                ),
+              ),
+            ),
+          ),
+        ) (m36
             (before· .before) (before· .write-pass-arg2 .given))
 
       pub record After-write-pass : Type 0 where
@@ -3551,15 +4126,28 @@ module _ (claims· : Claims) where
 
       abbrev pub After-write-pass·gave : (c : After-write-pass) → s46 (c .before .before .before .before .before .before .before .before .before .before .before .before .before .before .before .before
           .before .before .before .before .before .blocks) .gives (m36 (c .before .before) (c .before .write-pass-arg2 .given))
-      After-write-pass·gave = λ c. Called.given ps·4 r·4 (claims· .9) T49
-          (record { pos = 1; ty = Syntax.tyRef (Syntax.named 0) Syntax.imm (Syntax.tyInt Syntax.w16); ref = λ x. x; },
-          (Num.vAt 2 λ x. x,
-          (record { pos = 30; ty = Syntax.tyRef Syntax.erased Syntax.mut (Syntax.tyInt Syntax.w8); ref = λ x. x; },
-          (Bool.bAt 4 λ x. x,
-          (record { pos = 14; st = List.[]; d = 0; at = λ x. x },
-          (record { pos = 32; ty = Syntax.tyRef Syntax.erased Syntax.mut (Syntax.tyInt Syntax.w16); ref = λ x. x; },
-          (record { pos = 17; st = List.[]; d = 0; at = λ x. x },
-          (Num.vAt 13 λ x. x, (record { pos = 16; st = List.[]; d = 0; at = λ x. x }, (record { pos = 9; st = List.[]; d = 0; at = λ x. x }, (Num.vAt 11 λ x. x, (Bool.bAt 10 λ x. x, tt)))))))))))) (m36 (c
+      After-write-pass·gave = λ c. Called.given ps·4 r·4 (claims· .9) T49 (
+        record { pos = 1; ty = Syntax.tyRef (Syntax.named 0) Syntax.imm (Syntax.tyInt Syntax.w16); ref = λ x. x },
+        (
+          Num.vAt 2 λ x. x,
+          (
+            record { pos = 30; ty = Syntax.tyRef Syntax.erased Syntax.mut (Syntax.tyInt Syntax.w8); ref = λ x. x },
+            (
+              Bool.bAt 4 λ x. x,
+              (
+                record { pos = 14; st = List.[]; d = 0; at = λ x. x },
+                (
+                  record { pos = 32; ty = Syntax.tyRef Syntax.erased Syntax.mut (Syntax.tyInt Syntax.w16); ref = λ x. x },
+                  (
+                    record { pos = 17; st = List.[]; d = 0; at = λ x. x },
+                    (Num.vAt 13 λ x. x, (record { pos = 16; st = List.[]; d = 0; at = λ x. x }, (record { pos = 9; st = List.[]; d = 0; at = λ x. x }, (Num.vAt 11 λ x. x, (Bool.bAt 10 λ x. x, tt))))),
+                  ),
+                ),
+              ),
+            ),
+          ),
+        ),
+      ) (m36 (c
           .before .before) (c .before .write-pass-arg2 .given)) (c .write-pass)
 
       abbrev pub m38 : (before : After-write-pass-arg2) → (given : s46 (before .before .before .before .before .before .before .before .before .before .before .before .before .before .before .before
@@ -3800,9 +4388,10 @@ module _ (claims· : Claims) where
 
       module _ (before· : After-store-set-arg) where
         abbrev pub After-store-set·own : Type 0
-        After-store-set·own = Called.Called ps·5 r·5 (claims· .11) T81
-            (record { pos = 34; ty = Syntax.tyRef Syntax.erased Syntax.mut Element.behind; ref = λ x. x; },
-            (Num.vFld 16 (List._∷_ (Syntax.field 2) List.[]) 16 λ x. Plan.struct .as-values x .1 .1 .0, (record { pos = 20; st = List.[]; d = 0; at = λ x. x }, tt))) (m62 (before· .before) (before·
+        After-store-set·own = Called.Called ps·5 r·5 (claims· .11) T81 (
+          record { pos = 34; ty = Syntax.tyRef Syntax.erased Syntax.mut Element.behind; ref = λ x. x },
+          (Num.vFld 16 (List._∷_ (Syntax.field 2) List.[]) 16 λ x. Plan.struct .as-values x .1 .1 .0, (record { pos = 20; st = List.[]; d = 0; at = λ x. x }, tt)),
+        ) (m62 (before· .before) (before·
             .store-set-arg .given))
 
       pub record After-store-set : Type 0 where
@@ -3811,9 +4400,10 @@ module _ (claims· : Claims) where
 
       abbrev pub After-store-set·gave : (c : After-store-set) → s77 (c .before .before .before .before .before .before .before .before .before .before .before .before .before .before .before .before
           .before .before .before .before .before .before .before .before .before .before .before .before .before .blocks) .gives (m62 (c .before .before) (c .before .store-set-arg .given))
-      After-store-set·gave = λ c. Called.given ps·5 r·5 (claims· .11) T81
-          (record { pos = 34; ty = Syntax.tyRef Syntax.erased Syntax.mut Element.behind; ref = λ x. x; },
-          (Num.vFld 16 (List._∷_ (Syntax.field 2) List.[]) 16 λ x. Plan.struct .as-values x .1 .1 .0, (record { pos = 20; st = List.[]; d = 0; at = λ x. x }, tt))) (m62 (c .before .before) (c .before
+      After-store-set·gave = λ c. Called.given ps·5 r·5 (claims· .11) T81 (
+        record { pos = 34; ty = Syntax.tyRef Syntax.erased Syntax.mut Element.behind; ref = λ x. x },
+        (Num.vFld 16 (List._∷_ (Syntax.field 2) List.[]) 16 λ x. Plan.struct .as-values x .1 .1 .0, (record { pos = 20; st = List.[]; d = 0; at = λ x. x }, tt)),
+      ) (m62 (c .before .before) (c .before
           .store-set-arg .given)) (c .store-set)
 
       abbrev pub m64 : (before : After-store-set-arg) → (given : s77 (before .before .before .before .before .before .before .before .before .before .before .before .before .before .before .before
@@ -4045,19 +4635,36 @@ module _ (claims· : Claims) where
           (same-length-4 : Need-same-length-4) (same-length-5 : Need-same-length-5) (same-length-6 : Need-same-length-6) (returns-2 : Need-returns-2) where
         lay12 : (c : After-loop) → at96 (c .before .before .before .before .before .before .blocks) (W0 (c .before .before .before .before .before .before .κs) (c .before .before .before .before
             .before .before .args) (c .before .before .before .before .before .before .blocks)) (m15 (c .before))
-        lay12 = λ c.
-            ((Path'.refl,
-            (tt,
-            (MutSlice.fix-len (Row.get 3 (T101 .locals) (m80 (c .before)) .ptr) (Row.get 3 (T101 .locals) (m80 (c .before)) .name) (Row.get 3 (T101 .locals) (m80 (c .before)) .now) (dens (c .before
-            .before .before .before .before .before .κs) (c .before .before .before .before .before .before .args) .1 .1 .0 .now) (same-length-4 record { before = c .before; loop-test = c .loop-test }),
-            (tt,
-            (tt,
-            (MutSlice.fix-len (Row.get 6 (T101 .locals) (m80 (c .before)) .ptr) (Row.get 6 (T101 .locals) (m80 (c .before)) .name) (Row.get 6 (T101 .locals) (m80 (c .before)) .now) (dens (c .before
-            .before .before .before .before .before .κs) (c .before .before .before .before .before .before .args) .1 .1 .1 .1 .1 .0 .now) (same-length-5 record
-            { before = c .before; loop-test = c .loop-test }),
-            (MutSlice.fix-len (Row.get 7 (T101 .locals) (m80 (c .before)) .ptr) (Row.get 7 (T101 .locals) (m80 (c .before)) .name) (Row.get 7 (T101 .locals) (m80 (c .before)) .now) (dens (c .before
-            .before .before .before .before .before .κs) (c .before .before .before .before .before .before .args) .1 .1 .1 .1 .1 .1 .0 .now) (same-length-6 record
-            { before = c .before; loop-test = c .loop-test }), (tt, (tt, (tt, tt)))))))))), returns-2 record { before = c .before; loop-test = c .loop-test })
+        lay12 = λ c. (
+          (
+            Path'.refl,
+            (
+              tt,
+              (
+                MutSlice.fix-len (Row.get 3 (T101 .locals) (m80 (c .before)) .ptr) (Row.get 3 (T101 .locals) (m80 (c .before)) .name) (Row.get 3 (T101 .locals) (m80 (c .before)) .now) (dens (c .before
+                    .before .before .before .before .before .κs) (c .before .before .before .before .before .before .args) .1 .1 .0 .now) (same-length-4 record { before = c .before; loop-test = c .loop-test }),
+                (
+                  tt,
+                  (
+                    tt,
+                    (
+                      MutSlice.fix-len (Row.get 6 (T101 .locals) (m80 (c .before)) .ptr) (Row.get 6 (T101 .locals) (m80 (c .before)) .name) (Row.get 6 (T101 .locals) (m80 (c .before)) .now) (dens (c .before
+                          .before .before .before .before .before .κs) (c .before .before .before .before .before .before .args) .1 .1 .1 .1 .1 .0 .now) (same-length-5 record
+                          { before = c .before; loop-test = c .loop-test }),
+                      (
+                        MutSlice.fix-len (Row.get 7 (T101 .locals) (m80 (c .before)) .ptr) (Row.get 7 (T101 .locals) (m80 (c .before)) .name) (Row.get 7 (T101 .locals) (m80 (c .before)) .now) (dens (c .before
+                            .before .before .before .before .before .κs) (c .before .before .before .before .before .before .args) .1 .1 .1 .1 .1 .1 .0 .now) (same-length-6 record
+                            { before = c .before; loop-test = c .loop-test }),
+                        (tt, (tt, (tt, tt))),
+                      ),
+                    ),
+                  ),
+                ),
+              ),
+            ),
+          ),
+          returns-2 record { before = c .before; loop-test = c .loop-test },
+        )
 
         lay11 : (c : After-store-set) → at31 (c .before .before .before .before .before .before .before .before .before .before .before .before .before .before .before .before .before .before .before
             .before .before .before .before .before .before .before .before .before .before .blocks) (W3 (c .before .before .before .before .before .before .before .before .before .before .before .before
@@ -4068,92 +4675,111 @@ module _ (claims· : Claims) where
             .before .before .before .before .before .before .before .before .before .before .before .before .before .before .before .before .before .before .before .before .loop .at) (c .before .before
             .before .before .before .before .before .before .before .before .before .before .before .before .before .before .before .before .before .before .before .before .before .before .loop .i)) (m63
             (c .before) (After-store-set·gave c))
-        lay11 = λ c.
-            (Path'.refl, λ g.
-            (tt, λ g'.
-            (add-i record { before = record { before = record { before = c .before; store-set = c .store-set }; rs2 = record { given = g }; }; at = record { given = g' }; },
-            (μ·0 (Row.get 1 (T11 .locals) (m10 (c .before .before .before .before .before .before .before .before .before .before .before .before .before .before .before .before .before .before .before
-            .before .before .before .before .before .before .before) (After-width·gave (c .before .before .before .before .before .before .before .before .before .before .before .before .before .before
-            .before .before .before .before .before .before .before .before .before .before .before))) .now) (Row.get 2 (T11 .locals) (m10 (c .before .before .before .before .before .before .before
-            .before .before .before .before .before .before .before .before .before .before .before .before .before .before .before .before .before .before .before) (After-width·gave (c .before .before
-            .before .before .before .before .before .before .before .before .before .before .before .before .before .before .before .before .before .before .before .before .before .before .before))))
-            (Row.get 3 (T11 .locals) (m10 (c .before .before .before .before .before .before .before .before .before .before .before .before .before .before .before .before .before .before .before .before
-            .before .before .before .before .before .before) (After-width·gave (c .before .before .before .before .before .before .before .before .before .before .before .before .before .before .before
-            .before .before .before .before .before .before .before .before .before .before))) .now) (Row.get 4 (T11 .locals) (m10 (c .before .before .before .before .before .before .before .before
-            .before .before .before .before .before .before .before .before .before .before .before .before .before .before .before .before .before .before) (After-width·gave (c .before .before .before
-            .before .before .before .before .before .before .before .before .before .before .before .before .before .before .before .before .before .before .before .before .before .before)))) (Row.get 6
-            (T11 .locals) (m10 (c .before .before .before .before .before .before .before .before .before .before .before .before .before .before .before .before .before .before .before .before .before
-            .before .before .before .before .before) (After-width·gave (c .before .before .before .before .before .before .before .before .before .before .before .before .before .before .before .before
-            .before .before .before .before .before .before .before .before .before))) .now) (Row.get 7 (T11 .locals) (m10 (c .before .before .before .before .before .before .before .before .before
-            .before .before .before .before .before .before .before .before .before .before .before .before .before .before .before .before .before) (After-width·gave (c .before .before .before .before
-            .before .before .before .before .before .before .before .before .before .before .before .before .before .before .before .before .before .before .before .before .before))) .now) (Row.get 9 (T11
-            .locals) (m10 (c .before .before .before .before .before .before .before .before .before .before .before .before .before .before .before .before .before .before .before .before .before .before
-            .before .before .before .before) (After-width·gave (c .before .before .before .before .before .before .before .before .before .before .before .before .before .before .before .before .before
-            .before .before .before .before .before .before .before .before)))) (Row.get 10 (T11 .locals) (m10 (c .before .before .before .before .before .before .before .before .before .before .before
-            .before .before .before .before .before .before .before .before .before .before .before .before .before .before .before) (After-width·gave (c .before .before .before .before .before .before
-            .before .before .before .before .before .before .before .before .before .before .before .before .before .before .before .before .before .before .before)))) (Row.get 11 (T11 .locals) (m10 (c
-            .before .before .before .before .before .before .before .before .before .before .before .before .before .before .before .before .before .before .before .before .before .before .before .before
-            .before .before) (After-width·gave (c .before .before .before .before .before .before .before .before .before .before .before .before .before .before .before .before .before .before .before
-            .before .before .before .before .before .before)))) (Row.get 12 (T11 .locals) (m10 (c .before .before .before .before .before .before .before .before .before .before .before .before .before
-            .before .before .before .before .before .before .before .before .before .before .before .before .before) (After-width·gave (c .before .before .before .before .before .before .before .before
-            .before .before .before .before .before .before .before .before .before .before .before .before .before .before .before .before .before)))) (Row.get 13 (T11 .locals) (m10 (c .before .before
-            .before .before .before .before .before .before .before .before .before .before .before .before .before .before .before .before .before .before .before .before .before .before .before .before)
-            (After-width·gave (c .before .before .before .before .before .before .before .before .before .before .before .before .before .before .before .before .before .before .before .before .before
-            .before .before .before .before)))) (Row.get 14 (T11 .locals) (m10 (c .before .before .before .before .before .before .before .before .before .before .before .before .before .before .before
-            .before .before .before .before .before .before .before .before .before .before .before) (After-width·gave (c .before .before .before .before .before .before .before .before .before .before
-            .before .before .before .before .before .before .before .before .before .before .before .before .before .before .before)))) (Row.get 15 (T11 .locals) (m10 (c .before .before .before .before
-            .before .before .before .before .before .before .before .before .before .before .before .before .before .before .before .before .before .before .before .before .before .before)
-            (After-width·gave (c .before .before .before .before .before .before .before .before .before .before .before .before .before .before .before .before .before .before .before .before .before
-            .before .before .before .before)))) (Row.get 3 (T11 .locals) (m71 record { before = record { before = c .before; store-set = c .store-set }; rs2 = record { given = g }; } g') .now) (Row.get 6
-            (T11 .locals) (m71 record { before = record { before = c .before; store-set = c .store-set }; rs2 = record { given = g }; } g') .now) (Row.get 7 (T11 .locals) (m71 record
-            { before = record { before = c .before; store-set = c .store-set }; rs2 = record { given = g }; } g') .now) (Row.get 14 (T11 .locals) (m71 record
-            { before = record { before = c .before; store-set = c .store-set }; rs2 = record { given = g }; } g')) (Row.get 15 (T11 .locals) (m71 record
-            { before = record { before = c .before; store-set = c .store-set }; rs2 = record { given = g }; } g')), loop-less record
-            { before = record { before = record { before = c .before; store-set = c .store-set }; rs2 = record { given = g }; }; at = record { given = g' }; },
-            ((Row.get 3 (T11 .locals) (m71 record { before = record { before = c .before; store-set = c .store-set }; rs2 = record { given = g }; } g') .now, Row.get 6 (T11 .locals) (m71 record
-            { before = record { before = c .before; store-set = c .store-set }; rs2 = record { given = g }; } g') .now, Row.get 7 (T11 .locals) (m71 record
-            { before = record { before = c .before; store-set = c .store-set }; rs2 = record { given = g }; } g') .now, Row.get 14 (T11 .locals) (m71 record
-            { before = record { before = c .before; store-set = c .store-set }; rs2 = record { given = g }; } g'), Row.get 15 (T11 .locals) (m71 record
-            { before = record { before = c .before; store-set = c .store-set }; rs2 = record { given = g }; } g')), Path'.refl {a = m71 record
-            { before = record { before = c .before; store-set = c .store-set }; rs2 = record { given = g }; } g'}, loop-again record
-            { before = record { before = record { before = c .before; store-set = c .store-set }; rs2 = record { given = g }; }; at = record { given = g' }; }, Path'.refl {a = μ·0 (Row.get 1 (T11 .locals)
-            (m10 (c .before .before .before .before .before .before .before .before .before .before .before .before .before .before .before .before .before .before .before .before .before .before .before
-            .before .before .before) (After-width·gave (c .before .before .before .before .before .before .before .before .before .before .before .before .before .before .before .before .before .before
-            .before .before .before .before .before .before .before))) .now) (Row.get 2 (T11 .locals) (m10 (c .before .before .before .before .before .before .before .before .before .before .before
-            .before .before .before .before .before .before .before .before .before .before .before .before .before .before .before) (After-width·gave (c .before .before .before .before .before .before
-            .before .before .before .before .before .before .before .before .before .before .before .before .before .before .before .before .before .before .before)))) (Row.get 3 (T11 .locals) (m10 (c
-            .before .before .before .before .before .before .before .before .before .before .before .before .before .before .before .before .before .before .before .before .before .before .before .before
-            .before .before) (After-width·gave (c .before .before .before .before .before .before .before .before .before .before .before .before .before .before .before .before .before .before .before
-            .before .before .before .before .before .before))) .now) (Row.get 4 (T11 .locals) (m10 (c .before .before .before .before .before .before .before .before .before .before .before .before
-            .before .before .before .before .before .before .before .before .before .before .before .before .before .before) (After-width·gave (c .before .before .before .before .before .before .before
-            .before .before .before .before .before .before .before .before .before .before .before .before .before .before .before .before .before .before)))) (Row.get 6 (T11 .locals) (m10 (c .before
-            .before .before .before .before .before .before .before .before .before .before .before .before .before .before .before .before .before .before .before .before .before .before .before .before
-            .before) (After-width·gave (c .before .before .before .before .before .before .before .before .before .before .before .before .before .before .before .before .before .before .before .before
-            .before .before .before .before .before))) .now) (Row.get 7 (T11 .locals) (m10 (c .before .before .before .before .before .before .before .before .before .before .before .before .before
-            .before .before .before .before .before .before .before .before .before .before .before .before .before) (After-width·gave (c .before .before .before .before .before .before .before .before
-            .before .before .before .before .before .before .before .before .before .before .before .before .before .before .before .before .before))) .now) (Row.get 9 (T11 .locals) (m10 (c .before
-            .before .before .before .before .before .before .before .before .before .before .before .before .before .before .before .before .before .before .before .before .before .before .before .before
-            .before) (After-width·gave (c .before .before .before .before .before .before .before .before .before .before .before .before .before .before .before .before .before .before .before .before
-            .before .before .before .before .before)))) (Row.get 10 (T11 .locals) (m10 (c .before .before .before .before .before .before .before .before .before .before .before .before .before .before
-            .before .before .before .before .before .before .before .before .before .before .before .before) (After-width·gave (c .before .before .before .before .before .before .before .before .before
-            .before .before .before .before .before .before .before .before .before .before .before .before .before .before .before .before)))) (Row.get 11 (T11 .locals) (m10 (c .before .before .before
-            .before .before .before .before .before .before .before .before .before .before .before .before .before .before .before .before .before .before .before .before .before .before .before)
-            (After-width·gave (c .before .before .before .before .before .before .before .before .before .before .before .before .before .before .before .before .before .before .before .before .before
-            .before .before .before .before)))) (Row.get 12 (T11 .locals) (m10 (c .before .before .before .before .before .before .before .before .before .before .before .before .before .before .before
-            .before .before .before .before .before .before .before .before .before .before .before) (After-width·gave (c .before .before .before .before .before .before .before .before .before .before
-            .before .before .before .before .before .before .before .before .before .before .before .before .before .before .before)))) (Row.get 13 (T11 .locals) (m10 (c .before .before .before .before
-            .before .before .before .before .before .before .before .before .before .before .before .before .before .before .before .before .before .before .before .before .before .before)
-            (After-width·gave (c .before .before .before .before .before .before .before .before .before .before .before .before .before .before .before .before .before .before .before .before .before
-            .before .before .before .before)))) (Row.get 14 (T11 .locals) (m10 (c .before .before .before .before .before .before .before .before .before .before .before .before .before .before .before
-            .before .before .before .before .before .before .before .before .before .before .before) (After-width·gave (c .before .before .before .before .before .before .before .before .before .before
-            .before .before .before .before .before .before .before .before .before .before .before .before .before .before .before)))) (Row.get 15 (T11 .locals) (m10 (c .before .before .before .before
-            .before .before .before .before .before .before .before .before .before .before .before .before .before .before .before .before .before .before .before .before .before .before)
-            (After-width·gave (c .before .before .before .before .before .before .before .before .before .before .before .before .before .before .before .before .before .before .before .before .before
-            .before .before .before .before)))) (Row.get 3 (T11 .locals) (m71 record { before = record { before = c .before; store-set = c .store-set }; rs2 = record { given = g }; } g') .now) (Row.get 6
-            (T11 .locals) (m71 record { before = record { before = c .before; store-set = c .store-set }; rs2 = record { given = g }; } g') .now) (Row.get 7 (T11 .locals) (m71 record
-            { before = record { before = c .before; store-set = c .store-set }; rs2 = record { given = g }; } g') .now) (Row.get 14 (T11 .locals) (m71 record
-            { before = record { before = c .before; store-set = c .store-set }; rs2 = record { given = g }; } g')) (Row.get 15 (T11 .locals) (m71 record
-            { before = record { before = c .before; store-set = c .store-set }; rs2 = record { given = g }; } g'))})))))
+        lay11 = λ c. (
+          Path'.refl,
+          λ g. (
+            tt,
+            λ g'. (
+              add-i record { before = record { before = record { before = c .before; store-set = c .store-set }; rs2 = record { given = g } }; at = record { given = g' } },
+              (
+                μ·0 (Row.get 1 (T11 .locals) (m10 (c .before .before .before .before .before .before .before .before .before .before .before .before .before .before .before .before .before .before .before
+                    .before .before .before .before .before .before .before) (After-width·gave (c .before .before .before .before .before .before .before .before .before .before .before .before .before .before
+                    .before .before .before .before .before .before .before .before .before .before .before))) .now) (Row.get 2 (T11 .locals) (m10 (c .before .before .before .before .before .before .before
+                    .before .before .before .before .before .before .before .before .before .before .before .before .before .before .before .before .before .before .before) (After-width·gave (c .before .before
+                    .before .before .before .before .before .before .before .before .before .before .before .before .before .before .before .before .before .before .before .before .before .before .before))))
+                    (Row.get 3 (T11 .locals) (m10 (c .before .before .before .before .before .before .before .before .before .before .before .before .before .before .before .before .before .before .before .before
+                    .before .before .before .before .before .before) (After-width·gave (c .before .before .before .before .before .before .before .before .before .before .before .before .before .before .before
+                    .before .before .before .before .before .before .before .before .before .before))) .now) (Row.get 4 (T11 .locals) (m10 (c .before .before .before .before .before .before .before .before
+                    .before .before .before .before .before .before .before .before .before .before .before .before .before .before .before .before .before .before) (After-width·gave (c .before .before .before
+                    .before .before .before .before .before .before .before .before .before .before .before .before .before .before .before .before .before .before .before .before .before .before)))) (Row.get 6
+                    (T11 .locals) (m10 (c .before .before .before .before .before .before .before .before .before .before .before .before .before .before .before .before .before .before .before .before .before
+                    .before .before .before .before .before) (After-width·gave (c .before .before .before .before .before .before .before .before .before .before .before .before .before .before .before .before
+                    .before .before .before .before .before .before .before .before .before))) .now) (Row.get 7 (T11 .locals) (m10 (c .before .before .before .before .before .before .before .before .before
+                    .before .before .before .before .before .before .before .before .before .before .before .before .before .before .before .before .before) (After-width·gave (c .before .before .before .before
+                    .before .before .before .before .before .before .before .before .before .before .before .before .before .before .before .before .before .before .before .before .before))) .now) (Row.get 9 (T11
+                    .locals) (m10 (c .before .before .before .before .before .before .before .before .before .before .before .before .before .before .before .before .before .before .before .before .before .before
+                    .before .before .before .before) (After-width·gave (c .before .before .before .before .before .before .before .before .before .before .before .before .before .before .before .before .before
+                    .before .before .before .before .before .before .before .before)))) (Row.get 10 (T11 .locals) (m10 (c .before .before .before .before .before .before .before .before .before .before .before
+                    .before .before .before .before .before .before .before .before .before .before .before .before .before .before .before) (After-width·gave (c .before .before .before .before .before .before
+                    .before .before .before .before .before .before .before .before .before .before .before .before .before .before .before .before .before .before .before)))) (Row.get 11 (T11 .locals) (m10 (c
+                    .before .before .before .before .before .before .before .before .before .before .before .before .before .before .before .before .before .before .before .before .before .before .before .before
+                    .before .before) (After-width·gave (c .before .before .before .before .before .before .before .before .before .before .before .before .before .before .before .before .before .before .before
+                    .before .before .before .before .before .before)))) (Row.get 12 (T11 .locals) (m10 (c .before .before .before .before .before .before .before .before .before .before .before .before .before
+                    .before .before .before .before .before .before .before .before .before .before .before .before .before) (After-width·gave (c .before .before .before .before .before .before .before .before
+                    .before .before .before .before .before .before .before .before .before .before .before .before .before .before .before .before .before)))) (Row.get 13 (T11 .locals) (m10 (c .before .before
+                    .before .before .before .before .before .before .before .before .before .before .before .before .before .before .before .before .before .before .before .before .before .before .before .before)
+                    (After-width·gave (c .before .before .before .before .before .before .before .before .before .before .before .before .before .before .before .before .before .before .before .before .before
+                    .before .before .before .before)))) (Row.get 14 (T11 .locals) (m10 (c .before .before .before .before .before .before .before .before .before .before .before .before .before .before .before
+                    .before .before .before .before .before .before .before .before .before .before .before) (After-width·gave (c .before .before .before .before .before .before .before .before .before .before
+                    .before .before .before .before .before .before .before .before .before .before .before .before .before .before .before)))) (Row.get 15 (T11 .locals) (m10 (c .before .before .before .before
+                    .before .before .before .before .before .before .before .before .before .before .before .before .before .before .before .before .before .before .before .before .before .before)
+                    (After-width·gave (c .before .before .before .before .before .before .before .before .before .before .before .before .before .before .before .before .before .before .before .before .before
+                    .before .before .before .before)))) (Row.get 3 (T11 .locals) (m71 record { before = record { before = c .before; store-set = c .store-set }; rs2 = record { given = g } } g') .now) (Row.get 6
+                    (T11 .locals) (m71 record { before = record { before = c .before; store-set = c .store-set }; rs2 = record { given = g } } g') .now) (Row.get 7 (T11 .locals) (m71 record
+                    { before = record { before = c .before; store-set = c .store-set }; rs2 = record { given = g } } g') .now) (Row.get 14 (T11 .locals) (m71 record
+                    { before = record { before = c .before; store-set = c .store-set }; rs2 = record { given = g } } g')) (Row.get 15 (T11 .locals) (m71 record
+                    { before = record { before = c .before; store-set = c .store-set }; rs2 = record { given = g } } g')),
+                loop-less record
+                    { before = record { before = record { before = c .before; store-set = c .store-set }; rs2 = record { given = g } }; at = record { given = g' } },
+                (
+                  (
+                    Row.get 3 (T11 .locals) (m71 record { before = record { before = c .before; store-set = c .store-set }; rs2 = record { given = g } } g') .now,
+                    Row.get 6 (T11 .locals) (m71 record
+                        { before = record { before = c .before; store-set = c .store-set }; rs2 = record { given = g } } g') .now,
+                    Row.get 7 (T11 .locals) (m71 record
+                        { before = record { before = c .before; store-set = c .store-set }; rs2 = record { given = g } } g') .now,
+                    Row.get 14 (T11 .locals) (m71 record
+                        { before = record { before = c .before; store-set = c .store-set }; rs2 = record { given = g } } g'),
+                    Row.get 15 (T11 .locals) (m71 record
+                        { before = record { before = c .before; store-set = c .store-set }; rs2 = record { given = g } } g'),
+                  ),
+                  Path'.refl {a = m71 record
+                      { before = record { before = c .before; store-set = c .store-set }; rs2 = record { given = g } } g'},
+                  loop-again record
+                      { before = record { before = record { before = c .before; store-set = c .store-set }; rs2 = record { given = g } }; at = record { given = g' } },
+                  Path'.refl {a = μ·0 (Row.get 1 (T11 .locals)
+                      (m10 (c .before .before .before .before .before .before .before .before .before .before .before .before .before .before .before .before .before .before .before .before .before .before .before
+                      .before .before .before) (After-width·gave (c .before .before .before .before .before .before .before .before .before .before .before .before .before .before .before .before .before .before
+                      .before .before .before .before .before .before .before))) .now) (Row.get 2 (T11 .locals) (m10 (c .before .before .before .before .before .before .before .before .before .before .before
+                      .before .before .before .before .before .before .before .before .before .before .before .before .before .before .before) (After-width·gave (c .before .before .before .before .before .before
+                      .before .before .before .before .before .before .before .before .before .before .before .before .before .before .before .before .before .before .before)))) (Row.get 3 (T11 .locals) (m10 (c
+                      .before .before .before .before .before .before .before .before .before .before .before .before .before .before .before .before .before .before .before .before .before .before .before .before
+                      .before .before) (After-width·gave (c .before .before .before .before .before .before .before .before .before .before .before .before .before .before .before .before .before .before .before
+                      .before .before .before .before .before .before))) .now) (Row.get 4 (T11 .locals) (m10 (c .before .before .before .before .before .before .before .before .before .before .before .before
+                      .before .before .before .before .before .before .before .before .before .before .before .before .before .before) (After-width·gave (c .before .before .before .before .before .before .before
+                      .before .before .before .before .before .before .before .before .before .before .before .before .before .before .before .before .before .before)))) (Row.get 6 (T11 .locals) (m10 (c .before
+                      .before .before .before .before .before .before .before .before .before .before .before .before .before .before .before .before .before .before .before .before .before .before .before .before
+                      .before) (After-width·gave (c .before .before .before .before .before .before .before .before .before .before .before .before .before .before .before .before .before .before .before .before
+                      .before .before .before .before .before))) .now) (Row.get 7 (T11 .locals) (m10 (c .before .before .before .before .before .before .before .before .before .before .before .before .before
+                      .before .before .before .before .before .before .before .before .before .before .before .before .before) (After-width·gave (c .before .before .before .before .before .before .before .before
+                      .before .before .before .before .before .before .before .before .before .before .before .before .before .before .before .before .before))) .now) (Row.get 9 (T11 .locals) (m10 (c .before
+                      .before .before .before .before .before .before .before .before .before .before .before .before .before .before .before .before .before .before .before .before .before .before .before .before
+                      .before) (After-width·gave (c .before .before .before .before .before .before .before .before .before .before .before .before .before .before .before .before .before .before .before .before
+                      .before .before .before .before .before)))) (Row.get 10 (T11 .locals) (m10 (c .before .before .before .before .before .before .before .before .before .before .before .before .before .before
+                      .before .before .before .before .before .before .before .before .before .before .before .before) (After-width·gave (c .before .before .before .before .before .before .before .before .before
+                      .before .before .before .before .before .before .before .before .before .before .before .before .before .before .before .before)))) (Row.get 11 (T11 .locals) (m10 (c .before .before .before
+                      .before .before .before .before .before .before .before .before .before .before .before .before .before .before .before .before .before .before .before .before .before .before .before)
+                      (After-width·gave (c .before .before .before .before .before .before .before .before .before .before .before .before .before .before .before .before .before .before .before .before .before
+                      .before .before .before .before)))) (Row.get 12 (T11 .locals) (m10 (c .before .before .before .before .before .before .before .before .before .before .before .before .before .before .before
+                      .before .before .before .before .before .before .before .before .before .before .before) (After-width·gave (c .before .before .before .before .before .before .before .before .before .before
+                      .before .before .before .before .before .before .before .before .before .before .before .before .before .before .before)))) (Row.get 13 (T11 .locals) (m10 (c .before .before .before .before
+                      .before .before .before .before .before .before .before .before .before .before .before .before .before .before .before .before .before .before .before .before .before .before)
+                      (After-width·gave (c .before .before .before .before .before .before .before .before .before .before .before .before .before .before .before .before .before .before .before .before .before
+                      .before .before .before .before)))) (Row.get 14 (T11 .locals) (m10 (c .before .before .before .before .before .before .before .before .before .before .before .before .before .before .before
+                      .before .before .before .before .before .before .before .before .before .before .before) (After-width·gave (c .before .before .before .before .before .before .before .before .before .before
+                      .before .before .before .before .before .before .before .before .before .before .before .before .before .before .before)))) (Row.get 15 (T11 .locals) (m10 (c .before .before .before .before
+                      .before .before .before .before .before .before .before .before .before .before .before .before .before .before .before .before .before .before .before .before .before .before)
+                      (After-width·gave (c .before .before .before .before .before .before .before .before .before .before .before .before .before .before .before .before .before .before .before .before .before
+                      .before .before .before .before)))) (Row.get 3 (T11 .locals) (m71 record { before = record { before = c .before; store-set = c .store-set }; rs2 = record { given = g } } g') .now) (Row.get 6
+                      (T11 .locals) (m71 record { before = record { before = c .before; store-set = c .store-set }; rs2 = record { given = g } } g') .now) (Row.get 7 (T11 .locals) (m71 record
+                      { before = record { before = c .before; store-set = c .store-set }; rs2 = record { given = g } } g') .now) (Row.get 14 (T11 .locals) (m71 record
+                      { before = record { before = c .before; store-set = c .store-set }; rs2 = record { given = g } } g')) (Row.get 15 (T11 .locals) (m71 record
+                      { before = record { before = c .before; store-set = c .store-set }; rs2 = record { given = g } } g'))},
+                ),
+              ),
+            ),
+          ),
+        )
 
         lay10 : (c : Else1) → at36 (c .before .before .before .before .before .before .before .before .before .before .before .before .before .before .before .before .before .before .before .before
             .before .before .before .before .before .before .blocks) (W3 (c .before .before .before .before .before .before .before .before .before .before .before .before .before .before .before .before
@@ -4163,16 +4789,25 @@ module _ (claims· : Claims) where
             .before .before .loop .rs) (c .before .before .before .before .before .before .before .before .before .before .before .before .before .before .before .before .before .before .before .before
             .before .loop .at) (c .before .before .before .before .before .before .before .before .before .before .before .before .before .before .before .before .before .before .before .before .before
             .loop .i)) (m59 (c .before))
-        lay10 = λ c.
-            (tt, λ g. λ g'.
-            (Path'.refl,
-            (store-set-requires record { before = record { before = record { before = c .before; if1 = c .if1 }; new = record { given = g }; }; store-set-arg = record { given = g' }; }, λ g''. lay11
-            record
-            { before = record { before = record { before = record { before = c .before; if1 = c .if1 }; new = record { given = g }; }; store-set-arg = record { given = g' }; }; store-set = Called.called
-            ps·5 r·5 (claims· .11) T81
-            (record { pos = 34; ty = Syntax.tyRef Syntax.erased Syntax.mut Element.behind; ref = λ x. x; },
-            (Num.vFld 16 (List._∷_ (Syntax.field 2) List.[]) 16 λ x. Plan.struct .as-values x .1 .1 .0, (record { pos = 20; st = List.[]; d = 0; at = λ x. x }, tt))) (m62 record
-            { before = record { before = c .before; if1 = c .if1 }; new = record { given = g }; } g') g''; })))
+        lay10 = λ c. (
+          tt,
+          λ g. λ g'. (
+            Path'.refl,
+            (
+              store-set-requires record { before = record { before = record { before = c .before; if1 = c .if1 }; new = record { given = g } }; store-set-arg = record { given = g' } },
+              λ g''. lay11
+                  record {
+                    before = record { before = record { before = record { before = c .before; if1 = c .if1 }; new = record { given = g } }; store-set-arg = record { given = g' } };
+                    store-set = Called.called
+                        ps·5 r·5 (claims· .11) T81 (
+                          record { pos = 34; ty = Syntax.tyRef Syntax.erased Syntax.mut Element.behind; ref = λ x. x },
+                          (Num.vFld 16 (List._∷_ (Syntax.field 2) List.[]) 16 λ x. Plan.struct .as-values x .1 .1 .0, (record { pos = 20; st = List.[]; d = 0; at = λ x. x }, tt)),
+                        ) (m62 record
+                        { before = record { before = c .before; if1 = c .if1 }; new = record { given = g } } g') g'';
+                  },
+            ),
+          ),
+        )
 
         lay9 : (c : After-write-pass) → at49 (c .before .before .before .before .before .before .before .before .before .before .before .before .before .before .before .before .before .before .before
             .before .before .blocks) (W3 (c .before .before .before .before .before .before .before .before .before .before .before .before .before .before .before .before .before) (c .before .before
@@ -4180,143 +4815,291 @@ module _ (claims· : Claims) where
             .before .before .before .before .before .before .before .before .loop .lines) (c .before .before .before .before .before .before .before .before .before .before .before .before .before .before
             .before .before .loop .rs) (c .before .before .before .before .before .before .before .before .before .before .before .before .before .before .before .before .loop .at) (c .before .before
             .before .before .before .before .before .before .before .before .before .before .before .before .before .before .loop .i)) (m37 (c .before) (After-write-pass·gave c))
-        lay9 = λ c.
-            (Path'.refl, λ g. λ g'.
-            (Path'.refl, λ g''. λ g'3.
-            (tt,
-            (λ taken.
-            ((Path'.refl,
-            (tt,
-            (MutSlice.fix-len (Row.get 3 (T76 .locals) (m58 record
-            { before = record
-            { before = record { before = record { before = record { before = c .before; write-pass = c .write-pass; }; out = record { given = g }; }; slice-known5 = record { given = g' }; }; lines3 =
-            record { given = g'' }; }; slice-known6 = record { given = g'3 }; }) .ptr) (Row.get 3 (T76 .locals) (m58 record
-            { before = record
-            { before = record { before = record { before = record { before = c .before; write-pass = c .write-pass; }; out = record { given = g }; }; slice-known5 = record { given = g' }; }; lines3 =
-            record { given = g'' }; }; slice-known6 = record { given = g'3 }; }) .name) (Row.get 3 (T76 .locals) (m58 record
-            { before = record
-            { before = record { before = record { before = record { before = c .before; write-pass = c .write-pass; }; out = record { given = g }; }; slice-known5 = record { given = g' }; }; lines3 =
-            record { given = g'' }; }; slice-known6 = record { given = g'3 }; }) .now) (dens (c .before .before .before .before .before .before .before .before .before .before .before .before .before
-            .before .before .before .before .before .before .before .before .κs) (c .before .before .before .before .before .before .before .before .before .before .before .before .before .before .before
-            .before .before .before .before .before .before .args) .1 .1 .0 .now) (same-length record
-            { before = record
-            { before = record
-            { before = record { before = record { before = record { before = c .before; write-pass = c .write-pass; }; out = record { given = g }; }; slice-known5 = record { given = g' }; }; lines3 =
-            record { given = g'' }; }; slice-known6 = record { given = g'3 }; }; if1 = record { taken = taken }; }),
-            (tt,
-            (tt,
-            (MutSlice.fix-len (Row.get 6 (T76 .locals) (m58 record
-            { before = record
-            { before = record { before = record { before = record { before = c .before; write-pass = c .write-pass; }; out = record { given = g }; }; slice-known5 = record { given = g' }; }; lines3 =
-            record { given = g'' }; }; slice-known6 = record { given = g'3 }; }) .ptr) (Row.get 6 (T76 .locals) (m58 record
-            { before = record
-            { before = record { before = record { before = record { before = c .before; write-pass = c .write-pass; }; out = record { given = g }; }; slice-known5 = record { given = g' }; }; lines3 =
-            record { given = g'' }; }; slice-known6 = record { given = g'3 }; }) .name) (Row.get 6 (T76 .locals) (m58 record
-            { before = record
-            { before = record { before = record { before = record { before = c .before; write-pass = c .write-pass; }; out = record { given = g }; }; slice-known5 = record { given = g' }; }; lines3 =
-            record { given = g'' }; }; slice-known6 = record { given = g'3 }; }) .now) (dens (c .before .before .before .before .before .before .before .before .before .before .before .before .before
-            .before .before .before .before .before .before .before .before .κs) (c .before .before .before .before .before .before .before .before .before .before .before .before .before .before .before
-            .before .before .before .before .before .before .args) .1 .1 .1 .1 .1 .0 .now) (same-length-2 record
-            { before = record
-            { before = record
-            { before = record { before = record { before = record { before = c .before; write-pass = c .write-pass; }; out = record { given = g }; }; slice-known5 = record { given = g' }; }; lines3 =
-            record { given = g'' }; }; slice-known6 = record { given = g'3 }; }; if1 = record { taken = taken }; }),
-            (MutSlice.fix-len (Row.get 7 (T76 .locals) (m58 record
-            { before = record
-            { before = record { before = record { before = record { before = c .before; write-pass = c .write-pass; }; out = record { given = g }; }; slice-known5 = record { given = g' }; }; lines3 =
-            record { given = g'' }; }; slice-known6 = record { given = g'3 }; }) .ptr) (Row.get 7 (T76 .locals) (m58 record
-            { before = record
-            { before = record { before = record { before = record { before = c .before; write-pass = c .write-pass; }; out = record { given = g }; }; slice-known5 = record { given = g' }; }; lines3 =
-            record { given = g'' }; }; slice-known6 = record { given = g'3 }; }) .name) (Row.get 7 (T76 .locals) (m58 record
-            { before = record
-            { before = record { before = record { before = record { before = c .before; write-pass = c .write-pass; }; out = record { given = g }; }; slice-known5 = record { given = g' }; }; lines3 =
-            record { given = g'' }; }; slice-known6 = record { given = g'3 }; }) .now) (dens (c .before .before .before .before .before .before .before .before .before .before .before .before .before
-            .before .before .before .before .before .before .before .before .κs) (c .before .before .before .before .before .before .before .before .before .before .before .before .before .before .before
-            .before .before .before .before .before .before .args) .1 .1 .1 .1 .1 .1 .0 .now) (same-length-3 record
-            { before = record
-            { before = record
-            { before = record { before = record { before = record { before = c .before; write-pass = c .write-pass; }; out = record { given = g }; }; slice-known5 = record { given = g' }; }; lines3 =
-            record { given = g'' }; }; slice-known6 = record { given = g'3 }; }; if1 = record { taken = taken }; }), (tt, (tt, (tt, tt)))))))))), returns record
-            { before = record
-            { before = record
-            { before = record { before = record { before = record { before = c .before; write-pass = c .write-pass }; out = record { given = g }; }; slice-known5 = record { given = g' }; }; lines3 =
-            record { given = g'' }; }; slice-known6 = record { given = g'3 }; }; if1 = record { taken = taken }; }), λ left. lay10 record
-            { before = record
-            { before = record
-            { before = record { before = record { before = record { before = c .before; write-pass = c .write-pass }; out = record { given = g }; }; slice-known5 = record { given = g' }; }; lines3 =
-            record { given = g'' }; }; slice-known6 = record { given = g'3 }; }; if1 = record { left = left }; }))))
+        lay9 = λ c. (
+          Path'.refl,
+          λ g. λ g'. (
+            Path'.refl,
+            λ g''. λ g'3. (
+              tt,
+              (
+                λ taken. (
+                  (
+                    Path'.refl,
+                    (
+                      tt,
+                      (
+                        MutSlice.fix-len (Row.get 3 (T76 .locals) (m58 record {
+                          before = record {
+                            before = record { before = record { before = record { before = c .before; write-pass = c .write-pass }; out = record { given = g } }; slice-known5 = record { given = g' } };
+                            lines3 =
+                                record { given = g'' };
+                          };
+                          slice-known6 = record { given = g'3 };
+                        }) .ptr) (Row.get 3 (T76 .locals) (m58 record {
+                          before = record {
+                            before = record { before = record { before = record { before = c .before; write-pass = c .write-pass }; out = record { given = g } }; slice-known5 = record { given = g' } };
+                            lines3 =
+                                record { given = g'' };
+                          };
+                          slice-known6 = record { given = g'3 };
+                        }) .name) (Row.get 3 (T76 .locals) (m58 record {
+                          before = record {
+                            before = record { before = record { before = record { before = c .before; write-pass = c .write-pass }; out = record { given = g } }; slice-known5 = record { given = g' } };
+                            lines3 =
+                                record { given = g'' };
+                          };
+                          slice-known6 = record { given = g'3 };
+                        }) .now) (dens (c .before .before .before .before .before .before .before .before .before .before .before .before .before
+                            .before .before .before .before .before .before .before .before .κs) (c .before .before .before .before .before .before .before .before .before .before .before .before .before .before .before
+                            .before .before .before .before .before .before .args) .1 .1 .0 .now) (same-length record {
+                              before = record {
+                                before = record {
+                                  before = record { before = record { before = record { before = c .before; write-pass = c .write-pass }; out = record { given = g } }; slice-known5 = record { given = g' } };
+                                  lines3 =
+                                      record { given = g'' };
+                                };
+                                slice-known6 = record { given = g'3 };
+                              };
+                              if1 = record { taken = taken };
+                            }),
+                        (
+                          tt,
+                          (
+                            tt,
+                            (
+                              MutSlice.fix-len (Row.get 6 (T76 .locals) (m58 record {
+                                before = record {
+                                  before = record { before = record { before = record { before = c .before; write-pass = c .write-pass }; out = record { given = g } }; slice-known5 = record { given = g' } };
+                                  lines3 =
+                                      record { given = g'' };
+                                };
+                                slice-known6 = record { given = g'3 };
+                              }) .ptr) (Row.get 6 (T76 .locals) (m58 record {
+                                before = record {
+                                  before = record { before = record { before = record { before = c .before; write-pass = c .write-pass }; out = record { given = g } }; slice-known5 = record { given = g' } };
+                                  lines3 =
+                                      record { given = g'' };
+                                };
+                                slice-known6 = record { given = g'3 };
+                              }) .name) (Row.get 6 (T76 .locals) (m58 record {
+                                before = record {
+                                  before = record { before = record { before = record { before = c .before; write-pass = c .write-pass }; out = record { given = g } }; slice-known5 = record { given = g' } };
+                                  lines3 =
+                                      record { given = g'' };
+                                };
+                                slice-known6 = record { given = g'3 };
+                              }) .now) (dens (c .before .before .before .before .before .before .before .before .before .before .before .before .before
+                                  .before .before .before .before .before .before .before .before .κs) (c .before .before .before .before .before .before .before .before .before .before .before .before .before .before .before
+                                  .before .before .before .before .before .before .args) .1 .1 .1 .1 .1 .0 .now) (same-length-2 record {
+                                    before = record {
+                                      before = record {
+                                        before = record { before = record { before = record { before = c .before; write-pass = c .write-pass }; out = record { given = g } }; slice-known5 = record { given = g' } };
+                                        lines3 =
+                                            record { given = g'' };
+                                      };
+                                      slice-known6 = record { given = g'3 };
+                                    };
+                                    if1 = record { taken = taken };
+                                  }),
+                              (
+                                MutSlice.fix-len (Row.get 7 (T76 .locals) (m58 record {
+                                  before = record {
+                                    before = record { before = record { before = record { before = c .before; write-pass = c .write-pass }; out = record { given = g } }; slice-known5 = record { given = g' } };
+                                    lines3 =
+                                        record { given = g'' };
+                                  };
+                                  slice-known6 = record { given = g'3 };
+                                }) .ptr) (Row.get 7 (T76 .locals) (m58 record {
+                                  before = record {
+                                    before = record { before = record { before = record { before = c .before; write-pass = c .write-pass }; out = record { given = g } }; slice-known5 = record { given = g' } };
+                                    lines3 =
+                                        record { given = g'' };
+                                  };
+                                  slice-known6 = record { given = g'3 };
+                                }) .name) (Row.get 7 (T76 .locals) (m58 record {
+                                  before = record {
+                                    before = record { before = record { before = record { before = c .before; write-pass = c .write-pass }; out = record { given = g } }; slice-known5 = record { given = g' } };
+                                    lines3 =
+                                        record { given = g'' };
+                                  };
+                                  slice-known6 = record { given = g'3 };
+                                }) .now) (dens (c .before .before .before .before .before .before .before .before .before .before .before .before .before
+                                    .before .before .before .before .before .before .before .before .κs) (c .before .before .before .before .before .before .before .before .before .before .before .before .before .before .before
+                                    .before .before .before .before .before .before .args) .1 .1 .1 .1 .1 .1 .0 .now) (same-length-3 record {
+                                      before = record {
+                                        before = record {
+                                          before = record { before = record { before = record { before = c .before; write-pass = c .write-pass }; out = record { given = g } }; slice-known5 = record { given = g' } };
+                                          lines3 =
+                                              record { given = g'' };
+                                        };
+                                        slice-known6 = record { given = g'3 };
+                                      };
+                                      if1 = record { taken = taken };
+                                    }),
+                                (tt, (tt, (tt, tt))),
+                              ),
+                            ),
+                          ),
+                        ),
+                      ),
+                    ),
+                  ),
+                  returns record {
+                    before = record {
+                      before = record {
+                        before = record { before = record { before = record { before = c .before; write-pass = c .write-pass }; out = record { given = g } }; slice-known5 = record { given = g' } };
+                        lines3 =
+                            record { given = g'' };
+                      };
+                      slice-known6 = record { given = g'3 };
+                    };
+                    if1 = record { taken = taken };
+                  },
+                ),
+                λ left. lay10 record {
+                  before = record {
+                    before = record {
+                      before = record { before = record { before = record { before = c .before; write-pass = c .write-pass }; out = record { given = g } }; slice-known5 = record { given = g' } };
+                      lines3 =
+                          record { given = g'' };
+                    };
+                    slice-known6 = record { given = g'3 };
+                  };
+                  if1 = record { left = left };
+                },
+              ),
+            ),
+          ),
+        )
 
         lay8 : (c : After-load-set) → at59 (c .before .before .before .before .before .before .before .before .before .before .before .before .before .before .before .before .before .blocks) (W3 (c
             .before .before .before .before .before .before .before .before .before .before .before .before .before) (c .before .before .before .before .before .before .before .before .before .before
             .before .before .loop .out) (c .before .before .before .before .before .before .before .before .before .before .before .before .loop .lines) (c .before .before .before .before .before .before
             .before .before .before .before .before .before .loop .rs) (c .before .before .before .before .before .before .before .before .before .before .before .before .loop .at) (c .before .before
             .before .before .before .before .before .before .before .before .before .before .loop .i)) (m31 (c .before) (After-load-set·gave c))
-        lay8 = λ c.
-            (Path'.refl, λ g. λ g'.
-            (Path'.refl, λ g''.
-            (Path'.refl,
-            (write-pass-requires record
-            { before = record { before = record { before = record { before = c .before; load-set = c .load-set }; rs = record { given = g }; }; write-pass-arg = record { given = g' }; }; write-pass-arg2 =
-            record { given = g'' }; }, λ g'3. lay9 record
-            { before = record
-            { before = record { before = record { before = record { before = c .before; load-set = c .load-set }; rs = record { given = g }; }; write-pass-arg = record { given = g' }; }; write-pass-arg2 =
-            record { given = g'' }; }; write-pass = Called.called ps·4 r·4 (claims· .9) T49
-            (record { pos = 1; ty = Syntax.tyRef (Syntax.named 0) Syntax.imm (Syntax.tyInt Syntax.w16); ref = λ x. x; },
-            (Num.vAt 2 λ x. x,
-            (record { pos = 30; ty = Syntax.tyRef Syntax.erased Syntax.mut (Syntax.tyInt Syntax.w8); ref = λ x. x; },
-            (Bool.bAt 4 λ x. x,
-            (record { pos = 14; st = List.[]; d = 0; at = λ x. x },
-            (record { pos = 32; ty = Syntax.tyRef Syntax.erased Syntax.mut (Syntax.tyInt Syntax.w16); ref = λ x. x; },
-            (record { pos = 17; st = List.[]; d = 0; at = λ x. x },
-            (Num.vAt 13 λ x. x, (record { pos = 16; st = List.[]; d = 0; at = λ x. x }, (record { pos = 9; st = List.[]; d = 0; at = λ x. x }, (Num.vAt 11 λ x. x, (Bool.bAt 10 λ x. x, tt)))))))))))) (m36
-            record { before = record { before = record { before = c .before; load-set = c .load-set }; rs = record { given = g }; }; write-pass-arg = record { given = g' }; } g'') g'3; }))))
+        lay8 = λ c. (
+          Path'.refl,
+          λ g. λ g'. (
+            Path'.refl,
+            λ g''. (
+              Path'.refl,
+              (
+                write-pass-requires record {
+                  before = record { before = record { before = record { before = c .before; load-set = c .load-set }; rs = record { given = g } }; write-pass-arg = record { given = g' } };
+                  write-pass-arg2 =
+                      record { given = g'' };
+                },
+                λ g'3. lay9 record {
+                  before = record {
+                    before = record { before = record { before = record { before = c .before; load-set = c .load-set }; rs = record { given = g } }; write-pass-arg = record { given = g' } };
+                    write-pass-arg2 =
+                        record { given = g'' };
+                  };
+                  write-pass = Called.called ps·4 r·4 (claims· .9) T49 (
+                    record { pos = 1; ty = Syntax.tyRef (Syntax.named 0) Syntax.imm (Syntax.tyInt Syntax.w16); ref = λ x. x },
+                    (
+                      Num.vAt 2 λ x. x,
+                      (
+                        record { pos = 30; ty = Syntax.tyRef Syntax.erased Syntax.mut (Syntax.tyInt Syntax.w8); ref = λ x. x },
+                        (
+                          Bool.bAt 4 λ x. x,
+                          (
+                            record { pos = 14; st = List.[]; d = 0; at = λ x. x },
+                            (
+                              record { pos = 32; ty = Syntax.tyRef Syntax.erased Syntax.mut (Syntax.tyInt Syntax.w16); ref = λ x. x },
+                              (
+                                record { pos = 17; st = List.[]; d = 0; at = λ x. x },
+                                (Num.vAt 13 λ x. x, (record { pos = 16; st = List.[]; d = 0; at = λ x. x }, (record { pos = 9; st = List.[]; d = 0; at = λ x. x }, (Num.vAt 11 λ x. x, (Bool.bAt 10 λ x. x, tt))))),
+                              ),
+                            ),
+                          ),
+                        ),
+                      ),
+                    ),
+                  ) (m36
+                      record { before = record { before = record { before = c .before; load-set = c .load-set }; rs = record { given = g } }; write-pass-arg = record { given = g' } } g'') g'3;
+                },
+              ),
+            ),
+          ),
+        )
 
         lay7 : (c : After-set-guards2) → at68 (c .before .before .before .before .before .before .before .before .before .before .before .before .before .blocks) (W3 (c .before .before .before .before
             .before .before .before .before .before) (c .before .before .before .before .before .before .before .before .loop .out) (c .before .before .before .before .before .before .before .before .loop
             .lines) (c .before .before .before .before .before .before .before .before .loop .rs) (c .before .before .before .before .before .before .before .before .loop .at) (c .before .before .before
             .before .before .before .before .before .loop .i)) (m25 (c .before) (After-set-guards2·gave c))
-        lay7 = λ c.
-            (Path'.refl, λ g. λ g'. λ g''.
-            (Path'.refl,
-            (load-set-requires record
-            { before = record { before = record { before = record { before = c .before; set-guards2 = c .set-guards2 }; lines2 = record { given = g }; }; slice-known4 = record { given = g' }; };
-            load-set-arg = record { given = g'' }; }, λ g'3. lay8 record
-            { before = record
-            { before = record { before = record { before = record { before = c .before; set-guards2 = c .set-guards2 }; lines2 = record { given = g }; }; slice-known4 = record { given = g' }; };
-            load-set-arg = record { given = g'' }; }; load-set = Called.called ps·3 r·3 (claims· .7) T39
-            (record { pos = 28; ty = Syntax.tyRef Syntax.erased Syntax.mut Element.behind; ref = λ x. x; }, (Num.vFld 16 (List._∷_ (Syntax.field 2) List.[]) 16 λ x. Plan.struct .as-values x .1 .1 .0, tt))
-            (m30 record { before = record { before = record { before = c .before; set-guards2 = c .set-guards2 }; lines2 = record { given = g }; }; slice-known4 = record { given = g' }; } g'') g'3; })))
+        lay7 = λ c. (
+          Path'.refl,
+          λ g. λ g'. λ g''. (
+            Path'.refl,
+            (
+              load-set-requires record {
+                before = record { before = record { before = record { before = c .before; set-guards2 = c .set-guards2 }; lines2 = record { given = g } }; slice-known4 = record { given = g' } };
+                load-set-arg = record { given = g'' };
+              },
+              λ g'3. lay8 record {
+                before = record {
+                  before = record { before = record { before = record { before = c .before; set-guards2 = c .set-guards2 }; lines2 = record { given = g } }; slice-known4 = record { given = g' } };
+                  load-set-arg = record { given = g'' };
+                };
+                load-set = Called.called ps·3 r·3 (claims· .7) T39
+                    (record { pos = 28; ty = Syntax.tyRef Syntax.erased Syntax.mut Element.behind; ref = λ x. x }, (Num.vFld 16 (List._∷_ (Syntax.field 2) List.[]) 16 λ x. Plan.struct .as-values x .1 .1 .0, tt))
+                    (m30 record { before = record { before = record { before = c .before; set-guards2 = c .set-guards2 }; lines2 = record { given = g } }; slice-known4 = record { given = g' } } g'') g'3;
+              },
+            ),
+          ),
+        )
 
         lay6 : (c : After-set-guards) → at77 (c .before .before .before .before .before .before .before .before .before .blocks) (W3 (c .before .before .before .before .before) (c .before .before
             .before .before .loop .out) (c .before .before .before .before .loop .lines) (c .before .before .before .before .loop .rs) (c .before .before .before .before .loop .at) (c .before .before
             .before .before .loop .i)) (m19 (c .before) (After-set-guards·gave c))
-        lay6 = λ c.
-            (Path'.refl, λ g. λ g'. λ g''.
-            (Path'.refl,
-            (set-guards-requires-2 record
-            { before = record { before = record { before = record { before = c .before; set-guards = c .set-guards }; lines = record { given = g }; }; slice-known3 = record { given = g' }; };
-            set-guards-arg2 = record { given = g'' }; }, λ g'3. lay7 record
-            { before = record
-            { before = record { before = record { before = record { before = c .before; set-guards = c .set-guards }; lines = record { given = g }; }; slice-known3 = record { given = g' }; };
-            set-guards-arg2 = record { given = g'' }; }; set-guards2 = Called.called ps·2 r·2 (claims· .5) T30
-            (record { pos = 26; ty = Syntax.tyRef Syntax.erased Syntax.mut (Syntax.tyInt Syntax.w16); ref = λ x. x; },
-            (Num.vAt 13 λ x. x, (Num.vFld 16 (List._∷_ (Syntax.field 1) List.[]) 8 λ x. Plan.struct .as-values x .1 .0, tt))) (m24 record
-            { before = record { before = record { before = c .before; set-guards = c .set-guards }; lines = record { given = g }; }; slice-known3 = record { given = g' }; } g'') g'3; })))
+        lay6 = λ c. (
+          Path'.refl,
+          λ g. λ g'. λ g''. (
+            Path'.refl,
+            (
+              set-guards-requires-2 record {
+                before = record { before = record { before = record { before = c .before; set-guards = c .set-guards }; lines = record { given = g } }; slice-known3 = record { given = g' } };
+                set-guards-arg2 = record { given = g'' };
+              },
+              λ g'3. lay7 record {
+                before = record {
+                  before = record { before = record { before = record { before = c .before; set-guards = c .set-guards }; lines = record { given = g } }; slice-known3 = record { given = g' } };
+                  set-guards-arg2 = record { given = g'' };
+                };
+                set-guards2 = Called.called ps·2 r·2 (claims· .5) T30 (
+                  record { pos = 26; ty = Syntax.tyRef Syntax.erased Syntax.mut (Syntax.tyInt Syntax.w16); ref = λ x. x },
+                  (Num.vAt 13 λ x. x, (Num.vFld 16 (List._∷_ (Syntax.field 1) List.[]) 8 λ x. Plan.struct .as-values x .1 .0, tt)),
+                ) (m24 record
+                    { before = record { before = record { before = c .before; set-guards = c .set-guards }; lines = record { given = g } }; slice-known3 = record { given = g' } } g'') g'3;
+              },
+            ),
+          ),
+        )
 
         lay5 : (c : After-plan-at) → at81 (c .before .before .before .before .before .before .before .blocks) (W3 (c .before .before .before) (c .before .before .loop .out) (c .before .before .loop
             .lines) (c .before .before .loop .rs) (c .before .before .loop .at) (c .before .before .loop .i)) (m16 (c .before) (After-plan-at·gave c))
-        lay5 = λ c. λ g.
-            (Path'.refl,
-            (set-guards-requires record { before = record { before = c .before; plan-at = c .plan-at }; set-guards-arg = record { given = g }; }, λ g'. lay6 record
-            { before = record { before = record { before = c .before; plan-at = c .plan-at }; set-guards-arg = record { given = g }; }; set-guards = Called.called ps·2 r·2 (claims· .5) T21
-            (record { pos = 24; ty = Syntax.tyRef Syntax.erased Syntax.mut (Syntax.tyInt Syntax.w16); ref = λ x. x; },
-            (Num.vAt 13 λ x. x, (Num.vFld 16 (List._∷_ (Syntax.field 0) List.[]) 0 λ x. Plan.struct .as-values x .0, tt))) (m18 record { before = c .before; plan-at = c .plan-at } g) g'; }))
+        lay5 = λ c. λ g. (
+          Path'.refl,
+          (
+            set-guards-requires record { before = record { before = c .before; plan-at = c .plan-at }; set-guards-arg = record { given = g } },
+            λ g'. lay6 record {
+              before = record { before = record { before = c .before; plan-at = c .plan-at }; set-guards-arg = record { given = g } };
+              set-guards = Called.called ps·2 r·2 (claims· .5) T21 (
+                record { pos = 24; ty = Syntax.tyRef Syntax.erased Syntax.mut (Syntax.tyInt Syntax.w16); ref = λ x. x },
+                (Num.vAt 13 λ x. x, (Num.vFld 16 (List._∷_ (Syntax.field 0) List.[]) 0 λ x. Plan.struct .as-values x .0, tt)),
+              ) (m18 record { before = c .before; plan-at = c .plan-at } g) g';
+            },
+          ),
+        )
 
         lay4 : (c : In-loop) → at82 (c .before .before .before .before .before .before .blocks) (W3 (c .before .before) (c .before .loop .out) (c .before .loop .lines) (c .before .loop .rs) (c .before
             .loop .at) (c .before .loop .i)) (m13 (c .before))
-        lay4 = λ c.
-            (plan-at-requires record { before = c .before; loop-test = c .loop-test }, λ g. lay5 record
-            { before = record { before = c .before; loop-test = c .loop-test }; plan-at = Called.called ps·1 r·1 (claims· .3) T14 (Num.vAt 15 λ x. x, (Bool.bAt 12 λ x. x, tt)) (m13 (c .before)) g; })
+        lay4 = λ c. (
+          plan-at-requires record { before = c .before; loop-test = c .loop-test },
+          λ g. lay5 record
+              { before = record { before = c .before; loop-test = c .loop-test }; plan-at = Called.called ps·1 r·1 (claims· .3) T14 (Num.vAt 15 λ x. x, (Bool.bAt 12 λ x. x, tt)) (m13 (c .before)) g },
+        )
 
         lay3 : (c : After-loop) → at4 (c .before .before .before .before .before .before .blocks) (W4 (c .before .before) (c .before .loop .out) (c .before .loop .lines) (c .before .loop .rs) (c
             .before .loop .at) (c .before .loop .i)) (m12 (c .before .before) (c .before .loop .out) (c .before .loop .lines) (c .before .loop .rs) (c .before .loop .at) (c .before .loop .i))
@@ -4328,34 +5111,73 @@ module _ (claims· : Claims) where
 
         lay1 : (c : After-width) → at100 (c .before .before .before .before .blocks) (W0 (c .before .before .before .before .κs) (c .before .before .before .before .args) (c .before .before .before
             .before .blocks)) (m7 (c .before) (After-width·gave c))
-        lay1 = λ c.
-            (((Row.get 3 (T11 .locals) (m10 (c .before) (After-width·gave c)) .now, Row.get 6 (T11 .locals) (m10 (c .before) (After-width·gave c)) .now, Row.get 7 (T11 .locals) (m10 (c .before)
-            (After-width·gave c)) .now, Row.get 14 (T11 .locals) (m10 (c .before) (After-width·gave c)), Row.get 15 (T11 .locals) (m10 (c .before) (After-width·gave c))), Path'.refl {a = m10 (c .before)
-            (After-width·gave c)}, loop-holds record { before = c .before; width = c .width }), λ vs inv.
-            (tt,
-            (λ taken. lay2 record
-            { before = record { before = record { before = c .before; width = c .width }; loop = record { out = vs .0; lines = vs .1; rs = vs .2; at = vs .3; i = vs .4; inv = inv; }; }; loop-test = record
-            { taken = Tests.ltb-true (Row.get 15 (T11 .locals) (m11 record { before = c .before; width = c .width; } (vs .0) (vs .1) (vs .2) (vs .3) (vs .4))) 6 taken; }; }, λ left. lay3 record
-            { before = record { before = record { before = c .before; width = c .width }; loop = record { out = vs .0; lines = vs .1; rs = vs .2; at = vs .3; i = vs .4; inv = inv; }; }; loop-test = record
-            { left = Tests.ltb-false (Row.get 15 (T11 .locals) (m11 record { before = c .before; width = c .width; } (vs .0) (vs .1) (vs .2) (vs .3) (vs .4))) 6 left; }; })))
+        lay1 = λ c. (
+          (
+            (
+              Row.get 3 (T11 .locals) (m10 (c .before) (After-width·gave c)) .now,
+              Row.get 6 (T11 .locals) (m10 (c .before) (After-width·gave c)) .now,
+              Row.get 7 (T11 .locals) (m10 (c .before)
+                  (After-width·gave c)) .now,
+              Row.get 14 (T11 .locals) (m10 (c .before) (After-width·gave c)),
+              Row.get 15 (T11 .locals) (m10 (c .before) (After-width·gave c)),
+            ),
+            Path'.refl {a = m10 (c .before)
+                (After-width·gave c)},
+            loop-holds record { before = c .before; width = c .width },
+          ),
+          λ vs inv. (
+            tt,
+            (
+              λ taken. lay2 record {
+                before = record { before = record { before = c .before; width = c .width }; loop = record { out = vs .0; lines = vs .1; rs = vs .2; at = vs .3; i = vs .4; inv = inv } };
+                loop-test = record
+                    { taken = Tests.ltb-true (Row.get 15 (T11 .locals) (m11 record { before = c .before; width = c .width } (vs .0) (vs .1) (vs .2) (vs .3) (vs .4))) 6 taken };
+              },
+              λ left. lay3 record {
+                before = record { before = record { before = c .before; width = c .width }; loop = record { out = vs .0; lines = vs .1; rs = vs .2; at = vs .3; i = vs .4; inv = inv } };
+                loop-test = record
+                    { left = Tests.ltb-false (Row.get 15 (T11 .locals) (m11 record { before = c .before; width = c .width } (vs .0) (vs .1) (vs .2) (vs .3) (vs .4))) 6 left };
+              },
+            ),
+          ),
+        )
 
         pub laid : (c : Start) → at107 (c .blocks) (W0 (c .κs) (c .args) (c .blocks)) (m0 (c .κs) (c .args) (c .blocks))
-        laid = λ c. λ g. λ g'. λ g''.
-            (width-requires record
-            { before = record { before = record { before = c; shared-slice-known = record { given = g } }; slice-known = record { given = g' }; }; slice-known2 = record { given = g'' }; }, λ g'3. lay1
-            record
-            { before = record
-            { before = record { before = record { before = c; shared-slice-known = record { given = g } }; slice-known = record { given = g' }; }; slice-known2 = record { given = g'' }; }; width =
-            Called.called ps·0 r·0 (claims· .1) T7 (Bool.bAt 12 λ x. x, tt) (m6 record { before = record { before = c; shared-slice-known = record { given = g } }; slice-known = record { given = g' }; }
-            g'') g'3; })
+        laid = λ c. λ g. λ g'. λ g''. (
+          width-requires record
+              { before = record { before = record { before = c; shared-slice-known = record { given = g } }; slice-known = record { given = g' } }; slice-known2 = record { given = g'' } },
+          λ g'3. lay1
+              record {
+                before = record
+                    { before = record { before = record { before = c; shared-slice-known = record { given = g } }; slice-known = record { given = g' } }; slice-known2 = record { given = g'' } };
+                width =
+                    Called.called ps·0 r·0 (claims· .1) T7 (Bool.bAt 12 λ x. x, tt) (m6 record { before = record { before = c; shared-slice-known = record { given = g } }; slice-known = record { given = g' } }
+                    g'') g'3;
+              },
+        )
 
         module _ (κs : Lifetimes.Lfts 4) (qs : Lifetimes.Shares 4) where
           pub asked : (a : Kinds.Dens κs ps) → (good : Kinds.GoodsP κs ps a) → (pre : Pre· κs a) → (bs : List.List Nat.ℕ) → Φ bs (Any.wantQ 4 ps r xs m κs qs a (Post· κs a)) (Function.init 4 ps r xs m
               κs qs a)
-          asked = λ a good pre bs. laid record
-              { κs = κs; args = record
-              { samples = a .0; n = a .1 .0; out = a .1 .1 .0; store = a .1 .1 .1 .0; from = a .1 .1 .1 .1 .0; lines = a .1 .1 .1 .1 .1 .0; rs = a .1 .1 .1 .1 .1 .1 .0; form = a .1 .1 .1 .1 .1 .1 .1 .0;
-              qs = a .1 .1 .1 .1 .1 .1 .1 .1 .0; strict = a .1 .1 .1 .1 .1 .1 .1 .1 .1 .0; }; blocks = bs; good = good; fits = record { n = record { fits = good .1 .0 .1 } }; pre = pre; }
+          asked = λ a good pre bs. laid record {
+            κs = κs;
+            args = record {
+              samples = a .0;
+              n = a .1 .0;
+              out = a .1 .1 .0;
+              store = a .1 .1 .1 .0;
+              from = a .1 .1 .1 .1 .0;
+              lines = a .1 .1 .1 .1 .1 .0;
+              rs = a .1 .1 .1 .1 .1 .1 .0;
+              form = a .1 .1 .1 .1 .1 .1 .1 .0;
+              qs = a .1 .1 .1 .1 .1 .1 .1 .1 .0;
+              strict = a .1 .1 .1 .1 .1 .1 .1 .1 .1 .0;
+            };
+            blocks = bs;
+            good = good;
+            fits = record { n = record { fits = good .1 .0 .1 } };
+            pre = pre;
+          }
 
         module _ {M : Type 1} (𝓤 : URA.URA M) (H : Wp.Heap 𝓤) (A : Atoms.Atoms 𝓤) (W : Kit.Given 𝓤 H A) (𝓣 : Wp.Tables 𝓤 H) (known0 : Plain.Known 𝓤 H A W 𝓣 0 ps·0 r·0 (claims· .0) (claims· .1)
             "map::width") (known1 : Plain.Known 𝓤 H A W 𝓣 0 ps·1 r·1 (claims· .2) (claims· .3) "steps::plan_at") (known2 : Plain.Known 𝓤 H A W 𝓣 1 ps·2 r·2 (claims· .4) (claims· .5) "lines::set_guards")

@@ -99,19 +99,45 @@ y5 = Syntax.tyStruct (List._∷_ 98 (List._∷_ 108 (List._∷_ 111 (List._∷_ 
 
 abbrev pub ps : List.List (Kinds.PK 5)
 ps = List._∷_ (ShrSlice.pShrS (Referent.rtF (Referent.fInt Syntax.w16)) 0 tt) (List._∷_ (MutSlice.pMutS (Referent.rtF (Referent.fInt Syntax.w8)) 1 tt) (List._∷_ Bool.pBool (List._∷_ (MutSlice.pMutS
-    (Referent.rtF (Referent.fInt Syntax.w16)) 2 tt) (List._∷_ (MutSlice.pMutS (Element.type) 3 tt) (List._∷_ (Value.pVal record
-    { ty = Declared'.row Form.the-type; one = Path'.refl; val = Laws'5.val Form.the-type Laws'.the-laws; tells = Laws'5.tells Form.the-type Laws'.the-laws; still = Laws'5.still Form.the-type
-    Laws'.the-copy Exit.yes; row = Rows.whole (Declared'.row Form.the-type); rd = λ x. x; mk = λ x. x; } λ M 𝓤 H A W. record
-    { copies = Laws'5.copy Form.the-type Laws'.the-copy 𝓤 H A W; lawful = Laws'5.lawful Form.the-type Laws'.the-laws 𝓤 H A W; makes = Laws'5.makes Form.the-type Laws'.the-plain 𝓤 H A; in-mem =
-    Local.mem-whole 𝓤 H A W (Declared'.row Form.the-type); of-mem = Local.whole-mem 𝓤 H A W (Declared'.row Form.the-type); }) (List._∷_ (ShrSlice.pShrS (Referent.rtF (Referent.fInt Syntax.w8)) 4 tt)
+    (Referent.rtF (Referent.fInt Syntax.w16)) 2 tt) (List._∷_ (MutSlice.pMutS (Element.type) 3 tt) (List._∷_ (Value.pVal record {
+      ty = Declared'.row Form.the-type;
+      one = Path'.refl;
+      val = Laws'5.val Form.the-type Laws'.the-laws;
+      tells = Laws'5.tells Form.the-type Laws'.the-laws;
+      still = Laws'5.still Form.the-type
+          Laws'.the-copy Exit.yes;
+      row = Rows.whole (Declared'.row Form.the-type);
+      rd = λ x. x;
+      mk = λ x. x;
+    } λ M 𝓤 H A W. record {
+      copies = Laws'5.copy Form.the-type Laws'.the-copy 𝓤 H A W;
+      lawful = Laws'5.lawful Form.the-type Laws'.the-laws 𝓤 H A W;
+      makes = Laws'5.makes Form.the-type Laws'.the-plain 𝓤 H A;
+      in-mem =
+          Local.mem-whole 𝓤 H A W (Declared'.row Form.the-type);
+      of-mem = Local.whole-mem 𝓤 H A W (Declared'.row Form.the-type);
+    }) (List._∷_ (ShrSlice.pShrS (Referent.rtF (Referent.fInt Syntax.w8)) 4 tt)
     (List._∷_ (Num.pNum Syntax.w64) List.[])))))))
 
 abbrev pub r : Kinds.RK 5
-r = Value.rVal record
-    { ty = Declared.row Put.the-type; one = Path'.refl; val = Laws'4.val Put.the-type Laws'3.the-laws; tells = Laws'4.tells Put.the-type Laws'3.the-laws; still = Laws'4.still Put.the-type Laws'3.the-copy
-    Exit.yes; row = Rows.whole (Declared.row Put.the-type); rd = λ x. x; mk = λ x. x; } λ M 𝓤 H A W. record
-    { copies = Laws'4.copy Put.the-type Laws'3.the-copy 𝓤 H A W; lawful = Laws'4.lawful Put.the-type Laws'3.the-laws 𝓤 H A W tt; makes = Laws'4.makes Put.the-type Laws'3.the-plain 𝓤 H A; in-mem =
-    Local.mem-whole 𝓤 H A W (Declared.row Put.the-type); of-mem = Local.whole-mem 𝓤 H A W (Declared.row Put.the-type); }
+r = Value.rVal record {
+  ty = Declared.row Put.the-type;
+  one = Path'.refl;
+  val = Laws'4.val Put.the-type Laws'3.the-laws;
+  tells = Laws'4.tells Put.the-type Laws'3.the-laws;
+  still = Laws'4.still Put.the-type Laws'3.the-copy
+      Exit.yes;
+  row = Rows.whole (Declared.row Put.the-type);
+  rd = λ x. x;
+  mk = λ x. x;
+} λ M 𝓤 H A W. record {
+  copies = Laws'4.copy Put.the-type Laws'3.the-copy 𝓤 H A W;
+  lawful = Laws'4.lawful Put.the-type Laws'3.the-laws 𝓤 H A W tt;
+  makes = Laws'4.makes Put.the-type Laws'3.the-plain 𝓤 H A;
+  in-mem =
+      Local.mem-whole 𝓤 H A W (Declared.row Put.the-type);
+  of-mem = Local.whole-mem 𝓤 H A W (Declared.row Put.the-type);
+}
 
 abbrev pub xs : List.List Syntax.Ty
 xs = List._∷_ (Syntax.tyInt Syntax.w32) (List._∷_ (Syntax.tyInt Syntax.w64) (List._∷_ Syntax.tyBool (List._∷_ y4 (List._∷_ (Syntax.tyInt Syntax.w64) (List._∷_ (Syntax.tyInt Syntax.w32) (List._∷_
@@ -177,35 +203,97 @@ abbrev pub ps·8 : List.List (Kinds.PK 0)
 ps·8 = List._∷_ (Num.pNum Syntax.w32) (List._∷_ (Num.pNum Syntax.w32) List.[])
 
 abbrev pub r·8 : Kinds.RK 0
-r·8 = Value.rVal record
-    { ty = Declared'.row Quantisers.the-type; one = Path'.refl; val = Laws'5.val Quantisers.the-type Laws''.the-laws; tells = Laws'5.tells Quantisers.the-type Laws''.the-laws; still = Laws'5.still
-    Quantisers.the-type Laws''.the-copy Exit.yes; row = Rows.whole (Declared'.row Quantisers.the-type); rd = λ x. x; mk = λ x. x; } λ M 𝓤 H A W. record
-    { copies = Laws'5.copy Quantisers.the-type Laws''.the-copy 𝓤 H A W; lawful = Laws'5.lawful Quantisers.the-type Laws''.the-laws 𝓤 H A W; makes = Laws'5.makes Quantisers.the-type Laws''.the-plain 𝓤 H A;
-    in-mem = Local.mem-whole 𝓤 H A W (Declared'.row Quantisers.the-type); of-mem = Local.whole-mem 𝓤 H A W (Declared'.row Quantisers.the-type); }
+r·8 = Value.rVal record {
+  ty = Declared'.row Quantisers.the-type;
+  one = Path'.refl;
+  val = Laws'5.val Quantisers.the-type Laws''.the-laws;
+  tells = Laws'5.tells Quantisers.the-type Laws''.the-laws;
+  still = Laws'5.still
+      Quantisers.the-type Laws''.the-copy Exit.yes;
+  row = Rows.whole (Declared'.row Quantisers.the-type);
+  rd = λ x. x;
+  mk = λ x. x;
+} λ M 𝓤 H A W. record {
+  copies = Laws'5.copy Quantisers.the-type Laws''.the-copy 𝓤 H A W;
+  lawful = Laws'5.lawful Quantisers.the-type Laws''.the-laws 𝓤 H A W;
+  makes = Laws'5.makes Quantisers.the-type Laws''.the-plain 𝓤 H A;
+  in-mem = Local.mem-whole 𝓤 H A W (Declared'.row Quantisers.the-type);
+  of-mem = Local.whole-mem 𝓤 H A W (Declared'.row Quantisers.the-type);
+}
 
 abbrev pub ps·9 : List.List (Kinds.PK 4)
 ps·9 = List._∷_ (ShrSlice.pShrS (Referent.rtF (Referent.fInt Syntax.w16)) 0 tt) (List._∷_ (Num.pNum Syntax.w64) (List._∷_ (MutSlice.pMutS (Referent.rtF (Referent.fInt Syntax.w8)) 1 tt) (List._∷_
-    Bool.pBool (List._∷_ (Value.pVal record
-    { ty = Declared'.row BitPosition.the-type; one = Path'.refl; val = Laws'5.val BitPosition.the-type Laws.the-laws; tells = Laws'5.tells BitPosition.the-type Laws.the-laws; still = Laws'5.still
-    BitPosition.the-type Laws.the-copy Exit.yes; row = Rows.whole (Declared'.row BitPosition.the-type); rd = λ x. x; mk = λ x. x; } λ M 𝓤 H A W. record
-    { copies = Laws'5.copy BitPosition.the-type Laws.the-copy 𝓤 H A W; lawful = Laws'5.lawful BitPosition.the-type Laws.the-laws 𝓤 H A W; makes = Laws'5.makes BitPosition.the-type Laws.the-plain 𝓤 H A;
-    in-mem = Local.mem-whole 𝓤 H A W (Declared'.row BitPosition.the-type); of-mem = Local.whole-mem 𝓤 H A W (Declared'.row BitPosition.the-type); }) (List._∷_ (MutSlice.pMutS (Referent.rtF (Referent.fInt
-    Syntax.w16)) 2 tt) (List._∷_ (MutSlice.pMutS (Element.type) 3 tt) (List._∷_ (Value.pVal record
-    { ty = Declared'.row Form.the-type; one = Path'.refl; val = Laws'5.val Form.the-type Laws'.the-laws; tells = Laws'5.tells Form.the-type Laws'.the-laws; still = Laws'5.still Form.the-type
-    Laws'.the-copy Exit.yes; row = Rows.whole (Declared'.row Form.the-type); rd = λ x. x; mk = λ x. x; } λ M 𝓤 H A W. record
-    { copies = Laws'5.copy Form.the-type Laws'.the-copy 𝓤 H A W; lawful = Laws'5.lawful Form.the-type Laws'.the-laws 𝓤 H A W; makes = Laws'5.makes Form.the-type Laws'.the-plain 𝓤 H A; in-mem =
-    Local.mem-whole 𝓤 H A W (Declared'.row Form.the-type); of-mem = Local.whole-mem 𝓤 H A W (Declared'.row Form.the-type); }) (List._∷_ (Value.pVal record
-    { ty = Declared'.row Quantisers.the-type; one = Path'.refl; val = Laws'5.val Quantisers.the-type Laws''.the-laws; tells = Laws'5.tells Quantisers.the-type Laws''.the-laws; still = Laws'5.still
-    Quantisers.the-type Laws''.the-copy Exit.yes; row = Rows.whole (Declared'.row Quantisers.the-type); rd = λ x. x; mk = λ x. x; } λ M 𝓤 H A W. record
-    { copies = Laws'5.copy Quantisers.the-type Laws''.the-copy 𝓤 H A W; lawful = Laws'5.lawful Quantisers.the-type Laws''.the-laws 𝓤 H A W; makes = Laws'5.makes Quantisers.the-type Laws''.the-plain 𝓤 H A;
-    in-mem = Local.mem-whole 𝓤 H A W (Declared'.row Quantisers.the-type); of-mem = Local.whole-mem 𝓤 H A W (Declared'.row Quantisers.the-type); }) (List._∷_ Bool.pBool List.[])))))))))
+    Bool.pBool (List._∷_ (Value.pVal record {
+      ty = Declared'.row BitPosition.the-type;
+      one = Path'.refl;
+      val = Laws'5.val BitPosition.the-type Laws.the-laws;
+      tells = Laws'5.tells BitPosition.the-type Laws.the-laws;
+      still = Laws'5.still
+          BitPosition.the-type Laws.the-copy Exit.yes;
+      row = Rows.whole (Declared'.row BitPosition.the-type);
+      rd = λ x. x;
+      mk = λ x. x;
+    } λ M 𝓤 H A W. record {
+      copies = Laws'5.copy BitPosition.the-type Laws.the-copy 𝓤 H A W;
+      lawful = Laws'5.lawful BitPosition.the-type Laws.the-laws 𝓤 H A W;
+      makes = Laws'5.makes BitPosition.the-type Laws.the-plain 𝓤 H A;
+      in-mem = Local.mem-whole 𝓤 H A W (Declared'.row BitPosition.the-type);
+      of-mem = Local.whole-mem 𝓤 H A W (Declared'.row BitPosition.the-type);
+    }) (List._∷_ (MutSlice.pMutS (Referent.rtF (Referent.fInt
+    Syntax.w16)) 2 tt) (List._∷_ (MutSlice.pMutS (Element.type) 3 tt) (List._∷_ (Value.pVal record {
+      ty = Declared'.row Form.the-type;
+      one = Path'.refl;
+      val = Laws'5.val Form.the-type Laws'.the-laws;
+      tells = Laws'5.tells Form.the-type Laws'.the-laws;
+      still = Laws'5.still Form.the-type
+          Laws'.the-copy Exit.yes;
+      row = Rows.whole (Declared'.row Form.the-type);
+      rd = λ x. x;
+      mk = λ x. x;
+    } λ M 𝓤 H A W. record {
+      copies = Laws'5.copy Form.the-type Laws'.the-copy 𝓤 H A W;
+      lawful = Laws'5.lawful Form.the-type Laws'.the-laws 𝓤 H A W;
+      makes = Laws'5.makes Form.the-type Laws'.the-plain 𝓤 H A;
+      in-mem =
+          Local.mem-whole 𝓤 H A W (Declared'.row Form.the-type);
+      of-mem = Local.whole-mem 𝓤 H A W (Declared'.row Form.the-type);
+    }) (List._∷_ (Value.pVal record {
+      ty = Declared'.row Quantisers.the-type;
+      one = Path'.refl;
+      val = Laws'5.val Quantisers.the-type Laws''.the-laws;
+      tells = Laws'5.tells Quantisers.the-type Laws''.the-laws;
+      still = Laws'5.still
+          Quantisers.the-type Laws''.the-copy Exit.yes;
+      row = Rows.whole (Declared'.row Quantisers.the-type);
+      rd = λ x. x;
+      mk = λ x. x;
+    } λ M 𝓤 H A W. record {
+      copies = Laws'5.copy Quantisers.the-type Laws''.the-copy 𝓤 H A W;
+      lawful = Laws'5.lawful Quantisers.the-type Laws''.the-laws 𝓤 H A W;
+      makes = Laws'5.makes Quantisers.the-type Laws''.the-plain 𝓤 H A;
+      in-mem = Local.mem-whole 𝓤 H A W (Declared'.row Quantisers.the-type);
+      of-mem = Local.whole-mem 𝓤 H A W (Declared'.row Quantisers.the-type);
+    }) (List._∷_ Bool.pBool List.[])))))))))
 
 abbrev pub r·9 : Kinds.RK 4
-r·9 = Value.rVal record
-    { ty = Declared.row Put.the-type; one = Path'.refl; val = Laws'4.val Put.the-type Laws'3.the-laws; tells = Laws'4.tells Put.the-type Laws'3.the-laws; still = Laws'4.still Put.the-type Laws'3.the-copy
-    Exit.yes; row = Rows.whole (Declared.row Put.the-type); rd = λ x. x; mk = λ x. x; } λ M 𝓤 H A W. record
-    { copies = Laws'4.copy Put.the-type Laws'3.the-copy 𝓤 H A W; lawful = Laws'4.lawful Put.the-type Laws'3.the-laws 𝓤 H A W tt; makes = Laws'4.makes Put.the-type Laws'3.the-plain 𝓤 H A; in-mem =
-    Local.mem-whole 𝓤 H A W (Declared.row Put.the-type); of-mem = Local.whole-mem 𝓤 H A W (Declared.row Put.the-type); }
+r·9 = Value.rVal record {
+  ty = Declared.row Put.the-type;
+  one = Path'.refl;
+  val = Laws'4.val Put.the-type Laws'3.the-laws;
+  tells = Laws'4.tells Put.the-type Laws'3.the-laws;
+  still = Laws'4.still Put.the-type Laws'3.the-copy
+      Exit.yes;
+  row = Rows.whole (Declared.row Put.the-type);
+  rd = λ x. x;
+  mk = λ x. x;
+} λ M 𝓤 H A W. record {
+  copies = Laws'4.copy Put.the-type Laws'3.the-copy 𝓤 H A W;
+  lawful = Laws'4.lawful Put.the-type Laws'3.the-laws 𝓤 H A W tt;
+  makes = Laws'4.makes Put.the-type Laws'3.the-plain 𝓤 H A;
+  in-mem =
+      Local.mem-whole 𝓤 H A W (Declared.row Put.the-type);
+  of-mem = Local.whole-mem 𝓤 H A W (Declared.row Put.the-type);
+}
 
 abbrev pub hs : List.List Syntax.Home
 hs = List._∷_ Syntax.valueLocal (List._∷_ Syntax.valueLocal (List._∷_ Syntax.valueLocal (List._∷_ Syntax.valueLocal (List._∷_ Syntax.valueLocal (List._∷_ Syntax.valueLocal (List._∷_ Syntax.valueLocal
@@ -465,9 +553,11 @@ Claims = Kinds.In 0 ps·0 × Kinds.Out 0 ps·0 r·0 × Kinds.In 1 ps·1 × Kinds
     Kinds.Out 4 ps·9 r·9
 
 abbrev pub e0 : Row.Entry
-e0 =
-    (0, Rows.any-gone (Syntax.tyEnum (List._∷_ 119 (List._∷_ 114 (List._∷_ 105 (List._∷_ 116 (List._∷_ 105 (List._∷_ 110 (List._∷_ 103 (List._∷_ 58 (List._∷_ 58 (List._∷_ 80 (List._∷_ 117 (List._∷_ 116
-    List.[])))))))))))) (Syntax.ttcons (Syntax.tcons y4 Syntax.tnil) (Syntax.ttcons (Syntax.tcons (Syntax.tyInt Syntax.w64) Syntax.tnil) Syntax.ttnil))))
+e0 = (
+  0,
+  Rows.any-gone (Syntax.tyEnum (List._∷_ 119 (List._∷_ 114 (List._∷_ 105 (List._∷_ 116 (List._∷_ 105 (List._∷_ 110 (List._∷_ 103 (List._∷_ 58 (List._∷_ 58 (List._∷_ 80 (List._∷_ 117 (List._∷_ 116
+      List.[])))))))))))) (Syntax.ttcons (Syntax.tcons y4 Syntax.tnil) (Syntax.ttcons (Syntax.tcons (Syntax.tyInt Syntax.w64) Syntax.tnil) Syntax.ttnil))),
+)
 
 abbrev pub e1 : Row.Entry
 e1 = (0, Rows.whole (Declared.row Put.the-type))
@@ -509,9 +599,11 @@ abbrev pub e13 : Row.Entry
 e13 = (14, Rows.sc-here (Row.sInt Syntax.w32))
 
 abbrev pub e14 : Row.Entry
-e14 =
-    (15, Rows.any-gone (Syntax.tyEnum (List._∷_ 119 (List._∷_ 114 (List._∷_ 105 (List._∷_ 116 (List._∷_ 105 (List._∷_ 110 (List._∷_ 103 (List._∷_ 58 (List._∷_ 58 (List._∷_ 80 (List._∷_ 117 (List._∷_ 116
-    List.[])))))))))))) (Syntax.ttcons (Syntax.tcons y4 Syntax.tnil) (Syntax.ttcons (Syntax.tcons (Syntax.tyInt Syntax.w64) Syntax.tnil) Syntax.ttnil))))
+e14 = (
+  15,
+  Rows.any-gone (Syntax.tyEnum (List._∷_ 119 (List._∷_ 114 (List._∷_ 105 (List._∷_ 116 (List._∷_ 105 (List._∷_ 110 (List._∷_ 103 (List._∷_ 58 (List._∷_ 58 (List._∷_ 80 (List._∷_ 117 (List._∷_ 116
+      List.[])))))))))))) (Syntax.ttcons (Syntax.tcons y4 Syntax.tnil) (Syntax.ttcons (Syntax.tcons (Syntax.tyInt Syntax.w64) Syntax.tnil) Syntax.ttnil))),
+)
 
 abbrev pub e15 : Row.Entry
 e15 = (15, Rows.whole (Declared.row Put.the-type))
@@ -1282,7 +1374,7 @@ module _ (claims· : Claims) where
   s5 = Call.callB ps·0 r·0 (claims· .0) (claims· .1) T6 (Bool.bFld 6 (List._∷_ (Syntax.field 1) List.[]) 4 λ x. Form.struct .as-values x .1 .0, tt) 10 List.[] (Syntax.tyInt Syntax.w64)
 
   abbrev s6 : Typed.Both T7 T8
-  s6 = Call.callB ps·1 r·1 (claims· .2) (claims· .3) T7 (record { pos = 7; ty = Syntax.tyRef (Syntax.named 4) Syntax.imm (Syntax.tyInt Syntax.w8); ref = λ x. x; }, tt) 11 (List._∷_ 4 List.[])
+  s6 = Call.callB ps·1 r·1 (claims· .2) (claims· .3) T7 (record { pos = 7; ty = Syntax.tyRef (Syntax.named 4) Syntax.imm (Syntax.tyInt Syntax.w8); ref = λ x. x }, tt) 11 (List._∷_ 4 List.[])
       Syntax.tyBool
 
   abbrev s8 : Typed.Gives T8 T10
@@ -1294,7 +1386,7 @@ module _ (claims· : Claims) where
       Syntax.w16)) (Syntax.tyRef Syntax.erased Syntax.mut (Syntax.tyInt Syntax.w16)) (λ x. x) (Scalar.oFld 4 (List._∷_ (Syntax.field 1) List.[]) (Syntax.tyInt Syntax.w64) 8 λ v. Shared.lenV (v .0))
 
   abbrev s10 : Typed.Both T11 T12
-  s10 = Call.callB ps·2 r·2 (claims· .4) (claims· .5) T11 (record { pos = 19; ty = Syntax.tyRef Syntax.erased Syntax.mut (Syntax.tyInt Syntax.w16); ref = λ x. x; }, tt) 17 (List._∷_ 5 List.[])
+  s10 = Call.callB ps·2 r·2 (claims· .4) (claims· .5) T11 (record { pos = 19; ty = Syntax.tyRef Syntax.erased Syntax.mut (Syntax.tyInt Syntax.w16); ref = λ x. x }, tt) 17 (List._∷_ 5 List.[])
       Syntax.tyUnit
 
   abbrev s11 : Typed.Mo T12 → Typed.Mo T13
@@ -1315,11 +1407,11 @@ module _ (claims· : Claims) where
       x. x) (Scalar.oFld 5 (List._∷_ (Syntax.field 1) List.[]) (Syntax.tyInt Syntax.w64) 8 λ v. Shared.lenV (v .0))
 
   abbrev s19 : Typed.Both T20 T21
-  s19 = Call.callB ps·3 r·3 (claims· .6) (claims· .7) T20 (record { pos = 7; ty = Syntax.tyRef (Syntax.named 4) Syntax.imm (Syntax.tyInt Syntax.w8); ref = λ x. x; }, (Num.vLit 0, tt)) 22 (List._∷_ 4
+  s19 = Call.callB ps·3 r·3 (claims· .6) (claims· .7) T20 (record { pos = 7; ty = Syntax.tyRef (Syntax.named 4) Syntax.imm (Syntax.tyInt Syntax.w8); ref = λ x. x }, (Num.vLit 0, tt)) 22 (List._∷_ 4
       List.[]) (Syntax.tyInt Syntax.w32)
 
   abbrev s20 : Typed.Both T21 T22
-  s20 = Call.callB ps·4 r·4 (claims· .8) (claims· .9) T21 (record { pos = 21; ty = Syntax.tyRef Syntax.erased Syntax.mut Element.behind; ref = λ x. x; }, (Num.vAt 9 λ x. x, (Num.vAt 22 λ x. x, tt)))
+  s20 = Call.callB ps·4 r·4 (claims· .8) (claims· .9) T21 (record { pos = 21; ty = Syntax.tyRef Syntax.erased Syntax.mut Element.behind; ref = λ x. x }, (Num.vAt 9 λ x. x, (Num.vAt 22 λ x. x, tt)))
       17 (List._∷_ 6 List.[]) Syntax.tyUnit
 
   abbrev s21 : Typed.Mo T22 → Typed.Mo T23
@@ -1362,7 +1454,7 @@ module _ (claims· : Claims) where
       Syntax.w16)) (Syntax.tyRef Syntax.erased Syntax.mut (Syntax.tyInt Syntax.w16)) (λ x. x) (Scalar.oFld 4 (List._∷_ (Syntax.field 1) List.[]) (Syntax.tyInt Syntax.w64) 8 λ v. Shared.lenV (v .0))
 
   abbrev s36 : Typed.Both T39 T40
-  s36 = Call.callB ps·5 r·5 (claims· .10) (claims· .11) T39 (record { pos = 26; ty = Syntax.tyRef Syntax.erased Syntax.mut (Syntax.tyInt Syntax.w16); ref = λ x. x; }, (Num.vAt 10 λ x. x, tt)) 24
+  s36 = Call.callB ps·5 r·5 (claims· .10) (claims· .11) T39 (record { pos = 26; ty = Syntax.tyRef Syntax.erased Syntax.mut (Syntax.tyInt Syntax.w16); ref = λ x. x }, (Num.vAt 10 λ x. x, tt)) 24
       (List._∷_ 7 List.[]) Syntax.tyUnit
 
   abbrev s37 : Typed.Mo T40 → Typed.Mo T41
@@ -1376,7 +1468,7 @@ module _ (claims· : Claims) where
   s40 = Know.k-sl-known (Referent.fInt Syntax.w16) T43 4 2 (Syntax.tyRef (Syntax.named 2) Syntax.mut (Syntax.tyInt Syntax.w16)) Row.off 0 λ x. x
 
   abbrev s42 : Typed.Both T44 T46
-  s42 = Call.callB ps·3 r·3 (claims· .6) (claims· .7) T44 (record { pos = 7; ty = Syntax.tyRef (Syntax.named 4) Syntax.imm (Syntax.tyInt Syntax.w8); ref = λ x. x; }, (Num.vAt 13 λ x. x, tt)) 14
+  s42 = Call.callB ps·3 r·3 (claims· .6) (claims· .7) T44 (record { pos = 7; ty = Syntax.tyRef (Syntax.named 4) Syntax.imm (Syntax.tyInt Syntax.w8); ref = λ x. x }, (Num.vAt 13 λ x. x, tt)) 14
       (List._∷_ 4 List.[]) (Syntax.tyInt Syntax.w32)
 
   abbrev s44 : Typed.Gives T46 T48
@@ -1387,12 +1479,12 @@ module _ (claims· : Claims) where
       x. x) (Scalar.oFld 5 (List._∷_ (Syntax.field 1) List.[]) (Syntax.tyInt Syntax.w64) 8 λ v. Shared.lenV (v .0))
 
   abbrev s46 : Typed.Both T49 T50
-  s46 = Call.callB ps·6 r·6 (claims· .12) (claims· .13) T49 (record { pos = 7; ty = Syntax.tyRef (Syntax.named 4) Syntax.imm (Syntax.tyInt Syntax.w8); ref = λ x. x; }, (Num.vAt 13 λ x. x, tt)) 23
+  s46 = Call.callB ps·6 r·6 (claims· .12) (claims· .13) T49 (record { pos = 7; ty = Syntax.tyRef (Syntax.named 4) Syntax.imm (Syntax.tyInt Syntax.w8); ref = λ x. x }, (Num.vAt 13 λ x. x, tt)) 23
       (List._∷_ 4 List.[]) Syntax.tyBool
 
   abbrev s47 : Typed.Both T50 T51
   s47 = Call.callB ps·7 r·7 (claims· .14) (claims· .15) T50
-      (record { pos = 28; ty = Syntax.tyRef Syntax.erased Syntax.mut Element.behind; ref = λ x. x; }, (Num.vAt 9 λ x. x, (Num.vAt 14 λ x. x, (Bool.bAt 23 λ x. x, tt)))) 24 (List._∷_ 8 List.[])
+      (record { pos = 28; ty = Syntax.tyRef Syntax.erased Syntax.mut Element.behind; ref = λ x. x }, (Num.vAt 9 λ x. x, (Num.vAt 14 λ x. x, (Bool.bAt 23 λ x. x, tt)))) 24 (List._∷_ 8 List.[])
       Syntax.tyUnit
 
   abbrev s48 : Typed.Mo T51 → Typed.Mo T52
@@ -1431,15 +1523,28 @@ module _ (claims· : Claims) where
   s62 = Call.callB ps·8 r·8 (claims· .16) (claims· .17) T65 (Num.vAt 9 λ x. x, (Num.vAt 14 λ x. x, tt)) 35 List.[] y0
 
   abbrev s63 : Typed.Both T66 T67
-  s63 = Call.callB ps·9 r·9 (claims· .18) (claims· .19) T66
-      (record { pos = 1; ty = Syntax.tyRef (Syntax.named 0) Syntax.imm (Syntax.tyInt Syntax.w16); ref = λ x. x; },
-      (Num.vAt 13 λ x. x,
-      (record { pos = 30; ty = Syntax.tyRef Syntax.erased Syntax.mut (Syntax.tyInt Syntax.w8); ref = λ x. x; },
-      (Bool.bAt 3 λ x. x,
-      (record { pos = 12; st = List.[]; d = 0; at = λ x. x },
-      (record { pos = 32; ty = Syntax.tyRef Syntax.erased Syntax.mut (Syntax.tyInt Syntax.w16); ref = λ x. x; },
-      (record { pos = 34; ty = Syntax.tyRef Syntax.erased Syntax.mut Element.behind; ref = λ x. x; },
-      (record { pos = 6; st = List.[]; d = 0; at = λ x. x }, (record { pos = 35; st = List.[]; d = 0; at = λ x. x }, (Bool.bAt 11 λ x. x, tt)))))))))) 15 (List._∷_ 0 (List._∷_ 9 (List._∷_ 10 (List._∷_ 11
+  s63 = Call.callB ps·9 r·9 (claims· .18) (claims· .19) T66 (
+    record { pos = 1; ty = Syntax.tyRef (Syntax.named 0) Syntax.imm (Syntax.tyInt Syntax.w16); ref = λ x. x },
+    (
+      Num.vAt 13 λ x. x,
+      (
+        record { pos = 30; ty = Syntax.tyRef Syntax.erased Syntax.mut (Syntax.tyInt Syntax.w8); ref = λ x. x },
+        (
+          Bool.bAt 3 λ x. x,
+          (
+            record { pos = 12; st = List.[]; d = 0; at = λ x. x },
+            (
+              record { pos = 32; ty = Syntax.tyRef Syntax.erased Syntax.mut (Syntax.tyInt Syntax.w16); ref = λ x. x },
+              (
+                record { pos = 34; ty = Syntax.tyRef Syntax.erased Syntax.mut Element.behind; ref = λ x. x },
+                (record { pos = 6; st = List.[]; d = 0; at = λ x. x }, (record { pos = 35; st = List.[]; d = 0; at = λ x. x }, (Bool.bAt 11 λ x. x, tt))),
+              ),
+            ),
+          ),
+        ),
+      ),
+    ),
+  ) 15 (List._∷_ 0 (List._∷_ 9 (List._∷_ 10 (List._∷_ 11
       List.[])))) (Syntax.tyEnum (List._∷_ 119 (List._∷_ 114 (List._∷_ 105 (List._∷_ 116 (List._∷_ 105 (List._∷_ 110 (List._∷_ 103 (List._∷_ 58 (List._∷_ 58 (List._∷_ 80 (List._∷_ 117 (List._∷_ 116
       List.[])))))))))))) (Syntax.ttcons (Syntax.tcons y4 Syntax.tnil) (Syntax.ttcons (Syntax.tcons (Syntax.tyInt Syntax.w64) Syntax.tnil) Syntax.ttnil)))
 
@@ -1553,11 +1658,11 @@ module _ (claims· : Claims) where
   abbrev put0 : List.List (Referent.rtF (Referent.fInt Syntax.w8) .Denot) × List.List (Referent.rtF (Referent.fInt Syntax.w16) .Denot) × List.List (Element.type .Denot) × Rows.whole (Declared'.row
       BitPosition.the-type) .Mod × Rows.sc-here (Row.sInt Syntax.w64) .Mod → Typed.Mo T31 → Typed.Mo T31
   put0 = λ vs u. Row.set 13 (13, Rows.sc-here (Row.sInt Syntax.w64)) (vs .4) (T31 .locals) (Row.set 12 (12, Rows.whole (Declared'.row BitPosition.the-type)) (vs .3) (T31 .locals) (Row.set 5
-      (5, Mut.mslice (Element.type) (Syntax.tyRef (Syntax.named 3) Syntax.mut Element.behind) 3) record { ptr = Row.get 5 (T31 .locals) u .ptr; name = Row.get 5 (T31 .locals) u .name; now = vs .2; } (T31
+      (5, Mut.mslice (Element.type) (Syntax.tyRef (Syntax.named 3) Syntax.mut Element.behind) 3) record { ptr = Row.get 5 (T31 .locals) u .ptr; name = Row.get 5 (T31 .locals) u .name; now = vs .2 } (T31
       .locals) (Row.set 4 (4, Mut.mslice (Referent.rtF (Referent.fInt Syntax.w16)) (Syntax.tyRef (Syntax.named 2) Syntax.mut (Syntax.tyInt Syntax.w16)) 2) record
-      { ptr = Row.get 4 (T31 .locals) u .ptr; name = Row.get 4 (T31 .locals) u .name; now = vs .1; } (T31 .locals) (Row.set 2
+      { ptr = Row.get 4 (T31 .locals) u .ptr; name = Row.get 4 (T31 .locals) u .name; now = vs .1 } (T31 .locals) (Row.set 2
       (2, Mut.mslice (Referent.rtF (Referent.fInt Syntax.w8)) (Syntax.tyRef (Syntax.named 1) Syntax.mut (Syntax.tyInt Syntax.w8)) 1) record
-      { ptr = Row.get 2 (T31 .locals) u .ptr; name = Row.get 2 (T31 .locals) u .name; now = vs .0; } (T31 .locals) u))))
+      { ptr = Row.get 2 (T31 .locals) u .ptr; name = Row.get 2 (T31 .locals) u .name; now = vs .0 } (T31 .locals) u))))
 
   module _ (Pre· : (κs : Lifetimes.Lfts 5) → Kinds.Dens κs ps → Type 0) (Post· : (κs : Lifetimes.Lfts 5) → (a : Kinds.Dens κs ps) → Kinds.Plain 5 ps r κs) where
     module _ (M : Type 1) where
@@ -1990,649 +2095,865 @@ module _ (claims· : Claims) where
             (List._∷_ e66 (List._∷_ e4 (List._∷_ e6 (List._∷_ e7 (List._∷_ e11 (List._∷_ e13 (List._∷_ e15 List.[])))))))))))))))
 
         abbrev G0 : Row.Cx
-        G0 = record
-            { locals = List._++_ t0 (List._++_ t1 t2); slots = List._∷_ (Row.lease (κs .0) (qs .0)) (List._∷_ (Row.lease (κs .1 .0) (qs .1 .0)) (List._∷_ (Row.lease (κs .1 .1 .0) (qs .1 .1 .0)) (List._∷_
-            (Row.lease (κs .1 .1 .1 .0) (qs .1 .1 .1 .0)) (List._∷_ (Row.lease (κs .1 .1 .1 .1 .0) (qs .1 .1 .1 .1 .0)) (List._∷_ Row.off (List._∷_ Row.off (List._∷_ Row.off (List._∷_ Row.off (List._∷_
-            Row.off (List._∷_ Row.off (List._∷_ Row.off List.[]))))))))))); }
+        G0 = record {
+          locals = List._++_ t0 (List._++_ t1 t2);
+          slots = List._∷_ (Row.lease (κs .0) (qs .0)) (List._∷_ (Row.lease (κs .1 .0) (qs .1 .0)) (List._∷_ (Row.lease (κs .1 .1 .0) (qs .1 .1 .0)) (List._∷_
+              (Row.lease (κs .1 .1 .1 .0) (qs .1 .1 .1 .0)) (List._∷_ (Row.lease (κs .1 .1 .1 .1 .0) (qs .1 .1 .1 .1 .0)) (List._∷_ Row.off (List._∷_ Row.off (List._∷_ Row.off (List._∷_ Row.off (List._∷_
+              Row.off (List._∷_ Row.off (List._∷_ Row.off List.[])))))))))));
+        }
 
         abbrev G1 : Row.Cx
-        G1 = record
-            { locals = List._++_ t3 (List._++_ t1 t2); slots = List._∷_ (Row.lease (κs .0) (qs .0)) (List._∷_ (Row.lease (κs .1 .0) (qs .1 .0)) (List._∷_ (Row.lease (κs .1 .1 .0) (qs .1 .1 .0)) (List._∷_
-            (Row.lease (κs .1 .1 .1 .0) (qs .1 .1 .1 .0)) (List._∷_ (Row.lease (κs .1 .1 .1 .1 .0) (qs .1 .1 .1 .1 .0)) (List._∷_ Row.off (List._∷_ Row.off (List._∷_ Row.off (List._∷_ Row.off (List._∷_
-            Row.off (List._∷_ Row.off (List._∷_ Row.off List.[]))))))))))); }
+        G1 = record {
+          locals = List._++_ t3 (List._++_ t1 t2);
+          slots = List._∷_ (Row.lease (κs .0) (qs .0)) (List._∷_ (Row.lease (κs .1 .0) (qs .1 .0)) (List._∷_ (Row.lease (κs .1 .1 .0) (qs .1 .1 .0)) (List._∷_
+              (Row.lease (κs .1 .1 .1 .0) (qs .1 .1 .1 .0)) (List._∷_ (Row.lease (κs .1 .1 .1 .1 .0) (qs .1 .1 .1 .1 .0)) (List._∷_ Row.off (List._∷_ Row.off (List._∷_ Row.off (List._∷_ Row.off (List._∷_
+              Row.off (List._∷_ Row.off (List._∷_ Row.off List.[])))))))))));
+        }
 
         abbrev G2 : Row.Cx
-        G2 = record
-            { locals = List._++_ t0 (List._++_ t1 t2); slots = List._∷_ (Row.lease (κs .0) (qs .0)) (List._∷_ (Row.lease (κs .1 .0) (qs .1 .0)) (List._∷_ (Row.lease (κs .1 .1 .0) (qs .1 .1 .0)) (List._∷_
-            (Row.lease (κs .1 .1 .1 .0) (qs .1 .1 .1 .0)) (List._∷_ (Row.lease (κs .1 .1 .1 .1 .0) (qs .1 .1 .1 .1 .0)) (List._∷_ Row.off (List._∷_ Row.off (List._∷_ Row.off (List._∷_ Row.off (List._∷_
-            Row.off (List._∷_ Row.off (List._∷_ Row.off List.[]))))))))))); }
+        G2 = record {
+          locals = List._++_ t0 (List._++_ t1 t2);
+          slots = List._∷_ (Row.lease (κs .0) (qs .0)) (List._∷_ (Row.lease (κs .1 .0) (qs .1 .0)) (List._∷_ (Row.lease (κs .1 .1 .0) (qs .1 .1 .0)) (List._∷_
+              (Row.lease (κs .1 .1 .1 .0) (qs .1 .1 .1 .0)) (List._∷_ (Row.lease (κs .1 .1 .1 .1 .0) (qs .1 .1 .1 .1 .0)) (List._∷_ Row.off (List._∷_ Row.off (List._∷_ Row.off (List._∷_ Row.off (List._∷_
+              Row.off (List._∷_ Row.off (List._∷_ Row.off List.[])))))))))));
+        }
 
         abbrev G3 : Row.Cx
-        G3 = record
-            { locals = List._++_ t0 (List._++_ t1 t2); slots = List._∷_ (Row.lease (κs .0) (qs .0)) (List._∷_ (Row.lease (κs .1 .0) (qs .1 .0)) (List._∷_ (Row.lease (κs .1 .1 .0) (qs .1 .1 .0)) (List._∷_
-            (Row.lease (κs .1 .1 .1 .0) (qs .1 .1 .1 .0)) (List._∷_ (Row.lease (κs .1 .1 .1 .1 .0) (qs .1 .1 .1 .1 .0)) (List._∷_ Row.off (List._∷_ Row.off (List._∷_ Row.off (List._∷_ Row.off (List._∷_
-            Row.off (List._∷_ Row.off (List._∷_ Row.off List.[]))))))))))); }
+        G3 = record {
+          locals = List._++_ t0 (List._++_ t1 t2);
+          slots = List._∷_ (Row.lease (κs .0) (qs .0)) (List._∷_ (Row.lease (κs .1 .0) (qs .1 .0)) (List._∷_ (Row.lease (κs .1 .1 .0) (qs .1 .1 .0)) (List._∷_
+              (Row.lease (κs .1 .1 .1 .0) (qs .1 .1 .1 .0)) (List._∷_ (Row.lease (κs .1 .1 .1 .1 .0) (qs .1 .1 .1 .1 .0)) (List._∷_ Row.off (List._∷_ Row.off (List._∷_ Row.off (List._∷_ Row.off (List._∷_
+              Row.off (List._∷_ Row.off (List._∷_ Row.off List.[])))))))))));
+        }
 
         abbrev G4 : Row.Cx
-        G4 = record
-            { locals = List._++_ t0 (List._++_ t1 t2); slots = List._∷_ (Row.lease (κs .0) (qs .0)) (List._∷_ (Row.lease (κs .1 .0) (qs .1 .0)) (List._∷_ (Row.lease (κs .1 .1 .0) (qs .1 .1 .0)) (List._∷_
-            (Row.lease (κs .1 .1 .1 .0) (qs .1 .1 .1 .0)) (List._∷_ (Row.lease (κs .1 .1 .1 .1 .0) (qs .1 .1 .1 .1 .0)) (List._∷_ Row.off (List._∷_ Row.off (List._∷_ Row.off (List._∷_ Row.off (List._∷_
-            Row.off (List._∷_ Row.off (List._∷_ Row.off List.[]))))))))))); }
+        G4 = record {
+          locals = List._++_ t0 (List._++_ t1 t2);
+          slots = List._∷_ (Row.lease (κs .0) (qs .0)) (List._∷_ (Row.lease (κs .1 .0) (qs .1 .0)) (List._∷_ (Row.lease (κs .1 .1 .0) (qs .1 .1 .0)) (List._∷_
+              (Row.lease (κs .1 .1 .1 .0) (qs .1 .1 .1 .0)) (List._∷_ (Row.lease (κs .1 .1 .1 .1 .0) (qs .1 .1 .1 .1 .0)) (List._∷_ Row.off (List._∷_ Row.off (List._∷_ Row.off (List._∷_ Row.off (List._∷_
+              Row.off (List._∷_ Row.off (List._∷_ Row.off List.[])))))))))));
+        }
 
         abbrev G5 : Row.Cx
-        G5 = record
-            { locals = List._++_ t0 (List._++_ t1 t2); slots = List._∷_ (Row.lease (κs .0) (qs .0)) (List._∷_ (Row.lease (κs .1 .0) (qs .1 .0)) (List._∷_ (Row.lease (κs .1 .1 .0) (qs .1 .1 .0)) (List._∷_
-            (Row.lease (κs .1 .1 .1 .0) (qs .1 .1 .1 .0)) (List._∷_ (Row.lease (κs .1 .1 .1 .1 .0) (qs .1 .1 .1 .1 .0)) (List._∷_ Row.off (List._∷_ Row.off (List._∷_ Row.off (List._∷_ Row.off (List._∷_
-            Row.off (List._∷_ Row.off (List._∷_ Row.off List.[]))))))))))); }
+        G5 = record {
+          locals = List._++_ t0 (List._++_ t1 t2);
+          slots = List._∷_ (Row.lease (κs .0) (qs .0)) (List._∷_ (Row.lease (κs .1 .0) (qs .1 .0)) (List._∷_ (Row.lease (κs .1 .1 .0) (qs .1 .1 .0)) (List._∷_
+              (Row.lease (κs .1 .1 .1 .0) (qs .1 .1 .1 .0)) (List._∷_ (Row.lease (κs .1 .1 .1 .1 .0) (qs .1 .1 .1 .1 .0)) (List._∷_ Row.off (List._∷_ Row.off (List._∷_ Row.off (List._∷_ Row.off (List._∷_
+              Row.off (List._∷_ Row.off (List._∷_ Row.off List.[])))))))))));
+        }
 
         abbrev G6 : Row.Cx
-        G6 = record
-            { locals = List._++_ t4 (List._++_ t1 t2); slots = List._∷_ (Row.lease (κs .0) (qs .0)) (List._∷_ (Row.lease (κs .1 .0) (qs .1 .0)) (List._∷_ (Row.lease (κs .1 .1 .0) (qs .1 .1 .0)) (List._∷_
-            (Row.lease (κs .1 .1 .1 .0) (qs .1 .1 .1 .0)) (List._∷_ (Row.lease (κs .1 .1 .1 .1 .0) (qs .1 .1 .1 .1 .0)) (List._∷_ Row.off (List._∷_ Row.off (List._∷_ Row.off (List._∷_ Row.off (List._∷_
-            Row.off (List._∷_ Row.off (List._∷_ Row.off List.[]))))))))))); }
+        G6 = record {
+          locals = List._++_ t4 (List._++_ t1 t2);
+          slots = List._∷_ (Row.lease (κs .0) (qs .0)) (List._∷_ (Row.lease (κs .1 .0) (qs .1 .0)) (List._∷_ (Row.lease (κs .1 .1 .0) (qs .1 .1 .0)) (List._∷_
+              (Row.lease (κs .1 .1 .1 .0) (qs .1 .1 .1 .0)) (List._∷_ (Row.lease (κs .1 .1 .1 .1 .0) (qs .1 .1 .1 .1 .0)) (List._∷_ Row.off (List._∷_ Row.off (List._∷_ Row.off (List._∷_ Row.off (List._∷_
+              Row.off (List._∷_ Row.off (List._∷_ Row.off List.[])))))))))));
+        }
 
         abbrev G7 : Row.Cx
-        G7 = record
-            { locals = List._++_ t5 (List._++_ t1 t2); slots = List._∷_ (Row.lease (κs .0) (qs .0)) (List._∷_ (Row.lease (κs .1 .0) (qs .1 .0)) (List._∷_ (Row.lease (κs .1 .1 .0) (qs .1 .1 .0)) (List._∷_
-            (Row.lease (κs .1 .1 .1 .0) (qs .1 .1 .1 .0)) (List._∷_ (Row.lease (κs .1 .1 .1 .1 .0) (qs .1 .1 .1 .1 .0)) (List._∷_ Row.off (List._∷_ Row.off (List._∷_ Row.off (List._∷_ Row.off (List._∷_
-            Row.off (List._∷_ Row.off (List._∷_ Row.off List.[]))))))))))); }
+        G7 = record {
+          locals = List._++_ t5 (List._++_ t1 t2);
+          slots = List._∷_ (Row.lease (κs .0) (qs .0)) (List._∷_ (Row.lease (κs .1 .0) (qs .1 .0)) (List._∷_ (Row.lease (κs .1 .1 .0) (qs .1 .1 .0)) (List._∷_
+              (Row.lease (κs .1 .1 .1 .0) (qs .1 .1 .1 .0)) (List._∷_ (Row.lease (κs .1 .1 .1 .1 .0) (qs .1 .1 .1 .1 .0)) (List._∷_ Row.off (List._∷_ Row.off (List._∷_ Row.off (List._∷_ Row.off (List._∷_
+              Row.off (List._∷_ Row.off (List._∷_ Row.off List.[])))))))))));
+        }
 
         abbrev G8 : Row.Cx
-        G8 = record
-            { locals = List._++_ t6 (List._++_ t1 t2); slots = List._∷_ (Row.lease (κs .0) (qs .0)) (List._∷_ (Row.lease (κs .1 .0) (qs .1 .0)) (List._∷_ (Row.lease (κs .1 .1 .0) (qs .1 .1 .0)) (List._∷_
-            (Row.lease (κs .1 .1 .1 .0) (qs .1 .1 .1 .0)) (List._∷_ (Row.lease (κs .1 .1 .1 .1 .0) (qs .1 .1 .1 .1 .0)) (List._∷_ Row.off (List._∷_ Row.off (List._∷_ Row.off (List._∷_ Row.off (List._∷_
-            Row.off (List._∷_ Row.off (List._∷_ Row.off List.[]))))))))))); }
+        G8 = record {
+          locals = List._++_ t6 (List._++_ t1 t2);
+          slots = List._∷_ (Row.lease (κs .0) (qs .0)) (List._∷_ (Row.lease (κs .1 .0) (qs .1 .0)) (List._∷_ (Row.lease (κs .1 .1 .0) (qs .1 .1 .0)) (List._∷_
+              (Row.lease (κs .1 .1 .1 .0) (qs .1 .1 .1 .0)) (List._∷_ (Row.lease (κs .1 .1 .1 .1 .0) (qs .1 .1 .1 .1 .0)) (List._∷_ Row.off (List._∷_ Row.off (List._∷_ Row.off (List._∷_ Row.off (List._∷_
+              Row.off (List._∷_ Row.off (List._∷_ Row.off List.[])))))))))));
+        }
 
         abbrev G9 : Row.Cx
-        G9 = record
-            { locals = List._++_ t6 (List._++_ t1 t2); slots = List._∷_ (Row.lease (κs .0) (qs .0)) (List._∷_ (Row.lease (κs .1 .0) (qs .1 .0)) (List._∷_ (Row.lease (κs .1 .1 .0) (qs .1 .1 .0)) (List._∷_
-            (Row.lease (κs .1 .1 .1 .0) (qs .1 .1 .1 .0)) (List._∷_ (Row.lease (κs .1 .1 .1 .1 .0) (qs .1 .1 .1 .1 .0)) (List._∷_ Row.alive (List._∷_ Row.off (List._∷_ Row.off (List._∷_ Row.off (List._∷_
-            Row.off (List._∷_ Row.off (List._∷_ Row.off List.[]))))))))))); }
+        G9 = record {
+          locals = List._++_ t6 (List._++_ t1 t2);
+          slots = List._∷_ (Row.lease (κs .0) (qs .0)) (List._∷_ (Row.lease (κs .1 .0) (qs .1 .0)) (List._∷_ (Row.lease (κs .1 .1 .0) (qs .1 .1 .0)) (List._∷_
+              (Row.lease (κs .1 .1 .1 .0) (qs .1 .1 .1 .0)) (List._∷_ (Row.lease (κs .1 .1 .1 .1 .0) (qs .1 .1 .1 .1 .0)) (List._∷_ Row.alive (List._∷_ Row.off (List._∷_ Row.off (List._∷_ Row.off (List._∷_
+              Row.off (List._∷_ Row.off (List._∷_ Row.off List.[])))))))))));
+        }
 
         abbrev G10 : Row.Cx
-        G10 = record
-            { locals = List._++_ g7 (List._++_ t8 t2); slots = List._∷_ (Row.lease (κs .0) (qs .0)) (List._∷_ (Row.lease (κs .1 .0) (qs .1 .0)) (List._∷_ Row.off (List._∷_ (Row.lease (κs .1 .1 .1 .0) (qs
-            .1 .1 .1 .0)) (List._∷_ (Row.lease (κs .1 .1 .1 .1 .0) (qs .1 .1 .1 .1 .0)) (List._∷_ Row.alive (List._∷_ Row.off (List._∷_ Row.off (List._∷_ Row.off (List._∷_ Row.off (List._∷_ Row.off
-            (List._∷_ Row.off List.[]))))))))))); }
+        G10 = record {
+          locals = List._++_ g7 (List._++_ t8 t2);
+          slots = List._∷_ (Row.lease (κs .0) (qs .0)) (List._∷_ (Row.lease (κs .1 .0) (qs .1 .0)) (List._∷_ Row.off (List._∷_ (Row.lease (κs .1 .1 .1 .0) (qs
+              .1 .1 .1 .0)) (List._∷_ (Row.lease (κs .1 .1 .1 .1 .0) (qs .1 .1 .1 .1 .0)) (List._∷_ Row.alive (List._∷_ Row.off (List._∷_ Row.off (List._∷_ Row.off (List._∷_ Row.off (List._∷_ Row.off
+              (List._∷_ Row.off List.[])))))))))));
+        }
 
         abbrev G11 : Row.Cx
-        G11 = record
-            { locals = List._++_ g7 (List._++_ t9 t2); slots = List._∷_ (Row.lease (κs .0) (qs .0)) (List._∷_ (Row.lease (κs .1 .0) (qs .1 .0)) (List._∷_ Row.off (List._∷_ (Row.lease (κs .1 .1 .1 .0) (qs
-            .1 .1 .1 .0)) (List._∷_ (Row.lease (κs .1 .1 .1 .1 .0) (qs .1 .1 .1 .1 .0)) (List._∷_ Row.alive (List._∷_ Row.off (List._∷_ Row.off (List._∷_ Row.off (List._∷_ Row.off (List._∷_ Row.off
-            (List._∷_ Row.off List.[]))))))))))); }
+        G11 = record {
+          locals = List._++_ g7 (List._++_ t9 t2);
+          slots = List._∷_ (Row.lease (κs .0) (qs .0)) (List._∷_ (Row.lease (κs .1 .0) (qs .1 .0)) (List._∷_ Row.off (List._∷_ (Row.lease (κs .1 .1 .1 .0) (qs
+              .1 .1 .1 .0)) (List._∷_ (Row.lease (κs .1 .1 .1 .1 .0) (qs .1 .1 .1 .1 .0)) (List._∷_ Row.alive (List._∷_ Row.off (List._∷_ Row.off (List._∷_ Row.off (List._∷_ Row.off (List._∷_ Row.off
+              (List._∷_ Row.off List.[])))))))))));
+        }
 
         abbrev G12 : Row.Cx
-        G12 = record
-            { locals = List._++_ g7 (List._++_ t10 t2); slots = List._∷_ (Row.lease (κs .0) (qs .0)) (List._∷_ (Row.lease (κs .1 .0) (qs .1 .0)) (List._∷_ Row.off (List._∷_ (Row.lease (κs .1 .1 .1 .0) (qs
-            .1 .1 .1 .0)) (List._∷_ (Row.lease (κs .1 .1 .1 .1 .0) (qs .1 .1 .1 .1 .0)) (List._∷_ Row.alive (List._∷_ Row.off (List._∷_ Row.off (List._∷_ Row.off (List._∷_ Row.off (List._∷_ Row.off
-            (List._∷_ Row.off List.[]))))))))))); }
+        G12 = record {
+          locals = List._++_ g7 (List._++_ t10 t2);
+          slots = List._∷_ (Row.lease (κs .0) (qs .0)) (List._∷_ (Row.lease (κs .1 .0) (qs .1 .0)) (List._∷_ Row.off (List._∷_ (Row.lease (κs .1 .1 .1 .0) (qs
+              .1 .1 .1 .0)) (List._∷_ (Row.lease (κs .1 .1 .1 .1 .0) (qs .1 .1 .1 .1 .0)) (List._∷_ Row.alive (List._∷_ Row.off (List._∷_ Row.off (List._∷_ Row.off (List._∷_ Row.off (List._∷_ Row.off
+              (List._∷_ Row.off List.[])))))))))));
+        }
 
         abbrev G13 : Row.Cx
-        G13 = record
-            { locals = List._++_ g7 (List._++_ t11 t2); slots = List._∷_ (Row.lease (κs .0) (qs .0)) (List._∷_ (Row.lease (κs .1 .0) (qs .1 .0)) (List._∷_ Row.off (List._∷_ (Row.lease (κs .1 .1 .1 .0) (qs
-            .1 .1 .1 .0)) (List._∷_ (Row.lease (κs .1 .1 .1 .1 .0) (qs .1 .1 .1 .1 .0)) (List._∷_ Row.alive (List._∷_ Row.off (List._∷_ Row.off (List._∷_ Row.off (List._∷_ Row.off (List._∷_ Row.off
-            (List._∷_ Row.off List.[]))))))))))); }
+        G13 = record {
+          locals = List._++_ g7 (List._++_ t11 t2);
+          slots = List._∷_ (Row.lease (κs .0) (qs .0)) (List._∷_ (Row.lease (κs .1 .0) (qs .1 .0)) (List._∷_ Row.off (List._∷_ (Row.lease (κs .1 .1 .1 .0) (qs
+              .1 .1 .1 .0)) (List._∷_ (Row.lease (κs .1 .1 .1 .1 .0) (qs .1 .1 .1 .1 .0)) (List._∷_ Row.alive (List._∷_ Row.off (List._∷_ Row.off (List._∷_ Row.off (List._∷_ Row.off (List._∷_ Row.off
+              (List._∷_ Row.off List.[])))))))))));
+        }
 
         abbrev G14 : Row.Cx
-        G14 = record
-            { locals = List._++_ g7 (List._++_ t11 t2); slots = List._∷_ (Row.lease (κs .0) (qs .0)) (List._∷_ (Row.lease (κs .1 .0) (qs .1 .0)) (List._∷_ Row.off (List._∷_ (Row.lease (κs .1 .1 .1 .0) (qs
-            .1 .1 .1 .0)) (List._∷_ (Row.lease (κs .1 .1 .1 .1 .0) (qs .1 .1 .1 .1 .0)) (List._∷_ Row.dead (List._∷_ Row.off (List._∷_ Row.off (List._∷_ Row.off (List._∷_ Row.off (List._∷_ Row.off
-            (List._∷_ Row.off List.[]))))))))))); }
+        G14 = record {
+          locals = List._++_ g7 (List._++_ t11 t2);
+          slots = List._∷_ (Row.lease (κs .0) (qs .0)) (List._∷_ (Row.lease (κs .1 .0) (qs .1 .0)) (List._∷_ Row.off (List._∷_ (Row.lease (κs .1 .1 .1 .0) (qs
+              .1 .1 .1 .0)) (List._∷_ (Row.lease (κs .1 .1 .1 .1 .0) (qs .1 .1 .1 .1 .0)) (List._∷_ Row.dead (List._∷_ Row.off (List._∷_ Row.off (List._∷_ Row.off (List._∷_ Row.off (List._∷_ Row.off
+              (List._∷_ Row.off List.[])))))))))));
+        }
 
         abbrev G15 : Row.Cx
-        G15 = record
-            { locals = List._++_ t6 (List._++_ t1 t2); slots = List._∷_ (Row.lease (κs .0) (qs .0)) (List._∷_ (Row.lease (κs .1 .0) (qs .1 .0)) (List._∷_ (Row.lease (κs .1 .1 .0) (qs .1 .1 .0)) (List._∷_
-            (Row.lease (κs .1 .1 .1 .0) (qs .1 .1 .1 .0)) (List._∷_ (Row.lease (κs .1 .1 .1 .1 .0) (qs .1 .1 .1 .1 .0)) (List._∷_ Row.dead (List._∷_ Row.off (List._∷_ Row.off (List._∷_ Row.off (List._∷_
-            Row.off (List._∷_ Row.off (List._∷_ Row.off List.[]))))))))))); }
+        G15 = record {
+          locals = List._++_ t6 (List._++_ t1 t2);
+          slots = List._∷_ (Row.lease (κs .0) (qs .0)) (List._∷_ (Row.lease (κs .1 .0) (qs .1 .0)) (List._∷_ (Row.lease (κs .1 .1 .0) (qs .1 .1 .0)) (List._∷_
+              (Row.lease (κs .1 .1 .1 .0) (qs .1 .1 .1 .0)) (List._∷_ (Row.lease (κs .1 .1 .1 .1 .0) (qs .1 .1 .1 .1 .0)) (List._∷_ Row.dead (List._∷_ Row.off (List._∷_ Row.off (List._∷_ Row.off (List._∷_
+              Row.off (List._∷_ Row.off (List._∷_ Row.off List.[])))))))))));
+        }
 
         abbrev G16 : Row.Cx
-        G16 = record
-            { locals = List._++_ t6 (List._++_ t1 t2); slots = List._∷_ (Row.lease (κs .0) (qs .0)) (List._∷_ (Row.lease (κs .1 .0) (qs .1 .0)) (List._∷_ (Row.lease (κs .1 .1 .0) (qs .1 .1 .0)) (List._∷_
-            (Row.lease (κs .1 .1 .1 .0) (qs .1 .1 .1 .0)) (List._∷_ (Row.lease (κs .1 .1 .1 .1 .0) (qs .1 .1 .1 .1 .0)) (List._∷_ Row.dead (List._∷_ Row.off (List._∷_ Row.off (List._∷_ Row.off (List._∷_
-            Row.off (List._∷_ Row.off (List._∷_ Row.off List.[]))))))))))); }
+        G16 = record {
+          locals = List._++_ t6 (List._++_ t1 t2);
+          slots = List._∷_ (Row.lease (κs .0) (qs .0)) (List._∷_ (Row.lease (κs .1 .0) (qs .1 .0)) (List._∷_ (Row.lease (κs .1 .1 .0) (qs .1 .1 .0)) (List._∷_
+              (Row.lease (κs .1 .1 .1 .0) (qs .1 .1 .1 .0)) (List._∷_ (Row.lease (κs .1 .1 .1 .1 .0) (qs .1 .1 .1 .1 .0)) (List._∷_ Row.dead (List._∷_ Row.off (List._∷_ Row.off (List._∷_ Row.off (List._∷_
+              Row.off (List._∷_ Row.off (List._∷_ Row.off List.[])))))))))));
+        }
 
         abbrev G17 : Row.Cx
-        G17 = record
-            { locals = List._++_ t6 (List._++_ t1 t2); slots = List._∷_ (Row.lease (κs .0) (qs .0)) (List._∷_ (Row.lease (κs .1 .0) (qs .1 .0)) (List._∷_ (Row.lease (κs .1 .1 .0) (qs .1 .1 .0)) (List._∷_
-            (Row.lease (κs .1 .1 .1 .0) (qs .1 .1 .1 .0)) (List._∷_ (Row.lease (κs .1 .1 .1 .1 .0) (qs .1 .1 .1 .1 .0)) (List._∷_ Row.off (List._∷_ Row.off (List._∷_ Row.off (List._∷_ Row.off (List._∷_
-            Row.off (List._∷_ Row.off (List._∷_ Row.off List.[]))))))))))); }
+        G17 = record {
+          locals = List._++_ t6 (List._++_ t1 t2);
+          slots = List._∷_ (Row.lease (κs .0) (qs .0)) (List._∷_ (Row.lease (κs .1 .0) (qs .1 .0)) (List._∷_ (Row.lease (κs .1 .1 .0) (qs .1 .1 .0)) (List._∷_
+              (Row.lease (κs .1 .1 .1 .0) (qs .1 .1 .1 .0)) (List._∷_ (Row.lease (κs .1 .1 .1 .1 .0) (qs .1 .1 .1 .1 .0)) (List._∷_ Row.off (List._∷_ Row.off (List._∷_ Row.off (List._∷_ Row.off (List._∷_
+              Row.off (List._∷_ Row.off (List._∷_ Row.off List.[])))))))))));
+        }
 
         abbrev G18 : Row.Cx
-        G18 = record
-            { locals = List._++_ t6 (List._++_ t1 t2); slots = List._∷_ (Row.lease (κs .0) (qs .0)) (List._∷_ (Row.lease (κs .1 .0) (qs .1 .0)) (List._∷_ (Row.lease (κs .1 .1 .0) (qs .1 .1 .0)) (List._∷_
-            (Row.lease (κs .1 .1 .1 .0) (qs .1 .1 .1 .0)) (List._∷_ (Row.lease (κs .1 .1 .1 .1 .0) (qs .1 .1 .1 .1 .0)) (List._∷_ Row.off (List._∷_ Row.alive (List._∷_ Row.off (List._∷_ Row.off (List._∷_
-            Row.off (List._∷_ Row.off (List._∷_ Row.off List.[]))))))))))); }
+        G18 = record {
+          locals = List._++_ t6 (List._++_ t1 t2);
+          slots = List._∷_ (Row.lease (κs .0) (qs .0)) (List._∷_ (Row.lease (κs .1 .0) (qs .1 .0)) (List._∷_ (Row.lease (κs .1 .1 .0) (qs .1 .1 .0)) (List._∷_
+              (Row.lease (κs .1 .1 .1 .0) (qs .1 .1 .1 .0)) (List._∷_ (Row.lease (κs .1 .1 .1 .1 .0) (qs .1 .1 .1 .1 .0)) (List._∷_ Row.off (List._∷_ Row.alive (List._∷_ Row.off (List._∷_ Row.off (List._∷_
+              Row.off (List._∷_ Row.off (List._∷_ Row.off List.[])))))))))));
+        }
 
         abbrev G19 : Row.Cx
-        G19 = record
-            { locals = List._++_ g12 (List._++_ t13 t2); slots = List._∷_ (Row.lease (κs .0) (qs .0)) (List._∷_ (Row.lease (κs .1 .0) (qs .1 .0)) (List._∷_ (Row.lease (κs .1 .1 .0) (qs .1 .1 .0))
-            (List._∷_ Row.off (List._∷_ (Row.lease (κs .1 .1 .1 .1 .0) (qs .1 .1 .1 .1 .0)) (List._∷_ Row.off (List._∷_ Row.alive (List._∷_ Row.off (List._∷_ Row.off (List._∷_ Row.off (List._∷_ Row.off
-            (List._∷_ Row.off List.[]))))))))))); }
+        G19 = record {
+          locals = List._++_ g12 (List._++_ t13 t2);
+          slots = List._∷_ (Row.lease (κs .0) (qs .0)) (List._∷_ (Row.lease (κs .1 .0) (qs .1 .0)) (List._∷_ (Row.lease (κs .1 .1 .0) (qs .1 .1 .0))
+              (List._∷_ Row.off (List._∷_ (Row.lease (κs .1 .1 .1 .1 .0) (qs .1 .1 .1 .1 .0)) (List._∷_ Row.off (List._∷_ Row.alive (List._∷_ Row.off (List._∷_ Row.off (List._∷_ Row.off (List._∷_ Row.off
+              (List._∷_ Row.off List.[])))))))))));
+        }
 
         abbrev G20 : Row.Cx
-        G20 = record
-            { locals = List._++_ g12 (List._++_ t14 t2); slots = List._∷_ (Row.lease (κs .0) (qs .0)) (List._∷_ (Row.lease (κs .1 .0) (qs .1 .0)) (List._∷_ (Row.lease (κs .1 .1 .0) (qs .1 .1 .0))
-            (List._∷_ Row.off (List._∷_ (Row.lease (κs .1 .1 .1 .1 .0) (qs .1 .1 .1 .1 .0)) (List._∷_ Row.off (List._∷_ Row.alive (List._∷_ Row.off (List._∷_ Row.off (List._∷_ Row.off (List._∷_ Row.off
-            (List._∷_ Row.off List.[]))))))))))); }
+        G20 = record {
+          locals = List._++_ g12 (List._++_ t14 t2);
+          slots = List._∷_ (Row.lease (κs .0) (qs .0)) (List._∷_ (Row.lease (κs .1 .0) (qs .1 .0)) (List._∷_ (Row.lease (κs .1 .1 .0) (qs .1 .1 .0))
+              (List._∷_ Row.off (List._∷_ (Row.lease (κs .1 .1 .1 .1 .0) (qs .1 .1 .1 .1 .0)) (List._∷_ Row.off (List._∷_ Row.alive (List._∷_ Row.off (List._∷_ Row.off (List._∷_ Row.off (List._∷_ Row.off
+              (List._∷_ Row.off List.[])))))))))));
+        }
 
         abbrev G21 : Row.Cx
-        G21 = record
-            { locals = List._++_ g12 (List._++_ t15 t2); slots = List._∷_ (Row.lease (κs .0) (qs .0)) (List._∷_ (Row.lease (κs .1 .0) (qs .1 .0)) (List._∷_ (Row.lease (κs .1 .1 .0) (qs .1 .1 .0))
-            (List._∷_ Row.off (List._∷_ (Row.lease (κs .1 .1 .1 .1 .0) (qs .1 .1 .1 .1 .0)) (List._∷_ Row.off (List._∷_ Row.alive (List._∷_ Row.off (List._∷_ Row.off (List._∷_ Row.off (List._∷_ Row.off
-            (List._∷_ Row.off List.[]))))))))))); }
+        G21 = record {
+          locals = List._++_ g12 (List._++_ t15 t2);
+          slots = List._∷_ (Row.lease (κs .0) (qs .0)) (List._∷_ (Row.lease (κs .1 .0) (qs .1 .0)) (List._∷_ (Row.lease (κs .1 .1 .0) (qs .1 .1 .0))
+              (List._∷_ Row.off (List._∷_ (Row.lease (κs .1 .1 .1 .1 .0) (qs .1 .1 .1 .1 .0)) (List._∷_ Row.off (List._∷_ Row.alive (List._∷_ Row.off (List._∷_ Row.off (List._∷_ Row.off (List._∷_ Row.off
+              (List._∷_ Row.off List.[])))))))))));
+        }
 
         abbrev G22 : Row.Cx
-        G22 = record
-            { locals = List._++_ g12 (List._++_ t16 t2); slots = List._∷_ (Row.lease (κs .0) (qs .0)) (List._∷_ (Row.lease (κs .1 .0) (qs .1 .0)) (List._∷_ (Row.lease (κs .1 .1 .0) (qs .1 .1 .0))
-            (List._∷_ Row.off (List._∷_ (Row.lease (κs .1 .1 .1 .1 .0) (qs .1 .1 .1 .1 .0)) (List._∷_ Row.off (List._∷_ Row.alive (List._∷_ Row.off (List._∷_ Row.off (List._∷_ Row.off (List._∷_ Row.off
-            (List._∷_ Row.off List.[]))))))))))); }
+        G22 = record {
+          locals = List._++_ g12 (List._++_ t16 t2);
+          slots = List._∷_ (Row.lease (κs .0) (qs .0)) (List._∷_ (Row.lease (κs .1 .0) (qs .1 .0)) (List._∷_ (Row.lease (κs .1 .1 .0) (qs .1 .1 .0))
+              (List._∷_ Row.off (List._∷_ (Row.lease (κs .1 .1 .1 .1 .0) (qs .1 .1 .1 .1 .0)) (List._∷_ Row.off (List._∷_ Row.alive (List._∷_ Row.off (List._∷_ Row.off (List._∷_ Row.off (List._∷_ Row.off
+              (List._∷_ Row.off List.[])))))))))));
+        }
 
         abbrev G23 : Row.Cx
-        G23 = record
-            { locals = List._++_ g12 (List._++_ t17 t2); slots = List._∷_ (Row.lease (κs .0) (qs .0)) (List._∷_ (Row.lease (κs .1 .0) (qs .1 .0)) (List._∷_ (Row.lease (κs .1 .1 .0) (qs .1 .1 .0))
-            (List._∷_ Row.off (List._∷_ (Row.lease (κs .1 .1 .1 .1 .0) (qs .1 .1 .1 .1 .0)) (List._∷_ Row.off (List._∷_ Row.alive (List._∷_ Row.off (List._∷_ Row.off (List._∷_ Row.off (List._∷_ Row.off
-            (List._∷_ Row.off List.[]))))))))))); }
+        G23 = record {
+          locals = List._++_ g12 (List._++_ t17 t2);
+          slots = List._∷_ (Row.lease (κs .0) (qs .0)) (List._∷_ (Row.lease (κs .1 .0) (qs .1 .0)) (List._∷_ (Row.lease (κs .1 .1 .0) (qs .1 .1 .0))
+              (List._∷_ Row.off (List._∷_ (Row.lease (κs .1 .1 .1 .1 .0) (qs .1 .1 .1 .1 .0)) (List._∷_ Row.off (List._∷_ Row.alive (List._∷_ Row.off (List._∷_ Row.off (List._∷_ Row.off (List._∷_ Row.off
+              (List._∷_ Row.off List.[])))))))))));
+        }
 
         abbrev G24 : Row.Cx
-        G24 = record
-            { locals = List._++_ g12 (List._++_ t18 t2); slots = List._∷_ (Row.lease (κs .0) (qs .0)) (List._∷_ (Row.lease (κs .1 .0) (qs .1 .0)) (List._∷_ (Row.lease (κs .1 .1 .0) (qs .1 .1 .0))
-            (List._∷_ Row.off (List._∷_ (Row.lease (κs .1 .1 .1 .1 .0) (qs .1 .1 .1 .1 .0)) (List._∷_ Row.off (List._∷_ Row.alive (List._∷_ Row.off (List._∷_ Row.off (List._∷_ Row.off (List._∷_ Row.off
-            (List._∷_ Row.off List.[]))))))))))); }
+        G24 = record {
+          locals = List._++_ g12 (List._++_ t18 t2);
+          slots = List._∷_ (Row.lease (κs .0) (qs .0)) (List._∷_ (Row.lease (κs .1 .0) (qs .1 .0)) (List._∷_ (Row.lease (κs .1 .1 .0) (qs .1 .1 .0))
+              (List._∷_ Row.off (List._∷_ (Row.lease (κs .1 .1 .1 .1 .0) (qs .1 .1 .1 .1 .0)) (List._∷_ Row.off (List._∷_ Row.alive (List._∷_ Row.off (List._∷_ Row.off (List._∷_ Row.off (List._∷_ Row.off
+              (List._∷_ Row.off List.[])))))))))));
+        }
 
         abbrev G25 : Row.Cx
-        G25 = record
-            { locals = List._++_ g12 (List._++_ t18 t2); slots = List._∷_ (Row.lease (κs .0) (qs .0)) (List._∷_ (Row.lease (κs .1 .0) (qs .1 .0)) (List._∷_ (Row.lease (κs .1 .1 .0) (qs .1 .1 .0))
-            (List._∷_ Row.off (List._∷_ (Row.lease (κs .1 .1 .1 .1 .0) (qs .1 .1 .1 .1 .0)) (List._∷_ Row.off (List._∷_ Row.dead (List._∷_ Row.off (List._∷_ Row.off (List._∷_ Row.off (List._∷_ Row.off
-            (List._∷_ Row.off List.[]))))))))))); }
+        G25 = record {
+          locals = List._++_ g12 (List._++_ t18 t2);
+          slots = List._∷_ (Row.lease (κs .0) (qs .0)) (List._∷_ (Row.lease (κs .1 .0) (qs .1 .0)) (List._∷_ (Row.lease (κs .1 .1 .0) (qs .1 .1 .0))
+              (List._∷_ Row.off (List._∷_ (Row.lease (κs .1 .1 .1 .1 .0) (qs .1 .1 .1 .1 .0)) (List._∷_ Row.off (List._∷_ Row.dead (List._∷_ Row.off (List._∷_ Row.off (List._∷_ Row.off (List._∷_ Row.off
+              (List._∷_ Row.off List.[])))))))))));
+        }
 
         abbrev G26 : Row.Cx
-        G26 = record
-            { locals = List._++_ t6 (List._++_ t1 t2); slots = List._∷_ (Row.lease (κs .0) (qs .0)) (List._∷_ (Row.lease (κs .1 .0) (qs .1 .0)) (List._∷_ (Row.lease (κs .1 .1 .0) (qs .1 .1 .0)) (List._∷_
-            (Row.lease (κs .1 .1 .1 .0) (qs .1 .1 .1 .0)) (List._∷_ (Row.lease (κs .1 .1 .1 .1 .0) (qs .1 .1 .1 .1 .0)) (List._∷_ Row.off (List._∷_ Row.dead (List._∷_ Row.off (List._∷_ Row.off (List._∷_
-            Row.off (List._∷_ Row.off (List._∷_ Row.off List.[]))))))))))); }
+        G26 = record {
+          locals = List._++_ t6 (List._++_ t1 t2);
+          slots = List._∷_ (Row.lease (κs .0) (qs .0)) (List._∷_ (Row.lease (κs .1 .0) (qs .1 .0)) (List._∷_ (Row.lease (κs .1 .1 .0) (qs .1 .1 .0)) (List._∷_
+              (Row.lease (κs .1 .1 .1 .0) (qs .1 .1 .1 .0)) (List._∷_ (Row.lease (κs .1 .1 .1 .1 .0) (qs .1 .1 .1 .1 .0)) (List._∷_ Row.off (List._∷_ Row.dead (List._∷_ Row.off (List._∷_ Row.off (List._∷_
+              Row.off (List._∷_ Row.off (List._∷_ Row.off List.[])))))))))));
+        }
 
         abbrev G27 : Row.Cx
-        G27 = record
-            { locals = List._++_ t6 (List._++_ t1 t2); slots = List._∷_ (Row.lease (κs .0) (qs .0)) (List._∷_ (Row.lease (κs .1 .0) (qs .1 .0)) (List._∷_ (Row.lease (κs .1 .1 .0) (qs .1 .1 .0)) (List._∷_
-            (Row.lease (κs .1 .1 .1 .0) (qs .1 .1 .1 .0)) (List._∷_ (Row.lease (κs .1 .1 .1 .1 .0) (qs .1 .1 .1 .1 .0)) (List._∷_ Row.off (List._∷_ Row.off (List._∷_ Row.off (List._∷_ Row.off (List._∷_
-            Row.off (List._∷_ Row.off (List._∷_ Row.off List.[]))))))))))); }
+        G27 = record {
+          locals = List._++_ t6 (List._++_ t1 t2);
+          slots = List._∷_ (Row.lease (κs .0) (qs .0)) (List._∷_ (Row.lease (κs .1 .0) (qs .1 .0)) (List._∷_ (Row.lease (κs .1 .1 .0) (qs .1 .1 .0)) (List._∷_
+              (Row.lease (κs .1 .1 .1 .0) (qs .1 .1 .1 .0)) (List._∷_ (Row.lease (κs .1 .1 .1 .1 .0) (qs .1 .1 .1 .1 .0)) (List._∷_ Row.off (List._∷_ Row.off (List._∷_ Row.off (List._∷_ Row.off (List._∷_
+              Row.off (List._∷_ Row.off (List._∷_ Row.off List.[])))))))))));
+        }
 
         abbrev G28 : Row.Cx
-        G28 = record
-            { locals = List._++_ t19 (List._++_ t1 t2); slots = List._∷_ (Row.lease (κs .0) (qs .0)) (List._∷_ (Row.lease (κs .1 .0) (qs .1 .0)) (List._∷_ (Row.lease (κs .1 .1 .0) (qs .1 .1 .0)) (List._∷_
-            (Row.lease (κs .1 .1 .1 .0) (qs .1 .1 .1 .0)) (List._∷_ (Row.lease (κs .1 .1 .1 .1 .0) (qs .1 .1 .1 .1 .0)) (List._∷_ Row.off (List._∷_ Row.off (List._∷_ Row.off (List._∷_ Row.off (List._∷_
-            Row.off (List._∷_ Row.off (List._∷_ Row.off List.[]))))))))))); }
+        G28 = record {
+          locals = List._++_ t19 (List._++_ t1 t2);
+          slots = List._∷_ (Row.lease (κs .0) (qs .0)) (List._∷_ (Row.lease (κs .1 .0) (qs .1 .0)) (List._∷_ (Row.lease (κs .1 .1 .0) (qs .1 .1 .0)) (List._∷_
+              (Row.lease (κs .1 .1 .1 .0) (qs .1 .1 .1 .0)) (List._∷_ (Row.lease (κs .1 .1 .1 .1 .0) (qs .1 .1 .1 .1 .0)) (List._∷_ Row.off (List._∷_ Row.off (List._∷_ Row.off (List._∷_ Row.off (List._∷_
+              Row.off (List._∷_ Row.off (List._∷_ Row.off List.[])))))))))));
+        }
 
         abbrev G29 : Row.Cx
-        G29 = record
-            { locals = List._++_ t20 (List._++_ t1 t2); slots = List._∷_ (Row.lease (κs .0) (qs .0)) (List._∷_ (Row.lease (κs .1 .0) (qs .1 .0)) (List._∷_ (Row.lease (κs .1 .1 .0) (qs .1 .1 .0)) (List._∷_
-            (Row.lease (κs .1 .1 .1 .0) (qs .1 .1 .1 .0)) (List._∷_ (Row.lease (κs .1 .1 .1 .1 .0) (qs .1 .1 .1 .1 .0)) (List._∷_ Row.off (List._∷_ Row.off (List._∷_ Row.off (List._∷_ Row.off (List._∷_
-            Row.off (List._∷_ Row.off (List._∷_ Row.off List.[]))))))))))); }
+        G29 = record {
+          locals = List._++_ t20 (List._++_ t1 t2);
+          slots = List._∷_ (Row.lease (κs .0) (qs .0)) (List._∷_ (Row.lease (κs .1 .0) (qs .1 .0)) (List._∷_ (Row.lease (κs .1 .1 .0) (qs .1 .1 .0)) (List._∷_
+              (Row.lease (κs .1 .1 .1 .0) (qs .1 .1 .1 .0)) (List._∷_ (Row.lease (κs .1 .1 .1 .1 .0) (qs .1 .1 .1 .1 .0)) (List._∷_ Row.off (List._∷_ Row.off (List._∷_ Row.off (List._∷_ Row.off (List._∷_
+              Row.off (List._∷_ Row.off (List._∷_ Row.off List.[])))))))))));
+        }
 
         abbrev G30 : Row.Cx
-        G30 = record
-            { locals = List._++_ t21 (List._++_ t1 t2); slots = List._∷_ (Row.lease (κs .0) (qs .0)) (List._∷_ (Row.lease (κs .1 .0) (qs .1 .0)) (List._∷_ (Row.lease (κs .1 .1 .0) (qs .1 .1 .0)) (List._∷_
-            (Row.lease (κs .1 .1 .1 .0) (qs .1 .1 .1 .0)) (List._∷_ (Row.lease (κs .1 .1 .1 .1 .0) (qs .1 .1 .1 .1 .0)) (List._∷_ Row.off (List._∷_ Row.off (List._∷_ Row.off (List._∷_ Row.off (List._∷_
-            Row.off (List._∷_ Row.off (List._∷_ Row.off List.[]))))))))))); }
+        G30 = record {
+          locals = List._++_ t21 (List._++_ t1 t2);
+          slots = List._∷_ (Row.lease (κs .0) (qs .0)) (List._∷_ (Row.lease (κs .1 .0) (qs .1 .0)) (List._∷_ (Row.lease (κs .1 .1 .0) (qs .1 .1 .0)) (List._∷_
+              (Row.lease (κs .1 .1 .1 .0) (qs .1 .1 .1 .0)) (List._∷_ (Row.lease (κs .1 .1 .1 .1 .0) (qs .1 .1 .1 .1 .0)) (List._∷_ Row.off (List._∷_ Row.off (List._∷_ Row.off (List._∷_ Row.off (List._∷_
+              Row.off (List._∷_ Row.off (List._∷_ Row.off List.[])))))))))));
+        }
 
         abbrev G31 : Row.Cx
-        G31 = record
-            { locals = List._++_ t22 (List._++_ t1 t2); slots = List._∷_ (Row.lease (κs .0) (qs .0)) (List._∷_ (Row.lease (κs .1 .0) (qs .1 .0)) (List._∷_ (Row.lease (κs .1 .1 .0) (qs .1 .1 .0)) (List._∷_
-            (Row.lease (κs .1 .1 .1 .0) (qs .1 .1 .1 .0)) (List._∷_ (Row.lease (κs .1 .1 .1 .1 .0) (qs .1 .1 .1 .1 .0)) (List._∷_ Row.off (List._∷_ Row.off (List._∷_ Row.off (List._∷_ Row.off (List._∷_
-            Row.off (List._∷_ Row.off (List._∷_ Row.off List.[]))))))))))); }
+        G31 = record {
+          locals = List._++_ t22 (List._++_ t1 t2);
+          slots = List._∷_ (Row.lease (κs .0) (qs .0)) (List._∷_ (Row.lease (κs .1 .0) (qs .1 .0)) (List._∷_ (Row.lease (κs .1 .1 .0) (qs .1 .1 .0)) (List._∷_
+              (Row.lease (κs .1 .1 .1 .0) (qs .1 .1 .1 .0)) (List._∷_ (Row.lease (κs .1 .1 .1 .1 .0) (qs .1 .1 .1 .1 .0)) (List._∷_ Row.off (List._∷_ Row.off (List._∷_ Row.off (List._∷_ Row.off (List._∷_
+              Row.off (List._∷_ Row.off (List._∷_ Row.off List.[])))))))))));
+        }
 
         abbrev G32 : Row.Cx
-        G32 = record
-            { locals = List._++_ t22 (List._++_ t23 t2); slots = List._∷_ (Row.lease (κs .0) (qs .0)) (List._∷_ (Row.lease (κs .1 .0) (qs .1 .0)) (List._∷_ (Row.lease (κs .1 .1 .0) (qs .1 .1 .0))
-            (List._∷_ (Row.lease (κs .1 .1 .1 .0) (qs .1 .1 .1 .0)) (List._∷_ (Row.lease (κs .1 .1 .1 .1 .0) (qs .1 .1 .1 .1 .0)) (List._∷_ Row.off (List._∷_ Row.off (List._∷_ Row.off (List._∷_ Row.off
-            (List._∷_ Row.off (List._∷_ Row.off (List._∷_ Row.off List.[]))))))))))); }
+        G32 = record {
+          locals = List._++_ t22 (List._++_ t23 t2);
+          slots = List._∷_ (Row.lease (κs .0) (qs .0)) (List._∷_ (Row.lease (κs .1 .0) (qs .1 .0)) (List._∷_ (Row.lease (κs .1 .1 .0) (qs .1 .1 .0))
+              (List._∷_ (Row.lease (κs .1 .1 .1 .0) (qs .1 .1 .1 .0)) (List._∷_ (Row.lease (κs .1 .1 .1 .1 .0) (qs .1 .1 .1 .1 .0)) (List._∷_ Row.off (List._∷_ Row.off (List._∷_ Row.off (List._∷_ Row.off
+              (List._∷_ Row.off (List._∷_ Row.off (List._∷_ Row.off List.[])))))))))));
+        }
 
         abbrev G33 : Row.Cx
-        G33 = record
-            { locals = List._++_ t22 (List._++_ t1 t2); slots = List._∷_ (Row.lease (κs .0) (qs .0)) (List._∷_ (Row.lease (κs .1 .0) (qs .1 .0)) (List._∷_ (Row.lease (κs .1 .1 .0) (qs .1 .1 .0)) (List._∷_
-            (Row.lease (κs .1 .1 .1 .0) (qs .1 .1 .1 .0)) (List._∷_ (Row.lease (κs .1 .1 .1 .1 .0) (qs .1 .1 .1 .1 .0)) (List._∷_ Row.off (List._∷_ Row.off (List._∷_ Row.off (List._∷_ Row.off (List._∷_
-            Row.off (List._∷_ Row.off (List._∷_ Row.off List.[]))))))))))); }
+        G33 = record {
+          locals = List._++_ t22 (List._++_ t1 t2);
+          slots = List._∷_ (Row.lease (κs .0) (qs .0)) (List._∷_ (Row.lease (κs .1 .0) (qs .1 .0)) (List._∷_ (Row.lease (κs .1 .1 .0) (qs .1 .1 .0)) (List._∷_
+              (Row.lease (κs .1 .1 .1 .0) (qs .1 .1 .1 .0)) (List._∷_ (Row.lease (κs .1 .1 .1 .1 .0) (qs .1 .1 .1 .1 .0)) (List._∷_ Row.off (List._∷_ Row.off (List._∷_ Row.off (List._∷_ Row.off (List._∷_
+              Row.off (List._∷_ Row.off (List._∷_ Row.off List.[])))))))))));
+        }
 
         abbrev G34 : Row.Cx
-        G34 = record
-            { locals = List._++_ t22 (List._++_ t1 t2); slots = List._∷_ (Row.lease (κs .0) (qs .0)) (List._∷_ (Row.lease (κs .1 .0) (qs .1 .0)) (List._∷_ (Row.lease (κs .1 .1 .0) (qs .1 .1 .0)) (List._∷_
-            (Row.lease (κs .1 .1 .1 .0) (qs .1 .1 .1 .0)) (List._∷_ (Row.lease (κs .1 .1 .1 .1 .0) (qs .1 .1 .1 .1 .0)) (List._∷_ Row.off (List._∷_ Row.off (List._∷_ Row.off (List._∷_ Row.off (List._∷_
-            Row.off (List._∷_ Row.off (List._∷_ Row.off List.[]))))))))))); }
+        G34 = record {
+          locals = List._++_ t22 (List._++_ t1 t2);
+          slots = List._∷_ (Row.lease (κs .0) (qs .0)) (List._∷_ (Row.lease (κs .1 .0) (qs .1 .0)) (List._∷_ (Row.lease (κs .1 .1 .0) (qs .1 .1 .0)) (List._∷_
+              (Row.lease (κs .1 .1 .1 .0) (qs .1 .1 .1 .0)) (List._∷_ (Row.lease (κs .1 .1 .1 .1 .0) (qs .1 .1 .1 .1 .0)) (List._∷_ Row.off (List._∷_ Row.off (List._∷_ Row.off (List._∷_ Row.off (List._∷_
+              Row.off (List._∷_ Row.off (List._∷_ Row.off List.[])))))))))));
+        }
 
         abbrev G35 : Row.Cx
-        G35 = record
-            { locals = List._++_ t21 (List._++_ t23 t2); slots = List._∷_ (Row.lease (κs .0) (qs .0)) (List._∷_ (Row.lease (κs .1 .0) (qs .1 .0)) (List._∷_ (Row.lease (κs .1 .1 .0) (qs .1 .1 .0))
-            (List._∷_ (Row.lease (κs .1 .1 .1 .0) (qs .1 .1 .1 .0)) (List._∷_ (Row.lease (κs .1 .1 .1 .1 .0) (qs .1 .1 .1 .1 .0)) (List._∷_ Row.off (List._∷_ Row.off (List._∷_ Row.off (List._∷_ Row.off
-            (List._∷_ Row.off (List._∷_ Row.off (List._∷_ Row.off List.[]))))))))))); }
+        G35 = record {
+          locals = List._++_ t21 (List._++_ t23 t2);
+          slots = List._∷_ (Row.lease (κs .0) (qs .0)) (List._∷_ (Row.lease (κs .1 .0) (qs .1 .0)) (List._∷_ (Row.lease (κs .1 .1 .0) (qs .1 .1 .0))
+              (List._∷_ (Row.lease (κs .1 .1 .1 .0) (qs .1 .1 .1 .0)) (List._∷_ (Row.lease (κs .1 .1 .1 .1 .0) (qs .1 .1 .1 .1 .0)) (List._∷_ Row.off (List._∷_ Row.off (List._∷_ Row.off (List._∷_ Row.off
+              (List._∷_ Row.off (List._∷_ Row.off (List._∷_ Row.off List.[])))))))))));
+        }
 
         abbrev G36 : Row.Cx
-        G36 = record
-            { locals = List._++_ t21 (List._++_ t1 t2); slots = List._∷_ (Row.lease (κs .0) (qs .0)) (List._∷_ (Row.lease (κs .1 .0) (qs .1 .0)) (List._∷_ (Row.lease (κs .1 .1 .0) (qs .1 .1 .0)) (List._∷_
-            (Row.lease (κs .1 .1 .1 .0) (qs .1 .1 .1 .0)) (List._∷_ (Row.lease (κs .1 .1 .1 .1 .0) (qs .1 .1 .1 .1 .0)) (List._∷_ Row.off (List._∷_ Row.off (List._∷_ Row.off (List._∷_ Row.off (List._∷_
-            Row.off (List._∷_ Row.off (List._∷_ Row.off List.[]))))))))))); }
+        G36 = record {
+          locals = List._++_ t21 (List._++_ t1 t2);
+          slots = List._∷_ (Row.lease (κs .0) (qs .0)) (List._∷_ (Row.lease (κs .1 .0) (qs .1 .0)) (List._∷_ (Row.lease (κs .1 .1 .0) (qs .1 .1 .0)) (List._∷_
+              (Row.lease (κs .1 .1 .1 .0) (qs .1 .1 .1 .0)) (List._∷_ (Row.lease (κs .1 .1 .1 .1 .0) (qs .1 .1 .1 .1 .0)) (List._∷_ Row.off (List._∷_ Row.off (List._∷_ Row.off (List._∷_ Row.off (List._∷_
+              Row.off (List._∷_ Row.off (List._∷_ Row.off List.[])))))))))));
+        }
 
         abbrev G37 : Row.Cx
-        G37 = record
-            { locals = List._++_ t22 (List._++_ t1 t2); slots = List._∷_ (Row.lease (κs .0) (qs .0)) (List._∷_ (Row.lease (κs .1 .0) (qs .1 .0)) (List._∷_ (Row.lease (κs .1 .1 .0) (qs .1 .1 .0)) (List._∷_
-            (Row.lease (κs .1 .1 .1 .0) (qs .1 .1 .1 .0)) (List._∷_ (Row.lease (κs .1 .1 .1 .1 .0) (qs .1 .1 .1 .1 .0)) (List._∷_ Row.off (List._∷_ Row.off (List._∷_ Row.alive (List._∷_ Row.off (List._∷_
-            Row.off (List._∷_ Row.off (List._∷_ Row.off List.[]))))))))))); }
+        G37 = record {
+          locals = List._++_ t22 (List._++_ t1 t2);
+          slots = List._∷_ (Row.lease (κs .0) (qs .0)) (List._∷_ (Row.lease (κs .1 .0) (qs .1 .0)) (List._∷_ (Row.lease (κs .1 .1 .0) (qs .1 .1 .0)) (List._∷_
+              (Row.lease (κs .1 .1 .1 .0) (qs .1 .1 .1 .0)) (List._∷_ (Row.lease (κs .1 .1 .1 .1 .0) (qs .1 .1 .1 .1 .0)) (List._∷_ Row.off (List._∷_ Row.off (List._∷_ Row.alive (List._∷_ Row.off (List._∷_
+              Row.off (List._∷_ Row.off (List._∷_ Row.off List.[])))))))))));
+        }
 
         abbrev G38 : Row.Cx
-        G38 = record
-            { locals = List._++_ g24 (List._++_ t25 t2); slots = List._∷_ (Row.lease (κs .0) (qs .0)) (List._∷_ (Row.lease (κs .1 .0) (qs .1 .0)) (List._∷_ Row.off (List._∷_ (Row.lease (κs .1 .1 .1 .0)
-            (qs .1 .1 .1 .0)) (List._∷_ (Row.lease (κs .1 .1 .1 .1 .0) (qs .1 .1 .1 .1 .0)) (List._∷_ Row.off (List._∷_ Row.off (List._∷_ Row.alive (List._∷_ Row.off (List._∷_ Row.off (List._∷_ Row.off
-            (List._∷_ Row.off List.[]))))))))))); }
+        G38 = record {
+          locals = List._++_ g24 (List._++_ t25 t2);
+          slots = List._∷_ (Row.lease (κs .0) (qs .0)) (List._∷_ (Row.lease (κs .1 .0) (qs .1 .0)) (List._∷_ Row.off (List._∷_ (Row.lease (κs .1 .1 .1 .0)
+              (qs .1 .1 .1 .0)) (List._∷_ (Row.lease (κs .1 .1 .1 .1 .0) (qs .1 .1 .1 .1 .0)) (List._∷_ Row.off (List._∷_ Row.off (List._∷_ Row.alive (List._∷_ Row.off (List._∷_ Row.off (List._∷_ Row.off
+              (List._∷_ Row.off List.[])))))))))));
+        }
 
         abbrev G39 : Row.Cx
-        G39 = record
-            { locals = List._++_ g24 (List._++_ t26 t2); slots = List._∷_ (Row.lease (κs .0) (qs .0)) (List._∷_ (Row.lease (κs .1 .0) (qs .1 .0)) (List._∷_ Row.off (List._∷_ (Row.lease (κs .1 .1 .1 .0)
-            (qs .1 .1 .1 .0)) (List._∷_ (Row.lease (κs .1 .1 .1 .1 .0) (qs .1 .1 .1 .1 .0)) (List._∷_ Row.off (List._∷_ Row.off (List._∷_ Row.alive (List._∷_ Row.off (List._∷_ Row.off (List._∷_ Row.off
-            (List._∷_ Row.off List.[]))))))))))); }
+        G39 = record {
+          locals = List._++_ g24 (List._++_ t26 t2);
+          slots = List._∷_ (Row.lease (κs .0) (qs .0)) (List._∷_ (Row.lease (κs .1 .0) (qs .1 .0)) (List._∷_ Row.off (List._∷_ (Row.lease (κs .1 .1 .1 .0)
+              (qs .1 .1 .1 .0)) (List._∷_ (Row.lease (κs .1 .1 .1 .1 .0) (qs .1 .1 .1 .1 .0)) (List._∷_ Row.off (List._∷_ Row.off (List._∷_ Row.alive (List._∷_ Row.off (List._∷_ Row.off (List._∷_ Row.off
+              (List._∷_ Row.off List.[])))))))))));
+        }
 
         abbrev G40 : Row.Cx
-        G40 = record
-            { locals = List._++_ g24 (List._++_ t27 t2); slots = List._∷_ (Row.lease (κs .0) (qs .0)) (List._∷_ (Row.lease (κs .1 .0) (qs .1 .0)) (List._∷_ Row.off (List._∷_ (Row.lease (κs .1 .1 .1 .0)
-            (qs .1 .1 .1 .0)) (List._∷_ (Row.lease (κs .1 .1 .1 .1 .0) (qs .1 .1 .1 .1 .0)) (List._∷_ Row.off (List._∷_ Row.off (List._∷_ Row.alive (List._∷_ Row.off (List._∷_ Row.off (List._∷_ Row.off
-            (List._∷_ Row.off List.[]))))))))))); }
+        G40 = record {
+          locals = List._++_ g24 (List._++_ t27 t2);
+          slots = List._∷_ (Row.lease (κs .0) (qs .0)) (List._∷_ (Row.lease (κs .1 .0) (qs .1 .0)) (List._∷_ Row.off (List._∷_ (Row.lease (κs .1 .1 .1 .0)
+              (qs .1 .1 .1 .0)) (List._∷_ (Row.lease (κs .1 .1 .1 .1 .0) (qs .1 .1 .1 .1 .0)) (List._∷_ Row.off (List._∷_ Row.off (List._∷_ Row.alive (List._∷_ Row.off (List._∷_ Row.off (List._∷_ Row.off
+              (List._∷_ Row.off List.[])))))))))));
+        }
 
         abbrev G41 : Row.Cx
-        G41 = record
-            { locals = List._++_ g24 (List._++_ t28 t2); slots = List._∷_ (Row.lease (κs .0) (qs .0)) (List._∷_ (Row.lease (κs .1 .0) (qs .1 .0)) (List._∷_ Row.off (List._∷_ (Row.lease (κs .1 .1 .1 .0)
-            (qs .1 .1 .1 .0)) (List._∷_ (Row.lease (κs .1 .1 .1 .1 .0) (qs .1 .1 .1 .1 .0)) (List._∷_ Row.off (List._∷_ Row.off (List._∷_ Row.alive (List._∷_ Row.off (List._∷_ Row.off (List._∷_ Row.off
-            (List._∷_ Row.off List.[]))))))))))); }
+        G41 = record {
+          locals = List._++_ g24 (List._++_ t28 t2);
+          slots = List._∷_ (Row.lease (κs .0) (qs .0)) (List._∷_ (Row.lease (κs .1 .0) (qs .1 .0)) (List._∷_ Row.off (List._∷_ (Row.lease (κs .1 .1 .1 .0)
+              (qs .1 .1 .1 .0)) (List._∷_ (Row.lease (κs .1 .1 .1 .1 .0) (qs .1 .1 .1 .1 .0)) (List._∷_ Row.off (List._∷_ Row.off (List._∷_ Row.alive (List._∷_ Row.off (List._∷_ Row.off (List._∷_ Row.off
+              (List._∷_ Row.off List.[])))))))))));
+        }
 
         abbrev G42 : Row.Cx
-        G42 = record
-            { locals = List._++_ g24 (List._++_ t28 t2); slots = List._∷_ (Row.lease (κs .0) (qs .0)) (List._∷_ (Row.lease (κs .1 .0) (qs .1 .0)) (List._∷_ Row.off (List._∷_ (Row.lease (κs .1 .1 .1 .0)
-            (qs .1 .1 .1 .0)) (List._∷_ (Row.lease (κs .1 .1 .1 .1 .0) (qs .1 .1 .1 .1 .0)) (List._∷_ Row.off (List._∷_ Row.off (List._∷_ Row.dead (List._∷_ Row.off (List._∷_ Row.off (List._∷_ Row.off
-            (List._∷_ Row.off List.[]))))))))))); }
+        G42 = record {
+          locals = List._++_ g24 (List._++_ t28 t2);
+          slots = List._∷_ (Row.lease (κs .0) (qs .0)) (List._∷_ (Row.lease (κs .1 .0) (qs .1 .0)) (List._∷_ Row.off (List._∷_ (Row.lease (κs .1 .1 .1 .0)
+              (qs .1 .1 .1 .0)) (List._∷_ (Row.lease (κs .1 .1 .1 .1 .0) (qs .1 .1 .1 .1 .0)) (List._∷_ Row.off (List._∷_ Row.off (List._∷_ Row.dead (List._∷_ Row.off (List._∷_ Row.off (List._∷_ Row.off
+              (List._∷_ Row.off List.[])))))))))));
+        }
 
         abbrev G43 : Row.Cx
-        G43 = record
-            { locals = List._++_ t22 (List._++_ t1 t2); slots = List._∷_ (Row.lease (κs .0) (qs .0)) (List._∷_ (Row.lease (κs .1 .0) (qs .1 .0)) (List._∷_ (Row.lease (κs .1 .1 .0) (qs .1 .1 .0)) (List._∷_
-            (Row.lease (κs .1 .1 .1 .0) (qs .1 .1 .1 .0)) (List._∷_ (Row.lease (κs .1 .1 .1 .1 .0) (qs .1 .1 .1 .1 .0)) (List._∷_ Row.off (List._∷_ Row.off (List._∷_ Row.dead (List._∷_ Row.off (List._∷_
-            Row.off (List._∷_ Row.off (List._∷_ Row.off List.[]))))))))))); }
+        G43 = record {
+          locals = List._++_ t22 (List._++_ t1 t2);
+          slots = List._∷_ (Row.lease (κs .0) (qs .0)) (List._∷_ (Row.lease (κs .1 .0) (qs .1 .0)) (List._∷_ (Row.lease (κs .1 .1 .0) (qs .1 .1 .0)) (List._∷_
+              (Row.lease (κs .1 .1 .1 .0) (qs .1 .1 .1 .0)) (List._∷_ (Row.lease (κs .1 .1 .1 .1 .0) (qs .1 .1 .1 .1 .0)) (List._∷_ Row.off (List._∷_ Row.off (List._∷_ Row.dead (List._∷_ Row.off (List._∷_
+              Row.off (List._∷_ Row.off (List._∷_ Row.off List.[])))))))))));
+        }
 
         abbrev G44 : Row.Cx
-        G44 = record
-            { locals = List._++_ t22 (List._++_ t1 t2); slots = List._∷_ (Row.lease (κs .0) (qs .0)) (List._∷_ (Row.lease (κs .1 .0) (qs .1 .0)) (List._∷_ (Row.lease (κs .1 .1 .0) (qs .1 .1 .0)) (List._∷_
-            (Row.lease (κs .1 .1 .1 .0) (qs .1 .1 .1 .0)) (List._∷_ (Row.lease (κs .1 .1 .1 .1 .0) (qs .1 .1 .1 .1 .0)) (List._∷_ Row.off (List._∷_ Row.off (List._∷_ Row.dead (List._∷_ Row.off (List._∷_
-            Row.off (List._∷_ Row.off (List._∷_ Row.off List.[]))))))))))); }
+        G44 = record {
+          locals = List._++_ t22 (List._++_ t1 t2);
+          slots = List._∷_ (Row.lease (κs .0) (qs .0)) (List._∷_ (Row.lease (κs .1 .0) (qs .1 .0)) (List._∷_ (Row.lease (κs .1 .1 .0) (qs .1 .1 .0)) (List._∷_
+              (Row.lease (κs .1 .1 .1 .0) (qs .1 .1 .1 .0)) (List._∷_ (Row.lease (κs .1 .1 .1 .1 .0) (qs .1 .1 .1 .1 .0)) (List._∷_ Row.off (List._∷_ Row.off (List._∷_ Row.dead (List._∷_ Row.off (List._∷_
+              Row.off (List._∷_ Row.off (List._∷_ Row.off List.[])))))))))));
+        }
 
         abbrev G45 : Row.Cx
-        G45 = record
-            { locals = List._++_ t22 (List._++_ t1 t2); slots = List._∷_ (Row.lease (κs .0) (qs .0)) (List._∷_ (Row.lease (κs .1 .0) (qs .1 .0)) (List._∷_ (Row.lease (κs .1 .1 .0) (qs .1 .1 .0)) (List._∷_
-            (Row.lease (κs .1 .1 .1 .0) (qs .1 .1 .1 .0)) (List._∷_ (Row.lease (κs .1 .1 .1 .1 .0) (qs .1 .1 .1 .1 .0)) (List._∷_ Row.off (List._∷_ Row.off (List._∷_ Row.off (List._∷_ Row.off (List._∷_
-            Row.off (List._∷_ Row.off (List._∷_ Row.off List.[]))))))))))); }
+        G45 = record {
+          locals = List._++_ t22 (List._++_ t1 t2);
+          slots = List._∷_ (Row.lease (κs .0) (qs .0)) (List._∷_ (Row.lease (κs .1 .0) (qs .1 .0)) (List._∷_ (Row.lease (κs .1 .1 .0) (qs .1 .1 .0)) (List._∷_
+              (Row.lease (κs .1 .1 .1 .0) (qs .1 .1 .1 .0)) (List._∷_ (Row.lease (κs .1 .1 .1 .1 .0) (qs .1 .1 .1 .1 .0)) (List._∷_ Row.off (List._∷_ Row.off (List._∷_ Row.off (List._∷_ Row.off (List._∷_
+              Row.off (List._∷_ Row.off (List._∷_ Row.off List.[])))))))))));
+        }
 
         abbrev G46 : Row.Cx
-        G46 = record
-            { locals = List._++_ t29 (List._++_ t1 t2); slots = List._∷_ (Row.lease (κs .0) (qs .0)) (List._∷_ (Row.lease (κs .1 .0) (qs .1 .0)) (List._∷_ (Row.lease (κs .1 .1 .0) (qs .1 .1 .0)) (List._∷_
-            (Row.lease (κs .1 .1 .1 .0) (qs .1 .1 .1 .0)) (List._∷_ (Row.lease (κs .1 .1 .1 .1 .0) (qs .1 .1 .1 .1 .0)) (List._∷_ Row.off (List._∷_ Row.off (List._∷_ Row.off (List._∷_ Row.off (List._∷_
-            Row.off (List._∷_ Row.off (List._∷_ Row.off List.[]))))))))))); }
+        G46 = record {
+          locals = List._++_ t29 (List._++_ t1 t2);
+          slots = List._∷_ (Row.lease (κs .0) (qs .0)) (List._∷_ (Row.lease (κs .1 .0) (qs .1 .0)) (List._∷_ (Row.lease (κs .1 .1 .0) (qs .1 .1 .0)) (List._∷_
+              (Row.lease (κs .1 .1 .1 .0) (qs .1 .1 .1 .0)) (List._∷_ (Row.lease (κs .1 .1 .1 .1 .0) (qs .1 .1 .1 .1 .0)) (List._∷_ Row.off (List._∷_ Row.off (List._∷_ Row.off (List._∷_ Row.off (List._∷_
+              Row.off (List._∷_ Row.off (List._∷_ Row.off List.[])))))))))));
+        }
 
         abbrev G47 : Row.Cx
-        G47 = record
-            { locals = List._++_ t29 (List._++_ t1 t2); slots = List._∷_ (Row.lease (κs .0) (qs .0)) (List._∷_ (Row.lease (κs .1 .0) (qs .1 .0)) (List._∷_ (Row.lease (κs .1 .1 .0) (qs .1 .1 .0)) (List._∷_
-            (Row.lease (κs .1 .1 .1 .0) (qs .1 .1 .1 .0)) (List._∷_ (Row.lease (κs .1 .1 .1 .1 .0) (qs .1 .1 .1 .1 .0)) (List._∷_ Row.off (List._∷_ Row.off (List._∷_ Row.off (List._∷_ Row.alive (List._∷_
-            Row.off (List._∷_ Row.off (List._∷_ Row.off List.[]))))))))))); }
+        G47 = record {
+          locals = List._++_ t29 (List._++_ t1 t2);
+          slots = List._∷_ (Row.lease (κs .0) (qs .0)) (List._∷_ (Row.lease (κs .1 .0) (qs .1 .0)) (List._∷_ (Row.lease (κs .1 .1 .0) (qs .1 .1 .0)) (List._∷_
+              (Row.lease (κs .1 .1 .1 .0) (qs .1 .1 .1 .0)) (List._∷_ (Row.lease (κs .1 .1 .1 .1 .0) (qs .1 .1 .1 .1 .0)) (List._∷_ Row.off (List._∷_ Row.off (List._∷_ Row.off (List._∷_ Row.alive (List._∷_
+              Row.off (List._∷_ Row.off (List._∷_ Row.off List.[])))))))))));
+        }
 
         abbrev G48 : Row.Cx
-        G48 = record
-            { locals = List._++_ g30 (List._++_ t31 t2); slots = List._∷_ (Row.lease (κs .0) (qs .0)) (List._∷_ (Row.lease (κs .1 .0) (qs .1 .0)) (List._∷_ (Row.lease (κs .1 .1 .0) (qs .1 .1 .0))
-            (List._∷_ Row.off (List._∷_ (Row.lease (κs .1 .1 .1 .1 .0) (qs .1 .1 .1 .1 .0)) (List._∷_ Row.off (List._∷_ Row.off (List._∷_ Row.off (List._∷_ Row.alive (List._∷_ Row.off (List._∷_ Row.off
-            (List._∷_ Row.off List.[]))))))))))); }
+        G48 = record {
+          locals = List._++_ g30 (List._++_ t31 t2);
+          slots = List._∷_ (Row.lease (κs .0) (qs .0)) (List._∷_ (Row.lease (κs .1 .0) (qs .1 .0)) (List._∷_ (Row.lease (κs .1 .1 .0) (qs .1 .1 .0))
+              (List._∷_ Row.off (List._∷_ (Row.lease (κs .1 .1 .1 .1 .0) (qs .1 .1 .1 .1 .0)) (List._∷_ Row.off (List._∷_ Row.off (List._∷_ Row.off (List._∷_ Row.alive (List._∷_ Row.off (List._∷_ Row.off
+              (List._∷_ Row.off List.[])))))))))));
+        }
 
         abbrev G49 : Row.Cx
-        G49 = record
-            { locals = List._++_ g30 (List._++_ t32 t2); slots = List._∷_ (Row.lease (κs .0) (qs .0)) (List._∷_ (Row.lease (κs .1 .0) (qs .1 .0)) (List._∷_ (Row.lease (κs .1 .1 .0) (qs .1 .1 .0))
-            (List._∷_ Row.off (List._∷_ (Row.lease (κs .1 .1 .1 .1 .0) (qs .1 .1 .1 .1 .0)) (List._∷_ Row.off (List._∷_ Row.off (List._∷_ Row.off (List._∷_ Row.alive (List._∷_ Row.off (List._∷_ Row.off
-            (List._∷_ Row.off List.[]))))))))))); }
+        G49 = record {
+          locals = List._++_ g30 (List._++_ t32 t2);
+          slots = List._∷_ (Row.lease (κs .0) (qs .0)) (List._∷_ (Row.lease (κs .1 .0) (qs .1 .0)) (List._∷_ (Row.lease (κs .1 .1 .0) (qs .1 .1 .0))
+              (List._∷_ Row.off (List._∷_ (Row.lease (κs .1 .1 .1 .1 .0) (qs .1 .1 .1 .1 .0)) (List._∷_ Row.off (List._∷_ Row.off (List._∷_ Row.off (List._∷_ Row.alive (List._∷_ Row.off (List._∷_ Row.off
+              (List._∷_ Row.off List.[])))))))))));
+        }
 
         abbrev G50 : Row.Cx
-        G50 = record
-            { locals = List._++_ g30 (List._++_ t33 t2); slots = List._∷_ (Row.lease (κs .0) (qs .0)) (List._∷_ (Row.lease (κs .1 .0) (qs .1 .0)) (List._∷_ (Row.lease (κs .1 .1 .0) (qs .1 .1 .0))
-            (List._∷_ Row.off (List._∷_ (Row.lease (κs .1 .1 .1 .1 .0) (qs .1 .1 .1 .1 .0)) (List._∷_ Row.off (List._∷_ Row.off (List._∷_ Row.off (List._∷_ Row.alive (List._∷_ Row.off (List._∷_ Row.off
-            (List._∷_ Row.off List.[]))))))))))); }
+        G50 = record {
+          locals = List._++_ g30 (List._++_ t33 t2);
+          slots = List._∷_ (Row.lease (κs .0) (qs .0)) (List._∷_ (Row.lease (κs .1 .0) (qs .1 .0)) (List._∷_ (Row.lease (κs .1 .1 .0) (qs .1 .1 .0))
+              (List._∷_ Row.off (List._∷_ (Row.lease (κs .1 .1 .1 .1 .0) (qs .1 .1 .1 .1 .0)) (List._∷_ Row.off (List._∷_ Row.off (List._∷_ Row.off (List._∷_ Row.alive (List._∷_ Row.off (List._∷_ Row.off
+              (List._∷_ Row.off List.[])))))))))));
+        }
 
         abbrev G51 : Row.Cx
-        G51 = record
-            { locals = List._++_ g30 (List._++_ t34 t2); slots = List._∷_ (Row.lease (κs .0) (qs .0)) (List._∷_ (Row.lease (κs .1 .0) (qs .1 .0)) (List._∷_ (Row.lease (κs .1 .1 .0) (qs .1 .1 .0))
-            (List._∷_ Row.off (List._∷_ (Row.lease (κs .1 .1 .1 .1 .0) (qs .1 .1 .1 .1 .0)) (List._∷_ Row.off (List._∷_ Row.off (List._∷_ Row.off (List._∷_ Row.alive (List._∷_ Row.off (List._∷_ Row.off
-            (List._∷_ Row.off List.[]))))))))))); }
+        G51 = record {
+          locals = List._++_ g30 (List._++_ t34 t2);
+          slots = List._∷_ (Row.lease (κs .0) (qs .0)) (List._∷_ (Row.lease (κs .1 .0) (qs .1 .0)) (List._∷_ (Row.lease (κs .1 .1 .0) (qs .1 .1 .0))
+              (List._∷_ Row.off (List._∷_ (Row.lease (κs .1 .1 .1 .1 .0) (qs .1 .1 .1 .1 .0)) (List._∷_ Row.off (List._∷_ Row.off (List._∷_ Row.off (List._∷_ Row.alive (List._∷_ Row.off (List._∷_ Row.off
+              (List._∷_ Row.off List.[])))))))))));
+        }
 
         abbrev G52 : Row.Cx
-        G52 = record
-            { locals = List._++_ g30 (List._++_ t35 t2); slots = List._∷_ (Row.lease (κs .0) (qs .0)) (List._∷_ (Row.lease (κs .1 .0) (qs .1 .0)) (List._∷_ (Row.lease (κs .1 .1 .0) (qs .1 .1 .0))
-            (List._∷_ Row.off (List._∷_ (Row.lease (κs .1 .1 .1 .1 .0) (qs .1 .1 .1 .1 .0)) (List._∷_ Row.off (List._∷_ Row.off (List._∷_ Row.off (List._∷_ Row.alive (List._∷_ Row.off (List._∷_ Row.off
-            (List._∷_ Row.off List.[]))))))))))); }
+        G52 = record {
+          locals = List._++_ g30 (List._++_ t35 t2);
+          slots = List._∷_ (Row.lease (κs .0) (qs .0)) (List._∷_ (Row.lease (κs .1 .0) (qs .1 .0)) (List._∷_ (Row.lease (κs .1 .1 .0) (qs .1 .1 .0))
+              (List._∷_ Row.off (List._∷_ (Row.lease (κs .1 .1 .1 .1 .0) (qs .1 .1 .1 .1 .0)) (List._∷_ Row.off (List._∷_ Row.off (List._∷_ Row.off (List._∷_ Row.alive (List._∷_ Row.off (List._∷_ Row.off
+              (List._∷_ Row.off List.[])))))))))));
+        }
 
         abbrev G53 : Row.Cx
-        G53 = record
-            { locals = List._++_ g30 (List._++_ t36 t2); slots = List._∷_ (Row.lease (κs .0) (qs .0)) (List._∷_ (Row.lease (κs .1 .0) (qs .1 .0)) (List._∷_ (Row.lease (κs .1 .1 .0) (qs .1 .1 .0))
-            (List._∷_ Row.off (List._∷_ (Row.lease (κs .1 .1 .1 .1 .0) (qs .1 .1 .1 .1 .0)) (List._∷_ Row.off (List._∷_ Row.off (List._∷_ Row.off (List._∷_ Row.alive (List._∷_ Row.off (List._∷_ Row.off
-            (List._∷_ Row.off List.[]))))))))))); }
+        G53 = record {
+          locals = List._++_ g30 (List._++_ t36 t2);
+          slots = List._∷_ (Row.lease (κs .0) (qs .0)) (List._∷_ (Row.lease (κs .1 .0) (qs .1 .0)) (List._∷_ (Row.lease (κs .1 .1 .0) (qs .1 .1 .0))
+              (List._∷_ Row.off (List._∷_ (Row.lease (κs .1 .1 .1 .1 .0) (qs .1 .1 .1 .1 .0)) (List._∷_ Row.off (List._∷_ Row.off (List._∷_ Row.off (List._∷_ Row.alive (List._∷_ Row.off (List._∷_ Row.off
+              (List._∷_ Row.off List.[])))))))))));
+        }
 
         abbrev G54 : Row.Cx
-        G54 = record
-            { locals = List._++_ g30 (List._++_ t36 t2); slots = List._∷_ (Row.lease (κs .0) (qs .0)) (List._∷_ (Row.lease (κs .1 .0) (qs .1 .0)) (List._∷_ (Row.lease (κs .1 .1 .0) (qs .1 .1 .0))
-            (List._∷_ Row.off (List._∷_ (Row.lease (κs .1 .1 .1 .1 .0) (qs .1 .1 .1 .1 .0)) (List._∷_ Row.off (List._∷_ Row.off (List._∷_ Row.off (List._∷_ Row.dead (List._∷_ Row.off (List._∷_ Row.off
-            (List._∷_ Row.off List.[]))))))))))); }
+        G54 = record {
+          locals = List._++_ g30 (List._++_ t36 t2);
+          slots = List._∷_ (Row.lease (κs .0) (qs .0)) (List._∷_ (Row.lease (κs .1 .0) (qs .1 .0)) (List._∷_ (Row.lease (κs .1 .1 .0) (qs .1 .1 .0))
+              (List._∷_ Row.off (List._∷_ (Row.lease (κs .1 .1 .1 .1 .0) (qs .1 .1 .1 .1 .0)) (List._∷_ Row.off (List._∷_ Row.off (List._∷_ Row.off (List._∷_ Row.dead (List._∷_ Row.off (List._∷_ Row.off
+              (List._∷_ Row.off List.[])))))))))));
+        }
 
         abbrev G55 : Row.Cx
-        G55 = record
-            { locals = List._++_ t29 (List._++_ t1 t2); slots = List._∷_ (Row.lease (κs .0) (qs .0)) (List._∷_ (Row.lease (κs .1 .0) (qs .1 .0)) (List._∷_ (Row.lease (κs .1 .1 .0) (qs .1 .1 .0)) (List._∷_
-            (Row.lease (κs .1 .1 .1 .0) (qs .1 .1 .1 .0)) (List._∷_ (Row.lease (κs .1 .1 .1 .1 .0) (qs .1 .1 .1 .1 .0)) (List._∷_ Row.off (List._∷_ Row.off (List._∷_ Row.off (List._∷_ Row.dead (List._∷_
-            Row.off (List._∷_ Row.off (List._∷_ Row.off List.[]))))))))))); }
+        G55 = record {
+          locals = List._++_ t29 (List._++_ t1 t2);
+          slots = List._∷_ (Row.lease (κs .0) (qs .0)) (List._∷_ (Row.lease (κs .1 .0) (qs .1 .0)) (List._∷_ (Row.lease (κs .1 .1 .0) (qs .1 .1 .0)) (List._∷_
+              (Row.lease (κs .1 .1 .1 .0) (qs .1 .1 .1 .0)) (List._∷_ (Row.lease (κs .1 .1 .1 .1 .0) (qs .1 .1 .1 .1 .0)) (List._∷_ Row.off (List._∷_ Row.off (List._∷_ Row.off (List._∷_ Row.dead (List._∷_
+              Row.off (List._∷_ Row.off (List._∷_ Row.off List.[])))))))))));
+        }
 
         abbrev G56 : Row.Cx
-        G56 = record
-            { locals = List._++_ t29 (List._++_ t1 t2); slots = List._∷_ (Row.lease (κs .0) (qs .0)) (List._∷_ (Row.lease (κs .1 .0) (qs .1 .0)) (List._∷_ (Row.lease (κs .1 .1 .0) (qs .1 .1 .0)) (List._∷_
-            (Row.lease (κs .1 .1 .1 .0) (qs .1 .1 .1 .0)) (List._∷_ (Row.lease (κs .1 .1 .1 .1 .0) (qs .1 .1 .1 .1 .0)) (List._∷_ Row.off (List._∷_ Row.off (List._∷_ Row.off (List._∷_ Row.off (List._∷_
-            Row.off (List._∷_ Row.off (List._∷_ Row.off List.[]))))))))))); }
+        G56 = record {
+          locals = List._++_ t29 (List._++_ t1 t2);
+          slots = List._∷_ (Row.lease (κs .0) (qs .0)) (List._∷_ (Row.lease (κs .1 .0) (qs .1 .0)) (List._∷_ (Row.lease (κs .1 .1 .0) (qs .1 .1 .0)) (List._∷_
+              (Row.lease (κs .1 .1 .1 .0) (qs .1 .1 .1 .0)) (List._∷_ (Row.lease (κs .1 .1 .1 .1 .0) (qs .1 .1 .1 .1 .0)) (List._∷_ Row.off (List._∷_ Row.off (List._∷_ Row.off (List._∷_ Row.off (List._∷_
+              Row.off (List._∷_ Row.off (List._∷_ Row.off List.[])))))))))));
+        }
 
         abbrev G57 : Row.Cx
-        G57 = record
-            { locals = List._++_ t29 (List._++_ t1 t2); slots = List._∷_ (Row.lease (κs .0) (qs .0)) (List._∷_ (Row.lease (κs .1 .0) (qs .1 .0)) (List._∷_ (Row.lease (κs .1 .1 .0) (qs .1 .1 .0)) (List._∷_
-            (Row.lease (κs .1 .1 .1 .0) (qs .1 .1 .1 .0)) (List._∷_ (Row.lease (κs .1 .1 .1 .1 .0) (qs .1 .1 .1 .1 .0)) (List._∷_ Row.off (List._∷_ Row.off (List._∷_ Row.off (List._∷_ Row.off (List._∷_
-            Row.alive (List._∷_ Row.off (List._∷_ Row.off List.[]))))))))))); }
+        G57 = record {
+          locals = List._++_ t29 (List._++_ t1 t2);
+          slots = List._∷_ (Row.lease (κs .0) (qs .0)) (List._∷_ (Row.lease (κs .1 .0) (qs .1 .0)) (List._∷_ (Row.lease (κs .1 .1 .0) (qs .1 .1 .0)) (List._∷_
+              (Row.lease (κs .1 .1 .1 .0) (qs .1 .1 .1 .0)) (List._∷_ (Row.lease (κs .1 .1 .1 .1 .0) (qs .1 .1 .1 .1 .0)) (List._∷_ Row.off (List._∷_ Row.off (List._∷_ Row.off (List._∷_ Row.off (List._∷_
+              Row.alive (List._∷_ Row.off (List._∷_ Row.off List.[])))))))))));
+        }
 
         abbrev G58 : Row.Cx
-        G58 = record
-            { locals = List._++_ g37 (List._++_ t38 t2); slots = List._∷_ (Row.lease (κs .0) (qs .0)) (List._∷_ Row.off (List._∷_ (Row.lease (κs .1 .1 .0) (qs .1 .1 .0)) (List._∷_ (Row.lease (κs .1 .1 .1
-            .0) (qs .1 .1 .1 .0)) (List._∷_ (Row.lease (κs .1 .1 .1 .1 .0) (qs .1 .1 .1 .1 .0)) (List._∷_ Row.off (List._∷_ Row.off (List._∷_ Row.off (List._∷_ Row.off (List._∷_ Row.alive (List._∷_
-            Row.off (List._∷_ Row.off List.[]))))))))))); }
+        G58 = record {
+          locals = List._++_ g37 (List._++_ t38 t2);
+          slots = List._∷_ (Row.lease (κs .0) (qs .0)) (List._∷_ Row.off (List._∷_ (Row.lease (κs .1 .1 .0) (qs .1 .1 .0)) (List._∷_ (Row.lease (κs .1 .1 .1
+              .0) (qs .1 .1 .1 .0)) (List._∷_ (Row.lease (κs .1 .1 .1 .1 .0) (qs .1 .1 .1 .1 .0)) (List._∷_ Row.off (List._∷_ Row.off (List._∷_ Row.off (List._∷_ Row.off (List._∷_ Row.alive (List._∷_
+              Row.off (List._∷_ Row.off List.[])))))))))));
+        }
 
         abbrev G59 : Row.Cx
-        G59 = record
-            { locals = List._++_ g37 (List._++_ t39 t2); slots = List._∷_ (Row.lease (κs .0) (qs .0)) (List._∷_ Row.off (List._∷_ (Row.lease (κs .1 .1 .0) (qs .1 .1 .0)) (List._∷_ (Row.lease (κs .1 .1 .1
-            .0) (qs .1 .1 .1 .0)) (List._∷_ (Row.lease (κs .1 .1 .1 .1 .0) (qs .1 .1 .1 .1 .0)) (List._∷_ Row.off (List._∷_ Row.off (List._∷_ Row.off (List._∷_ Row.off (List._∷_ Row.alive (List._∷_
-            Row.off (List._∷_ Row.off List.[]))))))))))); }
+        G59 = record {
+          locals = List._++_ g37 (List._++_ t39 t2);
+          slots = List._∷_ (Row.lease (κs .0) (qs .0)) (List._∷_ Row.off (List._∷_ (Row.lease (κs .1 .1 .0) (qs .1 .1 .0)) (List._∷_ (Row.lease (κs .1 .1 .1
+              .0) (qs .1 .1 .1 .0)) (List._∷_ (Row.lease (κs .1 .1 .1 .1 .0) (qs .1 .1 .1 .1 .0)) (List._∷_ Row.off (List._∷_ Row.off (List._∷_ Row.off (List._∷_ Row.off (List._∷_ Row.alive (List._∷_
+              Row.off (List._∷_ Row.off List.[])))))))))));
+        }
 
         abbrev G60 : Row.Cx
-        G60 = record
-            { locals = List._++_ g37 (List._++_ t39 t2); slots = List._∷_ (Row.lease (κs .0) (qs .0)) (List._∷_ Row.off (List._∷_ (Row.lease (κs .1 .1 .0) (qs .1 .1 .0)) (List._∷_ (Row.lease (κs .1 .1 .1
-            .0) (qs .1 .1 .1 .0)) (List._∷_ (Row.lease (κs .1 .1 .1 .1 .0) (qs .1 .1 .1 .1 .0)) (List._∷_ Row.off (List._∷_ Row.off (List._∷_ Row.off (List._∷_ Row.off (List._∷_ Row.alive (List._∷_
-            Row.alive (List._∷_ Row.off List.[]))))))))))); }
+        G60 = record {
+          locals = List._++_ g37 (List._++_ t39 t2);
+          slots = List._∷_ (Row.lease (κs .0) (qs .0)) (List._∷_ Row.off (List._∷_ (Row.lease (κs .1 .1 .0) (qs .1 .1 .0)) (List._∷_ (Row.lease (κs .1 .1 .1
+              .0) (qs .1 .1 .1 .0)) (List._∷_ (Row.lease (κs .1 .1 .1 .1 .0) (qs .1 .1 .1 .1 .0)) (List._∷_ Row.off (List._∷_ Row.off (List._∷_ Row.off (List._∷_ Row.off (List._∷_ Row.alive (List._∷_
+              Row.alive (List._∷_ Row.off List.[])))))))))));
+        }
 
         abbrev G61 : Row.Cx
-        G61 = record
-            { locals = List._++_ g40 (List._++_ t41 t2); slots = List._∷_ (Row.lease (κs .0) (qs .0)) (List._∷_ Row.off (List._∷_ Row.off (List._∷_ (Row.lease (κs .1 .1 .1 .0) (qs .1 .1 .1 .0)) (List._∷_
-            (Row.lease (κs .1 .1 .1 .1 .0) (qs .1 .1 .1 .1 .0)) (List._∷_ Row.off (List._∷_ Row.off (List._∷_ Row.off (List._∷_ Row.off (List._∷_ Row.alive (List._∷_ Row.alive (List._∷_ Row.off
-            List.[]))))))))))); }
+        G61 = record {
+          locals = List._++_ g40 (List._++_ t41 t2);
+          slots = List._∷_ (Row.lease (κs .0) (qs .0)) (List._∷_ Row.off (List._∷_ Row.off (List._∷_ (Row.lease (κs .1 .1 .1 .0) (qs .1 .1 .1 .0)) (List._∷_
+              (Row.lease (κs .1 .1 .1 .1 .0) (qs .1 .1 .1 .1 .0)) (List._∷_ Row.off (List._∷_ Row.off (List._∷_ Row.off (List._∷_ Row.off (List._∷_ Row.alive (List._∷_ Row.alive (List._∷_ Row.off
+              List.[])))))))))));
+        }
 
         abbrev G62 : Row.Cx
-        G62 = record
-            { locals = List._++_ g40 (List._++_ t39 t42); slots = List._∷_ (Row.lease (κs .0) (qs .0)) (List._∷_ Row.off (List._∷_ Row.off (List._∷_ (Row.lease (κs .1 .1 .1 .0) (qs .1 .1 .1 .0)) (List._∷_
-            (Row.lease (κs .1 .1 .1 .1 .0) (qs .1 .1 .1 .1 .0)) (List._∷_ Row.off (List._∷_ Row.off (List._∷_ Row.off (List._∷_ Row.off (List._∷_ Row.alive (List._∷_ Row.alive (List._∷_ Row.off
-            List.[]))))))))))); }
+        G62 = record {
+          locals = List._++_ g40 (List._++_ t39 t42);
+          slots = List._∷_ (Row.lease (κs .0) (qs .0)) (List._∷_ Row.off (List._∷_ Row.off (List._∷_ (Row.lease (κs .1 .1 .1 .0) (qs .1 .1 .1 .0)) (List._∷_
+              (Row.lease (κs .1 .1 .1 .1 .0) (qs .1 .1 .1 .1 .0)) (List._∷_ Row.off (List._∷_ Row.off (List._∷_ Row.off (List._∷_ Row.off (List._∷_ Row.alive (List._∷_ Row.alive (List._∷_ Row.off
+              List.[])))))))))));
+        }
 
         abbrev G63 : Row.Cx
-        G63 = record
-            { locals = List._++_ g40 (List._++_ t39 t42); slots = List._∷_ (Row.lease (κs .0) (qs .0)) (List._∷_ Row.off (List._∷_ Row.off (List._∷_ (Row.lease (κs .1 .1 .1 .0) (qs .1 .1 .1 .0)) (List._∷_
-            (Row.lease (κs .1 .1 .1 .1 .0) (qs .1 .1 .1 .1 .0)) (List._∷_ Row.off (List._∷_ Row.off (List._∷_ Row.off (List._∷_ Row.off (List._∷_ Row.alive (List._∷_ Row.alive (List._∷_ Row.alive
-            List.[]))))))))))); }
+        G63 = record {
+          locals = List._++_ g40 (List._++_ t39 t42);
+          slots = List._∷_ (Row.lease (κs .0) (qs .0)) (List._∷_ Row.off (List._∷_ Row.off (List._∷_ (Row.lease (κs .1 .1 .1 .0) (qs .1 .1 .1 .0)) (List._∷_
+              (Row.lease (κs .1 .1 .1 .1 .0) (qs .1 .1 .1 .1 .0)) (List._∷_ Row.off (List._∷_ Row.off (List._∷_ Row.off (List._∷_ Row.off (List._∷_ Row.alive (List._∷_ Row.alive (List._∷_ Row.alive
+              List.[])))))))))));
+        }
 
         abbrev G64 : Row.Cx
-        G64 = record
-            { locals = List._++_ g43 (List._++_ t39 t44); slots = List._∷_ (Row.lease (κs .0) (qs .0)) (List._∷_ Row.off (List._∷_ Row.off (List._∷_ Row.off (List._∷_ (Row.lease (κs .1 .1 .1 .1 .0) (qs .1
-            .1 .1 .1 .0)) (List._∷_ Row.off (List._∷_ Row.off (List._∷_ Row.off (List._∷_ Row.off (List._∷_ Row.alive (List._∷_ Row.alive (List._∷_ Row.alive List.[]))))))))))); }
+        G64 = record {
+          locals = List._++_ g43 (List._++_ t39 t44);
+          slots = List._∷_ (Row.lease (κs .0) (qs .0)) (List._∷_ Row.off (List._∷_ Row.off (List._∷_ Row.off (List._∷_ (Row.lease (κs .1 .1 .1 .1 .0) (qs .1
+              .1 .1 .1 .0)) (List._∷_ Row.off (List._∷_ Row.off (List._∷_ Row.off (List._∷_ Row.off (List._∷_ Row.alive (List._∷_ Row.alive (List._∷_ Row.alive List.[])))))))))));
+        }
 
         abbrev G65 : Row.Cx
-        G65 = record
-            { locals = List._++_ g43 (List._++_ t39 t45); slots = List._∷_ (Row.lease (κs .0) (qs .0)) (List._∷_ Row.off (List._∷_ Row.off (List._∷_ Row.off (List._∷_ (Row.lease (κs .1 .1 .1 .1 .0) (qs .1
-            .1 .1 .1 .0)) (List._∷_ Row.off (List._∷_ Row.off (List._∷_ Row.off (List._∷_ Row.off (List._∷_ Row.alive (List._∷_ Row.alive (List._∷_ Row.alive List.[]))))))))))); }
+        G65 = record {
+          locals = List._++_ g43 (List._++_ t39 t45);
+          slots = List._∷_ (Row.lease (κs .0) (qs .0)) (List._∷_ Row.off (List._∷_ Row.off (List._∷_ Row.off (List._∷_ (Row.lease (κs .1 .1 .1 .1 .0) (qs .1
+              .1 .1 .1 .0)) (List._∷_ Row.off (List._∷_ Row.off (List._∷_ Row.off (List._∷_ Row.off (List._∷_ Row.alive (List._∷_ Row.alive (List._∷_ Row.alive List.[])))))))))));
+        }
 
         abbrev G66 : Row.Cx
-        G66 = record
-            { locals = List._++_ g43 (List._++_ t39 t46); slots = List._∷_ (Row.lease (κs .0) (qs .0)) (List._∷_ Row.off (List._∷_ Row.off (List._∷_ Row.off (List._∷_ (Row.lease (κs .1 .1 .1 .1 .0) (qs .1
-            .1 .1 .1 .0)) (List._∷_ Row.off (List._∷_ Row.off (List._∷_ Row.off (List._∷_ Row.off (List._∷_ Row.alive (List._∷_ Row.alive (List._∷_ Row.alive List.[]))))))))))); }
+        G66 = record {
+          locals = List._++_ g43 (List._++_ t39 t46);
+          slots = List._∷_ (Row.lease (κs .0) (qs .0)) (List._∷_ Row.off (List._∷_ Row.off (List._∷_ Row.off (List._∷_ (Row.lease (κs .1 .1 .1 .1 .0) (qs .1
+              .1 .1 .1 .0)) (List._∷_ Row.off (List._∷_ Row.off (List._∷_ Row.off (List._∷_ Row.off (List._∷_ Row.alive (List._∷_ Row.alive (List._∷_ Row.alive List.[])))))))))));
+        }
 
         abbrev G67 : Row.Cx
-        G67 = record
-            { locals = List._++_ g47 (List._++_ t48 t49); slots = List._∷_ (Row.lease (κs .0) (qs .0)) (List._∷_ Row.off (List._∷_ Row.off (List._∷_ Row.off (List._∷_ (Row.lease (κs .1 .1 .1 .1 .0) (qs .1
-            .1 .1 .1 .0)) (List._∷_ Row.off (List._∷_ Row.off (List._∷_ Row.off (List._∷_ Row.off (List._∷_ Row.alive (List._∷_ Row.alive (List._∷_ Row.alive List.[]))))))))))); }
+        G67 = record {
+          locals = List._++_ g47 (List._++_ t48 t49);
+          slots = List._∷_ (Row.lease (κs .0) (qs .0)) (List._∷_ Row.off (List._∷_ Row.off (List._∷_ Row.off (List._∷_ (Row.lease (κs .1 .1 .1 .1 .0) (qs .1
+              .1 .1 .1 .0)) (List._∷_ Row.off (List._∷_ Row.off (List._∷_ Row.off (List._∷_ Row.off (List._∷_ Row.alive (List._∷_ Row.alive (List._∷_ Row.alive List.[])))))))))));
+        }
 
         abbrev G68 : Row.Cx
-        G68 = record
-            { locals = List._++_ t50 (List._++_ t51 t2); slots = List._∷_ (Row.lease (κs .0) (qs .0)) (List._∷_ (Row.lease (κs .1 .0) (qs .1 .0)) (List._∷_ (Row.lease (κs .1 .1 .0) (qs .1 .1 .0))
-            (List._∷_ (Row.lease (κs .1 .1 .1 .0) (qs .1 .1 .1 .0)) (List._∷_ (Row.lease (κs .1 .1 .1 .1 .0) (qs .1 .1 .1 .1 .0)) (List._∷_ Row.off (List._∷_ Row.off (List._∷_ Row.off (List._∷_ Row.off
-            (List._∷_ Row.off (List._∷_ Row.off (List._∷_ Row.off List.[]))))))))))); }
+        G68 = record {
+          locals = List._++_ t50 (List._++_ t51 t2);
+          slots = List._∷_ (Row.lease (κs .0) (qs .0)) (List._∷_ (Row.lease (κs .1 .0) (qs .1 .0)) (List._∷_ (Row.lease (κs .1 .1 .0) (qs .1 .1 .0))
+              (List._∷_ (Row.lease (κs .1 .1 .1 .0) (qs .1 .1 .1 .0)) (List._∷_ (Row.lease (κs .1 .1 .1 .1 .0) (qs .1 .1 .1 .1 .0)) (List._∷_ Row.off (List._∷_ Row.off (List._∷_ Row.off (List._∷_ Row.off
+              (List._∷_ Row.off (List._∷_ Row.off (List._∷_ Row.off List.[])))))))))));
+        }
 
         abbrev G69 : Row.Cx
-        G69 = record
-            { locals = List._++_ g52 (List._++_ t48 t49); slots = List._∷_ (Row.lease (κs .0) (qs .0)) (List._∷_ Row.off (List._∷_ Row.off (List._∷_ Row.off (List._∷_ (Row.lease (κs .1 .1 .1 .1 .0) (qs .1
-            .1 .1 .1 .0)) (List._∷_ Row.off (List._∷_ Row.off (List._∷_ Row.off (List._∷_ Row.off (List._∷_ Row.alive (List._∷_ Row.alive (List._∷_ Row.alive List.[]))))))))))); }
+        G69 = record {
+          locals = List._++_ g52 (List._++_ t48 t49);
+          slots = List._∷_ (Row.lease (κs .0) (qs .0)) (List._∷_ Row.off (List._∷_ Row.off (List._∷_ Row.off (List._∷_ (Row.lease (κs .1 .1 .1 .1 .0) (qs .1
+              .1 .1 .1 .0)) (List._∷_ Row.off (List._∷_ Row.off (List._∷_ Row.off (List._∷_ Row.off (List._∷_ Row.alive (List._∷_ Row.alive (List._∷_ Row.alive List.[])))))))))));
+        }
 
         abbrev G70 : Row.Cx
-        G70 = record
-            { locals = List._++_ g52 (List._++_ t48 t53); slots = List._∷_ (Row.lease (κs .0) (qs .0)) (List._∷_ Row.off (List._∷_ Row.off (List._∷_ Row.off (List._∷_ (Row.lease (κs .1 .1 .1 .1 .0) (qs .1
-            .1 .1 .1 .0)) (List._∷_ Row.off (List._∷_ Row.off (List._∷_ Row.off (List._∷_ Row.off (List._∷_ Row.alive (List._∷_ Row.alive (List._∷_ Row.alive List.[]))))))))))); }
+        G70 = record {
+          locals = List._++_ g52 (List._++_ t48 t53);
+          slots = List._∷_ (Row.lease (κs .0) (qs .0)) (List._∷_ Row.off (List._∷_ Row.off (List._∷_ Row.off (List._∷_ (Row.lease (κs .1 .1 .1 .1 .0) (qs .1
+              .1 .1 .1 .0)) (List._∷_ Row.off (List._∷_ Row.off (List._∷_ Row.off (List._∷_ Row.off (List._∷_ Row.alive (List._∷_ Row.alive (List._∷_ Row.alive List.[])))))))))));
+        }
 
         abbrev G71 : Row.Cx
-        G71 = record
-            { locals = List._++_ g52 (List._++_ t48 t53); slots = List._∷_ (Row.lease (κs .0) (qs .0)) (List._∷_ Row.off (List._∷_ Row.off (List._∷_ Row.off (List._∷_ (Row.lease (κs .1 .1 .1 .1 .0) (qs .1
-            .1 .1 .1 .0)) (List._∷_ Row.off (List._∷_ Row.off (List._∷_ Row.off (List._∷_ Row.off (List._∷_ Row.dead (List._∷_ Row.alive (List._∷_ Row.alive List.[]))))))))))); }
+        G71 = record {
+          locals = List._++_ g52 (List._++_ t48 t53);
+          slots = List._∷_ (Row.lease (κs .0) (qs .0)) (List._∷_ Row.off (List._∷_ Row.off (List._∷_ Row.off (List._∷_ (Row.lease (κs .1 .1 .1 .1 .0) (qs .1
+              .1 .1 .1 .0)) (List._∷_ Row.off (List._∷_ Row.off (List._∷_ Row.off (List._∷_ Row.off (List._∷_ Row.dead (List._∷_ Row.alive (List._∷_ Row.alive List.[])))))))))));
+        }
 
         abbrev G72 : Row.Cx
-        G72 = record
-            { locals = List._++_ g54 (List._++_ t1 t53); slots = List._∷_ (Row.lease (κs .0) (qs .0)) (List._∷_ (Row.lease (κs .1 .0) (qs .1 .0)) (List._∷_ Row.off (List._∷_ Row.off (List._∷_ (Row.lease
-            (κs .1 .1 .1 .1 .0) (qs .1 .1 .1 .1 .0)) (List._∷_ Row.off (List._∷_ Row.off (List._∷_ Row.off (List._∷_ Row.off (List._∷_ Row.dead (List._∷_ Row.alive (List._∷_ Row.alive List.[])))))))))));
-            }
+        G72 = record {
+          locals = List._++_ g54 (List._++_ t1 t53);
+          slots = List._∷_ (Row.lease (κs .0) (qs .0)) (List._∷_ (Row.lease (κs .1 .0) (qs .1 .0)) (List._∷_ Row.off (List._∷_ Row.off (List._∷_ (Row.lease
+              (κs .1 .1 .1 .1 .0) (qs .1 .1 .1 .1 .0)) (List._∷_ Row.off (List._∷_ Row.off (List._∷_ Row.off (List._∷_ Row.off (List._∷_ Row.dead (List._∷_ Row.alive (List._∷_ Row.alive List.[])))))))))));
+        }
 
         abbrev G73 : Row.Cx
-        G73 = record
-            { locals = List._++_ g54 (List._++_ t1 t53); slots = List._∷_ (Row.lease (κs .0) (qs .0)) (List._∷_ (Row.lease (κs .1 .0) (qs .1 .0)) (List._∷_ Row.off (List._∷_ Row.off (List._∷_ (Row.lease
-            (κs .1 .1 .1 .1 .0) (qs .1 .1 .1 .1 .0)) (List._∷_ Row.off (List._∷_ Row.off (List._∷_ Row.off (List._∷_ Row.off (List._∷_ Row.dead (List._∷_ Row.alive (List._∷_ Row.alive List.[])))))))))));
-            }
+        G73 = record {
+          locals = List._++_ g54 (List._++_ t1 t53);
+          slots = List._∷_ (Row.lease (κs .0) (qs .0)) (List._∷_ (Row.lease (κs .1 .0) (qs .1 .0)) (List._∷_ Row.off (List._∷_ Row.off (List._∷_ (Row.lease
+              (κs .1 .1 .1 .1 .0) (qs .1 .1 .1 .1 .0)) (List._∷_ Row.off (List._∷_ Row.off (List._∷_ Row.off (List._∷_ Row.off (List._∷_ Row.dead (List._∷_ Row.alive (List._∷_ Row.alive List.[])))))))))));
+        }
 
         abbrev G74 : Row.Cx
-        G74 = record
-            { locals = List._++_ g54 (List._++_ t1 t53); slots = List._∷_ (Row.lease (κs .0) (qs .0)) (List._∷_ (Row.lease (κs .1 .0) (qs .1 .0)) (List._∷_ Row.off (List._∷_ Row.off (List._∷_ (Row.lease
-            (κs .1 .1 .1 .1 .0) (qs .1 .1 .1 .1 .0)) (List._∷_ Row.off (List._∷_ Row.off (List._∷_ Row.off (List._∷_ Row.off (List._∷_ Row.off (List._∷_ Row.alive (List._∷_ Row.alive List.[]))))))))))); }
+        G74 = record {
+          locals = List._++_ g54 (List._++_ t1 t53);
+          slots = List._∷_ (Row.lease (κs .0) (qs .0)) (List._∷_ (Row.lease (κs .1 .0) (qs .1 .0)) (List._∷_ Row.off (List._∷_ Row.off (List._∷_ (Row.lease
+              (κs .1 .1 .1 .1 .0) (qs .1 .1 .1 .1 .0)) (List._∷_ Row.off (List._∷_ Row.off (List._∷_ Row.off (List._∷_ Row.off (List._∷_ Row.off (List._∷_ Row.alive (List._∷_ Row.alive List.[])))))))))));
+        }
 
         abbrev G75 : Row.Cx
-        G75 = record
-            { locals = List._++_ g54 (List._++_ t1 t53); slots = List._∷_ (Row.lease (κs .0) (qs .0)) (List._∷_ (Row.lease (κs .1 .0) (qs .1 .0)) (List._∷_ Row.off (List._∷_ Row.off (List._∷_ (Row.lease
-            (κs .1 .1 .1 .1 .0) (qs .1 .1 .1 .1 .0)) (List._∷_ Row.off (List._∷_ Row.off (List._∷_ Row.off (List._∷_ Row.off (List._∷_ Row.off (List._∷_ Row.dead (List._∷_ Row.alive List.[]))))))))))); }
+        G75 = record {
+          locals = List._++_ g54 (List._++_ t1 t53);
+          slots = List._∷_ (Row.lease (κs .0) (qs .0)) (List._∷_ (Row.lease (κs .1 .0) (qs .1 .0)) (List._∷_ Row.off (List._∷_ Row.off (List._∷_ (Row.lease
+              (κs .1 .1 .1 .1 .0) (qs .1 .1 .1 .1 .0)) (List._∷_ Row.off (List._∷_ Row.off (List._∷_ Row.off (List._∷_ Row.off (List._∷_ Row.off (List._∷_ Row.dead (List._∷_ Row.alive List.[])))))))))));
+        }
 
         abbrev G76 : Row.Cx
-        G76 = record
-            { locals = List._++_ g55 (List._++_ t1 t56); slots = List._∷_ (Row.lease (κs .0) (qs .0)) (List._∷_ (Row.lease (κs .1 .0) (qs .1 .0)) (List._∷_ (Row.lease (κs .1 .1 .0) (qs .1 .1 .0))
-            (List._∷_ Row.off (List._∷_ (Row.lease (κs .1 .1 .1 .1 .0) (qs .1 .1 .1 .1 .0)) (List._∷_ Row.off (List._∷_ Row.off (List._∷_ Row.off (List._∷_ Row.off (List._∷_ Row.off (List._∷_ Row.dead
-            (List._∷_ Row.alive List.[]))))))))))); }
+        G76 = record {
+          locals = List._++_ g55 (List._++_ t1 t56);
+          slots = List._∷_ (Row.lease (κs .0) (qs .0)) (List._∷_ (Row.lease (κs .1 .0) (qs .1 .0)) (List._∷_ (Row.lease (κs .1 .1 .0) (qs .1 .1 .0))
+              (List._∷_ Row.off (List._∷_ (Row.lease (κs .1 .1 .1 .1 .0) (qs .1 .1 .1 .1 .0)) (List._∷_ Row.off (List._∷_ Row.off (List._∷_ Row.off (List._∷_ Row.off (List._∷_ Row.off (List._∷_ Row.dead
+              (List._∷_ Row.alive List.[])))))))))));
+        }
 
         abbrev G77 : Row.Cx
-        G77 = record
-            { locals = List._++_ g55 (List._++_ t1 t56); slots = List._∷_ (Row.lease (κs .0) (qs .0)) (List._∷_ (Row.lease (κs .1 .0) (qs .1 .0)) (List._∷_ (Row.lease (κs .1 .1 .0) (qs .1 .1 .0))
-            (List._∷_ Row.off (List._∷_ (Row.lease (κs .1 .1 .1 .1 .0) (qs .1 .1 .1 .1 .0)) (List._∷_ Row.off (List._∷_ Row.off (List._∷_ Row.off (List._∷_ Row.off (List._∷_ Row.off (List._∷_ Row.dead
-            (List._∷_ Row.alive List.[]))))))))))); }
+        G77 = record {
+          locals = List._++_ g55 (List._++_ t1 t56);
+          slots = List._∷_ (Row.lease (κs .0) (qs .0)) (List._∷_ (Row.lease (κs .1 .0) (qs .1 .0)) (List._∷_ (Row.lease (κs .1 .1 .0) (qs .1 .1 .0))
+              (List._∷_ Row.off (List._∷_ (Row.lease (κs .1 .1 .1 .1 .0) (qs .1 .1 .1 .1 .0)) (List._∷_ Row.off (List._∷_ Row.off (List._∷_ Row.off (List._∷_ Row.off (List._∷_ Row.off (List._∷_ Row.dead
+              (List._∷_ Row.alive List.[])))))))))));
+        }
 
         abbrev G78 : Row.Cx
-        G78 = record
-            { locals = List._++_ g55 (List._++_ t1 t56); slots = List._∷_ (Row.lease (κs .0) (qs .0)) (List._∷_ (Row.lease (κs .1 .0) (qs .1 .0)) (List._∷_ (Row.lease (κs .1 .1 .0) (qs .1 .1 .0))
-            (List._∷_ Row.off (List._∷_ (Row.lease (κs .1 .1 .1 .1 .0) (qs .1 .1 .1 .1 .0)) (List._∷_ Row.off (List._∷_ Row.off (List._∷_ Row.off (List._∷_ Row.off (List._∷_ Row.off (List._∷_ Row.off
-            (List._∷_ Row.alive List.[]))))))))))); }
+        G78 = record {
+          locals = List._++_ g55 (List._++_ t1 t56);
+          slots = List._∷_ (Row.lease (κs .0) (qs .0)) (List._∷_ (Row.lease (κs .1 .0) (qs .1 .0)) (List._∷_ (Row.lease (κs .1 .1 .0) (qs .1 .1 .0))
+              (List._∷_ Row.off (List._∷_ (Row.lease (κs .1 .1 .1 .1 .0) (qs .1 .1 .1 .1 .0)) (List._∷_ Row.off (List._∷_ Row.off (List._∷_ Row.off (List._∷_ Row.off (List._∷_ Row.off (List._∷_ Row.off
+              (List._∷_ Row.alive List.[])))))))))));
+        }
 
         abbrev G79 : Row.Cx
-        G79 = record
-            { locals = List._++_ g55 (List._++_ t1 t56); slots = List._∷_ (Row.lease (κs .0) (qs .0)) (List._∷_ (Row.lease (κs .1 .0) (qs .1 .0)) (List._∷_ (Row.lease (κs .1 .1 .0) (qs .1 .1 .0))
-            (List._∷_ Row.off (List._∷_ (Row.lease (κs .1 .1 .1 .1 .0) (qs .1 .1 .1 .1 .0)) (List._∷_ Row.off (List._∷_ Row.off (List._∷_ Row.off (List._∷_ Row.off (List._∷_ Row.off (List._∷_ Row.off
-            (List._∷_ Row.dead List.[]))))))))))); }
+        G79 = record {
+          locals = List._++_ g55 (List._++_ t1 t56);
+          slots = List._∷_ (Row.lease (κs .0) (qs .0)) (List._∷_ (Row.lease (κs .1 .0) (qs .1 .0)) (List._∷_ (Row.lease (κs .1 .1 .0) (qs .1 .1 .0))
+              (List._∷_ Row.off (List._∷_ (Row.lease (κs .1 .1 .1 .1 .0) (qs .1 .1 .1 .1 .0)) (List._∷_ Row.off (List._∷_ Row.off (List._∷_ Row.off (List._∷_ Row.off (List._∷_ Row.off (List._∷_ Row.off
+              (List._∷_ Row.dead List.[])))))))))));
+        }
 
         abbrev G80 : Row.Cx
-        G80 = record
-            { locals = List._++_ t57 (List._++_ t1 t2); slots = List._∷_ (Row.lease (κs .0) (qs .0)) (List._∷_ (Row.lease (κs .1 .0) (qs .1 .0)) (List._∷_ (Row.lease (κs .1 .1 .0) (qs .1 .1 .0)) (List._∷_
-            (Row.lease (κs .1 .1 .1 .0) (qs .1 .1 .1 .0)) (List._∷_ (Row.lease (κs .1 .1 .1 .1 .0) (qs .1 .1 .1 .1 .0)) (List._∷_ Row.off (List._∷_ Row.off (List._∷_ Row.off (List._∷_ Row.off (List._∷_
-            Row.off (List._∷_ Row.off (List._∷_ Row.dead List.[]))))))))))); }
+        G80 = record {
+          locals = List._++_ t57 (List._++_ t1 t2);
+          slots = List._∷_ (Row.lease (κs .0) (qs .0)) (List._∷_ (Row.lease (κs .1 .0) (qs .1 .0)) (List._∷_ (Row.lease (κs .1 .1 .0) (qs .1 .1 .0)) (List._∷_
+              (Row.lease (κs .1 .1 .1 .0) (qs .1 .1 .1 .0)) (List._∷_ (Row.lease (κs .1 .1 .1 .1 .0) (qs .1 .1 .1 .1 .0)) (List._∷_ Row.off (List._∷_ Row.off (List._∷_ Row.off (List._∷_ Row.off (List._∷_
+              Row.off (List._∷_ Row.off (List._∷_ Row.dead List.[])))))))))));
+        }
 
         abbrev G81 : Row.Cx
-        G81 = record
-            { locals = List._++_ t57 (List._++_ t1 t2); slots = List._∷_ (Row.lease (κs .0) (qs .0)) (List._∷_ (Row.lease (κs .1 .0) (qs .1 .0)) (List._∷_ (Row.lease (κs .1 .1 .0) (qs .1 .1 .0)) (List._∷_
-            (Row.lease (κs .1 .1 .1 .0) (qs .1 .1 .1 .0)) (List._∷_ (Row.lease (κs .1 .1 .1 .1 .0) (qs .1 .1 .1 .1 .0)) (List._∷_ Row.off (List._∷_ Row.off (List._∷_ Row.off (List._∷_ Row.off (List._∷_
-            Row.off (List._∷_ Row.off (List._∷_ Row.off List.[]))))))))))); }
+        G81 = record {
+          locals = List._++_ t57 (List._++_ t1 t2);
+          slots = List._∷_ (Row.lease (κs .0) (qs .0)) (List._∷_ (Row.lease (κs .1 .0) (qs .1 .0)) (List._∷_ (Row.lease (κs .1 .1 .0) (qs .1 .1 .0)) (List._∷_
+              (Row.lease (κs .1 .1 .1 .0) (qs .1 .1 .1 .0)) (List._∷_ (Row.lease (κs .1 .1 .1 .1 .0) (qs .1 .1 .1 .1 .0)) (List._∷_ Row.off (List._∷_ Row.off (List._∷_ Row.off (List._∷_ Row.off (List._∷_
+              Row.off (List._∷_ Row.off (List._∷_ Row.off List.[])))))))))));
+        }
 
         abbrev G82 : Row.Cx
-        G82 = record
-            { locals = List._++_ t58 (List._++_ t1 t2); slots = List._∷_ (Row.lease (κs .0) (qs .0)) (List._∷_ (Row.lease (κs .1 .0) (qs .1 .0)) (List._∷_ (Row.lease (κs .1 .1 .0) (qs .1 .1 .0)) (List._∷_
-            (Row.lease (κs .1 .1 .1 .0) (qs .1 .1 .1 .0)) (List._∷_ (Row.lease (κs .1 .1 .1 .1 .0) (qs .1 .1 .1 .1 .0)) (List._∷_ Row.off (List._∷_ Row.off (List._∷_ Row.off (List._∷_ Row.off (List._∷_
-            Row.off (List._∷_ Row.off (List._∷_ Row.off List.[]))))))))))); }
+        G82 = record {
+          locals = List._++_ t58 (List._++_ t1 t2);
+          slots = List._∷_ (Row.lease (κs .0) (qs .0)) (List._∷_ (Row.lease (κs .1 .0) (qs .1 .0)) (List._∷_ (Row.lease (κs .1 .1 .0) (qs .1 .1 .0)) (List._∷_
+              (Row.lease (κs .1 .1 .1 .0) (qs .1 .1 .1 .0)) (List._∷_ (Row.lease (κs .1 .1 .1 .1 .0) (qs .1 .1 .1 .1 .0)) (List._∷_ Row.off (List._∷_ Row.off (List._∷_ Row.off (List._∷_ Row.off (List._∷_
+              Row.off (List._∷_ Row.off (List._∷_ Row.off List.[])))))))))));
+        }
 
         abbrev G83 : Row.Cx
-        G83 = record
-            { locals = List._++_ t58 (List._++_ t1 t2); slots = List._∷_ (Row.lease (κs .0) (qs .0)) (List._∷_ (Row.lease (κs .1 .0) (qs .1 .0)) (List._∷_ (Row.lease (κs .1 .1 .0) (qs .1 .1 .0)) (List._∷_
-            (Row.lease (κs .1 .1 .1 .0) (qs .1 .1 .1 .0)) (List._∷_ (Row.lease (κs .1 .1 .1 .1 .0) (qs .1 .1 .1 .1 .0)) (List._∷_ Row.off (List._∷_ Row.off (List._∷_ Row.off (List._∷_ Row.off (List._∷_
-            Row.off (List._∷_ Row.off (List._∷_ Row.off List.[]))))))))))); }
+        G83 = record {
+          locals = List._++_ t58 (List._++_ t1 t2);
+          slots = List._∷_ (Row.lease (κs .0) (qs .0)) (List._∷_ (Row.lease (κs .1 .0) (qs .1 .0)) (List._∷_ (Row.lease (κs .1 .1 .0) (qs .1 .1 .0)) (List._∷_
+              (Row.lease (κs .1 .1 .1 .0) (qs .1 .1 .1 .0)) (List._∷_ (Row.lease (κs .1 .1 .1 .1 .0) (qs .1 .1 .1 .1 .0)) (List._∷_ Row.off (List._∷_ Row.off (List._∷_ Row.off (List._∷_ Row.off (List._∷_
+              Row.off (List._∷_ Row.off (List._∷_ Row.off List.[])))))))))));
+        }
 
         abbrev G84 : Row.Cx
-        G84 = record
-            { locals = List._++_ t58 (List._++_ t51 t2); slots = List._∷_ (Row.lease (κs .0) (qs .0)) (List._∷_ (Row.lease (κs .1 .0) (qs .1 .0)) (List._∷_ (Row.lease (κs .1 .1 .0) (qs .1 .1 .0))
-            (List._∷_ (Row.lease (κs .1 .1 .1 .0) (qs .1 .1 .1 .0)) (List._∷_ (Row.lease (κs .1 .1 .1 .1 .0) (qs .1 .1 .1 .1 .0)) (List._∷_ Row.off (List._∷_ Row.off (List._∷_ Row.off (List._∷_ Row.off
-            (List._∷_ Row.off (List._∷_ Row.off (List._∷_ Row.off List.[]))))))))))); }
+        G84 = record {
+          locals = List._++_ t58 (List._++_ t51 t2);
+          slots = List._∷_ (Row.lease (κs .0) (qs .0)) (List._∷_ (Row.lease (κs .1 .0) (qs .1 .0)) (List._∷_ (Row.lease (κs .1 .1 .0) (qs .1 .1 .0))
+              (List._∷_ (Row.lease (κs .1 .1 .1 .0) (qs .1 .1 .1 .0)) (List._∷_ (Row.lease (κs .1 .1 .1 .1 .0) (qs .1 .1 .1 .1 .0)) (List._∷_ Row.off (List._∷_ Row.off (List._∷_ Row.off (List._∷_ Row.off
+              (List._∷_ Row.off (List._∷_ Row.off (List._∷_ Row.off List.[])))))))))));
+        }
 
         abbrev G85 : Row.Cx
-        G85 = record
-            { locals = List._++_ t50 (List._++_ t51 t2); slots = List._∷_ (Row.lease (κs .0) (qs .0)) (List._∷_ (Row.lease (κs .1 .0) (qs .1 .0)) (List._∷_ (Row.lease (κs .1 .1 .0) (qs .1 .1 .0))
-            (List._∷_ (Row.lease (κs .1 .1 .1 .0) (qs .1 .1 .1 .0)) (List._∷_ (Row.lease (κs .1 .1 .1 .1 .0) (qs .1 .1 .1 .1 .0)) (List._∷_ Row.off (List._∷_ Row.off (List._∷_ Row.off (List._∷_ Row.off
-            (List._∷_ Row.off (List._∷_ Row.off (List._∷_ Row.off List.[]))))))))))); }
+        G85 = record {
+          locals = List._++_ t50 (List._++_ t51 t2);
+          slots = List._∷_ (Row.lease (κs .0) (qs .0)) (List._∷_ (Row.lease (κs .1 .0) (qs .1 .0)) (List._∷_ (Row.lease (κs .1 .1 .0) (qs .1 .1 .0))
+              (List._∷_ (Row.lease (κs .1 .1 .1 .0) (qs .1 .1 .1 .0)) (List._∷_ (Row.lease (κs .1 .1 .1 .1 .0) (qs .1 .1 .1 .1 .0)) (List._∷_ Row.off (List._∷_ Row.off (List._∷_ Row.off (List._∷_ Row.off
+              (List._∷_ Row.off (List._∷_ Row.off (List._∷_ Row.off List.[])))))))))));
+        }
 
         abbrev G86 : Row.Cx
-        G86 = record
-            { locals = List._++_ t57 (List._++_ t1 t2); slots = List._∷_ (Row.lease (κs .0) (qs .0)) (List._∷_ (Row.lease (κs .1 .0) (qs .1 .0)) (List._∷_ (Row.lease (κs .1 .1 .0) (qs .1 .1 .0)) (List._∷_
-            (Row.lease (κs .1 .1 .1 .0) (qs .1 .1 .1 .0)) (List._∷_ (Row.lease (κs .1 .1 .1 .1 .0) (qs .1 .1 .1 .1 .0)) (List._∷_ Row.off (List._∷_ Row.off (List._∷_ Row.off (List._∷_ Row.off (List._∷_
-            Row.off (List._∷_ Row.off (List._∷_ Row.off List.[]))))))))))); }
+        G86 = record {
+          locals = List._++_ t57 (List._++_ t1 t2);
+          slots = List._∷_ (Row.lease (κs .0) (qs .0)) (List._∷_ (Row.lease (κs .1 .0) (qs .1 .0)) (List._∷_ (Row.lease (κs .1 .1 .0) (qs .1 .1 .0)) (List._∷_
+              (Row.lease (κs .1 .1 .1 .0) (qs .1 .1 .1 .0)) (List._∷_ (Row.lease (κs .1 .1 .1 .1 .0) (qs .1 .1 .1 .1 .0)) (List._∷_ Row.off (List._∷_ Row.off (List._∷_ Row.off (List._∷_ Row.off (List._∷_
+              Row.off (List._∷_ Row.off (List._∷_ Row.off List.[])))))))))));
+        }
 
         abbrev G87 : Row.Cx
-        G87 = record
-            { locals = List._++_ t59 (List._++_ t1 t2); slots = List._∷_ (Row.lease (κs .0) (qs .0)) (List._∷_ (Row.lease (κs .1 .0) (qs .1 .0)) (List._∷_ (Row.lease (κs .1 .1 .0) (qs .1 .1 .0)) (List._∷_
-            (Row.lease (κs .1 .1 .1 .0) (qs .1 .1 .1 .0)) (List._∷_ (Row.lease (κs .1 .1 .1 .1 .0) (qs .1 .1 .1 .1 .0)) (List._∷_ Row.off (List._∷_ Row.off (List._∷_ Row.off (List._∷_ Row.off (List._∷_
-            Row.off (List._∷_ Row.off (List._∷_ Row.off List.[]))))))))))); }
+        G87 = record {
+          locals = List._++_ t59 (List._++_ t1 t2);
+          slots = List._∷_ (Row.lease (κs .0) (qs .0)) (List._∷_ (Row.lease (κs .1 .0) (qs .1 .0)) (List._∷_ (Row.lease (κs .1 .1 .0) (qs .1 .1 .0)) (List._∷_
+              (Row.lease (κs .1 .1 .1 .0) (qs .1 .1 .1 .0)) (List._∷_ (Row.lease (κs .1 .1 .1 .1 .0) (qs .1 .1 .1 .1 .0)) (List._∷_ Row.off (List._∷_ Row.off (List._∷_ Row.off (List._∷_ Row.off (List._∷_
+              Row.off (List._∷_ Row.off (List._∷_ Row.off List.[])))))))))));
+        }
 
         abbrev G88 : Row.Cx
-        G88 = record
-            { locals = List._++_ t60 (List._++_ t1 t2); slots = List._∷_ (Row.lease (κs .0) (qs .0)) (List._∷_ (Row.lease (κs .1 .0) (qs .1 .0)) (List._∷_ (Row.lease (κs .1 .1 .0) (qs .1 .1 .0)) (List._∷_
-            (Row.lease (κs .1 .1 .1 .0) (qs .1 .1 .1 .0)) (List._∷_ (Row.lease (κs .1 .1 .1 .1 .0) (qs .1 .1 .1 .1 .0)) (List._∷_ Row.off (List._∷_ Row.off (List._∷_ Row.off (List._∷_ Row.off (List._∷_
-            Row.off (List._∷_ Row.off (List._∷_ Row.off List.[]))))))))))); }
+        G88 = record {
+          locals = List._++_ t60 (List._++_ t1 t2);
+          slots = List._∷_ (Row.lease (κs .0) (qs .0)) (List._∷_ (Row.lease (κs .1 .0) (qs .1 .0)) (List._∷_ (Row.lease (κs .1 .1 .0) (qs .1 .1 .0)) (List._∷_
+              (Row.lease (κs .1 .1 .1 .0) (qs .1 .1 .1 .0)) (List._∷_ (Row.lease (κs .1 .1 .1 .1 .0) (qs .1 .1 .1 .1 .0)) (List._∷_ Row.off (List._∷_ Row.off (List._∷_ Row.off (List._∷_ Row.off (List._∷_
+              Row.off (List._∷_ Row.off (List._∷_ Row.off List.[])))))))))));
+        }
 
         abbrev G89 : Row.Cx
-        G89 = record
-            { locals = List._++_ t61 (List._++_ t1 t2); slots = List._∷_ (Row.lease (κs .0) (qs .0)) (List._∷_ (Row.lease (κs .1 .0) (qs .1 .0)) (List._∷_ (Row.lease (κs .1 .1 .0) (qs .1 .1 .0)) (List._∷_
-            (Row.lease (κs .1 .1 .1 .0) (qs .1 .1 .1 .0)) (List._∷_ (Row.lease (κs .1 .1 .1 .1 .0) (qs .1 .1 .1 .1 .0)) (List._∷_ Row.off (List._∷_ Row.off (List._∷_ Row.off (List._∷_ Row.off (List._∷_
-            Row.off (List._∷_ Row.off (List._∷_ Row.off List.[]))))))))))); }
+        G89 = record {
+          locals = List._++_ t61 (List._++_ t1 t2);
+          slots = List._∷_ (Row.lease (κs .0) (qs .0)) (List._∷_ (Row.lease (κs .1 .0) (qs .1 .0)) (List._∷_ (Row.lease (κs .1 .1 .0) (qs .1 .1 .0)) (List._∷_
+              (Row.lease (κs .1 .1 .1 .0) (qs .1 .1 .1 .0)) (List._∷_ (Row.lease (κs .1 .1 .1 .1 .0) (qs .1 .1 .1 .1 .0)) (List._∷_ Row.off (List._∷_ Row.off (List._∷_ Row.off (List._∷_ Row.off (List._∷_
+              Row.off (List._∷_ Row.off (List._∷_ Row.off List.[])))))))))));
+        }
 
         abbrev G90 : Row.Cx
-        G90 = record
-            { locals = List._++_ t62 (List._++_ t1 t2); slots = List._∷_ (Row.lease (κs .0) (qs .0)) (List._∷_ (Row.lease (κs .1 .0) (qs .1 .0)) (List._∷_ (Row.lease (κs .1 .1 .0) (qs .1 .1 .0)) (List._∷_
-            (Row.lease (κs .1 .1 .1 .0) (qs .1 .1 .1 .0)) (List._∷_ (Row.lease (κs .1 .1 .1 .1 .0) (qs .1 .1 .1 .1 .0)) (List._∷_ Row.off (List._∷_ Row.off (List._∷_ Row.off (List._∷_ Row.off (List._∷_
-            Row.off (List._∷_ Row.off (List._∷_ Row.off List.[]))))))))))); }
+        G90 = record {
+          locals = List._++_ t62 (List._++_ t1 t2);
+          slots = List._∷_ (Row.lease (κs .0) (qs .0)) (List._∷_ (Row.lease (κs .1 .0) (qs .1 .0)) (List._∷_ (Row.lease (κs .1 .1 .0) (qs .1 .1 .0)) (List._∷_
+              (Row.lease (κs .1 .1 .1 .0) (qs .1 .1 .1 .0)) (List._∷_ (Row.lease (κs .1 .1 .1 .1 .0) (qs .1 .1 .1 .1 .0)) (List._∷_ Row.off (List._∷_ Row.off (List._∷_ Row.off (List._∷_ Row.off (List._∷_
+              Row.off (List._∷_ Row.off (List._∷_ Row.off List.[])))))))))));
+        }
 
         abbrev G91 : Row.Cx
-        G91 = record
-            { locals = List._++_ t63 (List._++_ t1 t2); slots = List._∷_ (Row.lease (κs .0) (qs .0)) (List._∷_ (Row.lease (κs .1 .0) (qs .1 .0)) (List._∷_ (Row.lease (κs .1 .1 .0) (qs .1 .1 .0)) (List._∷_
-            (Row.lease (κs .1 .1 .1 .0) (qs .1 .1 .1 .0)) (List._∷_ (Row.lease (κs .1 .1 .1 .1 .0) (qs .1 .1 .1 .1 .0)) (List._∷_ Row.off (List._∷_ Row.off (List._∷_ Row.off (List._∷_ Row.off (List._∷_
-            Row.off (List._∷_ Row.off (List._∷_ Row.off List.[]))))))))))); }
+        G91 = record {
+          locals = List._++_ t63 (List._++_ t1 t2);
+          slots = List._∷_ (Row.lease (κs .0) (qs .0)) (List._∷_ (Row.lease (κs .1 .0) (qs .1 .0)) (List._∷_ (Row.lease (κs .1 .1 .0) (qs .1 .1 .0)) (List._∷_
+              (Row.lease (κs .1 .1 .1 .0) (qs .1 .1 .1 .0)) (List._∷_ (Row.lease (κs .1 .1 .1 .1 .0) (qs .1 .1 .1 .1 .0)) (List._∷_ Row.off (List._∷_ Row.off (List._∷_ Row.off (List._∷_ Row.off (List._∷_
+              Row.off (List._∷_ Row.off (List._∷_ Row.off List.[])))))))))));
+        }
 
         abbrev G92 : Row.Cx
-        G92 = record
-            { locals = List._++_ t64 (List._++_ t1 t2); slots = List._∷_ (Row.lease (κs .0) (qs .0)) (List._∷_ (Row.lease (κs .1 .0) (qs .1 .0)) (List._∷_ (Row.lease (κs .1 .1 .0) (qs .1 .1 .0)) (List._∷_
-            (Row.lease (κs .1 .1 .1 .0) (qs .1 .1 .1 .0)) (List._∷_ (Row.lease (κs .1 .1 .1 .1 .0) (qs .1 .1 .1 .1 .0)) (List._∷_ Row.off (List._∷_ Row.off (List._∷_ Row.off (List._∷_ Row.off (List._∷_
-            Row.off (List._∷_ Row.off (List._∷_ Row.off List.[]))))))))))); }
+        G92 = record {
+          locals = List._++_ t64 (List._++_ t1 t2);
+          slots = List._∷_ (Row.lease (κs .0) (qs .0)) (List._∷_ (Row.lease (κs .1 .0) (qs .1 .0)) (List._∷_ (Row.lease (κs .1 .1 .0) (qs .1 .1 .0)) (List._∷_
+              (Row.lease (κs .1 .1 .1 .0) (qs .1 .1 .1 .0)) (List._∷_ (Row.lease (κs .1 .1 .1 .1 .0) (qs .1 .1 .1 .1 .0)) (List._∷_ Row.off (List._∷_ Row.off (List._∷_ Row.off (List._∷_ Row.off (List._∷_
+              Row.off (List._∷_ Row.off (List._∷_ Row.off List.[])))))))))));
+        }
 
         abbrev G93 : Row.Cx
-        G93 = record
-            { locals = List._++_ t65 (List._++_ t1 t2); slots = List._∷_ (Row.lease (κs .0) (qs .0)) (List._∷_ (Row.lease (κs .1 .0) (qs .1 .0)) (List._∷_ (Row.lease (κs .1 .1 .0) (qs .1 .1 .0)) (List._∷_
-            (Row.lease (κs .1 .1 .1 .0) (qs .1 .1 .1 .0)) (List._∷_ (Row.lease (κs .1 .1 .1 .1 .0) (qs .1 .1 .1 .1 .0)) (List._∷_ Row.off (List._∷_ Row.off (List._∷_ Row.off (List._∷_ Row.off (List._∷_
-            Row.off (List._∷_ Row.off (List._∷_ Row.off List.[]))))))))))); }
+        G93 = record {
+          locals = List._++_ t65 (List._++_ t1 t2);
+          slots = List._∷_ (Row.lease (κs .0) (qs .0)) (List._∷_ (Row.lease (κs .1 .0) (qs .1 .0)) (List._∷_ (Row.lease (κs .1 .1 .0) (qs .1 .1 .0)) (List._∷_
+              (Row.lease (κs .1 .1 .1 .0) (qs .1 .1 .1 .0)) (List._∷_ (Row.lease (κs .1 .1 .1 .1 .0) (qs .1 .1 .1 .1 .0)) (List._∷_ Row.off (List._∷_ Row.off (List._∷_ Row.off (List._∷_ Row.off (List._∷_
+              Row.off (List._∷_ Row.off (List._∷_ Row.off List.[])))))))))));
+        }
 
         abbrev G94 : Row.Cx
-        G94 = record
-            { locals = List._++_ t66 (List._++_ t1 t2); slots = List._∷_ (Row.lease (κs .0) (qs .0)) (List._∷_ (Row.lease (κs .1 .0) (qs .1 .0)) (List._∷_ (Row.lease (κs .1 .1 .0) (qs .1 .1 .0)) (List._∷_
-            (Row.lease (κs .1 .1 .1 .0) (qs .1 .1 .1 .0)) (List._∷_ (Row.lease (κs .1 .1 .1 .1 .0) (qs .1 .1 .1 .1 .0)) (List._∷_ Row.off (List._∷_ Row.off (List._∷_ Row.off (List._∷_ Row.off (List._∷_
-            Row.off (List._∷_ Row.off (List._∷_ Row.off List.[]))))))))))); }
+        G94 = record {
+          locals = List._++_ t66 (List._++_ t1 t2);
+          slots = List._∷_ (Row.lease (κs .0) (qs .0)) (List._∷_ (Row.lease (κs .1 .0) (qs .1 .0)) (List._∷_ (Row.lease (κs .1 .1 .0) (qs .1 .1 .0)) (List._∷_
+              (Row.lease (κs .1 .1 .1 .0) (qs .1 .1 .1 .0)) (List._∷_ (Row.lease (κs .1 .1 .1 .1 .0) (qs .1 .1 .1 .1 .0)) (List._∷_ Row.off (List._∷_ Row.off (List._∷_ Row.off (List._∷_ Row.off (List._∷_
+              Row.off (List._∷_ Row.off (List._∷_ Row.off List.[])))))))))));
+        }
 
         abbrev G95 : Row.Cx
-        G95 = record
-            { locals = List._++_ t67 (List._++_ t1 t2); slots = List._∷_ (Row.lease (κs .0) (qs .0)) (List._∷_ (Row.lease (κs .1 .0) (qs .1 .0)) (List._∷_ (Row.lease (κs .1 .1 .0) (qs .1 .1 .0)) (List._∷_
-            (Row.lease (κs .1 .1 .1 .0) (qs .1 .1 .1 .0)) (List._∷_ (Row.lease (κs .1 .1 .1 .1 .0) (qs .1 .1 .1 .1 .0)) (List._∷_ Row.off (List._∷_ Row.off (List._∷_ Row.off (List._∷_ Row.off (List._∷_
-            Row.off (List._∷_ Row.off (List._∷_ Row.off List.[]))))))))))); }
+        G95 = record {
+          locals = List._++_ t67 (List._++_ t1 t2);
+          slots = List._∷_ (Row.lease (κs .0) (qs .0)) (List._∷_ (Row.lease (κs .1 .0) (qs .1 .0)) (List._∷_ (Row.lease (κs .1 .1 .0) (qs .1 .1 .0)) (List._∷_
+              (Row.lease (κs .1 .1 .1 .0) (qs .1 .1 .1 .0)) (List._∷_ (Row.lease (κs .1 .1 .1 .1 .0) (qs .1 .1 .1 .1 .0)) (List._∷_ Row.off (List._∷_ Row.off (List._∷_ Row.off (List._∷_ Row.off (List._∷_
+              Row.off (List._∷_ Row.off (List._∷_ Row.off List.[])))))))))));
+        }
 
         abbrev G96 : Row.Cx
-        G96 = record
-            { locals = List._++_ t3 (List._++_ t1 t2); slots = List._∷_ (Row.lease (κs .0) (qs .0)) (List._∷_ (Row.lease (κs .1 .0) (qs .1 .0)) (List._∷_ (Row.lease (κs .1 .1 .0) (qs .1 .1 .0)) (List._∷_
-            (Row.lease (κs .1 .1 .1 .0) (qs .1 .1 .1 .0)) (List._∷_ (Row.lease (κs .1 .1 .1 .1 .0) (qs .1 .1 .1 .1 .0)) (List._∷_ Row.off (List._∷_ Row.off (List._∷_ Row.off (List._∷_ Row.off (List._∷_
-            Row.off (List._∷_ Row.off (List._∷_ Row.off List.[]))))))))))); }
+        G96 = record {
+          locals = List._++_ t3 (List._++_ t1 t2);
+          slots = List._∷_ (Row.lease (κs .0) (qs .0)) (List._∷_ (Row.lease (κs .1 .0) (qs .1 .0)) (List._∷_ (Row.lease (κs .1 .1 .0) (qs .1 .1 .0)) (List._∷_
+              (Row.lease (κs .1 .1 .1 .0) (qs .1 .1 .1 .0)) (List._∷_ (Row.lease (κs .1 .1 .1 .1 .0) (qs .1 .1 .1 .1 .0)) (List._∷_ Row.off (List._∷_ Row.off (List._∷_ Row.off (List._∷_ Row.off (List._∷_
+              Row.off (List._∷_ Row.off (List._∷_ Row.off List.[])))))))))));
+        }
 
         abbrev G97 : Row.Cx
-        G97 = record
-            { locals = List._++_ t29 (List._++_ t51 t2); slots = List._∷_ (Row.lease (κs .0) (qs .0)) (List._∷_ (Row.lease (κs .1 .0) (qs .1 .0)) (List._∷_ (Row.lease (κs .1 .1 .0) (qs .1 .1 .0))
-            (List._∷_ (Row.lease (κs .1 .1 .1 .0) (qs .1 .1 .1 .0)) (List._∷_ (Row.lease (κs .1 .1 .1 .1 .0) (qs .1 .1 .1 .1 .0)) (List._∷_ Row.off (List._∷_ Row.off (List._∷_ Row.off (List._∷_ Row.off
-            (List._∷_ Row.off (List._∷_ Row.off (List._∷_ Row.off List.[]))))))))))); }
+        G97 = record {
+          locals = List._++_ t29 (List._++_ t51 t2);
+          slots = List._∷_ (Row.lease (κs .0) (qs .0)) (List._∷_ (Row.lease (κs .1 .0) (qs .1 .0)) (List._∷_ (Row.lease (κs .1 .1 .0) (qs .1 .1 .0))
+              (List._∷_ (Row.lease (κs .1 .1 .1 .0) (qs .1 .1 .1 .0)) (List._∷_ (Row.lease (κs .1 .1 .1 .1 .0) (qs .1 .1 .1 .1 .0)) (List._∷_ Row.off (List._∷_ Row.off (List._∷_ Row.off (List._∷_ Row.off
+              (List._∷_ Row.off (List._∷_ Row.off (List._∷_ Row.off List.[])))))))))));
+        }
 
         abbrev G98 : Row.Cx
-        G98 = record
-            { locals = List._++_ t29 (List._++_ t1 t2); slots = List._∷_ (Row.lease (κs .0) (qs .0)) (List._∷_ (Row.lease (κs .1 .0) (qs .1 .0)) (List._∷_ (Row.lease (κs .1 .1 .0) (qs .1 .1 .0)) (List._∷_
-            (Row.lease (κs .1 .1 .1 .0) (qs .1 .1 .1 .0)) (List._∷_ (Row.lease (κs .1 .1 .1 .1 .0) (qs .1 .1 .1 .1 .0)) (List._∷_ Row.off (List._∷_ Row.off (List._∷_ Row.off (List._∷_ Row.off (List._∷_
-            Row.off (List._∷_ Row.off (List._∷_ Row.off List.[]))))))))))); }
+        G98 = record {
+          locals = List._++_ t29 (List._++_ t1 t2);
+          slots = List._∷_ (Row.lease (κs .0) (qs .0)) (List._∷_ (Row.lease (κs .1 .0) (qs .1 .0)) (List._∷_ (Row.lease (κs .1 .1 .0) (qs .1 .1 .0)) (List._∷_
+              (Row.lease (κs .1 .1 .1 .0) (qs .1 .1 .1 .0)) (List._∷_ (Row.lease (κs .1 .1 .1 .1 .0) (qs .1 .1 .1 .1 .0)) (List._∷_ Row.off (List._∷_ Row.off (List._∷_ Row.off (List._∷_ Row.off (List._∷_
+              Row.off (List._∷_ Row.off (List._∷_ Row.off List.[])))))))))));
+        }
 
         abbrev G99 : Row.Cx
-        G99 = record
-            { locals = List._++_ t29 (List._++_ t1 t2); slots = List._∷_ (Row.lease (κs .0) (qs .0)) (List._∷_ (Row.lease (κs .1 .0) (qs .1 .0)) (List._∷_ (Row.lease (κs .1 .1 .0) (qs .1 .1 .0)) (List._∷_
-            (Row.lease (κs .1 .1 .1 .0) (qs .1 .1 .1 .0)) (List._∷_ (Row.lease (κs .1 .1 .1 .1 .0) (qs .1 .1 .1 .1 .0)) (List._∷_ Row.off (List._∷_ Row.off (List._∷_ Row.off (List._∷_ Row.off (List._∷_
-            Row.off (List._∷_ Row.off (List._∷_ Row.off List.[]))))))))))); }
+        G99 = record {
+          locals = List._++_ t29 (List._++_ t1 t2);
+          slots = List._∷_ (Row.lease (κs .0) (qs .0)) (List._∷_ (Row.lease (κs .1 .0) (qs .1 .0)) (List._∷_ (Row.lease (κs .1 .1 .0) (qs .1 .1 .0)) (List._∷_
+              (Row.lease (κs .1 .1 .1 .0) (qs .1 .1 .1 .0)) (List._∷_ (Row.lease (κs .1 .1 .1 .1 .0) (qs .1 .1 .1 .1 .0)) (List._∷_ Row.off (List._∷_ Row.off (List._∷_ Row.off (List._∷_ Row.off (List._∷_
+              Row.off (List._∷_ Row.off (List._∷_ Row.off List.[])))))))))));
+        }
 
         abbrev G100 : Row.Cx
-        G100 = record
-            { locals = List._++_ t22 (List._++_ t1 t2); slots = List._∷_ (Row.lease (κs .0) (qs .0)) (List._∷_ (Row.lease (κs .1 .0) (qs .1 .0)) (List._∷_ (Row.lease (κs .1 .1 .0) (qs .1 .1 .0)) (List._∷_
-            (Row.lease (κs .1 .1 .1 .0) (qs .1 .1 .1 .0)) (List._∷_ (Row.lease (κs .1 .1 .1 .1 .0) (qs .1 .1 .1 .1 .0)) (List._∷_ Row.off (List._∷_ Row.off (List._∷_ Row.off (List._∷_ Row.off (List._∷_
-            Row.off (List._∷_ Row.off (List._∷_ Row.off List.[]))))))))))); }
+        G100 = record {
+          locals = List._++_ t22 (List._++_ t1 t2);
+          slots = List._∷_ (Row.lease (κs .0) (qs .0)) (List._∷_ (Row.lease (κs .1 .0) (qs .1 .0)) (List._∷_ (Row.lease (κs .1 .1 .0) (qs .1 .1 .0)) (List._∷_
+              (Row.lease (κs .1 .1 .1 .0) (qs .1 .1 .1 .0)) (List._∷_ (Row.lease (κs .1 .1 .1 .1 .0) (qs .1 .1 .1 .1 .0)) (List._∷_ Row.off (List._∷_ Row.off (List._∷_ Row.off (List._∷_ Row.off (List._∷_
+              Row.off (List._∷_ Row.off (List._∷_ Row.off List.[])))))))))));
+        }
 
         abbrev G101 : Row.Cx
-        G101 = record
-            { locals = List._++_ t68 (List._++_ t1 t2); slots = List._∷_ (Row.lease (κs .0) (qs .0)) (List._∷_ (Row.lease (κs .1 .0) (qs .1 .0)) (List._∷_ (Row.lease (κs .1 .1 .0) (qs .1 .1 .0)) (List._∷_
-            (Row.lease (κs .1 .1 .1 .0) (qs .1 .1 .1 .0)) (List._∷_ (Row.lease (κs .1 .1 .1 .1 .0) (qs .1 .1 .1 .1 .0)) (List._∷_ Row.off (List._∷_ Row.off (List._∷_ Row.off (List._∷_ Row.off (List._∷_
-            Row.off (List._∷_ Row.off (List._∷_ Row.off List.[]))))))))))); }
+        G101 = record {
+          locals = List._++_ t68 (List._++_ t1 t2);
+          slots = List._∷_ (Row.lease (κs .0) (qs .0)) (List._∷_ (Row.lease (κs .1 .0) (qs .1 .0)) (List._∷_ (Row.lease (κs .1 .1 .0) (qs .1 .1 .0)) (List._∷_
+              (Row.lease (κs .1 .1 .1 .0) (qs .1 .1 .1 .0)) (List._∷_ (Row.lease (κs .1 .1 .1 .1 .0) (qs .1 .1 .1 .1 .0)) (List._∷_ Row.off (List._∷_ Row.off (List._∷_ Row.off (List._∷_ Row.off (List._∷_
+              Row.off (List._∷_ Row.off (List._∷_ Row.off List.[])))))))))));
+        }
 
         abbrev G102 : Row.Cx
-        G102 = record
-            { locals = List._++_ t69 (List._++_ t1 t2); slots = List._∷_ (Row.lease (κs .0) (qs .0)) (List._∷_ (Row.lease (κs .1 .0) (qs .1 .0)) (List._∷_ (Row.lease (κs .1 .1 .0) (qs .1 .1 .0)) (List._∷_
-            (Row.lease (κs .1 .1 .1 .0) (qs .1 .1 .1 .0)) (List._∷_ (Row.lease (κs .1 .1 .1 .1 .0) (qs .1 .1 .1 .1 .0)) (List._∷_ Row.off (List._∷_ Row.off (List._∷_ Row.off (List._∷_ Row.off (List._∷_
-            Row.off (List._∷_ Row.off (List._∷_ Row.off List.[]))))))))))); }
+        G102 = record {
+          locals = List._++_ t69 (List._++_ t1 t2);
+          slots = List._∷_ (Row.lease (κs .0) (qs .0)) (List._∷_ (Row.lease (κs .1 .0) (qs .1 .0)) (List._∷_ (Row.lease (κs .1 .1 .0) (qs .1 .1 .0)) (List._∷_
+              (Row.lease (κs .1 .1 .1 .0) (qs .1 .1 .1 .0)) (List._∷_ (Row.lease (κs .1 .1 .1 .1 .0) (qs .1 .1 .1 .1 .0)) (List._∷_ Row.off (List._∷_ Row.off (List._∷_ Row.off (List._∷_ Row.off (List._∷_
+              Row.off (List._∷_ Row.off (List._∷_ Row.off List.[])))))))))));
+        }
 
         abbrev G103 : Row.Cx
-        G103 = record
-            { locals = List._++_ t70 (List._++_ t1 t2); slots = List._∷_ (Row.lease (κs .0) (qs .0)) (List._∷_ (Row.lease (κs .1 .0) (qs .1 .0)) (List._∷_ (Row.lease (κs .1 .1 .0) (qs .1 .1 .0)) (List._∷_
-            (Row.lease (κs .1 .1 .1 .0) (qs .1 .1 .1 .0)) (List._∷_ (Row.lease (κs .1 .1 .1 .1 .0) (qs .1 .1 .1 .1 .0)) (List._∷_ Row.off (List._∷_ Row.off (List._∷_ Row.off (List._∷_ Row.off (List._∷_
-            Row.off (List._∷_ Row.off (List._∷_ Row.off List.[]))))))))))); }
+        G103 = record {
+          locals = List._++_ t70 (List._++_ t1 t2);
+          slots = List._∷_ (Row.lease (κs .0) (qs .0)) (List._∷_ (Row.lease (κs .1 .0) (qs .1 .0)) (List._∷_ (Row.lease (κs .1 .1 .0) (qs .1 .1 .0)) (List._∷_
+              (Row.lease (κs .1 .1 .1 .0) (qs .1 .1 .1 .0)) (List._∷_ (Row.lease (κs .1 .1 .1 .1 .0) (qs .1 .1 .1 .1 .0)) (List._∷_ Row.off (List._∷_ Row.off (List._∷_ Row.off (List._∷_ Row.off (List._∷_
+              Row.off (List._∷_ Row.off (List._∷_ Row.off List.[])))))))))));
+        }
 
         abbrev G104 : Row.Cx
-        G104 = record
-            { locals = List._++_ t71 (List._++_ t1 t2); slots = List._∷_ (Row.lease (κs .0) (qs .0)) (List._∷_ (Row.lease (κs .1 .0) (qs .1 .0)) (List._∷_ (Row.lease (κs .1 .1 .0) (qs .1 .1 .0)) (List._∷_
-            (Row.lease (κs .1 .1 .1 .0) (qs .1 .1 .1 .0)) (List._∷_ (Row.lease (κs .1 .1 .1 .1 .0) (qs .1 .1 .1 .1 .0)) (List._∷_ Row.off (List._∷_ Row.off (List._∷_ Row.off (List._∷_ Row.off (List._∷_
-            Row.off (List._∷_ Row.off (List._∷_ Row.off List.[]))))))))))); }
+        G104 = record {
+          locals = List._++_ t71 (List._++_ t1 t2);
+          slots = List._∷_ (Row.lease (κs .0) (qs .0)) (List._∷_ (Row.lease (κs .1 .0) (qs .1 .0)) (List._∷_ (Row.lease (κs .1 .1 .0) (qs .1 .1 .0)) (List._∷_
+              (Row.lease (κs .1 .1 .1 .0) (qs .1 .1 .1 .0)) (List._∷_ (Row.lease (κs .1 .1 .1 .1 .0) (qs .1 .1 .1 .1 .0)) (List._∷_ Row.off (List._∷_ Row.off (List._∷_ Row.off (List._∷_ Row.off (List._∷_
+              Row.off (List._∷_ Row.off (List._∷_ Row.off List.[])))))))))));
+        }
 
         abbrev G105 : Row.Cx
-        G105 = record
-            { locals = List._++_ t72 (List._++_ t1 t2); slots = List._∷_ (Row.lease (κs .0) (qs .0)) (List._∷_ (Row.lease (κs .1 .0) (qs .1 .0)) (List._∷_ (Row.lease (κs .1 .1 .0) (qs .1 .1 .0)) (List._∷_
-            (Row.lease (κs .1 .1 .1 .0) (qs .1 .1 .1 .0)) (List._∷_ (Row.lease (κs .1 .1 .1 .1 .0) (qs .1 .1 .1 .1 .0)) (List._∷_ Row.off (List._∷_ Row.off (List._∷_ Row.off (List._∷_ Row.off (List._∷_
-            Row.off (List._∷_ Row.off (List._∷_ Row.off List.[]))))))))))); }
+        G105 = record {
+          locals = List._++_ t72 (List._++_ t1 t2);
+          slots = List._∷_ (Row.lease (κs .0) (qs .0)) (List._∷_ (Row.lease (κs .1 .0) (qs .1 .0)) (List._∷_ (Row.lease (κs .1 .1 .0) (qs .1 .1 .0)) (List._∷_
+              (Row.lease (κs .1 .1 .1 .0) (qs .1 .1 .1 .0)) (List._∷_ (Row.lease (κs .1 .1 .1 .1 .0) (qs .1 .1 .1 .1 .0)) (List._∷_ Row.off (List._∷_ Row.off (List._∷_ Row.off (List._∷_ Row.off (List._∷_
+              Row.off (List._∷_ Row.off (List._∷_ Row.off List.[])))))))))));
+        }
 
         abbrev G106 : Row.Cx
-        G106 = record
-            { locals = List._++_ t73 (List._++_ t1 t2); slots = List._∷_ (Row.lease (κs .0) (qs .0)) (List._∷_ (Row.lease (κs .1 .0) (qs .1 .0)) (List._∷_ (Row.lease (κs .1 .1 .0) (qs .1 .1 .0)) (List._∷_
-            (Row.lease (κs .1 .1 .1 .0) (qs .1 .1 .1 .0)) (List._∷_ (Row.lease (κs .1 .1 .1 .1 .0) (qs .1 .1 .1 .1 .0)) (List._∷_ Row.off (List._∷_ Row.off (List._∷_ Row.off (List._∷_ Row.off (List._∷_
-            Row.off (List._∷_ Row.off (List._∷_ Row.off List.[]))))))))))); }
+        G106 = record {
+          locals = List._++_ t73 (List._++_ t1 t2);
+          slots = List._∷_ (Row.lease (κs .0) (qs .0)) (List._∷_ (Row.lease (κs .1 .0) (qs .1 .0)) (List._∷_ (Row.lease (κs .1 .1 .0) (qs .1 .1 .0)) (List._∷_
+              (Row.lease (κs .1 .1 .1 .0) (qs .1 .1 .1 .0)) (List._∷_ (Row.lease (κs .1 .1 .1 .1 .0) (qs .1 .1 .1 .1 .0)) (List._∷_ Row.off (List._∷_ Row.off (List._∷_ Row.off (List._∷_ Row.off (List._∷_
+              Row.off (List._∷_ Row.off (List._∷_ Row.off List.[])))))))))));
+        }
 
         abbrev G107 : Row.Cx
-        G107 = record
-            { locals = List._++_ t74 (List._++_ t1 t2); slots = List._∷_ (Row.lease (κs .0) (qs .0)) (List._∷_ (Row.lease (κs .1 .0) (qs .1 .0)) (List._∷_ (Row.lease (κs .1 .1 .0) (qs .1 .1 .0)) (List._∷_
-            (Row.lease (κs .1 .1 .1 .0) (qs .1 .1 .1 .0)) (List._∷_ (Row.lease (κs .1 .1 .1 .1 .0) (qs .1 .1 .1 .1 .0)) (List._∷_ Row.off (List._∷_ Row.off (List._∷_ Row.off (List._∷_ Row.off (List._∷_
-            Row.off (List._∷_ Row.off (List._∷_ Row.off List.[]))))))))))); }
+        G107 = record {
+          locals = List._++_ t74 (List._++_ t1 t2);
+          slots = List._∷_ (Row.lease (κs .0) (qs .0)) (List._∷_ (Row.lease (κs .1 .0) (qs .1 .0)) (List._∷_ (Row.lease (κs .1 .1 .0) (qs .1 .1 .0)) (List._∷_
+              (Row.lease (κs .1 .1 .1 .0) (qs .1 .1 .1 .0)) (List._∷_ (Row.lease (κs .1 .1 .1 .1 .0) (qs .1 .1 .1 .1 .0)) (List._∷_ Row.off (List._∷_ Row.off (List._∷_ Row.off (List._∷_ Row.off (List._∷_
+              Row.off (List._∷_ Row.off (List._∷_ Row.off List.[])))))))))));
+        }
 
         abbrev G108 : Row.Cx
-        G108 = record
-            { locals = List._++_ t3 (List._++_ t1 t2); slots = List._∷_ (Row.lease (κs .0) (qs .0)) (List._∷_ (Row.lease (κs .1 .0) (qs .1 .0)) (List._∷_ (Row.lease (κs .1 .1 .0) (qs .1 .1 .0)) (List._∷_
-            (Row.lease (κs .1 .1 .1 .0) (qs .1 .1 .1 .0)) (List._∷_ (Row.lease (κs .1 .1 .1 .1 .0) (qs .1 .1 .1 .1 .0)) (List._∷_ Row.off (List._∷_ Row.off (List._∷_ Row.off (List._∷_ Row.off (List._∷_
-            Row.off (List._∷_ Row.off (List._∷_ Row.off List.[]))))))))))); }
+        G108 = record {
+          locals = List._++_ t3 (List._++_ t1 t2);
+          slots = List._∷_ (Row.lease (κs .0) (qs .0)) (List._∷_ (Row.lease (κs .1 .0) (qs .1 .0)) (List._∷_ (Row.lease (κs .1 .1 .0) (qs .1 .1 .0)) (List._∷_
+              (Row.lease (κs .1 .1 .1 .0) (qs .1 .1 .1 .0)) (List._∷_ (Row.lease (κs .1 .1 .1 .1 .0) (qs .1 .1 .1 .1 .0)) (List._∷_ Row.off (List._∷_ Row.off (List._∷_ Row.off (List._∷_ Row.off (List._∷_
+              Row.off (List._∷_ Row.off (List._∷_ Row.off List.[])))))))))));
+        }
 
         abbrev Δ0 : Typed.Outs
         Δ0 = record { next = Option.none; exits = List.[]; returns = Option.some G1 }
@@ -2680,9 +3001,11 @@ module _ (claims· : Claims) where
               s80) (CopyOut.t-copy-told 𝓤 H A W E 𝓣 (Declared'.row BitPosition.the-type) Path'.refl (Laws'5.val BitPosition.the-type Laws.the-laws) (Laws'5.lawful BitPosition.the-type Laws.the-laws 𝓤 H A
               W) (Laws'5.makes BitPosition.the-type Laws.the-plain 𝓤 H A) G83 16 (Scalar.oFld 15 (List._∷_ (Syntax.variant 0) (List._∷_ (Syntax.field 1) List.[])) y4 8 λ v. Laws'5.val BitPosition.the-type
               Laws.the-laws (v .0)) (λ m. m .1 .1 .1 .1 .1 .1 .1 .1 .1 .1 .1 .1 .1 .1 .1 .0 .0) (λ m. Laws'4.Fields (Declared.variants Put.the-type) (Laws'4.spellss (Put.enum .parts) Laws'3.the-laws)
-              (Put.the-type .to (Known.at Put.enum 0 (m .1 .1 .1 .1 .1 .1 .1 .1 .1 .1 .1 .1 .1 .1 .1 .0)))) (Reads'.room-gone 𝓤 H A y4)
-              (Match.reads-payload 𝓤 H A W Put.enum Laws'3.the-laws 0 Path'.refl Path'.refl (λ v. Val.vcons (Laws'5.val BitPosition.the-type Laws.the-laws (v .0)) Val.vnil) (λ v. Path'.refl) 0 y4 8
-              Path'.refl, Path'.refl) Path'.refl (λ ρ m. Make'.tells-row 𝓤 H A W E ρ (Row.out 16 (G83 .locals)) m 15 (Laws'4.Fields (Declared.variants Put.the-type) (Laws'4.spellss (Put.enum .parts)
+              (Put.the-type .to (Known.at Put.enum 0 (m .1 .1 .1 .1 .1 .1 .1 .1 .1 .1 .1 .1 .1 .1 .1 .0)))) (Reads'.room-gone 𝓤 H A y4) (
+                Match.reads-payload 𝓤 H A W Put.enum Laws'3.the-laws 0 Path'.refl Path'.refl (λ v. Val.vcons (Laws'5.val BitPosition.the-type Laws.the-laws (v .0)) Val.vnil) (λ v. Path'.refl) 0 y4 8
+                    Path'.refl,
+                Path'.refl,
+              ) Path'.refl (λ ρ m. Make'.tells-row 𝓤 H A W E ρ (Row.out 16 (G83 .locals)) m 15 (Laws'4.Fields (Declared.variants Put.the-type) (Laws'4.spellss (Put.enum .parts)
               Laws'3.the-laws) (Put.the-type .to (Known.at Put.enum 0 (m .1 .1 .1 .1 .1 .1 .1 .1 .1 .1 .1 .1 .1 .1 .1 .0)))) (Known.known-is 𝓤 H A W E Put.enum 0 Laws'3.the-laws ρ 15 (m .1 .1 .1 .1 .1 .1
               .1 .1 .1 .1 .1 .1 .1 .1 .1 .0))) (λ m k wa. Path'.refl) λ m k wa. k .0) (Scalar.g-room 𝓤 H A W E G84 15 (Syntax.tyEnum (List._∷_ 119 (List._∷_ 114 (List._∷_ 105 (List._∷_ 116 (List._∷_ 105
               (List._∷_ 110 (List._∷_ 103 (List._∷_ 58 (List._∷_ 58 (List._∷_ 80 (List._∷_ 117 (List._∷_ 116 List.[])))))))))))) (Syntax.ttcons (Syntax.tcons y4 Syntax.tnil) (Syntax.ttcons (Syntax.tcons
@@ -2832,34 +3155,82 @@ module _ (claims· : Claims) where
 
           d39 : Typed.Typed 𝓤 H A 𝓣 E G66 b41 Δ3 at39
           d39 = Typed.s-seq 𝓤 H A W 𝓣 E G66 G67 b31 b40 Δ3 (Typed.both s63) at38 (Plain.t-call-plain 𝓤 H A W 𝓣 4 ps·9 r·9 (claims· .18) (claims· .19) "block::writer::write_line" (known .9) E (λ pos β.
-              β) G66
-              (record { pos = 1; ty = Syntax.tyRef (Syntax.named 0) Syntax.imm (Syntax.tyInt Syntax.w16); ref = λ x. x; },
-              (Num.vAt 13 λ x. x,
-              (record { pos = 30; ty = Syntax.tyRef Syntax.erased Syntax.mut (Syntax.tyInt Syntax.w8); ref = λ x. x; },
-              (Bool.bAt 3 λ x. x,
-              (record { pos = 12; st = List.[]; d = 0; at = λ x. x },
-              (record { pos = 32; ty = Syntax.tyRef Syntax.erased Syntax.mut (Syntax.tyInt Syntax.w16); ref = λ x. x; },
-              (record { pos = 34; ty = Syntax.tyRef Syntax.erased Syntax.mut Element.behind; ref = λ x. x; },
-              (record { pos = 6; st = List.[]; d = 0; at = λ x. x }, (record { pos = 35; st = List.[]; d = 0; at = λ x. x }, (Bool.bAt 11 λ x. x, tt)))))))))) 15 (List._∷_ 0 (List._∷_ 9 (List._∷_ 10
-              (List._∷_ 11 List.[])))) (Call.sub-id 𝓤 H A W (G66 .slots))
-              (ShrSlice.spares-sslice 𝓤 H A W (Referent.rtF (Referent.fInt Syntax.w16)) (Syntax.tyRef (Syntax.named 0) Syntax.imm (Syntax.tyInt Syntax.w16)) 0, Shared.reads-sslice 𝓤 H A W (Referent.rtF
-              (Referent.fInt Syntax.w16)) (Syntax.tyRef (Syntax.named 0) Syntax.imm (Syntax.tyInt Syntax.w16)) 0, Path'.refl,
-              ((Scalar.reads-sc 𝓤 H A W (Row.sInt Syntax.w64), Path'.refl),
-              (Reads'.as-is 𝓤 H A (Mut.mslice (Referent.rtF (Referent.fInt Syntax.w8)) (Syntax.tyRef Syntax.erased Syntax.mut (Syntax.tyInt Syntax.w8)) 9), Mut.reads-mslice 𝓤 H A W (Referent.rtF
-              (Referent.fInt Syntax.w8)) (Syntax.tyRef Syntax.erased Syntax.mut (Syntax.tyInt Syntax.w8)) 9, Path'.refl,
-              ((Scalar.reads-sc 𝓤 H A W Row.sBool, Path'.refl),
-              ((Yields.yields-copy 𝓤 H A W (λ ρ. Unit) (Declared'.row BitPosition.the-type) Path'.refl (Copies.cStruct BitPosition.the-type Laws.the-laws Laws.the-copy .copy 𝓤 H A W) (Rows.whole
-              (Declared'.row BitPosition.the-type)) (λ x. x) (λ x. x) (λ ρ told. Local.mem-whole 𝓤 H A W (Declared'.row BitPosition.the-type) ρ) λ ρ told. Local.whole-mem 𝓤 H A W (Declared'.row
-              BitPosition.the-type) ρ, Path'.refl),
-              (Reads'.as-is 𝓤 H A (Mut.mslice (Referent.rtF (Referent.fInt Syntax.w16)) (Syntax.tyRef Syntax.erased Syntax.mut (Syntax.tyInt Syntax.w16)) 10), Mut.reads-mslice 𝓤 H A W (Referent.rtF
-              (Referent.fInt Syntax.w16)) (Syntax.tyRef Syntax.erased Syntax.mut (Syntax.tyInt Syntax.w16)) 10, Path'.refl,
-              (Reads'.as-is 𝓤 H A (Mut.mslice (Element.type) (Syntax.tyRef Syntax.erased Syntax.mut Element.behind) 11), Mut.reads-mslice 𝓤 H A W (Element.type) (Syntax.tyRef Syntax.erased Syntax.mut
-              Element.behind) 11, Path'.refl,
-              ((Yields.yields-copy 𝓤 H A W (λ ρ. Unit) (Declared'.row Form.the-type) Path'.refl (Copies.cStruct Form.the-type Laws'.the-laws Laws'.the-copy .copy 𝓤 H A W) (Rows.whole (Declared'.row
-              Form.the-type)) (λ x. x) (λ x. x) (λ ρ told. Local.mem-whole 𝓤 H A W (Declared'.row Form.the-type) ρ) λ ρ told. Local.whole-mem 𝓤 H A W (Declared'.row Form.the-type) ρ, Path'.refl),
-              ((Yields.yields-copy 𝓤 H A W (λ ρ. Unit) (Declared'.row Quantisers.the-type) Path'.refl (Copies.cStruct Quantisers.the-type Laws''.the-laws Laws''.the-copy .copy 𝓤 H A W) (Rows.whole
-              (Declared'.row Quantisers.the-type)) (λ x. x) (λ x. x) (λ ρ told. Local.mem-whole 𝓤 H A W (Declared'.row Quantisers.the-type) ρ) λ ρ told. Local.whole-mem 𝓤 H A W (Declared'.row
-              Quantisers.the-type) ρ, Path'.refl), ((Scalar.reads-sc 𝓤 H A W Row.sBool, Path'.refl), tt)))))))))) (Reads'.room-gone 𝓤 H A (Syntax.tyEnum (List._∷_ 119 (List._∷_ 114 (List._∷_ 105 (List._∷_
+              β) G66 (
+                record { pos = 1; ty = Syntax.tyRef (Syntax.named 0) Syntax.imm (Syntax.tyInt Syntax.w16); ref = λ x. x },
+                (
+                  Num.vAt 13 λ x. x,
+                  (
+                    record { pos = 30; ty = Syntax.tyRef Syntax.erased Syntax.mut (Syntax.tyInt Syntax.w8); ref = λ x. x },
+                    (
+                      Bool.bAt 3 λ x. x,
+                      (
+                        record { pos = 12; st = List.[]; d = 0; at = λ x. x },
+                        (
+                          record { pos = 32; ty = Syntax.tyRef Syntax.erased Syntax.mut (Syntax.tyInt Syntax.w16); ref = λ x. x },
+                          (
+                            record { pos = 34; ty = Syntax.tyRef Syntax.erased Syntax.mut Element.behind; ref = λ x. x },
+                            (record { pos = 6; st = List.[]; d = 0; at = λ x. x }, (record { pos = 35; st = List.[]; d = 0; at = λ x. x }, (Bool.bAt 11 λ x. x, tt))),
+                          ),
+                        ),
+                      ),
+                    ),
+                  ),
+                ),
+              ) 15 (List._∷_ 0 (List._∷_ 9 (List._∷_ 10
+              (List._∷_ 11 List.[])))) (Call.sub-id 𝓤 H A W (G66 .slots)) (
+                ShrSlice.spares-sslice 𝓤 H A W (Referent.rtF (Referent.fInt Syntax.w16)) (Syntax.tyRef (Syntax.named 0) Syntax.imm (Syntax.tyInt Syntax.w16)) 0,
+                Shared.reads-sslice 𝓤 H A W (Referent.rtF
+                    (Referent.fInt Syntax.w16)) (Syntax.tyRef (Syntax.named 0) Syntax.imm (Syntax.tyInt Syntax.w16)) 0,
+                Path'.refl,
+                (
+                  (Scalar.reads-sc 𝓤 H A W (Row.sInt Syntax.w64), Path'.refl),
+                  (
+                    Reads'.as-is 𝓤 H A (Mut.mslice (Referent.rtF (Referent.fInt Syntax.w8)) (Syntax.tyRef Syntax.erased Syntax.mut (Syntax.tyInt Syntax.w8)) 9),
+                    Mut.reads-mslice 𝓤 H A W (Referent.rtF
+                        (Referent.fInt Syntax.w8)) (Syntax.tyRef Syntax.erased Syntax.mut (Syntax.tyInt Syntax.w8)) 9,
+                    Path'.refl,
+                    (
+                      (Scalar.reads-sc 𝓤 H A W Row.sBool, Path'.refl),
+                      (
+                        (
+                          Yields.yields-copy 𝓤 H A W (λ ρ. Unit) (Declared'.row BitPosition.the-type) Path'.refl (Copies.cStruct BitPosition.the-type Laws.the-laws Laws.the-copy .copy 𝓤 H A W) (Rows.whole
+                              (Declared'.row BitPosition.the-type)) (λ x. x) (λ x. x) (λ ρ told. Local.mem-whole 𝓤 H A W (Declared'.row BitPosition.the-type) ρ) λ ρ told. Local.whole-mem 𝓤 H A W (Declared'.row
+                              BitPosition.the-type) ρ,
+                          Path'.refl,
+                        ),
+                        (
+                          Reads'.as-is 𝓤 H A (Mut.mslice (Referent.rtF (Referent.fInt Syntax.w16)) (Syntax.tyRef Syntax.erased Syntax.mut (Syntax.tyInt Syntax.w16)) 10),
+                          Mut.reads-mslice 𝓤 H A W (Referent.rtF
+                              (Referent.fInt Syntax.w16)) (Syntax.tyRef Syntax.erased Syntax.mut (Syntax.tyInt Syntax.w16)) 10,
+                          Path'.refl,
+                          (
+                            Reads'.as-is 𝓤 H A (Mut.mslice (Element.type) (Syntax.tyRef Syntax.erased Syntax.mut Element.behind) 11),
+                            Mut.reads-mslice 𝓤 H A W (Element.type) (Syntax.tyRef Syntax.erased Syntax.mut
+                                Element.behind) 11,
+                            Path'.refl,
+                            (
+                              (
+                                Yields.yields-copy 𝓤 H A W (λ ρ. Unit) (Declared'.row Form.the-type) Path'.refl (Copies.cStruct Form.the-type Laws'.the-laws Laws'.the-copy .copy 𝓤 H A W) (Rows.whole (Declared'.row
+                                    Form.the-type)) (λ x. x) (λ x. x) (λ ρ told. Local.mem-whole 𝓤 H A W (Declared'.row Form.the-type) ρ) λ ρ told. Local.whole-mem 𝓤 H A W (Declared'.row Form.the-type) ρ,
+                                Path'.refl,
+                              ),
+                              (
+                                (
+                                  Yields.yields-copy 𝓤 H A W (λ ρ. Unit) (Declared'.row Quantisers.the-type) Path'.refl (Copies.cStruct Quantisers.the-type Laws''.the-laws Laws''.the-copy .copy 𝓤 H A W) (Rows.whole
+                                      (Declared'.row Quantisers.the-type)) (λ x. x) (λ x. x) (λ ρ told. Local.mem-whole 𝓤 H A W (Declared'.row Quantisers.the-type) ρ) λ ρ told. Local.whole-mem 𝓤 H A W (Declared'.row
+                                      Quantisers.the-type) ρ,
+                                  Path'.refl,
+                                ),
+                                ((Scalar.reads-sc 𝓤 H A W Row.sBool, Path'.refl), tt),
+                              ),
+                            ),
+                          ),
+                        ),
+                      ),
+                    ),
+                  ),
+                ),
+              ) (Reads'.room-gone 𝓤 H A (Syntax.tyEnum (List._∷_ 119 (List._∷_ 114 (List._∷_ 105 (List._∷_
               116 (List._∷_ 105 (List._∷_ 110 (List._∷_ 103 (List._∷_ 58 (List._∷_ 58 (List._∷_ 80 (List._∷_ 117 (List._∷_ 116 List.[])))))))))))) (Syntax.ttcons (Syntax.tcons y4 Syntax.tnil)
               (Syntax.ttcons (Syntax.tcons (Syntax.tyInt Syntax.w64) Syntax.tnil) Syntax.ttnil)))) (tt, (tt, (tt, (tt, tt)))) Path'.refl) d38
 
@@ -2881,23 +3252,36 @@ module _ (claims· : Claims) where
               Syntax.mut Element.behind) 3)) (Reads'.room-gone 𝓤 H A (Syntax.tyRef Syntax.erased Syntax.mut Element.behind)) Path'.refl tt Path'.refl Path'.refl Path'.refl λ b o. tt) d41
 
           d43 : Typed.Typed 𝓤 H A 𝓣 E G62 b44 Δ3 at43
-          d43 = Typed.g-pre 𝓤 H A W 𝓣 E G62 G63 b44 Δ3 (λ Ψ. Ψ) at42 (Lifetime.g-begin 𝓤 H A W E G62 11
-              (tt,
-              (tt,
-              ((tt, tt),
-              (tt,
-              ((tt, tt),
-              (tt,
-              (tt, (tt, (tt, (tt, (tt, (tt, (tt, (tt, (tt, (tt, (tt, (tt, (tt, (tt, (tt, (tt, (tt, (tt, (tt, (tt, (tt, (tt, (tt, (tt, (tt, (tt, (tt, (tt, (tt, (tt, tt)))))))))))))))))))))))))))))))))))))
+          d43 = Typed.g-pre 𝓤 H A W 𝓣 E G62 G63 b44 Δ3 (λ Ψ. Ψ) at42 (Lifetime.g-begin 𝓤 H A W E G62 11 (
+            tt,
+            (
+              tt,
+              (
+                (tt, tt),
+                (
+                  tt,
+                  (
+                    (tt, tt),
+                    (
+                      tt,
+                      (tt, (tt, (tt, (tt, (tt, (tt, (tt, (tt, (tt, (tt, (tt, (tt, (tt, (tt, (tt, (tt, (tt, (tt, (tt, (tt, (tt, (tt, (tt, (tt, (tt, (tt, (tt, (tt, (tt, (tt, tt)))))))))))))))))))))))))))))),
+                    ),
+                  ),
+                ),
+              ),
+            ),
+          ))
               d42
 
           d44 : Typed.Typed 𝓤 H A 𝓣 E G61 b45 Δ3 at44
           d44 = Typed.s-seq 𝓤 H A W 𝓣 E G61 G62 b27 b44 Δ3 (Typed.ask s58) at43 (Relend.t-sl-aggregate 𝓤 H A W E (Referent.rtF (Referent.fInt Syntax.w16)) 𝓣 (Relend.asMut (Referent.rtF (Referent.fInt
               Syntax.w16))) G61 31 32 10 (Syntax.tyRef Syntax.erased Syntax.mut (Syntax.tyInt Syntax.w16)) (Syntax.tyRef Syntax.erased Syntax.mut (Syntax.tyInt Syntax.w16)) (λ x. x) (Scalar.oFld 4
               (List._∷_ (Syntax.field 1) List.[]) (Syntax.tyInt Syntax.w64) 8 λ v. Shared.lenV (v .0)) (Reads'.as-is 𝓤 H A (Relend.msptr (Referent.rtF (Referent.fInt Syntax.w16)) (Syntax.tyRef
-              Syntax.erased Syntax.mut (Syntax.tyInt Syntax.w16)) 10)) (Reads'.room-gone 𝓤 H A y1)
-              (Relend.reads-owed-len 𝓤 H A W (Referent.rtF (Referent.fInt Syntax.w16)) (Syntax.tyRef (Syntax.named 2) Syntax.mut (Syntax.tyInt Syntax.w16)) 2 10 (Row.lease (κs .1 .1 .0) (qs .1 .1 .0)) 8
-              Path'.refl, Path'.refl) Path'.refl Path'.refl λ b o k. tt) d43
+              Syntax.erased Syntax.mut (Syntax.tyInt Syntax.w16)) 10)) (Reads'.room-gone 𝓤 H A y1) (
+                Relend.reads-owed-len 𝓤 H A W (Referent.rtF (Referent.fInt Syntax.w16)) (Syntax.tyRef (Syntax.named 2) Syntax.mut (Syntax.tyInt Syntax.w16)) 2 10 (Row.lease (κs .1 .1 .0) (qs .1 .1 .0)) 8
+                    Path'.refl,
+                Path'.refl,
+              ) Path'.refl Path'.refl λ b o k. tt) d43
 
           d45 : Typed.Typed 𝓤 H A 𝓣 E G60 b46 Δ3 at45
           d45 = Typed.s-seq 𝓤 H A W 𝓣 E G60 G61 b26 b45 Δ3 (Typed.give s57) at44 (Relend.t-sl-relend 𝓤 H A W E (Referent.rtF (Referent.fInt Syntax.w16)) 𝓣 G60 4 31 2 10 (Syntax.tyRef (Syntax.named 2)
@@ -2906,23 +3290,36 @@ module _ (claims· : Claims) where
               (Syntax.tyInt Syntax.w16))) Path'.refl tt Path'.refl Path'.refl Path'.refl λ b o. tt) d44
 
           d46 : Typed.Typed 𝓤 H A 𝓣 E G59 b46 Δ3 at46
-          d46 = Typed.g-pre 𝓤 H A W 𝓣 E G59 G60 b46 Δ3 (λ Ψ. Ψ) at45 (Lifetime.g-begin 𝓤 H A W E G59 10
-              (tt,
-              (tt,
-              ((tt, tt),
-              (tt,
-              (tt,
-              (tt,
-              (tt, (tt, (tt, (tt, (tt, (tt, (tt, (tt, (tt, (tt, (tt, (tt, (tt, (tt, (tt, (tt, (tt, (tt, (tt, (tt, (tt, (tt, (tt, (tt, (tt, (tt, (tt, (tt, (tt, (tt, tt)))))))))))))))))))))))))))))))))))))
+          d46 = Typed.g-pre 𝓤 H A W 𝓣 E G59 G60 b46 Δ3 (λ Ψ. Ψ) at45 (Lifetime.g-begin 𝓤 H A W E G59 10 (
+            tt,
+            (
+              tt,
+              (
+                (tt, tt),
+                (
+                  tt,
+                  (
+                    tt,
+                    (
+                      tt,
+                      (tt, (tt, (tt, (tt, (tt, (tt, (tt, (tt, (tt, (tt, (tt, (tt, (tt, (tt, (tt, (tt, (tt, (tt, (tt, (tt, (tt, (tt, (tt, (tt, (tt, (tt, (tt, (tt, (tt, (tt, tt)))))))))))))))))))))))))))))),
+                    ),
+                  ),
+                ),
+              ),
+            ),
+          ))
               d45
 
           d47 : Typed.Typed 𝓤 H A 𝓣 E G58 b47 Δ3 at47
           d47 = Typed.s-seq 𝓤 H A W 𝓣 E G58 G59 b25 b46 Δ3 (Typed.ask s55) at46 (Relend.t-sl-aggregate 𝓤 H A W E (Referent.rtF (Referent.fInt Syntax.w8)) 𝓣 (Relend.asMut (Referent.rtF (Referent.fInt
               Syntax.w8))) G58 29 30 9 (Syntax.tyRef Syntax.erased Syntax.mut (Syntax.tyInt Syntax.w8)) (Syntax.tyRef Syntax.erased Syntax.mut (Syntax.tyInt Syntax.w8)) (λ x. x) (Scalar.oFld 2 (List._∷_
               (Syntax.field 1) List.[]) (Syntax.tyInt Syntax.w64) 8 λ v. Shared.lenV (v .0)) (Reads'.as-is 𝓤 H A (Relend.msptr (Referent.rtF (Referent.fInt Syntax.w8)) (Syntax.tyRef Syntax.erased
-              Syntax.mut (Syntax.tyInt Syntax.w8)) 9)) (Reads'.room-gone 𝓤 H A y2)
-              (Relend.reads-owed-len 𝓤 H A W (Referent.rtF (Referent.fInt Syntax.w8)) (Syntax.tyRef (Syntax.named 1) Syntax.mut (Syntax.tyInt Syntax.w8)) 1 9 (Row.lease (κs .1 .0) (qs .1 .0)) 8
-              Path'.refl, Path'.refl) Path'.refl Path'.refl λ b o k. tt) d46
+              Syntax.mut (Syntax.tyInt Syntax.w8)) 9)) (Reads'.room-gone 𝓤 H A y2) (
+                Relend.reads-owed-len 𝓤 H A W (Referent.rtF (Referent.fInt Syntax.w8)) (Syntax.tyRef (Syntax.named 1) Syntax.mut (Syntax.tyInt Syntax.w8)) 1 9 (Row.lease (κs .1 .0) (qs .1 .0)) 8
+                    Path'.refl,
+                Path'.refl,
+              ) Path'.refl Path'.refl λ b o k. tt) d46
 
           d48 : Typed.Typed 𝓤 H A 𝓣 E G57 b48 Δ3 at48
           d48 = Typed.s-seq 𝓤 H A W 𝓣 E G57 G58 b24 b47 Δ3 (Typed.give s54) at47 (Relend.t-sl-relend 𝓤 H A W E (Referent.rtF (Referent.fInt Syntax.w8)) 𝓣 G57 2 29 1 9 (Syntax.tyRef (Syntax.named 1)
@@ -2931,14 +3328,25 @@ module _ (claims· : Claims) where
               Syntax.w8))) Path'.refl tt Path'.refl Path'.refl Path'.refl λ b o. tt) d47
 
           d49 : Typed.Typed 𝓤 H A 𝓣 E G56 b48 Δ3 at49
-          d49 = Typed.g-pre 𝓤 H A W 𝓣 E G56 G57 b48 Δ3 (λ Ψ. Ψ) at48 (Lifetime.g-begin 𝓤 H A W E G56 9
-              (tt,
-              (tt,
-              (tt,
-              (tt,
-              (tt,
-              (tt,
-              (tt, (tt, (tt, (tt, (tt, (tt, (tt, (tt, (tt, (tt, (tt, (tt, (tt, (tt, (tt, (tt, (tt, (tt, (tt, (tt, (tt, (tt, (tt, (tt, (tt, (tt, (tt, (tt, (tt, (tt, tt)))))))))))))))))))))))))))))))))))))
+          d49 = Typed.g-pre 𝓤 H A W 𝓣 E G56 G57 b48 Δ3 (λ Ψ. Ψ) at48 (Lifetime.g-begin 𝓤 H A W E G56 9 (
+            tt,
+            (
+              tt,
+              (
+                tt,
+                (
+                  tt,
+                  (
+                    tt,
+                    (
+                      tt,
+                      (tt, (tt, (tt, (tt, (tt, (tt, (tt, (tt, (tt, (tt, (tt, (tt, (tt, (tt, (tt, (tt, (tt, (tt, (tt, (tt, (tt, (tt, (tt, (tt, (tt, (tt, (tt, (tt, (tt, (tt, tt)))))))))))))))))))))))))))))),
+                    ),
+                  ),
+                ),
+              ),
+            ),
+          ))
               d48
 
           d50 : Typed.Typed 𝓤 H A 𝓣 E G55 b48 Δ3 at50
@@ -2961,19 +3369,26 @@ module _ (claims· : Claims) where
 
           d55 : Typed.Typed 𝓤 H A 𝓣 E G50 b49 Δ3 at55
           d55 = Typed.s-seq 𝓤 H A W 𝓣 E G50 G51 b23 b48 Δ3 (Typed.both s47) at54 (Plain.t-call-plain 𝓤 H A W 𝓣 1 ps·7 r·7 (claims· .14) (claims· .15) "block::records::restart" (known .7) E (λ pos β.
-              β) G50 (record { pos = 28; ty = Syntax.tyRef Syntax.erased Syntax.mut Element.behind; ref = λ x. x; }, (Num.vAt 9 λ x. x, (Num.vAt 14 λ x. x, (Bool.bAt 23 λ x. x, tt)))) 24 (List._∷_ 8
-              List.[]) (Call.sub-id 𝓤 H A W (G50 .slots))
-              (Reads'.as-is 𝓤 H A (Mut.mslice (Element.type) (Syntax.tyRef Syntax.erased Syntax.mut Element.behind) 8), Mut.reads-mslice 𝓤 H A W (Element.type) (Syntax.tyRef Syntax.erased Syntax.mut
-              Element.behind) 8, Path'.refl,
-              ((Scalar.reads-sc 𝓤 H A W (Row.sInt Syntax.w32), Path'.refl), ((Scalar.reads-sc 𝓤 H A W (Row.sInt Syntax.w32), Path'.refl), ((Scalar.reads-sc 𝓤 H A W Row.sBool, Path'.refl), tt))))
+              β) G50 (record { pos = 28; ty = Syntax.tyRef Syntax.erased Syntax.mut Element.behind; ref = λ x. x }, (Num.vAt 9 λ x. x, (Num.vAt 14 λ x. x, (Bool.bAt 23 λ x. x, tt)))) 24 (List._∷_ 8
+              List.[]) (Call.sub-id 𝓤 H A W (G50 .slots)) (
+                Reads'.as-is 𝓤 H A (Mut.mslice (Element.type) (Syntax.tyRef Syntax.erased Syntax.mut Element.behind) 8),
+                Mut.reads-mslice 𝓤 H A W (Element.type) (Syntax.tyRef Syntax.erased Syntax.mut
+                    Element.behind) 8,
+                Path'.refl,
+                ((Scalar.reads-sc 𝓤 H A W (Row.sInt Syntax.w32), Path'.refl), ((Scalar.reads-sc 𝓤 H A W (Row.sInt Syntax.w32), Path'.refl), ((Scalar.reads-sc 𝓤 H A W Row.sBool, Path'.refl), tt))),
+              )
               (Reads'.room-gone 𝓤 H A Syntax.tyUnit) (tt, tt) Path'.refl) d54
 
           d56 : Typed.Typed 𝓤 H A 𝓣 E G49 b50 Δ3 at56
           d56 = Typed.s-seq 𝓤 H A W 𝓣 E G49 G50 b22 b49 Δ3 (Typed.both s46) at55 (Plain.t-call-plain 𝓤 H A W 𝓣 1 ps·6 r·6 (claims· .12) (claims· .13) "block::reading::is_restarted" (known .6) E (λ pos
-              β. β) G49 (record { pos = 7; ty = Syntax.tyRef (Syntax.named 4) Syntax.imm (Syntax.tyInt Syntax.w8); ref = λ x. x; }, (Num.vAt 13 λ x. x, tt)) 23 (List._∷_ 4 List.[]) (Call.sub-id 𝓤 H A W
-              (G49 .slots))
-              (ShrSlice.spares-sslice 𝓤 H A W (Referent.rtF (Referent.fInt Syntax.w8)) (Syntax.tyRef (Syntax.named 4) Syntax.imm (Syntax.tyInt Syntax.w8)) 4, Shared.reads-sslice 𝓤 H A W (Referent.rtF
-              (Referent.fInt Syntax.w8)) (Syntax.tyRef (Syntax.named 4) Syntax.imm (Syntax.tyInt Syntax.w8)) 4, Path'.refl, ((Scalar.reads-sc 𝓤 H A W (Row.sInt Syntax.w64), Path'.refl), tt))
+              β. β) G49 (record { pos = 7; ty = Syntax.tyRef (Syntax.named 4) Syntax.imm (Syntax.tyInt Syntax.w8); ref = λ x. x }, (Num.vAt 13 λ x. x, tt)) 23 (List._∷_ 4 List.[]) (Call.sub-id 𝓤 H A W
+              (G49 .slots)) (
+                ShrSlice.spares-sslice 𝓤 H A W (Referent.rtF (Referent.fInt Syntax.w8)) (Syntax.tyRef (Syntax.named 4) Syntax.imm (Syntax.tyInt Syntax.w8)) 4,
+                Shared.reads-sslice 𝓤 H A W (Referent.rtF
+                    (Referent.fInt Syntax.w8)) (Syntax.tyRef (Syntax.named 4) Syntax.imm (Syntax.tyInt Syntax.w8)) 4,
+                Path'.refl,
+                ((Scalar.reads-sc 𝓤 H A W (Row.sInt Syntax.w64), Path'.refl), tt),
+              )
               (Reads'.room-gone 𝓤 H A Syntax.tyBool) (tt, tt) Path'.refl) d55
 
           d57 : Typed.Typed 𝓤 H A 𝓣 E G48 b51 Δ3 at57
@@ -2989,22 +3404,37 @@ module _ (claims· : Claims) where
               Syntax.mut Element.behind) 3)) (Reads'.room-gone 𝓤 H A (Syntax.tyRef Syntax.erased Syntax.mut Element.behind)) Path'.refl tt Path'.refl Path'.refl Path'.refl λ b o. tt) d57
 
           d59 : Typed.Typed 𝓤 H A 𝓣 E G46 b52 Δ3 at59
-          d59 = Typed.g-pre 𝓤 H A W 𝓣 E G46 G47 b52 Δ3 (λ Ψ. Ψ) at58 (Lifetime.g-begin 𝓤 H A W E G46 8
-              (tt,
-              (tt,
-              (tt,
-              (tt,
-              (tt,
-              (tt,
-              (tt, (tt, (tt, (tt, (tt, (tt, (tt, (tt, (tt, (tt, (tt, (tt, (tt, (tt, (tt, (tt, (tt, (tt, (tt, (tt, (tt, (tt, (tt, (tt, (tt, (tt, (tt, (tt, (tt, (tt, tt)))))))))))))))))))))))))))))))))))))
+          d59 = Typed.g-pre 𝓤 H A W 𝓣 E G46 G47 b52 Δ3 (λ Ψ. Ψ) at58 (Lifetime.g-begin 𝓤 H A W E G46 8 (
+            tt,
+            (
+              tt,
+              (
+                tt,
+                (
+                  tt,
+                  (
+                    tt,
+                    (
+                      tt,
+                      (tt, (tt, (tt, (tt, (tt, (tt, (tt, (tt, (tt, (tt, (tt, (tt, (tt, (tt, (tt, (tt, (tt, (tt, (tt, (tt, (tt, (tt, (tt, (tt, (tt, (tt, (tt, (tt, (tt, (tt, tt)))))))))))))))))))))))))))))),
+                    ),
+                  ),
+                ),
+              ),
+            ),
+          ))
               d58
 
           d60 : Typed.Typed 𝓤 H A 𝓣 E G45 b53 Δ3 at60
           d60 = Typed.s-seq 𝓤 H A W 𝓣 E G45 G46 b19 b52 Δ3 (Typed.both s42) at59 (Plain.t-call-plain 𝓤 H A W 𝓣 1 ps·3 r·3 (claims· .6) (claims· .7) "cameras::base_of" (known .3) E (λ pos β. β) G45
-              (record { pos = 7; ty = Syntax.tyRef (Syntax.named 4) Syntax.imm (Syntax.tyInt Syntax.w8); ref = λ x. x; }, (Num.vAt 13 λ x. x, tt)) 14 (List._∷_ 4 List.[]) (Call.sub-id 𝓤 H A W (G45
-              .slots))
-              (ShrSlice.spares-sslice 𝓤 H A W (Referent.rtF (Referent.fInt Syntax.w8)) (Syntax.tyRef (Syntax.named 4) Syntax.imm (Syntax.tyInt Syntax.w8)) 4, Shared.reads-sslice 𝓤 H A W (Referent.rtF
-              (Referent.fInt Syntax.w8)) (Syntax.tyRef (Syntax.named 4) Syntax.imm (Syntax.tyInt Syntax.w8)) 4, Path'.refl, ((Scalar.reads-sc 𝓤 H A W (Row.sInt Syntax.w64), Path'.refl), tt))
+              (record { pos = 7; ty = Syntax.tyRef (Syntax.named 4) Syntax.imm (Syntax.tyInt Syntax.w8); ref = λ x. x }, (Num.vAt 13 λ x. x, tt)) 14 (List._∷_ 4 List.[]) (Call.sub-id 𝓤 H A W (G45
+              .slots)) (
+                ShrSlice.spares-sslice 𝓤 H A W (Referent.rtF (Referent.fInt Syntax.w8)) (Syntax.tyRef (Syntax.named 4) Syntax.imm (Syntax.tyInt Syntax.w8)) 4,
+                Shared.reads-sslice 𝓤 H A W (Referent.rtF
+                    (Referent.fInt Syntax.w8)) (Syntax.tyRef (Syntax.named 4) Syntax.imm (Syntax.tyInt Syntax.w8)) 4,
+                Path'.refl,
+                ((Scalar.reads-sc 𝓤 H A W (Row.sInt Syntax.w64), Path'.refl), tt),
+              )
               (Reads'.room-gone 𝓤 H A (Syntax.tyInt Syntax.w32)) (tt, tt) Path'.refl) d59
 
           d61 : Typed.Typed 𝓤 H A 𝓣 E G44 b53 Δ3 at61
@@ -3029,18 +3459,24 @@ module _ (claims· : Claims) where
 
           d66 : Typed.Typed 𝓤 H A 𝓣 E G39 b54 Δ3 at66
           d66 = Typed.s-seq 𝓤 H A W 𝓣 E G39 G40 b18 b53 Δ3 (Typed.both s36) at65 (Plain.t-call-plain 𝓤 H A W 𝓣 1 ps·5 r·5 (claims· .10) (claims· .11) "lines::turn" (known .5) E (λ pos β. β) G39
-              (record { pos = 26; ty = Syntax.tyRef Syntax.erased Syntax.mut (Syntax.tyInt Syntax.w16); ref = λ x. x; }, (Num.vAt 10 λ x. x, tt)) 24 (List._∷_ 7 List.[]) (Call.sub-id 𝓤 H A W (G39 .slots))
-              (Reads'.as-is 𝓤 H A (Mut.mslice (Referent.rtF (Referent.fInt Syntax.w16)) (Syntax.tyRef Syntax.erased Syntax.mut (Syntax.tyInt Syntax.w16)) 7), Mut.reads-mslice 𝓤 H A W (Referent.rtF
-              (Referent.fInt Syntax.w16)) (Syntax.tyRef Syntax.erased Syntax.mut (Syntax.tyInt Syntax.w16)) 7, Path'.refl, ((Scalar.reads-sc 𝓤 H A W (Row.sInt Syntax.w64), Path'.refl), tt))
+              (record { pos = 26; ty = Syntax.tyRef Syntax.erased Syntax.mut (Syntax.tyInt Syntax.w16); ref = λ x. x }, (Num.vAt 10 λ x. x, tt)) 24 (List._∷_ 7 List.[]) (Call.sub-id 𝓤 H A W (G39 .slots)) (
+                Reads'.as-is 𝓤 H A (Mut.mslice (Referent.rtF (Referent.fInt Syntax.w16)) (Syntax.tyRef Syntax.erased Syntax.mut (Syntax.tyInt Syntax.w16)) 7),
+                Mut.reads-mslice 𝓤 H A W (Referent.rtF
+                    (Referent.fInt Syntax.w16)) (Syntax.tyRef Syntax.erased Syntax.mut (Syntax.tyInt Syntax.w16)) 7,
+                Path'.refl,
+                ((Scalar.reads-sc 𝓤 H A W (Row.sInt Syntax.w64), Path'.refl), tt),
+              )
               (Reads'.room-gone 𝓤 H A Syntax.tyUnit) (tt, tt) Path'.refl) d65
 
           d67 : Typed.Typed 𝓤 H A 𝓣 E G38 b55 Δ3 at67
           d67 = Typed.s-seq 𝓤 H A W 𝓣 E G38 G39 b17 b54 Δ3 (Typed.ask s35) at66 (Relend.t-sl-aggregate 𝓤 H A W E (Referent.rtF (Referent.fInt Syntax.w16)) 𝓣 (Relend.asMut (Referent.rtF (Referent.fInt
               Syntax.w16))) G38 25 26 7 (Syntax.tyRef Syntax.erased Syntax.mut (Syntax.tyInt Syntax.w16)) (Syntax.tyRef Syntax.erased Syntax.mut (Syntax.tyInt Syntax.w16)) (λ x. x) (Scalar.oFld 4
               (List._∷_ (Syntax.field 1) List.[]) (Syntax.tyInt Syntax.w64) 8 λ v. Shared.lenV (v .0)) (Reads'.as-is 𝓤 H A (Relend.msptr (Referent.rtF (Referent.fInt Syntax.w16)) (Syntax.tyRef
-              Syntax.erased Syntax.mut (Syntax.tyInt Syntax.w16)) 7)) (Reads'.room-gone 𝓤 H A y1)
-              (Relend.reads-owed-len 𝓤 H A W (Referent.rtF (Referent.fInt Syntax.w16)) (Syntax.tyRef (Syntax.named 2) Syntax.mut (Syntax.tyInt Syntax.w16)) 2 7 (Row.lease (κs .1 .1 .0) (qs .1 .1 .0)) 8
-              Path'.refl, Path'.refl) Path'.refl Path'.refl λ b o k. tt) d66
+              Syntax.erased Syntax.mut (Syntax.tyInt Syntax.w16)) 7)) (Reads'.room-gone 𝓤 H A y1) (
+                Relend.reads-owed-len 𝓤 H A W (Referent.rtF (Referent.fInt Syntax.w16)) (Syntax.tyRef (Syntax.named 2) Syntax.mut (Syntax.tyInt Syntax.w16)) 2 7 (Row.lease (κs .1 .1 .0) (qs .1 .1 .0)) 8
+                    Path'.refl,
+                Path'.refl,
+              ) Path'.refl Path'.refl λ b o k. tt) d66
 
           d68 : Typed.Typed 𝓤 H A 𝓣 E G37 b56 Δ3 at68
           d68 = Typed.s-seq 𝓤 H A W 𝓣 E G37 G38 b16 b55 Δ3 (Typed.give s34) at67 (Relend.t-sl-relend 𝓤 H A W E (Referent.rtF (Referent.fInt Syntax.w16)) 𝓣 G37 4 25 2 7 (Syntax.tyRef (Syntax.named 2)
@@ -3049,14 +3485,25 @@ module _ (claims· : Claims) where
               (Syntax.tyInt Syntax.w16))) Path'.refl tt Path'.refl Path'.refl Path'.refl λ b o. tt) d67
 
           d69 : Typed.Typed 𝓤 H A 𝓣 E G33 b56 Δ3 at69
-          d69 = Typed.g-pre 𝓤 H A W 𝓣 E G33 G37 b56 Δ3 (λ Ψ. Ψ) at68 (Lifetime.g-begin 𝓤 H A W E G33 7
-              (tt,
-              (tt,
-              (tt,
-              (tt,
-              (tt,
-              (tt,
-              (tt, (tt, (tt, (tt, (tt, (tt, (tt, (tt, (tt, (tt, (tt, (tt, (tt, (tt, (tt, (tt, (tt, (tt, (tt, (tt, (tt, (tt, (tt, (tt, (tt, (tt, (tt, (tt, (tt, (tt, tt)))))))))))))))))))))))))))))))))))))
+          d69 = Typed.g-pre 𝓤 H A W 𝓣 E G33 G37 b56 Δ3 (λ Ψ. Ψ) at68 (Lifetime.g-begin 𝓤 H A W E G33 7 (
+            tt,
+            (
+              tt,
+              (
+                tt,
+                (
+                  tt,
+                  (
+                    tt,
+                    (
+                      tt,
+                      (tt, (tt, (tt, (tt, (tt, (tt, (tt, (tt, (tt, (tt, (tt, (tt, (tt, (tt, (tt, (tt, (tt, (tt, (tt, (tt, (tt, (tt, (tt, (tt, (tt, (tt, (tt, (tt, (tt, (tt, tt)))))))))))))))))))))))))))))),
+                    ),
+                  ),
+                ),
+              ),
+            ),
+          ))
               d68
 
           d70 : Typed.Typed 𝓤 H A 𝓣 E G32 b57 Δ3 at70
@@ -3115,12 +3562,16 @@ module _ (claims· : Claims) where
               (m .1 .1 .1 .1 .1 .1 .1 .1 .1 .1 .1 .1 .0, tt))) (Reads'.room-gone 𝓤 H A (Syntax.tyEnum (List._∷_ 119 (List._∷_ 114 (List._∷_ 105 (List._∷_ 116 (List._∷_ 105 (List._∷_ 110 (List._∷_ 103
               (List._∷_ 58 (List._∷_ 58 (List._∷_ 80 (List._∷_ 117 (List._∷_ 116 List.[])))))))))))) (Syntax.ttcons (Syntax.tcons y4 Syntax.tnil) (Syntax.ttcons (Syntax.tcons (Syntax.tyInt Syntax.w64)
               Syntax.tnil) Syntax.ttnil)))) (tt, ((Reads.reads-struct 𝓤 H A W BitPosition.the-type Laws.the-laws, Path'.refl), tt)) Path'.refl (λ m wa. Make.made-val Put.the-type Laws'3.the-laws (List._∷_
-              (Laws'5.val BitPosition.the-type Laws.the-laws (m .1 .1 .1 .1 .1 .1 .1 .1 .1 .1 .1 .1 .0)) List.[]) (Put.enum .make (Logic.inl (m .1 .1 .1 .1 .1 .1 .1 .1 .1 .1 .1 .1 .0, tt)))
-              (Signed.made-wt BitPosition.the-field Laws.the-field-laws (Make'.struct-wt BitPosition.the-type Laws.the-laws (Make'.u64-wt, tt)) (BitPosition.the-type .to (m .1 .1 .1 .1 .1 .1 .1 .1 .1 .1
-              .1 .1 .0)), tt) (wa .1)) λ m wa. Make.made-is Put.the-type Laws'3.the-laws (List._∷_ (Laws'5.val BitPosition.the-type Laws.the-laws (m .1 .1 .1 .1 .1 .1 .1 .1 .1 .1 .1 .1 .0)) List.[])
-              (Put.enum .make (Logic.inl (m .1 .1 .1 .1 .1 .1 .1 .1 .1 .1 .1 .1 .0, tt)))
-              (Signed.made-wt BitPosition.the-field Laws.the-field-laws (Make'.struct-wt BitPosition.the-type Laws.the-laws (Make'.u64-wt, tt)) (BitPosition.the-type .to (m .1 .1 .1 .1 .1 .1 .1 .1 .1 .1
-              .1 .1 .0)), tt) (wa .1)) d82
+              (Laws'5.val BitPosition.the-type Laws.the-laws (m .1 .1 .1 .1 .1 .1 .1 .1 .1 .1 .1 .1 .0)) List.[]) (Put.enum .make (Logic.inl (m .1 .1 .1 .1 .1 .1 .1 .1 .1 .1 .1 .1 .0, tt))) (
+                Signed.made-wt BitPosition.the-field Laws.the-field-laws (Make'.struct-wt BitPosition.the-type Laws.the-laws (Make'.u64-wt, tt)) (BitPosition.the-type .to (m .1 .1 .1 .1 .1 .1 .1 .1 .1 .1
+                    .1 .1 .0)),
+                tt,
+              ) (wa .1)) λ m wa. Make.made-is Put.the-type Laws'3.the-laws (List._∷_ (Laws'5.val BitPosition.the-type Laws.the-laws (m .1 .1 .1 .1 .1 .1 .1 .1 .1 .1 .1 .1 .0)) List.[])
+              (Put.enum .make (Logic.inl (m .1 .1 .1 .1 .1 .1 .1 .1 .1 .1 .1 .1 .0, tt))) (
+                Signed.made-wt BitPosition.the-field Laws.the-field-laws (Make'.struct-wt BitPosition.the-type Laws.the-laws (Make'.u64-wt, tt)) (BitPosition.the-type .to (m .1 .1 .1 .1 .1 .1 .1 .1 .1 .1
+                    .1 .1 .0)),
+                tt,
+              ) (wa .1)) d82
 
           d84 : Typed.Typed 𝓤 H A 𝓣 E G29 b64 Δ0 at84
           d84 = Typed.t-seq 𝓤 H A W 𝓣 E G29 G30 b60 b63 Δ0 at74 at83 d74 d83
@@ -3155,17 +3606,25 @@ module _ (claims· : Claims) where
 
           d92 : Typed.Typed 𝓤 H A 𝓣 E G21 b67 Δ0 at92
           d92 = Typed.s-seq 𝓤 H A W 𝓣 E G21 G22 b9 b66 Δ0 (Typed.both s20) at91 (Plain.t-call-plain 𝓤 H A W 𝓣 1 ps·4 r·4 (claims· .8) (claims· .9) "block::records::start_records" (known .4) E (λ pos
-              β. β) G21 (record { pos = 21; ty = Syntax.tyRef Syntax.erased Syntax.mut Element.behind; ref = λ x. x; }, (Num.vAt 9 λ x. x, (Num.vAt 22 λ x. x, tt))) 17 (List._∷_ 6 List.[]) (Call.sub-id 𝓤
-              H A W (G21 .slots))
-              (Reads'.as-is 𝓤 H A (Mut.mslice (Element.type) (Syntax.tyRef Syntax.erased Syntax.mut Element.behind) 6), Mut.reads-mslice 𝓤 H A W (Element.type) (Syntax.tyRef Syntax.erased Syntax.mut
-              Element.behind) 6, Path'.refl, ((Scalar.reads-sc 𝓤 H A W (Row.sInt Syntax.w32), Path'.refl), ((Scalar.reads-sc 𝓤 H A W (Row.sInt Syntax.w32), Path'.refl), tt))) (Reads'.room-gone 𝓤 H A
+              β. β) G21 (record { pos = 21; ty = Syntax.tyRef Syntax.erased Syntax.mut Element.behind; ref = λ x. x }, (Num.vAt 9 λ x. x, (Num.vAt 22 λ x. x, tt))) 17 (List._∷_ 6 List.[]) (Call.sub-id 𝓤
+              H A W (G21 .slots)) (
+                Reads'.as-is 𝓤 H A (Mut.mslice (Element.type) (Syntax.tyRef Syntax.erased Syntax.mut Element.behind) 6),
+                Mut.reads-mslice 𝓤 H A W (Element.type) (Syntax.tyRef Syntax.erased Syntax.mut
+                    Element.behind) 6,
+                Path'.refl,
+                ((Scalar.reads-sc 𝓤 H A W (Row.sInt Syntax.w32), Path'.refl), ((Scalar.reads-sc 𝓤 H A W (Row.sInt Syntax.w32), Path'.refl), tt)),
+              ) (Reads'.room-gone 𝓤 H A
               Syntax.tyUnit) (tt, tt) Path'.refl) d91
 
           d93 : Typed.Typed 𝓤 H A 𝓣 E G20 b68 Δ0 at93
           d93 = Typed.s-seq 𝓤 H A W 𝓣 E G20 G21 b8 b67 Δ0 (Typed.both s19) at92 (Plain.t-call-plain 𝓤 H A W 𝓣 1 ps·3 r·3 (claims· .6) (claims· .7) "cameras::base_of" (known .3) E (λ pos β. β) G20
-              (record { pos = 7; ty = Syntax.tyRef (Syntax.named 4) Syntax.imm (Syntax.tyInt Syntax.w8); ref = λ x. x; }, (Num.vLit 0, tt)) 22 (List._∷_ 4 List.[]) (Call.sub-id 𝓤 H A W (G20 .slots))
-              (ShrSlice.spares-sslice 𝓤 H A W (Referent.rtF (Referent.fInt Syntax.w8)) (Syntax.tyRef (Syntax.named 4) Syntax.imm (Syntax.tyInt Syntax.w8)) 4, Shared.reads-sslice 𝓤 H A W (Referent.rtF
-              (Referent.fInt Syntax.w8)) (Syntax.tyRef (Syntax.named 4) Syntax.imm (Syntax.tyInt Syntax.w8)) 4, Path'.refl, (tt, tt)) (Reads'.room-gone 𝓤 H A (Syntax.tyInt Syntax.w32)) (tt, tt)
+              (record { pos = 7; ty = Syntax.tyRef (Syntax.named 4) Syntax.imm (Syntax.tyInt Syntax.w8); ref = λ x. x }, (Num.vLit 0, tt)) 22 (List._∷_ 4 List.[]) (Call.sub-id 𝓤 H A W (G20 .slots)) (
+                ShrSlice.spares-sslice 𝓤 H A W (Referent.rtF (Referent.fInt Syntax.w8)) (Syntax.tyRef (Syntax.named 4) Syntax.imm (Syntax.tyInt Syntax.w8)) 4,
+                Shared.reads-sslice 𝓤 H A W (Referent.rtF
+                    (Referent.fInt Syntax.w8)) (Syntax.tyRef (Syntax.named 4) Syntax.imm (Syntax.tyInt Syntax.w8)) 4,
+                Path'.refl,
+                (tt, tt),
+              ) (Reads'.room-gone 𝓤 H A (Syntax.tyInt Syntax.w32)) (tt, tt)
               Path'.refl) d92
 
           d94 : Typed.Typed 𝓤 H A 𝓣 E G19 b69 Δ0 at94
@@ -3181,14 +3640,25 @@ module _ (claims· : Claims) where
               Syntax.mut Element.behind) 3)) (Reads'.room-gone 𝓤 H A (Syntax.tyRef Syntax.erased Syntax.mut Element.behind)) Path'.refl tt Path'.refl Path'.refl Path'.refl λ b o. tt) d94
 
           d96 : Typed.Typed 𝓤 H A 𝓣 E G17 b70 Δ0 at96
-          d96 = Typed.g-pre 𝓤 H A W 𝓣 E G17 G18 b70 Δ0 (λ Ψ. Ψ) at95 (Lifetime.g-begin 𝓤 H A W E G17 6
-              (tt,
-              (tt,
-              (tt,
-              (tt,
-              (tt,
-              (tt,
-              (tt, (tt, (tt, (tt, (tt, (tt, (tt, (tt, (tt, (tt, (tt, (tt, (tt, (tt, (tt, (tt, (tt, (tt, (tt, (tt, (tt, (tt, (tt, (tt, (tt, (tt, (tt, (tt, (tt, (tt, tt)))))))))))))))))))))))))))))))))))))
+          d96 = Typed.g-pre 𝓤 H A W 𝓣 E G17 G18 b70 Δ0 (λ Ψ. Ψ) at95 (Lifetime.g-begin 𝓤 H A W E G17 6 (
+            tt,
+            (
+              tt,
+              (
+                tt,
+                (
+                  tt,
+                  (
+                    tt,
+                    (
+                      tt,
+                      (tt, (tt, (tt, (tt, (tt, (tt, (tt, (tt, (tt, (tt, (tt, (tt, (tt, (tt, (tt, (tt, (tt, (tt, (tt, (tt, (tt, (tt, (tt, (tt, (tt, (tt, (tt, (tt, (tt, (tt, tt)))))))))))))))))))))))))))))),
+                    ),
+                  ),
+                ),
+              ),
+            ),
+          ))
               d95
 
           d97 : Typed.Typed 𝓤 H A 𝓣 E G16 b70 Δ0 at97
@@ -3213,17 +3683,23 @@ module _ (claims· : Claims) where
 
           d102 : Typed.Typed 𝓤 H A 𝓣 E G11 b71 Δ0 at102
           d102 = Typed.s-seq 𝓤 H A W 𝓣 E G11 G12 b5 b70 Δ0 (Typed.both s10) at101 (Plain.t-call-plain 𝓤 H A W 𝓣 1 ps·2 r·2 (claims· .4) (claims· .5) "lines::clear" (known .2) E (λ pos β. β) G11
-              (record { pos = 19; ty = Syntax.tyRef Syntax.erased Syntax.mut (Syntax.tyInt Syntax.w16); ref = λ x. x; }, tt) 17 (List._∷_ 5 List.[]) (Call.sub-id 𝓤 H A W (G11 .slots))
-              (Reads'.as-is 𝓤 H A (Mut.mslice (Referent.rtF (Referent.fInt Syntax.w16)) (Syntax.tyRef Syntax.erased Syntax.mut (Syntax.tyInt Syntax.w16)) 5), Mut.reads-mslice 𝓤 H A W (Referent.rtF
-              (Referent.fInt Syntax.w16)) (Syntax.tyRef Syntax.erased Syntax.mut (Syntax.tyInt Syntax.w16)) 5, Path'.refl, tt) (Reads'.room-gone 𝓤 H A Syntax.tyUnit) (tt, tt) Path'.refl) d101
+              (record { pos = 19; ty = Syntax.tyRef Syntax.erased Syntax.mut (Syntax.tyInt Syntax.w16); ref = λ x. x }, tt) 17 (List._∷_ 5 List.[]) (Call.sub-id 𝓤 H A W (G11 .slots)) (
+                Reads'.as-is 𝓤 H A (Mut.mslice (Referent.rtF (Referent.fInt Syntax.w16)) (Syntax.tyRef Syntax.erased Syntax.mut (Syntax.tyInt Syntax.w16)) 5),
+                Mut.reads-mslice 𝓤 H A W (Referent.rtF
+                    (Referent.fInt Syntax.w16)) (Syntax.tyRef Syntax.erased Syntax.mut (Syntax.tyInt Syntax.w16)) 5,
+                Path'.refl,
+                tt,
+              ) (Reads'.room-gone 𝓤 H A Syntax.tyUnit) (tt, tt) Path'.refl) d101
 
           d103 : Typed.Typed 𝓤 H A 𝓣 E G10 b72 Δ0 at103
           d103 = Typed.s-seq 𝓤 H A W 𝓣 E G10 G11 b4 b71 Δ0 (Typed.ask s9) at102 (Relend.t-sl-aggregate 𝓤 H A W E (Referent.rtF (Referent.fInt Syntax.w16)) 𝓣 (Relend.asMut (Referent.rtF (Referent.fInt
               Syntax.w16))) G10 18 19 5 (Syntax.tyRef Syntax.erased Syntax.mut (Syntax.tyInt Syntax.w16)) (Syntax.tyRef Syntax.erased Syntax.mut (Syntax.tyInt Syntax.w16)) (λ x. x) (Scalar.oFld 4
               (List._∷_ (Syntax.field 1) List.[]) (Syntax.tyInt Syntax.w64) 8 λ v. Shared.lenV (v .0)) (Reads'.as-is 𝓤 H A (Relend.msptr (Referent.rtF (Referent.fInt Syntax.w16)) (Syntax.tyRef
-              Syntax.erased Syntax.mut (Syntax.tyInt Syntax.w16)) 5)) (Reads'.room-gone 𝓤 H A y1)
-              (Relend.reads-owed-len 𝓤 H A W (Referent.rtF (Referent.fInt Syntax.w16)) (Syntax.tyRef (Syntax.named 2) Syntax.mut (Syntax.tyInt Syntax.w16)) 2 5 (Row.lease (κs .1 .1 .0) (qs .1 .1 .0)) 8
-              Path'.refl, Path'.refl) Path'.refl Path'.refl λ b o k. tt) d102
+              Syntax.erased Syntax.mut (Syntax.tyInt Syntax.w16)) 5)) (Reads'.room-gone 𝓤 H A y1) (
+                Relend.reads-owed-len 𝓤 H A W (Referent.rtF (Referent.fInt Syntax.w16)) (Syntax.tyRef (Syntax.named 2) Syntax.mut (Syntax.tyInt Syntax.w16)) 2 5 (Row.lease (κs .1 .1 .0) (qs .1 .1 .0)) 8
+                    Path'.refl,
+                Path'.refl,
+              ) Path'.refl Path'.refl λ b o k. tt) d102
 
           d104 : Typed.Typed 𝓤 H A 𝓣 E G9 b73 Δ0 at104
           d104 = Typed.s-seq 𝓤 H A W 𝓣 E G9 G10 b3 b72 Δ0 (Typed.give s8) at103 (Relend.t-sl-relend 𝓤 H A W E (Referent.rtF (Referent.fInt Syntax.w16)) 𝓣 G9 4 18 2 5 (Syntax.tyRef (Syntax.named 2)
@@ -3232,21 +3708,36 @@ module _ (claims· : Claims) where
               (Syntax.tyInt Syntax.w16))) Path'.refl tt Path'.refl Path'.refl Path'.refl λ b o. tt) d103
 
           d105 : Typed.Typed 𝓤 H A 𝓣 E G8 b73 Δ0 at105
-          d105 = Typed.g-pre 𝓤 H A W 𝓣 E G8 G9 b73 Δ0 (λ Ψ. Ψ) at104 (Lifetime.g-begin 𝓤 H A W E G8 5
-              (tt,
-              (tt,
-              (tt,
-              (tt,
-              (tt,
-              (tt,
-              (tt, (tt, (tt, (tt, (tt, (tt, (tt, (tt, (tt, (tt, (tt, (tt, (tt, (tt, (tt, (tt, (tt, (tt, (tt, (tt, (tt, (tt, (tt, (tt, (tt, (tt, (tt, (tt, (tt, (tt, tt)))))))))))))))))))))))))))))))))))))
+          d105 = Typed.g-pre 𝓤 H A W 𝓣 E G8 G9 b73 Δ0 (λ Ψ. Ψ) at104 (Lifetime.g-begin 𝓤 H A W E G8 5 (
+            tt,
+            (
+              tt,
+              (
+                tt,
+                (
+                  tt,
+                  (
+                    tt,
+                    (
+                      tt,
+                      (tt, (tt, (tt, (tt, (tt, (tt, (tt, (tt, (tt, (tt, (tt, (tt, (tt, (tt, (tt, (tt, (tt, (tt, (tt, (tt, (tt, (tt, (tt, (tt, (tt, (tt, (tt, (tt, (tt, (tt, tt)))))))))))))))))))))))))))))),
+                    ),
+                  ),
+                ),
+              ),
+            ),
+          ))
               d104
 
           d106 : Typed.Typed 𝓤 H A 𝓣 E G7 b74 Δ0 at106
           d106 = Typed.s-seq 𝓤 H A W 𝓣 E G7 G8 b2 b73 Δ0 (Typed.both s6) at105 (Plain.t-call-plain 𝓤 H A W 𝓣 1 ps·1 r·1 (claims· .2) (claims· .3) "block::writer::is_strict" (known .1) E (λ pos β. β)
-              G7 (record { pos = 7; ty = Syntax.tyRef (Syntax.named 4) Syntax.imm (Syntax.tyInt Syntax.w8); ref = λ x. x; }, tt) 11 (List._∷_ 4 List.[]) (Call.sub-id 𝓤 H A W (G7 .slots))
-              (ShrSlice.spares-sslice 𝓤 H A W (Referent.rtF (Referent.fInt Syntax.w8)) (Syntax.tyRef (Syntax.named 4) Syntax.imm (Syntax.tyInt Syntax.w8)) 4, Shared.reads-sslice 𝓤 H A W (Referent.rtF
-              (Referent.fInt Syntax.w8)) (Syntax.tyRef (Syntax.named 4) Syntax.imm (Syntax.tyInt Syntax.w8)) 4, Path'.refl, tt) (Reads'.room-gone 𝓤 H A Syntax.tyBool) (tt, tt) Path'.refl) d105
+              G7 (record { pos = 7; ty = Syntax.tyRef (Syntax.named 4) Syntax.imm (Syntax.tyInt Syntax.w8); ref = λ x. x }, tt) 11 (List._∷_ 4 List.[]) (Call.sub-id 𝓤 H A W (G7 .slots)) (
+                ShrSlice.spares-sslice 𝓤 H A W (Referent.rtF (Referent.fInt Syntax.w8)) (Syntax.tyRef (Syntax.named 4) Syntax.imm (Syntax.tyInt Syntax.w8)) 4,
+                Shared.reads-sslice 𝓤 H A W (Referent.rtF
+                    (Referent.fInt Syntax.w8)) (Syntax.tyRef (Syntax.named 4) Syntax.imm (Syntax.tyInt Syntax.w8)) 4,
+                Path'.refl,
+                tt,
+              ) (Reads'.room-gone 𝓤 H A Syntax.tyBool) (tt, tt) Path'.refl) d105
 
           d107 : Typed.Typed 𝓤 H A 𝓣 E G6 b75 Δ0 at107
           d107 = Typed.s-seq 𝓤 H A W 𝓣 E G6 G7 b1 b74 Δ0 (Typed.both s5) at106 (Plain.t-call-plain 𝓤 H A W 𝓣 0 ps·0 r·0 (claims· .0) (claims· .1) "map::width" (known .0) E (λ pos β. β) G6
@@ -3289,11 +3780,24 @@ module _ (claims· : Claims) where
           pub store : Kinds.Den {n = 5} κs Bool.pBool
           pub lines : Kinds.Den {n = 5} κs (MutSlice.pMutS (Referent.rtF (Referent.fInt Syntax.w16)) 2 tt)
           pub rs : Kinds.Den {n = 5} κs (MutSlice.pMutS (Element.type) 3 tt)
-          pub form : Kinds.Den {n = 5} κs (Value.pVal record
-              { ty = Declared'.row Form.the-type; one = Path'.refl; val = Laws'5.val Form.the-type Laws'.the-laws; tells = Laws'5.tells Form.the-type Laws'.the-laws; still = Laws'5.still Form.the-type
-              Laws'.the-copy Exit.yes; row = Rows.whole (Declared'.row Form.the-type); rd = λ x. x; mk = λ x. x; } λ M 𝓤 H A W. record
-              { copies = Laws'5.copy Form.the-type Laws'.the-copy 𝓤 H A W; lawful = Laws'5.lawful Form.the-type Laws'.the-laws 𝓤 H A W; makes = Laws'5.makes Form.the-type Laws'.the-plain 𝓤 H A; in-mem =
-              Local.mem-whole 𝓤 H A W (Declared'.row Form.the-type); of-mem = Local.whole-mem 𝓤 H A W (Declared'.row Form.the-type); })
+          pub form : Kinds.Den {n = 5} κs (Value.pVal record {
+            ty = Declared'.row Form.the-type;
+            one = Path'.refl;
+            val = Laws'5.val Form.the-type Laws'.the-laws;
+            tells = Laws'5.tells Form.the-type Laws'.the-laws;
+            still = Laws'5.still Form.the-type
+                Laws'.the-copy Exit.yes;
+            row = Rows.whole (Declared'.row Form.the-type);
+            rd = λ x. x;
+            mk = λ x. x;
+          } λ M 𝓤 H A W. record {
+            copies = Laws'5.copy Form.the-type Laws'.the-copy 𝓤 H A W;
+            lawful = Laws'5.lawful Form.the-type Laws'.the-laws 𝓤 H A W;
+            makes = Laws'5.makes Form.the-type Laws'.the-plain 𝓤 H A;
+            in-mem =
+                Local.mem-whole 𝓤 H A W (Declared'.row Form.the-type);
+            of-mem = Local.whole-mem 𝓤 H A W (Declared'.row Form.the-type);
+          })
           pub bases : Kinds.Den {n = 5} κs (ShrSlice.pShrS (Referent.rtF (Referent.fInt Syntax.w8)) 4 tt)
           pub count : Kinds.Den {n = 5} κs (Num.pNum Syntax.w64)
 
@@ -3308,9 +3812,12 @@ module _ (claims· : Claims) where
       m0 = λ κs args. (tt, Enter.partsP κs 1 ps xs (dens κs args))
 
       abbrev W0 : (κs : Lifetimes.Lfts 5) → (args : Args κs) → Typed.Want O0
-      W0 = λ κs args.
-          (λ u. ⊥, tt, λ u. Enter.Fixs κs 1 ps xs (dens κs args) (u .1) × Post· κs (dens κs args) (Function.resV r κs (u .0)) (Clauses.atExit (Kinds.endedOf 5 ps r) κs (dens κs args) (Enter.lastsP κs 1 ps
-          xs (dens κs args) (u .1))))
+      W0 = λ κs args. (
+        λ u. ⊥,
+        tt,
+        λ u. Enter.Fixs κs 1 ps xs (dens κs args) (u .1) × Post· κs (dens κs args) (Function.resV r κs (u .0)) (Clauses.atExit (Kinds.endedOf 5 ps r) κs (dens κs args) (Enter.lastsP κs 1 ps
+            xs (dens κs args) (u .1))),
+      )
 
       pub record Start : Type 0 where
         pub κs : Lifetimes.Lfts 5
@@ -3393,7 +3900,7 @@ module _ (claims· : Claims) where
 
       module _ (before· : After-width) where
         abbrev pub After-is-strict·own : Type 0
-        After-is-strict·own = Called.Called ps·1 r·1 (claims· .3) T7 (record { pos = 7; ty = Syntax.tyRef (Syntax.named 4) Syntax.imm (Syntax.tyInt Syntax.w8); ref = λ x. x; }, tt) (m6 (before·
+        After-is-strict·own = Called.Called ps·1 r·1 (claims· .3) T7 (record { pos = 7; ty = Syntax.tyRef (Syntax.named 4) Syntax.imm (Syntax.tyInt Syntax.w8); ref = λ x. x }, tt) (m6 (before·
             .before) (After-width·gave before·))
 
       pub record After-is-strict : Type 0 where
@@ -3401,7 +3908,7 @@ module _ (claims· : Claims) where
         pub is-strict : After-is-strict·own before
 
       abbrev pub After-is-strict·gave : (c : After-is-strict) → s6 .gives (m6 (c .before .before) (After-width·gave (c .before)))
-      After-is-strict·gave = λ c. Called.given ps·1 r·1 (claims· .3) T7 (record { pos = 7; ty = Syntax.tyRef (Syntax.named 4) Syntax.imm (Syntax.tyInt Syntax.w8); ref = λ x. x; }, tt) (m6 (c .before
+      After-is-strict·gave = λ c. Called.given ps·1 r·1 (claims· .3) T7 (record { pos = 7; ty = Syntax.tyRef (Syntax.named 4) Syntax.imm (Syntax.tyInt Syntax.w8); ref = λ x. x }, tt) (m6 (c .before
           .before) (After-width·gave (c .before))) (c .is-strict)
 
       abbrev pub m8 : (before : After-is-strict) → (given : s8 .gives (m7 (before .before) (After-is-strict·gave before))) → Typed.Mo T10
@@ -3426,7 +3933,7 @@ module _ (claims· : Claims) where
 
       module _ (before· : After-clear-arg) where
         abbrev pub After-clear·own : Type 0
-        After-clear·own = Called.Called ps·2 r·2 (claims· .5) T11 (record { pos = 19; ty = Syntax.tyRef Syntax.erased Syntax.mut (Syntax.tyInt Syntax.w16); ref = λ x. x; }, tt) (m9 (before· .before)
+        After-clear·own = Called.Called ps·2 r·2 (claims· .5) T11 (record { pos = 19; ty = Syntax.tyRef Syntax.erased Syntax.mut (Syntax.tyInt Syntax.w16); ref = λ x. x }, tt) (m9 (before· .before)
             (before· .clear-arg .given))
 
       pub record After-clear : Type 0 where
@@ -3434,7 +3941,7 @@ module _ (claims· : Claims) where
         pub clear : After-clear·own before
 
       abbrev pub After-clear·gave : (c : After-clear) → s10 .gives (m9 (c .before .before) (c .before .clear-arg .given))
-      After-clear·gave = λ c. Called.given ps·2 r·2 (claims· .5) T11 (record { pos = 19; ty = Syntax.tyRef Syntax.erased Syntax.mut (Syntax.tyInt Syntax.w16); ref = λ x. x; }, tt) (m9 (c .before
+      After-clear·gave = λ c. Called.given ps·2 r·2 (claims· .5) T11 (record { pos = 19; ty = Syntax.tyRef Syntax.erased Syntax.mut (Syntax.tyInt Syntax.w16); ref = λ x. x }, tt) (m9 (c .before
           .before) (c .before .clear-arg .given)) (c .clear)
 
       abbrev pub m11 : (before : After-clear-arg) → (given : s10 .gives (m9 (before .before) (before .clear-arg .given))) → Typed.Mo T13
@@ -3484,7 +3991,7 @@ module _ (claims· : Claims) where
 
       module _ (before· : After-start-records-arg) where
         abbrev pub After-base-of·own : Type 0
-        After-base-of·own = Called.Called ps·3 r·3 (claims· .7) T20 (record { pos = 7; ty = Syntax.tyRef (Syntax.named 4) Syntax.imm (Syntax.tyInt Syntax.w8); ref = λ x. x; }, (Num.vLit 0, tt)) (m15
+        After-base-of·own = Called.Called ps·3 r·3 (claims· .7) T20 (record { pos = 7; ty = Syntax.tyRef (Syntax.named 4) Syntax.imm (Syntax.tyInt Syntax.w8); ref = λ x. x }, (Num.vLit 0, tt)) (m15
             (before· .before) (before· .start-records-arg .given))
 
       pub record After-base-of : Type 0 where
@@ -3492,7 +3999,7 @@ module _ (claims· : Claims) where
         pub base-of : After-base-of·own before
 
       abbrev pub After-base-of·gave : (c : After-base-of) → s19 .gives (m15 (c .before .before) (c .before .start-records-arg .given))
-      After-base-of·gave = λ c. Called.given ps·3 r·3 (claims· .7) T20 (record { pos = 7; ty = Syntax.tyRef (Syntax.named 4) Syntax.imm (Syntax.tyInt Syntax.w8); ref = λ x. x; }, (Num.vLit 0, tt))
+      After-base-of·gave = λ c. Called.given ps·3 r·3 (claims· .7) T20 (record { pos = 7; ty = Syntax.tyRef (Syntax.named 4) Syntax.imm (Syntax.tyInt Syntax.w8); ref = λ x. x }, (Num.vLit 0, tt))
           (m15 (c .before .before) (c .before .start-records-arg .given)) (c .base-of)
 
       abbrev pub Need-start-records-requires : Type 0
@@ -3504,7 +4011,7 @@ module _ (claims· : Claims) where
       module _ (before· : After-base-of) where
         abbrev pub After-start-records·own : Type 0
         After-start-records·own = Called.Called ps·4 r·4 (claims· .9) T21
-            (record { pos = 21; ty = Syntax.tyRef Syntax.erased Syntax.mut Element.behind; ref = λ x. x; }, (Num.vAt 9 λ x. x, (Num.vAt 22 λ x. x, tt))) (m16 (before· .before) (After-base-of·gave
+            (record { pos = 21; ty = Syntax.tyRef Syntax.erased Syntax.mut Element.behind; ref = λ x. x }, (Num.vAt 9 λ x. x, (Num.vAt 22 λ x. x, tt))) (m16 (before· .before) (After-base-of·gave
             before·))
 
       pub record After-start-records : Type 0 where
@@ -3513,7 +4020,7 @@ module _ (claims· : Claims) where
 
       abbrev pub After-start-records·gave : (c : After-start-records) → s20 .gives (m16 (c .before .before) (After-base-of·gave (c .before)))
       After-start-records·gave = λ c. Called.given ps·4 r·4 (claims· .9) T21
-          (record { pos = 21; ty = Syntax.tyRef Syntax.erased Syntax.mut Element.behind; ref = λ x. x; }, (Num.vAt 9 λ x. x, (Num.vAt 22 λ x. x, tt))) (m16 (c .before .before) (After-base-of·gave (c
+          (record { pos = 21; ty = Syntax.tyRef Syntax.erased Syntax.mut Element.behind; ref = λ x. x }, (Num.vAt 9 λ x. x, (Num.vAt 22 λ x. x, tt))) (m16 (c .before .before) (After-base-of·gave (c
           .before))) (c .start-records)
 
       abbrev pub m18 : (before : After-base-of) → (given : s20 .gives (m16 (before .before) (After-base-of·gave before))) → Typed.Mo T23
@@ -3568,14 +4075,14 @@ module _ (claims· : Claims) where
           (4, Mut.mslice (Referent.rtF (Referent.fInt Syntax.w16)) (Syntax.tyRef (Syntax.named 2) Syntax.mut (Syntax.tyInt Syntax.w16)) 2) (Row.setRow 2
           (2, Mut.mslice (Referent.rtF (Referent.fInt Syntax.w8)) (Syntax.tyRef (Syntax.named 1) Syntax.mut (Syntax.tyInt Syntax.w8)) 1) (T31 .locals)))) (Row.set 5
           (5, Mut.mslice (Element.type) (Syntax.tyRef (Syntax.named 3) Syntax.mut Element.behind) 3) record
-          { ptr = Row.get 5 (T31 .locals) (m23 (before .before) (before .rs .given)) .ptr; name = Row.get 5 (T31 .locals) (m23 (before .before) (before .rs .given)) .name; now = rs; } (Row.setRow 4
+          { ptr = Row.get 5 (T31 .locals) (m23 (before .before) (before .rs .given)) .ptr; name = Row.get 5 (T31 .locals) (m23 (before .before) (before .rs .given)) .name; now = rs } (Row.setRow 4
           (4, Mut.mslice (Referent.rtF (Referent.fInt Syntax.w16)) (Syntax.tyRef (Syntax.named 2) Syntax.mut (Syntax.tyInt Syntax.w16)) 2) (Row.setRow 2
           (2, Mut.mslice (Referent.rtF (Referent.fInt Syntax.w8)) (Syntax.tyRef (Syntax.named 1) Syntax.mut (Syntax.tyInt Syntax.w8)) 1) (T31 .locals))) (Row.set 4
           (4, Mut.mslice (Referent.rtF (Referent.fInt Syntax.w16)) (Syntax.tyRef (Syntax.named 2) Syntax.mut (Syntax.tyInt Syntax.w16)) 2) record
-          { ptr = Row.get 4 (T31 .locals) (m23 (before .before) (before .rs .given)) .ptr; name = Row.get 4 (T31 .locals) (m23 (before .before) (before .rs .given)) .name; now = lines; } (Row.setRow 2
+          { ptr = Row.get 4 (T31 .locals) (m23 (before .before) (before .rs .given)) .ptr; name = Row.get 4 (T31 .locals) (m23 (before .before) (before .rs .given)) .name; now = lines } (Row.setRow 2
           (2, Mut.mslice (Referent.rtF (Referent.fInt Syntax.w8)) (Syntax.tyRef (Syntax.named 1) Syntax.mut (Syntax.tyInt Syntax.w8)) 1) (T31 .locals)) (Row.set 2
           (2, Mut.mslice (Referent.rtF (Referent.fInt Syntax.w8)) (Syntax.tyRef (Syntax.named 1) Syntax.mut (Syntax.tyInt Syntax.w8)) 1) record
-          { ptr = Row.get 2 (T31 .locals) (m23 (before .before) (before .rs .given)) .ptr; name = Row.get 2 (T31 .locals) (m23 (before .before) (before .rs .given)) .name; now = out; } (T31 .locals) (m23
+          { ptr = Row.get 2 (T31 .locals) (m23 (before .before) (before .rs .given)) .ptr; name = Row.get 2 (T31 .locals) (m23 (before .before) (before .rs .given)) .name; now = out } (T31 .locals) (m23
           (before .before) (before .rs .given))))))
 
       abbrev W3 : (before : After-rs) → (out : List.List (Referent.rtF (Referent.fInt Syntax.w8) .Denot)) → (lines : List.List (Referent.rtF (Referent.fInt Syntax.w16) .Denot)) → (rs : List.List
@@ -3662,7 +4169,7 @@ module _ (claims· : Claims) where
 
       module _ (before· : After-turn-arg) where
         abbrev pub After-turn·own : Type 0
-        After-turn·own = Called.Called ps·5 r·5 (claims· .11) T39 (record { pos = 26; ty = Syntax.tyRef Syntax.erased Syntax.mut (Syntax.tyInt Syntax.w16); ref = λ x. x; }, (Num.vAt 10 λ x. x, tt))
+        After-turn·own = Called.Called ps·5 r·5 (claims· .11) T39 (record { pos = 26; ty = Syntax.tyRef Syntax.erased Syntax.mut (Syntax.tyInt Syntax.w16); ref = λ x. x }, (Num.vAt 10 λ x. x, tt))
             (m30 (before· .before) (before· .turn-arg .given))
 
       pub record After-turn : Type 0 where
@@ -3670,7 +4177,7 @@ module _ (claims· : Claims) where
         pub turn : After-turn·own before
 
       abbrev pub After-turn·gave : (c : After-turn) → s36 .gives (m30 (c .before .before) (c .before .turn-arg .given))
-      After-turn·gave = λ c. Called.given ps·5 r·5 (claims· .11) T39 (record { pos = 26; ty = Syntax.tyRef Syntax.erased Syntax.mut (Syntax.tyInt Syntax.w16); ref = λ x. x; }, (Num.vAt 10 λ x. x, tt))
+      After-turn·gave = λ c. Called.given ps·5 r·5 (claims· .11) T39 (record { pos = 26; ty = Syntax.tyRef Syntax.erased Syntax.mut (Syntax.tyInt Syntax.w16); ref = λ x. x }, (Num.vAt 10 λ x. x, tt))
           (m30 (c .before .before) (c .before .turn-arg .given)) (c .turn)
 
       abbrev pub m32 : (before : After-turn-arg) → (given : s36 .gives (m30 (before .before) (before .turn-arg .given))) → Typed.Mo T41
@@ -3707,7 +4214,7 @@ module _ (claims· : Claims) where
       module _ (before· : After-slice-known4) where
         abbrev pub After-base-of2·own : Type 0
         After-base-of2·own = Called.Called ps·3 r·3 (claims· .7) T44
-            (record { pos = 7; ty = Syntax.tyRef (Syntax.named 4) Syntax.imm (Syntax.tyInt Syntax.w8); ref = λ x. x; }, (Num.vAt 13 λ x. x, tt)) (m34 (before· .before) (before· .slice-known4 .given))
+            (record { pos = 7; ty = Syntax.tyRef (Syntax.named 4) Syntax.imm (Syntax.tyInt Syntax.w8); ref = λ x. x }, (Num.vAt 13 λ x. x, tt)) (m34 (before· .before) (before· .slice-known4 .given))
 
       pub record After-base-of2 : Type 0 where
         pub before : After-slice-known4
@@ -3715,7 +4222,7 @@ module _ (claims· : Claims) where
 
       abbrev pub After-base-of2·gave : (c : After-base-of2) → s42 .gives (m34 (c .before .before) (c .before .slice-known4 .given))
       After-base-of2·gave = λ c. Called.given ps·3 r·3 (claims· .7) T44
-          (record { pos = 7; ty = Syntax.tyRef (Syntax.named 4) Syntax.imm (Syntax.tyInt Syntax.w8); ref = λ x. x; }, (Num.vAt 13 λ x. x, tt)) (m34 (c .before .before) (c .before .slice-known4 .given)) (c
+          (record { pos = 7; ty = Syntax.tyRef (Syntax.named 4) Syntax.imm (Syntax.tyInt Syntax.w8); ref = λ x. x }, (Num.vAt 13 λ x. x, tt)) (m34 (c .before .before) (c .before .slice-known4 .given)) (c
           .base-of2)
 
       abbrev pub m36 : (before : After-base-of2) → (given : s44 .gives (m35 (before .before) (After-base-of2·gave before))) → Typed.Mo T48
@@ -3741,7 +4248,7 @@ module _ (claims· : Claims) where
       module _ (before· : After-restart-arg) where
         abbrev pub After-is-restarted·own : Type 0
         After-is-restarted·own = Called.Called ps·6 r·6 (claims· .13) T49
-            (record { pos = 7; ty = Syntax.tyRef (Syntax.named 4) Syntax.imm (Syntax.tyInt Syntax.w8); ref = λ x. x; }, (Num.vAt 13 λ x. x, tt)) (m37 (before· .before) (before· .restart-arg .given))
+            (record { pos = 7; ty = Syntax.tyRef (Syntax.named 4) Syntax.imm (Syntax.tyInt Syntax.w8); ref = λ x. x }, (Num.vAt 13 λ x. x, tt)) (m37 (before· .before) (before· .restart-arg .given))
 
       pub record After-is-restarted : Type 0 where
         pub before : After-restart-arg
@@ -3749,7 +4256,7 @@ module _ (claims· : Claims) where
 
       abbrev pub After-is-restarted·gave : (c : After-is-restarted) → s46 .gives (m37 (c .before .before) (c .before .restart-arg .given))
       After-is-restarted·gave = λ c. Called.given ps·6 r·6 (claims· .13) T49
-          (record { pos = 7; ty = Syntax.tyRef (Syntax.named 4) Syntax.imm (Syntax.tyInt Syntax.w8); ref = λ x. x; }, (Num.vAt 13 λ x. x, tt)) (m37 (c .before .before) (c .before .restart-arg .given)) (c
+          (record { pos = 7; ty = Syntax.tyRef (Syntax.named 4) Syntax.imm (Syntax.tyInt Syntax.w8); ref = λ x. x }, (Num.vAt 13 λ x. x, tt)) (m37 (c .before .before) (c .before .restart-arg .given)) (c
           .is-restarted)
 
       abbrev pub Need-restart-requires : Type 0
@@ -3761,7 +4268,7 @@ module _ (claims· : Claims) where
       module _ (before· : After-is-restarted) where
         abbrev pub After-restart·own : Type 0
         After-restart·own = Called.Called ps·7 r·7 (claims· .15) T50
-            (record { pos = 28; ty = Syntax.tyRef Syntax.erased Syntax.mut Element.behind; ref = λ x. x; }, (Num.vAt 9 λ x. x, (Num.vAt 14 λ x. x, (Bool.bAt 23 λ x. x, tt)))) (m38 (before· .before)
+            (record { pos = 28; ty = Syntax.tyRef Syntax.erased Syntax.mut Element.behind; ref = λ x. x }, (Num.vAt 9 λ x. x, (Num.vAt 14 λ x. x, (Bool.bAt 23 λ x. x, tt)))) (m38 (before· .before)
             (After-is-restarted·gave before·))
 
       pub record After-restart : Type 0 where
@@ -3770,7 +4277,7 @@ module _ (claims· : Claims) where
 
       abbrev pub After-restart·gave : (c : After-restart) → s47 .gives (m38 (c .before .before) (After-is-restarted·gave (c .before)))
       After-restart·gave = λ c. Called.given ps·7 r·7 (claims· .15) T50
-          (record { pos = 28; ty = Syntax.tyRef Syntax.erased Syntax.mut Element.behind; ref = λ x. x; }, (Num.vAt 9 λ x. x, (Num.vAt 14 λ x. x, (Bool.bAt 23 λ x. x, tt)))) (m38 (c .before .before)
+          (record { pos = 28; ty = Syntax.tyRef Syntax.erased Syntax.mut Element.behind; ref = λ x. x }, (Num.vAt 9 λ x. x, (Num.vAt 14 λ x. x, (Bool.bAt 23 λ x. x, tt)))) (m38 (c .before .before)
           (After-is-restarted·gave (c .before))) (c .restart)
 
       abbrev pub m40 : (before : After-is-restarted) → (given : s47 .gives (m38 (before .before) (After-is-restarted·gave before))) → Typed.Mo T52
@@ -3858,15 +4365,28 @@ module _ (claims· : Claims) where
 
       module _ (before· : After-quantisers-of) where
         abbrev pub After-write-line·own : Type 0
-        After-write-line·own = Called.Called ps·9 r·9 (claims· .19) T66
-            (record { pos = 1; ty = Syntax.tyRef (Syntax.named 0) Syntax.imm (Syntax.tyInt Syntax.w16); ref = λ x. x; },
-            (Num.vAt 13 λ x. x,
-            (record { pos = 30; ty = Syntax.tyRef Syntax.erased Syntax.mut (Syntax.tyInt Syntax.w8); ref = λ x. x; },
-            (Bool.bAt 3 λ x. x,
-            (record { pos = 12; st = List.[]; d = 0; at = λ x. x },
-            (record { pos = 32; ty = Syntax.tyRef Syntax.erased Syntax.mut (Syntax.tyInt Syntax.w16); ref = λ x. x; },
-            (record { pos = 34; ty = Syntax.tyRef Syntax.erased Syntax.mut Element.behind; ref = λ x. x; },
-            (record { pos = 6; st = List.[]; d = 0; at = λ x. x }, (record { pos = 35; st = List.[]; d = 0; at = λ x. x }, (Bool.bAt 11 λ x. x, tt)))))))))) (m49 (before· .before)
+        After-write-line·own = Called.Called ps·9 r·9 (claims· .19) T66 (
+          record { pos = 1; ty = Syntax.tyRef (Syntax.named 0) Syntax.imm (Syntax.tyInt Syntax.w16); ref = λ x. x },
+          (
+            Num.vAt 13 λ x. x,
+            (
+              record { pos = 30; ty = Syntax.tyRef Syntax.erased Syntax.mut (Syntax.tyInt Syntax.w8); ref = λ x. x },
+              (
+                Bool.bAt 3 λ x. x,
+                (
+                  record { pos = 12; st = List.[]; d = 0; at = λ x. x },
+                  (
+                    record { pos = 32; ty = Syntax.tyRef Syntax.erased Syntax.mut (Syntax.tyInt Syntax.w16); ref = λ x. x },
+                    (
+                      record { pos = 34; ty = Syntax.tyRef Syntax.erased Syntax.mut Element.behind; ref = λ x. x },
+                      (record { pos = 6; st = List.[]; d = 0; at = λ x. x }, (record { pos = 35; st = List.[]; d = 0; at = λ x. x }, (Bool.bAt 11 λ x. x, tt))),
+                    ),
+                  ),
+                ),
+              ),
+            ),
+          ),
+        ) (m49 (before· .before)
             (After-quantisers-of·gave before·))
 
       pub record After-write-line : Type 0 where
@@ -3874,15 +4394,28 @@ module _ (claims· : Claims) where
         pub write-line : After-write-line·own before
 
       abbrev pub After-write-line·gave : (c : After-write-line) → s63 .gives (m49 (c .before .before) (After-quantisers-of·gave (c .before)))
-      After-write-line·gave = λ c. Called.given ps·9 r·9 (claims· .19) T66
-          (record { pos = 1; ty = Syntax.tyRef (Syntax.named 0) Syntax.imm (Syntax.tyInt Syntax.w16); ref = λ x. x; },
-          (Num.vAt 13 λ x. x,
-          (record { pos = 30; ty = Syntax.tyRef Syntax.erased Syntax.mut (Syntax.tyInt Syntax.w8); ref = λ x. x; },
-          (Bool.bAt 3 λ x. x,
-          (record { pos = 12; st = List.[]; d = 0; at = λ x. x },
-          (record { pos = 32; ty = Syntax.tyRef Syntax.erased Syntax.mut (Syntax.tyInt Syntax.w16); ref = λ x. x; },
-          (record { pos = 34; ty = Syntax.tyRef Syntax.erased Syntax.mut Element.behind; ref = λ x. x; },
-          (record { pos = 6; st = List.[]; d = 0; at = λ x. x }, (record { pos = 35; st = List.[]; d = 0; at = λ x. x }, (Bool.bAt 11 λ x. x, tt)))))))))) (m49 (c .before .before)
+      After-write-line·gave = λ c. Called.given ps·9 r·9 (claims· .19) T66 (
+        record { pos = 1; ty = Syntax.tyRef (Syntax.named 0) Syntax.imm (Syntax.tyInt Syntax.w16); ref = λ x. x },
+        (
+          Num.vAt 13 λ x. x,
+          (
+            record { pos = 30; ty = Syntax.tyRef Syntax.erased Syntax.mut (Syntax.tyInt Syntax.w8); ref = λ x. x },
+            (
+              Bool.bAt 3 λ x. x,
+              (
+                record { pos = 12; st = List.[]; d = 0; at = λ x. x },
+                (
+                  record { pos = 32; ty = Syntax.tyRef Syntax.erased Syntax.mut (Syntax.tyInt Syntax.w16); ref = λ x. x },
+                  (
+                    record { pos = 34; ty = Syntax.tyRef Syntax.erased Syntax.mut Element.behind; ref = λ x. x },
+                    (record { pos = 6; st = List.[]; d = 0; at = λ x. x }, (record { pos = 35; st = List.[]; d = 0; at = λ x. x }, (Bool.bAt 11 λ x. x, tt))),
+                  ),
+                ),
+              ),
+            ),
+          ),
+        ),
+      ) (m49 (c .before .before)
           (After-quantisers-of·gave (c .before))) (c .write-line)
 
       abbrev W5 : (before : After-quantisers-of) → (given : s63 .gives (m49 (before .before) (After-quantisers-of·gave before))) → Typed.Want O5
@@ -4265,19 +4798,31 @@ module _ (claims· : Claims) where
           : Need-returns-2) where
         lay16 : (c : After-loop) → at83 (W0 (c .before .before .before .before .before .before .before .before .before .before .before .before .before .before .before .before .κs) (c .before .before
             .before .before .before .before .before .before .before .before .before .before .before .before .before .before .args)) (m28 (c .before))
-        lay16 = λ c.
-            ((Path'.refl,
-            (MutSlice.fix-len (Row.get 2 (T108 .locals) (m84 (c .before)) .ptr) (Row.get 2 (T108 .locals) (m84 (c .before)) .name) (Row.get 2 (T108 .locals) (m84 (c .before)) .now) (dens (c .before
-            .before .before .before .before .before .before .before .before .before .before .before .before .before .before .before .κs) (c .before .before .before .before .before .before .before .before
-            .before .before .before .before .before .before .before .before .args) .1 .0 .now) (same-length-4 record { before = c .before; loop-test = c .loop-test }),
-            (tt,
-            (MutSlice.fix-len (Row.get 4 (T108 .locals) (m84 (c .before)) .ptr) (Row.get 4 (T108 .locals) (m84 (c .before)) .name) (Row.get 4 (T108 .locals) (m84 (c .before)) .now) (dens (c .before
-            .before .before .before .before .before .before .before .before .before .before .before .before .before .before .before .κs) (c .before .before .before .before .before .before .before .before
-            .before .before .before .before .before .before .before .before .args) .1 .1 .1 .0 .now) (same-length-5 record { before = c .before; loop-test = c .loop-test }),
-            (MutSlice.fix-len (Row.get 5 (T108 .locals) (m84 (c .before)) .ptr) (Row.get 5 (T108 .locals) (m84 (c .before)) .name) (Row.get 5 (T108 .locals) (m84 (c .before)) .now) (dens (c .before
-            .before .before .before .before .before .before .before .before .before .before .before .before .before .before .before .κs) (c .before .before .before .before .before .before .before .before
-            .before .before .before .before .before .before .before .before .args) .1 .1 .1 .1 .0 .now) (same-length-6 record { before = c .before; loop-test = c .loop-test }),
-            (tt, (Path'.refl, (tt, tt)))))))), returns-2 record { before = c .before; loop-test = c .loop-test })
+        lay16 = λ c. (
+          (
+            Path'.refl,
+            (
+              MutSlice.fix-len (Row.get 2 (T108 .locals) (m84 (c .before)) .ptr) (Row.get 2 (T108 .locals) (m84 (c .before)) .name) (Row.get 2 (T108 .locals) (m84 (c .before)) .now) (dens (c .before
+                  .before .before .before .before .before .before .before .before .before .before .before .before .before .before .before .κs) (c .before .before .before .before .before .before .before .before
+                  .before .before .before .before .before .before .before .before .args) .1 .0 .now) (same-length-4 record { before = c .before; loop-test = c .loop-test }),
+              (
+                tt,
+                (
+                  MutSlice.fix-len (Row.get 4 (T108 .locals) (m84 (c .before)) .ptr) (Row.get 4 (T108 .locals) (m84 (c .before)) .name) (Row.get 4 (T108 .locals) (m84 (c .before)) .now) (dens (c .before
+                      .before .before .before .before .before .before .before .before .before .before .before .before .before .before .before .κs) (c .before .before .before .before .before .before .before .before
+                      .before .before .before .before .before .before .before .before .args) .1 .1 .1 .0 .now) (same-length-5 record { before = c .before; loop-test = c .loop-test }),
+                  (
+                    MutSlice.fix-len (Row.get 5 (T108 .locals) (m84 (c .before)) .ptr) (Row.get 5 (T108 .locals) (m84 (c .before)) .name) (Row.get 5 (T108 .locals) (m84 (c .before)) .now) (dens (c .before
+                        .before .before .before .before .before .before .before .before .before .before .before .before .before .before .before .κs) (c .before .before .before .before .before .before .before .before
+                        .before .before .before .before .before .before .before .before .args) .1 .1 .1 .1 .0 .now) (same-length-6 record { before = c .before; loop-test = c .loop-test }),
+                    (tt, (Path'.refl, (tt, tt))),
+                  ),
+                ),
+              ),
+            ),
+          ),
+          returns-2 record { before = c .before; loop-test = c .loop-test },
+        )
 
         lay15 : (c : After-known-told) → at37 (W3 (c .before .before .before .before .before .before .before .before .before .before .before .before .before .before .before .before .before .before
             .before .before .before .before .before .before) (c .before .before .before .before .before .before .before .before .before .before .before .before .before .before .before .before .before
@@ -4286,276 +4831,527 @@ module _ (claims· : Claims) where
             .before .before .before .before .before .before .before .before .loop .rs) (c .before .before .before .before .before .before .before .before .before .before .before .before .before .before
             .before .before .before .before .before .before .before .before .before .loop .at) (c .before .before .before .before .before .before .before .before .before .before .before .before .before
             .before .before .before .before .before .before .before .before .before .before .loop .n)) (m61 (c .before) (c .known-told .given))
-        lay15 = λ c.
-            (add-n record { before = c .before; known-told = c .known-told },
-            (μ·0 (Row.get 1 (T31 .locals) (m23 (c .before .before .before .before .before .before .before .before .before .before .before .before .before .before .before .before .before .before .before
-            .before .before .before .before .before .before) (c .before .before .before .before .before .before .before .before .before .before .before .before .before .before .before .before .before
-            .before .before .before .before .before .before .before .rs .given)) .now) (Row.get 2 (T31 .locals) (m23 (c .before .before .before .before .before .before .before .before .before .before
-            .before .before .before .before .before .before .before .before .before .before .before .before .before .before .before) (c .before .before .before .before .before .before .before .before
-            .before .before .before .before .before .before .before .before .before .before .before .before .before .before .before .before .rs .given)) .now) (Row.get 3 (T31 .locals) (m23 (c .before
-            .before .before .before .before .before .before .before .before .before .before .before .before .before .before .before .before .before .before .before .before .before .before .before .before)
-            (c .before .before .before .before .before .before .before .before .before .before .before .before .before .before .before .before .before .before .before .before .before .before .before
-            .before .rs .given))) (Row.get 4 (T31 .locals) (m23 (c .before .before .before .before .before .before .before .before .before .before .before .before .before .before .before .before .before
-            .before .before .before .before .before .before .before .before) (c .before .before .before .before .before .before .before .before .before .before .before .before .before .before .before
-            .before .before .before .before .before .before .before .before .before .rs .given)) .now) (Row.get 5 (T31 .locals) (m23 (c .before .before .before .before .before .before .before .before
-            .before .before .before .before .before .before .before .before .before .before .before .before .before .before .before .before .before) (c .before .before .before .before .before .before
-            .before .before .before .before .before .before .before .before .before .before .before .before .before .before .before .before .before .before .rs .given)) .now) (Row.get 6 (T31 .locals) (m23
-            (c .before .before .before .before .before .before .before .before .before .before .before .before .before .before .before .before .before .before .before .before .before .before .before
-            .before .before) (c .before .before .before .before .before .before .before .before .before .before .before .before .before .before .before .before .before .before .before .before .before
-            .before .before .before .rs .given))) (Row.get 7 (T31 .locals) (m23 (c .before .before .before .before .before .before .before .before .before .before .before .before .before .before .before
-            .before .before .before .before .before .before .before .before .before .before) (c .before .before .before .before .before .before .before .before .before .before .before .before .before
-            .before .before .before .before .before .before .before .before .before .before .before .rs .given)) .now) (Row.get 8 (T31 .locals) (m23 (c .before .before .before .before .before .before
-            .before .before .before .before .before .before .before .before .before .before .before .before .before .before .before .before .before .before .before) (c .before .before .before .before
-            .before .before .before .before .before .before .before .before .before .before .before .before .before .before .before .before .before .before .before .before .rs .given))) (Row.get 9 (T31
-            .locals) (m23 (c .before .before .before .before .before .before .before .before .before .before .before .before .before .before .before .before .before .before .before .before .before .before
-            .before .before .before) (c .before .before .before .before .before .before .before .before .before .before .before .before .before .before .before .before .before .before .before .before
-            .before .before .before .before .rs .given))) (Row.get 10 (T31 .locals) (m23 (c .before .before .before .before .before .before .before .before .before .before .before .before .before .before
-            .before .before .before .before .before .before .before .before .before .before .before) (c .before .before .before .before .before .before .before .before .before .before .before .before
-            .before .before .before .before .before .before .before .before .before .before .before .before .rs .given))) (Row.get 11 (T31 .locals) (m23 (c .before .before .before .before .before .before
-            .before .before .before .before .before .before .before .before .before .before .before .before .before .before .before .before .before .before .before) (c .before .before .before .before
-            .before .before .before .before .before .before .before .before .before .before .before .before .before .before .before .before .before .before .before .before .rs .given))) (Row.get 12 (T31
-            .locals) (m23 (c .before .before .before .before .before .before .before .before .before .before .before .before .before .before .before .before .before .before .before .before .before .before
-            .before .before .before) (c .before .before .before .before .before .before .before .before .before .before .before .before .before .before .before .before .before .before .before .before
-            .before .before .before .before .rs .given))) (Row.get 13 (T31 .locals) (m23 (c .before .before .before .before .before .before .before .before .before .before .before .before .before .before
-            .before .before .before .before .before .before .before .before .before .before .before) (c .before .before .before .before .before .before .before .before .before .before .before .before
-            .before .before .before .before .before .before .before .before .before .before .before .before .rs .given))) (Row.get 2 (T31 .locals) (m76 (c .before) (c .known-told .given)) .now) (Row.get 4
-            (T31 .locals) (m76 (c .before) (c .known-told .given)) .now) (Row.get 5 (T31 .locals) (m76 (c .before) (c .known-told .given)) .now) (Row.get 12 (T31 .locals) (m76 (c .before) (c .known-told
-            .given))) (Row.get 13 (T31 .locals) (m76 (c .before) (c .known-told .given))), loop-less record { before = c .before; known-told = c .known-told },
-            ((Row.get 2 (T31 .locals) (m76 (c .before) (c .known-told .given)) .now, Row.get 4 (T31 .locals) (m76 (c .before) (c .known-told .given)) .now, Row.get 5 (T31 .locals) (m76 (c .before) (c
-            .known-told .given)) .now, Row.get 12 (T31 .locals) (m76 (c .before) (c .known-told .given)), Row.get 13 (T31 .locals) (m76 (c .before) (c .known-told .given))), Path'.refl {a = m76 (c
-            .before) (c .known-told .given)}, loop-again record { before = c .before; known-told = c .known-told }, Path'.refl {a = μ·0 (Row.get 1 (T31 .locals) (m23 (c .before .before .before .before
-            .before .before .before .before .before .before .before .before .before .before .before .before .before .before .before .before .before .before .before .before .before) (c .before .before
-            .before .before .before .before .before .before .before .before .before .before .before .before .before .before .before .before .before .before .before .before .before .before .rs .given))
-            .now) (Row.get 2 (T31 .locals) (m23 (c .before .before .before .before .before .before .before .before .before .before .before .before .before .before .before .before .before .before .before
-            .before .before .before .before .before .before) (c .before .before .before .before .before .before .before .before .before .before .before .before .before .before .before .before .before
-            .before .before .before .before .before .before .before .rs .given)) .now) (Row.get 3 (T31 .locals) (m23 (c .before .before .before .before .before .before .before .before .before .before
-            .before .before .before .before .before .before .before .before .before .before .before .before .before .before .before) (c .before .before .before .before .before .before .before .before
-            .before .before .before .before .before .before .before .before .before .before .before .before .before .before .before .before .rs .given))) (Row.get 4 (T31 .locals) (m23 (c .before .before
-            .before .before .before .before .before .before .before .before .before .before .before .before .before .before .before .before .before .before .before .before .before .before .before) (c
-            .before .before .before .before .before .before .before .before .before .before .before .before .before .before .before .before .before .before .before .before .before .before .before .before
-            .rs .given)) .now) (Row.get 5 (T31 .locals) (m23 (c .before .before .before .before .before .before .before .before .before .before .before .before .before .before .before .before .before
-            .before .before .before .before .before .before .before .before) (c .before .before .before .before .before .before .before .before .before .before .before .before .before .before .before
-            .before .before .before .before .before .before .before .before .before .rs .given)) .now) (Row.get 6 (T31 .locals) (m23 (c .before .before .before .before .before .before .before .before
-            .before .before .before .before .before .before .before .before .before .before .before .before .before .before .before .before .before) (c .before .before .before .before .before .before
-            .before .before .before .before .before .before .before .before .before .before .before .before .before .before .before .before .before .before .rs .given))) (Row.get 7 (T31 .locals) (m23 (c
-            .before .before .before .before .before .before .before .before .before .before .before .before .before .before .before .before .before .before .before .before .before .before .before .before
-            .before) (c .before .before .before .before .before .before .before .before .before .before .before .before .before .before .before .before .before .before .before .before .before .before
-            .before .before .rs .given)) .now) (Row.get 8 (T31 .locals) (m23 (c .before .before .before .before .before .before .before .before .before .before .before .before .before .before .before
-            .before .before .before .before .before .before .before .before .before .before) (c .before .before .before .before .before .before .before .before .before .before .before .before .before
-            .before .before .before .before .before .before .before .before .before .before .before .rs .given))) (Row.get 9 (T31 .locals) (m23 (c .before .before .before .before .before .before .before
-            .before .before .before .before .before .before .before .before .before .before .before .before .before .before .before .before .before .before) (c .before .before .before .before .before
-            .before .before .before .before .before .before .before .before .before .before .before .before .before .before .before .before .before .before .before .rs .given))) (Row.get 10 (T31 .locals)
-            (m23 (c .before .before .before .before .before .before .before .before .before .before .before .before .before .before .before .before .before .before .before .before .before .before .before
-            .before .before) (c .before .before .before .before .before .before .before .before .before .before .before .before .before .before .before .before .before .before .before .before .before
-            .before .before .before .rs .given))) (Row.get 11 (T31 .locals) (m23 (c .before .before .before .before .before .before .before .before .before .before .before .before .before .before .before
-            .before .before .before .before .before .before .before .before .before .before) (c .before .before .before .before .before .before .before .before .before .before .before .before .before
-            .before .before .before .before .before .before .before .before .before .before .before .rs .given))) (Row.get 12 (T31 .locals) (m23 (c .before .before .before .before .before .before .before
-            .before .before .before .before .before .before .before .before .before .before .before .before .before .before .before .before .before .before) (c .before .before .before .before .before
-            .before .before .before .before .before .before .before .before .before .before .before .before .before .before .before .before .before .before .before .rs .given))) (Row.get 13 (T31 .locals)
-            (m23 (c .before .before .before .before .before .before .before .before .before .before .before .before .before .before .before .before .before .before .before .before .before .before .before
-            .before .before) (c .before .before .before .before .before .before .before .before .before .before .before .before .before .before .before .before .before .before .before .before .before
-            .before .before .before .rs .given))) (Row.get 2 (T31 .locals) (m76 (c .before) (c .known-told .given)) .now) (Row.get 4 (T31 .locals) (m76 (c .before) (c .known-told .given)) .now) (Row.get 5
-            (T31 .locals) (m76 (c .before) (c .known-told .given)) .now) (Row.get 12 (T31 .locals) (m76 (c .before) (c .known-told .given))) (Row.get 13 (T31 .locals) (m76 (c .before) (c .known-told
-            .given)))})))
+        lay15 = λ c. (
+          add-n record { before = c .before; known-told = c .known-told },
+          (
+            μ·0 (Row.get 1 (T31 .locals) (m23 (c .before .before .before .before .before .before .before .before .before .before .before .before .before .before .before .before .before .before .before
+                .before .before .before .before .before .before) (c .before .before .before .before .before .before .before .before .before .before .before .before .before .before .before .before .before
+                .before .before .before .before .before .before .before .rs .given)) .now) (Row.get 2 (T31 .locals) (m23 (c .before .before .before .before .before .before .before .before .before .before
+                .before .before .before .before .before .before .before .before .before .before .before .before .before .before .before) (c .before .before .before .before .before .before .before .before
+                .before .before .before .before .before .before .before .before .before .before .before .before .before .before .before .before .rs .given)) .now) (Row.get 3 (T31 .locals) (m23 (c .before
+                .before .before .before .before .before .before .before .before .before .before .before .before .before .before .before .before .before .before .before .before .before .before .before .before)
+                (c .before .before .before .before .before .before .before .before .before .before .before .before .before .before .before .before .before .before .before .before .before .before .before
+                .before .rs .given))) (Row.get 4 (T31 .locals) (m23 (c .before .before .before .before .before .before .before .before .before .before .before .before .before .before .before .before .before
+                .before .before .before .before .before .before .before .before) (c .before .before .before .before .before .before .before .before .before .before .before .before .before .before .before
+                .before .before .before .before .before .before .before .before .before .rs .given)) .now) (Row.get 5 (T31 .locals) (m23 (c .before .before .before .before .before .before .before .before
+                .before .before .before .before .before .before .before .before .before .before .before .before .before .before .before .before .before) (c .before .before .before .before .before .before
+                .before .before .before .before .before .before .before .before .before .before .before .before .before .before .before .before .before .before .rs .given)) .now) (Row.get 6 (T31 .locals) (m23
+                (c .before .before .before .before .before .before .before .before .before .before .before .before .before .before .before .before .before .before .before .before .before .before .before
+                .before .before) (c .before .before .before .before .before .before .before .before .before .before .before .before .before .before .before .before .before .before .before .before .before
+                .before .before .before .rs .given))) (Row.get 7 (T31 .locals) (m23 (c .before .before .before .before .before .before .before .before .before .before .before .before .before .before .before
+                .before .before .before .before .before .before .before .before .before .before) (c .before .before .before .before .before .before .before .before .before .before .before .before .before
+                .before .before .before .before .before .before .before .before .before .before .before .rs .given)) .now) (Row.get 8 (T31 .locals) (m23 (c .before .before .before .before .before .before
+                .before .before .before .before .before .before .before .before .before .before .before .before .before .before .before .before .before .before .before) (c .before .before .before .before
+                .before .before .before .before .before .before .before .before .before .before .before .before .before .before .before .before .before .before .before .before .rs .given))) (Row.get 9 (T31
+                .locals) (m23 (c .before .before .before .before .before .before .before .before .before .before .before .before .before .before .before .before .before .before .before .before .before .before
+                .before .before .before) (c .before .before .before .before .before .before .before .before .before .before .before .before .before .before .before .before .before .before .before .before
+                .before .before .before .before .rs .given))) (Row.get 10 (T31 .locals) (m23 (c .before .before .before .before .before .before .before .before .before .before .before .before .before .before
+                .before .before .before .before .before .before .before .before .before .before .before) (c .before .before .before .before .before .before .before .before .before .before .before .before
+                .before .before .before .before .before .before .before .before .before .before .before .before .rs .given))) (Row.get 11 (T31 .locals) (m23 (c .before .before .before .before .before .before
+                .before .before .before .before .before .before .before .before .before .before .before .before .before .before .before .before .before .before .before) (c .before .before .before .before
+                .before .before .before .before .before .before .before .before .before .before .before .before .before .before .before .before .before .before .before .before .rs .given))) (Row.get 12 (T31
+                .locals) (m23 (c .before .before .before .before .before .before .before .before .before .before .before .before .before .before .before .before .before .before .before .before .before .before
+                .before .before .before) (c .before .before .before .before .before .before .before .before .before .before .before .before .before .before .before .before .before .before .before .before
+                .before .before .before .before .rs .given))) (Row.get 13 (T31 .locals) (m23 (c .before .before .before .before .before .before .before .before .before .before .before .before .before .before
+                .before .before .before .before .before .before .before .before .before .before .before) (c .before .before .before .before .before .before .before .before .before .before .before .before
+                .before .before .before .before .before .before .before .before .before .before .before .before .rs .given))) (Row.get 2 (T31 .locals) (m76 (c .before) (c .known-told .given)) .now) (Row.get 4
+                (T31 .locals) (m76 (c .before) (c .known-told .given)) .now) (Row.get 5 (T31 .locals) (m76 (c .before) (c .known-told .given)) .now) (Row.get 12 (T31 .locals) (m76 (c .before) (c .known-told
+                .given))) (Row.get 13 (T31 .locals) (m76 (c .before) (c .known-told .given))),
+            loop-less record { before = c .before; known-told = c .known-told },
+            (
+              (
+                Row.get 2 (T31 .locals) (m76 (c .before) (c .known-told .given)) .now,
+                Row.get 4 (T31 .locals) (m76 (c .before) (c .known-told .given)) .now,
+                Row.get 5 (T31 .locals) (m76 (c .before) (c
+                    .known-told .given)) .now,
+                Row.get 12 (T31 .locals) (m76 (c .before) (c .known-told .given)),
+                Row.get 13 (T31 .locals) (m76 (c .before) (c .known-told .given)),
+              ),
+              Path'.refl {a = m76 (c
+                  .before) (c .known-told .given)},
+              loop-again record { before = c .before; known-told = c .known-told },
+              Path'.refl {a = μ·0 (Row.get 1 (T31 .locals) (m23 (c .before .before .before .before
+                  .before .before .before .before .before .before .before .before .before .before .before .before .before .before .before .before .before .before .before .before .before) (c .before .before
+                  .before .before .before .before .before .before .before .before .before .before .before .before .before .before .before .before .before .before .before .before .before .before .rs .given))
+                  .now) (Row.get 2 (T31 .locals) (m23 (c .before .before .before .before .before .before .before .before .before .before .before .before .before .before .before .before .before .before .before
+                  .before .before .before .before .before .before) (c .before .before .before .before .before .before .before .before .before .before .before .before .before .before .before .before .before
+                  .before .before .before .before .before .before .before .rs .given)) .now) (Row.get 3 (T31 .locals) (m23 (c .before .before .before .before .before .before .before .before .before .before
+                  .before .before .before .before .before .before .before .before .before .before .before .before .before .before .before) (c .before .before .before .before .before .before .before .before
+                  .before .before .before .before .before .before .before .before .before .before .before .before .before .before .before .before .rs .given))) (Row.get 4 (T31 .locals) (m23 (c .before .before
+                  .before .before .before .before .before .before .before .before .before .before .before .before .before .before .before .before .before .before .before .before .before .before .before) (c
+                  .before .before .before .before .before .before .before .before .before .before .before .before .before .before .before .before .before .before .before .before .before .before .before .before
+                  .rs .given)) .now) (Row.get 5 (T31 .locals) (m23 (c .before .before .before .before .before .before .before .before .before .before .before .before .before .before .before .before .before
+                  .before .before .before .before .before .before .before .before) (c .before .before .before .before .before .before .before .before .before .before .before .before .before .before .before
+                  .before .before .before .before .before .before .before .before .before .rs .given)) .now) (Row.get 6 (T31 .locals) (m23 (c .before .before .before .before .before .before .before .before
+                  .before .before .before .before .before .before .before .before .before .before .before .before .before .before .before .before .before) (c .before .before .before .before .before .before
+                  .before .before .before .before .before .before .before .before .before .before .before .before .before .before .before .before .before .before .rs .given))) (Row.get 7 (T31 .locals) (m23 (c
+                  .before .before .before .before .before .before .before .before .before .before .before .before .before .before .before .before .before .before .before .before .before .before .before .before
+                  .before) (c .before .before .before .before .before .before .before .before .before .before .before .before .before .before .before .before .before .before .before .before .before .before
+                  .before .before .rs .given)) .now) (Row.get 8 (T31 .locals) (m23 (c .before .before .before .before .before .before .before .before .before .before .before .before .before .before .before
+                  .before .before .before .before .before .before .before .before .before .before) (c .before .before .before .before .before .before .before .before .before .before .before .before .before
+                  .before .before .before .before .before .before .before .before .before .before .before .rs .given))) (Row.get 9 (T31 .locals) (m23 (c .before .before .before .before .before .before .before
+                  .before .before .before .before .before .before .before .before .before .before .before .before .before .before .before .before .before .before) (c .before .before .before .before .before
+                  .before .before .before .before .before .before .before .before .before .before .before .before .before .before .before .before .before .before .before .rs .given))) (Row.get 10 (T31 .locals)
+                  (m23 (c .before .before .before .before .before .before .before .before .before .before .before .before .before .before .before .before .before .before .before .before .before .before .before
+                  .before .before) (c .before .before .before .before .before .before .before .before .before .before .before .before .before .before .before .before .before .before .before .before .before
+                  .before .before .before .rs .given))) (Row.get 11 (T31 .locals) (m23 (c .before .before .before .before .before .before .before .before .before .before .before .before .before .before .before
+                  .before .before .before .before .before .before .before .before .before .before) (c .before .before .before .before .before .before .before .before .before .before .before .before .before
+                  .before .before .before .before .before .before .before .before .before .before .before .rs .given))) (Row.get 12 (T31 .locals) (m23 (c .before .before .before .before .before .before .before
+                  .before .before .before .before .before .before .before .before .before .before .before .before .before .before .before .before .before .before) (c .before .before .before .before .before
+                  .before .before .before .before .before .before .before .before .before .before .before .before .before .before .before .before .before .before .before .rs .given))) (Row.get 13 (T31 .locals)
+                  (m23 (c .before .before .before .before .before .before .before .before .before .before .before .before .before .before .before .before .before .before .before .before .before .before .before
+                  .before .before) (c .before .before .before .before .before .before .before .before .before .before .before .before .before .before .before .before .before .before .before .before .before
+                  .before .before .before .rs .given))) (Row.get 2 (T31 .locals) (m76 (c .before) (c .known-told .given)) .now) (Row.get 4 (T31 .locals) (m76 (c .before) (c .known-told .given)) .now) (Row.get 5
+                  (T31 .locals) (m76 (c .before) (c .known-told .given)) .now) (Row.get 12 (T31 .locals) (m76 (c .before) (c .known-told .given))) (Row.get 13 (T31 .locals) (m76 (c .before) (c .known-told
+                  .given)))},
+            ),
+          ),
+        )
 
         lay14 : (c : After-write-line) → at38 (W3 (c .before .before .before .before .before .before .before .before .before .before .before .before .before .before .before .before) (c .before .before
             .before .before .before .before .before .before .before .before .before .before .before .before .before .loop .out) (c .before .before .before .before .before .before .before .before .before
             .before .before .before .before .before .before .loop .lines) (c .before .before .before .before .before .before .before .before .before .before .before .before .before .before .before .loop
             .rs) (c .before .before .before .before .before .before .before .before .before .before .before .before .before .before .before .loop .at) (c .before .before .before .before .before .before
             .before .before .before .before .before .before .before .before .before .loop .n)) (m50 (c .before) (After-write-line·gave c))
-        lay14 = λ c.
-            (Path'.refl, λ g. λ g'.
-            (Path'.refl, λ g''. λ g'3.
-            (Path'.refl, λ g'4.
-            (λ k.
-            (enum-known-got record
-            { before = record
-            { before = record
-            { before = record
-            { before = record { before = record { before = record { before = c .before; write-line = c .write-line }; out = record { given = g }; }; slice-known5 = record { given = g' }; }; lines3 =
-            record { given = g'' }; }; slice-known6 = record { given = g'3 }; }; rs3 = record { given = g'4 }; }; match = record { keys1 = k }; }, λ g'5. λ g'6. lay15 record
-            { before = record
-            { before = record
-            { before = record
-            { before = record
-            { before = record
-            { before = record { before = record { before = record { before = c .before; write-line = c .write-line; }; out = record { given = g }; }; slice-known5 = record { given = g' }; }; lines3 =
-            record { given = g'' }; }; slice-known6 = record { given = g'3 }; }; rs3 = record { given = g'4 }; }; match = record { keys1 = k }; }; got = record { given = g'5 }; }; known-told = record {
-            given = g'6 }; }),
-            (λ k.
-            (enum-told record
-            { before = record
-            { before = record
-            { before = record
-            { before = record { before = record { before = record { before = c .before; write-line = c .write-line; }; out = record { given = g }; }; slice-known5 = record { given = g' }; }; lines3 =
-            record { given = g'' }; }; slice-known6 = record { given = g'3 }; }; rs3 = record { given = g'4 }; }; match = record { keys2 = k }; }, λ g'7.
-            ((Path'.refl,
-            (MutSlice.fix-len (Row.get 2 (T96 .locals) (m72 record
-            { before = record
-            { before = record
-            { before = record
-            { before = record { before = record { before = record { before = c .before; write-line = c .write-line; }; out = record { given = g }; }; slice-known5 = record { given = g' }; }; lines3 =
-            record { given = g'' }; }; slice-known6 = record { given = g'3 }; }; rs3 = record { given = g'4 }; }; match = record { keys2 = k }; } g'7) .ptr) (Row.get 2 (T96 .locals) (m72 record
-            { before = record
-            { before = record
-            { before = record
-            { before = record { before = record { before = record { before = c .before; write-line = c .write-line; }; out = record { given = g }; }; slice-known5 = record { given = g' }; }; lines3 =
-            record { given = g'' }; }; slice-known6 = record { given = g'3 }; }; rs3 = record { given = g'4 }; }; match = record { keys2 = k }; } g'7) .name) (Row.get 2 (T96 .locals) (m72 record
-            { before = record
-            { before = record
-            { before = record
-            { before = record { before = record { before = record { before = c .before; write-line = c .write-line; }; out = record { given = g }; }; slice-known5 = record { given = g' }; }; lines3 =
-            record { given = g'' }; }; slice-known6 = record { given = g'3 }; }; rs3 = record { given = g'4 }; }; match = record { keys2 = k }; } g'7) .now) (dens (c .before .before .before .before
-            .before .before .before .before .before .before .before .before .before .before .before .before .before .before .before .before .before .before .before .before .before .before .before .before
-            .before .before .κs) (c .before .before .before .before .before .before .before .before .before .before .before .before .before .before .before .before .before .before .before .before .before
-            .before .before .before .before .before .before .before .before .before .args) .1 .0 .now) (same-length record
-            { before = record
-            { before = record
-            { before = record
-            { before = record
-            { before = record { before = record { before = record { before = c .before; write-line = c .write-line; }; out = record { given = g }; }; slice-known5 = record { given = g' }; }; lines3 =
-            record { given = g'' }; }; slice-known6 = record { given = g'3 }; }; rs3 = record { given = g'4 }; }; match = record { keys2 = k }; }; enum-told = record { given = g'7 }; }),
-            (tt,
-            (MutSlice.fix-len (Row.get 4 (T96 .locals) (m72 record
-            { before = record
-            { before = record
-            { before = record
-            { before = record { before = record { before = record { before = c .before; write-line = c .write-line; }; out = record { given = g }; }; slice-known5 = record { given = g' }; }; lines3 =
-            record { given = g'' }; }; slice-known6 = record { given = g'3 }; }; rs3 = record { given = g'4 }; }; match = record { keys2 = k }; } g'7) .ptr) (Row.get 4 (T96 .locals) (m72 record
-            { before = record
-            { before = record
-            { before = record
-            { before = record { before = record { before = record { before = c .before; write-line = c .write-line; }; out = record { given = g }; }; slice-known5 = record { given = g' }; }; lines3 =
-            record { given = g'' }; }; slice-known6 = record { given = g'3 }; }; rs3 = record { given = g'4 }; }; match = record { keys2 = k }; } g'7) .name) (Row.get 4 (T96 .locals) (m72 record
-            { before = record
-            { before = record
-            { before = record
-            { before = record { before = record { before = record { before = c .before; write-line = c .write-line; }; out = record { given = g }; }; slice-known5 = record { given = g' }; }; lines3 =
-            record { given = g'' }; }; slice-known6 = record { given = g'3 }; }; rs3 = record { given = g'4 }; }; match = record { keys2 = k }; } g'7) .now) (dens (c .before .before .before .before
-            .before .before .before .before .before .before .before .before .before .before .before .before .before .before .before .before .before .before .before .before .before .before .before .before
-            .before .before .κs) (c .before .before .before .before .before .before .before .before .before .before .before .before .before .before .before .before .before .before .before .before .before
-            .before .before .before .before .before .before .before .before .before .args) .1 .1 .1 .0 .now) (same-length-2 record
-            { before = record
-            { before = record
-            { before = record
-            { before = record
-            { before = record { before = record { before = record { before = c .before; write-line = c .write-line; }; out = record { given = g }; }; slice-known5 = record { given = g' }; }; lines3 =
-            record { given = g'' }; }; slice-known6 = record { given = g'3 }; }; rs3 = record { given = g'4 }; }; match = record { keys2 = k }; }; enum-told = record { given = g'7 }; }),
-            (MutSlice.fix-len (Row.get 5 (T96 .locals) (m72 record
-            { before = record
-            { before = record
-            { before = record
-            { before = record { before = record { before = record { before = c .before; write-line = c .write-line; }; out = record { given = g }; }; slice-known5 = record { given = g' }; }; lines3 =
-            record { given = g'' }; }; slice-known6 = record { given = g'3 }; }; rs3 = record { given = g'4 }; }; match = record { keys2 = k }; } g'7) .ptr) (Row.get 5 (T96 .locals) (m72 record
-            { before = record
-            { before = record
-            { before = record
-            { before = record { before = record { before = record { before = c .before; write-line = c .write-line; }; out = record { given = g }; }; slice-known5 = record { given = g' }; }; lines3 =
-            record { given = g'' }; }; slice-known6 = record { given = g'3 }; }; rs3 = record { given = g'4 }; }; match = record { keys2 = k }; } g'7) .name) (Row.get 5 (T96 .locals) (m72 record
-            { before = record
-            { before = record
-            { before = record
-            { before = record { before = record { before = record { before = c .before; write-line = c .write-line; }; out = record { given = g }; }; slice-known5 = record { given = g' }; }; lines3 =
-            record { given = g'' }; }; slice-known6 = record { given = g'3 }; }; rs3 = record { given = g'4 }; }; match = record { keys2 = k }; } g'7) .now) (dens (c .before .before .before .before
-            .before .before .before .before .before .before .before .before .before .before .before .before .before .before .before .before .before .before .before .before .before .before .before .before
-            .before .before .κs) (c .before .before .before .before .before .before .before .before .before .before .before .before .before .before .before .before .before .before .before .before .before
-            .before .before .before .before .before .before .before .before .before .args) .1 .1 .1 .1 .0 .now) (same-length-3 record
-            { before = record
-            { before = record
-            { before = record
-            { before = record
-            { before = record { before = record { before = record { before = c .before; write-line = c .write-line; }; out = record { given = g }; }; slice-known5 = record { given = g' }; }; lines3 =
-            record { given = g'' }; }; slice-known6 = record { given = g'3 }; }; rs3 = record { given = g'4 }; }; match = record { keys2 = k }; }; enum-told = record { given = g'7 }; }),
-            (tt, (Path'.refl, (tt, tt)))))))), returns record
-            { before = record
-            { before = record
-            { before = record
-            { before = record
-            { before = record { before = record { before = record { before = c .before; write-line = c .write-line; }; out = record { given = g }; }; slice-known5 = record { given = g' }; }; lines3 =
-            record { given = g'' }; }; slice-known6 = record { given = g'3 }; }; rs3 = record { given = g'4 }; }; match = record { keys2 = k }; }; enum-told = record { given = g'7 }; })), Match.each-below
-            2 (λ j. (Unit {0} × (Run.OneOf (List._∷_ 0 List.[]) j → ⊥)) × (Run.OneOf (List._∷_ 1 List.[]) j → ⊥) → ⊥) (λ n. n .1 Path'.refl, (λ n. n .0 .1 Path'.refl, tt)) (Declared.tagOf Put.the-type
-            (Row.get 15 (T80 .locals) (m57 record
-            { before = record
-            { before = record { before = record { before = record { before = c .before; write-line = c .write-line }; out = record { given = g }; }; slice-known5 = record { given = g' }; }; lines3 =
-            record { given = g'' }; }; slice-known6 = record { given = g'3 }; } g'4))) (Match.tag-small Put.the-type (Row.get 15 (T80 .locals) (m57 record
-            { before = record
-            { before = record { before = record { before = record { before = c .before; write-line = c .write-line }; out = record { given = g }; }; slice-known5 = record { given = g' }; }; lines3 =
-            record { given = g'' }; }; slice-known6 = record { given = g'3 }; } g'4))))))))
+        lay14 = λ c. (
+          Path'.refl,
+          λ g. λ g'. (
+            Path'.refl,
+            λ g''. λ g'3. (
+              Path'.refl,
+              λ g'4. (
+                λ k. (
+                  enum-known-got record {
+                    before = record {
+                      before = record {
+                        before = record {
+                          before = record { before = record { before = record { before = c .before; write-line = c .write-line }; out = record { given = g } }; slice-known5 = record { given = g' } };
+                          lines3 =
+                              record { given = g'' };
+                        };
+                        slice-known6 = record { given = g'3 };
+                      };
+                      rs3 = record { given = g'4 };
+                    };
+                    match = record { keys1 = k };
+                  },
+                  λ g'5. λ g'6. lay15 record {
+                    before = record {
+                      before = record {
+                        before = record {
+                          before = record {
+                            before = record {
+                              before = record { before = record { before = record { before = c .before; write-line = c .write-line }; out = record { given = g } }; slice-known5 = record { given = g' } };
+                              lines3 =
+                                  record { given = g'' };
+                            };
+                            slice-known6 = record { given = g'3 };
+                          };
+                          rs3 = record { given = g'4 };
+                        };
+                        match = record { keys1 = k };
+                      };
+                      got = record { given = g'5 };
+                    };
+                    known-told = record {
+                      given = g'6;
+                    };
+                  },
+                ),
+                (
+                  λ k. (
+                    enum-told record {
+                      before = record {
+                        before = record {
+                          before = record {
+                            before = record { before = record { before = record { before = c .before; write-line = c .write-line }; out = record { given = g } }; slice-known5 = record { given = g' } };
+                            lines3 =
+                                record { given = g'' };
+                          };
+                          slice-known6 = record { given = g'3 };
+                        };
+                        rs3 = record { given = g'4 };
+                      };
+                      match = record { keys2 = k };
+                    },
+                    λ g'7. (
+                      (
+                        Path'.refl,
+                        (
+                          MutSlice.fix-len (Row.get 2 (T96 .locals) (m72 record {
+                            before = record {
+                              before = record {
+                                before = record {
+                                  before = record { before = record { before = record { before = c .before; write-line = c .write-line }; out = record { given = g } }; slice-known5 = record { given = g' } };
+                                  lines3 =
+                                      record { given = g'' };
+                                };
+                                slice-known6 = record { given = g'3 };
+                              };
+                              rs3 = record { given = g'4 };
+                            };
+                            match = record { keys2 = k };
+                          } g'7) .ptr) (Row.get 2 (T96 .locals) (m72 record {
+                            before = record {
+                              before = record {
+                                before = record {
+                                  before = record { before = record { before = record { before = c .before; write-line = c .write-line }; out = record { given = g } }; slice-known5 = record { given = g' } };
+                                  lines3 =
+                                      record { given = g'' };
+                                };
+                                slice-known6 = record { given = g'3 };
+                              };
+                              rs3 = record { given = g'4 };
+                            };
+                            match = record { keys2 = k };
+                          } g'7) .name) (Row.get 2 (T96 .locals) (m72 record {
+                            before = record {
+                              before = record {
+                                before = record {
+                                  before = record { before = record { before = record { before = c .before; write-line = c .write-line }; out = record { given = g } }; slice-known5 = record { given = g' } };
+                                  lines3 =
+                                      record { given = g'' };
+                                };
+                                slice-known6 = record { given = g'3 };
+                              };
+                              rs3 = record { given = g'4 };
+                            };
+                            match = record { keys2 = k };
+                          } g'7) .now) (dens (c .before .before .before .before
+                              .before .before .before .before .before .before .before .before .before .before .before .before .before .before .before .before .before .before .before .before .before .before .before .before
+                              .before .before .κs) (c .before .before .before .before .before .before .before .before .before .before .before .before .before .before .before .before .before .before .before .before .before
+                              .before .before .before .before .before .before .before .before .before .args) .1 .0 .now) (same-length record {
+                                before = record {
+                                  before = record {
+                                    before = record {
+                                      before = record {
+                                        before = record { before = record { before = record { before = c .before; write-line = c .write-line }; out = record { given = g } }; slice-known5 = record { given = g' } };
+                                        lines3 =
+                                            record { given = g'' };
+                                      };
+                                      slice-known6 = record { given = g'3 };
+                                    };
+                                    rs3 = record { given = g'4 };
+                                  };
+                                  match = record { keys2 = k };
+                                };
+                                enum-told = record { given = g'7 };
+                              }),
+                          (
+                            tt,
+                            (
+                              MutSlice.fix-len (Row.get 4 (T96 .locals) (m72 record {
+                                before = record {
+                                  before = record {
+                                    before = record {
+                                      before = record { before = record { before = record { before = c .before; write-line = c .write-line }; out = record { given = g } }; slice-known5 = record { given = g' } };
+                                      lines3 =
+                                          record { given = g'' };
+                                    };
+                                    slice-known6 = record { given = g'3 };
+                                  };
+                                  rs3 = record { given = g'4 };
+                                };
+                                match = record { keys2 = k };
+                              } g'7) .ptr) (Row.get 4 (T96 .locals) (m72 record {
+                                before = record {
+                                  before = record {
+                                    before = record {
+                                      before = record { before = record { before = record { before = c .before; write-line = c .write-line }; out = record { given = g } }; slice-known5 = record { given = g' } };
+                                      lines3 =
+                                          record { given = g'' };
+                                    };
+                                    slice-known6 = record { given = g'3 };
+                                  };
+                                  rs3 = record { given = g'4 };
+                                };
+                                match = record { keys2 = k };
+                              } g'7) .name) (Row.get 4 (T96 .locals) (m72 record {
+                                before = record {
+                                  before = record {
+                                    before = record {
+                                      before = record { before = record { before = record { before = c .before; write-line = c .write-line }; out = record { given = g } }; slice-known5 = record { given = g' } };
+                                      lines3 =
+                                          record { given = g'' };
+                                    };
+                                    slice-known6 = record { given = g'3 };
+                                  };
+                                  rs3 = record { given = g'4 };
+                                };
+                                match = record { keys2 = k };
+                              } g'7) .now) (dens (c .before .before .before .before
+                                  .before .before .before .before .before .before .before .before .before .before .before .before .before .before .before .before .before .before .before .before .before .before .before .before
+                                  .before .before .κs) (c .before .before .before .before .before .before .before .before .before .before .before .before .before .before .before .before .before .before .before .before .before
+                                  .before .before .before .before .before .before .before .before .before .args) .1 .1 .1 .0 .now) (same-length-2 record {
+                                    before = record {
+                                      before = record {
+                                        before = record {
+                                          before = record {
+                                            before = record { before = record { before = record { before = c .before; write-line = c .write-line }; out = record { given = g } }; slice-known5 = record { given = g' } };
+                                            lines3 =
+                                                record { given = g'' };
+                                          };
+                                          slice-known6 = record { given = g'3 };
+                                        };
+                                        rs3 = record { given = g'4 };
+                                      };
+                                      match = record { keys2 = k };
+                                    };
+                                    enum-told = record { given = g'7 };
+                                  }),
+                              (
+                                MutSlice.fix-len (Row.get 5 (T96 .locals) (m72 record {
+                                  before = record {
+                                    before = record {
+                                      before = record {
+                                        before = record { before = record { before = record { before = c .before; write-line = c .write-line }; out = record { given = g } }; slice-known5 = record { given = g' } };
+                                        lines3 =
+                                            record { given = g'' };
+                                      };
+                                      slice-known6 = record { given = g'3 };
+                                    };
+                                    rs3 = record { given = g'4 };
+                                  };
+                                  match = record { keys2 = k };
+                                } g'7) .ptr) (Row.get 5 (T96 .locals) (m72 record {
+                                  before = record {
+                                    before = record {
+                                      before = record {
+                                        before = record { before = record { before = record { before = c .before; write-line = c .write-line }; out = record { given = g } }; slice-known5 = record { given = g' } };
+                                        lines3 =
+                                            record { given = g'' };
+                                      };
+                                      slice-known6 = record { given = g'3 };
+                                    };
+                                    rs3 = record { given = g'4 };
+                                  };
+                                  match = record { keys2 = k };
+                                } g'7) .name) (Row.get 5 (T96 .locals) (m72 record {
+                                  before = record {
+                                    before = record {
+                                      before = record {
+                                        before = record { before = record { before = record { before = c .before; write-line = c .write-line }; out = record { given = g } }; slice-known5 = record { given = g' } };
+                                        lines3 =
+                                            record { given = g'' };
+                                      };
+                                      slice-known6 = record { given = g'3 };
+                                    };
+                                    rs3 = record { given = g'4 };
+                                  };
+                                  match = record { keys2 = k };
+                                } g'7) .now) (dens (c .before .before .before .before
+                                    .before .before .before .before .before .before .before .before .before .before .before .before .before .before .before .before .before .before .before .before .before .before .before .before
+                                    .before .before .κs) (c .before .before .before .before .before .before .before .before .before .before .before .before .before .before .before .before .before .before .before .before .before
+                                    .before .before .before .before .before .before .before .before .before .args) .1 .1 .1 .1 .0 .now) (same-length-3 record {
+                                      before = record {
+                                        before = record {
+                                          before = record {
+                                            before = record {
+                                              before = record { before = record { before = record { before = c .before; write-line = c .write-line }; out = record { given = g } }; slice-known5 = record { given = g' } };
+                                              lines3 =
+                                                  record { given = g'' };
+                                            };
+                                            slice-known6 = record { given = g'3 };
+                                          };
+                                          rs3 = record { given = g'4 };
+                                        };
+                                        match = record { keys2 = k };
+                                      };
+                                      enum-told = record { given = g'7 };
+                                    }),
+                                (tt, (Path'.refl, (tt, tt))),
+                              ),
+                            ),
+                          ),
+                        ),
+                      ),
+                      returns record {
+                        before = record {
+                          before = record {
+                            before = record {
+                              before = record {
+                                before = record { before = record { before = record { before = c .before; write-line = c .write-line }; out = record { given = g } }; slice-known5 = record { given = g' } };
+                                lines3 =
+                                    record { given = g'' };
+                              };
+                              slice-known6 = record { given = g'3 };
+                            };
+                            rs3 = record { given = g'4 };
+                          };
+                          match = record { keys2 = k };
+                        };
+                        enum-told = record { given = g'7 };
+                      },
+                    ),
+                  ),
+                  Match.each-below
+                      2 (λ j. (Unit {0} × (Run.OneOf (List._∷_ 0 List.[]) j → ⊥)) × (Run.OneOf (List._∷_ 1 List.[]) j → ⊥) → ⊥) (λ n. n .1 Path'.refl, (λ n. n .0 .1 Path'.refl, tt)) (Declared.tagOf Put.the-type
+                      (Row.get 15 (T80 .locals) (m57 record {
+                        before = record {
+                          before = record { before = record { before = record { before = c .before; write-line = c .write-line }; out = record { given = g } }; slice-known5 = record { given = g' } };
+                          lines3 =
+                              record { given = g'' };
+                        };
+                        slice-known6 = record { given = g'3 };
+                      } g'4))) (Match.tag-small Put.the-type (Row.get 15 (T80 .locals) (m57 record {
+                        before = record {
+                          before = record { before = record { before = record { before = c .before; write-line = c .write-line }; out = record { given = g } }; slice-known5 = record { given = g' } };
+                          lines3 =
+                              record { given = g'' };
+                        };
+                        slice-known6 = record { given = g'3 };
+                      } g'4))),
+                ),
+              ),
+            ),
+          ),
+        )
 
         lay13 : (c : After-quantisers-of) → at39 (W3 (c .before .before .before .before .before .before .before .before .before .before .before .before .before .before .before) (c .before .before
             .before .before .before .before .before .before .before .before .before .before .before .before .loop .out) (c .before .before .before .before .before .before .before .before .before .before
             .before .before .before .before .loop .lines) (c .before .before .before .before .before .before .before .before .before .before .before .before .before .before .loop .rs) (c .before .before
             .before .before .before .before .before .before .before .before .before .before .before .before .loop .at) (c .before .before .before .before .before .before .before .before .before .before
             .before .before .before .before .loop .n)) (m49 (c .before) (After-quantisers-of·gave c))
-        lay13 = λ c.
-            (write-line-requires record { before = c .before; quantisers-of = c .quantisers-of }, λ g. lay14 record
-            { before = record { before = c .before; quantisers-of = c .quantisers-of }; write-line = Called.called ps·9 r·9 (claims· .19) T66
-            (record { pos = 1; ty = Syntax.tyRef (Syntax.named 0) Syntax.imm (Syntax.tyInt Syntax.w16); ref = λ x. x; },
-            (Num.vAt 13 λ x. x,
-            (record { pos = 30; ty = Syntax.tyRef Syntax.erased Syntax.mut (Syntax.tyInt Syntax.w8); ref = λ x. x; },
-            (Bool.bAt 3 λ x. x,
-            (record { pos = 12; st = List.[]; d = 0; at = λ x. x },
-            (record { pos = 32; ty = Syntax.tyRef Syntax.erased Syntax.mut (Syntax.tyInt Syntax.w16); ref = λ x. x; },
-            (record { pos = 34; ty = Syntax.tyRef Syntax.erased Syntax.mut Element.behind; ref = λ x. x; },
-            (record { pos = 6; st = List.[]; d = 0; at = λ x. x }, (record { pos = 35; st = List.[]; d = 0; at = λ x. x }, (Bool.bAt 11 λ x. x, tt)))))))))) (m49 (c .before) (After-quantisers-of·gave c))
-            g; })
+        lay13 = λ c. (
+          write-line-requires record { before = c .before; quantisers-of = c .quantisers-of },
+          λ g. lay14 record {
+            before = record { before = c .before; quantisers-of = c .quantisers-of };
+            write-line = Called.called ps·9 r·9 (claims· .19) T66 (
+              record { pos = 1; ty = Syntax.tyRef (Syntax.named 0) Syntax.imm (Syntax.tyInt Syntax.w16); ref = λ x. x },
+              (
+                Num.vAt 13 λ x. x,
+                (
+                  record { pos = 30; ty = Syntax.tyRef Syntax.erased Syntax.mut (Syntax.tyInt Syntax.w8); ref = λ x. x },
+                  (
+                    Bool.bAt 3 λ x. x,
+                    (
+                      record { pos = 12; st = List.[]; d = 0; at = λ x. x },
+                      (
+                        record { pos = 32; ty = Syntax.tyRef Syntax.erased Syntax.mut (Syntax.tyInt Syntax.w16); ref = λ x. x },
+                        (
+                          record { pos = 34; ty = Syntax.tyRef Syntax.erased Syntax.mut Element.behind; ref = λ x. x },
+                          (record { pos = 6; st = List.[]; d = 0; at = λ x. x }, (record { pos = 35; st = List.[]; d = 0; at = λ x. x }, (Bool.bAt 11 λ x. x, tt))),
+                        ),
+                      ),
+                    ),
+                  ),
+                ),
+              ),
+            ) (m49 (c .before) (After-quantisers-of·gave c))
+                g;
+          },
+        )
 
         lay12 : (c : After-restart) → at54 (W3 (c .before .before .before .before .before .before .before .before .before .before) (c .before .before .before .before .before .before .before .before
             .before .loop .out) (c .before .before .before .before .before .before .before .before .before .loop .lines) (c .before .before .before .before .before .before .before .before .before .loop
             .rs) (c .before .before .before .before .before .before .before .before .before .loop .at) (c .before .before .before .before .before .before .before .before .before .loop .n)) (m39 (c
             .before) (After-restart·gave c))
-        lay12 = λ c.
-            (Path'.refl, λ g. λ g'.
-            (Path'.refl, λ g''.
-            (Path'.refl, λ g'3.
-            (Path'.refl,
-            (quantisers-of-requires record
-            { before = record
-            { before = record { before = record { before = record { before = c .before; restart = c .restart }; rs2 = record { given = g }; }; write-line-arg = record { given = g' }; }; write-line-arg2 =
-            record { given = g'' }; }; write-line-arg3 = record { given = g'3 }; }, λ g'4. lay13 record
-            { before = record
-            { before = record
-            { before = record { before = record { before = record { before = c .before; restart = c .restart }; rs2 = record { given = g }; }; write-line-arg = record { given = g' }; }; write-line-arg2 =
-            record { given = g'' }; }; write-line-arg3 = record { given = g'3 }; }; quantisers-of = Called.called ps·8 r·8 (claims· .17) T65 (Num.vAt 9 λ x. x, (Num.vAt 14 λ x. x, tt)) (m48 record
-            { before = record { before = record { before = record { before = c .before; restart = c .restart }; rs2 = record { given = g }; }; write-line-arg = record { given = g' }; }; write-line-arg2 =
-            record { given = g'' }; } g'3) g'4; })))))
+        lay12 = λ c. (
+          Path'.refl,
+          λ g. λ g'. (
+            Path'.refl,
+            λ g''. (
+              Path'.refl,
+              λ g'3. (
+                Path'.refl,
+                (
+                  quantisers-of-requires record {
+                    before = record {
+                      before = record { before = record { before = record { before = c .before; restart = c .restart }; rs2 = record { given = g } }; write-line-arg = record { given = g' } };
+                      write-line-arg2 =
+                          record { given = g'' };
+                    };
+                    write-line-arg3 = record { given = g'3 };
+                  },
+                  λ g'4. lay13 record {
+                    before = record {
+                      before = record {
+                        before = record { before = record { before = record { before = c .before; restart = c .restart }; rs2 = record { given = g } }; write-line-arg = record { given = g' } };
+                        write-line-arg2 =
+                            record { given = g'' };
+                      };
+                      write-line-arg3 = record { given = g'3 };
+                    };
+                    quantisers-of = Called.called ps·8 r·8 (claims· .17) T65 (Num.vAt 9 λ x. x, (Num.vAt 14 λ x. x, tt)) (m48 record {
+                      before = record { before = record { before = record { before = c .before; restart = c .restart }; rs2 = record { given = g } }; write-line-arg = record { given = g' } };
+                      write-line-arg2 =
+                          record { given = g'' };
+                    } g'3) g'4;
+                  },
+                ),
+              ),
+            ),
+          ),
+        )
 
         lay11 : (c : After-is-restarted) → at55 (W3 (c .before .before .before .before .before .before .before .before .before) (c .before .before .before .before .before .before .before .before .loop
             .out) (c .before .before .before .before .before .before .before .before .loop .lines) (c .before .before .before .before .before .before .before .before .loop .rs) (c .before .before .before
             .before .before .before .before .before .loop .at) (c .before .before .before .before .before .before .before .before .loop .n)) (m38 (c .before) (After-is-restarted·gave c))
-        lay11 = λ c.
-            (restart-requires record { before = c .before; is-restarted = c .is-restarted }, λ g. lay12 record
-            { before = record { before = c .before; is-restarted = c .is-restarted }; restart = Called.called ps·7 r·7 (claims· .15) T50
-            (record { pos = 28; ty = Syntax.tyRef Syntax.erased Syntax.mut Element.behind; ref = λ x. x; }, (Num.vAt 9 λ x. x, (Num.vAt 14 λ x. x, (Bool.bAt 23 λ x. x, tt)))) (m38 (c .before)
-            (After-is-restarted·gave c)) g; })
+        lay11 = λ c. (
+          restart-requires record { before = c .before; is-restarted = c .is-restarted },
+          λ g. lay12 record {
+            before = record { before = c .before; is-restarted = c .is-restarted };
+            restart = Called.called ps·7 r·7 (claims· .15) T50
+                (record { pos = 28; ty = Syntax.tyRef Syntax.erased Syntax.mut Element.behind; ref = λ x. x }, (Num.vAt 9 λ x. x, (Num.vAt 14 λ x. x, (Bool.bAt 23 λ x. x, tt)))) (m38 (c .before)
+                (After-is-restarted·gave c)) g;
+          },
+        )
 
         lay10 : (c : After-base-of2) → at59 (W3 (c .before .before .before .before .before .before .before) (c .before .before .before .before .before .before .loop .out) (c .before .before .before
             .before .before .before .loop .lines) (c .before .before .before .before .before .before .loop .rs) (c .before .before .before .before .before .before .loop .at) (c .before .before .before
             .before .before .before .loop .n)) (m35 (c .before) (After-base-of2·gave c))
-        lay10 = λ c. λ g.
-            (Path'.refl,
-            (is-restarted-requires record { before = record { before = c .before; base-of2 = c .base-of2 }; restart-arg = record { given = g }; }, λ g'. lay11 record
-            { before = record { before = record { before = c .before; base-of2 = c .base-of2 }; restart-arg = record { given = g }; }; is-restarted = Called.called ps·6 r·6 (claims· .13) T49
-            (record { pos = 7; ty = Syntax.tyRef (Syntax.named 4) Syntax.imm (Syntax.tyInt Syntax.w8); ref = λ x. x; }, (Num.vAt 13 λ x. x, tt)) (m37 record { before = c .before; base-of2 = c .base-of2 }
-            g) g'; }))
+        lay10 = λ c. λ g. (
+          Path'.refl,
+          (
+            is-restarted-requires record { before = record { before = c .before; base-of2 = c .base-of2 }; restart-arg = record { given = g } },
+            λ g'. lay11 record {
+              before = record { before = record { before = c .before; base-of2 = c .base-of2 }; restart-arg = record { given = g } };
+              is-restarted = Called.called ps·6 r·6 (claims· .13) T49
+                  (record { pos = 7; ty = Syntax.tyRef (Syntax.named 4) Syntax.imm (Syntax.tyInt Syntax.w8); ref = λ x. x }, (Num.vAt 13 λ x. x, tt)) (m37 record { before = c .before; base-of2 = c .base-of2 }
+                  g) g';
+            },
+          ),
+        )
 
         lay9 : (c : After-turn) → at65 (W3 (c .before .before .before .before) (c .before .before .before .loop .out) (c .before .before .before .loop .lines) (c .before .before .before .loop .rs) (c
             .before .before .before .loop .at) (c .before .before .before .loop .n)) (m31 (c .before) (After-turn·gave c))
-        lay9 = λ c.
-            (Path'.refl, λ g. λ g'.
-            (base-of-requires-2 record { before = record { before = record { before = c .before; turn = c .turn }; lines2 = record { given = g }; }; slice-known4 = record { given = g' }; }, λ g''. lay10
-            record
-            { before = record { before = record { before = record { before = c .before; turn = c .turn }; lines2 = record { given = g }; }; slice-known4 = record { given = g' }; }; base-of2 =
-            Called.called ps·3 r·3 (claims· .7) T44 (record { pos = 7; ty = Syntax.tyRef (Syntax.named 4) Syntax.imm (Syntax.tyInt Syntax.w8); ref = λ x. x; }, (Num.vAt 13 λ x. x, tt)) (m34 record
-            { before = record { before = c .before; turn = c .turn }; lines2 = record { given = g }; } g') g''; }))
+        lay9 = λ c. (
+          Path'.refl,
+          λ g. λ g'. (
+            base-of-requires-2 record { before = record { before = record { before = c .before; turn = c .turn }; lines2 = record { given = g } }; slice-known4 = record { given = g' } },
+            λ g''. lay10
+                record {
+                  before = record { before = record { before = record { before = c .before; turn = c .turn }; lines2 = record { given = g } }; slice-known4 = record { given = g' } };
+                  base-of2 =
+                      Called.called ps·3 r·3 (claims· .7) T44 (record { pos = 7; ty = Syntax.tyRef (Syntax.named 4) Syntax.imm (Syntax.tyInt Syntax.w8); ref = λ x. x }, (Num.vAt 13 λ x. x, tt)) (m34 record
+                      { before = record { before = c .before; turn = c .turn }; lines2 = record { given = g } } g') g'';
+                },
+          ),
+        )
 
         lay8 : (c : In-loop) → at69 (W3 (c .before .before) (c .before .loop .out) (c .before .loop .lines) (c .before .loop .rs) (c .before .loop .at) (c .before .loop .n)) (m26 (c .before))
-        lay8 = λ c. λ g.
-            (Path'.refl,
-            (turn-requires record { before = record { before = c .before; loop-test = c .loop-test }; turn-arg = record { given = g }; }, λ g'. lay9 record
-            { before = record { before = record { before = c .before; loop-test = c .loop-test }; turn-arg = record { given = g }; }; turn = Called.called ps·5 r·5 (claims· .11) T39
-            (record { pos = 26; ty = Syntax.tyRef Syntax.erased Syntax.mut (Syntax.tyInt Syntax.w16); ref = λ x. x; }, (Num.vAt 10 λ x. x, tt)) (m30 record { before = c .before; loop-test = c .loop-test }
-            g) g'; }))
+        lay8 = λ c. λ g. (
+          Path'.refl,
+          (
+            turn-requires record { before = record { before = c .before; loop-test = c .loop-test }; turn-arg = record { given = g } },
+            λ g'. lay9 record {
+              before = record { before = record { before = c .before; loop-test = c .loop-test }; turn-arg = record { given = g } };
+              turn = Called.called ps·5 r·5 (claims· .11) T39
+                  (record { pos = 26; ty = Syntax.tyRef Syntax.erased Syntax.mut (Syntax.tyInt Syntax.w16); ref = λ x. x }, (Num.vAt 10 λ x. x, tt)) (m30 record { before = c .before; loop-test = c .loop-test }
+                  g) g';
+            },
+          ),
+        )
 
         lay7 : (c : After-loop) → at4 (W4 (c .before .before) (c .before .loop .out) (c .before .loop .lines) (c .before .loop .rs) (c .before .loop .at) (c .before .loop .n)) (m25 (c .before .before)
             (c .before .loop .out) (c .before .loop .lines) (c .before .loop .rs) (c .before .loop .at) (c .before .loop .n))
@@ -4567,83 +5363,154 @@ module _ (claims· : Claims) where
 
         lay5 : (c : After-start-records) → at91 (W0 (c .before .before .before .before .before .before .before .before .before .before .before .before .before .κs) (c .before .before .before .before
             .before .before .before .before .before .before .before .before .before .args)) (m17 (c .before) (After-start-records·gave c))
-        lay5 = λ c.
-            (Path'.refl, λ g.
-            (((Row.get 2 (T31 .locals) (m23 record { before = c .before; start-records = c .start-records; } g) .now, Row.get 4 (T31 .locals) (m23 record
-            { before = c .before; start-records = c .start-records; } g) .now, Row.get 5 (T31 .locals) (m23 record { before = c .before; start-records = c .start-records; } g) .now, Row.get 12 (T31
-            .locals) (m23 record { before = c .before; start-records = c .start-records; } g), Row.get 13 (T31 .locals) (m23 record { before = c .before; start-records = c .start-records; } g)),
-            Path'.refl {a = m23 record { before = c .before; start-records = c .start-records } g}, loop-holds record
-            { before = record { before = c .before; start-records = c .start-records }; rs = record { given = g }; }), λ vs inv.
-            (tt,
-            (λ taken. lay6 record
-            { before = record
-            { before = record { before = record { before = c .before; start-records = c .start-records }; rs = record { given = g }; }; loop = record
-            { out = vs .0; lines = vs .1; rs = vs .2; at = vs .3; n = vs .4; inv = inv; }; }; loop-test = record
-            { taken = Tests.ltb-true (Row.get 13 (T31 .locals) (m24 record { before = record { before = c .before; start-records = c .start-records }; rs = record { given = g }; } (vs .0) (vs .1) (vs .2)
-            (vs .3) (vs .4))) (Row.get 8 (T31 .locals) (m24 record { before = record { before = c .before; start-records = c .start-records; }; rs = record { given = g }; } (vs .0) (vs .1) (vs .2) (vs .3)
-            (vs .4))) taken; }; }, λ left. lay7 record
-            { before = record
-            { before = record { before = record { before = c .before; start-records = c .start-records }; rs = record { given = g }; }; loop = record
-            { out = vs .0; lines = vs .1; rs = vs .2; at = vs .3; n = vs .4; inv = inv; }; }; loop-test = record
-            { left = Tests.ltb-false (Row.get 13 (T31 .locals) (m24 record { before = record { before = c .before; start-records = c .start-records }; rs = record { given = g }; } (vs .0) (vs .1) (vs .2)
-            (vs .3) (vs .4))) (Row.get 8 (T31 .locals) (m24 record { before = record { before = c .before; start-records = c .start-records; }; rs = record { given = g }; } (vs .0) (vs .1) (vs .2) (vs .3)
-            (vs .4))) left; }; }))))
+        lay5 = λ c. (
+          Path'.refl,
+          λ g. (
+            (
+              (
+                Row.get 2 (T31 .locals) (m23 record { before = c .before; start-records = c .start-records } g) .now,
+                Row.get 4 (T31 .locals) (m23 record
+                    { before = c .before; start-records = c .start-records } g) .now,
+                Row.get 5 (T31 .locals) (m23 record { before = c .before; start-records = c .start-records } g) .now,
+                Row.get 12 (T31
+                    .locals) (m23 record { before = c .before; start-records = c .start-records } g),
+                Row.get 13 (T31 .locals) (m23 record { before = c .before; start-records = c .start-records } g),
+              ),
+              Path'.refl {a = m23 record { before = c .before; start-records = c .start-records } g},
+              loop-holds record
+                  { before = record { before = c .before; start-records = c .start-records }; rs = record { given = g } },
+            ),
+            λ vs inv. (
+              tt,
+              (
+                λ taken. lay6 record {
+                  before = record {
+                    before = record { before = record { before = c .before; start-records = c .start-records }; rs = record { given = g } };
+                    loop = record
+                        { out = vs .0; lines = vs .1; rs = vs .2; at = vs .3; n = vs .4; inv = inv };
+                  };
+                  loop-test = record {
+                    taken = Tests.ltb-true (Row.get 13 (T31 .locals) (m24 record { before = record { before = c .before; start-records = c .start-records }; rs = record { given = g } } (vs .0) (vs .1) (vs .2)
+                        (vs .3) (vs .4))) (Row.get 8 (T31 .locals) (m24 record { before = record { before = c .before; start-records = c .start-records }; rs = record { given = g } } (vs .0) (vs .1) (vs .2) (vs .3)
+                        (vs .4))) taken;
+                  };
+                },
+                λ left. lay7 record {
+                  before = record {
+                    before = record { before = record { before = c .before; start-records = c .start-records }; rs = record { given = g } };
+                    loop = record
+                        { out = vs .0; lines = vs .1; rs = vs .2; at = vs .3; n = vs .4; inv = inv };
+                  };
+                  loop-test = record {
+                    left = Tests.ltb-false (Row.get 13 (T31 .locals) (m24 record { before = record { before = c .before; start-records = c .start-records }; rs = record { given = g } } (vs .0) (vs .1) (vs .2)
+                        (vs .3) (vs .4))) (Row.get 8 (T31 .locals) (m24 record { before = record { before = c .before; start-records = c .start-records }; rs = record { given = g } } (vs .0) (vs .1) (vs .2) (vs .3)
+                        (vs .4))) left;
+                  };
+                },
+              ),
+            ),
+          ),
+        )
 
         lay4 : (c : After-base-of) → at92 (W0 (c .before .before .before .before .before .before .before .before .before .before .before .before .κs) (c .before .before .before .before .before .before
             .before .before .before .before .before .before .args)) (m16 (c .before) (After-base-of·gave c))
-        lay4 = λ c.
-            (start-records-requires record { before = c .before; base-of = c .base-of }, λ g. lay5 record
-            { before = record { before = c .before; base-of = c .base-of }; start-records = Called.called ps·4 r·4 (claims· .9) T21
-            (record { pos = 21; ty = Syntax.tyRef Syntax.erased Syntax.mut Element.behind; ref = λ x. x; }, (Num.vAt 9 λ x. x, (Num.vAt 22 λ x. x, tt))) (m16 (c .before) (After-base-of·gave c)) g; })
+        lay4 = λ c. (
+          start-records-requires record { before = c .before; base-of = c .base-of },
+          λ g. lay5 record {
+            before = record { before = c .before; base-of = c .base-of };
+            start-records = Called.called ps·4 r·4 (claims· .9) T21
+                (record { pos = 21; ty = Syntax.tyRef Syntax.erased Syntax.mut Element.behind; ref = λ x. x }, (Num.vAt 9 λ x. x, (Num.vAt 22 λ x. x, tt))) (m16 (c .before) (After-base-of·gave c)) g;
+          },
+        )
 
         lay3 : (c : After-clear) → at101 (W0 (c .before .before .before .before .before .before .before .before .κs) (c .before .before .before .before .before .before .before .before .args)) (m10 (c
             .before) (After-clear·gave c))
-        lay3 = λ c.
-            (Path'.refl, λ g. λ g'. λ g''.
-            (Path'.refl,
-            (base-of-requires record
-            { before = record { before = record { before = record { before = c .before; clear = c .clear }; lines = record { given = g }; }; slice-known3 = record { given = g' }; }; start-records-arg =
-            record { given = g'' }; }, λ g'3. lay4 record
-            { before = record
-            { before = record { before = record { before = record { before = c .before; clear = c .clear }; lines = record { given = g }; }; slice-known3 = record { given = g' }; }; start-records-arg =
-            record { given = g'' }; }; base-of = Called.called ps·3 r·3 (claims· .7) T20
-            (record { pos = 7; ty = Syntax.tyRef (Syntax.named 4) Syntax.imm (Syntax.tyInt Syntax.w8); ref = λ x. x; }, (Num.vLit 0, tt)) (m15 record
-            { before = record { before = record { before = c .before; clear = c .clear }; lines = record { given = g }; }; slice-known3 = record { given = g' }; } g'') g'3; })))
+        lay3 = λ c. (
+          Path'.refl,
+          λ g. λ g'. λ g''. (
+            Path'.refl,
+            (
+              base-of-requires record {
+                before = record { before = record { before = record { before = c .before; clear = c .clear }; lines = record { given = g } }; slice-known3 = record { given = g' } };
+                start-records-arg =
+                    record { given = g'' };
+              },
+              λ g'3. lay4 record {
+                before = record {
+                  before = record { before = record { before = record { before = c .before; clear = c .clear }; lines = record { given = g } }; slice-known3 = record { given = g' } };
+                  start-records-arg =
+                      record { given = g'' };
+                };
+                base-of = Called.called ps·3 r·3 (claims· .7) T20
+                    (record { pos = 7; ty = Syntax.tyRef (Syntax.named 4) Syntax.imm (Syntax.tyInt Syntax.w8); ref = λ x. x }, (Num.vLit 0, tt)) (m15 record
+                    { before = record { before = record { before = c .before; clear = c .clear }; lines = record { given = g } }; slice-known3 = record { given = g' } } g'') g'3;
+              },
+            ),
+          ),
+        )
 
         lay2 : (c : After-is-strict) → at105 (W0 (c .before .before .before .before .before .before .κs) (c .before .before .before .before .before .before .args)) (m7 (c .before)
             (After-is-strict·gave c))
-        lay2 = λ c. λ g.
-            (Path'.refl,
-            (clear-requires record { before = record { before = c .before; is-strict = c .is-strict }; clear-arg = record { given = g }; }, λ g'. lay3 record
-            { before = record { before = record { before = c .before; is-strict = c .is-strict }; clear-arg = record { given = g }; }; clear = Called.called ps·2 r·2 (claims· .5) T11
-            (record { pos = 19; ty = Syntax.tyRef Syntax.erased Syntax.mut (Syntax.tyInt Syntax.w16); ref = λ x. x; }, tt) (m9 record { before = c .before; is-strict = c .is-strict } g) g'; }))
+        lay2 = λ c. λ g. (
+          Path'.refl,
+          (
+            clear-requires record { before = record { before = c .before; is-strict = c .is-strict }; clear-arg = record { given = g } },
+            λ g'. lay3 record {
+              before = record { before = record { before = c .before; is-strict = c .is-strict }; clear-arg = record { given = g } };
+              clear = Called.called ps·2 r·2 (claims· .5) T11
+                  (record { pos = 19; ty = Syntax.tyRef Syntax.erased Syntax.mut (Syntax.tyInt Syntax.w16); ref = λ x. x }, tt) (m9 record { before = c .before; is-strict = c .is-strict } g) g';
+            },
+          ),
+        )
 
         lay1 : (c : After-width) → at106 (W0 (c .before .before .before .before .before .κs) (c .before .before .before .before .before .args)) (m6 (c .before) (After-width·gave c))
-        lay1 = λ c.
-            (is-strict-requires record { before = c .before; width = c .width }, λ g. lay2 record
-            { before = record { before = c .before; width = c .width }; is-strict = Called.called ps·1 r·1 (claims· .3) T7
-            (record { pos = 7; ty = Syntax.tyRef (Syntax.named 4) Syntax.imm (Syntax.tyInt Syntax.w8); ref = λ x. x; }, tt) (m6 (c .before) (After-width·gave c)) g; })
+        lay1 = λ c. (
+          is-strict-requires record { before = c .before; width = c .width },
+          λ g. lay2 record {
+            before = record { before = c .before; width = c .width };
+            is-strict = Called.called ps·1 r·1 (claims· .3) T7
+                (record { pos = 7; ty = Syntax.tyRef (Syntax.named 4) Syntax.imm (Syntax.tyInt Syntax.w8); ref = λ x. x }, tt) (m6 (c .before) (After-width·gave c)) g;
+          },
+        )
 
         pub laid : (c : Start) → at112 (W0 (c .κs) (c .args)) (m0 (c .κs) (c .args))
-        laid = λ c. λ g. λ g'. λ g''. λ g'3.
-            (width-requires record
-            { before = record
-            { before = record { before = record { before = c; shared-slice-known = record { given = g } }; slice-known = record { given = g' }; }; slice-known2 = record { given = g'' }; };
-            shared-slice-known2 = record { given = g'3 }; }, λ g'4. lay1 record
-            { before = record
-            { before = record
-            { before = record { before = record { before = c; shared-slice-known = record { given = g } }; slice-known = record { given = g' }; }; slice-known2 = record { given = g'' }; };
-            shared-slice-known2 = record { given = g'3 }; }; width = Called.called ps·0 r·0 (claims· .1) T6 (Bool.bFld 6 (List._∷_ (Syntax.field 1) List.[]) 4 λ x. Form.struct .as-values x .1 .0, tt) (m5
-            record { before = record { before = record { before = c; shared-slice-known = record { given = g } }; slice-known = record { given = g' }; }; slice-known2 = record { given = g'' }; } g'3) g'4;
-            })
+        laid = λ c. λ g. λ g'. λ g''. λ g'3. (
+          width-requires record {
+            before = record
+                { before = record { before = record { before = c; shared-slice-known = record { given = g } }; slice-known = record { given = g' } }; slice-known2 = record { given = g'' } };
+            shared-slice-known2 = record { given = g'3 };
+          },
+          λ g'4. lay1 record {
+            before = record {
+              before = record
+                  { before = record { before = record { before = c; shared-slice-known = record { given = g } }; slice-known = record { given = g' } }; slice-known2 = record { given = g'' } };
+              shared-slice-known2 = record { given = g'3 };
+            };
+            width = Called.called ps·0 r·0 (claims· .1) T6 (Bool.bFld 6 (List._∷_ (Syntax.field 1) List.[]) 4 λ x. Form.struct .as-values x .1 .0, tt) (m5
+                record { before = record { before = record { before = c; shared-slice-known = record { given = g } }; slice-known = record { given = g' } }; slice-known2 = record { given = g'' } } g'3) g'4;
+          },
+        )
 
         module _ (κs : Lifetimes.Lfts 5) (qs : Lifetimes.Shares 5) where
           pub asked : (a : Kinds.Dens κs ps) → (good : Kinds.GoodsP κs ps a) → (pre : Pre· κs a) → (bs : List.List Nat.ℕ) → Φ (Any.wantQ 5 ps r xs m κs qs a (Post· κs a)) (Function.init 5 ps r xs m κs
               qs a)
-          asked = λ a good pre bs. laid record
-              { κs = κs; args = record
-              { samples = a .0; out = a .1 .0; store = a .1 .1 .0; lines = a .1 .1 .1 .0; rs = a .1 .1 .1 .1 .0; form = a .1 .1 .1 .1 .1 .0; bases = a .1 .1 .1 .1 .1 .1 .0; count = a .1 .1 .1 .1 .1 .1 .1
-              .0; }; good = good; fits = record { count = record { fits = good .1 .1 .1 .1 .1 .1 .1 .0 .1 } }; pre = pre; }
+          asked = λ a good pre bs. laid record {
+            κs = κs;
+            args = record {
+              samples = a .0;
+              out = a .1 .0;
+              store = a .1 .1 .0;
+              lines = a .1 .1 .1 .0;
+              rs = a .1 .1 .1 .1 .0;
+              form = a .1 .1 .1 .1 .1 .0;
+              bases = a .1 .1 .1 .1 .1 .1 .0;
+              count = a .1 .1 .1 .1 .1 .1 .1
+                  .0;
+            };
+            good = good;
+            fits = record { count = record { fits = good .1 .1 .1 .1 .1 .1 .1 .0 .1 } };
+            pre = pre;
+          }
 
         module _ {M : Type 1} (𝓤 : URA.URA M) (H : Wp.Heap 𝓤) (A : Atoms.Atoms 𝓤) (W : Kit.Given 𝓤 H A) (𝓣 : Wp.Tables 𝓤 H) (known0 : Plain.Known 𝓤 H A W 𝓣 0 ps·0 r·0 (claims· .0) (claims· .1)
             "map::width") (known1 : Plain.Known 𝓤 H A W 𝓣 1 ps·1 r·1 (claims· .2) (claims· .3) "block::writer::is_strict") (known2 : Plain.Known 𝓤 H A W 𝓣 1 ps·2 r·2 (claims· .4) (claims· .5)

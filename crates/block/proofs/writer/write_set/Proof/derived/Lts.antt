@@ -80,19 +80,45 @@ y3 = Syntax.tyStruct (List._∷_ 98 (List._∷_ 108 (List._∷_ 111 (List._∷_ 
 
 abbrev pub ps : List.List (Kinds.PK 5)
 ps = List._∷_ (ShrSlice.pShrS (Referent.rtF (Referent.fInt Syntax.w16)) 0 tt) (List._∷_ (MutSlice.pMutS (Referent.rtF (Referent.fInt Syntax.w8)) 1 tt) (List._∷_ Bool.pBool (List._∷_ (MutSlice.pMutS
-    (Referent.rtF (Referent.fInt Syntax.w16)) 2 tt) (List._∷_ (MutSlice.pMutS (Element.type) 3 tt) (List._∷_ (Value.pVal record
-    { ty = Declared'.row Form.the-type; one = Path'.refl; val = Laws'4.val Form.the-type Laws.the-laws; tells = Laws'4.tells Form.the-type Laws.the-laws; still = Laws'4.still Form.the-type Laws.the-copy
-    Exit.yes; row = Rows.whole (Declared'.row Form.the-type); rd = λ x. x; mk = λ x. x; } λ M 𝓤 H A W. record
-    { copies = Laws'4.copy Form.the-type Laws.the-copy 𝓤 H A W; lawful = Laws'4.lawful Form.the-type Laws.the-laws 𝓤 H A W; makes = Laws'4.makes Form.the-type Laws.the-plain 𝓤 H A; in-mem =
-    Local.mem-whole 𝓤 H A W (Declared'.row Form.the-type); of-mem = Local.whole-mem 𝓤 H A W (Declared'.row Form.the-type); }) (List._∷_ (ShrSlice.pShrS (Referent.rtF (Referent.fInt Syntax.w8)) 4 tt)
+    (Referent.rtF (Referent.fInt Syntax.w16)) 2 tt) (List._∷_ (MutSlice.pMutS (Element.type) 3 tt) (List._∷_ (Value.pVal record {
+      ty = Declared'.row Form.the-type;
+      one = Path'.refl;
+      val = Laws'4.val Form.the-type Laws.the-laws;
+      tells = Laws'4.tells Form.the-type Laws.the-laws;
+      still = Laws'4.still Form.the-type Laws.the-copy
+          Exit.yes;
+      row = Rows.whole (Declared'.row Form.the-type);
+      rd = λ x. x;
+      mk = λ x. x;
+    } λ M 𝓤 H A W. record {
+      copies = Laws'4.copy Form.the-type Laws.the-copy 𝓤 H A W;
+      lawful = Laws'4.lawful Form.the-type Laws.the-laws 𝓤 H A W;
+      makes = Laws'4.makes Form.the-type Laws.the-plain 𝓤 H A;
+      in-mem =
+          Local.mem-whole 𝓤 H A W (Declared'.row Form.the-type);
+      of-mem = Local.whole-mem 𝓤 H A W (Declared'.row Form.the-type);
+    }) (List._∷_ (ShrSlice.pShrS (Referent.rtF (Referent.fInt Syntax.w8)) 4 tt)
     (List._∷_ (Num.pNum Syntax.w64) List.[])))))))
 
 abbrev pub r : Kinds.RK 5
-r = Value.rVal record
-    { ty = Declared.row BlockLength.the-type; one = Path'.refl; val = Laws'3.val BlockLength.the-type Laws'.the-laws; tells = Laws'3.tells BlockLength.the-type Laws'.the-laws; still = Laws'3.still
-    BlockLength.the-type Laws'.the-copy Exit.yes; row = Rows.whole (Declared.row BlockLength.the-type); rd = λ x. x; mk = λ x. x; } λ M 𝓤 H A W. record
-    { copies = Laws'3.copy BlockLength.the-type Laws'.the-copy 𝓤 H A W; lawful = Laws'3.lawful BlockLength.the-type Laws'.the-laws 𝓤 H A W tt; makes = Laws'3.makes BlockLength.the-type Laws'.the-plain 𝓤 H
-    A; in-mem = Local.mem-whole 𝓤 H A W (Declared.row BlockLength.the-type); of-mem = Local.whole-mem 𝓤 H A W (Declared.row BlockLength.the-type); }
+r = Value.rVal record {
+  ty = Declared.row BlockLength.the-type;
+  one = Path'.refl;
+  val = Laws'3.val BlockLength.the-type Laws'.the-laws;
+  tells = Laws'3.tells BlockLength.the-type Laws'.the-laws;
+  still = Laws'3.still
+      BlockLength.the-type Laws'.the-copy Exit.yes;
+  row = Rows.whole (Declared.row BlockLength.the-type);
+  rd = λ x. x;
+  mk = λ x. x;
+} λ M 𝓤 H A W. record {
+  copies = Laws'3.copy BlockLength.the-type Laws'.the-copy 𝓤 H A W;
+  lawful = Laws'3.lawful BlockLength.the-type Laws'.the-laws 𝓤 H A W tt;
+  makes = Laws'3.makes BlockLength.the-type Laws'.the-plain 𝓤 H
+      A;
+  in-mem = Local.mem-whole 𝓤 H A W (Declared.row BlockLength.the-type);
+  of-mem = Local.whole-mem 𝓤 H A W (Declared.row BlockLength.the-type);
+}
 
 abbrev pub xs : List.List Syntax.Ty
 xs = List._∷_ (Syntax.tyInt Syntax.w32) (List._∷_ (Syntax.tyInt Syntax.w64) (List._∷_ (Syntax.tyInt Syntax.w64) (List._∷_ Syntax.tyBool (List._∷_ Syntax.tyUnit (List._∷_ (Syntax.tyRef Syntax.erased
@@ -136,19 +162,45 @@ r·3 = Unit'.rUnit
 
 abbrev pub ps·4 : List.List (Kinds.PK 5)
 ps·4 = List._∷_ (ShrSlice.pShrS (Referent.rtF (Referent.fInt Syntax.w16)) 0 tt) (List._∷_ (MutSlice.pMutS (Referent.rtF (Referent.fInt Syntax.w8)) 1 tt) (List._∷_ Bool.pBool (List._∷_ (MutSlice.pMutS
-    (Referent.rtF (Referent.fInt Syntax.w16)) 2 tt) (List._∷_ (MutSlice.pMutS (Element.type) 3 tt) (List._∷_ (Value.pVal record
-    { ty = Declared'.row Form.the-type; one = Path'.refl; val = Laws'4.val Form.the-type Laws.the-laws; tells = Laws'4.tells Form.the-type Laws.the-laws; still = Laws'4.still Form.the-type Laws.the-copy
-    Exit.yes; row = Rows.whole (Declared'.row Form.the-type); rd = λ x. x; mk = λ x. x; } λ M 𝓤 H A W. record
-    { copies = Laws'4.copy Form.the-type Laws.the-copy 𝓤 H A W; lawful = Laws'4.lawful Form.the-type Laws.the-laws 𝓤 H A W; makes = Laws'4.makes Form.the-type Laws.the-plain 𝓤 H A; in-mem =
-    Local.mem-whole 𝓤 H A W (Declared'.row Form.the-type); of-mem = Local.whole-mem 𝓤 H A W (Declared'.row Form.the-type); }) (List._∷_ (ShrSlice.pShrS (Referent.rtF (Referent.fInt Syntax.w8)) 4 tt)
+    (Referent.rtF (Referent.fInt Syntax.w16)) 2 tt) (List._∷_ (MutSlice.pMutS (Element.type) 3 tt) (List._∷_ (Value.pVal record {
+      ty = Declared'.row Form.the-type;
+      one = Path'.refl;
+      val = Laws'4.val Form.the-type Laws.the-laws;
+      tells = Laws'4.tells Form.the-type Laws.the-laws;
+      still = Laws'4.still Form.the-type Laws.the-copy
+          Exit.yes;
+      row = Rows.whole (Declared'.row Form.the-type);
+      rd = λ x. x;
+      mk = λ x. x;
+    } λ M 𝓤 H A W. record {
+      copies = Laws'4.copy Form.the-type Laws.the-copy 𝓤 H A W;
+      lawful = Laws'4.lawful Form.the-type Laws.the-laws 𝓤 H A W;
+      makes = Laws'4.makes Form.the-type Laws.the-plain 𝓤 H A;
+      in-mem =
+          Local.mem-whole 𝓤 H A W (Declared'.row Form.the-type);
+      of-mem = Local.whole-mem 𝓤 H A W (Declared'.row Form.the-type);
+    }) (List._∷_ (ShrSlice.pShrS (Referent.rtF (Referent.fInt Syntax.w8)) 4 tt)
     (List._∷_ (Num.pNum Syntax.w64) List.[])))))))
 
 abbrev pub r·4 : Kinds.RK 5
-r·4 = Value.rVal record
-    { ty = Declared.row BlockLength.the-type; one = Path'.refl; val = Laws'3.val BlockLength.the-type Laws'.the-laws; tells = Laws'3.tells BlockLength.the-type Laws'.the-laws; still = Laws'3.still
-    BlockLength.the-type Laws'.the-copy Exit.yes; row = Rows.whole (Declared.row BlockLength.the-type); rd = λ x. x; mk = λ x. x; } λ M 𝓤 H A W. record
-    { copies = Laws'3.copy BlockLength.the-type Laws'.the-copy 𝓤 H A W; lawful = Laws'3.lawful BlockLength.the-type Laws'.the-laws 𝓤 H A W tt; makes = Laws'3.makes BlockLength.the-type Laws'.the-plain 𝓤 H
-    A; in-mem = Local.mem-whole 𝓤 H A W (Declared.row BlockLength.the-type); of-mem = Local.whole-mem 𝓤 H A W (Declared.row BlockLength.the-type); }
+r·4 = Value.rVal record {
+  ty = Declared.row BlockLength.the-type;
+  one = Path'.refl;
+  val = Laws'3.val BlockLength.the-type Laws'.the-laws;
+  tells = Laws'3.tells BlockLength.the-type Laws'.the-laws;
+  still = Laws'3.still
+      BlockLength.the-type Laws'.the-copy Exit.yes;
+  row = Rows.whole (Declared.row BlockLength.the-type);
+  rd = λ x. x;
+  mk = λ x. x;
+} λ M 𝓤 H A W. record {
+  copies = Laws'3.copy BlockLength.the-type Laws'.the-copy 𝓤 H A W;
+  lawful = Laws'3.lawful BlockLength.the-type Laws'.the-laws 𝓤 H A W tt;
+  makes = Laws'3.makes BlockLength.the-type Laws'.the-plain 𝓤 H
+      A;
+  in-mem = Local.mem-whole 𝓤 H A W (Declared.row BlockLength.the-type);
+  of-mem = Local.whole-mem 𝓤 H A W (Declared.row BlockLength.the-type);
+}
 
 abbrev pub hs : List.List Syntax.Home
 hs = List._∷_ Syntax.valueLocal (List._∷_ Syntax.valueLocal (List._∷_ Syntax.valueLocal (List._∷_ Syntax.valueLocal (List._∷_ Syntax.valueLocal (List._∷_ Syntax.valueLocal (List._∷_ Syntax.valueLocal
@@ -298,17 +350,19 @@ Claims = Kinds.In 0 ps·0 × Kinds.Out 0 ps·0 r·0 × Kinds.In 1 ps·1 × Kinds
     5 ps·4 r·4
 
 abbrev pub e0 : Row.Entry
-e0 =
-    (0, Rows.any-gone (Syntax.tyEnum (List._∷_ 115 (List._∷_ 116 (List._∷_ 114 (List._∷_ 101 (List._∷_ 97 (List._∷_ 109 (List._∷_ 58 (List._∷_ 58 (List._∷_ 66 (List._∷_ 108 (List._∷_ 111 (List._∷_ 99
-    (List._∷_ 107 (List._∷_ 76 (List._∷_ 101 (List._∷_ 110 (List._∷_ 103 (List._∷_ 116 (List._∷_ 104 List.[]))))))))))))))))))) (Syntax.ttcons (Syntax.tcons (Syntax.tyInt Syntax.w64) Syntax.tnil)
-    (Syntax.ttcons (Syntax.tcons (Syntax.tyEnum (List._∷_ 115 (List._∷_ 116 (List._∷_ 114 (List._∷_ 101 (List._∷_ 97 (List._∷_ 109 (List._∷_ 58 (List._∷_ 58 (List._∷_ 82 (List._∷_ 101 (List._∷_ 102
-    (List._∷_ 117 (List._∷_ 115 (List._∷_ 97 (List._∷_ 108 List.[]))))))))))))))) (Syntax.ttcons Syntax.tnil (Syntax.ttcons Syntax.tnil (Syntax.ttcons Syntax.tnil (Syntax.ttcons (Syntax.tcons
-    (Syntax.tyInt Syntax.w64) Syntax.tnil) (Syntax.ttcons Syntax.tnil (Syntax.ttcons Syntax.tnil (Syntax.ttcons Syntax.tnil (Syntax.ttcons Syntax.tnil (Syntax.ttcons Syntax.tnil (Syntax.ttcons Syntax.tnil
-    (Syntax.ttcons (Syntax.tcons (Syntax.tyInt Syntax.w64) Syntax.tnil) (Syntax.ttcons (Syntax.tcons (Syntax.tyInt Syntax.w64) Syntax.tnil) (Syntax.ttcons Syntax.tnil (Syntax.ttcons (Syntax.tcons
-    (Syntax.tyInt Syntax.w64) (Syntax.tcons (Syntax.tyInt Syntax.w64) Syntax.tnil)) (Syntax.ttcons (Syntax.tcons (Syntax.tyInt Syntax.w64) Syntax.tnil) (Syntax.ttcons Syntax.tnil (Syntax.ttcons
-    Syntax.tnil (Syntax.ttcons (Syntax.tcons (Syntax.tyInt Syntax.w64) Syntax.tnil) (Syntax.ttcons (Syntax.tcons (Syntax.tyInt Syntax.w64) Syntax.tnil) (Syntax.ttcons (Syntax.tcons (Syntax.tyInt
-    Syntax.w64) Syntax.tnil) (Syntax.ttcons (Syntax.tcons (Syntax.tyInt Syntax.w64) (Syntax.tcons (Syntax.tyInt Syntax.w64) Syntax.tnil)) (Syntax.ttcons Syntax.tnil Syntax.ttnil)))))))))))))))))))))))
-    Syntax.tnil) Syntax.ttnil))))
+e0 = (
+  0,
+  Rows.any-gone (Syntax.tyEnum (List._∷_ 115 (List._∷_ 116 (List._∷_ 114 (List._∷_ 101 (List._∷_ 97 (List._∷_ 109 (List._∷_ 58 (List._∷_ 58 (List._∷_ 66 (List._∷_ 108 (List._∷_ 111 (List._∷_ 99
+      (List._∷_ 107 (List._∷_ 76 (List._∷_ 101 (List._∷_ 110 (List._∷_ 103 (List._∷_ 116 (List._∷_ 104 List.[]))))))))))))))))))) (Syntax.ttcons (Syntax.tcons (Syntax.tyInt Syntax.w64) Syntax.tnil)
+      (Syntax.ttcons (Syntax.tcons (Syntax.tyEnum (List._∷_ 115 (List._∷_ 116 (List._∷_ 114 (List._∷_ 101 (List._∷_ 97 (List._∷_ 109 (List._∷_ 58 (List._∷_ 58 (List._∷_ 82 (List._∷_ 101 (List._∷_ 102
+      (List._∷_ 117 (List._∷_ 115 (List._∷_ 97 (List._∷_ 108 List.[]))))))))))))))) (Syntax.ttcons Syntax.tnil (Syntax.ttcons Syntax.tnil (Syntax.ttcons Syntax.tnil (Syntax.ttcons (Syntax.tcons
+      (Syntax.tyInt Syntax.w64) Syntax.tnil) (Syntax.ttcons Syntax.tnil (Syntax.ttcons Syntax.tnil (Syntax.ttcons Syntax.tnil (Syntax.ttcons Syntax.tnil (Syntax.ttcons Syntax.tnil (Syntax.ttcons Syntax.tnil
+      (Syntax.ttcons (Syntax.tcons (Syntax.tyInt Syntax.w64) Syntax.tnil) (Syntax.ttcons (Syntax.tcons (Syntax.tyInt Syntax.w64) Syntax.tnil) (Syntax.ttcons Syntax.tnil (Syntax.ttcons (Syntax.tcons
+      (Syntax.tyInt Syntax.w64) (Syntax.tcons (Syntax.tyInt Syntax.w64) Syntax.tnil)) (Syntax.ttcons (Syntax.tcons (Syntax.tyInt Syntax.w64) Syntax.tnil) (Syntax.ttcons Syntax.tnil (Syntax.ttcons
+      Syntax.tnil (Syntax.ttcons (Syntax.tcons (Syntax.tyInt Syntax.w64) Syntax.tnil) (Syntax.ttcons (Syntax.tcons (Syntax.tyInt Syntax.w64) Syntax.tnil) (Syntax.ttcons (Syntax.tcons (Syntax.tyInt
+      Syntax.w64) Syntax.tnil) (Syntax.ttcons (Syntax.tcons (Syntax.tyInt Syntax.w64) (Syntax.tcons (Syntax.tyInt Syntax.w64) Syntax.tnil)) (Syntax.ttcons Syntax.tnil Syntax.ttnil)))))))))))))))))))))))
+      Syntax.tnil) Syntax.ttnil))),
+)
 
 abbrev pub e1 : Row.Entry
 e1 = (0, Rows.whole (Declared.row BlockLength.the-type))
@@ -362,14 +416,16 @@ abbrev pub e17 : Row.Entry
 e17 = (17, Rows.any-gone y2)
 
 abbrev pub e18 : Row.Entry
-e18 =
-    (18, Rows.any-gone (Syntax.tyEnum (List._∷_ 115 (List._∷_ 116 (List._∷_ 114 (List._∷_ 101 (List._∷_ 97 (List._∷_ 109 (List._∷_ 58 (List._∷_ 58 (List._∷_ 82 (List._∷_ 101 (List._∷_ 102 (List._∷_ 117
-    (List._∷_ 115 (List._∷_ 97 (List._∷_ 108 List.[]))))))))))))))) (Syntax.ttcons Syntax.tnil (Syntax.ttcons Syntax.tnil (Syntax.ttcons Syntax.tnil (Syntax.ttcons (Syntax.tcons (Syntax.tyInt Syntax.w64)
-    Syntax.tnil) (Syntax.ttcons Syntax.tnil (Syntax.ttcons Syntax.tnil (Syntax.ttcons Syntax.tnil (Syntax.ttcons Syntax.tnil (Syntax.ttcons Syntax.tnil (Syntax.ttcons Syntax.tnil (Syntax.ttcons
-    (Syntax.tcons (Syntax.tyInt Syntax.w64) Syntax.tnil) (Syntax.ttcons (Syntax.tcons (Syntax.tyInt Syntax.w64) Syntax.tnil) (Syntax.ttcons Syntax.tnil (Syntax.ttcons (Syntax.tcons (Syntax.tyInt
-    Syntax.w64) (Syntax.tcons (Syntax.tyInt Syntax.w64) Syntax.tnil)) (Syntax.ttcons (Syntax.tcons (Syntax.tyInt Syntax.w64) Syntax.tnil) (Syntax.ttcons Syntax.tnil (Syntax.ttcons Syntax.tnil
-    (Syntax.ttcons (Syntax.tcons (Syntax.tyInt Syntax.w64) Syntax.tnil) (Syntax.ttcons (Syntax.tcons (Syntax.tyInt Syntax.w64) Syntax.tnil) (Syntax.ttcons (Syntax.tcons (Syntax.tyInt Syntax.w64)
-    Syntax.tnil) (Syntax.ttcons (Syntax.tcons (Syntax.tyInt Syntax.w64) (Syntax.tcons (Syntax.tyInt Syntax.w64) Syntax.tnil)) (Syntax.ttcons Syntax.tnil Syntax.ttnil))))))))))))))))))))))))
+e18 = (
+  18,
+  Rows.any-gone (Syntax.tyEnum (List._∷_ 115 (List._∷_ 116 (List._∷_ 114 (List._∷_ 101 (List._∷_ 97 (List._∷_ 109 (List._∷_ 58 (List._∷_ 58 (List._∷_ 82 (List._∷_ 101 (List._∷_ 102 (List._∷_ 117
+      (List._∷_ 115 (List._∷_ 97 (List._∷_ 108 List.[]))))))))))))))) (Syntax.ttcons Syntax.tnil (Syntax.ttcons Syntax.tnil (Syntax.ttcons Syntax.tnil (Syntax.ttcons (Syntax.tcons (Syntax.tyInt Syntax.w64)
+      Syntax.tnil) (Syntax.ttcons Syntax.tnil (Syntax.ttcons Syntax.tnil (Syntax.ttcons Syntax.tnil (Syntax.ttcons Syntax.tnil (Syntax.ttcons Syntax.tnil (Syntax.ttcons Syntax.tnil (Syntax.ttcons
+      (Syntax.tcons (Syntax.tyInt Syntax.w64) Syntax.tnil) (Syntax.ttcons (Syntax.tcons (Syntax.tyInt Syntax.w64) Syntax.tnil) (Syntax.ttcons Syntax.tnil (Syntax.ttcons (Syntax.tcons (Syntax.tyInt
+      Syntax.w64) (Syntax.tcons (Syntax.tyInt Syntax.w64) Syntax.tnil)) (Syntax.ttcons (Syntax.tcons (Syntax.tyInt Syntax.w64) Syntax.tnil) (Syntax.ttcons Syntax.tnil (Syntax.ttcons Syntax.tnil
+      (Syntax.ttcons (Syntax.tcons (Syntax.tyInt Syntax.w64) Syntax.tnil) (Syntax.ttcons (Syntax.tcons (Syntax.tyInt Syntax.w64) Syntax.tnil) (Syntax.ttcons (Syntax.tcons (Syntax.tyInt Syntax.w64)
+      Syntax.tnil) (Syntax.ttcons (Syntax.tcons (Syntax.tyInt Syntax.w64) (Syntax.tcons (Syntax.tyInt Syntax.w64) Syntax.tnil)) (Syntax.ttcons Syntax.tnil Syntax.ttnil))))))))))))))))))))))),
+)
 
 abbrev pub e19 : Row.Entry
 e19 = (19, Rows.any-gone (Syntax.tyRef Syntax.erased Syntax.mut (Syntax.tyInt Syntax.w8)))
@@ -795,7 +851,7 @@ module _ (claims· : Claims) where
   s4 = Call.callB ps·0 r·0 (claims· .0) (claims· .1) T5 (Num.vFld 6 (List._∷_ (Syntax.field 0) List.[]) 0 λ x. Form.struct .as-values x .0, tt) 9 List.[] (Syntax.tyInt Syntax.w32)
 
   abbrev s5 : Typed.Both T6 T7
-  s5 = Call.callB ps·1 r·1 (claims· .2) (claims· .3) T6 (record { pos = 1; ty = Syntax.tyRef (Syntax.named 0) Syntax.imm (Syntax.tyInt Syntax.w16); ref = λ x. x; }, (Num.vAt 9 λ x. x, tt)) 10
+  s5 = Call.callB ps·1 r·1 (claims· .2) (claims· .3) T6 (record { pos = 1; ty = Syntax.tyRef (Syntax.named 0) Syntax.imm (Syntax.tyInt Syntax.w16); ref = λ x. x }, (Num.vAt 9 λ x. x, tt)) 10
       (List._∷_ 0 List.[]) (Syntax.tyInt Syntax.w64)
 
   abbrev s6 : Typed.Mo T7 → Typed.Mo T8
@@ -823,7 +879,7 @@ module _ (claims· : Claims) where
       Syntax.w16)) (Syntax.tyRef Syntax.erased Syntax.mut (Syntax.tyInt Syntax.w16)) (λ x. x) (Scalar.oFld 4 (List._∷_ (Syntax.field 1) List.[]) (Syntax.tyInt Syntax.w64) 8 λ v. Shared.lenV (v .0))
 
   abbrev s14 : Typed.Both T16 T17
-  s14 = Call.callB ps·2 r·2 (claims· .4) (claims· .5) T16 (record { pos = 15; ty = Syntax.tyRef Syntax.erased Syntax.mut (Syntax.tyInt Syntax.w16); ref = λ x. x; }, tt) 13 (List._∷_ 5 List.[])
+  s14 = Call.callB ps·2 r·2 (claims· .4) (claims· .5) T16 (record { pos = 15; ty = Syntax.tyRef Syntax.erased Syntax.mut (Syntax.tyInt Syntax.w16); ref = λ x. x }, tt) 13 (List._∷_ 5 List.[])
       Syntax.tyUnit
 
   abbrev s15 : Typed.Mo T17 → Typed.Mo T18
@@ -844,7 +900,7 @@ module _ (claims· : Claims) where
       x. x) (Scalar.oFld 5 (List._∷_ (Syntax.field 1) List.[]) (Syntax.tyInt Syntax.w64) 8 λ v. Shared.lenV (v .0))
 
   abbrev s23 : Typed.Both T25 T26
-  s23 = Call.callB ps·3 r·3 (claims· .6) (claims· .7) T25 (record { pos = 17; ty = Syntax.tyRef Syntax.erased Syntax.mut Element.behind; ref = λ x. x; }, tt) 13 (List._∷_ 6 List.[]) Syntax.tyUnit
+  s23 = Call.callB ps·3 r·3 (claims· .6) (claims· .7) T25 (record { pos = 17; ty = Syntax.tyRef Syntax.erased Syntax.mut Element.behind; ref = λ x. x }, tt) 13 (List._∷_ 6 List.[]) Syntax.tyUnit
 
   abbrev s24 : Typed.Mo T26 → Typed.Mo T27
   s24 = Scalar.n-room T26 13 Syntax.tyUnit
@@ -908,13 +964,22 @@ module _ (claims· : Claims) where
       x. x) (Scalar.oFld 5 (List._∷_ (Syntax.field 1) List.[]) (Syntax.tyInt Syntax.w64) 8 λ v. Shared.lenV (v .0))
 
   abbrev s45 : Typed.Both T47 T48
-  s45 = Call.callB ps·4 r·4 (claims· .8) (claims· .9) T47
-      (record { pos = 1; ty = Syntax.tyRef (Syntax.named 0) Syntax.imm (Syntax.tyInt Syntax.w16); ref = λ x. x; },
-      (record { pos = 20; ty = Syntax.tyRef Syntax.erased Syntax.mut (Syntax.tyInt Syntax.w8); ref = λ x. x; },
-      (Bool.bAt 3 λ x. x,
-      (record { pos = 22; ty = Syntax.tyRef Syntax.erased Syntax.mut (Syntax.tyInt Syntax.w16); ref = λ x. x; },
-      (record { pos = 24; ty = Syntax.tyRef Syntax.erased Syntax.mut Element.behind; ref = λ x. x; },
-      (record { pos = 6; st = List.[]; d = 0; at = λ x. x }, (record { pos = 7; ty = Syntax.tyRef (Syntax.named 4) Syntax.imm (Syntax.tyInt Syntax.w8); ref = λ x. x; }, (Num.vAt 8 λ x. x, tt)))))))) 0
+  s45 = Call.callB ps·4 r·4 (claims· .8) (claims· .9) T47 (
+    record { pos = 1; ty = Syntax.tyRef (Syntax.named 0) Syntax.imm (Syntax.tyInt Syntax.w16); ref = λ x. x },
+    (
+      record { pos = 20; ty = Syntax.tyRef Syntax.erased Syntax.mut (Syntax.tyInt Syntax.w8); ref = λ x. x },
+      (
+        Bool.bAt 3 λ x. x,
+        (
+          record { pos = 22; ty = Syntax.tyRef Syntax.erased Syntax.mut (Syntax.tyInt Syntax.w16); ref = λ x. x },
+          (
+            record { pos = 24; ty = Syntax.tyRef Syntax.erased Syntax.mut Element.behind; ref = λ x. x },
+            (record { pos = 6; st = List.[]; d = 0; at = λ x. x }, (record { pos = 7; ty = Syntax.tyRef (Syntax.named 4) Syntax.imm (Syntax.tyInt Syntax.w8); ref = λ x. x }, (Num.vAt 8 λ x. x, tt))),
+          ),
+        ),
+      ),
+    ),
+  ) 0
       (List._∷_ 0 (List._∷_ 7 (List._∷_ 8 (List._∷_ 9 (List._∷_ 4 List.[]))))) (Syntax.tyEnum (List._∷_ 115 (List._∷_ 116 (List._∷_ 114 (List._∷_ 101 (List._∷_ 97 (List._∷_ 109 (List._∷_ 58 (List._∷_ 58
       (List._∷_ 66 (List._∷_ 108 (List._∷_ 111 (List._∷_ 99 (List._∷_ 107 (List._∷_ 76 (List._∷_ 101 (List._∷_ 110 (List._∷_ 103 (List._∷_ 116 (List._∷_ 104 List.[]))))))))))))))))))) (Syntax.ttcons
       (Syntax.tcons (Syntax.tyInt Syntax.w64) Syntax.tnil) (Syntax.ttcons (Syntax.tcons (Syntax.tyEnum (List._∷_ 115 (List._∷_ 116 (List._∷_ 114 (List._∷_ 101 (List._∷_ 97 (List._∷_ 109 (List._∷_ 58
@@ -1266,363 +1331,493 @@ module _ (claims· : Claims) where
             (List._∷_ e44 (List._∷_ e3 (List._∷_ e5 (List._∷_ e7 (List._∷_ e9 (List._∷_ e12 (List._∷_ e15 List.[])))))))))))))))
 
         abbrev G0 : Row.Cx
-        G0 = record
-            { locals = List._++_ t0 t1; slots = List._∷_ (Row.lease (κs .0) (qs .0)) (List._∷_ (Row.lease (κs .1 .0) (qs .1 .0)) (List._∷_ (Row.lease (κs .1 .1 .0) (qs .1 .1 .0)) (List._∷_ (Row.lease (κs
-            .1 .1 .1 .0) (qs .1 .1 .1 .0)) (List._∷_ (Row.lease (κs .1 .1 .1 .1 .0) (qs .1 .1 .1 .1 .0)) (List._∷_ Row.off (List._∷_ Row.off (List._∷_ Row.off (List._∷_ Row.off (List._∷_ Row.off
-            List.[]))))))))); }
+        G0 = record {
+          locals = List._++_ t0 t1;
+          slots = List._∷_ (Row.lease (κs .0) (qs .0)) (List._∷_ (Row.lease (κs .1 .0) (qs .1 .0)) (List._∷_ (Row.lease (κs .1 .1 .0) (qs .1 .1 .0)) (List._∷_ (Row.lease (κs
+              .1 .1 .1 .0) (qs .1 .1 .1 .0)) (List._∷_ (Row.lease (κs .1 .1 .1 .1 .0) (qs .1 .1 .1 .1 .0)) (List._∷_ Row.off (List._∷_ Row.off (List._∷_ Row.off (List._∷_ Row.off (List._∷_ Row.off
+              List.[])))))))));
+        }
 
         abbrev G1 : Row.Cx
-        G1 = record
-            { locals = List._++_ t2 t1; slots = List._∷_ (Row.lease (κs .0) (qs .0)) (List._∷_ (Row.lease (κs .1 .0) (qs .1 .0)) (List._∷_ (Row.lease (κs .1 .1 .0) (qs .1 .1 .0)) (List._∷_ (Row.lease (κs
-            .1 .1 .1 .0) (qs .1 .1 .1 .0)) (List._∷_ (Row.lease (κs .1 .1 .1 .1 .0) (qs .1 .1 .1 .1 .0)) (List._∷_ Row.off (List._∷_ Row.off (List._∷_ Row.off (List._∷_ Row.off (List._∷_ Row.off
-            List.[]))))))))); }
+        G1 = record {
+          locals = List._++_ t2 t1;
+          slots = List._∷_ (Row.lease (κs .0) (qs .0)) (List._∷_ (Row.lease (κs .1 .0) (qs .1 .0)) (List._∷_ (Row.lease (κs .1 .1 .0) (qs .1 .1 .0)) (List._∷_ (Row.lease (κs
+              .1 .1 .1 .0) (qs .1 .1 .1 .0)) (List._∷_ (Row.lease (κs .1 .1 .1 .1 .0) (qs .1 .1 .1 .1 .0)) (List._∷_ Row.off (List._∷_ Row.off (List._∷_ Row.off (List._∷_ Row.off (List._∷_ Row.off
+              List.[])))))))));
+        }
 
         abbrev G2 : Row.Cx
-        G2 = record
-            { locals = List._++_ t0 t1; slots = List._∷_ (Row.lease (κs .0) (qs .0)) (List._∷_ (Row.lease (κs .1 .0) (qs .1 .0)) (List._∷_ (Row.lease (κs .1 .1 .0) (qs .1 .1 .0)) (List._∷_ (Row.lease (κs
-            .1 .1 .1 .0) (qs .1 .1 .1 .0)) (List._∷_ (Row.lease (κs .1 .1 .1 .1 .0) (qs .1 .1 .1 .1 .0)) (List._∷_ Row.off (List._∷_ Row.off (List._∷_ Row.off (List._∷_ Row.off (List._∷_ Row.off
-            List.[]))))))))); }
+        G2 = record {
+          locals = List._++_ t0 t1;
+          slots = List._∷_ (Row.lease (κs .0) (qs .0)) (List._∷_ (Row.lease (κs .1 .0) (qs .1 .0)) (List._∷_ (Row.lease (κs .1 .1 .0) (qs .1 .1 .0)) (List._∷_ (Row.lease (κs
+              .1 .1 .1 .0) (qs .1 .1 .1 .0)) (List._∷_ (Row.lease (κs .1 .1 .1 .1 .0) (qs .1 .1 .1 .1 .0)) (List._∷_ Row.off (List._∷_ Row.off (List._∷_ Row.off (List._∷_ Row.off (List._∷_ Row.off
+              List.[])))))))));
+        }
 
         abbrev G3 : Row.Cx
-        G3 = record
-            { locals = List._++_ t0 t1; slots = List._∷_ (Row.lease (κs .0) (qs .0)) (List._∷_ (Row.lease (κs .1 .0) (qs .1 .0)) (List._∷_ (Row.lease (κs .1 .1 .0) (qs .1 .1 .0)) (List._∷_ (Row.lease (κs
-            .1 .1 .1 .0) (qs .1 .1 .1 .0)) (List._∷_ (Row.lease (κs .1 .1 .1 .1 .0) (qs .1 .1 .1 .1 .0)) (List._∷_ Row.off (List._∷_ Row.off (List._∷_ Row.off (List._∷_ Row.off (List._∷_ Row.off
-            List.[]))))))))); }
+        G3 = record {
+          locals = List._++_ t0 t1;
+          slots = List._∷_ (Row.lease (κs .0) (qs .0)) (List._∷_ (Row.lease (κs .1 .0) (qs .1 .0)) (List._∷_ (Row.lease (κs .1 .1 .0) (qs .1 .1 .0)) (List._∷_ (Row.lease (κs
+              .1 .1 .1 .0) (qs .1 .1 .1 .0)) (List._∷_ (Row.lease (κs .1 .1 .1 .1 .0) (qs .1 .1 .1 .1 .0)) (List._∷_ Row.off (List._∷_ Row.off (List._∷_ Row.off (List._∷_ Row.off (List._∷_ Row.off
+              List.[])))))))));
+        }
 
         abbrev G4 : Row.Cx
-        G4 = record
-            { locals = List._++_ t0 t1; slots = List._∷_ (Row.lease (κs .0) (qs .0)) (List._∷_ (Row.lease (κs .1 .0) (qs .1 .0)) (List._∷_ (Row.lease (κs .1 .1 .0) (qs .1 .1 .0)) (List._∷_ (Row.lease (κs
-            .1 .1 .1 .0) (qs .1 .1 .1 .0)) (List._∷_ (Row.lease (κs .1 .1 .1 .1 .0) (qs .1 .1 .1 .1 .0)) (List._∷_ Row.off (List._∷_ Row.off (List._∷_ Row.off (List._∷_ Row.off (List._∷_ Row.off
-            List.[]))))))))); }
+        G4 = record {
+          locals = List._++_ t0 t1;
+          slots = List._∷_ (Row.lease (κs .0) (qs .0)) (List._∷_ (Row.lease (κs .1 .0) (qs .1 .0)) (List._∷_ (Row.lease (κs .1 .1 .0) (qs .1 .1 .0)) (List._∷_ (Row.lease (κs
+              .1 .1 .1 .0) (qs .1 .1 .1 .0)) (List._∷_ (Row.lease (κs .1 .1 .1 .1 .0) (qs .1 .1 .1 .1 .0)) (List._∷_ Row.off (List._∷_ Row.off (List._∷_ Row.off (List._∷_ Row.off (List._∷_ Row.off
+              List.[])))))))));
+        }
 
         abbrev G5 : Row.Cx
-        G5 = record
-            { locals = List._++_ t0 t1; slots = List._∷_ (Row.lease (κs .0) (qs .0)) (List._∷_ (Row.lease (κs .1 .0) (qs .1 .0)) (List._∷_ (Row.lease (κs .1 .1 .0) (qs .1 .1 .0)) (List._∷_ (Row.lease (κs
-            .1 .1 .1 .0) (qs .1 .1 .1 .0)) (List._∷_ (Row.lease (κs .1 .1 .1 .1 .0) (qs .1 .1 .1 .1 .0)) (List._∷_ Row.off (List._∷_ Row.off (List._∷_ Row.off (List._∷_ Row.off (List._∷_ Row.off
-            List.[]))))))))); }
+        G5 = record {
+          locals = List._++_ t0 t1;
+          slots = List._∷_ (Row.lease (κs .0) (qs .0)) (List._∷_ (Row.lease (κs .1 .0) (qs .1 .0)) (List._∷_ (Row.lease (κs .1 .1 .0) (qs .1 .1 .0)) (List._∷_ (Row.lease (κs
+              .1 .1 .1 .0) (qs .1 .1 .1 .0)) (List._∷_ (Row.lease (κs .1 .1 .1 .1 .0) (qs .1 .1 .1 .1 .0)) (List._∷_ Row.off (List._∷_ Row.off (List._∷_ Row.off (List._∷_ Row.off (List._∷_ Row.off
+              List.[])))))))));
+        }
 
         abbrev G6 : Row.Cx
-        G6 = record
-            { locals = List._++_ t3 t1; slots = List._∷_ (Row.lease (κs .0) (qs .0)) (List._∷_ (Row.lease (κs .1 .0) (qs .1 .0)) (List._∷_ (Row.lease (κs .1 .1 .0) (qs .1 .1 .0)) (List._∷_ (Row.lease (κs
-            .1 .1 .1 .0) (qs .1 .1 .1 .0)) (List._∷_ (Row.lease (κs .1 .1 .1 .1 .0) (qs .1 .1 .1 .1 .0)) (List._∷_ Row.off (List._∷_ Row.off (List._∷_ Row.off (List._∷_ Row.off (List._∷_ Row.off
-            List.[]))))))))); }
+        G6 = record {
+          locals = List._++_ t3 t1;
+          slots = List._∷_ (Row.lease (κs .0) (qs .0)) (List._∷_ (Row.lease (κs .1 .0) (qs .1 .0)) (List._∷_ (Row.lease (κs .1 .1 .0) (qs .1 .1 .0)) (List._∷_ (Row.lease (κs
+              .1 .1 .1 .0) (qs .1 .1 .1 .0)) (List._∷_ (Row.lease (κs .1 .1 .1 .1 .0) (qs .1 .1 .1 .1 .0)) (List._∷_ Row.off (List._∷_ Row.off (List._∷_ Row.off (List._∷_ Row.off (List._∷_ Row.off
+              List.[])))))))));
+        }
 
         abbrev G7 : Row.Cx
-        G7 = record
-            { locals = List._++_ t4 t1; slots = List._∷_ (Row.lease (κs .0) (qs .0)) (List._∷_ (Row.lease (κs .1 .0) (qs .1 .0)) (List._∷_ (Row.lease (κs .1 .1 .0) (qs .1 .1 .0)) (List._∷_ (Row.lease (κs
-            .1 .1 .1 .0) (qs .1 .1 .1 .0)) (List._∷_ (Row.lease (κs .1 .1 .1 .1 .0) (qs .1 .1 .1 .1 .0)) (List._∷_ Row.off (List._∷_ Row.off (List._∷_ Row.off (List._∷_ Row.off (List._∷_ Row.off
-            List.[]))))))))); }
+        G7 = record {
+          locals = List._++_ t4 t1;
+          slots = List._∷_ (Row.lease (κs .0) (qs .0)) (List._∷_ (Row.lease (κs .1 .0) (qs .1 .0)) (List._∷_ (Row.lease (κs .1 .1 .0) (qs .1 .1 .0)) (List._∷_ (Row.lease (κs
+              .1 .1 .1 .0) (qs .1 .1 .1 .0)) (List._∷_ (Row.lease (κs .1 .1 .1 .1 .0) (qs .1 .1 .1 .1 .0)) (List._∷_ Row.off (List._∷_ Row.off (List._∷_ Row.off (List._∷_ Row.off (List._∷_ Row.off
+              List.[])))))))));
+        }
 
         abbrev G8 : Row.Cx
-        G8 = record
-            { locals = List._++_ t5 t1; slots = List._∷_ (Row.lease (κs .0) (qs .0)) (List._∷_ (Row.lease (κs .1 .0) (qs .1 .0)) (List._∷_ (Row.lease (κs .1 .1 .0) (qs .1 .1 .0)) (List._∷_ (Row.lease (κs
-            .1 .1 .1 .0) (qs .1 .1 .1 .0)) (List._∷_ (Row.lease (κs .1 .1 .1 .1 .0) (qs .1 .1 .1 .1 .0)) (List._∷_ Row.off (List._∷_ Row.off (List._∷_ Row.off (List._∷_ Row.off (List._∷_ Row.off
-            List.[]))))))))); }
+        G8 = record {
+          locals = List._++_ t5 t1;
+          slots = List._∷_ (Row.lease (κs .0) (qs .0)) (List._∷_ (Row.lease (κs .1 .0) (qs .1 .0)) (List._∷_ (Row.lease (κs .1 .1 .0) (qs .1 .1 .0)) (List._∷_ (Row.lease (κs
+              .1 .1 .1 .0) (qs .1 .1 .1 .0)) (List._∷_ (Row.lease (κs .1 .1 .1 .1 .0) (qs .1 .1 .1 .1 .0)) (List._∷_ Row.off (List._∷_ Row.off (List._∷_ Row.off (List._∷_ Row.off (List._∷_ Row.off
+              List.[])))))))));
+        }
 
         abbrev G9 : Row.Cx
-        G9 = record
-            { locals = List._++_ t6 t1; slots = List._∷_ (Row.lease (κs .0) (qs .0)) (List._∷_ (Row.lease (κs .1 .0) (qs .1 .0)) (List._∷_ (Row.lease (κs .1 .1 .0) (qs .1 .1 .0)) (List._∷_ (Row.lease (κs
-            .1 .1 .1 .0) (qs .1 .1 .1 .0)) (List._∷_ (Row.lease (κs .1 .1 .1 .1 .0) (qs .1 .1 .1 .1 .0)) (List._∷_ Row.off (List._∷_ Row.off (List._∷_ Row.off (List._∷_ Row.off (List._∷_ Row.off
-            List.[]))))))))); }
+        G9 = record {
+          locals = List._++_ t6 t1;
+          slots = List._∷_ (Row.lease (κs .0) (qs .0)) (List._∷_ (Row.lease (κs .1 .0) (qs .1 .0)) (List._∷_ (Row.lease (κs .1 .1 .0) (qs .1 .1 .0)) (List._∷_ (Row.lease (κs
+              .1 .1 .1 .0) (qs .1 .1 .1 .0)) (List._∷_ (Row.lease (κs .1 .1 .1 .1 .0) (qs .1 .1 .1 .1 .0)) (List._∷_ Row.off (List._∷_ Row.off (List._∷_ Row.off (List._∷_ Row.off (List._∷_ Row.off
+              List.[])))))))));
+        }
 
         abbrev G10 : Row.Cx
-        G10 = record
-            { locals = List._++_ t4 t1; slots = List._∷_ (Row.lease (κs .0) (qs .0)) (List._∷_ (Row.lease (κs .1 .0) (qs .1 .0)) (List._∷_ (Row.lease (κs .1 .1 .0) (qs .1 .1 .0)) (List._∷_ (Row.lease (κs
-            .1 .1 .1 .0) (qs .1 .1 .1 .0)) (List._∷_ (Row.lease (κs .1 .1 .1 .1 .0) (qs .1 .1 .1 .1 .0)) (List._∷_ Row.off (List._∷_ Row.off (List._∷_ Row.off (List._∷_ Row.off (List._∷_ Row.off
-            List.[]))))))))); }
+        G10 = record {
+          locals = List._++_ t4 t1;
+          slots = List._∷_ (Row.lease (κs .0) (qs .0)) (List._∷_ (Row.lease (κs .1 .0) (qs .1 .0)) (List._∷_ (Row.lease (κs .1 .1 .0) (qs .1 .1 .0)) (List._∷_ (Row.lease (κs
+              .1 .1 .1 .0) (qs .1 .1 .1 .0)) (List._∷_ (Row.lease (κs .1 .1 .1 .1 .0) (qs .1 .1 .1 .1 .0)) (List._∷_ Row.off (List._∷_ Row.off (List._∷_ Row.off (List._∷_ Row.off (List._∷_ Row.off
+              List.[])))))))));
+        }
 
         abbrev G11 : Row.Cx
-        G11 = record
-            { locals = List._++_ t7 t1; slots = List._∷_ (Row.lease (κs .0) (qs .0)) (List._∷_ (Row.lease (κs .1 .0) (qs .1 .0)) (List._∷_ (Row.lease (κs .1 .1 .0) (qs .1 .1 .0)) (List._∷_ (Row.lease (κs
-            .1 .1 .1 .0) (qs .1 .1 .1 .0)) (List._∷_ (Row.lease (κs .1 .1 .1 .1 .0) (qs .1 .1 .1 .1 .0)) (List._∷_ Row.off (List._∷_ Row.off (List._∷_ Row.off (List._∷_ Row.off (List._∷_ Row.off
-            List.[]))))))))); }
+        G11 = record {
+          locals = List._++_ t7 t1;
+          slots = List._∷_ (Row.lease (κs .0) (qs .0)) (List._∷_ (Row.lease (κs .1 .0) (qs .1 .0)) (List._∷_ (Row.lease (κs .1 .1 .0) (qs .1 .1 .0)) (List._∷_ (Row.lease (κs
+              .1 .1 .1 .0) (qs .1 .1 .1 .0)) (List._∷_ (Row.lease (κs .1 .1 .1 .1 .0) (qs .1 .1 .1 .1 .0)) (List._∷_ Row.off (List._∷_ Row.off (List._∷_ Row.off (List._∷_ Row.off (List._∷_ Row.off
+              List.[])))))))));
+        }
 
         abbrev G12 : Row.Cx
-        G12 = record
-            { locals = List._++_ t8 t1; slots = List._∷_ (Row.lease (κs .0) (qs .0)) (List._∷_ (Row.lease (κs .1 .0) (qs .1 .0)) (List._∷_ (Row.lease (κs .1 .1 .0) (qs .1 .1 .0)) (List._∷_ (Row.lease (κs
-            .1 .1 .1 .0) (qs .1 .1 .1 .0)) (List._∷_ (Row.lease (κs .1 .1 .1 .1 .0) (qs .1 .1 .1 .1 .0)) (List._∷_ Row.off (List._∷_ Row.off (List._∷_ Row.off (List._∷_ Row.off (List._∷_ Row.off
-            List.[]))))))))); }
+        G12 = record {
+          locals = List._++_ t8 t1;
+          slots = List._∷_ (Row.lease (κs .0) (qs .0)) (List._∷_ (Row.lease (κs .1 .0) (qs .1 .0)) (List._∷_ (Row.lease (κs .1 .1 .0) (qs .1 .1 .0)) (List._∷_ (Row.lease (κs
+              .1 .1 .1 .0) (qs .1 .1 .1 .0)) (List._∷_ (Row.lease (κs .1 .1 .1 .1 .0) (qs .1 .1 .1 .1 .0)) (List._∷_ Row.off (List._∷_ Row.off (List._∷_ Row.off (List._∷_ Row.off (List._∷_ Row.off
+              List.[])))))))));
+        }
 
         abbrev G13 : Row.Cx
-        G13 = record
-            { locals = List._++_ t9 t1; slots = List._∷_ (Row.lease (κs .0) (qs .0)) (List._∷_ (Row.lease (κs .1 .0) (qs .1 .0)) (List._∷_ (Row.lease (κs .1 .1 .0) (qs .1 .1 .0)) (List._∷_ (Row.lease (κs
-            .1 .1 .1 .0) (qs .1 .1 .1 .0)) (List._∷_ (Row.lease (κs .1 .1 .1 .1 .0) (qs .1 .1 .1 .1 .0)) (List._∷_ Row.off (List._∷_ Row.off (List._∷_ Row.off (List._∷_ Row.off (List._∷_ Row.off
-            List.[]))))))))); }
+        G13 = record {
+          locals = List._++_ t9 t1;
+          slots = List._∷_ (Row.lease (κs .0) (qs .0)) (List._∷_ (Row.lease (κs .1 .0) (qs .1 .0)) (List._∷_ (Row.lease (κs .1 .1 .0) (qs .1 .1 .0)) (List._∷_ (Row.lease (κs
+              .1 .1 .1 .0) (qs .1 .1 .1 .0)) (List._∷_ (Row.lease (κs .1 .1 .1 .1 .0) (qs .1 .1 .1 .1 .0)) (List._∷_ Row.off (List._∷_ Row.off (List._∷_ Row.off (List._∷_ Row.off (List._∷_ Row.off
+              List.[])))))))));
+        }
 
         abbrev G14 : Row.Cx
-        G14 = record
-            { locals = List._++_ t9 t1; slots = List._∷_ (Row.lease (κs .0) (qs .0)) (List._∷_ (Row.lease (κs .1 .0) (qs .1 .0)) (List._∷_ (Row.lease (κs .1 .1 .0) (qs .1 .1 .0)) (List._∷_ (Row.lease (κs
-            .1 .1 .1 .0) (qs .1 .1 .1 .0)) (List._∷_ (Row.lease (κs .1 .1 .1 .1 .0) (qs .1 .1 .1 .1 .0)) (List._∷_ Row.alive (List._∷_ Row.off (List._∷_ Row.off (List._∷_ Row.off (List._∷_ Row.off
-            List.[]))))))))); }
+        G14 = record {
+          locals = List._++_ t9 t1;
+          slots = List._∷_ (Row.lease (κs .0) (qs .0)) (List._∷_ (Row.lease (κs .1 .0) (qs .1 .0)) (List._∷_ (Row.lease (κs .1 .1 .0) (qs .1 .1 .0)) (List._∷_ (Row.lease (κs
+              .1 .1 .1 .0) (qs .1 .1 .1 .0)) (List._∷_ (Row.lease (κs .1 .1 .1 .1 .0) (qs .1 .1 .1 .1 .0)) (List._∷_ Row.alive (List._∷_ Row.off (List._∷_ Row.off (List._∷_ Row.off (List._∷_ Row.off
+              List.[])))))))));
+        }
 
         abbrev G15 : Row.Cx
-        G15 = record
-            { locals = List._++_ g10 t1; slots = List._∷_ (Row.lease (κs .0) (qs .0)) (List._∷_ (Row.lease (κs .1 .0) (qs .1 .0)) (List._∷_ Row.off (List._∷_ (Row.lease (κs .1 .1 .1 .0) (qs .1 .1 .1 .0))
-            (List._∷_ (Row.lease (κs .1 .1 .1 .1 .0) (qs .1 .1 .1 .1 .0)) (List._∷_ Row.alive (List._∷_ Row.off (List._∷_ Row.off (List._∷_ Row.off (List._∷_ Row.off List.[]))))))))); }
+        G15 = record {
+          locals = List._++_ g10 t1;
+          slots = List._∷_ (Row.lease (κs .0) (qs .0)) (List._∷_ (Row.lease (κs .1 .0) (qs .1 .0)) (List._∷_ Row.off (List._∷_ (Row.lease (κs .1 .1 .1 .0) (qs .1 .1 .1 .0))
+              (List._∷_ (Row.lease (κs .1 .1 .1 .1 .0) (qs .1 .1 .1 .1 .0)) (List._∷_ Row.alive (List._∷_ Row.off (List._∷_ Row.off (List._∷_ Row.off (List._∷_ Row.off List.[])))))))));
+        }
 
         abbrev G16 : Row.Cx
-        G16 = record
-            { locals = List._++_ g11 t1; slots = List._∷_ (Row.lease (κs .0) (qs .0)) (List._∷_ (Row.lease (κs .1 .0) (qs .1 .0)) (List._∷_ Row.off (List._∷_ (Row.lease (κs .1 .1 .1 .0) (qs .1 .1 .1 .0))
-            (List._∷_ (Row.lease (κs .1 .1 .1 .1 .0) (qs .1 .1 .1 .1 .0)) (List._∷_ Row.alive (List._∷_ Row.off (List._∷_ Row.off (List._∷_ Row.off (List._∷_ Row.off List.[]))))))))); }
+        G16 = record {
+          locals = List._++_ g11 t1;
+          slots = List._∷_ (Row.lease (κs .0) (qs .0)) (List._∷_ (Row.lease (κs .1 .0) (qs .1 .0)) (List._∷_ Row.off (List._∷_ (Row.lease (κs .1 .1 .1 .0) (qs .1 .1 .1 .0))
+              (List._∷_ (Row.lease (κs .1 .1 .1 .1 .0) (qs .1 .1 .1 .1 .0)) (List._∷_ Row.alive (List._∷_ Row.off (List._∷_ Row.off (List._∷_ Row.off (List._∷_ Row.off List.[])))))))));
+        }
 
         abbrev G17 : Row.Cx
-        G17 = record
-            { locals = List._++_ g12 t1; slots = List._∷_ (Row.lease (κs .0) (qs .0)) (List._∷_ (Row.lease (κs .1 .0) (qs .1 .0)) (List._∷_ Row.off (List._∷_ (Row.lease (κs .1 .1 .1 .0) (qs .1 .1 .1 .0))
-            (List._∷_ (Row.lease (κs .1 .1 .1 .1 .0) (qs .1 .1 .1 .1 .0)) (List._∷_ Row.alive (List._∷_ Row.off (List._∷_ Row.off (List._∷_ Row.off (List._∷_ Row.off List.[]))))))))); }
+        G17 = record {
+          locals = List._++_ g12 t1;
+          slots = List._∷_ (Row.lease (κs .0) (qs .0)) (List._∷_ (Row.lease (κs .1 .0) (qs .1 .0)) (List._∷_ Row.off (List._∷_ (Row.lease (κs .1 .1 .1 .0) (qs .1 .1 .1 .0))
+              (List._∷_ (Row.lease (κs .1 .1 .1 .1 .0) (qs .1 .1 .1 .1 .0)) (List._∷_ Row.alive (List._∷_ Row.off (List._∷_ Row.off (List._∷_ Row.off (List._∷_ Row.off List.[])))))))));
+        }
 
         abbrev G18 : Row.Cx
-        G18 = record
-            { locals = List._++_ g13 t1; slots = List._∷_ (Row.lease (κs .0) (qs .0)) (List._∷_ (Row.lease (κs .1 .0) (qs .1 .0)) (List._∷_ Row.off (List._∷_ (Row.lease (κs .1 .1 .1 .0) (qs .1 .1 .1 .0))
-            (List._∷_ (Row.lease (κs .1 .1 .1 .1 .0) (qs .1 .1 .1 .1 .0)) (List._∷_ Row.alive (List._∷_ Row.off (List._∷_ Row.off (List._∷_ Row.off (List._∷_ Row.off List.[]))))))))); }
+        G18 = record {
+          locals = List._++_ g13 t1;
+          slots = List._∷_ (Row.lease (κs .0) (qs .0)) (List._∷_ (Row.lease (κs .1 .0) (qs .1 .0)) (List._∷_ Row.off (List._∷_ (Row.lease (κs .1 .1 .1 .0) (qs .1 .1 .1 .0))
+              (List._∷_ (Row.lease (κs .1 .1 .1 .1 .0) (qs .1 .1 .1 .1 .0)) (List._∷_ Row.alive (List._∷_ Row.off (List._∷_ Row.off (List._∷_ Row.off (List._∷_ Row.off List.[])))))))));
+        }
 
         abbrev G19 : Row.Cx
-        G19 = record
-            { locals = List._++_ g13 t1; slots = List._∷_ (Row.lease (κs .0) (qs .0)) (List._∷_ (Row.lease (κs .1 .0) (qs .1 .0)) (List._∷_ Row.off (List._∷_ (Row.lease (κs .1 .1 .1 .0) (qs .1 .1 .1 .0))
-            (List._∷_ (Row.lease (κs .1 .1 .1 .1 .0) (qs .1 .1 .1 .1 .0)) (List._∷_ Row.dead (List._∷_ Row.off (List._∷_ Row.off (List._∷_ Row.off (List._∷_ Row.off List.[]))))))))); }
+        G19 = record {
+          locals = List._++_ g13 t1;
+          slots = List._∷_ (Row.lease (κs .0) (qs .0)) (List._∷_ (Row.lease (κs .1 .0) (qs .1 .0)) (List._∷_ Row.off (List._∷_ (Row.lease (κs .1 .1 .1 .0) (qs .1 .1 .1 .0))
+              (List._∷_ (Row.lease (κs .1 .1 .1 .1 .0) (qs .1 .1 .1 .1 .0)) (List._∷_ Row.dead (List._∷_ Row.off (List._∷_ Row.off (List._∷_ Row.off (List._∷_ Row.off List.[])))))))));
+        }
 
         abbrev G20 : Row.Cx
-        G20 = record
-            { locals = List._++_ t9 t1; slots = List._∷_ (Row.lease (κs .0) (qs .0)) (List._∷_ (Row.lease (κs .1 .0) (qs .1 .0)) (List._∷_ (Row.lease (κs .1 .1 .0) (qs .1 .1 .0)) (List._∷_ (Row.lease (κs
-            .1 .1 .1 .0) (qs .1 .1 .1 .0)) (List._∷_ (Row.lease (κs .1 .1 .1 .1 .0) (qs .1 .1 .1 .1 .0)) (List._∷_ Row.dead (List._∷_ Row.off (List._∷_ Row.off (List._∷_ Row.off (List._∷_ Row.off
-            List.[]))))))))); }
+        G20 = record {
+          locals = List._++_ t9 t1;
+          slots = List._∷_ (Row.lease (κs .0) (qs .0)) (List._∷_ (Row.lease (κs .1 .0) (qs .1 .0)) (List._∷_ (Row.lease (κs .1 .1 .0) (qs .1 .1 .0)) (List._∷_ (Row.lease (κs
+              .1 .1 .1 .0) (qs .1 .1 .1 .0)) (List._∷_ (Row.lease (κs .1 .1 .1 .1 .0) (qs .1 .1 .1 .1 .0)) (List._∷_ Row.dead (List._∷_ Row.off (List._∷_ Row.off (List._∷_ Row.off (List._∷_ Row.off
+              List.[])))))))));
+        }
 
         abbrev G21 : Row.Cx
-        G21 = record
-            { locals = List._++_ t9 t1; slots = List._∷_ (Row.lease (κs .0) (qs .0)) (List._∷_ (Row.lease (κs .1 .0) (qs .1 .0)) (List._∷_ (Row.lease (κs .1 .1 .0) (qs .1 .1 .0)) (List._∷_ (Row.lease (κs
-            .1 .1 .1 .0) (qs .1 .1 .1 .0)) (List._∷_ (Row.lease (κs .1 .1 .1 .1 .0) (qs .1 .1 .1 .1 .0)) (List._∷_ Row.dead (List._∷_ Row.off (List._∷_ Row.off (List._∷_ Row.off (List._∷_ Row.off
-            List.[]))))))))); }
+        G21 = record {
+          locals = List._++_ t9 t1;
+          slots = List._∷_ (Row.lease (κs .0) (qs .0)) (List._∷_ (Row.lease (κs .1 .0) (qs .1 .0)) (List._∷_ (Row.lease (κs .1 .1 .0) (qs .1 .1 .0)) (List._∷_ (Row.lease (κs
+              .1 .1 .1 .0) (qs .1 .1 .1 .0)) (List._∷_ (Row.lease (κs .1 .1 .1 .1 .0) (qs .1 .1 .1 .1 .0)) (List._∷_ Row.dead (List._∷_ Row.off (List._∷_ Row.off (List._∷_ Row.off (List._∷_ Row.off
+              List.[])))))))));
+        }
 
         abbrev G22 : Row.Cx
-        G22 = record
-            { locals = List._++_ t9 t1; slots = List._∷_ (Row.lease (κs .0) (qs .0)) (List._∷_ (Row.lease (κs .1 .0) (qs .1 .0)) (List._∷_ (Row.lease (κs .1 .1 .0) (qs .1 .1 .0)) (List._∷_ (Row.lease (κs
-            .1 .1 .1 .0) (qs .1 .1 .1 .0)) (List._∷_ (Row.lease (κs .1 .1 .1 .1 .0) (qs .1 .1 .1 .1 .0)) (List._∷_ Row.off (List._∷_ Row.off (List._∷_ Row.off (List._∷_ Row.off (List._∷_ Row.off
-            List.[]))))))))); }
+        G22 = record {
+          locals = List._++_ t9 t1;
+          slots = List._∷_ (Row.lease (κs .0) (qs .0)) (List._∷_ (Row.lease (κs .1 .0) (qs .1 .0)) (List._∷_ (Row.lease (κs .1 .1 .0) (qs .1 .1 .0)) (List._∷_ (Row.lease (κs
+              .1 .1 .1 .0) (qs .1 .1 .1 .0)) (List._∷_ (Row.lease (κs .1 .1 .1 .1 .0) (qs .1 .1 .1 .1 .0)) (List._∷_ Row.off (List._∷_ Row.off (List._∷_ Row.off (List._∷_ Row.off (List._∷_ Row.off
+              List.[])))))))));
+        }
 
         abbrev G23 : Row.Cx
-        G23 = record
-            { locals = List._++_ t9 t1; slots = List._∷_ (Row.lease (κs .0) (qs .0)) (List._∷_ (Row.lease (κs .1 .0) (qs .1 .0)) (List._∷_ (Row.lease (κs .1 .1 .0) (qs .1 .1 .0)) (List._∷_ (Row.lease (κs
-            .1 .1 .1 .0) (qs .1 .1 .1 .0)) (List._∷_ (Row.lease (κs .1 .1 .1 .1 .0) (qs .1 .1 .1 .1 .0)) (List._∷_ Row.off (List._∷_ Row.alive (List._∷_ Row.off (List._∷_ Row.off (List._∷_ Row.off
-            List.[]))))))))); }
+        G23 = record {
+          locals = List._++_ t9 t1;
+          slots = List._∷_ (Row.lease (κs .0) (qs .0)) (List._∷_ (Row.lease (κs .1 .0) (qs .1 .0)) (List._∷_ (Row.lease (κs .1 .1 .0) (qs .1 .1 .0)) (List._∷_ (Row.lease (κs
+              .1 .1 .1 .0) (qs .1 .1 .1 .0)) (List._∷_ (Row.lease (κs .1 .1 .1 .1 .0) (qs .1 .1 .1 .1 .0)) (List._∷_ Row.off (List._∷_ Row.alive (List._∷_ Row.off (List._∷_ Row.off (List._∷_ Row.off
+              List.[])))))))));
+        }
 
         abbrev G24 : Row.Cx
-        G24 = record
-            { locals = List._++_ g14 t15; slots = List._∷_ (Row.lease (κs .0) (qs .0)) (List._∷_ (Row.lease (κs .1 .0) (qs .1 .0)) (List._∷_ (Row.lease (κs .1 .1 .0) (qs .1 .1 .0)) (List._∷_ Row.off
-            (List._∷_ (Row.lease (κs .1 .1 .1 .1 .0) (qs .1 .1 .1 .1 .0)) (List._∷_ Row.off (List._∷_ Row.alive (List._∷_ Row.off (List._∷_ Row.off (List._∷_ Row.off List.[]))))))))); }
+        G24 = record {
+          locals = List._++_ g14 t15;
+          slots = List._∷_ (Row.lease (κs .0) (qs .0)) (List._∷_ (Row.lease (κs .1 .0) (qs .1 .0)) (List._∷_ (Row.lease (κs .1 .1 .0) (qs .1 .1 .0)) (List._∷_ Row.off
+              (List._∷_ (Row.lease (κs .1 .1 .1 .1 .0) (qs .1 .1 .1 .1 .0)) (List._∷_ Row.off (List._∷_ Row.alive (List._∷_ Row.off (List._∷_ Row.off (List._∷_ Row.off List.[])))))))));
+        }
 
         abbrev G25 : Row.Cx
-        G25 = record
-            { locals = List._++_ g14 t16; slots = List._∷_ (Row.lease (κs .0) (qs .0)) (List._∷_ (Row.lease (κs .1 .0) (qs .1 .0)) (List._∷_ (Row.lease (κs .1 .1 .0) (qs .1 .1 .0)) (List._∷_ Row.off
-            (List._∷_ (Row.lease (κs .1 .1 .1 .1 .0) (qs .1 .1 .1 .1 .0)) (List._∷_ Row.off (List._∷_ Row.alive (List._∷_ Row.off (List._∷_ Row.off (List._∷_ Row.off List.[]))))))))); }
+        G25 = record {
+          locals = List._++_ g14 t16;
+          slots = List._∷_ (Row.lease (κs .0) (qs .0)) (List._∷_ (Row.lease (κs .1 .0) (qs .1 .0)) (List._∷_ (Row.lease (κs .1 .1 .0) (qs .1 .1 .0)) (List._∷_ Row.off
+              (List._∷_ (Row.lease (κs .1 .1 .1 .1 .0) (qs .1 .1 .1 .1 .0)) (List._∷_ Row.off (List._∷_ Row.alive (List._∷_ Row.off (List._∷_ Row.off (List._∷_ Row.off List.[])))))))));
+        }
 
         abbrev G26 : Row.Cx
-        G26 = record
-            { locals = List._++_ g17 t18; slots = List._∷_ (Row.lease (κs .0) (qs .0)) (List._∷_ (Row.lease (κs .1 .0) (qs .1 .0)) (List._∷_ (Row.lease (κs .1 .1 .0) (qs .1 .1 .0)) (List._∷_ Row.off
-            (List._∷_ (Row.lease (κs .1 .1 .1 .1 .0) (qs .1 .1 .1 .1 .0)) (List._∷_ Row.off (List._∷_ Row.alive (List._∷_ Row.off (List._∷_ Row.off (List._∷_ Row.off List.[]))))))))); }
+        G26 = record {
+          locals = List._++_ g17 t18;
+          slots = List._∷_ (Row.lease (κs .0) (qs .0)) (List._∷_ (Row.lease (κs .1 .0) (qs .1 .0)) (List._∷_ (Row.lease (κs .1 .1 .0) (qs .1 .1 .0)) (List._∷_ Row.off
+              (List._∷_ (Row.lease (κs .1 .1 .1 .1 .0) (qs .1 .1 .1 .1 .0)) (List._∷_ Row.off (List._∷_ Row.alive (List._∷_ Row.off (List._∷_ Row.off (List._∷_ Row.off List.[])))))))));
+        }
 
         abbrev G27 : Row.Cx
-        G27 = record
-            { locals = List._++_ g14 t18; slots = List._∷_ (Row.lease (κs .0) (qs .0)) (List._∷_ (Row.lease (κs .1 .0) (qs .1 .0)) (List._∷_ (Row.lease (κs .1 .1 .0) (qs .1 .1 .0)) (List._∷_ Row.off
-            (List._∷_ (Row.lease (κs .1 .1 .1 .1 .0) (qs .1 .1 .1 .1 .0)) (List._∷_ Row.off (List._∷_ Row.alive (List._∷_ Row.off (List._∷_ Row.off (List._∷_ Row.off List.[]))))))))); }
+        G27 = record {
+          locals = List._++_ g14 t18;
+          slots = List._∷_ (Row.lease (κs .0) (qs .0)) (List._∷_ (Row.lease (κs .1 .0) (qs .1 .0)) (List._∷_ (Row.lease (κs .1 .1 .0) (qs .1 .1 .0)) (List._∷_ Row.off
+              (List._∷_ (Row.lease (κs .1 .1 .1 .1 .0) (qs .1 .1 .1 .1 .0)) (List._∷_ Row.off (List._∷_ Row.alive (List._∷_ Row.off (List._∷_ Row.off (List._∷_ Row.off List.[])))))))));
+        }
 
         abbrev G28 : Row.Cx
-        G28 = record
-            { locals = List._++_ g14 t18; slots = List._∷_ (Row.lease (κs .0) (qs .0)) (List._∷_ (Row.lease (κs .1 .0) (qs .1 .0)) (List._∷_ (Row.lease (κs .1 .1 .0) (qs .1 .1 .0)) (List._∷_ Row.off
-            (List._∷_ (Row.lease (κs .1 .1 .1 .1 .0) (qs .1 .1 .1 .1 .0)) (List._∷_ Row.off (List._∷_ Row.dead (List._∷_ Row.off (List._∷_ Row.off (List._∷_ Row.off List.[]))))))))); }
+        G28 = record {
+          locals = List._++_ g14 t18;
+          slots = List._∷_ (Row.lease (κs .0) (qs .0)) (List._∷_ (Row.lease (κs .1 .0) (qs .1 .0)) (List._∷_ (Row.lease (κs .1 .1 .0) (qs .1 .1 .0)) (List._∷_ Row.off
+              (List._∷_ (Row.lease (κs .1 .1 .1 .1 .0) (qs .1 .1 .1 .1 .0)) (List._∷_ Row.off (List._∷_ Row.dead (List._∷_ Row.off (List._∷_ Row.off (List._∷_ Row.off List.[])))))))));
+        }
 
         abbrev G29 : Row.Cx
-        G29 = record
-            { locals = List._++_ t9 t1; slots = List._∷_ (Row.lease (κs .0) (qs .0)) (List._∷_ (Row.lease (κs .1 .0) (qs .1 .0)) (List._∷_ (Row.lease (κs .1 .1 .0) (qs .1 .1 .0)) (List._∷_ (Row.lease (κs
-            .1 .1 .1 .0) (qs .1 .1 .1 .0)) (List._∷_ (Row.lease (κs .1 .1 .1 .1 .0) (qs .1 .1 .1 .1 .0)) (List._∷_ Row.off (List._∷_ Row.dead (List._∷_ Row.off (List._∷_ Row.off (List._∷_ Row.off
-            List.[]))))))))); }
+        G29 = record {
+          locals = List._++_ t9 t1;
+          slots = List._∷_ (Row.lease (κs .0) (qs .0)) (List._∷_ (Row.lease (κs .1 .0) (qs .1 .0)) (List._∷_ (Row.lease (κs .1 .1 .0) (qs .1 .1 .0)) (List._∷_ (Row.lease (κs
+              .1 .1 .1 .0) (qs .1 .1 .1 .0)) (List._∷_ (Row.lease (κs .1 .1 .1 .1 .0) (qs .1 .1 .1 .1 .0)) (List._∷_ Row.off (List._∷_ Row.dead (List._∷_ Row.off (List._∷_ Row.off (List._∷_ Row.off
+              List.[])))))))));
+        }
 
         abbrev G30 : Row.Cx
-        G30 = record
-            { locals = List._++_ t9 t1; slots = List._∷_ (Row.lease (κs .0) (qs .0)) (List._∷_ (Row.lease (κs .1 .0) (qs .1 .0)) (List._∷_ (Row.lease (κs .1 .1 .0) (qs .1 .1 .0)) (List._∷_ (Row.lease (κs
-            .1 .1 .1 .0) (qs .1 .1 .1 .0)) (List._∷_ (Row.lease (κs .1 .1 .1 .1 .0) (qs .1 .1 .1 .1 .0)) (List._∷_ Row.off (List._∷_ Row.off (List._∷_ Row.off (List._∷_ Row.off (List._∷_ Row.off
-            List.[]))))))))); }
+        G30 = record {
+          locals = List._++_ t9 t1;
+          slots = List._∷_ (Row.lease (κs .0) (qs .0)) (List._∷_ (Row.lease (κs .1 .0) (qs .1 .0)) (List._∷_ (Row.lease (κs .1 .1 .0) (qs .1 .1 .0)) (List._∷_ (Row.lease (κs
+              .1 .1 .1 .0) (qs .1 .1 .1 .0)) (List._∷_ (Row.lease (κs .1 .1 .1 .1 .0) (qs .1 .1 .1 .1 .0)) (List._∷_ Row.off (List._∷_ Row.off (List._∷_ Row.off (List._∷_ Row.off (List._∷_ Row.off
+              List.[])))))))));
+        }
 
         abbrev G31 : Row.Cx
-        G31 = record
-            { locals = List._++_ t9 t19; slots = List._∷_ (Row.lease (κs .0) (qs .0)) (List._∷_ (Row.lease (κs .1 .0) (qs .1 .0)) (List._∷_ (Row.lease (κs .1 .1 .0) (qs .1 .1 .0)) (List._∷_ (Row.lease (κs
-            .1 .1 .1 .0) (qs .1 .1 .1 .0)) (List._∷_ (Row.lease (κs .1 .1 .1 .1 .0) (qs .1 .1 .1 .1 .0)) (List._∷_ Row.off (List._∷_ Row.off (List._∷_ Row.off (List._∷_ Row.off (List._∷_ Row.off
-            List.[]))))))))); }
+        G31 = record {
+          locals = List._++_ t9 t19;
+          slots = List._∷_ (Row.lease (κs .0) (qs .0)) (List._∷_ (Row.lease (κs .1 .0) (qs .1 .0)) (List._∷_ (Row.lease (κs .1 .1 .0) (qs .1 .1 .0)) (List._∷_ (Row.lease (κs
+              .1 .1 .1 .0) (qs .1 .1 .1 .0)) (List._∷_ (Row.lease (κs .1 .1 .1 .1 .0) (qs .1 .1 .1 .1 .0)) (List._∷_ Row.off (List._∷_ Row.off (List._∷_ Row.off (List._∷_ Row.off (List._∷_ Row.off
+              List.[])))))))));
+        }
 
         abbrev G32 : Row.Cx
-        G32 = record
-            { locals = List._++_ t20 t19; slots = List._∷_ (Row.lease (κs .0) (qs .0)) (List._∷_ (Row.lease (κs .1 .0) (qs .1 .0)) (List._∷_ (Row.lease (κs .1 .1 .0) (qs .1 .1 .0)) (List._∷_ (Row.lease
-            (κs .1 .1 .1 .0) (qs .1 .1 .1 .0)) (List._∷_ (Row.lease (κs .1 .1 .1 .1 .0) (qs .1 .1 .1 .1 .0)) (List._∷_ Row.off (List._∷_ Row.off (List._∷_ Row.off (List._∷_ Row.off (List._∷_ Row.off
-            List.[]))))))))); }
+        G32 = record {
+          locals = List._++_ t20 t19;
+          slots = List._∷_ (Row.lease (κs .0) (qs .0)) (List._∷_ (Row.lease (κs .1 .0) (qs .1 .0)) (List._∷_ (Row.lease (κs .1 .1 .0) (qs .1 .1 .0)) (List._∷_ (Row.lease
+              (κs .1 .1 .1 .0) (qs .1 .1 .1 .0)) (List._∷_ (Row.lease (κs .1 .1 .1 .1 .0) (qs .1 .1 .1 .1 .0)) (List._∷_ Row.off (List._∷_ Row.off (List._∷_ Row.off (List._∷_ Row.off (List._∷_ Row.off
+              List.[])))))))));
+        }
 
         abbrev G33 : Row.Cx
-        G33 = record
-            { locals = List._++_ t20 t1; slots = List._∷_ (Row.lease (κs .0) (qs .0)) (List._∷_ (Row.lease (κs .1 .0) (qs .1 .0)) (List._∷_ (Row.lease (κs .1 .1 .0) (qs .1 .1 .0)) (List._∷_ (Row.lease (κs
-            .1 .1 .1 .0) (qs .1 .1 .1 .0)) (List._∷_ (Row.lease (κs .1 .1 .1 .1 .0) (qs .1 .1 .1 .1 .0)) (List._∷_ Row.off (List._∷_ Row.off (List._∷_ Row.off (List._∷_ Row.off (List._∷_ Row.off
-            List.[]))))))))); }
+        G33 = record {
+          locals = List._++_ t20 t1;
+          slots = List._∷_ (Row.lease (κs .0) (qs .0)) (List._∷_ (Row.lease (κs .1 .0) (qs .1 .0)) (List._∷_ (Row.lease (κs .1 .1 .0) (qs .1 .1 .0)) (List._∷_ (Row.lease (κs
+              .1 .1 .1 .0) (qs .1 .1 .1 .0)) (List._∷_ (Row.lease (κs .1 .1 .1 .1 .0) (qs .1 .1 .1 .1 .0)) (List._∷_ Row.off (List._∷_ Row.off (List._∷_ Row.off (List._∷_ Row.off (List._∷_ Row.off
+              List.[])))))))));
+        }
 
         abbrev G34 : Row.Cx
-        G34 = record
-            { locals = List._++_ t21 t1; slots = List._∷_ (Row.lease (κs .0) (qs .0)) (List._∷_ (Row.lease (κs .1 .0) (qs .1 .0)) (List._∷_ (Row.lease (κs .1 .1 .0) (qs .1 .1 .0)) (List._∷_ (Row.lease (κs
-            .1 .1 .1 .0) (qs .1 .1 .1 .0)) (List._∷_ (Row.lease (κs .1 .1 .1 .1 .0) (qs .1 .1 .1 .1 .0)) (List._∷_ Row.off (List._∷_ Row.off (List._∷_ Row.off (List._∷_ Row.off (List._∷_ Row.off
-            List.[]))))))))); }
+        G34 = record {
+          locals = List._++_ t21 t1;
+          slots = List._∷_ (Row.lease (κs .0) (qs .0)) (List._∷_ (Row.lease (κs .1 .0) (qs .1 .0)) (List._∷_ (Row.lease (κs .1 .1 .0) (qs .1 .1 .0)) (List._∷_ (Row.lease (κs
+              .1 .1 .1 .0) (qs .1 .1 .1 .0)) (List._∷_ (Row.lease (κs .1 .1 .1 .1 .0) (qs .1 .1 .1 .1 .0)) (List._∷_ Row.off (List._∷_ Row.off (List._∷_ Row.off (List._∷_ Row.off (List._∷_ Row.off
+              List.[])))))))));
+        }
 
         abbrev G35 : Row.Cx
-        G35 = record
-            { locals = List._++_ t22 t1; slots = List._∷_ (Row.lease (κs .0) (qs .0)) (List._∷_ (Row.lease (κs .1 .0) (qs .1 .0)) (List._∷_ (Row.lease (κs .1 .1 .0) (qs .1 .1 .0)) (List._∷_ (Row.lease (κs
-            .1 .1 .1 .0) (qs .1 .1 .1 .0)) (List._∷_ (Row.lease (κs .1 .1 .1 .1 .0) (qs .1 .1 .1 .1 .0)) (List._∷_ Row.off (List._∷_ Row.off (List._∷_ Row.off (List._∷_ Row.off (List._∷_ Row.off
-            List.[]))))))))); }
+        G35 = record {
+          locals = List._++_ t22 t1;
+          slots = List._∷_ (Row.lease (κs .0) (qs .0)) (List._∷_ (Row.lease (κs .1 .0) (qs .1 .0)) (List._∷_ (Row.lease (κs .1 .1 .0) (qs .1 .1 .0)) (List._∷_ (Row.lease (κs
+              .1 .1 .1 .0) (qs .1 .1 .1 .0)) (List._∷_ (Row.lease (κs .1 .1 .1 .1 .0) (qs .1 .1 .1 .1 .0)) (List._∷_ Row.off (List._∷_ Row.off (List._∷_ Row.off (List._∷_ Row.off (List._∷_ Row.off
+              List.[])))))))));
+        }
 
         abbrev G36 : Row.Cx
-        G36 = record
-            { locals = List._++_ t23 t1; slots = List._∷_ (Row.lease (κs .0) (qs .0)) (List._∷_ (Row.lease (κs .1 .0) (qs .1 .0)) (List._∷_ (Row.lease (κs .1 .1 .0) (qs .1 .1 .0)) (List._∷_ (Row.lease (κs
-            .1 .1 .1 .0) (qs .1 .1 .1 .0)) (List._∷_ (Row.lease (κs .1 .1 .1 .1 .0) (qs .1 .1 .1 .1 .0)) (List._∷_ Row.off (List._∷_ Row.off (List._∷_ Row.off (List._∷_ Row.off (List._∷_ Row.off
-            List.[]))))))))); }
+        G36 = record {
+          locals = List._++_ t23 t1;
+          slots = List._∷_ (Row.lease (κs .0) (qs .0)) (List._∷_ (Row.lease (κs .1 .0) (qs .1 .0)) (List._∷_ (Row.lease (κs .1 .1 .0) (qs .1 .1 .0)) (List._∷_ (Row.lease (κs
+              .1 .1 .1 .0) (qs .1 .1 .1 .0)) (List._∷_ (Row.lease (κs .1 .1 .1 .1 .0) (qs .1 .1 .1 .1 .0)) (List._∷_ Row.off (List._∷_ Row.off (List._∷_ Row.off (List._∷_ Row.off (List._∷_ Row.off
+              List.[])))))))));
+        }
 
         abbrev G37 : Row.Cx
-        G37 = record
-            { locals = List._++_ t2 t1; slots = List._∷_ (Row.lease (κs .0) (qs .0)) (List._∷_ (Row.lease (κs .1 .0) (qs .1 .0)) (List._∷_ (Row.lease (κs .1 .1 .0) (qs .1 .1 .0)) (List._∷_ (Row.lease (κs
-            .1 .1 .1 .0) (qs .1 .1 .1 .0)) (List._∷_ (Row.lease (κs .1 .1 .1 .1 .0) (qs .1 .1 .1 .1 .0)) (List._∷_ Row.off (List._∷_ Row.off (List._∷_ Row.off (List._∷_ Row.off (List._∷_ Row.off
-            List.[]))))))))); }
+        G37 = record {
+          locals = List._++_ t2 t1;
+          slots = List._∷_ (Row.lease (κs .0) (qs .0)) (List._∷_ (Row.lease (κs .1 .0) (qs .1 .0)) (List._∷_ (Row.lease (κs .1 .1 .0) (qs .1 .1 .0)) (List._∷_ (Row.lease (κs
+              .1 .1 .1 .0) (qs .1 .1 .1 .0)) (List._∷_ (Row.lease (κs .1 .1 .1 .1 .0) (qs .1 .1 .1 .1 .0)) (List._∷_ Row.off (List._∷_ Row.off (List._∷_ Row.off (List._∷_ Row.off (List._∷_ Row.off
+              List.[])))))))));
+        }
 
         abbrev G38 : Row.Cx
-        G38 = record
-            { locals = List._++_ t4 t1; slots = List._∷_ (Row.lease (κs .0) (qs .0)) (List._∷_ (Row.lease (κs .1 .0) (qs .1 .0)) (List._∷_ (Row.lease (κs .1 .1 .0) (qs .1 .1 .0)) (List._∷_ (Row.lease (κs
-            .1 .1 .1 .0) (qs .1 .1 .1 .0)) (List._∷_ (Row.lease (κs .1 .1 .1 .1 .0) (qs .1 .1 .1 .1 .0)) (List._∷_ Row.off (List._∷_ Row.off (List._∷_ Row.off (List._∷_ Row.off (List._∷_ Row.off
-            List.[]))))))))); }
+        G38 = record {
+          locals = List._++_ t4 t1;
+          slots = List._∷_ (Row.lease (κs .0) (qs .0)) (List._∷_ (Row.lease (κs .1 .0) (qs .1 .0)) (List._∷_ (Row.lease (κs .1 .1 .0) (qs .1 .1 .0)) (List._∷_ (Row.lease (κs
+              .1 .1 .1 .0) (qs .1 .1 .1 .0)) (List._∷_ (Row.lease (κs .1 .1 .1 .1 .0) (qs .1 .1 .1 .1 .0)) (List._∷_ Row.off (List._∷_ Row.off (List._∷_ Row.off (List._∷_ Row.off (List._∷_ Row.off
+              List.[])))))))));
+        }
 
         abbrev G39 : Row.Cx
-        G39 = record
-            { locals = List._++_ t4 t1; slots = List._∷_ (Row.lease (κs .0) (qs .0)) (List._∷_ (Row.lease (κs .1 .0) (qs .1 .0)) (List._∷_ (Row.lease (κs .1 .1 .0) (qs .1 .1 .0)) (List._∷_ (Row.lease (κs
-            .1 .1 .1 .0) (qs .1 .1 .1 .0)) (List._∷_ (Row.lease (κs .1 .1 .1 .1 .0) (qs .1 .1 .1 .1 .0)) (List._∷_ Row.off (List._∷_ Row.off (List._∷_ Row.alive (List._∷_ Row.off (List._∷_ Row.off
-            List.[]))))))))); }
+        G39 = record {
+          locals = List._++_ t4 t1;
+          slots = List._∷_ (Row.lease (κs .0) (qs .0)) (List._∷_ (Row.lease (κs .1 .0) (qs .1 .0)) (List._∷_ (Row.lease (κs .1 .1 .0) (qs .1 .1 .0)) (List._∷_ (Row.lease (κs
+              .1 .1 .1 .0) (qs .1 .1 .1 .0)) (List._∷_ (Row.lease (κs .1 .1 .1 .1 .0) (qs .1 .1 .1 .1 .0)) (List._∷_ Row.off (List._∷_ Row.off (List._∷_ Row.alive (List._∷_ Row.off (List._∷_ Row.off
+              List.[])))))))));
+        }
 
         abbrev G40 : Row.Cx
-        G40 = record
-            { locals = List._++_ g24 t25; slots = List._∷_ (Row.lease (κs .0) (qs .0)) (List._∷_ Row.off (List._∷_ (Row.lease (κs .1 .1 .0) (qs .1 .1 .0)) (List._∷_ (Row.lease (κs .1 .1 .1 .0) (qs .1 .1
-            .1 .0)) (List._∷_ (Row.lease (κs .1 .1 .1 .1 .0) (qs .1 .1 .1 .1 .0)) (List._∷_ Row.off (List._∷_ Row.off (List._∷_ Row.alive (List._∷_ Row.off (List._∷_ Row.off List.[]))))))))); }
+        G40 = record {
+          locals = List._++_ g24 t25;
+          slots = List._∷_ (Row.lease (κs .0) (qs .0)) (List._∷_ Row.off (List._∷_ (Row.lease (κs .1 .1 .0) (qs .1 .1 .0)) (List._∷_ (Row.lease (κs .1 .1 .1 .0) (qs .1 .1
+              .1 .0)) (List._∷_ (Row.lease (κs .1 .1 .1 .1 .0) (qs .1 .1 .1 .1 .0)) (List._∷_ Row.off (List._∷_ Row.off (List._∷_ Row.alive (List._∷_ Row.off (List._∷_ Row.off List.[])))))))));
+        }
 
         abbrev G41 : Row.Cx
-        G41 = record
-            { locals = List._++_ g24 t26; slots = List._∷_ (Row.lease (κs .0) (qs .0)) (List._∷_ Row.off (List._∷_ (Row.lease (κs .1 .1 .0) (qs .1 .1 .0)) (List._∷_ (Row.lease (κs .1 .1 .1 .0) (qs .1 .1
-            .1 .0)) (List._∷_ (Row.lease (κs .1 .1 .1 .1 .0) (qs .1 .1 .1 .1 .0)) (List._∷_ Row.off (List._∷_ Row.off (List._∷_ Row.alive (List._∷_ Row.off (List._∷_ Row.off List.[]))))))))); }
+        G41 = record {
+          locals = List._++_ g24 t26;
+          slots = List._∷_ (Row.lease (κs .0) (qs .0)) (List._∷_ Row.off (List._∷_ (Row.lease (κs .1 .1 .0) (qs .1 .1 .0)) (List._∷_ (Row.lease (κs .1 .1 .1 .0) (qs .1 .1
+              .1 .0)) (List._∷_ (Row.lease (κs .1 .1 .1 .1 .0) (qs .1 .1 .1 .1 .0)) (List._∷_ Row.off (List._∷_ Row.off (List._∷_ Row.alive (List._∷_ Row.off (List._∷_ Row.off List.[])))))))));
+        }
 
         abbrev G42 : Row.Cx
-        G42 = record
-            { locals = List._++_ g24 t26; slots = List._∷_ (Row.lease (κs .0) (qs .0)) (List._∷_ Row.off (List._∷_ (Row.lease (κs .1 .1 .0) (qs .1 .1 .0)) (List._∷_ (Row.lease (κs .1 .1 .1 .0) (qs .1 .1
-            .1 .0)) (List._∷_ (Row.lease (κs .1 .1 .1 .1 .0) (qs .1 .1 .1 .1 .0)) (List._∷_ Row.off (List._∷_ Row.off (List._∷_ Row.alive (List._∷_ Row.alive (List._∷_ Row.off List.[]))))))))); }
+        G42 = record {
+          locals = List._++_ g24 t26;
+          slots = List._∷_ (Row.lease (κs .0) (qs .0)) (List._∷_ Row.off (List._∷_ (Row.lease (κs .1 .1 .0) (qs .1 .1 .0)) (List._∷_ (Row.lease (κs .1 .1 .1 .0) (qs .1 .1
+              .1 .0)) (List._∷_ (Row.lease (κs .1 .1 .1 .1 .0) (qs .1 .1 .1 .1 .0)) (List._∷_ Row.off (List._∷_ Row.off (List._∷_ Row.alive (List._∷_ Row.alive (List._∷_ Row.off List.[])))))))));
+        }
 
         abbrev G43 : Row.Cx
-        G43 = record
-            { locals = List._++_ g27 t28; slots = List._∷_ (Row.lease (κs .0) (qs .0)) (List._∷_ Row.off (List._∷_ Row.off (List._∷_ (Row.lease (κs .1 .1 .1 .0) (qs .1 .1 .1 .0)) (List._∷_ (Row.lease (κs
-            .1 .1 .1 .1 .0) (qs .1 .1 .1 .1 .0)) (List._∷_ Row.off (List._∷_ Row.off (List._∷_ Row.alive (List._∷_ Row.alive (List._∷_ Row.off List.[]))))))))); }
+        G43 = record {
+          locals = List._++_ g27 t28;
+          slots = List._∷_ (Row.lease (κs .0) (qs .0)) (List._∷_ Row.off (List._∷_ Row.off (List._∷_ (Row.lease (κs .1 .1 .1 .0) (qs .1 .1 .1 .0)) (List._∷_ (Row.lease (κs
+              .1 .1 .1 .1 .0) (qs .1 .1 .1 .1 .0)) (List._∷_ Row.off (List._∷_ Row.off (List._∷_ Row.alive (List._∷_ Row.alive (List._∷_ Row.off List.[])))))))));
+        }
 
         abbrev G44 : Row.Cx
-        G44 = record
-            { locals = List._++_ g27 t29; slots = List._∷_ (Row.lease (κs .0) (qs .0)) (List._∷_ Row.off (List._∷_ Row.off (List._∷_ (Row.lease (κs .1 .1 .1 .0) (qs .1 .1 .1 .0)) (List._∷_ (Row.lease (κs
-            .1 .1 .1 .1 .0) (qs .1 .1 .1 .1 .0)) (List._∷_ Row.off (List._∷_ Row.off (List._∷_ Row.alive (List._∷_ Row.alive (List._∷_ Row.off List.[]))))))))); }
+        G44 = record {
+          locals = List._++_ g27 t29;
+          slots = List._∷_ (Row.lease (κs .0) (qs .0)) (List._∷_ Row.off (List._∷_ Row.off (List._∷_ (Row.lease (κs .1 .1 .1 .0) (qs .1 .1 .1 .0)) (List._∷_ (Row.lease (κs
+              .1 .1 .1 .1 .0) (qs .1 .1 .1 .1 .0)) (List._∷_ Row.off (List._∷_ Row.off (List._∷_ Row.alive (List._∷_ Row.alive (List._∷_ Row.off List.[])))))))));
+        }
 
         abbrev G45 : Row.Cx
-        G45 = record
-            { locals = List._++_ g27 t29; slots = List._∷_ (Row.lease (κs .0) (qs .0)) (List._∷_ Row.off (List._∷_ Row.off (List._∷_ (Row.lease (κs .1 .1 .1 .0) (qs .1 .1 .1 .0)) (List._∷_ (Row.lease (κs
-            .1 .1 .1 .1 .0) (qs .1 .1 .1 .1 .0)) (List._∷_ Row.off (List._∷_ Row.off (List._∷_ Row.alive (List._∷_ Row.alive (List._∷_ Row.alive List.[]))))))))); }
+        G45 = record {
+          locals = List._++_ g27 t29;
+          slots = List._∷_ (Row.lease (κs .0) (qs .0)) (List._∷_ Row.off (List._∷_ Row.off (List._∷_ (Row.lease (κs .1 .1 .1 .0) (qs .1 .1 .1 .0)) (List._∷_ (Row.lease (κs
+              .1 .1 .1 .1 .0) (qs .1 .1 .1 .1 .0)) (List._∷_ Row.off (List._∷_ Row.off (List._∷_ Row.alive (List._∷_ Row.alive (List._∷_ Row.alive List.[])))))))));
+        }
 
         abbrev G46 : Row.Cx
-        G46 = record
-            { locals = List._++_ g30 t31; slots = List._∷_ (Row.lease (κs .0) (qs .0)) (List._∷_ Row.off (List._∷_ Row.off (List._∷_ Row.off (List._∷_ (Row.lease (κs .1 .1 .1 .1 .0) (qs .1 .1 .1 .1 .0))
-            (List._∷_ Row.off (List._∷_ Row.off (List._∷_ Row.alive (List._∷_ Row.alive (List._∷_ Row.alive List.[]))))))))); }
+        G46 = record {
+          locals = List._++_ g30 t31;
+          slots = List._∷_ (Row.lease (κs .0) (qs .0)) (List._∷_ Row.off (List._∷_ Row.off (List._∷_ Row.off (List._∷_ (Row.lease (κs .1 .1 .1 .1 .0) (qs .1 .1 .1 .1 .0))
+              (List._∷_ Row.off (List._∷_ Row.off (List._∷_ Row.alive (List._∷_ Row.alive (List._∷_ Row.alive List.[])))))))));
+        }
 
         abbrev G47 : Row.Cx
-        G47 = record
-            { locals = List._++_ g30 t32; slots = List._∷_ (Row.lease (κs .0) (qs .0)) (List._∷_ Row.off (List._∷_ Row.off (List._∷_ Row.off (List._∷_ (Row.lease (κs .1 .1 .1 .1 .0) (qs .1 .1 .1 .1 .0))
-            (List._∷_ Row.off (List._∷_ Row.off (List._∷_ Row.alive (List._∷_ Row.alive (List._∷_ Row.alive List.[]))))))))); }
+        G47 = record {
+          locals = List._++_ g30 t32;
+          slots = List._∷_ (Row.lease (κs .0) (qs .0)) (List._∷_ Row.off (List._∷_ Row.off (List._∷_ Row.off (List._∷_ (Row.lease (κs .1 .1 .1 .1 .0) (qs .1 .1 .1 .1 .0))
+              (List._∷_ Row.off (List._∷_ Row.off (List._∷_ Row.alive (List._∷_ Row.alive (List._∷_ Row.alive List.[])))))))));
+        }
 
         abbrev G48 : Row.Cx
-        G48 = record
-            { locals = List._++_ g33 t34; slots = List._∷_ (Row.lease (κs .0) (qs .0)) (List._∷_ Row.off (List._∷_ Row.off (List._∷_ Row.off (List._∷_ (Row.lease (κs .1 .1 .1 .1 .0) (qs .1 .1 .1 .1 .0))
-            (List._∷_ Row.off (List._∷_ Row.off (List._∷_ Row.alive (List._∷_ Row.alive (List._∷_ Row.alive List.[]))))))))); }
+        G48 = record {
+          locals = List._++_ g33 t34;
+          slots = List._∷_ (Row.lease (κs .0) (qs .0)) (List._∷_ Row.off (List._∷_ Row.off (List._∷_ Row.off (List._∷_ (Row.lease (κs .1 .1 .1 .1 .0) (qs .1 .1 .1 .1 .0))
+              (List._∷_ Row.off (List._∷_ Row.off (List._∷_ Row.alive (List._∷_ Row.alive (List._∷_ Row.alive List.[])))))))));
+        }
 
         abbrev G49 : Row.Cx
-        G49 = record
-            { locals = List._++_ g35 t34; slots = List._∷_ (Row.lease (κs .0) (qs .0)) (List._∷_ Row.off (List._∷_ Row.off (List._∷_ Row.off (List._∷_ (Row.lease (κs .1 .1 .1 .1 .0) (qs .1 .1 .1 .1 .0))
-            (List._∷_ Row.off (List._∷_ Row.off (List._∷_ Row.alive (List._∷_ Row.alive (List._∷_ Row.alive List.[]))))))))); }
+        G49 = record {
+          locals = List._++_ g35 t34;
+          slots = List._∷_ (Row.lease (κs .0) (qs .0)) (List._∷_ Row.off (List._∷_ Row.off (List._∷_ Row.off (List._∷_ (Row.lease (κs .1 .1 .1 .1 .0) (qs .1 .1 .1 .1 .0))
+              (List._∷_ Row.off (List._∷_ Row.off (List._∷_ Row.alive (List._∷_ Row.alive (List._∷_ Row.alive List.[])))))))));
+        }
 
         abbrev G50 : Row.Cx
-        G50 = record
-            { locals = List._++_ g36 t34; slots = List._∷_ (Row.lease (κs .0) (qs .0)) (List._∷_ Row.off (List._∷_ Row.off (List._∷_ Row.off (List._∷_ (Row.lease (κs .1 .1 .1 .1 .0) (qs .1 .1 .1 .1 .0))
-            (List._∷_ Row.off (List._∷_ Row.off (List._∷_ Row.alive (List._∷_ Row.alive (List._∷_ Row.alive List.[]))))))))); }
+        G50 = record {
+          locals = List._++_ g36 t34;
+          slots = List._∷_ (Row.lease (κs .0) (qs .0)) (List._∷_ Row.off (List._∷_ Row.off (List._∷_ Row.off (List._∷_ (Row.lease (κs .1 .1 .1 .1 .0) (qs .1 .1 .1 .1 .0))
+              (List._∷_ Row.off (List._∷_ Row.off (List._∷_ Row.alive (List._∷_ Row.alive (List._∷_ Row.alive List.[])))))))));
+        }
 
         abbrev G51 : Row.Cx
-        G51 = record
-            { locals = List._++_ g37 t34; slots = List._∷_ (Row.lease (κs .0) (qs .0)) (List._∷_ Row.off (List._∷_ Row.off (List._∷_ Row.off (List._∷_ (Row.lease (κs .1 .1 .1 .1 .0) (qs .1 .1 .1 .1 .0))
-            (List._∷_ Row.off (List._∷_ Row.off (List._∷_ Row.alive (List._∷_ Row.alive (List._∷_ Row.alive List.[]))))))))); }
+        G51 = record {
+          locals = List._++_ g37 t34;
+          slots = List._∷_ (Row.lease (κs .0) (qs .0)) (List._∷_ Row.off (List._∷_ Row.off (List._∷_ Row.off (List._∷_ (Row.lease (κs .1 .1 .1 .1 .0) (qs .1 .1 .1 .1 .0))
+              (List._∷_ Row.off (List._∷_ Row.off (List._∷_ Row.alive (List._∷_ Row.alive (List._∷_ Row.alive List.[])))))))));
+        }
 
         abbrev G52 : Row.Cx
-        G52 = record
-            { locals = List._++_ g37 t34; slots = List._∷_ (Row.lease (κs .0) (qs .0)) (List._∷_ Row.off (List._∷_ Row.off (List._∷_ Row.off (List._∷_ (Row.lease (κs .1 .1 .1 .1 .0) (qs .1 .1 .1 .1 .0))
-            (List._∷_ Row.off (List._∷_ Row.off (List._∷_ Row.dead (List._∷_ Row.alive (List._∷_ Row.alive List.[]))))))))); }
+        G52 = record {
+          locals = List._++_ g37 t34;
+          slots = List._∷_ (Row.lease (κs .0) (qs .0)) (List._∷_ Row.off (List._∷_ Row.off (List._∷_ Row.off (List._∷_ (Row.lease (κs .1 .1 .1 .1 .0) (qs .1 .1 .1 .1 .0))
+              (List._∷_ Row.off (List._∷_ Row.off (List._∷_ Row.dead (List._∷_ Row.alive (List._∷_ Row.alive List.[])))))))));
+        }
 
         abbrev G53 : Row.Cx
-        G53 = record
-            { locals = List._++_ g38 t39; slots = List._∷_ (Row.lease (κs .0) (qs .0)) (List._∷_ (Row.lease (κs .1 .0) (qs .1 .0)) (List._∷_ Row.off (List._∷_ Row.off (List._∷_ (Row.lease (κs .1 .1 .1 .1
-            .0) (qs .1 .1 .1 .1 .0)) (List._∷_ Row.off (List._∷_ Row.off (List._∷_ Row.dead (List._∷_ Row.alive (List._∷_ Row.alive List.[]))))))))); }
+        G53 = record {
+          locals = List._++_ g38 t39;
+          slots = List._∷_ (Row.lease (κs .0) (qs .0)) (List._∷_ (Row.lease (κs .1 .0) (qs .1 .0)) (List._∷_ Row.off (List._∷_ Row.off (List._∷_ (Row.lease (κs .1 .1 .1 .1
+              .0) (qs .1 .1 .1 .1 .0)) (List._∷_ Row.off (List._∷_ Row.off (List._∷_ Row.dead (List._∷_ Row.alive (List._∷_ Row.alive List.[])))))))));
+        }
 
         abbrev G54 : Row.Cx
-        G54 = record
-            { locals = List._++_ g38 t39; slots = List._∷_ (Row.lease (κs .0) (qs .0)) (List._∷_ (Row.lease (κs .1 .0) (qs .1 .0)) (List._∷_ Row.off (List._∷_ Row.off (List._∷_ (Row.lease (κs .1 .1 .1 .1
-            .0) (qs .1 .1 .1 .1 .0)) (List._∷_ Row.off (List._∷_ Row.off (List._∷_ Row.dead (List._∷_ Row.alive (List._∷_ Row.alive List.[]))))))))); }
+        G54 = record {
+          locals = List._++_ g38 t39;
+          slots = List._∷_ (Row.lease (κs .0) (qs .0)) (List._∷_ (Row.lease (κs .1 .0) (qs .1 .0)) (List._∷_ Row.off (List._∷_ Row.off (List._∷_ (Row.lease (κs .1 .1 .1 .1
+              .0) (qs .1 .1 .1 .1 .0)) (List._∷_ Row.off (List._∷_ Row.off (List._∷_ Row.dead (List._∷_ Row.alive (List._∷_ Row.alive List.[])))))))));
+        }
 
         abbrev G55 : Row.Cx
-        G55 = record
-            { locals = List._++_ g38 t39; slots = List._∷_ (Row.lease (κs .0) (qs .0)) (List._∷_ (Row.lease (κs .1 .0) (qs .1 .0)) (List._∷_ Row.off (List._∷_ Row.off (List._∷_ (Row.lease (κs .1 .1 .1 .1
-            .0) (qs .1 .1 .1 .1 .0)) (List._∷_ Row.off (List._∷_ Row.off (List._∷_ Row.off (List._∷_ Row.alive (List._∷_ Row.alive List.[]))))))))); }
+        G55 = record {
+          locals = List._++_ g38 t39;
+          slots = List._∷_ (Row.lease (κs .0) (qs .0)) (List._∷_ (Row.lease (κs .1 .0) (qs .1 .0)) (List._∷_ Row.off (List._∷_ Row.off (List._∷_ (Row.lease (κs .1 .1 .1 .1
+              .0) (qs .1 .1 .1 .1 .0)) (List._∷_ Row.off (List._∷_ Row.off (List._∷_ Row.off (List._∷_ Row.alive (List._∷_ Row.alive List.[])))))))));
+        }
 
         abbrev G56 : Row.Cx
-        G56 = record
-            { locals = List._++_ g38 t39; slots = List._∷_ (Row.lease (κs .0) (qs .0)) (List._∷_ (Row.lease (κs .1 .0) (qs .1 .0)) (List._∷_ Row.off (List._∷_ Row.off (List._∷_ (Row.lease (κs .1 .1 .1 .1
-            .0) (qs .1 .1 .1 .1 .0)) (List._∷_ Row.off (List._∷_ Row.off (List._∷_ Row.off (List._∷_ Row.dead (List._∷_ Row.alive List.[]))))))))); }
+        G56 = record {
+          locals = List._++_ g38 t39;
+          slots = List._∷_ (Row.lease (κs .0) (qs .0)) (List._∷_ (Row.lease (κs .1 .0) (qs .1 .0)) (List._∷_ Row.off (List._∷_ Row.off (List._∷_ (Row.lease (κs .1 .1 .1 .1
+              .0) (qs .1 .1 .1 .1 .0)) (List._∷_ Row.off (List._∷_ Row.off (List._∷_ Row.off (List._∷_ Row.dead (List._∷_ Row.alive List.[])))))))));
+        }
 
         abbrev G57 : Row.Cx
-        G57 = record
-            { locals = List._++_ g40 t41; slots = List._∷_ (Row.lease (κs .0) (qs .0)) (List._∷_ (Row.lease (κs .1 .0) (qs .1 .0)) (List._∷_ (Row.lease (κs .1 .1 .0) (qs .1 .1 .0)) (List._∷_ Row.off
-            (List._∷_ (Row.lease (κs .1 .1 .1 .1 .0) (qs .1 .1 .1 .1 .0)) (List._∷_ Row.off (List._∷_ Row.off (List._∷_ Row.off (List._∷_ Row.dead (List._∷_ Row.alive List.[]))))))))); }
+        G57 = record {
+          locals = List._++_ g40 t41;
+          slots = List._∷_ (Row.lease (κs .0) (qs .0)) (List._∷_ (Row.lease (κs .1 .0) (qs .1 .0)) (List._∷_ (Row.lease (κs .1 .1 .0) (qs .1 .1 .0)) (List._∷_ Row.off
+              (List._∷_ (Row.lease (κs .1 .1 .1 .1 .0) (qs .1 .1 .1 .1 .0)) (List._∷_ Row.off (List._∷_ Row.off (List._∷_ Row.off (List._∷_ Row.dead (List._∷_ Row.alive List.[])))))))));
+        }
 
         abbrev G58 : Row.Cx
-        G58 = record
-            { locals = List._++_ g40 t41; slots = List._∷_ (Row.lease (κs .0) (qs .0)) (List._∷_ (Row.lease (κs .1 .0) (qs .1 .0)) (List._∷_ (Row.lease (κs .1 .1 .0) (qs .1 .1 .0)) (List._∷_ Row.off
-            (List._∷_ (Row.lease (κs .1 .1 .1 .1 .0) (qs .1 .1 .1 .1 .0)) (List._∷_ Row.off (List._∷_ Row.off (List._∷_ Row.off (List._∷_ Row.dead (List._∷_ Row.alive List.[]))))))))); }
+        G58 = record {
+          locals = List._++_ g40 t41;
+          slots = List._∷_ (Row.lease (κs .0) (qs .0)) (List._∷_ (Row.lease (κs .1 .0) (qs .1 .0)) (List._∷_ (Row.lease (κs .1 .1 .0) (qs .1 .1 .0)) (List._∷_ Row.off
+              (List._∷_ (Row.lease (κs .1 .1 .1 .1 .0) (qs .1 .1 .1 .1 .0)) (List._∷_ Row.off (List._∷_ Row.off (List._∷_ Row.off (List._∷_ Row.dead (List._∷_ Row.alive List.[])))))))));
+        }
 
         abbrev G59 : Row.Cx
-        G59 = record
-            { locals = List._++_ g40 t41; slots = List._∷_ (Row.lease (κs .0) (qs .0)) (List._∷_ (Row.lease (κs .1 .0) (qs .1 .0)) (List._∷_ (Row.lease (κs .1 .1 .0) (qs .1 .1 .0)) (List._∷_ Row.off
-            (List._∷_ (Row.lease (κs .1 .1 .1 .1 .0) (qs .1 .1 .1 .1 .0)) (List._∷_ Row.off (List._∷_ Row.off (List._∷_ Row.off (List._∷_ Row.off (List._∷_ Row.alive List.[]))))))))); }
+        G59 = record {
+          locals = List._++_ g40 t41;
+          slots = List._∷_ (Row.lease (κs .0) (qs .0)) (List._∷_ (Row.lease (κs .1 .0) (qs .1 .0)) (List._∷_ (Row.lease (κs .1 .1 .0) (qs .1 .1 .0)) (List._∷_ Row.off
+              (List._∷_ (Row.lease (κs .1 .1 .1 .1 .0) (qs .1 .1 .1 .1 .0)) (List._∷_ Row.off (List._∷_ Row.off (List._∷_ Row.off (List._∷_ Row.off (List._∷_ Row.alive List.[])))))))));
+        }
 
         abbrev G60 : Row.Cx
-        G60 = record
-            { locals = List._++_ g40 t41; slots = List._∷_ (Row.lease (κs .0) (qs .0)) (List._∷_ (Row.lease (κs .1 .0) (qs .1 .0)) (List._∷_ (Row.lease (κs .1 .1 .0) (qs .1 .1 .0)) (List._∷_ Row.off
-            (List._∷_ (Row.lease (κs .1 .1 .1 .1 .0) (qs .1 .1 .1 .1 .0)) (List._∷_ Row.off (List._∷_ Row.off (List._∷_ Row.off (List._∷_ Row.off (List._∷_ Row.dead List.[]))))))))); }
+        G60 = record {
+          locals = List._++_ g40 t41;
+          slots = List._∷_ (Row.lease (κs .0) (qs .0)) (List._∷_ (Row.lease (κs .1 .0) (qs .1 .0)) (List._∷_ (Row.lease (κs .1 .1 .0) (qs .1 .1 .0)) (List._∷_ Row.off
+              (List._∷_ (Row.lease (κs .1 .1 .1 .1 .0) (qs .1 .1 .1 .1 .0)) (List._∷_ Row.off (List._∷_ Row.off (List._∷_ Row.off (List._∷_ Row.off (List._∷_ Row.dead List.[])))))))));
+        }
 
         abbrev G61 : Row.Cx
-        G61 = record
-            { locals = List._++_ t42 t1; slots = List._∷_ (Row.lease (κs .0) (qs .0)) (List._∷_ (Row.lease (κs .1 .0) (qs .1 .0)) (List._∷_ (Row.lease (κs .1 .1 .0) (qs .1 .1 .0)) (List._∷_ (Row.lease (κs
-            .1 .1 .1 .0) (qs .1 .1 .1 .0)) (List._∷_ (Row.lease (κs .1 .1 .1 .1 .0) (qs .1 .1 .1 .1 .0)) (List._∷_ Row.off (List._∷_ Row.off (List._∷_ Row.off (List._∷_ Row.off (List._∷_ Row.dead
-            List.[]))))))))); }
+        G61 = record {
+          locals = List._++_ t42 t1;
+          slots = List._∷_ (Row.lease (κs .0) (qs .0)) (List._∷_ (Row.lease (κs .1 .0) (qs .1 .0)) (List._∷_ (Row.lease (κs .1 .1 .0) (qs .1 .1 .0)) (List._∷_ (Row.lease (κs
+              .1 .1 .1 .0) (qs .1 .1 .1 .0)) (List._∷_ (Row.lease (κs .1 .1 .1 .1 .0) (qs .1 .1 .1 .1 .0)) (List._∷_ Row.off (List._∷_ Row.off (List._∷_ Row.off (List._∷_ Row.off (List._∷_ Row.dead
+              List.[])))))))));
+        }
 
         abbrev G62 : Row.Cx
-        G62 = record
-            { locals = List._++_ t42 t1; slots = List._∷_ (Row.lease (κs .0) (qs .0)) (List._∷_ (Row.lease (κs .1 .0) (qs .1 .0)) (List._∷_ (Row.lease (κs .1 .1 .0) (qs .1 .1 .0)) (List._∷_ (Row.lease (κs
-            .1 .1 .1 .0) (qs .1 .1 .1 .0)) (List._∷_ (Row.lease (κs .1 .1 .1 .1 .0) (qs .1 .1 .1 .1 .0)) (List._∷_ Row.off (List._∷_ Row.off (List._∷_ Row.off (List._∷_ Row.off (List._∷_ Row.off
-            List.[]))))))))); }
+        G62 = record {
+          locals = List._++_ t42 t1;
+          slots = List._∷_ (Row.lease (κs .0) (qs .0)) (List._∷_ (Row.lease (κs .1 .0) (qs .1 .0)) (List._∷_ (Row.lease (κs .1 .1 .0) (qs .1 .1 .0)) (List._∷_ (Row.lease (κs
+              .1 .1 .1 .0) (qs .1 .1 .1 .0)) (List._∷_ (Row.lease (κs .1 .1 .1 .1 .0) (qs .1 .1 .1 .1 .0)) (List._∷_ Row.off (List._∷_ Row.off (List._∷_ Row.off (List._∷_ Row.off (List._∷_ Row.off
+              List.[])))))))));
+        }
 
         abbrev G63 : Row.Cx
-        G63 = record
-            { locals = List._++_ t43 t1; slots = List._∷_ (Row.lease (κs .0) (qs .0)) (List._∷_ (Row.lease (κs .1 .0) (qs .1 .0)) (List._∷_ (Row.lease (κs .1 .1 .0) (qs .1 .1 .0)) (List._∷_ (Row.lease (κs
-            .1 .1 .1 .0) (qs .1 .1 .1 .0)) (List._∷_ (Row.lease (κs .1 .1 .1 .1 .0) (qs .1 .1 .1 .1 .0)) (List._∷_ Row.off (List._∷_ Row.off (List._∷_ Row.off (List._∷_ Row.off (List._∷_ Row.off
-            List.[]))))))))); }
+        G63 = record {
+          locals = List._++_ t43 t1;
+          slots = List._∷_ (Row.lease (κs .0) (qs .0)) (List._∷_ (Row.lease (κs .1 .0) (qs .1 .0)) (List._∷_ (Row.lease (κs .1 .1 .0) (qs .1 .1 .0)) (List._∷_ (Row.lease (κs
+              .1 .1 .1 .0) (qs .1 .1 .1 .0)) (List._∷_ (Row.lease (κs .1 .1 .1 .1 .0) (qs .1 .1 .1 .1 .0)) (List._∷_ Row.off (List._∷_ Row.off (List._∷_ Row.off (List._∷_ Row.off (List._∷_ Row.off
+              List.[])))))))));
+        }
 
         abbrev G64 : Row.Cx
-        G64 = record
-            { locals = List._++_ t2 t1; slots = List._∷_ (Row.lease (κs .0) (qs .0)) (List._∷_ (Row.lease (κs .1 .0) (qs .1 .0)) (List._∷_ (Row.lease (κs .1 .1 .0) (qs .1 .1 .0)) (List._∷_ (Row.lease (κs
-            .1 .1 .1 .0) (qs .1 .1 .1 .0)) (List._∷_ (Row.lease (κs .1 .1 .1 .1 .0) (qs .1 .1 .1 .1 .0)) (List._∷_ Row.off (List._∷_ Row.off (List._∷_ Row.off (List._∷_ Row.off (List._∷_ Row.off
-            List.[]))))))))); }
+        G64 = record {
+          locals = List._++_ t2 t1;
+          slots = List._∷_ (Row.lease (κs .0) (qs .0)) (List._∷_ (Row.lease (κs .1 .0) (qs .1 .0)) (List._∷_ (Row.lease (κs .1 .1 .0) (qs .1 .1 .0)) (List._∷_ (Row.lease (κs
+              .1 .1 .1 .0) (qs .1 .1 .1 .0)) (List._∷_ (Row.lease (κs .1 .1 .1 .1 .0) (qs .1 .1 .1 .1 .0)) (List._∷_ Row.off (List._∷_ Row.off (List._∷_ Row.off (List._∷_ Row.off (List._∷_ Row.off
+              List.[])))))))));
+        }
 
         abbrev Δ0 : Typed.Outs
         Δ0 = record { next = Option.none; exits = List.[]; returns = Option.some G1 }
@@ -1689,42 +1884,100 @@ module _ (claims· : Claims) where
               (Syntax.tcons (Syntax.tyInt Syntax.w64) Syntax.tnil)) (Syntax.ttcons Syntax.tnil Syntax.ttnil))))))))))))))))))))))) Syntax.tnil) Syntax.ttnil))))
               (tt, ((Whole.reads-enum 𝓤 H A W Refusal.the-type Laws''.the-laws, Path'.refl), tt)) Path'.refl (λ m wa. Make.made-val BlockLength.the-type Laws'.the-laws (List._∷_ (Laws'3.val
               Refusal.the-type Laws''.the-laws (m .1 .1 .1 .1 .1 .1 .1 .1 .1 .1 .1 .1 .1 .1 .1 .1 .1 .1 .0)) List.[]) (BlockLength.enum .make (Logic.inr (Logic.inl
-              (m .1 .1 .1 .1 .1 .1 .1 .1 .1 .1 .1 .1 .1 .1 .1 .1 .1 .1 .0, tt))))
-              (Signed.made-wt Refusal.the-field Laws''.the-field-laws (Whole.enum-wt Refusal.the-type Laws''.the-laws
-              (tt,
-              (tt,
-              (tt,
-              ((Make'.u64-wt, tt),
-              (tt,
-              (tt,
-              (tt,
-              (tt,
-              (tt,
-              (tt,
-              ((Make'.u64-wt, tt),
-              ((Make'.u64-wt, tt),
-              (tt,
-              ((Make'.u64-wt, (Make'.u64-wt, tt)),
-              ((Make'.u64-wt, tt), (tt, (tt, ((Make'.u64-wt, tt), ((Make'.u64-wt, tt), ((Make'.u64-wt, tt), ((Make'.u64-wt, (Make'.u64-wt, tt)), (tt, tt))))))))))))))))))))))) (Refusal.the-type .to (m .1
-              .1 .1 .1 .1 .1 .1 .1 .1 .1 .1 .1 .1 .1 .1 .1 .1 .1 .0)), tt) (wa .1)) λ m wa. Make.made-is BlockLength.the-type Laws'.the-laws (List._∷_ (Laws'3.val Refusal.the-type Laws''.the-laws (m .1 .1
-              .1 .1 .1 .1 .1 .1 .1 .1 .1 .1 .1 .1 .1 .1 .1 .1 .0)) List.[]) (BlockLength.enum .make (Logic.inr (Logic.inl (m .1 .1 .1 .1 .1 .1 .1 .1 .1 .1 .1 .1 .1 .1 .1 .1 .1 .1 .0, tt))))
-              (Signed.made-wt Refusal.the-field Laws''.the-field-laws (Whole.enum-wt Refusal.the-type Laws''.the-laws
-              (tt,
-              (tt,
-              (tt,
-              ((Make'.u64-wt, tt),
-              (tt,
-              (tt,
-              (tt,
-              (tt,
-              (tt,
-              (tt,
-              ((Make'.u64-wt, tt),
-              ((Make'.u64-wt, tt),
-              (tt,
-              ((Make'.u64-wt, (Make'.u64-wt, tt)),
-              ((Make'.u64-wt, tt), (tt, (tt, ((Make'.u64-wt, tt), ((Make'.u64-wt, tt), ((Make'.u64-wt, tt), ((Make'.u64-wt, (Make'.u64-wt, tt)), (tt, tt))))))))))))))))))))))) (Refusal.the-type .to (m .1
-              .1 .1 .1 .1 .1 .1 .1 .1 .1 .1 .1 .1 .1 .1 .1 .1 .1 .0)), tt) (wa .1)) d5
+              (m .1 .1 .1 .1 .1 .1 .1 .1 .1 .1 .1 .1 .1 .1 .1 .1 .1 .1 .0, tt)))) (
+                Signed.made-wt Refusal.the-field Laws''.the-field-laws (Whole.enum-wt Refusal.the-type Laws''.the-laws (
+                  tt,
+                  (
+                    tt,
+                    (
+                      tt,
+                      (
+                        (Make'.u64-wt, tt),
+                        (
+                          tt,
+                          (
+                            tt,
+                            (
+                              tt,
+                              (
+                                tt,
+                                (
+                                  tt,
+                                  (
+                                    tt,
+                                    (
+                                      (Make'.u64-wt, tt),
+                                      (
+                                        (Make'.u64-wt, tt),
+                                        (
+                                          tt,
+                                          (
+                                            (Make'.u64-wt, (Make'.u64-wt, tt)),
+                                            ((Make'.u64-wt, tt), (tt, (tt, ((Make'.u64-wt, tt), ((Make'.u64-wt, tt), ((Make'.u64-wt, tt), ((Make'.u64-wt, (Make'.u64-wt, tt)), (tt, tt)))))))),
+                                          ),
+                                        ),
+                                      ),
+                                    ),
+                                  ),
+                                ),
+                              ),
+                            ),
+                          ),
+                        ),
+                      ),
+                    ),
+                  ),
+                )) (Refusal.the-type .to (m .1
+                    .1 .1 .1 .1 .1 .1 .1 .1 .1 .1 .1 .1 .1 .1 .1 .1 .1 .0)),
+                tt,
+              ) (wa .1)) λ m wa. Make.made-is BlockLength.the-type Laws'.the-laws (List._∷_ (Laws'3.val Refusal.the-type Laws''.the-laws (m .1 .1
+              .1 .1 .1 .1 .1 .1 .1 .1 .1 .1 .1 .1 .1 .1 .1 .1 .0)) List.[]) (BlockLength.enum .make (Logic.inr (Logic.inl (m .1 .1 .1 .1 .1 .1 .1 .1 .1 .1 .1 .1 .1 .1 .1 .1 .1 .1 .0, tt)))) (
+                Signed.made-wt Refusal.the-field Laws''.the-field-laws (Whole.enum-wt Refusal.the-type Laws''.the-laws (
+                  tt,
+                  (
+                    tt,
+                    (
+                      tt,
+                      (
+                        (Make'.u64-wt, tt),
+                        (
+                          tt,
+                          (
+                            tt,
+                            (
+                              tt,
+                              (
+                                tt,
+                                (
+                                  tt,
+                                  (
+                                    tt,
+                                    (
+                                      (Make'.u64-wt, tt),
+                                      (
+                                        (Make'.u64-wt, tt),
+                                        (
+                                          tt,
+                                          (
+                                            (Make'.u64-wt, (Make'.u64-wt, tt)),
+                                            ((Make'.u64-wt, tt), (tt, (tt, ((Make'.u64-wt, tt), ((Make'.u64-wt, tt), ((Make'.u64-wt, tt), ((Make'.u64-wt, (Make'.u64-wt, tt)), (tt, tt)))))))),
+                                          ),
+                                        ),
+                                      ),
+                                    ),
+                                  ),
+                                ),
+                              ),
+                            ),
+                          ),
+                        ),
+                      ),
+                    ),
+                  ),
+                )) (Refusal.the-type .to (m .1
+                    .1 .1 .1 .1 .1 .1 .1 .1 .1 .1 .1 .1 .1 .1 .1 .1 .1 .0)),
+                tt,
+              ) (wa .1)) d5
 
           d7 : Typed.Typed 𝓤 H A 𝓣 E G30 b14 Δ1 at7
           d7 = Typed.s-seq 𝓤 H A W 𝓣 E G30 G31 b10 b13 Δ1 (Typed.pass T29 T31 s28) at6 (Make.t-enum-make-wt 𝓤 H A W E 𝓣 Refusal.the-type Laws''.the-laws Laws''.the-plain tt G30 18 (List._∷_
@@ -1762,9 +2015,13 @@ module _ (claims· : Claims) where
 
           d12 : Typed.Typed 𝓤 H A 𝓣 E G25 b15 Δ1 at12
           d12 = Typed.s-seq 𝓤 H A W 𝓣 E G25 G26 b9 b14 Δ1 (Typed.both s23) at11 (Plain.t-call-plain 𝓤 H A W 𝓣 1 ps·3 r·3 (claims· .6) (claims· .7) "block::records::clear_records" (known .3) E (λ pos
-              β. β) G25 (record { pos = 17; ty = Syntax.tyRef Syntax.erased Syntax.mut Element.behind; ref = λ x. x; }, tt) 13 (List._∷_ 6 List.[]) (Call.sub-id 𝓤 H A W (G25 .slots))
-              (Reads'.as-is 𝓤 H A (Mut.mslice (Element.type) (Syntax.tyRef Syntax.erased Syntax.mut Element.behind) 6), Mut.reads-mslice 𝓤 H A W (Element.type) (Syntax.tyRef Syntax.erased Syntax.mut
-              Element.behind) 6, Path'.refl, tt) (Reads'.room-gone 𝓤 H A Syntax.tyUnit) (tt, tt) Path'.refl) d11
+              β. β) G25 (record { pos = 17; ty = Syntax.tyRef Syntax.erased Syntax.mut Element.behind; ref = λ x. x }, tt) 13 (List._∷_ 6 List.[]) (Call.sub-id 𝓤 H A W (G25 .slots)) (
+                Reads'.as-is 𝓤 H A (Mut.mslice (Element.type) (Syntax.tyRef Syntax.erased Syntax.mut Element.behind) 6),
+                Mut.reads-mslice 𝓤 H A W (Element.type) (Syntax.tyRef Syntax.erased Syntax.mut
+                    Element.behind) 6,
+                Path'.refl,
+                tt,
+              ) (Reads'.room-gone 𝓤 H A Syntax.tyUnit) (tt, tt) Path'.refl) d11
 
           d13 : Typed.Typed 𝓤 H A 𝓣 E G24 b16 Δ1 at13
           d13 = Typed.s-seq 𝓤 H A W 𝓣 E G24 G25 b8 b15 Δ1 (Typed.ask s22) at12 (Relend.t-sl-aggregate 𝓤 H A W E (Element.type) 𝓣 (Relend.asMut (Element.type)) G24 16 17 6 (Syntax.tyRef Syntax.erased
@@ -1804,17 +2061,23 @@ module _ (claims· : Claims) where
 
           d21 : Typed.Typed 𝓤 H A 𝓣 E G16 b18 Δ1 at21
           d21 = Typed.s-seq 𝓤 H A W 𝓣 E G16 G17 b6 b17 Δ1 (Typed.both s14) at20 (Plain.t-call-plain 𝓤 H A W 𝓣 1 ps·2 r·2 (claims· .4) (claims· .5) "lines::clear" (known .2) E (λ pos β. β) G16
-              (record { pos = 15; ty = Syntax.tyRef Syntax.erased Syntax.mut (Syntax.tyInt Syntax.w16); ref = λ x. x; }, tt) 13 (List._∷_ 5 List.[]) (Call.sub-id 𝓤 H A W (G16 .slots))
-              (Reads'.as-is 𝓤 H A (Mut.mslice (Referent.rtF (Referent.fInt Syntax.w16)) (Syntax.tyRef Syntax.erased Syntax.mut (Syntax.tyInt Syntax.w16)) 5), Mut.reads-mslice 𝓤 H A W (Referent.rtF
-              (Referent.fInt Syntax.w16)) (Syntax.tyRef Syntax.erased Syntax.mut (Syntax.tyInt Syntax.w16)) 5, Path'.refl, tt) (Reads'.room-gone 𝓤 H A Syntax.tyUnit) (tt, tt) Path'.refl) d20
+              (record { pos = 15; ty = Syntax.tyRef Syntax.erased Syntax.mut (Syntax.tyInt Syntax.w16); ref = λ x. x }, tt) 13 (List._∷_ 5 List.[]) (Call.sub-id 𝓤 H A W (G16 .slots)) (
+                Reads'.as-is 𝓤 H A (Mut.mslice (Referent.rtF (Referent.fInt Syntax.w16)) (Syntax.tyRef Syntax.erased Syntax.mut (Syntax.tyInt Syntax.w16)) 5),
+                Mut.reads-mslice 𝓤 H A W (Referent.rtF
+                    (Referent.fInt Syntax.w16)) (Syntax.tyRef Syntax.erased Syntax.mut (Syntax.tyInt Syntax.w16)) 5,
+                Path'.refl,
+                tt,
+              ) (Reads'.room-gone 𝓤 H A Syntax.tyUnit) (tt, tt) Path'.refl) d20
 
           d22 : Typed.Typed 𝓤 H A 𝓣 E G15 b19 Δ1 at22
           d22 = Typed.s-seq 𝓤 H A W 𝓣 E G15 G16 b5 b18 Δ1 (Typed.ask s13) at21 (Relend.t-sl-aggregate 𝓤 H A W E (Referent.rtF (Referent.fInt Syntax.w16)) 𝓣 (Relend.asMut (Referent.rtF (Referent.fInt
               Syntax.w16))) G15 14 15 5 (Syntax.tyRef Syntax.erased Syntax.mut (Syntax.tyInt Syntax.w16)) (Syntax.tyRef Syntax.erased Syntax.mut (Syntax.tyInt Syntax.w16)) (λ x. x) (Scalar.oFld 4
               (List._∷_ (Syntax.field 1) List.[]) (Syntax.tyInt Syntax.w64) 8 λ v. Shared.lenV (v .0)) (Reads'.as-is 𝓤 H A (Relend.msptr (Referent.rtF (Referent.fInt Syntax.w16)) (Syntax.tyRef
-              Syntax.erased Syntax.mut (Syntax.tyInt Syntax.w16)) 5)) (Reads'.room-gone 𝓤 H A y0)
-              (Relend.reads-owed-len 𝓤 H A W (Referent.rtF (Referent.fInt Syntax.w16)) (Syntax.tyRef (Syntax.named 2) Syntax.mut (Syntax.tyInt Syntax.w16)) 2 5 (Row.lease (κs .1 .1 .0) (qs .1 .1 .0)) 8
-              Path'.refl, Path'.refl) Path'.refl Path'.refl λ b o k. tt) d21
+              Syntax.erased Syntax.mut (Syntax.tyInt Syntax.w16)) 5)) (Reads'.room-gone 𝓤 H A y0) (
+                Relend.reads-owed-len 𝓤 H A W (Referent.rtF (Referent.fInt Syntax.w16)) (Syntax.tyRef (Syntax.named 2) Syntax.mut (Syntax.tyInt Syntax.w16)) 2 5 (Row.lease (κs .1 .1 .0) (qs .1 .1 .0)) 8
+                    Path'.refl,
+                Path'.refl,
+              ) Path'.refl Path'.refl λ b o k. tt) d21
 
           d23 : Typed.Typed 𝓤 H A 𝓣 E G14 b20 Δ1 at23
           d23 = Typed.s-seq 𝓤 H A W 𝓣 E G14 G15 b4 b19 Δ1 (Typed.give s12) at22 (Relend.t-sl-relend 𝓤 H A W E (Referent.rtF (Referent.fInt Syntax.w16)) 𝓣 G14 4 14 2 5 (Syntax.tyRef (Syntax.named 2)
@@ -1910,28 +2173,66 @@ module _ (claims· : Claims) where
 
           d48 : Typed.Typed 𝓤 H A 𝓣 E G47 b31 Δ0 at48
           d48 = Typed.s-seq 𝓤 H A W 𝓣 E G47 G48 b29 b30 Δ0 (Typed.both s45) at47 (Plain.t-call-plain 𝓤 H A W 𝓣 5 ps·4 r·4 (claims· .8) (claims· .9) "block::writer::write_measured" (known .4) E (λ pos
-              β. β) G47
-              (record { pos = 1; ty = Syntax.tyRef (Syntax.named 0) Syntax.imm (Syntax.tyInt Syntax.w16); ref = λ x. x; },
-              (record { pos = 20; ty = Syntax.tyRef Syntax.erased Syntax.mut (Syntax.tyInt Syntax.w8); ref = λ x. x; },
-              (Bool.bAt 3 λ x. x,
-              (record { pos = 22; ty = Syntax.tyRef Syntax.erased Syntax.mut (Syntax.tyInt Syntax.w16); ref = λ x. x; },
-              (record { pos = 24; ty = Syntax.tyRef Syntax.erased Syntax.mut Element.behind; ref = λ x. x; },
-              (record { pos = 6; st = List.[]; d = 0; at = λ x. x },
-              (record { pos = 7; ty = Syntax.tyRef (Syntax.named 4) Syntax.imm (Syntax.tyInt Syntax.w8); ref = λ x. x; }, (Num.vAt 8 λ x. x, tt)))))))) 0 (List._∷_ 0 (List._∷_ 7 (List._∷_ 8 (List._∷_ 9
-              (List._∷_ 4 List.[]))))) (Call.sub-id 𝓤 H A W (G47 .slots))
-              (ShrSlice.spares-sslice 𝓤 H A W (Referent.rtF (Referent.fInt Syntax.w16)) (Syntax.tyRef (Syntax.named 0) Syntax.imm (Syntax.tyInt Syntax.w16)) 0, Shared.reads-sslice 𝓤 H A W (Referent.rtF
-              (Referent.fInt Syntax.w16)) (Syntax.tyRef (Syntax.named 0) Syntax.imm (Syntax.tyInt Syntax.w16)) 0, Path'.refl,
-              (Reads'.as-is 𝓤 H A (Mut.mslice (Referent.rtF (Referent.fInt Syntax.w8)) (Syntax.tyRef Syntax.erased Syntax.mut (Syntax.tyInt Syntax.w8)) 7), Mut.reads-mslice 𝓤 H A W (Referent.rtF
-              (Referent.fInt Syntax.w8)) (Syntax.tyRef Syntax.erased Syntax.mut (Syntax.tyInt Syntax.w8)) 7, Path'.refl,
-              ((Scalar.reads-sc 𝓤 H A W Row.sBool, Path'.refl),
-              (Reads'.as-is 𝓤 H A (Mut.mslice (Referent.rtF (Referent.fInt Syntax.w16)) (Syntax.tyRef Syntax.erased Syntax.mut (Syntax.tyInt Syntax.w16)) 8), Mut.reads-mslice 𝓤 H A W (Referent.rtF
-              (Referent.fInt Syntax.w16)) (Syntax.tyRef Syntax.erased Syntax.mut (Syntax.tyInt Syntax.w16)) 8, Path'.refl,
-              (Reads'.as-is 𝓤 H A (Mut.mslice (Element.type) (Syntax.tyRef Syntax.erased Syntax.mut Element.behind) 9), Mut.reads-mslice 𝓤 H A W (Element.type) (Syntax.tyRef Syntax.erased Syntax.mut
-              Element.behind) 9, Path'.refl,
-              ((Yields.yields-copy 𝓤 H A W (λ ρ. Unit) (Declared'.row Form.the-type) Path'.refl (Copies.cStruct Form.the-type Laws.the-laws Laws.the-copy .copy 𝓤 H A W) (Rows.whole (Declared'.row
-              Form.the-type)) (λ x. x) (λ x. x) (λ ρ told. Local.mem-whole 𝓤 H A W (Declared'.row Form.the-type) ρ) λ ρ told. Local.whole-mem 𝓤 H A W (Declared'.row Form.the-type) ρ, Path'.refl),
-              (ShrSlice.spares-sslice 𝓤 H A W (Referent.rtF (Referent.fInt Syntax.w8)) (Syntax.tyRef (Syntax.named 4) Syntax.imm (Syntax.tyInt Syntax.w8)) 4, Shared.reads-sslice 𝓤 H A W (Referent.rtF
-              (Referent.fInt Syntax.w8)) (Syntax.tyRef (Syntax.named 4) Syntax.imm (Syntax.tyInt Syntax.w8)) 4, Path'.refl, ((Scalar.reads-sc 𝓤 H A W (Row.sInt Syntax.w64), Path'.refl), tt))))))))
+              β. β) G47 (
+                record { pos = 1; ty = Syntax.tyRef (Syntax.named 0) Syntax.imm (Syntax.tyInt Syntax.w16); ref = λ x. x },
+                (
+                  record { pos = 20; ty = Syntax.tyRef Syntax.erased Syntax.mut (Syntax.tyInt Syntax.w8); ref = λ x. x },
+                  (
+                    Bool.bAt 3 λ x. x,
+                    (
+                      record { pos = 22; ty = Syntax.tyRef Syntax.erased Syntax.mut (Syntax.tyInt Syntax.w16); ref = λ x. x },
+                      (
+                        record { pos = 24; ty = Syntax.tyRef Syntax.erased Syntax.mut Element.behind; ref = λ x. x },
+                        (
+                          record { pos = 6; st = List.[]; d = 0; at = λ x. x },
+                          (record { pos = 7; ty = Syntax.tyRef (Syntax.named 4) Syntax.imm (Syntax.tyInt Syntax.w8); ref = λ x. x }, (Num.vAt 8 λ x. x, tt)),
+                        ),
+                      ),
+                    ),
+                  ),
+                ),
+              ) 0 (List._∷_ 0 (List._∷_ 7 (List._∷_ 8 (List._∷_ 9
+              (List._∷_ 4 List.[]))))) (Call.sub-id 𝓤 H A W (G47 .slots)) (
+                ShrSlice.spares-sslice 𝓤 H A W (Referent.rtF (Referent.fInt Syntax.w16)) (Syntax.tyRef (Syntax.named 0) Syntax.imm (Syntax.tyInt Syntax.w16)) 0,
+                Shared.reads-sslice 𝓤 H A W (Referent.rtF
+                    (Referent.fInt Syntax.w16)) (Syntax.tyRef (Syntax.named 0) Syntax.imm (Syntax.tyInt Syntax.w16)) 0,
+                Path'.refl,
+                (
+                  Reads'.as-is 𝓤 H A (Mut.mslice (Referent.rtF (Referent.fInt Syntax.w8)) (Syntax.tyRef Syntax.erased Syntax.mut (Syntax.tyInt Syntax.w8)) 7),
+                  Mut.reads-mslice 𝓤 H A W (Referent.rtF
+                      (Referent.fInt Syntax.w8)) (Syntax.tyRef Syntax.erased Syntax.mut (Syntax.tyInt Syntax.w8)) 7,
+                  Path'.refl,
+                  (
+                    (Scalar.reads-sc 𝓤 H A W Row.sBool, Path'.refl),
+                    (
+                      Reads'.as-is 𝓤 H A (Mut.mslice (Referent.rtF (Referent.fInt Syntax.w16)) (Syntax.tyRef Syntax.erased Syntax.mut (Syntax.tyInt Syntax.w16)) 8),
+                      Mut.reads-mslice 𝓤 H A W (Referent.rtF
+                          (Referent.fInt Syntax.w16)) (Syntax.tyRef Syntax.erased Syntax.mut (Syntax.tyInt Syntax.w16)) 8,
+                      Path'.refl,
+                      (
+                        Reads'.as-is 𝓤 H A (Mut.mslice (Element.type) (Syntax.tyRef Syntax.erased Syntax.mut Element.behind) 9),
+                        Mut.reads-mslice 𝓤 H A W (Element.type) (Syntax.tyRef Syntax.erased Syntax.mut
+                            Element.behind) 9,
+                        Path'.refl,
+                        (
+                          (
+                            Yields.yields-copy 𝓤 H A W (λ ρ. Unit) (Declared'.row Form.the-type) Path'.refl (Copies.cStruct Form.the-type Laws.the-laws Laws.the-copy .copy 𝓤 H A W) (Rows.whole (Declared'.row
+                                Form.the-type)) (λ x. x) (λ x. x) (λ ρ told. Local.mem-whole 𝓤 H A W (Declared'.row Form.the-type) ρ) λ ρ told. Local.whole-mem 𝓤 H A W (Declared'.row Form.the-type) ρ,
+                            Path'.refl,
+                          ),
+                          (
+                            ShrSlice.spares-sslice 𝓤 H A W (Referent.rtF (Referent.fInt Syntax.w8)) (Syntax.tyRef (Syntax.named 4) Syntax.imm (Syntax.tyInt Syntax.w8)) 4,
+                            Shared.reads-sslice 𝓤 H A W (Referent.rtF
+                                (Referent.fInt Syntax.w8)) (Syntax.tyRef (Syntax.named 4) Syntax.imm (Syntax.tyInt Syntax.w8)) 4,
+                            Path'.refl,
+                            ((Scalar.reads-sc 𝓤 H A W (Row.sInt Syntax.w64), Path'.refl), tt),
+                          ),
+                        ),
+                      ),
+                    ),
+                  ),
+                ),
+              )
               (Reads'.room-gone 𝓤 H A (Syntax.tyEnum (List._∷_ 115 (List._∷_ 116 (List._∷_ 114 (List._∷_ 101 (List._∷_ 97 (List._∷_ 109 (List._∷_ 58 (List._∷_ 58 (List._∷_ 66 (List._∷_ 108 (List._∷_ 111
               (List._∷_ 99 (List._∷_ 107 (List._∷_ 76 (List._∷_ 101 (List._∷_ 110 (List._∷_ 103 (List._∷_ 116 (List._∷_ 104 List.[]))))))))))))))))))) (Syntax.ttcons (Syntax.tcons (Syntax.tyInt
               Syntax.w64) Syntax.tnil) (Syntax.ttcons (Syntax.tcons (Syntax.tyEnum (List._∷_ 115 (List._∷_ 116 (List._∷_ 114 (List._∷_ 101 (List._∷_ 97 (List._∷_ 109 (List._∷_ 58 (List._∷_ 58 (List._∷_ 82
@@ -1963,9 +2264,11 @@ module _ (claims· : Claims) where
           d52 = Typed.s-seq 𝓤 H A W 𝓣 E G43 G44 b26 b33 Δ0 (Typed.ask s41) at51 (Relend.t-sl-aggregate 𝓤 H A W E (Referent.rtF (Referent.fInt Syntax.w16)) 𝓣 (Relend.asMut (Referent.rtF (Referent.fInt
               Syntax.w16))) G43 21 22 8 (Syntax.tyRef Syntax.erased Syntax.mut (Syntax.tyInt Syntax.w16)) (Syntax.tyRef Syntax.erased Syntax.mut (Syntax.tyInt Syntax.w16)) (λ x. x) (Scalar.oFld 4
               (List._∷_ (Syntax.field 1) List.[]) (Syntax.tyInt Syntax.w64) 8 λ v. Shared.lenV (v .0)) (Reads'.as-is 𝓤 H A (Relend.msptr (Referent.rtF (Referent.fInt Syntax.w16)) (Syntax.tyRef
-              Syntax.erased Syntax.mut (Syntax.tyInt Syntax.w16)) 8)) (Reads'.room-gone 𝓤 H A y0)
-              (Relend.reads-owed-len 𝓤 H A W (Referent.rtF (Referent.fInt Syntax.w16)) (Syntax.tyRef (Syntax.named 2) Syntax.mut (Syntax.tyInt Syntax.w16)) 2 8 (Row.lease (κs .1 .1 .0) (qs .1 .1 .0)) 8
-              Path'.refl, Path'.refl) Path'.refl Path'.refl λ b o k. tt) d51
+              Syntax.erased Syntax.mut (Syntax.tyInt Syntax.w16)) 8)) (Reads'.room-gone 𝓤 H A y0) (
+                Relend.reads-owed-len 𝓤 H A W (Referent.rtF (Referent.fInt Syntax.w16)) (Syntax.tyRef (Syntax.named 2) Syntax.mut (Syntax.tyInt Syntax.w16)) 2 8 (Row.lease (κs .1 .1 .0) (qs .1 .1 .0)) 8
+                    Path'.refl,
+                Path'.refl,
+              ) Path'.refl Path'.refl λ b o k. tt) d51
 
           d53 : Typed.Typed 𝓤 H A 𝓣 E G42 b35 Δ0 at53
           d53 = Typed.s-seq 𝓤 H A W 𝓣 E G42 G43 b25 b34 Δ0 (Typed.give s40) at52 (Relend.t-sl-relend 𝓤 H A W E (Referent.rtF (Referent.fInt Syntax.w16)) 𝓣 G42 4 21 2 8 (Syntax.tyRef (Syntax.named 2)
@@ -1981,9 +2284,11 @@ module _ (claims· : Claims) where
           d55 = Typed.s-seq 𝓤 H A W 𝓣 E G40 G41 b24 b35 Δ0 (Typed.ask s38) at54 (Relend.t-sl-aggregate 𝓤 H A W E (Referent.rtF (Referent.fInt Syntax.w8)) 𝓣 (Relend.asMut (Referent.rtF (Referent.fInt
               Syntax.w8))) G40 19 20 7 (Syntax.tyRef Syntax.erased Syntax.mut (Syntax.tyInt Syntax.w8)) (Syntax.tyRef Syntax.erased Syntax.mut (Syntax.tyInt Syntax.w8)) (λ x. x) (Scalar.oFld 2 (List._∷_
               (Syntax.field 1) List.[]) (Syntax.tyInt Syntax.w64) 8 λ v. Shared.lenV (v .0)) (Reads'.as-is 𝓤 H A (Relend.msptr (Referent.rtF (Referent.fInt Syntax.w8)) (Syntax.tyRef Syntax.erased
-              Syntax.mut (Syntax.tyInt Syntax.w8)) 7)) (Reads'.room-gone 𝓤 H A y1)
-              (Relend.reads-owed-len 𝓤 H A W (Referent.rtF (Referent.fInt Syntax.w8)) (Syntax.tyRef (Syntax.named 1) Syntax.mut (Syntax.tyInt Syntax.w8)) 1 7 (Row.lease (κs .1 .0) (qs .1 .0)) 8
-              Path'.refl, Path'.refl) Path'.refl Path'.refl λ b o k. tt) d54
+              Syntax.mut (Syntax.tyInt Syntax.w8)) 7)) (Reads'.room-gone 𝓤 H A y1) (
+                Relend.reads-owed-len 𝓤 H A W (Referent.rtF (Referent.fInt Syntax.w8)) (Syntax.tyRef (Syntax.named 1) Syntax.mut (Syntax.tyInt Syntax.w8)) 1 7 (Row.lease (κs .1 .0) (qs .1 .0)) 8
+                    Path'.refl,
+                Path'.refl,
+              ) Path'.refl Path'.refl λ b o k. tt) d54
 
           d56 : Typed.Typed 𝓤 H A 𝓣 E G39 b37 Δ0 at56
           d56 = Typed.s-seq 𝓤 H A W 𝓣 E G39 G40 b23 b36 Δ0 (Typed.give s37) at55 (Relend.t-sl-relend 𝓤 H A W E (Referent.rtF (Referent.fInt Syntax.w8)) 𝓣 G39 2 19 1 7 (Syntax.tyRef (Syntax.named 1)
@@ -2012,9 +2317,13 @@ module _ (claims· : Claims) where
 
           d61 : Typed.Typed 𝓤 H A 𝓣 E G6 b41 Δ0 at61
           d61 = Typed.s-seq 𝓤 H A W 𝓣 E G6 G7 b1 b40 Δ0 (Typed.both s5) at60 (Plain.t-call-plain 𝓤 H A W 𝓣 1 ps·1 r·1 (claims· .2) (claims· .3) "begin::first_above" (known .1) E (λ pos β. β) G6
-              (record { pos = 1; ty = Syntax.tyRef (Syntax.named 0) Syntax.imm (Syntax.tyInt Syntax.w16); ref = λ x. x; }, (Num.vAt 9 λ x. x, tt)) 10 (List._∷_ 0 List.[]) (Call.sub-id 𝓤 H A W (G6 .slots))
-              (ShrSlice.spares-sslice 𝓤 H A W (Referent.rtF (Referent.fInt Syntax.w16)) (Syntax.tyRef (Syntax.named 0) Syntax.imm (Syntax.tyInt Syntax.w16)) 0, Shared.reads-sslice 𝓤 H A W (Referent.rtF
-              (Referent.fInt Syntax.w16)) (Syntax.tyRef (Syntax.named 0) Syntax.imm (Syntax.tyInt Syntax.w16)) 0, Path'.refl, ((Scalar.reads-sc 𝓤 H A W (Row.sInt Syntax.w32), Path'.refl), tt))
+              (record { pos = 1; ty = Syntax.tyRef (Syntax.named 0) Syntax.imm (Syntax.tyInt Syntax.w16); ref = λ x. x }, (Num.vAt 9 λ x. x, tt)) 10 (List._∷_ 0 List.[]) (Call.sub-id 𝓤 H A W (G6 .slots)) (
+                ShrSlice.spares-sslice 𝓤 H A W (Referent.rtF (Referent.fInt Syntax.w16)) (Syntax.tyRef (Syntax.named 0) Syntax.imm (Syntax.tyInt Syntax.w16)) 0,
+                Shared.reads-sslice 𝓤 H A W (Referent.rtF
+                    (Referent.fInt Syntax.w16)) (Syntax.tyRef (Syntax.named 0) Syntax.imm (Syntax.tyInt Syntax.w16)) 0,
+                Path'.refl,
+                ((Scalar.reads-sc 𝓤 H A W (Row.sInt Syntax.w32), Path'.refl), tt),
+              )
               (Reads'.room-gone 𝓤 H A (Syntax.tyInt Syntax.w64)) (tt, tt) Path'.refl) d60
 
           d62 : Typed.Typed 𝓤 H A 𝓣 E G5 b42 Δ0 at62
@@ -2052,11 +2361,24 @@ module _ (claims· : Claims) where
           pub measure : Kinds.Den {n = 5} κs Bool.pBool
           pub lines : Kinds.Den {n = 5} κs (MutSlice.pMutS (Referent.rtF (Referent.fInt Syntax.w16)) 2 tt)
           pub rs : Kinds.Den {n = 5} κs (MutSlice.pMutS (Element.type) 3 tt)
-          pub form : Kinds.Den {n = 5} κs (Value.pVal record
-              { ty = Declared'.row Form.the-type; one = Path'.refl; val = Laws'4.val Form.the-type Laws.the-laws; tells = Laws'4.tells Form.the-type Laws.the-laws; still = Laws'4.still Form.the-type
-              Laws.the-copy Exit.yes; row = Rows.whole (Declared'.row Form.the-type); rd = λ x. x; mk = λ x. x; } λ M 𝓤 H A W. record
-              { copies = Laws'4.copy Form.the-type Laws.the-copy 𝓤 H A W; lawful = Laws'4.lawful Form.the-type Laws.the-laws 𝓤 H A W; makes = Laws'4.makes Form.the-type Laws.the-plain 𝓤 H A; in-mem =
-              Local.mem-whole 𝓤 H A W (Declared'.row Form.the-type); of-mem = Local.whole-mem 𝓤 H A W (Declared'.row Form.the-type); })
+          pub form : Kinds.Den {n = 5} κs (Value.pVal record {
+            ty = Declared'.row Form.the-type;
+            one = Path'.refl;
+            val = Laws'4.val Form.the-type Laws.the-laws;
+            tells = Laws'4.tells Form.the-type Laws.the-laws;
+            still = Laws'4.still Form.the-type
+                Laws.the-copy Exit.yes;
+            row = Rows.whole (Declared'.row Form.the-type);
+            rd = λ x. x;
+            mk = λ x. x;
+          } λ M 𝓤 H A W. record {
+            copies = Laws'4.copy Form.the-type Laws.the-copy 𝓤 H A W;
+            lawful = Laws'4.lawful Form.the-type Laws.the-laws 𝓤 H A W;
+            makes = Laws'4.makes Form.the-type Laws.the-plain 𝓤 H A;
+            in-mem =
+                Local.mem-whole 𝓤 H A W (Declared'.row Form.the-type);
+            of-mem = Local.whole-mem 𝓤 H A W (Declared'.row Form.the-type);
+          })
           pub bases : Kinds.Den {n = 5} κs (ShrSlice.pShrS (Referent.rtF (Referent.fInt Syntax.w8)) 4 tt)
           pub count : Kinds.Den {n = 5} κs (Num.pNum Syntax.w64)
 
@@ -2071,9 +2393,12 @@ module _ (claims· : Claims) where
       m0 = λ κs args. (tt, Enter.partsP κs 1 ps xs (dens κs args))
 
       abbrev W0 : (κs : Lifetimes.Lfts 5) → (args : Args κs) → Typed.Want O0
-      W0 = λ κs args.
-          (λ u. ⊥, tt, λ u. Enter.Fixs κs 1 ps xs (dens κs args) (u .1) × Post· κs (dens κs args) (Function.resV r κs (u .0)) (Clauses.atExit (Kinds.endedOf 5 ps r) κs (dens κs args) (Enter.lastsP κs 1 ps
-          xs (dens κs args) (u .1))))
+      W0 = λ κs args. (
+        λ u. ⊥,
+        tt,
+        λ u. Enter.Fixs κs 1 ps xs (dens κs args) (u .1) × Post· κs (dens κs args) (Function.resV r κs (u .0)) (Clauses.atExit (Kinds.endedOf 5 ps r) κs (dens κs args) (Enter.lastsP κs 1 ps
+            xs (dens κs args) (u .1))),
+      )
 
       pub record Start : Type 0 where
         pub κs : Lifetimes.Lfts 5
@@ -2154,7 +2479,7 @@ module _ (claims· : Claims) where
       module _ (before· : After-largest) where
         abbrev pub After-first-above·own : Type 0
         After-first-above·own = Called.Called ps·1 r·1 (claims· .3) T6
-            (record { pos = 1; ty = Syntax.tyRef (Syntax.named 0) Syntax.imm (Syntax.tyInt Syntax.w16); ref = λ x. x; }, (Num.vAt 9 λ x. x, tt)) (m5 (before· .before) (After-largest·gave before·))
+            (record { pos = 1; ty = Syntax.tyRef (Syntax.named 0) Syntax.imm (Syntax.tyInt Syntax.w16); ref = λ x. x }, (Num.vAt 9 λ x. x, tt)) (m5 (before· .before) (After-largest·gave before·))
 
       pub record After-first-above : Type 0 where
         pub before : After-largest
@@ -2162,7 +2487,7 @@ module _ (claims· : Claims) where
 
       abbrev pub After-first-above·gave : (c : After-first-above) → s5 .gives (m5 (c .before .before) (After-largest·gave (c .before)))
       After-first-above·gave = λ c. Called.given ps·1 r·1 (claims· .3) T6
-          (record { pos = 1; ty = Syntax.tyRef (Syntax.named 0) Syntax.imm (Syntax.tyInt Syntax.w16); ref = λ x. x; }, (Num.vAt 9 λ x. x, tt)) (m5 (c .before .before) (After-largest·gave (c .before))) (c
+          (record { pos = 1; ty = Syntax.tyRef (Syntax.named 0) Syntax.imm (Syntax.tyInt Syntax.w16); ref = λ x. x }, (Num.vAt 9 λ x. x, tt)) (m5 (c .before .before) (After-largest·gave (c .before))) (c
           .first-above)
 
       abbrev pub m7 : (before : After-largest) → (given : s5 .gives (m5 (before .before) (After-largest·gave before))) → Typed.Mo T8
@@ -2214,7 +2539,7 @@ module _ (claims· : Claims) where
 
       module _ (before· : After-clear-arg) where
         abbrev pub After-clear·own : Type 0
-        After-clear·own = Called.Called ps·2 r·2 (claims· .5) T16 (record { pos = 15; ty = Syntax.tyRef Syntax.erased Syntax.mut (Syntax.tyInt Syntax.w16); ref = λ x. x; }, tt) (m13 (before· .before)
+        After-clear·own = Called.Called ps·2 r·2 (claims· .5) T16 (record { pos = 15; ty = Syntax.tyRef Syntax.erased Syntax.mut (Syntax.tyInt Syntax.w16); ref = λ x. x }, tt) (m13 (before· .before)
             (before· .clear-arg .given))
 
       pub record After-clear : Type 0 where
@@ -2222,7 +2547,7 @@ module _ (claims· : Claims) where
         pub clear : After-clear·own before
 
       abbrev pub After-clear·gave : (c : After-clear) → s14 .gives (m13 (c .before .before) (c .before .clear-arg .given))
-      After-clear·gave = λ c. Called.given ps·2 r·2 (claims· .5) T16 (record { pos = 15; ty = Syntax.tyRef Syntax.erased Syntax.mut (Syntax.tyInt Syntax.w16); ref = λ x. x; }, tt) (m13 (c .before
+      After-clear·gave = λ c. Called.given ps·2 r·2 (claims· .5) T16 (record { pos = 15; ty = Syntax.tyRef Syntax.erased Syntax.mut (Syntax.tyInt Syntax.w16); ref = λ x. x }, tt) (m13 (c .before
           .before) (c .before .clear-arg .given)) (c .clear)
 
       abbrev pub m15 : (before : After-clear-arg) → (given : s14 .gives (m13 (before .before) (before .clear-arg .given))) → Typed.Mo T18
@@ -2272,7 +2597,7 @@ module _ (claims· : Claims) where
 
       module _ (before· : After-clear-records-arg) where
         abbrev pub After-clear-records·own : Type 0
-        After-clear-records·own = Called.Called ps·3 r·3 (claims· .7) T25 (record { pos = 17; ty = Syntax.tyRef Syntax.erased Syntax.mut Element.behind; ref = λ x. x; }, tt) (m19 (before· .before)
+        After-clear-records·own = Called.Called ps·3 r·3 (claims· .7) T25 (record { pos = 17; ty = Syntax.tyRef Syntax.erased Syntax.mut Element.behind; ref = λ x. x }, tt) (m19 (before· .before)
             (before· .clear-records-arg .given))
 
       pub record After-clear-records : Type 0 where
@@ -2280,7 +2605,7 @@ module _ (claims· : Claims) where
         pub clear-records : After-clear-records·own before
 
       abbrev pub After-clear-records·gave : (c : After-clear-records) → s23 .gives (m19 (c .before .before) (c .before .clear-records-arg .given))
-      After-clear-records·gave = λ c. Called.given ps·3 r·3 (claims· .7) T25 (record { pos = 17; ty = Syntax.tyRef Syntax.erased Syntax.mut Element.behind; ref = λ x. x; }, tt) (m19 (c .before
+      After-clear-records·gave = λ c. Called.given ps·3 r·3 (claims· .7) T25 (record { pos = 17; ty = Syntax.tyRef Syntax.erased Syntax.mut Element.behind; ref = λ x. x }, tt) (m19 (c .before
           .before) (c .before .clear-records-arg .given)) (c .clear-records)
 
       abbrev pub m21 : (before : After-clear-records-arg) → (given : s23 .gives (m19 (before .before) (before .clear-records-arg .given))) → Typed.Mo T27
@@ -2397,13 +2722,22 @@ module _ (claims· : Claims) where
 
       module _ (before· : After-write-measured-arg3) where
         abbrev pub After-write-measured·own : Type 0
-        After-write-measured·own = Called.Called ps·4 r·4 (claims· .9) T47
-            (record { pos = 1; ty = Syntax.tyRef (Syntax.named 0) Syntax.imm (Syntax.tyInt Syntax.w16); ref = λ x. x; },
-            (record { pos = 20; ty = Syntax.tyRef Syntax.erased Syntax.mut (Syntax.tyInt Syntax.w8); ref = λ x. x; },
-            (Bool.bAt 3 λ x. x,
-            (record { pos = 22; ty = Syntax.tyRef Syntax.erased Syntax.mut (Syntax.tyInt Syntax.w16); ref = λ x. x; },
-            (record { pos = 24; ty = Syntax.tyRef Syntax.erased Syntax.mut Element.behind; ref = λ x. x; },
-            (record { pos = 6; st = List.[]; d = 0; at = λ x. x }, (record { pos = 7; ty = Syntax.tyRef (Syntax.named 4) Syntax.imm (Syntax.tyInt Syntax.w8); ref = λ x. x; }, (Num.vAt 8 λ x. x, tt))))))))
+        After-write-measured·own = Called.Called ps·4 r·4 (claims· .9) T47 (
+          record { pos = 1; ty = Syntax.tyRef (Syntax.named 0) Syntax.imm (Syntax.tyInt Syntax.w16); ref = λ x. x },
+          (
+            record { pos = 20; ty = Syntax.tyRef Syntax.erased Syntax.mut (Syntax.tyInt Syntax.w8); ref = λ x. x },
+            (
+              Bool.bAt 3 λ x. x,
+              (
+                record { pos = 22; ty = Syntax.tyRef Syntax.erased Syntax.mut (Syntax.tyInt Syntax.w16); ref = λ x. x },
+                (
+                  record { pos = 24; ty = Syntax.tyRef Syntax.erased Syntax.mut Element.behind; ref = λ x. x },
+                  (record { pos = 6; st = List.[]; d = 0; at = λ x. x }, (record { pos = 7; ty = Syntax.tyRef (Syntax.named 4) Syntax.imm (Syntax.tyInt Syntax.w8); ref = λ x. x }, (Num.vAt 8 λ x. x, tt))),
+                ),
+              ),
+            ),
+          ),
+        )
             (m36 (before· .before) (before· .write-measured-arg3 .given))
 
       pub record After-write-measured : Type 0 where
@@ -2411,13 +2745,22 @@ module _ (claims· : Claims) where
         pub write-measured : After-write-measured·own before
 
       abbrev pub After-write-measured·gave : (c : After-write-measured) → s45 .gives (m36 (c .before .before) (c .before .write-measured-arg3 .given))
-      After-write-measured·gave = λ c. Called.given ps·4 r·4 (claims· .9) T47
-          (record { pos = 1; ty = Syntax.tyRef (Syntax.named 0) Syntax.imm (Syntax.tyInt Syntax.w16); ref = λ x. x; },
-          (record { pos = 20; ty = Syntax.tyRef Syntax.erased Syntax.mut (Syntax.tyInt Syntax.w8); ref = λ x. x; },
-          (Bool.bAt 3 λ x. x,
-          (record { pos = 22; ty = Syntax.tyRef Syntax.erased Syntax.mut (Syntax.tyInt Syntax.w16); ref = λ x. x; },
-          (record { pos = 24; ty = Syntax.tyRef Syntax.erased Syntax.mut Element.behind; ref = λ x. x; },
-          (record { pos = 6; st = List.[]; d = 0; at = λ x. x }, (record { pos = 7; ty = Syntax.tyRef (Syntax.named 4) Syntax.imm (Syntax.tyInt Syntax.w8); ref = λ x. x; }, (Num.vAt 8 λ x. x, tt))))))))
+      After-write-measured·gave = λ c. Called.given ps·4 r·4 (claims· .9) T47 (
+        record { pos = 1; ty = Syntax.tyRef (Syntax.named 0) Syntax.imm (Syntax.tyInt Syntax.w16); ref = λ x. x },
+        (
+          record { pos = 20; ty = Syntax.tyRef Syntax.erased Syntax.mut (Syntax.tyInt Syntax.w8); ref = λ x. x },
+          (
+            Bool.bAt 3 λ x. x,
+            (
+              record { pos = 22; ty = Syntax.tyRef Syntax.erased Syntax.mut (Syntax.tyInt Syntax.w16); ref = λ x. x },
+              (
+                record { pos = 24; ty = Syntax.tyRef Syntax.erased Syntax.mut Element.behind; ref = λ x. x },
+                (record { pos = 6; st = List.[]; d = 0; at = λ x. x }, (record { pos = 7; ty = Syntax.tyRef (Syntax.named 4) Syntax.imm (Syntax.tyInt Syntax.w8); ref = λ x. x }, (Num.vAt 8 λ x. x, tt))),
+              ),
+            ),
+          ),
+        ),
+      )
           (m36 (c .before .before) (c .before .write-measured-arg3 .given)) (c .write-measured)
 
       abbrev pub m38 : (before : After-write-measured-arg3) → (given : s45 .gives (m36 (before .before) (before .write-measured-arg3 .given))) → Typed.Mo T49
@@ -2521,158 +2864,306 @@ module _ (claims· : Claims) where
           (same-length-3 : Need-same-length-3) (same-length-4 : Need-same-length-4) (same-length-5 : Need-same-length-5) (returns-2 : Need-returns-2) where
         lay8 : (c : After-write-measured) → at47 (W0 (c .before .before .before .before .before .before .before .before .before .before .before .κs) (c .before .before .before .before .before .before
             .before .before .before .before .before .args)) (m37 (c .before) (After-write-measured·gave c))
-        lay8 = λ c.
-            (Path'.refl, λ g. λ g'.
-            (Path'.refl, λ g''. λ g'3.
-            (Path'.refl, λ g'4.
-            ((Path'.refl,
-            (MutSlice.fix-len (Row.get 2 (T64 .locals) (m47 record
-            { before = record
-            { before = record { before = record { before = record { before = c .before; write-measured = c .write-measured; }; out = record { given = g }; }; slice-known4 = record { given = g' }; };
-            lines2 = record { given = g'' }; }; slice-known5 = record { given = g'3 }; } g'4) .ptr) (Row.get 2 (T64 .locals) (m47 record
-            { before = record
-            { before = record { before = record { before = record { before = c .before; write-measured = c .write-measured; }; out = record { given = g }; }; slice-known4 = record { given = g' }; };
-            lines2 = record { given = g'' }; }; slice-known5 = record { given = g'3 }; } g'4) .name) (Row.get 2 (T64 .locals) (m47 record
-            { before = record
-            { before = record { before = record { before = record { before = c .before; write-measured = c .write-measured; }; out = record { given = g }; }; slice-known4 = record { given = g' }; };
-            lines2 = record { given = g'' }; }; slice-known5 = record { given = g'3 }; } g'4) .now) (dens (c .before .before .before .before .before .before .before .before .before .before .before .κs) (c
-            .before .before .before .before .before .before .before .before .before .before .before .args) .1 .0 .now) (same-length-3 record
-            { before = record
-            { before = record
-            { before = record { before = record { before = record { before = c .before; write-measured = c .write-measured; }; out = record { given = g }; }; slice-known4 = record { given = g' }; };
-            lines2 = record { given = g'' }; }; slice-known5 = record { given = g'3 }; }; rs2 = record { given = g'4 }; }),
-            (tt,
-            (MutSlice.fix-len (Row.get 4 (T64 .locals) (m47 record
-            { before = record
-            { before = record { before = record { before = record { before = c .before; write-measured = c .write-measured; }; out = record { given = g }; }; slice-known4 = record { given = g' }; };
-            lines2 = record { given = g'' }; }; slice-known5 = record { given = g'3 }; } g'4) .ptr) (Row.get 4 (T64 .locals) (m47 record
-            { before = record
-            { before = record { before = record { before = record { before = c .before; write-measured = c .write-measured; }; out = record { given = g }; }; slice-known4 = record { given = g' }; };
-            lines2 = record { given = g'' }; }; slice-known5 = record { given = g'3 }; } g'4) .name) (Row.get 4 (T64 .locals) (m47 record
-            { before = record
-            { before = record { before = record { before = record { before = c .before; write-measured = c .write-measured; }; out = record { given = g }; }; slice-known4 = record { given = g' }; };
-            lines2 = record { given = g'' }; }; slice-known5 = record { given = g'3 }; } g'4) .now) (dens (c .before .before .before .before .before .before .before .before .before .before .before .κs) (c
-            .before .before .before .before .before .before .before .before .before .before .before .args) .1 .1 .1 .0 .now) (same-length-4 record
-            { before = record
-            { before = record
-            { before = record { before = record { before = record { before = c .before; write-measured = c .write-measured; }; out = record { given = g }; }; slice-known4 = record { given = g' }; };
-            lines2 = record { given = g'' }; }; slice-known5 = record { given = g'3 }; }; rs2 = record { given = g'4 }; }),
-            (MutSlice.fix-len (Row.get 5 (T64 .locals) (m47 record
-            { before = record
-            { before = record { before = record { before = record { before = c .before; write-measured = c .write-measured; }; out = record { given = g }; }; slice-known4 = record { given = g' }; };
-            lines2 = record { given = g'' }; }; slice-known5 = record { given = g'3 }; } g'4) .ptr) (Row.get 5 (T64 .locals) (m47 record
-            { before = record
-            { before = record { before = record { before = record { before = c .before; write-measured = c .write-measured; }; out = record { given = g }; }; slice-known4 = record { given = g' }; };
-            lines2 = record { given = g'' }; }; slice-known5 = record { given = g'3 }; } g'4) .name) (Row.get 5 (T64 .locals) (m47 record
-            { before = record
-            { before = record { before = record { before = record { before = c .before; write-measured = c .write-measured; }; out = record { given = g }; }; slice-known4 = record { given = g' }; };
-            lines2 = record { given = g'' }; }; slice-known5 = record { given = g'3 }; } g'4) .now) (dens (c .before .before .before .before .before .before .before .before .before .before .before .κs) (c
-            .before .before .before .before .before .before .before .before .before .before .before .args) .1 .1 .1 .1 .0 .now) (same-length-5 record
-            { before = record
-            { before = record
-            { before = record { before = record { before = record { before = c .before; write-measured = c .write-measured; }; out = record { given = g }; }; slice-known4 = record { given = g' }; };
-            lines2 = record { given = g'' }; }; slice-known5 = record { given = g'3 }; }; rs2 = record { given = g'4 }; }), (tt, (Path'.refl, (tt, tt)))))))), returns-2 record
-            { before = record
-            { before = record
-            { before = record { before = record { before = record { before = c .before; write-measured = c .write-measured; }; out = record { given = g }; }; slice-known4 = record { given = g' }; };
-            lines2 = record { given = g'' }; }; slice-known5 = record { given = g'3 }; }; rs2 = record { given = g'4 }; }))))
+        lay8 = λ c. (
+          Path'.refl,
+          λ g. λ g'. (
+            Path'.refl,
+            λ g''. λ g'3. (
+              Path'.refl,
+              λ g'4. (
+                (
+                  Path'.refl,
+                  (
+                    MutSlice.fix-len (Row.get 2 (T64 .locals) (m47 record {
+                      before = record {
+                        before = record { before = record { before = record { before = c .before; write-measured = c .write-measured }; out = record { given = g } }; slice-known4 = record { given = g' } };
+                        lines2 = record { given = g'' };
+                      };
+                      slice-known5 = record { given = g'3 };
+                    } g'4) .ptr) (Row.get 2 (T64 .locals) (m47 record {
+                      before = record {
+                        before = record { before = record { before = record { before = c .before; write-measured = c .write-measured }; out = record { given = g } }; slice-known4 = record { given = g' } };
+                        lines2 = record { given = g'' };
+                      };
+                      slice-known5 = record { given = g'3 };
+                    } g'4) .name) (Row.get 2 (T64 .locals) (m47 record {
+                      before = record {
+                        before = record { before = record { before = record { before = c .before; write-measured = c .write-measured }; out = record { given = g } }; slice-known4 = record { given = g' } };
+                        lines2 = record { given = g'' };
+                      };
+                      slice-known5 = record { given = g'3 };
+                    } g'4) .now) (dens (c .before .before .before .before .before .before .before .before .before .before .before .κs) (c
+                        .before .before .before .before .before .before .before .before .before .before .before .args) .1 .0 .now) (same-length-3 record {
+                          before = record {
+                            before = record {
+                              before = record { before = record { before = record { before = c .before; write-measured = c .write-measured }; out = record { given = g } }; slice-known4 = record { given = g' } };
+                              lines2 = record { given = g'' };
+                            };
+                            slice-known5 = record { given = g'3 };
+                          };
+                          rs2 = record { given = g'4 };
+                        }),
+                    (
+                      tt,
+                      (
+                        MutSlice.fix-len (Row.get 4 (T64 .locals) (m47 record {
+                          before = record {
+                            before = record { before = record { before = record { before = c .before; write-measured = c .write-measured }; out = record { given = g } }; slice-known4 = record { given = g' } };
+                            lines2 = record { given = g'' };
+                          };
+                          slice-known5 = record { given = g'3 };
+                        } g'4) .ptr) (Row.get 4 (T64 .locals) (m47 record {
+                          before = record {
+                            before = record { before = record { before = record { before = c .before; write-measured = c .write-measured }; out = record { given = g } }; slice-known4 = record { given = g' } };
+                            lines2 = record { given = g'' };
+                          };
+                          slice-known5 = record { given = g'3 };
+                        } g'4) .name) (Row.get 4 (T64 .locals) (m47 record {
+                          before = record {
+                            before = record { before = record { before = record { before = c .before; write-measured = c .write-measured }; out = record { given = g } }; slice-known4 = record { given = g' } };
+                            lines2 = record { given = g'' };
+                          };
+                          slice-known5 = record { given = g'3 };
+                        } g'4) .now) (dens (c .before .before .before .before .before .before .before .before .before .before .before .κs) (c
+                            .before .before .before .before .before .before .before .before .before .before .before .args) .1 .1 .1 .0 .now) (same-length-4 record {
+                              before = record {
+                                before = record {
+                                  before = record { before = record { before = record { before = c .before; write-measured = c .write-measured }; out = record { given = g } }; slice-known4 = record { given = g' } };
+                                  lines2 = record { given = g'' };
+                                };
+                                slice-known5 = record { given = g'3 };
+                              };
+                              rs2 = record { given = g'4 };
+                            }),
+                        (
+                          MutSlice.fix-len (Row.get 5 (T64 .locals) (m47 record {
+                            before = record {
+                              before = record { before = record { before = record { before = c .before; write-measured = c .write-measured }; out = record { given = g } }; slice-known4 = record { given = g' } };
+                              lines2 = record { given = g'' };
+                            };
+                            slice-known5 = record { given = g'3 };
+                          } g'4) .ptr) (Row.get 5 (T64 .locals) (m47 record {
+                            before = record {
+                              before = record { before = record { before = record { before = c .before; write-measured = c .write-measured }; out = record { given = g } }; slice-known4 = record { given = g' } };
+                              lines2 = record { given = g'' };
+                            };
+                            slice-known5 = record { given = g'3 };
+                          } g'4) .name) (Row.get 5 (T64 .locals) (m47 record {
+                            before = record {
+                              before = record { before = record { before = record { before = c .before; write-measured = c .write-measured }; out = record { given = g } }; slice-known4 = record { given = g' } };
+                              lines2 = record { given = g'' };
+                            };
+                            slice-known5 = record { given = g'3 };
+                          } g'4) .now) (dens (c .before .before .before .before .before .before .before .before .before .before .before .κs) (c
+                              .before .before .before .before .before .before .before .before .before .before .before .args) .1 .1 .1 .1 .0 .now) (same-length-5 record {
+                                before = record {
+                                  before = record {
+                                    before = record { before = record { before = record { before = c .before; write-measured = c .write-measured }; out = record { given = g } }; slice-known4 = record { given = g' } };
+                                    lines2 = record { given = g'' };
+                                  };
+                                  slice-known5 = record { given = g'3 };
+                                };
+                                rs2 = record { given = g'4 };
+                              }),
+                          (tt, (Path'.refl, (tt, tt))),
+                        ),
+                      ),
+                    ),
+                  ),
+                ),
+                returns-2 record {
+                  before = record {
+                    before = record {
+                      before = record { before = record { before = record { before = c .before; write-measured = c .write-measured }; out = record { given = g } }; slice-known4 = record { given = g' } };
+                      lines2 = record { given = g'' };
+                    };
+                    slice-known5 = record { given = g'3 };
+                  };
+                  rs2 = record { given = g'4 };
+                },
+              ),
+            ),
+          ),
+        )
 
         lay7 : (c : Else1) → at57 (W0 (c .before .before .before .before .before .before .before .κs) (c .before .before .before .before .before .before .before .args)) (m30 (c .before))
-        lay7 = λ c. λ g.
-            (Path'.refl, λ g'.
-            (Path'.refl, λ g''.
-            (Path'.refl,
-            (write-measured-requires record
-            { before = record { before = record { before = record { before = c .before; if1 = c .if1 }; write-measured-arg = record { given = g }; }; write-measured-arg2 = record { given = g' }; };
-            write-measured-arg3 = record { given = g'' }; }, λ g'3. lay8 record
-            { before = record
-            { before = record { before = record { before = record { before = c .before; if1 = c .if1 }; write-measured-arg = record { given = g }; }; write-measured-arg2 = record { given = g' }; };
-            write-measured-arg3 = record { given = g'' }; }; write-measured = Called.called ps·4 r·4 (claims· .9) T47
-            (record { pos = 1; ty = Syntax.tyRef (Syntax.named 0) Syntax.imm (Syntax.tyInt Syntax.w16); ref = λ x. x; },
-            (record { pos = 20; ty = Syntax.tyRef Syntax.erased Syntax.mut (Syntax.tyInt Syntax.w8); ref = λ x. x; },
-            (Bool.bAt 3 λ x. x,
-            (record { pos = 22; ty = Syntax.tyRef Syntax.erased Syntax.mut (Syntax.tyInt Syntax.w16); ref = λ x. x; },
-            (record { pos = 24; ty = Syntax.tyRef Syntax.erased Syntax.mut Element.behind; ref = λ x. x; },
-            (record { pos = 6; st = List.[]; d = 0; at = λ x. x }, (record { pos = 7; ty = Syntax.tyRef (Syntax.named 4) Syntax.imm (Syntax.tyInt Syntax.w8); ref = λ x. x; }, (Num.vAt 8 λ x. x, tt))))))))
-            (m36 record { before = record { before = record { before = c .before; if1 = c .if1 }; write-measured-arg = record { given = g }; }; write-measured-arg2 = record { given = g' }; } g'') g'3;
-            }))))
+        lay7 = λ c. λ g. (
+          Path'.refl,
+          λ g'. (
+            Path'.refl,
+            λ g''. (
+              Path'.refl,
+              (
+                write-measured-requires record {
+                  before = record { before = record { before = record { before = c .before; if1 = c .if1 }; write-measured-arg = record { given = g } }; write-measured-arg2 = record { given = g' } };
+                  write-measured-arg3 = record { given = g'' };
+                },
+                λ g'3. lay8 record {
+                  before = record {
+                    before = record { before = record { before = record { before = c .before; if1 = c .if1 }; write-measured-arg = record { given = g } }; write-measured-arg2 = record { given = g' } };
+                    write-measured-arg3 = record { given = g'' };
+                  };
+                  write-measured = Called.called ps·4 r·4 (claims· .9) T47 (
+                    record { pos = 1; ty = Syntax.tyRef (Syntax.named 0) Syntax.imm (Syntax.tyInt Syntax.w16); ref = λ x. x },
+                    (
+                      record { pos = 20; ty = Syntax.tyRef Syntax.erased Syntax.mut (Syntax.tyInt Syntax.w8); ref = λ x. x },
+                      (
+                        Bool.bAt 3 λ x. x,
+                        (
+                          record { pos = 22; ty = Syntax.tyRef Syntax.erased Syntax.mut (Syntax.tyInt Syntax.w16); ref = λ x. x },
+                          (
+                            record { pos = 24; ty = Syntax.tyRef Syntax.erased Syntax.mut Element.behind; ref = λ x. x },
+                            (record { pos = 6; st = List.[]; d = 0; at = λ x. x }, (record { pos = 7; ty = Syntax.tyRef (Syntax.named 4) Syntax.imm (Syntax.tyInt Syntax.w8); ref = λ x. x }, (Num.vAt 8 λ x. x, tt))),
+                          ),
+                        ),
+                      ),
+                    ),
+                  )
+                      (m36 record { before = record { before = record { before = c .before; if1 = c .if1 }; write-measured-arg = record { given = g } }; write-measured-arg2 = record { given = g' } } g'') g'3;
+                },
+              ),
+            ),
+          ),
+        )
 
         lay6 : (c : Else1) → at28 (W1 (c .before .before) (After-first-above·gave (c .before))) (m9 (c .before .before) (After-first-above·gave (c .before)))
         lay6 = λ c. lay7 record { before = c .before; if1 = c .if1 }
 
         lay5 : (c : After-clear-records) → at11 (W1 (c .before .before .before .before .before .before .before .before) (After-first-above·gave (c .before .before .before .before .before .before
             .before))) (m20 (c .before) (After-clear-records·gave c))
-        lay5 = λ c.
-            (Path'.refl, λ g.
-            ((Path'.refl,
-            (Path'.refl,
-            (tt,
-            (MutSlice.fix-len (Row.get 4 (T37 .locals) (m29 record { before = c .before; clear-records = c .clear-records; } g) .ptr) (Row.get 4 (T37 .locals) (m29 record
-            { before = c .before; clear-records = c .clear-records; } g) .name) (Row.get 4 (T37 .locals) (m29 record { before = c .before; clear-records = c .clear-records; } g) .now) (dens (c .before
-            .before .before .before .before .before .before .before .before .before .before .before .before .κs) (c .before .before .before .before .before .before .before .before .before .before .before
-            .before .before .args) .1 .1 .1 .0 .now) (same-length record { before = record { before = c .before; clear-records = c .clear-records; }; rs = record { given = g }; }),
-            (MutSlice.fix-len (Row.get 5 (T37 .locals) (m29 record { before = c .before; clear-records = c .clear-records; } g) .ptr) (Row.get 5 (T37 .locals) (m29 record
-            { before = c .before; clear-records = c .clear-records; } g) .name) (Row.get 5 (T37 .locals) (m29 record { before = c .before; clear-records = c .clear-records; } g) .now) (dens (c .before
-            .before .before .before .before .before .before .before .before .before .before .before .before .κs) (c .before .before .before .before .before .before .before .before .before .before .before
-            .before .before .args) .1 .1 .1 .1 .0 .now) (same-length-2 record { before = record { before = c .before; clear-records = c .clear-records; }; rs = record { given = g }; }),
-            (tt, (Path'.refl, (tt, tt)))))))), returns record { before = record { before = c .before; clear-records = c .clear-records }; rs = record { given = g }; }))
+        lay5 = λ c. (
+          Path'.refl,
+          λ g. (
+            (
+              Path'.refl,
+              (
+                Path'.refl,
+                (
+                  tt,
+                  (
+                    MutSlice.fix-len (Row.get 4 (T37 .locals) (m29 record { before = c .before; clear-records = c .clear-records } g) .ptr) (Row.get 4 (T37 .locals) (m29 record
+                        { before = c .before; clear-records = c .clear-records } g) .name) (Row.get 4 (T37 .locals) (m29 record { before = c .before; clear-records = c .clear-records } g) .now) (dens (c .before
+                        .before .before .before .before .before .before .before .before .before .before .before .before .κs) (c .before .before .before .before .before .before .before .before .before .before .before
+                        .before .before .args) .1 .1 .1 .0 .now) (same-length record { before = record { before = c .before; clear-records = c .clear-records }; rs = record { given = g } }),
+                    (
+                      MutSlice.fix-len (Row.get 5 (T37 .locals) (m29 record { before = c .before; clear-records = c .clear-records } g) .ptr) (Row.get 5 (T37 .locals) (m29 record
+                          { before = c .before; clear-records = c .clear-records } g) .name) (Row.get 5 (T37 .locals) (m29 record { before = c .before; clear-records = c .clear-records } g) .now) (dens (c .before
+                          .before .before .before .before .before .before .before .before .before .before .before .before .κs) (c .before .before .before .before .before .before .before .before .before .before .before
+                          .before .before .args) .1 .1 .1 .1 .0 .now) (same-length-2 record { before = record { before = c .before; clear-records = c .clear-records }; rs = record { given = g } }),
+                      (tt, (Path'.refl, (tt, tt))),
+                    ),
+                  ),
+                ),
+              ),
+            ),
+            returns record { before = record { before = c .before; clear-records = c .clear-records }; rs = record { given = g } },
+          ),
+        )
 
         lay4 : (c : After-clear) → at20 (W1 (c .before .before .before .before) (After-first-above·gave (c .before .before .before))) (m14 (c .before) (After-clear·gave c))
-        lay4 = λ c.
-            (Path'.refl, λ g. λ g'. λ g''.
-            (Path'.refl,
-            (clear-records-requires record
-            { before = record { before = record { before = record { before = c .before; clear = c .clear }; lines = record { given = g }; }; slice-known3 = record { given = g' }; }; clear-records-arg =
-            record { given = g'' }; }, λ g'3. lay5 record
-            { before = record
-            { before = record { before = record { before = record { before = c .before; clear = c .clear }; lines = record { given = g }; }; slice-known3 = record { given = g' }; }; clear-records-arg =
-            record { given = g'' }; }; clear-records = Called.called ps·3 r·3 (claims· .7) T25 (record { pos = 17; ty = Syntax.tyRef Syntax.erased Syntax.mut Element.behind; ref = λ x. x; }, tt) (m19
-            record { before = record { before = record { before = c .before; clear = c .clear }; lines = record { given = g }; }; slice-known3 = record { given = g' }; } g'') g'3; })))
+        lay4 = λ c. (
+          Path'.refl,
+          λ g. λ g'. λ g''. (
+            Path'.refl,
+            (
+              clear-records-requires record {
+                before = record { before = record { before = record { before = c .before; clear = c .clear }; lines = record { given = g } }; slice-known3 = record { given = g' } };
+                clear-records-arg =
+                    record { given = g'' };
+              },
+              λ g'3. lay5 record {
+                before = record {
+                  before = record { before = record { before = record { before = c .before; clear = c .clear }; lines = record { given = g } }; slice-known3 = record { given = g' } };
+                  clear-records-arg =
+                      record { given = g'' };
+                };
+                clear-records = Called.called ps·3 r·3 (claims· .7) T25 (record { pos = 17; ty = Syntax.tyRef Syntax.erased Syntax.mut Element.behind; ref = λ x. x }, tt) (m19
+                    record { before = record { before = record { before = c .before; clear = c .clear }; lines = record { given = g } }; slice-known3 = record { given = g' } } g'') g'3;
+              },
+            ),
+          ),
+        )
 
         lay3 : (c : Then1) → at26 (W1 (c .before .before) (After-first-above·gave (c .before))) (m9 (c .before .before) (After-first-above·gave (c .before)))
-        lay3 = λ c. λ g.
-            (Path'.refl,
-            (clear-requires record { before = record { before = c .before; if1 = c .if1 }; clear-arg = record { given = g }; }, λ g'. lay4 record
-            { before = record { before = record { before = c .before; if1 = c .if1 }; clear-arg = record { given = g }; }; clear = Called.called ps·2 r·2 (claims· .5) T16
-            (record { pos = 15; ty = Syntax.tyRef Syntax.erased Syntax.mut (Syntax.tyInt Syntax.w16); ref = λ x. x; }, tt) (m13 record { before = c .before; if1 = c .if1 } g) g'; }))
+        lay3 = λ c. λ g. (
+          Path'.refl,
+          (
+            clear-requires record { before = record { before = c .before; if1 = c .if1 }; clear-arg = record { given = g } },
+            λ g'. lay4 record {
+              before = record { before = record { before = c .before; if1 = c .if1 }; clear-arg = record { given = g } };
+              clear = Called.called ps·2 r·2 (claims· .5) T16
+                  (record { pos = 15; ty = Syntax.tyRef Syntax.erased Syntax.mut (Syntax.tyInt Syntax.w16); ref = λ x. x }, tt) (m13 record { before = c .before; if1 = c .if1 } g) g';
+            },
+          ),
+        )
 
         lay2 : (c : After-first-above) → at60 (W0 (c .before .before .before .before .before .before .κs) (c .before .before .before .before .before .before .args)) (m6 (c .before)
             (After-first-above·gave c))
-        lay2 = λ c.
-            (tt,
-            (λ taken. lay3 record
-            { before = record { before = c .before; first-above = c .first-above }; if1 = record
-            { taken = Tests.ltb-true (Row.get 10 (T8 .locals) (m7 (c .before) (After-first-above·gave c))) (Row.get 11 (T8 .locals) (m7 (c .before) (After-first-above·gave c))) taken; }; }, λ left. lay6
-            record
-            { before = record { before = c .before; first-above = c .first-above }; if1 = record
-            { left = Tests.ltb-false (Row.get 10 (T8 .locals) (m7 (c .before) (After-first-above·gave c))) (Row.get 11 (T8 .locals) (m7 (c .before) (After-first-above·gave c))) left; }; }))
+        lay2 = λ c. (
+          tt,
+          (
+            λ taken. lay3 record {
+              before = record { before = c .before; first-above = c .first-above };
+              if1 = record
+                  { taken = Tests.ltb-true (Row.get 10 (T8 .locals) (m7 (c .before) (After-first-above·gave c))) (Row.get 11 (T8 .locals) (m7 (c .before) (After-first-above·gave c))) taken };
+            },
+            λ left. lay6
+                record {
+                  before = record { before = c .before; first-above = c .first-above };
+                  if1 = record
+                      { left = Tests.ltb-false (Row.get 10 (T8 .locals) (m7 (c .before) (After-first-above·gave c))) (Row.get 11 (T8 .locals) (m7 (c .before) (After-first-above·gave c))) left };
+                },
+          ),
+        )
 
         lay1 : (c : After-largest) → at61 (W0 (c .before .before .before .before .before .κs) (c .before .before .before .before .before .args)) (m5 (c .before) (After-largest·gave c))
-        lay1 = λ c.
-            (first-above-requires record { before = c .before; largest = c .largest }, λ g. lay2 record
-            { before = record { before = c .before; largest = c .largest }; first-above = Called.called ps·1 r·1 (claims· .3) T6
-            (record { pos = 1; ty = Syntax.tyRef (Syntax.named 0) Syntax.imm (Syntax.tyInt Syntax.w16); ref = λ x. x; }, (Num.vAt 9 λ x. x, tt)) (m5 (c .before) (After-largest·gave c)) g; })
+        lay1 = λ c. (
+          first-above-requires record { before = c .before; largest = c .largest },
+          λ g. lay2 record {
+            before = record { before = c .before; largest = c .largest };
+            first-above = Called.called ps·1 r·1 (claims· .3) T6
+                (record { pos = 1; ty = Syntax.tyRef (Syntax.named 0) Syntax.imm (Syntax.tyInt Syntax.w16); ref = λ x. x }, (Num.vAt 9 λ x. x, tt)) (m5 (c .before) (After-largest·gave c)) g;
+          },
+        )
 
         pub laid : (c : Start) → at66 (W0 (c .κs) (c .args)) (m0 (c .κs) (c .args))
-        laid = λ c. λ g. λ g'. λ g''. λ g'3.
-            (largest-requires record
-            { before = record
-            { before = record { before = record { before = c; shared-slice-known = record { given = g } }; slice-known = record { given = g' }; }; slice-known2 = record { given = g'' }; };
-            shared-slice-known2 = record { given = g'3 }; }, λ g'4. lay1 record
-            { before = record
-            { before = record
-            { before = record { before = record { before = c; shared-slice-known = record { given = g } }; slice-known = record { given = g' }; }; slice-known2 = record { given = g'' }; };
-            shared-slice-known2 = record { given = g'3 }; }; largest = Called.called ps·0 r·0 (claims· .1) T5 (Num.vFld 6 (List._∷_ (Syntax.field 0) List.[]) 0 λ x. Form.struct .as-values x .0, tt) (m4
-            record { before = record { before = record { before = c; shared-slice-known = record { given = g } }; slice-known = record { given = g' }; }; slice-known2 = record { given = g'' }; } g'3) g'4;
-            })
+        laid = λ c. λ g. λ g'. λ g''. λ g'3. (
+          largest-requires record {
+            before = record
+                { before = record { before = record { before = c; shared-slice-known = record { given = g } }; slice-known = record { given = g' } }; slice-known2 = record { given = g'' } };
+            shared-slice-known2 = record { given = g'3 };
+          },
+          λ g'4. lay1 record {
+            before = record {
+              before = record
+                  { before = record { before = record { before = c; shared-slice-known = record { given = g } }; slice-known = record { given = g' } }; slice-known2 = record { given = g'' } };
+              shared-slice-known2 = record { given = g'3 };
+            };
+            largest = Called.called ps·0 r·0 (claims· .1) T5 (Num.vFld 6 (List._∷_ (Syntax.field 0) List.[]) 0 λ x. Form.struct .as-values x .0, tt) (m4
+                record { before = record { before = record { before = c; shared-slice-known = record { given = g } }; slice-known = record { given = g' } }; slice-known2 = record { given = g'' } } g'3) g'4;
+          },
+        )
 
         module _ (κs : Lifetimes.Lfts 5) (qs : Lifetimes.Shares 5) where
           pub asked : (a : Kinds.Dens κs ps) → (good : Kinds.GoodsP κs ps a) → (pre : Pre· κs a) → (bs : List.List Nat.ℕ) → Φ (Any.wantQ 5 ps r xs m κs qs a (Post· κs a)) (Function.init 5 ps r xs m κs
               qs a)
-          asked = λ a good pre bs. laid record
-              { κs = κs; args = record
-              { samples = a .0; out = a .1 .0; measure = a .1 .1 .0; lines = a .1 .1 .1 .0; rs = a .1 .1 .1 .1 .0; form = a .1 .1 .1 .1 .1 .0; bases = a .1 .1 .1 .1 .1 .1 .0; count = a .1 .1 .1 .1 .1 .1
-              .1 .0; }; good = good; fits = record { count = record { fits = good .1 .1 .1 .1 .1 .1 .1 .0 .1 } }; pre = pre; }
+          asked = λ a good pre bs. laid record {
+            κs = κs;
+            args = record {
+              samples = a .0;
+              out = a .1 .0;
+              measure = a .1 .1 .0;
+              lines = a .1 .1 .1 .0;
+              rs = a .1 .1 .1 .1 .0;
+              form = a .1 .1 .1 .1 .1 .0;
+              bases = a .1 .1 .1 .1 .1 .1 .0;
+              count = a .1 .1 .1 .1 .1 .1
+                  .1 .0;
+            };
+            good = good;
+            fits = record { count = record { fits = good .1 .1 .1 .1 .1 .1 .1 .0 .1 } };
+            pre = pre;
+          }
 
         module _ {M : Type 1} (𝓤 : URA.URA M) (H : Wp.Heap 𝓤) (A : Atoms.Atoms 𝓤) (W : Kit.Given 𝓤 H A) (𝓣 : Wp.Tables 𝓤 H) (known0 : Plain.Known 𝓤 H A W 𝓣 0 ps·0 r·0 (claims· .0) (claims· .1)
             "quantiser::largest") (known1 : Plain.Known 𝓤 H A W 𝓣 1 ps·1 r·1 (claims· .2) (claims· .3) "begin::first_above") (known2 : Plain.Known 𝓤 H A W 𝓣 1 ps·2 r·2 (claims· .4) (claims· .5)
