@@ -134,7 +134,7 @@ pub sound-all : (es : List Event) (l : List Entry) → OfBytes es → Sound l �
 sound-all [] l ok s = s
 sound-all (call c d r i t n ∷ es) l ok s =
     sound-all es (after (call c d r i t n) l) (ok .1)
-    (sound-handed c _ (callEntries c d r (regionBegins d r i t n) l) (sound-call c d r l s i t n (ok .0) (regionBegins d r i t n) refl))
+    (sound-handed c (isRefused (callAnswer c d r (regionBegins d r i t n) l)) (callEntries c d r (regionBegins d r i t n) l) (sound-call c d r l s i t n (ok .0) (regionBegins d r i t n) refl))
 sound-all (end c ∷ es) l ok s = sound-all es (givenBack c l) ok (sound-given c l s)
 
 pub holds-all : (es : List Event) (l : List Entry) → OfBytes es → Sound l → holds (afterAll es l) + givenAll es l ≡ holds l + takenAll es l
@@ -144,7 +144,7 @@ holds-all (call c d r i t n ∷ es) l ok s =
     let one = holds-event e l s in
     let rest =
     holds-all es (after e l) (ok .1)
-    (sound-handed c _ (callEntries c d r (regionBegins d r i t n) l) (sound-call c d r l s i t n (ok .0) (regionBegins d r i t n) refl)) in
+    (sound-handed c (isRefused (callAnswer c d r (regionBegins d r i t n) l)) (callEntries c d r (regionBegins d r i t n) l) (sound-call c d r l s i t n (ok .0) (regionBegins d r i t n) refl)) in
     omega (arith, one, rest)
 holds-all (end c ∷ es) l ok s =
     let one = holds-event (end c) l s in

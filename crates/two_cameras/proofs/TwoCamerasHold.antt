@@ -3,7 +3,7 @@ use borrow.Author.Tests.{ltb-true, ltb-false, leb-true, not-false, lt-ltb, eqb-t
 use mathlib.Core.Bool.{Bool, true, false, cond, not, _&&_, _||_, false≢true}
 use mathlib.Core.List.{List}
 use mathlib.Core.Path.{_≡_, refl, sym, ap, _∙_}
-use Prim.Native.Nat.{ℕ, suc, _+_, _≤_, _<_}
+use Prim.Native.Nat.{ℕ, zero, suc, _+_, _≤_, _<_}
 use native.Mathlib.Omega.{arith}
 use lib.Dec.{ltb, leb, eqb}
 use lib.ListN.{getD}
@@ -44,10 +44,10 @@ module _ (c : Camera) (d : List ℕ) (h : FujiHeader) (r : Rect) (l : List Entry
   left-alone : (tile : List ℕ) (before after : Buffers) (answer : Decoded) → SharedDecoding c d h r tile l before after answer
       → ((b n : ℕ) → answer ≡ Refused (NoEntry b n) → ⊥) → Left d r tile (Begin.Reading h) before after answer
   unfolding isShared
-  left-alone tile before after answer p no = go (isOut c d h r l) refl
+  left-alone tile before after answer p not23 = go (isOut c d h r l) refl
     where
       go : (t : Bool) → isOut c d h r l ≡ t → Left d r tile (Begin.Reading h) before after answer
-      go true t = absurd (no _ _ (p .answered ∙ answer-out t))
+      go true t = absurd (not23 _ _ (p .answered ∙ answer-out t))
       go false t =
           record {
             answered = p .answered ∙ answer-in t;
@@ -58,9 +58,9 @@ module _ (c : Camera) (d : List ℕ) (h : FujiHeader) (r : Rect) (l : List Entry
 
 own : (c : Camera) (d : List ℕ) (r : Rect) (tile : List ℕ) (begins : Beginning) (l l' : List Entry) (before after : Buffers) (answer : Decoded)
     → LeftShared c d r tile begins l before after answer l' → ((b n : ℕ) → answer ≡ Refused (NoEntry b n) → ⊥) → Left d r tile begins before after answer
-own c d r tile (Begin.Refused x) l l' before after answer p no = p .0
-own c d r tile Begin.Nothing l l' before after answer p no = p .0
-own c d r tile (Begin.Reading h) l l' before after answer p no = left-alone c d h r (mended l) tile before after answer (p .0) no
+own c d r tile (Begin.Refused x) l l' before after answer p not23 = p .0
+own c d r tile Begin.Nothing l l' before after answer p not23 = p .0
+own c d r tile (Begin.Reading h) l l' before after answer p not23 = left-alone c d h r (mended l) tile before after answer (p .0) not23
 
 -- ---- what stands in the history
 
@@ -99,7 +99,7 @@ module _ (c : Camera) (bits : ℕ) (bases : List ℕ) (l : List Entry) where
   first-without : (count : ℕ) → linesWithEntry c bits bases l count < count
       → hasEntry bits (getD bases (linesWithEntry c bits bases l count) 0) (afterLines c bits bases l (linesWithEntry c bits bases l count)) ≡ false
   unfolding linesWithEntry
-  first-without 0 low = absurd (omega arith)
+  first-without zero low = absurd (omega arith)
   first-without (suc n) low =
       go (eqb (linesWithEntry c bits bases l n) n) (hasEntry bits (getD bases n 0) (afterLines c bits bases l n)) refl refl (first-without n) low
     where
@@ -115,7 +115,7 @@ module _ (c : Camera) (bits : ℕ) (bases : List ℕ) (l : List Entry) where
       go false b t u f k = f (different (eqb-false m n t) k)
         where
           different : (m ≡ n → ⊥) → m < suc n → m < n
-          different no k = omega (arith, no, k)
+          different ne k = omega (arith, ne, k)
 
 module _ (c : Camera) (d : List ℕ) (h : FujiHeader) (r : Rect) (l : List Entry) (t : isOut c d h r l ≡ true) where
   k-low : blocksBefore c d h r l < blockCount r
