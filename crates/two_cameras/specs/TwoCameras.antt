@@ -2,6 +2,7 @@
 -- that began with none held keep their form; and the holds are the bases taken less those given back, over any history of calls. Assumes nothing.
 use mathlib.Core.Bool.{Bool, true, false, cond}
 use mathlib.Core.List.{List, [], _∷_}
+use mathlib.Core.Logic.{_↔_}
 use mathlib.Core.Path.{_≡_}
 use Prim.Native.Nat.{ℕ, zero, suc, _+_, _≤_, _<_}
 use lib.ListN.{length, getD}
@@ -17,7 +18,7 @@ use Rattle.begin.specs.declared.Beginning.{Beginning}
 use Rattle.begin.specs.declared.Beginning.the-variants as Begin
 use Rattle.block.specs.Images.{basesIn, readIn, Left}
 use Rattle.block.specs.Lent.{Buffers}
-use Rattle.block.specs.Sharing.{entryLines, entriesAfter, blocksBefore, isOut, sharedAnswer, isRefused, callEntries, LeftShared}
+use Rattle.block.specs.Sharing.{entryLines, blockCount, entriesAfter, blocksBefore, isOut, sharedAnswer, isRefused, callEntries, LeftShared}
 use Rattle.block.specs.declared.Decoded.{Decoded}
 use Rattle.block.specs.declared.Decoded.the-variants.{Done, Refused}
 
@@ -91,28 +92,36 @@ OfBytes (end c ∷ es) = OfBytes es
 
 -- ---- what holds
 
+-- the entries before line n of the region's block k
+abbrev pub entriesAt : Camera → List ℕ → FujiHeader → Rect → List Entry → (k n : ℕ) → List Entry
+entriesAt c d h r l k n = afterLines c (h .bits) (basesIn d (firstBlock r + k)) (entriesAfter c d h r l k) n
+
 -- 16 entries, none of which is held; they may hold any numbers
 pub record NoneHeld (l : List Entry) : Type 0 where
   pub size : length l ≡ 16
   pub free : (i : ℕ) → i < 16 → isHeld (entryAt l i) ≡ false
 
--- line n of block b has no entry: all 16 are held, none for its depth and base, after the lines before it took theirs. They were all read
-pub record NoEntryAt (c : Camera) (d : List ℕ) (h : FujiHeader) (r : Rect) (l : List Entry) (b n : ℕ) : Type 0 where
-  pub blocks : ℕ
-  pub block : b ≡ firstBlock r + blocks
+-- line n of the region's block k has no entry: all 16 are held, none for its depth and base, after the lines before it took theirs. They were all read
+pub record NoEntryAt (c : Camera) (d : List ℕ) (h : FujiHeader) (r : Rect) (l : List Entry) (k n : ℕ) : Type 0 where
   pub wanted : n < lineCount r
-  pub read : n ≤ readIn d h r b
-  pub held : (i : ℕ) → i < 16 → isHeld (entryAt (afterLines c (h .bits) (basesIn d b) (entriesAfter c d h r l blocks) n) i) ≡ true
-  pub other : (i : ℕ) → i < 16
-      → isPair (h .bits) (getD (basesIn d b) n 0) (entryAt (afterLines c (h .bits) (basesIn d b) (entriesAfter c d h r l blocks) n) i) ≡ false
+  pub read : n ≤ readIn d h r (firstBlock r + k)
+  pub held : (i : ℕ) → i < 16 → isHeld (entryAt (entriesAt c d h r l k n) i) ≡ true
+  pub other : (i : ℕ) → i < 16 → isPair (h .bits) (getD (basesIn d (firstBlock r + k)) n 0) (entryAt (entriesAt c d h r l k n) i) ≡ false
+
+-- it is the first such line, in the order of reading
+pub record FirstWithout (c : Camera) (d : List ℕ) (h : FujiHeader) (r : Rect) (l : List Entry) (k n : ℕ) : Type 0 where
+  pub there : NoEntryAt c d h r l k n
+  pub inside : k < blockCount r
+  pub blocks : (j m : ℕ) → NoEntryAt c d h r l j m → k ≤ j
+  pub lines : (m : ℕ) → NoEntryAt c d h r l k m → n ≤ m
 
 pub record TwoCameras : Type 0 where
   -- unless it is refused by 23, a call leaves what `decode_region` leaves, whatever the entries
   pub own : (c : Camera) (d : List ℕ) (r : Rect) (tile : List ℕ) (begins : Beginning) (l l' : List Entry) (before after : Buffers) (answer : Decoded)
       → LeftShared c d r tile begins l before after answer l' → ((b n : ℕ) → answer ≡ Refused (NoEntry b n) → ⊥) → Left d r tile begins before after answer
-  -- and it is refused by 23 only where a line has no entry
-  pub out : (c : Camera) (d : List ℕ) (h : FujiHeader) (r : Rect) (l : List Entry) → isOut c d h r l ≡ true
-      → (b : ℕ) × ((n : ℕ) × ((sharedAnswer c d h r l ≡ Refused (NoEntry b n)) × NoEntryAt c d h r l b n))
+  -- and it is refused by 23 exactly where a line has no entry: the first one is named
+  pub out : (c : Camera) (d : List ℕ) (h : FujiHeader) (r : Rect) (l : List Entry) (k n : ℕ)
+      → (sharedAnswer c d h r l ≡ Refused (NoEntry (firstBlock r + k) n)) ↔ FirstWithout c d h r l k n
   -- a call hands back the entries that stand in the history
   pub told : (c : Camera) (d : List ℕ) (r : Rect) (tile : List ℕ) (i s n : ℕ) (l l' : List Entry) (before after' : Buffers) (answer : Decoded)
       → LeftShared c d r tile (regionBegins d r i s n) l before after' answer l' → l' ≡ after (call c d r i s n) l
