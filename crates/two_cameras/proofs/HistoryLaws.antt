@@ -120,6 +120,11 @@ sound-handed : (c : Camera) (t : Bool) (m : List Entry) → Sound m → Sound (h
 sound-handed c true m s = sound-given c m s
 sound-handed c false m s = s
 
+sound-after-call : (c : Camera) (d : List ℕ) (r : Rect) (i t n : ℕ) (l : List Entry) → ((k : ℕ) → getD d k 0 < 256) → Sound l → Sound (after (call c d r i t n) l)
+sound-after-call c d r i t n l ok s =
+    let begins = regionBegins d r i t n in
+    sound-handed c (isRefused (callAnswer c d r begins l)) (callEntries c d r begins l) (sound-call c d r l s i t n ok begins refl)
+
 -- ---- an event
 
 holds-event : (e : Event) (l : List Entry) → Sound l → holds (after e l) + given e l ≡ holds l + taken e l
@@ -134,7 +139,7 @@ pub sound-all : (es : List Event) (l : List Entry) → OfBytes es → Sound l �
 sound-all [] l ok s = s
 sound-all (call c d r i t n ∷ es) l ok s =
     sound-all es (after (call c d r i t n) l) (ok .1)
-    (sound-handed c (isRefused (callAnswer c d r (regionBegins d r i t n) l)) (callEntries c d r (regionBegins d r i t n) l) (sound-call c d r l s i t n (ok .0) (regionBegins d r i t n) refl))
+    (sound-after-call c d r i t n l (ok .0) s)
 sound-all (end c ∷ es) l ok s = sound-all es (givenBack c l) ok (sound-given c l s)
 
 pub holds-all : (es : List Event) (l : List Entry) → OfBytes es → Sound l → holds (afterAll es l) + givenAll es l ≡ holds l + takenAll es l
@@ -144,7 +149,7 @@ holds-all (call c d r i t n ∷ es) l ok s =
     let one = holds-event e l s in
     let rest =
     holds-all es (after e l) (ok .1)
-    (sound-handed c (isRefused (callAnswer c d r (regionBegins d r i t n) l)) (callEntries c d r (regionBegins d r i t n) l) (sound-call c d r l s i t n (ok .0) (regionBegins d r i t n) refl)) in
+    (sound-after-call c d r i t n l (ok .0) s) in
     omega (arith, one, rest)
 holds-all (end c ∷ es) l ok s =
     let one = holds-event (end c) l s in

@@ -23,7 +23,7 @@ use Rattle.cameras.proofs.SoundLaws.{mended-sound}
 use Rattle.begin.specs.Beginnings.{regionBegins}
 use Rattle.begin.specs.declared.Beginning.{Beginning}
 use Rattle.begin.specs.declared.Beginning.the-variants as Begin
-use Rattle.block.specs.Images.{formOf, basesIn, bytesIn, linesRead, readIn, orElse, answerOf, isDecoded, Left}
+use Rattle.block.specs.Images.{basesIn, readIn, orElse, answerOf, isDecoded, Left}
 use Rattle.block.specs.Words.{answerWords}
 use Rattle.block.specs.Lent.{Buffers}
 use Rattle.block.specs.Sharing.{entryLines, stopsIn, blockCount, entriesAfter, blocksBefore, isOut, outBlock, outLine, sharedAnswer, isShared, SharedDecoding, isRefused}
@@ -143,8 +143,8 @@ answer-low : (d : List ℕ) (h : FujiHeader) (r : Rect) (n : ℕ) → number-of 
 unfolding answerOf
 answer-low d h r zero = omega arith
 answer-low d h r (suc n) =
-    let b : ℕ = firstBlock r + n in
-    go (answerOf d h r n) (answer-low d h r n) (linesRead (formOf h) (basesIn d b) (bytesIn d b) (lineCount r)) (ltb (linesRead (formOf h) (basesIn d b) (bytesIn d b) (lineCount r)) (lineCount r))
+    let m : ℕ = readIn d h r (firstBlock r + n) in
+    go (answerOf d h r n) (answer-low d h r n) m (ltb m (lineCount r))
   where
     go : (a : Decoded) → number-of a ≤ 14 → (m : ℕ) (t : Bool) → number-of (orElse a (cond t (Refused (Truncated (firstBlock r + n) m)) Done)) ≤ 14
     go Done low m true = omega arith
