@@ -283,7 +283,7 @@ fn random_histories() {
         let header = Header::new(!is_lossy, i % 2 == 0, bits, 768 * (1 + i % 2) as u16, 3);
         let mut row = || (0..3).map(|_| random.below(14) as u8).collect::<Vec<u8>>();
         let rows: Vec<Vec<u8>> = (0..if is_lossy { header.blocks } else { 0 }).map(|_| row()).collect();
-        let mut picture = Random::new(i);
+        let mut picture = Random::new(i + 1);
         let mut parts = blocks(&header, &rows, &mut |_, n, line, p| scene(i % 3, (1 << bits) - 1, n, line, p, &mut picture));
         if i % 4 == 3 {
             let at = parts[0].len() * random.below(100) as usize / 100;
