@@ -59,6 +59,18 @@ void fuji_decode_region_windowed(const uint8_t *stream, size_t stream_length, si
                                  const uint8_t tile[36], uint16_t *image, size_t image_length, uint16_t *scratch, size_t scratch_length,
                                  fuji_record *records, size_t records_length, size_t refusal[4]);
 
+/* fuji_decode_region for one of two cameras, whose streams share 16 quantiser entries. Camera 1 is 1, and any other number is camera 2. The entries are handed
+ * back; all 0 is a set of which none is held. Entry e has the words 8e to 8e + 7: bits, base, weight, total, raw, limit, held by camera 1, held by camera 2 (0 or
+ * 1; any number but 0 is read as 1). Each line that is read needs the entry of its depth and base (0 in a lossless stream): a held one is shared, or else the lowest that
+ * nobody holds is taken. Refusal 23 names the block and the line that has none while all 16 are held: nothing of that line or of a later block is read. Every refusal gives
+ * back all holds of the camera. Where it is not 23, answer, image and scratch are those of fuji_decode_region. Any words are safe. */
+void fuji_decode_region_shared(uint32_t camera, uint32_t entries[128], const uint8_t *stream, size_t stream_length, size_t x, size_t y,
+                               size_t width, size_t height, const uint8_t tile[36], uint16_t *image, size_t image_length,
+                               uint16_t *scratch, size_t scratch_length, fuji_record *records, size_t records_length, size_t refusal[4]);
+
+/* The stream of a camera ends: all its holds are given back. */
+void fuji_end_stream(uint32_t camera, uint32_t entries[128]);
+
 /* Reads a whole block, lossless or lossy, and shows nothing. `totals` are the bits of its codes and how many of them are long: of all lines where nothing is
  * refused, of the lines before the truncated one with refusal 14, and 0 and 0 with every other refusal. */
 void fuji_read_block(const uint8_t *stream, size_t stream_length, size_t block, uint16_t *scratch, size_t scratch_length,

@@ -1,5 +1,5 @@
 -- Decoding block by block: how many lines of a block are read, the answer, and the image. Assumes nothing.
-use borrow.Author.Tests.{ltb-true, ltb-false, lt-ltb, le-ltb, le-leb, leb-true, eqb-true, eqb-false}
+use borrow.Author.Tests.{ltb-true, ltb-false, lt-ltb, le-ltb, le-leb, leb-true, eqb-true, eqb-false, eq-eqb, ne-eqb}
 use mathlib.Core.Bool.{Bool, true, false, cond, _&&_, and-true, and-false}
 use mathlib.Core.List.{List}
 use mathlib.Core.Option.{Option, none, some}
@@ -18,9 +18,10 @@ use Rattle.stream.specs.declared.Refusal.the-variants.{Truncated}
 use Rattle.region.specs.Regions.{blockOf, firstBlock, lastBlock, bottomOf, partIn, lineCount, Accepted}
 use Rattle.region.specs.declared.Rect.{Rect}
 use Rattle.region.proofs.RegionLaws.{InColumns, one-block, lines-cover, row-inside}
-use Rattle.block.specs.Blocks.{State, runs, readLineAt, startState, readLines, shownSample, shownLines, IsWalked}
+use Rattle.block.specs.Blocks.{State, runs, readLineAt, startState, readLines, shownSample, Shown, shownLines, IsWalked}
 use Rattle.block.specs.Images.{formOf, bytesIn, basesIn, isRead, linesRead, readIn, lineOf, isDecoded, pictureSample, decodedSample, orElse}
-use Rattle.block.specs.Images.{walkedAnswer, blockAnswer, answerOf}
+use Rattle.block.specs.Images.{walkedAnswer, blockAnswer, answerOf, Pictured}
+use Rattle.block.specs.Sharing.{isBefore}
 use Rattle.block.specs.WindowedImages.{isReached, reachedSample}
 use Rattle.block.specs.WindowedLines.{reachedLines, ShownIn, PicturedIn}
 use Rattle.block.specs.declared.Form.{Form}
@@ -64,6 +65,17 @@ module _ (F : Form) (bases s : List ℕ) where
   read-at-most zero = le-refl 0
   read-at-most (suc n) =
       cond-le (suc n) (isRead (readLines F bases s (suc n))) (suc n) (linesRead F bases s n) (le-refl (suc n)) (omega (arith, read-at-most n))
+
+  -- of more lines no fewer are read
+  pub read-more : (n k : ℕ) → linesRead F bases s n ≤ linesRead F bases s (n + k)
+  unfolding linesRead
+  read-more n zero = rw add-zero (le-refl (linesRead F bases s n))
+  read-more n (suc k) = rw add-suc (go (isRead (readLines F bases s (suc (n + k)))) (read-more n k) (read-at-most n))
+    where
+      go : (t : Bool) → linesRead F bases s n ≤ linesRead F bases s (n + k) → linesRead F bases s n ≤ n
+          → linesRead F bases s n ≤ cond t (suc (n + k)) (linesRead F bases s (n + k))
+      go true h l = omega (arith, l)
+      go false h l = h
 
   pub was-read : (n : ℕ) → n ≤ linesRead F bases s n → (z : State) × (readLines F bases s n ≡ some z)
   unfolding linesRead
@@ -307,3 +319,25 @@ pictured-more true d h r tile n b a w x y z ok e p done shown =
     (λ i. cond (ltb (lineOf r i) (readIn d h r (blockOf r i))) (decodedSample d h r tile i) 0)
     (λ i. cond (ltb (pictureRow (partIn r b) i / 6) (readIn d h r b)) (sample d h r tile b i) 0) x y z ok done
     (rw (e, m) at shown) (λ i f. rw f (reached-lines d h r n i b w ok p)) (same-or-zero d h r tile b)
+
+-- where a line m of block b has no entry: the blocks before it, and its first m lines
+pub pictured-stopped : (d : List ℕ) (h : FujiHeader) (r : Rect) (tile : List ℕ) (n b m : ℕ) (a : Part) (x y z : List ℕ) → Accepted h r n → a ≡ partIn r b
+    → Pictured d h r tile b x y → Shown (formOf h) (basesIn d b) (bytesIn d b) tile a m y z → Changed (isBefore d h r b m) (decodedSample d h r tile) x z
+unfolding isDecoded isBefore
+pictured-stopped d h r tile n b m a x y z ok e done shown =
+    one-more h r n b m test (decodedSample d h r tile) (sample d h r tile b) x y z ok before (rw e at shown) (λ i f. rw (f, eq-eqb b b refl))
+    (same-sample d h r tile b)
+  where
+    test : ℕ → Bool
+    test i = ltb (lineOf r i) (cond (eqb (blockOf r i) b) m (readIn d h r (blockOf r i)))
+
+    before : Changed (λ i. reached r i (test i) b) (decodedSample d h r tile) x y
+    before =
+        record {
+          kept = done .kept;
+          entries = λ i.
+              done .entries i
+              ∙ by-test (ltb (blockOf r i) b)
+              (λ t. let l = ltb-true (blockOf r i) b t in rw (ne-eqb (blockOf r i) b (λ z. absurd (omega arith))))
+              (λ t. rw (not-reached r i (test i) b (ltb-false _ _ t), not-reached r i (ltb (lineOf r i) (readIn d h r (blockOf r i))) b (ltb-false _ _ t)));
+        }

@@ -21,3 +21,5 @@ pub mod WindowRooms
 pub mod WindowTwins
 pub mod PlacedLines
 pub mod AgreementHolds
+pub mod SharingLaws
+pub mod SharedLeft

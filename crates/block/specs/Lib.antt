@@ -10,6 +10,7 @@ pub mod TightBlocks
 pub mod WrittenBlocks
 pub mod Totals
 pub mod BlockReadings
+pub mod Sharing
 pub mod Words
 pub mod WrittenAnswers
 pub mod WindowedImages

@@ -8,10 +8,14 @@ use Rattle.stream.specs.Refusals.{refusalWords, noRefusal}
 use Rattle.stream.specs.declared.BlockLength.{BlockLength}
 use Rattle.region.specs.declared.Rect.{Rect}
 use Rattle.totals.specs.declared.Totals.{Totals}
+use Rattle.cameras.specs.Words.{entriesIn, AreWords}
+use Rattle.cameras.specs.declared.Camera.{Camera}
+use Rattle.cameras.specs.declared.Entry.{Entry}
 use Rattle.begin.specs.Beginnings.{writingBegins, lossyBegins}
 use Rattle.begin.specs.declared.Beginning.{Beginning}
 use Rattle.block.specs.Images.{Left}
 use Rattle.block.specs.WindowedImages.{LeftWindowed}
+use Rattle.block.specs.Sharing.{LeftShared}
 use Rattle.block.specs.Lent.{Buffers, Scratch, Outputs}
 use Rattle.block.specs.BlockReadings.{LeftRead, LeftTight}
 use Rattle.block.specs.WrittenAnswers.{LeftWritten, LeftLossy, LeftMeasured}
@@ -33,6 +37,15 @@ pub record Told (d : List ℕ) (r : Rect) (tile : List ℕ) (begins : Beginning)
 pub record ToldWindowed (d : List ℕ) (r : Rect) (tile : List ℕ) (begins : Beginning) (before after : Buffers) (words : List ℕ) : Type 0 where
   pub answer : Decoded
   pub left : LeftWindowed d r tile begins before after answer
+  pub told : words ≡ answerWords answer
+
+-- the same for a camera, with the entries as words before and after
+pub record ToldShared (c : Camera) (d : List ℕ) (r : Rect) (tile : List ℕ) (begins : Beginning)
+    (w w' : List ℕ) (before after : Buffers) (words : List ℕ) : Type 0 where
+  pub answer : Decoded
+  pub entries : List Entry
+  pub left : LeftShared c d r tile begins (entriesIn w) before after answer entries
+  pub told-entries : AreWords entries w'
   pub told : words ≡ answerWords answer
 
 -- bits and long codes

@@ -24,7 +24,7 @@ use stream::FujiHeader;
 use stream::Refusal;
 
 // The answer after block b: that of the blocks before it, if one of them failed.
-fn judged(before: Decoded, b: usize, got: Walked) -> Decoded
+pub(crate) fn judged(before: Decoded, b: usize, got: Walked) -> Decoded
     ensures { λ r. ⌜ r ≡ orElse before (walkedAnswer b got) ⌝ }
 {
     match before {
@@ -77,6 +77,7 @@ fn decode_blocks(
             part,
             count,
             windowed,
+            cameras::no_entries(),
         );
         answer = judged(answer, b, got);
         b = b + 1;

@@ -1,6 +1,7 @@
 // Blocks: read, decoded, read tightly, and written. The types of the answers are here, the functions in a module for each role.
 ghost use mathlib.Core.Path.{_≡_};
 ghost use Rattle.block.specs.Images.{formOf};
+use cameras::Entries;
 use code::Place;
 use stream::FujiHeader;
 use stream::Refusal;
@@ -11,6 +12,7 @@ mod c;
 mod decoding;
 mod reading;
 mod records;
+mod sharing;
 mod tight;
 mod writer;
 
@@ -21,6 +23,7 @@ pub use decoding::decode_region_alone;
 pub use decoding::decode_region_windowed;
 pub use reading::walk_alone;
 pub use records::start_record;
+pub use sharing::decode_region_shared;
 pub use tight::read_block;
 pub use tight::read_tight;
 pub use tight::tight_answer;
@@ -50,6 +53,12 @@ pub enum Walked {
 pub enum Decoded {
     Done,
     Refused(Refusal),
+}
+
+// What decoding for a camera answers, and the entries after it.
+pub struct SharedAnswer {
+    pub answer: Decoded,
+    pub entries: Entries,
 }
 
 // What the reading of one block answers, and what it counted.

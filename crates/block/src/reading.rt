@@ -2,6 +2,8 @@
 ghost use mathlib.Core.Path.{_≡_};
 ghost use Prim.Native.Nat.{_+_, _^_, _≤_, _<_};
 ghost use lib.ListN.{length};
+ghost use Rattle.quantiser.specs.Quantisers.{mainOf};
+ghost use Rattle.cameras.specs.Entries.{AllNumbered};
 ghost use Rattle.map.specs.Places.{widthOf, ArePlaces, Fits};
 ghost use Rattle.steps.specs.Values.{quantisersOf, Depth};
 ghost use Rattle.totals.specs.Totals.{noTotals};
@@ -20,6 +22,8 @@ use crate::records::start_records;
 use crate::records::store_set;
 use bits::BitPosition;
 use bits::is_past;
+use cameras::Entries;
+use cameras::base_of;
 use code::Place;
 use map::Part;
 use map::width;
@@ -28,16 +32,6 @@ use statistics::Record;
 use steps::Quantisers;
 use totals::TightLines;
 use totals::Totals;
-
-// The base of line n; a lossless block has none, and base 0 in each line.
-pub(crate) fn base_of(bases: &[u8], n: usize) -> u32
-    ensures { λ r. ⌜ (r ≡ baseOf (now (bases .entry)) n) × (r < 256) ⌝ }
-{
-    if n < bases.len() {
-        return numbers::u8_to_u32(bases[n]);
-    }
-    0
-}
 
 pub(crate) fn is_restarted(bases: &[u8], n: usize) -> bool
     ensures { λ r. ⌜ r ≡ isRestarted (now (bases .entry)) n ⌝ }
@@ -48,11 +42,11 @@ pub(crate) fn is_restarted(bases: &[u8], n: usize) -> bool
     base_of(bases, n) != base_of(bases, n - 1)
 }
 
-pub(crate) fn quantisers_of(bits: u32, base: u32) -> Quantisers
-    requires { ⌜ Depth bits × (base < 256) ⌝ }
+// A line's quantisers, the main one of which is given.
+fn quantisers_with(m: Quantiser, bits: u32, base: u32) -> Quantisers
+    requires { ⌜ Depth bits × (m ≡ mainOf bits base) ⌝ }
     ensures { λ r. ⌜ r ≡ quantisersOf bits base ⌝ }
 {
-    let m = Quantiser::main(bits, base);
     let a = Quantiser::flat(bits, 1);
     let b = Quantiser::flat(bits, 2);
     let c = Quantiser::flat(bits, 3);
@@ -62,6 +56,22 @@ pub(crate) fn quantisers_of(bits: u32, base: u32) -> Quantisers
         raws: [m.raw, a.raw, b.raw, c.raw],
         limits: [m.limit, a.limit, b.limit, c.limit],
     }
+}
+
+pub(crate) fn quantisers_of(bits: u32, base: u32) -> Quantisers
+    requires { ⌜ Depth bits × (base < 256) ⌝ }
+    ensures { λ r. ⌜ r ≡ quantisersOf bits base ⌝ }
+{
+    quantisers_with(Quantiser::main(bits, base), bits, base)
+}
+
+// The same, with the main quantiser from its entry.
+fn quantisers_in(entries: Entries, bits: u32, base: u32) -> Quantisers
+    requires { ⌜ Depth bits × (base < 256) ⌝ }
+    requires { ⌜ AllNumbered (entries .all) ⌝ }
+    ensures { λ r. ⌜ r ≡ quantisersOf bits base ⌝ }
+{
+    quantisers_with(cameras::main_in(entries, bits, base), bits, base)
 }
 
 // Where a block starts.
@@ -185,7 +195,7 @@ fn line(
 }
 
 // The first `count` lines of a block, each put into the image as soon as it is read. In windows a truncated line's rows become 0. Scratch is left
-// as it is then.
+// as it is then. A line's main quantiser is that of its entry; whoever has no entries gives none.
 fn read_lines(
     block: &[u8],
     bases: &[u8],
@@ -198,10 +208,12 @@ fn read_lines(
     part: Part,
     count: usize,
     windowed: bool,
+    entries: Entries,
 ) -> Walked
     requires { ⌜ (length (now block) < 2 ^ 32) × ScratchIn windowed (form .xtrans) (now lines) (now rs) ⌝ }
     requires { ⌜ Depth (form .bits) × (count < 2 ^ 16) ⌝ }
     requires { ⌜ ArePlaces (now places) × Fits part (now image) ⌝ }
+    requires { ⌜ AllNumbered (entries .all) ⌝ }
     ensures { λ r. ⌜ IsWalked form (now (bases .entry)) (now (block .entry)) count r ⌝ }
     ensures { λ r. ⌜ ShownIn windowed form (now (bases .entry)) (now (block .entry)) tile part r count (now (image .entry)) (now (image .exit)) ⌝ }
 {
@@ -224,7 +236,7 @@ fn read_lines(
             rs,
             image,
             form,
-            quantisers_of(bits, base),
+            quantisers_in(entries, bits, base),
             places,
             tile,
             part,
@@ -257,10 +269,12 @@ pub(crate) fn walk(
     part: Part,
     count: usize,
     windowed: bool,
+    entries: Entries,
 ) -> Walked
     requires { ⌜ (length (now block) < 2 ^ 32) × ScratchIn windowed (form .xtrans) (now lines) (now rs) ⌝ }
     requires { ⌜ Depth (form .bits) × (count < 2 ^ 16) ⌝ }
     requires { ⌜ ArePlaces (now places) × Fits part (now image) ⌝ }
+    requires { ⌜ AllNumbered (entries .all) ⌝ }
     ensures { λ r. ⌜ IsWalked form (now (bases .entry)) (now (block .entry)) count r ⌝ }
     ensures { λ r. ⌜ ShownIn windowed form (now (bases .entry)) (now (block .entry)) tile part r count (now (image .entry)) (now (image .exit)) ⌝ }
     ensures { λ _. ⌜ (now (lines .exit) ≡ zerosIn windowed (form .xtrans)) × (now (rs .exit) ≡ clearRecords) ⌝ }
@@ -277,6 +291,7 @@ pub(crate) fn walk(
         part,
         count,
         windowed,
+        entries,
     );
     lines::clear(lines);
     clear_records(rs);
@@ -314,5 +329,6 @@ pub fn walk_alone(
         part,
         count,
         false,
+        cameras::no_entries(),
     )
 }

@@ -125,6 +125,7 @@ fn walk_block(d: &[u8], h: FujiHeader, b: usize, lines: &mut [u16], rs: &mut [Re
         no_part(),
         count,
         false,
+        cameras::no_entries(),
     )
 }
 

@@ -18,7 +18,6 @@ ghost use Rattle.block.specs.WrittenAnswers.{passesFrom, LineWritten, Se
 ghost use Rattle.block.specs.WrittenAnswers.{LeftWritten, LeftLossy, LeftMeasured, LeftBy};
 use crate::Form;
 use crate::form_of;
-use crate::reading::base_of;
 use crate::reading::is_restarted;
 use crate::reading::quantisers_of;
 use crate::records::clear_records;
@@ -30,6 +29,7 @@ use crate::tight::line_count;
 use begin::Next;
 use begin::first_above;
 use bits::BitPosition;
+use cameras::base_of;
 use map::width;
 use statistics::Record;
 use steps::Quantisers;

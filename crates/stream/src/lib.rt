@@ -31,6 +31,7 @@ pub enum Refusal {
     BadRecord(usize),
     HeldTwice(usize),
     NotHeld(usize),
+    NoEntry(usize, usize),
     OutsideSheet,
 }
 
@@ -59,6 +60,7 @@ pub fn refusal_words(r: Refusal) -> [usize; 4]
         Refusal::BadRecord(i) => [18, 0, 0, i],
         Refusal::HeldTwice(l) => [19, 0, l, 0],
         Refusal::NotHeld(l) => [20, 0, l, 0],
+        Refusal::NoEntry(b, l) => [23, b, l, 0],
         Refusal::OutsideSheet => [24, 0, 0, 0],
     }
 }

@@ -3,7 +3,7 @@ use crate::making;
 use crate::sides::{Answer, Wanted, ask, decode_ours, decode_theirs, open_ours, open_theirs, ours, same, truncated_place, with_zeros};
 use common::random::Random;
 use common::stream::Header;
-use fuji_compressed::{ColorTile, FujiCompressed, FujiHeader, Record, Rect, Refusal, Scratch};
+use fuji_compressed::{Camera, ColorTile, FujiCompressed, FujiHeader, Quantisers, Record, Rect, Refusal, Scratch};
 use original::fuji_compressed as theirs;
 use std::collections::BTreeMap;
 use std::fmt::Debug;
@@ -47,6 +47,7 @@ pub struct Round {
     random: Random,
     scratch: Scratch,
     windows: Scratch,
+    entries: Quantisers,
     pub tally: Tally,
 }
 
@@ -73,7 +74,7 @@ fn is_wider(bytes: &[u8]) -> bool {
 
 impl Round {
     pub fn new(seed: u64) -> Round {
-        Round { random: Random::new(seed), scratch: Scratch::new(), windows: Scratch::windowed(), tally: Tally::default() }
+        Round { random: Random::new(seed), scratch: Scratch::new(), windows: Scratch::windowed(), entries: Quantisers::default(), tally: Tally::default() }
     }
 
     /// Calls until there are so many, or one differs.
@@ -173,6 +174,7 @@ impl Round {
         is(want == ours(got), || format!("{wanted:?} of {} bytes: {want:?} and {got:?}", bytes.len()))?;
         is(theirs == mine, || format!("{wanted:?} of {} bytes, {got:?}: the images differ", bytes.len()))?;
         if let Wanted::Region(region) = wanted {
+            self.shared(bytes, region, &tile, before.clone(), &theirs, got)?;
             self.windowed(bytes, region, &tile, before, theirs, got)?;
         }
         match got {
@@ -182,6 +184,20 @@ impl Round {
             }
             _ => Ok(()),
         }
+    }
+
+    /// The same region for one of two cameras that have shared the entries so far: unless it is refused by 23, the original's image, and the same answer.
+    fn shared(&mut self, bytes: &[u8], region: Rect, tile: &ColorTile, before: Vec<u16>, theirs: &[u16], want: Result<(), Refusal>) -> Checked {
+        let mut mine = before;
+        let camera = if self.random.chance(2) { Camera::One } else { Camera::Two };
+        let (got, after) = self.entries.decode_region_with(camera, &mut self.scratch, bytes, &mut mine, region, tile);
+        self.entries = if self.random.chance(50) { after.end_stream(camera) } else { after };
+        self.tally.count("decode_region_shared", got.map_or_else(|r| r.number, |()| 0));
+        if got.is_err_and(|r| r.number == 23) {
+            return Ok(());
+        }
+        is(got == want, || format!("{camera:?}, {region:?} of {} bytes: {want:?} and {got:?}", bytes.len()))?;
+        is(theirs == mine, || format!("{camera:?}, {region:?} of {} bytes, {got:?}: the images differ", bytes.len()))
     }
 
     /// The same region in windows: the same answer, and the original's image but for the rows of truncated lines.

@@ -53,6 +53,25 @@ unsafe extern "C" {
         records_length: usize,
         refusal: *mut [usize; 4],
     );
+    pub fn fuji_decode_region_shared(
+        camera: u32,
+        entries: *mut [u32; 128],
+        stream: *const u8,
+        stream_length: usize,
+        x: usize,
+        y: usize,
+        width: usize,
+        height: usize,
+        tile: *const [u8; 36],
+        image: *mut u16,
+        image_length: usize,
+        scratch: *mut u16,
+        scratch_length: usize,
+        records: *mut Record,
+        records_length: usize,
+        refusal: *mut [usize; 4],
+    );
+    pub fn fuji_end_stream(camera: u32, entries: *mut [u32; 128]);
     pub fn fuji_read_block(
         stream: *const u8,
         stream_length: usize,

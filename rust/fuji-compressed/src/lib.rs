@@ -12,10 +12,12 @@ mod fault;
 mod ffi;
 mod parallel;
 mod refusal;
+mod shared;
 mod windowed;
 
 pub use fault::{Fault, Reason};
 pub use refusal::Refusal;
+pub use shared::{Camera, Quantisers};
 
 /// The size of a stream's header in bytes.
 pub const HEADER_SIZE: usize = 16;

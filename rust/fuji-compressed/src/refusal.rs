@@ -41,6 +41,7 @@ impl Refusal {
             18 => "the plan's record is malformed, runs backwards, passes the last line or has a base above 255",
             19 => "two records of the plan hold it",
             20 => "no record of the plan holds it",
+            23 => "the line's depth and base have no entry, and all 16 are held",
             24 => "the depth is not 12, 14 or 16, k is above 15, or the length is not 1 to 16",
             _ => "refused",
         }
@@ -53,7 +54,7 @@ impl fmt::Display for Refusal {
         match self.number {
             4 => write!(f, "block {}: ", self.block)?,
             11 | 12 => write!(f, "sample {}: ", self.index)?,
-            14 => write!(f, "block {}, line {}: ", self.block, self.line)?,
+            14 | 23 => write!(f, "block {}, line {}: ", self.block, self.line)?,
             15 | 19 | 20 => write!(f, "line {}: ", self.line)?,
             18 => write!(f, "record {}: ", self.index)?,
             _ => {}

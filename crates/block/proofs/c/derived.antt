@@ -1,5 +1,6 @@
 pub mod fuji_decode
 pub mod fuji_decode_region
+pub mod fuji_decode_region_shared
 pub mod fuji_decode_region_windowed
 pub mod fuji_measure_block
 pub mod fuji_read_block

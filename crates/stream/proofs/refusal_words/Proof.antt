@@ -34,6 +34,7 @@ refusal-words-spec =
     (λ c. search needs)
     (λ c. search needs)
     (λ c. search needs)
+    (λ c. search needs)
     (λ c. same _ _ (c .enum-told .given .1))
     (λ c. same _ _ (c .enum-told2 .given .1))
     (λ c. same _ _ (c .enum-told3 .given .1))
@@ -54,4 +55,5 @@ refusal-words-spec =
     (λ c. same _ _ (c .before .r6 .given .1))
     (λ c. same _ _ (c .before .r7 .given .1))
     (λ c. same _ _ (c .before .r8 .given .1))
+    (λ c. same _ _ (c .before .r9 .given .1))
     (λ c. same _ _ (c .enum-told13 .given .1)))

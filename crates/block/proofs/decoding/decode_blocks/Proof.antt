@@ -100,7 +100,7 @@ module _ (d tile : List ℕ) (h : FujiHeader) (r : Rect) (n b count : ℕ) (F : 
 
 walk-requires : tie.Need-walk-requires Inv-loop μ-loop
 walk-requires c κs =
-    let p = c .before .before .before .before in
+    let p = c .before .before .before .before .before in
     let g = p .before .before .before in
     let i = g .before in
     let l = i .before in
@@ -115,7 +115,7 @@ walk-requires c κs =
         form-scratch _ (s .args .h) (g .form-of .ensures) (s .args .windowed) (l .loop .lines) (l .loop .rs)
             (v .5, v .6),
       ),
-      ((form-depth _ (s .args .h) (g .form-of .ensures) k, omega (arith, v .3, f .1)), (v .7, rw (p .part .ensures) fits)),
+      ((form-depth _ (s .args .h) (g .form-of .ensures) k, omega (arith, v .3, f .1)), ((v .7, rw (p .part .ensures) fits), c .no-entries .ensures .1)),
     )
 
 zero-length : (n : ℕ) (l : List ℕ) → l ≡ replicate n 0 → length l ≡ n
@@ -126,7 +126,7 @@ clear-length l e = rw e (length-replicate 336 clearRecord)
 
 add-b : tie.Need-add-b Inv-loop μ-loop
 add-b c =
-    let i = c .before .before .before .before .before .before .before .before .before .before .before .before .before .before .before in
+    let i = c .before .before .before .before .before .before .before .before .before .before .before .before .before .before .before .before in
     let l = i .before in
     let s = start l in
     let f = few (s .args .h) (s .args .r) _ (l .loop .inv .4) in
@@ -135,7 +135,7 @@ add-b c =
 loop-again : tie.Need-loop-again Inv-loop μ-loop
 loop-again c =
     let w = c .before .before .before .before .before .before in
-    let p = w .before .before .before .before .before in
+    let p = w .before .before .before .before .before .before in
     let g = p .before .before .before in
     let i = g .before in
     let l = i .before in
@@ -198,6 +198,7 @@ decode-blocks-spec =
     (λ c κs. search needs)
     (λ c κs. search needs)
     part-requires
+    (λ c κs. search needs)
     walk-requires
     (λ c κs. search needs)
     add-b

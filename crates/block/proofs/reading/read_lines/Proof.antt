@@ -18,14 +18,14 @@ use Rattle.block.proofs.reading.read_lines.Statement.{statement}
 use Rattle.block.proofs.reading.read_lines.Proof.derived.Tie as tie
 
 abbrev Inv-loop : tie.InvT-loop
-Inv-loop block bases lines₀ rs₀ image₀ form places tile part count windowed bits xtrans w place₀ tight-lines₀ n₀ lines rs image place tight-lines n =
+Inv-loop block bases lines₀ rs₀ image₀ form places tile part count windowed entries bits xtrans w place₀ tight-lines₀ n₀ lines rs image place tight-lines n =
     (n ≤ count) × ((w ≡ widthOf (form .xtrans)) × (w ≤ 512)) × (length lines ≡ samplesIn windowed (form .xtrans)) × (length rs ≡ 336) × AllInRange rs
     × ((tight-lines ≡ tightBefore form bases block n) × (tight-lines .lines ≤ n))
     × (Fits part image × Shown form bases block tile part n image₀ image)
     × LinesRead windowed form bases block n lines rs place
 
 abbrev μ-loop : tie.MeasureT-loop
-μ-loop block bases lines₀ rs₀ image₀ form places tile part count windowed bits xtrans w place₀ tight-lines₀ n₀ lines rs image place tight-lines n = count - n
+μ-loop block bases lines₀ rs₀ image₀ form places tile part count windowed entries bits xtrans w place₀ tight-lines₀ n₀ lines rs image place tight-lines n = count - n
 
 -- places before a place
 abbrev start : tie.At-loop Inv-loop μ-loop → tie.Start Inv-loop μ-loop
@@ -62,7 +62,7 @@ loop-holds c =
       omega (arith, s .kept, a .pre .0),
       rw (s .ensures) (all-started _ _ (a .pre .1 .0 .0 .1)),
       (c .no-lines .ensures ∙ tight-none _ _ _, rw (c .no-lines .ensures) (omega arith)),
-      (a .pre .1 .1 .1, shown-none _ _ _ _ _ _),
+      (a .pre .1 .1 .0 .1, shown-none _ _ _ _ _ _),
       none-read (a .args .windowed) _ _ _ _ _ _ (k .clear .ensures ∙ rw (a .pre .0 .1 .0)) (s .ensures ∙ rw (r .before .base-of .ensures .0))
           (c .before .start-place .ensures),
     )
@@ -78,10 +78,10 @@ restart-requires c κs =
     let l = b .before .before .before .before .before .before in
     search (needs, start l .pre .1 .0 .0, l .loop .inv .3, b .base-of2 .ensures .1)
 
-quantisers-of-requires : tie.Need-quantisers-of-requires Inv-loop μ-loop
-quantisers-of-requires c κs =
+quantisers-in-requires : tie.Need-quantisers-in-requires Inv-loop μ-loop
+quantisers-in-requires c κs =
     let r = c .before .before .before .before in
-    (start (looped r) .pre .1 .0 .0, based r .base-of2 .ensures .1)
+    ((start (looped r) .pre .1 .0 .0, based r .base-of2 .ensures .1), start (looped r) .pre .1 .1 .1)
 
 line-requires : tie.Need-line-requires Inv-loop μ-loop
 line-requires c κs =
@@ -89,7 +89,7 @@ line-requires c κs =
     let b = based r .base-of2 in
     let l = looped r .loop in
     let a = start (looped r) .pre in
-    let Q = base-known _ _ _ (c .quantisers-of .ensures) in (
+    let Q = base-known _ _ _ (c .quantisers-in .ensures) in (
       (a .0 .0, (omega (arith, turned r .turn-if .kept, l .inv .2), omega (arith, r .restart .kept, l .inv .3))),
       (
         (a .1 .0 .0, (omega (arith, Q .0, b .ensures .1), Q .1)),
@@ -98,7 +98,7 @@ line-requires c κs =
             all-kept (r .before .is-restarted .result) _ (b .result) (l .rs) _ (a .1 .0 .0 .1) (r .restart .ensures) (l .inv .4),
             lines-few _ (a .1 .0 .0 .1) _ _ _ _ (l .inv .7 .read),
           ),
-          (omega (arith, turned r .before .before .loop-test .taken, a .1 .0 .1), (a .1 .1 .0, l .inv .6 .0)),
+          (omega (arith, turned r .before .before .loop-test .taken, a .1 .0 .1), (a .1 .1 .0 .0, l .inv .6 .0)),
         ),
       ),
     )
@@ -139,7 +139,7 @@ returns c =
     let a = start l in (
       cut-at _ _ _ _ _ _ _ (turned r .before .before .loop-test .taken) (l .loop .inv .7 .read) (c .totals-at .ensures)
           (line-cut (a .args .windowed) _ _ _ _ _ _ _ _ _ _ _ _ _ (l .loop .inv .7) (a .pre .1 .0 .0 .1) (based r .base-of2 .ensures .0)
-          (r .before .is-restarted .ensures) (d .before .quantisers-of .ensures) (r .restart .ensures) _ (l .loop .inv .1 .0) _ _
+          (r .before .is-restarted .ensures) (d .before .quantisers-in .ensures) (r .restart .ensures) _ (l .loop .inv .1 .0) _ _
           (turned r .turn-if .ensures) refl
           (d .line .result) (d .line .ensures .0) (c .before .before .before .before .before .enum-told .given .1)),
       shown-cut (a .args .windowed) _ _ _ _ _ _ _ _ _ _ _ _ (l .loop .inv .6 .1) (d .line .ensures .1 .1) (c .before .before .before .zero-line .ensures),
@@ -164,7 +164,7 @@ emit-line-if-requires c κs =
               (omega (arith, d .line .kept, turned r .turn-if .kept, l .loop .inv .2)),
         ),
       ),
-      (a .pre .1 .1 .0, fits-kept _ _ _ (d .line .ensures .1 .1 .kept) (l .loop .inv .6 .0)),
+      (a .pre .1 .1 .0 .0, fits-kept _ _ _ (d .line .ensures .1 .1 .kept) (l .loop .inv .6 .0)),
     )
 
 add-n : tie.Need-add-n Inv-loop μ-loop
@@ -187,7 +187,7 @@ loop-again c =
     let only = d .line .ensures .1 .1 in
     let more =
     line-more (a .args .windowed) _ _ _ _ _ _ _ _ _ _ _ _ _ (l .loop .inv .7) (a .pre .1 .0 .0 .1) (based r .base-of2 .ensures .0)
-    (r .before .is-restarted .ensures) (d .before .quantisers-of .ensures) (r .restart .ensures) _ (l .loop .inv .1 .0) _ _ (turned r .turn-if .ensures) refl
+    (r .before .is-restarted .ensures) (d .before .quantisers-in .ensures) (r .restart .ensures) _ (l .loop .inv .1 .0) _ _ (turned r .turn-if .ensures) refl
     (d .line .result) (d .line .ensures .0) _ (c .before .before .before .before .before .before .before .before .got .given .1) in (
       omega (arith, turned r .before .before .loop-test .taken),
       l .loop .inv .1,
@@ -242,7 +242,7 @@ read-lines-spec =
     (λ c. search needs)
     (λ c. search needs)
     restart-requires
-    quantisers-of-requires
+    quantisers-in-requires
     line-requires
     (λ c. search needs)
     (λ c. search needs)

@@ -10,9 +10,9 @@ part-lines-end c = omega (arith, c .samples-needed .ensures .1)
 
 walk-requires : tie.Need-walk-requires
 walk-requires c κs =
-    let e = c .before .before .before .before .before .before .before .before .before .before in
-    let w = c .before .before .before .before in
-    ((e .pre .0 .0, (search needs, search needs)), (e .pre .0 .1, (w .before .before .xtrans-places .ensures, search needs)))
+    let e = c .before .before .before .before .before .before .before .before .before .before .before in
+    let w = c .before .before .before .before .before in
+    ((e .pre .0 .0, (search needs, search needs)), (e .pre .0 .1, ((w .before .before .xtrans-places .ensures, search needs), c .no-entries .ensures .1)))
 
 returns : tie.Need-returns
 returns c = search needs
@@ -28,6 +28,7 @@ walk-alone-spec =
     (λ c. search needs)
     part-lines-end
     (λ c. search needs)
+    (λ c κs. search needs)
     walk-requires
     (λ c. search needs)
     returns)

@@ -18,7 +18,7 @@ use Rattle.block.proofs.tight.walk_block.Proof.derived.Tie as tie
 
 walk-requires : tie.Need-walk-requires
 walk-requires c κs =
-    let p = c .before .before .before .before .before in
+    let p = c .before .before .before .before .before .before in
     let n = p .before .before .before in
     let f = n .before in
     let s = f .before .before .before in
@@ -30,7 +30,7 @@ walk-requires c κs =
       ),
       (
         (form-depth _ (s .args .h) (f .form-of .ensures) k, omega (arith, k .lines-high, n .line-count .ensures)),
-        (p .xtrans-places .ensures, c .no-part .ensures),
+        ((p .xtrans-places .ensures, c .before .no-part .ensures), c .no-entries .ensures .1),
       ),
     )
 
@@ -42,7 +42,7 @@ walked d h b n F bases s w ef eb es en p = rw (ef, eb, es, en) at p
 returns : tie.Need-returns
 returns c =
     let w = c .before .before .before .before in
-    let q = w .before .before .before .before .before .before .before in
+    let q = w .before .before .before .before .before .before .before .before in
     let y = q .before in
     let n = y .before in
     let f = n .before in
@@ -63,6 +63,7 @@ walk-block-spec =
     (λ c. search needs)
     (λ c. search needs)
     (λ c. search needs)
+    (λ c κs. search needs)
     walk-requires
     (λ c. search needs)
     (λ c. search needs)

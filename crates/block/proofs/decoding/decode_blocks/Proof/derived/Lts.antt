@@ -7,14 +7,16 @@ use Rattle.block.proofs.Form
 use Rattle.block.proofs.Form.Laws as Laws'
 use Rattle.block.proofs.Walked
 use Rattle.block.proofs.Walked.Laws as Laws''
+use Rattle.cameras.proofs.Entries
+use Rattle.cameras.proofs.Entries.Laws as Laws'3
 use Rattle.map.proofs.Part
-use Rattle.map.proofs.Part.Laws as Laws'3
+use Rattle.map.proofs.Part.Laws as Laws'4
 use Rattle.region.proofs.Rect
-use Rattle.region.proofs.Rect.Laws as Laws'4
+use Rattle.region.proofs.Rect.Laws as Laws'5
 use Rattle.region.proofs.Span
-use Rattle.region.proofs.Span.Laws as Laws'5
+use Rattle.region.proofs.Span.Laws as Laws'6
 use Rattle.stream.proofs.FujiHeader
-use Rattle.stream.proofs.FujiHeader.Laws as Laws'6
+use Rattle.stream.proofs.FujiHeader.Laws as Laws'7
 use borrow.Author.Called
 use borrow.Author.Tests
 use borrow.Enum.Make
@@ -56,10 +58,10 @@ use borrow.Table.Typed
 use contract.Lifetimes
 use denote.Array as Array'
 use denote.Enum.Declared
-use denote.Enum.Laws as Laws'7
+use denote.Enum.Laws as Laws'8
 use denote.Exit
 use denote.Struct.Declared as Declared'
-use denote.Struct.Laws as Laws'8
+use denote.Struct.Laws as Laws'9
 use denote.Triple.Clauses
 use denote.Triple.Statement
 use ghost.Atoms
@@ -79,73 +81,86 @@ y0 = Syntax.tyStruct (List._∷_ 109 (List._∷_ 97 (List._∷_ 112 (List._∷_ 
     Syntax.tnil))))))
 
 abbrev pub y1 : Syntax.Ty
-y1 = Syntax.tyStruct (List._∷_ 114 (List._∷_ 101 (List._∷_ 103 (List._∷_ 105 (List._∷_ 111 (List._∷_ 110 (List._∷_ 58 (List._∷_ 58 (List._∷_ 82 (List._∷_ 101 (List._∷_ 99 (List._∷_ 116
-    List.[])))))))))))) (Syntax.tcons (Syntax.tyInt Syntax.w64) (Syntax.tcons (Syntax.tyInt Syntax.w64) (Syntax.tcons (Syntax.tyInt Syntax.w64) (Syntax.tcons (Syntax.tyInt Syntax.w64) Syntax.tnil))))
+y1 = Syntax.tyStruct (List._∷_ 113 (List._∷_ 117 (List._∷_ 97 (List._∷_ 110 (List._∷_ 116 (List._∷_ 105 (List._∷_ 115 (List._∷_ 101 (List._∷_ 114 (List._∷_ 58 (List._∷_ 58 (List._∷_ 81 (List._∷_ 117
+    (List._∷_ 97 (List._∷_ 110 (List._∷_ 116 (List._∷_ 105 (List._∷_ 115 (List._∷_ 101 (List._∷_ 114 List.[])))))))))))))))))))) (Syntax.tcons (Syntax.tyInt Syntax.w32) (Syntax.tcons (Syntax.tyInt
+    Syntax.w32) (Syntax.tcons (Syntax.tyInt Syntax.w32) (Syntax.tcons (Syntax.tyInt Syntax.w32) (Syntax.tcons (Syntax.tyInt Syntax.w32) Syntax.tnil)))))
 
 abbrev pub y2 : Syntax.Ty
-y2 = Syntax.tyStruct (List._∷_ 114 (List._∷_ 101 (List._∷_ 103 (List._∷_ 105 (List._∷_ 111 (List._∷_ 110 (List._∷_ 58 (List._∷_ 58 (List._∷_ 83 (List._∷_ 112 (List._∷_ 97 (List._∷_ 110
-    List.[])))))))))))) (Syntax.tcons (Syntax.tyInt Syntax.w64) (Syntax.tcons (Syntax.tyInt Syntax.w64) (Syntax.tcons (Syntax.tyInt Syntax.w64) Syntax.tnil)))
+y2 = Syntax.tyStruct (List._∷_ 114 (List._∷_ 101 (List._∷_ 103 (List._∷_ 105 (List._∷_ 111 (List._∷_ 110 (List._∷_ 58 (List._∷_ 58 (List._∷_ 82 (List._∷_ 101 (List._∷_ 99 (List._∷_ 116
+    List.[])))))))))))) (Syntax.tcons (Syntax.tyInt Syntax.w64) (Syntax.tcons (Syntax.tyInt Syntax.w64) (Syntax.tcons (Syntax.tyInt Syntax.w64) (Syntax.tcons (Syntax.tyInt Syntax.w64) Syntax.tnil))))
 
 abbrev pub y3 : Syntax.Ty
-y3 = Syntax.tyStruct (List._∷_ 115 (List._∷_ 116 (List._∷_ 114 (List._∷_ 101 (List._∷_ 97 (List._∷_ 109 (List._∷_ 58 (List._∷_ 58 (List._∷_ 70 (List._∷_ 117 (List._∷_ 106 (List._∷_ 105 (List._∷_ 72
+y3 = Syntax.tyStruct (List._∷_ 114 (List._∷_ 101 (List._∷_ 103 (List._∷_ 105 (List._∷_ 111 (List._∷_ 110 (List._∷_ 58 (List._∷_ 58 (List._∷_ 83 (List._∷_ 112 (List._∷_ 97 (List._∷_ 110
+    List.[])))))))))))) (Syntax.tcons (Syntax.tyInt Syntax.w64) (Syntax.tcons (Syntax.tyInt Syntax.w64) (Syntax.tcons (Syntax.tyInt Syntax.w64) Syntax.tnil)))
+
+abbrev pub y4 : Syntax.Ty
+y4 = Syntax.tyStruct (List._∷_ 115 (List._∷_ 116 (List._∷_ 114 (List._∷_ 101 (List._∷_ 97 (List._∷_ 109 (List._∷_ 58 (List._∷_ 58 (List._∷_ 70 (List._∷_ 117 (List._∷_ 106 (List._∷_ 105 (List._∷_ 72
     (List._∷_ 101 (List._∷_ 97 (List._∷_ 100 (List._∷_ 101 (List._∷_ 114 List.[])))))))))))))))))) (Syntax.tcons Syntax.tyBool (Syntax.tcons Syntax.tyBool (Syntax.tcons (Syntax.tyInt Syntax.w32)
     (Syntax.tcons (Syntax.tyInt Syntax.w32) (Syntax.tcons (Syntax.tyInt Syntax.w32) (Syntax.tcons (Syntax.tyInt Syntax.w32) (Syntax.tcons (Syntax.tyInt Syntax.w32) (Syntax.tcons (Syntax.tyInt Syntax.w32)
     (Syntax.tcons (Syntax.tyInt Syntax.w32) Syntax.tnil)))))))))
 
-abbrev pub y4 : Syntax.Ty
-y4 = Syntax.tyStruct (List._∷_ 116 (List._∷_ 111 (List._∷_ 116 (List._∷_ 97 (List._∷_ 108 (List._∷_ 115 (List._∷_ 58 (List._∷_ 58 (List._∷_ 84 (List._∷_ 111 (List._∷_ 116 (List._∷_ 97 (List._∷_ 108
+abbrev pub y5 : Syntax.Ty
+y5 = Syntax.tyStruct (List._∷_ 116 (List._∷_ 111 (List._∷_ 116 (List._∷_ 97 (List._∷_ 108 (List._∷_ 115 (List._∷_ 58 (List._∷_ 58 (List._∷_ 84 (List._∷_ 111 (List._∷_ 116 (List._∷_ 97 (List._∷_ 108
     (List._∷_ 115 List.[])))))))))))))) (Syntax.tcons (Syntax.tyInt Syntax.w64) (Syntax.tcons (Syntax.tyInt Syntax.w64) Syntax.tnil))
 
-abbrev pub y5 : Syntax.Ty
-y5 = Syntax.tyStruct (List._∷_ 38 (List._∷_ 91 (List._∷_ 93 List.[]))) (Syntax.tcons (Syntax.tyRef Syntax.erased Syntax.imm (Syntax.tyInt Syntax.w8)) (Syntax.tcons (Syntax.tyInt Syntax.w64)
-    Syntax.tnil))
-
 abbrev pub y6 : Syntax.Ty
-y6 = Syntax.tyStruct (List._∷_ 38 (List._∷_ 91 (List._∷_ 93 List.[]))) (Syntax.tcons (Syntax.tyRef Syntax.erased Syntax.mut (Syntax.tyInt Syntax.w16)) (Syntax.tcons (Syntax.tyInt Syntax.w64)
+y6 = Syntax.tyStruct (List._∷_ 38 (List._∷_ 91 (List._∷_ 93 List.[]))) (Syntax.tcons (Syntax.tyRef Syntax.erased Syntax.imm (Syntax.tyInt Syntax.w8)) (Syntax.tcons (Syntax.tyInt Syntax.w64)
     Syntax.tnil))
 
 abbrev pub y7 : Syntax.Ty
-y7 = Syntax.tyStruct (List._∷_ 38 (List._∷_ 91 (List._∷_ 93 List.[]))) (Syntax.tcons (Syntax.tyRef Syntax.erased Syntax.mut Element.behind) (Syntax.tcons (Syntax.tyInt Syntax.w64) Syntax.tnil))
+y7 = Syntax.tyStruct (List._∷_ 38 (List._∷_ 91 (List._∷_ 93 List.[]))) (Syntax.tcons (Syntax.tyRef Syntax.erased Syntax.mut (Syntax.tyInt Syntax.w16)) (Syntax.tcons (Syntax.tyInt Syntax.w64)
+    Syntax.tnil))
 
 abbrev pub y8 : Syntax.Ty
-y8 = Syntax.tyStruct (List._∷_ 98 (List._∷_ 108 (List._∷_ 111 (List._∷_ 99 (List._∷_ 107 (List._∷_ 58 (List._∷_ 58 (List._∷_ 70 (List._∷_ 111 (List._∷_ 114 (List._∷_ 109 List.[])))))))))))
-    (Syntax.tcons (Syntax.tyInt Syntax.w32) (Syntax.tcons Syntax.tyBool Syntax.tnil))
+y8 = Syntax.tyStruct (List._∷_ 38 (List._∷_ 91 (List._∷_ 93 List.[]))) (Syntax.tcons (Syntax.tyRef Syntax.erased Syntax.mut Element.behind) (Syntax.tcons (Syntax.tyInt Syntax.w64) Syntax.tnil))
 
 abbrev pub y9 : Syntax.Ty
-y9 = Syntax.tyStruct (List._∷_ 116 (List._∷_ 111 (List._∷_ 116 (List._∷_ 97 (List._∷_ 108 (List._∷_ 115 (List._∷_ 58 (List._∷_ 58 (List._∷_ 84 (List._∷_ 105 (List._∷_ 103 (List._∷_ 104 (List._∷_ 116
-    (List._∷_ 76 (List._∷_ 105 (List._∷_ 110 (List._∷_ 101 (List._∷_ 115 List.[])))))))))))))))))) (Syntax.tcons (Syntax.tyInt Syntax.w64) (Syntax.tcons y4 Syntax.tnil))
+y9 = Syntax.tyStruct (List._∷_ 98 (List._∷_ 108 (List._∷_ 111 (List._∷_ 99 (List._∷_ 107 (List._∷_ 58 (List._∷_ 58 (List._∷_ 70 (List._∷_ 111 (List._∷_ 114 (List._∷_ 109 List.[])))))))))))
+    (Syntax.tcons (Syntax.tyInt Syntax.w32) (Syntax.tcons Syntax.tyBool Syntax.tnil))
+
+abbrev pub y10 : Syntax.Ty
+y10 = Syntax.tyStruct (List._∷_ 116 (List._∷_ 111 (List._∷_ 116 (List._∷_ 97 (List._∷_ 108 (List._∷_ 115 (List._∷_ 58 (List._∷_ 58 (List._∷_ 84 (List._∷_ 105 (List._∷_ 103 (List._∷_ 104 (List._∷_ 116
+    (List._∷_ 76 (List._∷_ 105 (List._∷_ 110 (List._∷_ 101 (List._∷_ 115 List.[])))))))))))))))))) (Syntax.tcons (Syntax.tyInt Syntax.w64) (Syntax.tcons y5 Syntax.tnil))
+
+abbrev pub y11 : Syntax.Ty
+y11 = Syntax.tyStruct (List._∷_ 99 (List._∷_ 97 (List._∷_ 109 (List._∷_ 101 (List._∷_ 114 (List._∷_ 97 (List._∷_ 115 (List._∷_ 58 (List._∷_ 58 (List._∷_ 69 (List._∷_ 110 (List._∷_ 116 (List._∷_ 114
+    (List._∷_ 121 List.[])))))))))))))) (Syntax.tcons (Syntax.tyInt Syntax.w32) (Syntax.tcons y1 (Syntax.tcons Syntax.tyBool (Syntax.tcons Syntax.tyBool Syntax.tnil))))
+
+abbrev pub y12 : Syntax.Ty
+y12 = Syntax.tyStruct (List._∷_ 99 (List._∷_ 97 (List._∷_ 109 (List._∷_ 101 (List._∷_ 114 (List._∷_ 97 (List._∷_ 115 (List._∷_ 58 (List._∷_ 58 (List._∷_ 69 (List._∷_ 110 (List._∷_ 116 (List._∷_ 114
+    (List._∷_ 105 (List._∷_ 101 (List._∷_ 115 List.[])))))))))))))))) (Syntax.tcons (Syntax.tyArray y11 16) Syntax.tnil)
 
 abbrev pub ps : List.List (Kinds.PK 4)
 ps = List._∷_ (ShrSlice.pShrS (Referent.rtF (Referent.fInt Syntax.w8)) 0 tt) (List._∷_ (Value.pVal record {
   ty = Declared'.row FujiHeader.the-type;
   one = Path'.refl;
-  val = Laws'8.val FujiHeader.the-type Laws'6.the-laws;
-  tells = Laws'8.tells FujiHeader.the-type Laws'6.the-laws;
-  still = Laws'8.still
-      FujiHeader.the-type Laws'6.the-copy Exit.yes;
+  val = Laws'9.val FujiHeader.the-type Laws'7.the-laws;
+  tells = Laws'9.tells FujiHeader.the-type Laws'7.the-laws;
+  still = Laws'9.still
+      FujiHeader.the-type Laws'7.the-copy Exit.yes;
   row = Rows'.whole (Declared'.row FujiHeader.the-type);
   rd = λ x. x;
   mk = λ x. x;
 } λ M 𝓤 H A W. record {
-  copies = Laws'8.copy FujiHeader.the-type Laws'6.the-copy 𝓤 H A W;
-  lawful = Laws'8.lawful FujiHeader.the-type Laws'6.the-laws 𝓤 H A W;
-  makes = Laws'8.makes FujiHeader.the-type Laws'6.the-plain 𝓤 H A;
+  copies = Laws'9.copy FujiHeader.the-type Laws'7.the-copy 𝓤 H A W;
+  lawful = Laws'9.lawful FujiHeader.the-type Laws'7.the-laws 𝓤 H A W;
+  makes = Laws'9.makes FujiHeader.the-type Laws'7.the-plain 𝓤 H A;
   in-mem = Local.mem-whole 𝓤 H A W (Declared'.row FujiHeader.the-type);
   of-mem = Local.whole-mem 𝓤 H A W (Declared'.row FujiHeader.the-type);
 }) (List._∷_ (Value.pVal record {
   ty = Declared'.row Rect.the-type;
   one = Path'.refl;
-  val = Laws'8.val Rect.the-type Laws'4.the-laws;
-  tells = Laws'8.tells Rect.the-type Laws'4.the-laws;
-  still = Laws'8.still Rect.the-type
-      Laws'4.the-copy Exit.yes;
+  val = Laws'9.val Rect.the-type Laws'5.the-laws;
+  tells = Laws'9.tells Rect.the-type Laws'5.the-laws;
+  still = Laws'9.still Rect.the-type
+      Laws'5.the-copy Exit.yes;
   row = Rows'.whole (Declared'.row Rect.the-type);
   rd = λ x. x;
   mk = λ x. x;
 } λ M 𝓤 H A W. record {
-  copies = Laws'8.copy Rect.the-type Laws'4.the-copy 𝓤 H A W;
-  lawful = Laws'8.lawful Rect.the-type Laws'4.the-laws 𝓤 H A W;
-  makes = Laws'8.makes Rect.the-type Laws'4.the-plain 𝓤 H A;
+  copies = Laws'9.copy Rect.the-type Laws'5.the-copy 𝓤 H A W;
+  lawful = Laws'9.lawful Rect.the-type Laws'5.the-laws 𝓤 H A W;
+  makes = Laws'9.makes Rect.the-type Laws'5.the-plain 𝓤 H A;
   in-mem =
       Local.mem-whole 𝓤 H A W (Declared'.row Rect.the-type);
   of-mem = Local.whole-mem 𝓤 H A W (Declared'.row Rect.the-type);
@@ -157,24 +172,24 @@ abbrev pub r : Kinds.RK 4
 r = Value.rVal record {
   ty = Declared.row Decoded.the-type;
   one = Path'.refl;
-  val = Laws'7.val Decoded.the-type Laws.the-laws;
-  tells = Laws'7.tells Decoded.the-type Laws.the-laws;
-  still = Laws'7.still Decoded.the-type
+  val = Laws'8.val Decoded.the-type Laws.the-laws;
+  tells = Laws'8.tells Decoded.the-type Laws.the-laws;
+  still = Laws'8.still Decoded.the-type
       Laws.the-copy Exit.yes;
   row = Rows'.whole (Declared.row Decoded.the-type);
   rd = λ x. x;
   mk = λ x. x;
 } λ M 𝓤 H A W. record {
-  copies = Laws'7.copy Decoded.the-type Laws.the-copy 𝓤 H A W;
-  lawful = Laws'7.lawful Decoded.the-type Laws.the-laws 𝓤 H A W tt;
-  makes = Laws'7.makes Decoded.the-type Laws.the-plain 𝓤 H A;
+  copies = Laws'8.copy Decoded.the-type Laws.the-copy 𝓤 H A W;
+  lawful = Laws'8.lawful Decoded.the-type Laws.the-laws 𝓤 H A W tt;
+  makes = Laws'8.makes Decoded.the-type Laws.the-plain 𝓤 H A;
   in-mem =
       Local.mem-whole 𝓤 H A W (Declared.row Decoded.the-type);
   of-mem = Local.whole-mem 𝓤 H A W (Declared.row Decoded.the-type);
 }
 
 abbrev pub xs : List.List Syntax.Ty
-xs = List._∷_ y2 (List._∷_ (Syntax.tyInt Syntax.w64) (List._∷_ (Syntax.tyInt Syntax.w64) (List._∷_ (Syntax.tyArray (Syntax.tyInt Syntax.w16) 768) (List._∷_ (Syntax.tyEnum (List._∷_ 98 (List._∷_ 108
+xs = List._∷_ y3 (List._∷_ (Syntax.tyInt Syntax.w64) (List._∷_ (Syntax.tyInt Syntax.w64) (List._∷_ (Syntax.tyArray (Syntax.tyInt Syntax.w16) 768) (List._∷_ (Syntax.tyEnum (List._∷_ 98 (List._∷_ 108
     (List._∷_ 111 (List._∷_ 99 (List._∷_ 107 (List._∷_ 58 (List._∷_ 58 (List._∷_ 68 (List._∷_ 101 (List._∷_ 99 (List._∷_ 111 (List._∷_ 100 (List._∷_ 101 (List._∷_ 100 List.[])))))))))))))) (Syntax.ttcons
     Syntax.tnil (Syntax.ttcons (Syntax.tcons (Syntax.tyEnum (List._∷_ 115 (List._∷_ 116 (List._∷_ 114 (List._∷_ 101 (List._∷_ 97 (List._∷_ 109 (List._∷_ 58 (List._∷_ 58 (List._∷_ 82 (List._∷_ 101
     (List._∷_ 102 (List._∷_ 117 (List._∷_ 115 (List._∷_ 97 (List._∷_ 108 List.[]))))))))))))))) (Syntax.ttcons Syntax.tnil (Syntax.ttcons Syntax.tnil (Syntax.ttcons Syntax.tnil (Syntax.ttcons
@@ -182,12 +197,13 @@ xs = List._∷_ y2 (List._∷_ (Syntax.tyInt Syntax.w64) (List._∷_ (Syntax.tyI
     (Syntax.ttcons Syntax.tnil (Syntax.ttcons (Syntax.tcons (Syntax.tyInt Syntax.w64) Syntax.tnil) (Syntax.ttcons (Syntax.tcons (Syntax.tyInt Syntax.w64) Syntax.tnil) (Syntax.ttcons Syntax.tnil
     (Syntax.ttcons (Syntax.tcons (Syntax.tyInt Syntax.w64) (Syntax.tcons (Syntax.tyInt Syntax.w64) Syntax.tnil)) (Syntax.ttcons (Syntax.tcons (Syntax.tyInt Syntax.w64) Syntax.tnil) (Syntax.ttcons
     Syntax.tnil (Syntax.ttcons Syntax.tnil (Syntax.ttcons (Syntax.tcons (Syntax.tyInt Syntax.w64) Syntax.tnil) (Syntax.ttcons (Syntax.tcons (Syntax.tyInt Syntax.w64) Syntax.tnil) (Syntax.ttcons
-    (Syntax.tcons (Syntax.tyInt Syntax.w64) Syntax.tnil) (Syntax.ttcons Syntax.tnil Syntax.ttnil)))))))))))))))))))))) Syntax.tnil) Syntax.ttnil))) (List._∷_ (Syntax.tyInt Syntax.w64) (List._∷_ y8
-    (List._∷_ y5 (List._∷_ y5 (List._∷_ y0 (List._∷_ (Syntax.tyEnum (List._∷_ 98 (List._∷_ 108 (List._∷_ 111 (List._∷_ 99 (List._∷_ 107 (List._∷_ 58 (List._∷_ 58 (List._∷_ 87 (List._∷_ 97 (List._∷_ 108
-    (List._∷_ 107 (List._∷_ 101 (List._∷_ 100 List.[]))))))))))))) (Syntax.ttcons (Syntax.tcons y4 (Syntax.tcons y9 Syntax.tnil)) (Syntax.ttcons (Syntax.tcons (Syntax.tyInt Syntax.w64) (Syntax.tcons y4
-    Syntax.tnil)) Syntax.ttnil))) (List._∷_ (Syntax.tyArray (Syntax.tyInt Syntax.w16) 768) (List._∷_ Syntax.tyBool (List._∷_ (Syntax.tyRef Syntax.erased Syntax.mut (Syntax.tyInt Syntax.w16)) (List._∷_ y6
-    (List._∷_ (Syntax.tyRef Syntax.erased Syntax.mut Element.behind) (List._∷_ y7 (List._∷_ (Syntax.tyRef Syntax.erased Syntax.mut (Syntax.tyInt Syntax.w16)) (List._∷_ y6 (List._∷_ (Syntax.tyRef
-    Syntax.erased Syntax.imm (Syntax.tyArray (Syntax.tyInt Syntax.w16) 768)) List.[])))))))))))))))))))
+    (Syntax.tcons (Syntax.tyInt Syntax.w64) Syntax.tnil) (Syntax.ttcons (Syntax.tcons (Syntax.tyInt Syntax.w64) (Syntax.tcons (Syntax.tyInt Syntax.w64) Syntax.tnil)) (Syntax.ttcons Syntax.tnil
+    Syntax.ttnil))))))))))))))))))))))) Syntax.tnil) Syntax.ttnil))) (List._∷_ (Syntax.tyInt Syntax.w64) (List._∷_ y9 (List._∷_ y6 (List._∷_ y6 (List._∷_ y0 (List._∷_ (Syntax.tyEnum (List._∷_ 98 (List._∷_
+    108 (List._∷_ 111 (List._∷_ 99 (List._∷_ 107 (List._∷_ 58 (List._∷_ 58 (List._∷_ 87 (List._∷_ 97 (List._∷_ 108 (List._∷_ 107 (List._∷_ 101 (List._∷_ 100 List.[]))))))))))))) (Syntax.ttcons
+    (Syntax.tcons y5 (Syntax.tcons y10 Syntax.tnil)) (Syntax.ttcons (Syntax.tcons (Syntax.tyInt Syntax.w64) (Syntax.tcons y5 Syntax.tnil)) Syntax.ttnil))) (List._∷_ (Syntax.tyArray (Syntax.tyInt
+    Syntax.w16) 768) (List._∷_ Syntax.tyBool (List._∷_ (Syntax.tyRef Syntax.erased Syntax.mut (Syntax.tyInt Syntax.w16)) (List._∷_ y7 (List._∷_ (Syntax.tyRef Syntax.erased Syntax.mut Element.behind)
+    (List._∷_ y8 (List._∷_ (Syntax.tyRef Syntax.erased Syntax.mut (Syntax.tyInt Syntax.w16)) (List._∷_ y7 (List._∷_ (Syntax.tyRef Syntax.erased Syntax.imm (Syntax.tyArray (Syntax.tyInt Syntax.w16) 768))
+    (List._∷_ y12 List.[]))))))))))))))))))))
 
 abbrev pub m : Nat.ℕ
 m = 4
@@ -196,17 +212,17 @@ abbrev pub ps·0 : List.List (Kinds.PK 0)
 ps·0 = List._∷_ (Value.pVal record {
   ty = Declared'.row Rect.the-type;
   one = Path'.refl;
-  val = Laws'8.val Rect.the-type Laws'4.the-laws;
-  tells = Laws'8.tells Rect.the-type Laws'4.the-laws;
-  still = Laws'8.still Rect.the-type
-      Laws'4.the-copy Exit.yes;
+  val = Laws'9.val Rect.the-type Laws'5.the-laws;
+  tells = Laws'9.tells Rect.the-type Laws'5.the-laws;
+  still = Laws'9.still Rect.the-type
+      Laws'5.the-copy Exit.yes;
   row = Rows'.whole (Declared'.row Rect.the-type);
   rd = λ x. x;
   mk = λ x. x;
 } λ M 𝓤 H A W. record {
-  copies = Laws'8.copy Rect.the-type Laws'4.the-copy 𝓤 H A W;
-  lawful = Laws'8.lawful Rect.the-type Laws'4.the-laws 𝓤 H A W;
-  makes = Laws'8.makes Rect.the-type Laws'4.the-plain 𝓤 H A;
+  copies = Laws'9.copy Rect.the-type Laws'5.the-copy 𝓤 H A W;
+  lawful = Laws'9.lawful Rect.the-type Laws'5.the-laws 𝓤 H A W;
+  makes = Laws'9.makes Rect.the-type Laws'5.the-plain 𝓤 H A;
   in-mem =
       Local.mem-whole 𝓤 H A W (Declared'.row Rect.the-type);
   of-mem = Local.whole-mem 𝓤 H A W (Declared'.row Rect.the-type);
@@ -216,17 +232,17 @@ abbrev pub r·0 : Kinds.RK 0
 r·0 = Value.rVal record {
   ty = Declared'.row Span.the-type;
   one = Path'.refl;
-  val = Laws'8.val Span.the-type Laws'5.the-laws;
-  tells = Laws'8.tells Span.the-type Laws'5.the-laws;
-  still = Laws'8.still Span.the-type
-      Laws'5.the-copy Exit.yes;
+  val = Laws'9.val Span.the-type Laws'6.the-laws;
+  tells = Laws'9.tells Span.the-type Laws'6.the-laws;
+  still = Laws'9.still Span.the-type
+      Laws'6.the-copy Exit.yes;
   row = Rows'.whole (Declared'.row Span.the-type);
   rd = λ x. x;
   mk = λ x. x;
 } λ M 𝓤 H A W. record {
-  copies = Laws'8.copy Span.the-type Laws'5.the-copy 𝓤 H A W;
-  lawful = Laws'8.lawful Span.the-type Laws'5.the-laws 𝓤 H A W;
-  makes = Laws'8.makes Span.the-type Laws'5.the-plain 𝓤 H A;
+  copies = Laws'9.copy Span.the-type Laws'6.the-copy 𝓤 H A W;
+  lawful = Laws'9.lawful Span.the-type Laws'6.the-laws 𝓤 H A W;
+  makes = Laws'9.makes Span.the-type Laws'6.the-plain 𝓤 H A;
   in-mem =
       Local.mem-whole 𝓤 H A W (Declared'.row Span.the-type);
   of-mem = Local.whole-mem 𝓤 H A W (Declared'.row Span.the-type);
@@ -242,17 +258,17 @@ abbrev pub ps·2 : List.List (Kinds.PK 0)
 ps·2 = List._∷_ (Value.pVal record {
   ty = Declared'.row FujiHeader.the-type;
   one = Path'.refl;
-  val = Laws'8.val FujiHeader.the-type Laws'6.the-laws;
-  tells = Laws'8.tells FujiHeader.the-type Laws'6.the-laws;
-  still = Laws'8.still
-      FujiHeader.the-type Laws'6.the-copy Exit.yes;
+  val = Laws'9.val FujiHeader.the-type Laws'7.the-laws;
+  tells = Laws'9.tells FujiHeader.the-type Laws'7.the-laws;
+  still = Laws'9.still
+      FujiHeader.the-type Laws'7.the-copy Exit.yes;
   row = Rows'.whole (Declared'.row FujiHeader.the-type);
   rd = λ x. x;
   mk = λ x. x;
 } λ M 𝓤 H A W. record {
-  copies = Laws'8.copy FujiHeader.the-type Laws'6.the-copy 𝓤 H A W;
-  lawful = Laws'8.lawful FujiHeader.the-type Laws'6.the-laws 𝓤 H A W;
-  makes = Laws'8.makes FujiHeader.the-type Laws'6.the-plain 𝓤 H A;
+  copies = Laws'9.copy FujiHeader.the-type Laws'7.the-copy 𝓤 H A W;
+  lawful = Laws'9.lawful FujiHeader.the-type Laws'7.the-laws 𝓤 H A W;
+  makes = Laws'9.makes FujiHeader.the-type Laws'7.the-plain 𝓤 H A;
   in-mem = Local.mem-whole 𝓤 H A W (Declared'.row FujiHeader.the-type);
   of-mem = Local.whole-mem 𝓤 H A W (Declared'.row FujiHeader.the-type);
 }) List.[]
@@ -261,17 +277,17 @@ abbrev pub r·2 : Kinds.RK 0
 r·2 = Value.rVal record {
   ty = Declared'.row Form.the-type;
   one = Path'.refl;
-  val = Laws'8.val Form.the-type Laws'.the-laws;
-  tells = Laws'8.tells Form.the-type Laws'.the-laws;
-  still = Laws'8.still Form.the-type
+  val = Laws'9.val Form.the-type Laws'.the-laws;
+  tells = Laws'9.tells Form.the-type Laws'.the-laws;
+  still = Laws'9.still Form.the-type
       Laws'.the-copy Exit.yes;
   row = Rows'.whole (Declared'.row Form.the-type);
   rd = λ x. x;
   mk = λ x. x;
 } λ M 𝓤 H A W. record {
-  copies = Laws'8.copy Form.the-type Laws'.the-copy 𝓤 H A W;
-  lawful = Laws'8.lawful Form.the-type Laws'.the-laws 𝓤 H A W;
-  makes = Laws'8.makes Form.the-type Laws'.the-plain 𝓤 H A;
+  copies = Laws'9.copy Form.the-type Laws'.the-copy 𝓤 H A W;
+  lawful = Laws'9.lawful Form.the-type Laws'.the-laws 𝓤 H A W;
+  makes = Laws'9.makes Form.the-type Laws'.the-plain 𝓤 H A;
   in-mem =
       Local.mem-whole 𝓤 H A W (Declared'.row Form.the-type);
   of-mem = Local.whole-mem 𝓤 H A W (Declared'.row Form.the-type);
@@ -293,17 +309,17 @@ abbrev pub ps·5 : List.List (Kinds.PK 0)
 ps·5 = List._∷_ (Value.pVal record {
   ty = Declared'.row Rect.the-type;
   one = Path'.refl;
-  val = Laws'8.val Rect.the-type Laws'4.the-laws;
-  tells = Laws'8.tells Rect.the-type Laws'4.the-laws;
-  still = Laws'8.still Rect.the-type
-      Laws'4.the-copy Exit.yes;
+  val = Laws'9.val Rect.the-type Laws'5.the-laws;
+  tells = Laws'9.tells Rect.the-type Laws'5.the-laws;
+  still = Laws'9.still Rect.the-type
+      Laws'5.the-copy Exit.yes;
   row = Rows'.whole (Declared'.row Rect.the-type);
   rd = λ x. x;
   mk = λ x. x;
 } λ M 𝓤 H A W. record {
-  copies = Laws'8.copy Rect.the-type Laws'4.the-copy 𝓤 H A W;
-  lawful = Laws'8.lawful Rect.the-type Laws'4.the-laws 𝓤 H A W;
-  makes = Laws'8.makes Rect.the-type Laws'4.the-plain 𝓤 H A;
+  copies = Laws'9.copy Rect.the-type Laws'5.the-copy 𝓤 H A W;
+  lawful = Laws'9.lawful Rect.the-type Laws'5.the-laws 𝓤 H A W;
+  makes = Laws'9.makes Rect.the-type Laws'5.the-plain 𝓤 H A;
   in-mem =
       Local.mem-whole 𝓤 H A W (Declared'.row Rect.the-type);
   of-mem = Local.whole-mem 𝓤 H A W (Declared'.row Rect.the-type);
@@ -313,38 +329,61 @@ abbrev pub r·5 : Kinds.RK 0
 r·5 = Value.rVal record {
   ty = Declared'.row Part.the-type;
   one = Path'.refl;
-  val = Laws'8.val Part.the-type Laws'3.the-laws;
-  tells = Laws'8.tells Part.the-type Laws'3.the-laws;
-  still = Laws'8.still Part.the-type
-      Laws'3.the-copy Exit.yes;
+  val = Laws'9.val Part.the-type Laws'4.the-laws;
+  tells = Laws'9.tells Part.the-type Laws'4.the-laws;
+  still = Laws'9.still Part.the-type
+      Laws'4.the-copy Exit.yes;
   row = Rows'.whole (Declared'.row Part.the-type);
   rd = λ x. x;
   mk = λ x. x;
 } λ M 𝓤 H A W. record {
-  copies = Laws'8.copy Part.the-type Laws'3.the-copy 𝓤 H A W;
-  lawful = Laws'8.lawful Part.the-type Laws'3.the-laws 𝓤 H A W;
-  makes = Laws'8.makes Part.the-type Laws'3.the-plain 𝓤 H A;
+  copies = Laws'9.copy Part.the-type Laws'4.the-copy 𝓤 H A W;
+  lawful = Laws'9.lawful Part.the-type Laws'4.the-laws 𝓤 H A W;
+  makes = Laws'9.makes Part.the-type Laws'4.the-plain 𝓤 H A;
   in-mem =
       Local.mem-whole 𝓤 H A W (Declared'.row Part.the-type);
   of-mem = Local.whole-mem 𝓤 H A W (Declared'.row Part.the-type);
 }
 
-abbrev pub ps·6 : List.List (Kinds.PK 6)
-ps·6 = List._∷_ (ShrSlice.pShrS (Referent.rtF (Referent.fInt Syntax.w8)) 0 tt) (List._∷_ (ShrSlice.pShrS (Referent.rtF (Referent.fInt Syntax.w8)) 1 tt) (List._∷_ (MutSlice.pMutS (Referent.rtF
+abbrev pub ps·6 : List.List (Kinds.PK 0)
+ps·6 = List.[]
+
+abbrev pub r·6 : Kinds.RK 0
+r·6 = Value.rVal record {
+  ty = Declared'.row Entries.the-type;
+  one = Path'.refl;
+  val = Laws'9.val Entries.the-type Laws'3.the-laws;
+  tells = Laws'9.tells Entries.the-type Laws'3.the-laws;
+  still = Laws'9.still Entries.the-type
+      Laws'3.the-copy Exit.yes;
+  row = Rows'.whole (Declared'.row Entries.the-type);
+  rd = λ x. x;
+  mk = λ x. x;
+} λ M 𝓤 H A W. record {
+  copies = Laws'9.copy Entries.the-type Laws'3.the-copy 𝓤 H A W;
+  lawful = Laws'9.lawful Entries.the-type Laws'3.the-laws 𝓤 H A W;
+  makes = Laws'9.makes Entries.the-type Laws'3.the-plain 𝓤 H A;
+  in-mem =
+      Local.mem-whole 𝓤 H A W (Declared'.row Entries.the-type);
+  of-mem = Local.whole-mem 𝓤 H A W (Declared'.row Entries.the-type);
+}
+
+abbrev pub ps·7 : List.List (Kinds.PK 6)
+ps·7 = List._∷_ (ShrSlice.pShrS (Referent.rtF (Referent.fInt Syntax.w8)) 0 tt) (List._∷_ (ShrSlice.pShrS (Referent.rtF (Referent.fInt Syntax.w8)) 1 tt) (List._∷_ (MutSlice.pMutS (Referent.rtF
     (Referent.fInt Syntax.w16)) 2 tt) (List._∷_ (MutSlice.pMutS (Element.type) 3 tt) (List._∷_ (MutSlice.pMutS (Referent.rtF (Referent.fInt Syntax.w16)) 4 tt) (List._∷_ (Value.pVal record {
       ty = Declared'.row Form.the-type;
       one = Path'.refl;
-      val = Laws'8.val Form.the-type Laws'.the-laws;
-      tells = Laws'8.tells Form.the-type Laws'.the-laws;
-      still = Laws'8.still Form.the-type
+      val = Laws'9.val Form.the-type Laws'.the-laws;
+      tells = Laws'9.tells Form.the-type Laws'.the-laws;
+      still = Laws'9.still Form.the-type
           Laws'.the-copy Exit.yes;
       row = Rows'.whole (Declared'.row Form.the-type);
       rd = λ x. x;
       mk = λ x. x;
     } λ M 𝓤 H A W. record {
-      copies = Laws'8.copy Form.the-type Laws'.the-copy 𝓤 H A W;
-      lawful = Laws'8.lawful Form.the-type Laws'.the-laws 𝓤 H A W;
-      makes = Laws'8.makes Form.the-type Laws'.the-plain 𝓤 H A;
+      copies = Laws'9.copy Form.the-type Laws'.the-copy 𝓤 H A W;
+      lawful = Laws'9.lawful Form.the-type Laws'.the-laws 𝓤 H A W;
+      makes = Laws'9.makes Form.the-type Laws'.the-plain 𝓤 H A;
       in-mem =
           Local.mem-whole 𝓤 H A W (Declared'.row Form.the-type);
       of-mem = Local.whole-mem 𝓤 H A W (Declared'.row Form.the-type);
@@ -352,94 +391,112 @@ ps·6 = List._∷_ (ShrSlice.pShrS (Referent.rtF (Referent.fInt Syntax.w8)) 0 tt
     768) 5 tt) (List._∷_ (Array.pArr (Array.eInt Syntax.w8) (Array.eInt-laws Syntax.w8) 36) (List._∷_ (Value.pVal record {
       ty = Declared'.row Part.the-type;
       one = Path'.refl;
-      val = Laws'8.val Part.the-type Laws'3.the-laws;
-      tells = Laws'8.tells Part.the-type Laws'3.the-laws;
-      still = Laws'8.still Part.the-type
-          Laws'3.the-copy Exit.yes;
+      val = Laws'9.val Part.the-type Laws'4.the-laws;
+      tells = Laws'9.tells Part.the-type Laws'4.the-laws;
+      still = Laws'9.still Part.the-type
+          Laws'4.the-copy Exit.yes;
       row = Rows'.whole (Declared'.row Part.the-type);
       rd = λ x. x;
       mk = λ x. x;
     } λ M 𝓤 H A W. record {
-      copies = Laws'8.copy Part.the-type Laws'3.the-copy 𝓤 H A W;
-      lawful = Laws'8.lawful Part.the-type Laws'3.the-laws 𝓤 H A W;
-      makes = Laws'8.makes Part.the-type Laws'3.the-plain 𝓤 H A;
+      copies = Laws'9.copy Part.the-type Laws'4.the-copy 𝓤 H A W;
+      lawful = Laws'9.lawful Part.the-type Laws'4.the-laws 𝓤 H A W;
+      makes = Laws'9.makes Part.the-type Laws'4.the-plain 𝓤 H A;
       in-mem =
           Local.mem-whole 𝓤 H A W (Declared'.row Part.the-type);
       of-mem = Local.whole-mem 𝓤 H A W (Declared'.row Part.the-type);
-    }) (List._∷_ (Num.pNum Syntax.w64) (List._∷_ Bool.pBool List.[]))))))))))
+    }) (List._∷_ (Num.pNum Syntax.w64) (List._∷_ Bool.pBool (List._∷_ (Value.pVal
+    record {
+      ty = Declared'.row Entries.the-type;
+      one = Path'.refl;
+      val = Laws'9.val Entries.the-type Laws'3.the-laws;
+      tells = Laws'9.tells Entries.the-type Laws'3.the-laws;
+      still = Laws'9.still Entries.the-type
+          Laws'3.the-copy Exit.yes;
+      row = Rows'.whole (Declared'.row Entries.the-type);
+      rd = λ x. x;
+      mk = λ x. x;
+    } λ M 𝓤 H A W. record {
+      copies = Laws'9.copy Entries.the-type Laws'3.the-copy 𝓤 H A W;
+      lawful = Laws'9.lawful Entries.the-type Laws'3.the-laws 𝓤 H A W;
+      makes = Laws'9.makes Entries.the-type Laws'3.the-plain 𝓤 H A;
+      in-mem =
+          Local.mem-whole 𝓤 H A W (Declared'.row Entries.the-type);
+      of-mem = Local.whole-mem 𝓤 H A W (Declared'.row Entries.the-type);
+    }) List.[])))))))))))
 
-abbrev pub r·6 : Kinds.RK 6
-r·6 = Value.rVal record {
+abbrev pub r·7 : Kinds.RK 6
+r·7 = Value.rVal record {
   ty = Declared.row Walked.the-type;
   one = Path'.refl;
-  val = Laws'7.val Walked.the-type Laws''.the-laws;
-  tells = Laws'7.tells Walked.the-type Laws''.the-laws;
-  still = Laws'7.still Walked.the-type
+  val = Laws'8.val Walked.the-type Laws''.the-laws;
+  tells = Laws'8.tells Walked.the-type Laws''.the-laws;
+  still = Laws'8.still Walked.the-type
       Laws''.the-copy Exit.yes;
   row = Rows'.whole (Declared.row Walked.the-type);
   rd = λ x. x;
   mk = λ x. x;
 } λ M 𝓤 H A W. record {
-  copies = Laws'7.copy Walked.the-type Laws''.the-copy 𝓤 H A W;
-  lawful = Laws'7.lawful Walked.the-type Laws''.the-laws 𝓤 H A W tt;
-  makes = Laws'7.makes Walked.the-type Laws''.the-plain 𝓤 H A;
+  copies = Laws'8.copy Walked.the-type Laws''.the-copy 𝓤 H A W;
+  lawful = Laws'8.lawful Walked.the-type Laws''.the-laws 𝓤 H A W tt;
+  makes = Laws'8.makes Walked.the-type Laws''.the-plain 𝓤 H A;
   in-mem =
       Local.mem-whole 𝓤 H A W (Declared.row Walked.the-type);
   of-mem = Local.whole-mem 𝓤 H A W (Declared.row Walked.the-type);
 }
 
-abbrev pub ps·7 : List.List (Kinds.PK 0)
-ps·7 = List._∷_ (Value.pVal record {
+abbrev pub ps·8 : List.List (Kinds.PK 0)
+ps·8 = List._∷_ (Value.pVal record {
   ty = Declared.row Decoded.the-type;
   one = Path'.refl;
-  val = Laws'7.val Decoded.the-type Laws.the-laws;
-  tells = Laws'7.tells Decoded.the-type Laws.the-laws;
-  still = Laws'7.still Decoded.the-type
+  val = Laws'8.val Decoded.the-type Laws.the-laws;
+  tells = Laws'8.tells Decoded.the-type Laws.the-laws;
+  still = Laws'8.still Decoded.the-type
       Laws.the-copy Exit.yes;
   row = Rows'.whole (Declared.row Decoded.the-type);
   rd = λ x. x;
   mk = λ x. x;
 } λ M 𝓤 H A W. record {
-  copies = Laws'7.copy Decoded.the-type Laws.the-copy 𝓤 H A W;
-  lawful = Laws'7.lawful Decoded.the-type Laws.the-laws 𝓤 H A W tt;
-  makes = Laws'7.makes Decoded.the-type Laws.the-plain 𝓤 H A;
+  copies = Laws'8.copy Decoded.the-type Laws.the-copy 𝓤 H A W;
+  lawful = Laws'8.lawful Decoded.the-type Laws.the-laws 𝓤 H A W tt;
+  makes = Laws'8.makes Decoded.the-type Laws.the-plain 𝓤 H A;
   in-mem =
       Local.mem-whole 𝓤 H A W (Declared.row Decoded.the-type);
   of-mem = Local.whole-mem 𝓤 H A W (Declared.row Decoded.the-type);
 }) (List._∷_ (Num.pNum Syntax.w64) (List._∷_ (Value.pVal record {
   ty = Declared.row Walked.the-type;
   one = Path'.refl;
-  val = Laws'7.val Walked.the-type Laws''.the-laws;
-  tells = Laws'7.tells Walked.the-type Laws''.the-laws;
-  still = Laws'7.still Walked.the-type
+  val = Laws'8.val Walked.the-type Laws''.the-laws;
+  tells = Laws'8.tells Walked.the-type Laws''.the-laws;
+  still = Laws'8.still Walked.the-type
       Laws''.the-copy Exit.yes;
   row = Rows'.whole (Declared.row Walked.the-type);
   rd = λ x. x;
   mk = λ x. x;
 } λ M 𝓤 H A W. record {
-  copies = Laws'7.copy Walked.the-type Laws''.the-copy 𝓤 H A W;
-  lawful = Laws'7.lawful Walked.the-type Laws''.the-laws 𝓤 H A W tt;
-  makes = Laws'7.makes Walked.the-type Laws''.the-plain 𝓤 H A;
+  copies = Laws'8.copy Walked.the-type Laws''.the-copy 𝓤 H A W;
+  lawful = Laws'8.lawful Walked.the-type Laws''.the-laws 𝓤 H A W tt;
+  makes = Laws'8.makes Walked.the-type Laws''.the-plain 𝓤 H A;
   in-mem =
       Local.mem-whole 𝓤 H A W (Declared.row Walked.the-type);
   of-mem = Local.whole-mem 𝓤 H A W (Declared.row Walked.the-type);
 }) List.[]))
 
-abbrev pub r·7 : Kinds.RK 0
-r·7 = Value.rVal record {
+abbrev pub r·8 : Kinds.RK 0
+r·8 = Value.rVal record {
   ty = Declared.row Decoded.the-type;
   one = Path'.refl;
-  val = Laws'7.val Decoded.the-type Laws.the-laws;
-  tells = Laws'7.tells Decoded.the-type Laws.the-laws;
-  still = Laws'7.still Decoded.the-type
+  val = Laws'8.val Decoded.the-type Laws.the-laws;
+  tells = Laws'8.tells Decoded.the-type Laws.the-laws;
+  still = Laws'8.still Decoded.the-type
       Laws.the-copy Exit.yes;
   row = Rows'.whole (Declared.row Decoded.the-type);
   rd = λ x. x;
   mk = λ x. x;
 } λ M 𝓤 H A W. record {
-  copies = Laws'7.copy Decoded.the-type Laws.the-copy 𝓤 H A W;
-  lawful = Laws'7.lawful Decoded.the-type Laws.the-laws 𝓤 H A W tt;
-  makes = Laws'7.makes Decoded.the-type Laws.the-plain 𝓤 H A;
+  copies = Laws'8.copy Decoded.the-type Laws.the-copy 𝓤 H A W;
+  lawful = Laws'8.lawful Decoded.the-type Laws.the-laws 𝓤 H A W tt;
+  makes = Laws'8.makes Decoded.the-type Laws.the-plain 𝓤 H A;
   in-mem =
       Local.mem-whole 𝓤 H A W (Declared.row Decoded.the-type);
   of-mem = Local.whole-mem 𝓤 H A W (Declared.row Decoded.the-type);
@@ -450,7 +507,7 @@ hs = List._∷_ Syntax.valueLocal (List._∷_ Syntax.valueLocal (List._∷_ Synt
     (List._∷_ Syntax.valueLocal (List._∷_ Syntax.valueLocal (List._∷_ Syntax.valueLocal (List._∷_ Syntax.valueLocal (List._∷_ Syntax.valueLocal (List._∷_ Syntax.memorySlot (List._∷_ Syntax.valueLocal
     (List._∷_ Syntax.valueLocal (List._∷_ Syntax.valueLocal (List._∷_ Syntax.valueLocal (List._∷_ Syntax.valueLocal (List._∷_ Syntax.valueLocal (List._∷_ Syntax.valueLocal (List._∷_ Syntax.valueLocal
     (List._∷_ Syntax.valueLocal (List._∷_ Syntax.valueLocal (List._∷_ Syntax.valueLocal (List._∷_ Syntax.valueLocal (List._∷_ Syntax.valueLocal (List._∷_ Syntax.valueLocal (List._∷_ Syntax.valueLocal
-    (List._∷_ Syntax.valueLocal List.[]))))))))))))))))))))))))))))
+    (List._∷_ Syntax.valueLocal (List._∷_ Syntax.valueLocal List.[])))))))))))))))))))))))))))))
 
 abbrev b0 : Syntax.Body
 b0 = Syntax.call "region::span_of" (List._∷_ (Syntax.copy (Syntax.place 3 List.[])) List.[]) (Syntax.place 9 List.[])
@@ -522,108 +579,114 @@ abbrev b21 : Syntax.Body
 b21 = Syntax.assign (Syntax.place 28 List.[]) (Syntax.addrOf (Syntax.place 12 List.[]))
 
 abbrev b22 : Syntax.Body
-b22 = Syntax.call "block::reading::walk" (List._∷_ (Syntax.copy (Syntax.place 16 List.[])) (List._∷_ (Syntax.copy (Syntax.place 17 List.[])) (List._∷_ (Syntax.copy (Syntax.place 23 List.[])) (List._∷_
-    (Syntax.copy (Syntax.place 25 List.[])) (List._∷_ (Syntax.copy (Syntax.place 27 List.[])) (List._∷_ (Syntax.copy (Syntax.place 15 List.[])) (List._∷_ (Syntax.copy (Syntax.place 28 List.[])) (List._∷_
-    (Syntax.copy (Syntax.place 4 List.[])) (List._∷_ (Syntax.copy (Syntax.place 18 List.[])) (List._∷_ (Syntax.copy (Syntax.place 10 List.[])) (List._∷_ (Syntax.copy (Syntax.place 8 List.[]))
-    List.[]))))))))))) (Syntax.place 19 List.[])
+b22 = Syntax.call "cameras::no_entries" List.[] (Syntax.place 29 List.[])
 
 abbrev b23 : Syntax.Body
-b23 = Syntax.call "block::decoding::judged" (List._∷_ (Syntax.copy (Syntax.place 13 List.[])) (List._∷_ (Syntax.copy (Syntax.place 14 List.[])) (List._∷_ (Syntax.copy (Syntax.place 19 List.[]))
-    List.[]))) (Syntax.place 13 List.[])
+b23 = Syntax.call "block::reading::walk" (List._∷_ (Syntax.copy (Syntax.place 16 List.[])) (List._∷_ (Syntax.copy (Syntax.place 17 List.[])) (List._∷_ (Syntax.copy (Syntax.place 23 List.[])) (List._∷_
+    (Syntax.copy (Syntax.place 25 List.[])) (List._∷_ (Syntax.copy (Syntax.place 27 List.[])) (List._∷_ (Syntax.copy (Syntax.place 15 List.[])) (List._∷_ (Syntax.copy (Syntax.place 28 List.[])) (List._∷_
+    (Syntax.copy (Syntax.place 4 List.[])) (List._∷_ (Syntax.copy (Syntax.place 18 List.[])) (List._∷_ (Syntax.copy (Syntax.place 10 List.[])) (List._∷_ (Syntax.copy (Syntax.place 8 List.[])) (List._∷_
+    (Syntax.copy (Syntax.place 29 List.[])) List.[])))))))))))) (Syntax.place 19 List.[])
 
 abbrev b24 : Syntax.Body
-b24 = Syntax.assign (Syntax.place 14 List.[]) (Syntax.op2 (Syntax.add Syntax.unsigned) (Syntax.copy (Syntax.place 14 List.[])) (Syntax.int Syntax.w64 1))
+b24 = Syntax.call "block::decoding::judged" (List._∷_ (Syntax.copy (Syntax.place 13 List.[])) (List._∷_ (Syntax.copy (Syntax.place 14 List.[])) (List._∷_ (Syntax.copy (Syntax.place 19 List.[]))
+    List.[]))) (Syntax.place 13 List.[])
 
 abbrev b25 : Syntax.Body
-b25 = Syntax.seq b23 b24
+b25 = Syntax.assign (Syntax.place 14 List.[]) (Syntax.op2 (Syntax.add Syntax.unsigned) (Syntax.copy (Syntax.place 14 List.[])) (Syntax.int Syntax.w64 1))
 
 abbrev b26 : Syntax.Body
-b26 = Syntax.seq b22 b25
+b26 = Syntax.seq b24 b25
 
 abbrev b27 : Syntax.Body
-b27 = Syntax.seq b21 b26
+b27 = Syntax.seq b23 b26
 
 abbrev b28 : Syntax.Body
-b28 = Syntax.seq b20 b27
+b28 = Syntax.seq b22 b27
 
 abbrev b29 : Syntax.Body
-b29 = Syntax.seq b19 b28
+b29 = Syntax.seq b21 b28
 
 abbrev b30 : Syntax.Body
-b30 = Syntax.seq b18 b29
+b30 = Syntax.seq b20 b29
 
 abbrev b31 : Syntax.Body
-b31 = Syntax.seq b17 b30
+b31 = Syntax.seq b19 b30
 
 abbrev b32 : Syntax.Body
-b32 = Syntax.seq b16 b31
+b32 = Syntax.seq b18 b31
 
 abbrev b33 : Syntax.Body
-b33 = Syntax.seq b15 b32
+b33 = Syntax.seq b17 b32
 
 abbrev b34 : Syntax.Body
-b34 = Syntax.seq b14 b33
+b34 = Syntax.seq b16 b33
 
 abbrev b35 : Syntax.Body
-b35 = Syntax.seq b13 b34
+b35 = Syntax.seq b15 b34
 
 abbrev b36 : Syntax.Body
-b36 = Syntax.seq b12 b35
+b36 = Syntax.seq b14 b35
 
 abbrev b37 : Syntax.Body
-b37 = Syntax.seq b11 b36
+b37 = Syntax.seq b13 b36
 
 abbrev b38 : Syntax.Body
-b38 = Syntax.seq b10 b37
+b38 = Syntax.seq b12 b37
 
 abbrev b39 : Syntax.Body
-b39 = Syntax.seq b7 b38
+b39 = Syntax.seq b11 b38
 
 abbrev b40 : Syntax.Body
-b40 = Syntax.loop b39
+b40 = Syntax.seq b10 b39
 
 abbrev b41 : Syntax.Body
-b41 = Syntax.block b40
+b41 = Syntax.seq b7 b40
 
 abbrev b42 : Syntax.Body
-b42 = Syntax.assign (Syntax.place 0 List.[]) (Syntax.rvOpd (Syntax.copy (Syntax.place 13 List.[])))
+b42 = Syntax.loop b41
 
 abbrev b43 : Syntax.Body
-b43 = Syntax.return
+b43 = Syntax.block b42
 
 abbrev b44 : Syntax.Body
-b44 = Syntax.seq b42 b43
+b44 = Syntax.assign (Syntax.place 0 List.[]) (Syntax.rvOpd (Syntax.copy (Syntax.place 13 List.[])))
 
 abbrev b45 : Syntax.Body
-b45 = Syntax.seq b41 b44
+b45 = Syntax.return
 
 abbrev b46 : Syntax.Body
-b46 = Syntax.seq b6 b45
+b46 = Syntax.seq b44 b45
 
 abbrev b47 : Syntax.Body
-b47 = Syntax.seq b5 b46
+b47 = Syntax.seq b43 b46
 
 abbrev b48 : Syntax.Body
-b48 = Syntax.seq b4 b47
+b48 = Syntax.seq b6 b47
 
 abbrev b49 : Syntax.Body
-b49 = Syntax.seq b3 b48
+b49 = Syntax.seq b5 b48
 
 abbrev b50 : Syntax.Body
-b50 = Syntax.seq b2 b49
+b50 = Syntax.seq b4 b49
 
 abbrev b51 : Syntax.Body
-b51 = Syntax.seq b1 b50
+b51 = Syntax.seq b3 b50
 
 abbrev b52 : Syntax.Body
-b52 = Syntax.seq b0 b51
+b52 = Syntax.seq b2 b51
+
+abbrev b53 : Syntax.Body
+b53 = Syntax.seq b1 b52
+
+abbrev b54 : Syntax.Body
+b54 = Syntax.seq b0 b53
 
 abbrev pub body : Syntax.Body
-body = b52
+body = b54
 
 abbrev pub Claims : Type 1
 Claims = Kinds.In 0 ps·0 × Kinds.Out 0 ps·0 r·0 × Kinds.In 0 ps·1 × Kinds.Out 0 ps·1 r·1 × Kinds.In 0 ps·2 × Kinds.Out 0 ps·2 r·2 × Kinds.In 1 ps·3 × Kinds.Out 1 ps·3 r·3 × Kinds.In 1 ps·4 × Kinds.Out
-    1 ps·4 r·4 × Kinds.In 0 ps·5 × Kinds.Out 0 ps·5 r·5 × Kinds.In 6 ps·6 × Kinds.Out 6 ps·6 r·6 × Kinds.In 0 ps·7 × Kinds.Out 0 ps·7 r·7
+    1 ps·4 r·4 × Kinds.In 0 ps·5 × Kinds.Out 0 ps·5 r·5 × Kinds.In 0 ps·6 × Kinds.Out 0 ps·6 r·6 × Kinds.In 6 ps·7 × Kinds.Out 6 ps·7 r·7 × Kinds.In 0 ps·8 × Kinds.Out 0 ps·8 r·8
 
 abbrev pub e0 : Row.Entry
 e0 = (
@@ -635,7 +698,8 @@ e0 = (
       (Syntax.ttcons Syntax.tnil (Syntax.ttcons Syntax.tnil (Syntax.ttcons Syntax.tnil (Syntax.ttcons (Syntax.tcons (Syntax.tyInt Syntax.w64) Syntax.tnil) (Syntax.ttcons (Syntax.tcons (Syntax.tyInt
       Syntax.w64) Syntax.tnil) (Syntax.ttcons Syntax.tnil (Syntax.ttcons (Syntax.tcons (Syntax.tyInt Syntax.w64) (Syntax.tcons (Syntax.tyInt Syntax.w64) Syntax.tnil)) (Syntax.ttcons (Syntax.tcons
       (Syntax.tyInt Syntax.w64) Syntax.tnil) (Syntax.ttcons Syntax.tnil (Syntax.ttcons Syntax.tnil (Syntax.ttcons (Syntax.tcons (Syntax.tyInt Syntax.w64) Syntax.tnil) (Syntax.ttcons (Syntax.tcons
-      (Syntax.tyInt Syntax.w64) Syntax.tnil) (Syntax.ttcons (Syntax.tcons (Syntax.tyInt Syntax.w64) Syntax.tnil) (Syntax.ttcons Syntax.tnil Syntax.ttnil)))))))))))))))))))))) Syntax.tnil) Syntax.ttnil))),
+      (Syntax.tyInt Syntax.w64) Syntax.tnil) (Syntax.ttcons (Syntax.tcons (Syntax.tyInt Syntax.w64) Syntax.tnil) (Syntax.ttcons (Syntax.tcons (Syntax.tyInt Syntax.w64) (Syntax.tcons (Syntax.tyInt
+      Syntax.w64) Syntax.tnil)) (Syntax.ttcons Syntax.tnil Syntax.ttnil))))))))))))))))))))))) Syntax.tnil) Syntax.ttnil))),
 )
 
 abbrev pub e1 : Row.Entry
@@ -675,7 +739,8 @@ e10 = (
       (Syntax.ttcons Syntax.tnil (Syntax.ttcons Syntax.tnil (Syntax.ttcons Syntax.tnil (Syntax.ttcons (Syntax.tcons (Syntax.tyInt Syntax.w64) Syntax.tnil) (Syntax.ttcons (Syntax.tcons (Syntax.tyInt
       Syntax.w64) Syntax.tnil) (Syntax.ttcons Syntax.tnil (Syntax.ttcons (Syntax.tcons (Syntax.tyInt Syntax.w64) (Syntax.tcons (Syntax.tyInt Syntax.w64) Syntax.tnil)) (Syntax.ttcons (Syntax.tcons
       (Syntax.tyInt Syntax.w64) Syntax.tnil) (Syntax.ttcons Syntax.tnil (Syntax.ttcons Syntax.tnil (Syntax.ttcons (Syntax.tcons (Syntax.tyInt Syntax.w64) Syntax.tnil) (Syntax.ttcons (Syntax.tcons
-      (Syntax.tyInt Syntax.w64) Syntax.tnil) (Syntax.ttcons (Syntax.tcons (Syntax.tyInt Syntax.w64) Syntax.tnil) (Syntax.ttcons Syntax.tnil Syntax.ttnil)))))))))))))))))))))) Syntax.tnil) Syntax.ttnil))),
+      (Syntax.tyInt Syntax.w64) Syntax.tnil) (Syntax.ttcons (Syntax.tcons (Syntax.tyInt Syntax.w64) Syntax.tnil) (Syntax.ttcons (Syntax.tcons (Syntax.tyInt Syntax.w64) (Syntax.tcons (Syntax.tyInt
+      Syntax.w64) Syntax.tnil)) (Syntax.ttcons Syntax.tnil Syntax.ttnil))))))))))))))))))))))) Syntax.tnil) Syntax.ttnil))),
 )
 
 abbrev pub e11 : Row.Entry
@@ -688,19 +753,19 @@ abbrev pub e13 : Row.Entry
 e13 = (14, Rows'.sc-here (Row.sInt Syntax.w64))
 
 abbrev pub e14 : Row.Entry
-e14 = (15, Rows'.any-gone y8)
+e14 = (15, Rows'.any-gone y9)
 
 abbrev pub e15 : Row.Entry
 e15 = (15, Rows'.whole (Declared'.row Form.the-type))
 
 abbrev pub e16 : Row.Entry
-e16 = (16, Rows'.any-gone y5)
+e16 = (16, Rows'.any-gone y6)
 
 abbrev pub e17 : Row.Entry
 e17 = (16, Rows'.sslice (Referent.rtF (Referent.fInt Syntax.w8)) (Syntax.tyRef Syntax.erased Syntax.imm (Syntax.tyInt Syntax.w8)) 0)
 
 abbrev pub e18 : Row.Entry
-e18 = (17, Rows'.any-gone y5)
+e18 = (17, Rows'.any-gone y6)
 
 abbrev pub e19 : Row.Entry
 e19 = (17, Rows'.sslice (Referent.rtF (Referent.fInt Syntax.w8)) (Syntax.tyRef Syntax.erased Syntax.imm (Syntax.tyInt Syntax.w8)) 0)
@@ -715,14 +780,15 @@ abbrev pub e22 : Row.Entry
 e22 = (
   19,
   Rows'.any-gone (Syntax.tyEnum (List._∷_ 98 (List._∷_ 108 (List._∷_ 111 (List._∷_ 99 (List._∷_ 107 (List._∷_ 58 (List._∷_ 58 (List._∷_ 87 (List._∷_ 97 (List._∷_ 108 (List._∷_ 107 (List._∷_ 101
-      (List._∷_ 100 List.[]))))))))))))) (Syntax.ttcons (Syntax.tcons y4 (Syntax.tcons y9 Syntax.tnil)) (Syntax.ttcons (Syntax.tcons (Syntax.tyInt Syntax.w64) (Syntax.tcons y4 Syntax.tnil)) Syntax.ttnil))),
+      (List._∷_ 100 List.[]))))))))))))) (Syntax.ttcons (Syntax.tcons y5 (Syntax.tcons y10 Syntax.tnil)) (Syntax.ttcons (Syntax.tcons (Syntax.tyInt Syntax.w64) (Syntax.tcons y5 Syntax.tnil))
+      Syntax.ttnil))),
 )
 
 abbrev pub e23 : Row.Entry
 e23 = (19, Rows'.whole (Declared.row Walked.the-type))
 
 abbrev pub e24 : Row.Entry
-e24 = (2, Rows'.any-gone y3)
+e24 = (2, Rows'.any-gone y4)
 
 abbrev pub e25 : Row.Entry
 e25 = (2, Rows'.whole (Declared'.row FujiHeader.the-type))
@@ -743,7 +809,7 @@ abbrev pub e30 : Row.Entry
 e30 = (23, Mut.mslice (Referent.rtF (Referent.fInt Syntax.w16)) (Syntax.tyRef Syntax.erased Syntax.mut (Syntax.tyInt Syntax.w16)) 4)
 
 abbrev pub e31 : Row.Entry
-e31 = (23, Rows'.any-gone y6)
+e31 = (23, Rows'.any-gone y7)
 
 abbrev pub e32 : Row.Entry
 e32 = (24, Rows'.any-gone (Syntax.tyRef Syntax.erased Syntax.mut Element.behind))
@@ -755,7 +821,7 @@ abbrev pub e34 : Row.Entry
 e34 = (25, Mut.mslice (Element.type) (Syntax.tyRef Syntax.erased Syntax.mut Element.behind) 5)
 
 abbrev pub e35 : Row.Entry
-e35 = (25, Rows'.any-gone y7)
+e35 = (25, Rows'.any-gone y8)
 
 abbrev pub e36 : Row.Entry
 e36 = (26, Rows'.any-gone (Syntax.tyRef Syntax.erased Syntax.mut (Syntax.tyInt Syntax.w16)))
@@ -767,7 +833,7 @@ abbrev pub e38 : Row.Entry
 e38 = (27, Mut.mslice (Referent.rtF (Referent.fInt Syntax.w16)) (Syntax.tyRef Syntax.erased Syntax.mut (Syntax.tyInt Syntax.w16)) 6)
 
 abbrev pub e39 : Row.Entry
-e39 = (27, Rows'.any-gone y6)
+e39 = (27, Rows'.any-gone y7)
 
 abbrev pub e40 : Row.Entry
 e40 = (28, Rows'.any-gone (Syntax.tyRef Syntax.erased Syntax.imm (Syntax.tyArray (Syntax.tyInt Syntax.w16) 768)))
@@ -776,235 +842,249 @@ abbrev pub e41 : Row.Entry
 e41 = (28, Rows'.sref (Array'.Array (Referent.rtF (Referent.fInt Syntax.w16)) 768) (Syntax.tyRef Syntax.erased Syntax.imm (Syntax.tyArray (Syntax.tyInt Syntax.w16) 768)) 7)
 
 abbrev pub e42 : Row.Entry
-e42 = (3, Rows'.any-gone y1)
+e42 = (29, Rows'.any-gone y12)
 
 abbrev pub e43 : Row.Entry
-e43 = (3, Rows'.whole (Declared'.row Rect.the-type))
+e43 = (29, Rows'.whole (Declared'.row Entries.the-type))
 
 abbrev pub e44 : Row.Entry
-e44 = (4, Rows'.any-gone (Syntax.tyArray (Syntax.tyInt Syntax.w8) 36))
+e44 = (3, Rows'.any-gone y2)
 
 abbrev pub e45 : Row.Entry
-e45 = (4, Rows.arrF (Referent.rtF (Referent.fInt Syntax.w8)) 36 0)
+e45 = (3, Rows'.whole (Declared'.row Rect.the-type))
 
 abbrev pub e46 : Row.Entry
-e46 = (5, Mut.mslice (Referent.rtF (Referent.fInt Syntax.w16)) (Syntax.tyRef (Syntax.named 1) Syntax.mut (Syntax.tyInt Syntax.w16)) 1)
+e46 = (4, Rows'.any-gone (Syntax.tyArray (Syntax.tyInt Syntax.w8) 36))
 
 abbrev pub e47 : Row.Entry
-e47 = (5, Relend.mslice-owed (Referent.rtF (Referent.fInt Syntax.w16)) (Syntax.tyRef (Syntax.named 1) Syntax.mut (Syntax.tyInt Syntax.w16)) 1 6 Row.off)
+e47 = (4, Rows.arrF (Referent.rtF (Referent.fInt Syntax.w8)) 36 0)
 
 abbrev pub e48 : Row.Entry
-e48 = (6, Mut.mslice (Referent.rtF (Referent.fInt Syntax.w16)) (Syntax.tyRef (Syntax.named 2) Syntax.mut (Syntax.tyInt Syntax.w16)) 2)
+e48 = (5, Mut.mslice (Referent.rtF (Referent.fInt Syntax.w16)) (Syntax.tyRef (Syntax.named 1) Syntax.mut (Syntax.tyInt Syntax.w16)) 1)
 
 abbrev pub e49 : Row.Entry
-e49 = (6, Relend.mslice-owed (Referent.rtF (Referent.fInt Syntax.w16)) (Syntax.tyRef (Syntax.named 2) Syntax.mut (Syntax.tyInt Syntax.w16)) 2 4 Row.off)
+e49 = (5, Relend.mslice-owed (Referent.rtF (Referent.fInt Syntax.w16)) (Syntax.tyRef (Syntax.named 1) Syntax.mut (Syntax.tyInt Syntax.w16)) 1 6 Row.off)
 
 abbrev pub e50 : Row.Entry
-e50 = (7, Mut.mslice (Element.type) (Syntax.tyRef (Syntax.named 3) Syntax.mut Element.behind) 3)
+e50 = (6, Mut.mslice (Referent.rtF (Referent.fInt Syntax.w16)) (Syntax.tyRef (Syntax.named 2) Syntax.mut (Syntax.tyInt Syntax.w16)) 2)
 
 abbrev pub e51 : Row.Entry
-e51 = (7, Relend.mslice-owed (Element.type) (Syntax.tyRef (Syntax.named 3) Syntax.mut Element.behind) 3 5 Row.off)
+e51 = (6, Relend.mslice-owed (Referent.rtF (Referent.fInt Syntax.w16)) (Syntax.tyRef (Syntax.named 2) Syntax.mut (Syntax.tyInt Syntax.w16)) 2 4 Row.off)
 
 abbrev pub e52 : Row.Entry
-e52 = (8, Rows'.sc-here Row.sBool)
+e52 = (7, Mut.mslice (Element.type) (Syntax.tyRef (Syntax.named 3) Syntax.mut Element.behind) 3)
 
 abbrev pub e53 : Row.Entry
-e53 = (9, Rows'.any-gone y2)
+e53 = (7, Relend.mslice-owed (Element.type) (Syntax.tyRef (Syntax.named 3) Syntax.mut Element.behind) 3 5 Row.off)
 
 abbrev pub e54 : Row.Entry
-e54 = (9, Rows'.whole (Declared'.row Span.the-type))
+e54 = (8, Rows'.sc-here Row.sBool)
+
+abbrev pub e55 : Row.Entry
+e55 = (9, Rows'.any-gone y3)
+
+abbrev pub e56 : Row.Entry
+e56 = (9, Rows'.whole (Declared'.row Span.the-type))
 
 abbrev pub t0 : List.List Row.Entry
-t0 = List._∷_ e0 (List._∷_ e2 (List._∷_ e25 (List._∷_ e43 (List._∷_ e45 (List._∷_ e46 (List._∷_ e48 (List._∷_ e50 (List._∷_ e52 (List._∷_ e53 (List._∷_ e3 (List._∷_ e5 (List._∷_ e7 (List._∷_ e10
+t0 = List._∷_ e0 (List._∷_ e2 (List._∷_ e25 (List._∷_ e45 (List._∷_ e47 (List._∷_ e48 (List._∷_ e50 (List._∷_ e52 (List._∷_ e54 (List._∷_ e55 (List._∷_ e3 (List._∷_ e5 (List._∷_ e7 (List._∷_ e10
     (List._∷_ e12 (List._∷_ e14 List.[])))))))))))))))
 
 abbrev pub t1 : List.List Row.Entry
-t1 = List._∷_ e16 (List._∷_ e18 (List._∷_ e20 (List._∷_ e22 (List._∷_ e26 (List._∷_ e27 (List._∷_ e28 (List._∷_ e31 (List._∷_ e32 (List._∷_ e35 (List._∷_ e36 (List._∷_ e39 (List._∷_ e40
-    List.[]))))))))))))
+t1 = List._∷_ e16 (List._∷_ e18 (List._∷_ e20 (List._∷_ e22 (List._∷_ e26 (List._∷_ e27 (List._∷_ e28 (List._∷_ e31 (List._∷_ e32 (List._∷_ e35 (List._∷_ e36 (List._∷_ e39 (List._∷_ e40 (List._∷_ e42
+    List.[])))))))))))))
 
 abbrev pub t2 : List.List Row.Entry
-t2 = List._∷_ e1 (List._∷_ e2 (List._∷_ e24 (List._∷_ e42 (List._∷_ e44 (List._∷_ e46 (List._∷_ e48 (List._∷_ e50 (List._∷_ (8, Rows'.any-gone Syntax.tyBool) (List._∷_ e53 (List._∷_ e3 (List._∷_ e5
+t2 = List._∷_ e1 (List._∷_ e2 (List._∷_ e24 (List._∷_ e44 (List._∷_ e46 (List._∷_ e48 (List._∷_ e50 (List._∷_ e52 (List._∷_ (8, Rows'.any-gone Syntax.tyBool) (List._∷_ e55 (List._∷_ e3 (List._∷_ e5
     (List._∷_ e7 (List._∷_ e10 (List._∷_ e12 (List._∷_ e14 List.[])))))))))))))))
 
 abbrev pub t3 : List.List Row.Entry
-t3 = List._∷_ e0 (List._∷_ e2 (List._∷_ e25 (List._∷_ e43 (List._∷_ e45 (List._∷_ e46 (List._∷_ e48 (List._∷_ e50 (List._∷_ e52 (List._∷_ e54 (List._∷_ e3 (List._∷_ e5 (List._∷_ e7 (List._∷_ e10
+t3 = List._∷_ e0 (List._∷_ e2 (List._∷_ e25 (List._∷_ e45 (List._∷_ e47 (List._∷_ e48 (List._∷_ e50 (List._∷_ e52 (List._∷_ e54 (List._∷_ e56 (List._∷_ e3 (List._∷_ e5 (List._∷_ e7 (List._∷_ e10
     (List._∷_ e12 (List._∷_ e14 List.[])))))))))))))))
 
 abbrev pub t4 : List.List Row.Entry
-t4 = List._∷_ e0 (List._∷_ e2 (List._∷_ e25 (List._∷_ e43 (List._∷_ e45 (List._∷_ e46 (List._∷_ e48 (List._∷_ e50 (List._∷_ e52 (List._∷_ e54 (List._∷_ e4 (List._∷_ e5 (List._∷_ e7 (List._∷_ e10
+t4 = List._∷_ e0 (List._∷_ e2 (List._∷_ e25 (List._∷_ e45 (List._∷_ e47 (List._∷_ e48 (List._∷_ e50 (List._∷_ e52 (List._∷_ e54 (List._∷_ e56 (List._∷_ e4 (List._∷_ e5 (List._∷_ e7 (List._∷_ e10
     (List._∷_ e12 (List._∷_ e14 List.[])))))))))))))))
 
 abbrev pub t5 : List.List Row.Entry
-t5 = List._∷_ e0 (List._∷_ e2 (List._∷_ e25 (List._∷_ e43 (List._∷_ e45 (List._∷_ e46 (List._∷_ e48 (List._∷_ e50 (List._∷_ e52 (List._∷_ e54 (List._∷_ e4 (List._∷_ e6 (List._∷_ e7 (List._∷_ e10
+t5 = List._∷_ e0 (List._∷_ e2 (List._∷_ e25 (List._∷_ e45 (List._∷_ e47 (List._∷_ e48 (List._∷_ e50 (List._∷_ e52 (List._∷_ e54 (List._∷_ e56 (List._∷_ e4 (List._∷_ e6 (List._∷_ e7 (List._∷_ e10
     (List._∷_ e12 (List._∷_ e14 List.[])))))))))))))))
 
 abbrev pub t6 : List.List Row.Entry
 t6 = List._∷_ e16 (List._∷_ e18 (List._∷_ e20 (List._∷_ e22 (List._∷_ (20, Rows.arrF (Referent.rtF (Referent.fInt Syntax.w16)) 768 0) (List._∷_ e27 (List._∷_ e28 (List._∷_ e31 (List._∷_ e32 (List._∷_
-    e35 (List._∷_ e36 (List._∷_ e39 (List._∷_ e40 List.[]))))))))))))
+    e35 (List._∷_ e36 (List._∷_ e39 (List._∷_ e40 (List._∷_ e42 List.[])))))))))))))
 
 abbrev pub t7 : List.List Row.Entry
-t7 = List._∷_ e0 (List._∷_ e2 (List._∷_ e25 (List._∷_ e43 (List._∷_ e45 (List._∷_ e46 (List._∷_ e48 (List._∷_ e50 (List._∷_ e52 (List._∷_ e54 (List._∷_ e4 (List._∷_ e6 (List._∷_ e9 (List._∷_ e10
+t7 = List._∷_ e0 (List._∷_ e2 (List._∷_ e25 (List._∷_ e45 (List._∷_ e47 (List._∷_ e48 (List._∷_ e50 (List._∷_ e52 (List._∷_ e54 (List._∷_ e56 (List._∷_ e4 (List._∷_ e6 (List._∷_ e9 (List._∷_ e10
     (List._∷_ e12 (List._∷_ e14 List.[])))))))))))))))
 
 abbrev pub t8 : List.List Row.Entry
-t8 = List._∷_ e0 (List._∷_ e2 (List._∷_ e25 (List._∷_ e43 (List._∷_ e45 (List._∷_ e46 (List._∷_ e48 (List._∷_ e50 (List._∷_ e52 (List._∷_ e54 (List._∷_ e4 (List._∷_ e6 (List._∷_ e9 (List._∷_ e11
+t8 = List._∷_ e0 (List._∷_ e2 (List._∷_ e25 (List._∷_ e45 (List._∷_ e47 (List._∷_ e48 (List._∷_ e50 (List._∷_ e52 (List._∷_ e54 (List._∷_ e56 (List._∷_ e4 (List._∷_ e6 (List._∷_ e9 (List._∷_ e11
     (List._∷_ e12 (List._∷_ e14 List.[])))))))))))))))
 
 abbrev pub t9 : List.List Row.Entry
-t9 = List._∷_ e0 (List._∷_ e2 (List._∷_ e25 (List._∷_ e43 (List._∷_ e45 (List._∷_ e46 (List._∷_ e48 (List._∷_ e50 (List._∷_ e52 (List._∷_ e54 (List._∷_ e4 (List._∷_ e6 (List._∷_ e9 (List._∷_ e11
+t9 = List._∷_ e0 (List._∷_ e2 (List._∷_ e25 (List._∷_ e45 (List._∷_ e47 (List._∷_ e48 (List._∷_ e50 (List._∷_ e52 (List._∷_ e54 (List._∷_ e56 (List._∷_ e4 (List._∷_ e6 (List._∷_ e9 (List._∷_ e11
     (List._∷_ e13 (List._∷_ e14 List.[])))))))))))))))
 
 abbrev pub t10 : List.List Row.Entry
-t10 = List._∷_ e0 (List._∷_ e2 (List._∷_ e24 (List._∷_ e42 (List._∷_ e44 (List._∷_ e46 (List._∷_ e48 (List._∷_ e50 (List._∷_ e52 (List._∷_ e53 (List._∷_ e4 (List._∷_ e6 (List._∷_ e7 (List._∷_ e11
+t10 = List._∷_ e0 (List._∷_ e2 (List._∷_ e24 (List._∷_ e44 (List._∷_ e46 (List._∷_ e48 (List._∷_ e50 (List._∷_ e52 (List._∷_ e54 (List._∷_ e55 (List._∷_ e4 (List._∷_ e6 (List._∷_ e7 (List._∷_ e11
     (List._∷_ e13 (List._∷_ e14 List.[])))))))))))))))
 
 abbrev pub t11 : List.List Row.Entry
-t11 = List._∷_ e0 (List._∷_ e2 (List._∷_ e25 (List._∷_ e43 (List._∷_ e45 (List._∷_ e46 (List._∷_ e48 (List._∷_ e50 (List._∷_ e52 (List._∷_ e53 (List._∷_ e4 (List._∷_ e6 (List._∷_ e9 (List._∷_ e11
+t11 = List._∷_ e0 (List._∷_ e2 (List._∷_ e25 (List._∷_ e45 (List._∷_ e47 (List._∷_ e48 (List._∷_ e50 (List._∷_ e52 (List._∷_ e54 (List._∷_ e55 (List._∷_ e4 (List._∷_ e6 (List._∷_ e9 (List._∷_ e11
     (List._∷_ e13 (List._∷_ e14 List.[])))))))))))))))
 
 abbrev pub t12 : List.List Row.Entry
 t12 = List._∷_ e16 (List._∷_ e18 (List._∷_ e20 (List._∷_ e22 (List._∷_ e26 (List._∷_ (21, Rows'.sc-here Row.sBool) (List._∷_ e28 (List._∷_ e31 (List._∷_ e32 (List._∷_ e35 (List._∷_ e36 (List._∷_ e39
-    (List._∷_ e40 List.[]))))))))))))
+    (List._∷_ e40 (List._∷_ e42 List.[])))))))))))))
 
 abbrev pub t13 : List.List Row.Entry
-t13 = List._∷_ e0 (List._∷_ e2 (List._∷_ e24 (List._∷_ e43 (List._∷_ e45 (List._∷_ e46 (List._∷_ e48 (List._∷_ e50 (List._∷_ e52 (List._∷_ e53 (List._∷_ e4 (List._∷_ e6 (List._∷_ e9 (List._∷_ e11
+t13 = List._∷_ e0 (List._∷_ e2 (List._∷_ e24 (List._∷_ e45 (List._∷_ e47 (List._∷_ e48 (List._∷_ e50 (List._∷_ e52 (List._∷_ e54 (List._∷_ e55 (List._∷_ e4 (List._∷_ e6 (List._∷_ e9 (List._∷_ e11
     (List._∷_ e13 (List._∷_ e14 List.[])))))))))))))))
 
 abbrev pub t14 : List.List Row.Entry
-t14 = List._∷_ e0 (List._∷_ e2 (List._∷_ e24 (List._∷_ e42 (List._∷_ e45 (List._∷_ e46 (List._∷_ e48 (List._∷_ e50 (List._∷_ e52 (List._∷_ e53 (List._∷_ e4 (List._∷_ e6 (List._∷_ e9 (List._∷_ e11
+t14 = List._∷_ e0 (List._∷_ e2 (List._∷_ e24 (List._∷_ e44 (List._∷_ e47 (List._∷_ e48 (List._∷_ e50 (List._∷_ e52 (List._∷_ e54 (List._∷_ e55 (List._∷_ e4 (List._∷_ e6 (List._∷_ e9 (List._∷_ e11
     (List._∷_ e13 (List._∷_ e14 List.[])))))))))))))))
 
 abbrev pub t15 : List.List Row.Entry
-t15 = List._∷_ e0 (List._∷_ e2 (List._∷_ e24 (List._∷_ e42 (List._∷_ e44 (List._∷_ e46 (List._∷_ e48 (List._∷_ e50 (List._∷_ e52 (List._∷_ e53 (List._∷_ e4 (List._∷_ e6 (List._∷_ e9 (List._∷_ e11
+t15 = List._∷_ e0 (List._∷_ e2 (List._∷_ e24 (List._∷_ e44 (List._∷_ e46 (List._∷_ e48 (List._∷_ e50 (List._∷_ e52 (List._∷_ e54 (List._∷_ e55 (List._∷_ e4 (List._∷_ e6 (List._∷_ e9 (List._∷_ e11
     (List._∷_ e13 (List._∷_ e14 List.[])))))))))))))))
 
 abbrev pub t16 : List.List Row.Entry
-t16 = List._∷_ e0 (List._∷_ e2 (List._∷_ e25 (List._∷_ e43 (List._∷_ e45 (List._∷_ e46 (List._∷_ e48 (List._∷_ e50 (List._∷_ e52 (List._∷_ e53 (List._∷_ e4 (List._∷_ e6 (List._∷_ e9 (List._∷_ e11
+t16 = List._∷_ e0 (List._∷_ e2 (List._∷_ e25 (List._∷_ e45 (List._∷_ e47 (List._∷_ e48 (List._∷_ e50 (List._∷_ e52 (List._∷_ e54 (List._∷_ e55 (List._∷_ e4 (List._∷_ e6 (List._∷_ e9 (List._∷_ e11
     (List._∷_ e13 (List._∷_ e15 List.[])))))))))))))))
 
 abbrev pub t17 : List.List Row.Entry
-t17 = List._∷_ e17 (List._∷_ e18 (List._∷_ e20 (List._∷_ e22 (List._∷_ e26 (List._∷_ e27 (List._∷_ e28 (List._∷_ e31 (List._∷_ e32 (List._∷_ e35 (List._∷_ e36 (List._∷_ e39 (List._∷_ e40
-    List.[]))))))))))))
+t17 = List._∷_ e17 (List._∷_ e18 (List._∷_ e20 (List._∷_ e22 (List._∷_ e26 (List._∷_ e27 (List._∷_ e28 (List._∷_ e31 (List._∷_ e32 (List._∷_ e35 (List._∷_ e36 (List._∷_ e39 (List._∷_ e40 (List._∷_ e42
+    List.[])))))))))))))
 
 abbrev pub t18 : List.List Row.Entry
-t18 = List._∷_ e17 (List._∷_ e19 (List._∷_ e20 (List._∷_ e22 (List._∷_ e26 (List._∷_ e27 (List._∷_ e28 (List._∷_ e31 (List._∷_ e32 (List._∷_ e35 (List._∷_ e36 (List._∷_ e39 (List._∷_ e40
-    List.[]))))))))))))
+t18 = List._∷_ e17 (List._∷_ e19 (List._∷_ e20 (List._∷_ e22 (List._∷_ e26 (List._∷_ e27 (List._∷_ e28 (List._∷_ e31 (List._∷_ e32 (List._∷_ e35 (List._∷_ e36 (List._∷_ e39 (List._∷_ e40 (List._∷_ e42
+    List.[])))))))))))))
 
 abbrev pub t19 : List.List Row.Entry
-t19 = List._∷_ e17 (List._∷_ e19 (List._∷_ e21 (List._∷_ e22 (List._∷_ e26 (List._∷_ e27 (List._∷_ e28 (List._∷_ e31 (List._∷_ e32 (List._∷_ e35 (List._∷_ e36 (List._∷_ e39 (List._∷_ e40
-    List.[]))))))))))))
+t19 = List._∷_ e17 (List._∷_ e19 (List._∷_ e21 (List._∷_ e22 (List._∷_ e26 (List._∷_ e27 (List._∷_ e28 (List._∷_ e31 (List._∷_ e32 (List._∷_ e35 (List._∷_ e36 (List._∷_ e39 (List._∷_ e40 (List._∷_ e42
+    List.[])))))))))))))
 
 abbrev pub t20 : List.List Row.Entry
-t20 = List._∷_ e0 (List._∷_ e2 (List._∷_ e25 (List._∷_ e43 (List._∷_ e45 (List._∷_ e46 (List._∷_ e49 (List._∷_ e50 (List._∷_ e52 (List._∷_ e53 (List._∷_ e4 (List._∷_ e6 (List._∷_ e9 (List._∷_ e11
+t20 = List._∷_ e0 (List._∷_ e2 (List._∷_ e25 (List._∷_ e45 (List._∷_ e47 (List._∷_ e48 (List._∷_ e51 (List._∷_ e52 (List._∷_ e54 (List._∷_ e55 (List._∷_ e4 (List._∷_ e6 (List._∷_ e9 (List._∷_ e11
     (List._∷_ e13 (List._∷_ e15 List.[])))))))))))))))
 
 abbrev pub t21 : List.List Row.Entry
 t21 = List._∷_ e17 (List._∷_ e19 (List._∷_ e21 (List._∷_ e22 (List._∷_ e26 (List._∷_ e27 (List._∷_
     (22, Relend.msptr (Referent.rtF (Referent.fInt Syntax.w16)) (Syntax.tyRef Syntax.erased Syntax.mut (Syntax.tyInt Syntax.w16)) 4) (List._∷_ e31 (List._∷_ e32 (List._∷_ e35 (List._∷_ e36 (List._∷_ e39
-    (List._∷_ e40 List.[]))))))))))))
+    (List._∷_ e40 (List._∷_ e42 List.[])))))))))))))
 
 abbrev pub t22 : List.List Row.Entry
-t22 = List._∷_ e17 (List._∷_ e19 (List._∷_ e21 (List._∷_ e22 (List._∷_ e26 (List._∷_ e27 (List._∷_ e28 (List._∷_ e30 (List._∷_ e32 (List._∷_ e35 (List._∷_ e36 (List._∷_ e39 (List._∷_ e40
-    List.[]))))))))))))
+t22 = List._∷_ e17 (List._∷_ e19 (List._∷_ e21 (List._∷_ e22 (List._∷_ e26 (List._∷_ e27 (List._∷_ e28 (List._∷_ e30 (List._∷_ e32 (List._∷_ e35 (List._∷_ e36 (List._∷_ e39 (List._∷_ e40 (List._∷_ e42
+    List.[])))))))))))))
 
 abbrev pub t23 : List.List Row.Entry
-t23 = List._∷_ e0 (List._∷_ e2 (List._∷_ e25 (List._∷_ e43 (List._∷_ e45 (List._∷_ e46 (List._∷_ e49 (List._∷_ e51 (List._∷_ e52 (List._∷_ e53 (List._∷_ e4 (List._∷_ e6 (List._∷_ e9 (List._∷_ e11
+t23 = List._∷_ e0 (List._∷_ e2 (List._∷_ e25 (List._∷_ e45 (List._∷_ e47 (List._∷_ e48 (List._∷_ e51 (List._∷_ e53 (List._∷_ e54 (List._∷_ e55 (List._∷_ e4 (List._∷_ e6 (List._∷_ e9 (List._∷_ e11
     (List._∷_ e13 (List._∷_ e15 List.[])))))))))))))))
 
 abbrev pub t24 : List.List Row.Entry
 t24 = List._∷_ e17 (List._∷_ e19 (List._∷_ e21 (List._∷_ e22 (List._∷_ e26 (List._∷_ e27 (List._∷_ e28 (List._∷_ e30 (List._∷_
-    (24, Relend.msptr (Element.type) (Syntax.tyRef Syntax.erased Syntax.mut Element.behind) 5) (List._∷_ e35 (List._∷_ e36 (List._∷_ e39 (List._∷_ e40 List.[]))))))))))))
+    (24, Relend.msptr (Element.type) (Syntax.tyRef Syntax.erased Syntax.mut Element.behind) 5) (List._∷_ e35 (List._∷_ e36 (List._∷_ e39 (List._∷_ e40 (List._∷_ e42 List.[])))))))))))))
 
 abbrev pub t25 : List.List Row.Entry
-t25 = List._∷_ e17 (List._∷_ e19 (List._∷_ e21 (List._∷_ e22 (List._∷_ e26 (List._∷_ e27 (List._∷_ e28 (List._∷_ e30 (List._∷_ e32 (List._∷_ e34 (List._∷_ e36 (List._∷_ e39 (List._∷_ e40
-    List.[]))))))))))))
+t25 = List._∷_ e17 (List._∷_ e19 (List._∷_ e21 (List._∷_ e22 (List._∷_ e26 (List._∷_ e27 (List._∷_ e28 (List._∷_ e30 (List._∷_ e32 (List._∷_ e34 (List._∷_ e36 (List._∷_ e39 (List._∷_ e40 (List._∷_ e42
+    List.[])))))))))))))
 
 abbrev pub t26 : List.List Row.Entry
-t26 = List._∷_ e0 (List._∷_ e2 (List._∷_ e25 (List._∷_ e43 (List._∷_ e45 (List._∷_ e47 (List._∷_ e49 (List._∷_ e51 (List._∷_ e52 (List._∷_ e53 (List._∷_ e4 (List._∷_ e6 (List._∷_ e9 (List._∷_ e11
+t26 = List._∷_ e0 (List._∷_ e2 (List._∷_ e25 (List._∷_ e45 (List._∷_ e47 (List._∷_ e49 (List._∷_ e51 (List._∷_ e53 (List._∷_ e54 (List._∷_ e55 (List._∷_ e4 (List._∷_ e6 (List._∷_ e9 (List._∷_ e11
     (List._∷_ e13 (List._∷_ e15 List.[])))))))))))))))
 
 abbrev pub t27 : List.List Row.Entry
 t27 = List._∷_ e17 (List._∷_ e19 (List._∷_ e21 (List._∷_ e22 (List._∷_ e26 (List._∷_ e27 (List._∷_ e28 (List._∷_ e30 (List._∷_ e32 (List._∷_ e34 (List._∷_
-    (26, Relend.msptr (Referent.rtF (Referent.fInt Syntax.w16)) (Syntax.tyRef Syntax.erased Syntax.mut (Syntax.tyInt Syntax.w16)) 6) (List._∷_ e39 (List._∷_ e40 List.[]))))))))))))
+    (26, Relend.msptr (Referent.rtF (Referent.fInt Syntax.w16)) (Syntax.tyRef Syntax.erased Syntax.mut (Syntax.tyInt Syntax.w16)) 6) (List._∷_ e39 (List._∷_ e40 (List._∷_ e42 List.[])))))))))))))
 
 abbrev pub t28 : List.List Row.Entry
-t28 = List._∷_ e17 (List._∷_ e19 (List._∷_ e21 (List._∷_ e22 (List._∷_ e26 (List._∷_ e27 (List._∷_ e28 (List._∷_ e30 (List._∷_ e32 (List._∷_ e34 (List._∷_ e36 (List._∷_ e38 (List._∷_ e40
-    List.[]))))))))))))
+t28 = List._∷_ e17 (List._∷_ e19 (List._∷_ e21 (List._∷_ e22 (List._∷_ e26 (List._∷_ e27 (List._∷_ e28 (List._∷_ e30 (List._∷_ e32 (List._∷_ e34 (List._∷_ e36 (List._∷_ e38 (List._∷_ e40 (List._∷_ e42
+    List.[])))))))))))))
 
 abbrev pub t29 : List.List Row.Entry
-t29 = List._∷_ e0 (List._∷_ e2 (List._∷_ e25 (List._∷_ e43 (List._∷_ e45 (List._∷_ e47 (List._∷_ e49 (List._∷_ e51 (List._∷_ e52 (List._∷_ e53 (List._∷_ e4 (List._∷_ e6 (List._∷_ e8 (List._∷_ e11
+t29 = List._∷_ e0 (List._∷_ e2 (List._∷_ e25 (List._∷_ e45 (List._∷_ e47 (List._∷_ e49 (List._∷_ e51 (List._∷_ e53 (List._∷_ e54 (List._∷_ e55 (List._∷_ e4 (List._∷_ e6 (List._∷_ e8 (List._∷_ e11
     (List._∷_ e13 (List._∷_ e15 List.[])))))))))))))))
 
 abbrev pub t30 : List.List Row.Entry
-t30 = List._∷_ e17 (List._∷_ e19 (List._∷_ e21 (List._∷_ e22 (List._∷_ e26 (List._∷_ e27 (List._∷_ e28 (List._∷_ e30 (List._∷_ e32 (List._∷_ e34 (List._∷_ e36 (List._∷_ e38 (List._∷_ e41
-    List.[]))))))))))))
+t30 = List._∷_ e17 (List._∷_ e19 (List._∷_ e21 (List._∷_ e22 (List._∷_ e26 (List._∷_ e27 (List._∷_ e28 (List._∷_ e30 (List._∷_ e32 (List._∷_ e34 (List._∷_ e36 (List._∷_ e38 (List._∷_ e41 (List._∷_ e42
+    List.[])))))))))))))
 
 abbrev pub t31 : List.List Row.Entry
-t31 = List._∷_ e17 (List._∷_ e19 (List._∷_ e21 (List._∷_ e23 (List._∷_ e26 (List._∷_ e27 (List._∷_ e28 (List._∷_ e29 (List._∷_ e32 (List._∷_ e33 (List._∷_ e36 (List._∷_ e37 (List._∷_ e41
-    List.[]))))))))))))
+t31 = List._∷_ e17 (List._∷_ e19 (List._∷_ e21 (List._∷_ e22 (List._∷_ e26 (List._∷_ e27 (List._∷_ e28 (List._∷_ e30 (List._∷_ e32 (List._∷_ e34 (List._∷_ e36 (List._∷_ e38 (List._∷_ e41 (List._∷_ e43
+    List.[])))))))))))))
 
 abbrev pub t32 : List.List Row.Entry
-t32 = List._∷_ e16 (List._∷_ e19 (List._∷_ e21 (List._∷_ e23 (List._∷_ e26 (List._∷_ e27 (List._∷_ e28 (List._∷_ e29 (List._∷_ e32 (List._∷_ e33 (List._∷_ e36 (List._∷_ e37 (List._∷_ e41
-    List.[]))))))))))))
+t32 = List._∷_ e17 (List._∷_ e19 (List._∷_ e21 (List._∷_ e23 (List._∷_ e26 (List._∷_ e27 (List._∷_ e28 (List._∷_ e29 (List._∷_ e32 (List._∷_ e33 (List._∷_ e36 (List._∷_ e37 (List._∷_ e41 (List._∷_ e43
+    List.[])))))))))))))
 
 abbrev pub t33 : List.List Row.Entry
-t33 = List._∷_ e16 (List._∷_ e18 (List._∷_ e21 (List._∷_ e23 (List._∷_ e26 (List._∷_ e27 (List._∷_ e28 (List._∷_ e29 (List._∷_ e32 (List._∷_ e33 (List._∷_ e36 (List._∷_ e37 (List._∷_ e41
-    List.[]))))))))))))
+t33 = List._∷_ e16 (List._∷_ e19 (List._∷_ e21 (List._∷_ e23 (List._∷_ e26 (List._∷_ e27 (List._∷_ e28 (List._∷_ e29 (List._∷_ e32 (List._∷_ e33 (List._∷_ e36 (List._∷_ e37 (List._∷_ e41 (List._∷_ e43
+    List.[])))))))))))))
 
 abbrev pub t34 : List.List Row.Entry
-t34 = List._∷_ e16 (List._∷_ e18 (List._∷_ e21 (List._∷_ e23 (List._∷_ e26 (List._∷_ e27 (List._∷_ e28 (List._∷_ e29 (List._∷_ e32 (List._∷_ e33 (List._∷_ e36 (List._∷_ e37 (List._∷_ e40
-    List.[]))))))))))))
+t34 = List._∷_ e16 (List._∷_ e18 (List._∷_ e21 (List._∷_ e23 (List._∷_ e26 (List._∷_ e27 (List._∷_ e28 (List._∷_ e29 (List._∷_ e32 (List._∷_ e33 (List._∷_ e36 (List._∷_ e37 (List._∷_ e41 (List._∷_ e43
+    List.[])))))))))))))
 
 abbrev pub t35 : List.List Row.Entry
-t35 = List._∷_ e0 (List._∷_ e2 (List._∷_ e25 (List._∷_ e43 (List._∷_ e45 (List._∷_ e47 (List._∷_ e49 (List._∷_ e51 (List._∷_ e52 (List._∷_ e53 (List._∷_ e4 (List._∷_ e6 (List._∷_ e8 (List._∷_ e11
-    (List._∷_ e13 (List._∷_ e14 List.[])))))))))))))))
+t35 = List._∷_ e16 (List._∷_ e18 (List._∷_ e21 (List._∷_ e23 (List._∷_ e26 (List._∷_ e27 (List._∷_ e28 (List._∷_ e29 (List._∷_ e32 (List._∷_ e33 (List._∷_ e36 (List._∷_ e37 (List._∷_ e40 (List._∷_ e43
+    List.[])))))))))))))
 
 abbrev pub t36 : List.List Row.Entry
-t36 = List._∷_ e16 (List._∷_ e18 (List._∷_ e20 (List._∷_ e23 (List._∷_ e26 (List._∷_ e27 (List._∷_ e28 (List._∷_ e29 (List._∷_ e32 (List._∷_ e33 (List._∷_ e36 (List._∷_ e37 (List._∷_ e40
-    List.[]))))))))))))
-
-abbrev pub t37 : List.List Row.Entry
-t37 = List._∷_ e0 (List._∷_ e2 (List._∷_ e25 (List._∷_ e43 (List._∷_ e45 (List._∷_ e47 (List._∷_ e48 (List._∷_ e51 (List._∷_ e52 (List._∷_ e53 (List._∷_ e4 (List._∷_ e6 (List._∷_ e8 (List._∷_ e11
+t36 = List._∷_ e0 (List._∷_ e2 (List._∷_ e25 (List._∷_ e45 (List._∷_ e47 (List._∷_ e49 (List._∷_ e51 (List._∷_ e53 (List._∷_ e54 (List._∷_ e55 (List._∷_ e4 (List._∷_ e6 (List._∷_ e8 (List._∷_ e11
     (List._∷_ e13 (List._∷_ e14 List.[])))))))))))))))
 
+abbrev pub t37 : List.List Row.Entry
+t37 = List._∷_ e16 (List._∷_ e18 (List._∷_ e20 (List._∷_ e23 (List._∷_ e26 (List._∷_ e27 (List._∷_ e28 (List._∷_ e29 (List._∷_ e32 (List._∷_ e33 (List._∷_ e36 (List._∷_ e37 (List._∷_ e40 (List._∷_ e43
+    List.[])))))))))))))
+
 abbrev pub t38 : List.List Row.Entry
-t38 = List._∷_ e16 (List._∷_ e18 (List._∷_ e20 (List._∷_ e23 (List._∷_ e26 (List._∷_ e27 (List._∷_ e28 (List._∷_ e31 (List._∷_ e32 (List._∷_ e33 (List._∷_ e36 (List._∷_ e37 (List._∷_ e40
-    List.[]))))))))))))
+t38 = List._∷_ e16 (List._∷_ e18 (List._∷_ e20 (List._∷_ e23 (List._∷_ e26 (List._∷_ e27 (List._∷_ e28 (List._∷_ e29 (List._∷_ e32 (List._∷_ e33 (List._∷_ e36 (List._∷_ e37 (List._∷_ e40 (List._∷_ e42
+    List.[])))))))))))))
 
 abbrev pub t39 : List.List Row.Entry
-t39 = List._∷_ e0 (List._∷_ e2 (List._∷_ e25 (List._∷_ e43 (List._∷_ e45 (List._∷_ e47 (List._∷_ e48 (List._∷_ e50 (List._∷_ e52 (List._∷_ e53 (List._∷_ e4 (List._∷_ e6 (List._∷_ e8 (List._∷_ e11
+t39 = List._∷_ e0 (List._∷_ e2 (List._∷_ e25 (List._∷_ e45 (List._∷_ e47 (List._∷_ e49 (List._∷_ e50 (List._∷_ e53 (List._∷_ e54 (List._∷_ e55 (List._∷_ e4 (List._∷_ e6 (List._∷_ e8 (List._∷_ e11
     (List._∷_ e13 (List._∷_ e14 List.[])))))))))))))))
 
 abbrev pub t40 : List.List Row.Entry
-t40 = List._∷_ e16 (List._∷_ e18 (List._∷_ e20 (List._∷_ e23 (List._∷_ e26 (List._∷_ e27 (List._∷_ e28 (List._∷_ e31 (List._∷_ e32 (List._∷_ e35 (List._∷_ e36 (List._∷_ e37 (List._∷_ e40
-    List.[]))))))))))))
+t40 = List._∷_ e16 (List._∷_ e18 (List._∷_ e20 (List._∷_ e23 (List._∷_ e26 (List._∷_ e27 (List._∷_ e28 (List._∷_ e31 (List._∷_ e32 (List._∷_ e33 (List._∷_ e36 (List._∷_ e37 (List._∷_ e40 (List._∷_ e42
+    List.[])))))))))))))
 
 abbrev pub t41 : List.List Row.Entry
-t41 = List._∷_ e0 (List._∷_ e2 (List._∷_ e25 (List._∷_ e43 (List._∷_ e45 (List._∷_ e46 (List._∷_ e48 (List._∷_ e50 (List._∷_ e52 (List._∷_ e53 (List._∷_ e4 (List._∷_ e6 (List._∷_ e8 (List._∷_ e11
+t41 = List._∷_ e0 (List._∷_ e2 (List._∷_ e25 (List._∷_ e45 (List._∷_ e47 (List._∷_ e49 (List._∷_ e50 (List._∷_ e52 (List._∷_ e54 (List._∷_ e55 (List._∷_ e4 (List._∷_ e6 (List._∷_ e8 (List._∷_ e11
     (List._∷_ e13 (List._∷_ e14 List.[])))))))))))))))
 
 abbrev pub t42 : List.List Row.Entry
-t42 = List._∷_ e16 (List._∷_ e18 (List._∷_ e20 (List._∷_ e23 (List._∷_ e26 (List._∷_ e27 (List._∷_ e28 (List._∷_ e31 (List._∷_ e32 (List._∷_ e35 (List._∷_ e36 (List._∷_ e39 (List._∷_ e40
-    List.[]))))))))))))
+t42 = List._∷_ e16 (List._∷_ e18 (List._∷_ e20 (List._∷_ e23 (List._∷_ e26 (List._∷_ e27 (List._∷_ e28 (List._∷_ e31 (List._∷_ e32 (List._∷_ e35 (List._∷_ e36 (List._∷_ e37 (List._∷_ e40 (List._∷_ e42
+    List.[])))))))))))))
 
 abbrev pub t43 : List.List Row.Entry
-t43 = List._∷_ e1 (List._∷_ e2 (List._∷_ e24 (List._∷_ e42 (List._∷_ e44 (List._∷_ e46 (List._∷_ e48 (List._∷_ e50 (List._∷_ e52 (List._∷_ e53 (List._∷_ e4 (List._∷_ e6 (List._∷_ e7 (List._∷_ e11
+t43 = List._∷_ e0 (List._∷_ e2 (List._∷_ e25 (List._∷_ e45 (List._∷_ e47 (List._∷_ e48 (List._∷_ e50 (List._∷_ e52 (List._∷_ e54 (List._∷_ e55 (List._∷_ e4 (List._∷_ e6 (List._∷_ e8 (List._∷_ e11
     (List._∷_ e13 (List._∷_ e14 List.[])))))))))))))))
 
 abbrev pub t44 : List.List Row.Entry
-t44 = List._∷_ e1 (List._∷_ e2 (List._∷_ e24 (List._∷_ e42 (List._∷_ e44 (List._∷_ e46 (List._∷_ e48 (List._∷_ e50 (List._∷_ e52 (List._∷_ e53 (List._∷_ e3 (List._∷_ e6 (List._∷_ e7 (List._∷_ e11
-    (List._∷_ e13 (List._∷_ e14 List.[])))))))))))))))
+t44 = List._∷_ e16 (List._∷_ e18 (List._∷_ e20 (List._∷_ e23 (List._∷_ e26 (List._∷_ e27 (List._∷_ e28 (List._∷_ e31 (List._∷_ e32 (List._∷_ e35 (List._∷_ e36 (List._∷_ e39 (List._∷_ e40 (List._∷_ e42
+    List.[])))))))))))))
 
 abbrev pub t45 : List.List Row.Entry
-t45 = List._∷_ e1 (List._∷_ e2 (List._∷_ e24 (List._∷_ e42 (List._∷_ e44 (List._∷_ e46 (List._∷_ e48 (List._∷_ e50 (List._∷_ e52 (List._∷_ e53 (List._∷_ e3 (List._∷_ e5 (List._∷_ e7 (List._∷_ e11
+t45 = List._∷_ e1 (List._∷_ e2 (List._∷_ e24 (List._∷_ e44 (List._∷_ e46 (List._∷_ e48 (List._∷_ e50 (List._∷_ e52 (List._∷_ e54 (List._∷_ e55 (List._∷_ e4 (List._∷_ e6 (List._∷_ e7 (List._∷_ e11
     (List._∷_ e13 (List._∷_ e14 List.[])))))))))))))))
 
 abbrev pub t46 : List.List Row.Entry
-t46 = List._∷_ e1 (List._∷_ e2 (List._∷_ e24 (List._∷_ e42 (List._∷_ e44 (List._∷_ e46 (List._∷_ e48 (List._∷_ e50 (List._∷_ e52 (List._∷_ e53 (List._∷_ e3 (List._∷_ e5 (List._∷_ e7 (List._∷_ e10
+t46 = List._∷_ e1 (List._∷_ e2 (List._∷_ e24 (List._∷_ e44 (List._∷_ e46 (List._∷_ e48 (List._∷_ e50 (List._∷_ e52 (List._∷_ e54 (List._∷_ e55 (List._∷_ e3 (List._∷_ e6 (List._∷_ e7 (List._∷_ e11
     (List._∷_ e13 (List._∷_ e14 List.[])))))))))))))))
 
 abbrev pub t47 : List.List Row.Entry
-t47 = List._∷_ e1 (List._∷_ e2 (List._∷_ e24 (List._∷_ e42 (List._∷_ e44 (List._∷_ e46 (List._∷_ e48 (List._∷_ e50 (List._∷_ e52 (List._∷_ e53 (List._∷_ e3 (List._∷_ e5 (List._∷_ e7 (List._∷_ e10
+t47 = List._∷_ e1 (List._∷_ e2 (List._∷_ e24 (List._∷_ e44 (List._∷_ e46 (List._∷_ e48 (List._∷_ e50 (List._∷_ e52 (List._∷_ e54 (List._∷_ e55 (List._∷_ e3 (List._∷_ e5 (List._∷_ e7 (List._∷_ e11
+    (List._∷_ e13 (List._∷_ e14 List.[])))))))))))))))
+
+abbrev pub t48 : List.List Row.Entry
+t48 = List._∷_ e1 (List._∷_ e2 (List._∷_ e24 (List._∷_ e44 (List._∷_ e46 (List._∷_ e48 (List._∷_ e50 (List._∷_ e52 (List._∷_ e54 (List._∷_ e55 (List._∷_ e3 (List._∷_ e5 (List._∷_ e7 (List._∷_ e10
+    (List._∷_ e13 (List._∷_ e14 List.[])))))))))))))))
+
+abbrev pub t49 : List.List Row.Entry
+t49 = List._∷_ e1 (List._∷_ e2 (List._∷_ e24 (List._∷_ e44 (List._∷_ e46 (List._∷_ e48 (List._∷_ e50 (List._∷_ e52 (List._∷_ e54 (List._∷_ e55 (List._∷_ e3 (List._∷_ e5 (List._∷_ e7 (List._∷_ e10
     (List._∷_ e12 (List._∷_ e14 List.[])))))))))))))))
 
 abbrev pub T0 : Row.Cx
@@ -1125,43 +1205,43 @@ abbrev pub T42 : Row.Cx
 T42 = record { locals = List._++_ t29 t34; slots = List.[] }
 
 abbrev pub T43 : Row.Cx
-T43 = record { locals = List._++_ t35 t34; slots = List.[] }
+T43 = record { locals = List._++_ t29 t35; slots = List.[] }
 
 abbrev pub T44 : Row.Cx
-T44 = record { locals = List._++_ t35 t36; slots = List.[] }
+T44 = record { locals = List._++_ t36 t35; slots = List.[] }
+
+abbrev pub T45 : Row.Cx
+T45 = record { locals = List._++_ t36 t37; slots = List.[] }
 
 abbrev pub T46 : Row.Cx
-T46 = record { locals = List._++_ t37 t38; slots = List.[] }
+T46 = record { locals = List._++_ t36 t38; slots = List.[] }
 
-abbrev pub T47 : Row.Cx
-T47 = record { locals = List._++_ t37 t38; slots = List.[] }
+abbrev pub T48 : Row.Cx
+T48 = record { locals = List._++_ t39 t40; slots = List.[] }
 
-abbrev pub T50 : Row.Cx
-T50 = record { locals = List._++_ t39 t40; slots = List.[] }
+abbrev pub T49 : Row.Cx
+T49 = record { locals = List._++_ t39 t40; slots = List.[] }
 
-abbrev pub T53 : Row.Cx
-T53 = record { locals = List._++_ t41 t42; slots = List.[] }
+abbrev pub T52 : Row.Cx
+T52 = record { locals = List._++_ t41 t42; slots = List.[] }
 
-abbrev pub T54 : Row.Cx
-T54 = record { locals = List._++_ t41 t42; slots = List.[] }
+abbrev pub T55 : Row.Cx
+T55 = record { locals = List._++_ t43 t44; slots = List.[] }
 
-abbrev pub T57 : Row.Cx
-T57 = record { locals = List._++_ t11 t42; slots = List.[] }
+abbrev pub T56 : Row.Cx
+T56 = record { locals = List._++_ t43 t44; slots = List.[] }
 
 abbrev pub T59 : Row.Cx
-T59 = record { locals = List._++_ t11 t42; slots = List.[] }
-
-abbrev pub T60 : Row.Cx
-T60 = record { locals = List._++_ t11 t1; slots = List.[] }
+T59 = record { locals = List._++_ t11 t44; slots = List.[] }
 
 abbrev pub T61 : Row.Cx
-T61 = record { locals = List._++_ t11 t1; slots = List.[] }
+T61 = record { locals = List._++_ t11 t44; slots = List.[] }
 
 abbrev pub T62 : Row.Cx
-T62 = record { locals = List._++_ t43 t1; slots = List.[] }
+T62 = record { locals = List._++_ t11 t1; slots = List.[] }
 
 abbrev pub T63 : Row.Cx
-T63 = record { locals = List._++_ t44 t1; slots = List.[] }
+T63 = record { locals = List._++_ t11 t1; slots = List.[] }
 
 abbrev pub T64 : Row.Cx
 T64 = record { locals = List._++_ t45 t1; slots = List.[] }
@@ -1173,7 +1253,13 @@ abbrev pub T66 : Row.Cx
 T66 = record { locals = List._++_ t47 t1; slots = List.[] }
 
 abbrev pub T67 : Row.Cx
-T67 = record { locals = List._++_ t2 t1; slots = List.[] }
+T67 = record { locals = List._++_ t48 t1; slots = List.[] }
+
+abbrev pub T68 : Row.Cx
+T68 = record { locals = List._++_ t49 t1; slots = List.[] }
+
+abbrev pub T69 : Row.Cx
+T69 = record { locals = List._++_ t2 t1; slots = List.[] }
 
 abbrev pub O0 : Typed.Outs
 O0 = record { next = Option.none; exits = List.[]; returns = Option.some T1 }
@@ -1215,17 +1301,17 @@ module _ (claims· : Claims) where
   s2 = Know.k-sl-known (Referent.fInt Syntax.w16) T3 6 2 (Syntax.tyRef (Syntax.named 2) Syntax.mut (Syntax.tyInt Syntax.w16)) Row.off 0 λ x. x
 
   abbrev s3 : Typed.Both T4 T5
-  s3 = Call.callB ps·0 r·0 (claims· .0) (claims· .1) T4 (record { pos = 3; st = List.[]; d = 0; at = λ x. x }, tt) 9 List.[] y2
+  s3 = Call.callB ps·0 r·0 (claims· .0) (claims· .1) T4 (record { pos = 3; st = List.[]; d = 0; at = λ x. x }, tt) 9 List.[] y3
 
   abbrev s4 : Typed.Mo T5 → Typed.Mo T6
-  s4 = Scalar.n-use T5 (Scalar.oFld 9 (List._∷_ (Syntax.field 2) List.[]) (Syntax.tyInt Syntax.w64) 16 (Reads.fieldV Span.the-type Laws'5.the-laws 2)) 10 (Rows'.sc-here (Row.sInt Syntax.w64))
+  s4 = Scalar.n-use T5 (Scalar.oFld 9 (List._∷_ (Syntax.field 2) List.[]) (Syntax.tyInt Syntax.w64) 16 (Reads.fieldV Span.the-type Laws'6.the-laws 2)) 10 (Rows'.sc-here (Row.sInt Syntax.w64))
       (Row.sInt Syntax.w64 .of)
 
   abbrev s5 : Typed.Gives T6 T7
-  s5 = Know'.k-struct-known Span.the-type Laws'5.the-laws T6 9 λ x. x
+  s5 = Know'.k-struct-known Span.the-type Laws'6.the-laws T6 9 λ x. x
 
   abbrev s6 : Typed.Asks T7 T8
-  s6 = Scalar.k-op2 T7 (Syntax.add Syntax.unsigned) (Scalar.oFld 9 (List._∷_ (Syntax.field 1) List.[]) (Syntax.tyInt Syntax.w64) 8 (Reads.fieldV Span.the-type Laws'5.the-laws 1)) (Scalar.oInt
+  s6 = Scalar.k-op2 T7 (Syntax.add Syntax.unsigned) (Scalar.oFld 9 (List._∷_ (Syntax.field 1) List.[]) (Syntax.tyInt Syntax.w64) 8 (Reads.fieldV Span.the-type Laws'6.the-laws 1)) (Scalar.oInt
       Syntax.w64 1) 11 (Rows'.sc-here (Row.sInt Syntax.w64)) (Row.sInt Syntax.w64 .of)
 
   abbrev s7 : Typed.Both T8 T9
@@ -1242,11 +1328,11 @@ module _ (claims· : Claims) where
   s10 = Make.n-enum-make Decoded.the-type T11 13 λ m. Decoded.enum .make (Logic.inl tt)
 
   abbrev s11 : Typed.Mo T12 → Typed.Mo T13
-  s11 = Scalar.n-use T12 (Scalar.oFld 9 (List._∷_ (Syntax.field 0) List.[]) (Syntax.tyInt Syntax.w64) 0 (Reads.fieldV Span.the-type Laws'5.the-laws 0)) 14 (Rows'.sc-here (Row.sInt Syntax.w64))
+  s11 = Scalar.n-use T12 (Scalar.oFld 9 (List._∷_ (Syntax.field 0) List.[]) (Syntax.tyInt Syntax.w64) 0 (Reads.fieldV Span.the-type Laws'6.the-laws 0)) 14 (Rows'.sc-here (Row.sInt Syntax.w64))
       (Row.sInt Syntax.w64 .of)
 
   abbrev s12 : Typed.Mo T13 → Typed.Mo T15
-  s12 = Scalar.n-room T13 9 y2
+  s12 = Scalar.n-room T13 9 y3
 
   abbrev s13 : Typed.Asks T15 T16
   s13 = Scalar.k-op2 T15 (Syntax.lt Syntax.unsigned) (Scalar.oAt 14 (Syntax.tyInt Syntax.w64) (Row.valS (Row.sInt Syntax.w64))) (Scalar.oAt 11 (Syntax.tyInt Syntax.w64) (Row.valS (Row.sInt
@@ -1256,10 +1342,10 @@ module _ (claims· : Claims) where
   s14 = Scalar.n-room T16 21 Syntax.tyBool
 
   abbrev s15 : Typed.Mo T16 → Typed.Mo T19
-  s15 = Scalar.n-room T16 2 y3
+  s15 = Scalar.n-room T16 2 y4
 
   abbrev s16 : Typed.Mo T19 → Typed.Mo T20
-  s16 = Scalar.n-room T19 3 y1
+  s16 = Scalar.n-room T19 3 y2
 
   abbrev s17 : Typed.Mo T20 → Typed.Mo T21
   s17 = Scalar.n-room T20 4 (Syntax.tyArray (Syntax.tyInt Syntax.w8) 36)
@@ -1271,15 +1357,15 @@ module _ (claims· : Claims) where
   s19 = Scalar.n-room T22 21 Syntax.tyBool
 
   abbrev s20 : Typed.Both T17 T24
-  s20 = Call.callB ps·2 r·2 (claims· .4) (claims· .5) T17 (record { pos = 2; st = List.[]; d = 0; at = λ x. x }, tt) 15 List.[] y8
+  s20 = Call.callB ps·2 r·2 (claims· .4) (claims· .5) T17 (record { pos = 2; st = List.[]; d = 0; at = λ x. x }, tt) 15 List.[] y9
 
   abbrev s21 : Typed.Both T24 T25
   s21 = Call.callB ps·3 r·3 (claims· .6) (claims· .7) T24 (record { pos = 1; ty = Syntax.tyRef (Syntax.named 0) Syntax.imm (Syntax.tyInt Syntax.w8); ref = λ x. x }, (Num.vAt 14 λ x. x, tt)) 16
-      (List._∷_ 0 List.[]) y5
+      (List._∷_ 0 List.[]) y6
 
   abbrev s22 : Typed.Both T25 T26
   s22 = Call.callB ps·4 r·4 (claims· .8) (claims· .9) T25 (record { pos = 1; ty = Syntax.tyRef (Syntax.named 0) Syntax.imm (Syntax.tyInt Syntax.w8); ref = λ x. x }, (Num.vAt 14 λ x. x, tt)) 17
-      (List._∷_ 0 List.[]) y5
+      (List._∷_ 0 List.[]) y6
 
   abbrev s23 : Typed.Both T26 T27
   s23 = Call.callB ps·5 r·5 (claims· .10) (claims· .11) T26 (record { pos = 3; st = List.[]; d = 0; at = λ x. x }, (Num.vAt 14 λ x. x, tt)) 18 List.[] y0
@@ -1311,7 +1397,10 @@ module _ (claims· : Claims) where
   s34 = Local.k-sc-share T36 12 28 7 (Array'.Array (Referent.rtF (Referent.fInt Syntax.w16)) 768) (Syntax.tyRef Syntax.erased Syntax.imm (Syntax.tyArray (Syntax.tyInt Syntax.w16) 768)) λ x. x
 
   abbrev s35 : Typed.Both T38 T39
-  s35 = Call.callB ps·6 r·6 (claims· .12) (claims· .13) T38 (
+  s35 = Call.callB ps·6 r·6 (claims· .12) (claims· .13) T38 tt 29 List.[] y12
+
+  abbrev s36 : Typed.Both T39 T40
+  s36 = Call.callB ps·7 r·7 (claims· .14) (claims· .15) T39 (
     record { pos = 16; ty = Syntax.tyRef Syntax.erased Syntax.imm (Syntax.tyInt Syntax.w8); ref = λ x. x },
     (
       record { pos = 17; ty = Syntax.tyRef Syntax.erased Syntax.imm (Syntax.tyInt Syntax.w8); ref = λ x. x },
@@ -1325,7 +1414,10 @@ module _ (claims· : Claims) where
               record { pos = 15; st = List.[]; d = 0; at = λ x. x },
               (
                 record { pos = 28; ty = Syntax.tyRef Syntax.erased Syntax.imm (Syntax.tyArray (Syntax.tyInt Syntax.w16) 768); ref = λ x. x },
-                (record { pos = 4; st = List.[]; d = 0; at = λ x. x }, (record { pos = 18; st = List.[]; d = 0; at = λ x. x }, (Num.vAt 10 λ x. x, (Bool.bAt 8 λ x. x, tt)))),
+                (
+                  record { pos = 4; st = List.[]; d = 0; at = λ x. x },
+                  (record { pos = 18; st = List.[]; d = 0; at = λ x. x }, (Num.vAt 10 λ x. x, (Bool.bAt 8 λ x. x, (record { pos = 29; st = List.[]; d = 0; at = λ x. x }, tt)))),
+                ),
               ),
             ),
           ),
@@ -1334,46 +1426,49 @@ module _ (claims· : Claims) where
     ),
   ) 19 (List._∷_ 0 (List._∷_ 0
       (List._∷_ 4 (List._∷_ 5 (List._∷_ 6 (List._∷_ 7 List.[])))))) (Syntax.tyEnum (List._∷_ 98 (List._∷_ 108 (List._∷_ 111 (List._∷_ 99 (List._∷_ 107 (List._∷_ 58 (List._∷_ 58 (List._∷_ 87 (List._∷_ 97
-      (List._∷_ 108 (List._∷_ 107 (List._∷_ 101 (List._∷_ 100 List.[]))))))))))))) (Syntax.ttcons (Syntax.tcons y4 (Syntax.tcons y9 Syntax.tnil)) (Syntax.ttcons (Syntax.tcons (Syntax.tyInt Syntax.w64)
-      (Syntax.tcons y4 Syntax.tnil)) Syntax.ttnil)))
-
-  abbrev s36 : Typed.Mo T39 → Typed.Mo T40
-  s36 = Scalar.n-room T39 16 y5
+      (List._∷_ 108 (List._∷_ 107 (List._∷_ 101 (List._∷_ 100 List.[]))))))))))))) (Syntax.ttcons (Syntax.tcons y5 (Syntax.tcons y10 Syntax.tnil)) (Syntax.ttcons (Syntax.tcons (Syntax.tyInt Syntax.w64)
+      (Syntax.tcons y5 Syntax.tnil)) Syntax.ttnil)))
 
   abbrev s37 : Typed.Mo T40 → Typed.Mo T41
-  s37 = Scalar.n-room T40 17 y5
+  s37 = Scalar.n-room T40 16 y6
 
   abbrev s38 : Typed.Mo T41 → Typed.Mo T42
-  s38 = Scalar.n-room T41 28 (Syntax.tyRef Syntax.erased Syntax.imm (Syntax.tyArray (Syntax.tyInt Syntax.w16) 768))
+  s38 = Scalar.n-room T41 17 y6
 
   abbrev s39 : Typed.Mo T42 → Typed.Mo T43
-  s39 = Scalar.n-room T42 15 y8
+  s39 = Scalar.n-room T42 28 (Syntax.tyRef Syntax.erased Syntax.imm (Syntax.tyArray (Syntax.tyInt Syntax.w16) 768))
 
   abbrev s40 : Typed.Mo T43 → Typed.Mo T44
-  s40 = Scalar.n-room T43 18 y0
+  s40 = Scalar.n-room T43 15 y9
 
-  abbrev s42 : Typed.Both T44 T46
-  s42 = Relend.k-back-sl (Referent.rtF (Referent.fInt Syntax.w16)) T44 23 6 2 4 (Syntax.tyRef (Syntax.named 2) Syntax.mut (Syntax.tyInt Syntax.w16)) (Syntax.tyRef Syntax.erased Syntax.mut
+  abbrev s41 : Typed.Mo T44 → Typed.Mo T45
+  s41 = Scalar.n-room T44 18 y0
+
+  abbrev s42 : Typed.Mo T45 → Typed.Mo T46
+  s42 = Scalar.n-room T45 29 y12
+
+  abbrev s44 : Typed.Both T46 T48
+  s44 = Relend.k-back-sl (Referent.rtF (Referent.fInt Syntax.w16)) T46 23 6 2 4 (Syntax.tyRef (Syntax.named 2) Syntax.mut (Syntax.tyInt Syntax.w16)) (Syntax.tyRef Syntax.erased Syntax.mut
       (Syntax.tyInt Syntax.w16)) Row.off (λ x. x) λ x. x
 
-  abbrev s43 : Typed.Gives T46 T47
-  s43 = Know.k-sl-known (Referent.fInt Syntax.w16) T46 6 2 (Syntax.tyRef (Syntax.named 2) Syntax.mut (Syntax.tyInt Syntax.w16)) Row.off 0 λ x. x
+  abbrev s45 : Typed.Gives T48 T49
+  s45 = Know.k-sl-known (Referent.fInt Syntax.w16) T48 6 2 (Syntax.tyRef (Syntax.named 2) Syntax.mut (Syntax.tyInt Syntax.w16)) Row.off 0 λ x. x
 
-  abbrev s46 : Typed.Both T47 T50
-  s46 = Relend.k-back-sl (Element.type) T47 25 7 3 5 (Syntax.tyRef (Syntax.named 3) Syntax.mut Element.behind) (Syntax.tyRef Syntax.erased Syntax.mut Element.behind) Row.off (λ x. x) λ x. x
+  abbrev s48 : Typed.Both T49 T52
+  s48 = Relend.k-back-sl (Element.type) T49 25 7 3 5 (Syntax.tyRef (Syntax.named 3) Syntax.mut Element.behind) (Syntax.tyRef Syntax.erased Syntax.mut Element.behind) Row.off (λ x. x) λ x. x
 
-  abbrev s49 : Typed.Both T50 T53
-  s49 = Relend.k-back-sl (Referent.rtF (Referent.fInt Syntax.w16)) T50 27 5 1 6 (Syntax.tyRef (Syntax.named 1) Syntax.mut (Syntax.tyInt Syntax.w16)) (Syntax.tyRef Syntax.erased Syntax.mut
+  abbrev s51 : Typed.Both T52 T55
+  s51 = Relend.k-back-sl (Referent.rtF (Referent.fInt Syntax.w16)) T52 27 5 1 6 (Syntax.tyRef (Syntax.named 1) Syntax.mut (Syntax.tyInt Syntax.w16)) (Syntax.tyRef Syntax.erased Syntax.mut
       (Syntax.tyInt Syntax.w16)) Row.off (λ x. x) λ x. x
 
-  abbrev s50 : Typed.Gives T53 T54
-  s50 = Know.k-sl-known (Referent.fInt Syntax.w16) T53 5 1 (Syntax.tyRef (Syntax.named 1) Syntax.mut (Syntax.tyInt Syntax.w16)) Row.off 0 λ x. x
+  abbrev s52 : Typed.Gives T55 T56
+  s52 = Know.k-sl-known (Referent.fInt Syntax.w16) T55 5 1 (Syntax.tyRef (Syntax.named 1) Syntax.mut (Syntax.tyInt Syntax.w16)) Row.off 0 λ x. x
 
-  abbrev s53 : Typed.Mo T54 → Typed.Mo T57
-  s53 = Local.n-back-shr T54 12 7 (Rows.arrF (Referent.rtF (Referent.fInt Syntax.w16)) 768 0) λ x. x
+  abbrev s55 : Typed.Mo T56 → Typed.Mo T59
+  s55 = Local.n-back-shr T56 12 7 (Rows.arrF (Referent.rtF (Referent.fInt Syntax.w16)) 768 0) λ x. x
 
-  abbrev s55 : Typed.Both T57 T59
-  s55 = Call.callB ps·7 r·7 (claims· .14) (claims· .15) T57 (record { pos = 13; st = List.[]; d = 0; at = λ x. x }, (Num.vAt 14 λ x. x, (record { pos = 19; st = List.[]; d = 0; at = λ x. x }, tt))) 13
+  abbrev s57 : Typed.Both T59 T61
+  s57 = Call.callB ps·8 r·8 (claims· .16) (claims· .17) T59 (record { pos = 13; st = List.[]; d = 0; at = λ x. x }, (Num.vAt 14 λ x. x, (record { pos = 19; st = List.[]; d = 0; at = λ x. x }, tt))) 13
       List.[] (Syntax.tyEnum (List._∷_ 98 (List._∷_ 108 (List._∷_ 111 (List._∷_ 99 (List._∷_ 107 (List._∷_ 58 (List._∷_ 58 (List._∷_ 68 (List._∷_ 101 (List._∷_ 99 (List._∷_ 111 (List._∷_ 100 (List._∷_ 101
       (List._∷_ 100 List.[])))))))))))))) (Syntax.ttcons Syntax.tnil (Syntax.ttcons (Syntax.tcons (Syntax.tyEnum (List._∷_ 115 (List._∷_ 116 (List._∷_ 114 (List._∷_ 101 (List._∷_ 97 (List._∷_ 109
       (List._∷_ 58 (List._∷_ 58 (List._∷_ 82 (List._∷_ 101 (List._∷_ 102 (List._∷_ 117 (List._∷_ 115 (List._∷_ 97 (List._∷_ 108 List.[]))))))))))))))) (Syntax.ttcons Syntax.tnil (Syntax.ttcons Syntax.tnil
@@ -1381,42 +1476,43 @@ module _ (claims· : Claims) where
       Syntax.tnil (Syntax.ttcons Syntax.tnil (Syntax.ttcons Syntax.tnil (Syntax.ttcons (Syntax.tcons (Syntax.tyInt Syntax.w64) Syntax.tnil) (Syntax.ttcons (Syntax.tcons (Syntax.tyInt Syntax.w64)
       Syntax.tnil) (Syntax.ttcons Syntax.tnil (Syntax.ttcons (Syntax.tcons (Syntax.tyInt Syntax.w64) (Syntax.tcons (Syntax.tyInt Syntax.w64) Syntax.tnil)) (Syntax.ttcons (Syntax.tcons (Syntax.tyInt
       Syntax.w64) Syntax.tnil) (Syntax.ttcons Syntax.tnil (Syntax.ttcons Syntax.tnil (Syntax.ttcons (Syntax.tcons (Syntax.tyInt Syntax.w64) Syntax.tnil) (Syntax.ttcons (Syntax.tcons (Syntax.tyInt
-      Syntax.w64) Syntax.tnil) (Syntax.ttcons (Syntax.tcons (Syntax.tyInt Syntax.w64) Syntax.tnil) (Syntax.ttcons Syntax.tnil Syntax.ttnil)))))))))))))))))))))) Syntax.tnil) Syntax.ttnil)))
+      Syntax.w64) Syntax.tnil) (Syntax.ttcons (Syntax.tcons (Syntax.tyInt Syntax.w64) Syntax.tnil) (Syntax.ttcons (Syntax.tcons (Syntax.tyInt Syntax.w64) (Syntax.tcons (Syntax.tyInt Syntax.w64)
+      Syntax.tnil)) (Syntax.ttcons Syntax.tnil Syntax.ttnil))))))))))))))))))))))) Syntax.tnil) Syntax.ttnil)))
 
-  abbrev s56 : Typed.Mo T59 → Typed.Mo T60
-  s56 = Scalar.n-room T59 19 (Syntax.tyEnum (List._∷_ 98 (List._∷_ 108 (List._∷_ 111 (List._∷_ 99 (List._∷_ 107 (List._∷_ 58 (List._∷_ 58 (List._∷_ 87 (List._∷_ 97 (List._∷_ 108 (List._∷_ 107
-      (List._∷_ 101 (List._∷_ 100 List.[]))))))))))))) (Syntax.ttcons (Syntax.tcons y4 (Syntax.tcons y9 Syntax.tnil)) (Syntax.ttcons (Syntax.tcons (Syntax.tyInt Syntax.w64) (Syntax.tcons y4 Syntax.tnil))
+  abbrev s58 : Typed.Mo T61 → Typed.Mo T62
+  s58 = Scalar.n-room T61 19 (Syntax.tyEnum (List._∷_ 98 (List._∷_ 108 (List._∷_ 111 (List._∷_ 99 (List._∷_ 107 (List._∷_ 58 (List._∷_ 58 (List._∷_ 87 (List._∷_ 97 (List._∷_ 108 (List._∷_ 107
+      (List._∷_ 101 (List._∷_ 100 List.[]))))))))))))) (Syntax.ttcons (Syntax.tcons y5 (Syntax.tcons y10 Syntax.tnil)) (Syntax.ttcons (Syntax.tcons (Syntax.tyInt Syntax.w64) (Syntax.tcons y5 Syntax.tnil))
       Syntax.ttnil)))
 
-  abbrev s57 : Typed.Asks T60 T61
-  s57 = Scalar.k-op2 T60 (Syntax.add Syntax.unsigned) (Scalar.oAt 14 (Syntax.tyInt Syntax.w64) (Row.valS (Row.sInt Syntax.w64))) (Scalar.oInt Syntax.w64 1) 14 (Rows'.sc-here (Row.sInt Syntax.w64))
+  abbrev s59 : Typed.Asks T62 T63
+  s59 = Scalar.k-op2 T62 (Syntax.add Syntax.unsigned) (Scalar.oAt 14 (Syntax.tyInt Syntax.w64) (Row.valS (Row.sInt Syntax.w64))) (Scalar.oInt Syntax.w64 1) 14 (Rows'.sc-here (Row.sInt Syntax.w64))
       (Row.sInt Syntax.w64 .of)
 
-  abbrev s58 : Typed.Mo T14 → Typed.Mo T62
-  s58 = LocalCopy.n-val-copy T14 13 0 (Declared.row Decoded.the-type) (Rows'.whole (Declared.row Decoded.the-type)) (Rows'.whole (Declared.row Decoded.the-type)) (λ x. x) (λ x. x) λ x. x
-
-  abbrev s59 : Typed.Mo T62 → Typed.Mo T63
-  s59 = Scalar.n-room T62 10 (Syntax.tyInt Syntax.w64)
-
-  abbrev s60 : Typed.Mo T63 → Typed.Mo T64
-  s60 = Scalar.n-room T63 11 (Syntax.tyInt Syntax.w64)
+  abbrev s60 : Typed.Mo T14 → Typed.Mo T64
+  s60 = LocalCopy.n-val-copy T14 13 0 (Declared.row Decoded.the-type) (Rows'.whole (Declared.row Decoded.the-type)) (Rows'.whole (Declared.row Decoded.the-type)) (λ x. x) (λ x. x) λ x. x
 
   abbrev s61 : Typed.Mo T64 → Typed.Mo T65
-  s61 = Scalar.n-room T64 13 (Syntax.tyEnum (List._∷_ 98 (List._∷_ 108 (List._∷_ 111 (List._∷_ 99 (List._∷_ 107 (List._∷_ 58 (List._∷_ 58 (List._∷_ 68 (List._∷_ 101 (List._∷_ 99 (List._∷_ 111
+  s61 = Scalar.n-room T64 10 (Syntax.tyInt Syntax.w64)
+
+  abbrev s62 : Typed.Mo T65 → Typed.Mo T66
+  s62 = Scalar.n-room T65 11 (Syntax.tyInt Syntax.w64)
+
+  abbrev s63 : Typed.Mo T66 → Typed.Mo T67
+  s63 = Scalar.n-room T66 13 (Syntax.tyEnum (List._∷_ 98 (List._∷_ 108 (List._∷_ 111 (List._∷_ 99 (List._∷_ 107 (List._∷_ 58 (List._∷_ 58 (List._∷_ 68 (List._∷_ 101 (List._∷_ 99 (List._∷_ 111
       (List._∷_ 100 (List._∷_ 101 (List._∷_ 100 List.[])))))))))))))) (Syntax.ttcons Syntax.tnil (Syntax.ttcons (Syntax.tcons (Syntax.tyEnum (List._∷_ 115 (List._∷_ 116 (List._∷_ 114 (List._∷_ 101
       (List._∷_ 97 (List._∷_ 109 (List._∷_ 58 (List._∷_ 58 (List._∷_ 82 (List._∷_ 101 (List._∷_ 102 (List._∷_ 117 (List._∷_ 115 (List._∷_ 97 (List._∷_ 108 List.[]))))))))))))))) (Syntax.ttcons Syntax.tnil
       (Syntax.ttcons Syntax.tnil (Syntax.ttcons Syntax.tnil (Syntax.ttcons (Syntax.tcons (Syntax.tyInt Syntax.w64) Syntax.tnil) (Syntax.ttcons Syntax.tnil (Syntax.ttcons Syntax.tnil (Syntax.ttcons
       Syntax.tnil (Syntax.ttcons Syntax.tnil (Syntax.ttcons Syntax.tnil (Syntax.ttcons Syntax.tnil (Syntax.ttcons (Syntax.tcons (Syntax.tyInt Syntax.w64) Syntax.tnil) (Syntax.ttcons (Syntax.tcons
       (Syntax.tyInt Syntax.w64) Syntax.tnil) (Syntax.ttcons Syntax.tnil (Syntax.ttcons (Syntax.tcons (Syntax.tyInt Syntax.w64) (Syntax.tcons (Syntax.tyInt Syntax.w64) Syntax.tnil)) (Syntax.ttcons
       (Syntax.tcons (Syntax.tyInt Syntax.w64) Syntax.tnil) (Syntax.ttcons Syntax.tnil (Syntax.ttcons Syntax.tnil (Syntax.ttcons (Syntax.tcons (Syntax.tyInt Syntax.w64) Syntax.tnil) (Syntax.ttcons
-      (Syntax.tcons (Syntax.tyInt Syntax.w64) Syntax.tnil) (Syntax.ttcons (Syntax.tcons (Syntax.tyInt Syntax.w64) Syntax.tnil) (Syntax.ttcons Syntax.tnil Syntax.ttnil)))))))))))))))))))))) Syntax.tnil)
-      Syntax.ttnil)))
+      (Syntax.tcons (Syntax.tyInt Syntax.w64) Syntax.tnil) (Syntax.ttcons (Syntax.tcons (Syntax.tyInt Syntax.w64) Syntax.tnil) (Syntax.ttcons (Syntax.tcons (Syntax.tyInt Syntax.w64) (Syntax.tcons
+      (Syntax.tyInt Syntax.w64) Syntax.tnil)) (Syntax.ttcons Syntax.tnil Syntax.ttnil))))))))))))))))))))))) Syntax.tnil) Syntax.ttnil)))
 
-  abbrev s62 : Typed.Mo T65 → Typed.Mo T66
-  s62 = Scalar.n-room T65 14 (Syntax.tyInt Syntax.w64)
+  abbrev s64 : Typed.Mo T67 → Typed.Mo T68
+  s64 = Scalar.n-room T67 14 (Syntax.tyInt Syntax.w64)
 
-  abbrev s63 : Typed.Mo T66 → Typed.Mo T67
-  s63 = Scalar.n-room T66 8 Syntax.tyBool
+  abbrev s65 : Typed.Mo T68 → Typed.Mo T69
+  s65 = Scalar.n-room T68 8 Syntax.tyBool
 
   abbrev put0 : List.List (Referent.rtF (Referent.fInt Syntax.w16) .Denot) × List.List (Referent.rtF (Referent.fInt Syntax.w16) .Denot) × List.List (Element.type .Denot) × Rows'.whole (Declared.row
       Decoded.the-type) .Mod × Rows'.sc-here (Row.sInt Syntax.w64) .Mod → Typed.Mo T15 → Typed.Mo T15
@@ -1433,8 +1529,9 @@ module _ (claims· : Claims) where
       Closed = (𝓤 : URA.URA M) (H : Wp.Heap 𝓤) (A : Atoms.Atoms 𝓤) (W : Kit.Given 𝓤 H A) (𝓣 : Wp.Tables 𝓤 H) (known0 : Plain.Known 𝓤 H A W 𝓣 0 ps·0 r·0 (claims· .0) (claims· .1) "region::span_of")
           (known1 : Plain.Known 𝓤 H A W 𝓣 0 ps·1 r·1 (claims· .2) (claims· .3) "map::xtrans_places") (known2 : Plain.Known 𝓤 H A W 𝓣 0 ps·2 r·2 (claims· .4) (claims· .5) "block::form_of") (known3 :
           Plain.Known 𝓤 H A W 𝓣 1 ps·3 r·3 (claims· .6) (claims· .7) "stream::block_bytes") (known4 : Plain.Known 𝓤 H A W 𝓣 1 ps·4 r·4 (claims· .8) (claims· .9) "stream::base_row") (known5 : Plain.Known 𝓤
-          H A W 𝓣 0 ps·5 r·5 (claims· .10) (claims· .11) "region::part") (known6 : Plain.Known 𝓤 H A W 𝓣 6 ps·6 r·6 (claims· .12) (claims· .13) "block::reading::walk") (known7 : Plain.Known 𝓤 H A W 𝓣 0
-          ps·7 r·7 (claims· .14) (claims· .15) "block::decoding::judged") → Statement.Triple 𝓤 (Wp.WpFn 𝓤 H (𝓣 .C) (𝓣 .Λ) (Function.fnOf 4 ps r xs m hs body)) (Function.plainOf 𝓤 H A 4 ps r Pre· Post·)
+          H A W 𝓣 0 ps·5 r·5 (claims· .10) (claims· .11) "region::part") (known6 : Plain.Known 𝓤 H A W 𝓣 0 ps·6 r·6 (claims· .12) (claims· .13) "cameras::no_entries") (known7 : Plain.Known 𝓤 H A W 𝓣 6
+          ps·7 r·7 (claims· .14) (claims· .15) "block::reading::walk") (known8 : Plain.Known 𝓤 H A W 𝓣 0 ps·8 r·8 (claims· .16) (claims· .17) "block::decoding::judged") → Statement.Triple 𝓤 (Wp.WpFn 𝓤 H
+          (𝓣 .C) (𝓣 .Λ) (Function.fnOf 4 ps r xs m hs body)) (Function.plainOf 𝓤 H A 4 ps r Pre· Post·)
 
     module _ (Inv·0 : InvT-loop) (μ·0 : MeasureT-loop) where
       abbrev at0 : Typed.TF T18 O4
@@ -1464,252 +1561,259 @@ module _ (claims· : Claims) where
       abbrev at8 : Typed.TF T16 O4
       at8 = Scalar.Φcond T16 O4 21 (λ x. x) at1 at7
 
-      abbrev at9 : Typed.TF T60 O3
-      at9 = λ Ψ. Typed.ask s57 (Typed.atNext O3 Ψ)
+      abbrev at9 : Typed.TF T62 O3
+      at9 = λ Ψ. Typed.ask s59 (Typed.atNext O3 Ψ)
 
-      abbrev at10 : Typed.TF T59 O3
-      at10 = λ Ψ. Typed.pass T59 T60 s56 (at9 Ψ)
+      abbrev at10 : Typed.TF T61 O3
+      at10 = λ Ψ. Typed.pass T61 T62 s58 (at9 Ψ)
 
-      abbrev at11 : Typed.TF T57 O3
-      at11 = λ Ψ. Typed.both s55 (at10 Ψ)
+      abbrev at11 : Typed.TF T59 O3
+      at11 = λ Ψ. Typed.both s57 (at10 Ψ)
 
-      abbrev at12 : Typed.TF T57 O3
+      abbrev at12 : Typed.TF T59 O3
       at12 = λ Ψ. at11 Ψ
 
-      abbrev at13 : Typed.TF T54 O3
-      at13 = λ Ψ. Typed.pass T54 T57 s53 (at12 Ψ)
+      abbrev at13 : Typed.TF T56 O3
+      at13 = λ Ψ. Typed.pass T56 T59 s55 (at12 Ψ)
 
-      abbrev at14 : Typed.TF T54 O3
+      abbrev at14 : Typed.TF T56 O3
       at14 = λ Ψ. at13 Ψ
 
-      abbrev at15 : Typed.TF T54 O3
+      abbrev at15 : Typed.TF T56 O3
       at15 = λ Ψ. at14 Ψ
 
-      abbrev at16 : Typed.TF T53 O3
-      at16 = λ Ψ. Typed.give s50 (at15 Ψ)
+      abbrev at16 : Typed.TF T55 O3
+      at16 = λ Ψ. Typed.give s52 (at15 Ψ)
 
-      abbrev at17 : Typed.TF T50 O3
-      at17 = λ Ψ. Typed.both s49 (at16 Ψ)
+      abbrev at17 : Typed.TF T52 O3
+      at17 = λ Ψ. Typed.both s51 (at16 Ψ)
 
-      abbrev at18 : Typed.TF T50 O3
+      abbrev at18 : Typed.TF T52 O3
       at18 = λ Ψ. at17 Ψ
 
-      abbrev at19 : Typed.TF T50 O3
+      abbrev at19 : Typed.TF T52 O3
       at19 = λ Ψ. at18 Ψ
 
-      abbrev at20 : Typed.TF T47 O3
-      at20 = λ Ψ. Typed.both s46 (at19 Ψ)
+      abbrev at20 : Typed.TF T49 O3
+      at20 = λ Ψ. Typed.both s48 (at19 Ψ)
 
-      abbrev at21 : Typed.TF T47 O3
+      abbrev at21 : Typed.TF T49 O3
       at21 = λ Ψ. at20 Ψ
 
-      abbrev at22 : Typed.TF T47 O3
+      abbrev at22 : Typed.TF T49 O3
       at22 = λ Ψ. at21 Ψ
 
-      abbrev at23 : Typed.TF T46 O3
-      at23 = λ Ψ. Typed.give s43 (at22 Ψ)
+      abbrev at23 : Typed.TF T48 O3
+      at23 = λ Ψ. Typed.give s45 (at22 Ψ)
 
-      abbrev at24 : Typed.TF T44 O3
-      at24 = λ Ψ. Typed.both s42 (at23 Ψ)
+      abbrev at24 : Typed.TF T46 O3
+      at24 = λ Ψ. Typed.both s44 (at23 Ψ)
 
-      abbrev at25 : Typed.TF T44 O3
+      abbrev at25 : Typed.TF T46 O3
       at25 = λ Ψ. at24 Ψ
 
-      abbrev at26 : Typed.TF T43 O3
-      at26 = λ Ψ. Typed.pass T43 T44 s40 (at25 Ψ)
+      abbrev at26 : Typed.TF T45 O3
+      at26 = λ Ψ. Typed.pass T45 T46 s42 (at25 Ψ)
 
-      abbrev at27 : Typed.TF T42 O3
-      at27 = λ Ψ. Typed.pass T42 T43 s39 (at26 Ψ)
+      abbrev at27 : Typed.TF T44 O3
+      at27 = λ Ψ. Typed.pass T44 T45 s41 (at26 Ψ)
 
-      abbrev at28 : Typed.TF T41 O3
-      at28 = λ Ψ. Typed.pass T41 T42 s38 (at27 Ψ)
+      abbrev at28 : Typed.TF T43 O3
+      at28 = λ Ψ. Typed.pass T43 T44 s40 (at27 Ψ)
 
-      abbrev at29 : Typed.TF T40 O3
-      at29 = λ Ψ. Typed.pass T40 T41 s37 (at28 Ψ)
+      abbrev at29 : Typed.TF T42 O3
+      at29 = λ Ψ. Typed.pass T42 T43 s39 (at28 Ψ)
 
-      abbrev at30 : Typed.TF T39 O3
-      at30 = λ Ψ. Typed.pass T39 T40 s36 (at29 Ψ)
+      abbrev at30 : Typed.TF T41 O3
+      at30 = λ Ψ. Typed.pass T41 T42 s38 (at29 Ψ)
 
-      abbrev at31 : Typed.TF T38 O3
-      at31 = λ Ψ. Typed.both s35 (at30 Ψ)
+      abbrev at31 : Typed.TF T40 O3
+      at31 = λ Ψ. Typed.pass T40 T41 s37 (at30 Ψ)
 
-      abbrev at32 : Typed.TF T36 O3
-      at32 = λ Ψ. Typed.give s34 (at31 Ψ)
+      abbrev at32 : Typed.TF T39 O3
+      at32 = λ Ψ. Typed.both s36 (at31 Ψ)
 
-      abbrev at33 : Typed.TF T36 O3
-      at33 = λ Ψ. at32 Ψ
+      abbrev at33 : Typed.TF T38 O3
+      at33 = λ Ψ. Typed.both s35 (at32 Ψ)
 
-      abbrev at34 : Typed.TF T35 O3
-      at34 = λ Ψ. Typed.ask s32 (at33 Ψ)
+      abbrev at34 : Typed.TF T36 O3
+      at34 = λ Ψ. Typed.give s34 (at33 Ψ)
 
-      abbrev at35 : Typed.TF T33 O3
-      at35 = λ Ψ. Typed.give s31 (at34 Ψ)
+      abbrev at35 : Typed.TF T36 O3
+      at35 = λ Ψ. at34 Ψ
 
-      abbrev at36 : Typed.TF T33 O3
-      at36 = λ Ψ. at35 Ψ
+      abbrev at36 : Typed.TF T35 O3
+      at36 = λ Ψ. Typed.ask s32 (at35 Ψ)
 
-      abbrev at37 : Typed.TF T32 O3
-      at37 = λ Ψ. Typed.ask s29 (at36 Ψ)
+      abbrev at37 : Typed.TF T33 O3
+      at37 = λ Ψ. Typed.give s31 (at36 Ψ)
 
-      abbrev at38 : Typed.TF T30 O3
-      at38 = λ Ψ. Typed.give s28 (at37 Ψ)
+      abbrev at38 : Typed.TF T33 O3
+      at38 = λ Ψ. at37 Ψ
 
-      abbrev at39 : Typed.TF T30 O3
-      at39 = λ Ψ. at38 Ψ
+      abbrev at39 : Typed.TF T32 O3
+      at39 = λ Ψ. Typed.ask s29 (at38 Ψ)
 
-      abbrev at40 : Typed.TF T29 O3
-      at40 = λ Ψ. Typed.ask s26 (at39 Ψ)
+      abbrev at40 : Typed.TF T30 O3
+      at40 = λ Ψ. Typed.give s28 (at39 Ψ)
 
-      abbrev at41 : Typed.TF T27 O3
-      at41 = λ Ψ. Typed.give s25 (at40 Ψ)
+      abbrev at41 : Typed.TF T30 O3
+      at41 = λ Ψ. at40 Ψ
 
-      abbrev at42 : Typed.TF T27 O3
-      at42 = λ Ψ. at41 Ψ
+      abbrev at42 : Typed.TF T29 O3
+      at42 = λ Ψ. Typed.ask s26 (at41 Ψ)
 
-      abbrev at43 : Typed.TF T26 O3
-      at43 = λ Ψ. Typed.both s23 (at42 Ψ)
+      abbrev at43 : Typed.TF T27 O3
+      at43 = λ Ψ. Typed.give s25 (at42 Ψ)
 
-      abbrev at44 : Typed.TF T25 O3
-      at44 = λ Ψ. Typed.both s22 (at43 Ψ)
+      abbrev at44 : Typed.TF T27 O3
+      at44 = λ Ψ. at43 Ψ
 
-      abbrev at45 : Typed.TF T24 O3
-      at45 = λ Ψ. Typed.both s21 (at44 Ψ)
+      abbrev at45 : Typed.TF T26 O3
+      at45 = λ Ψ. Typed.both s23 (at44 Ψ)
 
-      abbrev at46 : Typed.TF T17 O3
-      at46 = λ Ψ. Typed.both s20 (at45 Ψ)
+      abbrev at46 : Typed.TF T25 O3
+      at46 = λ Ψ. Typed.both s22 (at45 Ψ)
 
-      abbrev at47 : Typed.TF T16 O3
-      at47 = λ Ψ. at8 (Typed.wantNext T17 O3 (at46 Ψ) Ψ)
+      abbrev at47 : Typed.TF T24 O3
+      at47 = λ Ψ. Typed.both s21 (at46 Ψ)
 
-      abbrev at48 : Typed.TF T15 O3
-      at48 = λ Ψ. Typed.ask s13 (at47 Ψ)
+      abbrev at48 : Typed.TF T17 O3
+      at48 = λ Ψ. Typed.both s20 (at47 Ψ)
 
-      abbrev at49 : Typed.TF T15 O2
-      at49 = Typed.LoopBy T15 O2 put0 (λ u vs. Inv·0 (Row.get 1 (T15 .locals) u .now) (Row.get 2 (T15 .locals) u) (Row.get 3 (T15 .locals) u) (Row.get 4 (T15 .locals) u) (Row.get 5 (T15 .locals) u
+      abbrev at49 : Typed.TF T16 O3
+      at49 = λ Ψ. at8 (Typed.wantNext T17 O3 (at48 Ψ) Ψ)
+
+      abbrev at50 : Typed.TF T15 O3
+      at50 = λ Ψ. Typed.ask s13 (at49 Ψ)
+
+      abbrev at51 : Typed.TF T15 O2
+      at51 = Typed.LoopBy T15 O2 put0 (λ u vs. Inv·0 (Row.get 1 (T15 .locals) u .now) (Row.get 2 (T15 .locals) u) (Row.get 3 (T15 .locals) u) (Row.get 4 (T15 .locals) u) (Row.get 5 (T15 .locals) u
           .now) (Row.get 6 (T15 .locals) u .now) (Row.get 7 (T15 .locals) u .now) (Row.get 8 (T15 .locals) u) (Row.get 10 (T15 .locals) u) (Row.get 11 (T15 .locals) u) (Row.get 12 (T15 .locals) u)
           (Row.get 13 (T15 .locals) u) (Row.get 14 (T15 .locals) u) (vs .0) (vs .1) (vs .2) (vs .3) (vs .4)) (λ u vs. μ·0 (Row.get 1 (T15 .locals) u .now) (Row.get 2 (T15 .locals) u) (Row.get 3 (T15
           .locals) u) (Row.get 4 (T15 .locals) u) (Row.get 5 (T15 .locals) u .now) (Row.get 6 (T15 .locals) u .now) (Row.get 7 (T15 .locals) u .now) (Row.get 8 (T15 .locals) u) (Row.get 10 (T15 .locals)
-          u) (Row.get 11 (T15 .locals) u) (Row.get 12 (T15 .locals) u) (Row.get 13 (T15 .locals) u) (Row.get 14 (T15 .locals) u) (vs .0) (vs .1) (vs .2) (vs .3) (vs .4)) at48
+          u) (Row.get 11 (T15 .locals) u) (Row.get 12 (T15 .locals) u) (Row.get 13 (T15 .locals) u) (Row.get 14 (T15 .locals) u) (vs .0) (vs .1) (vs .2) (vs .3) (vs .4)) at50
 
-      abbrev at50 : Typed.TF T15 O1
-      at50 = λ Ψ. at49 (Typed.inBlock O1 Ψ)
+      abbrev at52 : Typed.TF T15 O1
+      at52 = λ Ψ. at51 (Typed.inBlock O1 Ψ)
 
-      abbrev at51 : Typed.TF T13 O1
-      at51 = λ Ψ. Typed.pass T13 T15 s12 (at50 Ψ)
+      abbrev at53 : Typed.TF T13 O1
+      at53 = λ Ψ. Typed.pass T13 T15 s12 (at52 Ψ)
 
-      abbrev at52 : Typed.TF T67 O0
-      at52 = Typed.atRet O0
+      abbrev at54 : Typed.TF T69 O0
+      at54 = Typed.atRet O0
 
-      abbrev at53 : Typed.TF T66 O0
-      at53 = λ Ψ. Typed.pass T66 T67 s63 (at52 Ψ)
+      abbrev at55 : Typed.TF T68 O0
+      at55 = λ Ψ. Typed.pass T68 T69 s65 (at54 Ψ)
 
-      abbrev at54 : Typed.TF T65 O0
-      at54 = λ Ψ. Typed.pass T65 T66 s62 (at53 Ψ)
+      abbrev at56 : Typed.TF T67 O0
+      at56 = λ Ψ. Typed.pass T67 T68 s64 (at55 Ψ)
 
-      abbrev at55 : Typed.TF T64 O0
-      at55 = λ Ψ. Typed.pass T64 T65 s61 (at54 Ψ)
+      abbrev at57 : Typed.TF T66 O0
+      at57 = λ Ψ. Typed.pass T66 T67 s63 (at56 Ψ)
 
-      abbrev at56 : Typed.TF T63 O0
-      at56 = λ Ψ. Typed.pass T63 T64 s60 (at55 Ψ)
+      abbrev at58 : Typed.TF T65 O0
+      at58 = λ Ψ. Typed.pass T65 T66 s62 (at57 Ψ)
 
-      abbrev at57 : Typed.TF T62 O0
-      at57 = λ Ψ. Typed.pass T62 T63 s59 (at56 Ψ)
+      abbrev at59 : Typed.TF T64 O0
+      at59 = λ Ψ. Typed.pass T64 T65 s61 (at58 Ψ)
 
-      abbrev at58 : Typed.TF T14 O0
-      at58 = λ Ψ. Typed.pass T14 T62 s58 (at57 Ψ)
+      abbrev at60 : Typed.TF T14 O0
+      at60 = λ Ψ. Typed.pass T14 T64 s60 (at59 Ψ)
 
-      abbrev at59 : Typed.TF T13 O0
-      at59 = λ Ψ. at51 (Typed.wantNext T14 O0 (at58 Ψ) Ψ)
+      abbrev at61 : Typed.TF T13 O0
+      at61 = λ Ψ. at53 (Typed.wantNext T14 O0 (at60 Ψ) Ψ)
 
-      abbrev at60 : Typed.TF T12 O0
-      at60 = λ Ψ. Typed.pass T12 T13 s11 (at59 Ψ)
+      abbrev at62 : Typed.TF T12 O0
+      at62 = λ Ψ. Typed.pass T12 T13 s11 (at61 Ψ)
 
-      abbrev at61 : Typed.TF T11 O0
-      at61 = λ Ψ. Typed.pass T11 T12 s10 (at60 Ψ)
+      abbrev at63 : Typed.TF T11 O0
+      at63 = λ Ψ. Typed.pass T11 T12 s10 (at62 Ψ)
 
-      abbrev at62 : Typed.TF T10 O0
-      at62 = λ Ψ. Typed.pass T10 T11 s9 (at61 Ψ)
+      abbrev at64 : Typed.TF T10 O0
+      at64 = λ Ψ. Typed.pass T10 T11 s9 (at63 Ψ)
 
-      abbrev at63 : Typed.TF T9 O0
-      at63 = λ Ψ. Typed.pass T9 T10 s8 (at62 Ψ)
+      abbrev at65 : Typed.TF T9 O0
+      at65 = λ Ψ. Typed.pass T9 T10 s8 (at64 Ψ)
 
-      abbrev at64 : Typed.TF T8 O0
-      at64 = λ Ψ. Typed.both s7 (at63 Ψ)
+      abbrev at66 : Typed.TF T8 O0
+      at66 = λ Ψ. Typed.both s7 (at65 Ψ)
 
-      abbrev at65 : Typed.TF T7 O0
-      at65 = λ Ψ. Typed.ask s6 (at64 Ψ)
+      abbrev at67 : Typed.TF T7 O0
+      at67 = λ Ψ. Typed.ask s6 (at66 Ψ)
 
-      abbrev at66 : Typed.TF T6 O0
-      at66 = λ Ψ. Typed.give s5 (at65 Ψ)
+      abbrev at68 : Typed.TF T6 O0
+      at68 = λ Ψ. Typed.give s5 (at67 Ψ)
 
-      abbrev at67 : Typed.TF T5 O0
-      at67 = λ Ψ. Typed.pass T5 T6 s4 (at66 Ψ)
+      abbrev at69 : Typed.TF T5 O0
+      at69 = λ Ψ. Typed.pass T5 T6 s4 (at68 Ψ)
 
-      abbrev at68 : Typed.TF T4 O0
-      at68 = λ Ψ. Typed.both s3 (at67 Ψ)
+      abbrev at70 : Typed.TF T4 O0
+      at70 = λ Ψ. Typed.both s3 (at69 Ψ)
 
-      abbrev at69 : Typed.TF T3 O0
-      at69 = λ Ψ. Typed.give s2 (at68 Ψ)
+      abbrev at71 : Typed.TF T3 O0
+      at71 = λ Ψ. Typed.give s2 (at70 Ψ)
 
-      abbrev at70 : Typed.TF T2 O0
-      at70 = λ Ψ. Typed.give s1 (at69 Ψ)
+      abbrev at72 : Typed.TF T2 O0
+      at72 = λ Ψ. Typed.give s1 (at71 Ψ)
 
-      abbrev at71 : Typed.TF T0 O0
-      at71 = λ Ψ. Typed.give s0 (at70 Ψ)
+      abbrev at73 : Typed.TF T0 O0
+      at73 = λ Ψ. Typed.give s0 (at72 Ψ)
 
       abbrev pub Φ : Typed.TF T0 O0
-      Φ = at71
+      Φ = at73
 
       module _ {M : Type 1} (𝓤 : URA.URA M) (H : Wp.Heap 𝓤) (A : Atoms.Atoms 𝓤) (W : Kit.Given 𝓤 H A) (𝓣 : Wp.Tables 𝓤 H) where
         abbrev Knowns : Type 1
         Knowns = Plain.Known 𝓤 H A W 𝓣 0 ps·0 r·0 (claims· .0) (claims· .1) "region::span_of" × Plain.Known 𝓤 H A W 𝓣 0 ps·1 r·1 (claims· .2) (claims· .3) "map::xtrans_places" × Plain.Known 𝓤 H A W 𝓣
             0 ps·2 r·2 (claims· .4) (claims· .5) "block::form_of" × Plain.Known 𝓤 H A W 𝓣 1 ps·3 r·3 (claims· .6) (claims· .7) "stream::block_bytes" × Plain.Known 𝓤 H A W 𝓣 1 ps·4 r·4 (claims· .8)
-            (claims· .9) "stream::base_row" × Plain.Known 𝓤 H A W 𝓣 0 ps·5 r·5 (claims· .10) (claims· .11) "region::part" × Plain.Known 𝓤 H A W 𝓣 6 ps·6 r·6 (claims· .12) (claims· .13)
-            "block::reading::walk" × Plain.Known 𝓤 H A W 𝓣 0 ps·7 r·7 (claims· .14) (claims· .15) "block::decoding::judged"
+            (claims· .9) "stream::base_row" × Plain.Known 𝓤 H A W 𝓣 0 ps·5 r·5 (claims· .10) (claims· .11) "region::part" × Plain.Known 𝓤 H A W 𝓣 0 ps·6 r·6 (claims· .12) (claims· .13)
+            "cameras::no_entries" × Plain.Known 𝓤 H A W 𝓣 6 ps·7 r·7 (claims· .14) (claims· .15) "block::reading::walk" × Plain.Known 𝓤 H A W 𝓣 0 ps·8 r·8 (claims· .16) (claims· .17)
+            "block::decoding::judged"
 
       module _ (κs : Lifetimes.Lfts 4) (qs : Lifetimes.Shares 4) where
         abbrev g20 : List.List Row.Entry
-        g20 = List._∷_ e0 (List._∷_ e2 (List._∷_ e25 (List._∷_ e43 (List._∷_ e45 (List._∷_ e46 (List._∷_
-            (6, Relend.mslice-owed (Referent.rtF (Referent.fInt Syntax.w16)) (Syntax.tyRef (Syntax.named 2) Syntax.mut (Syntax.tyInt Syntax.w16)) 2 4 (Row.lease (κs .1 .1 .0) (qs .1 .1 .0))) (List._∷_ e50
-            (List._∷_ e52 (List._∷_ e53 (List._∷_ e4 (List._∷_ e6 (List._∷_ e9 (List._∷_ e11 (List._∷_ e13 (List._∷_ e15 List.[])))))))))))))))
+        g20 = List._∷_ e0 (List._∷_ e2 (List._∷_ e25 (List._∷_ e45 (List._∷_ e47 (List._∷_ e48 (List._∷_
+            (6, Relend.mslice-owed (Referent.rtF (Referent.fInt Syntax.w16)) (Syntax.tyRef (Syntax.named 2) Syntax.mut (Syntax.tyInt Syntax.w16)) 2 4 (Row.lease (κs .1 .1 .0) (qs .1 .1 .0))) (List._∷_ e52
+            (List._∷_ e54 (List._∷_ e55 (List._∷_ e4 (List._∷_ e6 (List._∷_ e9 (List._∷_ e11 (List._∷_ e13 (List._∷_ e15 List.[])))))))))))))))
 
         abbrev g23 : List.List Row.Entry
-        g23 = List._∷_ e0 (List._∷_ e2 (List._∷_ e25 (List._∷_ e43 (List._∷_ e45 (List._∷_ e46 (List._∷_
+        g23 = List._∷_ e0 (List._∷_ e2 (List._∷_ e25 (List._∷_ e45 (List._∷_ e47 (List._∷_ e48 (List._∷_
             (6, Relend.mslice-owed (Referent.rtF (Referent.fInt Syntax.w16)) (Syntax.tyRef (Syntax.named 2) Syntax.mut (Syntax.tyInt Syntax.w16)) 2 4 (Row.lease (κs .1 .1 .0) (qs .1 .1 .0))) (List._∷_
-            (7, Relend.mslice-owed (Element.type) (Syntax.tyRef (Syntax.named 3) Syntax.mut Element.behind) 3 5 (Row.lease (κs .1 .1 .1 .0) (qs .1 .1 .1 .0))) (List._∷_ e52 (List._∷_ e53 (List._∷_ e4
+            (7, Relend.mslice-owed (Element.type) (Syntax.tyRef (Syntax.named 3) Syntax.mut Element.behind) 3 5 (Row.lease (κs .1 .1 .1 .0) (qs .1 .1 .1 .0))) (List._∷_ e54 (List._∷_ e55 (List._∷_ e4
             (List._∷_ e6 (List._∷_ e9 (List._∷_ e11 (List._∷_ e13 (List._∷_ e15 List.[])))))))))))))))
 
         abbrev g26 : List.List Row.Entry
-        g26 = List._∷_ e0 (List._∷_ e2 (List._∷_ e25 (List._∷_ e43 (List._∷_ e45 (List._∷_
+        g26 = List._∷_ e0 (List._∷_ e2 (List._∷_ e25 (List._∷_ e45 (List._∷_ e47 (List._∷_
             (5, Relend.mslice-owed (Referent.rtF (Referent.fInt Syntax.w16)) (Syntax.tyRef (Syntax.named 1) Syntax.mut (Syntax.tyInt Syntax.w16)) 1 6 (Row.lease (κs .1 .0) (qs .1 .0))) (List._∷_
             (6, Relend.mslice-owed (Referent.rtF (Referent.fInt Syntax.w16)) (Syntax.tyRef (Syntax.named 2) Syntax.mut (Syntax.tyInt Syntax.w16)) 2 4 (Row.lease (κs .1 .1 .0) (qs .1 .1 .0))) (List._∷_
-            (7, Relend.mslice-owed (Element.type) (Syntax.tyRef (Syntax.named 3) Syntax.mut Element.behind) 3 5 (Row.lease (κs .1 .1 .1 .0) (qs .1 .1 .1 .0))) (List._∷_ e52 (List._∷_ e53 (List._∷_ e4
+            (7, Relend.mslice-owed (Element.type) (Syntax.tyRef (Syntax.named 3) Syntax.mut Element.behind) 3 5 (Row.lease (κs .1 .1 .1 .0) (qs .1 .1 .1 .0))) (List._∷_ e54 (List._∷_ e55 (List._∷_ e4
             (List._∷_ e6 (List._∷_ e9 (List._∷_ e11 (List._∷_ e13 (List._∷_ e15 List.[])))))))))))))))
 
         abbrev g29 : List.List Row.Entry
-        g29 = List._∷_ e0 (List._∷_ e2 (List._∷_ e25 (List._∷_ e43 (List._∷_ e45 (List._∷_
+        g29 = List._∷_ e0 (List._∷_ e2 (List._∷_ e25 (List._∷_ e45 (List._∷_ e47 (List._∷_
             (5, Relend.mslice-owed (Referent.rtF (Referent.fInt Syntax.w16)) (Syntax.tyRef (Syntax.named 1) Syntax.mut (Syntax.tyInt Syntax.w16)) 1 6 (Row.lease (κs .1 .0) (qs .1 .0))) (List._∷_
             (6, Relend.mslice-owed (Referent.rtF (Referent.fInt Syntax.w16)) (Syntax.tyRef (Syntax.named 2) Syntax.mut (Syntax.tyInt Syntax.w16)) 2 4 (Row.lease (κs .1 .1 .0) (qs .1 .1 .0))) (List._∷_
-            (7, Relend.mslice-owed (Element.type) (Syntax.tyRef (Syntax.named 3) Syntax.mut Element.behind) 3 5 (Row.lease (κs .1 .1 .1 .0) (qs .1 .1 .1 .0))) (List._∷_ e52 (List._∷_ e53 (List._∷_ e4
+            (7, Relend.mslice-owed (Element.type) (Syntax.tyRef (Syntax.named 3) Syntax.mut Element.behind) 3 5 (Row.lease (κs .1 .1 .1 .0) (qs .1 .1 .1 .0))) (List._∷_ e54 (List._∷_ e55 (List._∷_ e4
             (List._∷_ e6 (List._∷_ e8 (List._∷_ e11 (List._∷_ e13 (List._∷_ e15 List.[])))))))))))))))
 
-        abbrev g35 : List.List Row.Entry
-        g35 = List._∷_ e0 (List._∷_ e2 (List._∷_ e25 (List._∷_ e43 (List._∷_ e45 (List._∷_
+        abbrev g36 : List.List Row.Entry
+        g36 = List._∷_ e0 (List._∷_ e2 (List._∷_ e25 (List._∷_ e45 (List._∷_ e47 (List._∷_
             (5, Relend.mslice-owed (Referent.rtF (Referent.fInt Syntax.w16)) (Syntax.tyRef (Syntax.named 1) Syntax.mut (Syntax.tyInt Syntax.w16)) 1 6 (Row.lease (κs .1 .0) (qs .1 .0))) (List._∷_
             (6, Relend.mslice-owed (Referent.rtF (Referent.fInt Syntax.w16)) (Syntax.tyRef (Syntax.named 2) Syntax.mut (Syntax.tyInt Syntax.w16)) 2 4 (Row.lease (κs .1 .1 .0) (qs .1 .1 .0))) (List._∷_
-            (7, Relend.mslice-owed (Element.type) (Syntax.tyRef (Syntax.named 3) Syntax.mut Element.behind) 3 5 (Row.lease (κs .1 .1 .1 .0) (qs .1 .1 .1 .0))) (List._∷_ e52 (List._∷_ e53 (List._∷_ e4
+            (7, Relend.mslice-owed (Element.type) (Syntax.tyRef (Syntax.named 3) Syntax.mut Element.behind) 3 5 (Row.lease (κs .1 .1 .1 .0) (qs .1 .1 .1 .0))) (List._∷_ e54 (List._∷_ e55 (List._∷_ e4
             (List._∷_ e6 (List._∷_ e8 (List._∷_ e11 (List._∷_ e13 (List._∷_ e14 List.[])))))))))))))))
 
-        abbrev g37 : List.List Row.Entry
-        g37 = List._∷_ e0 (List._∷_ e2 (List._∷_ e25 (List._∷_ e43 (List._∷_ e45 (List._∷_
-            (5, Relend.mslice-owed (Referent.rtF (Referent.fInt Syntax.w16)) (Syntax.tyRef (Syntax.named 1) Syntax.mut (Syntax.tyInt Syntax.w16)) 1 6 (Row.lease (κs .1 .0) (qs .1 .0))) (List._∷_ e48
-            (List._∷_ (7, Relend.mslice-owed (Element.type) (Syntax.tyRef (Syntax.named 3) Syntax.mut Element.behind) 3 5 (Row.lease (κs .1 .1 .1 .0) (qs .1 .1 .1 .0))) (List._∷_ e52 (List._∷_ e53
+        abbrev g39 : List.List Row.Entry
+        g39 = List._∷_ e0 (List._∷_ e2 (List._∷_ e25 (List._∷_ e45 (List._∷_ e47 (List._∷_
+            (5, Relend.mslice-owed (Referent.rtF (Referent.fInt Syntax.w16)) (Syntax.tyRef (Syntax.named 1) Syntax.mut (Syntax.tyInt Syntax.w16)) 1 6 (Row.lease (κs .1 .0) (qs .1 .0))) (List._∷_ e50
+            (List._∷_ (7, Relend.mslice-owed (Element.type) (Syntax.tyRef (Syntax.named 3) Syntax.mut Element.behind) 3 5 (Row.lease (κs .1 .1 .1 .0) (qs .1 .1 .1 .0))) (List._∷_ e54 (List._∷_ e55
             (List._∷_ e4 (List._∷_ e6 (List._∷_ e8 (List._∷_ e11 (List._∷_ e13 (List._∷_ e14 List.[])))))))))))))))
 
-        abbrev g39 : List.List Row.Entry
-        g39 = List._∷_ e0 (List._∷_ e2 (List._∷_ e25 (List._∷_ e43 (List._∷_ e45 (List._∷_
-            (5, Relend.mslice-owed (Referent.rtF (Referent.fInt Syntax.w16)) (Syntax.tyRef (Syntax.named 1) Syntax.mut (Syntax.tyInt Syntax.w16)) 1 6 (Row.lease (κs .1 .0) (qs .1 .0))) (List._∷_ e48
-            (List._∷_ e50 (List._∷_ e52 (List._∷_ e53 (List._∷_ e4 (List._∷_ e6 (List._∷_ e8 (List._∷_ e11 (List._∷_ e13 (List._∷_ e14 List.[])))))))))))))))
+        abbrev g41 : List.List Row.Entry
+        g41 = List._∷_ e0 (List._∷_ e2 (List._∷_ e25 (List._∷_ e45 (List._∷_ e47 (List._∷_
+            (5, Relend.mslice-owed (Referent.rtF (Referent.fInt Syntax.w16)) (Syntax.tyRef (Syntax.named 1) Syntax.mut (Syntax.tyInt Syntax.w16)) 1 6 (Row.lease (κs .1 .0) (qs .1 .0))) (List._∷_ e50
+            (List._∷_ e52 (List._∷_ e54 (List._∷_ e55 (List._∷_ e4 (List._∷_ e6 (List._∷_ e8 (List._∷_ e11 (List._∷_ e13 (List._∷_ e14 List.[])))))))))))))))
 
         abbrev G0 : Row.Cx
         G0 = record {
@@ -2014,147 +2118,147 @@ module _ (claims· : Claims) where
 
         abbrev G43 : Row.Cx
         G43 = record {
-          locals = List._++_ g35 t34;
+          locals = List._++_ g29 t35;
           slots = List._∷_ (Row.lease (κs .0) (qs .0)) (List._∷_ Row.off (List._∷_ Row.off (List._∷_ Row.off (List._∷_ Row.alive (List._∷_ Row.alive (List._∷_ Row.alive
               (List._∷_ Row.alive List.[])))))));
         }
 
         abbrev G44 : Row.Cx
         G44 = record {
-          locals = List._++_ g35 t36;
+          locals = List._++_ g36 t35;
           slots = List._∷_ (Row.lease (κs .0) (qs .0)) (List._∷_ Row.off (List._∷_ Row.off (List._∷_ Row.off (List._∷_ Row.alive (List._∷_ Row.alive (List._∷_ Row.alive
               (List._∷_ Row.alive List.[])))))));
         }
 
         abbrev G45 : Row.Cx
         G45 = record {
-          locals = List._++_ g35 t36;
-          slots = List._∷_ (Row.lease (κs .0) (qs .0)) (List._∷_ Row.off (List._∷_ Row.off (List._∷_ Row.off (List._∷_ Row.dead (List._∷_ Row.alive (List._∷_ Row.alive
+          locals = List._++_ g36 t37;
+          slots = List._∷_ (Row.lease (κs .0) (qs .0)) (List._∷_ Row.off (List._∷_ Row.off (List._∷_ Row.off (List._∷_ Row.alive (List._∷_ Row.alive (List._∷_ Row.alive
               (List._∷_ Row.alive List.[])))))));
         }
 
         abbrev G46 : Row.Cx
         G46 = record {
-          locals = List._++_ g37 t38;
-          slots = List._∷_ (Row.lease (κs .0) (qs .0)) (List._∷_ Row.off (List._∷_ (Row.lease (κs .1 .1 .0) (qs .1 .1 .0)) (List._∷_ Row.off (List._∷_ Row.dead (List._∷_
-              Row.alive (List._∷_ Row.alive (List._∷_ Row.alive List.[])))))));
+          locals = List._++_ g36 t38;
+          slots = List._∷_ (Row.lease (κs .0) (qs .0)) (List._∷_ Row.off (List._∷_ Row.off (List._∷_ Row.off (List._∷_ Row.alive (List._∷_ Row.alive (List._∷_ Row.alive
+              (List._∷_ Row.alive List.[])))))));
         }
 
         abbrev G47 : Row.Cx
         G47 = record {
-          locals = List._++_ g37 t38;
-          slots = List._∷_ (Row.lease (κs .0) (qs .0)) (List._∷_ Row.off (List._∷_ (Row.lease (κs .1 .1 .0) (qs .1 .1 .0)) (List._∷_ Row.off (List._∷_ Row.dead (List._∷_
-              Row.alive (List._∷_ Row.alive (List._∷_ Row.alive List.[])))))));
+          locals = List._++_ g36 t38;
+          slots = List._∷_ (Row.lease (κs .0) (qs .0)) (List._∷_ Row.off (List._∷_ Row.off (List._∷_ Row.off (List._∷_ Row.dead (List._∷_ Row.alive (List._∷_ Row.alive
+              (List._∷_ Row.alive List.[])))))));
         }
 
         abbrev G48 : Row.Cx
         G48 = record {
-          locals = List._++_ g37 t38;
-          slots = List._∷_ (Row.lease (κs .0) (qs .0)) (List._∷_ Row.off (List._∷_ (Row.lease (κs .1 .1 .0) (qs .1 .1 .0)) (List._∷_ Row.off (List._∷_ Row.off (List._∷_
+          locals = List._++_ g39 t40;
+          slots = List._∷_ (Row.lease (κs .0) (qs .0)) (List._∷_ Row.off (List._∷_ (Row.lease (κs .1 .1 .0) (qs .1 .1 .0)) (List._∷_ Row.off (List._∷_ Row.dead (List._∷_
               Row.alive (List._∷_ Row.alive (List._∷_ Row.alive List.[])))))));
         }
 
         abbrev G49 : Row.Cx
         G49 = record {
-          locals = List._++_ g37 t38;
-          slots = List._∷_ (Row.lease (κs .0) (qs .0)) (List._∷_ Row.off (List._∷_ (Row.lease (κs .1 .1 .0) (qs .1 .1 .0)) (List._∷_ Row.off (List._∷_ Row.off (List._∷_
-              Row.dead (List._∷_ Row.alive (List._∷_ Row.alive List.[])))))));
+          locals = List._++_ g39 t40;
+          slots = List._∷_ (Row.lease (κs .0) (qs .0)) (List._∷_ Row.off (List._∷_ (Row.lease (κs .1 .1 .0) (qs .1 .1 .0)) (List._∷_ Row.off (List._∷_ Row.dead (List._∷_
+              Row.alive (List._∷_ Row.alive (List._∷_ Row.alive List.[])))))));
         }
 
         abbrev G50 : Row.Cx
         G50 = record {
           locals = List._++_ g39 t40;
-          slots = List._∷_ (Row.lease (κs .0) (qs .0)) (List._∷_ Row.off (List._∷_ (Row.lease (κs .1 .1 .0) (qs .1 .1 .0)) (List._∷_ (Row.lease (κs .1 .1 .1 .0) (qs .1 .1
-              .1 .0)) (List._∷_ Row.off (List._∷_ Row.dead (List._∷_ Row.alive (List._∷_ Row.alive List.[])))))));
+          slots = List._∷_ (Row.lease (κs .0) (qs .0)) (List._∷_ Row.off (List._∷_ (Row.lease (κs .1 .1 .0) (qs .1 .1 .0)) (List._∷_ Row.off (List._∷_ Row.off (List._∷_
+              Row.alive (List._∷_ Row.alive (List._∷_ Row.alive List.[])))))));
         }
 
         abbrev G51 : Row.Cx
         G51 = record {
           locals = List._++_ g39 t40;
-          slots = List._∷_ (Row.lease (κs .0) (qs .0)) (List._∷_ Row.off (List._∷_ (Row.lease (κs .1 .1 .0) (qs .1 .1 .0)) (List._∷_ (Row.lease (κs .1 .1 .1 .0) (qs .1 .1
-              .1 .0)) (List._∷_ Row.off (List._∷_ Row.off (List._∷_ Row.alive (List._∷_ Row.alive List.[])))))));
+          slots = List._∷_ (Row.lease (κs .0) (qs .0)) (List._∷_ Row.off (List._∷_ (Row.lease (κs .1 .1 .0) (qs .1 .1 .0)) (List._∷_ Row.off (List._∷_ Row.off (List._∷_
+              Row.dead (List._∷_ Row.alive (List._∷_ Row.alive List.[])))))));
         }
 
         abbrev G52 : Row.Cx
         G52 = record {
-          locals = List._++_ g39 t40;
+          locals = List._++_ g41 t42;
           slots = List._∷_ (Row.lease (κs .0) (qs .0)) (List._∷_ Row.off (List._∷_ (Row.lease (κs .1 .1 .0) (qs .1 .1 .0)) (List._∷_ (Row.lease (κs .1 .1 .1 .0) (qs .1 .1
-              .1 .0)) (List._∷_ Row.off (List._∷_ Row.off (List._∷_ Row.dead (List._∷_ Row.alive List.[])))))));
+              .1 .0)) (List._∷_ Row.off (List._∷_ Row.dead (List._∷_ Row.alive (List._∷_ Row.alive List.[])))))));
         }
 
         abbrev G53 : Row.Cx
         G53 = record {
-          locals = List._++_ t41 t42;
-          slots = List._∷_ (Row.lease (κs .0) (qs .0)) (List._∷_ (Row.lease (κs .1 .0) (qs .1 .0)) (List._∷_ (Row.lease (κs .1 .1 .0) (qs .1 .1 .0)) (List._∷_ (Row.lease
-              (κs .1 .1 .1 .0) (qs .1 .1 .1 .0)) (List._∷_ Row.off (List._∷_ Row.off (List._∷_ Row.dead (List._∷_ Row.alive List.[])))))));
+          locals = List._++_ g41 t42;
+          slots = List._∷_ (Row.lease (κs .0) (qs .0)) (List._∷_ Row.off (List._∷_ (Row.lease (κs .1 .1 .0) (qs .1 .1 .0)) (List._∷_ (Row.lease (κs .1 .1 .1 .0) (qs .1 .1
+              .1 .0)) (List._∷_ Row.off (List._∷_ Row.off (List._∷_ Row.alive (List._∷_ Row.alive List.[])))))));
         }
 
         abbrev G54 : Row.Cx
         G54 = record {
-          locals = List._++_ t41 t42;
-          slots = List._∷_ (Row.lease (κs .0) (qs .0)) (List._∷_ (Row.lease (κs .1 .0) (qs .1 .0)) (List._∷_ (Row.lease (κs .1 .1 .0) (qs .1 .1 .0)) (List._∷_ (Row.lease
-              (κs .1 .1 .1 .0) (qs .1 .1 .1 .0)) (List._∷_ Row.off (List._∷_ Row.off (List._∷_ Row.dead (List._∷_ Row.alive List.[])))))));
+          locals = List._++_ g41 t42;
+          slots = List._∷_ (Row.lease (κs .0) (qs .0)) (List._∷_ Row.off (List._∷_ (Row.lease (κs .1 .1 .0) (qs .1 .1 .0)) (List._∷_ (Row.lease (κs .1 .1 .1 .0) (qs .1 .1
+              .1 .0)) (List._∷_ Row.off (List._∷_ Row.off (List._∷_ Row.dead (List._∷_ Row.alive List.[])))))));
         }
 
         abbrev G55 : Row.Cx
         G55 = record {
-          locals = List._++_ t41 t42;
+          locals = List._++_ t43 t44;
           slots = List._∷_ (Row.lease (κs .0) (qs .0)) (List._∷_ (Row.lease (κs .1 .0) (qs .1 .0)) (List._∷_ (Row.lease (κs .1 .1 .0) (qs .1 .1 .0)) (List._∷_ (Row.lease
-              (κs .1 .1 .1 .0) (qs .1 .1 .1 .0)) (List._∷_ Row.off (List._∷_ Row.off (List._∷_ Row.off (List._∷_ Row.alive List.[])))))));
+              (κs .1 .1 .1 .0) (qs .1 .1 .1 .0)) (List._∷_ Row.off (List._∷_ Row.off (List._∷_ Row.dead (List._∷_ Row.alive List.[])))))));
         }
 
         abbrev G56 : Row.Cx
         G56 = record {
-          locals = List._++_ t41 t42;
+          locals = List._++_ t43 t44;
           slots = List._∷_ (Row.lease (κs .0) (qs .0)) (List._∷_ (Row.lease (κs .1 .0) (qs .1 .0)) (List._∷_ (Row.lease (κs .1 .1 .0) (qs .1 .1 .0)) (List._∷_ (Row.lease
-              (κs .1 .1 .1 .0) (qs .1 .1 .1 .0)) (List._∷_ Row.off (List._∷_ Row.off (List._∷_ Row.off (List._∷_ Row.dead List.[])))))));
+              (κs .1 .1 .1 .0) (qs .1 .1 .1 .0)) (List._∷_ Row.off (List._∷_ Row.off (List._∷_ Row.dead (List._∷_ Row.alive List.[])))))));
         }
 
         abbrev G57 : Row.Cx
         G57 = record {
-          locals = List._++_ t11 t42;
+          locals = List._++_ t43 t44;
           slots = List._∷_ (Row.lease (κs .0) (qs .0)) (List._∷_ (Row.lease (κs .1 .0) (qs .1 .0)) (List._∷_ (Row.lease (κs .1 .1 .0) (qs .1 .1 .0)) (List._∷_ (Row.lease
-              (κs .1 .1 .1 .0) (qs .1 .1 .1 .0)) (List._∷_ Row.off (List._∷_ Row.off (List._∷_ Row.off (List._∷_ Row.dead List.[])))))));
+              (κs .1 .1 .1 .0) (qs .1 .1 .1 .0)) (List._∷_ Row.off (List._∷_ Row.off (List._∷_ Row.off (List._∷_ Row.alive List.[])))))));
         }
 
         abbrev G58 : Row.Cx
         G58 = record {
-          locals = List._++_ t11 t42;
+          locals = List._++_ t43 t44;
           slots = List._∷_ (Row.lease (κs .0) (qs .0)) (List._∷_ (Row.lease (κs .1 .0) (qs .1 .0)) (List._∷_ (Row.lease (κs .1 .1 .0) (qs .1 .1 .0)) (List._∷_ (Row.lease
-              (κs .1 .1 .1 .0) (qs .1 .1 .1 .0)) (List._∷_ Row.off (List._∷_ Row.off (List._∷_ Row.off (List._∷_ Row.off List.[])))))));
+              (κs .1 .1 .1 .0) (qs .1 .1 .1 .0)) (List._∷_ Row.off (List._∷_ Row.off (List._∷_ Row.off (List._∷_ Row.dead List.[])))))));
         }
 
         abbrev G59 : Row.Cx
         G59 = record {
-          locals = List._++_ t11 t42;
+          locals = List._++_ t11 t44;
           slots = List._∷_ (Row.lease (κs .0) (qs .0)) (List._∷_ (Row.lease (κs .1 .0) (qs .1 .0)) (List._∷_ (Row.lease (κs .1 .1 .0) (qs .1 .1 .0)) (List._∷_ (Row.lease
-              (κs .1 .1 .1 .0) (qs .1 .1 .1 .0)) (List._∷_ Row.off (List._∷_ Row.off (List._∷_ Row.off (List._∷_ Row.off List.[])))))));
+              (κs .1 .1 .1 .0) (qs .1 .1 .1 .0)) (List._∷_ Row.off (List._∷_ Row.off (List._∷_ Row.off (List._∷_ Row.dead List.[])))))));
         }
 
         abbrev G60 : Row.Cx
         G60 = record {
-          locals = List._++_ t11 t1;
-          slots = List._∷_ (Row.lease (κs .0) (qs .0)) (List._∷_ (Row.lease (κs .1 .0) (qs .1 .0)) (List._∷_ (Row.lease (κs .1 .1 .0) (qs .1 .1 .0)) (List._∷_ (Row.lease (κs
-              .1 .1 .1 .0) (qs .1 .1 .1 .0)) (List._∷_ Row.off (List._∷_ Row.off (List._∷_ Row.off (List._∷_ Row.off List.[])))))));
+          locals = List._++_ t11 t44;
+          slots = List._∷_ (Row.lease (κs .0) (qs .0)) (List._∷_ (Row.lease (κs .1 .0) (qs .1 .0)) (List._∷_ (Row.lease (κs .1 .1 .0) (qs .1 .1 .0)) (List._∷_ (Row.lease
+              (κs .1 .1 .1 .0) (qs .1 .1 .1 .0)) (List._∷_ Row.off (List._∷_ Row.off (List._∷_ Row.off (List._∷_ Row.off List.[])))))));
         }
 
         abbrev G61 : Row.Cx
         G61 = record {
-          locals = List._++_ t11 t1;
-          slots = List._∷_ (Row.lease (κs .0) (qs .0)) (List._∷_ (Row.lease (κs .1 .0) (qs .1 .0)) (List._∷_ (Row.lease (κs .1 .1 .0) (qs .1 .1 .0)) (List._∷_ (Row.lease (κs
-              .1 .1 .1 .0) (qs .1 .1 .1 .0)) (List._∷_ Row.off (List._∷_ Row.off (List._∷_ Row.off (List._∷_ Row.off List.[])))))));
+          locals = List._++_ t11 t44;
+          slots = List._∷_ (Row.lease (κs .0) (qs .0)) (List._∷_ (Row.lease (κs .1 .0) (qs .1 .0)) (List._∷_ (Row.lease (κs .1 .1 .0) (qs .1 .1 .0)) (List._∷_ (Row.lease
+              (κs .1 .1 .1 .0) (qs .1 .1 .1 .0)) (List._∷_ Row.off (List._∷_ Row.off (List._∷_ Row.off (List._∷_ Row.off List.[])))))));
         }
 
         abbrev G62 : Row.Cx
         G62 = record {
-          locals = List._++_ t43 t1;
+          locals = List._++_ t11 t1;
           slots = List._∷_ (Row.lease (κs .0) (qs .0)) (List._∷_ (Row.lease (κs .1 .0) (qs .1 .0)) (List._∷_ (Row.lease (κs .1 .1 .0) (qs .1 .1 .0)) (List._∷_ (Row.lease (κs
               .1 .1 .1 .0) (qs .1 .1 .1 .0)) (List._∷_ Row.off (List._∷_ Row.off (List._∷_ Row.off (List._∷_ Row.off List.[])))))));
         }
 
         abbrev G63 : Row.Cx
         G63 = record {
-          locals = List._++_ t44 t1;
+          locals = List._++_ t11 t1;
           slots = List._∷_ (Row.lease (κs .0) (qs .0)) (List._∷_ (Row.lease (κs .1 .0) (qs .1 .0)) (List._∷_ (Row.lease (κs .1 .1 .0) (qs .1 .1 .0)) (List._∷_ (Row.lease (κs
               .1 .1 .1 .0) (qs .1 .1 .1 .0)) (List._∷_ Row.off (List._∷_ Row.off (List._∷_ Row.off (List._∷_ Row.off List.[])))))));
         }
@@ -2182,6 +2286,20 @@ module _ (claims· : Claims) where
 
         abbrev G67 : Row.Cx
         G67 = record {
+          locals = List._++_ t48 t1;
+          slots = List._∷_ (Row.lease (κs .0) (qs .0)) (List._∷_ (Row.lease (κs .1 .0) (qs .1 .0)) (List._∷_ (Row.lease (κs .1 .1 .0) (qs .1 .1 .0)) (List._∷_ (Row.lease (κs
+              .1 .1 .1 .0) (qs .1 .1 .1 .0)) (List._∷_ Row.off (List._∷_ Row.off (List._∷_ Row.off (List._∷_ Row.off List.[])))))));
+        }
+
+        abbrev G68 : Row.Cx
+        G68 = record {
+          locals = List._++_ t49 t1;
+          slots = List._∷_ (Row.lease (κs .0) (qs .0)) (List._∷_ (Row.lease (κs .1 .0) (qs .1 .0)) (List._∷_ (Row.lease (κs .1 .1 .0) (qs .1 .1 .0)) (List._∷_ (Row.lease (κs
+              .1 .1 .1 .0) (qs .1 .1 .1 .0)) (List._∷_ Row.off (List._∷_ Row.off (List._∷_ Row.off (List._∷_ Row.off List.[])))))));
+        }
+
+        abbrev G69 : Row.Cx
+        G69 = record {
           locals = List._++_ t2 t1;
           slots = List._∷_ (Row.lease (κs .0) (qs .0)) (List._∷_ (Row.lease (κs .1 .0) (qs .1 .0)) (List._∷_ (Row.lease (κs .1 .1 .0) (qs .1 .1 .0)) (List._∷_ (Row.lease (κs
               .1 .1 .1 .0) (qs .1 .1 .1 .0)) (List._∷_ Row.off (List._∷_ Row.off (List._∷_ Row.off (List._∷_ Row.off List.[])))))));
@@ -2228,31 +2346,31 @@ module _ (claims· : Claims) where
               (Referent.fInt Syntax.w8)) 36 0 36 Path'.refl)) d4
 
           d6 : Typed.Typed 𝓤 H A 𝓣 E G19 b9 Δ4 at6
-          d6 = Typed.g-pre 𝓤 H A W 𝓣 E G19 G20 b9 Δ4 (Typed.pass T19 T20 s16) at5 (Scalar.g-room 𝓤 H A W E G19 3 y1 (Local.room-whole 𝓤 H A W (Declared'.row Rect.the-type) y1 Path'.refl)) d5
+          d6 = Typed.g-pre 𝓤 H A W 𝓣 E G19 G20 b9 Δ4 (Typed.pass T19 T20 s16) at5 (Scalar.g-room 𝓤 H A W E G19 3 y2 (Local.room-whole 𝓤 H A W (Declared'.row Rect.the-type) y2 Path'.refl)) d5
 
           d7 : Typed.Typed 𝓤 H A 𝓣 E G16 b9 Δ4 at7
-          d7 = Typed.g-pre 𝓤 H A W 𝓣 E G16 G19 b9 Δ4 (Typed.pass T16 T19 s15) at6 (Scalar.g-room 𝓤 H A W E G16 2 y3 (Local.room-whole 𝓤 H A W (Declared'.row FujiHeader.the-type) y3 Path'.refl)) d6
+          d7 = Typed.g-pre 𝓤 H A W 𝓣 E G16 G19 b9 Δ4 (Typed.pass T16 T19 s15) at6 (Scalar.g-room 𝓤 H A W E G16 2 y4 (Local.room-whole 𝓤 H A W (Declared'.row FujiHeader.the-type) y4 Path'.refl)) d6
 
           d8 : Typed.Typed 𝓤 H A 𝓣 E G16 b10 Δ4 at8
           d8 = Scalar.t-cond 𝓤 H A W E 𝓣 G16 21 (λ x. x) b8 b9 Δ4 at1 at7 (Scalar.reads-sc 𝓤 H A W Row.sBool) Path'.refl d1 d7
 
-          d9 : Typed.Typed 𝓤 H A 𝓣 E G60 b24 Δ3 at9
-          d9 = Typed.s-typed 𝓤 H A W 𝓣 E G60 b24 Δ3 (Typed.ask s57) tt (Scalar.t-op2 𝓤 H A W E 𝓣 G60 (Syntax.add Syntax.unsigned) (Scalar.oAt 14 (Syntax.tyInt Syntax.w64) (Row.valS (Row.sInt
+          d9 : Typed.Typed 𝓤 H A 𝓣 E G62 b25 Δ3 at9
+          d9 = Typed.s-typed 𝓤 H A W 𝓣 E G62 b25 Δ3 (Typed.ask s59) tt (Scalar.t-op2 𝓤 H A W E 𝓣 G62 (Syntax.add Syntax.unsigned) (Scalar.oAt 14 (Syntax.tyInt Syntax.w64) (Row.valS (Row.sInt
               Syntax.w64))) (Scalar.oInt Syntax.w64 1) 14 (Rows'.sc-here (Row.sInt Syntax.w64)) (Syntax.tyInt Syntax.w64) (Row.valS (Row.sInt Syntax.w64)) (Row.sInt Syntax.w64 .of)
               (Scalar.reads-sc 𝓤 H A W (Row.sInt Syntax.w64), Path'.refl) tt (Scalar.room-sc 𝓤 H A W (Row.sInt Syntax.w64)) (Scalar.holds-sc 𝓤 H A W (Row.sInt Syntax.w64)) Path'.refl (λ u. Path'.refl) λ
               u. tt)
 
-          d10 : Typed.Typed 𝓤 H A 𝓣 E G59 b24 Δ3 at10
-          d10 = Typed.g-pre 𝓤 H A W 𝓣 E G59 G60 b24 Δ3 (Typed.pass T59 T60 s56) at9 (Scalar.g-room 𝓤 H A W E G59 19 (Syntax.tyEnum (List._∷_ 98 (List._∷_ 108 (List._∷_ 111 (List._∷_ 99 (List._∷_ 107
-              (List._∷_ 58 (List._∷_ 58 (List._∷_ 87 (List._∷_ 97 (List._∷_ 108 (List._∷_ 107 (List._∷_ 101 (List._∷_ 100 List.[]))))))))))))) (Syntax.ttcons (Syntax.tcons y4 (Syntax.tcons y9
-              Syntax.tnil)) (Syntax.ttcons (Syntax.tcons (Syntax.tyInt Syntax.w64) (Syntax.tcons y4 Syntax.tnil)) Syntax.ttnil))) (Local.room-whole 𝓤 H A W (Declared.row Walked.the-type) (Syntax.tyEnum
+          d10 : Typed.Typed 𝓤 H A 𝓣 E G61 b25 Δ3 at10
+          d10 = Typed.g-pre 𝓤 H A W 𝓣 E G61 G62 b25 Δ3 (Typed.pass T61 T62 s58) at9 (Scalar.g-room 𝓤 H A W E G61 19 (Syntax.tyEnum (List._∷_ 98 (List._∷_ 108 (List._∷_ 111 (List._∷_ 99 (List._∷_ 107
+              (List._∷_ 58 (List._∷_ 58 (List._∷_ 87 (List._∷_ 97 (List._∷_ 108 (List._∷_ 107 (List._∷_ 101 (List._∷_ 100 List.[]))))))))))))) (Syntax.ttcons (Syntax.tcons y5 (Syntax.tcons y10
+              Syntax.tnil)) (Syntax.ttcons (Syntax.tcons (Syntax.tyInt Syntax.w64) (Syntax.tcons y5 Syntax.tnil)) Syntax.ttnil))) (Local.room-whole 𝓤 H A W (Declared.row Walked.the-type) (Syntax.tyEnum
               (List._∷_ 98 (List._∷_ 108 (List._∷_ 111 (List._∷_ 99 (List._∷_ 107 (List._∷_ 58 (List._∷_ 58 (List._∷_ 87 (List._∷_ 97 (List._∷_ 108 (List._∷_ 107 (List._∷_ 101 (List._∷_ 100
-              List.[]))))))))))))) (Syntax.ttcons (Syntax.tcons y4 (Syntax.tcons y9 Syntax.tnil)) (Syntax.ttcons (Syntax.tcons (Syntax.tyInt Syntax.w64) (Syntax.tcons y4 Syntax.tnil)) Syntax.ttnil)))
+              List.[]))))))))))))) (Syntax.ttcons (Syntax.tcons y5 (Syntax.tcons y10 Syntax.tnil)) (Syntax.ttcons (Syntax.tcons (Syntax.tyInt Syntax.w64) (Syntax.tcons y5 Syntax.tnil)) Syntax.ttnil)))
               Path'.refl)) d9
 
-          d11 : Typed.Typed 𝓤 H A 𝓣 E G58 b25 Δ3 at11
-          d11 = Typed.s-seq 𝓤 H A W 𝓣 E G58 G59 b23 b24 Δ3 (Typed.both s55) at10 (Plain.t-call-plain 𝓤 H A W 𝓣 0 ps·7 r·7 (claims· .14) (claims· .15) "block::decoding::judged" (known .7) E (λ pos β.
-              β) G58 (record { pos = 13; st = List.[]; d = 0; at = λ x. x }, (Num.vAt 14 λ x. x, (record { pos = 19; st = List.[]; d = 0; at = λ x. x }, tt))) 13 List.[] (Call.sub-id 𝓤 H A W (G58 .slots)) (
+          d11 : Typed.Typed 𝓤 H A 𝓣 E G60 b26 Δ3 at11
+          d11 = Typed.s-seq 𝓤 H A W 𝓣 E G60 G61 b24 b25 Δ3 (Typed.both s57) at10 (Plain.t-call-plain 𝓤 H A W 𝓣 0 ps·8 r·8 (claims· .16) (claims· .17) "block::decoding::judged" (known .8) E (λ pos β.
+              β) G60 (record { pos = 13; st = List.[]; d = 0; at = λ x. x }, (Num.vAt 14 λ x. x, (record { pos = 19; st = List.[]; d = 0; at = λ x. x }, tt))) 13 List.[] (Call.sub-id 𝓤 H A W (G60 .slots)) (
                 (
                   Yields.yields-copy 𝓤 H A W (λ ρ. Unit) (Declared.row Decoded.the-type) Path'.refl (Copies.cEnum Decoded.the-type Laws.the-laws Laws.the-copy .copy 𝓤 H A W) (Rows'.whole (Declared.row
                       Decoded.the-type)) (λ x. x) (λ x. x) (λ ρ told. Local.mem-whole 𝓤 H A W (Declared.row Decoded.the-type) ρ) λ ρ told. Local.whole-mem 𝓤 H A W (Declared.row Decoded.the-type) ρ,
@@ -2277,88 +2395,92 @@ module _ (claims· : Claims) where
               Syntax.w64) Syntax.tnil) (Syntax.ttcons (Syntax.tcons (Syntax.tyInt Syntax.w64) Syntax.tnil) (Syntax.ttcons Syntax.tnil (Syntax.ttcons (Syntax.tcons (Syntax.tyInt Syntax.w64) (Syntax.tcons
               (Syntax.tyInt Syntax.w64) Syntax.tnil)) (Syntax.ttcons (Syntax.tcons (Syntax.tyInt Syntax.w64) Syntax.tnil) (Syntax.ttcons Syntax.tnil (Syntax.ttcons Syntax.tnil (Syntax.ttcons (Syntax.tcons
               (Syntax.tyInt Syntax.w64) Syntax.tnil) (Syntax.ttcons (Syntax.tcons (Syntax.tyInt Syntax.w64) Syntax.tnil) (Syntax.ttcons (Syntax.tcons (Syntax.tyInt Syntax.w64) Syntax.tnil) (Syntax.ttcons
-              Syntax.tnil Syntax.ttnil)))))))))))))))))))))) Syntax.tnil) Syntax.ttnil))) Path'.refl) tt Path'.refl) d10
+              (Syntax.tcons (Syntax.tyInt Syntax.w64) (Syntax.tcons (Syntax.tyInt Syntax.w64) Syntax.tnil)) (Syntax.ttcons Syntax.tnil Syntax.ttnil))))))))))))))))))))))) Syntax.tnil) Syntax.ttnil)))
+              Path'.refl) tt Path'.refl) d10
 
-          d12 : Typed.Typed 𝓤 H A 𝓣 E G57 b25 Δ3 at12
-          d12 = Typed.g-pre 𝓤 H A W 𝓣 E G57 G58 b25 Δ3 (λ Ψ. Ψ) at11 (Lifetime.g-forget 𝓤 H A W E G57 7 Row.dead Path'.refl) d11
+          d12 : Typed.Typed 𝓤 H A 𝓣 E G59 b26 Δ3 at12
+          d12 = Typed.g-pre 𝓤 H A W 𝓣 E G59 G60 b26 Δ3 (λ Ψ. Ψ) at11 (Lifetime.g-forget 𝓤 H A W E G59 7 Row.dead Path'.refl) d11
 
-          d13 : Typed.Typed 𝓤 H A 𝓣 E G56 b25 Δ3 at13
-          d13 = Typed.g-pre 𝓤 H A W 𝓣 E G56 G57 b25 Δ3 (Typed.pass T54 T57 s53) at12 (Local.g-back-shr 𝓤 H A W E G56 12 7 (Rows.arrF (Referent.rtF (Referent.fInt Syntax.w16)) 768 0) (Array'.Array
+          d13 : Typed.Typed 𝓤 H A 𝓣 E G58 b26 Δ3 at13
+          d13 = Typed.g-pre 𝓤 H A W 𝓣 E G58 G59 b26 Δ3 (Typed.pass T56 T59 s55) at12 (Local.g-back-shr 𝓤 H A W E G58 12 7 (Rows.arrF (Referent.rtF (Referent.fInt Syntax.w16)) 768 0) (Array'.Array
               (Referent.rtF (Referent.fInt Syntax.w16)) 768) (λ x. x) (λ x. x) (Reads'.as-is 𝓤 H A (Rows'.sc-shr (Rows.arrF (Referent.rtF (Referent.fInt Syntax.w16)) 768 0) (Array'.Array (Referent.rtF
               (Referent.fInt Syntax.w16)) 768) (λ x. x) 7)) (Local.home-of 𝓤 H A (Rows.arrF (Referent.rtF (Referent.fInt Syntax.w16)) 768 0) (Array'.Array (Referent.rtF (Referent.fInt Syntax.w16)) 768) (λ
               x. x) (λ x. x) (Whole.arr-mem 𝓤 H A W (Referent.rtF (Referent.fInt Syntax.w16)) 768 tt) λ x k. Path'.refl) Path'.refl) d12
 
-          d14 : Typed.Typed 𝓤 H A 𝓣 E G55 b25 Δ3 at14
-          d14 = Typed.g-pre 𝓤 H A W 𝓣 E G55 G56 b25 Δ3 (λ Ψ. Ψ) at13 (Lifetime.g-end 𝓤 H A W E G55 7 Path'.refl) d13
+          d14 : Typed.Typed 𝓤 H A 𝓣 E G57 b26 Δ3 at14
+          d14 = Typed.g-pre 𝓤 H A W 𝓣 E G57 G58 b26 Δ3 (λ Ψ. Ψ) at13 (Lifetime.g-end 𝓤 H A W E G57 7 Path'.refl) d13
 
-          d15 : Typed.Typed 𝓤 H A 𝓣 E G54 b25 Δ3 at15
-          d15 = Typed.g-pre 𝓤 H A W 𝓣 E G54 G55 b25 Δ3 (λ Ψ. Ψ) at14 (Lifetime.g-forget 𝓤 H A W E G54 6 Row.dead Path'.refl) d14
+          d15 : Typed.Typed 𝓤 H A 𝓣 E G56 b26 Δ3 at15
+          d15 = Typed.g-pre 𝓤 H A W 𝓣 E G56 G57 b26 Δ3 (λ Ψ. Ψ) at14 (Lifetime.g-forget 𝓤 H A W E G56 6 Row.dead Path'.refl) d14
 
-          d16 : Typed.Typed 𝓤 H A 𝓣 E G53 b25 Δ3 at16
-          d16 = Typed.g-pre 𝓤 H A W 𝓣 E G53 G54 b25 Δ3 (Typed.give s50) at15 (Know.g-sl-known 𝓤 H A W (Referent.fInt Syntax.w16) E G53 5 1 (Syntax.tyRef (Syntax.named 1) Syntax.mut (Syntax.tyInt
+          d16 : Typed.Typed 𝓤 H A 𝓣 E G55 b26 Δ3 at16
+          d16 = Typed.g-pre 𝓤 H A W 𝓣 E G55 G56 b26 Δ3 (Typed.give s52) at15 (Know.g-sl-known 𝓤 H A W (Referent.fInt Syntax.w16) E G55 5 1 (Syntax.tyRef (Syntax.named 1) Syntax.mut (Syntax.tyInt
               Syntax.w16)) (Row.lease (κs .1 .0) (qs .1 .0)) 0 (λ x. x) record { fits = Dec'.lit< tt } (Reads'.as-is 𝓤 H A (Mut.mslice (Referent.rtF (Referent.fInt Syntax.w16)) (Syntax.tyRef (Syntax.named
               1) Syntax.mut (Syntax.tyInt Syntax.w16)) 1)) Path'.refl tt) d15
 
-          d17 : Typed.Typed 𝓤 H A 𝓣 E G52 b25 Δ3 at17
-          d17 = Typed.g-pre 𝓤 H A W 𝓣 E G52 G53 b25 Δ3 (Typed.both s49) at16 (Relend.g-back-sl 𝓤 H A W E (Referent.rtF (Referent.fInt Syntax.w16)) G52 27 5 1 6 (Syntax.tyRef (Syntax.named 1)
+          d17 : Typed.Typed 𝓤 H A 𝓣 E G54 b26 Δ3 at17
+          d17 = Typed.g-pre 𝓤 H A W 𝓣 E G54 G55 b26 Δ3 (Typed.both s51) at16 (Relend.g-back-sl 𝓤 H A W E (Referent.rtF (Referent.fInt Syntax.w16)) G54 27 5 1 6 (Syntax.tyRef (Syntax.named 1)
               Syntax.mut (Syntax.tyInt Syntax.w16)) (Syntax.tyRef Syntax.erased Syntax.mut (Syntax.tyInt Syntax.w16)) (Row.lease (κs .1 .0) (qs .1 .0)) (λ x. x) (λ x. x) (Reads'.as-is 𝓤 H A (Mut.msleft
               (Referent.rtF (Referent.fInt Syntax.w16)) (Syntax.tyRef Syntax.erased Syntax.mut (Syntax.tyInt Syntax.w16)))) (Reads'.as-is 𝓤 H A (Relend.mslice-owed (Referent.rtF (Referent.fInt
               Syntax.w16)) (Syntax.tyRef (Syntax.named 1) Syntax.mut (Syntax.tyInt Syntax.w16)) 1 6 (Row.lease (κs .1 .0) (qs .1 .0)))) Path'.refl Path'.refl) d16
 
-          d18 : Typed.Typed 𝓤 H A 𝓣 E G51 b25 Δ3 at18
-          d18 = Typed.g-pre 𝓤 H A W 𝓣 E G51 G52 b25 Δ3 (λ Ψ. Ψ) at17 (Lifetime.g-end 𝓤 H A W E G51 6 Path'.refl) d17
+          d18 : Typed.Typed 𝓤 H A 𝓣 E G53 b26 Δ3 at18
+          d18 = Typed.g-pre 𝓤 H A W 𝓣 E G53 G54 b26 Δ3 (λ Ψ. Ψ) at17 (Lifetime.g-end 𝓤 H A W E G53 6 Path'.refl) d17
 
-          d19 : Typed.Typed 𝓤 H A 𝓣 E G50 b25 Δ3 at19
-          d19 = Typed.g-pre 𝓤 H A W 𝓣 E G50 G51 b25 Δ3 (λ Ψ. Ψ) at18 (Lifetime.g-forget 𝓤 H A W E G50 5 Row.dead Path'.refl) d18
+          d19 : Typed.Typed 𝓤 H A 𝓣 E G52 b26 Δ3 at19
+          d19 = Typed.g-pre 𝓤 H A W 𝓣 E G52 G53 b26 Δ3 (λ Ψ. Ψ) at18 (Lifetime.g-forget 𝓤 H A W E G52 5 Row.dead Path'.refl) d18
 
-          d20 : Typed.Typed 𝓤 H A 𝓣 E G49 b25 Δ3 at20
-          d20 = Typed.g-pre 𝓤 H A W 𝓣 E G49 G50 b25 Δ3 (Typed.both s46) at19 (Relend.g-back-sl 𝓤 H A W E (Element.type) G49 25 7 3 5 (Syntax.tyRef (Syntax.named 3) Syntax.mut Element.behind)
+          d20 : Typed.Typed 𝓤 H A 𝓣 E G51 b26 Δ3 at20
+          d20 = Typed.g-pre 𝓤 H A W 𝓣 E G51 G52 b26 Δ3 (Typed.both s48) at19 (Relend.g-back-sl 𝓤 H A W E (Element.type) G51 25 7 3 5 (Syntax.tyRef (Syntax.named 3) Syntax.mut Element.behind)
               (Syntax.tyRef Syntax.erased Syntax.mut Element.behind) (Row.lease (κs .1 .1 .1 .0) (qs .1 .1 .1 .0)) (λ x. x) (λ x. x) (Reads'.as-is 𝓤 H A (Mut.msleft (Element.type) (Syntax.tyRef
               Syntax.erased Syntax.mut Element.behind))) (Reads'.as-is 𝓤 H A (Relend.mslice-owed (Element.type) (Syntax.tyRef (Syntax.named 3) Syntax.mut Element.behind) 3 5 (Row.lease (κs .1 .1 .1 .0)
               (qs .1 .1 .1 .0)))) Path'.refl Path'.refl) d19
 
-          d21 : Typed.Typed 𝓤 H A 𝓣 E G48 b25 Δ3 at21
-          d21 = Typed.g-pre 𝓤 H A W 𝓣 E G48 G49 b25 Δ3 (λ Ψ. Ψ) at20 (Lifetime.g-end 𝓤 H A W E G48 5 Path'.refl) d20
+          d21 : Typed.Typed 𝓤 H A 𝓣 E G50 b26 Δ3 at21
+          d21 = Typed.g-pre 𝓤 H A W 𝓣 E G50 G51 b26 Δ3 (λ Ψ. Ψ) at20 (Lifetime.g-end 𝓤 H A W E G50 5 Path'.refl) d20
 
-          d22 : Typed.Typed 𝓤 H A 𝓣 E G47 b25 Δ3 at22
-          d22 = Typed.g-pre 𝓤 H A W 𝓣 E G47 G48 b25 Δ3 (λ Ψ. Ψ) at21 (Lifetime.g-forget 𝓤 H A W E G47 4 Row.dead Path'.refl) d21
+          d22 : Typed.Typed 𝓤 H A 𝓣 E G49 b26 Δ3 at22
+          d22 = Typed.g-pre 𝓤 H A W 𝓣 E G49 G50 b26 Δ3 (λ Ψ. Ψ) at21 (Lifetime.g-forget 𝓤 H A W E G49 4 Row.dead Path'.refl) d21
 
-          d23 : Typed.Typed 𝓤 H A 𝓣 E G46 b25 Δ3 at23
-          d23 = Typed.g-pre 𝓤 H A W 𝓣 E G46 G47 b25 Δ3 (Typed.give s43) at22 (Know.g-sl-known 𝓤 H A W (Referent.fInt Syntax.w16) E G46 6 2 (Syntax.tyRef (Syntax.named 2) Syntax.mut (Syntax.tyInt
+          d23 : Typed.Typed 𝓤 H A 𝓣 E G48 b26 Δ3 at23
+          d23 = Typed.g-pre 𝓤 H A W 𝓣 E G48 G49 b26 Δ3 (Typed.give s45) at22 (Know.g-sl-known 𝓤 H A W (Referent.fInt Syntax.w16) E G48 6 2 (Syntax.tyRef (Syntax.named 2) Syntax.mut (Syntax.tyInt
               Syntax.w16)) (Row.lease (κs .1 .1 .0) (qs .1 .1 .0)) 0 (λ x. x) record { fits = Dec'.lit< tt } (Reads'.as-is 𝓤 H A (Mut.mslice (Referent.rtF (Referent.fInt Syntax.w16)) (Syntax.tyRef
               (Syntax.named 2) Syntax.mut (Syntax.tyInt Syntax.w16)) 2)) Path'.refl tt) d22
 
-          d24 : Typed.Typed 𝓤 H A 𝓣 E G45 b25 Δ3 at24
-          d24 = Typed.g-pre 𝓤 H A W 𝓣 E G45 G46 b25 Δ3 (Typed.both s42) at23 (Relend.g-back-sl 𝓤 H A W E (Referent.rtF (Referent.fInt Syntax.w16)) G45 23 6 2 4 (Syntax.tyRef (Syntax.named 2)
+          d24 : Typed.Typed 𝓤 H A 𝓣 E G47 b26 Δ3 at24
+          d24 = Typed.g-pre 𝓤 H A W 𝓣 E G47 G48 b26 Δ3 (Typed.both s44) at23 (Relend.g-back-sl 𝓤 H A W E (Referent.rtF (Referent.fInt Syntax.w16)) G47 23 6 2 4 (Syntax.tyRef (Syntax.named 2)
               Syntax.mut (Syntax.tyInt Syntax.w16)) (Syntax.tyRef Syntax.erased Syntax.mut (Syntax.tyInt Syntax.w16)) (Row.lease (κs .1 .1 .0) (qs .1 .1 .0)) (λ x. x) (λ x. x) (Reads'.as-is 𝓤 H A
               (Mut.msleft (Referent.rtF (Referent.fInt Syntax.w16)) (Syntax.tyRef Syntax.erased Syntax.mut (Syntax.tyInt Syntax.w16)))) (Reads'.as-is 𝓤 H A (Relend.mslice-owed (Referent.rtF (Referent.fInt
               Syntax.w16)) (Syntax.tyRef (Syntax.named 2) Syntax.mut (Syntax.tyInt Syntax.w16)) 2 4 (Row.lease (κs .1 .1 .0) (qs .1 .1 .0)))) Path'.refl Path'.refl) d23
 
-          d25 : Typed.Typed 𝓤 H A 𝓣 E G44 b25 Δ3 at25
-          d25 = Typed.g-pre 𝓤 H A W 𝓣 E G44 G45 b25 Δ3 (λ Ψ. Ψ) at24 (Lifetime.g-end 𝓤 H A W E G44 4 Path'.refl) d24
+          d25 : Typed.Typed 𝓤 H A 𝓣 E G46 b26 Δ3 at25
+          d25 = Typed.g-pre 𝓤 H A W 𝓣 E G46 G47 b26 Δ3 (λ Ψ. Ψ) at24 (Lifetime.g-end 𝓤 H A W E G46 4 Path'.refl) d24
 
-          d26 : Typed.Typed 𝓤 H A 𝓣 E G43 b25 Δ3 at26
-          d26 = Typed.g-pre 𝓤 H A W 𝓣 E G43 G44 b25 Δ3 (Typed.pass T43 T44 s40) at25 (Scalar.g-room 𝓤 H A W E G43 18 y0 (Local.room-whole 𝓤 H A W (Declared'.row Part.the-type) y0 Path'.refl)) d25
+          d26 : Typed.Typed 𝓤 H A 𝓣 E G45 b26 Δ3 at26
+          d26 = Typed.g-pre 𝓤 H A W 𝓣 E G45 G46 b26 Δ3 (Typed.pass T45 T46 s42) at25 (Scalar.g-room 𝓤 H A W E G45 29 y12 (Local.room-whole 𝓤 H A W (Declared'.row Entries.the-type) y12 Path'.refl)) d25
 
-          d27 : Typed.Typed 𝓤 H A 𝓣 E G42 b25 Δ3 at27
-          d27 = Typed.g-pre 𝓤 H A W 𝓣 E G42 G43 b25 Δ3 (Typed.pass T42 T43 s39) at26 (Scalar.g-room 𝓤 H A W E G42 15 y8 (Local.room-whole 𝓤 H A W (Declared'.row Form.the-type) y8 Path'.refl)) d26
+          d27 : Typed.Typed 𝓤 H A 𝓣 E G44 b26 Δ3 at27
+          d27 = Typed.g-pre 𝓤 H A W 𝓣 E G44 G45 b26 Δ3 (Typed.pass T44 T45 s41) at26 (Scalar.g-room 𝓤 H A W E G44 18 y0 (Local.room-whole 𝓤 H A W (Declared'.row Part.the-type) y0 Path'.refl)) d26
 
-          d28 : Typed.Typed 𝓤 H A 𝓣 E G41 b25 Δ3 at28
-          d28 = Typed.g-pre 𝓤 H A W 𝓣 E G41 G42 b25 Δ3 (Typed.pass T41 T42 s38) at27 (Local.g-drop-sref 𝓤 H A W E G41 28 7 (Array'.Array (Referent.rtF (Referent.fInt Syntax.w16)) 768) (Syntax.tyRef
+          d28 : Typed.Typed 𝓤 H A 𝓣 E G43 b26 Δ3 at28
+          d28 = Typed.g-pre 𝓤 H A W 𝓣 E G43 G44 b26 Δ3 (Typed.pass T43 T44 s40) at27 (Scalar.g-room 𝓤 H A W E G43 15 y9 (Local.room-whole 𝓤 H A W (Declared'.row Form.the-type) y9 Path'.refl)) d27
+
+          d29 : Typed.Typed 𝓤 H A 𝓣 E G42 b26 Δ3 at29
+          d29 = Typed.g-pre 𝓤 H A W 𝓣 E G42 G43 b26 Δ3 (Typed.pass T42 T43 s39) at28 (Local.g-drop-sref 𝓤 H A W E G42 28 7 (Array'.Array (Referent.rtF (Referent.fInt Syntax.w16)) 768) (Syntax.tyRef
               Syntax.erased Syntax.imm (Syntax.tyArray (Syntax.tyInt Syntax.w16) 768)) (λ x. x) (Reads'.as-is 𝓤 H A (Rows'.sref (Array'.Array (Referent.rtF (Referent.fInt Syntax.w16)) 768) (Syntax.tyRef
-              Syntax.erased Syntax.imm (Syntax.tyArray (Syntax.tyInt Syntax.w16) 768)) 7))) d27
+              Syntax.erased Syntax.imm (Syntax.tyArray (Syntax.tyInt Syntax.w16) 768)) 7))) d28
 
-          d29 : Typed.Typed 𝓤 H A 𝓣 E G40 b25 Δ3 at29
-          d29 = Typed.g-pre 𝓤 H A W 𝓣 E G40 G41 b25 Δ3 (Typed.pass T40 T41 s37) at28 (Scalar.g-room 𝓤 H A W E G40 17 y5 (Shared.room-sslice 𝓤 H A W (Referent.rtF (Referent.fInt Syntax.w8))
-              (Syntax.tyRef Syntax.erased Syntax.imm (Syntax.tyInt Syntax.w8)) 0)) d28
-
-          d30 : Typed.Typed 𝓤 H A 𝓣 E G39 b25 Δ3 at30
-          d30 = Typed.g-pre 𝓤 H A W 𝓣 E G39 G40 b25 Δ3 (Typed.pass T39 T40 s36) at29 (Scalar.g-room 𝓤 H A W E G39 16 y5 (Shared.room-sslice 𝓤 H A W (Referent.rtF (Referent.fInt Syntax.w8))
+          d30 : Typed.Typed 𝓤 H A 𝓣 E G41 b26 Δ3 at30
+          d30 = Typed.g-pre 𝓤 H A W 𝓣 E G41 G42 b26 Δ3 (Typed.pass T41 T42 s38) at29 (Scalar.g-room 𝓤 H A W E G41 17 y6 (Shared.room-sslice 𝓤 H A W (Referent.rtF (Referent.fInt Syntax.w8))
               (Syntax.tyRef Syntax.erased Syntax.imm (Syntax.tyInt Syntax.w8)) 0)) d29
 
-          d31 : Typed.Typed 𝓤 H A 𝓣 E G38 b26 Δ3 at31
-          d31 = Typed.s-seq 𝓤 H A W 𝓣 E G38 G39 b22 b25 Δ3 (Typed.both s35) at30 (Plain.t-call-plain 𝓤 H A W 𝓣 6 ps·6 r·6 (claims· .12) (claims· .13) "block::reading::walk" (known .6) E (λ pos β. β)
-              G38 (
+          d31 : Typed.Typed 𝓤 H A 𝓣 E G40 b26 Δ3 at31
+          d31 = Typed.g-pre 𝓤 H A W 𝓣 E G40 G41 b26 Δ3 (Typed.pass T40 T41 s37) at30 (Scalar.g-room 𝓤 H A W E G40 16 y6 (Shared.room-sslice 𝓤 H A W (Referent.rtF (Referent.fInt Syntax.w8))
+              (Syntax.tyRef Syntax.erased Syntax.imm (Syntax.tyInt Syntax.w8)) 0)) d30
+
+          d32 : Typed.Typed 𝓤 H A 𝓣 E G39 b27 Δ3 at32
+          d32 = Typed.s-seq 𝓤 H A W 𝓣 E G39 G40 b23 b26 Δ3 (Typed.both s36) at31 (Plain.t-call-plain 𝓤 H A W 𝓣 6 ps·7 r·7 (claims· .14) (claims· .15) "block::reading::walk" (known .7) E (λ pos β. β)
+              G39 (
                 record { pos = 16; ty = Syntax.tyRef Syntax.erased Syntax.imm (Syntax.tyInt Syntax.w8); ref = λ x. x },
                 (
                   record { pos = 17; ty = Syntax.tyRef Syntax.erased Syntax.imm (Syntax.tyInt Syntax.w8); ref = λ x. x },
@@ -2372,15 +2494,18 @@ module _ (claims· : Claims) where
                           record { pos = 15; st = List.[]; d = 0; at = λ x. x },
                           (
                             record { pos = 28; ty = Syntax.tyRef Syntax.erased Syntax.imm (Syntax.tyArray (Syntax.tyInt Syntax.w16) 768); ref = λ x. x },
-                            (record { pos = 4; st = List.[]; d = 0; at = λ x. x }, (record { pos = 18; st = List.[]; d = 0; at = λ x. x }, (Num.vAt 10 λ x. x, (Bool.bAt 8 λ x. x, tt)))),
+                            (
+                              record { pos = 4; st = List.[]; d = 0; at = λ x. x },
+                              (record { pos = 18; st = List.[]; d = 0; at = λ x. x }, (Num.vAt 10 λ x. x, (Bool.bAt 8 λ x. x, (record { pos = 29; st = List.[]; d = 0; at = λ x. x }, tt)))),
+                            ),
                           ),
                         ),
                       ),
                     ),
                   ),
                 ),
-              ) 19 (List._∷_ 0 (List._∷_
-              0 (List._∷_ 4 (List._∷_ 5 (List._∷_ 6 (List._∷_ 7 List.[])))))) (Call.sub-id 𝓤 H A W (G38 .slots)) (
+              ) 19 (List._∷_ 0
+              (List._∷_ 0 (List._∷_ 4 (List._∷_ 5 (List._∷_ 6 (List._∷_ 7 List.[])))))) (Call.sub-id 𝓤 H A W (G39 .slots)) (
                 ShrSlice.spares-sslice 𝓤 H A W (Referent.rtF (Referent.fInt Syntax.w8)) (Syntax.tyRef Syntax.erased Syntax.imm (Syntax.tyInt Syntax.w8)) 0,
                 Shared.reads-sslice 𝓤 H A W (Referent.rtF
                     (Referent.fInt Syntax.w8)) (Syntax.tyRef Syntax.erased Syntax.imm (Syntax.tyInt Syntax.w8)) 0,
@@ -2419,11 +2544,25 @@ module _ (claims· : Claims) where
                               (Array.arr-yields 𝓤 H A W (Array.eInt Syntax.w8) (Array.eInt-laws Syntax.w8) 36, Path'.refl),
                               (
                                 (
-                                  Yields.yields-copy 𝓤 H A W (λ ρ. Unit) (Declared'.row Part.the-type) Path'.refl (Copies.cStruct Part.the-type Laws'3.the-laws Laws'3.the-copy .copy 𝓤 H A W) (Rows'.whole (Declared'.row
+                                  Yields.yields-copy 𝓤 H A W (λ ρ. Unit) (Declared'.row Part.the-type) Path'.refl (Copies.cStruct Part.the-type Laws'4.the-laws Laws'4.the-copy .copy 𝓤 H A W) (Rows'.whole (Declared'.row
                                       Part.the-type)) (λ x. x) (λ x. x) (λ ρ told. Local.mem-whole 𝓤 H A W (Declared'.row Part.the-type) ρ) λ ρ told. Local.whole-mem 𝓤 H A W (Declared'.row Part.the-type) ρ,
                                   Path'.refl,
                                 ),
-                                ((Scalar.reads-sc 𝓤 H A W (Row.sInt Syntax.w64), Path'.refl), ((Scalar.reads-sc 𝓤 H A W Row.sBool, Path'.refl), tt)),
+                                (
+                                  (Scalar.reads-sc 𝓤 H A W (Row.sInt Syntax.w64), Path'.refl),
+                                  (
+                                    (Scalar.reads-sc 𝓤 H A W Row.sBool, Path'.refl),
+                                    (
+                                      (
+                                        Yields.yields-copy 𝓤 H A W (λ ρ. Unit) (Declared'.row Entries.the-type) Path'.refl (Copies.cStruct Entries.the-type Laws'3.the-laws Laws'3.the-copy .copy 𝓤 H A W) (Rows'.whole
+                                            (Declared'.row Entries.the-type)) (λ x. x) (λ x. x) (λ ρ told. Local.mem-whole 𝓤 H A W (Declared'.row Entries.the-type) ρ) λ ρ told. Local.whole-mem 𝓤 H A W (Declared'.row Entries.the-type)
+                                            ρ,
+                                        Path'.refl,
+                                      ),
+                                      tt,
+                                    ),
+                                  ),
+                                ),
                               ),
                             ),
                           ),
@@ -2432,93 +2571,104 @@ module _ (claims· : Claims) where
                     ),
                   ),
                 ),
-              ) (Reads'.room-gone 𝓤 H A (Syntax.tyEnum (List._∷_ 98 (List._∷_
-              108 (List._∷_ 111 (List._∷_ 99 (List._∷_ 107 (List._∷_ 58 (List._∷_ 58 (List._∷_ 87 (List._∷_ 97 (List._∷_ 108 (List._∷_ 107 (List._∷_ 101 (List._∷_ 100 List.[]))))))))))))) (Syntax.ttcons
-              (Syntax.tcons y4 (Syntax.tcons y9 Syntax.tnil)) (Syntax.ttcons (Syntax.tcons (Syntax.tyInt Syntax.w64) (Syntax.tcons y4 Syntax.tnil)) Syntax.ttnil)))) (tt, (tt, (tt, (tt, (tt, (tt, tt))))))
-              Path'.refl) d30
+              ) (Reads'.room-gone 𝓤 H A (Syntax.tyEnum (List._∷_ 98 (List._∷_ 108 (List._∷_ 111 (List._∷_ 99 (List._∷_ 107 (List._∷_ 58 (List._∷_ 58 (List._∷_ 87 (List._∷_ 97
+              (List._∷_ 108 (List._∷_ 107 (List._∷_ 101 (List._∷_ 100 List.[]))))))))))))) (Syntax.ttcons (Syntax.tcons y5 (Syntax.tcons y10 Syntax.tnil)) (Syntax.ttcons (Syntax.tcons (Syntax.tyInt
+              Syntax.w64) (Syntax.tcons y5 Syntax.tnil)) Syntax.ttnil)))) (tt, (tt, (tt, (tt, (tt, (tt, tt)))))) Path'.refl) d31
 
-          d32 : Typed.Typed 𝓤 H A 𝓣 E G37 b27 Δ3 at32
-          d32 = Typed.s-seq 𝓤 H A W 𝓣 E G37 G38 b21 b26 Δ3 (Typed.give s34) at31 (Local.t-sc-share 𝓤 H A W E 𝓣 G37 12 28 7 (Array'.Array (Referent.rtF (Referent.fInt Syntax.w16)) 768) (Syntax.tyRef
+          d33 : Typed.Typed 𝓤 H A 𝓣 E G38 b28 Δ3 at33
+          d33 = Typed.s-seq 𝓤 H A W 𝓣 E G38 G39 b22 b27 Δ3 (Typed.both s35) at32 (Plain.t-call-plain 𝓤 H A W 𝓣 0 ps·6 r·6 (claims· .12) (claims· .13) "cameras::no_entries" (known .6) E (λ pos β. β)
+              G38 tt 29 List.[] (Call.sub-id 𝓤 H A W (G38 .slots)) tt (Reads'.room-gone 𝓤 H A y12) tt Path'.refl) d32
+
+          d34 : Typed.Typed 𝓤 H A 𝓣 E G37 b29 Δ3 at34
+          d34 = Typed.s-seq 𝓤 H A W 𝓣 E G37 G38 b21 b28 Δ3 (Typed.give s34) at33 (Local.t-sc-share 𝓤 H A W E 𝓣 G37 12 28 7 (Array'.Array (Referent.rtF (Referent.fInt Syntax.w16)) 768) (Syntax.tyRef
               Syntax.erased Syntax.imm (Syntax.tyArray (Syntax.tyInt Syntax.w16) 768)) (λ x. x) (Whole.mem-arr 𝓤 H A W (Referent.rtF (Referent.fInt Syntax.w16)) 768) (Reads'.room-gone 𝓤 H A (Syntax.tyRef
-              Syntax.erased Syntax.imm (Syntax.tyArray (Syntax.tyInt Syntax.w16) 768))) Path'.refl λ b o. tt) d31
+              Syntax.erased Syntax.imm (Syntax.tyArray (Syntax.tyInt Syntax.w16) 768))) Path'.refl λ b o. tt) d33
 
-          d33 : Typed.Typed 𝓤 H A 𝓣 E G36 b27 Δ3 at33
-          d33 = Typed.g-pre 𝓤 H A W 𝓣 E G36 G37 b27 Δ3 (λ Ψ. Ψ) at32 (Lifetime.g-begin 𝓤 H A W E G36 7 (
+          d35 : Typed.Typed 𝓤 H A 𝓣 E G36 b29 Δ3 at35
+          d35 = Typed.g-pre 𝓤 H A W 𝓣 E G36 G37 b29 Δ3 (λ Ψ. Ψ) at34 (Lifetime.g-begin 𝓤 H A W E G36 7 (
             tt,
-            (tt, (tt, (tt, (tt, ((tt, tt), ((tt, tt), ((tt, tt), (tt, (tt, (tt, (tt, (tt, (tt, (tt, (tt, (tt, (tt, (tt, (tt, (tt, (tt, (tt, (tt, (tt, (tt, (tt, (tt, (tt, tt)))))))))))))))))))))))))))),
-          ))
-              d32
+            (
+              tt,
+              (
+                tt,
+                (tt, (tt, ((tt, tt), ((tt, tt), ((tt, tt), (tt, (tt, (tt, (tt, (tt, (tt, (tt, (tt, (tt, (tt, (tt, (tt, (tt, (tt, (tt, (tt, (tt, (tt, (tt, (tt, (tt, (tt, tt))))))))))))))))))))))))))),
+              ),
+            ),
+          )) d34
 
-          d34 : Typed.Typed 𝓤 H A 𝓣 E G35 b28 Δ3 at34
-          d34 = Typed.s-seq 𝓤 H A W 𝓣 E G35 G36 b20 b27 Δ3 (Typed.ask s32) at33 (Relend.t-sl-aggregate 𝓤 H A W E (Referent.rtF (Referent.fInt Syntax.w16)) 𝓣 (Relend.asMut (Referent.rtF (Referent.fInt
+          d36 : Typed.Typed 𝓤 H A 𝓣 E G35 b30 Δ3 at36
+          d36 = Typed.s-seq 𝓤 H A W 𝓣 E G35 G36 b20 b29 Δ3 (Typed.ask s32) at35 (Relend.t-sl-aggregate 𝓤 H A W E (Referent.rtF (Referent.fInt Syntax.w16)) 𝓣 (Relend.asMut (Referent.rtF (Referent.fInt
               Syntax.w16))) G35 26 27 6 (Syntax.tyRef Syntax.erased Syntax.mut (Syntax.tyInt Syntax.w16)) (Syntax.tyRef Syntax.erased Syntax.mut (Syntax.tyInt Syntax.w16)) (λ x. x) (Scalar.oFld 5
               (List._∷_ (Syntax.field 1) List.[]) (Syntax.tyInt Syntax.w64) 8 λ v. Shared.lenV (v .0)) (Reads'.as-is 𝓤 H A (Relend.msptr (Referent.rtF (Referent.fInt Syntax.w16)) (Syntax.tyRef
-              Syntax.erased Syntax.mut (Syntax.tyInt Syntax.w16)) 6)) (Reads'.room-gone 𝓤 H A y6) (
+              Syntax.erased Syntax.mut (Syntax.tyInt Syntax.w16)) 6)) (Reads'.room-gone 𝓤 H A y7) (
                 Relend.reads-owed-len 𝓤 H A W (Referent.rtF (Referent.fInt Syntax.w16)) (Syntax.tyRef (Syntax.named 1) Syntax.mut (Syntax.tyInt Syntax.w16)) 1 6 (Row.lease (κs .1 .0) (qs .1 .0)) 8
                     Path'.refl,
                 Path'.refl,
-              ) Path'.refl Path'.refl λ b o k. tt) d33
+              ) Path'.refl Path'.refl λ b o k. tt) d35
 
-          d35 : Typed.Typed 𝓤 H A 𝓣 E G34 b29 Δ3 at35
-          d35 = Typed.s-seq 𝓤 H A W 𝓣 E G34 G35 b19 b28 Δ3 (Typed.give s31) at34 (Relend.t-sl-relend 𝓤 H A W E (Referent.rtF (Referent.fInt Syntax.w16)) 𝓣 G34 5 26 1 6 (Syntax.tyRef (Syntax.named 1)
+          d37 : Typed.Typed 𝓤 H A 𝓣 E G34 b31 Δ3 at37
+          d37 = Typed.s-seq 𝓤 H A W 𝓣 E G34 G35 b19 b30 Δ3 (Typed.give s31) at36 (Relend.t-sl-relend 𝓤 H A W E (Referent.rtF (Referent.fInt Syntax.w16)) 𝓣 G34 5 26 1 6 (Syntax.tyRef (Syntax.named 1)
               Syntax.mut (Syntax.tyInt Syntax.w16)) (Syntax.tyRef Syntax.erased Syntax.mut (Syntax.tyInt Syntax.w16)) (Row.lease (κs .1 .0) (qs .1 .0)) 0 (λ x. x) (Reads'.as-is 𝓤 H A (Mut.mslice
               (Referent.rtF (Referent.fInt Syntax.w16)) (Syntax.tyRef (Syntax.named 1) Syntax.mut (Syntax.tyInt Syntax.w16)) 1)) (Reads'.room-gone 𝓤 H A (Syntax.tyRef Syntax.erased Syntax.mut
-              (Syntax.tyInt Syntax.w16))) Path'.refl tt Path'.refl Path'.refl Path'.refl λ b o. tt) d34
+              (Syntax.tyInt Syntax.w16))) Path'.refl tt Path'.refl Path'.refl Path'.refl λ b o. tt) d36
 
-          d36 : Typed.Typed 𝓤 H A 𝓣 E G33 b29 Δ3 at36
-          d36 = Typed.g-pre 𝓤 H A W 𝓣 E G33 G34 b29 Δ3 (λ Ψ. Ψ) at35 (Lifetime.g-begin 𝓤 H A W E G33 6
-              (tt, (tt, (tt, (tt, (tt, (tt, ((tt, tt), ((tt, tt), (tt, (tt, (tt, (tt, (tt, (tt, (tt, (tt, (tt, (tt, (tt, (tt, (tt, (tt, (tt, (tt, (tt, (tt, (tt, (tt, (tt, tt))))))))))))))))))))))))))))))
-              d35
+          d38 : Typed.Typed 𝓤 H A 𝓣 E G33 b31 Δ3 at38
+          d38 = Typed.g-pre 𝓤 H A W 𝓣 E G33 G34 b31 Δ3 (λ Ψ. Ψ) at37 (Lifetime.g-begin 𝓤 H A W E G33 6 (
+            tt,
+            (tt, (tt, (tt, (tt, (tt, ((tt, tt), ((tt, tt), (tt, (tt, (tt, (tt, (tt, (tt, (tt, (tt, (tt, (tt, (tt, (tt, (tt, (tt, (tt, (tt, (tt, (tt, (tt, (tt, (tt, (tt, tt))))))))))))))))))))))))))))),
+          ))
+              d37
 
-          d37 : Typed.Typed 𝓤 H A 𝓣 E G32 b30 Δ3 at37
-          d37 = Typed.s-seq 𝓤 H A W 𝓣 E G32 G33 b18 b29 Δ3 (Typed.ask s29) at36 (Relend.t-sl-aggregate 𝓤 H A W E (Element.type) 𝓣 (Relend.asMut (Element.type)) G32 24 25 5 (Syntax.tyRef Syntax.erased
+          d39 : Typed.Typed 𝓤 H A 𝓣 E G32 b32 Δ3 at39
+          d39 = Typed.s-seq 𝓤 H A W 𝓣 E G32 G33 b18 b31 Δ3 (Typed.ask s29) at38 (Relend.t-sl-aggregate 𝓤 H A W E (Element.type) 𝓣 (Relend.asMut (Element.type)) G32 24 25 5 (Syntax.tyRef Syntax.erased
               Syntax.mut Element.behind) (Syntax.tyRef Syntax.erased Syntax.mut Element.behind) (λ x. x) (Scalar.oFld 7 (List._∷_ (Syntax.field 1) List.[]) (Syntax.tyInt Syntax.w64) 8 λ v. Shared.lenV (v
-              .0)) (Reads'.as-is 𝓤 H A (Relend.msptr (Element.type) (Syntax.tyRef Syntax.erased Syntax.mut Element.behind) 5)) (Reads'.room-gone 𝓤 H A y7)
+              .0)) (Reads'.as-is 𝓤 H A (Relend.msptr (Element.type) (Syntax.tyRef Syntax.erased Syntax.mut Element.behind) 5)) (Reads'.room-gone 𝓤 H A y8)
               (Relend.reads-owed-len 𝓤 H A W (Element.type) (Syntax.tyRef (Syntax.named 3) Syntax.mut Element.behind) 3 5 (Row.lease (κs .1 .1 .1 .0) (qs .1 .1 .1 .0)) 8 Path'.refl, Path'.refl) Path'.refl
-              Path'.refl λ b o k. tt) d36
+              Path'.refl λ b o k. tt) d38
 
-          d38 : Typed.Typed 𝓤 H A 𝓣 E G31 b31 Δ3 at38
-          d38 = Typed.s-seq 𝓤 H A W 𝓣 E G31 G32 b17 b30 Δ3 (Typed.give s28) at37 (Relend.t-sl-relend 𝓤 H A W E (Element.type) 𝓣 G31 7 24 3 5 (Syntax.tyRef (Syntax.named 3) Syntax.mut Element.behind)
+          d40 : Typed.Typed 𝓤 H A 𝓣 E G31 b33 Δ3 at40
+          d40 = Typed.s-seq 𝓤 H A W 𝓣 E G31 G32 b17 b32 Δ3 (Typed.give s28) at39 (Relend.t-sl-relend 𝓤 H A W E (Element.type) 𝓣 G31 7 24 3 5 (Syntax.tyRef (Syntax.named 3) Syntax.mut Element.behind)
               (Syntax.tyRef Syntax.erased Syntax.mut Element.behind) (Row.lease (κs .1 .1 .1 .0) (qs .1 .1 .1 .0)) 0 (λ x. x) (Reads'.as-is 𝓤 H A (Mut.mslice (Element.type) (Syntax.tyRef (Syntax.named 3)
-              Syntax.mut Element.behind) 3)) (Reads'.room-gone 𝓤 H A (Syntax.tyRef Syntax.erased Syntax.mut Element.behind)) Path'.refl tt Path'.refl Path'.refl Path'.refl λ b o. tt) d37
+              Syntax.mut Element.behind) 3)) (Reads'.room-gone 𝓤 H A (Syntax.tyRef Syntax.erased Syntax.mut Element.behind)) Path'.refl tt Path'.refl Path'.refl Path'.refl λ b o. tt) d39
 
-          d39 : Typed.Typed 𝓤 H A 𝓣 E G30 b31 Δ3 at39
-          d39 = Typed.g-pre 𝓤 H A W 𝓣 E G30 G31 b31 Δ3 (λ Ψ. Ψ) at38 (Lifetime.g-begin 𝓤 H A W E G30 5
-              (tt, (tt, (tt, (tt, (tt, (tt, ((tt, tt), (tt, (tt, (tt, (tt, (tt, (tt, (tt, (tt, (tt, (tt, (tt, (tt, (tt, (tt, (tt, (tt, (tt, (tt, (tt, (tt, (tt, (tt, tt)))))))))))))))))))))))))))))) d38
+          d41 : Typed.Typed 𝓤 H A 𝓣 E G30 b33 Δ3 at41
+          d41 = Typed.g-pre 𝓤 H A W 𝓣 E G30 G31 b33 Δ3 (λ Ψ. Ψ) at40 (Lifetime.g-begin 𝓤 H A W E G30 5
+              (tt, (tt, (tt, (tt, (tt, (tt, ((tt, tt), (tt, (tt, (tt, (tt, (tt, (tt, (tt, (tt, (tt, (tt, (tt, (tt, (tt, (tt, (tt, (tt, (tt, (tt, (tt, (tt, (tt, (tt, (tt, tt)))))))))))))))))))))))))))))))
+              d40
 
-          d40 : Typed.Typed 𝓤 H A 𝓣 E G29 b32 Δ3 at40
-          d40 = Typed.s-seq 𝓤 H A W 𝓣 E G29 G30 b16 b31 Δ3 (Typed.ask s26) at39 (Relend.t-sl-aggregate 𝓤 H A W E (Referent.rtF (Referent.fInt Syntax.w16)) 𝓣 (Relend.asMut (Referent.rtF (Referent.fInt
+          d42 : Typed.Typed 𝓤 H A 𝓣 E G29 b34 Δ3 at42
+          d42 = Typed.s-seq 𝓤 H A W 𝓣 E G29 G30 b16 b33 Δ3 (Typed.ask s26) at41 (Relend.t-sl-aggregate 𝓤 H A W E (Referent.rtF (Referent.fInt Syntax.w16)) 𝓣 (Relend.asMut (Referent.rtF (Referent.fInt
               Syntax.w16))) G29 22 23 4 (Syntax.tyRef Syntax.erased Syntax.mut (Syntax.tyInt Syntax.w16)) (Syntax.tyRef Syntax.erased Syntax.mut (Syntax.tyInt Syntax.w16)) (λ x. x) (Scalar.oFld 6
               (List._∷_ (Syntax.field 1) List.[]) (Syntax.tyInt Syntax.w64) 8 λ v. Shared.lenV (v .0)) (Reads'.as-is 𝓤 H A (Relend.msptr (Referent.rtF (Referent.fInt Syntax.w16)) (Syntax.tyRef
-              Syntax.erased Syntax.mut (Syntax.tyInt Syntax.w16)) 4)) (Reads'.room-gone 𝓤 H A y6) (
+              Syntax.erased Syntax.mut (Syntax.tyInt Syntax.w16)) 4)) (Reads'.room-gone 𝓤 H A y7) (
                 Relend.reads-owed-len 𝓤 H A W (Referent.rtF (Referent.fInt Syntax.w16)) (Syntax.tyRef (Syntax.named 2) Syntax.mut (Syntax.tyInt Syntax.w16)) 2 4 (Row.lease (κs .1 .1 .0) (qs .1 .1 .0)) 8
                     Path'.refl,
                 Path'.refl,
-              ) Path'.refl Path'.refl λ b o k. tt) d39
+              ) Path'.refl Path'.refl λ b o k. tt) d41
 
-          d41 : Typed.Typed 𝓤 H A 𝓣 E G28 b33 Δ3 at41
-          d41 = Typed.s-seq 𝓤 H A W 𝓣 E G28 G29 b15 b32 Δ3 (Typed.give s25) at40 (Relend.t-sl-relend 𝓤 H A W E (Referent.rtF (Referent.fInt Syntax.w16)) 𝓣 G28 6 22 2 4 (Syntax.tyRef (Syntax.named 2)
+          d43 : Typed.Typed 𝓤 H A 𝓣 E G28 b35 Δ3 at43
+          d43 = Typed.s-seq 𝓤 H A W 𝓣 E G28 G29 b15 b34 Δ3 (Typed.give s25) at42 (Relend.t-sl-relend 𝓤 H A W E (Referent.rtF (Referent.fInt Syntax.w16)) 𝓣 G28 6 22 2 4 (Syntax.tyRef (Syntax.named 2)
               Syntax.mut (Syntax.tyInt Syntax.w16)) (Syntax.tyRef Syntax.erased Syntax.mut (Syntax.tyInt Syntax.w16)) (Row.lease (κs .1 .1 .0) (qs .1 .1 .0)) 0 (λ x. x) (Reads'.as-is 𝓤 H A (Mut.mslice
               (Referent.rtF (Referent.fInt Syntax.w16)) (Syntax.tyRef (Syntax.named 2) Syntax.mut (Syntax.tyInt Syntax.w16)) 2)) (Reads'.room-gone 𝓤 H A (Syntax.tyRef Syntax.erased Syntax.mut
-              (Syntax.tyInt Syntax.w16))) Path'.refl tt Path'.refl Path'.refl Path'.refl λ b o. tt) d40
+              (Syntax.tyInt Syntax.w16))) Path'.refl tt Path'.refl Path'.refl Path'.refl λ b o. tt) d42
 
-          d42 : Typed.Typed 𝓤 H A 𝓣 E G27 b33 Δ3 at42
-          d42 = Typed.g-pre 𝓤 H A W 𝓣 E G27 G28 b33 Δ3 (λ Ψ. Ψ) at41 (Lifetime.g-begin 𝓤 H A W E G27 4
-              (tt, (tt, (tt, (tt, (tt, (tt, (tt, (tt, (tt, (tt, (tt, (tt, (tt, (tt, (tt, (tt, (tt, (tt, (tt, (tt, (tt, (tt, (tt, (tt, (tt, (tt, (tt, (tt, (tt, tt)))))))))))))))))))))))))))))) d41
+          d44 : Typed.Typed 𝓤 H A 𝓣 E G27 b35 Δ3 at44
+          d44 = Typed.g-pre 𝓤 H A W 𝓣 E G27 G28 b35 Δ3 (λ Ψ. Ψ) at43 (Lifetime.g-begin 𝓤 H A W E G27 4
+              (tt, (tt, (tt, (tt, (tt, (tt, (tt, (tt, (tt, (tt, (tt, (tt, (tt, (tt, (tt, (tt, (tt, (tt, (tt, (tt, (tt, (tt, (tt, (tt, (tt, (tt, (tt, (tt, (tt, (tt, tt))))))))))))))))))))))))))))))) d43
 
-          d43 : Typed.Typed 𝓤 H A 𝓣 E G26 b34 Δ3 at43
-          d43 = Typed.s-seq 𝓤 H A W 𝓣 E G26 G27 b14 b33 Δ3 (Typed.both s23) at42 (Plain.t-call-plain 𝓤 H A W 𝓣 0 ps·5 r·5 (claims· .10) (claims· .11) "region::part" (known .5) E (λ pos β. β) G26
+          d45 : Typed.Typed 𝓤 H A 𝓣 E G26 b36 Δ3 at45
+          d45 = Typed.s-seq 𝓤 H A W 𝓣 E G26 G27 b14 b35 Δ3 (Typed.both s23) at44 (Plain.t-call-plain 𝓤 H A W 𝓣 0 ps·5 r·5 (claims· .10) (claims· .11) "region::part" (known .5) E (λ pos β. β) G26
               (record { pos = 3; st = List.[]; d = 0; at = λ x. x }, (Num.vAt 14 λ x. x, tt)) 18 List.[] (Call.sub-id 𝓤 H A W (G26 .slots)) (
                 (
-                  Yields.yields-copy 𝓤 H A W (λ ρ. Unit) (Declared'.row Rect.the-type) Path'.refl (Copies.cStruct Rect.the-type Laws'4.the-laws Laws'4.the-copy .copy 𝓤 H A W) (Rows'.whole (Declared'.row
+                  Yields.yields-copy 𝓤 H A W (λ ρ. Unit) (Declared'.row Rect.the-type) Path'.refl (Copies.cStruct Rect.the-type Laws'5.the-laws Laws'5.the-copy .copy 𝓤 H A W) (Rows'.whole (Declared'.row
                       Rect.the-type)) (λ x. x) (λ x. x) (λ ρ told. Local.mem-whole 𝓤 H A W (Declared'.row Rect.the-type) ρ) λ ρ told. Local.whole-mem 𝓤 H A W (Declared'.row Rect.the-type) ρ,
                   Path'.refl,
                 ),
                 ((Scalar.reads-sc 𝓤 H A W (Row.sInt Syntax.w64), Path'.refl), tt),
-              ) (Reads'.room-gone 𝓤 H A y0) tt Path'.refl) d42
+              ) (Reads'.room-gone 𝓤 H A y0) tt Path'.refl) d44
 
-          d44 : Typed.Typed 𝓤 H A 𝓣 E G25 b35 Δ3 at44
-          d44 = Typed.s-seq 𝓤 H A W 𝓣 E G25 G26 b13 b34 Δ3 (Typed.both s22) at43 (Plain.t-call-plain 𝓤 H A W 𝓣 1 ps·4 r·4 (claims· .8) (claims· .9) "stream::base_row" (known .4) E (λ pos β. β) G25
+          d46 : Typed.Typed 𝓤 H A 𝓣 E G25 b37 Δ3 at46
+          d46 = Typed.s-seq 𝓤 H A W 𝓣 E G25 G26 b13 b36 Δ3 (Typed.both s22) at45 (Plain.t-call-plain 𝓤 H A W 𝓣 1 ps·4 r·4 (claims· .8) (claims· .9) "stream::base_row" (known .4) E (λ pos β. β) G25
               (record { pos = 1; ty = Syntax.tyRef (Syntax.named 0) Syntax.imm (Syntax.tyInt Syntax.w8); ref = λ x. x }, (Num.vAt 14 λ x. x, tt)) 17 (List._∷_ 0 List.[]) (Call.sub-id 𝓤 H A W (G25
               .slots)) (
                 ShrSlice.spares-sslice 𝓤 H A W (Referent.rtF (Referent.fInt Syntax.w8)) (Syntax.tyRef (Syntax.named 0) Syntax.imm (Syntax.tyInt Syntax.w8)) 0,
@@ -2527,10 +2677,10 @@ module _ (claims· : Claims) where
                 Path'.refl,
                 ((Scalar.reads-sc 𝓤 H A W (Row.sInt Syntax.w64), Path'.refl), tt),
               )
-              (Reads'.room-gone 𝓤 H A y5) (tt, tt) (Path'.refl, λ b o k. tt)) d43
+              (Reads'.room-gone 𝓤 H A y6) (tt, tt) (Path'.refl, λ b o k. tt)) d45
 
-          d45 : Typed.Typed 𝓤 H A 𝓣 E G24 b36 Δ3 at45
-          d45 = Typed.s-seq 𝓤 H A W 𝓣 E G24 G25 b12 b35 Δ3 (Typed.both s21) at44 (Plain.t-call-plain 𝓤 H A W 𝓣 1 ps·3 r·3 (claims· .6) (claims· .7) "stream::block_bytes" (known .3) E (λ pos β. β) G24
+          d47 : Typed.Typed 𝓤 H A 𝓣 E G24 b38 Δ3 at47
+          d47 = Typed.s-seq 𝓤 H A W 𝓣 E G24 G25 b12 b37 Δ3 (Typed.both s21) at46 (Plain.t-call-plain 𝓤 H A W 𝓣 1 ps·3 r·3 (claims· .6) (claims· .7) "stream::block_bytes" (known .3) E (λ pos β. β) G24
               (record { pos = 1; ty = Syntax.tyRef (Syntax.named 0) Syntax.imm (Syntax.tyInt Syntax.w8); ref = λ x. x }, (Num.vAt 14 λ x. x, tt)) 16 (List._∷_ 0 List.[]) (Call.sub-id 𝓤 H A W (G24
               .slots)) (
                 ShrSlice.spares-sslice 𝓤 H A W (Referent.rtF (Referent.fInt Syntax.w8)) (Syntax.tyRef (Syntax.named 0) Syntax.imm (Syntax.tyInt Syntax.w8)) 0,
@@ -2539,54 +2689,54 @@ module _ (claims· : Claims) where
                 Path'.refl,
                 ((Scalar.reads-sc 𝓤 H A W (Row.sInt Syntax.w64), Path'.refl), tt),
               )
-              (Reads'.room-gone 𝓤 H A y5) (tt, tt) (Path'.refl, λ b o k. tt)) d44
+              (Reads'.room-gone 𝓤 H A y6) (tt, tt) (Path'.refl, λ b o k. tt)) d46
 
-          d46 : Typed.Typed 𝓤 H A 𝓣 E G17 b37 Δ3 at46
-          d46 = Typed.s-seq 𝓤 H A W 𝓣 E G17 G24 b11 b36 Δ3 (Typed.both s20) at45 (Plain.t-call-plain 𝓤 H A W 𝓣 0 ps·2 r·2 (claims· .4) (claims· .5) "block::form_of" (known .2) E (λ pos β. β) G17
+          d48 : Typed.Typed 𝓤 H A 𝓣 E G17 b39 Δ3 at48
+          d48 = Typed.s-seq 𝓤 H A W 𝓣 E G17 G24 b11 b38 Δ3 (Typed.both s20) at47 (Plain.t-call-plain 𝓤 H A W 𝓣 0 ps·2 r·2 (claims· .4) (claims· .5) "block::form_of" (known .2) E (λ pos β. β) G17
               (record { pos = 2; st = List.[]; d = 0; at = λ x. x }, tt) 15 List.[] (Call.sub-id 𝓤 H A W (G17 .slots)) (
                 (
-                  Yields.yields-copy 𝓤 H A W (λ ρ. Unit) (Declared'.row FujiHeader.the-type) Path'.refl (Copies.cStruct FujiHeader.the-type Laws'6.the-laws Laws'6.the-copy .copy 𝓤 H A W) (Rows'.whole
+                  Yields.yields-copy 𝓤 H A W (λ ρ. Unit) (Declared'.row FujiHeader.the-type) Path'.refl (Copies.cStruct FujiHeader.the-type Laws'7.the-laws Laws'7.the-copy .copy 𝓤 H A W) (Rows'.whole
                       (Declared'.row FujiHeader.the-type)) (λ x. x) (λ x. x) (λ ρ told. Local.mem-whole 𝓤 H A W (Declared'.row FujiHeader.the-type) ρ) λ ρ told. Local.whole-mem 𝓤 H A W (Declared'.row
                       FujiHeader.the-type) ρ,
                   Path'.refl,
                 ),
                 tt,
-              ) (Reads'.room-gone 𝓤 H A y8) tt Path'.refl) d45
+              ) (Reads'.room-gone 𝓤 H A y9) tt Path'.refl) d47
 
-          d47 : Typed.Typed 𝓤 H A 𝓣 E G16 b38 Δ3 at47
-          d47 = Typed.t-seq 𝓤 H A W 𝓣 E G16 G17 b10 b37 Δ3 at8 at46 d8 d46
+          d49 : Typed.Typed 𝓤 H A 𝓣 E G16 b40 Δ3 at49
+          d49 = Typed.t-seq 𝓤 H A W 𝓣 E G16 G17 b10 b39 Δ3 at8 at48 d8 d48
 
-          d48 : Typed.Typed 𝓤 H A 𝓣 E G15 b39 Δ3 at48
-          d48 = Typed.s-seq 𝓤 H A W 𝓣 E G15 G16 b7 b38 Δ3 (Typed.ask s13) at47 (Scalar.t-op2 𝓤 H A W E 𝓣 G15 (Syntax.lt Syntax.unsigned) (Scalar.oAt 14 (Syntax.tyInt Syntax.w64) (Row.valS (Row.sInt
+          d50 : Typed.Typed 𝓤 H A 𝓣 E G15 b41 Δ3 at50
+          d50 = Typed.s-seq 𝓤 H A W 𝓣 E G15 G16 b7 b40 Δ3 (Typed.ask s13) at49 (Scalar.t-op2 𝓤 H A W E 𝓣 G15 (Syntax.lt Syntax.unsigned) (Scalar.oAt 14 (Syntax.tyInt Syntax.w64) (Row.valS (Row.sInt
               Syntax.w64))) (Scalar.oAt 11 (Syntax.tyInt Syntax.w64) (Row.valS (Row.sInt Syntax.w64))) 21 (Rows'.sc-here Row.sBool) Syntax.tyBool (Row.valS Row.sBool) (Row.sBool .of)
               (Scalar.reads-sc 𝓤 H A W (Row.sInt Syntax.w64), Path'.refl) (Scalar.reads-sc 𝓤 H A W (Row.sInt Syntax.w64), Path'.refl) (Reads'.room-gone 𝓤 H A Syntax.tyBool) (Scalar.holds-sc 𝓤 H A W
-              Row.sBool) Path'.refl (λ u. Path'.refl) λ u. tt) d47
+              Row.sBool) Path'.refl (λ u. Path'.refl) λ u. tt) d49
 
-          d49 : Typed.Typed 𝓤 H A 𝓣 E G15 b40 Δ2 at49
-          d49 = Typed.t-loop-by 𝓤 H A W 𝓣 E G15 b39 Δ2 put0 (λ u vs. Inv·0 (Row.get 1 (T15 .locals) u .now) (Row.get 2 (T15 .locals) u) (Row.get 3 (T15 .locals) u) (Row.get 4 (T15 .locals) u) (Row.get
+          d51 : Typed.Typed 𝓤 H A 𝓣 E G15 b42 Δ2 at51
+          d51 = Typed.t-loop-by 𝓤 H A W 𝓣 E G15 b41 Δ2 put0 (λ u vs. Inv·0 (Row.get 1 (T15 .locals) u .now) (Row.get 2 (T15 .locals) u) (Row.get 3 (T15 .locals) u) (Row.get 4 (T15 .locals) u) (Row.get
               5 (T15 .locals) u .now) (Row.get 6 (T15 .locals) u .now) (Row.get 7 (T15 .locals) u .now) (Row.get 8 (T15 .locals) u) (Row.get 10 (T15 .locals) u) (Row.get 11 (T15 .locals) u) (Row.get 12
               (T15 .locals) u) (Row.get 13 (T15 .locals) u) (Row.get 14 (T15 .locals) u) (vs .0) (vs .1) (vs .2) (vs .3) (vs .4)) (λ u vs. μ·0 (Row.get 1 (T15 .locals) u .now) (Row.get 2 (T15 .locals) u)
               (Row.get 3 (T15 .locals) u) (Row.get 4 (T15 .locals) u) (Row.get 5 (T15 .locals) u .now) (Row.get 6 (T15 .locals) u .now) (Row.get 7 (T15 .locals) u .now) (Row.get 8 (T15 .locals) u)
-              (Row.get 10 (T15 .locals) u) (Row.get 11 (T15 .locals) u) (Row.get 12 (T15 .locals) u) (Row.get 13 (T15 .locals) u) (Row.get 14 (T15 .locals) u) (vs .0) (vs .1) (vs .2) (vs .3) (vs .4)) at48
-              d48
+              (Row.get 10 (T15 .locals) u) (Row.get 11 (T15 .locals) u) (Row.get 12 (T15 .locals) u) (Row.get 13 (T15 .locals) u) (Row.get 14 (T15 .locals) u) (vs .0) (vs .1) (vs .2) (vs .3) (vs .4)) at50
+              d50
 
-          d50 : Typed.Typed 𝓤 H A 𝓣 E G15 b41 Δ1 at50
-          d50 = Typed.t-block 𝓤 H A W 𝓣 E G15 b40 Δ1 at49 d49
+          d52 : Typed.Typed 𝓤 H A 𝓣 E G15 b43 Δ1 at52
+          d52 = Typed.t-block 𝓤 H A W 𝓣 E G15 b42 Δ1 at51 d51
 
-          d51 : Typed.Typed 𝓤 H A 𝓣 E G13 b41 Δ1 at51
-          d51 = Typed.g-pre 𝓤 H A W 𝓣 E G13 G15 b41 Δ1 (Typed.pass T13 T15 s12) at50 (Scalar.g-room 𝓤 H A W E G13 9 y2 (Local.room-whole 𝓤 H A W (Declared'.row Span.the-type) y2 Path'.refl)) d50
+          d53 : Typed.Typed 𝓤 H A 𝓣 E G13 b43 Δ1 at53
+          d53 = Typed.g-pre 𝓤 H A W 𝓣 E G13 G15 b43 Δ1 (Typed.pass T13 T15 s12) at52 (Scalar.g-room 𝓤 H A W E G13 9 y3 (Local.room-whole 𝓤 H A W (Declared'.row Span.the-type) y3 Path'.refl)) d52
 
-          d52 : Typed.Typed 𝓤 H A 𝓣 E G67 b43 Δ0 at52
-          d52 = Typed.t-return 𝓤 H A W 𝓣 E Δ0 tt
+          d54 : Typed.Typed 𝓤 H A 𝓣 E G69 b45 Δ0 at54
+          d54 = Typed.t-return 𝓤 H A W 𝓣 E Δ0 tt
 
-          d53 : Typed.Typed 𝓤 H A 𝓣 E G66 b43 Δ0 at53
-          d53 = Typed.g-pre 𝓤 H A W 𝓣 E G66 G67 b43 Δ0 (Typed.pass T66 T67 s63) at52 (Scalar.g-room 𝓤 H A W E G66 8 Syntax.tyBool (Scalar.room-sc 𝓤 H A W Row.sBool)) d52
+          d55 : Typed.Typed 𝓤 H A 𝓣 E G68 b45 Δ0 at55
+          d55 = Typed.g-pre 𝓤 H A W 𝓣 E G68 G69 b45 Δ0 (Typed.pass T68 T69 s65) at54 (Scalar.g-room 𝓤 H A W E G68 8 Syntax.tyBool (Scalar.room-sc 𝓤 H A W Row.sBool)) d54
 
-          d54 : Typed.Typed 𝓤 H A 𝓣 E G65 b43 Δ0 at54
-          d54 = Typed.g-pre 𝓤 H A W 𝓣 E G65 G66 b43 Δ0 (Typed.pass T65 T66 s62) at53 (Scalar.g-room 𝓤 H A W E G65 14 (Syntax.tyInt Syntax.w64) (Scalar.room-sc 𝓤 H A W (Row.sInt Syntax.w64))) d53
+          d56 : Typed.Typed 𝓤 H A 𝓣 E G67 b45 Δ0 at56
+          d56 = Typed.g-pre 𝓤 H A W 𝓣 E G67 G68 b45 Δ0 (Typed.pass T67 T68 s64) at55 (Scalar.g-room 𝓤 H A W E G67 14 (Syntax.tyInt Syntax.w64) (Scalar.room-sc 𝓤 H A W (Row.sInt Syntax.w64))) d55
 
-          d55 : Typed.Typed 𝓤 H A 𝓣 E G64 b43 Δ0 at55
-          d55 = Typed.g-pre 𝓤 H A W 𝓣 E G64 G65 b43 Δ0 (Typed.pass T64 T65 s61) at54 (Scalar.g-room 𝓤 H A W E G64 13 (Syntax.tyEnum (List._∷_ 98 (List._∷_ 108 (List._∷_ 111 (List._∷_ 99 (List._∷_ 107
+          d57 : Typed.Typed 𝓤 H A 𝓣 E G66 b45 Δ0 at57
+          d57 = Typed.g-pre 𝓤 H A W 𝓣 E G66 G67 b45 Δ0 (Typed.pass T66 T67 s63) at56 (Scalar.g-room 𝓤 H A W E G66 13 (Syntax.tyEnum (List._∷_ 98 (List._∷_ 108 (List._∷_ 111 (List._∷_ 99 (List._∷_ 107
               (List._∷_ 58 (List._∷_ 58 (List._∷_ 68 (List._∷_ 101 (List._∷_ 99 (List._∷_ 111 (List._∷_ 100 (List._∷_ 101 (List._∷_ 100 List.[])))))))))))))) (Syntax.ttcons Syntax.tnil (Syntax.ttcons
               (Syntax.tcons (Syntax.tyEnum (List._∷_ 115 (List._∷_ 116 (List._∷_ 114 (List._∷_ 101 (List._∷_ 97 (List._∷_ 109 (List._∷_ 58 (List._∷_ 58 (List._∷_ 82 (List._∷_ 101 (List._∷_ 102 (List._∷_
               117 (List._∷_ 115 (List._∷_ 97 (List._∷_ 108 List.[]))))))))))))))) (Syntax.ttcons Syntax.tnil (Syntax.ttcons Syntax.tnil (Syntax.ttcons Syntax.tnil (Syntax.ttcons (Syntax.tcons
@@ -2594,25 +2744,26 @@ module _ (claims· : Claims) where
               Syntax.tnil (Syntax.ttcons (Syntax.tcons (Syntax.tyInt Syntax.w64) Syntax.tnil) (Syntax.ttcons (Syntax.tcons (Syntax.tyInt Syntax.w64) Syntax.tnil) (Syntax.ttcons Syntax.tnil (Syntax.ttcons
               (Syntax.tcons (Syntax.tyInt Syntax.w64) (Syntax.tcons (Syntax.tyInt Syntax.w64) Syntax.tnil)) (Syntax.ttcons (Syntax.tcons (Syntax.tyInt Syntax.w64) Syntax.tnil) (Syntax.ttcons Syntax.tnil
               (Syntax.ttcons Syntax.tnil (Syntax.ttcons (Syntax.tcons (Syntax.tyInt Syntax.w64) Syntax.tnil) (Syntax.ttcons (Syntax.tcons (Syntax.tyInt Syntax.w64) Syntax.tnil) (Syntax.ttcons
-              (Syntax.tcons (Syntax.tyInt Syntax.w64) Syntax.tnil) (Syntax.ttcons Syntax.tnil Syntax.ttnil)))))))))))))))))))))) Syntax.tnil) Syntax.ttnil))) (Local.room-whole 𝓤 H A W (Declared.row
-              Decoded.the-type) (Syntax.tyEnum (List._∷_ 98 (List._∷_ 108 (List._∷_ 111 (List._∷_ 99 (List._∷_ 107 (List._∷_ 58 (List._∷_ 58 (List._∷_ 68 (List._∷_ 101 (List._∷_ 99 (List._∷_ 111 (List._∷_
-              100 (List._∷_ 101 (List._∷_ 100 List.[])))))))))))))) (Syntax.ttcons Syntax.tnil (Syntax.ttcons (Syntax.tcons (Syntax.tyEnum (List._∷_ 115 (List._∷_ 116 (List._∷_ 114 (List._∷_ 101 (List._∷_
-              97 (List._∷_ 109 (List._∷_ 58 (List._∷_ 58 (List._∷_ 82 (List._∷_ 101 (List._∷_ 102 (List._∷_ 117 (List._∷_ 115 (List._∷_ 97 (List._∷_ 108 List.[]))))))))))))))) (Syntax.ttcons Syntax.tnil
-              (Syntax.ttcons Syntax.tnil (Syntax.ttcons Syntax.tnil (Syntax.ttcons (Syntax.tcons (Syntax.tyInt Syntax.w64) Syntax.tnil) (Syntax.ttcons Syntax.tnil (Syntax.ttcons Syntax.tnil (Syntax.ttcons
-              Syntax.tnil (Syntax.ttcons Syntax.tnil (Syntax.ttcons Syntax.tnil (Syntax.ttcons Syntax.tnil (Syntax.ttcons (Syntax.tcons (Syntax.tyInt Syntax.w64) Syntax.tnil) (Syntax.ttcons (Syntax.tcons
-              (Syntax.tyInt Syntax.w64) Syntax.tnil) (Syntax.ttcons Syntax.tnil (Syntax.ttcons (Syntax.tcons (Syntax.tyInt Syntax.w64) (Syntax.tcons (Syntax.tyInt Syntax.w64) Syntax.tnil)) (Syntax.ttcons
-              (Syntax.tcons (Syntax.tyInt Syntax.w64) Syntax.tnil) (Syntax.ttcons Syntax.tnil (Syntax.ttcons Syntax.tnil (Syntax.ttcons (Syntax.tcons (Syntax.tyInt Syntax.w64) Syntax.tnil) (Syntax.ttcons
-              (Syntax.tcons (Syntax.tyInt Syntax.w64) Syntax.tnil) (Syntax.ttcons (Syntax.tcons (Syntax.tyInt Syntax.w64) Syntax.tnil) (Syntax.ttcons Syntax.tnil Syntax.ttnil))))))))))))))))))))))
-              Syntax.tnil) Syntax.ttnil))) Path'.refl)) d54
+              (Syntax.tcons (Syntax.tyInt Syntax.w64) Syntax.tnil) (Syntax.ttcons (Syntax.tcons (Syntax.tyInt Syntax.w64) (Syntax.tcons (Syntax.tyInt Syntax.w64) Syntax.tnil)) (Syntax.ttcons Syntax.tnil
+              Syntax.ttnil))))))))))))))))))))))) Syntax.tnil) Syntax.ttnil))) (Local.room-whole 𝓤 H A W (Declared.row Decoded.the-type) (Syntax.tyEnum (List._∷_ 98 (List._∷_ 108 (List._∷_ 111 (List._∷_
+              99 (List._∷_ 107 (List._∷_ 58 (List._∷_ 58 (List._∷_ 68 (List._∷_ 101 (List._∷_ 99 (List._∷_ 111 (List._∷_ 100 (List._∷_ 101 (List._∷_ 100 List.[])))))))))))))) (Syntax.ttcons Syntax.tnil
+              (Syntax.ttcons (Syntax.tcons (Syntax.tyEnum (List._∷_ 115 (List._∷_ 116 (List._∷_ 114 (List._∷_ 101 (List._∷_ 97 (List._∷_ 109 (List._∷_ 58 (List._∷_ 58 (List._∷_ 82 (List._∷_ 101 (List._∷_
+              102 (List._∷_ 117 (List._∷_ 115 (List._∷_ 97 (List._∷_ 108 List.[]))))))))))))))) (Syntax.ttcons Syntax.tnil (Syntax.ttcons Syntax.tnil (Syntax.ttcons Syntax.tnil (Syntax.ttcons
+              (Syntax.tcons (Syntax.tyInt Syntax.w64) Syntax.tnil) (Syntax.ttcons Syntax.tnil (Syntax.ttcons Syntax.tnil (Syntax.ttcons Syntax.tnil (Syntax.ttcons Syntax.tnil (Syntax.ttcons Syntax.tnil
+              (Syntax.ttcons Syntax.tnil (Syntax.ttcons (Syntax.tcons (Syntax.tyInt Syntax.w64) Syntax.tnil) (Syntax.ttcons (Syntax.tcons (Syntax.tyInt Syntax.w64) Syntax.tnil) (Syntax.ttcons Syntax.tnil
+              (Syntax.ttcons (Syntax.tcons (Syntax.tyInt Syntax.w64) (Syntax.tcons (Syntax.tyInt Syntax.w64) Syntax.tnil)) (Syntax.ttcons (Syntax.tcons (Syntax.tyInt Syntax.w64) Syntax.tnil)
+              (Syntax.ttcons Syntax.tnil (Syntax.ttcons Syntax.tnil (Syntax.ttcons (Syntax.tcons (Syntax.tyInt Syntax.w64) Syntax.tnil) (Syntax.ttcons (Syntax.tcons (Syntax.tyInt Syntax.w64) Syntax.tnil)
+              (Syntax.ttcons (Syntax.tcons (Syntax.tyInt Syntax.w64) Syntax.tnil) (Syntax.ttcons (Syntax.tcons (Syntax.tyInt Syntax.w64) (Syntax.tcons (Syntax.tyInt Syntax.w64) Syntax.tnil))
+              (Syntax.ttcons Syntax.tnil Syntax.ttnil))))))))))))))))))))))) Syntax.tnil) Syntax.ttnil))) Path'.refl)) d56
 
-          d56 : Typed.Typed 𝓤 H A 𝓣 E G63 b43 Δ0 at56
-          d56 = Typed.g-pre 𝓤 H A W 𝓣 E G63 G64 b43 Δ0 (Typed.pass T63 T64 s60) at55 (Scalar.g-room 𝓤 H A W E G63 11 (Syntax.tyInt Syntax.w64) (Scalar.room-sc 𝓤 H A W (Row.sInt Syntax.w64))) d55
+          d58 : Typed.Typed 𝓤 H A 𝓣 E G65 b45 Δ0 at58
+          d58 = Typed.g-pre 𝓤 H A W 𝓣 E G65 G66 b45 Δ0 (Typed.pass T65 T66 s62) at57 (Scalar.g-room 𝓤 H A W E G65 11 (Syntax.tyInt Syntax.w64) (Scalar.room-sc 𝓤 H A W (Row.sInt Syntax.w64))) d57
 
-          d57 : Typed.Typed 𝓤 H A 𝓣 E G62 b43 Δ0 at57
-          d57 = Typed.g-pre 𝓤 H A W 𝓣 E G62 G63 b43 Δ0 (Typed.pass T62 T63 s59) at56 (Scalar.g-room 𝓤 H A W E G62 10 (Syntax.tyInt Syntax.w64) (Scalar.room-sc 𝓤 H A W (Row.sInt Syntax.w64))) d56
+          d59 : Typed.Typed 𝓤 H A 𝓣 E G64 b45 Δ0 at59
+          d59 = Typed.g-pre 𝓤 H A W 𝓣 E G64 G65 b45 Δ0 (Typed.pass T64 T65 s61) at58 (Scalar.g-room 𝓤 H A W E G64 10 (Syntax.tyInt Syntax.w64) (Scalar.room-sc 𝓤 H A W (Row.sInt Syntax.w64))) d58
 
-          d58 : Typed.Typed 𝓤 H A 𝓣 E G14 b44 Δ0 at58
-          d58 = Typed.s-seq 𝓤 H A W 𝓣 E G14 G62 b42 b43 Δ0 (Typed.pass T14 T62 s58) at57 (LocalCopy.t-val-copy 𝓤 H A W E 𝓣 (λ ρ. Unit) G14 13 0 (Declared.row Decoded.the-type) (Syntax.tyEnum (List._∷_
+          d60 : Typed.Typed 𝓤 H A 𝓣 E G14 b46 Δ0 at60
+          d60 = Typed.s-seq 𝓤 H A W 𝓣 E G14 G64 b44 b45 Δ0 (Typed.pass T14 T64 s60) at59 (LocalCopy.t-val-copy 𝓤 H A W E 𝓣 (λ ρ. Unit) G14 13 0 (Declared.row Decoded.the-type) (Syntax.tyEnum (List._∷_
               98 (List._∷_ 108 (List._∷_ 111 (List._∷_ 99 (List._∷_ 107 (List._∷_ 58 (List._∷_ 58 (List._∷_ 68 (List._∷_ 101 (List._∷_ 99 (List._∷_ 111 (List._∷_ 100 (List._∷_ 101 (List._∷_ 100
               List.[])))))))))))))) (Syntax.ttcons Syntax.tnil (Syntax.ttcons (Syntax.tcons (Syntax.tyEnum (List._∷_ 115 (List._∷_ 116 (List._∷_ 114 (List._∷_ 101 (List._∷_ 97 (List._∷_ 109 (List._∷_ 58
               (List._∷_ 58 (List._∷_ 82 (List._∷_ 101 (List._∷_ 102 (List._∷_ 117 (List._∷_ 115 (List._∷_ 97 (List._∷_ 108 List.[]))))))))))))))) (Syntax.ttcons Syntax.tnil (Syntax.ttcons Syntax.tnil
@@ -2620,40 +2771,42 @@ module _ (claims· : Claims) where
               Syntax.tnil (Syntax.ttcons Syntax.tnil (Syntax.ttcons Syntax.tnil (Syntax.ttcons (Syntax.tcons (Syntax.tyInt Syntax.w64) Syntax.tnil) (Syntax.ttcons (Syntax.tcons (Syntax.tyInt Syntax.w64)
               Syntax.tnil) (Syntax.ttcons Syntax.tnil (Syntax.ttcons (Syntax.tcons (Syntax.tyInt Syntax.w64) (Syntax.tcons (Syntax.tyInt Syntax.w64) Syntax.tnil)) (Syntax.ttcons (Syntax.tcons
               (Syntax.tyInt Syntax.w64) Syntax.tnil) (Syntax.ttcons Syntax.tnil (Syntax.ttcons Syntax.tnil (Syntax.ttcons (Syntax.tcons (Syntax.tyInt Syntax.w64) Syntax.tnil) (Syntax.ttcons (Syntax.tcons
-              (Syntax.tyInt Syntax.w64) Syntax.tnil) (Syntax.ttcons (Syntax.tcons (Syntax.tyInt Syntax.w64) Syntax.tnil) (Syntax.ttcons Syntax.tnil Syntax.ttnil)))))))))))))))))))))) Syntax.tnil)
-              Syntax.ttnil))) (Syntax.tyEnum (List._∷_ 98 (List._∷_ 108 (List._∷_ 111 (List._∷_ 99 (List._∷_ 107 (List._∷_ 58 (List._∷_ 58 (List._∷_ 68 (List._∷_ 101 (List._∷_ 99 (List._∷_ 111 (List._∷_
-              100 (List._∷_ 101 (List._∷_ 100 List.[])))))))))))))) (Syntax.ttcons Syntax.tnil (Syntax.ttcons (Syntax.tcons (Syntax.tyEnum (List._∷_ 115 (List._∷_ 116 (List._∷_ 114 (List._∷_ 101 (List._∷_
-              97 (List._∷_ 109 (List._∷_ 58 (List._∷_ 58 (List._∷_ 82 (List._∷_ 101 (List._∷_ 102 (List._∷_ 117 (List._∷_ 115 (List._∷_ 97 (List._∷_ 108 List.[]))))))))))))))) (Syntax.ttcons Syntax.tnil
-              (Syntax.ttcons Syntax.tnil (Syntax.ttcons Syntax.tnil (Syntax.ttcons (Syntax.tcons (Syntax.tyInt Syntax.w64) Syntax.tnil) (Syntax.ttcons Syntax.tnil (Syntax.ttcons Syntax.tnil (Syntax.ttcons
-              Syntax.tnil (Syntax.ttcons Syntax.tnil (Syntax.ttcons Syntax.tnil (Syntax.ttcons Syntax.tnil (Syntax.ttcons (Syntax.tcons (Syntax.tyInt Syntax.w64) Syntax.tnil) (Syntax.ttcons (Syntax.tcons
-              (Syntax.tyInt Syntax.w64) Syntax.tnil) (Syntax.ttcons Syntax.tnil (Syntax.ttcons (Syntax.tcons (Syntax.tyInt Syntax.w64) (Syntax.tcons (Syntax.tyInt Syntax.w64) Syntax.tnil)) (Syntax.ttcons
-              (Syntax.tcons (Syntax.tyInt Syntax.w64) Syntax.tnil) (Syntax.ttcons Syntax.tnil (Syntax.ttcons Syntax.tnil (Syntax.ttcons (Syntax.tcons (Syntax.tyInt Syntax.w64) Syntax.tnil) (Syntax.ttcons
-              (Syntax.tcons (Syntax.tyInt Syntax.w64) Syntax.tnil) (Syntax.ttcons (Syntax.tcons (Syntax.tyInt Syntax.w64) Syntax.tnil) (Syntax.ttcons Syntax.tnil Syntax.ttnil))))))))))))))))))))))
-              Syntax.tnil) Syntax.ttnil))) (Rows'.whole (Declared.row Decoded.the-type)) (Rows'.whole (Declared.row Decoded.the-type)) (λ x. x) (λ x. x) (λ x. x) Path'.refl (Own.told-none 𝓤 H A (G14
-              .slots)) (Yields.yields-copy 𝓤 H A W (λ ρ. Unit) (Declared.row Decoded.the-type) Path'.refl (Copies.cEnum Decoded.the-type Laws.the-laws Laws.the-copy .copy 𝓤 H A W) (Rows'.whole
-              (Declared.row Decoded.the-type)) (λ x. x) (λ x. x) (λ ρ told. Local.mem-whole 𝓤 H A W (Declared.row Decoded.the-type) ρ) λ ρ told. Local.whole-mem 𝓤 H A W (Declared.row Decoded.the-type) ρ)
-              (Reads'.room-gone 𝓤 H A (Syntax.tyEnum (List._∷_ 98 (List._∷_ 108 (List._∷_ 111 (List._∷_ 99 (List._∷_ 107 (List._∷_ 58 (List._∷_ 58 (List._∷_ 68 (List._∷_ 101 (List._∷_ 99 (List._∷_ 111
-              (List._∷_ 100 (List._∷_ 101 (List._∷_ 100 List.[])))))))))))))) (Syntax.ttcons Syntax.tnil (Syntax.ttcons (Syntax.tcons (Syntax.tyEnum (List._∷_ 115 (List._∷_ 116 (List._∷_ 114 (List._∷_ 101
-              (List._∷_ 97 (List._∷_ 109 (List._∷_ 58 (List._∷_ 58 (List._∷_ 82 (List._∷_ 101 (List._∷_ 102 (List._∷_ 117 (List._∷_ 115 (List._∷_ 97 (List._∷_ 108 List.[]))))))))))))))) (Syntax.ttcons
-              Syntax.tnil (Syntax.ttcons Syntax.tnil (Syntax.ttcons Syntax.tnil (Syntax.ttcons (Syntax.tcons (Syntax.tyInt Syntax.w64) Syntax.tnil) (Syntax.ttcons Syntax.tnil (Syntax.ttcons Syntax.tnil
-              (Syntax.ttcons Syntax.tnil (Syntax.ttcons Syntax.tnil (Syntax.ttcons Syntax.tnil (Syntax.ttcons Syntax.tnil (Syntax.ttcons (Syntax.tcons (Syntax.tyInt Syntax.w64) Syntax.tnil) (Syntax.ttcons
-              (Syntax.tcons (Syntax.tyInt Syntax.w64) Syntax.tnil) (Syntax.ttcons Syntax.tnil (Syntax.ttcons (Syntax.tcons (Syntax.tyInt Syntax.w64) (Syntax.tcons (Syntax.tyInt Syntax.w64) Syntax.tnil))
-              (Syntax.ttcons (Syntax.tcons (Syntax.tyInt Syntax.w64) Syntax.tnil) (Syntax.ttcons Syntax.tnil (Syntax.ttcons Syntax.tnil (Syntax.ttcons (Syntax.tcons (Syntax.tyInt Syntax.w64) Syntax.tnil)
-              (Syntax.ttcons (Syntax.tcons (Syntax.tyInt Syntax.w64) Syntax.tnil) (Syntax.ttcons (Syntax.tcons (Syntax.tyInt Syntax.w64) Syntax.tnil) (Syntax.ttcons Syntax.tnil
-              Syntax.ttnil)))))))))))))))))))))) Syntax.tnil) Syntax.ttnil)))) (Yields.makes-mem 𝓤 H A W (λ ρ. Unit) (Declared.row Decoded.the-type) Path'.refl (Rows'.whole (Declared.row
-              Decoded.the-type)) (λ x. x) λ ρ told. Local.whole-mem 𝓤 H A W (Declared.row Decoded.the-type) ρ) Path'.refl Path'.refl) d57
+              (Syntax.tyInt Syntax.w64) Syntax.tnil) (Syntax.ttcons (Syntax.tcons (Syntax.tyInt Syntax.w64) Syntax.tnil) (Syntax.ttcons (Syntax.tcons (Syntax.tyInt Syntax.w64) (Syntax.tcons (Syntax.tyInt
+              Syntax.w64) Syntax.tnil)) (Syntax.ttcons Syntax.tnil Syntax.ttnil))))))))))))))))))))))) Syntax.tnil) Syntax.ttnil))) (Syntax.tyEnum (List._∷_ 98 (List._∷_ 108 (List._∷_ 111 (List._∷_ 99
+              (List._∷_ 107 (List._∷_ 58 (List._∷_ 58 (List._∷_ 68 (List._∷_ 101 (List._∷_ 99 (List._∷_ 111 (List._∷_ 100 (List._∷_ 101 (List._∷_ 100 List.[])))))))))))))) (Syntax.ttcons Syntax.tnil
+              (Syntax.ttcons (Syntax.tcons (Syntax.tyEnum (List._∷_ 115 (List._∷_ 116 (List._∷_ 114 (List._∷_ 101 (List._∷_ 97 (List._∷_ 109 (List._∷_ 58 (List._∷_ 58 (List._∷_ 82 (List._∷_ 101 (List._∷_
+              102 (List._∷_ 117 (List._∷_ 115 (List._∷_ 97 (List._∷_ 108 List.[]))))))))))))))) (Syntax.ttcons Syntax.tnil (Syntax.ttcons Syntax.tnil (Syntax.ttcons Syntax.tnil (Syntax.ttcons
+              (Syntax.tcons (Syntax.tyInt Syntax.w64) Syntax.tnil) (Syntax.ttcons Syntax.tnil (Syntax.ttcons Syntax.tnil (Syntax.ttcons Syntax.tnil (Syntax.ttcons Syntax.tnil (Syntax.ttcons Syntax.tnil
+              (Syntax.ttcons Syntax.tnil (Syntax.ttcons (Syntax.tcons (Syntax.tyInt Syntax.w64) Syntax.tnil) (Syntax.ttcons (Syntax.tcons (Syntax.tyInt Syntax.w64) Syntax.tnil) (Syntax.ttcons Syntax.tnil
+              (Syntax.ttcons (Syntax.tcons (Syntax.tyInt Syntax.w64) (Syntax.tcons (Syntax.tyInt Syntax.w64) Syntax.tnil)) (Syntax.ttcons (Syntax.tcons (Syntax.tyInt Syntax.w64) Syntax.tnil)
+              (Syntax.ttcons Syntax.tnil (Syntax.ttcons Syntax.tnil (Syntax.ttcons (Syntax.tcons (Syntax.tyInt Syntax.w64) Syntax.tnil) (Syntax.ttcons (Syntax.tcons (Syntax.tyInt Syntax.w64) Syntax.tnil)
+              (Syntax.ttcons (Syntax.tcons (Syntax.tyInt Syntax.w64) Syntax.tnil) (Syntax.ttcons (Syntax.tcons (Syntax.tyInt Syntax.w64) (Syntax.tcons (Syntax.tyInt Syntax.w64) Syntax.tnil))
+              (Syntax.ttcons Syntax.tnil Syntax.ttnil))))))))))))))))))))))) Syntax.tnil) Syntax.ttnil))) (Rows'.whole (Declared.row Decoded.the-type)) (Rows'.whole (Declared.row Decoded.the-type)) (λ x.
+              x) (λ x. x) (λ x. x) Path'.refl (Own.told-none 𝓤 H A (G14 .slots)) (Yields.yields-copy 𝓤 H A W (λ ρ. Unit) (Declared.row Decoded.the-type) Path'.refl (Copies.cEnum Decoded.the-type
+              Laws.the-laws Laws.the-copy .copy 𝓤 H A W) (Rows'.whole (Declared.row Decoded.the-type)) (λ x. x) (λ x. x) (λ ρ told. Local.mem-whole 𝓤 H A W (Declared.row Decoded.the-type) ρ) λ ρ told.
+              Local.whole-mem 𝓤 H A W (Declared.row Decoded.the-type) ρ) (Reads'.room-gone 𝓤 H A (Syntax.tyEnum (List._∷_ 98 (List._∷_ 108 (List._∷_ 111 (List._∷_ 99 (List._∷_ 107 (List._∷_ 58 (List._∷_
+              58 (List._∷_ 68 (List._∷_ 101 (List._∷_ 99 (List._∷_ 111 (List._∷_ 100 (List._∷_ 101 (List._∷_ 100 List.[])))))))))))))) (Syntax.ttcons Syntax.tnil (Syntax.ttcons (Syntax.tcons
+              (Syntax.tyEnum (List._∷_ 115 (List._∷_ 116 (List._∷_ 114 (List._∷_ 101 (List._∷_ 97 (List._∷_ 109 (List._∷_ 58 (List._∷_ 58 (List._∷_ 82 (List._∷_ 101 (List._∷_ 102 (List._∷_ 117 (List._∷_
+              115 (List._∷_ 97 (List._∷_ 108 List.[]))))))))))))))) (Syntax.ttcons Syntax.tnil (Syntax.ttcons Syntax.tnil (Syntax.ttcons Syntax.tnil (Syntax.ttcons (Syntax.tcons (Syntax.tyInt Syntax.w64)
+              Syntax.tnil) (Syntax.ttcons Syntax.tnil (Syntax.ttcons Syntax.tnil (Syntax.ttcons Syntax.tnil (Syntax.ttcons Syntax.tnil (Syntax.ttcons Syntax.tnil (Syntax.ttcons Syntax.tnil (Syntax.ttcons
+              (Syntax.tcons (Syntax.tyInt Syntax.w64) Syntax.tnil) (Syntax.ttcons (Syntax.tcons (Syntax.tyInt Syntax.w64) Syntax.tnil) (Syntax.ttcons Syntax.tnil (Syntax.ttcons (Syntax.tcons (Syntax.tyInt
+              Syntax.w64) (Syntax.tcons (Syntax.tyInt Syntax.w64) Syntax.tnil)) (Syntax.ttcons (Syntax.tcons (Syntax.tyInt Syntax.w64) Syntax.tnil) (Syntax.ttcons Syntax.tnil (Syntax.ttcons Syntax.tnil
+              (Syntax.ttcons (Syntax.tcons (Syntax.tyInt Syntax.w64) Syntax.tnil) (Syntax.ttcons (Syntax.tcons (Syntax.tyInt Syntax.w64) Syntax.tnil) (Syntax.ttcons (Syntax.tcons (Syntax.tyInt Syntax.w64)
+              Syntax.tnil) (Syntax.ttcons (Syntax.tcons (Syntax.tyInt Syntax.w64) (Syntax.tcons (Syntax.tyInt Syntax.w64) Syntax.tnil)) (Syntax.ttcons Syntax.tnil Syntax.ttnil)))))))))))))))))))))))
+              Syntax.tnil) Syntax.ttnil)))) (Yields.makes-mem 𝓤 H A W (λ ρ. Unit) (Declared.row Decoded.the-type) Path'.refl (Rows'.whole (Declared.row Decoded.the-type)) (λ x. x) λ ρ told.
+              Local.whole-mem 𝓤 H A W (Declared.row Decoded.the-type) ρ) Path'.refl Path'.refl) d59
 
-          d59 : Typed.Typed 𝓤 H A 𝓣 E G13 b45 Δ0 at59
-          d59 = Typed.t-seq 𝓤 H A W 𝓣 E G13 G14 b41 b44 Δ0 at51 at58 d51 d58
+          d61 : Typed.Typed 𝓤 H A 𝓣 E G13 b47 Δ0 at61
+          d61 = Typed.t-seq 𝓤 H A W 𝓣 E G13 G14 b43 b46 Δ0 at53 at60 d53 d60
 
-          d60 : Typed.Typed 𝓤 H A 𝓣 E G12 b46 Δ0 at60
-          d60 = Typed.s-seq 𝓤 H A W 𝓣 E G12 G13 b6 b45 Δ0 (Typed.pass T12 T13 s11) at59 (Scalar.t-use 𝓤 H A W E 𝓣 G12 (Scalar.oFld 9 (List._∷_ (Syntax.field 0) List.[]) (Syntax.tyInt Syntax.w64) 0
-              (Reads.fieldV Span.the-type Laws'5.the-laws 0)) 14 (Rows'.sc-here (Row.sInt Syntax.w64)) (Syntax.tyInt Syntax.w64) (Row.valS (Row.sInt Syntax.w64)) (Row.sInt Syntax.w64 .of)
-              (Reads.reads-field 𝓤 H A W Span.the-type Laws'5.the-laws 0 (Syntax.tyInt Syntax.w64) 0 Path'.refl, Path'.refl) (Reads'.room-gone 𝓤 H A (Syntax.tyInt Syntax.w64)) (Scalar.holds-sc 𝓤 H A W
-              (Row.sInt Syntax.w64)) Path'.refl (λ u. Path'.refl) λ u. tt) d59
+          d62 : Typed.Typed 𝓤 H A 𝓣 E G12 b48 Δ0 at62
+          d62 = Typed.s-seq 𝓤 H A W 𝓣 E G12 G13 b6 b47 Δ0 (Typed.pass T12 T13 s11) at61 (Scalar.t-use 𝓤 H A W E 𝓣 G12 (Scalar.oFld 9 (List._∷_ (Syntax.field 0) List.[]) (Syntax.tyInt Syntax.w64) 0
+              (Reads.fieldV Span.the-type Laws'6.the-laws 0)) 14 (Rows'.sc-here (Row.sInt Syntax.w64)) (Syntax.tyInt Syntax.w64) (Row.valS (Row.sInt Syntax.w64)) (Row.sInt Syntax.w64 .of)
+              (Reads.reads-field 𝓤 H A W Span.the-type Laws'6.the-laws 0 (Syntax.tyInt Syntax.w64) 0 Path'.refl, Path'.refl) (Reads'.room-gone 𝓤 H A (Syntax.tyInt Syntax.w64)) (Scalar.holds-sc 𝓤 H A W
+              (Row.sInt Syntax.w64)) Path'.refl (λ u. Path'.refl) λ u. tt) d61
 
-          d61 : Typed.Typed 𝓤 H A 𝓣 E G11 b47 Δ0 at61
-          d61 = Typed.s-seq 𝓤 H A W 𝓣 E G11 G12 b5 b46 Δ0 (Typed.pass T11 T12 s10) at60 (Make.t-enum-make-wt 𝓤 H A W E 𝓣 Decoded.the-type Laws.the-laws Laws.the-plain tt G11 13 (List._∷_ (Scalar.oInt
+          d63 : Typed.Typed 𝓤 H A 𝓣 E G11 b49 Δ0 at63
+          d63 = Typed.s-seq 𝓤 H A W 𝓣 E G11 G12 b5 b48 Δ0 (Typed.pass T11 T12 s10) at62 (Make.t-enum-make-wt 𝓤 H A W E 𝓣 Decoded.the-type Laws.the-laws Laws.the-plain tt G11 13 (List._∷_ (Scalar.oInt
               Syntax.w8 0) List.[]) (λ m. Decoded.enum .make (Logic.inl tt)) (Reads'.room-gone 𝓤 H A (Syntax.tyEnum (List._∷_ 98 (List._∷_ 108 (List._∷_ 111 (List._∷_ 99 (List._∷_ 107 (List._∷_ 58
               (List._∷_ 58 (List._∷_ 68 (List._∷_ 101 (List._∷_ 99 (List._∷_ 111 (List._∷_ 100 (List._∷_ 101 (List._∷_ 100 List.[])))))))))))))) (Syntax.ttcons Syntax.tnil (Syntax.ttcons (Syntax.tcons
               (Syntax.tyEnum (List._∷_ 115 (List._∷_ 116 (List._∷_ 114 (List._∷_ 101 (List._∷_ 97 (List._∷_ 109 (List._∷_ 58 (List._∷_ 58 (List._∷_ 82 (List._∷_ 101 (List._∷_ 102 (List._∷_ 117 (List._∷_
@@ -2662,72 +2815,73 @@ module _ (claims· : Claims) where
               (Syntax.tcons (Syntax.tyInt Syntax.w64) Syntax.tnil) (Syntax.ttcons (Syntax.tcons (Syntax.tyInt Syntax.w64) Syntax.tnil) (Syntax.ttcons Syntax.tnil (Syntax.ttcons (Syntax.tcons (Syntax.tyInt
               Syntax.w64) (Syntax.tcons (Syntax.tyInt Syntax.w64) Syntax.tnil)) (Syntax.ttcons (Syntax.tcons (Syntax.tyInt Syntax.w64) Syntax.tnil) (Syntax.ttcons Syntax.tnil (Syntax.ttcons Syntax.tnil
               (Syntax.ttcons (Syntax.tcons (Syntax.tyInt Syntax.w64) Syntax.tnil) (Syntax.ttcons (Syntax.tcons (Syntax.tyInt Syntax.w64) Syntax.tnil) (Syntax.ttcons (Syntax.tcons (Syntax.tyInt Syntax.w64)
-              Syntax.tnil) (Syntax.ttcons Syntax.tnil Syntax.ttnil)))))))))))))))))))))) Syntax.tnil) Syntax.ttnil)))) (tt, tt) Path'.refl (λ m wa. Make.made-val Decoded.the-type Laws.the-laws List.[]
-              (Decoded.enum .make (Logic.inl tt)) tt (wa .1)) λ m wa. Make.made-is Decoded.the-type Laws.the-laws List.[] (Decoded.enum .make (Logic.inl tt)) tt (wa .1)) d60
+              Syntax.tnil) (Syntax.ttcons (Syntax.tcons (Syntax.tyInt Syntax.w64) (Syntax.tcons (Syntax.tyInt Syntax.w64) Syntax.tnil)) (Syntax.ttcons Syntax.tnil Syntax.ttnil)))))))))))))))))))))))
+              Syntax.tnil) Syntax.ttnil)))) (tt, tt) Path'.refl (λ m wa. Make.made-val Decoded.the-type Laws.the-laws List.[] (Decoded.enum .make (Logic.inl tt)) tt (wa .1)) λ m wa. Make.made-is
+              Decoded.the-type Laws.the-laws List.[] (Decoded.enum .make (Logic.inl tt)) tt (wa .1)) d62
 
-          d62 : Typed.Typed 𝓤 H A 𝓣 E G10 b47 Δ0 at62
-          d62 = Typed.g-pre 𝓤 H A W 𝓣 E G10 G11 b47 Δ0 (Typed.pass T10 T11 s9) at61 (Scalar.g-room 𝓤 H A W E G10 20 (Syntax.tyArray (Syntax.tyInt Syntax.w16) 768) (Init.room-arr 𝓤 H A W (Referent.rtF
-              (Referent.fInt Syntax.w16)) 768 0 768 Path'.refl)) d61
+          d64 : Typed.Typed 𝓤 H A 𝓣 E G10 b49 Δ0 at64
+          d64 = Typed.g-pre 𝓤 H A W 𝓣 E G10 G11 b49 Δ0 (Typed.pass T10 T11 s9) at63 (Scalar.g-room 𝓤 H A W E G10 20 (Syntax.tyArray (Syntax.tyInt Syntax.w16) 768) (Init.room-arr 𝓤 H A W (Referent.rtF
+              (Referent.fInt Syntax.w16)) 768 0 768 Path'.refl)) d63
 
-          d63 : Typed.Typed 𝓤 H A 𝓣 E G9 b48 Δ0 at63
-          d63 = Typed.s-seq 𝓤 H A W 𝓣 E G9 G10 b4 b47 Δ0 (Typed.pass T9 T10 s8) at62 (LocalCopy.t-val-copy 𝓤 H A W E 𝓣 (λ ρ. Unit) G9 20 12 (Array'.Array (Referent.rtF (Referent.fInt Syntax.w16)) 768)
+          d65 : Typed.Typed 𝓤 H A 𝓣 E G9 b50 Δ0 at65
+          d65 = Typed.s-seq 𝓤 H A W 𝓣 E G9 G10 b4 b49 Δ0 (Typed.pass T9 T10 s8) at64 (LocalCopy.t-val-copy 𝓤 H A W E 𝓣 (λ ρ. Unit) G9 20 12 (Array'.Array (Referent.rtF (Referent.fInt Syntax.w16)) 768)
               (Syntax.tyArray (Syntax.tyInt Syntax.w16) 768) (Syntax.tyArray (Syntax.tyInt Syntax.w16) 768) (Rows.arrF (Referent.rtF (Referent.fInt Syntax.w16)) 768 0) (Rows.arrF (Referent.rtF
               (Referent.fInt Syntax.w16)) 768 0) (λ x. x) (λ x. x) (λ x. x) Path'.refl (Own.told-none 𝓤 H A (G9 .slots)) (Yields.yields-copy 𝓤 H A W (λ ρ. Unit) (Array'.Array (Referent.rtF (Referent.fInt
               Syntax.w16)) 768) Path'.refl (Copies.cArr (Referent.rtF (Referent.fInt Syntax.w16)) (Copies.cRf (Referent.fInt Syntax.w16)) 768 .copy 𝓤 H A W) (Rows.arrF (Referent.rtF (Referent.fInt
               Syntax.w16)) 768 0) (λ x. x) (λ x. x) (λ ρ told. Whole.mem-arr 𝓤 H A W (Referent.rtF (Referent.fInt Syntax.w16)) 768 ρ) λ ρ told. Whole.arr-mem 𝓤 H A W (Referent.rtF (Referent.fInt
               Syntax.w16)) 768 tt ρ) (Reads'.room-gone 𝓤 H A (Syntax.tyArray (Syntax.tyInt Syntax.w16) 768)) (Yields.makes-mem 𝓤 H A W (λ ρ. Unit) (Array'.Array (Referent.rtF (Referent.fInt Syntax.w16))
               768) Path'.refl (Rows.arrF (Referent.rtF (Referent.fInt Syntax.w16)) 768 0) (λ x. x) λ ρ told. Whole.arr-mem 𝓤 H A W (Referent.rtF (Referent.fInt Syntax.w16)) 768 tt ρ) Path'.refl
-              Path'.refl) d62
+              Path'.refl) d64
 
-          d64 : Typed.Typed 𝓤 H A 𝓣 E G8 b49 Δ0 at64
-          d64 = Typed.s-seq 𝓤 H A W 𝓣 E G8 G9 b3 b48 Δ0 (Typed.both s7) at63 (Plain.t-call-plain 𝓤 H A W 𝓣 0 ps·1 r·1 (claims· .2) (claims· .3) "map::xtrans_places" (known .1) E (λ pos β. β) G8 tt 20
-              List.[] (Call.sub-id 𝓤 H A W (G8 .slots)) tt (Reads'.room-gone 𝓤 H A (Syntax.tyArray (Syntax.tyInt Syntax.w16) 768)) tt Path'.refl) d63
+          d66 : Typed.Typed 𝓤 H A 𝓣 E G8 b51 Δ0 at66
+          d66 = Typed.s-seq 𝓤 H A W 𝓣 E G8 G9 b3 b50 Δ0 (Typed.both s7) at65 (Plain.t-call-plain 𝓤 H A W 𝓣 0 ps·1 r·1 (claims· .2) (claims· .3) "map::xtrans_places" (known .1) E (λ pos β. β) G8 tt 20
+              List.[] (Call.sub-id 𝓤 H A W (G8 .slots)) tt (Reads'.room-gone 𝓤 H A (Syntax.tyArray (Syntax.tyInt Syntax.w16) 768)) tt Path'.refl) d65
 
-          d65 : Typed.Typed 𝓤 H A 𝓣 E G7 b50 Δ0 at65
-          d65 = Typed.s-seq 𝓤 H A W 𝓣 E G7 G8 b2 b49 Δ0 (Typed.ask s6) at64 (Scalar.t-op2 𝓤 H A W E 𝓣 G7 (Syntax.add Syntax.unsigned) (Scalar.oFld 9 (List._∷_ (Syntax.field 1) List.[]) (Syntax.tyInt
-              Syntax.w64) 8 (Reads.fieldV Span.the-type Laws'5.the-laws 1)) (Scalar.oInt Syntax.w64 1) 11 (Rows'.sc-here (Row.sInt Syntax.w64)) (Syntax.tyInt Syntax.w64) (Row.valS (Row.sInt Syntax.w64))
-              (Row.sInt Syntax.w64 .of) (Reads.reads-field 𝓤 H A W Span.the-type Laws'5.the-laws 1 (Syntax.tyInt Syntax.w64) 8 Path'.refl, Path'.refl) tt (Reads'.room-gone 𝓤 H A (Syntax.tyInt Syntax.w64))
-              (Scalar.holds-sc 𝓤 H A W (Row.sInt Syntax.w64)) Path'.refl (λ u. Path'.refl) λ u. tt) d64
+          d67 : Typed.Typed 𝓤 H A 𝓣 E G7 b52 Δ0 at67
+          d67 = Typed.s-seq 𝓤 H A W 𝓣 E G7 G8 b2 b51 Δ0 (Typed.ask s6) at66 (Scalar.t-op2 𝓤 H A W E 𝓣 G7 (Syntax.add Syntax.unsigned) (Scalar.oFld 9 (List._∷_ (Syntax.field 1) List.[]) (Syntax.tyInt
+              Syntax.w64) 8 (Reads.fieldV Span.the-type Laws'6.the-laws 1)) (Scalar.oInt Syntax.w64 1) 11 (Rows'.sc-here (Row.sInt Syntax.w64)) (Syntax.tyInt Syntax.w64) (Row.valS (Row.sInt Syntax.w64))
+              (Row.sInt Syntax.w64 .of) (Reads.reads-field 𝓤 H A W Span.the-type Laws'6.the-laws 1 (Syntax.tyInt Syntax.w64) 8 Path'.refl, Path'.refl) tt (Reads'.room-gone 𝓤 H A (Syntax.tyInt Syntax.w64))
+              (Scalar.holds-sc 𝓤 H A W (Row.sInt Syntax.w64)) Path'.refl (λ u. Path'.refl) λ u. tt) d66
 
-          d66 : Typed.Typed 𝓤 H A 𝓣 E G6 b50 Δ0 at66
-          d66 = Typed.g-pre 𝓤 H A W 𝓣 E G6 G7 b50 Δ0 (Typed.give s5) at65 (Know'.g-struct-known 𝓤 H A W E Span.the-type Laws'5.the-laws G6 9 (λ x. x) (Reads'.as-is 𝓤 H A (Rows'.whole (Declared'.row
-              Span.the-type)))) d65
+          d68 : Typed.Typed 𝓤 H A 𝓣 E G6 b52 Δ0 at68
+          d68 = Typed.g-pre 𝓤 H A W 𝓣 E G6 G7 b52 Δ0 (Typed.give s5) at67 (Know'.g-struct-known 𝓤 H A W E Span.the-type Laws'6.the-laws G6 9 (λ x. x) (Reads'.as-is 𝓤 H A (Rows'.whole (Declared'.row
+              Span.the-type)))) d67
 
-          d67 : Typed.Typed 𝓤 H A 𝓣 E G5 b51 Δ0 at67
-          d67 = Typed.s-seq 𝓤 H A W 𝓣 E G5 G6 b1 b50 Δ0 (Typed.pass T5 T6 s4) at66 (Scalar.t-use 𝓤 H A W E 𝓣 G5 (Scalar.oFld 9 (List._∷_ (Syntax.field 2) List.[]) (Syntax.tyInt Syntax.w64) 16
-              (Reads.fieldV Span.the-type Laws'5.the-laws 2)) 10 (Rows'.sc-here (Row.sInt Syntax.w64)) (Syntax.tyInt Syntax.w64) (Row.valS (Row.sInt Syntax.w64)) (Row.sInt Syntax.w64 .of)
-              (Reads.reads-field 𝓤 H A W Span.the-type Laws'5.the-laws 2 (Syntax.tyInt Syntax.w64) 16 Path'.refl, Path'.refl) (Reads'.room-gone 𝓤 H A (Syntax.tyInt Syntax.w64)) (Scalar.holds-sc 𝓤 H A W
-              (Row.sInt Syntax.w64)) Path'.refl (λ u. Path'.refl) λ u. tt) d66
+          d69 : Typed.Typed 𝓤 H A 𝓣 E G5 b53 Δ0 at69
+          d69 = Typed.s-seq 𝓤 H A W 𝓣 E G5 G6 b1 b52 Δ0 (Typed.pass T5 T6 s4) at68 (Scalar.t-use 𝓤 H A W E 𝓣 G5 (Scalar.oFld 9 (List._∷_ (Syntax.field 2) List.[]) (Syntax.tyInt Syntax.w64) 16
+              (Reads.fieldV Span.the-type Laws'6.the-laws 2)) 10 (Rows'.sc-here (Row.sInt Syntax.w64)) (Syntax.tyInt Syntax.w64) (Row.valS (Row.sInt Syntax.w64)) (Row.sInt Syntax.w64 .of)
+              (Reads.reads-field 𝓤 H A W Span.the-type Laws'6.the-laws 2 (Syntax.tyInt Syntax.w64) 16 Path'.refl, Path'.refl) (Reads'.room-gone 𝓤 H A (Syntax.tyInt Syntax.w64)) (Scalar.holds-sc 𝓤 H A W
+              (Row.sInt Syntax.w64)) Path'.refl (λ u. Path'.refl) λ u. tt) d68
 
-          d68 : Typed.Typed 𝓤 H A 𝓣 E G4 b52 Δ0 at68
-          d68 = Typed.s-seq 𝓤 H A W 𝓣 E G4 G5 b0 b51 Δ0 (Typed.both s3) at67 (Plain.t-call-plain 𝓤 H A W 𝓣 0 ps·0 r·0 (claims· .0) (claims· .1) "region::span_of" (known .0) E (λ pos β. β) G4
+          d70 : Typed.Typed 𝓤 H A 𝓣 E G4 b54 Δ0 at70
+          d70 = Typed.s-seq 𝓤 H A W 𝓣 E G4 G5 b0 b53 Δ0 (Typed.both s3) at69 (Plain.t-call-plain 𝓤 H A W 𝓣 0 ps·0 r·0 (claims· .0) (claims· .1) "region::span_of" (known .0) E (λ pos β. β) G4
               (record { pos = 3; st = List.[]; d = 0; at = λ x. x }, tt) 9 List.[] (Call.sub-id 𝓤 H A W (G4 .slots)) (
                 (
-                  Yields.yields-copy 𝓤 H A W (λ ρ. Unit) (Declared'.row Rect.the-type) Path'.refl (Copies.cStruct Rect.the-type Laws'4.the-laws Laws'4.the-copy .copy 𝓤 H A W) (Rows'.whole (Declared'.row
+                  Yields.yields-copy 𝓤 H A W (λ ρ. Unit) (Declared'.row Rect.the-type) Path'.refl (Copies.cStruct Rect.the-type Laws'5.the-laws Laws'5.the-copy .copy 𝓤 H A W) (Rows'.whole (Declared'.row
                       Rect.the-type)) (λ x. x) (λ x. x) (λ ρ told. Local.mem-whole 𝓤 H A W (Declared'.row Rect.the-type) ρ) λ ρ told. Local.whole-mem 𝓤 H A W (Declared'.row Rect.the-type) ρ,
                   Path'.refl,
                 ),
                 tt,
               )
-              (Reads'.room-gone 𝓤 H A y2) tt Path'.refl) d67
+              (Reads'.room-gone 𝓤 H A y3) tt Path'.refl) d69
 
-          d69 : Typed.Typed 𝓤 H A 𝓣 E G3 b52 Δ0 at69
-          d69 = Typed.g-pre 𝓤 H A W 𝓣 E G3 G4 b52 Δ0 (Typed.give s2) at68 (Know.g-sl-known 𝓤 H A W (Referent.fInt Syntax.w16) E G3 6 2 (Syntax.tyRef (Syntax.named 2) Syntax.mut (Syntax.tyInt
+          d71 : Typed.Typed 𝓤 H A 𝓣 E G3 b54 Δ0 at71
+          d71 = Typed.g-pre 𝓤 H A W 𝓣 E G3 G4 b54 Δ0 (Typed.give s2) at70 (Know.g-sl-known 𝓤 H A W (Referent.fInt Syntax.w16) E G3 6 2 (Syntax.tyRef (Syntax.named 2) Syntax.mut (Syntax.tyInt
               Syntax.w16)) (Row.lease (κs .1 .1 .0) (qs .1 .1 .0)) 0 (λ x. x) record { fits = Dec'.lit< tt } (Reads'.as-is 𝓤 H A (Mut.mslice (Referent.rtF (Referent.fInt Syntax.w16)) (Syntax.tyRef
-              (Syntax.named 2) Syntax.mut (Syntax.tyInt Syntax.w16)) 2)) Path'.refl tt) d68
+              (Syntax.named 2) Syntax.mut (Syntax.tyInt Syntax.w16)) 2)) Path'.refl tt) d70
 
-          d70 : Typed.Typed 𝓤 H A 𝓣 E G2 b52 Δ0 at70
-          d70 = Typed.g-pre 𝓤 H A W 𝓣 E G2 G3 b52 Δ0 (Typed.give s1) at69 (Know.g-sl-known 𝓤 H A W (Referent.fInt Syntax.w16) E G2 5 1 (Syntax.tyRef (Syntax.named 1) Syntax.mut (Syntax.tyInt
+          d72 : Typed.Typed 𝓤 H A 𝓣 E G2 b54 Δ0 at72
+          d72 = Typed.g-pre 𝓤 H A W 𝓣 E G2 G3 b54 Δ0 (Typed.give s1) at71 (Know.g-sl-known 𝓤 H A W (Referent.fInt Syntax.w16) E G2 5 1 (Syntax.tyRef (Syntax.named 1) Syntax.mut (Syntax.tyInt
               Syntax.w16)) (Row.lease (κs .1 .0) (qs .1 .0)) 0 (λ x. x) record { fits = Dec'.lit< tt } (Reads'.as-is 𝓤 H A (Mut.mslice (Referent.rtF (Referent.fInt Syntax.w16)) (Syntax.tyRef (Syntax.named
-              1) Syntax.mut (Syntax.tyInt Syntax.w16)) 1)) Path'.refl tt) d69
+              1) Syntax.mut (Syntax.tyInt Syntax.w16)) 1)) Path'.refl tt) d71
 
-          d71 : Typed.Typed 𝓤 H A 𝓣 E G0 b52 Δ0 at71
-          d71 = Typed.g-pre 𝓤 H A W 𝓣 E G0 G2 b52 Δ0 (Typed.give s0) at70 (Know.g-shs-known 𝓤 H A W (Referent.fInt Syntax.w8) E G0 1 0 (Syntax.tyRef (Syntax.named 0) Syntax.imm (Syntax.tyInt
+          d73 : Typed.Typed 𝓤 H A 𝓣 E G0 b54 Δ0 at73
+          d73 = Typed.g-pre 𝓤 H A W 𝓣 E G0 G2 b54 Δ0 (Typed.give s0) at72 (Know.g-shs-known 𝓤 H A W (Referent.fInt Syntax.w8) E G0 1 0 (Syntax.tyRef (Syntax.named 0) Syntax.imm (Syntax.tyInt
               Syntax.w8)) (Row.lease (κs .0) (qs .0)) 0 (λ x. x) record { fits = Dec'.lit< tt } (Reads'.as-is 𝓤 H A (Rows'.sslice (Referent.rtF (Referent.fInt Syntax.w8)) (Syntax.tyRef (Syntax.named 0)
-              Syntax.imm (Syntax.tyInt Syntax.w8)) 0)) Path'.refl tt) d70
+              Syntax.imm (Syntax.tyInt Syntax.w8)) 0)) Path'.refl tt) d72
 
-          pub typed : Typed.Typed 𝓤 H A 𝓣 E (Function.Γin 4 ps r xs m κs qs) b52 (Function.Δret 4 ps r xs m κs qs) Φ
-          typed = d71
+          pub typed : Typed.Typed 𝓤 H A 𝓣 E (Function.Γin 4 ps r xs m κs qs) b54 (Function.Δret 4 ps r xs m κs qs) Φ
+          typed = d73
 
       module _ (κs : Lifetimes.Lfts 4) where
         pub record Args : Type 0 where
@@ -2735,35 +2889,35 @@ module _ (claims· : Claims) where
           pub h : Kinds.Den {n = 4} κs (Value.pVal record {
             ty = Declared'.row FujiHeader.the-type;
             one = Path'.refl;
-            val = Laws'8.val FujiHeader.the-type Laws'6.the-laws;
-            tells = Laws'8.tells FujiHeader.the-type Laws'6.the-laws;
+            val = Laws'9.val FujiHeader.the-type Laws'7.the-laws;
+            tells = Laws'9.tells FujiHeader.the-type Laws'7.the-laws;
             still =
-                Laws'8.still FujiHeader.the-type Laws'6.the-copy Exit.yes;
+                Laws'9.still FujiHeader.the-type Laws'7.the-copy Exit.yes;
             row = Rows'.whole (Declared'.row FujiHeader.the-type);
             rd = λ x. x;
             mk = λ x. x;
           } λ M 𝓤 H A W. record {
-            copies = Laws'8.copy FujiHeader.the-type Laws'6.the-copy 𝓤 H A W;
-            lawful = Laws'8.lawful FujiHeader.the-type Laws'6.the-laws 𝓤 H A W;
-            makes = Laws'8.makes FujiHeader.the-type
-                Laws'6.the-plain 𝓤 H A;
+            copies = Laws'9.copy FujiHeader.the-type Laws'7.the-copy 𝓤 H A W;
+            lawful = Laws'9.lawful FujiHeader.the-type Laws'7.the-laws 𝓤 H A W;
+            makes = Laws'9.makes FujiHeader.the-type
+                Laws'7.the-plain 𝓤 H A;
             in-mem = Local.mem-whole 𝓤 H A W (Declared'.row FujiHeader.the-type);
             of-mem = Local.whole-mem 𝓤 H A W (Declared'.row FujiHeader.the-type);
           })
           pub r : Kinds.Den {n = 4} κs (Value.pVal record {
             ty = Declared'.row Rect.the-type;
             one = Path'.refl;
-            val = Laws'8.val Rect.the-type Laws'4.the-laws;
-            tells = Laws'8.tells Rect.the-type Laws'4.the-laws;
-            still = Laws'8.still Rect.the-type
-                Laws'4.the-copy Exit.yes;
+            val = Laws'9.val Rect.the-type Laws'5.the-laws;
+            tells = Laws'9.tells Rect.the-type Laws'5.the-laws;
+            still = Laws'9.still Rect.the-type
+                Laws'5.the-copy Exit.yes;
             row = Rows'.whole (Declared'.row Rect.the-type);
             rd = λ x. x;
             mk = λ x. x;
           } λ M 𝓤 H A W. record {
-            copies = Laws'8.copy Rect.the-type Laws'4.the-copy 𝓤 H A W;
-            lawful = Laws'8.lawful Rect.the-type Laws'4.the-laws 𝓤 H A W;
-            makes = Laws'8.makes Rect.the-type Laws'4.the-plain 𝓤 H A;
+            copies = Laws'9.copy Rect.the-type Laws'5.the-copy 𝓤 H A W;
+            lawful = Laws'9.lawful Rect.the-type Laws'5.the-laws 𝓤 H A W;
+            makes = Laws'9.makes Rect.the-type Laws'5.the-plain 𝓤 H A;
             in-mem
                 = Local.mem-whole 𝓤 H A W (Declared'.row Rect.the-type);
             of-mem = Local.whole-mem 𝓤 H A W (Declared'.row Rect.the-type);
@@ -2894,7 +3048,7 @@ module _ (claims· : Claims) where
       m12 = λ before given. s11 (m11 before given)
 
       abbrev W1 : (before : After-struct-known) → (given : s7 .gives (m7 (before .before) (before .struct-known .given))) → Typed.Want O1
-      W1 = λ before given. Typed.wantNext T14 O0 (at58 (W0 (before .before .before .before .before .before .κs) (before .before .before .before .before .before .args))) (W0 (before .before .before
+      W1 = λ before given. Typed.wantNext T14 O0 (at60 (W0 (before .before .before .before .before .before .κs) (before .before .before .before .before .before .args))) (W0 (before .before .before
           .before .before .before .κs) (before .before .before .before .before .before .args))
 
       abbrev pub m13 : (before : After-struct-known) → (given : s7 .gives (m7 (before .before) (before .struct-known .given))) → Typed.Mo T15
@@ -2949,7 +3103,7 @@ module _ (claims· : Claims) where
           11 (T15 .locals) u) (Row.get 12 (T15 .locals) u) (Row.get 13 (T15 .locals) u) (Row.get 14 (T15 .locals) u) (vs .0) (vs .1) (vs .2) (vs .3) (vs .4)) (λ u vs. μ·0 (Row.get 1 (T15 .locals) u .now)
           (Row.get 2 (T15 .locals) u) (Row.get 3 (T15 .locals) u) (Row.get 4 (T15 .locals) u) (Row.get 5 (T15 .locals) u .now) (Row.get 6 (T15 .locals) u .now) (Row.get 7 (T15 .locals) u .now) (Row.get 8
           (T15 .locals) u) (Row.get 10 (T15 .locals) u) (Row.get 11 (T15 .locals) u) (Row.get 12 (T15 .locals) u) (Row.get 13 (T15 .locals) u) (Row.get 14 (T15 .locals) u) (vs .0) (vs .1) (vs .2) (vs .3)
-          (vs .4)) at48 (m13 (before .before) (After-xtrans-places·gave before)) (image, lines, rs, answer, b)) (W2 (before .before) (After-xtrans-places·gave before))
+          (vs .4)) at50 (m13 (before .before) (After-xtrans-places·gave before)) (image, lines, rs, answer, b)) (W2 (before .before) (After-xtrans-places·gave before))
 
       abbrev pub m15 : (before : After-xtrans-places) → (image : List.List (Referent.rtF (Referent.fInt Syntax.w16) .Denot)) → (lines : List.List (Referent.rtF (Referent.fInt Syntax.w16) .Denot)) →
           (rs : List.List (Element.type .Denot)) → (answer : Rows'.whole (Declared.row Decoded.the-type) .Mod) → (b : Rows'.sc-here (Row.sInt Syntax.w64) .Mod) → Typed.Mo T16
@@ -2957,7 +3111,7 @@ module _ (claims· : Claims) where
 
       abbrev W4 : (before : After-xtrans-places) → (image : List.List (Referent.rtF (Referent.fInt Syntax.w16) .Denot)) → (lines : List.List (Referent.rtF (Referent.fInt Syntax.w16) .Denot)) → (rs :
           List.List (Element.type .Denot)) → (answer : Rows'.whole (Declared.row Decoded.the-type) .Mod) → (b : Rows'.sc-here (Row.sInt Syntax.w64) .Mod) → Typed.Want O4
-      W4 = λ before image lines rs answer b. Typed.wantNext T17 O3 (at46 (W3 before image lines rs answer b)) (W3 before image lines rs answer b)
+      W4 = λ before image lines rs answer b. Typed.wantNext T17 O3 (at48 (W3 before image lines rs answer b)) (W3 before image lines rs answer b)
 
       module _ (before· : After-xtrans-places) where
         pub record At-loop·own : Type 0 where
@@ -3142,15 +3296,32 @@ module _ (claims· : Claims) where
         pub before : After-walk-arg3
         pub places : After-places·own before
 
-      abbrev pub Need-walk-requires : Type 0
-      Need-walk-requires = (c : After-places) → s35 .asks (m32 (c .before) (c .places .given))
+      abbrev pub Need-no-entries-requires : Type 0
+      Need-no-entries-requires = (c : After-places) → s35 .asks (m32 (c .before) (c .places .given))
 
       abbrev pub m33 : (before : After-places) → (given : s35 .gives (m32 (before .before) (before .places .given))) → Typed.Mo T39
       m33 = λ before given. s35 .next (m32 (before .before) (before .places .given)) given
 
       module _ (before· : After-places) where
+        abbrev pub After-no-entries·own : Type 0
+        After-no-entries·own = Called.Called ps·6 r·6 (claims· .13) T38 tt (m32 (before· .before) (before· .places .given))
+
+      pub record After-no-entries : Type 0 where
+        pub before : After-places
+        pub no-entries : After-no-entries·own before
+
+      abbrev pub After-no-entries·gave : (c : After-no-entries) → s35 .gives (m32 (c .before .before) (c .before .places .given))
+      After-no-entries·gave = λ c. Called.given ps·6 r·6 (claims· .13) T38 tt (m32 (c .before .before) (c .before .places .given)) (c .no-entries)
+
+      abbrev pub Need-walk-requires : Type 0
+      Need-walk-requires = (c : After-no-entries) → s36 .asks (m33 (c .before) (After-no-entries·gave c))
+
+      abbrev pub m34 : (before : After-no-entries) → (given : s36 .gives (m33 (before .before) (After-no-entries·gave before))) → Typed.Mo T40
+      m34 = λ before given. s36 .next (m33 (before .before) (After-no-entries·gave before)) given
+
+      module _ (before· : After-no-entries) where
         abbrev pub After-walk·own : Type 0
-        After-walk·own = Called.Called ps·6 r·6 (claims· .13) T38 (
+        After-walk·own = Called.Called ps·7 r·7 (claims· .15) T39 (
           record { pos = 16; ty = Syntax.tyRef Syntax.erased Syntax.imm (Syntax.tyInt Syntax.w8); ref = λ x. x },
           (
             record { pos = 17; ty = Syntax.tyRef Syntax.erased Syntax.imm (Syntax.tyInt Syntax.w8); ref = λ x. x },
@@ -3164,22 +3335,25 @@ module _ (claims· : Claims) where
                     record { pos = 15; st = List.[]; d = 0; at = λ x. x },
                     (
                       record { pos = 28; ty = Syntax.tyRef Syntax.erased Syntax.imm (Syntax.tyArray (Syntax.tyInt Syntax.w16) 768); ref = λ x. x },
-                      (record { pos = 4; st = List.[]; d = 0; at = λ x. x }, (record { pos = 18; st = List.[]; d = 0; at = λ x. x }, (Num.vAt 10 λ x. x, (Bool.bAt 8 λ x. x, tt)))),
+                      (
+                        record { pos = 4; st = List.[]; d = 0; at = λ x. x },
+                        (record { pos = 18; st = List.[]; d = 0; at = λ x. x }, (Num.vAt 10 λ x. x, (Bool.bAt 8 λ x. x, (record { pos = 29; st = List.[]; d = 0; at = λ x. x }, tt)))),
+                      ),
                     ),
                   ),
                 ),
               ),
             ),
           ),
-        ) (m32 (before· .before)
-            (before· .places .given))
+        ) (m33 (before· .before)
+            (After-no-entries·gave before·))
 
       pub record After-walk : Type 0 where
-        pub before : After-places
+        pub before : After-no-entries
         pub walk : After-walk·own before
 
-      abbrev pub After-walk·gave : (c : After-walk) → s35 .gives (m32 (c .before .before) (c .before .places .given))
-      After-walk·gave = λ c. Called.given ps·6 r·6 (claims· .13) T38 (
+      abbrev pub After-walk·gave : (c : After-walk) → s36 .gives (m33 (c .before .before) (After-no-entries·gave (c .before)))
+      After-walk·gave = λ c. Called.given ps·7 r·7 (claims· .15) T39 (
         record { pos = 16; ty = Syntax.tyRef Syntax.erased Syntax.imm (Syntax.tyInt Syntax.w8); ref = λ x. x },
         (
           record { pos = 17; ty = Syntax.tyRef Syntax.erased Syntax.imm (Syntax.tyInt Syntax.w8); ref = λ x. x },
@@ -3193,210 +3367,215 @@ module _ (claims· : Claims) where
                   record { pos = 15; st = List.[]; d = 0; at = λ x. x },
                   (
                     record { pos = 28; ty = Syntax.tyRef Syntax.erased Syntax.imm (Syntax.tyArray (Syntax.tyInt Syntax.w16) 768); ref = λ x. x },
-                    (record { pos = 4; st = List.[]; d = 0; at = λ x. x }, (record { pos = 18; st = List.[]; d = 0; at = λ x. x }, (Num.vAt 10 λ x. x, (Bool.bAt 8 λ x. x, tt)))),
+                    (
+                      record { pos = 4; st = List.[]; d = 0; at = λ x. x },
+                      (record { pos = 18; st = List.[]; d = 0; at = λ x. x }, (Num.vAt 10 λ x. x, (Bool.bAt 8 λ x. x, (record { pos = 29; st = List.[]; d = 0; at = λ x. x }, tt)))),
+                    ),
                   ),
                 ),
               ),
             ),
           ),
         ),
-      ) (m32 (c .before .before) (c
-          .before .places .given)) (c .walk)
+      ) (m33 (c .before .before)
+          (After-no-entries·gave (c .before))) (c .walk)
 
-      abbrev pub m34 : (before : After-places) → (given : s35 .gives (m32 (before .before) (before .places .given))) → Typed.Mo T40
-      m34 = λ before given. s36 (m33 before given)
-
-      abbrev pub m35 : (before : After-places) → (given : s35 .gives (m32 (before .before) (before .places .given))) → Typed.Mo T41
+      abbrev pub m35 : (before : After-no-entries) → (given : s36 .gives (m33 (before .before) (After-no-entries·gave before))) → Typed.Mo T41
       m35 = λ before given. s37 (m34 before given)
 
-      abbrev pub m36 : (before : After-places) → (given : s35 .gives (m32 (before .before) (before .places .given))) → Typed.Mo T42
+      abbrev pub m36 : (before : After-no-entries) → (given : s36 .gives (m33 (before .before) (After-no-entries·gave before))) → Typed.Mo T42
       m36 = λ before given. s38 (m35 before given)
 
-      abbrev pub m37 : (before : After-places) → (given : s35 .gives (m32 (before .before) (before .places .given))) → Typed.Mo T43
+      abbrev pub m37 : (before : After-no-entries) → (given : s36 .gives (m33 (before .before) (After-no-entries·gave before))) → Typed.Mo T43
       m37 = λ before given. s39 (m36 before given)
 
-      abbrev pub m38 : (before : After-places) → (given : s35 .gives (m32 (before .before) (before .places .given))) → Typed.Mo T44
+      abbrev pub m38 : (before : After-no-entries) → (given : s36 .gives (m33 (before .before) (After-no-entries·gave before))) → Typed.Mo T44
       m38 = λ before given. s40 (m37 before given)
 
-      abbrev pub m39 : (before : After-walk) → (given : s42 .gives (m38 (before .before) (After-walk·gave before))) → Typed.Mo T46
-      m39 = λ before given. s42 .next (m38 (before .before) (After-walk·gave before)) given
+      abbrev pub m39 : (before : After-no-entries) → (given : s36 .gives (m33 (before .before) (After-no-entries·gave before))) → Typed.Mo T45
+      m39 = λ before given. s41 (m38 before given)
+
+      abbrev pub m40 : (before : After-no-entries) → (given : s36 .gives (m33 (before .before) (After-no-entries·gave before))) → Typed.Mo T46
+      m40 = λ before given. s42 (m39 before given)
+
+      abbrev pub m41 : (before : After-walk) → (given : s44 .gives (m40 (before .before) (After-walk·gave before))) → Typed.Mo T48
+      m41 = λ before given. s44 .next (m40 (before .before) (After-walk·gave before)) given
 
       module _ (before· : After-walk) where
         pub record After-lines·own : Type 0 where
-          pub given : s42 .gives (m38 (before· .before) (After-walk·gave before·))
+          pub given : s44 .gives (m40 (before· .before) (After-walk·gave before·))
 
       pub record After-lines : Type 0 where
         pub before : After-walk
         pub lines : After-lines·own before
 
-      abbrev pub m40 : (before : After-lines) → (given : s43 .gives (m39 (before .before) (before .lines .given))) → Typed.Mo T47
-      m40 = λ before given. s43 .next (m39 (before .before) (before .lines .given)) given
+      abbrev pub m42 : (before : After-lines) → (given : s45 .gives (m41 (before .before) (before .lines .given))) → Typed.Mo T49
+      m42 = λ before given. s45 .next (m41 (before .before) (before .lines .given)) given
 
       module _ (before· : After-lines) where
         pub record After-slice-known3·own : Type 0 where
-          pub given : s43 .gives (m39 (before· .before) (before· .lines .given))
+          pub given : s45 .gives (m41 (before· .before) (before· .lines .given))
 
       pub record After-slice-known3 : Type 0 where
         pub before : After-lines
         pub slice-known3 : After-slice-known3·own before
 
-      abbrev pub m41 : (before : After-slice-known3) → (given : s46 .gives (m40 (before .before) (before .slice-known3 .given))) → Typed.Mo T50
-      m41 = λ before given. s46 .next (m40 (before .before) (before .slice-known3 .given)) given
+      abbrev pub m43 : (before : After-slice-known3) → (given : s48 .gives (m42 (before .before) (before .slice-known3 .given))) → Typed.Mo T52
+      m43 = λ before given. s48 .next (m42 (before .before) (before .slice-known3 .given)) given
 
       module _ (before· : After-slice-known3) where
         pub record After-rs·own : Type 0 where
-          pub given : s46 .gives (m40 (before· .before) (before· .slice-known3 .given))
+          pub given : s48 .gives (m42 (before· .before) (before· .slice-known3 .given))
 
       pub record After-rs : Type 0 where
         pub before : After-slice-known3
         pub rs : After-rs·own before
 
-      abbrev pub m42 : (before : After-rs) → (given : s49 .gives (m41 (before .before) (before .rs .given))) → Typed.Mo T53
-      m42 = λ before given. s49 .next (m41 (before .before) (before .rs .given)) given
+      abbrev pub m44 : (before : After-rs) → (given : s51 .gives (m43 (before .before) (before .rs .given))) → Typed.Mo T55
+      m44 = λ before given. s51 .next (m43 (before .before) (before .rs .given)) given
 
       module _ (before· : After-rs) where
         pub record After-image·own : Type 0 where
-          pub given : s49 .gives (m41 (before· .before) (before· .rs .given))
+          pub given : s51 .gives (m43 (before· .before) (before· .rs .given))
 
       pub record After-image : Type 0 where
         pub before : After-rs
         pub image : After-image·own before
 
-      abbrev pub m43 : (before : After-image) → (given : s50 .gives (m42 (before .before) (before .image .given))) → Typed.Mo T54
-      m43 = λ before given. s50 .next (m42 (before .before) (before .image .given)) given
+      abbrev pub m45 : (before : After-image) → (given : s52 .gives (m44 (before .before) (before .image .given))) → Typed.Mo T56
+      m45 = λ before given. s52 .next (m44 (before .before) (before .image .given)) given
 
-      abbrev pub m44 : (before : After-image) → (given : s50 .gives (m42 (before .before) (before .image .given))) → Typed.Mo T57
-      m44 = λ before given. s53 (m43 before given)
+      abbrev pub m46 : (before : After-image) → (given : s52 .gives (m44 (before .before) (before .image .given))) → Typed.Mo T59
+      m46 = λ before given. s55 (m45 before given)
 
       module _ (before· : After-image) where
         pub record After-slice-known4·own : Type 0 where
-          pub given : s50 .gives (m42 (before· .before) (before· .image .given))
+          pub given : s52 .gives (m44 (before· .before) (before· .image .given))
 
       pub record After-slice-known4 : Type 0 where
         pub before : After-image
         pub slice-known4 : After-slice-known4·own before
 
       abbrev pub Need-judged-requires : Type 0
-      Need-judged-requires = (c : After-slice-known4) → s55 .asks (m44 (c .before) (c .slice-known4 .given))
+      Need-judged-requires = (c : After-slice-known4) → s57 .asks (m46 (c .before) (c .slice-known4 .given))
 
-      abbrev pub m45 : (before : After-slice-known4) → (given : s55 .gives (m44 (before .before) (before .slice-known4 .given))) → Typed.Mo T59
-      m45 = λ before given. s55 .next (m44 (before .before) (before .slice-known4 .given)) given
+      abbrev pub m47 : (before : After-slice-known4) → (given : s57 .gives (m46 (before .before) (before .slice-known4 .given))) → Typed.Mo T61
+      m47 = λ before given. s57 .next (m46 (before .before) (before .slice-known4 .given)) given
 
       module _ (before· : After-slice-known4) where
         abbrev pub After-judged·own : Type 0
-        After-judged·own = Called.Called ps·7 r·7 (claims· .15) T57
-            (record { pos = 13; st = List.[]; d = 0; at = λ x. x }, (Num.vAt 14 λ x. x, (record { pos = 19; st = List.[]; d = 0; at = λ x. x }, tt))) (m44 (before· .before) (before· .slice-known4 .given))
+        After-judged·own = Called.Called ps·8 r·8 (claims· .17) T59
+            (record { pos = 13; st = List.[]; d = 0; at = λ x. x }, (Num.vAt 14 λ x. x, (record { pos = 19; st = List.[]; d = 0; at = λ x. x }, tt))) (m46 (before· .before) (before· .slice-known4 .given))
 
       pub record After-judged : Type 0 where
         pub before : After-slice-known4
         pub judged : After-judged·own before
 
-      abbrev pub After-judged·gave : (c : After-judged) → s55 .gives (m44 (c .before .before) (c .before .slice-known4 .given))
-      After-judged·gave = λ c. Called.given ps·7 r·7 (claims· .15) T57
-          (record { pos = 13; st = List.[]; d = 0; at = λ x. x }, (Num.vAt 14 λ x. x, (record { pos = 19; st = List.[]; d = 0; at = λ x. x }, tt))) (m44 (c .before .before) (c .before .slice-known4
+      abbrev pub After-judged·gave : (c : After-judged) → s57 .gives (m46 (c .before .before) (c .before .slice-known4 .given))
+      After-judged·gave = λ c. Called.given ps·8 r·8 (claims· .17) T59
+          (record { pos = 13; st = List.[]; d = 0; at = λ x. x }, (Num.vAt 14 λ x. x, (record { pos = 19; st = List.[]; d = 0; at = λ x. x }, tt))) (m46 (c .before .before) (c .before .slice-known4
           .given)) (c .judged)
 
-      abbrev pub m46 : (before : After-slice-known4) → (given : s55 .gives (m44 (before .before) (before .slice-known4 .given))) → Typed.Mo T60
-      m46 = λ before given. s56 (m45 before given)
+      abbrev pub m48 : (before : After-slice-known4) → (given : s57 .gives (m46 (before .before) (before .slice-known4 .given))) → Typed.Mo T62
+      m48 = λ before given. s58 (m47 before given)
 
       abbrev pub Need-add-b : Type 0
-      Need-add-b = (c : After-judged) → s57 .asks (m46 (c .before) (After-judged·gave c))
+      Need-add-b = (c : After-judged) → s59 .asks (m48 (c .before) (After-judged·gave c))
 
-      abbrev pub m47 : (before : After-slice-known4) → (given : s55 .gives (m44 (before .before) (before .slice-known4 .given))) → Typed.Mo T61
-      m47 = λ before given. s57 .next (m46 before given)
+      abbrev pub m49 : (before : After-slice-known4) → (given : s57 .gives (m46 (before .before) (before .slice-known4 .given))) → Typed.Mo T63
+      m49 = λ before given. s59 .next (m48 before given)
 
       abbrev pub Need-loop-less : Type 0
       Need-loop-less = (c : After-judged) → Nat._<_ (μ·0 (Row.get 1 (T15 .locals) (m13 (c .before .before .before .before .before .before .before .before .before .before .before .before .before
-          .before .before .before .before .before) (After-xtrans-places·gave (c .before .before .before .before .before .before .before .before .before .before .before .before .before .before .before
-          .before .before))) .now) (Row.get 2 (T15 .locals) (m13 (c .before .before .before .before .before .before .before .before .before .before .before .before .before .before .before .before .before
-          .before) (After-xtrans-places·gave (c .before .before .before .before .before .before .before .before .before .before .before .before .before .before .before .before .before)))) (Row.get 3 (T15
-          .locals) (m13 (c .before .before .before .before .before .before .before .before .before .before .before .before .before .before .before .before .before .before) (After-xtrans-places·gave (c
-          .before .before .before .before .before .before .before .before .before .before .before .before .before .before .before .before .before)))) (Row.get 4 (T15 .locals) (m13 (c .before .before
-          .before .before .before .before .before .before .before .before .before .before .before .before .before .before .before .before) (After-xtrans-places·gave (c .before .before .before .before
-          .before .before .before .before .before .before .before .before .before .before .before .before .before)))) (Row.get 5 (T15 .locals) (m13 (c .before .before .before .before .before .before
-          .before .before .before .before .before .before .before .before .before .before .before .before) (After-xtrans-places·gave (c .before .before .before .before .before .before .before .before
-          .before .before .before .before .before .before .before .before .before))) .now) (Row.get 6 (T15 .locals) (m13 (c .before .before .before .before .before .before .before .before .before .before
-          .before .before .before .before .before .before .before .before) (After-xtrans-places·gave (c .before .before .before .before .before .before .before .before .before .before .before .before
+          .before .before .before .before .before .before) (After-xtrans-places·gave (c .before .before .before .before .before .before .before .before .before .before .before .before .before .before
+          .before .before .before .before))) .now) (Row.get 2 (T15 .locals) (m13 (c .before .before .before .before .before .before .before .before .before .before .before .before .before .before .before
+          .before .before .before .before) (After-xtrans-places·gave (c .before .before .before .before .before .before .before .before .before .before .before .before .before .before .before .before
+          .before .before)))) (Row.get 3 (T15 .locals) (m13 (c .before .before .before .before .before .before .before .before .before .before .before .before .before .before .before .before .before
+          .before .before) (After-xtrans-places·gave (c .before .before .before .before .before .before .before .before .before .before .before .before .before .before .before .before .before .before))))
+          (Row.get 4 (T15 .locals) (m13 (c .before .before .before .before .before .before .before .before .before .before .before .before .before .before .before .before .before .before .before)
+          (After-xtrans-places·gave (c .before .before .before .before .before .before .before .before .before .before .before .before .before .before .before .before .before .before)))) (Row.get 5 (T15
+          .locals) (m13 (c .before .before .before .before .before .before .before .before .before .before .before .before .before .before .before .before .before .before .before)
+          (After-xtrans-places·gave (c .before .before .before .before .before .before .before .before .before .before .before .before .before .before .before .before .before .before))) .now) (Row.get 6
+          (T15 .locals) (m13 (c .before .before .before .before .before .before .before .before .before .before .before .before .before .before .before .before .before .before .before)
+          (After-xtrans-places·gave (c .before .before .before .before .before .before .before .before .before .before .before .before .before .before .before .before .before .before))) .now) (Row.get 7
+          (T15 .locals) (m13 (c .before .before .before .before .before .before .before .before .before .before .before .before .before .before .before .before .before .before .before)
+          (After-xtrans-places·gave (c .before .before .before .before .before .before .before .before .before .before .before .before .before .before .before .before .before .before))) .now) (Row.get 8
+          (T15 .locals) (m13 (c .before .before .before .before .before .before .before .before .before .before .before .before .before .before .before .before .before .before .before)
+          (After-xtrans-places·gave (c .before .before .before .before .before .before .before .before .before .before .before .before .before .before .before .before .before .before)))) (Row.get 10 (T15
+          .locals) (m13 (c .before .before .before .before .before .before .before .before .before .before .before .before .before .before .before .before .before .before .before)
+          (After-xtrans-places·gave (c .before .before .before .before .before .before .before .before .before .before .before .before .before .before .before .before .before .before)))) (Row.get 11 (T15
+          .locals) (m13 (c .before .before .before .before .before .before .before .before .before .before .before .before .before .before .before .before .before .before .before)
+          (After-xtrans-places·gave (c .before .before .before .before .before .before .before .before .before .before .before .before .before .before .before .before .before .before)))) (Row.get 12 (T15
+          .locals) (m13 (c .before .before .before .before .before .before .before .before .before .before .before .before .before .before .before .before .before .before .before)
+          (After-xtrans-places·gave (c .before .before .before .before .before .before .before .before .before .before .before .before .before .before .before .before .before .before)))) (Row.get 13 (T15
+          .locals) (m13 (c .before .before .before .before .before .before .before .before .before .before .before .before .before .before .before .before .before .before .before)
+          (After-xtrans-places·gave (c .before .before .before .before .before .before .before .before .before .before .before .before .before .before .before .before .before .before)))) (Row.get 14 (T15
+          .locals) (m13 (c .before .before .before .before .before .before .before .before .before .before .before .before .before .before .before .before .before .before .before)
+          (After-xtrans-places·gave (c .before .before .before .before .before .before .before .before .before .before .before .before .before .before .before .before .before .before)))) (Row.get 5 (T15
+          .locals) (m49 (c .before) (After-judged·gave c)) .now) (Row.get 6 (T15 .locals) (m49 (c .before) (After-judged·gave c)) .now) (Row.get 7 (T15 .locals) (m49 (c .before) (After-judged·gave c))
+          .now) (Row.get 13 (T15 .locals) (m49 (c .before) (After-judged·gave c))) (Row.get 14 (T15 .locals) (m49 (c .before) (After-judged·gave c)))) (μ·0 (Row.get 1 (T15 .locals) (m13 (c .before .before
+          .before .before .before .before .before .before .before .before .before .before .before .before .before .before .before .before .before) (After-xtrans-places·gave (c .before .before .before
+          .before .before .before .before .before .before .before .before .before .before .before .before .before .before .before))) .now) (Row.get 2 (T15 .locals) (m13 (c .before .before .before .before
+          .before .before .before .before .before .before .before .before .before .before .before .before .before .before .before) (After-xtrans-places·gave (c .before .before .before .before .before
+          .before .before .before .before .before .before .before .before .before .before .before .before .before)))) (Row.get 3 (T15 .locals) (m13 (c .before .before .before .before .before .before
+          .before .before .before .before .before .before .before .before .before .before .before .before .before) (After-xtrans-places·gave (c .before .before .before .before .before .before .before
+          .before .before .before .before .before .before .before .before .before .before .before)))) (Row.get 4 (T15 .locals) (m13 (c .before .before .before .before .before .before .before .before
+          .before .before .before .before .before .before .before .before .before .before .before) (After-xtrans-places·gave (c .before .before .before .before .before .before .before .before .before
+          .before .before .before .before .before .before .before .before .before)))) (Row.get 5 (T15 .locals) (m13 (c .before .before .before .before .before .before .before .before .before .before
+          .before .before .before .before .before .before .before .before .before) (After-xtrans-places·gave (c .before .before .before .before .before .before .before .before .before .before .before
+          .before .before .before .before .before .before .before))) .now) (Row.get 6 (T15 .locals) (m13 (c .before .before .before .before .before .before .before .before .before .before .before .before
+          .before .before .before .before .before .before .before) (After-xtrans-places·gave (c .before .before .before .before .before .before .before .before .before .before .before .before .before
           .before .before .before .before .before))) .now) (Row.get 7 (T15 .locals) (m13 (c .before .before .before .before .before .before .before .before .before .before .before .before .before .before
-          .before .before .before .before) (After-xtrans-places·gave (c .before .before .before .before .before .before .before .before .before .before .before .before .before .before .before .before
-          .before))) .now) (Row.get 8 (T15 .locals) (m13 (c .before .before .before .before .before .before .before .before .before .before .before .before .before .before .before .before .before .before)
-          (After-xtrans-places·gave (c .before .before .before .before .before .before .before .before .before .before .before .before .before .before .before .before .before)))) (Row.get 10 (T15 .locals)
-          (m13 (c .before .before .before .before .before .before .before .before .before .before .before .before .before .before .before .before .before .before) (After-xtrans-places·gave (c .before
-          .before .before .before .before .before .before .before .before .before .before .before .before .before .before .before .before)))) (Row.get 11 (T15 .locals) (m13 (c .before .before .before
-          .before .before .before .before .before .before .before .before .before .before .before .before .before .before .before) (After-xtrans-places·gave (c .before .before .before .before .before
-          .before .before .before .before .before .before .before .before .before .before .before .before)))) (Row.get 12 (T15 .locals) (m13 (c .before .before .before .before .before .before .before
-          .before .before .before .before .before .before .before .before .before .before .before) (After-xtrans-places·gave (c .before .before .before .before .before .before .before .before .before
-          .before .before .before .before .before .before .before .before)))) (Row.get 13 (T15 .locals) (m13 (c .before .before .before .before .before .before .before .before .before .before .before
-          .before .before .before .before .before .before .before) (After-xtrans-places·gave (c .before .before .before .before .before .before .before .before .before .before .before .before .before
-          .before .before .before .before)))) (Row.get 14 (T15 .locals) (m13 (c .before .before .before .before .before .before .before .before .before .before .before .before .before .before .before
-          .before .before .before) (After-xtrans-places·gave (c .before .before .before .before .before .before .before .before .before .before .before .before .before .before .before .before .before))))
-          (Row.get 5 (T15 .locals) (m47 (c .before) (After-judged·gave c)) .now) (Row.get 6 (T15 .locals) (m47 (c .before) (After-judged·gave c)) .now) (Row.get 7 (T15 .locals) (m47 (c .before)
-          (After-judged·gave c)) .now) (Row.get 13 (T15 .locals) (m47 (c .before) (After-judged·gave c))) (Row.get 14 (T15 .locals) (m47 (c .before) (After-judged·gave c)))) (μ·0 (Row.get 1 (T15 .locals)
-          (m13 (c .before .before .before .before .before .before .before .before .before .before .before .before .before .before .before .before .before .before) (After-xtrans-places·gave (c .before
-          .before .before .before .before .before .before .before .before .before .before .before .before .before .before .before .before))) .now) (Row.get 2 (T15 .locals) (m13 (c .before .before .before
-          .before .before .before .before .before .before .before .before .before .before .before .before .before .before .before) (After-xtrans-places·gave (c .before .before .before .before .before
-          .before .before .before .before .before .before .before .before .before .before .before .before)))) (Row.get 3 (T15 .locals) (m13 (c .before .before .before .before .before .before .before
-          .before .before .before .before .before .before .before .before .before .before .before) (After-xtrans-places·gave (c .before .before .before .before .before .before .before .before .before
-          .before .before .before .before .before .before .before .before)))) (Row.get 4 (T15 .locals) (m13 (c .before .before .before .before .before .before .before .before .before .before .before
-          .before .before .before .before .before .before .before) (After-xtrans-places·gave (c .before .before .before .before .before .before .before .before .before .before .before .before .before
-          .before .before .before .before)))) (Row.get 5 (T15 .locals) (m13 (c .before .before .before .before .before .before .before .before .before .before .before .before .before .before .before
-          .before .before .before) (After-xtrans-places·gave (c .before .before .before .before .before .before .before .before .before .before .before .before .before .before .before .before .before)))
-          .now) (Row.get 6 (T15 .locals) (m13 (c .before .before .before .before .before .before .before .before .before .before .before .before .before .before .before .before .before .before)
-          (After-xtrans-places·gave (c .before .before .before .before .before .before .before .before .before .before .before .before .before .before .before .before .before))) .now) (Row.get 7 (T15
-          .locals) (m13 (c .before .before .before .before .before .before .before .before .before .before .before .before .before .before .before .before .before .before) (After-xtrans-places·gave (c
-          .before .before .before .before .before .before .before .before .before .before .before .before .before .before .before .before .before))) .now) (Row.get 8 (T15 .locals) (m13 (c .before .before
-          .before .before .before .before .before .before .before .before .before .before .before .before .before .before .before .before) (After-xtrans-places·gave (c .before .before .before .before
-          .before .before .before .before .before .before .before .before .before .before .before .before .before)))) (Row.get 10 (T15 .locals) (m13 (c .before .before .before .before .before .before
-          .before .before .before .before .before .before .before .before .before .before .before .before) (After-xtrans-places·gave (c .before .before .before .before .before .before .before .before
-          .before .before .before .before .before .before .before .before .before)))) (Row.get 11 (T15 .locals) (m13 (c .before .before .before .before .before .before .before .before .before .before
-          .before .before .before .before .before .before .before .before) (After-xtrans-places·gave (c .before .before .before .before .before .before .before .before .before .before .before .before
-          .before .before .before .before .before)))) (Row.get 12 (T15 .locals) (m13 (c .before .before .before .before .before .before .before .before .before .before .before .before .before .before
-          .before .before .before .before) (After-xtrans-places·gave (c .before .before .before .before .before .before .before .before .before .before .before .before .before .before .before .before
-          .before)))) (Row.get 13 (T15 .locals) (m13 (c .before .before .before .before .before .before .before .before .before .before .before .before .before .before .before .before .before .before)
-          (After-xtrans-places·gave (c .before .before .before .before .before .before .before .before .before .before .before .before .before .before .before .before .before)))) (Row.get 14 (T15 .locals)
-          (m13 (c .before .before .before .before .before .before .before .before .before .before .before .before .before .before .before .before .before .before) (After-xtrans-places·gave (c .before
-          .before .before .before .before .before .before .before .before .before .before .before .before .before .before .before .before)))) (c .before .before .before .before .before .before .before
-          .before .before .before .before .before .before .before .before .before .loop .image) (c .before .before .before .before .before .before .before .before .before .before .before .before .before
-          .before .before .before .loop .lines) (c .before .before .before .before .before .before .before .before .before .before .before .before .before .before .before .before .loop .rs) (c .before
-          .before .before .before .before .before .before .before .before .before .before .before .before .before .before .before .loop .answer) (c .before .before .before .before .before .before .before
-          .before .before .before .before .before .before .before .before .before .loop .b))
+          .before .before .before .before .before) (After-xtrans-places·gave (c .before .before .before .before .before .before .before .before .before .before .before .before .before .before .before
+          .before .before .before))) .now) (Row.get 8 (T15 .locals) (m13 (c .before .before .before .before .before .before .before .before .before .before .before .before .before .before .before .before
+          .before .before .before) (After-xtrans-places·gave (c .before .before .before .before .before .before .before .before .before .before .before .before .before .before .before .before .before
+          .before)))) (Row.get 10 (T15 .locals) (m13 (c .before .before .before .before .before .before .before .before .before .before .before .before .before .before .before .before .before .before
+          .before) (After-xtrans-places·gave (c .before .before .before .before .before .before .before .before .before .before .before .before .before .before .before .before .before .before)))) (Row.get
+          11 (T15 .locals) (m13 (c .before .before .before .before .before .before .before .before .before .before .before .before .before .before .before .before .before .before .before)
+          (After-xtrans-places·gave (c .before .before .before .before .before .before .before .before .before .before .before .before .before .before .before .before .before .before)))) (Row.get 12 (T15
+          .locals) (m13 (c .before .before .before .before .before .before .before .before .before .before .before .before .before .before .before .before .before .before .before)
+          (After-xtrans-places·gave (c .before .before .before .before .before .before .before .before .before .before .before .before .before .before .before .before .before .before)))) (Row.get 13 (T15
+          .locals) (m13 (c .before .before .before .before .before .before .before .before .before .before .before .before .before .before .before .before .before .before .before)
+          (After-xtrans-places·gave (c .before .before .before .before .before .before .before .before .before .before .before .before .before .before .before .before .before .before)))) (Row.get 14 (T15
+          .locals) (m13 (c .before .before .before .before .before .before .before .before .before .before .before .before .before .before .before .before .before .before .before)
+          (After-xtrans-places·gave (c .before .before .before .before .before .before .before .before .before .before .before .before .before .before .before .before .before .before)))) (c .before
+          .before .before .before .before .before .before .before .before .before .before .before .before .before .before .before .before .loop .image) (c .before .before .before .before .before .before
+          .before .before .before .before .before .before .before .before .before .before .before .loop .lines) (c .before .before .before .before .before .before .before .before .before .before .before
+          .before .before .before .before .before .before .loop .rs) (c .before .before .before .before .before .before .before .before .before .before .before .before .before .before .before .before
+          .before .loop .answer) (c .before .before .before .before .before .before .before .before .before .before .before .before .before .before .before .before .before .loop .b))
 
       abbrev pub Need-loop-again : Type 0
       Need-loop-again = (c : After-judged) → Inv·0 (Row.get 1 (T15 .locals) (m13 (c .before .before .before .before .before .before .before .before .before .before .before .before .before .before
-          .before .before .before .before) (After-xtrans-places·gave (c .before .before .before .before .before .before .before .before .before .before .before .before .before .before .before .before
-          .before))) .now) (Row.get 2 (T15 .locals) (m13 (c .before .before .before .before .before .before .before .before .before .before .before .before .before .before .before .before .before .before)
-          (After-xtrans-places·gave (c .before .before .before .before .before .before .before .before .before .before .before .before .before .before .before .before .before)))) (Row.get 3 (T15 .locals)
-          (m13 (c .before .before .before .before .before .before .before .before .before .before .before .before .before .before .before .before .before .before) (After-xtrans-places·gave (c .before
-          .before .before .before .before .before .before .before .before .before .before .before .before .before .before .before .before)))) (Row.get 4 (T15 .locals) (m13 (c .before .before .before
-          .before .before .before .before .before .before .before .before .before .before .before .before .before .before .before) (After-xtrans-places·gave (c .before .before .before .before .before
-          .before .before .before .before .before .before .before .before .before .before .before .before)))) (Row.get 5 (T15 .locals) (m13 (c .before .before .before .before .before .before .before
-          .before .before .before .before .before .before .before .before .before .before .before) (After-xtrans-places·gave (c .before .before .before .before .before .before .before .before .before
-          .before .before .before .before .before .before .before .before))) .now) (Row.get 6 (T15 .locals) (m13 (c .before .before .before .before .before .before .before .before .before .before .before
-          .before .before .before .before .before .before .before) (After-xtrans-places·gave (c .before .before .before .before .before .before .before .before .before .before .before .before .before
-          .before .before .before .before))) .now) (Row.get 7 (T15 .locals) (m13 (c .before .before .before .before .before .before .before .before .before .before .before .before .before .before .before
-          .before .before .before) (After-xtrans-places·gave (c .before .before .before .before .before .before .before .before .before .before .before .before .before .before .before .before .before)))
-          .now) (Row.get 8 (T15 .locals) (m13 (c .before .before .before .before .before .before .before .before .before .before .before .before .before .before .before .before .before .before)
-          (After-xtrans-places·gave (c .before .before .before .before .before .before .before .before .before .before .before .before .before .before .before .before .before)))) (Row.get 10 (T15 .locals)
-          (m13 (c .before .before .before .before .before .before .before .before .before .before .before .before .before .before .before .before .before .before) (After-xtrans-places·gave (c .before
-          .before .before .before .before .before .before .before .before .before .before .before .before .before .before .before .before)))) (Row.get 11 (T15 .locals) (m13 (c .before .before .before
-          .before .before .before .before .before .before .before .before .before .before .before .before .before .before .before) (After-xtrans-places·gave (c .before .before .before .before .before
-          .before .before .before .before .before .before .before .before .before .before .before .before)))) (Row.get 12 (T15 .locals) (m13 (c .before .before .before .before .before .before .before
-          .before .before .before .before .before .before .before .before .before .before .before) (After-xtrans-places·gave (c .before .before .before .before .before .before .before .before .before
-          .before .before .before .before .before .before .before .before)))) (Row.get 13 (T15 .locals) (m13 (c .before .before .before .before .before .before .before .before .before .before .before
-          .before .before .before .before .before .before .before) (After-xtrans-places·gave (c .before .before .before .before .before .before .before .before .before .before .before .before .before
-          .before .before .before .before)))) (Row.get 14 (T15 .locals) (m13 (c .before .before .before .before .before .before .before .before .before .before .before .before .before .before .before
-          .before .before .before) (After-xtrans-places·gave (c .before .before .before .before .before .before .before .before .before .before .before .before .before .before .before .before .before))))
-          (Row.get 5 (T15 .locals) (m47 (c .before) (After-judged·gave c)) .now) (Row.get 6 (T15 .locals) (m47 (c .before) (After-judged·gave c)) .now) (Row.get 7 (T15 .locals) (m47 (c .before)
-          (After-judged·gave c)) .now) (Row.get 13 (T15 .locals) (m47 (c .before) (After-judged·gave c))) (Row.get 14 (T15 .locals) (m47 (c .before) (After-judged·gave c)))
-
-      abbrev pub m48 : (before : At-loop) → Typed.Mo T62
-      m48 = λ before. s58 (m21 before)
-
-      abbrev pub m49 : (before : At-loop) → Typed.Mo T63
-      m49 = λ before. s59 (m48 before)
+          .before .before .before .before .before) (After-xtrans-places·gave (c .before .before .before .before .before .before .before .before .before .before .before .before .before .before .before
+          .before .before .before))) .now) (Row.get 2 (T15 .locals) (m13 (c .before .before .before .before .before .before .before .before .before .before .before .before .before .before .before .before
+          .before .before .before) (After-xtrans-places·gave (c .before .before .before .before .before .before .before .before .before .before .before .before .before .before .before .before .before
+          .before)))) (Row.get 3 (T15 .locals) (m13 (c .before .before .before .before .before .before .before .before .before .before .before .before .before .before .before .before .before .before
+          .before) (After-xtrans-places·gave (c .before .before .before .before .before .before .before .before .before .before .before .before .before .before .before .before .before .before)))) (Row.get
+          4 (T15 .locals) (m13 (c .before .before .before .before .before .before .before .before .before .before .before .before .before .before .before .before .before .before .before)
+          (After-xtrans-places·gave (c .before .before .before .before .before .before .before .before .before .before .before .before .before .before .before .before .before .before)))) (Row.get 5 (T15
+          .locals) (m13 (c .before .before .before .before .before .before .before .before .before .before .before .before .before .before .before .before .before .before .before)
+          (After-xtrans-places·gave (c .before .before .before .before .before .before .before .before .before .before .before .before .before .before .before .before .before .before))) .now) (Row.get 6
+          (T15 .locals) (m13 (c .before .before .before .before .before .before .before .before .before .before .before .before .before .before .before .before .before .before .before)
+          (After-xtrans-places·gave (c .before .before .before .before .before .before .before .before .before .before .before .before .before .before .before .before .before .before))) .now) (Row.get 7
+          (T15 .locals) (m13 (c .before .before .before .before .before .before .before .before .before .before .before .before .before .before .before .before .before .before .before)
+          (After-xtrans-places·gave (c .before .before .before .before .before .before .before .before .before .before .before .before .before .before .before .before .before .before))) .now) (Row.get 8
+          (T15 .locals) (m13 (c .before .before .before .before .before .before .before .before .before .before .before .before .before .before .before .before .before .before .before)
+          (After-xtrans-places·gave (c .before .before .before .before .before .before .before .before .before .before .before .before .before .before .before .before .before .before)))) (Row.get 10 (T15
+          .locals) (m13 (c .before .before .before .before .before .before .before .before .before .before .before .before .before .before .before .before .before .before .before)
+          (After-xtrans-places·gave (c .before .before .before .before .before .before .before .before .before .before .before .before .before .before .before .before .before .before)))) (Row.get 11 (T15
+          .locals) (m13 (c .before .before .before .before .before .before .before .before .before .before .before .before .before .before .before .before .before .before .before)
+          (After-xtrans-places·gave (c .before .before .before .before .before .before .before .before .before .before .before .before .before .before .before .before .before .before)))) (Row.get 12 (T15
+          .locals) (m13 (c .before .before .before .before .before .before .before .before .before .before .before .before .before .before .before .before .before .before .before)
+          (After-xtrans-places·gave (c .before .before .before .before .before .before .before .before .before .before .before .before .before .before .before .before .before .before)))) (Row.get 13 (T15
+          .locals) (m13 (c .before .before .before .before .before .before .before .before .before .before .before .before .before .before .before .before .before .before .before)
+          (After-xtrans-places·gave (c .before .before .before .before .before .before .before .before .before .before .before .before .before .before .before .before .before .before)))) (Row.get 14 (T15
+          .locals) (m13 (c .before .before .before .before .before .before .before .before .before .before .before .before .before .before .before .before .before .before .before)
+          (After-xtrans-places·gave (c .before .before .before .before .before .before .before .before .before .before .before .before .before .before .before .before .before .before)))) (Row.get 5 (T15
+          .locals) (m49 (c .before) (After-judged·gave c)) .now) (Row.get 6 (T15 .locals) (m49 (c .before) (After-judged·gave c)) .now) (Row.get 7 (T15 .locals) (m49 (c .before) (After-judged·gave c))
+          .now) (Row.get 13 (T15 .locals) (m49 (c .before) (After-judged·gave c))) (Row.get 14 (T15 .locals) (m49 (c .before) (After-judged·gave c)))
 
       abbrev pub m50 : (before : At-loop) → Typed.Mo T64
-      m50 = λ before. s60 (m49 before)
+      m50 = λ before. s60 (m21 before)
 
       abbrev pub m51 : (before : At-loop) → Typed.Mo T65
       m51 = λ before. s61 (m50 before)
@@ -3407,32 +3586,38 @@ module _ (claims· : Claims) where
       abbrev pub m53 : (before : At-loop) → Typed.Mo T67
       m53 = λ before. s63 (m52 before)
 
+      abbrev pub m54 : (before : At-loop) → Typed.Mo T68
+      m54 = λ before. s64 (m53 before)
+
+      abbrev pub m55 : (before : At-loop) → Typed.Mo T69
+      m55 = λ before. s65 (m54 before)
+
       abbrev pub Need-same-length : Type 0
-      Need-same-length = (c : After-loop) → MutSlice.SameLen (Row.get 5 (T67 .locals) (m53 (c .before))) (dens (c .before .before .before .before .before .before .before .before .κs) (c .before
+      Need-same-length = (c : After-loop) → MutSlice.SameLen (Row.get 5 (T69 .locals) (m55 (c .before))) (dens (c .before .before .before .before .before .before .before .before .κs) (c .before
           .before .before .before .before .before .before .before .args) .1 .1 .1 .1 .0)
 
       abbrev pub Need-same-length-2 : Type 0
-      Need-same-length-2 = (c : After-loop) → MutSlice.SameLen (Row.get 6 (T67 .locals) (m53 (c .before))) (dens (c .before .before .before .before .before .before .before .before .κs) (c .before
+      Need-same-length-2 = (c : After-loop) → MutSlice.SameLen (Row.get 6 (T69 .locals) (m55 (c .before))) (dens (c .before .before .before .before .before .before .before .before .κs) (c .before
           .before .before .before .before .before .before .before .args) .1 .1 .1 .1 .1 .0)
 
       abbrev pub Need-same-length-3 : Type 0
-      Need-same-length-3 = (c : After-loop) → MutSlice.SameLen (Row.get 7 (T67 .locals) (m53 (c .before))) (dens (c .before .before .before .before .before .before .before .before .κs) (c .before
+      Need-same-length-3 = (c : After-loop) → MutSlice.SameLen (Row.get 7 (T69 .locals) (m55 (c .before))) (dens (c .before .before .before .before .before .before .before .before .κs) (c .before
           .before .before .before .before .before .before .before .args) .1 .1 .1 .1 .1 .1 .0)
 
       abbrev pub Need-returns : Type 0
       Need-returns = (c : After-loop) → Post· (c .before .before .before .before .before .before .before .before .κs) (dens (c .before .before .before .before .before .before .before .before .κs) (c
-          .before .before .before .before .before .before .before .before .args)) (Function.resV r (c .before .before .before .before .before .before .before .before .κs) (m53 (c .before) .0))
+          .before .before .before .before .before .before .before .before .args)) (Function.resV r (c .before .before .before .before .before .before .before .before .κs) (m55 (c .before) .0))
           (Clauses.atExit (Kinds.endedOf 4 ps r) (c .before .before .before .before .before .before .before .before .κs) (dens (c .before .before .before .before .before .before .before .before .κs) (c
           .before .before .before .before .before .before .before .before .args)) (Enter.lastsP (c .before .before .before .before .before .before .before .before .κs) 1 ps xs (dens (c .before .before
-          .before .before .before .before .before .before .κs) (c .before .before .before .before .before .before .before .before .args)) (m53 (c .before) .1)))
+          .before .before .before .before .before .before .κs) (c .before .before .before .before .before .before .before .before .args)) (m55 (c .before) .1)))
 
       module _ (span-of-requires : Need-span-of-requires) (add-end : Need-add-end) (xtrans-places-requires : Need-xtrans-places-requires) (loop-holds : Need-loop-holds) (form-of-requires :
-          Need-form-of-requires) (block-bytes-requires : Need-block-bytes-requires) (base-row-requires : Need-base-row-requires) (part-requires : Need-part-requires) (walk-requires : Need-walk-requires)
-          (judged-requires : Need-judged-requires) (add-b : Need-add-b) (loop-less : Need-loop-less) (loop-again : Need-loop-again) (same-length : Need-same-length) (same-length-2 : Need-same-length-2)
-          (same-length-3 : Need-same-length-3) (returns : Need-returns) where
-        lay12 : (c : After-loop) → at58 (W0 (c .before .before .before .before .before .before .before .before .κs) (c .before .before .before .before .before .before .before .before .args)) (m21 (c
+          Need-form-of-requires) (block-bytes-requires : Need-block-bytes-requires) (base-row-requires : Need-base-row-requires) (part-requires : Need-part-requires) (no-entries-requires :
+          Need-no-entries-requires) (walk-requires : Need-walk-requires) (judged-requires : Need-judged-requires) (add-b : Need-add-b) (loop-less : Need-loop-less) (loop-again : Need-loop-again)
+          (same-length : Need-same-length) (same-length-2 : Need-same-length-2) (same-length-3 : Need-same-length-3) (returns : Need-returns) where
+        lay13 : (c : After-loop) → at60 (W0 (c .before .before .before .before .before .before .before .before .κs) (c .before .before .before .before .before .before .before .before .args)) (m21 (c
             .before))
-        lay12 = λ c. (
+        lay13 = λ c. (
           (
             Path'.refl,
             (
@@ -3442,15 +3627,15 @@ module _ (claims· : Claims) where
                 (
                   tt,
                   (
-                    MutSlice.fix-len (Row.get 5 (T67 .locals) (m53 (c .before)) .ptr) (Row.get 5 (T67 .locals) (m53 (c .before)) .name) (Row.get 5 (T67 .locals) (m53 (c .before)) .now) (dens (c .before .before
+                    MutSlice.fix-len (Row.get 5 (T69 .locals) (m55 (c .before)) .ptr) (Row.get 5 (T69 .locals) (m55 (c .before)) .name) (Row.get 5 (T69 .locals) (m55 (c .before)) .now) (dens (c .before .before
                         .before .before .before .before .before .before .κs) (c .before .before .before .before .before .before .before .before .args) .1 .1 .1 .1 .0 .now) (same-length record
                         { before = c .before; loop-test = c .loop-test }),
                     (
-                      MutSlice.fix-len (Row.get 6 (T67 .locals) (m53 (c .before)) .ptr) (Row.get 6 (T67 .locals) (m53 (c .before)) .name) (Row.get 6 (T67 .locals) (m53 (c .before)) .now) (dens (c .before .before
+                      MutSlice.fix-len (Row.get 6 (T69 .locals) (m55 (c .before)) .ptr) (Row.get 6 (T69 .locals) (m55 (c .before)) .name) (Row.get 6 (T69 .locals) (m55 (c .before)) .now) (dens (c .before .before
                           .before .before .before .before .before .before .κs) (c .before .before .before .before .before .before .before .before .args) .1 .1 .1 .1 .1 .0 .now) (same-length-2 record
                           { before = c .before; loop-test = c .loop-test }),
                       (
-                        MutSlice.fix-len (Row.get 7 (T67 .locals) (m53 (c .before)) .ptr) (Row.get 7 (T67 .locals) (m53 (c .before)) .name) (Row.get 7 (T67 .locals) (m53 (c .before)) .now) (dens (c .before .before
+                        MutSlice.fix-len (Row.get 7 (T69 .locals) (m55 (c .before)) .ptr) (Row.get 7 (T69 .locals) (m55 (c .before)) .name) (Row.get 7 (T69 .locals) (m55 (c .before)) .now) (dens (c .before .before
                             .before .before .before .before .before .before .κs) (c .before .before .before .before .before .before .before .before .args) .1 .1 .1 .1 .1 .1 .0 .now) (same-length-3 record
                             { before = c .before; loop-test = c .loop-test }),
                         (tt, tt),
@@ -3464,90 +3649,94 @@ module _ (claims· : Claims) where
           returns record { before = c .before; loop-test = c .loop-test },
         )
 
-        lay11 : (c : After-judged) → at10 (W3 (c .before .before .before .before .before .before .before .before .before .before .before .before .before .before .before .before .before) (c .before
-            .before .before .before .before .before .before .before .before .before .before .before .before .before .before .before .loop .image) (c .before .before .before .before .before .before .before
-            .before .before .before .before .before .before .before .before .before .loop .lines) (c .before .before .before .before .before .before .before .before .before .before .before .before .before
-            .before .before .before .loop .rs) (c .before .before .before .before .before .before .before .before .before .before .before .before .before .before .before .before .loop .answer) (c .before
-            .before .before .before .before .before .before .before .before .before .before .before .before .before .before .before .loop .b)) (m45 (c .before) (After-judged·gave c))
-        lay11 = λ c. (
+        lay12 : (c : After-judged) → at10 (W3 (c .before .before .before .before .before .before .before .before .before .before .before .before .before .before .before .before .before .before) (c
+            .before .before .before .before .before .before .before .before .before .before .before .before .before .before .before .before .before .loop .image) (c .before .before .before .before .before
+            .before .before .before .before .before .before .before .before .before .before .before .before .loop .lines) (c .before .before .before .before .before .before .before .before .before .before
+            .before .before .before .before .before .before .before .loop .rs) (c .before .before .before .before .before .before .before .before .before .before .before .before .before .before .before
+            .before .before .loop .answer) (c .before .before .before .before .before .before .before .before .before .before .before .before .before .before .before .before .before .loop .b)) (m47 (c
+            .before) (After-judged·gave c))
+        lay12 = λ c. (
           add-b record { before = c .before; judged = c .judged },
           (
-            μ·0 (Row.get 1 (T15 .locals) (m13 (c .before .before .before .before .before .before .before .before .before .before .before .before .before .before .before .before .before .before)
-                (After-xtrans-places·gave (c .before .before .before .before .before .before .before .before .before .before .before .before .before .before .before .before .before))) .now) (Row.get 2 (T15
-                .locals) (m13 (c .before .before .before .before .before .before .before .before .before .before .before .before .before .before .before .before .before .before) (After-xtrans-places·gave (c
-                .before .before .before .before .before .before .before .before .before .before .before .before .before .before .before .before .before)))) (Row.get 3 (T15 .locals) (m13 (c .before .before
-                .before .before .before .before .before .before .before .before .before .before .before .before .before .before .before .before) (After-xtrans-places·gave (c .before .before .before .before
-                .before .before .before .before .before .before .before .before .before .before .before .before .before)))) (Row.get 4 (T15 .locals) (m13 (c .before .before .before .before .before .before
-                .before .before .before .before .before .before .before .before .before .before .before .before) (After-xtrans-places·gave (c .before .before .before .before .before .before .before .before
-                .before .before .before .before .before .before .before .before .before)))) (Row.get 5 (T15 .locals) (m13 (c .before .before .before .before .before .before .before .before .before .before
-                .before .before .before .before .before .before .before .before) (After-xtrans-places·gave (c .before .before .before .before .before .before .before .before .before .before .before .before
-                .before .before .before .before .before))) .now) (Row.get 6 (T15 .locals) (m13 (c .before .before .before .before .before .before .before .before .before .before .before .before .before
-                .before .before .before .before .before) (After-xtrans-places·gave (c .before .before .before .before .before .before .before .before .before .before .before .before .before .before .before
-                .before .before))) .now) (Row.get 7 (T15 .locals) (m13 (c .before .before .before .before .before .before .before .before .before .before .before .before .before .before .before .before
-                .before .before) (After-xtrans-places·gave (c .before .before .before .before .before .before .before .before .before .before .before .before .before .before .before .before .before))) .now)
-                (Row.get 8 (T15 .locals) (m13 (c .before .before .before .before .before .before .before .before .before .before .before .before .before .before .before .before .before .before)
-                (After-xtrans-places·gave (c .before .before .before .before .before .before .before .before .before .before .before .before .before .before .before .before .before)))) (Row.get 10 (T15
-                .locals) (m13 (c .before .before .before .before .before .before .before .before .before .before .before .before .before .before .before .before .before .before) (After-xtrans-places·gave (c
-                .before .before .before .before .before .before .before .before .before .before .before .before .before .before .before .before .before)))) (Row.get 11 (T15 .locals) (m13 (c .before .before
-                .before .before .before .before .before .before .before .before .before .before .before .before .before .before .before .before) (After-xtrans-places·gave (c .before .before .before .before
-                .before .before .before .before .before .before .before .before .before .before .before .before .before)))) (Row.get 12 (T15 .locals) (m13 (c .before .before .before .before .before .before
-                .before .before .before .before .before .before .before .before .before .before .before .before) (After-xtrans-places·gave (c .before .before .before .before .before .before .before .before
-                .before .before .before .before .before .before .before .before .before)))) (Row.get 13 (T15 .locals) (m13 (c .before .before .before .before .before .before .before .before .before .before
-                .before .before .before .before .before .before .before .before) (After-xtrans-places·gave (c .before .before .before .before .before .before .before .before .before .before .before .before
-                .before .before .before .before .before)))) (Row.get 14 (T15 .locals) (m13 (c .before .before .before .before .before .before .before .before .before .before .before .before .before .before
-                .before .before .before .before) (After-xtrans-places·gave (c .before .before .before .before .before .before .before .before .before .before .before .before .before .before .before .before
-                .before)))) (Row.get 5 (T15 .locals) (m47 (c .before) (After-judged·gave c)) .now) (Row.get 6 (T15 .locals) (m47 (c .before) (After-judged·gave c)) .now) (Row.get 7 (T15 .locals) (m47 (c
-                .before) (After-judged·gave c)) .now) (Row.get 13 (T15 .locals) (m47 (c .before) (After-judged·gave c))) (Row.get 14 (T15 .locals) (m47 (c .before) (After-judged·gave c))),
+            μ·0 (Row.get 1 (T15 .locals) (m13 (c .before .before .before .before .before .before .before .before .before .before .before .before .before .before .before .before .before .before .before)
+                (After-xtrans-places·gave (c .before .before .before .before .before .before .before .before .before .before .before .before .before .before .before .before .before .before))) .now) (Row.get 2
+                (T15 .locals) (m13 (c .before .before .before .before .before .before .before .before .before .before .before .before .before .before .before .before .before .before .before)
+                (After-xtrans-places·gave (c .before .before .before .before .before .before .before .before .before .before .before .before .before .before .before .before .before .before)))) (Row.get 3 (T15
+                .locals) (m13 (c .before .before .before .before .before .before .before .before .before .before .before .before .before .before .before .before .before .before .before)
+                (After-xtrans-places·gave (c .before .before .before .before .before .before .before .before .before .before .before .before .before .before .before .before .before .before)))) (Row.get 4 (T15
+                .locals) (m13 (c .before .before .before .before .before .before .before .before .before .before .before .before .before .before .before .before .before .before .before)
+                (After-xtrans-places·gave (c .before .before .before .before .before .before .before .before .before .before .before .before .before .before .before .before .before .before)))) (Row.get 5 (T15
+                .locals) (m13 (c .before .before .before .before .before .before .before .before .before .before .before .before .before .before .before .before .before .before .before)
+                (After-xtrans-places·gave (c .before .before .before .before .before .before .before .before .before .before .before .before .before .before .before .before .before .before))) .now) (Row.get 6
+                (T15 .locals) (m13 (c .before .before .before .before .before .before .before .before .before .before .before .before .before .before .before .before .before .before .before)
+                (After-xtrans-places·gave (c .before .before .before .before .before .before .before .before .before .before .before .before .before .before .before .before .before .before))) .now) (Row.get 7
+                (T15 .locals) (m13 (c .before .before .before .before .before .before .before .before .before .before .before .before .before .before .before .before .before .before .before)
+                (After-xtrans-places·gave (c .before .before .before .before .before .before .before .before .before .before .before .before .before .before .before .before .before .before))) .now) (Row.get 8
+                (T15 .locals) (m13 (c .before .before .before .before .before .before .before .before .before .before .before .before .before .before .before .before .before .before .before)
+                (After-xtrans-places·gave (c .before .before .before .before .before .before .before .before .before .before .before .before .before .before .before .before .before .before)))) (Row.get 10
+                (T15 .locals) (m13 (c .before .before .before .before .before .before .before .before .before .before .before .before .before .before .before .before .before .before .before)
+                (After-xtrans-places·gave (c .before .before .before .before .before .before .before .before .before .before .before .before .before .before .before .before .before .before)))) (Row.get 11
+                (T15 .locals) (m13 (c .before .before .before .before .before .before .before .before .before .before .before .before .before .before .before .before .before .before .before)
+                (After-xtrans-places·gave (c .before .before .before .before .before .before .before .before .before .before .before .before .before .before .before .before .before .before)))) (Row.get 12
+                (T15 .locals) (m13 (c .before .before .before .before .before .before .before .before .before .before .before .before .before .before .before .before .before .before .before)
+                (After-xtrans-places·gave (c .before .before .before .before .before .before .before .before .before .before .before .before .before .before .before .before .before .before)))) (Row.get 13
+                (T15 .locals) (m13 (c .before .before .before .before .before .before .before .before .before .before .before .before .before .before .before .before .before .before .before)
+                (After-xtrans-places·gave (c .before .before .before .before .before .before .before .before .before .before .before .before .before .before .before .before .before .before)))) (Row.get 14
+                (T15 .locals) (m13 (c .before .before .before .before .before .before .before .before .before .before .before .before .before .before .before .before .before .before .before)
+                (After-xtrans-places·gave (c .before .before .before .before .before .before .before .before .before .before .before .before .before .before .before .before .before .before)))) (Row.get 5 (T15
+                .locals) (m49 (c .before) (After-judged·gave c)) .now) (Row.get 6 (T15 .locals) (m49 (c .before) (After-judged·gave c)) .now) (Row.get 7 (T15 .locals) (m49 (c .before) (After-judged·gave c))
+                .now) (Row.get 13 (T15 .locals) (m49 (c .before) (After-judged·gave c))) (Row.get 14 (T15 .locals) (m49 (c .before) (After-judged·gave c))),
             loop-less record
                 { before = c .before; judged = c .judged },
             (
               (
-                Row.get 5 (T15 .locals) (m47 (c .before) (After-judged·gave c)) .now,
-                Row.get 6 (T15 .locals) (m47 (c .before) (After-judged·gave c)) .now,
-                Row.get 7 (T15 .locals) (m47 (c .before)
+                Row.get 5 (T15 .locals) (m49 (c .before) (After-judged·gave c)) .now,
+                Row.get 6 (T15 .locals) (m49 (c .before) (After-judged·gave c)) .now,
+                Row.get 7 (T15 .locals) (m49 (c .before)
                     (After-judged·gave c)) .now,
-                Row.get 13 (T15 .locals) (m47 (c .before) (After-judged·gave c)),
-                Row.get 14 (T15 .locals) (m47 (c .before) (After-judged·gave c)),
+                Row.get 13 (T15 .locals) (m49 (c .before) (After-judged·gave c)),
+                Row.get 14 (T15 .locals) (m49 (c .before) (After-judged·gave c)),
               ),
-              Path'.refl {a = m47 (c
+              Path'.refl {a = m49 (c
                   .before) (After-judged·gave c)},
               loop-again record { before = c .before; judged = c .judged },
               Path'.refl {a = μ·0 (Row.get 1 (T15 .locals) (m13 (c .before .before .before .before .before
-                  .before .before .before .before .before .before .before .before .before .before .before .before .before) (After-xtrans-places·gave (c .before .before .before .before .before .before .before
-                  .before .before .before .before .before .before .before .before .before .before))) .now) (Row.get 2 (T15 .locals) (m13 (c .before .before .before .before .before .before .before .before
-                  .before .before .before .before .before .before .before .before .before .before) (After-xtrans-places·gave (c .before .before .before .before .before .before .before .before .before .before
-                  .before .before .before .before .before .before .before)))) (Row.get 3 (T15 .locals) (m13 (c .before .before .before .before .before .before .before .before .before .before .before .before
-                  .before .before .before .before .before .before) (After-xtrans-places·gave (c .before .before .before .before .before .before .before .before .before .before .before .before .before .before
-                  .before .before .before)))) (Row.get 4 (T15 .locals) (m13 (c .before .before .before .before .before .before .before .before .before .before .before .before .before .before .before .before
-                  .before .before) (After-xtrans-places·gave (c .before .before .before .before .before .before .before .before .before .before .before .before .before .before .before .before .before))))
-                  (Row.get 5 (T15 .locals) (m13 (c .before .before .before .before .before .before .before .before .before .before .before .before .before .before .before .before .before .before)
-                  (After-xtrans-places·gave (c .before .before .before .before .before .before .before .before .before .before .before .before .before .before .before .before .before))) .now) (Row.get 6 (T15
-                  .locals) (m13 (c .before .before .before .before .before .before .before .before .before .before .before .before .before .before .before .before .before .before) (After-xtrans-places·gave (c
-                  .before .before .before .before .before .before .before .before .before .before .before .before .before .before .before .before .before))) .now) (Row.get 7 (T15 .locals) (m13 (c .before
-                  .before .before .before .before .before .before .before .before .before .before .before .before .before .before .before .before .before) (After-xtrans-places·gave (c .before .before .before
-                  .before .before .before .before .before .before .before .before .before .before .before .before .before .before))) .now) (Row.get 8 (T15 .locals) (m13 (c .before .before .before .before
                   .before .before .before .before .before .before .before .before .before .before .before .before .before .before) (After-xtrans-places·gave (c .before .before .before .before .before .before
-                  .before .before .before .before .before .before .before .before .before .before .before)))) (Row.get 10 (T15 .locals) (m13 (c .before .before .before .before .before .before .before .before
-                  .before .before .before .before .before .before .before .before .before .before) (After-xtrans-places·gave (c .before .before .before .before .before .before .before .before .before .before
-                  .before .before .before .before .before .before .before)))) (Row.get 11 (T15 .locals) (m13 (c .before .before .before .before .before .before .before .before .before .before .before .before
+                  .before .before .before .before .before .before .before .before .before .before .before .before))) .now) (Row.get 2 (T15 .locals) (m13 (c .before .before .before .before .before .before
+                  .before .before .before .before .before .before .before .before .before .before .before .before .before) (After-xtrans-places·gave (c .before .before .before .before .before .before .before
+                  .before .before .before .before .before .before .before .before .before .before .before)))) (Row.get 3 (T15 .locals) (m13 (c .before .before .before .before .before .before .before .before
+                  .before .before .before .before .before .before .before .before .before .before .before) (After-xtrans-places·gave (c .before .before .before .before .before .before .before .before .before
+                  .before .before .before .before .before .before .before .before .before)))) (Row.get 4 (T15 .locals) (m13 (c .before .before .before .before .before .before .before .before .before .before
+                  .before .before .before .before .before .before .before .before .before) (After-xtrans-places·gave (c .before .before .before .before .before .before .before .before .before .before .before
+                  .before .before .before .before .before .before .before)))) (Row.get 5 (T15 .locals) (m13 (c .before .before .before .before .before .before .before .before .before .before .before .before
+                  .before .before .before .before .before .before .before) (After-xtrans-places·gave (c .before .before .before .before .before .before .before .before .before .before .before .before .before
+                  .before .before .before .before .before))) .now) (Row.get 6 (T15 .locals) (m13 (c .before .before .before .before .before .before .before .before .before .before .before .before .before
                   .before .before .before .before .before .before) (After-xtrans-places·gave (c .before .before .before .before .before .before .before .before .before .before .before .before .before .before
-                  .before .before .before)))) (Row.get 12 (T15 .locals) (m13 (c .before .before .before .before .before .before .before .before .before .before .before .before .before .before .before .before
-                  .before .before) (After-xtrans-places·gave (c .before .before .before .before .before .before .before .before .before .before .before .before .before .before .before .before .before))))
-                  (Row.get 13 (T15 .locals) (m13 (c .before .before .before .before .before .before .before .before .before .before .before .before .before .before .before .before .before .before)
-                  (After-xtrans-places·gave (c .before .before .before .before .before .before .before .before .before .before .before .before .before .before .before .before .before)))) (Row.get 14 (T15
-                  .locals) (m13 (c .before .before .before .before .before .before .before .before .before .before .before .before .before .before .before .before .before .before) (After-xtrans-places·gave (c
-                  .before .before .before .before .before .before .before .before .before .before .before .before .before .before .before .before .before)))) (Row.get 5 (T15 .locals) (m47 (c .before)
-                  (After-judged·gave c)) .now) (Row.get 6 (T15 .locals) (m47 (c .before) (After-judged·gave c)) .now) (Row.get 7 (T15 .locals) (m47 (c .before) (After-judged·gave c)) .now) (Row.get 13 (T15
-                  .locals) (m47 (c .before) (After-judged·gave c))) (Row.get 14 (T15 .locals) (m47 (c .before) (After-judged·gave c)))},
+                  .before .before .before .before))) .now) (Row.get 7 (T15 .locals) (m13 (c .before .before .before .before .before .before .before .before .before .before .before .before .before .before
+                  .before .before .before .before .before) (After-xtrans-places·gave (c .before .before .before .before .before .before .before .before .before .before .before .before .before .before .before
+                  .before .before .before))) .now) (Row.get 8 (T15 .locals) (m13 (c .before .before .before .before .before .before .before .before .before .before .before .before .before .before .before
+                  .before .before .before .before) (After-xtrans-places·gave (c .before .before .before .before .before .before .before .before .before .before .before .before .before .before .before .before
+                  .before .before)))) (Row.get 10 (T15 .locals) (m13 (c .before .before .before .before .before .before .before .before .before .before .before .before .before .before .before .before .before
+                  .before .before) (After-xtrans-places·gave (c .before .before .before .before .before .before .before .before .before .before .before .before .before .before .before .before .before
+                  .before)))) (Row.get 11 (T15 .locals) (m13 (c .before .before .before .before .before .before .before .before .before .before .before .before .before .before .before .before .before .before
+                  .before) (After-xtrans-places·gave (c .before .before .before .before .before .before .before .before .before .before .before .before .before .before .before .before .before .before))))
+                  (Row.get 12 (T15 .locals) (m13 (c .before .before .before .before .before .before .before .before .before .before .before .before .before .before .before .before .before .before .before)
+                  (After-xtrans-places·gave (c .before .before .before .before .before .before .before .before .before .before .before .before .before .before .before .before .before .before)))) (Row.get 13
+                  (T15 .locals) (m13 (c .before .before .before .before .before .before .before .before .before .before .before .before .before .before .before .before .before .before .before)
+                  (After-xtrans-places·gave (c .before .before .before .before .before .before .before .before .before .before .before .before .before .before .before .before .before .before)))) (Row.get 14
+                  (T15 .locals) (m13 (c .before .before .before .before .before .before .before .before .before .before .before .before .before .before .before .before .before .before .before)
+                  (After-xtrans-places·gave (c .before .before .before .before .before .before .before .before .before .before .before .before .before .before .before .before .before .before)))) (Row.get 5 (T15
+                  .locals) (m49 (c .before) (After-judged·gave c)) .now) (Row.get 6 (T15 .locals) (m49 (c .before) (After-judged·gave c)) .now) (Row.get 7 (T15 .locals) (m49 (c .before) (After-judged·gave c))
+                  .now) (Row.get 13 (T15 .locals) (m49 (c .before) (After-judged·gave c))) (Row.get 14 (T15 .locals) (m49 (c .before) (After-judged·gave c)))},
             ),
           ),
         )
 
-        lay10 : (c : After-walk) → at30 (W3 (c .before .before .before .before .before .before .before .before .before .before .before) (c .before .before .before .before .before .before .before
-            .before .before .before .loop .image) (c .before .before .before .before .before .before .before .before .before .before .loop .lines) (c .before .before .before .before .before .before
-            .before .before .before .before .loop .rs) (c .before .before .before .before .before .before .before .before .before .before .loop .answer) (c .before .before .before .before .before .before
-            .before .before .before .before .loop .b)) (m33 (c .before) (After-walk·gave c))
-        lay10 = λ c. (
+        lay11 : (c : After-walk) → at31 (W3 (c .before .before .before .before .before .before .before .before .before .before .before .before) (c .before .before .before .before .before .before
+            .before .before .before .before .before .loop .image) (c .before .before .before .before .before .before .before .before .before .before .before .loop .lines) (c .before .before .before
+            .before .before .before .before .before .before .before .before .loop .rs) (c .before .before .before .before .before .before .before .before .before .before .before .loop .answer) (c .before
+            .before .before .before .before .before .before .before .before .before .before .loop .b)) (m34 (c .before) (After-walk·gave c))
+        lay11 = λ c. (
           Path'.refl,
           λ g. λ g'. (
             Path'.refl,
@@ -3567,7 +3756,7 @@ module _ (claims· : Claims) where
                   };
                   slice-known4 = record { given = g'4 };
                 },
-                λ g'5. lay11 record {
+                λ g'5. lay12 record {
                   before = record {
                     before = record {
                       before = record {
@@ -3581,8 +3770,8 @@ module _ (claims· : Claims) where
                     };
                     slice-known4 = record { given = g'4 };
                   };
-                  judged = Called.called ps·7 r·7 (claims· .15) T57
-                      (record { pos = 13; st = List.[]; d = 0; at = λ x. x }, (Num.vAt 14 λ x. x, (record { pos = 19; st = List.[]; d = 0; at = λ x. x }, tt))) (m44 record {
+                  judged = Called.called ps·8 r·8 (claims· .17) T59
+                      (record { pos = 13; st = List.[]; d = 0; at = λ x. x }, (Num.vAt 14 λ x. x, (record { pos = 19; st = List.[]; d = 0; at = λ x. x }, tt))) (m46 record {
                         before = record {
                           before = record { before = record { before = record { before = c .before; walk = c .walk }; lines = record { given = g } }; slice-known3 = record { given = g' } };
                           rs = record {
@@ -3598,7 +3787,44 @@ module _ (claims· : Claims) where
           ),
         )
 
-        lay9 : (c : After-part) → at42 (W3 (c .before .before .before .before .before .before) (c .before .before .before .before .before .loop .image) (c .before .before .before .before .before .loop
+        lay10 : (c : After-no-entries) → at32 (W3 (c .before .before .before .before .before .before .before .before .before .before .before) (c .before .before .before .before .before .before .before
+            .before .before .before .loop .image) (c .before .before .before .before .before .before .before .before .before .before .loop .lines) (c .before .before .before .before .before .before
+            .before .before .before .before .loop .rs) (c .before .before .before .before .before .before .before .before .before .before .loop .answer) (c .before .before .before .before .before .before
+            .before .before .before .before .loop .b)) (m33 (c .before) (After-no-entries·gave c))
+        lay10 = λ c. (
+          walk-requires record { before = c .before; no-entries = c .no-entries },
+          λ g. lay11 record {
+            before = record { before = c .before; no-entries = c .no-entries };
+            walk = Called.called ps·7 r·7 (claims· .15) T39 (
+              record { pos = 16; ty = Syntax.tyRef Syntax.erased Syntax.imm (Syntax.tyInt Syntax.w8); ref = λ x. x },
+              (
+                record { pos = 17; ty = Syntax.tyRef Syntax.erased Syntax.imm (Syntax.tyInt Syntax.w8); ref = λ x. x },
+                (
+                  record { pos = 23; ty = Syntax.tyRef Syntax.erased Syntax.mut (Syntax.tyInt Syntax.w16); ref = λ x. x },
+                  (
+                    record { pos = 25; ty = Syntax.tyRef Syntax.erased Syntax.mut Element.behind; ref = λ x. x },
+                    (
+                      record { pos = 27; ty = Syntax.tyRef Syntax.erased Syntax.mut (Syntax.tyInt Syntax.w16); ref = λ x. x },
+                      (
+                        record { pos = 15; st = List.[]; d = 0; at = λ x. x },
+                        (
+                          record { pos = 28; ty = Syntax.tyRef Syntax.erased Syntax.imm (Syntax.tyArray (Syntax.tyInt Syntax.w16) 768); ref = λ x. x },
+                          (
+                            record { pos = 4; st = List.[]; d = 0; at = λ x. x },
+                            (record { pos = 18; st = List.[]; d = 0; at = λ x. x }, (Num.vAt 10 λ x. x, (Bool.bAt 8 λ x. x, (record { pos = 29; st = List.[]; d = 0; at = λ x. x }, tt)))),
+                          ),
+                        ),
+                      ),
+                    ),
+                  ),
+                ),
+              ),
+            ) (m33 (c .before)
+                (After-no-entries·gave c)) g;
+          },
+        )
+
+        lay9 : (c : After-part) → at44 (W3 (c .before .before .before .before .before .before) (c .before .before .before .before .before .loop .image) (c .before .before .before .before .before .loop
             .lines) (c .before .before .before .before .before .loop .rs) (c .before .before .before .before .before .loop .answer) (c .before .before .before .before .before .loop .b)) (m25 (c .before)
             (After-part·gave c))
         lay9 = λ c. λ g. (
@@ -3608,7 +3834,7 @@ module _ (claims· : Claims) where
             λ g''. (
               Path'.refl,
               λ g'3. (
-                walk-requires record {
+                no-entries-requires record {
                   before = record {
                     before = record { before = record { before = record { before = c .before; part = c .part }; walk-arg = record { given = g } }; walk-arg2 = record { given = g' } };
                     walk-arg3 = record {
@@ -3627,28 +3853,7 @@ module _ (claims· : Claims) where
                     };
                     places = record { given = g'3 };
                   };
-                  walk = Called.called ps·6 r·6 (claims· .13) T38 (
-                    record { pos = 16; ty = Syntax.tyRef Syntax.erased Syntax.imm (Syntax.tyInt Syntax.w8); ref = λ x. x },
-                    (
-                      record { pos = 17; ty = Syntax.tyRef Syntax.erased Syntax.imm (Syntax.tyInt Syntax.w8); ref = λ x. x },
-                      (
-                        record { pos = 23; ty = Syntax.tyRef Syntax.erased Syntax.mut (Syntax.tyInt Syntax.w16); ref = λ x. x },
-                        (
-                          record { pos = 25; ty = Syntax.tyRef Syntax.erased Syntax.mut Element.behind; ref = λ x. x },
-                          (
-                            record { pos = 27; ty = Syntax.tyRef Syntax.erased Syntax.mut (Syntax.tyInt Syntax.w16); ref = λ x. x },
-                            (
-                              record { pos = 15; st = List.[]; d = 0; at = λ x. x },
-                              (
-                                record { pos = 28; ty = Syntax.tyRef Syntax.erased Syntax.imm (Syntax.tyArray (Syntax.tyInt Syntax.w16) 768); ref = λ x. x },
-                                (record { pos = 4; st = List.[]; d = 0; at = λ x. x }, (record { pos = 18; st = List.[]; d = 0; at = λ x. x }, (Num.vAt 10 λ x. x, (Bool.bAt 8 λ x. x, tt)))),
-                              ),
-                            ),
-                          ),
-                        ),
-                      ),
-                    ),
-                  ) (m32 record {
+                  no-entries = Called.called ps·6 r·6 (claims· .13) T38 tt (m32 record {
                     before = record { before = record { before = record { before = c .before; part = c .part }; walk-arg = record { given = g } }; walk-arg2 = record { given = g' } };
                     walk-arg3 = record {
                       given = g'';
@@ -3660,7 +3865,7 @@ module _ (claims· : Claims) where
           ),
         )
 
-        lay8 : (c : After-base-row) → at43 (W3 (c .before .before .before .before .before) (c .before .before .before .before .loop .image) (c .before .before .before .before .loop .lines) (c .before
+        lay8 : (c : After-base-row) → at45 (W3 (c .before .before .before .before .before) (c .before .before .before .before .loop .image) (c .before .before .before .before .loop .lines) (c .before
             .before .before .before .loop .rs) (c .before .before .before .before .loop .answer) (c .before .before .before .before .loop .b)) (m24 (c .before) (After-base-row·gave c))
         lay8 = λ c. (
           part-requires record { before = c .before; base-row = c .base-row },
@@ -3671,7 +3876,7 @@ module _ (claims· : Claims) where
           },
         )
 
-        lay7 : (c : After-block-bytes) → at44 (W3 (c .before .before .before .before) (c .before .before .before .loop .image) (c .before .before .before .loop .lines) (c .before .before .before .loop
+        lay7 : (c : After-block-bytes) → at46 (W3 (c .before .before .before .before) (c .before .before .before .loop .image) (c .before .before .before .loop .lines) (c .before .before .before .loop
             .rs) (c .before .before .before .loop .answer) (c .before .before .before .loop .b)) (m23 (c .before) (After-block-bytes·gave c))
         lay7 = λ c. (
           base-row-requires record { before = c .before; block-bytes = c .block-bytes },
@@ -3682,7 +3887,7 @@ module _ (claims· : Claims) where
           },
         )
 
-        lay6 : (c : After-form-of) → at45 (W3 (c .before .before .before) (c .before .before .loop .image) (c .before .before .loop .lines) (c .before .before .loop .rs) (c .before .before .loop
+        lay6 : (c : After-form-of) → at47 (W3 (c .before .before .before) (c .before .before .loop .image) (c .before .before .loop .lines) (c .before .before .loop .rs) (c .before .before .loop
             .answer) (c .before .before .loop .b)) (m22 (c .before) (After-form-of·gave c))
         lay6 = λ c. (
           block-bytes-requires record { before = c .before; form-of = c .form-of },
@@ -3693,7 +3898,7 @@ module _ (claims· : Claims) where
           },
         )
 
-        lay5 : (c : In-loop) → at46 (W3 (c .before .before) (c .before .loop .image) (c .before .loop .lines) (c .before .loop .rs) (c .before .loop .answer) (c .before .loop .b)) (m16 (c .before))
+        lay5 : (c : In-loop) → at48 (W3 (c .before .before) (c .before .loop .image) (c .before .loop .lines) (c .before .loop .rs) (c .before .loop .answer) (c .before .loop .b)) (m16 (c .before))
         lay5 = λ c. (
           form-of-requires record { before = c .before; loop-test = c .loop-test },
           λ g. lay6 record {
@@ -3705,13 +3910,13 @@ module _ (claims· : Claims) where
 
         lay4 : (c : After-loop) → at7 (W4 (c .before .before) (c .before .loop .image) (c .before .loop .lines) (c .before .loop .rs) (c .before .loop .answer) (c .before .loop .b)) (m15 (c .before
             .before) (c .before .loop .image) (c .before .loop .lines) (c .before .loop .rs) (c .before .loop .answer) (c .before .loop .b))
-        lay4 = λ c. lay12 record { before = c .before; loop-test = c .loop-test }
+        lay4 = λ c. lay13 record { before = c .before; loop-test = c .loop-test }
 
         lay3 : (c : In-loop) → at1 (W4 (c .before .before) (c .before .loop .image) (c .before .loop .lines) (c .before .loop .rs) (c .before .loop .answer) (c .before .loop .b)) (m15 (c .before
             .before) (c .before .loop .image) (c .before .loop .lines) (c .before .loop .rs) (c .before .loop .answer) (c .before .loop .b))
         lay3 = λ c. lay5 record { before = c .before; loop-test = c .loop-test }
 
-        lay2 : (c : After-xtrans-places) → at63 (W0 (c .before .before .before .before .before .before .κs) (c .before .before .before .before .before .before .args)) (m8 (c .before)
+        lay2 : (c : After-xtrans-places) → at65 (W0 (c .before .before .before .before .before .before .κs) (c .before .before .before .before .before .before .args)) (m8 (c .before)
             (After-xtrans-places·gave c))
         lay2 = λ c. (
           (
@@ -3751,7 +3956,7 @@ module _ (claims· : Claims) where
           ),
         )
 
-        lay1 : (c : After-span-of) → at67 (W0 (c .before .before .before .before .κs) (c .before .before .before .before .args)) (m4 (c .before) (After-span-of·gave c))
+        lay1 : (c : After-span-of) → at69 (W0 (c .before .before .before .before .κs) (c .before .before .before .before .args)) (m4 (c .before) (After-span-of·gave c))
         lay1 = λ c. λ g. (
           add-end record { before = record { before = c .before; span-of = c .span-of }; struct-known = record { given = g } },
           (
@@ -3764,7 +3969,7 @@ module _ (claims· : Claims) where
           ),
         )
 
-        pub laid : (c : Start) → at71 (W0 (c .κs) (c .args)) (m0 (c .κs) (c .args))
+        pub laid : (c : Start) → at73 (W0 (c .κs) (c .args)) (m0 (c .κs) (c .args))
         laid = λ c. λ g. λ g'. λ g''. (
           span-of-requires record
               { before = record { before = record { before = c; shared-slice-known = record { given = g } }; slice-known = record { given = g' } }; slice-known2 = record { given = g'' } },
@@ -3792,8 +3997,9 @@ module _ (claims· : Claims) where
         module _ {M : Type 1} (𝓤 : URA.URA M) (H : Wp.Heap 𝓤) (A : Atoms.Atoms 𝓤) (W : Kit.Given 𝓤 H A) (𝓣 : Wp.Tables 𝓤 H) (known0 : Plain.Known 𝓤 H A W 𝓣 0 ps·0 r·0 (claims· .0) (claims· .1)
             "region::span_of") (known1 : Plain.Known 𝓤 H A W 𝓣 0 ps·1 r·1 (claims· .2) (claims· .3) "map::xtrans_places") (known2 : Plain.Known 𝓤 H A W 𝓣 0 ps·2 r·2 (claims· .4) (claims· .5)
             "block::form_of") (known3 : Plain.Known 𝓤 H A W 𝓣 1 ps·3 r·3 (claims· .6) (claims· .7) "stream::block_bytes") (known4 : Plain.Known 𝓤 H A W 𝓣 1 ps·4 r·4 (claims· .8) (claims· .9)
-            "stream::base_row") (known5 : Plain.Known 𝓤 H A W 𝓣 0 ps·5 r·5 (claims· .10) (claims· .11) "region::part") (known6 : Plain.Known 𝓤 H A W 𝓣 6 ps·6 r·6 (claims· .12) (claims· .13)
-            "block::reading::walk") (known7 : Plain.Known 𝓤 H A W 𝓣 0 ps·7 r·7 (claims· .14) (claims· .15) "block::decoding::judged") where
+            "stream::base_row") (known5 : Plain.Known 𝓤 H A W 𝓣 0 ps·5 r·5 (claims· .10) (claims· .11) "region::part") (known6 : Plain.Known 𝓤 H A W 𝓣 0 ps·6 r·6 (claims· .12) (claims· .13)
+            "cameras::no_entries") (known7 : Plain.Known 𝓤 H A W 𝓣 6 ps·7 r·7 (claims· .14) (claims· .15) "block::reading::walk") (known8 : Plain.Known 𝓤 H A W 𝓣 0 ps·8 r·8 (claims· .16) (claims· .17)
+            "block::decoding::judged") where
           pub spec : Statement.Triple 𝓤 (Wp.WpFn 𝓤 H (𝓣 .C) (𝓣 .Λ) (Function.fnOf 4 ps r xs m hs body)) (Function.plainOf 𝓤 H A 4 ps r Pre· Post·)
-          spec = Plain.t-fn-plain 𝓤 H A W 𝓣 4 ps r xs m hs body (λ κs qs bs. Φ) (λ κs qs bs bd. typed κs qs 𝓤 H A W 𝓣 (known0, known1, known2, known3, known4, known5, known6, known7) bs bd) Pre· Post·
-              asked
+          spec = Plain.t-fn-plain 𝓤 H A W 𝓣 4 ps r xs m hs body (λ κs qs bs. Φ) (λ κs qs bs bd. typed κs qs 𝓤 H A W 𝓣 (known0, known1, known2, known3, known4, known5, known6, known7, known8) bs bd)
+              Pre· Post· asked

@@ -7,16 +7,18 @@ use Rattle.block.proofs.Lined
 use Rattle.block.proofs.Lined.Laws as Laws'
 use Rattle.block.proofs.Walked
 use Rattle.block.proofs.Walked.Laws as Laws''
+use Rattle.cameras.proofs.Entries
+use Rattle.cameras.proofs.Entries.Laws as Laws'3
 use Rattle.code.proofs.Place
-use Rattle.code.proofs.Place.Laws as Laws'3
+use Rattle.code.proofs.Place.Laws as Laws'4
 use Rattle.map.proofs.Part
-use Rattle.map.proofs.Part.Laws as Laws'4
+use Rattle.map.proofs.Part.Laws as Laws'5
 use Rattle.steps.proofs.Quantisers
-use Rattle.steps.proofs.Quantisers.Laws as Laws'5
+use Rattle.steps.proofs.Quantisers.Laws as Laws'6
 use Rattle.totals.proofs.TightLines
-use Rattle.totals.proofs.TightLines.Laws as Laws'6
+use Rattle.totals.proofs.TightLines.Laws as Laws'7
 use Rattle.totals.proofs.Totals
-use Rattle.totals.proofs.Totals.Laws as Laws'7
+use Rattle.totals.proofs.Totals.Laws as Laws'8
 use borrow.Author.Called
 use borrow.Author.Tests
 use borrow.Enum.Known
@@ -65,11 +67,11 @@ use borrow.Table.Typed
 use contract.Lifetimes
 use denote.Array as Array'
 use denote.Enum.Declared
-use denote.Enum.Laws as Laws'8
+use denote.Enum.Laws as Laws'9
 use denote.Exit
 use denote.Struct.Declared as Declared'
 use denote.Struct.Field
-use denote.Struct.Laws as Laws'9
+use denote.Struct.Laws as Laws'10
 use denote.Triple.Clauses
 use denote.Triple.Statement
 use ghost.Atoms
@@ -91,57 +93,70 @@ y0 = Syntax.tyStruct (List._∷_ 109 (List._∷_ 97 (List._∷_ 112 (List._∷_ 
     Syntax.tnil))))))
 
 abbrev pub y1 : Syntax.Ty
-y1 = Syntax.tyStruct (List._∷_ 115 (List._∷_ 116 (List._∷_ 101 (List._∷_ 112 (List._∷_ 115 (List._∷_ 58 (List._∷_ 58 (List._∷_ 81 (List._∷_ 117 (List._∷_ 97 (List._∷_ 110 (List._∷_ 116 (List._∷_ 105
+y1 = Syntax.tyStruct (List._∷_ 113 (List._∷_ 117 (List._∷_ 97 (List._∷_ 110 (List._∷_ 116 (List._∷_ 105 (List._∷_ 115 (List._∷_ 101 (List._∷_ 114 (List._∷_ 58 (List._∷_ 58 (List._∷_ 81 (List._∷_ 117
+    (List._∷_ 97 (List._∷_ 110 (List._∷_ 116 (List._∷_ 105 (List._∷_ 115 (List._∷_ 101 (List._∷_ 114 List.[])))))))))))))))))))) (Syntax.tcons (Syntax.tyInt Syntax.w32) (Syntax.tcons (Syntax.tyInt
+    Syntax.w32) (Syntax.tcons (Syntax.tyInt Syntax.w32) (Syntax.tcons (Syntax.tyInt Syntax.w32) (Syntax.tcons (Syntax.tyInt Syntax.w32) Syntax.tnil)))))
+
+abbrev pub y2 : Syntax.Ty
+y2 = Syntax.tyStruct (List._∷_ 115 (List._∷_ 116 (List._∷_ 101 (List._∷_ 112 (List._∷_ 115 (List._∷_ 58 (List._∷_ 58 (List._∷_ 81 (List._∷_ 117 (List._∷_ 97 (List._∷_ 110 (List._∷_ 116 (List._∷_ 105
     (List._∷_ 115 (List._∷_ 101 (List._∷_ 114 (List._∷_ 115 List.[]))))))))))))))))) (Syntax.tcons (Syntax.tyInt Syntax.w32) (Syntax.tcons (Syntax.tyArray (Syntax.tyInt Syntax.w32) 4) (Syntax.tcons
     (Syntax.tyArray (Syntax.tyInt Syntax.w32) 4) (Syntax.tcons (Syntax.tyArray (Syntax.tyInt Syntax.w32) 4) Syntax.tnil))))
 
-abbrev pub y2 : Syntax.Ty
-y2 = Syntax.tyStruct (List._∷_ 116 (List._∷_ 111 (List._∷_ 116 (List._∷_ 97 (List._∷_ 108 (List._∷_ 115 (List._∷_ 58 (List._∷_ 58 (List._∷_ 84 (List._∷_ 111 (List._∷_ 116 (List._∷_ 97 (List._∷_ 108
+abbrev pub y3 : Syntax.Ty
+y3 = Syntax.tyStruct (List._∷_ 116 (List._∷_ 111 (List._∷_ 116 (List._∷_ 97 (List._∷_ 108 (List._∷_ 115 (List._∷_ 58 (List._∷_ 58 (List._∷_ 84 (List._∷_ 111 (List._∷_ 116 (List._∷_ 97 (List._∷_ 108
     (List._∷_ 115 List.[])))))))))))))) (Syntax.tcons (Syntax.tyInt Syntax.w64) (Syntax.tcons (Syntax.tyInt Syntax.w64) Syntax.tnil))
 
-abbrev pub y3 : Syntax.Ty
-y3 = Syntax.tyStruct (List._∷_ 38 (List._∷_ 91 (List._∷_ 93 List.[]))) (Syntax.tcons (Syntax.tyRef Syntax.erased Syntax.imm (Syntax.tyInt Syntax.w16)) (Syntax.tcons (Syntax.tyInt Syntax.w64)
-    Syntax.tnil))
-
 abbrev pub y4 : Syntax.Ty
-y4 = Syntax.tyStruct (List._∷_ 38 (List._∷_ 91 (List._∷_ 93 List.[]))) (Syntax.tcons (Syntax.tyRef Syntax.erased Syntax.mut (Syntax.tyInt Syntax.w16)) (Syntax.tcons (Syntax.tyInt Syntax.w64)
+y4 = Syntax.tyStruct (List._∷_ 38 (List._∷_ 91 (List._∷_ 93 List.[]))) (Syntax.tcons (Syntax.tyRef Syntax.erased Syntax.imm (Syntax.tyInt Syntax.w16)) (Syntax.tcons (Syntax.tyInt Syntax.w64)
     Syntax.tnil))
 
 abbrev pub y5 : Syntax.Ty
-y5 = Syntax.tyStruct (List._∷_ 38 (List._∷_ 91 (List._∷_ 93 List.[]))) (Syntax.tcons (Syntax.tyRef Syntax.erased Syntax.mut Element.behind) (Syntax.tcons (Syntax.tyInt Syntax.w64) Syntax.tnil))
+y5 = Syntax.tyStruct (List._∷_ 38 (List._∷_ 91 (List._∷_ 93 List.[]))) (Syntax.tcons (Syntax.tyRef Syntax.erased Syntax.mut (Syntax.tyInt Syntax.w16)) (Syntax.tcons (Syntax.tyInt Syntax.w64)
+    Syntax.tnil))
 
 abbrev pub y6 : Syntax.Ty
-y6 = Syntax.tyStruct (List._∷_ 98 (List._∷_ 105 (List._∷_ 116 (List._∷_ 115 (List._∷_ 58 (List._∷_ 58 (List._∷_ 66 (List._∷_ 105 (List._∷_ 116 (List._∷_ 80 (List._∷_ 111 (List._∷_ 115 (List._∷_ 105
-    (List._∷_ 116 (List._∷_ 105 (List._∷_ 111 (List._∷_ 110 List.[]))))))))))))))))) (Syntax.tcons (Syntax.tyInt Syntax.w64) Syntax.tnil)
+y6 = Syntax.tyStruct (List._∷_ 38 (List._∷_ 91 (List._∷_ 93 List.[]))) (Syntax.tcons (Syntax.tyRef Syntax.erased Syntax.mut Element.behind) (Syntax.tcons (Syntax.tyInt Syntax.w64) Syntax.tnil))
 
 abbrev pub y7 : Syntax.Ty
-y7 = Syntax.tyStruct (List._∷_ 98 (List._∷_ 108 (List._∷_ 111 (List._∷_ 99 (List._∷_ 107 (List._∷_ 58 (List._∷_ 58 (List._∷_ 70 (List._∷_ 111 (List._∷_ 114 (List._∷_ 109 List.[])))))))))))
-    (Syntax.tcons (Syntax.tyInt Syntax.w32) (Syntax.tcons Syntax.tyBool Syntax.tnil))
+y7 = Syntax.tyStruct (List._∷_ 98 (List._∷_ 105 (List._∷_ 116 (List._∷_ 115 (List._∷_ 58 (List._∷_ 58 (List._∷_ 66 (List._∷_ 105 (List._∷_ 116 (List._∷_ 80 (List._∷_ 111 (List._∷_ 115 (List._∷_ 105
+    (List._∷_ 116 (List._∷_ 105 (List._∷_ 111 (List._∷_ 110 List.[]))))))))))))))))) (Syntax.tcons (Syntax.tyInt Syntax.w64) Syntax.tnil)
 
 abbrev pub y8 : Syntax.Ty
-y8 = Syntax.tyStruct (List._∷_ 116 (List._∷_ 111 (List._∷_ 116 (List._∷_ 97 (List._∷_ 108 (List._∷_ 115 (List._∷_ 58 (List._∷_ 58 (List._∷_ 84 (List._∷_ 105 (List._∷_ 103 (List._∷_ 104 (List._∷_ 116
-    (List._∷_ 76 (List._∷_ 105 (List._∷_ 110 (List._∷_ 101 (List._∷_ 115 List.[])))))))))))))))))) (Syntax.tcons (Syntax.tyInt Syntax.w64) (Syntax.tcons y2 Syntax.tnil))
+y8 = Syntax.tyStruct (List._∷_ 98 (List._∷_ 108 (List._∷_ 111 (List._∷_ 99 (List._∷_ 107 (List._∷_ 58 (List._∷_ 58 (List._∷_ 70 (List._∷_ 111 (List._∷_ 114 (List._∷_ 109 List.[])))))))))))
+    (Syntax.tcons (Syntax.tyInt Syntax.w32) (Syntax.tcons Syntax.tyBool Syntax.tnil))
 
 abbrev pub y9 : Syntax.Ty
-y9 = Syntax.tyStruct (List._∷_ 99 (List._∷_ 111 (List._∷_ 100 (List._∷_ 101 (List._∷_ 58 (List._∷_ 58 (List._∷_ 80 (List._∷_ 108 (List._∷_ 97 (List._∷_ 99 (List._∷_ 101 List.[])))))))))))
-    (Syntax.tcons y6 (Syntax.tcons Syntax.tyBool (Syntax.tcons (Syntax.tyInt Syntax.w64) Syntax.tnil)))
+y9 = Syntax.tyStruct (List._∷_ 116 (List._∷_ 111 (List._∷_ 116 (List._∷_ 97 (List._∷_ 108 (List._∷_ 115 (List._∷_ 58 (List._∷_ 58 (List._∷_ 84 (List._∷_ 105 (List._∷_ 103 (List._∷_ 104 (List._∷_ 116
+    (List._∷_ 76 (List._∷_ 105 (List._∷_ 110 (List._∷_ 101 (List._∷_ 115 List.[])))))))))))))))))) (Syntax.tcons (Syntax.tyInt Syntax.w64) (Syntax.tcons y3 Syntax.tnil))
+
+abbrev pub y10 : Syntax.Ty
+y10 = Syntax.tyStruct (List._∷_ 99 (List._∷_ 111 (List._∷_ 100 (List._∷_ 101 (List._∷_ 58 (List._∷_ 58 (List._∷_ 80 (List._∷_ 108 (List._∷_ 97 (List._∷_ 99 (List._∷_ 101 List.[])))))))))))
+    (Syntax.tcons y7 (Syntax.tcons Syntax.tyBool (Syntax.tcons (Syntax.tyInt Syntax.w64) Syntax.tnil)))
+
+abbrev pub y11 : Syntax.Ty
+y11 = Syntax.tyStruct (List._∷_ 99 (List._∷_ 97 (List._∷_ 109 (List._∷_ 101 (List._∷_ 114 (List._∷_ 97 (List._∷_ 115 (List._∷_ 58 (List._∷_ 58 (List._∷_ 69 (List._∷_ 110 (List._∷_ 116 (List._∷_ 114
+    (List._∷_ 121 List.[])))))))))))))) (Syntax.tcons (Syntax.tyInt Syntax.w32) (Syntax.tcons y1 (Syntax.tcons Syntax.tyBool (Syntax.tcons Syntax.tyBool Syntax.tnil))))
+
+abbrev pub y12 : Syntax.Ty
+y12 = Syntax.tyStruct (List._∷_ 99 (List._∷_ 97 (List._∷_ 109 (List._∷_ 101 (List._∷_ 114 (List._∷_ 97 (List._∷_ 115 (List._∷_ 58 (List._∷_ 58 (List._∷_ 69 (List._∷_ 110 (List._∷_ 116 (List._∷_ 114
+    (List._∷_ 105 (List._∷_ 101 (List._∷_ 115 List.[])))))))))))))))) (Syntax.tcons (Syntax.tyArray y11 16) Syntax.tnil)
 
 abbrev pub ps : List.List (Kinds.PK 6)
 ps = List._∷_ (ShrSlice.pShrS (Referent.rtF (Referent.fInt Syntax.w8)) 0 tt) (List._∷_ (ShrSlice.pShrS (Referent.rtF (Referent.fInt Syntax.w8)) 1 tt) (List._∷_ (MutSlice.pMutS (Referent.rtF
     (Referent.fInt Syntax.w16)) 2 tt) (List._∷_ (MutSlice.pMutS (Element.type) 3 tt) (List._∷_ (MutSlice.pMutS (Referent.rtF (Referent.fInt Syntax.w16)) 4 tt) (List._∷_ (Value.pVal record {
       ty = Declared'.row Form.the-type;
       one = Path'.refl;
-      val = Laws'9.val Form.the-type Laws.the-laws;
-      tells = Laws'9.tells Form.the-type Laws.the-laws;
-      still = Laws'9.still Form.the-type Laws.the-copy
-          Exit.yes;
+      val = Laws'10.val Form.the-type Laws.the-laws;
+      tells = Laws'10.tells Form.the-type Laws.the-laws;
+      still = Laws'10.still Form.the-type
+          Laws.the-copy Exit.yes;
       row = Rows'.whole (Declared'.row Form.the-type);
       rd = λ x. x;
       mk = λ x. x;
     } λ M 𝓤 H A W. record {
-      copies = Laws'9.copy Form.the-type Laws.the-copy 𝓤 H A W;
-      lawful = Laws'9.lawful Form.the-type Laws.the-laws 𝓤 H A W;
-      makes = Laws'9.makes Form.the-type Laws.the-plain 𝓤 H A;
+      copies = Laws'10.copy Form.the-type Laws.the-copy 𝓤 H A W;
+      lawful = Laws'10.lawful Form.the-type Laws.the-laws 𝓤 H A W;
+      makes = Laws'10.makes Form.the-type Laws.the-plain 𝓤 H A;
       in-mem =
           Local.mem-whole 𝓤 H A W (Declared'.row Form.the-type);
       of-mem = Local.whole-mem 𝓤 H A W (Declared'.row Form.the-type);
@@ -149,51 +164,68 @@ ps = List._∷_ (ShrSlice.pShrS (Referent.rtF (Referent.fInt Syntax.w8)) 0 tt) (
     768) 5 tt) (List._∷_ (Array.pArr (Array.eInt Syntax.w8) (Array.eInt-laws Syntax.w8) 36) (List._∷_ (Value.pVal record {
       ty = Declared'.row Part.the-type;
       one = Path'.refl;
-      val = Laws'9.val Part.the-type Laws'4.the-laws;
-      tells = Laws'9.tells Part.the-type Laws'4.the-laws;
-      still = Laws'9.still Part.the-type
-          Laws'4.the-copy Exit.yes;
+      val = Laws'10.val Part.the-type Laws'5.the-laws;
+      tells = Laws'10.tells Part.the-type Laws'5.the-laws;
+      still = Laws'10.still Part.the-type
+          Laws'5.the-copy Exit.yes;
       row = Rows'.whole (Declared'.row Part.the-type);
       rd = λ x. x;
       mk = λ x. x;
     } λ M 𝓤 H A W. record {
-      copies = Laws'9.copy Part.the-type Laws'4.the-copy 𝓤 H A W;
-      lawful = Laws'9.lawful Part.the-type Laws'4.the-laws 𝓤 H A W;
-      makes = Laws'9.makes Part.the-type Laws'4.the-plain 𝓤 H A;
+      copies = Laws'10.copy Part.the-type Laws'5.the-copy 𝓤 H A W;
+      lawful = Laws'10.lawful Part.the-type Laws'5.the-laws 𝓤 H A W;
+      makes = Laws'10.makes Part.the-type Laws'5.the-plain 𝓤 H A;
       in-mem =
           Local.mem-whole 𝓤 H A W (Declared'.row Part.the-type);
       of-mem = Local.whole-mem 𝓤 H A W (Declared'.row Part.the-type);
-    }) (List._∷_ (Num.pNum Syntax.w64) (List._∷_ Bool.pBool List.[]))))))))))
+    }) (List._∷_ (Num.pNum Syntax.w64) (List._∷_ Bool.pBool (List._∷_ (Value.pVal
+    record {
+      ty = Declared'.row Entries.the-type;
+      one = Path'.refl;
+      val = Laws'10.val Entries.the-type Laws'3.the-laws;
+      tells = Laws'10.tells Entries.the-type Laws'3.the-laws;
+      still = Laws'10.still
+          Entries.the-type Laws'3.the-copy Exit.yes;
+      row = Rows'.whole (Declared'.row Entries.the-type);
+      rd = λ x. x;
+      mk = λ x. x;
+    } λ M 𝓤 H A W. record {
+      copies = Laws'10.copy Entries.the-type Laws'3.the-copy 𝓤 H A W;
+      lawful = Laws'10.lawful Entries.the-type Laws'3.the-laws 𝓤 H A W;
+      makes = Laws'10.makes Entries.the-type Laws'3.the-plain 𝓤 H A;
+      in-mem = Local.mem-whole 𝓤 H A W (Declared'.row Entries.the-type);
+      of-mem = Local.whole-mem 𝓤 H A W (Declared'.row Entries.the-type);
+    }) List.[])))))))))))
 
 abbrev pub r : Kinds.RK 6
 r = Value.rVal record {
   ty = Declared.row Walked.the-type;
   one = Path'.refl;
-  val = Laws'8.val Walked.the-type Laws''.the-laws;
-  tells = Laws'8.tells Walked.the-type Laws''.the-laws;
-  still = Laws'8.still Walked.the-type
+  val = Laws'9.val Walked.the-type Laws''.the-laws;
+  tells = Laws'9.tells Walked.the-type Laws''.the-laws;
+  still = Laws'9.still Walked.the-type
       Laws''.the-copy Exit.yes;
   row = Rows'.whole (Declared.row Walked.the-type);
   rd = λ x. x;
   mk = λ x. x;
 } λ M 𝓤 H A W. record {
-  copies = Laws'8.copy Walked.the-type Laws''.the-copy 𝓤 H A W;
-  lawful = Laws'8.lawful Walked.the-type Laws''.the-laws 𝓤 H A W tt;
-  makes = Laws'8.makes Walked.the-type Laws''.the-plain 𝓤 H A;
+  copies = Laws'9.copy Walked.the-type Laws''.the-copy 𝓤 H A W;
+  lawful = Laws'9.lawful Walked.the-type Laws''.the-laws 𝓤 H A W tt;
+  makes = Laws'9.makes Walked.the-type Laws''.the-plain 𝓤 H A;
   in-mem =
       Local.mem-whole 𝓤 H A W (Declared.row Walked.the-type);
   of-mem = Local.whole-mem 𝓤 H A W (Declared.row Walked.the-type);
 }
 
 abbrev pub xs : List.List Syntax.Ty
-xs = List._∷_ (Syntax.tyInt Syntax.w32) (List._∷_ Syntax.tyBool (List._∷_ (Syntax.tyInt Syntax.w64) (List._∷_ y9 (List._∷_ y8 (List._∷_ (Syntax.tyInt Syntax.w64) (List._∷_ (Syntax.tyInt Syntax.w32)
+xs = List._∷_ (Syntax.tyInt Syntax.w32) (List._∷_ Syntax.tyBool (List._∷_ (Syntax.tyInt Syntax.w64) (List._∷_ y10 (List._∷_ y9 (List._∷_ (Syntax.tyInt Syntax.w64) (List._∷_ (Syntax.tyInt Syntax.w32)
     (List._∷_ (Syntax.tyEnum (List._∷_ 98 (List._∷_ 108 (List._∷_ 111 (List._∷_ 99 (List._∷_ 107 (List._∷_ 58 (List._∷_ 58 (List._∷_ 76 (List._∷_ 105 (List._∷_ 110 (List._∷_ 101 (List._∷_ 100
-    List.[])))))))))))) (Syntax.ttcons (Syntax.tcons y9 Syntax.tnil) (Syntax.ttcons Syntax.tnil Syntax.ttnil))) (List._∷_ y9 (List._∷_ Syntax.tyUnit (List._∷_ (Syntax.tyRef Syntax.erased Syntax.mut
-    (Syntax.tyInt Syntax.w16)) (List._∷_ y4 (List._∷_ (Syntax.tyRef Syntax.erased Syntax.mut Element.behind) (List._∷_ y5 (List._∷_ (Syntax.tyInt Syntax.w32) (List._∷_ Syntax.tyBool (List._∷_
-    Syntax.tyUnit (List._∷_ (Syntax.tyRef Syntax.erased Syntax.mut (Syntax.tyInt Syntax.w16)) (List._∷_ y4 (List._∷_ (Syntax.tyRef Syntax.erased Syntax.mut Element.behind) (List._∷_ y5 (List._∷_
-    (Syntax.tyRef Syntax.erased Syntax.mut (Syntax.tyInt Syntax.w16)) (List._∷_ y4 (List._∷_ (Syntax.tyRef Syntax.erased Syntax.mut Element.behind) (List._∷_ y5 (List._∷_ (Syntax.tyRef Syntax.erased
-    Syntax.mut (Syntax.tyInt Syntax.w16)) (List._∷_ y4 (List._∷_ y1 (List._∷_ Syntax.tyUnit (List._∷_ (Syntax.tyRef Syntax.erased Syntax.mut (Syntax.tyInt Syntax.w16)) (List._∷_ y4 (List._∷_ y2 (List._∷_
-    y2 (List._∷_ (Syntax.tyRef Syntax.erased Syntax.imm (Syntax.tyInt Syntax.w16)) (List._∷_ y3 (List._∷_ (Syntax.tyRef Syntax.erased Syntax.mut (Syntax.tyInt Syntax.w16)) (List._∷_ y4 (List._∷_ y2
+    List.[])))))))))))) (Syntax.ttcons (Syntax.tcons y10 Syntax.tnil) (Syntax.ttcons Syntax.tnil Syntax.ttnil))) (List._∷_ y10 (List._∷_ Syntax.tyUnit (List._∷_ (Syntax.tyRef Syntax.erased Syntax.mut
+    (Syntax.tyInt Syntax.w16)) (List._∷_ y5 (List._∷_ (Syntax.tyRef Syntax.erased Syntax.mut Element.behind) (List._∷_ y6 (List._∷_ (Syntax.tyInt Syntax.w32) (List._∷_ Syntax.tyBool (List._∷_
+    Syntax.tyUnit (List._∷_ (Syntax.tyRef Syntax.erased Syntax.mut (Syntax.tyInt Syntax.w16)) (List._∷_ y5 (List._∷_ (Syntax.tyRef Syntax.erased Syntax.mut Element.behind) (List._∷_ y6 (List._∷_
+    (Syntax.tyRef Syntax.erased Syntax.mut (Syntax.tyInt Syntax.w16)) (List._∷_ y5 (List._∷_ (Syntax.tyRef Syntax.erased Syntax.mut Element.behind) (List._∷_ y6 (List._∷_ (Syntax.tyRef Syntax.erased
+    Syntax.mut (Syntax.tyInt Syntax.w16)) (List._∷_ y5 (List._∷_ y2 (List._∷_ Syntax.tyUnit (List._∷_ (Syntax.tyRef Syntax.erased Syntax.mut (Syntax.tyInt Syntax.w16)) (List._∷_ y5 (List._∷_ y3 (List._∷_
+    y3 (List._∷_ (Syntax.tyRef Syntax.erased Syntax.imm (Syntax.tyInt Syntax.w16)) (List._∷_ y4 (List._∷_ (Syntax.tyRef Syntax.erased Syntax.mut (Syntax.tyInt Syntax.w16)) (List._∷_ y5 (List._∷_ y3
     List.[])))))))))))))))))))))))))))))))))))))
 
 abbrev pub m : Nat.ℕ
@@ -230,17 +262,17 @@ abbrev pub r·4 : Kinds.RK 0
 r·4 = Value.rVal record {
   ty = Declared'.row Place.the-type;
   one = Path'.refl;
-  val = Laws'9.val Place.the-type Laws'3.the-laws;
-  tells = Laws'9.tells Place.the-type Laws'3.the-laws;
-  still = Laws'9.still Place.the-type
-      Laws'3.the-copy Exit.yes;
+  val = Laws'10.val Place.the-type Laws'4.the-laws;
+  tells = Laws'10.tells Place.the-type Laws'4.the-laws;
+  still = Laws'10.still Place.the-type
+      Laws'4.the-copy Exit.yes;
   row = Rows'.whole (Declared'.row Place.the-type);
   rd = λ x. x;
   mk = λ x. x;
 } λ M 𝓤 H A W. record {
-  copies = Laws'9.copy Place.the-type Laws'3.the-copy 𝓤 H A W;
-  lawful = Laws'9.lawful Place.the-type Laws'3.the-laws 𝓤 H A W;
-  makes = Laws'9.makes Place.the-type Laws'3.the-plain 𝓤 H A;
+  copies = Laws'10.copy Place.the-type Laws'4.the-copy 𝓤 H A W;
+  lawful = Laws'10.lawful Place.the-type Laws'4.the-laws 𝓤 H A W;
+  makes = Laws'10.makes Place.the-type Laws'4.the-plain 𝓤 H A;
   in-mem =
       Local.mem-whole 𝓤 H A W (Declared'.row Place.the-type);
   of-mem = Local.whole-mem 𝓤 H A W (Declared'.row Place.the-type);
@@ -253,17 +285,18 @@ abbrev pub r·5 : Kinds.RK 0
 r·5 = Value.rVal record {
   ty = Declared'.row TightLines.the-type;
   one = Path'.refl;
-  val = Laws'9.val TightLines.the-type Laws'6.the-laws;
-  tells = Laws'9.tells TightLines.the-type Laws'6.the-laws;
-  still = Laws'9.still
-      TightLines.the-type Laws'6.the-copy Exit.yes;
+  val = Laws'10.val TightLines.the-type Laws'7.the-laws;
+  tells = Laws'10.tells TightLines.the-type Laws'7.the-laws;
+  still = Laws'10.still
+      TightLines.the-type Laws'7.the-copy Exit.yes;
   row = Rows'.whole (Declared'.row TightLines.the-type);
   rd = λ x. x;
   mk = λ x. x;
 } λ M 𝓤 H A W. record {
-  copies = Laws'9.copy TightLines.the-type Laws'6.the-copy 𝓤 H A W;
-  lawful = Laws'9.lawful TightLines.the-type Laws'6.the-laws 𝓤 H A W;
-  makes = Laws'9.makes TightLines.the-type Laws'6.the-plain 𝓤 H A;
+  copies = Laws'10.copy TightLines.the-type Laws'7.the-copy 𝓤 H A W;
+  lawful = Laws'10.lawful TightLines.the-type Laws'7.the-laws 𝓤 H A W;
+  makes = Laws'10.makes TightLines.the-type Laws'7.the-plain 𝓤 H
+      A;
   in-mem = Local.mem-whole 𝓤 H A W (Declared'.row TightLines.the-type);
   of-mem = Local.whole-mem 𝓤 H A W (Declared'.row TightLines.the-type);
 }
@@ -287,23 +320,41 @@ abbrev pub r·8 : Kinds.RK 1
 r·8 = Unit'.rUnit
 
 abbrev pub ps·9 : List.List (Kinds.PK 0)
-ps·9 = List._∷_ (Num.pNum Syntax.w32) (List._∷_ (Num.pNum Syntax.w32) List.[])
+ps·9 = List._∷_ (Value.pVal record {
+  ty = Declared'.row Entries.the-type;
+  one = Path'.refl;
+  val = Laws'10.val Entries.the-type Laws'3.the-laws;
+  tells = Laws'10.tells Entries.the-type Laws'3.the-laws;
+  still = Laws'10.still
+      Entries.the-type Laws'3.the-copy Exit.yes;
+  row = Rows'.whole (Declared'.row Entries.the-type);
+  rd = λ x. x;
+  mk = λ x. x;
+} λ M 𝓤 H A W. record {
+  copies = Laws'10.copy Entries.the-type Laws'3.the-copy 𝓤 H A W;
+  lawful = Laws'10.lawful Entries.the-type Laws'3.the-laws 𝓤 H A W;
+  makes = Laws'10.makes Entries.the-type Laws'3.the-plain 𝓤 H A;
+  in-mem = Local.mem-whole 𝓤 H A W (Declared'.row Entries.the-type);
+  of-mem = Local.whole-mem 𝓤 H A W (Declared'.row Entries.the-type);
+}) (List._∷_ (Num.pNum Syntax.w32) (List._∷_ (Num.pNum Syntax.w32)
+    List.[]))
 
 abbrev pub r·9 : Kinds.RK 0
 r·9 = Value.rVal record {
   ty = Declared'.row Quantisers.the-type;
   one = Path'.refl;
-  val = Laws'9.val Quantisers.the-type Laws'5.the-laws;
-  tells = Laws'9.tells Quantisers.the-type Laws'5.the-laws;
-  still = Laws'9.still
-      Quantisers.the-type Laws'5.the-copy Exit.yes;
+  val = Laws'10.val Quantisers.the-type Laws'6.the-laws;
+  tells = Laws'10.tells Quantisers.the-type Laws'6.the-laws;
+  still = Laws'10.still
+      Quantisers.the-type Laws'6.the-copy Exit.yes;
   row = Rows'.whole (Declared'.row Quantisers.the-type);
   rd = λ x. x;
   mk = λ x. x;
 } λ M 𝓤 H A W. record {
-  copies = Laws'9.copy Quantisers.the-type Laws'5.the-copy 𝓤 H A W;
-  lawful = Laws'9.lawful Quantisers.the-type Laws'5.the-laws 𝓤 H A W;
-  makes = Laws'9.makes Quantisers.the-type Laws'5.the-plain 𝓤 H A;
+  copies = Laws'10.copy Quantisers.the-type Laws'6.the-copy 𝓤 H A W;
+  lawful = Laws'10.lawful Quantisers.the-type Laws'6.the-laws 𝓤 H A W;
+  makes = Laws'10.makes Quantisers.the-type Laws'6.the-plain 𝓤 H
+      A;
   in-mem = Local.mem-whole 𝓤 H A W (Declared'.row Quantisers.the-type);
   of-mem = Local.whole-mem 𝓤 H A W (Declared'.row Quantisers.the-type);
 }
@@ -312,17 +363,17 @@ abbrev pub ps·10 : List.List (Kinds.PK 5)
 ps·10 = List._∷_ (ShrSlice.pShrS (Referent.rtF (Referent.fInt Syntax.w8)) 0 tt) (List._∷_ (Value.pVal record {
   ty = Declared'.row Place.the-type;
   one = Path'.refl;
-  val = Laws'9.val Place.the-type Laws'3.the-laws;
-  tells = Laws'9.tells Place.the-type Laws'3.the-laws;
-  still = Laws'9.still Place.the-type
-      Laws'3.the-copy Exit.yes;
+  val = Laws'10.val Place.the-type Laws'4.the-laws;
+  tells = Laws'10.tells Place.the-type Laws'4.the-laws;
+  still = Laws'10.still Place.the-type
+      Laws'4.the-copy Exit.yes;
   row = Rows'.whole (Declared'.row Place.the-type);
   rd = λ x. x;
   mk = λ x. x;
 } λ M 𝓤 H A W. record {
-  copies = Laws'9.copy Place.the-type Laws'3.the-copy 𝓤 H A W;
-  lawful = Laws'9.lawful Place.the-type Laws'3.the-laws 𝓤 H A W;
-  makes = Laws'9.makes Place.the-type Laws'3.the-plain 𝓤 H A;
+  copies = Laws'10.copy Place.the-type Laws'4.the-copy 𝓤 H A W;
+  lawful = Laws'10.lawful Place.the-type Laws'4.the-laws 𝓤 H A W;
+  makes = Laws'10.makes Place.the-type Laws'4.the-plain 𝓤 H A;
   in-mem =
       Local.mem-whole 𝓤 H A W (Declared'.row Place.the-type);
   of-mem = Local.whole-mem 𝓤 H A W (Declared'.row Place.the-type);
@@ -330,51 +381,52 @@ ps·10 = List._∷_ (ShrSlice.pShrS (Referent.rtF (Referent.fInt Syntax.w8)) 0 t
     (List._∷_ (MutSlice.pMutS (Element.type) 2 tt) (List._∷_ (MutSlice.pMutS (Referent.rtF (Referent.fInt Syntax.w16)) 3 tt) (List._∷_ (Value.pVal record {
       ty = Declared'.row Form.the-type;
       one = Path'.refl;
-      val = Laws'9.val Form.the-type Laws.the-laws;
-      tells = Laws'9.tells Form.the-type Laws.the-laws;
-      still = Laws'9.still Form.the-type Laws.the-copy
-          Exit.yes;
+      val = Laws'10.val Form.the-type Laws.the-laws;
+      tells = Laws'10.tells Form.the-type Laws.the-laws;
+      still = Laws'10.still Form.the-type
+          Laws.the-copy Exit.yes;
       row = Rows'.whole (Declared'.row Form.the-type);
       rd = λ x. x;
       mk = λ x. x;
     } λ M 𝓤 H A W. record {
-      copies = Laws'9.copy Form.the-type Laws.the-copy 𝓤 H A W;
-      lawful = Laws'9.lawful Form.the-type Laws.the-laws 𝓤 H A W;
-      makes = Laws'9.makes Form.the-type Laws.the-plain 𝓤 H A;
+      copies = Laws'10.copy Form.the-type Laws.the-copy 𝓤 H A W;
+      lawful = Laws'10.lawful Form.the-type Laws.the-laws 𝓤 H A W;
+      makes = Laws'10.makes Form.the-type Laws.the-plain 𝓤 H A;
       in-mem =
           Local.mem-whole 𝓤 H A W (Declared'.row Form.the-type);
       of-mem = Local.whole-mem 𝓤 H A W (Declared'.row Form.the-type);
     }) (List._∷_ (Value.pVal record {
       ty = Declared'.row Quantisers.the-type;
       one = Path'.refl;
-      val = Laws'9.val Quantisers.the-type Laws'5.the-laws;
-      tells = Laws'9.tells Quantisers.the-type Laws'5.the-laws;
-      still = Laws'9.still
-          Quantisers.the-type Laws'5.the-copy Exit.yes;
+      val = Laws'10.val Quantisers.the-type Laws'6.the-laws;
+      tells = Laws'10.tells Quantisers.the-type Laws'6.the-laws;
+      still = Laws'10.still
+          Quantisers.the-type Laws'6.the-copy Exit.yes;
       row = Rows'.whole (Declared'.row Quantisers.the-type);
       rd = λ x. x;
       mk = λ x. x;
     } λ M 𝓤 H A W. record {
-      copies = Laws'9.copy Quantisers.the-type Laws'5.the-copy 𝓤 H A W;
-      lawful = Laws'9.lawful Quantisers.the-type Laws'5.the-laws 𝓤 H A W;
-      makes = Laws'9.makes Quantisers.the-type Laws'5.the-plain 𝓤 H A;
+      copies = Laws'10.copy Quantisers.the-type Laws'6.the-copy 𝓤 H A W;
+      lawful = Laws'10.lawful Quantisers.the-type Laws'6.the-laws 𝓤 H A W;
+      makes = Laws'10.makes Quantisers.the-type Laws'6.the-plain 𝓤 H
+          A;
       in-mem = Local.mem-whole 𝓤 H A W (Declared'.row Quantisers.the-type);
       of-mem = Local.whole-mem 𝓤 H A W (Declared'.row Quantisers.the-type);
     }) (List._∷_ (ShrRef.pShr (Array'.Array (Referent.rtF
     (Referent.fInt Syntax.w16)) 768) 4 tt) (List._∷_ (Array.pArr (Array.eInt Syntax.w8) (Array.eInt-laws Syntax.w8) 36) (List._∷_ (Value.pVal record {
       ty = Declared'.row Part.the-type;
       one = Path'.refl;
-      val = Laws'9.val Part.the-type Laws'4.the-laws;
-      tells = Laws'9.tells Part.the-type Laws'4.the-laws;
-      still = Laws'9.still Part.the-type
-          Laws'4.the-copy Exit.yes;
+      val = Laws'10.val Part.the-type Laws'5.the-laws;
+      tells = Laws'10.tells Part.the-type Laws'5.the-laws;
+      still = Laws'10.still Part.the-type
+          Laws'5.the-copy Exit.yes;
       row = Rows'.whole (Declared'.row Part.the-type);
       rd = λ x. x;
       mk = λ x. x;
     } λ M 𝓤 H A W. record {
-      copies = Laws'9.copy Part.the-type Laws'4.the-copy 𝓤 H A W;
-      lawful = Laws'9.lawful Part.the-type Laws'4.the-laws 𝓤 H A W;
-      makes = Laws'9.makes Part.the-type Laws'4.the-plain 𝓤 H A;
+      copies = Laws'10.copy Part.the-type Laws'5.the-copy 𝓤 H A W;
+      lawful = Laws'10.lawful Part.the-type Laws'5.the-laws 𝓤 H A W;
+      makes = Laws'10.makes Part.the-type Laws'5.the-plain 𝓤 H A;
       in-mem =
           Local.mem-whole 𝓤 H A W (Declared'.row Part.the-type);
       of-mem = Local.whole-mem 𝓤 H A W (Declared'.row Part.the-type);
@@ -384,17 +436,17 @@ abbrev pub r·10 : Kinds.RK 5
 r·10 = Value.rVal record {
   ty = Declared.row Lined.the-type;
   one = Path'.refl;
-  val = Laws'8.val Lined.the-type Laws'.the-laws;
-  tells = Laws'8.tells Lined.the-type Laws'.the-laws;
-  still = Laws'8.still Lined.the-type
+  val = Laws'9.val Lined.the-type Laws'.the-laws;
+  tells = Laws'9.tells Lined.the-type Laws'.the-laws;
+  still = Laws'9.still Lined.the-type
       Laws'.the-copy Exit.yes;
   row = Rows'.whole (Declared.row Lined.the-type);
   rd = λ x. x;
   mk = λ x. x;
 } λ M 𝓤 H A W. record {
-  copies = Laws'8.copy Lined.the-type Laws'.the-copy 𝓤 H A W;
-  lawful = Laws'8.lawful Lined.the-type Laws'.the-laws 𝓤 H A W tt;
-  makes = Laws'8.makes Lined.the-type Laws'.the-plain 𝓤 H A;
+  copies = Laws'9.copy Lined.the-type Laws'.the-copy 𝓤 H A W;
+  lawful = Laws'9.lawful Lined.the-type Laws'.the-laws 𝓤 H A W tt;
+  makes = Laws'9.makes Lined.the-type Laws'.the-plain 𝓤 H A;
   in-mem =
       Local.mem-whole 𝓤 H A W (Declared.row Lined.the-type);
   of-mem = Local.whole-mem 𝓤 H A W (Declared.row Lined.the-type);
@@ -404,17 +456,17 @@ abbrev pub ps·11 : List.List (Kinds.PK 1)
 ps·11 = List._∷_ (MutSlice.pMutS (Referent.rtF (Referent.fInt Syntax.w16)) 0 tt) (List._∷_ (Value.pVal record {
   ty = Declared'.row Part.the-type;
   one = Path'.refl;
-  val = Laws'9.val Part.the-type Laws'4.the-laws;
-  tells = Laws'9.tells Part.the-type Laws'4.the-laws;
-  still = Laws'9.still Part.the-type
-      Laws'4.the-copy Exit.yes;
+  val = Laws'10.val Part.the-type Laws'5.the-laws;
+  tells = Laws'10.tells Part.the-type Laws'5.the-laws;
+  still = Laws'10.still Part.the-type
+      Laws'5.the-copy Exit.yes;
   row = Rows'.whole (Declared'.row Part.the-type);
   rd = λ x. x;
   mk = λ x. x;
 } λ M 𝓤 H A W. record {
-  copies = Laws'9.copy Part.the-type Laws'4.the-copy 𝓤 H A W;
-  lawful = Laws'9.lawful Part.the-type Laws'4.the-laws 𝓤 H A W;
-  makes = Laws'9.makes Part.the-type Laws'4.the-plain 𝓤 H A;
+  copies = Laws'10.copy Part.the-type Laws'5.the-copy 𝓤 H A W;
+  lawful = Laws'10.lawful Part.the-type Laws'5.the-laws 𝓤 H A W;
+  makes = Laws'10.makes Part.the-type Laws'5.the-plain 𝓤 H A;
   in-mem =
       Local.mem-whole 𝓤 H A W (Declared'.row Part.the-type);
   of-mem = Local.whole-mem 𝓤 H A W (Declared'.row Part.the-type);
@@ -427,17 +479,17 @@ abbrev pub ps·12 : List.List (Kinds.PK 0)
 ps·12 = List._∷_ (Value.pVal record {
   ty = Declared'.row Place.the-type;
   one = Path'.refl;
-  val = Laws'9.val Place.the-type Laws'3.the-laws;
-  tells = Laws'9.tells Place.the-type Laws'3.the-laws;
-  still = Laws'9.still Place.the-type
-      Laws'3.the-copy Exit.yes;
+  val = Laws'10.val Place.the-type Laws'4.the-laws;
+  tells = Laws'10.tells Place.the-type Laws'4.the-laws;
+  still = Laws'10.still Place.the-type
+      Laws'4.the-copy Exit.yes;
   row = Rows'.whole (Declared'.row Place.the-type);
   rd = λ x. x;
   mk = λ x. x;
 } λ M 𝓤 H A W. record {
-  copies = Laws'9.copy Place.the-type Laws'3.the-copy 𝓤 H A W;
-  lawful = Laws'9.lawful Place.the-type Laws'3.the-laws 𝓤 H A W;
-  makes = Laws'9.makes Place.the-type Laws'3.the-plain 𝓤 H A;
+  copies = Laws'10.copy Place.the-type Laws'4.the-copy 𝓤 H A W;
+  lawful = Laws'10.lawful Place.the-type Laws'4.the-laws 𝓤 H A W;
+  makes = Laws'10.makes Place.the-type Laws'4.the-plain 𝓤 H A;
   in-mem =
       Local.mem-whole 𝓤 H A W (Declared'.row Place.the-type);
   of-mem = Local.whole-mem 𝓤 H A W (Declared'.row Place.the-type);
@@ -447,17 +499,17 @@ abbrev pub r·12 : Kinds.RK 0
 r·12 = Value.rVal record {
   ty = Declared'.row Totals.the-type;
   one = Path'.refl;
-  val = Laws'9.val Totals.the-type Laws'7.the-laws;
-  tells = Laws'9.tells Totals.the-type Laws'7.the-laws;
-  still = Laws'9.still Totals.the-type
-      Laws'7.the-copy Exit.yes;
+  val = Laws'10.val Totals.the-type Laws'8.the-laws;
+  tells = Laws'10.tells Totals.the-type Laws'8.the-laws;
+  still = Laws'10.still Totals.the-type
+      Laws'8.the-copy Exit.yes;
   row = Rows'.whole (Declared'.row Totals.the-type);
   rd = λ x. x;
   mk = λ x. x;
 } λ M 𝓤 H A W. record {
-  copies = Laws'9.copy Totals.the-type Laws'7.the-copy 𝓤 H A W;
-  lawful = Laws'9.lawful Totals.the-type Laws'7.the-laws 𝓤 H A W;
-  makes = Laws'9.makes Totals.the-type Laws'7.the-plain 𝓤 H A;
+  copies = Laws'10.copy Totals.the-type Laws'8.the-copy 𝓤 H A W;
+  lawful = Laws'10.lawful Totals.the-type Laws'8.the-laws 𝓤 H A W;
+  makes = Laws'10.makes Totals.the-type Laws'8.the-plain 𝓤 H A;
   in-mem =
       Local.mem-whole 𝓤 H A W (Declared'.row Totals.the-type);
   of-mem = Local.whole-mem 𝓤 H A W (Declared'.row Totals.the-type);
@@ -467,34 +519,35 @@ abbrev pub ps·13 : List.List (Kinds.PK 0)
 ps·13 = List._∷_ (Value.pVal record {
   ty = Declared'.row TightLines.the-type;
   one = Path'.refl;
-  val = Laws'9.val TightLines.the-type Laws'6.the-laws;
-  tells = Laws'9.tells TightLines.the-type Laws'6.the-laws;
-  still = Laws'9.still
-      TightLines.the-type Laws'6.the-copy Exit.yes;
+  val = Laws'10.val TightLines.the-type Laws'7.the-laws;
+  tells = Laws'10.tells TightLines.the-type Laws'7.the-laws;
+  still = Laws'10.still
+      TightLines.the-type Laws'7.the-copy Exit.yes;
   row = Rows'.whole (Declared'.row TightLines.the-type);
   rd = λ x. x;
   mk = λ x. x;
 } λ M 𝓤 H A W. record {
-  copies = Laws'9.copy TightLines.the-type Laws'6.the-copy 𝓤 H A W;
-  lawful = Laws'9.lawful TightLines.the-type Laws'6.the-laws 𝓤 H A W;
-  makes = Laws'9.makes TightLines.the-type Laws'6.the-plain 𝓤 H A;
+  copies = Laws'10.copy TightLines.the-type Laws'7.the-copy 𝓤 H A W;
+  lawful = Laws'10.lawful TightLines.the-type Laws'7.the-laws 𝓤 H A W;
+  makes = Laws'10.makes TightLines.the-type Laws'7.the-plain 𝓤 H
+      A;
   in-mem = Local.mem-whole 𝓤 H A W (Declared'.row TightLines.the-type);
   of-mem = Local.whole-mem 𝓤 H A W (Declared'.row TightLines.the-type);
 }) (List._∷_ (Num.pNum Syntax.w64) (List._∷_ Bool.pBool
     (List._∷_ (Value.pVal record {
       ty = Declared'.row Totals.the-type;
       one = Path'.refl;
-      val = Laws'9.val Totals.the-type Laws'7.the-laws;
-      tells = Laws'9.tells Totals.the-type Laws'7.the-laws;
-      still = Laws'9.still Totals.the-type
-          Laws'7.the-copy Exit.yes;
+      val = Laws'10.val Totals.the-type Laws'8.the-laws;
+      tells = Laws'10.tells Totals.the-type Laws'8.the-laws;
+      still = Laws'10.still Totals.the-type
+          Laws'8.the-copy Exit.yes;
       row = Rows'.whole (Declared'.row Totals.the-type);
       rd = λ x. x;
       mk = λ x. x;
     } λ M 𝓤 H A W. record {
-      copies = Laws'9.copy Totals.the-type Laws'7.the-copy 𝓤 H A W;
-      lawful = Laws'9.lawful Totals.the-type Laws'7.the-laws 𝓤 H A W;
-      makes = Laws'9.makes Totals.the-type Laws'7.the-plain 𝓤 H A;
+      copies = Laws'10.copy Totals.the-type Laws'8.the-copy 𝓤 H A W;
+      lawful = Laws'10.lawful Totals.the-type Laws'8.the-laws 𝓤 H A W;
+      makes = Laws'10.makes Totals.the-type Laws'8.the-plain 𝓤 H A;
       in-mem =
           Local.mem-whole 𝓤 H A W (Declared'.row Totals.the-type);
       of-mem = Local.whole-mem 𝓤 H A W (Declared'.row Totals.the-type);
@@ -504,17 +557,18 @@ abbrev pub r·13 : Kinds.RK 0
 r·13 = Value.rVal record {
   ty = Declared'.row TightLines.the-type;
   one = Path'.refl;
-  val = Laws'9.val TightLines.the-type Laws'6.the-laws;
-  tells = Laws'9.tells TightLines.the-type Laws'6.the-laws;
-  still = Laws'9.still
-      TightLines.the-type Laws'6.the-copy Exit.yes;
+  val = Laws'10.val TightLines.the-type Laws'7.the-laws;
+  tells = Laws'10.tells TightLines.the-type Laws'7.the-laws;
+  still = Laws'10.still
+      TightLines.the-type Laws'7.the-copy Exit.yes;
   row = Rows'.whole (Declared'.row TightLines.the-type);
   rd = λ x. x;
   mk = λ x. x;
 } λ M 𝓤 H A W. record {
-  copies = Laws'9.copy TightLines.the-type Laws'6.the-copy 𝓤 H A W;
-  lawful = Laws'9.lawful TightLines.the-type Laws'6.the-laws 𝓤 H A W;
-  makes = Laws'9.makes TightLines.the-type Laws'6.the-plain 𝓤 H A;
+  copies = Laws'10.copy TightLines.the-type Laws'7.the-copy 𝓤 H A W;
+  lawful = Laws'10.lawful TightLines.the-type Laws'7.the-laws 𝓤 H A W;
+  makes = Laws'10.makes TightLines.the-type Laws'7.the-plain 𝓤 H
+      A;
   in-mem = Local.mem-whole 𝓤 H A W (Declared'.row TightLines.the-type);
   of-mem = Local.whole-mem 𝓤 H A W (Declared'.row TightLines.the-type);
 }
@@ -525,17 +579,17 @@ ps·14 = List._∷_ (ShrSlice.pShrS (Referent.rtF (Referent.fInt Syntax.w16)) 0 
     record {
       ty = Declared'.row Part.the-type;
       one = Path'.refl;
-      val = Laws'9.val Part.the-type Laws'4.the-laws;
-      tells = Laws'9.tells Part.the-type Laws'4.the-laws;
-      still = Laws'9.still Part.the-type
-          Laws'4.the-copy Exit.yes;
+      val = Laws'10.val Part.the-type Laws'5.the-laws;
+      tells = Laws'10.tells Part.the-type Laws'5.the-laws;
+      still = Laws'10.still Part.the-type
+          Laws'5.the-copy Exit.yes;
       row = Rows'.whole (Declared'.row Part.the-type);
       rd = λ x. x;
       mk = λ x. x;
     } λ M 𝓤 H A W. record {
-      copies = Laws'9.copy Part.the-type Laws'4.the-copy 𝓤 H A W;
-      lawful = Laws'9.lawful Part.the-type Laws'4.the-laws 𝓤 H A W;
-      makes = Laws'9.makes Part.the-type Laws'4.the-plain 𝓤 H A;
+      copies = Laws'10.copy Part.the-type Laws'5.the-copy 𝓤 H A W;
+      lawful = Laws'10.lawful Part.the-type Laws'5.the-laws 𝓤 H A W;
+      makes = Laws'10.makes Part.the-type Laws'5.the-plain 𝓤 H A;
       in-mem =
           Local.mem-whole 𝓤 H A W (Declared'.row Part.the-type);
       of-mem = Local.whole-mem 𝓤 H A W (Declared'.row Part.the-type);
@@ -552,50 +606,50 @@ hs = List._∷_ Syntax.valueLocal (List._∷_ Syntax.valueLocal (List._∷_ Synt
     (List._∷_ Syntax.valueLocal (List._∷_ Syntax.valueLocal (List._∷_ Syntax.valueLocal (List._∷_ Syntax.valueLocal (List._∷_ Syntax.valueLocal (List._∷_ Syntax.valueLocal (List._∷_ Syntax.valueLocal
     (List._∷_ Syntax.valueLocal (List._∷_ Syntax.valueLocal (List._∷_ Syntax.valueLocal (List._∷_ Syntax.valueLocal (List._∷_ Syntax.valueLocal (List._∷_ Syntax.valueLocal (List._∷_ Syntax.valueLocal
     (List._∷_ Syntax.valueLocal (List._∷_ Syntax.valueLocal (List._∷_ Syntax.valueLocal (List._∷_ Syntax.valueLocal (List._∷_ Syntax.valueLocal (List._∷_ Syntax.valueLocal (List._∷_ Syntax.valueLocal
-    (List._∷_ Syntax.valueLocal List.[])))))))))))))))))))))))))))))))))))))))))))))))))
+    (List._∷_ Syntax.valueLocal (List._∷_ Syntax.valueLocal List.[]))))))))))))))))))))))))))))))))))))))))))))))))))
 
 abbrev b0 : Syntax.Body
-b0 = Syntax.assign (Syntax.place 12 List.[]) (Syntax.rvOpd (Syntax.copy (Syntax.place 6 (List._∷_ (Syntax.field 0) List.[]))))
+b0 = Syntax.assign (Syntax.place 13 List.[]) (Syntax.rvOpd (Syntax.copy (Syntax.place 6 (List._∷_ (Syntax.field 0) List.[]))))
 
 abbrev b1 : Syntax.Body
-b1 = Syntax.assign (Syntax.place 13 List.[]) (Syntax.rvOpd (Syntax.copy (Syntax.place 6 (List._∷_ (Syntax.field 1) List.[]))))
+b1 = Syntax.assign (Syntax.place 14 List.[]) (Syntax.rvOpd (Syntax.copy (Syntax.place 6 (List._∷_ (Syntax.field 1) List.[]))))
 
 abbrev b2 : Syntax.Body
-b2 = Syntax.call "map::width" (List._∷_ (Syntax.copy (Syntax.place 13 List.[])) List.[]) (Syntax.place 14 List.[])
+b2 = Syntax.call "map::width" (List._∷_ (Syntax.copy (Syntax.place 14 List.[])) List.[]) (Syntax.place 15 List.[])
 
 abbrev b3 : Syntax.Body
-b3 = Syntax.assign (Syntax.place 22 List.[]) (Syntax.addrOf (Syntax.place 3 (List._∷_ (Syntax.field 0) (List._∷_ (Syntax.deref (Syntax.tyInt Syntax.w16)) List.[]))))
+b3 = Syntax.assign (Syntax.place 23 List.[]) (Syntax.addrOf (Syntax.place 3 (List._∷_ (Syntax.field 0) (List._∷_ (Syntax.deref (Syntax.tyInt Syntax.w16)) List.[]))))
 
 abbrev b4 : Syntax.Body
-b4 = Syntax.assign (Syntax.place 23 List.[]) (Syntax.aggregate (List._∷_ (Syntax.copy (Syntax.place 22 List.[])) (List._∷_ (Syntax.copy (Syntax.place 3 (List._∷_ (Syntax.field 1) List.[]))) List.[])))
+b4 = Syntax.assign (Syntax.place 24 List.[]) (Syntax.aggregate (List._∷_ (Syntax.copy (Syntax.place 23 List.[])) (List._∷_ (Syntax.copy (Syntax.place 3 (List._∷_ (Syntax.field 1) List.[]))) List.[])))
 
 abbrev b5 : Syntax.Body
-b5 = Syntax.call "lines::clear" (List._∷_ (Syntax.copy (Syntax.place 23 List.[])) List.[]) (Syntax.place 21 List.[])
+b5 = Syntax.call "lines::clear" (List._∷_ (Syntax.copy (Syntax.place 24 List.[])) List.[]) (Syntax.place 22 List.[])
 
 abbrev b6 : Syntax.Body
-b6 = Syntax.assign (Syntax.place 24 List.[]) (Syntax.addrOf (Syntax.place 4 (List._∷_ (Syntax.field 0) (List._∷_ (Syntax.deref (Element.held)) List.[]))))
+b6 = Syntax.assign (Syntax.place 25 List.[]) (Syntax.addrOf (Syntax.place 4 (List._∷_ (Syntax.field 0) (List._∷_ (Syntax.deref (Element.held)) List.[]))))
 
 abbrev b7 : Syntax.Body
-b7 = Syntax.assign (Syntax.place 25 List.[]) (Syntax.aggregate (List._∷_ (Syntax.copy (Syntax.place 24 List.[])) (List._∷_ (Syntax.copy (Syntax.place 4 (List._∷_ (Syntax.field 1) List.[]))) List.[])))
+b7 = Syntax.assign (Syntax.place 26 List.[]) (Syntax.aggregate (List._∷_ (Syntax.copy (Syntax.place 25 List.[])) (List._∷_ (Syntax.copy (Syntax.place 4 (List._∷_ (Syntax.field 1) List.[]))) List.[])))
 
 abbrev b8 : Syntax.Body
-b8 = Syntax.call "block::reading::base_of" (List._∷_ (Syntax.copy (Syntax.place 2 List.[])) (List._∷_ (Syntax.int Syntax.w64 0) List.[])) (Syntax.place 26 List.[])
+b8 = Syntax.call "cameras::base_of" (List._∷_ (Syntax.copy (Syntax.place 2 List.[])) (List._∷_ (Syntax.int Syntax.w64 0) List.[])) (Syntax.place 27 List.[])
 
 abbrev b9 : Syntax.Body
-b9 = Syntax.call "block::records::start_records" (List._∷_ (Syntax.copy (Syntax.place 25 List.[])) (List._∷_ (Syntax.copy (Syntax.place 12 List.[])) (List._∷_ (Syntax.copy (Syntax.place 26 List.[]))
-    List.[]))) (Syntax.place 21 List.[])
+b9 = Syntax.call "block::records::start_records" (List._∷_ (Syntax.copy (Syntax.place 26 List.[])) (List._∷_ (Syntax.copy (Syntax.place 13 List.[])) (List._∷_ (Syntax.copy (Syntax.place 27 List.[]))
+    List.[]))) (Syntax.place 22 List.[])
 
 abbrev b10 : Syntax.Body
-b10 = Syntax.call "block::reading::start_place" List.[] (Syntax.place 15 List.[])
+b10 = Syntax.call "block::reading::start_place" List.[] (Syntax.place 16 List.[])
 
 abbrev b11 : Syntax.Body
-b11 = Syntax.call "block::reading::no_lines" List.[] (Syntax.place 16 List.[])
+b11 = Syntax.call "block::reading::no_lines" List.[] (Syntax.place 17 List.[])
 
 abbrev b12 : Syntax.Body
-b12 = Syntax.assign (Syntax.place 17 List.[]) (Syntax.rvOpd (Syntax.int Syntax.w64 0))
+b12 = Syntax.assign (Syntax.place 18 List.[]) (Syntax.rvOpd (Syntax.int Syntax.w64 0))
 
 abbrev b13 : Syntax.Body
-b13 = Syntax.assign (Syntax.place 27 List.[]) (Syntax.op2 (Syntax.lt Syntax.unsigned) (Syntax.copy (Syntax.place 17 List.[])) (Syntax.copy (Syntax.place 10 List.[])))
+b13 = Syntax.assign (Syntax.place 28 List.[]) (Syntax.op2 (Syntax.lt Syntax.unsigned) (Syntax.copy (Syntax.place 18 List.[])) (Syntax.copy (Syntax.place 10 List.[])))
 
 abbrev b14 : Syntax.Body
 b14 = Syntax.skip
@@ -604,88 +658,89 @@ abbrev b15 : Syntax.Body
 b15 = Syntax.exit 1
 
 abbrev b16 : Syntax.Body
-b16 = Syntax.cond (Syntax.copy (Syntax.place 27 List.[])) b14 b15
+b16 = Syntax.cond (Syntax.copy (Syntax.place 28 List.[])) b14 b15
 
 abbrev b17 : Syntax.Body
-b17 = Syntax.assign (Syntax.place 29 List.[]) (Syntax.addrOf (Syntax.place 3 (List._∷_ (Syntax.field 0) (List._∷_ (Syntax.deref (Syntax.tyInt Syntax.w16)) List.[]))))
+b17 = Syntax.assign (Syntax.place 30 List.[]) (Syntax.addrOf (Syntax.place 3 (List._∷_ (Syntax.field 0) (List._∷_ (Syntax.deref (Syntax.tyInt Syntax.w16)) List.[]))))
 
 abbrev b18 : Syntax.Body
-b18 = Syntax.assign (Syntax.place 30 List.[]) (Syntax.aggregate (List._∷_ (Syntax.copy (Syntax.place 29 List.[])) (List._∷_ (Syntax.copy (Syntax.place 3 (List._∷_ (Syntax.field 1) List.[])))
+b18 = Syntax.assign (Syntax.place 31 List.[]) (Syntax.aggregate (List._∷_ (Syntax.copy (Syntax.place 30 List.[])) (List._∷_ (Syntax.copy (Syntax.place 3 (List._∷_ (Syntax.field 1) List.[])))
     List.[])))
 
 abbrev b19 : Syntax.Body
-b19 = Syntax.assign (Syntax.place 27 List.[]) (Syntax.op1 Syntax.bitNot (Syntax.copy (Syntax.place 11 List.[])))
+b19 = Syntax.assign (Syntax.place 28 List.[]) (Syntax.op1 Syntax.bitNot (Syntax.copy (Syntax.place 11 List.[])))
 
 abbrev b20 : Syntax.Body
-b20 = Syntax.call "lines::turn_if" (List._∷_ (Syntax.copy (Syntax.place 30 List.[])) (List._∷_ (Syntax.copy (Syntax.place 14 List.[])) (List._∷_ (Syntax.copy (Syntax.place 27 List.[])) List.[])))
-    (Syntax.place 28 List.[])
+b20 = Syntax.call "lines::turn_if" (List._∷_ (Syntax.copy (Syntax.place 31 List.[])) (List._∷_ (Syntax.copy (Syntax.place 15 List.[])) (List._∷_ (Syntax.copy (Syntax.place 28 List.[])) List.[])))
+    (Syntax.place 29 List.[])
 
 abbrev b21 : Syntax.Body
-b21 = Syntax.call "block::reading::base_of" (List._∷_ (Syntax.copy (Syntax.place 2 List.[])) (List._∷_ (Syntax.copy (Syntax.place 17 List.[])) List.[])) (Syntax.place 18 List.[])
+b21 = Syntax.call "cameras::base_of" (List._∷_ (Syntax.copy (Syntax.place 2 List.[])) (List._∷_ (Syntax.copy (Syntax.place 18 List.[])) List.[])) (Syntax.place 19 List.[])
 
 abbrev b22 : Syntax.Body
-b22 = Syntax.assign (Syntax.place 31 List.[]) (Syntax.addrOf (Syntax.place 4 (List._∷_ (Syntax.field 0) (List._∷_ (Syntax.deref (Element.held)) List.[]))))
+b22 = Syntax.assign (Syntax.place 32 List.[]) (Syntax.addrOf (Syntax.place 4 (List._∷_ (Syntax.field 0) (List._∷_ (Syntax.deref (Element.held)) List.[]))))
 
 abbrev b23 : Syntax.Body
-b23 = Syntax.assign (Syntax.place 32 List.[]) (Syntax.aggregate (List._∷_ (Syntax.copy (Syntax.place 31 List.[])) (List._∷_ (Syntax.copy (Syntax.place 4 (List._∷_ (Syntax.field 1) List.[])))
+b23 = Syntax.assign (Syntax.place 33 List.[]) (Syntax.aggregate (List._∷_ (Syntax.copy (Syntax.place 32 List.[])) (List._∷_ (Syntax.copy (Syntax.place 4 (List._∷_ (Syntax.field 1) List.[])))
     List.[])))
 
 abbrev b24 : Syntax.Body
-b24 = Syntax.call "block::reading::is_restarted" (List._∷_ (Syntax.copy (Syntax.place 2 List.[])) (List._∷_ (Syntax.copy (Syntax.place 17 List.[])) List.[])) (Syntax.place 27 List.[])
+b24 = Syntax.call "block::reading::is_restarted" (List._∷_ (Syntax.copy (Syntax.place 2 List.[])) (List._∷_ (Syntax.copy (Syntax.place 18 List.[])) List.[])) (Syntax.place 28 List.[])
 
 abbrev b25 : Syntax.Body
-b25 = Syntax.call "block::records::restart" (List._∷_ (Syntax.copy (Syntax.place 32 List.[])) (List._∷_ (Syntax.copy (Syntax.place 12 List.[])) (List._∷_ (Syntax.copy (Syntax.place 18 List.[]))
-    (List._∷_ (Syntax.copy (Syntax.place 27 List.[])) List.[])))) (Syntax.place 28 List.[])
+b25 = Syntax.call "block::records::restart" (List._∷_ (Syntax.copy (Syntax.place 33 List.[])) (List._∷_ (Syntax.copy (Syntax.place 13 List.[])) (List._∷_ (Syntax.copy (Syntax.place 19 List.[]))
+    (List._∷_ (Syntax.copy (Syntax.place 28 List.[])) List.[])))) (Syntax.place 29 List.[])
 
 abbrev b26 : Syntax.Body
-b26 = Syntax.assign (Syntax.place 33 List.[]) (Syntax.addrOf (Syntax.place 3 (List._∷_ (Syntax.field 0) (List._∷_ (Syntax.deref (Syntax.tyInt Syntax.w16)) List.[]))))
+b26 = Syntax.assign (Syntax.place 34 List.[]) (Syntax.addrOf (Syntax.place 3 (List._∷_ (Syntax.field 0) (List._∷_ (Syntax.deref (Syntax.tyInt Syntax.w16)) List.[]))))
 
 abbrev b27 : Syntax.Body
-b27 = Syntax.assign (Syntax.place 34 List.[]) (Syntax.aggregate (List._∷_ (Syntax.copy (Syntax.place 33 List.[])) (List._∷_ (Syntax.copy (Syntax.place 3 (List._∷_ (Syntax.field 1) List.[])))
+b27 = Syntax.assign (Syntax.place 35 List.[]) (Syntax.aggregate (List._∷_ (Syntax.copy (Syntax.place 34 List.[])) (List._∷_ (Syntax.copy (Syntax.place 3 (List._∷_ (Syntax.field 1) List.[])))
     List.[])))
 
 abbrev b28 : Syntax.Body
-b28 = Syntax.assign (Syntax.place 35 List.[]) (Syntax.addrOf (Syntax.place 4 (List._∷_ (Syntax.field 0) (List._∷_ (Syntax.deref (Element.held)) List.[]))))
+b28 = Syntax.assign (Syntax.place 36 List.[]) (Syntax.addrOf (Syntax.place 4 (List._∷_ (Syntax.field 0) (List._∷_ (Syntax.deref (Element.held)) List.[]))))
 
 abbrev b29 : Syntax.Body
-b29 = Syntax.assign (Syntax.place 36 List.[]) (Syntax.aggregate (List._∷_ (Syntax.copy (Syntax.place 35 List.[])) (List._∷_ (Syntax.copy (Syntax.place 4 (List._∷_ (Syntax.field 1) List.[])))
+b29 = Syntax.assign (Syntax.place 37 List.[]) (Syntax.aggregate (List._∷_ (Syntax.copy (Syntax.place 36 List.[])) (List._∷_ (Syntax.copy (Syntax.place 4 (List._∷_ (Syntax.field 1) List.[])))
     List.[])))
 
 abbrev b30 : Syntax.Body
-b30 = Syntax.assign (Syntax.place 37 List.[]) (Syntax.addrOf (Syntax.place 5 (List._∷_ (Syntax.field 0) (List._∷_ (Syntax.deref (Syntax.tyInt Syntax.w16)) List.[]))))
+b30 = Syntax.assign (Syntax.place 38 List.[]) (Syntax.addrOf (Syntax.place 5 (List._∷_ (Syntax.field 0) (List._∷_ (Syntax.deref (Syntax.tyInt Syntax.w16)) List.[]))))
 
 abbrev b31 : Syntax.Body
-b31 = Syntax.assign (Syntax.place 38 List.[]) (Syntax.aggregate (List._∷_ (Syntax.copy (Syntax.place 37 List.[])) (List._∷_ (Syntax.copy (Syntax.place 5 (List._∷_ (Syntax.field 1) List.[])))
+b31 = Syntax.assign (Syntax.place 39 List.[]) (Syntax.aggregate (List._∷_ (Syntax.copy (Syntax.place 38 List.[])) (List._∷_ (Syntax.copy (Syntax.place 5 (List._∷_ (Syntax.field 1) List.[])))
     List.[])))
 
 abbrev b32 : Syntax.Body
-b32 = Syntax.call "block::reading::quantisers_of" (List._∷_ (Syntax.copy (Syntax.place 12 List.[])) (List._∷_ (Syntax.copy (Syntax.place 18 List.[])) List.[])) (Syntax.place 39 List.[])
+b32 = Syntax.call "block::reading::quantisers_in" (List._∷_ (Syntax.copy (Syntax.place 12 List.[])) (List._∷_ (Syntax.copy (Syntax.place 13 List.[])) (List._∷_ (Syntax.copy (Syntax.place 19 List.[]))
+    List.[]))) (Syntax.place 40 List.[])
 
 abbrev b33 : Syntax.Body
-b33 = Syntax.call "block::reading::line" (List._∷_ (Syntax.copy (Syntax.place 1 List.[])) (List._∷_ (Syntax.copy (Syntax.place 15 List.[])) (List._∷_ (Syntax.copy (Syntax.place 34 List.[])) (List._∷_
-    (Syntax.copy (Syntax.place 36 List.[])) (List._∷_ (Syntax.copy (Syntax.place 38 List.[])) (List._∷_ (Syntax.copy (Syntax.place 6 List.[])) (List._∷_ (Syntax.copy (Syntax.place 39 List.[])) (List._∷_
-    (Syntax.copy (Syntax.place 7 List.[])) (List._∷_ (Syntax.copy (Syntax.place 8 List.[])) (List._∷_ (Syntax.copy (Syntax.place 9 List.[])) (List._∷_ (Syntax.copy (Syntax.place 17 List.[])) (List._∷_
-    (Syntax.copy (Syntax.place 11 List.[])) List.[])))))))))))) (Syntax.place 19 List.[])
+b33 = Syntax.call "block::reading::line" (List._∷_ (Syntax.copy (Syntax.place 1 List.[])) (List._∷_ (Syntax.copy (Syntax.place 16 List.[])) (List._∷_ (Syntax.copy (Syntax.place 35 List.[])) (List._∷_
+    (Syntax.copy (Syntax.place 37 List.[])) (List._∷_ (Syntax.copy (Syntax.place 39 List.[])) (List._∷_ (Syntax.copy (Syntax.place 6 List.[])) (List._∷_ (Syntax.copy (Syntax.place 40 List.[])) (List._∷_
+    (Syntax.copy (Syntax.place 7 List.[])) (List._∷_ (Syntax.copy (Syntax.place 8 List.[])) (List._∷_ (Syntax.copy (Syntax.place 9 List.[])) (List._∷_ (Syntax.copy (Syntax.place 18 List.[])) (List._∷_
+    (Syntax.copy (Syntax.place 11 List.[])) List.[])))))))))))) (Syntax.place 20 List.[])
 
 abbrev b34 : Syntax.Body
-b34 = Syntax.assign (Syntax.place 20 List.[]) (Syntax.rvOpd (Syntax.copy (Syntax.place 19 (List._∷_ (Syntax.variant 0) (List._∷_ (Syntax.field 1) List.[])))))
+b34 = Syntax.assign (Syntax.place 21 List.[]) (Syntax.rvOpd (Syntax.copy (Syntax.place 20 (List._∷_ (Syntax.variant 0) (List._∷_ (Syntax.field 1) List.[])))))
 
 abbrev b35 : Syntax.Body
-b35 = Syntax.assign (Syntax.place 41 List.[]) (Syntax.addrOf (Syntax.place 5 (List._∷_ (Syntax.field 0) (List._∷_ (Syntax.deref (Syntax.tyInt Syntax.w16)) List.[]))))
+b35 = Syntax.assign (Syntax.place 42 List.[]) (Syntax.addrOf (Syntax.place 5 (List._∷_ (Syntax.field 0) (List._∷_ (Syntax.deref (Syntax.tyInt Syntax.w16)) List.[]))))
 
 abbrev b36 : Syntax.Body
-b36 = Syntax.assign (Syntax.place 42 List.[]) (Syntax.aggregate (List._∷_ (Syntax.copy (Syntax.place 41 List.[])) (List._∷_ (Syntax.copy (Syntax.place 5 (List._∷_ (Syntax.field 1) List.[])))
+b36 = Syntax.assign (Syntax.place 43 List.[]) (Syntax.aggregate (List._∷_ (Syntax.copy (Syntax.place 42 List.[])) (List._∷_ (Syntax.copy (Syntax.place 5 (List._∷_ (Syntax.field 1) List.[])))
     List.[])))
 
 abbrev b37 : Syntax.Body
-b37 = Syntax.call "map::windows::zero_line" (List._∷_ (Syntax.copy (Syntax.place 42 List.[])) (List._∷_ (Syntax.copy (Syntax.place 9 List.[])) (List._∷_ (Syntax.copy (Syntax.place 17 List.[]))
-    (List._∷_ (Syntax.copy (Syntax.place 11 List.[])) List.[])))) (Syntax.place 40 List.[])
+b37 = Syntax.call "map::windows::zero_line" (List._∷_ (Syntax.copy (Syntax.place 43 List.[])) (List._∷_ (Syntax.copy (Syntax.place 9 List.[])) (List._∷_ (Syntax.copy (Syntax.place 18 List.[]))
+    (List._∷_ (Syntax.copy (Syntax.place 11 List.[])) List.[])))) (Syntax.place 41 List.[])
 
 abbrev b38 : Syntax.Body
-b38 = Syntax.call "block::reading::totals_at" (List._∷_ (Syntax.copy (Syntax.place 15 List.[])) List.[]) (Syntax.place 43 List.[])
+b38 = Syntax.call "block::reading::totals_at" (List._∷_ (Syntax.copy (Syntax.place 16 List.[])) List.[]) (Syntax.place 44 List.[])
 
 abbrev b39 : Syntax.Body
-b39 = Syntax.assign (Syntax.place 0 List.[]) (Syntax.aggregate (List._∷_ (Syntax.int Syntax.w8 1) (List._∷_ (Syntax.copy (Syntax.place 17 List.[])) (List._∷_ (Syntax.copy (Syntax.place 43 List.[]))
+b39 = Syntax.assign (Syntax.place 0 List.[]) (Syntax.aggregate (List._∷_ (Syntax.int Syntax.w8 1) (List._∷_ (Syntax.copy (Syntax.place 18 List.[])) (List._∷_ (Syntax.copy (Syntax.place 44 List.[]))
     List.[]))))
 
 abbrev b40 : Syntax.Body
@@ -707,43 +762,43 @@ abbrev b45 : Syntax.Body
 b45 = Syntax.seq b35 b44
 
 abbrev b46 : Syntax.Body
-b46 = Syntax.switch (Syntax.copy (Syntax.place 19 (List._∷_ (Syntax.variant 0) (List._∷_ (Syntax.field 0) List.[])))) (Syntax.arm (List._∷_ 0 List.[]) b34 (Syntax.arm (List._∷_ 1 List.[]) b45
+b46 = Syntax.switch (Syntax.copy (Syntax.place 20 (List._∷_ (Syntax.variant 0) (List._∷_ (Syntax.field 0) List.[])))) (Syntax.arm (List._∷_ 0 List.[]) b34 (Syntax.arm (List._∷_ 1 List.[]) b45
     Syntax.noDefault))
 
 abbrev b47 : Syntax.Body
-b47 = Syntax.assign (Syntax.place 15 List.[]) (Syntax.rvOpd (Syntax.copy (Syntax.place 20 List.[])))
+b47 = Syntax.assign (Syntax.place 16 List.[]) (Syntax.rvOpd (Syntax.copy (Syntax.place 21 List.[])))
 
 abbrev b48 : Syntax.Body
-b48 = Syntax.call "block::reading::totals_at" (List._∷_ (Syntax.copy (Syntax.place 15 List.[])) List.[]) (Syntax.place 44 List.[])
+b48 = Syntax.call "block::reading::totals_at" (List._∷_ (Syntax.copy (Syntax.place 16 List.[])) List.[]) (Syntax.place 45 List.[])
 
 abbrev b49 : Syntax.Body
-b49 = Syntax.call "totals::with_line" (List._∷_ (Syntax.copy (Syntax.place 16 List.[])) (List._∷_ (Syntax.copy (Syntax.place 17 List.[])) (List._∷_ (Syntax.copy (Syntax.place 15 (List._∷_
-    (Syntax.field 1) List.[]))) (List._∷_ (Syntax.copy (Syntax.place 44 List.[])) List.[])))) (Syntax.place 16 List.[])
+b49 = Syntax.call "totals::with_line" (List._∷_ (Syntax.copy (Syntax.place 17 List.[])) (List._∷_ (Syntax.copy (Syntax.place 18 List.[])) (List._∷_ (Syntax.copy (Syntax.place 16 (List._∷_
+    (Syntax.field 1) List.[]))) (List._∷_ (Syntax.copy (Syntax.place 45 List.[])) List.[])))) (Syntax.place 17 List.[])
 
 abbrev b50 : Syntax.Body
-b50 = Syntax.assign (Syntax.place 45 List.[]) (Syntax.addrOf (Syntax.place 3 (List._∷_ (Syntax.field 0) (List._∷_ (Syntax.deref (Syntax.tyInt Syntax.w16)) List.[]))))
+b50 = Syntax.assign (Syntax.place 46 List.[]) (Syntax.addrOf (Syntax.place 3 (List._∷_ (Syntax.field 0) (List._∷_ (Syntax.deref (Syntax.tyInt Syntax.w16)) List.[]))))
 
 abbrev b51 : Syntax.Body
-b51 = Syntax.assign (Syntax.place 46 List.[]) (Syntax.aggregate (List._∷_ (Syntax.copy (Syntax.place 45 List.[])) (List._∷_ (Syntax.copy (Syntax.place 3 (List._∷_ (Syntax.field 1) List.[])))
+b51 = Syntax.assign (Syntax.place 47 List.[]) (Syntax.aggregate (List._∷_ (Syntax.copy (Syntax.place 46 List.[])) (List._∷_ (Syntax.copy (Syntax.place 3 (List._∷_ (Syntax.field 1) List.[])))
     List.[])))
 
 abbrev b52 : Syntax.Body
-b52 = Syntax.assign (Syntax.place 47 List.[]) (Syntax.addrOf (Syntax.place 5 (List._∷_ (Syntax.field 0) (List._∷_ (Syntax.deref (Syntax.tyInt Syntax.w16)) List.[]))))
+b52 = Syntax.assign (Syntax.place 48 List.[]) (Syntax.addrOf (Syntax.place 5 (List._∷_ (Syntax.field 0) (List._∷_ (Syntax.deref (Syntax.tyInt Syntax.w16)) List.[]))))
 
 abbrev b53 : Syntax.Body
-b53 = Syntax.assign (Syntax.place 48 List.[]) (Syntax.aggregate (List._∷_ (Syntax.copy (Syntax.place 47 List.[])) (List._∷_ (Syntax.copy (Syntax.place 5 (List._∷_ (Syntax.field 1) List.[])))
+b53 = Syntax.assign (Syntax.place 49 List.[]) (Syntax.aggregate (List._∷_ (Syntax.copy (Syntax.place 48 List.[])) (List._∷_ (Syntax.copy (Syntax.place 5 (List._∷_ (Syntax.field 1) List.[])))
     List.[])))
 
 abbrev b54 : Syntax.Body
-b54 = Syntax.assign (Syntax.place 27 List.[]) (Syntax.op1 Syntax.bitNot (Syntax.copy (Syntax.place 11 List.[])))
+b54 = Syntax.assign (Syntax.place 28 List.[]) (Syntax.op1 Syntax.bitNot (Syntax.copy (Syntax.place 11 List.[])))
 
 abbrev b55 : Syntax.Body
-b55 = Syntax.call "map::windows::emit_line_if" (List._∷_ (Syntax.copy (Syntax.place 46 List.[])) (List._∷_ (Syntax.copy (Syntax.place 48 List.[])) (List._∷_ (Syntax.copy (Syntax.place 14 List.[]))
-    (List._∷_ (Syntax.copy (Syntax.place 13 List.[])) (List._∷_ (Syntax.copy (Syntax.place 7 List.[])) (List._∷_ (Syntax.copy (Syntax.place 8 List.[])) (List._∷_ (Syntax.copy (Syntax.place 9 List.[]))
-    (List._∷_ (Syntax.copy (Syntax.place 17 List.[])) (List._∷_ (Syntax.copy (Syntax.place 27 List.[])) List.[]))))))))) (Syntax.place 28 List.[])
+b55 = Syntax.call "map::windows::emit_line_if" (List._∷_ (Syntax.copy (Syntax.place 47 List.[])) (List._∷_ (Syntax.copy (Syntax.place 49 List.[])) (List._∷_ (Syntax.copy (Syntax.place 15 List.[]))
+    (List._∷_ (Syntax.copy (Syntax.place 14 List.[])) (List._∷_ (Syntax.copy (Syntax.place 7 List.[])) (List._∷_ (Syntax.copy (Syntax.place 8 List.[])) (List._∷_ (Syntax.copy (Syntax.place 9 List.[]))
+    (List._∷_ (Syntax.copy (Syntax.place 18 List.[])) (List._∷_ (Syntax.copy (Syntax.place 28 List.[])) List.[]))))))))) (Syntax.place 29 List.[])
 
 abbrev b56 : Syntax.Body
-b56 = Syntax.assign (Syntax.place 17 List.[]) (Syntax.op2 (Syntax.add Syntax.unsigned) (Syntax.copy (Syntax.place 17 List.[])) (Syntax.int Syntax.w64 1))
+b56 = Syntax.assign (Syntax.place 18 List.[]) (Syntax.op2 (Syntax.add Syntax.unsigned) (Syntax.copy (Syntax.place 18 List.[])) (Syntax.int Syntax.w64 1))
 
 abbrev b57 : Syntax.Body
 b57 = Syntax.seq b55 b56
@@ -839,10 +894,10 @@ abbrev b87 : Syntax.Body
 b87 = Syntax.block b86
 
 abbrev b88 : Syntax.Body
-b88 = Syntax.call "block::reading::totals_at" (List._∷_ (Syntax.copy (Syntax.place 15 List.[])) List.[]) (Syntax.place 49 List.[])
+b88 = Syntax.call "block::reading::totals_at" (List._∷_ (Syntax.copy (Syntax.place 16 List.[])) List.[]) (Syntax.place 50 List.[])
 
 abbrev b89 : Syntax.Body
-b89 = Syntax.assign (Syntax.place 0 List.[]) (Syntax.aggregate (List._∷_ (Syntax.int Syntax.w8 0) (List._∷_ (Syntax.copy (Syntax.place 49 List.[])) (List._∷_ (Syntax.copy (Syntax.place 16 List.[]))
+b89 = Syntax.assign (Syntax.place 0 List.[]) (Syntax.aggregate (List._∷_ (Syntax.int Syntax.w8 0) (List._∷_ (Syntax.copy (Syntax.place 50 List.[])) (List._∷_ (Syntax.copy (Syntax.place 17 List.[]))
     List.[]))))
 
 abbrev b90 : Syntax.Body
@@ -909,7 +964,7 @@ abbrev pub e0 : Row.Entry
 e0 = (
   0,
   Rows'.any-gone (Syntax.tyEnum (List._∷_ 98 (List._∷_ 108 (List._∷_ 111 (List._∷_ 99 (List._∷_ 107 (List._∷_ 58 (List._∷_ 58 (List._∷_ 87 (List._∷_ 97 (List._∷_ 108 (List._∷_ 107 (List._∷_ 101
-      (List._∷_ 100 List.[]))))))))))))) (Syntax.ttcons (Syntax.tcons y2 (Syntax.tcons y8 Syntax.tnil)) (Syntax.ttcons (Syntax.tcons (Syntax.tyInt Syntax.w64) (Syntax.tcons y2 Syntax.tnil)) Syntax.ttnil))),
+      (List._∷_ 100 List.[]))))))))))))) (Syntax.ttcons (Syntax.tcons y3 (Syntax.tcons y9 Syntax.tnil)) (Syntax.ttcons (Syntax.tcons (Syntax.tyInt Syntax.w64) (Syntax.tcons y3 Syntax.tnil)) Syntax.ttnil))),
 )
 
 abbrev pub e1 : Row.Entry
@@ -931,182 +986,182 @@ abbrev pub e6 : Row.Entry
 e6 = (11, Rows'.sc-here Row.sBool)
 
 abbrev pub e7 : Row.Entry
-e7 = (12, Rows'.any-gone (Syntax.tyInt Syntax.w32))
+e7 = (12, Rows'.any-gone y12)
 
 abbrev pub e8 : Row.Entry
-e8 = (12, Rows'.sc-here (Row.sInt Syntax.w32))
+e8 = (12, Rows'.whole (Declared'.row Entries.the-type))
 
 abbrev pub e9 : Row.Entry
-e9 = (13, Rows'.any-gone Syntax.tyBool)
+e9 = (13, Rows'.any-gone (Syntax.tyInt Syntax.w32))
 
 abbrev pub e10 : Row.Entry
-e10 = (13, Rows'.sc-here Row.sBool)
+e10 = (13, Rows'.sc-here (Row.sInt Syntax.w32))
 
 abbrev pub e11 : Row.Entry
-e11 = (14, Rows'.any-gone (Syntax.tyInt Syntax.w64))
+e11 = (14, Rows'.any-gone Syntax.tyBool)
 
 abbrev pub e12 : Row.Entry
-e12 = (14, Rows'.sc-here (Row.sInt Syntax.w64))
+e12 = (14, Rows'.sc-here Row.sBool)
 
 abbrev pub e13 : Row.Entry
-e13 = (15, Rows'.any-gone y9)
+e13 = (15, Rows'.any-gone (Syntax.tyInt Syntax.w64))
 
 abbrev pub e14 : Row.Entry
-e14 = (15, Rows'.whole (Declared'.row Place.the-type))
+e14 = (15, Rows'.sc-here (Row.sInt Syntax.w64))
 
 abbrev pub e15 : Row.Entry
-e15 = (16, Rows'.any-gone y8)
+e15 = (16, Rows'.any-gone y10)
 
 abbrev pub e16 : Row.Entry
-e16 = (16, Rows'.whole (Declared'.row TightLines.the-type))
+e16 = (16, Rows'.whole (Declared'.row Place.the-type))
 
 abbrev pub e17 : Row.Entry
-e17 = (17, Rows'.any-gone (Syntax.tyInt Syntax.w64))
+e17 = (17, Rows'.any-gone y9)
 
 abbrev pub e18 : Row.Entry
-e18 = (17, Rows'.sc-here (Row.sInt Syntax.w64))
+e18 = (17, Rows'.whole (Declared'.row TightLines.the-type))
 
 abbrev pub e19 : Row.Entry
-e19 = (18, Rows'.any-gone (Syntax.tyInt Syntax.w32))
+e19 = (18, Rows'.any-gone (Syntax.tyInt Syntax.w64))
 
 abbrev pub e20 : Row.Entry
-e20 = (18, Rows'.sc-here (Row.sInt Syntax.w32))
+e20 = (18, Rows'.sc-here (Row.sInt Syntax.w64))
 
 abbrev pub e21 : Row.Entry
-e21 = (
-  19,
-  Rows'.any-gone (Syntax.tyEnum (List._∷_ 98 (List._∷_ 108 (List._∷_ 111 (List._∷_ 99 (List._∷_ 107 (List._∷_ 58 (List._∷_ 58 (List._∷_ 76 (List._∷_ 105 (List._∷_ 110 (List._∷_ 101 (List._∷_ 100
-      List.[])))))))))))) (Syntax.ttcons (Syntax.tcons y9 Syntax.tnil) (Syntax.ttcons Syntax.tnil Syntax.ttnil))),
-)
+e21 = (19, Rows'.any-gone (Syntax.tyInt Syntax.w32))
 
 abbrev pub e22 : Row.Entry
-e22 = (19, Rows'.whole (Declared.row Lined.the-type))
+e22 = (19, Rows'.sc-here (Row.sInt Syntax.w32))
 
 abbrev pub e23 : Row.Entry
-e23 = (19, Rows'.whole (Known.Known Lined.enum 0))
+e23 = (2, Rows'.sslice (Referent.rtF (Referent.fInt Syntax.w8)) (Syntax.tyRef (Syntax.named 1) Syntax.imm (Syntax.tyInt Syntax.w8)) 1)
 
 abbrev pub e24 : Row.Entry
-e24 = (2, Rows'.sslice (Referent.rtF (Referent.fInt Syntax.w8)) (Syntax.tyRef (Syntax.named 1) Syntax.imm (Syntax.tyInt Syntax.w8)) 1)
+e24 = (
+  20,
+  Rows'.any-gone (Syntax.tyEnum (List._∷_ 98 (List._∷_ 108 (List._∷_ 111 (List._∷_ 99 (List._∷_ 107 (List._∷_ 58 (List._∷_ 58 (List._∷_ 76 (List._∷_ 105 (List._∷_ 110 (List._∷_ 101 (List._∷_ 100
+      List.[])))))))))))) (Syntax.ttcons (Syntax.tcons y10 Syntax.tnil) (Syntax.ttcons Syntax.tnil Syntax.ttnil))),
+)
 
 abbrev pub e25 : Row.Entry
-e25 = (20, Rows'.any-gone y9)
+e25 = (20, Rows'.whole (Declared.row Lined.the-type))
 
 abbrev pub e26 : Row.Entry
-e26 = (20, Rows'.whole (Declared'.row Place.the-type))
+e26 = (20, Rows'.whole (Known.Known Lined.enum 0))
 
 abbrev pub e27 : Row.Entry
-e27 = (21, Rows'.any-gone Syntax.tyUnit)
+e27 = (21, Rows'.any-gone y10)
 
 abbrev pub e28 : Row.Entry
-e28 = (21, Rows'.sc-here Row.sUnit)
+e28 = (21, Rows'.whole (Declared'.row Place.the-type))
 
 abbrev pub e29 : Row.Entry
-e29 = (22, Rows'.any-gone (Syntax.tyRef Syntax.erased Syntax.mut (Syntax.tyInt Syntax.w16)))
+e29 = (22, Rows'.any-gone Syntax.tyUnit)
 
 abbrev pub e30 : Row.Entry
-e30 = (23, Mut.msleft (Referent.rtF (Referent.fInt Syntax.w16)) (Syntax.tyRef Syntax.erased Syntax.mut (Syntax.tyInt Syntax.w16)))
+e30 = (22, Rows'.sc-here Row.sUnit)
 
 abbrev pub e31 : Row.Entry
-e31 = (23, Rows'.any-gone y4)
+e31 = (23, Rows'.any-gone (Syntax.tyRef Syntax.erased Syntax.mut (Syntax.tyInt Syntax.w16)))
 
 abbrev pub e32 : Row.Entry
-e32 = (24, Rows'.any-gone (Syntax.tyRef Syntax.erased Syntax.mut Element.behind))
+e32 = (24, Mut.msleft (Referent.rtF (Referent.fInt Syntax.w16)) (Syntax.tyRef Syntax.erased Syntax.mut (Syntax.tyInt Syntax.w16)))
 
 abbrev pub e33 : Row.Entry
-e33 = (25, Mut.msleft (Element.type) (Syntax.tyRef Syntax.erased Syntax.mut Element.behind))
+e33 = (24, Rows'.any-gone y5)
 
 abbrev pub e34 : Row.Entry
-e34 = (25, Mut.mslice (Element.type) (Syntax.tyRef Syntax.erased Syntax.mut Element.behind) 7)
+e34 = (25, Rows'.any-gone (Syntax.tyRef Syntax.erased Syntax.mut Element.behind))
 
 abbrev pub e35 : Row.Entry
-e35 = (25, Rows'.any-gone y5)
+e35 = (26, Mut.msleft (Element.type) (Syntax.tyRef Syntax.erased Syntax.mut Element.behind))
 
 abbrev pub e36 : Row.Entry
-e36 = (26, Rows'.any-gone (Syntax.tyInt Syntax.w32))
+e36 = (26, Mut.mslice (Element.type) (Syntax.tyRef Syntax.erased Syntax.mut Element.behind) 7)
 
 abbrev pub e37 : Row.Entry
-e37 = (26, Rows'.sc-here (Row.sInt Syntax.w32))
+e37 = (26, Rows'.any-gone y6)
 
 abbrev pub e38 : Row.Entry
-e38 = (27, Rows'.any-gone Syntax.tyBool)
+e38 = (27, Rows'.any-gone (Syntax.tyInt Syntax.w32))
 
 abbrev pub e39 : Row.Entry
-e39 = (27, Rows'.sc-here Row.sBool)
+e39 = (27, Rows'.sc-here (Row.sInt Syntax.w32))
 
 abbrev pub e40 : Row.Entry
-e40 = (28, Rows'.any-gone Syntax.tyUnit)
+e40 = (28, Rows'.any-gone Syntax.tyBool)
 
 abbrev pub e41 : Row.Entry
-e41 = (28, Rows'.sc-here Row.sUnit)
+e41 = (28, Rows'.sc-here Row.sBool)
 
 abbrev pub e42 : Row.Entry
-e42 = (29, Rows'.any-gone (Syntax.tyRef Syntax.erased Syntax.mut (Syntax.tyInt Syntax.w16)))
+e42 = (29, Rows'.any-gone Syntax.tyUnit)
 
 abbrev pub e43 : Row.Entry
-e43 = (3, Mut.mslice (Referent.rtF (Referent.fInt Syntax.w16)) (Syntax.tyRef (Syntax.named 2) Syntax.mut (Syntax.tyInt Syntax.w16)) 2)
+e43 = (29, Rows'.sc-here Row.sUnit)
 
 abbrev pub e44 : Row.Entry
-e44 = (3, Relend.mslice-owed (Referent.rtF (Referent.fInt Syntax.w16)) (Syntax.tyRef (Syntax.named 2) Syntax.mut (Syntax.tyInt Syntax.w16)) 2 10 Row.off)
+e44 = (3, Mut.mslice (Referent.rtF (Referent.fInt Syntax.w16)) (Syntax.tyRef (Syntax.named 2) Syntax.mut (Syntax.tyInt Syntax.w16)) 2)
 
 abbrev pub e45 : Row.Entry
-e45 = (3, Reshare.mslice-owedS (Referent.rtF (Referent.fInt Syntax.w16)) (Syntax.tyRef (Syntax.named 2) Syntax.mut (Syntax.tyInt Syntax.w16)) 2 14 Row.off)
+e45 = (3, Relend.mslice-owed (Referent.rtF (Referent.fInt Syntax.w16)) (Syntax.tyRef (Syntax.named 2) Syntax.mut (Syntax.tyInt Syntax.w16)) 2 10 Row.off)
 
 abbrev pub e46 : Row.Entry
-e46 = (30, Mut.msleft (Referent.rtF (Referent.fInt Syntax.w16)) (Syntax.tyRef Syntax.erased Syntax.mut (Syntax.tyInt Syntax.w16)))
+e46 = (3, Reshare.mslice-owedS (Referent.rtF (Referent.fInt Syntax.w16)) (Syntax.tyRef (Syntax.named 2) Syntax.mut (Syntax.tyInt Syntax.w16)) 2 14 Row.off)
 
 abbrev pub e47 : Row.Entry
-e47 = (30, Mut.mslice (Referent.rtF (Referent.fInt Syntax.w16)) (Syntax.tyRef Syntax.erased Syntax.mut (Syntax.tyInt Syntax.w16)) 8)
+e47 = (30, Rows'.any-gone (Syntax.tyRef Syntax.erased Syntax.mut (Syntax.tyInt Syntax.w16)))
 
 abbrev pub e48 : Row.Entry
-e48 = (30, Rows'.any-gone y4)
+e48 = (31, Mut.msleft (Referent.rtF (Referent.fInt Syntax.w16)) (Syntax.tyRef Syntax.erased Syntax.mut (Syntax.tyInt Syntax.w16)))
 
 abbrev pub e49 : Row.Entry
-e49 = (31, Rows'.any-gone (Syntax.tyRef Syntax.erased Syntax.mut Element.behind))
+e49 = (31, Mut.mslice (Referent.rtF (Referent.fInt Syntax.w16)) (Syntax.tyRef Syntax.erased Syntax.mut (Syntax.tyInt Syntax.w16)) 8)
 
 abbrev pub e50 : Row.Entry
-e50 = (32, Rows'.any-gone y5)
+e50 = (31, Rows'.any-gone y5)
 
 abbrev pub e51 : Row.Entry
-e51 = (33, Rows'.any-gone (Syntax.tyRef Syntax.erased Syntax.mut (Syntax.tyInt Syntax.w16)))
+e51 = (32, Rows'.any-gone (Syntax.tyRef Syntax.erased Syntax.mut Element.behind))
 
 abbrev pub e52 : Row.Entry
-e52 = (34, Mut.msleft (Referent.rtF (Referent.fInt Syntax.w16)) (Syntax.tyRef Syntax.erased Syntax.mut (Syntax.tyInt Syntax.w16)))
+e52 = (33, Rows'.any-gone y6)
 
 abbrev pub e53 : Row.Entry
-e53 = (34, Mut.mslice (Referent.rtF (Referent.fInt Syntax.w16)) (Syntax.tyRef Syntax.erased Syntax.mut (Syntax.tyInt Syntax.w16)) 10)
+e53 = (34, Rows'.any-gone (Syntax.tyRef Syntax.erased Syntax.mut (Syntax.tyInt Syntax.w16)))
 
 abbrev pub e54 : Row.Entry
-e54 = (34, Rows'.any-gone y4)
+e54 = (35, Mut.msleft (Referent.rtF (Referent.fInt Syntax.w16)) (Syntax.tyRef Syntax.erased Syntax.mut (Syntax.tyInt Syntax.w16)))
 
 abbrev pub e55 : Row.Entry
-e55 = (35, Rows'.any-gone (Syntax.tyRef Syntax.erased Syntax.mut Element.behind))
+e55 = (35, Mut.mslice (Referent.rtF (Referent.fInt Syntax.w16)) (Syntax.tyRef Syntax.erased Syntax.mut (Syntax.tyInt Syntax.w16)) 10)
 
 abbrev pub e56 : Row.Entry
-e56 = (36, Mut.msleft (Element.type) (Syntax.tyRef Syntax.erased Syntax.mut Element.behind))
+e56 = (35, Rows'.any-gone y5)
 
 abbrev pub e57 : Row.Entry
-e57 = (36, Mut.mslice (Element.type) (Syntax.tyRef Syntax.erased Syntax.mut Element.behind) 11)
+e57 = (36, Rows'.any-gone (Syntax.tyRef Syntax.erased Syntax.mut Element.behind))
 
 abbrev pub e58 : Row.Entry
-e58 = (36, Rows'.any-gone y5)
+e58 = (37, Mut.msleft (Element.type) (Syntax.tyRef Syntax.erased Syntax.mut Element.behind))
 
 abbrev pub e59 : Row.Entry
-e59 = (37, Rows'.any-gone (Syntax.tyRef Syntax.erased Syntax.mut (Syntax.tyInt Syntax.w16)))
+e59 = (37, Mut.mslice (Element.type) (Syntax.tyRef Syntax.erased Syntax.mut Element.behind) 11)
 
 abbrev pub e60 : Row.Entry
-e60 = (38, Mut.msleft (Referent.rtF (Referent.fInt Syntax.w16)) (Syntax.tyRef Syntax.erased Syntax.mut (Syntax.tyInt Syntax.w16)))
+e60 = (37, Rows'.any-gone y6)
 
 abbrev pub e61 : Row.Entry
-e61 = (38, Mut.mslice (Referent.rtF (Referent.fInt Syntax.w16)) (Syntax.tyRef Syntax.erased Syntax.mut (Syntax.tyInt Syntax.w16)) 12)
+e61 = (38, Rows'.any-gone (Syntax.tyRef Syntax.erased Syntax.mut (Syntax.tyInt Syntax.w16)))
 
 abbrev pub e62 : Row.Entry
-e62 = (38, Rows'.any-gone y4)
+e62 = (39, Mut.msleft (Referent.rtF (Referent.fInt Syntax.w16)) (Syntax.tyRef Syntax.erased Syntax.mut (Syntax.tyInt Syntax.w16)))
 
 abbrev pub e63 : Row.Entry
-e63 = (39, Rows'.any-gone y1)
+e63 = (39, Mut.mslice (Referent.rtF (Referent.fInt Syntax.w16)) (Syntax.tyRef Syntax.erased Syntax.mut (Syntax.tyInt Syntax.w16)) 12)
 
 abbrev pub e64 : Row.Entry
-e64 = (39, Rows'.whole (Declared'.row Quantisers.the-type))
+e64 = (39, Rows'.any-gone y5)
 
 abbrev pub e65 : Row.Entry
 e65 = (4, Mut.mslice (Element.type) (Syntax.tyRef (Syntax.named 3) Syntax.mut Element.behind) 3)
@@ -1115,40 +1170,40 @@ abbrev pub e66 : Row.Entry
 e66 = (4, Relend.mslice-owed (Element.type) (Syntax.tyRef (Syntax.named 3) Syntax.mut Element.behind) 3 11 Row.off)
 
 abbrev pub e67 : Row.Entry
-e67 = (40, Rows'.any-gone Syntax.tyUnit)
+e67 = (40, Rows'.any-gone y2)
 
 abbrev pub e68 : Row.Entry
-e68 = (41, Rows'.any-gone (Syntax.tyRef Syntax.erased Syntax.mut (Syntax.tyInt Syntax.w16)))
+e68 = (40, Rows'.whole (Declared'.row Quantisers.the-type))
 
 abbrev pub e69 : Row.Entry
-e69 = (42, Mut.msleft (Referent.rtF (Referent.fInt Syntax.w16)) (Syntax.tyRef Syntax.erased Syntax.mut (Syntax.tyInt Syntax.w16)))
+e69 = (41, Rows'.any-gone Syntax.tyUnit)
 
 abbrev pub e70 : Row.Entry
-e70 = (42, Rows'.any-gone y4)
+e70 = (42, Rows'.any-gone (Syntax.tyRef Syntax.erased Syntax.mut (Syntax.tyInt Syntax.w16)))
 
 abbrev pub e71 : Row.Entry
-e71 = (43, Rows'.any-gone y2)
+e71 = (43, Mut.msleft (Referent.rtF (Referent.fInt Syntax.w16)) (Syntax.tyRef Syntax.erased Syntax.mut (Syntax.tyInt Syntax.w16)))
 
 abbrev pub e72 : Row.Entry
-e72 = (44, Rows'.any-gone y2)
+e72 = (43, Rows'.any-gone y5)
 
 abbrev pub e73 : Row.Entry
-e73 = (45, Rows'.any-gone (Syntax.tyRef Syntax.erased Syntax.imm (Syntax.tyInt Syntax.w16)))
+e73 = (44, Rows'.any-gone y3)
 
 abbrev pub e74 : Row.Entry
-e74 = (46, Rows'.any-gone y3)
+e74 = (45, Rows'.any-gone y3)
 
 abbrev pub e75 : Row.Entry
-e75 = (46, Rows'.sslice (Referent.rtF (Referent.fInt Syntax.w16)) (Syntax.tyRef Syntax.erased Syntax.imm (Syntax.tyInt Syntax.w16)) 14)
+e75 = (46, Rows'.any-gone (Syntax.tyRef Syntax.erased Syntax.imm (Syntax.tyInt Syntax.w16)))
 
 abbrev pub e76 : Row.Entry
-e76 = (47, Rows'.any-gone (Syntax.tyRef Syntax.erased Syntax.mut (Syntax.tyInt Syntax.w16)))
+e76 = (47, Rows'.any-gone y4)
 
 abbrev pub e77 : Row.Entry
-e77 = (48, Rows'.any-gone y4)
+e77 = (48, Rows'.any-gone (Syntax.tyRef Syntax.erased Syntax.mut (Syntax.tyInt Syntax.w16)))
 
 abbrev pub e78 : Row.Entry
-e78 = (49, Rows'.any-gone y2)
+e78 = (49, Rows'.any-gone y5)
 
 abbrev pub e79 : Row.Entry
 e79 = (5, Mut.mslice (Referent.rtF (Referent.fInt Syntax.w16)) (Syntax.tyRef (Syntax.named 4) Syntax.mut (Syntax.tyInt Syntax.w16)) 4)
@@ -1163,399 +1218,420 @@ abbrev pub e82 : Row.Entry
 e82 = (5, Relend.mslice-owed (Referent.rtF (Referent.fInt Syntax.w16)) (Syntax.tyRef (Syntax.named 4) Syntax.mut (Syntax.tyInt Syntax.w16)) 4 15 Row.off)
 
 abbrev pub e83 : Row.Entry
-e83 = (6, Rows'.any-gone y7)
+e83 = (50, Rows'.any-gone y3)
 
 abbrev pub e84 : Row.Entry
-e84 = (6, Rows'.whole (Declared'.row Form.the-type))
+e84 = (6, Rows'.any-gone y8)
 
 abbrev pub e85 : Row.Entry
-e85 = (7, Rows'.sref (Array'.Array (Referent.rtF (Referent.fInt Syntax.w16)) 768) (Syntax.tyRef (Syntax.named 5) Syntax.imm (Syntax.tyArray (Syntax.tyInt Syntax.w16) 768)) 5)
+e85 = (6, Rows'.whole (Declared'.row Form.the-type))
 
 abbrev pub e86 : Row.Entry
-e86 = (8, Rows'.any-gone (Syntax.tyArray (Syntax.tyInt Syntax.w8) 36))
+e86 = (7, Rows'.sref (Array'.Array (Referent.rtF (Referent.fInt Syntax.w16)) 768) (Syntax.tyRef (Syntax.named 5) Syntax.imm (Syntax.tyArray (Syntax.tyInt Syntax.w16) 768)) 5)
 
 abbrev pub e87 : Row.Entry
-e87 = (8, Rows.arrF (Referent.rtF (Referent.fInt Syntax.w8)) 36 0)
+e87 = (8, Rows'.any-gone (Syntax.tyArray (Syntax.tyInt Syntax.w8) 36))
 
 abbrev pub e88 : Row.Entry
-e88 = (9, Rows'.any-gone y0)
+e88 = (8, Rows.arrF (Referent.rtF (Referent.fInt Syntax.w8)) 36 0)
 
 abbrev pub e89 : Row.Entry
-e89 = (9, Rows'.whole (Declared'.row Part.the-type))
+e89 = (9, Rows'.any-gone y0)
+
+abbrev pub e90 : Row.Entry
+e90 = (9, Rows'.whole (Declared'.row Part.the-type))
 
 abbrev pub t0 : List.List Row.Entry
-t0 = List._∷_ e0 (List._∷_ e2 (List._∷_ e24 (List._∷_ e43 (List._∷_ e65 (List._∷_ e79 (List._∷_ e84 (List._∷_ e85 (List._∷_ e87 (List._∷_ e89 (List._∷_ e4 (List._∷_ e6 (List._∷_ e7 (List._∷_ e9
+t0 = List._∷_ e0 (List._∷_ e2 (List._∷_ e23 (List._∷_ e44 (List._∷_ e65 (List._∷_ e79 (List._∷_ e85 (List._∷_ e86 (List._∷_ e88 (List._∷_ e90 (List._∷_ e4 (List._∷_ e6 (List._∷_ e8 (List._∷_ e9
     (List._∷_ e11 (List._∷_ e13 List.[])))))))))))))))
 
 abbrev pub t1 : List.List Row.Entry
-t1 = List._∷_ e15 (List._∷_ e17 (List._∷_ e19 (List._∷_ e21 (List._∷_ e25 (List._∷_ e27 (List._∷_ e29 (List._∷_ e31 (List._∷_ e32 (List._∷_ e35 (List._∷_ e36 (List._∷_ e38 (List._∷_ e40 (List._∷_ e42
-    (List._∷_ e48 (List._∷_ e49 List.[])))))))))))))))
+t1 = List._∷_ e15 (List._∷_ e17 (List._∷_ e19 (List._∷_ e21 (List._∷_ e24 (List._∷_ e27 (List._∷_ e29 (List._∷_ e31 (List._∷_ e33 (List._∷_ e34 (List._∷_ e37 (List._∷_ e38 (List._∷_ e40 (List._∷_ e42
+    (List._∷_ e47 (List._∷_ e50 List.[])))))))))))))))
 
 abbrev pub t2 : List.List Row.Entry
-t2 = List._∷_ e50 (List._∷_ e51 (List._∷_ e54 (List._∷_ e55 (List._∷_ e58 (List._∷_ e59 (List._∷_ e62 (List._∷_ e63 (List._∷_ e67 (List._∷_ e68 (List._∷_ e70 (List._∷_ e71 (List._∷_ e72 (List._∷_ e73
-    (List._∷_ e74 (List._∷_ e76 List.[])))))))))))))))
+t2 = List._∷_ e51 (List._∷_ e52 (List._∷_ e53 (List._∷_ e56 (List._∷_ e57 (List._∷_ e60 (List._∷_ e61 (List._∷_ e64 (List._∷_ e67 (List._∷_ e69 (List._∷_ e70 (List._∷_ e72 (List._∷_ e73 (List._∷_ e74
+    (List._∷_ e75 (List._∷_ e76 List.[])))))))))))))))
 
 abbrev pub t3 : List.List Row.Entry
-t3 = List._∷_ e77 (List._∷_ e78 List.[])
+t3 = List._∷_ e77 (List._∷_ e78 (List._∷_ e83 List.[]))
 
 abbrev pub t4 : List.List Row.Entry
-t4 = List._∷_ e1 (List._∷_ e2 (List._∷_ e24 (List._∷_ e43 (List._∷_ e65 (List._∷_ e79 (List._∷_ e83 (List._∷_ e85 (List._∷_ e86 (List._∷_ e88 (List._∷_ e3 (List._∷_ e5 (List._∷_ e7 (List._∷_ e9
+t4 = List._∷_ e1 (List._∷_ e2 (List._∷_ e23 (List._∷_ e44 (List._∷_ e65 (List._∷_ e79 (List._∷_ e84 (List._∷_ e86 (List._∷_ e87 (List._∷_ e89 (List._∷_ e3 (List._∷_ e5 (List._∷_ e7 (List._∷_ e9
     (List._∷_ e11 (List._∷_ e13 List.[])))))))))))))))
 
 abbrev pub t5 : List.List Row.Entry
-t5 = List._∷_ e0 (List._∷_ e2 (List._∷_ e24 (List._∷_ e43 (List._∷_ e65 (List._∷_ e79 (List._∷_ e84 (List._∷_ e85 (List._∷_ e87 (List._∷_ e89 (List._∷_ e4 (List._∷_ e6 (List._∷_ e8 (List._∷_ e9
+t5 = List._∷_ e0 (List._∷_ e2 (List._∷_ e23 (List._∷_ e44 (List._∷_ e65 (List._∷_ e79 (List._∷_ e85 (List._∷_ e86 (List._∷_ e88 (List._∷_ e90 (List._∷_ e4 (List._∷_ e6 (List._∷_ e8 (List._∷_ e10
     (List._∷_ e11 (List._∷_ e13 List.[])))))))))))))))
 
 abbrev pub t6 : List.List Row.Entry
-t6 = List._∷_ e0 (List._∷_ e2 (List._∷_ e24 (List._∷_ e43 (List._∷_ e65 (List._∷_ e79 (List._∷_ e84 (List._∷_ e85 (List._∷_ e87 (List._∷_ e89 (List._∷_ e4 (List._∷_ e6 (List._∷_ e8 (List._∷_ e10
-    (List._∷_ e11 (List._∷_ e13 List.[])))))))))))))))
-
-abbrev pub t7 : List.List Row.Entry
-t7 = List._∷_ e0 (List._∷_ e2 (List._∷_ e24 (List._∷_ e43 (List._∷_ e65 (List._∷_ e79 (List._∷_ e84 (List._∷_ e85 (List._∷_ e87 (List._∷_ e89 (List._∷_ e4 (List._∷_ e6 (List._∷_ e8 (List._∷_ e10
+t6 = List._∷_ e0 (List._∷_ e2 (List._∷_ e23 (List._∷_ e44 (List._∷_ e65 (List._∷_ e79 (List._∷_ e85 (List._∷_ e86 (List._∷_ e88 (List._∷_ e90 (List._∷_ e4 (List._∷_ e6 (List._∷_ e8 (List._∷_ e10
     (List._∷_ e12 (List._∷_ e13 List.[])))))))))))))))
 
-abbrev pub t8 : List.List Row.Entry
-t8 = List._∷_ e0 (List._∷_ e2 (List._∷_ e24 (List._∷_ (3, Relend.mslice-owed (Referent.rtF (Referent.fInt Syntax.w16)) (Syntax.tyRef (Syntax.named 2) Syntax.mut (Syntax.tyInt Syntax.w16)) 2 6 Row.off)
-    (List._∷_ e65 (List._∷_ e79 (List._∷_ e84 (List._∷_ e85 (List._∷_ e87 (List._∷_ e89 (List._∷_ e4 (List._∷_ e6 (List._∷_ e8 (List._∷_ e10 (List._∷_ e12 (List._∷_ e13 List.[])))))))))))))))
-
-abbrev pub t9 : List.List Row.Entry
-t9 = List._∷_ e15 (List._∷_ e17 (List._∷_ e19 (List._∷_ e21 (List._∷_ e25 (List._∷_ e27 (List._∷_
-    (22, Relend.msptr (Referent.rtF (Referent.fInt Syntax.w16)) (Syntax.tyRef Syntax.erased Syntax.mut (Syntax.tyInt Syntax.w16)) 6) (List._∷_ e31 (List._∷_ e32 (List._∷_ e35 (List._∷_ e36 (List._∷_ e38
-    (List._∷_ e40 (List._∷_ e42 (List._∷_ e48 (List._∷_ e49 List.[])))))))))))))))
-
-abbrev pub t10 : List.List Row.Entry
-t10 = List._∷_ e15 (List._∷_ e17 (List._∷_ e19 (List._∷_ e21 (List._∷_ e25 (List._∷_ e27 (List._∷_ e29 (List._∷_
-    (23, Mut.mslice (Referent.rtF (Referent.fInt Syntax.w16)) (Syntax.tyRef Syntax.erased Syntax.mut (Syntax.tyInt Syntax.w16)) 6) (List._∷_ e32 (List._∷_ e35 (List._∷_ e36 (List._∷_ e38 (List._∷_ e40
-    (List._∷_ e42 (List._∷_ e48 (List._∷_ e49 List.[])))))))))))))))
-
-abbrev pub t11 : List.List Row.Entry
-t11 = List._∷_ e15 (List._∷_ e17 (List._∷_ e19 (List._∷_ e21 (List._∷_ e25 (List._∷_ e28 (List._∷_ e29 (List._∷_ e30 (List._∷_ e32 (List._∷_ e35 (List._∷_ e36 (List._∷_ e38 (List._∷_ e40 (List._∷_ e42
-    (List._∷_ e48 (List._∷_ e49 List.[])))))))))))))))
-
-abbrev pub t12 : List.List Row.Entry
-t12 = List._∷_ e15 (List._∷_ e17 (List._∷_ e19 (List._∷_ e21 (List._∷_ e25 (List._∷_ e27 (List._∷_ e29 (List._∷_ e30 (List._∷_ e32 (List._∷_ e35 (List._∷_ e36 (List._∷_ e38 (List._∷_ e40 (List._∷_ e42
-    (List._∷_ e48 (List._∷_ e49 List.[])))))))))))))))
-
-abbrev pub t13 : List.List Row.Entry
-t13 = List._∷_ e0 (List._∷_ e2 (List._∷_ e24 (List._∷_ e43 (List._∷_ (4, Relend.mslice-owed (Element.type) (Syntax.tyRef (Syntax.named 3) Syntax.mut Element.behind) 3 7 Row.off) (List._∷_ e79
-    (List._∷_ e84 (List._∷_ e85 (List._∷_ e87 (List._∷_ e89 (List._∷_ e4 (List._∷_ e6 (List._∷_ e8 (List._∷_ e10 (List._∷_ e12 (List._∷_ e13 List.[])))))))))))))))
-
-abbrev pub t14 : List.List Row.Entry
-t14 = List._∷_ e15 (List._∷_ e17 (List._∷_ e19 (List._∷_ e21 (List._∷_ e25 (List._∷_ e27 (List._∷_ e29 (List._∷_ e31 (List._∷_
-    (24, Relend.msptr (Element.type) (Syntax.tyRef Syntax.erased Syntax.mut Element.behind) 7) (List._∷_ e35 (List._∷_ e36 (List._∷_ e38 (List._∷_ e40 (List._∷_ e42 (List._∷_ e48 (List._∷_ e49
-    List.[])))))))))))))))
-
-abbrev pub t15 : List.List Row.Entry
-t15 = List._∷_ e15 (List._∷_ e17 (List._∷_ e19 (List._∷_ e21 (List._∷_ e25 (List._∷_ e27 (List._∷_ e29 (List._∷_ e31 (List._∷_ e32 (List._∷_ e34 (List._∷_ e36 (List._∷_ e38 (List._∷_ e40 (List._∷_ e42
-    (List._∷_ e48 (List._∷_ e49 List.[])))))))))))))))
-
-abbrev pub t16 : List.List Row.Entry
-t16 = List._∷_ e15 (List._∷_ e17 (List._∷_ e19 (List._∷_ e21 (List._∷_ e25 (List._∷_ e27 (List._∷_ e29 (List._∷_ e31 (List._∷_ e32 (List._∷_ e34 (List._∷_ e37 (List._∷_ e38 (List._∷_ e40 (List._∷_ e42
-    (List._∷_ e48 (List._∷_ e49 List.[])))))))))))))))
-
-abbrev pub t17 : List.List Row.Entry
-t17 = List._∷_ e15 (List._∷_ e17 (List._∷_ e19 (List._∷_ e21 (List._∷_ e25 (List._∷_ e28 (List._∷_ e29 (List._∷_ e31 (List._∷_ e32 (List._∷_ e33 (List._∷_ e37 (List._∷_ e38 (List._∷_ e40 (List._∷_ e42
-    (List._∷_ e48 (List._∷_ e49 List.[])))))))))))))))
-
-abbrev pub t18 : List.List Row.Entry
-t18 = List._∷_ e15 (List._∷_ e17 (List._∷_ e19 (List._∷_ e21 (List._∷_ e25 (List._∷_ e27 (List._∷_ e29 (List._∷_ e31 (List._∷_ e32 (List._∷_ e33 (List._∷_ e37 (List._∷_ e38 (List._∷_ e40 (List._∷_ e42
-    (List._∷_ e48 (List._∷_ e49 List.[])))))))))))))))
-
-abbrev pub t19 : List.List Row.Entry
-t19 = List._∷_ e15 (List._∷_ e17 (List._∷_ e19 (List._∷_ e21 (List._∷_ e25 (List._∷_ e27 (List._∷_ e29 (List._∷_ e31 (List._∷_ e32 (List._∷_ e33 (List._∷_ e36 (List._∷_ e38 (List._∷_ e40 (List._∷_ e42
-    (List._∷_ e48 (List._∷_ e49 List.[])))))))))))))))
-
-abbrev pub t20 : List.List Row.Entry
-t20 = List._∷_ e0 (List._∷_ e2 (List._∷_ e24 (List._∷_ e43 (List._∷_ e65 (List._∷_ e79 (List._∷_ e84 (List._∷_ e85 (List._∷_ e87 (List._∷_ e89 (List._∷_ e4 (List._∷_ e6 (List._∷_ e8 (List._∷_ e10
+abbrev pub t7 : List.List Row.Entry
+t7 = List._∷_ e0 (List._∷_ e2 (List._∷_ e23 (List._∷_ e44 (List._∷_ e65 (List._∷_ e79 (List._∷_ e85 (List._∷_ e86 (List._∷_ e88 (List._∷_ e90 (List._∷_ e4 (List._∷_ e6 (List._∷_ e8 (List._∷_ e10
     (List._∷_ e12 (List._∷_ e14 List.[])))))))))))))))
 
+abbrev pub t8 : List.List Row.Entry
+t8 = List._∷_ e0 (List._∷_ e2 (List._∷_ e23 (List._∷_ (3, Relend.mslice-owed (Referent.rtF (Referent.fInt Syntax.w16)) (Syntax.tyRef (Syntax.named 2) Syntax.mut (Syntax.tyInt Syntax.w16)) 2 6 Row.off)
+    (List._∷_ e65 (List._∷_ e79 (List._∷_ e85 (List._∷_ e86 (List._∷_ e88 (List._∷_ e90 (List._∷_ e4 (List._∷_ e6 (List._∷_ e8 (List._∷_ e10 (List._∷_ e12 (List._∷_ e14 List.[])))))))))))))))
+
+abbrev pub t9 : List.List Row.Entry
+t9 = List._∷_ e15 (List._∷_ e17 (List._∷_ e19 (List._∷_ e21 (List._∷_ e24 (List._∷_ e27 (List._∷_ e29 (List._∷_
+    (23, Relend.msptr (Referent.rtF (Referent.fInt Syntax.w16)) (Syntax.tyRef Syntax.erased Syntax.mut (Syntax.tyInt Syntax.w16)) 6) (List._∷_ e33 (List._∷_ e34 (List._∷_ e37 (List._∷_ e38 (List._∷_ e40
+    (List._∷_ e42 (List._∷_ e47 (List._∷_ e50 List.[])))))))))))))))
+
+abbrev pub t10 : List.List Row.Entry
+t10 = List._∷_ e15 (List._∷_ e17 (List._∷_ e19 (List._∷_ e21 (List._∷_ e24 (List._∷_ e27 (List._∷_ e29 (List._∷_ e31 (List._∷_
+    (24, Mut.mslice (Referent.rtF (Referent.fInt Syntax.w16)) (Syntax.tyRef Syntax.erased Syntax.mut (Syntax.tyInt Syntax.w16)) 6) (List._∷_ e34 (List._∷_ e37 (List._∷_ e38 (List._∷_ e40 (List._∷_ e42
+    (List._∷_ e47 (List._∷_ e50 List.[])))))))))))))))
+
+abbrev pub t11 : List.List Row.Entry
+t11 = List._∷_ e15 (List._∷_ e17 (List._∷_ e19 (List._∷_ e21 (List._∷_ e24 (List._∷_ e27 (List._∷_ e30 (List._∷_ e31 (List._∷_ e32 (List._∷_ e34 (List._∷_ e37 (List._∷_ e38 (List._∷_ e40 (List._∷_ e42
+    (List._∷_ e47 (List._∷_ e50 List.[])))))))))))))))
+
+abbrev pub t12 : List.List Row.Entry
+t12 = List._∷_ e15 (List._∷_ e17 (List._∷_ e19 (List._∷_ e21 (List._∷_ e24 (List._∷_ e27 (List._∷_ e29 (List._∷_ e31 (List._∷_ e32 (List._∷_ e34 (List._∷_ e37 (List._∷_ e38 (List._∷_ e40 (List._∷_ e42
+    (List._∷_ e47 (List._∷_ e50 List.[])))))))))))))))
+
+abbrev pub t13 : List.List Row.Entry
+t13 = List._∷_ e0 (List._∷_ e2 (List._∷_ e23 (List._∷_ e44 (List._∷_ (4, Relend.mslice-owed (Element.type) (Syntax.tyRef (Syntax.named 3) Syntax.mut Element.behind) 3 7 Row.off) (List._∷_ e79
+    (List._∷_ e85 (List._∷_ e86 (List._∷_ e88 (List._∷_ e90 (List._∷_ e4 (List._∷_ e6 (List._∷_ e8 (List._∷_ e10 (List._∷_ e12 (List._∷_ e14 List.[])))))))))))))))
+
+abbrev pub t14 : List.List Row.Entry
+t14 = List._∷_ e15 (List._∷_ e17 (List._∷_ e19 (List._∷_ e21 (List._∷_ e24 (List._∷_ e27 (List._∷_ e29 (List._∷_ e31 (List._∷_ e33 (List._∷_
+    (25, Relend.msptr (Element.type) (Syntax.tyRef Syntax.erased Syntax.mut Element.behind) 7) (List._∷_ e37 (List._∷_ e38 (List._∷_ e40 (List._∷_ e42 (List._∷_ e47 (List._∷_ e50 List.[])))))))))))))))
+
+abbrev pub t15 : List.List Row.Entry
+t15 = List._∷_ e15 (List._∷_ e17 (List._∷_ e19 (List._∷_ e21 (List._∷_ e24 (List._∷_ e27 (List._∷_ e29 (List._∷_ e31 (List._∷_ e33 (List._∷_ e34 (List._∷_ e36 (List._∷_ e38 (List._∷_ e40 (List._∷_ e42
+    (List._∷_ e47 (List._∷_ e50 List.[])))))))))))))))
+
+abbrev pub t16 : List.List Row.Entry
+t16 = List._∷_ e15 (List._∷_ e17 (List._∷_ e19 (List._∷_ e21 (List._∷_ e24 (List._∷_ e27 (List._∷_ e29 (List._∷_ e31 (List._∷_ e33 (List._∷_ e34 (List._∷_ e36 (List._∷_ e39 (List._∷_ e40 (List._∷_ e42
+    (List._∷_ e47 (List._∷_ e50 List.[])))))))))))))))
+
+abbrev pub t17 : List.List Row.Entry
+t17 = List._∷_ e15 (List._∷_ e17 (List._∷_ e19 (List._∷_ e21 (List._∷_ e24 (List._∷_ e27 (List._∷_ e30 (List._∷_ e31 (List._∷_ e33 (List._∷_ e34 (List._∷_ e35 (List._∷_ e39 (List._∷_ e40 (List._∷_ e42
+    (List._∷_ e47 (List._∷_ e50 List.[])))))))))))))))
+
+abbrev pub t18 : List.List Row.Entry
+t18 = List._∷_ e15 (List._∷_ e17 (List._∷_ e19 (List._∷_ e21 (List._∷_ e24 (List._∷_ e27 (List._∷_ e29 (List._∷_ e31 (List._∷_ e33 (List._∷_ e34 (List._∷_ e35 (List._∷_ e39 (List._∷_ e40 (List._∷_ e42
+    (List._∷_ e47 (List._∷_ e50 List.[])))))))))))))))
+
+abbrev pub t19 : List.List Row.Entry
+t19 = List._∷_ e15 (List._∷_ e17 (List._∷_ e19 (List._∷_ e21 (List._∷_ e24 (List._∷_ e27 (List._∷_ e29 (List._∷_ e31 (List._∷_ e33 (List._∷_ e34 (List._∷_ e35 (List._∷_ e38 (List._∷_ e40 (List._∷_ e42
+    (List._∷_ e47 (List._∷_ e50 List.[])))))))))))))))
+
+abbrev pub t20 : List.List Row.Entry
+t20 = List._∷_ e16 (List._∷_ e17 (List._∷_ e19 (List._∷_ e21 (List._∷_ e24 (List._∷_ e27 (List._∷_ e29 (List._∷_ e31 (List._∷_ e33 (List._∷_ e34 (List._∷_ e37 (List._∷_ e38 (List._∷_ e40 (List._∷_ e42
+    (List._∷_ e47 (List._∷_ e50 List.[])))))))))))))))
+
 abbrev pub t21 : List.List Row.Entry
-t21 = List._∷_ e16 (List._∷_ e17 (List._∷_ e19 (List._∷_ e21 (List._∷_ e25 (List._∷_ e27 (List._∷_ e29 (List._∷_ e31 (List._∷_ e32 (List._∷_ e35 (List._∷_ e36 (List._∷_ e38 (List._∷_ e40 (List._∷_ e42
-    (List._∷_ e48 (List._∷_ e49 List.[])))))))))))))))
+t21 = List._∷_ e16 (List._∷_ e18 (List._∷_ e19 (List._∷_ e21 (List._∷_ e24 (List._∷_ e27 (List._∷_ e29 (List._∷_ e31 (List._∷_ e33 (List._∷_ e34 (List._∷_ e37 (List._∷_ e38 (List._∷_ e40 (List._∷_ e42
+    (List._∷_ e47 (List._∷_ e50 List.[])))))))))))))))
 
 abbrev pub t22 : List.List Row.Entry
-t22 = List._∷_ e16 (List._∷_ e18 (List._∷_ e19 (List._∷_ e21 (List._∷_ e25 (List._∷_ e27 (List._∷_ e29 (List._∷_ e31 (List._∷_ e32 (List._∷_ e35 (List._∷_ e36 (List._∷_ e38 (List._∷_ e40 (List._∷_ e42
-    (List._∷_ e48 (List._∷_ e49 List.[])))))))))))))))
+t22 = List._∷_ e16 (List._∷_ e18 (List._∷_ e20 (List._∷_ e21 (List._∷_ e24 (List._∷_ e27 (List._∷_ e29 (List._∷_ e31 (List._∷_ e33 (List._∷_ e34 (List._∷_ e37 (List._∷_ e38 (List._∷_ e40 (List._∷_ e42
+    (List._∷_ e47 (List._∷_ e50 List.[])))))))))))))))
 
 abbrev pub t23 : List.List Row.Entry
-t23 = List._∷_ e0 (List._∷_ e2 (List._∷_ e24 (List._∷_ e43 (List._∷_ e65 (List._∷_ e79 (List._∷_ e83 (List._∷_ e85 (List._∷_ e86 (List._∷_ e88 (List._∷_ e4 (List._∷_ e6 (List._∷_ e8 (List._∷_ e10
+t23 = List._∷_ e0 (List._∷_ e2 (List._∷_ e23 (List._∷_ e44 (List._∷_ e65 (List._∷_ e79 (List._∷_ e84 (List._∷_ e86 (List._∷_ e87 (List._∷_ e89 (List._∷_ e4 (List._∷_ e6 (List._∷_ e7 (List._∷_ e10
     (List._∷_ e12 (List._∷_ e14 List.[])))))))))))))))
 
 abbrev pub t24 : List.List Row.Entry
-t24 = List._∷_ e16 (List._∷_ e18 (List._∷_ e19 (List._∷_ e21 (List._∷_ e25 (List._∷_ e27 (List._∷_ e29 (List._∷_ e31 (List._∷_ e32 (List._∷_ e35 (List._∷_ e36 (List._∷_ e39 (List._∷_ e40 (List._∷_ e42
-    (List._∷_ e48 (List._∷_ e49 List.[])))))))))))))))
+t24 = List._∷_ e16 (List._∷_ e18 (List._∷_ e20 (List._∷_ e21 (List._∷_ e24 (List._∷_ e27 (List._∷_ e29 (List._∷_ e31 (List._∷_ e33 (List._∷_ e34 (List._∷_ e37 (List._∷_ e38 (List._∷_ e41 (List._∷_ e42
+    (List._∷_ e47 (List._∷_ e50 List.[])))))))))))))))
 
 abbrev pub t25 : List.List Row.Entry
-t25 = List._∷_ e0 (List._∷_ e2 (List._∷_ e24 (List._∷_ e43 (List._∷_ e65 (List._∷_ e79 (List._∷_ e83 (List._∷_ e85 (List._∷_ e87 (List._∷_ e89 (List._∷_ e4 (List._∷_ e6 (List._∷_ e8 (List._∷_ e10
+t25 = List._∷_ e0 (List._∷_ e2 (List._∷_ e23 (List._∷_ e44 (List._∷_ e65 (List._∷_ e79 (List._∷_ e84 (List._∷_ e86 (List._∷_ e88 (List._∷_ e90 (List._∷_ e4 (List._∷_ e6 (List._∷_ e8 (List._∷_ e10
     (List._∷_ e12 (List._∷_ e14 List.[])))))))))))))))
 
 abbrev pub t26 : List.List Row.Entry
-t26 = List._∷_ e0 (List._∷_ e2 (List._∷_ e24 (List._∷_ e43 (List._∷_ e65 (List._∷_ e79 (List._∷_ e83 (List._∷_ e85 (List._∷_ e86 (List._∷_ e89 (List._∷_ e4 (List._∷_ e6 (List._∷_ e8 (List._∷_ e10
+t26 = List._∷_ e0 (List._∷_ e2 (List._∷_ e23 (List._∷_ e44 (List._∷_ e65 (List._∷_ e79 (List._∷_ e84 (List._∷_ e86 (List._∷_ e87 (List._∷_ e90 (List._∷_ e4 (List._∷_ e6 (List._∷_ e8 (List._∷_ e10
     (List._∷_ e12 (List._∷_ e14 List.[])))))))))))))))
 
 abbrev pub t27 : List.List Row.Entry
-t27 = List._∷_ e0 (List._∷_ e2 (List._∷_ e24 (List._∷_
-    (3, Relend.mslice-owed (Referent.rtF (Referent.fInt Syntax.w16)) (Syntax.tyRef (Syntax.named 2) Syntax.mut (Syntax.tyInt Syntax.w16)) 2 8 Row.off) (List._∷_ e65 (List._∷_ e79 (List._∷_ e84 (List._∷_
-    e85 (List._∷_ e87 (List._∷_ e89 (List._∷_ e4 (List._∷_ e6 (List._∷_ e8 (List._∷_ e10 (List._∷_ e12 (List._∷_ e14 List.[])))))))))))))))
+t27 = List._∷_ e0 (List._∷_ e2 (List._∷_ e23 (List._∷_ e44 (List._∷_ e65 (List._∷_ e79 (List._∷_ e84 (List._∷_ e86 (List._∷_ e87 (List._∷_ e89 (List._∷_ e4 (List._∷_ e6 (List._∷_ e8 (List._∷_ e10
+    (List._∷_ e12 (List._∷_ e14 List.[])))))))))))))))
 
 abbrev pub t28 : List.List Row.Entry
-t28 = List._∷_ e16 (List._∷_ e18 (List._∷_ e19 (List._∷_ e21 (List._∷_ e25 (List._∷_ e27 (List._∷_ e29 (List._∷_ e31 (List._∷_ e32 (List._∷_ e35 (List._∷_ e36 (List._∷_ e38 (List._∷_ e40 (List._∷_
-    (29, Relend.msptr (Referent.rtF (Referent.fInt Syntax.w16)) (Syntax.tyRef Syntax.erased Syntax.mut (Syntax.tyInt Syntax.w16)) 8) (List._∷_ e48 (List._∷_ e49 List.[])))))))))))))))
+t28 = List._∷_ e0 (List._∷_ e2 (List._∷_ e23 (List._∷_
+    (3, Relend.mslice-owed (Referent.rtF (Referent.fInt Syntax.w16)) (Syntax.tyRef (Syntax.named 2) Syntax.mut (Syntax.tyInt Syntax.w16)) 2 8 Row.off) (List._∷_ e65 (List._∷_ e79 (List._∷_ e85 (List._∷_
+    e86 (List._∷_ e88 (List._∷_ e90 (List._∷_ e4 (List._∷_ e6 (List._∷_ e8 (List._∷_ e10 (List._∷_ e12 (List._∷_ e14 List.[])))))))))))))))
 
 abbrev pub t29 : List.List Row.Entry
-t29 = List._∷_ e16 (List._∷_ e18 (List._∷_ e19 (List._∷_ e21 (List._∷_ e25 (List._∷_ e27 (List._∷_ e29 (List._∷_ e31 (List._∷_ e32 (List._∷_ e35 (List._∷_ e36 (List._∷_ e38 (List._∷_ e40 (List._∷_ e42
-    (List._∷_ e47 (List._∷_ e49 List.[])))))))))))))))
+t29 = List._∷_ e16 (List._∷_ e18 (List._∷_ e20 (List._∷_ e21 (List._∷_ e24 (List._∷_ e27 (List._∷_ e29 (List._∷_ e31 (List._∷_ e33 (List._∷_ e34 (List._∷_ e37 (List._∷_ e38 (List._∷_ e40 (List._∷_ e42
+    (List._∷_ (30, Relend.msptr (Referent.rtF (Referent.fInt Syntax.w16)) (Syntax.tyRef Syntax.erased Syntax.mut (Syntax.tyInt Syntax.w16)) 8) (List._∷_ e50 List.[])))))))))))))))
 
 abbrev pub t30 : List.List Row.Entry
-t30 = List._∷_ e16 (List._∷_ e18 (List._∷_ e19 (List._∷_ e21 (List._∷_ e25 (List._∷_ e27 (List._∷_ e29 (List._∷_ e31 (List._∷_ e32 (List._∷_ e35 (List._∷_ e36 (List._∷_ e39 (List._∷_ e40 (List._∷_ e42
+t30 = List._∷_ e16 (List._∷_ e18 (List._∷_ e20 (List._∷_ e21 (List._∷_ e24 (List._∷_ e27 (List._∷_ e29 (List._∷_ e31 (List._∷_ e33 (List._∷_ e34 (List._∷_ e37 (List._∷_ e38 (List._∷_ e40 (List._∷_ e42
     (List._∷_ e47 (List._∷_ e49 List.[])))))))))))))))
 
 abbrev pub t31 : List.List Row.Entry
-t31 = List._∷_ e16 (List._∷_ e18 (List._∷_ e19 (List._∷_ e21 (List._∷_ e25 (List._∷_ e27 (List._∷_ e29 (List._∷_ e31 (List._∷_ e32 (List._∷_ e35 (List._∷_ e36 (List._∷_ e39 (List._∷_ e41 (List._∷_ e42
-    (List._∷_ e46 (List._∷_ e49 List.[])))))))))))))))
+t31 = List._∷_ e16 (List._∷_ e18 (List._∷_ e20 (List._∷_ e21 (List._∷_ e24 (List._∷_ e27 (List._∷_ e29 (List._∷_ e31 (List._∷_ e33 (List._∷_ e34 (List._∷_ e37 (List._∷_ e38 (List._∷_ e41 (List._∷_ e42
+    (List._∷_ e47 (List._∷_ e49 List.[])))))))))))))))
 
 abbrev pub t32 : List.List Row.Entry
-t32 = List._∷_ e16 (List._∷_ e18 (List._∷_ e19 (List._∷_ e21 (List._∷_ e25 (List._∷_ e27 (List._∷_ e29 (List._∷_ e31 (List._∷_ e32 (List._∷_ e35 (List._∷_ e36 (List._∷_ e38 (List._∷_ e41 (List._∷_ e42
-    (List._∷_ e46 (List._∷_ e49 List.[])))))))))))))))
+t32 = List._∷_ e16 (List._∷_ e18 (List._∷_ e20 (List._∷_ e21 (List._∷_ e24 (List._∷_ e27 (List._∷_ e29 (List._∷_ e31 (List._∷_ e33 (List._∷_ e34 (List._∷_ e37 (List._∷_ e38 (List._∷_ e41 (List._∷_ e43
+    (List._∷_ e47 (List._∷_ e48 List.[])))))))))))))))
 
 abbrev pub t33 : List.List Row.Entry
-t33 = List._∷_ e16 (List._∷_ e18 (List._∷_ e19 (List._∷_ e21 (List._∷_ e25 (List._∷_ e27 (List._∷_ e29 (List._∷_ e31 (List._∷_ e32 (List._∷_ e35 (List._∷_ e36 (List._∷_ e38 (List._∷_ e40 (List._∷_ e42
-    (List._∷_ e46 (List._∷_ e49 List.[])))))))))))))))
+t33 = List._∷_ e16 (List._∷_ e18 (List._∷_ e20 (List._∷_ e21 (List._∷_ e24 (List._∷_ e27 (List._∷_ e29 (List._∷_ e31 (List._∷_ e33 (List._∷_ e34 (List._∷_ e37 (List._∷_ e38 (List._∷_ e40 (List._∷_ e43
+    (List._∷_ e47 (List._∷_ e48 List.[])))))))))))))))
 
 abbrev pub t34 : List.List Row.Entry
-t34 = List._∷_ e16 (List._∷_ e18 (List._∷_ e20 (List._∷_ e21 (List._∷_ e25 (List._∷_ e27 (List._∷_ e29 (List._∷_ e31 (List._∷_ e32 (List._∷_ e35 (List._∷_ e36 (List._∷_ e38 (List._∷_ e40 (List._∷_ e42
-    (List._∷_ e48 (List._∷_ e49 List.[])))))))))))))))
+t34 = List._∷_ e16 (List._∷_ e18 (List._∷_ e20 (List._∷_ e21 (List._∷_ e24 (List._∷_ e27 (List._∷_ e29 (List._∷_ e31 (List._∷_ e33 (List._∷_ e34 (List._∷_ e37 (List._∷_ e38 (List._∷_ e40 (List._∷_ e42
+    (List._∷_ e47 (List._∷_ e48 List.[])))))))))))))))
 
 abbrev pub t35 : List.List Row.Entry
-t35 = List._∷_ e0 (List._∷_ e2 (List._∷_ e24 (List._∷_ e43 (List._∷_ (4, Relend.mslice-owed (Element.type) (Syntax.tyRef (Syntax.named 3) Syntax.mut Element.behind) 3 9 Row.off) (List._∷_ e79
-    (List._∷_ e84 (List._∷_ e85 (List._∷_ e87 (List._∷_ e89 (List._∷_ e4 (List._∷_ e6 (List._∷_ e8 (List._∷_ e10 (List._∷_ e12 (List._∷_ e14 List.[])))))))))))))))
+t35 = List._∷_ e16 (List._∷_ e18 (List._∷_ e20 (List._∷_ e22 (List._∷_ e24 (List._∷_ e27 (List._∷_ e29 (List._∷_ e31 (List._∷_ e33 (List._∷_ e34 (List._∷_ e37 (List._∷_ e38 (List._∷_ e40 (List._∷_ e42
+    (List._∷_ e47 (List._∷_ e50 List.[])))))))))))))))
 
 abbrev pub t36 : List.List Row.Entry
-t36 = List._∷_ e16 (List._∷_ e18 (List._∷_ e20 (List._∷_ e21 (List._∷_ e25 (List._∷_ e27 (List._∷_ e29 (List._∷_ e31 (List._∷_ e32 (List._∷_ e35 (List._∷_ e36 (List._∷_ e38 (List._∷_ e40 (List._∷_ e42
-    (List._∷_ e48 (List._∷_ (31, Relend.msptr (Element.type) (Syntax.tyRef Syntax.erased Syntax.mut Element.behind) 9) List.[])))))))))))))))
+t36 = List._∷_ e0 (List._∷_ e2 (List._∷_ e23 (List._∷_ e44 (List._∷_ (4, Relend.mslice-owed (Element.type) (Syntax.tyRef (Syntax.named 3) Syntax.mut Element.behind) 3 9 Row.off) (List._∷_ e79
+    (List._∷_ e85 (List._∷_ e86 (List._∷_ e88 (List._∷_ e90 (List._∷_ e4 (List._∷_ e6 (List._∷_ e8 (List._∷_ e10 (List._∷_ e12 (List._∷_ e14 List.[])))))))))))))))
 
 abbrev pub t37 : List.List Row.Entry
-t37 = List._∷_ (32, Mut.mslice (Element.type) (Syntax.tyRef Syntax.erased Syntax.mut Element.behind) 9) (List._∷_ e51 (List._∷_ e54 (List._∷_ e55 (List._∷_ e58 (List._∷_ e59 (List._∷_ e62 (List._∷_
-    e63 (List._∷_ e67 (List._∷_ e68 (List._∷_ e70 (List._∷_ e71 (List._∷_ e72 (List._∷_ e73 (List._∷_ e74 (List._∷_ e76 List.[])))))))))))))))
+t37 = List._∷_ (32, Relend.msptr (Element.type) (Syntax.tyRef Syntax.erased Syntax.mut Element.behind) 9) (List._∷_ e52 (List._∷_ e53 (List._∷_ e56 (List._∷_ e57 (List._∷_ e60 (List._∷_ e61 (List._∷_
+    e64 (List._∷_ e67 (List._∷_ e69 (List._∷_ e70 (List._∷_ e72 (List._∷_ e73 (List._∷_ e74 (List._∷_ e75 (List._∷_ e76 List.[])))))))))))))))
 
 abbrev pub t38 : List.List Row.Entry
-t38 = List._∷_ e16 (List._∷_ e18 (List._∷_ e20 (List._∷_ e21 (List._∷_ e25 (List._∷_ e27 (List._∷_ e29 (List._∷_ e31 (List._∷_ e32 (List._∷_ e35 (List._∷_ e36 (List._∷_ e39 (List._∷_ e40 (List._∷_ e42
-    (List._∷_ e48 (List._∷_ e49 List.[])))))))))))))))
+t38 = List._∷_ e51 (List._∷_ (33, Mut.mslice (Element.type) (Syntax.tyRef Syntax.erased Syntax.mut Element.behind) 9) (List._∷_ e53 (List._∷_ e56 (List._∷_ e57 (List._∷_ e60 (List._∷_ e61 (List._∷_
+    e64 (List._∷_ e67 (List._∷_ e69 (List._∷_ e70 (List._∷_ e72 (List._∷_ e73 (List._∷_ e74 (List._∷_ e75 (List._∷_ e76 List.[])))))))))))))))
 
 abbrev pub t39 : List.List Row.Entry
-t39 = List._∷_ e16 (List._∷_ e18 (List._∷_ e20 (List._∷_ e21 (List._∷_ e25 (List._∷_ e27 (List._∷_ e29 (List._∷_ e31 (List._∷_ e32 (List._∷_ e35 (List._∷_ e36 (List._∷_ e39 (List._∷_ e41 (List._∷_ e42
-    (List._∷_ e48 (List._∷_ e49 List.[])))))))))))))))
+t39 = List._∷_ e16 (List._∷_ e18 (List._∷_ e20 (List._∷_ e22 (List._∷_ e24 (List._∷_ e27 (List._∷_ e29 (List._∷_ e31 (List._∷_ e33 (List._∷_ e34 (List._∷_ e37 (List._∷_ e38 (List._∷_ e41 (List._∷_ e42
+    (List._∷_ e47 (List._∷_ e50 List.[])))))))))))))))
 
 abbrev pub t40 : List.List Row.Entry
-t40 = List._∷_ (32, Mut.msleft (Element.type) (Syntax.tyRef Syntax.erased Syntax.mut Element.behind)) (List._∷_ e51 (List._∷_ e54 (List._∷_ e55 (List._∷_ e58 (List._∷_ e59 (List._∷_ e62 (List._∷_ e63
-    (List._∷_ e67 (List._∷_ e68 (List._∷_ e70 (List._∷_ e71 (List._∷_ e72 (List._∷_ e73 (List._∷_ e74 (List._∷_ e76 List.[])))))))))))))))
+t40 = List._∷_ e16 (List._∷_ e18 (List._∷_ e20 (List._∷_ e22 (List._∷_ e24 (List._∷_ e27 (List._∷_ e29 (List._∷_ e31 (List._∷_ e33 (List._∷_ e34 (List._∷_ e37 (List._∷_ e38 (List._∷_ e41 (List._∷_ e43
+    (List._∷_ e47 (List._∷_ e50 List.[])))))))))))))))
 
 abbrev pub t41 : List.List Row.Entry
-t41 = List._∷_ e16 (List._∷_ e18 (List._∷_ e20 (List._∷_ e21 (List._∷_ e25 (List._∷_ e27 (List._∷_ e29 (List._∷_ e31 (List._∷_ e32 (List._∷_ e35 (List._∷_ e36 (List._∷_ e38 (List._∷_ e41 (List._∷_ e42
-    (List._∷_ e48 (List._∷_ e49 List.[])))))))))))))))
+t41 = List._∷_ e51 (List._∷_ (33, Mut.msleft (Element.type) (Syntax.tyRef Syntax.erased Syntax.mut Element.behind)) (List._∷_ e53 (List._∷_ e56 (List._∷_ e57 (List._∷_ e60 (List._∷_ e61 (List._∷_ e64
+    (List._∷_ e67 (List._∷_ e69 (List._∷_ e70 (List._∷_ e72 (List._∷_ e73 (List._∷_ e74 (List._∷_ e75 (List._∷_ e76 List.[])))))))))))))))
 
 abbrev pub t42 : List.List Row.Entry
-t42 = List._∷_ e0 (List._∷_ e2 (List._∷_ e24 (List._∷_ e44 (List._∷_ e65 (List._∷_ e79 (List._∷_ e84 (List._∷_ e85 (List._∷_ e87 (List._∷_ e89 (List._∷_ e4 (List._∷_ e6 (List._∷_ e8 (List._∷_ e10
-    (List._∷_ e12 (List._∷_ e14 List.[])))))))))))))))
+t42 = List._∷_ e16 (List._∷_ e18 (List._∷_ e20 (List._∷_ e22 (List._∷_ e24 (List._∷_ e27 (List._∷_ e29 (List._∷_ e31 (List._∷_ e33 (List._∷_ e34 (List._∷_ e37 (List._∷_ e38 (List._∷_ e40 (List._∷_ e43
+    (List._∷_ e47 (List._∷_ e50 List.[])))))))))))))))
 
 abbrev pub t43 : List.List Row.Entry
-t43 = List._∷_ e50 (List._∷_ (33, Relend.msptr (Referent.rtF (Referent.fInt Syntax.w16)) (Syntax.tyRef Syntax.erased Syntax.mut (Syntax.tyInt Syntax.w16)) 10) (List._∷_ e54 (List._∷_ e55 (List._∷_ e58
-    (List._∷_ e59 (List._∷_ e62 (List._∷_ e63 (List._∷_ e67 (List._∷_ e68 (List._∷_ e70 (List._∷_ e71 (List._∷_ e72 (List._∷_ e73 (List._∷_ e74 (List._∷_ e76 List.[])))))))))))))))
+t43 = List._∷_ e0 (List._∷_ e2 (List._∷_ e23 (List._∷_ e45 (List._∷_ e65 (List._∷_ e79 (List._∷_ e85 (List._∷_ e86 (List._∷_ e88 (List._∷_ e90 (List._∷_ e4 (List._∷_ e6 (List._∷_ e8 (List._∷_ e10
+    (List._∷_ e12 (List._∷_ e14 List.[])))))))))))))))
 
 abbrev pub t44 : List.List Row.Entry
-t44 = List._∷_ e50 (List._∷_ e51 (List._∷_ e53 (List._∷_ e55 (List._∷_ e58 (List._∷_ e59 (List._∷_ e62 (List._∷_ e63 (List._∷_ e67 (List._∷_ e68 (List._∷_ e70 (List._∷_ e71 (List._∷_ e72 (List._∷_ e73
-    (List._∷_ e74 (List._∷_ e76 List.[])))))))))))))))
+t44 = List._∷_ e51 (List._∷_ e52 (List._∷_ (34, Relend.msptr (Referent.rtF (Referent.fInt Syntax.w16)) (Syntax.tyRef Syntax.erased Syntax.mut (Syntax.tyInt Syntax.w16)) 10) (List._∷_ e56 (List._∷_ e57
+    (List._∷_ e60 (List._∷_ e61 (List._∷_ e64 (List._∷_ e67 (List._∷_ e69 (List._∷_ e70 (List._∷_ e72 (List._∷_ e73 (List._∷_ e74 (List._∷_ e75 (List._∷_ e76 List.[])))))))))))))))
 
 abbrev pub t45 : List.List Row.Entry
-t45 = List._∷_ e0 (List._∷_ e2 (List._∷_ e24 (List._∷_ e44 (List._∷_ e66 (List._∷_ e79 (List._∷_ e84 (List._∷_ e85 (List._∷_ e87 (List._∷_ e89 (List._∷_ e4 (List._∷_ e6 (List._∷_ e8 (List._∷_ e10
-    (List._∷_ e12 (List._∷_ e14 List.[])))))))))))))))
+t45 = List._∷_ e51 (List._∷_ e52 (List._∷_ e53 (List._∷_ e55 (List._∷_ e57 (List._∷_ e60 (List._∷_ e61 (List._∷_ e64 (List._∷_ e67 (List._∷_ e69 (List._∷_ e70 (List._∷_ e72 (List._∷_ e73 (List._∷_ e74
+    (List._∷_ e75 (List._∷_ e76 List.[])))))))))))))))
 
 abbrev pub t46 : List.List Row.Entry
-t46 = List._∷_ e50 (List._∷_ e51 (List._∷_ e53 (List._∷_ (35, Relend.msptr (Element.type) (Syntax.tyRef Syntax.erased Syntax.mut Element.behind) 11) (List._∷_ e58 (List._∷_ e59 (List._∷_ e62 (List._∷_
-    e63 (List._∷_ e67 (List._∷_ e68 (List._∷_ e70 (List._∷_ e71 (List._∷_ e72 (List._∷_ e73 (List._∷_ e74 (List._∷_ e76 List.[])))))))))))))))
+t46 = List._∷_ e0 (List._∷_ e2 (List._∷_ e23 (List._∷_ e45 (List._∷_ e66 (List._∷_ e79 (List._∷_ e85 (List._∷_ e86 (List._∷_ e88 (List._∷_ e90 (List._∷_ e4 (List._∷_ e6 (List._∷_ e8 (List._∷_ e10
+    (List._∷_ e12 (List._∷_ e14 List.[])))))))))))))))
 
 abbrev pub t47 : List.List Row.Entry
-t47 = List._∷_ e50 (List._∷_ e51 (List._∷_ e53 (List._∷_ e55 (List._∷_ e57 (List._∷_ e59 (List._∷_ e62 (List._∷_ e63 (List._∷_ e67 (List._∷_ e68 (List._∷_ e70 (List._∷_ e71 (List._∷_ e72 (List._∷_ e73
-    (List._∷_ e74 (List._∷_ e76 List.[])))))))))))))))
+t47 = List._∷_ e51 (List._∷_ e52 (List._∷_ e53 (List._∷_ e55 (List._∷_ (36, Relend.msptr (Element.type) (Syntax.tyRef Syntax.erased Syntax.mut Element.behind) 11) (List._∷_ e60 (List._∷_ e61 (List._∷_
+    e64 (List._∷_ e67 (List._∷_ e69 (List._∷_ e70 (List._∷_ e72 (List._∷_ e73 (List._∷_ e74 (List._∷_ e75 (List._∷_ e76 List.[])))))))))))))))
 
 abbrev pub t48 : List.List Row.Entry
-t48 = List._∷_ e0 (List._∷_ e2 (List._∷_ e24 (List._∷_ e44 (List._∷_ e66 (List._∷_ e80 (List._∷_ e84 (List._∷_ e85 (List._∷_ e87 (List._∷_ e89 (List._∷_ e4 (List._∷_ e6 (List._∷_ e8 (List._∷_ e10
-    (List._∷_ e12 (List._∷_ e14 List.[])))))))))))))))
+t48 = List._∷_ e51 (List._∷_ e52 (List._∷_ e53 (List._∷_ e55 (List._∷_ e57 (List._∷_ e59 (List._∷_ e61 (List._∷_ e64 (List._∷_ e67 (List._∷_ e69 (List._∷_ e70 (List._∷_ e72 (List._∷_ e73 (List._∷_ e74
+    (List._∷_ e75 (List._∷_ e76 List.[])))))))))))))))
 
 abbrev pub t49 : List.List Row.Entry
-t49 = List._∷_ e50 (List._∷_ e51 (List._∷_ e53 (List._∷_ e55 (List._∷_ e57 (List._∷_
-    (37, Relend.msptr (Referent.rtF (Referent.fInt Syntax.w16)) (Syntax.tyRef Syntax.erased Syntax.mut (Syntax.tyInt Syntax.w16)) 12) (List._∷_ e62 (List._∷_ e63 (List._∷_ e67 (List._∷_ e68 (List._∷_ e70
-    (List._∷_ e71 (List._∷_ e72 (List._∷_ e73 (List._∷_ e74 (List._∷_ e76 List.[])))))))))))))))
+t49 = List._∷_ e0 (List._∷_ e2 (List._∷_ e23 (List._∷_ e45 (List._∷_ e66 (List._∷_ e80 (List._∷_ e85 (List._∷_ e86 (List._∷_ e88 (List._∷_ e90 (List._∷_ e4 (List._∷_ e6 (List._∷_ e8 (List._∷_ e10
+    (List._∷_ e12 (List._∷_ e14 List.[])))))))))))))))
 
 abbrev pub t50 : List.List Row.Entry
-t50 = List._∷_ e50 (List._∷_ e51 (List._∷_ e53 (List._∷_ e55 (List._∷_ e57 (List._∷_ e59 (List._∷_ e61 (List._∷_ e63 (List._∷_ e67 (List._∷_ e68 (List._∷_ e70 (List._∷_ e71 (List._∷_ e72 (List._∷_ e73
-    (List._∷_ e74 (List._∷_ e76 List.[])))))))))))))))
+t50 = List._∷_ e51 (List._∷_ e52 (List._∷_ e53 (List._∷_ e55 (List._∷_ e57 (List._∷_ e59 (List._∷_
+    (38, Relend.msptr (Referent.rtF (Referent.fInt Syntax.w16)) (Syntax.tyRef Syntax.erased Syntax.mut (Syntax.tyInt Syntax.w16)) 12) (List._∷_ e64 (List._∷_ e67 (List._∷_ e69 (List._∷_ e70 (List._∷_ e72
+    (List._∷_ e73 (List._∷_ e74 (List._∷_ e75 (List._∷_ e76 List.[])))))))))))))))
 
 abbrev pub t51 : List.List Row.Entry
-t51 = List._∷_ e50 (List._∷_ e51 (List._∷_ e53 (List._∷_ e55 (List._∷_ e57 (List._∷_ e59 (List._∷_ e61 (List._∷_ e64 (List._∷_ e67 (List._∷_ e68 (List._∷_ e70 (List._∷_ e71 (List._∷_ e72 (List._∷_ e73
-    (List._∷_ e74 (List._∷_ e76 List.[])))))))))))))))
+t51 = List._∷_ e51 (List._∷_ e52 (List._∷_ e53 (List._∷_ e55 (List._∷_ e57 (List._∷_ e59 (List._∷_ e61 (List._∷_ e63 (List._∷_ e67 (List._∷_ e69 (List._∷_ e70 (List._∷_ e72 (List._∷_ e73 (List._∷_ e74
+    (List._∷_ e75 (List._∷_ e76 List.[])))))))))))))))
 
 abbrev pub t52 : List.List Row.Entry
-t52 = List._∷_ e16 (List._∷_ e18 (List._∷_ e20 (List._∷_ e22 (List._∷_ e25 (List._∷_ e27 (List._∷_ e29 (List._∷_ e31 (List._∷_ e32 (List._∷_ e35 (List._∷_ e36 (List._∷_ e38 (List._∷_ e40 (List._∷_ e42
-    (List._∷_ e48 (List._∷_ e49 List.[])))))))))))))))
+t52 = List._∷_ e51 (List._∷_ e52 (List._∷_ e53 (List._∷_ e55 (List._∷_ e57 (List._∷_ e59 (List._∷_ e61 (List._∷_ e63 (List._∷_ e68 (List._∷_ e69 (List._∷_ e70 (List._∷_ e72 (List._∷_ e73 (List._∷_ e74
+    (List._∷_ e75 (List._∷_ e76 List.[])))))))))))))))
 
 abbrev pub t53 : List.List Row.Entry
-t53 = List._∷_ e50 (List._∷_ e51 (List._∷_ e52 (List._∷_ e55 (List._∷_ e56 (List._∷_ e59 (List._∷_ e60 (List._∷_ e64 (List._∷_ e67 (List._∷_ e68 (List._∷_ e70 (List._∷_ e71 (List._∷_ e72 (List._∷_ e73
-    (List._∷_ e74 (List._∷_ e76 List.[])))))))))))))))
+t53 = List._∷_ e16 (List._∷_ e18 (List._∷_ e20 (List._∷_ e22 (List._∷_ e25 (List._∷_ e27 (List._∷_ e29 (List._∷_ e31 (List._∷_ e33 (List._∷_ e34 (List._∷_ e37 (List._∷_ e38 (List._∷_ e40 (List._∷_ e42
+    (List._∷_ e47 (List._∷_ e50 List.[])))))))))))))))
 
 abbrev pub t54 : List.List Row.Entry
-t54 = List._∷_ e16 (List._∷_ e18 (List._∷_ e20 (List._∷_ e21 (List._∷_ e26 (List._∷_ e27 (List._∷_ e29 (List._∷_ e31 (List._∷_ e32 (List._∷_ e35 (List._∷_ e36 (List._∷_ e38 (List._∷_ e40 (List._∷_ e42
-    (List._∷_ e48 (List._∷_ e49 List.[])))))))))))))))
+t54 = List._∷_ e51 (List._∷_ e52 (List._∷_ e53 (List._∷_ e54 (List._∷_ e57 (List._∷_ e58 (List._∷_ e61 (List._∷_ e62 (List._∷_ e68 (List._∷_ e69 (List._∷_ e70 (List._∷_ e72 (List._∷_ e73 (List._∷_ e74
+    (List._∷_ e75 (List._∷_ e76 List.[])))))))))))))))
 
 abbrev pub t55 : List.List Row.Entry
-t55 = List._∷_ e50 (List._∷_ e51 (List._∷_ e52 (List._∷_ e55 (List._∷_ e56 (List._∷_ e59 (List._∷_ e60 (List._∷_ e63 (List._∷_ e67 (List._∷_ e68 (List._∷_ e70 (List._∷_ e71 (List._∷_ e72 (List._∷_ e73
-    (List._∷_ e74 (List._∷_ e76 List.[])))))))))))))))
+t55 = List._∷_ e15 (List._∷_ e18 (List._∷_ e20 (List._∷_ e22 (List._∷_ e24 (List._∷_ e28 (List._∷_ e29 (List._∷_ e31 (List._∷_ e33 (List._∷_ e34 (List._∷_ e37 (List._∷_ e38 (List._∷_ e40 (List._∷_ e42
+    (List._∷_ e47 (List._∷_ e50 List.[])))))))))))))))
 
 abbrev pub t56 : List.List Row.Entry
-t56 = List._∷_ e0 (List._∷_ e2 (List._∷_ e24 (List._∷_ e43 (List._∷_ e66 (List._∷_ e80 (List._∷_ e84 (List._∷_ e85 (List._∷_ e87 (List._∷_ e89 (List._∷_ e4 (List._∷_ e6 (List._∷_ e8 (List._∷_ e10
-    (List._∷_ e12 (List._∷_ e14 List.[])))))))))))))))
+t56 = List._∷_ e51 (List._∷_ e52 (List._∷_ e53 (List._∷_ e54 (List._∷_ e57 (List._∷_ e58 (List._∷_ e61 (List._∷_ e62 (List._∷_ e67 (List._∷_ e69 (List._∷_ e70 (List._∷_ e72 (List._∷_ e73 (List._∷_ e74
+    (List._∷_ e75 (List._∷_ e76 List.[])))))))))))))))
 
 abbrev pub t57 : List.List Row.Entry
-t57 = List._∷_ e50 (List._∷_ e51 (List._∷_ e54 (List._∷_ e55 (List._∷_ e56 (List._∷_ e59 (List._∷_ e60 (List._∷_ e63 (List._∷_ e67 (List._∷_ e68 (List._∷_ e70 (List._∷_ e71 (List._∷_ e72 (List._∷_ e73
-    (List._∷_ e74 (List._∷_ e76 List.[])))))))))))))))
-
-abbrev pub t58 : List.List Row.Entry
-t58 = List._∷_ e0 (List._∷_ e2 (List._∷_ e24 (List._∷_ e43 (List._∷_ e65 (List._∷_ e80 (List._∷_ e84 (List._∷_ e85 (List._∷_ e87 (List._∷_ e89 (List._∷_ e4 (List._∷_ e6 (List._∷_ e8 (List._∷_ e10
+t57 = List._∷_ e0 (List._∷_ e2 (List._∷_ e23 (List._∷_ e44 (List._∷_ e66 (List._∷_ e80 (List._∷_ e85 (List._∷_ e86 (List._∷_ e88 (List._∷_ e90 (List._∷_ e4 (List._∷_ e6 (List._∷_ e8 (List._∷_ e10
     (List._∷_ e12 (List._∷_ e14 List.[])))))))))))))))
 
+abbrev pub t58 : List.List Row.Entry
+t58 = List._∷_ e51 (List._∷_ e52 (List._∷_ e53 (List._∷_ e56 (List._∷_ e57 (List._∷_ e58 (List._∷_ e61 (List._∷_ e62 (List._∷_ e67 (List._∷_ e69 (List._∷_ e70 (List._∷_ e72 (List._∷_ e73 (List._∷_ e74
+    (List._∷_ e75 (List._∷_ e76 List.[])))))))))))))))
+
 abbrev pub t59 : List.List Row.Entry
-t59 = List._∷_ e50 (List._∷_ e51 (List._∷_ e54 (List._∷_ e55 (List._∷_ e58 (List._∷_ e59 (List._∷_ e60 (List._∷_ e63 (List._∷_ e67 (List._∷_ e68 (List._∷_ e70 (List._∷_ e71 (List._∷_ e72 (List._∷_ e73
-    (List._∷_ e74 (List._∷_ e76 List.[])))))))))))))))
+t59 = List._∷_ e0 (List._∷_ e2 (List._∷_ e23 (List._∷_ e44 (List._∷_ e65 (List._∷_ e80 (List._∷_ e85 (List._∷_ e86 (List._∷_ e88 (List._∷_ e90 (List._∷_ e4 (List._∷_ e6 (List._∷_ e8 (List._∷_ e10
+    (List._∷_ e12 (List._∷_ e14 List.[])))))))))))))))
 
 abbrev pub t60 : List.List Row.Entry
-t60 = List._∷_ e16 (List._∷_ e18 (List._∷_ e20 (List._∷_ e23 (List._∷_ e25 (List._∷_ e27 (List._∷_ e29 (List._∷_ e31 (List._∷_ e32 (List._∷_ e35 (List._∷_ e36 (List._∷_ e38 (List._∷_ e40 (List._∷_ e42
-    (List._∷_ e48 (List._∷_ e49 List.[])))))))))))))))
+t60 = List._∷_ e51 (List._∷_ e52 (List._∷_ e53 (List._∷_ e56 (List._∷_ e57 (List._∷_ e60 (List._∷_ e61 (List._∷_ e62 (List._∷_ e67 (List._∷_ e69 (List._∷_ e70 (List._∷_ e72 (List._∷_ e73 (List._∷_ e74
+    (List._∷_ e75 (List._∷_ e76 List.[])))))))))))))))
 
 abbrev pub t61 : List.List Row.Entry
-t61 = List._∷_ e16 (List._∷_ e18 (List._∷_ e20 (List._∷_ e23 (List._∷_ e26 (List._∷_ e27 (List._∷_ e29 (List._∷_ e31 (List._∷_ e32 (List._∷_ e35 (List._∷_ e36 (List._∷_ e38 (List._∷_ e40 (List._∷_ e42
-    (List._∷_ e48 (List._∷_ e49 List.[])))))))))))))))
+t61 = List._∷_ e16 (List._∷_ e18 (List._∷_ e20 (List._∷_ e22 (List._∷_ e26 (List._∷_ e27 (List._∷_ e29 (List._∷_ e31 (List._∷_ e33 (List._∷_ e34 (List._∷_ e37 (List._∷_ e38 (List._∷_ e40 (List._∷_ e42
+    (List._∷_ e47 (List._∷_ e50 List.[])))))))))))))))
 
 abbrev pub t62 : List.List Row.Entry
-t62 = List._∷_ e15 (List._∷_ e18 (List._∷_ e20 (List._∷_ e22 (List._∷_ e25 (List._∷_ e27 (List._∷_ e29 (List._∷_ e31 (List._∷_ e32 (List._∷_ e35 (List._∷_ e36 (List._∷_ e38 (List._∷_ e40 (List._∷_ e42
-    (List._∷_ e48 (List._∷_ e49 List.[])))))))))))))))
+t62 = List._∷_ e15 (List._∷_ e18 (List._∷_ e20 (List._∷_ e22 (List._∷_ e26 (List._∷_ e27 (List._∷_ e29 (List._∷_ e31 (List._∷_ e33 (List._∷_ e34 (List._∷_ e37 (List._∷_ e38 (List._∷_ e40 (List._∷_ e42
+    (List._∷_ e47 (List._∷_ e50 List.[])))))))))))))))
 
 abbrev pub t63 : List.List Row.Entry
-t63 = List._∷_ e15 (List._∷_ e18 (List._∷_ e20 (List._∷_ e21 (List._∷_ e25 (List._∷_ e27 (List._∷_ e29 (List._∷_ e31 (List._∷_ e32 (List._∷_ e35 (List._∷_ e36 (List._∷_ e38 (List._∷_ e40 (List._∷_ e42
-    (List._∷_ e48 (List._∷_ e49 List.[])))))))))))))))
+t63 = List._∷_ e15 (List._∷_ e18 (List._∷_ e20 (List._∷_ e22 (List._∷_ e26 (List._∷_ e28 (List._∷_ e29 (List._∷_ e31 (List._∷_ e33 (List._∷_ e34 (List._∷_ e37 (List._∷_ e38 (List._∷_ e40 (List._∷_ e42
+    (List._∷_ e47 (List._∷_ e50 List.[])))))))))))))))
 
 abbrev pub t64 : List.List Row.Entry
-t64 = List._∷_ e0 (List._∷_ e2 (List._∷_ e24 (List._∷_ e43 (List._∷_ e65 (List._∷_ e81 (List._∷_ e83 (List._∷_ e85 (List._∷_ e86 (List._∷_ e89 (List._∷_ e4 (List._∷_ e6 (List._∷_ e8 (List._∷_ e10
+t64 = List._∷_ e0 (List._∷_ e2 (List._∷_ e23 (List._∷_ e44 (List._∷_ e65 (List._∷_ e79 (List._∷_ e84 (List._∷_ e86 (List._∷_ e87 (List._∷_ e90 (List._∷_ e4 (List._∷_ e6 (List._∷_ e7 (List._∷_ e10
     (List._∷_ e12 (List._∷_ e14 List.[])))))))))))))))
 
 abbrev pub t65 : List.List Row.Entry
-t65 = List._∷_ e50 (List._∷_ e51 (List._∷_ e54 (List._∷_ e55 (List._∷_ e58 (List._∷_ e59 (List._∷_ e62 (List._∷_ e63 (List._∷_ e67 (List._∷_
-    (41, Relend.msptr (Referent.rtF (Referent.fInt Syntax.w16)) (Syntax.tyRef Syntax.erased Syntax.mut (Syntax.tyInt Syntax.w16)) 13) (List._∷_ e70 (List._∷_ e71 (List._∷_ e72 (List._∷_ e73 (List._∷_ e74
-    (List._∷_ e76 List.[])))))))))))))))
+t65 = List._∷_ e16 (List._∷_ e17 (List._∷_ e20 (List._∷_ e22 (List._∷_ e25 (List._∷_ e27 (List._∷_ e29 (List._∷_ e31 (List._∷_ e33 (List._∷_ e34 (List._∷_ e37 (List._∷_ e38 (List._∷_ e40 (List._∷_ e42
+    (List._∷_ e47 (List._∷_ e50 List.[])))))))))))))))
 
 abbrev pub t66 : List.List Row.Entry
-t66 = List._∷_ e50 (List._∷_ e51 (List._∷_ e54 (List._∷_ e55 (List._∷_ e58 (List._∷_ e59 (List._∷_ e62 (List._∷_ e63 (List._∷_ e67 (List._∷_ e68 (List._∷_
-    (42, Mut.mslice (Referent.rtF (Referent.fInt Syntax.w16)) (Syntax.tyRef Syntax.erased Syntax.mut (Syntax.tyInt Syntax.w16)) 13) (List._∷_ e71 (List._∷_ e72 (List._∷_ e73 (List._∷_ e74 (List._∷_ e76
-    List.[])))))))))))))))
+t66 = List._∷_ e16 (List._∷_ e17 (List._∷_ e20 (List._∷_ e22 (List._∷_ e24 (List._∷_ e27 (List._∷_ e29 (List._∷_ e31 (List._∷_ e33 (List._∷_ e34 (List._∷_ e37 (List._∷_ e38 (List._∷_ e40 (List._∷_ e42
+    (List._∷_ e47 (List._∷_ e50 List.[])))))))))))))))
 
 abbrev pub t67 : List.List Row.Entry
-t67 = List._∷_ e50 (List._∷_ e51 (List._∷_ e54 (List._∷_ e55 (List._∷_ e58 (List._∷_ e59 (List._∷_ e62 (List._∷_ e63 (List._∷_ (40, Rows'.sc-here Row.sUnit) (List._∷_ e68 (List._∷_ e69 (List._∷_ e71
-    (List._∷_ e72 (List._∷_ e73 (List._∷_ e74 (List._∷_ e76 List.[])))))))))))))))
+t67 = List._∷_ e0 (List._∷_ e2 (List._∷_ e23 (List._∷_ e44 (List._∷_ e65 (List._∷_ e81 (List._∷_ e84 (List._∷_ e86 (List._∷_ e87 (List._∷_ e90 (List._∷_ e4 (List._∷_ e6 (List._∷_ e7 (List._∷_ e10
+    (List._∷_ e12 (List._∷_ e14 List.[])))))))))))))))
 
 abbrev pub t68 : List.List Row.Entry
-t68 = List._∷_ e0 (List._∷_ e2 (List._∷_ e24 (List._∷_ e43 (List._∷_ e65 (List._∷_ e81 (List._∷_ e83 (List._∷_ e85 (List._∷_ e86 (List._∷_ e88 (List._∷_ e4 (List._∷_ e6 (List._∷_ e8 (List._∷_ e10
-    (List._∷_ e12 (List._∷_ e14 List.[])))))))))))))))
+t68 = List._∷_ e51 (List._∷_ e52 (List._∷_ e53 (List._∷_ e56 (List._∷_ e57 (List._∷_ e60 (List._∷_ e61 (List._∷_ e64 (List._∷_ e67 (List._∷_ e69 (List._∷_
+    (42, Relend.msptr (Referent.rtF (Referent.fInt Syntax.w16)) (Syntax.tyRef Syntax.erased Syntax.mut (Syntax.tyInt Syntax.w16)) 13) (List._∷_ e72 (List._∷_ e73 (List._∷_ e74 (List._∷_ e75 (List._∷_ e76
+    List.[])))))))))))))))
 
 abbrev pub t69 : List.List Row.Entry
-t69 = List._∷_ e50 (List._∷_ e51 (List._∷_ e54 (List._∷_ e55 (List._∷_ e58 (List._∷_ e59 (List._∷_ e62 (List._∷_ e63 (List._∷_ e67 (List._∷_ e68 (List._∷_ e69 (List._∷_ e71 (List._∷_ e72 (List._∷_ e73
-    (List._∷_ e74 (List._∷_ e76 List.[])))))))))))))))
+t69 = List._∷_ e51 (List._∷_ e52 (List._∷_ e53 (List._∷_ e56 (List._∷_ e57 (List._∷_ e60 (List._∷_ e61 (List._∷_ e64 (List._∷_ e67 (List._∷_ e69 (List._∷_ e70 (List._∷_
+    (43, Mut.mslice (Referent.rtF (Referent.fInt Syntax.w16)) (Syntax.tyRef Syntax.erased Syntax.mut (Syntax.tyInt Syntax.w16)) 13) (List._∷_ e73 (List._∷_ e74 (List._∷_ e75 (List._∷_ e76
+    List.[])))))))))))))))
 
 abbrev pub t70 : List.List Row.Entry
-t70 = List._∷_ e50 (List._∷_ e51 (List._∷_ e54 (List._∷_ e55 (List._∷_ e58 (List._∷_ e59 (List._∷_ e62 (List._∷_ e63 (List._∷_ e67 (List._∷_ e68 (List._∷_ e70 (List._∷_
-    (43, Rows'.whole (Declared'.row Totals.the-type)) (List._∷_ e72 (List._∷_ e73 (List._∷_ e74 (List._∷_ e76 List.[])))))))))))))))
+t70 = List._∷_ e51 (List._∷_ e52 (List._∷_ e53 (List._∷_ e56 (List._∷_ e57 (List._∷_ e60 (List._∷_ e61 (List._∷_ e64 (List._∷_ e67 (List._∷_ (41, Rows'.sc-here Row.sUnit) (List._∷_ e70 (List._∷_ e71
+    (List._∷_ e73 (List._∷_ e74 (List._∷_ e75 (List._∷_ e76 List.[])))))))))))))))
 
 abbrev pub t71 : List.List Row.Entry
-t71 = List._∷_ e0 (List._∷_ e2 (List._∷_ e24 (List._∷_ e43 (List._∷_ e65 (List._∷_ e79 (List._∷_ e83 (List._∷_ e85 (List._∷_ e86 (List._∷_ e88 (List._∷_ e4 (List._∷_ e6 (List._∷_ e8 (List._∷_ e10
-    (List._∷_ e12 (List._∷_ e13 List.[])))))))))))))))
+t71 = List._∷_ e0 (List._∷_ e2 (List._∷_ e23 (List._∷_ e44 (List._∷_ e65 (List._∷_ e81 (List._∷_ e84 (List._∷_ e86 (List._∷_ e87 (List._∷_ e89 (List._∷_ e4 (List._∷_ e6 (List._∷_ e7 (List._∷_ e10
+    (List._∷_ e12 (List._∷_ e14 List.[])))))))))))))))
 
 abbrev pub t72 : List.List Row.Entry
-t72 = List._∷_ e1 (List._∷_ e2 (List._∷_ e24 (List._∷_ e43 (List._∷_ e65 (List._∷_ e79 (List._∷_ e83 (List._∷_ e85 (List._∷_ e86 (List._∷_ e88 (List._∷_ e4 (List._∷_ e6 (List._∷_ e8 (List._∷_ e10
-    (List._∷_ e12 (List._∷_ e13 List.[])))))))))))))))
-
-abbrev pub t73 : List.List Row.Entry
-t73 = List._∷_ e1 (List._∷_ e2 (List._∷_ e24 (List._∷_ e43 (List._∷_ e65 (List._∷_ e79 (List._∷_ e83 (List._∷_ e85 (List._∷_ e86 (List._∷_ e88 (List._∷_ e3 (List._∷_ e6 (List._∷_ e8 (List._∷_ e10
-    (List._∷_ e12 (List._∷_ e13 List.[])))))))))))))))
-
-abbrev pub t74 : List.List Row.Entry
-t74 = List._∷_ e1 (List._∷_ e2 (List._∷_ e24 (List._∷_ e43 (List._∷_ e65 (List._∷_ e79 (List._∷_ e83 (List._∷_ e85 (List._∷_ e86 (List._∷_ e88 (List._∷_ e3 (List._∷_ e5 (List._∷_ e8 (List._∷_ e10
-    (List._∷_ e12 (List._∷_ e13 List.[])))))))))))))))
-
-abbrev pub t75 : List.List Row.Entry
-t75 = List._∷_ e1 (List._∷_ e2 (List._∷_ e24 (List._∷_ e43 (List._∷_ e65 (List._∷_ e79 (List._∷_ e83 (List._∷_ e85 (List._∷_ e86 (List._∷_ e88 (List._∷_ e3 (List._∷_ e5 (List._∷_ e7 (List._∷_ e10
-    (List._∷_ e12 (List._∷_ e13 List.[])))))))))))))))
-
-abbrev pub t76 : List.List Row.Entry
-t76 = List._∷_ e1 (List._∷_ e2 (List._∷_ e24 (List._∷_ e43 (List._∷_ e65 (List._∷_ e79 (List._∷_ e83 (List._∷_ e85 (List._∷_ e86 (List._∷_ e88 (List._∷_ e3 (List._∷_ e5 (List._∷_ e7 (List._∷_ e9
-    (List._∷_ e12 (List._∷_ e13 List.[])))))))))))))))
-
-abbrev pub t77 : List.List Row.Entry
-t77 = List._∷_ e15 (List._∷_ e17 (List._∷_ e20 (List._∷_ e21 (List._∷_ e25 (List._∷_ e27 (List._∷_ e29 (List._∷_ e31 (List._∷_ e32 (List._∷_ e35 (List._∷_ e36 (List._∷_ e38 (List._∷_ e40 (List._∷_ e42
-    (List._∷_ e48 (List._∷_ e49 List.[])))))))))))))))
-
-abbrev pub t78 : List.List Row.Entry
-t78 = List._∷_ e50 (List._∷_ e51 (List._∷_ e54 (List._∷_ e55 (List._∷_ e58 (List._∷_ e59 (List._∷_ e62 (List._∷_ e63 (List._∷_ e67 (List._∷_ e68 (List._∷_ e70 (List._∷_ e71 (List._∷_
-    (44, Rows'.whole (Declared'.row Totals.the-type)) (List._∷_ e73 (List._∷_ e74 (List._∷_ e76 List.[])))))))))))))))
-
-abbrev pub t79 : List.List Row.Entry
-t79 = List._∷_ e0 (List._∷_ e2 (List._∷_ e24 (List._∷_ e45 (List._∷_ e65 (List._∷_ e79 (List._∷_ e84 (List._∷_ e85 (List._∷_ e87 (List._∷_ e89 (List._∷_ e4 (List._∷_ e6 (List._∷_ e8 (List._∷_ e10
-    (List._∷_ e12 (List._∷_ e14 List.[])))))))))))))))
-
-abbrev pub t80 : List.List Row.Entry
-t80 = List._∷_ e50 (List._∷_ e51 (List._∷_ e54 (List._∷_ e55 (List._∷_ e58 (List._∷_ e59 (List._∷_ e62 (List._∷_ e63 (List._∷_ e67 (List._∷_ e68 (List._∷_ e70 (List._∷_ e71 (List._∷_ e72 (List._∷_
-    (45, Relend.ssptr (Referent.rtF (Referent.fInt Syntax.w16)) (Syntax.tyRef Syntax.erased Syntax.imm (Syntax.tyInt Syntax.w16)) 14) (List._∷_ e74 (List._∷_ e76 List.[])))))))))))))))
-
-abbrev pub t81 : List.List Row.Entry
-t81 = List._∷_ e50 (List._∷_ e51 (List._∷_ e54 (List._∷_ e55 (List._∷_ e58 (List._∷_ e59 (List._∷_ e62 (List._∷_ e63 (List._∷_ e67 (List._∷_ e68 (List._∷_ e70 (List._∷_ e71 (List._∷_ e72 (List._∷_ e73
+t72 = List._∷_ e51 (List._∷_ e52 (List._∷_ e53 (List._∷_ e56 (List._∷_ e57 (List._∷_ e60 (List._∷_ e61 (List._∷_ e64 (List._∷_ e67 (List._∷_ e69 (List._∷_ e70 (List._∷_ e71 (List._∷_ e73 (List._∷_ e74
     (List._∷_ e75 (List._∷_ e76 List.[])))))))))))))))
 
-abbrev pub t82 : List.List Row.Entry
-t82 = List._∷_ e0 (List._∷_ e2 (List._∷_ e24 (List._∷_ e45 (List._∷_ e65 (List._∷_ e82 (List._∷_ e84 (List._∷_ e85 (List._∷_ e87 (List._∷_ e89 (List._∷_ e4 (List._∷_ e6 (List._∷_ e8 (List._∷_ e10
+abbrev pub t73 : List.List Row.Entry
+t73 = List._∷_ e51 (List._∷_ e52 (List._∷_ e53 (List._∷_ e56 (List._∷_ e57 (List._∷_ e60 (List._∷_ e61 (List._∷_ e64 (List._∷_ e67 (List._∷_ e69 (List._∷_ e70 (List._∷_ e72 (List._∷_
+    (44, Rows'.whole (Declared'.row Totals.the-type)) (List._∷_ e74 (List._∷_ e75 (List._∷_ e76 List.[])))))))))))))))
+
+abbrev pub t74 : List.List Row.Entry
+t74 = List._∷_ e15 (List._∷_ e17 (List._∷_ e20 (List._∷_ e22 (List._∷_ e24 (List._∷_ e27 (List._∷_ e29 (List._∷_ e31 (List._∷_ e33 (List._∷_ e34 (List._∷_ e37 (List._∷_ e38 (List._∷_ e40 (List._∷_ e42
+    (List._∷_ e47 (List._∷_ e50 List.[])))))))))))))))
+
+abbrev pub t75 : List.List Row.Entry
+t75 = List._∷_ e1 (List._∷_ e2 (List._∷_ e23 (List._∷_ e44 (List._∷_ e65 (List._∷_ e79 (List._∷_ e84 (List._∷_ e86 (List._∷_ e87 (List._∷_ e89 (List._∷_ e4 (List._∷_ e6 (List._∷_ e7 (List._∷_ e10
     (List._∷_ e12 (List._∷_ e14 List.[])))))))))))))))
 
+abbrev pub t76 : List.List Row.Entry
+t76 = List._∷_ e1 (List._∷_ e2 (List._∷_ e23 (List._∷_ e44 (List._∷_ e65 (List._∷_ e79 (List._∷_ e84 (List._∷_ e86 (List._∷_ e87 (List._∷_ e89 (List._∷_ e3 (List._∷_ e6 (List._∷_ e7 (List._∷_ e10
+    (List._∷_ e12 (List._∷_ e14 List.[])))))))))))))))
+
+abbrev pub t77 : List.List Row.Entry
+t77 = List._∷_ e1 (List._∷_ e2 (List._∷_ e23 (List._∷_ e44 (List._∷_ e65 (List._∷_ e79 (List._∷_ e84 (List._∷_ e86 (List._∷_ e87 (List._∷_ e89 (List._∷_ e3 (List._∷_ e5 (List._∷_ e7 (List._∷_ e10
+    (List._∷_ e12 (List._∷_ e14 List.[])))))))))))))))
+
+abbrev pub t78 : List.List Row.Entry
+t78 = List._∷_ e1 (List._∷_ e2 (List._∷_ e23 (List._∷_ e44 (List._∷_ e65 (List._∷_ e79 (List._∷_ e84 (List._∷_ e86 (List._∷_ e87 (List._∷_ e89 (List._∷_ e3 (List._∷_ e5 (List._∷_ e7 (List._∷_ e9
+    (List._∷_ e12 (List._∷_ e14 List.[])))))))))))))))
+
+abbrev pub t79 : List.List Row.Entry
+t79 = List._∷_ e1 (List._∷_ e2 (List._∷_ e23 (List._∷_ e44 (List._∷_ e65 (List._∷_ e79 (List._∷_ e84 (List._∷_ e86 (List._∷_ e87 (List._∷_ e89 (List._∷_ e3 (List._∷_ e5 (List._∷_ e7 (List._∷_ e9
+    (List._∷_ e11 (List._∷_ e14 List.[])))))))))))))))
+
+abbrev pub t80 : List.List Row.Entry
+t80 = List._∷_ e15 (List._∷_ e17 (List._∷_ e19 (List._∷_ e22 (List._∷_ e24 (List._∷_ e27 (List._∷_ e29 (List._∷_ e31 (List._∷_ e33 (List._∷_ e34 (List._∷_ e37 (List._∷_ e38 (List._∷_ e40 (List._∷_ e42
+    (List._∷_ e47 (List._∷_ e50 List.[])))))))))))))))
+
+abbrev pub t81 : List.List Row.Entry
+t81 = List._∷_ e16 (List._∷_ e18 (List._∷_ e20 (List._∷_ e22 (List._∷_ e24 (List._∷_ e28 (List._∷_ e29 (List._∷_ e31 (List._∷_ e33 (List._∷_ e34 (List._∷_ e37 (List._∷_ e38 (List._∷_ e40 (List._∷_ e42
+    (List._∷_ e47 (List._∷_ e50 List.[])))))))))))))))
+
+abbrev pub t82 : List.List Row.Entry
+t82 = List._∷_ e51 (List._∷_ e52 (List._∷_ e53 (List._∷_ e56 (List._∷_ e57 (List._∷_ e60 (List._∷_ e61 (List._∷_ e64 (List._∷_ e67 (List._∷_ e69 (List._∷_ e70 (List._∷_ e72 (List._∷_ e73 (List._∷_
+    (45, Rows'.whole (Declared'.row Totals.the-type)) (List._∷_ e75 (List._∷_ e76 List.[])))))))))))))))
+
 abbrev pub t83 : List.List Row.Entry
-t83 = List._∷_ e50 (List._∷_ e51 (List._∷_ e54 (List._∷_ e55 (List._∷_ e58 (List._∷_ e59 (List._∷_ e62 (List._∷_ e63 (List._∷_ e67 (List._∷_ e68 (List._∷_ e70 (List._∷_ e71 (List._∷_ e72 (List._∷_ e73
-    (List._∷_ e75 (List._∷_ (47, Relend.msptr (Referent.rtF (Referent.fInt Syntax.w16)) (Syntax.tyRef Syntax.erased Syntax.mut (Syntax.tyInt Syntax.w16)) 15) List.[])))))))))))))))
+t83 = List._∷_ e0 (List._∷_ e2 (List._∷_ e23 (List._∷_ e46 (List._∷_ e65 (List._∷_ e79 (List._∷_ e85 (List._∷_ e86 (List._∷_ e88 (List._∷_ e90 (List._∷_ e4 (List._∷_ e6 (List._∷_ e8 (List._∷_ e10
+    (List._∷_ e12 (List._∷_ e14 List.[])))))))))))))))
 
 abbrev pub t84 : List.List Row.Entry
-t84 = List._∷_ (48, Mut.mslice (Referent.rtF (Referent.fInt Syntax.w16)) (Syntax.tyRef Syntax.erased Syntax.mut (Syntax.tyInt Syntax.w16)) 15) (List._∷_ e78 List.[])
+t84 = List._∷_ e51 (List._∷_ e52 (List._∷_ e53 (List._∷_ e56 (List._∷_ e57 (List._∷_ e60 (List._∷_ e61 (List._∷_ e64 (List._∷_ e67 (List._∷_ e69 (List._∷_ e70 (List._∷_ e72 (List._∷_ e73 (List._∷_ e74
+    (List._∷_ (46, Relend.ssptr (Referent.rtF (Referent.fInt Syntax.w16)) (Syntax.tyRef Syntax.erased Syntax.imm (Syntax.tyInt Syntax.w16)) 14) (List._∷_ e76 List.[])))))))))))))))
 
 abbrev pub t85 : List.List Row.Entry
-t85 = List._∷_ (48, Mut.msleft (Referent.rtF (Referent.fInt Syntax.w16)) (Syntax.tyRef Syntax.erased Syntax.mut (Syntax.tyInt Syntax.w16))) (List._∷_ e78 List.[])
+t85 = List._∷_ e51 (List._∷_ e52 (List._∷_ e53 (List._∷_ e56 (List._∷_ e57 (List._∷_ e60 (List._∷_ e61 (List._∷_ e64 (List._∷_ e67 (List._∷_ e69 (List._∷_ e70 (List._∷_ e72 (List._∷_ e73 (List._∷_ e74
+    (List._∷_ e75 (List._∷_ (47, Rows'.sslice (Referent.rtF (Referent.fInt Syntax.w16)) (Syntax.tyRef Syntax.erased Syntax.imm (Syntax.tyInt Syntax.w16)) 14) List.[])))))))))))))))
 
 abbrev pub t86 : List.List Row.Entry
-t86 = List._∷_ e0 (List._∷_ e2 (List._∷_ e24 (List._∷_ e43 (List._∷_ e65 (List._∷_ e82 (List._∷_ e84 (List._∷_ e85 (List._∷_ e87 (List._∷_ e89 (List._∷_ e4 (List._∷_ e6 (List._∷_ e8 (List._∷_ e10
+t86 = List._∷_ e0 (List._∷_ e2 (List._∷_ e23 (List._∷_ e46 (List._∷_ e65 (List._∷_ e82 (List._∷_ e85 (List._∷_ e86 (List._∷_ e88 (List._∷_ e90 (List._∷_ e4 (List._∷_ e6 (List._∷_ e8 (List._∷_ e10
     (List._∷_ e12 (List._∷_ e14 List.[])))))))))))))))
 
 abbrev pub t87 : List.List Row.Entry
-t87 = List._∷_ e77 (List._∷_ (49, Rows'.whole (Declared'.row Totals.the-type)) List.[])
+t87 = List._∷_ (48, Relend.msptr (Referent.rtF (Referent.fInt Syntax.w16)) (Syntax.tyRef Syntax.erased Syntax.mut (Syntax.tyInt Syntax.w16)) 15) (List._∷_ e78 (List._∷_ e83 List.[]))
 
 abbrev pub t88 : List.List Row.Entry
-t88 = List._∷_ e1 (List._∷_ e2 (List._∷_ e24 (List._∷_ e43 (List._∷_ e65 (List._∷_ e79 (List._∷_ e83 (List._∷_ e85 (List._∷_ e86 (List._∷_ e88 (List._∷_ e4 (List._∷_ e6 (List._∷_ e7 (List._∷_ e10
-    (List._∷_ e12 (List._∷_ e13 List.[])))))))))))))))
+t88 = List._∷_ e77 (List._∷_ (49, Mut.mslice (Referent.rtF (Referent.fInt Syntax.w16)) (Syntax.tyRef Syntax.erased Syntax.mut (Syntax.tyInt Syntax.w16)) 15) (List._∷_ e83 List.[]))
 
 abbrev pub t89 : List.List Row.Entry
-t89 = List._∷_ e1 (List._∷_ e2 (List._∷_ e24 (List._∷_ e43 (List._∷_ e65 (List._∷_ e79 (List._∷_ e83 (List._∷_ e85 (List._∷_ e86 (List._∷_ e88 (List._∷_ e4 (List._∷_ e6 (List._∷_ e7 (List._∷_ e9
-    (List._∷_ e12 (List._∷_ e13 List.[])))))))))))))))
+t89 = List._∷_ e77 (List._∷_ (49, Mut.msleft (Referent.rtF (Referent.fInt Syntax.w16)) (Syntax.tyRef Syntax.erased Syntax.mut (Syntax.tyInt Syntax.w16))) (List._∷_ e83 List.[]))
 
 abbrev pub t90 : List.List Row.Entry
-t90 = List._∷_ e1 (List._∷_ e2 (List._∷_ e24 (List._∷_ e43 (List._∷_ e65 (List._∷_ e79 (List._∷_ e83 (List._∷_ e85 (List._∷_ e86 (List._∷_ e88 (List._∷_ e4 (List._∷_ e6 (List._∷_ e7 (List._∷_ e9
-    (List._∷_ e11 (List._∷_ e13 List.[])))))))))))))))
+t90 = List._∷_ e0 (List._∷_ e2 (List._∷_ e23 (List._∷_ e44 (List._∷_ e65 (List._∷_ e82 (List._∷_ e85 (List._∷_ e86 (List._∷_ e88 (List._∷_ e90 (List._∷_ e4 (List._∷_ e6 (List._∷_ e8 (List._∷_ e10
+    (List._∷_ e12 (List._∷_ e14 List.[])))))))))))))))
 
 abbrev pub t91 : List.List Row.Entry
-t91 = List._∷_ e15 (List._∷_ e18 (List._∷_ e19 (List._∷_ e21 (List._∷_ e25 (List._∷_ e27 (List._∷_ e29 (List._∷_ e31 (List._∷_ e32 (List._∷_ e35 (List._∷_ e36 (List._∷_ e38 (List._∷_ e40 (List._∷_ e42
-    (List._∷_ e48 (List._∷_ e49 List.[])))))))))))))))
+t91 = List._∷_ e77 (List._∷_ e78 (List._∷_ (50, Rows'.whole (Declared'.row Totals.the-type)) List.[]))
 
 abbrev pub t92 : List.List Row.Entry
-t92 = List._∷_ e1 (List._∷_ e2 (List._∷_ e24 (List._∷_ e43 (List._∷_ e65 (List._∷_ e79 (List._∷_ e83 (List._∷_ e85 (List._∷_ e86 (List._∷_ e88 (List._∷_ e3 (List._∷_ e6 (List._∷_ e7 (List._∷_ e9
+t92 = List._∷_ e15 (List._∷_ e18 (List._∷_ e20 (List._∷_ e21 (List._∷_ e24 (List._∷_ e27 (List._∷_ e29 (List._∷_ e31 (List._∷_ e33 (List._∷_ e34 (List._∷_ e37 (List._∷_ e38 (List._∷_ e40 (List._∷_ e42
+    (List._∷_ e47 (List._∷_ e50 List.[])))))))))))))))
+
+abbrev pub t93 : List.List Row.Entry
+t93 = List._∷_ e1 (List._∷_ e2 (List._∷_ e23 (List._∷_ e44 (List._∷_ e65 (List._∷_ e79 (List._∷_ e84 (List._∷_ e86 (List._∷_ e87 (List._∷_ e89 (List._∷_ e4 (List._∷_ e6 (List._∷_ e7 (List._∷_ e9
+    (List._∷_ e12 (List._∷_ e14 List.[])))))))))))))))
+
+abbrev pub t94 : List.List Row.Entry
+t94 = List._∷_ e1 (List._∷_ e2 (List._∷_ e23 (List._∷_ e44 (List._∷_ e65 (List._∷_ e79 (List._∷_ e84 (List._∷_ e86 (List._∷_ e87 (List._∷_ e89 (List._∷_ e4 (List._∷_ e6 (List._∷_ e7 (List._∷_ e9
+    (List._∷_ e11 (List._∷_ e14 List.[])))))))))))))))
+
+abbrev pub t95 : List.List Row.Entry
+t95 = List._∷_ e1 (List._∷_ e2 (List._∷_ e23 (List._∷_ e44 (List._∷_ e65 (List._∷_ e79 (List._∷_ e84 (List._∷_ e86 (List._∷_ e87 (List._∷_ e89 (List._∷_ e4 (List._∷_ e6 (List._∷_ e7 (List._∷_ e9
+    (List._∷_ e11 (List._∷_ e13 List.[])))))))))))))))
+
+abbrev pub t96 : List.List Row.Entry
+t96 = List._∷_ e15 (List._∷_ e17 (List._∷_ e20 (List._∷_ e21 (List._∷_ e24 (List._∷_ e27 (List._∷_ e29 (List._∷_ e31 (List._∷_ e33 (List._∷_ e34 (List._∷_ e37 (List._∷_ e38 (List._∷_ e40 (List._∷_ e42
+    (List._∷_ e47 (List._∷_ e50 List.[])))))))))))))))
+
+abbrev pub t97 : List.List Row.Entry
+t97 = List._∷_ e1 (List._∷_ e2 (List._∷_ e23 (List._∷_ e44 (List._∷_ e65 (List._∷_ e79 (List._∷_ e84 (List._∷_ e86 (List._∷_ e87 (List._∷_ e89 (List._∷_ e3 (List._∷_ e6 (List._∷_ e7 (List._∷_ e9
     (List._∷_ e11 (List._∷_ e13 List.[])))))))))))))))
 
 abbrev pub T0 : Row.Cx
@@ -1625,25 +1701,25 @@ abbrev pub T26 : Row.Cx
 T26 = record { locals = List._++_ t7 (List._++_ t1 (List._++_ t2 t3)); slots = List.[] }
 
 abbrev pub T28 : Row.Cx
-T28 = record { locals = List._++_ t20 (List._++_ t1 (List._++_ t2 t3)); slots = List.[] }
+T28 = record { locals = List._++_ t7 (List._++_ t20 (List._++_ t2 t3)); slots = List.[] }
 
 abbrev pub T29 : Row.Cx
-T29 = record { locals = List._++_ t20 (List._++_ t21 (List._++_ t2 t3)); slots = List.[] }
+T29 = record { locals = List._++_ t7 (List._++_ t21 (List._++_ t2 t3)); slots = List.[] }
 
 abbrev pub T30 : Row.Cx
-T30 = record { locals = List._++_ t20 (List._++_ t22 (List._++_ t2 t3)); slots = List.[] }
+T30 = record { locals = List._++_ t7 (List._++_ t22 (List._++_ t2 t3)); slots = List.[] }
 
 abbrev pub T31 : Row.Cx
 T31 = record { locals = List._++_ t23 (List._++_ t22 (List._++_ t2 t3)); slots = List.[] }
 
 abbrev pub T32 : Row.Cx
-T32 = record { locals = List._++_ t20 (List._++_ t24 (List._++_ t2 t3)); slots = List.[] }
+T32 = record { locals = List._++_ t7 (List._++_ t24 (List._++_ t2 t3)); slots = List.[] }
 
 abbrev pub T33 : Row.Cx
-T33 = record { locals = List._++_ t20 (List._++_ t22 (List._++_ t2 t3)); slots = List.[] }
+T33 = record { locals = List._++_ t7 (List._++_ t22 (List._++_ t2 t3)); slots = List.[] }
 
 abbrev pub T34 : Row.Cx
-T34 = record { locals = List._++_ t20 (List._++_ t22 (List._++_ t2 t3)); slots = List.[] }
+T34 = record { locals = List._++_ t7 (List._++_ t22 (List._++_ t2 t3)); slots = List.[] }
 
 abbrev pub T35 : Row.Cx
 T35 = record { locals = List._++_ t25 (List._++_ t24 (List._++_ t2 t3)); slots = List.[] }
@@ -1652,277 +1728,283 @@ abbrev pub T36 : Row.Cx
 T36 = record { locals = List._++_ t26 (List._++_ t24 (List._++_ t2 t3)); slots = List.[] }
 
 abbrev pub T37 : Row.Cx
-T37 = record { locals = List._++_ t23 (List._++_ t24 (List._++_ t2 t3)); slots = List.[] }
+T37 = record { locals = List._++_ t27 (List._++_ t24 (List._++_ t2 t3)); slots = List.[] }
 
 abbrev pub T38 : Row.Cx
-T38 = record { locals = List._++_ t23 (List._++_ t22 (List._++_ t2 t3)); slots = List.[] }
+T38 = record { locals = List._++_ t23 (List._++_ t24 (List._++_ t2 t3)); slots = List.[] }
 
-abbrev pub T40 : Row.Cx
-T40 = record { locals = List._++_ t27 (List._++_ t28 (List._++_ t2 t3)); slots = List.[] }
+abbrev pub T39 : Row.Cx
+T39 = record { locals = List._++_ t23 (List._++_ t22 (List._++_ t2 t3)); slots = List.[] }
 
 abbrev pub T41 : Row.Cx
-T41 = record { locals = List._++_ t27 (List._++_ t29 (List._++_ t2 t3)); slots = List.[] }
+T41 = record { locals = List._++_ t28 (List._++_ t29 (List._++_ t2 t3)); slots = List.[] }
 
 abbrev pub T42 : Row.Cx
-T42 = record { locals = List._++_ t27 (List._++_ t30 (List._++_ t2 t3)); slots = List.[] }
+T42 = record { locals = List._++_ t28 (List._++_ t30 (List._++_ t2 t3)); slots = List.[] }
 
 abbrev pub T43 : Row.Cx
-T43 = record { locals = List._++_ t27 (List._++_ t31 (List._++_ t2 t3)); slots = List.[] }
+T43 = record { locals = List._++_ t28 (List._++_ t31 (List._++_ t2 t3)); slots = List.[] }
 
 abbrev pub T44 : Row.Cx
-T44 = record { locals = List._++_ t27 (List._++_ t32 (List._++_ t2 t3)); slots = List.[] }
+T44 = record { locals = List._++_ t28 (List._++_ t32 (List._++_ t2 t3)); slots = List.[] }
 
 abbrev pub T45 : Row.Cx
-T45 = record { locals = List._++_ t27 (List._++_ t33 (List._++_ t2 t3)); slots = List.[] }
+T45 = record { locals = List._++_ t28 (List._++_ t33 (List._++_ t2 t3)); slots = List.[] }
 
-abbrev pub T47 : Row.Cx
-T47 = record { locals = List._++_ t20 (List._++_ t22 (List._++_ t2 t3)); slots = List.[] }
+abbrev pub T46 : Row.Cx
+T46 = record { locals = List._++_ t28 (List._++_ t34 (List._++_ t2 t3)); slots = List.[] }
 
 abbrev pub T48 : Row.Cx
-T48 = record { locals = List._++_ t20 (List._++_ t22 (List._++_ t2 t3)); slots = List.[] }
+T48 = record { locals = List._++_ t7 (List._++_ t22 (List._++_ t2 t3)); slots = List.[] }
 
-abbrev pub T50 : Row.Cx
-T50 = record { locals = List._++_ t20 (List._++_ t34 (List._++_ t2 t3)); slots = List.[] }
+abbrev pub T49 : Row.Cx
+T49 = record { locals = List._++_ t7 (List._++_ t22 (List._++_ t2 t3)); slots = List.[] }
 
-abbrev pub T52 : Row.Cx
-T52 = record { locals = List._++_ t35 (List._++_ t36 (List._++_ t2 t3)); slots = List.[] }
+abbrev pub T51 : Row.Cx
+T51 = record { locals = List._++_ t7 (List._++_ t35 (List._++_ t2 t3)); slots = List.[] }
 
 abbrev pub T53 : Row.Cx
-T53 = record { locals = List._++_ t35 (List._++_ t34 (List._++_ t37 t3)); slots = List.[] }
+T53 = record { locals = List._++_ t36 (List._++_ t35 (List._++_ t37 t3)); slots = List.[] }
 
 abbrev pub T54 : Row.Cx
-T54 = record { locals = List._++_ t35 (List._++_ t38 (List._++_ t37 t3)); slots = List.[] }
+T54 = record { locals = List._++_ t36 (List._++_ t35 (List._++_ t38 t3)); slots = List.[] }
 
 abbrev pub T55 : Row.Cx
-T55 = record { locals = List._++_ t35 (List._++_ t39 (List._++_ t40 t3)); slots = List.[] }
+T55 = record { locals = List._++_ t36 (List._++_ t39 (List._++_ t38 t3)); slots = List.[] }
 
 abbrev pub T56 : Row.Cx
-T56 = record { locals = List._++_ t35 (List._++_ t41 (List._++_ t40 t3)); slots = List.[] }
+T56 = record { locals = List._++_ t36 (List._++_ t40 (List._++_ t41 t3)); slots = List.[] }
 
 abbrev pub T57 : Row.Cx
-T57 = record { locals = List._++_ t35 (List._++_ t34 (List._++_ t40 t3)); slots = List.[] }
+T57 = record { locals = List._++_ t36 (List._++_ t42 (List._++_ t41 t3)); slots = List.[] }
 
-abbrev pub T59 : Row.Cx
-T59 = record { locals = List._++_ t20 (List._++_ t34 (List._++_ t2 t3)); slots = List.[] }
+abbrev pub T58 : Row.Cx
+T58 = record { locals = List._++_ t36 (List._++_ t35 (List._++_ t41 t3)); slots = List.[] }
 
-abbrev pub T62 : Row.Cx
-T62 = record { locals = List._++_ t42 (List._++_ t34 (List._++_ t43 t3)); slots = List.[] }
+abbrev pub T60 : Row.Cx
+T60 = record { locals = List._++_ t7 (List._++_ t35 (List._++_ t2 t3)); slots = List.[] }
 
 abbrev pub T63 : Row.Cx
-T63 = record { locals = List._++_ t42 (List._++_ t34 (List._++_ t44 t3)); slots = List.[] }
+T63 = record { locals = List._++_ t43 (List._++_ t35 (List._++_ t44 t3)); slots = List.[] }
 
-abbrev pub T65 : Row.Cx
-T65 = record { locals = List._++_ t45 (List._++_ t34 (List._++_ t46 t3)); slots = List.[] }
+abbrev pub T64 : Row.Cx
+T64 = record { locals = List._++_ t43 (List._++_ t35 (List._++_ t45 t3)); slots = List.[] }
 
 abbrev pub T66 : Row.Cx
-T66 = record { locals = List._++_ t45 (List._++_ t34 (List._++_ t47 t3)); slots = List.[] }
+T66 = record { locals = List._++_ t46 (List._++_ t35 (List._++_ t47 t3)); slots = List.[] }
 
-abbrev pub T68 : Row.Cx
-T68 = record { locals = List._++_ t48 (List._++_ t34 (List._++_ t49 t3)); slots = List.[] }
+abbrev pub T67 : Row.Cx
+T67 = record { locals = List._++_ t46 (List._++_ t35 (List._++_ t48 t3)); slots = List.[] }
 
 abbrev pub T69 : Row.Cx
-T69 = record { locals = List._++_ t48 (List._++_ t34 (List._++_ t50 t3)); slots = List.[] }
+T69 = record { locals = List._++_ t49 (List._++_ t35 (List._++_ t50 t3)); slots = List.[] }
 
 abbrev pub T70 : Row.Cx
-T70 = record { locals = List._++_ t48 (List._++_ t34 (List._++_ t51 t3)); slots = List.[] }
+T70 = record { locals = List._++_ t49 (List._++_ t35 (List._++_ t51 t3)); slots = List.[] }
 
 abbrev pub T71 : Row.Cx
-T71 = record { locals = List._++_ t48 (List._++_ t52 (List._++_ t53 t3)); slots = List.[] }
+T71 = record { locals = List._++_ t49 (List._++_ t35 (List._++_ t52 t3)); slots = List.[] }
 
 abbrev pub T72 : Row.Cx
-T72 = record { locals = List._++_ t7 (List._++_ t54 (List._++_ t2 t3)); slots = List.[] }
+T72 = record { locals = List._++_ t49 (List._++_ t53 (List._++_ t54 t3)); slots = List.[] }
 
 abbrev pub T73 : Row.Cx
-T73 = record { locals = List._++_ t48 (List._++_ t52 (List._++_ t55 t3)); slots = List.[] }
+T73 = record { locals = List._++_ t7 (List._++_ t55 (List._++_ t2 t3)); slots = List.[] }
 
-abbrev pub T75 : Row.Cx
-T75 = record { locals = List._++_ t56 (List._++_ t52 (List._++_ t57 t3)); slots = List.[] }
+abbrev pub T74 : Row.Cx
+T74 = record { locals = List._++_ t49 (List._++_ t53 (List._++_ t56 t3)); slots = List.[] }
 
 abbrev pub T76 : Row.Cx
-T76 = record { locals = List._++_ t56 (List._++_ t52 (List._++_ t57 t3)); slots = List.[] }
+T76 = record { locals = List._++_ t57 (List._++_ t53 (List._++_ t58 t3)); slots = List.[] }
 
-abbrev pub T79 : Row.Cx
-T79 = record { locals = List._++_ t58 (List._++_ t52 (List._++_ t59 t3)); slots = List.[] }
+abbrev pub T77 : Row.Cx
+T77 = record { locals = List._++_ t57 (List._++_ t53 (List._++_ t58 t3)); slots = List.[] }
 
-abbrev pub T82 : Row.Cx
-T82 = record { locals = List._++_ t20 (List._++_ t52 (List._++_ t2 t3)); slots = List.[] }
+abbrev pub T80 : Row.Cx
+T80 = record { locals = List._++_ t59 (List._++_ t53 (List._++_ t60 t3)); slots = List.[] }
 
 abbrev pub T83 : Row.Cx
-T83 = record { locals = List._++_ t20 (List._++_ t52 (List._++_ t2 t3)); slots = List.[] }
+T83 = record { locals = List._++_ t7 (List._++_ t53 (List._++_ t2 t3)); slots = List.[] }
 
-abbrev pub T85 : Row.Cx
-T85 = record { locals = List._++_ t20 (List._++_ t60 (List._++_ t2 t3)); slots = List.[] }
+abbrev pub T84 : Row.Cx
+T84 = record { locals = List._++_ t7 (List._++_ t53 (List._++_ t2 t3)); slots = List.[] }
 
 abbrev pub T86 : Row.Cx
-T86 = record { locals = List._++_ t20 (List._++_ t60 (List._++_ t2 t3)); slots = List.[] }
+T86 = record { locals = List._++_ t7 (List._++_ t61 (List._++_ t2 t3)); slots = List.[] }
 
 abbrev pub T87 : Row.Cx
-T87 = record { locals = List._++_ t7 (List._++_ t60 (List._++_ t2 t3)); slots = List.[] }
+T87 = record { locals = List._++_ t7 (List._++_ t61 (List._++_ t2 t3)); slots = List.[] }
 
 abbrev pub T88 : Row.Cx
-T88 = record { locals = List._++_ t7 (List._++_ t61 (List._++_ t2 t3)); slots = List.[] }
+T88 = record { locals = List._++_ t7 (List._++_ t62 (List._++_ t2 t3)); slots = List.[] }
 
 abbrev pub T89 : Row.Cx
-T89 = record { locals = List._++_ t7 (List._++_ t54 (List._++_ t2 t3)); slots = List.[] }
+T89 = record { locals = List._++_ t7 (List._++_ t63 (List._++_ t2 t3)); slots = List.[] }
 
 abbrev pub T90 : Row.Cx
-T90 = record { locals = List._++_ t20 (List._++_ t52 (List._++_ t2 t3)); slots = List.[] }
+T90 = record { locals = List._++_ t7 (List._++_ t55 (List._++_ t2 t3)); slots = List.[] }
 
 abbrev pub T91 : Row.Cx
-T91 = record { locals = List._++_ t25 (List._++_ t52 (List._++_ t2 t3)); slots = List.[] }
+T91 = record { locals = List._++_ t7 (List._++_ t53 (List._++_ t2 t3)); slots = List.[] }
 
 abbrev pub T92 : Row.Cx
-T92 = record { locals = List._++_ t26 (List._++_ t52 (List._++_ t2 t3)); slots = List.[] }
+T92 = record { locals = List._++_ t25 (List._++_ t53 (List._++_ t2 t3)); slots = List.[] }
 
 abbrev pub T93 : Row.Cx
-T93 = record { locals = List._++_ t26 (List._++_ t62 (List._++_ t2 t3)); slots = List.[] }
+T93 = record { locals = List._++_ t26 (List._++_ t53 (List._++_ t2 t3)); slots = List.[] }
 
 abbrev pub T94 : Row.Cx
-T94 = record { locals = List._++_ t26 (List._++_ t63 (List._++_ t2 t3)); slots = List.[] }
+T94 = record { locals = List._++_ t64 (List._++_ t53 (List._++_ t2 t3)); slots = List.[] }
+
+abbrev pub T95 : Row.Cx
+T95 = record { locals = List._++_ t64 (List._++_ t65 (List._++_ t2 t3)); slots = List.[] }
 
 abbrev pub T96 : Row.Cx
-T96 = record { locals = List._++_ t64 (List._++_ t63 (List._++_ t65 t3)); slots = List.[] }
-
-abbrev pub T97 : Row.Cx
-T97 = record { locals = List._++_ t64 (List._++_ t63 (List._++_ t66 t3)); slots = List.[] }
+T96 = record { locals = List._++_ t64 (List._++_ t66 (List._++_ t2 t3)); slots = List.[] }
 
 abbrev pub T98 : Row.Cx
-T98 = record { locals = List._++_ t64 (List._++_ t63 (List._++_ t67 t3)); slots = List.[] }
+T98 = record { locals = List._++_ t67 (List._++_ t66 (List._++_ t68 t3)); slots = List.[] }
 
 abbrev pub T99 : Row.Cx
-T99 = record { locals = List._++_ t68 (List._++_ t63 (List._++_ t67 t3)); slots = List.[] }
+T99 = record { locals = List._++_ t67 (List._++_ t66 (List._++_ t69 t3)); slots = List.[] }
 
 abbrev pub T100 : Row.Cx
-T100 = record { locals = List._++_ t68 (List._++_ t63 (List._++_ t69 t3)); slots = List.[] }
+T100 = record { locals = List._++_ t67 (List._++_ t66 (List._++_ t70 t3)); slots = List.[] }
+
+abbrev pub T101 : Row.Cx
+T101 = record { locals = List._++_ t71 (List._++_ t66 (List._++_ t70 t3)); slots = List.[] }
 
 abbrev pub T102 : Row.Cx
-T102 = record { locals = List._++_ t23 (List._++_ t63 (List._++_ t2 t3)); slots = List.[] }
+T102 = record { locals = List._++_ t71 (List._++_ t66 (List._++_ t72 t3)); slots = List.[] }
 
-abbrev pub T103 : Row.Cx
-T103 = record { locals = List._++_ t23 (List._++_ t63 (List._++_ t2 t3)); slots = List.[] }
+abbrev pub T104 : Row.Cx
+T104 = record { locals = List._++_ t23 (List._++_ t66 (List._++_ t2 t3)); slots = List.[] }
 
 abbrev pub T105 : Row.Cx
-T105 = record { locals = List._++_ t23 (List._++_ t63 (List._++_ t70 t3)); slots = List.[] }
-
-abbrev pub T106 : Row.Cx
-T106 = record { locals = List._++_ t71 (List._++_ t63 (List._++_ t70 t3)); slots = List.[] }
+T105 = record { locals = List._++_ t23 (List._++_ t66 (List._++_ t2 t3)); slots = List.[] }
 
 abbrev pub T107 : Row.Cx
-T107 = record { locals = List._++_ t72 (List._++_ t63 (List._++_ t70 t3)); slots = List.[] }
+T107 = record { locals = List._++_ t23 (List._++_ t66 (List._++_ t73 t3)); slots = List.[] }
 
 abbrev pub T108 : Row.Cx
-T108 = record { locals = List._++_ t72 (List._++_ t63 (List._++_ t2 t3)); slots = List.[] }
+T108 = record { locals = List._++_ t23 (List._++_ t74 (List._++_ t73 t3)); slots = List.[] }
 
 abbrev pub T109 : Row.Cx
-T109 = record { locals = List._++_ t73 (List._++_ t63 (List._++_ t2 t3)); slots = List.[] }
+T109 = record { locals = List._++_ t75 (List._++_ t74 (List._++_ t73 t3)); slots = List.[] }
 
 abbrev pub T110 : Row.Cx
-T110 = record { locals = List._++_ t74 (List._++_ t63 (List._++_ t2 t3)); slots = List.[] }
+T110 = record { locals = List._++_ t75 (List._++_ t74 (List._++_ t2 t3)); slots = List.[] }
 
 abbrev pub T111 : Row.Cx
-T111 = record { locals = List._++_ t75 (List._++_ t63 (List._++_ t2 t3)); slots = List.[] }
+T111 = record { locals = List._++_ t76 (List._++_ t74 (List._++_ t2 t3)); slots = List.[] }
 
 abbrev pub T112 : Row.Cx
-T112 = record { locals = List._++_ t76 (List._++_ t63 (List._++_ t2 t3)); slots = List.[] }
+T112 = record { locals = List._++_ t77 (List._++_ t74 (List._++_ t2 t3)); slots = List.[] }
 
 abbrev pub T113 : Row.Cx
-T113 = record { locals = List._++_ t4 (List._++_ t63 (List._++_ t2 t3)); slots = List.[] }
+T113 = record { locals = List._++_ t78 (List._++_ t74 (List._++_ t2 t3)); slots = List.[] }
 
 abbrev pub T114 : Row.Cx
-T114 = record { locals = List._++_ t4 (List._++_ t77 (List._++_ t2 t3)); slots = List.[] }
+T114 = record { locals = List._++_ t79 (List._++_ t74 (List._++_ t2 t3)); slots = List.[] }
 
 abbrev pub T115 : Row.Cx
-T115 = record { locals = List._++_ t4 (List._++_ t1 (List._++_ t2 t3)); slots = List.[] }
+T115 = record { locals = List._++_ t4 (List._++_ t74 (List._++_ t2 t3)); slots = List.[] }
 
 abbrev pub T116 : Row.Cx
-T116 = record { locals = List._++_ t20 (List._++_ t54 (List._++_ t2 t3)); slots = List.[] }
+T116 = record { locals = List._++_ t4 (List._++_ t80 (List._++_ t2 t3)); slots = List.[] }
 
 abbrev pub T117 : Row.Cx
-T117 = record { locals = List._++_ t20 (List._++_ t34 (List._++_ t2 t3)); slots = List.[] }
+T117 = record { locals = List._++_ t4 (List._++_ t1 (List._++_ t2 t3)); slots = List.[] }
 
 abbrev pub T118 : Row.Cx
-T118 = record { locals = List._++_ t20 (List._++_ t34 (List._++_ t78 t3)); slots = List.[] }
+T118 = record { locals = List._++_ t7 (List._++_ t81 (List._++_ t2 t3)); slots = List.[] }
 
 abbrev pub T119 : Row.Cx
-T119 = record { locals = List._++_ t20 (List._++_ t34 (List._++_ t78 t3)); slots = List.[] }
+T119 = record { locals = List._++_ t7 (List._++_ t35 (List._++_ t2 t3)); slots = List.[] }
 
 abbrev pub T120 : Row.Cx
-T120 = record { locals = List._++_ t20 (List._++_ t34 (List._++_ t2 t3)); slots = List.[] }
+T120 = record { locals = List._++_ t7 (List._++_ t35 (List._++_ t82 t3)); slots = List.[] }
+
+abbrev pub T121 : Row.Cx
+T121 = record { locals = List._++_ t7 (List._++_ t35 (List._++_ t82 t3)); slots = List.[] }
 
 abbrev pub T122 : Row.Cx
-T122 = record { locals = List._++_ t79 (List._++_ t34 (List._++_ t80 t3)); slots = List.[] }
+T122 = record { locals = List._++_ t7 (List._++_ t35 (List._++_ t2 t3)); slots = List.[] }
 
-abbrev pub T123 : Row.Cx
-T123 = record { locals = List._++_ t79 (List._++_ t34 (List._++_ t81 t3)); slots = List.[] }
+abbrev pub T124 : Row.Cx
+T124 = record { locals = List._++_ t83 (List._++_ t35 (List._++_ t84 t3)); slots = List.[] }
 
 abbrev pub T125 : Row.Cx
-T125 = record { locals = List._++_ t82 (List._++_ t34 (List._++_ t83 t3)); slots = List.[] }
-
-abbrev pub T126 : Row.Cx
-T126 = record { locals = List._++_ t82 (List._++_ t34 (List._++_ t81 t84)); slots = List.[] }
+T125 = record { locals = List._++_ t83 (List._++_ t35 (List._++_ t85 t3)); slots = List.[] }
 
 abbrev pub T127 : Row.Cx
-T127 = record { locals = List._++_ t82 (List._++_ t38 (List._++_ t81 t84)); slots = List.[] }
+T127 = record { locals = List._++_ t86 (List._++_ t35 (List._++_ t85 t87)); slots = List.[] }
 
 abbrev pub T128 : Row.Cx
-T128 = record { locals = List._++_ t82 (List._++_ t39 (List._++_ t81 t85)); slots = List.[] }
+T128 = record { locals = List._++_ t86 (List._++_ t35 (List._++_ t85 t88)); slots = List.[] }
 
 abbrev pub T129 : Row.Cx
-T129 = record { locals = List._++_ t82 (List._++_ t39 (List._++_ t2 t85)); slots = List.[] }
+T129 = record { locals = List._++_ t86 (List._++_ t39 (List._++_ t85 t88)); slots = List.[] }
 
 abbrev pub T130 : Row.Cx
-T130 = record { locals = List._++_ t82 (List._++_ t41 (List._++_ t2 t85)); slots = List.[] }
+T130 = record { locals = List._++_ t86 (List._++_ t40 (List._++_ t85 t89)); slots = List.[] }
 
 abbrev pub T131 : Row.Cx
-T131 = record { locals = List._++_ t82 (List._++_ t34 (List._++_ t2 t85)); slots = List.[] }
+T131 = record { locals = List._++_ t86 (List._++_ t40 (List._++_ t2 t89)); slots = List.[] }
+
+abbrev pub T132 : Row.Cx
+T132 = record { locals = List._++_ t86 (List._++_ t42 (List._++_ t2 t89)); slots = List.[] }
 
 abbrev pub T133 : Row.Cx
-T133 = record { locals = List._++_ t86 (List._++_ t34 (List._++_ t2 t85)); slots = List.[] }
+T133 = record { locals = List._++_ t86 (List._++_ t35 (List._++_ t2 t89)); slots = List.[] }
 
-abbrev pub T136 : Row.Cx
-T136 = record { locals = List._++_ t20 (List._++_ t34 (List._++_ t2 t3)); slots = List.[] }
+abbrev pub T135 : Row.Cx
+T135 = record { locals = List._++_ t90 (List._++_ t35 (List._++_ t2 t89)); slots = List.[] }
 
-abbrev pub T137 : Row.Cx
-T137 = record { locals = List._++_ t20 (List._++_ t34 (List._++_ t2 t3)); slots = List.[] }
+abbrev pub T138 : Row.Cx
+T138 = record { locals = List._++_ t7 (List._++_ t35 (List._++_ t2 t3)); slots = List.[] }
 
 abbrev pub T139 : Row.Cx
-T139 = record { locals = List._++_ t20 (List._++_ t34 (List._++_ t2 t3)); slots = List.[] }
-
-abbrev pub T140 : Row.Cx
-T140 = record { locals = List._++_ t20 (List._++_ t22 (List._++_ t2 t3)); slots = List.[] }
+T139 = record { locals = List._++_ t7 (List._++_ t35 (List._++_ t2 t3)); slots = List.[] }
 
 abbrev pub T141 : Row.Cx
-T141 = record { locals = List._++_ t23 (List._++_ t22 (List._++_ t2 t87)); slots = List.[] }
+T141 = record { locals = List._++_ t7 (List._++_ t35 (List._++_ t2 t3)); slots = List.[] }
 
 abbrev pub T142 : Row.Cx
-T142 = record { locals = List._++_ t71 (List._++_ t22 (List._++_ t2 t87)); slots = List.[] }
+T142 = record { locals = List._++_ t7 (List._++_ t22 (List._++_ t2 t3)); slots = List.[] }
 
 abbrev pub T143 : Row.Cx
-T143 = record { locals = List._++_ t72 (List._++_ t22 (List._++_ t2 t87)); slots = List.[] }
+T143 = record { locals = List._++_ t23 (List._++_ t22 (List._++_ t2 t91)); slots = List.[] }
 
 abbrev pub T144 : Row.Cx
-T144 = record { locals = List._++_ t88 (List._++_ t22 (List._++_ t2 t87)); slots = List.[] }
+T144 = record { locals = List._++_ t23 (List._++_ t92 (List._++_ t2 t91)); slots = List.[] }
 
 abbrev pub T145 : Row.Cx
-T145 = record { locals = List._++_ t89 (List._++_ t22 (List._++_ t2 t87)); slots = List.[] }
+T145 = record { locals = List._++_ t75 (List._++_ t92 (List._++_ t2 t91)); slots = List.[] }
 
 abbrev pub T146 : Row.Cx
-T146 = record { locals = List._++_ t90 (List._++_ t22 (List._++_ t2 t87)); slots = List.[] }
+T146 = record { locals = List._++_ t93 (List._++_ t92 (List._++_ t2 t91)); slots = List.[] }
 
 abbrev pub T147 : Row.Cx
-T147 = record { locals = List._++_ t90 (List._++_ t91 (List._++_ t2 t87)); slots = List.[] }
+T147 = record { locals = List._++_ t94 (List._++_ t92 (List._++_ t2 t91)); slots = List.[] }
 
 abbrev pub T148 : Row.Cx
-T148 = record { locals = List._++_ t90 (List._++_ t1 (List._++_ t2 t87)); slots = List.[] }
+T148 = record { locals = List._++_ t95 (List._++_ t92 (List._++_ t2 t91)); slots = List.[] }
 
 abbrev pub T149 : Row.Cx
-T149 = record { locals = List._++_ t90 (List._++_ t1 (List._++_ t2 t3)); slots = List.[] }
+T149 = record { locals = List._++_ t95 (List._++_ t96 (List._++_ t2 t91)); slots = List.[] }
 
 abbrev pub T150 : Row.Cx
-T150 = record { locals = List._++_ t92 (List._++_ t1 (List._++_ t2 t3)); slots = List.[] }
+T150 = record { locals = List._++_ t95 (List._++_ t1 (List._++_ t2 t91)); slots = List.[] }
 
 abbrev pub T151 : Row.Cx
-T151 = record { locals = List._++_ t4 (List._++_ t1 (List._++_ t2 t3)); slots = List.[] }
+T151 = record { locals = List._++_ t95 (List._++_ t1 (List._++_ t2 t3)); slots = List.[] }
+
+abbrev pub T152 : Row.Cx
+T152 = record { locals = List._++_ t97 (List._++_ t1 (List._++_ t2 t3)); slots = List.[] }
+
+abbrev pub T153 : Row.Cx
+T153 = record { locals = List._++_ t4 (List._++_ t1 (List._++_ t2 t3)); slots = List.[] }
 
 abbrev pub O0 : Typed.Outs
 O0 = record { next = Option.none; exits = List.[]; returns = Option.some T1 }
@@ -1940,23 +2022,25 @@ abbrev pub O4 : Typed.Outs
 O4 = Typed.withNext (Option.some T33) O3
 
 abbrev pub O5 : Typed.Outs
-O5 = Typed.withNext (Option.some T72) O3
+O5 = Typed.withNext (Option.some T73) O3
 
 abbrev pub InvT-loop : Type 1
 InvT-loop = List.List (Referent.rtF (Referent.fInt Syntax.w8) .Denot) → List.List (Referent.rtF (Referent.fInt Syntax.w8) .Denot) → List.List (Referent.rtF (Referent.fInt Syntax.w16) .Denot) →
     List.List (Element.type .Denot) → List.List (Referent.rtF (Referent.fInt Syntax.w16) .Denot) → Rows'.whole (Declared'.row Form.the-type) .Mod → Array'.Array (Referent.rtF (Referent.fInt Syntax.w16))
     768 .Denot → Rows.arrF (Referent.rtF (Referent.fInt Syntax.w8)) 36 0 .Mod → Rows'.whole (Declared'.row Part.the-type) .Mod → Rows'.sc-here (Row.sInt Syntax.w64) .Mod → Rows'.sc-here Row.sBool .Mod →
-    Rows'.sc-here (Row.sInt Syntax.w32) .Mod → Rows'.sc-here Row.sBool .Mod → Rows'.sc-here (Row.sInt Syntax.w64) .Mod → Rows'.whole (Declared'.row Place.the-type) .Mod → Rows'.whole (Declared'.row
-    TightLines.the-type) .Mod → Rows'.sc-here (Row.sInt Syntax.w64) .Mod → List.List (Referent.rtF (Referent.fInt Syntax.w16) .Denot) → List.List (Element.type .Denot) → List.List (Referent.rtF
-    (Referent.fInt Syntax.w16) .Denot) → Rows'.whole (Declared'.row Place.the-type) .Mod → Rows'.whole (Declared'.row TightLines.the-type) .Mod → Rows'.sc-here (Row.sInt Syntax.w64) .Mod → Type 0
+    Rows'.whole (Declared'.row Entries.the-type) .Mod → Rows'.sc-here (Row.sInt Syntax.w32) .Mod → Rows'.sc-here Row.sBool .Mod → Rows'.sc-here (Row.sInt Syntax.w64) .Mod → Rows'.whole (Declared'.row
+    Place.the-type) .Mod → Rows'.whole (Declared'.row TightLines.the-type) .Mod → Rows'.sc-here (Row.sInt Syntax.w64) .Mod → List.List (Referent.rtF (Referent.fInt Syntax.w16) .Denot) → List.List
+    (Element.type .Denot) → List.List (Referent.rtF (Referent.fInt Syntax.w16) .Denot) → Rows'.whole (Declared'.row Place.the-type) .Mod → Rows'.whole (Declared'.row TightLines.the-type) .Mod →
+    Rows'.sc-here (Row.sInt Syntax.w64) .Mod → Type 0
 
 abbrev pub MeasureT-loop : Type 0
 MeasureT-loop = List.List (Referent.rtF (Referent.fInt Syntax.w8) .Denot) → List.List (Referent.rtF (Referent.fInt Syntax.w8) .Denot) → List.List (Referent.rtF (Referent.fInt Syntax.w16) .Denot) →
     List.List (Element.type .Denot) → List.List (Referent.rtF (Referent.fInt Syntax.w16) .Denot) → Rows'.whole (Declared'.row Form.the-type) .Mod → Array'.Array (Referent.rtF (Referent.fInt Syntax.w16))
     768 .Denot → Rows.arrF (Referent.rtF (Referent.fInt Syntax.w8)) 36 0 .Mod → Rows'.whole (Declared'.row Part.the-type) .Mod → Rows'.sc-here (Row.sInt Syntax.w64) .Mod → Rows'.sc-here Row.sBool .Mod →
-    Rows'.sc-here (Row.sInt Syntax.w32) .Mod → Rows'.sc-here Row.sBool .Mod → Rows'.sc-here (Row.sInt Syntax.w64) .Mod → Rows'.whole (Declared'.row Place.the-type) .Mod → Rows'.whole (Declared'.row
-    TightLines.the-type) .Mod → Rows'.sc-here (Row.sInt Syntax.w64) .Mod → List.List (Referent.rtF (Referent.fInt Syntax.w16) .Denot) → List.List (Element.type .Denot) → List.List (Referent.rtF
-    (Referent.fInt Syntax.w16) .Denot) → Rows'.whole (Declared'.row Place.the-type) .Mod → Rows'.whole (Declared'.row TightLines.the-type) .Mod → Rows'.sc-here (Row.sInt Syntax.w64) .Mod → Nat.ℕ
+    Rows'.whole (Declared'.row Entries.the-type) .Mod → Rows'.sc-here (Row.sInt Syntax.w32) .Mod → Rows'.sc-here Row.sBool .Mod → Rows'.sc-here (Row.sInt Syntax.w64) .Mod → Rows'.whole (Declared'.row
+    Place.the-type) .Mod → Rows'.whole (Declared'.row TightLines.the-type) .Mod → Rows'.sc-here (Row.sInt Syntax.w64) .Mod → List.List (Referent.rtF (Referent.fInt Syntax.w16) .Denot) → List.List
+    (Element.type .Denot) → List.List (Referent.rtF (Referent.fInt Syntax.w16) .Denot) → Rows'.whole (Declared'.row Place.the-type) .Mod → Rows'.whole (Declared'.row TightLines.the-type) .Mod →
+    Rows'.sc-here (Row.sInt Syntax.w64) .Mod → Nat.ℕ
 
 module _ (claims· : Claims) where
   abbrev s0 : Typed.Gives T0 T2
@@ -1972,79 +2056,79 @@ module _ (claims· : Claims) where
   s3 = Know.k-sl-known (Referent.fInt Syntax.w16) T4 5 4 (Syntax.tyRef (Syntax.named 4) Syntax.mut (Syntax.tyInt Syntax.w16)) Row.off 0 λ x. x
 
   abbrev s4 : Typed.Mo T5 → Typed.Mo T6
-  s4 = Scalar.n-use T5 (Scalar.oFld 6 (List._∷_ (Syntax.field 0) List.[]) (Syntax.tyInt Syntax.w32) 0 (Reads.fieldV Form.the-type Laws.the-laws 0)) 12 (Rows'.sc-here (Row.sInt Syntax.w32)) (Row.sInt
+  s4 = Scalar.n-use T5 (Scalar.oFld 6 (List._∷_ (Syntax.field 0) List.[]) (Syntax.tyInt Syntax.w32) 0 (Reads.fieldV Form.the-type Laws.the-laws 0)) 13 (Rows'.sc-here (Row.sInt Syntax.w32)) (Row.sInt
       Syntax.w32 .of)
 
   abbrev s5 : Typed.Mo T6 → Typed.Mo T7
-  s5 = Scalar.n-use T6 (Scalar.oFld 6 (List._∷_ (Syntax.field 1) List.[]) Syntax.tyBool 4 (Reads.fieldV Form.the-type Laws.the-laws 1)) 13 (Rows'.sc-here Row.sBool) (Row.sBool .of)
+  s5 = Scalar.n-use T6 (Scalar.oFld 6 (List._∷_ (Syntax.field 1) List.[]) Syntax.tyBool 4 (Reads.fieldV Form.the-type Laws.the-laws 1)) 14 (Rows'.sc-here Row.sBool) (Row.sBool .of)
 
   abbrev s6 : Typed.Both T7 T8
-  s6 = Call.callB ps·0 r·0 (claims· .0) (claims· .1) T7 (Bool.bAt 13 λ x. x, tt) 14 List.[] (Syntax.tyInt Syntax.w64)
+  s6 = Call.callB ps·0 r·0 (claims· .0) (claims· .1) T7 (Bool.bAt 14 λ x. x, tt) 15 List.[] (Syntax.tyInt Syntax.w64)
 
   abbrev s8 : Typed.Gives T8 T10
-  s8 = Relend.k-sl-relend (Referent.rtF (Referent.fInt Syntax.w16)) T8 3 22 2 6 (Syntax.tyRef (Syntax.named 2) Syntax.mut (Syntax.tyInt Syntax.w16)) (Syntax.tyRef Syntax.erased Syntax.mut
+  s8 = Relend.k-sl-relend (Referent.rtF (Referent.fInt Syntax.w16)) T8 3 23 2 6 (Syntax.tyRef (Syntax.named 2) Syntax.mut (Syntax.tyInt Syntax.w16)) (Syntax.tyRef Syntax.erased Syntax.mut
       (Syntax.tyInt Syntax.w16)) Row.off λ x. x
 
   abbrev s9 : Typed.Asks T10 T11
-  s9 = Relend.k-sl-aggregate (Referent.rtF (Referent.fInt Syntax.w16)) (Relend.asMut (Referent.rtF (Referent.fInt Syntax.w16))) T10 22 23 6 (Syntax.tyRef Syntax.erased Syntax.mut (Syntax.tyInt
+  s9 = Relend.k-sl-aggregate (Referent.rtF (Referent.fInt Syntax.w16)) (Relend.asMut (Referent.rtF (Referent.fInt Syntax.w16))) T10 23 24 6 (Syntax.tyRef Syntax.erased Syntax.mut (Syntax.tyInt
       Syntax.w16)) (Syntax.tyRef Syntax.erased Syntax.mut (Syntax.tyInt Syntax.w16)) (λ x. x) (Scalar.oFld 3 (List._∷_ (Syntax.field 1) List.[]) (Syntax.tyInt Syntax.w64) 8 λ v. Shared.lenV (v .0))
 
   abbrev s10 : Typed.Both T11 T12
-  s10 = Call.callB ps·1 r·1 (claims· .2) (claims· .3) T11 (record { pos = 23; ty = Syntax.tyRef Syntax.erased Syntax.mut (Syntax.tyInt Syntax.w16); ref = λ x. x }, tt) 21 (List._∷_ 6 List.[])
+  s10 = Call.callB ps·1 r·1 (claims· .2) (claims· .3) T11 (record { pos = 24; ty = Syntax.tyRef Syntax.erased Syntax.mut (Syntax.tyInt Syntax.w16); ref = λ x. x }, tt) 22 (List._∷_ 6 List.[])
       Syntax.tyUnit
 
   abbrev s11 : Typed.Mo T12 → Typed.Mo T13
-  s11 = Scalar.n-room T12 21 Syntax.tyUnit
+  s11 = Scalar.n-room T12 22 Syntax.tyUnit
 
   abbrev s13 : Typed.Both T13 T15
-  s13 = Relend.k-back-sl (Referent.rtF (Referent.fInt Syntax.w16)) T13 23 3 2 6 (Syntax.tyRef (Syntax.named 2) Syntax.mut (Syntax.tyInt Syntax.w16)) (Syntax.tyRef Syntax.erased Syntax.mut
+  s13 = Relend.k-back-sl (Referent.rtF (Referent.fInt Syntax.w16)) T13 24 3 2 6 (Syntax.tyRef (Syntax.named 2) Syntax.mut (Syntax.tyInt Syntax.w16)) (Syntax.tyRef Syntax.erased Syntax.mut
       (Syntax.tyInt Syntax.w16)) Row.off (λ x. x) λ x. x
 
   abbrev s14 : Typed.Gives T15 T16
   s14 = Know.k-sl-known (Referent.fInt Syntax.w16) T15 3 2 (Syntax.tyRef (Syntax.named 2) Syntax.mut (Syntax.tyInt Syntax.w16)) Row.off 0 λ x. x
 
   abbrev s17 : Typed.Gives T16 T19
-  s17 = Relend.k-sl-relend (Element.type) T16 4 24 3 7 (Syntax.tyRef (Syntax.named 3) Syntax.mut Element.behind) (Syntax.tyRef Syntax.erased Syntax.mut Element.behind) Row.off λ x. x
+  s17 = Relend.k-sl-relend (Element.type) T16 4 25 3 7 (Syntax.tyRef (Syntax.named 3) Syntax.mut Element.behind) (Syntax.tyRef Syntax.erased Syntax.mut Element.behind) Row.off λ x. x
 
   abbrev s18 : Typed.Asks T19 T20
-  s18 = Relend.k-sl-aggregate (Element.type) (Relend.asMut (Element.type)) T19 24 25 7 (Syntax.tyRef Syntax.erased Syntax.mut Element.behind) (Syntax.tyRef Syntax.erased Syntax.mut Element.behind) (λ
+  s18 = Relend.k-sl-aggregate (Element.type) (Relend.asMut (Element.type)) T19 25 26 7 (Syntax.tyRef Syntax.erased Syntax.mut Element.behind) (Syntax.tyRef Syntax.erased Syntax.mut Element.behind) (λ
       x. x) (Scalar.oFld 4 (List._∷_ (Syntax.field 1) List.[]) (Syntax.tyInt Syntax.w64) 8 λ v. Shared.lenV (v .0))
 
   abbrev s19 : Typed.Both T20 T21
-  s19 = Call.callB ps·2 r·2 (claims· .4) (claims· .5) T20 (record { pos = 2; ty = Syntax.tyRef (Syntax.named 1) Syntax.imm (Syntax.tyInt Syntax.w8); ref = λ x. x }, (Num.vLit 0, tt)) 26 (List._∷_ 1
+  s19 = Call.callB ps·2 r·2 (claims· .4) (claims· .5) T20 (record { pos = 2; ty = Syntax.tyRef (Syntax.named 1) Syntax.imm (Syntax.tyInt Syntax.w8); ref = λ x. x }, (Num.vLit 0, tt)) 27 (List._∷_ 1
       List.[]) (Syntax.tyInt Syntax.w32)
 
   abbrev s20 : Typed.Both T21 T22
-  s20 = Call.callB ps·3 r·3 (claims· .6) (claims· .7) T21 (record { pos = 25; ty = Syntax.tyRef Syntax.erased Syntax.mut Element.behind; ref = λ x. x }, (Num.vAt 12 λ x. x, (Num.vAt 26 λ x. x, tt)))
-      21 (List._∷_ 7 List.[]) Syntax.tyUnit
+  s20 = Call.callB ps·3 r·3 (claims· .6) (claims· .7) T21 (record { pos = 26; ty = Syntax.tyRef Syntax.erased Syntax.mut Element.behind; ref = λ x. x }, (Num.vAt 13 λ x. x, (Num.vAt 27 λ x. x, tt)))
+      22 (List._∷_ 7 List.[]) Syntax.tyUnit
 
   abbrev s21 : Typed.Mo T22 → Typed.Mo T23
-  s21 = Scalar.n-room T22 21 Syntax.tyUnit
+  s21 = Scalar.n-room T22 22 Syntax.tyUnit
 
   abbrev s22 : Typed.Mo T23 → Typed.Mo T24
-  s22 = Scalar.n-room T23 26 (Syntax.tyInt Syntax.w32)
+  s22 = Scalar.n-room T23 27 (Syntax.tyInt Syntax.w32)
 
   abbrev s24 : Typed.Both T24 T26
-  s24 = Relend.k-back-sl (Element.type) T24 25 4 3 7 (Syntax.tyRef (Syntax.named 3) Syntax.mut Element.behind) (Syntax.tyRef Syntax.erased Syntax.mut Element.behind) Row.off (λ x. x) λ x. x
+  s24 = Relend.k-back-sl (Element.type) T24 26 4 3 7 (Syntax.tyRef (Syntax.named 3) Syntax.mut Element.behind) (Syntax.tyRef Syntax.erased Syntax.mut Element.behind) Row.off (λ x. x) λ x. x
 
   abbrev s26 : Typed.Both T26 T28
-  s26 = Call.callB ps·4 r·4 (claims· .8) (claims· .9) T26 tt 15 List.[] y9
+  s26 = Call.callB ps·4 r·4 (claims· .8) (claims· .9) T26 tt 16 List.[] y10
 
   abbrev s27 : Typed.Both T28 T29
-  s27 = Call.callB ps·5 r·5 (claims· .10) (claims· .11) T28 tt 16 List.[] y8
+  s27 = Call.callB ps·5 r·5 (claims· .10) (claims· .11) T28 tt 17 List.[] y9
 
   abbrev s28 : Typed.Mo T29 → Typed.Mo T30
-  s28 = Scalar.n-use T29 (Scalar.oInt Syntax.w64 0) 17 (Rows'.sc-here (Row.sInt Syntax.w64)) (Row.sInt Syntax.w64 .of)
+  s28 = Scalar.n-use T29 (Scalar.oInt Syntax.w64 0) 18 (Rows'.sc-here (Row.sInt Syntax.w64)) (Row.sInt Syntax.w64 .of)
 
   abbrev s29 : Typed.Asks T30 T32
-  s29 = Scalar.k-op2 T30 (Syntax.lt Syntax.unsigned) (Scalar.oAt 17 (Syntax.tyInt Syntax.w64) (Row.valS (Row.sInt Syntax.w64))) (Scalar.oAt 10 (Syntax.tyInt Syntax.w64) (Row.valS (Row.sInt
-      Syntax.w64))) 27 (Rows'.sc-here Row.sBool) (Row.sBool .of)
+  s29 = Scalar.k-op2 T30 (Syntax.lt Syntax.unsigned) (Scalar.oAt 18 (Syntax.tyInt Syntax.w64) (Row.valS (Row.sInt Syntax.w64))) (Scalar.oAt 10 (Syntax.tyInt Syntax.w64) (Row.valS (Row.sInt
+      Syntax.w64))) 28 (Rows'.sc-here Row.sBool) (Row.sBool .of)
 
   abbrev s30 : Typed.Mo T32 → Typed.Mo T34
-  s30 = Scalar.n-room T32 27 Syntax.tyBool
+  s30 = Scalar.n-room T32 28 Syntax.tyBool
 
   abbrev s31 : Typed.Mo T32 → Typed.Mo T35
-  s31 = Scalar.n-room T32 6 y7
+  s31 = Scalar.n-room T32 6 y8
 
   abbrev s32 : Typed.Mo T35 → Typed.Mo T36
   s32 = Scalar.n-room T35 8 (Syntax.tyArray (Syntax.tyInt Syntax.w8) 36)
@@ -2053,109 +2137,112 @@ module _ (claims· : Claims) where
   s33 = Scalar.n-room T36 9 y0
 
   abbrev s34 : Typed.Mo T37 → Typed.Mo T38
-  s34 = Scalar.n-room T37 27 Syntax.tyBool
+  s34 = Scalar.n-room T37 12 y12
 
-  abbrev s36 : Typed.Gives T33 T40
-  s36 = Relend.k-sl-relend (Referent.rtF (Referent.fInt Syntax.w16)) T33 3 29 2 8 (Syntax.tyRef (Syntax.named 2) Syntax.mut (Syntax.tyInt Syntax.w16)) (Syntax.tyRef Syntax.erased Syntax.mut
+  abbrev s35 : Typed.Mo T38 → Typed.Mo T39
+  s35 = Scalar.n-room T38 28 Syntax.tyBool
+
+  abbrev s37 : Typed.Gives T33 T41
+  s37 = Relend.k-sl-relend (Referent.rtF (Referent.fInt Syntax.w16)) T33 3 30 2 8 (Syntax.tyRef (Syntax.named 2) Syntax.mut (Syntax.tyInt Syntax.w16)) (Syntax.tyRef Syntax.erased Syntax.mut
       (Syntax.tyInt Syntax.w16)) Row.off λ x. x
-
-  abbrev s37 : Typed.Asks T40 T41
-  s37 = Relend.k-sl-aggregate (Referent.rtF (Referent.fInt Syntax.w16)) (Relend.asMut (Referent.rtF (Referent.fInt Syntax.w16))) T40 29 30 8 (Syntax.tyRef Syntax.erased Syntax.mut (Syntax.tyInt
-      Syntax.w16)) (Syntax.tyRef Syntax.erased Syntax.mut (Syntax.tyInt Syntax.w16)) (λ x. x) (Scalar.oFld 3 (List._∷_ (Syntax.field 1) List.[]) (Syntax.tyInt Syntax.w64) 8 λ v. Shared.lenV (v .0))
 
   abbrev s38 : Typed.Asks T41 T42
-  s38 = Scalar.k-op1 T41 Syntax.bitNot (Scalar.oAt 11 Syntax.tyBool (Row.valS Row.sBool)) 27 (Rows'.sc-here Row.sBool) (Row.sBool .of)
-
-  abbrev s39 : Typed.Both T42 T43
-  s39 = Call.callB ps·6 r·6 (claims· .12) (claims· .13) T42
-      (record { pos = 30; ty = Syntax.tyRef Syntax.erased Syntax.mut (Syntax.tyInt Syntax.w16); ref = λ x. x }, (Num.vAt 14 λ x. x, (Bool.bAt 27 λ x. x, tt))) 28 (List._∷_ 8 List.[]) Syntax.tyUnit
-
-  abbrev s40 : Typed.Mo T43 → Typed.Mo T44
-  s40 = Scalar.n-room T43 27 Syntax.tyBool
-
-  abbrev s41 : Typed.Mo T44 → Typed.Mo T45
-  s41 = Scalar.n-room T44 28 Syntax.tyUnit
-
-  abbrev s43 : Typed.Both T45 T47
-  s43 = Relend.k-back-sl (Referent.rtF (Referent.fInt Syntax.w16)) T45 30 3 2 8 (Syntax.tyRef (Syntax.named 2) Syntax.mut (Syntax.tyInt Syntax.w16)) (Syntax.tyRef Syntax.erased Syntax.mut
-      (Syntax.tyInt Syntax.w16)) Row.off (λ x. x) λ x. x
-
-  abbrev s44 : Typed.Gives T47 T48
-  s44 = Know.k-sl-known (Referent.fInt Syntax.w16) T47 3 2 (Syntax.tyRef (Syntax.named 2) Syntax.mut (Syntax.tyInt Syntax.w16)) Row.off 0 λ x. x
-
-  abbrev s46 : Typed.Both T48 T50
-  s46 = Call.callB ps·2 r·2 (claims· .4) (claims· .5) T48 (record { pos = 2; ty = Syntax.tyRef (Syntax.named 1) Syntax.imm (Syntax.tyInt Syntax.w8); ref = λ x. x }, (Num.vAt 17 λ x. x, tt)) 18
-      (List._∷_ 1 List.[]) (Syntax.tyInt Syntax.w32)
-
-  abbrev s48 : Typed.Gives T50 T52
-  s48 = Relend.k-sl-relend (Element.type) T50 4 31 3 9 (Syntax.tyRef (Syntax.named 3) Syntax.mut Element.behind) (Syntax.tyRef Syntax.erased Syntax.mut Element.behind) Row.off λ x. x
-
-  abbrev s49 : Typed.Asks T52 T53
-  s49 = Relend.k-sl-aggregate (Element.type) (Relend.asMut (Element.type)) T52 31 32 9 (Syntax.tyRef Syntax.erased Syntax.mut Element.behind) (Syntax.tyRef Syntax.erased Syntax.mut Element.behind) (λ
-      x. x) (Scalar.oFld 4 (List._∷_ (Syntax.field 1) List.[]) (Syntax.tyInt Syntax.w64) 8 λ v. Shared.lenV (v .0))
-
-  abbrev s50 : Typed.Both T53 T54
-  s50 = Call.callB ps·7 r·7 (claims· .14) (claims· .15) T53 (record { pos = 2; ty = Syntax.tyRef (Syntax.named 1) Syntax.imm (Syntax.tyInt Syntax.w8); ref = λ x. x }, (Num.vAt 17 λ x. x, tt)) 27
-      (List._∷_ 1 List.[]) Syntax.tyBool
-
-  abbrev s51 : Typed.Both T54 T55
-  s51 = Call.callB ps·8 r·8 (claims· .16) (claims· .17) T54
-      (record { pos = 32; ty = Syntax.tyRef Syntax.erased Syntax.mut Element.behind; ref = λ x. x }, (Num.vAt 12 λ x. x, (Num.vAt 18 λ x. x, (Bool.bAt 27 λ x. x, tt)))) 28 (List._∷_ 9 List.[])
-      Syntax.tyUnit
-
-  abbrev s52 : Typed.Mo T55 → Typed.Mo T56
-  s52 = Scalar.n-room T55 27 Syntax.tyBool
-
-  abbrev s53 : Typed.Mo T56 → Typed.Mo T57
-  s53 = Scalar.n-room T56 28 Syntax.tyUnit
-
-  abbrev s55 : Typed.Both T57 T59
-  s55 = Relend.k-back-sl (Element.type) T57 32 4 3 9 (Syntax.tyRef (Syntax.named 3) Syntax.mut Element.behind) (Syntax.tyRef Syntax.erased Syntax.mut Element.behind) Row.off (λ x. x) λ x. x
-
-  abbrev s58 : Typed.Gives T59 T62
-  s58 = Relend.k-sl-relend (Referent.rtF (Referent.fInt Syntax.w16)) T59 3 33 2 10 (Syntax.tyRef (Syntax.named 2) Syntax.mut (Syntax.tyInt Syntax.w16)) (Syntax.tyRef Syntax.erased Syntax.mut
-      (Syntax.tyInt Syntax.w16)) Row.off λ x. x
-
-  abbrev s59 : Typed.Asks T62 T63
-  s59 = Relend.k-sl-aggregate (Referent.rtF (Referent.fInt Syntax.w16)) (Relend.asMut (Referent.rtF (Referent.fInt Syntax.w16))) T62 33 34 10 (Syntax.tyRef Syntax.erased Syntax.mut (Syntax.tyInt
+  s38 = Relend.k-sl-aggregate (Referent.rtF (Referent.fInt Syntax.w16)) (Relend.asMut (Referent.rtF (Referent.fInt Syntax.w16))) T41 30 31 8 (Syntax.tyRef Syntax.erased Syntax.mut (Syntax.tyInt
       Syntax.w16)) (Syntax.tyRef Syntax.erased Syntax.mut (Syntax.tyInt Syntax.w16)) (λ x. x) (Scalar.oFld 3 (List._∷_ (Syntax.field 1) List.[]) (Syntax.tyInt Syntax.w64) 8 λ v. Shared.lenV (v .0))
 
-  abbrev s61 : Typed.Gives T63 T65
-  s61 = Relend.k-sl-relend (Element.type) T63 4 35 3 11 (Syntax.tyRef (Syntax.named 3) Syntax.mut Element.behind) (Syntax.tyRef Syntax.erased Syntax.mut Element.behind) Row.off λ x. x
+  abbrev s39 : Typed.Asks T42 T43
+  s39 = Scalar.k-op1 T42 Syntax.bitNot (Scalar.oAt 11 Syntax.tyBool (Row.valS Row.sBool)) 28 (Rows'.sc-here Row.sBool) (Row.sBool .of)
 
-  abbrev s62 : Typed.Asks T65 T66
-  s62 = Relend.k-sl-aggregate (Element.type) (Relend.asMut (Element.type)) T65 35 36 11 (Syntax.tyRef Syntax.erased Syntax.mut Element.behind) (Syntax.tyRef Syntax.erased Syntax.mut Element.behind) (λ
+  abbrev s40 : Typed.Both T43 T44
+  s40 = Call.callB ps·6 r·6 (claims· .12) (claims· .13) T43
+      (record { pos = 31; ty = Syntax.tyRef Syntax.erased Syntax.mut (Syntax.tyInt Syntax.w16); ref = λ x. x }, (Num.vAt 15 λ x. x, (Bool.bAt 28 λ x. x, tt))) 29 (List._∷_ 8 List.[]) Syntax.tyUnit
+
+  abbrev s41 : Typed.Mo T44 → Typed.Mo T45
+  s41 = Scalar.n-room T44 28 Syntax.tyBool
+
+  abbrev s42 : Typed.Mo T45 → Typed.Mo T46
+  s42 = Scalar.n-room T45 29 Syntax.tyUnit
+
+  abbrev s44 : Typed.Both T46 T48
+  s44 = Relend.k-back-sl (Referent.rtF (Referent.fInt Syntax.w16)) T46 31 3 2 8 (Syntax.tyRef (Syntax.named 2) Syntax.mut (Syntax.tyInt Syntax.w16)) (Syntax.tyRef Syntax.erased Syntax.mut
+      (Syntax.tyInt Syntax.w16)) Row.off (λ x. x) λ x. x
+
+  abbrev s45 : Typed.Gives T48 T49
+  s45 = Know.k-sl-known (Referent.fInt Syntax.w16) T48 3 2 (Syntax.tyRef (Syntax.named 2) Syntax.mut (Syntax.tyInt Syntax.w16)) Row.off 0 λ x. x
+
+  abbrev s47 : Typed.Both T49 T51
+  s47 = Call.callB ps·2 r·2 (claims· .4) (claims· .5) T49 (record { pos = 2; ty = Syntax.tyRef (Syntax.named 1) Syntax.imm (Syntax.tyInt Syntax.w8); ref = λ x. x }, (Num.vAt 18 λ x. x, tt)) 19
+      (List._∷_ 1 List.[]) (Syntax.tyInt Syntax.w32)
+
+  abbrev s49 : Typed.Gives T51 T53
+  s49 = Relend.k-sl-relend (Element.type) T51 4 32 3 9 (Syntax.tyRef (Syntax.named 3) Syntax.mut Element.behind) (Syntax.tyRef Syntax.erased Syntax.mut Element.behind) Row.off λ x. x
+
+  abbrev s50 : Typed.Asks T53 T54
+  s50 = Relend.k-sl-aggregate (Element.type) (Relend.asMut (Element.type)) T53 32 33 9 (Syntax.tyRef Syntax.erased Syntax.mut Element.behind) (Syntax.tyRef Syntax.erased Syntax.mut Element.behind) (λ
       x. x) (Scalar.oFld 4 (List._∷_ (Syntax.field 1) List.[]) (Syntax.tyInt Syntax.w64) 8 λ v. Shared.lenV (v .0))
 
-  abbrev s64 : Typed.Gives T66 T68
-  s64 = Relend.k-sl-relend (Referent.rtF (Referent.fInt Syntax.w16)) T66 5 37 4 12 (Syntax.tyRef (Syntax.named 4) Syntax.mut (Syntax.tyInt Syntax.w16)) (Syntax.tyRef Syntax.erased Syntax.mut
+  abbrev s51 : Typed.Both T54 T55
+  s51 = Call.callB ps·7 r·7 (claims· .14) (claims· .15) T54 (record { pos = 2; ty = Syntax.tyRef (Syntax.named 1) Syntax.imm (Syntax.tyInt Syntax.w8); ref = λ x. x }, (Num.vAt 18 λ x. x, tt)) 28
+      (List._∷_ 1 List.[]) Syntax.tyBool
+
+  abbrev s52 : Typed.Both T55 T56
+  s52 = Call.callB ps·8 r·8 (claims· .16) (claims· .17) T55
+      (record { pos = 33; ty = Syntax.tyRef Syntax.erased Syntax.mut Element.behind; ref = λ x. x }, (Num.vAt 13 λ x. x, (Num.vAt 19 λ x. x, (Bool.bAt 28 λ x. x, tt)))) 29 (List._∷_ 9 List.[])
+      Syntax.tyUnit
+
+  abbrev s53 : Typed.Mo T56 → Typed.Mo T57
+  s53 = Scalar.n-room T56 28 Syntax.tyBool
+
+  abbrev s54 : Typed.Mo T57 → Typed.Mo T58
+  s54 = Scalar.n-room T57 29 Syntax.tyUnit
+
+  abbrev s56 : Typed.Both T58 T60
+  s56 = Relend.k-back-sl (Element.type) T58 33 4 3 9 (Syntax.tyRef (Syntax.named 3) Syntax.mut Element.behind) (Syntax.tyRef Syntax.erased Syntax.mut Element.behind) Row.off (λ x. x) λ x. x
+
+  abbrev s59 : Typed.Gives T60 T63
+  s59 = Relend.k-sl-relend (Referent.rtF (Referent.fInt Syntax.w16)) T60 3 34 2 10 (Syntax.tyRef (Syntax.named 2) Syntax.mut (Syntax.tyInt Syntax.w16)) (Syntax.tyRef Syntax.erased Syntax.mut
       (Syntax.tyInt Syntax.w16)) Row.off λ x. x
 
-  abbrev s65 : Typed.Asks T68 T69
-  s65 = Relend.k-sl-aggregate (Referent.rtF (Referent.fInt Syntax.w16)) (Relend.asMut (Referent.rtF (Referent.fInt Syntax.w16))) T68 37 38 12 (Syntax.tyRef Syntax.erased Syntax.mut (Syntax.tyInt
+  abbrev s60 : Typed.Asks T63 T64
+  s60 = Relend.k-sl-aggregate (Referent.rtF (Referent.fInt Syntax.w16)) (Relend.asMut (Referent.rtF (Referent.fInt Syntax.w16))) T63 34 35 10 (Syntax.tyRef Syntax.erased Syntax.mut (Syntax.tyInt
+      Syntax.w16)) (Syntax.tyRef Syntax.erased Syntax.mut (Syntax.tyInt Syntax.w16)) (λ x. x) (Scalar.oFld 3 (List._∷_ (Syntax.field 1) List.[]) (Syntax.tyInt Syntax.w64) 8 λ v. Shared.lenV (v .0))
+
+  abbrev s62 : Typed.Gives T64 T66
+  s62 = Relend.k-sl-relend (Element.type) T64 4 36 3 11 (Syntax.tyRef (Syntax.named 3) Syntax.mut Element.behind) (Syntax.tyRef Syntax.erased Syntax.mut Element.behind) Row.off λ x. x
+
+  abbrev s63 : Typed.Asks T66 T67
+  s63 = Relend.k-sl-aggregate (Element.type) (Relend.asMut (Element.type)) T66 36 37 11 (Syntax.tyRef Syntax.erased Syntax.mut Element.behind) (Syntax.tyRef Syntax.erased Syntax.mut Element.behind) (λ
+      x. x) (Scalar.oFld 4 (List._∷_ (Syntax.field 1) List.[]) (Syntax.tyInt Syntax.w64) 8 λ v. Shared.lenV (v .0))
+
+  abbrev s65 : Typed.Gives T67 T69
+  s65 = Relend.k-sl-relend (Referent.rtF (Referent.fInt Syntax.w16)) T67 5 38 4 12 (Syntax.tyRef (Syntax.named 4) Syntax.mut (Syntax.tyInt Syntax.w16)) (Syntax.tyRef Syntax.erased Syntax.mut
+      (Syntax.tyInt Syntax.w16)) Row.off λ x. x
+
+  abbrev s66 : Typed.Asks T69 T70
+  s66 = Relend.k-sl-aggregate (Referent.rtF (Referent.fInt Syntax.w16)) (Relend.asMut (Referent.rtF (Referent.fInt Syntax.w16))) T69 38 39 12 (Syntax.tyRef Syntax.erased Syntax.mut (Syntax.tyInt
       Syntax.w16)) (Syntax.tyRef Syntax.erased Syntax.mut (Syntax.tyInt Syntax.w16)) (λ x. x) (Scalar.oFld 5 (List._∷_ (Syntax.field 1) List.[]) (Syntax.tyInt Syntax.w64) 8 λ v. Shared.lenV (v .0))
 
-  abbrev s66 : Typed.Both T69 T70
-  s66 = Call.callB ps·9 r·9 (claims· .18) (claims· .19) T69 (Num.vAt 12 λ x. x, (Num.vAt 18 λ x. x, tt)) 39 List.[] y1
-
   abbrev s67 : Typed.Both T70 T71
-  s67 = Call.callB ps·10 r·10 (claims· .20) (claims· .21) T70 (
+  s67 = Call.callB ps·9 r·9 (claims· .18) (claims· .19) T70 (record { pos = 12; st = List.[]; d = 0; at = λ x. x }, (Num.vAt 13 λ x. x, (Num.vAt 19 λ x. x, tt))) 40 List.[] y2
+
+  abbrev s68 : Typed.Both T71 T72
+  s68 = Call.callB ps·10 r·10 (claims· .20) (claims· .21) T71 (
     record { pos = 1; ty = Syntax.tyRef (Syntax.named 0) Syntax.imm (Syntax.tyInt Syntax.w8); ref = λ x. x },
     (
-      record { pos = 15; st = List.[]; d = 0; at = λ x. x },
+      record { pos = 16; st = List.[]; d = 0; at = λ x. x },
       (
-        record { pos = 34; ty = Syntax.tyRef Syntax.erased Syntax.mut (Syntax.tyInt Syntax.w16); ref = λ x. x },
+        record { pos = 35; ty = Syntax.tyRef Syntax.erased Syntax.mut (Syntax.tyInt Syntax.w16); ref = λ x. x },
         (
-          record { pos = 36; ty = Syntax.tyRef Syntax.erased Syntax.mut Element.behind; ref = λ x. x },
+          record { pos = 37; ty = Syntax.tyRef Syntax.erased Syntax.mut Element.behind; ref = λ x. x },
           (
-            record { pos = 38; ty = Syntax.tyRef Syntax.erased Syntax.mut (Syntax.tyInt Syntax.w16); ref = λ x. x },
+            record { pos = 39; ty = Syntax.tyRef Syntax.erased Syntax.mut (Syntax.tyInt Syntax.w16); ref = λ x. x },
             (
               record { pos = 6; st = List.[]; d = 0; at = λ x. x },
               (
-                record { pos = 39; st = List.[]; d = 0; at = λ x. x },
+                record { pos = 40; st = List.[]; d = 0; at = λ x. x },
                 (
                   record { pos = 7; ty = Syntax.tyRef (Syntax.named 5) Syntax.imm (Syntax.tyArray (Syntax.tyInt Syntax.w16) 768); ref = λ x. x },
-                  (record { pos = 8; st = List.[]; d = 0; at = λ x. x }, (record { pos = 9; st = List.[]; d = 0; at = λ x. x }, (Num.vAt 17 λ x. x, (Bool.bAt 11 λ x. x, tt)))),
+                  (record { pos = 8; st = List.[]; d = 0; at = λ x. x }, (record { pos = 9; st = List.[]; d = 0; at = λ x. x }, (Num.vAt 18 λ x. x, (Bool.bAt 11 λ x. x, tt)))),
                 ),
               ),
             ),
@@ -2163,247 +2250,250 @@ module _ (claims· : Claims) where
         ),
       ),
     ),
-  ) 19 (List._∷_ 0 (List._∷_ 10
+  ) 20 (List._∷_ 0 (List._∷_ 10
       (List._∷_ 11 (List._∷_ 12 (List._∷_ 5 List.[]))))) (Syntax.tyEnum (List._∷_ 98 (List._∷_ 108 (List._∷_ 111 (List._∷_ 99 (List._∷_ 107 (List._∷_ 58 (List._∷_ 58 (List._∷_ 76 (List._∷_ 105 (List._∷_
-      110 (List._∷_ 101 (List._∷_ 100 List.[])))))))))))) (Syntax.ttcons (Syntax.tcons y9 Syntax.tnil) (Syntax.ttcons Syntax.tnil Syntax.ttnil)))
+      110 (List._∷_ 101 (List._∷_ 100 List.[])))))))))))) (Syntax.ttcons (Syntax.tcons y10 Syntax.tnil) (Syntax.ttcons Syntax.tnil Syntax.ttnil)))
 
-  abbrev s68 : Typed.Mo T71 → Typed.Mo T73
-  s68 = Scalar.n-room T71 39 y1
+  abbrev s69 : Typed.Mo T72 → Typed.Mo T74
+  s69 = Scalar.n-room T72 40 y2
 
-  abbrev s70 : Typed.Both T73 T75
-  s70 = Relend.k-back-sl (Referent.rtF (Referent.fInt Syntax.w16)) T73 34 3 2 10 (Syntax.tyRef (Syntax.named 2) Syntax.mut (Syntax.tyInt Syntax.w16)) (Syntax.tyRef Syntax.erased Syntax.mut
+  abbrev s71 : Typed.Both T74 T76
+  s71 = Relend.k-back-sl (Referent.rtF (Referent.fInt Syntax.w16)) T74 35 3 2 10 (Syntax.tyRef (Syntax.named 2) Syntax.mut (Syntax.tyInt Syntax.w16)) (Syntax.tyRef Syntax.erased Syntax.mut
       (Syntax.tyInt Syntax.w16)) Row.off (λ x. x) λ x. x
 
-  abbrev s71 : Typed.Gives T75 T76
-  s71 = Know.k-sl-known (Referent.fInt Syntax.w16) T75 3 2 (Syntax.tyRef (Syntax.named 2) Syntax.mut (Syntax.tyInt Syntax.w16)) Row.off 0 λ x. x
+  abbrev s72 : Typed.Gives T76 T77
+  s72 = Know.k-sl-known (Referent.fInt Syntax.w16) T76 3 2 (Syntax.tyRef (Syntax.named 2) Syntax.mut (Syntax.tyInt Syntax.w16)) Row.off 0 λ x. x
 
-  abbrev s74 : Typed.Both T76 T79
-  s74 = Relend.k-back-sl (Element.type) T76 36 4 3 11 (Syntax.tyRef (Syntax.named 3) Syntax.mut Element.behind) (Syntax.tyRef Syntax.erased Syntax.mut Element.behind) Row.off (λ x. x) λ x. x
+  abbrev s75 : Typed.Both T77 T80
+  s75 = Relend.k-back-sl (Element.type) T77 37 4 3 11 (Syntax.tyRef (Syntax.named 3) Syntax.mut Element.behind) (Syntax.tyRef Syntax.erased Syntax.mut Element.behind) Row.off (λ x. x) λ x. x
 
-  abbrev s77 : Typed.Both T79 T82
-  s77 = Relend.k-back-sl (Referent.rtF (Referent.fInt Syntax.w16)) T79 38 5 4 12 (Syntax.tyRef (Syntax.named 4) Syntax.mut (Syntax.tyInt Syntax.w16)) (Syntax.tyRef Syntax.erased Syntax.mut
+  abbrev s78 : Typed.Both T80 T83
+  s78 = Relend.k-back-sl (Referent.rtF (Referent.fInt Syntax.w16)) T80 39 5 4 12 (Syntax.tyRef (Syntax.named 4) Syntax.mut (Syntax.tyInt Syntax.w16)) (Syntax.tyRef Syntax.erased Syntax.mut
       (Syntax.tyInt Syntax.w16)) Row.off (λ x. x) λ x. x
 
-  abbrev s78 : Typed.Gives T82 T83
-  s78 = Know.k-sl-known (Referent.fInt Syntax.w16) T82 5 4 (Syntax.tyRef (Syntax.named 4) Syntax.mut (Syntax.tyInt Syntax.w16)) Row.off 0 λ x. x
+  abbrev s79 : Typed.Gives T83 T84
+  s79 = Know.k-sl-known (Referent.fInt Syntax.w16) T83 5 4 (Syntax.tyRef (Syntax.named 4) Syntax.mut (Syntax.tyInt Syntax.w16)) Row.off 0 λ x. x
 
-  abbrev s80 : Typed.Both T83 T85
-  s80 = Known.k-enum-known Lined.enum 0 T83 19 λ x. x
+  abbrev s81 : Typed.Both T84 T86
+  s81 = Known.k-enum-known Lined.enum 0 T84 20 λ x. x
 
-  abbrev s81 : Typed.Gives T85 T86
-  s81 = Known.k-known-told Lined.enum Laws'.the-laws 0 T85 19 λ x. x
-
-  abbrev s82 : Typed.Mo T86 → Typed.Mo T87
-  s82 = Scalar.n-room T86 15 y9
+  abbrev s82 : Typed.Gives T86 T87
+  s82 = Known.k-known-told Lined.enum Laws'.the-laws 0 T86 20 λ x. x
 
   abbrev s83 : Typed.Mo T87 → Typed.Mo T88
-  s83 = Make'.n-make (Declared'.row Place.the-type) T87 20 λ m. m .1 .1 .1 .1 .1 .1 .1 .1 .1 .1 .1 .1 .1 .1 .1 .1 .1 .1 .1 .0 .0
+  s83 = Scalar.n-room T87 16 y10
 
   abbrev s84 : Typed.Mo T88 → Typed.Mo T89
-  s84 = Scalar.n-room T88 19 (Syntax.tyEnum (List._∷_ 98 (List._∷_ 108 (List._∷_ 111 (List._∷_ 99 (List._∷_ 107 (List._∷_ 58 (List._∷_ 58 (List._∷_ 76 (List._∷_ 105 (List._∷_ 110 (List._∷_ 101
-      (List._∷_ 100 List.[])))))))))))) (Syntax.ttcons (Syntax.tcons y9 Syntax.tnil) (Syntax.ttcons Syntax.tnil Syntax.ttnil)))
+  s84 = Make'.n-make (Declared'.row Place.the-type) T88 21 λ m. m .1 .1 .1 .1 .1 .1 .1 .1 .1 .1 .1 .1 .1 .1 .1 .1 .1 .1 .1 .1 .0 .0
 
-  abbrev s85 : Typed.Both T83 T90
-  s85 = Known.k-enum-told Lined.enum 1 T83 19 λ x. x
+  abbrev s85 : Typed.Mo T89 → Typed.Mo T90
+  s85 = Scalar.n-room T89 20 (Syntax.tyEnum (List._∷_ 98 (List._∷_ 108 (List._∷_ 111 (List._∷_ 99 (List._∷_ 107 (List._∷_ 58 (List._∷_ 58 (List._∷_ 76 (List._∷_ 105 (List._∷_ 110 (List._∷_ 101
+      (List._∷_ 100 List.[])))))))))))) (Syntax.ttcons (Syntax.tcons y10 Syntax.tnil) (Syntax.ttcons Syntax.tnil Syntax.ttnil)))
 
-  abbrev s86 : Typed.Mo T90 → Typed.Mo T91
-  s86 = Scalar.n-room T90 6 y7
+  abbrev s86 : Typed.Both T84 T91
+  s86 = Known.k-enum-told Lined.enum 1 T84 20 λ x. x
 
   abbrev s87 : Typed.Mo T91 → Typed.Mo T92
-  s87 = Scalar.n-room T91 8 (Syntax.tyArray (Syntax.tyInt Syntax.w8) 36)
+  s87 = Scalar.n-room T91 6 y8
 
   abbrev s88 : Typed.Mo T92 → Typed.Mo T93
-  s88 = Scalar.n-room T92 16 y8
+  s88 = Scalar.n-room T92 8 (Syntax.tyArray (Syntax.tyInt Syntax.w8) 36)
 
   abbrev s89 : Typed.Mo T93 → Typed.Mo T94
-  s89 = Scalar.n-room T93 19 (Syntax.tyEnum (List._∷_ 98 (List._∷_ 108 (List._∷_ 111 (List._∷_ 99 (List._∷_ 107 (List._∷_ 58 (List._∷_ 58 (List._∷_ 76 (List._∷_ 105 (List._∷_ 110 (List._∷_ 101
-      (List._∷_ 100 List.[])))))))))))) (Syntax.ttcons (Syntax.tcons y9 Syntax.tnil) (Syntax.ttcons Syntax.tnil Syntax.ttnil)))
+  s89 = Scalar.n-room T93 12 y12
 
-  abbrev s91 : Typed.Gives T94 T96
-  s91 = Relend.k-sl-relend (Referent.rtF (Referent.fInt Syntax.w16)) T94 5 41 4 13 (Syntax.tyRef (Syntax.named 4) Syntax.mut (Syntax.tyInt Syntax.w16)) (Syntax.tyRef Syntax.erased Syntax.mut
+  abbrev s90 : Typed.Mo T94 → Typed.Mo T95
+  s90 = Scalar.n-room T94 17 y9
+
+  abbrev s91 : Typed.Mo T95 → Typed.Mo T96
+  s91 = Scalar.n-room T95 20 (Syntax.tyEnum (List._∷_ 98 (List._∷_ 108 (List._∷_ 111 (List._∷_ 99 (List._∷_ 107 (List._∷_ 58 (List._∷_ 58 (List._∷_ 76 (List._∷_ 105 (List._∷_ 110 (List._∷_ 101
+      (List._∷_ 100 List.[])))))))))))) (Syntax.ttcons (Syntax.tcons y10 Syntax.tnil) (Syntax.ttcons Syntax.tnil Syntax.ttnil)))
+
+  abbrev s93 : Typed.Gives T96 T98
+  s93 = Relend.k-sl-relend (Referent.rtF (Referent.fInt Syntax.w16)) T96 5 42 4 13 (Syntax.tyRef (Syntax.named 4) Syntax.mut (Syntax.tyInt Syntax.w16)) (Syntax.tyRef Syntax.erased Syntax.mut
       (Syntax.tyInt Syntax.w16)) Row.off λ x. x
 
-  abbrev s92 : Typed.Asks T96 T97
-  s92 = Relend.k-sl-aggregate (Referent.rtF (Referent.fInt Syntax.w16)) (Relend.asMut (Referent.rtF (Referent.fInt Syntax.w16))) T96 41 42 13 (Syntax.tyRef Syntax.erased Syntax.mut (Syntax.tyInt
+  abbrev s94 : Typed.Asks T98 T99
+  s94 = Relend.k-sl-aggregate (Referent.rtF (Referent.fInt Syntax.w16)) (Relend.asMut (Referent.rtF (Referent.fInt Syntax.w16))) T98 42 43 13 (Syntax.tyRef Syntax.erased Syntax.mut (Syntax.tyInt
       Syntax.w16)) (Syntax.tyRef Syntax.erased Syntax.mut (Syntax.tyInt Syntax.w16)) (λ x. x) (Scalar.oFld 5 (List._∷_ (Syntax.field 1) List.[]) (Syntax.tyInt Syntax.w64) 8 λ v. Shared.lenV (v .0))
 
-  abbrev s93 : Typed.Both T97 T98
-  s93 = Call.callB ps·11 r·11 (claims· .22) (claims· .23) T97 (
-    record { pos = 42; ty = Syntax.tyRef Syntax.erased Syntax.mut (Syntax.tyInt Syntax.w16); ref = λ x. x },
-    (record { pos = 9; st = List.[]; d = 0; at = λ x. x }, (Num.vAt 17 λ x. x, (Bool.bAt 11 λ x. x, tt))),
-  ) 40 (List._∷_ 13 List.[]) Syntax.tyUnit
+  abbrev s95 : Typed.Both T99 T100
+  s95 = Call.callB ps·11 r·11 (claims· .22) (claims· .23) T99 (
+    record { pos = 43; ty = Syntax.tyRef Syntax.erased Syntax.mut (Syntax.tyInt Syntax.w16); ref = λ x. x },
+    (record { pos = 9; st = List.[]; d = 0; at = λ x. x }, (Num.vAt 18 λ x. x, (Bool.bAt 11 λ x. x, tt))),
+  ) 41 (List._∷_ 13 List.[]) Syntax.tyUnit
 
-  abbrev s94 : Typed.Mo T98 → Typed.Mo T99
-  s94 = Scalar.n-room T98 9 y0
+  abbrev s96 : Typed.Mo T100 → Typed.Mo T101
+  s96 = Scalar.n-room T100 9 y0
 
-  abbrev s95 : Typed.Mo T99 → Typed.Mo T100
-  s95 = Scalar.n-room T99 40 Syntax.tyUnit
+  abbrev s97 : Typed.Mo T101 → Typed.Mo T102
+  s97 = Scalar.n-room T101 41 Syntax.tyUnit
 
-  abbrev s97 : Typed.Both T100 T102
-  s97 = Relend.k-back-sl (Referent.rtF (Referent.fInt Syntax.w16)) T100 42 5 4 13 (Syntax.tyRef (Syntax.named 4) Syntax.mut (Syntax.tyInt Syntax.w16)) (Syntax.tyRef Syntax.erased Syntax.mut
+  abbrev s99 : Typed.Both T102 T104
+  s99 = Relend.k-back-sl (Referent.rtF (Referent.fInt Syntax.w16)) T102 43 5 4 13 (Syntax.tyRef (Syntax.named 4) Syntax.mut (Syntax.tyInt Syntax.w16)) (Syntax.tyRef Syntax.erased Syntax.mut
       (Syntax.tyInt Syntax.w16)) Row.off (λ x. x) λ x. x
 
-  abbrev s98 : Typed.Gives T102 T103
-  s98 = Know.k-sl-known (Referent.fInt Syntax.w16) T102 5 4 (Syntax.tyRef (Syntax.named 4) Syntax.mut (Syntax.tyInt Syntax.w16)) Row.off 0 λ x. x
+  abbrev s100 : Typed.Gives T104 T105
+  s100 = Know.k-sl-known (Referent.fInt Syntax.w16) T104 5 4 (Syntax.tyRef (Syntax.named 4) Syntax.mut (Syntax.tyInt Syntax.w16)) Row.off 0 λ x. x
 
-  abbrev s100 : Typed.Both T103 T105
-  s100 = Call.callB ps·12 r·12 (claims· .24) (claims· .25) T103 (record { pos = 15; st = List.[]; d = 0; at = λ x. x }, tt) 43 List.[] y2
-
-  abbrev s101 : Typed.Mo T105 → Typed.Mo T106
-  s101 = Scalar.n-room T105 15 y9
-
-  abbrev s102 : Typed.Mo T106 → Typed.Mo T107
-  s102 = Make.n-enum-make Walked.the-type T106 0 λ m. Walked.enum .make (Logic.inr (Logic.inl (
-    m .1 .1 .1 .1 .1 .1 .1 .1 .1 .1 .1 .1 .1 .1 .1 .1 .1 .0,
-    (m .1 .1 .1 .1 .1 .1 .1 .1 .1 .1 .1 .1 .1 .1 .1 .1 .1 .1 .1 .1 .1 .1 .1 .1 .1 .1 .1 .1 .1 .1 .1 .1 .1 .1 .1 .1 .1 .1 .1 .1 .1 .1 .1 .0, tt),
-  )))
+  abbrev s102 : Typed.Both T105 T107
+  s102 = Call.callB ps·12 r·12 (claims· .24) (claims· .25) T105 (record { pos = 16; st = List.[]; d = 0; at = λ x. x }, tt) 44 List.[] y3
 
   abbrev s103 : Typed.Mo T107 → Typed.Mo T108
-  s103 = Scalar.n-room T107 43 y2
+  s103 = Scalar.n-room T107 16 y10
 
   abbrev s104 : Typed.Mo T108 → Typed.Mo T109
-  s104 = Scalar.n-room T108 10 (Syntax.tyInt Syntax.w64)
+  s104 = Make.n-enum-make Walked.the-type T108 0 λ m. Walked.enum .make (Logic.inr (Logic.inl (
+    m .1 .1 .1 .1 .1 .1 .1 .1 .1 .1 .1 .1 .1 .1 .1 .1 .1 .1 .0,
+    (m .1 .1 .1 .1 .1 .1 .1 .1 .1 .1 .1 .1 .1 .1 .1 .1 .1 .1 .1 .1 .1 .1 .1 .1 .1 .1 .1 .1 .1 .1 .1 .1 .1 .1 .1 .1 .1 .1 .1 .1 .1 .1 .1 .1 .0, tt),
+  )))
 
   abbrev s105 : Typed.Mo T109 → Typed.Mo T110
-  s105 = Scalar.n-room T109 11 Syntax.tyBool
+  s105 = Scalar.n-room T109 44 y3
 
   abbrev s106 : Typed.Mo T110 → Typed.Mo T111
-  s106 = Scalar.n-room T110 12 (Syntax.tyInt Syntax.w32)
+  s106 = Scalar.n-room T110 10 (Syntax.tyInt Syntax.w64)
 
   abbrev s107 : Typed.Mo T111 → Typed.Mo T112
-  s107 = Scalar.n-room T111 13 Syntax.tyBool
+  s107 = Scalar.n-room T111 11 Syntax.tyBool
 
   abbrev s108 : Typed.Mo T112 → Typed.Mo T113
-  s108 = Scalar.n-room T112 14 (Syntax.tyInt Syntax.w64)
+  s108 = Scalar.n-room T112 13 (Syntax.tyInt Syntax.w32)
 
   abbrev s109 : Typed.Mo T113 → Typed.Mo T114
-  s109 = Scalar.n-room T113 17 (Syntax.tyInt Syntax.w64)
+  s109 = Scalar.n-room T113 14 Syntax.tyBool
 
   abbrev s110 : Typed.Mo T114 → Typed.Mo T115
-  s110 = Scalar.n-room T114 18 (Syntax.tyInt Syntax.w32)
+  s110 = Scalar.n-room T114 15 (Syntax.tyInt Syntax.w64)
 
-  abbrev s111 : Typed.Mo T72 → Typed.Mo T116
-  s111 = LocalCopy.n-val-copy T72 20 15 (Declared'.row Place.the-type) (Rows'.whole (Declared'.row Place.the-type)) (Rows'.whole (Declared'.row Place.the-type)) (λ x. x) (λ x. x) λ x. x
+  abbrev s111 : Typed.Mo T115 → Typed.Mo T116
+  s111 = Scalar.n-room T115 18 (Syntax.tyInt Syntax.w64)
 
   abbrev s112 : Typed.Mo T116 → Typed.Mo T117
-  s112 = Scalar.n-room T116 20 y9
+  s112 = Scalar.n-room T116 19 (Syntax.tyInt Syntax.w32)
 
-  abbrev s113 : Typed.Both T117 T118
-  s113 = Call.callB ps·12 r·12 (claims· .24) (claims· .25) T117 (record { pos = 15; st = List.[]; d = 0; at = λ x. x }, tt) 44 List.[] y2
+  abbrev s113 : Typed.Mo T73 → Typed.Mo T118
+  s113 = LocalCopy.n-val-copy T73 21 16 (Declared'.row Place.the-type) (Rows'.whole (Declared'.row Place.the-type)) (Rows'.whole (Declared'.row Place.the-type)) (λ x. x) (λ x. x) λ x. x
 
-  abbrev s114 : Typed.Both T118 T119
-  s114 = Call.callB ps·13 r·13 (claims· .26) (claims· .27) T118 (
-    record { pos = 16; st = List.[]; d = 0; at = λ x. x },
-    (Num.vAt 17 λ x. x, (Bool.bFld 15 (List._∷_ (Syntax.field 1) List.[]) 8 λ x. Place.struct .as-values x .1 .0, (record { pos = 44; st = List.[]; d = 0; at = λ x. x }, tt))),
-  ) 16 List.[] y8
+  abbrev s114 : Typed.Mo T118 → Typed.Mo T119
+  s114 = Scalar.n-room T118 21 y10
 
-  abbrev s115 : Typed.Mo T119 → Typed.Mo T120
-  s115 = Scalar.n-room T119 44 y2
+  abbrev s115 : Typed.Both T119 T120
+  s115 = Call.callB ps·12 r·12 (claims· .24) (claims· .25) T119 (record { pos = 16; st = List.[]; d = 0; at = λ x. x }, tt) 45 List.[] y3
 
-  abbrev s117 : Typed.Gives T120 T122
-  s117 = Reshare.k-sl-reshare (Referent.rtF (Referent.fInt Syntax.w16)) T120 3 45 2 14 (Syntax.tyRef (Syntax.named 2) Syntax.mut (Syntax.tyInt Syntax.w16)) (Syntax.tyRef Syntax.erased Syntax.imm
+  abbrev s116 : Typed.Both T120 T121
+  s116 = Call.callB ps·13 r·13 (claims· .26) (claims· .27) T120 (
+    record { pos = 17; st = List.[]; d = 0; at = λ x. x },
+    (Num.vAt 18 λ x. x, (Bool.bFld 16 (List._∷_ (Syntax.field 1) List.[]) 8 λ x. Place.struct .as-values x .1 .0, (record { pos = 45; st = List.[]; d = 0; at = λ x. x }, tt))),
+  ) 17 List.[] y9
+
+  abbrev s117 : Typed.Mo T121 → Typed.Mo T122
+  s117 = Scalar.n-room T121 45 y3
+
+  abbrev s119 : Typed.Gives T122 T124
+  s119 = Reshare.k-sl-reshare (Referent.rtF (Referent.fInt Syntax.w16)) T122 3 46 2 14 (Syntax.tyRef (Syntax.named 2) Syntax.mut (Syntax.tyInt Syntax.w16)) (Syntax.tyRef Syntax.erased Syntax.imm
       (Syntax.tyInt Syntax.w16)) Row.off λ x. x
 
-  abbrev s118 : Typed.Asks T122 T123
-  s118 = Relend.k-sl-aggregate (Referent.rtF (Referent.fInt Syntax.w16)) (Relend.asShr (Referent.rtF (Referent.fInt Syntax.w16))) T122 45 46 14 (Syntax.tyRef Syntax.erased Syntax.imm (Syntax.tyInt
+  abbrev s120 : Typed.Asks T124 T125
+  s120 = Relend.k-sl-aggregate (Referent.rtF (Referent.fInt Syntax.w16)) (Relend.asShr (Referent.rtF (Referent.fInt Syntax.w16))) T124 46 47 14 (Syntax.tyRef Syntax.erased Syntax.imm (Syntax.tyInt
       Syntax.w16)) (Syntax.tyRef Syntax.erased Syntax.imm (Syntax.tyInt Syntax.w16)) (λ x. x) (Scalar.oFld 3 (List._∷_ (Syntax.field 1) List.[]) (Syntax.tyInt Syntax.w64) 8 λ v. Shared.lenV (v .0))
 
-  abbrev s120 : Typed.Gives T123 T125
-  s120 = Relend.k-sl-relend (Referent.rtF (Referent.fInt Syntax.w16)) T123 5 47 4 15 (Syntax.tyRef (Syntax.named 4) Syntax.mut (Syntax.tyInt Syntax.w16)) (Syntax.tyRef Syntax.erased Syntax.mut
+  abbrev s122 : Typed.Gives T125 T127
+  s122 = Relend.k-sl-relend (Referent.rtF (Referent.fInt Syntax.w16)) T125 5 48 4 15 (Syntax.tyRef (Syntax.named 4) Syntax.mut (Syntax.tyInt Syntax.w16)) (Syntax.tyRef Syntax.erased Syntax.mut
       (Syntax.tyInt Syntax.w16)) Row.off λ x. x
 
-  abbrev s121 : Typed.Asks T125 T126
-  s121 = Relend.k-sl-aggregate (Referent.rtF (Referent.fInt Syntax.w16)) (Relend.asMut (Referent.rtF (Referent.fInt Syntax.w16))) T125 47 48 15 (Syntax.tyRef Syntax.erased Syntax.mut (Syntax.tyInt
+  abbrev s123 : Typed.Asks T127 T128
+  s123 = Relend.k-sl-aggregate (Referent.rtF (Referent.fInt Syntax.w16)) (Relend.asMut (Referent.rtF (Referent.fInt Syntax.w16))) T127 48 49 15 (Syntax.tyRef Syntax.erased Syntax.mut (Syntax.tyInt
       Syntax.w16)) (Syntax.tyRef Syntax.erased Syntax.mut (Syntax.tyInt Syntax.w16)) (λ x. x) (Scalar.oFld 5 (List._∷_ (Syntax.field 1) List.[]) (Syntax.tyInt Syntax.w64) 8 λ v. Shared.lenV (v .0))
 
-  abbrev s122 : Typed.Asks T126 T127
-  s122 = Scalar.k-op1 T126 Syntax.bitNot (Scalar.oAt 11 Syntax.tyBool (Row.valS Row.sBool)) 27 (Rows'.sc-here Row.sBool) (Row.sBool .of)
+  abbrev s124 : Typed.Asks T128 T129
+  s124 = Scalar.k-op1 T128 Syntax.bitNot (Scalar.oAt 11 Syntax.tyBool (Row.valS Row.sBool)) 28 (Rows'.sc-here Row.sBool) (Row.sBool .of)
 
-  abbrev s123 : Typed.Both T127 T128
-  s123 = Call.callB ps·14 r·14 (claims· .28) (claims· .29) T127 (
-    record { pos = 46; ty = Syntax.tyRef Syntax.erased Syntax.imm (Syntax.tyInt Syntax.w16); ref = λ x. x },
+  abbrev s125 : Typed.Both T129 T130
+  s125 = Call.callB ps·14 r·14 (claims· .28) (claims· .29) T129 (
+    record { pos = 47; ty = Syntax.tyRef Syntax.erased Syntax.imm (Syntax.tyInt Syntax.w16); ref = λ x. x },
     (
-      record { pos = 48; ty = Syntax.tyRef Syntax.erased Syntax.mut (Syntax.tyInt Syntax.w16); ref = λ x. x },
+      record { pos = 49; ty = Syntax.tyRef Syntax.erased Syntax.mut (Syntax.tyInt Syntax.w16); ref = λ x. x },
       (
-        Num.vAt 14 λ x. x,
+        Num.vAt 15 λ x. x,
         (
-          Bool.bAt 13 λ x. x,
+          Bool.bAt 14 λ x. x,
           (
             record { pos = 7; ty = Syntax.tyRef (Syntax.named 5) Syntax.imm (Syntax.tyArray (Syntax.tyInt Syntax.w16) 768); ref = λ x. x },
-            (record { pos = 8; st = List.[]; d = 0; at = λ x. x }, (record { pos = 9; st = List.[]; d = 0; at = λ x. x }, (Num.vAt 17 λ x. x, (Bool.bAt 27 λ x. x, tt)))),
+            (record { pos = 8; st = List.[]; d = 0; at = λ x. x }, (record { pos = 9; st = List.[]; d = 0; at = λ x. x }, (Num.vAt 18 λ x. x, (Bool.bAt 28 λ x. x, tt)))),
           ),
         ),
       ),
     ),
-  ) 28 (List._∷_ 14 (List._∷_ 15
+  ) 29 (List._∷_ 14 (List._∷_ 15
       (List._∷_ 5 List.[]))) Syntax.tyUnit
 
-  abbrev s124 : Typed.Mo T128 → Typed.Mo T129
-  s124 = Scalar.n-room T128 46 y3
-
-  abbrev s125 : Typed.Mo T129 → Typed.Mo T130
-  s125 = Scalar.n-room T129 27 Syntax.tyBool
-
   abbrev s126 : Typed.Mo T130 → Typed.Mo T131
-  s126 = Scalar.n-room T130 28 Syntax.tyUnit
+  s126 = Scalar.n-room T130 47 y4
 
-  abbrev s128 : Typed.Mo T131 → Typed.Mo T133
-  s128 = Reshare.n-back-sl-shr (Referent.rtF (Referent.fInt Syntax.w16)) T131 3 2 14 (Syntax.tyRef (Syntax.named 2) Syntax.mut (Syntax.tyInt Syntax.w16)) Row.off λ x. x
+  abbrev s127 : Typed.Mo T131 → Typed.Mo T132
+  s127 = Scalar.n-room T131 28 Syntax.tyBool
 
-  abbrev s131 : Typed.Both T133 T136
-  s131 = Relend.k-back-sl (Referent.rtF (Referent.fInt Syntax.w16)) T133 48 5 4 15 (Syntax.tyRef (Syntax.named 4) Syntax.mut (Syntax.tyInt Syntax.w16)) (Syntax.tyRef Syntax.erased Syntax.mut
+  abbrev s128 : Typed.Mo T132 → Typed.Mo T133
+  s128 = Scalar.n-room T132 29 Syntax.tyUnit
+
+  abbrev s130 : Typed.Mo T133 → Typed.Mo T135
+  s130 = Reshare.n-back-sl-shr (Referent.rtF (Referent.fInt Syntax.w16)) T133 3 2 14 (Syntax.tyRef (Syntax.named 2) Syntax.mut (Syntax.tyInt Syntax.w16)) Row.off λ x. x
+
+  abbrev s133 : Typed.Both T135 T138
+  s133 = Relend.k-back-sl (Referent.rtF (Referent.fInt Syntax.w16)) T135 49 5 4 15 (Syntax.tyRef (Syntax.named 4) Syntax.mut (Syntax.tyInt Syntax.w16)) (Syntax.tyRef Syntax.erased Syntax.mut
       (Syntax.tyInt Syntax.w16)) Row.off (λ x. x) λ x. x
 
-  abbrev s132 : Typed.Gives T136 T137
-  s132 = Know.k-sl-known (Referent.fInt Syntax.w16) T136 5 4 (Syntax.tyRef (Syntax.named 4) Syntax.mut (Syntax.tyInt Syntax.w16)) Row.off 0 λ x. x
+  abbrev s134 : Typed.Gives T138 T139
+  s134 = Know.k-sl-known (Referent.fInt Syntax.w16) T138 5 4 (Syntax.tyRef (Syntax.named 4) Syntax.mut (Syntax.tyInt Syntax.w16)) Row.off 0 λ x. x
 
-  abbrev s134 : Typed.Asks T137 T139
-  s134 = Scalar.k-op2 T137 (Syntax.add Syntax.unsigned) (Scalar.oAt 17 (Syntax.tyInt Syntax.w64) (Row.valS (Row.sInt Syntax.w64))) (Scalar.oInt Syntax.w64 1) 17 (Rows'.sc-here (Row.sInt Syntax.w64))
+  abbrev s136 : Typed.Asks T139 T141
+  s136 = Scalar.k-op2 T139 (Syntax.add Syntax.unsigned) (Scalar.oAt 18 (Syntax.tyInt Syntax.w64) (Row.valS (Row.sInt Syntax.w64))) (Scalar.oInt Syntax.w64 1) 18 (Rows'.sc-here (Row.sInt Syntax.w64))
       (Row.sInt Syntax.w64 .of)
 
-  abbrev s135 : Typed.Mo T139 → Typed.Mo T140
-  s135 = Scalar.n-room T139 18 (Syntax.tyInt Syntax.w32)
-
-  abbrev s136 : Typed.Both T31 T141
-  s136 = Call.callB ps·12 r·12 (claims· .24) (claims· .25) T31 (record { pos = 15; st = List.[]; d = 0; at = λ x. x }, tt) 49 List.[] y2
-
   abbrev s137 : Typed.Mo T141 → Typed.Mo T142
-  s137 = Scalar.n-room T141 15 y9
+  s137 = Scalar.n-room T141 19 (Syntax.tyInt Syntax.w32)
 
-  abbrev s138 : Typed.Mo T142 → Typed.Mo T143
-  s138 = Make.n-enum-make Walked.the-type T142 0 λ m. Walked.enum .make (Logic.inl (
-    m .1 .1 .1 .1 .1 .1 .1 .1 .1 .1 .1 .1 .1 .1 .1 .1 .1 .1 .1 .1 .1 .1 .1 .1 .1 .1 .1 .1 .1 .1 .1 .1 .1 .1 .1 .1 .1 .1 .1 .1 .1 .1 .1 .1 .1 .1 .1 .1 .1 .0,
-    (m .1 .1 .1 .1 .1 .1 .1 .1 .1 .1 .1 .1 .1 .1 .1 .1 .0, tt),
-  ))
+  abbrev s138 : Typed.Both T31 T143
+  s138 = Call.callB ps·12 r·12 (claims· .24) (claims· .25) T31 (record { pos = 16; st = List.[]; d = 0; at = λ x. x }, tt) 50 List.[] y3
 
   abbrev s139 : Typed.Mo T143 → Typed.Mo T144
-  s139 = Scalar.n-room T143 12 (Syntax.tyInt Syntax.w32)
+  s139 = Scalar.n-room T143 16 y10
 
   abbrev s140 : Typed.Mo T144 → Typed.Mo T145
-  s140 = Scalar.n-room T144 13 Syntax.tyBool
+  s140 = Make.n-enum-make Walked.the-type T144 0 λ m. Walked.enum .make (Logic.inl (
+    m .1 .1 .1 .1 .1 .1 .1 .1 .1 .1 .1 .1 .1 .1 .1 .1 .1 .1 .1 .1 .1 .1 .1 .1 .1 .1 .1 .1 .1 .1 .1 .1 .1 .1 .1 .1 .1 .1 .1 .1 .1 .1 .1 .1 .1 .1 .1 .1 .1 .1 .0,
+    (m .1 .1 .1 .1 .1 .1 .1 .1 .1 .1 .1 .1 .1 .1 .1 .1 .1 .0, tt),
+  ))
 
   abbrev s141 : Typed.Mo T145 → Typed.Mo T146
-  s141 = Scalar.n-room T145 14 (Syntax.tyInt Syntax.w64)
+  s141 = Scalar.n-room T145 13 (Syntax.tyInt Syntax.w32)
 
   abbrev s142 : Typed.Mo T146 → Typed.Mo T147
-  s142 = Scalar.n-room T146 16 y8
+  s142 = Scalar.n-room T146 14 Syntax.tyBool
 
   abbrev s143 : Typed.Mo T147 → Typed.Mo T148
-  s143 = Scalar.n-room T147 17 (Syntax.tyInt Syntax.w64)
+  s143 = Scalar.n-room T147 15 (Syntax.tyInt Syntax.w64)
 
   abbrev s144 : Typed.Mo T148 → Typed.Mo T149
-  s144 = Scalar.n-room T148 49 y2
+  s144 = Scalar.n-room T148 17 y9
 
   abbrev s145 : Typed.Mo T149 → Typed.Mo T150
-  s145 = Scalar.n-room T149 10 (Syntax.tyInt Syntax.w64)
+  s145 = Scalar.n-room T149 18 (Syntax.tyInt Syntax.w64)
 
   abbrev s146 : Typed.Mo T150 → Typed.Mo T151
-  s146 = Scalar.n-room T150 11 Syntax.tyBool
+  s146 = Scalar.n-room T150 50 y3
+
+  abbrev s147 : Typed.Mo T151 → Typed.Mo T152
+  s147 = Scalar.n-room T151 10 (Syntax.tyInt Syntax.w64)
+
+  abbrev s148 : Typed.Mo T152 → Typed.Mo T153
+  s148 = Scalar.n-room T152 11 Syntax.tyBool
 
   abbrev put0 : List.List (Referent.rtF (Referent.fInt Syntax.w16) .Denot) × List.List (Element.type .Denot) × List.List (Referent.rtF (Referent.fInt Syntax.w16) .Denot) × Rows'.whole (Declared'.row
       Place.the-type) .Mod × Rows'.whole (Declared'.row TightLines.the-type) .Mod × Rows'.sc-here (Row.sInt Syntax.w64) .Mod → Typed.Mo T30 → Typed.Mo T30
-  put0 = λ vs u. Row.set 17 (17, Rows'.sc-here (Row.sInt Syntax.w64)) (vs .5) (T30 .locals) (Row.set 16 (16, Rows'.whole (Declared'.row TightLines.the-type)) (vs .4) (T30 .locals) (Row.set 15
-      (15, Rows'.whole (Declared'.row Place.the-type)) (vs .3) (T30 .locals) (Row.set 5
+  put0 = λ vs u. Row.set 18 (18, Rows'.sc-here (Row.sInt Syntax.w64)) (vs .5) (T30 .locals) (Row.set 17 (17, Rows'.whole (Declared'.row TightLines.the-type)) (vs .4) (T30 .locals) (Row.set 16
+      (16, Rows'.whole (Declared'.row Place.the-type)) (vs .3) (T30 .locals) (Row.set 5
       (5, Mut.mslice (Referent.rtF (Referent.fInt Syntax.w16)) (Syntax.tyRef (Syntax.named 4) Syntax.mut (Syntax.tyInt Syntax.w16)) 4) record
       { ptr = Row.get 5 (T30 .locals) u .ptr; name = Row.get 5 (T30 .locals) u .name; now = vs .2 } (T30 .locals) (Row.set 4
       (4, Mut.mslice (Element.type) (Syntax.tyRef (Syntax.named 3) Syntax.mut Element.behind) 3) record { ptr = Row.get 4 (T30 .locals) u .ptr; name = Row.get 4 (T30 .locals) u .name; now = vs .1 } (T30
@@ -2414,11 +2504,11 @@ module _ (claims· : Claims) where
     module _ (M : Type 1) where
       abbrev pub Closed : Type 2
       Closed = (𝓤 : URA.URA M) (H : Wp.Heap 𝓤) (A : Atoms.Atoms 𝓤) (W : Kit.Given 𝓤 H A) (𝓣 : Wp.Tables 𝓤 H) (known0 : Plain.Known 𝓤 H A W 𝓣 0 ps·0 r·0 (claims· .0) (claims· .1) "map::width") (known1
-          : Plain.Known 𝓤 H A W 𝓣 1 ps·1 r·1 (claims· .2) (claims· .3) "lines::clear") (known2 : Plain.Known 𝓤 H A W 𝓣 1 ps·2 r·2 (claims· .4) (claims· .5) "block::reading::base_of") (known3 : Plain.Known
-          𝓤 H A W 𝓣 1 ps·3 r·3 (claims· .6) (claims· .7) "block::records::start_records") (known4 : Plain.Known 𝓤 H A W 𝓣 0 ps·4 r·4 (claims· .8) (claims· .9) "block::reading::start_place") (known5 :
+          : Plain.Known 𝓤 H A W 𝓣 1 ps·1 r·1 (claims· .2) (claims· .3) "lines::clear") (known2 : Plain.Known 𝓤 H A W 𝓣 1 ps·2 r·2 (claims· .4) (claims· .5) "cameras::base_of") (known3 : Plain.Known 𝓤 H A
+          W 𝓣 1 ps·3 r·3 (claims· .6) (claims· .7) "block::records::start_records") (known4 : Plain.Known 𝓤 H A W 𝓣 0 ps·4 r·4 (claims· .8) (claims· .9) "block::reading::start_place") (known5 :
           Plain.Known 𝓤 H A W 𝓣 0 ps·5 r·5 (claims· .10) (claims· .11) "block::reading::no_lines") (known6 : Plain.Known 𝓤 H A W 𝓣 1 ps·6 r·6 (claims· .12) (claims· .13) "lines::turn_if") (known7 :
           Plain.Known 𝓤 H A W 𝓣 1 ps·7 r·7 (claims· .14) (claims· .15) "block::reading::is_restarted") (known8 : Plain.Known 𝓤 H A W 𝓣 1 ps·8 r·8 (claims· .16) (claims· .17) "block::records::restart")
-          (known9 : Plain.Known 𝓤 H A W 𝓣 0 ps·9 r·9 (claims· .18) (claims· .19) "block::reading::quantisers_of") (known10 : Plain.Known 𝓤 H A W 𝓣 5 ps·10 r·10 (claims· .20) (claims· .21)
+          (known9 : Plain.Known 𝓤 H A W 𝓣 0 ps·9 r·9 (claims· .18) (claims· .19) "block::reading::quantisers_in") (known10 : Plain.Known 𝓤 H A W 𝓣 5 ps·10 r·10 (claims· .20) (claims· .21)
           "block::reading::line") (known11 : Plain.Known 𝓤 H A W 𝓣 1 ps·11 r·11 (claims· .22) (claims· .23) "map::windows::zero_line") (known12 : Plain.Known 𝓤 H A W 𝓣 0 ps·12 r·12 (claims· .24) (claims·
           .25) "block::reading::totals_at") (known13 : Plain.Known 𝓤 H A W 𝓣 0 ps·13 r·13 (claims· .26) (claims· .27) "totals::with_line") (known14 : Plain.Known 𝓤 H A W 𝓣 3 ps·14 r·14 (claims· .28)
           (claims· .29) "map::windows::emit_line_if") → Statement.Triple 𝓤 (Wp.WpFn 𝓤 H (𝓣 .C) (𝓣 .Λ) (Function.fnOf 6 ps r xs m hs body)) (Function.plainOf 𝓤 H A 6 ps r Pre· Post·)
@@ -2430,564 +2520,570 @@ module _ (claims· : Claims) where
       abbrev at1 : Typed.TF T32 O4
       at1 = λ Ψ. Typed.pass T32 T34 s30 (at0 Ψ)
 
-      abbrev at2 : Typed.TF T38 O4
+      abbrev at2 : Typed.TF T39 O4
       at2 = Typed.atExit 1 O4
 
-      abbrev at3 : Typed.TF T37 O4
-      at3 = λ Ψ. Typed.pass T37 T38 s34 (at2 Ψ)
+      abbrev at3 : Typed.TF T38 O4
+      at3 = λ Ψ. Typed.pass T38 T39 s35 (at2 Ψ)
 
-      abbrev at4 : Typed.TF T36 O4
-      at4 = λ Ψ. Typed.pass T36 T37 s33 (at3 Ψ)
+      abbrev at4 : Typed.TF T37 O4
+      at4 = λ Ψ. Typed.pass T37 T38 s34 (at3 Ψ)
 
-      abbrev at5 : Typed.TF T35 O4
-      at5 = λ Ψ. Typed.pass T35 T36 s32 (at4 Ψ)
+      abbrev at5 : Typed.TF T36 O4
+      at5 = λ Ψ. Typed.pass T36 T37 s33 (at4 Ψ)
 
-      abbrev at6 : Typed.TF T32 O4
-      at6 = λ Ψ. Typed.pass T32 T35 s31 (at5 Ψ)
+      abbrev at6 : Typed.TF T35 O4
+      at6 = λ Ψ. Typed.pass T35 T36 s32 (at5 Ψ)
 
       abbrev at7 : Typed.TF T32 O4
-      at7 = Scalar.Φcond T32 O4 27 (λ x. x) at1 at6
+      at7 = λ Ψ. Typed.pass T32 T35 s31 (at6 Ψ)
 
-      abbrev at8 : Typed.TF T87 O5
-      at8 = λ Ψ. Typed.pass T87 T88 s83 (Typed.pass T88 T89 s84 (Typed.atNext O5 Ψ))
+      abbrev at8 : Typed.TF T32 O4
+      at8 = Scalar.Φcond T32 O4 28 (λ x. x) at1 at7
 
-      abbrev at9 : Typed.TF T86 O5
-      at9 = λ Ψ. Typed.pass T86 T87 s82 (at8 Ψ)
+      abbrev at9 : Typed.TF T88 O5
+      at9 = λ Ψ. Typed.pass T88 T89 s84 (Typed.pass T89 T90 s85 (Typed.atNext O5 Ψ))
 
-      abbrev at10 : Typed.TF T85 O5
-      at10 = λ Ψ. Typed.give s81 (at9 Ψ)
+      abbrev at10 : Typed.TF T87 O5
+      at10 = λ Ψ. Typed.pass T87 T88 s83 (at9 Ψ)
 
-      abbrev at11 : Typed.TF T83 O5
-      at11 = λ Ψ. Typed.both s80 (at10 Ψ)
+      abbrev at11 : Typed.TF T86 O5
+      at11 = λ Ψ. Typed.give s82 (at10 Ψ)
 
-      abbrev at12 : Typed.TF T115 O5
-      at12 = Typed.atRet O5
+      abbrev at12 : Typed.TF T84 O5
+      at12 = λ Ψ. Typed.both s81 (at11 Ψ)
 
-      abbrev at13 : Typed.TF T114 O5
-      at13 = λ Ψ. Typed.pass T114 T115 s110 (at12 Ψ)
+      abbrev at13 : Typed.TF T117 O5
+      at13 = Typed.atRet O5
 
-      abbrev at14 : Typed.TF T113 O5
-      at14 = λ Ψ. Typed.pass T113 T114 s109 (at13 Ψ)
+      abbrev at14 : Typed.TF T116 O5
+      at14 = λ Ψ. Typed.pass T116 T117 s112 (at13 Ψ)
 
-      abbrev at15 : Typed.TF T112 O5
-      at15 = λ Ψ. Typed.pass T112 T113 s108 (at14 Ψ)
+      abbrev at15 : Typed.TF T115 O5
+      at15 = λ Ψ. Typed.pass T115 T116 s111 (at14 Ψ)
 
-      abbrev at16 : Typed.TF T111 O5
-      at16 = λ Ψ. Typed.pass T111 T112 s107 (at15 Ψ)
+      abbrev at16 : Typed.TF T114 O5
+      at16 = λ Ψ. Typed.pass T114 T115 s110 (at15 Ψ)
 
-      abbrev at17 : Typed.TF T110 O5
-      at17 = λ Ψ. Typed.pass T110 T111 s106 (at16 Ψ)
+      abbrev at17 : Typed.TF T113 O5
+      at17 = λ Ψ. Typed.pass T113 T114 s109 (at16 Ψ)
 
-      abbrev at18 : Typed.TF T109 O5
-      at18 = λ Ψ. Typed.pass T109 T110 s105 (at17 Ψ)
+      abbrev at18 : Typed.TF T112 O5
+      at18 = λ Ψ. Typed.pass T112 T113 s108 (at17 Ψ)
 
-      abbrev at19 : Typed.TF T108 O5
-      at19 = λ Ψ. Typed.pass T108 T109 s104 (at18 Ψ)
+      abbrev at19 : Typed.TF T111 O5
+      at19 = λ Ψ. Typed.pass T111 T112 s107 (at18 Ψ)
 
-      abbrev at20 : Typed.TF T107 O5
-      at20 = λ Ψ. Typed.pass T107 T108 s103 (at19 Ψ)
+      abbrev at20 : Typed.TF T110 O5
+      at20 = λ Ψ. Typed.pass T110 T111 s106 (at19 Ψ)
 
-      abbrev at21 : Typed.TF T106 O5
-      at21 = λ Ψ. Typed.pass T106 T107 s102 (at20 Ψ)
+      abbrev at21 : Typed.TF T109 O5
+      at21 = λ Ψ. Typed.pass T109 T110 s105 (at20 Ψ)
 
-      abbrev at22 : Typed.TF T105 O5
-      at22 = λ Ψ. Typed.pass T105 T106 s101 (at21 Ψ)
+      abbrev at22 : Typed.TF T108 O5
+      at22 = λ Ψ. Typed.pass T108 T109 s104 (at21 Ψ)
 
-      abbrev at23 : Typed.TF T103 O5
-      at23 = λ Ψ. Typed.both s100 (at22 Ψ)
+      abbrev at23 : Typed.TF T107 O5
+      at23 = λ Ψ. Typed.pass T107 T108 s103 (at22 Ψ)
 
-      abbrev at24 : Typed.TF T103 O5
-      at24 = λ Ψ. at23 Ψ
+      abbrev at24 : Typed.TF T105 O5
+      at24 = λ Ψ. Typed.both s102 (at23 Ψ)
 
-      abbrev at25 : Typed.TF T102 O5
-      at25 = λ Ψ. Typed.give s98 (at24 Ψ)
+      abbrev at25 : Typed.TF T105 O5
+      at25 = λ Ψ. at24 Ψ
 
-      abbrev at26 : Typed.TF T100 O5
-      at26 = λ Ψ. Typed.both s97 (at25 Ψ)
+      abbrev at26 : Typed.TF T104 O5
+      at26 = λ Ψ. Typed.give s100 (at25 Ψ)
 
-      abbrev at27 : Typed.TF T100 O5
-      at27 = λ Ψ. at26 Ψ
+      abbrev at27 : Typed.TF T102 O5
+      at27 = λ Ψ. Typed.both s99 (at26 Ψ)
 
-      abbrev at28 : Typed.TF T99 O5
-      at28 = λ Ψ. Typed.pass T99 T100 s95 (at27 Ψ)
+      abbrev at28 : Typed.TF T102 O5
+      at28 = λ Ψ. at27 Ψ
 
-      abbrev at29 : Typed.TF T98 O5
-      at29 = λ Ψ. Typed.pass T98 T99 s94 (at28 Ψ)
+      abbrev at29 : Typed.TF T101 O5
+      at29 = λ Ψ. Typed.pass T101 T102 s97 (at28 Ψ)
 
-      abbrev at30 : Typed.TF T97 O5
-      at30 = λ Ψ. Typed.both s93 (at29 Ψ)
+      abbrev at30 : Typed.TF T100 O5
+      at30 = λ Ψ. Typed.pass T100 T101 s96 (at29 Ψ)
 
-      abbrev at31 : Typed.TF T96 O5
-      at31 = λ Ψ. Typed.ask s92 (at30 Ψ)
+      abbrev at31 : Typed.TF T99 O5
+      at31 = λ Ψ. Typed.both s95 (at30 Ψ)
 
-      abbrev at32 : Typed.TF T94 O5
-      at32 = λ Ψ. Typed.give s91 (at31 Ψ)
+      abbrev at32 : Typed.TF T98 O5
+      at32 = λ Ψ. Typed.ask s94 (at31 Ψ)
 
-      abbrev at33 : Typed.TF T94 O5
-      at33 = λ Ψ. at32 Ψ
+      abbrev at33 : Typed.TF T96 O5
+      at33 = λ Ψ. Typed.give s93 (at32 Ψ)
 
-      abbrev at34 : Typed.TF T93 O5
-      at34 = λ Ψ. Typed.pass T93 T94 s89 (at33 Ψ)
+      abbrev at34 : Typed.TF T96 O5
+      at34 = λ Ψ. at33 Ψ
 
-      abbrev at35 : Typed.TF T92 O5
-      at35 = λ Ψ. Typed.pass T92 T93 s88 (at34 Ψ)
+      abbrev at35 : Typed.TF T95 O5
+      at35 = λ Ψ. Typed.pass T95 T96 s91 (at34 Ψ)
 
-      abbrev at36 : Typed.TF T91 O5
-      at36 = λ Ψ. Typed.pass T91 T92 s87 (at35 Ψ)
+      abbrev at36 : Typed.TF T94 O5
+      at36 = λ Ψ. Typed.pass T94 T95 s90 (at35 Ψ)
 
-      abbrev at37 : Typed.TF T90 O5
-      at37 = λ Ψ. Typed.pass T90 T91 s86 (at36 Ψ)
+      abbrev at37 : Typed.TF T93 O5
+      at37 = λ Ψ. Typed.pass T93 T94 s89 (at36 Ψ)
 
-      abbrev at38 : Typed.TF T83 O5
-      at38 = λ Ψ. Typed.both s85 (at37 Ψ)
+      abbrev at38 : Typed.TF T92 O5
+      at38 = λ Ψ. Typed.pass T92 T93 s88 (at37 Ψ)
 
-      abbrev at39 : Typed.TF T83 O5
-      at39 = Switch.Φswitch T83 O5 19 (λ x. Declared.tagOf Lined.the-type x) (Syntax.arm (List._∷_ 0 List.[]) b34 (Syntax.arm (List._∷_ 1 List.[]) b45 Syntax.noDefault)) (at11, (at38, tt))
+      abbrev at39 : Typed.TF T91 O5
+      at39 = λ Ψ. Typed.pass T91 T92 s87 (at38 Ψ)
 
-      abbrev at40 : Typed.TF T83 O5
-      at40 = λ Ψ. at39 Ψ
+      abbrev at40 : Typed.TF T84 O5
+      at40 = λ Ψ. Typed.both s86 (at39 Ψ)
 
-      abbrev at41 : Typed.TF T82 O5
-      at41 = λ Ψ. Typed.give s78 (at40 Ψ)
+      abbrev at41 : Typed.TF T84 O5
+      at41 = Switch.Φswitch T84 O5 20 (λ x. Declared.tagOf Lined.the-type x) (Syntax.arm (List._∷_ 0 List.[]) b34 (Syntax.arm (List._∷_ 1 List.[]) b45 Syntax.noDefault)) (at12, (at40, tt))
 
-      abbrev at42 : Typed.TF T79 O5
-      at42 = λ Ψ. Typed.both s77 (at41 Ψ)
+      abbrev at42 : Typed.TF T84 O5
+      at42 = λ Ψ. at41 Ψ
 
-      abbrev at43 : Typed.TF T79 O5
-      at43 = λ Ψ. at42 Ψ
+      abbrev at43 : Typed.TF T83 O5
+      at43 = λ Ψ. Typed.give s79 (at42 Ψ)
 
-      abbrev at44 : Typed.TF T79 O5
-      at44 = λ Ψ. at43 Ψ
+      abbrev at44 : Typed.TF T80 O5
+      at44 = λ Ψ. Typed.both s78 (at43 Ψ)
 
-      abbrev at45 : Typed.TF T76 O5
-      at45 = λ Ψ. Typed.both s74 (at44 Ψ)
+      abbrev at45 : Typed.TF T80 O5
+      at45 = λ Ψ. at44 Ψ
 
-      abbrev at46 : Typed.TF T76 O5
+      abbrev at46 : Typed.TF T80 O5
       at46 = λ Ψ. at45 Ψ
 
-      abbrev at47 : Typed.TF T76 O5
-      at47 = λ Ψ. at46 Ψ
+      abbrev at47 : Typed.TF T77 O5
+      at47 = λ Ψ. Typed.both s75 (at46 Ψ)
 
-      abbrev at48 : Typed.TF T75 O5
-      at48 = λ Ψ. Typed.give s71 (at47 Ψ)
+      abbrev at48 : Typed.TF T77 O5
+      at48 = λ Ψ. at47 Ψ
 
-      abbrev at49 : Typed.TF T73 O5
-      at49 = λ Ψ. Typed.both s70 (at48 Ψ)
+      abbrev at49 : Typed.TF T77 O5
+      at49 = λ Ψ. at48 Ψ
 
-      abbrev at50 : Typed.TF T73 O5
-      at50 = λ Ψ. at49 Ψ
+      abbrev at50 : Typed.TF T76 O5
+      at50 = λ Ψ. Typed.give s72 (at49 Ψ)
 
-      abbrev at51 : Typed.TF T71 O5
-      at51 = λ Ψ. Typed.pass T71 T73 s68 (at50 Ψ)
+      abbrev at51 : Typed.TF T74 O5
+      at51 = λ Ψ. Typed.both s71 (at50 Ψ)
 
-      abbrev at52 : Typed.TF T137 O3
-      at52 = λ Ψ. Typed.ask s134 (Typed.pass T139 T140 s135 (Typed.atNext O3 Ψ))
+      abbrev at52 : Typed.TF T74 O5
+      at52 = λ Ψ. at51 Ψ
 
-      abbrev at53 : Typed.TF T137 O3
-      at53 = λ Ψ. at52 Ψ
+      abbrev at53 : Typed.TF T72 O5
+      at53 = λ Ψ. Typed.pass T72 T74 s69 (at52 Ψ)
 
-      abbrev at54 : Typed.TF T136 O3
-      at54 = λ Ψ. Typed.give s132 (at53 Ψ)
+      abbrev at54 : Typed.TF T139 O3
+      at54 = λ Ψ. Typed.ask s136 (Typed.pass T141 T142 s137 (Typed.atNext O3 Ψ))
 
-      abbrev at55 : Typed.TF T133 O3
-      at55 = λ Ψ. Typed.both s131 (at54 Ψ)
+      abbrev at55 : Typed.TF T139 O3
+      at55 = λ Ψ. at54 Ψ
 
-      abbrev at56 : Typed.TF T133 O3
-      at56 = λ Ψ. at55 Ψ
+      abbrev at56 : Typed.TF T138 O3
+      at56 = λ Ψ. Typed.give s134 (at55 Ψ)
 
-      abbrev at57 : Typed.TF T133 O3
-      at57 = λ Ψ. at56 Ψ
+      abbrev at57 : Typed.TF T135 O3
+      at57 = λ Ψ. Typed.both s133 (at56 Ψ)
 
-      abbrev at58 : Typed.TF T131 O3
-      at58 = λ Ψ. Typed.pass T131 T133 s128 (at57 Ψ)
+      abbrev at58 : Typed.TF T135 O3
+      at58 = λ Ψ. at57 Ψ
 
-      abbrev at59 : Typed.TF T131 O3
+      abbrev at59 : Typed.TF T135 O3
       at59 = λ Ψ. at58 Ψ
 
-      abbrev at60 : Typed.TF T130 O3
-      at60 = λ Ψ. Typed.pass T130 T131 s126 (at59 Ψ)
+      abbrev at60 : Typed.TF T133 O3
+      at60 = λ Ψ. Typed.pass T133 T135 s130 (at59 Ψ)
 
-      abbrev at61 : Typed.TF T129 O3
-      at61 = λ Ψ. Typed.pass T129 T130 s125 (at60 Ψ)
+      abbrev at61 : Typed.TF T133 O3
+      at61 = λ Ψ. at60 Ψ
 
-      abbrev at62 : Typed.TF T128 O3
-      at62 = λ Ψ. Typed.pass T128 T129 s124 (at61 Ψ)
+      abbrev at62 : Typed.TF T132 O3
+      at62 = λ Ψ. Typed.pass T132 T133 s128 (at61 Ψ)
 
-      abbrev at63 : Typed.TF T127 O3
-      at63 = λ Ψ. Typed.both s123 (at62 Ψ)
+      abbrev at63 : Typed.TF T131 O3
+      at63 = λ Ψ. Typed.pass T131 T132 s127 (at62 Ψ)
 
-      abbrev at64 : Typed.TF T126 O3
-      at64 = λ Ψ. Typed.ask s122 (at63 Ψ)
+      abbrev at64 : Typed.TF T130 O3
+      at64 = λ Ψ. Typed.pass T130 T131 s126 (at63 Ψ)
 
-      abbrev at65 : Typed.TF T125 O3
-      at65 = λ Ψ. Typed.ask s121 (at64 Ψ)
+      abbrev at65 : Typed.TF T129 O3
+      at65 = λ Ψ. Typed.both s125 (at64 Ψ)
 
-      abbrev at66 : Typed.TF T123 O3
-      at66 = λ Ψ. Typed.give s120 (at65 Ψ)
+      abbrev at66 : Typed.TF T128 O3
+      at66 = λ Ψ. Typed.ask s124 (at65 Ψ)
 
-      abbrev at67 : Typed.TF T123 O3
-      at67 = λ Ψ. at66 Ψ
+      abbrev at67 : Typed.TF T127 O3
+      at67 = λ Ψ. Typed.ask s123 (at66 Ψ)
 
-      abbrev at68 : Typed.TF T122 O3
-      at68 = λ Ψ. Typed.ask s118 (at67 Ψ)
+      abbrev at68 : Typed.TF T125 O3
+      at68 = λ Ψ. Typed.give s122 (at67 Ψ)
 
-      abbrev at69 : Typed.TF T120 O3
-      at69 = λ Ψ. Typed.give s117 (at68 Ψ)
+      abbrev at69 : Typed.TF T125 O3
+      at69 = λ Ψ. at68 Ψ
 
-      abbrev at70 : Typed.TF T120 O3
-      at70 = λ Ψ. at69 Ψ
+      abbrev at70 : Typed.TF T124 O3
+      at70 = λ Ψ. Typed.ask s120 (at69 Ψ)
 
-      abbrev at71 : Typed.TF T119 O3
-      at71 = λ Ψ. Typed.pass T119 T120 s115 (at70 Ψ)
+      abbrev at71 : Typed.TF T122 O3
+      at71 = λ Ψ. Typed.give s119 (at70 Ψ)
 
-      abbrev at72 : Typed.TF T118 O3
-      at72 = λ Ψ. Typed.both s114 (at71 Ψ)
+      abbrev at72 : Typed.TF T122 O3
+      at72 = λ Ψ. at71 Ψ
 
-      abbrev at73 : Typed.TF T117 O3
-      at73 = λ Ψ. Typed.both s113 (at72 Ψ)
+      abbrev at73 : Typed.TF T121 O3
+      at73 = λ Ψ. Typed.pass T121 T122 s117 (at72 Ψ)
 
-      abbrev at74 : Typed.TF T116 O3
-      at74 = λ Ψ. Typed.pass T116 T117 s112 (at73 Ψ)
+      abbrev at74 : Typed.TF T120 O3
+      at74 = λ Ψ. Typed.both s116 (at73 Ψ)
 
-      abbrev at75 : Typed.TF T72 O3
-      at75 = λ Ψ. Typed.pass T72 T116 s111 (at74 Ψ)
+      abbrev at75 : Typed.TF T119 O3
+      at75 = λ Ψ. Typed.both s115 (at74 Ψ)
 
-      abbrev at76 : Typed.TF T71 O3
-      at76 = λ Ψ. at51 (Typed.wantNext T72 O3 (at75 Ψ) Ψ)
+      abbrev at76 : Typed.TF T118 O3
+      at76 = λ Ψ. Typed.pass T118 T119 s114 (at75 Ψ)
 
-      abbrev at77 : Typed.TF T70 O3
-      at77 = λ Ψ. Typed.both s67 (at76 Ψ)
+      abbrev at77 : Typed.TF T73 O3
+      at77 = λ Ψ. Typed.pass T73 T118 s113 (at76 Ψ)
 
-      abbrev at78 : Typed.TF T69 O3
-      at78 = λ Ψ. Typed.both s66 (at77 Ψ)
+      abbrev at78 : Typed.TF T72 O3
+      at78 = λ Ψ. at53 (Typed.wantNext T73 O3 (at77 Ψ) Ψ)
 
-      abbrev at79 : Typed.TF T68 O3
-      at79 = λ Ψ. Typed.ask s65 (at78 Ψ)
+      abbrev at79 : Typed.TF T71 O3
+      at79 = λ Ψ. Typed.both s68 (at78 Ψ)
 
-      abbrev at80 : Typed.TF T66 O3
-      at80 = λ Ψ. Typed.give s64 (at79 Ψ)
+      abbrev at80 : Typed.TF T70 O3
+      at80 = λ Ψ. Typed.both s67 (at79 Ψ)
 
-      abbrev at81 : Typed.TF T66 O3
-      at81 = λ Ψ. at80 Ψ
+      abbrev at81 : Typed.TF T69 O3
+      at81 = λ Ψ. Typed.ask s66 (at80 Ψ)
 
-      abbrev at82 : Typed.TF T65 O3
-      at82 = λ Ψ. Typed.ask s62 (at81 Ψ)
+      abbrev at82 : Typed.TF T67 O3
+      at82 = λ Ψ. Typed.give s65 (at81 Ψ)
 
-      abbrev at83 : Typed.TF T63 O3
-      at83 = λ Ψ. Typed.give s61 (at82 Ψ)
+      abbrev at83 : Typed.TF T67 O3
+      at83 = λ Ψ. at82 Ψ
 
-      abbrev at84 : Typed.TF T63 O3
-      at84 = λ Ψ. at83 Ψ
+      abbrev at84 : Typed.TF T66 O3
+      at84 = λ Ψ. Typed.ask s63 (at83 Ψ)
 
-      abbrev at85 : Typed.TF T62 O3
-      at85 = λ Ψ. Typed.ask s59 (at84 Ψ)
+      abbrev at85 : Typed.TF T64 O3
+      at85 = λ Ψ. Typed.give s62 (at84 Ψ)
 
-      abbrev at86 : Typed.TF T59 O3
-      at86 = λ Ψ. Typed.give s58 (at85 Ψ)
+      abbrev at86 : Typed.TF T64 O3
+      at86 = λ Ψ. at85 Ψ
 
-      abbrev at87 : Typed.TF T59 O3
-      at87 = λ Ψ. at86 Ψ
+      abbrev at87 : Typed.TF T63 O3
+      at87 = λ Ψ. Typed.ask s60 (at86 Ψ)
 
-      abbrev at88 : Typed.TF T59 O3
-      at88 = λ Ψ. at87 Ψ
+      abbrev at88 : Typed.TF T60 O3
+      at88 = λ Ψ. Typed.give s59 (at87 Ψ)
 
-      abbrev at89 : Typed.TF T57 O3
-      at89 = λ Ψ. Typed.both s55 (at88 Ψ)
+      abbrev at89 : Typed.TF T60 O3
+      at89 = λ Ψ. at88 Ψ
 
-      abbrev at90 : Typed.TF T57 O3
+      abbrev at90 : Typed.TF T60 O3
       at90 = λ Ψ. at89 Ψ
 
-      abbrev at91 : Typed.TF T56 O3
-      at91 = λ Ψ. Typed.pass T56 T57 s53 (at90 Ψ)
+      abbrev at91 : Typed.TF T58 O3
+      at91 = λ Ψ. Typed.both s56 (at90 Ψ)
 
-      abbrev at92 : Typed.TF T55 O3
-      at92 = λ Ψ. Typed.pass T55 T56 s52 (at91 Ψ)
+      abbrev at92 : Typed.TF T58 O3
+      at92 = λ Ψ. at91 Ψ
 
-      abbrev at93 : Typed.TF T54 O3
-      at93 = λ Ψ. Typed.both s51 (at92 Ψ)
+      abbrev at93 : Typed.TF T57 O3
+      at93 = λ Ψ. Typed.pass T57 T58 s54 (at92 Ψ)
 
-      abbrev at94 : Typed.TF T53 O3
-      at94 = λ Ψ. Typed.both s50 (at93 Ψ)
+      abbrev at94 : Typed.TF T56 O3
+      at94 = λ Ψ. Typed.pass T56 T57 s53 (at93 Ψ)
 
-      abbrev at95 : Typed.TF T52 O3
-      at95 = λ Ψ. Typed.ask s49 (at94 Ψ)
+      abbrev at95 : Typed.TF T55 O3
+      at95 = λ Ψ. Typed.both s52 (at94 Ψ)
 
-      abbrev at96 : Typed.TF T50 O3
-      at96 = λ Ψ. Typed.give s48 (at95 Ψ)
+      abbrev at96 : Typed.TF T54 O3
+      at96 = λ Ψ. Typed.both s51 (at95 Ψ)
 
-      abbrev at97 : Typed.TF T50 O3
-      at97 = λ Ψ. at96 Ψ
+      abbrev at97 : Typed.TF T53 O3
+      at97 = λ Ψ. Typed.ask s50 (at96 Ψ)
 
-      abbrev at98 : Typed.TF T48 O3
-      at98 = λ Ψ. Typed.both s46 (at97 Ψ)
+      abbrev at98 : Typed.TF T51 O3
+      at98 = λ Ψ. Typed.give s49 (at97 Ψ)
 
-      abbrev at99 : Typed.TF T48 O3
+      abbrev at99 : Typed.TF T51 O3
       at99 = λ Ψ. at98 Ψ
 
-      abbrev at100 : Typed.TF T47 O3
-      at100 = λ Ψ. Typed.give s44 (at99 Ψ)
+      abbrev at100 : Typed.TF T49 O3
+      at100 = λ Ψ. Typed.both s47 (at99 Ψ)
 
-      abbrev at101 : Typed.TF T45 O3
-      at101 = λ Ψ. Typed.both s43 (at100 Ψ)
+      abbrev at101 : Typed.TF T49 O3
+      at101 = λ Ψ. at100 Ψ
 
-      abbrev at102 : Typed.TF T45 O3
-      at102 = λ Ψ. at101 Ψ
+      abbrev at102 : Typed.TF T48 O3
+      at102 = λ Ψ. Typed.give s45 (at101 Ψ)
 
-      abbrev at103 : Typed.TF T44 O3
-      at103 = λ Ψ. Typed.pass T44 T45 s41 (at102 Ψ)
+      abbrev at103 : Typed.TF T46 O3
+      at103 = λ Ψ. Typed.both s44 (at102 Ψ)
 
-      abbrev at104 : Typed.TF T43 O3
-      at104 = λ Ψ. Typed.pass T43 T44 s40 (at103 Ψ)
+      abbrev at104 : Typed.TF T46 O3
+      at104 = λ Ψ. at103 Ψ
 
-      abbrev at105 : Typed.TF T42 O3
-      at105 = λ Ψ. Typed.both s39 (at104 Ψ)
+      abbrev at105 : Typed.TF T45 O3
+      at105 = λ Ψ. Typed.pass T45 T46 s42 (at104 Ψ)
 
-      abbrev at106 : Typed.TF T41 O3
-      at106 = λ Ψ. Typed.ask s38 (at105 Ψ)
+      abbrev at106 : Typed.TF T44 O3
+      at106 = λ Ψ. Typed.pass T44 T45 s41 (at105 Ψ)
 
-      abbrev at107 : Typed.TF T40 O3
-      at107 = λ Ψ. Typed.ask s37 (at106 Ψ)
+      abbrev at107 : Typed.TF T43 O3
+      at107 = λ Ψ. Typed.both s40 (at106 Ψ)
 
-      abbrev at108 : Typed.TF T33 O3
-      at108 = λ Ψ. Typed.give s36 (at107 Ψ)
+      abbrev at108 : Typed.TF T42 O3
+      at108 = λ Ψ. Typed.ask s39 (at107 Ψ)
 
-      abbrev at109 : Typed.TF T33 O3
-      at109 = λ Ψ. at108 Ψ
+      abbrev at109 : Typed.TF T41 O3
+      at109 = λ Ψ. Typed.ask s38 (at108 Ψ)
 
-      abbrev at110 : Typed.TF T32 O3
-      at110 = λ Ψ. at7 (Typed.wantNext T33 O3 (at109 Ψ) Ψ)
+      abbrev at110 : Typed.TF T33 O3
+      at110 = λ Ψ. Typed.give s37 (at109 Ψ)
 
-      abbrev at111 : Typed.TF T30 O3
-      at111 = λ Ψ. Typed.ask s29 (at110 Ψ)
+      abbrev at111 : Typed.TF T33 O3
+      at111 = λ Ψ. at110 Ψ
 
-      abbrev at112 : Typed.TF T30 O2
-      at112 = Typed.LoopBy T30 O2 put0 (λ u vs. Inv·0 (Row.get 1 (T30 .locals) u .now) (Row.get 2 (T30 .locals) u .now) (Row.get 3 (T30 .locals) u .now) (Row.get 4 (T30 .locals) u .now) (Row.get 5
+      abbrev at112 : Typed.TF T32 O3
+      at112 = λ Ψ. at8 (Typed.wantNext T33 O3 (at111 Ψ) Ψ)
+
+      abbrev at113 : Typed.TF T30 O3
+      at113 = λ Ψ. Typed.ask s29 (at112 Ψ)
+
+      abbrev at114 : Typed.TF T30 O2
+      at114 = Typed.LoopBy T30 O2 put0 (λ u vs. Inv·0 (Row.get 1 (T30 .locals) u .now) (Row.get 2 (T30 .locals) u .now) (Row.get 3 (T30 .locals) u .now) (Row.get 4 (T30 .locals) u .now) (Row.get 5
           (T30 .locals) u .now) (Row.get 6 (T30 .locals) u) (Row.get 7 (T30 .locals) u .now) (Row.get 8 (T30 .locals) u) (Row.get 9 (T30 .locals) u) (Row.get 10 (T30 .locals) u) (Row.get 11 (T30 .locals)
-          u) (Row.get 12 (T30 .locals) u) (Row.get 13 (T30 .locals) u) (Row.get 14 (T30 .locals) u) (Row.get 15 (T30 .locals) u) (Row.get 16 (T30 .locals) u) (Row.get 17 (T30 .locals) u) (vs .0) (vs .1)
-          (vs .2) (vs .3) (vs .4) (vs .5)) (λ u vs. μ·0 (Row.get 1 (T30 .locals) u .now) (Row.get 2 (T30 .locals) u .now) (Row.get 3 (T30 .locals) u .now) (Row.get 4 (T30 .locals) u .now) (Row.get 5 (T30
-          .locals) u .now) (Row.get 6 (T30 .locals) u) (Row.get 7 (T30 .locals) u .now) (Row.get 8 (T30 .locals) u) (Row.get 9 (T30 .locals) u) (Row.get 10 (T30 .locals) u) (Row.get 11 (T30 .locals) u)
-          (Row.get 12 (T30 .locals) u) (Row.get 13 (T30 .locals) u) (Row.get 14 (T30 .locals) u) (Row.get 15 (T30 .locals) u) (Row.get 16 (T30 .locals) u) (Row.get 17 (T30 .locals) u) (vs .0) (vs .1) (vs
-          .2) (vs .3) (vs .4) (vs .5)) at111
+          u) (Row.get 12 (T30 .locals) u) (Row.get 13 (T30 .locals) u) (Row.get 14 (T30 .locals) u) (Row.get 15 (T30 .locals) u) (Row.get 16 (T30 .locals) u) (Row.get 17 (T30 .locals) u) (Row.get 18 (T30
+          .locals) u) (vs .0) (vs .1) (vs .2) (vs .3) (vs .4) (vs .5)) (λ u vs. μ·0 (Row.get 1 (T30 .locals) u .now) (Row.get 2 (T30 .locals) u .now) (Row.get 3 (T30 .locals) u .now) (Row.get 4 (T30
+          .locals) u .now) (Row.get 5 (T30 .locals) u .now) (Row.get 6 (T30 .locals) u) (Row.get 7 (T30 .locals) u .now) (Row.get 8 (T30 .locals) u) (Row.get 9 (T30 .locals) u) (Row.get 10 (T30 .locals)
+          u) (Row.get 11 (T30 .locals) u) (Row.get 12 (T30 .locals) u) (Row.get 13 (T30 .locals) u) (Row.get 14 (T30 .locals) u) (Row.get 15 (T30 .locals) u) (Row.get 16 (T30 .locals) u) (Row.get 17 (T30
+          .locals) u) (Row.get 18 (T30 .locals) u) (vs .0) (vs .1) (vs .2) (vs .3) (vs .4) (vs .5)) at113
 
-      abbrev at113 : Typed.TF T30 O1
-      at113 = λ Ψ. at112 (Typed.inBlock O1 Ψ)
+      abbrev at115 : Typed.TF T30 O1
+      at115 = λ Ψ. at114 (Typed.inBlock O1 Ψ)
 
-      abbrev at114 : Typed.TF T151 O0
-      at114 = Typed.atRet O0
+      abbrev at116 : Typed.TF T153 O0
+      at116 = Typed.atRet O0
 
-      abbrev at115 : Typed.TF T150 O0
-      at115 = λ Ψ. Typed.pass T150 T151 s146 (at114 Ψ)
+      abbrev at117 : Typed.TF T152 O0
+      at117 = λ Ψ. Typed.pass T152 T153 s148 (at116 Ψ)
 
-      abbrev at116 : Typed.TF T149 O0
-      at116 = λ Ψ. Typed.pass T149 T150 s145 (at115 Ψ)
+      abbrev at118 : Typed.TF T151 O0
+      at118 = λ Ψ. Typed.pass T151 T152 s147 (at117 Ψ)
 
-      abbrev at117 : Typed.TF T148 O0
-      at117 = λ Ψ. Typed.pass T148 T149 s144 (at116 Ψ)
+      abbrev at119 : Typed.TF T150 O0
+      at119 = λ Ψ. Typed.pass T150 T151 s146 (at118 Ψ)
 
-      abbrev at118 : Typed.TF T147 O0
-      at118 = λ Ψ. Typed.pass T147 T148 s143 (at117 Ψ)
+      abbrev at120 : Typed.TF T149 O0
+      at120 = λ Ψ. Typed.pass T149 T150 s145 (at119 Ψ)
 
-      abbrev at119 : Typed.TF T146 O0
-      at119 = λ Ψ. Typed.pass T146 T147 s142 (at118 Ψ)
+      abbrev at121 : Typed.TF T148 O0
+      at121 = λ Ψ. Typed.pass T148 T149 s144 (at120 Ψ)
 
-      abbrev at120 : Typed.TF T145 O0
-      at120 = λ Ψ. Typed.pass T145 T146 s141 (at119 Ψ)
+      abbrev at122 : Typed.TF T147 O0
+      at122 = λ Ψ. Typed.pass T147 T148 s143 (at121 Ψ)
 
-      abbrev at121 : Typed.TF T144 O0
-      at121 = λ Ψ. Typed.pass T144 T145 s140 (at120 Ψ)
+      abbrev at123 : Typed.TF T146 O0
+      at123 = λ Ψ. Typed.pass T146 T147 s142 (at122 Ψ)
 
-      abbrev at122 : Typed.TF T143 O0
-      at122 = λ Ψ. Typed.pass T143 T144 s139 (at121 Ψ)
+      abbrev at124 : Typed.TF T145 O0
+      at124 = λ Ψ. Typed.pass T145 T146 s141 (at123 Ψ)
 
-      abbrev at123 : Typed.TF T142 O0
-      at123 = λ Ψ. Typed.pass T142 T143 s138 (at122 Ψ)
+      abbrev at125 : Typed.TF T144 O0
+      at125 = λ Ψ. Typed.pass T144 T145 s140 (at124 Ψ)
 
-      abbrev at124 : Typed.TF T141 O0
-      at124 = λ Ψ. Typed.pass T141 T142 s137 (at123 Ψ)
+      abbrev at126 : Typed.TF T143 O0
+      at126 = λ Ψ. Typed.pass T143 T144 s139 (at125 Ψ)
 
-      abbrev at125 : Typed.TF T31 O0
-      at125 = λ Ψ. Typed.both s136 (at124 Ψ)
+      abbrev at127 : Typed.TF T31 O0
+      at127 = λ Ψ. Typed.both s138 (at126 Ψ)
 
-      abbrev at126 : Typed.TF T30 O0
-      at126 = λ Ψ. at113 (Typed.wantNext T31 O0 (at125 Ψ) Ψ)
+      abbrev at128 : Typed.TF T30 O0
+      at128 = λ Ψ. at115 (Typed.wantNext T31 O0 (at127 Ψ) Ψ)
 
-      abbrev at127 : Typed.TF T29 O0
-      at127 = λ Ψ. Typed.pass T29 T30 s28 (at126 Ψ)
+      abbrev at129 : Typed.TF T29 O0
+      at129 = λ Ψ. Typed.pass T29 T30 s28 (at128 Ψ)
 
-      abbrev at128 : Typed.TF T28 O0
-      at128 = λ Ψ. Typed.both s27 (at127 Ψ)
+      abbrev at130 : Typed.TF T28 O0
+      at130 = λ Ψ. Typed.both s27 (at129 Ψ)
 
-      abbrev at129 : Typed.TF T26 O0
-      at129 = λ Ψ. Typed.both s26 (at128 Ψ)
+      abbrev at131 : Typed.TF T26 O0
+      at131 = λ Ψ. Typed.both s26 (at130 Ψ)
 
-      abbrev at130 : Typed.TF T26 O0
-      at130 = λ Ψ. at129 Ψ
-
-      abbrev at131 : Typed.TF T24 O0
-      at131 = λ Ψ. Typed.both s24 (at130 Ψ)
-
-      abbrev at132 : Typed.TF T24 O0
+      abbrev at132 : Typed.TF T26 O0
       at132 = λ Ψ. at131 Ψ
 
-      abbrev at133 : Typed.TF T23 O0
-      at133 = λ Ψ. Typed.pass T23 T24 s22 (at132 Ψ)
+      abbrev at133 : Typed.TF T24 O0
+      at133 = λ Ψ. Typed.both s24 (at132 Ψ)
 
-      abbrev at134 : Typed.TF T22 O0
-      at134 = λ Ψ. Typed.pass T22 T23 s21 (at133 Ψ)
+      abbrev at134 : Typed.TF T24 O0
+      at134 = λ Ψ. at133 Ψ
 
-      abbrev at135 : Typed.TF T21 O0
-      at135 = λ Ψ. Typed.both s20 (at134 Ψ)
+      abbrev at135 : Typed.TF T23 O0
+      at135 = λ Ψ. Typed.pass T23 T24 s22 (at134 Ψ)
 
-      abbrev at136 : Typed.TF T20 O0
-      at136 = λ Ψ. Typed.both s19 (at135 Ψ)
+      abbrev at136 : Typed.TF T22 O0
+      at136 = λ Ψ. Typed.pass T22 T23 s21 (at135 Ψ)
 
-      abbrev at137 : Typed.TF T19 O0
-      at137 = λ Ψ. Typed.ask s18 (at136 Ψ)
+      abbrev at137 : Typed.TF T21 O0
+      at137 = λ Ψ. Typed.both s20 (at136 Ψ)
 
-      abbrev at138 : Typed.TF T16 O0
-      at138 = λ Ψ. Typed.give s17 (at137 Ψ)
+      abbrev at138 : Typed.TF T20 O0
+      at138 = λ Ψ. Typed.both s19 (at137 Ψ)
 
-      abbrev at139 : Typed.TF T16 O0
-      at139 = λ Ψ. at138 Ψ
+      abbrev at139 : Typed.TF T19 O0
+      at139 = λ Ψ. Typed.ask s18 (at138 Ψ)
 
       abbrev at140 : Typed.TF T16 O0
-      at140 = λ Ψ. at139 Ψ
+      at140 = λ Ψ. Typed.give s17 (at139 Ψ)
 
-      abbrev at141 : Typed.TF T15 O0
-      at141 = λ Ψ. Typed.give s14 (at140 Ψ)
+      abbrev at141 : Typed.TF T16 O0
+      at141 = λ Ψ. at140 Ψ
 
-      abbrev at142 : Typed.TF T13 O0
-      at142 = λ Ψ. Typed.both s13 (at141 Ψ)
+      abbrev at142 : Typed.TF T16 O0
+      at142 = λ Ψ. at141 Ψ
 
-      abbrev at143 : Typed.TF T13 O0
-      at143 = λ Ψ. at142 Ψ
+      abbrev at143 : Typed.TF T15 O0
+      at143 = λ Ψ. Typed.give s14 (at142 Ψ)
 
-      abbrev at144 : Typed.TF T12 O0
-      at144 = λ Ψ. Typed.pass T12 T13 s11 (at143 Ψ)
+      abbrev at144 : Typed.TF T13 O0
+      at144 = λ Ψ. Typed.both s13 (at143 Ψ)
 
-      abbrev at145 : Typed.TF T11 O0
-      at145 = λ Ψ. Typed.both s10 (at144 Ψ)
+      abbrev at145 : Typed.TF T13 O0
+      at145 = λ Ψ. at144 Ψ
 
-      abbrev at146 : Typed.TF T10 O0
-      at146 = λ Ψ. Typed.ask s9 (at145 Ψ)
+      abbrev at146 : Typed.TF T12 O0
+      at146 = λ Ψ. Typed.pass T12 T13 s11 (at145 Ψ)
 
-      abbrev at147 : Typed.TF T8 O0
-      at147 = λ Ψ. Typed.give s8 (at146 Ψ)
+      abbrev at147 : Typed.TF T11 O0
+      at147 = λ Ψ. Typed.both s10 (at146 Ψ)
 
-      abbrev at148 : Typed.TF T8 O0
-      at148 = λ Ψ. at147 Ψ
+      abbrev at148 : Typed.TF T10 O0
+      at148 = λ Ψ. Typed.ask s9 (at147 Ψ)
 
-      abbrev at149 : Typed.TF T7 O0
-      at149 = λ Ψ. Typed.both s6 (at148 Ψ)
+      abbrev at149 : Typed.TF T8 O0
+      at149 = λ Ψ. Typed.give s8 (at148 Ψ)
 
-      abbrev at150 : Typed.TF T6 O0
-      at150 = λ Ψ. Typed.pass T6 T7 s5 (at149 Ψ)
+      abbrev at150 : Typed.TF T8 O0
+      at150 = λ Ψ. at149 Ψ
 
-      abbrev at151 : Typed.TF T5 O0
-      at151 = λ Ψ. Typed.pass T5 T6 s4 (at150 Ψ)
+      abbrev at151 : Typed.TF T7 O0
+      at151 = λ Ψ. Typed.both s6 (at150 Ψ)
 
-      abbrev at152 : Typed.TF T4 O0
-      at152 = λ Ψ. Typed.give s3 (at151 Ψ)
+      abbrev at152 : Typed.TF T6 O0
+      at152 = λ Ψ. Typed.pass T6 T7 s5 (at151 Ψ)
 
-      abbrev at153 : Typed.TF T3 O0
-      at153 = λ Ψ. Typed.give s2 (at152 Ψ)
+      abbrev at153 : Typed.TF T5 O0
+      at153 = λ Ψ. Typed.pass T5 T6 s4 (at152 Ψ)
 
-      abbrev at154 : Typed.TF T2 O0
-      at154 = λ Ψ. Typed.give s1 (at153 Ψ)
+      abbrev at154 : Typed.TF T4 O0
+      at154 = λ Ψ. Typed.give s3 (at153 Ψ)
 
-      abbrev at155 : Typed.TF T0 O0
-      at155 = λ Ψ. Typed.give s0 (at154 Ψ)
+      abbrev at155 : Typed.TF T3 O0
+      at155 = λ Ψ. Typed.give s2 (at154 Ψ)
+
+      abbrev at156 : Typed.TF T2 O0
+      at156 = λ Ψ. Typed.give s1 (at155 Ψ)
+
+      abbrev at157 : Typed.TF T0 O0
+      at157 = λ Ψ. Typed.give s0 (at156 Ψ)
 
       abbrev pub Φ : Typed.TF T0 O0
-      Φ = at155
+      Φ = at157
 
       module _ {M : Type 1} (𝓤 : URA.URA M) (H : Wp.Heap 𝓤) (A : Atoms.Atoms 𝓤) (W : Kit.Given 𝓤 H A) (𝓣 : Wp.Tables 𝓤 H) where
         abbrev Knowns : Type 1
         Knowns = Plain.Known 𝓤 H A W 𝓣 0 ps·0 r·0 (claims· .0) (claims· .1) "map::width" × Plain.Known 𝓤 H A W 𝓣 1 ps·1 r·1 (claims· .2) (claims· .3) "lines::clear" × Plain.Known 𝓤 H A W 𝓣 1 ps·2 r·2
-            (claims· .4) (claims· .5) "block::reading::base_of" × Plain.Known 𝓤 H A W 𝓣 1 ps·3 r·3 (claims· .6) (claims· .7) "block::records::start_records" × Plain.Known 𝓤 H A W 𝓣 0 ps·4 r·4 (claims· .8)
+            (claims· .4) (claims· .5) "cameras::base_of" × Plain.Known 𝓤 H A W 𝓣 1 ps·3 r·3 (claims· .6) (claims· .7) "block::records::start_records" × Plain.Known 𝓤 H A W 𝓣 0 ps·4 r·4 (claims· .8)
             (claims· .9) "block::reading::start_place" × Plain.Known 𝓤 H A W 𝓣 0 ps·5 r·5 (claims· .10) (claims· .11) "block::reading::no_lines" × Plain.Known 𝓤 H A W 𝓣 1 ps·6 r·6 (claims· .12) (claims·
             .13) "lines::turn_if" × Plain.Known 𝓤 H A W 𝓣 1 ps·7 r·7 (claims· .14) (claims· .15) "block::reading::is_restarted" × Plain.Known 𝓤 H A W 𝓣 1 ps·8 r·8 (claims· .16) (claims· .17)
-            "block::records::restart" × Plain.Known 𝓤 H A W 𝓣 0 ps·9 r·9 (claims· .18) (claims· .19) "block::reading::quantisers_of" × Plain.Known 𝓤 H A W 𝓣 5 ps·10 r·10 (claims· .20) (claims· .21)
+            "block::records::restart" × Plain.Known 𝓤 H A W 𝓣 0 ps·9 r·9 (claims· .18) (claims· .19) "block::reading::quantisers_in" × Plain.Known 𝓤 H A W 𝓣 5 ps·10 r·10 (claims· .20) (claims· .21)
             "block::reading::line" × Plain.Known 𝓤 H A W 𝓣 1 ps·11 r·11 (claims· .22) (claims· .23) "map::windows::zero_line" × Plain.Known 𝓤 H A W 𝓣 0 ps·12 r·12 (claims· .24) (claims· .25)
             "block::reading::totals_at" × Plain.Known 𝓤 H A W 𝓣 0 ps·13 r·13 (claims· .26) (claims· .27) "totals::with_line" × Plain.Known 𝓤 H A W 𝓣 3 ps·14 r·14 (claims· .28) (claims· .29)
             "map::windows::emit_line_if"
 
       module _ (κs : Lifetimes.Lfts 6) (qs : Lifetimes.Shares 6) where
         abbrev g8 : List.List Row.Entry
-        g8 = List._∷_ e0 (List._∷_ e2 (List._∷_ e24 (List._∷_
+        g8 = List._∷_ e0 (List._∷_ e2 (List._∷_ e23 (List._∷_
             (3, Relend.mslice-owed (Referent.rtF (Referent.fInt Syntax.w16)) (Syntax.tyRef (Syntax.named 2) Syntax.mut (Syntax.tyInt Syntax.w16)) 2 6 (Row.lease (κs .1 .1 .0) (qs .1 .1 .0))) (List._∷_ e65
-            (List._∷_ e79 (List._∷_ e84 (List._∷_ e85 (List._∷_ e87 (List._∷_ e89 (List._∷_ e4 (List._∷_ e6 (List._∷_ e8 (List._∷_ e10 (List._∷_ e12 (List._∷_ e13 List.[])))))))))))))))
+            (List._∷_ e79 (List._∷_ e85 (List._∷_ e86 (List._∷_ e88 (List._∷_ e90 (List._∷_ e4 (List._∷_ e6 (List._∷_ e8 (List._∷_ e10 (List._∷_ e12 (List._∷_ e14 List.[])))))))))))))))
 
         abbrev g13 : List.List Row.Entry
-        g13 = List._∷_ e0 (List._∷_ e2 (List._∷_ e24 (List._∷_ e43 (List._∷_
-            (4, Relend.mslice-owed (Element.type) (Syntax.tyRef (Syntax.named 3) Syntax.mut Element.behind) 3 7 (Row.lease (κs .1 .1 .1 .0) (qs .1 .1 .1 .0))) (List._∷_ e79 (List._∷_ e84 (List._∷_ e85
-            (List._∷_ e87 (List._∷_ e89 (List._∷_ e4 (List._∷_ e6 (List._∷_ e8 (List._∷_ e10 (List._∷_ e12 (List._∷_ e13 List.[])))))))))))))))
+        g13 = List._∷_ e0 (List._∷_ e2 (List._∷_ e23 (List._∷_ e44 (List._∷_
+            (4, Relend.mslice-owed (Element.type) (Syntax.tyRef (Syntax.named 3) Syntax.mut Element.behind) 3 7 (Row.lease (κs .1 .1 .1 .0) (qs .1 .1 .1 .0))) (List._∷_ e79 (List._∷_ e85 (List._∷_ e86
+            (List._∷_ e88 (List._∷_ e90 (List._∷_ e4 (List._∷_ e6 (List._∷_ e8 (List._∷_ e10 (List._∷_ e12 (List._∷_ e14 List.[])))))))))))))))
 
-        abbrev g27 : List.List Row.Entry
-        g27 = List._∷_ e0 (List._∷_ e2 (List._∷_ e24 (List._∷_
+        abbrev g28 : List.List Row.Entry
+        g28 = List._∷_ e0 (List._∷_ e2 (List._∷_ e23 (List._∷_
             (3, Relend.mslice-owed (Referent.rtF (Referent.fInt Syntax.w16)) (Syntax.tyRef (Syntax.named 2) Syntax.mut (Syntax.tyInt Syntax.w16)) 2 8 (Row.lease (κs .1 .1 .0) (qs .1 .1 .0))) (List._∷_ e65
-            (List._∷_ e79 (List._∷_ e84 (List._∷_ e85 (List._∷_ e87 (List._∷_ e89 (List._∷_ e4 (List._∷_ e6 (List._∷_ e8 (List._∷_ e10 (List._∷_ e12 (List._∷_ e14 List.[])))))))))))))))
+            (List._∷_ e79 (List._∷_ e85 (List._∷_ e86 (List._∷_ e88 (List._∷_ e90 (List._∷_ e4 (List._∷_ e6 (List._∷_ e8 (List._∷_ e10 (List._∷_ e12 (List._∷_ e14 List.[])))))))))))))))
 
-        abbrev g35 : List.List Row.Entry
-        g35 = List._∷_ e0 (List._∷_ e2 (List._∷_ e24 (List._∷_ e43 (List._∷_
-            (4, Relend.mslice-owed (Element.type) (Syntax.tyRef (Syntax.named 3) Syntax.mut Element.behind) 3 9 (Row.lease (κs .1 .1 .1 .0) (qs .1 .1 .1 .0))) (List._∷_ e79 (List._∷_ e84 (List._∷_ e85
-            (List._∷_ e87 (List._∷_ e89 (List._∷_ e4 (List._∷_ e6 (List._∷_ e8 (List._∷_ e10 (List._∷_ e12 (List._∷_ e14 List.[])))))))))))))))
+        abbrev g36 : List.List Row.Entry
+        g36 = List._∷_ e0 (List._∷_ e2 (List._∷_ e23 (List._∷_ e44 (List._∷_
+            (4, Relend.mslice-owed (Element.type) (Syntax.tyRef (Syntax.named 3) Syntax.mut Element.behind) 3 9 (Row.lease (κs .1 .1 .1 .0) (qs .1 .1 .1 .0))) (List._∷_ e79 (List._∷_ e85 (List._∷_ e86
+            (List._∷_ e88 (List._∷_ e90 (List._∷_ e4 (List._∷_ e6 (List._∷_ e8 (List._∷_ e10 (List._∷_ e12 (List._∷_ e14 List.[])))))))))))))))
 
-        abbrev g42 : List.List Row.Entry
-        g42 = List._∷_ e0 (List._∷_ e2 (List._∷_ e24 (List._∷_
+        abbrev g43 : List.List Row.Entry
+        g43 = List._∷_ e0 (List._∷_ e2 (List._∷_ e23 (List._∷_
             (3, Relend.mslice-owed (Referent.rtF (Referent.fInt Syntax.w16)) (Syntax.tyRef (Syntax.named 2) Syntax.mut (Syntax.tyInt Syntax.w16)) 2 10 (Row.lease (κs .1 .1 .0) (qs .1 .1 .0))) (List._∷_
-            e65 (List._∷_ e79 (List._∷_ e84 (List._∷_ e85 (List._∷_ e87 (List._∷_ e89 (List._∷_ e4 (List._∷_ e6 (List._∷_ e8 (List._∷_ e10 (List._∷_ e12 (List._∷_ e14 List.[])))))))))))))))
+            e65 (List._∷_ e79 (List._∷_ e85 (List._∷_ e86 (List._∷_ e88 (List._∷_ e90 (List._∷_ e4 (List._∷_ e6 (List._∷_ e8 (List._∷_ e10 (List._∷_ e12 (List._∷_ e14 List.[])))))))))))))))
 
-        abbrev g45 : List.List Row.Entry
-        g45 = List._∷_ e0 (List._∷_ e2 (List._∷_ e24 (List._∷_
+        abbrev g46 : List.List Row.Entry
+        g46 = List._∷_ e0 (List._∷_ e2 (List._∷_ e23 (List._∷_
             (3, Relend.mslice-owed (Referent.rtF (Referent.fInt Syntax.w16)) (Syntax.tyRef (Syntax.named 2) Syntax.mut (Syntax.tyInt Syntax.w16)) 2 10 (Row.lease (κs .1 .1 .0) (qs .1 .1 .0))) (List._∷_
-            (4, Relend.mslice-owed (Element.type) (Syntax.tyRef (Syntax.named 3) Syntax.mut Element.behind) 3 11 (Row.lease (κs .1 .1 .1 .0) (qs .1 .1 .1 .0))) (List._∷_ e79 (List._∷_ e84 (List._∷_ e85
-            (List._∷_ e87 (List._∷_ e89 (List._∷_ e4 (List._∷_ e6 (List._∷_ e8 (List._∷_ e10 (List._∷_ e12 (List._∷_ e14 List.[])))))))))))))))
+            (4, Relend.mslice-owed (Element.type) (Syntax.tyRef (Syntax.named 3) Syntax.mut Element.behind) 3 11 (Row.lease (κs .1 .1 .1 .0) (qs .1 .1 .1 .0))) (List._∷_ e79 (List._∷_ e85 (List._∷_ e86
+            (List._∷_ e88 (List._∷_ e90 (List._∷_ e4 (List._∷_ e6 (List._∷_ e8 (List._∷_ e10 (List._∷_ e12 (List._∷_ e14 List.[])))))))))))))))
 
-        abbrev g48 : List.List Row.Entry
-        g48 = List._∷_ e0 (List._∷_ e2 (List._∷_ e24 (List._∷_
+        abbrev g49 : List.List Row.Entry
+        g49 = List._∷_ e0 (List._∷_ e2 (List._∷_ e23 (List._∷_
             (3, Relend.mslice-owed (Referent.rtF (Referent.fInt Syntax.w16)) (Syntax.tyRef (Syntax.named 2) Syntax.mut (Syntax.tyInt Syntax.w16)) 2 10 (Row.lease (κs .1 .1 .0) (qs .1 .1 .0))) (List._∷_
             (4, Relend.mslice-owed (Element.type) (Syntax.tyRef (Syntax.named 3) Syntax.mut Element.behind) 3 11 (Row.lease (κs .1 .1 .1 .0) (qs .1 .1 .1 .0))) (List._∷_
             (5, Relend.mslice-owed (Referent.rtF (Referent.fInt Syntax.w16)) (Syntax.tyRef (Syntax.named 4) Syntax.mut (Syntax.tyInt Syntax.w16)) 4 12 (Row.lease (κs .1 .1 .1 .1 .0) (qs .1 .1 .1 .1 .0)))
-            (List._∷_ e84 (List._∷_ e85 (List._∷_ e87 (List._∷_ e89 (List._∷_ e4 (List._∷_ e6 (List._∷_ e8 (List._∷_ e10 (List._∷_ e12 (List._∷_ e14 List.[])))))))))))))))
+            (List._∷_ e85 (List._∷_ e86 (List._∷_ e88 (List._∷_ e90 (List._∷_ e4 (List._∷_ e6 (List._∷_ e8 (List._∷_ e10 (List._∷_ e12 (List._∷_ e14 List.[])))))))))))))))
 
-        abbrev g56 : List.List Row.Entry
-        g56 = List._∷_ e0 (List._∷_ e2 (List._∷_ e24 (List._∷_ e43 (List._∷_
+        abbrev g57 : List.List Row.Entry
+        g57 = List._∷_ e0 (List._∷_ e2 (List._∷_ e23 (List._∷_ e44 (List._∷_
             (4, Relend.mslice-owed (Element.type) (Syntax.tyRef (Syntax.named 3) Syntax.mut Element.behind) 3 11 (Row.lease (κs .1 .1 .1 .0) (qs .1 .1 .1 .0))) (List._∷_
             (5, Relend.mslice-owed (Referent.rtF (Referent.fInt Syntax.w16)) (Syntax.tyRef (Syntax.named 4) Syntax.mut (Syntax.tyInt Syntax.w16)) 4 12 (Row.lease (κs .1 .1 .1 .1 .0) (qs .1 .1 .1 .1 .0)))
-            (List._∷_ e84 (List._∷_ e85 (List._∷_ e87 (List._∷_ e89 (List._∷_ e4 (List._∷_ e6 (List._∷_ e8 (List._∷_ e10 (List._∷_ e12 (List._∷_ e14 List.[])))))))))))))))
+            (List._∷_ e85 (List._∷_ e86 (List._∷_ e88 (List._∷_ e90 (List._∷_ e4 (List._∷_ e6 (List._∷_ e8 (List._∷_ e10 (List._∷_ e12 (List._∷_ e14 List.[])))))))))))))))
 
-        abbrev g58 : List.List Row.Entry
-        g58 = List._∷_ e0 (List._∷_ e2 (List._∷_ e24 (List._∷_ e43 (List._∷_ e65 (List._∷_
+        abbrev g59 : List.List Row.Entry
+        g59 = List._∷_ e0 (List._∷_ e2 (List._∷_ e23 (List._∷_ e44 (List._∷_ e65 (List._∷_
             (5, Relend.mslice-owed (Referent.rtF (Referent.fInt Syntax.w16)) (Syntax.tyRef (Syntax.named 4) Syntax.mut (Syntax.tyInt Syntax.w16)) 4 12 (Row.lease (κs .1 .1 .1 .1 .0) (qs .1 .1 .1 .1 .0)))
-            (List._∷_ e84 (List._∷_ e85 (List._∷_ e87 (List._∷_ e89 (List._∷_ e4 (List._∷_ e6 (List._∷_ e8 (List._∷_ e10 (List._∷_ e12 (List._∷_ e14 List.[])))))))))))))))
+            (List._∷_ e85 (List._∷_ e86 (List._∷_ e88 (List._∷_ e90 (List._∷_ e4 (List._∷_ e6 (List._∷_ e8 (List._∷_ e10 (List._∷_ e12 (List._∷_ e14 List.[])))))))))))))))
 
-        abbrev g64 : List.List Row.Entry
-        g64 = List._∷_ e0 (List._∷_ e2 (List._∷_ e24 (List._∷_ e43 (List._∷_ e65 (List._∷_
+        abbrev g67 : List.List Row.Entry
+        g67 = List._∷_ e0 (List._∷_ e2 (List._∷_ e23 (List._∷_ e44 (List._∷_ e65 (List._∷_
             (5, Relend.mslice-owed (Referent.rtF (Referent.fInt Syntax.w16)) (Syntax.tyRef (Syntax.named 4) Syntax.mut (Syntax.tyInt Syntax.w16)) 4 13 (Row.lease (κs .1 .1 .1 .1 .0) (qs .1 .1 .1 .1 .0)))
-            (List._∷_ e83 (List._∷_ e85 (List._∷_ e86 (List._∷_ e89 (List._∷_ e4 (List._∷_ e6 (List._∷_ e8 (List._∷_ e10 (List._∷_ e12 (List._∷_ e14 List.[])))))))))))))))
+            (List._∷_ e84 (List._∷_ e86 (List._∷_ e87 (List._∷_ e90 (List._∷_ e4 (List._∷_ e6 (List._∷_ e7 (List._∷_ e10 (List._∷_ e12 (List._∷_ e14 List.[])))))))))))))))
 
-        abbrev g68 : List.List Row.Entry
-        g68 = List._∷_ e0 (List._∷_ e2 (List._∷_ e24 (List._∷_ e43 (List._∷_ e65 (List._∷_
+        abbrev g71 : List.List Row.Entry
+        g71 = List._∷_ e0 (List._∷_ e2 (List._∷_ e23 (List._∷_ e44 (List._∷_ e65 (List._∷_
             (5, Relend.mslice-owed (Referent.rtF (Referent.fInt Syntax.w16)) (Syntax.tyRef (Syntax.named 4) Syntax.mut (Syntax.tyInt Syntax.w16)) 4 13 (Row.lease (κs .1 .1 .1 .1 .0) (qs .1 .1 .1 .1 .0)))
-            (List._∷_ e83 (List._∷_ e85 (List._∷_ e86 (List._∷_ e88 (List._∷_ e4 (List._∷_ e6 (List._∷_ e8 (List._∷_ e10 (List._∷_ e12 (List._∷_ e14 List.[])))))))))))))))
+            (List._∷_ e84 (List._∷_ e86 (List._∷_ e87 (List._∷_ e89 (List._∷_ e4 (List._∷_ e6 (List._∷_ e7 (List._∷_ e10 (List._∷_ e12 (List._∷_ e14 List.[])))))))))))))))
 
-        abbrev g79 : List.List Row.Entry
-        g79 = List._∷_ e0 (List._∷_ e2 (List._∷_ e24 (List._∷_
+        abbrev g83 : List.List Row.Entry
+        g83 = List._∷_ e0 (List._∷_ e2 (List._∷_ e23 (List._∷_
             (3, Reshare.mslice-owedS (Referent.rtF (Referent.fInt Syntax.w16)) (Syntax.tyRef (Syntax.named 2) Syntax.mut (Syntax.tyInt Syntax.w16)) 2 14 (Row.lease (κs .1 .1 .0) (qs .1 .1 .0))) (List._∷_
-            e65 (List._∷_ e79 (List._∷_ e84 (List._∷_ e85 (List._∷_ e87 (List._∷_ e89 (List._∷_ e4 (List._∷_ e6 (List._∷_ e8 (List._∷_ e10 (List._∷_ e12 (List._∷_ e14 List.[])))))))))))))))
+            e65 (List._∷_ e79 (List._∷_ e85 (List._∷_ e86 (List._∷_ e88 (List._∷_ e90 (List._∷_ e4 (List._∷_ e6 (List._∷_ e8 (List._∷_ e10 (List._∷_ e12 (List._∷_ e14 List.[])))))))))))))))
 
-        abbrev g82 : List.List Row.Entry
-        g82 = List._∷_ e0 (List._∷_ e2 (List._∷_ e24 (List._∷_
+        abbrev g86 : List.List Row.Entry
+        g86 = List._∷_ e0 (List._∷_ e2 (List._∷_ e23 (List._∷_
             (3, Reshare.mslice-owedS (Referent.rtF (Referent.fInt Syntax.w16)) (Syntax.tyRef (Syntax.named 2) Syntax.mut (Syntax.tyInt Syntax.w16)) 2 14 (Row.lease (κs .1 .1 .0) (qs .1 .1 .0))) (List._∷_
             e65 (List._∷_
             (5, Relend.mslice-owed (Referent.rtF (Referent.fInt Syntax.w16)) (Syntax.tyRef (Syntax.named 4) Syntax.mut (Syntax.tyInt Syntax.w16)) 4 15 (Row.lease (κs .1 .1 .1 .1 .0) (qs .1 .1 .1 .1 .0)))
-            (List._∷_ e84 (List._∷_ e85 (List._∷_ e87 (List._∷_ e89 (List._∷_ e4 (List._∷_ e6 (List._∷_ e8 (List._∷_ e10 (List._∷_ e12 (List._∷_ e14 List.[])))))))))))))))
+            (List._∷_ e85 (List._∷_ e86 (List._∷_ e88 (List._∷_ e90 (List._∷_ e4 (List._∷_ e6 (List._∷_ e8 (List._∷_ e10 (List._∷_ e12 (List._∷_ e14 List.[])))))))))))))))
 
-        abbrev g86 : List.List Row.Entry
-        g86 = List._∷_ e0 (List._∷_ e2 (List._∷_ e24 (List._∷_ e43 (List._∷_ e65 (List._∷_
+        abbrev g90 : List.List Row.Entry
+        g90 = List._∷_ e0 (List._∷_ e2 (List._∷_ e23 (List._∷_ e44 (List._∷_ e65 (List._∷_
             (5, Relend.mslice-owed (Referent.rtF (Referent.fInt Syntax.w16)) (Syntax.tyRef (Syntax.named 4) Syntax.mut (Syntax.tyInt Syntax.w16)) 4 15 (Row.lease (κs .1 .1 .1 .1 .0) (qs .1 .1 .1 .1 .0)))
-            (List._∷_ e84 (List._∷_ e85 (List._∷_ e87 (List._∷_ e89 (List._∷_ e4 (List._∷_ e6 (List._∷_ e8 (List._∷_ e10 (List._∷_ e12 (List._∷_ e14 List.[])))))))))))))))
+            (List._∷_ e85 (List._∷_ e86 (List._∷_ e88 (List._∷_ e90 (List._∷_ e4 (List._∷_ e6 (List._∷_ e8 (List._∷_ e10 (List._∷_ e12 (List._∷_ e14 List.[])))))))))))))))
 
         abbrev G0 : Row.Cx
         G0 = record {
@@ -3231,7 +3327,7 @@ module _ (claims· : Claims) where
 
         abbrev G28 : Row.Cx
         G28 = record {
-          locals = List._++_ t20 (List._++_ t1 (List._++_ t2 t3));
+          locals = List._++_ t7 (List._++_ t20 (List._++_ t2 t3));
           slots = List._∷_ (Row.lease (κs .0) (qs .0)) (List._∷_ (Row.lease (κs .1 .0) (qs .1 .0)) (List._∷_ (Row.lease (κs .1 .1 .0) (qs .1 .1
               .0)) (List._∷_ (Row.lease (κs .1 .1 .1 .0) (qs .1 .1 .1 .0)) (List._∷_ (Row.lease (κs .1 .1 .1 .1 .0) (qs .1 .1 .1 .1 .0)) (List._∷_ (Row.lease (κs .1 .1 .1 .1 .1 .0) (qs .1 .1 .1 .1 .1 .0))
               (List._∷_ Row.off (List._∷_ Row.off (List._∷_ Row.off (List._∷_ Row.off (List._∷_ Row.off (List._∷_ Row.off (List._∷_ Row.off (List._∷_ Row.off (List._∷_ Row.off (List._∷_ Row.off
@@ -3240,19 +3336,19 @@ module _ (claims· : Claims) where
 
         abbrev G29 : Row.Cx
         G29 = record {
-          locals = List._++_ t20 (List._++_ t21 (List._++_ t2 t3));
-          slots = List._∷_ (Row.lease (κs .0) (qs .0)) (List._∷_ (Row.lease (κs .1 .0) (qs .1 .0)) (List._∷_ (Row.lease (κs .1 .1 .0) (qs .1
-              .1 .0)) (List._∷_ (Row.lease (κs .1 .1 .1 .0) (qs .1 .1 .1 .0)) (List._∷_ (Row.lease (κs .1 .1 .1 .1 .0) (qs .1 .1 .1 .1 .0)) (List._∷_ (Row.lease (κs .1 .1 .1 .1 .1 .0) (qs .1 .1 .1 .1 .1
-              .0)) (List._∷_ Row.off (List._∷_ Row.off (List._∷_ Row.off (List._∷_ Row.off (List._∷_ Row.off (List._∷_ Row.off (List._∷_ Row.off (List._∷_ Row.off (List._∷_ Row.off (List._∷_ Row.off
+          locals = List._++_ t7 (List._++_ t21 (List._++_ t2 t3));
+          slots = List._∷_ (Row.lease (κs .0) (qs .0)) (List._∷_ (Row.lease (κs .1 .0) (qs .1 .0)) (List._∷_ (Row.lease (κs .1 .1 .0) (qs .1 .1
+              .0)) (List._∷_ (Row.lease (κs .1 .1 .1 .0) (qs .1 .1 .1 .0)) (List._∷_ (Row.lease (κs .1 .1 .1 .1 .0) (qs .1 .1 .1 .1 .0)) (List._∷_ (Row.lease (κs .1 .1 .1 .1 .1 .0) (qs .1 .1 .1 .1 .1 .0))
+              (List._∷_ Row.off (List._∷_ Row.off (List._∷_ Row.off (List._∷_ Row.off (List._∷_ Row.off (List._∷_ Row.off (List._∷_ Row.off (List._∷_ Row.off (List._∷_ Row.off (List._∷_ Row.off
               List.[])))))))))))))));
         }
 
         abbrev G30 : Row.Cx
         G30 = record {
-          locals = List._++_ t20 (List._++_ t22 (List._++_ t2 t3));
-          slots = List._∷_ (Row.lease (κs .0) (qs .0)) (List._∷_ (Row.lease (κs .1 .0) (qs .1 .0)) (List._∷_ (Row.lease (κs .1 .1 .0) (qs .1
-              .1 .0)) (List._∷_ (Row.lease (κs .1 .1 .1 .0) (qs .1 .1 .1 .0)) (List._∷_ (Row.lease (κs .1 .1 .1 .1 .0) (qs .1 .1 .1 .1 .0)) (List._∷_ (Row.lease (κs .1 .1 .1 .1 .1 .0) (qs .1 .1 .1 .1 .1
-              .0)) (List._∷_ Row.off (List._∷_ Row.off (List._∷_ Row.off (List._∷_ Row.off (List._∷_ Row.off (List._∷_ Row.off (List._∷_ Row.off (List._∷_ Row.off (List._∷_ Row.off (List._∷_ Row.off
+          locals = List._++_ t7 (List._++_ t22 (List._++_ t2 t3));
+          slots = List._∷_ (Row.lease (κs .0) (qs .0)) (List._∷_ (Row.lease (κs .1 .0) (qs .1 .0)) (List._∷_ (Row.lease (κs .1 .1 .0) (qs .1 .1
+              .0)) (List._∷_ (Row.lease (κs .1 .1 .1 .0) (qs .1 .1 .1 .0)) (List._∷_ (Row.lease (κs .1 .1 .1 .1 .0) (qs .1 .1 .1 .1 .0)) (List._∷_ (Row.lease (κs .1 .1 .1 .1 .1 .0) (qs .1 .1 .1 .1 .1 .0))
+              (List._∷_ Row.off (List._∷_ Row.off (List._∷_ Row.off (List._∷_ Row.off (List._∷_ Row.off (List._∷_ Row.off (List._∷_ Row.off (List._∷_ Row.off (List._∷_ Row.off (List._∷_ Row.off
               List.[])))))))))))))));
         }
 
@@ -3267,28 +3363,28 @@ module _ (claims· : Claims) where
 
         abbrev G32 : Row.Cx
         G32 = record {
-          locals = List._++_ t20 (List._++_ t24 (List._++_ t2 t3));
-          slots = List._∷_ (Row.lease (κs .0) (qs .0)) (List._∷_ (Row.lease (κs .1 .0) (qs .1 .0)) (List._∷_ (Row.lease (κs .1 .1 .0) (qs .1
-              .1 .0)) (List._∷_ (Row.lease (κs .1 .1 .1 .0) (qs .1 .1 .1 .0)) (List._∷_ (Row.lease (κs .1 .1 .1 .1 .0) (qs .1 .1 .1 .1 .0)) (List._∷_ (Row.lease (κs .1 .1 .1 .1 .1 .0) (qs .1 .1 .1 .1 .1
-              .0)) (List._∷_ Row.off (List._∷_ Row.off (List._∷_ Row.off (List._∷_ Row.off (List._∷_ Row.off (List._∷_ Row.off (List._∷_ Row.off (List._∷_ Row.off (List._∷_ Row.off (List._∷_ Row.off
+          locals = List._++_ t7 (List._++_ t24 (List._++_ t2 t3));
+          slots = List._∷_ (Row.lease (κs .0) (qs .0)) (List._∷_ (Row.lease (κs .1 .0) (qs .1 .0)) (List._∷_ (Row.lease (κs .1 .1 .0) (qs .1 .1
+              .0)) (List._∷_ (Row.lease (κs .1 .1 .1 .0) (qs .1 .1 .1 .0)) (List._∷_ (Row.lease (κs .1 .1 .1 .1 .0) (qs .1 .1 .1 .1 .0)) (List._∷_ (Row.lease (κs .1 .1 .1 .1 .1 .0) (qs .1 .1 .1 .1 .1 .0))
+              (List._∷_ Row.off (List._∷_ Row.off (List._∷_ Row.off (List._∷_ Row.off (List._∷_ Row.off (List._∷_ Row.off (List._∷_ Row.off (List._∷_ Row.off (List._∷_ Row.off (List._∷_ Row.off
               List.[])))))))))))))));
         }
 
         abbrev G33 : Row.Cx
         G33 = record {
-          locals = List._++_ t20 (List._++_ t22 (List._++_ t2 t3));
-          slots = List._∷_ (Row.lease (κs .0) (qs .0)) (List._∷_ (Row.lease (κs .1 .0) (qs .1 .0)) (List._∷_ (Row.lease (κs .1 .1 .0) (qs .1
-              .1 .0)) (List._∷_ (Row.lease (κs .1 .1 .1 .0) (qs .1 .1 .1 .0)) (List._∷_ (Row.lease (κs .1 .1 .1 .1 .0) (qs .1 .1 .1 .1 .0)) (List._∷_ (Row.lease (κs .1 .1 .1 .1 .1 .0) (qs .1 .1 .1 .1 .1
-              .0)) (List._∷_ Row.off (List._∷_ Row.off (List._∷_ Row.off (List._∷_ Row.off (List._∷_ Row.off (List._∷_ Row.off (List._∷_ Row.off (List._∷_ Row.off (List._∷_ Row.off (List._∷_ Row.off
+          locals = List._++_ t7 (List._++_ t22 (List._++_ t2 t3));
+          slots = List._∷_ (Row.lease (κs .0) (qs .0)) (List._∷_ (Row.lease (κs .1 .0) (qs .1 .0)) (List._∷_ (Row.lease (κs .1 .1 .0) (qs .1 .1
+              .0)) (List._∷_ (Row.lease (κs .1 .1 .1 .0) (qs .1 .1 .1 .0)) (List._∷_ (Row.lease (κs .1 .1 .1 .1 .0) (qs .1 .1 .1 .1 .0)) (List._∷_ (Row.lease (κs .1 .1 .1 .1 .1 .0) (qs .1 .1 .1 .1 .1 .0))
+              (List._∷_ Row.off (List._∷_ Row.off (List._∷_ Row.off (List._∷_ Row.off (List._∷_ Row.off (List._∷_ Row.off (List._∷_ Row.off (List._∷_ Row.off (List._∷_ Row.off (List._∷_ Row.off
               List.[])))))))))))))));
         }
 
         abbrev G34 : Row.Cx
         G34 = record {
-          locals = List._++_ t20 (List._++_ t22 (List._++_ t2 t3));
-          slots = List._∷_ (Row.lease (κs .0) (qs .0)) (List._∷_ (Row.lease (κs .1 .0) (qs .1 .0)) (List._∷_ (Row.lease (κs .1 .1 .0) (qs .1
-              .1 .0)) (List._∷_ (Row.lease (κs .1 .1 .1 .0) (qs .1 .1 .1 .0)) (List._∷_ (Row.lease (κs .1 .1 .1 .1 .0) (qs .1 .1 .1 .1 .0)) (List._∷_ (Row.lease (κs .1 .1 .1 .1 .1 .0) (qs .1 .1 .1 .1 .1
-              .0)) (List._∷_ Row.off (List._∷_ Row.off (List._∷_ Row.off (List._∷_ Row.off (List._∷_ Row.off (List._∷_ Row.off (List._∷_ Row.off (List._∷_ Row.off (List._∷_ Row.off (List._∷_ Row.off
+          locals = List._++_ t7 (List._++_ t22 (List._++_ t2 t3));
+          slots = List._∷_ (Row.lease (κs .0) (qs .0)) (List._∷_ (Row.lease (κs .1 .0) (qs .1 .0)) (List._∷_ (Row.lease (κs .1 .1 .0) (qs .1 .1
+              .0)) (List._∷_ (Row.lease (κs .1 .1 .1 .0) (qs .1 .1 .1 .0)) (List._∷_ (Row.lease (κs .1 .1 .1 .1 .0) (qs .1 .1 .1 .1 .0)) (List._∷_ (Row.lease (κs .1 .1 .1 .1 .1 .0) (qs .1 .1 .1 .1 .1 .0))
+              (List._∷_ Row.off (List._∷_ Row.off (List._∷_ Row.off (List._∷_ Row.off (List._∷_ Row.off (List._∷_ Row.off (List._∷_ Row.off (List._∷_ Row.off (List._∷_ Row.off (List._∷_ Row.off
               List.[])))))))))))))));
         }
 
@@ -3312,7 +3408,7 @@ module _ (claims· : Claims) where
 
         abbrev G37 : Row.Cx
         G37 = record {
-          locals = List._++_ t23 (List._++_ t24 (List._++_ t2 t3));
+          locals = List._++_ t27 (List._++_ t24 (List._++_ t2 t3));
           slots = List._∷_ (Row.lease (κs .0) (qs .0)) (List._∷_ (Row.lease (κs .1 .0) (qs .1 .0)) (List._∷_ (Row.lease (κs .1 .1 .0) (qs .1
               .1 .0)) (List._∷_ (Row.lease (κs .1 .1 .1 .0) (qs .1 .1 .1 .0)) (List._∷_ (Row.lease (κs .1 .1 .1 .1 .0) (qs .1 .1 .1 .1 .0)) (List._∷_ (Row.lease (κs .1 .1 .1 .1 .1 .0) (qs .1 .1 .1 .1 .1
               .0)) (List._∷_ Row.off (List._∷_ Row.off (List._∷_ Row.off (List._∷_ Row.off (List._∷_ Row.off (List._∷_ Row.off (List._∷_ Row.off (List._∷_ Row.off (List._∷_ Row.off (List._∷_ Row.off
@@ -3321,7 +3417,7 @@ module _ (claims· : Claims) where
 
         abbrev G38 : Row.Cx
         G38 = record {
-          locals = List._++_ t23 (List._++_ t22 (List._++_ t2 t3));
+          locals = List._++_ t23 (List._++_ t24 (List._++_ t2 t3));
           slots = List._∷_ (Row.lease (κs .0) (qs .0)) (List._∷_ (Row.lease (κs .1 .0) (qs .1 .0)) (List._∷_ (Row.lease (κs .1 .1 .0) (qs .1
               .1 .0)) (List._∷_ (Row.lease (κs .1 .1 .1 .0) (qs .1 .1 .1 .0)) (List._∷_ (Row.lease (κs .1 .1 .1 .1 .0) (qs .1 .1 .1 .1 .0)) (List._∷_ (Row.lease (κs .1 .1 .1 .1 .1 .0) (qs .1 .1 .1 .1 .1
               .0)) (List._∷_ Row.off (List._∷_ Row.off (List._∷_ Row.off (List._∷_ Row.off (List._∷_ Row.off (List._∷_ Row.off (List._∷_ Row.off (List._∷_ Row.off (List._∷_ Row.off (List._∷_ Row.off
@@ -3330,24 +3426,25 @@ module _ (claims· : Claims) where
 
         abbrev G39 : Row.Cx
         G39 = record {
-          locals = List._++_ t20 (List._++_ t22 (List._++_ t2 t3));
+          locals = List._++_ t23 (List._++_ t22 (List._++_ t2 t3));
           slots = List._∷_ (Row.lease (κs .0) (qs .0)) (List._∷_ (Row.lease (κs .1 .0) (qs .1 .0)) (List._∷_ (Row.lease (κs .1 .1 .0) (qs .1
               .1 .0)) (List._∷_ (Row.lease (κs .1 .1 .1 .0) (qs .1 .1 .1 .0)) (List._∷_ (Row.lease (κs .1 .1 .1 .1 .0) (qs .1 .1 .1 .1 .0)) (List._∷_ (Row.lease (κs .1 .1 .1 .1 .1 .0) (qs .1 .1 .1 .1 .1
-              .0)) (List._∷_ Row.off (List._∷_ Row.off (List._∷_ Row.alive (List._∷_ Row.off (List._∷_ Row.off (List._∷_ Row.off (List._∷_ Row.off (List._∷_ Row.off (List._∷_ Row.off (List._∷_ Row.off
+              .0)) (List._∷_ Row.off (List._∷_ Row.off (List._∷_ Row.off (List._∷_ Row.off (List._∷_ Row.off (List._∷_ Row.off (List._∷_ Row.off (List._∷_ Row.off (List._∷_ Row.off (List._∷_ Row.off
               List.[])))))))))))))));
         }
 
         abbrev G40 : Row.Cx
         G40 = record {
-          locals = List._++_ g27 (List._++_ t28 (List._++_ t2 t3));
-          slots = List._∷_ (Row.lease (κs .0) (qs .0)) (List._∷_ (Row.lease (κs .1 .0) (qs .1 .0)) (List._∷_ Row.off (List._∷_ (Row.lease (κs
-              .1 .1 .1 .0) (qs .1 .1 .1 .0)) (List._∷_ (Row.lease (κs .1 .1 .1 .1 .0) (qs .1 .1 .1 .1 .0)) (List._∷_ (Row.lease (κs .1 .1 .1 .1 .1 .0) (qs .1 .1 .1 .1 .1 .0)) (List._∷_ Row.off (List._∷_
-              Row.off (List._∷_ Row.alive (List._∷_ Row.off (List._∷_ Row.off (List._∷_ Row.off (List._∷_ Row.off (List._∷_ Row.off (List._∷_ Row.off (List._∷_ Row.off List.[])))))))))))))));
+          locals = List._++_ t7 (List._++_ t22 (List._++_ t2 t3));
+          slots = List._∷_ (Row.lease (κs .0) (qs .0)) (List._∷_ (Row.lease (κs .1 .0) (qs .1 .0)) (List._∷_ (Row.lease (κs .1 .1 .0) (qs .1 .1
+              .0)) (List._∷_ (Row.lease (κs .1 .1 .1 .0) (qs .1 .1 .1 .0)) (List._∷_ (Row.lease (κs .1 .1 .1 .1 .0) (qs .1 .1 .1 .1 .0)) (List._∷_ (Row.lease (κs .1 .1 .1 .1 .1 .0) (qs .1 .1 .1 .1 .1 .0))
+              (List._∷_ Row.off (List._∷_ Row.off (List._∷_ Row.alive (List._∷_ Row.off (List._∷_ Row.off (List._∷_ Row.off (List._∷_ Row.off (List._∷_ Row.off (List._∷_ Row.off (List._∷_ Row.off
+              List.[])))))))))))))));
         }
 
         abbrev G41 : Row.Cx
         G41 = record {
-          locals = List._++_ g27 (List._++_ t29 (List._++_ t2 t3));
+          locals = List._++_ g28 (List._++_ t29 (List._++_ t2 t3));
           slots = List._∷_ (Row.lease (κs .0) (qs .0)) (List._∷_ (Row.lease (κs .1 .0) (qs .1 .0)) (List._∷_ Row.off (List._∷_ (Row.lease (κs
               .1 .1 .1 .0) (qs .1 .1 .1 .0)) (List._∷_ (Row.lease (κs .1 .1 .1 .1 .0) (qs .1 .1 .1 .1 .0)) (List._∷_ (Row.lease (κs .1 .1 .1 .1 .1 .0) (qs .1 .1 .1 .1 .1 .0)) (List._∷_ Row.off (List._∷_
               Row.off (List._∷_ Row.alive (List._∷_ Row.off (List._∷_ Row.off (List._∷_ Row.off (List._∷_ Row.off (List._∷_ Row.off (List._∷_ Row.off (List._∷_ Row.off List.[])))))))))))))));
@@ -3355,7 +3452,7 @@ module _ (claims· : Claims) where
 
         abbrev G42 : Row.Cx
         G42 = record {
-          locals = List._++_ g27 (List._++_ t30 (List._++_ t2 t3));
+          locals = List._++_ g28 (List._++_ t30 (List._++_ t2 t3));
           slots = List._∷_ (Row.lease (κs .0) (qs .0)) (List._∷_ (Row.lease (κs .1 .0) (qs .1 .0)) (List._∷_ Row.off (List._∷_ (Row.lease (κs
               .1 .1 .1 .0) (qs .1 .1 .1 .0)) (List._∷_ (Row.lease (κs .1 .1 .1 .1 .0) (qs .1 .1 .1 .1 .0)) (List._∷_ (Row.lease (κs .1 .1 .1 .1 .1 .0) (qs .1 .1 .1 .1 .1 .0)) (List._∷_ Row.off (List._∷_
               Row.off (List._∷_ Row.alive (List._∷_ Row.off (List._∷_ Row.off (List._∷_ Row.off (List._∷_ Row.off (List._∷_ Row.off (List._∷_ Row.off (List._∷_ Row.off List.[])))))))))))))));
@@ -3363,7 +3460,7 @@ module _ (claims· : Claims) where
 
         abbrev G43 : Row.Cx
         G43 = record {
-          locals = List._++_ g27 (List._++_ t31 (List._++_ t2 t3));
+          locals = List._++_ g28 (List._++_ t31 (List._++_ t2 t3));
           slots = List._∷_ (Row.lease (κs .0) (qs .0)) (List._∷_ (Row.lease (κs .1 .0) (qs .1 .0)) (List._∷_ Row.off (List._∷_ (Row.lease (κs
               .1 .1 .1 .0) (qs .1 .1 .1 .0)) (List._∷_ (Row.lease (κs .1 .1 .1 .1 .0) (qs .1 .1 .1 .1 .0)) (List._∷_ (Row.lease (κs .1 .1 .1 .1 .1 .0) (qs .1 .1 .1 .1 .1 .0)) (List._∷_ Row.off (List._∷_
               Row.off (List._∷_ Row.alive (List._∷_ Row.off (List._∷_ Row.off (List._∷_ Row.off (List._∷_ Row.off (List._∷_ Row.off (List._∷_ Row.off (List._∷_ Row.off List.[])))))))))))))));
@@ -3371,7 +3468,7 @@ module _ (claims· : Claims) where
 
         abbrev G44 : Row.Cx
         G44 = record {
-          locals = List._++_ g27 (List._++_ t32 (List._++_ t2 t3));
+          locals = List._++_ g28 (List._++_ t32 (List._++_ t2 t3));
           slots = List._∷_ (Row.lease (κs .0) (qs .0)) (List._∷_ (Row.lease (κs .1 .0) (qs .1 .0)) (List._∷_ Row.off (List._∷_ (Row.lease (κs
               .1 .1 .1 .0) (qs .1 .1 .1 .0)) (List._∷_ (Row.lease (κs .1 .1 .1 .1 .0) (qs .1 .1 .1 .1 .0)) (List._∷_ (Row.lease (κs .1 .1 .1 .1 .1 .0) (qs .1 .1 .1 .1 .1 .0)) (List._∷_ Row.off (List._∷_
               Row.off (List._∷_ Row.alive (List._∷_ Row.off (List._∷_ Row.off (List._∷_ Row.off (List._∷_ Row.off (List._∷_ Row.off (List._∷_ Row.off (List._∷_ Row.off List.[])))))))))))))));
@@ -3379,7 +3476,7 @@ module _ (claims· : Claims) where
 
         abbrev G45 : Row.Cx
         G45 = record {
-          locals = List._++_ g27 (List._++_ t33 (List._++_ t2 t3));
+          locals = List._++_ g28 (List._++_ t33 (List._++_ t2 t3));
           slots = List._∷_ (Row.lease (κs .0) (qs .0)) (List._∷_ (Row.lease (κs .1 .0) (qs .1 .0)) (List._∷_ Row.off (List._∷_ (Row.lease (κs
               .1 .1 .1 .0) (qs .1 .1 .1 .0)) (List._∷_ (Row.lease (κs .1 .1 .1 .1 .0) (qs .1 .1 .1 .1 .0)) (List._∷_ (Row.lease (κs .1 .1 .1 .1 .1 .0) (qs .1 .1 .1 .1 .1 .0)) (List._∷_ Row.off (List._∷_
               Row.off (List._∷_ Row.alive (List._∷_ Row.off (List._∷_ Row.off (List._∷_ Row.off (List._∷_ Row.off (List._∷_ Row.off (List._∷_ Row.off (List._∷_ Row.off List.[])))))))))))))));
@@ -3387,68 +3484,68 @@ module _ (claims· : Claims) where
 
         abbrev G46 : Row.Cx
         G46 = record {
-          locals = List._++_ g27 (List._++_ t33 (List._++_ t2 t3));
+          locals = List._++_ g28 (List._++_ t34 (List._++_ t2 t3));
+          slots = List._∷_ (Row.lease (κs .0) (qs .0)) (List._∷_ (Row.lease (κs .1 .0) (qs .1 .0)) (List._∷_ Row.off (List._∷_ (Row.lease (κs
+              .1 .1 .1 .0) (qs .1 .1 .1 .0)) (List._∷_ (Row.lease (κs .1 .1 .1 .1 .0) (qs .1 .1 .1 .1 .0)) (List._∷_ (Row.lease (κs .1 .1 .1 .1 .1 .0) (qs .1 .1 .1 .1 .1 .0)) (List._∷_ Row.off (List._∷_
+              Row.off (List._∷_ Row.alive (List._∷_ Row.off (List._∷_ Row.off (List._∷_ Row.off (List._∷_ Row.off (List._∷_ Row.off (List._∷_ Row.off (List._∷_ Row.off List.[])))))))))))))));
+        }
+
+        abbrev G47 : Row.Cx
+        G47 = record {
+          locals = List._++_ g28 (List._++_ t34 (List._++_ t2 t3));
           slots = List._∷_ (Row.lease (κs .0) (qs .0)) (List._∷_ (Row.lease (κs .1 .0) (qs .1 .0)) (List._∷_ Row.off (List._∷_ (Row.lease (κs
               .1 .1 .1 .0) (qs .1 .1 .1 .0)) (List._∷_ (Row.lease (κs .1 .1 .1 .1 .0) (qs .1 .1 .1 .1 .0)) (List._∷_ (Row.lease (κs .1 .1 .1 .1 .1 .0) (qs .1 .1 .1 .1 .1 .0)) (List._∷_ Row.off (List._∷_
               Row.off (List._∷_ Row.dead (List._∷_ Row.off (List._∷_ Row.off (List._∷_ Row.off (List._∷_ Row.off (List._∷_ Row.off (List._∷_ Row.off (List._∷_ Row.off List.[])))))))))))))));
         }
 
-        abbrev G47 : Row.Cx
-        G47 = record {
-          locals = List._++_ t20 (List._++_ t22 (List._++_ t2 t3));
-          slots = List._∷_ (Row.lease (κs .0) (qs .0)) (List._∷_ (Row.lease (κs .1 .0) (qs .1 .0)) (List._∷_ (Row.lease (κs .1 .1 .0) (qs .1
-              .1 .0)) (List._∷_ (Row.lease (κs .1 .1 .1 .0) (qs .1 .1 .1 .0)) (List._∷_ (Row.lease (κs .1 .1 .1 .1 .0) (qs .1 .1 .1 .1 .0)) (List._∷_ (Row.lease (κs .1 .1 .1 .1 .1 .0) (qs .1 .1 .1 .1 .1
-              .0)) (List._∷_ Row.off (List._∷_ Row.off (List._∷_ Row.dead (List._∷_ Row.off (List._∷_ Row.off (List._∷_ Row.off (List._∷_ Row.off (List._∷_ Row.off (List._∷_ Row.off (List._∷_ Row.off
-              List.[])))))))))))))));
-        }
-
         abbrev G48 : Row.Cx
         G48 = record {
-          locals = List._++_ t20 (List._++_ t22 (List._++_ t2 t3));
-          slots = List._∷_ (Row.lease (κs .0) (qs .0)) (List._∷_ (Row.lease (κs .1 .0) (qs .1 .0)) (List._∷_ (Row.lease (κs .1 .1 .0) (qs .1
-              .1 .0)) (List._∷_ (Row.lease (κs .1 .1 .1 .0) (qs .1 .1 .1 .0)) (List._∷_ (Row.lease (κs .1 .1 .1 .1 .0) (qs .1 .1 .1 .1 .0)) (List._∷_ (Row.lease (κs .1 .1 .1 .1 .1 .0) (qs .1 .1 .1 .1 .1
-              .0)) (List._∷_ Row.off (List._∷_ Row.off (List._∷_ Row.dead (List._∷_ Row.off (List._∷_ Row.off (List._∷_ Row.off (List._∷_ Row.off (List._∷_ Row.off (List._∷_ Row.off (List._∷_ Row.off
+          locals = List._++_ t7 (List._++_ t22 (List._++_ t2 t3));
+          slots = List._∷_ (Row.lease (κs .0) (qs .0)) (List._∷_ (Row.lease (κs .1 .0) (qs .1 .0)) (List._∷_ (Row.lease (κs .1 .1 .0) (qs .1 .1
+              .0)) (List._∷_ (Row.lease (κs .1 .1 .1 .0) (qs .1 .1 .1 .0)) (List._∷_ (Row.lease (κs .1 .1 .1 .1 .0) (qs .1 .1 .1 .1 .0)) (List._∷_ (Row.lease (κs .1 .1 .1 .1 .1 .0) (qs .1 .1 .1 .1 .1 .0))
+              (List._∷_ Row.off (List._∷_ Row.off (List._∷_ Row.dead (List._∷_ Row.off (List._∷_ Row.off (List._∷_ Row.off (List._∷_ Row.off (List._∷_ Row.off (List._∷_ Row.off (List._∷_ Row.off
               List.[])))))))))))))));
         }
 
         abbrev G49 : Row.Cx
         G49 = record {
-          locals = List._++_ t20 (List._++_ t22 (List._++_ t2 t3));
-          slots = List._∷_ (Row.lease (κs .0) (qs .0)) (List._∷_ (Row.lease (κs .1 .0) (qs .1 .0)) (List._∷_ (Row.lease (κs .1 .1 .0) (qs .1
-              .1 .0)) (List._∷_ (Row.lease (κs .1 .1 .1 .0) (qs .1 .1 .1 .0)) (List._∷_ (Row.lease (κs .1 .1 .1 .1 .0) (qs .1 .1 .1 .1 .0)) (List._∷_ (Row.lease (κs .1 .1 .1 .1 .1 .0) (qs .1 .1 .1 .1 .1
-              .0)) (List._∷_ Row.off (List._∷_ Row.off (List._∷_ Row.off (List._∷_ Row.off (List._∷_ Row.off (List._∷_ Row.off (List._∷_ Row.off (List._∷_ Row.off (List._∷_ Row.off (List._∷_ Row.off
+          locals = List._++_ t7 (List._++_ t22 (List._++_ t2 t3));
+          slots = List._∷_ (Row.lease (κs .0) (qs .0)) (List._∷_ (Row.lease (κs .1 .0) (qs .1 .0)) (List._∷_ (Row.lease (κs .1 .1 .0) (qs .1 .1
+              .0)) (List._∷_ (Row.lease (κs .1 .1 .1 .0) (qs .1 .1 .1 .0)) (List._∷_ (Row.lease (κs .1 .1 .1 .1 .0) (qs .1 .1 .1 .1 .0)) (List._∷_ (Row.lease (κs .1 .1 .1 .1 .1 .0) (qs .1 .1 .1 .1 .1 .0))
+              (List._∷_ Row.off (List._∷_ Row.off (List._∷_ Row.dead (List._∷_ Row.off (List._∷_ Row.off (List._∷_ Row.off (List._∷_ Row.off (List._∷_ Row.off (List._∷_ Row.off (List._∷_ Row.off
               List.[])))))))))))))));
         }
 
         abbrev G50 : Row.Cx
         G50 = record {
-          locals = List._++_ t20 (List._++_ t34 (List._++_ t2 t3));
-          slots = List._∷_ (Row.lease (κs .0) (qs .0)) (List._∷_ (Row.lease (κs .1 .0) (qs .1 .0)) (List._∷_ (Row.lease (κs .1 .1 .0) (qs .1
-              .1 .0)) (List._∷_ (Row.lease (κs .1 .1 .1 .0) (qs .1 .1 .1 .0)) (List._∷_ (Row.lease (κs .1 .1 .1 .1 .0) (qs .1 .1 .1 .1 .0)) (List._∷_ (Row.lease (κs .1 .1 .1 .1 .1 .0) (qs .1 .1 .1 .1 .1
-              .0)) (List._∷_ Row.off (List._∷_ Row.off (List._∷_ Row.off (List._∷_ Row.off (List._∷_ Row.off (List._∷_ Row.off (List._∷_ Row.off (List._∷_ Row.off (List._∷_ Row.off (List._∷_ Row.off
+          locals = List._++_ t7 (List._++_ t22 (List._++_ t2 t3));
+          slots = List._∷_ (Row.lease (κs .0) (qs .0)) (List._∷_ (Row.lease (κs .1 .0) (qs .1 .0)) (List._∷_ (Row.lease (κs .1 .1 .0) (qs .1 .1
+              .0)) (List._∷_ (Row.lease (κs .1 .1 .1 .0) (qs .1 .1 .1 .0)) (List._∷_ (Row.lease (κs .1 .1 .1 .1 .0) (qs .1 .1 .1 .1 .0)) (List._∷_ (Row.lease (κs .1 .1 .1 .1 .1 .0) (qs .1 .1 .1 .1 .1 .0))
+              (List._∷_ Row.off (List._∷_ Row.off (List._∷_ Row.off (List._∷_ Row.off (List._∷_ Row.off (List._∷_ Row.off (List._∷_ Row.off (List._∷_ Row.off (List._∷_ Row.off (List._∷_ Row.off
               List.[])))))))))))))));
         }
 
         abbrev G51 : Row.Cx
         G51 = record {
-          locals = List._++_ t20 (List._++_ t34 (List._++_ t2 t3));
-          slots = List._∷_ (Row.lease (κs .0) (qs .0)) (List._∷_ (Row.lease (κs .1 .0) (qs .1 .0)) (List._∷_ (Row.lease (κs .1 .1 .0) (qs .1
-              .1 .0)) (List._∷_ (Row.lease (κs .1 .1 .1 .0) (qs .1 .1 .1 .0)) (List._∷_ (Row.lease (κs .1 .1 .1 .1 .0) (qs .1 .1 .1 .1 .0)) (List._∷_ (Row.lease (κs .1 .1 .1 .1 .1 .0) (qs .1 .1 .1 .1 .1
-              .0)) (List._∷_ Row.off (List._∷_ Row.off (List._∷_ Row.off (List._∷_ Row.alive (List._∷_ Row.off (List._∷_ Row.off (List._∷_ Row.off (List._∷_ Row.off (List._∷_ Row.off (List._∷_ Row.off
+          locals = List._++_ t7 (List._++_ t35 (List._++_ t2 t3));
+          slots = List._∷_ (Row.lease (κs .0) (qs .0)) (List._∷_ (Row.lease (κs .1 .0) (qs .1 .0)) (List._∷_ (Row.lease (κs .1 .1 .0) (qs .1 .1
+              .0)) (List._∷_ (Row.lease (κs .1 .1 .1 .0) (qs .1 .1 .1 .0)) (List._∷_ (Row.lease (κs .1 .1 .1 .1 .0) (qs .1 .1 .1 .1 .0)) (List._∷_ (Row.lease (κs .1 .1 .1 .1 .1 .0) (qs .1 .1 .1 .1 .1 .0))
+              (List._∷_ Row.off (List._∷_ Row.off (List._∷_ Row.off (List._∷_ Row.off (List._∷_ Row.off (List._∷_ Row.off (List._∷_ Row.off (List._∷_ Row.off (List._∷_ Row.off (List._∷_ Row.off
               List.[])))))))))))))));
         }
 
         abbrev G52 : Row.Cx
         G52 = record {
-          locals = List._++_ g35 (List._++_ t36 (List._++_ t2 t3));
-          slots = List._∷_ (Row.lease (κs .0) (qs .0)) (List._∷_ (Row.lease (κs .1 .0) (qs .1 .0)) (List._∷_ (Row.lease (κs .1 .1 .0) (qs .1
-              .1 .0)) (List._∷_ Row.off (List._∷_ (Row.lease (κs .1 .1 .1 .1 .0) (qs .1 .1 .1 .1 .0)) (List._∷_ (Row.lease (κs .1 .1 .1 .1 .1 .0) (qs .1 .1 .1 .1 .1 .0)) (List._∷_ Row.off (List._∷_ Row.off
-              (List._∷_ Row.off (List._∷_ Row.alive (List._∷_ Row.off (List._∷_ Row.off (List._∷_ Row.off (List._∷_ Row.off (List._∷_ Row.off (List._∷_ Row.off List.[])))))))))))))));
+          locals = List._++_ t7 (List._++_ t35 (List._++_ t2 t3));
+          slots = List._∷_ (Row.lease (κs .0) (qs .0)) (List._∷_ (Row.lease (κs .1 .0) (qs .1 .0)) (List._∷_ (Row.lease (κs .1 .1 .0) (qs .1 .1
+              .0)) (List._∷_ (Row.lease (κs .1 .1 .1 .0) (qs .1 .1 .1 .0)) (List._∷_ (Row.lease (κs .1 .1 .1 .1 .0) (qs .1 .1 .1 .1 .0)) (List._∷_ (Row.lease (κs .1 .1 .1 .1 .1 .0) (qs .1 .1 .1 .1 .1 .0))
+              (List._∷_ Row.off (List._∷_ Row.off (List._∷_ Row.off (List._∷_ Row.alive (List._∷_ Row.off (List._∷_ Row.off (List._∷_ Row.off (List._∷_ Row.off (List._∷_ Row.off (List._∷_ Row.off
+              List.[])))))))))))))));
         }
 
         abbrev G53 : Row.Cx
         G53 = record {
-          locals = List._++_ g35 (List._++_ t34 (List._++_ t37 t3));
+          locals = List._++_ g36 (List._++_ t35 (List._++_ t37 t3));
           slots = List._∷_ (Row.lease (κs .0) (qs .0)) (List._∷_ (Row.lease (κs .1 .0) (qs .1 .0)) (List._∷_ (Row.lease (κs .1 .1 .0) (qs .1
               .1 .0)) (List._∷_ Row.off (List._∷_ (Row.lease (κs .1 .1 .1 .1 .0) (qs .1 .1 .1 .1 .0)) (List._∷_ (Row.lease (κs .1 .1 .1 .1 .1 .0) (qs .1 .1 .1 .1 .1 .0)) (List._∷_ Row.off (List._∷_ Row.off
               (List._∷_ Row.off (List._∷_ Row.alive (List._∷_ Row.off (List._∷_ Row.off (List._∷_ Row.off (List._∷_ Row.off (List._∷_ Row.off (List._∷_ Row.off List.[])))))))))))))));
@@ -3456,7 +3553,7 @@ module _ (claims· : Claims) where
 
         abbrev G54 : Row.Cx
         G54 = record {
-          locals = List._++_ g35 (List._++_ t38 (List._++_ t37 t3));
+          locals = List._++_ g36 (List._++_ t35 (List._++_ t38 t3));
           slots = List._∷_ (Row.lease (κs .0) (qs .0)) (List._∷_ (Row.lease (κs .1 .0) (qs .1 .0)) (List._∷_ (Row.lease (κs .1 .1 .0) (qs .1
               .1 .0)) (List._∷_ Row.off (List._∷_ (Row.lease (κs .1 .1 .1 .1 .0) (qs .1 .1 .1 .1 .0)) (List._∷_ (Row.lease (κs .1 .1 .1 .1 .1 .0) (qs .1 .1 .1 .1 .1 .0)) (List._∷_ Row.off (List._∷_ Row.off
               (List._∷_ Row.off (List._∷_ Row.alive (List._∷_ Row.off (List._∷_ Row.off (List._∷_ Row.off (List._∷_ Row.off (List._∷_ Row.off (List._∷_ Row.off List.[])))))))))))))));
@@ -3464,7 +3561,7 @@ module _ (claims· : Claims) where
 
         abbrev G55 : Row.Cx
         G55 = record {
-          locals = List._++_ g35 (List._++_ t39 (List._++_ t40 t3));
+          locals = List._++_ g36 (List._++_ t39 (List._++_ t38 t3));
           slots = List._∷_ (Row.lease (κs .0) (qs .0)) (List._∷_ (Row.lease (κs .1 .0) (qs .1 .0)) (List._∷_ (Row.lease (κs .1 .1 .0) (qs .1
               .1 .0)) (List._∷_ Row.off (List._∷_ (Row.lease (κs .1 .1 .1 .1 .0) (qs .1 .1 .1 .1 .0)) (List._∷_ (Row.lease (κs .1 .1 .1 .1 .1 .0) (qs .1 .1 .1 .1 .1 .0)) (List._∷_ Row.off (List._∷_ Row.off
               (List._∷_ Row.off (List._∷_ Row.alive (List._∷_ Row.off (List._∷_ Row.off (List._∷_ Row.off (List._∷_ Row.off (List._∷_ Row.off (List._∷_ Row.off List.[])))))))))))))));
@@ -3472,7 +3569,7 @@ module _ (claims· : Claims) where
 
         abbrev G56 : Row.Cx
         G56 = record {
-          locals = List._++_ g35 (List._++_ t41 (List._++_ t40 t3));
+          locals = List._++_ g36 (List._++_ t40 (List._++_ t41 t3));
           slots = List._∷_ (Row.lease (κs .0) (qs .0)) (List._∷_ (Row.lease (κs .1 .0) (qs .1 .0)) (List._∷_ (Row.lease (κs .1 .1 .0) (qs .1
               .1 .0)) (List._∷_ Row.off (List._∷_ (Row.lease (κs .1 .1 .1 .1 .0) (qs .1 .1 .1 .1 .0)) (List._∷_ (Row.lease (κs .1 .1 .1 .1 .1 .0) (qs .1 .1 .1 .1 .1 .0)) (List._∷_ Row.off (List._∷_ Row.off
               (List._∷_ Row.off (List._∷_ Row.alive (List._∷_ Row.off (List._∷_ Row.off (List._∷_ Row.off (List._∷_ Row.off (List._∷_ Row.off (List._∷_ Row.off List.[])))))))))))))));
@@ -3480,7 +3577,7 @@ module _ (claims· : Claims) where
 
         abbrev G57 : Row.Cx
         G57 = record {
-          locals = List._++_ g35 (List._++_ t34 (List._++_ t40 t3));
+          locals = List._++_ g36 (List._++_ t42 (List._++_ t41 t3));
           slots = List._∷_ (Row.lease (κs .0) (qs .0)) (List._∷_ (Row.lease (κs .1 .0) (qs .1 .0)) (List._∷_ (Row.lease (κs .1 .1 .0) (qs .1
               .1 .0)) (List._∷_ Row.off (List._∷_ (Row.lease (κs .1 .1 .1 .1 .0) (qs .1 .1 .1 .1 .0)) (List._∷_ (Row.lease (κs .1 .1 .1 .1 .1 .0) (qs .1 .1 .1 .1 .1 .0)) (List._∷_ Row.off (List._∷_ Row.off
               (List._∷_ Row.off (List._∷_ Row.alive (List._∷_ Row.off (List._∷_ Row.off (List._∷_ Row.off (List._∷_ Row.off (List._∷_ Row.off (List._∷_ Row.off List.[])))))))))))))));
@@ -3488,50 +3585,50 @@ module _ (claims· : Claims) where
 
         abbrev G58 : Row.Cx
         G58 = record {
-          locals = List._++_ g35 (List._++_ t34 (List._++_ t40 t3));
+          locals = List._++_ g36 (List._++_ t35 (List._++_ t41 t3));
+          slots = List._∷_ (Row.lease (κs .0) (qs .0)) (List._∷_ (Row.lease (κs .1 .0) (qs .1 .0)) (List._∷_ (Row.lease (κs .1 .1 .0) (qs .1
+              .1 .0)) (List._∷_ Row.off (List._∷_ (Row.lease (κs .1 .1 .1 .1 .0) (qs .1 .1 .1 .1 .0)) (List._∷_ (Row.lease (κs .1 .1 .1 .1 .1 .0) (qs .1 .1 .1 .1 .1 .0)) (List._∷_ Row.off (List._∷_ Row.off
+              (List._∷_ Row.off (List._∷_ Row.alive (List._∷_ Row.off (List._∷_ Row.off (List._∷_ Row.off (List._∷_ Row.off (List._∷_ Row.off (List._∷_ Row.off List.[])))))))))))))));
+        }
+
+        abbrev G59 : Row.Cx
+        G59 = record {
+          locals = List._++_ g36 (List._++_ t35 (List._++_ t41 t3));
           slots = List._∷_ (Row.lease (κs .0) (qs .0)) (List._∷_ (Row.lease (κs .1 .0) (qs .1 .0)) (List._∷_ (Row.lease (κs .1 .1 .0) (qs .1
               .1 .0)) (List._∷_ Row.off (List._∷_ (Row.lease (κs .1 .1 .1 .1 .0) (qs .1 .1 .1 .1 .0)) (List._∷_ (Row.lease (κs .1 .1 .1 .1 .1 .0) (qs .1 .1 .1 .1 .1 .0)) (List._∷_ Row.off (List._∷_ Row.off
               (List._∷_ Row.off (List._∷_ Row.dead (List._∷_ Row.off (List._∷_ Row.off (List._∷_ Row.off (List._∷_ Row.off (List._∷_ Row.off (List._∷_ Row.off List.[])))))))))))))));
         }
 
-        abbrev G59 : Row.Cx
-        G59 = record {
-          locals = List._++_ t20 (List._++_ t34 (List._++_ t2 t3));
-          slots = List._∷_ (Row.lease (κs .0) (qs .0)) (List._∷_ (Row.lease (κs .1 .0) (qs .1 .0)) (List._∷_ (Row.lease (κs .1 .1 .0) (qs .1
-              .1 .0)) (List._∷_ (Row.lease (κs .1 .1 .1 .0) (qs .1 .1 .1 .0)) (List._∷_ (Row.lease (κs .1 .1 .1 .1 .0) (qs .1 .1 .1 .1 .0)) (List._∷_ (Row.lease (κs .1 .1 .1 .1 .1 .0) (qs .1 .1 .1 .1 .1
-              .0)) (List._∷_ Row.off (List._∷_ Row.off (List._∷_ Row.off (List._∷_ Row.dead (List._∷_ Row.off (List._∷_ Row.off (List._∷_ Row.off (List._∷_ Row.off (List._∷_ Row.off (List._∷_ Row.off
-              List.[])))))))))))))));
-        }
-
         abbrev G60 : Row.Cx
         G60 = record {
-          locals = List._++_ t20 (List._++_ t34 (List._++_ t2 t3));
-          slots = List._∷_ (Row.lease (κs .0) (qs .0)) (List._∷_ (Row.lease (κs .1 .0) (qs .1 .0)) (List._∷_ (Row.lease (κs .1 .1 .0) (qs .1
-              .1 .0)) (List._∷_ (Row.lease (κs .1 .1 .1 .0) (qs .1 .1 .1 .0)) (List._∷_ (Row.lease (κs .1 .1 .1 .1 .0) (qs .1 .1 .1 .1 .0)) (List._∷_ (Row.lease (κs .1 .1 .1 .1 .1 .0) (qs .1 .1 .1 .1 .1
-              .0)) (List._∷_ Row.off (List._∷_ Row.off (List._∷_ Row.off (List._∷_ Row.off (List._∷_ Row.off (List._∷_ Row.off (List._∷_ Row.off (List._∷_ Row.off (List._∷_ Row.off (List._∷_ Row.off
+          locals = List._++_ t7 (List._++_ t35 (List._++_ t2 t3));
+          slots = List._∷_ (Row.lease (κs .0) (qs .0)) (List._∷_ (Row.lease (κs .1 .0) (qs .1 .0)) (List._∷_ (Row.lease (κs .1 .1 .0) (qs .1 .1
+              .0)) (List._∷_ (Row.lease (κs .1 .1 .1 .0) (qs .1 .1 .1 .0)) (List._∷_ (Row.lease (κs .1 .1 .1 .1 .0) (qs .1 .1 .1 .1 .0)) (List._∷_ (Row.lease (κs .1 .1 .1 .1 .1 .0) (qs .1 .1 .1 .1 .1 .0))
+              (List._∷_ Row.off (List._∷_ Row.off (List._∷_ Row.off (List._∷_ Row.dead (List._∷_ Row.off (List._∷_ Row.off (List._∷_ Row.off (List._∷_ Row.off (List._∷_ Row.off (List._∷_ Row.off
               List.[])))))))))))))));
         }
 
         abbrev G61 : Row.Cx
         G61 = record {
-          locals = List._++_ t20 (List._++_ t34 (List._++_ t2 t3));
-          slots = List._∷_ (Row.lease (κs .0) (qs .0)) (List._∷_ (Row.lease (κs .1 .0) (qs .1 .0)) (List._∷_ (Row.lease (κs .1 .1 .0) (qs .1
-              .1 .0)) (List._∷_ (Row.lease (κs .1 .1 .1 .0) (qs .1 .1 .1 .0)) (List._∷_ (Row.lease (κs .1 .1 .1 .1 .0) (qs .1 .1 .1 .1 .0)) (List._∷_ (Row.lease (κs .1 .1 .1 .1 .1 .0) (qs .1 .1 .1 .1 .1
-              .0)) (List._∷_ Row.off (List._∷_ Row.off (List._∷_ Row.off (List._∷_ Row.off (List._∷_ Row.alive (List._∷_ Row.off (List._∷_ Row.off (List._∷_ Row.off (List._∷_ Row.off (List._∷_ Row.off
+          locals = List._++_ t7 (List._++_ t35 (List._++_ t2 t3));
+          slots = List._∷_ (Row.lease (κs .0) (qs .0)) (List._∷_ (Row.lease (κs .1 .0) (qs .1 .0)) (List._∷_ (Row.lease (κs .1 .1 .0) (qs .1 .1
+              .0)) (List._∷_ (Row.lease (κs .1 .1 .1 .0) (qs .1 .1 .1 .0)) (List._∷_ (Row.lease (κs .1 .1 .1 .1 .0) (qs .1 .1 .1 .1 .0)) (List._∷_ (Row.lease (κs .1 .1 .1 .1 .1 .0) (qs .1 .1 .1 .1 .1 .0))
+              (List._∷_ Row.off (List._∷_ Row.off (List._∷_ Row.off (List._∷_ Row.off (List._∷_ Row.off (List._∷_ Row.off (List._∷_ Row.off (List._∷_ Row.off (List._∷_ Row.off (List._∷_ Row.off
               List.[])))))))))))))));
         }
 
         abbrev G62 : Row.Cx
         G62 = record {
-          locals = List._++_ g42 (List._++_ t34 (List._++_ t43 t3));
-          slots = List._∷_ (Row.lease (κs .0) (qs .0)) (List._∷_ (Row.lease (κs .1 .0) (qs .1 .0)) (List._∷_ Row.off (List._∷_ (Row.lease (κs
-              .1 .1 .1 .0) (qs .1 .1 .1 .0)) (List._∷_ (Row.lease (κs .1 .1 .1 .1 .0) (qs .1 .1 .1 .1 .0)) (List._∷_ (Row.lease (κs .1 .1 .1 .1 .1 .0) (qs .1 .1 .1 .1 .1 .0)) (List._∷_ Row.off (List._∷_
-              Row.off (List._∷_ Row.off (List._∷_ Row.off (List._∷_ Row.alive (List._∷_ Row.off (List._∷_ Row.off (List._∷_ Row.off (List._∷_ Row.off (List._∷_ Row.off List.[])))))))))))))));
+          locals = List._++_ t7 (List._++_ t35 (List._++_ t2 t3));
+          slots = List._∷_ (Row.lease (κs .0) (qs .0)) (List._∷_ (Row.lease (κs .1 .0) (qs .1 .0)) (List._∷_ (Row.lease (κs .1 .1 .0) (qs .1 .1
+              .0)) (List._∷_ (Row.lease (κs .1 .1 .1 .0) (qs .1 .1 .1 .0)) (List._∷_ (Row.lease (κs .1 .1 .1 .1 .0) (qs .1 .1 .1 .1 .0)) (List._∷_ (Row.lease (κs .1 .1 .1 .1 .1 .0) (qs .1 .1 .1 .1 .1 .0))
+              (List._∷_ Row.off (List._∷_ Row.off (List._∷_ Row.off (List._∷_ Row.off (List._∷_ Row.alive (List._∷_ Row.off (List._∷_ Row.off (List._∷_ Row.off (List._∷_ Row.off (List._∷_ Row.off
+              List.[])))))))))))))));
         }
 
         abbrev G63 : Row.Cx
         G63 = record {
-          locals = List._++_ g42 (List._++_ t34 (List._++_ t44 t3));
+          locals = List._++_ g43 (List._++_ t35 (List._++_ t44 t3));
           slots = List._∷_ (Row.lease (κs .0) (qs .0)) (List._∷_ (Row.lease (κs .1 .0) (qs .1 .0)) (List._∷_ Row.off (List._∷_ (Row.lease (κs
               .1 .1 .1 .0) (qs .1 .1 .1 .0)) (List._∷_ (Row.lease (κs .1 .1 .1 .1 .0) (qs .1 .1 .1 .1 .0)) (List._∷_ (Row.lease (κs .1 .1 .1 .1 .1 .0) (qs .1 .1 .1 .1 .1 .0)) (List._∷_ Row.off (List._∷_
               Row.off (List._∷_ Row.off (List._∷_ Row.off (List._∷_ Row.alive (List._∷_ Row.off (List._∷_ Row.off (List._∷_ Row.off (List._∷_ Row.off (List._∷_ Row.off List.[])))))))))))))));
@@ -3539,23 +3636,23 @@ module _ (claims· : Claims) where
 
         abbrev G64 : Row.Cx
         G64 = record {
-          locals = List._++_ g42 (List._++_ t34 (List._++_ t44 t3));
+          locals = List._++_ g43 (List._++_ t35 (List._++_ t45 t3));
+          slots = List._∷_ (Row.lease (κs .0) (qs .0)) (List._∷_ (Row.lease (κs .1 .0) (qs .1 .0)) (List._∷_ Row.off (List._∷_ (Row.lease (κs
+              .1 .1 .1 .0) (qs .1 .1 .1 .0)) (List._∷_ (Row.lease (κs .1 .1 .1 .1 .0) (qs .1 .1 .1 .1 .0)) (List._∷_ (Row.lease (κs .1 .1 .1 .1 .1 .0) (qs .1 .1 .1 .1 .1 .0)) (List._∷_ Row.off (List._∷_
+              Row.off (List._∷_ Row.off (List._∷_ Row.off (List._∷_ Row.alive (List._∷_ Row.off (List._∷_ Row.off (List._∷_ Row.off (List._∷_ Row.off (List._∷_ Row.off List.[])))))))))))))));
+        }
+
+        abbrev G65 : Row.Cx
+        G65 = record {
+          locals = List._++_ g43 (List._++_ t35 (List._++_ t45 t3));
           slots = List._∷_ (Row.lease (κs .0) (qs .0)) (List._∷_ (Row.lease (κs .1 .0) (qs .1 .0)) (List._∷_ Row.off (List._∷_ (Row.lease (κs
               .1 .1 .1 .0) (qs .1 .1 .1 .0)) (List._∷_ (Row.lease (κs .1 .1 .1 .1 .0) (qs .1 .1 .1 .1 .0)) (List._∷_ (Row.lease (κs .1 .1 .1 .1 .1 .0) (qs .1 .1 .1 .1 .1 .0)) (List._∷_ Row.off (List._∷_
               Row.off (List._∷_ Row.off (List._∷_ Row.off (List._∷_ Row.alive (List._∷_ Row.alive (List._∷_ Row.off (List._∷_ Row.off (List._∷_ Row.off (List._∷_ Row.off List.[])))))))))))))));
         }
 
-        abbrev G65 : Row.Cx
-        G65 = record {
-          locals = List._++_ g45 (List._++_ t34 (List._++_ t46 t3));
-          slots = List._∷_ (Row.lease (κs .0) (qs .0)) (List._∷_ (Row.lease (κs .1 .0) (qs .1 .0)) (List._∷_ Row.off (List._∷_ Row.off
-              (List._∷_ (Row.lease (κs .1 .1 .1 .1 .0) (qs .1 .1 .1 .1 .0)) (List._∷_ (Row.lease (κs .1 .1 .1 .1 .1 .0) (qs .1 .1 .1 .1 .1 .0)) (List._∷_ Row.off (List._∷_ Row.off (List._∷_ Row.off
-              (List._∷_ Row.off (List._∷_ Row.alive (List._∷_ Row.alive (List._∷_ Row.off (List._∷_ Row.off (List._∷_ Row.off (List._∷_ Row.off List.[])))))))))))))));
-        }
-
         abbrev G66 : Row.Cx
         G66 = record {
-          locals = List._++_ g45 (List._++_ t34 (List._++_ t47 t3));
+          locals = List._++_ g46 (List._++_ t35 (List._++_ t47 t3));
           slots = List._∷_ (Row.lease (κs .0) (qs .0)) (List._∷_ (Row.lease (κs .1 .0) (qs .1 .0)) (List._∷_ Row.off (List._∷_ Row.off
               (List._∷_ (Row.lease (κs .1 .1 .1 .1 .0) (qs .1 .1 .1 .1 .0)) (List._∷_ (Row.lease (κs .1 .1 .1 .1 .1 .0) (qs .1 .1 .1 .1 .1 .0)) (List._∷_ Row.off (List._∷_ Row.off (List._∷_ Row.off
               (List._∷_ Row.off (List._∷_ Row.alive (List._∷_ Row.alive (List._∷_ Row.off (List._∷_ Row.off (List._∷_ Row.off (List._∷_ Row.off List.[])))))))))))))));
@@ -3563,23 +3660,23 @@ module _ (claims· : Claims) where
 
         abbrev G67 : Row.Cx
         G67 = record {
-          locals = List._++_ g45 (List._++_ t34 (List._++_ t47 t3));
+          locals = List._++_ g46 (List._++_ t35 (List._++_ t48 t3));
+          slots = List._∷_ (Row.lease (κs .0) (qs .0)) (List._∷_ (Row.lease (κs .1 .0) (qs .1 .0)) (List._∷_ Row.off (List._∷_ Row.off
+              (List._∷_ (Row.lease (κs .1 .1 .1 .1 .0) (qs .1 .1 .1 .1 .0)) (List._∷_ (Row.lease (κs .1 .1 .1 .1 .1 .0) (qs .1 .1 .1 .1 .1 .0)) (List._∷_ Row.off (List._∷_ Row.off (List._∷_ Row.off
+              (List._∷_ Row.off (List._∷_ Row.alive (List._∷_ Row.alive (List._∷_ Row.off (List._∷_ Row.off (List._∷_ Row.off (List._∷_ Row.off List.[])))))))))))))));
+        }
+
+        abbrev G68 : Row.Cx
+        G68 = record {
+          locals = List._++_ g46 (List._++_ t35 (List._++_ t48 t3));
           slots = List._∷_ (Row.lease (κs .0) (qs .0)) (List._∷_ (Row.lease (κs .1 .0) (qs .1 .0)) (List._∷_ Row.off (List._∷_ Row.off
               (List._∷_ (Row.lease (κs .1 .1 .1 .1 .0) (qs .1 .1 .1 .1 .0)) (List._∷_ (Row.lease (κs .1 .1 .1 .1 .1 .0) (qs .1 .1 .1 .1 .1 .0)) (List._∷_ Row.off (List._∷_ Row.off (List._∷_ Row.off
               (List._∷_ Row.off (List._∷_ Row.alive (List._∷_ Row.alive (List._∷_ Row.alive (List._∷_ Row.off (List._∷_ Row.off (List._∷_ Row.off List.[])))))))))))))));
         }
 
-        abbrev G68 : Row.Cx
-        G68 = record {
-          locals = List._++_ g48 (List._++_ t34 (List._++_ t49 t3));
-          slots = List._∷_ (Row.lease (κs .0) (qs .0)) (List._∷_ (Row.lease (κs .1 .0) (qs .1 .0)) (List._∷_ Row.off (List._∷_ Row.off
-              (List._∷_ Row.off (List._∷_ (Row.lease (κs .1 .1 .1 .1 .1 .0) (qs .1 .1 .1 .1 .1 .0)) (List._∷_ Row.off (List._∷_ Row.off (List._∷_ Row.off (List._∷_ Row.off (List._∷_ Row.alive (List._∷_
-              Row.alive (List._∷_ Row.alive (List._∷_ Row.off (List._∷_ Row.off (List._∷_ Row.off List.[])))))))))))))));
-        }
-
         abbrev G69 : Row.Cx
         G69 = record {
-          locals = List._++_ g48 (List._++_ t34 (List._++_ t50 t3));
+          locals = List._++_ g49 (List._++_ t35 (List._++_ t50 t3));
           slots = List._∷_ (Row.lease (κs .0) (qs .0)) (List._∷_ (Row.lease (κs .1 .0) (qs .1 .0)) (List._∷_ Row.off (List._∷_ Row.off
               (List._∷_ Row.off (List._∷_ (Row.lease (κs .1 .1 .1 .1 .1 .0) (qs .1 .1 .1 .1 .1 .0)) (List._∷_ Row.off (List._∷_ Row.off (List._∷_ Row.off (List._∷_ Row.off (List._∷_ Row.alive (List._∷_
               Row.alive (List._∷_ Row.alive (List._∷_ Row.off (List._∷_ Row.off (List._∷_ Row.off List.[])))))))))))))));
@@ -3587,7 +3684,7 @@ module _ (claims· : Claims) where
 
         abbrev G70 : Row.Cx
         G70 = record {
-          locals = List._++_ g48 (List._++_ t34 (List._++_ t51 t3));
+          locals = List._++_ g49 (List._++_ t35 (List._++_ t51 t3));
           slots = List._∷_ (Row.lease (κs .0) (qs .0)) (List._∷_ (Row.lease (κs .1 .0) (qs .1 .0)) (List._∷_ Row.off (List._∷_ Row.off
               (List._∷_ Row.off (List._∷_ (Row.lease (κs .1 .1 .1 .1 .1 .0) (qs .1 .1 .1 .1 .1 .0)) (List._∷_ Row.off (List._∷_ Row.off (List._∷_ Row.off (List._∷_ Row.off (List._∷_ Row.alive (List._∷_
               Row.alive (List._∷_ Row.alive (List._∷_ Row.off (List._∷_ Row.off (List._∷_ Row.off List.[])))))))))))))));
@@ -3595,7 +3692,7 @@ module _ (claims· : Claims) where
 
         abbrev G71 : Row.Cx
         G71 = record {
-          locals = List._++_ g48 (List._++_ t52 (List._++_ t53 t3));
+          locals = List._++_ g49 (List._++_ t35 (List._++_ t52 t3));
           slots = List._∷_ (Row.lease (κs .0) (qs .0)) (List._∷_ (Row.lease (κs .1 .0) (qs .1 .0)) (List._∷_ Row.off (List._∷_ Row.off
               (List._∷_ Row.off (List._∷_ (Row.lease (κs .1 .1 .1 .1 .1 .0) (qs .1 .1 .1 .1 .1 .0)) (List._∷_ Row.off (List._∷_ Row.off (List._∷_ Row.off (List._∷_ Row.off (List._∷_ Row.alive (List._∷_
               Row.alive (List._∷_ Row.alive (List._∷_ Row.off (List._∷_ Row.off (List._∷_ Row.off List.[])))))))))))))));
@@ -3603,40 +3700,40 @@ module _ (claims· : Claims) where
 
         abbrev G72 : Row.Cx
         G72 = record {
-          locals = List._++_ t7 (List._++_ t54 (List._++_ t2 t3));
+          locals = List._++_ g49 (List._++_ t53 (List._++_ t54 t3));
+          slots = List._∷_ (Row.lease (κs .0) (qs .0)) (List._∷_ (Row.lease (κs .1 .0) (qs .1 .0)) (List._∷_ Row.off (List._∷_ Row.off
+              (List._∷_ Row.off (List._∷_ (Row.lease (κs .1 .1 .1 .1 .1 .0) (qs .1 .1 .1 .1 .1 .0)) (List._∷_ Row.off (List._∷_ Row.off (List._∷_ Row.off (List._∷_ Row.off (List._∷_ Row.alive (List._∷_
+              Row.alive (List._∷_ Row.alive (List._∷_ Row.off (List._∷_ Row.off (List._∷_ Row.off List.[])))))))))))))));
+        }
+
+        abbrev G73 : Row.Cx
+        G73 = record {
+          locals = List._++_ t7 (List._++_ t55 (List._++_ t2 t3));
           slots = List._∷_ (Row.lease (κs .0) (qs .0)) (List._∷_ (Row.lease (κs .1 .0) (qs .1 .0)) (List._∷_ (Row.lease (κs .1 .1 .0) (qs .1 .1
               .0)) (List._∷_ (Row.lease (κs .1 .1 .1 .0) (qs .1 .1 .1 .0)) (List._∷_ (Row.lease (κs .1 .1 .1 .1 .0) (qs .1 .1 .1 .1 .0)) (List._∷_ (Row.lease (κs .1 .1 .1 .1 .1 .0) (qs .1 .1 .1 .1 .1 .0))
               (List._∷_ Row.off (List._∷_ Row.off (List._∷_ Row.off (List._∷_ Row.off (List._∷_ Row.off (List._∷_ Row.off (List._∷_ Row.off (List._∷_ Row.off (List._∷_ Row.off (List._∷_ Row.off
               List.[])))))))))))))));
         }
 
-        abbrev G73 : Row.Cx
-        G73 = record {
-          locals = List._++_ g48 (List._++_ t52 (List._++_ t55 t3));
+        abbrev G74 : Row.Cx
+        G74 = record {
+          locals = List._++_ g49 (List._++_ t53 (List._++_ t56 t3));
           slots = List._∷_ (Row.lease (κs .0) (qs .0)) (List._∷_ (Row.lease (κs .1 .0) (qs .1 .0)) (List._∷_ Row.off (List._∷_ Row.off
               (List._∷_ Row.off (List._∷_ (Row.lease (κs .1 .1 .1 .1 .1 .0) (qs .1 .1 .1 .1 .1 .0)) (List._∷_ Row.off (List._∷_ Row.off (List._∷_ Row.off (List._∷_ Row.off (List._∷_ Row.alive (List._∷_
               Row.alive (List._∷_ Row.alive (List._∷_ Row.off (List._∷_ Row.off (List._∷_ Row.off List.[])))))))))))))));
         }
 
-        abbrev G74 : Row.Cx
-        G74 = record {
-          locals = List._++_ g48 (List._++_ t52 (List._++_ t55 t3));
+        abbrev G75 : Row.Cx
+        G75 = record {
+          locals = List._++_ g49 (List._++_ t53 (List._++_ t56 t3));
           slots = List._∷_ (Row.lease (κs .0) (qs .0)) (List._∷_ (Row.lease (κs .1 .0) (qs .1 .0)) (List._∷_ Row.off (List._∷_ Row.off
               (List._∷_ Row.off (List._∷_ (Row.lease (κs .1 .1 .1 .1 .1 .0) (qs .1 .1 .1 .1 .1 .0)) (List._∷_ Row.off (List._∷_ Row.off (List._∷_ Row.off (List._∷_ Row.off (List._∷_ Row.dead (List._∷_
               Row.alive (List._∷_ Row.alive (List._∷_ Row.off (List._∷_ Row.off (List._∷_ Row.off List.[])))))))))))))));
         }
 
-        abbrev G75 : Row.Cx
-        G75 = record {
-          locals = List._++_ g56 (List._++_ t52 (List._++_ t57 t3));
-          slots = List._∷_ (Row.lease (κs .0) (qs .0)) (List._∷_ (Row.lease (κs .1 .0) (qs .1 .0)) (List._∷_ (Row.lease (κs .1 .1 .0) (qs .1
-              .1 .0)) (List._∷_ Row.off (List._∷_ Row.off (List._∷_ (Row.lease (κs .1 .1 .1 .1 .1 .0) (qs .1 .1 .1 .1 .1 .0)) (List._∷_ Row.off (List._∷_ Row.off (List._∷_ Row.off (List._∷_ Row.off
-              (List._∷_ Row.dead (List._∷_ Row.alive (List._∷_ Row.alive (List._∷_ Row.off (List._∷_ Row.off (List._∷_ Row.off List.[])))))))))))))));
-        }
-
         abbrev G76 : Row.Cx
         G76 = record {
-          locals = List._++_ g56 (List._++_ t52 (List._++_ t57 t3));
+          locals = List._++_ g57 (List._++_ t53 (List._++_ t58 t3));
           slots = List._∷_ (Row.lease (κs .0) (qs .0)) (List._∷_ (Row.lease (κs .1 .0) (qs .1 .0)) (List._∷_ (Row.lease (κs .1 .1 .0) (qs .1
               .1 .0)) (List._∷_ Row.off (List._∷_ Row.off (List._∷_ (Row.lease (κs .1 .1 .1 .1 .1 .0) (qs .1 .1 .1 .1 .1 .0)) (List._∷_ Row.off (List._∷_ Row.off (List._∷_ Row.off (List._∷_ Row.off
               (List._∷_ Row.dead (List._∷_ Row.alive (List._∷_ Row.alive (List._∷_ Row.off (List._∷_ Row.off (List._∷_ Row.off List.[])))))))))))))));
@@ -3644,92 +3741,91 @@ module _ (claims· : Claims) where
 
         abbrev G77 : Row.Cx
         G77 = record {
-          locals = List._++_ g56 (List._++_ t52 (List._++_ t57 t3));
+          locals = List._++_ g57 (List._++_ t53 (List._++_ t58 t3));
+          slots = List._∷_ (Row.lease (κs .0) (qs .0)) (List._∷_ (Row.lease (κs .1 .0) (qs .1 .0)) (List._∷_ (Row.lease (κs .1 .1 .0) (qs .1
+              .1 .0)) (List._∷_ Row.off (List._∷_ Row.off (List._∷_ (Row.lease (κs .1 .1 .1 .1 .1 .0) (qs .1 .1 .1 .1 .1 .0)) (List._∷_ Row.off (List._∷_ Row.off (List._∷_ Row.off (List._∷_ Row.off
+              (List._∷_ Row.dead (List._∷_ Row.alive (List._∷_ Row.alive (List._∷_ Row.off (List._∷_ Row.off (List._∷_ Row.off List.[])))))))))))))));
+        }
+
+        abbrev G78 : Row.Cx
+        G78 = record {
+          locals = List._++_ g57 (List._++_ t53 (List._++_ t58 t3));
           slots = List._∷_ (Row.lease (κs .0) (qs .0)) (List._∷_ (Row.lease (κs .1 .0) (qs .1 .0)) (List._∷_ (Row.lease (κs .1 .1 .0) (qs .1
               .1 .0)) (List._∷_ Row.off (List._∷_ Row.off (List._∷_ (Row.lease (κs .1 .1 .1 .1 .1 .0) (qs .1 .1 .1 .1 .1 .0)) (List._∷_ Row.off (List._∷_ Row.off (List._∷_ Row.off (List._∷_ Row.off
               (List._∷_ Row.off (List._∷_ Row.alive (List._∷_ Row.alive (List._∷_ Row.off (List._∷_ Row.off (List._∷_ Row.off List.[])))))))))))))));
         }
 
-        abbrev G78 : Row.Cx
-        G78 = record {
-          locals = List._++_ g56 (List._++_ t52 (List._++_ t57 t3));
+        abbrev G79 : Row.Cx
+        G79 = record {
+          locals = List._++_ g57 (List._++_ t53 (List._++_ t58 t3));
           slots = List._∷_ (Row.lease (κs .0) (qs .0)) (List._∷_ (Row.lease (κs .1 .0) (qs .1 .0)) (List._∷_ (Row.lease (κs .1 .1 .0) (qs .1
               .1 .0)) (List._∷_ Row.off (List._∷_ Row.off (List._∷_ (Row.lease (κs .1 .1 .1 .1 .1 .0) (qs .1 .1 .1 .1 .1 .0)) (List._∷_ Row.off (List._∷_ Row.off (List._∷_ Row.off (List._∷_ Row.off
               (List._∷_ Row.off (List._∷_ Row.dead (List._∷_ Row.alive (List._∷_ Row.off (List._∷_ Row.off (List._∷_ Row.off List.[])))))))))))))));
         }
 
-        abbrev G79 : Row.Cx
-        G79 = record {
-          locals = List._++_ g58 (List._++_ t52 (List._++_ t59 t3));
+        abbrev G80 : Row.Cx
+        G80 = record {
+          locals = List._++_ g59 (List._++_ t53 (List._++_ t60 t3));
           slots = List._∷_ (Row.lease (κs .0) (qs .0)) (List._∷_ (Row.lease (κs .1 .0) (qs .1 .0)) (List._∷_ (Row.lease (κs .1 .1 .0) (qs .1
               .1 .0)) (List._∷_ (Row.lease (κs .1 .1 .1 .0) (qs .1 .1 .1 .0)) (List._∷_ Row.off (List._∷_ (Row.lease (κs .1 .1 .1 .1 .1 .0) (qs .1 .1 .1 .1 .1 .0)) (List._∷_ Row.off (List._∷_ Row.off
               (List._∷_ Row.off (List._∷_ Row.off (List._∷_ Row.off (List._∷_ Row.dead (List._∷_ Row.alive (List._∷_ Row.off (List._∷_ Row.off (List._∷_ Row.off List.[])))))))))))))));
         }
 
-        abbrev G80 : Row.Cx
-        G80 = record {
-          locals = List._++_ g58 (List._++_ t52 (List._++_ t59 t3));
+        abbrev G81 : Row.Cx
+        G81 = record {
+          locals = List._++_ g59 (List._++_ t53 (List._++_ t60 t3));
           slots = List._∷_ (Row.lease (κs .0) (qs .0)) (List._∷_ (Row.lease (κs .1 .0) (qs .1 .0)) (List._∷_ (Row.lease (κs .1 .1 .0) (qs .1
               .1 .0)) (List._∷_ (Row.lease (κs .1 .1 .1 .0) (qs .1 .1 .1 .0)) (List._∷_ Row.off (List._∷_ (Row.lease (κs .1 .1 .1 .1 .1 .0) (qs .1 .1 .1 .1 .1 .0)) (List._∷_ Row.off (List._∷_ Row.off
               (List._∷_ Row.off (List._∷_ Row.off (List._∷_ Row.off (List._∷_ Row.off (List._∷_ Row.alive (List._∷_ Row.off (List._∷_ Row.off (List._∷_ Row.off List.[])))))))))))))));
         }
 
-        abbrev G81 : Row.Cx
-        G81 = record {
-          locals = List._++_ g58 (List._++_ t52 (List._++_ t59 t3));
+        abbrev G82 : Row.Cx
+        G82 = record {
+          locals = List._++_ g59 (List._++_ t53 (List._++_ t60 t3));
           slots = List._∷_ (Row.lease (κs .0) (qs .0)) (List._∷_ (Row.lease (κs .1 .0) (qs .1 .0)) (List._∷_ (Row.lease (κs .1 .1 .0) (qs .1
               .1 .0)) (List._∷_ (Row.lease (κs .1 .1 .1 .0) (qs .1 .1 .1 .0)) (List._∷_ Row.off (List._∷_ (Row.lease (κs .1 .1 .1 .1 .1 .0) (qs .1 .1 .1 .1 .1 .0)) (List._∷_ Row.off (List._∷_ Row.off
               (List._∷_ Row.off (List._∷_ Row.off (List._∷_ Row.off (List._∷_ Row.off (List._∷_ Row.dead (List._∷_ Row.off (List._∷_ Row.off (List._∷_ Row.off List.[])))))))))))))));
         }
 
-        abbrev G82 : Row.Cx
-        G82 = record {
-          locals = List._++_ t20 (List._++_ t52 (List._++_ t2 t3));
-          slots = List._∷_ (Row.lease (κs .0) (qs .0)) (List._∷_ (Row.lease (κs .1 .0) (qs .1 .0)) (List._∷_ (Row.lease (κs .1 .1 .0) (qs .1
-              .1 .0)) (List._∷_ (Row.lease (κs .1 .1 .1 .0) (qs .1 .1 .1 .0)) (List._∷_ (Row.lease (κs .1 .1 .1 .1 .0) (qs .1 .1 .1 .1 .0)) (List._∷_ (Row.lease (κs .1 .1 .1 .1 .1 .0) (qs .1 .1 .1 .1 .1
-              .0)) (List._∷_ Row.off (List._∷_ Row.off (List._∷_ Row.off (List._∷_ Row.off (List._∷_ Row.off (List._∷_ Row.off (List._∷_ Row.dead (List._∷_ Row.off (List._∷_ Row.off (List._∷_ Row.off
-              List.[])))))))))))))));
-        }
-
         abbrev G83 : Row.Cx
         G83 = record {
-          locals = List._++_ t20 (List._++_ t52 (List._++_ t2 t3));
-          slots = List._∷_ (Row.lease (κs .0) (qs .0)) (List._∷_ (Row.lease (κs .1 .0) (qs .1 .0)) (List._∷_ (Row.lease (κs .1 .1 .0) (qs .1
-              .1 .0)) (List._∷_ (Row.lease (κs .1 .1 .1 .0) (qs .1 .1 .1 .0)) (List._∷_ (Row.lease (κs .1 .1 .1 .1 .0) (qs .1 .1 .1 .1 .0)) (List._∷_ (Row.lease (κs .1 .1 .1 .1 .1 .0) (qs .1 .1 .1 .1 .1
-              .0)) (List._∷_ Row.off (List._∷_ Row.off (List._∷_ Row.off (List._∷_ Row.off (List._∷_ Row.off (List._∷_ Row.off (List._∷_ Row.dead (List._∷_ Row.off (List._∷_ Row.off (List._∷_ Row.off
+          locals = List._++_ t7 (List._++_ t53 (List._++_ t2 t3));
+          slots = List._∷_ (Row.lease (κs .0) (qs .0)) (List._∷_ (Row.lease (κs .1 .0) (qs .1 .0)) (List._∷_ (Row.lease (κs .1 .1 .0) (qs .1 .1
+              .0)) (List._∷_ (Row.lease (κs .1 .1 .1 .0) (qs .1 .1 .1 .0)) (List._∷_ (Row.lease (κs .1 .1 .1 .1 .0) (qs .1 .1 .1 .1 .0)) (List._∷_ (Row.lease (κs .1 .1 .1 .1 .1 .0) (qs .1 .1 .1 .1 .1 .0))
+              (List._∷_ Row.off (List._∷_ Row.off (List._∷_ Row.off (List._∷_ Row.off (List._∷_ Row.off (List._∷_ Row.off (List._∷_ Row.dead (List._∷_ Row.off (List._∷_ Row.off (List._∷_ Row.off
               List.[])))))))))))))));
         }
 
         abbrev G84 : Row.Cx
         G84 = record {
-          locals = List._++_ t20 (List._++_ t52 (List._++_ t2 t3));
-          slots = List._∷_ (Row.lease (κs .0) (qs .0)) (List._∷_ (Row.lease (κs .1 .0) (qs .1 .0)) (List._∷_ (Row.lease (κs .1 .1 .0) (qs .1
-              .1 .0)) (List._∷_ (Row.lease (κs .1 .1 .1 .0) (qs .1 .1 .1 .0)) (List._∷_ (Row.lease (κs .1 .1 .1 .1 .0) (qs .1 .1 .1 .1 .0)) (List._∷_ (Row.lease (κs .1 .1 .1 .1 .1 .0) (qs .1 .1 .1 .1 .1
-              .0)) (List._∷_ Row.off (List._∷_ Row.off (List._∷_ Row.off (List._∷_ Row.off (List._∷_ Row.off (List._∷_ Row.off (List._∷_ Row.off (List._∷_ Row.off (List._∷_ Row.off (List._∷_ Row.off
+          locals = List._++_ t7 (List._++_ t53 (List._++_ t2 t3));
+          slots = List._∷_ (Row.lease (κs .0) (qs .0)) (List._∷_ (Row.lease (κs .1 .0) (qs .1 .0)) (List._∷_ (Row.lease (κs .1 .1 .0) (qs .1 .1
+              .0)) (List._∷_ (Row.lease (κs .1 .1 .1 .0) (qs .1 .1 .1 .0)) (List._∷_ (Row.lease (κs .1 .1 .1 .1 .0) (qs .1 .1 .1 .1 .0)) (List._∷_ (Row.lease (κs .1 .1 .1 .1 .1 .0) (qs .1 .1 .1 .1 .1 .0))
+              (List._∷_ Row.off (List._∷_ Row.off (List._∷_ Row.off (List._∷_ Row.off (List._∷_ Row.off (List._∷_ Row.off (List._∷_ Row.dead (List._∷_ Row.off (List._∷_ Row.off (List._∷_ Row.off
               List.[])))))))))))))));
         }
 
         abbrev G85 : Row.Cx
         G85 = record {
-          locals = List._++_ t20 (List._++_ t60 (List._++_ t2 t3));
-          slots = List._∷_ (Row.lease (κs .0) (qs .0)) (List._∷_ (Row.lease (κs .1 .0) (qs .1 .0)) (List._∷_ (Row.lease (κs .1 .1 .0) (qs .1
-              .1 .0)) (List._∷_ (Row.lease (κs .1 .1 .1 .0) (qs .1 .1 .1 .0)) (List._∷_ (Row.lease (κs .1 .1 .1 .1 .0) (qs .1 .1 .1 .1 .0)) (List._∷_ (Row.lease (κs .1 .1 .1 .1 .1 .0) (qs .1 .1 .1 .1 .1
-              .0)) (List._∷_ Row.off (List._∷_ Row.off (List._∷_ Row.off (List._∷_ Row.off (List._∷_ Row.off (List._∷_ Row.off (List._∷_ Row.off (List._∷_ Row.off (List._∷_ Row.off (List._∷_ Row.off
+          locals = List._++_ t7 (List._++_ t53 (List._++_ t2 t3));
+          slots = List._∷_ (Row.lease (κs .0) (qs .0)) (List._∷_ (Row.lease (κs .1 .0) (qs .1 .0)) (List._∷_ (Row.lease (κs .1 .1 .0) (qs .1 .1
+              .0)) (List._∷_ (Row.lease (κs .1 .1 .1 .0) (qs .1 .1 .1 .0)) (List._∷_ (Row.lease (κs .1 .1 .1 .1 .0) (qs .1 .1 .1 .1 .0)) (List._∷_ (Row.lease (κs .1 .1 .1 .1 .1 .0) (qs .1 .1 .1 .1 .1 .0))
+              (List._∷_ Row.off (List._∷_ Row.off (List._∷_ Row.off (List._∷_ Row.off (List._∷_ Row.off (List._∷_ Row.off (List._∷_ Row.off (List._∷_ Row.off (List._∷_ Row.off (List._∷_ Row.off
               List.[])))))))))))))));
         }
 
         abbrev G86 : Row.Cx
         G86 = record {
-          locals = List._++_ t20 (List._++_ t60 (List._++_ t2 t3));
-          slots = List._∷_ (Row.lease (κs .0) (qs .0)) (List._∷_ (Row.lease (κs .1 .0) (qs .1 .0)) (List._∷_ (Row.lease (κs .1 .1 .0) (qs .1
-              .1 .0)) (List._∷_ (Row.lease (κs .1 .1 .1 .0) (qs .1 .1 .1 .0)) (List._∷_ (Row.lease (κs .1 .1 .1 .1 .0) (qs .1 .1 .1 .1 .0)) (List._∷_ (Row.lease (κs .1 .1 .1 .1 .1 .0) (qs .1 .1 .1 .1 .1
-              .0)) (List._∷_ Row.off (List._∷_ Row.off (List._∷_ Row.off (List._∷_ Row.off (List._∷_ Row.off (List._∷_ Row.off (List._∷_ Row.off (List._∷_ Row.off (List._∷_ Row.off (List._∷_ Row.off
+          locals = List._++_ t7 (List._++_ t61 (List._++_ t2 t3));
+          slots = List._∷_ (Row.lease (κs .0) (qs .0)) (List._∷_ (Row.lease (κs .1 .0) (qs .1 .0)) (List._∷_ (Row.lease (κs .1 .1 .0) (qs .1 .1
+              .0)) (List._∷_ (Row.lease (κs .1 .1 .1 .0) (qs .1 .1 .1 .0)) (List._∷_ (Row.lease (κs .1 .1 .1 .1 .0) (qs .1 .1 .1 .1 .0)) (List._∷_ (Row.lease (κs .1 .1 .1 .1 .1 .0) (qs .1 .1 .1 .1 .1 .0))
+              (List._∷_ Row.off (List._∷_ Row.off (List._∷_ Row.off (List._∷_ Row.off (List._∷_ Row.off (List._∷_ Row.off (List._∷_ Row.off (List._∷_ Row.off (List._∷_ Row.off (List._∷_ Row.off
               List.[])))))))))))))));
         }
 
         abbrev G87 : Row.Cx
         G87 = record {
-          locals = List._++_ t7 (List._++_ t60 (List._++_ t2 t3));
+          locals = List._++_ t7 (List._++_ t61 (List._++_ t2 t3));
           slots = List._∷_ (Row.lease (κs .0) (qs .0)) (List._∷_ (Row.lease (κs .1 .0) (qs .1 .0)) (List._∷_ (Row.lease (κs .1 .1 .0) (qs .1 .1
               .0)) (List._∷_ (Row.lease (κs .1 .1 .1 .0) (qs .1 .1 .1 .0)) (List._∷_ (Row.lease (κs .1 .1 .1 .1 .0) (qs .1 .1 .1 .1 .0)) (List._∷_ (Row.lease (κs .1 .1 .1 .1 .1 .0) (qs .1 .1 .1 .1 .1 .0))
               (List._∷_ Row.off (List._∷_ Row.off (List._∷_ Row.off (List._∷_ Row.off (List._∷_ Row.off (List._∷_ Row.off (List._∷_ Row.off (List._∷_ Row.off (List._∷_ Row.off (List._∷_ Row.off
@@ -3738,7 +3834,7 @@ module _ (claims· : Claims) where
 
         abbrev G88 : Row.Cx
         G88 = record {
-          locals = List._++_ t7 (List._++_ t61 (List._++_ t2 t3));
+          locals = List._++_ t7 (List._++_ t62 (List._++_ t2 t3));
           slots = List._∷_ (Row.lease (κs .0) (qs .0)) (List._∷_ (Row.lease (κs .1 .0) (qs .1 .0)) (List._∷_ (Row.lease (κs .1 .1 .0) (qs .1 .1
               .0)) (List._∷_ (Row.lease (κs .1 .1 .1 .0) (qs .1 .1 .1 .0)) (List._∷_ (Row.lease (κs .1 .1 .1 .1 .0) (qs .1 .1 .1 .1 .0)) (List._∷_ (Row.lease (κs .1 .1 .1 .1 .1 .0) (qs .1 .1 .1 .1 .1 .0))
               (List._∷_ Row.off (List._∷_ Row.off (List._∷_ Row.off (List._∷_ Row.off (List._∷_ Row.off (List._∷_ Row.off (List._∷_ Row.off (List._∷_ Row.off (List._∷_ Row.off (List._∷_ Row.off
@@ -3747,7 +3843,7 @@ module _ (claims· : Claims) where
 
         abbrev G89 : Row.Cx
         G89 = record {
-          locals = List._++_ t7 (List._++_ t54 (List._++_ t2 t3));
+          locals = List._++_ t7 (List._++_ t63 (List._++_ t2 t3));
           slots = List._∷_ (Row.lease (κs .0) (qs .0)) (List._∷_ (Row.lease (κs .1 .0) (qs .1 .0)) (List._∷_ (Row.lease (κs .1 .1 .0) (qs .1 .1
               .0)) (List._∷_ (Row.lease (κs .1 .1 .1 .0) (qs .1 .1 .1 .0)) (List._∷_ (Row.lease (κs .1 .1 .1 .1 .0) (qs .1 .1 .1 .1 .0)) (List._∷_ (Row.lease (κs .1 .1 .1 .1 .1 .0) (qs .1 .1 .1 .1 .1 .0))
               (List._∷_ Row.off (List._∷_ Row.off (List._∷_ Row.off (List._∷_ Row.off (List._∷_ Row.off (List._∷_ Row.off (List._∷_ Row.off (List._∷_ Row.off (List._∷_ Row.off (List._∷_ Row.off
@@ -3756,25 +3852,25 @@ module _ (claims· : Claims) where
 
         abbrev G90 : Row.Cx
         G90 = record {
-          locals = List._++_ t20 (List._++_ t52 (List._++_ t2 t3));
-          slots = List._∷_ (Row.lease (κs .0) (qs .0)) (List._∷_ (Row.lease (κs .1 .0) (qs .1 .0)) (List._∷_ (Row.lease (κs .1 .1 .0) (qs .1
-              .1 .0)) (List._∷_ (Row.lease (κs .1 .1 .1 .0) (qs .1 .1 .1 .0)) (List._∷_ (Row.lease (κs .1 .1 .1 .1 .0) (qs .1 .1 .1 .1 .0)) (List._∷_ (Row.lease (κs .1 .1 .1 .1 .1 .0) (qs .1 .1 .1 .1 .1
-              .0)) (List._∷_ Row.off (List._∷_ Row.off (List._∷_ Row.off (List._∷_ Row.off (List._∷_ Row.off (List._∷_ Row.off (List._∷_ Row.off (List._∷_ Row.off (List._∷_ Row.off (List._∷_ Row.off
+          locals = List._++_ t7 (List._++_ t55 (List._++_ t2 t3));
+          slots = List._∷_ (Row.lease (κs .0) (qs .0)) (List._∷_ (Row.lease (κs .1 .0) (qs .1 .0)) (List._∷_ (Row.lease (κs .1 .1 .0) (qs .1 .1
+              .0)) (List._∷_ (Row.lease (κs .1 .1 .1 .0) (qs .1 .1 .1 .0)) (List._∷_ (Row.lease (κs .1 .1 .1 .1 .0) (qs .1 .1 .1 .1 .0)) (List._∷_ (Row.lease (κs .1 .1 .1 .1 .1 .0) (qs .1 .1 .1 .1 .1 .0))
+              (List._∷_ Row.off (List._∷_ Row.off (List._∷_ Row.off (List._∷_ Row.off (List._∷_ Row.off (List._∷_ Row.off (List._∷_ Row.off (List._∷_ Row.off (List._∷_ Row.off (List._∷_ Row.off
               List.[])))))))))))))));
         }
 
         abbrev G91 : Row.Cx
         G91 = record {
-          locals = List._++_ t25 (List._++_ t52 (List._++_ t2 t3));
-          slots = List._∷_ (Row.lease (κs .0) (qs .0)) (List._∷_ (Row.lease (κs .1 .0) (qs .1 .0)) (List._∷_ (Row.lease (κs .1 .1 .0) (qs .1
-              .1 .0)) (List._∷_ (Row.lease (κs .1 .1 .1 .0) (qs .1 .1 .1 .0)) (List._∷_ (Row.lease (κs .1 .1 .1 .1 .0) (qs .1 .1 .1 .1 .0)) (List._∷_ (Row.lease (κs .1 .1 .1 .1 .1 .0) (qs .1 .1 .1 .1 .1
-              .0)) (List._∷_ Row.off (List._∷_ Row.off (List._∷_ Row.off (List._∷_ Row.off (List._∷_ Row.off (List._∷_ Row.off (List._∷_ Row.off (List._∷_ Row.off (List._∷_ Row.off (List._∷_ Row.off
+          locals = List._++_ t7 (List._++_ t53 (List._++_ t2 t3));
+          slots = List._∷_ (Row.lease (κs .0) (qs .0)) (List._∷_ (Row.lease (κs .1 .0) (qs .1 .0)) (List._∷_ (Row.lease (κs .1 .1 .0) (qs .1 .1
+              .0)) (List._∷_ (Row.lease (κs .1 .1 .1 .0) (qs .1 .1 .1 .0)) (List._∷_ (Row.lease (κs .1 .1 .1 .1 .0) (qs .1 .1 .1 .1 .0)) (List._∷_ (Row.lease (κs .1 .1 .1 .1 .1 .0) (qs .1 .1 .1 .1 .1 .0))
+              (List._∷_ Row.off (List._∷_ Row.off (List._∷_ Row.off (List._∷_ Row.off (List._∷_ Row.off (List._∷_ Row.off (List._∷_ Row.off (List._∷_ Row.off (List._∷_ Row.off (List._∷_ Row.off
               List.[])))))))))))))));
         }
 
         abbrev G92 : Row.Cx
         G92 = record {
-          locals = List._++_ t26 (List._++_ t52 (List._++_ t2 t3));
+          locals = List._++_ t25 (List._++_ t53 (List._++_ t2 t3));
           slots = List._∷_ (Row.lease (κs .0) (qs .0)) (List._∷_ (Row.lease (κs .1 .0) (qs .1 .0)) (List._∷_ (Row.lease (κs .1 .1 .0) (qs .1
               .1 .0)) (List._∷_ (Row.lease (κs .1 .1 .1 .0) (qs .1 .1 .1 .0)) (List._∷_ (Row.lease (κs .1 .1 .1 .1 .0) (qs .1 .1 .1 .1 .0)) (List._∷_ (Row.lease (κs .1 .1 .1 .1 .1 .0) (qs .1 .1 .1 .1 .1
               .0)) (List._∷_ Row.off (List._∷_ Row.off (List._∷_ Row.off (List._∷_ Row.off (List._∷_ Row.off (List._∷_ Row.off (List._∷_ Row.off (List._∷_ Row.off (List._∷_ Row.off (List._∷_ Row.off
@@ -3783,7 +3879,7 @@ module _ (claims· : Claims) where
 
         abbrev G93 : Row.Cx
         G93 = record {
-          locals = List._++_ t26 (List._++_ t62 (List._++_ t2 t3));
+          locals = List._++_ t26 (List._++_ t53 (List._++_ t2 t3));
           slots = List._∷_ (Row.lease (κs .0) (qs .0)) (List._∷_ (Row.lease (κs .1 .0) (qs .1 .0)) (List._∷_ (Row.lease (κs .1 .1 .0) (qs .1
               .1 .0)) (List._∷_ (Row.lease (κs .1 .1 .1 .0) (qs .1 .1 .1 .0)) (List._∷_ (Row.lease (κs .1 .1 .1 .1 .0) (qs .1 .1 .1 .1 .0)) (List._∷_ (Row.lease (κs .1 .1 .1 .1 .1 .0) (qs .1 .1 .1 .1 .1
               .0)) (List._∷_ Row.off (List._∷_ Row.off (List._∷_ Row.off (List._∷_ Row.off (List._∷_ Row.off (List._∷_ Row.off (List._∷_ Row.off (List._∷_ Row.off (List._∷_ Row.off (List._∷_ Row.off
@@ -3792,7 +3888,7 @@ module _ (claims· : Claims) where
 
         abbrev G94 : Row.Cx
         G94 = record {
-          locals = List._++_ t26 (List._++_ t63 (List._++_ t2 t3));
+          locals = List._++_ t64 (List._++_ t53 (List._++_ t2 t3));
           slots = List._∷_ (Row.lease (κs .0) (qs .0)) (List._∷_ (Row.lease (κs .1 .0) (qs .1 .0)) (List._∷_ (Row.lease (κs .1 .1 .0) (qs .1
               .1 .0)) (List._∷_ (Row.lease (κs .1 .1 .1 .0) (qs .1 .1 .1 .0)) (List._∷_ (Row.lease (κs .1 .1 .1 .1 .0) (qs .1 .1 .1 .1 .0)) (List._∷_ (Row.lease (κs .1 .1 .1 .1 .1 .0) (qs .1 .1 .1 .1 .1
               .0)) (List._∷_ Row.off (List._∷_ Row.off (List._∷_ Row.off (List._∷_ Row.off (List._∷_ Row.off (List._∷_ Row.off (List._∷_ Row.off (List._∷_ Row.off (List._∷_ Row.off (List._∷_ Row.off
@@ -3801,32 +3897,34 @@ module _ (claims· : Claims) where
 
         abbrev G95 : Row.Cx
         G95 = record {
-          locals = List._++_ t26 (List._++_ t63 (List._++_ t2 t3));
+          locals = List._++_ t64 (List._++_ t65 (List._++_ t2 t3));
+          slots = List._∷_ (Row.lease (κs .0) (qs .0)) (List._∷_ (Row.lease (κs .1 .0) (qs .1 .0)) (List._∷_ (Row.lease (κs .1 .1 .0) (qs .1
+              .1 .0)) (List._∷_ (Row.lease (κs .1 .1 .1 .0) (qs .1 .1 .1 .0)) (List._∷_ (Row.lease (κs .1 .1 .1 .1 .0) (qs .1 .1 .1 .1 .0)) (List._∷_ (Row.lease (κs .1 .1 .1 .1 .1 .0) (qs .1 .1 .1 .1 .1
+              .0)) (List._∷_ Row.off (List._∷_ Row.off (List._∷_ Row.off (List._∷_ Row.off (List._∷_ Row.off (List._∷_ Row.off (List._∷_ Row.off (List._∷_ Row.off (List._∷_ Row.off (List._∷_ Row.off
+              List.[])))))))))))))));
+        }
+
+        abbrev G96 : Row.Cx
+        G96 = record {
+          locals = List._++_ t64 (List._++_ t66 (List._++_ t2 t3));
+          slots = List._∷_ (Row.lease (κs .0) (qs .0)) (List._∷_ (Row.lease (κs .1 .0) (qs .1 .0)) (List._∷_ (Row.lease (κs .1 .1 .0) (qs .1
+              .1 .0)) (List._∷_ (Row.lease (κs .1 .1 .1 .0) (qs .1 .1 .1 .0)) (List._∷_ (Row.lease (κs .1 .1 .1 .1 .0) (qs .1 .1 .1 .1 .0)) (List._∷_ (Row.lease (κs .1 .1 .1 .1 .1 .0) (qs .1 .1 .1 .1 .1
+              .0)) (List._∷_ Row.off (List._∷_ Row.off (List._∷_ Row.off (List._∷_ Row.off (List._∷_ Row.off (List._∷_ Row.off (List._∷_ Row.off (List._∷_ Row.off (List._∷_ Row.off (List._∷_ Row.off
+              List.[])))))))))))))));
+        }
+
+        abbrev G97 : Row.Cx
+        G97 = record {
+          locals = List._++_ t64 (List._++_ t66 (List._++_ t2 t3));
           slots = List._∷_ (Row.lease (κs .0) (qs .0)) (List._∷_ (Row.lease (κs .1 .0) (qs .1 .0)) (List._∷_ (Row.lease (κs .1 .1 .0) (qs .1
               .1 .0)) (List._∷_ (Row.lease (κs .1 .1 .1 .0) (qs .1 .1 .1 .0)) (List._∷_ (Row.lease (κs .1 .1 .1 .1 .0) (qs .1 .1 .1 .1 .0)) (List._∷_ (Row.lease (κs .1 .1 .1 .1 .1 .0) (qs .1 .1 .1 .1 .1
               .0)) (List._∷_ Row.off (List._∷_ Row.off (List._∷_ Row.off (List._∷_ Row.off (List._∷_ Row.off (List._∷_ Row.off (List._∷_ Row.off (List._∷_ Row.alive (List._∷_ Row.off (List._∷_ Row.off
               List.[])))))))))))))));
         }
 
-        abbrev G96 : Row.Cx
-        G96 = record {
-          locals = List._++_ g64 (List._++_ t63 (List._++_ t65 t3));
-          slots = List._∷_ (Row.lease (κs .0) (qs .0)) (List._∷_ (Row.lease (κs .1 .0) (qs .1 .0)) (List._∷_ (Row.lease (κs .1 .1 .0) (qs .1
-              .1 .0)) (List._∷_ (Row.lease (κs .1 .1 .1 .0) (qs .1 .1 .1 .0)) (List._∷_ Row.off (List._∷_ (Row.lease (κs .1 .1 .1 .1 .1 .0) (qs .1 .1 .1 .1 .1 .0)) (List._∷_ Row.off (List._∷_ Row.off
-              (List._∷_ Row.off (List._∷_ Row.off (List._∷_ Row.off (List._∷_ Row.off (List._∷_ Row.off (List._∷_ Row.alive (List._∷_ Row.off (List._∷_ Row.off List.[])))))))))))))));
-        }
-
-        abbrev G97 : Row.Cx
-        G97 = record {
-          locals = List._++_ g64 (List._++_ t63 (List._++_ t66 t3));
-          slots = List._∷_ (Row.lease (κs .0) (qs .0)) (List._∷_ (Row.lease (κs .1 .0) (qs .1 .0)) (List._∷_ (Row.lease (κs .1 .1 .0) (qs .1
-              .1 .0)) (List._∷_ (Row.lease (κs .1 .1 .1 .0) (qs .1 .1 .1 .0)) (List._∷_ Row.off (List._∷_ (Row.lease (κs .1 .1 .1 .1 .1 .0) (qs .1 .1 .1 .1 .1 .0)) (List._∷_ Row.off (List._∷_ Row.off
-              (List._∷_ Row.off (List._∷_ Row.off (List._∷_ Row.off (List._∷_ Row.off (List._∷_ Row.off (List._∷_ Row.alive (List._∷_ Row.off (List._∷_ Row.off List.[])))))))))))))));
-        }
-
         abbrev G98 : Row.Cx
         G98 = record {
-          locals = List._++_ g64 (List._++_ t63 (List._++_ t67 t3));
+          locals = List._++_ g67 (List._++_ t66 (List._++_ t68 t3));
           slots = List._∷_ (Row.lease (κs .0) (qs .0)) (List._∷_ (Row.lease (κs .1 .0) (qs .1 .0)) (List._∷_ (Row.lease (κs .1 .1 .0) (qs .1
               .1 .0)) (List._∷_ (Row.lease (κs .1 .1 .1 .0) (qs .1 .1 .1 .0)) (List._∷_ Row.off (List._∷_ (Row.lease (κs .1 .1 .1 .1 .1 .0) (qs .1 .1 .1 .1 .1 .0)) (List._∷_ Row.off (List._∷_ Row.off
               (List._∷_ Row.off (List._∷_ Row.off (List._∷_ Row.off (List._∷_ Row.off (List._∷_ Row.off (List._∷_ Row.alive (List._∷_ Row.off (List._∷_ Row.off List.[])))))))))))))));
@@ -3834,7 +3932,7 @@ module _ (claims· : Claims) where
 
         abbrev G99 : Row.Cx
         G99 = record {
-          locals = List._++_ g68 (List._++_ t63 (List._++_ t67 t3));
+          locals = List._++_ g67 (List._++_ t66 (List._++_ t69 t3));
           slots = List._∷_ (Row.lease (κs .0) (qs .0)) (List._∷_ (Row.lease (κs .1 .0) (qs .1 .0)) (List._∷_ (Row.lease (κs .1 .1 .0) (qs .1
               .1 .0)) (List._∷_ (Row.lease (κs .1 .1 .1 .0) (qs .1 .1 .1 .0)) (List._∷_ Row.off (List._∷_ (Row.lease (κs .1 .1 .1 .1 .1 .0) (qs .1 .1 .1 .1 .1 .0)) (List._∷_ Row.off (List._∷_ Row.off
               (List._∷_ Row.off (List._∷_ Row.off (List._∷_ Row.off (List._∷_ Row.off (List._∷_ Row.off (List._∷_ Row.alive (List._∷_ Row.off (List._∷_ Row.off List.[])))))))))))))));
@@ -3842,7 +3940,7 @@ module _ (claims· : Claims) where
 
         abbrev G100 : Row.Cx
         G100 = record {
-          locals = List._++_ g68 (List._++_ t63 (List._++_ t69 t3));
+          locals = List._++_ g67 (List._++_ t66 (List._++_ t70 t3));
           slots = List._∷_ (Row.lease (κs .0) (qs .0)) (List._∷_ (Row.lease (κs .1 .0) (qs .1 .0)) (List._∷_ (Row.lease (κs .1 .1 .0) (qs .1
               .1 .0)) (List._∷_ (Row.lease (κs .1 .1 .1 .0) (qs .1 .1 .1 .0)) (List._∷_ Row.off (List._∷_ (Row.lease (κs .1 .1 .1 .1 .1 .0) (qs .1 .1 .1 .1 .1 .0)) (List._∷_ Row.off (List._∷_ Row.off
               (List._∷_ Row.off (List._∷_ Row.off (List._∷_ Row.off (List._∷_ Row.off (List._∷_ Row.off (List._∷_ Row.alive (List._∷_ Row.off (List._∷_ Row.off List.[])))))))))))))));
@@ -3850,51 +3948,49 @@ module _ (claims· : Claims) where
 
         abbrev G101 : Row.Cx
         G101 = record {
-          locals = List._++_ g68 (List._++_ t63 (List._++_ t69 t3));
+          locals = List._++_ g71 (List._++_ t66 (List._++_ t70 t3));
+          slots = List._∷_ (Row.lease (κs .0) (qs .0)) (List._∷_ (Row.lease (κs .1 .0) (qs .1 .0)) (List._∷_ (Row.lease (κs .1 .1 .0) (qs .1
+              .1 .0)) (List._∷_ (Row.lease (κs .1 .1 .1 .0) (qs .1 .1 .1 .0)) (List._∷_ Row.off (List._∷_ (Row.lease (κs .1 .1 .1 .1 .1 .0) (qs .1 .1 .1 .1 .1 .0)) (List._∷_ Row.off (List._∷_ Row.off
+              (List._∷_ Row.off (List._∷_ Row.off (List._∷_ Row.off (List._∷_ Row.off (List._∷_ Row.off (List._∷_ Row.alive (List._∷_ Row.off (List._∷_ Row.off List.[])))))))))))))));
+        }
+
+        abbrev G102 : Row.Cx
+        G102 = record {
+          locals = List._++_ g71 (List._++_ t66 (List._++_ t72 t3));
+          slots = List._∷_ (Row.lease (κs .0) (qs .0)) (List._∷_ (Row.lease (κs .1 .0) (qs .1 .0)) (List._∷_ (Row.lease (κs .1 .1 .0) (qs .1
+              .1 .0)) (List._∷_ (Row.lease (κs .1 .1 .1 .0) (qs .1 .1 .1 .0)) (List._∷_ Row.off (List._∷_ (Row.lease (κs .1 .1 .1 .1 .1 .0) (qs .1 .1 .1 .1 .1 .0)) (List._∷_ Row.off (List._∷_ Row.off
+              (List._∷_ Row.off (List._∷_ Row.off (List._∷_ Row.off (List._∷_ Row.off (List._∷_ Row.off (List._∷_ Row.alive (List._∷_ Row.off (List._∷_ Row.off List.[])))))))))))))));
+        }
+
+        abbrev G103 : Row.Cx
+        G103 = record {
+          locals = List._++_ g71 (List._++_ t66 (List._++_ t72 t3));
           slots = List._∷_ (Row.lease (κs .0) (qs .0)) (List._∷_ (Row.lease (κs .1 .0) (qs .1 .0)) (List._∷_ (Row.lease (κs .1 .1 .0) (qs .1
               .1 .0)) (List._∷_ (Row.lease (κs .1 .1 .1 .0) (qs .1 .1 .1 .0)) (List._∷_ Row.off (List._∷_ (Row.lease (κs .1 .1 .1 .1 .1 .0) (qs .1 .1 .1 .1 .1 .0)) (List._∷_ Row.off (List._∷_ Row.off
               (List._∷_ Row.off (List._∷_ Row.off (List._∷_ Row.off (List._∷_ Row.off (List._∷_ Row.off (List._∷_ Row.dead (List._∷_ Row.off (List._∷_ Row.off List.[])))))))))))))));
         }
 
-        abbrev G102 : Row.Cx
-        G102 = record {
-          locals = List._++_ t23 (List._++_ t63 (List._++_ t2 t3));
-          slots = List._∷_ (Row.lease (κs .0) (qs .0)) (List._∷_ (Row.lease (κs .1 .0) (qs .1 .0)) (List._∷_ (Row.lease (κs .1 .1 .0) (qs .1
-              .1 .0)) (List._∷_ (Row.lease (κs .1 .1 .1 .0) (qs .1 .1 .1 .0)) (List._∷_ (Row.lease (κs .1 .1 .1 .1 .0) (qs .1 .1 .1 .1 .0)) (List._∷_ (Row.lease (κs .1 .1 .1 .1 .1 .0) (qs .1 .1 .1 .1 .1
-              .0)) (List._∷_ Row.off (List._∷_ Row.off (List._∷_ Row.off (List._∷_ Row.off (List._∷_ Row.off (List._∷_ Row.off (List._∷_ Row.off (List._∷_ Row.dead (List._∷_ Row.off (List._∷_ Row.off
-              List.[])))))))))))))));
-        }
-
-        abbrev G103 : Row.Cx
-        G103 = record {
-          locals = List._++_ t23 (List._++_ t63 (List._++_ t2 t3));
-          slots = List._∷_ (Row.lease (κs .0) (qs .0)) (List._∷_ (Row.lease (κs .1 .0) (qs .1 .0)) (List._∷_ (Row.lease (κs .1 .1 .0) (qs .1
-              .1 .0)) (List._∷_ (Row.lease (κs .1 .1 .1 .0) (qs .1 .1 .1 .0)) (List._∷_ (Row.lease (κs .1 .1 .1 .1 .0) (qs .1 .1 .1 .1 .0)) (List._∷_ (Row.lease (κs .1 .1 .1 .1 .1 .0) (qs .1 .1 .1 .1 .1
-              .0)) (List._∷_ Row.off (List._∷_ Row.off (List._∷_ Row.off (List._∷_ Row.off (List._∷_ Row.off (List._∷_ Row.off (List._∷_ Row.off (List._∷_ Row.dead (List._∷_ Row.off (List._∷_ Row.off
-              List.[])))))))))))))));
-        }
-
         abbrev G104 : Row.Cx
         G104 = record {
-          locals = List._++_ t23 (List._++_ t63 (List._++_ t2 t3));
+          locals = List._++_ t23 (List._++_ t66 (List._++_ t2 t3));
           slots = List._∷_ (Row.lease (κs .0) (qs .0)) (List._∷_ (Row.lease (κs .1 .0) (qs .1 .0)) (List._∷_ (Row.lease (κs .1 .1 .0) (qs .1
               .1 .0)) (List._∷_ (Row.lease (κs .1 .1 .1 .0) (qs .1 .1 .1 .0)) (List._∷_ (Row.lease (κs .1 .1 .1 .1 .0) (qs .1 .1 .1 .1 .0)) (List._∷_ (Row.lease (κs .1 .1 .1 .1 .1 .0) (qs .1 .1 .1 .1 .1
-              .0)) (List._∷_ Row.off (List._∷_ Row.off (List._∷_ Row.off (List._∷_ Row.off (List._∷_ Row.off (List._∷_ Row.off (List._∷_ Row.off (List._∷_ Row.off (List._∷_ Row.off (List._∷_ Row.off
+              .0)) (List._∷_ Row.off (List._∷_ Row.off (List._∷_ Row.off (List._∷_ Row.off (List._∷_ Row.off (List._∷_ Row.off (List._∷_ Row.off (List._∷_ Row.dead (List._∷_ Row.off (List._∷_ Row.off
               List.[])))))))))))))));
         }
 
         abbrev G105 : Row.Cx
         G105 = record {
-          locals = List._++_ t23 (List._++_ t63 (List._++_ t70 t3));
+          locals = List._++_ t23 (List._++_ t66 (List._++_ t2 t3));
           slots = List._∷_ (Row.lease (κs .0) (qs .0)) (List._∷_ (Row.lease (κs .1 .0) (qs .1 .0)) (List._∷_ (Row.lease (κs .1 .1 .0) (qs .1
               .1 .0)) (List._∷_ (Row.lease (κs .1 .1 .1 .0) (qs .1 .1 .1 .0)) (List._∷_ (Row.lease (κs .1 .1 .1 .1 .0) (qs .1 .1 .1 .1 .0)) (List._∷_ (Row.lease (κs .1 .1 .1 .1 .1 .0) (qs .1 .1 .1 .1 .1
-              .0)) (List._∷_ Row.off (List._∷_ Row.off (List._∷_ Row.off (List._∷_ Row.off (List._∷_ Row.off (List._∷_ Row.off (List._∷_ Row.off (List._∷_ Row.off (List._∷_ Row.off (List._∷_ Row.off
+              .0)) (List._∷_ Row.off (List._∷_ Row.off (List._∷_ Row.off (List._∷_ Row.off (List._∷_ Row.off (List._∷_ Row.off (List._∷_ Row.off (List._∷_ Row.dead (List._∷_ Row.off (List._∷_ Row.off
               List.[])))))))))))))));
         }
 
         abbrev G106 : Row.Cx
         G106 = record {
-          locals = List._++_ t71 (List._++_ t63 (List._++_ t70 t3));
+          locals = List._++_ t23 (List._++_ t66 (List._++_ t2 t3));
           slots = List._∷_ (Row.lease (κs .0) (qs .0)) (List._∷_ (Row.lease (κs .1 .0) (qs .1 .0)) (List._∷_ (Row.lease (κs .1 .1 .0) (qs .1
               .1 .0)) (List._∷_ (Row.lease (κs .1 .1 .1 .0) (qs .1 .1 .1 .0)) (List._∷_ (Row.lease (κs .1 .1 .1 .1 .0) (qs .1 .1 .1 .1 .0)) (List._∷_ (Row.lease (κs .1 .1 .1 .1 .1 .0) (qs .1 .1 .1 .1 .1
               .0)) (List._∷_ Row.off (List._∷_ Row.off (List._∷_ Row.off (List._∷_ Row.off (List._∷_ Row.off (List._∷_ Row.off (List._∷_ Row.off (List._∷_ Row.off (List._∷_ Row.off (List._∷_ Row.off
@@ -3903,7 +3999,7 @@ module _ (claims· : Claims) where
 
         abbrev G107 : Row.Cx
         G107 = record {
-          locals = List._++_ t72 (List._++_ t63 (List._++_ t70 t3));
+          locals = List._++_ t23 (List._++_ t66 (List._++_ t73 t3));
           slots = List._∷_ (Row.lease (κs .0) (qs .0)) (List._∷_ (Row.lease (κs .1 .0) (qs .1 .0)) (List._∷_ (Row.lease (κs .1 .1 .0) (qs .1
               .1 .0)) (List._∷_ (Row.lease (κs .1 .1 .1 .0) (qs .1 .1 .1 .0)) (List._∷_ (Row.lease (κs .1 .1 .1 .1 .0) (qs .1 .1 .1 .1 .0)) (List._∷_ (Row.lease (κs .1 .1 .1 .1 .1 .0) (qs .1 .1 .1 .1 .1
               .0)) (List._∷_ Row.off (List._∷_ Row.off (List._∷_ Row.off (List._∷_ Row.off (List._∷_ Row.off (List._∷_ Row.off (List._∷_ Row.off (List._∷_ Row.off (List._∷_ Row.off (List._∷_ Row.off
@@ -3912,7 +4008,7 @@ module _ (claims· : Claims) where
 
         abbrev G108 : Row.Cx
         G108 = record {
-          locals = List._++_ t72 (List._++_ t63 (List._++_ t2 t3));
+          locals = List._++_ t23 (List._++_ t74 (List._++_ t73 t3));
           slots = List._∷_ (Row.lease (κs .0) (qs .0)) (List._∷_ (Row.lease (κs .1 .0) (qs .1 .0)) (List._∷_ (Row.lease (κs .1 .1 .0) (qs .1
               .1 .0)) (List._∷_ (Row.lease (κs .1 .1 .1 .0) (qs .1 .1 .1 .0)) (List._∷_ (Row.lease (κs .1 .1 .1 .1 .0) (qs .1 .1 .1 .1 .0)) (List._∷_ (Row.lease (κs .1 .1 .1 .1 .1 .0) (qs .1 .1 .1 .1 .1
               .0)) (List._∷_ Row.off (List._∷_ Row.off (List._∷_ Row.off (List._∷_ Row.off (List._∷_ Row.off (List._∷_ Row.off (List._∷_ Row.off (List._∷_ Row.off (List._∷_ Row.off (List._∷_ Row.off
@@ -3921,7 +4017,7 @@ module _ (claims· : Claims) where
 
         abbrev G109 : Row.Cx
         G109 = record {
-          locals = List._++_ t73 (List._++_ t63 (List._++_ t2 t3));
+          locals = List._++_ t75 (List._++_ t74 (List._++_ t73 t3));
           slots = List._∷_ (Row.lease (κs .0) (qs .0)) (List._∷_ (Row.lease (κs .1 .0) (qs .1 .0)) (List._∷_ (Row.lease (κs .1 .1 .0) (qs .1
               .1 .0)) (List._∷_ (Row.lease (κs .1 .1 .1 .0) (qs .1 .1 .1 .0)) (List._∷_ (Row.lease (κs .1 .1 .1 .1 .0) (qs .1 .1 .1 .1 .0)) (List._∷_ (Row.lease (κs .1 .1 .1 .1 .1 .0) (qs .1 .1 .1 .1 .1
               .0)) (List._∷_ Row.off (List._∷_ Row.off (List._∷_ Row.off (List._∷_ Row.off (List._∷_ Row.off (List._∷_ Row.off (List._∷_ Row.off (List._∷_ Row.off (List._∷_ Row.off (List._∷_ Row.off
@@ -3930,7 +4026,7 @@ module _ (claims· : Claims) where
 
         abbrev G110 : Row.Cx
         G110 = record {
-          locals = List._++_ t74 (List._++_ t63 (List._++_ t2 t3));
+          locals = List._++_ t75 (List._++_ t74 (List._++_ t2 t3));
           slots = List._∷_ (Row.lease (κs .0) (qs .0)) (List._∷_ (Row.lease (κs .1 .0) (qs .1 .0)) (List._∷_ (Row.lease (κs .1 .1 .0) (qs .1
               .1 .0)) (List._∷_ (Row.lease (κs .1 .1 .1 .0) (qs .1 .1 .1 .0)) (List._∷_ (Row.lease (κs .1 .1 .1 .1 .0) (qs .1 .1 .1 .1 .0)) (List._∷_ (Row.lease (κs .1 .1 .1 .1 .1 .0) (qs .1 .1 .1 .1 .1
               .0)) (List._∷_ Row.off (List._∷_ Row.off (List._∷_ Row.off (List._∷_ Row.off (List._∷_ Row.off (List._∷_ Row.off (List._∷_ Row.off (List._∷_ Row.off (List._∷_ Row.off (List._∷_ Row.off
@@ -3939,7 +4035,7 @@ module _ (claims· : Claims) where
 
         abbrev G111 : Row.Cx
         G111 = record {
-          locals = List._++_ t75 (List._++_ t63 (List._++_ t2 t3));
+          locals = List._++_ t76 (List._++_ t74 (List._++_ t2 t3));
           slots = List._∷_ (Row.lease (κs .0) (qs .0)) (List._∷_ (Row.lease (κs .1 .0) (qs .1 .0)) (List._∷_ (Row.lease (κs .1 .1 .0) (qs .1
               .1 .0)) (List._∷_ (Row.lease (κs .1 .1 .1 .0) (qs .1 .1 .1 .0)) (List._∷_ (Row.lease (κs .1 .1 .1 .1 .0) (qs .1 .1 .1 .1 .0)) (List._∷_ (Row.lease (κs .1 .1 .1 .1 .1 .0) (qs .1 .1 .1 .1 .1
               .0)) (List._∷_ Row.off (List._∷_ Row.off (List._∷_ Row.off (List._∷_ Row.off (List._∷_ Row.off (List._∷_ Row.off (List._∷_ Row.off (List._∷_ Row.off (List._∷_ Row.off (List._∷_ Row.off
@@ -3948,7 +4044,7 @@ module _ (claims· : Claims) where
 
         abbrev G112 : Row.Cx
         G112 = record {
-          locals = List._++_ t76 (List._++_ t63 (List._++_ t2 t3));
+          locals = List._++_ t77 (List._++_ t74 (List._++_ t2 t3));
           slots = List._∷_ (Row.lease (κs .0) (qs .0)) (List._∷_ (Row.lease (κs .1 .0) (qs .1 .0)) (List._∷_ (Row.lease (κs .1 .1 .0) (qs .1
               .1 .0)) (List._∷_ (Row.lease (κs .1 .1 .1 .0) (qs .1 .1 .1 .0)) (List._∷_ (Row.lease (κs .1 .1 .1 .1 .0) (qs .1 .1 .1 .1 .0)) (List._∷_ (Row.lease (κs .1 .1 .1 .1 .1 .0) (qs .1 .1 .1 .1 .1
               .0)) (List._∷_ Row.off (List._∷_ Row.off (List._∷_ Row.off (List._∷_ Row.off (List._∷_ Row.off (List._∷_ Row.off (List._∷_ Row.off (List._∷_ Row.off (List._∷_ Row.off (List._∷_ Row.off
@@ -3957,25 +4053,25 @@ module _ (claims· : Claims) where
 
         abbrev G113 : Row.Cx
         G113 = record {
-          locals = List._++_ t4 (List._++_ t63 (List._++_ t2 t3));
-          slots = List._∷_ (Row.lease (κs .0) (qs .0)) (List._∷_ (Row.lease (κs .1 .0) (qs .1 .0)) (List._∷_ (Row.lease (κs .1 .1 .0) (qs .1 .1
-              .0)) (List._∷_ (Row.lease (κs .1 .1 .1 .0) (qs .1 .1 .1 .0)) (List._∷_ (Row.lease (κs .1 .1 .1 .1 .0) (qs .1 .1 .1 .1 .0)) (List._∷_ (Row.lease (κs .1 .1 .1 .1 .1 .0) (qs .1 .1 .1 .1 .1 .0))
-              (List._∷_ Row.off (List._∷_ Row.off (List._∷_ Row.off (List._∷_ Row.off (List._∷_ Row.off (List._∷_ Row.off (List._∷_ Row.off (List._∷_ Row.off (List._∷_ Row.off (List._∷_ Row.off
+          locals = List._++_ t78 (List._++_ t74 (List._++_ t2 t3));
+          slots = List._∷_ (Row.lease (κs .0) (qs .0)) (List._∷_ (Row.lease (κs .1 .0) (qs .1 .0)) (List._∷_ (Row.lease (κs .1 .1 .0) (qs .1
+              .1 .0)) (List._∷_ (Row.lease (κs .1 .1 .1 .0) (qs .1 .1 .1 .0)) (List._∷_ (Row.lease (κs .1 .1 .1 .1 .0) (qs .1 .1 .1 .1 .0)) (List._∷_ (Row.lease (κs .1 .1 .1 .1 .1 .0) (qs .1 .1 .1 .1 .1
+              .0)) (List._∷_ Row.off (List._∷_ Row.off (List._∷_ Row.off (List._∷_ Row.off (List._∷_ Row.off (List._∷_ Row.off (List._∷_ Row.off (List._∷_ Row.off (List._∷_ Row.off (List._∷_ Row.off
               List.[])))))))))))))));
         }
 
         abbrev G114 : Row.Cx
         G114 = record {
-          locals = List._++_ t4 (List._++_ t77 (List._++_ t2 t3));
-          slots = List._∷_ (Row.lease (κs .0) (qs .0)) (List._∷_ (Row.lease (κs .1 .0) (qs .1 .0)) (List._∷_ (Row.lease (κs .1 .1 .0) (qs .1 .1
-              .0)) (List._∷_ (Row.lease (κs .1 .1 .1 .0) (qs .1 .1 .1 .0)) (List._∷_ (Row.lease (κs .1 .1 .1 .1 .0) (qs .1 .1 .1 .1 .0)) (List._∷_ (Row.lease (κs .1 .1 .1 .1 .1 .0) (qs .1 .1 .1 .1 .1 .0))
-              (List._∷_ Row.off (List._∷_ Row.off (List._∷_ Row.off (List._∷_ Row.off (List._∷_ Row.off (List._∷_ Row.off (List._∷_ Row.off (List._∷_ Row.off (List._∷_ Row.off (List._∷_ Row.off
+          locals = List._++_ t79 (List._++_ t74 (List._++_ t2 t3));
+          slots = List._∷_ (Row.lease (κs .0) (qs .0)) (List._∷_ (Row.lease (κs .1 .0) (qs .1 .0)) (List._∷_ (Row.lease (κs .1 .1 .0) (qs .1
+              .1 .0)) (List._∷_ (Row.lease (κs .1 .1 .1 .0) (qs .1 .1 .1 .0)) (List._∷_ (Row.lease (κs .1 .1 .1 .1 .0) (qs .1 .1 .1 .1 .0)) (List._∷_ (Row.lease (κs .1 .1 .1 .1 .1 .0) (qs .1 .1 .1 .1 .1
+              .0)) (List._∷_ Row.off (List._∷_ Row.off (List._∷_ Row.off (List._∷_ Row.off (List._∷_ Row.off (List._∷_ Row.off (List._∷_ Row.off (List._∷_ Row.off (List._∷_ Row.off (List._∷_ Row.off
               List.[])))))))))))))));
         }
 
         abbrev G115 : Row.Cx
         G115 = record {
-          locals = List._++_ t4 (List._++_ t1 (List._++_ t2 t3));
+          locals = List._++_ t4 (List._++_ t74 (List._++_ t2 t3));
           slots = List._∷_ (Row.lease (κs .0) (qs .0)) (List._∷_ (Row.lease (κs .1 .0) (qs .1 .0)) (List._∷_ (Row.lease (κs .1 .1 .0) (qs .1 .1
               .0)) (List._∷_ (Row.lease (κs .1 .1 .1 .0) (qs .1 .1 .1 .0)) (List._∷_ (Row.lease (κs .1 .1 .1 .1 .0) (qs .1 .1 .1 .1 .0)) (List._∷_ (Row.lease (κs .1 .1 .1 .1 .1 .0) (qs .1 .1 .1 .1 .1 .0))
               (List._∷_ Row.off (List._∷_ Row.off (List._∷_ Row.off (List._∷_ Row.off (List._∷_ Row.off (List._∷_ Row.off (List._∷_ Row.off (List._∷_ Row.off (List._∷_ Row.off (List._∷_ Row.off
@@ -3984,43 +4080,43 @@ module _ (claims· : Claims) where
 
         abbrev G116 : Row.Cx
         G116 = record {
-          locals = List._++_ t20 (List._++_ t54 (List._++_ t2 t3));
-          slots = List._∷_ (Row.lease (κs .0) (qs .0)) (List._∷_ (Row.lease (κs .1 .0) (qs .1 .0)) (List._∷_ (Row.lease (κs .1 .1 .0) (qs .1
-              .1 .0)) (List._∷_ (Row.lease (κs .1 .1 .1 .0) (qs .1 .1 .1 .0)) (List._∷_ (Row.lease (κs .1 .1 .1 .1 .0) (qs .1 .1 .1 .1 .0)) (List._∷_ (Row.lease (κs .1 .1 .1 .1 .1 .0) (qs .1 .1 .1 .1 .1
-              .0)) (List._∷_ Row.off (List._∷_ Row.off (List._∷_ Row.off (List._∷_ Row.off (List._∷_ Row.off (List._∷_ Row.off (List._∷_ Row.off (List._∷_ Row.off (List._∷_ Row.off (List._∷_ Row.off
+          locals = List._++_ t4 (List._++_ t80 (List._++_ t2 t3));
+          slots = List._∷_ (Row.lease (κs .0) (qs .0)) (List._∷_ (Row.lease (κs .1 .0) (qs .1 .0)) (List._∷_ (Row.lease (κs .1 .1 .0) (qs .1 .1
+              .0)) (List._∷_ (Row.lease (κs .1 .1 .1 .0) (qs .1 .1 .1 .0)) (List._∷_ (Row.lease (κs .1 .1 .1 .1 .0) (qs .1 .1 .1 .1 .0)) (List._∷_ (Row.lease (κs .1 .1 .1 .1 .1 .0) (qs .1 .1 .1 .1 .1 .0))
+              (List._∷_ Row.off (List._∷_ Row.off (List._∷_ Row.off (List._∷_ Row.off (List._∷_ Row.off (List._∷_ Row.off (List._∷_ Row.off (List._∷_ Row.off (List._∷_ Row.off (List._∷_ Row.off
               List.[])))))))))))))));
         }
 
         abbrev G117 : Row.Cx
         G117 = record {
-          locals = List._++_ t20 (List._++_ t34 (List._++_ t2 t3));
-          slots = List._∷_ (Row.lease (κs .0) (qs .0)) (List._∷_ (Row.lease (κs .1 .0) (qs .1 .0)) (List._∷_ (Row.lease (κs .1 .1 .0) (qs .1
-              .1 .0)) (List._∷_ (Row.lease (κs .1 .1 .1 .0) (qs .1 .1 .1 .0)) (List._∷_ (Row.lease (κs .1 .1 .1 .1 .0) (qs .1 .1 .1 .1 .0)) (List._∷_ (Row.lease (κs .1 .1 .1 .1 .1 .0) (qs .1 .1 .1 .1 .1
-              .0)) (List._∷_ Row.off (List._∷_ Row.off (List._∷_ Row.off (List._∷_ Row.off (List._∷_ Row.off (List._∷_ Row.off (List._∷_ Row.off (List._∷_ Row.off (List._∷_ Row.off (List._∷_ Row.off
+          locals = List._++_ t4 (List._++_ t1 (List._++_ t2 t3));
+          slots = List._∷_ (Row.lease (κs .0) (qs .0)) (List._∷_ (Row.lease (κs .1 .0) (qs .1 .0)) (List._∷_ (Row.lease (κs .1 .1 .0) (qs .1 .1
+              .0)) (List._∷_ (Row.lease (κs .1 .1 .1 .0) (qs .1 .1 .1 .0)) (List._∷_ (Row.lease (κs .1 .1 .1 .1 .0) (qs .1 .1 .1 .1 .0)) (List._∷_ (Row.lease (κs .1 .1 .1 .1 .1 .0) (qs .1 .1 .1 .1 .1 .0))
+              (List._∷_ Row.off (List._∷_ Row.off (List._∷_ Row.off (List._∷_ Row.off (List._∷_ Row.off (List._∷_ Row.off (List._∷_ Row.off (List._∷_ Row.off (List._∷_ Row.off (List._∷_ Row.off
               List.[])))))))))))))));
         }
 
         abbrev G118 : Row.Cx
         G118 = record {
-          locals = List._++_ t20 (List._++_ t34 (List._++_ t78 t3));
-          slots = List._∷_ (Row.lease (κs .0) (qs .0)) (List._∷_ (Row.lease (κs .1 .0) (qs .1 .0)) (List._∷_ (Row.lease (κs .1 .1 .0) (qs .1
-              .1 .0)) (List._∷_ (Row.lease (κs .1 .1 .1 .0) (qs .1 .1 .1 .0)) (List._∷_ (Row.lease (κs .1 .1 .1 .1 .0) (qs .1 .1 .1 .1 .0)) (List._∷_ (Row.lease (κs .1 .1 .1 .1 .1 .0) (qs .1 .1 .1 .1 .1
-              .0)) (List._∷_ Row.off (List._∷_ Row.off (List._∷_ Row.off (List._∷_ Row.off (List._∷_ Row.off (List._∷_ Row.off (List._∷_ Row.off (List._∷_ Row.off (List._∷_ Row.off (List._∷_ Row.off
+          locals = List._++_ t7 (List._++_ t81 (List._++_ t2 t3));
+          slots = List._∷_ (Row.lease (κs .0) (qs .0)) (List._∷_ (Row.lease (κs .1 .0) (qs .1 .0)) (List._∷_ (Row.lease (κs .1 .1 .0) (qs .1 .1
+              .0)) (List._∷_ (Row.lease (κs .1 .1 .1 .0) (qs .1 .1 .1 .0)) (List._∷_ (Row.lease (κs .1 .1 .1 .1 .0) (qs .1 .1 .1 .1 .0)) (List._∷_ (Row.lease (κs .1 .1 .1 .1 .1 .0) (qs .1 .1 .1 .1 .1 .0))
+              (List._∷_ Row.off (List._∷_ Row.off (List._∷_ Row.off (List._∷_ Row.off (List._∷_ Row.off (List._∷_ Row.off (List._∷_ Row.off (List._∷_ Row.off (List._∷_ Row.off (List._∷_ Row.off
               List.[])))))))))))))));
         }
 
         abbrev G119 : Row.Cx
         G119 = record {
-          locals = List._++_ t20 (List._++_ t34 (List._++_ t78 t3));
-          slots = List._∷_ (Row.lease (κs .0) (qs .0)) (List._∷_ (Row.lease (κs .1 .0) (qs .1 .0)) (List._∷_ (Row.lease (κs .1 .1 .0) (qs .1
-              .1 .0)) (List._∷_ (Row.lease (κs .1 .1 .1 .0) (qs .1 .1 .1 .0)) (List._∷_ (Row.lease (κs .1 .1 .1 .1 .0) (qs .1 .1 .1 .1 .0)) (List._∷_ (Row.lease (κs .1 .1 .1 .1 .1 .0) (qs .1 .1 .1 .1 .1
-              .0)) (List._∷_ Row.off (List._∷_ Row.off (List._∷_ Row.off (List._∷_ Row.off (List._∷_ Row.off (List._∷_ Row.off (List._∷_ Row.off (List._∷_ Row.off (List._∷_ Row.off (List._∷_ Row.off
+          locals = List._++_ t7 (List._++_ t35 (List._++_ t2 t3));
+          slots = List._∷_ (Row.lease (κs .0) (qs .0)) (List._∷_ (Row.lease (κs .1 .0) (qs .1 .0)) (List._∷_ (Row.lease (κs .1 .1 .0) (qs .1 .1
+              .0)) (List._∷_ (Row.lease (κs .1 .1 .1 .0) (qs .1 .1 .1 .0)) (List._∷_ (Row.lease (κs .1 .1 .1 .1 .0) (qs .1 .1 .1 .1 .0)) (List._∷_ (Row.lease (κs .1 .1 .1 .1 .1 .0) (qs .1 .1 .1 .1 .1 .0))
+              (List._∷_ Row.off (List._∷_ Row.off (List._∷_ Row.off (List._∷_ Row.off (List._∷_ Row.off (List._∷_ Row.off (List._∷_ Row.off (List._∷_ Row.off (List._∷_ Row.off (List._∷_ Row.off
               List.[])))))))))))))));
         }
 
         abbrev G120 : Row.Cx
         G120 = record {
-          locals = List._++_ t20 (List._++_ t34 (List._++_ t2 t3));
+          locals = List._++_ t7 (List._++_ t35 (List._++_ t82 t3));
           slots = List._∷_ (Row.lease (κs .0) (qs .0)) (List._∷_ (Row.lease (κs .1 .0) (qs .1 .0)) (List._∷_ (Row.lease (κs .1 .1 .0) (qs .1
               .1 .0)) (List._∷_ (Row.lease (κs .1 .1 .1 .0) (qs .1 .1 .1 .0)) (List._∷_ (Row.lease (κs .1 .1 .1 .1 .0) (qs .1 .1 .1 .1 .0)) (List._∷_ (Row.lease (κs .1 .1 .1 .1 .1 .0) (qs .1 .1 .1 .1 .1
               .0)) (List._∷_ Row.off (List._∷_ Row.off (List._∷_ Row.off (List._∷_ Row.off (List._∷_ Row.off (List._∷_ Row.off (List._∷_ Row.off (List._∷_ Row.off (List._∷_ Row.off (List._∷_ Row.off
@@ -4029,56 +4125,58 @@ module _ (claims· : Claims) where
 
         abbrev G121 : Row.Cx
         G121 = record {
-          locals = List._++_ t20 (List._++_ t34 (List._++_ t2 t3));
+          locals = List._++_ t7 (List._++_ t35 (List._++_ t82 t3));
           slots = List._∷_ (Row.lease (κs .0) (qs .0)) (List._∷_ (Row.lease (κs .1 .0) (qs .1 .0)) (List._∷_ (Row.lease (κs .1 .1 .0) (qs .1
               .1 .0)) (List._∷_ (Row.lease (κs .1 .1 .1 .0) (qs .1 .1 .1 .0)) (List._∷_ (Row.lease (κs .1 .1 .1 .1 .0) (qs .1 .1 .1 .1 .0)) (List._∷_ (Row.lease (κs .1 .1 .1 .1 .1 .0) (qs .1 .1 .1 .1 .1
-              .0)) (List._∷_ Row.off (List._∷_ Row.off (List._∷_ Row.off (List._∷_ Row.off (List._∷_ Row.off (List._∷_ Row.off (List._∷_ Row.off (List._∷_ Row.off (List._∷_ Row.alive (List._∷_ Row.off
+              .0)) (List._∷_ Row.off (List._∷_ Row.off (List._∷_ Row.off (List._∷_ Row.off (List._∷_ Row.off (List._∷_ Row.off (List._∷_ Row.off (List._∷_ Row.off (List._∷_ Row.off (List._∷_ Row.off
               List.[])))))))))))))));
         }
 
         abbrev G122 : Row.Cx
         G122 = record {
-          locals = List._++_ g79 (List._++_ t34 (List._++_ t80 t3));
-          slots = List._∷_ (Row.lease (κs .0) (qs .0)) (List._∷_ (Row.lease (κs .1 .0) (qs .1 .0)) (List._∷_ Row.off (List._∷_ (Row.lease (κs
-              .1 .1 .1 .0) (qs .1 .1 .1 .0)) (List._∷_ (Row.lease (κs .1 .1 .1 .1 .0) (qs .1 .1 .1 .1 .0)) (List._∷_ (Row.lease (κs .1 .1 .1 .1 .1 .0) (qs .1 .1 .1 .1 .1 .0)) (List._∷_ Row.off (List._∷_
-              Row.off (List._∷_ Row.off (List._∷_ Row.off (List._∷_ Row.off (List._∷_ Row.off (List._∷_ Row.off (List._∷_ Row.off (List._∷_ Row.alive (List._∷_ Row.off List.[])))))))))))))));
+          locals = List._++_ t7 (List._++_ t35 (List._++_ t2 t3));
+          slots = List._∷_ (Row.lease (κs .0) (qs .0)) (List._∷_ (Row.lease (κs .1 .0) (qs .1 .0)) (List._∷_ (Row.lease (κs .1 .1 .0) (qs .1 .1
+              .0)) (List._∷_ (Row.lease (κs .1 .1 .1 .0) (qs .1 .1 .1 .0)) (List._∷_ (Row.lease (κs .1 .1 .1 .1 .0) (qs .1 .1 .1 .1 .0)) (List._∷_ (Row.lease (κs .1 .1 .1 .1 .1 .0) (qs .1 .1 .1 .1 .1 .0))
+              (List._∷_ Row.off (List._∷_ Row.off (List._∷_ Row.off (List._∷_ Row.off (List._∷_ Row.off (List._∷_ Row.off (List._∷_ Row.off (List._∷_ Row.off (List._∷_ Row.off (List._∷_ Row.off
+              List.[])))))))))))))));
         }
 
         abbrev G123 : Row.Cx
         G123 = record {
-          locals = List._++_ g79 (List._++_ t34 (List._++_ t81 t3));
+          locals = List._++_ t7 (List._++_ t35 (List._++_ t2 t3));
+          slots = List._∷_ (Row.lease (κs .0) (qs .0)) (List._∷_ (Row.lease (κs .1 .0) (qs .1 .0)) (List._∷_ (Row.lease (κs .1 .1 .0) (qs .1 .1
+              .0)) (List._∷_ (Row.lease (κs .1 .1 .1 .0) (qs .1 .1 .1 .0)) (List._∷_ (Row.lease (κs .1 .1 .1 .1 .0) (qs .1 .1 .1 .1 .0)) (List._∷_ (Row.lease (κs .1 .1 .1 .1 .1 .0) (qs .1 .1 .1 .1 .1 .0))
+              (List._∷_ Row.off (List._∷_ Row.off (List._∷_ Row.off (List._∷_ Row.off (List._∷_ Row.off (List._∷_ Row.off (List._∷_ Row.off (List._∷_ Row.off (List._∷_ Row.alive (List._∷_ Row.off
+              List.[])))))))))))))));
+        }
+
+        abbrev G124 : Row.Cx
+        G124 = record {
+          locals = List._++_ g83 (List._++_ t35 (List._++_ t84 t3));
           slots = List._∷_ (Row.lease (κs .0) (qs .0)) (List._∷_ (Row.lease (κs .1 .0) (qs .1 .0)) (List._∷_ Row.off (List._∷_ (Row.lease (κs
               .1 .1 .1 .0) (qs .1 .1 .1 .0)) (List._∷_ (Row.lease (κs .1 .1 .1 .1 .0) (qs .1 .1 .1 .1 .0)) (List._∷_ (Row.lease (κs .1 .1 .1 .1 .1 .0) (qs .1 .1 .1 .1 .1 .0)) (List._∷_ Row.off (List._∷_
               Row.off (List._∷_ Row.off (List._∷_ Row.off (List._∷_ Row.off (List._∷_ Row.off (List._∷_ Row.off (List._∷_ Row.off (List._∷_ Row.alive (List._∷_ Row.off List.[])))))))))))))));
         }
 
-        abbrev G124 : Row.Cx
-        G124 = record {
-          locals = List._++_ g79 (List._++_ t34 (List._++_ t81 t3));
+        abbrev G125 : Row.Cx
+        G125 = record {
+          locals = List._++_ g83 (List._++_ t35 (List._++_ t85 t3));
+          slots = List._∷_ (Row.lease (κs .0) (qs .0)) (List._∷_ (Row.lease (κs .1 .0) (qs .1 .0)) (List._∷_ Row.off (List._∷_ (Row.lease (κs
+              .1 .1 .1 .0) (qs .1 .1 .1 .0)) (List._∷_ (Row.lease (κs .1 .1 .1 .1 .0) (qs .1 .1 .1 .1 .0)) (List._∷_ (Row.lease (κs .1 .1 .1 .1 .1 .0) (qs .1 .1 .1 .1 .1 .0)) (List._∷_ Row.off (List._∷_
+              Row.off (List._∷_ Row.off (List._∷_ Row.off (List._∷_ Row.off (List._∷_ Row.off (List._∷_ Row.off (List._∷_ Row.off (List._∷_ Row.alive (List._∷_ Row.off List.[])))))))))))))));
+        }
+
+        abbrev G126 : Row.Cx
+        G126 = record {
+          locals = List._++_ g83 (List._++_ t35 (List._++_ t85 t3));
           slots = List._∷_ (Row.lease (κs .0) (qs .0)) (List._∷_ (Row.lease (κs .1 .0) (qs .1 .0)) (List._∷_ Row.off (List._∷_ (Row.lease (κs
               .1 .1 .1 .0) (qs .1 .1 .1 .0)) (List._∷_ (Row.lease (κs .1 .1 .1 .1 .0) (qs .1 .1 .1 .1 .0)) (List._∷_ (Row.lease (κs .1 .1 .1 .1 .1 .0) (qs .1 .1 .1 .1 .1 .0)) (List._∷_ Row.off (List._∷_
               Row.off (List._∷_ Row.off (List._∷_ Row.off (List._∷_ Row.off (List._∷_ Row.off (List._∷_ Row.off (List._∷_ Row.off (List._∷_ Row.alive (List._∷_ Row.alive List.[])))))))))))))));
         }
 
-        abbrev G125 : Row.Cx
-        G125 = record {
-          locals = List._++_ g82 (List._++_ t34 (List._++_ t83 t3));
-          slots = List._∷_ (Row.lease (κs .0) (qs .0)) (List._∷_ (Row.lease (κs .1 .0) (qs .1 .0)) (List._∷_ Row.off (List._∷_ (Row.lease (κs
-              .1 .1 .1 .0) (qs .1 .1 .1 .0)) (List._∷_ Row.off (List._∷_ (Row.lease (κs .1 .1 .1 .1 .1 .0) (qs .1 .1 .1 .1 .1 .0)) (List._∷_ Row.off (List._∷_ Row.off (List._∷_ Row.off (List._∷_ Row.off
-              (List._∷_ Row.off (List._∷_ Row.off (List._∷_ Row.off (List._∷_ Row.off (List._∷_ Row.alive (List._∷_ Row.alive List.[])))))))))))))));
-        }
-
-        abbrev G126 : Row.Cx
-        G126 = record {
-          locals = List._++_ g82 (List._++_ t34 (List._++_ t81 t84));
-          slots = List._∷_ (Row.lease (κs .0) (qs .0)) (List._∷_ (Row.lease (κs .1 .0) (qs .1 .0)) (List._∷_ Row.off (List._∷_ (Row.lease
-              (κs .1 .1 .1 .0) (qs .1 .1 .1 .0)) (List._∷_ Row.off (List._∷_ (Row.lease (κs .1 .1 .1 .1 .1 .0) (qs .1 .1 .1 .1 .1 .0)) (List._∷_ Row.off (List._∷_ Row.off (List._∷_ Row.off (List._∷_ Row.off
-              (List._∷_ Row.off (List._∷_ Row.off (List._∷_ Row.off (List._∷_ Row.off (List._∷_ Row.alive (List._∷_ Row.alive List.[])))))))))))))));
-        }
-
         abbrev G127 : Row.Cx
         G127 = record {
-          locals = List._++_ g82 (List._++_ t38 (List._++_ t81 t84));
+          locals = List._++_ g86 (List._++_ t35 (List._++_ t85 t87));
           slots = List._∷_ (Row.lease (κs .0) (qs .0)) (List._∷_ (Row.lease (κs .1 .0) (qs .1 .0)) (List._∷_ Row.off (List._∷_ (Row.lease
               (κs .1 .1 .1 .0) (qs .1 .1 .1 .0)) (List._∷_ Row.off (List._∷_ (Row.lease (κs .1 .1 .1 .1 .1 .0) (qs .1 .1 .1 .1 .1 .0)) (List._∷_ Row.off (List._∷_ Row.off (List._∷_ Row.off (List._∷_ Row.off
               (List._∷_ Row.off (List._∷_ Row.off (List._∷_ Row.off (List._∷_ Row.off (List._∷_ Row.alive (List._∷_ Row.alive List.[])))))))))))))));
@@ -4086,7 +4184,7 @@ module _ (claims· : Claims) where
 
         abbrev G128 : Row.Cx
         G128 = record {
-          locals = List._++_ g82 (List._++_ t39 (List._++_ t81 t85));
+          locals = List._++_ g86 (List._++_ t35 (List._++_ t85 t88));
           slots = List._∷_ (Row.lease (κs .0) (qs .0)) (List._∷_ (Row.lease (κs .1 .0) (qs .1 .0)) (List._∷_ Row.off (List._∷_ (Row.lease
               (κs .1 .1 .1 .0) (qs .1 .1 .1 .0)) (List._∷_ Row.off (List._∷_ (Row.lease (κs .1 .1 .1 .1 .1 .0) (qs .1 .1 .1 .1 .1 .0)) (List._∷_ Row.off (List._∷_ Row.off (List._∷_ Row.off (List._∷_ Row.off
               (List._∷_ Row.off (List._∷_ Row.off (List._∷_ Row.off (List._∷_ Row.off (List._∷_ Row.alive (List._∷_ Row.alive List.[])))))))))))))));
@@ -4094,23 +4192,23 @@ module _ (claims· : Claims) where
 
         abbrev G129 : Row.Cx
         G129 = record {
-          locals = List._++_ g82 (List._++_ t39 (List._++_ t2 t85));
-          slots = List._∷_ (Row.lease (κs .0) (qs .0)) (List._∷_ (Row.lease (κs .1 .0) (qs .1 .0)) (List._∷_ Row.off (List._∷_ (Row.lease (κs
-              .1 .1 .1 .0) (qs .1 .1 .1 .0)) (List._∷_ Row.off (List._∷_ (Row.lease (κs .1 .1 .1 .1 .1 .0) (qs .1 .1 .1 .1 .1 .0)) (List._∷_ Row.off (List._∷_ Row.off (List._∷_ Row.off (List._∷_ Row.off
+          locals = List._++_ g86 (List._++_ t39 (List._++_ t85 t88));
+          slots = List._∷_ (Row.lease (κs .0) (qs .0)) (List._∷_ (Row.lease (κs .1 .0) (qs .1 .0)) (List._∷_ Row.off (List._∷_ (Row.lease
+              (κs .1 .1 .1 .0) (qs .1 .1 .1 .0)) (List._∷_ Row.off (List._∷_ (Row.lease (κs .1 .1 .1 .1 .1 .0) (qs .1 .1 .1 .1 .1 .0)) (List._∷_ Row.off (List._∷_ Row.off (List._∷_ Row.off (List._∷_ Row.off
               (List._∷_ Row.off (List._∷_ Row.off (List._∷_ Row.off (List._∷_ Row.off (List._∷_ Row.alive (List._∷_ Row.alive List.[])))))))))))))));
         }
 
         abbrev G130 : Row.Cx
         G130 = record {
-          locals = List._++_ g82 (List._++_ t41 (List._++_ t2 t85));
-          slots = List._∷_ (Row.lease (κs .0) (qs .0)) (List._∷_ (Row.lease (κs .1 .0) (qs .1 .0)) (List._∷_ Row.off (List._∷_ (Row.lease (κs
-              .1 .1 .1 .0) (qs .1 .1 .1 .0)) (List._∷_ Row.off (List._∷_ (Row.lease (κs .1 .1 .1 .1 .1 .0) (qs .1 .1 .1 .1 .1 .0)) (List._∷_ Row.off (List._∷_ Row.off (List._∷_ Row.off (List._∷_ Row.off
+          locals = List._++_ g86 (List._++_ t40 (List._++_ t85 t89));
+          slots = List._∷_ (Row.lease (κs .0) (qs .0)) (List._∷_ (Row.lease (κs .1 .0) (qs .1 .0)) (List._∷_ Row.off (List._∷_ (Row.lease
+              (κs .1 .1 .1 .0) (qs .1 .1 .1 .0)) (List._∷_ Row.off (List._∷_ (Row.lease (κs .1 .1 .1 .1 .1 .0) (qs .1 .1 .1 .1 .1 .0)) (List._∷_ Row.off (List._∷_ Row.off (List._∷_ Row.off (List._∷_ Row.off
               (List._∷_ Row.off (List._∷_ Row.off (List._∷_ Row.off (List._∷_ Row.off (List._∷_ Row.alive (List._∷_ Row.alive List.[])))))))))))))));
         }
 
         abbrev G131 : Row.Cx
         G131 = record {
-          locals = List._++_ g82 (List._++_ t34 (List._++_ t2 t85));
+          locals = List._++_ g86 (List._++_ t40 (List._++_ t2 t89));
           slots = List._∷_ (Row.lease (κs .0) (qs .0)) (List._∷_ (Row.lease (κs .1 .0) (qs .1 .0)) (List._∷_ Row.off (List._∷_ (Row.lease (κs
               .1 .1 .1 .0) (qs .1 .1 .1 .0)) (List._∷_ Row.off (List._∷_ (Row.lease (κs .1 .1 .1 .1 .1 .0) (qs .1 .1 .1 .1 .1 .0)) (List._∷_ Row.off (List._∷_ Row.off (List._∷_ Row.off (List._∷_ Row.off
               (List._∷_ Row.off (List._∷_ Row.off (List._∷_ Row.off (List._∷_ Row.off (List._∷_ Row.alive (List._∷_ Row.alive List.[])))))))))))))));
@@ -4118,102 +4216,100 @@ module _ (claims· : Claims) where
 
         abbrev G132 : Row.Cx
         G132 = record {
-          locals = List._++_ g82 (List._++_ t34 (List._++_ t2 t85));
+          locals = List._++_ g86 (List._++_ t42 (List._++_ t2 t89));
+          slots = List._∷_ (Row.lease (κs .0) (qs .0)) (List._∷_ (Row.lease (κs .1 .0) (qs .1 .0)) (List._∷_ Row.off (List._∷_ (Row.lease (κs
+              .1 .1 .1 .0) (qs .1 .1 .1 .0)) (List._∷_ Row.off (List._∷_ (Row.lease (κs .1 .1 .1 .1 .1 .0) (qs .1 .1 .1 .1 .1 .0)) (List._∷_ Row.off (List._∷_ Row.off (List._∷_ Row.off (List._∷_ Row.off
+              (List._∷_ Row.off (List._∷_ Row.off (List._∷_ Row.off (List._∷_ Row.off (List._∷_ Row.alive (List._∷_ Row.alive List.[])))))))))))))));
+        }
+
+        abbrev G133 : Row.Cx
+        G133 = record {
+          locals = List._++_ g86 (List._++_ t35 (List._++_ t2 t89));
+          slots = List._∷_ (Row.lease (κs .0) (qs .0)) (List._∷_ (Row.lease (κs .1 .0) (qs .1 .0)) (List._∷_ Row.off (List._∷_ (Row.lease (κs
+              .1 .1 .1 .0) (qs .1 .1 .1 .0)) (List._∷_ Row.off (List._∷_ (Row.lease (κs .1 .1 .1 .1 .1 .0) (qs .1 .1 .1 .1 .1 .0)) (List._∷_ Row.off (List._∷_ Row.off (List._∷_ Row.off (List._∷_ Row.off
+              (List._∷_ Row.off (List._∷_ Row.off (List._∷_ Row.off (List._∷_ Row.off (List._∷_ Row.alive (List._∷_ Row.alive List.[])))))))))))))));
+        }
+
+        abbrev G134 : Row.Cx
+        G134 = record {
+          locals = List._++_ g86 (List._++_ t35 (List._++_ t2 t89));
           slots = List._∷_ (Row.lease (κs .0) (qs .0)) (List._∷_ (Row.lease (κs .1 .0) (qs .1 .0)) (List._∷_ Row.off (List._∷_ (Row.lease (κs
               .1 .1 .1 .0) (qs .1 .1 .1 .0)) (List._∷_ Row.off (List._∷_ (Row.lease (κs .1 .1 .1 .1 .1 .0) (qs .1 .1 .1 .1 .1 .0)) (List._∷_ Row.off (List._∷_ Row.off (List._∷_ Row.off (List._∷_ Row.off
               (List._∷_ Row.off (List._∷_ Row.off (List._∷_ Row.off (List._∷_ Row.off (List._∷_ Row.dead (List._∷_ Row.alive List.[])))))))))))))));
         }
 
-        abbrev G133 : Row.Cx
-        G133 = record {
-          locals = List._++_ g86 (List._++_ t34 (List._++_ t2 t85));
+        abbrev G135 : Row.Cx
+        G135 = record {
+          locals = List._++_ g90 (List._++_ t35 (List._++_ t2 t89));
           slots = List._∷_ (Row.lease (κs .0) (qs .0)) (List._∷_ (Row.lease (κs .1 .0) (qs .1 .0)) (List._∷_ (Row.lease (κs .1 .1 .0) (qs .1
               .1 .0)) (List._∷_ (Row.lease (κs .1 .1 .1 .0) (qs .1 .1 .1 .0)) (List._∷_ Row.off (List._∷_ (Row.lease (κs .1 .1 .1 .1 .1 .0) (qs .1 .1 .1 .1 .1 .0)) (List._∷_ Row.off (List._∷_ Row.off
               (List._∷_ Row.off (List._∷_ Row.off (List._∷_ Row.off (List._∷_ Row.off (List._∷_ Row.off (List._∷_ Row.off (List._∷_ Row.dead (List._∷_ Row.alive List.[])))))))))))))));
         }
 
-        abbrev G134 : Row.Cx
-        G134 = record {
-          locals = List._++_ g86 (List._++_ t34 (List._++_ t2 t85));
+        abbrev G136 : Row.Cx
+        G136 = record {
+          locals = List._++_ g90 (List._++_ t35 (List._++_ t2 t89));
           slots = List._∷_ (Row.lease (κs .0) (qs .0)) (List._∷_ (Row.lease (κs .1 .0) (qs .1 .0)) (List._∷_ (Row.lease (κs .1 .1 .0) (qs .1
               .1 .0)) (List._∷_ (Row.lease (κs .1 .1 .1 .0) (qs .1 .1 .1 .0)) (List._∷_ Row.off (List._∷_ (Row.lease (κs .1 .1 .1 .1 .1 .0) (qs .1 .1 .1 .1 .1 .0)) (List._∷_ Row.off (List._∷_ Row.off
               (List._∷_ Row.off (List._∷_ Row.off (List._∷_ Row.off (List._∷_ Row.off (List._∷_ Row.off (List._∷_ Row.off (List._∷_ Row.off (List._∷_ Row.alive List.[])))))))))))))));
         }
 
-        abbrev G135 : Row.Cx
-        G135 = record {
-          locals = List._++_ g86 (List._++_ t34 (List._++_ t2 t85));
+        abbrev G137 : Row.Cx
+        G137 = record {
+          locals = List._++_ g90 (List._++_ t35 (List._++_ t2 t89));
           slots = List._∷_ (Row.lease (κs .0) (qs .0)) (List._∷_ (Row.lease (κs .1 .0) (qs .1 .0)) (List._∷_ (Row.lease (κs .1 .1 .0) (qs .1
               .1 .0)) (List._∷_ (Row.lease (κs .1 .1 .1 .0) (qs .1 .1 .1 .0)) (List._∷_ Row.off (List._∷_ (Row.lease (κs .1 .1 .1 .1 .1 .0) (qs .1 .1 .1 .1 .1 .0)) (List._∷_ Row.off (List._∷_ Row.off
               (List._∷_ Row.off (List._∷_ Row.off (List._∷_ Row.off (List._∷_ Row.off (List._∷_ Row.off (List._∷_ Row.off (List._∷_ Row.off (List._∷_ Row.dead List.[])))))))))))))));
         }
 
-        abbrev G136 : Row.Cx
-        G136 = record {
-          locals = List._++_ t20 (List._++_ t34 (List._++_ t2 t3));
-          slots = List._∷_ (Row.lease (κs .0) (qs .0)) (List._∷_ (Row.lease (κs .1 .0) (qs .1 .0)) (List._∷_ (Row.lease (κs .1 .1 .0) (qs .1
-              .1 .0)) (List._∷_ (Row.lease (κs .1 .1 .1 .0) (qs .1 .1 .1 .0)) (List._∷_ (Row.lease (κs .1 .1 .1 .1 .0) (qs .1 .1 .1 .1 .0)) (List._∷_ (Row.lease (κs .1 .1 .1 .1 .1 .0) (qs .1 .1 .1 .1 .1
-              .0)) (List._∷_ Row.off (List._∷_ Row.off (List._∷_ Row.off (List._∷_ Row.off (List._∷_ Row.off (List._∷_ Row.off (List._∷_ Row.off (List._∷_ Row.off (List._∷_ Row.off (List._∷_ Row.dead
-              List.[])))))))))))))));
-        }
-
-        abbrev G137 : Row.Cx
-        G137 = record {
-          locals = List._++_ t20 (List._++_ t34 (List._++_ t2 t3));
-          slots = List._∷_ (Row.lease (κs .0) (qs .0)) (List._∷_ (Row.lease (κs .1 .0) (qs .1 .0)) (List._∷_ (Row.lease (κs .1 .1 .0) (qs .1
-              .1 .0)) (List._∷_ (Row.lease (κs .1 .1 .1 .0) (qs .1 .1 .1 .0)) (List._∷_ (Row.lease (κs .1 .1 .1 .1 .0) (qs .1 .1 .1 .1 .0)) (List._∷_ (Row.lease (κs .1 .1 .1 .1 .1 .0) (qs .1 .1 .1 .1 .1
-              .0)) (List._∷_ Row.off (List._∷_ Row.off (List._∷_ Row.off (List._∷_ Row.off (List._∷_ Row.off (List._∷_ Row.off (List._∷_ Row.off (List._∷_ Row.off (List._∷_ Row.off (List._∷_ Row.dead
-              List.[])))))))))))))));
-        }
-
         abbrev G138 : Row.Cx
         G138 = record {
-          locals = List._++_ t20 (List._++_ t34 (List._++_ t2 t3));
-          slots = List._∷_ (Row.lease (κs .0) (qs .0)) (List._∷_ (Row.lease (κs .1 .0) (qs .1 .0)) (List._∷_ (Row.lease (κs .1 .1 .0) (qs .1
-              .1 .0)) (List._∷_ (Row.lease (κs .1 .1 .1 .0) (qs .1 .1 .1 .0)) (List._∷_ (Row.lease (κs .1 .1 .1 .1 .0) (qs .1 .1 .1 .1 .0)) (List._∷_ (Row.lease (κs .1 .1 .1 .1 .1 .0) (qs .1 .1 .1 .1 .1
-              .0)) (List._∷_ Row.off (List._∷_ Row.off (List._∷_ Row.off (List._∷_ Row.off (List._∷_ Row.off (List._∷_ Row.off (List._∷_ Row.off (List._∷_ Row.off (List._∷_ Row.off (List._∷_ Row.off
+          locals = List._++_ t7 (List._++_ t35 (List._++_ t2 t3));
+          slots = List._∷_ (Row.lease (κs .0) (qs .0)) (List._∷_ (Row.lease (κs .1 .0) (qs .1 .0)) (List._∷_ (Row.lease (κs .1 .1 .0) (qs .1 .1
+              .0)) (List._∷_ (Row.lease (κs .1 .1 .1 .0) (qs .1 .1 .1 .0)) (List._∷_ (Row.lease (κs .1 .1 .1 .1 .0) (qs .1 .1 .1 .1 .0)) (List._∷_ (Row.lease (κs .1 .1 .1 .1 .1 .0) (qs .1 .1 .1 .1 .1 .0))
+              (List._∷_ Row.off (List._∷_ Row.off (List._∷_ Row.off (List._∷_ Row.off (List._∷_ Row.off (List._∷_ Row.off (List._∷_ Row.off (List._∷_ Row.off (List._∷_ Row.off (List._∷_ Row.dead
               List.[])))))))))))))));
         }
 
         abbrev G139 : Row.Cx
         G139 = record {
-          locals = List._++_ t20 (List._++_ t34 (List._++_ t2 t3));
-          slots = List._∷_ (Row.lease (κs .0) (qs .0)) (List._∷_ (Row.lease (κs .1 .0) (qs .1 .0)) (List._∷_ (Row.lease (κs .1 .1 .0) (qs .1
-              .1 .0)) (List._∷_ (Row.lease (κs .1 .1 .1 .0) (qs .1 .1 .1 .0)) (List._∷_ (Row.lease (κs .1 .1 .1 .1 .0) (qs .1 .1 .1 .1 .0)) (List._∷_ (Row.lease (κs .1 .1 .1 .1 .1 .0) (qs .1 .1 .1 .1 .1
-              .0)) (List._∷_ Row.off (List._∷_ Row.off (List._∷_ Row.off (List._∷_ Row.off (List._∷_ Row.off (List._∷_ Row.off (List._∷_ Row.off (List._∷_ Row.off (List._∷_ Row.off (List._∷_ Row.off
+          locals = List._++_ t7 (List._++_ t35 (List._++_ t2 t3));
+          slots = List._∷_ (Row.lease (κs .0) (qs .0)) (List._∷_ (Row.lease (κs .1 .0) (qs .1 .0)) (List._∷_ (Row.lease (κs .1 .1 .0) (qs .1 .1
+              .0)) (List._∷_ (Row.lease (κs .1 .1 .1 .0) (qs .1 .1 .1 .0)) (List._∷_ (Row.lease (κs .1 .1 .1 .1 .0) (qs .1 .1 .1 .1 .0)) (List._∷_ (Row.lease (κs .1 .1 .1 .1 .1 .0) (qs .1 .1 .1 .1 .1 .0))
+              (List._∷_ Row.off (List._∷_ Row.off (List._∷_ Row.off (List._∷_ Row.off (List._∷_ Row.off (List._∷_ Row.off (List._∷_ Row.off (List._∷_ Row.off (List._∷_ Row.off (List._∷_ Row.dead
               List.[])))))))))))))));
         }
 
         abbrev G140 : Row.Cx
         G140 = record {
-          locals = List._++_ t20 (List._++_ t22 (List._++_ t2 t3));
-          slots = List._∷_ (Row.lease (κs .0) (qs .0)) (List._∷_ (Row.lease (κs .1 .0) (qs .1 .0)) (List._∷_ (Row.lease (κs .1 .1 .0) (qs .1
-              .1 .0)) (List._∷_ (Row.lease (κs .1 .1 .1 .0) (qs .1 .1 .1 .0)) (List._∷_ (Row.lease (κs .1 .1 .1 .1 .0) (qs .1 .1 .1 .1 .0)) (List._∷_ (Row.lease (κs .1 .1 .1 .1 .1 .0) (qs .1 .1 .1 .1 .1
-              .0)) (List._∷_ Row.off (List._∷_ Row.off (List._∷_ Row.off (List._∷_ Row.off (List._∷_ Row.off (List._∷_ Row.off (List._∷_ Row.off (List._∷_ Row.off (List._∷_ Row.off (List._∷_ Row.off
+          locals = List._++_ t7 (List._++_ t35 (List._++_ t2 t3));
+          slots = List._∷_ (Row.lease (κs .0) (qs .0)) (List._∷_ (Row.lease (κs .1 .0) (qs .1 .0)) (List._∷_ (Row.lease (κs .1 .1 .0) (qs .1 .1
+              .0)) (List._∷_ (Row.lease (κs .1 .1 .1 .0) (qs .1 .1 .1 .0)) (List._∷_ (Row.lease (κs .1 .1 .1 .1 .0) (qs .1 .1 .1 .1 .0)) (List._∷_ (Row.lease (κs .1 .1 .1 .1 .1 .0) (qs .1 .1 .1 .1 .1 .0))
+              (List._∷_ Row.off (List._∷_ Row.off (List._∷_ Row.off (List._∷_ Row.off (List._∷_ Row.off (List._∷_ Row.off (List._∷_ Row.off (List._∷_ Row.off (List._∷_ Row.off (List._∷_ Row.off
               List.[])))))))))))))));
         }
 
         abbrev G141 : Row.Cx
         G141 = record {
-          locals = List._++_ t23 (List._++_ t22 (List._++_ t2 t87));
-          slots = List._∷_ (Row.lease (κs .0) (qs .0)) (List._∷_ (Row.lease (κs .1 .0) (qs .1 .0)) (List._∷_ (Row.lease (κs .1 .1 .0) (qs .1
-              .1 .0)) (List._∷_ (Row.lease (κs .1 .1 .1 .0) (qs .1 .1 .1 .0)) (List._∷_ (Row.lease (κs .1 .1 .1 .1 .0) (qs .1 .1 .1 .1 .0)) (List._∷_ (Row.lease (κs .1 .1 .1 .1 .1 .0) (qs .1 .1 .1 .1 .1
-              .0)) (List._∷_ Row.off (List._∷_ Row.off (List._∷_ Row.off (List._∷_ Row.off (List._∷_ Row.off (List._∷_ Row.off (List._∷_ Row.off (List._∷_ Row.off (List._∷_ Row.off (List._∷_ Row.off
+          locals = List._++_ t7 (List._++_ t35 (List._++_ t2 t3));
+          slots = List._∷_ (Row.lease (κs .0) (qs .0)) (List._∷_ (Row.lease (κs .1 .0) (qs .1 .0)) (List._∷_ (Row.lease (κs .1 .1 .0) (qs .1 .1
+              .0)) (List._∷_ (Row.lease (κs .1 .1 .1 .0) (qs .1 .1 .1 .0)) (List._∷_ (Row.lease (κs .1 .1 .1 .1 .0) (qs .1 .1 .1 .1 .0)) (List._∷_ (Row.lease (κs .1 .1 .1 .1 .1 .0) (qs .1 .1 .1 .1 .1 .0))
+              (List._∷_ Row.off (List._∷_ Row.off (List._∷_ Row.off (List._∷_ Row.off (List._∷_ Row.off (List._∷_ Row.off (List._∷_ Row.off (List._∷_ Row.off (List._∷_ Row.off (List._∷_ Row.off
               List.[])))))))))))))));
         }
 
         abbrev G142 : Row.Cx
         G142 = record {
-          locals = List._++_ t71 (List._++_ t22 (List._++_ t2 t87));
-          slots = List._∷_ (Row.lease (κs .0) (qs .0)) (List._∷_ (Row.lease (κs .1 .0) (qs .1 .0)) (List._∷_ (Row.lease (κs .1 .1 .0) (qs .1
-              .1 .0)) (List._∷_ (Row.lease (κs .1 .1 .1 .0) (qs .1 .1 .1 .0)) (List._∷_ (Row.lease (κs .1 .1 .1 .1 .0) (qs .1 .1 .1 .1 .0)) (List._∷_ (Row.lease (κs .1 .1 .1 .1 .1 .0) (qs .1 .1 .1 .1 .1
-              .0)) (List._∷_ Row.off (List._∷_ Row.off (List._∷_ Row.off (List._∷_ Row.off (List._∷_ Row.off (List._∷_ Row.off (List._∷_ Row.off (List._∷_ Row.off (List._∷_ Row.off (List._∷_ Row.off
+          locals = List._++_ t7 (List._++_ t22 (List._++_ t2 t3));
+          slots = List._∷_ (Row.lease (κs .0) (qs .0)) (List._∷_ (Row.lease (κs .1 .0) (qs .1 .0)) (List._∷_ (Row.lease (κs .1 .1 .0) (qs .1 .1
+              .0)) (List._∷_ (Row.lease (κs .1 .1 .1 .0) (qs .1 .1 .1 .0)) (List._∷_ (Row.lease (κs .1 .1 .1 .1 .0) (qs .1 .1 .1 .1 .0)) (List._∷_ (Row.lease (κs .1 .1 .1 .1 .1 .0) (qs .1 .1 .1 .1 .1 .0))
+              (List._∷_ Row.off (List._∷_ Row.off (List._∷_ Row.off (List._∷_ Row.off (List._∷_ Row.off (List._∷_ Row.off (List._∷_ Row.off (List._∷_ Row.off (List._∷_ Row.off (List._∷_ Row.off
               List.[])))))))))))))));
         }
 
         abbrev G143 : Row.Cx
         G143 = record {
-          locals = List._++_ t72 (List._++_ t22 (List._++_ t2 t87));
+          locals = List._++_ t23 (List._++_ t22 (List._++_ t2 t91));
           slots = List._∷_ (Row.lease (κs .0) (qs .0)) (List._∷_ (Row.lease (κs .1 .0) (qs .1 .0)) (List._∷_ (Row.lease (κs .1 .1 .0) (qs .1
               .1 .0)) (List._∷_ (Row.lease (κs .1 .1 .1 .0) (qs .1 .1 .1 .0)) (List._∷_ (Row.lease (κs .1 .1 .1 .1 .0) (qs .1 .1 .1 .1 .0)) (List._∷_ (Row.lease (κs .1 .1 .1 .1 .1 .0) (qs .1 .1 .1 .1 .1
               .0)) (List._∷_ Row.off (List._∷_ Row.off (List._∷_ Row.off (List._∷_ Row.off (List._∷_ Row.off (List._∷_ Row.off (List._∷_ Row.off (List._∷_ Row.off (List._∷_ Row.off (List._∷_ Row.off
@@ -4222,7 +4318,7 @@ module _ (claims· : Claims) where
 
         abbrev G144 : Row.Cx
         G144 = record {
-          locals = List._++_ t88 (List._++_ t22 (List._++_ t2 t87));
+          locals = List._++_ t23 (List._++_ t92 (List._++_ t2 t91));
           slots = List._∷_ (Row.lease (κs .0) (qs .0)) (List._∷_ (Row.lease (κs .1 .0) (qs .1 .0)) (List._∷_ (Row.lease (κs .1 .1 .0) (qs .1
               .1 .0)) (List._∷_ (Row.lease (κs .1 .1 .1 .0) (qs .1 .1 .1 .0)) (List._∷_ (Row.lease (κs .1 .1 .1 .1 .0) (qs .1 .1 .1 .1 .0)) (List._∷_ (Row.lease (κs .1 .1 .1 .1 .1 .0) (qs .1 .1 .1 .1 .1
               .0)) (List._∷_ Row.off (List._∷_ Row.off (List._∷_ Row.off (List._∷_ Row.off (List._∷_ Row.off (List._∷_ Row.off (List._∷_ Row.off (List._∷_ Row.off (List._∷_ Row.off (List._∷_ Row.off
@@ -4231,7 +4327,7 @@ module _ (claims· : Claims) where
 
         abbrev G145 : Row.Cx
         G145 = record {
-          locals = List._++_ t89 (List._++_ t22 (List._++_ t2 t87));
+          locals = List._++_ t75 (List._++_ t92 (List._++_ t2 t91));
           slots = List._∷_ (Row.lease (κs .0) (qs .0)) (List._∷_ (Row.lease (κs .1 .0) (qs .1 .0)) (List._∷_ (Row.lease (κs .1 .1 .0) (qs .1
               .1 .0)) (List._∷_ (Row.lease (κs .1 .1 .1 .0) (qs .1 .1 .1 .0)) (List._∷_ (Row.lease (κs .1 .1 .1 .1 .0) (qs .1 .1 .1 .1 .0)) (List._∷_ (Row.lease (κs .1 .1 .1 .1 .1 .0) (qs .1 .1 .1 .1 .1
               .0)) (List._∷_ Row.off (List._∷_ Row.off (List._∷_ Row.off (List._∷_ Row.off (List._∷_ Row.off (List._∷_ Row.off (List._∷_ Row.off (List._∷_ Row.off (List._∷_ Row.off (List._∷_ Row.off
@@ -4240,7 +4336,7 @@ module _ (claims· : Claims) where
 
         abbrev G146 : Row.Cx
         G146 = record {
-          locals = List._++_ t90 (List._++_ t22 (List._++_ t2 t87));
+          locals = List._++_ t93 (List._++_ t92 (List._++_ t2 t91));
           slots = List._∷_ (Row.lease (κs .0) (qs .0)) (List._∷_ (Row.lease (κs .1 .0) (qs .1 .0)) (List._∷_ (Row.lease (κs .1 .1 .0) (qs .1
               .1 .0)) (List._∷_ (Row.lease (κs .1 .1 .1 .0) (qs .1 .1 .1 .0)) (List._∷_ (Row.lease (κs .1 .1 .1 .1 .0) (qs .1 .1 .1 .1 .0)) (List._∷_ (Row.lease (κs .1 .1 .1 .1 .1 .0) (qs .1 .1 .1 .1 .1
               .0)) (List._∷_ Row.off (List._∷_ Row.off (List._∷_ Row.off (List._∷_ Row.off (List._∷_ Row.off (List._∷_ Row.off (List._∷_ Row.off (List._∷_ Row.off (List._∷_ Row.off (List._∷_ Row.off
@@ -4249,7 +4345,7 @@ module _ (claims· : Claims) where
 
         abbrev G147 : Row.Cx
         G147 = record {
-          locals = List._++_ t90 (List._++_ t91 (List._++_ t2 t87));
+          locals = List._++_ t94 (List._++_ t92 (List._++_ t2 t91));
           slots = List._∷_ (Row.lease (κs .0) (qs .0)) (List._∷_ (Row.lease (κs .1 .0) (qs .1 .0)) (List._∷_ (Row.lease (κs .1 .1 .0) (qs .1
               .1 .0)) (List._∷_ (Row.lease (κs .1 .1 .1 .0) (qs .1 .1 .1 .0)) (List._∷_ (Row.lease (κs .1 .1 .1 .1 .0) (qs .1 .1 .1 .1 .0)) (List._∷_ (Row.lease (κs .1 .1 .1 .1 .1 .0) (qs .1 .1 .1 .1 .1
               .0)) (List._∷_ Row.off (List._∷_ Row.off (List._∷_ Row.off (List._∷_ Row.off (List._∷_ Row.off (List._∷_ Row.off (List._∷_ Row.off (List._∷_ Row.off (List._∷_ Row.off (List._∷_ Row.off
@@ -4258,7 +4354,7 @@ module _ (claims· : Claims) where
 
         abbrev G148 : Row.Cx
         G148 = record {
-          locals = List._++_ t90 (List._++_ t1 (List._++_ t2 t87));
+          locals = List._++_ t95 (List._++_ t92 (List._++_ t2 t91));
           slots = List._∷_ (Row.lease (κs .0) (qs .0)) (List._∷_ (Row.lease (κs .1 .0) (qs .1 .0)) (List._∷_ (Row.lease (κs .1 .1 .0) (qs .1
               .1 .0)) (List._∷_ (Row.lease (κs .1 .1 .1 .0) (qs .1 .1 .1 .0)) (List._∷_ (Row.lease (κs .1 .1 .1 .1 .0) (qs .1 .1 .1 .1 .0)) (List._∷_ (Row.lease (κs .1 .1 .1 .1 .1 .0) (qs .1 .1 .1 .1 .1
               .0)) (List._∷_ Row.off (List._∷_ Row.off (List._∷_ Row.off (List._∷_ Row.off (List._∷_ Row.off (List._∷_ Row.off (List._∷_ Row.off (List._∷_ Row.off (List._∷_ Row.off (List._∷_ Row.off
@@ -4267,24 +4363,42 @@ module _ (claims· : Claims) where
 
         abbrev G149 : Row.Cx
         G149 = record {
-          locals = List._++_ t90 (List._++_ t1 (List._++_ t2 t3));
-          slots = List._∷_ (Row.lease (κs .0) (qs .0)) (List._∷_ (Row.lease (κs .1 .0) (qs .1 .0)) (List._∷_ (Row.lease (κs .1 .1 .0) (qs .1 .1
-              .0)) (List._∷_ (Row.lease (κs .1 .1 .1 .0) (qs .1 .1 .1 .0)) (List._∷_ (Row.lease (κs .1 .1 .1 .1 .0) (qs .1 .1 .1 .1 .0)) (List._∷_ (Row.lease (κs .1 .1 .1 .1 .1 .0) (qs .1 .1 .1 .1 .1 .0))
-              (List._∷_ Row.off (List._∷_ Row.off (List._∷_ Row.off (List._∷_ Row.off (List._∷_ Row.off (List._∷_ Row.off (List._∷_ Row.off (List._∷_ Row.off (List._∷_ Row.off (List._∷_ Row.off
+          locals = List._++_ t95 (List._++_ t96 (List._++_ t2 t91));
+          slots = List._∷_ (Row.lease (κs .0) (qs .0)) (List._∷_ (Row.lease (κs .1 .0) (qs .1 .0)) (List._∷_ (Row.lease (κs .1 .1 .0) (qs .1
+              .1 .0)) (List._∷_ (Row.lease (κs .1 .1 .1 .0) (qs .1 .1 .1 .0)) (List._∷_ (Row.lease (κs .1 .1 .1 .1 .0) (qs .1 .1 .1 .1 .0)) (List._∷_ (Row.lease (κs .1 .1 .1 .1 .1 .0) (qs .1 .1 .1 .1 .1
+              .0)) (List._∷_ Row.off (List._∷_ Row.off (List._∷_ Row.off (List._∷_ Row.off (List._∷_ Row.off (List._∷_ Row.off (List._∷_ Row.off (List._∷_ Row.off (List._∷_ Row.off (List._∷_ Row.off
               List.[])))))))))))))));
         }
 
         abbrev G150 : Row.Cx
         G150 = record {
-          locals = List._++_ t92 (List._++_ t1 (List._++_ t2 t3));
+          locals = List._++_ t95 (List._++_ t1 (List._++_ t2 t91));
+          slots = List._∷_ (Row.lease (κs .0) (qs .0)) (List._∷_ (Row.lease (κs .1 .0) (qs .1 .0)) (List._∷_ (Row.lease (κs .1 .1 .0) (qs .1
+              .1 .0)) (List._∷_ (Row.lease (κs .1 .1 .1 .0) (qs .1 .1 .1 .0)) (List._∷_ (Row.lease (κs .1 .1 .1 .1 .0) (qs .1 .1 .1 .1 .0)) (List._∷_ (Row.lease (κs .1 .1 .1 .1 .1 .0) (qs .1 .1 .1 .1 .1
+              .0)) (List._∷_ Row.off (List._∷_ Row.off (List._∷_ Row.off (List._∷_ Row.off (List._∷_ Row.off (List._∷_ Row.off (List._∷_ Row.off (List._∷_ Row.off (List._∷_ Row.off (List._∷_ Row.off
+              List.[])))))))))))))));
+        }
+
+        abbrev G151 : Row.Cx
+        G151 = record {
+          locals = List._++_ t95 (List._++_ t1 (List._++_ t2 t3));
           slots = List._∷_ (Row.lease (κs .0) (qs .0)) (List._∷_ (Row.lease (κs .1 .0) (qs .1 .0)) (List._∷_ (Row.lease (κs .1 .1 .0) (qs .1 .1
               .0)) (List._∷_ (Row.lease (κs .1 .1 .1 .0) (qs .1 .1 .1 .0)) (List._∷_ (Row.lease (κs .1 .1 .1 .1 .0) (qs .1 .1 .1 .1 .0)) (List._∷_ (Row.lease (κs .1 .1 .1 .1 .1 .0) (qs .1 .1 .1 .1 .1 .0))
               (List._∷_ Row.off (List._∷_ Row.off (List._∷_ Row.off (List._∷_ Row.off (List._∷_ Row.off (List._∷_ Row.off (List._∷_ Row.off (List._∷_ Row.off (List._∷_ Row.off (List._∷_ Row.off
               List.[])))))))))))))));
         }
 
-        abbrev G151 : Row.Cx
-        G151 = record {
+        abbrev G152 : Row.Cx
+        G152 = record {
+          locals = List._++_ t97 (List._++_ t1 (List._++_ t2 t3));
+          slots = List._∷_ (Row.lease (κs .0) (qs .0)) (List._∷_ (Row.lease (κs .1 .0) (qs .1 .0)) (List._∷_ (Row.lease (κs .1 .1 .0) (qs .1 .1
+              .0)) (List._∷_ (Row.lease (κs .1 .1 .1 .0) (qs .1 .1 .1 .0)) (List._∷_ (Row.lease (κs .1 .1 .1 .1 .0) (qs .1 .1 .1 .1 .0)) (List._∷_ (Row.lease (κs .1 .1 .1 .1 .1 .0) (qs .1 .1 .1 .1 .1 .0))
+              (List._∷_ Row.off (List._∷_ Row.off (List._∷_ Row.off (List._∷_ Row.off (List._∷_ Row.off (List._∷_ Row.off (List._∷_ Row.off (List._∷_ Row.off (List._∷_ Row.off (List._∷_ Row.off
+              List.[])))))))))))))));
+        }
+
+        abbrev G153 : Row.Cx
+        G153 = record {
           locals = List._++_ t4 (List._++_ t1 (List._++_ t2 t3));
           slots = List._∷_ (Row.lease (κs .0) (qs .0)) (List._∷_ (Row.lease (κs .1 .0) (qs .1 .0)) (List._∷_ (Row.lease (κs .1 .1 .0) (qs .1 .1
               .0)) (List._∷_ (Row.lease (κs .1 .1 .1 .0) (qs .1 .1 .1 .0)) (List._∷_ (Row.lease (κs .1 .1 .1 .1 .0) (qs .1 .1 .1 .1 .0)) (List._∷_ (Row.lease (κs .1 .1 .1 .1 .1 .0) (qs .1 .1 .1 .1 .1 .0))
@@ -4308,7 +4422,7 @@ module _ (claims· : Claims) where
         Δ4 = Typed.withNext (Option.some G33) Δ3
 
         abbrev Δ5 : Typed.Outs
-        Δ5 = Typed.withNext (Option.some G72) Δ3
+        Δ5 = Typed.withNext (Option.some G73) Δ3
 
         module _ {M : Type 1} (𝓤 : URA.URA M) (H : Wp.Heap 𝓤) (A : Atoms.Atoms 𝓤) (W : Kit.Given 𝓤 H A) (𝓣 : Wp.Tables 𝓤 H) (known : Knowns 𝓤 H A W 𝓣) (bs : List.List Nat.ℕ) (bd : Lifetimes.AllOutlive
             6 (Kinds.osR r) κs) where
@@ -4319,195 +4433,198 @@ module _ (claims· : Claims) where
           d0 = Typed.t-skip 𝓤 H A W 𝓣 E Δ4 tt
 
           d1 : Typed.Typed 𝓤 H A 𝓣 E G32 b14 Δ4 at1
-          d1 = Typed.g-pre 𝓤 H A W 𝓣 E G32 G34 b14 Δ4 (Typed.pass T32 T34 s30) at0 (Scalar.g-room 𝓤 H A W E G32 27 Syntax.tyBool (Scalar.room-sc 𝓤 H A W Row.sBool)) d0
+          d1 = Typed.g-pre 𝓤 H A W 𝓣 E G32 G34 b14 Δ4 (Typed.pass T32 T34 s30) at0 (Scalar.g-room 𝓤 H A W E G32 28 Syntax.tyBool (Scalar.room-sc 𝓤 H A W Row.sBool)) d0
 
-          d2 : Typed.Typed 𝓤 H A 𝓣 E G38 b15 Δ4 at2
+          d2 : Typed.Typed 𝓤 H A 𝓣 E G39 b15 Δ4 at2
           d2 = Typed.t-exit 𝓤 H A W 𝓣 E 1 Δ4 tt
 
-          d3 : Typed.Typed 𝓤 H A 𝓣 E G37 b15 Δ4 at3
-          d3 = Typed.g-pre 𝓤 H A W 𝓣 E G37 G38 b15 Δ4 (Typed.pass T37 T38 s34) at2 (Scalar.g-room 𝓤 H A W E G37 27 Syntax.tyBool (Scalar.room-sc 𝓤 H A W Row.sBool)) d2
+          d3 : Typed.Typed 𝓤 H A 𝓣 E G38 b15 Δ4 at3
+          d3 = Typed.g-pre 𝓤 H A W 𝓣 E G38 G39 b15 Δ4 (Typed.pass T38 T39 s35) at2 (Scalar.g-room 𝓤 H A W E G38 28 Syntax.tyBool (Scalar.room-sc 𝓤 H A W Row.sBool)) d2
 
-          d4 : Typed.Typed 𝓤 H A 𝓣 E G36 b15 Δ4 at4
-          d4 = Typed.g-pre 𝓤 H A W 𝓣 E G36 G37 b15 Δ4 (Typed.pass T36 T37 s33) at3 (Scalar.g-room 𝓤 H A W E G36 9 y0 (Local.room-whole 𝓤 H A W (Declared'.row Part.the-type) y0 Path'.refl)) d3
+          d4 : Typed.Typed 𝓤 H A 𝓣 E G37 b15 Δ4 at4
+          d4 = Typed.g-pre 𝓤 H A W 𝓣 E G37 G38 b15 Δ4 (Typed.pass T37 T38 s34) at3 (Scalar.g-room 𝓤 H A W E G37 12 y12 (Local.room-whole 𝓤 H A W (Declared'.row Entries.the-type) y12 Path'.refl)) d3
 
-          d5 : Typed.Typed 𝓤 H A 𝓣 E G35 b15 Δ4 at5
-          d5 = Typed.g-pre 𝓤 H A W 𝓣 E G35 G36 b15 Δ4 (Typed.pass T35 T36 s32) at4 (Scalar.g-room 𝓤 H A W E G35 8 (Syntax.tyArray (Syntax.tyInt Syntax.w8) 36) (Init.room-arr 𝓤 H A W (Referent.rtF
-              (Referent.fInt Syntax.w8)) 36 0 36 Path'.refl)) d4
+          d5 : Typed.Typed 𝓤 H A 𝓣 E G36 b15 Δ4 at5
+          d5 = Typed.g-pre 𝓤 H A W 𝓣 E G36 G37 b15 Δ4 (Typed.pass T36 T37 s33) at4 (Scalar.g-room 𝓤 H A W E G36 9 y0 (Local.room-whole 𝓤 H A W (Declared'.row Part.the-type) y0 Path'.refl)) d4
 
-          d6 : Typed.Typed 𝓤 H A 𝓣 E G32 b15 Δ4 at6
-          d6 = Typed.g-pre 𝓤 H A W 𝓣 E G32 G35 b15 Δ4 (Typed.pass T32 T35 s31) at5 (Scalar.g-room 𝓤 H A W E G32 6 y7 (Local.room-whole 𝓤 H A W (Declared'.row Form.the-type) y7 Path'.refl)) d5
+          d6 : Typed.Typed 𝓤 H A 𝓣 E G35 b15 Δ4 at6
+          d6 = Typed.g-pre 𝓤 H A W 𝓣 E G35 G36 b15 Δ4 (Typed.pass T35 T36 s32) at5 (Scalar.g-room 𝓤 H A W E G35 8 (Syntax.tyArray (Syntax.tyInt Syntax.w8) 36) (Init.room-arr 𝓤 H A W (Referent.rtF
+              (Referent.fInt Syntax.w8)) 36 0 36 Path'.refl)) d5
 
-          d7 : Typed.Typed 𝓤 H A 𝓣 E G32 b16 Δ4 at7
-          d7 = Scalar.t-cond 𝓤 H A W E 𝓣 G32 27 (λ x. x) b14 b15 Δ4 at1 at6 (Scalar.reads-sc 𝓤 H A W Row.sBool) Path'.refl d1 d6
+          d7 : Typed.Typed 𝓤 H A 𝓣 E G32 b15 Δ4 at7
+          d7 = Typed.g-pre 𝓤 H A W 𝓣 E G32 G35 b15 Δ4 (Typed.pass T32 T35 s31) at6 (Scalar.g-room 𝓤 H A W E G32 6 y8 (Local.room-whole 𝓤 H A W (Declared'.row Form.the-type) y8 Path'.refl)) d6
 
-          d8 : Typed.Typed 𝓤 H A 𝓣 E G87 b34 Δ5 at8
-          d8 = Typed.s-typed 𝓤 H A W 𝓣 E G87 b34 Δ5 (λ Ψ. Typed.pass T87 T88 s83 (Typed.pass T88 T89 s84 Ψ)) tt (Typed.g-post 𝓤 H A W 𝓣 E G87 G88 G89 b34 (Typed.pass T87 T88 s83) (Typed.pass T88 T89
-              s84) (CopyOut.t-copy-told 𝓤 H A W E 𝓣 (Declared'.row Place.the-type) Path'.refl (Laws'9.val Place.the-type Laws'3.the-laws) (Laws'9.lawful Place.the-type Laws'3.the-laws 𝓤 H A W)
-              (Laws'9.makes Place.the-type Laws'3.the-plain 𝓤 H A) G87 20 (Scalar.oFld 19 (List._∷_ (Syntax.variant 0) (List._∷_ (Syntax.field 1) List.[])) y9 8 λ v. Laws'9.val Place.the-type
-              Laws'3.the-laws (v .0)) (λ m. m .1 .1 .1 .1 .1 .1 .1 .1 .1 .1 .1 .1 .1 .1 .1 .1 .1 .1 .1 .0 .0) (λ m. Laws'8.Fields (Declared.variants Lined.the-type) (Laws'8.spellss (Lined.enum .parts)
-              Laws'.the-laws) (Lined.the-type .to (Known.at Lined.enum 0 (m .1 .1 .1 .1 .1 .1 .1 .1 .1 .1 .1 .1 .1 .1 .1 .1 .1 .1 .1 .0)))) (Reads'.room-gone 𝓤 H A y9) (
-                Match.reads-payload 𝓤 H A W Lined.enum Laws'.the-laws 0 Path'.refl Path'.refl (λ v. Val.vcons (Laws'9.val Place.the-type Laws'3.the-laws (v .0)) Val.vnil) (λ v. Path'.refl) 0 y9 8
+          d8 : Typed.Typed 𝓤 H A 𝓣 E G32 b16 Δ4 at8
+          d8 = Scalar.t-cond 𝓤 H A W E 𝓣 G32 28 (λ x. x) b14 b15 Δ4 at1 at7 (Scalar.reads-sc 𝓤 H A W Row.sBool) Path'.refl d1 d7
+
+          d9 : Typed.Typed 𝓤 H A 𝓣 E G88 b34 Δ5 at9
+          d9 = Typed.s-typed 𝓤 H A W 𝓣 E G88 b34 Δ5 (λ Ψ. Typed.pass T88 T89 s84 (Typed.pass T89 T90 s85 Ψ)) tt (Typed.g-post 𝓤 H A W 𝓣 E G88 G89 G90 b34 (Typed.pass T88 T89 s84) (Typed.pass T89 T90
+              s85) (CopyOut.t-copy-told 𝓤 H A W E 𝓣 (Declared'.row Place.the-type) Path'.refl (Laws'10.val Place.the-type Laws'4.the-laws) (Laws'10.lawful Place.the-type Laws'4.the-laws 𝓤 H A W)
+              (Laws'10.makes Place.the-type Laws'4.the-plain 𝓤 H A) G88 21 (Scalar.oFld 20 (List._∷_ (Syntax.variant 0) (List._∷_ (Syntax.field 1) List.[])) y10 8 λ v. Laws'10.val Place.the-type
+              Laws'4.the-laws (v .0)) (λ m. m .1 .1 .1 .1 .1 .1 .1 .1 .1 .1 .1 .1 .1 .1 .1 .1 .1 .1 .1 .1 .0 .0) (λ m. Laws'9.Fields (Declared.variants Lined.the-type) (Laws'9.spellss (Lined.enum .parts)
+              Laws'.the-laws) (Lined.the-type .to (Known.at Lined.enum 0 (m .1 .1 .1 .1 .1 .1 .1 .1 .1 .1 .1 .1 .1 .1 .1 .1 .1 .1 .1 .1 .0)))) (Reads'.room-gone 𝓤 H A y10) (
+                Match.reads-payload 𝓤 H A W Lined.enum Laws'.the-laws 0 Path'.refl Path'.refl (λ v. Val.vcons (Laws'10.val Place.the-type Laws'4.the-laws (v .0)) Val.vnil) (λ v. Path'.refl) 0 y10 8
                     Path'.refl,
                 Path'.refl,
-              ) Path'.refl (λ ρ m. Make'.tells-row 𝓤 H A W E ρ (Row.out 20 (G87 .locals)) m 19 (Laws'8.Fields (Declared.variants Lined.the-type) (Laws'8.spellss (Lined.enum .parts)
-              Laws'.the-laws) (Lined.the-type .to (Known.at Lined.enum 0 (m .1 .1 .1 .1 .1 .1 .1 .1 .1 .1 .1 .1 .1 .1 .1 .1 .1 .1 .1 .0)))) (Known.known-is 𝓤 H A W E Lined.enum 0 Laws'.the-laws ρ 19 (m .1
-              .1 .1 .1 .1 .1 .1 .1 .1 .1 .1 .1 .1 .1 .1 .1 .1 .1 .1 .0))) (λ m k wa. Path'.refl) λ m k wa. k .0) (Scalar.g-room 𝓤 H A W E G88 19 (Syntax.tyEnum (List._∷_ 98 (List._∷_ 108 (List._∷_ 111
-              (List._∷_ 99 (List._∷_ 107 (List._∷_ 58 (List._∷_ 58 (List._∷_ 76 (List._∷_ 105 (List._∷_ 110 (List._∷_ 101 (List._∷_ 100 List.[])))))))))))) (Syntax.ttcons (Syntax.tcons y9 Syntax.tnil)
-              (Syntax.ttcons Syntax.tnil Syntax.ttnil))) (Local.room-whole 𝓤 H A W (Known.Known Lined.enum 0) (Syntax.tyEnum (List._∷_ 98 (List._∷_ 108 (List._∷_ 111 (List._∷_ 99 (List._∷_ 107 (List._∷_
-              58 (List._∷_ 58 (List._∷_ 76 (List._∷_ 105 (List._∷_ 110 (List._∷_ 101 (List._∷_ 100 List.[])))))))))))) (Syntax.ttcons (Syntax.tcons y9 Syntax.tnil) (Syntax.ttcons Syntax.tnil
-              Syntax.ttnil))) Path'.refl)))
+              ) Path'.refl (λ ρ m. Make'.tells-row 𝓤 H A W E ρ (Row.out 21 (G88 .locals)) m 20 (Laws'9.Fields (Declared.variants Lined.the-type) (Laws'9.spellss (Lined.enum .parts)
+              Laws'.the-laws) (Lined.the-type .to (Known.at Lined.enum 0 (m .1 .1 .1 .1 .1 .1 .1 .1 .1 .1 .1 .1 .1 .1 .1 .1 .1 .1 .1 .1 .0)))) (Known.known-is 𝓤 H A W E Lined.enum 0 Laws'.the-laws ρ 20 (m
+              .1 .1 .1 .1 .1 .1 .1 .1 .1 .1 .1 .1 .1 .1 .1 .1 .1 .1 .1 .1 .0))) (λ m k wa. Path'.refl) λ m k wa. k .0) (Scalar.g-room 𝓤 H A W E G89 20 (Syntax.tyEnum (List._∷_ 98 (List._∷_ 108 (List._∷_
+              111 (List._∷_ 99 (List._∷_ 107 (List._∷_ 58 (List._∷_ 58 (List._∷_ 76 (List._∷_ 105 (List._∷_ 110 (List._∷_ 101 (List._∷_ 100 List.[])))))))))))) (Syntax.ttcons (Syntax.tcons y10
+              Syntax.tnil) (Syntax.ttcons Syntax.tnil Syntax.ttnil))) (Local.room-whole 𝓤 H A W (Known.Known Lined.enum 0) (Syntax.tyEnum (List._∷_ 98 (List._∷_ 108 (List._∷_ 111 (List._∷_ 99 (List._∷_
+              107 (List._∷_ 58 (List._∷_ 58 (List._∷_ 76 (List._∷_ 105 (List._∷_ 110 (List._∷_ 101 (List._∷_ 100 List.[])))))))))))) (Syntax.ttcons (Syntax.tcons y10 Syntax.tnil) (Syntax.ttcons
+              Syntax.tnil Syntax.ttnil))) Path'.refl)))
 
-          d9 : Typed.Typed 𝓤 H A 𝓣 E G86 b34 Δ5 at9
-          d9 = Typed.g-pre 𝓤 H A W 𝓣 E G86 G87 b34 Δ5 (Typed.pass T86 T87 s82) at8 (Scalar.g-room 𝓤 H A W E G86 15 y9 (Local.room-whole 𝓤 H A W (Declared'.row Place.the-type) y9 Path'.refl)) d8
+          d10 : Typed.Typed 𝓤 H A 𝓣 E G87 b34 Δ5 at10
+          d10 = Typed.g-pre 𝓤 H A W 𝓣 E G87 G88 b34 Δ5 (Typed.pass T87 T88 s83) at9 (Scalar.g-room 𝓤 H A W E G87 16 y10 (Local.room-whole 𝓤 H A W (Declared'.row Place.the-type) y10 Path'.refl)) d9
 
-          d10 : Typed.Typed 𝓤 H A 𝓣 E G85 b34 Δ5 at10
-          d10 = Typed.g-pre 𝓤 H A W 𝓣 E G85 G86 b34 Δ5 (Typed.give s81) at9 (Known.g-known-told 𝓤 H A W E Lined.enum 0 G85 19 Laws'.the-laws (λ x. x) (Reads'.as-is 𝓤 H A (Rows'.whole (Known.Known
-              Lined.enum 0)))) d9
+          d11 : Typed.Typed 𝓤 H A 𝓣 E G86 b34 Δ5 at11
+          d11 = Typed.g-pre 𝓤 H A W 𝓣 E G86 G87 b34 Δ5 (Typed.give s82) at10 (Known.g-known-told 𝓤 H A W E Lined.enum 0 G86 20 Laws'.the-laws (λ x. x) (Reads'.as-is 𝓤 H A (Rows'.whole (Known.Known
+              Lined.enum 0)))) d10
 
-          d11 : Typed.Typed 𝓤 H A 𝓣 E G84 b34 Δ5 at11
-          d11 = Typed.g-pre 𝓤 H A W 𝓣 E G84 G85 b34 Δ5 (Typed.both s80) at10 (Known.g-enum-known 𝓤 H A W E Lined.enum 0 G84 19 (λ x. x) (Reads'.as-is 𝓤 H A (Rows'.whole (Declared.row
-              Lined.the-type)))) d10
+          d12 : Typed.Typed 𝓤 H A 𝓣 E G85 b34 Δ5 at12
+          d12 = Typed.g-pre 𝓤 H A W 𝓣 E G85 G86 b34 Δ5 (Typed.both s81) at11 (Known.g-enum-known 𝓤 H A W E Lined.enum 0 G85 20 (λ x. x) (Reads'.as-is 𝓤 H A (Rows'.whole (Declared.row
+              Lined.the-type)))) d11
 
-          d12 : Typed.Typed 𝓤 H A 𝓣 E G115 b40 Δ5 at12
-          d12 = Typed.t-return 𝓤 H A W 𝓣 E Δ5 tt
+          d13 : Typed.Typed 𝓤 H A 𝓣 E G117 b40 Δ5 at13
+          d13 = Typed.t-return 𝓤 H A W 𝓣 E Δ5 tt
 
-          d13 : Typed.Typed 𝓤 H A 𝓣 E G114 b40 Δ5 at13
-          d13 = Typed.g-pre 𝓤 H A W 𝓣 E G114 G115 b40 Δ5 (Typed.pass T114 T115 s110) at12 (Scalar.g-room 𝓤 H A W E G114 18 (Syntax.tyInt Syntax.w32) (Scalar.room-sc 𝓤 H A W (Row.sInt Syntax.w32))) d12
+          d14 : Typed.Typed 𝓤 H A 𝓣 E G116 b40 Δ5 at14
+          d14 = Typed.g-pre 𝓤 H A W 𝓣 E G116 G117 b40 Δ5 (Typed.pass T116 T117 s112) at13 (Scalar.g-room 𝓤 H A W E G116 19 (Syntax.tyInt Syntax.w32) (Scalar.room-sc 𝓤 H A W (Row.sInt Syntax.w32))) d13
 
-          d14 : Typed.Typed 𝓤 H A 𝓣 E G113 b40 Δ5 at14
-          d14 = Typed.g-pre 𝓤 H A W 𝓣 E G113 G114 b40 Δ5 (Typed.pass T113 T114 s109) at13 (Scalar.g-room 𝓤 H A W E G113 17 (Syntax.tyInt Syntax.w64) (Scalar.room-sc 𝓤 H A W (Row.sInt Syntax.w64))) d13
+          d15 : Typed.Typed 𝓤 H A 𝓣 E G115 b40 Δ5 at15
+          d15 = Typed.g-pre 𝓤 H A W 𝓣 E G115 G116 b40 Δ5 (Typed.pass T115 T116 s111) at14 (Scalar.g-room 𝓤 H A W E G115 18 (Syntax.tyInt Syntax.w64) (Scalar.room-sc 𝓤 H A W (Row.sInt Syntax.w64))) d14
 
-          d15 : Typed.Typed 𝓤 H A 𝓣 E G112 b40 Δ5 at15
-          d15 = Typed.g-pre 𝓤 H A W 𝓣 E G112 G113 b40 Δ5 (Typed.pass T112 T113 s108) at14 (Scalar.g-room 𝓤 H A W E G112 14 (Syntax.tyInt Syntax.w64) (Scalar.room-sc 𝓤 H A W (Row.sInt Syntax.w64))) d14
+          d16 : Typed.Typed 𝓤 H A 𝓣 E G114 b40 Δ5 at16
+          d16 = Typed.g-pre 𝓤 H A W 𝓣 E G114 G115 b40 Δ5 (Typed.pass T114 T115 s110) at15 (Scalar.g-room 𝓤 H A W E G114 15 (Syntax.tyInt Syntax.w64) (Scalar.room-sc 𝓤 H A W (Row.sInt Syntax.w64))) d15
 
-          d16 : Typed.Typed 𝓤 H A 𝓣 E G111 b40 Δ5 at16
-          d16 = Typed.g-pre 𝓤 H A W 𝓣 E G111 G112 b40 Δ5 (Typed.pass T111 T112 s107) at15 (Scalar.g-room 𝓤 H A W E G111 13 Syntax.tyBool (Scalar.room-sc 𝓤 H A W Row.sBool)) d15
+          d17 : Typed.Typed 𝓤 H A 𝓣 E G113 b40 Δ5 at17
+          d17 = Typed.g-pre 𝓤 H A W 𝓣 E G113 G114 b40 Δ5 (Typed.pass T113 T114 s109) at16 (Scalar.g-room 𝓤 H A W E G113 14 Syntax.tyBool (Scalar.room-sc 𝓤 H A W Row.sBool)) d16
 
-          d17 : Typed.Typed 𝓤 H A 𝓣 E G110 b40 Δ5 at17
-          d17 = Typed.g-pre 𝓤 H A W 𝓣 E G110 G111 b40 Δ5 (Typed.pass T110 T111 s106) at16 (Scalar.g-room 𝓤 H A W E G110 12 (Syntax.tyInt Syntax.w32) (Scalar.room-sc 𝓤 H A W (Row.sInt Syntax.w32))) d16
+          d18 : Typed.Typed 𝓤 H A 𝓣 E G112 b40 Δ5 at18
+          d18 = Typed.g-pre 𝓤 H A W 𝓣 E G112 G113 b40 Δ5 (Typed.pass T112 T113 s108) at17 (Scalar.g-room 𝓤 H A W E G112 13 (Syntax.tyInt Syntax.w32) (Scalar.room-sc 𝓤 H A W (Row.sInt Syntax.w32))) d17
 
-          d18 : Typed.Typed 𝓤 H A 𝓣 E G109 b40 Δ5 at18
-          d18 = Typed.g-pre 𝓤 H A W 𝓣 E G109 G110 b40 Δ5 (Typed.pass T109 T110 s105) at17 (Scalar.g-room 𝓤 H A W E G109 11 Syntax.tyBool (Scalar.room-sc 𝓤 H A W Row.sBool)) d17
+          d19 : Typed.Typed 𝓤 H A 𝓣 E G111 b40 Δ5 at19
+          d19 = Typed.g-pre 𝓤 H A W 𝓣 E G111 G112 b40 Δ5 (Typed.pass T111 T112 s107) at18 (Scalar.g-room 𝓤 H A W E G111 11 Syntax.tyBool (Scalar.room-sc 𝓤 H A W Row.sBool)) d18
 
-          d19 : Typed.Typed 𝓤 H A 𝓣 E G108 b40 Δ5 at19
-          d19 = Typed.g-pre 𝓤 H A W 𝓣 E G108 G109 b40 Δ5 (Typed.pass T108 T109 s104) at18 (Scalar.g-room 𝓤 H A W E G108 10 (Syntax.tyInt Syntax.w64) (Scalar.room-sc 𝓤 H A W (Row.sInt Syntax.w64))) d18
+          d20 : Typed.Typed 𝓤 H A 𝓣 E G110 b40 Δ5 at20
+          d20 = Typed.g-pre 𝓤 H A W 𝓣 E G110 G111 b40 Δ5 (Typed.pass T110 T111 s106) at19 (Scalar.g-room 𝓤 H A W E G110 10 (Syntax.tyInt Syntax.w64) (Scalar.room-sc 𝓤 H A W (Row.sInt Syntax.w64))) d19
 
-          d20 : Typed.Typed 𝓤 H A 𝓣 E G107 b40 Δ5 at20
-          d20 = Typed.g-pre 𝓤 H A W 𝓣 E G107 G108 b40 Δ5 (Typed.pass T107 T108 s103) at19 (Scalar.g-room 𝓤 H A W E G107 43 y2 (Local.room-whole 𝓤 H A W (Declared'.row Totals.the-type) y2 Path'.refl))
-              d19
+          d21 : Typed.Typed 𝓤 H A 𝓣 E G109 b40 Δ5 at21
+          d21 = Typed.g-pre 𝓤 H A W 𝓣 E G109 G110 b40 Δ5 (Typed.pass T109 T110 s105) at20 (Scalar.g-room 𝓤 H A W E G109 44 y3 (Local.room-whole 𝓤 H A W (Declared'.row Totals.the-type) y3 Path'.refl))
+              d20
 
-          d21 : Typed.Typed 𝓤 H A 𝓣 E G106 b41 Δ5 at21
-          d21 = Typed.s-seq 𝓤 H A W 𝓣 E G106 G107 b39 b40 Δ5 (Typed.pass T106 T107 s102) at20 (Make.t-enum-make-wt 𝓤 H A W E 𝓣 Walked.the-type Laws''.the-laws Laws''.the-plain tt G106 0 (List._∷_
-              (Scalar.oInt Syntax.w8 1) (List._∷_ (Scalar.oAt 17 (Syntax.tyInt Syntax.w64) (Row.valS (Row.sInt Syntax.w64))) (List._∷_ (Scalar.oAt 43 y2 (Laws'9.val Totals.the-type Laws'7.the-laws))
+          d22 : Typed.Typed 𝓤 H A 𝓣 E G108 b41 Δ5 at22
+          d22 = Typed.s-seq 𝓤 H A W 𝓣 E G108 G109 b39 b40 Δ5 (Typed.pass T108 T109 s104) at21 (Make.t-enum-make-wt 𝓤 H A W E 𝓣 Walked.the-type Laws''.the-laws Laws''.the-plain tt G108 0 (List._∷_
+              (Scalar.oInt Syntax.w8 1) (List._∷_ (Scalar.oAt 18 (Syntax.tyInt Syntax.w64) (Row.valS (Row.sInt Syntax.w64))) (List._∷_ (Scalar.oAt 44 y3 (Laws'10.val Totals.the-type Laws'8.the-laws))
               List.[]))) (λ m. Walked.enum .make (Logic.inr (Logic.inl (
-                m .1 .1 .1 .1 .1 .1 .1 .1 .1 .1 .1 .1 .1 .1 .1 .1 .1 .0,
-                (m .1 .1 .1 .1 .1 .1 .1 .1 .1 .1 .1 .1 .1 .1 .1 .1 .1 .1 .1 .1 .1 .1 .1 .1 .1 .1 .1 .1 .1 .1 .1 .1 .1 .1 .1 .1 .1 .1 .1 .1 .1 .1 .1 .0, tt),
+                m .1 .1 .1 .1 .1 .1 .1 .1 .1 .1 .1 .1 .1 .1 .1 .1 .1 .1 .0,
+                (m .1 .1 .1 .1 .1 .1 .1 .1 .1 .1 .1 .1 .1 .1 .1 .1 .1 .1 .1 .1 .1 .1 .1 .1 .1 .1 .1 .1 .1 .1 .1 .1 .1 .1 .1 .1 .1 .1 .1 .1 .1 .1 .1 .1 .0, tt),
               )))) (Reads'.room-gone 𝓤 H A (Syntax.tyEnum
               (List._∷_ 98 (List._∷_ 108 (List._∷_ 111 (List._∷_ 99 (List._∷_ 107 (List._∷_ 58 (List._∷_ 58 (List._∷_ 87 (List._∷_ 97 (List._∷_ 108 (List._∷_ 107 (List._∷_ 101 (List._∷_ 100
-              List.[]))))))))))))) (Syntax.ttcons (Syntax.tcons y2 (Syntax.tcons y8 Syntax.tnil)) (Syntax.ttcons (Syntax.tcons (Syntax.tyInt Syntax.w64) (Syntax.tcons y2 Syntax.tnil)) Syntax.ttnil))))
-              (tt, ((Scalar.reads-sc 𝓤 H A W (Row.sInt Syntax.w64), Path'.refl), ((Reads.reads-struct 𝓤 H A W Totals.the-type Laws'7.the-laws, Path'.refl), tt))) Path'.refl (λ m wa. Make.made-val
-              Walked.the-type Laws''.the-laws (List._∷_ (Laws''.the-laws .1 .0 .0 .val (m .1 .1 .1 .1 .1 .1 .1 .1 .1 .1 .1 .1 .1 .1 .1 .1 .1 .0)) (List._∷_ (Laws'9.val Totals.the-type Laws'7.the-laws (m
-              .1 .1 .1 .1 .1 .1 .1 .1 .1 .1 .1 .1 .1 .1 .1 .1 .1 .1 .1 .1 .1 .1 .1 .1 .1 .1 .1 .1 .1 .1 .1 .1 .1 .1 .1 .1 .1 .1 .1 .1 .1 .1 .1 .0)) List.[])) (Walked.enum .make (Logic.inr (Logic.inl (
-                m .1 .1 .1 .1 .1 .1 .1 .1 .1 .1 .1 .1 .1 .1 .1 .1 .1 .0,
-                (m .1 .1 .1 .1 .1 .1 .1 .1 .1 .1 .1 .1 .1 .1 .1 .1 .1 .1 .1 .1 .1 .1 .1 .1 .1 .1 .1 .1 .1 .1 .1 .1 .1 .1 .1 .1 .1 .1 .1 .1 .1 .1 .1 .0, tt),
+              List.[]))))))))))))) (Syntax.ttcons (Syntax.tcons y3 (Syntax.tcons y9 Syntax.tnil)) (Syntax.ttcons (Syntax.tcons (Syntax.tyInt Syntax.w64) (Syntax.tcons y3 Syntax.tnil)) Syntax.ttnil))))
+              (tt, ((Scalar.reads-sc 𝓤 H A W (Row.sInt Syntax.w64), Path'.refl), ((Reads.reads-struct 𝓤 H A W Totals.the-type Laws'8.the-laws, Path'.refl), tt))) Path'.refl (λ m wa. Make.made-val
+              Walked.the-type Laws''.the-laws (List._∷_ (Laws''.the-laws .1 .0 .0 .val (m .1 .1 .1 .1 .1 .1 .1 .1 .1 .1 .1 .1 .1 .1 .1 .1 .1 .1 .0)) (List._∷_ (Laws'10.val Totals.the-type Laws'8.the-laws
+              (m .1 .1 .1 .1 .1 .1 .1 .1 .1 .1 .1 .1 .1 .1 .1 .1 .1 .1 .1 .1 .1 .1 .1 .1 .1 .1 .1 .1 .1 .1 .1 .1 .1 .1 .1 .1 .1 .1 .1 .1 .1 .1 .1 .1 .0)) List.[])) (Walked.enum .make (Logic.inr (Logic.inl (
+                m .1 .1 .1 .1 .1 .1 .1 .1 .1 .1 .1 .1 .1 .1 .1 .1 .1 .1 .0,
+                (m .1 .1 .1 .1 .1 .1 .1 .1 .1 .1 .1 .1 .1 .1 .1 .1 .1 .1 .1 .1 .1 .1 .1 .1 .1 .1 .1 .1 .1 .1 .1 .1 .1 .1 .1 .1 .1 .1 .1 .1 .1 .1 .1 .1 .0, tt),
               )))) (
-                Signed.made-wt Field.u64-field (Laws''.the-laws .1 .0 .0) Make'.u64-wt (m .1 .1 .1 .1 .1 .1 .1 .1 .1 .1 .1 .1 .1 .1 .1 .1 .1 .0),
+                Signed.made-wt Field.u64-field (Laws''.the-laws .1 .0 .0) Make'.u64-wt (m .1 .1 .1 .1 .1 .1 .1 .1 .1 .1 .1 .1 .1 .1 .1 .1 .1 .1 .0),
                 (
-                  Signed.made-wt Totals.the-field Laws'7.the-field-laws (Make'.struct-wt Totals.the-type Laws'7.the-laws (Make'.u64-wt, (Make'.u64-wt, tt))) (Totals.the-type .to (m .1 .1 .1 .1 .1 .1 .1 .1 .1
-                      .1 .1 .1 .1 .1 .1 .1 .1 .1 .1 .1 .1 .1 .1 .1 .1 .1 .1 .1 .1 .1 .1 .1 .1 .1 .1 .1 .1 .1 .1 .1 .1 .1 .1 .0)),
+                  Signed.made-wt Totals.the-field Laws'8.the-field-laws (Make'.struct-wt Totals.the-type Laws'8.the-laws (Make'.u64-wt, (Make'.u64-wt, tt))) (Totals.the-type .to (m .1 .1 .1 .1 .1 .1 .1 .1 .1
+                      .1 .1 .1 .1 .1 .1 .1 .1 .1 .1 .1 .1 .1 .1 .1 .1 .1 .1 .1 .1 .1 .1 .1 .1 .1 .1 .1 .1 .1 .1 .1 .1 .1 .1 .1 .0)),
                   tt,
                 ),
               ) (wa .1)) λ m wa. Make.made-is Walked.the-type Laws''.the-laws (List._∷_
-              (Laws''.the-laws .1 .0 .0 .val (m .1 .1 .1 .1 .1 .1 .1 .1 .1 .1 .1 .1 .1 .1 .1 .1 .1 .0)) (List._∷_ (Laws'9.val Totals.the-type Laws'7.the-laws (m .1 .1 .1 .1 .1 .1 .1 .1 .1 .1 .1 .1 .1 .1
-              .1 .1 .1 .1 .1 .1 .1 .1 .1 .1 .1 .1 .1 .1 .1 .1 .1 .1 .1 .1 .1 .1 .1 .1 .1 .1 .1 .1 .1 .0)) List.[])) (Walked.enum .make (Logic.inr (Logic.inl (
-                m .1 .1 .1 .1 .1 .1 .1 .1 .1 .1 .1 .1 .1 .1 .1 .1 .1 .0,
-                (m .1 .1 .1 .1 .1 .1 .1 .1 .1 .1 .1 .1 .1 .1 .1 .1 .1 .1 .1 .1 .1 .1 .1 .1 .1 .1 .1 .1 .1 .1 .1 .1 .1 .1 .1 .1 .1 .1 .1 .1 .1 .1 .1 .0, tt),
+              (Laws''.the-laws .1 .0 .0 .val (m .1 .1 .1 .1 .1 .1 .1 .1 .1 .1 .1 .1 .1 .1 .1 .1 .1 .1 .0)) (List._∷_ (Laws'10.val Totals.the-type Laws'8.the-laws (m .1 .1 .1 .1 .1 .1 .1 .1 .1 .1 .1 .1 .1
+              .1 .1 .1 .1 .1 .1 .1 .1 .1 .1 .1 .1 .1 .1 .1 .1 .1 .1 .1 .1 .1 .1 .1 .1 .1 .1 .1 .1 .1 .1 .1 .0)) List.[])) (Walked.enum .make (Logic.inr (Logic.inl (
+                m .1 .1 .1 .1 .1 .1 .1 .1 .1 .1 .1 .1 .1 .1 .1 .1 .1 .1 .0,
+                (m .1 .1 .1 .1 .1 .1 .1 .1 .1 .1 .1 .1 .1 .1 .1 .1 .1 .1 .1 .1 .1 .1 .1 .1 .1 .1 .1 .1 .1 .1 .1 .1 .1 .1 .1 .1 .1 .1 .1 .1 .1 .1 .1 .1 .0, tt),
               )))) (
-                Signed.made-wt Field.u64-field (Laws''.the-laws .1 .0 .0) Make'.u64-wt (m .1 .1 .1 .1 .1 .1 .1 .1 .1 .1 .1 .1 .1 .1 .1 .1 .1 .0),
+                Signed.made-wt Field.u64-field (Laws''.the-laws .1 .0 .0) Make'.u64-wt (m .1 .1 .1 .1 .1 .1 .1 .1 .1 .1 .1 .1 .1 .1 .1 .1 .1 .1 .0),
                 (
-                  Signed.made-wt Totals.the-field Laws'7.the-field-laws (Make'.struct-wt Totals.the-type Laws'7.the-laws (Make'.u64-wt, (Make'.u64-wt, tt))) (Totals.the-type .to (m .1 .1 .1 .1 .1 .1 .1 .1 .1
-                      .1 .1 .1 .1 .1 .1 .1 .1 .1 .1 .1 .1 .1 .1 .1 .1 .1 .1 .1 .1 .1 .1 .1 .1 .1 .1 .1 .1 .1 .1 .1 .1 .1 .1 .0)),
+                  Signed.made-wt Totals.the-field Laws'8.the-field-laws (Make'.struct-wt Totals.the-type Laws'8.the-laws (Make'.u64-wt, (Make'.u64-wt, tt))) (Totals.the-type .to (m .1 .1 .1 .1 .1 .1 .1 .1 .1
+                      .1 .1 .1 .1 .1 .1 .1 .1 .1 .1 .1 .1 .1 .1 .1 .1 .1 .1 .1 .1 .1 .1 .1 .1 .1 .1 .1 .1 .1 .1 .1 .1 .1 .1 .1 .0)),
                   tt,
                 ),
-              ) (wa .1)) d20
+              ) (wa .1)) d21
 
-          d22 : Typed.Typed 𝓤 H A 𝓣 E G105 b41 Δ5 at22
-          d22 = Typed.g-pre 𝓤 H A W 𝓣 E G105 G106 b41 Δ5 (Typed.pass T105 T106 s101) at21 (Scalar.g-room 𝓤 H A W E G105 15 y9 (Local.room-whole 𝓤 H A W (Declared'.row Place.the-type) y9 Path'.refl))
-              d21
+          d23 : Typed.Typed 𝓤 H A 𝓣 E G107 b41 Δ5 at23
+          d23 = Typed.g-pre 𝓤 H A W 𝓣 E G107 G108 b41 Δ5 (Typed.pass T107 T108 s103) at22 (Scalar.g-room 𝓤 H A W E G107 16 y10 (Local.room-whole 𝓤 H A W (Declared'.row Place.the-type) y10 Path'.refl))
+              d22
 
-          d23 : Typed.Typed 𝓤 H A 𝓣 E G104 b42 Δ5 at23
-          d23 = Typed.s-seq 𝓤 H A W 𝓣 E G104 G105 b38 b41 Δ5 (Typed.both s100) at22 (Plain.t-call-plain 𝓤 H A W 𝓣 0 ps·12 r·12 (claims· .24) (claims· .25) "block::reading::totals_at" (known .12) E (λ
-              pos β. β) G104 (record { pos = 15; st = List.[]; d = 0; at = λ x. x }, tt) 43 List.[] (Call.sub-id 𝓤 H A W (G104 .slots)) (
+          d24 : Typed.Typed 𝓤 H A 𝓣 E G106 b42 Δ5 at24
+          d24 = Typed.s-seq 𝓤 H A W 𝓣 E G106 G107 b38 b41 Δ5 (Typed.both s102) at23 (Plain.t-call-plain 𝓤 H A W 𝓣 0 ps·12 r·12 (claims· .24) (claims· .25) "block::reading::totals_at" (known .12) E (λ
+              pos β. β) G106 (record { pos = 16; st = List.[]; d = 0; at = λ x. x }, tt) 44 List.[] (Call.sub-id 𝓤 H A W (G106 .slots)) (
                 (
-                  Yields.yields-copy 𝓤 H A W (λ ρ. Unit) (Declared'.row Place.the-type) Path'.refl (Copies.cStruct Place.the-type Laws'3.the-laws Laws'3.the-copy .copy 𝓤 H A W) (Rows'.whole (Declared'.row
+                  Yields.yields-copy 𝓤 H A W (λ ρ. Unit) (Declared'.row Place.the-type) Path'.refl (Copies.cStruct Place.the-type Laws'4.the-laws Laws'4.the-copy .copy 𝓤 H A W) (Rows'.whole (Declared'.row
                       Place.the-type)) (λ x. x) (λ x. x) (λ ρ told. Local.mem-whole 𝓤 H A W (Declared'.row Place.the-type) ρ) λ ρ told. Local.whole-mem 𝓤 H A W (Declared'.row Place.the-type) ρ,
                   Path'.refl,
                 ),
                 tt,
               )
-              (Reads'.room-gone 𝓤 H A y2) tt Path'.refl) d22
+              (Reads'.room-gone 𝓤 H A y3) tt Path'.refl) d23
 
-          d24 : Typed.Typed 𝓤 H A 𝓣 E G103 b42 Δ5 at24
-          d24 = Typed.g-pre 𝓤 H A W 𝓣 E G103 G104 b42 Δ5 (λ Ψ. Ψ) at23 (Lifetime.g-forget 𝓤 H A W E G103 13 Row.dead Path'.refl) d23
+          d25 : Typed.Typed 𝓤 H A 𝓣 E G105 b42 Δ5 at25
+          d25 = Typed.g-pre 𝓤 H A W 𝓣 E G105 G106 b42 Δ5 (λ Ψ. Ψ) at24 (Lifetime.g-forget 𝓤 H A W E G105 13 Row.dead Path'.refl) d24
 
-          d25 : Typed.Typed 𝓤 H A 𝓣 E G102 b42 Δ5 at25
-          d25 = Typed.g-pre 𝓤 H A W 𝓣 E G102 G103 b42 Δ5 (Typed.give s98) at24 (Know.g-sl-known 𝓤 H A W (Referent.fInt Syntax.w16) E G102 5 4 (Syntax.tyRef (Syntax.named 4) Syntax.mut (Syntax.tyInt
+          d26 : Typed.Typed 𝓤 H A 𝓣 E G104 b42 Δ5 at26
+          d26 = Typed.g-pre 𝓤 H A W 𝓣 E G104 G105 b42 Δ5 (Typed.give s100) at25 (Know.g-sl-known 𝓤 H A W (Referent.fInt Syntax.w16) E G104 5 4 (Syntax.tyRef (Syntax.named 4) Syntax.mut (Syntax.tyInt
               Syntax.w16)) (Row.lease (κs .1 .1 .1 .1 .0) (qs .1 .1 .1 .1 .0)) 0 (λ x. x) record { fits = Dec'.lit< tt } (Reads'.as-is 𝓤 H A (Mut.mslice (Referent.rtF (Referent.fInt Syntax.w16))
-              (Syntax.tyRef (Syntax.named 4) Syntax.mut (Syntax.tyInt Syntax.w16)) 4)) Path'.refl tt) d24
+              (Syntax.tyRef (Syntax.named 4) Syntax.mut (Syntax.tyInt Syntax.w16)) 4)) Path'.refl tt) d25
 
-          d26 : Typed.Typed 𝓤 H A 𝓣 E G101 b42 Δ5 at26
-          d26 = Typed.g-pre 𝓤 H A W 𝓣 E G101 G102 b42 Δ5 (Typed.both s97) at25 (Relend.g-back-sl 𝓤 H A W E (Referent.rtF (Referent.fInt Syntax.w16)) G101 42 5 4 13 (Syntax.tyRef (Syntax.named 4)
+          d27 : Typed.Typed 𝓤 H A 𝓣 E G103 b42 Δ5 at27
+          d27 = Typed.g-pre 𝓤 H A W 𝓣 E G103 G104 b42 Δ5 (Typed.both s99) at26 (Relend.g-back-sl 𝓤 H A W E (Referent.rtF (Referent.fInt Syntax.w16)) G103 43 5 4 13 (Syntax.tyRef (Syntax.named 4)
               Syntax.mut (Syntax.tyInt Syntax.w16)) (Syntax.tyRef Syntax.erased Syntax.mut (Syntax.tyInt Syntax.w16)) (Row.lease (κs .1 .1 .1 .1 .0) (qs .1 .1 .1 .1 .0)) (λ x. x) (λ x. x) (Reads'.as-is 𝓤
               H A (Mut.msleft (Referent.rtF (Referent.fInt Syntax.w16)) (Syntax.tyRef Syntax.erased Syntax.mut (Syntax.tyInt Syntax.w16)))) (Reads'.as-is 𝓤 H A (Relend.mslice-owed (Referent.rtF
-              (Referent.fInt Syntax.w16)) (Syntax.tyRef (Syntax.named 4) Syntax.mut (Syntax.tyInt Syntax.w16)) 4 13 (Row.lease (κs .1 .1 .1 .1 .0) (qs .1 .1 .1 .1 .0)))) Path'.refl Path'.refl) d25
+              (Referent.fInt Syntax.w16)) (Syntax.tyRef (Syntax.named 4) Syntax.mut (Syntax.tyInt Syntax.w16)) 4 13 (Row.lease (κs .1 .1 .1 .1 .0) (qs .1 .1 .1 .1 .0)))) Path'.refl Path'.refl) d26
 
-          d27 : Typed.Typed 𝓤 H A 𝓣 E G100 b42 Δ5 at27
-          d27 = Typed.g-pre 𝓤 H A W 𝓣 E G100 G101 b42 Δ5 (λ Ψ. Ψ) at26 (Lifetime.g-end 𝓤 H A W E G100 13 Path'.refl) d26
+          d28 : Typed.Typed 𝓤 H A 𝓣 E G102 b42 Δ5 at28
+          d28 = Typed.g-pre 𝓤 H A W 𝓣 E G102 G103 b42 Δ5 (λ Ψ. Ψ) at27 (Lifetime.g-end 𝓤 H A W E G102 13 Path'.refl) d27
 
-          d28 : Typed.Typed 𝓤 H A 𝓣 E G99 b42 Δ5 at28
-          d28 = Typed.g-pre 𝓤 H A W 𝓣 E G99 G100 b42 Δ5 (Typed.pass T99 T100 s95) at27 (Scalar.g-room 𝓤 H A W E G99 40 Syntax.tyUnit (Scalar.room-sc 𝓤 H A W Row.sUnit)) d27
+          d29 : Typed.Typed 𝓤 H A 𝓣 E G101 b42 Δ5 at29
+          d29 = Typed.g-pre 𝓤 H A W 𝓣 E G101 G102 b42 Δ5 (Typed.pass T101 T102 s97) at28 (Scalar.g-room 𝓤 H A W E G101 41 Syntax.tyUnit (Scalar.room-sc 𝓤 H A W Row.sUnit)) d28
 
-          d29 : Typed.Typed 𝓤 H A 𝓣 E G98 b42 Δ5 at29
-          d29 = Typed.g-pre 𝓤 H A W 𝓣 E G98 G99 b42 Δ5 (Typed.pass T98 T99 s94) at28 (Scalar.g-room 𝓤 H A W E G98 9 y0 (Local.room-whole 𝓤 H A W (Declared'.row Part.the-type) y0 Path'.refl)) d28
+          d30 : Typed.Typed 𝓤 H A 𝓣 E G100 b42 Δ5 at30
+          d30 = Typed.g-pre 𝓤 H A W 𝓣 E G100 G101 b42 Δ5 (Typed.pass T100 T101 s96) at29 (Scalar.g-room 𝓤 H A W E G100 9 y0 (Local.room-whole 𝓤 H A W (Declared'.row Part.the-type) y0 Path'.refl)) d29
 
-          d30 : Typed.Typed 𝓤 H A 𝓣 E G97 b43 Δ5 at30
-          d30 = Typed.s-seq 𝓤 H A W 𝓣 E G97 G98 b37 b42 Δ5 (Typed.both s93) at29 (Plain.t-call-plain 𝓤 H A W 𝓣 1 ps·11 r·11 (claims· .22) (claims· .23) "map::windows::zero_line" (known .11) E (λ pos
-              β. β) G97 (
-                record { pos = 42; ty = Syntax.tyRef Syntax.erased Syntax.mut (Syntax.tyInt Syntax.w16); ref = λ x. x },
-                (record { pos = 9; st = List.[]; d = 0; at = λ x. x }, (Num.vAt 17 λ x. x, (Bool.bAt 11 λ x. x, tt))),
-              ) 40 (List._∷_ 13 List.[]) (Call.sub-id 𝓤 H A W (G97 .slots)) (
+          d31 : Typed.Typed 𝓤 H A 𝓣 E G99 b43 Δ5 at31
+          d31 = Typed.s-seq 𝓤 H A W 𝓣 E G99 G100 b37 b42 Δ5 (Typed.both s95) at30 (Plain.t-call-plain 𝓤 H A W 𝓣 1 ps·11 r·11 (claims· .22) (claims· .23) "map::windows::zero_line" (known .11) E (λ pos
+              β. β) G99 (
+                record { pos = 43; ty = Syntax.tyRef Syntax.erased Syntax.mut (Syntax.tyInt Syntax.w16); ref = λ x. x },
+                (record { pos = 9; st = List.[]; d = 0; at = λ x. x }, (Num.vAt 18 λ x. x, (Bool.bAt 11 λ x. x, tt))),
+              ) 41 (List._∷_ 13 List.[]) (Call.sub-id 𝓤 H A W (G99 .slots)) (
                 Reads'.as-is 𝓤 H A (Mut.mslice (Referent.rtF (Referent.fInt Syntax.w16)) (Syntax.tyRef Syntax.erased Syntax.mut (Syntax.tyInt Syntax.w16)) 13),
                 Mut.reads-mslice 𝓤 H A W (Referent.rtF
                     (Referent.fInt Syntax.w16)) (Syntax.tyRef Syntax.erased Syntax.mut (Syntax.tyInt Syntax.w16)) 13,
                 Path'.refl,
                 (
                   (
-                    Yields.yields-copy 𝓤 H A W (λ ρ. Unit) (Declared'.row Part.the-type) Path'.refl (Copies.cStruct Part.the-type Laws'4.the-laws Laws'4.the-copy .copy 𝓤 H A W) (Rows'.whole (Declared'.row
+                    Yields.yields-copy 𝓤 H A W (λ ρ. Unit) (Declared'.row Part.the-type) Path'.refl (Copies.cStruct Part.the-type Laws'5.the-laws Laws'5.the-copy .copy 𝓤 H A W) (Rows'.whole (Declared'.row
                         Part.the-type)) (λ x. x) (λ x. x) (λ ρ told. Local.mem-whole 𝓤 H A W (Declared'.row Part.the-type) ρ) λ ρ told. Local.whole-mem 𝓤 H A W (Declared'.row Part.the-type) ρ,
                     Path'.refl,
                   ),
                   ((Scalar.reads-sc 𝓤 H A W (Row.sInt Syntax.w64), Path'.refl), ((Scalar.reads-sc 𝓤 H A W Row.sBool, Path'.refl), tt)),
                 ),
-              ) (Reads'.room-gone 𝓤 H A Syntax.tyUnit) (tt, tt) Path'.refl) d29
+              ) (Reads'.room-gone 𝓤 H A Syntax.tyUnit) (tt, tt) Path'.refl) d30
 
-          d31 : Typed.Typed 𝓤 H A 𝓣 E G96 b44 Δ5 at31
-          d31 = Typed.s-seq 𝓤 H A W 𝓣 E G96 G97 b36 b43 Δ5 (Typed.ask s92) at30 (Relend.t-sl-aggregate 𝓤 H A W E (Referent.rtF (Referent.fInt Syntax.w16)) 𝓣 (Relend.asMut (Referent.rtF (Referent.fInt
-              Syntax.w16))) G96 41 42 13 (Syntax.tyRef Syntax.erased Syntax.mut (Syntax.tyInt Syntax.w16)) (Syntax.tyRef Syntax.erased Syntax.mut (Syntax.tyInt Syntax.w16)) (λ x. x) (Scalar.oFld 5
+          d32 : Typed.Typed 𝓤 H A 𝓣 E G98 b44 Δ5 at32
+          d32 = Typed.s-seq 𝓤 H A W 𝓣 E G98 G99 b36 b43 Δ5 (Typed.ask s94) at31 (Relend.t-sl-aggregate 𝓤 H A W E (Referent.rtF (Referent.fInt Syntax.w16)) 𝓣 (Relend.asMut (Referent.rtF (Referent.fInt
+              Syntax.w16))) G98 42 43 13 (Syntax.tyRef Syntax.erased Syntax.mut (Syntax.tyInt Syntax.w16)) (Syntax.tyRef Syntax.erased Syntax.mut (Syntax.tyInt Syntax.w16)) (λ x. x) (Scalar.oFld 5
               (List._∷_ (Syntax.field 1) List.[]) (Syntax.tyInt Syntax.w64) 8 λ v. Shared.lenV (v .0)) (Reads'.as-is 𝓤 H A (Relend.msptr (Referent.rtF (Referent.fInt Syntax.w16)) (Syntax.tyRef
-              Syntax.erased Syntax.mut (Syntax.tyInt Syntax.w16)) 13)) (Reads'.room-gone 𝓤 H A y4) (
+              Syntax.erased Syntax.mut (Syntax.tyInt Syntax.w16)) 13)) (Reads'.room-gone 𝓤 H A y5) (
                 Relend.reads-owed-len 𝓤 H A W (Referent.rtF (Referent.fInt Syntax.w16)) (Syntax.tyRef (Syntax.named 4) Syntax.mut (Syntax.tyInt Syntax.w16)) 4 13 (Row.lease (κs .1 .1 .1 .1 .0) (qs .1 .1 .1
                     .1 .0)) 8 Path'.refl,
                 Path'.refl,
-              ) Path'.refl Path'.refl λ b o k. tt) d30
+              ) Path'.refl Path'.refl λ b o k. tt) d31
 
-          d32 : Typed.Typed 𝓤 H A 𝓣 E G95 b45 Δ5 at32
-          d32 = Typed.s-seq 𝓤 H A W 𝓣 E G95 G96 b35 b44 Δ5 (Typed.give s91) at31 (Relend.t-sl-relend 𝓤 H A W E (Referent.rtF (Referent.fInt Syntax.w16)) 𝓣 G95 5 41 4 13 (Syntax.tyRef (Syntax.named 4)
+          d33 : Typed.Typed 𝓤 H A 𝓣 E G97 b45 Δ5 at33
+          d33 = Typed.s-seq 𝓤 H A W 𝓣 E G97 G98 b35 b44 Δ5 (Typed.give s93) at32 (Relend.t-sl-relend 𝓤 H A W E (Referent.rtF (Referent.fInt Syntax.w16)) 𝓣 G97 5 42 4 13 (Syntax.tyRef (Syntax.named 4)
               Syntax.mut (Syntax.tyInt Syntax.w16)) (Syntax.tyRef Syntax.erased Syntax.mut (Syntax.tyInt Syntax.w16)) (Row.lease (κs .1 .1 .1 .1 .0) (qs .1 .1 .1 .1 .0)) 0 (λ x. x) (Reads'.as-is 𝓤 H A
               (Mut.mslice (Referent.rtF (Referent.fInt Syntax.w16)) (Syntax.tyRef (Syntax.named 4) Syntax.mut (Syntax.tyInt Syntax.w16)) 4)) (Reads'.room-gone 𝓤 H A (Syntax.tyRef Syntax.erased Syntax.mut
-              (Syntax.tyInt Syntax.w16))) Path'.refl tt Path'.refl Path'.refl Path'.refl λ b o. tt) d31
+              (Syntax.tyInt Syntax.w16))) Path'.refl tt Path'.refl Path'.refl Path'.refl λ b o. tt) d32
 
-          d33 : Typed.Typed 𝓤 H A 𝓣 E G94 b45 Δ5 at33
-          d33 = Typed.g-pre 𝓤 H A W 𝓣 E G94 G95 b45 Δ5 (λ Ψ. Ψ) at32 (Lifetime.g-begin 𝓤 H A W E G94 13 (
+          d34 : Typed.Typed 𝓤 H A 𝓣 E G96 b45 Δ5 at34
+          d34 = Typed.g-pre 𝓤 H A W 𝓣 E G96 G97 b45 Δ5 (λ Ψ. Ψ) at33 (Lifetime.g-begin 𝓤 H A W E G96 13 (
             tt,
             (
               tt,
@@ -4553,7 +4670,10 @@ module _ (claims· : Claims) where
                                                       tt,
                                                       (
                                                         tt,
-                                                        (tt, (tt, (tt, (tt, (tt, (tt, (tt, (tt, (tt, (tt, (tt, (tt, (tt, (tt, (tt, (tt, (tt, (tt, (tt, (tt, (tt, (tt, (tt, (tt, (tt, (tt, (tt, tt))))))))))))))))))))))))))),
+                                                        (
+                                                          tt,
+                                                          (tt, (tt, (tt, (tt, (tt, (tt, (tt, (tt, (tt, (tt, (tt, (tt, (tt, (tt, (tt, (tt, (tt, (tt, (tt, (tt, (tt, (tt, (tt, (tt, (tt, (tt, (tt, tt))))))))))))))))))))))))))),
+                                                        ),
                                                       ),
                                                     ),
                                                   ),
@@ -4577,149 +4697,152 @@ module _ (claims· : Claims) where
               ),
             ),
           ))
-              d32
+              d33
 
-          d34 : Typed.Typed 𝓤 H A 𝓣 E G93 b45 Δ5 at34
-          d34 = Typed.g-pre 𝓤 H A W 𝓣 E G93 G94 b45 Δ5 (Typed.pass T93 T94 s89) at33 (Scalar.g-room 𝓤 H A W E G93 19 (Syntax.tyEnum (List._∷_ 98 (List._∷_ 108 (List._∷_ 111 (List._∷_ 99 (List._∷_ 107
-              (List._∷_ 58 (List._∷_ 58 (List._∷_ 76 (List._∷_ 105 (List._∷_ 110 (List._∷_ 101 (List._∷_ 100 List.[])))))))))))) (Syntax.ttcons (Syntax.tcons y9 Syntax.tnil) (Syntax.ttcons Syntax.tnil
+          d35 : Typed.Typed 𝓤 H A 𝓣 E G95 b45 Δ5 at35
+          d35 = Typed.g-pre 𝓤 H A W 𝓣 E G95 G96 b45 Δ5 (Typed.pass T95 T96 s91) at34 (Scalar.g-room 𝓤 H A W E G95 20 (Syntax.tyEnum (List._∷_ 98 (List._∷_ 108 (List._∷_ 111 (List._∷_ 99 (List._∷_ 107
+              (List._∷_ 58 (List._∷_ 58 (List._∷_ 76 (List._∷_ 105 (List._∷_ 110 (List._∷_ 101 (List._∷_ 100 List.[])))))))))))) (Syntax.ttcons (Syntax.tcons y10 Syntax.tnil) (Syntax.ttcons Syntax.tnil
               Syntax.ttnil))) (Local.room-whole 𝓤 H A W (Declared.row Lined.the-type) (Syntax.tyEnum (List._∷_ 98 (List._∷_ 108 (List._∷_ 111 (List._∷_ 99 (List._∷_ 107 (List._∷_ 58 (List._∷_ 58 (List._∷_
-              76 (List._∷_ 105 (List._∷_ 110 (List._∷_ 101 (List._∷_ 100 List.[])))))))))))) (Syntax.ttcons (Syntax.tcons y9 Syntax.tnil) (Syntax.ttcons Syntax.tnil Syntax.ttnil))) Path'.refl)) d33
+              76 (List._∷_ 105 (List._∷_ 110 (List._∷_ 101 (List._∷_ 100 List.[])))))))))))) (Syntax.ttcons (Syntax.tcons y10 Syntax.tnil) (Syntax.ttcons Syntax.tnil Syntax.ttnil))) Path'.refl)) d34
 
-          d35 : Typed.Typed 𝓤 H A 𝓣 E G92 b45 Δ5 at35
-          d35 = Typed.g-pre 𝓤 H A W 𝓣 E G92 G93 b45 Δ5 (Typed.pass T92 T93 s88) at34 (Scalar.g-room 𝓤 H A W E G92 16 y8 (Local.room-whole 𝓤 H A W (Declared'.row TightLines.the-type) y8 Path'.refl))
-              d34
+          d36 : Typed.Typed 𝓤 H A 𝓣 E G94 b45 Δ5 at36
+          d36 = Typed.g-pre 𝓤 H A W 𝓣 E G94 G95 b45 Δ5 (Typed.pass T94 T95 s90) at35 (Scalar.g-room 𝓤 H A W E G94 17 y9 (Local.room-whole 𝓤 H A W (Declared'.row TightLines.the-type) y9 Path'.refl))
+              d35
 
-          d36 : Typed.Typed 𝓤 H A 𝓣 E G91 b45 Δ5 at36
-          d36 = Typed.g-pre 𝓤 H A W 𝓣 E G91 G92 b45 Δ5 (Typed.pass T91 T92 s87) at35 (Scalar.g-room 𝓤 H A W E G91 8 (Syntax.tyArray (Syntax.tyInt Syntax.w8) 36) (Init.room-arr 𝓤 H A W (Referent.rtF
-              (Referent.fInt Syntax.w8)) 36 0 36 Path'.refl)) d35
+          d37 : Typed.Typed 𝓤 H A 𝓣 E G93 b45 Δ5 at37
+          d37 = Typed.g-pre 𝓤 H A W 𝓣 E G93 G94 b45 Δ5 (Typed.pass T93 T94 s89) at36 (Scalar.g-room 𝓤 H A W E G93 12 y12 (Local.room-whole 𝓤 H A W (Declared'.row Entries.the-type) y12 Path'.refl)) d36
 
-          d37 : Typed.Typed 𝓤 H A 𝓣 E G90 b45 Δ5 at37
-          d37 = Typed.g-pre 𝓤 H A W 𝓣 E G90 G91 b45 Δ5 (Typed.pass T90 T91 s86) at36 (Scalar.g-room 𝓤 H A W E G90 6 y7 (Local.room-whole 𝓤 H A W (Declared'.row Form.the-type) y7 Path'.refl)) d36
+          d38 : Typed.Typed 𝓤 H A 𝓣 E G92 b45 Δ5 at38
+          d38 = Typed.g-pre 𝓤 H A W 𝓣 E G92 G93 b45 Δ5 (Typed.pass T92 T93 s88) at37 (Scalar.g-room 𝓤 H A W E G92 8 (Syntax.tyArray (Syntax.tyInt Syntax.w8) 36) (Init.room-arr 𝓤 H A W (Referent.rtF
+              (Referent.fInt Syntax.w8)) 36 0 36 Path'.refl)) d37
 
-          d38 : Typed.Typed 𝓤 H A 𝓣 E G84 b45 Δ5 at38
-          d38 = Typed.g-pre 𝓤 H A W 𝓣 E G84 G90 b45 Δ5 (Typed.both s85) at37 (Known.g-enum-told 𝓤 H A W E Lined.enum 1 G84 19 λ x. x) d37
+          d39 : Typed.Typed 𝓤 H A 𝓣 E G91 b45 Δ5 at39
+          d39 = Typed.g-pre 𝓤 H A W 𝓣 E G91 G92 b45 Δ5 (Typed.pass T91 T92 s87) at38 (Scalar.g-room 𝓤 H A W E G91 6 y8 (Local.room-whole 𝓤 H A W (Declared'.row Form.the-type) y8 Path'.refl)) d38
 
-          d39 : Typed.Typed 𝓤 H A 𝓣 E G84 b46 Δ5 at39
-          d39 = Switch.t-switch-on 𝓤 H A W E 𝓣 G84 (Scalar.oFld 19 (List._∷_ (Syntax.variant 0) (List._∷_ (Syntax.field 0) List.[])) (Syntax.tyInt Syntax.w8) 0 λ x. Val.vint Syntax.w8 (Declared.tagOf
-              Lined.the-type x)) Syntax.w8 (λ u. Declared.tagOf Lined.the-type (u .1 .1 .1 .1 .1 .1 .1 .1 .1 .1 .1 .1 .1 .1 .1 .1 .1 .1 .1 .0)) (Syntax.arm (List._∷_ 0 List.[]) b34 (Syntax.arm (List._∷_ 1
-              List.[]) b45 Syntax.noDefault)) Δ5 (at11, (at38, tt))
+          d40 : Typed.Typed 𝓤 H A 𝓣 E G85 b45 Δ5 at40
+          d40 = Typed.g-pre 𝓤 H A W 𝓣 E G85 G91 b45 Δ5 (Typed.both s86) at39 (Known.g-enum-told 𝓤 H A W E Lined.enum 1 G85 20 λ x. x) d39
+
+          d41 : Typed.Typed 𝓤 H A 𝓣 E G85 b46 Δ5 at41
+          d41 = Switch.t-switch-on 𝓤 H A W E 𝓣 G85 (Scalar.oFld 20 (List._∷_ (Syntax.variant 0) (List._∷_ (Syntax.field 0) List.[])) (Syntax.tyInt Syntax.w8) 0 λ x. Val.vint Syntax.w8 (Declared.tagOf
+              Lined.the-type x)) Syntax.w8 (λ u. Declared.tagOf Lined.the-type (u .1 .1 .1 .1 .1 .1 .1 .1 .1 .1 .1 .1 .1 .1 .1 .1 .1 .1 .1 .1 .0)) (Syntax.arm (List._∷_ 0 List.[]) b34 (Syntax.arm
+              (List._∷_ 1 List.[]) b45 Syntax.noDefault)) Δ5 (at12, (at40, tt))
               (Match.reads-tag 𝓤 H A W Lined.the-type Laws'.the-laws (Rows'.whole (Declared.row Lined.the-type)) 0 (λ x. x) (Whole.reads-enum 𝓤 H A W Lined.the-type Laws'.the-laws), Path'.refl) (λ u.
-              Path'.refl) (d11, (d38, tt))
+              Path'.refl) (d12, (d40, tt))
 
-          d40 : Typed.Typed 𝓤 H A 𝓣 E G83 b46 Δ5 at40
-          d40 = Typed.g-pre 𝓤 H A W 𝓣 E G83 G84 b46 Δ5 (λ Ψ. Ψ) at39 (Lifetime.g-forget 𝓤 H A W E G83 12 Row.dead Path'.refl) d39
+          d42 : Typed.Typed 𝓤 H A 𝓣 E G84 b46 Δ5 at42
+          d42 = Typed.g-pre 𝓤 H A W 𝓣 E G84 G85 b46 Δ5 (λ Ψ. Ψ) at41 (Lifetime.g-forget 𝓤 H A W E G84 12 Row.dead Path'.refl) d41
 
-          d41 : Typed.Typed 𝓤 H A 𝓣 E G82 b46 Δ5 at41
-          d41 = Typed.g-pre 𝓤 H A W 𝓣 E G82 G83 b46 Δ5 (Typed.give s78) at40 (Know.g-sl-known 𝓤 H A W (Referent.fInt Syntax.w16) E G82 5 4 (Syntax.tyRef (Syntax.named 4) Syntax.mut (Syntax.tyInt
+          d43 : Typed.Typed 𝓤 H A 𝓣 E G83 b46 Δ5 at43
+          d43 = Typed.g-pre 𝓤 H A W 𝓣 E G83 G84 b46 Δ5 (Typed.give s79) at42 (Know.g-sl-known 𝓤 H A W (Referent.fInt Syntax.w16) E G83 5 4 (Syntax.tyRef (Syntax.named 4) Syntax.mut (Syntax.tyInt
               Syntax.w16)) (Row.lease (κs .1 .1 .1 .1 .0) (qs .1 .1 .1 .1 .0)) 0 (λ x. x) record { fits = Dec'.lit< tt } (Reads'.as-is 𝓤 H A (Mut.mslice (Referent.rtF (Referent.fInt Syntax.w16))
-              (Syntax.tyRef (Syntax.named 4) Syntax.mut (Syntax.tyInt Syntax.w16)) 4)) Path'.refl tt) d40
+              (Syntax.tyRef (Syntax.named 4) Syntax.mut (Syntax.tyInt Syntax.w16)) 4)) Path'.refl tt) d42
 
-          d42 : Typed.Typed 𝓤 H A 𝓣 E G81 b46 Δ5 at42
-          d42 = Typed.g-pre 𝓤 H A W 𝓣 E G81 G82 b46 Δ5 (Typed.both s77) at41 (Relend.g-back-sl 𝓤 H A W E (Referent.rtF (Referent.fInt Syntax.w16)) G81 38 5 4 12 (Syntax.tyRef (Syntax.named 4)
+          d44 : Typed.Typed 𝓤 H A 𝓣 E G82 b46 Δ5 at44
+          d44 = Typed.g-pre 𝓤 H A W 𝓣 E G82 G83 b46 Δ5 (Typed.both s78) at43 (Relend.g-back-sl 𝓤 H A W E (Referent.rtF (Referent.fInt Syntax.w16)) G82 39 5 4 12 (Syntax.tyRef (Syntax.named 4)
               Syntax.mut (Syntax.tyInt Syntax.w16)) (Syntax.tyRef Syntax.erased Syntax.mut (Syntax.tyInt Syntax.w16)) (Row.lease (κs .1 .1 .1 .1 .0) (qs .1 .1 .1 .1 .0)) (λ x. x) (λ x. x) (Reads'.as-is 𝓤
               H A (Mut.msleft (Referent.rtF (Referent.fInt Syntax.w16)) (Syntax.tyRef Syntax.erased Syntax.mut (Syntax.tyInt Syntax.w16)))) (Reads'.as-is 𝓤 H A (Relend.mslice-owed (Referent.rtF
-              (Referent.fInt Syntax.w16)) (Syntax.tyRef (Syntax.named 4) Syntax.mut (Syntax.tyInt Syntax.w16)) 4 12 (Row.lease (κs .1 .1 .1 .1 .0) (qs .1 .1 .1 .1 .0)))) Path'.refl Path'.refl) d41
+              (Referent.fInt Syntax.w16)) (Syntax.tyRef (Syntax.named 4) Syntax.mut (Syntax.tyInt Syntax.w16)) 4 12 (Row.lease (κs .1 .1 .1 .1 .0) (qs .1 .1 .1 .1 .0)))) Path'.refl Path'.refl) d43
 
-          d43 : Typed.Typed 𝓤 H A 𝓣 E G80 b46 Δ5 at43
-          d43 = Typed.g-pre 𝓤 H A W 𝓣 E G80 G81 b46 Δ5 (λ Ψ. Ψ) at42 (Lifetime.g-end 𝓤 H A W E G80 12 Path'.refl) d42
+          d45 : Typed.Typed 𝓤 H A 𝓣 E G81 b46 Δ5 at45
+          d45 = Typed.g-pre 𝓤 H A W 𝓣 E G81 G82 b46 Δ5 (λ Ψ. Ψ) at44 (Lifetime.g-end 𝓤 H A W E G81 12 Path'.refl) d44
 
-          d44 : Typed.Typed 𝓤 H A 𝓣 E G79 b46 Δ5 at44
-          d44 = Typed.g-pre 𝓤 H A W 𝓣 E G79 G80 b46 Δ5 (λ Ψ. Ψ) at43 (Lifetime.g-forget 𝓤 H A W E G79 11 Row.dead Path'.refl) d43
+          d46 : Typed.Typed 𝓤 H A 𝓣 E G80 b46 Δ5 at46
+          d46 = Typed.g-pre 𝓤 H A W 𝓣 E G80 G81 b46 Δ5 (λ Ψ. Ψ) at45 (Lifetime.g-forget 𝓤 H A W E G80 11 Row.dead Path'.refl) d45
 
-          d45 : Typed.Typed 𝓤 H A 𝓣 E G78 b46 Δ5 at45
-          d45 = Typed.g-pre 𝓤 H A W 𝓣 E G78 G79 b46 Δ5 (Typed.both s74) at44 (Relend.g-back-sl 𝓤 H A W E (Element.type) G78 36 4 3 11 (Syntax.tyRef (Syntax.named 3) Syntax.mut Element.behind)
+          d47 : Typed.Typed 𝓤 H A 𝓣 E G79 b46 Δ5 at47
+          d47 = Typed.g-pre 𝓤 H A W 𝓣 E G79 G80 b46 Δ5 (Typed.both s75) at46 (Relend.g-back-sl 𝓤 H A W E (Element.type) G79 37 4 3 11 (Syntax.tyRef (Syntax.named 3) Syntax.mut Element.behind)
               (Syntax.tyRef Syntax.erased Syntax.mut Element.behind) (Row.lease (κs .1 .1 .1 .0) (qs .1 .1 .1 .0)) (λ x. x) (λ x. x) (Reads'.as-is 𝓤 H A (Mut.msleft (Element.type) (Syntax.tyRef
               Syntax.erased Syntax.mut Element.behind))) (Reads'.as-is 𝓤 H A (Relend.mslice-owed (Element.type) (Syntax.tyRef (Syntax.named 3) Syntax.mut Element.behind) 3 11 (Row.lease (κs .1 .1 .1 .0)
-              (qs .1 .1 .1 .0)))) Path'.refl Path'.refl) d44
+              (qs .1 .1 .1 .0)))) Path'.refl Path'.refl) d46
 
-          d46 : Typed.Typed 𝓤 H A 𝓣 E G77 b46 Δ5 at46
-          d46 = Typed.g-pre 𝓤 H A W 𝓣 E G77 G78 b46 Δ5 (λ Ψ. Ψ) at45 (Lifetime.g-end 𝓤 H A W E G77 11 Path'.refl) d45
+          d48 : Typed.Typed 𝓤 H A 𝓣 E G78 b46 Δ5 at48
+          d48 = Typed.g-pre 𝓤 H A W 𝓣 E G78 G79 b46 Δ5 (λ Ψ. Ψ) at47 (Lifetime.g-end 𝓤 H A W E G78 11 Path'.refl) d47
 
-          d47 : Typed.Typed 𝓤 H A 𝓣 E G76 b46 Δ5 at47
-          d47 = Typed.g-pre 𝓤 H A W 𝓣 E G76 G77 b46 Δ5 (λ Ψ. Ψ) at46 (Lifetime.g-forget 𝓤 H A W E G76 10 Row.dead Path'.refl) d46
+          d49 : Typed.Typed 𝓤 H A 𝓣 E G77 b46 Δ5 at49
+          d49 = Typed.g-pre 𝓤 H A W 𝓣 E G77 G78 b46 Δ5 (λ Ψ. Ψ) at48 (Lifetime.g-forget 𝓤 H A W E G77 10 Row.dead Path'.refl) d48
 
-          d48 : Typed.Typed 𝓤 H A 𝓣 E G75 b46 Δ5 at48
-          d48 = Typed.g-pre 𝓤 H A W 𝓣 E G75 G76 b46 Δ5 (Typed.give s71) at47 (Know.g-sl-known 𝓤 H A W (Referent.fInt Syntax.w16) E G75 3 2 (Syntax.tyRef (Syntax.named 2) Syntax.mut (Syntax.tyInt
+          d50 : Typed.Typed 𝓤 H A 𝓣 E G76 b46 Δ5 at50
+          d50 = Typed.g-pre 𝓤 H A W 𝓣 E G76 G77 b46 Δ5 (Typed.give s72) at49 (Know.g-sl-known 𝓤 H A W (Referent.fInt Syntax.w16) E G76 3 2 (Syntax.tyRef (Syntax.named 2) Syntax.mut (Syntax.tyInt
               Syntax.w16)) (Row.lease (κs .1 .1 .0) (qs .1 .1 .0)) 0 (λ x. x) record { fits = Dec'.lit< tt } (Reads'.as-is 𝓤 H A (Mut.mslice (Referent.rtF (Referent.fInt Syntax.w16)) (Syntax.tyRef
-              (Syntax.named 2) Syntax.mut (Syntax.tyInt Syntax.w16)) 2)) Path'.refl tt) d47
+              (Syntax.named 2) Syntax.mut (Syntax.tyInt Syntax.w16)) 2)) Path'.refl tt) d49
 
-          d49 : Typed.Typed 𝓤 H A 𝓣 E G74 b46 Δ5 at49
-          d49 = Typed.g-pre 𝓤 H A W 𝓣 E G74 G75 b46 Δ5 (Typed.both s70) at48 (Relend.g-back-sl 𝓤 H A W E (Referent.rtF (Referent.fInt Syntax.w16)) G74 34 3 2 10 (Syntax.tyRef (Syntax.named 2)
+          d51 : Typed.Typed 𝓤 H A 𝓣 E G75 b46 Δ5 at51
+          d51 = Typed.g-pre 𝓤 H A W 𝓣 E G75 G76 b46 Δ5 (Typed.both s71) at50 (Relend.g-back-sl 𝓤 H A W E (Referent.rtF (Referent.fInt Syntax.w16)) G75 35 3 2 10 (Syntax.tyRef (Syntax.named 2)
               Syntax.mut (Syntax.tyInt Syntax.w16)) (Syntax.tyRef Syntax.erased Syntax.mut (Syntax.tyInt Syntax.w16)) (Row.lease (κs .1 .1 .0) (qs .1 .1 .0)) (λ x. x) (λ x. x) (Reads'.as-is 𝓤 H A
               (Mut.msleft (Referent.rtF (Referent.fInt Syntax.w16)) (Syntax.tyRef Syntax.erased Syntax.mut (Syntax.tyInt Syntax.w16)))) (Reads'.as-is 𝓤 H A (Relend.mslice-owed (Referent.rtF (Referent.fInt
-              Syntax.w16)) (Syntax.tyRef (Syntax.named 2) Syntax.mut (Syntax.tyInt Syntax.w16)) 2 10 (Row.lease (κs .1 .1 .0) (qs .1 .1 .0)))) Path'.refl Path'.refl) d48
+              Syntax.w16)) (Syntax.tyRef (Syntax.named 2) Syntax.mut (Syntax.tyInt Syntax.w16)) 2 10 (Row.lease (κs .1 .1 .0) (qs .1 .1 .0)))) Path'.refl Path'.refl) d50
 
-          d50 : Typed.Typed 𝓤 H A 𝓣 E G73 b46 Δ5 at50
-          d50 = Typed.g-pre 𝓤 H A W 𝓣 E G73 G74 b46 Δ5 (λ Ψ. Ψ) at49 (Lifetime.g-end 𝓤 H A W E G73 10 Path'.refl) d49
+          d52 : Typed.Typed 𝓤 H A 𝓣 E G74 b46 Δ5 at52
+          d52 = Typed.g-pre 𝓤 H A W 𝓣 E G74 G75 b46 Δ5 (λ Ψ. Ψ) at51 (Lifetime.g-end 𝓤 H A W E G74 10 Path'.refl) d51
 
-          d51 : Typed.Typed 𝓤 H A 𝓣 E G71 b46 Δ5 at51
-          d51 = Typed.g-pre 𝓤 H A W 𝓣 E G71 G73 b46 Δ5 (Typed.pass T71 T73 s68) at50 (Scalar.g-room 𝓤 H A W E G71 39 y1 (Local.room-whole 𝓤 H A W (Declared'.row Quantisers.the-type) y1 Path'.refl))
-              d50
+          d53 : Typed.Typed 𝓤 H A 𝓣 E G72 b46 Δ5 at53
+          d53 = Typed.g-pre 𝓤 H A W 𝓣 E G72 G74 b46 Δ5 (Typed.pass T72 T74 s69) at52 (Scalar.g-room 𝓤 H A W E G72 40 y2 (Local.room-whole 𝓤 H A W (Declared'.row Quantisers.the-type) y2 Path'.refl))
+              d52
 
-          d52 : Typed.Typed 𝓤 H A 𝓣 E G138 b56 Δ3 at52
-          d52 = Typed.s-typed 𝓤 H A W 𝓣 E G138 b56 Δ3 (λ Ψ. Typed.ask s134 (Typed.pass T139 T140 s135 Ψ)) tt (Typed.g-post 𝓤 H A W 𝓣 E G138 G139 G140 b56 (Typed.ask s134) (Typed.pass T139 T140 s135)
-              (Scalar.t-op2 𝓤 H A W E 𝓣 G138 (Syntax.add Syntax.unsigned) (Scalar.oAt 17 (Syntax.tyInt Syntax.w64) (Row.valS (Row.sInt Syntax.w64))) (Scalar.oInt Syntax.w64 1) 17 (Rows'.sc-here (Row.sInt
+          d54 : Typed.Typed 𝓤 H A 𝓣 E G140 b56 Δ3 at54
+          d54 = Typed.s-typed 𝓤 H A W 𝓣 E G140 b56 Δ3 (λ Ψ. Typed.ask s136 (Typed.pass T141 T142 s137 Ψ)) tt (Typed.g-post 𝓤 H A W 𝓣 E G140 G141 G142 b56 (Typed.ask s136) (Typed.pass T141 T142 s137)
+              (Scalar.t-op2 𝓤 H A W E 𝓣 G140 (Syntax.add Syntax.unsigned) (Scalar.oAt 18 (Syntax.tyInt Syntax.w64) (Row.valS (Row.sInt Syntax.w64))) (Scalar.oInt Syntax.w64 1) 18 (Rows'.sc-here (Row.sInt
               Syntax.w64)) (Syntax.tyInt Syntax.w64) (Row.valS (Row.sInt Syntax.w64)) (Row.sInt Syntax.w64 .of) (Scalar.reads-sc 𝓤 H A W (Row.sInt Syntax.w64), Path'.refl) tt (Scalar.room-sc 𝓤 H A W
-              (Row.sInt Syntax.w64)) (Scalar.holds-sc 𝓤 H A W (Row.sInt Syntax.w64)) Path'.refl (λ u. Path'.refl) λ u. tt) (Scalar.g-room 𝓤 H A W E G139 18 (Syntax.tyInt Syntax.w32) (Scalar.room-sc 𝓤 H A
+              (Row.sInt Syntax.w64)) (Scalar.holds-sc 𝓤 H A W (Row.sInt Syntax.w64)) Path'.refl (λ u. Path'.refl) λ u. tt) (Scalar.g-room 𝓤 H A W E G141 19 (Syntax.tyInt Syntax.w32) (Scalar.room-sc 𝓤 H A
               W (Row.sInt Syntax.w32))))
 
-          d53 : Typed.Typed 𝓤 H A 𝓣 E G137 b56 Δ3 at53
-          d53 = Typed.g-pre 𝓤 H A W 𝓣 E G137 G138 b56 Δ3 (λ Ψ. Ψ) at52 (Lifetime.g-forget 𝓤 H A W E G137 15 Row.dead Path'.refl) d52
+          d55 : Typed.Typed 𝓤 H A 𝓣 E G139 b56 Δ3 at55
+          d55 = Typed.g-pre 𝓤 H A W 𝓣 E G139 G140 b56 Δ3 (λ Ψ. Ψ) at54 (Lifetime.g-forget 𝓤 H A W E G139 15 Row.dead Path'.refl) d54
 
-          d54 : Typed.Typed 𝓤 H A 𝓣 E G136 b56 Δ3 at54
-          d54 = Typed.g-pre 𝓤 H A W 𝓣 E G136 G137 b56 Δ3 (Typed.give s132) at53 (Know.g-sl-known 𝓤 H A W (Referent.fInt Syntax.w16) E G136 5 4 (Syntax.tyRef (Syntax.named 4) Syntax.mut (Syntax.tyInt
+          d56 : Typed.Typed 𝓤 H A 𝓣 E G138 b56 Δ3 at56
+          d56 = Typed.g-pre 𝓤 H A W 𝓣 E G138 G139 b56 Δ3 (Typed.give s134) at55 (Know.g-sl-known 𝓤 H A W (Referent.fInt Syntax.w16) E G138 5 4 (Syntax.tyRef (Syntax.named 4) Syntax.mut (Syntax.tyInt
               Syntax.w16)) (Row.lease (κs .1 .1 .1 .1 .0) (qs .1 .1 .1 .1 .0)) 0 (λ x. x) record { fits = Dec'.lit< tt } (Reads'.as-is 𝓤 H A (Mut.mslice (Referent.rtF (Referent.fInt Syntax.w16))
-              (Syntax.tyRef (Syntax.named 4) Syntax.mut (Syntax.tyInt Syntax.w16)) 4)) Path'.refl tt) d53
+              (Syntax.tyRef (Syntax.named 4) Syntax.mut (Syntax.tyInt Syntax.w16)) 4)) Path'.refl tt) d55
 
-          d55 : Typed.Typed 𝓤 H A 𝓣 E G135 b56 Δ3 at55
-          d55 = Typed.g-pre 𝓤 H A W 𝓣 E G135 G136 b56 Δ3 (Typed.both s131) at54 (Relend.g-back-sl 𝓤 H A W E (Referent.rtF (Referent.fInt Syntax.w16)) G135 48 5 4 15 (Syntax.tyRef (Syntax.named 4)
+          d57 : Typed.Typed 𝓤 H A 𝓣 E G137 b56 Δ3 at57
+          d57 = Typed.g-pre 𝓤 H A W 𝓣 E G137 G138 b56 Δ3 (Typed.both s133) at56 (Relend.g-back-sl 𝓤 H A W E (Referent.rtF (Referent.fInt Syntax.w16)) G137 49 5 4 15 (Syntax.tyRef (Syntax.named 4)
               Syntax.mut (Syntax.tyInt Syntax.w16)) (Syntax.tyRef Syntax.erased Syntax.mut (Syntax.tyInt Syntax.w16)) (Row.lease (κs .1 .1 .1 .1 .0) (qs .1 .1 .1 .1 .0)) (λ x. x) (λ x. x) (Reads'.as-is 𝓤
               H A (Mut.msleft (Referent.rtF (Referent.fInt Syntax.w16)) (Syntax.tyRef Syntax.erased Syntax.mut (Syntax.tyInt Syntax.w16)))) (Reads'.as-is 𝓤 H A (Relend.mslice-owed (Referent.rtF
-              (Referent.fInt Syntax.w16)) (Syntax.tyRef (Syntax.named 4) Syntax.mut (Syntax.tyInt Syntax.w16)) 4 15 (Row.lease (κs .1 .1 .1 .1 .0) (qs .1 .1 .1 .1 .0)))) Path'.refl Path'.refl) d54
+              (Referent.fInt Syntax.w16)) (Syntax.tyRef (Syntax.named 4) Syntax.mut (Syntax.tyInt Syntax.w16)) 4 15 (Row.lease (κs .1 .1 .1 .1 .0) (qs .1 .1 .1 .1 .0)))) Path'.refl Path'.refl) d56
 
-          d56 : Typed.Typed 𝓤 H A 𝓣 E G134 b56 Δ3 at56
-          d56 = Typed.g-pre 𝓤 H A W 𝓣 E G134 G135 b56 Δ3 (λ Ψ. Ψ) at55 (Lifetime.g-end 𝓤 H A W E G134 15 Path'.refl) d55
+          d58 : Typed.Typed 𝓤 H A 𝓣 E G136 b56 Δ3 at58
+          d58 = Typed.g-pre 𝓤 H A W 𝓣 E G136 G137 b56 Δ3 (λ Ψ. Ψ) at57 (Lifetime.g-end 𝓤 H A W E G136 15 Path'.refl) d57
 
-          d57 : Typed.Typed 𝓤 H A 𝓣 E G133 b56 Δ3 at57
-          d57 = Typed.g-pre 𝓤 H A W 𝓣 E G133 G134 b56 Δ3 (λ Ψ. Ψ) at56 (Lifetime.g-forget 𝓤 H A W E G133 14 Row.dead Path'.refl) d56
+          d59 : Typed.Typed 𝓤 H A 𝓣 E G135 b56 Δ3 at59
+          d59 = Typed.g-pre 𝓤 H A W 𝓣 E G135 G136 b56 Δ3 (λ Ψ. Ψ) at58 (Lifetime.g-forget 𝓤 H A W E G135 14 Row.dead Path'.refl) d58
 
-          d58 : Typed.Typed 𝓤 H A 𝓣 E G132 b56 Δ3 at58
-          d58 = Typed.g-pre 𝓤 H A W 𝓣 E G132 G133 b56 Δ3 (Typed.pass T131 T133 s128) at57 (Reshare.g-back-sl-shr 𝓤 H A W E (Referent.rtF (Referent.fInt Syntax.w16)) G132 3 2 14 (Syntax.tyRef
+          d60 : Typed.Typed 𝓤 H A 𝓣 E G134 b56 Δ3 at60
+          d60 = Typed.g-pre 𝓤 H A W 𝓣 E G134 G135 b56 Δ3 (Typed.pass T133 T135 s130) at59 (Reshare.g-back-sl-shr 𝓤 H A W E (Referent.rtF (Referent.fInt Syntax.w16)) G134 3 2 14 (Syntax.tyRef
               (Syntax.named 2) Syntax.mut (Syntax.tyInt Syntax.w16)) (Row.lease (κs .1 .1 .0) (qs .1 .1 .0)) (λ x. x) (Reads'.as-is 𝓤 H A (Reshare.mslice-owedS (Referent.rtF (Referent.fInt Syntax.w16))
-              (Syntax.tyRef (Syntax.named 2) Syntax.mut (Syntax.tyInt Syntax.w16)) 2 14 (Row.lease (κs .1 .1 .0) (qs .1 .1 .0)))) Path'.refl Path'.refl) d57
+              (Syntax.tyRef (Syntax.named 2) Syntax.mut (Syntax.tyInt Syntax.w16)) 2 14 (Row.lease (κs .1 .1 .0) (qs .1 .1 .0)))) Path'.refl Path'.refl) d59
 
-          d59 : Typed.Typed 𝓤 H A 𝓣 E G131 b56 Δ3 at59
-          d59 = Typed.g-pre 𝓤 H A W 𝓣 E G131 G132 b56 Δ3 (λ Ψ. Ψ) at58 (Lifetime.g-end 𝓤 H A W E G131 14 Path'.refl) d58
+          d61 : Typed.Typed 𝓤 H A 𝓣 E G133 b56 Δ3 at61
+          d61 = Typed.g-pre 𝓤 H A W 𝓣 E G133 G134 b56 Δ3 (λ Ψ. Ψ) at60 (Lifetime.g-end 𝓤 H A W E G133 14 Path'.refl) d60
 
-          d60 : Typed.Typed 𝓤 H A 𝓣 E G130 b56 Δ3 at60
-          d60 = Typed.g-pre 𝓤 H A W 𝓣 E G130 G131 b56 Δ3 (Typed.pass T130 T131 s126) at59 (Scalar.g-room 𝓤 H A W E G130 28 Syntax.tyUnit (Scalar.room-sc 𝓤 H A W Row.sUnit)) d59
+          d62 : Typed.Typed 𝓤 H A 𝓣 E G132 b56 Δ3 at62
+          d62 = Typed.g-pre 𝓤 H A W 𝓣 E G132 G133 b56 Δ3 (Typed.pass T132 T133 s128) at61 (Scalar.g-room 𝓤 H A W E G132 29 Syntax.tyUnit (Scalar.room-sc 𝓤 H A W Row.sUnit)) d61
 
-          d61 : Typed.Typed 𝓤 H A 𝓣 E G129 b56 Δ3 at61
-          d61 = Typed.g-pre 𝓤 H A W 𝓣 E G129 G130 b56 Δ3 (Typed.pass T129 T130 s125) at60 (Scalar.g-room 𝓤 H A W E G129 27 Syntax.tyBool (Scalar.room-sc 𝓤 H A W Row.sBool)) d60
+          d63 : Typed.Typed 𝓤 H A 𝓣 E G131 b56 Δ3 at63
+          d63 = Typed.g-pre 𝓤 H A W 𝓣 E G131 G132 b56 Δ3 (Typed.pass T131 T132 s127) at62 (Scalar.g-room 𝓤 H A W E G131 28 Syntax.tyBool (Scalar.room-sc 𝓤 H A W Row.sBool)) d62
 
-          d62 : Typed.Typed 𝓤 H A 𝓣 E G128 b56 Δ3 at62
-          d62 = Typed.g-pre 𝓤 H A W 𝓣 E G128 G129 b56 Δ3 (Typed.pass T128 T129 s124) at61 (Scalar.g-room 𝓤 H A W E G128 46 y3 (Shared.room-sslice 𝓤 H A W (Referent.rtF (Referent.fInt Syntax.w16))
-              (Syntax.tyRef Syntax.erased Syntax.imm (Syntax.tyInt Syntax.w16)) 14)) d61
+          d64 : Typed.Typed 𝓤 H A 𝓣 E G130 b56 Δ3 at64
+          d64 = Typed.g-pre 𝓤 H A W 𝓣 E G130 G131 b56 Δ3 (Typed.pass T130 T131 s126) at63 (Scalar.g-room 𝓤 H A W E G130 47 y4 (Shared.room-sslice 𝓤 H A W (Referent.rtF (Referent.fInt Syntax.w16))
+              (Syntax.tyRef Syntax.erased Syntax.imm (Syntax.tyInt Syntax.w16)) 14)) d63
 
-          d63 : Typed.Typed 𝓤 H A 𝓣 E G127 b57 Δ3 at63
-          d63 = Typed.s-seq 𝓤 H A W 𝓣 E G127 G128 b55 b56 Δ3 (Typed.both s123) at62 (Plain.t-call-plain 𝓤 H A W 𝓣 3 ps·14 r·14 (claims· .28) (claims· .29) "map::windows::emit_line_if" (known .14) E (λ
-              pos β. β) G127 (
-                record { pos = 46; ty = Syntax.tyRef Syntax.erased Syntax.imm (Syntax.tyInt Syntax.w16); ref = λ x. x },
+          d65 : Typed.Typed 𝓤 H A 𝓣 E G129 b57 Δ3 at65
+          d65 = Typed.s-seq 𝓤 H A W 𝓣 E G129 G130 b55 b56 Δ3 (Typed.both s125) at64 (Plain.t-call-plain 𝓤 H A W 𝓣 3 ps·14 r·14 (claims· .28) (claims· .29) "map::windows::emit_line_if" (known .14) E (λ
+              pos β. β) G129 (
+                record { pos = 47; ty = Syntax.tyRef Syntax.erased Syntax.imm (Syntax.tyInt Syntax.w16); ref = λ x. x },
                 (
-                  record { pos = 48; ty = Syntax.tyRef Syntax.erased Syntax.mut (Syntax.tyInt Syntax.w16); ref = λ x. x },
+                  record { pos = 49; ty = Syntax.tyRef Syntax.erased Syntax.mut (Syntax.tyInt Syntax.w16); ref = λ x. x },
                   (
-                    Num.vAt 14 λ x. x,
+                    Num.vAt 15 λ x. x,
                     (
-                      Bool.bAt 13 λ x. x,
+                      Bool.bAt 14 λ x. x,
                       (
                         record { pos = 7; ty = Syntax.tyRef (Syntax.named 5) Syntax.imm (Syntax.tyArray (Syntax.tyInt Syntax.w16) 768); ref = λ x. x },
-                        (record { pos = 8; st = List.[]; d = 0; at = λ x. x }, (record { pos = 9; st = List.[]; d = 0; at = λ x. x }, (Num.vAt 17 λ x. x, (Bool.bAt 27 λ x. x, tt)))),
+                        (record { pos = 8; st = List.[]; d = 0; at = λ x. x }, (record { pos = 9; st = List.[]; d = 0; at = λ x. x }, (Num.vAt 18 λ x. x, (Bool.bAt 28 λ x. x, tt)))),
                       ),
                     ),
                   ),
                 ),
-              ) 28 (List._∷_ 14 (List._∷_
-              15 (List._∷_ 5 List.[]))) (Call.sub-id 𝓤 H A W (G127 .slots)) (
+              ) 29 (List._∷_ 14 (List._∷_
+              15 (List._∷_ 5 List.[]))) (Call.sub-id 𝓤 H A W (G129 .slots)) (
                 ShrSlice.spares-sslice 𝓤 H A W (Referent.rtF (Referent.fInt Syntax.w16)) (Syntax.tyRef Syntax.erased Syntax.imm (Syntax.tyInt Syntax.w16)) 14,
                 Shared.reads-sslice 𝓤 H A W (Referent.rtF
                     (Referent.fInt Syntax.w16)) (Syntax.tyRef Syntax.erased Syntax.imm (Syntax.tyInt Syntax.w16)) 14,
@@ -4741,7 +4864,7 @@ module _ (claims· : Claims) where
                           (Array.arr-yields 𝓤 H A W (Array.eInt Syntax.w8) (Array.eInt-laws Syntax.w8) 36, Path'.refl),
                           (
                             (
-                              Yields.yields-copy 𝓤 H A W (λ ρ. Unit) (Declared'.row Part.the-type) Path'.refl (Copies.cStruct Part.the-type Laws'4.the-laws Laws'4.the-copy .copy 𝓤 H A W) (Rows'.whole (Declared'.row
+                              Yields.yields-copy 𝓤 H A W (λ ρ. Unit) (Declared'.row Part.the-type) Path'.refl (Copies.cStruct Part.the-type Laws'5.the-laws Laws'5.the-copy .copy 𝓤 H A W) (Rows'.whole (Declared'.row
                                   Part.the-type)) (λ x. x) (λ x. x) (λ ρ told. Local.mem-whole 𝓤 H A W (Declared'.row Part.the-type) ρ) λ ρ told. Local.whole-mem 𝓤 H A W (Declared'.row Part.the-type) ρ,
                               Path'.refl,
                             ),
@@ -4753,31 +4876,31 @@ module _ (claims· : Claims) where
                   ),
                 ),
               ) (Reads'.room-gone 𝓤 H A Syntax.tyUnit) (tt, (tt, (tt, tt)))
-              Path'.refl) d62
+              Path'.refl) d64
 
-          d64 : Typed.Typed 𝓤 H A 𝓣 E G126 b58 Δ3 at64
-          d64 = Typed.s-seq 𝓤 H A W 𝓣 E G126 G127 b54 b57 Δ3 (Typed.ask s122) at63 (Scalar.t-op1 𝓤 H A W E 𝓣 G126 Syntax.bitNot (Scalar.oAt 11 Syntax.tyBool (Row.valS Row.sBool)) 27 (Rows'.sc-here
+          d66 : Typed.Typed 𝓤 H A 𝓣 E G128 b58 Δ3 at66
+          d66 = Typed.s-seq 𝓤 H A W 𝓣 E G128 G129 b54 b57 Δ3 (Typed.ask s124) at65 (Scalar.t-op1 𝓤 H A W E 𝓣 G128 Syntax.bitNot (Scalar.oAt 11 Syntax.tyBool (Row.valS Row.sBool)) 28 (Rows'.sc-here
               Row.sBool) Syntax.tyBool (Row.valS Row.sBool) (Row.sBool .of) (Scalar.reads-sc 𝓤 H A W Row.sBool, Path'.refl) (Reads'.room-gone 𝓤 H A Syntax.tyBool) (Scalar.holds-sc 𝓤 H A W Row.sBool)
-              Path'.refl (λ u. Path'.refl) λ u. tt) d63
+              Path'.refl (λ u. Path'.refl) λ u. tt) d65
 
-          d65 : Typed.Typed 𝓤 H A 𝓣 E G125 b59 Δ3 at65
-          d65 = Typed.s-seq 𝓤 H A W 𝓣 E G125 G126 b53 b58 Δ3 (Typed.ask s121) at64 (Relend.t-sl-aggregate 𝓤 H A W E (Referent.rtF (Referent.fInt Syntax.w16)) 𝓣 (Relend.asMut (Referent.rtF
-              (Referent.fInt Syntax.w16))) G125 47 48 15 (Syntax.tyRef Syntax.erased Syntax.mut (Syntax.tyInt Syntax.w16)) (Syntax.tyRef Syntax.erased Syntax.mut (Syntax.tyInt Syntax.w16)) (λ x. x)
+          d67 : Typed.Typed 𝓤 H A 𝓣 E G127 b59 Δ3 at67
+          d67 = Typed.s-seq 𝓤 H A W 𝓣 E G127 G128 b53 b58 Δ3 (Typed.ask s123) at66 (Relend.t-sl-aggregate 𝓤 H A W E (Referent.rtF (Referent.fInt Syntax.w16)) 𝓣 (Relend.asMut (Referent.rtF
+              (Referent.fInt Syntax.w16))) G127 48 49 15 (Syntax.tyRef Syntax.erased Syntax.mut (Syntax.tyInt Syntax.w16)) (Syntax.tyRef Syntax.erased Syntax.mut (Syntax.tyInt Syntax.w16)) (λ x. x)
               (Scalar.oFld 5 (List._∷_ (Syntax.field 1) List.[]) (Syntax.tyInt Syntax.w64) 8 λ v. Shared.lenV (v .0)) (Reads'.as-is 𝓤 H A (Relend.msptr (Referent.rtF (Referent.fInt Syntax.w16))
-              (Syntax.tyRef Syntax.erased Syntax.mut (Syntax.tyInt Syntax.w16)) 15)) (Reads'.room-gone 𝓤 H A y4) (
+              (Syntax.tyRef Syntax.erased Syntax.mut (Syntax.tyInt Syntax.w16)) 15)) (Reads'.room-gone 𝓤 H A y5) (
                 Relend.reads-owed-len 𝓤 H A W (Referent.rtF (Referent.fInt Syntax.w16)) (Syntax.tyRef (Syntax.named 4) Syntax.mut (Syntax.tyInt Syntax.w16)) 4 15 (Row.lease (κs .1 .1 .1 .1 .0) (qs .1 .1 .1
                     .1 .0)) 8 Path'.refl,
                 Path'.refl,
-              ) Path'.refl Path'.refl λ b o k. tt) d64
+              ) Path'.refl Path'.refl λ b o k. tt) d66
 
-          d66 : Typed.Typed 𝓤 H A 𝓣 E G124 b60 Δ3 at66
-          d66 = Typed.s-seq 𝓤 H A W 𝓣 E G124 G125 b52 b59 Δ3 (Typed.give s120) at65 (Relend.t-sl-relend 𝓤 H A W E (Referent.rtF (Referent.fInt Syntax.w16)) 𝓣 G124 5 47 4 15 (Syntax.tyRef (Syntax.named
+          d68 : Typed.Typed 𝓤 H A 𝓣 E G126 b60 Δ3 at68
+          d68 = Typed.s-seq 𝓤 H A W 𝓣 E G126 G127 b52 b59 Δ3 (Typed.give s122) at67 (Relend.t-sl-relend 𝓤 H A W E (Referent.rtF (Referent.fInt Syntax.w16)) 𝓣 G126 5 48 4 15 (Syntax.tyRef (Syntax.named
               4) Syntax.mut (Syntax.tyInt Syntax.w16)) (Syntax.tyRef Syntax.erased Syntax.mut (Syntax.tyInt Syntax.w16)) (Row.lease (κs .1 .1 .1 .1 .0) (qs .1 .1 .1 .1 .0)) 0 (λ x. x) (Reads'.as-is 𝓤 H A
               (Mut.mslice (Referent.rtF (Referent.fInt Syntax.w16)) (Syntax.tyRef (Syntax.named 4) Syntax.mut (Syntax.tyInt Syntax.w16)) 4)) (Reads'.room-gone 𝓤 H A (Syntax.tyRef Syntax.erased Syntax.mut
-              (Syntax.tyInt Syntax.w16))) Path'.refl tt Path'.refl Path'.refl Path'.refl λ b o. tt) d65
+              (Syntax.tyInt Syntax.w16))) Path'.refl tt Path'.refl Path'.refl Path'.refl λ b o. tt) d67
 
-          d67 : Typed.Typed 𝓤 H A 𝓣 E G123 b60 Δ3 at67
-          d67 = Typed.g-pre 𝓤 H A W 𝓣 E G123 G124 b60 Δ3 (λ Ψ. Ψ) at66 (Lifetime.g-begin 𝓤 H A W E G123 15 (
+          d69 : Typed.Typed 𝓤 H A 𝓣 E G125 b60 Δ3 at69
+          d69 = Typed.g-pre 𝓤 H A W 𝓣 E G125 G126 b60 Δ3 (λ Ψ. Ψ) at68 (Lifetime.g-begin 𝓤 H A W E G125 15 (
             tt,
             (
               tt,
@@ -4823,7 +4946,10 @@ module _ (claims· : Claims) where
                                                       tt,
                                                       (
                                                         tt,
-                                                        (tt, (tt, (tt, (tt, (tt, (tt, (tt, (tt, (tt, (tt, (tt, (tt, (tt, (tt, (tt, (tt, (tt, (tt, (tt, (tt, (tt, (tt, (tt, (tt, (tt, (tt, (tt, tt))))))))))))))))))))))))))),
+                                                        (
+                                                          tt,
+                                                          (tt, (tt, (tt, (tt, (tt, (tt, (tt, (tt, (tt, (tt, (tt, (tt, (tt, (tt, (tt, (tt, (tt, (tt, (tt, (tt, (tt, (tt, (tt, (tt, (tt, (tt, (tt, tt))))))))))))))))))))))))))),
+                                                        ),
                                                       ),
                                                     ),
                                                   ),
@@ -4847,26 +4973,26 @@ module _ (claims· : Claims) where
               ),
             ),
           ))
-              d66
+              d68
 
-          d68 : Typed.Typed 𝓤 H A 𝓣 E G122 b61 Δ3 at68
-          d68 = Typed.s-seq 𝓤 H A W 𝓣 E G122 G123 b51 b60 Δ3 (Typed.ask s118) at67 (Relend.t-sl-aggregate 𝓤 H A W E (Referent.rtF (Referent.fInt Syntax.w16)) 𝓣 (Relend.asShr (Referent.rtF
-              (Referent.fInt Syntax.w16))) G122 45 46 14 (Syntax.tyRef Syntax.erased Syntax.imm (Syntax.tyInt Syntax.w16)) (Syntax.tyRef Syntax.erased Syntax.imm (Syntax.tyInt Syntax.w16)) (λ x. x)
+          d70 : Typed.Typed 𝓤 H A 𝓣 E G124 b61 Δ3 at70
+          d70 = Typed.s-seq 𝓤 H A W 𝓣 E G124 G125 b51 b60 Δ3 (Typed.ask s120) at69 (Relend.t-sl-aggregate 𝓤 H A W E (Referent.rtF (Referent.fInt Syntax.w16)) 𝓣 (Relend.asShr (Referent.rtF
+              (Referent.fInt Syntax.w16))) G124 46 47 14 (Syntax.tyRef Syntax.erased Syntax.imm (Syntax.tyInt Syntax.w16)) (Syntax.tyRef Syntax.erased Syntax.imm (Syntax.tyInt Syntax.w16)) (λ x. x)
               (Scalar.oFld 3 (List._∷_ (Syntax.field 1) List.[]) (Syntax.tyInt Syntax.w64) 8 λ v. Shared.lenV (v .0)) (Reads'.as-is 𝓤 H A (Relend.ssptr (Referent.rtF (Referent.fInt Syntax.w16))
-              (Syntax.tyRef Syntax.erased Syntax.imm (Syntax.tyInt Syntax.w16)) 14)) (Reads'.room-gone 𝓤 H A y3) (
+              (Syntax.tyRef Syntax.erased Syntax.imm (Syntax.tyInt Syntax.w16)) 14)) (Reads'.room-gone 𝓤 H A y4) (
                 Reshare.reads-owedS-len 𝓤 H A W (Referent.rtF (Referent.fInt Syntax.w16)) (Syntax.tyRef (Syntax.named 2) Syntax.mut (Syntax.tyInt Syntax.w16)) 2 14 (Row.lease (κs .1 .1 .0) (qs .1 .1 .0)) 8
                     Path'.refl,
                 Path'.refl,
-              ) Path'.refl Path'.refl λ b o k. tt) d67
+              ) Path'.refl Path'.refl λ b o k. tt) d69
 
-          d69 : Typed.Typed 𝓤 H A 𝓣 E G121 b62 Δ3 at69
-          d69 = Typed.s-seq 𝓤 H A W 𝓣 E G121 G122 b50 b61 Δ3 (Typed.give s117) at68 (Reshare.t-sl-reshare 𝓤 H A W E (Referent.rtF (Referent.fInt Syntax.w16)) 𝓣 G121 3 45 2 14 (Syntax.tyRef
+          d71 : Typed.Typed 𝓤 H A 𝓣 E G123 b62 Δ3 at71
+          d71 = Typed.s-seq 𝓤 H A W 𝓣 E G123 G124 b50 b61 Δ3 (Typed.give s119) at70 (Reshare.t-sl-reshare 𝓤 H A W E (Referent.rtF (Referent.fInt Syntax.w16)) 𝓣 G123 3 46 2 14 (Syntax.tyRef
               (Syntax.named 2) Syntax.mut (Syntax.tyInt Syntax.w16)) (Syntax.tyRef Syntax.erased Syntax.imm (Syntax.tyInt Syntax.w16)) (Row.lease (κs .1 .1 .0) (qs .1 .1 .0)) 0 (λ x. x) (Reads'.as-is 𝓤 H
               A (Mut.mslice (Referent.rtF (Referent.fInt Syntax.w16)) (Syntax.tyRef (Syntax.named 2) Syntax.mut (Syntax.tyInt Syntax.w16)) 2)) (Reads'.room-gone 𝓤 H A (Syntax.tyRef Syntax.erased
-              Syntax.imm (Syntax.tyInt Syntax.w16))) Path'.refl tt Path'.refl Path'.refl Path'.refl λ b o. tt) d68
+              Syntax.imm (Syntax.tyInt Syntax.w16))) Path'.refl tt Path'.refl Path'.refl Path'.refl λ b o. tt) d70
 
-          d70 : Typed.Typed 𝓤 H A 𝓣 E G120 b62 Δ3 at70
-          d70 = Typed.g-pre 𝓤 H A W 𝓣 E G120 G121 b62 Δ3 (λ Ψ. Ψ) at69 (Lifetime.g-begin 𝓤 H A W E G120 14 (
+          d72 : Typed.Typed 𝓤 H A 𝓣 E G122 b62 Δ3 at72
+          d72 = Typed.g-pre 𝓤 H A W 𝓣 E G122 G123 b62 Δ3 (λ Ψ. Ψ) at71 (Lifetime.g-begin 𝓤 H A W E G122 14 (
             tt,
             (
               tt,
@@ -4912,7 +5038,10 @@ module _ (claims· : Claims) where
                                                       tt,
                                                       (
                                                         tt,
-                                                        (tt, (tt, (tt, (tt, (tt, (tt, (tt, (tt, (tt, (tt, (tt, (tt, (tt, (tt, (tt, (tt, (tt, (tt, (tt, (tt, (tt, (tt, (tt, (tt, (tt, (tt, (tt, tt))))))))))))))))))))))))))),
+                                                        (
+                                                          tt,
+                                                          (tt, (tt, (tt, (tt, (tt, (tt, (tt, (tt, (tt, (tt, (tt, (tt, (tt, (tt, (tt, (tt, (tt, (tt, (tt, (tt, (tt, (tt, (tt, (tt, (tt, (tt, (tt, tt))))))))))))))))))))))))))),
+                                                        ),
                                                       ),
                                                     ),
                                                   ),
@@ -4936,21 +5065,21 @@ module _ (claims· : Claims) where
               ),
             ),
           ))
-              d69
+              d71
 
-          d71 : Typed.Typed 𝓤 H A 𝓣 E G119 b62 Δ3 at71
-          d71 = Typed.g-pre 𝓤 H A W 𝓣 E G119 G120 b62 Δ3 (Typed.pass T119 T120 s115) at70 (Scalar.g-room 𝓤 H A W E G119 44 y2 (Local.room-whole 𝓤 H A W (Declared'.row Totals.the-type) y2 Path'.refl))
-              d70
+          d73 : Typed.Typed 𝓤 H A 𝓣 E G121 b62 Δ3 at73
+          d73 = Typed.g-pre 𝓤 H A W 𝓣 E G121 G122 b62 Δ3 (Typed.pass T121 T122 s117) at72 (Scalar.g-room 𝓤 H A W E G121 45 y3 (Local.room-whole 𝓤 H A W (Declared'.row Totals.the-type) y3 Path'.refl))
+              d72
 
-          d72 : Typed.Typed 𝓤 H A 𝓣 E G118 b63 Δ3 at72
-          d72 = Typed.s-seq 𝓤 H A W 𝓣 E G118 G119 b49 b62 Δ3 (Typed.both s114) at71 (Plain.t-call-plain 𝓤 H A W 𝓣 0 ps·13 r·13 (claims· .26) (claims· .27) "totals::with_line" (known .13) E (λ pos β.
-              β) G118 (
-                record { pos = 16; st = List.[]; d = 0; at = λ x. x },
-                (Num.vAt 17 λ x. x, (Bool.bFld 15 (List._∷_ (Syntax.field 1) List.[]) 8 λ x. Place.struct .as-values x .1 .0, (record { pos = 44; st = List.[]; d = 0; at = λ x. x }, tt))),
-              ) 16 List.[]
-              (Call.sub-id 𝓤 H A W (G118 .slots)) (
+          d74 : Typed.Typed 𝓤 H A 𝓣 E G120 b63 Δ3 at74
+          d74 = Typed.s-seq 𝓤 H A W 𝓣 E G120 G121 b49 b62 Δ3 (Typed.both s116) at73 (Plain.t-call-plain 𝓤 H A W 𝓣 0 ps·13 r·13 (claims· .26) (claims· .27) "totals::with_line" (known .13) E (λ pos β.
+              β) G120 (
+                record { pos = 17; st = List.[]; d = 0; at = λ x. x },
+                (Num.vAt 18 λ x. x, (Bool.bFld 16 (List._∷_ (Syntax.field 1) List.[]) 8 λ x. Place.struct .as-values x .1 .0, (record { pos = 45; st = List.[]; d = 0; at = λ x. x }, tt))),
+              ) 17 List.[]
+              (Call.sub-id 𝓤 H A W (G120 .slots)) (
                 (
-                  Yields.yields-copy 𝓤 H A W (λ ρ. Unit) (Declared'.row TightLines.the-type) Path'.refl (Copies.cStruct TightLines.the-type Laws'6.the-laws Laws'6.the-copy .copy 𝓤 H A W) (Rows'.whole
+                  Yields.yields-copy 𝓤 H A W (λ ρ. Unit) (Declared'.row TightLines.the-type) Path'.refl (Copies.cStruct TightLines.the-type Laws'7.the-laws Laws'7.the-copy .copy 𝓤 H A W) (Rows'.whole
                       (Declared'.row TightLines.the-type)) (λ x. x) (λ x. x) (λ ρ told. Local.mem-whole 𝓤 H A W (Declared'.row TightLines.the-type) ρ) λ ρ told. Local.whole-mem 𝓤 H A W (Declared'.row
                       TightLines.the-type) ρ,
                   Path'.refl,
@@ -4958,10 +5087,10 @@ module _ (claims· : Claims) where
                 (
                   (Scalar.reads-sc 𝓤 H A W (Row.sInt Syntax.w64), Path'.refl),
                   (
-                    (Reads.reads-field 𝓤 H A W Place.the-type Laws'3.the-laws 1 Syntax.tyBool 8 Path'.refl, Path'.refl),
+                    (Reads.reads-field 𝓤 H A W Place.the-type Laws'4.the-laws 1 Syntax.tyBool 8 Path'.refl, Path'.refl),
                     (
                       (
-                        Yields.yields-copy 𝓤 H A W (λ ρ. Unit) (Declared'.row Totals.the-type) Path'.refl (Copies.cStruct Totals.the-type Laws'7.the-laws Laws'7.the-copy .copy 𝓤 H A W) (Rows'.whole (Declared'.row
+                        Yields.yields-copy 𝓤 H A W (λ ρ. Unit) (Declared'.row Totals.the-type) Path'.refl (Copies.cStruct Totals.the-type Laws'8.the-laws Laws'8.the-copy .copy 𝓤 H A W) (Rows'.whole (Declared'.row
                             Totals.the-type)) (λ x. x) (λ x. x) (λ ρ told. Local.mem-whole 𝓤 H A W (Declared'.row Totals.the-type) ρ) λ ρ told. Local.whole-mem 𝓤 H A W (Declared'.row Totals.the-type) ρ,
                         Path'.refl,
                       ),
@@ -4969,54 +5098,54 @@ module _ (claims· : Claims) where
                     ),
                   ),
                 ),
-              ) (Local.room-whole 𝓤 H A W (Declared'.row TightLines.the-type) y8 Path'.refl) tt Path'.refl) d71
+              ) (Local.room-whole 𝓤 H A W (Declared'.row TightLines.the-type) y9 Path'.refl) tt Path'.refl) d73
 
-          d73 : Typed.Typed 𝓤 H A 𝓣 E G117 b64 Δ3 at73
-          d73 = Typed.s-seq 𝓤 H A W 𝓣 E G117 G118 b48 b63 Δ3 (Typed.both s113) at72 (Plain.t-call-plain 𝓤 H A W 𝓣 0 ps·12 r·12 (claims· .24) (claims· .25) "block::reading::totals_at" (known .12) E (λ
-              pos β. β) G117 (record { pos = 15; st = List.[]; d = 0; at = λ x. x }, tt) 44 List.[] (Call.sub-id 𝓤 H A W (G117 .slots)) (
+          d75 : Typed.Typed 𝓤 H A 𝓣 E G119 b64 Δ3 at75
+          d75 = Typed.s-seq 𝓤 H A W 𝓣 E G119 G120 b48 b63 Δ3 (Typed.both s115) at74 (Plain.t-call-plain 𝓤 H A W 𝓣 0 ps·12 r·12 (claims· .24) (claims· .25) "block::reading::totals_at" (known .12) E (λ
+              pos β. β) G119 (record { pos = 16; st = List.[]; d = 0; at = λ x. x }, tt) 45 List.[] (Call.sub-id 𝓤 H A W (G119 .slots)) (
                 (
-                  Yields.yields-copy 𝓤 H A W (λ ρ. Unit) (Declared'.row Place.the-type) Path'.refl (Copies.cStruct Place.the-type Laws'3.the-laws Laws'3.the-copy .copy 𝓤 H A W) (Rows'.whole (Declared'.row
+                  Yields.yields-copy 𝓤 H A W (λ ρ. Unit) (Declared'.row Place.the-type) Path'.refl (Copies.cStruct Place.the-type Laws'4.the-laws Laws'4.the-copy .copy 𝓤 H A W) (Rows'.whole (Declared'.row
                       Place.the-type)) (λ x. x) (λ x. x) (λ ρ told. Local.mem-whole 𝓤 H A W (Declared'.row Place.the-type) ρ) λ ρ told. Local.whole-mem 𝓤 H A W (Declared'.row Place.the-type) ρ,
                   Path'.refl,
                 ),
                 tt,
               )
-              (Reads'.room-gone 𝓤 H A y2) tt Path'.refl) d72
+              (Reads'.room-gone 𝓤 H A y3) tt Path'.refl) d74
 
-          d74 : Typed.Typed 𝓤 H A 𝓣 E G116 b64 Δ3 at74
-          d74 = Typed.g-pre 𝓤 H A W 𝓣 E G116 G117 b64 Δ3 (Typed.pass T116 T117 s112) at73 (Scalar.g-room 𝓤 H A W E G116 20 y9 (Local.room-whole 𝓤 H A W (Declared'.row Place.the-type) y9 Path'.refl))
-              d73
+          d76 : Typed.Typed 𝓤 H A 𝓣 E G118 b64 Δ3 at76
+          d76 = Typed.g-pre 𝓤 H A W 𝓣 E G118 G119 b64 Δ3 (Typed.pass T118 T119 s114) at75 (Scalar.g-room 𝓤 H A W E G118 21 y10 (Local.room-whole 𝓤 H A W (Declared'.row Place.the-type) y10 Path'.refl))
+              d75
 
-          d75 : Typed.Typed 𝓤 H A 𝓣 E G72 b65 Δ3 at75
-          d75 = Typed.s-seq 𝓤 H A W 𝓣 E G72 G116 b47 b64 Δ3 (Typed.pass T72 T116 s111) at74 (LocalCopy.t-val-copy 𝓤 H A W E 𝓣 (λ ρ. Unit) G72 20 15 (Declared'.row Place.the-type) y9 y9 (Rows'.whole
-              (Declared'.row Place.the-type)) (Rows'.whole (Declared'.row Place.the-type)) (λ x. x) (λ x. x) (λ x. x) Path'.refl (Own.told-none 𝓤 H A (G72 .slots)) (Yields.yields-copy 𝓤 H A W (λ ρ. Unit)
-              (Declared'.row Place.the-type) Path'.refl (Copies.cStruct Place.the-type Laws'3.the-laws Laws'3.the-copy .copy 𝓤 H A W) (Rows'.whole (Declared'.row Place.the-type)) (λ x. x) (λ x. x) (λ ρ
-              told. Local.mem-whole 𝓤 H A W (Declared'.row Place.the-type) ρ) λ ρ told. Local.whole-mem 𝓤 H A W (Declared'.row Place.the-type) ρ) (Reads'.room-gone 𝓤 H A y9) (Yields.makes-mem 𝓤 H A W (λ
+          d77 : Typed.Typed 𝓤 H A 𝓣 E G73 b65 Δ3 at77
+          d77 = Typed.s-seq 𝓤 H A W 𝓣 E G73 G118 b47 b64 Δ3 (Typed.pass T73 T118 s113) at76 (LocalCopy.t-val-copy 𝓤 H A W E 𝓣 (λ ρ. Unit) G73 21 16 (Declared'.row Place.the-type) y10 y10 (Rows'.whole
+              (Declared'.row Place.the-type)) (Rows'.whole (Declared'.row Place.the-type)) (λ x. x) (λ x. x) (λ x. x) Path'.refl (Own.told-none 𝓤 H A (G73 .slots)) (Yields.yields-copy 𝓤 H A W (λ ρ. Unit)
+              (Declared'.row Place.the-type) Path'.refl (Copies.cStruct Place.the-type Laws'4.the-laws Laws'4.the-copy .copy 𝓤 H A W) (Rows'.whole (Declared'.row Place.the-type)) (λ x. x) (λ x. x) (λ ρ
+              told. Local.mem-whole 𝓤 H A W (Declared'.row Place.the-type) ρ) λ ρ told. Local.whole-mem 𝓤 H A W (Declared'.row Place.the-type) ρ) (Reads'.room-gone 𝓤 H A y10) (Yields.makes-mem 𝓤 H A W (λ
               ρ. Unit) (Declared'.row Place.the-type) Path'.refl (Rows'.whole (Declared'.row Place.the-type)) (λ x. x) λ ρ told. Local.whole-mem 𝓤 H A W (Declared'.row Place.the-type) ρ) Path'.refl
-              Path'.refl) d74
+              Path'.refl) d76
 
-          d76 : Typed.Typed 𝓤 H A 𝓣 E G71 b66 Δ3 at76
-          d76 = Typed.t-seq 𝓤 H A W 𝓣 E G71 G72 b46 b65 Δ3 at51 at75 d51 d75
+          d78 : Typed.Typed 𝓤 H A 𝓣 E G72 b66 Δ3 at78
+          d78 = Typed.t-seq 𝓤 H A W 𝓣 E G72 G73 b46 b65 Δ3 at53 at77 d53 d77
 
-          d77 : Typed.Typed 𝓤 H A 𝓣 E G70 b67 Δ3 at77
-          d77 = Typed.s-seq 𝓤 H A W 𝓣 E G70 G71 b33 b66 Δ3 (Typed.both s67) at76 (Plain.t-call-plain 𝓤 H A W 𝓣 5 ps·10 r·10 (claims· .20) (claims· .21) "block::reading::line" (known .10) E (λ pos β.
-              β) G70 (
+          d79 : Typed.Typed 𝓤 H A 𝓣 E G71 b67 Δ3 at79
+          d79 = Typed.s-seq 𝓤 H A W 𝓣 E G71 G72 b33 b66 Δ3 (Typed.both s68) at78 (Plain.t-call-plain 𝓤 H A W 𝓣 5 ps·10 r·10 (claims· .20) (claims· .21) "block::reading::line" (known .10) E (λ pos β.
+              β) G71 (
                 record { pos = 1; ty = Syntax.tyRef (Syntax.named 0) Syntax.imm (Syntax.tyInt Syntax.w8); ref = λ x. x },
                 (
-                  record { pos = 15; st = List.[]; d = 0; at = λ x. x },
+                  record { pos = 16; st = List.[]; d = 0; at = λ x. x },
                   (
-                    record { pos = 34; ty = Syntax.tyRef Syntax.erased Syntax.mut (Syntax.tyInt Syntax.w16); ref = λ x. x },
+                    record { pos = 35; ty = Syntax.tyRef Syntax.erased Syntax.mut (Syntax.tyInt Syntax.w16); ref = λ x. x },
                     (
-                      record { pos = 36; ty = Syntax.tyRef Syntax.erased Syntax.mut Element.behind; ref = λ x. x },
+                      record { pos = 37; ty = Syntax.tyRef Syntax.erased Syntax.mut Element.behind; ref = λ x. x },
                       (
-                        record { pos = 38; ty = Syntax.tyRef Syntax.erased Syntax.mut (Syntax.tyInt Syntax.w16); ref = λ x. x },
+                        record { pos = 39; ty = Syntax.tyRef Syntax.erased Syntax.mut (Syntax.tyInt Syntax.w16); ref = λ x. x },
                         (
                           record { pos = 6; st = List.[]; d = 0; at = λ x. x },
                           (
-                            record { pos = 39; st = List.[]; d = 0; at = λ x. x },
+                            record { pos = 40; st = List.[]; d = 0; at = λ x. x },
                             (
                               record { pos = 7; ty = Syntax.tyRef (Syntax.named 5) Syntax.imm (Syntax.tyArray (Syntax.tyInt Syntax.w16) 768); ref = λ x. x },
-                              (record { pos = 8; st = List.[]; d = 0; at = λ x. x }, (record { pos = 9; st = List.[]; d = 0; at = λ x. x }, (Num.vAt 17 λ x. x, (Bool.bAt 11 λ x. x, tt)))),
+                              (record { pos = 8; st = List.[]; d = 0; at = λ x. x }, (record { pos = 9; st = List.[]; d = 0; at = λ x. x }, (Num.vAt 18 λ x. x, (Bool.bAt 11 λ x. x, tt)))),
                             ),
                           ),
                         ),
@@ -5024,15 +5153,15 @@ module _ (claims· : Claims) where
                     ),
                   ),
                 ),
-              ) 19 (List._∷_ 0 (List._∷_
-              10 (List._∷_ 11 (List._∷_ 12 (List._∷_ 5 List.[]))))) (Call.sub-id 𝓤 H A W (G70 .slots)) (
+              ) 20 (List._∷_ 0 (List._∷_
+              10 (List._∷_ 11 (List._∷_ 12 (List._∷_ 5 List.[]))))) (Call.sub-id 𝓤 H A W (G71 .slots)) (
                 ShrSlice.spares-sslice 𝓤 H A W (Referent.rtF (Referent.fInt Syntax.w8)) (Syntax.tyRef (Syntax.named 0) Syntax.imm (Syntax.tyInt Syntax.w8)) 0,
                 Shared.reads-sslice 𝓤 H A W (Referent.rtF
                     (Referent.fInt Syntax.w8)) (Syntax.tyRef (Syntax.named 0) Syntax.imm (Syntax.tyInt Syntax.w8)) 0,
                 Path'.refl,
                 (
                   (
-                    Yields.yields-copy 𝓤 H A W (λ ρ. Unit) (Declared'.row Place.the-type) Path'.refl (Copies.cStruct Place.the-type Laws'3.the-laws Laws'3.the-copy .copy 𝓤 H A W) (Rows'.whole (Declared'.row
+                    Yields.yields-copy 𝓤 H A W (λ ρ. Unit) (Declared'.row Place.the-type) Path'.refl (Copies.cStruct Place.the-type Laws'4.the-laws Laws'4.the-copy .copy 𝓤 H A W) (Rows'.whole (Declared'.row
                         Place.the-type)) (λ x. x) (λ x. x) (λ ρ told. Local.mem-whole 𝓤 H A W (Declared'.row Place.the-type) ρ) λ ρ told. Local.whole-mem 𝓤 H A W (Declared'.row Place.the-type) ρ,
                     Path'.refl,
                   ),
@@ -5059,7 +5188,7 @@ module _ (claims· : Claims) where
                           ),
                           (
                             (
-                              Yields.yields-copy 𝓤 H A W (λ ρ. Unit) (Declared'.row Quantisers.the-type) Path'.refl (Copies.cStruct Quantisers.the-type Laws'5.the-laws Laws'5.the-copy .copy 𝓤 H A W) (Rows'.whole
+                              Yields.yields-copy 𝓤 H A W (λ ρ. Unit) (Declared'.row Quantisers.the-type) Path'.refl (Copies.cStruct Quantisers.the-type Laws'6.the-laws Laws'6.the-copy .copy 𝓤 H A W) (Rows'.whole
                                   (Declared'.row Quantisers.the-type)) (λ x. x) (λ x. x) (λ ρ told. Local.mem-whole 𝓤 H A W (Declared'.row Quantisers.the-type) ρ) λ ρ told. Local.whole-mem 𝓤 H A W (Declared'.row
                                   Quantisers.the-type) ρ,
                               Path'.refl,
@@ -5072,7 +5201,7 @@ module _ (claims· : Claims) where
                                 (Array.arr-yields 𝓤 H A W (Array.eInt Syntax.w8) (Array.eInt-laws Syntax.w8) 36, Path'.refl),
                                 (
                                   (
-                                    Yields.yields-copy 𝓤 H A W (λ ρ. Unit) (Declared'.row Part.the-type) Path'.refl (Copies.cStruct Part.the-type Laws'4.the-laws Laws'4.the-copy .copy 𝓤 H A W) (Rows'.whole (Declared'.row
+                                    Yields.yields-copy 𝓤 H A W (λ ρ. Unit) (Declared'.row Part.the-type) Path'.refl (Copies.cStruct Part.the-type Laws'5.the-laws Laws'5.the-copy .copy 𝓤 H A W) (Rows'.whole (Declared'.row
                                         Part.the-type)) (λ x. x) (λ x. x) (λ ρ told. Local.mem-whole 𝓤 H A W (Declared'.row Part.the-type) ρ) λ ρ told. Local.whole-mem 𝓤 H A W (Declared'.row Part.the-type) ρ,
                                     Path'.refl,
                                   ),
@@ -5088,31 +5217,39 @@ module _ (claims· : Claims) where
                 ),
               ) (Reads'.room-gone 𝓤 H A (Syntax.tyEnum (List._∷_ 98 (List._∷_
               108 (List._∷_ 111 (List._∷_ 99 (List._∷_ 107 (List._∷_ 58 (List._∷_ 58 (List._∷_ 76 (List._∷_ 105 (List._∷_ 110 (List._∷_ 101 (List._∷_ 100 List.[])))))))))))) (Syntax.ttcons (Syntax.tcons
-              y9 Syntax.tnil) (Syntax.ttcons Syntax.tnil Syntax.ttnil)))) (tt, (tt, (tt, (tt, (tt, tt))))) Path'.refl) d76
+              y10 Syntax.tnil) (Syntax.ttcons Syntax.tnil Syntax.ttnil)))) (tt, (tt, (tt, (tt, (tt, tt))))) Path'.refl) d78
 
-          d78 : Typed.Typed 𝓤 H A 𝓣 E G69 b68 Δ3 at78
-          d78 = Typed.s-seq 𝓤 H A W 𝓣 E G69 G70 b32 b67 Δ3 (Typed.both s66) at77 (Plain.t-call-plain 𝓤 H A W 𝓣 0 ps·9 r·9 (claims· .18) (claims· .19) "block::reading::quantisers_of" (known .9) E (λ
-              pos β. β) G69 (Num.vAt 12 λ x. x, (Num.vAt 18 λ x. x, tt)) 39 List.[] (Call.sub-id 𝓤 H A W (G69 .slots))
-              ((Scalar.reads-sc 𝓤 H A W (Row.sInt Syntax.w32), Path'.refl), ((Scalar.reads-sc 𝓤 H A W (Row.sInt Syntax.w32), Path'.refl), tt)) (Reads'.room-gone 𝓤 H A y1) tt Path'.refl) d77
+          d80 : Typed.Typed 𝓤 H A 𝓣 E G70 b68 Δ3 at80
+          d80 = Typed.s-seq 𝓤 H A W 𝓣 E G70 G71 b32 b67 Δ3 (Typed.both s67) at79 (Plain.t-call-plain 𝓤 H A W 𝓣 0 ps·9 r·9 (claims· .18) (claims· .19) "block::reading::quantisers_in" (known .9) E (λ
+              pos β. β) G70 (record { pos = 12; st = List.[]; d = 0; at = λ x. x }, (Num.vAt 13 λ x. x, (Num.vAt 19 λ x. x, tt))) 40 List.[] (Call.sub-id 𝓤 H A W (G70 .slots)) (
+                (
+                  Yields.yields-copy 𝓤 H A W (λ ρ. Unit) (Declared'.row Entries.the-type) Path'.refl (Copies.cStruct Entries.the-type Laws'3.the-laws Laws'3.the-copy .copy 𝓤 H A W) (Rows'.whole
+                      (Declared'.row Entries.the-type)) (λ x. x) (λ x. x) (λ ρ told. Local.mem-whole 𝓤 H A W (Declared'.row Entries.the-type) ρ) λ ρ told. Local.whole-mem 𝓤 H A W (Declared'.row Entries.the-type)
+                      ρ,
+                  Path'.refl,
+                ),
+                ((Scalar.reads-sc 𝓤 H A W (Row.sInt Syntax.w32), Path'.refl), ((Scalar.reads-sc 𝓤 H A W (Row.sInt Syntax.w32), Path'.refl), tt)),
+              ) (Reads'.room-gone 𝓤 H A y2) tt Path'.refl)
+              d79
 
-          d79 : Typed.Typed 𝓤 H A 𝓣 E G68 b69 Δ3 at79
-          d79 = Typed.s-seq 𝓤 H A W 𝓣 E G68 G69 b31 b68 Δ3 (Typed.ask s65) at78 (Relend.t-sl-aggregate 𝓤 H A W E (Referent.rtF (Referent.fInt Syntax.w16)) 𝓣 (Relend.asMut (Referent.rtF (Referent.fInt
-              Syntax.w16))) G68 37 38 12 (Syntax.tyRef Syntax.erased Syntax.mut (Syntax.tyInt Syntax.w16)) (Syntax.tyRef Syntax.erased Syntax.mut (Syntax.tyInt Syntax.w16)) (λ x. x) (Scalar.oFld 5
+          d81 : Typed.Typed 𝓤 H A 𝓣 E G69 b69 Δ3 at81
+          d81 = Typed.s-seq 𝓤 H A W 𝓣 E G69 G70 b31 b68 Δ3 (Typed.ask s66) at80 (Relend.t-sl-aggregate 𝓤 H A W E (Referent.rtF (Referent.fInt Syntax.w16)) 𝓣 (Relend.asMut (Referent.rtF (Referent.fInt
+              Syntax.w16))) G69 38 39 12 (Syntax.tyRef Syntax.erased Syntax.mut (Syntax.tyInt Syntax.w16)) (Syntax.tyRef Syntax.erased Syntax.mut (Syntax.tyInt Syntax.w16)) (λ x. x) (Scalar.oFld 5
               (List._∷_ (Syntax.field 1) List.[]) (Syntax.tyInt Syntax.w64) 8 λ v. Shared.lenV (v .0)) (Reads'.as-is 𝓤 H A (Relend.msptr (Referent.rtF (Referent.fInt Syntax.w16)) (Syntax.tyRef
-              Syntax.erased Syntax.mut (Syntax.tyInt Syntax.w16)) 12)) (Reads'.room-gone 𝓤 H A y4) (
+              Syntax.erased Syntax.mut (Syntax.tyInt Syntax.w16)) 12)) (Reads'.room-gone 𝓤 H A y5) (
                 Relend.reads-owed-len 𝓤 H A W (Referent.rtF (Referent.fInt Syntax.w16)) (Syntax.tyRef (Syntax.named 4) Syntax.mut (Syntax.tyInt Syntax.w16)) 4 12 (Row.lease (κs .1 .1 .1 .1 .0) (qs .1 .1 .1
                     .1 .0)) 8 Path'.refl,
                 Path'.refl,
-              ) Path'.refl Path'.refl λ b o k. tt) d78
+              ) Path'.refl Path'.refl λ b o k. tt) d80
 
-          d80 : Typed.Typed 𝓤 H A 𝓣 E G67 b70 Δ3 at80
-          d80 = Typed.s-seq 𝓤 H A W 𝓣 E G67 G68 b30 b69 Δ3 (Typed.give s64) at79 (Relend.t-sl-relend 𝓤 H A W E (Referent.rtF (Referent.fInt Syntax.w16)) 𝓣 G67 5 37 4 12 (Syntax.tyRef (Syntax.named 4)
+          d82 : Typed.Typed 𝓤 H A 𝓣 E G68 b70 Δ3 at82
+          d82 = Typed.s-seq 𝓤 H A W 𝓣 E G68 G69 b30 b69 Δ3 (Typed.give s65) at81 (Relend.t-sl-relend 𝓤 H A W E (Referent.rtF (Referent.fInt Syntax.w16)) 𝓣 G68 5 38 4 12 (Syntax.tyRef (Syntax.named 4)
               Syntax.mut (Syntax.tyInt Syntax.w16)) (Syntax.tyRef Syntax.erased Syntax.mut (Syntax.tyInt Syntax.w16)) (Row.lease (κs .1 .1 .1 .1 .0) (qs .1 .1 .1 .1 .0)) 0 (λ x. x) (Reads'.as-is 𝓤 H A
               (Mut.mslice (Referent.rtF (Referent.fInt Syntax.w16)) (Syntax.tyRef (Syntax.named 4) Syntax.mut (Syntax.tyInt Syntax.w16)) 4)) (Reads'.room-gone 𝓤 H A (Syntax.tyRef Syntax.erased Syntax.mut
-              (Syntax.tyInt Syntax.w16))) Path'.refl tt Path'.refl Path'.refl Path'.refl λ b o. tt) d79
+              (Syntax.tyInt Syntax.w16))) Path'.refl tt Path'.refl Path'.refl Path'.refl λ b o. tt) d81
 
-          d81 : Typed.Typed 𝓤 H A 𝓣 E G66 b70 Δ3 at81
-          d81 = Typed.g-pre 𝓤 H A W 𝓣 E G66 G67 b70 Δ3 (λ Ψ. Ψ) at80 (Lifetime.g-begin 𝓤 H A W E G66 12 (
+          d83 : Typed.Typed 𝓤 H A 𝓣 E G67 b70 Δ3 at83
+          d83 = Typed.g-pre 𝓤 H A W 𝓣 E G67 G68 b70 Δ3 (λ Ψ. Ψ) at82 (Lifetime.g-begin 𝓤 H A W E G67 12 (
             tt,
             (
               tt,
@@ -5158,7 +5295,10 @@ module _ (claims· : Claims) where
                                                       tt,
                                                       (
                                                         tt,
-                                                        (tt, (tt, (tt, (tt, (tt, (tt, (tt, (tt, (tt, (tt, (tt, (tt, (tt, (tt, (tt, (tt, (tt, (tt, (tt, (tt, (tt, (tt, (tt, (tt, (tt, (tt, (tt, tt))))))))))))))))))))))))))),
+                                                        (
+                                                          tt,
+                                                          (tt, (tt, (tt, (tt, (tt, (tt, (tt, (tt, (tt, (tt, (tt, (tt, (tt, (tt, (tt, (tt, (tt, (tt, (tt, (tt, (tt, (tt, (tt, (tt, (tt, (tt, (tt, tt))))))))))))))))))))))))))),
+                                                        ),
                                                       ),
                                                     ),
                                                   ),
@@ -5182,22 +5322,22 @@ module _ (claims· : Claims) where
               ),
             ),
           ))
-              d80
+              d82
 
-          d82 : Typed.Typed 𝓤 H A 𝓣 E G65 b71 Δ3 at82
-          d82 = Typed.s-seq 𝓤 H A W 𝓣 E G65 G66 b29 b70 Δ3 (Typed.ask s62) at81 (Relend.t-sl-aggregate 𝓤 H A W E (Element.type) 𝓣 (Relend.asMut (Element.type)) G65 35 36 11 (Syntax.tyRef Syntax.erased
+          d84 : Typed.Typed 𝓤 H A 𝓣 E G66 b71 Δ3 at84
+          d84 = Typed.s-seq 𝓤 H A W 𝓣 E G66 G67 b29 b70 Δ3 (Typed.ask s63) at83 (Relend.t-sl-aggregate 𝓤 H A W E (Element.type) 𝓣 (Relend.asMut (Element.type)) G66 36 37 11 (Syntax.tyRef Syntax.erased
               Syntax.mut Element.behind) (Syntax.tyRef Syntax.erased Syntax.mut Element.behind) (λ x. x) (Scalar.oFld 4 (List._∷_ (Syntax.field 1) List.[]) (Syntax.tyInt Syntax.w64) 8 λ v. Shared.lenV (v
-              .0)) (Reads'.as-is 𝓤 H A (Relend.msptr (Element.type) (Syntax.tyRef Syntax.erased Syntax.mut Element.behind) 11)) (Reads'.room-gone 𝓤 H A y5)
+              .0)) (Reads'.as-is 𝓤 H A (Relend.msptr (Element.type) (Syntax.tyRef Syntax.erased Syntax.mut Element.behind) 11)) (Reads'.room-gone 𝓤 H A y6)
               (Relend.reads-owed-len 𝓤 H A W (Element.type) (Syntax.tyRef (Syntax.named 3) Syntax.mut Element.behind) 3 11 (Row.lease (κs .1 .1 .1 .0) (qs .1 .1 .1 .0)) 8 Path'.refl, Path'.refl)
-              Path'.refl Path'.refl λ b o k. tt) d81
+              Path'.refl Path'.refl λ b o k. tt) d83
 
-          d83 : Typed.Typed 𝓤 H A 𝓣 E G64 b72 Δ3 at83
-          d83 = Typed.s-seq 𝓤 H A W 𝓣 E G64 G65 b28 b71 Δ3 (Typed.give s61) at82 (Relend.t-sl-relend 𝓤 H A W E (Element.type) 𝓣 G64 4 35 3 11 (Syntax.tyRef (Syntax.named 3) Syntax.mut Element.behind)
+          d85 : Typed.Typed 𝓤 H A 𝓣 E G65 b72 Δ3 at85
+          d85 = Typed.s-seq 𝓤 H A W 𝓣 E G65 G66 b28 b71 Δ3 (Typed.give s62) at84 (Relend.t-sl-relend 𝓤 H A W E (Element.type) 𝓣 G65 4 36 3 11 (Syntax.tyRef (Syntax.named 3) Syntax.mut Element.behind)
               (Syntax.tyRef Syntax.erased Syntax.mut Element.behind) (Row.lease (κs .1 .1 .1 .0) (qs .1 .1 .1 .0)) 0 (λ x. x) (Reads'.as-is 𝓤 H A (Mut.mslice (Element.type) (Syntax.tyRef (Syntax.named 3)
-              Syntax.mut Element.behind) 3)) (Reads'.room-gone 𝓤 H A (Syntax.tyRef Syntax.erased Syntax.mut Element.behind)) Path'.refl tt Path'.refl Path'.refl Path'.refl λ b o. tt) d82
+              Syntax.mut Element.behind) 3)) (Reads'.room-gone 𝓤 H A (Syntax.tyRef Syntax.erased Syntax.mut Element.behind)) Path'.refl tt Path'.refl Path'.refl Path'.refl λ b o. tt) d84
 
-          d84 : Typed.Typed 𝓤 H A 𝓣 E G63 b72 Δ3 at84
-          d84 = Typed.g-pre 𝓤 H A W 𝓣 E G63 G64 b72 Δ3 (λ Ψ. Ψ) at83 (Lifetime.g-begin 𝓤 H A W E G63 11 (
+          d86 : Typed.Typed 𝓤 H A 𝓣 E G64 b72 Δ3 at86
+          d86 = Typed.g-pre 𝓤 H A W 𝓣 E G64 G65 b72 Δ3 (λ Ψ. Ψ) at85 (Lifetime.g-begin 𝓤 H A W E G64 11 (
             tt,
             (
               tt,
@@ -5243,7 +5383,10 @@ module _ (claims· : Claims) where
                                                       tt,
                                                       (
                                                         tt,
-                                                        (tt, (tt, (tt, (tt, (tt, (tt, (tt, (tt, (tt, (tt, (tt, (tt, (tt, (tt, (tt, (tt, (tt, (tt, (tt, (tt, (tt, (tt, (tt, (tt, (tt, (tt, (tt, tt))))))))))))))))))))))))))),
+                                                        (
+                                                          tt,
+                                                          (tt, (tt, (tt, (tt, (tt, (tt, (tt, (tt, (tt, (tt, (tt, (tt, (tt, (tt, (tt, (tt, (tt, (tt, (tt, (tt, (tt, (tt, (tt, (tt, (tt, (tt, (tt, tt))))))))))))))))))))))))))),
+                                                        ),
                                                       ),
                                                     ),
                                                   ),
@@ -5267,26 +5410,26 @@ module _ (claims· : Claims) where
               ),
             ),
           ))
-              d83
+              d85
 
-          d85 : Typed.Typed 𝓤 H A 𝓣 E G62 b73 Δ3 at85
-          d85 = Typed.s-seq 𝓤 H A W 𝓣 E G62 G63 b27 b72 Δ3 (Typed.ask s59) at84 (Relend.t-sl-aggregate 𝓤 H A W E (Referent.rtF (Referent.fInt Syntax.w16)) 𝓣 (Relend.asMut (Referent.rtF (Referent.fInt
-              Syntax.w16))) G62 33 34 10 (Syntax.tyRef Syntax.erased Syntax.mut (Syntax.tyInt Syntax.w16)) (Syntax.tyRef Syntax.erased Syntax.mut (Syntax.tyInt Syntax.w16)) (λ x. x) (Scalar.oFld 3
+          d87 : Typed.Typed 𝓤 H A 𝓣 E G63 b73 Δ3 at87
+          d87 = Typed.s-seq 𝓤 H A W 𝓣 E G63 G64 b27 b72 Δ3 (Typed.ask s60) at86 (Relend.t-sl-aggregate 𝓤 H A W E (Referent.rtF (Referent.fInt Syntax.w16)) 𝓣 (Relend.asMut (Referent.rtF (Referent.fInt
+              Syntax.w16))) G63 34 35 10 (Syntax.tyRef Syntax.erased Syntax.mut (Syntax.tyInt Syntax.w16)) (Syntax.tyRef Syntax.erased Syntax.mut (Syntax.tyInt Syntax.w16)) (λ x. x) (Scalar.oFld 3
               (List._∷_ (Syntax.field 1) List.[]) (Syntax.tyInt Syntax.w64) 8 λ v. Shared.lenV (v .0)) (Reads'.as-is 𝓤 H A (Relend.msptr (Referent.rtF (Referent.fInt Syntax.w16)) (Syntax.tyRef
-              Syntax.erased Syntax.mut (Syntax.tyInt Syntax.w16)) 10)) (Reads'.room-gone 𝓤 H A y4) (
+              Syntax.erased Syntax.mut (Syntax.tyInt Syntax.w16)) 10)) (Reads'.room-gone 𝓤 H A y5) (
                 Relend.reads-owed-len 𝓤 H A W (Referent.rtF (Referent.fInt Syntax.w16)) (Syntax.tyRef (Syntax.named 2) Syntax.mut (Syntax.tyInt Syntax.w16)) 2 10 (Row.lease (κs .1 .1 .0) (qs .1 .1 .0)) 8
                     Path'.refl,
                 Path'.refl,
-              ) Path'.refl Path'.refl λ b o k. tt) d84
+              ) Path'.refl Path'.refl λ b o k. tt) d86
 
-          d86 : Typed.Typed 𝓤 H A 𝓣 E G61 b74 Δ3 at86
-          d86 = Typed.s-seq 𝓤 H A W 𝓣 E G61 G62 b26 b73 Δ3 (Typed.give s58) at85 (Relend.t-sl-relend 𝓤 H A W E (Referent.rtF (Referent.fInt Syntax.w16)) 𝓣 G61 3 33 2 10 (Syntax.tyRef (Syntax.named 2)
+          d88 : Typed.Typed 𝓤 H A 𝓣 E G62 b74 Δ3 at88
+          d88 = Typed.s-seq 𝓤 H A W 𝓣 E G62 G63 b26 b73 Δ3 (Typed.give s59) at87 (Relend.t-sl-relend 𝓤 H A W E (Referent.rtF (Referent.fInt Syntax.w16)) 𝓣 G62 3 34 2 10 (Syntax.tyRef (Syntax.named 2)
               Syntax.mut (Syntax.tyInt Syntax.w16)) (Syntax.tyRef Syntax.erased Syntax.mut (Syntax.tyInt Syntax.w16)) (Row.lease (κs .1 .1 .0) (qs .1 .1 .0)) 0 (λ x. x) (Reads'.as-is 𝓤 H A (Mut.mslice
               (Referent.rtF (Referent.fInt Syntax.w16)) (Syntax.tyRef (Syntax.named 2) Syntax.mut (Syntax.tyInt Syntax.w16)) 2)) (Reads'.room-gone 𝓤 H A (Syntax.tyRef Syntax.erased Syntax.mut
-              (Syntax.tyInt Syntax.w16))) Path'.refl tt Path'.refl Path'.refl Path'.refl λ b o. tt) d85
+              (Syntax.tyInt Syntax.w16))) Path'.refl tt Path'.refl Path'.refl Path'.refl λ b o. tt) d87
 
-          d87 : Typed.Typed 𝓤 H A 𝓣 E G60 b74 Δ3 at87
-          d87 = Typed.g-pre 𝓤 H A W 𝓣 E G60 G61 b74 Δ3 (λ Ψ. Ψ) at86 (Lifetime.g-begin 𝓤 H A W E G60 10 (
+          d89 : Typed.Typed 𝓤 H A 𝓣 E G61 b74 Δ3 at89
+          d89 = Typed.g-pre 𝓤 H A W 𝓣 E G61 G62 b74 Δ3 (λ Ψ. Ψ) at88 (Lifetime.g-begin 𝓤 H A W E G61 10 (
             tt,
             (
               tt,
@@ -5332,7 +5475,10 @@ module _ (claims· : Claims) where
                                                       tt,
                                                       (
                                                         tt,
-                                                        (tt, (tt, (tt, (tt, (tt, (tt, (tt, (tt, (tt, (tt, (tt, (tt, (tt, (tt, (tt, (tt, (tt, (tt, (tt, (tt, (tt, (tt, (tt, (tt, (tt, (tt, (tt, tt))))))))))))))))))))))))))),
+                                                        (
+                                                          tt,
+                                                          (tt, (tt, (tt, (tt, (tt, (tt, (tt, (tt, (tt, (tt, (tt, (tt, (tt, (tt, (tt, (tt, (tt, (tt, (tt, (tt, (tt, (tt, (tt, (tt, (tt, (tt, (tt, tt))))))))))))))))))))))))))),
+                                                        ),
                                                       ),
                                                     ),
                                                   ),
@@ -5356,64 +5502,64 @@ module _ (claims· : Claims) where
               ),
             ),
           ))
-              d86
+              d88
 
-          d88 : Typed.Typed 𝓤 H A 𝓣 E G59 b74 Δ3 at88
-          d88 = Typed.g-pre 𝓤 H A W 𝓣 E G59 G60 b74 Δ3 (λ Ψ. Ψ) at87 (Lifetime.g-forget 𝓤 H A W E G59 9 Row.dead Path'.refl) d87
+          d90 : Typed.Typed 𝓤 H A 𝓣 E G60 b74 Δ3 at90
+          d90 = Typed.g-pre 𝓤 H A W 𝓣 E G60 G61 b74 Δ3 (λ Ψ. Ψ) at89 (Lifetime.g-forget 𝓤 H A W E G60 9 Row.dead Path'.refl) d89
 
-          d89 : Typed.Typed 𝓤 H A 𝓣 E G58 b74 Δ3 at89
-          d89 = Typed.g-pre 𝓤 H A W 𝓣 E G58 G59 b74 Δ3 (Typed.both s55) at88 (Relend.g-back-sl 𝓤 H A W E (Element.type) G58 32 4 3 9 (Syntax.tyRef (Syntax.named 3) Syntax.mut Element.behind)
+          d91 : Typed.Typed 𝓤 H A 𝓣 E G59 b74 Δ3 at91
+          d91 = Typed.g-pre 𝓤 H A W 𝓣 E G59 G60 b74 Δ3 (Typed.both s56) at90 (Relend.g-back-sl 𝓤 H A W E (Element.type) G59 33 4 3 9 (Syntax.tyRef (Syntax.named 3) Syntax.mut Element.behind)
               (Syntax.tyRef Syntax.erased Syntax.mut Element.behind) (Row.lease (κs .1 .1 .1 .0) (qs .1 .1 .1 .0)) (λ x. x) (λ x. x) (Reads'.as-is 𝓤 H A (Mut.msleft (Element.type) (Syntax.tyRef
               Syntax.erased Syntax.mut Element.behind))) (Reads'.as-is 𝓤 H A (Relend.mslice-owed (Element.type) (Syntax.tyRef (Syntax.named 3) Syntax.mut Element.behind) 3 9 (Row.lease (κs .1 .1 .1 .0)
-              (qs .1 .1 .1 .0)))) Path'.refl Path'.refl) d88
+              (qs .1 .1 .1 .0)))) Path'.refl Path'.refl) d90
 
-          d90 : Typed.Typed 𝓤 H A 𝓣 E G57 b74 Δ3 at90
-          d90 = Typed.g-pre 𝓤 H A W 𝓣 E G57 G58 b74 Δ3 (λ Ψ. Ψ) at89 (Lifetime.g-end 𝓤 H A W E G57 9 Path'.refl) d89
+          d92 : Typed.Typed 𝓤 H A 𝓣 E G58 b74 Δ3 at92
+          d92 = Typed.g-pre 𝓤 H A W 𝓣 E G58 G59 b74 Δ3 (λ Ψ. Ψ) at91 (Lifetime.g-end 𝓤 H A W E G58 9 Path'.refl) d91
 
-          d91 : Typed.Typed 𝓤 H A 𝓣 E G56 b74 Δ3 at91
-          d91 = Typed.g-pre 𝓤 H A W 𝓣 E G56 G57 b74 Δ3 (Typed.pass T56 T57 s53) at90 (Scalar.g-room 𝓤 H A W E G56 28 Syntax.tyUnit (Scalar.room-sc 𝓤 H A W Row.sUnit)) d90
+          d93 : Typed.Typed 𝓤 H A 𝓣 E G57 b74 Δ3 at93
+          d93 = Typed.g-pre 𝓤 H A W 𝓣 E G57 G58 b74 Δ3 (Typed.pass T57 T58 s54) at92 (Scalar.g-room 𝓤 H A W E G57 29 Syntax.tyUnit (Scalar.room-sc 𝓤 H A W Row.sUnit)) d92
 
-          d92 : Typed.Typed 𝓤 H A 𝓣 E G55 b74 Δ3 at92
-          d92 = Typed.g-pre 𝓤 H A W 𝓣 E G55 G56 b74 Δ3 (Typed.pass T55 T56 s52) at91 (Scalar.g-room 𝓤 H A W E G55 27 Syntax.tyBool (Scalar.room-sc 𝓤 H A W Row.sBool)) d91
+          d94 : Typed.Typed 𝓤 H A 𝓣 E G56 b74 Δ3 at94
+          d94 = Typed.g-pre 𝓤 H A W 𝓣 E G56 G57 b74 Δ3 (Typed.pass T56 T57 s53) at93 (Scalar.g-room 𝓤 H A W E G56 28 Syntax.tyBool (Scalar.room-sc 𝓤 H A W Row.sBool)) d93
 
-          d93 : Typed.Typed 𝓤 H A 𝓣 E G54 b75 Δ3 at93
-          d93 = Typed.s-seq 𝓤 H A W 𝓣 E G54 G55 b25 b74 Δ3 (Typed.both s51) at92 (Plain.t-call-plain 𝓤 H A W 𝓣 1 ps·8 r·8 (claims· .16) (claims· .17) "block::records::restart" (known .8) E (λ pos β.
-              β) G54 (record { pos = 32; ty = Syntax.tyRef Syntax.erased Syntax.mut Element.behind; ref = λ x. x }, (Num.vAt 12 λ x. x, (Num.vAt 18 λ x. x, (Bool.bAt 27 λ x. x, tt)))) 28 (List._∷_ 9
-              List.[]) (Call.sub-id 𝓤 H A W (G54 .slots)) (
+          d95 : Typed.Typed 𝓤 H A 𝓣 E G55 b75 Δ3 at95
+          d95 = Typed.s-seq 𝓤 H A W 𝓣 E G55 G56 b25 b74 Δ3 (Typed.both s52) at94 (Plain.t-call-plain 𝓤 H A W 𝓣 1 ps·8 r·8 (claims· .16) (claims· .17) "block::records::restart" (known .8) E (λ pos β.
+              β) G55 (record { pos = 33; ty = Syntax.tyRef Syntax.erased Syntax.mut Element.behind; ref = λ x. x }, (Num.vAt 13 λ x. x, (Num.vAt 19 λ x. x, (Bool.bAt 28 λ x. x, tt)))) 29 (List._∷_ 9
+              List.[]) (Call.sub-id 𝓤 H A W (G55 .slots)) (
                 Reads'.as-is 𝓤 H A (Mut.mslice (Element.type) (Syntax.tyRef Syntax.erased Syntax.mut Element.behind) 9),
                 Mut.reads-mslice 𝓤 H A W (Element.type) (Syntax.tyRef Syntax.erased Syntax.mut
                     Element.behind) 9,
                 Path'.refl,
                 ((Scalar.reads-sc 𝓤 H A W (Row.sInt Syntax.w32), Path'.refl), ((Scalar.reads-sc 𝓤 H A W (Row.sInt Syntax.w32), Path'.refl), ((Scalar.reads-sc 𝓤 H A W Row.sBool, Path'.refl), tt))),
               )
-              (Reads'.room-gone 𝓤 H A Syntax.tyUnit) (tt, tt) Path'.refl) d92
+              (Reads'.room-gone 𝓤 H A Syntax.tyUnit) (tt, tt) Path'.refl) d94
 
-          d94 : Typed.Typed 𝓤 H A 𝓣 E G53 b76 Δ3 at94
-          d94 = Typed.s-seq 𝓤 H A W 𝓣 E G53 G54 b24 b75 Δ3 (Typed.both s50) at93 (Plain.t-call-plain 𝓤 H A W 𝓣 1 ps·7 r·7 (claims· .14) (claims· .15) "block::reading::is_restarted" (known .7) E (λ pos
-              β. β) G53 (record { pos = 2; ty = Syntax.tyRef (Syntax.named 1) Syntax.imm (Syntax.tyInt Syntax.w8); ref = λ x. x }, (Num.vAt 17 λ x. x, tt)) 27 (List._∷_ 1 List.[]) (Call.sub-id 𝓤 H A W
-              (G53 .slots)) (
+          d96 : Typed.Typed 𝓤 H A 𝓣 E G54 b76 Δ3 at96
+          d96 = Typed.s-seq 𝓤 H A W 𝓣 E G54 G55 b24 b75 Δ3 (Typed.both s51) at95 (Plain.t-call-plain 𝓤 H A W 𝓣 1 ps·7 r·7 (claims· .14) (claims· .15) "block::reading::is_restarted" (known .7) E (λ pos
+              β. β) G54 (record { pos = 2; ty = Syntax.tyRef (Syntax.named 1) Syntax.imm (Syntax.tyInt Syntax.w8); ref = λ x. x }, (Num.vAt 18 λ x. x, tt)) 28 (List._∷_ 1 List.[]) (Call.sub-id 𝓤 H A W
+              (G54 .slots)) (
                 ShrSlice.spares-sslice 𝓤 H A W (Referent.rtF (Referent.fInt Syntax.w8)) (Syntax.tyRef (Syntax.named 1) Syntax.imm (Syntax.tyInt Syntax.w8)) 1,
                 Shared.reads-sslice 𝓤 H A W (Referent.rtF
                     (Referent.fInt Syntax.w8)) (Syntax.tyRef (Syntax.named 1) Syntax.imm (Syntax.tyInt Syntax.w8)) 1,
                 Path'.refl,
                 ((Scalar.reads-sc 𝓤 H A W (Row.sInt Syntax.w64), Path'.refl), tt),
               )
-              (Reads'.room-gone 𝓤 H A Syntax.tyBool) (tt, tt) Path'.refl) d93
+              (Reads'.room-gone 𝓤 H A Syntax.tyBool) (tt, tt) Path'.refl) d95
 
-          d95 : Typed.Typed 𝓤 H A 𝓣 E G52 b77 Δ3 at95
-          d95 = Typed.s-seq 𝓤 H A W 𝓣 E G52 G53 b23 b76 Δ3 (Typed.ask s49) at94 (Relend.t-sl-aggregate 𝓤 H A W E (Element.type) 𝓣 (Relend.asMut (Element.type)) G52 31 32 9 (Syntax.tyRef Syntax.erased
+          d97 : Typed.Typed 𝓤 H A 𝓣 E G53 b77 Δ3 at97
+          d97 = Typed.s-seq 𝓤 H A W 𝓣 E G53 G54 b23 b76 Δ3 (Typed.ask s50) at96 (Relend.t-sl-aggregate 𝓤 H A W E (Element.type) 𝓣 (Relend.asMut (Element.type)) G53 32 33 9 (Syntax.tyRef Syntax.erased
               Syntax.mut Element.behind) (Syntax.tyRef Syntax.erased Syntax.mut Element.behind) (λ x. x) (Scalar.oFld 4 (List._∷_ (Syntax.field 1) List.[]) (Syntax.tyInt Syntax.w64) 8 λ v. Shared.lenV (v
-              .0)) (Reads'.as-is 𝓤 H A (Relend.msptr (Element.type) (Syntax.tyRef Syntax.erased Syntax.mut Element.behind) 9)) (Reads'.room-gone 𝓤 H A y5)
+              .0)) (Reads'.as-is 𝓤 H A (Relend.msptr (Element.type) (Syntax.tyRef Syntax.erased Syntax.mut Element.behind) 9)) (Reads'.room-gone 𝓤 H A y6)
               (Relend.reads-owed-len 𝓤 H A W (Element.type) (Syntax.tyRef (Syntax.named 3) Syntax.mut Element.behind) 3 9 (Row.lease (κs .1 .1 .1 .0) (qs .1 .1 .1 .0)) 8 Path'.refl, Path'.refl) Path'.refl
-              Path'.refl λ b o k. tt) d94
+              Path'.refl λ b o k. tt) d96
 
-          d96 : Typed.Typed 𝓤 H A 𝓣 E G51 b78 Δ3 at96
-          d96 = Typed.s-seq 𝓤 H A W 𝓣 E G51 G52 b22 b77 Δ3 (Typed.give s48) at95 (Relend.t-sl-relend 𝓤 H A W E (Element.type) 𝓣 G51 4 31 3 9 (Syntax.tyRef (Syntax.named 3) Syntax.mut Element.behind)
+          d98 : Typed.Typed 𝓤 H A 𝓣 E G52 b78 Δ3 at98
+          d98 = Typed.s-seq 𝓤 H A W 𝓣 E G52 G53 b22 b77 Δ3 (Typed.give s49) at97 (Relend.t-sl-relend 𝓤 H A W E (Element.type) 𝓣 G52 4 32 3 9 (Syntax.tyRef (Syntax.named 3) Syntax.mut Element.behind)
               (Syntax.tyRef Syntax.erased Syntax.mut Element.behind) (Row.lease (κs .1 .1 .1 .0) (qs .1 .1 .1 .0)) 0 (λ x. x) (Reads'.as-is 𝓤 H A (Mut.mslice (Element.type) (Syntax.tyRef (Syntax.named 3)
-              Syntax.mut Element.behind) 3)) (Reads'.room-gone 𝓤 H A (Syntax.tyRef Syntax.erased Syntax.mut Element.behind)) Path'.refl tt Path'.refl Path'.refl Path'.refl λ b o. tt) d95
+              Syntax.mut Element.behind) 3)) (Reads'.room-gone 𝓤 H A (Syntax.tyRef Syntax.erased Syntax.mut Element.behind)) Path'.refl tt Path'.refl Path'.refl Path'.refl λ b o. tt) d97
 
-          d97 : Typed.Typed 𝓤 H A 𝓣 E G50 b78 Δ3 at97
-          d97 = Typed.g-pre 𝓤 H A W 𝓣 E G50 G51 b78 Δ3 (λ Ψ. Ψ) at96 (Lifetime.g-begin 𝓤 H A W E G50 9 (
+          d99 : Typed.Typed 𝓤 H A 𝓣 E G51 b78 Δ3 at99
+          d99 = Typed.g-pre 𝓤 H A W 𝓣 E G51 G52 b78 Δ3 (λ Ψ. Ψ) at98 (Lifetime.g-begin 𝓤 H A W E G51 9 (
             tt,
             (
               tt,
@@ -5459,7 +5605,10 @@ module _ (claims· : Claims) where
                                                       tt,
                                                       (
                                                         tt,
-                                                        (tt, (tt, (tt, (tt, (tt, (tt, (tt, (tt, (tt, (tt, (tt, (tt, (tt, (tt, (tt, (tt, (tt, (tt, (tt, (tt, (tt, (tt, (tt, (tt, (tt, (tt, (tt, tt))))))))))))))))))))))))))),
+                                                        (
+                                                          tt,
+                                                          (tt, (tt, (tt, (tt, (tt, (tt, (tt, (tt, (tt, (tt, (tt, (tt, (tt, (tt, (tt, (tt, (tt, (tt, (tt, (tt, (tt, (tt, (tt, (tt, (tt, (tt, (tt, tt))))))))))))))))))))))))))),
+                                                        ),
                                                       ),
                                                     ),
                                                   ),
@@ -5483,11 +5632,11 @@ module _ (claims· : Claims) where
               ),
             ),
           ))
-              d96
+              d98
 
-          d98 : Typed.Typed 𝓤 H A 𝓣 E G49 b79 Δ3 at98
-          d98 = Typed.s-seq 𝓤 H A W 𝓣 E G49 G50 b21 b78 Δ3 (Typed.both s46) at97 (Plain.t-call-plain 𝓤 H A W 𝓣 1 ps·2 r·2 (claims· .4) (claims· .5) "block::reading::base_of" (known .2) E (λ pos β. β)
-              G49 (record { pos = 2; ty = Syntax.tyRef (Syntax.named 1) Syntax.imm (Syntax.tyInt Syntax.w8); ref = λ x. x }, (Num.vAt 17 λ x. x, tt)) 18 (List._∷_ 1 List.[]) (Call.sub-id 𝓤 H A W (G49
+          d100 : Typed.Typed 𝓤 H A 𝓣 E G50 b79 Δ3 at100
+          d100 = Typed.s-seq 𝓤 H A W 𝓣 E G50 G51 b21 b78 Δ3 (Typed.both s47) at99 (Plain.t-call-plain 𝓤 H A W 𝓣 1 ps·2 r·2 (claims· .4) (claims· .5) "cameras::base_of" (known .2) E (λ pos β. β) G50
+              (record { pos = 2; ty = Syntax.tyRef (Syntax.named 1) Syntax.imm (Syntax.tyInt Syntax.w8); ref = λ x. x }, (Num.vAt 18 λ x. x, tt)) 19 (List._∷_ 1 List.[]) (Call.sub-id 𝓤 H A W (G50
               .slots)) (
                 ShrSlice.spares-sslice 𝓤 H A W (Referent.rtF (Referent.fInt Syntax.w8)) (Syntax.tyRef (Syntax.named 1) Syntax.imm (Syntax.tyInt Syntax.w8)) 1,
                 Shared.reads-sslice 𝓤 H A W (Referent.rtF
@@ -5495,65 +5644,65 @@ module _ (claims· : Claims) where
                 Path'.refl,
                 ((Scalar.reads-sc 𝓤 H A W (Row.sInt Syntax.w64), Path'.refl), tt),
               )
-              (Reads'.room-gone 𝓤 H A (Syntax.tyInt Syntax.w32)) (tt, tt) Path'.refl) d97
+              (Reads'.room-gone 𝓤 H A (Syntax.tyInt Syntax.w32)) (tt, tt) Path'.refl) d99
 
-          d99 : Typed.Typed 𝓤 H A 𝓣 E G48 b79 Δ3 at99
-          d99 = Typed.g-pre 𝓤 H A W 𝓣 E G48 G49 b79 Δ3 (λ Ψ. Ψ) at98 (Lifetime.g-forget 𝓤 H A W E G48 8 Row.dead Path'.refl) d98
+          d101 : Typed.Typed 𝓤 H A 𝓣 E G49 b79 Δ3 at101
+          d101 = Typed.g-pre 𝓤 H A W 𝓣 E G49 G50 b79 Δ3 (λ Ψ. Ψ) at100 (Lifetime.g-forget 𝓤 H A W E G49 8 Row.dead Path'.refl) d100
 
-          d100 : Typed.Typed 𝓤 H A 𝓣 E G47 b79 Δ3 at100
-          d100 = Typed.g-pre 𝓤 H A W 𝓣 E G47 G48 b79 Δ3 (Typed.give s44) at99 (Know.g-sl-known 𝓤 H A W (Referent.fInt Syntax.w16) E G47 3 2 (Syntax.tyRef (Syntax.named 2) Syntax.mut (Syntax.tyInt
+          d102 : Typed.Typed 𝓤 H A 𝓣 E G48 b79 Δ3 at102
+          d102 = Typed.g-pre 𝓤 H A W 𝓣 E G48 G49 b79 Δ3 (Typed.give s45) at101 (Know.g-sl-known 𝓤 H A W (Referent.fInt Syntax.w16) E G48 3 2 (Syntax.tyRef (Syntax.named 2) Syntax.mut (Syntax.tyInt
               Syntax.w16)) (Row.lease (κs .1 .1 .0) (qs .1 .1 .0)) 0 (λ x. x) record { fits = Dec'.lit< tt } (Reads'.as-is 𝓤 H A (Mut.mslice (Referent.rtF (Referent.fInt Syntax.w16)) (Syntax.tyRef
-              (Syntax.named 2) Syntax.mut (Syntax.tyInt Syntax.w16)) 2)) Path'.refl tt) d99
+              (Syntax.named 2) Syntax.mut (Syntax.tyInt Syntax.w16)) 2)) Path'.refl tt) d101
 
-          d101 : Typed.Typed 𝓤 H A 𝓣 E G46 b79 Δ3 at101
-          d101 = Typed.g-pre 𝓤 H A W 𝓣 E G46 G47 b79 Δ3 (Typed.both s43) at100 (Relend.g-back-sl 𝓤 H A W E (Referent.rtF (Referent.fInt Syntax.w16)) G46 30 3 2 8 (Syntax.tyRef (Syntax.named 2)
+          d103 : Typed.Typed 𝓤 H A 𝓣 E G47 b79 Δ3 at103
+          d103 = Typed.g-pre 𝓤 H A W 𝓣 E G47 G48 b79 Δ3 (Typed.both s44) at102 (Relend.g-back-sl 𝓤 H A W E (Referent.rtF (Referent.fInt Syntax.w16)) G47 31 3 2 8 (Syntax.tyRef (Syntax.named 2)
               Syntax.mut (Syntax.tyInt Syntax.w16)) (Syntax.tyRef Syntax.erased Syntax.mut (Syntax.tyInt Syntax.w16)) (Row.lease (κs .1 .1 .0) (qs .1 .1 .0)) (λ x. x) (λ x. x) (Reads'.as-is 𝓤 H A
               (Mut.msleft (Referent.rtF (Referent.fInt Syntax.w16)) (Syntax.tyRef Syntax.erased Syntax.mut (Syntax.tyInt Syntax.w16)))) (Reads'.as-is 𝓤 H A (Relend.mslice-owed (Referent.rtF (Referent.fInt
-              Syntax.w16)) (Syntax.tyRef (Syntax.named 2) Syntax.mut (Syntax.tyInt Syntax.w16)) 2 8 (Row.lease (κs .1 .1 .0) (qs .1 .1 .0)))) Path'.refl Path'.refl) d100
+              Syntax.w16)) (Syntax.tyRef (Syntax.named 2) Syntax.mut (Syntax.tyInt Syntax.w16)) 2 8 (Row.lease (κs .1 .1 .0) (qs .1 .1 .0)))) Path'.refl Path'.refl) d102
 
-          d102 : Typed.Typed 𝓤 H A 𝓣 E G45 b79 Δ3 at102
-          d102 = Typed.g-pre 𝓤 H A W 𝓣 E G45 G46 b79 Δ3 (λ Ψ. Ψ) at101 (Lifetime.g-end 𝓤 H A W E G45 8 Path'.refl) d101
+          d104 : Typed.Typed 𝓤 H A 𝓣 E G46 b79 Δ3 at104
+          d104 = Typed.g-pre 𝓤 H A W 𝓣 E G46 G47 b79 Δ3 (λ Ψ. Ψ) at103 (Lifetime.g-end 𝓤 H A W E G46 8 Path'.refl) d103
 
-          d103 : Typed.Typed 𝓤 H A 𝓣 E G44 b79 Δ3 at103
-          d103 = Typed.g-pre 𝓤 H A W 𝓣 E G44 G45 b79 Δ3 (Typed.pass T44 T45 s41) at102 (Scalar.g-room 𝓤 H A W E G44 28 Syntax.tyUnit (Scalar.room-sc 𝓤 H A W Row.sUnit)) d102
+          d105 : Typed.Typed 𝓤 H A 𝓣 E G45 b79 Δ3 at105
+          d105 = Typed.g-pre 𝓤 H A W 𝓣 E G45 G46 b79 Δ3 (Typed.pass T45 T46 s42) at104 (Scalar.g-room 𝓤 H A W E G45 29 Syntax.tyUnit (Scalar.room-sc 𝓤 H A W Row.sUnit)) d104
 
-          d104 : Typed.Typed 𝓤 H A 𝓣 E G43 b79 Δ3 at104
-          d104 = Typed.g-pre 𝓤 H A W 𝓣 E G43 G44 b79 Δ3 (Typed.pass T43 T44 s40) at103 (Scalar.g-room 𝓤 H A W E G43 27 Syntax.tyBool (Scalar.room-sc 𝓤 H A W Row.sBool)) d103
+          d106 : Typed.Typed 𝓤 H A 𝓣 E G44 b79 Δ3 at106
+          d106 = Typed.g-pre 𝓤 H A W 𝓣 E G44 G45 b79 Δ3 (Typed.pass T44 T45 s41) at105 (Scalar.g-room 𝓤 H A W E G44 28 Syntax.tyBool (Scalar.room-sc 𝓤 H A W Row.sBool)) d105
 
-          d105 : Typed.Typed 𝓤 H A 𝓣 E G42 b80 Δ3 at105
-          d105 = Typed.s-seq 𝓤 H A W 𝓣 E G42 G43 b20 b79 Δ3 (Typed.both s39) at104 (Plain.t-call-plain 𝓤 H A W 𝓣 1 ps·6 r·6 (claims· .12) (claims· .13) "lines::turn_if" (known .6) E (λ pos β. β) G42
-              (record { pos = 30; ty = Syntax.tyRef Syntax.erased Syntax.mut (Syntax.tyInt Syntax.w16); ref = λ x. x }, (Num.vAt 14 λ x. x, (Bool.bAt 27 λ x. x, tt))) 28 (List._∷_ 8 List.[]) (Call.sub-id
-              𝓤 H A W (G42 .slots)) (
+          d107 : Typed.Typed 𝓤 H A 𝓣 E G43 b80 Δ3 at107
+          d107 = Typed.s-seq 𝓤 H A W 𝓣 E G43 G44 b20 b79 Δ3 (Typed.both s40) at106 (Plain.t-call-plain 𝓤 H A W 𝓣 1 ps·6 r·6 (claims· .12) (claims· .13) "lines::turn_if" (known .6) E (λ pos β. β) G43
+              (record { pos = 31; ty = Syntax.tyRef Syntax.erased Syntax.mut (Syntax.tyInt Syntax.w16); ref = λ x. x }, (Num.vAt 15 λ x. x, (Bool.bAt 28 λ x. x, tt))) 29 (List._∷_ 8 List.[]) (Call.sub-id
+              𝓤 H A W (G43 .slots)) (
                 Reads'.as-is 𝓤 H A (Mut.mslice (Referent.rtF (Referent.fInt Syntax.w16)) (Syntax.tyRef Syntax.erased Syntax.mut (Syntax.tyInt Syntax.w16)) 8),
                 Mut.reads-mslice 𝓤 H A W (Referent.rtF
                     (Referent.fInt Syntax.w16)) (Syntax.tyRef Syntax.erased Syntax.mut (Syntax.tyInt Syntax.w16)) 8,
                 Path'.refl,
                 ((Scalar.reads-sc 𝓤 H A W (Row.sInt Syntax.w64), Path'.refl), ((Scalar.reads-sc 𝓤 H A W Row.sBool, Path'.refl), tt)),
-              ) (Reads'.room-gone 𝓤 H A Syntax.tyUnit) (tt, tt) Path'.refl) d104
+              ) (Reads'.room-gone 𝓤 H A Syntax.tyUnit) (tt, tt) Path'.refl) d106
 
-          d106 : Typed.Typed 𝓤 H A 𝓣 E G41 b81 Δ3 at106
-          d106 = Typed.s-seq 𝓤 H A W 𝓣 E G41 G42 b19 b80 Δ3 (Typed.ask s38) at105 (Scalar.t-op1 𝓤 H A W E 𝓣 G41 Syntax.bitNot (Scalar.oAt 11 Syntax.tyBool (Row.valS Row.sBool)) 27 (Rows'.sc-here
+          d108 : Typed.Typed 𝓤 H A 𝓣 E G42 b81 Δ3 at108
+          d108 = Typed.s-seq 𝓤 H A W 𝓣 E G42 G43 b19 b80 Δ3 (Typed.ask s39) at107 (Scalar.t-op1 𝓤 H A W E 𝓣 G42 Syntax.bitNot (Scalar.oAt 11 Syntax.tyBool (Row.valS Row.sBool)) 28 (Rows'.sc-here
               Row.sBool) Syntax.tyBool (Row.valS Row.sBool) (Row.sBool .of) (Scalar.reads-sc 𝓤 H A W Row.sBool, Path'.refl) (Reads'.room-gone 𝓤 H A Syntax.tyBool) (Scalar.holds-sc 𝓤 H A W Row.sBool)
-              Path'.refl (λ u. Path'.refl) λ u. tt) d105
+              Path'.refl (λ u. Path'.refl) λ u. tt) d107
 
-          d107 : Typed.Typed 𝓤 H A 𝓣 E G40 b82 Δ3 at107
-          d107 = Typed.s-seq 𝓤 H A W 𝓣 E G40 G41 b18 b81 Δ3 (Typed.ask s37) at106 (Relend.t-sl-aggregate 𝓤 H A W E (Referent.rtF (Referent.fInt Syntax.w16)) 𝓣 (Relend.asMut (Referent.rtF
-              (Referent.fInt Syntax.w16))) G40 29 30 8 (Syntax.tyRef Syntax.erased Syntax.mut (Syntax.tyInt Syntax.w16)) (Syntax.tyRef Syntax.erased Syntax.mut (Syntax.tyInt Syntax.w16)) (λ x. x)
+          d109 : Typed.Typed 𝓤 H A 𝓣 E G41 b82 Δ3 at109
+          d109 = Typed.s-seq 𝓤 H A W 𝓣 E G41 G42 b18 b81 Δ3 (Typed.ask s38) at108 (Relend.t-sl-aggregate 𝓤 H A W E (Referent.rtF (Referent.fInt Syntax.w16)) 𝓣 (Relend.asMut (Referent.rtF
+              (Referent.fInt Syntax.w16))) G41 30 31 8 (Syntax.tyRef Syntax.erased Syntax.mut (Syntax.tyInt Syntax.w16)) (Syntax.tyRef Syntax.erased Syntax.mut (Syntax.tyInt Syntax.w16)) (λ x. x)
               (Scalar.oFld 3 (List._∷_ (Syntax.field 1) List.[]) (Syntax.tyInt Syntax.w64) 8 λ v. Shared.lenV (v .0)) (Reads'.as-is 𝓤 H A (Relend.msptr (Referent.rtF (Referent.fInt Syntax.w16))
-              (Syntax.tyRef Syntax.erased Syntax.mut (Syntax.tyInt Syntax.w16)) 8)) (Reads'.room-gone 𝓤 H A y4) (
+              (Syntax.tyRef Syntax.erased Syntax.mut (Syntax.tyInt Syntax.w16)) 8)) (Reads'.room-gone 𝓤 H A y5) (
                 Relend.reads-owed-len 𝓤 H A W (Referent.rtF (Referent.fInt Syntax.w16)) (Syntax.tyRef (Syntax.named 2) Syntax.mut (Syntax.tyInt Syntax.w16)) 2 8 (Row.lease (κs .1 .1 .0) (qs .1 .1 .0)) 8
                     Path'.refl,
                 Path'.refl,
-              ) Path'.refl Path'.refl λ b o k. tt) d106
+              ) Path'.refl Path'.refl λ b o k. tt) d108
 
-          d108 : Typed.Typed 𝓤 H A 𝓣 E G39 b83 Δ3 at108
-          d108 = Typed.s-seq 𝓤 H A W 𝓣 E G39 G40 b17 b82 Δ3 (Typed.give s36) at107 (Relend.t-sl-relend 𝓤 H A W E (Referent.rtF (Referent.fInt Syntax.w16)) 𝓣 G39 3 29 2 8 (Syntax.tyRef (Syntax.named 2)
+          d110 : Typed.Typed 𝓤 H A 𝓣 E G40 b83 Δ3 at110
+          d110 = Typed.s-seq 𝓤 H A W 𝓣 E G40 G41 b17 b82 Δ3 (Typed.give s37) at109 (Relend.t-sl-relend 𝓤 H A W E (Referent.rtF (Referent.fInt Syntax.w16)) 𝓣 G40 3 30 2 8 (Syntax.tyRef (Syntax.named 2)
               Syntax.mut (Syntax.tyInt Syntax.w16)) (Syntax.tyRef Syntax.erased Syntax.mut (Syntax.tyInt Syntax.w16)) (Row.lease (κs .1 .1 .0) (qs .1 .1 .0)) 0 (λ x. x) (Reads'.as-is 𝓤 H A (Mut.mslice
               (Referent.rtF (Referent.fInt Syntax.w16)) (Syntax.tyRef (Syntax.named 2) Syntax.mut (Syntax.tyInt Syntax.w16)) 2)) (Reads'.room-gone 𝓤 H A (Syntax.tyRef Syntax.erased Syntax.mut
-              (Syntax.tyInt Syntax.w16))) Path'.refl tt Path'.refl Path'.refl Path'.refl λ b o. tt) d107
+              (Syntax.tyInt Syntax.w16))) Path'.refl tt Path'.refl Path'.refl Path'.refl λ b o. tt) d109
 
-          d109 : Typed.Typed 𝓤 H A 𝓣 E G33 b83 Δ3 at109
-          d109 = Typed.g-pre 𝓤 H A W 𝓣 E G33 G39 b83 Δ3 (λ Ψ. Ψ) at108 (Lifetime.g-begin 𝓤 H A W E G33 8 (
+          d111 : Typed.Typed 𝓤 H A 𝓣 E G33 b83 Δ3 at111
+          d111 = Typed.g-pre 𝓤 H A W 𝓣 E G33 G40 b83 Δ3 (λ Ψ. Ψ) at110 (Lifetime.g-begin 𝓤 H A W E G33 8 (
             tt,
             (
               tt,
@@ -5599,7 +5748,10 @@ module _ (claims· : Claims) where
                                                       tt,
                                                       (
                                                         tt,
-                                                        (tt, (tt, (tt, (tt, (tt, (tt, (tt, (tt, (tt, (tt, (tt, (tt, (tt, (tt, (tt, (tt, (tt, (tt, (tt, (tt, (tt, (tt, (tt, (tt, (tt, (tt, (tt, tt))))))))))))))))))))))))))),
+                                                        (
+                                                          tt,
+                                                          (tt, (tt, (tt, (tt, (tt, (tt, (tt, (tt, (tt, (tt, (tt, (tt, (tt, (tt, (tt, (tt, (tt, (tt, (tt, (tt, (tt, (tt, (tt, (tt, (tt, (tt, (tt, tt))))))))))))))))))))))))))),
+                                                        ),
                                                       ),
                                                     ),
                                                   ),
@@ -5623,153 +5775,153 @@ module _ (claims· : Claims) where
               ),
             ),
           ))
-              d108
+              d110
 
-          d110 : Typed.Typed 𝓤 H A 𝓣 E G32 b84 Δ3 at110
-          d110 = Typed.t-seq 𝓤 H A W 𝓣 E G32 G33 b16 b83 Δ3 at7 at109 d7 d109
+          d112 : Typed.Typed 𝓤 H A 𝓣 E G32 b84 Δ3 at112
+          d112 = Typed.t-seq 𝓤 H A W 𝓣 E G32 G33 b16 b83 Δ3 at8 at111 d8 d111
 
-          d111 : Typed.Typed 𝓤 H A 𝓣 E G30 b85 Δ3 at111
-          d111 = Typed.s-seq 𝓤 H A W 𝓣 E G30 G32 b13 b84 Δ3 (Typed.ask s29) at110 (Scalar.t-op2 𝓤 H A W E 𝓣 G30 (Syntax.lt Syntax.unsigned) (Scalar.oAt 17 (Syntax.tyInt Syntax.w64) (Row.valS (Row.sInt
-              Syntax.w64))) (Scalar.oAt 10 (Syntax.tyInt Syntax.w64) (Row.valS (Row.sInt Syntax.w64))) 27 (Rows'.sc-here Row.sBool) Syntax.tyBool (Row.valS Row.sBool) (Row.sBool .of)
+          d113 : Typed.Typed 𝓤 H A 𝓣 E G30 b85 Δ3 at113
+          d113 = Typed.s-seq 𝓤 H A W 𝓣 E G30 G32 b13 b84 Δ3 (Typed.ask s29) at112 (Scalar.t-op2 𝓤 H A W E 𝓣 G30 (Syntax.lt Syntax.unsigned) (Scalar.oAt 18 (Syntax.tyInt Syntax.w64) (Row.valS (Row.sInt
+              Syntax.w64))) (Scalar.oAt 10 (Syntax.tyInt Syntax.w64) (Row.valS (Row.sInt Syntax.w64))) 28 (Rows'.sc-here Row.sBool) Syntax.tyBool (Row.valS Row.sBool) (Row.sBool .of)
               (Scalar.reads-sc 𝓤 H A W (Row.sInt Syntax.w64), Path'.refl) (Scalar.reads-sc 𝓤 H A W (Row.sInt Syntax.w64), Path'.refl) (Reads'.room-gone 𝓤 H A Syntax.tyBool) (Scalar.holds-sc 𝓤 H A W
-              Row.sBool) Path'.refl (λ u. Path'.refl) λ u. tt) d110
+              Row.sBool) Path'.refl (λ u. Path'.refl) λ u. tt) d112
 
-          d112 : Typed.Typed 𝓤 H A 𝓣 E G30 b86 Δ2 at112
-          d112 = Typed.t-loop-by 𝓤 H A W 𝓣 E G30 b85 Δ2 put0 (λ u vs. Inv·0 (Row.get 1 (T30 .locals) u .now) (Row.get 2 (T30 .locals) u .now) (Row.get 3 (T30 .locals) u .now) (Row.get 4 (T30 .locals)
+          d114 : Typed.Typed 𝓤 H A 𝓣 E G30 b86 Δ2 at114
+          d114 = Typed.t-loop-by 𝓤 H A W 𝓣 E G30 b85 Δ2 put0 (λ u vs. Inv·0 (Row.get 1 (T30 .locals) u .now) (Row.get 2 (T30 .locals) u .now) (Row.get 3 (T30 .locals) u .now) (Row.get 4 (T30 .locals)
               u .now) (Row.get 5 (T30 .locals) u .now) (Row.get 6 (T30 .locals) u) (Row.get 7 (T30 .locals) u .now) (Row.get 8 (T30 .locals) u) (Row.get 9 (T30 .locals) u) (Row.get 10 (T30 .locals) u)
               (Row.get 11 (T30 .locals) u) (Row.get 12 (T30 .locals) u) (Row.get 13 (T30 .locals) u) (Row.get 14 (T30 .locals) u) (Row.get 15 (T30 .locals) u) (Row.get 16 (T30 .locals) u) (Row.get 17 (T30
-              .locals) u) (vs .0) (vs .1) (vs .2) (vs .3) (vs .4) (vs .5)) (λ u vs. μ·0 (Row.get 1 (T30 .locals) u .now) (Row.get 2 (T30 .locals) u .now) (Row.get 3 (T30 .locals) u .now) (Row.get 4 (T30
-              .locals) u .now) (Row.get 5 (T30 .locals) u .now) (Row.get 6 (T30 .locals) u) (Row.get 7 (T30 .locals) u .now) (Row.get 8 (T30 .locals) u) (Row.get 9 (T30 .locals) u) (Row.get 10 (T30
-              .locals) u) (Row.get 11 (T30 .locals) u) (Row.get 12 (T30 .locals) u) (Row.get 13 (T30 .locals) u) (Row.get 14 (T30 .locals) u) (Row.get 15 (T30 .locals) u) (Row.get 16 (T30 .locals) u)
-              (Row.get 17 (T30 .locals) u) (vs .0) (vs .1) (vs .2) (vs .3) (vs .4) (vs .5)) at111 d111
+              .locals) u) (Row.get 18 (T30 .locals) u) (vs .0) (vs .1) (vs .2) (vs .3) (vs .4) (vs .5)) (λ u vs. μ·0 (Row.get 1 (T30 .locals) u .now) (Row.get 2 (T30 .locals) u .now) (Row.get 3 (T30
+              .locals) u .now) (Row.get 4 (T30 .locals) u .now) (Row.get 5 (T30 .locals) u .now) (Row.get 6 (T30 .locals) u) (Row.get 7 (T30 .locals) u .now) (Row.get 8 (T30 .locals) u) (Row.get 9 (T30
+              .locals) u) (Row.get 10 (T30 .locals) u) (Row.get 11 (T30 .locals) u) (Row.get 12 (T30 .locals) u) (Row.get 13 (T30 .locals) u) (Row.get 14 (T30 .locals) u) (Row.get 15 (T30 .locals) u)
+              (Row.get 16 (T30 .locals) u) (Row.get 17 (T30 .locals) u) (Row.get 18 (T30 .locals) u) (vs .0) (vs .1) (vs .2) (vs .3) (vs .4) (vs .5)) at113 d113
 
-          d113 : Typed.Typed 𝓤 H A 𝓣 E G30 b87 Δ1 at113
-          d113 = Typed.t-block 𝓤 H A W 𝓣 E G30 b86 Δ1 at112 d112
+          d115 : Typed.Typed 𝓤 H A 𝓣 E G30 b87 Δ1 at115
+          d115 = Typed.t-block 𝓤 H A W 𝓣 E G30 b86 Δ1 at114 d114
 
-          d114 : Typed.Typed 𝓤 H A 𝓣 E G151 b90 Δ0 at114
-          d114 = Typed.t-return 𝓤 H A W 𝓣 E Δ0 tt
+          d116 : Typed.Typed 𝓤 H A 𝓣 E G153 b90 Δ0 at116
+          d116 = Typed.t-return 𝓤 H A W 𝓣 E Δ0 tt
 
-          d115 : Typed.Typed 𝓤 H A 𝓣 E G150 b90 Δ0 at115
-          d115 = Typed.g-pre 𝓤 H A W 𝓣 E G150 G151 b90 Δ0 (Typed.pass T150 T151 s146) at114 (Scalar.g-room 𝓤 H A W E G150 11 Syntax.tyBool (Scalar.room-sc 𝓤 H A W Row.sBool)) d114
+          d117 : Typed.Typed 𝓤 H A 𝓣 E G152 b90 Δ0 at117
+          d117 = Typed.g-pre 𝓤 H A W 𝓣 E G152 G153 b90 Δ0 (Typed.pass T152 T153 s148) at116 (Scalar.g-room 𝓤 H A W E G152 11 Syntax.tyBool (Scalar.room-sc 𝓤 H A W Row.sBool)) d116
 
-          d116 : Typed.Typed 𝓤 H A 𝓣 E G149 b90 Δ0 at116
-          d116 = Typed.g-pre 𝓤 H A W 𝓣 E G149 G150 b90 Δ0 (Typed.pass T149 T150 s145) at115 (Scalar.g-room 𝓤 H A W E G149 10 (Syntax.tyInt Syntax.w64) (Scalar.room-sc 𝓤 H A W (Row.sInt Syntax.w64)))
-              d115
-
-          d117 : Typed.Typed 𝓤 H A 𝓣 E G148 b90 Δ0 at117
-          d117 = Typed.g-pre 𝓤 H A W 𝓣 E G148 G149 b90 Δ0 (Typed.pass T148 T149 s144) at116 (Scalar.g-room 𝓤 H A W E G148 49 y2 (Local.room-whole 𝓤 H A W (Declared'.row Totals.the-type) y2
-              Path'.refl)) d116
-
-          d118 : Typed.Typed 𝓤 H A 𝓣 E G147 b90 Δ0 at118
-          d118 = Typed.g-pre 𝓤 H A W 𝓣 E G147 G148 b90 Δ0 (Typed.pass T147 T148 s143) at117 (Scalar.g-room 𝓤 H A W E G147 17 (Syntax.tyInt Syntax.w64) (Scalar.room-sc 𝓤 H A W (Row.sInt Syntax.w64)))
+          d118 : Typed.Typed 𝓤 H A 𝓣 E G151 b90 Δ0 at118
+          d118 = Typed.g-pre 𝓤 H A W 𝓣 E G151 G152 b90 Δ0 (Typed.pass T151 T152 s147) at117 (Scalar.g-room 𝓤 H A W E G151 10 (Syntax.tyInt Syntax.w64) (Scalar.room-sc 𝓤 H A W (Row.sInt Syntax.w64)))
               d117
 
-          d119 : Typed.Typed 𝓤 H A 𝓣 E G146 b90 Δ0 at119
-          d119 = Typed.g-pre 𝓤 H A W 𝓣 E G146 G147 b90 Δ0 (Typed.pass T146 T147 s142) at118 (Scalar.g-room 𝓤 H A W E G146 16 y8 (Local.room-whole 𝓤 H A W (Declared'.row TightLines.the-type) y8
+          d119 : Typed.Typed 𝓤 H A 𝓣 E G150 b90 Δ0 at119
+          d119 = Typed.g-pre 𝓤 H A W 𝓣 E G150 G151 b90 Δ0 (Typed.pass T150 T151 s146) at118 (Scalar.g-room 𝓤 H A W E G150 50 y3 (Local.room-whole 𝓤 H A W (Declared'.row Totals.the-type) y3
               Path'.refl)) d118
 
-          d120 : Typed.Typed 𝓤 H A 𝓣 E G145 b90 Δ0 at120
-          d120 = Typed.g-pre 𝓤 H A W 𝓣 E G145 G146 b90 Δ0 (Typed.pass T145 T146 s141) at119 (Scalar.g-room 𝓤 H A W E G145 14 (Syntax.tyInt Syntax.w64) (Scalar.room-sc 𝓤 H A W (Row.sInt Syntax.w64)))
+          d120 : Typed.Typed 𝓤 H A 𝓣 E G149 b90 Δ0 at120
+          d120 = Typed.g-pre 𝓤 H A W 𝓣 E G149 G150 b90 Δ0 (Typed.pass T149 T150 s145) at119 (Scalar.g-room 𝓤 H A W E G149 18 (Syntax.tyInt Syntax.w64) (Scalar.room-sc 𝓤 H A W (Row.sInt Syntax.w64)))
               d119
 
-          d121 : Typed.Typed 𝓤 H A 𝓣 E G144 b90 Δ0 at121
-          d121 = Typed.g-pre 𝓤 H A W 𝓣 E G144 G145 b90 Δ0 (Typed.pass T144 T145 s140) at120 (Scalar.g-room 𝓤 H A W E G144 13 Syntax.tyBool (Scalar.room-sc 𝓤 H A W Row.sBool)) d120
+          d121 : Typed.Typed 𝓤 H A 𝓣 E G148 b90 Δ0 at121
+          d121 = Typed.g-pre 𝓤 H A W 𝓣 E G148 G149 b90 Δ0 (Typed.pass T148 T149 s144) at120 (Scalar.g-room 𝓤 H A W E G148 17 y9 (Local.room-whole 𝓤 H A W (Declared'.row TightLines.the-type) y9
+              Path'.refl)) d120
 
-          d122 : Typed.Typed 𝓤 H A 𝓣 E G143 b90 Δ0 at122
-          d122 = Typed.g-pre 𝓤 H A W 𝓣 E G143 G144 b90 Δ0 (Typed.pass T143 T144 s139) at121 (Scalar.g-room 𝓤 H A W E G143 12 (Syntax.tyInt Syntax.w32) (Scalar.room-sc 𝓤 H A W (Row.sInt Syntax.w32)))
+          d122 : Typed.Typed 𝓤 H A 𝓣 E G147 b90 Δ0 at122
+          d122 = Typed.g-pre 𝓤 H A W 𝓣 E G147 G148 b90 Δ0 (Typed.pass T147 T148 s143) at121 (Scalar.g-room 𝓤 H A W E G147 15 (Syntax.tyInt Syntax.w64) (Scalar.room-sc 𝓤 H A W (Row.sInt Syntax.w64)))
               d121
 
-          d123 : Typed.Typed 𝓤 H A 𝓣 E G142 b91 Δ0 at123
-          d123 = Typed.s-seq 𝓤 H A W 𝓣 E G142 G143 b89 b90 Δ0 (Typed.pass T142 T143 s138) at122 (Make.t-enum-make-wt 𝓤 H A W E 𝓣 Walked.the-type Laws''.the-laws Laws''.the-plain tt G142 0 (List._∷_
-              (Scalar.oInt Syntax.w8 0) (List._∷_ (Scalar.oAt 49 y2 (Laws'9.val Totals.the-type Laws'7.the-laws)) (List._∷_ (Scalar.oAt 16 y8 (Laws'9.val TightLines.the-type Laws'6.the-laws)) List.[])))
-              (λ m. Walked.enum .make (Logic.inl (
-                m .1 .1 .1 .1 .1 .1 .1 .1 .1 .1 .1 .1 .1 .1 .1 .1 .1 .1 .1 .1 .1 .1 .1 .1 .1 .1 .1 .1 .1 .1 .1 .1 .1 .1 .1 .1 .1 .1 .1 .1 .1 .1 .1 .1 .1 .1 .1 .1 .1 .0,
-                (m .1 .1 .1 .1 .1 .1 .1 .1 .1 .1 .1 .1 .1 .1 .1 .1 .0, tt),
-              ))) (Reads'.room-gone 𝓤 H A (Syntax.tyEnum (List._∷_ 98 (List._∷_ 108 (List._∷_ 111 (List._∷_ 99 (List._∷_ 107 (List._∷_ 58
-              (List._∷_ 58 (List._∷_ 87 (List._∷_ 97 (List._∷_ 108 (List._∷_ 107 (List._∷_ 101 (List._∷_ 100 List.[]))))))))))))) (Syntax.ttcons (Syntax.tcons y2 (Syntax.tcons y8 Syntax.tnil))
-              (Syntax.ttcons (Syntax.tcons (Syntax.tyInt Syntax.w64) (Syntax.tcons y2 Syntax.tnil)) Syntax.ttnil))))
-              (tt, ((Reads.reads-struct 𝓤 H A W Totals.the-type Laws'7.the-laws, Path'.refl), ((Reads.reads-struct 𝓤 H A W TightLines.the-type Laws'6.the-laws, Path'.refl), tt))) Path'.refl (λ m wa.
-              Make.made-val Walked.the-type Laws''.the-laws (List._∷_ (Laws'9.val Totals.the-type Laws'7.the-laws (m .1 .1 .1 .1 .1 .1 .1 .1 .1 .1 .1 .1 .1 .1 .1 .1 .1 .1 .1 .1 .1 .1 .1 .1 .1 .1 .1 .1 .1
-              .1 .1 .1 .1 .1 .1 .1 .1 .1 .1 .1 .1 .1 .1 .1 .1 .1 .1 .1 .1 .0)) (List._∷_ (Laws'9.val TightLines.the-type Laws'6.the-laws (m .1 .1 .1 .1 .1 .1 .1 .1 .1 .1 .1 .1 .1 .1 .1 .1 .0)) List.[]))
-              (Walked.enum .make (Logic.inl (
-                m .1 .1 .1 .1 .1 .1 .1 .1 .1 .1 .1 .1 .1 .1 .1 .1 .1 .1 .1 .1 .1 .1 .1 .1 .1 .1 .1 .1 .1 .1 .1 .1 .1 .1 .1 .1 .1 .1 .1 .1 .1 .1 .1 .1 .1 .1 .1 .1 .1 .0,
-                (m .1 .1 .1 .1 .1 .1 .1 .1 .1 .1 .1 .1 .1 .1 .1 .1 .0, tt),
-              ))) (
-                Signed.made-wt Totals.the-field Laws'7.the-field-laws (Make'.struct-wt Totals.the-type Laws'7.the-laws (Make'.u64-wt, (Make'.u64-wt, tt))) (Totals.the-type .to (m .1 .1 .1 .1 .1 .1 .1 .1 .1
-                    .1 .1 .1 .1 .1 .1 .1 .1 .1 .1 .1 .1 .1 .1 .1 .1 .1 .1 .1 .1 .1 .1 .1 .1 .1 .1 .1 .1 .1 .1 .1 .1 .1 .1 .1 .1 .1 .1 .1 .1 .0)),
-                (
-                  Signed.made-wt TightLines.the-field Laws'6.the-field-laws (Make'.struct-wt TightLines.the-type Laws'6.the-laws
-                      (Make'.u64-wt, (Make'.struct-wt Totals.the-type Laws'7.the-laws (Make'.u64-wt, (Make'.u64-wt, tt)), tt))) (TightLines.the-type .to (m .1 .1 .1 .1 .1 .1 .1 .1 .1 .1 .1 .1 .1 .1 .1 .1 .0)),
-                  tt,
-                ),
-              ) (wa .1)) λ m wa. Make.made-is Walked.the-type Laws''.the-laws (List._∷_ (Laws'9.val Totals.the-type Laws'7.the-laws (m .1 .1 .1 .1 .1 .1 .1 .1 .1 .1 .1 .1 .1 .1 .1 .1 .1 .1 .1 .1 .1 .1
-              .1 .1 .1 .1 .1 .1 .1 .1 .1 .1 .1 .1 .1 .1 .1 .1 .1 .1 .1 .1 .1 .1 .1 .1 .1 .1 .1 .0)) (List._∷_ (Laws'9.val TightLines.the-type Laws'6.the-laws (m .1 .1 .1 .1 .1 .1 .1 .1 .1 .1 .1 .1 .1 .1
-              .1 .1 .0)) List.[])) (Walked.enum .make (Logic.inl (
-                m .1 .1 .1 .1 .1 .1 .1 .1 .1 .1 .1 .1 .1 .1 .1 .1 .1 .1 .1 .1 .1 .1 .1 .1 .1 .1 .1 .1 .1 .1 .1 .1 .1 .1 .1 .1 .1 .1 .1 .1 .1 .1 .1 .1 .1 .1 .1 .1 .1 .0,
-                (m .1 .1 .1 .1 .1 .1 .1 .1 .1 .1 .1 .1 .1 .1 .1 .1 .0, tt),
-              ))) (
-                Signed.made-wt Totals.the-field Laws'7.the-field-laws (Make'.struct-wt Totals.the-type Laws'7.the-laws (Make'.u64-wt, (Make'.u64-wt, tt))) (Totals.the-type .to (m .1 .1 .1 .1 .1 .1 .1 .1 .1
-                    .1 .1 .1 .1 .1 .1 .1 .1 .1 .1 .1 .1 .1 .1 .1 .1 .1 .1 .1 .1 .1 .1 .1 .1 .1 .1 .1 .1 .1 .1 .1 .1 .1 .1 .1 .1 .1 .1 .1 .1 .0)),
-                (
-                  Signed.made-wt TightLines.the-field Laws'6.the-field-laws (Make'.struct-wt TightLines.the-type Laws'6.the-laws
-                      (Make'.u64-wt, (Make'.struct-wt Totals.the-type Laws'7.the-laws (Make'.u64-wt, (Make'.u64-wt, tt)), tt))) (TightLines.the-type .to (m .1 .1 .1 .1 .1 .1 .1 .1 .1 .1 .1 .1 .1 .1 .1 .1 .0)),
-                  tt,
-                ),
-              ) (wa .1)) d122
+          d123 : Typed.Typed 𝓤 H A 𝓣 E G146 b90 Δ0 at123
+          d123 = Typed.g-pre 𝓤 H A W 𝓣 E G146 G147 b90 Δ0 (Typed.pass T146 T147 s142) at122 (Scalar.g-room 𝓤 H A W E G146 14 Syntax.tyBool (Scalar.room-sc 𝓤 H A W Row.sBool)) d122
 
-          d124 : Typed.Typed 𝓤 H A 𝓣 E G141 b91 Δ0 at124
-          d124 = Typed.g-pre 𝓤 H A W 𝓣 E G141 G142 b91 Δ0 (Typed.pass T141 T142 s137) at123 (Scalar.g-room 𝓤 H A W E G141 15 y9 (Local.room-whole 𝓤 H A W (Declared'.row Place.the-type) y9 Path'.refl))
+          d124 : Typed.Typed 𝓤 H A 𝓣 E G145 b90 Δ0 at124
+          d124 = Typed.g-pre 𝓤 H A W 𝓣 E G145 G146 b90 Δ0 (Typed.pass T145 T146 s141) at123 (Scalar.g-room 𝓤 H A W E G145 13 (Syntax.tyInt Syntax.w32) (Scalar.room-sc 𝓤 H A W (Row.sInt Syntax.w32)))
               d123
 
-          d125 : Typed.Typed 𝓤 H A 𝓣 E G31 b92 Δ0 at125
-          d125 = Typed.s-seq 𝓤 H A W 𝓣 E G31 G141 b88 b91 Δ0 (Typed.both s136) at124 (Plain.t-call-plain 𝓤 H A W 𝓣 0 ps·12 r·12 (claims· .24) (claims· .25) "block::reading::totals_at" (known .12) E (λ
-              pos β. β) G31 (record { pos = 15; st = List.[]; d = 0; at = λ x. x }, tt) 49 List.[] (Call.sub-id 𝓤 H A W (G31 .slots)) (
+          d125 : Typed.Typed 𝓤 H A 𝓣 E G144 b91 Δ0 at125
+          d125 = Typed.s-seq 𝓤 H A W 𝓣 E G144 G145 b89 b90 Δ0 (Typed.pass T144 T145 s140) at124 (Make.t-enum-make-wt 𝓤 H A W E 𝓣 Walked.the-type Laws''.the-laws Laws''.the-plain tt G144 0 (List._∷_
+              (Scalar.oInt Syntax.w8 0) (List._∷_ (Scalar.oAt 50 y3 (Laws'10.val Totals.the-type Laws'8.the-laws)) (List._∷_ (Scalar.oAt 17 y9 (Laws'10.val TightLines.the-type Laws'7.the-laws)) List.[])))
+              (λ m. Walked.enum .make (Logic.inl (
+                m .1 .1 .1 .1 .1 .1 .1 .1 .1 .1 .1 .1 .1 .1 .1 .1 .1 .1 .1 .1 .1 .1 .1 .1 .1 .1 .1 .1 .1 .1 .1 .1 .1 .1 .1 .1 .1 .1 .1 .1 .1 .1 .1 .1 .1 .1 .1 .1 .1 .1 .0,
+                (m .1 .1 .1 .1 .1 .1 .1 .1 .1 .1 .1 .1 .1 .1 .1 .1 .1 .0, tt),
+              ))) (Reads'.room-gone 𝓤 H A (Syntax.tyEnum (List._∷_ 98 (List._∷_ 108 (List._∷_ 111 (List._∷_ 99 (List._∷_ 107 (List._∷_ 58
+              (List._∷_ 58 (List._∷_ 87 (List._∷_ 97 (List._∷_ 108 (List._∷_ 107 (List._∷_ 101 (List._∷_ 100 List.[]))))))))))))) (Syntax.ttcons (Syntax.tcons y3 (Syntax.tcons y9 Syntax.tnil))
+              (Syntax.ttcons (Syntax.tcons (Syntax.tyInt Syntax.w64) (Syntax.tcons y3 Syntax.tnil)) Syntax.ttnil))))
+              (tt, ((Reads.reads-struct 𝓤 H A W Totals.the-type Laws'8.the-laws, Path'.refl), ((Reads.reads-struct 𝓤 H A W TightLines.the-type Laws'7.the-laws, Path'.refl), tt))) Path'.refl (λ m wa.
+              Make.made-val Walked.the-type Laws''.the-laws (List._∷_ (Laws'10.val Totals.the-type Laws'8.the-laws (m .1 .1 .1 .1 .1 .1 .1 .1 .1 .1 .1 .1 .1 .1 .1 .1 .1 .1 .1 .1 .1 .1 .1 .1 .1 .1 .1 .1 .1
+              .1 .1 .1 .1 .1 .1 .1 .1 .1 .1 .1 .1 .1 .1 .1 .1 .1 .1 .1 .1 .1 .0)) (List._∷_ (Laws'10.val TightLines.the-type Laws'7.the-laws (m .1 .1 .1 .1 .1 .1 .1 .1 .1 .1 .1 .1 .1 .1 .1 .1 .1 .0))
+              List.[])) (Walked.enum .make (Logic.inl (
+                m .1 .1 .1 .1 .1 .1 .1 .1 .1 .1 .1 .1 .1 .1 .1 .1 .1 .1 .1 .1 .1 .1 .1 .1 .1 .1 .1 .1 .1 .1 .1 .1 .1 .1 .1 .1 .1 .1 .1 .1 .1 .1 .1 .1 .1 .1 .1 .1 .1 .1 .0,
+                (m .1 .1 .1 .1 .1 .1 .1 .1 .1 .1 .1 .1 .1 .1 .1 .1 .1 .0, tt),
+              ))) (
+                Signed.made-wt Totals.the-field Laws'8.the-field-laws (Make'.struct-wt Totals.the-type Laws'8.the-laws (Make'.u64-wt, (Make'.u64-wt, tt))) (Totals.the-type .to (m .1 .1 .1 .1 .1 .1 .1 .1 .1
+                    .1 .1 .1 .1 .1 .1 .1 .1 .1 .1 .1 .1 .1 .1 .1 .1 .1 .1 .1 .1 .1 .1 .1 .1 .1 .1 .1 .1 .1 .1 .1 .1 .1 .1 .1 .1 .1 .1 .1 .1 .1 .0)),
                 (
-                  Yields.yields-copy 𝓤 H A W (λ ρ. Unit) (Declared'.row Place.the-type) Path'.refl (Copies.cStruct Place.the-type Laws'3.the-laws Laws'3.the-copy .copy 𝓤 H A W) (Rows'.whole (Declared'.row
+                  Signed.made-wt TightLines.the-field Laws'7.the-field-laws (Make'.struct-wt TightLines.the-type Laws'7.the-laws
+                      (Make'.u64-wt, (Make'.struct-wt Totals.the-type Laws'8.the-laws (Make'.u64-wt, (Make'.u64-wt, tt)), tt))) (TightLines.the-type .to (m .1 .1 .1 .1 .1 .1 .1 .1 .1 .1 .1 .1 .1 .1 .1 .1 .1 .0)),
+                  tt,
+                ),
+              ) (wa .1)) λ m wa. Make.made-is Walked.the-type Laws''.the-laws (List._∷_ (Laws'10.val Totals.the-type Laws'8.the-laws (m .1 .1 .1 .1 .1 .1 .1 .1 .1 .1 .1 .1 .1 .1 .1 .1 .1 .1 .1 .1 .1 .1
+              .1 .1 .1 .1 .1 .1 .1 .1 .1 .1 .1 .1 .1 .1 .1 .1 .1 .1 .1 .1 .1 .1 .1 .1 .1 .1 .1 .1 .0)) (List._∷_ (Laws'10.val TightLines.the-type Laws'7.the-laws (m .1 .1 .1 .1 .1 .1 .1 .1 .1 .1 .1 .1 .1
+              .1 .1 .1 .1 .0)) List.[])) (Walked.enum .make (Logic.inl (
+                m .1 .1 .1 .1 .1 .1 .1 .1 .1 .1 .1 .1 .1 .1 .1 .1 .1 .1 .1 .1 .1 .1 .1 .1 .1 .1 .1 .1 .1 .1 .1 .1 .1 .1 .1 .1 .1 .1 .1 .1 .1 .1 .1 .1 .1 .1 .1 .1 .1 .1 .0,
+                (m .1 .1 .1 .1 .1 .1 .1 .1 .1 .1 .1 .1 .1 .1 .1 .1 .1 .0, tt),
+              ))) (
+                Signed.made-wt Totals.the-field Laws'8.the-field-laws (Make'.struct-wt Totals.the-type Laws'8.the-laws (Make'.u64-wt, (Make'.u64-wt, tt))) (Totals.the-type .to (m .1 .1 .1 .1 .1 .1 .1 .1 .1
+                    .1 .1 .1 .1 .1 .1 .1 .1 .1 .1 .1 .1 .1 .1 .1 .1 .1 .1 .1 .1 .1 .1 .1 .1 .1 .1 .1 .1 .1 .1 .1 .1 .1 .1 .1 .1 .1 .1 .1 .1 .1 .0)),
+                (
+                  Signed.made-wt TightLines.the-field Laws'7.the-field-laws (Make'.struct-wt TightLines.the-type Laws'7.the-laws
+                      (Make'.u64-wt, (Make'.struct-wt Totals.the-type Laws'8.the-laws (Make'.u64-wt, (Make'.u64-wt, tt)), tt))) (TightLines.the-type .to (m .1 .1 .1 .1 .1 .1 .1 .1 .1 .1 .1 .1 .1 .1 .1 .1 .1 .0)),
+                  tt,
+                ),
+              ) (wa .1)) d124
+
+          d126 : Typed.Typed 𝓤 H A 𝓣 E G143 b91 Δ0 at126
+          d126 = Typed.g-pre 𝓤 H A W 𝓣 E G143 G144 b91 Δ0 (Typed.pass T143 T144 s139) at125 (Scalar.g-room 𝓤 H A W E G143 16 y10 (Local.room-whole 𝓤 H A W (Declared'.row Place.the-type) y10
+              Path'.refl)) d125
+
+          d127 : Typed.Typed 𝓤 H A 𝓣 E G31 b92 Δ0 at127
+          d127 = Typed.s-seq 𝓤 H A W 𝓣 E G31 G143 b88 b91 Δ0 (Typed.both s138) at126 (Plain.t-call-plain 𝓤 H A W 𝓣 0 ps·12 r·12 (claims· .24) (claims· .25) "block::reading::totals_at" (known .12) E (λ
+              pos β. β) G31 (record { pos = 16; st = List.[]; d = 0; at = λ x. x }, tt) 50 List.[] (Call.sub-id 𝓤 H A W (G31 .slots)) (
+                (
+                  Yields.yields-copy 𝓤 H A W (λ ρ. Unit) (Declared'.row Place.the-type) Path'.refl (Copies.cStruct Place.the-type Laws'4.the-laws Laws'4.the-copy .copy 𝓤 H A W) (Rows'.whole (Declared'.row
                       Place.the-type)) (λ x. x) (λ x. x) (λ ρ told. Local.mem-whole 𝓤 H A W (Declared'.row Place.the-type) ρ) λ ρ told. Local.whole-mem 𝓤 H A W (Declared'.row Place.the-type) ρ,
                   Path'.refl,
                 ),
                 tt,
               )
-              (Reads'.room-gone 𝓤 H A y2) tt Path'.refl) d124
+              (Reads'.room-gone 𝓤 H A y3) tt Path'.refl) d126
 
-          d126 : Typed.Typed 𝓤 H A 𝓣 E G30 b93 Δ0 at126
-          d126 = Typed.t-seq 𝓤 H A W 𝓣 E G30 G31 b87 b92 Δ0 at113 at125 d113 d125
+          d128 : Typed.Typed 𝓤 H A 𝓣 E G30 b93 Δ0 at128
+          d128 = Typed.t-seq 𝓤 H A W 𝓣 E G30 G31 b87 b92 Δ0 at115 at127 d115 d127
 
-          d127 : Typed.Typed 𝓤 H A 𝓣 E G29 b94 Δ0 at127
-          d127 = Typed.s-seq 𝓤 H A W 𝓣 E G29 G30 b12 b93 Δ0 (Typed.pass T29 T30 s28) at126 (Scalar.t-use 𝓤 H A W E 𝓣 G29 (Scalar.oInt Syntax.w64 0) 17 (Rows'.sc-here (Row.sInt Syntax.w64))
+          d129 : Typed.Typed 𝓤 H A 𝓣 E G29 b94 Δ0 at129
+          d129 = Typed.s-seq 𝓤 H A W 𝓣 E G29 G30 b12 b93 Δ0 (Typed.pass T29 T30 s28) at128 (Scalar.t-use 𝓤 H A W E 𝓣 G29 (Scalar.oInt Syntax.w64 0) 18 (Rows'.sc-here (Row.sInt Syntax.w64))
               (Syntax.tyInt Syntax.w64) (Row.valS (Row.sInt Syntax.w64)) (Row.sInt Syntax.w64 .of) tt (Reads'.room-gone 𝓤 H A (Syntax.tyInt Syntax.w64)) (Scalar.holds-sc 𝓤 H A W (Row.sInt Syntax.w64))
-              Path'.refl (λ u. Path'.refl) λ u. tt) d126
+              Path'.refl (λ u. Path'.refl) λ u. tt) d128
 
-          d128 : Typed.Typed 𝓤 H A 𝓣 E G28 b95 Δ0 at128
-          d128 = Typed.s-seq 𝓤 H A W 𝓣 E G28 G29 b11 b94 Δ0 (Typed.both s27) at127 (Plain.t-call-plain 𝓤 H A W 𝓣 0 ps·5 r·5 (claims· .10) (claims· .11) "block::reading::no_lines" (known .5) E (λ pos
-              β. β) G28 tt 16 List.[] (Call.sub-id 𝓤 H A W (G28 .slots)) tt (Reads'.room-gone 𝓤 H A y8) tt Path'.refl) d127
+          d130 : Typed.Typed 𝓤 H A 𝓣 E G28 b95 Δ0 at130
+          d130 = Typed.s-seq 𝓤 H A W 𝓣 E G28 G29 b11 b94 Δ0 (Typed.both s27) at129 (Plain.t-call-plain 𝓤 H A W 𝓣 0 ps·5 r·5 (claims· .10) (claims· .11) "block::reading::no_lines" (known .5) E (λ pos
+              β. β) G28 tt 17 List.[] (Call.sub-id 𝓤 H A W (G28 .slots)) tt (Reads'.room-gone 𝓤 H A y9) tt Path'.refl) d129
 
-          d129 : Typed.Typed 𝓤 H A 𝓣 E G27 b96 Δ0 at129
-          d129 = Typed.s-seq 𝓤 H A W 𝓣 E G27 G28 b10 b95 Δ0 (Typed.both s26) at128 (Plain.t-call-plain 𝓤 H A W 𝓣 0 ps·4 r·4 (claims· .8) (claims· .9) "block::reading::start_place" (known .4) E (λ pos
-              β. β) G27 tt 15 List.[] (Call.sub-id 𝓤 H A W (G27 .slots)) tt (Reads'.room-gone 𝓤 H A y9) tt Path'.refl) d128
+          d131 : Typed.Typed 𝓤 H A 𝓣 E G27 b96 Δ0 at131
+          d131 = Typed.s-seq 𝓤 H A W 𝓣 E G27 G28 b10 b95 Δ0 (Typed.both s26) at130 (Plain.t-call-plain 𝓤 H A W 𝓣 0 ps·4 r·4 (claims· .8) (claims· .9) "block::reading::start_place" (known .4) E (λ pos
+              β. β) G27 tt 16 List.[] (Call.sub-id 𝓤 H A W (G27 .slots)) tt (Reads'.room-gone 𝓤 H A y10) tt Path'.refl) d130
 
-          d130 : Typed.Typed 𝓤 H A 𝓣 E G26 b96 Δ0 at130
-          d130 = Typed.g-pre 𝓤 H A W 𝓣 E G26 G27 b96 Δ0 (λ Ψ. Ψ) at129 (Lifetime.g-forget 𝓤 H A W E G26 7 Row.dead Path'.refl) d129
+          d132 : Typed.Typed 𝓤 H A 𝓣 E G26 b96 Δ0 at132
+          d132 = Typed.g-pre 𝓤 H A W 𝓣 E G26 G27 b96 Δ0 (λ Ψ. Ψ) at131 (Lifetime.g-forget 𝓤 H A W E G26 7 Row.dead Path'.refl) d131
 
-          d131 : Typed.Typed 𝓤 H A 𝓣 E G25 b96 Δ0 at131
-          d131 = Typed.g-pre 𝓤 H A W 𝓣 E G25 G26 b96 Δ0 (Typed.both s24) at130 (Relend.g-back-sl 𝓤 H A W E (Element.type) G25 25 4 3 7 (Syntax.tyRef (Syntax.named 3) Syntax.mut Element.behind)
+          d133 : Typed.Typed 𝓤 H A 𝓣 E G25 b96 Δ0 at133
+          d133 = Typed.g-pre 𝓤 H A W 𝓣 E G25 G26 b96 Δ0 (Typed.both s24) at132 (Relend.g-back-sl 𝓤 H A W E (Element.type) G25 26 4 3 7 (Syntax.tyRef (Syntax.named 3) Syntax.mut Element.behind)
               (Syntax.tyRef Syntax.erased Syntax.mut Element.behind) (Row.lease (κs .1 .1 .1 .0) (qs .1 .1 .1 .0)) (λ x. x) (λ x. x) (Reads'.as-is 𝓤 H A (Mut.msleft (Element.type) (Syntax.tyRef
               Syntax.erased Syntax.mut Element.behind))) (Reads'.as-is 𝓤 H A (Relend.mslice-owed (Element.type) (Syntax.tyRef (Syntax.named 3) Syntax.mut Element.behind) 3 7 (Row.lease (κs .1 .1 .1 .0)
-              (qs .1 .1 .1 .0)))) Path'.refl Path'.refl) d130
+              (qs .1 .1 .1 .0)))) Path'.refl Path'.refl) d132
 
-          d132 : Typed.Typed 𝓤 H A 𝓣 E G24 b96 Δ0 at132
-          d132 = Typed.g-pre 𝓤 H A W 𝓣 E G24 G25 b96 Δ0 (λ Ψ. Ψ) at131 (Lifetime.g-end 𝓤 H A W E G24 7 Path'.refl) d131
+          d134 : Typed.Typed 𝓤 H A 𝓣 E G24 b96 Δ0 at134
+          d134 = Typed.g-pre 𝓤 H A W 𝓣 E G24 G25 b96 Δ0 (λ Ψ. Ψ) at133 (Lifetime.g-end 𝓤 H A W E G24 7 Path'.refl) d133
 
-          d133 : Typed.Typed 𝓤 H A 𝓣 E G23 b96 Δ0 at133
-          d133 = Typed.g-pre 𝓤 H A W 𝓣 E G23 G24 b96 Δ0 (Typed.pass T23 T24 s22) at132 (Scalar.g-room 𝓤 H A W E G23 26 (Syntax.tyInt Syntax.w32) (Scalar.room-sc 𝓤 H A W (Row.sInt Syntax.w32))) d132
+          d135 : Typed.Typed 𝓤 H A 𝓣 E G23 b96 Δ0 at135
+          d135 = Typed.g-pre 𝓤 H A W 𝓣 E G23 G24 b96 Δ0 (Typed.pass T23 T24 s22) at134 (Scalar.g-room 𝓤 H A W E G23 27 (Syntax.tyInt Syntax.w32) (Scalar.room-sc 𝓤 H A W (Row.sInt Syntax.w32))) d134
 
-          d134 : Typed.Typed 𝓤 H A 𝓣 E G22 b96 Δ0 at134
-          d134 = Typed.g-pre 𝓤 H A W 𝓣 E G22 G23 b96 Δ0 (Typed.pass T22 T23 s21) at133 (Scalar.g-room 𝓤 H A W E G22 21 Syntax.tyUnit (Scalar.room-sc 𝓤 H A W Row.sUnit)) d133
+          d136 : Typed.Typed 𝓤 H A 𝓣 E G22 b96 Δ0 at136
+          d136 = Typed.g-pre 𝓤 H A W 𝓣 E G22 G23 b96 Δ0 (Typed.pass T22 T23 s21) at135 (Scalar.g-room 𝓤 H A W E G22 22 Syntax.tyUnit (Scalar.room-sc 𝓤 H A W Row.sUnit)) d135
 
-          d135 : Typed.Typed 𝓤 H A 𝓣 E G21 b97 Δ0 at135
-          d135 = Typed.s-seq 𝓤 H A W 𝓣 E G21 G22 b9 b96 Δ0 (Typed.both s20) at134 (Plain.t-call-plain 𝓤 H A W 𝓣 1 ps·3 r·3 (claims· .6) (claims· .7) "block::records::start_records" (known .3) E (λ pos
-              β. β) G21 (record { pos = 25; ty = Syntax.tyRef Syntax.erased Syntax.mut Element.behind; ref = λ x. x }, (Num.vAt 12 λ x. x, (Num.vAt 26 λ x. x, tt))) 21 (List._∷_ 7 List.[]) (Call.sub-id 𝓤
+          d137 : Typed.Typed 𝓤 H A 𝓣 E G21 b97 Δ0 at137
+          d137 = Typed.s-seq 𝓤 H A W 𝓣 E G21 G22 b9 b96 Δ0 (Typed.both s20) at136 (Plain.t-call-plain 𝓤 H A W 𝓣 1 ps·3 r·3 (claims· .6) (claims· .7) "block::records::start_records" (known .3) E (λ pos
+              β. β) G21 (record { pos = 26; ty = Syntax.tyRef Syntax.erased Syntax.mut Element.behind; ref = λ x. x }, (Num.vAt 13 λ x. x, (Num.vAt 27 λ x. x, tt))) 22 (List._∷_ 7 List.[]) (Call.sub-id 𝓤
               H A W (G21 .slots)) (
                 Reads'.as-is 𝓤 H A (Mut.mslice (Element.type) (Syntax.tyRef Syntax.erased Syntax.mut Element.behind) 7),
                 Mut.reads-mslice 𝓤 H A W (Element.type) (Syntax.tyRef Syntax.erased Syntax.mut
@@ -5777,33 +5929,33 @@ module _ (claims· : Claims) where
                 Path'.refl,
                 ((Scalar.reads-sc 𝓤 H A W (Row.sInt Syntax.w32), Path'.refl), ((Scalar.reads-sc 𝓤 H A W (Row.sInt Syntax.w32), Path'.refl), tt)),
               ) (Reads'.room-gone 𝓤 H A
-              Syntax.tyUnit) (tt, tt) Path'.refl) d134
+              Syntax.tyUnit) (tt, tt) Path'.refl) d136
 
-          d136 : Typed.Typed 𝓤 H A 𝓣 E G20 b98 Δ0 at136
-          d136 = Typed.s-seq 𝓤 H A W 𝓣 E G20 G21 b8 b97 Δ0 (Typed.both s19) at135 (Plain.t-call-plain 𝓤 H A W 𝓣 1 ps·2 r·2 (claims· .4) (claims· .5) "block::reading::base_of" (known .2) E (λ pos β. β)
-              G20 (record { pos = 2; ty = Syntax.tyRef (Syntax.named 1) Syntax.imm (Syntax.tyInt Syntax.w8); ref = λ x. x }, (Num.vLit 0, tt)) 26 (List._∷_ 1 List.[]) (Call.sub-id 𝓤 H A W (G20 .slots)) (
+          d138 : Typed.Typed 𝓤 H A 𝓣 E G20 b98 Δ0 at138
+          d138 = Typed.s-seq 𝓤 H A W 𝓣 E G20 G21 b8 b97 Δ0 (Typed.both s19) at137 (Plain.t-call-plain 𝓤 H A W 𝓣 1 ps·2 r·2 (claims· .4) (claims· .5) "cameras::base_of" (known .2) E (λ pos β. β) G20
+              (record { pos = 2; ty = Syntax.tyRef (Syntax.named 1) Syntax.imm (Syntax.tyInt Syntax.w8); ref = λ x. x }, (Num.vLit 0, tt)) 27 (List._∷_ 1 List.[]) (Call.sub-id 𝓤 H A W (G20 .slots)) (
                 ShrSlice.spares-sslice 𝓤 H A W (Referent.rtF (Referent.fInt Syntax.w8)) (Syntax.tyRef (Syntax.named 1) Syntax.imm (Syntax.tyInt Syntax.w8)) 1,
                 Shared.reads-sslice 𝓤 H A W (Referent.rtF
                     (Referent.fInt Syntax.w8)) (Syntax.tyRef (Syntax.named 1) Syntax.imm (Syntax.tyInt Syntax.w8)) 1,
                 Path'.refl,
                 (tt, tt),
               ) (Reads'.room-gone 𝓤 H A (Syntax.tyInt Syntax.w32)) (tt, tt)
-              Path'.refl) d135
+              Path'.refl) d137
 
-          d137 : Typed.Typed 𝓤 H A 𝓣 E G19 b99 Δ0 at137
-          d137 = Typed.s-seq 𝓤 H A W 𝓣 E G19 G20 b7 b98 Δ0 (Typed.ask s18) at136 (Relend.t-sl-aggregate 𝓤 H A W E (Element.type) 𝓣 (Relend.asMut (Element.type)) G19 24 25 7 (Syntax.tyRef Syntax.erased
+          d139 : Typed.Typed 𝓤 H A 𝓣 E G19 b99 Δ0 at139
+          d139 = Typed.s-seq 𝓤 H A W 𝓣 E G19 G20 b7 b98 Δ0 (Typed.ask s18) at138 (Relend.t-sl-aggregate 𝓤 H A W E (Element.type) 𝓣 (Relend.asMut (Element.type)) G19 25 26 7 (Syntax.tyRef Syntax.erased
               Syntax.mut Element.behind) (Syntax.tyRef Syntax.erased Syntax.mut Element.behind) (λ x. x) (Scalar.oFld 4 (List._∷_ (Syntax.field 1) List.[]) (Syntax.tyInt Syntax.w64) 8 λ v. Shared.lenV (v
-              .0)) (Reads'.as-is 𝓤 H A (Relend.msptr (Element.type) (Syntax.tyRef Syntax.erased Syntax.mut Element.behind) 7)) (Reads'.room-gone 𝓤 H A y5)
+              .0)) (Reads'.as-is 𝓤 H A (Relend.msptr (Element.type) (Syntax.tyRef Syntax.erased Syntax.mut Element.behind) 7)) (Reads'.room-gone 𝓤 H A y6)
               (Relend.reads-owed-len 𝓤 H A W (Element.type) (Syntax.tyRef (Syntax.named 3) Syntax.mut Element.behind) 3 7 (Row.lease (κs .1 .1 .1 .0) (qs .1 .1 .1 .0)) 8 Path'.refl, Path'.refl) Path'.refl
-              Path'.refl λ b o k. tt) d136
+              Path'.refl λ b o k. tt) d138
 
-          d138 : Typed.Typed 𝓤 H A 𝓣 E G18 b100 Δ0 at138
-          d138 = Typed.s-seq 𝓤 H A W 𝓣 E G18 G19 b6 b99 Δ0 (Typed.give s17) at137 (Relend.t-sl-relend 𝓤 H A W E (Element.type) 𝓣 G18 4 24 3 7 (Syntax.tyRef (Syntax.named 3) Syntax.mut Element.behind)
+          d140 : Typed.Typed 𝓤 H A 𝓣 E G18 b100 Δ0 at140
+          d140 = Typed.s-seq 𝓤 H A W 𝓣 E G18 G19 b6 b99 Δ0 (Typed.give s17) at139 (Relend.t-sl-relend 𝓤 H A W E (Element.type) 𝓣 G18 4 25 3 7 (Syntax.tyRef (Syntax.named 3) Syntax.mut Element.behind)
               (Syntax.tyRef Syntax.erased Syntax.mut Element.behind) (Row.lease (κs .1 .1 .1 .0) (qs .1 .1 .1 .0)) 0 (λ x. x) (Reads'.as-is 𝓤 H A (Mut.mslice (Element.type) (Syntax.tyRef (Syntax.named 3)
-              Syntax.mut Element.behind) 3)) (Reads'.room-gone 𝓤 H A (Syntax.tyRef Syntax.erased Syntax.mut Element.behind)) Path'.refl tt Path'.refl Path'.refl Path'.refl λ b o. tt) d137
+              Syntax.mut Element.behind) 3)) (Reads'.room-gone 𝓤 H A (Syntax.tyRef Syntax.erased Syntax.mut Element.behind)) Path'.refl tt Path'.refl Path'.refl Path'.refl λ b o. tt) d139
 
-          d139 : Typed.Typed 𝓤 H A 𝓣 E G17 b100 Δ0 at139
-          d139 = Typed.g-pre 𝓤 H A W 𝓣 E G17 G18 b100 Δ0 (λ Ψ. Ψ) at138 (Lifetime.g-begin 𝓤 H A W E G17 7 (
+          d141 : Typed.Typed 𝓤 H A 𝓣 E G17 b100 Δ0 at141
+          d141 = Typed.g-pre 𝓤 H A W 𝓣 E G17 G18 b100 Δ0 (λ Ψ. Ψ) at140 (Lifetime.g-begin 𝓤 H A W E G17 7 (
             tt,
             (
               tt,
@@ -5849,7 +6001,10 @@ module _ (claims· : Claims) where
                                                       tt,
                                                       (
                                                         tt,
-                                                        (tt, (tt, (tt, (tt, (tt, (tt, (tt, (tt, (tt, (tt, (tt, (tt, (tt, (tt, (tt, (tt, (tt, (tt, (tt, (tt, (tt, (tt, (tt, (tt, (tt, (tt, (tt, tt))))))))))))))))))))))))))),
+                                                        (
+                                                          tt,
+                                                          (tt, (tt, (tt, (tt, (tt, (tt, (tt, (tt, (tt, (tt, (tt, (tt, (tt, (tt, (tt, (tt, (tt, (tt, (tt, (tt, (tt, (tt, (tt, (tt, (tt, (tt, (tt, tt))))))))))))))))))))))))))),
+                                                        ),
                                                       ),
                                                     ),
                                                   ),
@@ -5873,56 +6028,56 @@ module _ (claims· : Claims) where
               ),
             ),
           ))
-              d138
+              d140
 
-          d140 : Typed.Typed 𝓤 H A 𝓣 E G16 b100 Δ0 at140
-          d140 = Typed.g-pre 𝓤 H A W 𝓣 E G16 G17 b100 Δ0 (λ Ψ. Ψ) at139 (Lifetime.g-forget 𝓤 H A W E G16 6 Row.dead Path'.refl) d139
+          d142 : Typed.Typed 𝓤 H A 𝓣 E G16 b100 Δ0 at142
+          d142 = Typed.g-pre 𝓤 H A W 𝓣 E G16 G17 b100 Δ0 (λ Ψ. Ψ) at141 (Lifetime.g-forget 𝓤 H A W E G16 6 Row.dead Path'.refl) d141
 
-          d141 : Typed.Typed 𝓤 H A 𝓣 E G15 b100 Δ0 at141
-          d141 = Typed.g-pre 𝓤 H A W 𝓣 E G15 G16 b100 Δ0 (Typed.give s14) at140 (Know.g-sl-known 𝓤 H A W (Referent.fInt Syntax.w16) E G15 3 2 (Syntax.tyRef (Syntax.named 2) Syntax.mut (Syntax.tyInt
+          d143 : Typed.Typed 𝓤 H A 𝓣 E G15 b100 Δ0 at143
+          d143 = Typed.g-pre 𝓤 H A W 𝓣 E G15 G16 b100 Δ0 (Typed.give s14) at142 (Know.g-sl-known 𝓤 H A W (Referent.fInt Syntax.w16) E G15 3 2 (Syntax.tyRef (Syntax.named 2) Syntax.mut (Syntax.tyInt
               Syntax.w16)) (Row.lease (κs .1 .1 .0) (qs .1 .1 .0)) 0 (λ x. x) record { fits = Dec'.lit< tt } (Reads'.as-is 𝓤 H A (Mut.mslice (Referent.rtF (Referent.fInt Syntax.w16)) (Syntax.tyRef
-              (Syntax.named 2) Syntax.mut (Syntax.tyInt Syntax.w16)) 2)) Path'.refl tt) d140
+              (Syntax.named 2) Syntax.mut (Syntax.tyInt Syntax.w16)) 2)) Path'.refl tt) d142
 
-          d142 : Typed.Typed 𝓤 H A 𝓣 E G14 b100 Δ0 at142
-          d142 = Typed.g-pre 𝓤 H A W 𝓣 E G14 G15 b100 Δ0 (Typed.both s13) at141 (Relend.g-back-sl 𝓤 H A W E (Referent.rtF (Referent.fInt Syntax.w16)) G14 23 3 2 6 (Syntax.tyRef (Syntax.named 2)
+          d144 : Typed.Typed 𝓤 H A 𝓣 E G14 b100 Δ0 at144
+          d144 = Typed.g-pre 𝓤 H A W 𝓣 E G14 G15 b100 Δ0 (Typed.both s13) at143 (Relend.g-back-sl 𝓤 H A W E (Referent.rtF (Referent.fInt Syntax.w16)) G14 24 3 2 6 (Syntax.tyRef (Syntax.named 2)
               Syntax.mut (Syntax.tyInt Syntax.w16)) (Syntax.tyRef Syntax.erased Syntax.mut (Syntax.tyInt Syntax.w16)) (Row.lease (κs .1 .1 .0) (qs .1 .1 .0)) (λ x. x) (λ x. x) (Reads'.as-is 𝓤 H A
               (Mut.msleft (Referent.rtF (Referent.fInt Syntax.w16)) (Syntax.tyRef Syntax.erased Syntax.mut (Syntax.tyInt Syntax.w16)))) (Reads'.as-is 𝓤 H A (Relend.mslice-owed (Referent.rtF (Referent.fInt
-              Syntax.w16)) (Syntax.tyRef (Syntax.named 2) Syntax.mut (Syntax.tyInt Syntax.w16)) 2 6 (Row.lease (κs .1 .1 .0) (qs .1 .1 .0)))) Path'.refl Path'.refl) d141
+              Syntax.w16)) (Syntax.tyRef (Syntax.named 2) Syntax.mut (Syntax.tyInt Syntax.w16)) 2 6 (Row.lease (κs .1 .1 .0) (qs .1 .1 .0)))) Path'.refl Path'.refl) d143
 
-          d143 : Typed.Typed 𝓤 H A 𝓣 E G13 b100 Δ0 at143
-          d143 = Typed.g-pre 𝓤 H A W 𝓣 E G13 G14 b100 Δ0 (λ Ψ. Ψ) at142 (Lifetime.g-end 𝓤 H A W E G13 6 Path'.refl) d142
+          d145 : Typed.Typed 𝓤 H A 𝓣 E G13 b100 Δ0 at145
+          d145 = Typed.g-pre 𝓤 H A W 𝓣 E G13 G14 b100 Δ0 (λ Ψ. Ψ) at144 (Lifetime.g-end 𝓤 H A W E G13 6 Path'.refl) d144
 
-          d144 : Typed.Typed 𝓤 H A 𝓣 E G12 b100 Δ0 at144
-          d144 = Typed.g-pre 𝓤 H A W 𝓣 E G12 G13 b100 Δ0 (Typed.pass T12 T13 s11) at143 (Scalar.g-room 𝓤 H A W E G12 21 Syntax.tyUnit (Scalar.room-sc 𝓤 H A W Row.sUnit)) d143
+          d146 : Typed.Typed 𝓤 H A 𝓣 E G12 b100 Δ0 at146
+          d146 = Typed.g-pre 𝓤 H A W 𝓣 E G12 G13 b100 Δ0 (Typed.pass T12 T13 s11) at145 (Scalar.g-room 𝓤 H A W E G12 22 Syntax.tyUnit (Scalar.room-sc 𝓤 H A W Row.sUnit)) d145
 
-          d145 : Typed.Typed 𝓤 H A 𝓣 E G11 b101 Δ0 at145
-          d145 = Typed.s-seq 𝓤 H A W 𝓣 E G11 G12 b5 b100 Δ0 (Typed.both s10) at144 (Plain.t-call-plain 𝓤 H A W 𝓣 1 ps·1 r·1 (claims· .2) (claims· .3) "lines::clear" (known .1) E (λ pos β. β) G11
-              (record { pos = 23; ty = Syntax.tyRef Syntax.erased Syntax.mut (Syntax.tyInt Syntax.w16); ref = λ x. x }, tt) 21 (List._∷_ 6 List.[]) (Call.sub-id 𝓤 H A W (G11 .slots)) (
+          d147 : Typed.Typed 𝓤 H A 𝓣 E G11 b101 Δ0 at147
+          d147 = Typed.s-seq 𝓤 H A W 𝓣 E G11 G12 b5 b100 Δ0 (Typed.both s10) at146 (Plain.t-call-plain 𝓤 H A W 𝓣 1 ps·1 r·1 (claims· .2) (claims· .3) "lines::clear" (known .1) E (λ pos β. β) G11
+              (record { pos = 24; ty = Syntax.tyRef Syntax.erased Syntax.mut (Syntax.tyInt Syntax.w16); ref = λ x. x }, tt) 22 (List._∷_ 6 List.[]) (Call.sub-id 𝓤 H A W (G11 .slots)) (
                 Reads'.as-is 𝓤 H A (Mut.mslice (Referent.rtF (Referent.fInt Syntax.w16)) (Syntax.tyRef Syntax.erased Syntax.mut (Syntax.tyInt Syntax.w16)) 6),
                 Mut.reads-mslice 𝓤 H A W (Referent.rtF
                     (Referent.fInt Syntax.w16)) (Syntax.tyRef Syntax.erased Syntax.mut (Syntax.tyInt Syntax.w16)) 6,
                 Path'.refl,
                 tt,
-              ) (Reads'.room-gone 𝓤 H A Syntax.tyUnit) (tt, tt) Path'.refl) d144
+              ) (Reads'.room-gone 𝓤 H A Syntax.tyUnit) (tt, tt) Path'.refl) d146
 
-          d146 : Typed.Typed 𝓤 H A 𝓣 E G10 b102 Δ0 at146
-          d146 = Typed.s-seq 𝓤 H A W 𝓣 E G10 G11 b4 b101 Δ0 (Typed.ask s9) at145 (Relend.t-sl-aggregate 𝓤 H A W E (Referent.rtF (Referent.fInt Syntax.w16)) 𝓣 (Relend.asMut (Referent.rtF (Referent.fInt
-              Syntax.w16))) G10 22 23 6 (Syntax.tyRef Syntax.erased Syntax.mut (Syntax.tyInt Syntax.w16)) (Syntax.tyRef Syntax.erased Syntax.mut (Syntax.tyInt Syntax.w16)) (λ x. x) (Scalar.oFld 3
+          d148 : Typed.Typed 𝓤 H A 𝓣 E G10 b102 Δ0 at148
+          d148 = Typed.s-seq 𝓤 H A W 𝓣 E G10 G11 b4 b101 Δ0 (Typed.ask s9) at147 (Relend.t-sl-aggregate 𝓤 H A W E (Referent.rtF (Referent.fInt Syntax.w16)) 𝓣 (Relend.asMut (Referent.rtF (Referent.fInt
+              Syntax.w16))) G10 23 24 6 (Syntax.tyRef Syntax.erased Syntax.mut (Syntax.tyInt Syntax.w16)) (Syntax.tyRef Syntax.erased Syntax.mut (Syntax.tyInt Syntax.w16)) (λ x. x) (Scalar.oFld 3
               (List._∷_ (Syntax.field 1) List.[]) (Syntax.tyInt Syntax.w64) 8 λ v. Shared.lenV (v .0)) (Reads'.as-is 𝓤 H A (Relend.msptr (Referent.rtF (Referent.fInt Syntax.w16)) (Syntax.tyRef
-              Syntax.erased Syntax.mut (Syntax.tyInt Syntax.w16)) 6)) (Reads'.room-gone 𝓤 H A y4) (
+              Syntax.erased Syntax.mut (Syntax.tyInt Syntax.w16)) 6)) (Reads'.room-gone 𝓤 H A y5) (
                 Relend.reads-owed-len 𝓤 H A W (Referent.rtF (Referent.fInt Syntax.w16)) (Syntax.tyRef (Syntax.named 2) Syntax.mut (Syntax.tyInt Syntax.w16)) 2 6 (Row.lease (κs .1 .1 .0) (qs .1 .1 .0)) 8
                     Path'.refl,
                 Path'.refl,
-              ) Path'.refl Path'.refl λ b o k. tt) d145
+              ) Path'.refl Path'.refl λ b o k. tt) d147
 
-          d147 : Typed.Typed 𝓤 H A 𝓣 E G9 b103 Δ0 at147
-          d147 = Typed.s-seq 𝓤 H A W 𝓣 E G9 G10 b3 b102 Δ0 (Typed.give s8) at146 (Relend.t-sl-relend 𝓤 H A W E (Referent.rtF (Referent.fInt Syntax.w16)) 𝓣 G9 3 22 2 6 (Syntax.tyRef (Syntax.named 2)
+          d149 : Typed.Typed 𝓤 H A 𝓣 E G9 b103 Δ0 at149
+          d149 = Typed.s-seq 𝓤 H A W 𝓣 E G9 G10 b3 b102 Δ0 (Typed.give s8) at148 (Relend.t-sl-relend 𝓤 H A W E (Referent.rtF (Referent.fInt Syntax.w16)) 𝓣 G9 3 23 2 6 (Syntax.tyRef (Syntax.named 2)
               Syntax.mut (Syntax.tyInt Syntax.w16)) (Syntax.tyRef Syntax.erased Syntax.mut (Syntax.tyInt Syntax.w16)) (Row.lease (κs .1 .1 .0) (qs .1 .1 .0)) 0 (λ x. x) (Reads'.as-is 𝓤 H A (Mut.mslice
               (Referent.rtF (Referent.fInt Syntax.w16)) (Syntax.tyRef (Syntax.named 2) Syntax.mut (Syntax.tyInt Syntax.w16)) 2)) (Reads'.room-gone 𝓤 H A (Syntax.tyRef Syntax.erased Syntax.mut
-              (Syntax.tyInt Syntax.w16))) Path'.refl tt Path'.refl Path'.refl Path'.refl λ b o. tt) d146
+              (Syntax.tyInt Syntax.w16))) Path'.refl tt Path'.refl Path'.refl Path'.refl λ b o. tt) d148
 
-          d148 : Typed.Typed 𝓤 H A 𝓣 E G8 b103 Δ0 at148
-          d148 = Typed.g-pre 𝓤 H A W 𝓣 E G8 G9 b103 Δ0 (λ Ψ. Ψ) at147 (Lifetime.g-begin 𝓤 H A W E G8 6 (
+          d150 : Typed.Typed 𝓤 H A 𝓣 E G8 b103 Δ0 at150
+          d150 = Typed.g-pre 𝓤 H A W 𝓣 E G8 G9 b103 Δ0 (λ Ψ. Ψ) at149 (Lifetime.g-begin 𝓤 H A W E G8 6 (
             tt,
             (
               tt,
@@ -5968,7 +6123,10 @@ module _ (claims· : Claims) where
                                                       tt,
                                                       (
                                                         tt,
-                                                        (tt, (tt, (tt, (tt, (tt, (tt, (tt, (tt, (tt, (tt, (tt, (tt, (tt, (tt, (tt, (tt, (tt, (tt, (tt, (tt, (tt, (tt, (tt, (tt, (tt, (tt, (tt, tt))))))))))))))))))))))))))),
+                                                        (
+                                                          tt,
+                                                          (tt, (tt, (tt, (tt, (tt, (tt, (tt, (tt, (tt, (tt, (tt, (tt, (tt, (tt, (tt, (tt, (tt, (tt, (tt, (tt, (tt, (tt, (tt, (tt, (tt, (tt, (tt, tt))))))))))))))))))))))))))),
+                                                        ),
                                                       ),
                                                     ),
                                                   ),
@@ -5992,47 +6150,47 @@ module _ (claims· : Claims) where
               ),
             ),
           ))
-              d147
+              d149
 
-          d149 : Typed.Typed 𝓤 H A 𝓣 E G7 b104 Δ0 at149
-          d149 = Typed.s-seq 𝓤 H A W 𝓣 E G7 G8 b2 b103 Δ0 (Typed.both s6) at148 (Plain.t-call-plain 𝓤 H A W 𝓣 0 ps·0 r·0 (claims· .0) (claims· .1) "map::width" (known .0) E (λ pos β. β) G7
-              (Bool.bAt 13 λ x. x, tt) 14 List.[] (Call.sub-id 𝓤 H A W (G7 .slots)) ((Scalar.reads-sc 𝓤 H A W Row.sBool, Path'.refl), tt) (Reads'.room-gone 𝓤 H A (Syntax.tyInt Syntax.w64)) tt Path'.refl)
-              d148
+          d151 : Typed.Typed 𝓤 H A 𝓣 E G7 b104 Δ0 at151
+          d151 = Typed.s-seq 𝓤 H A W 𝓣 E G7 G8 b2 b103 Δ0 (Typed.both s6) at150 (Plain.t-call-plain 𝓤 H A W 𝓣 0 ps·0 r·0 (claims· .0) (claims· .1) "map::width" (known .0) E (λ pos β. β) G7
+              (Bool.bAt 14 λ x. x, tt) 15 List.[] (Call.sub-id 𝓤 H A W (G7 .slots)) ((Scalar.reads-sc 𝓤 H A W Row.sBool, Path'.refl), tt) (Reads'.room-gone 𝓤 H A (Syntax.tyInt Syntax.w64)) tt Path'.refl)
+              d150
 
-          d150 : Typed.Typed 𝓤 H A 𝓣 E G6 b105 Δ0 at150
-          d150 = Typed.s-seq 𝓤 H A W 𝓣 E G6 G7 b1 b104 Δ0 (Typed.pass T6 T7 s5) at149 (Scalar.t-use 𝓤 H A W E 𝓣 G6 (Scalar.oFld 6 (List._∷_ (Syntax.field 1) List.[]) Syntax.tyBool 4 (Reads.fieldV
-              Form.the-type Laws.the-laws 1)) 13 (Rows'.sc-here Row.sBool) Syntax.tyBool (Row.valS Row.sBool) (Row.sBool .of)
+          d152 : Typed.Typed 𝓤 H A 𝓣 E G6 b105 Δ0 at152
+          d152 = Typed.s-seq 𝓤 H A W 𝓣 E G6 G7 b1 b104 Δ0 (Typed.pass T6 T7 s5) at151 (Scalar.t-use 𝓤 H A W E 𝓣 G6 (Scalar.oFld 6 (List._∷_ (Syntax.field 1) List.[]) Syntax.tyBool 4 (Reads.fieldV
+              Form.the-type Laws.the-laws 1)) 14 (Rows'.sc-here Row.sBool) Syntax.tyBool (Row.valS Row.sBool) (Row.sBool .of)
               (Reads.reads-field 𝓤 H A W Form.the-type Laws.the-laws 1 Syntax.tyBool 4 Path'.refl, Path'.refl) (Reads'.room-gone 𝓤 H A Syntax.tyBool) (Scalar.holds-sc 𝓤 H A W Row.sBool) Path'.refl (λ u.
-              Path'.refl) λ u. tt) d149
+              Path'.refl) λ u. tt) d151
 
-          d151 : Typed.Typed 𝓤 H A 𝓣 E G5 b106 Δ0 at151
-          d151 = Typed.s-seq 𝓤 H A W 𝓣 E G5 G6 b0 b105 Δ0 (Typed.pass T5 T6 s4) at150 (Scalar.t-use 𝓤 H A W E 𝓣 G5 (Scalar.oFld 6 (List._∷_ (Syntax.field 0) List.[]) (Syntax.tyInt Syntax.w32) 0
-              (Reads.fieldV Form.the-type Laws.the-laws 0)) 12 (Rows'.sc-here (Row.sInt Syntax.w32)) (Syntax.tyInt Syntax.w32) (Row.valS (Row.sInt Syntax.w32)) (Row.sInt Syntax.w32 .of)
+          d153 : Typed.Typed 𝓤 H A 𝓣 E G5 b106 Δ0 at153
+          d153 = Typed.s-seq 𝓤 H A W 𝓣 E G5 G6 b0 b105 Δ0 (Typed.pass T5 T6 s4) at152 (Scalar.t-use 𝓤 H A W E 𝓣 G5 (Scalar.oFld 6 (List._∷_ (Syntax.field 0) List.[]) (Syntax.tyInt Syntax.w32) 0
+              (Reads.fieldV Form.the-type Laws.the-laws 0)) 13 (Rows'.sc-here (Row.sInt Syntax.w32)) (Syntax.tyInt Syntax.w32) (Row.valS (Row.sInt Syntax.w32)) (Row.sInt Syntax.w32 .of)
               (Reads.reads-field 𝓤 H A W Form.the-type Laws.the-laws 0 (Syntax.tyInt Syntax.w32) 0 Path'.refl, Path'.refl) (Reads'.room-gone 𝓤 H A (Syntax.tyInt Syntax.w32)) (Scalar.holds-sc 𝓤 H A W
-              (Row.sInt Syntax.w32)) Path'.refl (λ u. Path'.refl) λ u. tt) d150
+              (Row.sInt Syntax.w32)) Path'.refl (λ u. Path'.refl) λ u. tt) d152
 
-          d152 : Typed.Typed 𝓤 H A 𝓣 E G4 b106 Δ0 at152
-          d152 = Typed.g-pre 𝓤 H A W 𝓣 E G4 G5 b106 Δ0 (Typed.give s3) at151 (Know.g-sl-known 𝓤 H A W (Referent.fInt Syntax.w16) E G4 5 4 (Syntax.tyRef (Syntax.named 4) Syntax.mut (Syntax.tyInt
+          d154 : Typed.Typed 𝓤 H A 𝓣 E G4 b106 Δ0 at154
+          d154 = Typed.g-pre 𝓤 H A W 𝓣 E G4 G5 b106 Δ0 (Typed.give s3) at153 (Know.g-sl-known 𝓤 H A W (Referent.fInt Syntax.w16) E G4 5 4 (Syntax.tyRef (Syntax.named 4) Syntax.mut (Syntax.tyInt
               Syntax.w16)) (Row.lease (κs .1 .1 .1 .1 .0) (qs .1 .1 .1 .1 .0)) 0 (λ x. x) record { fits = Dec'.lit< tt } (Reads'.as-is 𝓤 H A (Mut.mslice (Referent.rtF (Referent.fInt Syntax.w16))
-              (Syntax.tyRef (Syntax.named 4) Syntax.mut (Syntax.tyInt Syntax.w16)) 4)) Path'.refl tt) d151
+              (Syntax.tyRef (Syntax.named 4) Syntax.mut (Syntax.tyInt Syntax.w16)) 4)) Path'.refl tt) d153
 
-          d153 : Typed.Typed 𝓤 H A 𝓣 E G3 b106 Δ0 at153
-          d153 = Typed.g-pre 𝓤 H A W 𝓣 E G3 G4 b106 Δ0 (Typed.give s2) at152 (Know.g-sl-known 𝓤 H A W (Referent.fInt Syntax.w16) E G3 3 2 (Syntax.tyRef (Syntax.named 2) Syntax.mut (Syntax.tyInt
+          d155 : Typed.Typed 𝓤 H A 𝓣 E G3 b106 Δ0 at155
+          d155 = Typed.g-pre 𝓤 H A W 𝓣 E G3 G4 b106 Δ0 (Typed.give s2) at154 (Know.g-sl-known 𝓤 H A W (Referent.fInt Syntax.w16) E G3 3 2 (Syntax.tyRef (Syntax.named 2) Syntax.mut (Syntax.tyInt
               Syntax.w16)) (Row.lease (κs .1 .1 .0) (qs .1 .1 .0)) 0 (λ x. x) record { fits = Dec'.lit< tt } (Reads'.as-is 𝓤 H A (Mut.mslice (Referent.rtF (Referent.fInt Syntax.w16)) (Syntax.tyRef
-              (Syntax.named 2) Syntax.mut (Syntax.tyInt Syntax.w16)) 2)) Path'.refl tt) d152
+              (Syntax.named 2) Syntax.mut (Syntax.tyInt Syntax.w16)) 2)) Path'.refl tt) d154
 
-          d154 : Typed.Typed 𝓤 H A 𝓣 E G2 b106 Δ0 at154
-          d154 = Typed.g-pre 𝓤 H A W 𝓣 E G2 G3 b106 Δ0 (Typed.give s1) at153 (Know.g-shs-known 𝓤 H A W (Referent.fInt Syntax.w8) E G2 2 1 (Syntax.tyRef (Syntax.named 1) Syntax.imm (Syntax.tyInt
+          d156 : Typed.Typed 𝓤 H A 𝓣 E G2 b106 Δ0 at156
+          d156 = Typed.g-pre 𝓤 H A W 𝓣 E G2 G3 b106 Δ0 (Typed.give s1) at155 (Know.g-shs-known 𝓤 H A W (Referent.fInt Syntax.w8) E G2 2 1 (Syntax.tyRef (Syntax.named 1) Syntax.imm (Syntax.tyInt
               Syntax.w8)) (Row.lease (κs .1 .0) (qs .1 .0)) 0 (λ x. x) record { fits = Dec'.lit< tt } (Reads'.as-is 𝓤 H A (Rows'.sslice (Referent.rtF (Referent.fInt Syntax.w8)) (Syntax.tyRef (Syntax.named
-              1) Syntax.imm (Syntax.tyInt Syntax.w8)) 1)) Path'.refl tt) d153
+              1) Syntax.imm (Syntax.tyInt Syntax.w8)) 1)) Path'.refl tt) d155
 
-          d155 : Typed.Typed 𝓤 H A 𝓣 E G0 b106 Δ0 at155
-          d155 = Typed.g-pre 𝓤 H A W 𝓣 E G0 G2 b106 Δ0 (Typed.give s0) at154 (Know.g-shs-known 𝓤 H A W (Referent.fInt Syntax.w8) E G0 1 0 (Syntax.tyRef (Syntax.named 0) Syntax.imm (Syntax.tyInt
+          d157 : Typed.Typed 𝓤 H A 𝓣 E G0 b106 Δ0 at157
+          d157 = Typed.g-pre 𝓤 H A W 𝓣 E G0 G2 b106 Δ0 (Typed.give s0) at156 (Know.g-shs-known 𝓤 H A W (Referent.fInt Syntax.w8) E G0 1 0 (Syntax.tyRef (Syntax.named 0) Syntax.imm (Syntax.tyInt
               Syntax.w8)) (Row.lease (κs .0) (qs .0)) 0 (λ x. x) record { fits = Dec'.lit< tt } (Reads'.as-is 𝓤 H A (Rows'.sslice (Referent.rtF (Referent.fInt Syntax.w8)) (Syntax.tyRef (Syntax.named 0)
-              Syntax.imm (Syntax.tyInt Syntax.w8)) 0)) Path'.refl tt) d154
+              Syntax.imm (Syntax.tyInt Syntax.w8)) 0)) Path'.refl tt) d156
 
           pub typed : Typed.Typed 𝓤 H A 𝓣 E (Function.Γin 6 ps r xs m κs qs) b106 (Function.Δret 6 ps r xs m κs qs) Φ
-          typed = d155
+          typed = d157
 
       module _ (κs : Lifetimes.Lfts 6) where
         pub record Args : Type 0 where
@@ -6044,17 +6202,17 @@ module _ (claims· : Claims) where
           pub form : Kinds.Den {n = 6} κs (Value.pVal record {
             ty = Declared'.row Form.the-type;
             one = Path'.refl;
-            val = Laws'9.val Form.the-type Laws.the-laws;
-            tells = Laws'9.tells Form.the-type Laws.the-laws;
-            still = Laws'9.still Form.the-type
+            val = Laws'10.val Form.the-type Laws.the-laws;
+            tells = Laws'10.tells Form.the-type Laws.the-laws;
+            still = Laws'10.still Form.the-type
                 Laws.the-copy Exit.yes;
             row = Rows'.whole (Declared'.row Form.the-type);
             rd = λ x. x;
             mk = λ x. x;
           } λ M 𝓤 H A W. record {
-            copies = Laws'9.copy Form.the-type Laws.the-copy 𝓤 H A W;
-            lawful = Laws'9.lawful Form.the-type Laws.the-laws 𝓤 H A W;
-            makes = Laws'9.makes Form.the-type Laws.the-plain 𝓤 H A;
+            copies = Laws'10.copy Form.the-type Laws.the-copy 𝓤 H A W;
+            lawful = Laws'10.lawful Form.the-type Laws.the-laws 𝓤 H A W;
+            makes = Laws'10.makes Form.the-type Laws.the-plain 𝓤 H A;
             in-mem =
                 Local.mem-whole 𝓤 H A W (Declared'.row Form.the-type);
             of-mem = Local.whole-mem 𝓤 H A W (Declared'.row Form.the-type);
@@ -6064,26 +6222,43 @@ module _ (claims· : Claims) where
           pub part : Kinds.Den {n = 6} κs (Value.pVal record {
             ty = Declared'.row Part.the-type;
             one = Path'.refl;
-            val = Laws'9.val Part.the-type Laws'4.the-laws;
-            tells = Laws'9.tells Part.the-type Laws'4.the-laws;
-            still = Laws'9.still Part.the-type
-                Laws'4.the-copy Exit.yes;
+            val = Laws'10.val Part.the-type Laws'5.the-laws;
+            tells = Laws'10.tells Part.the-type Laws'5.the-laws;
+            still = Laws'10.still
+                Part.the-type Laws'5.the-copy Exit.yes;
             row = Rows'.whole (Declared'.row Part.the-type);
             rd = λ x. x;
             mk = λ x. x;
           } λ M 𝓤 H A W. record {
-            copies = Laws'9.copy Part.the-type Laws'4.the-copy 𝓤 H A W;
-            lawful = Laws'9.lawful Part.the-type Laws'4.the-laws 𝓤 H A W;
-            makes = Laws'9.makes Part.the-type Laws'4.the-plain 𝓤 H A;
-            in-mem
-                = Local.mem-whole 𝓤 H A W (Declared'.row Part.the-type);
+            copies = Laws'10.copy Part.the-type Laws'5.the-copy 𝓤 H A W;
+            lawful = Laws'10.lawful Part.the-type Laws'5.the-laws 𝓤 H A W;
+            makes = Laws'10.makes Part.the-type Laws'5.the-plain 𝓤 H A;
+            in-mem = Local.mem-whole 𝓤 H A W (Declared'.row Part.the-type);
             of-mem = Local.whole-mem 𝓤 H A W (Declared'.row Part.the-type);
           })
           pub count : Kinds.Den {n = 6} κs (Num.pNum Syntax.w64)
           pub windowed : Kinds.Den {n = 6} κs Bool.pBool
+          pub entries : Kinds.Den {n = 6} κs (Value.pVal record {
+            ty = Declared'.row Entries.the-type;
+            one = Path'.refl;
+            val = Laws'10.val Entries.the-type Laws'3.the-laws;
+            tells = Laws'10.tells Entries.the-type Laws'3.the-laws;
+            still = Laws'10.still
+                Entries.the-type Laws'3.the-copy Exit.yes;
+            row = Rows'.whole (Declared'.row Entries.the-type);
+            rd = λ x. x;
+            mk = λ x. x;
+          } λ M 𝓤 H A W. record {
+            copies = Laws'10.copy Entries.the-type Laws'3.the-copy 𝓤 H A W;
+            lawful = Laws'10.lawful Entries.the-type Laws'3.the-laws 𝓤 H A W;
+            makes = Laws'10.makes Entries.the-type Laws'3.the-plain 𝓤
+                H A;
+            in-mem = Local.mem-whole 𝓤 H A W (Declared'.row Entries.the-type);
+            of-mem = Local.whole-mem 𝓤 H A W (Declared'.row Entries.the-type);
+          })
 
         abbrev pub dens : (a : Args) → Kinds.Dens κs ps
-        dens = λ a. (a .block, (a .bases, (a .lines, (a .rs, (a .image, (a .form, (a .places, (a .tile, (a .part, (a .count, (a .windowed, tt)))))))))))
+        dens = λ a. (a .block, (a .bases, (a .lines, (a .rs, (a .image, (a .form, (a .places, (a .tile, (a .part, (a .count, (a .windowed, (a .entries, tt))))))))))))
 
         module _ (args· : Args) where
           pub record Ranges : Type 0 where
@@ -6165,14 +6340,14 @@ module _ (claims· : Claims) where
 
       module _ (before· : After-slice-known2) where
         abbrev pub After-width·own : Type 0
-        After-width·own = Called.Called ps·0 r·0 (claims· .1) T7 (Bool.bAt 13 λ x. x, tt) (m6 (before· .before) (before· .slice-known2 .given))
+        After-width·own = Called.Called ps·0 r·0 (claims· .1) T7 (Bool.bAt 14 λ x. x, tt) (m6 (before· .before) (before· .slice-known2 .given))
 
       pub record After-width : Type 0 where
         pub before : After-slice-known2
         pub width : After-width·own before
 
       abbrev pub After-width·gave : (c : After-width) → s6 .gives (m6 (c .before .before) (c .before .slice-known2 .given))
-      After-width·gave = λ c. Called.given ps·0 r·0 (claims· .1) T7 (Bool.bAt 13 λ x. x, tt) (m6 (c .before .before) (c .before .slice-known2 .given)) (c .width)
+      After-width·gave = λ c. Called.given ps·0 r·0 (claims· .1) T7 (Bool.bAt 14 λ x. x, tt) (m6 (c .before .before) (c .before .slice-known2 .given)) (c .width)
 
       abbrev pub m8 : (before : After-width) → (given : s8 .gives (m7 (before .before) (After-width·gave before))) → Typed.Mo T10
       m8 = λ before given. s8 .next (m7 (before .before) (After-width·gave before)) given
@@ -6196,7 +6371,7 @@ module _ (claims· : Claims) where
 
       module _ (before· : After-clear-arg) where
         abbrev pub After-clear·own : Type 0
-        After-clear·own = Called.Called ps·1 r·1 (claims· .3) T11 (record { pos = 23; ty = Syntax.tyRef Syntax.erased Syntax.mut (Syntax.tyInt Syntax.w16); ref = λ x. x }, tt) (m9 (before· .before)
+        After-clear·own = Called.Called ps·1 r·1 (claims· .3) T11 (record { pos = 24; ty = Syntax.tyRef Syntax.erased Syntax.mut (Syntax.tyInt Syntax.w16); ref = λ x. x }, tt) (m9 (before· .before)
             (before· .clear-arg .given))
 
       pub record After-clear : Type 0 where
@@ -6204,7 +6379,7 @@ module _ (claims· : Claims) where
         pub clear : After-clear·own before
 
       abbrev pub After-clear·gave : (c : After-clear) → s10 .gives (m9 (c .before .before) (c .before .clear-arg .given))
-      After-clear·gave = λ c. Called.given ps·1 r·1 (claims· .3) T11 (record { pos = 23; ty = Syntax.tyRef Syntax.erased Syntax.mut (Syntax.tyInt Syntax.w16); ref = λ x. x }, tt) (m9 (c .before
+      After-clear·gave = λ c. Called.given ps·1 r·1 (claims· .3) T11 (record { pos = 24; ty = Syntax.tyRef Syntax.erased Syntax.mut (Syntax.tyInt Syntax.w16); ref = λ x. x }, tt) (m9 (c .before
           .before) (c .before .clear-arg .given)) (c .clear)
 
       abbrev pub m11 : (before : After-clear-arg) → (given : s10 .gives (m9 (before .before) (before .clear-arg .given))) → Typed.Mo T13
@@ -6274,7 +6449,7 @@ module _ (claims· : Claims) where
       module _ (before· : After-base-of) where
         abbrev pub After-start-records·own : Type 0
         After-start-records·own = Called.Called ps·3 r·3 (claims· .7) T21
-            (record { pos = 25; ty = Syntax.tyRef Syntax.erased Syntax.mut Element.behind; ref = λ x. x }, (Num.vAt 12 λ x. x, (Num.vAt 26 λ x. x, tt))) (m16 (before· .before) (After-base-of·gave
+            (record { pos = 26; ty = Syntax.tyRef Syntax.erased Syntax.mut Element.behind; ref = λ x. x }, (Num.vAt 13 λ x. x, (Num.vAt 27 λ x. x, tt))) (m16 (before· .before) (After-base-of·gave
             before·))
 
       pub record After-start-records : Type 0 where
@@ -6283,7 +6458,7 @@ module _ (claims· : Claims) where
 
       abbrev pub After-start-records·gave : (c : After-start-records) → s20 .gives (m16 (c .before .before) (After-base-of·gave (c .before)))
       After-start-records·gave = λ c. Called.given ps·3 r·3 (claims· .7) T21
-          (record { pos = 25; ty = Syntax.tyRef Syntax.erased Syntax.mut Element.behind; ref = λ x. x }, (Num.vAt 12 λ x. x, (Num.vAt 26 λ x. x, tt))) (m16 (c .before .before) (After-base-of·gave (c
+          (record { pos = 26; ty = Syntax.tyRef Syntax.erased Syntax.mut Element.behind; ref = λ x. x }, (Num.vAt 13 λ x. x, (Num.vAt 27 λ x. x, tt))) (m16 (c .before .before) (After-base-of·gave (c
           .before))) (c .start-records)
 
       abbrev pub m18 : (before : After-base-of) → (given : s20 .gives (m16 (before .before) (After-base-of·gave before))) → Typed.Mo T23
@@ -6341,7 +6516,7 @@ module _ (claims· : Claims) where
       m23 = λ before given. s28 (m22 before given)
 
       abbrev W1 : (before : After-start-place) → (given : s27 .gives (m21 (before .before) (After-start-place·gave before))) → Typed.Want O1
-      W1 = λ before given. Typed.wantNext T31 O0 (at125 (W0 (before .before .before .before .before .before .before .before .before .before .before .before .before .before .before .κs) (before .before
+      W1 = λ before given. Typed.wantNext T31 O0 (at127 (W0 (before .before .before .before .before .before .before .before .before .before .before .before .before .before .before .κs) (before .before
           .before .before .before .before .before .before .before .before .before .before .before .before .before .args))) (W0 (before .before .before .before .before .before .before .before .before
           .before .before .before .before .before .before .κs) (before .before .before .before .before .before .before .before .before .before .before .before .before .before .before .args))
 
@@ -6355,22 +6530,23 @@ module _ (claims· : Claims) where
           .locals) (m23 (c .before) (After-no-lines·gave c))) (Row.get 9 (T30 .locals) (m23 (c .before) (After-no-lines·gave c))) (Row.get 10 (T30 .locals) (m23 (c .before) (After-no-lines·gave c)))
           (Row.get 11 (T30 .locals) (m23 (c .before) (After-no-lines·gave c))) (Row.get 12 (T30 .locals) (m23 (c .before) (After-no-lines·gave c))) (Row.get 13 (T30 .locals) (m23 (c .before)
           (After-no-lines·gave c))) (Row.get 14 (T30 .locals) (m23 (c .before) (After-no-lines·gave c))) (Row.get 15 (T30 .locals) (m23 (c .before) (After-no-lines·gave c))) (Row.get 16 (T30 .locals) (m23
-          (c .before) (After-no-lines·gave c))) (Row.get 17 (T30 .locals) (m23 (c .before) (After-no-lines·gave c))) (Row.get 3 (T30 .locals) (m23 (c .before) (After-no-lines·gave c)) .now) (Row.get 4
-          (T30 .locals) (m23 (c .before) (After-no-lines·gave c)) .now) (Row.get 5 (T30 .locals) (m23 (c .before) (After-no-lines·gave c)) .now) (Row.get 15 (T30 .locals) (m23 (c .before)
-          (After-no-lines·gave c))) (Row.get 16 (T30 .locals) (m23 (c .before) (After-no-lines·gave c))) (Row.get 17 (T30 .locals) (m23 (c .before) (After-no-lines·gave c)))
+          (c .before) (After-no-lines·gave c))) (Row.get 17 (T30 .locals) (m23 (c .before) (After-no-lines·gave c))) (Row.get 18 (T30 .locals) (m23 (c .before) (After-no-lines·gave c))) (Row.get 3 (T30
+          .locals) (m23 (c .before) (After-no-lines·gave c)) .now) (Row.get 4 (T30 .locals) (m23 (c .before) (After-no-lines·gave c)) .now) (Row.get 5 (T30 .locals) (m23 (c .before) (After-no-lines·gave
+          c)) .now) (Row.get 16 (T30 .locals) (m23 (c .before) (After-no-lines·gave c))) (Row.get 17 (T30 .locals) (m23 (c .before) (After-no-lines·gave c))) (Row.get 18 (T30 .locals) (m23 (c .before)
+          (After-no-lines·gave c)))
 
       abbrev pub m24 : (before : After-no-lines) → (lines : List.List (Referent.rtF (Referent.fInt Syntax.w16) .Denot)) → (rs : List.List (Element.type .Denot)) → (image : List.List (Referent.rtF
           (Referent.fInt Syntax.w16) .Denot)) → (place : Rows'.whole (Declared'.row Place.the-type) .Mod) → (tight-lines : Rows'.whole (Declared'.row TightLines.the-type) .Mod) → (n : Rows'.sc-here
           (Row.sInt Syntax.w64) .Mod) → Typed.Mo T30
-      m24 = λ before lines rs image place tight-lines n. Row.set 17 (17, Rows'.sc-here (Row.sInt Syntax.w64)) n (Row.setRow 16 (16, Rows'.whole (Declared'.row TightLines.the-type)) (Row.setRow 15
-          (15, Rows'.whole (Declared'.row Place.the-type)) (Row.setRow 5 (5, Mut.mslice (Referent.rtF (Referent.fInt Syntax.w16)) (Syntax.tyRef (Syntax.named 4) Syntax.mut (Syntax.tyInt Syntax.w16)) 4)
+      m24 = λ before lines rs image place tight-lines n. Row.set 18 (18, Rows'.sc-here (Row.sInt Syntax.w64)) n (Row.setRow 17 (17, Rows'.whole (Declared'.row TightLines.the-type)) (Row.setRow 16
+          (16, Rows'.whole (Declared'.row Place.the-type)) (Row.setRow 5 (5, Mut.mslice (Referent.rtF (Referent.fInt Syntax.w16)) (Syntax.tyRef (Syntax.named 4) Syntax.mut (Syntax.tyInt Syntax.w16)) 4)
           (Row.setRow 4 (4, Mut.mslice (Element.type) (Syntax.tyRef (Syntax.named 3) Syntax.mut Element.behind) 3) (Row.setRow 3
-          (3, Mut.mslice (Referent.rtF (Referent.fInt Syntax.w16)) (Syntax.tyRef (Syntax.named 2) Syntax.mut (Syntax.tyInt Syntax.w16)) 2) (T30 .locals)))))) (Row.set 16
-          (16, Rows'.whole (Declared'.row TightLines.the-type)) tight-lines (Row.setRow 15 (15, Rows'.whole (Declared'.row Place.the-type)) (Row.setRow 5
+          (3, Mut.mslice (Referent.rtF (Referent.fInt Syntax.w16)) (Syntax.tyRef (Syntax.named 2) Syntax.mut (Syntax.tyInt Syntax.w16)) 2) (T30 .locals)))))) (Row.set 17
+          (17, Rows'.whole (Declared'.row TightLines.the-type)) tight-lines (Row.setRow 16 (16, Rows'.whole (Declared'.row Place.the-type)) (Row.setRow 5
           (5, Mut.mslice (Referent.rtF (Referent.fInt Syntax.w16)) (Syntax.tyRef (Syntax.named 4) Syntax.mut (Syntax.tyInt Syntax.w16)) 4) (Row.setRow 4
           (4, Mut.mslice (Element.type) (Syntax.tyRef (Syntax.named 3) Syntax.mut Element.behind) 3) (Row.setRow 3
-          (3, Mut.mslice (Referent.rtF (Referent.fInt Syntax.w16)) (Syntax.tyRef (Syntax.named 2) Syntax.mut (Syntax.tyInt Syntax.w16)) 2) (T30 .locals))))) (Row.set 15
-          (15, Rows'.whole (Declared'.row Place.the-type)) place (Row.setRow 5
+          (3, Mut.mslice (Referent.rtF (Referent.fInt Syntax.w16)) (Syntax.tyRef (Syntax.named 2) Syntax.mut (Syntax.tyInt Syntax.w16)) 2) (T30 .locals))))) (Row.set 16
+          (16, Rows'.whole (Declared'.row Place.the-type)) place (Row.setRow 5
           (5, Mut.mslice (Referent.rtF (Referent.fInt Syntax.w16)) (Syntax.tyRef (Syntax.named 4) Syntax.mut (Syntax.tyInt Syntax.w16)) 4) (Row.setRow 4
           (4, Mut.mslice (Element.type) (Syntax.tyRef (Syntax.named 3) Syntax.mut Element.behind) 3) (Row.setRow 3
           (3, Mut.mslice (Referent.rtF (Referent.fInt Syntax.w16)) (Syntax.tyRef (Syntax.named 2) Syntax.mut (Syntax.tyInt Syntax.w16)) 2) (T30 .locals)))) (Row.set 5
@@ -6391,11 +6567,11 @@ module _ (claims· : Claims) where
       W3 = λ before lines rs image place tight-lines n. Typed.inLoop T30 O2 (Typed.Round T30 O2 put0 (λ u vs. Inv·0 (Row.get 1 (T30 .locals) u .now) (Row.get 2 (T30 .locals) u .now) (Row.get 3 (T30
           .locals) u .now) (Row.get 4 (T30 .locals) u .now) (Row.get 5 (T30 .locals) u .now) (Row.get 6 (T30 .locals) u) (Row.get 7 (T30 .locals) u .now) (Row.get 8 (T30 .locals) u) (Row.get 9 (T30
           .locals) u) (Row.get 10 (T30 .locals) u) (Row.get 11 (T30 .locals) u) (Row.get 12 (T30 .locals) u) (Row.get 13 (T30 .locals) u) (Row.get 14 (T30 .locals) u) (Row.get 15 (T30 .locals) u) (Row.get
-          16 (T30 .locals) u) (Row.get 17 (T30 .locals) u) (vs .0) (vs .1) (vs .2) (vs .3) (vs .4) (vs .5)) (λ u vs. μ·0 (Row.get 1 (T30 .locals) u .now) (Row.get 2 (T30 .locals) u .now) (Row.get 3 (T30
-          .locals) u .now) (Row.get 4 (T30 .locals) u .now) (Row.get 5 (T30 .locals) u .now) (Row.get 6 (T30 .locals) u) (Row.get 7 (T30 .locals) u .now) (Row.get 8 (T30 .locals) u) (Row.get 9 (T30
-          .locals) u) (Row.get 10 (T30 .locals) u) (Row.get 11 (T30 .locals) u) (Row.get 12 (T30 .locals) u) (Row.get 13 (T30 .locals) u) (Row.get 14 (T30 .locals) u) (Row.get 15 (T30 .locals) u) (Row.get
-          16 (T30 .locals) u) (Row.get 17 (T30 .locals) u) (vs .0) (vs .1) (vs .2) (vs .3) (vs .4) (vs .5)) at111 (m23 (before .before) (After-no-lines·gave before))
-          (lines, rs, image, place, tight-lines, n)) (W2 (before .before) (After-no-lines·gave before))
+          16 (T30 .locals) u) (Row.get 17 (T30 .locals) u) (Row.get 18 (T30 .locals) u) (vs .0) (vs .1) (vs .2) (vs .3) (vs .4) (vs .5)) (λ u vs. μ·0 (Row.get 1 (T30 .locals) u .now) (Row.get 2 (T30
+          .locals) u .now) (Row.get 3 (T30 .locals) u .now) (Row.get 4 (T30 .locals) u .now) (Row.get 5 (T30 .locals) u .now) (Row.get 6 (T30 .locals) u) (Row.get 7 (T30 .locals) u .now) (Row.get 8 (T30
+          .locals) u) (Row.get 9 (T30 .locals) u) (Row.get 10 (T30 .locals) u) (Row.get 11 (T30 .locals) u) (Row.get 12 (T30 .locals) u) (Row.get 13 (T30 .locals) u) (Row.get 14 (T30 .locals) u) (Row.get
+          15 (T30 .locals) u) (Row.get 16 (T30 .locals) u) (Row.get 17 (T30 .locals) u) (Row.get 18 (T30 .locals) u) (vs .0) (vs .1) (vs .2) (vs .3) (vs .4) (vs .5)) at113 (m23 (before .before)
+          (After-no-lines·gave before)) (lines, rs, image, place, tight-lines, n)) (W2 (before .before) (After-no-lines·gave before))
 
       abbrev pub m25 : (before : After-no-lines) → (lines : List.List (Referent.rtF (Referent.fInt Syntax.w16) .Denot)) → (rs : List.List (Element.type .Denot)) → (image : List.List (Referent.rtF
           (Referent.fInt Syntax.w16) .Denot)) → (place : Rows'.whole (Declared'.row Place.the-type) .Mod) → (tight-lines : Rows'.whole (Declared'.row TightLines.the-type) .Mod) → (n : Rows'.sc-here
@@ -6405,7 +6581,7 @@ module _ (claims· : Claims) where
       abbrev W4 : (before : After-no-lines) → (lines : List.List (Referent.rtF (Referent.fInt Syntax.w16) .Denot)) → (rs : List.List (Element.type .Denot)) → (image : List.List (Referent.rtF
           (Referent.fInt Syntax.w16) .Denot)) → (place : Rows'.whole (Declared'.row Place.the-type) .Mod) → (tight-lines : Rows'.whole (Declared'.row TightLines.the-type) .Mod) → (n : Rows'.sc-here
           (Row.sInt Syntax.w64) .Mod) → Typed.Want O4
-      W4 = λ before lines rs image place tight-lines n. Typed.wantNext T33 O3 (at109 (W3 before lines rs image place tight-lines n)) (W3 before lines rs image place tight-lines n)
+      W4 = λ before lines rs image place tight-lines n. Typed.wantNext T33 O3 (at111 (W3 before lines rs image place tight-lines n)) (W3 before lines rs image place tight-lines n)
 
       module _ (before· : After-no-lines) where
         pub record At-loop·own : Type 0 where
@@ -6422,7 +6598,8 @@ module _ (claims· : Claims) where
               (After-no-lines·gave before·))) (Row.get 10 (T30 .locals) (m23 (before· .before) (After-no-lines·gave before·))) (Row.get 11 (T30 .locals) (m23 (before· .before) (After-no-lines·gave
               before·))) (Row.get 12 (T30 .locals) (m23 (before· .before) (After-no-lines·gave before·))) (Row.get 13 (T30 .locals) (m23 (before· .before) (After-no-lines·gave before·))) (Row.get 14 (T30
               .locals) (m23 (before· .before) (After-no-lines·gave before·))) (Row.get 15 (T30 .locals) (m23 (before· .before) (After-no-lines·gave before·))) (Row.get 16 (T30 .locals) (m23 (before·
-              .before) (After-no-lines·gave before·))) (Row.get 17 (T30 .locals) (m23 (before· .before) (After-no-lines·gave before·))) lines rs image place tight-lines n
+              .before) (After-no-lines·gave before·))) (Row.get 17 (T30 .locals) (m23 (before· .before) (After-no-lines·gave before·))) (Row.get 18 (T30 .locals) (m23 (before· .before)
+              (After-no-lines·gave before·))) lines rs image place tight-lines n
 
       pub record At-loop : Type 0 where
         pub before : After-no-lines
@@ -6430,7 +6607,7 @@ module _ (claims· : Claims) where
 
       module _ (before· : At-loop) where
         pub record In-loop·own : Type 0 where
-          pub taken : Nat._<_ (Row.get 17 (T30 .locals) (m24 (before· .before) (before· .loop .lines) (before· .loop .rs) (before· .loop .image) (before· .loop .place) (before· .loop .tight-lines)
+          pub taken : Nat._<_ (Row.get 18 (T30 .locals) (m24 (before· .before) (before· .loop .lines) (before· .loop .rs) (before· .loop .image) (before· .loop .place) (before· .loop .tight-lines)
               (before· .loop .n))) (Row.get 10 (T30 .locals) (m24 (before· .before) (before· .loop .lines) (before· .loop .rs) (before· .loop .image) (before· .loop .place) (before· .loop .tight-lines)
               (before· .loop .n)))
 
@@ -6444,7 +6621,7 @@ module _ (claims· : Claims) where
       module _ (before· : At-loop) where
         pub record After-loop·own : Type 0 where
           pub left : Nat._≤_ (Row.get 10 (T30 .locals) (m24 (before· .before) (before· .loop .lines) (before· .loop .rs) (before· .loop .image) (before· .loop .place) (before· .loop .tight-lines)
-              (before· .loop .n))) (Row.get 17 (T30 .locals) (m24 (before· .before) (before· .loop .lines) (before· .loop .rs) (before· .loop .image) (before· .loop .place) (before· .loop .tight-lines)
+              (before· .loop .n))) (Row.get 18 (T30 .locals) (m24 (before· .before) (before· .loop .lines) (before· .loop .rs) (before· .loop .image) (before· .loop .place) (before· .loop .tight-lines)
               (before· .loop .n)))
 
       pub record After-loop : Type 0 where
@@ -6463,248 +6640,253 @@ module _ (claims· : Claims) where
       abbrev pub m30 : (before : At-loop) → Typed.Mo T38
       m30 = λ before. s34 (m29 before)
 
-      abbrev pub m31 : (before : In-loop) → (given : s36 .gives (m26 (before .before))) → Typed.Mo T40
-      m31 = λ before given. s36 .next (m26 (before .before)) given
+      abbrev pub m31 : (before : At-loop) → Typed.Mo T39
+      m31 = λ before. s35 (m30 before)
 
-      abbrev pub m32 : (before : In-loop) → (given : s36 .gives (m26 (before .before))) → Typed.Mo T41
-      m32 = λ before given. s37 .next (m31 before given)
+      abbrev pub m32 : (before : In-loop) → (given : s37 .gives (m26 (before .before))) → Typed.Mo T41
+      m32 = λ before given. s37 .next (m26 (before .before)) given
 
-      abbrev pub m33 : (before : In-loop) → (given : s36 .gives (m26 (before .before))) → Typed.Mo T42
+      abbrev pub m33 : (before : In-loop) → (given : s37 .gives (m26 (before .before))) → Typed.Mo T42
       m33 = λ before given. s38 .next (m32 before given)
+
+      abbrev pub m34 : (before : In-loop) → (given : s37 .gives (m26 (before .before))) → Typed.Mo T43
+      m34 = λ before given. s39 .next (m33 before given)
 
       module _ (before· : In-loop) where
         pub record After-turn-if-arg·own : Type 0 where
-          pub given : s36 .gives (m26 (before· .before))
+          pub given : s37 .gives (m26 (before· .before))
 
       pub record After-turn-if-arg : Type 0 where
         pub before : In-loop
         pub turn-if-arg : After-turn-if-arg·own before
 
       abbrev pub Need-turn-if-requires : Type 0
-      Need-turn-if-requires = (c : After-turn-if-arg) → s39 .asks (m33 (c .before) (c .turn-if-arg .given))
+      Need-turn-if-requires = (c : After-turn-if-arg) → s40 .asks (m34 (c .before) (c .turn-if-arg .given))
 
-      abbrev pub m34 : (before : After-turn-if-arg) → (given : s39 .gives (m33 (before .before) (before .turn-if-arg .given))) → Typed.Mo T43
-      m34 = λ before given. s39 .next (m33 (before .before) (before .turn-if-arg .given)) given
+      abbrev pub m35 : (before : After-turn-if-arg) → (given : s40 .gives (m34 (before .before) (before .turn-if-arg .given))) → Typed.Mo T44
+      m35 = λ before given. s40 .next (m34 (before .before) (before .turn-if-arg .given)) given
 
       module _ (before· : After-turn-if-arg) where
         abbrev pub After-turn-if·own : Type 0
-        After-turn-if·own = Called.Called ps·6 r·6 (claims· .13) T42
-            (record { pos = 30; ty = Syntax.tyRef Syntax.erased Syntax.mut (Syntax.tyInt Syntax.w16); ref = λ x. x }, (Num.vAt 14 λ x. x, (Bool.bAt 27 λ x. x, tt))) (m33 (before· .before) (before·
+        After-turn-if·own = Called.Called ps·6 r·6 (claims· .13) T43
+            (record { pos = 31; ty = Syntax.tyRef Syntax.erased Syntax.mut (Syntax.tyInt Syntax.w16); ref = λ x. x }, (Num.vAt 15 λ x. x, (Bool.bAt 28 λ x. x, tt))) (m34 (before· .before) (before·
             .turn-if-arg .given))
 
       pub record After-turn-if : Type 0 where
         pub before : After-turn-if-arg
         pub turn-if : After-turn-if·own before
 
-      abbrev pub After-turn-if·gave : (c : After-turn-if) → s39 .gives (m33 (c .before .before) (c .before .turn-if-arg .given))
-      After-turn-if·gave = λ c. Called.given ps·6 r·6 (claims· .13) T42
-          (record { pos = 30; ty = Syntax.tyRef Syntax.erased Syntax.mut (Syntax.tyInt Syntax.w16); ref = λ x. x }, (Num.vAt 14 λ x. x, (Bool.bAt 27 λ x. x, tt))) (m33 (c .before .before) (c .before
+      abbrev pub After-turn-if·gave : (c : After-turn-if) → s40 .gives (m34 (c .before .before) (c .before .turn-if-arg .given))
+      After-turn-if·gave = λ c. Called.given ps·6 r·6 (claims· .13) T43
+          (record { pos = 31; ty = Syntax.tyRef Syntax.erased Syntax.mut (Syntax.tyInt Syntax.w16); ref = λ x. x }, (Num.vAt 15 λ x. x, (Bool.bAt 28 λ x. x, tt))) (m34 (c .before .before) (c .before
           .turn-if-arg .given)) (c .turn-if)
 
-      abbrev pub m35 : (before : After-turn-if-arg) → (given : s39 .gives (m33 (before .before) (before .turn-if-arg .given))) → Typed.Mo T44
-      m35 = λ before given. s40 (m34 before given)
-
-      abbrev pub m36 : (before : After-turn-if-arg) → (given : s39 .gives (m33 (before .before) (before .turn-if-arg .given))) → Typed.Mo T45
+      abbrev pub m36 : (before : After-turn-if-arg) → (given : s40 .gives (m34 (before .before) (before .turn-if-arg .given))) → Typed.Mo T45
       m36 = λ before given. s41 (m35 before given)
 
-      abbrev pub m37 : (before : After-turn-if) → (given : s43 .gives (m36 (before .before) (After-turn-if·gave before))) → Typed.Mo T47
-      m37 = λ before given. s43 .next (m36 (before .before) (After-turn-if·gave before)) given
+      abbrev pub m37 : (before : After-turn-if-arg) → (given : s40 .gives (m34 (before .before) (before .turn-if-arg .given))) → Typed.Mo T46
+      m37 = λ before given. s42 (m36 before given)
+
+      abbrev pub m38 : (before : After-turn-if) → (given : s44 .gives (m37 (before .before) (After-turn-if·gave before))) → Typed.Mo T48
+      m38 = λ before given. s44 .next (m37 (before .before) (After-turn-if·gave before)) given
 
       module _ (before· : After-turn-if) where
         pub record After-lines2·own : Type 0 where
-          pub given : s43 .gives (m36 (before· .before) (After-turn-if·gave before·))
+          pub given : s44 .gives (m37 (before· .before) (After-turn-if·gave before·))
 
       pub record After-lines2 : Type 0 where
         pub before : After-turn-if
         pub lines2 : After-lines2·own before
 
-      abbrev pub m38 : (before : After-lines2) → (given : s44 .gives (m37 (before .before) (before .lines2 .given))) → Typed.Mo T48
-      m38 = λ before given. s44 .next (m37 (before .before) (before .lines2 .given)) given
+      abbrev pub m39 : (before : After-lines2) → (given : s45 .gives (m38 (before .before) (before .lines2 .given))) → Typed.Mo T49
+      m39 = λ before given. s45 .next (m38 (before .before) (before .lines2 .given)) given
 
       module _ (before· : After-lines2) where
         pub record After-slice-known4·own : Type 0 where
-          pub given : s44 .gives (m37 (before· .before) (before· .lines2 .given))
+          pub given : s45 .gives (m38 (before· .before) (before· .lines2 .given))
 
       pub record After-slice-known4 : Type 0 where
         pub before : After-lines2
         pub slice-known4 : After-slice-known4·own before
 
       abbrev pub Need-base-of-requires-2 : Type 0
-      Need-base-of-requires-2 = (c : After-slice-known4) → s46 .asks (m38 (c .before) (c .slice-known4 .given))
+      Need-base-of-requires-2 = (c : After-slice-known4) → s47 .asks (m39 (c .before) (c .slice-known4 .given))
 
-      abbrev pub m39 : (before : After-slice-known4) → (given : s46 .gives (m38 (before .before) (before .slice-known4 .given))) → Typed.Mo T50
-      m39 = λ before given. s46 .next (m38 (before .before) (before .slice-known4 .given)) given
+      abbrev pub m40 : (before : After-slice-known4) → (given : s47 .gives (m39 (before .before) (before .slice-known4 .given))) → Typed.Mo T51
+      m40 = λ before given. s47 .next (m39 (before .before) (before .slice-known4 .given)) given
 
       module _ (before· : After-slice-known4) where
         abbrev pub After-base-of2·own : Type 0
-        After-base-of2·own = Called.Called ps·2 r·2 (claims· .5) T48
-            (record { pos = 2; ty = Syntax.tyRef (Syntax.named 1) Syntax.imm (Syntax.tyInt Syntax.w8); ref = λ x. x }, (Num.vAt 17 λ x. x, tt)) (m38 (before· .before) (before· .slice-known4 .given))
+        After-base-of2·own = Called.Called ps·2 r·2 (claims· .5) T49
+            (record { pos = 2; ty = Syntax.tyRef (Syntax.named 1) Syntax.imm (Syntax.tyInt Syntax.w8); ref = λ x. x }, (Num.vAt 18 λ x. x, tt)) (m39 (before· .before) (before· .slice-known4 .given))
 
       pub record After-base-of2 : Type 0 where
         pub before : After-slice-known4
         pub base-of2 : After-base-of2·own before
 
-      abbrev pub After-base-of2·gave : (c : After-base-of2) → s46 .gives (m38 (c .before .before) (c .before .slice-known4 .given))
-      After-base-of2·gave = λ c. Called.given ps·2 r·2 (claims· .5) T48
-          (record { pos = 2; ty = Syntax.tyRef (Syntax.named 1) Syntax.imm (Syntax.tyInt Syntax.w8); ref = λ x. x }, (Num.vAt 17 λ x. x, tt)) (m38 (c .before .before) (c .before .slice-known4 .given)) (c
+      abbrev pub After-base-of2·gave : (c : After-base-of2) → s47 .gives (m39 (c .before .before) (c .before .slice-known4 .given))
+      After-base-of2·gave = λ c. Called.given ps·2 r·2 (claims· .5) T49
+          (record { pos = 2; ty = Syntax.tyRef (Syntax.named 1) Syntax.imm (Syntax.tyInt Syntax.w8); ref = λ x. x }, (Num.vAt 18 λ x. x, tt)) (m39 (c .before .before) (c .before .slice-known4 .given)) (c
           .base-of2)
 
-      abbrev pub m40 : (before : After-base-of2) → (given : s48 .gives (m39 (before .before) (After-base-of2·gave before))) → Typed.Mo T52
-      m40 = λ before given. s48 .next (m39 (before .before) (After-base-of2·gave before)) given
+      abbrev pub m41 : (before : After-base-of2) → (given : s49 .gives (m40 (before .before) (After-base-of2·gave before))) → Typed.Mo T53
+      m41 = λ before given. s49 .next (m40 (before .before) (After-base-of2·gave before)) given
 
-      abbrev pub m41 : (before : After-base-of2) → (given : s48 .gives (m39 (before .before) (After-base-of2·gave before))) → Typed.Mo T53
-      m41 = λ before given. s49 .next (m40 before given)
+      abbrev pub m42 : (before : After-base-of2) → (given : s49 .gives (m40 (before .before) (After-base-of2·gave before))) → Typed.Mo T54
+      m42 = λ before given. s50 .next (m41 before given)
 
       module _ (before· : After-base-of2) where
         pub record After-restart-arg·own : Type 0 where
-          pub given : s48 .gives (m39 (before· .before) (After-base-of2·gave before·))
+          pub given : s49 .gives (m40 (before· .before) (After-base-of2·gave before·))
 
       pub record After-restart-arg : Type 0 where
         pub before : After-base-of2
         pub restart-arg : After-restart-arg·own before
 
       abbrev pub Need-is-restarted-requires : Type 0
-      Need-is-restarted-requires = (c : After-restart-arg) → s50 .asks (m41 (c .before) (c .restart-arg .given))
+      Need-is-restarted-requires = (c : After-restart-arg) → s51 .asks (m42 (c .before) (c .restart-arg .given))
 
-      abbrev pub m42 : (before : After-restart-arg) → (given : s50 .gives (m41 (before .before) (before .restart-arg .given))) → Typed.Mo T54
-      m42 = λ before given. s50 .next (m41 (before .before) (before .restart-arg .given)) given
+      abbrev pub m43 : (before : After-restart-arg) → (given : s51 .gives (m42 (before .before) (before .restart-arg .given))) → Typed.Mo T55
+      m43 = λ before given. s51 .next (m42 (before .before) (before .restart-arg .given)) given
 
       module _ (before· : After-restart-arg) where
         abbrev pub After-is-restarted·own : Type 0
-        After-is-restarted·own = Called.Called ps·7 r·7 (claims· .15) T53
-            (record { pos = 2; ty = Syntax.tyRef (Syntax.named 1) Syntax.imm (Syntax.tyInt Syntax.w8); ref = λ x. x }, (Num.vAt 17 λ x. x, tt)) (m41 (before· .before) (before· .restart-arg .given))
+        After-is-restarted·own = Called.Called ps·7 r·7 (claims· .15) T54
+            (record { pos = 2; ty = Syntax.tyRef (Syntax.named 1) Syntax.imm (Syntax.tyInt Syntax.w8); ref = λ x. x }, (Num.vAt 18 λ x. x, tt)) (m42 (before· .before) (before· .restart-arg .given))
 
       pub record After-is-restarted : Type 0 where
         pub before : After-restart-arg
         pub is-restarted : After-is-restarted·own before
 
-      abbrev pub After-is-restarted·gave : (c : After-is-restarted) → s50 .gives (m41 (c .before .before) (c .before .restart-arg .given))
-      After-is-restarted·gave = λ c. Called.given ps·7 r·7 (claims· .15) T53
-          (record { pos = 2; ty = Syntax.tyRef (Syntax.named 1) Syntax.imm (Syntax.tyInt Syntax.w8); ref = λ x. x }, (Num.vAt 17 λ x. x, tt)) (m41 (c .before .before) (c .before .restart-arg .given)) (c
+      abbrev pub After-is-restarted·gave : (c : After-is-restarted) → s51 .gives (m42 (c .before .before) (c .before .restart-arg .given))
+      After-is-restarted·gave = λ c. Called.given ps·7 r·7 (claims· .15) T54
+          (record { pos = 2; ty = Syntax.tyRef (Syntax.named 1) Syntax.imm (Syntax.tyInt Syntax.w8); ref = λ x. x }, (Num.vAt 18 λ x. x, tt)) (m42 (c .before .before) (c .before .restart-arg .given)) (c
           .is-restarted)
 
       abbrev pub Need-restart-requires : Type 0
-      Need-restart-requires = (c : After-is-restarted) → s51 .asks (m42 (c .before) (After-is-restarted·gave c))
+      Need-restart-requires = (c : After-is-restarted) → s52 .asks (m43 (c .before) (After-is-restarted·gave c))
 
-      abbrev pub m43 : (before : After-is-restarted) → (given : s51 .gives (m42 (before .before) (After-is-restarted·gave before))) → Typed.Mo T55
-      m43 = λ before given. s51 .next (m42 (before .before) (After-is-restarted·gave before)) given
+      abbrev pub m44 : (before : After-is-restarted) → (given : s52 .gives (m43 (before .before) (After-is-restarted·gave before))) → Typed.Mo T56
+      m44 = λ before given. s52 .next (m43 (before .before) (After-is-restarted·gave before)) given
 
       module _ (before· : After-is-restarted) where
         abbrev pub After-restart·own : Type 0
-        After-restart·own = Called.Called ps·8 r·8 (claims· .17) T54
-            (record { pos = 32; ty = Syntax.tyRef Syntax.erased Syntax.mut Element.behind; ref = λ x. x }, (Num.vAt 12 λ x. x, (Num.vAt 18 λ x. x, (Bool.bAt 27 λ x. x, tt)))) (m42 (before· .before)
+        After-restart·own = Called.Called ps·8 r·8 (claims· .17) T55
+            (record { pos = 33; ty = Syntax.tyRef Syntax.erased Syntax.mut Element.behind; ref = λ x. x }, (Num.vAt 13 λ x. x, (Num.vAt 19 λ x. x, (Bool.bAt 28 λ x. x, tt)))) (m43 (before· .before)
             (After-is-restarted·gave before·))
 
       pub record After-restart : Type 0 where
         pub before : After-is-restarted
         pub restart : After-restart·own before
 
-      abbrev pub After-restart·gave : (c : After-restart) → s51 .gives (m42 (c .before .before) (After-is-restarted·gave (c .before)))
-      After-restart·gave = λ c. Called.given ps·8 r·8 (claims· .17) T54
-          (record { pos = 32; ty = Syntax.tyRef Syntax.erased Syntax.mut Element.behind; ref = λ x. x }, (Num.vAt 12 λ x. x, (Num.vAt 18 λ x. x, (Bool.bAt 27 λ x. x, tt)))) (m42 (c .before .before)
+      abbrev pub After-restart·gave : (c : After-restart) → s52 .gives (m43 (c .before .before) (After-is-restarted·gave (c .before)))
+      After-restart·gave = λ c. Called.given ps·8 r·8 (claims· .17) T55
+          (record { pos = 33; ty = Syntax.tyRef Syntax.erased Syntax.mut Element.behind; ref = λ x. x }, (Num.vAt 13 λ x. x, (Num.vAt 19 λ x. x, (Bool.bAt 28 λ x. x, tt)))) (m43 (c .before .before)
           (After-is-restarted·gave (c .before))) (c .restart)
 
-      abbrev pub m44 : (before : After-is-restarted) → (given : s51 .gives (m42 (before .before) (After-is-restarted·gave before))) → Typed.Mo T56
-      m44 = λ before given. s52 (m43 before given)
-
-      abbrev pub m45 : (before : After-is-restarted) → (given : s51 .gives (m42 (before .before) (After-is-restarted·gave before))) → Typed.Mo T57
+      abbrev pub m45 : (before : After-is-restarted) → (given : s52 .gives (m43 (before .before) (After-is-restarted·gave before))) → Typed.Mo T57
       m45 = λ before given. s53 (m44 before given)
 
-      abbrev pub m46 : (before : After-restart) → (given : s55 .gives (m45 (before .before) (After-restart·gave before))) → Typed.Mo T59
-      m46 = λ before given. s55 .next (m45 (before .before) (After-restart·gave before)) given
+      abbrev pub m46 : (before : After-is-restarted) → (given : s52 .gives (m43 (before .before) (After-is-restarted·gave before))) → Typed.Mo T58
+      m46 = λ before given. s54 (m45 before given)
+
+      abbrev pub m47 : (before : After-restart) → (given : s56 .gives (m46 (before .before) (After-restart·gave before))) → Typed.Mo T60
+      m47 = λ before given. s56 .next (m46 (before .before) (After-restart·gave before)) given
 
       module _ (before· : After-restart) where
         pub record After-rs2·own : Type 0 where
-          pub given : s55 .gives (m45 (before· .before) (After-restart·gave before·))
+          pub given : s56 .gives (m46 (before· .before) (After-restart·gave before·))
 
       pub record After-rs2 : Type 0 where
         pub before : After-restart
         pub rs2 : After-rs2·own before
 
-      abbrev pub m47 : (before : After-rs2) → (given : s58 .gives (m46 (before .before) (before .rs2 .given))) → Typed.Mo T62
-      m47 = λ before given. s58 .next (m46 (before .before) (before .rs2 .given)) given
+      abbrev pub m48 : (before : After-rs2) → (given : s59 .gives (m47 (before .before) (before .rs2 .given))) → Typed.Mo T63
+      m48 = λ before given. s59 .next (m47 (before .before) (before .rs2 .given)) given
 
-      abbrev pub m48 : (before : After-rs2) → (given : s58 .gives (m46 (before .before) (before .rs2 .given))) → Typed.Mo T63
-      m48 = λ before given. s59 .next (m47 before given)
+      abbrev pub m49 : (before : After-rs2) → (given : s59 .gives (m47 (before .before) (before .rs2 .given))) → Typed.Mo T64
+      m49 = λ before given. s60 .next (m48 before given)
 
       module _ (before· : After-rs2) where
         pub record After-line-arg·own : Type 0 where
-          pub given : s58 .gives (m46 (before· .before) (before· .rs2 .given))
+          pub given : s59 .gives (m47 (before· .before) (before· .rs2 .given))
 
       pub record After-line-arg : Type 0 where
         pub before : After-rs2
         pub line-arg : After-line-arg·own before
 
-      abbrev pub m49 : (before : After-line-arg) → (given : s61 .gives (m48 (before .before) (before .line-arg .given))) → Typed.Mo T65
-      m49 = λ before given. s61 .next (m48 (before .before) (before .line-arg .given)) given
+      abbrev pub m50 : (before : After-line-arg) → (given : s62 .gives (m49 (before .before) (before .line-arg .given))) → Typed.Mo T66
+      m50 = λ before given. s62 .next (m49 (before .before) (before .line-arg .given)) given
 
-      abbrev pub m50 : (before : After-line-arg) → (given : s61 .gives (m48 (before .before) (before .line-arg .given))) → Typed.Mo T66
-      m50 = λ before given. s62 .next (m49 before given)
+      abbrev pub m51 : (before : After-line-arg) → (given : s62 .gives (m49 (before .before) (before .line-arg .given))) → Typed.Mo T67
+      m51 = λ before given. s63 .next (m50 before given)
 
       module _ (before· : After-line-arg) where
         pub record After-line-arg2·own : Type 0 where
-          pub given : s61 .gives (m48 (before· .before) (before· .line-arg .given))
+          pub given : s62 .gives (m49 (before· .before) (before· .line-arg .given))
 
       pub record After-line-arg2 : Type 0 where
         pub before : After-line-arg
         pub line-arg2 : After-line-arg2·own before
 
-      abbrev pub m51 : (before : After-line-arg2) → (given : s64 .gives (m50 (before .before) (before .line-arg2 .given))) → Typed.Mo T68
-      m51 = λ before given. s64 .next (m50 (before .before) (before .line-arg2 .given)) given
+      abbrev pub m52 : (before : After-line-arg2) → (given : s65 .gives (m51 (before .before) (before .line-arg2 .given))) → Typed.Mo T69
+      m52 = λ before given. s65 .next (m51 (before .before) (before .line-arg2 .given)) given
 
-      abbrev pub m52 : (before : After-line-arg2) → (given : s64 .gives (m50 (before .before) (before .line-arg2 .given))) → Typed.Mo T69
-      m52 = λ before given. s65 .next (m51 before given)
+      abbrev pub m53 : (before : After-line-arg2) → (given : s65 .gives (m51 (before .before) (before .line-arg2 .given))) → Typed.Mo T70
+      m53 = λ before given. s66 .next (m52 before given)
 
       module _ (before· : After-line-arg2) where
         pub record After-line-arg3·own : Type 0 where
-          pub given : s64 .gives (m50 (before· .before) (before· .line-arg2 .given))
+          pub given : s65 .gives (m51 (before· .before) (before· .line-arg2 .given))
 
       pub record After-line-arg3 : Type 0 where
         pub before : After-line-arg2
         pub line-arg3 : After-line-arg3·own before
 
-      abbrev pub Need-quantisers-of-requires : Type 0
-      Need-quantisers-of-requires = (c : After-line-arg3) → s66 .asks (m52 (c .before) (c .line-arg3 .given))
+      abbrev pub Need-quantisers-in-requires : Type 0
+      Need-quantisers-in-requires = (c : After-line-arg3) → s67 .asks (m53 (c .before) (c .line-arg3 .given))
 
-      abbrev pub m53 : (before : After-line-arg3) → (given : s66 .gives (m52 (before .before) (before .line-arg3 .given))) → Typed.Mo T70
-      m53 = λ before given. s66 .next (m52 (before .before) (before .line-arg3 .given)) given
+      abbrev pub m54 : (before : After-line-arg3) → (given : s67 .gives (m53 (before .before) (before .line-arg3 .given))) → Typed.Mo T71
+      m54 = λ before given. s67 .next (m53 (before .before) (before .line-arg3 .given)) given
 
       module _ (before· : After-line-arg3) where
-        abbrev pub After-quantisers-of·own : Type 0
-        After-quantisers-of·own = Called.Called ps·9 r·9 (claims· .19) T69 (Num.vAt 12 λ x. x, (Num.vAt 18 λ x. x, tt)) (m52 (before· .before) (before· .line-arg3 .given))
+        abbrev pub After-quantisers-in·own : Type 0
+        After-quantisers-in·own = Called.Called ps·9 r·9 (claims· .19) T70 (record { pos = 12; st = List.[]; d = 0; at = λ x. x }, (Num.vAt 13 λ x. x, (Num.vAt 19 λ x. x, tt))) (m53 (before· .before)
+            (before· .line-arg3 .given))
 
-      pub record After-quantisers-of : Type 0 where
+      pub record After-quantisers-in : Type 0 where
         pub before : After-line-arg3
-        pub quantisers-of : After-quantisers-of·own before
+        pub quantisers-in : After-quantisers-in·own before
 
-      abbrev pub After-quantisers-of·gave : (c : After-quantisers-of) → s66 .gives (m52 (c .before .before) (c .before .line-arg3 .given))
-      After-quantisers-of·gave = λ c. Called.given ps·9 r·9 (claims· .19) T69 (Num.vAt 12 λ x. x, (Num.vAt 18 λ x. x, tt)) (m52 (c .before .before) (c .before .line-arg3 .given)) (c .quantisers-of)
+      abbrev pub After-quantisers-in·gave : (c : After-quantisers-in) → s67 .gives (m53 (c .before .before) (c .before .line-arg3 .given))
+      After-quantisers-in·gave = λ c. Called.given ps·9 r·9 (claims· .19) T70 (record { pos = 12; st = List.[]; d = 0; at = λ x. x }, (Num.vAt 13 λ x. x, (Num.vAt 19 λ x. x, tt))) (m53 (c .before
+          .before) (c .before .line-arg3 .given)) (c .quantisers-in)
 
       abbrev pub Need-line-requires : Type 0
-      Need-line-requires = (c : After-quantisers-of) → s67 .asks (m53 (c .before) (After-quantisers-of·gave c))
+      Need-line-requires = (c : After-quantisers-in) → s68 .asks (m54 (c .before) (After-quantisers-in·gave c))
 
-      abbrev pub m54 : (before : After-quantisers-of) → (given : s67 .gives (m53 (before .before) (After-quantisers-of·gave before))) → Typed.Mo T71
-      m54 = λ before given. s67 .next (m53 (before .before) (After-quantisers-of·gave before)) given
+      abbrev pub m55 : (before : After-quantisers-in) → (given : s68 .gives (m54 (before .before) (After-quantisers-in·gave before))) → Typed.Mo T72
+      m55 = λ before given. s68 .next (m54 (before .before) (After-quantisers-in·gave before)) given
 
-      module _ (before· : After-quantisers-of) where
+      module _ (before· : After-quantisers-in) where
         abbrev pub After-line·own : Type 0
-        After-line·own = Called.Called ps·10 r·10 (claims· .21) T70 (
+        After-line·own = Called.Called ps·10 r·10 (claims· .21) T71 (
           record { pos = 1; ty = Syntax.tyRef (Syntax.named 0) Syntax.imm (Syntax.tyInt Syntax.w8); ref = λ x. x },
           (
-            record { pos = 15; st = List.[]; d = 0; at = λ x. x },
+            record { pos = 16; st = List.[]; d = 0; at = λ x. x },
             (
-              record { pos = 34; ty = Syntax.tyRef Syntax.erased Syntax.mut (Syntax.tyInt Syntax.w16); ref = λ x. x },
+              record { pos = 35; ty = Syntax.tyRef Syntax.erased Syntax.mut (Syntax.tyInt Syntax.w16); ref = λ x. x },
               (
-                record { pos = 36; ty = Syntax.tyRef Syntax.erased Syntax.mut Element.behind; ref = λ x. x },
+                record { pos = 37; ty = Syntax.tyRef Syntax.erased Syntax.mut Element.behind; ref = λ x. x },
                 (
-                  record { pos = 38; ty = Syntax.tyRef Syntax.erased Syntax.mut (Syntax.tyInt Syntax.w16); ref = λ x. x },
+                  record { pos = 39; ty = Syntax.tyRef Syntax.erased Syntax.mut (Syntax.tyInt Syntax.w16); ref = λ x. x },
                   (
                     record { pos = 6; st = List.[]; d = 0; at = λ x. x },
                     (
-                      record { pos = 39; st = List.[]; d = 0; at = λ x. x },
+                      record { pos = 40; st = List.[]; d = 0; at = λ x. x },
                       (
                         record { pos = 7; ty = Syntax.tyRef (Syntax.named 5) Syntax.imm (Syntax.tyArray (Syntax.tyInt Syntax.w16) 768); ref = λ x. x },
-                        (record { pos = 8; st = List.[]; d = 0; at = λ x. x }, (record { pos = 9; st = List.[]; d = 0; at = λ x. x }, (Num.vAt 17 λ x. x, (Bool.bAt 11 λ x. x, tt)))),
+                        (record { pos = 8; st = List.[]; d = 0; at = λ x. x }, (record { pos = 9; st = List.[]; d = 0; at = λ x. x }, (Num.vAt 18 λ x. x, (Bool.bAt 11 λ x. x, tt)))),
                       ),
                     ),
                   ),
@@ -6712,31 +6894,31 @@ module _ (claims· : Claims) where
               ),
             ),
           ),
-        ) (m53 (before· .before)
-            (After-quantisers-of·gave before·))
+        ) (m54 (before· .before)
+            (After-quantisers-in·gave before·))
 
       pub record After-line : Type 0 where
-        pub before : After-quantisers-of
+        pub before : After-quantisers-in
         pub line : After-line·own before
 
-      abbrev pub After-line·gave : (c : After-line) → s67 .gives (m53 (c .before .before) (After-quantisers-of·gave (c .before)))
-      After-line·gave = λ c. Called.given ps·10 r·10 (claims· .21) T70 (
+      abbrev pub After-line·gave : (c : After-line) → s68 .gives (m54 (c .before .before) (After-quantisers-in·gave (c .before)))
+      After-line·gave = λ c. Called.given ps·10 r·10 (claims· .21) T71 (
         record { pos = 1; ty = Syntax.tyRef (Syntax.named 0) Syntax.imm (Syntax.tyInt Syntax.w8); ref = λ x. x },
         (
-          record { pos = 15; st = List.[]; d = 0; at = λ x. x },
+          record { pos = 16; st = List.[]; d = 0; at = λ x. x },
           (
-            record { pos = 34; ty = Syntax.tyRef Syntax.erased Syntax.mut (Syntax.tyInt Syntax.w16); ref = λ x. x },
+            record { pos = 35; ty = Syntax.tyRef Syntax.erased Syntax.mut (Syntax.tyInt Syntax.w16); ref = λ x. x },
             (
-              record { pos = 36; ty = Syntax.tyRef Syntax.erased Syntax.mut Element.behind; ref = λ x. x },
+              record { pos = 37; ty = Syntax.tyRef Syntax.erased Syntax.mut Element.behind; ref = λ x. x },
               (
-                record { pos = 38; ty = Syntax.tyRef Syntax.erased Syntax.mut (Syntax.tyInt Syntax.w16); ref = λ x. x },
+                record { pos = 39; ty = Syntax.tyRef Syntax.erased Syntax.mut (Syntax.tyInt Syntax.w16); ref = λ x. x },
                 (
                   record { pos = 6; st = List.[]; d = 0; at = λ x. x },
                   (
-                    record { pos = 39; st = List.[]; d = 0; at = λ x. x },
+                    record { pos = 40; st = List.[]; d = 0; at = λ x. x },
                     (
                       record { pos = 7; ty = Syntax.tyRef (Syntax.named 5) Syntax.imm (Syntax.tyArray (Syntax.tyInt Syntax.w16) 768); ref = λ x. x },
-                      (record { pos = 8; st = List.[]; d = 0; at = λ x. x }, (record { pos = 9; st = List.[]; d = 0; at = λ x. x }, (Num.vAt 17 λ x. x, (Bool.bAt 11 λ x. x, tt)))),
+                      (record { pos = 8; st = List.[]; d = 0; at = λ x. x }, (record { pos = 9; st = List.[]; d = 0; at = λ x. x }, (Num.vAt 18 λ x. x, (Bool.bAt 11 λ x. x, tt)))),
                     ),
                   ),
                 ),
@@ -6744,11 +6926,11 @@ module _ (claims· : Claims) where
             ),
           ),
         ),
-      ) (m53 (c .before .before)
-          (After-quantisers-of·gave (c .before))) (c .line)
+      ) (m54 (c .before .before)
+          (After-quantisers-in·gave (c .before))) (c .line)
 
-      abbrev W5 : (before : After-quantisers-of) → (given : s67 .gives (m53 (before .before) (After-quantisers-of·gave before))) → Typed.Want O5
-      W5 = λ before given. Typed.wantNext T72 O3 (at75 (W3 (before .before .before .before .before .before .before .before .before .before .before .before .before .before .before .before) (before
+      abbrev W5 : (before : After-quantisers-in) → (given : s68 .gives (m54 (before .before) (After-quantisers-in·gave before))) → Typed.Want O5
+      W5 = λ before given. Typed.wantNext T73 O3 (at77 (W3 (before .before .before .before .before .before .before .before .before .before .before .before .before .before .before .before) (before
           .before .before .before .before .before .before .before .before .before .before .before .before .before .before .loop .lines) (before .before .before .before .before .before .before .before
           .before .before .before .before .before .before .before .loop .rs) (before .before .before .before .before .before .before .before .before .before .before .before .before .before .before .loop
           .image) (before .before .before .before .before .before .before .before .before .before .before .before .before .before .before .loop .place) (before .before .before .before .before .before
@@ -6760,59 +6942,59 @@ module _ (claims· : Claims) where
           .before .before .before .before .before .before .before .loop .tight-lines) (before .before .before .before .before .before .before .before .before .before .before .before .before .before
           .before .loop .n))
 
-      abbrev pub m55 : (before : After-quantisers-of) → (given : s67 .gives (m53 (before .before) (After-quantisers-of·gave before))) → Typed.Mo T73
-      m55 = λ before given. s68 (m54 before given)
+      abbrev pub m56 : (before : After-quantisers-in) → (given : s68 .gives (m54 (before .before) (After-quantisers-in·gave before))) → Typed.Mo T74
+      m56 = λ before given. s69 (m55 before given)
 
-      abbrev pub m56 : (before : After-line) → (given : s70 .gives (m55 (before .before) (After-line·gave before))) → Typed.Mo T75
-      m56 = λ before given. s70 .next (m55 (before .before) (After-line·gave before)) given
+      abbrev pub m57 : (before : After-line) → (given : s71 .gives (m56 (before .before) (After-line·gave before))) → Typed.Mo T76
+      m57 = λ before given. s71 .next (m56 (before .before) (After-line·gave before)) given
 
       module _ (before· : After-line) where
         pub record After-lines3·own : Type 0 where
-          pub given : s70 .gives (m55 (before· .before) (After-line·gave before·))
+          pub given : s71 .gives (m56 (before· .before) (After-line·gave before·))
 
       pub record After-lines3 : Type 0 where
         pub before : After-line
         pub lines3 : After-lines3·own before
 
-      abbrev pub m57 : (before : After-lines3) → (given : s71 .gives (m56 (before .before) (before .lines3 .given))) → Typed.Mo T76
-      m57 = λ before given. s71 .next (m56 (before .before) (before .lines3 .given)) given
+      abbrev pub m58 : (before : After-lines3) → (given : s72 .gives (m57 (before .before) (before .lines3 .given))) → Typed.Mo T77
+      m58 = λ before given. s72 .next (m57 (before .before) (before .lines3 .given)) given
 
       module _ (before· : After-lines3) where
         pub record After-slice-known5·own : Type 0 where
-          pub given : s71 .gives (m56 (before· .before) (before· .lines3 .given))
+          pub given : s72 .gives (m57 (before· .before) (before· .lines3 .given))
 
       pub record After-slice-known5 : Type 0 where
         pub before : After-lines3
         pub slice-known5 : After-slice-known5·own before
 
-      abbrev pub m58 : (before : After-slice-known5) → (given : s74 .gives (m57 (before .before) (before .slice-known5 .given))) → Typed.Mo T79
-      m58 = λ before given. s74 .next (m57 (before .before) (before .slice-known5 .given)) given
+      abbrev pub m59 : (before : After-slice-known5) → (given : s75 .gives (m58 (before .before) (before .slice-known5 .given))) → Typed.Mo T80
+      m59 = λ before given. s75 .next (m58 (before .before) (before .slice-known5 .given)) given
 
       module _ (before· : After-slice-known5) where
         pub record After-rs3·own : Type 0 where
-          pub given : s74 .gives (m57 (before· .before) (before· .slice-known5 .given))
+          pub given : s75 .gives (m58 (before· .before) (before· .slice-known5 .given))
 
       pub record After-rs3 : Type 0 where
         pub before : After-slice-known5
         pub rs3 : After-rs3·own before
 
-      abbrev pub m59 : (before : After-rs3) → (given : s77 .gives (m58 (before .before) (before .rs3 .given))) → Typed.Mo T82
-      m59 = λ before given. s77 .next (m58 (before .before) (before .rs3 .given)) given
+      abbrev pub m60 : (before : After-rs3) → (given : s78 .gives (m59 (before .before) (before .rs3 .given))) → Typed.Mo T83
+      m60 = λ before given. s78 .next (m59 (before .before) (before .rs3 .given)) given
 
       module _ (before· : After-rs3) where
         pub record After-image·own : Type 0 where
-          pub given : s77 .gives (m58 (before· .before) (before· .rs3 .given))
+          pub given : s78 .gives (m59 (before· .before) (before· .rs3 .given))
 
       pub record After-image : Type 0 where
         pub before : After-rs3
         pub image : After-image·own before
 
-      abbrev pub m60 : (before : After-image) → (given : s78 .gives (m59 (before .before) (before .image .given))) → Typed.Mo T83
-      m60 = λ before given. s78 .next (m59 (before .before) (before .image .given)) given
+      abbrev pub m61 : (before : After-image) → (given : s79 .gives (m60 (before .before) (before .image .given))) → Typed.Mo T84
+      m61 = λ before given. s79 .next (m60 (before .before) (before .image .given)) given
 
       module _ (before· : After-image) where
         pub record After-slice-known6·own : Type 0 where
-          pub given : s78 .gives (m59 (before· .before) (before· .image .given))
+          pub given : s79 .gives (m60 (before· .before) (before· .image .given))
 
       pub record After-slice-known6 : Type 0 where
         pub before : After-image
@@ -6820,41 +7002,41 @@ module _ (claims· : Claims) where
 
       module _ (before· : After-slice-known6) where
         pub record At-match-keys1·own : Type 0 where
-          pub keys1 : Run.OneOf (List._∷_ 0 List.[]) (Declared.tagOf Lined.the-type (Row.get 19 (T83 .locals) (m60 (before· .before) (before· .slice-known6 .given))))
+          pub keys1 : Run.OneOf (List._∷_ 0 List.[]) (Declared.tagOf Lined.the-type (Row.get 20 (T84 .locals) (m61 (before· .before) (before· .slice-known6 .given))))
 
       pub record At-match-keys1 : Type 0 where
         pub before : After-slice-known6
         pub match : At-match-keys1·own before
 
       abbrev pub Need-enum-known-got : Type 0
-      Need-enum-known-got = (c : At-match-keys1) → s80 .asks (m60 (c .before .before) (c .before .slice-known6 .given))
+      Need-enum-known-got = (c : At-match-keys1) → s81 .asks (m61 (c .before .before) (c .before .slice-known6 .given))
 
-      abbrev pub m61 : (before : At-match-keys1) → (given : s80 .gives (m60 (before .before .before) (before .before .slice-known6 .given))) → Typed.Mo T85
-      m61 = λ before given. s80 .next (m60 (before .before .before) (before .before .slice-known6 .given)) given
+      abbrev pub m62 : (before : At-match-keys1) → (given : s81 .gives (m61 (before .before .before) (before .before .slice-known6 .given))) → Typed.Mo T86
+      m62 = λ before given. s81 .next (m61 (before .before .before) (before .before .slice-known6 .given)) given
 
       module _ (before· : At-match-keys1) where
         pub record After-got·own : Type 0 where
-          pub given : s80 .gives (m60 (before· .before .before) (before· .before .slice-known6 .given))
+          pub given : s81 .gives (m61 (before· .before .before) (before· .before .slice-known6 .given))
 
       pub record After-got : Type 0 where
         pub before : At-match-keys1
         pub got : After-got·own before
 
-      abbrev pub m62 : (before : After-got) → (given : s81 .gives (m61 (before .before) (before .got .given))) → Typed.Mo T86
-      m62 = λ before given. s81 .next (m61 (before .before) (before .got .given)) given
+      abbrev pub m63 : (before : After-got) → (given : s82 .gives (m62 (before .before) (before .got .given))) → Typed.Mo T87
+      m63 = λ before given. s82 .next (m62 (before .before) (before .got .given)) given
 
-      abbrev pub m63 : (before : After-got) → (given : s81 .gives (m61 (before .before) (before .got .given))) → Typed.Mo T87
-      m63 = λ before given. s82 (m62 before given)
-
-      abbrev pub m64 : (before : After-got) → (given : s81 .gives (m61 (before .before) (before .got .given))) → Typed.Mo T88
+      abbrev pub m64 : (before : After-got) → (given : s82 .gives (m62 (before .before) (before .got .given))) → Typed.Mo T88
       m64 = λ before given. s83 (m63 before given)
 
-      abbrev pub m65 : (before : After-got) → (given : s81 .gives (m61 (before .before) (before .got .given))) → Typed.Mo T89
+      abbrev pub m65 : (before : After-got) → (given : s82 .gives (m62 (before .before) (before .got .given))) → Typed.Mo T89
       m65 = λ before given. s84 (m64 before given)
+
+      abbrev pub m66 : (before : After-got) → (given : s82 .gives (m62 (before .before) (before .got .given))) → Typed.Mo T90
+      m66 = λ before given. s85 (m65 before given)
 
       module _ (before· : After-got) where
         pub record After-known-told·own : Type 0 where
-          pub given : s81 .gives (m61 (before· .before) (before· .got .given))
+          pub given : s82 .gives (m62 (before· .before) (before· .got .given))
 
       pub record After-known-told : Type 0 where
         pub before : After-got
@@ -6862,167 +7044,170 @@ module _ (claims· : Claims) where
 
       module _ (before· : After-slice-known6) where
         pub record At-match-keys2·own : Type 0 where
-          pub keys2 : Run.OneOf (List._∷_ 1 List.[]) (Declared.tagOf Lined.the-type (Row.get 19 (T83 .locals) (m60 (before· .before) (before· .slice-known6 .given))))
+          pub keys2 : Run.OneOf (List._∷_ 1 List.[]) (Declared.tagOf Lined.the-type (Row.get 20 (T84 .locals) (m61 (before· .before) (before· .slice-known6 .given))))
 
       pub record At-match-keys2 : Type 0 where
         pub before : After-slice-known6
         pub match : At-match-keys2·own before
 
       abbrev pub Need-enum-told : Type 0
-      Need-enum-told = (c : At-match-keys2) → s85 .asks (m60 (c .before .before) (c .before .slice-known6 .given))
+      Need-enum-told = (c : At-match-keys2) → s86 .asks (m61 (c .before .before) (c .before .slice-known6 .given))
 
-      abbrev pub m66 : (before : At-match-keys2) → (given : s85 .gives (m60 (before .before .before) (before .before .slice-known6 .given))) → Typed.Mo T90
-      m66 = λ before given. s85 .next (m60 (before .before .before) (before .before .slice-known6 .given)) given
+      abbrev pub m67 : (before : At-match-keys2) → (given : s86 .gives (m61 (before .before .before) (before .before .slice-known6 .given))) → Typed.Mo T91
+      m67 = λ before given. s86 .next (m61 (before .before .before) (before .before .slice-known6 .given)) given
 
-      abbrev pub m67 : (before : At-match-keys2) → (given : s85 .gives (m60 (before .before .before) (before .before .slice-known6 .given))) → Typed.Mo T91
-      m67 = λ before given. s86 (m66 before given)
-
-      abbrev pub m68 : (before : At-match-keys2) → (given : s85 .gives (m60 (before .before .before) (before .before .slice-known6 .given))) → Typed.Mo T92
+      abbrev pub m68 : (before : At-match-keys2) → (given : s86 .gives (m61 (before .before .before) (before .before .slice-known6 .given))) → Typed.Mo T92
       m68 = λ before given. s87 (m67 before given)
 
-      abbrev pub m69 : (before : At-match-keys2) → (given : s85 .gives (m60 (before .before .before) (before .before .slice-known6 .given))) → Typed.Mo T93
+      abbrev pub m69 : (before : At-match-keys2) → (given : s86 .gives (m61 (before .before .before) (before .before .slice-known6 .given))) → Typed.Mo T93
       m69 = λ before given. s88 (m68 before given)
 
-      abbrev pub m70 : (before : At-match-keys2) → (given : s85 .gives (m60 (before .before .before) (before .before .slice-known6 .given))) → Typed.Mo T94
+      abbrev pub m70 : (before : At-match-keys2) → (given : s86 .gives (m61 (before .before .before) (before .before .slice-known6 .given))) → Typed.Mo T94
       m70 = λ before given. s89 (m69 before given)
+
+      abbrev pub m71 : (before : At-match-keys2) → (given : s86 .gives (m61 (before .before .before) (before .before .slice-known6 .given))) → Typed.Mo T95
+      m71 = λ before given. s90 (m70 before given)
+
+      abbrev pub m72 : (before : At-match-keys2) → (given : s86 .gives (m61 (before .before .before) (before .before .slice-known6 .given))) → Typed.Mo T96
+      m72 = λ before given. s91 (m71 before given)
 
       module _ (before· : At-match-keys2) where
         pub record After-enum-told·own : Type 0 where
-          pub given : s85 .gives (m60 (before· .before .before) (before· .before .slice-known6 .given))
+          pub given : s86 .gives (m61 (before· .before .before) (before· .before .slice-known6 .given))
 
       pub record After-enum-told : Type 0 where
         pub before : At-match-keys2
         pub enum-told : After-enum-told·own before
 
-      abbrev pub m71 : (before : After-enum-told) → (given : s91 .gives (m70 (before .before) (before .enum-told .given))) → Typed.Mo T96
-      m71 = λ before given. s91 .next (m70 (before .before) (before .enum-told .given)) given
+      abbrev pub m73 : (before : After-enum-told) → (given : s93 .gives (m72 (before .before) (before .enum-told .given))) → Typed.Mo T98
+      m73 = λ before given. s93 .next (m72 (before .before) (before .enum-told .given)) given
 
-      abbrev pub m72 : (before : After-enum-told) → (given : s91 .gives (m70 (before .before) (before .enum-told .given))) → Typed.Mo T97
-      m72 = λ before given. s92 .next (m71 before given)
+      abbrev pub m74 : (before : After-enum-told) → (given : s93 .gives (m72 (before .before) (before .enum-told .given))) → Typed.Mo T99
+      m74 = λ before given. s94 .next (m73 before given)
 
       module _ (before· : After-enum-told) where
         pub record After-zero-line-arg·own : Type 0 where
-          pub given : s91 .gives (m70 (before· .before) (before· .enum-told .given))
+          pub given : s93 .gives (m72 (before· .before) (before· .enum-told .given))
 
       pub record After-zero-line-arg : Type 0 where
         pub before : After-enum-told
         pub zero-line-arg : After-zero-line-arg·own before
 
       abbrev pub Need-zero-line-requires : Type 0
-      Need-zero-line-requires = (c : After-zero-line-arg) → s93 .asks (m72 (c .before) (c .zero-line-arg .given))
+      Need-zero-line-requires = (c : After-zero-line-arg) → s95 .asks (m74 (c .before) (c .zero-line-arg .given))
 
-      abbrev pub m73 : (before : After-zero-line-arg) → (given : s93 .gives (m72 (before .before) (before .zero-line-arg .given))) → Typed.Mo T98
-      m73 = λ before given. s93 .next (m72 (before .before) (before .zero-line-arg .given)) given
+      abbrev pub m75 : (before : After-zero-line-arg) → (given : s95 .gives (m74 (before .before) (before .zero-line-arg .given))) → Typed.Mo T100
+      m75 = λ before given. s95 .next (m74 (before .before) (before .zero-line-arg .given)) given
 
       module _ (before· : After-zero-line-arg) where
         abbrev pub After-zero-line·own : Type 0
-        After-zero-line·own = Called.Called ps·11 r·11 (claims· .23) T97 (
-          record { pos = 42; ty = Syntax.tyRef Syntax.erased Syntax.mut (Syntax.tyInt Syntax.w16); ref = λ x. x },
-          (record { pos = 9; st = List.[]; d = 0; at = λ x. x }, (Num.vAt 17 λ x. x, (Bool.bAt 11 λ x. x, tt))),
-        ) (m72 (before· .before) (before· .zero-line-arg .given))
+        After-zero-line·own = Called.Called ps·11 r·11 (claims· .23) T99 (
+          record { pos = 43; ty = Syntax.tyRef Syntax.erased Syntax.mut (Syntax.tyInt Syntax.w16); ref = λ x. x },
+          (record { pos = 9; st = List.[]; d = 0; at = λ x. x }, (Num.vAt 18 λ x. x, (Bool.bAt 11 λ x. x, tt))),
+        ) (m74 (before· .before) (before· .zero-line-arg .given))
 
       pub record After-zero-line : Type 0 where
         pub before : After-zero-line-arg
         pub zero-line : After-zero-line·own before
 
-      abbrev pub After-zero-line·gave : (c : After-zero-line) → s93 .gives (m72 (c .before .before) (c .before .zero-line-arg .given))
-      After-zero-line·gave = λ c. Called.given ps·11 r·11 (claims· .23) T97 (
-        record { pos = 42; ty = Syntax.tyRef Syntax.erased Syntax.mut (Syntax.tyInt Syntax.w16); ref = λ x. x },
-        (record { pos = 9; st = List.[]; d = 0; at = λ x. x }, (Num.vAt 17 λ x. x, (Bool.bAt 11 λ x. x, tt))),
-      ) (m72 (c .before .before) (c .before .zero-line-arg .given)) (c .zero-line)
+      abbrev pub After-zero-line·gave : (c : After-zero-line) → s95 .gives (m74 (c .before .before) (c .before .zero-line-arg .given))
+      After-zero-line·gave = λ c. Called.given ps·11 r·11 (claims· .23) T99 (
+        record { pos = 43; ty = Syntax.tyRef Syntax.erased Syntax.mut (Syntax.tyInt Syntax.w16); ref = λ x. x },
+        (record { pos = 9; st = List.[]; d = 0; at = λ x. x }, (Num.vAt 18 λ x. x, (Bool.bAt 11 λ x. x, tt))),
+      ) (m74 (c .before .before) (c .before .zero-line-arg .given)) (c .zero-line)
 
-      abbrev pub m74 : (before : After-zero-line-arg) → (given : s93 .gives (m72 (before .before) (before .zero-line-arg .given))) → Typed.Mo T99
-      m74 = λ before given. s94 (m73 before given)
+      abbrev pub m76 : (before : After-zero-line-arg) → (given : s95 .gives (m74 (before .before) (before .zero-line-arg .given))) → Typed.Mo T101
+      m76 = λ before given. s96 (m75 before given)
 
-      abbrev pub m75 : (before : After-zero-line-arg) → (given : s93 .gives (m72 (before .before) (before .zero-line-arg .given))) → Typed.Mo T100
-      m75 = λ before given. s95 (m74 before given)
+      abbrev pub m77 : (before : After-zero-line-arg) → (given : s95 .gives (m74 (before .before) (before .zero-line-arg .given))) → Typed.Mo T102
+      m77 = λ before given. s97 (m76 before given)
 
-      abbrev pub m76 : (before : After-zero-line) → (given : s97 .gives (m75 (before .before) (After-zero-line·gave before))) → Typed.Mo T102
-      m76 = λ before given. s97 .next (m75 (before .before) (After-zero-line·gave before)) given
+      abbrev pub m78 : (before : After-zero-line) → (given : s99 .gives (m77 (before .before) (After-zero-line·gave before))) → Typed.Mo T104
+      m78 = λ before given. s99 .next (m77 (before .before) (After-zero-line·gave before)) given
 
       module _ (before· : After-zero-line) where
         pub record After-image2·own : Type 0 where
-          pub given : s97 .gives (m75 (before· .before) (After-zero-line·gave before·))
+          pub given : s99 .gives (m77 (before· .before) (After-zero-line·gave before·))
 
       pub record After-image2 : Type 0 where
         pub before : After-zero-line
         pub image2 : After-image2·own before
 
-      abbrev pub m77 : (before : After-image2) → (given : s98 .gives (m76 (before .before) (before .image2 .given))) → Typed.Mo T103
-      m77 = λ before given. s98 .next (m76 (before .before) (before .image2 .given)) given
+      abbrev pub m79 : (before : After-image2) → (given : s100 .gives (m78 (before .before) (before .image2 .given))) → Typed.Mo T105
+      m79 = λ before given. s100 .next (m78 (before .before) (before .image2 .given)) given
 
       module _ (before· : After-image2) where
         pub record After-slice-known7·own : Type 0 where
-          pub given : s98 .gives (m76 (before· .before) (before· .image2 .given))
+          pub given : s100 .gives (m78 (before· .before) (before· .image2 .given))
 
       pub record After-slice-known7 : Type 0 where
         pub before : After-image2
         pub slice-known7 : After-slice-known7·own before
 
       abbrev pub Need-totals-at-requires : Type 0
-      Need-totals-at-requires = (c : After-slice-known7) → s100 .asks (m77 (c .before) (c .slice-known7 .given))
+      Need-totals-at-requires = (c : After-slice-known7) → s102 .asks (m79 (c .before) (c .slice-known7 .given))
 
-      abbrev pub m78 : (before : After-slice-known7) → (given : s100 .gives (m77 (before .before) (before .slice-known7 .given))) → Typed.Mo T105
-      m78 = λ before given. s100 .next (m77 (before .before) (before .slice-known7 .given)) given
+      abbrev pub m80 : (before : After-slice-known7) → (given : s102 .gives (m79 (before .before) (before .slice-known7 .given))) → Typed.Mo T107
+      m80 = λ before given. s102 .next (m79 (before .before) (before .slice-known7 .given)) given
 
       module _ (before· : After-slice-known7) where
         abbrev pub After-totals-at·own : Type 0
-        After-totals-at·own = Called.Called ps·12 r·12 (claims· .25) T103 (record { pos = 15; st = List.[]; d = 0; at = λ x. x }, tt) (m77 (before· .before) (before· .slice-known7 .given))
+        After-totals-at·own = Called.Called ps·12 r·12 (claims· .25) T105 (record { pos = 16; st = List.[]; d = 0; at = λ x. x }, tt) (m79 (before· .before) (before· .slice-known7 .given))
 
       pub record After-totals-at : Type 0 where
         pub before : After-slice-known7
         pub totals-at : After-totals-at·own before
 
-      abbrev pub After-totals-at·gave : (c : After-totals-at) → s100 .gives (m77 (c .before .before) (c .before .slice-known7 .given))
-      After-totals-at·gave = λ c. Called.given ps·12 r·12 (claims· .25) T103 (record { pos = 15; st = List.[]; d = 0; at = λ x. x }, tt) (m77 (c .before .before) (c .before .slice-known7 .given)) (c
+      abbrev pub After-totals-at·gave : (c : After-totals-at) → s102 .gives (m79 (c .before .before) (c .before .slice-known7 .given))
+      After-totals-at·gave = λ c. Called.given ps·12 r·12 (claims· .25) T105 (record { pos = 16; st = List.[]; d = 0; at = λ x. x }, tt) (m79 (c .before .before) (c .before .slice-known7 .given)) (c
           .totals-at)
 
-      abbrev pub m79 : (before : After-slice-known7) → (given : s100 .gives (m77 (before .before) (before .slice-known7 .given))) → Typed.Mo T106
-      m79 = λ before given. s101 (m78 before given)
-
-      abbrev pub m80 : (before : After-slice-known7) → (given : s100 .gives (m77 (before .before) (before .slice-known7 .given))) → Typed.Mo T107
-      m80 = λ before given. s102 (m79 before given)
-
-      abbrev pub m81 : (before : After-slice-known7) → (given : s100 .gives (m77 (before .before) (before .slice-known7 .given))) → Typed.Mo T108
+      abbrev pub m81 : (before : After-slice-known7) → (given : s102 .gives (m79 (before .before) (before .slice-known7 .given))) → Typed.Mo T108
       m81 = λ before given. s103 (m80 before given)
 
-      abbrev pub m82 : (before : After-slice-known7) → (given : s100 .gives (m77 (before .before) (before .slice-known7 .given))) → Typed.Mo T109
+      abbrev pub m82 : (before : After-slice-known7) → (given : s102 .gives (m79 (before .before) (before .slice-known7 .given))) → Typed.Mo T109
       m82 = λ before given. s104 (m81 before given)
 
-      abbrev pub m83 : (before : After-slice-known7) → (given : s100 .gives (m77 (before .before) (before .slice-known7 .given))) → Typed.Mo T110
+      abbrev pub m83 : (before : After-slice-known7) → (given : s102 .gives (m79 (before .before) (before .slice-known7 .given))) → Typed.Mo T110
       m83 = λ before given. s105 (m82 before given)
 
-      abbrev pub m84 : (before : After-slice-known7) → (given : s100 .gives (m77 (before .before) (before .slice-known7 .given))) → Typed.Mo T111
+      abbrev pub m84 : (before : After-slice-known7) → (given : s102 .gives (m79 (before .before) (before .slice-known7 .given))) → Typed.Mo T111
       m84 = λ before given. s106 (m83 before given)
 
-      abbrev pub m85 : (before : After-slice-known7) → (given : s100 .gives (m77 (before .before) (before .slice-known7 .given))) → Typed.Mo T112
+      abbrev pub m85 : (before : After-slice-known7) → (given : s102 .gives (m79 (before .before) (before .slice-known7 .given))) → Typed.Mo T112
       m85 = λ before given. s107 (m84 before given)
 
-      abbrev pub m86 : (before : After-slice-known7) → (given : s100 .gives (m77 (before .before) (before .slice-known7 .given))) → Typed.Mo T113
+      abbrev pub m86 : (before : After-slice-known7) → (given : s102 .gives (m79 (before .before) (before .slice-known7 .given))) → Typed.Mo T113
       m86 = λ before given. s108 (m85 before given)
 
-      abbrev pub m87 : (before : After-slice-known7) → (given : s100 .gives (m77 (before .before) (before .slice-known7 .given))) → Typed.Mo T114
+      abbrev pub m87 : (before : After-slice-known7) → (given : s102 .gives (m79 (before .before) (before .slice-known7 .given))) → Typed.Mo T114
       m87 = λ before given. s109 (m86 before given)
 
-      abbrev pub m88 : (before : After-slice-known7) → (given : s100 .gives (m77 (before .before) (before .slice-known7 .given))) → Typed.Mo T115
+      abbrev pub m88 : (before : After-slice-known7) → (given : s102 .gives (m79 (before .before) (before .slice-known7 .given))) → Typed.Mo T115
       m88 = λ before given. s110 (m87 before given)
 
+      abbrev pub m89 : (before : After-slice-known7) → (given : s102 .gives (m79 (before .before) (before .slice-known7 .given))) → Typed.Mo T116
+      m89 = λ before given. s111 (m88 before given)
+
+      abbrev pub m90 : (before : After-slice-known7) → (given : s102 .gives (m79 (before .before) (before .slice-known7 .given))) → Typed.Mo T117
+      m90 = λ before given. s112 (m89 before given)
+
       abbrev pub Need-same-length : Type 0
-      Need-same-length = (c : After-totals-at) → MutSlice.SameLen (Row.get 3 (T115 .locals) (m88 (c .before) (After-totals-at·gave c))) (dens (c .before .before .before .before .before .before .before
+      Need-same-length = (c : After-totals-at) → MutSlice.SameLen (Row.get 3 (T117 .locals) (m90 (c .before) (After-totals-at·gave c))) (dens (c .before .before .before .before .before .before .before
           .before .before .before .before .before .before .before .before .before .before .before .before .before .before .before .before .before .before .before .before .before .before .before .before
           .before .before .before .before .before .before .before .before .before .before .before .before .κs) (c .before .before .before .before .before .before .before .before .before .before .before
           .before .before .before .before .before .before .before .before .before .before .before .before .before .before .before .before .before .before .before .before .before .before .before .before
           .before .before .before .before .before .before .before .before .args) .1 .1 .0)
 
       abbrev pub Need-same-length-2 : Type 0
-      Need-same-length-2 = (c : After-totals-at) → MutSlice.SameLen (Row.get 4 (T115 .locals) (m88 (c .before) (After-totals-at·gave c))) (dens (c .before .before .before .before .before .before
+      Need-same-length-2 = (c : After-totals-at) → MutSlice.SameLen (Row.get 4 (T117 .locals) (m90 (c .before) (After-totals-at·gave c))) (dens (c .before .before .before .before .before .before
           .before .before .before .before .before .before .before .before .before .before .before .before .before .before .before .before .before .before .before .before .before .before .before .before
           .before .before .before .before .before .before .before .before .before .before .before .before .before .κs) (c .before .before .before .before .before .before .before .before .before .before
           .before .before .before .before .before .before .before .before .before .before .before .before .before .before .before .before .before .before .before .before .before .before .before .before
           .before .before .before .before .before .before .before .before .before .args) .1 .1 .1 .0)
 
       abbrev pub Need-same-length-3 : Type 0
-      Need-same-length-3 = (c : After-totals-at) → MutSlice.SameLen (Row.get 5 (T115 .locals) (m88 (c .before) (After-totals-at·gave c))) (dens (c .before .before .before .before .before .before
+      Need-same-length-3 = (c : After-totals-at) → MutSlice.SameLen (Row.get 5 (T117 .locals) (m90 (c .before) (After-totals-at·gave c))) (dens (c .before .before .before .before .before .before
           .before .before .before .before .before .before .before .before .before .before .before .before .before .before .before .before .before .before .before .before .before .before .before .before
           .before .before .before .before .before .before .before .before .before .before .before .before .before .κs) (c .before .before .before .before .before .before .before .before .before .before
           .before .before .before .before .before .before .before .before .before .before .before .before .before .before .before .before .before .before .before .before .before .before .before .before
@@ -7036,7 +7221,7 @@ module _ (claims· : Claims) where
           .before .before .before .before .before .before .before .before .before .before .before .before .before .before .before .before .before .before .before .before .before .before .before .before
           .before .before .before .before .before .before .before .before .before .before .before .before .before .before .before .before .before .before .args)) (Function.resV r (c .before .before
           .before .before .before .before .before .before .before .before .before .before .before .before .before .before .before .before .before .before .before .before .before .before .before .before
-          .before .before .before .before .before .before .before .before .before .before .before .before .before .before .before .before .before .κs) (m88 (c .before) (After-totals-at·gave c) .0))
+          .before .before .before .before .before .before .before .before .before .before .before .before .before .before .before .before .before .κs) (m90 (c .before) (After-totals-at·gave c) .0))
           (Clauses.atExit (Kinds.endedOf 6 ps r) (c .before .before .before .before .before .before .before .before .before .before .before .before .before .before .before .before .before .before .before
           .before .before .before .before .before .before .before .before .before .before .before .before .before .before .before .before .before .before .before .before .before .before .before .before
           .κs) (dens (c .before .before .before .before .before .before .before .before .before .before .before .before .before .before .before .before .before .before .before .before .before .before
@@ -7048,182 +7233,182 @@ module _ (claims· : Claims) where
           .before .before .before .before .before .before .before .before .before .before .before .before .before .before .before .before .before .before .before .before .before .before .before .before
           .before .before .before .before .before .before .before .before .before .before .before .before .before .κs) (c .before .before .before .before .before .before .before .before .before .before
           .before .before .before .before .before .before .before .before .before .before .before .before .before .before .before .before .before .before .before .before .before .before .before .before
-          .before .before .before .before .before .before .before .before .before .args)) (m88 (c .before) (After-totals-at·gave c) .1)))
+          .before .before .before .before .before .before .before .before .before .args)) (m90 (c .before) (After-totals-at·gave c) .1)))
 
-      abbrev pub m89 : (before : After-got) → (given : s81 .gives (m61 (before .before) (before .got .given))) → Typed.Mo T116
-      m89 = λ before given. s111 (m65 before given)
+      abbrev pub m91 : (before : After-got) → (given : s82 .gives (m62 (before .before) (before .got .given))) → Typed.Mo T118
+      m91 = λ before given. s113 (m66 before given)
 
-      abbrev pub m90 : (before : After-got) → (given : s81 .gives (m61 (before .before) (before .got .given))) → Typed.Mo T117
-      m90 = λ before given. s112 (m89 before given)
+      abbrev pub m92 : (before : After-got) → (given : s82 .gives (m62 (before .before) (before .got .given))) → Typed.Mo T119
+      m92 = λ before given. s114 (m91 before given)
 
       abbrev pub Need-totals-at-requires-2 : Type 0
-      Need-totals-at-requires-2 = (c : After-known-told) → s113 .asks (m90 (c .before) (c .known-told .given))
+      Need-totals-at-requires-2 = (c : After-known-told) → s115 .asks (m92 (c .before) (c .known-told .given))
 
-      abbrev pub m91 : (before : After-known-told) → (given : s113 .gives (m90 (before .before) (before .known-told .given))) → Typed.Mo T118
-      m91 = λ before given. s113 .next (m90 (before .before) (before .known-told .given)) given
+      abbrev pub m93 : (before : After-known-told) → (given : s115 .gives (m92 (before .before) (before .known-told .given))) → Typed.Mo T120
+      m93 = λ before given. s115 .next (m92 (before .before) (before .known-told .given)) given
 
       module _ (before· : After-known-told) where
         abbrev pub After-totals-at2·own : Type 0
-        After-totals-at2·own = Called.Called ps·12 r·12 (claims· .25) T117 (record { pos = 15; st = List.[]; d = 0; at = λ x. x }, tt) (m90 (before· .before) (before· .known-told .given))
+        After-totals-at2·own = Called.Called ps·12 r·12 (claims· .25) T119 (record { pos = 16; st = List.[]; d = 0; at = λ x. x }, tt) (m92 (before· .before) (before· .known-told .given))
 
       pub record After-totals-at2 : Type 0 where
         pub before : After-known-told
         pub totals-at2 : After-totals-at2·own before
 
-      abbrev pub After-totals-at2·gave : (c : After-totals-at2) → s113 .gives (m90 (c .before .before) (c .before .known-told .given))
-      After-totals-at2·gave = λ c. Called.given ps·12 r·12 (claims· .25) T117 (record { pos = 15; st = List.[]; d = 0; at = λ x. x }, tt) (m90 (c .before .before) (c .before .known-told .given)) (c
+      abbrev pub After-totals-at2·gave : (c : After-totals-at2) → s115 .gives (m92 (c .before .before) (c .before .known-told .given))
+      After-totals-at2·gave = λ c. Called.given ps·12 r·12 (claims· .25) T119 (record { pos = 16; st = List.[]; d = 0; at = λ x. x }, tt) (m92 (c .before .before) (c .before .known-told .given)) (c
           .totals-at2)
 
       abbrev pub Need-with-line-requires : Type 0
-      Need-with-line-requires = (c : After-totals-at2) → s114 .asks (m91 (c .before) (After-totals-at2·gave c))
+      Need-with-line-requires = (c : After-totals-at2) → s116 .asks (m93 (c .before) (After-totals-at2·gave c))
 
-      abbrev pub m92 : (before : After-totals-at2) → (given : s114 .gives (m91 (before .before) (After-totals-at2·gave before))) → Typed.Mo T119
-      m92 = λ before given. s114 .next (m91 (before .before) (After-totals-at2·gave before)) given
+      abbrev pub m94 : (before : After-totals-at2) → (given : s116 .gives (m93 (before .before) (After-totals-at2·gave before))) → Typed.Mo T121
+      m94 = λ before given. s116 .next (m93 (before .before) (After-totals-at2·gave before)) given
 
       module _ (before· : After-totals-at2) where
         abbrev pub After-with-line·own : Type 0
-        After-with-line·own = Called.Called ps·13 r·13 (claims· .27) T118 (
-          record { pos = 16; st = List.[]; d = 0; at = λ x. x },
-          (Num.vAt 17 λ x. x, (Bool.bFld 15 (List._∷_ (Syntax.field 1) List.[]) 8 λ x. Place.struct .as-values x .1 .0, (record { pos = 44; st = List.[]; d = 0; at = λ x. x }, tt))),
-        ) (m91 (before·
+        After-with-line·own = Called.Called ps·13 r·13 (claims· .27) T120 (
+          record { pos = 17; st = List.[]; d = 0; at = λ x. x },
+          (Num.vAt 18 λ x. x, (Bool.bFld 16 (List._∷_ (Syntax.field 1) List.[]) 8 λ x. Place.struct .as-values x .1 .0, (record { pos = 45; st = List.[]; d = 0; at = λ x. x }, tt))),
+        ) (m93 (before·
             .before) (After-totals-at2·gave before·))
 
       pub record After-with-line : Type 0 where
         pub before : After-totals-at2
         pub with-line : After-with-line·own before
 
-      abbrev pub After-with-line·gave : (c : After-with-line) → s114 .gives (m91 (c .before .before) (After-totals-at2·gave (c .before)))
-      After-with-line·gave = λ c. Called.given ps·13 r·13 (claims· .27) T118 (
-        record { pos = 16; st = List.[]; d = 0; at = λ x. x },
-        (Num.vAt 17 λ x. x, (Bool.bFld 15 (List._∷_ (Syntax.field 1) List.[]) 8 λ x. Place.struct .as-values x .1 .0, (record { pos = 44; st = List.[]; d = 0; at = λ x. x }, tt))),
-      ) (m91 (c .before
+      abbrev pub After-with-line·gave : (c : After-with-line) → s116 .gives (m93 (c .before .before) (After-totals-at2·gave (c .before)))
+      After-with-line·gave = λ c. Called.given ps·13 r·13 (claims· .27) T120 (
+        record { pos = 17; st = List.[]; d = 0; at = λ x. x },
+        (Num.vAt 18 λ x. x, (Bool.bFld 16 (List._∷_ (Syntax.field 1) List.[]) 8 λ x. Place.struct .as-values x .1 .0, (record { pos = 45; st = List.[]; d = 0; at = λ x. x }, tt))),
+      ) (m93 (c .before
           .before) (After-totals-at2·gave (c .before))) (c .with-line)
 
-      abbrev pub m93 : (before : After-totals-at2) → (given : s114 .gives (m91 (before .before) (After-totals-at2·gave before))) → Typed.Mo T120
-      m93 = λ before given. s115 (m92 before given)
+      abbrev pub m95 : (before : After-totals-at2) → (given : s116 .gives (m93 (before .before) (After-totals-at2·gave before))) → Typed.Mo T122
+      m95 = λ before given. s117 (m94 before given)
 
-      abbrev pub m94 : (before : After-with-line) → (given : s117 .gives (m93 (before .before) (After-with-line·gave before))) → Typed.Mo T122
-      m94 = λ before given. s117 .next (m93 (before .before) (After-with-line·gave before)) given
+      abbrev pub m96 : (before : After-with-line) → (given : s119 .gives (m95 (before .before) (After-with-line·gave before))) → Typed.Mo T124
+      m96 = λ before given. s119 .next (m95 (before .before) (After-with-line·gave before)) given
 
-      abbrev pub m95 : (before : After-with-line) → (given : s117 .gives (m93 (before .before) (After-with-line·gave before))) → Typed.Mo T123
-      m95 = λ before given. s118 .next (m94 before given)
+      abbrev pub m97 : (before : After-with-line) → (given : s119 .gives (m95 (before .before) (After-with-line·gave before))) → Typed.Mo T125
+      m97 = λ before given. s120 .next (m96 before given)
 
       module _ (before· : After-with-line) where
         pub record After-emit-line-if-arg·own : Type 0 where
-          pub given : s117 .gives (m93 (before· .before) (After-with-line·gave before·))
+          pub given : s119 .gives (m95 (before· .before) (After-with-line·gave before·))
 
       pub record After-emit-line-if-arg : Type 0 where
         pub before : After-with-line
         pub emit-line-if-arg : After-emit-line-if-arg·own before
 
-      abbrev pub m96 : (before : After-emit-line-if-arg) → (given : s120 .gives (m95 (before .before) (before .emit-line-if-arg .given))) → Typed.Mo T125
-      m96 = λ before given. s120 .next (m95 (before .before) (before .emit-line-if-arg .given)) given
+      abbrev pub m98 : (before : After-emit-line-if-arg) → (given : s122 .gives (m97 (before .before) (before .emit-line-if-arg .given))) → Typed.Mo T127
+      m98 = λ before given. s122 .next (m97 (before .before) (before .emit-line-if-arg .given)) given
 
-      abbrev pub m97 : (before : After-emit-line-if-arg) → (given : s120 .gives (m95 (before .before) (before .emit-line-if-arg .given))) → Typed.Mo T126
-      m97 = λ before given. s121 .next (m96 before given)
+      abbrev pub m99 : (before : After-emit-line-if-arg) → (given : s122 .gives (m97 (before .before) (before .emit-line-if-arg .given))) → Typed.Mo T128
+      m99 = λ before given. s123 .next (m98 before given)
 
-      abbrev pub m98 : (before : After-emit-line-if-arg) → (given : s120 .gives (m95 (before .before) (before .emit-line-if-arg .given))) → Typed.Mo T127
-      m98 = λ before given. s122 .next (m97 before given)
+      abbrev pub m100 : (before : After-emit-line-if-arg) → (given : s122 .gives (m97 (before .before) (before .emit-line-if-arg .given))) → Typed.Mo T129
+      m100 = λ before given. s124 .next (m99 before given)
 
       module _ (before· : After-emit-line-if-arg) where
         pub record After-emit-line-if-arg2·own : Type 0 where
-          pub given : s120 .gives (m95 (before· .before) (before· .emit-line-if-arg .given))
+          pub given : s122 .gives (m97 (before· .before) (before· .emit-line-if-arg .given))
 
       pub record After-emit-line-if-arg2 : Type 0 where
         pub before : After-emit-line-if-arg
         pub emit-line-if-arg2 : After-emit-line-if-arg2·own before
 
       abbrev pub Need-emit-line-if-requires : Type 0
-      Need-emit-line-if-requires = (c : After-emit-line-if-arg2) → s123 .asks (m98 (c .before) (c .emit-line-if-arg2 .given))
+      Need-emit-line-if-requires = (c : After-emit-line-if-arg2) → s125 .asks (m100 (c .before) (c .emit-line-if-arg2 .given))
 
-      abbrev pub m99 : (before : After-emit-line-if-arg2) → (given : s123 .gives (m98 (before .before) (before .emit-line-if-arg2 .given))) → Typed.Mo T128
-      m99 = λ before given. s123 .next (m98 (before .before) (before .emit-line-if-arg2 .given)) given
+      abbrev pub m101 : (before : After-emit-line-if-arg2) → (given : s125 .gives (m100 (before .before) (before .emit-line-if-arg2 .given))) → Typed.Mo T130
+      m101 = λ before given. s125 .next (m100 (before .before) (before .emit-line-if-arg2 .given)) given
 
       module _ (before· : After-emit-line-if-arg2) where
         abbrev pub After-emit-line-if·own : Type 0
-        After-emit-line-if·own = Called.Called ps·14 r·14 (claims· .29) T127 (
-          record { pos = 46; ty = Syntax.tyRef Syntax.erased Syntax.imm (Syntax.tyInt Syntax.w16); ref = λ x. x },
+        After-emit-line-if·own = Called.Called ps·14 r·14 (claims· .29) T129 (
+          record { pos = 47; ty = Syntax.tyRef Syntax.erased Syntax.imm (Syntax.tyInt Syntax.w16); ref = λ x. x },
           (
-            record { pos = 48; ty = Syntax.tyRef Syntax.erased Syntax.mut (Syntax.tyInt Syntax.w16); ref = λ x. x },
+            record { pos = 49; ty = Syntax.tyRef Syntax.erased Syntax.mut (Syntax.tyInt Syntax.w16); ref = λ x. x },
             (
-              Num.vAt 14 λ x. x,
+              Num.vAt 15 λ x. x,
               (
-                Bool.bAt 13 λ x. x,
+                Bool.bAt 14 λ x. x,
                 (
                   record { pos = 7; ty = Syntax.tyRef (Syntax.named 5) Syntax.imm (Syntax.tyArray (Syntax.tyInt Syntax.w16) 768); ref = λ x. x },
-                  (record { pos = 8; st = List.[]; d = 0; at = λ x. x }, (record { pos = 9; st = List.[]; d = 0; at = λ x. x }, (Num.vAt 17 λ x. x, (Bool.bAt 27 λ x. x, tt)))),
+                  (record { pos = 8; st = List.[]; d = 0; at = λ x. x }, (record { pos = 9; st = List.[]; d = 0; at = λ x. x }, (Num.vAt 18 λ x. x, (Bool.bAt 28 λ x. x, tt)))),
                 ),
               ),
             ),
           ),
-        ) (m98 (before· .before)
+        ) (m100 (before· .before)
             (before· .emit-line-if-arg2 .given))
 
       pub record After-emit-line-if : Type 0 where
         pub before : After-emit-line-if-arg2
         pub emit-line-if : After-emit-line-if·own before
 
-      abbrev pub After-emit-line-if·gave : (c : After-emit-line-if) → s123 .gives (m98 (c .before .before) (c .before .emit-line-if-arg2 .given))
-      After-emit-line-if·gave = λ c. Called.given ps·14 r·14 (claims· .29) T127 (
-        record { pos = 46; ty = Syntax.tyRef Syntax.erased Syntax.imm (Syntax.tyInt Syntax.w16); ref = λ x. x },
+      abbrev pub After-emit-line-if·gave : (c : After-emit-line-if) → s125 .gives (m100 (c .before .before) (c .before .emit-line-if-arg2 .given))
+      After-emit-line-if·gave = λ c. Called.given ps·14 r·14 (claims· .29) T129 (
+        record { pos = 47; ty = Syntax.tyRef Syntax.erased Syntax.imm (Syntax.tyInt Syntax.w16); ref = λ x. x },
         (
-          record { pos = 48; ty = Syntax.tyRef Syntax.erased Syntax.mut (Syntax.tyInt Syntax.w16); ref = λ x. x },
+          record { pos = 49; ty = Syntax.tyRef Syntax.erased Syntax.mut (Syntax.tyInt Syntax.w16); ref = λ x. x },
           (
-            Num.vAt 14 λ x. x,
+            Num.vAt 15 λ x. x,
             (
-              Bool.bAt 13 λ x. x,
+              Bool.bAt 14 λ x. x,
               (
                 record { pos = 7; ty = Syntax.tyRef (Syntax.named 5) Syntax.imm (Syntax.tyArray (Syntax.tyInt Syntax.w16) 768); ref = λ x. x },
-                (record { pos = 8; st = List.[]; d = 0; at = λ x. x }, (record { pos = 9; st = List.[]; d = 0; at = λ x. x }, (Num.vAt 17 λ x. x, (Bool.bAt 27 λ x. x, tt)))),
+                (record { pos = 8; st = List.[]; d = 0; at = λ x. x }, (record { pos = 9; st = List.[]; d = 0; at = λ x. x }, (Num.vAt 18 λ x. x, (Bool.bAt 28 λ x. x, tt)))),
               ),
             ),
           ),
         ),
-      ) (m98 (c .before .before) (c
+      ) (m100 (c .before .before) (c
           .before .emit-line-if-arg2 .given)) (c .emit-line-if)
 
-      abbrev pub m100 : (before : After-emit-line-if-arg2) → (given : s123 .gives (m98 (before .before) (before .emit-line-if-arg2 .given))) → Typed.Mo T129
-      m100 = λ before given. s124 (m99 before given)
-
-      abbrev pub m101 : (before : After-emit-line-if-arg2) → (given : s123 .gives (m98 (before .before) (before .emit-line-if-arg2 .given))) → Typed.Mo T130
-      m101 = λ before given. s125 (m100 before given)
-
-      abbrev pub m102 : (before : After-emit-line-if-arg2) → (given : s123 .gives (m98 (before .before) (before .emit-line-if-arg2 .given))) → Typed.Mo T131
+      abbrev pub m102 : (before : After-emit-line-if-arg2) → (given : s125 .gives (m100 (before .before) (before .emit-line-if-arg2 .given))) → Typed.Mo T131
       m102 = λ before given. s126 (m101 before given)
 
-      abbrev pub m103 : (before : After-emit-line-if-arg2) → (given : s123 .gives (m98 (before .before) (before .emit-line-if-arg2 .given))) → Typed.Mo T133
-      m103 = λ before given. s128 (m102 before given)
+      abbrev pub m103 : (before : After-emit-line-if-arg2) → (given : s125 .gives (m100 (before .before) (before .emit-line-if-arg2 .given))) → Typed.Mo T132
+      m103 = λ before given. s127 (m102 before given)
 
-      abbrev pub m104 : (before : After-emit-line-if) → (given : s131 .gives (m103 (before .before) (After-emit-line-if·gave before))) → Typed.Mo T136
-      m104 = λ before given. s131 .next (m103 (before .before) (After-emit-line-if·gave before)) given
+      abbrev pub m104 : (before : After-emit-line-if-arg2) → (given : s125 .gives (m100 (before .before) (before .emit-line-if-arg2 .given))) → Typed.Mo T133
+      m104 = λ before given. s128 (m103 before given)
+
+      abbrev pub m105 : (before : After-emit-line-if-arg2) → (given : s125 .gives (m100 (before .before) (before .emit-line-if-arg2 .given))) → Typed.Mo T135
+      m105 = λ before given. s130 (m104 before given)
+
+      abbrev pub m106 : (before : After-emit-line-if) → (given : s133 .gives (m105 (before .before) (After-emit-line-if·gave before))) → Typed.Mo T138
+      m106 = λ before given. s133 .next (m105 (before .before) (After-emit-line-if·gave before)) given
 
       module _ (before· : After-emit-line-if) where
         pub record After-image3·own : Type 0 where
-          pub given : s131 .gives (m103 (before· .before) (After-emit-line-if·gave before·))
+          pub given : s133 .gives (m105 (before· .before) (After-emit-line-if·gave before·))
 
       pub record After-image3 : Type 0 where
         pub before : After-emit-line-if
         pub image3 : After-image3·own before
 
-      abbrev pub m105 : (before : After-image3) → (given : s132 .gives (m104 (before .before) (before .image3 .given))) → Typed.Mo T137
-      m105 = λ before given. s132 .next (m104 (before .before) (before .image3 .given)) given
+      abbrev pub m107 : (before : After-image3) → (given : s134 .gives (m106 (before .before) (before .image3 .given))) → Typed.Mo T139
+      m107 = λ before given. s134 .next (m106 (before .before) (before .image3 .given)) given
 
       module _ (before· : After-image3) where
         pub record After-slice-known8·own : Type 0 where
-          pub given : s132 .gives (m104 (before· .before) (before· .image3 .given))
+          pub given : s134 .gives (m106 (before· .before) (before· .image3 .given))
 
       pub record After-slice-known8 : Type 0 where
         pub before : After-image3
         pub slice-known8 : After-slice-known8·own before
 
       abbrev pub Need-add-n : Type 0
-      Need-add-n = (c : After-slice-known8) → s134 .asks (m105 (c .before) (c .slice-known8 .given))
+      Need-add-n = (c : After-slice-known8) → s136 .asks (m107 (c .before) (c .slice-known8 .given))
 
-      abbrev pub m106 : (before : After-image3) → (given : s132 .gives (m104 (before .before) (before .image3 .given))) → Typed.Mo T139
-      m106 = λ before given. s134 .next (m105 before given)
+      abbrev pub m108 : (before : After-image3) → (given : s134 .gives (m106 (before .before) (before .image3 .given))) → Typed.Mo T141
+      m108 = λ before given. s136 .next (m107 before given)
 
-      abbrev pub m107 : (before : After-image3) → (given : s132 .gives (m104 (before .before) (before .image3 .given))) → Typed.Mo T140
-      m107 = λ before given. s135 (m106 before given)
+      abbrev pub m109 : (before : After-image3) → (given : s134 .gives (m106 (before .before) (before .image3 .given))) → Typed.Mo T142
+      m109 = λ before given. s137 (m108 before given)
 
       abbrev pub Need-loop-less : Type 0
       Need-loop-less = (c : After-slice-known8) → Nat._<_ (μ·0 (Row.get 1 (T30 .locals) (m23 (c .before .before .before .before .before .before .before .before .before .before .before .before .before
@@ -7276,40 +7461,43 @@ module _ (claims· : Claims) where
           .before .before .before .before .before .before .before .before .before .before .before .before .before .before)))) (Row.get 17 (T30 .locals) (m23 (c .before .before .before .before .before
           .before .before .before .before .before .before .before .before .before .before .before .before .before .before .before .before .before .before .before .before .before .before .before .before
           .before .before .before) (After-no-lines·gave (c .before .before .before .before .before .before .before .before .before .before .before .before .before .before .before .before .before .before
-          .before .before .before .before .before .before .before .before .before .before .before .before .before)))) (Row.get 3 (T30 .locals) (m107 (c .before) (c .slice-known8 .given)) .now) (Row.get 4
-          (T30 .locals) (m107 (c .before) (c .slice-known8 .given)) .now) (Row.get 5 (T30 .locals) (m107 (c .before) (c .slice-known8 .given)) .now) (Row.get 15 (T30 .locals) (m107 (c .before) (c
-          .slice-known8 .given))) (Row.get 16 (T30 .locals) (m107 (c .before) (c .slice-known8 .given))) (Row.get 17 (T30 .locals) (m107 (c .before) (c .slice-known8 .given)))) (μ·0 (Row.get 1 (T30
-          .locals) (m23 (c .before .before .before .before .before .before .before .before .before .before .before .before .before .before .before .before .before .before .before .before .before .before
-          .before .before .before .before .before .before .before .before .before .before) (After-no-lines·gave (c .before .before .before .before .before .before .before .before .before .before .before
-          .before .before .before .before .before .before .before .before .before .before .before .before .before .before .before .before .before .before .before .before))) .now) (Row.get 2 (T30 .locals)
-          (m23 (c .before .before .before .before .before .before .before .before .before .before .before .before .before .before .before .before .before .before .before .before .before .before .before
-          .before .before .before .before .before .before .before .before .before) (After-no-lines·gave (c .before .before .before .before .before .before .before .before .before .before .before .before
-          .before .before .before .before .before .before .before .before .before .before .before .before .before .before .before .before .before .before .before))) .now) (Row.get 3 (T30 .locals) (m23 (c
-          .before .before .before .before .before .before .before .before .before .before .before .before .before .before .before .before .before .before .before .before .before .before .before .before
-          .before .before .before .before .before .before .before .before) (After-no-lines·gave (c .before .before .before .before .before .before .before .before .before .before .before .before .before
-          .before .before .before .before .before .before .before .before .before .before .before .before .before .before .before .before .before .before))) .now) (Row.get 4 (T30 .locals) (m23 (c .before
-          .before .before .before .before .before .before .before .before .before .before .before .before .before .before .before .before .before .before .before .before .before .before .before .before
-          .before .before .before .before .before .before .before) (After-no-lines·gave (c .before .before .before .before .before .before .before .before .before .before .before .before .before .before
-          .before .before .before .before .before .before .before .before .before .before .before .before .before .before .before .before .before))) .now) (Row.get 5 (T30 .locals) (m23 (c .before .before
-          .before .before .before .before .before .before .before .before .before .before .before .before .before .before .before .before .before .before .before .before .before .before .before .before
-          .before .before .before .before .before .before) (After-no-lines·gave (c .before .before .before .before .before .before .before .before .before .before .before .before .before .before .before
-          .before .before .before .before .before .before .before .before .before .before .before .before .before .before .before .before))) .now) (Row.get 6 (T30 .locals) (m23 (c .before .before .before
-          .before .before .before .before .before .before .before .before .before .before .before .before .before .before .before .before .before .before .before .before .before .before .before .before
-          .before .before .before .before .before) (After-no-lines·gave (c .before .before .before .before .before .before .before .before .before .before .before .before .before .before .before .before
-          .before .before .before .before .before .before .before .before .before .before .before .before .before .before .before)))) (Row.get 7 (T30 .locals) (m23 (c .before .before .before .before
-          .before .before .before .before .before .before .before .before .before .before .before .before .before .before .before .before .before .before .before .before .before .before .before .before
-          .before .before .before .before) (After-no-lines·gave (c .before .before .before .before .before .before .before .before .before .before .before .before .before .before .before .before .before
-          .before .before .before .before .before .before .before .before .before .before .before .before .before .before))) .now) (Row.get 8 (T30 .locals) (m23 (c .before .before .before .before .before
-          .before .before .before .before .before .before .before .before .before .before .before .before .before .before .before .before .before .before .before .before .before .before .before .before
-          .before .before .before) (After-no-lines·gave (c .before .before .before .before .before .before .before .before .before .before .before .before .before .before .before .before .before .before
-          .before .before .before .before .before .before .before .before .before .before .before .before .before)))) (Row.get 9 (T30 .locals) (m23 (c .before .before .before .before .before .before
+          .before .before .before .before .before .before .before .before .before .before .before .before .before)))) (Row.get 18 (T30 .locals) (m23 (c .before .before .before .before .before .before
           .before .before .before .before .before .before .before .before .before .before .before .before .before .before .before .before .before .before .before .before .before .before .before .before
           .before .before) (After-no-lines·gave (c .before .before .before .before .before .before .before .before .before .before .before .before .before .before .before .before .before .before .before
-          .before .before .before .before .before .before .before .before .before .before .before .before)))) (Row.get 10 (T30 .locals) (m23 (c .before .before .before .before .before .before .before
+          .before .before .before .before .before .before .before .before .before .before .before .before)))) (Row.get 3 (T30 .locals) (m109 (c .before) (c .slice-known8 .given)) .now) (Row.get 4 (T30
+          .locals) (m109 (c .before) (c .slice-known8 .given)) .now) (Row.get 5 (T30 .locals) (m109 (c .before) (c .slice-known8 .given)) .now) (Row.get 16 (T30 .locals) (m109 (c .before) (c .slice-known8
+          .given))) (Row.get 17 (T30 .locals) (m109 (c .before) (c .slice-known8 .given))) (Row.get 18 (T30 .locals) (m109 (c .before) (c .slice-known8 .given)))) (μ·0 (Row.get 1 (T30 .locals) (m23 (c
+          .before .before .before .before .before .before .before .before .before .before .before .before .before .before .before .before .before .before .before .before .before .before .before .before
+          .before .before .before .before .before .before .before .before) (After-no-lines·gave (c .before .before .before .before .before .before .before .before .before .before .before .before .before
+          .before .before .before .before .before .before .before .before .before .before .before .before .before .before .before .before .before .before))) .now) (Row.get 2 (T30 .locals) (m23 (c .before
+          .before .before .before .before .before .before .before .before .before .before .before .before .before .before .before .before .before .before .before .before .before .before .before .before
+          .before .before .before .before .before .before .before) (After-no-lines·gave (c .before .before .before .before .before .before .before .before .before .before .before .before .before .before
+          .before .before .before .before .before .before .before .before .before .before .before .before .before .before .before .before .before))) .now) (Row.get 3 (T30 .locals) (m23 (c .before .before
+          .before .before .before .before .before .before .before .before .before .before .before .before .before .before .before .before .before .before .before .before .before .before .before .before
+          .before .before .before .before .before .before) (After-no-lines·gave (c .before .before .before .before .before .before .before .before .before .before .before .before .before .before .before
+          .before .before .before .before .before .before .before .before .before .before .before .before .before .before .before .before))) .now) (Row.get 4 (T30 .locals) (m23 (c .before .before .before
+          .before .before .before .before .before .before .before .before .before .before .before .before .before .before .before .before .before .before .before .before .before .before .before .before
+          .before .before .before .before .before) (After-no-lines·gave (c .before .before .before .before .before .before .before .before .before .before .before .before .before .before .before .before
+          .before .before .before .before .before .before .before .before .before .before .before .before .before .before .before))) .now) (Row.get 5 (T30 .locals) (m23 (c .before .before .before .before
+          .before .before .before .before .before .before .before .before .before .before .before .before .before .before .before .before .before .before .before .before .before .before .before .before
+          .before .before .before .before) (After-no-lines·gave (c .before .before .before .before .before .before .before .before .before .before .before .before .before .before .before .before .before
+          .before .before .before .before .before .before .before .before .before .before .before .before .before .before))) .now) (Row.get 6 (T30 .locals) (m23 (c .before .before .before .before .before
+          .before .before .before .before .before .before .before .before .before .before .before .before .before .before .before .before .before .before .before .before .before .before .before .before
+          .before .before .before) (After-no-lines·gave (c .before .before .before .before .before .before .before .before .before .before .before .before .before .before .before .before .before .before
+          .before .before .before .before .before .before .before .before .before .before .before .before .before)))) (Row.get 7 (T30 .locals) (m23 (c .before .before .before .before .before .before
+          .before .before .before .before .before .before .before .before .before .before .before .before .before .before .before .before .before .before .before .before .before .before .before .before
+          .before .before) (After-no-lines·gave (c .before .before .before .before .before .before .before .before .before .before .before .before .before .before .before .before .before .before .before
+          .before .before .before .before .before .before .before .before .before .before .before .before))) .now) (Row.get 8 (T30 .locals) (m23 (c .before .before .before .before .before .before .before
           .before .before .before .before .before .before .before .before .before .before .before .before .before .before .before .before .before .before .before .before .before .before .before .before
           .before) (After-no-lines·gave (c .before .before .before .before .before .before .before .before .before .before .before .before .before .before .before .before .before .before .before .before
-          .before .before .before .before .before .before .before .before .before .before .before)))) (Row.get 11 (T30 .locals) (m23 (c .before .before .before .before .before .before .before .before
+          .before .before .before .before .before .before .before .before .before .before .before)))) (Row.get 9 (T30 .locals) (m23 (c .before .before .before .before .before .before .before .before
           .before .before .before .before .before .before .before .before .before .before .before .before .before .before .before .before .before .before .before .before .before .before .before .before)
+          (After-no-lines·gave (c .before .before .before .before .before .before .before .before .before .before .before .before .before .before .before .before .before .before .before .before .before
+          .before .before .before .before .before .before .before .before .before .before)))) (Row.get 10 (T30 .locals) (m23 (c .before .before .before .before .before .before .before .before .before
+          .before .before .before .before .before .before .before .before .before .before .before .before .before .before .before .before .before .before .before .before .before .before .before)
+          (After-no-lines·gave (c .before .before .before .before .before .before .before .before .before .before .before .before .before .before .before .before .before .before .before .before .before
+          .before .before .before .before .before .before .before .before .before .before)))) (Row.get 11 (T30 .locals) (m23 (c .before .before .before .before .before .before .before .before .before
+          .before .before .before .before .before .before .before .before .before .before .before .before .before .before .before .before .before .before .before .before .before .before .before)
           (After-no-lines·gave (c .before .before .before .before .before .before .before .before .before .before .before .before .before .before .before .before .before .before .before .before .before
           .before .before .before .before .before .before .before .before .before .before)))) (Row.get 12 (T30 .locals) (m23 (c .before .before .before .before .before .before .before .before .before
           .before .before .before .before .before .before .before .before .before .before .before .before .before .before .before .before .before .before .before .before .before .before .before)
@@ -7327,6 +7515,9 @@ module _ (claims· : Claims) where
           .before .before .before .before .before .before .before .before .before .before .before .before .before .before .before .before .before .before .before .before .before .before .before)
           (After-no-lines·gave (c .before .before .before .before .before .before .before .before .before .before .before .before .before .before .before .before .before .before .before .before .before
           .before .before .before .before .before .before .before .before .before .before)))) (Row.get 17 (T30 .locals) (m23 (c .before .before .before .before .before .before .before .before .before
+          .before .before .before .before .before .before .before .before .before .before .before .before .before .before .before .before .before .before .before .before .before .before .before)
+          (After-no-lines·gave (c .before .before .before .before .before .before .before .before .before .before .before .before .before .before .before .before .before .before .before .before .before
+          .before .before .before .before .before .before .before .before .before .before)))) (Row.get 18 (T30 .locals) (m23 (c .before .before .before .before .before .before .before .before .before
           .before .before .before .before .before .before .before .before .before .before .before .before .before .before .before .before .before .before .before .before .before .before .before)
           (After-no-lines·gave (c .before .before .before .before .before .before .before .before .before .before .before .before .before .before .before .before .before .before .before .before .before
           .before .before .before .before .before .before .before .before .before .before)))) (c .before .before .before .before .before .before .before .before .before .before .before .before .before
@@ -7390,69 +7581,72 @@ module _ (claims· : Claims) where
           .before .before .before .before .before .before .before .before .before .before .before .before .before .before)))) (Row.get 17 (T30 .locals) (m23 (c .before .before .before .before .before
           .before .before .before .before .before .before .before .before .before .before .before .before .before .before .before .before .before .before .before .before .before .before .before .before
           .before .before .before) (After-no-lines·gave (c .before .before .before .before .before .before .before .before .before .before .before .before .before .before .before .before .before .before
-          .before .before .before .before .before .before .before .before .before .before .before .before .before)))) (Row.get 3 (T30 .locals) (m107 (c .before) (c .slice-known8 .given)) .now) (Row.get 4
-          (T30 .locals) (m107 (c .before) (c .slice-known8 .given)) .now) (Row.get 5 (T30 .locals) (m107 (c .before) (c .slice-known8 .given)) .now) (Row.get 15 (T30 .locals) (m107 (c .before) (c
-          .slice-known8 .given))) (Row.get 16 (T30 .locals) (m107 (c .before) (c .slice-known8 .given))) (Row.get 17 (T30 .locals) (m107 (c .before) (c .slice-known8 .given)))
+          .before .before .before .before .before .before .before .before .before .before .before .before .before)))) (Row.get 18 (T30 .locals) (m23 (c .before .before .before .before .before .before
+          .before .before .before .before .before .before .before .before .before .before .before .before .before .before .before .before .before .before .before .before .before .before .before .before
+          .before .before) (After-no-lines·gave (c .before .before .before .before .before .before .before .before .before .before .before .before .before .before .before .before .before .before .before
+          .before .before .before .before .before .before .before .before .before .before .before .before)))) (Row.get 3 (T30 .locals) (m109 (c .before) (c .slice-known8 .given)) .now) (Row.get 4 (T30
+          .locals) (m109 (c .before) (c .slice-known8 .given)) .now) (Row.get 5 (T30 .locals) (m109 (c .before) (c .slice-known8 .given)) .now) (Row.get 16 (T30 .locals) (m109 (c .before) (c .slice-known8
+          .given))) (Row.get 17 (T30 .locals) (m109 (c .before) (c .slice-known8 .given))) (Row.get 18 (T30 .locals) (m109 (c .before) (c .slice-known8 .given)))
 
       abbrev pub Need-totals-at-requires-3 : Type 0
-      Need-totals-at-requires-3 = (c : After-loop) → s136 .asks (m30 (c .before))
+      Need-totals-at-requires-3 = (c : After-loop) → s138 .asks (m31 (c .before))
 
-      abbrev pub m108 : (before : After-loop) → (given : s136 .gives (m30 (before .before))) → Typed.Mo T141
-      m108 = λ before given. s136 .next (m30 (before .before)) given
+      abbrev pub m110 : (before : After-loop) → (given : s138 .gives (m31 (before .before))) → Typed.Mo T143
+      m110 = λ before given. s138 .next (m31 (before .before)) given
 
       module _ (before· : After-loop) where
         abbrev pub After-totals-at3·own : Type 0
-        After-totals-at3·own = Called.Called ps·12 r·12 (claims· .25) T31 (record { pos = 15; st = List.[]; d = 0; at = λ x. x }, tt) (m30 (before· .before))
+        After-totals-at3·own = Called.Called ps·12 r·12 (claims· .25) T31 (record { pos = 16; st = List.[]; d = 0; at = λ x. x }, tt) (m31 (before· .before))
 
       pub record After-totals-at3 : Type 0 where
         pub before : After-loop
         pub totals-at3 : After-totals-at3·own before
 
-      abbrev pub After-totals-at3·gave : (c : After-totals-at3) → s136 .gives (m30 (c .before .before))
-      After-totals-at3·gave = λ c. Called.given ps·12 r·12 (claims· .25) T31 (record { pos = 15; st = List.[]; d = 0; at = λ x. x }, tt) (m30 (c .before .before)) (c .totals-at3)
+      abbrev pub After-totals-at3·gave : (c : After-totals-at3) → s138 .gives (m31 (c .before .before))
+      After-totals-at3·gave = λ c. Called.given ps·12 r·12 (claims· .25) T31 (record { pos = 16; st = List.[]; d = 0; at = λ x. x }, tt) (m31 (c .before .before)) (c .totals-at3)
 
-      abbrev pub m109 : (before : After-loop) → (given : s136 .gives (m30 (before .before))) → Typed.Mo T142
-      m109 = λ before given. s137 (m108 before given)
-
-      abbrev pub m110 : (before : After-loop) → (given : s136 .gives (m30 (before .before))) → Typed.Mo T143
-      m110 = λ before given. s138 (m109 before given)
-
-      abbrev pub m111 : (before : After-loop) → (given : s136 .gives (m30 (before .before))) → Typed.Mo T144
+      abbrev pub m111 : (before : After-loop) → (given : s138 .gives (m31 (before .before))) → Typed.Mo T144
       m111 = λ before given. s139 (m110 before given)
 
-      abbrev pub m112 : (before : After-loop) → (given : s136 .gives (m30 (before .before))) → Typed.Mo T145
+      abbrev pub m112 : (before : After-loop) → (given : s138 .gives (m31 (before .before))) → Typed.Mo T145
       m112 = λ before given. s140 (m111 before given)
 
-      abbrev pub m113 : (before : After-loop) → (given : s136 .gives (m30 (before .before))) → Typed.Mo T146
+      abbrev pub m113 : (before : After-loop) → (given : s138 .gives (m31 (before .before))) → Typed.Mo T146
       m113 = λ before given. s141 (m112 before given)
 
-      abbrev pub m114 : (before : After-loop) → (given : s136 .gives (m30 (before .before))) → Typed.Mo T147
+      abbrev pub m114 : (before : After-loop) → (given : s138 .gives (m31 (before .before))) → Typed.Mo T147
       m114 = λ before given. s142 (m113 before given)
 
-      abbrev pub m115 : (before : After-loop) → (given : s136 .gives (m30 (before .before))) → Typed.Mo T148
+      abbrev pub m115 : (before : After-loop) → (given : s138 .gives (m31 (before .before))) → Typed.Mo T148
       m115 = λ before given. s143 (m114 before given)
 
-      abbrev pub m116 : (before : After-loop) → (given : s136 .gives (m30 (before .before))) → Typed.Mo T149
+      abbrev pub m116 : (before : After-loop) → (given : s138 .gives (m31 (before .before))) → Typed.Mo T149
       m116 = λ before given. s144 (m115 before given)
 
-      abbrev pub m117 : (before : After-loop) → (given : s136 .gives (m30 (before .before))) → Typed.Mo T150
+      abbrev pub m117 : (before : After-loop) → (given : s138 .gives (m31 (before .before))) → Typed.Mo T150
       m117 = λ before given. s145 (m116 before given)
 
-      abbrev pub m118 : (before : After-loop) → (given : s136 .gives (m30 (before .before))) → Typed.Mo T151
+      abbrev pub m118 : (before : After-loop) → (given : s138 .gives (m31 (before .before))) → Typed.Mo T151
       m118 = λ before given. s146 (m117 before given)
 
+      abbrev pub m119 : (before : After-loop) → (given : s138 .gives (m31 (before .before))) → Typed.Mo T152
+      m119 = λ before given. s147 (m118 before given)
+
+      abbrev pub m120 : (before : After-loop) → (given : s138 .gives (m31 (before .before))) → Typed.Mo T153
+      m120 = λ before given. s148 (m119 before given)
+
       abbrev pub Need-same-length-4 : Type 0
-      Need-same-length-4 = (c : After-totals-at3) → MutSlice.SameLen (Row.get 3 (T151 .locals) (m118 (c .before) (After-totals-at3·gave c))) (dens (c .before .before .before .before .before .before
+      Need-same-length-4 = (c : After-totals-at3) → MutSlice.SameLen (Row.get 3 (T153 .locals) (m120 (c .before) (After-totals-at3·gave c))) (dens (c .before .before .before .before .before .before
           .before .before .before .before .before .before .before .before .before .before .before .before .κs) (c .before .before .before .before .before .before .before .before .before .before .before
           .before .before .before .before .before .before .before .args) .1 .1 .0)
 
       abbrev pub Need-same-length-5 : Type 0
-      Need-same-length-5 = (c : After-totals-at3) → MutSlice.SameLen (Row.get 4 (T151 .locals) (m118 (c .before) (After-totals-at3·gave c))) (dens (c .before .before .before .before .before .before
+      Need-same-length-5 = (c : After-totals-at3) → MutSlice.SameLen (Row.get 4 (T153 .locals) (m120 (c .before) (After-totals-at3·gave c))) (dens (c .before .before .before .before .before .before
           .before .before .before .before .before .before .before .before .before .before .before .before .κs) (c .before .before .before .before .before .before .before .before .before .before .before
           .before .before .before .before .before .before .before .args) .1 .1 .1 .0)
 
       abbrev pub Need-same-length-6 : Type 0
-      Need-same-length-6 = (c : After-totals-at3) → MutSlice.SameLen (Row.get 5 (T151 .locals) (m118 (c .before) (After-totals-at3·gave c))) (dens (c .before .before .before .before .before .before
+      Need-same-length-6 = (c : After-totals-at3) → MutSlice.SameLen (Row.get 5 (T153 .locals) (m120 (c .before) (After-totals-at3·gave c))) (dens (c .before .before .before .before .before .before
           .before .before .before .before .before .before .before .before .before .before .before .before .κs) (c .before .before .before .before .before .before .before .before .before .before .before
           .before .before .before .before .before .before .before .args) .1 .1 .1 .1 .0)
 
@@ -7460,23 +7654,23 @@ module _ (claims· : Claims) where
       Need-returns-2 = (c : After-totals-at3) → Post· (c .before .before .before .before .before .before .before .before .before .before .before .before .before .before .before .before .before .before
           .κs) (dens (c .before .before .before .before .before .before .before .before .before .before .before .before .before .before .before .before .before .before .κs) (c .before .before .before
           .before .before .before .before .before .before .before .before .before .before .before .before .before .before .before .args)) (Function.resV r (c .before .before .before .before .before
-          .before .before .before .before .before .before .before .before .before .before .before .before .before .κs) (m118 (c .before) (After-totals-at3·gave c) .0)) (Clauses.atExit (Kinds.endedOf 6 ps
+          .before .before .before .before .before .before .before .before .before .before .before .before .before .κs) (m120 (c .before) (After-totals-at3·gave c) .0)) (Clauses.atExit (Kinds.endedOf 6 ps
           r) (c .before .before .before .before .before .before .before .before .before .before .before .before .before .before .before .before .before .before .κs) (dens (c .before .before .before
           .before .before .before .before .before .before .before .before .before .before .before .before .before .before .before .κs) (c .before .before .before .before .before .before .before .before
           .before .before .before .before .before .before .before .before .before .before .args)) (Enter.lastsP (c .before .before .before .before .before .before .before .before .before .before .before
           .before .before .before .before .before .before .before .κs) 1 ps xs (dens (c .before .before .before .before .before .before .before .before .before .before .before .before .before .before
           .before .before .before .before .κs) (c .before .before .before .before .before .before .before .before .before .before .before .before .before .before .before .before .before .before .args))
-          (m118 (c .before) (After-totals-at3·gave c) .1)))
+          (m120 (c .before) (After-totals-at3·gave c) .1)))
 
       module _ (width-requires : Need-width-requires) (clear-requires : Need-clear-requires) (base-of-requires : Need-base-of-requires) (start-records-requires : Need-start-records-requires)
           (start-place-requires : Need-start-place-requires) (no-lines-requires : Need-no-lines-requires) (loop-holds : Need-loop-holds) (turn-if-requires : Need-turn-if-requires) (base-of-requires-2 :
-          Need-base-of-requires-2) (is-restarted-requires : Need-is-restarted-requires) (restart-requires : Need-restart-requires) (quantisers-of-requires : Need-quantisers-of-requires) (line-requires :
+          Need-base-of-requires-2) (is-restarted-requires : Need-is-restarted-requires) (restart-requires : Need-restart-requires) (quantisers-in-requires : Need-quantisers-in-requires) (line-requires :
           Need-line-requires) (enum-known-got : Need-enum-known-got) (enum-told : Need-enum-told) (zero-line-requires : Need-zero-line-requires) (totals-at-requires : Need-totals-at-requires) (same-length
           : Need-same-length) (same-length-2 : Need-same-length-2) (same-length-3 : Need-same-length-3) (returns : Need-returns) (totals-at-requires-2 : Need-totals-at-requires-2) (with-line-requires :
           Need-with-line-requires) (emit-line-if-requires : Need-emit-line-if-requires) (add-n : Need-add-n) (loop-less : Need-loop-less) (loop-again : Need-loop-again) (totals-at-requires-3 :
           Need-totals-at-requires-3) (same-length-4 : Need-same-length-4) (same-length-5 : Need-same-length-5) (same-length-6 : Need-same-length-6) (returns-2 : Need-returns-2) where
-        lay23 : (c : After-totals-at3) → at124 (W0 (c .before .before .before .before .before .before .before .before .before .before .before .before .before .before .before .before .before .before
-            .κs) (c .before .before .before .before .before .before .before .before .before .before .before .before .before .before .before .before .before .before .args)) (m108 (c .before)
+        lay23 : (c : After-totals-at3) → at126 (W0 (c .before .before .before .before .before .before .before .before .before .before .before .before .before .before .before .before .before .before
+            .κs) (c .before .before .before .before .before .before .before .before .before .before .before .before .before .before .before .before .before .before .args)) (m110 (c .before)
             (After-totals-at3·gave c))
         lay23 = λ c. (
           (
@@ -7484,21 +7678,21 @@ module _ (claims· : Claims) where
             (
               Path'.refl,
               (
-                MutSlice.fix-len (Row.get 3 (T151 .locals) (m118 (c .before) (After-totals-at3·gave c)) .ptr) (Row.get 3 (T151 .locals) (m118 (c .before) (After-totals-at3·gave c)) .name) (Row.get 3 (T151
-                    .locals) (m118 (c .before) (After-totals-at3·gave c)) .now) (dens (c .before .before .before .before .before .before .before .before .before .before .before .before .before .before .before
+                MutSlice.fix-len (Row.get 3 (T153 .locals) (m120 (c .before) (After-totals-at3·gave c)) .ptr) (Row.get 3 (T153 .locals) (m120 (c .before) (After-totals-at3·gave c)) .name) (Row.get 3 (T153
+                    .locals) (m120 (c .before) (After-totals-at3·gave c)) .now) (dens (c .before .before .before .before .before .before .before .before .before .before .before .before .before .before .before
                     .before .before .before .κs) (c .before .before .before .before .before .before .before .before .before .before .before .before .before .before .before .before .before .before .args) .1 .1 .0
                     .now) (same-length-4 record { before = c .before; totals-at3 = c .totals-at3 }),
                 (
-                  MutSlice.fix-len (Row.get 4 (T151 .locals) (m118 (c .before) (After-totals-at3·gave c)) .ptr) (Row.get 4 (T151 .locals) (m118 (c .before) (After-totals-at3·gave c)) .name) (Row.get 4 (T151
-                      .locals) (m118 (c .before) (After-totals-at3·gave c)) .now) (dens (c .before .before .before .before .before .before .before .before .before .before .before .before .before .before .before
+                  MutSlice.fix-len (Row.get 4 (T153 .locals) (m120 (c .before) (After-totals-at3·gave c)) .ptr) (Row.get 4 (T153 .locals) (m120 (c .before) (After-totals-at3·gave c)) .name) (Row.get 4 (T153
+                      .locals) (m120 (c .before) (After-totals-at3·gave c)) .now) (dens (c .before .before .before .before .before .before .before .before .before .before .before .before .before .before .before
                       .before .before .before .κs) (c .before .before .before .before .before .before .before .before .before .before .before .before .before .before .before .before .before .before .args) .1 .1 .1
                       .0 .now) (same-length-5 record { before = c .before; totals-at3 = c .totals-at3 }),
                   (
-                    MutSlice.fix-len (Row.get 5 (T151 .locals) (m118 (c .before) (After-totals-at3·gave c)) .ptr) (Row.get 5 (T151 .locals) (m118 (c .before) (After-totals-at3·gave c)) .name) (Row.get 5 (T151
-                        .locals) (m118 (c .before) (After-totals-at3·gave c)) .now) (dens (c .before .before .before .before .before .before .before .before .before .before .before .before .before .before .before
+                    MutSlice.fix-len (Row.get 5 (T153 .locals) (m120 (c .before) (After-totals-at3·gave c)) .ptr) (Row.get 5 (T153 .locals) (m120 (c .before) (After-totals-at3·gave c)) .name) (Row.get 5 (T153
+                        .locals) (m120 (c .before) (After-totals-at3·gave c)) .now) (dens (c .before .before .before .before .before .before .before .before .before .before .before .before .before .before .before
                         .before .before .before .κs) (c .before .before .before .before .before .before .before .before .before .before .before .before .before .before .before .before .before .before .args) .1 .1 .1
                         .1 .0 .now) (same-length-6 record { before = c .before; totals-at3 = c .totals-at3 }),
-                    (tt, (Path'.refl, (tt, (tt, (tt, (tt, tt)))))),
+                    (tt, (Path'.refl, (tt, (tt, (tt, (tt, (tt, tt))))))),
                   ),
                 ),
               ),
@@ -7508,18 +7702,18 @@ module _ (claims· : Claims) where
               { before = c .before; totals-at3 = c .totals-at3 },
         )
 
-        lay22 : (c : After-loop) → at125 (W0 (c .before .before .before .before .before .before .before .before .before .before .before .before .before .before .before .before .before .κs) (c .before
-            .before .before .before .before .before .before .before .before .before .before .before .before .before .before .before .before .args)) (m30 (c .before))
+        lay22 : (c : After-loop) → at127 (W0 (c .before .before .before .before .before .before .before .before .before .before .before .before .before .before .before .before .before .κs) (c .before
+            .before .before .before .before .before .before .before .before .before .before .before .before .before .before .before .before .args)) (m31 (c .before))
         lay22 = λ c. (
           totals-at-requires-3 record { before = c .before; loop-test = c .loop-test },
           λ g. lay23 record {
             before = record { before = c .before; loop-test = c .loop-test };
-            totals-at3 = Called.called ps·12 r·12 (claims· .25) T31 (record { pos = 15; st = List.[]; d = 0; at = λ x. x }, tt) (m30 (c
+            totals-at3 = Called.called ps·12 r·12 (claims· .25) T31 (record { pos = 16; st = List.[]; d = 0; at = λ x. x }, tt) (m31 (c
                 .before)) g;
           },
         )
 
-        lay21 : (c : After-emit-line-if) → at62 (W3 (c .before .before .before .before .before .before .before .before .before .before .before .before .before .before .before .before .before .before
+        lay21 : (c : After-emit-line-if) → at64 (W3 (c .before .before .before .before .before .before .before .before .before .before .before .before .before .before .before .before .before .before
             .before .before .before .before .before .before .before .before .before .before .before) (c .before .before .before .before .before .before .before .before .before .before .before .before
             .before .before .before .before .before .before .before .before .before .before .before .before .before .before .before .before .loop .lines) (c .before .before .before .before .before .before
             .before .before .before .before .before .before .before .before .before .before .before .before .before .before .before .before .before .before .before .before .before .before .loop .rs) (c
@@ -7528,7 +7722,7 @@ module _ (claims· : Claims) where
             .before .before .before .before .before .before .before .before .before .before .loop .place) (c .before .before .before .before .before .before .before .before .before .before .before .before
             .before .before .before .before .before .before .before .before .before .before .before .before .before .before .before .before .loop .tight-lines) (c .before .before .before .before .before
             .before .before .before .before .before .before .before .before .before .before .before .before .before .before .before .before .before .before .before .before .before .before .before .loop
-            .n)) (m99 (c .before) (After-emit-line-if·gave c))
+            .n)) (m101 (c .before) (After-emit-line-if·gave c))
         lay21 = λ c. (
           Path'.refl,
           λ g. λ g'. (
@@ -7581,30 +7775,33 @@ module _ (claims· : Claims) where
                   .before .before .before .before .before .before .before .before .before .before .before .before .before .before .before .before .before .before .before .before .before .before .before .before
                   .before .before .before)))) (Row.get 17 (T30 .locals) (m23 (c .before .before .before .before .before .before .before .before .before .before .before .before .before .before .before .before
                   .before .before .before .before .before .before .before .before .before .before .before .before .before .before) (After-no-lines·gave (c .before .before .before .before .before .before .before
-                  .before .before .before .before .before .before .before .before .before .before .before .before .before .before .before .before .before .before .before .before .before .before)))) (Row.get 3
-                  (T30 .locals) (m107 record { before = record { before = c .before; emit-line-if = c .emit-line-if }; image3 = record { given = g } } g') .now) (Row.get 4 (T30 .locals) (m107 record
-                  { before = record { before = c .before; emit-line-if = c .emit-line-if }; image3 = record { given = g } } g') .now) (Row.get 5 (T30 .locals) (m107 record
-                  { before = record { before = c .before; emit-line-if = c .emit-line-if }; image3 = record { given = g } } g') .now) (Row.get 15 (T30 .locals) (m107 record
-                  { before = record { before = c .before; emit-line-if = c .emit-line-if }; image3 = record { given = g } } g')) (Row.get 16 (T30 .locals) (m107 record
-                  { before = record { before = c .before; emit-line-if = c .emit-line-if }; image3 = record { given = g } } g')) (Row.get 17 (T30 .locals) (m107 record
+                  .before .before .before .before .before .before .before .before .before .before .before .before .before .before .before .before .before .before .before .before .before .before)))) (Row.get 18
+                  (T30 .locals) (m23 (c .before .before .before .before .before .before .before .before .before .before .before .before .before .before .before .before .before .before .before .before .before
+                  .before .before .before .before .before .before .before .before .before) (After-no-lines·gave (c .before .before .before .before .before .before .before .before .before .before .before .before
+                  .before .before .before .before .before .before .before .before .before .before .before .before .before .before .before .before .before)))) (Row.get 3 (T30 .locals) (m109 record
+                  { before = record { before = c .before; emit-line-if = c .emit-line-if }; image3 = record { given = g } } g') .now) (Row.get 4 (T30 .locals) (m109 record
+                  { before = record { before = c .before; emit-line-if = c .emit-line-if }; image3 = record { given = g } } g') .now) (Row.get 5 (T30 .locals) (m109 record
+                  { before = record { before = c .before; emit-line-if = c .emit-line-if }; image3 = record { given = g } } g') .now) (Row.get 16 (T30 .locals) (m109 record
+                  { before = record { before = c .before; emit-line-if = c .emit-line-if }; image3 = record { given = g } } g')) (Row.get 17 (T30 .locals) (m109 record
+                  { before = record { before = c .before; emit-line-if = c .emit-line-if }; image3 = record { given = g } } g')) (Row.get 18 (T30 .locals) (m109 record
                   { before = record { before = c .before; emit-line-if = c .emit-line-if }; image3 = record { given = g } } g')),
               loop-less record
                   { before = record { before = record { before = c .before; emit-line-if = c .emit-line-if }; image3 = record { given = g } }; slice-known8 = record { given = g' } },
               (
                 (
-                  Row.get 3 (T30 .locals) (m107 record { before = record { before = c .before; emit-line-if = c .emit-line-if }; image3 = record { given = g } } g') .now,
-                  Row.get 4 (T30 .locals) (m107 record
+                  Row.get 3 (T30 .locals) (m109 record { before = record { before = c .before; emit-line-if = c .emit-line-if }; image3 = record { given = g } } g') .now,
+                  Row.get 4 (T30 .locals) (m109 record
                       { before = record { before = c .before; emit-line-if = c .emit-line-if }; image3 = record { given = g } } g') .now,
-                  Row.get 5 (T30 .locals) (m107 record
+                  Row.get 5 (T30 .locals) (m109 record
                       { before = record { before = c .before; emit-line-if = c .emit-line-if }; image3 = record { given = g } } g') .now,
-                  Row.get 15 (T30 .locals) (m107 record
+                  Row.get 16 (T30 .locals) (m109 record
                       { before = record { before = c .before; emit-line-if = c .emit-line-if }; image3 = record { given = g } } g'),
-                  Row.get 16 (T30 .locals) (m107 record
+                  Row.get 17 (T30 .locals) (m109 record
                       { before = record { before = c .before; emit-line-if = c .emit-line-if }; image3 = record { given = g } } g'),
-                  Row.get 17 (T30 .locals) (m107 record
+                  Row.get 18 (T30 .locals) (m109 record
                       { before = record { before = c .before; emit-line-if = c .emit-line-if }; image3 = record { given = g } } g'),
                 ),
-                Path'.refl {a = m107 record
+                Path'.refl {a = m109 record
                     { before = record { before = c .before; emit-line-if = c .emit-line-if }; image3 = record { given = g } } g'},
                 loop-again record
                     { before = record { before = record { before = c .before; emit-line-if = c .emit-line-if }; image3 = record { given = g } }; slice-known8 = record { given = g' } },
@@ -7656,19 +7853,22 @@ module _ (claims· : Claims) where
                     .before .before .before .before .before .before .before .before .before .before .before .before .before .before .before .before .before .before .before .before .before .before .before .before
                     .before .before .before)))) (Row.get 17 (T30 .locals) (m23 (c .before .before .before .before .before .before .before .before .before .before .before .before .before .before .before .before
                     .before .before .before .before .before .before .before .before .before .before .before .before .before .before) (After-no-lines·gave (c .before .before .before .before .before .before .before
-                    .before .before .before .before .before .before .before .before .before .before .before .before .before .before .before .before .before .before .before .before .before .before)))) (Row.get 3
-                    (T30 .locals) (m107 record { before = record { before = c .before; emit-line-if = c .emit-line-if }; image3 = record { given = g } } g') .now) (Row.get 4 (T30 .locals) (m107 record
-                    { before = record { before = c .before; emit-line-if = c .emit-line-if }; image3 = record { given = g } } g') .now) (Row.get 5 (T30 .locals) (m107 record
-                    { before = record { before = c .before; emit-line-if = c .emit-line-if }; image3 = record { given = g } } g') .now) (Row.get 15 (T30 .locals) (m107 record
-                    { before = record { before = c .before; emit-line-if = c .emit-line-if }; image3 = record { given = g } } g')) (Row.get 16 (T30 .locals) (m107 record
-                    { before = record { before = c .before; emit-line-if = c .emit-line-if }; image3 = record { given = g } } g')) (Row.get 17 (T30 .locals) (m107 record
+                    .before .before .before .before .before .before .before .before .before .before .before .before .before .before .before .before .before .before .before .before .before .before)))) (Row.get 18
+                    (T30 .locals) (m23 (c .before .before .before .before .before .before .before .before .before .before .before .before .before .before .before .before .before .before .before .before .before
+                    .before .before .before .before .before .before .before .before .before) (After-no-lines·gave (c .before .before .before .before .before .before .before .before .before .before .before .before
+                    .before .before .before .before .before .before .before .before .before .before .before .before .before .before .before .before .before)))) (Row.get 3 (T30 .locals) (m109 record
+                    { before = record { before = c .before; emit-line-if = c .emit-line-if }; image3 = record { given = g } } g') .now) (Row.get 4 (T30 .locals) (m109 record
+                    { before = record { before = c .before; emit-line-if = c .emit-line-if }; image3 = record { given = g } } g') .now) (Row.get 5 (T30 .locals) (m109 record
+                    { before = record { before = c .before; emit-line-if = c .emit-line-if }; image3 = record { given = g } } g') .now) (Row.get 16 (T30 .locals) (m109 record
+                    { before = record { before = c .before; emit-line-if = c .emit-line-if }; image3 = record { given = g } } g')) (Row.get 17 (T30 .locals) (m109 record
+                    { before = record { before = c .before; emit-line-if = c .emit-line-if }; image3 = record { given = g } } g')) (Row.get 18 (T30 .locals) (m109 record
                     { before = record { before = c .before; emit-line-if = c .emit-line-if }; image3 = record { given = g } } g'))},
               ),
             ),
           ),
         )
 
-        lay20 : (c : After-with-line) → at71 (W3 (c .before .before .before .before .before .before .before .before .before .before .before .before .before .before .before .before .before .before
+        lay20 : (c : After-with-line) → at73 (W3 (c .before .before .before .before .before .before .before .before .before .before .before .before .before .before .before .before .before .before
             .before .before .before .before .before .before .before .before) (c .before .before .before .before .before .before .before .before .before .before .before .before .before .before .before
             .before .before .before .before .before .before .before .before .before .before .loop .lines) (c .before .before .before .before .before .before .before .before .before .before .before .before
             .before .before .before .before .before .before .before .before .before .before .before .before .before .loop .rs) (c .before .before .before .before .before .before .before .before .before
@@ -7676,7 +7876,7 @@ module _ (claims· : Claims) where
             .before .before .before .before .before .before .before .before .before .before .before .before .before .before .before .before .before .before .before .loop .place) (c .before .before .before
             .before .before .before .before .before .before .before .before .before .before .before .before .before .before .before .before .before .before .before .before .before .before .loop
             .tight-lines) (c .before .before .before .before .before .before .before .before .before .before .before .before .before .before .before .before .before .before .before .before .before .before
-            .before .before .before .loop .n)) (m92 (c .before) (After-with-line·gave c))
+            .before .before .before .loop .n)) (m94 (c .before) (After-with-line·gave c))
         lay20 = λ c. λ g. (
           Path'.refl,
           λ g'. (
@@ -7691,22 +7891,22 @@ module _ (claims· : Claims) where
                       before = record
                           { before = record { before = record { before = c .before; with-line = c .with-line }; emit-line-if-arg = record { given = g } }; emit-line-if-arg2 = record { given = g' } };
                       emit-line-if =
-                          Called.called ps·14 r·14 (claims· .29) T127 (
-                            record { pos = 46; ty = Syntax.tyRef Syntax.erased Syntax.imm (Syntax.tyInt Syntax.w16); ref = λ x. x },
+                          Called.called ps·14 r·14 (claims· .29) T129 (
+                            record { pos = 47; ty = Syntax.tyRef Syntax.erased Syntax.imm (Syntax.tyInt Syntax.w16); ref = λ x. x },
                             (
-                              record { pos = 48; ty = Syntax.tyRef Syntax.erased Syntax.mut (Syntax.tyInt Syntax.w16); ref = λ x. x },
+                              record { pos = 49; ty = Syntax.tyRef Syntax.erased Syntax.mut (Syntax.tyInt Syntax.w16); ref = λ x. x },
                               (
-                                Num.vAt 14 λ x. x,
+                                Num.vAt 15 λ x. x,
                                 (
-                                  Bool.bAt 13 λ x. x,
+                                  Bool.bAt 14 λ x. x,
                                   (
                                     record { pos = 7; ty = Syntax.tyRef (Syntax.named 5) Syntax.imm (Syntax.tyArray (Syntax.tyInt Syntax.w16) 768); ref = λ x. x },
-                                    (record { pos = 8; st = List.[]; d = 0; at = λ x. x }, (record { pos = 9; st = List.[]; d = 0; at = λ x. x }, (Num.vAt 17 λ x. x, (Bool.bAt 27 λ x. x, tt)))),
+                                    (record { pos = 8; st = List.[]; d = 0; at = λ x. x }, (record { pos = 9; st = List.[]; d = 0; at = λ x. x }, (Num.vAt 18 λ x. x, (Bool.bAt 28 λ x. x, tt)))),
                                   ),
                                 ),
                               ),
                             ),
-                          ) (m98 record
+                          ) (m100 record
                           { before = record { before = c .before; with-line = c .with-line }; emit-line-if-arg = record { given = g } } g') g'';
                     },
               ),
@@ -7714,73 +7914,73 @@ module _ (claims· : Claims) where
           ),
         )
 
-        lay19 : (c : After-totals-at2) → at72 (W3 (c .before .before .before .before .before .before .before .before .before .before .before .before .before .before .before .before .before .before
+        lay19 : (c : After-totals-at2) → at74 (W3 (c .before .before .before .before .before .before .before .before .before .before .before .before .before .before .before .before .before .before
             .before .before .before .before .before .before .before) (c .before .before .before .before .before .before .before .before .before .before .before .before .before .before .before .before
             .before .before .before .before .before .before .before .before .loop .lines) (c .before .before .before .before .before .before .before .before .before .before .before .before .before .before
             .before .before .before .before .before .before .before .before .before .before .loop .rs) (c .before .before .before .before .before .before .before .before .before .before .before .before
             .before .before .before .before .before .before .before .before .before .before .before .before .loop .image) (c .before .before .before .before .before .before .before .before .before .before
             .before .before .before .before .before .before .before .before .before .before .before .before .before .before .loop .place) (c .before .before .before .before .before .before .before .before
             .before .before .before .before .before .before .before .before .before .before .before .before .before .before .before .before .loop .tight-lines) (c .before .before .before .before .before
-            .before .before .before .before .before .before .before .before .before .before .before .before .before .before .before .before .before .before .before .loop .n)) (m91 (c .before)
+            .before .before .before .before .before .before .before .before .before .before .before .before .before .before .before .before .before .before .before .loop .n)) (m93 (c .before)
             (After-totals-at2·gave c))
         lay19 = λ c. (
           with-line-requires record { before = c .before; totals-at2 = c .totals-at2 },
           λ g. lay20 record {
             before = record { before = c .before; totals-at2 = c .totals-at2 };
-            with-line = Called.called ps·13 r·13 (claims· .27) T118 (
-              record { pos = 16; st = List.[]; d = 0; at = λ x. x },
-              (Num.vAt 17 λ x. x, (Bool.bFld 15 (List._∷_ (Syntax.field 1) List.[]) 8 λ x. Place.struct .as-values x .1 .0, (record { pos = 44; st = List.[]; d = 0; at = λ x. x }, tt))),
-            ) (m91 (c .before)
+            with-line = Called.called ps·13 r·13 (claims· .27) T120 (
+              record { pos = 17; st = List.[]; d = 0; at = λ x. x },
+              (Num.vAt 18 λ x. x, (Bool.bFld 16 (List._∷_ (Syntax.field 1) List.[]) 8 λ x. Place.struct .as-values x .1 .0, (record { pos = 45; st = List.[]; d = 0; at = λ x. x }, tt))),
+            ) (m93 (c .before)
                 (After-totals-at2·gave c)) g;
           },
         )
 
-        lay18 : (c : After-known-told) → at75 (W3 (c .before .before .before .before .before .before .before .before .before .before .before .before .before .before .before .before .before .before
+        lay18 : (c : After-known-told) → at77 (W3 (c .before .before .before .before .before .before .before .before .before .before .before .before .before .before .before .before .before .before
             .before .before .before .before .before .before) (c .before .before .before .before .before .before .before .before .before .before .before .before .before .before .before .before .before
             .before .before .before .before .before .before .loop .lines) (c .before .before .before .before .before .before .before .before .before .before .before .before .before .before .before .before
             .before .before .before .before .before .before .before .loop .rs) (c .before .before .before .before .before .before .before .before .before .before .before .before .before .before .before
             .before .before .before .before .before .before .before .before .loop .image) (c .before .before .before .before .before .before .before .before .before .before .before .before .before .before
             .before .before .before .before .before .before .before .before .before .loop .place) (c .before .before .before .before .before .before .before .before .before .before .before .before .before
             .before .before .before .before .before .before .before .before .before .before .loop .tight-lines) (c .before .before .before .before .before .before .before .before .before .before .before
-            .before .before .before .before .before .before .before .before .before .before .before .before .loop .n)) (m65 (c .before) (c .known-told .given))
+            .before .before .before .before .before .before .before .before .before .before .before .before .loop .n)) (m66 (c .before) (c .known-told .given))
         lay18 = λ c. (
           totals-at-requires-2 record { before = c .before; known-told = c .known-told },
           λ g. lay19 record {
             before = record { before = c .before; known-told = c .known-told };
-            totals-at2 = Called.called ps·12 r·12 (claims· .25) T117 (record { pos = 15; st = List.[]; d = 0; at = λ x. x }, tt) (m90
+            totals-at2 = Called.called ps·12 r·12 (claims· .25) T119 (record { pos = 16; st = List.[]; d = 0; at = λ x. x }, tt) (m92
                 (c .before) (c .known-told .given)) g;
           },
         )
 
-        lay17 : (c : After-totals-at) → at22 (W5 (c .before .before .before .before .before .before .before .before .before .before .before .before .before) (After-line·gave (c .before .before .before
-            .before .before .before .before .before .before .before .before .before))) (m78 (c .before) (After-totals-at·gave c))
+        lay17 : (c : After-totals-at) → at23 (W5 (c .before .before .before .before .before .before .before .before .before .before .before .before .before) (After-line·gave (c .before .before .before
+            .before .before .before .before .before .before .before .before .before))) (m80 (c .before) (After-totals-at·gave c))
         lay17 = λ c. (
           (
             Path'.refl,
             (
               Path'.refl,
               (
-                MutSlice.fix-len (Row.get 3 (T115 .locals) (m88 (c .before) (After-totals-at·gave c)) .ptr) (Row.get 3 (T115 .locals) (m88 (c .before) (After-totals-at·gave c)) .name) (Row.get 3 (T115
-                    .locals) (m88 (c .before) (After-totals-at·gave c)) .now) (dens (c .before .before .before .before .before .before .before .before .before .before .before .before .before .before .before
+                MutSlice.fix-len (Row.get 3 (T117 .locals) (m90 (c .before) (After-totals-at·gave c)) .ptr) (Row.get 3 (T117 .locals) (m90 (c .before) (After-totals-at·gave c)) .name) (Row.get 3 (T117
+                    .locals) (m90 (c .before) (After-totals-at·gave c)) .now) (dens (c .before .before .before .before .before .before .before .before .before .before .before .before .before .before .before
                     .before .before .before .before .before .before .before .before .before .before .before .before .before .before .before .before .before .before .before .before .before .before .before .before
                     .before .before .before .before .κs) (c .before .before .before .before .before .before .before .before .before .before .before .before .before .before .before .before .before .before .before
                     .before .before .before .before .before .before .before .before .before .before .before .before .before .before .before .before .before .before .before .before .before .before .before .before
                     .args) .1 .1 .0 .now) (same-length record { before = c .before; totals-at = c .totals-at }),
                 (
-                  MutSlice.fix-len (Row.get 4 (T115 .locals) (m88 (c .before) (After-totals-at·gave c)) .ptr) (Row.get 4 (T115 .locals) (m88 (c .before) (After-totals-at·gave c)) .name) (Row.get 4 (T115
-                      .locals) (m88 (c .before) (After-totals-at·gave c)) .now) (dens (c .before .before .before .before .before .before .before .before .before .before .before .before .before .before .before
+                  MutSlice.fix-len (Row.get 4 (T117 .locals) (m90 (c .before) (After-totals-at·gave c)) .ptr) (Row.get 4 (T117 .locals) (m90 (c .before) (After-totals-at·gave c)) .name) (Row.get 4 (T117
+                      .locals) (m90 (c .before) (After-totals-at·gave c)) .now) (dens (c .before .before .before .before .before .before .before .before .before .before .before .before .before .before .before
                       .before .before .before .before .before .before .before .before .before .before .before .before .before .before .before .before .before .before .before .before .before .before .before .before
                       .before .before .before .before .κs) (c .before .before .before .before .before .before .before .before .before .before .before .before .before .before .before .before .before .before .before
                       .before .before .before .before .before .before .before .before .before .before .before .before .before .before .before .before .before .before .before .before .before .before .before .before
                       .args) .1 .1 .1 .0 .now) (same-length-2 record { before = c .before; totals-at = c .totals-at }),
                   (
-                    MutSlice.fix-len (Row.get 5 (T115 .locals) (m88 (c .before) (After-totals-at·gave c)) .ptr) (Row.get 5 (T115 .locals) (m88 (c .before) (After-totals-at·gave c)) .name) (Row.get 5 (T115
-                        .locals) (m88 (c .before) (After-totals-at·gave c)) .now) (dens (c .before .before .before .before .before .before .before .before .before .before .before .before .before .before .before
+                    MutSlice.fix-len (Row.get 5 (T117 .locals) (m90 (c .before) (After-totals-at·gave c)) .ptr) (Row.get 5 (T117 .locals) (m90 (c .before) (After-totals-at·gave c)) .name) (Row.get 5 (T117
+                        .locals) (m90 (c .before) (After-totals-at·gave c)) .now) (dens (c .before .before .before .before .before .before .before .before .before .before .before .before .before .before .before
                         .before .before .before .before .before .before .before .before .before .before .before .before .before .before .before .before .before .before .before .before .before .before .before .before
                         .before .before .before .before .κs) (c .before .before .before .before .before .before .before .before .before .before .before .before .before .before .before .before .before .before .before
                         .before .before .before .before .before .before .before .before .before .before .before .before .before .before .before .before .before .before .before .before .before .before .before .before
                         .args) .1 .1 .1 .1 .0 .now) (same-length-3 record { before = c .before; totals-at = c .totals-at }),
-                    (tt, (Path'.refl, (tt, (tt, (tt, (tt, tt)))))),
+                    (tt, (Path'.refl, (tt, (tt, (tt, (tt, (tt, tt))))))),
                   ),
                 ),
               ),
@@ -7790,8 +7990,8 @@ module _ (claims· : Claims) where
               { before = c .before; totals-at = c .totals-at },
         )
 
-        lay16 : (c : After-zero-line) → at29 (W5 (c .before .before .before .before .before .before .before .before .before .before) (After-line·gave (c .before .before .before .before .before .before
-            .before .before .before))) (m73 (c .before) (After-zero-line·gave c))
+        lay16 : (c : After-zero-line) → at30 (W5 (c .before .before .before .before .before .before .before .before .before .before) (After-line·gave (c .before .before .before .before .before .before
+            .before .before .before))) (m75 (c .before) (After-zero-line·gave c))
         lay16 = λ c. (
           Path'.refl,
           λ g. λ g'. (
@@ -7800,18 +8000,18 @@ module _ (claims· : Claims) where
                 g''. lay17 record {
                   before = record { before = record { before = record { before = c .before; zero-line = c .zero-line }; image2 = record { given = g } }; slice-known7 = record { given = g' } };
                   totals-at =
-                      Called.called ps·12 r·12 (claims· .25) T103 (record { pos = 15; st = List.[]; d = 0; at = λ x. x }, tt) (m77 record
+                      Called.called ps·12 r·12 (claims· .25) T105 (record { pos = 16; st = List.[]; d = 0; at = λ x. x }, tt) (m79 record
                       { before = record { before = c .before; zero-line = c .zero-line }; image2 = record { given = g } } g') g'';
                 },
           ),
         )
 
-        lay15 : (c : After-line) → at76 (W3 (c .before .before .before .before .before .before .before .before .before .before .before .before .before .before .before .before) (c .before .before
+        lay15 : (c : After-line) → at78 (W3 (c .before .before .before .before .before .before .before .before .before .before .before .before .before .before .before .before) (c .before .before
             .before .before .before .before .before .before .before .before .before .before .before .before .before .loop .lines) (c .before .before .before .before .before .before .before .before .before
             .before .before .before .before .before .before .loop .rs) (c .before .before .before .before .before .before .before .before .before .before .before .before .before .before .before .loop
             .image) (c .before .before .before .before .before .before .before .before .before .before .before .before .before .before .before .loop .place) (c .before .before .before .before .before
             .before .before .before .before .before .before .before .before .before .before .loop .tight-lines) (c .before .before .before .before .before .before .before .before .before .before .before
-            .before .before .before .before .loop .n)) (m54 (c .before) (After-line·gave c))
+            .before .before .before .before .loop .n)) (m55 (c .before) (After-line·gave c))
         lay15 = λ c. (
           Path'.refl,
           λ g. λ g'. (
@@ -7931,10 +8131,10 @@ module _ (claims· : Claims) where
                                   g'8;
                             };
                           };
-                          zero-line = Called.called ps·11 r·11 (claims· .23) T97 (
-                            record { pos = 42; ty = Syntax.tyRef Syntax.erased Syntax.mut (Syntax.tyInt Syntax.w16); ref = λ x. x },
-                            (record { pos = 9; st = List.[]; d = 0; at = λ x. x }, (Num.vAt 17 λ x. x, (Bool.bAt 11 λ x. x, tt))),
-                          ) (m72 record {
+                          zero-line = Called.called ps·11 r·11 (claims· .23) T99 (
+                            record { pos = 43; ty = Syntax.tyRef Syntax.erased Syntax.mut (Syntax.tyInt Syntax.w16); ref = λ x. x },
+                            (record { pos = 9; st = List.[]; d = 0; at = λ x. x }, (Num.vAt 18 λ x. x, (Bool.bAt 11 λ x. x, tt))),
+                          ) (m74 record {
                             before = record {
                               before = record {
                                 before = record {
@@ -7959,7 +8159,7 @@ module _ (claims· : Claims) where
                   ),
                   Match.each-below 2
                       (λ j. (Unit {0} × (Run.OneOf (List._∷_ 0 List.[]) j → ⊥)) × (Run.OneOf (List._∷_ 1 List.[]) j → ⊥) → ⊥) (λ n. n .1 Path'.refl, (λ n. n .0 .1 Path'.refl, tt)) (Declared.tagOf Lined.the-type
-                      (Row.get 19 (T83 .locals) (m60 record {
+                      (Row.get 20 (T84 .locals) (m61 record {
                         before = record {
                           before = record { before = record { before = record { before = c .before; line = c .line }; lines3 = record { given = g } }; slice-known5 = record { given = g' } };
                           rs3 = record {
@@ -7968,7 +8168,7 @@ module _ (claims· : Claims) where
                           };
                         };
                         image = record { given = g'3 };
-                      } g'4))) (Match.tag-small Lined.the-type (Row.get 19 (T83 .locals) (m60 record {
+                      } g'4))) (Match.tag-small Lined.the-type (Row.get 20 (T84 .locals) (m61 record {
                         before = record {
                           before = record { before = record { before = record { before = c .before; line = c .line }; lines3 = record { given = g } }; slice-known5 = record { given = g' } };
                           rs3 = record {
@@ -7984,33 +8184,33 @@ module _ (claims· : Claims) where
           ),
         )
 
-        lay14 : (c : After-quantisers-of) → at77 (W3 (c .before .before .before .before .before .before .before .before .before .before .before .before .before .before .before) (c .before .before
+        lay14 : (c : After-quantisers-in) → at79 (W3 (c .before .before .before .before .before .before .before .before .before .before .before .before .before .before .before) (c .before .before
             .before .before .before .before .before .before .before .before .before .before .before .before .loop .lines) (c .before .before .before .before .before .before .before .before .before .before
             .before .before .before .before .loop .rs) (c .before .before .before .before .before .before .before .before .before .before .before .before .before .before .loop .image) (c .before .before
             .before .before .before .before .before .before .before .before .before .before .before .before .loop .place) (c .before .before .before .before .before .before .before .before .before .before
-            .before .before .before .before .loop .tight-lines) (c .before .before .before .before .before .before .before .before .before .before .before .before .before .before .loop .n)) (m53 (c
-            .before) (After-quantisers-of·gave c))
+            .before .before .before .before .loop .tight-lines) (c .before .before .before .before .before .before .before .before .before .before .before .before .before .before .loop .n)) (m54 (c
+            .before) (After-quantisers-in·gave c))
         lay14 = λ c. (
-          line-requires record { before = c .before; quantisers-of = c .quantisers-of },
+          line-requires record { before = c .before; quantisers-in = c .quantisers-in },
           λ g. lay15 record {
-            before = record { before = c .before; quantisers-of = c .quantisers-of };
-            line = Called.called ps·10 r·10 (claims· .21) T70 (
+            before = record { before = c .before; quantisers-in = c .quantisers-in };
+            line = Called.called ps·10 r·10 (claims· .21) T71 (
               record { pos = 1; ty = Syntax.tyRef (Syntax.named 0) Syntax.imm (Syntax.tyInt Syntax.w8); ref = λ x. x },
               (
-                record { pos = 15; st = List.[]; d = 0; at = λ x. x },
+                record { pos = 16; st = List.[]; d = 0; at = λ x. x },
                 (
-                  record { pos = 34; ty = Syntax.tyRef Syntax.erased Syntax.mut (Syntax.tyInt Syntax.w16); ref = λ x. x },
+                  record { pos = 35; ty = Syntax.tyRef Syntax.erased Syntax.mut (Syntax.tyInt Syntax.w16); ref = λ x. x },
                   (
-                    record { pos = 36; ty = Syntax.tyRef Syntax.erased Syntax.mut Element.behind; ref = λ x. x },
+                    record { pos = 37; ty = Syntax.tyRef Syntax.erased Syntax.mut Element.behind; ref = λ x. x },
                     (
-                      record { pos = 38; ty = Syntax.tyRef Syntax.erased Syntax.mut (Syntax.tyInt Syntax.w16); ref = λ x. x },
+                      record { pos = 39; ty = Syntax.tyRef Syntax.erased Syntax.mut (Syntax.tyInt Syntax.w16); ref = λ x. x },
                       (
                         record { pos = 6; st = List.[]; d = 0; at = λ x. x },
                         (
-                          record { pos = 39; st = List.[]; d = 0; at = λ x. x },
+                          record { pos = 40; st = List.[]; d = 0; at = λ x. x },
                           (
                             record { pos = 7; ty = Syntax.tyRef (Syntax.named 5) Syntax.imm (Syntax.tyArray (Syntax.tyInt Syntax.w16) 768); ref = λ x. x },
-                            (record { pos = 8; st = List.[]; d = 0; at = λ x. x }, (record { pos = 9; st = List.[]; d = 0; at = λ x. x }, (Num.vAt 17 λ x. x, (Bool.bAt 11 λ x. x, tt)))),
+                            (record { pos = 8; st = List.[]; d = 0; at = λ x. x }, (record { pos = 9; st = List.[]; d = 0; at = λ x. x }, (Num.vAt 18 λ x. x, (Bool.bAt 11 λ x. x, tt)))),
                           ),
                         ),
                       ),
@@ -8018,15 +8218,15 @@ module _ (claims· : Claims) where
                   ),
                 ),
               ),
-            ) (m53 (c .before)
-                (After-quantisers-of·gave c)) g;
+            ) (m54 (c .before)
+                (After-quantisers-in·gave c)) g;
           },
         )
 
-        lay13 : (c : After-restart) → at92 (W3 (c .before .before .before .before .before .before .before .before .before .before) (c .before .before .before .before .before .before .before .before
+        lay13 : (c : After-restart) → at94 (W3 (c .before .before .before .before .before .before .before .before .before .before) (c .before .before .before .before .before .before .before .before
             .before .loop .lines) (c .before .before .before .before .before .before .before .before .before .loop .rs) (c .before .before .before .before .before .before .before .before .before .loop
             .image) (c .before .before .before .before .before .before .before .before .before .loop .place) (c .before .before .before .before .before .before .before .before .before .loop .tight-lines)
-            (c .before .before .before .before .before .before .before .before .before .loop .n)) (m43 (c .before) (After-restart·gave c))
+            (c .before .before .before .before .before .before .before .before .before .loop .n)) (m44 (c .before) (After-restart·gave c))
         lay13 = λ c. (
           Path'.refl,
           λ g. λ g'. (
@@ -8036,7 +8236,7 @@ module _ (claims· : Claims) where
               λ g'3. (
                 Path'.refl,
                 (
-                  quantisers-of-requires record {
+                  quantisers-in-requires record {
                     before = record {
                       before = record { before = record { before = record { before = c .before; restart = c .restart }; rs2 = record { given = g } }; line-arg = record { given = g' } };
                       line-arg2 = record {
@@ -8055,12 +8255,13 @@ module _ (claims· : Claims) where
                       };
                       line-arg3 = record { given = g'3 };
                     };
-                    quantisers-of = Called.called ps·9 r·9 (claims· .19) T69 (Num.vAt 12 λ x. x, (Num.vAt 18 λ x. x, tt)) (m52 record {
-                      before = record { before = record { before = record { before = c .before; restart = c .restart }; rs2 = record { given = g } }; line-arg = record { given = g' } };
-                      line-arg2 = record {
-                        given = g'';
-                      };
-                    } g'3) g'4;
+                    quantisers-in = Called.called ps·9 r·9 (claims· .19) T70
+                        (record { pos = 12; st = List.[]; d = 0; at = λ x. x }, (Num.vAt 13 λ x. x, (Num.vAt 19 λ x. x, tt))) (m53 record {
+                          before = record { before = record { before = record { before = c .before; restart = c .restart }; rs2 = record { given = g } }; line-arg = record { given = g' } };
+                          line-arg2 = record {
+                            given = g'';
+                          };
+                        } g'3) g'4;
                   },
                 ),
               ),
@@ -8068,38 +8269,38 @@ module _ (claims· : Claims) where
           ),
         )
 
-        lay12 : (c : After-is-restarted) → at93 (W3 (c .before .before .before .before .before .before .before .before .before) (c .before .before .before .before .before .before .before .before .loop
+        lay12 : (c : After-is-restarted) → at95 (W3 (c .before .before .before .before .before .before .before .before .before) (c .before .before .before .before .before .before .before .before .loop
             .lines) (c .before .before .before .before .before .before .before .before .loop .rs) (c .before .before .before .before .before .before .before .before .loop .image) (c .before .before
             .before .before .before .before .before .before .loop .place) (c .before .before .before .before .before .before .before .before .loop .tight-lines) (c .before .before .before .before .before
-            .before .before .before .loop .n)) (m42 (c .before) (After-is-restarted·gave c))
+            .before .before .before .loop .n)) (m43 (c .before) (After-is-restarted·gave c))
         lay12 = λ c. (
           restart-requires record { before = c .before; is-restarted = c .is-restarted },
           λ g. lay13 record {
             before = record { before = c .before; is-restarted = c .is-restarted };
-            restart = Called.called ps·8 r·8 (claims· .17) T54
-                (record { pos = 32; ty = Syntax.tyRef Syntax.erased Syntax.mut Element.behind; ref = λ x. x }, (Num.vAt 12 λ x. x, (Num.vAt 18 λ x. x, (Bool.bAt 27 λ x. x, tt)))) (m42 (c .before)
+            restart = Called.called ps·8 r·8 (claims· .17) T55
+                (record { pos = 33; ty = Syntax.tyRef Syntax.erased Syntax.mut Element.behind; ref = λ x. x }, (Num.vAt 13 λ x. x, (Num.vAt 19 λ x. x, (Bool.bAt 28 λ x. x, tt)))) (m43 (c .before)
                 (After-is-restarted·gave c)) g;
           },
         )
 
-        lay11 : (c : After-base-of2) → at97 (W3 (c .before .before .before .before .before .before .before) (c .before .before .before .before .before .before .loop .lines) (c .before .before .before
+        lay11 : (c : After-base-of2) → at99 (W3 (c .before .before .before .before .before .before .before) (c .before .before .before .before .before .before .loop .lines) (c .before .before .before
             .before .before .before .loop .rs) (c .before .before .before .before .before .before .loop .image) (c .before .before .before .before .before .before .loop .place) (c .before .before .before
-            .before .before .before .loop .tight-lines) (c .before .before .before .before .before .before .loop .n)) (m39 (c .before) (After-base-of2·gave c))
+            .before .before .before .loop .tight-lines) (c .before .before .before .before .before .before .loop .n)) (m40 (c .before) (After-base-of2·gave c))
         lay11 = λ c. λ g. (
           Path'.refl,
           (
             is-restarted-requires record { before = record { before = c .before; base-of2 = c .base-of2 }; restart-arg = record { given = g } },
             λ g'. lay12 record {
               before = record { before = record { before = c .before; base-of2 = c .base-of2 }; restart-arg = record { given = g } };
-              is-restarted = Called.called ps·7 r·7 (claims· .15) T53
-                  (record { pos = 2; ty = Syntax.tyRef (Syntax.named 1) Syntax.imm (Syntax.tyInt Syntax.w8); ref = λ x. x }, (Num.vAt 17 λ x. x, tt)) (m41 record { before = c .before; base-of2 = c .base-of2 }
+              is-restarted = Called.called ps·7 r·7 (claims· .15) T54
+                  (record { pos = 2; ty = Syntax.tyRef (Syntax.named 1) Syntax.imm (Syntax.tyInt Syntax.w8); ref = λ x. x }, (Num.vAt 18 λ x. x, tt)) (m42 record { before = c .before; base-of2 = c .base-of2 }
                   g) g';
             },
           ),
         )
 
-        lay10 : (c : After-turn-if) → at104 (W3 (c .before .before .before .before) (c .before .before .before .loop .lines) (c .before .before .before .loop .rs) (c .before .before .before .loop
-            .image) (c .before .before .before .loop .place) (c .before .before .before .loop .tight-lines) (c .before .before .before .loop .n)) (m34 (c .before) (After-turn-if·gave c))
+        lay10 : (c : After-turn-if) → at106 (W3 (c .before .before .before .before) (c .before .before .before .loop .lines) (c .before .before .before .loop .rs) (c .before .before .before .loop
+            .image) (c .before .before .before .loop .place) (c .before .before .before .loop .tight-lines) (c .before .before .before .loop .n)) (m35 (c .before) (After-turn-if·gave c))
         lay10 = λ c. (
           Path'.refl,
           λ g. λ g'. (
@@ -8108,13 +8309,13 @@ module _ (claims· : Claims) where
                 lay11 record {
                   before = record { before = record { before = record { before = c .before; turn-if = c .turn-if }; lines2 = record { given = g } }; slice-known4 = record { given = g' } };
                   base-of2 =
-                      Called.called ps·2 r·2 (claims· .5) T48 (record { pos = 2; ty = Syntax.tyRef (Syntax.named 1) Syntax.imm (Syntax.tyInt Syntax.w8); ref = λ x. x }, (Num.vAt 17 λ x. x, tt)) (m38 record
+                      Called.called ps·2 r·2 (claims· .5) T49 (record { pos = 2; ty = Syntax.tyRef (Syntax.named 1) Syntax.imm (Syntax.tyInt Syntax.w8); ref = λ x. x }, (Num.vAt 18 λ x. x, tt)) (m39 record
                       { before = record { before = c .before; turn-if = c .turn-if }; lines2 = record { given = g } } g') g'';
                 },
           ),
         )
 
-        lay9 : (c : In-loop) → at109 (W3 (c .before .before) (c .before .loop .lines) (c .before .loop .rs) (c .before .loop .image) (c .before .loop .place) (c .before .loop .tight-lines) (c .before
+        lay9 : (c : In-loop) → at111 (W3 (c .before .before) (c .before .loop .lines) (c .before .loop .rs) (c .before .loop .image) (c .before .loop .place) (c .before .loop .tight-lines) (c .before
             .loop .n)) (m26 (c .before))
         lay9 = λ c. λ g. (
           Path'.refl,
@@ -8124,15 +8325,15 @@ module _ (claims· : Claims) where
               turn-if-requires record { before = record { before = c .before; loop-test = c .loop-test }; turn-if-arg = record { given = g } },
               λ g'. lay10 record {
                 before = record { before = record { before = c .before; loop-test = c .loop-test }; turn-if-arg = record { given = g } };
-                turn-if = Called.called ps·6 r·6 (claims· .13) T42
-                    (record { pos = 30; ty = Syntax.tyRef Syntax.erased Syntax.mut (Syntax.tyInt Syntax.w16); ref = λ x. x }, (Num.vAt 14 λ x. x, (Bool.bAt 27 λ x. x, tt))) (m33 record
+                turn-if = Called.called ps·6 r·6 (claims· .13) T43
+                    (record { pos = 31; ty = Syntax.tyRef Syntax.erased Syntax.mut (Syntax.tyInt Syntax.w16); ref = λ x. x }, (Num.vAt 15 λ x. x, (Bool.bAt 28 λ x. x, tt))) (m34 record
                     { before = c .before; loop-test = c .loop-test } g) g';
               },
             ),
           ),
         )
 
-        lay8 : (c : After-loop) → at6 (W4 (c .before .before) (c .before .loop .lines) (c .before .loop .rs) (c .before .loop .image) (c .before .loop .place) (c .before .loop .tight-lines) (c .before
+        lay8 : (c : After-loop) → at7 (W4 (c .before .before) (c .before .loop .lines) (c .before .loop .rs) (c .before .loop .image) (c .before .loop .place) (c .before .loop .tight-lines) (c .before
             .loop .n)) (m25 (c .before .before) (c .before .loop .lines) (c .before .loop .rs) (c .before .loop .image) (c .before .loop .place) (c .before .loop .tight-lines) (c .before .loop .n))
         lay8 = λ c. lay22 record { before = c .before; loop-test = c .loop-test }
 
@@ -8140,7 +8341,7 @@ module _ (claims· : Claims) where
             .loop .n)) (m25 (c .before .before) (c .before .loop .lines) (c .before .loop .rs) (c .before .loop .image) (c .before .loop .place) (c .before .loop .tight-lines) (c .before .loop .n))
         lay7 = λ c. lay9 record { before = c .before; loop-test = c .loop-test }
 
-        lay6 : (c : After-no-lines) → at127 (W0 (c .before .before .before .before .before .before .before .before .before .before .before .before .before .before .before .κs) (c .before .before
+        lay6 : (c : After-no-lines) → at129 (W0 (c .before .before .before .before .before .before .before .before .before .before .before .before .before .before .before .κs) (c .before .before
             .before .before .before .before .before .before .before .before .before .before .before .before .before .args)) (m22 (c .before) (After-no-lines·gave c))
         lay6 = λ c. (
           (
@@ -8149,9 +8350,9 @@ module _ (claims· : Claims) where
               Row.get 4 (T30 .locals) (m23 (c .before) (After-no-lines·gave c)) .now,
               Row.get 5 (T30 .locals) (m23 (c .before)
                   (After-no-lines·gave c)) .now,
-              Row.get 15 (T30 .locals) (m23 (c .before) (After-no-lines·gave c)),
               Row.get 16 (T30 .locals) (m23 (c .before) (After-no-lines·gave c)),
-              Row.get 17 (T30 .locals)
+              Row.get 17 (T30 .locals) (m23 (c .before) (After-no-lines·gave c)),
+              Row.get 18 (T30 .locals)
                   (m23 (c .before) (After-no-lines·gave c)),
             ),
             Path'.refl {a = m23 (c .before) (After-no-lines·gave c)},
@@ -8164,7 +8365,7 @@ module _ (claims· : Claims) where
                 before = record
                     { before = record { before = c .before; no-lines = c .no-lines }; loop = record { lines = vs .0; rs = vs .1; image = vs .2; place = vs .3; tight-lines = vs .4; n = vs .5; inv = inv } };
                 loop-test = record {
-                  taken = Tests.ltb-true (Row.get 17 (T30 .locals) (m24 record { before = c .before; no-lines = c .no-lines } (vs .0) (vs .1) (vs .2) (vs .3) (vs .4) (vs .5))) (Row.get 10 (T30 .locals) (m24
+                  taken = Tests.ltb-true (Row.get 18 (T30 .locals) (m24 record { before = c .before; no-lines = c .no-lines } (vs .0) (vs .1) (vs .2) (vs .3) (vs .4) (vs .5))) (Row.get 10 (T30 .locals) (m24
                       record { before = c .before; no-lines = c .no-lines } (vs .0) (vs .1) (vs .2) (vs .3) (vs .4) (vs .5))) taken;
                 };
               },
@@ -8172,7 +8373,7 @@ module _ (claims· : Claims) where
                 before = record
                     { before = record { before = c .before; no-lines = c .no-lines }; loop = record { lines = vs .0; rs = vs .1; image = vs .2; place = vs .3; tight-lines = vs .4; n = vs .5; inv = inv } };
                 loop-test = record {
-                  left = Tests.ltb-false (Row.get 17 (T30 .locals) (m24 record { before = c .before; no-lines = c .no-lines } (vs .0) (vs .1) (vs .2) (vs .3) (vs .4) (vs .5))) (Row.get 10 (T30 .locals) (m24
+                  left = Tests.ltb-false (Row.get 18 (T30 .locals) (m24 record { before = c .before; no-lines = c .no-lines } (vs .0) (vs .1) (vs .2) (vs .3) (vs .4) (vs .5))) (Row.get 10 (T30 .locals) (m24
                       record { before = c .before; no-lines = c .no-lines } (vs .0) (vs .1) (vs .2) (vs .3) (vs .4) (vs .5))) left;
                 };
               },
@@ -8180,7 +8381,7 @@ module _ (claims· : Claims) where
           ),
         )
 
-        lay5 : (c : After-start-place) → at128 (W0 (c .before .before .before .before .before .before .before .before .before .before .before .before .before .before .κs) (c .before .before .before
+        lay5 : (c : After-start-place) → at130 (W0 (c .before .before .before .before .before .before .before .before .before .before .before .before .before .before .κs) (c .before .before .before
             .before .before .before .before .before .before .before .before .before .before .before .args)) (m21 (c .before) (After-start-place·gave c))
         lay5 = λ c. (
           no-lines-requires record { before = c .before; start-place = c .start-place },
@@ -8188,7 +8389,7 @@ module _ (claims· : Claims) where
               { before = record { before = c .before; start-place = c .start-place }; no-lines = Called.called ps·5 r·5 (claims· .11) T28 tt (m21 (c .before) (After-start-place·gave c)) g },
         )
 
-        lay4 : (c : After-start-records) → at134 (W0 (c .before .before .before .before .before .before .before .before .before .before .before .before .κs) (c .before .before .before .before .before
+        lay4 : (c : After-start-records) → at136 (W0 (c .before .before .before .before .before .before .before .before .before .before .before .before .κs) (c .before .before .before .before .before
             .before .before .before .before .before .before .before .args)) (m17 (c .before) (After-start-records·gave c))
         lay4 = λ c. (
           Path'.refl,
@@ -8202,18 +8403,18 @@ module _ (claims· : Claims) where
           ),
         )
 
-        lay3 : (c : After-base-of) → at135 (W0 (c .before .before .before .before .before .before .before .before .before .before .before .κs) (c .before .before .before .before .before .before
+        lay3 : (c : After-base-of) → at137 (W0 (c .before .before .before .before .before .before .before .before .before .before .before .κs) (c .before .before .before .before .before .before
             .before .before .before .before .before .args)) (m16 (c .before) (After-base-of·gave c))
         lay3 = λ c. (
           start-records-requires record { before = c .before; base-of = c .base-of },
           λ g. lay4 record {
             before = record { before = c .before; base-of = c .base-of };
             start-records = Called.called ps·3 r·3 (claims· .7) T21
-                (record { pos = 25; ty = Syntax.tyRef Syntax.erased Syntax.mut Element.behind; ref = λ x. x }, (Num.vAt 12 λ x. x, (Num.vAt 26 λ x. x, tt))) (m16 (c .before) (After-base-of·gave c)) g;
+                (record { pos = 26; ty = Syntax.tyRef Syntax.erased Syntax.mut Element.behind; ref = λ x. x }, (Num.vAt 13 λ x. x, (Num.vAt 27 λ x. x, tt))) (m16 (c .before) (After-base-of·gave c)) g;
           },
         )
 
-        lay2 : (c : After-clear) → at144 (W0 (c .before .before .before .before .before .before .before .κs) (c .before .before .before .before .before .before .before .args)) (m10 (c .before)
+        lay2 : (c : After-clear) → at146 (W0 (c .before .before .before .before .before .before .before .κs) (c .before .before .before .before .before .before .before .args)) (m10 (c .before)
             (After-clear·gave c))
         lay2 = λ c. (
           Path'.refl,
@@ -8239,7 +8440,7 @@ module _ (claims· : Claims) where
           ),
         )
 
-        lay1 : (c : After-width) → at148 (W0 (c .before .before .before .before .before .κs) (c .before .before .before .before .before .args)) (m7 (c .before) (After-width·gave c))
+        lay1 : (c : After-width) → at150 (W0 (c .before .before .before .before .before .κs) (c .before .before .before .before .before .args)) (m7 (c .before) (After-width·gave c))
         lay1 = λ c. λ g. (
           Path'.refl,
           (
@@ -8247,12 +8448,12 @@ module _ (claims· : Claims) where
             λ g'. lay2 record {
               before = record { before = record { before = c .before; width = c .width }; clear-arg = record { given = g } };
               clear = Called.called ps·1 r·1 (claims· .3) T11
-                  (record { pos = 23; ty = Syntax.tyRef Syntax.erased Syntax.mut (Syntax.tyInt Syntax.w16); ref = λ x. x }, tt) (m9 record { before = c .before; width = c .width } g) g';
+                  (record { pos = 24; ty = Syntax.tyRef Syntax.erased Syntax.mut (Syntax.tyInt Syntax.w16); ref = λ x. x }, tt) (m9 record { before = c .before; width = c .width } g) g';
             },
           ),
         )
 
-        pub laid : (c : Start) → at155 (W0 (c .κs) (c .args)) (m0 (c .κs) (c .args))
+        pub laid : (c : Start) → at157 (W0 (c .κs) (c .args)) (m0 (c .κs) (c .args))
         laid = λ c. λ g. λ g'. λ g''. λ g'3. (
           width-requires record {
             before = record
@@ -8265,7 +8466,7 @@ module _ (claims· : Claims) where
                   { before = record { before = record { before = c; shared-slice-known = record { given = g } }; shared-slice-known2 = record { given = g' } }; slice-known = record { given = g'' } };
               slice-known2 = record { given = g'3 };
             };
-            width = Called.called ps·0 r·0 (claims· .1) T7 (Bool.bAt 13 λ x. x, tt) (m6 record
+            width = Called.called ps·0 r·0 (claims· .1) T7 (Bool.bAt 14 λ x. x, tt) (m6 record
                 { before = record { before = record { before = c; shared-slice-known = record { given = g } }; shared-slice-known2 = record { given = g' } }; slice-known = record { given = g'' } } g'3) g'4;
           },
         )
@@ -8288,26 +8489,23 @@ module _ (claims· : Claims) where
               part = a .1 .1 .1 .1 .1 .1 .1 .1 .0;
               count = a .1 .1 .1 .1 .1 .1 .1 .1 .1 .0;
               windowed = a .1 .1 .1 .1 .1 .1 .1 .1 .1 .1 .0;
+              entries = a .1 .1 .1 .1 .1 .1 .1 .1 .1 .1 .1 .0;
             };
-            good = good;
-            fits = record {
-              count = record {
-                fits = good
-                    .1 .1 .1 .1 .1 .1 .1 .1 .1 .0 .1;
-              };
-            };
+            good =
+                good;
+            fits = record { count = record { fits = good .1 .1 .1 .1 .1 .1 .1 .1 .1 .0 .1 } };
             pre = pre;
           }
 
         module _ {M : Type 1} (𝓤 : URA.URA M) (H : Wp.Heap 𝓤) (A : Atoms.Atoms 𝓤) (W : Kit.Given 𝓤 H A) (𝓣 : Wp.Tables 𝓤 H) (known0 : Plain.Known 𝓤 H A W 𝓣 0 ps·0 r·0 (claims· .0) (claims· .1)
-            "map::width") (known1 : Plain.Known 𝓤 H A W 𝓣 1 ps·1 r·1 (claims· .2) (claims· .3) "lines::clear") (known2 : Plain.Known 𝓤 H A W 𝓣 1 ps·2 r·2 (claims· .4) (claims· .5)
-            "block::reading::base_of") (known3 : Plain.Known 𝓤 H A W 𝓣 1 ps·3 r·3 (claims· .6) (claims· .7) "block::records::start_records") (known4 : Plain.Known 𝓤 H A W 𝓣 0 ps·4 r·4 (claims· .8)
-            (claims· .9) "block::reading::start_place") (known5 : Plain.Known 𝓤 H A W 𝓣 0 ps·5 r·5 (claims· .10) (claims· .11) "block::reading::no_lines") (known6 : Plain.Known 𝓤 H A W 𝓣 1 ps·6 r·6
-            (claims· .12) (claims· .13) "lines::turn_if") (known7 : Plain.Known 𝓤 H A W 𝓣 1 ps·7 r·7 (claims· .14) (claims· .15) "block::reading::is_restarted") (known8 : Plain.Known 𝓤 H A W 𝓣 1 ps·8 r·8
-            (claims· .16) (claims· .17) "block::records::restart") (known9 : Plain.Known 𝓤 H A W 𝓣 0 ps·9 r·9 (claims· .18) (claims· .19) "block::reading::quantisers_of") (known10 : Plain.Known 𝓤 H A W 𝓣
-            5 ps·10 r·10 (claims· .20) (claims· .21) "block::reading::line") (known11 : Plain.Known 𝓤 H A W 𝓣 1 ps·11 r·11 (claims· .22) (claims· .23) "map::windows::zero_line") (known12 : Plain.Known 𝓤 H
-            A W 𝓣 0 ps·12 r·12 (claims· .24) (claims· .25) "block::reading::totals_at") (known13 : Plain.Known 𝓤 H A W 𝓣 0 ps·13 r·13 (claims· .26) (claims· .27) "totals::with_line") (known14 :
-            Plain.Known 𝓤 H A W 𝓣 3 ps·14 r·14 (claims· .28) (claims· .29) "map::windows::emit_line_if") where
+            "map::width") (known1 : Plain.Known 𝓤 H A W 𝓣 1 ps·1 r·1 (claims· .2) (claims· .3) "lines::clear") (known2 : Plain.Known 𝓤 H A W 𝓣 1 ps·2 r·2 (claims· .4) (claims· .5) "cameras::base_of")
+            (known3 : Plain.Known 𝓤 H A W 𝓣 1 ps·3 r·3 (claims· .6) (claims· .7) "block::records::start_records") (known4 : Plain.Known 𝓤 H A W 𝓣 0 ps·4 r·4 (claims· .8) (claims· .9)
+            "block::reading::start_place") (known5 : Plain.Known 𝓤 H A W 𝓣 0 ps·5 r·5 (claims· .10) (claims· .11) "block::reading::no_lines") (known6 : Plain.Known 𝓤 H A W 𝓣 1 ps·6 r·6 (claims· .12)
+            (claims· .13) "lines::turn_if") (known7 : Plain.Known 𝓤 H A W 𝓣 1 ps·7 r·7 (claims· .14) (claims· .15) "block::reading::is_restarted") (known8 : Plain.Known 𝓤 H A W 𝓣 1 ps·8 r·8 (claims· .16)
+            (claims· .17) "block::records::restart") (known9 : Plain.Known 𝓤 H A W 𝓣 0 ps·9 r·9 (claims· .18) (claims· .19) "block::reading::quantisers_in") (known10 : Plain.Known 𝓤 H A W 𝓣 5 ps·10 r·10
+            (claims· .20) (claims· .21) "block::reading::line") (known11 : Plain.Known 𝓤 H A W 𝓣 1 ps·11 r·11 (claims· .22) (claims· .23) "map::windows::zero_line") (known12 : Plain.Known 𝓤 H A W 𝓣 0
+            ps·12 r·12 (claims· .24) (claims· .25) "block::reading::totals_at") (known13 : Plain.Known 𝓤 H A W 𝓣 0 ps·13 r·13 (claims· .26) (claims· .27) "totals::with_line") (known14 : Plain.Known 𝓤 H A
+            W 𝓣 3 ps·14 r·14 (claims· .28) (claims· .29) "map::windows::emit_line_if") where
           pub spec : Statement.Triple 𝓤 (Wp.WpFn 𝓤 H (𝓣 .C) (𝓣 .Λ) (Function.fnOf 6 ps r xs m hs body)) (Function.plainOf 𝓤 H A 6 ps r Pre· Post·)
           spec = Plain.t-fn-plain 𝓤 H A W 𝓣 6 ps r xs m hs body (λ κs qs bs. Φ) (λ κs qs bs bd. typed κs qs 𝓤 H A W 𝓣
               (known0, known1, known2, known3, known4, known5, known6, known7, known8, known9, known10, known11, known12, known13, known14) bs bd) Pre· Post· asked

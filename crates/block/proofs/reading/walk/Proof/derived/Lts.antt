@@ -5,8 +5,10 @@ use Rattle.block.proofs.Form
 use Rattle.block.proofs.Form.Laws
 use Rattle.block.proofs.Walked
 use Rattle.block.proofs.Walked.Laws as Laws'
+use Rattle.cameras.proofs.Entries
+use Rattle.cameras.proofs.Entries.Laws as Laws''
 use Rattle.map.proofs.Part
-use Rattle.map.proofs.Part.Laws as Laws''
+use Rattle.map.proofs.Part.Laws as Laws'3
 use borrow.Author.Called
 use borrow.Fn.Any
 use borrow.Fn.Call
@@ -44,10 +46,10 @@ use borrow.Table.Typed
 use contract.Lifetimes
 use denote.Array as Array'
 use denote.Enum.Declared
-use denote.Enum.Laws as Laws'3
+use denote.Enum.Laws as Laws'4
 use denote.Exit
 use denote.Struct.Declared as Declared'
-use denote.Struct.Laws as Laws'4
+use denote.Struct.Laws as Laws'5
 use denote.Triple.Clauses
 use denote.Triple.Statement
 use ghost.Atoms
@@ -67,40 +69,53 @@ y0 = Syntax.tyStruct (List._∷_ 109 (List._∷_ 97 (List._∷_ 112 (List._∷_ 
     Syntax.tnil))))))
 
 abbrev pub y1 : Syntax.Ty
-y1 = Syntax.tyStruct (List._∷_ 116 (List._∷_ 111 (List._∷_ 116 (List._∷_ 97 (List._∷_ 108 (List._∷_ 115 (List._∷_ 58 (List._∷_ 58 (List._∷_ 84 (List._∷_ 111 (List._∷_ 116 (List._∷_ 97 (List._∷_ 108
-    (List._∷_ 115 List.[])))))))))))))) (Syntax.tcons (Syntax.tyInt Syntax.w64) (Syntax.tcons (Syntax.tyInt Syntax.w64) Syntax.tnil))
+y1 = Syntax.tyStruct (List._∷_ 113 (List._∷_ 117 (List._∷_ 97 (List._∷_ 110 (List._∷_ 116 (List._∷_ 105 (List._∷_ 115 (List._∷_ 101 (List._∷_ 114 (List._∷_ 58 (List._∷_ 58 (List._∷_ 81 (List._∷_ 117
+    (List._∷_ 97 (List._∷_ 110 (List._∷_ 116 (List._∷_ 105 (List._∷_ 115 (List._∷_ 101 (List._∷_ 114 List.[])))))))))))))))))))) (Syntax.tcons (Syntax.tyInt Syntax.w32) (Syntax.tcons (Syntax.tyInt
+    Syntax.w32) (Syntax.tcons (Syntax.tyInt Syntax.w32) (Syntax.tcons (Syntax.tyInt Syntax.w32) (Syntax.tcons (Syntax.tyInt Syntax.w32) Syntax.tnil)))))
 
 abbrev pub y2 : Syntax.Ty
-y2 = Syntax.tyStruct (List._∷_ 38 (List._∷_ 91 (List._∷_ 93 List.[]))) (Syntax.tcons (Syntax.tyRef Syntax.erased Syntax.mut (Syntax.tyInt Syntax.w16)) (Syntax.tcons (Syntax.tyInt Syntax.w64)
-    Syntax.tnil))
+y2 = Syntax.tyStruct (List._∷_ 116 (List._∷_ 111 (List._∷_ 116 (List._∷_ 97 (List._∷_ 108 (List._∷_ 115 (List._∷_ 58 (List._∷_ 58 (List._∷_ 84 (List._∷_ 111 (List._∷_ 116 (List._∷_ 97 (List._∷_ 108
+    (List._∷_ 115 List.[])))))))))))))) (Syntax.tcons (Syntax.tyInt Syntax.w64) (Syntax.tcons (Syntax.tyInt Syntax.w64) Syntax.tnil))
 
 abbrev pub y3 : Syntax.Ty
-y3 = Syntax.tyStruct (List._∷_ 38 (List._∷_ 91 (List._∷_ 93 List.[]))) (Syntax.tcons (Syntax.tyRef Syntax.erased Syntax.mut Element.behind) (Syntax.tcons (Syntax.tyInt Syntax.w64) Syntax.tnil))
+y3 = Syntax.tyStruct (List._∷_ 38 (List._∷_ 91 (List._∷_ 93 List.[]))) (Syntax.tcons (Syntax.tyRef Syntax.erased Syntax.mut (Syntax.tyInt Syntax.w16)) (Syntax.tcons (Syntax.tyInt Syntax.w64)
+    Syntax.tnil))
 
 abbrev pub y4 : Syntax.Ty
-y4 = Syntax.tyStruct (List._∷_ 98 (List._∷_ 108 (List._∷_ 111 (List._∷_ 99 (List._∷_ 107 (List._∷_ 58 (List._∷_ 58 (List._∷_ 70 (List._∷_ 111 (List._∷_ 114 (List._∷_ 109 List.[])))))))))))
-    (Syntax.tcons (Syntax.tyInt Syntax.w32) (Syntax.tcons Syntax.tyBool Syntax.tnil))
+y4 = Syntax.tyStruct (List._∷_ 38 (List._∷_ 91 (List._∷_ 93 List.[]))) (Syntax.tcons (Syntax.tyRef Syntax.erased Syntax.mut Element.behind) (Syntax.tcons (Syntax.tyInt Syntax.w64) Syntax.tnil))
 
 abbrev pub y5 : Syntax.Ty
-y5 = Syntax.tyStruct (List._∷_ 116 (List._∷_ 111 (List._∷_ 116 (List._∷_ 97 (List._∷_ 108 (List._∷_ 115 (List._∷_ 58 (List._∷_ 58 (List._∷_ 84 (List._∷_ 105 (List._∷_ 103 (List._∷_ 104 (List._∷_ 116
-    (List._∷_ 76 (List._∷_ 105 (List._∷_ 110 (List._∷_ 101 (List._∷_ 115 List.[])))))))))))))))))) (Syntax.tcons (Syntax.tyInt Syntax.w64) (Syntax.tcons y1 Syntax.tnil))
+y5 = Syntax.tyStruct (List._∷_ 98 (List._∷_ 108 (List._∷_ 111 (List._∷_ 99 (List._∷_ 107 (List._∷_ 58 (List._∷_ 58 (List._∷_ 70 (List._∷_ 111 (List._∷_ 114 (List._∷_ 109 List.[])))))))))))
+    (Syntax.tcons (Syntax.tyInt Syntax.w32) (Syntax.tcons Syntax.tyBool Syntax.tnil))
+
+abbrev pub y6 : Syntax.Ty
+y6 = Syntax.tyStruct (List._∷_ 116 (List._∷_ 111 (List._∷_ 116 (List._∷_ 97 (List._∷_ 108 (List._∷_ 115 (List._∷_ 58 (List._∷_ 58 (List._∷_ 84 (List._∷_ 105 (List._∷_ 103 (List._∷_ 104 (List._∷_ 116
+    (List._∷_ 76 (List._∷_ 105 (List._∷_ 110 (List._∷_ 101 (List._∷_ 115 List.[])))))))))))))))))) (Syntax.tcons (Syntax.tyInt Syntax.w64) (Syntax.tcons y2 Syntax.tnil))
+
+abbrev pub y7 : Syntax.Ty
+y7 = Syntax.tyStruct (List._∷_ 99 (List._∷_ 97 (List._∷_ 109 (List._∷_ 101 (List._∷_ 114 (List._∷_ 97 (List._∷_ 115 (List._∷_ 58 (List._∷_ 58 (List._∷_ 69 (List._∷_ 110 (List._∷_ 116 (List._∷_ 114
+    (List._∷_ 121 List.[])))))))))))))) (Syntax.tcons (Syntax.tyInt Syntax.w32) (Syntax.tcons y1 (Syntax.tcons Syntax.tyBool (Syntax.tcons Syntax.tyBool Syntax.tnil))))
+
+abbrev pub y8 : Syntax.Ty
+y8 = Syntax.tyStruct (List._∷_ 99 (List._∷_ 97 (List._∷_ 109 (List._∷_ 101 (List._∷_ 114 (List._∷_ 97 (List._∷_ 115 (List._∷_ 58 (List._∷_ 58 (List._∷_ 69 (List._∷_ 110 (List._∷_ 116 (List._∷_ 114
+    (List._∷_ 105 (List._∷_ 101 (List._∷_ 115 List.[])))))))))))))))) (Syntax.tcons (Syntax.tyArray y7 16) Syntax.tnil)
 
 abbrev pub ps : List.List (Kinds.PK 6)
 ps = List._∷_ (ShrSlice.pShrS (Referent.rtF (Referent.fInt Syntax.w8)) 0 tt) (List._∷_ (ShrSlice.pShrS (Referent.rtF (Referent.fInt Syntax.w8)) 1 tt) (List._∷_ (MutSlice.pMutS (Referent.rtF
     (Referent.fInt Syntax.w16)) 2 tt) (List._∷_ (MutSlice.pMutS (Element.type) 3 tt) (List._∷_ (MutSlice.pMutS (Referent.rtF (Referent.fInt Syntax.w16)) 4 tt) (List._∷_ (Value.pVal record {
       ty = Declared'.row Form.the-type;
       one = Path'.refl;
-      val = Laws'4.val Form.the-type Laws.the-laws;
-      tells = Laws'4.tells Form.the-type Laws.the-laws;
-      still = Laws'4.still Form.the-type Laws.the-copy
+      val = Laws'5.val Form.the-type Laws.the-laws;
+      tells = Laws'5.tells Form.the-type Laws.the-laws;
+      still = Laws'5.still Form.the-type Laws.the-copy
           Exit.yes;
       row = Rows'.whole (Declared'.row Form.the-type);
       rd = λ x. x;
       mk = λ x. x;
     } λ M 𝓤 H A W. record {
-      copies = Laws'4.copy Form.the-type Laws.the-copy 𝓤 H A W;
-      lawful = Laws'4.lawful Form.the-type Laws.the-laws 𝓤 H A W;
-      makes = Laws'4.makes Form.the-type Laws.the-plain 𝓤 H A;
+      copies = Laws'5.copy Form.the-type Laws.the-copy 𝓤 H A W;
+      lawful = Laws'5.lawful Form.the-type Laws.the-laws 𝓤 H A W;
+      makes = Laws'5.makes Form.the-type Laws.the-plain 𝓤 H A;
       in-mem =
           Local.mem-whole 𝓤 H A W (Declared'.row Form.the-type);
       of-mem = Local.whole-mem 𝓤 H A W (Declared'.row Form.the-type);
@@ -108,37 +123,55 @@ ps = List._∷_ (ShrSlice.pShrS (Referent.rtF (Referent.fInt Syntax.w8)) 0 tt) (
     768) 5 tt) (List._∷_ (Array.pArr (Array.eInt Syntax.w8) (Array.eInt-laws Syntax.w8) 36) (List._∷_ (Value.pVal record {
       ty = Declared'.row Part.the-type;
       one = Path'.refl;
-      val = Laws'4.val Part.the-type Laws''.the-laws;
-      tells = Laws'4.tells Part.the-type Laws''.the-laws;
-      still = Laws'4.still Part.the-type
-          Laws''.the-copy Exit.yes;
+      val = Laws'5.val Part.the-type Laws'3.the-laws;
+      tells = Laws'5.tells Part.the-type Laws'3.the-laws;
+      still = Laws'5.still Part.the-type
+          Laws'3.the-copy Exit.yes;
       row = Rows'.whole (Declared'.row Part.the-type);
       rd = λ x. x;
       mk = λ x. x;
     } λ M 𝓤 H A W. record {
-      copies = Laws'4.copy Part.the-type Laws''.the-copy 𝓤 H A W;
-      lawful = Laws'4.lawful Part.the-type Laws''.the-laws 𝓤 H A W;
-      makes = Laws'4.makes Part.the-type Laws''.the-plain 𝓤 H A;
+      copies = Laws'5.copy Part.the-type Laws'3.the-copy 𝓤 H A W;
+      lawful = Laws'5.lawful Part.the-type Laws'3.the-laws 𝓤 H A W;
+      makes = Laws'5.makes Part.the-type Laws'3.the-plain 𝓤 H A;
       in-mem =
           Local.mem-whole 𝓤 H A W (Declared'.row Part.the-type);
       of-mem = Local.whole-mem 𝓤 H A W (Declared'.row Part.the-type);
-    }) (List._∷_ (Num.pNum Syntax.w64) (List._∷_ Bool.pBool List.[]))))))))))
+    }) (List._∷_ (Num.pNum Syntax.w64) (List._∷_ Bool.pBool (List._∷_ (Value.pVal
+    record {
+      ty = Declared'.row Entries.the-type;
+      one = Path'.refl;
+      val = Laws'5.val Entries.the-type Laws''.the-laws;
+      tells = Laws'5.tells Entries.the-type Laws''.the-laws;
+      still = Laws'5.still Entries.the-type
+          Laws''.the-copy Exit.yes;
+      row = Rows'.whole (Declared'.row Entries.the-type);
+      rd = λ x. x;
+      mk = λ x. x;
+    } λ M 𝓤 H A W. record {
+      copies = Laws'5.copy Entries.the-type Laws''.the-copy 𝓤 H A W;
+      lawful = Laws'5.lawful Entries.the-type Laws''.the-laws 𝓤 H A W;
+      makes = Laws'5.makes Entries.the-type Laws''.the-plain 𝓤 H A;
+      in-mem =
+          Local.mem-whole 𝓤 H A W (Declared'.row Entries.the-type);
+      of-mem = Local.whole-mem 𝓤 H A W (Declared'.row Entries.the-type);
+    }) List.[])))))))))))
 
 abbrev pub r : Kinds.RK 6
 r = Value.rVal record {
   ty = Declared.row Walked.the-type;
   one = Path'.refl;
-  val = Laws'3.val Walked.the-type Laws'.the-laws;
-  tells = Laws'3.tells Walked.the-type Laws'.the-laws;
-  still = Laws'3.still Walked.the-type
+  val = Laws'4.val Walked.the-type Laws'.the-laws;
+  tells = Laws'4.tells Walked.the-type Laws'.the-laws;
+  still = Laws'4.still Walked.the-type
       Laws'.the-copy Exit.yes;
   row = Rows'.whole (Declared.row Walked.the-type);
   rd = λ x. x;
   mk = λ x. x;
 } λ M 𝓤 H A W. record {
-  copies = Laws'3.copy Walked.the-type Laws'.the-copy 𝓤 H A W;
-  lawful = Laws'3.lawful Walked.the-type Laws'.the-laws 𝓤 H A W tt;
-  makes = Laws'3.makes Walked.the-type Laws'.the-plain 𝓤 H A;
+  copies = Laws'4.copy Walked.the-type Laws'.the-copy 𝓤 H A W;
+  lawful = Laws'4.lawful Walked.the-type Laws'.the-laws 𝓤 H A W tt;
+  makes = Laws'4.makes Walked.the-type Laws'.the-plain 𝓤 H A;
   in-mem =
       Local.mem-whole 𝓤 H A W (Declared.row Walked.the-type);
   of-mem = Local.whole-mem 𝓤 H A W (Declared.row Walked.the-type);
@@ -146,10 +179,10 @@ r = Value.rVal record {
 
 abbrev pub xs : List.List Syntax.Ty
 xs = List._∷_ (Syntax.tyEnum (List._∷_ 98 (List._∷_ 108 (List._∷_ 111 (List._∷_ 99 (List._∷_ 107 (List._∷_ 58 (List._∷_ 58 (List._∷_ 87 (List._∷_ 97 (List._∷_ 108 (List._∷_ 107 (List._∷_ 101 (List._∷_
-    100 List.[]))))))))))))) (Syntax.ttcons (Syntax.tcons y1 (Syntax.tcons y5 Syntax.tnil)) (Syntax.ttcons (Syntax.tcons (Syntax.tyInt Syntax.w64) (Syntax.tcons y1 Syntax.tnil)) Syntax.ttnil))) (List._∷_
-    (Syntax.tyRef Syntax.erased Syntax.mut (Syntax.tyInt Syntax.w16)) (List._∷_ y2 (List._∷_ (Syntax.tyRef Syntax.erased Syntax.mut Element.behind) (List._∷_ y3 (List._∷_ (Syntax.tyRef Syntax.erased
-    Syntax.mut (Syntax.tyInt Syntax.w16)) (List._∷_ y2 (List._∷_ Syntax.tyUnit (List._∷_ (Syntax.tyRef Syntax.erased Syntax.mut (Syntax.tyInt Syntax.w16)) (List._∷_ y2 (List._∷_ (Syntax.tyRef
-    Syntax.erased Syntax.mut Element.behind) (List._∷_ y3 List.[])))))))))))
+    100 List.[]))))))))))))) (Syntax.ttcons (Syntax.tcons y2 (Syntax.tcons y6 Syntax.tnil)) (Syntax.ttcons (Syntax.tcons (Syntax.tyInt Syntax.w64) (Syntax.tcons y2 Syntax.tnil)) Syntax.ttnil))) (List._∷_
+    (Syntax.tyRef Syntax.erased Syntax.mut (Syntax.tyInt Syntax.w16)) (List._∷_ y3 (List._∷_ (Syntax.tyRef Syntax.erased Syntax.mut Element.behind) (List._∷_ y4 (List._∷_ (Syntax.tyRef Syntax.erased
+    Syntax.mut (Syntax.tyInt Syntax.w16)) (List._∷_ y3 (List._∷_ Syntax.tyUnit (List._∷_ (Syntax.tyRef Syntax.erased Syntax.mut (Syntax.tyInt Syntax.w16)) (List._∷_ y3 (List._∷_ (Syntax.tyRef
+    Syntax.erased Syntax.mut Element.behind) (List._∷_ y4 List.[])))))))))))
 
 abbrev pub m : Nat.ℕ
 m = 5
@@ -159,17 +192,17 @@ ps·0 = List._∷_ (ShrSlice.pShrS (Referent.rtF (Referent.fInt Syntax.w8)) 0 tt
     (Referent.fInt Syntax.w16)) 2 tt) (List._∷_ (MutSlice.pMutS (Element.type) 3 tt) (List._∷_ (MutSlice.pMutS (Referent.rtF (Referent.fInt Syntax.w16)) 4 tt) (List._∷_ (Value.pVal record {
       ty = Declared'.row Form.the-type;
       one = Path'.refl;
-      val = Laws'4.val Form.the-type Laws.the-laws;
-      tells = Laws'4.tells Form.the-type Laws.the-laws;
-      still = Laws'4.still Form.the-type Laws.the-copy
+      val = Laws'5.val Form.the-type Laws.the-laws;
+      tells = Laws'5.tells Form.the-type Laws.the-laws;
+      still = Laws'5.still Form.the-type Laws.the-copy
           Exit.yes;
       row = Rows'.whole (Declared'.row Form.the-type);
       rd = λ x. x;
       mk = λ x. x;
     } λ M 𝓤 H A W. record {
-      copies = Laws'4.copy Form.the-type Laws.the-copy 𝓤 H A W;
-      lawful = Laws'4.lawful Form.the-type Laws.the-laws 𝓤 H A W;
-      makes = Laws'4.makes Form.the-type Laws.the-plain 𝓤 H A;
+      copies = Laws'5.copy Form.the-type Laws.the-copy 𝓤 H A W;
+      lawful = Laws'5.lawful Form.the-type Laws.the-laws 𝓤 H A W;
+      makes = Laws'5.makes Form.the-type Laws.the-plain 𝓤 H A;
       in-mem =
           Local.mem-whole 𝓤 H A W (Declared'.row Form.the-type);
       of-mem = Local.whole-mem 𝓤 H A W (Declared'.row Form.the-type);
@@ -177,37 +210,55 @@ ps·0 = List._∷_ (ShrSlice.pShrS (Referent.rtF (Referent.fInt Syntax.w8)) 0 tt
     768) 5 tt) (List._∷_ (Array.pArr (Array.eInt Syntax.w8) (Array.eInt-laws Syntax.w8) 36) (List._∷_ (Value.pVal record {
       ty = Declared'.row Part.the-type;
       one = Path'.refl;
-      val = Laws'4.val Part.the-type Laws''.the-laws;
-      tells = Laws'4.tells Part.the-type Laws''.the-laws;
-      still = Laws'4.still Part.the-type
-          Laws''.the-copy Exit.yes;
+      val = Laws'5.val Part.the-type Laws'3.the-laws;
+      tells = Laws'5.tells Part.the-type Laws'3.the-laws;
+      still = Laws'5.still Part.the-type
+          Laws'3.the-copy Exit.yes;
       row = Rows'.whole (Declared'.row Part.the-type);
       rd = λ x. x;
       mk = λ x. x;
     } λ M 𝓤 H A W. record {
-      copies = Laws'4.copy Part.the-type Laws''.the-copy 𝓤 H A W;
-      lawful = Laws'4.lawful Part.the-type Laws''.the-laws 𝓤 H A W;
-      makes = Laws'4.makes Part.the-type Laws''.the-plain 𝓤 H A;
+      copies = Laws'5.copy Part.the-type Laws'3.the-copy 𝓤 H A W;
+      lawful = Laws'5.lawful Part.the-type Laws'3.the-laws 𝓤 H A W;
+      makes = Laws'5.makes Part.the-type Laws'3.the-plain 𝓤 H A;
       in-mem =
           Local.mem-whole 𝓤 H A W (Declared'.row Part.the-type);
       of-mem = Local.whole-mem 𝓤 H A W (Declared'.row Part.the-type);
-    }) (List._∷_ (Num.pNum Syntax.w64) (List._∷_ Bool.pBool List.[]))))))))))
+    }) (List._∷_ (Num.pNum Syntax.w64) (List._∷_ Bool.pBool (List._∷_ (Value.pVal
+    record {
+      ty = Declared'.row Entries.the-type;
+      one = Path'.refl;
+      val = Laws'5.val Entries.the-type Laws''.the-laws;
+      tells = Laws'5.tells Entries.the-type Laws''.the-laws;
+      still = Laws'5.still Entries.the-type
+          Laws''.the-copy Exit.yes;
+      row = Rows'.whole (Declared'.row Entries.the-type);
+      rd = λ x. x;
+      mk = λ x. x;
+    } λ M 𝓤 H A W. record {
+      copies = Laws'5.copy Entries.the-type Laws''.the-copy 𝓤 H A W;
+      lawful = Laws'5.lawful Entries.the-type Laws''.the-laws 𝓤 H A W;
+      makes = Laws'5.makes Entries.the-type Laws''.the-plain 𝓤 H A;
+      in-mem =
+          Local.mem-whole 𝓤 H A W (Declared'.row Entries.the-type);
+      of-mem = Local.whole-mem 𝓤 H A W (Declared'.row Entries.the-type);
+    }) List.[])))))))))))
 
 abbrev pub r·0 : Kinds.RK 6
 r·0 = Value.rVal record {
   ty = Declared.row Walked.the-type;
   one = Path'.refl;
-  val = Laws'3.val Walked.the-type Laws'.the-laws;
-  tells = Laws'3.tells Walked.the-type Laws'.the-laws;
-  still = Laws'3.still Walked.the-type
+  val = Laws'4.val Walked.the-type Laws'.the-laws;
+  tells = Laws'4.tells Walked.the-type Laws'.the-laws;
+  still = Laws'4.still Walked.the-type
       Laws'.the-copy Exit.yes;
   row = Rows'.whole (Declared.row Walked.the-type);
   rd = λ x. x;
   mk = λ x. x;
 } λ M 𝓤 H A W. record {
-  copies = Laws'3.copy Walked.the-type Laws'.the-copy 𝓤 H A W;
-  lawful = Laws'3.lawful Walked.the-type Laws'.the-laws 𝓤 H A W tt;
-  makes = Laws'3.makes Walked.the-type Laws'.the-plain 𝓤 H A;
+  copies = Laws'4.copy Walked.the-type Laws'.the-copy 𝓤 H A W;
+  lawful = Laws'4.lawful Walked.the-type Laws'.the-laws 𝓤 H A W tt;
+  makes = Laws'4.makes Walked.the-type Laws'.the-plain 𝓤 H A;
   in-mem =
       Local.mem-whole 𝓤 H A W (Declared.row Walked.the-type);
   of-mem = Local.whole-mem 𝓤 H A W (Declared.row Walked.the-type);
@@ -229,53 +280,53 @@ abbrev pub hs : List.List Syntax.Home
 hs = List._∷_ Syntax.valueLocal (List._∷_ Syntax.valueLocal (List._∷_ Syntax.valueLocal (List._∷_ Syntax.valueLocal (List._∷_ Syntax.valueLocal (List._∷_ Syntax.valueLocal (List._∷_ Syntax.valueLocal
     (List._∷_ Syntax.valueLocal (List._∷_ Syntax.valueLocal (List._∷_ Syntax.valueLocal (List._∷_ Syntax.valueLocal (List._∷_ Syntax.valueLocal (List._∷_ Syntax.valueLocal (List._∷_ Syntax.valueLocal
     (List._∷_ Syntax.valueLocal (List._∷_ Syntax.valueLocal (List._∷_ Syntax.valueLocal (List._∷_ Syntax.valueLocal (List._∷_ Syntax.valueLocal (List._∷_ Syntax.valueLocal (List._∷_ Syntax.valueLocal
-    (List._∷_ Syntax.valueLocal (List._∷_ Syntax.valueLocal (List._∷_ Syntax.valueLocal List.[])))))))))))))))))))))))
+    (List._∷_ Syntax.valueLocal (List._∷_ Syntax.valueLocal (List._∷_ Syntax.valueLocal (List._∷_ Syntax.valueLocal List.[]))))))))))))))))))))))))
 
 abbrev b0 : Syntax.Body
-b0 = Syntax.assign (Syntax.place 13 List.[]) (Syntax.addrOf (Syntax.place 3 (List._∷_ (Syntax.field 0) (List._∷_ (Syntax.deref (Syntax.tyInt Syntax.w16)) List.[]))))
+b0 = Syntax.assign (Syntax.place 14 List.[]) (Syntax.addrOf (Syntax.place 3 (List._∷_ (Syntax.field 0) (List._∷_ (Syntax.deref (Syntax.tyInt Syntax.w16)) List.[]))))
 
 abbrev b1 : Syntax.Body
-b1 = Syntax.assign (Syntax.place 14 List.[]) (Syntax.aggregate (List._∷_ (Syntax.copy (Syntax.place 13 List.[])) (List._∷_ (Syntax.copy (Syntax.place 3 (List._∷_ (Syntax.field 1) List.[]))) List.[])))
+b1 = Syntax.assign (Syntax.place 15 List.[]) (Syntax.aggregate (List._∷_ (Syntax.copy (Syntax.place 14 List.[])) (List._∷_ (Syntax.copy (Syntax.place 3 (List._∷_ (Syntax.field 1) List.[]))) List.[])))
 
 abbrev b2 : Syntax.Body
-b2 = Syntax.assign (Syntax.place 15 List.[]) (Syntax.addrOf (Syntax.place 4 (List._∷_ (Syntax.field 0) (List._∷_ (Syntax.deref (Element.held)) List.[]))))
+b2 = Syntax.assign (Syntax.place 16 List.[]) (Syntax.addrOf (Syntax.place 4 (List._∷_ (Syntax.field 0) (List._∷_ (Syntax.deref (Element.held)) List.[]))))
 
 abbrev b3 : Syntax.Body
-b3 = Syntax.assign (Syntax.place 16 List.[]) (Syntax.aggregate (List._∷_ (Syntax.copy (Syntax.place 15 List.[])) (List._∷_ (Syntax.copy (Syntax.place 4 (List._∷_ (Syntax.field 1) List.[]))) List.[])))
+b3 = Syntax.assign (Syntax.place 17 List.[]) (Syntax.aggregate (List._∷_ (Syntax.copy (Syntax.place 16 List.[])) (List._∷_ (Syntax.copy (Syntax.place 4 (List._∷_ (Syntax.field 1) List.[]))) List.[])))
 
 abbrev b4 : Syntax.Body
-b4 = Syntax.assign (Syntax.place 17 List.[]) (Syntax.addrOf (Syntax.place 5 (List._∷_ (Syntax.field 0) (List._∷_ (Syntax.deref (Syntax.tyInt Syntax.w16)) List.[]))))
+b4 = Syntax.assign (Syntax.place 18 List.[]) (Syntax.addrOf (Syntax.place 5 (List._∷_ (Syntax.field 0) (List._∷_ (Syntax.deref (Syntax.tyInt Syntax.w16)) List.[]))))
 
 abbrev b5 : Syntax.Body
-b5 = Syntax.assign (Syntax.place 18 List.[]) (Syntax.aggregate (List._∷_ (Syntax.copy (Syntax.place 17 List.[])) (List._∷_ (Syntax.copy (Syntax.place 5 (List._∷_ (Syntax.field 1) List.[]))) List.[])))
+b5 = Syntax.assign (Syntax.place 19 List.[]) (Syntax.aggregate (List._∷_ (Syntax.copy (Syntax.place 18 List.[])) (List._∷_ (Syntax.copy (Syntax.place 5 (List._∷_ (Syntax.field 1) List.[]))) List.[])))
 
 abbrev b6 : Syntax.Body
-b6 = Syntax.call "block::reading::read_lines" (List._∷_ (Syntax.copy (Syntax.place 1 List.[])) (List._∷_ (Syntax.copy (Syntax.place 2 List.[])) (List._∷_ (Syntax.copy (Syntax.place 14 List.[]))
-    (List._∷_ (Syntax.copy (Syntax.place 16 List.[])) (List._∷_ (Syntax.copy (Syntax.place 18 List.[])) (List._∷_ (Syntax.copy (Syntax.place 6 List.[])) (List._∷_ (Syntax.copy (Syntax.place 7 List.[]))
+b6 = Syntax.call "block::reading::read_lines" (List._∷_ (Syntax.copy (Syntax.place 1 List.[])) (List._∷_ (Syntax.copy (Syntax.place 2 List.[])) (List._∷_ (Syntax.copy (Syntax.place 15 List.[]))
+    (List._∷_ (Syntax.copy (Syntax.place 17 List.[])) (List._∷_ (Syntax.copy (Syntax.place 19 List.[])) (List._∷_ (Syntax.copy (Syntax.place 6 List.[])) (List._∷_ (Syntax.copy (Syntax.place 7 List.[]))
     (List._∷_ (Syntax.copy (Syntax.place 8 List.[])) (List._∷_ (Syntax.copy (Syntax.place 9 List.[])) (List._∷_ (Syntax.copy (Syntax.place 10 List.[])) (List._∷_ (Syntax.copy (Syntax.place 11 List.[]))
-    List.[]))))))))))) (Syntax.place 12 List.[])
+    (List._∷_ (Syntax.copy (Syntax.place 12 List.[])) List.[])))))))))))) (Syntax.place 13 List.[])
 
 abbrev b7 : Syntax.Body
-b7 = Syntax.assign (Syntax.place 20 List.[]) (Syntax.addrOf (Syntax.place 3 (List._∷_ (Syntax.field 0) (List._∷_ (Syntax.deref (Syntax.tyInt Syntax.w16)) List.[]))))
+b7 = Syntax.assign (Syntax.place 21 List.[]) (Syntax.addrOf (Syntax.place 3 (List._∷_ (Syntax.field 0) (List._∷_ (Syntax.deref (Syntax.tyInt Syntax.w16)) List.[]))))
 
 abbrev b8 : Syntax.Body
-b8 = Syntax.assign (Syntax.place 21 List.[]) (Syntax.aggregate (List._∷_ (Syntax.copy (Syntax.place 20 List.[])) (List._∷_ (Syntax.copy (Syntax.place 3 (List._∷_ (Syntax.field 1) List.[]))) List.[])))
+b8 = Syntax.assign (Syntax.place 22 List.[]) (Syntax.aggregate (List._∷_ (Syntax.copy (Syntax.place 21 List.[])) (List._∷_ (Syntax.copy (Syntax.place 3 (List._∷_ (Syntax.field 1) List.[]))) List.[])))
 
 abbrev b9 : Syntax.Body
-b9 = Syntax.call "lines::clear" (List._∷_ (Syntax.copy (Syntax.place 21 List.[])) List.[]) (Syntax.place 19 List.[])
+b9 = Syntax.call "lines::clear" (List._∷_ (Syntax.copy (Syntax.place 22 List.[])) List.[]) (Syntax.place 20 List.[])
 
 abbrev b10 : Syntax.Body
-b10 = Syntax.assign (Syntax.place 22 List.[]) (Syntax.addrOf (Syntax.place 4 (List._∷_ (Syntax.field 0) (List._∷_ (Syntax.deref (Element.held)) List.[]))))
+b10 = Syntax.assign (Syntax.place 23 List.[]) (Syntax.addrOf (Syntax.place 4 (List._∷_ (Syntax.field 0) (List._∷_ (Syntax.deref (Element.held)) List.[]))))
 
 abbrev b11 : Syntax.Body
-b11 = Syntax.assign (Syntax.place 23 List.[]) (Syntax.aggregate (List._∷_ (Syntax.copy (Syntax.place 22 List.[])) (List._∷_ (Syntax.copy (Syntax.place 4 (List._∷_ (Syntax.field 1) List.[])))
+b11 = Syntax.assign (Syntax.place 24 List.[]) (Syntax.aggregate (List._∷_ (Syntax.copy (Syntax.place 23 List.[])) (List._∷_ (Syntax.copy (Syntax.place 4 (List._∷_ (Syntax.field 1) List.[])))
     List.[])))
 
 abbrev b12 : Syntax.Body
-b12 = Syntax.call "block::records::clear_records" (List._∷_ (Syntax.copy (Syntax.place 23 List.[])) List.[]) (Syntax.place 19 List.[])
+b12 = Syntax.call "block::records::clear_records" (List._∷_ (Syntax.copy (Syntax.place 24 List.[])) List.[]) (Syntax.place 20 List.[])
 
 abbrev b13 : Syntax.Body
-b13 = Syntax.assign (Syntax.place 0 List.[]) (Syntax.rvOpd (Syntax.copy (Syntax.place 12 List.[])))
+b13 = Syntax.assign (Syntax.place 0 List.[]) (Syntax.rvOpd (Syntax.copy (Syntax.place 13 List.[])))
 
 abbrev b14 : Syntax.Body
 b14 = Syntax.return
@@ -332,7 +383,7 @@ abbrev pub e0 : Row.Entry
 e0 = (
   0,
   Rows'.any-gone (Syntax.tyEnum (List._∷_ 98 (List._∷_ 108 (List._∷_ 111 (List._∷_ 99 (List._∷_ 107 (List._∷_ 58 (List._∷_ 58 (List._∷_ 87 (List._∷_ 97 (List._∷_ 108 (List._∷_ 107 (List._∷_ 101
-      (List._∷_ 100 List.[]))))))))))))) (Syntax.ttcons (Syntax.tcons y1 (Syntax.tcons y5 Syntax.tnil)) (Syntax.ttcons (Syntax.tcons (Syntax.tyInt Syntax.w64) (Syntax.tcons y1 Syntax.tnil)) Syntax.ttnil))),
+      (List._∷_ 100 List.[]))))))))))))) (Syntax.ttcons (Syntax.tcons y2 (Syntax.tcons y6 Syntax.tnil)) (Syntax.ttcons (Syntax.tcons (Syntax.tyInt Syntax.w64) (Syntax.tcons y2 Syntax.tnil)) Syntax.ttnil))),
 )
 
 abbrev pub e1 : Row.Entry
@@ -351,242 +402,249 @@ abbrev pub e5 : Row.Entry
 e5 = (11, Rows'.sc-here Row.sBool)
 
 abbrev pub e6 : Row.Entry
-e6 = (
-  12,
-  Rows'.any-gone (Syntax.tyEnum (List._∷_ 98 (List._∷_ 108 (List._∷_ 111 (List._∷_ 99 (List._∷_ 107 (List._∷_ 58 (List._∷_ 58 (List._∷_ 87 (List._∷_ 97 (List._∷_ 108 (List._∷_ 107 (List._∷_ 101
-      (List._∷_ 100 List.[]))))))))))))) (Syntax.ttcons (Syntax.tcons y1 (Syntax.tcons y5 Syntax.tnil)) (Syntax.ttcons (Syntax.tcons (Syntax.tyInt Syntax.w64) (Syntax.tcons y1 Syntax.tnil)) Syntax.ttnil))),
-)
+e6 = (12, Rows'.any-gone y8)
 
 abbrev pub e7 : Row.Entry
-e7 = (12, Rows'.whole (Declared.row Walked.the-type))
+e7 = (12, Rows'.whole (Declared'.row Entries.the-type))
 
 abbrev pub e8 : Row.Entry
-e8 = (13, Relend.msptr (Referent.rtF (Referent.fInt Syntax.w16)) (Syntax.tyRef Syntax.erased Syntax.mut (Syntax.tyInt Syntax.w16)) 6)
+e8 = (
+  13,
+  Rows'.any-gone (Syntax.tyEnum (List._∷_ 98 (List._∷_ 108 (List._∷_ 111 (List._∷_ 99 (List._∷_ 107 (List._∷_ 58 (List._∷_ 58 (List._∷_ 87 (List._∷_ 97 (List._∷_ 108 (List._∷_ 107 (List._∷_ 101
+      (List._∷_ 100 List.[]))))))))))))) (Syntax.ttcons (Syntax.tcons y2 (Syntax.tcons y6 Syntax.tnil)) (Syntax.ttcons (Syntax.tcons (Syntax.tyInt Syntax.w64) (Syntax.tcons y2 Syntax.tnil)) Syntax.ttnil))),
+)
 
 abbrev pub e9 : Row.Entry
-e9 = (13, Rows'.any-gone (Syntax.tyRef Syntax.erased Syntax.mut (Syntax.tyInt Syntax.w16)))
+e9 = (13, Rows'.whole (Declared.row Walked.the-type))
 
 abbrev pub e10 : Row.Entry
-e10 = (14, Mut.msleft (Referent.rtF (Referent.fInt Syntax.w16)) (Syntax.tyRef Syntax.erased Syntax.mut (Syntax.tyInt Syntax.w16)))
+e10 = (14, Relend.msptr (Referent.rtF (Referent.fInt Syntax.w16)) (Syntax.tyRef Syntax.erased Syntax.mut (Syntax.tyInt Syntax.w16)) 6)
 
 abbrev pub e11 : Row.Entry
-e11 = (14, Mut.mslice (Referent.rtF (Referent.fInt Syntax.w16)) (Syntax.tyRef Syntax.erased Syntax.mut (Syntax.tyInt Syntax.w16)) 6)
+e11 = (14, Rows'.any-gone (Syntax.tyRef Syntax.erased Syntax.mut (Syntax.tyInt Syntax.w16)))
 
 abbrev pub e12 : Row.Entry
-e12 = (14, Rows'.any-gone y2)
+e12 = (15, Mut.msleft (Referent.rtF (Referent.fInt Syntax.w16)) (Syntax.tyRef Syntax.erased Syntax.mut (Syntax.tyInt Syntax.w16)))
 
 abbrev pub e13 : Row.Entry
-e13 = (15, Relend.msptr (Element.type) (Syntax.tyRef Syntax.erased Syntax.mut Element.behind) 7)
+e13 = (15, Mut.mslice (Referent.rtF (Referent.fInt Syntax.w16)) (Syntax.tyRef Syntax.erased Syntax.mut (Syntax.tyInt Syntax.w16)) 6)
 
 abbrev pub e14 : Row.Entry
-e14 = (15, Rows'.any-gone (Syntax.tyRef Syntax.erased Syntax.mut Element.behind))
+e14 = (15, Rows'.any-gone y3)
 
 abbrev pub e15 : Row.Entry
-e15 = (16, Mut.mslice (Element.type) (Syntax.tyRef Syntax.erased Syntax.mut Element.behind) 7)
+e15 = (16, Rows'.any-gone (Syntax.tyRef Syntax.erased Syntax.mut Element.behind))
 
 abbrev pub e16 : Row.Entry
-e16 = (16, Rows'.any-gone y3)
+e16 = (17, Mut.mslice (Element.type) (Syntax.tyRef Syntax.erased Syntax.mut Element.behind) 7)
 
 abbrev pub e17 : Row.Entry
-e17 = (17, Rows'.any-gone (Syntax.tyRef Syntax.erased Syntax.mut (Syntax.tyInt Syntax.w16)))
+e17 = (17, Rows'.any-gone y4)
 
 abbrev pub e18 : Row.Entry
-e18 = (18, Mut.msleft (Referent.rtF (Referent.fInt Syntax.w16)) (Syntax.tyRef Syntax.erased Syntax.mut (Syntax.tyInt Syntax.w16)))
+e18 = (18, Rows'.any-gone (Syntax.tyRef Syntax.erased Syntax.mut (Syntax.tyInt Syntax.w16)))
 
 abbrev pub e19 : Row.Entry
-e19 = (18, Rows'.any-gone y2)
+e19 = (19, Mut.msleft (Referent.rtF (Referent.fInt Syntax.w16)) (Syntax.tyRef Syntax.erased Syntax.mut (Syntax.tyInt Syntax.w16)))
 
 abbrev pub e20 : Row.Entry
-e20 = (19, Rows'.any-gone Syntax.tyUnit)
+e20 = (19, Rows'.any-gone y3)
 
 abbrev pub e21 : Row.Entry
-e21 = (19, Rows'.sc-here Row.sUnit)
+e21 = (2, Rows'.sslice (Referent.rtF (Referent.fInt Syntax.w8)) (Syntax.tyRef (Syntax.named 1) Syntax.imm (Syntax.tyInt Syntax.w8)) 1)
 
 abbrev pub e22 : Row.Entry
-e22 = (2, Rows'.sslice (Referent.rtF (Referent.fInt Syntax.w8)) (Syntax.tyRef (Syntax.named 1) Syntax.imm (Syntax.tyInt Syntax.w8)) 1)
+e22 = (20, Rows'.any-gone Syntax.tyUnit)
 
 abbrev pub e23 : Row.Entry
-e23 = (20, Rows'.any-gone (Syntax.tyRef Syntax.erased Syntax.mut (Syntax.tyInt Syntax.w16)))
+e23 = (20, Rows'.sc-here Row.sUnit)
 
 abbrev pub e24 : Row.Entry
-e24 = (21, Mut.msleft (Referent.rtF (Referent.fInt Syntax.w16)) (Syntax.tyRef Syntax.erased Syntax.mut (Syntax.tyInt Syntax.w16)))
+e24 = (21, Rows'.any-gone (Syntax.tyRef Syntax.erased Syntax.mut (Syntax.tyInt Syntax.w16)))
 
 abbrev pub e25 : Row.Entry
-e25 = (21, Rows'.any-gone y2)
+e25 = (22, Mut.msleft (Referent.rtF (Referent.fInt Syntax.w16)) (Syntax.tyRef Syntax.erased Syntax.mut (Syntax.tyInt Syntax.w16)))
 
 abbrev pub e26 : Row.Entry
-e26 = (22, Rows'.any-gone (Syntax.tyRef Syntax.erased Syntax.mut Element.behind))
+e26 = (22, Rows'.any-gone y3)
 
 abbrev pub e27 : Row.Entry
-e27 = (23, Mut.msleft (Element.type) (Syntax.tyRef Syntax.erased Syntax.mut Element.behind))
+e27 = (23, Rows'.any-gone (Syntax.tyRef Syntax.erased Syntax.mut Element.behind))
 
 abbrev pub e28 : Row.Entry
-e28 = (23, Rows'.any-gone y3)
+e28 = (24, Mut.msleft (Element.type) (Syntax.tyRef Syntax.erased Syntax.mut Element.behind))
 
 abbrev pub e29 : Row.Entry
-e29 = (3, Mut.mslice (Referent.rtF (Referent.fInt Syntax.w16)) (Syntax.tyRef (Syntax.named 2) Syntax.mut (Syntax.tyInt Syntax.w16)) 2)
+e29 = (24, Rows'.any-gone y4)
 
 abbrev pub e30 : Row.Entry
-e30 = (3, Relend.mslice-owed (Referent.rtF (Referent.fInt Syntax.w16)) (Syntax.tyRef (Syntax.named 2) Syntax.mut (Syntax.tyInt Syntax.w16)) 2 6 Row.off)
+e30 = (3, Mut.mslice (Referent.rtF (Referent.fInt Syntax.w16)) (Syntax.tyRef (Syntax.named 2) Syntax.mut (Syntax.tyInt Syntax.w16)) 2)
 
 abbrev pub e31 : Row.Entry
-e31 = (4, Mut.mslice (Element.type) (Syntax.tyRef (Syntax.named 3) Syntax.mut Element.behind) 3)
+e31 = (3, Relend.mslice-owed (Referent.rtF (Referent.fInt Syntax.w16)) (Syntax.tyRef (Syntax.named 2) Syntax.mut (Syntax.tyInt Syntax.w16)) 2 6 Row.off)
 
 abbrev pub e32 : Row.Entry
-e32 = (4, Relend.mslice-owed (Element.type) (Syntax.tyRef (Syntax.named 3) Syntax.mut Element.behind) 3 7 Row.off)
+e32 = (4, Mut.mslice (Element.type) (Syntax.tyRef (Syntax.named 3) Syntax.mut Element.behind) 3)
 
 abbrev pub e33 : Row.Entry
-e33 = (5, Mut.mslice (Referent.rtF (Referent.fInt Syntax.w16)) (Syntax.tyRef (Syntax.named 4) Syntax.mut (Syntax.tyInt Syntax.w16)) 4)
+e33 = (4, Relend.mslice-owed (Element.type) (Syntax.tyRef (Syntax.named 3) Syntax.mut Element.behind) 3 7 Row.off)
 
 abbrev pub e34 : Row.Entry
-e34 = (5, Relend.mslice-owed (Referent.rtF (Referent.fInt Syntax.w16)) (Syntax.tyRef (Syntax.named 4) Syntax.mut (Syntax.tyInt Syntax.w16)) 4 8 Row.off)
+e34 = (5, Mut.mslice (Referent.rtF (Referent.fInt Syntax.w16)) (Syntax.tyRef (Syntax.named 4) Syntax.mut (Syntax.tyInt Syntax.w16)) 4)
 
 abbrev pub e35 : Row.Entry
-e35 = (6, Rows'.any-gone y4)
+e35 = (5, Relend.mslice-owed (Referent.rtF (Referent.fInt Syntax.w16)) (Syntax.tyRef (Syntax.named 4) Syntax.mut (Syntax.tyInt Syntax.w16)) 4 8 Row.off)
 
 abbrev pub e36 : Row.Entry
-e36 = (6, Rows'.whole (Declared'.row Form.the-type))
+e36 = (6, Rows'.any-gone y5)
 
 abbrev pub e37 : Row.Entry
-e37 = (7, Rows'.sref (Array'.Array (Referent.rtF (Referent.fInt Syntax.w16)) 768) (Syntax.tyRef (Syntax.named 5) Syntax.imm (Syntax.tyArray (Syntax.tyInt Syntax.w16) 768)) 5)
+e37 = (6, Rows'.whole (Declared'.row Form.the-type))
 
 abbrev pub e38 : Row.Entry
-e38 = (8, Rows'.any-gone (Syntax.tyArray (Syntax.tyInt Syntax.w8) 36))
+e38 = (7, Rows'.sref (Array'.Array (Referent.rtF (Referent.fInt Syntax.w16)) 768) (Syntax.tyRef (Syntax.named 5) Syntax.imm (Syntax.tyArray (Syntax.tyInt Syntax.w16) 768)) 5)
 
 abbrev pub e39 : Row.Entry
-e39 = (8, Rows.arrF (Referent.rtF (Referent.fInt Syntax.w8)) 36 0)
+e39 = (8, Rows'.any-gone (Syntax.tyArray (Syntax.tyInt Syntax.w8) 36))
 
 abbrev pub e40 : Row.Entry
-e40 = (9, Rows'.any-gone y0)
+e40 = (8, Rows.arrF (Referent.rtF (Referent.fInt Syntax.w8)) 36 0)
 
 abbrev pub e41 : Row.Entry
-e41 = (9, Rows'.whole (Declared'.row Part.the-type))
+e41 = (9, Rows'.any-gone y0)
+
+abbrev pub e42 : Row.Entry
+e42 = (9, Rows'.whole (Declared'.row Part.the-type))
 
 abbrev pub t0 : List.List Row.Entry
-t0 = List._∷_ e0 (List._∷_ e2 (List._∷_ e22 (List._∷_ e29 (List._∷_ e31 (List._∷_ e33 (List._∷_ e36 (List._∷_ e37 (List._∷_ e39 (List._∷_ e41 (List._∷_ e4 (List._∷_ e5 (List._∷_ e6 (List._∷_ e9
-    (List._∷_ e12 (List._∷_ e14 List.[])))))))))))))))
-
-abbrev pub t1 : List.List Row.Entry
-t1 = List._∷_ e16 (List._∷_ e17 (List._∷_ e19 (List._∷_ e20 (List._∷_ e23 (List._∷_ e25 (List._∷_ e26 (List._∷_ e28 List.[])))))))
-
-abbrev pub t2 : List.List Row.Entry
-t2 = List._∷_ e1 (List._∷_ e2 (List._∷_ e22 (List._∷_ e29 (List._∷_ e31 (List._∷_ e33 (List._∷_ e35 (List._∷_ e37 (List._∷_ e38 (List._∷_ e40 (List._∷_ e3 (List._∷_ (11, Rows'.any-gone Syntax.tyBool)
-    (List._∷_ e6 (List._∷_ e9 (List._∷_ e12 (List._∷_ e14 List.[])))))))))))))))
-
-abbrev pub t3 : List.List Row.Entry
-t3 = List._∷_ e0 (List._∷_ e2 (List._∷_ e22 (List._∷_ e30 (List._∷_ e31 (List._∷_ e33 (List._∷_ e36 (List._∷_ e37 (List._∷_ e39 (List._∷_ e41 (List._∷_ e4 (List._∷_ e5 (List._∷_ e6 (List._∷_ e8
-    (List._∷_ e12 (List._∷_ e14 List.[])))))))))))))))
-
-abbrev pub t4 : List.List Row.Entry
-t4 = List._∷_ e0 (List._∷_ e2 (List._∷_ e22 (List._∷_ e30 (List._∷_ e31 (List._∷_ e33 (List._∷_ e36 (List._∷_ e37 (List._∷_ e39 (List._∷_ e41 (List._∷_ e4 (List._∷_ e5 (List._∷_ e6 (List._∷_ e9
+t0 = List._∷_ e0 (List._∷_ e2 (List._∷_ e21 (List._∷_ e30 (List._∷_ e32 (List._∷_ e34 (List._∷_ e37 (List._∷_ e38 (List._∷_ e40 (List._∷_ e42 (List._∷_ e4 (List._∷_ e5 (List._∷_ e7 (List._∷_ e8
     (List._∷_ e11 (List._∷_ e14 List.[])))))))))))))))
 
+abbrev pub t1 : List.List Row.Entry
+t1 = List._∷_ e15 (List._∷_ e17 (List._∷_ e18 (List._∷_ e20 (List._∷_ e22 (List._∷_ e24 (List._∷_ e26 (List._∷_ e27 (List._∷_ e29 List.[]))))))))
+
+abbrev pub t2 : List.List Row.Entry
+t2 = List._∷_ e1 (List._∷_ e2 (List._∷_ e21 (List._∷_ e30 (List._∷_ e32 (List._∷_ e34 (List._∷_ e36 (List._∷_ e38 (List._∷_ e39 (List._∷_ e41 (List._∷_ e3 (List._∷_ (11, Rows'.any-gone Syntax.tyBool)
+    (List._∷_ e6 (List._∷_ e8 (List._∷_ e11 (List._∷_ e14 List.[])))))))))))))))
+
+abbrev pub t3 : List.List Row.Entry
+t3 = List._∷_ e0 (List._∷_ e2 (List._∷_ e21 (List._∷_ e31 (List._∷_ e32 (List._∷_ e34 (List._∷_ e37 (List._∷_ e38 (List._∷_ e40 (List._∷_ e42 (List._∷_ e4 (List._∷_ e5 (List._∷_ e7 (List._∷_ e8
+    (List._∷_ e10 (List._∷_ e14 List.[])))))))))))))))
+
+abbrev pub t4 : List.List Row.Entry
+t4 = List._∷_ e0 (List._∷_ e2 (List._∷_ e21 (List._∷_ e31 (List._∷_ e32 (List._∷_ e34 (List._∷_ e37 (List._∷_ e38 (List._∷_ e40 (List._∷_ e42 (List._∷_ e4 (List._∷_ e5 (List._∷_ e7 (List._∷_ e8
+    (List._∷_ e11 (List._∷_ e13 List.[])))))))))))))))
+
 abbrev pub t5 : List.List Row.Entry
-t5 = List._∷_ e0 (List._∷_ e2 (List._∷_ e22 (List._∷_ e30 (List._∷_ e32 (List._∷_ e33 (List._∷_ e36 (List._∷_ e37 (List._∷_ e39 (List._∷_ e41 (List._∷_ e4 (List._∷_ e5 (List._∷_ e6 (List._∷_ e9
+t5 = List._∷_ e0 (List._∷_ e2 (List._∷_ e21 (List._∷_ e31 (List._∷_ e33 (List._∷_ e34 (List._∷_ e37 (List._∷_ e38 (List._∷_ e40 (List._∷_ e42 (List._∷_ e4 (List._∷_ e5 (List._∷_ e7 (List._∷_ e8
     (List._∷_ e11 (List._∷_ e13 List.[])))))))))))))))
 
 abbrev pub t6 : List.List Row.Entry
-t6 = List._∷_ e0 (List._∷_ e2 (List._∷_ e22 (List._∷_ e30 (List._∷_ e32 (List._∷_ e33 (List._∷_ e36 (List._∷_ e37 (List._∷_ e39 (List._∷_ e41 (List._∷_ e4 (List._∷_ e5 (List._∷_ e6 (List._∷_ e9
-    (List._∷_ e11 (List._∷_ e14 List.[])))))))))))))))
+t6 = List._∷_ (16, Relend.msptr (Element.type) (Syntax.tyRef Syntax.erased Syntax.mut Element.behind) 7) (List._∷_ e17 (List._∷_ e18 (List._∷_ e20 (List._∷_ e22 (List._∷_ e24 (List._∷_ e26 (List._∷_
+    e27 (List._∷_ e29 List.[]))))))))
 
 abbrev pub t7 : List.List Row.Entry
-t7 = List._∷_ e15 (List._∷_ e17 (List._∷_ e19 (List._∷_ e20 (List._∷_ e23 (List._∷_ e25 (List._∷_ e26 (List._∷_ e28 List.[])))))))
+t7 = List._∷_ e15 (List._∷_ e16 (List._∷_ e18 (List._∷_ e20 (List._∷_ e22 (List._∷_ e24 (List._∷_ e26 (List._∷_ e27 (List._∷_ e29 List.[]))))))))
 
 abbrev pub t8 : List.List Row.Entry
-t8 = List._∷_ e0 (List._∷_ e2 (List._∷_ e22 (List._∷_ e30 (List._∷_ e32 (List._∷_ e34 (List._∷_ e36 (List._∷_ e37 (List._∷_ e39 (List._∷_ e41 (List._∷_ e4 (List._∷_ e5 (List._∷_ e6 (List._∷_ e9
-    (List._∷_ e11 (List._∷_ e14 List.[])))))))))))))))
+t8 = List._∷_ e0 (List._∷_ e2 (List._∷_ e21 (List._∷_ e31 (List._∷_ e33 (List._∷_ e35 (List._∷_ e37 (List._∷_ e38 (List._∷_ e40 (List._∷_ e42 (List._∷_ e4 (List._∷_ e5 (List._∷_ e7 (List._∷_ e8
+    (List._∷_ e11 (List._∷_ e13 List.[])))))))))))))))
 
 abbrev pub t9 : List.List Row.Entry
-t9 = List._∷_ e15 (List._∷_ (17, Relend.msptr (Referent.rtF (Referent.fInt Syntax.w16)) (Syntax.tyRef Syntax.erased Syntax.mut (Syntax.tyInt Syntax.w16)) 8) (List._∷_ e19 (List._∷_ e20 (List._∷_ e23
-    (List._∷_ e25 (List._∷_ e26 (List._∷_ e28 List.[])))))))
+t9 = List._∷_ e15 (List._∷_ e16 (List._∷_ (18, Relend.msptr (Referent.rtF (Referent.fInt Syntax.w16)) (Syntax.tyRef Syntax.erased Syntax.mut (Syntax.tyInt Syntax.w16)) 8) (List._∷_ e20 (List._∷_ e22
+    (List._∷_ e24 (List._∷_ e26 (List._∷_ e27 (List._∷_ e29 List.[]))))))))
 
 abbrev pub t10 : List.List Row.Entry
-t10 = List._∷_ e15 (List._∷_ e17 (List._∷_ (18, Mut.mslice (Referent.rtF (Referent.fInt Syntax.w16)) (Syntax.tyRef Syntax.erased Syntax.mut (Syntax.tyInt Syntax.w16)) 8) (List._∷_ e20 (List._∷_ e23
-    (List._∷_ e25 (List._∷_ e26 (List._∷_ e28 List.[])))))))
+t10 = List._∷_ e15 (List._∷_ e16 (List._∷_ e18 (List._∷_ (19, Mut.mslice (Referent.rtF (Referent.fInt Syntax.w16)) (Syntax.tyRef Syntax.erased Syntax.mut (Syntax.tyInt Syntax.w16)) 8) (List._∷_ e22
+    (List._∷_ e24 (List._∷_ e26 (List._∷_ e27 (List._∷_ e29 List.[]))))))))
 
 abbrev pub t11 : List.List Row.Entry
-t11 = List._∷_ e0 (List._∷_ e2 (List._∷_ e22 (List._∷_ e30 (List._∷_ e32 (List._∷_ e34 (List._∷_ e36 (List._∷_ e37 (List._∷_ e39 (List._∷_ e41 (List._∷_ e4 (List._∷_ e5 (List._∷_ e7 (List._∷_ e9
-    (List._∷_ e10 (List._∷_ e14 List.[])))))))))))))))
+t11 = List._∷_ e0 (List._∷_ e2 (List._∷_ e21 (List._∷_ e31 (List._∷_ e33 (List._∷_ e35 (List._∷_ e37 (List._∷_ e38 (List._∷_ e40 (List._∷_ e42 (List._∷_ e4 (List._∷_ e5 (List._∷_ e7 (List._∷_ e9
+    (List._∷_ e11 (List._∷_ e12 List.[])))))))))))))))
 
 abbrev pub t12 : List.List Row.Entry
-t12 = List._∷_ (16, Mut.msleft (Element.type) (Syntax.tyRef Syntax.erased Syntax.mut Element.behind)) (List._∷_ e17 (List._∷_ e18 (List._∷_ e20 (List._∷_ e23 (List._∷_ e25 (List._∷_ e26 (List._∷_ e28
-    List.[])))))))
+t12 = List._∷_ e15 (List._∷_ (17, Mut.msleft (Element.type) (Syntax.tyRef Syntax.erased Syntax.mut Element.behind)) (List._∷_ e18 (List._∷_ e19 (List._∷_ e22 (List._∷_ e24 (List._∷_ e26 (List._∷_ e27
+    (List._∷_ e29 List.[]))))))))
 
 abbrev pub t13 : List.List Row.Entry
-t13 = List._∷_ e0 (List._∷_ e2 (List._∷_ e22 (List._∷_ e30 (List._∷_ e32 (List._∷_ e34 (List._∷_ e35 (List._∷_ e37 (List._∷_ e39 (List._∷_ e41 (List._∷_ e4 (List._∷_ e5 (List._∷_ e7 (List._∷_ e9
-    (List._∷_ e10 (List._∷_ e14 List.[])))))))))))))))
+t13 = List._∷_ e0 (List._∷_ e2 (List._∷_ e21 (List._∷_ e31 (List._∷_ e33 (List._∷_ e35 (List._∷_ e36 (List._∷_ e38 (List._∷_ e40 (List._∷_ e42 (List._∷_ e4 (List._∷_ e5 (List._∷_ e7 (List._∷_ e9
+    (List._∷_ e11 (List._∷_ e12 List.[])))))))))))))))
 
 abbrev pub t14 : List.List Row.Entry
-t14 = List._∷_ e0 (List._∷_ e2 (List._∷_ e22 (List._∷_ e30 (List._∷_ e32 (List._∷_ e34 (List._∷_ e35 (List._∷_ e37 (List._∷_ e38 (List._∷_ e41 (List._∷_ e4 (List._∷_ e5 (List._∷_ e7 (List._∷_ e9
-    (List._∷_ e10 (List._∷_ e14 List.[])))))))))))))))
+t14 = List._∷_ e0 (List._∷_ e2 (List._∷_ e21 (List._∷_ e31 (List._∷_ e33 (List._∷_ e35 (List._∷_ e36 (List._∷_ e38 (List._∷_ e39 (List._∷_ e42 (List._∷_ e4 (List._∷_ e5 (List._∷_ e7 (List._∷_ e9
+    (List._∷_ e11 (List._∷_ e12 List.[])))))))))))))))
 
 abbrev pub t15 : List.List Row.Entry
-t15 = List._∷_ e0 (List._∷_ e2 (List._∷_ e22 (List._∷_ e30 (List._∷_ e32 (List._∷_ e34 (List._∷_ e35 (List._∷_ e37 (List._∷_ e38 (List._∷_ e40 (List._∷_ e4 (List._∷_ e5 (List._∷_ e7 (List._∷_ e9
-    (List._∷_ e10 (List._∷_ e14 List.[])))))))))))))))
+t15 = List._∷_ e0 (List._∷_ e2 (List._∷_ e21 (List._∷_ e31 (List._∷_ e33 (List._∷_ e35 (List._∷_ e36 (List._∷_ e38 (List._∷_ e39 (List._∷_ e41 (List._∷_ e4 (List._∷_ e5 (List._∷_ e7 (List._∷_ e9
+    (List._∷_ e11 (List._∷_ e12 List.[])))))))))))))))
 
 abbrev pub t16 : List.List Row.Entry
-t16 = List._∷_ e0 (List._∷_ e2 (List._∷_ e22 (List._∷_ e29 (List._∷_ e32 (List._∷_ e34 (List._∷_ e35 (List._∷_ e37 (List._∷_ e38 (List._∷_ e40 (List._∷_ e4 (List._∷_ e5 (List._∷_ e7 (List._∷_ e9
-    (List._∷_ e12 (List._∷_ e14 List.[])))))))))))))))
+t16 = List._∷_ e0 (List._∷_ e2 (List._∷_ e21 (List._∷_ e31 (List._∷_ e33 (List._∷_ e35 (List._∷_ e36 (List._∷_ e38 (List._∷_ e39 (List._∷_ e41 (List._∷_ e4 (List._∷_ e5 (List._∷_ e6 (List._∷_ e9
+    (List._∷_ e11 (List._∷_ e12 List.[])))))))))))))))
 
 abbrev pub t17 : List.List Row.Entry
-t17 = List._∷_ e0 (List._∷_ e2 (List._∷_ e22 (List._∷_ e29 (List._∷_ e31 (List._∷_ e34 (List._∷_ e35 (List._∷_ e37 (List._∷_ e38 (List._∷_ e40 (List._∷_ e4 (List._∷_ e5 (List._∷_ e7 (List._∷_ e9
-    (List._∷_ e12 (List._∷_ e14 List.[])))))))))))))))
+t17 = List._∷_ e0 (List._∷_ e2 (List._∷_ e21 (List._∷_ e30 (List._∷_ e33 (List._∷_ e35 (List._∷_ e36 (List._∷_ e38 (List._∷_ e39 (List._∷_ e41 (List._∷_ e4 (List._∷_ e5 (List._∷_ e6 (List._∷_ e9
+    (List._∷_ e11 (List._∷_ e14 List.[])))))))))))))))
 
 abbrev pub t18 : List.List Row.Entry
-t18 = List._∷_ e16 (List._∷_ e17 (List._∷_ e18 (List._∷_ e20 (List._∷_ e23 (List._∷_ e25 (List._∷_ e26 (List._∷_ e28 List.[])))))))
+t18 = List._∷_ e0 (List._∷_ e2 (List._∷_ e21 (List._∷_ e30 (List._∷_ e32 (List._∷_ e35 (List._∷_ e36 (List._∷_ e38 (List._∷_ e39 (List._∷_ e41 (List._∷_ e4 (List._∷_ e5 (List._∷_ e6 (List._∷_ e9
+    (List._∷_ e11 (List._∷_ e14 List.[])))))))))))))))
 
 abbrev pub t19 : List.List Row.Entry
-t19 = List._∷_ e0 (List._∷_ e2 (List._∷_ e22 (List._∷_ e29 (List._∷_ e31 (List._∷_ e33 (List._∷_ e35 (List._∷_ e37 (List._∷_ e38 (List._∷_ e40 (List._∷_ e4 (List._∷_ e5 (List._∷_ e7 (List._∷_ e9
-    (List._∷_ e12 (List._∷_ e14 List.[])))))))))))))))
+t19 = List._∷_ e15 (List._∷_ e17 (List._∷_ e18 (List._∷_ e19 (List._∷_ e22 (List._∷_ e24 (List._∷_ e26 (List._∷_ e27 (List._∷_ e29 List.[]))))))))
 
 abbrev pub t20 : List.List Row.Entry
-t20 = List._∷_ e0 (List._∷_ e2 (List._∷_ e22 (List._∷_
-    (3, Relend.mslice-owed (Referent.rtF (Referent.fInt Syntax.w16)) (Syntax.tyRef (Syntax.named 2) Syntax.mut (Syntax.tyInt Syntax.w16)) 2 9 Row.off) (List._∷_ e31 (List._∷_ e33 (List._∷_ e35 (List._∷_
-    e37 (List._∷_ e38 (List._∷_ e40 (List._∷_ e4 (List._∷_ e5 (List._∷_ e7 (List._∷_ e9 (List._∷_ e12 (List._∷_ e14 List.[])))))))))))))))
+t20 = List._∷_ e0 (List._∷_ e2 (List._∷_ e21 (List._∷_ e30 (List._∷_ e32 (List._∷_ e34 (List._∷_ e36 (List._∷_ e38 (List._∷_ e39 (List._∷_ e41 (List._∷_ e4 (List._∷_ e5 (List._∷_ e6 (List._∷_ e9
+    (List._∷_ e11 (List._∷_ e14 List.[])))))))))))))))
 
 abbrev pub t21 : List.List Row.Entry
-t21 = List._∷_ e16 (List._∷_ e17 (List._∷_ e19 (List._∷_ e20 (List._∷_ (20, Relend.msptr (Referent.rtF (Referent.fInt Syntax.w16)) (Syntax.tyRef Syntax.erased Syntax.mut (Syntax.tyInt Syntax.w16)) 9)
-    (List._∷_ e25 (List._∷_ e26 (List._∷_ e28 List.[])))))))
+t21 = List._∷_ e0 (List._∷_ e2 (List._∷_ e21 (List._∷_
+    (3, Relend.mslice-owed (Referent.rtF (Referent.fInt Syntax.w16)) (Syntax.tyRef (Syntax.named 2) Syntax.mut (Syntax.tyInt Syntax.w16)) 2 9 Row.off) (List._∷_ e32 (List._∷_ e34 (List._∷_ e36 (List._∷_
+    e38 (List._∷_ e39 (List._∷_ e41 (List._∷_ e4 (List._∷_ e5 (List._∷_ e6 (List._∷_ e9 (List._∷_ e11 (List._∷_ e14 List.[])))))))))))))))
 
 abbrev pub t22 : List.List Row.Entry
-t22 = List._∷_ e16 (List._∷_ e17 (List._∷_ e19 (List._∷_ e20 (List._∷_ e23 (List._∷_
-    (21, Mut.mslice (Referent.rtF (Referent.fInt Syntax.w16)) (Syntax.tyRef Syntax.erased Syntax.mut (Syntax.tyInt Syntax.w16)) 9) (List._∷_ e26 (List._∷_ e28 List.[])))))))
+t22 = List._∷_ e15 (List._∷_ e17 (List._∷_ e18 (List._∷_ e20 (List._∷_ e22 (List._∷_
+    (21, Relend.msptr (Referent.rtF (Referent.fInt Syntax.w16)) (Syntax.tyRef Syntax.erased Syntax.mut (Syntax.tyInt Syntax.w16)) 9) (List._∷_ e26 (List._∷_ e27 (List._∷_ e29 List.[]))))))))
 
 abbrev pub t23 : List.List Row.Entry
-t23 = List._∷_ e16 (List._∷_ e17 (List._∷_ e19 (List._∷_ e21 (List._∷_ e23 (List._∷_ e24 (List._∷_ e26 (List._∷_ e28 List.[])))))))
+t23 = List._∷_ e15 (List._∷_ e17 (List._∷_ e18 (List._∷_ e20 (List._∷_ e22 (List._∷_ e24 (List._∷_
+    (22, Mut.mslice (Referent.rtF (Referent.fInt Syntax.w16)) (Syntax.tyRef Syntax.erased Syntax.mut (Syntax.tyInt Syntax.w16)) 9) (List._∷_ e27 (List._∷_ e29 List.[]))))))))
 
 abbrev pub t24 : List.List Row.Entry
-t24 = List._∷_ e16 (List._∷_ e17 (List._∷_ e19 (List._∷_ e20 (List._∷_ e23 (List._∷_ e24 (List._∷_ e26 (List._∷_ e28 List.[])))))))
+t24 = List._∷_ e15 (List._∷_ e17 (List._∷_ e18 (List._∷_ e20 (List._∷_ e23 (List._∷_ e24 (List._∷_ e25 (List._∷_ e27 (List._∷_ e29 List.[]))))))))
 
 abbrev pub t25 : List.List Row.Entry
-t25 = List._∷_ e0 (List._∷_ e2 (List._∷_ e22 (List._∷_ e29 (List._∷_ (4, Relend.mslice-owed (Element.type) (Syntax.tyRef (Syntax.named 3) Syntax.mut Element.behind) 3 10 Row.off) (List._∷_ e33
-    (List._∷_ e35 (List._∷_ e37 (List._∷_ e38 (List._∷_ e40 (List._∷_ e4 (List._∷_ e5 (List._∷_ e7 (List._∷_ e9 (List._∷_ e12 (List._∷_ e14 List.[])))))))))))))))
+t25 = List._∷_ e15 (List._∷_ e17 (List._∷_ e18 (List._∷_ e20 (List._∷_ e22 (List._∷_ e24 (List._∷_ e25 (List._∷_ e27 (List._∷_ e29 List.[]))))))))
 
 abbrev pub t26 : List.List Row.Entry
-t26 = List._∷_ e16 (List._∷_ e17 (List._∷_ e19 (List._∷_ e20 (List._∷_ e23 (List._∷_ e25 (List._∷_ (22, Relend.msptr (Element.type) (Syntax.tyRef Syntax.erased Syntax.mut Element.behind) 10) (List._∷_
-    e28 List.[])))))))
+t26 = List._∷_ e0 (List._∷_ e2 (List._∷_ e21 (List._∷_ e30 (List._∷_ (4, Relend.mslice-owed (Element.type) (Syntax.tyRef (Syntax.named 3) Syntax.mut Element.behind) 3 10 Row.off) (List._∷_ e34
+    (List._∷_ e36 (List._∷_ e38 (List._∷_ e39 (List._∷_ e41 (List._∷_ e4 (List._∷_ e5 (List._∷_ e6 (List._∷_ e9 (List._∷_ e11 (List._∷_ e14 List.[])))))))))))))))
 
 abbrev pub t27 : List.List Row.Entry
-t27 = List._∷_ e16 (List._∷_ e17 (List._∷_ e19 (List._∷_ e20 (List._∷_ e23 (List._∷_ e25 (List._∷_ e26 (List._∷_
-    (23, Mut.mslice (Element.type) (Syntax.tyRef Syntax.erased Syntax.mut Element.behind) 10) List.[])))))))
+t27 = List._∷_ e15 (List._∷_ e17 (List._∷_ e18 (List._∷_ e20 (List._∷_ e22 (List._∷_ e24 (List._∷_ e26 (List._∷_
+    (23, Relend.msptr (Element.type) (Syntax.tyRef Syntax.erased Syntax.mut Element.behind) 10) (List._∷_ e29 List.[]))))))))
 
 abbrev pub t28 : List.List Row.Entry
-t28 = List._∷_ e16 (List._∷_ e17 (List._∷_ e19 (List._∷_ e21 (List._∷_ e23 (List._∷_ e25 (List._∷_ e26 (List._∷_ e27 List.[])))))))
+t28 = List._∷_ e15 (List._∷_ e17 (List._∷_ e18 (List._∷_ e20 (List._∷_ e22 (List._∷_ e24 (List._∷_ e26 (List._∷_ e27 (List._∷_
+    (24, Mut.mslice (Element.type) (Syntax.tyRef Syntax.erased Syntax.mut Element.behind) 10) List.[]))))))))
 
 abbrev pub t29 : List.List Row.Entry
-t29 = List._∷_ e16 (List._∷_ e17 (List._∷_ e19 (List._∷_ e20 (List._∷_ e23 (List._∷_ e25 (List._∷_ e26 (List._∷_ e27 List.[])))))))
+t29 = List._∷_ e15 (List._∷_ e17 (List._∷_ e18 (List._∷_ e20 (List._∷_ e23 (List._∷_ e24 (List._∷_ e26 (List._∷_ e27 (List._∷_ e28 List.[]))))))))
 
 abbrev pub t30 : List.List Row.Entry
-t30 = List._∷_ e1 (List._∷_ e2 (List._∷_ e22 (List._∷_ e29 (List._∷_ e31 (List._∷_ e33 (List._∷_ e35 (List._∷_ e37 (List._∷_ e38 (List._∷_ e40 (List._∷_ e4 (List._∷_ e5 (List._∷_ e7 (List._∷_ e9
-    (List._∷_ e12 (List._∷_ e14 List.[])))))))))))))))
+t30 = List._∷_ e15 (List._∷_ e17 (List._∷_ e18 (List._∷_ e20 (List._∷_ e22 (List._∷_ e24 (List._∷_ e26 (List._∷_ e27 (List._∷_ e28 List.[]))))))))
 
 abbrev pub t31 : List.List Row.Entry
-t31 = List._∷_ e1 (List._∷_ e2 (List._∷_ e22 (List._∷_ e29 (List._∷_ e31 (List._∷_ e33 (List._∷_ e35 (List._∷_ e37 (List._∷_ e38 (List._∷_ e40 (List._∷_ e4 (List._∷_ e5 (List._∷_ e6 (List._∷_ e9
-    (List._∷_ e12 (List._∷_ e14 List.[])))))))))))))))
+t31 = List._∷_ e1 (List._∷_ e2 (List._∷_ e21 (List._∷_ e30 (List._∷_ e32 (List._∷_ e34 (List._∷_ e36 (List._∷_ e38 (List._∷_ e39 (List._∷_ e41 (List._∷_ e4 (List._∷_ e5 (List._∷_ e6 (List._∷_ e9
+    (List._∷_ e11 (List._∷_ e14 List.[])))))))))))))))
 
 abbrev pub t32 : List.List Row.Entry
-t32 = List._∷_ e1 (List._∷_ e2 (List._∷_ e22 (List._∷_ e29 (List._∷_ e31 (List._∷_ e33 (List._∷_ e35 (List._∷_ e37 (List._∷_ e38 (List._∷_ e40 (List._∷_ e3 (List._∷_ e5 (List._∷_ e6 (List._∷_ e9
-    (List._∷_ e12 (List._∷_ e14 List.[])))))))))))))))
+t32 = List._∷_ e1 (List._∷_ e2 (List._∷_ e21 (List._∷_ e30 (List._∷_ e32 (List._∷_ e34 (List._∷_ e36 (List._∷_ e38 (List._∷_ e39 (List._∷_ e41 (List._∷_ e4 (List._∷_ e5 (List._∷_ e6 (List._∷_ e8
+    (List._∷_ e11 (List._∷_ e14 List.[])))))))))))))))
+
+abbrev pub t33 : List.List Row.Entry
+t33 = List._∷_ e1 (List._∷_ e2 (List._∷_ e21 (List._∷_ e30 (List._∷_ e32 (List._∷_ e34 (List._∷_ e36 (List._∷_ e38 (List._∷_ e39 (List._∷_ e41 (List._∷_ e3 (List._∷_ e5 (List._∷_ e6 (List._∷_ e8
+    (List._∷_ e11 (List._∷_ e14 List.[])))))))))))))))
 
 abbrev pub T0 : Row.Cx
 T0 = record { locals = List._++_ t0 t1; slots = List.[] }
@@ -613,10 +671,10 @@ abbrev pub T8 : Row.Cx
 T8 = record { locals = List._++_ t4 t1; slots = List.[] }
 
 abbrev pub T10 : Row.Cx
-T10 = record { locals = List._++_ t5 t1; slots = List.[] }
+T10 = record { locals = List._++_ t5 t6; slots = List.[] }
 
 abbrev pub T11 : Row.Cx
-T11 = record { locals = List._++_ t6 t7; slots = List.[] }
+T11 = record { locals = List._++_ t5 t7; slots = List.[] }
 
 abbrev pub T13 : Row.Cx
 T13 = record { locals = List._++_ t8 t9; slots = List.[] }
@@ -636,56 +694,56 @@ T17 = record { locals = List._++_ t14 t12; slots = List.[] }
 abbrev pub T18 : Row.Cx
 T18 = record { locals = List._++_ t15 t12; slots = List.[] }
 
-abbrev pub T20 : Row.Cx
-T20 = record { locals = List._++_ t16 t12; slots = List.[] }
+abbrev pub T19 : Row.Cx
+T19 = record { locals = List._++_ t16 t12; slots = List.[] }
 
 abbrev pub T21 : Row.Cx
-T21 = record { locals = List._++_ t16 t12; slots = List.[] }
+T21 = record { locals = List._++_ t17 t12; slots = List.[] }
 
-abbrev pub T24 : Row.Cx
-T24 = record { locals = List._++_ t17 t18; slots = List.[] }
+abbrev pub T22 : Row.Cx
+T22 = record { locals = List._++_ t17 t12; slots = List.[] }
 
-abbrev pub T27 : Row.Cx
-T27 = record { locals = List._++_ t19 t1; slots = List.[] }
+abbrev pub T25 : Row.Cx
+T25 = record { locals = List._++_ t18 t19; slots = List.[] }
 
 abbrev pub T28 : Row.Cx
-T28 = record { locals = List._++_ t19 t1; slots = List.[] }
+T28 = record { locals = List._++_ t20 t1; slots = List.[] }
 
-abbrev pub T31 : Row.Cx
-T31 = record { locals = List._++_ t20 t21; slots = List.[] }
+abbrev pub T29 : Row.Cx
+T29 = record { locals = List._++_ t20 t1; slots = List.[] }
 
 abbrev pub T32 : Row.Cx
-T32 = record { locals = List._++_ t20 t22; slots = List.[] }
+T32 = record { locals = List._++_ t21 t22; slots = List.[] }
 
 abbrev pub T33 : Row.Cx
-T33 = record { locals = List._++_ t20 t23; slots = List.[] }
+T33 = record { locals = List._++_ t21 t23; slots = List.[] }
 
 abbrev pub T34 : Row.Cx
-T34 = record { locals = List._++_ t20 t24; slots = List.[] }
+T34 = record { locals = List._++_ t21 t24; slots = List.[] }
 
-abbrev pub T36 : Row.Cx
-T36 = record { locals = List._++_ t19 t1; slots = List.[] }
+abbrev pub T35 : Row.Cx
+T35 = record { locals = List._++_ t21 t25; slots = List.[] }
 
 abbrev pub T37 : Row.Cx
-T37 = record { locals = List._++_ t19 t1; slots = List.[] }
+T37 = record { locals = List._++_ t20 t1; slots = List.[] }
 
-abbrev pub T40 : Row.Cx
-T40 = record { locals = List._++_ t25 t26; slots = List.[] }
+abbrev pub T38 : Row.Cx
+T38 = record { locals = List._++_ t20 t1; slots = List.[] }
 
 abbrev pub T41 : Row.Cx
-T41 = record { locals = List._++_ t25 t27; slots = List.[] }
+T41 = record { locals = List._++_ t26 t27; slots = List.[] }
 
 abbrev pub T42 : Row.Cx
-T42 = record { locals = List._++_ t25 t28; slots = List.[] }
+T42 = record { locals = List._++_ t26 t28; slots = List.[] }
 
 abbrev pub T43 : Row.Cx
-T43 = record { locals = List._++_ t25 t29; slots = List.[] }
+T43 = record { locals = List._++_ t26 t29; slots = List.[] }
 
-abbrev pub T45 : Row.Cx
-T45 = record { locals = List._++_ t19 t1; slots = List.[] }
+abbrev pub T44 : Row.Cx
+T44 = record { locals = List._++_ t26 t30; slots = List.[] }
 
-abbrev pub T47 : Row.Cx
-T47 = record { locals = List._++_ t30 t1; slots = List.[] }
+abbrev pub T46 : Row.Cx
+T46 = record { locals = List._++_ t20 t1; slots = List.[] }
 
 abbrev pub T48 : Row.Cx
 T48 = record { locals = List._++_ t31 t1; slots = List.[] }
@@ -694,7 +752,10 @@ abbrev pub T49 : Row.Cx
 T49 = record { locals = List._++_ t32 t1; slots = List.[] }
 
 abbrev pub T50 : Row.Cx
-T50 = record { locals = List._++_ t2 t1; slots = List.[] }
+T50 = record { locals = List._++_ t33 t1; slots = List.[] }
+
+abbrev pub T51 : Row.Cx
+T51 = record { locals = List._++_ t2 t1; slots = List.[] }
 
 abbrev pub O0 : Typed.Outs
 O0 = record { next = Option.none; exits = List.[]; returns = Option.some T1 }
@@ -713,26 +774,26 @@ module _ (claims· : Claims) where
   s3 = Know.k-sl-known (Referent.fInt Syntax.w16) T4 5 4 (Syntax.tyRef (Syntax.named 4) Syntax.mut (Syntax.tyInt Syntax.w16)) Row.off 0 λ x. x
 
   abbrev s5 : Typed.Gives T5 T7
-  s5 = Relend.k-sl-relend (Referent.rtF (Referent.fInt Syntax.w16)) T5 3 13 2 6 (Syntax.tyRef (Syntax.named 2) Syntax.mut (Syntax.tyInt Syntax.w16)) (Syntax.tyRef Syntax.erased Syntax.mut
+  s5 = Relend.k-sl-relend (Referent.rtF (Referent.fInt Syntax.w16)) T5 3 14 2 6 (Syntax.tyRef (Syntax.named 2) Syntax.mut (Syntax.tyInt Syntax.w16)) (Syntax.tyRef Syntax.erased Syntax.mut
       (Syntax.tyInt Syntax.w16)) Row.off λ x. x
 
   abbrev s6 : Typed.Asks T7 T8
-  s6 = Relend.k-sl-aggregate (Referent.rtF (Referent.fInt Syntax.w16)) (Relend.asMut (Referent.rtF (Referent.fInt Syntax.w16))) T7 13 14 6 (Syntax.tyRef Syntax.erased Syntax.mut (Syntax.tyInt
+  s6 = Relend.k-sl-aggregate (Referent.rtF (Referent.fInt Syntax.w16)) (Relend.asMut (Referent.rtF (Referent.fInt Syntax.w16))) T7 14 15 6 (Syntax.tyRef Syntax.erased Syntax.mut (Syntax.tyInt
       Syntax.w16)) (Syntax.tyRef Syntax.erased Syntax.mut (Syntax.tyInt Syntax.w16)) (λ x. x) (Scalar.oFld 3 (List._∷_ (Syntax.field 1) List.[]) (Syntax.tyInt Syntax.w64) 8 λ v. Shared.lenV (v .0))
 
   abbrev s8 : Typed.Gives T8 T10
-  s8 = Relend.k-sl-relend (Element.type) T8 4 15 3 7 (Syntax.tyRef (Syntax.named 3) Syntax.mut Element.behind) (Syntax.tyRef Syntax.erased Syntax.mut Element.behind) Row.off λ x. x
+  s8 = Relend.k-sl-relend (Element.type) T8 4 16 3 7 (Syntax.tyRef (Syntax.named 3) Syntax.mut Element.behind) (Syntax.tyRef Syntax.erased Syntax.mut Element.behind) Row.off λ x. x
 
   abbrev s9 : Typed.Asks T10 T11
-  s9 = Relend.k-sl-aggregate (Element.type) (Relend.asMut (Element.type)) T10 15 16 7 (Syntax.tyRef Syntax.erased Syntax.mut Element.behind) (Syntax.tyRef Syntax.erased Syntax.mut Element.behind) (λ
+  s9 = Relend.k-sl-aggregate (Element.type) (Relend.asMut (Element.type)) T10 16 17 7 (Syntax.tyRef Syntax.erased Syntax.mut Element.behind) (Syntax.tyRef Syntax.erased Syntax.mut Element.behind) (λ
       x. x) (Scalar.oFld 4 (List._∷_ (Syntax.field 1) List.[]) (Syntax.tyInt Syntax.w64) 8 λ v. Shared.lenV (v .0))
 
   abbrev s11 : Typed.Gives T11 T13
-  s11 = Relend.k-sl-relend (Referent.rtF (Referent.fInt Syntax.w16)) T11 5 17 4 8 (Syntax.tyRef (Syntax.named 4) Syntax.mut (Syntax.tyInt Syntax.w16)) (Syntax.tyRef Syntax.erased Syntax.mut
+  s11 = Relend.k-sl-relend (Referent.rtF (Referent.fInt Syntax.w16)) T11 5 18 4 8 (Syntax.tyRef (Syntax.named 4) Syntax.mut (Syntax.tyInt Syntax.w16)) (Syntax.tyRef Syntax.erased Syntax.mut
       (Syntax.tyInt Syntax.w16)) Row.off λ x. x
 
   abbrev s12 : Typed.Asks T13 T14
-  s12 = Relend.k-sl-aggregate (Referent.rtF (Referent.fInt Syntax.w16)) (Relend.asMut (Referent.rtF (Referent.fInt Syntax.w16))) T13 17 18 8 (Syntax.tyRef Syntax.erased Syntax.mut (Syntax.tyInt
+  s12 = Relend.k-sl-aggregate (Referent.rtF (Referent.fInt Syntax.w16)) (Relend.asMut (Referent.rtF (Referent.fInt Syntax.w16))) T13 18 19 8 (Syntax.tyRef Syntax.erased Syntax.mut (Syntax.tyInt
       Syntax.w16)) (Syntax.tyRef Syntax.erased Syntax.mut (Syntax.tyInt Syntax.w16)) (λ x. x) (Scalar.oFld 5 (List._∷_ (Syntax.field 1) List.[]) (Syntax.tyInt Syntax.w64) 8 λ v. Shared.lenV (v .0))
 
   abbrev s13 : Typed.Both T14 T15
@@ -741,29 +802,32 @@ module _ (claims· : Claims) where
     (
       record { pos = 2; ty = Syntax.tyRef (Syntax.named 1) Syntax.imm (Syntax.tyInt Syntax.w8); ref = λ x. x },
       (
-        record { pos = 14; ty = Syntax.tyRef Syntax.erased Syntax.mut (Syntax.tyInt Syntax.w16); ref = λ x. x },
+        record { pos = 15; ty = Syntax.tyRef Syntax.erased Syntax.mut (Syntax.tyInt Syntax.w16); ref = λ x. x },
         (
-          record { pos = 16; ty = Syntax.tyRef Syntax.erased Syntax.mut Element.behind; ref = λ x. x },
+          record { pos = 17; ty = Syntax.tyRef Syntax.erased Syntax.mut Element.behind; ref = λ x. x },
           (
-            record { pos = 18; ty = Syntax.tyRef Syntax.erased Syntax.mut (Syntax.tyInt Syntax.w16); ref = λ x. x },
+            record { pos = 19; ty = Syntax.tyRef Syntax.erased Syntax.mut (Syntax.tyInt Syntax.w16); ref = λ x. x },
             (
               record { pos = 6; st = List.[]; d = 0; at = λ x. x },
               (
                 record { pos = 7; ty = Syntax.tyRef (Syntax.named 5) Syntax.imm (Syntax.tyArray (Syntax.tyInt Syntax.w16) 768); ref = λ x. x },
-                (record { pos = 8; st = List.[]; d = 0; at = λ x. x }, (record { pos = 9; st = List.[]; d = 0; at = λ x. x }, (Num.vAt 10 λ x. x, (Bool.bAt 11 λ x. x, tt)))),
+                (
+                  record { pos = 8; st = List.[]; d = 0; at = λ x. x },
+                  (record { pos = 9; st = List.[]; d = 0; at = λ x. x }, (Num.vAt 10 λ x. x, (Bool.bAt 11 λ x. x, (record { pos = 12; st = List.[]; d = 0; at = λ x. x }, tt)))),
+                ),
               ),
             ),
           ),
         ),
       ),
     ),
-  ) 12 (List._∷_ 0 (List._∷_ 1
+  ) 13 (List._∷_ 0 (List._∷_ 1
       (List._∷_ 6 (List._∷_ 7 (List._∷_ 8 (List._∷_ 5 List.[])))))) (Syntax.tyEnum (List._∷_ 98 (List._∷_ 108 (List._∷_ 111 (List._∷_ 99 (List._∷_ 107 (List._∷_ 58 (List._∷_ 58 (List._∷_ 87 (List._∷_ 97
-      (List._∷_ 108 (List._∷_ 107 (List._∷_ 101 (List._∷_ 100 List.[]))))))))))))) (Syntax.ttcons (Syntax.tcons y1 (Syntax.tcons y5 Syntax.tnil)) (Syntax.ttcons (Syntax.tcons (Syntax.tyInt Syntax.w64)
-      (Syntax.tcons y1 Syntax.tnil)) Syntax.ttnil)))
+      (List._∷_ 108 (List._∷_ 107 (List._∷_ 101 (List._∷_ 100 List.[]))))))))))))) (Syntax.ttcons (Syntax.tcons y2 (Syntax.tcons y6 Syntax.tnil)) (Syntax.ttcons (Syntax.tcons (Syntax.tyInt Syntax.w64)
+      (Syntax.tcons y2 Syntax.tnil)) Syntax.ttnil)))
 
   abbrev s14 : Typed.Mo T15 → Typed.Mo T16
-  s14 = Scalar.n-room T15 6 y4
+  s14 = Scalar.n-room T15 6 y5
 
   abbrev s15 : Typed.Mo T16 → Typed.Mo T17
   s15 = Scalar.n-room T16 8 (Syntax.tyArray (Syntax.tyInt Syntax.w8) 36)
@@ -771,74 +835,77 @@ module _ (claims· : Claims) where
   abbrev s16 : Typed.Mo T17 → Typed.Mo T18
   s16 = Scalar.n-room T17 9 y0
 
-  abbrev s18 : Typed.Both T18 T20
-  s18 = Relend.k-back-sl (Referent.rtF (Referent.fInt Syntax.w16)) T18 14 3 2 6 (Syntax.tyRef (Syntax.named 2) Syntax.mut (Syntax.tyInt Syntax.w16)) (Syntax.tyRef Syntax.erased Syntax.mut
+  abbrev s17 : Typed.Mo T18 → Typed.Mo T19
+  s17 = Scalar.n-room T18 12 y8
+
+  abbrev s19 : Typed.Both T19 T21
+  s19 = Relend.k-back-sl (Referent.rtF (Referent.fInt Syntax.w16)) T19 15 3 2 6 (Syntax.tyRef (Syntax.named 2) Syntax.mut (Syntax.tyInt Syntax.w16)) (Syntax.tyRef Syntax.erased Syntax.mut
       (Syntax.tyInt Syntax.w16)) Row.off (λ x. x) λ x. x
 
-  abbrev s19 : Typed.Gives T20 T21
-  s19 = Know.k-sl-known (Referent.fInt Syntax.w16) T20 3 2 (Syntax.tyRef (Syntax.named 2) Syntax.mut (Syntax.tyInt Syntax.w16)) Row.off 0 λ x. x
+  abbrev s20 : Typed.Gives T21 T22
+  s20 = Know.k-sl-known (Referent.fInt Syntax.w16) T21 3 2 (Syntax.tyRef (Syntax.named 2) Syntax.mut (Syntax.tyInt Syntax.w16)) Row.off 0 λ x. x
 
-  abbrev s22 : Typed.Both T21 T24
-  s22 = Relend.k-back-sl (Element.type) T21 16 4 3 7 (Syntax.tyRef (Syntax.named 3) Syntax.mut Element.behind) (Syntax.tyRef Syntax.erased Syntax.mut Element.behind) Row.off (λ x. x) λ x. x
+  abbrev s23 : Typed.Both T22 T25
+  s23 = Relend.k-back-sl (Element.type) T22 17 4 3 7 (Syntax.tyRef (Syntax.named 3) Syntax.mut Element.behind) (Syntax.tyRef Syntax.erased Syntax.mut Element.behind) Row.off (λ x. x) λ x. x
 
-  abbrev s25 : Typed.Both T24 T27
-  s25 = Relend.k-back-sl (Referent.rtF (Referent.fInt Syntax.w16)) T24 18 5 4 8 (Syntax.tyRef (Syntax.named 4) Syntax.mut (Syntax.tyInt Syntax.w16)) (Syntax.tyRef Syntax.erased Syntax.mut
+  abbrev s26 : Typed.Both T25 T28
+  s26 = Relend.k-back-sl (Referent.rtF (Referent.fInt Syntax.w16)) T25 19 5 4 8 (Syntax.tyRef (Syntax.named 4) Syntax.mut (Syntax.tyInt Syntax.w16)) (Syntax.tyRef Syntax.erased Syntax.mut
       (Syntax.tyInt Syntax.w16)) Row.off (λ x. x) λ x. x
 
-  abbrev s26 : Typed.Gives T27 T28
-  s26 = Know.k-sl-known (Referent.fInt Syntax.w16) T27 5 4 (Syntax.tyRef (Syntax.named 4) Syntax.mut (Syntax.tyInt Syntax.w16)) Row.off 0 λ x. x
+  abbrev s27 : Typed.Gives T28 T29
+  s27 = Know.k-sl-known (Referent.fInt Syntax.w16) T28 5 4 (Syntax.tyRef (Syntax.named 4) Syntax.mut (Syntax.tyInt Syntax.w16)) Row.off 0 λ x. x
 
-  abbrev s29 : Typed.Gives T28 T31
-  s29 = Relend.k-sl-relend (Referent.rtF (Referent.fInt Syntax.w16)) T28 3 20 2 9 (Syntax.tyRef (Syntax.named 2) Syntax.mut (Syntax.tyInt Syntax.w16)) (Syntax.tyRef Syntax.erased Syntax.mut
+  abbrev s30 : Typed.Gives T29 T32
+  s30 = Relend.k-sl-relend (Referent.rtF (Referent.fInt Syntax.w16)) T29 3 21 2 9 (Syntax.tyRef (Syntax.named 2) Syntax.mut (Syntax.tyInt Syntax.w16)) (Syntax.tyRef Syntax.erased Syntax.mut
       (Syntax.tyInt Syntax.w16)) Row.off λ x. x
 
-  abbrev s30 : Typed.Asks T31 T32
-  s30 = Relend.k-sl-aggregate (Referent.rtF (Referent.fInt Syntax.w16)) (Relend.asMut (Referent.rtF (Referent.fInt Syntax.w16))) T31 20 21 9 (Syntax.tyRef Syntax.erased Syntax.mut (Syntax.tyInt
+  abbrev s31 : Typed.Asks T32 T33
+  s31 = Relend.k-sl-aggregate (Referent.rtF (Referent.fInt Syntax.w16)) (Relend.asMut (Referent.rtF (Referent.fInt Syntax.w16))) T32 21 22 9 (Syntax.tyRef Syntax.erased Syntax.mut (Syntax.tyInt
       Syntax.w16)) (Syntax.tyRef Syntax.erased Syntax.mut (Syntax.tyInt Syntax.w16)) (λ x. x) (Scalar.oFld 3 (List._∷_ (Syntax.field 1) List.[]) (Syntax.tyInt Syntax.w64) 8 λ v. Shared.lenV (v .0))
 
-  abbrev s31 : Typed.Both T32 T33
-  s31 = Call.callB ps·1 r·1 (claims· .2) (claims· .3) T32 (record { pos = 21; ty = Syntax.tyRef Syntax.erased Syntax.mut (Syntax.tyInt Syntax.w16); ref = λ x. x }, tt) 19 (List._∷_ 9 List.[])
+  abbrev s32 : Typed.Both T33 T34
+  s32 = Call.callB ps·1 r·1 (claims· .2) (claims· .3) T33 (record { pos = 22; ty = Syntax.tyRef Syntax.erased Syntax.mut (Syntax.tyInt Syntax.w16); ref = λ x. x }, tt) 20 (List._∷_ 9 List.[])
       Syntax.tyUnit
 
-  abbrev s32 : Typed.Mo T33 → Typed.Mo T34
-  s32 = Scalar.n-room T33 19 Syntax.tyUnit
+  abbrev s33 : Typed.Mo T34 → Typed.Mo T35
+  s33 = Scalar.n-room T34 20 Syntax.tyUnit
 
-  abbrev s34 : Typed.Both T34 T36
-  s34 = Relend.k-back-sl (Referent.rtF (Referent.fInt Syntax.w16)) T34 21 3 2 9 (Syntax.tyRef (Syntax.named 2) Syntax.mut (Syntax.tyInt Syntax.w16)) (Syntax.tyRef Syntax.erased Syntax.mut
+  abbrev s35 : Typed.Both T35 T37
+  s35 = Relend.k-back-sl (Referent.rtF (Referent.fInt Syntax.w16)) T35 22 3 2 9 (Syntax.tyRef (Syntax.named 2) Syntax.mut (Syntax.tyInt Syntax.w16)) (Syntax.tyRef Syntax.erased Syntax.mut
       (Syntax.tyInt Syntax.w16)) Row.off (λ x. x) λ x. x
 
-  abbrev s35 : Typed.Gives T36 T37
-  s35 = Know.k-sl-known (Referent.fInt Syntax.w16) T36 3 2 (Syntax.tyRef (Syntax.named 2) Syntax.mut (Syntax.tyInt Syntax.w16)) Row.off 0 λ x. x
+  abbrev s36 : Typed.Gives T37 T38
+  s36 = Know.k-sl-known (Referent.fInt Syntax.w16) T37 3 2 (Syntax.tyRef (Syntax.named 2) Syntax.mut (Syntax.tyInt Syntax.w16)) Row.off 0 λ x. x
 
-  abbrev s38 : Typed.Gives T37 T40
-  s38 = Relend.k-sl-relend (Element.type) T37 4 22 3 10 (Syntax.tyRef (Syntax.named 3) Syntax.mut Element.behind) (Syntax.tyRef Syntax.erased Syntax.mut Element.behind) Row.off λ x. x
+  abbrev s39 : Typed.Gives T38 T41
+  s39 = Relend.k-sl-relend (Element.type) T38 4 23 3 10 (Syntax.tyRef (Syntax.named 3) Syntax.mut Element.behind) (Syntax.tyRef Syntax.erased Syntax.mut Element.behind) Row.off λ x. x
 
-  abbrev s39 : Typed.Asks T40 T41
-  s39 = Relend.k-sl-aggregate (Element.type) (Relend.asMut (Element.type)) T40 22 23 10 (Syntax.tyRef Syntax.erased Syntax.mut Element.behind) (Syntax.tyRef Syntax.erased Syntax.mut Element.behind) (λ
+  abbrev s40 : Typed.Asks T41 T42
+  s40 = Relend.k-sl-aggregate (Element.type) (Relend.asMut (Element.type)) T41 23 24 10 (Syntax.tyRef Syntax.erased Syntax.mut Element.behind) (Syntax.tyRef Syntax.erased Syntax.mut Element.behind) (λ
       x. x) (Scalar.oFld 4 (List._∷_ (Syntax.field 1) List.[]) (Syntax.tyInt Syntax.w64) 8 λ v. Shared.lenV (v .0))
 
-  abbrev s40 : Typed.Both T41 T42
-  s40 = Call.callB ps·2 r·2 (claims· .4) (claims· .5) T41 (record { pos = 23; ty = Syntax.tyRef Syntax.erased Syntax.mut Element.behind; ref = λ x. x }, tt) 19 (List._∷_ 10 List.[]) Syntax.tyUnit
+  abbrev s41 : Typed.Both T42 T43
+  s41 = Call.callB ps·2 r·2 (claims· .4) (claims· .5) T42 (record { pos = 24; ty = Syntax.tyRef Syntax.erased Syntax.mut Element.behind; ref = λ x. x }, tt) 20 (List._∷_ 10 List.[]) Syntax.tyUnit
 
-  abbrev s41 : Typed.Mo T42 → Typed.Mo T43
-  s41 = Scalar.n-room T42 19 Syntax.tyUnit
+  abbrev s42 : Typed.Mo T43 → Typed.Mo T44
+  s42 = Scalar.n-room T43 20 Syntax.tyUnit
 
-  abbrev s43 : Typed.Both T43 T45
-  s43 = Relend.k-back-sl (Element.type) T43 23 4 3 10 (Syntax.tyRef (Syntax.named 3) Syntax.mut Element.behind) (Syntax.tyRef Syntax.erased Syntax.mut Element.behind) Row.off (λ x. x) λ x. x
+  abbrev s44 : Typed.Both T44 T46
+  s44 = Relend.k-back-sl (Element.type) T44 24 4 3 10 (Syntax.tyRef (Syntax.named 3) Syntax.mut Element.behind) (Syntax.tyRef Syntax.erased Syntax.mut Element.behind) Row.off (λ x. x) λ x. x
 
-  abbrev s45 : Typed.Mo T45 → Typed.Mo T47
-  s45 = LocalCopy.n-val-copy T45 12 0 (Declared.row Walked.the-type) (Rows'.whole (Declared.row Walked.the-type)) (Rows'.whole (Declared.row Walked.the-type)) (λ x. x) (λ x. x) λ x. x
-
-  abbrev s46 : Typed.Mo T47 → Typed.Mo T48
-  s46 = Scalar.n-room T47 12 (Syntax.tyEnum (List._∷_ 98 (List._∷_ 108 (List._∷_ 111 (List._∷_ 99 (List._∷_ 107 (List._∷_ 58 (List._∷_ 58 (List._∷_ 87 (List._∷_ 97 (List._∷_ 108 (List._∷_ 107
-      (List._∷_ 101 (List._∷_ 100 List.[]))))))))))))) (Syntax.ttcons (Syntax.tcons y1 (Syntax.tcons y5 Syntax.tnil)) (Syntax.ttcons (Syntax.tcons (Syntax.tyInt Syntax.w64) (Syntax.tcons y1 Syntax.tnil))
-      Syntax.ttnil)))
+  abbrev s46 : Typed.Mo T46 → Typed.Mo T48
+  s46 = LocalCopy.n-val-copy T46 13 0 (Declared.row Walked.the-type) (Rows'.whole (Declared.row Walked.the-type)) (Rows'.whole (Declared.row Walked.the-type)) (λ x. x) (λ x. x) λ x. x
 
   abbrev s47 : Typed.Mo T48 → Typed.Mo T49
-  s47 = Scalar.n-room T48 10 (Syntax.tyInt Syntax.w64)
+  s47 = Scalar.n-room T48 13 (Syntax.tyEnum (List._∷_ 98 (List._∷_ 108 (List._∷_ 111 (List._∷_ 99 (List._∷_ 107 (List._∷_ 58 (List._∷_ 58 (List._∷_ 87 (List._∷_ 97 (List._∷_ 108 (List._∷_ 107
+      (List._∷_ 101 (List._∷_ 100 List.[]))))))))))))) (Syntax.ttcons (Syntax.tcons y2 (Syntax.tcons y6 Syntax.tnil)) (Syntax.ttcons (Syntax.tcons (Syntax.tyInt Syntax.w64) (Syntax.tcons y2 Syntax.tnil))
+      Syntax.ttnil)))
 
   abbrev s48 : Typed.Mo T49 → Typed.Mo T50
-  s48 = Scalar.n-room T49 11 Syntax.tyBool
+  s48 = Scalar.n-room T49 10 (Syntax.tyInt Syntax.w64)
+
+  abbrev s49 : Typed.Mo T50 → Typed.Mo T51
+  s49 = Scalar.n-room T50 11 Syntax.tyBool
 
   module _ (Pre· : (κs : Lifetimes.Lfts 6) → Kinds.Dens κs ps → Type 0) (Post· : (κs : Lifetimes.Lfts 6) → (a : Kinds.Dens κs ps) → Kinds.Plain 6 ps r κs) where
     module _ (M : Type 1) where
@@ -848,158 +915,161 @@ module _ (claims· : Claims) where
           "block::records::clear_records") → Statement.Triple 𝓤 (Wp.WpFn 𝓤 H (𝓣 .C) (𝓣 .Λ) (Function.fnOf 6 ps r xs m hs body)) (Function.plainOf 𝓤 H A 6 ps r Pre· Post·)
 
     module _ where
-      abbrev at0 : Typed.TF T50 O0
+      abbrev at0 : Typed.TF T51 O0
       at0 = Typed.atRet O0
 
-      abbrev at1 : Typed.TF T49 O0
-      at1 = λ Ψ. Typed.pass T49 T50 s48 (at0 Ψ)
+      abbrev at1 : Typed.TF T50 O0
+      at1 = λ Ψ. Typed.pass T50 T51 s49 (at0 Ψ)
 
-      abbrev at2 : Typed.TF T48 O0
-      at2 = λ Ψ. Typed.pass T48 T49 s47 (at1 Ψ)
+      abbrev at2 : Typed.TF T49 O0
+      at2 = λ Ψ. Typed.pass T49 T50 s48 (at1 Ψ)
 
-      abbrev at3 : Typed.TF T47 O0
-      at3 = λ Ψ. Typed.pass T47 T48 s46 (at2 Ψ)
+      abbrev at3 : Typed.TF T48 O0
+      at3 = λ Ψ. Typed.pass T48 T49 s47 (at2 Ψ)
 
-      abbrev at4 : Typed.TF T45 O0
-      at4 = λ Ψ. Typed.pass T45 T47 s45 (at3 Ψ)
+      abbrev at4 : Typed.TF T46 O0
+      at4 = λ Ψ. Typed.pass T46 T48 s46 (at3 Ψ)
 
-      abbrev at5 : Typed.TF T45 O0
+      abbrev at5 : Typed.TF T46 O0
       at5 = λ Ψ. at4 Ψ
 
-      abbrev at6 : Typed.TF T43 O0
-      at6 = λ Ψ. Typed.both s43 (at5 Ψ)
+      abbrev at6 : Typed.TF T44 O0
+      at6 = λ Ψ. Typed.both s44 (at5 Ψ)
 
-      abbrev at7 : Typed.TF T43 O0
+      abbrev at7 : Typed.TF T44 O0
       at7 = λ Ψ. at6 Ψ
 
-      abbrev at8 : Typed.TF T42 O0
-      at8 = λ Ψ. Typed.pass T42 T43 s41 (at7 Ψ)
+      abbrev at8 : Typed.TF T43 O0
+      at8 = λ Ψ. Typed.pass T43 T44 s42 (at7 Ψ)
 
-      abbrev at9 : Typed.TF T41 O0
-      at9 = λ Ψ. Typed.both s40 (at8 Ψ)
+      abbrev at9 : Typed.TF T42 O0
+      at9 = λ Ψ. Typed.both s41 (at8 Ψ)
 
-      abbrev at10 : Typed.TF T40 O0
-      at10 = λ Ψ. Typed.ask s39 (at9 Ψ)
+      abbrev at10 : Typed.TF T41 O0
+      at10 = λ Ψ. Typed.ask s40 (at9 Ψ)
 
-      abbrev at11 : Typed.TF T37 O0
-      at11 = λ Ψ. Typed.give s38 (at10 Ψ)
+      abbrev at11 : Typed.TF T38 O0
+      at11 = λ Ψ. Typed.give s39 (at10 Ψ)
 
-      abbrev at12 : Typed.TF T37 O0
+      abbrev at12 : Typed.TF T38 O0
       at12 = λ Ψ. at11 Ψ
 
-      abbrev at13 : Typed.TF T37 O0
+      abbrev at13 : Typed.TF T38 O0
       at13 = λ Ψ. at12 Ψ
 
-      abbrev at14 : Typed.TF T36 O0
-      at14 = λ Ψ. Typed.give s35 (at13 Ψ)
+      abbrev at14 : Typed.TF T37 O0
+      at14 = λ Ψ. Typed.give s36 (at13 Ψ)
 
-      abbrev at15 : Typed.TF T34 O0
-      at15 = λ Ψ. Typed.both s34 (at14 Ψ)
+      abbrev at15 : Typed.TF T35 O0
+      at15 = λ Ψ. Typed.both s35 (at14 Ψ)
 
-      abbrev at16 : Typed.TF T34 O0
+      abbrev at16 : Typed.TF T35 O0
       at16 = λ Ψ. at15 Ψ
 
-      abbrev at17 : Typed.TF T33 O0
-      at17 = λ Ψ. Typed.pass T33 T34 s32 (at16 Ψ)
+      abbrev at17 : Typed.TF T34 O0
+      at17 = λ Ψ. Typed.pass T34 T35 s33 (at16 Ψ)
 
-      abbrev at18 : Typed.TF T32 O0
-      at18 = λ Ψ. Typed.both s31 (at17 Ψ)
+      abbrev at18 : Typed.TF T33 O0
+      at18 = λ Ψ. Typed.both s32 (at17 Ψ)
 
-      abbrev at19 : Typed.TF T31 O0
-      at19 = λ Ψ. Typed.ask s30 (at18 Ψ)
+      abbrev at19 : Typed.TF T32 O0
+      at19 = λ Ψ. Typed.ask s31 (at18 Ψ)
 
-      abbrev at20 : Typed.TF T28 O0
-      at20 = λ Ψ. Typed.give s29 (at19 Ψ)
+      abbrev at20 : Typed.TF T29 O0
+      at20 = λ Ψ. Typed.give s30 (at19 Ψ)
 
-      abbrev at21 : Typed.TF T28 O0
+      abbrev at21 : Typed.TF T29 O0
       at21 = λ Ψ. at20 Ψ
 
-      abbrev at22 : Typed.TF T28 O0
+      abbrev at22 : Typed.TF T29 O0
       at22 = λ Ψ. at21 Ψ
 
-      abbrev at23 : Typed.TF T27 O0
-      at23 = λ Ψ. Typed.give s26 (at22 Ψ)
+      abbrev at23 : Typed.TF T28 O0
+      at23 = λ Ψ. Typed.give s27 (at22 Ψ)
 
-      abbrev at24 : Typed.TF T24 O0
-      at24 = λ Ψ. Typed.both s25 (at23 Ψ)
+      abbrev at24 : Typed.TF T25 O0
+      at24 = λ Ψ. Typed.both s26 (at23 Ψ)
 
-      abbrev at25 : Typed.TF T24 O0
+      abbrev at25 : Typed.TF T25 O0
       at25 = λ Ψ. at24 Ψ
 
-      abbrev at26 : Typed.TF T24 O0
+      abbrev at26 : Typed.TF T25 O0
       at26 = λ Ψ. at25 Ψ
 
-      abbrev at27 : Typed.TF T21 O0
-      at27 = λ Ψ. Typed.both s22 (at26 Ψ)
+      abbrev at27 : Typed.TF T22 O0
+      at27 = λ Ψ. Typed.both s23 (at26 Ψ)
 
-      abbrev at28 : Typed.TF T21 O0
+      abbrev at28 : Typed.TF T22 O0
       at28 = λ Ψ. at27 Ψ
 
-      abbrev at29 : Typed.TF T21 O0
+      abbrev at29 : Typed.TF T22 O0
       at29 = λ Ψ. at28 Ψ
 
-      abbrev at30 : Typed.TF T20 O0
-      at30 = λ Ψ. Typed.give s19 (at29 Ψ)
+      abbrev at30 : Typed.TF T21 O0
+      at30 = λ Ψ. Typed.give s20 (at29 Ψ)
 
-      abbrev at31 : Typed.TF T18 O0
-      at31 = λ Ψ. Typed.both s18 (at30 Ψ)
+      abbrev at31 : Typed.TF T19 O0
+      at31 = λ Ψ. Typed.both s19 (at30 Ψ)
 
-      abbrev at32 : Typed.TF T18 O0
+      abbrev at32 : Typed.TF T19 O0
       at32 = λ Ψ. at31 Ψ
 
-      abbrev at33 : Typed.TF T17 O0
-      at33 = λ Ψ. Typed.pass T17 T18 s16 (at32 Ψ)
+      abbrev at33 : Typed.TF T18 O0
+      at33 = λ Ψ. Typed.pass T18 T19 s17 (at32 Ψ)
 
-      abbrev at34 : Typed.TF T16 O0
-      at34 = λ Ψ. Typed.pass T16 T17 s15 (at33 Ψ)
+      abbrev at34 : Typed.TF T17 O0
+      at34 = λ Ψ. Typed.pass T17 T18 s16 (at33 Ψ)
 
-      abbrev at35 : Typed.TF T15 O0
-      at35 = λ Ψ. Typed.pass T15 T16 s14 (at34 Ψ)
+      abbrev at35 : Typed.TF T16 O0
+      at35 = λ Ψ. Typed.pass T16 T17 s15 (at34 Ψ)
 
-      abbrev at36 : Typed.TF T14 O0
-      at36 = λ Ψ. Typed.both s13 (at35 Ψ)
+      abbrev at36 : Typed.TF T15 O0
+      at36 = λ Ψ. Typed.pass T15 T16 s14 (at35 Ψ)
 
-      abbrev at37 : Typed.TF T13 O0
-      at37 = λ Ψ. Typed.ask s12 (at36 Ψ)
+      abbrev at37 : Typed.TF T14 O0
+      at37 = λ Ψ. Typed.both s13 (at36 Ψ)
 
-      abbrev at38 : Typed.TF T11 O0
-      at38 = λ Ψ. Typed.give s11 (at37 Ψ)
+      abbrev at38 : Typed.TF T13 O0
+      at38 = λ Ψ. Typed.ask s12 (at37 Ψ)
 
       abbrev at39 : Typed.TF T11 O0
-      at39 = λ Ψ. at38 Ψ
+      at39 = λ Ψ. Typed.give s11 (at38 Ψ)
 
-      abbrev at40 : Typed.TF T10 O0
-      at40 = λ Ψ. Typed.ask s9 (at39 Ψ)
+      abbrev at40 : Typed.TF T11 O0
+      at40 = λ Ψ. at39 Ψ
 
-      abbrev at41 : Typed.TF T8 O0
-      at41 = λ Ψ. Typed.give s8 (at40 Ψ)
+      abbrev at41 : Typed.TF T10 O0
+      at41 = λ Ψ. Typed.ask s9 (at40 Ψ)
 
       abbrev at42 : Typed.TF T8 O0
-      at42 = λ Ψ. at41 Ψ
+      at42 = λ Ψ. Typed.give s8 (at41 Ψ)
 
-      abbrev at43 : Typed.TF T7 O0
-      at43 = λ Ψ. Typed.ask s6 (at42 Ψ)
+      abbrev at43 : Typed.TF T8 O0
+      at43 = λ Ψ. at42 Ψ
 
-      abbrev at44 : Typed.TF T5 O0
-      at44 = λ Ψ. Typed.give s5 (at43 Ψ)
+      abbrev at44 : Typed.TF T7 O0
+      at44 = λ Ψ. Typed.ask s6 (at43 Ψ)
 
       abbrev at45 : Typed.TF T5 O0
-      at45 = λ Ψ. at44 Ψ
+      at45 = λ Ψ. Typed.give s5 (at44 Ψ)
 
-      abbrev at46 : Typed.TF T4 O0
-      at46 = λ Ψ. Typed.give s3 (at45 Ψ)
+      abbrev at46 : Typed.TF T5 O0
+      at46 = λ Ψ. at45 Ψ
 
-      abbrev at47 : Typed.TF T3 O0
-      at47 = λ Ψ. Typed.give s2 (at46 Ψ)
+      abbrev at47 : Typed.TF T4 O0
+      at47 = λ Ψ. Typed.give s3 (at46 Ψ)
 
-      abbrev at48 : Typed.TF T2 O0
-      at48 = λ Ψ. Typed.give s1 (at47 Ψ)
+      abbrev at48 : Typed.TF T3 O0
+      at48 = λ Ψ. Typed.give s2 (at47 Ψ)
 
-      abbrev at49 : Typed.TF T0 O0
-      at49 = λ Ψ. Typed.give s0 (at48 Ψ)
+      abbrev at49 : Typed.TF T2 O0
+      at49 = λ Ψ. Typed.give s1 (at48 Ψ)
+
+      abbrev at50 : Typed.TF T0 O0
+      at50 = λ Ψ. Typed.give s0 (at49 Ψ)
 
       abbrev pub Φ : Typed.TF T0 O0
-      Φ = at49
+      Φ = at50
 
       module _ {M : Type 1} (𝓤 : URA.URA M) (H : Wp.Heap 𝓤) (A : Atoms.Atoms 𝓤) (W : Kit.Given 𝓤 H A) (𝓣 : Wp.Tables 𝓤 H) where
         abbrev Knowns : Type 1
@@ -1008,82 +1078,83 @@ module _ (claims· : Claims) where
 
       module _ (κs : Lifetimes.Lfts 6) (qs : Lifetimes.Shares 6) where
         abbrev g3 : List.List Row.Entry
-        g3 = List._∷_ e0 (List._∷_ e2 (List._∷_ e22 (List._∷_
-            (3, Relend.mslice-owed (Referent.rtF (Referent.fInt Syntax.w16)) (Syntax.tyRef (Syntax.named 2) Syntax.mut (Syntax.tyInt Syntax.w16)) 2 6 (Row.lease (κs .1 .1 .0) (qs .1 .1 .0))) (List._∷_ e31
-            (List._∷_ e33 (List._∷_ e36 (List._∷_ e37 (List._∷_ e39 (List._∷_ e41 (List._∷_ e4 (List._∷_ e5 (List._∷_ e6 (List._∷_ e8 (List._∷_ e12 (List._∷_ e14 List.[])))))))))))))))
+        g3 = List._∷_ e0 (List._∷_ e2 (List._∷_ e21 (List._∷_
+            (3, Relend.mslice-owed (Referent.rtF (Referent.fInt Syntax.w16)) (Syntax.tyRef (Syntax.named 2) Syntax.mut (Syntax.tyInt Syntax.w16)) 2 6 (Row.lease (κs .1 .1 .0) (qs .1 .1 .0))) (List._∷_ e32
+            (List._∷_ e34 (List._∷_ e37 (List._∷_ e38 (List._∷_ e40 (List._∷_ e42 (List._∷_ e4 (List._∷_ e5 (List._∷_ e7 (List._∷_ e8 (List._∷_ e10 (List._∷_ e14 List.[])))))))))))))))
 
         abbrev g4 : List.List Row.Entry
-        g4 = List._∷_ e0 (List._∷_ e2 (List._∷_ e22 (List._∷_
-            (3, Relend.mslice-owed (Referent.rtF (Referent.fInt Syntax.w16)) (Syntax.tyRef (Syntax.named 2) Syntax.mut (Syntax.tyInt Syntax.w16)) 2 6 (Row.lease (κs .1 .1 .0) (qs .1 .1 .0))) (List._∷_ e31
-            (List._∷_ e33 (List._∷_ e36 (List._∷_ e37 (List._∷_ e39 (List._∷_ e41 (List._∷_ e4 (List._∷_ e5 (List._∷_ e6 (List._∷_ e9 (List._∷_ e11 (List._∷_ e14 List.[])))))))))))))))
+        g4 = List._∷_ e0 (List._∷_ e2 (List._∷_ e21 (List._∷_
+            (3, Relend.mslice-owed (Referent.rtF (Referent.fInt Syntax.w16)) (Syntax.tyRef (Syntax.named 2) Syntax.mut (Syntax.tyInt Syntax.w16)) 2 6 (Row.lease (κs .1 .1 .0) (qs .1 .1 .0))) (List._∷_ e32
+            (List._∷_ e34 (List._∷_ e37 (List._∷_ e38 (List._∷_ e40 (List._∷_ e42 (List._∷_ e4 (List._∷_ e5 (List._∷_ e7 (List._∷_ e8 (List._∷_ e11 (List._∷_ e13 List.[])))))))))))))))
 
         abbrev g5 : List.List Row.Entry
-        g5 = List._∷_ e0 (List._∷_ e2 (List._∷_ e22 (List._∷_
+        g5 = List._∷_ e0 (List._∷_ e2 (List._∷_ e21 (List._∷_
             (3, Relend.mslice-owed (Referent.rtF (Referent.fInt Syntax.w16)) (Syntax.tyRef (Syntax.named 2) Syntax.mut (Syntax.tyInt Syntax.w16)) 2 6 (Row.lease (κs .1 .1 .0) (qs .1 .1 .0))) (List._∷_
-            (4, Relend.mslice-owed (Element.type) (Syntax.tyRef (Syntax.named 3) Syntax.mut Element.behind) 3 7 (Row.lease (κs .1 .1 .1 .0) (qs .1 .1 .1 .0))) (List._∷_ e33 (List._∷_ e36 (List._∷_ e37
-            (List._∷_ e39 (List._∷_ e41 (List._∷_ e4 (List._∷_ e5 (List._∷_ e6 (List._∷_ e9 (List._∷_ e11 (List._∷_ e13 List.[])))))))))))))))
-
-        abbrev g6 : List.List Row.Entry
-        g6 = List._∷_ e0 (List._∷_ e2 (List._∷_ e22 (List._∷_
-            (3, Relend.mslice-owed (Referent.rtF (Referent.fInt Syntax.w16)) (Syntax.tyRef (Syntax.named 2) Syntax.mut (Syntax.tyInt Syntax.w16)) 2 6 (Row.lease (κs .1 .1 .0) (qs .1 .1 .0))) (List._∷_
-            (4, Relend.mslice-owed (Element.type) (Syntax.tyRef (Syntax.named 3) Syntax.mut Element.behind) 3 7 (Row.lease (κs .1 .1 .1 .0) (qs .1 .1 .1 .0))) (List._∷_ e33 (List._∷_ e36 (List._∷_ e37
-            (List._∷_ e39 (List._∷_ e41 (List._∷_ e4 (List._∷_ e5 (List._∷_ e6 (List._∷_ e9 (List._∷_ e11 (List._∷_ e14 List.[])))))))))))))))
+            (4, Relend.mslice-owed (Element.type) (Syntax.tyRef (Syntax.named 3) Syntax.mut Element.behind) 3 7 (Row.lease (κs .1 .1 .1 .0) (qs .1 .1 .1 .0))) (List._∷_ e34 (List._∷_ e37 (List._∷_ e38
+            (List._∷_ e40 (List._∷_ e42 (List._∷_ e4 (List._∷_ e5 (List._∷_ e7 (List._∷_ e8 (List._∷_ e11 (List._∷_ e13 List.[])))))))))))))))
 
         abbrev g8 : List.List Row.Entry
-        g8 = List._∷_ e0 (List._∷_ e2 (List._∷_ e22 (List._∷_
+        g8 = List._∷_ e0 (List._∷_ e2 (List._∷_ e21 (List._∷_
             (3, Relend.mslice-owed (Referent.rtF (Referent.fInt Syntax.w16)) (Syntax.tyRef (Syntax.named 2) Syntax.mut (Syntax.tyInt Syntax.w16)) 2 6 (Row.lease (κs .1 .1 .0) (qs .1 .1 .0))) (List._∷_
             (4, Relend.mslice-owed (Element.type) (Syntax.tyRef (Syntax.named 3) Syntax.mut Element.behind) 3 7 (Row.lease (κs .1 .1 .1 .0) (qs .1 .1 .1 .0))) (List._∷_
             (5, Relend.mslice-owed (Referent.rtF (Referent.fInt Syntax.w16)) (Syntax.tyRef (Syntax.named 4) Syntax.mut (Syntax.tyInt Syntax.w16)) 4 8 (Row.lease (κs .1 .1 .1 .1 .0) (qs .1 .1 .1 .1 .0)))
-            (List._∷_ e36 (List._∷_ e37 (List._∷_ e39 (List._∷_ e41 (List._∷_ e4 (List._∷_ e5 (List._∷_ e6 (List._∷_ e9 (List._∷_ e11 (List._∷_ e14 List.[])))))))))))))))
+            (List._∷_ e37 (List._∷_ e38 (List._∷_ e40 (List._∷_ e42 (List._∷_ e4 (List._∷_ e5 (List._∷_ e7 (List._∷_ e8 (List._∷_ e11 (List._∷_ e13 List.[])))))))))))))))
 
         abbrev g11 : List.List Row.Entry
-        g11 = List._∷_ e0 (List._∷_ e2 (List._∷_ e22 (List._∷_
+        g11 = List._∷_ e0 (List._∷_ e2 (List._∷_ e21 (List._∷_
             (3, Relend.mslice-owed (Referent.rtF (Referent.fInt Syntax.w16)) (Syntax.tyRef (Syntax.named 2) Syntax.mut (Syntax.tyInt Syntax.w16)) 2 6 (Row.lease (κs .1 .1 .0) (qs .1 .1 .0))) (List._∷_
             (4, Relend.mslice-owed (Element.type) (Syntax.tyRef (Syntax.named 3) Syntax.mut Element.behind) 3 7 (Row.lease (κs .1 .1 .1 .0) (qs .1 .1 .1 .0))) (List._∷_
             (5, Relend.mslice-owed (Referent.rtF (Referent.fInt Syntax.w16)) (Syntax.tyRef (Syntax.named 4) Syntax.mut (Syntax.tyInt Syntax.w16)) 4 8 (Row.lease (κs .1 .1 .1 .1 .0) (qs .1 .1 .1 .1 .0)))
-            (List._∷_ e36 (List._∷_ e37 (List._∷_ e39 (List._∷_ e41 (List._∷_ e4 (List._∷_ e5 (List._∷_ e7 (List._∷_ e9 (List._∷_ e10 (List._∷_ e14 List.[])))))))))))))))
+            (List._∷_ e37 (List._∷_ e38 (List._∷_ e40 (List._∷_ e42 (List._∷_ e4 (List._∷_ e5 (List._∷_ e7 (List._∷_ e9 (List._∷_ e11 (List._∷_ e12 List.[])))))))))))))))
 
         abbrev g13 : List.List Row.Entry
-        g13 = List._∷_ e0 (List._∷_ e2 (List._∷_ e22 (List._∷_
+        g13 = List._∷_ e0 (List._∷_ e2 (List._∷_ e21 (List._∷_
             (3, Relend.mslice-owed (Referent.rtF (Referent.fInt Syntax.w16)) (Syntax.tyRef (Syntax.named 2) Syntax.mut (Syntax.tyInt Syntax.w16)) 2 6 (Row.lease (κs .1 .1 .0) (qs .1 .1 .0))) (List._∷_
             (4, Relend.mslice-owed (Element.type) (Syntax.tyRef (Syntax.named 3) Syntax.mut Element.behind) 3 7 (Row.lease (κs .1 .1 .1 .0) (qs .1 .1 .1 .0))) (List._∷_
             (5, Relend.mslice-owed (Referent.rtF (Referent.fInt Syntax.w16)) (Syntax.tyRef (Syntax.named 4) Syntax.mut (Syntax.tyInt Syntax.w16)) 4 8 (Row.lease (κs .1 .1 .1 .1 .0) (qs .1 .1 .1 .1 .0)))
-            (List._∷_ e35 (List._∷_ e37 (List._∷_ e39 (List._∷_ e41 (List._∷_ e4 (List._∷_ e5 (List._∷_ e7 (List._∷_ e9 (List._∷_ e10 (List._∷_ e14 List.[])))))))))))))))
+            (List._∷_ e36 (List._∷_ e38 (List._∷_ e40 (List._∷_ e42 (List._∷_ e4 (List._∷_ e5 (List._∷_ e7 (List._∷_ e9 (List._∷_ e11 (List._∷_ e12 List.[])))))))))))))))
 
         abbrev g14 : List.List Row.Entry
-        g14 = List._∷_ e0 (List._∷_ e2 (List._∷_ e22 (List._∷_
+        g14 = List._∷_ e0 (List._∷_ e2 (List._∷_ e21 (List._∷_
             (3, Relend.mslice-owed (Referent.rtF (Referent.fInt Syntax.w16)) (Syntax.tyRef (Syntax.named 2) Syntax.mut (Syntax.tyInt Syntax.w16)) 2 6 (Row.lease (κs .1 .1 .0) (qs .1 .1 .0))) (List._∷_
             (4, Relend.mslice-owed (Element.type) (Syntax.tyRef (Syntax.named 3) Syntax.mut Element.behind) 3 7 (Row.lease (κs .1 .1 .1 .0) (qs .1 .1 .1 .0))) (List._∷_
             (5, Relend.mslice-owed (Referent.rtF (Referent.fInt Syntax.w16)) (Syntax.tyRef (Syntax.named 4) Syntax.mut (Syntax.tyInt Syntax.w16)) 4 8 (Row.lease (κs .1 .1 .1 .1 .0) (qs .1 .1 .1 .1 .0)))
-            (List._∷_ e35 (List._∷_ e37 (List._∷_ e38 (List._∷_ e41 (List._∷_ e4 (List._∷_ e5 (List._∷_ e7 (List._∷_ e9 (List._∷_ e10 (List._∷_ e14 List.[])))))))))))))))
+            (List._∷_ e36 (List._∷_ e38 (List._∷_ e39 (List._∷_ e42 (List._∷_ e4 (List._∷_ e5 (List._∷_ e7 (List._∷_ e9 (List._∷_ e11 (List._∷_ e12 List.[])))))))))))))))
 
         abbrev g15 : List.List Row.Entry
-        g15 = List._∷_ e0 (List._∷_ e2 (List._∷_ e22 (List._∷_
+        g15 = List._∷_ e0 (List._∷_ e2 (List._∷_ e21 (List._∷_
             (3, Relend.mslice-owed (Referent.rtF (Referent.fInt Syntax.w16)) (Syntax.tyRef (Syntax.named 2) Syntax.mut (Syntax.tyInt Syntax.w16)) 2 6 (Row.lease (κs .1 .1 .0) (qs .1 .1 .0))) (List._∷_
             (4, Relend.mslice-owed (Element.type) (Syntax.tyRef (Syntax.named 3) Syntax.mut Element.behind) 3 7 (Row.lease (κs .1 .1 .1 .0) (qs .1 .1 .1 .0))) (List._∷_
             (5, Relend.mslice-owed (Referent.rtF (Referent.fInt Syntax.w16)) (Syntax.tyRef (Syntax.named 4) Syntax.mut (Syntax.tyInt Syntax.w16)) 4 8 (Row.lease (κs .1 .1 .1 .1 .0) (qs .1 .1 .1 .1 .0)))
-            (List._∷_ e35 (List._∷_ e37 (List._∷_ e38 (List._∷_ e40 (List._∷_ e4 (List._∷_ e5 (List._∷_ e7 (List._∷_ e9 (List._∷_ e10 (List._∷_ e14 List.[])))))))))))))))
+            (List._∷_ e36 (List._∷_ e38 (List._∷_ e39 (List._∷_ e41 (List._∷_ e4 (List._∷_ e5 (List._∷_ e7 (List._∷_ e9 (List._∷_ e11 (List._∷_ e12 List.[])))))))))))))))
 
         abbrev g16 : List.List Row.Entry
-        g16 = List._∷_ e0 (List._∷_ e2 (List._∷_ e22 (List._∷_ e29 (List._∷_
+        g16 = List._∷_ e0 (List._∷_ e2 (List._∷_ e21 (List._∷_
+            (3, Relend.mslice-owed (Referent.rtF (Referent.fInt Syntax.w16)) (Syntax.tyRef (Syntax.named 2) Syntax.mut (Syntax.tyInt Syntax.w16)) 2 6 (Row.lease (κs .1 .1 .0) (qs .1 .1 .0))) (List._∷_
             (4, Relend.mslice-owed (Element.type) (Syntax.tyRef (Syntax.named 3) Syntax.mut Element.behind) 3 7 (Row.lease (κs .1 .1 .1 .0) (qs .1 .1 .1 .0))) (List._∷_
             (5, Relend.mslice-owed (Referent.rtF (Referent.fInt Syntax.w16)) (Syntax.tyRef (Syntax.named 4) Syntax.mut (Syntax.tyInt Syntax.w16)) 4 8 (Row.lease (κs .1 .1 .1 .1 .0) (qs .1 .1 .1 .1 .0)))
-            (List._∷_ e35 (List._∷_ e37 (List._∷_ e38 (List._∷_ e40 (List._∷_ e4 (List._∷_ e5 (List._∷_ e7 (List._∷_ e9 (List._∷_ e12 (List._∷_ e14 List.[])))))))))))))))
+            (List._∷_ e36 (List._∷_ e38 (List._∷_ e39 (List._∷_ e41 (List._∷_ e4 (List._∷_ e5 (List._∷_ e6 (List._∷_ e9 (List._∷_ e11 (List._∷_ e12 List.[])))))))))))))))
 
         abbrev g17 : List.List Row.Entry
-        g17 = List._∷_ e0 (List._∷_ e2 (List._∷_ e22 (List._∷_ e29 (List._∷_ e31 (List._∷_
+        g17 = List._∷_ e0 (List._∷_ e2 (List._∷_ e21 (List._∷_ e30 (List._∷_
+            (4, Relend.mslice-owed (Element.type) (Syntax.tyRef (Syntax.named 3) Syntax.mut Element.behind) 3 7 (Row.lease (κs .1 .1 .1 .0) (qs .1 .1 .1 .0))) (List._∷_
             (5, Relend.mslice-owed (Referent.rtF (Referent.fInt Syntax.w16)) (Syntax.tyRef (Syntax.named 4) Syntax.mut (Syntax.tyInt Syntax.w16)) 4 8 (Row.lease (κs .1 .1 .1 .1 .0) (qs .1 .1 .1 .1 .0)))
-            (List._∷_ e35 (List._∷_ e37 (List._∷_ e38 (List._∷_ e40 (List._∷_ e4 (List._∷_ e5 (List._∷_ e7 (List._∷_ e9 (List._∷_ e12 (List._∷_ e14 List.[])))))))))))))))
+            (List._∷_ e36 (List._∷_ e38 (List._∷_ e39 (List._∷_ e41 (List._∷_ e4 (List._∷_ e5 (List._∷_ e6 (List._∷_ e9 (List._∷_ e11 (List._∷_ e14 List.[])))))))))))))))
 
-        abbrev g20 : List.List Row.Entry
-        g20 = List._∷_ e0 (List._∷_ e2 (List._∷_ e22 (List._∷_
-            (3, Relend.mslice-owed (Referent.rtF (Referent.fInt Syntax.w16)) (Syntax.tyRef (Syntax.named 2) Syntax.mut (Syntax.tyInt Syntax.w16)) 2 9 (Row.lease (κs .1 .1 .0) (qs .1 .1 .0))) (List._∷_ e31
-            (List._∷_ e33 (List._∷_ e35 (List._∷_ e37 (List._∷_ e38 (List._∷_ e40 (List._∷_ e4 (List._∷_ e5 (List._∷_ e7 (List._∷_ e9 (List._∷_ e12 (List._∷_ e14 List.[])))))))))))))))
+        abbrev g18 : List.List Row.Entry
+        g18 = List._∷_ e0 (List._∷_ e2 (List._∷_ e21 (List._∷_ e30 (List._∷_ e32 (List._∷_
+            (5, Relend.mslice-owed (Referent.rtF (Referent.fInt Syntax.w16)) (Syntax.tyRef (Syntax.named 4) Syntax.mut (Syntax.tyInt Syntax.w16)) 4 8 (Row.lease (κs .1 .1 .1 .1 .0) (qs .1 .1 .1 .1 .0)))
+            (List._∷_ e36 (List._∷_ e38 (List._∷_ e39 (List._∷_ e41 (List._∷_ e4 (List._∷_ e5 (List._∷_ e6 (List._∷_ e9 (List._∷_ e11 (List._∷_ e14 List.[])))))))))))))))
 
-        abbrev g25 : List.List Row.Entry
-        g25 = List._∷_ e0 (List._∷_ e2 (List._∷_ e22 (List._∷_ e29 (List._∷_
-            (4, Relend.mslice-owed (Element.type) (Syntax.tyRef (Syntax.named 3) Syntax.mut Element.behind) 3 10 (Row.lease (κs .1 .1 .1 .0) (qs .1 .1 .1 .0))) (List._∷_ e33 (List._∷_ e35 (List._∷_ e37
-            (List._∷_ e38 (List._∷_ e40 (List._∷_ e4 (List._∷_ e5 (List._∷_ e7 (List._∷_ e9 (List._∷_ e12 (List._∷_ e14 List.[])))))))))))))))
+        abbrev g21 : List.List Row.Entry
+        g21 = List._∷_ e0 (List._∷_ e2 (List._∷_ e21 (List._∷_
+            (3, Relend.mslice-owed (Referent.rtF (Referent.fInt Syntax.w16)) (Syntax.tyRef (Syntax.named 2) Syntax.mut (Syntax.tyInt Syntax.w16)) 2 9 (Row.lease (κs .1 .1 .0) (qs .1 .1 .0))) (List._∷_ e32
+            (List._∷_ e34 (List._∷_ e36 (List._∷_ e38 (List._∷_ e39 (List._∷_ e41 (List._∷_ e4 (List._∷_ e5 (List._∷_ e6 (List._∷_ e9 (List._∷_ e11 (List._∷_ e14 List.[])))))))))))))))
+
+        abbrev g26 : List.List Row.Entry
+        g26 = List._∷_ e0 (List._∷_ e2 (List._∷_ e21 (List._∷_ e30 (List._∷_
+            (4, Relend.mslice-owed (Element.type) (Syntax.tyRef (Syntax.named 3) Syntax.mut Element.behind) 3 10 (Row.lease (κs .1 .1 .1 .0) (qs .1 .1 .1 .0))) (List._∷_ e34 (List._∷_ e36 (List._∷_ e38
+            (List._∷_ e39 (List._∷_ e41 (List._∷_ e4 (List._∷_ e5 (List._∷_ e6 (List._∷_ e9 (List._∷_ e11 (List._∷_ e14 List.[])))))))))))))))
 
         abbrev G0 : Row.Cx
         G0 = record {
@@ -1167,7 +1238,7 @@ module _ (claims· : Claims) where
 
         abbrev G10 : Row.Cx
         G10 = record {
-          locals = List._++_ g5 t1;
+          locals = List._++_ g5 t6;
           slots = List._∷_ (Row.lease (κs .0) (qs .0)) (List._∷_ (Row.lease (κs .1 .0) (qs .1 .0)) (List._∷_ Row.off (List._∷_ Row.off (List._∷_ (Row.lease (κs .1 .1 .1 .1
               .0) (qs .1 .1 .1 .1 .0)) (List._∷_ (Row.lease (κs .1 .1 .1 .1 .1 .0) (qs .1 .1 .1 .1 .1 .0)) (List._∷_ Row.alive (List._∷_ Row.alive (List._∷_ Row.off (List._∷_ Row.off (List._∷_ Row.off
               List.[]))))))))));
@@ -1175,7 +1246,7 @@ module _ (claims· : Claims) where
 
         abbrev G11 : Row.Cx
         G11 = record {
-          locals = List._++_ g6 t7;
+          locals = List._++_ g5 t7;
           slots = List._∷_ (Row.lease (κs .0) (qs .0)) (List._∷_ (Row.lease (κs .1 .0) (qs .1 .0)) (List._∷_ Row.off (List._∷_ Row.off (List._∷_ (Row.lease (κs .1 .1 .1 .1
               .0) (qs .1 .1 .1 .1 .0)) (List._∷_ (Row.lease (κs .1 .1 .1 .1 .1 .0) (qs .1 .1 .1 .1 .1 .0)) (List._∷_ Row.alive (List._∷_ Row.alive (List._∷_ Row.off (List._∷_ Row.off (List._∷_ Row.off
               List.[]))))))))));
@@ -1183,7 +1254,7 @@ module _ (claims· : Claims) where
 
         abbrev G12 : Row.Cx
         G12 = record {
-          locals = List._++_ g6 t7;
+          locals = List._++_ g5 t7;
           slots = List._∷_ (Row.lease (κs .0) (qs .0)) (List._∷_ (Row.lease (κs .1 .0) (qs .1 .0)) (List._∷_ Row.off (List._∷_ Row.off (List._∷_ (Row.lease (κs .1 .1 .1 .1
               .0) (qs .1 .1 .1 .1 .0)) (List._∷_ (Row.lease (κs .1 .1 .1 .1 .1 .0) (qs .1 .1 .1 .1 .1 .0)) (List._∷_ Row.alive (List._∷_ Row.alive (List._∷_ Row.alive (List._∷_ Row.off (List._∷_ Row.off
               List.[]))))))))));
@@ -1233,22 +1304,21 @@ module _ (claims· : Claims) where
 
         abbrev G19 : Row.Cx
         G19 = record {
-          locals = List._++_ g15 t12;
+          locals = List._++_ g16 t12;
           slots = List._∷_ (Row.lease (κs .0) (qs .0)) (List._∷_ (Row.lease (κs .1 .0) (qs .1 .0)) (List._∷_ Row.off (List._∷_ Row.off (List._∷_ Row.off (List._∷_
-              (Row.lease (κs .1 .1 .1 .1 .1 .0) (qs .1 .1 .1 .1 .1 .0)) (List._∷_ Row.dead (List._∷_ Row.alive (List._∷_ Row.alive (List._∷_ Row.off (List._∷_ Row.off List.[]))))))))));
+              (Row.lease (κs .1 .1 .1 .1 .1 .0) (qs .1 .1 .1 .1 .1 .0)) (List._∷_ Row.alive (List._∷_ Row.alive (List._∷_ Row.alive (List._∷_ Row.off (List._∷_ Row.off List.[]))))))))));
         }
 
         abbrev G20 : Row.Cx
         G20 = record {
           locals = List._++_ g16 t12;
-          slots = List._∷_ (Row.lease (κs .0) (qs .0)) (List._∷_ (Row.lease (κs .1 .0) (qs .1 .0)) (List._∷_ (Row.lease (κs .1 .1 .0) (qs .1 .1 .0)) (List._∷_ Row.off
-              (List._∷_ Row.off (List._∷_ (Row.lease (κs .1 .1 .1 .1 .1 .0) (qs .1 .1 .1 .1 .1 .0)) (List._∷_ Row.dead (List._∷_ Row.alive (List._∷_ Row.alive (List._∷_ Row.off (List._∷_ Row.off
-              List.[]))))))))));
+          slots = List._∷_ (Row.lease (κs .0) (qs .0)) (List._∷_ (Row.lease (κs .1 .0) (qs .1 .0)) (List._∷_ Row.off (List._∷_ Row.off (List._∷_ Row.off (List._∷_
+              (Row.lease (κs .1 .1 .1 .1 .1 .0) (qs .1 .1 .1 .1 .1 .0)) (List._∷_ Row.dead (List._∷_ Row.alive (List._∷_ Row.alive (List._∷_ Row.off (List._∷_ Row.off List.[]))))))))));
         }
 
         abbrev G21 : Row.Cx
         G21 = record {
-          locals = List._++_ g16 t12;
+          locals = List._++_ g17 t12;
           slots = List._∷_ (Row.lease (κs .0) (qs .0)) (List._∷_ (Row.lease (κs .1 .0) (qs .1 .0)) (List._∷_ (Row.lease (κs .1 .1 .0) (qs .1 .1 .0)) (List._∷_ Row.off
               (List._∷_ Row.off (List._∷_ (Row.lease (κs .1 .1 .1 .1 .1 .0) (qs .1 .1 .1 .1 .1 .0)) (List._∷_ Row.dead (List._∷_ Row.alive (List._∷_ Row.alive (List._∷_ Row.off (List._∷_ Row.off
               List.[]))))))))));
@@ -1256,55 +1326,55 @@ module _ (claims· : Claims) where
 
         abbrev G22 : Row.Cx
         G22 = record {
-          locals = List._++_ g16 t12;
+          locals = List._++_ g17 t12;
           slots = List._∷_ (Row.lease (κs .0) (qs .0)) (List._∷_ (Row.lease (κs .1 .0) (qs .1 .0)) (List._∷_ (Row.lease (κs .1 .1 .0) (qs .1 .1 .0)) (List._∷_ Row.off
-              (List._∷_ Row.off (List._∷_ (Row.lease (κs .1 .1 .1 .1 .1 .0) (qs .1 .1 .1 .1 .1 .0)) (List._∷_ Row.off (List._∷_ Row.alive (List._∷_ Row.alive (List._∷_ Row.off (List._∷_ Row.off
+              (List._∷_ Row.off (List._∷_ (Row.lease (κs .1 .1 .1 .1 .1 .0) (qs .1 .1 .1 .1 .1 .0)) (List._∷_ Row.dead (List._∷_ Row.alive (List._∷_ Row.alive (List._∷_ Row.off (List._∷_ Row.off
               List.[]))))))))));
         }
 
         abbrev G23 : Row.Cx
         G23 = record {
-          locals = List._++_ g16 t12;
+          locals = List._++_ g17 t12;
           slots = List._∷_ (Row.lease (κs .0) (qs .0)) (List._∷_ (Row.lease (κs .1 .0) (qs .1 .0)) (List._∷_ (Row.lease (κs .1 .1 .0) (qs .1 .1 .0)) (List._∷_ Row.off
-              (List._∷_ Row.off (List._∷_ (Row.lease (κs .1 .1 .1 .1 .1 .0) (qs .1 .1 .1 .1 .1 .0)) (List._∷_ Row.off (List._∷_ Row.dead (List._∷_ Row.alive (List._∷_ Row.off (List._∷_ Row.off
+              (List._∷_ Row.off (List._∷_ (Row.lease (κs .1 .1 .1 .1 .1 .0) (qs .1 .1 .1 .1 .1 .0)) (List._∷_ Row.off (List._∷_ Row.alive (List._∷_ Row.alive (List._∷_ Row.off (List._∷_ Row.off
               List.[]))))))))));
         }
 
         abbrev G24 : Row.Cx
         G24 = record {
-          locals = List._++_ g17 t18;
+          locals = List._++_ g17 t12;
+          slots = List._∷_ (Row.lease (κs .0) (qs .0)) (List._∷_ (Row.lease (κs .1 .0) (qs .1 .0)) (List._∷_ (Row.lease (κs .1 .1 .0) (qs .1 .1 .0)) (List._∷_ Row.off
+              (List._∷_ Row.off (List._∷_ (Row.lease (κs .1 .1 .1 .1 .1 .0) (qs .1 .1 .1 .1 .1 .0)) (List._∷_ Row.off (List._∷_ Row.dead (List._∷_ Row.alive (List._∷_ Row.off (List._∷_ Row.off
+              List.[]))))))))));
+        }
+
+        abbrev G25 : Row.Cx
+        G25 = record {
+          locals = List._++_ g18 t19;
           slots = List._∷_ (Row.lease (κs .0) (qs .0)) (List._∷_ (Row.lease (κs .1 .0) (qs .1 .0)) (List._∷_ (Row.lease (κs .1 .1 .0) (qs .1 .1 .0)) (List._∷_ (Row.lease
               (κs .1 .1 .1 .0) (qs .1 .1 .1 .0)) (List._∷_ Row.off (List._∷_ (Row.lease (κs .1 .1 .1 .1 .1 .0) (qs .1 .1 .1 .1 .1 .0)) (List._∷_ Row.off (List._∷_ Row.dead (List._∷_ Row.alive (List._∷_
               Row.off (List._∷_ Row.off List.[]))))))))));
         }
 
-        abbrev G25 : Row.Cx
-        G25 = record {
-          locals = List._++_ g17 t18;
+        abbrev G26 : Row.Cx
+        G26 = record {
+          locals = List._++_ g18 t19;
           slots = List._∷_ (Row.lease (κs .0) (qs .0)) (List._∷_ (Row.lease (κs .1 .0) (qs .1 .0)) (List._∷_ (Row.lease (κs .1 .1 .0) (qs .1 .1 .0)) (List._∷_ (Row.lease
               (κs .1 .1 .1 .0) (qs .1 .1 .1 .0)) (List._∷_ Row.off (List._∷_ (Row.lease (κs .1 .1 .1 .1 .1 .0) (qs .1 .1 .1 .1 .1 .0)) (List._∷_ Row.off (List._∷_ Row.off (List._∷_ Row.alive (List._∷_
               Row.off (List._∷_ Row.off List.[]))))))))));
         }
 
-        abbrev G26 : Row.Cx
-        G26 = record {
-          locals = List._++_ g17 t18;
+        abbrev G27 : Row.Cx
+        G27 = record {
+          locals = List._++_ g18 t19;
           slots = List._∷_ (Row.lease (κs .0) (qs .0)) (List._∷_ (Row.lease (κs .1 .0) (qs .1 .0)) (List._∷_ (Row.lease (κs .1 .1 .0) (qs .1 .1 .0)) (List._∷_ (Row.lease
               (κs .1 .1 .1 .0) (qs .1 .1 .1 .0)) (List._∷_ Row.off (List._∷_ (Row.lease (κs .1 .1 .1 .1 .1 .0) (qs .1 .1 .1 .1 .1 .0)) (List._∷_ Row.off (List._∷_ Row.off (List._∷_ Row.dead (List._∷_
               Row.off (List._∷_ Row.off List.[]))))))))));
         }
 
-        abbrev G27 : Row.Cx
-        G27 = record {
-          locals = List._++_ t19 t1;
-          slots = List._∷_ (Row.lease (κs .0) (qs .0)) (List._∷_ (Row.lease (κs .1 .0) (qs .1 .0)) (List._∷_ (Row.lease (κs .1 .1 .0) (qs .1 .1 .0)) (List._∷_ (Row.lease (κs
-              .1 .1 .1 .0) (qs .1 .1 .1 .0)) (List._∷_ (Row.lease (κs .1 .1 .1 .1 .0) (qs .1 .1 .1 .1 .0)) (List._∷_ (Row.lease (κs .1 .1 .1 .1 .1 .0) (qs .1 .1 .1 .1 .1 .0)) (List._∷_ Row.off (List._∷_
-              Row.off (List._∷_ Row.dead (List._∷_ Row.off (List._∷_ Row.off List.[]))))))))));
-        }
-
         abbrev G28 : Row.Cx
         G28 = record {
-          locals = List._++_ t19 t1;
+          locals = List._++_ t20 t1;
           slots = List._∷_ (Row.lease (κs .0) (qs .0)) (List._∷_ (Row.lease (κs .1 .0) (qs .1 .0)) (List._∷_ (Row.lease (κs .1 .1 .0) (qs .1 .1 .0)) (List._∷_ (Row.lease (κs
               .1 .1 .1 .0) (qs .1 .1 .1 .0)) (List._∷_ (Row.lease (κs .1 .1 .1 .1 .0) (qs .1 .1 .1 .1 .0)) (List._∷_ (Row.lease (κs .1 .1 .1 .1 .1 .0) (qs .1 .1 .1 .1 .1 .0)) (List._∷_ Row.off (List._∷_
               Row.off (List._∷_ Row.dead (List._∷_ Row.off (List._∷_ Row.off List.[]))))))))));
@@ -1312,31 +1382,31 @@ module _ (claims· : Claims) where
 
         abbrev G29 : Row.Cx
         G29 = record {
-          locals = List._++_ t19 t1;
+          locals = List._++_ t20 t1;
+          slots = List._∷_ (Row.lease (κs .0) (qs .0)) (List._∷_ (Row.lease (κs .1 .0) (qs .1 .0)) (List._∷_ (Row.lease (κs .1 .1 .0) (qs .1 .1 .0)) (List._∷_ (Row.lease (κs
+              .1 .1 .1 .0) (qs .1 .1 .1 .0)) (List._∷_ (Row.lease (κs .1 .1 .1 .1 .0) (qs .1 .1 .1 .1 .0)) (List._∷_ (Row.lease (κs .1 .1 .1 .1 .1 .0) (qs .1 .1 .1 .1 .1 .0)) (List._∷_ Row.off (List._∷_
+              Row.off (List._∷_ Row.dead (List._∷_ Row.off (List._∷_ Row.off List.[]))))))))));
+        }
+
+        abbrev G30 : Row.Cx
+        G30 = record {
+          locals = List._++_ t20 t1;
           slots = List._∷_ (Row.lease (κs .0) (qs .0)) (List._∷_ (Row.lease (κs .1 .0) (qs .1 .0)) (List._∷_ (Row.lease (κs .1 .1 .0) (qs .1 .1 .0)) (List._∷_ (Row.lease (κs
               .1 .1 .1 .0) (qs .1 .1 .1 .0)) (List._∷_ (Row.lease (κs .1 .1 .1 .1 .0) (qs .1 .1 .1 .1 .0)) (List._∷_ (Row.lease (κs .1 .1 .1 .1 .1 .0) (qs .1 .1 .1 .1 .1 .0)) (List._∷_ Row.off (List._∷_
               Row.off (List._∷_ Row.off (List._∷_ Row.off (List._∷_ Row.off List.[]))))))))));
         }
 
-        abbrev G30 : Row.Cx
-        G30 = record {
-          locals = List._++_ t19 t1;
+        abbrev G31 : Row.Cx
+        G31 = record {
+          locals = List._++_ t20 t1;
           slots = List._∷_ (Row.lease (κs .0) (qs .0)) (List._∷_ (Row.lease (κs .1 .0) (qs .1 .0)) (List._∷_ (Row.lease (κs .1 .1 .0) (qs .1 .1 .0)) (List._∷_ (Row.lease (κs
               .1 .1 .1 .0) (qs .1 .1 .1 .0)) (List._∷_ (Row.lease (κs .1 .1 .1 .1 .0) (qs .1 .1 .1 .1 .0)) (List._∷_ (Row.lease (κs .1 .1 .1 .1 .1 .0) (qs .1 .1 .1 .1 .1 .0)) (List._∷_ Row.off (List._∷_
               Row.off (List._∷_ Row.off (List._∷_ Row.alive (List._∷_ Row.off List.[]))))))))));
         }
 
-        abbrev G31 : Row.Cx
-        G31 = record {
-          locals = List._++_ g20 t21;
-          slots = List._∷_ (Row.lease (κs .0) (qs .0)) (List._∷_ (Row.lease (κs .1 .0) (qs .1 .0)) (List._∷_ Row.off (List._∷_ (Row.lease (κs .1 .1 .1 .0) (qs .1 .1 .1 .0))
-              (List._∷_ (Row.lease (κs .1 .1 .1 .1 .0) (qs .1 .1 .1 .1 .0)) (List._∷_ (Row.lease (κs .1 .1 .1 .1 .1 .0) (qs .1 .1 .1 .1 .1 .0)) (List._∷_ Row.off (List._∷_ Row.off (List._∷_ Row.off
-              (List._∷_ Row.alive (List._∷_ Row.off List.[]))))))))));
-        }
-
         abbrev G32 : Row.Cx
         G32 = record {
-          locals = List._++_ g20 t22;
+          locals = List._++_ g21 t22;
           slots = List._∷_ (Row.lease (κs .0) (qs .0)) (List._∷_ (Row.lease (κs .1 .0) (qs .1 .0)) (List._∷_ Row.off (List._∷_ (Row.lease (κs .1 .1 .1 .0) (qs .1 .1 .1 .0))
               (List._∷_ (Row.lease (κs .1 .1 .1 .1 .0) (qs .1 .1 .1 .1 .0)) (List._∷_ (Row.lease (κs .1 .1 .1 .1 .1 .0) (qs .1 .1 .1 .1 .1 .0)) (List._∷_ Row.off (List._∷_ Row.off (List._∷_ Row.off
               (List._∷_ Row.alive (List._∷_ Row.off List.[]))))))))));
@@ -1344,7 +1414,7 @@ module _ (claims· : Claims) where
 
         abbrev G33 : Row.Cx
         G33 = record {
-          locals = List._++_ g20 t23;
+          locals = List._++_ g21 t23;
           slots = List._∷_ (Row.lease (κs .0) (qs .0)) (List._∷_ (Row.lease (κs .1 .0) (qs .1 .0)) (List._∷_ Row.off (List._∷_ (Row.lease (κs .1 .1 .1 .0) (qs .1 .1 .1 .0))
               (List._∷_ (Row.lease (κs .1 .1 .1 .1 .0) (qs .1 .1 .1 .1 .0)) (List._∷_ (Row.lease (κs .1 .1 .1 .1 .1 .0) (qs .1 .1 .1 .1 .1 .0)) (List._∷_ Row.off (List._∷_ Row.off (List._∷_ Row.off
               (List._∷_ Row.alive (List._∷_ Row.off List.[]))))))))));
@@ -1352,7 +1422,7 @@ module _ (claims· : Claims) where
 
         abbrev G34 : Row.Cx
         G34 = record {
-          locals = List._++_ g20 t24;
+          locals = List._++_ g21 t24;
           slots = List._∷_ (Row.lease (κs .0) (qs .0)) (List._∷_ (Row.lease (κs .1 .0) (qs .1 .0)) (List._∷_ Row.off (List._∷_ (Row.lease (κs .1 .1 .1 .0) (qs .1 .1 .1 .0))
               (List._∷_ (Row.lease (κs .1 .1 .1 .1 .0) (qs .1 .1 .1 .1 .0)) (List._∷_ (Row.lease (κs .1 .1 .1 .1 .1 .0) (qs .1 .1 .1 .1 .1 .0)) (List._∷_ Row.off (List._∷_ Row.off (List._∷_ Row.off
               (List._∷_ Row.alive (List._∷_ Row.off List.[]))))))))));
@@ -1360,23 +1430,23 @@ module _ (claims· : Claims) where
 
         abbrev G35 : Row.Cx
         G35 = record {
-          locals = List._++_ g20 t24;
+          locals = List._++_ g21 t25;
+          slots = List._∷_ (Row.lease (κs .0) (qs .0)) (List._∷_ (Row.lease (κs .1 .0) (qs .1 .0)) (List._∷_ Row.off (List._∷_ (Row.lease (κs .1 .1 .1 .0) (qs .1 .1 .1 .0))
+              (List._∷_ (Row.lease (κs .1 .1 .1 .1 .0) (qs .1 .1 .1 .1 .0)) (List._∷_ (Row.lease (κs .1 .1 .1 .1 .1 .0) (qs .1 .1 .1 .1 .1 .0)) (List._∷_ Row.off (List._∷_ Row.off (List._∷_ Row.off
+              (List._∷_ Row.alive (List._∷_ Row.off List.[]))))))))));
+        }
+
+        abbrev G36 : Row.Cx
+        G36 = record {
+          locals = List._++_ g21 t25;
           slots = List._∷_ (Row.lease (κs .0) (qs .0)) (List._∷_ (Row.lease (κs .1 .0) (qs .1 .0)) (List._∷_ Row.off (List._∷_ (Row.lease (κs .1 .1 .1 .0) (qs .1 .1 .1 .0))
               (List._∷_ (Row.lease (κs .1 .1 .1 .1 .0) (qs .1 .1 .1 .1 .0)) (List._∷_ (Row.lease (κs .1 .1 .1 .1 .1 .0) (qs .1 .1 .1 .1 .1 .0)) (List._∷_ Row.off (List._∷_ Row.off (List._∷_ Row.off
               (List._∷_ Row.dead (List._∷_ Row.off List.[]))))))))));
         }
 
-        abbrev G36 : Row.Cx
-        G36 = record {
-          locals = List._++_ t19 t1;
-          slots = List._∷_ (Row.lease (κs .0) (qs .0)) (List._∷_ (Row.lease (κs .1 .0) (qs .1 .0)) (List._∷_ (Row.lease (κs .1 .1 .0) (qs .1 .1 .0)) (List._∷_ (Row.lease (κs
-              .1 .1 .1 .0) (qs .1 .1 .1 .0)) (List._∷_ (Row.lease (κs .1 .1 .1 .1 .0) (qs .1 .1 .1 .1 .0)) (List._∷_ (Row.lease (κs .1 .1 .1 .1 .1 .0) (qs .1 .1 .1 .1 .1 .0)) (List._∷_ Row.off (List._∷_
-              Row.off (List._∷_ Row.off (List._∷_ Row.dead (List._∷_ Row.off List.[]))))))))));
-        }
-
         abbrev G37 : Row.Cx
         G37 = record {
-          locals = List._++_ t19 t1;
+          locals = List._++_ t20 t1;
           slots = List._∷_ (Row.lease (κs .0) (qs .0)) (List._∷_ (Row.lease (κs .1 .0) (qs .1 .0)) (List._∷_ (Row.lease (κs .1 .1 .0) (qs .1 .1 .0)) (List._∷_ (Row.lease (κs
               .1 .1 .1 .0) (qs .1 .1 .1 .0)) (List._∷_ (Row.lease (κs .1 .1 .1 .1 .0) (qs .1 .1 .1 .1 .0)) (List._∷_ (Row.lease (κs .1 .1 .1 .1 .1 .0) (qs .1 .1 .1 .1 .1 .0)) (List._∷_ Row.off (List._∷_
               Row.off (List._∷_ Row.off (List._∷_ Row.dead (List._∷_ Row.off List.[]))))))))));
@@ -1384,31 +1454,31 @@ module _ (claims· : Claims) where
 
         abbrev G38 : Row.Cx
         G38 = record {
-          locals = List._++_ t19 t1;
+          locals = List._++_ t20 t1;
+          slots = List._∷_ (Row.lease (κs .0) (qs .0)) (List._∷_ (Row.lease (κs .1 .0) (qs .1 .0)) (List._∷_ (Row.lease (κs .1 .1 .0) (qs .1 .1 .0)) (List._∷_ (Row.lease (κs
+              .1 .1 .1 .0) (qs .1 .1 .1 .0)) (List._∷_ (Row.lease (κs .1 .1 .1 .1 .0) (qs .1 .1 .1 .1 .0)) (List._∷_ (Row.lease (κs .1 .1 .1 .1 .1 .0) (qs .1 .1 .1 .1 .1 .0)) (List._∷_ Row.off (List._∷_
+              Row.off (List._∷_ Row.off (List._∷_ Row.dead (List._∷_ Row.off List.[]))))))))));
+        }
+
+        abbrev G39 : Row.Cx
+        G39 = record {
+          locals = List._++_ t20 t1;
           slots = List._∷_ (Row.lease (κs .0) (qs .0)) (List._∷_ (Row.lease (κs .1 .0) (qs .1 .0)) (List._∷_ (Row.lease (κs .1 .1 .0) (qs .1 .1 .0)) (List._∷_ (Row.lease (κs
               .1 .1 .1 .0) (qs .1 .1 .1 .0)) (List._∷_ (Row.lease (κs .1 .1 .1 .1 .0) (qs .1 .1 .1 .1 .0)) (List._∷_ (Row.lease (κs .1 .1 .1 .1 .1 .0) (qs .1 .1 .1 .1 .1 .0)) (List._∷_ Row.off (List._∷_
               Row.off (List._∷_ Row.off (List._∷_ Row.off (List._∷_ Row.off List.[]))))))))));
         }
 
-        abbrev G39 : Row.Cx
-        G39 = record {
-          locals = List._++_ t19 t1;
+        abbrev G40 : Row.Cx
+        G40 = record {
+          locals = List._++_ t20 t1;
           slots = List._∷_ (Row.lease (κs .0) (qs .0)) (List._∷_ (Row.lease (κs .1 .0) (qs .1 .0)) (List._∷_ (Row.lease (κs .1 .1 .0) (qs .1 .1 .0)) (List._∷_ (Row.lease (κs
               .1 .1 .1 .0) (qs .1 .1 .1 .0)) (List._∷_ (Row.lease (κs .1 .1 .1 .1 .0) (qs .1 .1 .1 .1 .0)) (List._∷_ (Row.lease (κs .1 .1 .1 .1 .1 .0) (qs .1 .1 .1 .1 .1 .0)) (List._∷_ Row.off (List._∷_
               Row.off (List._∷_ Row.off (List._∷_ Row.off (List._∷_ Row.alive List.[]))))))))));
         }
 
-        abbrev G40 : Row.Cx
-        G40 = record {
-          locals = List._++_ g25 t26;
-          slots = List._∷_ (Row.lease (κs .0) (qs .0)) (List._∷_ (Row.lease (κs .1 .0) (qs .1 .0)) (List._∷_ (Row.lease (κs .1 .1 .0) (qs .1 .1 .0)) (List._∷_ Row.off
-              (List._∷_ (Row.lease (κs .1 .1 .1 .1 .0) (qs .1 .1 .1 .1 .0)) (List._∷_ (Row.lease (κs .1 .1 .1 .1 .1 .0) (qs .1 .1 .1 .1 .1 .0)) (List._∷_ Row.off (List._∷_ Row.off (List._∷_ Row.off
-              (List._∷_ Row.off (List._∷_ Row.alive List.[]))))))))));
-        }
-
         abbrev G41 : Row.Cx
         G41 = record {
-          locals = List._++_ g25 t27;
+          locals = List._++_ g26 t27;
           slots = List._∷_ (Row.lease (κs .0) (qs .0)) (List._∷_ (Row.lease (κs .1 .0) (qs .1 .0)) (List._∷_ (Row.lease (κs .1 .1 .0) (qs .1 .1 .0)) (List._∷_ Row.off
               (List._∷_ (Row.lease (κs .1 .1 .1 .1 .0) (qs .1 .1 .1 .1 .0)) (List._∷_ (Row.lease (κs .1 .1 .1 .1 .1 .0) (qs .1 .1 .1 .1 .1 .0)) (List._∷_ Row.off (List._∷_ Row.off (List._∷_ Row.off
               (List._∷_ Row.off (List._∷_ Row.alive List.[]))))))))));
@@ -1416,7 +1486,7 @@ module _ (claims· : Claims) where
 
         abbrev G42 : Row.Cx
         G42 = record {
-          locals = List._++_ g25 t28;
+          locals = List._++_ g26 t28;
           slots = List._∷_ (Row.lease (κs .0) (qs .0)) (List._∷_ (Row.lease (κs .1 .0) (qs .1 .0)) (List._∷_ (Row.lease (κs .1 .1 .0) (qs .1 .1 .0)) (List._∷_ Row.off
               (List._∷_ (Row.lease (κs .1 .1 .1 .1 .0) (qs .1 .1 .1 .1 .0)) (List._∷_ (Row.lease (κs .1 .1 .1 .1 .1 .0) (qs .1 .1 .1 .1 .1 .0)) (List._∷_ Row.off (List._∷_ Row.off (List._∷_ Row.off
               (List._∷_ Row.off (List._∷_ Row.alive List.[]))))))))));
@@ -1424,7 +1494,7 @@ module _ (claims· : Claims) where
 
         abbrev G43 : Row.Cx
         G43 = record {
-          locals = List._++_ g25 t29;
+          locals = List._++_ g26 t29;
           slots = List._∷_ (Row.lease (κs .0) (qs .0)) (List._∷_ (Row.lease (κs .1 .0) (qs .1 .0)) (List._∷_ (Row.lease (κs .1 .1 .0) (qs .1 .1 .0)) (List._∷_ Row.off
               (List._∷_ (Row.lease (κs .1 .1 .1 .1 .0) (qs .1 .1 .1 .1 .0)) (List._∷_ (Row.lease (κs .1 .1 .1 .1 .1 .0) (qs .1 .1 .1 .1 .1 .0)) (List._∷_ Row.off (List._∷_ Row.off (List._∷_ Row.off
               (List._∷_ Row.off (List._∷_ Row.alive List.[]))))))))));
@@ -1432,31 +1502,31 @@ module _ (claims· : Claims) where
 
         abbrev G44 : Row.Cx
         G44 = record {
-          locals = List._++_ g25 t29;
+          locals = List._++_ g26 t30;
+          slots = List._∷_ (Row.lease (κs .0) (qs .0)) (List._∷_ (Row.lease (κs .1 .0) (qs .1 .0)) (List._∷_ (Row.lease (κs .1 .1 .0) (qs .1 .1 .0)) (List._∷_ Row.off
+              (List._∷_ (Row.lease (κs .1 .1 .1 .1 .0) (qs .1 .1 .1 .1 .0)) (List._∷_ (Row.lease (κs .1 .1 .1 .1 .1 .0) (qs .1 .1 .1 .1 .1 .0)) (List._∷_ Row.off (List._∷_ Row.off (List._∷_ Row.off
+              (List._∷_ Row.off (List._∷_ Row.alive List.[]))))))))));
+        }
+
+        abbrev G45 : Row.Cx
+        G45 = record {
+          locals = List._++_ g26 t30;
           slots = List._∷_ (Row.lease (κs .0) (qs .0)) (List._∷_ (Row.lease (κs .1 .0) (qs .1 .0)) (List._∷_ (Row.lease (κs .1 .1 .0) (qs .1 .1 .0)) (List._∷_ Row.off
               (List._∷_ (Row.lease (κs .1 .1 .1 .1 .0) (qs .1 .1 .1 .1 .0)) (List._∷_ (Row.lease (κs .1 .1 .1 .1 .1 .0) (qs .1 .1 .1 .1 .1 .0)) (List._∷_ Row.off (List._∷_ Row.off (List._∷_ Row.off
               (List._∷_ Row.off (List._∷_ Row.dead List.[]))))))))));
         }
 
-        abbrev G45 : Row.Cx
-        G45 = record {
-          locals = List._++_ t19 t1;
+        abbrev G46 : Row.Cx
+        G46 = record {
+          locals = List._++_ t20 t1;
           slots = List._∷_ (Row.lease (κs .0) (qs .0)) (List._∷_ (Row.lease (κs .1 .0) (qs .1 .0)) (List._∷_ (Row.lease (κs .1 .1 .0) (qs .1 .1 .0)) (List._∷_ (Row.lease (κs
               .1 .1 .1 .0) (qs .1 .1 .1 .0)) (List._∷_ (Row.lease (κs .1 .1 .1 .1 .0) (qs .1 .1 .1 .1 .0)) (List._∷_ (Row.lease (κs .1 .1 .1 .1 .1 .0) (qs .1 .1 .1 .1 .1 .0)) (List._∷_ Row.off (List._∷_
               Row.off (List._∷_ Row.off (List._∷_ Row.off (List._∷_ Row.dead List.[]))))))))));
         }
 
-        abbrev G46 : Row.Cx
-        G46 = record {
-          locals = List._++_ t19 t1;
-          slots = List._∷_ (Row.lease (κs .0) (qs .0)) (List._∷_ (Row.lease (κs .1 .0) (qs .1 .0)) (List._∷_ (Row.lease (κs .1 .1 .0) (qs .1 .1 .0)) (List._∷_ (Row.lease (κs
-              .1 .1 .1 .0) (qs .1 .1 .1 .0)) (List._∷_ (Row.lease (κs .1 .1 .1 .1 .0) (qs .1 .1 .1 .1 .0)) (List._∷_ (Row.lease (κs .1 .1 .1 .1 .1 .0) (qs .1 .1 .1 .1 .1 .0)) (List._∷_ Row.off (List._∷_
-              Row.off (List._∷_ Row.off (List._∷_ Row.off (List._∷_ Row.off List.[]))))))))));
-        }
-
         abbrev G47 : Row.Cx
         G47 = record {
-          locals = List._++_ t30 t1;
+          locals = List._++_ t20 t1;
           slots = List._∷_ (Row.lease (κs .0) (qs .0)) (List._∷_ (Row.lease (κs .1 .0) (qs .1 .0)) (List._∷_ (Row.lease (κs .1 .1 .0) (qs .1 .1 .0)) (List._∷_ (Row.lease (κs
               .1 .1 .1 .0) (qs .1 .1 .1 .0)) (List._∷_ (Row.lease (κs .1 .1 .1 .1 .0) (qs .1 .1 .1 .1 .0)) (List._∷_ (Row.lease (κs .1 .1 .1 .1 .1 .0) (qs .1 .1 .1 .1 .1 .0)) (List._∷_ Row.off (List._∷_
               Row.off (List._∷_ Row.off (List._∷_ Row.off (List._∷_ Row.off List.[]))))))))));
@@ -1480,6 +1550,14 @@ module _ (claims· : Claims) where
 
         abbrev G50 : Row.Cx
         G50 = record {
+          locals = List._++_ t33 t1;
+          slots = List._∷_ (Row.lease (κs .0) (qs .0)) (List._∷_ (Row.lease (κs .1 .0) (qs .1 .0)) (List._∷_ (Row.lease (κs .1 .1 .0) (qs .1 .1 .0)) (List._∷_ (Row.lease (κs
+              .1 .1 .1 .0) (qs .1 .1 .1 .0)) (List._∷_ (Row.lease (κs .1 .1 .1 .1 .0) (qs .1 .1 .1 .1 .0)) (List._∷_ (Row.lease (κs .1 .1 .1 .1 .1 .0) (qs .1 .1 .1 .1 .1 .0)) (List._∷_ Row.off (List._∷_
+              Row.off (List._∷_ Row.off (List._∷_ Row.off (List._∷_ Row.off List.[]))))))))));
+        }
+
+        abbrev G51 : Row.Cx
+        G51 = record {
           locals = List._++_ t2 t1;
           slots = List._∷_ (Row.lease (κs .0) (qs .0)) (List._∷_ (Row.lease (κs .1 .0) (qs .1 .0)) (List._∷_ (Row.lease (κs .1 .1 .0) (qs .1 .1 .0)) (List._∷_ (Row.lease (κs
               .1 .1 .1 .0) (qs .1 .1 .1 .0)) (List._∷_ (Row.lease (κs .1 .1 .1 .1 .0) (qs .1 .1 .1 .1 .0)) (List._∷_ (Row.lease (κs .1 .1 .1 .1 .1 .0) (qs .1 .1 .1 .1 .1 .0)) (List._∷_ Row.off (List._∷_
@@ -1494,54 +1572,54 @@ module _ (claims· : Claims) where
           abbrev E : Wp.Env 𝓤 H
           E = Frame.EnvOf 𝓤 H (List._∷_ (Kinds.tyR r) (Enter.tysP ps xs)) bs
 
-          d0 : Typed.Typed 𝓤 H A 𝓣 E G50 b14 Δ0 at0
+          d0 : Typed.Typed 𝓤 H A 𝓣 E G51 b14 Δ0 at0
           d0 = Typed.t-return 𝓤 H A W 𝓣 E Δ0 tt
 
-          d1 : Typed.Typed 𝓤 H A 𝓣 E G49 b14 Δ0 at1
-          d1 = Typed.g-pre 𝓤 H A W 𝓣 E G49 G50 b14 Δ0 (Typed.pass T49 T50 s48) at0 (Scalar.g-room 𝓤 H A W E G49 11 Syntax.tyBool (Scalar.room-sc 𝓤 H A W Row.sBool)) d0
+          d1 : Typed.Typed 𝓤 H A 𝓣 E G50 b14 Δ0 at1
+          d1 = Typed.g-pre 𝓤 H A W 𝓣 E G50 G51 b14 Δ0 (Typed.pass T50 T51 s49) at0 (Scalar.g-room 𝓤 H A W E G50 11 Syntax.tyBool (Scalar.room-sc 𝓤 H A W Row.sBool)) d0
 
-          d2 : Typed.Typed 𝓤 H A 𝓣 E G48 b14 Δ0 at2
-          d2 = Typed.g-pre 𝓤 H A W 𝓣 E G48 G49 b14 Δ0 (Typed.pass T48 T49 s47) at1 (Scalar.g-room 𝓤 H A W E G48 10 (Syntax.tyInt Syntax.w64) (Scalar.room-sc 𝓤 H A W (Row.sInt Syntax.w64))) d1
+          d2 : Typed.Typed 𝓤 H A 𝓣 E G49 b14 Δ0 at2
+          d2 = Typed.g-pre 𝓤 H A W 𝓣 E G49 G50 b14 Δ0 (Typed.pass T49 T50 s48) at1 (Scalar.g-room 𝓤 H A W E G49 10 (Syntax.tyInt Syntax.w64) (Scalar.room-sc 𝓤 H A W (Row.sInt Syntax.w64))) d1
 
-          d3 : Typed.Typed 𝓤 H A 𝓣 E G47 b14 Δ0 at3
-          d3 = Typed.g-pre 𝓤 H A W 𝓣 E G47 G48 b14 Δ0 (Typed.pass T47 T48 s46) at2 (Scalar.g-room 𝓤 H A W E G47 12 (Syntax.tyEnum (List._∷_ 98 (List._∷_ 108 (List._∷_ 111 (List._∷_ 99 (List._∷_ 107
-              (List._∷_ 58 (List._∷_ 58 (List._∷_ 87 (List._∷_ 97 (List._∷_ 108 (List._∷_ 107 (List._∷_ 101 (List._∷_ 100 List.[]))))))))))))) (Syntax.ttcons (Syntax.tcons y1 (Syntax.tcons y5
-              Syntax.tnil)) (Syntax.ttcons (Syntax.tcons (Syntax.tyInt Syntax.w64) (Syntax.tcons y1 Syntax.tnil)) Syntax.ttnil))) (Local.room-whole 𝓤 H A W (Declared.row Walked.the-type) (Syntax.tyEnum
+          d3 : Typed.Typed 𝓤 H A 𝓣 E G48 b14 Δ0 at3
+          d3 = Typed.g-pre 𝓤 H A W 𝓣 E G48 G49 b14 Δ0 (Typed.pass T48 T49 s47) at2 (Scalar.g-room 𝓤 H A W E G48 13 (Syntax.tyEnum (List._∷_ 98 (List._∷_ 108 (List._∷_ 111 (List._∷_ 99 (List._∷_ 107
+              (List._∷_ 58 (List._∷_ 58 (List._∷_ 87 (List._∷_ 97 (List._∷_ 108 (List._∷_ 107 (List._∷_ 101 (List._∷_ 100 List.[]))))))))))))) (Syntax.ttcons (Syntax.tcons y2 (Syntax.tcons y6
+              Syntax.tnil)) (Syntax.ttcons (Syntax.tcons (Syntax.tyInt Syntax.w64) (Syntax.tcons y2 Syntax.tnil)) Syntax.ttnil))) (Local.room-whole 𝓤 H A W (Declared.row Walked.the-type) (Syntax.tyEnum
               (List._∷_ 98 (List._∷_ 108 (List._∷_ 111 (List._∷_ 99 (List._∷_ 107 (List._∷_ 58 (List._∷_ 58 (List._∷_ 87 (List._∷_ 97 (List._∷_ 108 (List._∷_ 107 (List._∷_ 101 (List._∷_ 100
-              List.[]))))))))))))) (Syntax.ttcons (Syntax.tcons y1 (Syntax.tcons y5 Syntax.tnil)) (Syntax.ttcons (Syntax.tcons (Syntax.tyInt Syntax.w64) (Syntax.tcons y1 Syntax.tnil)) Syntax.ttnil)))
+              List.[]))))))))))))) (Syntax.ttcons (Syntax.tcons y2 (Syntax.tcons y6 Syntax.tnil)) (Syntax.ttcons (Syntax.tcons (Syntax.tyInt Syntax.w64) (Syntax.tcons y2 Syntax.tnil)) Syntax.ttnil)))
               Path'.refl)) d2
 
-          d4 : Typed.Typed 𝓤 H A 𝓣 E G46 b15 Δ0 at4
-          d4 = Typed.s-seq 𝓤 H A W 𝓣 E G46 G47 b13 b14 Δ0 (Typed.pass T45 T47 s45) at3 (LocalCopy.t-val-copy 𝓤 H A W E 𝓣 (λ ρ. Unit) G46 12 0 (Declared.row Walked.the-type) (Syntax.tyEnum (List._∷_ 98
+          d4 : Typed.Typed 𝓤 H A 𝓣 E G47 b15 Δ0 at4
+          d4 = Typed.s-seq 𝓤 H A W 𝓣 E G47 G48 b13 b14 Δ0 (Typed.pass T46 T48 s46) at3 (LocalCopy.t-val-copy 𝓤 H A W E 𝓣 (λ ρ. Unit) G47 13 0 (Declared.row Walked.the-type) (Syntax.tyEnum (List._∷_ 98
               (List._∷_ 108 (List._∷_ 111 (List._∷_ 99 (List._∷_ 107 (List._∷_ 58 (List._∷_ 58 (List._∷_ 87 (List._∷_ 97 (List._∷_ 108 (List._∷_ 107 (List._∷_ 101 (List._∷_ 100 List.[])))))))))))))
-              (Syntax.ttcons (Syntax.tcons y1 (Syntax.tcons y5 Syntax.tnil)) (Syntax.ttcons (Syntax.tcons (Syntax.tyInt Syntax.w64) (Syntax.tcons y1 Syntax.tnil)) Syntax.ttnil))) (Syntax.tyEnum (List._∷_
+              (Syntax.ttcons (Syntax.tcons y2 (Syntax.tcons y6 Syntax.tnil)) (Syntax.ttcons (Syntax.tcons (Syntax.tyInt Syntax.w64) (Syntax.tcons y2 Syntax.tnil)) Syntax.ttnil))) (Syntax.tyEnum (List._∷_
               98 (List._∷_ 108 (List._∷_ 111 (List._∷_ 99 (List._∷_ 107 (List._∷_ 58 (List._∷_ 58 (List._∷_ 87 (List._∷_ 97 (List._∷_ 108 (List._∷_ 107 (List._∷_ 101 (List._∷_ 100 List.[])))))))))))))
-              (Syntax.ttcons (Syntax.tcons y1 (Syntax.tcons y5 Syntax.tnil)) (Syntax.ttcons (Syntax.tcons (Syntax.tyInt Syntax.w64) (Syntax.tcons y1 Syntax.tnil)) Syntax.ttnil))) (Rows'.whole
-              (Declared.row Walked.the-type)) (Rows'.whole (Declared.row Walked.the-type)) (λ x. x) (λ x. x) (λ x. x) Path'.refl (Own.told-none 𝓤 H A (G46 .slots)) (Yields.yields-copy 𝓤 H A W (λ ρ. Unit)
+              (Syntax.ttcons (Syntax.tcons y2 (Syntax.tcons y6 Syntax.tnil)) (Syntax.ttcons (Syntax.tcons (Syntax.tyInt Syntax.w64) (Syntax.tcons y2 Syntax.tnil)) Syntax.ttnil))) (Rows'.whole
+              (Declared.row Walked.the-type)) (Rows'.whole (Declared.row Walked.the-type)) (λ x. x) (λ x. x) (λ x. x) Path'.refl (Own.told-none 𝓤 H A (G47 .slots)) (Yields.yields-copy 𝓤 H A W (λ ρ. Unit)
               (Declared.row Walked.the-type) Path'.refl (Copies.cEnum Walked.the-type Laws'.the-laws Laws'.the-copy .copy 𝓤 H A W) (Rows'.whole (Declared.row Walked.the-type)) (λ x. x) (λ x. x) (λ ρ told.
               Local.mem-whole 𝓤 H A W (Declared.row Walked.the-type) ρ) λ ρ told. Local.whole-mem 𝓤 H A W (Declared.row Walked.the-type) ρ) (Reads.room-gone 𝓤 H A (Syntax.tyEnum (List._∷_ 98 (List._∷_ 108
               (List._∷_ 111 (List._∷_ 99 (List._∷_ 107 (List._∷_ 58 (List._∷_ 58 (List._∷_ 87 (List._∷_ 97 (List._∷_ 108 (List._∷_ 107 (List._∷_ 101 (List._∷_ 100 List.[]))))))))))))) (Syntax.ttcons
-              (Syntax.tcons y1 (Syntax.tcons y5 Syntax.tnil)) (Syntax.ttcons (Syntax.tcons (Syntax.tyInt Syntax.w64) (Syntax.tcons y1 Syntax.tnil)) Syntax.ttnil)))) (Yields.makes-mem 𝓤 H A W (λ ρ. Unit)
+              (Syntax.tcons y2 (Syntax.tcons y6 Syntax.tnil)) (Syntax.ttcons (Syntax.tcons (Syntax.tyInt Syntax.w64) (Syntax.tcons y2 Syntax.tnil)) Syntax.ttnil)))) (Yields.makes-mem 𝓤 H A W (λ ρ. Unit)
               (Declared.row Walked.the-type) Path'.refl (Rows'.whole (Declared.row Walked.the-type)) (λ x. x) λ ρ told. Local.whole-mem 𝓤 H A W (Declared.row Walked.the-type) ρ) Path'.refl Path'.refl) d3
 
-          d5 : Typed.Typed 𝓤 H A 𝓣 E G45 b15 Δ0 at5
-          d5 = Typed.g-pre 𝓤 H A W 𝓣 E G45 G46 b15 Δ0 (λ Ψ. Ψ) at4 (Lifetime.g-forget 𝓤 H A W E G45 10 Row.dead Path'.refl) d4
+          d5 : Typed.Typed 𝓤 H A 𝓣 E G46 b15 Δ0 at5
+          d5 = Typed.g-pre 𝓤 H A W 𝓣 E G46 G47 b15 Δ0 (λ Ψ. Ψ) at4 (Lifetime.g-forget 𝓤 H A W E G46 10 Row.dead Path'.refl) d4
 
-          d6 : Typed.Typed 𝓤 H A 𝓣 E G44 b15 Δ0 at6
-          d6 = Typed.g-pre 𝓤 H A W 𝓣 E G44 G45 b15 Δ0 (Typed.both s43) at5 (Relend.g-back-sl 𝓤 H A W E (Element.type) G44 23 4 3 10 (Syntax.tyRef (Syntax.named 3) Syntax.mut Element.behind)
+          d6 : Typed.Typed 𝓤 H A 𝓣 E G45 b15 Δ0 at6
+          d6 = Typed.g-pre 𝓤 H A W 𝓣 E G45 G46 b15 Δ0 (Typed.both s44) at5 (Relend.g-back-sl 𝓤 H A W E (Element.type) G45 24 4 3 10 (Syntax.tyRef (Syntax.named 3) Syntax.mut Element.behind)
               (Syntax.tyRef Syntax.erased Syntax.mut Element.behind) (Row.lease (κs .1 .1 .1 .0) (qs .1 .1 .1 .0)) (λ x. x) (λ x. x) (Reads.as-is 𝓤 H A (Mut.msleft (Element.type) (Syntax.tyRef
               Syntax.erased Syntax.mut Element.behind))) (Reads.as-is 𝓤 H A (Relend.mslice-owed (Element.type) (Syntax.tyRef (Syntax.named 3) Syntax.mut Element.behind) 3 10 (Row.lease (κs .1 .1 .1 .0)
               (qs .1 .1 .1 .0)))) Path'.refl Path'.refl) d5
 
-          d7 : Typed.Typed 𝓤 H A 𝓣 E G43 b15 Δ0 at7
-          d7 = Typed.g-pre 𝓤 H A W 𝓣 E G43 G44 b15 Δ0 (λ Ψ. Ψ) at6 (Lifetime.g-end 𝓤 H A W E G43 10 Path'.refl) d6
+          d7 : Typed.Typed 𝓤 H A 𝓣 E G44 b15 Δ0 at7
+          d7 = Typed.g-pre 𝓤 H A W 𝓣 E G44 G45 b15 Δ0 (λ Ψ. Ψ) at6 (Lifetime.g-end 𝓤 H A W E G44 10 Path'.refl) d6
 
-          d8 : Typed.Typed 𝓤 H A 𝓣 E G42 b15 Δ0 at8
-          d8 = Typed.g-pre 𝓤 H A W 𝓣 E G42 G43 b15 Δ0 (Typed.pass T42 T43 s41) at7 (Scalar.g-room 𝓤 H A W E G42 19 Syntax.tyUnit (Scalar.room-sc 𝓤 H A W Row.sUnit)) d7
+          d8 : Typed.Typed 𝓤 H A 𝓣 E G43 b15 Δ0 at8
+          d8 = Typed.g-pre 𝓤 H A W 𝓣 E G43 G44 b15 Δ0 (Typed.pass T43 T44 s42) at7 (Scalar.g-room 𝓤 H A W E G43 20 Syntax.tyUnit (Scalar.room-sc 𝓤 H A W Row.sUnit)) d7
 
-          d9 : Typed.Typed 𝓤 H A 𝓣 E G41 b16 Δ0 at9
-          d9 = Typed.s-seq 𝓤 H A W 𝓣 E G41 G42 b12 b15 Δ0 (Typed.both s40) at8 (Plain.t-call-plain 𝓤 H A W 𝓣 1 ps·2 r·2 (claims· .4) (claims· .5) "block::records::clear_records" (known .2) E (λ pos β.
-              β) G41 (record { pos = 23; ty = Syntax.tyRef Syntax.erased Syntax.mut Element.behind; ref = λ x. x }, tt) 19 (List._∷_ 10 List.[]) (Call.sub-id 𝓤 H A W (G41 .slots)) (
+          d9 : Typed.Typed 𝓤 H A 𝓣 E G42 b16 Δ0 at9
+          d9 = Typed.s-seq 𝓤 H A W 𝓣 E G42 G43 b12 b15 Δ0 (Typed.both s41) at8 (Plain.t-call-plain 𝓤 H A W 𝓣 1 ps·2 r·2 (claims· .4) (claims· .5) "block::records::clear_records" (known .2) E (λ pos β.
+              β) G42 (record { pos = 24; ty = Syntax.tyRef Syntax.erased Syntax.mut Element.behind; ref = λ x. x }, tt) 20 (List._∷_ 10 List.[]) (Call.sub-id 𝓤 H A W (G42 .slots)) (
                 Reads.as-is 𝓤 H A (Mut.mslice (Element.type) (Syntax.tyRef Syntax.erased Syntax.mut Element.behind) 10),
                 Mut.reads-mslice 𝓤 H A W (Element.type) (Syntax.tyRef Syntax.erased Syntax.mut
                     Element.behind) 10,
@@ -1549,45 +1627,45 @@ module _ (claims· : Claims) where
                 tt,
               ) (Reads.room-gone 𝓤 H A Syntax.tyUnit) (tt, tt) Path'.refl) d8
 
-          d10 : Typed.Typed 𝓤 H A 𝓣 E G40 b17 Δ0 at10
-          d10 = Typed.s-seq 𝓤 H A W 𝓣 E G40 G41 b11 b16 Δ0 (Typed.ask s39) at9 (Relend.t-sl-aggregate 𝓤 H A W E (Element.type) 𝓣 (Relend.asMut (Element.type)) G40 22 23 10 (Syntax.tyRef Syntax.erased
+          d10 : Typed.Typed 𝓤 H A 𝓣 E G41 b17 Δ0 at10
+          d10 = Typed.s-seq 𝓤 H A W 𝓣 E G41 G42 b11 b16 Δ0 (Typed.ask s40) at9 (Relend.t-sl-aggregate 𝓤 H A W E (Element.type) 𝓣 (Relend.asMut (Element.type)) G41 23 24 10 (Syntax.tyRef Syntax.erased
               Syntax.mut Element.behind) (Syntax.tyRef Syntax.erased Syntax.mut Element.behind) (λ x. x) (Scalar.oFld 4 (List._∷_ (Syntax.field 1) List.[]) (Syntax.tyInt Syntax.w64) 8 λ v. Shared.lenV (v
-              .0)) (Reads.as-is 𝓤 H A (Relend.msptr (Element.type) (Syntax.tyRef Syntax.erased Syntax.mut Element.behind) 10)) (Reads.room-gone 𝓤 H A y3)
+              .0)) (Reads.as-is 𝓤 H A (Relend.msptr (Element.type) (Syntax.tyRef Syntax.erased Syntax.mut Element.behind) 10)) (Reads.room-gone 𝓤 H A y4)
               (Relend.reads-owed-len 𝓤 H A W (Element.type) (Syntax.tyRef (Syntax.named 3) Syntax.mut Element.behind) 3 10 (Row.lease (κs .1 .1 .1 .0) (qs .1 .1 .1 .0)) 8 Path'.refl, Path'.refl)
               Path'.refl Path'.refl λ b o k. tt) d9
 
-          d11 : Typed.Typed 𝓤 H A 𝓣 E G39 b18 Δ0 at11
-          d11 = Typed.s-seq 𝓤 H A W 𝓣 E G39 G40 b10 b17 Δ0 (Typed.give s38) at10 (Relend.t-sl-relend 𝓤 H A W E (Element.type) 𝓣 G39 4 22 3 10 (Syntax.tyRef (Syntax.named 3) Syntax.mut Element.behind)
+          d11 : Typed.Typed 𝓤 H A 𝓣 E G40 b18 Δ0 at11
+          d11 = Typed.s-seq 𝓤 H A W 𝓣 E G40 G41 b10 b17 Δ0 (Typed.give s39) at10 (Relend.t-sl-relend 𝓤 H A W E (Element.type) 𝓣 G40 4 23 3 10 (Syntax.tyRef (Syntax.named 3) Syntax.mut Element.behind)
               (Syntax.tyRef Syntax.erased Syntax.mut Element.behind) (Row.lease (κs .1 .1 .1 .0) (qs .1 .1 .1 .0)) 0 (λ x. x) (Reads.as-is 𝓤 H A (Mut.mslice (Element.type) (Syntax.tyRef (Syntax.named 3)
               Syntax.mut Element.behind) 3)) (Reads.room-gone 𝓤 H A (Syntax.tyRef Syntax.erased Syntax.mut Element.behind)) Path'.refl tt Path'.refl Path'.refl Path'.refl λ b o. tt) d10
 
-          d12 : Typed.Typed 𝓤 H A 𝓣 E G38 b18 Δ0 at12
-          d12 = Typed.g-pre 𝓤 H A W 𝓣 E G38 G39 b18 Δ0 (λ Ψ. Ψ) at11 (Lifetime.g-begin 𝓤 H A W E G38 10
-              (tt, (tt, (tt, (tt, (tt, (tt, (tt, (tt, (tt, (tt, (tt, (tt, (tt, (tt, (tt, (tt, (tt, (tt, (tt, (tt, (tt, (tt, (tt, (tt, tt))))))))))))))))))))))))) d11
+          d12 : Typed.Typed 𝓤 H A 𝓣 E G39 b18 Δ0 at12
+          d12 = Typed.g-pre 𝓤 H A W 𝓣 E G39 G40 b18 Δ0 (λ Ψ. Ψ) at11 (Lifetime.g-begin 𝓤 H A W E G39 10
+              (tt, (tt, (tt, (tt, (tt, (tt, (tt, (tt, (tt, (tt, (tt, (tt, (tt, (tt, (tt, (tt, (tt, (tt, (tt, (tt, (tt, (tt, (tt, (tt, (tt, tt)))))))))))))))))))))))))) d11
 
-          d13 : Typed.Typed 𝓤 H A 𝓣 E G37 b18 Δ0 at13
-          d13 = Typed.g-pre 𝓤 H A W 𝓣 E G37 G38 b18 Δ0 (λ Ψ. Ψ) at12 (Lifetime.g-forget 𝓤 H A W E G37 9 Row.dead Path'.refl) d12
+          d13 : Typed.Typed 𝓤 H A 𝓣 E G38 b18 Δ0 at13
+          d13 = Typed.g-pre 𝓤 H A W 𝓣 E G38 G39 b18 Δ0 (λ Ψ. Ψ) at12 (Lifetime.g-forget 𝓤 H A W E G38 9 Row.dead Path'.refl) d12
 
-          d14 : Typed.Typed 𝓤 H A 𝓣 E G36 b18 Δ0 at14
-          d14 = Typed.g-pre 𝓤 H A W 𝓣 E G36 G37 b18 Δ0 (Typed.give s35) at13 (Know.g-sl-known 𝓤 H A W (Referent.fInt Syntax.w16) E G36 3 2 (Syntax.tyRef (Syntax.named 2) Syntax.mut (Syntax.tyInt
+          d14 : Typed.Typed 𝓤 H A 𝓣 E G37 b18 Δ0 at14
+          d14 = Typed.g-pre 𝓤 H A W 𝓣 E G37 G38 b18 Δ0 (Typed.give s36) at13 (Know.g-sl-known 𝓤 H A W (Referent.fInt Syntax.w16) E G37 3 2 (Syntax.tyRef (Syntax.named 2) Syntax.mut (Syntax.tyInt
               Syntax.w16)) (Row.lease (κs .1 .1 .0) (qs .1 .1 .0)) 0 (λ x. x) record { fits = Dec'.lit< tt } (Reads.as-is 𝓤 H A (Mut.mslice (Referent.rtF (Referent.fInt Syntax.w16)) (Syntax.tyRef
               (Syntax.named 2) Syntax.mut (Syntax.tyInt Syntax.w16)) 2)) Path'.refl tt) d13
 
-          d15 : Typed.Typed 𝓤 H A 𝓣 E G35 b18 Δ0 at15
-          d15 = Typed.g-pre 𝓤 H A W 𝓣 E G35 G36 b18 Δ0 (Typed.both s34) at14 (Relend.g-back-sl 𝓤 H A W E (Referent.rtF (Referent.fInt Syntax.w16)) G35 21 3 2 9 (Syntax.tyRef (Syntax.named 2)
+          d15 : Typed.Typed 𝓤 H A 𝓣 E G36 b18 Δ0 at15
+          d15 = Typed.g-pre 𝓤 H A W 𝓣 E G36 G37 b18 Δ0 (Typed.both s35) at14 (Relend.g-back-sl 𝓤 H A W E (Referent.rtF (Referent.fInt Syntax.w16)) G36 22 3 2 9 (Syntax.tyRef (Syntax.named 2)
               Syntax.mut (Syntax.tyInt Syntax.w16)) (Syntax.tyRef Syntax.erased Syntax.mut (Syntax.tyInt Syntax.w16)) (Row.lease (κs .1 .1 .0) (qs .1 .1 .0)) (λ x. x) (λ x. x) (Reads.as-is 𝓤 H A
               (Mut.msleft (Referent.rtF (Referent.fInt Syntax.w16)) (Syntax.tyRef Syntax.erased Syntax.mut (Syntax.tyInt Syntax.w16)))) (Reads.as-is 𝓤 H A (Relend.mslice-owed (Referent.rtF (Referent.fInt
               Syntax.w16)) (Syntax.tyRef (Syntax.named 2) Syntax.mut (Syntax.tyInt Syntax.w16)) 2 9 (Row.lease (κs .1 .1 .0) (qs .1 .1 .0)))) Path'.refl Path'.refl) d14
 
-          d16 : Typed.Typed 𝓤 H A 𝓣 E G34 b18 Δ0 at16
-          d16 = Typed.g-pre 𝓤 H A W 𝓣 E G34 G35 b18 Δ0 (λ Ψ. Ψ) at15 (Lifetime.g-end 𝓤 H A W E G34 9 Path'.refl) d15
+          d16 : Typed.Typed 𝓤 H A 𝓣 E G35 b18 Δ0 at16
+          d16 = Typed.g-pre 𝓤 H A W 𝓣 E G35 G36 b18 Δ0 (λ Ψ. Ψ) at15 (Lifetime.g-end 𝓤 H A W E G35 9 Path'.refl) d15
 
-          d17 : Typed.Typed 𝓤 H A 𝓣 E G33 b18 Δ0 at17
-          d17 = Typed.g-pre 𝓤 H A W 𝓣 E G33 G34 b18 Δ0 (Typed.pass T33 T34 s32) at16 (Scalar.g-room 𝓤 H A W E G33 19 Syntax.tyUnit (Scalar.room-sc 𝓤 H A W Row.sUnit)) d16
+          d17 : Typed.Typed 𝓤 H A 𝓣 E G34 b18 Δ0 at17
+          d17 = Typed.g-pre 𝓤 H A W 𝓣 E G34 G35 b18 Δ0 (Typed.pass T34 T35 s33) at16 (Scalar.g-room 𝓤 H A W E G34 20 Syntax.tyUnit (Scalar.room-sc 𝓤 H A W Row.sUnit)) d16
 
-          d18 : Typed.Typed 𝓤 H A 𝓣 E G32 b19 Δ0 at18
-          d18 = Typed.s-seq 𝓤 H A W 𝓣 E G32 G33 b9 b18 Δ0 (Typed.both s31) at17 (Plain.t-call-plain 𝓤 H A W 𝓣 1 ps·1 r·1 (claims· .2) (claims· .3) "lines::clear" (known .1) E (λ pos β. β) G32
-              (record { pos = 21; ty = Syntax.tyRef Syntax.erased Syntax.mut (Syntax.tyInt Syntax.w16); ref = λ x. x }, tt) 19 (List._∷_ 9 List.[]) (Call.sub-id 𝓤 H A W (G32 .slots)) (
+          d18 : Typed.Typed 𝓤 H A 𝓣 E G33 b19 Δ0 at18
+          d18 = Typed.s-seq 𝓤 H A W 𝓣 E G33 G34 b9 b18 Δ0 (Typed.both s32) at17 (Plain.t-call-plain 𝓤 H A W 𝓣 1 ps·1 r·1 (claims· .2) (claims· .3) "lines::clear" (known .1) E (λ pos β. β) G33
+              (record { pos = 22; ty = Syntax.tyRef Syntax.erased Syntax.mut (Syntax.tyInt Syntax.w16); ref = λ x. x }, tt) 20 (List._∷_ 9 List.[]) (Call.sub-id 𝓤 H A W (G33 .slots)) (
                 Reads.as-is 𝓤 H A (Mut.mslice (Referent.rtF (Referent.fInt Syntax.w16)) (Syntax.tyRef Syntax.erased Syntax.mut (Syntax.tyInt Syntax.w16)) 9),
                 Mut.reads-mslice 𝓤 H A W (Referent.rtF
                     (Referent.fInt Syntax.w16)) (Syntax.tyRef Syntax.erased Syntax.mut (Syntax.tyInt Syntax.w16)) 9,
@@ -1595,107 +1673,113 @@ module _ (claims· : Claims) where
                 tt,
               ) (Reads.room-gone 𝓤 H A Syntax.tyUnit) (tt, tt) Path'.refl) d17
 
-          d19 : Typed.Typed 𝓤 H A 𝓣 E G31 b20 Δ0 at19
-          d19 = Typed.s-seq 𝓤 H A W 𝓣 E G31 G32 b8 b19 Δ0 (Typed.ask s30) at18 (Relend.t-sl-aggregate 𝓤 H A W E (Referent.rtF (Referent.fInt Syntax.w16)) 𝓣 (Relend.asMut (Referent.rtF (Referent.fInt
-              Syntax.w16))) G31 20 21 9 (Syntax.tyRef Syntax.erased Syntax.mut (Syntax.tyInt Syntax.w16)) (Syntax.tyRef Syntax.erased Syntax.mut (Syntax.tyInt Syntax.w16)) (λ x. x) (Scalar.oFld 3
+          d19 : Typed.Typed 𝓤 H A 𝓣 E G32 b20 Δ0 at19
+          d19 = Typed.s-seq 𝓤 H A W 𝓣 E G32 G33 b8 b19 Δ0 (Typed.ask s31) at18 (Relend.t-sl-aggregate 𝓤 H A W E (Referent.rtF (Referent.fInt Syntax.w16)) 𝓣 (Relend.asMut (Referent.rtF (Referent.fInt
+              Syntax.w16))) G32 21 22 9 (Syntax.tyRef Syntax.erased Syntax.mut (Syntax.tyInt Syntax.w16)) (Syntax.tyRef Syntax.erased Syntax.mut (Syntax.tyInt Syntax.w16)) (λ x. x) (Scalar.oFld 3
               (List._∷_ (Syntax.field 1) List.[]) (Syntax.tyInt Syntax.w64) 8 λ v. Shared.lenV (v .0)) (Reads.as-is 𝓤 H A (Relend.msptr (Referent.rtF (Referent.fInt Syntax.w16)) (Syntax.tyRef
-              Syntax.erased Syntax.mut (Syntax.tyInt Syntax.w16)) 9)) (Reads.room-gone 𝓤 H A y2) (
+              Syntax.erased Syntax.mut (Syntax.tyInt Syntax.w16)) 9)) (Reads.room-gone 𝓤 H A y3) (
                 Relend.reads-owed-len 𝓤 H A W (Referent.rtF (Referent.fInt Syntax.w16)) (Syntax.tyRef (Syntax.named 2) Syntax.mut (Syntax.tyInt Syntax.w16)) 2 9 (Row.lease (κs .1 .1 .0) (qs .1 .1 .0)) 8
                     Path'.refl,
                 Path'.refl,
               ) Path'.refl Path'.refl λ b o k. tt) d18
 
-          d20 : Typed.Typed 𝓤 H A 𝓣 E G30 b21 Δ0 at20
-          d20 = Typed.s-seq 𝓤 H A W 𝓣 E G30 G31 b7 b20 Δ0 (Typed.give s29) at19 (Relend.t-sl-relend 𝓤 H A W E (Referent.rtF (Referent.fInt Syntax.w16)) 𝓣 G30 3 20 2 9 (Syntax.tyRef (Syntax.named 2)
+          d20 : Typed.Typed 𝓤 H A 𝓣 E G31 b21 Δ0 at20
+          d20 = Typed.s-seq 𝓤 H A W 𝓣 E G31 G32 b7 b20 Δ0 (Typed.give s30) at19 (Relend.t-sl-relend 𝓤 H A W E (Referent.rtF (Referent.fInt Syntax.w16)) 𝓣 G31 3 21 2 9 (Syntax.tyRef (Syntax.named 2)
               Syntax.mut (Syntax.tyInt Syntax.w16)) (Syntax.tyRef Syntax.erased Syntax.mut (Syntax.tyInt Syntax.w16)) (Row.lease (κs .1 .1 .0) (qs .1 .1 .0)) 0 (λ x. x) (Reads.as-is 𝓤 H A (Mut.mslice
               (Referent.rtF (Referent.fInt Syntax.w16)) (Syntax.tyRef (Syntax.named 2) Syntax.mut (Syntax.tyInt Syntax.w16)) 2)) (Reads.room-gone 𝓤 H A (Syntax.tyRef Syntax.erased Syntax.mut (Syntax.tyInt
               Syntax.w16))) Path'.refl tt Path'.refl Path'.refl Path'.refl λ b o. tt) d19
 
-          d21 : Typed.Typed 𝓤 H A 𝓣 E G29 b21 Δ0 at21
-          d21 = Typed.g-pre 𝓤 H A W 𝓣 E G29 G30 b21 Δ0 (λ Ψ. Ψ) at20 (Lifetime.g-begin 𝓤 H A W E G29 9
-              (tt, (tt, (tt, (tt, (tt, (tt, (tt, (tt, (tt, (tt, (tt, (tt, (tt, (tt, (tt, (tt, (tt, (tt, (tt, (tt, (tt, (tt, (tt, (tt, tt))))))))))))))))))))))))) d20
+          d21 : Typed.Typed 𝓤 H A 𝓣 E G30 b21 Δ0 at21
+          d21 = Typed.g-pre 𝓤 H A W 𝓣 E G30 G31 b21 Δ0 (λ Ψ. Ψ) at20 (Lifetime.g-begin 𝓤 H A W E G30 9
+              (tt, (tt, (tt, (tt, (tt, (tt, (tt, (tt, (tt, (tt, (tt, (tt, (tt, (tt, (tt, (tt, (tt, (tt, (tt, (tt, (tt, (tt, (tt, (tt, (tt, tt)))))))))))))))))))))))))) d20
 
-          d22 : Typed.Typed 𝓤 H A 𝓣 E G28 b21 Δ0 at22
-          d22 = Typed.g-pre 𝓤 H A W 𝓣 E G28 G29 b21 Δ0 (λ Ψ. Ψ) at21 (Lifetime.g-forget 𝓤 H A W E G28 8 Row.dead Path'.refl) d21
+          d22 : Typed.Typed 𝓤 H A 𝓣 E G29 b21 Δ0 at22
+          d22 = Typed.g-pre 𝓤 H A W 𝓣 E G29 G30 b21 Δ0 (λ Ψ. Ψ) at21 (Lifetime.g-forget 𝓤 H A W E G29 8 Row.dead Path'.refl) d21
 
-          d23 : Typed.Typed 𝓤 H A 𝓣 E G27 b21 Δ0 at23
-          d23 = Typed.g-pre 𝓤 H A W 𝓣 E G27 G28 b21 Δ0 (Typed.give s26) at22 (Know.g-sl-known 𝓤 H A W (Referent.fInt Syntax.w16) E G27 5 4 (Syntax.tyRef (Syntax.named 4) Syntax.mut (Syntax.tyInt
+          d23 : Typed.Typed 𝓤 H A 𝓣 E G28 b21 Δ0 at23
+          d23 = Typed.g-pre 𝓤 H A W 𝓣 E G28 G29 b21 Δ0 (Typed.give s27) at22 (Know.g-sl-known 𝓤 H A W (Referent.fInt Syntax.w16) E G28 5 4 (Syntax.tyRef (Syntax.named 4) Syntax.mut (Syntax.tyInt
               Syntax.w16)) (Row.lease (κs .1 .1 .1 .1 .0) (qs .1 .1 .1 .1 .0)) 0 (λ x. x) record { fits = Dec'.lit< tt } (Reads.as-is 𝓤 H A (Mut.mslice (Referent.rtF (Referent.fInt Syntax.w16))
               (Syntax.tyRef (Syntax.named 4) Syntax.mut (Syntax.tyInt Syntax.w16)) 4)) Path'.refl tt) d22
 
-          d24 : Typed.Typed 𝓤 H A 𝓣 E G26 b21 Δ0 at24
-          d24 = Typed.g-pre 𝓤 H A W 𝓣 E G26 G27 b21 Δ0 (Typed.both s25) at23 (Relend.g-back-sl 𝓤 H A W E (Referent.rtF (Referent.fInt Syntax.w16)) G26 18 5 4 8 (Syntax.tyRef (Syntax.named 4)
+          d24 : Typed.Typed 𝓤 H A 𝓣 E G27 b21 Δ0 at24
+          d24 = Typed.g-pre 𝓤 H A W 𝓣 E G27 G28 b21 Δ0 (Typed.both s26) at23 (Relend.g-back-sl 𝓤 H A W E (Referent.rtF (Referent.fInt Syntax.w16)) G27 19 5 4 8 (Syntax.tyRef (Syntax.named 4)
               Syntax.mut (Syntax.tyInt Syntax.w16)) (Syntax.tyRef Syntax.erased Syntax.mut (Syntax.tyInt Syntax.w16)) (Row.lease (κs .1 .1 .1 .1 .0) (qs .1 .1 .1 .1 .0)) (λ x. x) (λ x. x) (Reads.as-is 𝓤 H
               A (Mut.msleft (Referent.rtF (Referent.fInt Syntax.w16)) (Syntax.tyRef Syntax.erased Syntax.mut (Syntax.tyInt Syntax.w16)))) (Reads.as-is 𝓤 H A (Relend.mslice-owed (Referent.rtF
               (Referent.fInt Syntax.w16)) (Syntax.tyRef (Syntax.named 4) Syntax.mut (Syntax.tyInt Syntax.w16)) 4 8 (Row.lease (κs .1 .1 .1 .1 .0) (qs .1 .1 .1 .1 .0)))) Path'.refl Path'.refl) d23
 
-          d25 : Typed.Typed 𝓤 H A 𝓣 E G25 b21 Δ0 at25
-          d25 = Typed.g-pre 𝓤 H A W 𝓣 E G25 G26 b21 Δ0 (λ Ψ. Ψ) at24 (Lifetime.g-end 𝓤 H A W E G25 8 Path'.refl) d24
+          d25 : Typed.Typed 𝓤 H A 𝓣 E G26 b21 Δ0 at25
+          d25 = Typed.g-pre 𝓤 H A W 𝓣 E G26 G27 b21 Δ0 (λ Ψ. Ψ) at24 (Lifetime.g-end 𝓤 H A W E G26 8 Path'.refl) d24
 
-          d26 : Typed.Typed 𝓤 H A 𝓣 E G24 b21 Δ0 at26
-          d26 = Typed.g-pre 𝓤 H A W 𝓣 E G24 G25 b21 Δ0 (λ Ψ. Ψ) at25 (Lifetime.g-forget 𝓤 H A W E G24 7 Row.dead Path'.refl) d25
+          d26 : Typed.Typed 𝓤 H A 𝓣 E G25 b21 Δ0 at26
+          d26 = Typed.g-pre 𝓤 H A W 𝓣 E G25 G26 b21 Δ0 (λ Ψ. Ψ) at25 (Lifetime.g-forget 𝓤 H A W E G25 7 Row.dead Path'.refl) d25
 
-          d27 : Typed.Typed 𝓤 H A 𝓣 E G23 b21 Δ0 at27
-          d27 = Typed.g-pre 𝓤 H A W 𝓣 E G23 G24 b21 Δ0 (Typed.both s22) at26 (Relend.g-back-sl 𝓤 H A W E (Element.type) G23 16 4 3 7 (Syntax.tyRef (Syntax.named 3) Syntax.mut Element.behind)
+          d27 : Typed.Typed 𝓤 H A 𝓣 E G24 b21 Δ0 at27
+          d27 = Typed.g-pre 𝓤 H A W 𝓣 E G24 G25 b21 Δ0 (Typed.both s23) at26 (Relend.g-back-sl 𝓤 H A W E (Element.type) G24 17 4 3 7 (Syntax.tyRef (Syntax.named 3) Syntax.mut Element.behind)
               (Syntax.tyRef Syntax.erased Syntax.mut Element.behind) (Row.lease (κs .1 .1 .1 .0) (qs .1 .1 .1 .0)) (λ x. x) (λ x. x) (Reads.as-is 𝓤 H A (Mut.msleft (Element.type) (Syntax.tyRef
               Syntax.erased Syntax.mut Element.behind))) (Reads.as-is 𝓤 H A (Relend.mslice-owed (Element.type) (Syntax.tyRef (Syntax.named 3) Syntax.mut Element.behind) 3 7 (Row.lease (κs .1 .1 .1 .0) (qs
               .1 .1 .1 .0)))) Path'.refl Path'.refl) d26
 
-          d28 : Typed.Typed 𝓤 H A 𝓣 E G22 b21 Δ0 at28
-          d28 = Typed.g-pre 𝓤 H A W 𝓣 E G22 G23 b21 Δ0 (λ Ψ. Ψ) at27 (Lifetime.g-end 𝓤 H A W E G22 7 Path'.refl) d27
+          d28 : Typed.Typed 𝓤 H A 𝓣 E G23 b21 Δ0 at28
+          d28 = Typed.g-pre 𝓤 H A W 𝓣 E G23 G24 b21 Δ0 (λ Ψ. Ψ) at27 (Lifetime.g-end 𝓤 H A W E G23 7 Path'.refl) d27
 
-          d29 : Typed.Typed 𝓤 H A 𝓣 E G21 b21 Δ0 at29
-          d29 = Typed.g-pre 𝓤 H A W 𝓣 E G21 G22 b21 Δ0 (λ Ψ. Ψ) at28 (Lifetime.g-forget 𝓤 H A W E G21 6 Row.dead Path'.refl) d28
+          d29 : Typed.Typed 𝓤 H A 𝓣 E G22 b21 Δ0 at29
+          d29 = Typed.g-pre 𝓤 H A W 𝓣 E G22 G23 b21 Δ0 (λ Ψ. Ψ) at28 (Lifetime.g-forget 𝓤 H A W E G22 6 Row.dead Path'.refl) d28
 
-          d30 : Typed.Typed 𝓤 H A 𝓣 E G20 b21 Δ0 at30
-          d30 = Typed.g-pre 𝓤 H A W 𝓣 E G20 G21 b21 Δ0 (Typed.give s19) at29 (Know.g-sl-known 𝓤 H A W (Referent.fInt Syntax.w16) E G20 3 2 (Syntax.tyRef (Syntax.named 2) Syntax.mut (Syntax.tyInt
+          d30 : Typed.Typed 𝓤 H A 𝓣 E G21 b21 Δ0 at30
+          d30 = Typed.g-pre 𝓤 H A W 𝓣 E G21 G22 b21 Δ0 (Typed.give s20) at29 (Know.g-sl-known 𝓤 H A W (Referent.fInt Syntax.w16) E G21 3 2 (Syntax.tyRef (Syntax.named 2) Syntax.mut (Syntax.tyInt
               Syntax.w16)) (Row.lease (κs .1 .1 .0) (qs .1 .1 .0)) 0 (λ x. x) record { fits = Dec'.lit< tt } (Reads.as-is 𝓤 H A (Mut.mslice (Referent.rtF (Referent.fInt Syntax.w16)) (Syntax.tyRef
               (Syntax.named 2) Syntax.mut (Syntax.tyInt Syntax.w16)) 2)) Path'.refl tt) d29
 
-          d31 : Typed.Typed 𝓤 H A 𝓣 E G19 b21 Δ0 at31
-          d31 = Typed.g-pre 𝓤 H A W 𝓣 E G19 G20 b21 Δ0 (Typed.both s18) at30 (Relend.g-back-sl 𝓤 H A W E (Referent.rtF (Referent.fInt Syntax.w16)) G19 14 3 2 6 (Syntax.tyRef (Syntax.named 2)
+          d31 : Typed.Typed 𝓤 H A 𝓣 E G20 b21 Δ0 at31
+          d31 = Typed.g-pre 𝓤 H A W 𝓣 E G20 G21 b21 Δ0 (Typed.both s19) at30 (Relend.g-back-sl 𝓤 H A W E (Referent.rtF (Referent.fInt Syntax.w16)) G20 15 3 2 6 (Syntax.tyRef (Syntax.named 2)
               Syntax.mut (Syntax.tyInt Syntax.w16)) (Syntax.tyRef Syntax.erased Syntax.mut (Syntax.tyInt Syntax.w16)) (Row.lease (κs .1 .1 .0) (qs .1 .1 .0)) (λ x. x) (λ x. x) (Reads.as-is 𝓤 H A
               (Mut.msleft (Referent.rtF (Referent.fInt Syntax.w16)) (Syntax.tyRef Syntax.erased Syntax.mut (Syntax.tyInt Syntax.w16)))) (Reads.as-is 𝓤 H A (Relend.mslice-owed (Referent.rtF (Referent.fInt
               Syntax.w16)) (Syntax.tyRef (Syntax.named 2) Syntax.mut (Syntax.tyInt Syntax.w16)) 2 6 (Row.lease (κs .1 .1 .0) (qs .1 .1 .0)))) Path'.refl Path'.refl) d30
 
-          d32 : Typed.Typed 𝓤 H A 𝓣 E G18 b21 Δ0 at32
-          d32 = Typed.g-pre 𝓤 H A W 𝓣 E G18 G19 b21 Δ0 (λ Ψ. Ψ) at31 (Lifetime.g-end 𝓤 H A W E G18 6 Path'.refl) d31
+          d32 : Typed.Typed 𝓤 H A 𝓣 E G19 b21 Δ0 at32
+          d32 = Typed.g-pre 𝓤 H A W 𝓣 E G19 G20 b21 Δ0 (λ Ψ. Ψ) at31 (Lifetime.g-end 𝓤 H A W E G19 6 Path'.refl) d31
 
-          d33 : Typed.Typed 𝓤 H A 𝓣 E G17 b21 Δ0 at33
-          d33 = Typed.g-pre 𝓤 H A W 𝓣 E G17 G18 b21 Δ0 (Typed.pass T17 T18 s16) at32 (Scalar.g-room 𝓤 H A W E G17 9 y0 (Local.room-whole 𝓤 H A W (Declared'.row Part.the-type) y0 Path'.refl)) d32
+          d33 : Typed.Typed 𝓤 H A 𝓣 E G18 b21 Δ0 at33
+          d33 = Typed.g-pre 𝓤 H A W 𝓣 E G18 G19 b21 Δ0 (Typed.pass T18 T19 s17) at32 (Scalar.g-room 𝓤 H A W E G18 12 y8 (Local.room-whole 𝓤 H A W (Declared'.row Entries.the-type) y8 Path'.refl)) d32
 
-          d34 : Typed.Typed 𝓤 H A 𝓣 E G16 b21 Δ0 at34
-          d34 = Typed.g-pre 𝓤 H A W 𝓣 E G16 G17 b21 Δ0 (Typed.pass T16 T17 s15) at33 (Scalar.g-room 𝓤 H A W E G16 8 (Syntax.tyArray (Syntax.tyInt Syntax.w8) 36) (Init.room-arr 𝓤 H A W (Referent.rtF
-              (Referent.fInt Syntax.w8)) 36 0 36 Path'.refl)) d33
+          d34 : Typed.Typed 𝓤 H A 𝓣 E G17 b21 Δ0 at34
+          d34 = Typed.g-pre 𝓤 H A W 𝓣 E G17 G18 b21 Δ0 (Typed.pass T17 T18 s16) at33 (Scalar.g-room 𝓤 H A W E G17 9 y0 (Local.room-whole 𝓤 H A W (Declared'.row Part.the-type) y0 Path'.refl)) d33
 
-          d35 : Typed.Typed 𝓤 H A 𝓣 E G15 b21 Δ0 at35
-          d35 = Typed.g-pre 𝓤 H A W 𝓣 E G15 G16 b21 Δ0 (Typed.pass T15 T16 s14) at34 (Scalar.g-room 𝓤 H A W E G15 6 y4 (Local.room-whole 𝓤 H A W (Declared'.row Form.the-type) y4 Path'.refl)) d34
+          d35 : Typed.Typed 𝓤 H A 𝓣 E G16 b21 Δ0 at35
+          d35 = Typed.g-pre 𝓤 H A W 𝓣 E G16 G17 b21 Δ0 (Typed.pass T16 T17 s15) at34 (Scalar.g-room 𝓤 H A W E G16 8 (Syntax.tyArray (Syntax.tyInt Syntax.w8) 36) (Init.room-arr 𝓤 H A W (Referent.rtF
+              (Referent.fInt Syntax.w8)) 36 0 36 Path'.refl)) d34
 
-          d36 : Typed.Typed 𝓤 H A 𝓣 E G14 b22 Δ0 at36
-          d36 = Typed.s-seq 𝓤 H A W 𝓣 E G14 G15 b6 b21 Δ0 (Typed.both s13) at35 (Plain.t-call-plain 𝓤 H A W 𝓣 6 ps·0 r·0 (claims· .0) (claims· .1) "block::reading::read_lines" (known .0) E (λ pos β.
+          d36 : Typed.Typed 𝓤 H A 𝓣 E G15 b21 Δ0 at36
+          d36 = Typed.g-pre 𝓤 H A W 𝓣 E G15 G16 b21 Δ0 (Typed.pass T15 T16 s14) at35 (Scalar.g-room 𝓤 H A W E G15 6 y5 (Local.room-whole 𝓤 H A W (Declared'.row Form.the-type) y5 Path'.refl)) d35
+
+          d37 : Typed.Typed 𝓤 H A 𝓣 E G14 b22 Δ0 at37
+          d37 = Typed.s-seq 𝓤 H A W 𝓣 E G14 G15 b6 b21 Δ0 (Typed.both s13) at36 (Plain.t-call-plain 𝓤 H A W 𝓣 6 ps·0 r·0 (claims· .0) (claims· .1) "block::reading::read_lines" (known .0) E (λ pos β.
               β) G14 (
                 record { pos = 1; ty = Syntax.tyRef (Syntax.named 0) Syntax.imm (Syntax.tyInt Syntax.w8); ref = λ x. x },
                 (
                   record { pos = 2; ty = Syntax.tyRef (Syntax.named 1) Syntax.imm (Syntax.tyInt Syntax.w8); ref = λ x. x },
                   (
-                    record { pos = 14; ty = Syntax.tyRef Syntax.erased Syntax.mut (Syntax.tyInt Syntax.w16); ref = λ x. x },
+                    record { pos = 15; ty = Syntax.tyRef Syntax.erased Syntax.mut (Syntax.tyInt Syntax.w16); ref = λ x. x },
                     (
-                      record { pos = 16; ty = Syntax.tyRef Syntax.erased Syntax.mut Element.behind; ref = λ x. x },
+                      record { pos = 17; ty = Syntax.tyRef Syntax.erased Syntax.mut Element.behind; ref = λ x. x },
                       (
-                        record { pos = 18; ty = Syntax.tyRef Syntax.erased Syntax.mut (Syntax.tyInt Syntax.w16); ref = λ x. x },
+                        record { pos = 19; ty = Syntax.tyRef Syntax.erased Syntax.mut (Syntax.tyInt Syntax.w16); ref = λ x. x },
                         (
                           record { pos = 6; st = List.[]; d = 0; at = λ x. x },
                           (
                             record { pos = 7; ty = Syntax.tyRef (Syntax.named 5) Syntax.imm (Syntax.tyArray (Syntax.tyInt Syntax.w16) 768); ref = λ x. x },
-                            (record { pos = 8; st = List.[]; d = 0; at = λ x. x }, (record { pos = 9; st = List.[]; d = 0; at = λ x. x }, (Num.vAt 10 λ x. x, (Bool.bAt 11 λ x. x, tt)))),
+                            (
+                              record { pos = 8; st = List.[]; d = 0; at = λ x. x },
+                              (record { pos = 9; st = List.[]; d = 0; at = λ x. x }, (Num.vAt 10 λ x. x, (Bool.bAt 11 λ x. x, (record { pos = 12; st = List.[]; d = 0; at = λ x. x }, tt)))),
+                            ),
                           ),
                         ),
                       ),
                     ),
                   ),
                 ),
-              ) 12 (List._∷_ 0 (List._∷_
-              1 (List._∷_ 6 (List._∷_ 7 (List._∷_ 8 (List._∷_ 5 List.[])))))) (Call.sub-id 𝓤 H A W (G14 .slots)) (
+              ) 13 (List._∷_ 0
+              (List._∷_ 1 (List._∷_ 6 (List._∷_ 7 (List._∷_ 8 (List._∷_ 5 List.[])))))) (Call.sub-id 𝓤 H A W (G14 .slots)) (
                 ShrSlice.spares-sslice 𝓤 H A W (Referent.rtF (Referent.fInt Syntax.w8)) (Syntax.tyRef (Syntax.named 0) Syntax.imm (Syntax.tyInt Syntax.w8)) 0,
                 Shared.reads-sslice 𝓤 H A W (Referent.rtF
                     (Referent.fInt Syntax.w8)) (Syntax.tyRef (Syntax.named 0) Syntax.imm (Syntax.tyInt Syntax.w8)) 0,
@@ -1734,11 +1818,25 @@ module _ (claims· : Claims) where
                               (Array.arr-yields 𝓤 H A W (Array.eInt Syntax.w8) (Array.eInt-laws Syntax.w8) 36, Path'.refl),
                               (
                                 (
-                                  Yields.yields-copy 𝓤 H A W (λ ρ. Unit) (Declared'.row Part.the-type) Path'.refl (Copies.cStruct Part.the-type Laws''.the-laws Laws''.the-copy .copy 𝓤 H A W) (Rows'.whole (Declared'.row
+                                  Yields.yields-copy 𝓤 H A W (λ ρ. Unit) (Declared'.row Part.the-type) Path'.refl (Copies.cStruct Part.the-type Laws'3.the-laws Laws'3.the-copy .copy 𝓤 H A W) (Rows'.whole (Declared'.row
                                       Part.the-type)) (λ x. x) (λ x. x) (λ ρ told. Local.mem-whole 𝓤 H A W (Declared'.row Part.the-type) ρ) λ ρ told. Local.whole-mem 𝓤 H A W (Declared'.row Part.the-type) ρ,
                                   Path'.refl,
                                 ),
-                                ((Scalar.reads-sc 𝓤 H A W (Row.sInt Syntax.w64), Path'.refl), ((Scalar.reads-sc 𝓤 H A W Row.sBool, Path'.refl), tt)),
+                                (
+                                  (Scalar.reads-sc 𝓤 H A W (Row.sInt Syntax.w64), Path'.refl),
+                                  (
+                                    (Scalar.reads-sc 𝓤 H A W Row.sBool, Path'.refl),
+                                    (
+                                      (
+                                        Yields.yields-copy 𝓤 H A W (λ ρ. Unit) (Declared'.row Entries.the-type) Path'.refl (Copies.cStruct Entries.the-type Laws''.the-laws Laws''.the-copy .copy 𝓤 H A W) (Rows'.whole
+                                            (Declared'.row Entries.the-type)) (λ x. x) (λ x. x) (λ ρ told. Local.mem-whole 𝓤 H A W (Declared'.row Entries.the-type) ρ) λ ρ told. Local.whole-mem 𝓤 H A W (Declared'.row Entries.the-type)
+                                            ρ,
+                                        Path'.refl,
+                                      ),
+                                      tt,
+                                    ),
+                                  ),
+                                ),
                               ),
                             ),
                           ),
@@ -1747,89 +1845,88 @@ module _ (claims· : Claims) where
                     ),
                   ),
                 ),
-              ) (Reads.room-gone 𝓤 H A (Syntax.tyEnum (List._∷_ 98 (List._∷_ 108
-              (List._∷_ 111 (List._∷_ 99 (List._∷_ 107 (List._∷_ 58 (List._∷_ 58 (List._∷_ 87 (List._∷_ 97 (List._∷_ 108 (List._∷_ 107 (List._∷_ 101 (List._∷_ 100 List.[]))))))))))))) (Syntax.ttcons
-              (Syntax.tcons y1 (Syntax.tcons y5 Syntax.tnil)) (Syntax.ttcons (Syntax.tcons (Syntax.tyInt Syntax.w64) (Syntax.tcons y1 Syntax.tnil)) Syntax.ttnil)))) (tt, (tt, (tt, (tt, (tt, (tt, tt))))))
-              Path'.refl) d35
+              ) (Reads.room-gone 𝓤 H A (Syntax.tyEnum (List._∷_ 98 (List._∷_ 108 (List._∷_ 111 (List._∷_ 99 (List._∷_ 107 (List._∷_ 58 (List._∷_ 58 (List._∷_ 87 (List._∷_ 97
+              (List._∷_ 108 (List._∷_ 107 (List._∷_ 101 (List._∷_ 100 List.[]))))))))))))) (Syntax.ttcons (Syntax.tcons y2 (Syntax.tcons y6 Syntax.tnil)) (Syntax.ttcons (Syntax.tcons (Syntax.tyInt
+              Syntax.w64) (Syntax.tcons y2 Syntax.tnil)) Syntax.ttnil)))) (tt, (tt, (tt, (tt, (tt, (tt, tt)))))) Path'.refl) d36
 
-          d37 : Typed.Typed 𝓤 H A 𝓣 E G13 b23 Δ0 at37
-          d37 = Typed.s-seq 𝓤 H A W 𝓣 E G13 G14 b5 b22 Δ0 (Typed.ask s12) at36 (Relend.t-sl-aggregate 𝓤 H A W E (Referent.rtF (Referent.fInt Syntax.w16)) 𝓣 (Relend.asMut (Referent.rtF (Referent.fInt
-              Syntax.w16))) G13 17 18 8 (Syntax.tyRef Syntax.erased Syntax.mut (Syntax.tyInt Syntax.w16)) (Syntax.tyRef Syntax.erased Syntax.mut (Syntax.tyInt Syntax.w16)) (λ x. x) (Scalar.oFld 5
+          d38 : Typed.Typed 𝓤 H A 𝓣 E G13 b23 Δ0 at38
+          d38 = Typed.s-seq 𝓤 H A W 𝓣 E G13 G14 b5 b22 Δ0 (Typed.ask s12) at37 (Relend.t-sl-aggregate 𝓤 H A W E (Referent.rtF (Referent.fInt Syntax.w16)) 𝓣 (Relend.asMut (Referent.rtF (Referent.fInt
+              Syntax.w16))) G13 18 19 8 (Syntax.tyRef Syntax.erased Syntax.mut (Syntax.tyInt Syntax.w16)) (Syntax.tyRef Syntax.erased Syntax.mut (Syntax.tyInt Syntax.w16)) (λ x. x) (Scalar.oFld 5
               (List._∷_ (Syntax.field 1) List.[]) (Syntax.tyInt Syntax.w64) 8 λ v. Shared.lenV (v .0)) (Reads.as-is 𝓤 H A (Relend.msptr (Referent.rtF (Referent.fInt Syntax.w16)) (Syntax.tyRef
-              Syntax.erased Syntax.mut (Syntax.tyInt Syntax.w16)) 8)) (Reads.room-gone 𝓤 H A y2) (
+              Syntax.erased Syntax.mut (Syntax.tyInt Syntax.w16)) 8)) (Reads.room-gone 𝓤 H A y3) (
                 Relend.reads-owed-len 𝓤 H A W (Referent.rtF (Referent.fInt Syntax.w16)) (Syntax.tyRef (Syntax.named 4) Syntax.mut (Syntax.tyInt Syntax.w16)) 4 8 (Row.lease (κs .1 .1 .1 .1 .0) (qs .1 .1 .1
                     .1 .0)) 8 Path'.refl,
                 Path'.refl,
-              ) Path'.refl Path'.refl λ b o k. tt) d36
+              ) Path'.refl Path'.refl λ b o k. tt) d37
 
-          d38 : Typed.Typed 𝓤 H A 𝓣 E G12 b24 Δ0 at38
-          d38 = Typed.s-seq 𝓤 H A W 𝓣 E G12 G13 b4 b23 Δ0 (Typed.give s11) at37 (Relend.t-sl-relend 𝓤 H A W E (Referent.rtF (Referent.fInt Syntax.w16)) 𝓣 G12 5 17 4 8 (Syntax.tyRef (Syntax.named 4)
+          d39 : Typed.Typed 𝓤 H A 𝓣 E G12 b24 Δ0 at39
+          d39 = Typed.s-seq 𝓤 H A W 𝓣 E G12 G13 b4 b23 Δ0 (Typed.give s11) at38 (Relend.t-sl-relend 𝓤 H A W E (Referent.rtF (Referent.fInt Syntax.w16)) 𝓣 G12 5 18 4 8 (Syntax.tyRef (Syntax.named 4)
               Syntax.mut (Syntax.tyInt Syntax.w16)) (Syntax.tyRef Syntax.erased Syntax.mut (Syntax.tyInt Syntax.w16)) (Row.lease (κs .1 .1 .1 .1 .0) (qs .1 .1 .1 .1 .0)) 0 (λ x. x) (Reads.as-is 𝓤 H A
               (Mut.mslice (Referent.rtF (Referent.fInt Syntax.w16)) (Syntax.tyRef (Syntax.named 4) Syntax.mut (Syntax.tyInt Syntax.w16)) 4)) (Reads.room-gone 𝓤 H A (Syntax.tyRef Syntax.erased Syntax.mut
-              (Syntax.tyInt Syntax.w16))) Path'.refl tt Path'.refl Path'.refl Path'.refl λ b o. tt) d37
+              (Syntax.tyInt Syntax.w16))) Path'.refl tt Path'.refl Path'.refl Path'.refl λ b o. tt) d38
 
-          d39 : Typed.Typed 𝓤 H A 𝓣 E G11 b24 Δ0 at39
-          d39 = Typed.g-pre 𝓤 H A W 𝓣 E G11 G12 b24 Δ0 (λ Ψ. Ψ) at38 (Lifetime.g-begin 𝓤 H A W E G11 8
-              (tt, (tt, (tt, ((tt, tt), ((tt, tt), (tt, (tt, (tt, (tt, (tt, (tt, (tt, (tt, (tt, (tt, (tt, (tt, (tt, (tt, (tt, (tt, (tt, (tt, (tt, tt))))))))))))))))))))))))) d38
+          d40 : Typed.Typed 𝓤 H A 𝓣 E G11 b24 Δ0 at40
+          d40 = Typed.g-pre 𝓤 H A W 𝓣 E G11 G12 b24 Δ0 (λ Ψ. Ψ) at39 (Lifetime.g-begin 𝓤 H A W E G11 8
+              (tt, (tt, (tt, ((tt, tt), ((tt, tt), (tt, (tt, (tt, (tt, (tt, (tt, (tt, (tt, (tt, (tt, (tt, (tt, (tt, (tt, (tt, (tt, (tt, (tt, (tt, (tt, tt)))))))))))))))))))))))))) d39
 
-          d40 : Typed.Typed 𝓤 H A 𝓣 E G10 b25 Δ0 at40
-          d40 = Typed.s-seq 𝓤 H A W 𝓣 E G10 G11 b3 b24 Δ0 (Typed.ask s9) at39 (Relend.t-sl-aggregate 𝓤 H A W E (Element.type) 𝓣 (Relend.asMut (Element.type)) G10 15 16 7 (Syntax.tyRef Syntax.erased
+          d41 : Typed.Typed 𝓤 H A 𝓣 E G10 b25 Δ0 at41
+          d41 = Typed.s-seq 𝓤 H A W 𝓣 E G10 G11 b3 b24 Δ0 (Typed.ask s9) at40 (Relend.t-sl-aggregate 𝓤 H A W E (Element.type) 𝓣 (Relend.asMut (Element.type)) G10 16 17 7 (Syntax.tyRef Syntax.erased
               Syntax.mut Element.behind) (Syntax.tyRef Syntax.erased Syntax.mut Element.behind) (λ x. x) (Scalar.oFld 4 (List._∷_ (Syntax.field 1) List.[]) (Syntax.tyInt Syntax.w64) 8 λ v. Shared.lenV (v
-              .0)) (Reads.as-is 𝓤 H A (Relend.msptr (Element.type) (Syntax.tyRef Syntax.erased Syntax.mut Element.behind) 7)) (Reads.room-gone 𝓤 H A y3)
+              .0)) (Reads.as-is 𝓤 H A (Relend.msptr (Element.type) (Syntax.tyRef Syntax.erased Syntax.mut Element.behind) 7)) (Reads.room-gone 𝓤 H A y4)
               (Relend.reads-owed-len 𝓤 H A W (Element.type) (Syntax.tyRef (Syntax.named 3) Syntax.mut Element.behind) 3 7 (Row.lease (κs .1 .1 .1 .0) (qs .1 .1 .1 .0)) 8 Path'.refl, Path'.refl) Path'.refl
-              Path'.refl λ b o k. tt) d39
+              Path'.refl λ b o k. tt) d40
 
-          d41 : Typed.Typed 𝓤 H A 𝓣 E G9 b26 Δ0 at41
-          d41 = Typed.s-seq 𝓤 H A W 𝓣 E G9 G10 b2 b25 Δ0 (Typed.give s8) at40 (Relend.t-sl-relend 𝓤 H A W E (Element.type) 𝓣 G9 4 15 3 7 (Syntax.tyRef (Syntax.named 3) Syntax.mut Element.behind)
+          d42 : Typed.Typed 𝓤 H A 𝓣 E G9 b26 Δ0 at42
+          d42 = Typed.s-seq 𝓤 H A W 𝓣 E G9 G10 b2 b25 Δ0 (Typed.give s8) at41 (Relend.t-sl-relend 𝓤 H A W E (Element.type) 𝓣 G9 4 16 3 7 (Syntax.tyRef (Syntax.named 3) Syntax.mut Element.behind)
               (Syntax.tyRef Syntax.erased Syntax.mut Element.behind) (Row.lease (κs .1 .1 .1 .0) (qs .1 .1 .1 .0)) 0 (λ x. x) (Reads.as-is 𝓤 H A (Mut.mslice (Element.type) (Syntax.tyRef (Syntax.named 3)
-              Syntax.mut Element.behind) 3)) (Reads.room-gone 𝓤 H A (Syntax.tyRef Syntax.erased Syntax.mut Element.behind)) Path'.refl tt Path'.refl Path'.refl Path'.refl λ b o. tt) d40
+              Syntax.mut Element.behind) 3)) (Reads.room-gone 𝓤 H A (Syntax.tyRef Syntax.erased Syntax.mut Element.behind)) Path'.refl tt Path'.refl Path'.refl Path'.refl λ b o. tt) d41
 
-          d42 : Typed.Typed 𝓤 H A 𝓣 E G8 b26 Δ0 at42
-          d42 = Typed.g-pre 𝓤 H A W 𝓣 E G8 G9 b26 Δ0 (λ Ψ. Ψ) at41 (Lifetime.g-begin 𝓤 H A W E G8 7
-              (tt, (tt, (tt, ((tt, tt), (tt, (tt, (tt, (tt, (tt, (tt, (tt, (tt, (tt, (tt, (tt, (tt, (tt, (tt, (tt, (tt, (tt, (tt, (tt, (tt, tt))))))))))))))))))))))))) d41
+          d43 : Typed.Typed 𝓤 H A 𝓣 E G8 b26 Δ0 at43
+          d43 = Typed.g-pre 𝓤 H A W 𝓣 E G8 G9 b26 Δ0 (λ Ψ. Ψ) at42 (Lifetime.g-begin 𝓤 H A W E G8 7
+              (tt, (tt, (tt, ((tt, tt), (tt, (tt, (tt, (tt, (tt, (tt, (tt, (tt, (tt, (tt, (tt, (tt, (tt, (tt, (tt, (tt, (tt, (tt, (tt, (tt, (tt, tt)))))))))))))))))))))))))) d42
 
-          d43 : Typed.Typed 𝓤 H A 𝓣 E G7 b27 Δ0 at43
-          d43 = Typed.s-seq 𝓤 H A W 𝓣 E G7 G8 b1 b26 Δ0 (Typed.ask s6) at42 (Relend.t-sl-aggregate 𝓤 H A W E (Referent.rtF (Referent.fInt Syntax.w16)) 𝓣 (Relend.asMut (Referent.rtF (Referent.fInt
-              Syntax.w16))) G7 13 14 6 (Syntax.tyRef Syntax.erased Syntax.mut (Syntax.tyInt Syntax.w16)) (Syntax.tyRef Syntax.erased Syntax.mut (Syntax.tyInt Syntax.w16)) (λ x. x) (Scalar.oFld 3 (List._∷_
+          d44 : Typed.Typed 𝓤 H A 𝓣 E G7 b27 Δ0 at44
+          d44 = Typed.s-seq 𝓤 H A W 𝓣 E G7 G8 b1 b26 Δ0 (Typed.ask s6) at43 (Relend.t-sl-aggregate 𝓤 H A W E (Referent.rtF (Referent.fInt Syntax.w16)) 𝓣 (Relend.asMut (Referent.rtF (Referent.fInt
+              Syntax.w16))) G7 14 15 6 (Syntax.tyRef Syntax.erased Syntax.mut (Syntax.tyInt Syntax.w16)) (Syntax.tyRef Syntax.erased Syntax.mut (Syntax.tyInt Syntax.w16)) (λ x. x) (Scalar.oFld 3 (List._∷_
               (Syntax.field 1) List.[]) (Syntax.tyInt Syntax.w64) 8 λ v. Shared.lenV (v .0)) (Reads.as-is 𝓤 H A (Relend.msptr (Referent.rtF (Referent.fInt Syntax.w16)) (Syntax.tyRef Syntax.erased
-              Syntax.mut (Syntax.tyInt Syntax.w16)) 6)) (Reads.room-gone 𝓤 H A y2) (
+              Syntax.mut (Syntax.tyInt Syntax.w16)) 6)) (Reads.room-gone 𝓤 H A y3) (
                 Relend.reads-owed-len 𝓤 H A W (Referent.rtF (Referent.fInt Syntax.w16)) (Syntax.tyRef (Syntax.named 2) Syntax.mut (Syntax.tyInt Syntax.w16)) 2 6 (Row.lease (κs .1 .1 .0) (qs .1 .1 .0)) 8
                     Path'.refl,
                 Path'.refl,
-              ) Path'.refl Path'.refl λ b o k. tt) d42
+              ) Path'.refl Path'.refl λ b o k. tt) d43
 
-          d44 : Typed.Typed 𝓤 H A 𝓣 E G6 b28 Δ0 at44
-          d44 = Typed.s-seq 𝓤 H A W 𝓣 E G6 G7 b0 b27 Δ0 (Typed.give s5) at43 (Relend.t-sl-relend 𝓤 H A W E (Referent.rtF (Referent.fInt Syntax.w16)) 𝓣 G6 3 13 2 6 (Syntax.tyRef (Syntax.named 2)
+          d45 : Typed.Typed 𝓤 H A 𝓣 E G6 b28 Δ0 at45
+          d45 = Typed.s-seq 𝓤 H A W 𝓣 E G6 G7 b0 b27 Δ0 (Typed.give s5) at44 (Relend.t-sl-relend 𝓤 H A W E (Referent.rtF (Referent.fInt Syntax.w16)) 𝓣 G6 3 14 2 6 (Syntax.tyRef (Syntax.named 2)
               Syntax.mut (Syntax.tyInt Syntax.w16)) (Syntax.tyRef Syntax.erased Syntax.mut (Syntax.tyInt Syntax.w16)) (Row.lease (κs .1 .1 .0) (qs .1 .1 .0)) 0 (λ x. x) (Reads.as-is 𝓤 H A (Mut.mslice
               (Referent.rtF (Referent.fInt Syntax.w16)) (Syntax.tyRef (Syntax.named 2) Syntax.mut (Syntax.tyInt Syntax.w16)) 2)) (Reads.room-gone 𝓤 H A (Syntax.tyRef Syntax.erased Syntax.mut (Syntax.tyInt
-              Syntax.w16))) Path'.refl tt Path'.refl Path'.refl Path'.refl λ b o. tt) d43
+              Syntax.w16))) Path'.refl tt Path'.refl Path'.refl Path'.refl λ b o. tt) d44
 
-          d45 : Typed.Typed 𝓤 H A 𝓣 E G5 b28 Δ0 at45
-          d45 = Typed.g-pre 𝓤 H A W 𝓣 E G5 G6 b28 Δ0 (λ Ψ. Ψ) at44 (Lifetime.g-begin 𝓤 H A W E G5 6
-              (tt, (tt, (tt, (tt, (tt, (tt, (tt, (tt, (tt, (tt, (tt, (tt, (tt, (tt, (tt, (tt, (tt, (tt, (tt, (tt, (tt, (tt, (tt, (tt, tt))))))))))))))))))))))))) d44
+          d46 : Typed.Typed 𝓤 H A 𝓣 E G5 b28 Δ0 at46
+          d46 = Typed.g-pre 𝓤 H A W 𝓣 E G5 G6 b28 Δ0 (λ Ψ. Ψ) at45 (Lifetime.g-begin 𝓤 H A W E G5 6
+              (tt, (tt, (tt, (tt, (tt, (tt, (tt, (tt, (tt, (tt, (tt, (tt, (tt, (tt, (tt, (tt, (tt, (tt, (tt, (tt, (tt, (tt, (tt, (tt, (tt, tt)))))))))))))))))))))))))) d45
 
-          d46 : Typed.Typed 𝓤 H A 𝓣 E G4 b28 Δ0 at46
-          d46 = Typed.g-pre 𝓤 H A W 𝓣 E G4 G5 b28 Δ0 (Typed.give s3) at45 (Know.g-sl-known 𝓤 H A W (Referent.fInt Syntax.w16) E G4 5 4 (Syntax.tyRef (Syntax.named 4) Syntax.mut (Syntax.tyInt
+          d47 : Typed.Typed 𝓤 H A 𝓣 E G4 b28 Δ0 at47
+          d47 = Typed.g-pre 𝓤 H A W 𝓣 E G4 G5 b28 Δ0 (Typed.give s3) at46 (Know.g-sl-known 𝓤 H A W (Referent.fInt Syntax.w16) E G4 5 4 (Syntax.tyRef (Syntax.named 4) Syntax.mut (Syntax.tyInt
               Syntax.w16)) (Row.lease (κs .1 .1 .1 .1 .0) (qs .1 .1 .1 .1 .0)) 0 (λ x. x) record { fits = Dec'.lit< tt } (Reads.as-is 𝓤 H A (Mut.mslice (Referent.rtF (Referent.fInt Syntax.w16))
-              (Syntax.tyRef (Syntax.named 4) Syntax.mut (Syntax.tyInt Syntax.w16)) 4)) Path'.refl tt) d45
+              (Syntax.tyRef (Syntax.named 4) Syntax.mut (Syntax.tyInt Syntax.w16)) 4)) Path'.refl tt) d46
 
-          d47 : Typed.Typed 𝓤 H A 𝓣 E G3 b28 Δ0 at47
-          d47 = Typed.g-pre 𝓤 H A W 𝓣 E G3 G4 b28 Δ0 (Typed.give s2) at46 (Know.g-sl-known 𝓤 H A W (Referent.fInt Syntax.w16) E G3 3 2 (Syntax.tyRef (Syntax.named 2) Syntax.mut (Syntax.tyInt
+          d48 : Typed.Typed 𝓤 H A 𝓣 E G3 b28 Δ0 at48
+          d48 = Typed.g-pre 𝓤 H A W 𝓣 E G3 G4 b28 Δ0 (Typed.give s2) at47 (Know.g-sl-known 𝓤 H A W (Referent.fInt Syntax.w16) E G3 3 2 (Syntax.tyRef (Syntax.named 2) Syntax.mut (Syntax.tyInt
               Syntax.w16)) (Row.lease (κs .1 .1 .0) (qs .1 .1 .0)) 0 (λ x. x) record { fits = Dec'.lit< tt } (Reads.as-is 𝓤 H A (Mut.mslice (Referent.rtF (Referent.fInt Syntax.w16)) (Syntax.tyRef
-              (Syntax.named 2) Syntax.mut (Syntax.tyInt Syntax.w16)) 2)) Path'.refl tt) d46
+              (Syntax.named 2) Syntax.mut (Syntax.tyInt Syntax.w16)) 2)) Path'.refl tt) d47
 
-          d48 : Typed.Typed 𝓤 H A 𝓣 E G2 b28 Δ0 at48
-          d48 = Typed.g-pre 𝓤 H A W 𝓣 E G2 G3 b28 Δ0 (Typed.give s1) at47 (Know.g-shs-known 𝓤 H A W (Referent.fInt Syntax.w8) E G2 2 1 (Syntax.tyRef (Syntax.named 1) Syntax.imm (Syntax.tyInt
+          d49 : Typed.Typed 𝓤 H A 𝓣 E G2 b28 Δ0 at49
+          d49 = Typed.g-pre 𝓤 H A W 𝓣 E G2 G3 b28 Δ0 (Typed.give s1) at48 (Know.g-shs-known 𝓤 H A W (Referent.fInt Syntax.w8) E G2 2 1 (Syntax.tyRef (Syntax.named 1) Syntax.imm (Syntax.tyInt
               Syntax.w8)) (Row.lease (κs .1 .0) (qs .1 .0)) 0 (λ x. x) record { fits = Dec'.lit< tt } (Reads.as-is 𝓤 H A (Rows'.sslice (Referent.rtF (Referent.fInt Syntax.w8)) (Syntax.tyRef (Syntax.named
-              1) Syntax.imm (Syntax.tyInt Syntax.w8)) 1)) Path'.refl tt) d47
+              1) Syntax.imm (Syntax.tyInt Syntax.w8)) 1)) Path'.refl tt) d48
 
-          d49 : Typed.Typed 𝓤 H A 𝓣 E G0 b28 Δ0 at49
-          d49 = Typed.g-pre 𝓤 H A W 𝓣 E G0 G2 b28 Δ0 (Typed.give s0) at48 (Know.g-shs-known 𝓤 H A W (Referent.fInt Syntax.w8) E G0 1 0 (Syntax.tyRef (Syntax.named 0) Syntax.imm (Syntax.tyInt
+          d50 : Typed.Typed 𝓤 H A 𝓣 E G0 b28 Δ0 at50
+          d50 = Typed.g-pre 𝓤 H A W 𝓣 E G0 G2 b28 Δ0 (Typed.give s0) at49 (Know.g-shs-known 𝓤 H A W (Referent.fInt Syntax.w8) E G0 1 0 (Syntax.tyRef (Syntax.named 0) Syntax.imm (Syntax.tyInt
               Syntax.w8)) (Row.lease (κs .0) (qs .0)) 0 (λ x. x) record { fits = Dec'.lit< tt } (Reads.as-is 𝓤 H A (Rows'.sslice (Referent.rtF (Referent.fInt Syntax.w8)) (Syntax.tyRef (Syntax.named 0)
-              Syntax.imm (Syntax.tyInt Syntax.w8)) 0)) Path'.refl tt) d48
+              Syntax.imm (Syntax.tyInt Syntax.w8)) 0)) Path'.refl tt) d49
 
           pub typed : Typed.Typed 𝓤 H A 𝓣 E (Function.Γin 6 ps r xs m κs qs) b28 (Function.Δret 6 ps r xs m κs qs) Φ
-          typed = d49
+          typed = d50
 
       module _ (κs : Lifetimes.Lfts 6) where
         pub record Args : Type 0 where
@@ -1841,17 +1938,17 @@ module _ (claims· : Claims) where
           pub form : Kinds.Den {n = 6} κs (Value.pVal record {
             ty = Declared'.row Form.the-type;
             one = Path'.refl;
-            val = Laws'4.val Form.the-type Laws.the-laws;
-            tells = Laws'4.tells Form.the-type Laws.the-laws;
-            still = Laws'4.still Form.the-type
+            val = Laws'5.val Form.the-type Laws.the-laws;
+            tells = Laws'5.tells Form.the-type Laws.the-laws;
+            still = Laws'5.still Form.the-type
                 Laws.the-copy Exit.yes;
             row = Rows'.whole (Declared'.row Form.the-type);
             rd = λ x. x;
             mk = λ x. x;
           } λ M 𝓤 H A W. record {
-            copies = Laws'4.copy Form.the-type Laws.the-copy 𝓤 H A W;
-            lawful = Laws'4.lawful Form.the-type Laws.the-laws 𝓤 H A W;
-            makes = Laws'4.makes Form.the-type Laws.the-plain 𝓤 H A;
+            copies = Laws'5.copy Form.the-type Laws.the-copy 𝓤 H A W;
+            lawful = Laws'5.lawful Form.the-type Laws.the-laws 𝓤 H A W;
+            makes = Laws'5.makes Form.the-type Laws.the-plain 𝓤 H A;
             in-mem =
                 Local.mem-whole 𝓤 H A W (Declared'.row Form.the-type);
             of-mem = Local.whole-mem 𝓤 H A W (Declared'.row Form.the-type);
@@ -1861,26 +1958,44 @@ module _ (claims· : Claims) where
           pub part : Kinds.Den {n = 6} κs (Value.pVal record {
             ty = Declared'.row Part.the-type;
             one = Path'.refl;
-            val = Laws'4.val Part.the-type Laws''.the-laws;
-            tells = Laws'4.tells Part.the-type Laws''.the-laws;
-            still = Laws'4.still Part.the-type
-                Laws''.the-copy Exit.yes;
+            val = Laws'5.val Part.the-type Laws'3.the-laws;
+            tells = Laws'5.tells Part.the-type Laws'3.the-laws;
+            still = Laws'5.still Part.the-type
+                Laws'3.the-copy Exit.yes;
             row = Rows'.whole (Declared'.row Part.the-type);
             rd = λ x. x;
             mk = λ x. x;
           } λ M 𝓤 H A W. record {
-            copies = Laws'4.copy Part.the-type Laws''.the-copy 𝓤 H A W;
-            lawful = Laws'4.lawful Part.the-type Laws''.the-laws 𝓤 H A W;
-            makes = Laws'4.makes Part.the-type Laws''.the-plain 𝓤 H A;
+            copies = Laws'5.copy Part.the-type Laws'3.the-copy 𝓤 H A W;
+            lawful = Laws'5.lawful Part.the-type Laws'3.the-laws 𝓤 H A W;
+            makes = Laws'5.makes Part.the-type Laws'3.the-plain 𝓤 H A;
             in-mem
                 = Local.mem-whole 𝓤 H A W (Declared'.row Part.the-type);
             of-mem = Local.whole-mem 𝓤 H A W (Declared'.row Part.the-type);
           })
           pub count : Kinds.Den {n = 6} κs (Num.pNum Syntax.w64)
           pub windowed : Kinds.Den {n = 6} κs Bool.pBool
+          pub entries : Kinds.Den {n = 6} κs (Value.pVal record {
+            ty = Declared'.row Entries.the-type;
+            one = Path'.refl;
+            val = Laws'5.val Entries.the-type Laws''.the-laws;
+            tells = Laws'5.tells Entries.the-type Laws''.the-laws;
+            still = Laws'5.still
+                Entries.the-type Laws''.the-copy Exit.yes;
+            row = Rows'.whole (Declared'.row Entries.the-type);
+            rd = λ x. x;
+            mk = λ x. x;
+          } λ M 𝓤 H A W. record {
+            copies = Laws'5.copy Entries.the-type Laws''.the-copy 𝓤 H A W;
+            lawful = Laws'5.lawful Entries.the-type Laws''.the-laws 𝓤 H A W;
+            makes = Laws'5.makes Entries.the-type Laws''.the-plain 𝓤 H
+                A;
+            in-mem = Local.mem-whole 𝓤 H A W (Declared'.row Entries.the-type);
+            of-mem = Local.whole-mem 𝓤 H A W (Declared'.row Entries.the-type);
+          })
 
         abbrev pub dens : (a : Args) → Kinds.Dens κs ps
-        dens = λ a. (a .block, (a .bases, (a .lines, (a .rs, (a .image, (a .form, (a .places, (a .tile, (a .part, (a .count, (a .windowed, tt)))))))))))
+        dens = λ a. (a .block, (a .bases, (a .lines, (a .rs, (a .image, (a .form, (a .places, (a .tile, (a .part, (a .count, (a .windowed, (a .entries, tt))))))))))))
 
         module _ (args· : Args) where
           pub record Ranges : Type 0 where
@@ -2003,16 +2118,19 @@ module _ (claims· : Claims) where
           (
             record { pos = 2; ty = Syntax.tyRef (Syntax.named 1) Syntax.imm (Syntax.tyInt Syntax.w8); ref = λ x. x },
             (
-              record { pos = 14; ty = Syntax.tyRef Syntax.erased Syntax.mut (Syntax.tyInt Syntax.w16); ref = λ x. x },
+              record { pos = 15; ty = Syntax.tyRef Syntax.erased Syntax.mut (Syntax.tyInt Syntax.w16); ref = λ x. x },
               (
-                record { pos = 16; ty = Syntax.tyRef Syntax.erased Syntax.mut Element.behind; ref = λ x. x },
+                record { pos = 17; ty = Syntax.tyRef Syntax.erased Syntax.mut Element.behind; ref = λ x. x },
                 (
-                  record { pos = 18; ty = Syntax.tyRef Syntax.erased Syntax.mut (Syntax.tyInt Syntax.w16); ref = λ x. x },
+                  record { pos = 19; ty = Syntax.tyRef Syntax.erased Syntax.mut (Syntax.tyInt Syntax.w16); ref = λ x. x },
                   (
                     record { pos = 6; st = List.[]; d = 0; at = λ x. x },
                     (
                       record { pos = 7; ty = Syntax.tyRef (Syntax.named 5) Syntax.imm (Syntax.tyArray (Syntax.tyInt Syntax.w16) 768); ref = λ x. x },
-                      (record { pos = 8; st = List.[]; d = 0; at = λ x. x }, (record { pos = 9; st = List.[]; d = 0; at = λ x. x }, (Num.vAt 10 λ x. x, (Bool.bAt 11 λ x. x, tt)))),
+                      (
+                        record { pos = 8; st = List.[]; d = 0; at = λ x. x },
+                        (record { pos = 9; st = List.[]; d = 0; at = λ x. x }, (Num.vAt 10 λ x. x, (Bool.bAt 11 λ x. x, (record { pos = 12; st = List.[]; d = 0; at = λ x. x }, tt)))),
+                      ),
                     ),
                   ),
                 ),
@@ -2032,16 +2150,19 @@ module _ (claims· : Claims) where
         (
           record { pos = 2; ty = Syntax.tyRef (Syntax.named 1) Syntax.imm (Syntax.tyInt Syntax.w8); ref = λ x. x },
           (
-            record { pos = 14; ty = Syntax.tyRef Syntax.erased Syntax.mut (Syntax.tyInt Syntax.w16); ref = λ x. x },
+            record { pos = 15; ty = Syntax.tyRef Syntax.erased Syntax.mut (Syntax.tyInt Syntax.w16); ref = λ x. x },
             (
-              record { pos = 16; ty = Syntax.tyRef Syntax.erased Syntax.mut Element.behind; ref = λ x. x },
+              record { pos = 17; ty = Syntax.tyRef Syntax.erased Syntax.mut Element.behind; ref = λ x. x },
               (
-                record { pos = 18; ty = Syntax.tyRef Syntax.erased Syntax.mut (Syntax.tyInt Syntax.w16); ref = λ x. x },
+                record { pos = 19; ty = Syntax.tyRef Syntax.erased Syntax.mut (Syntax.tyInt Syntax.w16); ref = λ x. x },
                 (
                   record { pos = 6; st = List.[]; d = 0; at = λ x. x },
                   (
                     record { pos = 7; ty = Syntax.tyRef (Syntax.named 5) Syntax.imm (Syntax.tyArray (Syntax.tyInt Syntax.w16) 768); ref = λ x. x },
-                    (record { pos = 8; st = List.[]; d = 0; at = λ x. x }, (record { pos = 9; st = List.[]; d = 0; at = λ x. x }, (Num.vAt 10 λ x. x, (Bool.bAt 11 λ x. x, tt)))),
+                    (
+                      record { pos = 8; st = List.[]; d = 0; at = λ x. x },
+                      (record { pos = 9; st = List.[]; d = 0; at = λ x. x }, (Num.vAt 10 λ x. x, (Bool.bAt 11 λ x. x, (record { pos = 12; st = List.[]; d = 0; at = λ x. x }, tt)))),
+                    ),
                   ),
                 ),
               ),
@@ -2060,190 +2181,193 @@ module _ (claims· : Claims) where
       abbrev pub m14 : (before : After-read-lines-arg3) → (given : s13 .gives (m10 (before .before) (before .read-lines-arg3 .given))) → Typed.Mo T18
       m14 = λ before given. s16 (m13 before given)
 
-      abbrev pub m15 : (before : After-read-lines) → (given : s18 .gives (m14 (before .before) (After-read-lines·gave before))) → Typed.Mo T20
-      m15 = λ before given. s18 .next (m14 (before .before) (After-read-lines·gave before)) given
+      abbrev pub m15 : (before : After-read-lines-arg3) → (given : s13 .gives (m10 (before .before) (before .read-lines-arg3 .given))) → Typed.Mo T19
+      m15 = λ before given. s17 (m14 before given)
+
+      abbrev pub m16 : (before : After-read-lines) → (given : s19 .gives (m15 (before .before) (After-read-lines·gave before))) → Typed.Mo T21
+      m16 = λ before given. s19 .next (m15 (before .before) (After-read-lines·gave before)) given
 
       module _ (before· : After-read-lines) where
         pub record After-lines·own : Type 0 where
-          pub given : s18 .gives (m14 (before· .before) (After-read-lines·gave before·))
+          pub given : s19 .gives (m15 (before· .before) (After-read-lines·gave before·))
 
       pub record After-lines : Type 0 where
         pub before : After-read-lines
         pub lines : After-lines·own before
 
-      abbrev pub m16 : (before : After-lines) → (given : s19 .gives (m15 (before .before) (before .lines .given))) → Typed.Mo T21
-      m16 = λ before given. s19 .next (m15 (before .before) (before .lines .given)) given
+      abbrev pub m17 : (before : After-lines) → (given : s20 .gives (m16 (before .before) (before .lines .given))) → Typed.Mo T22
+      m17 = λ before given. s20 .next (m16 (before .before) (before .lines .given)) given
 
       module _ (before· : After-lines) where
         pub record After-slice-known3·own : Type 0 where
-          pub given : s19 .gives (m15 (before· .before) (before· .lines .given))
+          pub given : s20 .gives (m16 (before· .before) (before· .lines .given))
 
       pub record After-slice-known3 : Type 0 where
         pub before : After-lines
         pub slice-known3 : After-slice-known3·own before
 
-      abbrev pub m17 : (before : After-slice-known3) → (given : s22 .gives (m16 (before .before) (before .slice-known3 .given))) → Typed.Mo T24
-      m17 = λ before given. s22 .next (m16 (before .before) (before .slice-known3 .given)) given
+      abbrev pub m18 : (before : After-slice-known3) → (given : s23 .gives (m17 (before .before) (before .slice-known3 .given))) → Typed.Mo T25
+      m18 = λ before given. s23 .next (m17 (before .before) (before .slice-known3 .given)) given
 
       module _ (before· : After-slice-known3) where
         pub record After-rs·own : Type 0 where
-          pub given : s22 .gives (m16 (before· .before) (before· .slice-known3 .given))
+          pub given : s23 .gives (m17 (before· .before) (before· .slice-known3 .given))
 
       pub record After-rs : Type 0 where
         pub before : After-slice-known3
         pub rs : After-rs·own before
 
-      abbrev pub m18 : (before : After-rs) → (given : s25 .gives (m17 (before .before) (before .rs .given))) → Typed.Mo T27
-      m18 = λ before given. s25 .next (m17 (before .before) (before .rs .given)) given
+      abbrev pub m19 : (before : After-rs) → (given : s26 .gives (m18 (before .before) (before .rs .given))) → Typed.Mo T28
+      m19 = λ before given. s26 .next (m18 (before .before) (before .rs .given)) given
 
       module _ (before· : After-rs) where
         pub record After-image·own : Type 0 where
-          pub given : s25 .gives (m17 (before· .before) (before· .rs .given))
+          pub given : s26 .gives (m18 (before· .before) (before· .rs .given))
 
       pub record After-image : Type 0 where
         pub before : After-rs
         pub image : After-image·own before
 
-      abbrev pub m19 : (before : After-image) → (given : s26 .gives (m18 (before .before) (before .image .given))) → Typed.Mo T28
-      m19 = λ before given. s26 .next (m18 (before .before) (before .image .given)) given
+      abbrev pub m20 : (before : After-image) → (given : s27 .gives (m19 (before .before) (before .image .given))) → Typed.Mo T29
+      m20 = λ before given. s27 .next (m19 (before .before) (before .image .given)) given
 
       module _ (before· : After-image) where
         pub record After-slice-known4·own : Type 0 where
-          pub given : s26 .gives (m18 (before· .before) (before· .image .given))
+          pub given : s27 .gives (m19 (before· .before) (before· .image .given))
 
       pub record After-slice-known4 : Type 0 where
         pub before : After-image
         pub slice-known4 : After-slice-known4·own before
 
-      abbrev pub m20 : (before : After-slice-known4) → (given : s29 .gives (m19 (before .before) (before .slice-known4 .given))) → Typed.Mo T31
-      m20 = λ before given. s29 .next (m19 (before .before) (before .slice-known4 .given)) given
+      abbrev pub m21 : (before : After-slice-known4) → (given : s30 .gives (m20 (before .before) (before .slice-known4 .given))) → Typed.Mo T32
+      m21 = λ before given. s30 .next (m20 (before .before) (before .slice-known4 .given)) given
 
-      abbrev pub m21 : (before : After-slice-known4) → (given : s29 .gives (m19 (before .before) (before .slice-known4 .given))) → Typed.Mo T32
-      m21 = λ before given. s30 .next (m20 before given)
+      abbrev pub m22 : (before : After-slice-known4) → (given : s30 .gives (m20 (before .before) (before .slice-known4 .given))) → Typed.Mo T33
+      m22 = λ before given. s31 .next (m21 before given)
 
       module _ (before· : After-slice-known4) where
         pub record After-clear-arg·own : Type 0 where
-          pub given : s29 .gives (m19 (before· .before) (before· .slice-known4 .given))
+          pub given : s30 .gives (m20 (before· .before) (before· .slice-known4 .given))
 
       pub record After-clear-arg : Type 0 where
         pub before : After-slice-known4
         pub clear-arg : After-clear-arg·own before
 
       abbrev pub Need-clear-requires : Type 0
-      Need-clear-requires = (c : After-clear-arg) → s31 .asks (m21 (c .before) (c .clear-arg .given))
+      Need-clear-requires = (c : After-clear-arg) → s32 .asks (m22 (c .before) (c .clear-arg .given))
 
-      abbrev pub m22 : (before : After-clear-arg) → (given : s31 .gives (m21 (before .before) (before .clear-arg .given))) → Typed.Mo T33
-      m22 = λ before given. s31 .next (m21 (before .before) (before .clear-arg .given)) given
+      abbrev pub m23 : (before : After-clear-arg) → (given : s32 .gives (m22 (before .before) (before .clear-arg .given))) → Typed.Mo T34
+      m23 = λ before given. s32 .next (m22 (before .before) (before .clear-arg .given)) given
 
       module _ (before· : After-clear-arg) where
         abbrev pub After-clear·own : Type 0
-        After-clear·own = Called.Called ps·1 r·1 (claims· .3) T32 (record { pos = 21; ty = Syntax.tyRef Syntax.erased Syntax.mut (Syntax.tyInt Syntax.w16); ref = λ x. x }, tt) (m21 (before· .before)
+        After-clear·own = Called.Called ps·1 r·1 (claims· .3) T33 (record { pos = 22; ty = Syntax.tyRef Syntax.erased Syntax.mut (Syntax.tyInt Syntax.w16); ref = λ x. x }, tt) (m22 (before· .before)
             (before· .clear-arg .given))
 
       pub record After-clear : Type 0 where
         pub before : After-clear-arg
         pub clear : After-clear·own before
 
-      abbrev pub After-clear·gave : (c : After-clear) → s31 .gives (m21 (c .before .before) (c .before .clear-arg .given))
-      After-clear·gave = λ c. Called.given ps·1 r·1 (claims· .3) T32 (record { pos = 21; ty = Syntax.tyRef Syntax.erased Syntax.mut (Syntax.tyInt Syntax.w16); ref = λ x. x }, tt) (m21 (c .before
+      abbrev pub After-clear·gave : (c : After-clear) → s32 .gives (m22 (c .before .before) (c .before .clear-arg .given))
+      After-clear·gave = λ c. Called.given ps·1 r·1 (claims· .3) T33 (record { pos = 22; ty = Syntax.tyRef Syntax.erased Syntax.mut (Syntax.tyInt Syntax.w16); ref = λ x. x }, tt) (m22 (c .before
           .before) (c .before .clear-arg .given)) (c .clear)
 
-      abbrev pub m23 : (before : After-clear-arg) → (given : s31 .gives (m21 (before .before) (before .clear-arg .given))) → Typed.Mo T34
-      m23 = λ before given. s32 (m22 before given)
+      abbrev pub m24 : (before : After-clear-arg) → (given : s32 .gives (m22 (before .before) (before .clear-arg .given))) → Typed.Mo T35
+      m24 = λ before given. s33 (m23 before given)
 
-      abbrev pub m24 : (before : After-clear) → (given : s34 .gives (m23 (before .before) (After-clear·gave before))) → Typed.Mo T36
-      m24 = λ before given. s34 .next (m23 (before .before) (After-clear·gave before)) given
+      abbrev pub m25 : (before : After-clear) → (given : s35 .gives (m24 (before .before) (After-clear·gave before))) → Typed.Mo T37
+      m25 = λ before given. s35 .next (m24 (before .before) (After-clear·gave before)) given
 
       module _ (before· : After-clear) where
         pub record After-lines2·own : Type 0 where
-          pub given : s34 .gives (m23 (before· .before) (After-clear·gave before·))
+          pub given : s35 .gives (m24 (before· .before) (After-clear·gave before·))
 
       pub record After-lines2 : Type 0 where
         pub before : After-clear
         pub lines2 : After-lines2·own before
 
-      abbrev pub m25 : (before : After-lines2) → (given : s35 .gives (m24 (before .before) (before .lines2 .given))) → Typed.Mo T37
-      m25 = λ before given. s35 .next (m24 (before .before) (before .lines2 .given)) given
+      abbrev pub m26 : (before : After-lines2) → (given : s36 .gives (m25 (before .before) (before .lines2 .given))) → Typed.Mo T38
+      m26 = λ before given. s36 .next (m25 (before .before) (before .lines2 .given)) given
 
       module _ (before· : After-lines2) where
         pub record After-slice-known5·own : Type 0 where
-          pub given : s35 .gives (m24 (before· .before) (before· .lines2 .given))
+          pub given : s36 .gives (m25 (before· .before) (before· .lines2 .given))
 
       pub record After-slice-known5 : Type 0 where
         pub before : After-lines2
         pub slice-known5 : After-slice-known5·own before
 
-      abbrev pub m26 : (before : After-slice-known5) → (given : s38 .gives (m25 (before .before) (before .slice-known5 .given))) → Typed.Mo T40
-      m26 = λ before given. s38 .next (m25 (before .before) (before .slice-known5 .given)) given
+      abbrev pub m27 : (before : After-slice-known5) → (given : s39 .gives (m26 (before .before) (before .slice-known5 .given))) → Typed.Mo T41
+      m27 = λ before given. s39 .next (m26 (before .before) (before .slice-known5 .given)) given
 
-      abbrev pub m27 : (before : After-slice-known5) → (given : s38 .gives (m25 (before .before) (before .slice-known5 .given))) → Typed.Mo T41
-      m27 = λ before given. s39 .next (m26 before given)
+      abbrev pub m28 : (before : After-slice-known5) → (given : s39 .gives (m26 (before .before) (before .slice-known5 .given))) → Typed.Mo T42
+      m28 = λ before given. s40 .next (m27 before given)
 
       module _ (before· : After-slice-known5) where
         pub record After-clear-records-arg·own : Type 0 where
-          pub given : s38 .gives (m25 (before· .before) (before· .slice-known5 .given))
+          pub given : s39 .gives (m26 (before· .before) (before· .slice-known5 .given))
 
       pub record After-clear-records-arg : Type 0 where
         pub before : After-slice-known5
         pub clear-records-arg : After-clear-records-arg·own before
 
       abbrev pub Need-clear-records-requires : Type 0
-      Need-clear-records-requires = (c : After-clear-records-arg) → s40 .asks (m27 (c .before) (c .clear-records-arg .given))
+      Need-clear-records-requires = (c : After-clear-records-arg) → s41 .asks (m28 (c .before) (c .clear-records-arg .given))
 
-      abbrev pub m28 : (before : After-clear-records-arg) → (given : s40 .gives (m27 (before .before) (before .clear-records-arg .given))) → Typed.Mo T42
-      m28 = λ before given. s40 .next (m27 (before .before) (before .clear-records-arg .given)) given
+      abbrev pub m29 : (before : After-clear-records-arg) → (given : s41 .gives (m28 (before .before) (before .clear-records-arg .given))) → Typed.Mo T43
+      m29 = λ before given. s41 .next (m28 (before .before) (before .clear-records-arg .given)) given
 
       module _ (before· : After-clear-records-arg) where
         abbrev pub After-clear-records·own : Type 0
-        After-clear-records·own = Called.Called ps·2 r·2 (claims· .5) T41 (record { pos = 23; ty = Syntax.tyRef Syntax.erased Syntax.mut Element.behind; ref = λ x. x }, tt) (m27 (before· .before)
+        After-clear-records·own = Called.Called ps·2 r·2 (claims· .5) T42 (record { pos = 24; ty = Syntax.tyRef Syntax.erased Syntax.mut Element.behind; ref = λ x. x }, tt) (m28 (before· .before)
             (before· .clear-records-arg .given))
 
       pub record After-clear-records : Type 0 where
         pub before : After-clear-records-arg
         pub clear-records : After-clear-records·own before
 
-      abbrev pub After-clear-records·gave : (c : After-clear-records) → s40 .gives (m27 (c .before .before) (c .before .clear-records-arg .given))
-      After-clear-records·gave = λ c. Called.given ps·2 r·2 (claims· .5) T41 (record { pos = 23; ty = Syntax.tyRef Syntax.erased Syntax.mut Element.behind; ref = λ x. x }, tt) (m27 (c .before
+      abbrev pub After-clear-records·gave : (c : After-clear-records) → s41 .gives (m28 (c .before .before) (c .before .clear-records-arg .given))
+      After-clear-records·gave = λ c. Called.given ps·2 r·2 (claims· .5) T42 (record { pos = 24; ty = Syntax.tyRef Syntax.erased Syntax.mut Element.behind; ref = λ x. x }, tt) (m28 (c .before
           .before) (c .before .clear-records-arg .given)) (c .clear-records)
 
-      abbrev pub m29 : (before : After-clear-records-arg) → (given : s40 .gives (m27 (before .before) (before .clear-records-arg .given))) → Typed.Mo T43
-      m29 = λ before given. s41 (m28 before given)
+      abbrev pub m30 : (before : After-clear-records-arg) → (given : s41 .gives (m28 (before .before) (before .clear-records-arg .given))) → Typed.Mo T44
+      m30 = λ before given. s42 (m29 before given)
 
-      abbrev pub m30 : (before : After-clear-records) → (given : s43 .gives (m29 (before .before) (After-clear-records·gave before))) → Typed.Mo T45
-      m30 = λ before given. s43 .next (m29 (before .before) (After-clear-records·gave before)) given
+      abbrev pub m31 : (before : After-clear-records) → (given : s44 .gives (m30 (before .before) (After-clear-records·gave before))) → Typed.Mo T46
+      m31 = λ before given. s44 .next (m30 (before .before) (After-clear-records·gave before)) given
 
-      abbrev pub m31 : (before : After-clear-records) → (given : s43 .gives (m29 (before .before) (After-clear-records·gave before))) → Typed.Mo T47
-      m31 = λ before given. s45 (m30 before given)
-
-      abbrev pub m32 : (before : After-clear-records) → (given : s43 .gives (m29 (before .before) (After-clear-records·gave before))) → Typed.Mo T48
+      abbrev pub m32 : (before : After-clear-records) → (given : s44 .gives (m30 (before .before) (After-clear-records·gave before))) → Typed.Mo T48
       m32 = λ before given. s46 (m31 before given)
 
-      abbrev pub m33 : (before : After-clear-records) → (given : s43 .gives (m29 (before .before) (After-clear-records·gave before))) → Typed.Mo T49
+      abbrev pub m33 : (before : After-clear-records) → (given : s44 .gives (m30 (before .before) (After-clear-records·gave before))) → Typed.Mo T49
       m33 = λ before given. s47 (m32 before given)
 
-      abbrev pub m34 : (before : After-clear-records) → (given : s43 .gives (m29 (before .before) (After-clear-records·gave before))) → Typed.Mo T50
+      abbrev pub m34 : (before : After-clear-records) → (given : s44 .gives (m30 (before .before) (After-clear-records·gave before))) → Typed.Mo T50
       m34 = λ before given. s48 (m33 before given)
+
+      abbrev pub m35 : (before : After-clear-records) → (given : s44 .gives (m30 (before .before) (After-clear-records·gave before))) → Typed.Mo T51
+      m35 = λ before given. s49 (m34 before given)
 
       module _ (before· : After-clear-records) where
         pub record After-rs2·own : Type 0 where
-          pub given : s43 .gives (m29 (before· .before) (After-clear-records·gave before·))
+          pub given : s44 .gives (m30 (before· .before) (After-clear-records·gave before·))
 
       pub record After-rs2 : Type 0 where
         pub before : After-clear-records
         pub rs2 : After-rs2·own before
 
       abbrev pub Need-same-length : Type 0
-      Need-same-length = (c : After-rs2) → MutSlice.SameLen (Row.get 3 (T50 .locals) (m34 (c .before) (c .rs2 .given))) (dens (c .before .before .before .before .before .before .before .before .before
+      Need-same-length = (c : After-rs2) → MutSlice.SameLen (Row.get 3 (T51 .locals) (m35 (c .before) (c .rs2 .given))) (dens (c .before .before .before .before .before .before .before .before .before
           .before .before .before .before .before .before .before .before .before .before .before .κs) (c .before .before .before .before .before .before .before .before .before .before .before .before
           .before .before .before .before .before .before .before .before .args) .1 .1 .0)
 
       abbrev pub Need-same-length-2 : Type 0
-      Need-same-length-2 = (c : After-rs2) → MutSlice.SameLen (Row.get 4 (T50 .locals) (m34 (c .before) (c .rs2 .given))) (dens (c .before .before .before .before .before .before .before .before
+      Need-same-length-2 = (c : After-rs2) → MutSlice.SameLen (Row.get 4 (T51 .locals) (m35 (c .before) (c .rs2 .given))) (dens (c .before .before .before .before .before .before .before .before
           .before .before .before .before .before .before .before .before .before .before .before .before .κs) (c .before .before .before .before .before .before .before .before .before .before .before
           .before .before .before .before .before .before .before .before .before .args) .1 .1 .1 .0)
 
       abbrev pub Need-same-length-3 : Type 0
-      Need-same-length-3 = (c : After-rs2) → MutSlice.SameLen (Row.get 5 (T50 .locals) (m34 (c .before) (c .rs2 .given))) (dens (c .before .before .before .before .before .before .before .before
+      Need-same-length-3 = (c : After-rs2) → MutSlice.SameLen (Row.get 5 (T51 .locals) (m35 (c .before) (c .rs2 .given))) (dens (c .before .before .before .before .before .before .before .before
           .before .before .before .before .before .before .before .before .before .before .before .before .κs) (c .before .before .before .before .before .before .before .before .before .before .before
           .before .before .before .before .before .before .before .before .before .args) .1 .1 .1 .1 .0)
 
@@ -2251,18 +2375,18 @@ module _ (claims· : Claims) where
       Need-returns = (c : After-rs2) → Post· (c .before .before .before .before .before .before .before .before .before .before .before .before .before .before .before .before .before .before .before
           .before .κs) (dens (c .before .before .before .before .before .before .before .before .before .before .before .before .before .before .before .before .before .before .before .before .κs) (c
           .before .before .before .before .before .before .before .before .before .before .before .before .before .before .before .before .before .before .before .before .args)) (Function.resV r (c
-          .before .before .before .before .before .before .before .before .before .before .before .before .before .before .before .before .before .before .before .before .κs) (m34 (c .before) (c .rs2
+          .before .before .before .before .before .before .before .before .before .before .before .before .before .before .before .before .before .before .before .before .κs) (m35 (c .before) (c .rs2
           .given) .0)) (Clauses.atExit (Kinds.endedOf 6 ps r) (c .before .before .before .before .before .before .before .before .before .before .before .before .before .before .before .before .before
           .before .before .before .κs) (dens (c .before .before .before .before .before .before .before .before .before .before .before .before .before .before .before .before .before .before .before
           .before .κs) (c .before .before .before .before .before .before .before .before .before .before .before .before .before .before .before .before .before .before .before .before .args))
           (Enter.lastsP (c .before .before .before .before .before .before .before .before .before .before .before .before .before .before .before .before .before .before .before .before .κs) 1 ps xs
           (dens (c .before .before .before .before .before .before .before .before .before .before .before .before .before .before .before .before .before .before .before .before .κs) (c .before .before
-          .before .before .before .before .before .before .before .before .before .before .before .before .before .before .before .before .before .before .args)) (m34 (c .before) (c .rs2 .given) .1)))
+          .before .before .before .before .before .before .before .before .before .before .before .before .before .before .before .before .before .before .args)) (m35 (c .before) (c .rs2 .given) .1)))
 
       module _ (read-lines-requires : Need-read-lines-requires) (clear-requires : Need-clear-requires) (clear-records-requires : Need-clear-records-requires) (same-length : Need-same-length)
           (same-length-2 : Need-same-length-2) (same-length-3 : Need-same-length-3) (returns : Need-returns) where
         lay3 : (c : After-clear-records) → at8 (W0 (c .before .before .before .before .before .before .before .before .before .before .before .before .before .before .before .before .before .before
-            .before .κs) (c .before .before .before .before .before .before .before .before .before .before .before .before .before .before .before .before .before .before .before .args)) (m28 (c .before)
+            .before .κs) (c .before .before .before .before .before .before .before .before .before .before .before .before .before .before .before .before .before .before .before .args)) (m29 (c .before)
             (After-clear-records·gave c))
         lay3 = λ c. (
           Path'.refl,
@@ -2272,24 +2396,24 @@ module _ (claims· : Claims) where
               (
                 Path'.refl,
                 (
-                  MutSlice.fix-len (Row.get 3 (T50 .locals) (m34 record { before = c .before; clear-records = c .clear-records } g) .ptr) (Row.get 3 (T50 .locals) (m34 record
-                      { before = c .before; clear-records = c .clear-records } g) .name) (Row.get 3 (T50 .locals) (m34 record { before = c .before; clear-records = c .clear-records } g) .now) (dens (c .before
+                  MutSlice.fix-len (Row.get 3 (T51 .locals) (m35 record { before = c .before; clear-records = c .clear-records } g) .ptr) (Row.get 3 (T51 .locals) (m35 record
+                      { before = c .before; clear-records = c .clear-records } g) .name) (Row.get 3 (T51 .locals) (m35 record { before = c .before; clear-records = c .clear-records } g) .now) (dens (c .before
                       .before .before .before .before .before .before .before .before .before .before .before .before .before .before .before .before .before .before .κs) (c .before .before .before .before .before
                       .before .before .before .before .before .before .before .before .before .before .before .before .before .before .args) .1 .1 .0 .now) (same-length record
                       { before = record { before = c .before; clear-records = c .clear-records }; rs2 = record { given = g } }),
                   (
-                    MutSlice.fix-len (Row.get 4 (T50 .locals) (m34 record { before = c .before; clear-records = c .clear-records } g) .ptr) (Row.get 4 (T50 .locals) (m34 record
-                        { before = c .before; clear-records = c .clear-records } g) .name) (Row.get 4 (T50 .locals) (m34 record { before = c .before; clear-records = c .clear-records } g) .now) (dens (c .before
+                    MutSlice.fix-len (Row.get 4 (T51 .locals) (m35 record { before = c .before; clear-records = c .clear-records } g) .ptr) (Row.get 4 (T51 .locals) (m35 record
+                        { before = c .before; clear-records = c .clear-records } g) .name) (Row.get 4 (T51 .locals) (m35 record { before = c .before; clear-records = c .clear-records } g) .now) (dens (c .before
                         .before .before .before .before .before .before .before .before .before .before .before .before .before .before .before .before .before .before .κs) (c .before .before .before .before .before
                         .before .before .before .before .before .before .before .before .before .before .before .before .before .before .args) .1 .1 .1 .0 .now) (same-length-2 record
                         { before = record { before = c .before; clear-records = c .clear-records }; rs2 = record { given = g } }),
                     (
-                      MutSlice.fix-len (Row.get 5 (T50 .locals) (m34 record { before = c .before; clear-records = c .clear-records } g) .ptr) (Row.get 5 (T50 .locals) (m34 record
-                          { before = c .before; clear-records = c .clear-records } g) .name) (Row.get 5 (T50 .locals) (m34 record { before = c .before; clear-records = c .clear-records } g) .now) (dens (c .before
+                      MutSlice.fix-len (Row.get 5 (T51 .locals) (m35 record { before = c .before; clear-records = c .clear-records } g) .ptr) (Row.get 5 (T51 .locals) (m35 record
+                          { before = c .before; clear-records = c .clear-records } g) .name) (Row.get 5 (T51 .locals) (m35 record { before = c .before; clear-records = c .clear-records } g) .now) (dens (c .before
                           .before .before .before .before .before .before .before .before .before .before .before .before .before .before .before .before .before .before .κs) (c .before .before .before .before .before
                           .before .before .before .before .before .before .before .before .before .before .before .before .before .before .args) .1 .1 .1 .1 .0 .now) (same-length-3 record
                           { before = record { before = c .before; clear-records = c .clear-records }; rs2 = record { given = g } }),
-                      (tt, (Path'.refl, (tt, (tt, (tt, (tt, tt)))))),
+                      (tt, (Path'.refl, (tt, (tt, (tt, (tt, (tt, tt))))))),
                     ),
                   ),
                 ),
@@ -2301,7 +2425,7 @@ module _ (claims· : Claims) where
         )
 
         lay2 : (c : After-clear) → at17 (W0 (c .before .before .before .before .before .before .before .before .before .before .before .before .before .before .before .κs) (c .before .before .before
-            .before .before .before .before .before .before .before .before .before .before .before .before .args)) (m22 (c .before) (After-clear·gave c))
+            .before .before .before .before .before .before .before .before .before .before .before .before .args)) (m23 (c .before) (After-clear·gave c))
         lay2 = λ c. (
           Path'.refl,
           λ g. λ g'. λ g''. (
@@ -2318,14 +2442,14 @@ module _ (claims· : Claims) where
                   clear-records-arg =
                       record { given = g'' };
                 };
-                clear-records = Called.called ps·2 r·2 (claims· .5) T41 (record { pos = 23; ty = Syntax.tyRef Syntax.erased Syntax.mut Element.behind; ref = λ x. x }, tt) (m27
+                clear-records = Called.called ps·2 r·2 (claims· .5) T42 (record { pos = 24; ty = Syntax.tyRef Syntax.erased Syntax.mut Element.behind; ref = λ x. x }, tt) (m28
                     record { before = record { before = record { before = c .before; clear = c .clear }; lines2 = record { given = g } }; slice-known5 = record { given = g' } } g'') g'3;
               },
             ),
           ),
         )
 
-        lay1 : (c : After-read-lines) → at35 (W0 (c .before .before .before .before .before .before .before .before .κs) (c .before .before .before .before .before .before .before .before .args)) (m11
+        lay1 : (c : After-read-lines) → at36 (W0 (c .before .before .before .before .before .before .before .before .κs) (c .before .before .before .before .before .before .before .before .args)) (m11
             (c .before) (After-read-lines·gave c))
         lay1 = λ c. (
           Path'.refl,
@@ -2365,8 +2489,8 @@ module _ (claims· : Claims) where
                       };
                       clear-arg = record { given = g'5 };
                     };
-                    clear = Called.called ps·1 r·1 (claims· .3) T32
-                        (record { pos = 21; ty = Syntax.tyRef Syntax.erased Syntax.mut (Syntax.tyInt Syntax.w16); ref = λ x. x }, tt) (m21 record {
+                    clear = Called.called ps·1 r·1 (claims· .3) T33
+                        (record { pos = 22; ty = Syntax.tyRef Syntax.erased Syntax.mut (Syntax.tyInt Syntax.w16); ref = λ x. x }, tt) (m22 record {
                           before = record {
                             before = record {
                               before = record { before = record { before = record { before = c .before; read-lines = c .read-lines }; lines = record { given = g } }; slice-known3 = record { given = g' } };
@@ -2384,7 +2508,7 @@ module _ (claims· : Claims) where
           ),
         )
 
-        pub laid : (c : Start) → at49 (W0 (c .κs) (c .args)) (m0 (c .κs) (c .args))
+        pub laid : (c : Start) → at50 (W0 (c .κs) (c .args)) (m0 (c .κs) (c .args))
         laid = λ c. λ g. λ g'. λ g''. λ g'3. λ g'4. (
           Path'.refl,
           λ g'5. (
@@ -2428,16 +2552,19 @@ module _ (claims· : Claims) where
                             (
                               record { pos = 2; ty = Syntax.tyRef (Syntax.named 1) Syntax.imm (Syntax.tyInt Syntax.w8); ref = λ x. x },
                               (
-                                record { pos = 14; ty = Syntax.tyRef Syntax.erased Syntax.mut (Syntax.tyInt Syntax.w16); ref = λ x. x },
+                                record { pos = 15; ty = Syntax.tyRef Syntax.erased Syntax.mut (Syntax.tyInt Syntax.w16); ref = λ x. x },
                                 (
-                                  record { pos = 16; ty = Syntax.tyRef Syntax.erased Syntax.mut Element.behind; ref = λ x. x },
+                                  record { pos = 17; ty = Syntax.tyRef Syntax.erased Syntax.mut Element.behind; ref = λ x. x },
                                   (
-                                    record { pos = 18; ty = Syntax.tyRef Syntax.erased Syntax.mut (Syntax.tyInt Syntax.w16); ref = λ x. x },
+                                    record { pos = 19; ty = Syntax.tyRef Syntax.erased Syntax.mut (Syntax.tyInt Syntax.w16); ref = λ x. x },
                                     (
                                       record { pos = 6; st = List.[]; d = 0; at = λ x. x },
                                       (
                                         record { pos = 7; ty = Syntax.tyRef (Syntax.named 5) Syntax.imm (Syntax.tyArray (Syntax.tyInt Syntax.w16) 768); ref = λ x. x },
-                                        (record { pos = 8; st = List.[]; d = 0; at = λ x. x }, (record { pos = 9; st = List.[]; d = 0; at = λ x. x }, (Num.vAt 10 λ x. x, (Bool.bAt 11 λ x. x, tt)))),
+                                        (
+                                          record { pos = 8; st = List.[]; d = 0; at = λ x. x },
+                                          (record { pos = 9; st = List.[]; d = 0; at = λ x. x }, (Num.vAt 10 λ x. x, (Bool.bAt 11 λ x. x, (record { pos = 12; st = List.[]; d = 0; at = λ x. x }, tt)))),
+                                        ),
                                       ),
                                     ),
                                   ),
@@ -2479,14 +2606,11 @@ module _ (claims· : Claims) where
               part = a .1 .1 .1 .1 .1 .1 .1 .1 .0;
               count = a .1 .1 .1 .1 .1 .1 .1 .1 .1 .0;
               windowed = a .1 .1 .1 .1 .1 .1 .1 .1 .1 .1 .0;
+              entries = a .1 .1 .1 .1 .1 .1 .1 .1 .1 .1 .1 .0;
             };
-            good = good;
-            fits = record {
-              count = record {
-                fits = good
-                    .1 .1 .1 .1 .1 .1 .1 .1 .1 .0 .1;
-              };
-            };
+            good =
+                good;
+            fits = record { count = record { fits = good .1 .1 .1 .1 .1 .1 .1 .1 .1 .0 .1 } };
             pre = pre;
           }
 

@@ -1,0 +1,2 @@
+pub mod decode_region_shared
+pub mod decode_shared_blocks

@@ -1,0 +1,5 @@
+-- The laws about entries.
+pub mod SearchLaws
+pub mod EntryLaws
+pub mod HoldLaws
+pub mod SoundLaws

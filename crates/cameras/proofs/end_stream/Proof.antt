@@ -1,0 +1,81 @@
+use borrow.Author.Needs.{needs}
+use mathlib.Core.Path.{_≡_, refl, sym, ap, _∙_}
+use Prim.Native.Nat.{ℕ, suc, _+_, _-_, _≤_, _<_}
+use native.Mathlib.Nat.{add-zero}
+use native.Mathlib.Numerals.{add-one}
+use native.Mathlib.Omega.{arith}
+use Rattle.cameras.specs.Entries.{isHeld, isPair, entryAt, pairIn, freeIn, hasEntry, withEntry, freeOf, mendedEntry, each, afterLines, linesWithEntry, AllNumbered}
+use Rattle.cameras.proofs.EntryLaws.{each-start, each-more}
+use Rattle.cameras.proofs.end_stream.Statement.{statement}
+use Rattle.cameras.proofs.end_stream.Tie as tie
+use Rattle.cameras.proofs.end_stream.Reads as reads
+use Rattle.cameras.proofs.end_stream.Lts as lts
+use Rattle.cameras.proofs.free_of.Reads as free-of-reads
+
+abbrev Inv-loop : tie.InvT-loop
+Inv-loop camera after₀ i₀ after i = (i ≤ 16) × (after .all ≡ each (freeOf camera) i (after₀ .all))
+
+abbrev μ-loop : tie.MeasureT-loop
+μ-loop camera after₀ i₀ after i = 16 - i
+
+-- src/lib.rt:237:5
+loop-holds : tie.Need-loop-holds Inv-loop μ-loop
+loop-holds c = (omega arith, each-start _ _)
+
+-- src/lib.rt:238:17
+mul-old : tie.Need-mul-old Inv-loop μ-loop
+mul-old c = search needs
+
+-- src/lib.rt:238:17
+element-copy-out-old : tie.Need-element-copy-out-old Inv-loop μ-loop
+element-copy-out-old c = search needs
+
+-- src/lib.rt:239:24
+free-of-requires : tie.Need-free-of-requires Inv-loop μ-loop
+free-of-requires c κs = search needs
+
+-- src/lib.rt:239:9
+mul-t7 : tie.Need-mul-t7 Inv-loop μ-loop
+mul-t7 c = search needs
+
+-- src/lib.rt:239:9
+element-set-from-after : tie.Need-element-set-from-after Inv-loop μ-loop
+element-set-from-after c = search needs
+
+-- src/lib.rt:240:9
+add-i : tie.Need-add-i Inv-loop μ-loop
+add-i c = search needs
+
+-- src/lib.rt:237:5
+loop-less : tie.Need-loop-less Inv-loop μ-loop
+loop-less c = search needs
+
+-- src/lib.rt:237:5
+loop-again : tie.Need-loop-again Inv-loop μ-loop
+loop-again c =
+    let l = c .before .before .before .loop in
+    (omega (arith, c .before .before .loop-test .taken), each-more _ _ _ _ _ (l .inv .1) (c .free-of .ensures))
+
+-- src/lib.rt:232:1
+returns : tie.Need-returns Inv-loop μ-loop
+returns c =
+    let l = c .before .loop in
+    let e : l .i ≡ 16 = omega (arith, l .inv .0, c .loop-test .left) in
+    rw e at (l .inv .1)
+
+pub end-stream-spec : {M : Type 1} → statement M
+end-stream-spec =
+    tie.close
+    (tie.spec
+    Inv-loop
+    μ-loop
+    loop-holds
+    mul-old
+    element-copy-out-old
+    free-of-requires
+    mul-t7
+    element-set-from-after
+    add-i
+    loop-less
+    loop-again
+    returns)

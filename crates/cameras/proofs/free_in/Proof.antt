@@ -1,0 +1,72 @@
+use borrow.Author.Needs.{needs}
+use mathlib.Core.Bool.{not}
+use mathlib.Core.Path.{_≡_, refl, sym, ap, _∙_}
+use Prim.Native.Nat.{_-_, _≤_}
+use native.Mathlib.Omega.{arith}
+use Rattle.cameras.proofs.SearchLaws.{NoneBefore, found, goes-on, ended}
+use Rattle.cameras.specs.Entries.{isHeld, isPair, entryAt, pairIn, freeIn}
+use Rattle.cameras.proofs.free_in.Statement.{statement}
+use Rattle.cameras.proofs.free_in.Tie as tie
+use Rattle.cameras.proofs.free_in.Reads as reads
+use Rattle.cameras.proofs.free_in.Lts as lts
+use Rattle.cameras.proofs.is_held.Reads as is-held-reads
+
+abbrev Inv-loop : tie.InvT-loop
+Inv-loop entries i₀ i = NoneBefore (λ j. not (isHeld (entryAt (entries .all) j))) i
+
+abbrev μ-loop : tie.MeasureT-loop
+μ-loop entries i₀ i = 16 - i
+
+-- src/lib.rt:92:5
+loop-holds : tie.Need-loop-holds Inv-loop μ-loop
+loop-holds c = (omega arith, refl)
+
+-- src/lib.rt:93:17
+mul-e : tie.Need-mul-e Inv-loop μ-loop
+mul-e c = search needs
+
+-- src/lib.rt:93:17
+element-copy-out-e : tie.Need-element-copy-out-e Inv-loop μ-loop
+element-copy-out-e c = search needs
+
+-- src/lib.rt:94:13
+is-held-requires : tie.Need-is-held-requires Inv-loop μ-loop
+is-held-requires c κs = search needs
+
+-- src/lib.rt:95:13
+returns : tie.Need-returns Inv-loop μ-loop
+unfolding freeIn
+returns c = found (λ j. not (isHeld (entryAt (c .before .before .before .before .before .args .t1 .all) j))) _ (c .before .before .before .before .loop .inv) (ap not (sym (c .before .is-held .ensures)) ∙ c .if1 .taken)
+
+-- src/lib.rt:97:9
+add-j : tie.Need-add-j Inv-loop μ-loop
+add-j c = search needs
+
+-- src/lib.rt:92:5
+loop-less : tie.Need-loop-less Inv-loop μ-loop
+loop-less c = search needs
+
+-- src/lib.rt:92:5
+loop-again : tie.Need-loop-again Inv-loop μ-loop
+loop-again c = goes-on (λ j. not (isHeld (entryAt (c .before .before .before .before .before .args .t1 .all) j))) _ (c .before .before .before .before .loop .inv) (c .before .before .before .loop-test .taken) (ap not (sym (c .before .is-held .ensures)) ∙ c .if1 .left)
+
+-- src/lib.rt:88:1
+returns-2 : tie.Need-returns-2 Inv-loop μ-loop
+unfolding freeIn
+returns-2 c = ended (λ j. not (isHeld (entryAt (c .before .before .args .t1 .all) j))) _ (c .before .loop .inv) (c .loop-test .left)
+
+pub free-in-spec : {M : Type 1} → statement M
+free-in-spec =
+    tie.close
+    (tie.spec
+    Inv-loop
+    μ-loop
+    loop-holds
+    mul-e
+    element-copy-out-e
+    is-held-requires
+    returns
+    add-j
+    loop-less
+    loop-again
+    returns-2)

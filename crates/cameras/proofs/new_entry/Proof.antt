@@ -1,0 +1,22 @@
+use borrow.Author.Needs.{needs}
+use Rattle.cameras.proofs.new_entry.Statement.{statement}
+use Rattle.cameras.proofs.new_entry.Tie as tie
+use Rattle.cameras.proofs.new_entry.Reads as reads
+use Rattle.cameras.proofs.new_entry.Lts as lts
+use Rattle.cameras.proofs.held_by.Reads as held-by-reads
+use Rattle.quantiser.proofs.Quantiser.main.Reads as main-reads
+
+-- src/lib.rt:146:9
+main-requires : tie.Need-main-requires
+main-requires c κs = search needs
+
+-- src/lib.rt:147:5
+held-by-requires : tie.Need-held-by-requires
+held-by-requires c κs = search needs
+
+-- src/lib.rt:142:1
+returns : tie.Need-returns
+returns c = cc
+
+pub new-entry-spec : {M : Type 1} → statement M
+new-entry-spec = tie.close (tie.spec main-requires held-by-requires returns)

@@ -1,0 +1,3 @@
+-- The definitions of the entries that two cameras share.
+pub mod Entries
+pub mod Words

@@ -1,0 +1,3 @@
+-- The proof.
+pub mod HistoryLaws
+pub mod TwoCamerasHold
