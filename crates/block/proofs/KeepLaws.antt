@@ -43,7 +43,7 @@ module _ (F : Form) (s : List ℕ) (Q : State → Type 0) (pass : (q i : ℕ) (r
       runs-keep (readLineAt F bases s) (startState F bases) Q start (λ m r y h f. line-keeps (baseOf bases m) (beforeLine F bases m r) y (turn m r h) f) n z e
 
 -- what a pass leaves, by what was read
-left-by : (Q : State → Type 0) (P : Plan) (r z : State) (o : Option Reading) → ((y : Reading) → o ≡ some y
+pub left-by : (Q : State → Type 0) (P : Plan) (r z : State) (o : Option Reading) → ((y : Reading) → o ≡ some y
     → Q (record { lines = y .lines; records = putSet (P .set) (y .set) (r .records); at = y .at; tight = y .tight; long = y .long }))
     → leave P r o ≡ some z → Q z
 left-by Q P r z none k e = let no : _≡_ {A = ℕ} 0 1 = cc in absurd (omega arith)

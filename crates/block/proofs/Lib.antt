@@ -4,10 +4,13 @@ pub mod TableLaws
 pub mod SetLaws
 pub mod RangeLaws
 pub mod RunLaws
+pub mod ResumeLaws
 pub mod LineLaws
 pub mod BlockLaws
 pub mod KeepLaws
+pub mod StoredLaws
 pub mod SampleLaws
+pub mod LoadLaws
 pub mod WrittenLaws
 pub mod WalkLaws
 pub mod AnswerLaws

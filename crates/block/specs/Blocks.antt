@@ -96,6 +96,10 @@ startState F bases =
 unfoldable pub readLines : Form → List ℕ → List ℕ → ℕ → Option State
 readLines F bases s n = runs (readLineAt F bases s) n (startState F bases)
 
+-- the state after m lines from line k on, where line k finds the state z
+unfoldable pub readFrom : Form → List ℕ → List ℕ → ℕ → State → ℕ → Option State
+readFrom F bases s k z m = runs (λ i. readLineAt F bases s (k + i)) m z
+
 -- the colour lines after n lines: those of line n − 1
 abbrev pub linesOf : Option State → List ℕ
 linesOf none = []

@@ -3,6 +3,7 @@ pub mod Records
 pub mod Between
 pub mod Blocks
 pub mod Walks
+pub mod Checkpoints
 pub mod Lent
 pub mod Images
 pub mod BadCodes
