@@ -3,7 +3,6 @@ pub mod Records
 pub mod Between
 pub mod Blocks
 pub mod Walks
-pub mod Checkpoints
 pub mod Lent
 pub mod Images
 pub mod BadCodes
@@ -11,6 +10,9 @@ pub mod BadSpots
 pub mod TightBlocks
 pub mod WrittenBlocks
 pub mod Totals
+pub mod Checkpoints
+pub mod Storing
+pub mod Resuming
 pub mod BlockReadings
 pub mod Sharing
 pub mod Words
