@@ -26,7 +26,10 @@ fn the_foot_is_what_decoding_from_the_top_gives() {
     assert!(f.get("foot.raw") == f.get("top.raw"));
     // Nothing is left to read after the last line, and the region would lie below the picture.
     f.works("save a.fcs all 3 end");
-    f.fails("decode a.fcs out --region 0,23,768,1 --from end", "the state of block 0 goes on from row 24, and the region begins with row 23");
+    f.fails(
+        "decode a.fcs out --region 0,23,768,1 --from end",
+        "the state of block 0 goes on from row 24, and the region begins with row 23",
+    );
 }
 
 #[test]
@@ -52,7 +55,10 @@ fn what_cannot_be_gone_on_from() {
     f.fails("decode a.fcs out --region 0,12,768,12 --from other", malformed);
     f.fails("decode a.fcs out --region 0,12,768,12 --from header", "refusal 22: the stored state is of another header or block");
     f.fails("decode a.fcs out --region 0,12,769,12 --from state", "state has no state of block 1");
-    f.fails("decode a.fcs out --region 0,11,768,12 --from state", "the state of block 0 goes on from row 12, and the region begins with row 11");
+    f.fails(
+        "decode a.fcs out --region 0,11,768,12 --from state",
+        "the state of block 0 goes on from row 12, and the region begins with row 11",
+    );
     f.fails("decode a.fcs out --from state", "the state of block 0 goes on from row 12, and the region begins with row 0");
     f.fails("decode a.fcs out --region 0,12,768,12 --from nothing", "cannot read nothing: no such file or directory");
     f.fails("decode a.fcs state --region 0,12,768,12 --from state", "cannot write state: it is read for this");
