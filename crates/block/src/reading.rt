@@ -75,7 +75,7 @@ fn quantisers_in(entries: Entries, bits: u32, base: u32) -> Quantisers
 }
 
 // Where a block starts.
-fn start_place() -> Place
+pub(crate) fn start_place() -> Place
     ensures { λ r. ⌜ r ≡ startPlace ⌝ }
 {
     let at = BitPosition(0);
