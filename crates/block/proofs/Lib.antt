@@ -14,7 +14,10 @@ pub mod LoadLaws
 pub mod WrittenLaws
 pub mod WalkLaws
 pub mod AnswerLaws
+pub mod CountLaws
 pub mod DecodeLaws
+pub mod ResumedLaws
+pub mod StoringLaws
 pub mod BadCodeLaws
 pub mod TightLaws
 pub mod TotalLaws

@@ -13,6 +13,7 @@ pub mod Totals
 pub mod Checkpoints
 pub mod Storing
 pub mod Resuming
+pub mod Calls
 pub mod BlockReadings
 pub mod Sharing
 pub mod Words

@@ -151,10 +151,6 @@ unfoldable pub loadedRecord : Bool → Record → List ℕ → ℕ → Record
 loadedRecord lossless start s j =
     cond (lossless && isFlat j) start (record { sum = min (sumIn s j) (nIn s j * largestResidual); n = nIn s j })
 
--- set g of a block that starts with the records `start` in it
-abbrev pub loadedSet : Bool → List Record → List ℕ → ℕ → List Record
-loadedSet lossless start s g = putEach (λ j. loadedRecord lossless (getD start j noRecord) s (112 * g + j)) 0 112 start
-
 -- the samples of the m-th line that was kept go where it stood
 abbrev pub withKept : ℕ → List ℕ → ℕ → List ℕ → List ℕ
 withKept W s m lines = putEach (λ p. storedSample s (m * W + p)) (keptLine m * (W + 2) + 1) W lines

@@ -16,7 +16,7 @@ pub use load::Bounds;
 pub use load::Checked;
 pub use load::check;
 pub use load::load_lines;
-pub use load::load_set;
+pub use load::load_record;
 
 // Byte k of the n bytes of a number.
 fn be_byte(n: u32, k: u32, x: u64) -> u8

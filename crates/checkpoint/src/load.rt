@@ -5,13 +5,11 @@ ghost use Prim.Native.Nat.{ℕ, _+_, _-_, _*_, _/_, _%_, _^_, _≤_, _<_, min};
 ghost use lib.Dec.{eqb};
 ghost use lib.ListN.{length, getD};
 ghost use Rattle.checkpoint.specs.Checkpoints.{beAt, storedSample, anyBelow, badRecord, badSample, badPlace, badCheckpoint};
-ghost use Rattle.checkpoint.specs.Checkpoints.{otherCheckpoint, checkedOf, loadedRecord, loadedSet, withKept, withSix, withGuards, loadedLines};
-ghost use Rattle.steps.specs.Values.{recordsOf};
+ghost use Rattle.checkpoint.specs.Checkpoints.{otherCheckpoint, checkedOf, loadedRecord, withKept, withSix, withGuards, loadedLines};
 use crate::kept_line;
 use crate::start_of;
 use numbers::u8_to_u64;
 use statistics::Record;
-use steps::Set;
 
 // What stored bytes are to a call: none that load, those of another block, or the next line and the bit position to go on from.
 pub enum Checked {
@@ -158,7 +156,7 @@ pub fn check(s: &[u8], b: Bounds, d: &[u8], block: usize) -> Checked
 }
 
 // Record j, where the block starts with `start`. A sum that no block reaches is cut.
-fn load_record(s: &[u8], j: usize, lossless: bool, start: Record) -> Record
+pub fn load_record(s: &[u8], j: usize, lossless: bool, start: Record) -> Record
     requires { ⌜ (1707 ≤ length (now s)) × (j < 336) ⌝ }
     ensures { λ r. ⌜ r ≡ loadedRecord lossless start (now (s .entry)) j ⌝ }
 {
@@ -171,27 +169,6 @@ fn load_record(s: &[u8], j: usize, lossless: bool, start: Record) -> Record
         sum: numbers::smaller(sum, n * 1_032_192),
         n,
     }
-}
-
-// The records of set g.
-pub fn load_set(s: &[u8], g: usize, lossless: bool, start: Set) -> Set
-    requires { ⌜ (1707 ≤ length (now s)) × (g < 3) ⌝ }
-    ensures { λ r. ⌜ recordsOf r ≡ loadedSet lossless (recordsOf start) (now (s .entry)) g ⌝ }
-{
-    let mut sums = start.sums;
-    let mut ns = start.ns;
-    let mut j = 0usize;
-    while j < 112 {
-        let old = Record {
-            sum: sums[j],
-            n: ns[j],
-        };
-        let new = load_record(s, 112 * g + j, lossless, old);
-        sums[j] = new.sum;
-        ns[j] = new.n;
-        j += 1;
-    }
-    Set { sums, ns }
 }
 
 // The samples of the m-th line that was kept.
