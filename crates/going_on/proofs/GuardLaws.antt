@@ -10,13 +10,22 @@ use native.Mathlib.Omega.{arith}
 use lib.Dec.{lit<}
 use lib.ListN.{length, getD}
 use Rattle.lines.specs.ColourLines.{guarded}
-use Rattle.lines.proofs.LineLaws.{length-guarded}
+use Rattle.lines.proofs.LineLaws.{length-guarded, length-turned}
 use Rattle.lines.proofs.MoveLaws.{place-is, guard-leaves, left-guard, right-guard}
-use Rattle.steps.specs.Steps.{passSteps}
+use Rattle.map.specs.Places.{widthOf}
+use Rattle.steps.specs.Steps.{planOf, passSteps}
 use Rattle.steps.specs.declared.Plan.{Plan}
 use Rattle.steps.proofs.OrderLaws.{pass-all}
 use Rattle.pass.specs.Readings.{Reading, readPass}
 use Rattle.pass.proofs.FrameLaws.{steps-leave, pass-frame}
+use Rattle.pass.proofs.RangeLaws.{pass-keeps}
+use Rattle.block.specs.Blocks.{State, runs, enter, passAt, endLine, readLine, beforeLine, readLineAt, startState, readLines}
+use Rattle.block.specs.Records.{baseOf}
+use Rattle.block.specs.declared.Form.{Form}
+use Rattle.block.proofs.KeepLaws.{left-by, end-same, passes-keep, lines-long}
+use Rattle.block.proofs.RunLaws.{then-both, runs-last}
+use Rattle.block.proofs.WindowTwins.{two-lines}
+use Rattle.going_on.proofs.NearLaws.{even-width}
 
 -- the guards of line L
 pub record Ends (W L : ℕ) (l : List ℕ) : Type 0 where
@@ -87,3 +96,72 @@ module _ (bits q W : ℕ) (s : List ℕ) (P : Plan) (even : W % 2 ≡ 0) (l : Li
   other-ends L a b c d k =
       ends-pass bits q W s P even r z e L c d
       (rw entered (ends-guard W L (P .second) (guarded W (P .first) l) b d (ends-guard W L (P .first) l a c k)))
+
+-- ---- after a line
+
+module _ (F : Form) (depth : F .bits ≤ 16) (s : List ℕ) where
+  abbrev W : ℕ
+  W = widthOf (F .xtrans)
+
+  abbrev Long : State → Type 0
+  Long r = length (r .lines) ≡ 18 * (W + 2)
+
+  pass-long : (q i : ℕ) (r z : State) → Long r → passAt F q s i r ≡ some z → Long z
+  unfolding passAt
+  pass-long q i r z h e =
+      let P : Plan = planOf (F .xtrans) i in
+      left-by Long P r z (readPass (F .bits) q W s P (enter F P r))
+      (λ y k. pass-keeps (F .bits) q W s depth P (enter F P r) y k .lines ∙ length-guarded W (P .second) (guarded W (P .first) (r .lines))
+      ∙ length-guarded W (P .first) (r .lines) ∙ h)
+      e
+
+  -- pass 4 reads lines 4 and 11, and pass 5 lines 12 and 17
+  ends-of-4 : (q : ℕ) (r z : State) → Long r → passAt F q s 4 r ≡ some z → Ends W 4 (z .lines)
+  unfolding passAt
+  ends-of-4 q r z h e =
+      let P : Plan = planOf (F .xtrans) 4 in
+      let f : P .first ≡ 4 = two-lines (F .xtrans) 4 (lit< tt) .first in
+      let g : P .second ≡ 11 = two-lines (F .xtrans) 4 (lit< tt) .second in
+      left-by (λ y. Ends W 4 (y .lines)) P r z (readPass (F .bits) q W s P (enter F P r))
+      (λ y k.
+      rw f at
+      (first-ends (F .bits) q W s P (even-width (F .xtrans)) (r .lines) (enter F P r) y refl k (omega (arith, f)) (omega (arith, f, g)) (omega (arith, g)) h))
+      e
+
+  ends-of-5 : (q : ℕ) (r z : State) → Long r → Ends W 4 (r .lines) → passAt F q s 5 r ≡ some z
+      → Ends W 4 (z .lines) × Ends W 12 (z .lines) × Ends W 17 (z .lines)
+  unfolding passAt
+  ends-of-5 q r z h b e =
+      let P : Plan = planOf (F .xtrans) 5 in
+      let f : P .first ≡ 12 = two-lines (F .xtrans) 5 (lit< tt) .first in
+      let g : P .second ≡ 17 = two-lines (F .xtrans) 5 (lit< tt) .second in
+      left-by (λ y. Ends W 4 (y .lines) × Ends W 12 (y .lines) × Ends W 17 (y .lines)) P r z (readPass (F .bits) q W s P (enter F P r))
+      (λ y k. (
+        other-ends (F .bits) q W s P (even-width (F .xtrans)) (r .lines) (enter F P r) y refl k (omega (arith, f)) (omega (arith, f, g)) (omega (arith, g)) h
+            4 (λ x. omega (arith, f)) (λ x. omega (arith, g)) (λ x. omega (arith, f)) (λ x. omega (arith, g)) b,
+        rw f at
+            (first-ends (F .bits) q W s P (even-width (F .xtrans)) (r .lines) (enter F P r) y refl k (omega (arith, f)) (omega (arith, f, g))
+            (omega (arith, g)) h),
+        rw g at
+            (second-ends (F .bits) q W s P (even-width (F .xtrans)) (r .lines) (enter F P r) y refl k (omega (arith, f)) (omega (arith, f, g))
+            (omega (arith, g)) h),
+      ))
+      e
+
+  -- so the guards of the last line of each colour are the ends of the one above
+  pub read-ends : (bases : List ℕ) (n : ℕ) (z : State) → readLines F bases s (suc n) ≡ some z
+      → Ends W 4 (z .lines) × Ends W 12 (z .lines) × Ends W 17 (z .lines)
+  unfolding readLines readLineAt readLine
+  read-ends bases n z e =
+      let q : ℕ = baseOf bases n in
+      let l = runs-last (readLineAt F bases s) (startState F bases) n z e in
+      let b : State = beforeLine F bases n (l .0) in
+      let whole = lines-long F depth s bases n (l .0) (l .1) in
+      let long : Long b = length-turned W ((l .0) .lines) (omega (arith, whole)) ∙ whole in
+      let u = then-both (runs (passAt F q s) 6 b) (endLine s) z (l .2) in
+      let five = runs-last (passAt F q s) b 5 (u .0) (u .1) in
+      let four = runs-last (passAt F q s) b 4 (five .0) (five .1) in
+      let long-4 = passes-keep F s Long pass-long q 4 b (four .0) long (four .1) in
+      let long-5 = passes-keep F s Long pass-long q 5 b (five .0) long (five .1) in
+      let same = end-same s (u .0) z (u .2) in
+      rw same at (ends-of-5 q (five .0) (u .0) long-5 (ends-of-4 q (four .0) (five .0) long-4 (four .2)) (five .2))

@@ -1,5 +1,5 @@
 -- The proof.
 pub mod CountLaws
 pub mod FlatLaws
-pub mod GuardLaws
 pub mod NearLaws
+pub mod GuardLaws

@@ -109,7 +109,7 @@ length-entered W a c v h la ha lc hc =
     length-guarded W c (guarded W a (shifted W c (shifted W a v))) ∙ length-guarded W a (shifted W c (shifted W a v))
     ∙ length-shifted W c (shifted W a v) lc (omega arith) ∙ e ∙ h
 
-even-width : (xtrans : Bool) → widthOf xtrans % 2 ≡ 0
+pub even-width : (xtrans : Bool) → widthOf xtrans % 2 ≡ 0
 even-width true = refl
 even-width false = refl
 
