@@ -3,3 +3,4 @@ pub mod CountLaws
 pub mod FlatLaws
 pub mod NearLaws
 pub mod GuardLaws
+pub mod LoadedLaws
