@@ -4,3 +4,4 @@ pub mod FlatLaws
 pub mod NearLaws
 pub mod GuardLaws
 pub mod LoadedLaws
+pub mod ResumedLaws
