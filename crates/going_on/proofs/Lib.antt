@@ -5,3 +5,5 @@ pub mod NearLaws
 pub mod GuardLaws
 pub mod LoadedLaws
 pub mod ResumedLaws
+pub mod RangeLaws
+pub mod CallLaws
