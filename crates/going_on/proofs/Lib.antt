@@ -6,4 +6,6 @@ pub mod GuardLaws
 pub mod LoadedLaws
 pub mod ResumedLaws
 pub mod RangeLaws
+pub mod TotalLaws
 pub mod CallLaws
+pub mod GoingOnHolds

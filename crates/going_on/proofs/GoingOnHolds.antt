@@ -1,0 +1,149 @@
+-- Going on from a stored state gives what the reading from the top gives, and from any bytes samples in range: of calls, by what each promises.
+-- Assumes nothing.
+use borrow.Author.Tests.{leb-true, ltb-true, eqb-true, le-leb, lt-ltb, eq-eqb}
+use mathlib.Core.Bool.{Bool, true, false, cond, _&&_}
+use mathlib.Core.List.{List}
+use mathlib.Core.Option.{some}
+use mathlib.Core.Path.{_≡_, refl, sym, ap, _∙_}
+use Prim.Native.Nat.{ℕ, suc, _+_, _-_, _*_, _/_, _%_, _^_, _≤_, _<_}
+use native.Mathlib.Omega.{arith}
+use lib.Dec.{leb, ltb, eqb}
+use lib.ListN.{length, getD, take}
+use Rattle.numbers.proofs.BoolLaws.{both}
+use Rattle.map.specs.Places.{widthOf, Changed}
+use Rattle.map.proofs.PartLaws.{by-test}
+use Rattle.map.proofs.WindowLaws.{changed-as}
+use Rattle.stream.specs.Streams.{openOf}
+use Rattle.stream.specs.declared.FujiHeader.{FujiHeader}
+use Rattle.stream.specs.declared.Parsed.the-variants.{Header}
+use Rattle.stream.proofs.StreamLaws.{opened}
+use Rattle.region.specs.Regions.{blockOf, firstBlock, lastBlock, lineCount, Accepted}
+use Rattle.region.specs.declared.Rect.{Rect}
+use Rattle.region.proofs.RegionLaws.{block-touched}
+use Rattle.checkpoint.specs.Checkpoints.{sizeOfCheckpoint, IsCheckpoint, nextLine}
+use Rattle.block.specs.Blocks.{State, readLines}
+use Rattle.block.specs.Checkpoints.{savedOf}
+use Rattle.block.specs.Images.{formOf, bytesIn, basesIn, readIn, lineOf, isDecoded, decodedSample}
+use Rattle.block.specs.Lent.{Buffers}
+use Rattle.block.specs.Resuming.{linesResumed, isTouched, resumedIn, isResumed, resumedSample, checkedIn, Resumed, Resuming}
+use Rattle.block.specs.declared.Counted.{Counted}
+use Rattle.going_on.specs.GoingOn.{isLater, AsFromTop, GoingOn, InRangeFromAny}
+use Rattle.going_on.proofs.CallLaws.{header-same, resume-reads, Stored, has-stored}
+use Rattle.going_on.proofs.RangeLaws.{not-bad, resumed-le}
+use Rattle.going_on.proofs.ResumedLaws.{block-short, loads, next-is, Reach, ended, goes, reach, answer-same, untouched-done, sample-same}
+use Rattle.going_on.proofs.TotalLaws.{totals-same}
+
+-- ---- from a state that was stored
+
+module _ (d : List ℕ) (h : FujiHeader) (b : ℕ) (o : openOf d ≡ Header h) (here : b < h .blocks) (short : length (bytesIn d b) < 2 ^ 32) (from : List ℕ)
+    (same : (i : ℕ) → i < 16 → getD from i 0 ≡ getD d i 0) (n : ℕ) (line : n < h .lines) (z : State) (c : List ℕ)
+    (read : readLines (formOf h) (basesIn d b) (bytesIn d b) (suc n) ≡ some z)
+    (is : IsCheckpoint (h .lossless) (widthOf (h .xtrans)) (savedOf from b n z) c) (r : Rect) (room : ℕ) (ok : Accepted h r room) where
+  abbrev next : nextLine c ≡ suc n
+  next = next-is d h b o here short from same n line z c read is
+
+  -- an entry of the block is of a touched block
+  touched : (i : ℕ) → blockOf r i ≡ b → isTouched r b ≡ true
+  touched i e =
+      let t = block-touched h r room ok i in
+      rw (le-leb (firstBlock r) b (omega (arith, t .0, e)), le-leb b (lastBlock r) (omega (arith, t .1, e)))
+
+  -- its line is read now exactly if it is a later one that the reading from the top reads
+  now-read : (x : ℕ) → suc n ≤ x → (x < nextLine c + linesResumed d b h c (lineCount r - nextLine c) → x < readIn d h r b)
+      × (x < readIn d h r b → x < nextLine c + linesResumed d b h c (lineCount r - nextLine c))
+  now-read x l = by (reach d h b o here short from same n line z c read is r)
+    where
+      by : Reach d h b o here short from same n line z c read is r → (x < nextLine c + linesResumed d b h c (lineCount r - nextLine c) → x < readIn d h r b)
+          × (x < readIn d h r b → x < nextLine c + linesResumed d b h c (lineCount r - nextLine c))
+      by (ended k e f) = (λ u. absurd (omega (arith, l, u, e, next)), λ u. absurd (omega (arith, l, u, f, k)))
+      by (goes k e) = ((λ u. omega (arith, u, e, next)), λ u. omega (arith, u, e, next))
+
+  module _ (i : ℕ) where
+    later : isResumed d b h c r i ≡ true → isLater d h r b n i ≡ true
+    unfolding isResumed isDecoded
+    later t =
+        let p = both (ltb i (r .width * r .height) && eqb (blockOf r i) b && leb (nextLine c) (lineOf r i)) (ltb (lineOf r i) (nextLine c + resumedIn d b h c r)) t in
+        let q = both (ltb i (r .width * r .height) && eqb (blockOf r i) b) (leb (nextLine c) (lineOf r i)) (p .0) in
+        let u = both (ltb i (r .width * r .height)) (eqb (blockOf r i) b) (q .0) in
+        let e : blockOf r i ≡ b = eqb-true (blockOf r i) b (u .1) in
+        let m : suc n ≤ lineOf r i = omega (arith, leb-true (nextLine c) (lineOf r i) (q .1), next) in
+        let k : ltb (lineOf r i) (nextLine c + linesResumed d b h c (lineCount r - nextLine c)) ≡ true = rw (touched i e) at (p .1) in
+        let v : lineOf r i < readIn d h r b = now-read (lineOf r i) m .0 (ltb-true (lineOf r i) (nextLine c + linesResumed d b h c (lineCount r - nextLine c)) k) in
+        rw (
+          u .1,
+          lt-ltb n (lineOf r i) m,
+          u .0,
+          lt-ltb (blockOf r i) (lastBlock r + 1) (omega (arith, block-touched h r room ok i .1)),
+          e,
+          lt-ltb (lineOf r i) (readIn d h r b) v,
+        )
+
+    now : isLater d h r b n i ≡ true → isResumed d b h c r i ≡ true
+    unfolding isResumed isDecoded
+    now t =
+        let p = both (eqb (blockOf r i) b && ltb n (lineOf r i)) (isDecoded d h r (lastBlock r + 1) i) t in
+        let q = both (eqb (blockOf r i) b) (ltb n (lineOf r i)) (p .0) in
+        let u = both (ltb i (r .width * r .height) && ltb (blockOf r i) (lastBlock r + 1)) (ltb (lineOf r i) (readIn d h r (blockOf r i))) (p .1) in
+        let w = both (ltb i (r .width * r .height)) (ltb (blockOf r i) (lastBlock r + 1)) (u .0) in
+        let e : blockOf r i ≡ b = eqb-true (blockOf r i) b (q .0) in
+        let m : suc n ≤ lineOf r i = ltb-true n (lineOf r i) (q .1) in
+        let k : lineOf r i < readIn d h r b = ltb-true (lineOf r i) (readIn d h r b) (rw e at (u .1)) in
+        rw (
+          w .0,
+          q .0,
+          le-leb (nextLine c) (lineOf r i) (omega (arith, m, next)),
+          touched i e,
+          lt-ltb (lineOf r i) (nextLine c + linesResumed d b h c (lineCount r - nextLine c)) (now-read (lineOf r i) m .1 k),
+        )
+
+    shown : (tile : List ℕ) → isLater d h r b n i ≡ true → resumedSample d b h c r tile i ≡ decodedSample d h r tile i
+    shown tile t =
+        let p = both (eqb (blockOf r i) b && ltb n (lineOf r i)) (isDecoded d h r (lastBlock r + 1) i) t in
+        let q = both (eqb (blockOf r i) b) (ltb n (lineOf r i)) (p .0) in
+        sample-same d h b o here short from same n line z c read is tile (r .y + i / r .width) (r .x + i % r .width)
+        (eqb-true (blockOf r i) b (q .0)) (ltb-true n (lineOf r i) (q .1))
+
+  pub as-from-top : (tile image image' : List ℕ) (stored resumed : Counted) → stored .totals ≡ record { bits = z .at .0; long = z .long }
+      → Resumed d b h c r tile (checkedIn d b h c) image image' resumed → AsFromTop d h b n r tile image image' stored resumed
+  as-from-top tile image image' stored resumed kept left =
+      let got = rw (loads d h b o here short from same n line z c read is) at left in
+      let t = totals-same d h b o here short from same n line z c read is r in
+      record {
+        answered =
+            ap (λ (x : Counted). x .answer) (got .0)
+            ∙ by-test (isTouched r b)
+            (λ e. answer-same d h b o here short from same n line z c read is r e ∙ rw e)
+            (λ e. untouched-done d h b o here short from same n line z c read is r e ∙ rw e);
+        pictured =
+            changed-as (isResumed d b h c r) (isLater d h r b n) (resumedSample d b h c r tile) (decodedSample d h r tile) image image'
+            (λ i e. let k = later i e in (k, shown i tile k)) now (got .1);
+        bits = rw (kept, got .0) (t .0);
+        long = rw (kept, got .0) (t .1);
+      }
+
+pub going-on : GoingOn
+going-on d d' h b n r tile lent lent' before after stored resumed bytes same calls =
+    let s = has-stored d b n lent lent' stored (calls .done) (calls .stores) in
+    let a = resume-reads d' b r (length (before .image)) (length (before .lines)) (length (before .records)) h (calls .begins) in
+    let e : s .0 ≡ h = header-same d d' (s .0) h (same .header) (s .1 .opens) (a .opens) in
+    by (s .0) e (s .1)
+  where
+    by : (g : FujiHeader) → g ≡ h → Stored d b n g lent' stored → AsFromTop d' h b n r tile (before .image) (after .image) stored resumed
+    by g e s' =
+        let s : Stored d b n h lent' stored = rw e at s' in
+        let a = resume-reads d' b r (length (before .image)) (length (before .lines)) (length (before .records)) h (calls .begins) in
+        let left : Resuming d' b h (take (sizeOfCheckpoint (widthOf (h .xtrans))) (lent' .out)) r tile before after resumed = rw (calls .begins) at (calls .goes) in
+        as-from-top d' h b (a .opens) (a .block) (block-short d' h b (a .opens) (a .block) bytes) d (same .header) n (s .line) (s .state)
+        (take (sizeOfCheckpoint (widthOf (h .xtrans))) (lent' .out)) (rw (same .bytes, same .bases) at (s .read)) (s .bytes) r (length (before .image))
+        (a .region) tile (before .image) (after .image) stored resumed (s .totals) (left .resumed)
+
+-- ---- from any bytes
+
+pub in-range-from-any : InRangeFromAny
+in-range-from-any d h b s r tile before after answer k at i begins left checked filled =
+    let a = resume-reads d b r (length (before .image)) (length (before .lines)) (length (before .records)) h begins in
+    let u = opened d h (a .opens) .ruled in
+    let g : Resuming d b h s r tile before after answer = rw begins at left in
+    let got = rw checked at (g .resumed) in
+    let good = not-bad (widthOf (h .xtrans)) (h .bits) (h .lines) (length (bytesIn d b)) d b s k at checked in
+    rw (got .1 .entries i, filled) (resumed-le d b h s tile (r .y + i / r .width) (r .x + i % r .width) (u .bits-high) good)
