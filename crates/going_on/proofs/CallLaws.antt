@@ -2,17 +2,15 @@
 use borrow.Author.Tests.{ltb-true, ltb-false, leb-false, lt-leb, le-ltb}
 use mathlib.Core.Bool.{Bool, true, false, cond, not}
 use mathlib.Core.List.{List}
-use mathlib.Core.Logic.{_↔_}
 use mathlib.Core.Option.{Option, none, some}
 use mathlib.Core.Path.{_≡_, refl, sym, ap, _∙_}
-use Prim.Native.Nat.{ℕ, suc, _+_, _≤_, _<_}
+use Prim.Native.Nat.{ℕ, suc, _≤_, _<_}
 use native.Mathlib.Nat.{zero-add}
 use native.Mathlib.Omega.{arith}
 use lib.Dec.{leb, ltb, lit<}
 use lib.ListN.{length, getD, take}
 use lib.Seq.{getD-take, length-take-le}
 use Rattle.map.specs.Places.{widthOf}
-use Rattle.map.proofs.PartLaws.{by-test}
 use Rattle.stream.specs.Headers.{headerOf, allRules, parseOf}
 use Rattle.stream.specs.Streams.{openOf}
 use Rattle.stream.specs.declared.FujiHeader.{FujiHeader}
@@ -34,7 +32,6 @@ use Rattle.block.specs.Lent.{Outputs}
 use Rattle.block.specs.Storing.{storedCounted, Storing, StoredBy, LeftStored}
 use Rattle.block.specs.Totals.{counted, refusedBy}
 use Rattle.block.specs.declared.Counted.{Counted}
-use Rattle.block.specs.declared.Decoded.{Decoded}
 use Rattle.block.specs.declared.Decoded.the-variants as Answer
 use Rattle.block.proofs.DecodeLaws.{all-read, was-read}
 use Rattle.going_on.specs.GoingOn.{CanStore, StoresExactly}

@@ -1,7 +1,7 @@
 -- Base 0 uses no flat record, so that those of a lossless block stay as they were at the start. Assumes nothing.
 use mathlib.Core.Bool.{Bool, true, false, cond}
 use mathlib.Core.List.{List, [], _∷_}
-use mathlib.Core.Option.{Option, none, some}
+use mathlib.Core.Option.{some}
 use mathlib.Core.Path.{_≡_, refl, sym, _∙_}
 use Prim.Native.Nat.{ℕ, zero, suc, _+_, _*_, _%_, _≤_, _<_}
 use native.Mathlib.Omega.{arith}
@@ -12,7 +12,6 @@ use lib.Seq.{getD-set-same, getD-set-other, paste, paste-zero, paste-suc, length
 use Rattle.numbers.proofs.OrderLaws.{split}
 use Rattle.statistics.specs.declared.Record.{Record}
 use Rattle.quantiser.proofs.GradientLaws.{main-le}
-use Rattle.prediction.specs.Predictions.{flatnessOf}
 use Rattle.prediction.specs.declared.Context.{Context}
 use Rattle.code.specs.Samples.{choiceOf}
 use Rattle.code.specs.declared.Coded.{Coded}

@@ -1,16 +1,16 @@
 -- Going on from a stored state gives what the reading from the top gives, and from any bytes samples in range: of calls, by what each promises.
 -- Assumes nothing.
 use borrow.Author.Tests.{leb-true, ltb-true, eqb-true, le-leb, lt-ltb, eq-eqb}
-use mathlib.Core.Bool.{Bool, true, false, cond, _&&_}
+use mathlib.Core.Bool.{Bool, true, _&&_}
 use mathlib.Core.List.{List}
 use mathlib.Core.Option.{some}
-use mathlib.Core.Path.{_≡_, refl, sym, ap, _∙_}
+use mathlib.Core.Path.{_≡_, ap, _∙_}
 use Prim.Native.Nat.{ℕ, suc, _+_, _-_, _*_, _/_, _%_, _^_, _≤_, _<_}
 use native.Mathlib.Omega.{arith}
 use lib.Dec.{leb, ltb, eqb}
 use lib.ListN.{length, getD, take}
 use Rattle.numbers.proofs.BoolLaws.{both}
-use Rattle.map.specs.Places.{widthOf, Changed}
+use Rattle.map.specs.Places.{widthOf}
 use Rattle.map.proofs.PartLaws.{by-test}
 use Rattle.map.proofs.WindowLaws.{changed-as}
 use Rattle.stream.specs.Streams.{openOf}
@@ -24,7 +24,6 @@ use Rattle.checkpoint.specs.Checkpoints.{sizeOfCheckpoint, IsCheckpoint, nextLi
 use Rattle.block.specs.Blocks.{State, readLines}
 use Rattle.block.specs.Checkpoints.{savedOf}
 use Rattle.block.specs.Images.{formOf, bytesIn, basesIn, readIn, lineOf, isDecoded, decodedSample}
-use Rattle.block.specs.Lent.{Buffers}
 use Rattle.block.specs.Resuming.{linesResumed, isTouched, resumedIn, isResumed, resumedSample, checkedIn, Resumed, Resuming}
 use Rattle.block.specs.declared.Counted.{Counted}
 use Rattle.going_on.specs.GoingOn.{isLater, AsFromTop, GoingOn, InRangeFromAny}
@@ -48,27 +47,35 @@ module _ (d : List ℕ) (h : FujiHeader) (b : ℕ) (o : openOf d ≡ Header h) (
       let t = block-touched h r room ok i in
       rw (le-leb (firstBlock r) b (omega (arith, t .0, e)), le-leb b (lastBlock r) (omega (arith, t .1, e)))
 
+  -- the line after those that are read now
+  abbrev past : ℕ
+  past = nextLine c + linesResumed d b h c (lineCount r - nextLine c)
+
   -- its line is read now exactly if it is a later one that the reading from the top reads
-  now-read : (x : ℕ) → suc n ≤ x → (x < nextLine c + linesResumed d b h c (lineCount r - nextLine c) → x < readIn d h r b)
-      × (x < readIn d h r b → x < nextLine c + linesResumed d b h c (lineCount r - nextLine c))
+  now-read : (x : ℕ) → suc n ≤ x → (x < past → x < readIn d h r b) × (x < readIn d h r b → x < past)
   now-read x l = by (reach d h b o here short from same n line z c read is r)
     where
-      by : Reach d h b o here short from same n line z c read is r → (x < nextLine c + linesResumed d b h c (lineCount r - nextLine c) → x < readIn d h r b)
-          × (x < readIn d h r b → x < nextLine c + linesResumed d b h c (lineCount r - nextLine c))
+      by : Reach d h b o here short from same n line z c read is r → (x < past → x < readIn d h r b) × (x < readIn d h r b → x < past)
       by (ended k e f) = (λ u. absurd (omega (arith, l, u, e, next)), λ u. absurd (omega (arith, l, u, f, k)))
       by (goes k e) = ((λ u. omega (arith, u, e, next)), λ u. omega (arith, u, e, next))
 
   module _ (i : ℕ) where
+    abbrev inside : Bool
+    inside = ltb i (r .width * r .height)
+
+    abbrev ours : Bool
+    ours = eqb (blockOf r i) b
+
     later : isResumed d b h c r i ≡ true → isLater d h r b n i ≡ true
     unfolding isResumed isDecoded
     later t =
-        let p = both (ltb i (r .width * r .height) && eqb (blockOf r i) b && leb (nextLine c) (lineOf r i)) (ltb (lineOf r i) (nextLine c + resumedIn d b h c r)) t in
-        let q = both (ltb i (r .width * r .height) && eqb (blockOf r i) b) (leb (nextLine c) (lineOf r i)) (p .0) in
-        let u = both (ltb i (r .width * r .height)) (eqb (blockOf r i) b) (q .0) in
+        let p = both (inside && ours && leb (nextLine c) (lineOf r i)) (ltb (lineOf r i) (nextLine c + resumedIn d b h c r)) t in
+        let q = both (inside && ours) (leb (nextLine c) (lineOf r i)) (p .0) in
+        let u = both inside ours (q .0) in
         let e : blockOf r i ≡ b = eqb-true (blockOf r i) b (u .1) in
         let m : suc n ≤ lineOf r i = omega (arith, leb-true (nextLine c) (lineOf r i) (q .1), next) in
-        let k : ltb (lineOf r i) (nextLine c + linesResumed d b h c (lineCount r - nextLine c)) ≡ true = rw (touched i e) at (p .1) in
-        let v : lineOf r i < readIn d h r b = now-read (lineOf r i) m .0 (ltb-true (lineOf r i) (nextLine c + linesResumed d b h c (lineCount r - nextLine c)) k) in
+        let k : ltb (lineOf r i) past ≡ true = rw (touched i e) at (p .1) in
+        let v : lineOf r i < readIn d h r b = now-read (lineOf r i) m .0 (ltb-true (lineOf r i) past k) in
         rw (
           u .1,
           lt-ltb n (lineOf r i) m,
@@ -78,30 +85,33 @@ module _ (d : List ℕ) (h : FujiHeader) (b : ℕ) (o : openOf d ≡ Header h) (
           lt-ltb (lineOf r i) (readIn d h r b) v,
         )
 
+    -- what a later entry is
+    is-later : isLater d h r b n i ≡ true → (blockOf r i ≡ b) × (suc n ≤ lineOf r i) × (isDecoded d h r (lastBlock r + 1) i ≡ true)
+    is-later t =
+        let p = both (ours && ltb n (lineOf r i)) (isDecoded d h r (lastBlock r + 1) i) t in
+        let q = both ours (ltb n (lineOf r i)) (p .0) in
+        (eqb-true (blockOf r i) b (q .0), ltb-true n (lineOf r i) (q .1), p .1)
+
     now : isLater d h r b n i ≡ true → isResumed d b h c r i ≡ true
     unfolding isResumed isDecoded
     now t =
-        let p = both (eqb (blockOf r i) b && ltb n (lineOf r i)) (isDecoded d h r (lastBlock r + 1) i) t in
-        let q = both (eqb (blockOf r i) b) (ltb n (lineOf r i)) (p .0) in
-        let u = both (ltb i (r .width * r .height) && ltb (blockOf r i) (lastBlock r + 1)) (ltb (lineOf r i) (readIn d h r (blockOf r i))) (p .1) in
-        let w = both (ltb i (r .width * r .height)) (ltb (blockOf r i) (lastBlock r + 1)) (u .0) in
-        let e : blockOf r i ≡ b = eqb-true (blockOf r i) b (q .0) in
-        let m : suc n ≤ lineOf r i = ltb-true n (lineOf r i) (q .1) in
+        let z = is-later t in
+        let u = both (inside && ltb (blockOf r i) (lastBlock r + 1)) (ltb (lineOf r i) (readIn d h r (blockOf r i))) (z .2) in
+        let w = both inside (ltb (blockOf r i) (lastBlock r + 1)) (u .0) in
+        let e : blockOf r i ≡ b = z .0 in
         let k : lineOf r i < readIn d h r b = ltb-true (lineOf r i) (readIn d h r b) (rw e at (u .1)) in
         rw (
           w .0,
-          q .0,
-          le-leb (nextLine c) (lineOf r i) (omega (arith, m, next)),
+          eq-eqb (blockOf r i) b e,
+          le-leb (nextLine c) (lineOf r i) (omega (arith, z .1, next)),
           touched i e,
-          lt-ltb (lineOf r i) (nextLine c + linesResumed d b h c (lineCount r - nextLine c)) (now-read (lineOf r i) m .1 k),
+          lt-ltb (lineOf r i) past (now-read (lineOf r i) (z .1) .1 k),
         )
 
     shown : (tile : List ℕ) → isLater d h r b n i ≡ true → resumedSample d b h c r tile i ≡ decodedSample d h r tile i
     shown tile t =
-        let p = both (eqb (blockOf r i) b && ltb n (lineOf r i)) (isDecoded d h r (lastBlock r + 1) i) t in
-        let q = both (eqb (blockOf r i) b) (ltb n (lineOf r i)) (p .0) in
-        sample-same d h b o here short from same n line z c read is tile (r .y + i / r .width) (r .x + i % r .width)
-        (eqb-true (blockOf r i) b (q .0)) (ltb-true n (lineOf r i) (q .1))
+        let z = is-later t in
+        sample-same d h b o here short from same n line _ c read is tile (r .y + i / r .width) (r .x + i % r .width) (z .0) (z .1)
 
   pub as-from-top : (tile image image' : List ℕ) (stored resumed : Counted) → stored .totals ≡ record { bits = z .at .0; long = z .long }
       → Resumed d b h c r tile (checkedIn d b h c) image image' resumed → AsFromTop d h b n r tile image image' stored resumed
@@ -132,9 +142,10 @@ going-on d d' h b n r tile lent lent' before after stored resumed bytes same cal
     by g e s' =
         let s : Stored d b n h lent' stored = rw e at s' in
         let a = resume-reads d' b r (length (before .image)) (length (before .lines)) (length (before .records)) h (calls .begins) in
-        let left : Resuming d' b h (take (sizeOfCheckpoint (widthOf (h .xtrans))) (lent' .out)) r tile before after resumed = rw (calls .begins) at (calls .goes) in
+        let c : List ℕ = take (sizeOfCheckpoint (widthOf (h .xtrans))) (lent' .out) in
+        let left : Resuming d' b h c r tile before after resumed = rw (calls .begins) at (calls .goes) in
         as-from-top d' h b (a .opens) (a .block) (block-short d' h b (a .opens) (a .block) bytes) d (same .header) n (s .line) (s .state)
-        (take (sizeOfCheckpoint (widthOf (h .xtrans))) (lent' .out)) (rw (same .bytes, same .bases) at (s .read)) (s .bytes) r (length (before .image))
+        c (rw (same .bytes, same .bases) at (s .read)) (s .bytes) r (length (before .image))
         (a .region) tile (before .image) (after .image) stored resumed (s .totals) (left .resumed)
 
 -- ---- from any bytes

@@ -1,16 +1,15 @@
 -- A state that was stored loads as one that the next line cannot tell from it. Assumes nothing.
-use mathlib.Core.Bool.{Bool, true, false, cond, _&&_}
+use mathlib.Core.Bool.{Bool, true, false, _&&_}
 use mathlib.Core.List.{List, []}
-use mathlib.Core.Option.{Option, some}
-use mathlib.Core.Path.{_≡_, refl, sym, ap, _∙_}
+use mathlib.Core.Option.{some}
+use mathlib.Core.Path.{_≡_, refl, sym, _∙_}
 use Prim.Native.Nat.{ℕ, suc, _+_, _-_, _*_, _/_, _%_, _^_, _≤_, _<_}
 use native.Mathlib.Omega.{arith}
 use borrow.Author.Tests.{eqb-true, eqb-false, leb-true}
 use lib.Arith.{digits-div, digits-mod, digits-lt}
-use lib.Dec.{leb, eqb, lit<, lit≤}
+use lib.Dec.{eqb, lit<}
 use lib.ListN.{length, getD, length-replicate}
 use lib.Seq.{ext-getD}
-use Rattle.statistics.specs.declared.Record.{Record}
 use Rattle.steps.specs.Contexts.{noRecord}
 use Rattle.lines.specs.ColourLines.{guarded, zeroLines}
 use Rattle.lines.proofs.LineLaws.{length-guarded}

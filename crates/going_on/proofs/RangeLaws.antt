@@ -1,9 +1,9 @@
 -- From any bytes that load, samples stay within 0 to M. Assumes nothing.
 use mathlib.Core.Bool.{Bool, true, false, cond}
-use mathlib.Core.List.{List, []}
+use mathlib.Core.List.{List}
 use mathlib.Core.Option.{Option, none, some}
 use mathlib.Core.Path.{_≡_, refl}
-use Prim.Native.Nat.{ℕ, zero, suc, _+_, _-_, _*_, _/_, _%_, _^_, _≤_, _<_}
+use Prim.Native.Nat.{ℕ, zero, suc, _+_, _-_, _*_, _/_, _%_, _≤_, _<_}
 use native.Mathlib.Omega.{arith}
 use lib.Arith.{digits-lt}
 use lib.Dec.{lit<}
@@ -11,7 +11,6 @@ use lib.ListN.{length, getD}
 use Rattle.quantiser.specs.Quantisers.{largest}
 use Rattle.lines.specs.ColourLines.{guarded, zeroLines}
 use Rattle.map.specs.Places.{widthOf, sampleIndex}
-use Rattle.map.proofs.PartLaws.{by-test}
 use Rattle.steps.specs.Steps.{planOf}
 use Rattle.steps.specs.declared.Plan.{Plan}
 use Rattle.steps.proofs.ContextLaws.{AllLe, stored-le}
@@ -20,14 +19,13 @@ use Rattle.pass.proofs.RangeLaws.{pass-keeps}
 use Rattle.stream.specs.declared.FujiHeader.{FujiHeader}
 use Rattle.checkpoint.specs.Checkpoints.{putEach, keptLine, storedSample, badCheckpoint, otherCheckpoint, checkedOf, nextLine, positionIn, withKept, withSix}
 use Rattle.checkpoint.specs.Checkpoints.{withGuards, loadedLines}
-use Rattle.checkpoint.specs.declared.load.Checked.{Checked}
 use Rattle.checkpoint.specs.declared.load.Checked.the-variants.{Bad, Other, At}
 use Rattle.checkpoint.proofs.RangeLaws.{sample-in-range}
 use Rattle.block.specs.Blocks.{State, runs, enter, passAt, endLine, readLine, beforeLine, readLineAt, readFrom, linesOf}
 use Rattle.block.specs.Checkpoints.{loadedState}
 use Rattle.block.specs.Images.{formOf, bytesIn, basesIn}
 use Rattle.block.specs.Records.{baseOf}
-use Rattle.block.specs.Resuming.{resumedAfter, resumedPicture, checkedIn}
+use Rattle.block.specs.Resuming.{resumedAfter, resumedPicture}
 use Rattle.block.specs.declared.Form.{Form}
 use Rattle.block.proofs.KeepLaws.{left-by, end-same, passes-keep}
 use Rattle.block.proofs.RunLaws.{then-keeps, runs-keep}

@@ -1,24 +1,23 @@
 -- Going on from a state that was stored: what is read, and the answer. Assumes nothing.
-use mathlib.Core.Bool.{Bool, true, false, cond, _&&_}
-use mathlib.Core.List.{List, []}
+use mathlib.Core.Bool.{Bool, true, false, cond}
+use mathlib.Core.List.{List}
 use mathlib.Core.Option.{Option, none, some}
-use mathlib.Core.Path.{_≡_, refl, sym, ap, _∙_}
-use Prim.Native.Nat.{ℕ, zero, suc, _+_, _-_, _*_, _/_, _%_, _^_, _≤_, _<_, min}
-use native.Mathlib.Nat.{add-zero, add-suc, mod-lt}
+use mathlib.Core.Path.{_≡_, refl, sym, _∙_}
+use Prim.Native.Nat.{ℕ, zero, suc, _+_, _-_, _*_, _/_, _%_, _^_, _≤_, _<_}
+use native.Mathlib.Nat.{add-zero, add-suc}
 use native.Mathlib.Numerals.{add-one}
 use native.Mathlib.Omega.{arith}
 use borrow.Author.Tests.{ltb-true, ltb-false, lt-ltb, le-ltb}
-use lib.Dec.{ltb, eqb, lit<}
+use lib.Dec.{ltb, eqb}
 use lib.ListN.{length, getD}
 use Rattle.numbers.proofs.OrderLaws.{split}
 use Rattle.map.specs.Places.{widthOf, colourLine, placeIn, tileAt, sampleIndex}
 use Rattle.map.proofs.PartLaws.{by-test}
 use Rattle.map.proofs.PlaceLaws.{place-lt}
 use Rattle.stream.specs.Headers.{Ruled}
-use Rattle.stream.specs.Streams.{openOf, rangeIn, rangeOf, partOf, Short, cut, sizeOf, blockStart}
+use Rattle.stream.specs.Streams.{openOf, rangeOf, cut, sizeOf, blockStart}
 use Rattle.stream.specs.declared.FujiHeader.{FujiHeader}
 use Rattle.stream.specs.declared.Parsed.the-variants.{Header}
-use Rattle.stream.specs.declared.Ranged.the-variants as Range
 use Rattle.stream.specs.declared.Refusal.the-variants.{Truncated}
 use Rattle.stream.proofs.StreamLaws.{opened, range-opened, part-lt, row-lossless}
 use Rattle.region.specs.Regions.{lineCount}
@@ -26,11 +25,10 @@ use Rattle.region.specs.declared.Rect.{Rect}
 use Rattle.checkpoint.specs.Checkpoints.{IsCheckpoint, nextLine, positionIn}
 use Rattle.checkpoint.specs.declared.load.Checked.the-variants.{At}
 use Rattle.checkpoint.proofs.StateLaws.{Storable, next-back, position-back}
-use Rattle.block.specs.Blocks.{State, readLines, readFrom, linesOf}
+use Rattle.block.specs.Blocks.{State, readLines, linesOf}
 use Rattle.block.specs.Checkpoints.{savedOf, loadedState}
 use Rattle.block.specs.Images.{formOf, bytesIn, basesIn, isRead, linesRead, readIn, pictureSample, blockAnswer}
-use Rattle.block.specs.Resuming.{resumedAfter, linesResumed, isTouched, linesWanted, resumedIn, resumedPicture, resumedAnswer, checkedIn}
-use Rattle.block.specs.declared.Decoded.{Decoded}
+use Rattle.block.specs.Resuming.{resumedAfter, linesResumed, isTouched, resumedPicture, resumedAnswer, checkedIn}
 use Rattle.block.specs.declared.Decoded.the-variants.{Done, Refused}
 use Rattle.block.specs.declared.Form.{Form}
 use Rattle.block.proofs.DecodeLaws.{stay-none, all-read}
@@ -38,7 +36,7 @@ use Rattle.block.proofs.LoadLaws.{read-loads}
 use Rattle.block.proofs.ResumeLaws.{goes-on, from-none}
 use Rattle.going_on.proofs.CountLaws.{Both}
 use Rattle.going_on.proofs.LoadedLaws.{ok, loaded-near}
-use Rattle.going_on.proofs.NearLaws.{Near, Fresh, fresh-all, Alike-from, from-near}
+use Rattle.going_on.proofs.NearLaws.{Fresh, fresh-all, Alike-from, from-near}
 
 -- ---- the block of a stream of bytes is short, since its size has 4 bytes
 

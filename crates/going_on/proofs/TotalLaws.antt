@@ -1,8 +1,8 @@
 -- The totals of going on, with those of storing, are those of the reading from the top. Assumes nothing.
-use mathlib.Core.Bool.{Bool, true, false, cond}
+use mathlib.Core.Bool.{true}
 use mathlib.Core.List.{List, [], _∷_, _++_}
 use mathlib.Core.Option.{Option, none, some}
-use mathlib.Core.Path.{_≡_, refl, sym, ap, _∙_}
+use mathlib.Core.Path.{_≡_, refl, ap}
 use Prim.Native.Nat.{ℕ, zero, suc, _+_, _-_, _^_, _≤_, _<_, max}
 use native.Mathlib.Nat.{add-zero, add-suc}
 use native.Mathlib.Omega.{arith}
@@ -15,7 +15,6 @@ use Rattle.stream.specs.declared.Parsed.the-variants.{Header}
 use Rattle.region.specs.Regions.{lineCount}
 use Rattle.region.specs.declared.Rect.{Rect}
 use Rattle.checkpoint.specs.Checkpoints.{IsCheckpoint, nextLine, positionIn}
-use Rattle.totals.specs.declared.Totals.{Totals}
 use Rattle.block.specs.Blocks.{State, runs, readLineAt, startState, readLines, totalsIn, totalsAfter}
 use Rattle.block.specs.Checkpoints.{savedOf}
 use Rattle.block.specs.Images.{formOf, bytesIn, basesIn, isRead, readIn}
@@ -25,7 +24,7 @@ use Rattle.block.specs.declared.Form.{Form}
 use Rattle.block.proofs.TotalLaws.{totals-true}
 use Rattle.going_on.specs.GoingOn.{readByBoth}
 use Rattle.going_on.proofs.CountLaws.{Both}
-use Rattle.going_on.proofs.ResumedLaws.{Pair, next-is, position-is, alike, reached, Reach, ended, goes, reach}
+use Rattle.going_on.proofs.ResumedLaws.{Pair, position-is, alike, reached, Reach, ended, goes, reach}
 
 -- ---- more lines have no fewer bits
 
@@ -38,7 +37,9 @@ gathered-grows : {A B : Type 0} (f : ℕ → A → Option A) (g : ℕ → A → 
     → sumOf v (gathered f g n r) ≤ sumOf v (gathered f g (n + m) r)
 unfolding gathered
 gathered-grows f g v r n zero = rw (add-zero n) (omega arith)
-gathered-grows f g v r n (suc m) = rw (add-suc n m) (omega (arith, gathered-grows f g v r n m, sum-left v (gathered f g (n + m) r) (gatherFrom (runs f (n + m) r) (λ z. g (n + m) z))))
+gathered-grows f g v r n (suc m) =
+    rw (add-suc n m)
+    (omega (arith, gathered-grows f g v r n m, sum-left v (gathered f g (n + m) r) (gatherFrom (runs f (n + m) r) (λ z. g (n + m) z))))
 
 bits-grow : (F : Form) (bases s : List ℕ) (n m : ℕ) (z y : State) → readLines F bases s n ≡ some z → readLines F bases s (n + m) ≡ some y
     → z .at .0 ≤ y .at .0
