@@ -123,7 +123,7 @@ module _ (d : List ℕ) (h : FujiHeader) (b n room : ℕ) where
           let k = linesRead (formOf h) (basesIn d b) (bytesIn d b) (suc n) in
           let y = was-read (formOf h) (basesIn d b) (bytesIn d b) (suc n) (ltb-false k (suc n) (not-cut (ltb k (suc n)) k f)) in
           record {
-            line = leb-false (h .lines) n u;
+            line = omega (arith, leb-false (h .lines) n u);
             long = ltb-false room (sizeOfCheckpoint (widthOf (h .xtrans))) v;
             lines = rw (y .1);
           }
@@ -150,7 +150,7 @@ stores-exactly d h b n lent lent' answer begins left =
     let s : Storing d b n h lent lent' answer = rw begins at left in (
       λ e. can-store d h b n (length (lent .out)) (sym (ap (λ (x : Counted). x .answer) (s .answered)) ∙ e),
       λ c. let z = was-some (readLines (formOf h) (basesIn d b) (bytesIn d b) (suc n)) (c .lines) in
-      ap (λ (x : Counted). x .answer) (s .answered ∙ stored-by d h b n (length (lent .out)) (z .0) c (z .1)),
+          ap (λ (x : Counted). x .answer) (s .answered ∙ stored-by d h b n (length (lent .out)) (z .0) c (z .1)),
     )
 
 -- the first bytes of what such a call leaves are the state

@@ -3,43 +3,36 @@
 use borrow.Author.Tests.{leb-true, ltb-true, eqb-true, le-leb, lt-ltb, eq-eqb}
 use mathlib.Core.Bool.{Bool, true, _&&_}
 use mathlib.Core.List.{List}
-use mathlib.Core.Option.{some}
-use mathlib.Core.Path.{_≡_, ap, _∙_}
-use Prim.Native.Nat.{ℕ, suc, _+_, _-_, _*_, _/_, _%_, _^_, _≤_, _<_}
+use mathlib.Core.Path.{_≡_, sym, ap, _∙_}
+use Prim.Native.Nat.{ℕ, suc, _+_, _-_, _*_, _/_, _%_, _≤_, _<_}
 use native.Mathlib.Omega.{arith}
 use lib.Dec.{leb, ltb, eqb}
-use lib.ListN.{length, getD, take}
+use lib.ListN.{length, take}
 use Rattle.numbers.proofs.BoolLaws.{both}
 use Rattle.map.specs.Places.{widthOf}
 use Rattle.map.proofs.PartLaws.{by-test}
 use Rattle.map.proofs.WindowLaws.{changed-as}
-use Rattle.stream.specs.Streams.{openOf}
 use Rattle.stream.specs.declared.FujiHeader.{FujiHeader}
-use Rattle.stream.specs.declared.Parsed.the-variants.{Header}
 use Rattle.stream.proofs.StreamLaws.{opened}
 use Rattle.region.specs.Regions.{blockOf, firstBlock, lastBlock, lineCount, Accepted}
 use Rattle.region.specs.declared.Rect.{Rect}
 use Rattle.region.proofs.RegionLaws.{block-touched}
-use Rattle.checkpoint.specs.Checkpoints.{sizeOfCheckpoint, IsCheckpoint, nextLine}
+use Rattle.checkpoint.specs.Checkpoints.{sizeOfCheckpoint, nextLine}
 use Rattle.block.specs.Blocks.{State, readLines}
-use Rattle.block.specs.Checkpoints.{savedOf}
 use Rattle.block.specs.Images.{formOf, bytesIn, basesIn, readIn, lineOf, isDecoded, decodedSample}
 use Rattle.block.specs.Resuming.{linesResumed, isTouched, resumedIn, isResumed, resumedSample, checkedIn, Resumed, Resuming}
 use Rattle.block.specs.declared.Counted.{Counted}
 use Rattle.going_on.specs.GoingOn.{isLater, AsFromTop, GoingOn, InRangeFromAny}
 use Rattle.going_on.proofs.CallLaws.{header-same, resume-reads, Stored, has-stored}
 use Rattle.going_on.proofs.RangeLaws.{not-bad, resumed-le}
-use Rattle.going_on.proofs.ResumedLaws.{block-short, loads, next-is, Reach, ended, goes, reach, answer-same, untouched-done, sample-same}
+use Rattle.going_on.proofs.ResumedLaws.{Holds, block-short, loads, next-is, Reach, ended, goes, reach, answer-same, untouched-done, sample-same}
 use Rattle.going_on.proofs.TotalLaws.{totals-same}
 
 -- ---- from a state that was stored
 
-module _ (d : List ℕ) (h : FujiHeader) (b : ℕ) (o : openOf d ≡ Header h) (here : b < h .blocks) (short : length (bytesIn d b) < 2 ^ 32) (from : List ℕ)
-    (same : (i : ℕ) → i < 16 → getD from i 0 ≡ getD d i 0) (n : ℕ) (line : n < h .lines) (z : State) (c : List ℕ)
-    (read : readLines (formOf h) (basesIn d b) (bytesIn d b) (suc n) ≡ some z)
-    (is : IsCheckpoint (h .lossless) (widthOf (h .xtrans)) (savedOf from b n z) c) (r : Rect) (room : ℕ) (ok : Accepted h r room) where
+module _ (d : List ℕ) (h : FujiHeader) (b n : ℕ) (z : State) (c : List ℕ) (g : Holds d h b n z c) (r : Rect) (room : ℕ) (ok : Accepted h r room) where
   abbrev next : nextLine c ≡ suc n
-  next = next-is d h b o here short from same n line z c read is
+  next = next-is d h b n z c g
 
   -- an entry of the block is of a touched block
   touched : (i : ℕ) → blockOf r i ≡ b → isTouched r b ≡ true
@@ -53,9 +46,9 @@ module _ (d : List ℕ) (h : FujiHeader) (b : ℕ) (o : openOf d ≡ Header h) (
 
   -- its line is read now exactly if it is a later one that the reading from the top reads
   now-read : (x : ℕ) → suc n ≤ x → (x < past → x < readIn d h r b) × (x < readIn d h r b → x < past)
-  now-read x l = by (reach d h b o here short from same n line z c read is r)
+  now-read x l = by (reach d h b n z c g r)
     where
-      by : Reach d h b o here short from same n line z c read is r → (x < past → x < readIn d h r b) × (x < readIn d h r b → x < past)
+      by : Reach d h b n z c g r → (x < past → x < readIn d h r b) × (x < readIn d h r b → x < past)
       by (ended k e f) = (λ u. absurd (omega (arith, l, u, e, next)), λ u. absurd (omega (arith, l, u, f, k)))
       by (goes k e) = ((λ u. omega (arith, u, e, next)), λ u. omega (arith, u, e, next))
 
@@ -65,6 +58,29 @@ module _ (d : List ℕ) (h : FujiHeader) (b : ℕ) (o : openOf d ≡ Header h) (
 
     abbrev ours : Bool
     ours = eqb (blockOf r i) b
+
+    -- what a later entry is
+    is-later : isLater d h r b n i ≡ true → (blockOf r i ≡ b) × (suc n ≤ lineOf r i) × (isDecoded d h r (lastBlock r + 1) i ≡ true)
+    is-later t =
+        let p = both (ours && ltb n (lineOf r i)) (isDecoded d h r (lastBlock r + 1) i) t in
+        let q = both ours (ltb n (lineOf r i)) (p .0) in
+        (eqb-true (blockOf r i) b (q .0), ltb-true n (lineOf r i) (q .1), p .1)
+
+    now : isLater d h r b n i ≡ true → isResumed d b h c r i ≡ true
+    unfolding isResumed isDecoded
+    now t =
+        let f = is-later t in
+        let u = both (inside && ltb (blockOf r i) (lastBlock r + 1)) (ltb (lineOf r i) (readIn d h r (blockOf r i))) (f .2) in
+        let w = both inside (ltb (blockOf r i) (lastBlock r + 1)) (u .0) in
+        let e : blockOf r i ≡ b = f .0 in
+        let k : lineOf r i < readIn d h r b = ltb-true (lineOf r i) (readIn d h r b) (rw e at (u .1)) in
+        rw (
+          w .0,
+          eq-eqb (blockOf r i) b e,
+          le-leb (nextLine c) (lineOf r i) (omega (arith, f .1, next)),
+          touched i e,
+          lt-ltb (lineOf r i) past (now-read (lineOf r i) (f .1) .1 k),
+        )
 
     later : isResumed d b h c r i ≡ true → isLater d h r b n i ≡ true
     unfolding isResumed isDecoded
@@ -85,45 +101,22 @@ module _ (d : List ℕ) (h : FujiHeader) (b : ℕ) (o : openOf d ≡ Header h) (
           lt-ltb (lineOf r i) (readIn d h r b) v,
         )
 
-    -- what a later entry is
-    is-later : isLater d h r b n i ≡ true → (blockOf r i ≡ b) × (suc n ≤ lineOf r i) × (isDecoded d h r (lastBlock r + 1) i ≡ true)
-    is-later t =
-        let p = both (ours && ltb n (lineOf r i)) (isDecoded d h r (lastBlock r + 1) i) t in
-        let q = both ours (ltb n (lineOf r i)) (p .0) in
-        (eqb-true (blockOf r i) b (q .0), ltb-true n (lineOf r i) (q .1), p .1)
-
-    now : isLater d h r b n i ≡ true → isResumed d b h c r i ≡ true
-    unfolding isResumed isDecoded
-    now t =
-        let z = is-later t in
-        let u = both (inside && ltb (blockOf r i) (lastBlock r + 1)) (ltb (lineOf r i) (readIn d h r (blockOf r i))) (z .2) in
-        let w = both inside (ltb (blockOf r i) (lastBlock r + 1)) (u .0) in
-        let e : blockOf r i ≡ b = z .0 in
-        let k : lineOf r i < readIn d h r b = ltb-true (lineOf r i) (readIn d h r b) (rw e at (u .1)) in
-        rw (
-          w .0,
-          eq-eqb (blockOf r i) b e,
-          le-leb (nextLine c) (lineOf r i) (omega (arith, z .1, next)),
-          touched i e,
-          lt-ltb (lineOf r i) past (now-read (lineOf r i) (z .1) .1 k),
-        )
-
     shown : (tile : List ℕ) → isLater d h r b n i ≡ true → resumedSample d b h c r tile i ≡ decodedSample d h r tile i
     shown tile t =
-        let z = is-later t in
-        sample-same d h b o here short from same n line _ c read is tile (r .y + i / r .width) (r .x + i % r .width) (z .0) (z .1)
+        let f = is-later t in
+        sample-same d h b n z c g tile (r .y + i / r .width) (r .x + i % r .width) (f .0) (f .1)
 
   pub as-from-top : (tile image image' : List ℕ) (stored resumed : Counted) → stored .totals ≡ record { bits = z .at .0; long = z .long }
       → Resumed d b h c r tile (checkedIn d b h c) image image' resumed → AsFromTop d h b n r tile image image' stored resumed
   as-from-top tile image image' stored resumed kept left =
-      let got = rw (loads d h b o here short from same n line z c read is) at left in
-      let t = totals-same d h b o here short from same n line z c read is r in
+      let got = rw (loads d h b n z c g) at left in
+      let t = totals-same d h b n z c g r in
       record {
         answered =
             ap (λ (x : Counted). x .answer) (got .0)
             ∙ by-test (isTouched r b)
-            (λ e. answer-same d h b o here short from same n line z c read is r e ∙ rw e)
-            (λ e. untouched-done d h b o here short from same n line z c read is r e ∙ rw e);
+            (λ e. answer-same d h b n z c g r e ∙ rw e)
+            (λ e. untouched-done d h b n z c g r e ∙ rw e);
         pictured =
             changed-as (isResumed d b h c r) (isLater d h r b n) (resumedSample d b h c r tile) (decodedSample d h r tile) image image'
             (λ i e. let k = later i e in (k, shown i tile k)) now (got .1);
@@ -144,9 +137,20 @@ going-on d d' h b n r tile lent lent' before after stored resumed bytes same cal
         let a = resume-reads d' b r (length (before .image)) (length (before .lines)) (length (before .records)) h (calls .begins) in
         let c : List ℕ = take (sizeOfCheckpoint (widthOf (h .xtrans))) (lent' .out) in
         let left : Resuming d' b h c r tile before after resumed = rw (calls .begins) at (calls .goes) in
-        as-from-top d' h b (a .opens) (a .block) (block-short d' h b (a .opens) (a .block) bytes) d (same .header) n (s .line) (s .state)
-        c (rw (same .bytes, same .bases) at (s .read)) (s .bytes) r (length (before .image))
-        (a .region) tile (before .image) (after .image) stored resumed (s .totals) (left .resumed)
+        as-from-top d' h b n (s .state) c
+        (record {
+          opens = a .opens;
+          block = a .block;
+          short = block-short d' h b (a .opens) (a .block) bytes;
+          line = s .line;
+          read =
+              ap (λ (x : List ℕ). readLines (formOf h) x (bytesIn d' b) (suc n)) (sym (same .bases))
+              ∙ ap (λ (x : List ℕ). readLines (formOf h) (basesIn d b) x (suc n)) (sym (same .bytes)) ∙ s .read;
+          from = d;
+          same = same .header;
+          bytes = s .bytes;
+        })
+        r (length (before .image)) (a .region) tile (before .image) (after .image) stored resumed (s .totals) (left .resumed)
 
 -- ---- from any bytes
 

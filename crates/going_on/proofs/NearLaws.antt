@@ -165,14 +165,14 @@ module _ (F : Form) (depth : F .bits ≤ 16) (s : List ℕ) (n : ℕ) where
         long = m .long ∙ rw (u .longs, v .longs);
       },
       λ c d f p h. rw (m .lines)
-      (by-test (eqb c (P .first))
-      (λ t. let k = eqb-true c (P .first) t in rw k (u .first-line d h ∙ sym (v .first-line d h)))
-      (λ t. by-test (eqb c (P .second))
-      (λ t'. let k = eqb-true c (P .second) t' in rw k (u .second-line d h ∙ sym (v .second-line d h)))
-      (λ t'.
-      let a = eqb-false c (P .first) t in
-      let b = eqb-false c (P .second) t' in
-      u .others c d h a b ∙ shown c d f (placed-before P i c (two-lines (F .xtrans) i hi) a b p) h ∙ sym (v .others c d h a b)))),
+          (by-test (eqb c (P .first))
+          (λ t. let k = eqb-true c (P .first) t in rw k (u .first-line d h ∙ sym (v .first-line d h)))
+          (λ t. by-test (eqb c (P .second))
+          (λ t'. let k = eqb-true c (P .second) t' in rw k (u .second-line d h ∙ sym (v .second-line d h)))
+          (λ t'.
+          let a = eqb-false c (P .first) t in
+          let b = eqb-false c (P .second) t' in
+          u .others c d h a b ∙ shown c d f (placed-before P i c (two-lines (F .xtrans) i hi) a b p) h ∙ sym (v .others c d h a b)))),
     )
 
     pub pass-near : Both (Alike-after (i + 1)) (passAt F q s i r) (passAt F q s i r')

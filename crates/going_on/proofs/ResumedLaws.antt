@@ -57,12 +57,20 @@ fresh-colour t r h =
     (λ f. rw (e, f) (record { low = omega arith; high = omega arith; green = λ k. omega arith; blue = λ k. omega arith }))
     (λ f. rw (e, f) (record { low = omega arith; high = omega arith; green = λ k. omega arith; blue = λ k. omega arith })))
 
--- ---- going on in the stream d from the state z, which was read in it and stored in any stream
+-- ---- going on
 
-module _ (d : List ℕ) (h : FujiHeader) (b : ℕ) (o : openOf d ≡ Header h) (here : b < h .blocks) (short : length (bytesIn d b) < 2 ^ 32) (from : List ℕ)
-    (same : (i : ℕ) → i < 16 → getD from i 0 ≡ getD d i 0) (n : ℕ) (line : n < h .lines) (z : State) (c : List ℕ)
-    (read : readLines (formOf h) (basesIn d b) (bytesIn d b) (suc n) ≡ some z)
-    (is : IsCheckpoint (h .lossless) (widthOf (h .xtrans)) (savedOf from b n z) c) where
+-- the bytes c hold the state z of block b of the stream d after line n. They may have been stored in another stream with the same first 16 bytes
+pub record Holds (d : List ℕ) (h : FujiHeader) (b n : ℕ) (z : State) (c : List ℕ) : Type 0 where
+  pub opens : openOf d ≡ Header h
+  pub block : b < h .blocks
+  pub short : length (bytesIn d b) < 2 ^ 32
+  pub line : n < h .lines
+  pub read : readLines (formOf h) (basesIn d b) (bytesIn d b) (suc n) ≡ some z
+  pub from : List ℕ
+  pub same : (i : ℕ) → i < 16 → getD from i 0 ≡ getD d i 0
+  pub bytes : IsCheckpoint (h .lossless) (widthOf (h .xtrans)) (savedOf from b n z) c
+
+module _ (d : List ℕ) (h : FujiHeader) (b n : ℕ) (z : State) (c : List ℕ) (g : Holds d h b n z c) where
   abbrev F : Form
   F = formOf h
 
@@ -76,29 +84,29 @@ module _ (d : List ℕ) (h : FujiHeader) (b : ℕ) (o : openOf d ≡ Header h) (
   W = widthOf (h .xtrans)
 
   abbrev ruled : Ruled h
-  ruled = opened d h o .ruled
+  ruled = opened d h (g .opens) .ruled
 
   few : h .lines < 2 ^ 16
   few = omega (arith, ruled .lines-high)
 
   low : b < 256
-  low = omega (arith, ruled .blocks-high, here)
+  low = omega (arith, ruled .blocks-high, g .block)
 
   next : n + 1 ≤ h .lines
-  next = omega (arith, line)
+  next = omega (arith, g .line)
 
   -- it loads
   pub loads : checkedIn d b h c ≡ At (n + 1) (z .at .0)
-  loads = read-loads F B S (ruled .bits-high) short (h .lines) few from d b n z (h .lossless) c low next same read is
+  loads = read-loads F B S (ruled .bits-high) (g .short) (h .lines) few (g .from) d b n z (h .lossless) c low next (g .same) (g .read) (g .bytes)
 
-  storable : Storable W (h .bits) (h .lines) (length S) (savedOf from b n z)
-  storable = ok F B S (ruled .bits-high) short (h .lines) few from b n z (h .lossless) c low next read is (row-lossless d h b o)
+  storable : Storable W (h .bits) (h .lines) (length S) (savedOf (g .from) b n z)
+  storable = ok F B S (ruled .bits-high) (g .short) (h .lines) few (g .from) b n z (h .lossless) c low next (g .read) (g .bytes) (row-lossless d h b (g .opens))
 
   pub next-is : nextLine c ≡ suc n
-  next-is = next-back (h .lossless) W (h .bits) (h .lines) (length S) (savedOf from b n z) c is storable ∙ add-one n
+  next-is = next-back (h .lossless) W (h .bits) (h .lines) (length S) (savedOf (g .from) b n z) c (g .bytes) storable ∙ add-one n
 
   pub position-is : positionIn c ≡ z .at .0
-  position-is = position-back (h .lossless) W (h .bits) (h .lines) (length S) (savedOf from b n z) c is storable
+  position-is = position-back (h .lossless) W (h .bits) (h .lines) (length S) (savedOf (g .from) b n z) c (g .bytes) storable
 
   abbrev pub Pair : ℕ → State → State → Type 0
   Pair m = Alike-from F (ruled .bits-high) S (z .long) B m
@@ -106,9 +114,10 @@ module _ (d : List ℕ) (h : FujiHeader) (b : ℕ) (o : openOf d ≡ Header h) (
   -- m lines from there on are those of the reading from the top
   pub alike : (m : ℕ) → Both (Pair m) (readLines F B S (suc n + m)) (resumedAfter d b h c m)
   alike m =
-      rw (next-is, ← goes-on F B S (suc n) m z read)
+      rw (next-is, ← goes-on F B S (suc n) m z (g .read))
       (from-near F (ruled .bits-high) S (z .long) B (suc n) m z (loadedState F (h .lossless) B c)
-      (loaded-near F B S (ruled .bits-high) short (h .lines) few from b n z (h .lossless) c low next read is (row-lossless d h b o)))
+      (loaded-near F B S (ruled .bits-high) (g .short) (h .lines) few (g .from) b n z (h .lossless) c low next (g .read) (g .bytes)
+      (row-lossless d h b (g .opens))))
 
   both-read : (R : State → State → Type 0) (x y : Option State) → Both R x y → isRead x ≡ isRead y
   both-read R none none a = refl
@@ -122,7 +131,7 @@ module _ (d : List ℕ) (h : FujiHeader) (b : ℕ) (o : openOf d ≡ Header h) (
   -- how many are read
   pub count : (m : ℕ) → linesRead F B S (suc n + m) ≡ suc n + linesResumed d b h c m
   unfolding linesRead linesResumed
-  count zero = rw (add-zero (suc n)) (all-read F B S (suc n) z read)
+  count zero = rw (add-zero (suc n)) (all-read F B S (suc n) z (g .read))
   count (suc m) = rw (add-suc (suc n) m) (go (isRead (resumedAfter d b h c (suc m))) (rw (add-suc (suc n) m) at (read-same (suc m))) (count m))
     where
       go : (t : Bool) → isRead (readLines F B S (suc (suc n + m))) ≡ t → linesRead F B S (suc n + m) ≡ suc n + linesResumed d b h c m
@@ -139,7 +148,8 @@ module _ (d : List ℕ) (h : FujiHeader) (b : ℕ) (o : openOf d ≡ Header h) (
       go (some y) e = all-read F B S m y e
       go none e =
           let f : m + (suc n - m) ≡ suc n = omega arith in
-          let g = rw f at (stay-none F B S m (suc n - m) e) in
+          let k = rw f at (stay-none F B S m (suc n - m) e) in
+          let e' = g .read in
           absurd (let no : _≡_ {A = ℕ} 0 1 = cc in omega arith)
 
   -- the last of those that are said to be read is read
@@ -216,5 +226,5 @@ module _ (d : List ℕ) (h : FujiHeader) (b : ℕ) (o : openOf d ≡ Header h) (
       shown m (some x) (some y) a =
           let p = place-lt (h .xtrans) (column % 768) (omega arith) in
           let f = fresh-colour (tileAt tile (row % 6) (column % 768)) (row % 6) (omega arith) in
-          let g : colour * (W + 2) + 1 + placeIn (h .xtrans) (column % 768) ≡ colour * (W + 2) + (1 + placeIn (h .xtrans) (column % 768)) = omega arith in
-          rw g (a .1 (omega arith) colour (1 + placeIn (h .xtrans) (column % 768)) f (fresh-all colour f) (omega (arith, p)))
+          let j : colour * (W + 2) + 1 + placeIn (h .xtrans) (column % 768) ≡ colour * (W + 2) + (1 + placeIn (h .xtrans) (column % 768)) = omega arith in
+          rw j (a .1 (omega arith) colour (1 + placeIn (h .xtrans) (column % 768)) f (fresh-all colour f) (omega (arith, p)))

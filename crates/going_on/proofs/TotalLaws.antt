@@ -3,20 +3,15 @@ use mathlib.Core.Bool.{true}
 use mathlib.Core.List.{List, [], _∷_, _++_}
 use mathlib.Core.Option.{Option, none, some}
 use mathlib.Core.Path.{_≡_, refl, ap}
-use Prim.Native.Nat.{ℕ, zero, suc, _+_, _-_, _^_, _≤_, _<_, max}
+use Prim.Native.Nat.{ℕ, zero, suc, _+_, _-_, _≤_, max}
 use native.Mathlib.Nat.{add-zero, add-suc}
 use native.Mathlib.Omega.{arith}
-use lib.ListN.{length, getD}
-use Rattle.map.specs.Places.{widthOf}
 use Rattle.map.proofs.PartLaws.{by-test}
-use Rattle.stream.specs.Streams.{openOf}
 use Rattle.stream.specs.declared.FujiHeader.{FujiHeader}
-use Rattle.stream.specs.declared.Parsed.the-variants.{Header}
 use Rattle.region.specs.Regions.{lineCount}
 use Rattle.region.specs.declared.Rect.{Rect}
-use Rattle.checkpoint.specs.Checkpoints.{IsCheckpoint, nextLine, positionIn}
+use Rattle.checkpoint.specs.Checkpoints.{nextLine, positionIn}
 use Rattle.block.specs.Blocks.{State, runs, readLineAt, startState, readLines, totalsIn, totalsAfter}
-use Rattle.block.specs.Checkpoints.{savedOf}
 use Rattle.block.specs.Images.{formOf, bytesIn, basesIn, isRead, readIn}
 use Rattle.block.specs.Resuming.{resumedAfter, linesResumed, isTouched, linesWanted, resumedIn, resumedTotals}
 use Rattle.block.specs.Totals.{usedBits, gathered, gatherFrom, codesInLine, blockCodes, sumOf}
@@ -24,7 +19,7 @@ use Rattle.block.specs.declared.Form.{Form}
 use Rattle.block.proofs.TotalLaws.{totals-true}
 use Rattle.going_on.specs.GoingOn.{readByBoth}
 use Rattle.going_on.proofs.CountLaws.{Both}
-use Rattle.going_on.proofs.ResumedLaws.{Pair, position-is, alike, reached, Reach, ended, goes, reach}
+use Rattle.going_on.proofs.ResumedLaws.{Holds, Pair, position-is, alike, reached, Reach, ended, goes, reach}
 
 -- ---- more lines have no fewer bits
 
@@ -52,10 +47,7 @@ bits-grow F bases s n m z y e f =
 
 -- ---- going on
 
-module _ (d : List ℕ) (h : FujiHeader) (b : ℕ) (o : openOf d ≡ Header h) (here : b < h .blocks) (short : length (bytesIn d b) < 2 ^ 32) (from : List ℕ)
-    (same : (i : ℕ) → i < 16 → getD from i 0 ≡ getD d i 0) (n : ℕ) (line : n < h .lines) (z : State) (c : List ℕ)
-    (read : readLines (formOf h) (basesIn d b) (bytesIn d b) (suc n) ≡ some z)
-    (is : IsCheckpoint (h .lossless) (widthOf (h .xtrans)) (savedOf from b n z) c) (r : Rect) where
+module _ (d : List ℕ) (h : FujiHeader) (b n : ℕ) (z : State) (c : List ℕ) (g : Holds d h b n z c) (r : Rect) where
   abbrev F : Form
   F = formOf h
 
@@ -69,24 +61,23 @@ module _ (d : List ℕ) (h : FujiHeader) (b : ℕ) (o : openOf d ≡ Header h) (
   both-lines : suc n + resumedIn d b h c r ≡ readByBoth d h r b n
   unfolding linesResumed
   both-lines =
-      by-test (isTouched r b) (λ t. rw t (by (reach d h b o here short from same n line z c read is r))) (λ t. rw t (add-zero (suc n)))
+      by-test (isTouched r b) (λ t. rw t (by (reach d h b n z c g r))) (λ t. rw t (add-zero (suc n)))
     where
-      by : Reach d h b o here short from same n line z c read is r
+      by : Reach d h b n z c g r
           → suc n + linesResumed d b h c (lineCount r - nextLine c) ≡ max (suc n) (readIn d h r b)
       by (ended l e f) = omega (arith, l, e, f)
       by (goes l e) = omega (arith, e)
 
   -- of a state that was reached
-  sums : (m : ℕ) (x y : Option State) → Both (Pair d h b o here short from same n line z c read is m) x y → isRead y ≡ true
+  sums : (m : ℕ) (x y : Option State) → Both (Pair d h b n z c g m) x y → isRead y ≡ true
       → ((u : State) → x ≡ some u → z .at .0 ≤ u .at .0)
       → (z .at .0 + ((totalsIn y) .bits - positionIn c) ≡ (totalsIn x) .bits) × (z .long + (totalsIn y) .long ≡ (totalsIn x) .long)
   sums m none none a e k = absurd (let no : _≡_ {A = ℕ} 0 1 = cc in omega arith)
   sums m none (some y) a e k = absurd a
   sums m (some x) none a e k = absurd a
   sums m (some x) (some y) a e k =
-      let p = ap (λ u. u .0) (a .0 .at) in
-      (
-        omega (arith, p, k x refl, position-is d h b o here short from same n line z c read is),
+      let p = ap (λ u. u .0) (a .0 .at) in (
+        omega (arith, p, k x refl, position-is d h b n z c g),
         omega (arith, a .0 .long),
       )
 
@@ -95,5 +86,5 @@ module _ (d : List ℕ) (h : FujiHeader) (b : ℕ) (o : openOf d ≡ Header h) (
   totals-same =
       let m : ℕ = resumedIn d b h c r in
       rw (← both-lines)
-      (sums m (readLines F B S (suc n + m)) (resumedAfter d b h c m) (alike d h b o here short from same n line z c read is m)
-      (reached d h b o here short from same n line z c read is (linesWanted b c r)) (λ u e. bits-grow F B S (suc n) m z u read e))
+      (sums m (readLines F B S (suc n + m)) (resumedAfter d b h c m) (alike d h b n z c g m)
+      (reached d h b n z c g (linesWanted b c r)) (λ u e. bits-grow F B S (suc n) m z u (g .read) e))
