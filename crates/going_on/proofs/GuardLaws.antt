@@ -7,7 +7,7 @@ use Prim.Native.Nat.{ℕ, suc, _+_, _-_, _*_, _%_, _≤_, _<_}
 use native.Mathlib.Nat.{mul-le-mul-right}
 use native.Mathlib.Omega.{arith}
 use lib.Dec.{lit<}
-use lib.ListN.{length, getD}
+use lib.ListN.{length, getD, length-replicate}
 use Rattle.lines.specs.ColourLines.{guarded}
 use Rattle.lines.proofs.LineLaws.{length-guarded, length-turned}
 use Rattle.lines.proofs.MoveLaws.{place-is, guard-leaves, left-guard, right-guard}
@@ -21,7 +21,7 @@ use Rattle.pass.proofs.RangeLaws.{pass-keeps}
 use Rattle.block.specs.Blocks.{State, runs, enter, passAt, endLine, readLine, beforeLine, readLineAt, startState, readLines}
 use Rattle.block.specs.Records.{baseOf}
 use Rattle.block.specs.declared.Form.{Form}
-use Rattle.block.proofs.KeepLaws.{left-by, end-same, passes-keep, lines-long}
+use Rattle.block.proofs.KeepLaws.{left-by, end-same, passes-keep, lines-keep}
 use Rattle.block.proofs.RunLaws.{then-both, runs-last}
 use Rattle.block.proofs.WindowTwins.{two-lines}
 use Rattle.going_on.proofs.NearLaws.{even-width}
@@ -102,7 +102,7 @@ module _ (F : Form) (depth : F .bits ≤ 16) (s : List ℕ) where
   abbrev W : ℕ
   W = widthOf (F .xtrans)
 
-  abbrev Long : State → Type 0
+  abbrev pub Long : State → Type 0
   Long r = length (r .lines) ≡ 18 * (W + 2)
 
   pass-long : (q i : ℕ) (r z : State) → Long r → passAt F q s i r ≡ some z → Long z
@@ -113,6 +113,11 @@ module _ (F : Form) (depth : F .bits ≤ 16) (s : List ℕ) where
       (λ y k. pass-keeps (F .bits) q W s depth P (enter F P r) y k .lines ∙ length-guarded W (P .second) (guarded W (P .first) (r .lines))
       ∙ length-guarded W (P .first) (r .lines) ∙ h)
       e
+
+  pub read-long : (bases : List ℕ) (n : ℕ) (z : State) → readLines F bases s n ≡ some z → Long z
+  unfolding startState
+  read-long bases n z e =
+      lines-keep F s Long pass-long bases (λ m r h. length-turned W (r .lines) (omega (arith, h)) ∙ h) (length-replicate (18 * (W + 2)) 0) n z e
 
   -- pass 4 reads lines 4 and 11, and pass 5 lines 12 and 17
   ends-of-4 : (q : ℕ) (r z : State) → Long r → passAt F q s 4 r ≡ some z → Ends W 4 (z .lines)
@@ -155,7 +160,7 @@ module _ (F : Form) (depth : F .bits ≤ 16) (s : List ℕ) where
       let q : ℕ = baseOf bases n in
       let l = runs-last (readLineAt F bases s) (startState F bases) n z e in
       let b : State = beforeLine F bases n (l .0) in
-      let whole = lines-long F depth s bases n (l .0) (l .1) in
+      let whole = read-long bases n (l .0) (l .1) in
       let long : Long b = length-turned W ((l .0) .lines) (omega (arith, whole)) ∙ whole in
       let u = then-both (runs (passAt F q s) 6 b) (endLine s) z (l .2) in
       let five = runs-last (passAt F q s) b 5 (u .0) (u .1) in

@@ -24,12 +24,11 @@ use Rattle.block.specs.Checkpoints.{savedOf, loadedState}
 use Rattle.block.specs.Records.{table, startRecord, baseOf}
 use Rattle.block.specs.WindowedLines.{Latest, Windows}
 use Rattle.block.specs.declared.Form.{Form}
-use Rattle.block.proofs.KeepLaws.{lines-long}
 use Rattle.block.proofs.LoadLaws.{read-storable}
 use Rattle.block.proofs.StoredLaws.{records-in-range}
 use Rattle.block.proofs.TableLaws.{table-length, table-getD}
 use Rattle.going_on.proofs.FlatLaws.{flat-stay}
-use Rattle.going_on.proofs.GuardLaws.{Ends, read-ends}
+use Rattle.going_on.proofs.GuardLaws.{Ends, read-long, read-ends}
 use Rattle.going_on.proofs.NearLaws.{Near}
 
 -- ---- the lines that were kept, as the nine that stand for the 18
@@ -189,7 +188,7 @@ module _ (F : Form) (bases s : List ℕ) (depth : F .bits ≤ 16) (short : lengt
             (kept-latest 0 4 (lit< tt) refl refl (left-of-4 W c (zeroLines W) room some) (right-of-4 W c (zeroLines W) room some) (ends .0))
             (kept-latest 2 12 (lit< tt) refl refl (left-of-12 W c (zeroLines W) room some) (right-of-12 W c (zeroLines W) room some) (ends .1))
             (kept-latest 4 17 (lit< tt) refl refl (left-of-17 W c (zeroLines W) room some) (right-of-17 W c (zeroLines W) room some) (ends .2));
-        room = lines-long F depth s bases (suc n) z read;
+        room = read-long F depth s bases (suc n) z read;
         room' = loaded-length W c (zeroLines W) ∙ zeros-long;
         records = records-same;
         at = rw (position-back lossless W (F .bits) lines (length s) (savedOf d b n z) c is ok);

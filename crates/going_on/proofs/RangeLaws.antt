@@ -21,14 +21,12 @@ use Rattle.checkpoint.specs.Checkpoints.{putEach, keptLine, storedSample, badCh
 use Rattle.checkpoint.specs.Checkpoints.{withGuards, loadedLines}
 use Rattle.checkpoint.specs.declared.load.Checked.the-variants.{Bad, Other, At}
 use Rattle.checkpoint.proofs.RangeLaws.{sample-in-range}
-use Rattle.block.specs.Blocks.{State, runs, enter, passAt, endLine, readLine, beforeLine, readLineAt, readFrom, linesOf}
+use Rattle.block.specs.Blocks.{State, enter, passAt, readFrom, linesOf}
 use Rattle.block.specs.Checkpoints.{loadedState}
 use Rattle.block.specs.Images.{formOf, bytesIn, basesIn}
-use Rattle.block.specs.Records.{baseOf}
 use Rattle.block.specs.Resuming.{resumedAfter, resumedPicture}
 use Rattle.block.specs.declared.Form.{Form}
-use Rattle.block.proofs.KeepLaws.{left-by, end-same, passes-keep}
-use Rattle.block.proofs.RunLaws.{then-keeps, runs-keep}
+use Rattle.block.proofs.KeepLaws.{left-by, from-keeps}
 use Rattle.block.proofs.SampleLaws.{zeros-le, guarded-le, turned-le}
 
 -- ---- what is loaded
@@ -84,17 +82,8 @@ module _ (F : Form) (depth : F .bits ≤ 16) (s : List ℕ) where
       (guarded-le M W (P .second) (guarded W (P .first) (r .lines)) (guarded-le M W (P .first) (r .lines) h)))
       e
 
-  line-within : (q : ℕ) (r z : State) → Within r → readLine F q s r ≡ some z → Within z
-  unfolding readLine
-  line-within q r z h e =
-      then-keeps Within (runs (passAt F q s) 6 r) (endLine s) z (λ y f. passes-keep F s Within pass-within q 6 r y h f)
-      (λ y k f. let same = end-same s y z f in rw same at k) e
-
-  pub from-within : (bases : List ℕ) (k m : ℕ) (r z : State) → Within r → readFrom F bases s k r m ≡ some z → Within z
-  unfolding readFrom readLineAt
-  from-within bases k m r z h e =
-      runs-keep (λ i. readLineAt F bases s (k + i)) r Within h
-      (λ i x y a f. line-within (baseOf bases (k + i)) (beforeLine F bases (k + i) x) y (turned-le M W (x .lines) a) f) m z e
+  from-within : (bases : List ℕ) (k m : ℕ) (r z : State) → Within r → readFrom F bases s k r m ≡ some z → Within z
+  from-within bases k m r z h e = from-keeps F s Within pass-within bases (λ n x a. turned-le M W (x .lines) a) k r h m z e
 
 -- each sample that going on shows is at most M
 pub resumed-le : (d : List ℕ) (b : ℕ) (h : FujiHeader) (s tile : List ℕ) (row column : ℕ) → h .bits ≤ 16
