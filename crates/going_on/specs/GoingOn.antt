@@ -41,24 +41,25 @@ pub record Calls (d d' : List ℕ) (h : FujiHeader) (b n : ℕ) (r : Rect) (tile
   pub begins : resumeBegins d' b r (length (before .image)) (length (before .lines)) (length (before .records)) ≡ Reading h
   pub goes : LeftResumed d' b (take (sizeOfCheckpoint (widthOf (h .xtrans))) (lent' .out)) r tile before after resumed
 
--- whether entry i is of block b and of a line after line n, and reading from the top shows it
+-- whether entry i is of block b and of a line after line n, and decoding the region shows it
 abbrev pub isLater : List ℕ → FujiHeader → Rect → (b n i : ℕ) → Bool
 isLater d h r b n i = eqb (blockOf r i) b && ltb n (lineOf r i) && isDecoded d h r (lastBlock r + 1) i
 
--- the lines that both calls have read: lines 0 to n, and those that reading from the top reads
+-- how many lines the two calls have read together: lines 0 to n, and those that reading from the top reads for the region
 abbrev pub readByBoth : List ℕ → FujiHeader → Rect → (b n : ℕ) → ℕ
 readByBoth d h r b n = cond (isTouched r b) (max (suc n) (readIn d h r b)) (suc n)
 
 -- what going on in the stream d then gives
 pub record AsFromTop (d : List ℕ) (h : FujiHeader) (b n : ℕ) (r : Rect) (tile image image' : List ℕ) (stored resumed : Counted) : Type 0 where
-  -- if the region touches the block, the answer of the reading from the top; else nothing is read
+  -- if the region touches the block, the answer of the reading from the top, which is Done or refusal 14; else nothing is read
   pub answered : resumed .answer ≡ cond (isTouched r b) (blockAnswer (formOf h) (basesIn d b) (bytesIn d b) b (lineCount r)) Done
-  -- the later entries have the samples of decoding, and all others are what they were
+  -- the later entries have the samples that decoding the region gives, and all others are what they were
   pub pictured : Changed (isLater d h r b n) (decodedSample d h r tile) image image'
-  -- the totals are those of the lines that are read now: with those of storing they make those of all lines
+  -- the totals count only the lines that are read now: with those of storing they are those of all lines
   pub bits : stored .totals .bits + resumed .totals .bits ≡ (totalsAfter (formOf h) (basesIn d b) (bytesIn d b) (readByBoth d h r b n)) .bits
   pub long : stored .totals .long + resumed .totals .long ≡ (totalsAfter (formOf h) (basesIn d b) (bytesIn d b) (readByBoth d h r b n)) .long
 
+-- of streams of bytes
 abbrev pub GoingOn : Type 0
 GoingOn =
     (d d' : List ℕ) (h : FujiHeader) (b n : ℕ) (r : Rect) (tile : List ℕ) (lent lent' : Outputs) (before after : Buffers) (stored resumed : Counted)
