@@ -64,7 +64,8 @@ module _ (d : List ℕ) (b : ℕ) (h : FujiHeader) (s : List ℕ) where
     lines-are : (w : Walked) → Reads w → shownLines w (nextLine s + m) ≡ nextLine s + linesResumed d b h s m
     lines-are (Walk.Read all tight) p = rw (all-counted after (linesResumed d b h s) no-line one-more stay m (p .end) (p .read))
     lines-are (Walk.Truncated line before) p =
-        p .line-is ∙ ap (λ (n : ℕ). nextLine s + n) (cut-counted after (linesResumed d b h s) no-line one-more stay (p .count) m (p .before) (p .inside) (p .read) (p .cut))
+        p .line-is
+        ∙ ap (λ (n : ℕ). nextLine s + n) (cut-counted after (linesResumed d b h s) no-line one-more stay (p .count) m (p .before) (p .inside) (p .read) (p .cut))
 
     counted-is : (w : Walked) → Reads w → sinceCounted b (positionIn s) w
         ≡ record {
@@ -115,7 +116,8 @@ module _ (d : List ℕ) (b : ℕ) (h : FujiHeader) (s : List ℕ) (r : Rect) (ti
   same-sample i e = rw (part-column d h r tile b i e, part-row r b i)
 
   entry : (m : ℕ) (x y : List ℕ) → Changed (inRows (partIn r b) (6 * k) (6 * m)) (shown (partIn r b)) x y → (i : ℕ)
-      → getD y i 0 ≡ cond (ltb i (r .width * r .height) && eqb (blockOf r i) b && leb k (lineOf r i) && ltb (lineOf r i) m) (resumedSample d b h s r tile i) (getD x i 0)
+      → getD y i 0
+      ≡ cond (ltb i (r .width * r .height) && eqb (blockOf r i) b && leb k (lineOf r i) && ltb (lineOf r i) m) (resumedSample d b h s r tile i) (getD x i 0)
   entry m x y p i =
       by-test (eqb (blockOf r i) b)
       (λ t. let e : blockOf r i ≡ b = eqb-true _ _ t in p .entries i ∙ rw (of-block m i e, t, and-true (ltb i (r .width * r .height)), same-sample i e))
@@ -132,7 +134,8 @@ module _ (d : List ℕ) (b : ℕ) (h : FujiHeader) (s : List ℕ) (r : Rect) (ti
       (λ t. rw (t, and-false x))
 
   nothing-shown : (a : Part) (x y : List ℕ) → Changed (inRows a (6 * k) (6 * (k + 0))) (shown a) x y → (i : ℕ)
-      → getD y i 0 ≡ cond (ltb i (r .width * r .height) && eqb (blockOf r i) b && leb k (lineOf r i) && ltb (lineOf r i) (k + 0)) (resumedSample d b h s r tile i) (getD x i 0)
+      → getD y i 0
+      ≡ cond (ltb i (r .width * r .height) && eqb (blockOf r i) b && leb k (lineOf r i) && ltb (lineOf r i) (k + 0)) (resumedSample d b h s r tile i) (getD x i 0)
   nothing-shown a x y p i =
       p .entries i
       ∙ rw (

@@ -30,8 +30,20 @@ stored lossless U W z out l₁ l₂ l₃ l₄ l₅ s₀ s₁ s₂ r₁ r₂ r₃
 )
 
 -- places before a place
+abbrev start : tie.After-store-head → tie.Start
+start c = c .before .before .before .before .before
+
 abbrev headed : tie.After-store-set → tie.After-store-head
 headed c = c .before .before .before .before .before .before .before
+
+abbrev first : tie.After-store-set2 → tie.After-store-set
+first c = c .before .before .before .before .before .before .before
+
+abbrev second : tie.After-store-set3 → tie.After-store-set2
+second c = c .before .before .before .before .before .before .before
+
+abbrev third : tie.After-width → tie.After-store-set3
+third c = c .before .before .before .before
 
 store-head-requires : tie.Need-store-head-requires
 store-head-requires c κs =
@@ -39,37 +51,41 @@ store-head-requires c κs =
     (omega (arith, s .pre .1 .1), s .pre .0)
 
 load-set-requires : tie.Need-load-set-requires
-load-set-requires c κs = (c .before .before .before .before .before .before .before .before .before .pre .1 .0 .1, omega arith)
+load-set-requires c κs = (start (c .before .before .before .before) .pre .1 .0 .1, omega arith)
 
 store-set-requires : tie.Need-store-set-requires
 store-set-requires c κs =
-    let s = c .before .before .before .before .before .before .before .before .before .before .before in
-    (omega (arith, c .before .before .before .before .before .before .store-head .kept, s .pre .1 .1), omega arith)
+    let k = c .before .before .before .before .before .before in
+    (omega (arith, k .store-head .kept, start k .pre .1 .1), omega arith)
 
 load-set-requires-2 : tie.Need-load-set-requires-2
-load-set-requires-2 c κs = (omega (arith, c .before .before .before .before .before .before .load-set .kept, c .before .before .before .before .before .before .before .before .before .before .before .before .before .before .before .before .pre .1 .0 .1), omega arith)
+load-set-requires-2 c κs =
+    let k = c .before .before .before .before in
+    (omega (arith, k .before .before .load-set .kept, start (headed k) .pre .1 .0 .1), omega arith)
 
 store-set-requires-2 : tie.Need-store-set-requires-2
 store-set-requires-2 c κs =
-    let s = c .before .before .before .before .before .before .before .before .before .before .before .before .before .before .before .before .before .before in
-    (omega (arith, c .before .before .before .before .before .before .store-set .kept, c .before .before .before .before .before .before .before .before .before .before .before .before .before .store-head .kept, s .pre .1 .1), omega arith)
+    let k = c .before .before .before .before .before .before in
+    (omega (arith, k .store-set .kept, headed k .store-head .kept, start (headed k) .pre .1 .1), omega arith)
 
 load-set-requires-3 : tie.Need-load-set-requires-3
-load-set-requires-3 c κs = (
-  omega (arith, c .before .before .before .before .before .before .load-set2 .kept, c .before .before .before .before .before .before .before .before .before .before .before .before .before .load-set .kept, c .before .before .before .before .before .before .before .before .before .before .before .before .before .before .before .before .before .before .before .before .before .before .before .pre .1 .0 .1),
-  omega arith,
-)
+load-set-requires-3 c κs =
+    let j = c .before .before .before .before in
+    let k = first j in
+    (omega (arith, j .before .before .load-set2 .kept, k .before .before .load-set .kept, start (headed k) .pre .1 .0 .1), omega arith)
 
 store-set-requires-3 : tie.Need-store-set-requires-3
 store-set-requires-3 c κs =
-    let s = c .before .before .before .before .before .before .before .before .before .before .before .before .before .before .before .before .before .before .before .before .before .before .before .before .before in (
-      omega (arith, c .before .before .before .before .before .before .store-set2 .kept, c .before .before .before .before .before .before .before .before .before .before .before .before .before .store-set .kept, c .before .before .before .before .before .before .before .before .before .before .before .before .before .before .before .before .before .before .before .before .store-head .kept, s .pre .1 .1),
-      omega arith,
-    )
+    let j = c .before .before .before .before .before .before in
+    let k = first j in
+    (omega (arith, j .store-set2 .kept, k .store-set .kept, headed k .store-head .kept, start (headed k) .pre .1 .1), omega arith)
 
 store-lines-requires : tie.Need-store-lines-requires
 store-lines-requires c κs =
-    let s = c .before .before .before .before .before .before .before .before .before .before .before .before .before .before .before .before .before .before .before .before .before .before .before .before .before .before .before .before .before .before in
+    let i = third c in
+    let j = second i in
+    let k = first j in
+    let s = start (headed k) in
     let x = s .args .h .xtrans in
     let e = c .width .ensures in (
       rw e (some-samples x),
@@ -77,47 +93,40 @@ store-lines-requires c κs =
         rw e (width-le x),
         (
           rw e (omega (arith, s .pre .1 .0 .0)),
-          rw e (omega (
-            arith,
-            c .before .before .before .before .store-set3 .kept,
-            c .before .before .before .before .before .before .before .before .before .before .before .store-set2 .kept,
-            c .before .before .before .before .before .before .before .before .before .before .before .before .before .before .before .before .before .before .store-set .kept,
-            c .before .before .before .before .before .before .before .before .before .before .before .before .before .before .before .before .before .before .before .before .before .before .before .before .before .store-head .kept,
-            s .pre .1 .1,
-          )),
+          rw e (omega (arith, i .store-set3 .kept, j .store-set2 .kept, k .store-set .kept, headed k .store-head .kept, s .pre .1 .1)),
         ),
       ),
     )
 
 same-length : tie.Need-same-length
 same-length c =
-    omega (
-      arith,
-      c .before .before .store-lines .kept,
-      c .before .before .before .before .before .before .before .store-set3 .kept,
-      c .before .before .before .before .before .before .before .before .before .before .before .before .before .before .store-set2 .kept,
-      c .before .before .before .before .before .before .before .before .before .before .before .before .before .before .before .before .before .before .before .before .before .store-set .kept,
-      c .before .before .before .before .before .before .before .before .before .before .before .before .before .before .before .before .before .before .before .before .before .before .before .before .before .before .before .before .store-head .kept,
-    )
+    let l = c .before .before in
+    let i = third (l .before) in
+    let j = second i in
+    let k = first j in
+    omega (arith, l .store-lines .kept, i .store-set3 .kept, j .store-set2 .kept, k .store-set .kept, headed k .store-head .kept)
 
 same-length-2 : tie.Need-same-length-2
 same-length-2 c =
-    omega
-    (arith, c .before .before .before .before .before .before .before .before .before .load-set3 .kept, c .before .before .before .before .before .before .before .before .before .before .before .before .before .before .before .before .load-set2 .kept, c .before .before .before .before .before .before .before .before .before .before .before .before .before .before .before .before .before .before .before .before .before .before .before .load-set .kept)
+    let i = third (c .before .before .before) in
+    let j = second i in
+    let k = first j in
+    omega (arith, i .before .before .load-set3 .kept, j .before .before .load-set2 .kept, k .before .before .load-set .kept)
 
 returns : tie.Need-returns
 returns c =
-    let s = c .before .before .before .before .before .before .before .before .before .before .before .before .before .before .before .before .before .before .before .before .before .before .before .before .before .before .before .before .before .before .before .before .before in
-    let g₁ = c .before .before .before .before .before .before .before .before .before .before .before .before .before .before .before .before .before .before .before .before .before .before .before .load-set in
-    let g₂ = c .before .before .before .before .before .before .before .before .before .before .before .before .before .before .before .before .load-set2 in
-    let g₃ = c .before .before .before .before .before .before .before .before .before .load-set3 in
+    let l = c .before .before in
+    let i = third (l .before) in
+    let j = second i in
+    let k = first j in
+    let s = start (headed k) in
+    let g₁ = k .before .before .load-set .ensures in
+    let g₂ = j .before .before .load-set2 .ensures in
+    let g₃ = i .before .before .load-set3 .ensures in
     stored (s .args .h .lossless) _ (widthOf (s .args .h .xtrans))
     (record { stream = s .args .d .now; block = s .args .b; line = s .args .line; at = s .args .at; records = s .args .rs .now; lines = s .args .lines .now })
-    (s .args .state .now) _ _ _ _ _ _ _ _ _ _ _ (c .before .before .before .width .ensures)
-    (c .before .before .before .before .before .before .before .before .before .before .before .before .before .before .before .before .before .before .before .before .before .before .before .before .before .before .before .before .store-head .ensures) (g₁ .ensures .0) (g₁ .ensures .1)
-    (c .before .before .before .before .before .before .before .before .before .before .before .before .before .before .before .before .before .before .before .before .before .store-set .ensures) (g₂ .ensures .0) (g₂ .ensures .1)
-    (c .before .before .before .before .before .before .before .before .before .before .before .before .before .before .store-set2 .ensures) (g₃ .ensures .0) (g₃ .ensures .1)
-    (c .before .before .before .before .before .before .before .store-set3 .ensures) (c .before .before .store-lines .ensures)
+    (s .args .state .now) _ _ _ _ _ _ _ _ _ _ _ (l .before .width .ensures) (headed k .store-head .ensures) (g₁ .0) (g₁ .1) (k .store-set .ensures) (g₂ .0) (g₂ .1)
+    (j .store-set2 .ensures) (g₃ .0) (g₃ .1) (i .store-set3 .ensures) (l .store-lines .ensures)
 
 pub put-state-spec : {M : Type 1} → statement M
 put-state-spec =

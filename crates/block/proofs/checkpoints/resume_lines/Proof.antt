@@ -3,7 +3,7 @@ mod derived
 use borrow.Author.Needs.{needs}
 use mathlib.Core.List.{List}
 use mathlib.Core.Path.{_≡_, refl, ap, _∙_}
-use Prim.Native.Nat.{ℕ, _+_, _*_}
+use Prim.Native.Nat.{ℕ, _+_, _*_, _^_, _<_}
 use native.Mathlib.Omega.{arith}
 use lib.ListN.{length, replicate}
 use Rattle.map.specs.Places.{widthOf}
@@ -14,29 +14,38 @@ use Rattle.block.proofs.LeftLaws.{form-samples, form-depth}
 use Rattle.block.proofs.LoadLaws.{Loads, loads-at, loaded-is, loaded-ranges}
 use Rattle.block.proofs.ResumedLaws.{resumed-all, wanted-few, wanted-fits}
 use Rattle.region.specs.Regions.{lineCount}
+use Rattle.begin.specs.Beginnings.{samplesNeeded}
+use Rattle.block.specs.Walks.{AllInRange}
 use Rattle.block.specs.Images.{formOf, bytesIn}
 use Rattle.block.specs.Resuming.{isTouched}
 use Rattle.block.proofs.checkpoints.resume_lines.Statement.{statement}
 use Rattle.block.proofs.checkpoints.resume_lines.Proof.derived.Tie as tie
 
 -- places before a place
-abbrev start : tie.After-no-entries → tie.Start
-start c = c .before .before .before .before .before .before .before .before .before .before .before .before .before .before .before .before .before .before .before .before .before .before .before .before .before .before .before .before .before
-
-abbrev formed : tie.After-no-entries → tie.After-form-of
-formed c = c .before .before .before .before .before .before .before .before .before .before .before .before .before .before .before .before .before .before .before .before .before .before .before .before
-
-abbrev wiped : tie.After-no-entries → tie.After-clear
-wiped c = c .before .before .before .before .before .before .before .before .before .before .before .before .before .before .before .before .before
-
-abbrev recorded : tie.After-no-entries → tie.After-load-records
-recorded c = c .before .before .before .before .before .before .before .before .before .before .before .before
-
 abbrev loaded : tie.After-no-entries → tie.After-load-lines
 loaded c = c .before .before .before .before .before .before .before .before
 
+abbrev recorded : tie.After-no-entries → tie.After-load-records
+recorded c = loaded c .before .before .before .before
+
+abbrev wiped : tie.After-no-entries → tie.After-clear
+wiped c = recorded c .before .before .before .before .before
+
+abbrev wanted : tie.After-no-entries → tie.After-lines-wanted
+wanted c = wiped c .before .before
+
+abbrev rowed : tie.After-no-entries → tie.After-base-row
+rowed c = wanted c .before .before .before
+
+abbrev formed : tie.After-no-entries → tie.After-form-of
+formed c = rowed c .before .before
+
+abbrev start : tie.After-no-entries → tie.Start
+start c = formed c .before .before .before .before .before
+
 -- what the bytes are known to be
-held : (s : tie.Start) → let h = s .args .h in Loads (widthOf (h .xtrans)) (h .bits) (h .lines) (length (bytesIn (s .args .d .now) (s .args .b))) (s .args .s .now) (s .args .k) (s .args .at)
+held : (s : tie.Start) → let h = s .args .h in let bytes = bytesIn (s .args .d .now) (s .args .b) in
+    Loads (widthOf (h .xtrans)) (h .bits) (h .lines) (length bytes) (s .args .s .now) (s .args .k) (s .args .at)
 held s = loads-at _ _ _ _ _ _ _ _ _ (s .pre .1 .0 .1)
 
 part-wanted-requires : tie.Need-part-wanted-requires
@@ -62,34 +71,44 @@ load-lines-requires c κs =
       (rw e (omega (arith, held s .whole)), rw e (omega (arith, c .before .before .before .before .before .before .before .before .clear .kept, s .pre .1 .1 .0))),
     )
 
+-- all 18 lines are there
+long : (c : tie.After-no-entries) → length (loaded c .load-lines .last .1 .0) ≡ samplesNeeded (formed c .form-of .result .xtrans)
+long c =
+    let s = start c in
+    form-samples _ (s .args .h) (formed c .form-of .ensures) _ (omega (arith, loaded c .load-lines .kept, wiped c .clear .kept, s .pre .1 .1 .0))
+
+-- and fewer lines than a picture has are read
+few : (c : tie.After-no-entries) → start c .args .k + wanted c .lines-wanted .result < 2 ^ 16
+few c =
+    let s = start c in
+    let a = s .pre .0 .1 in
+    let m = wanted c .lines-wanted in
+    let w = wanted-few (isTouched (s .args .r) (s .args .b)) (lineCount (s .args .r)) (s .args .k) (m .result) (m .ensures) in
+    omega (arith, held s .inside, held s .next, a .ruled .lines-high, lines-inside (s .args .h) (s .args .r) _ a, w)
+
+ranges : (c : tie.After-no-entries) → AllInRange (recorded c .load-records .last .0)
+ranges c =
+    let s = start c in
+    let k = s .pre .0 .1 .ruled in
+    let b = rowed c .before .block-bytes .ensures in
+    loaded-ranges (formOf (s .args .h)) (rowed c .base-row .result .now) (bytesIn (s .args .d .now) (s .args .b)) (k .bits-high) (rw (b .0) at (b .1)) (s .args .h .lines)
+    (omega (arith, k .lines-high)) (s .args .h .lossless) (s .args .s .now) _ _ (held s .good) (recorded c .before .base-of .ensures .0) (recorded c .load-records .ensures)
+
 read-lines-requires : tie.Need-read-lines-requires
 read-lines-requires c κs =
     let s = start c in
-    let a = s .pre .0 .1 in
-    let k = a .ruled in
-    let b = c .before .before .before .before .before .before .before .before .before .before .before .before .before .before .before .before .before .before .before .before .before .before .before .block-bytes .ensures in
-    let m = c .before .before .before .before .before .before .before .before .before .before .before .before .before .before .before .before .before .before .before .lines-wanted in
-    let depth = form-depth _ (s .args .h) (formed c .form-of .ensures) k in (
+    let a = s .pre .0 .1 in (
+      (rowed c .before .block-bytes .ensures .1, (long c, omega (arith, recorded c .load-records .kept, s .pre .1 .1 .1))),
       (
-        b .1,
-        (
-          form-samples _ (s .args .h) (formed c .form-of .ensures) _ (omega (arith, loaded c .load-lines .kept, wiped c .clear .kept, s .pre .1 .1 .0)),
-          omega (arith, recorded c .load-records .kept, s .pre .1 .1 .1),
-        ),
-      ),
-      (
-        (depth, omega (arith, held s .inside, held s .next, k .lines-high, lines-inside (s .args .h) (s .args .r) _ a, wanted-few (isTouched (s .args .r) (s .args .b)) (lineCount (s .args .r)) (s .args .k) (m .result) (m .ensures))),
+        (form-depth _ (s .args .h) (formed c .form-of .ensures) (a .ruled), few c),
         (
           (
-            c .before .before .before .before .before .before .before .before .before .before .before .before .before .before .before .before .before .before .before .before .before .xtrans-places .ensures,
-            wanted-fits (s .args .h) (s .args .r) _ (s .args .b) _ _ a refl (c .before .before .before .before .before .before .before .before .before .before .before .before .before .before .before .before .before .before .before .before .part-wanted .ensures),
+            wanted c .before .before .xtrans-places .ensures,
+            wanted-fits (s .args .h) (s .args .r) _ (s .args .b) _ _ a refl (wanted c .before .part-wanted .ensures),
           ),
           (
             c .no-entries .ensures .1,
-            (
-              loaded-ranges (formOf (s .args .h)) (c .before .before .before .before .before .before .before .before .before .before .before .before .before .before .before .before .before .before .before .before .before .before .base-row .result .now) (bytesIn (s .args .d .now) (s .args .b)) (k .bits-high) (rw (b .0) at (b .1)) (s .args .h .lines) (omega (arith, k .lines-high)) (s .args .h .lossless) (s .args .s .now) _ _ (held s .good) (recorded c .before .base-of .ensures .0) (recorded c .load-records .ensures),
-              (rw (c .before .place-at .ensures) (omega arith), (loaded c .load-lines .last .1 .0, form-samples _ (s .args .h) (formed c .form-of .ensures) _ (omega (arith, loaded c .load-lines .kept, wiped c .clear .kept, s .pre .1 .1 .0)), refl)),
-            ),
+            (ranges c, (rw (c .before .place-at .ensures) (omega arith), (loaded c .load-lines .last .1 .0, long c, refl))),
           ),
         ),
       ),
@@ -103,7 +122,8 @@ clear-records-requires c κs =
 same-length-2 : tie.Need-same-length-2
 same-length-2 c =
     let d = c .before .before .before .before .before .before .before .before .before .before .before .before .before in
-    omega (arith, c .before .before .before .before .before .before .clear2 .kept, d .read-lines .kept, loaded (d .before) .load-lines .kept, wiped (d .before) .clear .kept)
+    let k = c .before .before .before .before .before .before .clear2 in
+    omega (arith, k .kept, d .read-lines .kept, loaded (d .before) .load-lines .kept, wiped (d .before) .clear .kept)
 
 same-length-3 : tie.Need-same-length-3
 same-length-3 c =
@@ -117,9 +137,12 @@ returns c =
     let p = d .before in
     let s = start p in
     let F = formed p .form-of in
-    let row = p .before .before .before .before .before .before .before .before .before .before .before .before .before .before .before .before .before .before .before .before .before .before .base-row in
+    let row = rowed p .base-row in
+    let block = rowed p .before .block-bytes in
+    let more = wanted p .lines-wanted in
+    let part = wanted p .before .part-wanted in
     let got = held s in
-    let q = d .read-lines .ensures _ (form-samples _ (s .args .h) (F .ensures) _ (omega (arith, loaded p .load-lines .kept, wiped p .clear .kept, s .pre .1 .1 .0))) refl in
+    let q = d .read-lines .ensures _ (long p) refl in
     let z =
     loaded-is (F .result) (s .args .h) (row .result .now) (s .args .s .now) (recorded p .before .base-of .result) (s .args .at) _ _ _ _ _ _ (F .ensures)
     (loaded p .load-lines .ensures) (loaded p .before .width .ensures) (wiped p .clear .ensures) (s .pre .1 .1 .0) (recorded p .before .base-of .ensures .0)
@@ -127,11 +150,8 @@ returns c =
     let e : length (d .read-lines .last .1 .1 .0) ≡ 18 * (widthOf (s .args .h .xtrans) + 2) = omega
     (arith, d .read-lines .kept, loaded p .load-lines .kept, wiped p .clear .kept, s .pre .1 .1 .0) in (
       resumed-all (s .args .d .now) (s .args .b) (s .args .h) (s .args .s .now) (s .args .r) (s .args .tile) _ (s .pre .0 .1)
-          (F .result) (row .result .now) (p .before .before .before .before .before .before .before .before .before .before .before .before .before .before .before .before .before .before .before .before .before .before .before .block-bytes .result .now) _ (s .args .k) (s .args .at)
-          (p .before .before .before .before .before .before .before .before .before .before .before .before .before .before .before .before .before .before .before .lines-wanted .result) (p .before .before .before .before .before .before .before .before .before .before .before .before .before .before .before .before .before .before .before .before .part-wanted .result) (d .read-lines .result) _ _ _ _
-          (F .ensures) (row .ensures) (p .before .before .before .before .before .before .before .before .before .before .before .before .before .before .before .before .before .before .before .before .before .before .before .block-bytes .ensures .0) z (got .next) (got .position)
-          (p .before .before .before .before .before .before .before .before .before .before .before .before .before .before .before .before .before .before .before .before .part-wanted .ensures) (p .before .before .before .before .before .before .before .before .before .before .before .before .before .before .before .before .before .before .before .lines-wanted .ensures) (q .0) (q .1)
-          (c .resume-answer .ensures),
+          (F .result) (row .result .now) (block .result .now) _ (s .args .k) (s .args .at) (more .result) (part .result) (d .read-lines .result) _ _ _ _
+          (F .ensures) (row .ensures) (block .ensures .0) z (got .next) (got .position) (part .ensures) (more .ensures) (q .0) (q .1) (c .resume-answer .ensures),
       (k .ensures ∙ ap (λ (n : ℕ). replicate n 0) e, c .before .before .clear-records .ensures),
     )
 

@@ -16,27 +16,32 @@ use Rattle.block.proofs.checkpoints.store_state.Statement.{statement}
 use Rattle.block.proofs.checkpoints.store_state.Proof.derived.Tie as tie
 
 -- places before a place
-abbrev start : tie.After-no-entries → tie.Start
-start c = c .before .before .before .before .before .before .before .before .before .before .before .before .before .before .before .before .before .before .before .before .before .before
-
-abbrev formed : tie.After-no-entries → tie.After-form-of
-formed c = c .before .before .before .before .before .before .before .before .before .before .before .before .before .before .before .before .before .before
-
-abbrev wiped : tie.After-no-entries → tie.After-clear
-wiped c = c .before .before .before .before .before .before .before .before .before .before .before .before .before
-
 abbrev begun : tie.After-no-entries → tie.After-start-records
 begun c = c .before .before .before .before .before .before .before .before
 
+abbrev wiped : tie.After-no-entries → tie.After-clear
+wiped c = begun c .before .before .before .before .before
+
+abbrev rowed : tie.After-no-entries → tie.After-base-row
+rowed c = wiped c .before .before .before
+
+abbrev formed : tie.After-no-entries → tie.After-form-of
+formed c = rowed c .before .before
+
+abbrev start : tie.After-no-entries → tie.Start
+start c = formed c .before .before .before .before
+
 start-records-requires : tie.Need-start-records-requires
 start-records-requires c κs =
-    let s = c .before .before .before .before .before .before .before .before .before .before .before .before .before in
+    let w = c .before .before .before .before in
+    let s = w .before .before .before .before .before .before .before .before .before in
     let k = opened (s .args .d .now) (s .args .h) (s .pre .0 .0) .ruled in
     (s .pre .1 .1, ((k .bits-low, k .bits-high), c .base-of .ensures .1))
 
 add-read-lines : tie.Need-add-read-lines
 add-read-lines c =
-    let s = c .before .before .before .before .before .before .before .before .before .before .before .before .before .before .before .before .before .before .before .before .before in
+    let w = c .before .before .before .before .before .before .before .before .before .before .before .before in
+    let s = w .before .before .before .before .before .before .before .before .before in
     let k = opened (s .args .d .now) (s .args .h) (s .pre .0 .0) .ruled in
     let j = judged-done (s .args .d .now) (s .args .b) (s .args .h) (s .args .line) _ (s .pre .0 .1) in
     omega (arith, j .below, k .lines-high)
@@ -46,23 +51,27 @@ read-lines-requires c κs =
     let s = start c in
     let k = opened (s .args .d .now) (s .args .h) (s .pre .0 .0) .ruled in
     let j = judged-done (s .args .d .now) (s .args .b) (s .args .h) (s .args .line) _ (s .pre .0 .1) in
-    let depth = form-depth _ (s .args .h) (formed c .form-of .ensures) k in (
+    let ef = formed c .form-of .ensures in
+    let depth = form-depth _ (s .args .h) ef k in (
       (
-        c .before .before .before .before .before .before .before .before .before .before .before .before .before .before .before .before .before .block-bytes .ensures .1,
+        rowed c .before .block-bytes .ensures .1,
         (
-          form-samples _ (s .args .h) (formed c .form-of .ensures) _ (omega (arith, wiped c .clear .kept, s .pre .1 .0)),
+          form-samples _ (s .args .h) ef _ (omega (arith, wiped c .clear .kept, s .pre .1 .0)),
           omega (arith, begun c .start-records .kept, s .pre .1 .1),
         ),
       ),
       (
         (depth, omega (arith, j .below, k .lines-high)),
         (
-          (c .before .before .before .before .before .before .before .before .before .before .before .before .before .before .before .xtrans-places .ensures, c .before .before .no-part .ensures _),
+          (wiped c .before .before .xtrans-places .ensures, c .before .before .no-part .ensures _),
           (
             c .no-entries .ensures .1,
             (
               rw (begun c .start-records .ensures) (all-started _ _ (k .bits-high)),
-              (rw (c .before .start-place .ensures) (omega arith), (wiped c .clear .last .0, form-samples _ (s .args .h) (formed c .form-of .ensures) _ (omega (arith, wiped c .clear .kept, s .pre .1 .0)), refl)),
+              (
+                rw (c .before .start-place .ensures) (omega arith),
+                (wiped c .clear .last .0, form-samples _ (s .args .h) ef _ (omega (arith, wiped c .clear .kept, s .pre .1 .0)), refl),
+              ),
             ),
           ),
         ),
@@ -101,7 +110,8 @@ same-length-3 : tie.Need-same-length-3
 same-length-3 c =
     let w = c .before .before .before .before .before .before .before .before .before .before .before in
     let d = c .before .before .before .before .before .before .before .before .before .before .before .before .before .before .before .before .before .before .before in
-    omega (arith, c .before .before .clear-records .kept, w .put-walked .kept, d .read-lines .kept, begun (d .before) .start-records .kept)
+    let k = c .before .before .clear-records in
+    omega (arith, k .kept, w .put-walked .kept, d .read-lines .kept, begun (d .before) .start-records .kept)
 
 returns : tie.Need-returns
 returns c =
@@ -110,19 +120,22 @@ returns c =
     let d = c .before .before .before .before .before .before .before .before .before .before .before .before .before .before .before .before .before .before .before in
     let p = d .before in
     let s = start p in
-    let q = d .read-lines .ensures _ (form-samples _ (s .args .h) (formed p .form-of .ensures) _ (omega (arith, wiped p .clear .kept, s .pre .1 .0))) refl in
+    let ef = formed p .form-of .ensures in
+    let eb = rowed p .base-row .ensures in
+    let es = rowed p .before .block-bytes .ensures .0 in
+    let q = d .read-lines .ensures _ (form-samples _ (s .args .h) ef _ (omega (arith, wiped p .clear .kept, s .pre .1 .0))) refl in
     let z =
-    header-starts (formed p .form-of .result) (s .args .h) (p .before .before .before .before .before .before .before .before .before .before .before .before .before .before .before .before .base-row .result .now) (begun p .before .base-of .result) _ _ _ _
-    (formed p .form-of .ensures) (wiped p .clear .ensures) (s .pre .1 .0) (begun p .start-records .ensures) (begun p .before .base-of .ensures .0)
+    header-starts (formed p .form-of .result) (s .args .h) (rowed p .base-row .result .now) (begun p .before .base-of .result) _ _ _ _
+    ef (wiped p .clear .ensures) (s .pre .1 .0) (begun p .start-records .ensures) (begun p .before .base-of .ensures .0)
     (p .before .start-place .ensures) in
     let e : length (d .read-lines .last .1 .1 .0) ≡ 18 * (widthOf (s .args .h .xtrans) + 2) = omega
     (arith, d .read-lines .kept, wiped p .clear .kept, s .pre .1 .0) in (
       store-answered (s .args .d .now) (s .args .b) (s .args .h) (s .args .line) _ _ _ _ _ _ (d .read-lines .result) (s .args .state .now) (s .args .state .now) _
-          (formed p .form-of .ensures) (p .before .before .before .before .before .before .before .before .before .before .before .before .before .before .before .before .base-row .ensures) (p .before .before .before .before .before .before .before .before .before .before .before .before .before .before .before .before .before .block-bytes .ensures .0) z (q .0)
+          ef eb es z (q .0)
           (c .read-answer .ensures) (s .pre .0 .1),
       (
         store-left (s .args .d .now) (s .args .b) (s .args .h) (s .args .line) 0 _ _ _ _ _ (d .read-lines .result) _ _ _
-            (formed p .form-of .ensures) (p .before .before .before .before .before .before .before .before .before .before .before .before .before .before .before .before .base-row .ensures) (p .before .before .before .before .before .before .before .before .before .before .before .before .before .before .before .before .before .block-bytes .ensures .0) z (q .0)
+            ef eb es z (q .0)
             (c .read-answer .ensures) (w .put-walked .ensures),
         (k .ensures ∙ ap (λ (n : ℕ). replicate n 0) e, c .before .before .clear-records .ensures),
       ),
