@@ -1,4 +1,5 @@
 -- What the functions that walk over a block say. No definition of the format and no entry's contract rests on these. Assumes nothing.
+use mathlib.Core.Bool.{true}
 use mathlib.Core.List.{List}
 use mathlib.Core.Option.{none, some}
 use mathlib.Core.Path.{_≡_}
