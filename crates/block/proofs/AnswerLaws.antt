@@ -31,8 +31,9 @@ use Rattle.begin.specs.declared.Next.the-variants.{Answer, Store}
 use Rattle.writing.specs.declared.Put.{Put}
 use Rattle.writing.specs.declared.Put.the-variants.{At, Wrong}
 use Rattle.block.specs.WrittenBlocks.{isStrict, writeLines, writtenBlock, tightBlock, SetWanted, FitSet}
-use Rattle.block.specs.WrittenAnswers.{IsSetPut, SetWritten, predictedAnswer, rangeAnswer, measuredAnswer}
-use Rattle.block.specs.WrittenAnswers.{aboveIn, setAnswer, writtenAnswer, roomFor, outputOf}
+use Rattle.block.specs.WrittenAnswers.{predictedAnswer, rangeAnswer, measuredAnswer}
+use Rattle.block.specs.WrittenAnswers.{aboveIn, setAnswer, writtenAnswer}
+use Rattle.block.specs.WriterParts.{IsSetPut, SetWritten, roomFor, outputOf}
 use Rattle.block.specs.declared.Form.{Form}
 use Rattle.block.proofs.LineLaws.{width-in-range}
 

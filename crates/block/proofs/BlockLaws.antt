@@ -21,7 +21,8 @@ use Rattle.map.specs.declared.Part.{Part}
 use Rattle.steps.specs.Values.{quantisersOf}
 use Rattle.steps.specs.declared.Quantisers.{Quantisers}
 use Rattle.block.specs.Blocks.{State, runs, readLine, readLineAt, beforeLine, startState, readLines, tightLines, totalsIn, totalsAfter}
-use Rattle.block.specs.Blocks.{tightBefore, startPlace, stateAt, ReadAll, CutAt}
+use Rattle.block.specs.Blocks.{tightBefore}
+use Rattle.block.specs.Walks.{startPlace, stateAt, ReadAll, CutAt}
 use Rattle.block.specs.Records.{startRecords, restartedMain, baseOf, isRestarted}
 use Rattle.block.specs.Lent.{Buffers}
 use Rattle.block.specs.WindowedLines.{samplesIn, zerosIn, Held, IsLinedIn, LineReadIn}

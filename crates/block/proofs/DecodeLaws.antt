@@ -18,7 +18,8 @@ use Rattle.stream.specs.declared.Refusal.the-variants.{Truncated}
 use Rattle.region.specs.Regions.{blockOf, firstBlock, lastBlock, bottomOf, partIn, lineCount, Accepted}
 use Rattle.region.specs.declared.Rect.{Rect}
 use Rattle.region.proofs.RegionLaws.{InColumns, one-block, lines-cover, row-inside}
-use Rattle.block.specs.Blocks.{State, runs, readLineAt, startState, readLines, shownSample, Shown, shownLines, IsWalked}
+use Rattle.block.specs.Blocks.{State, runs, readLineAt, startState, readLines}
+use Rattle.block.specs.Walks.{shownSample, Shown, shownLines, IsWalked}
 use Rattle.block.specs.Images.{formOf, bytesIn, basesIn, isRead, linesRead, readIn, lineOf, isDecoded, pictureSample, decodedSample, orElse}
 use Rattle.block.specs.Images.{walkedAnswer, blockAnswer, answerOf, Pictured}
 use Rattle.block.specs.Sharing.{isBefore}

@@ -14,7 +14,8 @@ use Rattle.map.specs.Rows.{RowsPut}
 use Rattle.map.specs.Windows.{LineZeroed}
 use Rattle.map.specs.declared.Part.{Part}
 use Rattle.map.proofs.PartLaws.{InRows, by-test, put-none, put-same, put-join}
-use Rattle.block.specs.Blocks.{readLines, linesOf, shownSample, Shown}
+use Rattle.block.specs.Blocks.{readLines, linesOf}
+use Rattle.block.specs.Walks.{shownSample, Shown}
 use Rattle.block.specs.WindowedLines.{Held, OnlyLine, ShownIn}
 use Rattle.block.specs.declared.Form.{Form}
 use Rattle.block.specs.declared.Walked.the-variants as Walk

@@ -28,7 +28,8 @@ use Rattle.block.specs.Lent.{Buffers, Scratch, Outputs, clearedLines, cl
 use Rattle.block.specs.Records.{clearRecords}
 use Rattle.block.specs.Totals.{refusedBy}
 use Rattle.block.specs.BlockReadings.{BlockReading, LeftBlock}
-use Rattle.block.specs.WrittenAnswers.{setAnswer, exactAnswer, roomFor, outputOf, LeftBy}
+use Rattle.block.specs.WrittenAnswers.{setAnswer, exactAnswer}
+use Rattle.block.specs.WriterParts.{roomFor, outputOf, LeftBy}
 use Rattle.block.specs.WrittenBlocks.{writtenBlock}
 use Rattle.block.specs.declared.Counted.{Counted}
 use Rattle.block.specs.declared.Decoded.{Decoded}

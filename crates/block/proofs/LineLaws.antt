@@ -27,7 +27,8 @@ use Rattle.steps.specs.declared.Set.{Set}
 use Rattle.steps.proofs.ScheduleLaws.{plan-in-range}
 use Rattle.pass.proofs.SiteLaws.{pass-was-cut-off, pass-was-read}
 use Rattle.pass.proofs.WindowLaws.{Alike, alike-none, alike-some}
-use Rattle.block.specs.Blocks.{State, runs, enter, leave, passAt, readLine, stateAt}
+use Rattle.block.specs.Blocks.{State, runs, enter, leave, passAt, readLine}
+use Rattle.block.specs.Walks.{stateAt}
 use Rattle.block.specs.Records.{setOf, putSet}
 use Rattle.block.specs.declared.Form.{Form}
 use Rattle.block.specs.Lent.{Buffers}

@@ -18,7 +18,7 @@ use Rattle.steps.specs.Contexts.{noRecord}
 use Rattle.steps.specs.Values.{SetInRange}
 use Rattle.steps.proofs.ZipLaws.{set-keeps}
 use Rattle.block.specs.Records.{startRecord, startRecords, restartedMain, setOf, putSet}
-use Rattle.block.specs.Blocks.{AllInRange}
+use Rattle.block.specs.Walks.{AllInRange}
 use Rattle.block.proofs.TableLaws.{table-getD}
 use Rattle.block.proofs.SetLaws.{set-getD}
 

@@ -19,7 +19,7 @@ use Rattle.region.specs.declared.Rect.{Rect}
 use Rattle.cameras.specs.Entries.{linesWithEntry, afterLines, takingLines, isStopped}
 use Rattle.cameras.specs.declared.Camera.{Camera}
 use Rattle.cameras.specs.declared.Entry.{Entry}
-use Rattle.block.specs.Blocks.{Shown, shownLines, IsWalked}
+use Rattle.block.specs.Walks.{Shown, shownLines, IsWalked}
 use Rattle.block.specs.Images.{formOf, basesIn, bytesIn, linesRead, readIn, isDecoded, decodedSample, orElse, walkedAnswer, answerOf, Pictured}
 use Rattle.block.specs.Sharing.{entryLines, blockEntries, stopsIn, blockCount, entriesAfter, blocksBefore, isOut, outBlock, outLine, sharedAnswer, lastEntries, isBefore}
 use Rattle.block.specs.Sharing.{isShared, PicturedShared}

@@ -10,7 +10,8 @@ use Rattle.bits.specs.BitLists.{isTail}
 use Rattle.totals.specs.declared.Totals.{Totals}
 use Rattle.totals.specs.declared.TightLines.{TightLines}
 use Rattle.stream.specs.declared.Refusal.the-variants.{Truncated, NotTight}
-use Rattle.block.specs.Blocks.{ReadAll, CutAt, IsWalked, readLines, totalsAfter}
+use Rattle.block.specs.Blocks.{readLines, totalsAfter}
+use Rattle.block.specs.Walks.{ReadAll, CutAt, IsWalked}
 use Rattle.block.specs.Images.{linesRead, blockAnswer}
 use Rattle.block.specs.BadCodes.{BadCode, firstBad}
 use Rattle.block.specs.TightBlocks.{bitsRead, readAnswer, tightAnswer}

@@ -29,7 +29,7 @@ use Rattle.output.proofs.PutLaws.{put-none, put-more}
 use Rattle.block.specs.Records.{startRecords, restartedMain, baseOf, isRestarted, setOf, putSet}
 use Rattle.block.specs.WrittenBlocks.{WriteState, repeats, enterWriting, writePassAt, beforeWriting}
 use Rattle.block.specs.WrittenBlocks.{isStrict, writeLine, startWriting, writeLines, SetWanted}
-use Rattle.block.specs.WrittenAnswers.{passesFrom, IsLinePut, LineWritten, SetWritten}
+use Rattle.block.specs.WriterParts.{passesFrom, IsLinePut, LineWritten, SetWritten}
 use Rattle.block.specs.declared.Form.{Form}
 use Rattle.block.proofs.SampleLaws.{zeros-le, guarded-le, turned-le}
 use Rattle.block.proofs.WrittenLaws.{afterBits, passAt-adds, line-adds}

@@ -2,28 +2,21 @@
 use mathlib.Core.Bool.{Bool, true, cond, _&&_}
 use mathlib.Core.List.{List, []}
 use mathlib.Core.Option.{Option, none, some}
-use mathlib.Core.Path.{_≡_}
-use Prim.Native.Nat.{ℕ, zero, suc, _+_, _*_, _/_, _≤_, _<_}
+use Prim.Native.Nat.{ℕ, zero, suc, _+_, _*_}
 use lib.Dec.{leb, eqb}
-use lib.ListN.{length, getD}
+use lib.ListN.{length}
 use Rattle.bits.specs.declared.BitPosition.{BitPosition}
-use Rattle.statistics.specs.Statistics.{InRange}
 use Rattle.statistics.specs.declared.Record.{Record}
 use Rattle.steps.specs.Steps.{planOf}
-use Rattle.code.specs.declared.Place.{Place}
 use Rattle.totals.specs.Totals.{noTotals}
 use Rattle.totals.specs.declared.Totals.{Totals}
 use Rattle.totals.specs.declared.TightLines.{TightLines}
 use Rattle.pass.specs.Readings.{Reading, readPass, andThen}
-use Rattle.steps.specs.Contexts.{noRecord}
 use Rattle.steps.specs.declared.Plan.{Plan}
-use Rattle.map.specs.Places.{widthOf, pictureRow, inRows, emittedSample, Changed}
-use Rattle.map.specs.declared.Part.{Part}
+use Rattle.map.specs.Places.{widthOf}
 use Rattle.block.specs.Records.{baseOf, setOf, putSet}
 use Rattle.block.specs.Between.{linesAtStart, recordsAtStart, linesBefore, recordsBefore, linesEntered}
 use Rattle.block.specs.declared.Form.{Form}
-use Rattle.block.specs.declared.Walked.{Walked}
-use Rattle.block.specs.declared.Walked.the-variants as Walk
 
 -- what reading a block goes on: the colour lines, the records, the bit position, whether all codes so far were tight, and how many of them were
 -- long
@@ -133,54 +126,3 @@ totalsAfter F bases s n = totalsIn (readLines F bases s n)
 -- of the lines, from the first on, that have only tight codes
 abbrev pub tightBefore : Form → List ℕ → List ℕ → ℕ → TightLines
 tightBefore F bases s n = record { lines = tightLines F bases s n; totals = totalsAfter F bases s (tightLines F bases s n) }
-
--- ---- the image
-
--- the sample that entry i of the image shows: that of its line
-abbrev pub shownSample : Form → (bases s tile : List ℕ) → Part → ℕ → ℕ
-shownSample F bases s tile a i =
-    emittedSample (F .xtrans) (widthOf (F .xtrans)) tile (linesOf (readLines F bases s (suc (pictureRow a i / 6)))) a i
-
--- the image after n lines: their rows have been put into it
-abbrev pub Shown : Form → (bases s tile : List ℕ) → Part → ℕ → (before after : List ℕ) → Type 0
-Shown F bases s tile a n before after = Changed (inRows a 0 (6 * n)) (shownSample F bases s tile a) before after
-
--- ---- the answers
-
--- every record is in range
-abbrev pub AllInRange : List Record → Type 0
-AllInRange l = (j : ℕ) → j < 336 → InRange (getD l j noRecord)
-
--- the lines that go to the image: all of them, or those before the truncated one
-abbrev pub shownLines : Walked → ℕ → ℕ
-shownLines (Walk.Read all tight) count = count
-shownLines (Walk.Truncated line before) count = line
-
--- where a block starts, the state at a place, and what was counted up to it
-abbrev pub startPlace : Place
-startPlace = record { at = record { 0 = 0 }; tight = true; long = 0 }
-
-abbrev pub stateAt : List ℕ → List Record → Place → State
-stateAt lines records from = record { lines = lines; records = records; at = from .at; tight = from .tight; long = from .long }
-
-abbrev pub totalsAt : Place → Totals
-totalsAt from = record { bits = from .at .0; long = from .long }
-
--- what a walk over the first `count` lines of a block says: all were read, with these totals, and so many had only tight codes
-pub record ReadAll (F : Form) (bases s : List ℕ) (count : ℕ) (all : Totals) (tight : TightLines) : Type 0 where
-  pub end : State
-  pub read : readLines F bases s count ≡ some end
-  pub all-is : all ≡ totalsAfter F bases s count
-  pub tight-is : tight ≡ tightBefore F bases s count
-
--- or this line is the first that is truncated
-pub record CutAt (F : Form) (bases s : List ℕ) (count line : ℕ) (totals : Totals) : Type 0 where
-  pub before : State
-  pub inside : suc line ≤ count
-  pub read : readLines F bases s line ≡ some before
-  pub cut : readLines F bases s (suc line) ≡ none
-  pub totals-are : totals ≡ totalsAfter F bases s line
-
-abbrev pub IsWalked : Form → List ℕ → List ℕ → ℕ → Walked → Type 0
-IsWalked F bases s count (Walk.Read all tight) = ReadAll F bases s count all tight
-IsWalked F bases s count (Walk.Truncated line before) = CutAt F bases s count line before

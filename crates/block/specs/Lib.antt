@@ -2,6 +2,7 @@
 pub mod Records
 pub mod Between
 pub mod Blocks
+pub mod Walks
 pub mod Lent
 pub mod Images
 pub mod BadCodes
@@ -13,6 +14,7 @@ pub mod BlockReadings
 pub mod Sharing
 pub mod Words
 pub mod WrittenAnswers
+pub mod WriterParts
 pub mod WindowedImages
 pub mod WindowedLines
 pub mod WindowedAgreement

@@ -18,7 +18,8 @@ use Rattle.steps.specs.declared.Quantisers.{Quantisers}
 use Rattle.stream.specs.declared.FujiHeader.{FujiHeader}
 use Rattle.region.specs.declared.Rect.{Rect}
 use Rattle.begin.specs.Beginnings.{samplesNeeded, recordsNeeded}
-use Rattle.block.specs.Blocks.{State, readLine, stateAt, shownSample, Shown, shownLines}
+use Rattle.block.specs.Blocks.{State, readLine}
+use Rattle.block.specs.Walks.{stateAt, shownSample, Shown, shownLines}
 use Rattle.block.specs.Images.{Pictured}
 use Rattle.block.specs.Lent.{Buffers}
 use Rattle.block.specs.WindowedImages.{windowSize, PicturedWindowed}

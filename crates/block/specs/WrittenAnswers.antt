@@ -1,12 +1,11 @@
 -- What a call of the writer answers and leaves, and a call that only measures; the lossless writer is the case without bases. Assumes nothing.
-use mathlib.Core.Bool.{Bool, true, false, cond}
+use mathlib.Core.Bool.{cond}
 use mathlib.Core.List.{List, [], _++_}
 use mathlib.Core.Option.{Option, none, some}
 use mathlib.Core.Path.{_≡_}
-use Prim.Native.Nat.{ℕ, _+_}
+use Prim.Native.Nat.{ℕ}
 use lib.Dec.{ltb}
 use lib.ListN.{length, drop}
-use Rattle.statistics.specs.declared.Record.{Record}
 use Rattle.quantiser.specs.Quantisers.{largest}
 use Rattle.stream.specs.declared.BlockLength.{BlockLength}
 use Rattle.stream.specs.declared.BlockLength.the-variants.{Length, Refused}
@@ -14,38 +13,11 @@ use Rattle.stream.specs.declared.FujiHeader.{FujiHeader}
 use Rattle.stream.specs.declared.Parsed.{Parsed}
 use Rattle.stream.specs.declared.Parsed.the-variants as Parsing
 use Rattle.stream.specs.declared.Refusal.the-variants.{AboveLargest, NotPredicted, ShortOutput}
-use Rattle.writing.specs.Puts.{putIf}
 use Rattle.begin.specs.Beginnings.{isIgnored, firstAbove}
-use Rattle.writing.specs.declared.Put.{Put}
-use Rattle.writing.specs.declared.Put.the-variants.{At, Wrong}
 use Rattle.block.specs.Images.{formOf}
-use Rattle.block.specs.Lent.{Outputs, Scratch, scratchOf, clearedLines, clearedRecords}
-use Rattle.block.specs.WrittenBlocks.{WriteState, repeats, writePassAt, isStrict, writeLines, writtenBlock}
+use Rattle.block.specs.Lent.{Outputs, Scratch, clearedLines, clearedRecords}
+use Rattle.block.specs.WrittenBlocks.{isStrict, writeLines, writtenBlock}
 use Rattle.block.specs.declared.Form.{Form}
-
--- ---- what the functions below the entry hand back
-
--- the first i passes of line n, whose base is q, from these lines and records on and with no bits yet
-unfoldable pub passesFrom : Form → ℕ → Bool → List ℕ → ℕ → ℕ → List ℕ → List Record → WriteState
-passesFrom F q strict t n i lines rs = repeats (writePassAt F q strict t n) i (record { lines = lines; records = rs; bits = []; wrong = none })
-
--- lines that were written up to the state z, from no bits on: the position after their bits, or the first interpolated sample that is not its
--- prediction; then lines and records are left free, and so is the output where it is stored
-abbrev pub IsLinePut : Option ℕ → WriteState → ℕ → Bool → (out lines' : List ℕ) → List Record → (out' : List ℕ) → Put → Type 0
-IsLinePut none z from store out lines' rs' out' r =
-    (r ≡ At (record { 0 = from + length (z .bits) })) × (lines' ≡ z .lines) × (rs' ≡ z .records) × (out' ≡ putIf store out from (z .bits))
-IsLinePut (some j) z from store out lines' rs' out' r = (r ≡ Wrong j) × (store ≡ false → out' ≡ out)
-
-pub record LineWritten (z : WriteState) (from : ℕ) (store : Bool) (out lines' : List ℕ) (rs' : List Record) (out' : List ℕ) (r : Put) : Type 0 where
-  pub are : IsLinePut (z .wrong) z from store out lines' rs' out' r
-
--- the same of all lines, whose scratch counts no more
-abbrev pub IsSetPut : Option ℕ → WriteState → Bool → (out out' : List ℕ) → Put → Type 0
-IsSetPut none z store out out' r = (r ≡ At (record { 0 = length (z .bits) })) × (out' ≡ putIf store out 0 (z .bits))
-IsSetPut (some j) z store out out' r = (r ≡ Wrong j) × (store ≡ false → out' ≡ out)
-
-pub record SetWritten (z : WriteState) (store : Bool) (out out' : List ℕ) (r : Put) : Type 0 where
-  pub are : IsSetPut (z .wrong) z store out out' r
 
 -- ---- the answer
 
@@ -119,18 +91,3 @@ MeasuredWith bases t (Parsing.Header h) before after answer = SetMeasuring bases
 
 abbrev pub LeftMeasured : List ℕ → Parsed → (before after : Scratch) → BlockLength → Type 0
 LeftMeasured t begins before after answer = MeasuredWith [] t begins before after answer
-
--- ---- the functions below both
-
--- the room that counts for a block, and the output afterwards, where a set is only measured and where it is not
-abbrev pub roomFor : Bool → (block out : List ℕ) → ℕ
-roomFor true block out = length block
-roomFor false block out = length out
-
-abbrev pub outputOf : Bool → BlockLength → (block out : List ℕ) → List ℕ
-outputOf true answer block out = out
-outputOf false answer block out = writtenOut answer block out
-
-abbrev pub LeftBy : Bool → (bases t : List ℕ) → Parsed → (before after : Outputs) → BlockLength → Type 0
-LeftBy true bases t begins before after answer = MeasuredWith bases t begins (scratchOf before) (scratchOf after) answer × (after .out ≡ before .out)
-LeftBy false bases t begins before after answer = LeftLossy bases t begins before after answer

@@ -9,7 +9,7 @@ ghost use Rattle.steps.specs.Values.{quantisersOf, Depth};
 ghost use Rattle.totals.specs.Totals.{noTotals};
 ghost use Rattle.block.specs.Lent.{Buffers};
 ghost use Rattle.block.specs.Records.{baseOf, isRestarted, clearRecords};
-ghost use Rattle.block.specs.Blocks.{startPlace, totalsAt, AllInRange, Shown, shownLines, IsWalked};
+ghost use Rattle.block.specs.Walks.{startPlace, totalsAt, AllInRange, Shown, shownLines, IsWalked};
 ghost use Rattle.block.specs.WindowedLines.{samplesIn, ScratchIn, zerosIn, PassPlaced, LineReadIn, OnlyLine, ShownIn};
 use crate::Form;
 use crate::Lined;

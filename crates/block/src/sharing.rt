@@ -6,7 +6,7 @@ ghost use Rattle.stream.specs.declared.Parsed.the-variants.{Header};
 ghost use Rattle.region.specs.Regions.{Accepted};
 ghost use Rattle.cameras.specs.Entries.{mended, handedBack, AllNumbered};
 ghost use Rattle.begin.specs.Beginnings.{regionBegins};
-ghost use Rattle.block.specs.Blocks.{shownLines};
+ghost use Rattle.block.specs.Walks.{shownLines};
 ghost use Rattle.block.specs.Lent.{Buffers};
 ghost use Rattle.block.specs.Records.{clearRecords};
 ghost use Rattle.block.specs.Sharing.{sharedAnswer, lastEntries, PicturedShared, isRefused, LeftShared};

@@ -9,7 +9,7 @@ ghost use Rattle.map.specs.Places.{widthOf, Fits};
 ghost use Rattle.stream.specs.Streams.{openOf};
 ghost use Rattle.stream.specs.declared.Parsed.the-variants.{Header};
 ghost use Rattle.block.specs.Records.{clearRecords};
-ghost use Rattle.block.specs.Blocks.{IsWalked};
+ghost use Rattle.block.specs.Walks.{IsWalked};
 ghost use Rattle.block.specs.Images.{formOf, bytesIn, basesIn};
 ghost use Rattle.block.specs.Lent.{Scratch, ScratchOf};
 ghost use Rattle.block.specs.TightBlocks.{tightAnswer};

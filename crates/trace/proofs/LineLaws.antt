@@ -23,7 +23,8 @@ use Rattle.steps.specs.declared.Plan.{Plan}
 use Rattle.steps.proofs.ZipLaws.{zip-length}
 use Rattle.pass.specs.Readings.{Reading, reads, readPass}
 use Rattle.block.specs.Records.{table, startRecord, startRecords, restartedMain, setOf, putSet}
-use Rattle.block.specs.Blocks.{State, runs, leave, passAt, endLine, readLine, beforeLine, readLineAt, startState, readLines, AllInRange}
+use Rattle.block.specs.Blocks.{State, runs, leave, passAt, endLine, readLine, beforeLine, readLineAt, startState, readLines}
+use Rattle.block.specs.Walks.{AllInRange}
 use Rattle.block.specs.BadCodes.{BadCode, badInSteps, firstFound, badInPass, badInLine, firstBad}
 use Rattle.block.specs.declared.Form.{Form}
 use Rattle.block.proofs.TableLaws.{table-getD}

@@ -11,7 +11,8 @@ use Rattle.map.specs.Places.{widthOf}
 use Rattle.steps.specs.Values.{zipRecords, SetInRange, Depth, PlanInRange}
 use Rattle.steps.specs.declared.Plan.{Plan}
 use Rattle.pass.specs.Readings.{Reading}
-use Rattle.block.specs.Blocks.{State, AllInRange}
+use Rattle.block.specs.Blocks.{State}
+use Rattle.block.specs.Walks.{AllInRange}
 use Rattle.block.specs.BadCodes.{BadCode}
 use Rattle.block.specs.declared.Form.{Form}
 use Rattle.trace.specs.Ways.{Way, found, cut-off, on, spotOf}

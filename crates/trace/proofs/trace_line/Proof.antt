@@ -8,7 +8,7 @@ use lib.ListN.{length}
 use Rattle.lines.proofs.LineLaws.{line-inside}
 use Rattle.map.specs.Places.{widthOf}
 use Rattle.steps.specs.Values.{zipRecords}
-use Rattle.block.specs.Blocks.{AllInRange}
+use Rattle.block.specs.Walks.{AllInRange}
 use Rattle.block.proofs.LineLaws.{planned, width-in-range}
 use Rattle.trace.specs.Ways.{on, passesWay}
 use Rattle.trace.specs.Traces.{cleanState, Says}

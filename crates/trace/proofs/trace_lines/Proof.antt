@@ -8,7 +8,7 @@ use Rattle.map.specs.Places.{widthOf}
 use Rattle.map.proofs.PlaceLaws.{width-le}
 use Rattle.steps.specs.Values.{zipRecords}
 use Rattle.block.specs.Records.{startRecords}
-use Rattle.block.specs.Blocks.{AllInRange}
+use Rattle.block.specs.Walks.{AllInRange}
 use Rattle.block.proofs.RangeLaws.{all-started}
 use Rattle.trace.specs.Ways.{on, blockWay}
 use Rattle.trace.specs.Traces.{cleanState, Says}

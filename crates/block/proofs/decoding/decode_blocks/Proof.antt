@@ -15,7 +15,7 @@ use Rattle.region.specs.Regions.{firstBlock, lastBlock, spanOf, partIn, Accepte
 use Rattle.region.specs.declared.Rect.{Rect}
 use Rattle.region.specs.declared.Span.{Span}
 use Rattle.region.proofs.RegionLaws.{block-order, block-inside, lines-inside, part-fits}
-use Rattle.block.specs.Blocks.{IsWalked}
+use Rattle.block.specs.Walks.{IsWalked}
 use Rattle.block.specs.Images.{formOf, bytesIn, basesIn, answerOf}
 use Rattle.block.specs.Records.{clearRecord, clearRecords}
 use Rattle.block.specs.WindowedLines.{samplesIn, zerosIn, ShownIn, PicturedIn}

@@ -14,7 +14,8 @@ use Rattle.map.proofs.PartLaws.{fits-kept}
 use Rattle.steps.specs.Values.{recordsOf, PlanInRange}
 use Rattle.pass.proofs.RangeLaws.{pass-keeps}
 use Rattle.pass.proofs.SiteLaws.{pass-was-read}
-use Rattle.block.specs.Blocks.{AllInRange, readLine, stateAt}
+use Rattle.block.specs.Blocks.{readLine}
+use Rattle.block.specs.Walks.{AllInRange, stateAt}
 use Rattle.block.specs.Records.{putSet}
 use Rattle.block.specs.WindowedLines.{samplesIn, Held, OnlyLine}
 use Rattle.block.proofs.LineLaws.{SoFar, so-far-none, planned, planned-in, width-in-range, long-as, held-as, pass-more, pass-cut, ended-past, ended-read}

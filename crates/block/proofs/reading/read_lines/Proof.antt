@@ -8,7 +8,8 @@ use lib.ListN.{length}
 use Rattle.map.specs.Places.{widthOf, Fits}
 use Rattle.map.proofs.PartLaws.{fits-kept}
 use Rattle.map.proofs.PlaceLaws.{width-le}
-use Rattle.block.specs.Blocks.{AllInRange, linesOf, tightBefore, Shown}
+use Rattle.block.specs.Blocks.{linesOf, tightBefore}
+use Rattle.block.specs.Walks.{AllInRange, Shown}
 use Rattle.block.specs.WindowedLines.{samplesIn}
 use Rattle.block.proofs.KeepLaws.{lines-few}
 use Rattle.block.proofs.RangeLaws.{all-started, all-kept}

@@ -8,7 +8,7 @@ use Rattle.stream.specs.Streams.{openOf}
 use Rattle.stream.specs.declared.FujiHeader.{FujiHeader}
 use Rattle.stream.specs.declared.Parsed.the-variants.{Header}
 use Rattle.stream.proofs.StreamLaws.{row-lossless}
-use Rattle.block.specs.Blocks.{IsWalked}
+use Rattle.block.specs.Walks.{IsWalked}
 use Rattle.block.specs.Images.{formOf, bytesIn, basesIn}
 use Rattle.block.specs.TightBlocks.{tightAnswer}
 use Rattle.block.specs.Totals.{counted}

@@ -8,7 +8,7 @@ use Prim.Native.Nat.{ℕ, _<_}
 use native.Mathlib.Omega.{arith}
 use Rattle.stream.specs.declared.FujiHeader.{FujiHeader}
 use Rattle.stream.proofs.StreamLaws.{opened}
-use Rattle.block.specs.Blocks.{IsWalked}
+use Rattle.block.specs.Walks.{IsWalked}
 use Rattle.block.specs.Images.{formOf, bytesIn, basesIn}
 use Rattle.block.specs.declared.Form.{Form}
 use Rattle.block.specs.declared.Walked.{Walked}

@@ -13,7 +13,8 @@ use Rattle.stream.specs.declared.FujiHeader.{FujiHeader}
 use Rattle.writing.specs.Sets.{setSize}
 use Rattle.block.specs.Images.{formOf}
 use Rattle.block.specs.Lent.{Outputs}
-use Rattle.block.specs.WrittenAnswers.{setAnswer, roomFor, outputOf}
+use Rattle.block.specs.WrittenAnswers.{setAnswer}
+use Rattle.block.specs.WriterParts.{roomFor, outputOf}
 use Rattle.block.specs.WrittenBlocks.{writtenBlock}
 use Rattle.block.specs.declared.Form.{Form}
 use Rattle.block.proofs.LeftLaws.{written-refused, written-set, form-samples, form-depth, form-zero, lines-back, records-back}

@@ -9,9 +9,9 @@ use lib.ListN.{length}
 use Rattle.lines.proofs.LineLaws.{line-inside}
 use Rattle.map.specs.Places.{widthOf}
 use Rattle.steps.specs.Values.{recordsOf}
-use Rattle.block.specs.Blocks.{AllInRange}
+use Rattle.block.specs.Walks.{AllInRange}
 use Rattle.block.specs.Records.{putSet}
-use Rattle.block.specs.WrittenAnswers.{passesFrom}
+use Rattle.block.specs.WriterParts.{passesFrom}
 use Rattle.block.proofs.LineLaws.{planned, width-in-range}
 use Rattle.block.proofs.RangeLaws.{set-in-range, put-in-range}
 use Rattle.block.proofs.WalkLaws.{Sofar, pass-wanted, passes-start, pass-samples, pass-position, pass-room, pass-more, pass-failed, passes-done}

@@ -7,7 +7,7 @@ use native.Mathlib.Omega.{arith}
 use lib.ListN.{length}
 use Rattle.map.specs.Places.{widthOf}
 use Rattle.map.proofs.PlaceLaws.{width-le}
-use Rattle.block.specs.Blocks.{AllInRange}
+use Rattle.block.specs.Walks.{AllInRange}
 use Rattle.block.specs.WrittenBlocks.{isStrict, writeLines}
 use Rattle.block.proofs.BlockLaws.{base-known}
 use Rattle.block.proofs.RangeLaws.{all-started, all-kept}
