@@ -15,7 +15,7 @@ use Rattle.map.specs.declared.Part.{Part}
 use Rattle.map.proofs.PartLaws.{by-test, not-in}
 use Rattle.stream.specs.declared.FujiHeader.{FujiHeader}
 use Rattle.stream.specs.declared.Refusal.the-variants.{Truncated}
-use Rattle.region.specs.Regions.{blockOf, firstBlock, lastBlock, bottomOf, partIn, lineCount, Accepted}
+use Rattle.region.specs.Regions.{blockOf, firstBlock, bottomOf, partIn, lineCount, Accepted}
 use Rattle.region.specs.declared.Rect.{Rect}
 use Rattle.region.proofs.RegionLaws.{InColumns, one-block, lines-cover, row-inside}
 use Rattle.block.specs.Blocks.{State, runs, readLineAt, startState, readLines}
@@ -29,7 +29,7 @@ use Rattle.block.specs.declared.Form.{Form}
 use Rattle.block.specs.declared.Walked.{Walked}
 use Rattle.block.specs.declared.Walked.the-variants as Walk
 use Rattle.block.specs.declared.Decoded.{Decoded}
-use Rattle.block.specs.declared.Decoded.the-variants.{Done, Refused}
+use Rattle.block.specs.declared.Decoded.the-variants.{Done}
 use Rattle.block.proofs.RunLaws.{runs-stay}
 use Rattle.block.proofs.CountLaws.{all-counted, cut-counted}
 

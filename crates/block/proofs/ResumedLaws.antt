@@ -1,16 +1,14 @@
 -- Going on: the answer and the image, by what the reading from a place says. Assumes nothing.
-use borrow.Author.Tests.{ltb-true, leb-true, lt-ltb, le-ltb, le-leb, eqb-true, eqb-false}
+use borrow.Author.Tests.{leb-true, lt-ltb, le-ltb, le-leb, eqb-true, eqb-false}
 use mathlib.Core.Bool.{Bool, true, false, cond, _&&_, and-true, and-false}
 use mathlib.Core.List.{List}
-use mathlib.Core.Option.{Option, none, some}
+use mathlib.Core.Option.{Option, none}
 use mathlib.Core.Path.{_≡_, refl, sym, ap, _∙_}
-use Prim.Native.Nat.{ℕ, zero, suc, _+_, _-_, _*_, _/_, _%_, _≤_, _<_}
-use native.Mathlib.Nat.{add-zero}
+use Prim.Native.Nat.{ℕ, suc, _+_, _-_, _*_, _/_, _≤_}
 use native.Mathlib.Omega.{arith}
 use lib.Dec.{ltb, leb, eqb}
 use lib.ListN.{length, getD}
-use Rattle.totals.specs.declared.Totals.{Totals}
-use Rattle.map.specs.Places.{pictureRow, imageColumn, inRows, emittedSample, Changed, Fits}
+use Rattle.map.specs.Places.{inRows, emittedSample, Changed, Fits}
 use Rattle.map.specs.declared.Part.{Part}
 use Rattle.map.proofs.PartLaws.{by-test, not-in}
 use Rattle.stream.specs.declared.FujiHeader.{FujiHeader}
@@ -21,12 +19,11 @@ use Rattle.region.proofs.RegionLaws.{one-block, part-fits}
 use Rattle.checkpoint.specs.Checkpoints.{nextLine, positionIn}
 use Rattle.block.specs.Blocks.{State, readLineAt, readFrom, totalsIn}
 use Rattle.block.specs.Walks.{shownFrom, shownLines}
-use Rattle.block.specs.Images.{formOf, bytesIn, basesIn, isRead, lineOf, walkedAnswer}
+use Rattle.block.specs.Images.{formOf, bytesIn, basesIn, isRead, lineOf}
 use Rattle.block.specs.Checkpoints.{loadedState}
 use Rattle.block.specs.Lent.{Buffers}
-use Rattle.block.specs.Totals.{walkedTotals}
-use Rattle.block.specs.Resuming.{resumedAfter, linesResumed, isTouched, linesWanted, resumedIn, isResumed, resumedPicture, resumedSample, sinceTotals}
-use Rattle.block.specs.Resuming.{resumedAnswer, resumedTotals, resumedCounted}
+use Rattle.block.specs.Resuming.{resumedAfter, linesResumed, isTouched, linesWanted, isResumed, resumedPicture, resumedSample, sinceTotals}
+use Rattle.block.specs.Resuming.{resumedCounted}
 use Rattle.block.specs.Calls.{PartWanted, sinceCounted}
 use Rattle.block.specs.WindowedLines.{IsReadOn, ShownOn}
 use Rattle.block.specs.declared.Counted.{Counted}

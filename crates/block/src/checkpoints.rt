@@ -1,9 +1,7 @@
 // The state of a block after a line: stored, and gone on from.
 ghost use mathlib.Core.Path.{_≡_};
-ghost use mathlib.Core.Bool.{true, false, cond, _||_};
-ghost use mathlib.Core.List.{List};
-ghost use Prim.Native.Nat.{ℕ, suc, _+_, _-_, _*_, _^_, _≤_, _<_};
-ghost use lib.Dec.{leb, ltb};
+ghost use mathlib.Core.Bool.{true, false, cond};
+ghost use Prim.Native.Nat.{_+_, _-_, _*_, _^_, _≤_, _<_};
 ghost use lib.ListN.{length, replicate};
 ghost use Rattle.statistics.specs.declared.Record.{Record};
 ghost use Rattle.lines.specs.ColourLines.{zeroLines};
@@ -13,7 +11,6 @@ ghost use Rattle.stream.specs.declared.Parsed.the-variants.{Header};
 ghost use Rattle.region.specs.Regions.{lineCount, Accepted};
 ghost use Rattle.checkpoint.specs.Checkpoints.{sizeOfCheckpoint, checkpointOf, Saved};
 ghost use Rattle.checkpoint.specs.declared.load.Checked.the-variants.{At};
-ghost use Rattle.block.specs.Images.{formOf, bytesIn, basesIn};
 ghost use Rattle.block.specs.Lent.{Buffers, Outputs, ScratchOf};
 ghost use Rattle.block.specs.Records.{clearRecords};
 ghost use Rattle.block.specs.Totals.{refusedBy};

@@ -7,7 +7,7 @@ ghost use Rattle.cameras.specs.Entries.{AllNumbered};
 ghost use Rattle.map.specs.Places.{widthOf, ArePlaces, Fits};
 ghost use Rattle.steps.specs.Values.{quantisersOf, Depth};
 ghost use Rattle.block.specs.Lent.{Buffers};
-ghost use Rattle.block.specs.Records.{baseOf, isRestarted, clearRecords};
+ghost use Rattle.block.specs.Records.{isRestarted, clearRecords};
 ghost use Rattle.block.specs.Walks.{startPlace, totalsAt, AllInRange, Shown, shownLines, IsWalked};
 ghost use Rattle.block.specs.WindowedLines.{samplesIn, ScratchIn, zerosIn, PassPlaced, LineReadIn, OnlyLine, ShownIn};
 ghost use Rattle.block.specs.WindowedLines.{LinesReadOn, Stands};

@@ -1,7 +1,7 @@
 -- `block::checkpoints::lines_wanted` meets its contract. Assumes nothing.
 use borrow.Author.Needs.{needs}
 use mathlib.Core.Bool.{Bool, true, false, cond}
-use mathlib.Core.Path.{_≡_, sym, _∙_}
+use mathlib.Core.Path.{_≡_, _∙_}
 use Prim.Native.Nat.{ℕ, _-_}
 use Rattle.region.specs.Regions.{spanOf, lineCount}
 use Rattle.region.specs.declared.Rect.{Rect}

@@ -1,13 +1,11 @@
 -- `block::checkpoints::resume_lines` meets its contract: what the bytes hold is loaded, and the lines are read from there. Assumes nothing.
 mod derived
 use borrow.Author.Needs.{needs}
-use mathlib.Core.List.{List}
 use mathlib.Core.Path.{_≡_, refl, ap, _∙_}
 use Prim.Native.Nat.{ℕ, _+_, _*_, _^_, _<_}
 use native.Mathlib.Omega.{arith}
 use lib.ListN.{length, replicate}
 use Rattle.map.specs.Places.{widthOf}
-use Rattle.stream.proofs.StreamLaws.{opened}
 use Rattle.map.proofs.PlaceLaws.{width-le}
 use Rattle.region.proofs.RegionLaws.{lines-inside}
 use Rattle.block.proofs.LeftLaws.{form-samples, form-depth}

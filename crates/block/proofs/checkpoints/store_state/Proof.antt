@@ -1,7 +1,6 @@
 -- `block::checkpoints::store_state` meets its contract: the lines from the top are read, and what they leave is stored. Assumes nothing.
 mod derived
 use borrow.Author.Needs.{needs}
-use mathlib.Core.List.{List}
 use mathlib.Core.Path.{_≡_, refl, ap, _∙_}
 use Prim.Native.Nat.{ℕ, _+_, _*_}
 use native.Mathlib.Omega.{arith}
